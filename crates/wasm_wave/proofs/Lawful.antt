@@ -1,0 +1,120 @@
+-- From what `Value` makes and refuses to the laws of values.
+use Rattle.std.proofs.Common.{◌≡◌, ℕ, Bool, true, false, List, [], ◌∷◌, sym, ap, subst, ◌∙◌, refl, Option, Some, None, Result, Ok, Err, Bor}
+use Rattle.std.specs.Prelude.{IfOk, IfErr}
+use Rattle.wave_wasm.specs.Types as type
+use Rattle.wave_wasm.specs.Types.{TypeTree, kind_of}
+use Rattle.wave_wasm.specs.Values as value
+use Rattle.wave_wasm.specs.Values.{Value, Leaf, leaf_type, IsSound, IsWellFormed, values, maybe_value}
+use Rattle.wave_wasm.specs.HasType.{HasType}
+use Rattle.wave_wasm.specs.Makers.{IsMemory, Makes, MakesLeaf, MakesList, MakesOption, MakesEnum, OptionIsOf, FullLeaf, FullList, FullTuple, FullRecord, FullVariant, FullEnum, FullOption, FullResult, FullFlags, FullMap}
+use Rattle.wave_wasm.specs.declared.wasm.WasmValueError.{WasmValueError}
+use Rattle.wave_wasm.proofs.Formed.{formed}
+use Rattle.wasm_wave.specs.TypedValue.{TypedValue, IsAt, IsTyped, MakesOnly, typed_leaf}
+use Rattle.wasm_wave.specs.Built.{IsFull, IsBuilt, is_built}
+use Rattle.wasm_wave.specs.ValueView.{trees, payload_tree}
+use Rattle.wasm_wave.specs.Taken.{Made, AllOwn, TakesList, TakesOption, TakesEnum, RefusesParts, RefusesEnum}
+use Rattle.std.proofs.lemmas.Bool.{false≢true}
+use Rattle.wave_wasm.specs.Lists.{AllOf}
+use Rattle.wave_wasm.specs.Names.{IsOneOf}
+use Rattle.wave_wasm.specs.declared.wasm.WasmTypeKind.{WasmTypeKind}
+use Rattle.wave_wasm.specs.declared.wasm.WasmTypeKind.TheVariants as kinds
+use Rattle.wave_wasm.specs.declared.wasm.WasmValueError.TheVariants as error
+
+-- what was made of a value of one token is lawful
+pub made_leaf : (one : Leaf) (v : TypedValue) → IsSound one → v ≡ typed_leaf one → MakesLeaf (λ v. v.tree) (λ v T. IsAt T v) one v
+made_leaf one v sound e =
+    let fits : HasType (type.simple (leaf_type one)) (value.leaf one) = (one, (refl, sound), refl) in
+    subst (λ v. MakesLeaf (λ (v : TypedValue). v.tree) (λ v T. IsAt T v) one v) (sym e)
+    (record { means = refl; fits = fits; is_of = record { own = refl; fits = fits } })
+
+-- a value is well formed
+pub well_formed : (v : TypedValue) → IsTyped v → IsWellFormed v.tree
+well_formed v h = formed v.own v.tree h
+
+-- a maker that refuses nothing
+pub made_only : (one : Leaf) (r : Result TypedValue WasmValueError) → MakesOnly one r → IfOk r (MakesLeaf (λ v. v.tree) (λ v T. IsAt T v) one)
+made_only one (Ok v) h = made_leaf one v h.1 h.0
+made_only one (Err e) h = absurd h
+
+pub never_refused : (one : Leaf) (r : Result TypedValue WasmValueError) → MakesOnly one r → IfErr r (FullLeaf IsFull one)
+never_refused one (Ok v) h = tt
+never_refused one (Err e) h = absurd h
+
+-- a refusal for want of memory alone is lawful
+pub full_leaf : (one : Leaf) (e : WasmValueError) → IsMemory e → FullLeaf IsFull one e
+full_leaf one e h = λ full. h
+
+every_first : (U : TypeTree) → IsBuilt U → is_built U ≡ true
+every_first (type.simple S) h = h
+every_first (type.unreadable kind) h = h
+every_first (type.enum names) h = h
+every_first (type.flags names) h = h
+every_first (type.list E) h = refl
+every_first (type.option P) h = refl
+every_first _ h = absurd (false≢true h)
+
+-- a type of a kind whose values can't be made isn't full
+none_built : (T U : TypeTree) → IsFull T → T ≡ U → is_built U ≡ false → ⊥
+none_built T U full is no_values = false≢true (sym no_values ∙ every_first U (subst IsBuilt is full.built))
+
+pub no_tuple : (T : TypeTree) (items : List TypedValue) (e : WasmValueError) → FullTuple (λ v T. IsAt T v) IsFull T items e
+no_tuple T items e = λ full Ts is h. absurd (none_built T _ full is refl)
+
+pub no_record : (T : TypeTree) (fields : List (Bor (List ℕ) × TypedValue)) (e : WasmValueError) → FullRecord (λ v T. IsAt T v) IsFull T fields e
+no_record T fields e = λ full fs is distinct ordered same h. absurd (none_built T _ full is refl)
+
+pub no_variant : (T : TypeTree) (name : List ℕ) (payload : Option TypedValue) (e : WasmValueError) → FullVariant (λ v T. IsAt T v) IsFull T name payload e
+no_variant T name payload e = λ full cs is P case h. absurd (none_built T _ full is refl)
+
+pub no_result : (T : TypeTree) (payload : Result (Option TypedValue) (Option TypedValue)) (e : WasmValueError) → FullResult (λ v T. IsAt T v) IsFull T payload e
+no_result T payload e = λ full A B is h. absurd (none_built T _ full is refl)
+
+pub no_flags : (T : TypeTree) (names : List (Bor (List ℕ))) (e : WasmValueError) → FullFlags (λ (v : TypedValue) T. IsAt T v) IsFull T names e
+no_flags T names e = λ full all is distinct h. absurd (none_built T _ full is refl)
+
+pub no_map : (T : TypeTree) (handed : List (TypedValue × TypedValue)) (e : WasmValueError) → FullMap (λ v T. IsAt T v) IsFull T handed e
+no_map T handed e = λ full K V is h. absurd (none_built T _ full is refl)
+
+-- ---- what has parts
+
+lawful : (asked : Value) (T : TypeTree) (v : TypedValue) → Made asked T v → Makes (λ (v : TypedValue). v.tree) (λ v T. IsAt T v) asked T v
+lawful asked T v m = record { means = m.tree; fits = m.fits; is_of = record { own = m.own; fits = subst (HasType T) (sym m.tree) m.fits } }
+
+pub made_list : (T : TypeTree) (vs : List TypedValue) (v : TypedValue) → Made (value.list (values (trees vs))) T v → MakesList (λ v. v.tree) (λ v T. IsAt T v) T vs v
+made_list T vs v m = λ distinct. lawful _ T v m
+
+pub made_option : (T : TypeTree) (o : Option TypedValue) (v : TypedValue) → Made (value.option (maybe_value (payload_tree o))) T v → MakesOption (λ v. v.tree) (λ v T. IsAt T v) T o v
+made_option T o v m = λ distinct. lawful _ T v m
+
+pub made_enum : (T : TypeTree) (name : List ℕ) (v : TypedValue) → Made (value.enum name) T v → MakesEnum (λ (v : TypedValue). v.tree) (λ v T. IsAt T v) T name v
+made_enum T name v m = λ distinct. lawful _ T v m
+
+-- parts of the stated types are refused for want of memory alone
+no_refusal : (kind : WasmTypeKind) (T : TypeTree) (Takes : Type 0) (e : WasmValueError) → kind_of T ≡ kind → Takes → RefusesParts kind T Takes e → IsMemory e
+no_refusal kind T Takes (error.WrongTypeKind k s) is h r = absurd (r.0 is)
+no_refusal kind T Takes (error.WrongValueType s q) is h r = absurd (r.1 h)
+no_refusal kind T Takes (error.Memory e) is h r = tt
+no_refusal kind T Takes _ is h r = absurd r
+
+own_of : (E : TypeTree) (vs : List TypedValue) → AllOf (λ v. IsAt E v) vs → AllOwn E vs
+own_of E [] h = tt
+own_of E (v ∷ vs) h = (h.0.own, own_of E vs h.1)
+
+pub full_list : (T : TypeTree) (vs : List TypedValue) (e : WasmValueError) → RefusesParts kinds.List T (TakesList T vs) e → FullList (λ v T. IsAt T v) IsFull T vs e
+full_list T vs e r = λ full E is h. no_refusal kinds.List (type.list E) (AllOwn E vs) e refl (own_of E vs h) (subst (λ U. RefusesParts kinds.List U (TakesList U vs) e) is r)
+
+takes_of : (P : TypeTree) (o : Option TypedValue) → OptionIsOf (λ v T. IsAt T v) P o → TakesOption (type.option P) o
+takes_of P None h = tt
+takes_of P (Some v) h = h.own
+
+pub full_option : (T : TypeTree) (o : Option TypedValue) (e : WasmValueError) → RefusesParts kinds.Option T (TakesOption T o) e → FullOption (λ v T. IsAt T v) IsFull T o e
+full_option T o e r = λ full P is h. no_refusal kinds.Option (type.option P) (TakesOption (type.option P) o) e refl (takes_of P o h) (subst (λ U. RefusesParts kinds.Option U (TakesOption U o) e) is r)
+
+case_taken : (names : List (List ℕ)) (name : List ℕ) (e : WasmValueError) → IsOneOf names name → RefusesEnum (type.enum names) name e → IsMemory e
+case_taken names name (error.WrongTypeKind k s) h r = absurd (r.0 refl)
+case_taken names name (error.UnknownCase n) h r = absurd (r.2 h)
+case_taken names name (error.Memory e) h r = tt
+case_taken names name _ h r = absurd r
+
+pub full_enum : (T : TypeTree) (name : List ℕ) (e : WasmValueError) → RefusesEnum T name e → FullEnum (λ (v : TypedValue) T. IsAt T v) IsFull T name e
+full_enum T name e r = λ full names is h. case_taken names name e h (subst (λ U. RefusesEnum U name e) is r)

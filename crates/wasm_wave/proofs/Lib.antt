@@ -1,0 +1,13 @@
+pub mod TypeLists
+pub mod TypeEqual
+pub mod Texts
+pub mod TypeOwn
+pub mod Lawful
+pub mod SameValue
+pub mod LabelTest
+pub mod ValueDepths
+pub mod ValueMeans
+pub mod SameContent
+pub mod ValueLists
+pub mod Made
+pub mod Headline

@@ -1,0 +1,43 @@
+-- The types whose values can be made, and those at which makers refuse for want of memory alone.
+use Rattle.std.specs.Prelude.{◌≡◌, Bool, true, false, string_bytes}
+use Rattle.std.proofs.lemmas.Bool.{false≢true}
+use Rattle.wave_wasm.specs.Types as type
+use Rattle.wave_wasm.specs.Types.{TypeTree, HasDistinctNames, every}
+use Rattle.wave_wasm.specs.Makers.{HasFullParts, type_parts}
+use Rattle.wave_wasm.specs.TypeText.{kind_word}
+use Rattle.wave_wasm.specs.declared.wasm.WasmTypeKind.{WasmTypeKind}
+use Rattle.wave_wasm.specs.declared.wasm.WasmValueError.{WasmValueError}
+use Rattle.wave_wasm.specs.declared.wasm.WasmValueError.TheVariants as error
+
+-- values of the kind of this type can be made: those of one token, lists, options and enums
+abbrev pub is_built : TypeTree → Bool
+is_built (type.simple S) = true
+is_built (type.list E) = true
+is_built (type.option P) = true
+is_built (type.enum names) = true
+is_built _ = false
+
+-- values of the type, and of each part of it, can be made
+abbrev pub IsBuilt : TypeTree → Type 0
+IsBuilt T = every is_built T ≡ true
+
+-- the names are distinct, and the values can be made
+pub record IsFull (T : TypeTree) : Type 0 where
+  pub distinct : HasDistinctNames T
+  pub built : IsBuilt T
+
+-- the parts of a full type are full
+pub full_parts : HasFullParts IsFull
+full_parts (type.simple S) full = tt
+full_parts (type.unreadable kind) full = tt
+full_parts (type.list E) full = (record { distinct = full.distinct; built = full.built }, tt)
+full_parts (type.option P) full = (record { distinct = full.distinct; built = full.built }, tt)
+full_parts (type.enum names) full = tt
+full_parts (type.flags names) full = tt
+full_parts _ full = absurd (false≢true full.built)
+
+-- the refusal says that this kind has no values here
+abbrev pub SaysUnsupported : WasmTypeKind → WasmValueError → Type 0
+SaysUnsupported kind (error.UnsupportedType word) = string_bytes word ≡ kind_word kind
+SaysUnsupported kind (error.Memory e) = Unit {0}
+SaysUnsupported kind _ = ⊥

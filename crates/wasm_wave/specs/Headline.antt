@@ -1,0 +1,38 @@
+-- Words of the contracts of reading and writing.
+use Rattle.std.specs.Prelude.{ℕ, ◌≡◌, ◌≢◌, ◌↔◌, List}
+use Rattle.wave_wasm.specs.Types.{TypeTree}
+use Rattle.wave_wasm.specs.Values.{Value}
+use Rattle.wave_wasm.specs.HasType.{HasType}
+use Rattle.wave_wasm.specs.Merge.{merged}
+use Rattle.wave_wasm.specs.Text.{text}
+use Rattle.wave_wasm.specs.declared.writer.WriterError.{WriterError}
+use Rattle.wave_wasm.specs.declared.writer.WriterError.TheVariants as refusal
+use Rattle.wave_wasm.specs.Types.{HasDistinctNames}
+use Rattle.wave_lex.specs.declared.error.ParserError.{ParserError}
+use Rattle.wave_lex.specs.declared.error.ParserErrorKind.TheVariants.{OutOfMemory}
+use Rattle.wave_tree.specs.Means.{Means}
+use Rattle.wave_tree.specs.Typed.{IsServed}
+use Rattle.wave_tree.specs.FromText.{MeansNone}
+use Rattle.wasm_wave.specs.TypedValue.{TypedValue, IsAt}
+use Rattle.wasm_wave.specs.Built.{IsFull}
+
+-- the writer is refused for want of memory
+abbrev pub IsWantOfMemory : WriterError → Type 0
+IsWantOfMemory (refusal.Memory e) = Unit {0}
+IsWantOfMemory _ = ⊥
+
+-- no text means two values of the type
+abbrev pub OneValue : TypeTree → Type 0
+OneValue T = (s : List ℕ) (v w : Value) → Means T s v → Means T s w → v ≡ w
+
+-- another value of the type has the same canonical text exactly where the two are equal, merged
+abbrev pub IsToldByText : TypeTree → Value → Type 0
+IsToldByText T v = (w : Value) → HasType T w → (text v ≡ text w) ↔ (merged v ≡ merged w)
+
+-- at a type that is served, whose names are distinct, the text means the value, which is of the type
+abbrev pub IsReadAs : TypeTree → List ℕ → TypedValue → Type 0
+IsReadAs T s v = IsServed T → HasDistinctNames T → Means T s v.tree × IsAt T v
+
+-- at a type that is served, whose names are distinct and whose values can be made, the refusal is want of memory, or the text means no value
+abbrev pub RefusesOnly : TypeTree → List ℕ → ParserError → Type 0
+RefusesOnly T s e = IsServed T → IsFull T → (e.kind ≢ OutOfMemory) → MeansNone T s

@@ -1,0 +1,15 @@
+pub mod TypeView
+pub mod TypeFalls
+pub mod TypeMade
+pub mod SameType
+pub mod SameTypeLaws
+pub mod TypedValue
+pub mod ValueCode
+pub mod SameValue
+pub mod ValueView
+pub mod ValueFalls
+pub mod Taken
+pub mod SameContent
+pub mod Built
+pub mod LabelTest
+pub mod Headline

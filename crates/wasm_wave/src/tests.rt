@@ -1,0 +1,241 @@
+//! What no clause says: that each call can succeed, and printed types by their words.
+use crate::value::{Type, Value};
+use crate::wasm::{
+    DisplayFuncArgs, DisplayFuncResults, DisplayValue, WasmType, WasmTypeKind, WasmValue,
+    WasmValueError,
+};
+use crate::writer::{TextWrite, Writer, WriterError};
+use crate::{from_str, to_string};
+use std::fmt;
+use std::test::Fail;
+
+/// A type with parts of each kind.
+fn wide_type(rt: HostRuntime) -> Result<Option<Type>, Fail> {
+    let mut items = Vec::new(rt.alloc());
+    items.push(Type::S8)?;
+    items.push(Type::list(rt.alloc(), Type::CHAR)?)?;
+    let tuple = Type::tuple(rt.alloc(), items)?;
+    let mut fields = Vec::new(rt.alloc());
+    if let Some(tuple) = tuple {
+        fields.push(("pair", tuple))?;
+    }
+    fields.push(("maybe", Type::option(rt.alloc(), Type::F32)?))?;
+    fields.push(("end", Type::result(rt.alloc(), None, Some(Type::STRING))?))?;
+    Ok(Type::record(rt.alloc(), fields)?)
+}
+
+/// The text of the type, and no text where there is none.
+fn shown(rt: HostRuntime, ty: Option<Type>) -> Result<String, Fail> {
+    match ty {
+        Some(ty) => Ok(ty.to_string(rt.alloc())?),
+        None => Ok(String::new(rt.alloc())),
+    }
+}
+
+#[test]
+fn printed_records(rt: HostRuntime) -> Result<(), Fail> {
+    let text = "record { pair: tuple<s8, list<char>>, maybe: option<f32>, end: result<_, string> }";
+    assert_eq!(rt; shown(rt, wide_type(rt)?)?.as_str(), text);
+    Ok(())
+}
+
+#[test]
+fn printed_names(rt: HostRuntime) -> Result<(), Fail> {
+    let flags = Type::flags(rt.alloc(), &["read", "write"])?;
+    assert_eq!(rt; shown(rt, flags)?.as_str(), "flags { read, write }");
+    let names = Type::enum_ty(rt.alloc(), &["x"])?;
+    assert_eq!(rt; shown(rt, names)?.as_str(), "enum { x }");
+    Ok(())
+}
+
+#[test]
+fn printed_variants(rt: HostRuntime) -> Result<(), Fail> {
+    let mut cases = Vec::new(rt.alloc());
+    cases.push(("a", None))?;
+    cases.push(("b", Some(Type::BOOL)))?;
+    let variant = Type::variant(rt.alloc(), cases)?;
+    assert_eq!(rt; shown(rt, variant)?.as_str(), "variant { a, b(bool) }");
+    Ok(())
+}
+
+#[test]
+fn printed_maps(rt: HostRuntime) -> Result<(), Fail> {
+    let map = Type::map(rt.alloc(), Type::STRING, Type::U32)?;
+    assert_eq!(rt; shown(rt, map)?.as_str(), "map<string, u32>");
+    Ok(())
+}
+
+#[test]
+fn types(rt: HostRuntime) -> Result<(), Fail> {
+    assert!(rt; Type::map(rt.alloc(), Type::F32, Type::U8)?.is_none());
+    assert!(rt; Type::enum_ty(rt.alloc(), &[])?.is_none());
+    assert!(rt; Type::simple(WasmTypeKind::List).is_none());
+    let Some(record) = wide_type(rt)? else {
+        return Ok(());
+    };
+    assert!(rt; record.clone()? == record);
+    assert!(rt; record.names_are_labels());
+    for (names, good) in [
+        (&["A1", "b-2"][..], true),
+        (&["a", "a"][..], false),
+        (&["", "b"][..], false),
+        (&["aB", "c"][..], false),
+        (&["1", "c"][..], false),
+    ] {
+        if let Some(flags) = Type::flags(rt.alloc(), names)? {
+            assert_eq!(rt; flags.names_are_labels(), good);
+        }
+    }
+    let list = Type::fixed_length_list(rt.alloc(), Type::must_simple(WasmTypeKind::U8), 4)?;
+    assert!(rt; list.list_element_type().is_none());
+    Ok(())
+}
+
+/// The number of a type and back, by the trait.
+fn back<V: WasmValue>(rt: HostRuntime, number: u64) -> Result<u64, WasmValueError> {
+    let val = V::make_u64(rt.alloc(), number)?;
+    match val.kind() {
+        WasmTypeKind::U64 => Ok(val.unwrap_u64()),
+        _ => Ok(0),
+    }
+}
+
+#[test]
+fn values(rt: HostRuntime) -> Result<(), Fail> {
+    match back::<Value>(rt, 18446744073709551615) {
+        Ok(number) => assert_eq!(rt; number, 18446744073709551615),
+        Err(_) => assert!(rt; false),
+    }
+    let Ok(val) = Value::make_string(rt.alloc(), "a\n") else {
+        return Ok(());
+    };
+    assert!(rt; val.ty()? == Type::STRING);
+    assert!(rt; val.clone(rt.alloc())? == val);
+    match to_string(rt.alloc(), &val) {
+        Ok(text) => assert_eq!(rt; text.as_str(), "\"a\\n\""),
+        Err(_) => assert!(rt; false),
+    }
+    Ok(())
+}
+
+#[test]
+fn texts_read(rt: HostRuntime) -> Result<(), Fail> {
+    for text in ["[1, 2]", "[]", " [ 255 , ] // end"] {
+        let ty = Type::list(rt.alloc(), Type::U8)?;
+        match from_str(rt.alloc(), &ty, text) {
+            Ok(val) => assert!(rt; val.ty()? == ty),
+            Err(_) => assert!(rt; false, "at {text}"),
+        }
+    }
+    for text in ["256", "-1", "1.0", "true", "1 1", "", "[1]"] {
+        assert!(rt; from_str(rt.alloc(), &Type::U8, text).is_err(), "at {text}");
+    }
+    match from_str(rt.alloc(), &Type::S8, "-0") {
+        Ok(val) => match to_string(rt.alloc(), &val) {
+            Ok(text) => assert_eq!(rt; text.as_str(), "0"),
+            Err(_) => assert!(rt; false),
+        },
+        Err(_) => assert!(rt; false),
+    }
+    Ok(())
+}
+
+/// A writer that fails once it took this many texts.
+#[derive(Drop)]
+struct Short {
+    taken: String,
+    left: usize,
+    failures: u64,
+}
+
+impl TextWrite for Short {
+    ghost use Rattle.std.specs.String.{string_bytes};
+
+    ghost output = { λ s. record { written = string_bytes s.taken; failures = s.failures } };
+
+    fn write_str(&mut self, s: &str) -> Result<(), WriterError> {
+        if self.left == 0 {
+            self.failures = self.failures.saturating_add(1);
+            return Err(WriterError::Io(fmt::Error));
+        }
+        self.left -= 1;
+        self.taken.push_str(s)?;
+        Ok(())
+    }
+}
+
+#[test]
+fn chars(rt: HostRuntime) -> Result<(), Fail> {
+    let rows = [
+        ('\u{1f44b}', "'\u{1f44b}'"),
+        ('\u{301}', "'\\u{301}'"),
+        ('\u{a0}', "'\\u{a0}'"),
+        ('\u{ad}', "'\\u{ad}'"),
+        ('\0', "'\\u{0}'"),
+        ('\t', "'\\t'"),
+        ('\'', "'\\''"),
+        ('\u{10ffff}', "'\\u{10ffff}'"),
+        (' ', "' '"),
+    ];
+    for (c, text) in rows {
+        let val = Value::make_char(rt.alloc(), c)?;
+        assert_eq!(rt; to_string(rt.alloc(), &val)?.as_str(), text);
+        let shown = format!(in rt.alloc(); "{}", DisplayValue::new(rt.alloc(), &val))?;
+        assert_eq!(rt; shown.as_str(), text);
+    }
+    Ok(())
+}
+
+#[test]
+fn arguments_and_results(rt: HostRuntime) -> Result<(), Fail> {
+    let vals = [
+        Value::make_char(rt.alloc(), 'a')?,
+        Value::make_char(rt.alloc(), 'b')?,
+    ];
+    let args = format!(in rt.alloc(); "{}", DisplayFuncArgs::new(rt.alloc(), &vals))?;
+    assert_eq!(rt; args.as_str(), "('a', 'b')");
+    let two = format!(in rt.alloc(); "{}", DisplayFuncResults::new(rt.alloc(), &vals))?;
+    assert_eq!(rt; two.as_str(), "('a', 'b')");
+    let one = format!(in rt.alloc(); "{}", DisplayFuncResults::new(rt.alloc(), &vals[..1]))?;
+    assert_eq!(rt; one.as_str(), "'a'");
+    let none = format!(in rt.alloc(); "{}", DisplayFuncResults::new(rt.alloc(), &vals[..0]))?;
+    assert_eq!(rt; none.as_str(), "()");
+    Ok(())
+}
+
+#[test]
+fn failed_writes(rt: HostRuntime) -> Result<(), Fail> {
+    let x = Value::make_char(rt.alloc(), 'x')?;
+    let y = Value::make_char(rt.alloc(), 'y')?;
+    let out = Short {
+        taken: String::new(rt.alloc()),
+        left: 4,
+        failures: 0,
+    };
+    let mut writer = Writer::new(out);
+    assert!(rt; writer.write_value(rt.alloc(), &x).is_ok());
+    match writer.write_value(rt.alloc(), &y) {
+        Err(WriterError::Io(_)) => {}
+        _ => assert!(rt; false),
+    }
+    assert_eq!(rt; writer.as_mut().failures, 1);
+    let out = writer.into_inner();
+    assert_eq!(rt; out.taken.as_str(), "'x''");
+    Ok(())
+}
+
+#[test]
+fn a_type_without_values(rt: HostRuntime) -> Result<(), Fail> {
+    match from_str(rt.alloc(), &Type::F64, "1") {
+        Ok(_) => assert!(rt; false),
+        Err(error) => {
+            assert_eq!(rt; error.span(), 0..1);
+            let shown = format!(in rt.alloc(); "{error}")?;
+            assert_eq!(rt;
+                shown.as_str(),
+                "error converting Wasm value: unsupported type f64 at 0..1"
+            );
+        }
+    }
+    Ok(())
+}

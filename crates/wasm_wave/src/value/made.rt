@@ -1,0 +1,95 @@
+//! Makers of values that have parts.
+ghost use Rattle.std.specs.Prelude.{◌≡◌, IfOk, IfErr, OnOk};
+ghost use Rattle.wave_wasm.specs.Values as value;
+ghost use Rattle.wave_wasm.specs.Values.{values, maybe_value};
+ghost use Rattle.wave_wasm.specs.Makers.{result_value, either_tree};
+ghost use Rattle.wasm_wave.specs.ValueView.{trees, payload_tree};
+ghost use Rattle.wasm_wave.specs.Taken.{Made, Tells, TakesList, TakesOption, TakesEnum, RefusesParts, RefusesEnum};
+
+use super::refusals::{unknown_case, wrong_kind, wrong_type};
+use super::{Content, Type, Value};
+use std::alloc::Global;
+use std::boxed::Box;
+use wave_wasm::wasm::{WasmType, WasmTypeKind, WasmValueError};
+
+impl Value {
+    // Whether the value's own type is this one.
+    fn is_at(&self, ty: &Type) -> bool
+        ensures { Tells result ty.now self.now }
+    {
+        let _ = &self.content;
+        self.own == *ty
+    }
+
+    /// The list of these items, whose own type is this one. A type of another kind is refused,
+    /// and an item whose own type isn't the element type.
+    pub fn make_list(alloc: Global, ty: &Type, vals: Vec<Value>) -> Result<Value, WasmValueError>
+        ensures made { IfOk result (Made (value.list (values (trees vals.items))) ty.now) }
+        ensures taken { OnOk result (TakesList ty.now vals.items) }
+        ensures refused { IfErr result (RefusesParts WasmTypeKind.List ty.now (TakesList ty.now vals.items)) }
+    {
+        let Some(element) = ty.list_element_type() else {
+            return Err(wrong_kind(alloc, WasmTypeKind::List, ty));
+        };
+        for val in &vals {
+            if !val.is_at(element) {
+                return Err(wrong_type(alloc, element, val));
+            }
+        }
+        Ok(Value {
+            own: ty.clone()?,
+            content: Content::List(vals),
+        })
+    }
+
+    /// `some` of the payload, or `none`, whose own type is this one. A type of another kind is
+    /// refused, and a payload whose own type isn't the payload type.
+    pub fn make_option(
+        alloc: Global,
+        ty: &Type,
+        val: Option<Value>,
+    ) -> Result<Value, WasmValueError>
+        ensures made { IfOk result (Made (value.option (maybe_value (payload_tree val))) ty.now) }
+        ensures taken { OnOk result (TakesOption ty.now val) }
+        ensures refused { IfErr result (RefusesParts WasmTypeKind.Option ty.now (TakesOption ty.now val)) }
+    {
+        let Some(some) = ty.option_some_type() else {
+            return Err(wrong_kind(alloc, WasmTypeKind::Option, ty));
+        };
+        match val {
+            None => Ok(Value {
+                own: ty.clone()?,
+                content: Content::Option(None),
+            }),
+            Some(val) => {
+                if !val.is_at(some) {
+                    return Err(wrong_type(alloc, some, &val));
+                }
+                let val = Box::new(alloc, val)?;
+                Ok(Value {
+                    own: ty.clone()?,
+                    content: Content::Option(Some(val)),
+                })
+            }
+        }
+    }
+
+    /// The case of this name, whose own type is this one. A type of another kind is refused, and
+    /// a name that is no case.
+    pub fn make_enum(alloc: Global, ty: &Type, case: &str) -> Result<Value, WasmValueError>
+        ensures made { IfOk result (Made (value.enum case.now) ty.now) }
+        ensures taken { OnOk result (TakesEnum ty.now case.now) }
+        ensures refused { IfErr result (RefusesEnum ty.now case.now) }
+    {
+        match ty.kind() {
+            WasmTypeKind::Enum => match ty.enum_place(case) {
+                Some(place) => Ok(Value {
+                    own: ty.clone()?,
+                    content: Content::Enum(place),
+                }),
+                None => Err(unknown_case(alloc, case)),
+            },
+            _ => Err(wrong_kind(alloc, WasmTypeKind::Enum, ty)),
+        }
+    }
+}

@@ -1,0 +1,40 @@
+//! Refusals of the makers: their texts, or want of memory where a text can't be made.
+ghost use Rattle.wasm_wave.specs.Taken.{SaysKind, SaysType, SaysCase};
+
+use super::{Type, Value};
+use std::alloc::Global;
+use wave_wasm::wasm::{WasmTypeKind, WasmValueError};
+use wave_wasm::writer;
+
+// The type is of another kind than this one.
+pub(super) fn wrong_kind(alloc: Global, kind: WasmTypeKind, ty: &Type) -> WasmValueError
+    ensures { SaysKind kind result }
+{
+    match ty.to_string(alloc) {
+        Ok(ty) => WasmValueError::WrongTypeKind { kind, ty },
+        Err(e) => WasmValueError::Memory(e),
+    }
+}
+
+// The value is of another type than this one.
+pub(super) fn wrong_type(alloc: Global, ty: &Type, val: &Value) -> WasmValueError
+    ensures { SaysType result }
+{
+    match ty.to_string(alloc) {
+        Ok(ty) => match val.ty().and_then(|own| own.to_string(alloc)) {
+            Ok(val) => WasmValueError::WrongValueType { ty, val },
+            Err(e) => WasmValueError::Memory(e),
+        },
+        Err(e) => WasmValueError::Memory(e),
+    }
+}
+
+// The type has no case of this name.
+pub(super) fn unknown_case(alloc: Global, case: &str) -> WasmValueError
+    ensures { SaysCase case.now result }
+{
+    match String::from_str(alloc, case) {
+        Ok(case) => WasmValueError::UnknownCase(case),
+        Err(e) => WasmValueError::Memory(e),
+    }
+}

@@ -1,0 +1,129 @@
+//! Places of names in a type, and names at places, for the values of the type.
+ghost use Rattle.std.specs.Prelude.{◌≡◌, None, [], get_or, map, string_bytes};
+ghost use Rattle.std.specs.Str.{bytes_eq};
+ghost use Rattle.std.specs.List.{position};
+ghost use Rattle.wave_wasm.specs.Types.{record_parts, variant_parts, enum_names, flags_names};
+ghost use Rattle.wave_wasm.specs.Shown.{shown_case};
+ghost use Rattle.wasm_wave.specs.TypeView.{by_bytes};
+
+use super::{Shape, Type};
+
+#[tactic(auto, using(crate::proofs::TypeLists::families))]
+impl Type {
+    /// Where the case of this name stands in an enum.
+    pub(crate) fn enum_place(&self, name: &str) -> Option<usize>
+        ensures { result ≡ position (λ n. bytes_eq name.now n) (enum_names self.now) }
+    {
+        match &self.shape {
+            Shape::Enum(names) => place_in(&**names, name),
+            _ => None,
+        }
+    }
+
+    /// The name of the case at this place of an enum.
+    pub(crate) fn enum_name(&self, place: usize) -> &str
+        ensures { result.now ≡ get_or (enum_names self.now) place [] }
+    {
+        match &self.shape {
+            Shape::Enum(names) => name_in(&**names, place),
+            _ => "",
+        }
+    }
+
+    /// The name of the flag at this place.
+    pub(crate) fn flag_name(&self, place: usize) -> &str
+        ensures { result.now ≡ get_or (flags_names self.now) place [] }
+    {
+        match &self.shape {
+            Shape::Flags(names) => name_in(&**names, place),
+            _ => "",
+        }
+    }
+
+    /// Where the first case of this name stands in a variant.
+    pub(crate) fn variant_place(&self, name: &str) -> Option<usize>
+        ensures { result ≡ position (λ c. bytes_eq name.now c.0) (variant_parts self.now) }
+    {
+        match &self.shape {
+            Shape::Variant(cases) => case_place(&**cases, name),
+            _ => None,
+        }
+    }
+
+    /// The name of the case at this place of a variant.
+    pub(crate) fn variant_name(&self, place: usize) -> &str
+        ensures { result.now ≡ get_or (map (λ c. c.0) (variant_parts self.now)) place [] }
+    {
+        match &self.shape {
+            Shape::Variant(cases) => part_name(&**cases, place),
+            _ => "",
+        }
+    }
+
+    /// The name of the field at this place of a record.
+    pub(crate) fn field_name(&self, place: usize) -> &str
+        ensures { result.now ≡ get_or (map (λ f. f.0) (record_parts self.now)) place [] }
+    {
+        match &self.shape {
+            Shape::Record(fields) => part_name(&**fields, place),
+            _ => "",
+        }
+    }
+
+    /// The name and the payload type of the case at this place of a variant.
+    pub(crate) fn variant_case(&self, place: usize) -> (&str, Option<&Type>)
+        ensures { shown_case (λ t. t) result ≡ get_or (variant_parts self.now) place ([], None) }
+    {
+        match &self.shape {
+            Shape::Variant(cases) => case_in(&**cases, place),
+            _ => ("", None),
+        }
+    }
+}
+
+// Where the name stands first.
+fn place_in(names: &Vec<String>, name: &str) -> Option<usize>
+    ensures { result ≡ position (λ n. bytes_eq name.now (string_bytes n)) names.now.items }
+{
+    names.iter().position(|n| name == n.as_str())
+}
+
+// The name at the place, and no text past the end.
+fn name_in(names: &Vec<String>, place: usize) -> &str
+    ensures { result.now ≡ get_or (map string_bytes names.now.items) place [] }
+{
+    if place >= names.len() {
+        return "";
+    }
+    let name = &names[place];
+    name.as_str()
+}
+
+// The name of the field or case at the place, and no text past the end.
+fn part_name<A>(parts: &Vec<(String, A)>, place: usize) -> &str
+    ensures { result.now ≡ get_or (map (λ p. p.0) (map by_bytes parts.now.items)) place [] }
+{
+    if place >= parts.len() {
+        return "";
+    }
+    let part = &parts[place];
+    part.0.as_str()
+}
+
+// Where the name stands first among the cases.
+fn case_place(cases: &Vec<(String, Option<Type>)>, name: &str) -> Option<usize>
+    ensures { result ≡ position (λ c. bytes_eq name.now (string_bytes c.0)) cases.now.items }
+{
+    cases.iter().position(|c| name == c.0.as_str())
+}
+
+// The case at the place, and none past the end.
+fn case_in(cases: &Vec<(String, Option<Type>)>, place: usize) -> (&str, Option<&Type>)
+    ensures { shown_case (λ t. t) result ≡ get_or (map by_bytes cases.now.items) place ([], None) }
+{
+    if place >= cases.len() {
+        return ("", None);
+    }
+    let case = &cases[place];
+    (case.0.as_str(), case.1.as_ref())
+}

@@ -1,0 +1,232 @@
+-- Each machine keeps to its shape: computed at each scalar up to 128.
+use Rattle.std.proofs.Common.{◌≡◌, ℕ, ◌≤◌, ◌<◌, Bool, true, refl, sym, ap, ◌∙◌, arith, Option, inl, inr}
+use Rattle.std.proofs.lemmas.Bool.{cases_lt}
+use Rattle.std.proofs.lemmas.Bool.Decides.{nat_tests}
+use Rattle.wave_lex.specs.Regex.{Regex}
+use Rattle.wave_lex.specs.Derive.{after, after_next}
+use Rattle.wave_lex.proofs.Shapes.{same, same_true, each_below, each_below_at, is_ascii_shape, after_past}
+use Rattle.wave_lex.specs.Machines.{number_rest, number_step, label_rest, label_step, gap_rest, gap_step, string_rest, string_step, character_rest, character_step, multiline_rest, multiline_step, invalid_rest, invalid_step}
+use Rattle.wave_lex.specs.declared.machine.number.NumberState.{NumberState}
+use Rattle.wave_lex.specs.declared.machine.number.NumberState.TheVariants as n
+use Rattle.wave_lex.specs.declared.machine.label.LabelState.{LabelState}
+use Rattle.wave_lex.specs.declared.machine.label.LabelState.TheVariants as l
+use Rattle.wave_lex.specs.declared.machine.gap.GapState.{GapState}
+use Rattle.wave_lex.specs.declared.machine.gap.GapState.TheVariants as gap
+use Rattle.wave_lex.specs.declared.machine.string.StringState.{StringState}
+use Rattle.wave_lex.specs.declared.machine.string.StringState.TheVariants as string
+use Rattle.wave_lex.specs.declared.machine.character.CharState.{CharState}
+use Rattle.wave_lex.specs.declared.machine.character.CharState.TheVariants as character
+use Rattle.wave_lex.specs.declared.machine.multiline.MultilineState.{MultilineState}
+use Rattle.wave_lex.specs.declared.machine.multiline.MultilineState.TheVariants as multiline
+use Rattle.wave_lex.specs.declared.machine.invalid.InvalidState.{InvalidState}
+use Rattle.wave_lex.specs.declared.machine.invalid.InvalidState.TheVariants as invalid
+
+-- what is computed at each scalar up to 128 holds at each scalar, where no state tells scalars past ASCII apart
+module _ (S : Type 0) (rest : S → Regex) (step : S → ℕ → Option S) where
+  abbrev pub agrees : S → ℕ → Bool
+  agrees q c = same (after c (rest q)) (after_next S rest (step q c))
+
+  pub steps_agree : (q : S) (c : ℕ) → each_below 129 (agrees q) ≡ true → is_ascii_shape (rest q) ≡ true
+      → (128 ≤ c → step q c ≡ step q 128) → after c (rest q) ≡ after_next S rest (step q c)
+  steps_agree q c computed ascii past =
+      elim (cases_lt c 129) [
+        | inl l ↦ same_true _ _ (each_below_at 129 c (agrees q) computed l)
+        | inr l ↦ let m : 128 ≤ c = omega arith in
+            let n : 128 ≤ 128 = omega arith in
+            let o : 128 < 129 = omega arith in
+            after_past (rest q) c 128 ascii m n ∙ (same_true _ _ (each_below_at 129 128 (agrees q) computed o) ∙ ap (after_next S rest) (sym (past m)))
+      ]
+
+-- each state of a number is right at each scalar up to 128, by computing
+number_computed : (q : NumberState) → (each_below 129 (agrees NumberState number_rest number_step q) ≡ true) × (is_ascii_shape (number_rest q) ≡ true)
+number_computed n.Start = (refl, refl)
+number_computed n.Minus = (refl, refl)
+number_computed n.MinusI = (refl, refl)
+number_computed n.MinusIn = (refl, refl)
+number_computed n.MinusInf = (refl, refl)
+number_computed n.Zero = (refl, refl)
+number_computed n.Whole = (refl, refl)
+number_computed n.Point = (refl, refl)
+number_computed n.Fraction = (refl, refl)
+number_computed n.Exponent = (refl, refl)
+number_computed n.Sign = (refl, refl)
+number_computed n.Power = (refl, refl)
+
+-- no state of a number tells scalars past ASCII apart
+number_past : (q : NumberState) (c : ℕ) → 128 ≤ c → number_step q c ≡ number_step q 128
+number_past n.Start c k = grind (arith, nat_tests)
+number_past n.Minus c k = grind (arith, nat_tests)
+number_past n.MinusI c k = grind (arith, nat_tests)
+number_past n.MinusIn c k = grind (arith, nat_tests)
+number_past n.MinusInf c k = grind (arith, nat_tests)
+number_past n.Zero c k = grind (arith, nat_tests)
+number_past n.Whole c k = grind (arith, nat_tests)
+number_past n.Point c k = grind (arith, nat_tests)
+number_past n.Fraction c k = grind (arith, nat_tests)
+number_past n.Exponent c k = grind (arith, nat_tests)
+number_past n.Sign c k = grind (arith, nat_tests)
+number_past n.Power c k = grind (arith, nat_tests)
+
+-- the machine of a number keeps to its shape
+pub number_steps : (q : NumberState) (c : ℕ) → after c (number_rest q) ≡ after_next NumberState number_rest (number_step q c)
+number_steps q c = let h = number_computed q in steps_agree NumberState number_rest number_step q c h.0 h.1 (number_past q c)
+
+-- each state of a label is right at each scalar up to 128, by computing
+label_computed : (q : LabelState) → (each_below 129 (agrees LabelState label_rest label_step q) ≡ true) × (is_ascii_shape (label_rest q) ≡ true)
+label_computed l.Start = (refl, refl)
+label_computed l.Percent = (refl, refl)
+label_computed l.Lower = (refl, refl)
+label_computed l.Upper = (refl, refl)
+label_computed l.Hyphen = (refl, refl)
+label_computed l.Digits = (refl, refl)
+
+-- no state of a label tells scalars past ASCII apart
+label_past : (q : LabelState) (c : ℕ) → 128 ≤ c → label_step q c ≡ label_step q 128
+label_past l.Start c k = grind (arith, nat_tests)
+label_past l.Percent c k = grind (arith, nat_tests)
+label_past l.Lower c k = grind (arith, nat_tests)
+label_past l.Upper c k = grind (arith, nat_tests)
+label_past l.Hyphen c k = grind (arith, nat_tests)
+label_past l.Digits c k = grind (arith, nat_tests)
+
+-- the machine of a label keeps to its shape
+pub label_steps : (q : LabelState) (c : ℕ) → after c (label_rest q) ≡ after_next LabelState label_rest (label_step q c)
+label_steps q c = let h = label_computed q in steps_agree LabelState label_rest label_step q c h.0 h.1 (label_past q c)
+
+-- each state of a gap is right at each scalar up to 128, by computing
+gap_computed : (q : GapState) → (each_below 129 (agrees GapState gap_rest gap_step q) ≡ true) × (is_ascii_shape (gap_rest q) ≡ true)
+gap_computed gap.Start = (refl, refl)
+gap_computed gap.Slash = (refl, refl)
+gap_computed gap.Comment = (refl, refl)
+
+-- no state of a gap tells scalars past ASCII apart
+gap_past : (q : GapState) (c : ℕ) → 128 ≤ c → gap_step q c ≡ gap_step q 128
+gap_past gap.Start c k = grind (arith, nat_tests)
+gap_past gap.Slash c k = grind (arith, nat_tests)
+gap_past gap.Comment c k = grind (arith, nat_tests)
+
+-- the machine of a gap keeps to its shape
+pub gap_steps : (q : GapState) (c : ℕ) → after c (gap_rest q) ≡ after_next GapState gap_rest (gap_step q c)
+gap_steps q c = let h = gap_computed q in steps_agree GapState gap_rest gap_step q c h.0 h.1 (gap_past q c)
+
+-- each state of a string is right at each scalar up to 128, by computing
+string_computed : (q : StringState) → (each_below 129 (agrees StringState string_rest string_step q) ≡ true) × (is_ascii_shape (string_rest q) ≡ true)
+string_computed string.Start = (refl, refl)
+string_computed string.Inside = (refl, refl)
+string_computed string.Close = (refl, refl)
+string_computed string.Escape = (refl, refl)
+string_computed string.EscapeU = (refl, refl)
+string_computed string.Hex0 = (refl, refl)
+string_computed string.Hex1 = (refl, refl)
+string_computed string.Hex2 = (refl, refl)
+string_computed string.Hex3 = (refl, refl)
+string_computed string.Hex4 = (refl, refl)
+string_computed string.Hex5 = (refl, refl)
+string_computed string.Hex6 = (refl, refl)
+
+-- no state of a string tells scalars past ASCII apart
+string_past : (q : StringState) (c : ℕ) → 128 ≤ c → string_step q c ≡ string_step q 128
+string_past string.Start c k = grind (arith, nat_tests)
+string_past string.Inside c k = grind (arith, nat_tests)
+string_past string.Close c k = refl
+string_past string.Escape c k = grind (arith, nat_tests)
+string_past string.EscapeU c k = grind (arith, nat_tests)
+string_past string.Hex0 c k = grind (arith, nat_tests)
+string_past string.Hex1 c k = grind (arith, nat_tests)
+string_past string.Hex2 c k = grind (arith, nat_tests)
+string_past string.Hex3 c k = grind (arith, nat_tests)
+string_past string.Hex4 c k = grind (arith, nat_tests)
+string_past string.Hex5 c k = grind (arith, nat_tests)
+string_past string.Hex6 c k = grind (arith, nat_tests)
+
+-- the machine of a string keeps to its shape
+pub string_steps : (q : StringState) (c : ℕ) → after c (string_rest q) ≡ after_next StringState string_rest (string_step q c)
+string_steps q c = let h = string_computed q in steps_agree StringState string_rest string_step q c h.0 h.1 (string_past q c)
+
+-- each state of a char is right at each scalar up to 128, by computing
+character_computed : (q : CharState) → (each_below 129 (agrees CharState character_rest character_step q) ≡ true) × (is_ascii_shape (character_rest q) ≡ true)
+character_computed character.Start = (refl, refl)
+character_computed character.Open = (refl, refl)
+character_computed character.Filled = (refl, refl)
+character_computed character.Close = (refl, refl)
+character_computed character.Escape = (refl, refl)
+character_computed character.EscapeU = (refl, refl)
+character_computed character.Hex0 = (refl, refl)
+character_computed character.Hex1 = (refl, refl)
+character_computed character.Hex2 = (refl, refl)
+character_computed character.Hex3 = (refl, refl)
+character_computed character.Hex4 = (refl, refl)
+character_computed character.Hex5 = (refl, refl)
+character_computed character.Hex6 = (refl, refl)
+
+-- no state of a char tells scalars past ASCII apart
+character_past : (q : CharState) (c : ℕ) → 128 ≤ c → character_step q c ≡ character_step q 128
+character_past character.Start c k = grind (arith, nat_tests)
+character_past character.Open c k = grind (arith, nat_tests)
+character_past character.Filled c k = grind (arith, nat_tests)
+character_past character.Close c k = refl
+character_past character.Escape c k = grind (arith, nat_tests)
+character_past character.EscapeU c k = grind (arith, nat_tests)
+character_past character.Hex0 c k = grind (arith, nat_tests)
+character_past character.Hex1 c k = grind (arith, nat_tests)
+character_past character.Hex2 c k = grind (arith, nat_tests)
+character_past character.Hex3 c k = grind (arith, nat_tests)
+character_past character.Hex4 c k = grind (arith, nat_tests)
+character_past character.Hex5 c k = grind (arith, nat_tests)
+character_past character.Hex6 c k = grind (arith, nat_tests)
+
+-- the machine of a char keeps to its shape
+pub character_steps : (q : CharState) (c : ℕ) → after c (character_rest q) ≡ after_next CharState character_rest (character_step q c)
+character_steps q c = let h = character_computed q in steps_agree CharState character_rest character_step q c h.0 h.1 (character_past q c)
+
+-- each state of a multiline string is right at each scalar up to 128, by computing
+multiline_computed : (q : MultilineState) → (each_below 129 (agrees MultilineState multiline_rest multiline_step q) ≡ true) × (is_ascii_shape (multiline_rest q) ≡ true)
+multiline_computed multiline.Start = (refl, refl)
+multiline_computed multiline.Open1 = (refl, refl)
+multiline_computed multiline.Open2 = (refl, refl)
+multiline_computed multiline.Inside = (refl, refl)
+multiline_computed multiline.Quote1 = (refl, refl)
+multiline_computed multiline.Quote2 = (refl, refl)
+multiline_computed multiline.Close = (refl, refl)
+
+-- no state of a multiline string tells scalars past ASCII apart
+multiline_past : (q : MultilineState) (c : ℕ) → 128 ≤ c → multiline_step q c ≡ multiline_step q 128
+multiline_past multiline.Start c k = grind (arith, nat_tests)
+multiline_past multiline.Open1 c k = grind (arith, nat_tests)
+multiline_past multiline.Open2 c k = grind (arith, nat_tests)
+multiline_past multiline.Inside c k = grind (arith, nat_tests)
+multiline_past multiline.Quote1 c k = grind (arith, nat_tests)
+multiline_past multiline.Quote2 c k = grind (arith, nat_tests)
+multiline_past multiline.Close c k = refl
+
+-- the machine of a multiline string keeps to its shape
+pub multiline_steps : (q : MultilineState) (c : ℕ) → after c (multiline_rest q) ≡ after_next MultilineState multiline_rest (multiline_step q c)
+multiline_steps q c = let h = multiline_computed q in steps_agree MultilineState multiline_rest multiline_step q c h.0 h.1 (multiline_past q c)
+
+-- each state of an invalid token is right at each scalar up to 128, by computing
+invalid_computed : (q : InvalidState) → (each_below 129 (agrees InvalidState invalid_rest invalid_step q) ≡ true) × (is_ascii_shape (invalid_rest q) ≡ true)
+invalid_computed invalid.Start = (refl, refl)
+invalid_computed invalid.Quote0 = (refl, refl)
+invalid_computed invalid.Quote1 = (refl, refl)
+invalid_computed invalid.Quote2 = (refl, refl)
+invalid_computed invalid.Quote3 = (refl, refl)
+invalid_computed invalid.Quote4 = (refl, refl)
+invalid_computed invalid.Double1 = (refl, refl)
+invalid_computed invalid.Double2 = (refl, refl)
+invalid_computed invalid.Close = (refl, refl)
+
+-- no state of an invalid token tells scalars past ASCII apart
+invalid_past : (q : InvalidState) (c : ℕ) → 128 ≤ c → invalid_step q c ≡ invalid_step q 128
+invalid_past invalid.Start c k = grind (arith, nat_tests)
+invalid_past invalid.Quote0 c k = grind (arith, nat_tests)
+invalid_past invalid.Quote1 c k = grind (arith, nat_tests)
+invalid_past invalid.Quote2 c k = grind (arith, nat_tests)
+invalid_past invalid.Quote3 c k = grind (arith, nat_tests)
+invalid_past invalid.Quote4 c k = grind (arith, nat_tests)
+invalid_past invalid.Double1 c k = grind (arith, nat_tests)
+invalid_past invalid.Double2 c k = grind (arith, nat_tests)
+invalid_past invalid.Close c k = refl
+
+-- the machine of an invalid token keeps to its shape
+pub invalid_steps : (q : InvalidState) (c : ℕ) → after c (invalid_rest q) ≡ after_next InvalidState invalid_rest (invalid_step q c)
+invalid_steps q c = let h = invalid_computed q in steps_agree InvalidState invalid_rest invalid_step q c h.0 h.1 (invalid_past q c)

@@ -1,0 +1,115 @@
+-- Shapes that are compared by computing, and numbers that are tried one by one.
+use Rattle.std.proofs.Common.{◌≡◌, ℕ, ◌≤◌, ◌<◌, zero, suc, Bool, true, false, cond, nat_eq, nat_lt, List, [], ◌∷◌, refl, sym, ap, subst, ◌∙◌, arith, inl, inr}
+use Rattle.std.specs.Prelude.{◌&&◌}
+use Rattle.std.proofs.lemmas.Bool.{cases_lt, eqb-true, ltb-true}
+use Rattle.std.proofs.lemmas.Bool.Decides.{nat_tests}
+use Rattle.wave_lex.specs.Regex.{Regex, nothing, empty, within, other, both, either, many, is_one_of, is_within}
+use Rattle.wave_lex.specs.Derive.{after, join, choice, may_be_empty}
+
+-- two lists are equal, by computing
+abbrev pub same_list : List ℕ → List ℕ → Bool
+same_list [] [] = true
+same_list [] (b ∷ bs) = false
+same_list (a ∷ as1) [] = false
+same_list (a ∷ as1) (b ∷ bs) = nat_eq a b && same_list as1 bs
+
+-- two shapes are equal, by computing
+abbrev pub same : Regex → Regex → Bool
+same nothing nothing = true
+same empty empty = true
+same (within a b) (within c d) = nat_eq a c && nat_eq b d
+same (other a) (other b) = same_list a b
+same (both a b) (both c d) = same a c && same b d
+same (either a b) (either c d) = same a c && same b d
+same (many a) (many b) = same a b
+same p q = false
+
+-- both are true where both at once are
+pub and_true : (a b : Bool) → (a && b) ≡ true → (a ≡ true) × (b ≡ true)
+and_true true b e = (refl, e)
+and_true false b e = cc
+
+-- lists that pass the test are equal
+pub same_list_true : (a b : List ℕ) → same_list a b ≡ true → a ≡ b
+same_list_true [] [] e = refl
+same_list_true [] (b ∷ bs) e = cc
+same_list_true (a ∷ x) [] e = cc
+same_list_true (a ∷ x) (b ∷ y) e = let h : (nat_eq a b ≡ true) × (same_list x y ≡ true) = and_true _ _ e in
+    let i : a ≡ b = eqb-true a b h.0 in
+    let j : x ≡ y = same_list_true x y h.1 in cc
+
+-- shapes that pass the test are equal
+pub same_true : (p q : Regex) → same p q ≡ true → p ≡ q
+same_true nothing nothing e = refl
+same_true empty empty e = refl
+same_true (within a b) (within c d) e = let h : (nat_eq a c ≡ true) × (nat_eq b d ≡ true) = and_true _ _ e in
+    let i : a ≡ c = eqb-true a c h.0 in let j : b ≡ d = eqb-true b d h.1 in cc
+same_true (other a) (other b) e = ap other (same_list_true a b e)
+same_true (both a b) (both c d) e = let h : (same a c ≡ true) × (same b d ≡ true) = and_true _ _ e in
+    let i : a ≡ c = same_true a c h.0 in let j : b ≡ d = same_true b d h.1 in cc
+same_true (either a b) (either c d) e = let h : (same a c ≡ true) × (same b d ≡ true) = and_true _ _ e in
+    let i : a ≡ c = same_true a c h.0 in let j : b ≡ d = same_true b d h.1 in cc
+same_true (many a) (many b) e = ap many (same_true a b e)
+same_true p q e = cc
+
+-- p holds of each number below n
+abbrev pub each_below : ℕ → (ℕ → Bool) → Bool
+each_below zero p = true
+each_below (suc n) p = p n && each_below n p
+
+-- what is tested below n holds below n
+pub each_below_at : (n b : ℕ) (p : ℕ → Bool) → each_below n p ≡ true → b < n → p b ≡ true
+each_below_at zero b p e l = let w : ⊥ = omega arith in absurd w
+each_below_at (suc n) b p e l =
+    let h : (p n ≡ true) × (each_below n p ≡ true) = and_true _ _ e in
+    elim (cases_lt b n) as (λ _. p b ≡ true) [
+      | inl k ↦ each_below_at n b p h.1 k
+      | inr k ↦ let s : b ≡ n = omega arith in subst (λ (z : ℕ). p z ≡ true) (sym s) h.0
+    ]
+
+-- the shape tells no scalar past ASCII from another
+abbrev pub all_ascii : List ℕ → Bool
+all_ascii [] = true
+all_ascii (d ∷ ds) = nat_lt d 128 && all_ascii ds
+
+-- the shape tells no scalar past ASCII from another
+abbrev pub is_ascii_shape : Regex → Bool
+is_ascii_shape nothing = true
+is_ascii_shape empty = true
+is_ascii_shape (within lo hi) = nat_lt hi 128
+is_ascii_shape (other cs) = all_ascii cs
+is_ascii_shape (both p q) = is_ascii_shape p && is_ascii_shape q
+is_ascii_shape (either p q) = is_ascii_shape p && is_ascii_shape q
+is_ascii_shape (many p) = is_ascii_shape p
+
+-- a scalar past ASCII lies in no range of ASCII
+pub outside : (lo hi c : ℕ) → hi < 128 → 128 ≤ c → is_within lo hi c ≡ false
+outside lo hi c h k = grind (arith, nat_tests)
+
+-- a scalar past ASCII is none of some ASCII
+none_of : (cs : List ℕ) (c : ℕ) → all_ascii cs ≡ true → 128 ≤ c → is_one_of c cs ≡ false
+none_of [] c e k = refl
+none_of (d ∷ ds) c e k =
+    let h : (nat_lt d 128 ≡ true) × (all_ascii ds ≡ true) = and_true _ _ e in
+    let a : d < 128 = ltb-true d 128 h.0 in
+    let b : nat_eq c d ≡ false = grind (arith, nat_tests) in
+    rw (b, none_of ds c h.1 k) refl
+
+-- all scalars past ASCII are followed by one shape
+pub after_past : (r : Regex) (c d : ℕ) → is_ascii_shape r ≡ true → 128 ≤ c → 128 ≤ d → after c r ≡ after d r
+after_past nothing c d e k l = refl
+after_past empty c d e k l = refl
+after_past (within lo hi) c d e k l =
+    let a : hi < 128 = ltb-true hi 128 e in
+    let x : is_within lo hi c ≡ false = outside lo hi c a k in
+    let y : is_within lo hi d ≡ false = outside lo hi d a l in
+    ap (λ (z : Bool). cond z empty nothing) (x ∙ sym y)
+after_past (other cs) c d e k l = ap (λ (z : Bool). cond z nothing empty) (none_of cs c e k ∙ sym (none_of cs d e l))
+after_past (both p q) c d e k l =
+    let h : (is_ascii_shape p ≡ true) × (is_ascii_shape q ≡ true) = and_true _ _ e in
+    ap (λ (z : Regex). choice (join z q) (cond (may_be_empty p) (after c q) nothing)) (after_past p c d h.0 k l)
+    ∙ ap (λ (z : Regex). choice (join (after d p) q) (cond (may_be_empty p) z nothing)) (after_past q c d h.1 k l)
+after_past (either p q) c d e k l =
+    let h : (is_ascii_shape p ≡ true) × (is_ascii_shape q ≡ true) = and_true _ _ e in
+    ap (λ (z : Regex). choice z (after c q)) (after_past p c d h.0 k l) ∙ ap (λ (z : Regex). choice (after d p) z) (after_past q c d h.1 k l)
+after_past (many p) c d e k l = ap (λ (z : Regex). join z (many p)) (after_past p c d e k l)

@@ -1,0 +1,5 @@
+use Rattle.wave_lex.proofs.Parts.{joins}
+use Rattle.wave_lex.proofs.laws.parts_join.Goals as goal
+
+pub returns : goal.returns
+returns c = joins

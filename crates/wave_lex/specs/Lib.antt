@@ -1,0 +1,16 @@
+pub mod Regex
+pub mod Derive
+pub mod Fronts
+pub mod Tokens
+pub mod Lexing
+pub mod Reading
+pub mod Machines
+pub mod NameMachine
+pub mod Labels
+pub mod FunctionName
+pub mod Strings
+pub mod Multiline
+pub mod Errors
+pub mod Left
+pub mod Parts
+pub mod Lines

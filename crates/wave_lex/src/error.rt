@@ -1,0 +1,218 @@
+//! Why a text is refused.
+ghost use Rattle.std.specs.Prelude.{◌≡◌, None, Some, option_map};
+ghost use Rattle.std.specs.String.{string_bytes};
+ghost use Rattle.wave_wasm.specs.Causes.{cause_of};
+ghost use Rattle.wave_lex.specs.Errors.{plainly, refused_by, refusal_of, detail_text, kind_words, error_text};
+
+use crate::lex::Span;
+use std::fmt;
+use wave_wasm::wasm::WasmValueError;
+
+/// What kind of refusal it is.
+#[derive(Clone, Copy, Debug, PartialEq, Eq, Drop)]
+pub enum ParserErrorKind {
+    /// `()` where a value is due.
+    EmptyTuple,
+    /// Never answered.
+    MultipleChars,
+    /// An escape that stands for no scalar.
+    InvalidEscape,
+    /// A multiline string whose first, last or other line is not right.
+    InvalidMultilineString,
+    /// Too many or too few values for a function's parameters.
+    InvalidParams,
+    /// A place where no token begins.
+    InvalidToken,
+    /// A value of another form than the type takes.
+    InvalidType,
+    /// A number out of range, or a record with an unknown field.
+    InvalidValue,
+    /// Something behind the value.
+    TrailingCharacters,
+    /// The end of the text where more is due.
+    UnexpectedEnd,
+    /// A token that can not stand here.
+    UnexpectedToken,
+    /// A field that was named before.
+    DuplicateField,
+    /// A flag that was named before.
+    DuplicateFlag,
+    /// A value that could not be made; the error has the cause.
+    WasmValueError,
+    /// A value inside too many others.
+    NestingTooDeep,
+    /// No memory was left.
+    OutOfMemory,
+}
+
+impl ParserErrorKind {
+    /// What is printed of the kind.
+    fn words(self) -> &'static str
+        ensures { result.now ≡ kind_words self }
+    {
+        match self {
+            ParserErrorKind::EmptyTuple => "empty tuple",
+            ParserErrorKind::MultipleChars => "multiple characters in char value",
+            ParserErrorKind::InvalidEscape => "invalid character escape",
+            ParserErrorKind::InvalidMultilineString => "invalid multiline string",
+            ParserErrorKind::InvalidParams => "invalid params",
+            ParserErrorKind::InvalidToken => "invalid token",
+            ParserErrorKind::InvalidType => "invalid value type",
+            ParserErrorKind::InvalidValue => "invalid value",
+            ParserErrorKind::TrailingCharacters => "trailing characters after value",
+            ParserErrorKind::UnexpectedEnd => "unexpected end of input",
+            ParserErrorKind::UnexpectedToken => "unexpected token",
+            ParserErrorKind::DuplicateField => "duplicate field",
+            ParserErrorKind::DuplicateFlag => "duplicate flag",
+            ParserErrorKind::WasmValueError => "error converting Wasm value",
+            ParserErrorKind::NestingTooDeep => "value nesting too deep",
+            ParserErrorKind::OutOfMemory => "out of memory",
+        }
+    }
+}
+
+impl fmt::Display for ParserErrorKind {
+    ghost output = { λ kind. Some (kind_words kind) };
+
+    fn fmt<W: fmt::Write>(&self, f: &mut fmt::Formatter<W>) -> fmt::Result {
+        f.write_str(self.words())
+    }
+}
+
+/// A word more on a refusal.
+#[derive(Debug, Drop)]
+pub enum Detail {
+    None,
+    Static(&'static str),
+    Owned(String),
+}
+
+/// A refusal of a text: its kind, the bytes of the source where it arose, and perhaps a detail or
+/// the error of the value that could not be made.
+#[derive(Debug, Drop)]
+pub struct ParserError {
+    kind: ParserErrorKind,
+    span: Span,
+    detail: Detail,
+    cause: Option<WasmValueError>,
+}
+
+impl ParserError {
+    /// A refusal without detail and cause.
+    pub fn new(kind: ParserErrorKind, span: Span) -> ParserError
+        ensures refusal { refusal_of result ≡ plainly kind }
+        ensures span { result.span ≡ span }
+        ensures detail { detail_text result.detail ≡ None }
+    {
+        ParserError::with_parts(kind, span, Detail::None)
+    }
+
+    /// A refusal with a detail that is written in the program.
+    pub fn with_static(kind: ParserErrorKind, span: Span, detail: &'static str) -> ParserError
+        ensures refusal { refusal_of result ≡ plainly kind }
+        ensures span { result.span ≡ span }
+        ensures detail { detail_text result.detail ≡ Some detail.now }
+    {
+        ParserError::with_parts(kind, span, Detail::Static(detail))
+    }
+
+    /// A refusal with a detail that was made for it.
+    pub fn with_detail(kind: ParserErrorKind, span: Span, detail: String) -> ParserError
+        ensures refusal { refusal_of result ≡ plainly kind }
+        ensures span { result.span ≡ span }
+        ensures detail { detail_text result.detail ≡ Some (string_bytes detail) }
+    {
+        ParserError::with_parts(kind, span, Detail::Owned(detail))
+    }
+
+    /// A refusal because a value could not be made: `OutOfMemory` where memory failed, else
+    /// `WasmValueError`.
+    pub fn with_cause(span: Span, cause: WasmValueError) -> ParserError
+        ensures refusal { refusal_of result ≡ refused_by (cause_of cause) }
+        ensures span { result.span ≡ span }
+        ensures detail { detail_text result.detail ≡ None }
+        ensures cause { result.cause ≡ Some cause }
+    {
+        let kind = match &cause {
+            WasmValueError::Memory(_) => ParserErrorKind::OutOfMemory,
+            _ => ParserErrorKind::WasmValueError,
+        };
+        ParserError {
+            kind,
+            span,
+            detail: Detail::None,
+            cause: Some(cause),
+        }
+    }
+
+    /// A refusal without a cause.
+    fn with_parts(kind: ParserErrorKind, span: Span, detail: Detail) -> ParserError
+        ensures { result ≡ record { kind = kind; span = span; detail = detail; cause = None } }
+    {
+        ParserError {
+            kind,
+            span,
+            detail,
+            cause: None,
+        }
+    }
+
+    /// The kind of the refusal.
+    pub fn kind(&self) -> ParserErrorKind
+        ensures { result ≡ (refusal_of self.now).kind }
+    {
+        self.kind
+    }
+
+    /// The bytes of the source where it arose.
+    pub fn span(&self) -> Span
+        ensures { result ≡ self.now.span }
+    {
+        self.span.start..self.span.end
+    }
+
+    /// The detail, where there is one.
+    pub fn detail(&self) -> Option<&str>
+        ensures { option_map (λ text. text.now) result ≡ detail_text self.now.detail }
+    {
+        match &self.detail {
+            Detail::None => None,
+            Detail::Static(text) => Some(text),
+            Detail::Owned(text) => Some(text.as_str()),
+        }
+    }
+
+    /// The error of the value that could not be made, where there is one.
+    pub fn cause(&self) -> Option<&WasmValueError>
+        ensures { option_map (λ cause. cause.now) result ≡ self.now.cause }
+    {
+        self.cause.as_ref()
+    }
+}
+
+impl fmt::Display for ParserError {
+    ghost output = { λ error. Some (error_text error) };
+
+    fn fmt<W: fmt::Write>(&self, f: &mut fmt::Formatter<W>) -> fmt::Result {
+        let kind = self.kind;
+        let start = self.span.start;
+        let end = self.span.end;
+        match &self.cause {
+            Some(cause) => write!(f, "{kind}: {cause} at {start}..{end}"),
+            None => match self.detail() {
+                Some(detail) => write!(f, "{kind}: {detail} at {start}..{end}"),
+                None => write!(f, "{kind} at {start}..{end}"),
+            },
+        }
+    }
+}
+
+impl std::error::Error for ParserErrorKind {}
+
+impl std::error::Error for ParserError {}
+
+impl From<ParserError> for fmt::Error {
+    fn from(_error: ParserError) -> fmt::Error {
+        fmt::Error
+    }
+}

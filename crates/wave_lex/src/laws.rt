@@ -1,0 +1,45 @@
+//! Laws of the definitions.
+ghost use Rattle.wave_lex.specs.Lexing.{NoLongerLabel, OneCut, ThroughFirstQuotes};
+ghost use Rattle.wave_lex.specs.Multiline.{FaultsRefuse, OneMeaning};
+ghost use Rattle.wave_lex.specs.Parts.{LinesJoin, OneLineJoins, PartsJoin};
+
+/// No text is cut into tokens in two ways.
+pub fn one_cut()
+    ensures { OneCut }
+{}
+
+/// The parts of a string join to what it decodes to; a refusal tells its first bad escape.
+pub fn parts_join()
+    ensures { PartsJoin }
+{}
+
+/// The parts of a multiline string join to what it decodes to; a refusal tells what is wrong with it.
+pub fn lines_join()
+    ensures { LinesJoin }
+{}
+
+/// The parts of one line, by an iterator of either kind, join to what it decodes to; a refusal tells
+/// its first bad escape.
+pub fn one_line_joins()
+    ensures { OneLineJoins }
+{}
+
+/// A token stands for one scalar or text at most.
+pub fn one_meaning()
+    ensures { OneMeaning }
+{}
+
+/// A string or multiline string with a fault stands for nothing.
+pub fn faults_refuse()
+    ensures { FaultsRefuse }
+{}
+
+/// A multiline token goes from three quotes through the first later three quotes.
+pub fn through_first_quotes()
+    ensures { ThroughFirstQuotes }
+{}
+
+/// No label at the place of a token is longer than the token.
+pub fn no_longer_label()
+    ensures { NoLongerLabel }
+{}

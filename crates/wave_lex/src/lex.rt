@@ -1,0 +1,268 @@
+//! Tokens of the text encoding, and the lexer that cuts a source into them.
+ghost use Rattle.std.specs.Prelude.{◌≡◌, ℕ, ◌+◌, Some, slice_range, length};
+ghost use Rattle.std.specs.Iterator.{at_most};
+ghost use Rattle.wave_lex.specs.Errors.{class_name, name_class_name};
+ghost use Rattle.wave_lex.specs.Fronts.{Greatest, IsFront};
+ghost use Rattle.wave_lex.specs.Tokens.{shape, gap, invalid};
+ghost use Rattle.wave_lex.specs.Lexing.{IsGap, Lexed, Stands, NextIs, remainder_of, span};
+ghost use Rattle.wave_lex.specs.Reading.{class_of, ClassAt, TokenAt};
+
+pub use self::func_name::FuncNameLexer;
+use crate::asked::Asked;
+use crate::machine::character::CharState;
+use crate::machine::gap::GapState;
+use crate::machine::invalid::InvalidState;
+use crate::machine::label::LabelState;
+use crate::machine::longest_front;
+use crate::machine::mark::MarkState;
+use crate::machine::multiline::MultilineState;
+use crate::machine::number::NumberState;
+use crate::machine::string::StringState;
+use std::fmt;
+use std::marker::Model;
+use std::ops::Range;
+pub use wave_wasm::keyword::Keyword;
+
+mod func_name;
+
+/// Byte positions in the source.
+pub type Span = Range<usize>;
+
+/// The class of a token.
+#[derive(Clone, Copy, Debug, PartialEq, Eq)]
+pub enum Token {
+    BraceOpen,
+    BraceClose,
+    ParenOpen,
+    ParenClose,
+    BracketOpen,
+    BracketClose,
+    Colon,
+    Comma,
+    Number,
+    LabelOrKeyword,
+    Char,
+    String,
+    MultilineString,
+}
+
+impl Token {
+    /// The name of the class.
+    pub fn name(self) -> &'static str
+        ensures { result.now ≡ class_name self }
+    {
+        match self {
+            Token::BraceOpen => "BraceOpen",
+            Token::BraceClose => "BraceClose",
+            Token::ParenOpen => "ParenOpen",
+            Token::ParenClose => "ParenClose",
+            Token::BracketOpen => "BracketOpen",
+            Token::BracketClose => "BracketClose",
+            Token::Colon => "Colon",
+            Token::Comma => "Comma",
+            Token::Number => "Number",
+            Token::LabelOrKeyword => "LabelOrKeyword",
+            Token::Char => "Char",
+            Token::String => "String",
+            Token::MultilineString => "MultilineString",
+        }
+    }
+}
+
+impl fmt::Display for Token {
+    ghost output = { λ token. Some (class_name token) };
+
+    fn fmt<W: fmt::Write>(&self, f: &mut fmt::Formatter<W>) -> fmt::Result {
+        f.write_str(self.name())
+    }
+}
+
+/// The one class of a function name lexer.
+#[derive(Clone, Copy, Debug, PartialEq, Eq)]
+pub enum FuncNameToken {
+    FunctionName,
+}
+
+impl fmt::Display for FuncNameToken {
+    ghost output = { λ token. Some (name_class_name token) };
+
+    fn fmt<W: fmt::Write>(&self, f: &mut fmt::Formatter<W>) -> fmt::Result {
+        match self {
+            FuncNameToken::FunctionName => f.write_str("FunctionName"),
+        }
+    }
+}
+
+/// The class of the tokens that begin with this scalar; of the two kinds of strings the plain one.
+fn class_of(first: char) -> Option<Token>
+    ensures { result ≡ class_of first }
+{
+    match first {
+        '{' => Some(Token::BraceOpen),
+        '}' => Some(Token::BraceClose),
+        '(' => Some(Token::ParenOpen),
+        ')' => Some(Token::ParenClose),
+        '[' => Some(Token::BracketOpen),
+        ']' => Some(Token::BracketClose),
+        ':' => Some(Token::Colon),
+        ',' => Some(Token::Comma),
+        '-' | '0'..='9' => Some(Token::Number),
+        '%' | 'a'..='z' | 'A'..='Z' => Some(Token::LabelOrKeyword),
+        '\'' => Some(Token::Char),
+        '"' => Some(Token::String),
+        _ => None,
+    }
+}
+
+/// How many bytes the longest front in the class takes.
+fn longest_in(class: Token, text: &str) -> Option<usize>
+    ensures { Greatest (IsFront (shape class) text.now) result }
+{
+    match class {
+        Token::BraceOpen => longest_front(MarkState::Start('{'), text),
+        Token::BraceClose => longest_front(MarkState::Start('}'), text),
+        Token::ParenOpen => longest_front(MarkState::Start('('), text),
+        Token::ParenClose => longest_front(MarkState::Start(')'), text),
+        Token::BracketOpen => longest_front(MarkState::Start('['), text),
+        Token::BracketClose => longest_front(MarkState::Start(']'), text),
+        Token::Colon => longest_front(MarkState::Start(':'), text),
+        Token::Comma => longest_front(MarkState::Start(','), text),
+        Token::Number => longest_front(NumberState::Start, text),
+        Token::LabelOrKeyword => longest_front(LabelState::Start, text),
+        Token::Char => longest_front(CharState::Start, text),
+        Token::String => longest_front(StringState::Start, text),
+        Token::MultilineString => longest_front(MultilineState::Start, text),
+    }
+}
+
+/// The class in which any token at the front lies.
+fn class_at(text: &str) -> Option<Token>
+    ensures { ClassAt text.now result }
+{
+    let first = text.chars().next()?;
+    if text.starts_with("\"\"\"") {
+        return Some(Token::MultilineString);
+    }
+    class_of(first)
+}
+
+/// The longest token at the front, and how many bytes it takes.
+fn token_at(text: &str) -> Option<(Token, usize)>
+    ensures { TokenAt text.now result }
+{
+    let class = class_at(text)?;
+    let length = longest_in(class, text)?;
+    Some((class, length))
+}
+
+/// How many bytes the gap at the front takes.
+fn gap_at(text: &str) -> usize
+    ensures { IsGap text.now result }
+{
+    longest_front(GapState::Start, text).unwrap()
+}
+
+/// Cuts a source into its tokens, one by one. Places are counted in bytes.
+#[derive(Drop)]
+pub struct Lexer<'source> {
+    source: &'source str,
+    start: usize,
+    end: usize,
+}
+
+impl<'source> Model for Lexer<'source> {
+    ghost Value = { Lexed };
+
+    ghost view = { λ l. record { source = l.source.now; start = l.start; end = l.end } };
+
+    ghost invariant = { λ l. Stands l.source.now l.start l.end };
+}
+
+impl<'source> Lexer<'source> {
+    /// A lexer in front of the source, with the span 0..0.
+    pub fn new(source: &'source str) -> Self
+        ensures { result ≡ record { source = source.now; start = 0; end = 0 } }
+    {
+        Lexer {
+            source,
+            start: 0,
+            end: 0,
+        }
+    }
+
+    /// Where the last item stands, in bytes of the source; behind the last one the empty span at
+    /// the end.
+    pub fn span(&self) -> Span
+        ensures { result ≡ span self.now.start self.now.end }
+    {
+        self.start..self.end
+    }
+
+    /// The whole source.
+    pub fn source(&self) -> &'source str
+        ensures { result.now ≡ self.now.source }
+    {
+        self.source
+    }
+
+    /// The source at the span of the last item.
+    pub fn slice(&self) -> &'source str
+        ensures { result.now ≡ slice_range self.now.source self.now.start self.now.end }
+    {
+        &self.source[self.start..self.end]
+    }
+
+    /// The source behind the last item.
+    pub fn remainder(&self) -> &'source str
+        ensures { result.now ≡ remainder_of self.now }
+    {
+        &self.source[self.end..]
+    }
+
+    /// A second lexer that stands where this one does.
+    pub fn clone(&self) -> Lexer<'source>
+        ensures { result ≡ self.now }
+    {
+        Lexer {
+            source: self.source,
+            start: self.start,
+            end: self.end,
+        }
+    }
+
+    /// Answers as `next`, and counts the question.
+    pub fn next_ticked(&mut self, asked: &mut Asked) -> Option<Result<Token, Span>>
+        ensures item { NextIs self.old self.new result }
+        ensures counted { asked.new.count ≡ asked.old.count + 1 }
+    {
+        asked.tick();
+        self.next()
+    }
+}
+
+impl<'source> Iterator for Lexer<'source> {
+    type Item = Result<Token, Span>;
+
+    ghost remaining = { λ l. at_most (length (remainder_of l)) };
+
+    ghost next_gives = { λ old r new. NextIs old new r };
+
+    /// Skips a gap and takes the longest token; the span of an invalid token where none stands,
+    /// and None at the end, for good.
+    fn next(&mut self) -> Option<Result<Token, Span>> {
+        let rest = &self.source[self.end..];
+        let gap = gap_at(rest);
+        let text = &rest[gap..];
+        self.start = self.end + gap;
+        if let Some((token, length)) = token_at(text) {
+            self.end = self.start + length;
+            return Some(Ok(token));
+        }
+        if let Some(length) = longest_front(InvalidState::Start, text) {
+            self.end = self.start + length;
+            return Some(Err(self.start..self.end));
+        }
+        self.end = self.start;
+        None
+    }
+}

@@ -1,0 +1,11 @@
+//! Tokens and strings of the text encoding.
+#![tactic(auto)]
+
+pub mod asked;
+pub mod error;
+pub mod laws;
+pub mod lex;
+mod machine;
+pub mod strings;
+#[cfg(test)]
+mod tests;

@@ -1,0 +1,58 @@
+ghost use Rattle.std.specs.Prelude.{◌≡◌};
+ghost use Rattle.wave_lex.specs.Machines.{invalid_step, invalid_rest};
+
+use crate::machine::Machine;
+
+/// Where an invalid token has been read to.
+#[derive(Clone, Copy)]
+pub enum InvalidState {
+    Start,
+    Quote0,
+    Quote1,
+    Quote2,
+    Quote3,
+    Quote4,
+    Double1,
+    Double2,
+    Close,
+}
+
+/// What a state reads next.
+fn invalid_step(state: InvalidState, c: char) -> Option<InvalidState>
+    ensures { result ≡ invalid_step state c }
+{
+    match (state, c) {
+        (InvalidState::Start, '\'') => Some(InvalidState::Quote0),
+        (InvalidState::Start, '"') => Some(InvalidState::Double1),
+        (InvalidState::Start, _) => Some(InvalidState::Close),
+        (InvalidState::Quote0, '\n' | '\\' | '\'') => None,
+        (InvalidState::Quote0, _) => Some(InvalidState::Quote1),
+        (InvalidState::Quote1, '\n' | '\\' | '\'') => None,
+        (InvalidState::Quote1, _) => Some(InvalidState::Quote2),
+        (InvalidState::Quote2, '\'') => Some(InvalidState::Close),
+        (InvalidState::Quote2, '\n' | '\\') => None,
+        (InvalidState::Quote2, _) => Some(InvalidState::Quote3),
+        (InvalidState::Quote3, '\'') => Some(InvalidState::Close),
+        (InvalidState::Quote3, '\n' | '\\') => None,
+        (InvalidState::Quote3, _) => Some(InvalidState::Quote4),
+        (InvalidState::Quote4, '\'') => Some(InvalidState::Close),
+        (InvalidState::Double1, '"') => Some(InvalidState::Double2),
+        (InvalidState::Double2, '"') => Some(InvalidState::Close),
+        _ => None,
+    }
+}
+
+impl Machine for InvalidState {
+    ghost rest = { invalid_rest };
+
+    fn step(self, c: char) -> Option<Self> {
+        invalid_step(self, c)
+    }
+
+    fn may_end(self) -> bool {
+        matches!(
+            self,
+            InvalidState::Quote0 | InvalidState::Double1 | InvalidState::Close
+        )
+    }
+}

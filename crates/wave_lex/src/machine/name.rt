@@ -1,0 +1,137 @@
+//! The machine of function names.
+ghost use Rattle.std.specs.Prelude.{◌≡◌};
+ghost use Rattle.wave_lex.specs.NameMachine.{word_step, behind_label, number_step, behind_number, name_step, name_rest};
+
+use crate::machine::Machine;
+
+/// Which label of the name: the first of all, that behind `:`, that behind `/`, that behind `.`.
+#[derive(Clone, Copy)]
+pub enum Section {
+    First,
+    Namespace,
+    Function,
+    Member,
+}
+
+/// Where a label has been read to.
+#[derive(Clone, Copy)]
+pub enum Word {
+    Start,
+    Lower,
+    Upper,
+    Hyphen,
+    Digits,
+}
+
+/// Which number of the version.
+#[derive(Clone, Copy)]
+pub enum Component {
+    Major,
+    Minor,
+    Patch,
+}
+
+/// Where a number of the version has been read to.
+#[derive(Clone, Copy)]
+pub enum Number {
+    Start,
+    Zero,
+    Whole,
+}
+
+/// Where a function name has been read to.
+#[derive(Clone, Copy)]
+pub enum NameState {
+    Label(Section, Word),
+    Version(Component, Number),
+}
+
+/// What a label reads next.
+fn word_step(word: Word, c: char) -> Option<Word>
+    ensures { result ≡ word_step word c }
+{
+    match (word, c) {
+        (Word::Start | Word::Hyphen | Word::Digits | Word::Lower, 'a'..='z') => Some(Word::Lower),
+        (Word::Start | Word::Hyphen | Word::Digits | Word::Upper, 'A'..='Z') => Some(Word::Upper),
+        (Word::Lower, '0'..='9') => Some(Word::Lower),
+        (Word::Upper, '0'..='9') => Some(Word::Upper),
+        (Word::Hyphen | Word::Digits, '0'..='9') => Some(Word::Digits),
+        (Word::Lower | Word::Upper | Word::Digits, '-') => Some(Word::Hyphen),
+        _ => None,
+    }
+}
+
+/// What a scalar begins that is none of the label's.
+fn behind_label(section: Section, c: char) -> Option<NameState>
+    ensures { result ≡ behind_label section c }
+{
+    match (section, c) {
+        (Section::First, ':') => Some(NameState::Label(Section::Namespace, Word::Start)),
+        (Section::Namespace, '/') => Some(NameState::Label(Section::Function, Word::Start)),
+        (Section::First | Section::Function, '.') => {
+            Some(NameState::Label(Section::Member, Word::Start))
+        }
+        (Section::First | Section::Function | Section::Member, '@') => {
+            Some(NameState::Version(Component::Major, Number::Start))
+        }
+        _ => None,
+    }
+}
+
+/// What a number of the version reads next.
+fn number_step(number: Number, c: char) -> Option<Number>
+    ensures { result ≡ number_step number c }
+{
+    match (number, c) {
+        (Number::Start, '0') => Some(Number::Zero),
+        (Number::Start, '1'..='9') => Some(Number::Whole),
+        (Number::Whole, '0'..='9') => Some(Number::Whole),
+        _ => None,
+    }
+}
+
+/// What a scalar begins that is none of the number's.
+fn behind_number(component: Component, c: char) -> Option<NameState>
+    ensures { result ≡ behind_number component c }
+{
+    match (component, c) {
+        (Component::Major, '.') => Some(NameState::Version(Component::Minor, Number::Start)),
+        (Component::Minor, '.') => Some(NameState::Version(Component::Patch, Number::Start)),
+        _ => None,
+    }
+}
+
+/// What a state reads next.
+fn name_step(state: NameState, c: char) -> Option<NameState>
+    ensures { result ≡ name_step state c }
+{
+    match state {
+        NameState::Label(section, word) => match word_step(word, c) {
+            Some(next) => Some(NameState::Label(section, next)),
+            None if matches!(word, Word::Start | Word::Hyphen) => None,
+            None => behind_label(section, c),
+        },
+        NameState::Version(component, number) => match number_step(number, c) {
+            Some(next) => Some(NameState::Version(component, next)),
+            None if matches!(number, Number::Start) => None,
+            None => behind_number(component, c),
+        },
+    }
+}
+
+impl Machine for NameState {
+    ghost rest = { name_rest };
+
+    fn step(self, c: char) -> Option<Self> {
+        name_step(self, c)
+    }
+
+    fn may_end(self) -> bool {
+        match self {
+            NameState::Label(Section::Namespace, _) => false,
+            NameState::Label(_, word) => !matches!(word, Word::Start | Word::Hyphen),
+            NameState::Version(Component::Patch, number) => !matches!(number, Number::Start),
+            NameState::Version(_, _) => false,
+        }
+    }
+}

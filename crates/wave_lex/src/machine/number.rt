@@ -1,0 +1,65 @@
+ghost use Rattle.std.specs.Prelude.{◌≡◌};
+ghost use Rattle.wave_lex.specs.Machines.{number_step, number_rest};
+
+use crate::machine::Machine;
+
+/// Where a number has been read to.
+#[derive(Clone, Copy)]
+pub enum NumberState {
+    Start,
+    Minus,
+    MinusI,
+    MinusIn,
+    MinusInf,
+    Zero,
+    Whole,
+    Point,
+    Fraction,
+    Exponent,
+    Sign,
+    Power,
+}
+
+/// What a state reads next.
+fn number_step(state: NumberState, c: char) -> Option<NumberState>
+    ensures { result ≡ number_step state c }
+{
+    match (state, c) {
+        (NumberState::Start, '-') => Some(NumberState::Minus),
+        (NumberState::Start | NumberState::Minus, '0') => Some(NumberState::Zero),
+        (NumberState::Start | NumberState::Minus, '1'..='9') => Some(NumberState::Whole),
+        (NumberState::Minus, 'i') => Some(NumberState::MinusI),
+        (NumberState::MinusI, 'n') => Some(NumberState::MinusIn),
+        (NumberState::MinusIn, 'f') => Some(NumberState::MinusInf),
+        (NumberState::Whole, '0'..='9') => Some(NumberState::Whole),
+        (NumberState::Zero | NumberState::Whole, '.') => Some(NumberState::Point),
+        (NumberState::Point | NumberState::Fraction, '0'..='9') => Some(NumberState::Fraction),
+        (NumberState::Zero | NumberState::Whole | NumberState::Fraction, 'e' | 'E') => {
+            Some(NumberState::Exponent)
+        }
+        (NumberState::Exponent, '-' | '+') => Some(NumberState::Sign),
+        (NumberState::Exponent | NumberState::Sign | NumberState::Power, '0'..='9') => {
+            Some(NumberState::Power)
+        }
+        _ => None,
+    }
+}
+
+impl Machine for NumberState {
+    ghost rest = { number_rest };
+
+    fn step(self, c: char) -> Option<Self> {
+        number_step(self, c)
+    }
+
+    fn may_end(self) -> bool {
+        matches!(
+            self,
+            NumberState::MinusInf
+                | NumberState::Zero
+                | NumberState::Whole
+                | NumberState::Fraction
+                | NumberState::Power
+        )
+    }
+}

@@ -1,0 +1,378 @@
+//! What the escapes of a string stand for, and the parts of a string, one by one.
+ghost use Rattle.std.specs.Prelude.{◌≡◌, ℕ, ◌+◌, ◌<◌, ◌≤◌, ◌^◌, ◌≢◌, [], length, slice_index, MatchResult, MatchOption};
+ghost use Rattle.std.specs.Iterator.{at_most};
+ghost use Rattle.std.specs.Char.{digit_value};
+ghost use Rattle.wave_lex.specs.Strings.{UnescapesTo, short_escape};
+ghost use Rattle.wave_lex.specs.Multiline.{pieces, closing_piece, DropsReturn};
+ghost use Rattle.wave_lex.specs.Left.{ended_lines, size_of, one_line};
+ghost use Rattle.wave_lex.specs.Parts.{PartIs, LinePartIs, OpensTo, OpeningRefused, left_of};
+ghost use Rattle.wave_lex.specs.Lines.{LineIs, SplitsLine, OpeningIs, BehindLastFeed};
+
+use crate::error::{ParserError, ParserErrorKind};
+use std::marker::Model;
+
+/// A run of the source without escapes, or a decoded escape, or the line feed between two lines.
+#[derive(Clone, Copy, Debug)]
+pub enum StringPart<'a> {
+    /// Bytes of the source that stand for themselves; at least one.
+    Run(&'a str),
+    /// The scalar of an escape, or a line feed.
+    Char(char),
+}
+
+/// The parts of a string: of what stands between its quotes.
+#[derive(Drop)]
+pub struct StringParts<'a> {
+    src: &'a str,
+    pos: usize,
+}
+
+impl<'a> Model for StringParts<'a> {
+    ghost use Rattle.std.specs.Prelude.{◌+◌, ◌<◌, ◌^◌, length};
+    ghost use Rattle.wave_lex.specs.Left.{Undecoded};
+
+    ghost Value = { Undecoded };
+
+    ghost view = { λ p. record { rest = p.src.now; pos = p.pos } };
+
+    ghost invariant = { λ p. p.pos + length p.src.now + 3 < 2 ^ 64 };
+}
+
+impl<'a> StringParts<'a> {
+    /// The parts of `src`, which stands at the byte `pos` of the source.
+    pub fn new(src: &'a str, pos: usize) -> StringParts<'a>
+        requires { pos + length src.now + 3 < 2 ^ 64 }
+        ensures { result ≡ record { rest = src.now; pos = pos } }
+    {
+        StringParts { src, pos }
+    }
+}
+
+impl<'a> Iterator for StringParts<'a> {
+    type Item = Result<StringPart<'a>, ParserError>;
+
+    ghost remaining = { λ p. at_most (length p.rest) };
+
+    ghost next_gives = { λ old r new. PartIs old r new };
+
+    /// The next run or escape. An escape that is none is refused at its backslash, and nothing
+    /// comes behind it.
+    fn next(&mut self) -> Option<Result<StringPart<'a>, ParserError>> {
+        if self.src.is_empty() {
+            return None;
+        }
+        let run = length_before(b'\\', self.src.as_bytes());
+        if run > 0 {
+            let (part, rest) = self.src.split_at(run);
+            self.src = rest;
+            self.pos += run;
+            return Some(Ok(StringPart::Run(part)));
+        }
+        let Some((c, count)) = unescape(self.src) else {
+            self.src = "";
+            return Some(Err(ParserError::new(
+                ParserErrorKind::InvalidEscape,
+                self.pos..self.pos + 1,
+            )));
+        };
+        self.src = &self.src[count..];
+        self.pos += count;
+        Some(Ok(StringPart::Char(c)))
+    }
+}
+
+/// The parts of a multiline string: of what stands between its quotes.
+#[derive(Drop)]
+pub struct MultilineStringParts<'a> {
+    line: StringParts<'a>,
+    rest: &'a str,
+    next: usize,
+    indent: usize,
+}
+
+impl<'a> Model for MultilineStringParts<'a> {
+    ghost use Rattle.std.specs.Prelude.{◌+◌, ◌<◌, ◌^◌, length};
+    ghost use Rattle.wave_lex.specs.Left.{LinesLeft, ended_lines};
+
+    ghost Value = { LinesLeft };
+
+    ghost view = { λ p. record { line = p.line; later = ended_lines p.rest.now; next = p.next; indent = p.indent } };
+
+    ghost invariant = { λ p. p.next + length p.rest.now + 3 < 2 ^ 64 };
+}
+
+impl<'a> MultilineStringParts<'a> {
+    /// The parts of `src`, which stands at the byte `pos` of the source, in front of the first
+    /// one. What stands before the first and behind the last line feed is refused here, and so is
+    /// a first line with too few spaces.
+    fn new(src: &'a str, pos: usize) -> Result<MultilineStringParts<'a>, ParserError>
+        requires { pos + length src.now + 3 < 2 ^ 64 }
+        ensures { MatchResult result (OpensTo src.now pos) (OpeningRefused src.now pos) }
+    {
+        let end = pos + src.len();
+        let start = last_line_start(src.as_bytes());
+        let closing = closing_piece(src, start);
+        if length_of_spaces(closing.as_bytes()) < closing.len() {
+            return Err(ParserError::with_static(
+                ParserErrorKind::InvalidMultilineString,
+                end..end + 3,
+                "closing \"\"\" must be on a line preceded only by spaces",
+            ));
+        }
+        let Some(first) = opening_length(src.as_bytes()) else {
+            return Err(ParserError::with_static(
+                ParserErrorKind::InvalidMultilineString,
+                pos..pos + 1,
+                "opening \"\"\" must be followed immediately by newline",
+            ));
+        };
+        let mut parts = MultilineStringParts {
+            line: StringParts::new("", pos),
+            rest: &src[first + 1..start],
+            next: pos + first + 1,
+            indent: closing.len(),
+        };
+        match parts.next_line() {
+            None => Ok(parts),
+            Some(Ok(())) => Ok(parts),
+            Some(Err(error)) => Err(error),
+        }
+    }
+
+    /// Reads the next line; None where there is none. A line with too few spaces is refused at its
+    /// first byte, and no line is left.
+    fn next_line(&mut self) -> Option<Result<(), ParserError>>
+        ensures { LineIs self.old result self.new }
+    {
+        let place = self.next;
+        let (line, behind) = split_line(self.rest)?;
+        if length_of_spaces(line.as_bytes()) < self.indent {
+            self.rest = "";
+            return Some(Err(ParserError::with_static(
+                ParserErrorKind::InvalidMultilineString,
+                place..place + 1,
+                "lines must be indented at least as much as closing \"\"\"",
+            )));
+        }
+        let text = without_final_return(&line[self.indent..]);
+        self.line = StringParts::new(text, place + self.indent);
+        self.rest = behind;
+        self.next = place + line.len() + 1;
+        Some(Ok(()))
+    }
+}
+
+impl<'a> Iterator for MultilineStringParts<'a> {
+    type Item = Result<StringPart<'a>, ParserError>;
+
+    ghost remaining = { λ p. at_most (size_of p) };
+
+    ghost next_gives = { λ old r new. LinePartIs old r new };
+
+    /// The next part of the line, or the line feed between it and the next one. After a refusal
+    /// nothing comes.
+    fn next(&mut self) -> Option<Result<StringPart<'a>, ParserError>> {
+        match self.line.next() {
+            Some(Ok(part)) => Some(Ok(part)),
+            Some(Err(error)) => {
+                self.rest = "";
+                Some(Err(error))
+            }
+            None => match self.next_line()? {
+                Ok(()) => Some(Ok(StringPart::Char('\n'))),
+                Err(error) => Some(Err(error)),
+            },
+        }
+    }
+}
+
+/// The parts of a string of either kind.
+#[derive(Drop)]
+pub enum StringPartsIter<'a> {
+    Normal(StringParts<'a>),
+    Multiline(MultilineStringParts<'a>),
+}
+
+impl<'a> StringPartsIter<'a> {
+    /// The parts of `src`, which stands between the quotes of a string, at the byte `pos` of the
+    /// source.
+    pub fn new(src: &'a str, pos: usize) -> StringPartsIter<'a>
+        requires { pos + length src.now + 3 < 2 ^ 64 }
+        ensures { left_of result ≡ one_line (record { rest = src.now; pos = pos }) }
+    {
+        StringPartsIter::Normal(StringParts::new(src, pos))
+    }
+
+    /// The parts of `src`, which stands between the quotes of a multiline string, at the byte
+    /// `pos` of the source. What stands before the first and behind the last line feed is refused
+    /// here, and so is a first line with too few spaces.
+    pub fn new_multiline(src: &'a str, pos: usize) -> Result<StringPartsIter<'a>, ParserError>
+        requires { pos + length src.now + 3 < 2 ^ 64 }
+        ensures { MatchResult result (λ parts. OpensTo src.now pos (left_of parts)) (OpeningRefused src.now pos) }
+    {
+        let parts = MultilineStringParts::new(src, pos)?;
+        Ok(StringPartsIter::Multiline(parts))
+    }
+}
+
+impl<'a> Iterator for StringPartsIter<'a> {
+    type Item = Result<StringPart<'a>, ParserError>;
+
+    ghost remaining = { λ p. at_most (size_of (left_of p)) };
+
+    ghost next_gives = { λ old r new. LinePartIs (left_of old) r (left_of new) };
+
+    /// The next part; after a refusal nothing comes.
+    fn next(&mut self) -> Option<Result<StringPart<'a>, ParserError>> {
+        match self {
+            StringPartsIter::Normal(parts) => parts.next(),
+            StringPartsIter::Multiline(parts) => parts.next(),
+        }
+    }
+}
+
+/// The escape at the front of `src`: its scalar, and how many bytes it takes. None where no escape
+/// of a scalar stands there.
+pub fn unescape(src: &str) -> Option<(char, usize)>
+    ensures { UnescapesTo src.now result }
+{
+    let bytes = src.as_bytes();
+    if bytes.len() < 2 || bytes[0] != b'\\' {
+        return None;
+    }
+    if bytes[1] != b'u' {
+        let short = short_escape(bytes[1])?;
+        return Some((short, 2));
+    }
+    if bytes.len() < 3 || bytes[2] != b'{' {
+        return None;
+    }
+    let digits = &bytes[3..];
+    let count = hex_length(digits);
+    if count == 0 || count > 6 || count >= digits.len() || digits[count] != b'}' {
+        return None;
+    }
+    let value = u32::from_str_radix(&src[3..3 + count], 16).ok()?;
+    let scalar = char::from_u32(value)?;
+    Some((scalar, count + 4))
+}
+
+/// What a backslash and this byte stand for.
+fn short_escape(byte: u8) -> Option<char>
+    ensures { result ≡ short_escape byte }
+{
+    match byte {
+        b'\\' => Some('\\'),
+        b'\'' => Some('\''),
+        b'"' => Some('"'),
+        b't' => Some('\t'),
+        b'n' => Some('\n'),
+        b'r' => Some('\r'),
+        _ => None,
+    }
+}
+
+/// How many hexadecimal digits stand at the front.
+fn hex_length(bytes: &[u8]) -> usize
+    ensures within { result ≤ length bytes.now }
+    ensures digits { (i : ℕ) → i < result → digit_value (slice_index bytes.now i) < 16 }
+    ensures stops { result < length bytes.now → 16 ≤ digit_value (slice_index bytes.now result) }
+{
+    for (i, byte) in bytes.iter().enumerate() {
+        if !byte.is_ascii_hexdigit() {
+            return i;
+        }
+    }
+    bytes.len()
+}
+
+/// How many bytes stand before the first one that is `stop`.
+fn length_before(stop: u8, bytes: &[u8]) -> usize
+    ensures within { result ≤ length bytes.now }
+    ensures before { (i : ℕ) → i < result → slice_index bytes.now i ≢ stop }
+    ensures stops { result < length bytes.now → slice_index bytes.now result ≡ stop }
+{
+    for (i, byte) in bytes.iter().enumerate() {
+        if *byte == stop {
+            return i;
+        }
+    }
+    bytes.len()
+}
+
+/// How many spaces stand at the front.
+fn length_of_spaces(bytes: &[u8]) -> usize
+    ensures within { result ≤ length bytes.now }
+    ensures spaces { (i : ℕ) → i < result → slice_index bytes.now i ≡ 32 }
+    ensures stops { result < length bytes.now → slice_index bytes.now result ≢ 32 }
+{
+    for (i, byte) in bytes.iter().enumerate() {
+        if *byte != b' ' {
+            return i;
+        }
+    }
+    bytes.len()
+}
+
+/// Where the text behind the last line feed begins; 0 where there is none.
+fn last_line_start(bytes: &[u8]) -> usize
+    ensures { BehindLastFeed bytes.now result }
+{
+    let mut start = 0;
+    for (i, byte) in bytes.iter().enumerate() {
+        if *byte == b'\n' {
+            start = i + 1;
+        }
+    }
+    start
+}
+
+/// What must be spaces: the text behind the last line feed, which begins at `start`; where there is
+/// none, all but one carriage return at its beginning.
+fn closing_piece(src: &str, start: usize) -> &str
+    requires { BehindLastFeed src.now start }
+    ensures { result.now ≡ closing_piece (pieces src.now) }
+{
+    let bytes = src.as_bytes();
+    if start == 0 && bytes.len() > 0 && bytes[0] == b'\r' {
+        return &src[1..];
+    }
+    &src[start..]
+}
+
+/// How long the text before the first line feed is, where it is empty or one carriage return.
+fn opening_length(bytes: &[u8]) -> Option<usize>
+    ensures { OpeningIs bytes.now result }
+{
+    let first = length_before(b'\n', bytes);
+    if first == bytes.len() || first > 1 {
+        return None;
+    }
+    if first == 1 && bytes[0] != b'\r' {
+        return None;
+    }
+    Some(first)
+}
+
+/// The first line and what stands behind its line feed; None where there is no line feed.
+fn split_line(text: &str) -> Option<(&str, &str)>
+    ensures { MatchOption result (ended_lines text.now ≡ []) (λ parts. SplitsLine text.now parts.0.now parts.1.now) }
+{
+    let end = length_before(b'\n', text.as_bytes());
+    if end == text.len() {
+        return None;
+    }
+    Some((&text[..end], &text[end + 1..]))
+}
+
+/// The line without one carriage return at its end.
+fn without_final_return(line: &str) -> &str
+    ensures { DropsReturn line.now result.now }
+{
+    let bytes = line.as_bytes();
+    let count = bytes.len();
+    if count > 0 && bytes[count - 1] == b'\r' {
+        return &line[..count - 1];
+    }
+    line
+}

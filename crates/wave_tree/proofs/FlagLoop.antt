@@ -1,0 +1,65 @@
+-- What the loop over flags keeps.
+use Rattle.std.proofs.Common.{◌≡◌, ◌≢◌, ℕ, List, [], ◌∷◌, ◌++◌, Bool, true, false, Some, Ok, Err, Result, refl, sym, ap, subst, ◌∙◌, Bor, map, inl, inr, append_assoc}
+use Rattle.std.specs.Prelude.{◌⊎◌, IfOk}
+use Rattle.std.proofs.lemmas.List.{map-append, append-nil}
+use Rattle.std.specs.Cmp.Lexicographic.{slice_cmp}
+use Rattle.std.specs.Ordering.{nat_cmp}
+use Rattle.std.specs.BTreeMap.{BTreeMap, insert_entry, values}
+use Rattle.wave_wasm.specs.Names.{is_one_of, AreDistinct}
+use Rattle.wave_lex.specs.Lexing.{span}
+use Rattle.wave_lex.specs.declared.lex.Token.TheVariants.{BraceClose, LabelOrKeyword, Comma}
+use Rattle.wave_tree.specs.Place.{Place, Takes, text_at, span_at}
+use Rattle.wave_tree.specs.Spells.{name_of}
+use Rattle.wave_tree.specs.Due.{Due, Form}
+use Rattle.wave_tree.specs.Due as due
+use Rattle.wave_tree.specs.NodeTree.{NodeTree, node, no_nodes, node_trees}
+use Rattle.wave_tree.specs.declared.ast.NodeType.TheVariants as kind
+use Rattle.wave_tree.specs.Parsed.{Flag, flag_name, flag_node, flags_in_order, TakesClass, IsClosed, AreFurtherFlags, IsOfFlags}
+use Rattle.wave_tree.proofs.Going.{Reached, IsFlagDue}
+use Rattle.wave_tree.proofs.Names.{Holds}
+use Rattle.wave_tree.proofs.Ordered.{order_last, none_of, distinct_more, entry_of, named_node, insert_flag, nodes_of, none_in_order}
+
+-- the flag that was taken last
+abbrev pub flag_at : Place → Flag
+flag_at p = (span_at p, text_at p)
+
+-- the flags so far: the first one, which ends at the place start, and more
+pub record FlagsSoFar (flags : BTreeMap (Bor (List ℕ)) NodeTree) (start at : Place) : Type 0 where
+  pub more : List Flag
+  pub holds : Holds flags (map flag_name (flag_at start ∷ more))
+  pub distinct : AreDistinct (map flag_name (flag_at start ∷ more))
+  pub ordered : map entry_of flags.entries ≡ map named_node (flags_in_order (flag_at start ∷ more))
+  pub tree : (rest : List Flag) (r : Place) → AreFurtherFlags at rest r → AreFurtherFlags start (more ++ rest) r
+  pub led : (n : ℕ) (s : List Form) → (d : Due) × IsFlagDue d (map flag_name (flag_at start ∷ more)) at × Reached n (due.behind_word (text_at start)) s start d s at
+
+-- one more flag, behind a comma
+pub grown : (old new : BTreeMap (Bor (List ℕ)) NodeTree) (start at m k : Place) (key : Bor (List ℕ)) (v : NodeTree) → (h : FlagsSoFar old start at) → TakesClass Comma at m → TakesClass LabelOrKeyword m k →
+    new.entries ≡ insert_entry (λ a b. slice_cmp nat_cmp a.now b.now) old.entries key v → key.now ≡ name_of (text_at k) → v ≡ node kind.Label (span_at k) no_nodes →
+    is_one_of (map flag_name (flag_at start ∷ h.more)) (name_of (text_at k)) ≡ false →
+    Holds new (map flag_name (flag_at start ∷ h.more) ++ name_of (text_at k) ∷ []) →
+    ((n : ℕ) (s : List Form) → (d : Due) × IsFlagDue d (map flag_name (flag_at start ∷ h.more) ++ name_of (text_at k) ∷ []) k × Reached n (due.behind_word (text_at start)) s start d s k) → FlagsSoFar new start k
+grown old new start at m k key v h comma_there label_there entries_are key_is node_is new_name holds led =
+    let f = flag_at k in
+    let fs = flag_at start ∷ h.more in
+    let none = none_of (map flag_name fs) (flag_name f) new_name in
+    let names : map flag_name fs ++ flag_name f ∷ [] ≡ map flag_name (flag_at start ∷ (h.more ++ f ∷ [])) = sym (map-append flag_name fs (f ∷ [])) in
+    let pair : (key.now, v) ≡ named_node f = λ i. (key_is i, node_is i) in
+    record {
+      more = h.more ++ f ∷ [];
+      holds = subst (Holds new) names holds;
+      distinct = subst AreDistinct names (distinct_more (map flag_name fs) (flag_name f) h.distinct none);
+      ordered = ap (map entry_of) entries_are ∙ (insert_flag key v old.entries f (flags_in_order fs) pair h.ordered (none_in_order (flag_name f) fs none) ∙ ap (map named_node) (sym (order_last fs f none)));
+      tree = λ rest r further. subst (λ z. AreFurtherFlags start z r) (sym (append_assoc h.more (f ∷ []) rest)) (h.tree (f ∷ rest) r (m, k, comma_there, label_there, refl, further));
+      led = λ n s. let (d, i, reached) = led n s in (d, subst (λ z. IsFlagDue d z k) names i, reached);
+    }
+
+-- the close
+pub ended : {E : Type 0} (flags : BTreeMap (Bor (List ℕ)) NodeTree) (start at q : Place) (from : ℕ) (r : Result NodeTree E) → (h : FlagsSoFar flags start at) → IsClosed BraceClose at q →
+    IfOk r (λ n. n ≡ node kind.Flags (span from q.lexer.end) (node_trees (values flags))) → IfOk r (IsOfFlags from start q)
+ended flags start at q from (Ok parsed) h close is = record {
+  more = h.more;
+  are = subst (λ z. AreFurtherFlags start z q) (append-nil h.more) (h.tree [] q close);
+  distinct = h.distinct;
+  is = is ∙ ap (λ z. node kind.Flags (span from q.lexer.end) (node_trees z)) (nodes_of flags.entries (flags_in_order (flag_at start ∷ h.more)) h.ordered);
+}
+ended flags start at q from (Err x) h close is = tt

@@ -1,0 +1,163 @@
+use Rattle.std.proofs.Common.{◌≡◌, pos, ℤ, ℕ, arith, w8, w16, w32, w64, to_z, of_z, FitsSigned, rules}
+use Rattle.std.proofs.lemmas.Int.{to_z-of_z}
+use Rattle.wave_wasm.specs.Types as type
+use Rattle.wave_wasm.specs.Values as value
+use Rattle.wave_tree.proofs.Made.{faulty, handed, leaf_made}
+use Rattle.wave_tree.proofs.Leaves.{number_read, number_kept, number_blame}
+use Rattle.wave_tree.proofs.TypeKinds.{simple_is}
+use Rattle.wave_tree.proofs.Unread.{unread_blame}
+use Rattle.wave_tree.specs.Typed.{IsValueOf}
+use Rattle.wave_tree.proofs.Items.{element_is, list_fault, list_deep, list_item, list_blame, list_kept, list_made, list_nodes, given_nodes, read_all, element_distinct, element_served}
+use Rattle.wave_tree.specs.Answers.{GivesOption}
+use Rattle.wave_tree.proofs.Options.{payload_is, option_deep, flat_true, not_flat, given_none, given_some, some_value, option_fault, some_blame, flat_blame, none_made, some_made, flat_made}
+use Rattle.wave_tree.specs.Reads.{IsFlat}
+use Rattle.std.proofs.Common.{Ok, Some, None, refl, inr, inl}
+use Rattle.wave_wasm.specs.Types.{TypeTree, HasDistinctNames}
+use Rattle.wave_lex.specs.Errors.{refusal_of}
+use Rattle.wave_tree.specs.Faults.{Fault}
+use Rattle.wave_tree.specs.Typed.{IsServed}
+use Rattle.std.proofs.Common.{subst, sym, Bool, true, false, not, IsTrue}
+use Rattle.wave_tree.proofs.ast.Node.+reading.Goals as goal
+
+pub read-returns-in_err-as_number-in-S8 : goal.read-returns-in_err-as_number-in-S8
+read-returns-in_err-as_number-in-S8 g m c = λ served t is distinct.
+    faulty g.V.WasmValue.tree g.V.WasmValue.is_of g.V.WasmValue.is_full _ t _ c.in_err-as_number-in-S8.field-0.0 c.from_residual.result (simple_is (type.whole type.s8) _ c.in-S8.ensures) c.from_residual.ensures.1 (number_blame type.s8 (λ (z : ℤ). z) c.args.src.now c.args.self.now t c.in_err-as_number-in-S8.field-0.0 is.0 c.in_err-as_number-in-S8.ensures)
+
+pub read-returns-in_ok-as_number-in-S8 : goal.read-returns-in_ok-as_number-in-S8
+read-returns-in_ok-as_number-in-S8 g m c = λ served t is distinct.
+    let fits : FitsSigned w8 c.in_ok-as_number-in-S8.field-0 = search rules in
+    leaf_made g.V.WasmValue.tree g.V.WasmValue.is_of g.V.WasmValue.is_full _ t c.args.self.now (value.whole type.s8 (to_z w8 (of_z w8 c.in_ok-as_number-in-S8.field-0))) c.make_s8.result c.made.result (simple_is (type.whole type.s8) _ c.in-S8.ensures) (number_kept type.s8 t (to_z w8 (of_z w8 c.in_ok-as_number-in-S8.field-0)) c.in_ok-as_number-in-S8.field-0 (to_z-of_z w8 c.in_ok-as_number-in-S8.field-0 fits) (number_read type.s8 c.args.src.now c.args.self.now t c.in_ok-as_number-in-S8.field-0 is.0 c.in_ok-as_number-in-S8.ensures.0 c.in_ok-as_number-in-S8.ensures.1)) c.make_s8.ensures.made c.make_s8.ensures.full c.made.ensures
+
+pub read-returns-in_err-as_number-in-S16 : goal.read-returns-in_err-as_number-in-S16
+read-returns-in_err-as_number-in-S16 g m c = λ served t is distinct.
+    faulty g.V.WasmValue.tree g.V.WasmValue.is_of g.V.WasmValue.is_full _ t _ c.in_err-as_number-in-S16.field-0.0 c.from_residual-in_err-as_number-in-S16.result (simple_is (type.whole type.s16) _ c.in-S16.ensures) c.from_residual-in_err-as_number-in-S16.ensures.1 (number_blame type.s16 (λ (z : ℤ). z) c.args.src.now c.args.self.now t c.in_err-as_number-in-S16.field-0.0 is.0 c.in_err-as_number-in-S16.ensures)
+
+pub read-returns-in_ok-as_number-in-S16 : goal.read-returns-in_ok-as_number-in-S16
+read-returns-in_ok-as_number-in-S16 g m c = λ served t is distinct.
+    let fits : FitsSigned w16 c.in_ok-as_number-in-S16.field-0 = search rules in
+    leaf_made g.V.WasmValue.tree g.V.WasmValue.is_of g.V.WasmValue.is_full _ t c.args.self.now (value.whole type.s16 (to_z w16 (of_z w16 c.in_ok-as_number-in-S16.field-0))) c.make_s16.result c.made-in-S16.result (simple_is (type.whole type.s16) _ c.in-S16.ensures) (number_kept type.s16 t (to_z w16 (of_z w16 c.in_ok-as_number-in-S16.field-0)) c.in_ok-as_number-in-S16.field-0 (to_z-of_z w16 c.in_ok-as_number-in-S16.field-0 fits) (number_read type.s16 c.args.src.now c.args.self.now t c.in_ok-as_number-in-S16.field-0 is.0 c.in_ok-as_number-in-S16.ensures.0 c.in_ok-as_number-in-S16.ensures.1)) c.make_s16.ensures.made c.make_s16.ensures.full c.made-in-S16.ensures
+
+pub read-returns-in_err-as_number-in-S32 : goal.read-returns-in_err-as_number-in-S32
+read-returns-in_err-as_number-in-S32 g m c = λ served t is distinct.
+    faulty g.V.WasmValue.tree g.V.WasmValue.is_of g.V.WasmValue.is_full _ t _ c.in_err-as_number-in-S32.field-0.0 c.from_residual-in_err-as_number-in-S32.result (simple_is (type.whole type.s32) _ c.in-S32.ensures) c.from_residual-in_err-as_number-in-S32.ensures.1 (number_blame type.s32 (λ (z : ℤ). z) c.args.src.now c.args.self.now t c.in_err-as_number-in-S32.field-0.0 is.0 c.in_err-as_number-in-S32.ensures)
+
+pub read-returns-in_ok-as_number-in-S32 : goal.read-returns-in_ok-as_number-in-S32
+read-returns-in_ok-as_number-in-S32 g m c = λ served t is distinct.
+    let fits : FitsSigned w32 c.in_ok-as_number-in-S32.field-0 = search rules in
+    leaf_made g.V.WasmValue.tree g.V.WasmValue.is_of g.V.WasmValue.is_full _ t c.args.self.now (value.whole type.s32 (to_z w32 (of_z w32 c.in_ok-as_number-in-S32.field-0))) c.make_s32.result c.made-in-S32.result (simple_is (type.whole type.s32) _ c.in-S32.ensures) (number_kept type.s32 t (to_z w32 (of_z w32 c.in_ok-as_number-in-S32.field-0)) c.in_ok-as_number-in-S32.field-0 (to_z-of_z w32 c.in_ok-as_number-in-S32.field-0 fits) (number_read type.s32 c.args.src.now c.args.self.now t c.in_ok-as_number-in-S32.field-0 is.0 c.in_ok-as_number-in-S32.ensures.0 c.in_ok-as_number-in-S32.ensures.1)) c.make_s32.ensures.made c.make_s32.ensures.full c.made-in-S32.ensures
+
+pub read-returns-in_err-as_number-in-S64 : goal.read-returns-in_err-as_number-in-S64
+read-returns-in_err-as_number-in-S64 g m c = λ served t is distinct.
+    faulty g.V.WasmValue.tree g.V.WasmValue.is_of g.V.WasmValue.is_full _ t _ c.in_err-as_number-in-S64.field-0.0 c.from_residual-in_err-as_number-in-S64.result (simple_is (type.whole type.s64) _ c.in-S64.ensures) c.from_residual-in_err-as_number-in-S64.ensures.1 (number_blame type.s64 (λ (z : ℤ). z) c.args.src.now c.args.self.now t c.in_err-as_number-in-S64.field-0.0 is.0 c.in_err-as_number-in-S64.ensures)
+
+pub read-returns-in_ok-as_number-in-S64 : goal.read-returns-in_ok-as_number-in-S64
+read-returns-in_ok-as_number-in-S64 g m c = λ served t is distinct.
+    let fits : FitsSigned w64 c.in_ok-as_number-in-S64.field-0 = search rules in
+    leaf_made g.V.WasmValue.tree g.V.WasmValue.is_of g.V.WasmValue.is_full _ t c.args.self.now (value.whole type.s64 (to_z w64 (of_z w64 c.in_ok-as_number-in-S64.field-0))) c.make_s64.result c.made-in-S64.result (simple_is (type.whole type.s64) _ c.in-S64.ensures) (number_kept type.s64 t (to_z w64 (of_z w64 c.in_ok-as_number-in-S64.field-0)) c.in_ok-as_number-in-S64.field-0 (to_z-of_z w64 c.in_ok-as_number-in-S64.field-0 fits) (number_read type.s64 c.args.src.now c.args.self.now t c.in_ok-as_number-in-S64.field-0 is.0 c.in_ok-as_number-in-S64.ensures.0 c.in_ok-as_number-in-S64.ensures.1)) c.make_s64.ensures.made c.make_s64.ensures.full c.made-in-S64.ensures
+
+pub read-returns-in_err-as_number-in-U8 : goal.read-returns-in_err-as_number-in-U8
+read-returns-in_err-as_number-in-U8 g m c = λ served t is distinct.
+    faulty g.V.WasmValue.tree g.V.WasmValue.is_of g.V.WasmValue.is_full _ t _ c.in_err-as_number-in-U8.field-0.0 c.from_residual-in_err-as_number-in-U8.result (simple_is (type.whole type.u8) _ c.in-U8.ensures) c.from_residual-in_err-as_number-in-U8.ensures.1 (number_blame type.u8 pos c.args.src.now c.args.self.now t c.in_err-as_number-in-U8.field-0.0 is.0 c.in_err-as_number-in-U8.ensures)
+
+pub read-returns-in_ok-as_number-in-U8 : goal.read-returns-in_ok-as_number-in-U8
+read-returns-in_ok-as_number-in-U8 g m c = λ served t is distinct.
+    leaf_made g.V.WasmValue.tree g.V.WasmValue.is_of g.V.WasmValue.is_full _ t c.args.self.now (value.whole type.u8 (pos c.in_ok-as_number-in-U8.field-0)) c.make_u8.result c.made-in-U8.result (simple_is (type.whole type.u8) _ c.in-U8.ensures) (number_read type.u8 c.args.src.now c.args.self.now t (pos c.in_ok-as_number-in-U8.field-0) is.0 c.in_ok-as_number-in-U8.ensures.0 c.in_ok-as_number-in-U8.ensures.1) c.make_u8.ensures.made c.make_u8.ensures.full c.made-in-U8.ensures
+
+pub read-returns-in_err-as_number-in-U16 : goal.read-returns-in_err-as_number-in-U16
+read-returns-in_err-as_number-in-U16 g m c = λ served t is distinct.
+    faulty g.V.WasmValue.tree g.V.WasmValue.is_of g.V.WasmValue.is_full _ t _ c.in_err-as_number-in-U16.field-0.0 c.from_residual-in_err-as_number-in-U16.result (simple_is (type.whole type.u16) _ c.in-U16.ensures) c.from_residual-in_err-as_number-in-U16.ensures.1 (number_blame type.u16 pos c.args.src.now c.args.self.now t c.in_err-as_number-in-U16.field-0.0 is.0 c.in_err-as_number-in-U16.ensures)
+
+pub read-returns-in_ok-as_number-in-U16 : goal.read-returns-in_ok-as_number-in-U16
+read-returns-in_ok-as_number-in-U16 g m c = λ served t is distinct.
+    leaf_made g.V.WasmValue.tree g.V.WasmValue.is_of g.V.WasmValue.is_full _ t c.args.self.now (value.whole type.u16 (pos c.in_ok-as_number-in-U16.field-0)) c.make_u16.result c.made-in-U16.result (simple_is (type.whole type.u16) _ c.in-U16.ensures) (number_read type.u16 c.args.src.now c.args.self.now t (pos c.in_ok-as_number-in-U16.field-0) is.0 c.in_ok-as_number-in-U16.ensures.0 c.in_ok-as_number-in-U16.ensures.1) c.make_u16.ensures.made c.make_u16.ensures.full c.made-in-U16.ensures
+
+pub read-returns-in_err-as_number-in-U32 : goal.read-returns-in_err-as_number-in-U32
+read-returns-in_err-as_number-in-U32 g m c = λ served t is distinct.
+    faulty g.V.WasmValue.tree g.V.WasmValue.is_of g.V.WasmValue.is_full _ t _ c.in_err-as_number-in-U32.field-0.0 c.from_residual-in_err-as_number-in-U32.result (simple_is (type.whole type.u32) _ c.in-U32.ensures) c.from_residual-in_err-as_number-in-U32.ensures.1 (number_blame type.u32 pos c.args.src.now c.args.self.now t c.in_err-as_number-in-U32.field-0.0 is.0 c.in_err-as_number-in-U32.ensures)
+
+pub read-returns-in_ok-as_number-in-U32 : goal.read-returns-in_ok-as_number-in-U32
+read-returns-in_ok-as_number-in-U32 g m c = λ served t is distinct.
+    leaf_made g.V.WasmValue.tree g.V.WasmValue.is_of g.V.WasmValue.is_full _ t c.args.self.now (value.whole type.u32 (pos c.in_ok-as_number-in-U32.field-0)) c.make_u32.result c.made-in-U32.result (simple_is (type.whole type.u32) _ c.in-U32.ensures) (number_read type.u32 c.args.src.now c.args.self.now t (pos c.in_ok-as_number-in-U32.field-0) is.0 c.in_ok-as_number-in-U32.ensures.0 c.in_ok-as_number-in-U32.ensures.1) c.make_u32.ensures.made c.make_u32.ensures.full c.made-in-U32.ensures
+
+pub read-returns-in_err-as_number-in-U64 : goal.read-returns-in_err-as_number-in-U64
+read-returns-in_err-as_number-in-U64 g m c = λ served t is distinct.
+    faulty g.V.WasmValue.tree g.V.WasmValue.is_of g.V.WasmValue.is_full _ t _ c.in_err-as_number-in-U64.field-0.0 c.from_residual-in_err-as_number-in-U64.result (simple_is (type.whole type.u64) _ c.in-U64.ensures) c.from_residual-in_err-as_number-in-U64.ensures.1 (number_blame type.u64 pos c.args.src.now c.args.self.now t c.in_err-as_number-in-U64.field-0.0 is.0 c.in_err-as_number-in-U64.ensures)
+
+pub read-returns-in_ok-as_number-in-U64 : goal.read-returns-in_ok-as_number-in-U64
+read-returns-in_ok-as_number-in-U64 g m c = λ served t is distinct.
+    leaf_made g.V.WasmValue.tree g.V.WasmValue.is_of g.V.WasmValue.is_full _ t c.args.self.now (value.whole type.u64 (pos c.in_ok-as_number-in-U64.field-0)) c.make_u64.result c.made-in-U64.result (simple_is (type.whole type.u64) _ c.in-U64.ensures) (number_read type.u64 c.args.src.now c.args.self.now t (pos c.in_ok-as_number-in-U64.field-0) is.0 c.in_ok-as_number-in-U64.ensures.0 c.in_ok-as_number-in-U64.ensures.1) c.make_u64.ensures.made c.make_u64.ensures.full c.made-in-U64.ensures
+
+pub read-returns-in_default : goal.read-returns-in_default
+read-returns-in_default g m c = λ served t is distinct.
+    unread_blame g.V.WasmValue.is_full (g.V.Type.WasmType.tree c.args.ty.now) c.args.src.now c.args.self.now t c.kind.result c.unsupported.result is.0 served c.kind.ensures (record { bool = c.in_default.not-Bool; s8 = c.in_default.not-S8; s16 = c.in_default.not-S16; s32 = c.in_default.not-S32; s64 = c.in_default.not-S64; u8 = c.in_default.not-U8; u16 = c.in_default.not-U16; u32 = c.in_default.not-U32; u64 = c.in_default.not-U64; list = c.in_default.not-List; option = c.in_default.not-Option; enum = c.in_default.not-Enum }) c.unsupported.ensures
+
+pub read_list-returns-in_err-nodes : goal.read_list-returns-in_err-nodes
+read_list-returns-in_err-nodes g m c = λ served t is distinct.
+    faulty g.V.WasmValue.tree g.V.WasmValue.is_of g.V.WasmValue.is_full (g.V.Type.WasmType.tree c.args.ty.now) t (type.list (g.V.Type.WasmType.tree c.unwrap-element.result.now)) c.in_err-nodes.field-0.0 c.from_residual.result (element_is g.V.Type.WasmType.tree (g.V.Type.WasmType.tree c.args.ty.now) c.list_element_type.result c.unwrap-element.result c.unwrap-element.ensures c.list_element_type.ensures) c.from_residual.ensures.1
+    (list_fault (g.V.Type.WasmType.tree c.args.ty.now) (g.V.Type.WasmType.tree c.unwrap-element.result.now) c.args.src.now c.args.self.now t _ _ is.0 c.in_err-nodes.ensures.0 c.in_err-nodes.ensures.1)
+
+pub read_list-read-requires : goal.read_list-read-requires
+read_list-read-requires g m c κs within =
+    let value : IsValueOf c.args.src.now c.args.self.now = search rules in
+    (omega (arith, list_deep (g.V.Type.WasmType.tree c.args.ty.now) (g.V.Type.WasmType.tree c.unwrap-element.result.now) (element_is g.V.Type.WasmType.tree (g.V.Type.WasmType.tree c.args.ty.now) c.list_element_type.result c.unwrap-element.result c.unwrap-element.ensures c.list_element_type.ensures)), (within.0, (within.1, list_item c.args.src.now c.args.self.now c.in_ok-nodes.nodes.now c.loop-node.node-index c.node-item.result value c.in_ok-nodes.ensures.0 c.in_ok-nodes.ensures.1 c.loop-node-test.true c.node-item.is)))
+
+pub read_list-returns-in_err-item : goal.read_list-returns-in_err-item
+read_list-returns-in_err-item g m c = λ served t is distinct.
+    let list : (g.V.Type.WasmType.tree c.args.ty.now) ≡ type.list (g.V.Type.WasmType.tree c.unwrap-element.result.now) = (element_is g.V.Type.WasmType.tree (g.V.Type.WasmType.tree c.args.ty.now) c.list_element_type.result c.unwrap-element.result c.unwrap-element.ensures c.list_element_type.ensures) in
+    handed g.V.WasmValue.tree g.V.WasmValue.is_of g.V.WasmValue.is_full (g.V.Type.WasmType.tree c.args.ty.now) t c.in_err-item.field-0.0 c.from_residual-in_err-item.result c.from_residual-in_err-item.ensures.1
+    (list_blame g.V.WasmValue.tree g.V.WasmValue.is_of g.V.WasmValue.is_full c.args.src.now (g.V.Type.WasmType.tree c.args.ty.now) (g.V.Type.WasmType.tree c.unwrap-element.result.now) c.args.self.now t c.in_ok-nodes.nodes.now c.loop-node.node-index c.node-item.result c.in_err-item.field-0.0 list is c.in_ok-nodes.ensures.0 c.in_ok-nodes.ensures.1 c.loop-node-test.true c.node-item.is g.met.V.WasmValue.full_parts (λ u here. c.in_err-item.ensures (element_served (g.V.Type.WasmType.tree c.args.ty.now) (g.V.Type.WasmType.tree c.unwrap-element.result.now) list served) u here (element_distinct (g.V.Type.WasmType.tree c.args.ty.now) (g.V.Type.WasmType.tree c.unwrap-element.result.now) list distinct)))
+
+pub read_list-loop-node-preserved : goal.read_list-loop-node-preserved
+read_list-loop-node-preserved g m c = λ ts nodes served distinct.
+    list_kept g.V.WasmValue.tree g.V.WasmValue.is_of g.V.WasmValue.is_full c.args.src.now (g.V.Type.WasmType.tree c.unwrap-element.result.now) c.in_ok-nodes.nodes.now ts c.loop-node.items.items c.keep.new.items.items c.loop-node.node-index c.node-item.result c.in_ok-item.item nodes c.loop-node-test.true c.node-item.is (c.loop-node.invariant ts nodes served distinct) (λ u here. c.in_ok-item.ensures served u here distinct) c.in_ok-keep.ensures.kept
+
+pub read_list-returns : goal.read_list-returns
+read_list-returns g m c = λ served t is distinct.
+    let list : (g.V.Type.WasmType.tree c.args.ty.now) ≡ type.list (g.V.Type.WasmType.tree c.unwrap-element.result.now) = (element_is g.V.Type.WasmType.tree (g.V.Type.WasmType.tree c.args.ty.now) c.list_element_type.result c.unwrap-element.result c.unwrap-element.ensures c.list_element_type.ensures) in
+    let inner = list_nodes c.args.src.now c.args.self.now t is c.in_ok-nodes.ensures.0 in
+    let nodes = given_nodes c.args.src.now c.args.self.now t c.in_ok-nodes.nodes.now is c.in_ok-nodes.ensures.0 c.in_ok-nodes.ensures.1 in
+    list_made g.V.WasmValue.tree g.V.WasmValue.is_of g.V.WasmValue.is_full (g.V.Type.WasmType.tree c.args.ty.now) (g.V.Type.WasmType.tree c.unwrap-element.result.now) t inner.items c.loop-node.items.items c.args.self.now c.make_list.result c.made.result list distinct inner.shape
+    (read_all g.V.WasmValue.tree g.V.WasmValue.is_of g.V.WasmValue.is_full c.args.src.now (g.V.Type.WasmType.tree c.unwrap-element.result.now) c.in_ok-nodes.nodes.now inner.items c.loop-node.items.items c.loop-node.node-index nodes c.loop-node-test.false (c.loop-node.invariant inner.items nodes (element_served (g.V.Type.WasmType.tree c.args.ty.now) (g.V.Type.WasmType.tree c.unwrap-element.result.now) list served) (element_distinct (g.V.Type.WasmType.tree c.args.ty.now) (g.V.Type.WasmType.tree c.unwrap-element.result.now) list distinct))) c.make_list.ensures.made c.make_list.ensures.full c.made.ensures
+
+pub read_option-read-requires : goal.read_option-read-requires
+read_option-read-requires g m c κs within =
+    let value : IsValueOf c.args.src.now c.args.self.now = search rules in
+    (omega (arith, option_deep (g.V.Type.WasmType.tree c.args.ty.now) (g.V.Type.WasmType.tree c.unwrap-payload.result.now) (payload_is g.V.Type.WasmType.tree (g.V.Type.WasmType.tree c.args.ty.now) c.option_some_type.result c.unwrap-payload.result c.unwrap-payload.ensures c.option_some_type.ensures)), (within.0, (within.1, some_value c.args.src.now c.args.self.now c.in-Ok-Some.node value (rw c.in-Ok-Some.field-0-is at c.in-Ok-Some.ensures))))
+
+pub read_option-returns-in_err-val-in-Ok-Some : goal.read_option-returns-in_err-val-in-Ok-Some
+read_option-returns-in_err-val-in-Ok-Some g m c = λ served t is distinct.
+    let option : (g.V.Type.WasmType.tree c.args.ty.now) ≡ type.option (g.V.Type.WasmType.tree c.unwrap-payload.result.now) = (payload_is g.V.Type.WasmType.tree (g.V.Type.WasmType.tree c.args.ty.now) c.option_some_type.result c.unwrap-payload.result c.unwrap-payload.ensures c.option_some_type.ensures) in
+    let k = given_some c.args.src.now c.args.self.now t c.in-Ok-Some.node is (rw c.in-Ok-Some.field-0-is at c.in-Ok-Some.ensures) in
+    handed g.V.WasmValue.tree g.V.WasmValue.is_of g.V.WasmValue.is_full (g.V.Type.WasmType.tree c.args.ty.now) t c.in_err-val-in-Ok-Some.field-0.0 c.from_residual.result c.from_residual.ensures.1
+    (some_blame g.V.WasmValue.tree g.V.WasmValue.is_of g.V.WasmValue.is_full (g.V.Type.WasmType.tree c.args.ty.now) (g.V.Type.WasmType.tree c.unwrap-payload.result.now) t k.0 c.in_err-val-in-Ok-Some.field-0.0 option k.1 g.met.V.WasmValue.full_parts (c.in_err-val-in-Ok-Some.ensures (subst IsServed option served) k.0 k.2 (subst HasDistinctNames option distinct)))
+
+pub read_option-returns-then-not-is_flat : goal.read_option-returns-then-not-is_flat
+read_option-returns-then-not-is_flat g m c = λ served t is distinct.
+    let option : (g.V.Type.WasmType.tree c.args.ty.now) ≡ type.option (g.V.Type.WasmType.tree c.unwrap-payload.result.now) = (payload_is g.V.Type.WasmType.tree (g.V.Type.WasmType.tree c.args.ty.now) c.option_some_type.result c.unwrap-payload.result c.unwrap-payload.ensures c.option_some_type.ensures) in
+    let apart : IsFlat (g.V.Type.WasmType.tree c.unwrap-payload.result.now) → ⊥ = not_flat (g.V.Type.WasmType.tree c.unwrap-payload.result.now) c.kind.result c.is_flat.result c.kind.ensures c.if-not-is_flat.true c.is_flat.ensures.1 in
+    inr (inl (subst (λ (U : TypeTree). Fault U t (refusal_of c.in-Err.error) c.in-Err.error.span) (sym option) (option_fault (g.V.Type.WasmType.tree c.unwrap-payload.result.now) c.args.src.now c.args.self.now t c.in-Err.error is.0 c.in-Err.ensures apart)))
+
+pub read_option-returns-in_err-flat-in-Err : goal.read_option-returns-in_err-flat-in-Err
+read_option-returns-in_err-flat-in-Err g m c = λ served t is distinct.
+    let option : (g.V.Type.WasmType.tree c.args.ty.now) ≡ type.option (g.V.Type.WasmType.tree c.unwrap-payload.result.now) = (payload_is g.V.Type.WasmType.tree (g.V.Type.WasmType.tree c.args.ty.now) c.option_some_type.result c.unwrap-payload.result c.unwrap-payload.ensures c.option_some_type.ensures) in
+    let kinds = c.is_flat.ensures.0 c.if-not-is_flat.false in
+    let flat : IsFlat (g.V.Type.WasmType.tree c.unwrap-payload.result.now) = flat_true (g.V.Type.WasmType.tree c.unwrap-payload.result.now) c.kind.result c.kind.ensures kinds.0 kinds.1 in
+    handed g.V.WasmValue.tree g.V.WasmValue.is_of g.V.WasmValue.is_full (g.V.Type.WasmType.tree c.args.ty.now) t c.in_err-flat-in-Err.field-0.0 c.from_residual-in_err-flat-in-Err.result c.from_residual-in_err-flat-in-Err.ensures.1
+    (flat_blame g.V.WasmValue.tree g.V.WasmValue.is_of g.V.WasmValue.is_full (g.V.Type.WasmType.tree c.args.ty.now) (g.V.Type.WasmType.tree c.unwrap-payload.result.now) c.args.src.now c.args.self.now t c.in-Err.error c.in_err-flat-in-Err.field-0.0 option is.0 c.in-Err.ensures flat g.met.V.WasmValue.full_parts (c.in_err-flat-in-Err.ensures (subst IsServed option served) t is (subst HasDistinctNames option distinct)))
+
+pub read_option-returns-in-Ok-None : goal.read_option-returns-in-Ok-None
+read_option-returns-in-Ok-None g m c = λ served t is distinct.
+    none_made g.V.WasmValue.tree g.V.WasmValue.is_of g.V.WasmValue.is_full (g.V.Type.WasmType.tree c.args.ty.now) (g.V.Type.WasmType.tree c.unwrap-payload.result.now) c.args.src.now t c.args.self.now c.make_option.result c.made.result (payload_is g.V.Type.WasmType.tree (g.V.Type.WasmType.tree c.args.ty.now) c.option_some_type.result c.unwrap-payload.result c.unwrap-payload.ensures c.option_some_type.ensures) distinct (given_none c.args.src.now c.args.self.now t is (rw c.in-Ok-None.field-0-is at c.in-Ok-None.ensures)) c.make_option.ensures.made c.make_option.ensures.full c.made.ensures
+
+pub read_option-returns-in_ok-val-in-Ok-Some : goal.read_option-returns-in_ok-val-in-Ok-Some
+read_option-returns-in_ok-val-in-Ok-Some g m c = λ served t is distinct.
+    let option : (g.V.Type.WasmType.tree c.args.ty.now) ≡ type.option (g.V.Type.WasmType.tree c.unwrap-payload.result.now) = (payload_is g.V.Type.WasmType.tree (g.V.Type.WasmType.tree c.args.ty.now) c.option_some_type.result c.unwrap-payload.result c.unwrap-payload.ensures c.option_some_type.ensures) in
+    let k = given_some c.args.src.now c.args.self.now t c.in-Ok-Some.node is (rw c.in-Ok-Some.field-0-is at c.in-Ok-Some.ensures) in
+    some_made g.V.WasmValue.tree g.V.WasmValue.is_of g.V.WasmValue.is_full (g.V.Type.WasmType.tree c.args.ty.now) (g.V.Type.WasmType.tree c.unwrap-payload.result.now) t k.0 c.args.self.now c.in_ok-val-in-Ok-Some.val c.make_option-in-Ok-Some.result c.made-in-Ok-Some.result option distinct k.1 (c.in_ok-val-in-Ok-Some.ensures (subst IsServed option served) k.0 k.2 (subst HasDistinctNames option distinct)) c.make_option-in-Ok-Some.ensures.made c.make_option-in-Ok-Some.ensures.full c.made-in-Ok-Some.ensures
+
+pub read_option-returns-in_ok-flat-in-Err : goal.read_option-returns-in_ok-flat-in-Err
+read_option-returns-in_ok-flat-in-Err g m c = λ served t is distinct.
+    let option : (g.V.Type.WasmType.tree c.args.ty.now) ≡ type.option (g.V.Type.WasmType.tree c.unwrap-payload.result.now) = (payload_is g.V.Type.WasmType.tree (g.V.Type.WasmType.tree c.args.ty.now) c.option_some_type.result c.unwrap-payload.result c.unwrap-payload.ensures c.option_some_type.ensures) in
+    let kinds = c.is_flat.ensures.0 c.if-not-is_flat.false in
+    let flat : IsFlat (g.V.Type.WasmType.tree c.unwrap-payload.result.now) = flat_true (g.V.Type.WasmType.tree c.unwrap-payload.result.now) c.kind.result c.kind.ensures kinds.0 kinds.1 in
+    flat_made g.V.WasmValue.tree g.V.WasmValue.is_of g.V.WasmValue.is_full (g.V.Type.WasmType.tree c.args.ty.now) (g.V.Type.WasmType.tree c.unwrap-payload.result.now) t c.args.self.now c.in_ok-flat-in-Err.flat c.make_option-in-Err.result c.made-in-Err.result option distinct flat (c.in_ok-flat-in-Err.ensures (subst IsServed option served) t is (subst HasDistinctNames option distinct)) c.make_option-in-Err.ensures.made c.make_option-in-Err.ensures.full c.made-in-Err.ensures

@@ -1,0 +1,428 @@
+use Rattle.std.specs.Prelude.{codes}
+use Rattle.wave_wasm.specs.Names.{is_one_of}
+use Rattle.std.proofs.Common.{◌≡◌, ◌≢◌, ◌↔◌, ℕ, ◌+◌, ◌<◌, Some, None, Ok, Err, length, List, [], ◌∷◌, refl, sym, ap, subst, ◌∙◌, inl, inr, arith}
+use Rattle.wave_lex.specs.declared.lex.Token as lex
+use Rattle.wave_lex.specs.declared.lex.Token.TheVariants.{BraceOpen, BraceClose, ParenOpen, ParenClose, BracketOpen, BracketClose, Colon, Comma, Number, LabelOrKeyword, Char, String, MultilineString}
+use Rattle.wave_lex.specs.declared.error.ParserErrorKind.TheVariants as kind
+use Rattle.wave_tree.specs.Place.{Place, Takes, span_at, text_at, token_of}
+use Rattle.wave_tree.specs.Tree.{word_of}
+use Rattle.wave_tree.specs.Due.{Due, Form, due_behind, reads, behind_step, step, key_step, brace_step, behind_flag_step, flag_step}
+use Rattle.wave_tree.specs.Due as due
+use Rattle.wave_tree.specs.Refusals.{Gives, IsBehind, IsRead, IsRefused}
+use Rattle.std.specs.declared.ops.Range.{Range}
+use Rattle.wave_lex.specs.declared.error.ParserError.{ParserError}
+use Rattle.wave_tree.specs.Word.{form_of, IsClose}
+use Rattle.wave_tree.specs.Parsing.{Parsing, Fails, spec_word}
+use Rattle.wave_tree.proofs.Going.{here, here_is, handed, gives_then, fails, any_token, shallow, value_read, no_value, level_open, read_there, unexpected_there, no_paren, then_token, token_there, behind_bare, reached, fails_behind, then_behind, payload_other, unexpected_behind, expected, untrue, moved, then_class, then_behind_class, range_path, close_first, close_empty, close_next, then_same, then_refuses, item_refuses, item_read, then_reached, Reached, IsItemDue, no_close, repeated_there, empty_there, key_reads, no_key, brace_key, entries_other, flags_other, no_flag, IsFlagDue, flag_same, flag_not_deep, flag_within, close_behind, comma_behind, other_behind, token_less, tokens_less, left_at, no_colon, no_brace}
+use Rattle.wave_tree.specs.Tree.{leaf_word, none_word, some_word, ok_word, err_word, case_word}
+use Rattle.wave_tree.specs.Parsing.{HasText}
+use Rattle.wave_tree.specs.Parsed.{IsParsed, IsParsedBehind, IsMaybe, IsPayload, IsOfItems, AreItems, TakesClass, items_type}
+use Rattle.wave_tree.specs.NodeTree.{node, no_nodes, node_trees}
+use Rattle.wave_tree.specs.declared.ast.NodeType.TheVariants as kind_of_node
+use Rattle.wave_lex.specs.Lexing.{span}
+use Rattle.wave_tree.proofs.Tied.{class_as, number_tied, char_tied, string_tied, multiline_tied, label_tied, items_tied, braces_tied, leaf_tied, number_word_tied, none_tied, some_tied, ok_tied, err_tied, case_tied, pushed, some_there, type_of_items, items_made, items_none, items_first, items_next, pairs_first, pairs_next, pairs_close, empty_tied, no_fields_tied, entries_tied, flags_tied, payload_tied}
+use Rattle.wave_tree.proofs.parser.Parser.+parser.Goals as goal
+use Rattle.wave_tree.proofs.parser.Parser.+parser.Goals.{parse_items-then-same-2, parse_items-else-same-2}
+
+pub parse_node-returns-in_err-token-clause-led : goal.parse_node-returns-in_err-token-clause-led
+parse_node-returns-in_err-token-clause-led t c = λ n s e. handed s _ _ c.from_residual.ensures.1
+    (fails (inl tt) (λ _. Unit {0}) c.in_err-token.field-0.0 (here n due.value s _) (shallow n due.value s _ (omega arith)) (any_token n due.value s _ _) c.in_err-token.ensures)
+
+pub parse_node-returns-in-Number-clause-led : goal.parse_node-returns-in-Number-clause-led
+parse_node-returns-in-Number-clause-led t c = λ n s e. read_there (value_read n due.behind_value s s _ _ _ Number (omega arith) c.in_ok-token.ensures c.in-Number.is refl) (inl refl)
+
+pub parse_node-returns-in-Char-clause-led : goal.parse_node-returns-in-Char-clause-led
+parse_node-returns-in-Char-clause-led t c = λ n s e. read_there (value_read n due.behind_value s s _ _ _ Char (omega arith) c.in_ok-token.ensures c.in-Char.is refl) (inl refl)
+
+pub parse_node-returns-in-String-clause-led : goal.parse_node-returns-in-String-clause-led
+parse_node-returns-in-String-clause-led t c = λ n s e. read_there (value_read n due.behind_value s s _ _ _ String (omega arith) c.in_ok-token.ensures c.in-String.is refl) (inl refl)
+
+pub parse_node-returns-in-MultilineString-clause-led : goal.parse_node-returns-in-MultilineString-clause-led
+parse_node-returns-in-MultilineString-clause-led t c = λ n s e. read_there (value_read n due.behind_value s s _ _ _ MultilineString (omega arith) c.in_ok-token.ensures c.in-MultilineString.is refl) (inl refl)
+
+pub parse_node-returns-in-LabelOrKeyword-clause-led : goal.parse_node-returns-in-LabelOrKeyword-clause-led
+parse_node-returns-in-LabelOrKeyword-clause-led t c = λ n s e. gives_then s _ c.parse_label.result (value_read n _ s s _ _ _ LabelOrKeyword (omega arith) c.in_ok-token.ensures c.in-LabelOrKeyword.is refl) (c.parse_label.ensures.led n s (omega arith))
+
+pub parse_node-returns-in-ParenOpen-clause-led : goal.parse_node-returns-in-ParenOpen-clause-led
+parse_node-returns-in-ParenOpen-clause-led t c = λ n s e. gives_then s _ c.parse_items.result (value_read n due.first_item s (due.tuple ∷ s) _ _ _ ParenOpen (omega arith) c.in_ok-token.ensures c.in-ParenOpen.is refl) (c.parse_items.ensures.led n s (omega arith))
+
+pub parse_node-returns-in-BracketOpen-clause-led : goal.parse_node-returns-in-BracketOpen-clause-led
+parse_node-returns-in-BracketOpen-clause-led t c = λ n s e. gives_then s _ c.parse_items-in-BracketOpen.result (value_read n due.first_item s (due.list ∷ s) _ _ _ BracketOpen (omega arith) c.in_ok-token.ensures c.in-BracketOpen.is refl) (c.parse_items-in-BracketOpen.ensures.led n s (omega arith))
+
+pub parse_label-returns-in_err-expect-in-Some-clause-led : goal.parse_label-returns-in_err-expect-in-Some-clause-led
+parse_label-returns-in_err-expect-in-Some-clause-led t c = λ n s e.
+    let there : due_behind (word_of (text_at c.args.self.now.place)) ≡ due.paren = ap due_behind (ap word_of (sym c.slice.ensures) ∙ (sym c.word_of.ensures.word ∙ ap spec_word c.in-Some.is)) in
+    subst (λ z. Gives c.from_residual.result n z s c.args.self.now.place c.expect.new.self.place s) (sym there) (handed s _ _ c.from_residual.ensures.1
+    (fails (inl tt) (λ k. k ≡ ParenOpen) c.in_err-expect-in-Some.field-0.0 (here n due.paren s _) (λ deep. deep.due) (λ k h apart. no_paren n s k (text_at c.expect.new.self.place) apart) c.in_err-expect-in-Some.ensures))
+
+pub parse_label-returns-in_ok-expect-in-Some-clause-led : goal.parse_label-returns-in_ok-expect-in-Some-clause-led
+parse_label-returns-in_ok-expect-in-Some-clause-led t c = λ n s e.
+    let there : due_behind (word_of (text_at c.args.self.now.place)) ≡ due.paren = ap due_behind (ap word_of (sym c.slice.ensures) ∙ (sym c.word_of.ensures.word ∙ ap spec_word c.in-Some.is)) in
+    subst (λ z. Gives c.parse_payload.result n z s c.args.self.now.place c.parse_payload.new.self.place s) (sym there)
+    (gives_then s _ c.parse_payload.result (then_token _ (here n due.paren s _) (token_there _ _ ParenOpen c.in_ok-expect-in-Some.ensures) refl) (c.parse_payload.ensures.led n s (omega arith)))
+
+pub parse_maybe-returns-then-not-next_is-clause-led : goal.parse_maybe-returns-then-not-next_is-clause-led
+parse_maybe-returns-then-not-next_is-clause-led t c = λ n s e.
+    read_there (here_is n due.behind_label s _ _ c.next_is.ensures.stays) (subst (λ z. IsBehind due.behind_label z) (sym c.next_is.ensures.stays)
+    (behind_bare c.args.self.now.place (λ next. untrue _ c.if-not-next_is.true (c.next_is.ensures.answer.1 next))))
+
+pub parse_maybe-returns-in_err-expect-clause-led : goal.parse_maybe-returns-in_err-expect-clause-led
+parse_maybe-returns-in_err-expect-clause-led t c = λ n s e. handed s _ _ c.from_residual-in_err-expect.ensures.1
+    (expected c.args.self.now.place c.next_is.new.self.place c.expect.new.self.place ParenOpen c.in_err-expect.field-0.0 c.next_is.ensures.stays (c.if-not-next_is.ensures.answer.0 refl) c.in_err-expect.ensures)
+
+pub parse_maybe-returns-clause-led : goal.parse_maybe-returns-clause-led
+parse_maybe-returns-clause-led t c = λ n s e. gives_then s _ c.parse_payload.result (then_same ParenOpen (here_is n due.behind_label s _ _ c.next_is.ensures.stays) c.in_ok-expect.ensures refl) (c.parse_payload.ensures.led n s (omega arith))
+
+pub parse_payload-returns-in_err-expect-clause-led : goal.parse_payload-returns-in_err-expect-clause-led
+parse_payload-returns-in_err-expect-clause-led t c = λ n s e.
+    let item = c.in_ok-payload.ensures.led n (due.payload ∷ s) (omega arith) in
+    handed s _ _ c.from_residual-in_err-expect.ensures.1 (fails_behind item.due_there (λ k. k ≡ ParenClose) c.in_err-expect.field-0.0 (reached item) item.is_behind (λ k text apart. payload_other k s text apart) c.in_err-expect.ensures)
+
+pub parse_payload-returns-in-Ok-clause-led : goal.parse_payload-returns-in-Ok-clause-led
+parse_payload-returns-in-Ok-clause-led t c = λ n s e.
+    let item = c.in_ok-payload.ensures.led n (due.payload ∷ s) (omega arith) in
+    read_there (then_behind item.due_there ParenClose (reached item) item.is_behind c.in_ok-expect.ensures refl) (inl refl)
+
+pub parse_node-returns-in_default-clause-led : goal.parse_node-returns-in_default-clause-led
+parse_node-returns-in_default-clause-led t c = λ n s e. unexpected_there (inl tt) c.unexpected.result c.in_ok-token.token (here n due.value s _) c.in_ok-token.ensures
+    (level_open n s (token_of c.in_ok-token.token (text_at c.advance.new.self.place)) (omega arith) ∙
+    no_value s c.in_ok-token.token (text_at c.advance.new.self.place) c.in_default.not-ParenOpen c.in_default.not-BracketOpen c.in_default.not-BraceOpen c.in_default.not-Number c.in_default.not-LabelOrKeyword c.in_default.not-Char c.in_default.not-String c.in_default.not-MultilineString)
+    c.unexpected.ensures
+
+pub parse_node-returns-in-BraceOpen-clause-led : goal.parse_node-returns-in-BraceOpen-clause-led
+parse_node-returns-in-BraceOpen-clause-led t c = λ n s e. gives_then s _ c.parse_braces.result (value_read n due.in_braces s s _ _ _ BraceOpen (omega arith) c.in_ok-token.ensures c.in-BraceOpen.is refl) (c.parse_braces.ensures.led n s (omega arith))
+
+pub parse_items-returns-in_err-expect-clause-led : goal.parse_items-returns-in_err-expect-clause-led
+parse_items-returns-in_err-expect-clause-led t c = λ n s e. handed s _ _ c.from_residual.ensures.1
+    (expected c.args.self.now.place c.next_is.new.self.place c.expect.new.self.place c.args.close c.in_err-expect.field-0.0 c.next_is.ensures.stays (c.if-next_is.ensures.answer.0 refl) c.in_err-expect.ensures)
+
+pub parse_items-returns-then-same-clause-led : goal.parse_items-returns-then-same-clause-led
+parse_items-returns-then-same-clause-led t c = λ n s e.
+    let first = ap (λ (z : Range ℕ). z.start) c.span-start.ensures ∙ sym (ap (λ (z : Place). z.lexer.start) c.next_is.ensures.stays) in
+    let last = ap (λ (z : Range ℕ). z.end) c.span.ensures in
+    empty_there (inl tt) c.new.result c.args.close (here_is n due.first_item (form_of c.args.close ∷ s) _ _ c.next_is.ensures.stays) c.in_ok-expect.ensures
+    (close_empty n c.args.close s (text_at c.expect.new.self.place) (c.same.ensures.0 c.if-same.true))
+    (record { is = c.new.ensures.refusal; stands = c.new.ensures.span ∙ range_path first last; tells = c.new.ensures.detail })
+
+pub parse_items-returns-then-next_is-clause-led : goal.parse_items-returns-then-next_is-clause-led
+parse_items-returns-then-next_is-clause-led t c = λ n s e.
+    read_there (then_same c.args.close (here_is n due.first_item (form_of c.args.close ∷ s) _ _ c.next_is.ensures.stays) c.in_ok-expect.ensures
+    (close_first n c.args.close s (text_at c.expect.new.self.place) c.requires (λ k. untrue _ c.if-same.false (c.same.ensures.1 k)))) (inl refl)
+
+pub parse_items-items-init : goal.parse_items-items-init
+parse_items-items-init t c = record {
+  no_close = subst (λ z. (next : Place) × Takes z (Some (Ok c.args.close)) next → ⊥) (sym c.next_is.ensures.stays) (λ next. untrue _ c.if-next_is.false (c.next_is.ensures.answer.1 next));
+  reached = λ n s e. (due.first_item, inl refl, here_is n due.first_item (form_of c.args.close ∷ s) _ _ c.next_is.ensures.stays);
+  tree = items_first _ _ _ _ _ c.new-items.ensures.items c.next_is.ensures.stays;
+}
+
+pub parse_items-returns-in_err-item-clause-led : goal.parse_items-returns-in_err-item-clause-led
+parse_items-returns-in_err-item-clause-led t c = λ n s e.
+    let (d, i, r) = c.items.invariant.reached n s e in
+    handed s _ _ c.from_residual-in_err-item.ensures.1 (then_refuses c.in_err-item.field-0.0 r
+    (item_refuses d c.in_err-item.field-0.0 i (no_close c.args.close s _ c.requires c.items.invariant.no_close) (c.in_err-item.ensures.led n (form_of c.args.close ∷ s) (omega arith))))
+
+-- behind an item that was read
+behind_item : {n : ℕ} {d e : Due} {s : List Form} {p q w : Place} (close : lex.Token) → IsClose close → ((next : Place) × Takes q (Some (Ok close)) next → ⊥) → IsItemDue e →
+    Reached n d (form_of close ∷ s) p e (form_of close ∷ s) q → (h : IsRead n due.value (form_of close ∷ s) q w (form_of close ∷ s)) → Reached n d (form_of close ∷ s) p h.due_there (form_of close ∷ s) w
+behind_item {e = e} {s = s} {q = q} close is_close none i r h = then_reached r (item_read e i (no_close close s q is_close none) h)
+
+pub parse_items-returns-in_err-token-clause-led : goal.parse_items-returns-in_err-token-clause-led
+parse_items-returns-in_err-token-clause-led t c = λ n s e.
+    let (d, i, r) = c.items.invariant.reached n s e in
+    let item = c.in_ok-item.ensures.led n (form_of c.args.close ∷ s) (omega arith) in
+    handed s _ _ c.from_residual-in_err-token.ensures.1 (fails_behind item.due_there (λ _. Unit {0}) c.in_err-token.field-0.0 (behind_item c.args.close c.requires c.items.invariant.no_close i r item) item.is_behind (λ k text apart. absurd (apart tt)) c.in_err-token.ensures)
+
+pub parse_items-returns-then-same-3-clause-led : goal.parse_items-returns-then-same-3-clause-led
+parse_items-returns-then-same-3-clause-led t c = λ n s e.
+    let (d, i, r) = c.items.invariant.reached n s e in
+    let item = c.in_ok-item.ensures.led n (form_of c.args.close ∷ s) (omega arith) in
+    let behind = behind_item c.args.close c.requires c.items.invariant.no_close i r item in
+    let step_there = close_behind c.args.close s (text_at c.advance.new.self.place) c.requires in
+    read_there (then_behind item.due_there c.in_ok-token.token behind item.is_behind c.in_ok-token.ensures
+    (subst (λ z. behind_step (form_of c.args.close ∷ s) (token_of z (text_at c.advance.new.self.place)) ≡ reads due.behind_value s) (sym (c.same-in-items.ensures.0 c.if-same-3.true)) step_there)) (inl refl)
+
+pub parse_items-returns-then-not-same-clause-led : goal.parse_items-returns-then-not-same-clause-led
+parse_items-returns-then-not-same-clause-led t c = λ n s e.
+    let (d, i, r) = c.items.invariant.reached n s e in
+    let item = c.in_ok-item.ensures.led n (form_of c.args.close ∷ s) (omega arith) in
+    let behind = behind_item c.args.close c.requires c.items.invariant.no_close i r item in
+    unexpected_behind item.due_there c.unexpected.result c.in_ok-token.token behind item.is_behind c.in_ok-token.ensures
+    (other_behind c.args.close c.in_ok-token.token s (text_at c.advance.new.self.place) c.requires (λ k. untrue _ c.if-same-3.false (c.same-in-items.ensures.1 k)) (λ k. untrue _ c.if-not-same.true (c.same-in-items-2.ensures.1 k)))
+    c.unexpected.ensures
+
+pub parse_items-returns-in_err-expect-2-clause-led : goal.parse_items-returns-in_err-expect-2-clause-led
+parse_items-returns-in_err-expect-2-clause-led t c = λ n s e. handed s _ _ c.from_residual-in_err-expect-2.ensures.1
+    (expected c.advance.new.self.place c.next_is-in-items.new.self.place c.expect-then-next_is-2.new.self.place c.args.close c.in_err-expect-2.field-0.0 c.next_is-in-items.ensures.stays (c.if-next_is-2.ensures.answer.0 refl) c.in_err-expect-2.ensures)
+
+pub parse_items-returns-then-next_is-2-clause-led : goal.parse_items-returns-then-next_is-2-clause-led
+parse_items-returns-then-next_is-2-clause-led t c = λ n s e.
+    let (d, i, r) = c.items.invariant.reached n s e in
+    let item = c.in_ok-item.ensures.led n (form_of c.args.close ∷ s) (omega arith) in
+    let behind = behind_item c.args.close c.requires c.items.invariant.no_close i r item in
+    let comma_step = subst (λ z. behind_step (form_of c.args.close ∷ s) (token_of z (text_at c.advance.new.self.place)) ≡ reads due.next_item (form_of c.args.close ∷ s)) (sym (c.same-in-items-2.ensures.0 c.if-not-same.false)) (comma_behind c.args.close s (text_at c.advance.new.self.place) c.requires) in
+    let next = then_behind item.due_there c.in_ok-token.token behind item.is_behind c.in_ok-token.ensures comma_step in
+    read_there (then_same c.args.close (moved c.next_is-in-items.ensures.stays next) c.in_ok-expect-2.ensures (close_next n c.args.close s (text_at c.expect-then-next_is-2.new.self.place) c.requires)) (inl refl)
+
+pub parse_items-items-smaller : goal.parse_items-items-smaller
+parse_items-items-smaller t c =
+    let item = c.in_ok-item.ensures.led (c.args.levels + 1 + 0) (form_of c.args.close ∷ []) (omega arith) in
+    let one = tokens_less _ _ item.tokens item.taken in
+    let two = token_less _ _ c.in_ok-token.token c.in_ok-token.ensures in
+    let three = ap left_at c.next_is-in-items.ensures.stays in
+    omega arith
+
+pub parse_items-items-preserved : goal.parse_items-items-preserved
+parse_items-items-preserved t c = record {
+  no_close = subst (λ z. (next : Place) × Takes z (Some (Ok c.args.close)) next → ⊥) (sym c.next_is-in-items.ensures.stays) (λ next. untrue _ c.if-next_is-2.false (c.next_is-in-items.ensures.answer.1 next));
+  reached = λ n s e.
+      let (d, i, r) = c.items.invariant.reached n s e in
+      let item = c.in_ok-item.ensures.led n (form_of c.args.close ∷ s) (omega arith) in
+      let behind = behind_item c.args.close c.requires c.items.invariant.no_close i r item in
+      let comma_step = subst (λ z. behind_step (form_of c.args.close ∷ s) (token_of z (text_at c.advance.new.self.place)) ≡ reads due.next_item (form_of c.args.close ∷ s)) (sym (c.same-in-items-2.ensures.0 c.if-not-same.false)) (comma_behind c.args.close s (text_at c.advance.new.self.place) c.requires) in
+      let next = then_behind item.due_there c.in_ok-token.token behind item.is_behind c.in_ok-token.ensures comma_step in
+      (due.next_item, inr refl, moved c.next_is-in-items.ensures.stays next);
+  tree = items_next _ _ _ _ _ _ _ c.items.items.items _ c.in_ok-item.item c.items.invariant.tree c.in_ok-item.ensures.tree (class_as _ _ _ Comma c.in_ok-token.ensures (c.same-in-items-2.ensures.0 c.if-not-same.false)) c.next_is-in-items.ensures.stays (pushed _ _ _ _ c.push.ensures.items c.if-is_err.ensures.negation);
+}
+
+pub parse_braces-returns-in_err-token-clause-led : goal.parse_braces-returns-in_err-token-clause-led
+parse_braces-returns-in_err-token-clause-led t c = λ n s e. handed s _ _ c.from_residual.ensures.1
+    (fails (inl tt) (λ _. Unit {0}) c.in_err-token.field-0.0 (here n due.in_braces s _) (λ deep. deep.due) (any_token n due.in_braces s _ _) c.in_err-token.ensures)
+
+pub parse_braces-returns-then-same-clause-led : goal.parse_braces-returns-then-same-clause-led
+parse_braces-returns-then-same-clause-led t c = λ n s e. read_there (then_class BraceClose (here n due.in_braces s _) c.in_ok-token.ensures (c.same.ensures.0 c.if-same.true) refl) (inl refl)
+
+pub parse_braces-returns-in_err-expect-clause-led : goal.parse_braces-returns-in_err-expect-clause-led
+parse_braces-returns-in_err-expect-clause-led t c = λ n s e. handed s _ _ c.from_residual-in_err-expect.ensures.1
+    (fails (inl tt) (λ k. k ≡ BraceClose) c.in_err-expect.field-0.0 (then_class {f = due.no_fields} {v = s} Colon (here n due.in_braces s _) c.in_ok-token.ensures (c.same-2.ensures.0 c.if-same-2.true) refl) (λ deep. deep.due)
+    (λ k h apart. no_brace n s k (text_at c.expect.new.self.place) apart) c.in_err-expect.ensures)
+
+pub parse_braces-returns-then-same-2-clause-led : goal.parse_braces-returns-then-same-2-clause-led
+parse_braces-returns-then-same-2-clause-led t c = λ n s e.
+    read_there (then_same BraceClose (then_class {f = due.no_fields} {v = s} Colon (here n due.in_braces s _) c.in_ok-token.ensures (c.same-2.ensures.0 c.if-same-2.true) refl) c.in_ok-expect.ensures refl) (inl refl)
+
+pub parse_braces-returns-in_err-expect-2-clause-led : goal.parse_braces-returns-in_err-expect-2-clause-led
+parse_braces-returns-in_err-expect-2-clause-led t c = λ n s e. handed s _ _ c.from_residual-in_err-expect-2.ensures.1
+    (expected c.advance.new.self.place c.next_is.new.self.place c.expect-then-next_is.new.self.place Colon c.in_err-expect-2.field-0.0 c.next_is.ensures.stays (c.if-next_is.ensures.answer.0 refl) c.in_err-expect-2.ensures)
+
+pub parse_braces-returns-then-next_is-clause-led : goal.parse_braces-returns-then-next_is-clause-led
+parse_braces-returns-then-next_is-clause-led t c = λ n s e.
+    let word = then_class {f = due.behind_word (text_at c.advance.new.self.place)} {v = s} LabelOrKeyword (here n due.in_braces s _) c.in_ok-token.ensures (c.same-3.ensures.0 c.if-same-3.true) refl in
+    gives_then s _ c.parse_entries.result (then_same Colon (moved c.next_is.ensures.stays word) c.in_ok-expect-2.ensures refl) (c.parse_entries.ensures.led n s e)
+
+pub parse_braces-returns-then-same-3-clause-led : goal.parse_braces-returns-then-same-3-clause-led
+parse_braces-returns-then-same-3-clause-led t c = λ n s e.
+    let word = then_class {f = due.behind_word (text_at c.advance.new.self.place)} {v = s} LabelOrKeyword (here n due.in_braces s _) c.in_ok-token.ensures (c.same-3.ensures.0 c.if-same-3.true) refl in
+    gives_then s _ c.parse_flags.result (moved c.next_is.ensures.stays word)
+    (subst (λ z. Gives c.parse_flags.result n (due.behind_word (text_at z)) s c.next_is.new.self.place c.parse_flags.new.self.place s) c.next_is.ensures.stays (c.parse_flags.ensures.led n s))
+
+pub parse_braces-returns-in_default-clause-led : goal.parse_braces-returns-in_default-clause-led
+parse_braces-returns-in_default-clause-led t c = λ n s e. unexpected_there (inl tt) c.unexpected.result c.in_ok-token.token (here n due.in_braces s _) c.in_ok-token.ensures
+    (brace_key c.in_ok-token.token s (text_at c.advance.new.self.place) (λ k. untrue _ c.if-same-3.false (c.same-3.ensures.1 k)) (λ k. untrue _ c.if-same-2.false (c.same-2.ensures.1 k)) ∙
+    no_key c.in_ok-token.token s (text_at c.advance.new.self.place) c.in_default.ensures (λ k. untrue _ c.if-same.false (c.same.ensures.1 k)))
+    c.unexpected.ensures
+
+pub parse_braces-returns-in_err-expect-3-clause-led : goal.parse_braces-returns-in_err-expect-3-clause-led
+parse_braces-returns-in_err-expect-3-clause-led t c = λ n s e.
+    let key_step_there = brace_key c.in_ok-token.token s (text_at c.advance.new.self.place) (λ k. untrue _ c.if-same-3.false (c.same-3.ensures.1 k)) (λ k. untrue _ c.if-same-2.false (c.same-2.ensures.1 k)) ∙ key_reads c.in_ok-token.token s (text_at c.advance.new.self.place) c.in-Some.ensures.0 in
+    handed s _ _ c.from_residual-in_err-expect-3.ensures.1 (fails (inl tt) (λ k. k ≡ Colon) c.in_err-expect-3.field-0.0 (then_same c.in_ok-token.token (here n due.in_braces s _) c.in_ok-token.ensures key_step_there) (λ deep. deep.due)
+    (λ k h apart. no_colon n s k (text_at c.expect-2.new.self.place) apart) c.in_err-expect-3.ensures)
+
+pub parse_braces-returns-clause-led : goal.parse_braces-returns-clause-led
+parse_braces-returns-clause-led t c = λ n s e.
+    let key_step_there = brace_key c.in_ok-token.token s (text_at c.advance.new.self.place) (λ k. untrue _ c.if-same-3.false (c.same-3.ensures.1 k)) (λ k. untrue _ c.if-same-2.false (c.same-2.ensures.1 k)) ∙ key_reads c.in_ok-token.token s (text_at c.advance.new.self.place) c.in-Some.ensures.0 in
+    gives_then s _ c.parse_entries-2.result (then_same Colon (then_same c.in_ok-token.token (here n due.in_braces s _) c.in_ok-token.ensures key_step_there) c.in_ok-expect-3.ensures refl) (c.parse_entries-2.ensures.led n s e)
+
+pub parse_entries-returns-in_err-value-clause-led : goal.parse_entries-returns-in_err-value-clause-led
+parse_entries-returns-in_err-value-clause-led t c = λ n s e. handed s _ _ c.from_residual.ensures.1
+    (then_refuses c.in_err-value.field-0.0 (c.entries.invariant.led n s e) (c.in_err-value.ensures.led n (due.entries ∷ s) (omega arith)))
+
+pub parse_entries-returns-in_err-token-clause-led : goal.parse_entries-returns-in_err-token-clause-led
+parse_entries-returns-in_err-token-clause-led t c = λ n s e.
+    let item = c.in_ok-value.ensures.led n (due.entries ∷ s) (omega arith) in
+    handed s _ _ c.from_residual-in_err-token.ensures.1 (fails_behind item.due_there (λ _. Unit {0}) c.in_err-token.field-0.0 (then_reached (c.entries.invariant.led n s e) (reached item)) item.is_behind (λ k text apart. absurd (apart tt)) c.in_err-token.ensures)
+
+pub parse_entries-returns-then-same-clause-led : goal.parse_entries-returns-then-same-clause-led
+parse_entries-returns-then-same-clause-led t c = λ n s e.
+    let item = c.in_ok-value.ensures.led n (due.entries ∷ s) (omega arith) in
+    read_there (then_behind_class item.due_there BraceClose (then_reached (c.entries.invariant.led n s e) (reached item)) item.is_behind c.in_ok-token.ensures (c.same.ensures.0 c.if-same.true) refl) (inl refl)
+
+pub parse_entries-returns-then-not-same-clause-led : goal.parse_entries-returns-then-not-same-clause-led
+parse_entries-returns-then-not-same-clause-led t c = λ n s e.
+    let item = c.in_ok-value.ensures.led n (due.entries ∷ s) (omega arith) in
+    unexpected_behind item.due_there c.unexpected.result c.in_ok-token.token (then_reached (c.entries.invariant.led n s e) (reached item)) item.is_behind c.in_ok-token.ensures
+    (entries_other c.in_ok-token.token s (text_at c.advance.new.self.place) (λ k. untrue _ c.if-same.false (c.same.ensures.1 k)) (λ k. untrue _ c.if-not-same.true (c.same-in-entries.ensures.1 k)))
+    c.unexpected.ensures
+
+pub parse_entries-returns-in_err-next-clause-led : goal.parse_entries-returns-in_err-next-clause-led
+parse_entries-returns-in_err-next-clause-led t c = λ n s e.
+    let item = c.in_ok-value.ensures.led n (due.entries ∷ s) (omega arith) in
+    let due_key = then_behind_class {f = due.key} {b = s} item.due_there Comma (then_reached (c.entries.invariant.led n s e) (reached item)) item.is_behind c.in_ok-token.ensures (c.same-in-entries.ensures.0 c.if-not-same.false) refl in
+    handed s _ _ c.from_residual-in_err-next.ensures.1 (fails (inl tt) (λ _. Unit {0}) c.in_err-next.field-0.0 due_key (λ deep. deep.due) (any_token n due.key s _ _) c.in_err-next.ensures)
+
+pub parse_entries-returns-then-same-2-clause-led : goal.parse_entries-returns-then-same-2-clause-led
+parse_entries-returns-then-same-2-clause-led t c = λ n s e.
+    let item = c.in_ok-value.ensures.led n (due.entries ∷ s) (omega arith) in
+    let due_key = then_behind_class {f = due.key} {b = s} item.due_there Comma (then_reached (c.entries.invariant.led n s e) (reached item)) item.is_behind c.in_ok-token.ensures (c.same-in-entries.ensures.0 c.if-not-same.false) refl in
+    read_there (then_class BraceClose due_key c.in_ok-next.ensures (c.same-in-entries-2.ensures.0 c.if-same-2.true) refl) (inl refl)
+
+pub parse_entries-returns-in_default-clause-led : goal.parse_entries-returns-in_default-clause-led
+parse_entries-returns-in_default-clause-led t c = λ n s e.
+    let item = c.in_ok-value.ensures.led n (due.entries ∷ s) (omega arith) in
+    let due_key = then_behind_class {f = due.key} {b = s} item.due_there Comma (then_reached (c.entries.invariant.led n s e) (reached item)) item.is_behind c.in_ok-token.ensures (c.same-in-entries.ensures.0 c.if-not-same.false) refl in
+    unexpected_there (inl tt) c.unexpected-in_default.result c.in_ok-next.next due_key c.in_ok-next.ensures
+    (no_key c.in_ok-next.next s (text_at c.advance-in-entries.new.self.place) c.in_default.ensures (λ k. untrue _ c.if-same-2.false (c.same-in-entries-2.ensures.1 k)))
+    c.unexpected-in_default.ensures
+
+pub parse_entries-returns-in_err-expect-clause-led : goal.parse_entries-returns-in_err-expect-clause-led
+parse_entries-returns-in_err-expect-clause-led t c = λ n s e.
+    let item = c.in_ok-value.ensures.led n (due.entries ∷ s) (omega arith) in
+    let due_key = then_behind_class {f = due.key} {b = s} item.due_there Comma (then_reached (c.entries.invariant.led n s e) (reached item)) item.is_behind c.in_ok-token.ensures (c.same-in-entries.ensures.0 c.if-not-same.false) refl in
+    handed s _ _ c.from_residual-in_err-expect.ensures.1 (fails (inl tt) (λ k. k ≡ Colon) c.in_err-expect.field-0.0
+    (then_same c.in_ok-next.next due_key c.in_ok-next.ensures (key_reads c.in_ok-next.next s (text_at c.advance-in-entries.new.self.place) c.in-Some.ensures.0)) (λ deep. deep.due)
+    (λ k h apart. no_colon n s k (text_at c.expect.new.self.place) apart) c.in_err-expect.ensures)
+
+pub parse_entries-entries-smaller : goal.parse_entries-entries-smaller
+parse_entries-entries-smaller t c =
+    let item = c.in_ok-value.ensures.led (c.args.levels + 1 + 0) (due.entries ∷ []) (omega arith) in
+    let one = tokens_less _ _ item.tokens item.taken in
+    let two = token_less _ _ c.in_ok-token.token c.in_ok-token.ensures in
+    let three = token_less _ _ c.in_ok-next.next c.in_ok-next.ensures in
+    let four = token_less _ _ Colon c.in_ok-expect.ensures in
+    omega arith
+
+pub parse_entries-entries-preserved : goal.parse_entries-entries-preserved
+parse_entries-entries-preserved t c = record {
+  tree = pairs_next _ _ _ _ _ _ _ c.entries.children.items c.push-in-entries.new.self.items _ c.args.key c.in_ok-value.value c.leaf-key.result c.entries.invariant.tree c.in_ok-value.ensures.tree (class_as _ _ _ Comma c.in_ok-token.ensures (c.same-in-entries.ensures.0 c.if-not-same.false))
+      (c.in_ok-next.next, c.in_ok-next.ensures, c.in-Some.ensures.0, c.leaf-key.ensures ∙ ap (λ z. node z (span_at c.advance-in-entries.new.self.place) no_nodes) c.in-Some.ensures.1) c.in_ok-expect.ensures
+      (pushed _ _ _ _ c.push-in-entries.ensures.items c.if-is_err-2.ensures.negation) (pushed _ _ _ _ c.push-in-entries-2.ensures.items c.if-is_err-3.ensures.negation);
+  led = λ n s e.
+      let item = c.in_ok-value.ensures.led n (due.entries ∷ s) (omega arith) in
+      let due_key = then_behind_class {f = due.key} {b = s} item.due_there Comma (then_reached (c.entries.invariant.led n s e) (reached item)) item.is_behind c.in_ok-token.ensures (c.same-in-entries.ensures.0 c.if-not-same.false) refl in
+      then_same Colon (then_same c.in_ok-next.next due_key c.in_ok-next.ensures (key_reads c.in_ok-next.next s (text_at c.advance-in-entries.new.self.place) c.in-Some.ensures.0)) c.in_ok-expect.ensures refl;
+}
+
+pub parse_node-returns-in-Number-clause-tree : goal.parse_node-returns-in-Number-clause-tree
+parse_node-returns-in-Number-clause-tree t c = number_tied _ _ _ _ c.leaf.result (omega arith) c.in_ok-token.ensures c.in-Number.is c.leaf.ensures
+
+pub parse_node-returns-in-Char-clause-tree : goal.parse_node-returns-in-Char-clause-tree
+parse_node-returns-in-Char-clause-tree t c = char_tied _ _ _ _ c.leaf-in-Char.result (omega arith) c.in_ok-token.ensures c.in-Char.is c.leaf-in-Char.ensures
+
+pub parse_node-returns-in-String-clause-tree : goal.parse_node-returns-in-String-clause-tree
+parse_node-returns-in-String-clause-tree t c = string_tied _ _ _ _ c.leaf-in-String.result (omega arith) c.in_ok-token.ensures c.in-String.is c.leaf-in-String.ensures
+
+pub parse_node-returns-in-MultilineString-clause-tree : goal.parse_node-returns-in-MultilineString-clause-tree
+parse_node-returns-in-MultilineString-clause-tree t c = multiline_tied _ _ _ _ c.leaf-in-MultilineString.result (omega arith) c.in_ok-token.ensures c.in-MultilineString.is c.leaf-in-MultilineString.ensures
+
+pub parse_node-returns-in-LabelOrKeyword-clause-tree : goal.parse_node-returns-in-LabelOrKeyword-clause-tree
+parse_node-returns-in-LabelOrKeyword-clause-tree t c = label_tied _ _ _ _ _ c.parse_label.result (omega arith) c.in_ok-token.ensures c.in-LabelOrKeyword.is c.parse_label.ensures.tree
+
+pub parse_node-returns-in-ParenOpen-clause-tree : goal.parse_node-returns-in-ParenOpen-clause-tree
+parse_node-returns-in-ParenOpen-clause-tree t c = items_tied _ _ _ _ _ _ _ (inl (refl, refl)) c.parse_items.result (omega arith) c.in_ok-token.ensures c.in-ParenOpen.is c.parse_items.ensures.tree
+
+pub parse_node-returns-in-BracketOpen-clause-tree : goal.parse_node-returns-in-BracketOpen-clause-tree
+parse_node-returns-in-BracketOpen-clause-tree t c = items_tied _ _ _ _ _ _ _ (inr (refl, refl)) c.parse_items-in-BracketOpen.result (omega arith) c.in_ok-token.ensures c.in-BracketOpen.is c.parse_items-in-BracketOpen.ensures.tree
+
+pub parse_node-returns-in-BraceOpen-clause-tree : goal.parse_node-returns-in-BraceOpen-clause-tree
+parse_node-returns-in-BraceOpen-clause-tree t c = braces_tied _ _ _ _ _ c.parse_braces.result (omega arith) c.in_ok-token.ensures c.in-BraceOpen.is c.parse_braces.ensures.tree
+
+pub parse_label-returns-in-True-clause-tree : goal.parse_label-returns-in-True-clause-tree
+parse_label-returns-in-True-clause-tree t c =
+    let text_is = sym c.slice.ensures ∙ subst (λ z. HasText z c.slice.result.now) c.in-True.is c.word_of.ensures.text in
+    leaf_tied _ _ _ c.leaf.result (ap word_of (sym c.slice.ensures) ∙ (sym c.word_of.ensures.word ∙ ap spec_word c.in-True.is)) (inl (refl, text_is)) c.leaf.ensures
+
+pub parse_label-returns-in-False-clause-tree : goal.parse_label-returns-in-False-clause-tree
+parse_label-returns-in-False-clause-tree t c =
+    let text_is = sym c.slice.ensures ∙ subst (λ z. HasText z c.slice.result.now) c.in-False.is c.word_of.ensures.text in
+    leaf_tied _ _ _ c.leaf-in-False.result (ap word_of (sym c.slice.ensures) ∙ (sym c.word_of.ensures.word ∙ ap spec_word c.in-False.is)) (inr (refl, text_is)) c.leaf-in-False.ensures
+
+pub parse_label-returns-in-Number-clause-tree : goal.parse_label-returns-in-Number-clause-tree
+parse_label-returns-in-Number-clause-tree t c =
+    let text_is = ap (is_one_of (codes "inf" ∷ codes "nan" ∷ [])) (sym c.slice.ensures) ∙ subst (λ z. HasText z c.slice.result.now) c.in-Number.is c.word_of.ensures.text in
+    number_word_tied _ _ c.leaf-in-Number.result (ap word_of (sym c.slice.ensures) ∙ (sym c.word_of.ensures.word ∙ ap spec_word c.in-Number.is)) text_is c.leaf-in-Number.ensures
+
+pub parse_label-returns-in-None-clause-tree : goal.parse_label-returns-in-None-clause-tree
+parse_label-returns-in-None-clause-tree t c =
+    none_tied _ _ c.leaf-in-None.result (ap word_of (sym c.slice.ensures) ∙ (sym c.word_of.ensures.word ∙ ap spec_word c.in-None.is)) c.leaf-in-None.ensures
+
+pub parse_label-returns-in_ok-expect-in-Some-clause-tree : goal.parse_label-returns-in_ok-expect-in-Some-clause-tree
+parse_label-returns-in_ok-expect-in-Some-clause-tree t c =
+    some_tied _ _ _ _ _ _ c.parse_payload.result (ap word_of (sym c.slice.ensures) ∙ (sym c.word_of.ensures.word ∙ ap spec_word c.in-Some.is)) (ap (λ (z : Range ℕ). z.start) c.span-start.ensures) c.new.ensures.items c.in_ok-expect-in-Some.ensures c.parse_payload.ensures.tree
+
+pub parse_label-returns-in-Ok-clause-tree : goal.parse_label-returns-in-Ok-clause-tree
+parse_label-returns-in-Ok-clause-tree t c = ok_tied _ _ _ c.parse_maybe.result (ap word_of (sym c.slice.ensures) ∙ (sym c.word_of.ensures.word ∙ ap spec_word c.in-Ok.is)) c.parse_maybe.ensures.tree
+
+pub parse_label-returns-in-Err-clause-tree : goal.parse_label-returns-in-Err-clause-tree
+parse_label-returns-in-Err-clause-tree t c = err_tied _ _ _ c.parse_maybe-in-Err.result (ap word_of (sym c.slice.ensures) ∙ (sym c.word_of.ensures.word ∙ ap spec_word c.in-Err.is)) c.parse_maybe-in-Err.ensures.tree
+
+pub parse_label-returns-in-Case-clause-tree : goal.parse_label-returns-in-Case-clause-tree
+parse_label-returns-in-Case-clause-tree t c = case_tied _ _ _ c.parse_maybe-in-Case.result (ap word_of (sym c.slice.ensures) ∙ (sym c.word_of.ensures.word ∙ ap spec_word c.in-Case.is)) c.parse_maybe-in-Case.ensures.tree
+
+pub parse_items-returns-then-next_is-clause-tree : goal.parse_items-returns-then-next_is-clause-tree
+parse_items-returns-then-next_is-clause-tree t c = items_none _ _ _ c.next_is.new.self.place _ _ c.new-items.result.items c.node.result c.node.ensures c.new-items.ensures.items c.requires (λ k. untrue _ c.if-same.false (c.same.ensures.1 k)) (ap (λ (z : Range ℕ). z.start) c.span-start.ensures) c.next_is.ensures.stays c.in_ok-expect.ensures
+
+pub parse_items-returns-then-same-3-clause-tree : goal.parse_items-returns-then-same-3-clause-tree
+parse_items-returns-then-same-3-clause-tree t c =
+    let more = pushed _ _ _ _ c.push.ensures.items c.if-is_err.ensures.negation in
+    items_made _ _ _ _ c.if-same-2.ty _ _ c.node-then-same-3.result c.node-then-same-3.ensures (elim c.if-same-2.branch [
+      | parse_items-then-same-2 w ↦ w.ty-is ∙ sym (ap items_type (c.same-2.ensures.0 w.if-same-2.true))
+      | parse_items-else-same-2 w ↦ w.ty-is ∙ sym (type_of_items c.args.close c.requires (λ k. untrue _ w.if-same-2.false (c.same-2.ensures.1 k)))
+    ]) (ap (λ (z : Range ℕ). z.start) c.span-start.ensures)
+    (subst (λ z. AreItems c.args.levels c.args.close c.args.self.now.place z c.advance.new.self.place) (sym more)
+    (c.items.invariant.tree c.in_ok-item.item _ _ [] c.in_ok-item.ensures.tree (inl (class_as _ _ _ c.args.close c.in_ok-token.ensures (c.same-in-items.ensures.0 c.if-same-3.true)))))
+    (λ k. some_there _ _ _ more)
+
+pub parse_items-returns-then-next_is-2-clause-tree : goal.parse_items-returns-then-next_is-2-clause-tree
+parse_items-returns-then-next_is-2-clause-tree t c =
+    let more = pushed _ _ _ _ c.push.ensures.items c.if-is_err.ensures.negation in
+    items_made _ _ _ _ c.if-same-2.ty _ _ c.node-then-next_is-2.result c.node-then-next_is-2.ensures (elim c.if-same-2.branch [
+      | parse_items-then-same-2 w ↦ w.ty-is ∙ sym (ap items_type (c.same-2.ensures.0 w.if-same-2.true))
+      | parse_items-else-same-2 w ↦ w.ty-is ∙ sym (type_of_items c.args.close c.requires (λ k. untrue _ w.if-same-2.false (c.same-2.ensures.1 k)))
+    ]) (ap (λ (z : Range ℕ). z.start) c.span-start.ensures)
+    (subst (λ z. AreItems c.args.levels c.args.close c.args.self.now.place z c.expect-then-next_is-2.new.self.place) (sym more)
+    (c.items.invariant.tree c.in_ok-item.item _ _ [] c.in_ok-item.ensures.tree (inr (
+      c.advance.new.self.place,
+      class_as _ _ _ Comma c.in_ok-token.ensures (c.same-in-items-2.ensures.0 c.if-not-same.false),
+      subst (λ z. TakesClass c.args.close z c.expect-then-next_is-2.new.self.place) c.next_is-in-items.ensures.stays c.in_ok-expect-2.ensures,
+    ))))
+    (λ k. some_there _ _ _ more)
+
+pub parse_braces-returns-clause-tree : goal.parse_braces-returns-clause-tree
+parse_braces-returns-clause-tree t c =
+    entries_tied _ _ c.advance.new.self.place _ _ _ c.leaf-key-2.result c.parse_entries-2.result
+    (c.in_ok-token.token, c.in_ok-token.ensures, c.in-Some.ensures.0, c.leaf-key-2.ensures ∙ ap (λ z. node z (span_at c.advance.new.self.place) no_nodes) c.in-Some.ensures.1)
+    c.in_ok-expect-3.ensures (ap (λ (z : Range ℕ). z.start) c.span-start.ensures) c.parse_entries-2.ensures.tree
+
+pub parse_braces-returns-then-next_is-clause-tree : goal.parse_braces-returns-then-next_is-clause-tree
+parse_braces-returns-then-next_is-clause-tree t c =
+    let stays = c.next_is.ensures.stays in
+    entries_tied _ _ c.advance.new.self.place _ _ _ c.leaf-key.result c.parse_entries.result
+    (LabelOrKeyword, class_as _ _ _ LabelOrKeyword c.in_ok-token.ensures (c.same-3.ensures.0 c.if-same-3.true), tt, c.leaf-key.ensures ∙ ap (λ z. node kind_of_node.Label (span_at z) no_nodes) stays)
+    (subst (λ z. TakesClass Colon z c.expect-then-next_is.new.self.place) stays c.in_ok-expect-2.ensures) (ap (λ (z : Range ℕ). z.start) c.span-start.ensures) c.parse_entries.ensures.tree
+
+pub parse_braces-returns-then-same-2-clause-tree : goal.parse_braces-returns-then-same-2-clause-tree
+parse_braces-returns-then-same-2-clause-tree t c = no_fields_tied _ _ _ _ _ c.new-then-same-2.result.items c.node-then-same-2.result (class_as _ _ _ Colon c.in_ok-token.ensures (c.same-2.ensures.0 c.if-same-2.true)) c.in_ok-expect.ensures (ap (λ (z : Range ℕ). z.start) c.span-start.ensures) c.new-then-same-2.ensures.items c.node-then-same-2.ensures
+
+pub parse_braces-returns-then-same-3-clause-tree : goal.parse_braces-returns-then-same-3-clause-tree
+parse_braces-returns-then-same-3-clause-tree t c =
+    let stays = c.next_is.ensures.stays in
+    flags_tied _ _ c.next_is.new.self.place _ _ c.parse_flags.result (subst (λ z. TakesClass LabelOrKeyword c.args.self.now.place z) (sym stays) (class_as _ _ _ LabelOrKeyword c.in_ok-token.ensures (c.same-3.ensures.0 c.if-same-3.true)))
+    (ap (λ (z : Range ℕ). z.start) c.span-start.ensures) c.parse_flags.ensures.tree
+
+pub parse_braces-returns-then-same-clause-tree : goal.parse_braces-returns-then-same-clause-tree
+parse_braces-returns-then-same-clause-tree t c = empty_tied _ _ _ _ c.new.result.items c.node.result (class_as _ _ _ BraceClose c.in_ok-token.ensures (c.same.ensures.0 c.if-same.true)) (ap (λ (z : Range ℕ). z.start) c.span-start.ensures) c.new.ensures.items c.node.ensures
+
+pub parse_entries-returns-then-same-clause-tree : goal.parse_entries-returns-then-same-clause-tree
+parse_entries-returns-then-same-clause-tree t c = pairs_close _ _ _ _ _ _ c.entries.children.items _ c.args.key c.in_ok-value.value c.node.result c.entries.invariant.tree c.in_ok-value.ensures.tree (inl (class_as _ _ _ BraceClose c.in_ok-token.ensures (c.same.ensures.0 c.if-same.true))) (pushed _ _ _ _ c.push-in-entries.ensures.items c.if-is_err-2.ensures.negation) c.node.ensures
+
+pub parse_entries-returns-then-same-2-clause-tree : goal.parse_entries-returns-then-same-2-clause-tree
+parse_entries-returns-then-same-2-clause-tree t c = pairs_close _ _ _ _ _ _ c.entries.children.items _ c.args.key c.in_ok-value.value c.node-then-same-2.result c.entries.invariant.tree c.in_ok-value.ensures.tree (inr (c.advance.new.self.place, class_as _ _ _ Comma c.in_ok-token.ensures (c.same-in-entries.ensures.0 c.if-not-same.false), class_as _ _ _ BraceClose c.in_ok-next.ensures (c.same-in-entries-2.ensures.0 c.if-same-2.true))) (pushed _ _ _ _ c.push-in-entries.ensures.items c.if-is_err-2.ensures.negation) c.node-then-same-2.ensures
+
+pub parse_maybe-returns-then-not-next_is-clause-tree : goal.parse_maybe-returns-then-not-next_is-clause-tree
+parse_maybe-returns-then-not-next_is-clause-tree t c = inl (c.next_is.ensures.stays, c.leaf.ensures ∙ ap (λ z. node c.args.alone (span_at z) no_nodes) c.next_is.ensures.stays)
+
+pub parse_maybe-returns-clause-tree : goal.parse_maybe-returns-clause-tree
+parse_maybe-returns-clause-tree t c = payload_tied _ _ _ _ _ c.next_is.new.self.place _ _ _ c.parse_payload.result c.next_is.ensures.stays c.in_ok-expect.ensures (ap (λ (z : Range ℕ). z.start) c.span-start.ensures) c.in_ok-front.ensures.made c.parse_payload.ensures.tree
+
+pub parse_payload-returns-in-Ok-clause-tree : goal.parse_payload-returns-in-Ok-clause-tree
+parse_payload-returns-in-Ok-clause-tree t c = record { payload = c.in_ok-payload.payload; behind = c.parse_node.new.self.place; inner = c.in_ok-payload.ensures.tree; close = c.in_ok-expect.ensures; is = c.node.ensures ∙ ap (λ z. node c.args.ty (span c.args.start c.expect.new.self.place.lexer.end) (node_trees z)) c.in-Ok.ensures.items }

@@ -1,0 +1,131 @@
+use Rattle.std.proofs.Common.{◌≡◌, ◌≢◌, ◌↔◌, ℕ, ◌+◌, ◌<◌, Some, None, Ok, Err, length, List, [], ◌∷◌, ◌++◌, true, false, Bool, cond, Bor, refl, sym, ap, subst, ◌∙◌, inl, inr, arith}
+use Rattle.wave_lex.specs.declared.lex.Token as lex
+use Rattle.wave_lex.specs.declared.lex.Token.TheVariants.{BraceOpen, BraceClose, ParenOpen, ParenClose, BracketOpen, BracketClose, Colon, Comma, Number, LabelOrKeyword, Char, String, MultilineString}
+use Rattle.wave_lex.specs.declared.error.ParserErrorKind.TheVariants as kind
+use Rattle.wave_tree.specs.Place.{Place, Takes, span_at, text_at, token_of}
+use Rattle.wave_tree.specs.Tree.{word_of}
+use Rattle.wave_tree.specs.Spells.{name_of}
+use Rattle.wave_tree.specs.Due.{Due, Form, due_behind, reads, behind_step, step, key_step, brace_step, behind_flag_step, flag_step}
+use Rattle.wave_tree.specs.Due as due
+use Rattle.wave_tree.specs.Refusals.{Gives, IsBehind, IsRead, IsRefused}
+use Rattle.std.specs.declared.ops.Range.{Range}
+use Rattle.wave_lex.specs.declared.error.ParserError.{ParserError}
+use Rattle.wave_tree.specs.Parsing.{Parsing, Fails}
+use Rattle.wave_tree.proofs.Going.{here, here_is, handed, gives_then, fails, any_token, shallow, value_read, no_value, level_open, read_there, unexpected_there, no_paren, then_token, token_there, behind_bare, reached, fails_behind, then_behind, payload_other, unexpected_behind, expected, untrue, moved, then_class, then_behind_class, range_path, close_first, close_empty, close_next, then_same, then_refuses, item_refuses, item_read, then_reached, Reached, IsItemDue, no_close, repeated_there, gives_read, empty_there, key_reads, no_key, brace_key, entries_other, flags_other, no_flag, IsFlagDue, flag_same, flag_not_deep, flag_within, close_behind, comma_behind, other_behind, token_less, tokens_less, left_at, no_colon, no_brace}
+use Rattle.std.specs.Prelude.{if◌then◌else◌, is_some}
+use Rattle.wave_wasm.specs.Names.{is_one_of}
+use Rattle.wave_tree.specs.Refusals.{Says}
+use Rattle.wave_lex.specs.Errors.{repeated_name}
+use Rattle.wave_tree.proofs.Names.{Holds, held, holds_none, holds_more, on_ok}
+use Rattle.std.specs.Prelude.{map}
+use Rattle.std.specs.BTreeMap.{insert_entry}
+use Rattle.std.specs.Cmp.Lexicographic.{slice_cmp}
+use Rattle.std.specs.Ordering.{nat_cmp}
+use Rattle.wave_tree.specs.Parsed.{flag_name}
+use Rattle.wave_tree.proofs.Tied.{class_as}
+use Rattle.wave_tree.proofs.Ordered.{entry_of}
+use Rattle.wave_tree.proofs.FlagLoop.{FlagsSoFar, flag_at, grown, ended}
+use Rattle.wave_tree.proofs.parser.Parser.parse_flags.Goals as goal
+
+-- behind a comma a further flag is due
+due_flag : (names : List (List ℕ)) {n : ℕ} {s : List Form} {p q w : Place} {text : List ℕ} (d : Due) (c : lex.Token) → IsFlagDue d names q → Reached n (due.behind_word text) s p d s q → Takes q (Some (Ok c)) w → c ≡ Comma →
+    Reached n (due.behind_word text) s p (due.flag names) s w
+due_flag names {n} {s} {p} {q} {w} d c i r h e = then_same c r h (flag_same n d names s q w c i h ∙ ap (λ z. behind_flag_step names s (token_of z (text_at w))) e)
+
+pub flags-init : goal.flags-init
+flags-init c =
+    let name_is = c.label_name.ensures ∙ ap name_of c.slice.ensures in
+    let done = c.if-is_err.ensures.negation in
+    let one = holds_more c.new-flags.result c.insert.new.self [] _ _ (holds_none c.new-flags.result c.new-flags.ensures.empty) (on_ok c.insert.result c.insert.ensures.updates done) in
+    let place = c.args.self.now.place in
+    record {
+      more = [];
+      holds = subst (λ z. Holds c.insert.new.self (z ∷ [])) name_is one;
+      distinct = (tt, tt);
+      ordered = ap (map entry_of) (on_ok c.insert.result c.insert.ensures.entries done ∙ ap (λ z. insert_entry (λ a b. slice_cmp nat_cmp a.now b.now) z c.label_name.result c.leaf.result) c.new-flags.ensures.empty)
+          ∙ (λ i. (name_is i, c.leaf.ensures i) ∷ []);
+      tree = λ rest r further. further;
+      led = λ n s. (due.behind_word (text_at place), inr (text_at place, refl, refl, c.requires), here n (due.behind_word (text_at place)) s place);
+    }
+
+pub returns-in_err-token-clause-led : goal.returns-in_err-token-clause-led
+returns-in_err-token-clause-led c = λ n s.
+    let (d, i, r) = c.flags.invariant.led n s in
+    handed s _ _ c.from_residual.ensures.1 (fails (inl (flag_within d _ _ i)) (λ _. Unit {0}) c.in_err-token.field-0.0 r (flag_not_deep n d _ s _ i) (any_token n d s _ _) c.in_err-token.ensures)
+
+pub returns-then-same-clause-led : goal.returns-then-same-clause-led
+returns-then-same-clause-led c = λ n s.
+    let (d, i, r) = c.flags.invariant.led n s in
+    gives_read s c.flags_node.result c.flags_node.ensures.memory (read_there (then_same {f = due.behind_value} {v = s} c.in_ok-token.token r c.in_ok-token.ensures
+    (flag_same n d _ s _ _ c.in_ok-token.token i c.in_ok-token.ensures ∙ ap (λ z. behind_flag_step (map flag_name (flag_at c.args.self.now.place ∷ c.flags.invariant.more)) s (token_of z (text_at c.advance.new.self.place))) (c.same.ensures.0 c.if-same.true))) (inl refl))
+
+pub returns-then-not-same-clause-led : goal.returns-then-not-same-clause-led
+returns-then-not-same-clause-led c = λ n s.
+    let (d, i, r) = c.flags.invariant.led n s in
+    unexpected_there (inl (flag_within d _ _ i)) c.unexpected.result c.in_ok-token.token r c.in_ok-token.ensures
+    (flag_same n d _ s _ _ c.in_ok-token.token i c.in_ok-token.ensures ∙
+    flags_other _ c.in_ok-token.token s (text_at c.advance.new.self.place) (λ k. untrue _ c.if-same.false (c.same.ensures.1 k)) (λ k. untrue _ c.if-not-same.true (c.same-in-flags.ensures.1 k)))
+    c.unexpected.ensures
+
+pub returns-in_err-next-clause-led : goal.returns-in_err-next-clause-led
+returns-in_err-next-clause-led c = λ n s.
+    let (d, i, r) = c.flags.invariant.led n s in
+    let comma = due_flag (map flag_name (flag_at c.args.self.now.place ∷ c.flags.invariant.more)) d c.in_ok-token.token i r c.in_ok-token.ensures (c.same-in-flags.ensures.0 c.if-not-same.false) in
+    handed s _ _ c.from_residual-in_err-next.ensures.1 (fails (inl tt) (λ _. Unit {0}) c.in_err-next.field-0.0 comma (λ deep. deep.due) (any_token n (due.flag (map flag_name (flag_at c.args.self.now.place ∷ c.flags.invariant.more))) s _ _) c.in_err-next.ensures)
+
+pub returns-then-same-2-clause-led : goal.returns-then-same-2-clause-led
+returns-then-same-2-clause-led c = λ n s.
+    let (d, i, r) = c.flags.invariant.led n s in
+    let comma = due_flag (map flag_name (flag_at c.args.self.now.place ∷ c.flags.invariant.more)) d c.in_ok-token.token i r c.in_ok-token.ensures (c.same-in-flags.ensures.0 c.if-not-same.false) in
+    gives_read s c.flags_node-then-same-2.result c.flags_node-then-same-2.ensures.memory (read_there (then_class BraceClose comma c.in_ok-next.ensures (c.same-in-flags-2.ensures.0 c.if-same-2.true) refl) (inl refl))
+
+pub returns-then-not-same-2-clause-led : goal.returns-then-not-same-2-clause-led
+returns-then-not-same-2-clause-led c = λ n s.
+    let (d, i, r) = c.flags.invariant.led n s in
+    let comma = due_flag (map flag_name (flag_at c.args.self.now.place ∷ c.flags.invariant.more)) d c.in_ok-token.token i r c.in_ok-token.ensures (c.same-in-flags.ensures.0 c.if-not-same.false) in
+    unexpected_there (inl tt) c.unexpected-then-not-same-2.result c.in_ok-next.next comma c.in_ok-next.ensures
+    (no_flag (map flag_name (flag_at c.args.self.now.place ∷ c.flags.invariant.more)) c.in_ok-next.next s (text_at c.advance-in-flags.new.self.place) (λ k. untrue _ c.if-same-2.false (c.same-in-flags-2.ensures.1 k)) (λ k. untrue _ c.if-not-same-2.true (c.same-in-flags-3.ensures.1 k)))
+    c.unexpected-then-not-same-2.ensures
+
+pub returns-then-contains_key-clause-led : goal.returns-then-contains_key-clause-led
+returns-then-contains_key-clause-led c = λ n s.
+    let (d, i, r) = c.flags.invariant.led n s in
+    let names = (map flag_name (flag_at c.args.self.now.place ∷ c.flags.invariant.more)) in
+    let comma = due_flag names d c.in_ok-token.token i r c.in_ok-token.ensures (c.same-in-flags.ensures.0 c.if-not-same.false) in
+    let name_is = c.label_name-name.ensures ∙ ap name_of c.slice-in-flags.ensures in
+    let found = subst (λ z. is_one_of names z ≡ true) name_is (sym (c.flags.invariant.holds c.label_name-name.result.now) ∙ (sym c.contains_key.ensures ∙ c.if-contains_key.true)) in
+    repeated_there (inl tt) c.repeated.result LabelOrKeyword comma (subst (λ z. Takes c.advance.new.self.place (Some (Ok z)) c.advance-in-flags.new.self.place) (c.same-in-flags-3.ensures.0 c.if-not-same-2.false) c.in_ok-next.ensures)
+    (ap (λ b. if b then due.repeated_flag else reads (due.behind_flag (names ++ name_of (text_at c.advance-in-flags.new.self.place) ∷ [])) s) found)
+    (subst (λ z. c.repeated.result.kind ≢ kind.OutOfMemory → Says c.repeated.result kind.DuplicateFlag (span_at c.advance-in-flags.new.self.place) (Some (repeated_name z))) name_is c.repeated.ensures)
+
+pub flags-smaller : goal.flags-smaller
+flags-smaller c =
+    let two = token_less _ _ c.in_ok-token.token c.in_ok-token.ensures in
+    let three = token_less _ _ c.in_ok-next.next c.in_ok-next.ensures in
+    omega arith
+
+pub flags-preserved : goal.flags-preserved
+flags-preserved c =
+    let names = map flag_name (flag_at c.args.self.now.place ∷ c.flags.invariant.more) in
+    let name_is = c.label_name-name.ensures ∙ ap name_of c.slice-in-flags.ensures in
+    let done = c.if-is_err-2.ensures.negation in
+    let more = holds_more c.flags.flags c.insert-in-flags.new.self names _ _ c.flags.invariant.holds (on_ok c.insert-in-flags.result c.insert-in-flags.ensures.updates done) in
+    let new_name = subst (λ z. is_one_of names z ≡ false) name_is (sym (c.flags.invariant.holds c.label_name-name.result.now) ∙ (sym c.contains_key.ensures ∙ c.if-contains_key.false)) in
+    let comma_there = class_as _ _ _ Comma c.in_ok-token.ensures (c.same-in-flags.ensures.0 c.if-not-same.false) in
+    let label_there = class_as _ _ _ LabelOrKeyword c.in_ok-next.ensures (c.same-in-flags-3.ensures.0 c.if-not-same-2.false) in
+    grown c.flags.flags c.insert-in-flags.new.self c.args.self.now.place c.flags.self.place c.advance.new.self.place c.advance-in-flags.new.self.place c.label_name-name.result _ c.flags.invariant comma_there label_there
+    (on_ok c.insert-in-flags.result c.insert-in-flags.ensures.entries done) name_is c.leaf-in-flags.ensures new_name
+    (subst (λ z. Holds c.insert-in-flags.new.self (names ++ z ∷ [])) name_is more)
+    (λ n s.
+    let (d, i, r) = c.flags.invariant.led n s in
+    let comma = due_flag names d c.in_ok-token.token i r c.in_ok-token.ensures (c.same-in-flags.ensures.0 c.if-not-same.false) in (
+      due.behind_flag (names ++ name_of (text_at c.advance-in-flags.new.self.place) ∷ []),
+      inl refl,
+      then_same LabelOrKeyword comma label_there (ap (λ b. if b then due.repeated_flag else reads (due.behind_flag (names ++ name_of (text_at c.advance-in-flags.new.self.place) ∷ [])) s) new_name),
+    ))
+
+pub returns-then-same-clause-tree : goal.returns-then-same-clause-tree
+returns-then-same-clause-tree c = ended c.flags.flags _ c.flags.self.place _ _ c.flags_node.result c.flags.invariant (inl (class_as _ _ _ BraceClose c.in_ok-token.ensures (c.same.ensures.0 c.if-same.true))) c.flags_node.ensures.node
+
+pub returns-then-same-2-clause-tree : goal.returns-then-same-2-clause-tree
+returns-then-same-2-clause-tree c = ended c.flags.flags _ c.flags.self.place _ _ c.flags_node-then-same-2.result c.flags.invariant (inr (c.advance.new.self.place, class_as _ _ _ Comma c.in_ok-token.ensures (c.same-in-flags.ensures.0 c.if-not-same.false), class_as _ _ _ BraceClose c.in_ok-next.ensures (c.same-in-flags-2.ensures.0 c.if-same-2.true))) c.flags_node-then-same-2.ensures.node

@@ -1,0 +1,24 @@
+use Rattle.std.proofs.Common.{◌≡◌, Ok, Err, sym, subst, ap, ◌∙◌}
+use Rattle.wave_tree.specs.Place.{Place, Takes}
+use Rattle.wave_tree.specs.Parsing.{Parsing, IsTrailing}
+use Rattle.wave_tree.specs.FromText.{start_of, IsValueTaken, RefusesValue, RefusesText}
+use Rattle.wave_tree.proofs.Texts.{value_refused, trailing_refused, value_meant, refusal_handed}
+use Rattle.wave_tree.proofs.parser.from_str.Goals as goal
+
+pub returns-in_err-value-clause-refused : goal.returns-in_err-value-clause-refused
+returns-in_err-value-clause-refused g c =
+    refusal_handed g.V.WasmValue.is_full (g.V.Type.WasmType.tree c.args.ty.now) c.args.s.now c.from_residual.result c.in_err-value.field-0.0 c.from_residual.ensures.1
+    (value_refused g.V.WasmValue.is_full (g.V.Type.WasmType.tree c.args.ty.now) c.args.s.now c.parse_value.new.self.place c.in_err-value.field-0.0 (subst (λ (z : Parsing). RefusesValue g.V.WasmValue.is_full (g.V.Type.WasmType.tree c.args.ty.now) c.in_err-value.field-0.0 z.place c.parse_value.new.self.place) c.new-parser.ensures c.in_err-value.ensures.refused))
+
+pub returns-in_err-finish-clause-refused : goal.returns-in_err-finish-clause-refused
+returns-in_err-finish-clause-refused g c =
+    refusal_handed g.V.WasmValue.is_full (g.V.Type.WasmType.tree c.args.ty.now) c.args.s.now c.from_residual-in_err-finish.result c.in_err-finish.field-0.0 c.from_residual-in_err-finish.ensures.1
+    (trailing_refused g.V.WasmValue.tree g.V.WasmValue.is_of g.V.WasmValue.is_full (g.V.Type.WasmType.tree c.args.ty.now) c.args.s.now c.parse_value.new.self.place c.in_ok-value.value c.in_err-finish.field-0.0
+    (subst (λ (z : Parsing). IsValueTaken g.V.WasmValue.tree g.V.WasmValue.is_of (g.V.Type.WasmType.tree c.args.ty.now) z.place c.parse_value.new.self.place c.in_ok-value.value) c.new-parser.ensures c.in_ok-value.ensures.value)
+    c.in_err-finish.ensures.answer)
+
+pub returns-clause-value : goal.returns-clause-value
+returns-clause-value g c =
+    value_meant g.V.WasmValue.tree g.V.WasmValue.is_of (g.V.Type.WasmType.tree c.args.ty.now) c.args.s.now c.parse_value.new.self.place c.in_ok-value.value
+    (subst (λ (z : Parsing). IsValueTaken g.V.WasmValue.tree g.V.WasmValue.is_of (g.V.Type.WasmType.tree c.args.ty.now) z.place c.parse_value.new.self.place c.in_ok-value.value) c.new-parser.ensures c.in_ok-value.ensures.value)
+    c.in_ok-finish.ensures.answer

@@ -1,0 +1,23 @@
+-- What the answers to reading a value say of the tokens that stand there.
+use Rattle.std.specs.Prelude.{ℕ, List, []}
+use Rattle.wave_lex.specs.declared.error.ParserError.{ParserError}
+use Rattle.wave_tree.specs.Token.{Token}
+use Rattle.wave_tree.specs.Tree as tree
+use Rattle.wave_tree.specs.Tree.{Tree}
+use Rattle.wave_tree.specs.Place.{Place, TakesToken, TakesTokens}
+use Rattle.wave_tree.specs.Due.{value}
+use Rattle.wave_tree.specs.Refusals.{IsRead, IsRefused}
+
+-- the tokens from the place on, up to the end or to what is no token
+abbrev pub AreNext : Place → List Token → Type 0
+AreNext p ts = (last : Place) × TakesTokens p ts last × ((t : Token) (q : Place) → TakesToken last t q → ⊥)
+
+-- where a value was read within n levels, a tree stood within n levels, and the tokens behind it are next
+abbrev pub ReadHaveATree : Type 0
+ReadHaveATree =
+    (n : ℕ) (p q : Place) (ts : List Token) → IsRead n value [] p q [] → AreNext p ts → (t : Tree) × (rest : List Token) × tree.Takes n ts t rest × AreNext q rest
+
+-- where a value was refused, no tree stood within n levels
+abbrev pub RefusedHaveNone : Type 0
+RefusedHaveNone =
+    (n : ℕ) (e : ParserError) (p q : Place) (ts : List Token) → IsRefused e n value [] p q → AreNext p ts → (t : Tree) (rest : List Token) → tree.Takes n ts t rest → ⊥

@@ -1,0 +1,90 @@
+-- What a node answers about itself.
+use Rattle.std.specs.Prelude.{ℕ, ℤ, ◌≡◌, ◌≢◌, ◌⊎◌, Bool, true, false, List, [], ◌∷◌, Option, Some, None, option_map, Result, Ok, Err}
+use Rattle.std.specs.Borrow.{Bor}
+use Rattle.wave_tree.specs.Spells.{name_of}
+use Rattle.wave_wasm.specs.Names.{IsOneOf, IsNoneOf}
+use Rattle.wave_wasm.specs.Types.{Whole}
+use Rattle.wave_lex.specs.Errors.{refusal_of}
+use Rattle.wave_lex.specs.declared.error.ParserError.{ParserError}
+use Rattle.wave_lex.specs.declared.error.ParserErrorKind.{ParserErrorKind}
+use Rattle.wave_lex.specs.declared.error.ParserErrorKind.TheVariants.{InvalidType, InvalidValue}
+use Rattle.wave_tree.specs.NumberText.{IsNumberOf}
+use Rattle.wave_tree.specs.Placed.{slice}
+use Rattle.wave_tree.specs.NodeTree.{NodeTree, type_of, place_of, children_of}
+use Rattle.wave_tree.specs.Faults.{Refuses}
+use Rattle.wave_tree.specs.declared.ast.NodeType.{NodeType}
+use Rattle.wave_tree.specs.declared.ast.NodeType.TheVariants as kind
+
+-- the text at a node
+abbrev pub text_at : List ℕ → NodeTree → List ℕ
+text_at source n = slice source (place_of n)
+
+-- a refusal of this kind, at the node
+abbrev pub RefusedAs : ParserErrorKind → NodeTree → ParserError → Type 0
+RefusedAs why n e = Refuses why (place_of n) (refusal_of e) e.span
+
+-- the node is of this type; or `InvalidType` at the node
+abbrev pub OfType : NodeType → NodeTree → Result Unit ParserError → Type 0
+OfType ty n (Ok done) = type_of n ≡ ty
+OfType ty n (Err e) = (type_of n ≢ ty) × RefusedAs InvalidType n e
+
+-- the type of the nodes of this bool
+abbrev pub bool_type : Bool → NodeType
+bool_type true = kind.BoolTrue
+bool_type false = kind.BoolFalse
+
+-- the bool of a node; or `InvalidType` where it is none
+abbrev pub GivesBool : NodeTree → Result Bool ParserError → Type 0
+GivesBool n (Ok b) = type_of n ≡ bool_type b
+GivesBool n (Err e) = ((b : Bool) → type_of n ≢ bool_type b) × RefusedAs InvalidType n e
+
+-- the nodes behind a reference, where there is one
+abbrev pub shown_node : Option (Bor NodeTree) → Option NodeTree
+shown_node o = option_map (λ n. n.now) o
+
+-- the first of the nodes, where there is one
+abbrev pub first_of : List NodeTree → Option NodeTree
+first_of [] = None
+first_of (n ∷ ns) = Some n
+
+-- the children of a node of this type; or `InvalidType` at another node
+abbrev pub GivesNodes : NodeType → NodeTree → Result (Bor (List NodeTree)) ParserError → Type 0
+GivesNodes ty n (Ok nodes) = (type_of n ≡ ty) × (nodes.now ≡ children_of n)
+GivesNodes ty n (Err e) = (type_of n ≢ ty) × RefusedAs InvalidType n e
+
+-- the payload of `some`, or nothing at `none`; or `InvalidType` at another node
+abbrev pub GivesOption : NodeTree → Result (Option (Bor NodeTree)) ParserError → Type 0
+GivesOption n (Ok o) =
+    (type_of n ≡ kind.OptionSome) × (shown_node o ≡ first_of (children_of n)) ⊎ (type_of n ≡ kind.OptionNone) × (shown_node o ≡ None)
+GivesOption n (Err e) = (type_of n ≢ kind.OptionSome) × (type_of n ≢ kind.OptionNone) × RefusedAs InvalidType n e
+
+-- the payload of `ok` or of `err`, where it has one; or `InvalidType` at another node
+abbrev pub GivesResult : NodeTree → Result (Result (Option (Bor NodeTree)) (Option (Bor NodeTree))) ParserError → Type 0
+GivesResult n (Ok (Ok o)) = (type_of n ≡ kind.ResultOk) × (shown_node o ≡ first_of (children_of n))
+GivesResult n (Ok (Err o)) = (type_of n ≡ kind.ResultErr) × (shown_node o ≡ first_of (children_of n))
+GivesResult n (Err e) = (type_of n ≢ kind.ResultOk) × (type_of n ≢ kind.ResultErr) × RefusedAs InvalidType n e
+
+-- the name of a label alone; or `InvalidType` at another node
+abbrev pub GivesLabel : List ℕ → NodeTree → Result (Bor (List ℕ)) ParserError → Type 0
+GivesLabel source n (Ok name) = (type_of n ≡ kind.Label) × (name.now ≡ name_of (text_at source n))
+GivesLabel source n (Err e) = (type_of n ≢ kind.Label) × RefusedAs InvalidType n e
+
+-- the name and the payload of a case; or `InvalidType` at another node
+abbrev pub GivesVariant : List ℕ → NodeTree → Result (Bor (List ℕ) × Option (Bor NodeTree)) ParserError → Type 0
+GivesVariant source n (Ok (name, payload)) =
+    (type_of n ≡ kind.Label) × (name.now ≡ name_of (text_at source n)) × (shown_node payload ≡ None)
+    ⊎ ((c : NodeTree) × (t : NodeTree) × (type_of n ≡ kind.VariantWithPayload) × (children_of n ≡ c ∷ t ∷ []) × (name.now ≡ name_of (text_at source c)) × (shown_node payload ≡ Some t))
+GivesVariant source n (Err e) = (type_of n ≢ kind.Label) × (type_of n ≢ kind.VariantWithPayload) × RefusedAs InvalidType n e
+
+module _ {N : Type 0} (which : Whole) (number : N → ℤ) where
+  -- the number of a node; or `InvalidValue` where it is none of this type, and `InvalidType` where the node is no number
+  abbrev pub GivesNumber : List ℕ → NodeTree → Result N ParserError → Type 0
+  GivesNumber source n (Ok x) = (type_of n ≡ kind.Number) × IsNumberOf which (text_at source n) (Some (number x))
+  GivesNumber source n (Err e) =
+      (type_of n ≢ kind.Number) × RefusedAs InvalidType n e
+      ⊎ (type_of n ≡ kind.Number) × IsNumberOf which (text_at source n) None × RefusedAs InvalidValue n e
+
+-- the test of whether a name is one of the names
+abbrev pub Among : List (List ℕ) → List ℕ → Bool → Type 0
+Among names name true = IsOneOf names name
+Among names name false = IsNoneOf names name

@@ -1,0 +1,63 @@
+-- What reading a value from a text answers.
+use Rattle.std.specs.Prelude.{ℕ, ◌≡◌, ◌≢◌, ◌⊎◌, List, []}
+use Rattle.wave_wasm.specs.Types.{TypeTree, HasDistinctNames}
+use Rattle.wave_wasm.specs.Values.{Value}
+use Rattle.wave_lex.specs.Errors.{refusal_of}
+use Rattle.wave_lex.specs.declared.error.ParserError.{ParserError}
+use Rattle.wave_lex.specs.declared.error.ParserErrorKind.TheVariants.{OutOfMemory, WasmValueError}
+use Rattle.wave_tree.specs.Place.{Place}
+use Rattle.wave_tree.specs.Due.{value}
+use Rattle.wave_tree.specs.Refusals.{IsRead, IsRefused}
+use Rattle.wave_tree.specs.Placed.{Placed, tree_of}
+use Rattle.wave_tree.specs.TreeReads.{TreeReads}
+use Rattle.wave_tree.specs.Faults.{Fault}
+use Rattle.wave_tree.specs.Means.{Means}
+use Rattle.wave_tree.specs.Parsed.{IsTaken}
+use Rattle.wave_tree.specs.Parsing.{IsTrailing, front_of}
+use Rattle.wave_tree.specs.Typed as typed
+use Rattle.wave_tree.specs.Typed.{IsServed}
+
+-- in front of the text
+abbrev pub start_of : List ℕ → Place
+start_of s = record { lexer = front_of s; taken = 0 }
+
+module _ {V : Type 0} (tree : V → Value) (of : V → TypeTree → Type 0) where
+  -- a value was read: its tree's tokens were taken, and the type gives the tree the value
+  pub record IsValueTaken (T : TypeTree) (old new : Place) (v : V) : Type 0 where
+    pub read : IsRead 100 value [] old new []
+    pub placed : Placed
+    pub taken : IsTaken old new (tree_of placed)
+    pub means : IsServed T → HasDistinctNames T → typed.IsRead tree of T placed v
+
+  -- the text means the value, which is of the type
+  abbrev pub IsMeant : TypeTree → List ℕ → V → Type 0
+  IsMeant T s v = IsServed T → HasDistinctNames T → Means T s (tree v) × of v T
+
+module _ (Full : TypeTree → Type 0) where
+  -- a tree was read to which the type gives no value, or whose value a maker refused
+  pub record IsTypeRefused (T : TypeTree) (e : ParserError) (old new : Place) : Type 0 where
+    pub read : IsRead 100 value [] old new []
+    pub placed : Placed
+    pub taken : IsTaken old new (tree_of placed)
+    pub blames : IsServed T → HasDistinctNames T → Fault T placed (refusal_of e) e.span × typed.ReadsNone T placed ⊎ (e.kind ≡ WasmValueError) × (Full T → ⊥)
+
+  -- no value was read: for want of memory, or no tree stands there, or one to which the type gives no value
+  abbrev pub RefusesValue : TypeTree → ParserError → Place → Place → Type 0
+  RefusesValue T e old new = (e.kind ≢ OutOfMemory) → IsRefused e 100 value [] old new ⊎ IsTypeRefused T e old new
+
+-- the text means no value of the type
+abbrev pub MeansNone : TypeTree → List ℕ → Type 0
+MeansNone T s = (v : Value) → Means T s v → ⊥
+
+-- what is wrong with the text: no tree begins it; or the type gives its tree no value; or something follows the tree
+abbrev pub TextFault : TypeTree → List ℕ → ParserError → Type 0
+TextFault T s e =
+    ((p : Place) × IsRefused e 100 value [] (start_of s) p)
+    ⊎ ((p : Place) × (t : Placed) × IsTaken (start_of s) p (tree_of t) × Fault T t (refusal_of e) e.span)
+    ⊎ ((p : Place) × (t : Placed) × (v : Value) × IsTaken (start_of s) p (tree_of t) × TreeReads T (tree_of t) v × IsTrailing e p)
+
+-- want of memory; or a fault of the text, which means no value of the type; or, where makers do not serve all values of the type, the refusal of one
+abbrev pub RefusesText : (TypeTree → Type 0) → TypeTree → List ℕ → ParserError → Type 0
+RefusesText Full T s e =
+    IsServed T → HasDistinctNames T →
+    (e.kind ≡ OutOfMemory) ⊎ TextFault T s e × MeansNone T s ⊎ (e.kind ≡ WasmValueError) × (Full T → ⊥)

@@ -1,0 +1,68 @@
+-- What reading a node at a type answers.
+use Rattle.std.specs.Prelude.{ℕ, ◌≡◌, ◌⊎◌, List, Result, Ok, Err, MatchResult}
+use Rattle.wave_wasm.specs.Types as type
+use Rattle.wave_wasm.specs.Types.{TypeTree, HasDistinctNames}
+use Rattle.wave_wasm.specs.Values.{Value}
+use Rattle.wave_wasm.specs.Causes.{Cause, cause_of}
+use Rattle.wave_wasm.specs.declared.wasm.WasmValueError as causes
+use Rattle.wave_lex.specs.Errors.{refusal_of, refused_by}
+use Rattle.wave_lex.specs.declared.error.ParserError.{ParserError}
+use Rattle.wave_lex.specs.declared.error.ParserErrorKind.TheVariants.{OutOfMemory, WasmValueError}
+use Rattle.wave_tree.specs.Placed.{Placed, tree_of}
+use Rattle.wave_tree.specs.NodeTree.{NodeTree, place_of}
+use Rattle.wave_tree.specs.Nodes.{IsNodeOf}
+use Rattle.wave_tree.specs.TreeReads.{TreeReads}
+use Rattle.wave_tree.specs.Faults.{Fault, RefusesFor}
+
+-- the type gives the tree the value, which is of the type; V is a stranger's value, `tree` says what it means, `of` when it is of a type
+pub record IsRead {V : Type 0} (tree : V → Value) (of : V → TypeTree → Type 0) (T : TypeTree) (t : Placed) (v : V) : Type 0 where
+  pub reads : TreeReads T (tree_of t) (tree v)
+  pub is_of : of v T
+
+-- want of memory; or a fault of the tree; or, where makers do not serve all values of the type, the refusal of one
+abbrev pub IsBlamed : (TypeTree → Type 0) → TypeTree → Placed → ParserError → Type 0
+IsBlamed Full T t e =
+    (e.kind ≡ OutOfMemory) ⊎ Fault T t (refusal_of e) e.span ⊎ (e.kind ≡ WasmValueError) × (Full T → ⊥)
+
+-- the type gives the tree no value
+abbrev pub ReadsNone : TypeTree → Placed → Type 0
+ReadsNone T t = (v : Value) → TreeReads T (tree_of t) v → ⊥
+
+-- so, and a fault stands only where the type gives the tree no value
+abbrev pub IsRefused : (TypeTree → Type 0) → TypeTree → Placed → ParserError → Type 0
+IsRefused Full T t e =
+    (e.kind ≡ OutOfMemory) ⊎ Fault T t (refusal_of e) e.span × ReadsNone T t ⊎ (e.kind ≡ WasmValueError) × (Full T → ⊥)
+
+-- the node is that of a value
+abbrev pub IsValueOf : List ℕ → NodeTree → Type 0
+IsValueOf source n = (t : Placed) × IsNodeOf source n t
+
+-- a refusal with this cause at the node, or for want of memory
+abbrev pub IsCaused : Cause → NodeTree → ParserError → Type 0
+IsCaused cause n e = (e.kind ≡ OutOfMemory) ⊎ RefusesFor cause (place_of n) (refusal_of e) e.span
+
+-- the value that was made; or the refusal of its maker, at the node
+abbrev pub IsMade : {V : Type 0} → NodeTree → Result V causes.WasmValueError → Result V ParserError → Type 0
+IsMade n (Ok v) (Ok w) = w ≡ v
+IsMade n (Err cause) (Err e) = (refusal_of e ≡ refused_by (cause_of cause)) × (e.span ≡ place_of n)
+IsMade n _ _ = ⊥
+
+module _ {V : Type 0} (tree : V → Value) (of : V → TypeTree → Type 0) (Full : TypeTree → Type 0) where
+  -- the value of the node's tree at the type, or a refusal of it
+  abbrev pub Answers : TypeTree → List ℕ → NodeTree → Result V ParserError → Type 0
+  Answers T source n r = (t : Placed) → IsNodeOf source n t → HasDistinctNames T → MatchResult r (IsRead tree of T t) (IsBlamed Full T t)
+
+  -- so, and a fault stands only where the type gives the tree no value
+  abbrev pub Reads : TypeTree → List ℕ → NodeTree → Result V ParserError → Type 0
+  Reads T source n r = (t : Placed) → IsNodeOf source n t → HasDistinctNames T → MatchResult r (IsRead tree of T t) (IsRefused Full T t)
+
+-- the types that are read so far
+abbrev pub IsServed : TypeTree → Type 0
+IsServed (type.simple type.bool) = Unit {0}
+IsServed (type.simple (type.whole which)) = Unit {0}
+IsServed (type.unreadable kind) = Unit {0}
+IsServed (type.fixed E n) = Unit {0}
+IsServed (type.list E) = IsServed E
+IsServed (type.option P) = IsServed P
+IsServed (type.enum names) = Unit {0}
+IsServed _ = ⊥

@@ -1,0 +1,259 @@
+//! Nodes of the untyped tree.
+ghost use Rattle.std.specs.Prelude.{◌≡◌, [], IfOk, IsTrue, ◌↔◌};
+ghost use Rattle.wave_wasm.specs.Causes.{cause_of};
+ghost use Rattle.wave_lex.specs.Lexing.{Stands};
+ghost use Rattle.wave_lex.specs.Errors.{refusal_of, refused_by};
+ghost use Rattle.wave_tree.specs.NodeTree.{node, node_trees, type_of, place_of, children_of};
+ghost use Rattle.wave_tree.specs.Nodes.{IsParsedFrom};
+ghost use Rattle.wave_tree.specs.Answers.{text_at, RefusedAs, OfType, GivesBool, GivesNumber, GivesNodes, GivesOption, GivesResult, GivesLabel, GivesVariant};
+
+use crate::number::WholeNumber;
+use crate::word::label_name;
+use std::alloc::{AllocError, Global};
+use std::marker::Model;
+use wave_lex::error::{ParserError, ParserErrorKind};
+use wave_lex::lex::Span;
+use wave_wasm::wasm::WasmValueError;
+
+/// What a node spells.
+#[derive(Clone, Copy, Debug, PartialEq, Eq)]
+pub enum NodeType {
+    BoolTrue,
+    BoolFalse,
+    Number,
+    Char,
+    String,
+    MultilineString,
+    Tuple,
+    List,
+    TupleSet,
+    EmptySet,
+    Label,
+    VariantWithPayload,
+    OptionSome,
+    OptionNone,
+    ResultOk,
+    ResultErr,
+    Flags,
+}
+
+/// A part of a parsed text: its type, the bytes of the source where it stands, and the nodes
+/// within it.
+#[derive(Debug, Drop)]
+pub struct Node {
+    ty: NodeType,
+    span: Span,
+    children: Vec<Node>,
+}
+
+impl Model for Node {
+    ghost use Rattle.wave_tree.specs.NodeTree.{NodeTree, node, node_trees, depth};
+    ghost use Rattle.wave_tree.specs.NodeTreeCode.{node_code};
+
+    ghost Value = { NodeTree };
+
+    ghost coded = { node_code };
+
+    ghost view = { λ n. node n.ty n.span (node_trees n.children.items) };
+
+    ghost size = { depth };
+
+    ghost use Rattle.std.proofs.Common.{arith};
+    ghost use Rattle.wave_tree.specs.NodeFalls.{most_le-nodes_depth};
+
+    ghost size_decreases = { λ a h. omega (arith, most_le-nodes_depth a.children.items) };
+}
+
+impl Node {
+    /// A node without children.
+    pub(crate) fn leaf(alloc: Global, ty: NodeType, span: Span) -> Node
+        ensures { result ≡ node ty span (node_trees []) }
+    {
+        Node {
+            ty,
+            span,
+            children: Vec::new(alloc),
+        }
+    }
+
+    /// A node of these children.
+    pub(crate) fn new(ty: NodeType, span: Span, children: Vec<Node>) -> Node
+        ensures { result ≡ node ty span (node_trees children.items) }
+    {
+        Node { ty, span, children }
+    }
+
+    /// What the node spells.
+    pub fn ty(&self) -> NodeType
+        ensures { result ≡ type_of self.now }
+    {
+        self.ty
+    }
+
+    /// The bytes of the source where the node stands, from its first token to its last.
+    pub fn span(&self) -> Span
+        ensures { result ≡ place_of self.now }
+    {
+        self.span.start..self.span.end
+    }
+
+    /// An equal node.
+    #[cycle(clone)]
+    pub fn clone(&self, alloc: Global) -> Result<Node, AllocError>
+        ensures { IfOk result (λ n. n ≡ self.now) }
+    {
+        let children = clone_nodes(alloc, &self.children)?;
+        Ok(Node::new(self.ty, self.span(), children))
+    }
+
+    /// The bool, at a node of one of the two types of bools; else `InvalidType`.
+    pub fn as_bool(&self) -> Result<bool, ParserError>
+        ensures { GivesBool self.now result }
+    {
+        match self.ty {
+            NodeType::BoolTrue => Ok(true),
+            NodeType::BoolFalse => Ok(false),
+            _ => Err(self.error(ParserErrorKind::InvalidType)),
+        }
+    }
+
+    /// The number, at a number node; else `InvalidType`. A number with a fraction or an exponent,
+    /// a word, a `-` at an unsigned type and a number that is too great are `InvalidValue`. The
+    /// node was parsed from `src`.
+    pub fn as_number<T: WholeNumber>(&self, src: &str) -> Result<T, ParserError>
+        requires { IsParsedFrom src.now self.now }
+        ensures { GivesNumber T.kind T.number src.now self.now result }
+    {
+        self.ensure_type(NodeType::Number)?;
+        match T::from_text(self.slice(src)) {
+            Some(number) => Ok(number),
+            None => Err(self.error(ParserErrorKind::InvalidValue)),
+        }
+    }
+
+    /// The items, at a tuple node; else `InvalidType`.
+    pub fn as_tuple(&self) -> Result<&[Node], ParserError>
+        ensures { GivesNodes NodeType.Tuple self.now result }
+    {
+        self.ensure_type(NodeType::Tuple)?;
+        Ok(self.nodes())
+    }
+
+    /// The items, at a list node; else `InvalidType`.
+    pub fn as_list(&self) -> Result<&[Node], ParserError>
+        ensures { GivesNodes NodeType.List self.now result }
+    {
+        self.ensure_type(NodeType::List)?;
+        Ok(self.nodes())
+    }
+
+    /// The name of the case, without its `%`, and its payload, at a label and at a case with a
+    /// payload; else `InvalidType`. The node was parsed from `src`.
+    pub fn as_variant<'this, 'src>(
+        &'this self,
+        src: &'src str,
+    ) -> Result<(&'src str, Option<&'this Node>), ParserError>
+        requires { IsParsedFrom src.now self.now }
+        ensures { GivesVariant src.now self.now result }
+    {
+        if self.is_of(NodeType::VariantWithPayload) {
+            let nodes = self.nodes();
+            let label = &nodes[0];
+            let payload = &nodes[1];
+            return Ok((label_name(label.slice(src)), Some(payload)));
+        }
+        let name = self.as_enum(src)?;
+        Ok((name, None))
+    }
+
+    /// The name, without its `%`, at a label; else `InvalidType`. The node was parsed from `src`.
+    pub fn as_enum<'src>(&self, src: &'src str) -> Result<&'src str, ParserError>
+        requires { IsParsedFrom src.now self.now }
+        ensures { GivesLabel src.now self.now result }
+    {
+        self.ensure_type(NodeType::Label)?;
+        Ok(label_name(self.slice(src)))
+    }
+
+    /// The payload, at `some`, and None at `none`; else `InvalidType`.
+    pub fn as_option(&self) -> Result<Option<&Node>, ParserError>
+        ensures { GivesOption self.now result }
+    {
+        match self.ty {
+            NodeType::OptionSome => Ok(self.nodes().first()),
+            NodeType::OptionNone => Ok(None),
+            _ => Err(self.error(ParserErrorKind::InvalidType)),
+        }
+    }
+
+    /// The payload, where there is one, at `ok` and at `err`; else `InvalidType`.
+    pub fn as_result(&self) -> Result<Result<Option<&Node>, Option<&Node>>, ParserError>
+        ensures { GivesResult self.now result }
+    {
+        match self.ty {
+            NodeType::ResultOk => Ok(Ok(self.nodes().first())),
+            NodeType::ResultErr => Ok(Err(self.nodes().first())),
+            _ => Err(self.error(ParserErrorKind::InvalidType)),
+        }
+    }
+
+    /// The nodes within the node.
+    fn nodes(&self) -> &[Node]
+        ensures { result.now ≡ children_of self.now }
+    {
+        self.children.as_slice()
+    }
+
+    /// The source at the node.
+    fn slice<'src>(&self, src: &'src str) -> &'src str
+        requires { IsParsedFrom src.now self.now }
+        ensures { result.now ≡ text_at src.now self.now }
+    {
+        &src[self.span()]
+    }
+
+    /// Refuses a node of another type.
+    fn ensure_type(&self, ty: NodeType) -> Result<(), ParserError>
+        ensures { OfType ty self.now result }
+    {
+        if self.is_of(ty) {
+            Ok(())
+        } else {
+            Err(self.error(ParserErrorKind::InvalidType))
+        }
+    }
+
+    /// Whether the node is of this type.
+    fn is_of(&self, ty: NodeType) -> bool
+        ensures { IsTrue result ↔ (type_of self.now ≡ ty) }
+    {
+        self.ty == ty
+    }
+
+    /// A refusal of this kind at the node.
+    fn error(&self, kind: ParserErrorKind) -> ParserError
+        ensures { RefusedAs kind self.now result }
+    {
+        ParserError::new(kind, self.span())
+    }
+
+    /// The refusal of a value's maker at the node.
+    pub(crate) fn refused(&self, cause: WasmValueError) -> ParserError
+        ensures refusal { refusal_of result ≡ refused_by (cause_of cause) }
+        ensures span { result.span ≡ place_of self.now }
+    {
+        ParserError::with_cause(self.span(), cause)
+    }
+}
+
+/// Equal nodes, in the same order.
+#[cycle(clone)]
+fn clone_nodes(alloc: Global, nodes: &Vec<Node>) -> Result<Vec<Node>, AllocError>
+    ensures { IfOk result (λ ns. ns.items ≡ nodes.now.items) }
+{
+    let mut copies = Vec::new(alloc);
+    for node in nodes {
+        copies.push(node.clone(alloc)?)?;
+    }
+    Ok(copies)
+}

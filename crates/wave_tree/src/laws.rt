@@ -1,0 +1,77 @@
+//! Laws of the definitions.
+ghost use Rattle.wave_wasm.specs.Types.{TypeTree, HasDistinctNames};
+ghost use Rattle.wave_tree.specs.Laws.{OneReading};
+ghost use Rattle.wave_tree.specs.TreeLaws.{OneTree, HasItsLevels, ReadsByTree, TreeIsRead};
+ghost use Rattle.wave_tree.specs.AnswerLaws.{ReadHaveATree, RefusedHaveNone};
+ghost use Rattle.wave_tree.specs.BeginLaws.{TreesAreLed, LedTokensHaveATree, FrontsAreLed, LedTokensBeginATree};
+ghost use Rattle.wave_tree.specs.BeginLaws.{RefusedTokensBeginNone, UnexpectedTokensBeginNone};
+ghost use Rattle.wave_tree.specs.BeginLaws.{EmptyTuplesAreEmpty, RepeatedFlagsAreRepeated, DeepValuesAreDeep};
+
+/// No tokens spell two values of a type whose names are distinct, nor does a spelling begin another.
+pub fn one_reading()
+    ensures { (T : TypeTree) → HasDistinctNames T → OneReading T }
+{}
+
+/// No tokens begin with two trees, nor with one tree that ends at two places.
+pub fn one_tree()
+    ensures { OneTree }
+{}
+
+/// A tree stands within its own levels and within any more, and within no fewer.
+pub fn levels_are_exact()
+    ensures { HasItsLevels }
+{}
+
+/// Tokens before no `(` spell a value of a type exactly where they are a tree to which the type gives it.
+pub fn reading_is_by_tree()
+    ensures through { (T : TypeTree) → ReadsByTree T }
+    ensures back { (T : TypeTree) → TreeIsRead T }
+{}
+
+/// The tokens of a tree lead, within its levels, from where a value is due to its end.
+pub fn trees_are_led()
+    ensures { TreesAreLed }
+{}
+
+/// Tokens that lead from where a value is due to its end are those of a tree, within the same levels.
+pub fn led_tokens_have_a_tree()
+    ensures { LedTokensHaveATree }
+{}
+
+/// Every front of the tokens of a tree is led, within the tree's levels.
+pub fn fronts_are_led()
+    ensures { FrontsAreLed }
+{}
+
+/// Tokens that are led go on as those of a tree, with one level more at most.
+pub fn led_tokens_begin_a_tree()
+    ensures { LedTokensBeginATree }
+{}
+
+/// Tokens that are led, with a token behind them that is refused there, begin no tree.
+pub fn refused_tokens_begin_none()
+    ensures { RefusedTokensBeginNone }
+{}
+
+/// Tokens that are led, with an unexpected token behind them, begin no tree, whatever else might be refused in it.
+pub fn unexpected_tokens_begin_none()
+    ensures { UnexpectedTokensBeginNone }
+{}
+
+/// A token refused for an empty tuple closes one, one refused as repeated names a flag again, and one
+/// refused for its depth stands where a value is due and no level is left.
+pub fn refusals_are_of_their_kind()
+    ensures empty { EmptyTuplesAreEmpty }
+    ensures repeated { RepeatedFlagsAreRepeated }
+    ensures deep { DeepValuesAreDeep }
+{}
+
+/// Where a parser has read a value stands a tree, and its tokens are taken.
+pub fn read_values_have_a_tree()
+    ensures { ReadHaveATree }
+{}
+
+/// Where a parser has refused a value, memory apart, no tree stands.
+pub fn refused_values_have_none()
+    ensures { RefusedHaveNone }
+{}

@@ -1,0 +1,10 @@
+//! Trees of values, read from texts.
+#![tactic(auto)]
+
+mod ahead;
+pub mod ast;
+pub mod laws;
+pub mod number;
+pub mod parser;
+mod typed;
+mod word;

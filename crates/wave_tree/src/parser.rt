@@ -1,0 +1,586 @@
+//! The parser of values.
+ghost use Rattle.std.specs.Prelude.{◌≡◌, ◌≢◌, ◌↔◌, ℕ, ◌+◌, ◌-◌, ◌≤◌, Some, None, Ok, Err, IfOk, IfErr, MatchResult, IsTrue, length, List, [], ◌∷◌};
+ghost use Rattle.wave_lex.specs.declared.lex.Token as lex;
+ghost use Rattle.wave_lex.specs.declared.lex.Token.TheVariants as lex_class;
+ghost use Rattle.wave_lex.specs.declared.error.ParserErrorKind.TheVariants as kind;
+ghost use Rattle.wave_lex.specs.Errors.{class_name, repeated_name};
+ghost use Rattle.wave_tree.specs.Place.{Place, Takes, TakesAny, IsSomething, span_at, text_at};
+ghost use Rattle.wave_tree.specs.Tree.{word_of};
+ghost use Rattle.wave_tree.specs.Due.{Form, due_behind};
+ghost use Rattle.wave_tree.specs.Due as due;
+ghost use Rattle.wave_tree.specs.Refusals.{Gives, GivesWithin, GivesAnywhere, Says};
+ghost use Rattle.wave_lex.specs.Lexing.{span, remainder_of};
+ghost use Rattle.wave_tree.specs.FromText.{IsValueTaken, RefusesValue, IsMeant, RefusesText};
+ghost use Rattle.wave_tree.specs.Word.{form_of, IsClose};
+ghost use Rattle.std.specs.BTreeMap.{values};
+ghost use Rattle.wave_tree.specs.NodeTree.{node, no_nodes, node_trees};
+ghost use Rattle.wave_tree.specs.declared.ast.NodeType.TheVariants as node_type;
+ghost use Rattle.wave_tree.specs.Parsed.{IsNodeTaken, IsParsed, IsParsedBehind, IsMaybe, IsPayload, IsOfItems, IsOfEntries, IsOfFlags, label_children};
+ghost use Rattle.wave_tree.specs.Parsing.{Parsing, ahead_count, IsAhead, first_at, front_of, Advances, Expects, Finishes, StaysWithout};
+
+use crate::ahead::Ahead;
+use crate::ast::{Node, NodeType};
+use crate::word::{Word, class_name, key_type, label_name, word_of};
+use std::alloc::Global;
+use std::collections::BTreeMap;
+use std::marker::Model;
+use wave_lex::asked::Asked;
+pub use wave_lex::error::{ParserError, ParserErrorKind};
+use wave_lex::lex::{Lexer, Span, Token};
+use wave_wasm::wasm::WasmValue;
+
+/// Whether the item is a token of this class.
+fn is_token(item: &Option<Result<Token, Span>>, class: Token) -> bool
+    ensures { IsTrue result ↔ (item.now ≡ Some (Ok class)) }
+{
+    match item {
+        Some(Ok(token)) => *token == class,
+        _ => false,
+    }
+}
+
+/// The refusal of an item that is no end.
+fn trailing(item: &Option<Result<Token, Span>>, behind: &Lexer) -> Result<(), ParserError>
+    ensures end { IfOk result (λ _. item.now ≡ None) }
+    ensures refused { IfErr result (λ e. Says e kind.TrailingCharacters (span behind.now.start behind.now.end) None × IsSomething item.now) }
+{
+    match item {
+        None => Ok(()),
+        Some(_) => Err(ParserError::new(ParserErrorKind::TrailingCharacters, behind.span())),
+    }
+}
+
+fn is_memory(k: ParserErrorKind) -> bool
+    ensures { IsTrue result ↔ (k ≡ kind.OutOfMemory) }
+{
+    k == ParserErrorKind::OutOfMemory
+}
+
+fn same(a: Token, b: Token) -> bool
+    ensures { IsTrue result ↔ (a ≡ b) }
+{
+    a == b
+}
+
+/// Reads values from a source, one after the other, and looks at most one item ahead.
+#[derive(Drop)]
+pub struct Parser<'source> {
+    lexer: Lexer<'source>,
+    ahead: Option<Ahead<'source>>,
+    asked: Asked,
+}
+
+impl<'source> Model for Parser<'source> {
+    ghost Value = { Parsing };
+
+    ghost view = { λ p. record { place = record { lexer = p.lexer; taken = p.asked.count - ahead_count p.ahead }; ahead = ahead_count p.ahead } };
+
+    ghost invariant = { λ p. IsAhead p.lexer p.ahead × (ahead_count p.ahead ≤ p.asked.count) };
+}
+
+impl<'source> Parser<'source> {
+    /// A parser in front of the source.
+    pub fn new(source: &'source str) -> Self
+        ensures { result ≡ first_at (front_of source.now) }
+    {
+        Parser::with_lexer(Lexer::new(source))
+    }
+
+    /// A parser that begins where the lexer stands.
+    pub fn with_lexer(lexer: Lexer<'source>) -> Self
+        ensures { result ≡ first_at lexer.entry }
+    {
+        Parser {
+            lexer,
+            ahead: None,
+            asked: Asked::new(),
+        }
+    }
+
+    fn span(&self) -> Span
+        ensures { result ≡ span_at self.now.place }
+    {
+        self.lexer.span()
+    }
+
+    fn slice(&self) -> &'source str
+        ensures { result.now ≡ text_at self.now.place }
+    {
+        self.lexer.slice()
+    }
+
+    /// Takes the next item.
+    fn take(&mut self) -> Option<Result<Token, Span>>
+        ensures { Takes self.old.place result self.new.place }
+    {
+        match self.ahead.take() {
+            Some(ahead) => {
+                self.lexer = ahead.lexer;
+                ahead.item
+            }
+            None => self.lexer.next_ticked(&mut self.asked),
+        }
+    }
+
+    /// Looks at the next item, which stays.
+    fn look(&mut self)
+        ensures stays { self.new.place ≡ self.old.place }
+        ensures looks { self.new.ahead ≡ 1 }
+    {
+        if self.ahead.is_none() {
+            let mut lexer = self.lexer.clone();
+            let item = lexer.next_ticked(&mut self.asked);
+            self.ahead = Some(Ahead { item, lexer });
+        }
+    }
+
+    /// Whether a token of this class stands next.
+    fn next_is(&mut self, class: Token) -> bool
+        ensures stays { self.new.place ≡ self.old.place }
+        ensures answer { IsTrue result ↔ ((next : Place) × Takes self.old.place (Some (Ok class)) next) }
+    {
+        self.look();
+        match &self.ahead {
+            Some(ahead) => is_token(&ahead.item, class),
+            None => false,
+        }
+    }
+
+    /// Takes the next token.
+    fn advance(&mut self) -> Result<Token, ParserError>
+        ensures { Advances result self.old.place self.new.place }
+    {
+        match self.take() {
+            Some(Ok(token)) => Ok(token),
+            Some(Err(span)) => Err(ParserError::new(ParserErrorKind::InvalidToken, span)),
+            None => Err(ParserError::new(ParserErrorKind::UnexpectedEnd, self.span())),
+        }
+    }
+
+    /// Takes the next token, which has to be of this class.
+    fn expect(&mut self, class: Token) -> Result<(), ParserError>
+        ensures { Expects class result self.old.place self.new.place }
+    {
+        let token = self.advance()?;
+        if same(token, class) {
+            Ok(())
+        } else {
+            Err(self.unexpected(token))
+        }
+    }
+
+    /// The refusal of the token of this class, which was taken last.
+    fn unexpected(&self, token: Token) -> ParserError
+        ensures { Says result kind.UnexpectedToken (span_at self.now.place) (Some (class_name token)) }
+    {
+        ParserError::with_static(
+            ParserErrorKind::UnexpectedToken,
+            self.span(),
+            class_name(token),
+        )
+    }
+
+    /// The refusal of the label of this name, which was taken last.
+    fn repeated(&self, alloc: Global, name: &str) -> ParserError
+        ensures { let detail = Some (repeated_name name.now) in
+            result.kind ≢ kind.OutOfMemory → Says result kind.DuplicateFlag (span_at self.now.place) detail }
+    {
+        match format!(in alloc; "\"{name}\"") {
+            Ok(detail) => ParserError::with_detail(
+                ParserErrorKind::DuplicateFlag,
+                self.span(),
+                detail,
+            ),
+            Err(_) => self.out_of_memory(),
+        }
+    }
+
+    fn out_of_memory(&self) -> ParserError
+        ensures { Says result kind.OutOfMemory (span_at self.now.place) None }
+    {
+        ParserError::new(ParserErrorKind::OutOfMemory, self.span())
+    }
+
+    /// A node of the last token.
+    fn leaf(&self, alloc: Global, ty: NodeType) -> Node
+        ensures { result ≡ node ty (span_at self.now.place) no_nodes }
+    {
+        Node::leaf(alloc, ty, self.span())
+    }
+
+    /// A node from `start` to the last token.
+    fn node(&self, ty: NodeType, start: usize, children: Vec<Node>) -> Node
+        ensures { result ≡ node ty (span start self.now.place.lexer.end) (node_trees children.items) }
+    {
+        Node::new(ty, start..self.span().end, children)
+    }
+
+    /// What is left of the source.
+    fn remainder(&self) -> &'source str
+        ensures { result.now ≡ remainder_of self.now.place.lexer }
+    {
+        self.lexer.remainder()
+    }
+
+    /// Goes back to where the lexer stood, and refuses for want of memory there.
+    fn go_back(&mut self, lexer: Lexer<'source>) -> ParserError
+        ensures back { self.new.place.lexer ≡ lexer.entry }
+        ensures refusal { Says result kind.OutOfMemory (span_at self.new.place) None }
+    {
+        self.lexer = lexer;
+        self.ahead = None;
+        self.out_of_memory()
+    }
+
+    /// Reads a value without a type. After a value the parser stands behind it, after a refusal at
+    /// the end of the refusal's span; after want of memory it stands where it stood.
+    pub fn parse_raw_value(&mut self, alloc: Global) -> Result<Node, ParserError>
+        ensures value { Gives result 100 due.value [] self.old.place self.new.place [] }
+        ensures tree { IfOk result (IsNodeTaken self.old.place self.new.place) }
+        ensures memory { IfErr result (λ e. StaysWithout e self.old.place self.new.place) }
+    {
+        let place = self.lexer.clone();
+        let _ = self.remainder();
+        match self.parse_node(alloc, 100) {
+            Ok(node) => Ok(node),
+            Err(error) => {
+                if !is_memory(error.kind()) {
+                    return Err(error);
+                }
+                Err(self.go_back(place))
+            }
+        }
+    }
+
+    /// Reads a value of the type. After a value the parser stands behind it, and so it does where
+    /// the type gives what was read no value; after any other refusal it stands at the end of the
+    /// refusal's span, and after want of memory where it stood.
+    pub fn parse_value<V: WasmValue>(
+        &mut self,
+        alloc: Global,
+        ty: &V::Type,
+    ) -> Result<V, ParserError>
+        ensures value { IfOk result (IsValueTaken V.tree V.is_of (V.Type.tree ty.now) self.old.place self.new.place) }
+        ensures refused { IfErr result (λ e. RefusesValue V.is_full (V.Type.tree ty.now) e self.old.place self.new.place) }
+        ensures memory { IfErr result (λ e. StaysWithout e self.old.place self.new.place) }
+    {
+        let place = self.lexer.clone();
+        let source = self.lexer.source();
+        let node = self.parse_raw_value(alloc)?;
+        match node.to_wasm_value(alloc, ty, source) {
+            Ok(value) => Ok(value),
+            Err(error) => {
+                if !is_memory(error.kind()) {
+                    return Err(error);
+                }
+                Err(self.go_back(place))
+            }
+        }
+    }
+
+    /// Whether only a gap is left. The parser stays where it is; what stands next is refused as
+    /// `TrailingCharacters` at its span.
+    pub fn finish(&mut self) -> Result<(), ParserError>
+        ensures stays { self.new.place ≡ self.old.place }
+        ensures answer { Finishes result self.old.place }
+    {
+        self.look();
+        match &self.ahead {
+            Some(ahead) => trailing(&ahead.item, &ahead.lexer),
+            None => Ok(()),
+        }
+    }
+
+    /// Reads a value.
+    #[cycle(parser)]
+    fn parse_node(&mut self, alloc: Global, levels: u32) -> Result<Node, ParserError>
+        ensures led { GivesWithin result levels due.value [] self.old.place self.new.place }
+        ensures tree { IfOk result (IsParsed levels self.old.place self.new.place) }
+    {
+        if levels == 0 {
+            return Err(ParserError::new(ParserErrorKind::NestingTooDeep, self.span()));
+        }
+        let token = self.advance()?;
+        match token {
+            Token::Number => Ok(self.leaf(alloc, NodeType::Number)),
+            Token::Char => Ok(self.leaf(alloc, NodeType::Char)),
+            Token::String => Ok(self.leaf(alloc, NodeType::String)),
+            Token::MultilineString => Ok(self.leaf(alloc, NodeType::MultilineString)),
+            Token::LabelOrKeyword => self.parse_label(alloc, levels - 1),
+            Token::ParenOpen => self.parse_items(alloc, levels - 1, Token::ParenClose),
+            Token::BracketOpen => self.parse_items(alloc, levels - 1, Token::BracketClose),
+            Token::BraceOpen => self.parse_braces(alloc, levels - 1),
+            _ => Err(self.unexpected(token)),
+        }
+    }
+
+    /// Reads what stands behind a label that is due to be a value.
+    #[cycle(parser)]
+    fn parse_label(&mut self, alloc: Global, levels: u32) -> Result<Node, ParserError>
+        ensures led { let d = due_behind (word_of (text_at self.old.place)) in
+            GivesWithin result (levels + 1) d [] self.old.place self.new.place }
+        ensures tree { IfOk result (IsParsedBehind lex_class.LabelOrKeyword (levels + 1) self.old.place self.new.place) }
+    {
+        match word_of(self.slice()) {
+            Word::True => Ok(self.leaf(alloc, NodeType::BoolTrue)),
+            Word::False => Ok(self.leaf(alloc, NodeType::BoolFalse)),
+            Word::Number => Ok(self.leaf(alloc, NodeType::Number)),
+            Word::None => Ok(self.leaf(alloc, NodeType::OptionNone)),
+            Word::Some => {
+                let start = self.span().start;
+                self.expect(Token::ParenOpen)?;
+                self.parse_payload(alloc, levels, NodeType::OptionSome, start, Vec::new(alloc))
+            }
+            Word::Ok => self.parse_maybe(alloc, levels, NodeType::ResultOk, NodeType::ResultOk),
+            Word::Err => self.parse_maybe(alloc, levels, NodeType::ResultErr, NodeType::ResultErr),
+            Word::Case => self.parse_maybe(
+                alloc,
+                levels,
+                NodeType::Label,
+                NodeType::VariantWithPayload,
+            ),
+        }
+    }
+
+    /// Reads the payload behind a label, where an open parenthesis stands there.
+    #[cycle(parser)]
+    fn parse_maybe(
+        &mut self,
+        alloc: Global,
+        levels: u32,
+        alone: NodeType,
+        with: NodeType,
+    ) -> Result<Node, ParserError>
+        ensures led { GivesWithin result (levels + 1) due.behind_label [] self.old.place self.new.place }
+        ensures tree { IfOk result (IsMaybe levels alone with self.old.place self.new.place) }
+    {
+        let start = self.span().start;
+        if !self.next_is(Token::ParenOpen) {
+            return Ok(self.leaf(alloc, alone));
+        }
+        let front = self.label_children(alloc, with)?;
+        self.expect(Token::ParenOpen)?;
+        self.parse_payload(alloc, levels, with, start, front)
+    }
+
+    /// The label of a case, which was taken last, as the first child of its node; none for other
+    /// nodes.
+    fn label_children(&self, alloc: Global, ty: NodeType) -> Result<Vec<Node>, ParserError>
+        ensures made { IfOk result (λ v. v.items ≡ label_children ty (span_at self.now.place)) }
+        ensures memory { IfErr result (λ e. e.kind ≡ kind.OutOfMemory) }
+    {
+        let mut children = Vec::new(alloc);
+        if let NodeType::VariantWithPayload = ty {
+            let label = self.leaf(alloc, NodeType::Label);
+            if children.push(label).is_err() {
+                return Err(self.out_of_memory());
+            }
+        }
+        Ok(children)
+    }
+
+    /// Reads a value and the close parenthesis behind it, in a node behind these children.
+    #[cycle(parser)]
+    fn parse_payload(
+        &mut self,
+        alloc: Global,
+        levels: u32,
+        ty: NodeType,
+        start: usize,
+        front: Vec<Node>,
+    ) -> Result<Node, ParserError>
+        ensures led { GivesWithin result (levels + 1) due.value (due.payload ∷ []) self.old.place self.new.place }
+        ensures tree { IfOk result (IsPayload levels ty start front.items self.old.place self.new.place) }
+    {
+        let payload = self.parse_node(alloc, levels)?;
+        self.expect(Token::ParenClose)?;
+        let mut children = front;
+        match children.push(payload) {
+            Ok(()) => Ok(self.node(ty, start, children)),
+            Err(_) => Err(self.out_of_memory()),
+        }
+    }
+
+    /// Reads the items of a tuple or a list, and its close.
+    #[cycle(parser)]
+    fn parse_items(&mut self, alloc: Global, levels: u32, close: Token) -> Result<Node, ParserError>
+        requires { IsClose close }
+        ensures led { GivesWithin result (levels + 1) due.first_item (form_of close ∷ []) self.old.place self.new.place }
+        ensures tree { IfOk result (IsOfItems levels close self.old.place self.new.place) }
+    {
+        let start = self.span().start;
+        let mut items = Vec::new(alloc);
+        if self.next_is(close) {
+            self.expect(close)?;
+            if same(close, Token::ParenClose) {
+                return Err(ParserError::new(ParserErrorKind::EmptyTuple, start..self.span().end));
+            }
+            return Ok(self.node(NodeType::List, start, items));
+        }
+        let ty = if same(close, Token::ParenClose) {
+            NodeType::Tuple
+        } else {
+            NodeType::List
+        };
+        'items: loop {
+            let item = self.parse_node(alloc, levels)?;
+            if items.push(item).is_err() {
+                return Err(self.out_of_memory());
+            }
+            let token = self.advance()?;
+            if same(token, close) {
+                return Ok(self.node(ty, start, items));
+            }
+            if !same(token, Token::Comma) {
+                return Err(self.unexpected(token));
+            }
+            if self.next_is(close) {
+                self.expect(close)?;
+                return Ok(self.node(ty, start, items));
+            }
+        }
+    }
+
+    /// Reads what stands behind an open brace.
+    #[cycle(parser)]
+    fn parse_braces(&mut self, alloc: Global, levels: u32) -> Result<Node, ParserError>
+        ensures led { GivesWithin result (levels + 1) due.in_braces [] self.old.place self.new.place }
+        ensures tree { IfOk result (IsParsedBehind lex_class.BraceOpen (levels + 1) self.old.place self.new.place) }
+    {
+        let start = self.span().start;
+        let token = self.advance()?;
+        if same(token, Token::BraceClose) {
+            return Ok(self.node(NodeType::EmptySet, start, Vec::new(alloc)));
+        }
+        if same(token, Token::Colon) {
+            self.expect(Token::BraceClose)?;
+            return Ok(self.node(NodeType::TupleSet, start, Vec::new(alloc)));
+        }
+        if same(token, Token::LabelOrKeyword) {
+            if self.next_is(Token::Colon) {
+                let key = self.leaf(alloc, NodeType::Label);
+                self.expect(Token::Colon)?;
+                return self.parse_entries(alloc, levels, start, key);
+            }
+            return self.parse_flags(alloc, start);
+        }
+        let Some(ty) = key_type(token) else {
+            return Err(self.unexpected(token));
+        };
+        let key = self.leaf(alloc, ty);
+        self.expect(Token::Colon)?;
+        self.parse_entries(alloc, levels, start, key)
+    }
+
+    /// Reads the value behind the first key, the further entries and the close.
+    #[cycle(parser)]
+    fn parse_entries(
+        &mut self,
+        alloc: Global,
+        levels: u32,
+        start: usize,
+        key: Node,
+    ) -> Result<Node, ParserError>
+        ensures led { GivesWithin result (levels + 1) due.value (due.entries ∷ []) self.old.place self.new.place }
+        ensures tree { IfOk result (IsOfEntries levels start key self.old.place self.new.place) }
+    {
+        let mut children = Vec::new(alloc);
+        if children.push(key).is_err() {
+            return Err(self.out_of_memory());
+        }
+        'entries: loop {
+            let value = self.parse_node(alloc, levels)?;
+            if children.push(value).is_err() {
+                return Err(self.out_of_memory());
+            }
+            let token = self.advance()?;
+            if same(token, Token::BraceClose) {
+                return Ok(self.node(NodeType::TupleSet, start, children));
+            }
+            if !same(token, Token::Comma) {
+                return Err(self.unexpected(token));
+            }
+            let next = self.advance()?;
+            if same(next, Token::BraceClose) {
+                return Ok(self.node(NodeType::TupleSet, start, children));
+            }
+            let Some(ty) = key_type(next) else {
+                return Err(self.unexpected(next));
+            };
+            let key = self.leaf(alloc, ty);
+            self.expect(Token::Colon)?;
+            if children.push(key).is_err() {
+                return Err(self.out_of_memory());
+            }
+        }
+    }
+
+    /// Reads the flags behind the first, which was read, and the close.
+    fn parse_flags(&mut self, alloc: Global, start: usize) -> Result<Node, ParserError>
+        requires { (next : Place) → Takes self.old.place (Some (Ok lex_class.Colon)) next → ⊥ }
+        ensures led { GivesAnywhere result (due.behind_word (text_at self.old.place)) self.old.place self.new.place }
+        ensures tree { IfOk result (IsOfFlags start self.old.place self.new.place) }
+    {
+        let mut flags = BTreeMap::new(alloc);
+        if flags
+            .insert(label_name(self.slice()), self.leaf(alloc, NodeType::Label))
+            .is_err()
+        {
+            return Err(self.out_of_memory());
+        }
+        'flags: loop {
+            let token = self.advance()?;
+            if same(token, Token::BraceClose) {
+                return self.flags_node(alloc, start, flags);
+            }
+            if !same(token, Token::Comma) {
+                return Err(self.unexpected(token));
+            }
+            let next = self.advance()?;
+            if same(next, Token::BraceClose) {
+                return self.flags_node(alloc, start, flags);
+            }
+            if !same(next, Token::LabelOrKeyword) {
+                return Err(self.unexpected(next));
+            }
+            let name = label_name(self.slice());
+            if flags.contains_key(name) {
+                return Err(self.repeated(alloc, name));
+            }
+            if flags
+                .insert(name, self.leaf(alloc, NodeType::Label))
+                .is_err()
+            {
+                return Err(self.out_of_memory());
+            }
+        }
+    }
+
+    /// The node of the flags, in the order of their names.
+    fn flags_node(
+        &self,
+        alloc: Global,
+        start: usize,
+        flags: BTreeMap<&'source str, Node>,
+    ) -> Result<Node, ParserError>
+        ensures node { IfOk result (λ n. n ≡ node node_type.Flags (span start self.now.place.lexer.end) (node_trees (values flags.entry))) }
+        ensures memory { IfErr result (λ e. e.kind ≡ kind.OutOfMemory) }
+    {
+        match flags.into_values().collect(alloc) {
+            Ok(children) => Ok(self.node(NodeType::Flags, start, children)),
+            Err(_) => Err(self.out_of_memory()),
+        }
+    }
+}
+
+/// The value of the type that the whole text means. A syntax fault of the value is answered before
+/// any fault of type, and a fault of type before `TrailingCharacters`.
+pub fn from_str<V: WasmValue>(alloc: Global, ty: &V::Type, s: &str) -> Result<V, ParserError>
+    ensures value { IfOk result (IsMeant V.tree V.is_of (V.Type.tree ty.now) s.now) }
+    ensures refused { IfErr result (RefusesText V.is_full (V.Type.tree ty.now) s.now) }
+{
+    let mut parser = Parser::new(s);
+    let value = parser.parse_value::<V>(alloc, ty)?;
+    parser.finish()?;
+    Ok(value)
+}

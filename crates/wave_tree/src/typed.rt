@@ -1,0 +1,208 @@
+//! Reading nodes at types.
+ghost use Rattle.std.specs.Prelude.{ℕ, List, [], ◌∷◌, ◌++◌, ◌≡◌, ◌≢◌, ◌⊎◌, ◌↔◌, IsTrue, OnOk, IfErr};
+ghost use Rattle.wave_wasm.specs.Types.{kind_of, whole_kind, Whole};
+ghost use Rattle.wave_wasm.specs.Types as type;
+ghost use Rattle.wave_wasm.specs.Shown.{texts};
+ghost use Rattle.wave_wasm.specs.TypeText.{kind_word};
+ghost use Rattle.wave_wasm.specs.Causes.{unsupported_type, unknown_case};
+ghost use Rattle.wave_lex.specs.declared.error.ParserErrorKind.TheVariants.{OutOfMemory};
+ghost use Rattle.wave_tree.specs.Answers.{Among};
+ghost use Rattle.wave_tree.specs.Typed.{IsValueOf, IsCaused, IsMade, IsServed, Answers, Reads};
+
+use crate::ast::Node;
+use std::alloc::Global;
+use wave_lex::error::{ParserError, ParserErrorKind};
+use wave_wasm::wasm::{WasmType, WasmTypeKind, WasmValue, WasmValueError};
+
+impl Node {
+    /// The value that the type gives the node, which was parsed from `src` as a value. Where the
+    /// type gives it none the refusal is a fault of the node or of a part of it, at its span. A
+    /// maker of `V` that refuses is the cause of a refusal at the node that was read; `Value`
+    /// refuses so for want of memory alone, where the names of the type are distinct.
+    pub fn to_wasm_value<V: WasmValue>(
+        &self,
+        alloc: Global,
+        ty: &V::Type,
+        src: &str,
+    ) -> Result<V, ParserError>
+        requires { IsValueOf src.now self.now }
+        ensures { IsServed (V.Type.tree ty.now) → Reads V.tree V.is_of V.is_full (V.Type.tree ty.now) src.now self.now result }
+    {
+        self.read(alloc, ty, src)
+    }
+
+    /// The value of the node at the type.
+    #[cycle(reading)]
+    fn read<V: WasmValue>(&self, alloc: Global, ty: &V::Type, src: &str) -> Result<V, ParserError>
+        requires { IsValueOf src.now self.now }
+        ensures { IsServed (V.Type.tree ty.now) → Answers V.tree V.is_of V.is_full (V.Type.tree ty.now) src.now self.now result }
+    {
+        match ty.kind() {
+            WasmTypeKind::Bool => self.read_bool(alloc, ty),
+            WasmTypeKind::S8 => self.made(V::make_s8(alloc, self.as_number(src)?)),
+            WasmTypeKind::S16 => self.made(V::make_s16(alloc, self.as_number(src)?)),
+            WasmTypeKind::S32 => self.made(V::make_s32(alloc, self.as_number(src)?)),
+            WasmTypeKind::S64 => self.made(V::make_s64(alloc, self.as_number(src)?)),
+            WasmTypeKind::U8 => self.made(V::make_u8(alloc, self.as_number(src)?)),
+            WasmTypeKind::U16 => self.made(V::make_u16(alloc, self.as_number(src)?)),
+            WasmTypeKind::U32 => self.made(V::make_u32(alloc, self.as_number(src)?)),
+            WasmTypeKind::U64 => self.made(V::make_u64(alloc, self.as_number(src)?)),
+            WasmTypeKind::List => self.read_list(alloc, ty, src),
+            WasmTypeKind::Enum => self.read_enum(alloc, ty, src),
+            WasmTypeKind::Option => self.read_option(alloc, ty, src),
+            kind => Err(self.unsupported(alloc, kind)),
+        }
+    }
+
+    /// A list.
+    #[cycle(reading)]
+    fn read_list<V: WasmValue>(
+        &self,
+        alloc: Global,
+        ty: &V::Type,
+        src: &str,
+    ) -> Result<V, ParserError>
+        requires node { IsValueOf src.now self.now }
+        requires kind { kind_of (V.Type.tree ty.now) ≡ WasmTypeKind.List }
+        ensures { IsServed (V.Type.tree ty.now) → Answers V.tree V.is_of V.is_full (V.Type.tree ty.now) src.now self.now result }
+    {
+        let element = ty.list_element_type().unwrap();
+        let nodes = self.as_list()?;
+        let mut items = Vec::new(alloc);
+        for node in nodes {
+            let item = node.read(alloc, element, src)?;
+            self.keep(&mut items, item)?;
+        }
+        self.made(V::make_list(alloc, ty, items))
+    }
+
+    /// An option: `none`, `some` of its payload, or a flat payload.
+    #[cycle(reading)]
+    fn read_option<V: WasmValue>(
+        &self,
+        alloc: Global,
+        ty: &V::Type,
+        src: &str,
+    ) -> Result<V, ParserError>
+        requires node { IsValueOf src.now self.now }
+        requires kind { kind_of (V.Type.tree ty.now) ≡ WasmTypeKind.Option }
+        ensures { IsServed (V.Type.tree ty.now) → Answers V.tree V.is_of V.is_full (V.Type.tree ty.now) src.now self.now result }
+    {
+        let payload = ty.option_some_type().unwrap();
+        match self.as_option() {
+            Ok(None) => self.made(V::make_option(alloc, ty, None)),
+            Ok(Some(node)) => {
+                let val = node.read(alloc, payload, src)?;
+                self.made(V::make_option(alloc, ty, Some(val)))
+            }
+            Err(error) => {
+                if !is_flat(payload.kind()) {
+                    return Err(error);
+                }
+                let flat = self.read(alloc, payload, src)?;
+                self.made(V::make_option(alloc, ty, Some(flat)))
+            }
+        }
+    }
+
+    /// An enum: the name of one of its cases.
+    fn read_enum<V: WasmValue>(
+        &self,
+        alloc: Global,
+        ty: &V::Type,
+        src: &str,
+    ) -> Result<V, ParserError>
+        requires node { IsValueOf src.now self.now }
+        requires kind { kind_of (V.Type.tree ty.now) ≡ WasmTypeKind.Enum }
+        ensures { Answers V.tree V.is_of V.is_full (V.Type.tree ty.now) src.now self.now result }
+    {
+        let cases = match ty.enum_cases(alloc) {
+            Ok(cases) => cases,
+            Err(_) => return Err(self.out_of_memory()),
+        };
+        let name = self.as_enum(src)?;
+        if !is_among(&cases, name) {
+            return Err(self.unknown_case(alloc, name));
+        }
+        self.made(V::make_enum(alloc, ty, name))
+    }
+
+    /// A bool.
+    fn read_bool<V: WasmValue>(&self, alloc: Global, ty: &V::Type) -> Result<V, ParserError>
+        requires { V.Type.tree ty.now ≡ type.simple type.bool }
+        ensures { (source : List ℕ) → Answers V.tree V.is_of V.is_full (V.Type.tree ty.now) source self.now result }
+    {
+        let val = self.as_bool()?;
+        self.made(V::make_bool(alloc, val))
+    }
+
+    /// The value that was made, or its maker's refusal at the node.
+    fn made<V>(&self, made: Result<V, WasmValueError>) -> Result<V, ParserError>
+        ensures { IsMade self.now made result }
+    {
+        match made {
+            Ok(val) => Ok(val),
+            Err(cause) => Err(self.refused(cause)),
+        }
+    }
+
+    /// One more value that was read within the node.
+    fn keep<V: Drop>(&self, items: &mut Vec<V>, item: V) -> Result<(), ParserError>
+        ensures kept { OnOk result (items.new.items ≡ items.old.items ++ item ∷ []) }
+        ensures refused { IfErr result (λ e. e.kind ≡ OutOfMemory) }
+    {
+        match items.push(item) {
+            Ok(()) => Ok(()),
+            Err(_) => Err(self.out_of_memory()),
+        }
+    }
+
+    /// A refusal for want of memory, at the node.
+    fn out_of_memory(&self) -> ParserError
+        ensures { result.kind ≡ OutOfMemory }
+    {
+        ParserError::new(ParserErrorKind::OutOfMemory, self.span())
+    }
+
+    /// A refusal because the type has no case or flag of this name.
+    fn unknown_case(&self, alloc: Global, name: &str) -> ParserError
+        ensures { IsCaused (unknown_case name.now) self.now result }
+    {
+        match String::from_str(alloc, name) {
+            Ok(name) => self.refused(WasmValueError::UnknownCase(name)),
+            Err(error) => self.refused(WasmValueError::Memory(error)),
+        }
+    }
+
+    /// A refusal because values of this kind can't be read.
+    fn unsupported(&self, alloc: Global, kind: WasmTypeKind) -> ParserError
+        ensures { IsCaused (unsupported_type (kind_word kind)) self.now result }
+    {
+        match kind.to_string(alloc) {
+            Ok(word) => self.refused(WasmValueError::UnsupportedType(word)),
+            Err(error) => self.refused(WasmValueError::Memory(error)),
+        }
+    }
+}
+
+/// Whether an option or a result may be left out around a value of this kind.
+fn is_flat(kind: WasmTypeKind) -> bool
+    ensures { IsTrue result ↔ ((kind ≢ WasmTypeKind.Option) × (kind ≢ WasmTypeKind.Result)) }
+{
+    match kind {
+        WasmTypeKind::Option | WasmTypeKind::Result => false,
+        _ => true,
+    }
+}
+
+/// Whether the name is one of these.
+fn is_among(names: &Vec<&str>, name: &str) -> bool
+    ensures { Among (texts names.now.items) name.now result }
+{
+    for other in names {
+        if name == *other {
+            return true;
+        }
+    }
+    false
+}

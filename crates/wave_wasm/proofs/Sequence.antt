@@ -1,0 +1,105 @@
+-- A sequence of parts, from one place on: how deep they are, what is left to write, and whether it can be written.
+use Rattle.std.proofs.Common.{ℕ, zero, suc, ◌≡◌, ◌<◌, ◌≤◌, ◌+◌, List, [], ◌∷◌, ◌++◌, Bool, true, false, ◌&&◌, refl, sym, ap, ◌∙◌, length, get_or, drop, map, max, arith, add-one, append_assoc, subst, codes}
+use Rattle.std.proofs.Math.Seq.{drop-cons, drop-nil}
+use Rattle.std.specs.List.{list_all}
+use Rattle.wave_wasm.specs.Lists.{AllOf}
+use Rattle.wave_wasm.specs.Commas.{joined, followed, enclosed, comma_if}
+use Rattle.wave_wasm.specs.Output.{Output, Appended}
+use Rattle.wave_wasm.proofs.Writing.{Writing, writing_as, start_written}
+
+-- a fact of what is left at i, from the item there
+pub at_item : {X Y : Type 0} (h : List X → Y) (xs : List X) (i : ℕ) (x : X) → i < length xs → x ≡ get_or xs i x → h (drop i xs) ≡ h (x ∷ drop (i + 1) xs)
+at_item h xs i x lt is = ap h (rw (add-one, drop-cons xs i x lt) (ap (λ y. y ∷ drop (suc i) xs) (sym is)))
+
+-- the item at i doesn't depend on what stands for one that is missing
+pub item_again : {X : Type 0} (xs : List X) (i : ℕ) (d : X) → i < length xs → get_or xs i d ≡ get_or xs i (get_or xs i d)
+item_again [] i d lt = absurd (omega arith)
+item_again (x ∷ xs) zero d lt = refl
+item_again (x ∷ xs) (suc i) d lt = item_again xs i d (omega arith) ∙ again xs i (get_or xs i d) (get_or (x ∷ xs) (suc i) d) (omega arith)
+  where
+    again : {X : Type 0} (xs : List X) (i : ℕ) (d e : X) → i < length xs → get_or xs i d ≡ get_or xs i e
+    again [] i d e lt = absurd (omega arith)
+    again (x ∷ xs) zero d e lt = refl
+    again (x ∷ xs) (suc i) d e lt = again xs i d e (omega arith)
+
+at_end_list : {X : Type 0} (xs : List X) (i : ℕ) → length xs ≤ i → drop i xs ≡ []
+at_end_list [] i le = rw drop-nil refl
+at_end_list (x ∷ xs) zero le = absurd (omega arith)
+at_end_list (x ∷ xs) (suc i) le = at_end_list xs i (omega arith)
+
+-- the same after the last item
+pub at_end : {X Y : Type 0} (h : List X → Y) (xs : List X) (i : ℕ) → length xs ≤ i → h (drop i xs) ≡ h []
+at_end h xs i le = ap h (at_end_list xs i le)
+
+-- ---- what is left to write
+
+-- the texts with commas between, and one in front where an item stands before
+abbrev pub parted : Bool → List (List ℕ) → List ℕ
+parted later [] = []
+parted later (s ∷ ss) = comma_if later ++ (s ++ parted true ss)
+
+parted_followed : (ss : List (List ℕ)) → parted true ss ≡ followed ss
+parted_followed [] = refl
+parted_followed (s ∷ ss) = ap (λ z. codes ", " ++ (s ++ z)) (parted_followed ss)
+
+-- from the first on they are the texts with commas between
+pub parted_joined : (ss : List (List ℕ)) → parted false ss ≡ joined ss
+parted_joined [] = refl
+parted_joined (s ∷ ss) = ap (λ z. s ++ z) (parted_followed ss)
+
+-- the start of a sequence was written
+pub writing_start : {X : Type 0} (f : X → List ℕ) (xs : List X) (start end : List ℕ) {whole : List ℕ} {old new : Output} → whole ≡ enclosed start (map f xs) end → Appended start old new → Writing whole (parted false (map f xs) ++ end) old new
+writing_start f xs start end {whole} {old} {new} is a = start_written (parted false (map f xs) ++ end) (is ∙ ap (λ z. start ++ (z ++ end)) (sym (parted_joined (map f xs)))) a
+
+-- what is left to write begins with the next item
+pub writing_item : {X : Type 0} (f : X → List ℕ) (xs : List X) (i : ℕ) (x : X) {whole : List ℕ} (later : Bool) (close : List ℕ) {old now : Output} → i < length xs → x ≡ get_or xs i x → Writing whole (parted later (map f (drop i xs)) ++ close) old now → Writing whole (comma_if later ++ (f x ++ (parted true (map f (drop (i + 1) xs)) ++ close))) old now
+writing_item f xs i x later close lt is w =
+    let left = parted true (map f (drop (i + 1) xs)) in
+    writing_as (at_item (λ l. parted later (map f l) ++ close) xs i x lt is ∙ (append_assoc (comma_if later) (f x ++ left) close ∙ ap (λ s. comma_if later ++ s) (append_assoc (f x) left close))) w
+
+-- after the last item only the close is left
+pub writing_close : {X : Type 0} (f : X → List ℕ) (xs : List X) (i : ℕ) {whole : List ℕ} (later : Bool) (close : List ℕ) {old now : Output} → length xs ≤ i → Writing whole (parted later (map f (drop i xs)) ++ close) old now → Writing whole close old now
+writing_close f xs i later close le w = writing_as (at_end (λ l. parted later (map f l) ++ close) xs i le) w
+
+-- ---- whether it can be written
+
+-- where an item can't be written, all can't
+pub item_blocks : {X : Type 0} (ok : X → Bool) (xs : List X) (i : ℕ) (x : X) (all : Bool) → i < length xs → x ≡ get_or xs i x → list_all ok (drop i xs) ≡ all → ok x ≡ false → all ≡ false
+item_blocks ok xs i x all lt is h blocked = sym h ∙ (at_item (list_all ok) xs i x lt is ∙ ap (λ b. b && list_all ok (drop (i + 1) xs)) blocked)
+
+-- where an item can be written, the others decide
+pub item_passes : {X : Type 0} (ok : X → Bool) (xs : List X) (i : ℕ) (x : X) (all : Bool) → i < length xs → x ≡ get_or xs i x → list_all ok (drop i xs) ≡ all → ok x ≡ true → list_all ok (drop (i + 1) xs) ≡ all
+item_passes ok xs i x all lt is h passes = sym (at_item (list_all ok) xs i x lt is ∙ ap (λ b. b && list_all ok (drop (i + 1) xs)) passes) ∙ h
+
+-- ---- how deep they are
+
+-- the greatest depth
+abbrev pub depths : {X : Type 0} → (X → ℕ) → List X → ℕ
+depths f [] = 0
+depths f (x ∷ xs) = max (f x) (depths f xs)
+
+-- the depths of a map
+pub depths_map : {X Y : Type 0} (d : Y → ℕ) (f : X → Y) (xs : List X) → depths d (map f xs) ≡ depths (λ x. d (f x)) xs
+depths_map d f [] = refl
+depths_map d f (x ∷ xs) = ap (λ n. max (d (f x)) n) (depths_map d f xs)
+
+-- an item is as deep as the deepest at most
+pub depth_at : {X : Type 0} (f : X → ℕ) (xs : List X) (i : ℕ) (x : X) → i < length xs → x ≡ get_or xs i x → f x ≤ depths f xs
+depth_at f [] i x lt is = absurd (omega arith)
+depth_at f (y ∷ ys) zero x lt is = let e : f x ≡ f y = ap f is in omega arith
+depth_at f (y ∷ ys) (suc i) x lt is = let h : f x ≤ depths f ys = depth_at f ys i x (omega arith) is in omega arith
+
+-- a part is as deep as the deepest of the list of their trees at most
+pub part_depth : {X Y : Type 0} (d : Y → ℕ) (f : X → Y) (xs ys : List X) (i : ℕ) (x : X) → xs ≡ ys → i < length xs → x ≡ get_or xs i x → d (f x) ≤ depths d (map f ys)
+part_depth d f xs ys i x same lt is = let h = depth_at (λ x. d (f x)) xs i x lt is in rw (← same) (rw (depths_map d f xs) h)
+
+-- ---- what holds of all
+
+-- what holds of all holds of the item at i
+pub all_at : {X : Type 0} (P : X → Type 0) (xs ys : List X) (i : ℕ) (x : X) → xs ≡ ys → i < length xs → x ≡ get_or xs i x → AllOf P ys → P x
+all_at P xs ys i x same lt is h = each_at P xs i x lt is (subst (AllOf P) (sym same) h)
+  where
+    each_at : {X : Type 0} (P : X → Type 0) (xs : List X) (i : ℕ) (x : X) → i < length xs → x ≡ get_or xs i x → AllOf P xs → P x
+    each_at P [] i x lt is h = absurd (omega arith)
+    each_at P (y ∷ ys) zero x lt is h = subst P (sym is) h.0
+    each_at P (y ∷ ys) (suc i) x lt is h = each_at P ys i x (omega arith) is h.1

@@ -1,0 +1,90 @@
+-- How the parts that are written join to the whole.
+use Rattle.std.proofs.Common.{ℕ, ◌≡◌, List, [], ◌++◌, Bool, true, false, refl, sym, ap, ◌∙◌, append_assoc, arith, subst}
+use Rattle.std.proofs.lemmas.List.{append-nil}
+use Rattle.std.specs.declared.alloc.AllocError.{AllocError}
+use Rattle.wave_wasm.specs.declared.writer.WriterError.{WriterError}
+use Rattle.wave_wasm.specs.Output.{Output, Appended, TextRefused, IsGrounded, Refused}
+
+-- of the text `whole`, all but `rest` was taken, and no write failed
+pub record Writing (whole rest : List ℕ) (old now : Output) : Type 0 where
+  pub done : List ℕ
+  pub written : now.written ≡ old.written ++ done
+  pub failures : now.failures ≡ old.failures
+  pub whole_is : whole ≡ done ++ rest
+
+pub writing_none : (whole : List ℕ) (old : Output) → Writing whole whole old old
+writing_none whole old = record { done = []; written = sym (append-nil old.written); failures = refl; whole_is = refl }
+
+pub writing_more : {whole part rest : List ℕ} {old now new : Output} → Writing whole (part ++ rest) old now → Appended part now new → Writing whole rest old new
+writing_more {whole} {part} {rest} {old} w a = record {
+  done = w.done ++ part;
+  written = a.written ∙ (ap (λ s. s ++ part) w.written ∙ append_assoc old.written w.done part);
+  failures = a.failures ∙ w.failures;
+  whole_is = w.whole_is ∙ sym (append_assoc w.done part rest);
+}
+
+pub writing_all : {whole : List ℕ} {old new : Output} → Writing whole [] old new → Appended whole old new
+writing_all {whole} {old} w = record {
+  written = w.written ∙ ap (λ s. old.written ++ s) (sym (w.whole_is ∙ append-nil w.done));
+  failures = w.failures;
+}
+
+grounded_later : (e : WriterError) (writable all : Bool) (old now new : ℕ) → now ≡ old → (writable ≡ false → all ≡ false) → IsGrounded e writable now new → IsGrounded e all old new
+grounded_later (WriterError.Io e) writable all old now new is h g = search arith
+grounded_later WriterError.UnsupportedType writable all old now new is h g = h g
+grounded_later (WriterError.Memory e) writable all old now new is h g = tt
+
+pub writing_refused : {whole part : List ℕ} (rest : List ℕ) {old now new : Output} {writable all : Bool} {e : WriterError} → Writing whole (part ++ rest) old now → (writable ≡ false → all ≡ false) → Refused part writable e now new → Refused whole all e old new
+writing_refused {whole} {part} rest {old} {now} {new} {writable} {all} {e} w h r = record {
+  began = record {
+    done = w.done ++ r.began.done;
+    rest = r.began.rest ++ rest;
+    written = r.began.written ∙ (ap (λ s. s ++ r.began.done) w.written ∙ append_assoc old.written w.done r.began.done);
+    whole_is = w.whole_is ∙ (ap (λ s. w.done ++ (s ++ rest)) r.began.whole_is ∙ (ap (λ s. w.done ++ s) (append_assoc r.began.done r.began.rest rest) ∙ sym (append_assoc w.done r.began.done (r.began.rest ++ rest))));
+  };
+  grounded = grounded_later e writable all old.failures now.failures new.failures w.failures h r.grounded;
+}
+
+-- the refusal of one text
+pub refused_text : {whole : List ℕ} {old new : Output} (e : WriterError) → TextRefused whole e old new → Refused whole true e old new
+refused_text (WriterError.Io e) r = record { began = r.began; grounded = search arith }
+refused_text WriterError.UnsupportedType r = absurd r.counts
+refused_text (WriterError.Memory e) r = record { began = r.began; grounded = tt }
+
+-- the same, where the part can be written as any text can
+pub writing_refused_text : {whole part : List ℕ} (rest : List ℕ) {old now new : Output} {all : Bool} {e : WriterError} → Writing whole (part ++ rest) old now → Refused part true e now new → Refused whole all e old new
+writing_refused_text rest w r = writing_refused rest w (λ h. cc) r
+
+-- a part at the very start is refused
+pub start_refused : {whole part : List ℕ} (rest : List ℕ) {old new : Output} {all : Bool} {e : WriterError} → whole ≡ part ++ rest → Refused part true e old new → Refused whole all e old new
+start_refused {whole} rest {old} is r = let w : Writing whole (_ ++ rest) old old = subst (λ s. Writing whole s old old) is (writing_none whole old) in writing_refused_text rest w r
+
+-- want of memory before anything is written
+pub refused_before : (whole : List ℕ) (writable : Bool) (old : Output) (e : AllocError) → Refused whole writable (WriterError.Memory e) old old
+refused_before whole writable old e = record { began = record { done = []; rest = whole; written = sym (append-nil old.written); whole_is = refl }; grounded = tt }
+
+-- the same of what is left to write, rewritten
+pub writing_as : {whole rest left : List ℕ} {old now : Output} → rest ≡ left → Writing whole rest old now → Writing whole left old now
+writing_as {whole} {rest} {left} {old} {now} e w = subst (λ s. Writing whole s old now) e w
+
+-- a refusal of a writer that never fails, before anything is written here
+pub refused_grounded : (whole : List ℕ) (all : Bool) (old : Output) (e : WriterError) → IsGrounded e true 0 0 → Refused whole all e old old
+refused_grounded whole all old (WriterError.Io e) h = absurd (omega arith)
+refused_grounded whole all old WriterError.UnsupportedType h = absurd cc
+refused_grounded whole all old (WriterError.Memory e) h = refused_before whole all old e
+
+-- the first part is written
+pub start_written : {whole part : List ℕ} (rest : List ℕ) {old new : Output} → whole ≡ part ++ rest → Appended part old new → Writing whole rest old new
+start_written {whole} rest {old} is a = writing_more (writing_as is (writing_none whole old)) a
+
+-- the last part, which can be written as any text can, is refused
+pub writing_last_text : {whole part : List ℕ} {old now new : Output} {all : Bool} {e : WriterError} → Writing whole part old now → Refused part true e now new → Refused whole all e old new
+writing_last_text {whole} {part} w r = writing_refused_text [] (writing_as (sym (append-nil part)) w) r
+
+-- a value without text is refused before anything is written
+pub refused_unsupported : (whole : List ℕ) (writable : Bool) (old : Output) → writable ≡ false → Refused whole writable WriterError.UnsupportedType old old
+refused_unsupported whole writable old no_text = record { began = record { done = []; rest = whole; written = sym (append-nil old.written); whole_is = refl }; grounded = no_text }
+
+-- the last part is refused
+pub writing_last : {whole part : List ℕ} {old now new : Output} {writable all : Bool} {e : WriterError} → Writing whole part old now → all ≡ writable → Refused part writable e now new → Refused whole all e old new
+writing_last {whole} {part} w same r = writing_refused [] (writing_as (sym (append-nil part)) w) (λ h. same ∙ h) r

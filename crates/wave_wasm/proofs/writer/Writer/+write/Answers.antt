@@ -1,0 +1,299 @@
+use Rattle.std.proofs.Common.{arith, ℕ, List, [], ap, sym, ◌∙◌, refl, Bor, Bool, map}
+use Rattle.std.proofs.lemmas.Result.{err_from_is_err_and, IfErr-weaker}
+use Rattle.std.specs.List.{list_all}
+use Rattle.wave_wasm.specs.Commas.{enclosed, behind_name}
+use Rattle.wave_wasm.specs.Shown.{shown}
+use Rattle.wave_wasm.specs.Text.{text, has_text, payload_text}
+use Rattle.wave_wasm.specs.Values.{Value, depth}
+use Rattle.wave_wasm.proofs.Writing.{writing_more, writing_refused, writing_refused_text, start_refused, start_written, writing_as, writing_none, refused_before, refused_grounded, refused_unsupported, writing_last, writing_last_text}
+use Rattle.wave_wasm.proofs.Sequence.{writing_start, writing_item, writing_close, item_blocks, item_passes, part_depth, all_at}
+use Rattle.wave_wasm.proofs.Trees.{map_map, all_map, list_sequence, tuple_sequence, record_is, variant_text, variant_writable, ok_text, err_text, no_text_of_kind}
+use Rattle.wave_wasm.proofs.Records.{writing_field, writing_record_close}
+use Rattle.wave_wasm.proofs.Maps.{map_is, keys_are_leaves, writing_entry}
+use Rattle.wave_wasm.proofs.writer.Writer.+write.Goals as goal
+
+-- items between a start and an end
+
+pub write_items-loop-item-init : goal.write_items-loop-item-init
+write_items-loop-item-init g t c =
+    let f : Bor g.row.V.Denot → List ℕ = λ v. text (g.V.WasmValue.tree v.now) in
+    let tree : Bor g.row.V.Denot → Value = λ v. g.V.WasmValue.tree v.now in
+    let ok : Bor g.row.V.Denot → Bool = λ v. has_text (g.V.WasmValue.tree v.now) in
+    let same = c.deref-item-items.ensures.value in
+    record {
+      writing = writing_start f c.deref-item-items.result.now _ _ (ap (λ z. enclosed c.args.open.now z c.args.close.now) (map_map text tree c.args.items.now.items ∙ ap (map f) (sym same))) c.in_ok-write_text.ensures.ok;
+      writable = ap (list_all ok) same ∙ sym (all_map has_text tree c.args.items.now.items);
+    }
+
+pub write_items-returns-in_err-write_separator-clause-err : goal.write_items-returns-in_err-write_separator-clause-err
+write_items-returns-in_err-write_separator-clause-err g t c =
+    let f : Bor g.row.V.Denot → List ℕ = λ v. text (g.V.WasmValue.tree v.now) in
+    let p = err_from_is_err_and c.from_residual-in_err-write_separator.result c.from_residual-in_err-write_separator.ensures.1 in
+    let w = writing_item f c.deref-item-items.result.now c.loop-item.item-index c.item-item.result _ _ c.loop-item-test.true c.item-item.is c.loop-item.invariant.writing in
+    rw (p.1, p.2) (writing_refused_text _ w c.in_err-write_separator.ensures.err)
+
+pub write_items-write_value-requires : goal.write_items-write_value-requires
+write_items-write_value-requires g t c κs within =
+    let tree : Bor g.row.V.Denot → Value = λ v. g.V.WasmValue.tree v.now in
+    let h = part_depth depth tree c.deref-item-items.result.now _ c.loop-item.item-index c.item-item.result c.deref-item-items.ensures.value c.loop-item-test.true c.item-item.is in
+    (omega (arith, h), within)
+
+pub write_items-returns-in_err-write_value-clause-err : goal.write_items-returns-in_err-write_value-clause-err
+write_items-returns-in_err-write_value-clause-err g t c =
+    let f : Bor g.row.V.Denot → List ℕ = λ v. text (g.V.WasmValue.tree v.now) in
+    let ok : Bor g.row.V.Denot → Bool = λ v. has_text (g.V.WasmValue.tree v.now) in
+    let p = err_from_is_err_and c.from_residual-in_err-write_value.result c.from_residual-in_err-write_value.ensures.1 in
+    let w = writing_item f c.deref-item-items.result.now c.loop-item.item-index c.item-item.result _ _ c.loop-item-test.true c.item-item.is c.loop-item.invariant.writing in
+    rw (p.1, p.2) (writing_refused _ (writing_more w c.in_ok-write_separator.ensures.ok) (item_blocks ok c.deref-item-items.result.now c.loop-item.item-index c.item-item.result _ c.loop-item-test.true c.item-item.is c.loop-item.invariant.writable) c.in_err-write_value.ensures.err)
+
+pub write_items-returns-clause-err : goal.write_items-returns-clause-err
+write_items-returns-clause-err g t c =
+    let f : Bor g.row.V.Denot → List ℕ = λ v. text (g.V.WasmValue.tree v.now) in
+    let w = writing_close f c.deref-item-items.result.now c.loop-item.item-index _ _ c.loop-item-test.false c.loop-item.invariant.writing in
+    IfErr-weaker _ _ _ (λ e r. writing_last_text w r) c.write_text-2.ensures.err
+
+-- a list
+
+pub write_list-write_items-requires : goal.write_list-write_items-requires
+write_list-write_items-requires g t c κs within =
+    let s = list_sequence _ _ c.requires c.in_ok-items.ensures in
+    let d = s.depth_is in
+    (omega (arith, d), within)
+
+pub write_list-returns-clause-ok : goal.write_list-returns-clause-ok
+write_list-returns-clause-ok g t c =
+    let s = list_sequence _ _ c.requires c.in_ok-items.ensures in
+    rw (s.text_is) c.write_items.ensures.ok
+
+pub write_list-returns-clause-writable : goal.write_list-returns-clause-writable
+write_list-returns-clause-writable g t c =
+    let s = list_sequence _ _ c.requires c.in_ok-items.ensures in
+    rw (s.writable_is) c.write_items.ensures.writable
+
+pub write_list-returns-clause-err : goal.write_list-returns-clause-err
+write_list-returns-clause-err g t c =
+    let s = list_sequence _ _ c.requires c.in_ok-items.ensures in
+    rw (s.text_is, s.writable_is) c.write_items.ensures.err
+
+-- a tuple
+
+pub write_tuple-write_items-requires : goal.write_tuple-write_items-requires
+write_tuple-write_items-requires g t c κs within =
+    let s = tuple_sequence _ _ c.requires c.in_ok-items.ensures in
+    let d = s.depth_is in
+    (omega (arith, d), within)
+
+pub write_tuple-returns-clause-ok : goal.write_tuple-returns-clause-ok
+write_tuple-returns-clause-ok g t c =
+    let s = tuple_sequence _ _ c.requires c.in_ok-items.ensures in
+    rw (s.text_is) c.write_items.ensures.ok
+
+pub write_tuple-returns-clause-writable : goal.write_tuple-returns-clause-writable
+write_tuple-returns-clause-writable g t c =
+    let s = tuple_sequence _ _ c.requires c.in_ok-items.ensures in
+    rw (s.writable_is) c.write_items.ensures.writable
+
+pub write_tuple-returns-clause-err : goal.write_tuple-returns-clause-err
+write_tuple-returns-clause-err g t c =
+    let s = tuple_sequence _ _ c.requires c.in_ok-items.ensures in
+    rw (s.text_is, s.writable_is) c.write_items.ensures.err
+
+-- a record
+
+pub write_record-returns-in_err-fields-clause-err : goal.write_record-returns-in_err-fields-clause-err
+write_record-returns-in_err-fields-clause-err g t c =
+    let p = err_from_is_err_and c.from_residual.result c.from_residual.ensures.1 in
+    rw (p.1, p.2) (refused_before _ _ _ _)
+
+pub write_record-loop-field-init : goal.write_record-loop-field-init
+write_record-loop-field-init g t c =
+    let f : Bor (List ℕ) × Bor g.row.V.Denot → List ℕ × Value = λ x. (x.0.now, g.V.WasmValue.tree x.1.now) in
+    let s = record_is _ _ c.requires (ap (map f) c.deref-field-items.ensures.value ∙ c.in_ok-fields.ensures) in
+    record {
+      writing = writing_as s.text_is (writing_none _ _);
+      writable = sym (s.writable_is ∙ all_map (λ (x : List ℕ × Value). has_text x.1) f c.deref-field-items.result.now);
+    }
+
+pub write_record-returns-in_err-write_either-clause-err : goal.write_record-returns-in_err-write_either-clause-err
+write_record-returns-in_err-write_either-clause-err g t c =
+    let f : Bor (List ℕ) × Bor g.row.V.Denot → List ℕ × Value = λ x. (x.0.now, g.V.WasmValue.tree x.1.now) in
+    let some = sym c.is_none.ensures ∙ c.if-is_none.false in
+    let w = writing_field f c.deref-field-items.result.now c.loop-field.field-index c.field-item.result _ c.loop-field-test.true c.field-item.is some c.loop-field.invariant.writing in
+    let p = err_from_is_err_and c.from_residual-in_err-write_either.result c.from_residual-in_err-write_either.ensures.1 in
+    rw (p.1, p.2) (writing_refused_text _ w c.in_err-write_either.ensures.err)
+
+pub write_record-returns-in_err-write_text-clause-err : goal.write_record-returns-in_err-write_text-clause-err
+write_record-returns-in_err-write_text-clause-err g t c =
+    let f : Bor (List ℕ) × Bor g.row.V.Denot → List ℕ × Value = λ x. (x.0.now, g.V.WasmValue.tree x.1.now) in
+    let some = sym c.is_none.ensures ∙ c.if-is_none.false in
+    let w = writing_field f c.deref-field-items.result.now c.loop-field.field-index c.field-item.result _ c.loop-field-test.true c.field-item.is some c.loop-field.invariant.writing in
+    let p = err_from_is_err_and c.from_residual-in_err-write_text.result c.from_residual-in_err-write_text.ensures.1 in
+    rw (p.1, p.2) (writing_refused_text _ (writing_more w c.in_ok-write_either.ensures.ok) c.in_err-write_text.ensures.err)
+
+pub write_record-returns-in_err-write_text-2-clause-err : goal.write_record-returns-in_err-write_text-2-clause-err
+write_record-returns-in_err-write_text-2-clause-err g t c =
+    let f : Bor (List ℕ) × Bor g.row.V.Denot → List ℕ × Value = λ x. (x.0.now, g.V.WasmValue.tree x.1.now) in
+    let some = sym c.is_none.ensures ∙ c.if-is_none.false in
+    let w = writing_field f c.deref-field-items.result.now c.loop-field.field-index c.field-item.result _ c.loop-field-test.true c.field-item.is some c.loop-field.invariant.writing in
+    let p = err_from_is_err_and c.from_residual-in_err-write_text-2.result c.from_residual-in_err-write_text-2.ensures.1 in
+    rw (p.1, p.2) (writing_refused_text _ (writing_more (writing_more w c.in_ok-write_either.ensures.ok) c.in_ok-write_text.ensures.ok) c.in_err-write_text-2.ensures.err)
+
+pub write_record-write_value-requires : goal.write_record-write_value-requires
+write_record-write_value-requires g t c κs within =
+    let f : Bor (List ℕ) × Bor g.row.V.Denot → List ℕ × Value = λ x. (x.0.now, g.V.WasmValue.tree x.1.now) in
+    let s = record_is _ _ c.requires c.in_ok-fields.ensures in
+    let d = s.depth_is in
+    let h = part_depth (λ (x : List ℕ × Value). depth x.1) f c.deref-field-items.result.now _ c.loop-field.field-index c.field-item.result c.deref-field-items.ensures.value c.loop-field-test.true c.field-item.is in
+    (omega (arith, h, d), within)
+
+pub write_record-returns-in_err-write_value-clause-err : goal.write_record-returns-in_err-write_value-clause-err
+write_record-returns-in_err-write_value-clause-err g t c =
+    let f : Bor (List ℕ) × Bor g.row.V.Denot → List ℕ × Value = λ x. (x.0.now, g.V.WasmValue.tree x.1.now) in
+    let some = sym c.is_none.ensures ∙ c.if-is_none.false in
+    let w = writing_field f c.deref-field-items.result.now c.loop-field.field-index c.field-item.result _ c.loop-field-test.true c.field-item.is some c.loop-field.invariant.writing in
+    let p = err_from_is_err_and c.from_residual-in_err-write_value.result c.from_residual-in_err-write_value.ensures.1 in
+    rw (p.1, p.2) (writing_refused _ (writing_more (writing_more (writing_more w c.in_ok-write_either.ensures.ok) c.in_ok-write_text.ensures.ok) c.in_ok-write_text-2.ensures.ok) (item_blocks (λ (x : Bor (List ℕ) × Bor g.row.V.Denot). has_text (g.V.WasmValue.tree x.1.now)) c.deref-field-items.result.now c.loop-field.field-index c.field-item.result _ c.loop-field-test.true c.field-item.is c.loop-field.invariant.writable) c.in_err-write_value.ensures.err)
+
+pub write_record-returns-clause-err : goal.write_record-returns-clause-err
+write_record-returns-clause-err g t c =
+    let f : Bor (List ℕ) × Bor g.row.V.Denot → List ℕ × Value = λ x. (x.0.now, g.V.WasmValue.tree x.1.now) in
+    let w = writing_record_close f c.deref-field-items.result.now c.loop-field.field-index _ c.loop-field-test.false c.loop-field.invariant.writing in
+    IfErr-weaker _ _ _ (λ e r. writing_refused_text [] w r) c.write_either-2.ensures.err
+
+pub write_record-loop-field-preserved : goal.write_record-loop-field-preserved
+write_record-loop-field-preserved g t c =
+    let f : Bor (List ℕ) × Bor g.row.V.Denot → List ℕ × Value = λ x. (x.0.now, g.V.WasmValue.tree x.1.now) in
+    let some = sym c.is_none.ensures ∙ c.if-is_none.false in
+    let w = writing_field f c.deref-field-items.result.now c.loop-field.field-index c.field-item.result _ c.loop-field-test.true c.field-item.is some c.loop-field.invariant.writing in
+    record {
+      writing = writing_more (writing_more (writing_more (writing_more w c.in_ok-write_either.ensures.ok) c.in_ok-write_text.ensures.ok) c.in_ok-write_text-2.ensures.ok) c.in_ok-write_value.ensures.ok;
+      writable = item_passes (λ (x : Bor (List ℕ) × Bor g.row.V.Denot). has_text (g.V.WasmValue.tree x.1.now)) c.deref-field-items.result.now c.loop-field.field-index c.field-item.result _ c.loop-field-test.true c.field-item.is c.loop-field.invariant.writable c.in_ok-write_value.ensures.writable;
+    }
+
+-- payloads
+
+pub write_variant-returns-clause-err : goal.write_variant-returns-clause-err
+write_variant-returns-clause-err g t c =
+    let w = start_written _ (ap text c.unwrap_variant.ensures ∙ variant_text c.unwrap_variant.result.0.now (shown g.V.WasmValue.tree c.unwrap_variant.result.1)) c.in_ok-write_case.ensures.ok in
+    let ok = ap has_text c.unwrap_variant.ensures ∙ variant_writable c.unwrap_variant.result.0.now (shown g.V.WasmValue.tree c.unwrap_variant.result.1) in
+    IfErr-weaker _ _ _ (λ e r. writing_last w ok r) c.write_payload.ensures.err
+
+pub write_option-returns-in_err-write_text-in-Some-clause-err : goal.write_option-returns-in_err-write_text-in-Some-clause-err
+write_option-returns-in_err-write_text-in-Some-clause-err g t c =
+    let p = err_from_is_err_and c.from_residual.result c.from_residual.ensures.1 in
+    rw (p.1, p.2) (start_refused _ (ap text c.in-Some.ensures) c.in_err-write_text-in-Some.ensures.err)
+
+pub write_result-returns-in_err-write_text-in-Ok-clause-err : goal.write_result-returns-in_err-write_text-in-Ok-clause-err
+write_result-returns-in_err-write_text-in-Ok-clause-err g t c =
+    let p = err_from_is_err_and c.from_residual.result c.from_residual.ensures.1 in
+    rw (p.1, p.2) (start_refused _ (ap text c.in-Ok.ensures ∙ ok_text _) c.in_err-write_text-in-Ok.ensures.err)
+
+pub write_result-returns-in_err-write_text-in-Err-clause-err : goal.write_result-returns-in_err-write_text-in-Err-clause-err
+write_result-returns-in_err-write_text-in-Err-clause-err g t c =
+    let p = err_from_is_err_and c.from_residual-in_err-write_text-in-Err.result c.from_residual-in_err-write_text-in-Err.ensures.1 in
+    rw (p.1, p.2) (start_refused _ (ap text c.in-Err.ensures ∙ err_text _) c.in_err-write_text-in-Err.ensures.err)
+
+pub write_payload-returns-in_err-write_text-in-Some-clause-err : goal.write_payload-returns-in_err-write_text-in-Some-clause-err
+write_payload-returns-in_err-write_text-in-Some-clause-err g t c =
+    let p = err_from_is_err_and c.from_residual.result c.from_residual.ensures.1 in
+    rw (p.1, p.2) (start_refused _ (ap (λ o. payload_text (shown g.V.WasmValue.tree o)) c.in-Some.is) c.in_err-write_text-in-Some.ensures.err)
+
+pub write_payload-returns-in_ok-write_value-in-Some-clause-err : goal.write_payload-returns-in_ok-write_value-in-Some-clause-err
+write_payload-returns-in_ok-write_value-in-Some-clause-err g t c =
+    let w = writing_more (start_written _ (ap (λ o. payload_text (shown g.V.WasmValue.tree o)) c.in-Some.is) c.in_ok-write_text-in-Some.ensures.ok) c.in_ok-write_value-in-Some.ensures.ok in
+    IfErr-weaker _ _ _ (λ e r. writing_refused_text [] w r) c.write_text-in-Some.ensures.err
+
+pub write_value-returns-in-F32-clause-err : goal.write_value-returns-in-F32-clause-err
+write_value-returns-in-F32-clause-err g t c =
+    refused_unsupported _ _ _ (no_text_of_kind _ _ c.kind.ensures.kind c.in-F32.is)
+
+-- a map
+
+pub write_map-merge_entries-requires : goal.write_map-merge_entries-requires
+write_map-merge_entries-requires g t c =
+    let f : Bor g.row.V.Denot → Value = λ v. g.V.WasmValue.tree v.now in
+    keys_are_leaves f _ _ c.in_ok-entries.ensures
+
+pub write_map-returns-in_err-merged-clause-err : goal.write_map-returns-in_err-merged-clause-err
+write_map-returns-in_err-merged-clause-err g t c =
+    let p = err_from_is_err_and c.from_residual-in_err-merged.result c.from_residual-in_err-merged.ensures.1 in
+    rw (p.1, p.2) (refused_grounded _ _ _ _ c.in_err-merged.ensures.err)
+
+pub write_map-returns-in_err-write_text-clause-err : goal.write_map-returns-in_err-write_text-clause-err
+write_map-returns-in_err-write_text-clause-err g t c =
+    let f : Bor g.row.V.Denot → Value = λ v. g.V.WasmValue.tree v.now in
+    let s = map_is f _ c.in_ok-entries.entries.items c.requires.kind c.requires.formed c.in_ok-entries.ensures _ c.in_ok-merged.ensures.ok in
+    let p = err_from_is_err_and c.from_residual-in_err-write_text.result c.from_residual-in_err-write_text.ensures.1 in
+    rw (p.1, p.2) (start_refused _ s.text_is c.in_err-write_text.ensures.err)
+
+pub write_map-loop-entry-init : goal.write_map-loop-entry-init
+write_map-loop-entry-init g t c =
+    let f : Bor g.row.V.Denot → Value = λ v. g.V.WasmValue.tree v.now in
+    let s = map_is f _ c.in_ok-entries.entries.items c.requires.kind c.requires.formed c.in_ok-entries.ensures c.deref-entry-items.result.now (c.deref-entry-items.ensures.value ∙ c.in_ok-merged.ensures.ok) in
+    record {
+      writing = writing_start (λ e. behind_name (text (f e.0)) (text (f e.1))) c.deref-entry-items.result.now _ _ s.text_is c.in_ok-write_text.ensures.ok;
+      writable = sym s.writable_is;
+    }
+
+pub write_map-returns-in_err-write_separator-clause-err : goal.write_map-returns-in_err-write_separator-clause-err
+write_map-returns-in_err-write_separator-clause-err g t c =
+    let key : Bor g.row.V.Denot × Bor g.row.V.Denot → List ℕ = λ e. text (g.V.WasmValue.tree e.0.now) in
+    let value : Bor g.row.V.Denot × Bor g.row.V.Denot → List ℕ = λ e. text (g.V.WasmValue.tree e.1.now) in
+    let p = err_from_is_err_and c.from_residual-in_err-write_separator.result c.from_residual-in_err-write_separator.ensures.1 in
+    let w = writing_entry key value c.deref-entry-items.result.now c.loop-entry.entry-index c.entry-item.result _ _ c.loop-entry-test.true c.entry-item.is c.loop-entry.invariant.writing in
+    rw (p.1, p.2) (writing_refused_text _ w c.in_err-write_separator.ensures.err)
+
+pub write_map-write_leaf-requires : goal.write_map-write_leaf-requires
+write_map-write_leaf-requires g t c =
+    let f : Bor g.row.V.Denot → Value = λ v. g.V.WasmValue.tree v.now in
+    let s = map_is f _ c.in_ok-entries.entries.items c.requires.kind c.requires.formed c.in_ok-entries.ensures c.deref-entry-items.result.now (c.deref-entry-items.ensures.value ∙ c.in_ok-merged.ensures.ok) in
+    all_at _ c.deref-entry-items.result.now c.deref-entry-items.result.now c.loop-entry.entry-index c.entry-item.result refl c.loop-entry-test.true c.entry-item.is s.keys_are
+
+pub write_map-returns-in_err-write_leaf-clause-err : goal.write_map-returns-in_err-write_leaf-clause-err
+write_map-returns-in_err-write_leaf-clause-err g t c =
+    let key : Bor g.row.V.Denot × Bor g.row.V.Denot → List ℕ = λ e. text (g.V.WasmValue.tree e.0.now) in
+    let value : Bor g.row.V.Denot × Bor g.row.V.Denot → List ℕ = λ e. text (g.V.WasmValue.tree e.1.now) in
+    let p = err_from_is_err_and c.from_residual-in_err-write_leaf.result c.from_residual-in_err-write_leaf.ensures.1 in
+    let w = writing_entry key value c.deref-entry-items.result.now c.loop-entry.entry-index c.entry-item.result _ _ c.loop-entry-test.true c.entry-item.is c.loop-entry.invariant.writing in
+    rw (p.1, p.2) (writing_refused_text _ (writing_more w c.in_ok-write_separator.ensures.ok) c.in_err-write_leaf.ensures.err)
+
+pub write_map-returns-in_err-write_text-2-clause-err : goal.write_map-returns-in_err-write_text-2-clause-err
+write_map-returns-in_err-write_text-2-clause-err g t c =
+    let key : Bor g.row.V.Denot × Bor g.row.V.Denot → List ℕ = λ e. text (g.V.WasmValue.tree e.0.now) in
+    let value : Bor g.row.V.Denot × Bor g.row.V.Denot → List ℕ = λ e. text (g.V.WasmValue.tree e.1.now) in
+    let p = err_from_is_err_and c.from_residual-in_err-write_text-2.result c.from_residual-in_err-write_text-2.ensures.1 in
+    let w = writing_entry key value c.deref-entry-items.result.now c.loop-entry.entry-index c.entry-item.result _ _ c.loop-entry-test.true c.entry-item.is c.loop-entry.invariant.writing in
+    rw (p.1, p.2) (writing_refused_text _ (writing_more (writing_more w c.in_ok-write_separator.ensures.ok) c.in_ok-write_leaf.ensures.ok) c.in_err-write_text-2.ensures.err)
+
+pub write_map-write_value-requires : goal.write_map-write_value-requires
+write_map-write_value-requires g t c κs within =
+    let f : Bor g.row.V.Denot → Value = λ v. g.V.WasmValue.tree v.now in
+    let s = map_is f _ c.in_ok-entries.entries.items c.requires.kind c.requires.formed c.in_ok-entries.ensures c.deref-entry-items.result.now (c.deref-entry-items.ensures.value ∙ c.in_ok-merged.ensures.ok) in
+    let d = all_at _ c.deref-entry-items.result.now c.deref-entry-items.result.now c.loop-entry.entry-index c.entry-item.result refl c.loop-entry-test.true c.entry-item.is s.depths_are in
+    (omega (arith, d), within)
+
+pub write_map-returns-in_err-write_value-clause-err : goal.write_map-returns-in_err-write_value-clause-err
+write_map-returns-in_err-write_value-clause-err g t c =
+    let key : Bor g.row.V.Denot × Bor g.row.V.Denot → List ℕ = λ e. text (g.V.WasmValue.tree e.0.now) in
+    let value : Bor g.row.V.Denot × Bor g.row.V.Denot → List ℕ = λ e. text (g.V.WasmValue.tree e.1.now) in
+    let ok : Bor g.row.V.Denot × Bor g.row.V.Denot → Bool = λ e. has_text (g.V.WasmValue.tree e.1.now) in
+    let p = err_from_is_err_and c.from_residual-in_err-write_value.result c.from_residual-in_err-write_value.ensures.1 in
+    let w = writing_entry key value c.deref-entry-items.result.now c.loop-entry.entry-index c.entry-item.result _ _ c.loop-entry-test.true c.entry-item.is c.loop-entry.invariant.writing in
+    rw (p.1, p.2) (writing_refused _ (writing_more (writing_more (writing_more w c.in_ok-write_separator.ensures.ok) c.in_ok-write_leaf.ensures.ok) c.in_ok-write_text-2.ensures.ok) (item_blocks ok c.deref-entry-items.result.now c.loop-entry.entry-index c.entry-item.result _ c.loop-entry-test.true c.entry-item.is c.loop-entry.invariant.writable) c.in_err-write_value.ensures.err)
+
+pub write_map-loop-entry-preserved : goal.write_map-loop-entry-preserved
+write_map-loop-entry-preserved g t c =
+    let key : Bor g.row.V.Denot × Bor g.row.V.Denot → List ℕ = λ e. text (g.V.WasmValue.tree e.0.now) in
+    let value : Bor g.row.V.Denot × Bor g.row.V.Denot → List ℕ = λ e. text (g.V.WasmValue.tree e.1.now) in
+    let ok : Bor g.row.V.Denot × Bor g.row.V.Denot → Bool = λ e. has_text (g.V.WasmValue.tree e.1.now) in
+    let w = writing_entry key value c.deref-entry-items.result.now c.loop-entry.entry-index c.entry-item.result _ _ c.loop-entry-test.true c.entry-item.is c.loop-entry.invariant.writing in
+    record {
+      writing = writing_more (writing_more (writing_more (writing_more w c.in_ok-write_separator.ensures.ok) c.in_ok-write_leaf.ensures.ok) c.in_ok-write_text-2.ensures.ok) c.in_ok-write_value.ensures.ok;
+      writable = item_passes ok c.deref-entry-items.result.now c.loop-entry.entry-index c.entry-item.result _ c.loop-entry-test.true c.entry-item.is c.loop-entry.invariant.writable c.in_ok-write_value.ensures.writable;
+    }
+
+pub write_map-returns-clause-err : goal.write_map-returns-clause-err
+write_map-returns-clause-err g t c =
+    let f : Bor g.row.V.Denot → Value = λ v. g.V.WasmValue.tree v.now in
+    let w = writing_close (λ e. behind_name (text (f e.0)) (text (f e.1))) c.deref-entry-items.result.now c.loop-entry.entry-index _ _ c.loop-entry-test.false c.loop-entry.invariant.writing in
+    IfErr-weaker _ _ _ (λ e r. writing_refused_text [] w r) c.write_text-2.ensures.err

@@ -1,0 +1,17 @@
+pub mod Lists
+pub mod Names
+pub mod Types
+pub mod TypeTreeCode
+pub mod Shown
+pub mod Numbers
+pub mod Values
+pub mod HasType
+pub mod Makers
+pub mod Merge
+pub mod Keywords
+pub mod Commas
+pub mod Text
+pub mod TypeText
+pub mod Causes
+pub mod Output
+pub mod Laws

@@ -1,0 +1,416 @@
+//! Types, functions and values as text.
+ghost use Rattle.std.specs.Prelude.{◌≡◌, ◌++◌, List, IfOk, OnOk, Some, map};
+ghost use Rattle.std.specs.String.{string_bytes};
+ghost use Rattle.wave_wasm.specs.Types.{kind_of, maybe_type};
+ghost use Rattle.wave_wasm.specs.Commas.{comma_if, joined, in_parens};
+ghost use Rattle.wave_wasm.specs.Shown.{texts, shown, shown_all};
+ghost use Rattle.wave_wasm.specs.Text.{text, arguments_text, results_text};
+ghost use Rattle.wave_wasm.specs.TypeText.{type_text, payload_text, braced, function_results_text, typed_names, name_part, IsFuncText};
+
+use crate::wasm::{WasmFunc, WasmType, WasmTypeKind, WasmValue};
+use crate::writer::{arguments_to_string, results_to_string, to_string};
+use std::alloc::{AllocError, Global};
+use std::fmt;
+
+/// Shows a type as its text. It fails where the formatter fails or memory is refused.
+#[derive(Clone, Copy)]
+pub struct DisplayType<'a, T: WasmType> {
+    alloc: Global,
+    ty: &'a T,
+}
+
+impl<'a, T: WasmType> DisplayType<'a, T> {
+    /// Shows `ty`.
+    pub fn new(alloc: Global, ty: &'a T) -> DisplayType<'a, T>
+        ensures { result.ty.now ≡ ty.entry.now }
+    {
+        DisplayType { alloc, ty }
+    }
+}
+
+impl<T: WasmType> fmt::Display for DisplayType<'_, T> {
+    ghost output = { λ d. Some (type_text (T.tree d.ty.now)) };
+
+    fn fmt<W: fmt::Write>(&self, f: &mut fmt::Formatter<W>) -> fmt::Result {
+        match type_to_string(self.alloc, self.ty) {
+            Ok(text) => f.write_str(text.as_str()),
+            Err(_) => Err(fmt::Error),
+        }
+    }
+}
+
+/// Shows a value as its canonical text. It fails where the formatter fails, memory is refused or
+/// the value has no text.
+#[derive(Clone, Copy)]
+pub struct DisplayValue<'a, V: WasmValue> {
+    alloc: Global,
+    val: &'a V,
+}
+
+impl<'a, V: WasmValue> DisplayValue<'a, V> {
+    /// Shows `val`.
+    pub fn new(alloc: Global, val: &'a V) -> DisplayValue<'a, V>
+        ensures { result.val.now ≡ val.entry.now }
+    {
+        DisplayValue { alloc, val }
+    }
+}
+
+impl<V: WasmValue> fmt::Display for DisplayValue<'_, V> {
+    ghost output = { λ d. Some (text (V.tree d.val.now)) };
+
+    fn fmt<W: fmt::Write>(&self, f: &mut fmt::Formatter<W>) -> fmt::Result {
+        match to_string(self.alloc, self.val) {
+            Ok(text) => f.write_str(text.as_str()),
+            Err(_) => Err(fmt::Error),
+        }
+    }
+}
+
+/// Shows a function as its type's text. It fails where the formatter fails or memory is refused.
+#[derive(Drop)]
+pub struct DisplayFunc<F: WasmFunc> {
+    alloc: Global,
+    func: F,
+}
+
+impl<F: WasmFunc> DisplayFunc<F> {
+    /// Shows `func`.
+    pub fn new(alloc: Global, func: F) -> DisplayFunc<F>
+        ensures { result.func ≡ func }
+    {
+        DisplayFunc { alloc, func }
+    }
+}
+
+impl<F: WasmFunc> fmt::Display for DisplayFunc<F> {
+    fn fmt<W: fmt::Write>(&self, f: &mut fmt::Formatter<W>) -> fmt::Result {
+        match func_to_string(self.alloc, &self.func) {
+            Ok(text) => f.write_str(text.as_str()),
+            Err(_) => Err(fmt::Error),
+        }
+    }
+}
+
+/// Shows the arguments of a call: `(v, w)`. It fails where the formatter fails, memory is refused
+/// or an argument has no text.
+#[derive(Clone, Copy)]
+pub struct DisplayFuncArgs<'a, V: WasmValue> {
+    alloc: Global,
+    vals: &'a [V],
+}
+
+impl<'a, V: WasmValue> DisplayFuncArgs<'a, V> {
+    /// Shows `vals`.
+    pub fn new(alloc: Global, vals: &'a [V]) -> DisplayFuncArgs<'a, V>
+        ensures { result.vals.now ≡ vals.entry.now }
+    {
+        DisplayFuncArgs { alloc, vals }
+    }
+}
+
+impl<V: WasmValue> fmt::Display for DisplayFuncArgs<'_, V> {
+    ghost output = { λ d. Some (arguments_text (map V.tree d.vals.now)) };
+
+    fn fmt<W: fmt::Write>(&self, f: &mut fmt::Formatter<W>) -> fmt::Result {
+        match arguments_to_string(self.alloc, self.vals) {
+            Ok(text) => f.write_str(text.as_str()),
+            Err(_) => Err(fmt::Error),
+        }
+    }
+}
+
+/// Shows the results of a call: one as it is, else `(v, w)`. It fails where the formatter fails,
+/// memory is refused or a result has no text.
+#[derive(Clone, Copy)]
+pub struct DisplayFuncResults<'a, V: WasmValue> {
+    alloc: Global,
+    vals: &'a [V],
+}
+
+impl<'a, V: WasmValue> DisplayFuncResults<'a, V> {
+    /// Shows `vals`.
+    pub fn new(alloc: Global, vals: &'a [V]) -> DisplayFuncResults<'a, V>
+        ensures { result.vals.now ≡ vals.entry.now }
+    {
+        DisplayFuncResults { alloc, vals }
+    }
+}
+
+impl<V: WasmValue> fmt::Display for DisplayFuncResults<'_, V> {
+    ghost output = { λ d. Some (results_text (map V.tree d.vals.now)) };
+
+    fn fmt<W: fmt::Write>(&self, f: &mut fmt::Formatter<W>) -> fmt::Result {
+        match results_to_string(self.alloc, self.vals) {
+            Ok(text) => f.write_str(text.as_str()),
+            Err(_) => Err(fmt::Error),
+        }
+    }
+}
+
+/// The text of a function's type.
+fn func_to_string<F: WasmFunc>(alloc: Global, func: &F) -> Result<String, AllocError>
+    ensures { IfOk result (λ s. IsFuncText (F.params func.now) (F.results func.now) (string_bytes s)) }
+{
+    let params = func.params(alloc)?;
+    let param_names = func.param_names(alloc)?;
+    let results = func.results(alloc)?;
+    let result_names = func.result_names(alloc)?;
+    let mut text = String::new(alloc);
+    text.push_str("func")?;
+    push_typed_names(alloc, &param_names, &params, &mut text)?;
+    push_results(alloc, &result_names, &results, &mut text)?;
+    Ok(text)
+}
+
+/// Adds nothing for no result, ` -> T` for an unnamed one, else ` -> ` and all in parentheses.
+fn push_results<T: WasmType>(
+    alloc: Global,
+    names: &Vec<&str>,
+    types: &Vec<&T>,
+    text: &mut String,
+) -> Result<(), AllocError>
+    ensures { OnOk result
+        (string_bytes text.new ≡ string_bytes text.old ++ function_results_text (texts names.now.items) (shown_all T.tree types.now.items)) }
+{
+    if types.is_empty() {
+        return Ok(());
+    }
+    text.push_str(" -> ")?;
+    if types.len() == 1 && names.is_empty() {
+        return push_type(alloc, types[0], text);
+    }
+    push_typed_names(alloc, names, types, text)
+}
+
+/// Adds the types in parentheses, each behind its name where it has one.
+fn push_typed_names<T: WasmType>(
+    alloc: Global,
+    names: &Vec<&str>,
+    types: &Vec<&T>,
+    text: &mut String,
+) -> Result<(), AllocError>
+    ensures { OnOk result
+        (string_bytes text.new ≡ string_bytes text.old ++ in_parens (joined (typed_names (texts names.now.items) (shown_all T.tree types.now.items)))) }
+{
+    text.push_str("(")?;
+    let mut later = false;
+    for i in 0..types.len() {
+        push_separator(later, text)?;
+        later = true;
+        push_name(names, i, text)?;
+        push_type(alloc, types[i], text)?;
+    }
+    text.push_str(")")
+}
+
+/// Adds the name at this place and `: `, or nothing where there is none.
+fn push_name(names: &Vec<&str>, i: usize, text: &mut String) -> Result<(), AllocError>
+    ensures { OnOk result
+        (string_bytes text.new ≡ string_bytes text.old ++ name_part (texts names.now.items) i) }
+{
+    if i < names.len() {
+        text.push_str(names[i])?;
+        text.push_str(": ")
+    } else {
+        Ok(())
+    }
+}
+
+/// The text of a type.
+pub(crate) fn type_to_string<T: WasmType>(alloc: Global, ty: &T) -> Result<String, AllocError>
+    ensures { IfOk result (λ s. string_bytes s ≡ type_text (T.tree ty.now)) }
+{
+    let mut text = String::new(alloc);
+    push_type(alloc, ty, &mut text)?;
+    Ok(text)
+}
+
+#[cycle(types)]
+fn push_type<T: WasmType>(alloc: Global, ty: &T, text: &mut String) -> Result<(), AllocError>
+    ensures { OnOk result (string_bytes text.new ≡ string_bytes text.old ++ type_text (T.tree ty.now)) }
+{
+    let kind = ty.kind();
+    match kind {
+        WasmTypeKind::List => push_list(alloc, ty, text),
+        WasmTypeKind::Record => push_record(alloc, ty, text),
+        WasmTypeKind::Tuple => push_tuple(alloc, ty, text),
+        WasmTypeKind::Variant => push_variant(alloc, ty, text),
+        WasmTypeKind::Enum => push_names("enum", &ty.enum_cases(alloc)?, text),
+        WasmTypeKind::Option => push_option(alloc, ty, text),
+        WasmTypeKind::Result => push_result(alloc, ty, text),
+        WasmTypeKind::Flags => push_names("flags", &ty.flags_names(alloc)?, text),
+        WasmTypeKind::Map => push_map(alloc, ty, text),
+        _ => text.push_str(kind.word()),
+    }
+}
+
+#[cycle(types)]
+fn push_list<T: WasmType>(alloc: Global, ty: &T, text: &mut String) -> Result<(), AllocError>
+    requires { kind_of (T.tree ty.now) ≡ WasmTypeKind.List }
+    ensures { OnOk result (string_bytes text.new ≡ string_bytes text.old ++ type_text (T.tree ty.now)) }
+{
+    match ty.list_element_type() {
+        Some(element) => {
+            text.push_str("list<")?;
+            push_type(alloc, element, text)?;
+            text.push_str(">")
+        }
+        None => unreachable!(),
+    }
+}
+
+#[cycle(types)]
+fn push_option<T: WasmType>(alloc: Global, ty: &T, text: &mut String) -> Result<(), AllocError>
+    requires { kind_of (T.tree ty.now) ≡ WasmTypeKind.Option }
+    ensures { OnOk result (string_bytes text.new ≡ string_bytes text.old ++ type_text (T.tree ty.now)) }
+{
+    match ty.option_some_type() {
+        Some(payload) => {
+            text.push_str("option<")?;
+            push_type(alloc, payload, text)?;
+            text.push_str(">")
+        }
+        None => unreachable!(),
+    }
+}
+
+#[cycle(types)]
+fn push_map<T: WasmType>(alloc: Global, ty: &T, text: &mut String) -> Result<(), AllocError>
+    requires { kind_of (T.tree ty.now) ≡ WasmTypeKind.Map }
+    ensures { OnOk result (string_bytes text.new ≡ string_bytes text.old ++ type_text (T.tree ty.now)) }
+{
+    match ty.map_key_value_types() {
+        Some((key, value)) => {
+            text.push_str("map<")?;
+            push_type(alloc, key, text)?;
+            text.push_str(", ")?;
+            push_type(alloc, value, text)?;
+            text.push_str(">")
+        }
+        None => unreachable!(),
+    }
+}
+
+#[cycle(types)]
+fn push_result<T: WasmType>(alloc: Global, ty: &T, text: &mut String) -> Result<(), AllocError>
+    requires { kind_of (T.tree ty.now) ≡ WasmTypeKind.Result }
+    ensures { OnOk result (string_bytes text.new ≡ string_bytes text.old ++ type_text (T.tree ty.now)) }
+{
+    match ty.result_types() {
+        Some((None, None)) => text.push_str("result"),
+        Some((Some(ok), None)) => {
+            text.push_str("result<")?;
+            push_type(alloc, ok, text)?;
+            text.push_str(">")
+        }
+        Some((None, Some(err))) => {
+            text.push_str("result<_, ")?;
+            push_type(alloc, err, text)?;
+            text.push_str(">")
+        }
+        Some((Some(ok), Some(err))) => {
+            text.push_str("result<")?;
+            push_type(alloc, ok, text)?;
+            text.push_str(", ")?;
+            push_type(alloc, err, text)?;
+            text.push_str(">")
+        }
+        None => unreachable!(),
+    }
+}
+
+#[cycle(types)]
+fn push_record<T: WasmType>(alloc: Global, ty: &T, text: &mut String) -> Result<(), AllocError>
+    requires { kind_of (T.tree ty.now) ≡ WasmTypeKind.Record }
+    ensures { OnOk result (string_bytes text.new ≡ string_bytes text.old ++ type_text (T.tree ty.now)) }
+{
+    let fields = ty.record_fields(alloc)?;
+    text.push_str("record { ")?;
+    let mut later = false;
+    for field in &fields {
+        let (name, field_type) = *field;
+        push_separator(later, text)?;
+        later = true;
+        text.push_str(name)?;
+        text.push_str(": ")?;
+        push_type(alloc, field_type, text)?;
+    }
+    text.push_str(" }")
+}
+
+#[cycle(types)]
+fn push_tuple<T: WasmType>(alloc: Global, ty: &T, text: &mut String) -> Result<(), AllocError>
+    requires { kind_of (T.tree ty.now) ≡ WasmTypeKind.Tuple }
+    ensures { OnOk result (string_bytes text.new ≡ string_bytes text.old ++ type_text (T.tree ty.now)) }
+{
+    let items = ty.tuple_element_types(alloc)?;
+    text.push_str("tuple<")?;
+    let mut later = false;
+    for item in &items {
+        push_separator(later, text)?;
+        later = true;
+        push_type(alloc, *item, text)?;
+    }
+    text.push_str(">")
+}
+
+#[cycle(types)]
+fn push_variant<T: WasmType>(alloc: Global, ty: &T, text: &mut String) -> Result<(), AllocError>
+    requires { kind_of (T.tree ty.now) ≡ WasmTypeKind.Variant }
+    ensures { OnOk result (string_bytes text.new ≡ string_bytes text.old ++ type_text (T.tree ty.now)) }
+{
+    let cases = ty.variant_cases(alloc)?;
+    text.push_str("variant { ")?;
+    let mut later = false;
+    for case in &cases {
+        let (name, payload) = *case;
+        push_separator(later, text)?;
+        later = true;
+        text.push_str(name)?;
+        push_payload(alloc, payload, text)?;
+    }
+    text.push_str(" }")
+}
+
+/// Adds the payload's type in parentheses, or nothing where there is none.
+#[cycle(types)]
+fn push_payload<T: WasmType>(
+    alloc: Global,
+    payload: Option<&T>,
+    text: &mut String,
+) -> Result<(), AllocError>
+    ensures { OnOk result
+        (string_bytes text.new ≡ string_bytes text.old ++ payload_text (maybe_type (shown T.tree payload.entry))) }
+{
+    match payload {
+        None => Ok(()),
+        Some(ty) => {
+            text.push_str("(")?;
+            push_type(alloc, ty, text)?;
+            text.push_str(")")
+        }
+    }
+}
+
+/// Adds names in braces, behind the word of their kind.
+fn push_names(word: &str, names: &Vec<&str>, text: &mut String) -> Result<(), AllocError>
+    ensures { OnOk result
+        (string_bytes text.new ≡ string_bytes text.old ++ braced word.now (texts names.now.items)) }
+{
+    text.push_str(word)?;
+    text.push_str(" { ")?;
+    let mut later = false;
+    for name in names {
+        push_separator(later, text)?;
+        later = true;
+        text.push_str(*name)?;
+    }
+    text.push_str(" }")
+}
+
+fn push_separator(later: bool, text: &mut String) -> Result<(), AllocError>
+    ensures { OnOk result (string_bytes text.new ≡ string_bytes text.old ++ comma_if later) }
+{
+    if later { text.push_str(", ") } else { Ok(()) }
+}

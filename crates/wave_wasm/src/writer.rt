@@ -1,0 +1,625 @@
+//! The canonical text of values.
+use crate::keyword::Keyword;
+use crate::wasm::{WasmTypeKind, WasmValue};
+use itoa::{Buffer, Integer};
+use std::alloc::{AllocError, AllocFailed, Global};
+use std::collections::BTreeMap;
+use std::fmt;
+use unicode::properties::GeneralCategory;
+
+/// Why a value isn't written: the text wasn't taken, the value has a part without a text, or
+/// there was no memory.
+#[derive(Debug, Drop)]
+pub enum WriterError {
+    Io(fmt::Error),
+    UnsupportedType,
+    Memory(AllocError),
+}
+
+impl fmt::Display for WriterError {
+    ghost use Rattle.wave_wasm.specs.Causes.{refusal_text};
+
+    ghost output = { refusal_text };
+
+    fn fmt<W: fmt::Write>(&self, f: &mut fmt::Formatter<W>) -> fmt::Result {
+        match self {
+            WriterError::Io(error) => write!(f, "write failed: {error}"),
+            WriterError::UnsupportedType => f.write_str("unsupported value type"),
+            WriterError::Memory(_) => f.write_str("out of memory"),
+        }
+    }
+}
+
+impl std::error::Error for WriterError {}
+
+impl From<fmt::Error> for WriterError {
+    ghost use Rattle.std.specs.Prelude.{◌≡◌};
+    ghost use Rattle.wave_wasm.specs.declared.writer.WriterError.TheVariants.{Io};
+
+    ghost from_gives = { λ e r. r ≡ Io e };
+
+    fn from(e: fmt::Error) -> WriterError {
+        WriterError::Io(e)
+    }
+}
+
+impl From<AllocError> for WriterError {
+    ghost use Rattle.std.specs.Prelude.{◌≡◌};
+    ghost use Rattle.wave_wasm.specs.declared.writer.WriterError.TheVariants.{Memory};
+
+    ghost from_gives = { λ e r. r ≡ Memory e };
+
+    fn from(e: AllocError) -> WriterError {
+        WriterError::Memory(e)
+    }
+}
+
+impl<T: Drop> From<AllocFailed<T>> for WriterError {
+    ghost use Rattle.std.specs.Prelude.{◌≡◌, alloc_error};
+    ghost use Rattle.wave_wasm.specs.declared.writer.WriterError.TheVariants.{Memory};
+
+    ghost from_gives = { λ e r. r ≡ Memory alloc_error };
+
+    fn from(e: AllocFailed<T>) -> WriterError {
+        WriterError::Memory(AllocError::from(e))
+    }
+}
+
+/// What takes text. A value means the text taken so far and how often a write failed.
+pub trait TextWrite {
+    ghost use Rattle.std.specs.Prelude.{OnOk, IfErr};
+    ghost use Rattle.wave_wasm.specs.Output.{Output, Appended, TextRefused};
+
+    /// The text taken so far and the count of failures.
+    ghost output: { Self → Output };
+
+    /// Takes the text, or a beginning of it where the write fails.
+    fn write_str(&mut self, s: &str) -> Result<(), WriterError>
+        ensures ok { OnOk result (Appended s.now (output self.old) (output self.new)) }
+        ensures err { IfErr result (λ e. TextRefused s.now e (output self.old) (output self.new)) };
+}
+
+impl TextWrite for String {
+    ghost use Rattle.std.specs.String.{string_bytes};
+
+    ghost output = { λ s. record { written = string_bytes s; failures = 0 } };
+
+    fn write_str(&mut self, s: &str) -> Result<(), WriterError> {
+        self.push_str(s)?;
+        Ok(())
+    }
+}
+
+/// Writes the canonical text of values.
+#[derive(Drop)]
+pub struct Writer<W: TextWrite> {
+    out: W,
+}
+
+impl<W: TextWrite> Writer<W> {
+    ghost use Rattle.std.specs.Prelude.{◌≡◌, ◌++◌, OnOk, IfErr, true, map, if◌then◌else◌};
+    ghost use Rattle.std.specs.List.{list_all};
+    ghost use Rattle.std.specs.Borrow.{Lends, sem};
+    ghost use Rattle.wave_wasm.specs.contracts.writer.Writer.{the_row};
+    ghost use Rattle.wave_wasm.specs.Output.{Appended, Refused};
+    ghost use Rattle.wave_wasm.specs.Values.{kind_of, IsLeaf, IsWellFormed, flags_names};
+    ghost use Rattle.wave_wasm.specs.Keywords.{case_label};
+    ghost use Rattle.wave_wasm.specs.Commas.{comma_if, enclosed};
+    ghost use Rattle.wave_wasm.specs.Makers.{IsOfListKind};
+    ghost use Rattle.wave_wasm.specs.Shown.{texts, shown, shown_all};
+    ghost use Rattle.wave_wasm.specs.Text.{escaped, quoted, quoted_char, text, has_text, payload_text, has_payload_text};
+
+    /// A writer into `out`.
+    pub fn new(out: W) -> Writer<W>
+        ensures { result.out ≡ out }
+    {
+        Writer { out }
+    }
+
+    /// What the text goes into.
+    pub fn as_mut(&mut self) -> &mut W
+        ensures* { sem 𝓛 (Lends (the_row W.row) W.row self.entry result (λ w. record { out = w })) }
+    {
+        &mut self.out
+    }
+
+    /// What the text went into.
+    pub fn into_inner(self) -> W
+        ensures { result ≡ self.out }
+    {
+        self.out
+    }
+
+    /// Appends the canonical text of the value. `UnsupportedType` is answered only where it has
+    /// none, `Io` only where a write failed; a beginning of the text may stand then.
+    #[cycle(write)]
+    pub fn write_value<V: WasmValue>(&mut self, alloc: Global, val: &V) -> Result<(), WriterError>
+        ensures ok { OnOk result
+            (Appended (text (V.tree val.now)) (W.output self.old.out) (W.output self.new.out)) }
+        ensures writable { OnOk result (has_text (V.tree val.now) ≡ true) }
+        ensures err { IfErr result
+            (λ e. Refused (text (V.tree val.now)) (has_text (V.tree val.now)) e (W.output self.old.out) (W.output self.new.out)) }
+    {
+        match val.kind() {
+            WasmTypeKind::List | WasmTypeKind::FixedLengthList => self.write_list(alloc, val),
+            WasmTypeKind::Record => self.write_record(alloc, val),
+            WasmTypeKind::Tuple => self.write_tuple(alloc, val),
+            WasmTypeKind::Variant => self.write_variant(alloc, val),
+            WasmTypeKind::Enum => self.write_case(val.unwrap_enum()),
+            WasmTypeKind::Option => self.write_option(alloc, val),
+            WasmTypeKind::Result => self.write_result(alloc, val),
+            WasmTypeKind::Flags => self.write_flags(alloc, val),
+            WasmTypeKind::Map => self.write_map(alloc, val),
+            WasmTypeKind::F32 | WasmTypeKind::F64 | WasmTypeKind::Unsupported => {
+                Err(WriterError::UnsupportedType)
+            }
+            _ => self.write_leaf(alloc, val),
+        }
+    }
+
+    #[cycle(write)]
+    fn write_list<V: WasmValue>(&mut self, alloc: Global, val: &V) -> Result<(), WriterError>
+        requires { IsOfListKind (kind_of (V.tree val.now)) }
+        ensures ok { OnOk result
+            (Appended (text (V.tree val.now)) (W.output self.old.out) (W.output self.new.out)) }
+        ensures writable { OnOk result (has_text (V.tree val.now) ≡ true) }
+        ensures err { IfErr result
+            (λ e. Refused (text (V.tree val.now)) (has_text (V.tree val.now)) e (W.output self.old.out) (W.output self.new.out)) }
+    {
+        let items = val.unwrap_list(alloc)?;
+        self.write_items(alloc, "[", &items, "]")
+    }
+
+    #[cycle(write)]
+    fn write_tuple<V: WasmValue>(&mut self, alloc: Global, val: &V) -> Result<(), WriterError>
+        requires { kind_of (V.tree val.now) ≡ WasmTypeKind.Tuple }
+        ensures ok { OnOk result
+            (Appended (text (V.tree val.now)) (W.output self.old.out) (W.output self.new.out)) }
+        ensures writable { OnOk result (has_text (V.tree val.now) ≡ true) }
+        ensures err { IfErr result
+            (λ e. Refused (text (V.tree val.now)) (has_text (V.tree val.now)) e (W.output self.old.out) (W.output self.new.out)) }
+    {
+        let items = val.unwrap_tuple(alloc)?;
+        self.write_items(alloc, "(", &items, ")")
+    }
+
+    /// Writes values with commas between, after an opening and before a close.
+    #[cycle(write)]
+    fn write_items<V: WasmValue>(
+        &mut self,
+        alloc: Global,
+        open: &str,
+        items: &Vec<&V>,
+        close: &str,
+    ) -> Result<(), WriterError>
+        ensures ok { OnOk result
+            (Appended (enclosed open.now (map text (shown_all V.tree items.now.items)) close.now) (W.output self.old.out) (W.output self.new.out)) }
+        ensures writable { OnOk result (list_all has_text (shown_all V.tree items.now.items) ≡ true) }
+        ensures err { IfErr result
+            (λ e. Refused (enclosed open.now (map text (shown_all V.tree items.now.items)) close.now) (list_all has_text (shown_all V.tree items.now.items)) e (W.output self.old.out) (W.output self.new.out)) }
+    {
+        self.write_text(open)?;
+        let mut later = false;
+        for item in items {
+            self.write_separator(later)?;
+            later = true;
+            self.write_value(alloc, *item)?;
+        }
+        self.write_text(close)
+    }
+
+    #[cycle(write)]
+    fn write_record<V: WasmValue>(&mut self, alloc: Global, val: &V) -> Result<(), WriterError>
+        requires { kind_of (V.tree val.now) ≡ WasmTypeKind.Record }
+        ensures ok { OnOk result
+            (Appended (text (V.tree val.now)) (W.output self.old.out) (W.output self.new.out)) }
+        ensures writable { OnOk result (has_text (V.tree val.now) ≡ true) }
+        ensures err { IfErr result
+            (λ e. Refused (text (V.tree val.now)) (has_text (V.tree val.now)) e (W.output self.old.out) (W.output self.new.out)) }
+    {
+        let fields = val.unwrap_record(alloc)?;
+        let mut later = false;
+        for field in &fields {
+            let (name, value) = *field;
+            if is_none(value) {
+                continue;
+            }
+            self.write_either(later, ", ", "{")?;
+            later = true;
+            self.write_text(name)?;
+            self.write_text(": ")?;
+            self.write_value(alloc, value)?;
+        }
+        self.write_either(later, "}", "{:}")
+    }
+
+    #[cycle(write)]
+    fn write_variant<V: WasmValue>(&mut self, alloc: Global, val: &V) -> Result<(), WriterError>
+        requires { kind_of (V.tree val.now) ≡ WasmTypeKind.Variant }
+        ensures ok { OnOk result
+            (Appended (text (V.tree val.now)) (W.output self.old.out) (W.output self.new.out)) }
+        ensures writable { OnOk result (has_text (V.tree val.now) ≡ true) }
+        ensures err { IfErr result
+            (λ e. Refused (text (V.tree val.now)) (has_text (V.tree val.now)) e (W.output self.old.out) (W.output self.new.out)) }
+    {
+        let (case, payload) = val.unwrap_variant();
+        self.write_case(case)?;
+        self.write_payload(alloc, payload)
+    }
+
+    #[cycle(write)]
+    fn write_option<V: WasmValue>(&mut self, alloc: Global, val: &V) -> Result<(), WriterError>
+        requires { kind_of (V.tree val.now) ≡ WasmTypeKind.Option }
+        ensures ok { OnOk result
+            (Appended (text (V.tree val.now)) (W.output self.old.out) (W.output self.new.out)) }
+        ensures writable { OnOk result (has_text (V.tree val.now) ≡ true) }
+        ensures err { IfErr result
+            (λ e. Refused (text (V.tree val.now)) (has_text (V.tree val.now)) e (W.output self.old.out) (W.output self.new.out)) }
+    {
+        match val.unwrap_option() {
+            None => self.write_text("none"),
+            Some(payload) => {
+                self.write_text("some")?;
+                self.write_payload(alloc, Some(payload))
+            }
+        }
+    }
+
+    #[cycle(write)]
+    fn write_result<V: WasmValue>(&mut self, alloc: Global, val: &V) -> Result<(), WriterError>
+        requires { kind_of (V.tree val.now) ≡ WasmTypeKind.Result }
+        ensures ok { OnOk result
+            (Appended (text (V.tree val.now)) (W.output self.old.out) (W.output self.new.out)) }
+        ensures writable { OnOk result (has_text (V.tree val.now) ≡ true) }
+        ensures err { IfErr result
+            (λ e. Refused (text (V.tree val.now)) (has_text (V.tree val.now)) e (W.output self.old.out) (W.output self.new.out)) }
+    {
+        match val.unwrap_result() {
+            Ok(payload) => {
+                self.write_text("ok")?;
+                self.write_payload(alloc, payload)
+            }
+            Err(payload) => {
+                self.write_text("err")?;
+                self.write_payload(alloc, payload)
+            }
+        }
+    }
+
+    /// Writes the payload in parentheses, or nothing where there is none.
+    #[cycle(write)]
+    fn write_payload<V: WasmValue>(
+        &mut self,
+        alloc: Global,
+        payload: Option<&V>,
+    ) -> Result<(), WriterError>
+        ensures ok { OnOk result
+            (Appended (payload_text (shown V.tree payload.entry)) (W.output self.old.out) (W.output self.new.out)) }
+        ensures writable { OnOk result (has_payload_text (shown V.tree payload.entry) ≡ true) }
+        ensures err { IfErr result
+            (λ e. Refused (payload_text (shown V.tree payload.entry)) (has_payload_text (shown V.tree payload.entry)) e (W.output self.old.out) (W.output self.new.out)) }
+    {
+        match payload {
+            None => Ok(()),
+            Some(val) => {
+                self.write_text("(")?;
+                self.write_value(alloc, val)?;
+                self.write_text(")")
+            }
+        }
+    }
+
+    #[cycle(write)]
+    fn write_map<V: WasmValue>(&mut self, alloc: Global, val: &V) -> Result<(), WriterError>
+        requires kind { kind_of (V.tree val.now) ≡ WasmTypeKind.Map }
+        requires formed { IsWellFormed (V.tree val.now) }
+        ensures ok { OnOk result
+            (Appended (text (V.tree val.now)) (W.output self.old.out) (W.output self.new.out)) }
+        ensures writable { OnOk result (has_text (V.tree val.now) ≡ true) }
+        ensures err { IfErr result
+            (λ e. Refused (text (V.tree val.now)) (has_text (V.tree val.now)) e (W.output self.old.out) (W.output self.new.out)) }
+    {
+        let entries = val.unwrap_map(alloc)?;
+        let merged = merge_entries(alloc, &entries)?;
+        self.write_text("{")?;
+        let mut later = false;
+        for entry in &merged {
+            let (key, value) = *entry;
+            self.write_separator(later)?;
+            later = true;
+            self.write_leaf(alloc, key)?;
+            self.write_text(": ")?;
+            self.write_value(alloc, value)?;
+        }
+        self.write_text("}")
+    }
+
+    fn write_flags<V: WasmValue>(&mut self, alloc: Global, val: &V) -> Result<(), WriterError>
+        requires { kind_of (V.tree val.now) ≡ WasmTypeKind.Flags }
+        ensures ok { OnOk result
+            (Appended (text (V.tree val.now)) (W.output self.old.out) (W.output self.new.out)) }
+        ensures writable { OnOk result (has_text (V.tree val.now) ≡ true) }
+        ensures err { IfErr result
+            (λ e. Refused (text (V.tree val.now)) (has_text (V.tree val.now)) e (W.output self.old.out) (W.output self.new.out)) }
+    {
+        let names = val.unwrap_flags(alloc)?;
+        self.write_text("{")?;
+        let mut later = false;
+        for name in &names {
+            self.write_separator(later)?;
+            later = true;
+            self.write_text(*name)?;
+        }
+        self.write_text("}")
+    }
+
+    /// Writes the name of a case, behind a `%` where it is a keyword.
+    fn write_case(&mut self, case: &str) -> Result<(), WriterError>
+        ensures ok { OnOk result
+            (Appended (case_label case.now) (W.output self.old.out) (W.output self.new.out)) }
+        ensures err { IfErr result
+            (λ e. Refused (case_label case.now) true e (W.output self.old.out) (W.output self.new.out)) }
+    {
+        match Keyword::decode(case) {
+            Some(_) => {
+                self.write_text("%")?;
+                self.write_text(case)
+            }
+            None => self.write_text(case),
+        }
+    }
+
+    /// Writes a value of one token.
+    fn write_leaf<V: WasmValue>(&mut self, alloc: Global, val: &V) -> Result<(), WriterError>
+        requires { IsLeaf (V.tree val.now) }
+        ensures ok { OnOk result
+            (Appended (text (V.tree val.now)) (W.output self.old.out) (W.output self.new.out)) }
+        ensures err { IfErr result
+            (λ e. Refused (text (V.tree val.now)) true e (W.output self.old.out) (W.output self.new.out)) }
+    {
+        match val.kind() {
+            WasmTypeKind::Bool => {
+                self.write_text(if val.unwrap_bool() { "true" } else { "false" })
+            }
+            WasmTypeKind::S8 => self.write_number(val.unwrap_s8()),
+            WasmTypeKind::S16 => self.write_number(val.unwrap_s16()),
+            WasmTypeKind::S32 => self.write_number(val.unwrap_s32()),
+            WasmTypeKind::S64 => self.write_number(val.unwrap_s64()),
+            WasmTypeKind::U8 => self.write_number(val.unwrap_u8()),
+            WasmTypeKind::U16 => self.write_number(val.unwrap_u16()),
+            WasmTypeKind::U32 => self.write_number(val.unwrap_u32()),
+            WasmTypeKind::U64 => self.write_number(val.unwrap_u64()),
+            WasmTypeKind::Char => self.write_char(alloc, val.unwrap_char()),
+            WasmTypeKind::String => self.write_string(alloc, val.unwrap_string()),
+            _ => unreachable!(),
+        }
+    }
+
+    fn write_number<N: Integer>(&mut self, number: N) -> Result<(), WriterError>
+        ensures ok { OnOk result
+            (Appended (N.text number) (W.output self.old.out) (W.output self.new.out)) }
+        ensures err { IfErr result
+            (λ e. Refused (N.text number) true e (W.output self.old.out) (W.output self.new.out)) }
+    {
+        let mut buffer = Buffer::new();
+        self.write_text(buffer.format(number))
+    }
+
+    /// Writes a scalar between single quotes.
+    fn write_char(&mut self, alloc: Global, c: char) -> Result<(), WriterError>
+        ensures ok { OnOk result
+            (Appended (quoted_char c) (W.output self.old.out) (W.output self.new.out)) }
+        ensures err { IfErr result
+            (λ e. Refused (quoted_char c) true e (W.output self.old.out) (W.output self.new.out)) }
+    {
+        self.write_text("'")?;
+        self.write_scalar(alloc, c)?;
+        self.write_text("'")
+    }
+
+    /// Writes a text between double quotes.
+    fn write_string(&mut self, alloc: Global, s: &str) -> Result<(), WriterError>
+        ensures ok { OnOk result
+            (Appended (quoted s.now) (W.output self.old.out) (W.output self.new.out)) }
+        ensures err { IfErr result
+            (λ e. Refused (quoted s.now) true e (W.output self.old.out) (W.output self.new.out)) }
+    {
+        self.write_text("\"")?;
+        for c in s.chars() {
+            self.write_scalar(alloc, c)?;
+        }
+        self.write_text("\"")
+    }
+
+    /// Writes a scalar as it stands between quotes.
+    #[tactic(auto, using(crate::proofs::Writing::refused_before), unfolding(crate::specs::Text::escaped))]
+    fn write_scalar(&mut self, alloc: Global, c: char) -> Result<(), WriterError>
+        ensures ok { OnOk result
+            (Appended (escaped c) (W.output self.old.out) (W.output self.new.out)) }
+        ensures err { IfErr result
+            (λ e. Refused (escaped c) true e (W.output self.old.out) (W.output self.new.out)) }
+    {
+        match c {
+            '\\' => self.write_text("\\\\"),
+            '"' => self.write_text("\\\""),
+            '\'' => self.write_text("\\'"),
+            '\t' => self.write_text("\\t"),
+            '\r' => self.write_text("\\r"),
+            '\n' => self.write_text("\\n"),
+            _ if is_escaped(c) => {
+                let number = u32::from(c);
+                let text = format!(in alloc; "\\u{{{number:x}}}")?;
+                self.write_text(text.as_str())
+            }
+            _ => {
+                let mut bytes = [0u8; 4];
+                self.write_text(c.encode_utf8(&mut bytes))
+            }
+        }
+    }
+
+    fn write_separator(&mut self, later: bool) -> Result<(), WriterError>
+        ensures ok { OnOk result
+            (Appended (comma_if later) (W.output self.old.out) (W.output self.new.out)) }
+        ensures err { IfErr result
+            (λ e. Refused (comma_if later) true e (W.output self.old.out) (W.output self.new.out)) }
+    {
+        if later { self.write_text(", ") } else { Ok(()) }
+    }
+
+    fn write_either(&mut self, first: bool, a: &str, b: &str) -> Result<(), WriterError>
+        ensures ok { OnOk result
+            (Appended (if first then a.now else b.now) (W.output self.old.out) (W.output self.new.out)) }
+        ensures err { IfErr result
+            (λ e. Refused (if first then a.now else b.now) true e (W.output self.old.out) (W.output self.new.out)) }
+    {
+        if first {
+            self.write_text(a)
+        } else {
+            self.write_text(b)
+        }
+    }
+
+    fn write_text(&mut self, s: &str) -> Result<(), WriterError>
+        ensures ok { OnOk result (Appended s.now (W.output self.old.out) (W.output self.new.out)) }
+        ensures err { IfErr result
+            (λ e. Refused s.now true e (W.output self.old.out) (W.output self.new.out)) }
+    {
+        self.out.write_str(s)
+    }
+}
+
+ghost use Rattle.std.specs.Prelude.{◌≡◌, OnOk, IfOk, IfErr, true, map};
+ghost use Rattle.std.specs.Str.{bytes_eq};
+ghost use Rattle.std.specs.String.{string_bytes};
+ghost use Rattle.wave_wasm.specs.Lists.{AllOf};
+ghost use Rattle.wave_wasm.specs.Values.{IsLeaf};
+ghost use Rattle.wave_wasm.specs.Text.{text, has_text, is_no_option, is_escaped, arguments_text, results_text};
+ghost use Rattle.wave_wasm.specs.Merge.{merge, merge_by_text};
+ghost use Rattle.wave_wasm.specs.Output.{IsGrounded};
+
+/// The canonical text of the value. `UnsupportedType` is answered only where it has none, and
+/// `Io` never.
+pub fn to_string<V: WasmValue>(alloc: Global, val: &V) -> Result<String, WriterError>
+    ensures ok { IfOk result (λ s. string_bytes s ≡ text (V.tree val.now)) }
+    ensures writable { OnOk result (has_text (V.tree val.now) ≡ true) }
+    ensures err { IfErr result (λ e. IsGrounded e (has_text (V.tree val.now)) 0 0) }
+{
+    let mut out = Writer::new(String::new(alloc));
+    out.write_value(alloc, val)?;
+    Ok(out.into_inner())
+}
+
+/// The canonical texts of arguments, in parentheses.
+pub(crate) fn arguments_to_string<V: WasmValue>(
+    alloc: Global,
+    vals: &[V],
+) -> Result<String, WriterError>
+    ensures { IfOk result (λ s. string_bytes s ≡ arguments_text (map V.tree vals.now)) }
+{
+    let mut writer = Writer::new(String::new(alloc));
+    writer.write_text("(")?;
+    let mut later = false;
+    for val in vals {
+        writer.write_separator(later)?;
+        later = true;
+        writer.write_value(alloc, val)?;
+    }
+    writer.write_text(")")?;
+    Ok(writer.into_inner())
+}
+
+/// The canonical texts of results: of one as it is, else in parentheses.
+pub(crate) fn results_to_string<V: WasmValue>(
+    alloc: Global,
+    vals: &[V],
+) -> Result<String, WriterError>
+    ensures { IfOk result (λ s. string_bytes s ≡ results_text (map V.tree vals.now)) }
+{
+    if vals.len() == 1 {
+        to_string(alloc, &vals[0])
+    } else {
+        arguments_to_string(alloc, vals)
+    }
+}
+
+/// The canonical text of a value of one token.
+fn leaf_text<V: WasmValue>(alloc: Global, val: &V) -> Result<String, WriterError>
+    requires { IsLeaf (V.tree val.now) }
+    ensures ok { IfOk result (λ s. string_bytes s ≡ text (V.tree val.now)) }
+    ensures err { IfErr result (λ e. IsGrounded e true 0 0) }
+{
+    let mut writer = Writer::new(String::new(alloc));
+    writer.write_leaf(alloc, val)?;
+    Ok(writer.into_inner())
+}
+
+/// The entries with each key once, merged by the texts of their keys.
+fn merge_entries<'a, V: WasmValue>(
+    alloc: Global,
+    entries: &Vec<(&'a V, &'a V)>,
+) -> Result<Vec<(&'a V, &'a V)>, WriterError>
+    requires { AllOf (λ e. IsLeaf (V.tree e.0.now)) entries.now.items }
+    ensures ok { IfOk result
+        (λ m. m.items ≡ merge (λ a b. bytes_eq (text (V.tree a.now)) (text (V.tree b.now))) entries.now.items) }
+    ensures err { IfErr result (λ e. IsGrounded e true 0 0) }
+{
+    let mut with_texts = Vec::new(alloc);
+    for entry in entries {
+        let (key, value) = *entry;
+        let text = leaf_text(alloc, key)?;
+        with_texts.push((text, key, value))?;
+    }
+    Ok(merge_map_entries(alloc, with_texts)?)
+}
+
+fn is_none<V: WasmValue>(val: &V) -> bool
+    ensures { result ≡ is_no_option (V.tree val.now) }
+{
+    val.kind() == WasmTypeKind::Option && val.unwrap_option().is_none()
+}
+
+/// Whether the scalar is written by its number.
+fn is_escaped(c: char) -> bool
+    ensures { result ≡ is_escaped c }
+{
+    use GeneralCategory::*;
+    match GeneralCategory::for_char(c) {
+        Control
+        | Format
+        | PrivateUse
+        | Unassigned
+        | LineSeparator
+        | ParagraphSeparator
+        | NonspacingMark
+        | EnclosingMark
+        | SpaceSeparator => c != ' ',
+        _ => false,
+    }
+}
+
+/// The entries merged by their texts: the distinct texts in the order of their first places, each
+/// with its first key and its last value.
+pub fn merge_map_entries<K: Drop, V: Drop>(
+    alloc: Global,
+    entries: Vec<(String, K, V)>,
+) -> Result<Vec<(K, V)>, AllocError>
+    ensures { IfOk result
+        (λ m. m.items ≡ merge_by_text (map (λ e. ((string_bytes e.0, e.1), e.2)) entries.items)) }
+{
+    let mut places: BTreeMap<String, usize> = BTreeMap::new(alloc);
+    let mut merged: Vec<(K, V)> = Vec::new(alloc);
+    for (text, key, value) in entries {
+        match places.get(text.as_str()) {
+            Some(place) => {
+                let place = *place;
+                merged[place].1 = value;
+            }
+            None => {
+                places.insert(text, merged.len())?;
+                merged.push((key, value))?;
+            }
+        }
+    }
+    Ok(merged)
+}
