@@ -34,6 +34,7 @@ pub record IsUnread (k : WasmTypeKind) : Type 0 where
   pub u64 : k ≢ kind.U64
   pub list : k ≢ kind.List
   pub option : k ≢ kind.Option
+  pub result : k ≢ kind.Result
   pub enum : k ≢ kind.Enum
 
 -- a type without values is refused with the word of its kind
@@ -51,6 +52,7 @@ unread_fault (type.unreadable u) t k r q served e unread refused = subst (λ (w 
 unread_fault (type.fixed E n) t k r q served e unread refused = subst (λ (w : WasmTypeKind). RefusesFor (unsupported_type (kind_word w)) (span_of t) r q) e refused
 unread_fault (type.list E) t k r q served e unread refused = absurd (unread.list e)
 unread_fault (type.option P) t k r q served e unread refused = absurd (unread.option e)
+unread_fault (type.result A B) t k r q served e unread refused = absurd (unread.result e)
 unread_fault (type.enum names) t k r q served e unread refused = absurd (unread.enum e)
 unread_fault _ t k r q served e unread refused = absurd served
 
