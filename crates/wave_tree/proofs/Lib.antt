@@ -57,6 +57,7 @@ pub mod CanonTypes
 pub mod Canon
 pub mod Cases
 pub mod Items
+pub mod Tuples
 pub mod CanonTidy
 pub mod CanonUtf8
 pub mod CanonTyped
