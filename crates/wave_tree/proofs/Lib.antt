@@ -33,6 +33,7 @@ pub mod TyingBraces
 pub mod TyingFlags
 pub mod Tied
 pub mod Texts
+pub mod TreeTexts
 pub mod CanonTokens
 pub mod CanonNumbers
 pub mod CanonPrints
