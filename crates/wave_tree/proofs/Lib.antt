@@ -58,6 +58,8 @@ pub mod CanonTypes
 pub mod Canon
 pub mod Cases
 pub mod Items
+pub mod Entries
+pub mod Fields
 pub mod Tuples
 pub mod CanonTidy
 pub mod CanonUtf8

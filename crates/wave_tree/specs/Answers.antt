@@ -69,6 +69,15 @@ abbrev pub GivesLabel : List ℕ → NodeTree → Result (Bor (List ℕ)) Parser
 GivesLabel source n (Ok name) = (type_of n ≡ kind.Label) × (name.now ≡ name_of (text_at source n))
 GivesLabel source n (Err e) = (type_of n ≢ kind.Label) × RefusedAs InvalidType n e
 
+-- the nodes two by two
+abbrev pub node_pairs : List NodeTree → List (NodeTree × NodeTree)
+node_pairs (key ∷ value ∷ more) = (key, value) ∷ node_pairs more
+node_pairs _ = []
+
+-- the nodes behind two references
+abbrev pub shown_nodes : Bor NodeTree × Bor NodeTree → NodeTree × NodeTree
+shown_nodes e = (e.0.now, e.1.now)
+
 -- the name and the payload of a case; or `InvalidType` at another node
 abbrev pub GivesVariant : List ℕ → NodeTree → Result (Bor (List ℕ) × Option (Bor NodeTree)) ParserError → Type 0
 GivesVariant source n (Ok (name, payload)) =

@@ -8,6 +8,7 @@ ghost use Rattle.wave_tree.specs.Nodes.{IsParsedFrom};
 ghost use Rattle.wave_tree.specs.Answers.{text_at, RefusedAs, OfType, GivesBool, GivesNumber, GivesNodes, GivesOption, GivesResult, GivesLabel, GivesVariant};
 
 use crate::number::WholeNumber;
+pub use crate::record::RecordFields;
 use crate::word::label_name;
 use std::alloc::{AllocError, Global};
 use std::marker::Model;
@@ -198,7 +199,7 @@ impl Node {
     }
 
     /// The nodes within the node.
-    fn nodes(&self) -> &[Node]
+    pub(crate) fn nodes(&self) -> &[Node]
         ensures { result.now ≡ children_of self.now }
     {
         self.children.as_slice()
@@ -213,7 +214,7 @@ impl Node {
     }
 
     /// Refuses a node of another type.
-    fn ensure_type(&self, ty: NodeType) -> Result<(), ParserError>
+    pub(crate) fn ensure_type(&self, ty: NodeType) -> Result<(), ParserError>
         ensures { OfType ty self.now result }
     {
         if self.is_of(ty) {
@@ -231,7 +232,7 @@ impl Node {
     }
 
     /// A refusal of this kind at the node.
-    fn error(&self, kind: ParserErrorKind) -> ParserError
+    pub(crate) fn error(&self, kind: ParserErrorKind) -> ParserError
         ensures { RefusedAs kind self.now result }
     {
         ParserError::new(kind, self.span())
