@@ -136,7 +136,7 @@ tree-fits m P Q fits (multiline text ∷ behind) t rest l h = h
 tree-fits m P Q fits (token ∷ behind) t rest l h = absurd h
 
 -- each tree has a level
-some-level : (t : Tree) → 0 < levels t
+pub some-level : (t : Tree) → 0 < levels t
 some-level (tree.one token) = omega arith
 some-level (tree.tuple ts) = omega arith
 some-level (tree.list ts) = omega arith

@@ -46,7 +46,8 @@ asym_at o Less e h = ap is_lt e
 asym_at o Equal e h = cc
 asym_at o Greater e h = cc
 
-asym : (a b : List ℕ) → is_before a b ≡ true → is_before b a ≡ false
+-- of two names only one is before the other
+pub asym : (a b : List ℕ) → is_before a b ≡ true → is_before b a ≡ false
 asym a b h = before_is b a ∙ asym_at (slice_cmp nat_cmp b a) (slice_cmp nat_cmp a b) (nat_list_cmp_total.antisymm b a) (sym (before_is a b) ∙ h)
 
 equal_names : (a b : List ℕ) → slice_cmp nat_cmp a b ≡ Equal → a ≡ b
@@ -57,10 +58,12 @@ total_at o Less e h k = cc
 total_at o Equal e h k = absurd (k refl)
 total_at o Greater e h k = ap is_lt e
 
-total : (a b : List ℕ) → a ≢ b → is_before a b ≡ false → is_before b a ≡ true
+-- of two names one is before the other
+pub total : (a b : List ℕ) → a ≢ b → is_before a b ≡ false → is_before b a ≡ true
 total a b n h = before_is b a ∙ total_at (slice_cmp nat_cmp b a) (slice_cmp nat_cmp a b) (nat_list_cmp_total.antisymm b a) (sym (before_is a b) ∙ h) (λ e. n (equal_names a b e))
 
-trans : (a b c : List ℕ) → is_before a b ≡ true → is_before b c ≡ true → is_before a c ≡ true
+-- what is before a name is before the names behind it
+pub trans : (a b c : List ℕ) → is_before a b ≡ true → is_before b c ≡ true → is_before a c ≡ true
 trans a b c h k = before_is a c ∙ ap is_lt (nat_list_cmp_total.trans a b c (less_is _ (sym (before_is a b) ∙ h)) (less_is _ (sym (before_is b c) ∙ k)))
 
 -- ---- flags are put in order one after another

@@ -29,3 +29,4 @@ pub mod CanonLaws
 pub mod TreeLaws
 pub mod BeginLaws
 pub mod AnswerLaws
+pub mod ShownLaws
