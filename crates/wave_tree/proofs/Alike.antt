@@ -1,12 +1,10 @@
 -- Trees that differ only in how their labels are written have the same values.
-use Rattle.std.proofs.Common.{◌≡◌, ℕ, suc, ◌<◌, List, [], ◌∷◌, ◌⊎◌, inl, inr, refl, sym, ap, subst, ◌∙◌, map, length, arith}
-use Rattle.wave_wasm.specs.Lists.{AllOf}
-use Rattle.wave_wasm.specs.Names.{IsOneOf, AreAllOf, AreDistinct, found_in}
+use Rattle.std.proofs.Common.{◌≡◌, ℕ, suc, ◌<◌, List, [], ◌∷◌, inl, inr, refl, sym, ap, subst, ◌∙◌, map, length}
+use Rattle.wave_wasm.specs.Names.{IsOneOf, AreAllOf, found_in}
 use Rattle.wave_wasm.specs.Types as type
 use Rattle.wave_wasm.specs.Types.{TypeTree, MaybeType, Types, Fields, Cases, Simple}
 use Rattle.wave_wasm.specs.Values as value
 use Rattle.wave_wasm.specs.Values.{Value, MaybeValue, Leaf}
-use Rattle.wave_tree.specs.Token as token
 use Rattle.wave_tree.specs.Token.{Token}
 use Rattle.wave_tree.specs.Spells.{Spells, name_of}
 use Rattle.wave_tree.specs.Tree.{Tree, MaybeTree, Trees, TreeEntries, one, tuple, list, empty_braces, no_fields, entries, flags, label, none, some, ok, err, no_tree, a_tree, no_trees, tree_and, no_entries, entry, trees, tree_entries}

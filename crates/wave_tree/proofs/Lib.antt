@@ -73,3 +73,5 @@ pub mod ShownTidy
 pub mod ShownReads
 pub mod Alike
 pub mod ShownMeans
+pub mod ParamTrees
+pub mod ShownCalls

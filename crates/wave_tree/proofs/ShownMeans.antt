@@ -1,14 +1,13 @@
 -- The display of a parsed tree spells such a tree, and means what the parsed text means.
-use Rattle.std.proofs.Common.{◌≡◌, ℕ, ◌≤◌, List, [], ◌∷◌, ◌++◌, refl, sym, ap, subst, ◌∙◌, arith}
+use Rattle.std.proofs.Common.{◌≡◌, ℕ, ◌≤◌, List, [], refl, sym, ap, subst, ◌∙◌}
 use Rattle.std.proofs.lemmas.List.{append-nil}
 use Rattle.wave_wasm.specs.Types.{TypeTree}
 use Rattle.wave_wasm.specs.Values.{Value}
-use Rattle.wave_tree.specs.Token as token
 use Rattle.wave_tree.specs.Token.{Token, CutsInto}
 use Rattle.wave_tree.specs.Tree.{Tree, MaybeTree, Trees, TreeEntries, one, tuple, list, empty_braces, no_fields, entries, flags, label, none, some, ok, err, no_tree, a_tree, no_trees, tree_and, no_entries, entry, trees, tree_entries, Takes, levels, shown}
 use Rattle.wave_tree.specs.TreeReads.{TreeReads}
 use Rattle.wave_tree.specs.Means.{Means}
-use Rattle.wave_tree.specs.ShownLaws.{IsTextOf, ShowsAgain, MeanTheSame, ShownKeepsMeaning}
+use Rattle.wave_tree.specs.ShownLaws.{ShownKeepsMeaning}
 use Rattle.wave_tree.proofs.Levels.{takes-levels, takes-within}
 use Rattle.wave_tree.proofs.Bridge.{through}
 use Rattle.wave_tree.proofs.Back.{back}

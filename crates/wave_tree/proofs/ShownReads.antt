@@ -1,25 +1,17 @@
 -- A tree and the tidy one have one display, as many levels, and the same values.
-use Rattle.std.proofs.Common.{◌≡◌, ℕ, ◌<◌, List, [], ◌∷◌, ◌++◌, ◌⊎◌, inl, inr, refl, sym, ap, subst, ◌∙◌, map, length, max, arith}
+use Rattle.std.proofs.Common.{◌≡◌, ℕ, List, ◌∷◌, ◌++◌, refl, ap, ◌∙◌, max}
 use Rattle.std.specs.Prelude.{codes, ◌+◌}
-use Rattle.wave_wasm.specs.Lists.{AllOf}
-use Rattle.wave_wasm.specs.Names.{IsOneOf, AreAllOf, found_in}
 use Rattle.wave_wasm.specs.Keywords.{case_label}
 use Rattle.wave_wasm.specs.Commas.{joined, behind_name, in_parens, in_brackets, in_braces}
-use Rattle.wave_wasm.specs.Types as type
-use Rattle.wave_wasm.specs.Types.{TypeTree, MaybeType, Types, Fields, Cases, Simple}
-use Rattle.wave_wasm.specs.Values as value
-use Rattle.wave_wasm.specs.Values.{Value, MaybeValue, Leaf}
 use Rattle.wave_tree.specs.Token as token
 use Rattle.wave_tree.specs.Token.{Token, text_of}
-use Rattle.wave_tree.specs.Spells.{Spells, name_of}
-use Rattle.wave_tree.specs.Tree.{Tree, MaybeTree, Trees, TreeEntries, one, tuple, list, empty_braces, no_fields, entries, flags, label, none, some, ok, err, no_tree, a_tree, no_trees, tree_and, no_entries, entry, trees, tree_entries, levels, levels_of_maybe, levels_of_trees, levels_of_entries, shown, shown_maybe, shown_label, shown_trees, shown_entries}
-use Rattle.wave_tree.specs.TreeReads as m
-use Rattle.wave_tree.specs.TreeReads.{Meaning, Each, TreeReads, TreeReadsPayload, TreeReadsFlat, TreeReadsAll, TreeReadsField, TreeReadsCase}
+use Rattle.wave_tree.specs.Spells.{name_of}
+use Rattle.wave_tree.specs.Tree.{Tree, MaybeTree, Trees, TreeEntries, one, tuple, list, empty_braces, no_fields, entries, flags, label, none, some, ok, err, no_tree, a_tree, no_trees, tree_and, no_entries, entry, trees, tree_entries, levels, levels_of_maybe, levels_of_trees, levels_of_entries, shown, shown_maybe, shown_trees, shown_entries}
 use Rattle.wave_tree.proofs.CanonNames.{case_token}
 use Rattle.wave_tree.proofs.ShownTokens.{HasShape, named}
-use Rattle.wave_tree.proofs.ShownFlags.{AreNames, names_stay}
+use Rattle.wave_tree.proofs.ShownFlags.{names_stay}
 use Rattle.wave_tree.proofs.ShownTrees.{Sound, MaybeSound, AreSound, AreSoundEntries}
-use Rattle.wave_tree.proofs.ShownTidy.{tidy, tidy_maybe, tidy_label, tidied, tidied_entries, are_names}
+use Rattle.wave_tree.proofs.ShownTidy.{tidy, tidy_maybe, tidied, tidied_entries, are_names}
 
 -- ---- the display and the levels
 

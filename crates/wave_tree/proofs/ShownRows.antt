@@ -1,5 +1,5 @@
 -- What texts with commas, in marks and behind labels show, over what their parts show.
-use Rattle.std.proofs.Common.{◌≡◌, ◌≢◌, ℕ, true, List, [], ◌∷◌, ◌++◌, inl, inr, refl, sym, subst, append_assoc}
+use Rattle.std.proofs.Common.{◌≡◌, ◌≢◌, ℕ, true, List, [], ◌∷◌, ◌++◌, inl, refl, sym, subst, append_assoc}
 use Rattle.wave_wasm.specs.Commas.{joined, followed, in_parens}
 use Rattle.wave_lex.specs.Regex.{is_one_of}
 use Rattle.wave_tree.specs.Token.{Token, CutsInto, paren_open, paren_close, comma, label}

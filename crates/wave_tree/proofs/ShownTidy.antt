@@ -1,5 +1,5 @@
 -- What is shown of a tree spells the tree with its names written as they are shown.
-use Rattle.std.proofs.Common.{◌≡◌, ℕ, zero, suc, ◌<◌, ◌≤◌, List, [], ◌∷◌, ◌++◌, inl, inr, refl, sym, ap, subst, ◌∙◌, map, length, append_assoc, arith}
+use Rattle.std.proofs.Common.{◌≡◌, ℕ, zero, suc, ◌<◌, ◌≤◌, List, [], ◌∷◌, ◌++◌, inl, inr, refl, sym, ap, subst, map, length, append_assoc, arith}
 use Rattle.std.specs.Prelude.{codes}
 use Rattle.wave_wasm.specs.Lists.{AllOf}
 use Rattle.wave_wasm.specs.Names.{AreDistinct}
@@ -10,15 +10,15 @@ use Rattle.wave_lex.proofs.Derive.{matches_from}
 use Rattle.wave_tree.specs.Token as token
 use Rattle.wave_tree.specs.Token.{Token, CutsInto, text_of, brace_open, brace_close, paren_open, paren_close, bracket_open, bracket_close, colon}
 use Rattle.wave_tree.specs.Spells.{name_of}
-use Rattle.wave_tree.specs.Tree.{Tree, MaybeTree, Trees, TreeEntries, one, tuple, list, empty_braces, no_fields, entries, flags, label, none, some, ok, err, no_tree, a_tree, no_trees, tree_and, no_entries, entry, trees, tree_entries, leaf_word, case_word, word_of, IsKey, KeyAnd, Label, in_order, MaybeInParens, BehindWord, Takes, levels, levels_of_maybe, levels_of_trees, levels_of_entries, shown, shown_maybe, shown_trees, shown_entries}
+use Rattle.wave_tree.specs.Tree.{Tree, MaybeTree, Trees, TreeEntries, one, tuple, list, empty_braces, no_fields, entries, flags, label, none, some, ok, err, no_tree, a_tree, no_trees, tree_and, no_entries, entry, trees, tree_entries, case_word, word_of, IsKey, KeyAnd, Label, MaybeInParens, BehindWord, Takes, levels, levels_of_maybe, levels_of_trees, levels_of_entries, shown, shown_maybe, shown_trees, shown_entries}
 use Rattle.wave_tree.specs.Reads.{InParens}
 use Rattle.wave_tree.proofs.Bridge.{not-keyword}
 use Rattle.wave_tree.proofs.Levels.{some-level}
 use Rattle.wave_tree.proofs.CanonPrints.{IsOneToken, label_cut, brace_open_cut, brace_close_cut, paren_open_cut, paren_close_cut, bracket_open_cut, bracket_close_cut, colon_cut, bare_colon_cut}
 use Rattle.wave_tree.proofs.CanonNames.{label_token, case_token}
 use Rattle.wave_tree.proofs.ShownTokens.{HasShape, alone, named, named_twice}
-use Rattle.wave_tree.proofs.ShownFlags.{AreNames, IsOrdered, names_ordered, names_stay, stays_ordered, ordered_distinct}
-use Rattle.wave_tree.proofs.ShownTrees.{Sound, MaybeSound, AreSound, AreSoundEntries, IsLeafToken, leaf_key}
+use Rattle.wave_tree.proofs.ShownFlags.{AreNames, names_ordered, names_stay, stays_ordered, ordered_distinct}
+use Rattle.wave_tree.proofs.ShownTrees.{Sound, MaybeSound, AreSound, AreSoundEntries, IsLeafToken}
 use Rattle.wave_tree.proofs.ShownRows.{Shows, AllShow, IsClosing, StopsFirst, listed_show, parens_show, label_show}
 
 -- a label as it is shown
@@ -56,7 +56,8 @@ abbrev mutual
 
 -- ---- closes
 
-parens : IsClosing 41 paren_close
+-- a `)` closes
+pub parens : IsClosing 41 paren_close
 parens = record { cut = paren_close_cut; stops = refl; no_paren = λ e. cc }
 
 brackets : IsClosing 93 bracket_close

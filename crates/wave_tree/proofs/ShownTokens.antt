@@ -1,5 +1,5 @@
 -- The tokens of a text have the shapes of their classes, and each stands alone.
-use Rattle.std.proofs.Common.{◌≡◌, ℕ, true, List, [], ◌∷◌, ◌++◌, ◌⊎◌, inl, inr, refl, sym, ap, subst, ◌∙◌, map, drop, ◌+◌, arith}
+use Rattle.std.proofs.Common.{◌≡◌, ℕ, true, List, [], ◌∷◌, ◌++◌, inl, inr, refl, sym, ap, subst, ◌∙◌, map, drop, ◌+◌, arith}
 use Rattle.std.specs.Prelude.{encode_utf8_all}
 use Rattle.std.proofs.lemmas.Bool.Decides.{nat_tests}
 use Rattle.wave_wasm.specs.Lists.{AllOf}
@@ -15,7 +15,7 @@ use Rattle.wave_lex.specs.Labels.{IsLabel}
 use Rattle.wave_lex.specs.Lexing.{Front}
 use Rattle.wave_lex.proofs.Derive.{matches_into}
 use Rattle.wave_lex.proofs.Machines.{multiline_steps}
-use Rattle.wave_tree.specs.Token.{Token, CutsInto, lexeme_of, text_of, brace_open, brace_close, paren_open, paren_close, bracket_open, bracket_close, colon, comma, number, label, char, string, multiline}
+use Rattle.wave_tree.specs.Token.{Token, CutsInto, lexeme_of, text_of, number, label, char, string, multiline}
 use Rattle.wave_tree.specs.Spells.{name_of}
 use Rattle.wave_tree.specs.Tree.{IsKey}
 use Rattle.wave_tree.proofs.CanonTokens.{NoStopAfter, reached, no_stop, no_stop_after, stopped_cut, ascii_itself, number_ends, label_ends}

@@ -1,14 +1,12 @@
 -- What a tree is that tokens of a text spell.
-use Rattle.std.proofs.Common.{◌≡◌, ℕ, zero, suc, ◌<◌, List, [], ◌∷◌, ◌⊎◌, inl, inr, refl, sym, ap, subst, ◌∙◌, map, length, arith}
+use Rattle.std.proofs.Common.{◌≡◌, ℕ, zero, suc, ◌<◌, List, [], ◌∷◌, inl, inr, refl, sym, subst, length, arith}
 use Rattle.wave_wasm.specs.Lists.{AllOf}
-use Rattle.wave_wasm.specs.Names.{AreDistinct}
 use Rattle.wave_tree.specs.Token as token
 use Rattle.wave_tree.specs.Token.{Token, brace_close, paren_open, paren_close, bracket_close, colon, comma}
-use Rattle.wave_tree.specs.Spells.{name_of}
-use Rattle.wave_tree.specs.Joined.{Spelling, Closes, FurtherItems, Items}
+use Rattle.wave_tree.specs.Joined.{Spelling, FurtherItems, Items}
 use Rattle.wave_tree.specs.Reads.{InParens}
-use Rattle.wave_tree.specs.Tree.{Tree, MaybeTree, Trees, TreeEntries, one, tuple, list, empty_braces, no_fields, entries, flags, label, none, some, ok, err, no_tree, a_tree, no_trees, tree_and, no_entries, entry, trees, tree_entries, Word, leaf_word, none_word, some_word, ok_word, err_word, case_word, word_of, IsKey, KeyAnd, Label, in_order, MaybeInParens, InBraces, BehindWord, ATree, Takes}
-use Rattle.wave_tree.proofs.ShownTokens.{HasShape, named_twice}
+use Rattle.wave_tree.specs.Tree.{Tree, MaybeTree, Trees, TreeEntries, one, tuple, list, empty_braces, no_fields, entries, flags, label, none, some, ok, err, no_tree, a_tree, no_trees, tree_and, no_entries, entry, trees, tree_entries, Word, leaf_word, none_word, some_word, ok_word, err_word, case_word, word_of, IsKey, KeyAnd, Label, MaybeInParens, InBraces, BehindWord, ATree, Takes}
+use Rattle.wave_tree.proofs.ShownTokens.{HasShape}
 use Rattle.wave_tree.proofs.ShownFlags.{IsOrdered, ordered, order_all, order_some}
 
 -- a label whose word is a leaf's, a number, a char, a string or a multiline string
@@ -76,14 +74,16 @@ further_keep close Item P keeps tokens (a ∷ items) rest (front, behind, e, h, 
     let l = further_keep close Item P keeps behind items rest more k.1 in
     ((k.0, l.0), l.1)
 
-items_keep : {A : Type 0} (close : Token) (Item : Spelling A) (P : A → Type 0) → Keeps Item P → (tokens : List Token) (items : List A) (rest : List Token) → Items close Item tokens items rest → AllOf HasShape tokens → AllOf P items × AllOf HasShape rest
+-- items of what is so are so
+pub items_keep : {A : Type 0} (close : Token) (Item : Spelling A) (P : A → Type 0) → Keeps Item P → (tokens : List Token) (items : List A) (rest : List Token) → Items close Item tokens items rest → AllOf HasShape tokens → AllOf P items × AllOf HasShape rest
 items_keep close Item P keeps tokens [] rest e all = (tt, (behind_one close rest tokens e all).1)
 items_keep close Item P keeps tokens (a ∷ items) rest (behind, h, more) all =
     let k = keeps tokens a behind h all in
     let l = further_keep close Item P keeps behind items rest more k.1 in
     ((k.0, l.0), l.1)
 
-sound_trees : (ts : List Tree) → AllOf Sound ts → AreSound (trees ts)
+-- trees of a list
+pub sound_trees : (ts : List Tree) → AllOf Sound ts → AreSound (trees ts)
 sound_trees [] all = tt
 sound_trees (t ∷ ts) all = (all.0, sound_trees ts all.1)
 

@@ -2,7 +2,7 @@
 ghost use Rattle.wave_wasm.specs.Types.{TypeTree, HasDistinctNames};
 ghost use Rattle.wave_tree.specs.Laws.{OneReading};
 ghost use Rattle.wave_tree.specs.TreeLaws.{OneTree, HasItsLevels, ReadsByTree, TreeIsRead};
-ghost use Rattle.wave_tree.specs.ShownLaws.{ShownKeepsMeaning};
+ghost use Rattle.wave_tree.specs.ShownLaws.{ShownKeepsMeaning, ShownCallKeepsMeaning};
 ghost use Rattle.wave_tree.specs.AnswerLaws.{ReadHaveATree, RefusedHaveNone};
 ghost use Rattle.wave_tree.specs.BeginLaws.{TreesAreLed, LedTokensHaveATree, FrontsAreLed, LedTokensBeginATree};
 ghost use Rattle.wave_tree.specs.BeginLaws.{RefusedTokensBeginNone, UnexpectedTokensBeginNone};
@@ -81,4 +81,10 @@ pub fn refused_values_have_none()
 /// every type what the text means that was parsed.
 pub fn shown_keeps_meaning()
     ensures { ShownKeepsMeaning }
+{}
+
+/// The display of a parsed call is a call of the same name and of the same display, and its tokens are
+/// the same parameters at all types.
+pub fn shown_call_keeps_meaning()
+    ensures { ShownCallKeepsMeaning }
 {}
