@@ -52,7 +52,7 @@ node_at source (m ∷ ns) [] i n h lt is = absurd h
 node_at source (m ∷ ns) (t ∷ ts) zero n h lt is = (t, refl, subst (λ (k : NodeTree). IsNodeOf source k t) (sym is) h.0)
 node_at source (m ∷ ns) (t ∷ ts) (suc i) n h lt is = node_at source ns ts i n h.1 (omega (arith, lt)) is
 
-spelled_nodes : (source : List ℕ) (ns : List NodeTree) (ts : List Placed) (from to : ℕ) → AreParsed source ns ts → SpellsAll source from to (placed_trees ts) → AreNodesOf source ns ts
+pub spelled_nodes : (source : List ℕ) (ns : List NodeTree) (ts : List Placed) (from to : ℕ) → AreParsed source ns ts → SpellsAll source from to (placed_trees ts) → AreNodesOf source ns ts
 spelled_nodes source [] [] from to h s = tt
 spelled_nodes source [] (t ∷ ts) from to h s = absurd h
 spelled_nodes source (n ∷ ns) [] from to h s = absurd h

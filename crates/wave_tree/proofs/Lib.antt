@@ -34,6 +34,8 @@ pub mod TyingFlags
 pub mod Tied
 pub mod Texts
 pub mod TreeTexts
+pub mod JoinedTexts
+pub mod ShownLemmas
 pub mod CanonTokens
 pub mod CanonNumbers
 pub mod CanonPrints

@@ -198,14 +198,14 @@ impl Node {
     }
 
     /// The nodes within the node.
-    fn nodes(&self) -> &[Node]
+    pub(crate) fn nodes(&self) -> &[Node]
         ensures { result.now ≡ children_of self.now }
     {
         self.children.as_slice()
     }
 
     /// The source at the node.
-    fn slice<'src>(&self, src: &'src str) -> &'src str
+    pub(crate) fn slice<'src>(&self, src: &'src str) -> &'src str
         requires { IsParsedFrom src.now self.now }
         ensures { result.now ≡ text_at src.now self.now }
     {
