@@ -62,7 +62,30 @@ RefusesParts kind T Takes (error.WrongValueType t v) = (kind_of T ≡ kind) × (
 RefusesParts kind T Takes (error.Memory e) = Unit {0}
 RefusesParts kind T Takes _ = ⊥
 
--- so, or an unknown case
+-- a payload type without a payload
+abbrev pub IsMissing : Option TypeTree → Option TypedValue → Type 0
+IsMissing (Some P) None = Unit {0}
+IsMissing _ p = ⊥
+
+-- a payload without a payload type
+abbrev pub IsUnexpected : Option TypeTree → Option TypedValue → Type 0
+IsUnexpected None (Some v) = Unit {0}
+IsUnexpected _ p = ⊥
+
+-- a payload of another type
+abbrev pub IsOther : Option TypeTree → Option TypedValue → Type 0
+IsOther (Some P) (Some v) = v.own ≢ P
+IsOther _ p = ⊥
+
+-- a payload that is missing, unexpected or of another type at the case of this name, or want of memory
+abbrev pub RefusesPayload : List ℕ → Option TypeTree → Option TypedValue → WasmValueError → Type 0
+RefusesPayload name P p (error.MissingPayload n) = (string_bytes n ≡ name) × IsMissing P p
+RefusesPayload name P p (error.UnexpectedPayload n) = (string_bytes n ≡ name) × IsUnexpected P p
+RefusesPayload name P p (error.WrongValueType t v) = IsOther P p
+RefusesPayload name P p (error.Memory e) = Unit {0}
+RefusesPayload name P p _ = ⊥
+
+-- a type of another kind, or an unknown case
 abbrev pub RefusesEnum : TypeTree → List ℕ → WasmValueError → Type 0
 RefusesEnum T name (error.WrongTypeKind k t) = (kind_of T ≡ kinds.Enum → ⊥) × (k ≡ kinds.Enum)
 RefusesEnum T name (error.UnknownCase n) = (kind_of T ≡ kinds.Enum) × (string_bytes n ≡ name) × (TakesEnum T name → ⊥)
@@ -88,3 +111,15 @@ abbrev pub SaysCase : List ℕ → WasmValueError → Type 0
 SaysCase name (error.UnknownCase n) = string_bytes n ≡ name
 SaysCase name (error.Memory e) = Unit {0}
 SaysCase name _ = ⊥
+
+-- the payload is missing
+abbrev pub SaysMissing : List ℕ → WasmValueError → Type 0
+SaysMissing name (error.MissingPayload n) = string_bytes n ≡ name
+SaysMissing name (error.Memory e) = Unit {0}
+SaysMissing name _ = ⊥
+
+-- the payload is unexpected
+abbrev pub SaysUnexpected : List ℕ → WasmValueError → Type 0
+SaysUnexpected name (error.UnexpectedPayload n) = string_bytes n ≡ name
+SaysUnexpected name (error.Memory e) = Unit {0}
+SaysUnexpected name _ = ⊥
