@@ -13,44 +13,14 @@ use Rattle.wave_wasm.specs.declared.wasm.WasmValueError.TheVariants as error
 use Rattle.wasm_wave.specs.TypedValue.{TypedValue, IsAt}
 use Rattle.wasm_wave.specs.Built.{IsFull}
 use Rattle.wasm_wave.specs.ValueView.{payload_tree, first_names}
-use Rattle.wasm_wave.specs.Taken.{Made, IsMissing, IsUnexpected, IsOther, RefusesPayload}
+use Rattle.wasm_wave.specs.Taken.{Made, RefusesPayload}
 use Rattle.wasm_wave.specs.TakenCases.{IsFirstCase, RefusesVariant}
-use Rattle.wasm_wave.proofs.Lawful.{lawful}
+use Rattle.wasm_wave.proofs.Lawful.{lawful, payload_memory}
 
 -- ---- variants
 
 pub made_variant : (T : TypeTree) (name : List ℕ) (p : Option TypedValue) (v : TypedValue) → Made (value.variant name (maybe_value (payload_tree p))) T v → MakesVariant (λ v. v.tree) (λ v T. IsAt T v) T name p v
 made_variant T name p v m = λ distinct. lawful _ T v m
-
--- the payload is of its type
-abbrev IsOf : Option TypeTree → Option TypedValue → Type 0
-IsOf P p = PayloadIsOf (λ v T. IsAt T v) P p
-
-not_missing : (P : Option TypeTree) (p : Option TypedValue) → IsOf P p → IsMissing P p → ⊥
-not_missing None None h m = m
-not_missing None (Some v) h m = m
-not_missing (Some T) None h m = h
-not_missing (Some T) (Some v) h m = m
-
-not_unexpected : (P : Option TypeTree) (p : Option TypedValue) → IsOf P p → IsUnexpected P p → ⊥
-not_unexpected None None h m = m
-not_unexpected None (Some v) h m = h
-not_unexpected (Some T) None h m = m
-not_unexpected (Some T) (Some v) h m = m
-
-not_other : (P : Option TypeTree) (p : Option TypedValue) → IsOf P p → IsOther P p → ⊥
-not_other None None h m = m
-not_other None (Some v) h m = m
-not_other (Some T) None h m = m
-not_other (Some T) (Some v) h m = m h.own
-
--- a payload of its type is refused for want of memory alone
-pub memory_alone : (name : List ℕ) (P : Option TypeTree) (p : Option TypedValue) (e : WasmValueError) → IsOf P p → RefusesPayload name P p e → IsMemory e
-memory_alone name P p (error.MissingPayload n) h r = absurd (not_missing P p h r.1)
-memory_alone name P p (error.UnexpectedPayload n) h r = absurd (not_unexpected P p h r.1)
-memory_alone name P p (error.WrongValueType t v) h r = absurd (not_other P p h r)
-memory_alone name P p (error.Memory e) h r = tt
-memory_alone name P p _ h r = absurd r
 
 apart : (cs : Cases) (name other : List ℕ) (P : Option TypeTree) → IsNoneOf (case_names cs) other → SomeOf (λ c. c ≡ (name, P)) (case_list cs) → name ≢ other
 apart no_cases name other P none h = absurd h
@@ -76,10 +46,10 @@ has_case (c ∷ cs) name P (inl h) none = none.0 h.0
 has_case (c ∷ cs) name P (inr h) none = has_case cs name P h.1 none.1
 
 -- what a refusal says of the payload holds of the first case
-at_first : (cs : List (List ℕ × Option TypeTree)) (name : List ℕ) (P Q : Option TypeTree) (p : Option TypedValue) (e : WasmValueError) → IsFirstCase cs name P → IsOf P p → IsFirstCase cs name Q → RefusesPayload name Q p e → IsMemory e
-at_first cs name P Q p e first h other r = memory_alone name P p e h (subst (λ Z. RefusesPayload name Z p e) (one_first cs name P Q first other) r)
+at_first : (cs : List (List ℕ × Option TypeTree)) (name : List ℕ) (P Q : Option TypeTree) (p : Option TypedValue) (e : WasmValueError) → IsFirstCase cs name P → PayloadIsOf (λ v T. IsAt T v) P p → IsFirstCase cs name Q → RefusesPayload name Q p e → IsMemory e
+at_first cs name P Q p e first h other r = payload_memory name P p e h (subst (λ Z. RefusesPayload name Z p e) (one_first cs name P Q first other) r)
 
-case_refused : (cs : Cases) (name : List ℕ) (P : Option TypeTree) (p : Option TypedValue) (e : WasmValueError) → IsFirstCase (case_list cs) name P → IsOf P p → RefusesVariant (type.variant cs) name p e → IsMemory e
+case_refused : (cs : Cases) (name : List ℕ) (P : Option TypeTree) (p : Option TypedValue) (e : WasmValueError) → IsFirstCase (case_list cs) name P → PayloadIsOf (λ v T. IsAt T v) P p → RefusesVariant (type.variant cs) name p e → IsMemory e
 case_refused cs name P p (error.WrongTypeKind k t) first h r = absurd (r.0 refl)
 case_refused cs name P p (error.UnknownCase n) first h r = absurd (has_case (case_list cs) name P first r.2)
 case_refused cs name P p (error.Memory e) first h r = tt

@@ -12,4 +12,6 @@ pub mod SameContent
 pub mod ValueLists
 pub mod Made
 pub mod MadeCases
+pub mod MadeTuple
+pub mod MadeResult
 pub mod Headline

@@ -19,15 +19,9 @@ use Rattle.wave_wasm.specs.declared.wasm.WasmValueError.{WasmValueError}
 use Rattle.wave_wasm.specs.declared.wasm.WasmValueError.TheVariants as error
 use Rattle.wasm_wave.specs.TypedValue.{TypedValue, IsAt}
 use Rattle.wasm_wave.specs.ValueView.{name_at, first_names, payload_tree, PayloadAt, CaseAt, VariantFits}
-use Rattle.wasm_wave.specs.Taken.{Made, PayloadOwn, RefusesPayload, SaysUnexpected, SaysCase}
+use Rattle.wasm_wave.specs.Taken.{Made, PayloadOwn, RefusesPayload, SaysCase}
 use Rattle.wasm_wave.specs.TakenCases.{IsFirstCase, TakesVariant, RefusesVariant}
 use Rattle.wasm_wave.proofs.ValueMeans.{variant_value}
-
--- a payload where none is stated
-pub not_stated : (name : List ℕ) (v : TypedValue) (e : WasmValueError) → SaysUnexpected name e → RefusesPayload name None (Some v) e
-not_stated name v (error.UnexpectedPayload n) says = (says, tt)
-not_stated name v (error.Memory r) says = tt
-not_stated name v _ says = absurd says
 
 -- ---- the first case of a name
 
@@ -85,8 +79,14 @@ variant_made T own name i p q same e given h =
         λ j. value.variant (called j) (maybe_value (payload_tree (given j))) in
     record { own = same; tree = means; fits = subst (λ U. HasType U (value.variant name (maybe_value (payload_tree q)))) same (subst (HasType own) means (variant_value own i p h)) }
 
-pub variant_taken : (T : TypeTree) (name : List ℕ) (i : ℕ) (c : List ℕ × Option TypeTree) (p : Option TypedValue) → Some i ≡ position (λ c. bytes_eq name c.0) (variant_parts T) → c ≡ case_at (variant_parts T) i → PayloadOwn c.1 p → TakesVariant T name p
-variant_taken T name i c p e is own = (c.1, first_found (variant_parts T) name i c e is, own)
+own_payload : (P : Option TypeTree) (p : Option TypedValue) → PayloadAt P p → PayloadOwn P p
+own_payload None None at = tt
+own_payload None (Some v) at = absurd at
+own_payload (Some T) None at = absurd at
+own_payload (Some T) (Some v) at = at.own
+
+pub variant_taken : (T : TypeTree) (name : List ℕ) (i : ℕ) (c : List ℕ × Option TypeTree) (p : Option TypedValue) → Some i ≡ position (λ c. bytes_eq name c.0) (variant_parts T) → c ≡ case_at (variant_parts T) i → PayloadAt c.1 p → TakesVariant T name p
+variant_taken T name i c p e is at = (c.1, first_found (variant_parts T) name i c e is, own_payload c.1 p at)
 
 -- the first case of the name doesn't take the payload
 pub payload_refused : (T : TypeTree) (name : List ℕ) (i : ℕ) (c : List ℕ × Option TypeTree) (p : Option TypedValue) (e : WasmValueError) → kinds.Variant ≡ kind_of T → Some i ≡ position (λ c. bytes_eq name c.0) (variant_parts T) → c ≡ case_at (variant_parts T) i → RefusesPayload name c.1 p e → RefusesVariant T name p e

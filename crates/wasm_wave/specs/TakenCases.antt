@@ -1,21 +1,13 @@
 -- What the makers of variants, flags and maps accept, and what their refusals say.
 use Rattle.std.specs.Prelude.{ℕ, ◌≡◌, ◌≢◌, ◌⊎◌, List, [], ◌∷◌, Option, Some, None, string_bytes}
-use Rattle.std.specs.declared.alloc.Global.{Global}
-use Rattle.std.specs.declared.boxed.Box.{Box}
 use Rattle.wave_wasm.specs.Names.{IsNoneOf}
 use Rattle.wave_wasm.specs.Types.{TypeTree, kind_of, variant_parts}
 use Rattle.wave_wasm.specs.declared.wasm.WasmTypeKind.TheVariants as kinds
 use Rattle.wave_wasm.specs.declared.wasm.WasmValueError.{WasmValueError}
 use Rattle.wave_wasm.specs.declared.wasm.WasmValueError.TheVariants as error
 use Rattle.wasm_wave.specs.TypedValue.{TypedValue}
-use Rattle.wasm_wave.specs.ValueView.{boxed, first_names, PayloadAt}
+use Rattle.wasm_wave.specs.ValueView.{first_names}
 use Rattle.wasm_wave.specs.Taken.{PayloadOwn, RefusesPayload}
-
--- ---- payloads
-
--- the payload in the box is the one handed over, as stated
-abbrev pub IsBoxed : Option TypeTree → Option TypedValue → Option (Box TypedValue Global) → Type 0
-IsBoxed stated payload p = (boxed p ≡ payload) × PayloadAt stated payload
 
 -- ---- variants
 

@@ -18,6 +18,12 @@ use Rattle.wave_tree.specs.Faults.{LeafFault, IsForm, Fault}
 use Rattle.wave_tree.proofs.Enums.{enum_none}
 use Rattle.wave_tree.proofs.Options.{some_none, flat_none}
 use Rattle.wave_tree.specs.Typed.{IsRead, IsBlamed, IsRefused, IsServed, ReadsNone}
+use Rattle.wave_wasm.specs.Types.{Types}
+use Rattle.wave_tree.specs.TreeReads.{TreeReadsAll}
+use Rattle.wave_tree.specs.Placed.{tuple}
+use Rattle.wave_tree.specs.Faults.{FaultOfItem}
+use Rattle.wave_tree.specs.Typed.{AreServed}
+use Rattle.wave_tree.proofs.Tuples.{as_types, tuple_items, first_item}
 
 first_tree : (t u : Tree) (ts us : Trees) → tree.tree_and t ts ≡ tree.tree_and u us → t ≡ u
 first_tree t u ts us e = cc
@@ -54,18 +60,33 @@ list_none E (and_then t more) k q [] vs apart h e each = cc
 list_none E (and_then t more) k q (u ∷ us) vs apart (inl fault) e (v, ws, read, others, f) = apart t fault v (subst (λ (w : Tree). TreeReads E w v) (sym (first_tree (tree_of t) u (trees_of more) (trees us) e)) read)
 list_none E (and_then t more) k q (u ∷ us) vs apart (inr h) e (v, ws, read, others, f) = list_none E more k q us ws apart h (cc) others
 
--- a tree with a fault at a type is given no value by it
-pub no_value : (T : TypeTree) (t : Placed) (k : Refusal) (q : Range ℕ) → IsServed T → Fault T t k q → ReadsNone T t
-no_value (type.simple S) t k q served fault = λ v read. simple_none S t k q v served fault read
-no_value (type.unreadable u) t k q served fault = λ v read. read
-no_value (type.fixed E n) t k q served fault = λ v read. read
-no_value (type.list E) (at p (list ts)) k q served fault = λ v read. list_none E ts k q read.0 read.1 (λ u h. no_value E u k q served h) fault (inner_trees (trees_of ts) (trees read.0) read.2) read.3
-no_value (type.list E) (at p _) k q served fault = λ v read. absurd (cc)
-no_value (type.option P) (at p none) k q served fault = absurd fault
-no_value (type.option P) (at p (some u)) k q served fault = λ v read. some_none P u v (no_value P u k q served fault) read
-no_value (type.option P) (at p s) k q served fault = λ v. elim [ inl (inl h) ↦ absurd (cc) | inl (inr h) ↦ absurd (cc) | inr h ↦ flat_none P (at p s) k q p h.0 (λ f. no_value P (at p s) k q served f) fault h.1.0 h.1.1 ]
-no_value (type.enum names) t k q served fault = λ v read. enum_none names t k q v fault read
-no_value _ t k q served fault = absurd served
+mutual
+  -- a tree with a fault at a type is given no value by it
+  pub no_value : (T : TypeTree) (t : Placed) (k : Refusal) (q : Range ℕ) → IsServed T → Fault T t k q → ReadsNone T t
+  no_value (type.simple S) t k q served fault = λ v read. simple_none S t k q v served fault read
+  no_value (type.unreadable u) t k q served fault = λ v read. read
+  no_value (type.fixed E n) t k q served fault = λ v read. read
+  no_value (type.list E) (at p (list ts)) k q served fault = λ v read. list_none E ts k q read.0 read.1 (λ u h. no_value E u k q served h) fault (inner_trees (trees_of ts) (trees read.0) read.2) read.3
+  no_value (type.list E) (at p _) k q served fault = λ v read. absurd (cc)
+  no_value (type.tuple Ts) (at p (tuple ts)) k q served (inl h) = λ v read. h.0 (as_types Ts ts read.0 read.1 (tuple_items ts read.0 read.2) read.4)
+  no_value (type.tuple Ts) (at p (tuple ts)) k q served (inr h) = λ v read. no_item Ts ts k q read.0 read.1 served h (tuple_items ts read.0 read.2) read.4
+  no_value (type.tuple Ts) (at p _) k q served fault = λ v read. absurd (cc)
+  no_value (type.option P) (at p none) k q served fault = absurd fault
+  no_value (type.option P) (at p (some u)) k q served fault = λ v read. some_none P u v (no_value P u k q served fault) read
+  no_value (type.option P) (at p s) k q served fault = λ v. elim [ inl (inl h) ↦ absurd (cc) | inl (inr h) ↦ absurd (cc) | inr h ↦ flat_none P (at p s) k q p h.0 (λ f. no_value P (at p s) k q served f) fault h.1.0 h.1.1 ]
+  no_value (type.enum names) t k q served fault = λ v read. enum_none names t k q v fault read
+  no_value _ t k q served fault = absurd served
+
+  -- so are the items of a tuple where one has a fault
+  no_item : (Ts : Types) (ps : PlacedTrees) (k : Refusal) (q : Range ℕ) (us : List Tree) (vs : List Value) → AreServed Ts → FaultOfItem Ts (placed_list ps) k q → trees_of ps ≡ trees us → TreeReadsAll Ts us vs → ⊥
+  no_item type.no_types ps k q us vs served fault e read = fault
+  no_item (type.type_and T more) no_more k q us vs served fault e read = fault
+  no_item (type.type_and T more) (and_then p ps) k q us vs served (inl fault) e read =
+      let first = first_item T more p ps us vs e read in
+      no_value T p k q served.0 fault first.0 first.3
+  no_item (type.type_and T more) (and_then p ps) k q us vs served (inr fault) e read =
+      let first = first_item T more p ps us vs e read in
+      no_item more ps k q first.1 first.2 served.1 fault first.4 first.5
 
 module _ {V : Type 0} (tree : V → Value) (of : V → TypeTree → Type 0) (Full : TypeTree → Type 0) where
   -- where a fault is the answer there is no value

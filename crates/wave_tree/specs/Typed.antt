@@ -1,7 +1,7 @@
 -- What reading a node at a type answers.
 use Rattle.std.specs.Prelude.{ℕ, ◌≡◌, ◌⊎◌, List, Result, Ok, Err, MatchResult}
 use Rattle.wave_wasm.specs.Types as type
-use Rattle.wave_wasm.specs.Types.{TypeTree, HasDistinctNames}
+use Rattle.wave_wasm.specs.Types.{TypeTree, Types, HasDistinctNames}
 use Rattle.wave_wasm.specs.Values.{Value}
 use Rattle.wave_wasm.specs.Causes.{Cause, cause_of}
 use Rattle.wave_wasm.specs.declared.wasm.WasmValueError as causes
@@ -57,12 +57,19 @@ module _ {V : Type 0} (tree : V → Value) (of : V → TypeTree → Type 0) (Ful
   Reads T source n r = (t : Placed) → IsNodeOf source n t → HasDistinctNames T → MatchResult r (IsRead tree of T t) (IsRefused Full T t)
 
 -- the types that are read so far
-abbrev pub IsServed : TypeTree → Type 0
-IsServed (type.simple type.bool) = Unit {0}
-IsServed (type.simple (type.whole which)) = Unit {0}
-IsServed (type.unreadable kind) = Unit {0}
-IsServed (type.fixed E n) = Unit {0}
-IsServed (type.list E) = IsServed E
-IsServed (type.option P) = IsServed P
-IsServed (type.enum names) = Unit {0}
-IsServed _ = ⊥
+abbrev mutual
+  pub IsServed : TypeTree → Type 0
+  IsServed (type.simple type.bool) = Unit {0}
+  IsServed (type.simple (type.whole which)) = Unit {0}
+  IsServed (type.unreadable kind) = Unit {0}
+  IsServed (type.fixed E n) = Unit {0}
+  IsServed (type.list E) = IsServed E
+  IsServed (type.tuple Ts) = AreServed Ts
+  IsServed (type.option P) = IsServed P
+  IsServed (type.enum names) = Unit {0}
+  IsServed _ = ⊥
+
+  -- each type of a tuple is read
+  pub AreServed : Types → Type 0
+  AreServed type.no_types = Unit {0}
+  AreServed (type.type_and T more) = IsServed T × AreServed more

@@ -7,4 +7,5 @@ pub mod laws;
 pub mod number;
 pub mod parser;
 mod typed;
+pub mod untyped;
 mod word;

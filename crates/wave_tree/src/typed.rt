@@ -4,9 +4,12 @@ ghost use Rattle.wave_wasm.specs.Types.{kind_of, whole_kind, Whole};
 ghost use Rattle.wave_wasm.specs.Types as type;
 ghost use Rattle.wave_wasm.specs.Shown.{texts};
 ghost use Rattle.wave_wasm.specs.TypeText.{kind_word};
-ghost use Rattle.wave_wasm.specs.Causes.{unsupported_type, unknown_case};
+ghost use Rattle.wave_wasm.specs.Causes.{unsupported_type, unknown_case, wrong_number};
+ghost use Rattle.wave_lex.specs.Errors.{refusal_of};
 ghost use Rattle.wave_lex.specs.declared.error.ParserErrorKind.TheVariants.{OutOfMemory};
 ghost use Rattle.wave_tree.specs.Answers.{Among};
+ghost use Rattle.wave_tree.specs.NodeTree.{place_of};
+ghost use Rattle.wave_tree.specs.Faults.{RefusesFor};
 ghost use Rattle.wave_tree.specs.Typed.{IsValueOf, IsCaused, IsMade, IsServed, Answers, Reads};
 
 use crate::ast::Node;
@@ -48,6 +51,7 @@ impl Node {
             WasmTypeKind::U32 => self.made(V::make_u32(alloc, self.as_number(src)?)),
             WasmTypeKind::U64 => self.made(V::make_u64(alloc, self.as_number(src)?)),
             WasmTypeKind::List => self.read_list(alloc, ty, src),
+            WasmTypeKind::Tuple => self.read_tuple(alloc, ty, src),
             WasmTypeKind::Enum => self.read_enum(alloc, ty, src),
             WasmTypeKind::Option => self.read_option(alloc, ty, src),
             kind => Err(self.unsupported(alloc, kind)),
@@ -74,6 +78,34 @@ impl Node {
             self.keep(&mut items, item)?;
         }
         self.made(V::make_list(alloc, ty, items))
+    }
+
+    /// A tuple: as many items as types, each read at its type.
+    #[cycle(reading)]
+    fn read_tuple<V: WasmValue>(
+        &self,
+        alloc: Global,
+        ty: &V::Type,
+        src: &str,
+    ) -> Result<V, ParserError>
+        requires node { IsValueOf src.now self.now }
+        requires kind { kind_of (V.Type.tree ty.now) ≡ WasmTypeKind.Tuple }
+        ensures { IsServed (V.Type.tree ty.now) → Answers V.tree V.is_of V.is_full (V.Type.tree ty.now) src.now self.now result }
+    {
+        let types = match ty.tuple_element_types(alloc) {
+            Ok(types) => types,
+            Err(_) => return Err(self.out_of_memory()),
+        };
+        let nodes = self.as_tuple()?;
+        if nodes.len() != types.len() {
+            return Err(self.wrong_number(types.len(), nodes.len()));
+        }
+        let mut items = Vec::new(alloc);
+        for i in 0..nodes.len() {
+            let item = nodes[i].read(alloc, types[i], src)?;
+            self.keep(&mut items, item)?;
+        }
+        self.made(V::make_tuple(alloc, ty, items))
     }
 
     /// An option: `none`, `some` of its payload, or a flat payload.
@@ -162,6 +194,13 @@ impl Node {
         ensures { result.kind ≡ OutOfMemory }
     {
         ParserError::new(ParserErrorKind::OutOfMemory, self.span())
+    }
+
+    /// A refusal because a tuple of so many types has another number of items.
+    fn wrong_number(&self, want: usize, got: usize) -> ParserError
+        ensures { RefusesFor (wrong_number want got) (place_of self.now) (refusal_of result) result.span }
+    {
+        self.refused(WasmValueError::WrongNumberOfTupleValues { want, got })
     }
 
     /// A refusal because the type has no case or flag of this name.

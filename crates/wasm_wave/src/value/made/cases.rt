@@ -2,17 +2,14 @@
 ghost use Rattle.std.specs.Prelude.{IfOk, IfErr, OnOk};
 ghost use Rattle.wave_wasm.specs.Values as value;
 ghost use Rattle.wave_wasm.specs.Values.{maybe_value};
-ghost use Rattle.wave_wasm.specs.Shown.{shown};
 ghost use Rattle.wasm_wave.specs.ValueView.{payload_tree};
-ghost use Rattle.wasm_wave.specs.Taken.{Made, PayloadOwn, RefusesPayload};
-ghost use Rattle.wasm_wave.specs.TakenCases.{IsBoxed, TakesVariant, RefusesVariant};
+ghost use Rattle.wasm_wave.specs.Taken.{Made};
+ghost use Rattle.wasm_wave.specs.TakenCases.{TakesVariant, RefusesVariant};
 
-use super::super::refusals::{
-    missing_payload, unexpected_payload, unknown_case, wrong_kind, wrong_type,
-};
+use super::super::refusals::{unknown_case, wrong_kind};
 use super::super::{Content, Type, Value};
+use super::boxed_payload;
 use std::alloc::Global;
-use std::boxed::Box;
 use wave_wasm::wasm::{WasmType, WasmTypeKind, WasmValueError};
 
 impl Value {
@@ -45,33 +42,5 @@ impl Value {
             },
             _ => Err(wrong_kind(alloc, WasmTypeKind::Variant, ty)),
         }
-    }
-}
-
-// The payload in a box, where it is there exactly as stated and of its type.
-pub(super) fn boxed_payload(
-    alloc: Global,
-    name: &str,
-    stated: Option<&Type>,
-    val: Option<Value>,
-) -> Result<Option<Box<Value>>, WasmValueError>
-    ensures boxed { IfOk result (IsBoxed (shown (λ t. t) stated.entry) val) }
-    ensures taken { OnOk result (PayloadOwn (shown (λ t. t) stated.entry) val) }
-    ensures refused { IfErr result (RefusesPayload name.now (shown (λ t. t) stated.entry) val) }
-{
-    match val {
-        None => match stated {
-            None => Ok(None),
-            Some(_) => Err(missing_payload(alloc, name)),
-        },
-        Some(val) => match stated {
-            None => Err(unexpected_payload(alloc, name)),
-            Some(stated) => {
-                if !val.is_at(stated) {
-                    return Err(wrong_type(alloc, stated, &val));
-                }
-                Ok(Some(Box::new(alloc, val)?))
-            }
-        },
     }
 }

@@ -8,15 +8,24 @@ use Rattle.wave_tree.proofs.TypeKinds.{simple_is}
 use Rattle.wave_tree.proofs.Unread.{unread_blame}
 use Rattle.wave_tree.specs.Typed.{IsValueOf}
 use Rattle.wave_tree.proofs.Items.{element_is, list_fault, list_deep, list_item, list_blame, list_kept, list_made, list_nodes, given_nodes, read_all, element_distinct, element_served}
-use Rattle.wave_tree.specs.Answers.{GivesOption}
 use Rattle.wave_tree.proofs.Options.{payload_is, option_deep, flat_true, not_flat, given_none, given_some, some_value, option_fault, some_blame, flat_blame, none_made, some_made, flat_made}
 use Rattle.wave_tree.specs.Reads.{IsFlat}
+use Rattle.wave_tree.specs.Answers.{GivesOption}
 use Rattle.std.proofs.Common.{Ok, Some, None, refl, inr, inl}
 use Rattle.wave_wasm.specs.Types.{TypeTree, HasDistinctNames}
 use Rattle.wave_lex.specs.Errors.{refusal_of}
 use Rattle.wave_tree.specs.Faults.{Fault}
 use Rattle.wave_tree.specs.Typed.{IsServed}
 use Rattle.std.proofs.Common.{subst, sym, Bool, true, false, not, IsTrue}
+use Rattle.wave_wasm.specs.Shown.{shown_all}
+use Rattle.wave_tree.proofs.Tuples.{TupleType, tuple_is, tuple_fault, count_blame, as_shown, type_at, tuple_deep, tuple_item, item_blamed, all_has, parts_served, parts_distinct, tuple_kept, given_items, tuple_nodes, tuple_made}
+use Rattle.wave_tree.proofs.Items.{HasAt}
+use Rattle.wave_wasm.specs.Types.{kind_of}
+use Rattle.wave_wasm.specs.declared.wasm.WasmTypeKind.TheVariants as kinds
+use Rattle.wave_wasm.specs.Causes.{wrong_number}
+use Rattle.wave_tree.specs.Faults.{RefusesFor}
+use Rattle.wave_tree.specs.NodeTree.{place_of}
+use Rattle.std.proofs.Common.{length, ◌≢◌}
 use Rattle.wave_tree.proofs.ast.Node.+reading.Goals as goal
 
 pub read-returns-in_err-as_number-in-S8 : goal.read-returns-in_err-as_number-in-S8
@@ -89,7 +98,7 @@ read-returns-in_ok-as_number-in-U64 g m c = λ served t is distinct.
 
 pub read-returns-in_default : goal.read-returns-in_default
 read-returns-in_default g m c = λ served t is distinct.
-    unread_blame g.V.WasmValue.is_full (g.V.Type.WasmType.tree c.args.ty.now) c.args.src.now c.args.self.now t c.kind.result c.unsupported.result is.0 served c.kind.ensures (record { bool = c.in_default.not-Bool; s8 = c.in_default.not-S8; s16 = c.in_default.not-S16; s32 = c.in_default.not-S32; s64 = c.in_default.not-S64; u8 = c.in_default.not-U8; u16 = c.in_default.not-U16; u32 = c.in_default.not-U32; u64 = c.in_default.not-U64; list = c.in_default.not-List; option = c.in_default.not-Option; enum = c.in_default.not-Enum }) c.unsupported.ensures
+    unread_blame g.V.WasmValue.is_full (g.V.Type.WasmType.tree c.args.ty.now) c.args.src.now c.args.self.now t c.kind.result c.unsupported.result is.0 served c.kind.ensures (record { bool = c.in_default.not-Bool; s8 = c.in_default.not-S8; s16 = c.in_default.not-S16; s32 = c.in_default.not-S32; s64 = c.in_default.not-S64; u8 = c.in_default.not-U8; u16 = c.in_default.not-U16; u32 = c.in_default.not-U32; u64 = c.in_default.not-U64; list = c.in_default.not-List; tuple = c.in_default.not-Tuple; option = c.in_default.not-Option; enum = c.in_default.not-Enum }) c.unsupported.ensures
 
 pub read_list-returns-in_err-nodes : goal.read_list-returns-in_err-nodes
 read_list-returns-in_err-nodes g m c = λ served t is distinct.
@@ -161,3 +170,47 @@ read_option-returns-in_ok-flat-in-Err g m c = λ served t is distinct.
     let kinds = c.is_flat.ensures.0 c.if-not-is_flat.false in
     let flat : IsFlat (g.V.Type.WasmType.tree c.unwrap-payload.result.now) = flat_true (g.V.Type.WasmType.tree c.unwrap-payload.result.now) c.kind.result c.kind.ensures kinds.0 kinds.1 in
     flat_made g.V.WasmValue.tree g.V.WasmValue.is_of g.V.WasmValue.is_full (g.V.Type.WasmType.tree c.args.ty.now) (g.V.Type.WasmType.tree c.unwrap-payload.result.now) t c.args.self.now c.in_ok-flat-in-Err.flat c.make_option-in-Err.result c.made-in-Err.result option distinct flat (c.in_ok-flat-in-Err.ensures (subst IsServed option served) t is (subst HasDistinctNames option distinct)) c.make_option-in-Err.ensures.made c.make_option-in-Err.ensures.full c.made-in-Err.ensures
+
+pub read_tuple-returns-in_err-nodes : goal.read_tuple-returns-in_err-nodes
+read_tuple-returns-in_err-nodes g m c = λ served t is distinct.
+    let kind : kinds.Tuple ≡ kind_of (g.V.Type.WasmType.tree c.args.ty.now) = search rules in
+    let tuple : TupleType (g.V.Type.WasmType.tree c.args.ty.now) (shown_all g.V.Type.WasmType.tree c.in-Ok.types.items) = tuple_is (g.V.Type.WasmType.tree c.args.ty.now) (shown_all g.V.Type.WasmType.tree c.in-Ok.types.items) kind c.in-Ok.ensures in
+    faulty g.V.WasmValue.tree g.V.WasmValue.is_of g.V.WasmValue.is_full (g.V.Type.WasmType.tree c.args.ty.now) t (type.tuple tuple.types) c.in_err-nodes.field-0.0 c.from_residual.result tuple.is c.from_residual.ensures.1
+    (tuple_fault tuple.types c.args.src.now c.args.self.now t _ _ is.0 c.in_err-nodes.ensures.0 c.in_err-nodes.ensures.1)
+
+pub read_tuple-returns-then-nodes-len : goal.read_tuple-returns-then-nodes-len
+read_tuple-returns-then-nodes-len g m c = λ served t is distinct.
+    let kind : kinds.Tuple ≡ kind_of (g.V.Type.WasmType.tree c.args.ty.now) = search rules in
+    let tuple : TupleType (g.V.Type.WasmType.tree c.args.ty.now) (shown_all g.V.Type.WasmType.tree c.in-Ok.types.items) = tuple_is (g.V.Type.WasmType.tree c.args.ty.now) (shown_all g.V.Type.WasmType.tree c.in-Ok.types.items) kind c.in-Ok.ensures in
+    let want : c.len-then-nodes-len.result ≡ length (shown_all g.V.Type.WasmType.tree c.in-Ok.types.items) = omega (arith, as_shown g.V.Type.WasmType.tree c.in-Ok.types.items) in
+    let apart : length c.in_ok-nodes.nodes.now ≢ length (shown_all g.V.Type.WasmType.tree c.in-Ok.types.items) = λ same. c.if-nodes-len.true (omega (arith, want, same)) in
+    count_blame g.V.WasmValue.tree g.V.WasmValue.is_of g.V.WasmValue.is_full (g.V.Type.WasmType.tree c.args.ty.now) (shown_all g.V.Type.WasmType.tree c.in-Ok.types.items) c.args.src.now c.args.self.now t c.in_ok-nodes.nodes.now c.wrong_number.result tuple is c.in_ok-nodes.ensures.0 c.in_ok-nodes.ensures.1 apart (subst (λ (k : ℕ). RefusesFor (wrong_number k (length c.in_ok-nodes.nodes.now)) (place_of c.args.self.now) (refusal_of c.wrong_number.result) c.wrong_number.result.span) want c.wrong_number.ensures)
+
+pub read_tuple-read-requires : goal.read_tuple-read-requires
+read_tuple-read-requires g m c κs within =
+    let value : IsValueOf c.args.src.now c.args.self.now = search rules in
+    let kind : kinds.Tuple ≡ kind_of (g.V.Type.WasmType.tree c.args.ty.now) = search rules in
+    let tuple : TupleType (g.V.Type.WasmType.tree c.args.ty.now) (shown_all g.V.Type.WasmType.tree c.in-Ok.types.items) = tuple_is (g.V.Type.WasmType.tree c.args.ty.now) (shown_all g.V.Type.WasmType.tree c.in-Ok.types.items) kind c.in-Ok.ensures in
+    let typed : HasAt (shown_all g.V.Type.WasmType.tree c.in-Ok.types.items) c.loop-i.i (g.V.Type.WasmType.tree c.index.result.now.now) = type_at g.V.Type.WasmType.tree c.in-Ok.types.items c.loop-i.i c.index.result.now (omega arith) c.index.ensures in
+    (omega (arith, tuple_deep (g.V.Type.WasmType.tree c.args.ty.now) (shown_all g.V.Type.WasmType.tree c.in-Ok.types.items) c.loop-i.i (g.V.Type.WasmType.tree c.index.result.now.now) tuple typed), (within.0, (within.1, tuple_item c.args.src.now c.args.self.now c.in_ok-nodes.nodes.now c.loop-i.i c.index-nodes-i.result value c.in_ok-nodes.ensures.0 c.in_ok-nodes.ensures.1 c.loop-i-test.true c.index-nodes-i.is)))
+
+pub read_tuple-returns-in_err-item : goal.read_tuple-returns-in_err-item
+read_tuple-returns-in_err-item g m c = λ served t is distinct.
+    let kind : kinds.Tuple ≡ kind_of (g.V.Type.WasmType.tree c.args.ty.now) = search rules in
+    let tuple : TupleType (g.V.Type.WasmType.tree c.args.ty.now) (shown_all g.V.Type.WasmType.tree c.in-Ok.types.items) = tuple_is (g.V.Type.WasmType.tree c.args.ty.now) (shown_all g.V.Type.WasmType.tree c.in-Ok.types.items) kind c.in-Ok.ensures in
+    let typed : HasAt (shown_all g.V.Type.WasmType.tree c.in-Ok.types.items) c.loop-i.i (g.V.Type.WasmType.tree c.index.result.now.now) = type_at g.V.Type.WasmType.tree c.in-Ok.types.items c.loop-i.i c.index.result.now (omega arith) c.index.ensures in
+    handed g.V.WasmValue.tree g.V.WasmValue.is_of g.V.WasmValue.is_full (g.V.Type.WasmType.tree c.args.ty.now) t c.in_err-item.field-0.0 c.from_residual-in_err-item.result c.from_residual-in_err-item.ensures.1
+    (item_blamed g.V.WasmValue.tree g.V.WasmValue.is_of g.V.WasmValue.is_full c.args.src.now (g.V.Type.WasmType.tree c.args.ty.now) (shown_all g.V.Type.WasmType.tree c.in-Ok.types.items) c.args.self.now t c.in_ok-nodes.nodes.now c.loop-i.i c.index-nodes-i.result (g.V.Type.WasmType.tree c.index.result.now.now) c.in_err-item.field-0.0 tuple is c.in_ok-nodes.ensures.0 c.in_ok-nodes.ensures.1 c.loop-i-test.true c.index-nodes-i.is typed g.met.V.WasmValue.full_parts (λ u here. c.in_err-item.ensures (all_has IsServed (shown_all g.V.Type.WasmType.tree c.in-Ok.types.items) c.loop-i.i (g.V.Type.WasmType.tree c.index.result.now.now) (parts_served (g.V.Type.WasmType.tree c.args.ty.now) (shown_all g.V.Type.WasmType.tree c.in-Ok.types.items) tuple served) typed) u here (all_has HasDistinctNames (shown_all g.V.Type.WasmType.tree c.in-Ok.types.items) c.loop-i.i (g.V.Type.WasmType.tree c.index.result.now.now) (parts_distinct (g.V.Type.WasmType.tree c.args.ty.now) (shown_all g.V.Type.WasmType.tree c.in-Ok.types.items) tuple distinct) typed)))
+
+pub read_tuple-loop-i-preserved : goal.read_tuple-loop-i-preserved
+read_tuple-loop-i-preserved g m c = λ ts nodes served distinct.
+    let typed : HasAt (shown_all g.V.Type.WasmType.tree c.in-Ok.types.items) c.loop-i.i (g.V.Type.WasmType.tree c.index.result.now.now) = type_at g.V.Type.WasmType.tree c.in-Ok.types.items c.loop-i.i c.index.result.now (omega arith) c.index.ensures in
+    tuple_kept g.V.WasmValue.tree g.V.WasmValue.is_of g.V.WasmValue.is_full c.args.src.now (shown_all g.V.Type.WasmType.tree c.in-Ok.types.items) c.in_ok-nodes.nodes.now ts c.loop-i.items.items c.keep.new.items.items c.loop-i.i c.index-nodes-i.result (g.V.Type.WasmType.tree c.index.result.now.now) c.in_ok-item.item nodes c.loop-i-test.true c.index-nodes-i.is typed (c.loop-i.invariant ts nodes served distinct) (λ u here. c.in_ok-item.ensures (all_has IsServed (shown_all g.V.Type.WasmType.tree c.in-Ok.types.items) c.loop-i.i (g.V.Type.WasmType.tree c.index.result.now.now) served typed) u here (all_has HasDistinctNames (shown_all g.V.Type.WasmType.tree c.in-Ok.types.items) c.loop-i.i (g.V.Type.WasmType.tree c.index.result.now.now) distinct typed)) c.in_ok-keep.ensures.kept
+
+pub read_tuple-returns : goal.read_tuple-returns
+read_tuple-returns g m c = λ served t is distinct.
+    let kind : kinds.Tuple ≡ kind_of (g.V.Type.WasmType.tree c.args.ty.now) = search rules in
+    let tuple : TupleType (g.V.Type.WasmType.tree c.args.ty.now) (shown_all g.V.Type.WasmType.tree c.in-Ok.types.items) = tuple_is (g.V.Type.WasmType.tree c.args.ty.now) (shown_all g.V.Type.WasmType.tree c.in-Ok.types.items) kind c.in-Ok.ensures in
+    let many : length c.in_ok-nodes.nodes.now ≡ length (shown_all g.V.Type.WasmType.tree c.in-Ok.types.items) = omega (arith, as_shown g.V.Type.WasmType.tree c.in-Ok.types.items) in
+    let inner = tuple_nodes c.args.src.now c.args.self.now t is c.in_ok-nodes.ensures.0 in
+    tuple_made g.V.WasmValue.tree g.V.WasmValue.is_of g.V.WasmValue.is_full c.args.src.now (g.V.Type.WasmType.tree c.args.ty.now) (shown_all g.V.Type.WasmType.tree c.in-Ok.types.items) c.args.self.now t c.in_ok-nodes.nodes.now c.loop-i.items.items c.loop-i.i c.make_tuple.result c.made.result tuple distinct is c.in_ok-nodes.ensures.0 c.in_ok-nodes.ensures.1 many c.loop-i-test.false (c.loop-i.invariant inner.items (given_items c.args.src.now c.args.self.now t c.in_ok-nodes.nodes.now is c.in_ok-nodes.ensures.0 c.in_ok-nodes.ensures.1) (parts_served (g.V.Type.WasmType.tree c.args.ty.now) (shown_all g.V.Type.WasmType.tree c.in-Ok.types.items) tuple served) (parts_distinct (g.V.Type.WasmType.tree c.args.ty.now) (shown_all g.V.Type.WasmType.tree c.in-Ok.types.items) tuple distinct)) c.make_tuple.ensures.made c.make_tuple.ensures.full c.made.ensures
