@@ -63,7 +63,6 @@ none_built T U full is no_values = false≢true (sym no_values ∙ every_first U
 pub no_record : (T : TypeTree) (fields : List (Bor (List ℕ) × TypedValue)) (e : WasmValueError) → FullRecord (λ v T. IsAt T v) IsFull T fields e
 no_record T fields e = λ full fs is distinct ordered same h. absurd (none_built T _ full is refl)
 
-
 pub no_flags : (T : TypeTree) (names : List (Bor (List ℕ))) (e : WasmValueError) → FullFlags (λ (v : TypedValue) T. IsAt T v) IsFull T names e
 no_flags T names e = λ full all is distinct h. absurd (none_built T _ full is refl)
 

@@ -1,5 +1,5 @@
 -- What the makers of variants and flags make and refuse.
-use Rattle.std.proofs.Common.{ℕ, zero, suc, ◌≡◌, ◌≢◌, ◌<◌, ◌≤◌, ◌+◌, Bool, true, false, List, [], ◌∷◌, map, length, get_or, refl, sym, ap, subst, ◌∙◌, arith, inl, inr, Option, Some, None, cond, nat_lt}
+use Rattle.std.proofs.Common.{ℕ, zero, suc, ◌≡◌, ◌≢◌, ◌<◌, ◌≤◌, ◌+◌, Bool, true, false, List, [], ◌∷◌, length, get_or, refl, sym, ap, subst, ◌∙◌, arith, inl, inr, Option, Some, None, cond, nat_lt}
 use Rattle.std.specs.List.{position, position_or_len}
 use Rattle.std.specs.Prelude.{not}
 use Rattle.std.specs.Str.{bytes_eq}
@@ -17,7 +17,7 @@ use Rattle.wave_wasm.specs.HasType.{HasType}
 use Rattle.wave_wasm.specs.declared.wasm.WasmTypeKind.TheVariants as kinds
 use Rattle.wave_wasm.specs.declared.wasm.WasmValueError.{WasmValueError}
 use Rattle.wave_wasm.specs.declared.wasm.WasmValueError.TheVariants as error
-use Rattle.wasm_wave.specs.TypedValue.{TypedValue, IsAt}
+use Rattle.wasm_wave.specs.TypedValue.{TypedValue}
 use Rattle.wasm_wave.specs.ValueView.{name_at, first_names, payload_tree, PayloadAt, CaseAt, VariantFits}
 use Rattle.wasm_wave.specs.Taken.{Made, PayloadOwn, RefusesPayload, SaysCase}
 use Rattle.wasm_wave.specs.TakenCases.{IsFirstCase, TakesVariant, RefusesVariant}
@@ -71,12 +71,12 @@ variant_fits T own name i c p q same e is given at =
 
 -- what was made is what was asked for
 pub variant_made : (T own : TypeTree) (name : List ℕ) (i : ℕ) (p q : Option TypedValue) → own ≡ T → Some i ≡ position (λ c. bytes_eq name c.0) (variant_parts T) → p ≡ q → VariantFits own i p
-  → Made (value.variant name (maybe_value (payload_tree q))) T (record { own = own; tree = value.variant (name_at (first_names (variant_parts own)) i) (maybe_value (payload_tree p)) })
+    → Made (value.variant name (maybe_value (payload_tree q))) T (record { own = own; tree = value.variant (name_at (first_names (variant_parts own)) i) (maybe_value (payload_tree p)) })
 variant_made T own name i p q same e given h =
     let at = place_is (variant_parts T) name i e in
     let called : name_at (first_names (variant_parts own)) i ≡ name = ap (λ U. name_at (first_names (variant_parts U)) i) same ∙ named_at (variant_parts T) name i at.0 at.1 in
     let means : value.variant (name_at (first_names (variant_parts own)) i) (maybe_value (payload_tree p)) ≡ value.variant name (maybe_value (payload_tree q)) =
-        λ j. value.variant (called j) (maybe_value (payload_tree (given j))) in
+    λ j. value.variant (called j) (maybe_value (payload_tree (given j))) in
     record { own = same; tree = means; fits = subst (λ U. HasType U (value.variant name (maybe_value (payload_tree q)))) same (subst (HasType own) means (variant_value own i p h)) }
 
 own_payload : (P : Option TypeTree) (p : Option TypedValue) → PayloadAt P p → PayloadOwn P p

@@ -1,5 +1,5 @@
 -- What the makers of variants, flags and maps accept, and what their refusals say.
-use Rattle.std.specs.Prelude.{ℕ, ◌≡◌, ◌≢◌, ◌⊎◌, List, [], ◌∷◌, Option, Some, None, string_bytes}
+use Rattle.std.specs.Prelude.{ℕ, ◌≡◌, ◌≢◌, ◌⊎◌, List, [], ◌∷◌, Option, string_bytes}
 use Rattle.wave_wasm.specs.Names.{IsNoneOf}
 use Rattle.wave_wasm.specs.Types.{TypeTree, kind_of, variant_parts}
 use Rattle.wave_wasm.specs.declared.wasm.WasmTypeKind.TheVariants as kinds
