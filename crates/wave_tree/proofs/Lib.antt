@@ -65,3 +65,6 @@ pub mod CanonOnce
 pub mod Options
 pub mod Enums
 pub mod Among
+pub mod Chars
+pub mod Quoted
+pub mod TextLeaves

@@ -6,5 +6,6 @@ pub mod ast;
 pub mod laws;
 pub mod number;
 pub mod parser;
+mod text;
 mod typed;
 mod word;
