@@ -10,4 +10,6 @@ pub mod ValueMeans
 pub mod SameContent
 pub mod ValueLists
 pub mod Made
+pub mod MadeTuple
+pub mod MadeResult
 pub mod Headline

@@ -33,6 +33,7 @@ pub mod TyingBraces
 pub mod TyingFlags
 pub mod Tied
 pub mod Texts
+pub mod TreeTexts
 pub mod CanonTokens
 pub mod CanonNumbers
 pub mod CanonPrints
@@ -57,6 +58,7 @@ pub mod CanonTypes
 pub mod Canon
 pub mod Cases
 pub mod Items
+pub mod Tuples
 pub mod CanonTidy
 pub mod CanonUtf8
 pub mod CanonTyped
@@ -68,3 +70,4 @@ pub mod Among
 pub mod Chars
 pub mod Quoted
 pub mod TextLeaves
+pub mod Results

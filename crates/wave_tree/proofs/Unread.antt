@@ -34,7 +34,9 @@ pub record IsUnread (k : WasmTypeKind) : Type 0 where
   pub u64 : k ≢ kind.U64
   pub char : k ≢ kind.Char
   pub list : k ≢ kind.List
+  pub tuple : k ≢ kind.Tuple
   pub option : k ≢ kind.Option
+  pub result : k ≢ kind.Result
   pub enum : k ≢ kind.Enum
 
 -- a type without values is refused with the word of its kind
@@ -52,7 +54,9 @@ unread_fault (type.simple type.char) t k r q served e unread refused = absurd (u
 unread_fault (type.unreadable u) t k r q served e unread refused = subst (λ (w : WasmTypeKind). RefusesFor (unsupported_type (kind_word w)) (span_of t) r q) e refused
 unread_fault (type.fixed E n) t k r q served e unread refused = subst (λ (w : WasmTypeKind). RefusesFor (unsupported_type (kind_word w)) (span_of t) r q) e refused
 unread_fault (type.list E) t k r q served e unread refused = absurd (unread.list e)
+unread_fault (type.tuple Ts) t k r q served e unread refused = absurd (unread.tuple e)
 unread_fault (type.option P) t k r q served e unread refused = absurd (unread.option e)
+unread_fault (type.result A B) t k r q served e unread refused = absurd (unread.result e)
 unread_fault (type.enum names) t k r q served e unread refused = absurd (unread.enum e)
 unread_fault _ t k r q served e unread refused = absurd served
 

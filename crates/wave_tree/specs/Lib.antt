@@ -24,6 +24,8 @@ pub mod Faults
 pub mod Answers
 pub mod Typed
 pub mod FromText
+pub mod Untyped
+pub mod UntypedCode
 pub mod Laws
 pub mod CanonLaws
 pub mod TreeLaws

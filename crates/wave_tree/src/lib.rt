@@ -8,4 +8,5 @@ pub mod number;
 pub mod parser;
 mod text;
 mod typed;
+pub mod untyped;
 mod word;
