@@ -67,3 +67,7 @@ pub mod CanonOnce
 pub mod Options
 pub mod Enums
 pub mod Among
+pub mod Chars
+pub mod Quoted
+pub mod TextLeaves
+pub mod Results
