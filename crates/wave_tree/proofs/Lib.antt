@@ -60,6 +60,7 @@ pub mod CanonTypes
 pub mod Canon
 pub mod Cases
 pub mod Items
+pub mod Tuples
 pub mod CanonTidy
 pub mod CanonUtf8
 pub mod CanonTyped
@@ -68,3 +69,7 @@ pub mod CanonOnce
 pub mod Options
 pub mod Enums
 pub mod Among
+pub mod Chars
+pub mod Quoted
+pub mod TextLeaves
+pub mod Results
