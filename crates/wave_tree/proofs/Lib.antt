@@ -33,6 +33,9 @@ pub mod TyingBraces
 pub mod TyingFlags
 pub mod Tied
 pub mod Texts
+pub mod TreeTexts
+pub mod JoinedTexts
+pub mod ShownLemmas
 pub mod CanonTokens
 pub mod CanonNumbers
 pub mod CanonPrints
@@ -57,6 +60,7 @@ pub mod CanonTypes
 pub mod Canon
 pub mod Cases
 pub mod Items
+pub mod Tuples
 pub mod CanonTidy
 pub mod CanonUtf8
 pub mod CanonTyped
@@ -75,3 +79,7 @@ pub mod Alike
 pub mod ShownMeans
 pub mod ParamTrees
 pub mod ShownCalls
+pub mod Chars
+pub mod Quoted
+pub mod TextLeaves
+pub mod Results
