@@ -68,3 +68,4 @@ pub mod Options
 pub mod Enums
 pub mod Among
 pub mod Results
+pub mod Variants
