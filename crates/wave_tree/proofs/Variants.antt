@@ -26,7 +26,7 @@ use Rattle.wave_tree.specs.NodeTree.{NodeTree, type_of, place_of, children_of, n
 use Rattle.wave_tree.specs.Nodes.{placed_of, flag_of, IsNodeOf}
 use Rattle.wave_tree.specs.Answers.{text_at, shown_node, GivesVariant}
 use Rattle.wave_tree.specs.Typed.{IsRead, IsBlamed, IsMade, IsCaused, IsValueOf, IsServedPayload, AreServedCases, IsPayloadNodeOf, IsPayloadOf, IsPayloadRead, IsPayloadBlamed}
-use Rattle.wave_tree.proofs.Inside.{From, Inside, inside, some_is, AreParsed, parsed, pair_parsed, nodes_in, nodes_are}
+use Rattle.wave_tree.proofs.Inside.{From, Inside, inside, some_is, AreParsed, parsed, nodes_in, nodes_are}
 use Rattle.wave_tree.proofs.Cases.{shape_at, case_shape}
 use Rattle.wave_tree.proofs.Enums.{label_node}
 use Rattle.wave_tree.proofs.Leaves.{tree_is, at_tree}
