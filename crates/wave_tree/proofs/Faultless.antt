@@ -56,7 +56,7 @@ leaf_none : (S : Simple) (p : Range ℕ) (t : Token) (k : Refusal) (q : Range �
 leaf_none S p t k q l served (inl h) spelled = h.0 (form_of S t l spelled)
 leaf_none type.bool p t k q l served (inr h) spelled = h.1
 leaf_none (type.whole which) p t k q l served (inr h) spelled = h.1.0 l spelled
-leaf_none type.char p t k q l served (inr h) spelled = served
+leaf_none type.char p t k q l served (inr h) spelled = h.1.0 l spelled
 leaf_none type.string p t k q l served (inr h) spelled = served
 
 simple_none : (S : Simple) (t : Placed) (k : Refusal) (q : Range ℕ) (v : Value) → IsServed (type.simple S) → Fault (type.simple S) t k q → SimpleTree S (tree_of t) v → ⊥

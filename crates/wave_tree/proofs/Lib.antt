@@ -34,6 +34,8 @@ pub mod TyingFlags
 pub mod Tied
 pub mod Texts
 pub mod TreeTexts
+pub mod JoinedTexts
+pub mod ShownLemmas
 pub mod CanonTokens
 pub mod CanonNumbers
 pub mod CanonPrints
@@ -67,5 +69,8 @@ pub mod CanonOnce
 pub mod Options
 pub mod Enums
 pub mod Among
+pub mod Chars
+pub mod Quoted
+pub mod TextLeaves
 pub mod Results
 pub mod Variants

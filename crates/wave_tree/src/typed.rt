@@ -51,6 +51,7 @@ impl Node {
             WasmTypeKind::U16 => self.made(V::make_u16(alloc, self.as_number(src)?)),
             WasmTypeKind::U32 => self.made(V::make_u32(alloc, self.as_number(src)?)),
             WasmTypeKind::U64 => self.made(V::make_u64(alloc, self.as_number(src)?)),
+            WasmTypeKind::Char => self.read_char(alloc, ty, src),
             WasmTypeKind::List => self.read_list(alloc, ty, src),
             WasmTypeKind::Tuple => self.read_tuple(alloc, ty, src),
             WasmTypeKind::Variant => self.read_variant(alloc, ty, src),
@@ -247,6 +248,21 @@ impl Node {
             return Err(self.unknown_case(alloc, name));
         }
         self.made(V::make_enum(alloc, ty, name))
+    }
+
+    /// A char.
+    fn read_char<V: WasmValue>(
+        &self,
+        alloc: Global,
+        ty: &V::Type,
+        src: &str,
+    ) -> Result<V, ParserError>
+        requires node { IsValueOf src.now self.now }
+        requires kind { V.Type.tree ty.now ≡ type.simple type.char }
+        ensures { Answers V.tree V.is_of V.is_full (V.Type.tree ty.now) src.now self.now result }
+    {
+        let val = self.as_char(src)?;
+        self.made(V::make_char(alloc, val))
     }
 
     /// A bool.
