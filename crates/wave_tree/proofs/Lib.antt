@@ -83,3 +83,4 @@ pub mod Chars
 pub mod Quoted
 pub mod TextLeaves
 pub mod Results
+pub mod Variants

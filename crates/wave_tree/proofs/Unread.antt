@@ -37,6 +37,7 @@ pub record IsUnread (k : WasmTypeKind) : Type 0 where
   pub tuple : k ≢ kind.Tuple
   pub option : k ≢ kind.Option
   pub result : k ≢ kind.Result
+  pub variant : k ≢ kind.Variant
   pub enum : k ≢ kind.Enum
 
 -- a type without values is refused with the word of its kind
@@ -57,6 +58,7 @@ unread_fault (type.list E) t k r q served e unread refused = absurd (unread.list
 unread_fault (type.tuple Ts) t k r q served e unread refused = absurd (unread.tuple e)
 unread_fault (type.option P) t k r q served e unread refused = absurd (unread.option e)
 unread_fault (type.result A B) t k r q served e unread refused = absurd (unread.result e)
+unread_fault (type.variant cases) t k r q served e unread refused = absurd (unread.variant e)
 unread_fault (type.enum names) t k r q served e unread refused = absurd (unread.enum e)
 unread_fault _ t k r q served e unread refused = absurd served
 
