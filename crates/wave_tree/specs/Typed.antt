@@ -3,7 +3,7 @@ use Rattle.std.specs.Prelude.{ℕ, ◌≡◌, ◌⊎◌, List, [], Option, Some,
 use Rattle.wave_wasm.specs.Lists.{AllOf}
 use Rattle.wave_wasm.specs.Names.{AreDistinct}
 use Rattle.wave_wasm.specs.Types as type
-use Rattle.wave_wasm.specs.Types.{TypeTree, MaybeType, type_option, maybe_type, HasDistinctNames, EachNamesOfMaybe, Types}
+use Rattle.wave_wasm.specs.Types.{TypeTree, MaybeType, Cases, type_option, maybe_type, HasDistinctNames, EachNamesOfMaybe, Types}
 use Rattle.wave_wasm.specs.Values.{Value, maybe_value}
 use Rattle.wave_wasm.specs.Causes.{Cause, cause_of}
 use Rattle.wave_wasm.specs.Makers.{PayloadIsOf, payload_and}
@@ -65,12 +65,14 @@ abbrev mutual
   pub IsServed : TypeTree → Type 0
   IsServed (type.simple type.bool) = Unit {0}
   IsServed (type.simple (type.whole which)) = Unit {0}
+  IsServed (type.simple type.char) = Unit {0}
   IsServed (type.unreadable kind) = Unit {0}
   IsServed (type.fixed E n) = Unit {0}
   IsServed (type.list E) = IsServed E
   IsServed (type.tuple Ts) = AreServed Ts
   IsServed (type.option P) = IsServed P
   IsServed (type.result A B) = IsServedPayload A × IsServedPayload B
+  IsServed (type.variant cases) = AreServedCases cases
   IsServed (type.enum names) = Unit {0}
   IsServed _ = ⊥
 
@@ -78,6 +80,11 @@ abbrev mutual
   pub AreServed : Types → Type 0
   AreServed type.no_types = Unit {0}
   AreServed (type.type_and T more) = IsServed T × AreServed more
+
+  -- so is the payload of each case
+  pub AreServedCases : Cases → Type 0
+  AreServedCases type.no_cases = Unit {0}
+  AreServedCases (type.case_of name payload more) = IsServedPayload payload × AreServedCases more
 
   -- so is a payload's type, where there is one
   pub IsServedPayload : MaybeType → Type 0

@@ -7,6 +7,7 @@ pub mod laws;
 pub mod number;
 pub mod parser;
 mod record;
+mod text;
 mod typed;
 pub mod untyped;
 mod word;

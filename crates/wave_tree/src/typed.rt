@@ -1,8 +1,8 @@
 //! Reading nodes at types.
-ghost use Rattle.std.specs.Prelude.{ℕ, List, [], ◌∷◌, ◌++◌, ◌≡◌, ◌≢◌, ◌⊎◌, ◌↔◌, IsTrue, OnOk, IfErr};
+ghost use Rattle.std.specs.Prelude.{ℕ, List, [], ◌∷◌, ◌++◌, ◌≡◌, ◌≢◌, ◌⊎◌, ◌↔◌, option_map, IsTrue, OnOk, IfErr};
 ghost use Rattle.wave_wasm.specs.Types.{kind_of, maybe_type, whole_kind, Whole};
 ghost use Rattle.wave_wasm.specs.Types as type;
-ghost use Rattle.wave_wasm.specs.Shown.{texts, shown};
+ghost use Rattle.wave_wasm.specs.Shown.{texts, shown, shown_cases};
 ghost use Rattle.wave_wasm.specs.TypeText.{kind_word};
 ghost use Rattle.wave_wasm.specs.Causes.{unsupported_type, unknown_case, missing_payload, unexpected_payload, wrong_number};
 ghost use Rattle.wave_lex.specs.declared.error.ParserErrorKind.TheVariants.{OutOfMemory};
@@ -10,6 +10,7 @@ ghost use Rattle.wave_tree.specs.Answers.{Among, shown_node};
 ghost use Rattle.wave_tree.specs.Typed.{IsValueOf, IsCaused, IsMade, IsServed, IsServedPayload, IsPayloadOf, GivesFlat, Answers, AnswersPayload, Reads};
 ghost use Rattle.wave_lex.specs.Errors.{refusal_of};
 ghost use Rattle.wave_tree.specs.NodeTree.{place_of};
+ghost use Rattle.wave_tree.specs.Reads.{look_up};
 ghost use Rattle.wave_tree.specs.Faults.{RefusesFor};
 
 use crate::ast::Node;
@@ -50,8 +51,10 @@ impl Node {
             WasmTypeKind::U16 => self.made(V::make_u16(alloc, self.as_number(src)?)),
             WasmTypeKind::U32 => self.made(V::make_u32(alloc, self.as_number(src)?)),
             WasmTypeKind::U64 => self.made(V::make_u64(alloc, self.as_number(src)?)),
+            WasmTypeKind::Char => self.read_char(alloc, ty, src),
             WasmTypeKind::List => self.read_list(alloc, ty, src),
             WasmTypeKind::Tuple => self.read_tuple(alloc, ty, src),
+            WasmTypeKind::Variant => self.read_variant(alloc, ty, src),
             WasmTypeKind::Enum => self.read_enum(alloc, ty, src),
             WasmTypeKind::Option => self.read_option(alloc, ty, src),
             WasmTypeKind::Result => self.read_result(alloc, ty, src),
@@ -171,6 +174,32 @@ impl Node {
         }
     }
 
+    /// A variant: the name of one of its cases, and a payload exactly where the case has one.
+    #[cycle(reading)]
+    fn read_variant<V: WasmValue>(
+        &self,
+        alloc: Global,
+        ty: &V::Type,
+        src: &str,
+    ) -> Result<V, ParserError>
+        requires node { IsValueOf src.now self.now }
+        requires kind { kind_of (V.Type.tree ty.now) ≡ WasmTypeKind.Variant }
+        ensures { IsServed (V.Type.tree ty.now) → Answers V.tree V.is_of V.is_full (V.Type.tree ty.now) src.now self.now result }
+    {
+        let cases = match ty.variant_cases(alloc) {
+            Ok(cases) => cases,
+            Err(_) => return Err(self.out_of_memory()),
+        };
+        let (name, node) = self.as_variant(src)?;
+        match case_payload(&cases, name) {
+            Some(payload) => {
+                let val = self.read_payload(alloc, name, payload, node, src)?;
+                self.made(V::make_variant(alloc, ty, name, val))
+            }
+            None => Err(self.unknown_case(alloc, name)),
+        }
+    }
+
     /// The payload of the case of this name, where it has a type; the case stands at the node.
     #[cycle(reading)]
     fn read_payload<V: WasmValue>(
@@ -219,6 +248,21 @@ impl Node {
             return Err(self.unknown_case(alloc, name));
         }
         self.made(V::make_enum(alloc, ty, name))
+    }
+
+    /// A char.
+    fn read_char<V: WasmValue>(
+        &self,
+        alloc: Global,
+        ty: &V::Type,
+        src: &str,
+    ) -> Result<V, ParserError>
+        requires node { IsValueOf src.now self.now }
+        requires kind { V.Type.tree ty.now ≡ type.simple type.char }
+        ensures { Answers V.tree V.is_of V.is_full (V.Type.tree ty.now) src.now self.now result }
+    {
+        let val = self.as_char(src)?;
+        self.made(V::make_char(alloc, val))
     }
 
     /// A bool.
@@ -324,6 +368,22 @@ fn flat_type<T: WasmType>(payload: Option<&T>) -> Option<&T>
         Some(ty) if is_flat(ty.kind()) => Some(ty),
         _ => None,
     }
+}
+
+/// What the case of this name has for the type of its payload, where there is such a case.
+fn case_payload<'ty, T: WasmType>(
+    cases: &Vec<(&str, Option<&'ty T>)>,
+    name: &str,
+) -> Option<Option<&'ty T>>
+    ensures { option_map (shown T.tree) result ≡ look_up (shown_cases T.tree cases.now.items) name.now }
+{
+    for case in cases {
+        let (other, payload) = *case;
+        if name == other {
+            return Some(payload);
+        }
+    }
+    None
 }
 
 /// Whether the name is one of these.

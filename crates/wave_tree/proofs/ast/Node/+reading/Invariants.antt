@@ -24,6 +24,9 @@ decreases-read_option g l = 4 * depth (g.V.Type.WasmType.tree l.ty.now)
 abbrev pub decreases-read_result : goal.decreases-read_result
 decreases-read_result g l = 4 * depth (g.V.Type.WasmType.tree l.ty.now)
 
+abbrev pub decreases-read_variant : goal.decreases-read_variant
+decreases-read_variant g l = 4 * depth (g.V.Type.WasmType.tree l.ty.now)
+
 abbrev pub decreases-read_payload : goal.decreases-read_payload
 decreases-read_payload g l = 4 * depth_of_maybe (maybe_type (shown g.V.Type.WasmType.tree l.ty)) + 2
 
