@@ -17,7 +17,8 @@ use Rattle.wave_tree.specs.Placed.{Placed, Shape, at, one, list, none, some, Pla
 use Rattle.wave_tree.specs.Faults.{LeafFault, IsForm, Fault}
 use Rattle.wave_tree.proofs.Enums.{enum_none}
 use Rattle.wave_tree.proofs.Options.{some_none, flat_none}
-use Rattle.wave_tree.specs.Typed.{IsRead, IsBlamed, IsRefused, IsServed, ReadsNone}
+use Rattle.wave_tree.proofs.Maps.{map_none}
+use Rattle.wave_tree.specs.Typed.{IsRead, IsBlamed, IsRefused, IsServed, IsKeyServed, ReadsNone}
 
 first_tree : (t u : Tree) (ts us : Trees) → tree.tree_and t ts ≡ tree.tree_and u us → t ≡ u
 first_tree t u ts us e = cc
@@ -54,6 +55,12 @@ list_none E (and_then t more) k q [] vs apart h e each = cc
 list_none E (and_then t more) k q (u ∷ us) vs apart (inl fault) e (v, ws, read, others, f) = apart t fault v (subst (λ (w : Tree). TreeReads E w v) (sym (first_tree (tree_of t) u (trees_of more) (trees us) e)) read)
 list_none E (and_then t more) k q (u ∷ us) vs apart (inr h) e (v, ws, read, others, f) = list_none E more k q us ws apart h (cc) others
 
+key_is_served : (K : Simple) → IsKeyServed (type.simple K) → IsServed (type.simple K)
+key_is_served type.bool h = tt
+key_is_served (type.whole which) h = tt
+key_is_served type.char h = h
+key_is_served type.string h = h
+
 -- a tree with a fault at a type is given no value by it
 pub no_value : (T : TypeTree) (t : Placed) (k : Refusal) (q : Range ℕ) → IsServed T → Fault T t k q → ReadsNone T t
 no_value (type.simple S) t k q served fault = λ v read. simple_none S t k q v served fault read
@@ -65,6 +72,7 @@ no_value (type.option P) (at p none) k q served fault = absurd fault
 no_value (type.option P) (at p (some u)) k q served fault = λ v read. some_none P u v (no_value P u k q served fault) read
 no_value (type.option P) (at p s) k q served fault = λ v. elim [ inl (inl h) ↦ absurd (cc) | inl (inr h) ↦ absurd (cc) | inr h ↦ flat_none P (at p s) k q p h.0 (λ f. no_value P (at p s) k q served f) fault h.1.0 h.1.1 ]
 no_value (type.enum names) t k q served fault = λ v read. enum_none names t k q v fault read
+no_value (type.map K V) t k q served fault = λ v read. map_none K V k q (λ p token l f s. leaf_none K p token k q l (key_is_served K served.0) f s) (λ u h. no_value V u k q served.1 h) t v fault read
 no_value _ t k q served fault = absurd served
 
 module _ {V : Type 0} (tree : V → Value) (of : V → TypeTree → Type 0) (Full : TypeTree → Type 0) where

@@ -1,8 +1,10 @@
 -- What reading a node at a type answers.
 use Rattle.std.specs.Prelude.{ℕ, ◌≡◌, ◌⊎◌, List, Result, Ok, Err, MatchResult}
+use Rattle.std.specs.declared.ops.Range.{Range}
 use Rattle.wave_wasm.specs.Types as type
-use Rattle.wave_wasm.specs.Types.{TypeTree, HasDistinctNames}
-use Rattle.wave_wasm.specs.Values.{Value}
+use Rattle.wave_wasm.specs.Types.{TypeTree, Simple, HasDistinctNames}
+use Rattle.wave_wasm.specs.Values as value
+use Rattle.wave_wasm.specs.Values.{Value, Leaf}
 use Rattle.wave_wasm.specs.Causes.{Cause, cause_of}
 use Rattle.wave_wasm.specs.declared.wasm.WasmValueError as causes
 use Rattle.wave_lex.specs.Errors.{refusal_of, refused_by}
@@ -10,9 +12,11 @@ use Rattle.wave_lex.specs.declared.error.ParserError.{ParserError}
 use Rattle.wave_lex.specs.declared.error.ParserErrorKind.TheVariants.{OutOfMemory, WasmValueError}
 use Rattle.wave_tree.specs.Placed.{Placed, tree_of}
 use Rattle.wave_tree.specs.NodeTree.{NodeTree, place_of}
-use Rattle.wave_tree.specs.Nodes.{IsNodeOf}
+use Rattle.wave_tree.specs.Nodes.{IsNodeOf, IsTokenOf}
+use Rattle.wave_tree.specs.Token.{Token}
+use Rattle.wave_tree.specs.Spells.{Spells}
 use Rattle.wave_tree.specs.TreeReads.{TreeReads}
-use Rattle.wave_tree.specs.Faults.{Fault, RefusesFor}
+use Rattle.wave_tree.specs.Faults.{Fault, MapKeyFault, RefusesFor}
 
 -- the type gives the tree the value, which is of the type; V is a stranger's value, `tree` says what it means, `of` when it is of a type
 pub record IsRead {V : Type 0} (tree : V → Value) (of : V → TypeTree → Type 0) (T : TypeTree) (t : Placed) (v : V) : Type 0 where
@@ -37,6 +41,22 @@ IsRefused Full T t e =
 abbrev pub IsValueOf : List ℕ → NodeTree → Type 0
 IsValueOf source n = (t : Placed) × IsNodeOf source n t
 
+-- the node is that of a key
+abbrev pub IsKeyOf : List ℕ → NodeTree → Type 0
+IsKeyOf source n = (p : Range ℕ) × (key : Token) × IsTokenOf source n p key
+
+-- the key spells the value, which is of the simple type
+pub record IsKeyRead {V : Type 0} (tree : V → Value) (of : V → TypeTree → Type 0) (K : Simple) (key : Token) (v : V) : Type 0 where
+  pub leaf : Leaf
+  pub spells : Spells K key leaf
+  pub means : tree v ≡ value.leaf leaf
+  pub is_of : of v (type.simple K)
+
+-- want of memory; or a fault of the key, which stands there; or, where makers do not serve all values of the type, the refusal of one
+abbrev pub IsKeyBlamed : (TypeTree → Type 0) → Simple → Range ℕ → Token → ParserError → Type 0
+IsKeyBlamed Full K p key e =
+    (e.kind ≡ OutOfMemory) ⊎ MapKeyFault K p key (refusal_of e) e.span ⊎ (e.kind ≡ WasmValueError) × (Full (type.simple K) → ⊥)
+
 -- a refusal with this cause at the node, or for want of memory
 abbrev pub IsCaused : Cause → NodeTree → ParserError → Type 0
 IsCaused cause n e = (e.kind ≡ OutOfMemory) ⊎ RefusesFor cause (place_of n) (refusal_of e) e.span
@@ -52,9 +72,19 @@ module _ {V : Type 0} (tree : V → Value) (of : V → TypeTree → Type 0) (Ful
   abbrev pub Answers : TypeTree → List ℕ → NodeTree → Result V ParserError → Type 0
   Answers T source n r = (t : Placed) → IsNodeOf source n t → HasDistinctNames T → MatchResult r (IsRead tree of T t) (IsBlamed Full T t)
 
+  -- the value of the node's key at the simple type, or a refusal of it
+  abbrev pub AnswersKey : TypeTree → List ℕ → NodeTree → Result V ParserError → Type 0
+  AnswersKey T source n r = (K : Simple) (p : Range ℕ) (key : Token) → T ≡ type.simple K → IsTokenOf source n p key → MatchResult r (IsKeyRead tree of K key) (IsKeyBlamed Full K p key)
+
   -- so, and a fault stands only where the type gives the tree no value
   abbrev pub Reads : TypeTree → List ℕ → NodeTree → Result V ParserError → Type 0
   Reads T source n r = (t : Placed) → IsNodeOf source n t → HasDistinctNames T → MatchResult r (IsRead tree of T t) (IsRefused Full T t)
+
+-- the types of keys that are read so far
+abbrev pub IsKeyServed : TypeTree → Type 0
+IsKeyServed (type.simple type.bool) = Unit {0}
+IsKeyServed (type.simple (type.whole which)) = Unit {0}
+IsKeyServed _ = ⊥
 
 -- the types that are read so far
 abbrev pub IsServed : TypeTree → Type 0
@@ -65,4 +95,5 @@ IsServed (type.fixed E n) = Unit {0}
 IsServed (type.list E) = IsServed E
 IsServed (type.option P) = IsServed P
 IsServed (type.enum names) = Unit {0}
+IsServed (type.map K V) = IsKeyServed (type.simple K) × IsServed V
 IsServed _ = ⊥
