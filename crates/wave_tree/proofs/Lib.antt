@@ -33,6 +33,9 @@ pub mod TyingBraces
 pub mod TyingFlags
 pub mod Tied
 pub mod Texts
+pub mod TreeTexts
+pub mod JoinedTexts
+pub mod ShownLemmas
 pub mod CanonTokens
 pub mod CanonNumbers
 pub mod CanonPrints
@@ -60,6 +63,7 @@ pub mod Entries
 pub mod Keys
 pub mod Maps
 pub mod Items
+pub mod Tuples
 pub mod CanonTidy
 pub mod CanonUtf8
 pub mod CanonTyped
@@ -68,3 +72,8 @@ pub mod CanonOnce
 pub mod Options
 pub mod Enums
 pub mod Among
+pub mod Chars
+pub mod Quoted
+pub mod TextLeaves
+pub mod Results
+pub mod Variants

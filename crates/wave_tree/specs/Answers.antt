@@ -1,5 +1,6 @@
 -- What a node answers about itself.
-use Rattle.std.specs.Prelude.{ℕ, ℤ, ◌≡◌, ◌≢◌, ◌⊎◌, Bool, true, false, List, [], ◌∷◌, Option, Some, None, option_map, Result, Ok, Err}
+use Rattle.std.specs.Prelude.{ℕ, ℤ, ◌≡◌, ◌≢◌, ◌⊎◌, ◌++◌, Bool, true, false, List, [], ◌∷◌, Option, Some, None, option_map, Result, Ok, Err, encode_utf8}
+use Rattle.std.specs.Char.{IsScalar}
 use Rattle.std.specs.Borrow.{Bor}
 use Rattle.wave_tree.specs.Spells.{name_of}
 use Rattle.wave_wasm.specs.Names.{IsOneOf, IsNoneOf}
@@ -8,7 +9,10 @@ use Rattle.wave_wasm.specs.Text.{bool_text}
 use Rattle.wave_lex.specs.Errors.{refusal_of}
 use Rattle.wave_lex.specs.declared.error.ParserError.{ParserError}
 use Rattle.wave_lex.specs.declared.error.ParserErrorKind.{ParserErrorKind}
-use Rattle.wave_lex.specs.declared.error.ParserErrorKind.TheVariants.{InvalidType, InvalidValue}
+use Rattle.wave_lex.specs.declared.error.ParserErrorKind.TheVariants.{InvalidType, InvalidValue, InvalidEscape}
+use Rattle.wave_lex.specs.Tokens.{backslash, single_quote, double_quote}
+use Rattle.wave_lex.specs.Lexing.{three_quotes}
+use Rattle.wave_lex.specs.Strings.{IsEscape, CharMeans}
 use Rattle.wave_tree.specs.NumberText.{IsNumberOf}
 use Rattle.wave_tree.specs.Placed.{slice}
 use Rattle.wave_tree.specs.NodeTree.{NodeTree, type_of, place_of, children_of}
@@ -103,6 +107,33 @@ module _ {N : Type 0} (which : Whole) (number : N → ℤ) where
   GivesNumber source n (Err e) =
       (type_of n ≢ kind.Number) × RefusedAs InvalidType n e
       ⊎ (type_of n ≡ kind.Number) × IsNumberOf which (text_at source n) None × RefusedAs InvalidValue n e
+
+-- the quotes around the text of a node of this type
+abbrev pub quotes_of : NodeType → List ℕ
+quotes_of kind.Char = single_quote ∷ []
+quotes_of kind.String = double_quote ∷ []
+quotes_of kind.MultilineString = three_quotes
+quotes_of _ = []
+
+-- what stands between the quotes of a node
+abbrev pub IsInside : List ℕ → NodeTree → List ℕ → Type 0
+IsInside source n inside = text_at source n ≡ quotes_of (type_of n) ++ (inside ++ quotes_of (type_of n))
+
+-- what stands between the quotes of a char stands for the scalar: it is the scalar itself, or an escape of it
+abbrev pub MeansChar : List ℕ → ℕ → Type 0
+MeansChar inside c = IsScalar c × ((c ≢ backslash) × (inside ≡ encode_utf8 c) ⊎ IsEscape inside c)
+
+-- the scalar that it stands for; None where it stands for none
+abbrev pub CharIn : List ℕ → Option ℕ → Type 0
+CharIn inside (Some c) = MeansChar inside c
+CharIn inside None = (c : ℕ) → MeansChar inside c → ⊥
+
+-- the scalar of a char; or `InvalidEscape` where it is that of none, and `InvalidType` at another node
+abbrev pub GivesChar : List ℕ → NodeTree → Result ℕ ParserError → Type 0
+GivesChar source n (Ok c) = (type_of n ≡ kind.Char) × CharMeans (text_at source n) c
+GivesChar source n (Err e) =
+    (type_of n ≢ kind.Char) × RefusedAs InvalidType n e
+    ⊎ (type_of n ≡ kind.Char) × ((c : ℕ) → CharMeans (text_at source n) c → ⊥) × RefusedAs InvalidEscape n e
 
 -- the test of whether a name is one of the names
 abbrev pub Among : List (List ℕ) → List ℕ → Bool → Type 0

@@ -23,7 +23,10 @@ pub mod Nodes
 pub mod Faults
 pub mod Answers
 pub mod Typed
+pub mod ShownNodes
 pub mod FromText
+pub mod Untyped
+pub mod UntypedCode
 pub mod Laws
 pub mod CanonLaws
 pub mod TreeLaws

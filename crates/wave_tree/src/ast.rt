@@ -1,13 +1,14 @@
 //! Nodes of the untyped tree.
-ghost use Rattle.std.specs.Prelude.{◌≡◌, [], IfOk, IsTrue, ◌↔◌};
+ghost use Rattle.std.specs.Prelude.{◌≡◌, [], length, IfOk, IsTrue, ◌↔◌};
 ghost use Rattle.wave_wasm.specs.Causes.{cause_of};
 ghost use Rattle.wave_lex.specs.Lexing.{Stands};
 ghost use Rattle.wave_lex.specs.Errors.{refusal_of, refused_by};
 ghost use Rattle.wave_tree.specs.NodeTree.{node, node_trees, type_of, place_of, children_of};
 ghost use Rattle.wave_tree.specs.Nodes.{IsParsedFrom};
-ghost use Rattle.wave_tree.specs.Answers.{text_at, RefusedAs, OfType, GivesBool, GivesNumber, GivesNodes, GivesOption, GivesResult, GivesLabel, GivesVariant, GivesEntries, GivesBoolKey, node_pairs};
+ghost use Rattle.wave_tree.specs.Answers.{text_at, quotes_of, IsInside, RefusedAs, OfType, GivesBool, GivesNumber, GivesChar, GivesNodes, GivesOption, GivesResult, GivesLabel, GivesVariant, GivesEntries, GivesBoolKey, node_pairs};
 
 use crate::number::WholeNumber;
+use crate::text::char_in;
 use crate::word::label_name;
 use std::alloc::{AllocError, Global};
 use std::iter::ExactSizeIterator;
@@ -132,6 +133,19 @@ impl Node {
         }
     }
 
+    /// The char, at a char node; else `InvalidType`. An escape of no scalar value is
+    /// `InvalidEscape`. The node was parsed from `src`.
+    pub fn as_char(&self, src: &str) -> Result<char, ParserError>
+        requires { IsParsedFrom src.now self.now }
+        ensures { GivesChar src.now self.now result }
+    {
+        self.ensure_type(NodeType::Char)?;
+        match char_in(self.inside(src, 1)) {
+            Some(c) => Ok(c),
+            None => Err(self.error(ParserErrorKind::InvalidEscape)),
+        }
+    }
+
     /// The items, at a tuple node; else `InvalidType`.
     pub fn as_tuple(&self) -> Result<&[Node], ParserError>
         ensures { GivesNodes NodeType.Tuple self.now result }
@@ -222,18 +236,29 @@ impl Node {
     }
 
     /// The nodes within the node.
-    fn nodes(&self) -> &[Node]
+    pub(crate) fn nodes(&self) -> &[Node]
         ensures { result.now ≡ children_of self.now }
     {
         self.children.as_slice()
     }
 
     /// The source at the node.
-    fn slice<'src>(&self, src: &'src str) -> &'src str
+    pub(crate) fn slice<'src>(&self, src: &'src str) -> &'src str
         requires { IsParsedFrom src.now self.now }
         ensures { result.now ≡ text_at src.now self.now }
     {
         &src[self.span()]
+    }
+
+    /// The source between the quotes of the node, of which there are so many at each end.
+    fn inside<'src>(&self, src: &'src str, quotes: usize) -> &'src str
+        requires parsed { IsParsedFrom src.now self.now }
+        requires quotes { quotes ≡ length (quotes_of (type_of self.now)) }
+        ensures { IsInside src.now self.now result.now }
+    {
+        let text = self.slice(src);
+        let end = text.len() - quotes;
+        &text[quotes..end]
     }
 
     /// Refuses a node of another type.

@@ -10,6 +10,7 @@ ghost use Rattle.wave_tree.specs.Due.{Form, due_behind};
 ghost use Rattle.wave_tree.specs.Due as due;
 ghost use Rattle.wave_tree.specs.Refusals.{Gives, GivesWithin, GivesAnywhere, Says};
 ghost use Rattle.wave_lex.specs.Lexing.{span, remainder_of};
+ghost use Rattle.wave_tree.specs.Untyped.{IsUntypedTaken};
 ghost use Rattle.wave_tree.specs.FromText.{IsValueTaken, RefusesValue, IsMeant, RefusesText};
 ghost use Rattle.wave_tree.specs.Word.{form_of, IsClose};
 ghost use Rattle.std.specs.BTreeMap.{values};
@@ -20,6 +21,7 @@ ghost use Rattle.wave_tree.specs.Parsing.{Parsing, ahead_count, IsAhead, first_a
 
 use crate::ahead::Ahead;
 use crate::ast::{Node, NodeType};
+use crate::untyped::UntypedValue;
 use crate::word::{Word, class_name, key_type, label_name, word_of};
 use std::alloc::Global;
 use std::collections::BTreeMap;
@@ -234,7 +236,18 @@ impl<'source> Parser<'source> {
 
     /// Reads a value without a type. After a value the parser stands behind it, after a refusal at
     /// the end of the refusal's span; after want of memory it stands where it stood.
-    pub fn parse_raw_value(&mut self, alloc: Global) -> Result<Node, ParserError>
+    pub fn parse_raw_value(&mut self, alloc: Global) -> Result<UntypedValue<'source>, ParserError>
+        ensures value { Gives result 100 due.value [] self.old.place self.new.place [] }
+        ensures tree { IfOk result (IsUntypedTaken self.old.place self.new.place) }
+        ensures memory { IfErr result (λ e. StaysWithout e self.old.place self.new.place) }
+    {
+        let source = self.lexer.source();
+        let node = self.parse_whole(alloc)?;
+        Ok(UntypedValue::new(source, node))
+    }
+
+    /// Reads the node of a value.
+    fn parse_whole(&mut self, alloc: Global) -> Result<Node, ParserError>
         ensures value { Gives result 100 due.value [] self.old.place self.new.place [] }
         ensures tree { IfOk result (IsNodeTaken self.old.place self.new.place) }
         ensures memory { IfErr result (λ e. StaysWithout e self.old.place self.new.place) }
@@ -266,7 +279,7 @@ impl<'source> Parser<'source> {
     {
         let place = self.lexer.clone();
         let source = self.lexer.source();
-        let node = self.parse_raw_value(alloc)?;
+        let node = self.parse_whole(alloc)?;
         match node.to_wasm_value(alloc, ty, source) {
             Ok(value) => Ok(value),
             Err(error) => {

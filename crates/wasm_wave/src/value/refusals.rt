@@ -1,5 +1,5 @@
 //! Refusals of the makers: their texts, or want of memory where a text can't be made.
-ghost use Rattle.wasm_wave.specs.Taken.{SaysKind, SaysType, SaysCase};
+ghost use Rattle.wasm_wave.specs.Taken.{SaysKind, SaysType, SaysCase, SaysMissing, SaysUnexpected};
 
 use super::{Type, Value};
 use std::alloc::Global;
@@ -35,6 +35,26 @@ pub(super) fn unknown_case(alloc: Global, case: &str) -> WasmValueError
 {
     match String::from_str(alloc, case) {
         Ok(case) => WasmValueError::UnknownCase(case),
+        Err(e) => WasmValueError::Memory(e),
+    }
+}
+
+// The payload of this name is missing.
+pub(super) fn missing_payload(alloc: Global, case: &str) -> WasmValueError
+    ensures { SaysMissing case.now result }
+{
+    match String::from_str(alloc, case) {
+        Ok(case) => WasmValueError::MissingPayload(case),
+        Err(e) => WasmValueError::Memory(e),
+    }
+}
+
+// The case of this name has no payload.
+pub(super) fn unexpected_payload(alloc: Global, case: &str) -> WasmValueError
+    ensures { SaysUnexpected case.now result }
+{
+    match String::from_str(alloc, case) {
+        Ok(case) => WasmValueError::UnexpectedPayload(case),
         Err(e) => WasmValueError::Memory(e),
     }
 }
