@@ -72,6 +72,16 @@ pub mod CanonOnce
 pub mod Options
 pub mod Enums
 pub mod Among
+pub mod ShownTokens
+pub mod ShownFlags
+pub mod ShownTrees
+pub mod ShownRows
+pub mod ShownTidy
+pub mod ShownReads
+pub mod Alike
+pub mod ShownMeans
+pub mod ParamTrees
+pub mod ShownCalls
 pub mod Chars
 pub mod Quoted
 pub mod TextLeaves

@@ -32,3 +32,4 @@ pub mod CanonLaws
 pub mod TreeLaws
 pub mod BeginLaws
 pub mod AnswerLaws
+pub mod ShownLaws
