@@ -1,9 +1,9 @@
 -- The entries of records and maps, one by one.
-use Rattle.std.proofs.Common.{ℕ, ◌≡◌, ◌≢◌, ◌⊎◌, inl, inr, ◌≤◌, ◌<◌, ◌+◌, ◌*◌, ◌/◌, List, [], ◌∷◌, length, Option, Some, None, option_map, refl, sym, ap, ◌∙◌, subst, arith}
+use Rattle.std.proofs.Common.{ℕ, ◌≡◌, ◌≢◌, ◌⊎◌, inl, inr, ◌≤◌, ◌<◌, ◌+◌, ◌*◌, ◌/◌, List, [], ◌∷◌, length, Option, Some, None, option_map, refl, sym, subst, arith}
 use Rattle.std.specs.declared.ops.Range.{Range}
 use Rattle.wave_tree.specs.Token.{Token}
 use Rattle.wave_tree.specs.Placed.{Placed, Shape, at, entries, empty_braces, no_fields, PlacedEntries, no_entries, entry, PlacedEntry, entry_list, slice, span_of, shape_of, SpellsEach, SpellsEntries}
-use Rattle.wave_tree.specs.Faults.{map_in, record_in}
+use Rattle.wave_tree.specs.Faults.{map_in}
 use Rattle.wave_tree.specs.NodeTree.{NodeTree, type_of, place_of, children_of}
 use Rattle.wave_tree.specs.Nodes.{placed_of, shape_from, pairs_of, key_of, with_both, IsNodeOf, IsTokenOf}
 use Rattle.wave_tree.specs.Answers.{node_pairs}

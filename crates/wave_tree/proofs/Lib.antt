@@ -59,8 +59,10 @@ pub mod CanonFields
 pub mod CanonTypes
 pub mod Canon
 pub mod Cases
-pub mod Items
 pub mod Entries
+pub mod Keys
+pub mod Maps
+pub mod Items
 pub mod Fields
 pub mod Tuples
 pub mod CanonTidy
