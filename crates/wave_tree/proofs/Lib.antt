@@ -70,4 +70,7 @@ pub mod Among
 pub mod Chars
 pub mod Quoted
 pub mod TextLeaves
+pub mod CowTexts
+pub mod OneRuns
+pub mod StringNodes
 pub mod Results
