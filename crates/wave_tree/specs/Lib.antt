@@ -24,6 +24,7 @@ pub mod Faults
 pub mod Answers
 pub mod CowText
 pub mod Typed
+pub mod ShownNodes
 pub mod FromText
 pub mod Untyped
 pub mod UntypedCode
@@ -32,3 +33,4 @@ pub mod CanonLaws
 pub mod TreeLaws
 pub mod BeginLaws
 pub mod AnswerLaws
+pub mod ShownLaws

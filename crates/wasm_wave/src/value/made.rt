@@ -13,6 +13,8 @@ use std::alloc::Global;
 use std::boxed::Box;
 use wave_wasm::wasm::{WasmType, WasmTypeKind, WasmValueError};
 
+mod cases;
+
 impl Value {
     // Whether the value's own type is this one.
     fn is_at(&self, ty: &Type) -> bool
