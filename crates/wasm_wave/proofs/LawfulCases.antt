@@ -1,7 +1,7 @@
 -- From what `Value` makes and refuses at variants, flags and maps to the laws of values.
 use Rattle.std.proofs.Common.{◌≡◌, ◌≢◌, ℕ, List, [], ◌∷◌, sym, ap, subst, ◌∙◌, refl, inl, inr, Option, Result, Ok, Err, Bor}
 use Rattle.std.specs.Prelude.{IfOk, IfErr, OnOk, filter}
-use Rattle.wave_wasm.specs.Lists.{SomeOf}
+use Rattle.wave_wasm.specs.Lists.{AllOf, SomeOf}
 use Rattle.wave_wasm.specs.Names.{IsOneOf, IsNoneOf, AreAllOf, AreDistinct, ArePicked, is_one_of, found_in}
 use Rattle.wave_wasm.specs.Shown.{texts}
 use Rattle.wave_wasm.specs.Types as type

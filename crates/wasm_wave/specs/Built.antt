@@ -65,7 +65,7 @@ full_parts (type.result A B) full =
     payload_full A _ full.distinct.0 b.0 (payload_full B [] full.distinct.1 b.1 tt)
 full_parts (type.enum names) full = tt
 full_parts (type.flags names) full = tt
-full_parts (type.map K V) full = (record { distinct = tt; built = refl }, record { distinct = full.distinct; built = full.built }, tt)
+full_parts (type.map K V) full = (record { distinct = tt; built = refl }, (record { distinct = full.distinct; built = full.built }, tt))
 full_parts _ full = absurd (false≢true full.built)
 
 -- the refusal says that this kind has no values here
