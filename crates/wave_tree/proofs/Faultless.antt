@@ -18,6 +18,7 @@ use Rattle.wave_tree.specs.Placed.{Placed, MaybePlaced, no_placed, a_placed, at,
 use Rattle.wave_tree.specs.Faults.{LeafFault, IsForm, Fault, FaultOfPayload, FaultOfFlat}
 use Rattle.wave_tree.proofs.Enums.{enum_none}
 use Rattle.wave_tree.proofs.Options.{some_none, flat_none}
+use Rattle.wave_tree.proofs.Maps.{map_none}
 use Rattle.wave_tree.proofs.Results.{ok_none, err_none}
 use Rattle.wave_tree.proofs.Enums.{none_one}
 use Rattle.wave_tree.proofs.Variants.{variant_none, read_is_one}
@@ -28,7 +29,7 @@ use Rattle.wave_tree.specs.TreeReads.{TreeReadsCase}
 use Rattle.wave_tree.specs.Placed.{label}
 use Rattle.wave_tree.specs.Faults.{FaultOfCase}
 use Rattle.wave_tree.specs.Typed.{AreServedCases}
-use Rattle.wave_tree.specs.Typed.{IsRead, IsBlamed, IsRefused, IsServed, IsServedPayload, ReadsNone, AreServed}
+use Rattle.wave_tree.specs.Typed.{IsRead, IsBlamed, IsRefused, IsServed, IsKeyServed, IsServedPayload, ReadsNone, AreServed}
 use Rattle.wave_wasm.specs.Types.{Types}
 use Rattle.wave_tree.specs.TreeReads.{TreeReadsAll}
 use Rattle.wave_tree.specs.Placed.{tuple}
@@ -73,6 +74,12 @@ list_none E (and_then t more) k q [] vs apart h e each = cc
 list_none E (and_then t more) k q (u ∷ us) vs apart (inl fault) e (v, ws, read, others, f) = apart t fault v (subst (λ (w : Tree). TreeReads E w v) (sym (first_tree (tree_of t) u (trees_of more) (trees us) e)) read)
 list_none E (and_then t more) k q (u ∷ us) vs apart (inr h) e (v, ws, read, others, f) = list_none E more k q us ws apart h (cc) others
 
+key_is_served : (K : Simple) → IsKeyServed (type.simple K) → IsServed (type.simple K)
+key_is_served type.bool h = tt
+key_is_served (type.whole which) h = tt
+key_is_served type.char h = absurd h
+key_is_served type.string h = absurd h
+
 mutual
   -- a tree with a fault at a type is given no value by it
   pub no_value : (T : TypeTree) (t : Placed) (k : Refusal) (q : Range ℕ) → IsServed T → HasDistinctNames T → Fault T t k q → ReadsNone T t
@@ -93,6 +100,7 @@ mutual
   no_value (type.variant cs) (at p (label r text payload)) k q served names fault = λ v read. variant_none cs text (maybe_of payload) v (no_case cs (name_of text) payload p k q served names.0 names.1 fault) read
   no_value (type.variant cs) (at p _) k q served names fault = λ v read. absurd (cc)
   no_value (type.enum cases) t k q served names fault = λ v read. enum_none cases t k q v fault read
+  no_value (type.map K V) t k q served names fault = λ v read. map_none K V k q (λ p token l f s. leaf_none K p token k q l (key_is_served K served.0) f s) (λ u h. no_value V u k q served.1 names h) t v fault read
   no_value _ t k q served names fault = absurd served
 
   -- so is the payload of the case of this name

@@ -59,6 +59,9 @@ pub mod CanonFields
 pub mod CanonTypes
 pub mod Canon
 pub mod Cases
+pub mod Entries
+pub mod Keys
+pub mod Maps
 pub mod Items
 pub mod Tuples
 pub mod CanonTidy
