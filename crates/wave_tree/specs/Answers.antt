@@ -5,6 +5,7 @@ use Rattle.std.specs.Borrow.{Bor}
 use Rattle.wave_tree.specs.Spells.{name_of}
 use Rattle.wave_wasm.specs.Names.{IsOneOf, IsNoneOf}
 use Rattle.wave_wasm.specs.Types.{Whole}
+use Rattle.wave_wasm.specs.Text.{bool_text}
 use Rattle.wave_lex.specs.Errors.{refusal_of}
 use Rattle.wave_lex.specs.declared.error.ParserError.{ParserError}
 use Rattle.wave_lex.specs.declared.error.ParserErrorKind.{ParserErrorKind}
@@ -79,6 +80,25 @@ GivesVariant source n (Ok (name, payload)) =
     (type_of n ≡ kind.Label) × (name.now ≡ name_of (text_at source n)) × (shown_node payload ≡ None)
     ⊎ ((c : NodeTree) × (t : NodeTree) × (type_of n ≡ kind.VariantWithPayload) × (children_of n ≡ c ∷ t ∷ []) × (name.now ≡ name_of (text_at source c)) × (shown_node payload ≡ Some t))
 GivesVariant source n (Err e) = (type_of n ≢ kind.Label) × (type_of n ≢ kind.VariantWithPayload) × RefusedAs InvalidType n e
+
+-- the bool of a key, whose label is its word; or `InvalidType` where it is none
+abbrev pub GivesBoolKey : List ℕ → NodeTree → Result Bool ParserError → Type 0
+GivesBoolKey source n (Ok b) = (type_of n ≡ kind.Label) × (text_at source n ≡ bool_text b)
+GivesBoolKey source n (Err e) = ((b : Bool) → type_of n ≡ kind.Label → text_at source n ≢ bool_text b) × RefusedAs InvalidType n e
+
+-- the nodes two by two
+abbrev pub node_pairs : List NodeTree → List (NodeTree × NodeTree)
+node_pairs (key ∷ value ∷ more) = (key, value) ∷ node_pairs more
+node_pairs _ = []
+
+-- the nodes behind two references
+abbrev pub shown_nodes : Bor NodeTree × Bor NodeTree → NodeTree × NodeTree
+shown_nodes e = (e.0.now, e.1.now)
+
+-- the keys and the values of a node of entries, of `{:}` or of `{}`; or `InvalidType` at another node
+abbrev pub GivesEntries : NodeTree → Result (List (NodeTree × NodeTree)) ParserError → Type 0
+GivesEntries n (Ok entries) = ((type_of n ≡ kind.TupleSet) ⊎ (type_of n ≡ kind.EmptySet)) × (entries ≡ node_pairs (children_of n))
+GivesEntries n (Err e) = (type_of n ≢ kind.TupleSet) × (type_of n ≢ kind.EmptySet) × RefusedAs InvalidType n e
 
 module _ {N : Type 0} (which : Whole) (number : N → ℤ) where
   -- the number of a node; or `InvalidValue` where it is none of this type, and `InvalidType` where the node is no number
