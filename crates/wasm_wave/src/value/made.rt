@@ -14,6 +14,7 @@ use std::boxed::Box;
 use wave_wasm::wasm::{WasmType, WasmTypeKind, WasmValueError};
 
 mod cases;
+mod entries;
 
 impl Value {
     // Whether the value's own type is this one.
