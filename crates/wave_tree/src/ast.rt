@@ -10,7 +10,7 @@ ghost use Rattle.wave_tree.specs.Answers.{text_at, quotes_of, IsInside, RefusedA
 
 use crate::number::WholeNumber;
 pub use crate::record::RecordFields;
-use crate::text::{char_in, char_in, joined};
+use crate::text::{char_in, joined};
 use crate::word::label_name;
 use std::alloc::{AllocError, Global};
 use std::iter::ExactSizeIterator;
