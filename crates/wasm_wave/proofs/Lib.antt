@@ -12,4 +12,5 @@ pub mod ValueLists
 pub mod Made
 pub mod MadeTuple
 pub mod MadeResult
+pub mod MadeRecord
 pub mod Headline
