@@ -13,4 +13,5 @@ pub mod Made
 pub mod MadeTuple
 pub mod MadeResult
 pub mod MadeRecord
+pub mod LawfulRecord
 pub mod Headline

@@ -136,10 +136,10 @@ pub missing_refused : (xs ys : List (String Global × TypeTree)) (i : ℕ) (f : 
 missing_refused xs ys i f n under now vs e same lt is called t none says =
     let there : now (string_bytes f.0) ≡ None = subst (λ k. now k ≡ None) called none in
     let why : (under (string_bytes f.0) ≡ None) ⊎ IsRepeated (first_names (map by_bytes xs)) (string_bytes f.0) =
-      elim (missing_or_repeated (is_one_of (first_names (map by_bytes (take i xs))) (string_bytes f.0)) (under (string_bytes f.0)) (sym (t.left (string_bytes f.0)) ∙ there)) [
-        | inl none ↦ inl none
-        | inr twice ↦ inr (repeated xs i f lt is (is_one (first_names (map by_bytes (take i xs))) (string_bytes f.0) twice))
-      ]
+    elim (missing_or_repeated (is_one_of (first_names (map by_bytes (take i xs))) (string_bytes f.0)) (under (string_bytes f.0)) (sym (t.left (string_bytes f.0)) ∙ there)) [
+      | inl none ↦ inl none
+      | inr twice ↦ inr (repeated xs i f lt is (is_one (first_names (map by_bytes (take i xs))) (string_bytes f.0) twice))
+    ]
     in
     subst (λ zs. RefusesFields (map by_bytes zs) under e) same (missing_is (map by_bytes xs) under (string_bytes f.0) e (one_name xs i f lt is) why (subst (λ k. SaysMissingField k e) called says))
 
@@ -163,10 +163,10 @@ pub taking_more : (xs : List (String Global × TypeTree)) (i : ℕ) (f : String 
     → tree.UpdatesBy (λ a b. slice_cmp nat_cmp a.now b.now) (λ k. slice_cmp nat_cmp n k.now) m new None → Taking (map by_bytes (take (i + 1) xs)) under (held new) (vs ++ v ∷ [])
 taking_more xs i f n under m new vs v lt is called t some at u =
     let more : map by_bytes (take (i + 1) xs) ≡ map by_bytes (take i xs) ++ by_bytes f ∷ [] =
-      ap (map by_bytes) (take_more xs i f lt ∙ ap (λ g. take i xs ++ g ∷ []) (sym is)) ∙ map_push by_bytes (take i xs) f
+    ap (map by_bytes) (take_more xs i f lt ∙ ap (λ g. take i xs ++ g ∷ []) (sym is)) ∙ map_push by_bytes (take i xs) f
     in
     let step : (q : List ℕ) → held new q ≡ cond (bytes_eq (string_bytes f.0) q) None (held m q) =
-      λ q. btree_map_updates_str n m new None u q ∙ ap (λ k. cond (bytes_eq k q) None (held m q)) called
+    λ q. btree_map_updates_str n m new None u q ∙ ap (λ k. cond (bytes_eq k q) None (held m q)) called
     in
     subst (λ fs. Taking fs under (held new) (vs ++ v ∷ [])) (sym more)
     (taking_push (map by_bytes (take i xs)) under (held m) (held new) vs (by_bytes f) v t (subst (λ k. held m k ≡ Some v) called some) at step)

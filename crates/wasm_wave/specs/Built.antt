@@ -1,20 +1,21 @@
 -- The types whose values can be made, and those at which makers refuse for want of memory alone.
-use Rattle.std.specs.Prelude.{◌≡◌, Bool, true, false, List, [], string_bytes}
+use Rattle.std.specs.Prelude.{◌≡◌, Bool, true, false, List, [], map, string_bytes}
 use Rattle.std.proofs.lemmas.Bool.{false≢true, and_parts}
 use Rattle.wave_wasm.specs.Lists.{AllOf}
 use Rattle.wave_wasm.specs.Names.{AreDistinct}
 use Rattle.wave_wasm.specs.Types as type
-use Rattle.wave_wasm.specs.Types.{TypeTree, MaybeType, Types, no_type, a_type, no_types, type_and, type_list, HasDistinctNames, EachNamesOfMaybe, EachNamesOfTypes, every, every_maybe, every_type}
+use Rattle.wave_wasm.specs.Types.{TypeTree, MaybeType, Types, Fields, no_type, a_type, no_types, type_and, no_fields, field, type_list, field_list, HasDistinctNames, EachNamesOfMaybe, EachNamesOfTypes, EachNamesOfFields, every, every_maybe, every_type, every_field}
 use Rattle.wave_wasm.specs.Makers.{HasFullParts, payload_and}
 use Rattle.wave_wasm.specs.TypeText.{kind_word}
 use Rattle.wave_wasm.specs.declared.wasm.WasmTypeKind.{WasmTypeKind}
 use Rattle.wave_wasm.specs.declared.wasm.WasmValueError.{WasmValueError}
 use Rattle.wave_wasm.specs.declared.wasm.WasmValueError.TheVariants as error
 
--- values of the kind of this type can be made: those of one token, lists, tuples, options, results and enums
+-- values of the kind of this type can be made: those of one token, lists, records, tuples, options, results and enums
 abbrev pub is_built : TypeTree → Bool
 is_built (type.simple S) = true
 is_built (type.list E) = true
+is_built (type.record_type fs) = true
 is_built (type.tuple Ts) = true
 is_built (type.option P) = true
 is_built (type.result A B) = true
@@ -41,11 +42,18 @@ types_full (type_and T more) names built =
     let b = and_parts (every is_built T) (every_type is_built more) built in
     (record { distinct = names.0; built = b.0 }, types_full more names.1 b.1)
 
+fields_full : (fs : Fields) → EachNamesOfFields AreDistinct fs → every_field is_built fs ≡ true → AllOf IsFull (map (λ f. f.1) (field_list fs))
+fields_full no_fields names built = tt
+fields_full (field name T more) names built =
+    let b = and_parts (every is_built T) (every_field is_built more) built in
+    (record { distinct = names.0; built = b.0 }, fields_full more names.1 b.1)
+
 -- the parts of a full type are full
 pub full_parts : HasFullParts IsFull
 full_parts (type.simple S) full = tt
 full_parts (type.unreadable kind) full = tt
 full_parts (type.list E) full = (record { distinct = full.distinct; built = full.built }, tt)
+full_parts (type.record_type fs) full = fields_full fs full.distinct.1 full.built
 full_parts (type.tuple Ts) full = types_full Ts full.distinct full.built
 full_parts (type.option P) full = (record { distinct = full.distinct; built = full.built }, tt)
 full_parts (type.result A B) full =
