@@ -6,7 +6,7 @@ use Rattle.wave_wasm.specs.Types.{TypeTree, Types, MaybeType, type_list, type_op
 use Rattle.wave_wasm.specs.Values as value
 use Rattle.wave_wasm.specs.Values.{Value, Leaf, leaf_type, IsSound, IsWellFormed, values, maybe_value}
 use Rattle.wave_wasm.specs.HasType.{HasType}
-use Rattle.wave_wasm.specs.Makers.{IsMemory, Makes, MakesLeaf, MakesList, MakesTuple, MakesOption, MakesEnum, MakesResult, AreOf, OptionIsOf, PayloadIsOf, EitherIsOf, result_value, either_tree, FullLeaf, FullList, FullTuple, FullRecord, FullVariant, FullEnum, FullOption, FullResult, FullFlags, FullMap}
+use Rattle.wave_wasm.specs.Makers.{IsMemory, Makes, MakesLeaf, MakesList, MakesTuple, MakesOption, MakesEnum, MakesResult, AreOf, OptionIsOf, PayloadIsOf, EitherIsOf, result_value, either_tree, FullLeaf, FullList, FullTuple, FullRecord, FullEnum, FullOption, FullResult, FullFlags, FullMap}
 use Rattle.wave_wasm.specs.declared.wasm.WasmValueError.{WasmValueError}
 use Rattle.wave_wasm.proofs.Formed.{formed}
 use Rattle.wasm_wave.specs.TypedValue.{TypedValue, IsAt, IsTyped, MakesOnly, typed_leaf}
@@ -53,15 +53,13 @@ every_first (type.list E) h = refl
 every_first (type.record_type fs) h = refl
 every_first (type.tuple Ts) h = refl
 every_first (type.option P) h = refl
+every_first (type.variant cs) h = refl
 every_first (type.result A B) h = refl
 every_first _ h = absurd (false≢true h)
 
 -- a type of a kind whose values can't be made isn't full
 none_built : (T U : TypeTree) → IsFull T → T ≡ U → is_built U ≡ false → ⊥
 none_built T U full is no_values = false≢true (sym no_values ∙ every_first U (subst IsBuilt is full.built))
-
-pub no_variant : (T : TypeTree) (name : List ℕ) (payload : Option TypedValue) (e : WasmValueError) → FullVariant (λ v T. IsAt T v) IsFull T name payload e
-no_variant T name payload e = λ full cs is P case h. absurd (none_built T _ full is refl)
 
 pub no_flags : (T : TypeTree) (names : List (Bor (List ℕ))) (e : WasmValueError) → FullFlags (λ (v : TypedValue) T. IsAt T v) IsFull T names e
 no_flags T names e = λ full all is distinct h. absurd (none_built T _ full is refl)
@@ -71,7 +69,8 @@ no_map T handed e = λ full K V is h. absurd (none_built T _ full is refl)
 
 -- ---- what has parts
 
-lawful : (asked : Value) (T : TypeTree) (v : TypedValue) → Made asked T v → Makes (λ (v : TypedValue). v.tree) (λ v T. IsAt T v) asked T v
+-- what was made means what was asked for and is of the type
+pub lawful : (asked : Value) (T : TypeTree) (v : TypedValue) → Made asked T v → Makes (λ (v : TypedValue). v.tree) (λ v T. IsAt T v) asked T v
 lawful asked T v m = record { means = m.tree; fits = m.fits; is_of = record { own = m.own; fits = subst (HasType T) (sym m.tree) m.fits } }
 
 pub made_list : (T : TypeTree) (vs : List TypedValue) (v : TypedValue) → Made (value.list (values (trees vs))) T v → MakesList (λ v. v.tree) (λ v T. IsAt T v) T vs v

@@ -3,6 +3,7 @@ pub mod TypeEqual
 pub mod Texts
 pub mod TypeOwn
 pub mod Lawful
+pub mod LawfulCases
 pub mod SameValue
 pub mod LabelTest
 pub mod ValueDepths
@@ -10,6 +11,7 @@ pub mod ValueMeans
 pub mod SameContent
 pub mod ValueLists
 pub mod Made
+pub mod MadeCases
 pub mod MadeTuple
 pub mod MadeResult
 pub mod MadeRecord

@@ -4,19 +4,20 @@ use Rattle.std.proofs.lemmas.Bool.{false≢true, and_parts}
 use Rattle.wave_wasm.specs.Lists.{AllOf}
 use Rattle.wave_wasm.specs.Names.{AreDistinct}
 use Rattle.wave_wasm.specs.Types as type
-use Rattle.wave_wasm.specs.Types.{TypeTree, MaybeType, Types, Fields, no_type, a_type, no_types, type_and, no_fields, field, type_list, field_list, HasDistinctNames, EachNamesOfMaybe, EachNamesOfTypes, EachNamesOfFields, every, every_maybe, every_type, every_field}
-use Rattle.wave_wasm.specs.Makers.{HasFullParts, payload_and}
+use Rattle.wave_wasm.specs.Types.{TypeTree, MaybeType, Types, Fields, Cases, no_type, a_type, no_types, type_and, no_fields, field, no_cases, case_of, type_list, field_list, HasDistinctNames, EachNamesOfMaybe, EachNamesOfTypes, EachNamesOfFields, EachNamesOfCases, every, every_maybe, every_type, every_field, every_case}
+use Rattle.wave_wasm.specs.Makers.{HasFullParts, payload_and, payload_types}
 use Rattle.wave_wasm.specs.TypeText.{kind_word}
 use Rattle.wave_wasm.specs.declared.wasm.WasmTypeKind.{WasmTypeKind}
 use Rattle.wave_wasm.specs.declared.wasm.WasmValueError.{WasmValueError}
 use Rattle.wave_wasm.specs.declared.wasm.WasmValueError.TheVariants as error
 
--- values of the kind of this type can be made: those of one token, lists, records, tuples, options, results and enums
+-- values of the kind of this type can be made: those of one token, lists, records, tuples, variants, options, results and enums
 abbrev pub is_built : TypeTree → Bool
 is_built (type.simple S) = true
 is_built (type.list E) = true
 is_built (type.record_type fs) = true
 is_built (type.tuple Ts) = true
+is_built (type.variant cs) = true
 is_built (type.option P) = true
 is_built (type.result A B) = true
 is_built (type.enum names) = true
@@ -42,11 +43,20 @@ types_full (type_and T more) names built =
     let b = and_parts (every is_built T) (every_type is_built more) built in
     (record { distinct = names.0; built = b.0 }, types_full more names.1 b.1)
 
+-- the types of full fields are full
 fields_full : (fs : Fields) → EachNamesOfFields AreDistinct fs → every_field is_built fs ≡ true → AllOf IsFull (map (λ f. f.1) (field_list fs))
 fields_full no_fields names built = tt
 fields_full (field name T more) names built =
     let b = and_parts (every is_built T) (every_field is_built more) built in
     (record { distinct = names.0; built = b.0 }, fields_full more names.1 b.1)
+
+-- the payload types of full cases are full
+cases_full : (cs : Cases) → EachNamesOfCases AreDistinct cs → every_case is_built cs ≡ true → AllOf IsFull (payload_types cs)
+cases_full no_cases distinct built = tt
+cases_full (case_of name no_type more) distinct built = cases_full more distinct.1 built
+cases_full (case_of name (a_type T) more) distinct built =
+    let p = and_parts (every is_built T) (every_case is_built more) built in
+    (record { distinct = distinct.0; built = p.0 }, cases_full more distinct.1 p.1)
 
 -- the parts of a full type are full
 pub full_parts : HasFullParts IsFull
@@ -55,6 +65,7 @@ full_parts (type.unreadable kind) full = tt
 full_parts (type.list E) full = (record { distinct = full.distinct; built = full.built }, tt)
 full_parts (type.record_type fs) full = fields_full fs full.distinct.1 full.built
 full_parts (type.tuple Ts) full = types_full Ts full.distinct full.built
+full_parts (type.variant cs) full = cases_full cs full.distinct.1 full.built
 full_parts (type.option P) full = (record { distinct = full.distinct; built = full.built }, tt)
 full_parts (type.result A B) full =
     let b = and_parts (every_maybe is_built A) (every_maybe is_built B) full.built in

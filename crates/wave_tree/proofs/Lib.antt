@@ -34,6 +34,8 @@ pub mod TyingFlags
 pub mod Tied
 pub mod Texts
 pub mod TreeTexts
+pub mod JoinedTexts
+pub mod ShownLemmas
 pub mod CanonTokens
 pub mod CanonNumbers
 pub mod CanonPrints
@@ -57,6 +59,9 @@ pub mod CanonFields
 pub mod CanonTypes
 pub mod Canon
 pub mod Cases
+pub mod Entries
+pub mod Keys
+pub mod Maps
 pub mod Items
 pub mod Tuples
 pub mod CanonTidy
@@ -67,3 +72,18 @@ pub mod CanonOnce
 pub mod Options
 pub mod Enums
 pub mod Among
+pub mod ShownTokens
+pub mod ShownFlags
+pub mod ShownTrees
+pub mod ShownRows
+pub mod ShownTidy
+pub mod ShownReads
+pub mod Alike
+pub mod ShownMeans
+pub mod ParamTrees
+pub mod ShownCalls
+pub mod Chars
+pub mod Quoted
+pub mod TextLeaves
+pub mod Results
+pub mod Variants

@@ -23,6 +23,7 @@ pub mod Nodes
 pub mod Faults
 pub mod Answers
 pub mod Typed
+pub mod ShownNodes
 pub mod FromText
 pub mod Untyped
 pub mod UntypedCode
@@ -31,3 +32,4 @@ pub mod CanonLaws
 pub mod TreeLaws
 pub mod BeginLaws
 pub mod AnswerLaws
+pub mod ShownLaws

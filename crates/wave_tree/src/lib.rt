@@ -6,6 +6,7 @@ pub mod ast;
 pub mod laws;
 pub mod number;
 pub mod parser;
+mod text;
 mod typed;
 pub mod untyped;
 mod word;

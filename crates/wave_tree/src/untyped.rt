@@ -11,6 +11,8 @@ use std::borrow::CowStr;
 use std::marker::Model;
 use wave_wasm::wasm::WasmValue;
 
+mod display;
+
 /// A value that was parsed without a type: its source, and the node of its tree.
 #[derive(Debug, Drop)]
 pub struct UntypedValue<'source> {

@@ -19,6 +19,8 @@ use std::boxed::Box;
 use std::collections::BTreeMap;
 use wave_wasm::wasm::{WasmType, WasmTypeKind, WasmValueError};
 
+mod cases;
+
 impl Value {
     // Whether the value's own type is this one.
     fn is_at(&self, ty: &Type) -> bool

@@ -6,7 +6,7 @@ use super::{Type, Value};
 use std::alloc::{AllocError, Global};
 use wave_wasm::wasm::{WasmTypeKind, WasmValue, WasmValueError};
 
-#[tactic(auto, using(crate::proofs::Lawful::made_leaf, crate::proofs::Lawful::made_only, crate::proofs::Lawful::never_refused, crate::proofs::Lawful::full_leaf, crate::proofs::Lawful::well_formed, crate::proofs::Lawful::made_list, crate::proofs::Lawful::full_list, crate::proofs::Lawful::made_tuple, crate::proofs::Lawful::full_tuple, crate::proofs::LawfulRecord::made_record, crate::proofs::Lawful::no_variant, crate::proofs::Lawful::made_option, crate::proofs::Lawful::full_option, crate::proofs::Lawful::made_enum, crate::proofs::Lawful::full_enum, crate::proofs::Lawful::made_result, crate::proofs::Lawful::full_result, crate::proofs::Lawful::no_flags, crate::proofs::Lawful::no_map))]
+#[tactic(auto, using(crate::proofs::Lawful::made_leaf, crate::proofs::Lawful::made_only, crate::proofs::Lawful::never_refused, crate::proofs::Lawful::full_leaf, crate::proofs::Lawful::well_formed, crate::proofs::Lawful::made_list, crate::proofs::Lawful::full_list, crate::proofs::Lawful::made_tuple, crate::proofs::Lawful::full_tuple, crate::proofs::LawfulRecord::made_record, crate::proofs::LawfulCases::made_variant, crate::proofs::LawfulCases::full_variant, crate::proofs::Lawful::made_option, crate::proofs::Lawful::full_option, crate::proofs::Lawful::made_enum, crate::proofs::Lawful::full_enum, crate::proofs::Lawful::made_result, crate::proofs::Lawful::full_result, crate::proofs::Lawful::no_flags, crate::proofs::Lawful::no_map))]
 impl WasmValue for Value {
     ghost use Rattle.std.specs.Prelude.{IfOk, IfErr};
     ghost use Rattle.wave_wasm.specs.Makers.{MakesList, MakesTuple, MakesRecord, MakesVariant, MakesOption, MakesResult, MakesMap, FullList, FullTuple, FullRecord, FullVariant, FullOption, FullResult, FullMap};
@@ -108,7 +108,7 @@ impl WasmValue for Value {
         ensures made { IfOk result (MakesVariant (λ v. v.tree) (λ v T. IsAt T v) ty.now case.now val) }
         ensures full { IfErr result (FullVariant (λ v T. IsAt T v) IsFull ty.now case.now val) }
     {
-        Err(unsupported(alloc, WasmTypeKind::Variant))
+        Value::make_variant(alloc, ty, case, val)
     }
 
     fn make_enum(alloc: Global, ty: &Type, case: &str) -> Result<Value, WasmValueError> {
