@@ -1,5 +1,5 @@
 -- The types whose values can be made, and those at which makers refuse for want of memory alone.
-use Rattle.std.specs.Prelude.{◌≡◌, Bool, true, false, List, [], map, string_bytes}
+use Rattle.std.specs.Prelude.{◌≡◌, refl, Bool, true, false, List, [], map, string_bytes}
 use Rattle.std.proofs.lemmas.Bool.{false≢true, and_parts}
 use Rattle.wave_wasm.specs.Lists.{AllOf}
 use Rattle.wave_wasm.specs.Names.{AreDistinct}
@@ -11,7 +11,7 @@ use Rattle.wave_wasm.specs.declared.wasm.WasmTypeKind.{WasmTypeKind}
 use Rattle.wave_wasm.specs.declared.wasm.WasmValueError.{WasmValueError}
 use Rattle.wave_wasm.specs.declared.wasm.WasmValueError.TheVariants as error
 
--- values of the kind of this type can be made: those of one token, lists, records, tuples, variants, options, results and enums
+-- values of the kind of this type can be made: of all kinds but f32, f64, unsupported ones and fixed-length lists
 abbrev pub is_built : TypeTree → Bool
 is_built (type.simple S) = true
 is_built (type.list E) = true
@@ -21,6 +21,8 @@ is_built (type.variant cs) = true
 is_built (type.option P) = true
 is_built (type.result A B) = true
 is_built (type.enum names) = true
+is_built (type.flags names) = true
+is_built (type.map K V) = true
 is_built _ = false
 
 -- values of the type, and of each part of it, can be made
@@ -72,6 +74,7 @@ full_parts (type.result A B) full =
     payload_full A _ full.distinct.0 b.0 (payload_full B [] full.distinct.1 b.1 tt)
 full_parts (type.enum names) full = tt
 full_parts (type.flags names) full = tt
+full_parts (type.map K V) full = (record { distinct = tt; built = refl }, (record { distinct = full.distinct; built = full.built }, tt))
 full_parts _ full = absurd (false≢true full.built)
 
 -- the refusal says that this kind has no values here

@@ -20,6 +20,7 @@ use std::collections::BTreeMap;
 use wave_wasm::wasm::{WasmType, WasmTypeKind, WasmValueError};
 
 mod cases;
+mod entries;
 
 impl Value {
     // Whether the value's own type is this one.
