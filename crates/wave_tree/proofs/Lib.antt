@@ -86,5 +86,8 @@ pub mod ShownCalls
 pub mod Chars
 pub mod Quoted
 pub mod TextLeaves
+pub mod CowTexts
+pub mod OneRuns
+pub mod StringNodes
 pub mod Results
 pub mod Variants

@@ -22,6 +22,7 @@ pub mod Placed
 pub mod Nodes
 pub mod Faults
 pub mod Answers
+pub mod CowText
 pub mod Typed
 pub mod ShownNodes
 pub mod FromText

@@ -96,6 +96,7 @@ abbrev mutual
   IsServed (type.simple type.bool) = Unit {0}
   IsServed (type.simple (type.whole which)) = Unit {0}
   IsServed (type.simple type.char) = Unit {0}
+  IsServed (type.simple type.string) = Unit {0}
   IsServed (type.unreadable kind) = Unit {0}
   IsServed (type.fixed E n) = Unit {0}
   IsServed (type.list E) = IsServed E

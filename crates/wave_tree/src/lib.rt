@@ -6,6 +6,8 @@ pub mod ast;
 pub mod laws;
 pub mod number;
 pub mod parser;
+#[cfg(test)]
+mod tests;
 mod text;
 mod typed;
 pub mod untyped;

@@ -16,7 +16,7 @@ ghost use Rattle.std.specs.Str.{bytes_eq};
 ghost use Rattle.wave_wasm.specs.Merge.{merge};
 ghost use Rattle.wave_wasm.specs.Text.{text};
 
-use crate::ast::Node;
+use crate::ast::{CowStr, Node};
 use std::alloc::Global;
 use wave_lex::error::{ParserError, ParserErrorKind};
 use wave_wasm::wasm::{WasmType, WasmTypeKind, WasmValue, WasmValueError};
@@ -56,6 +56,7 @@ impl Node {
             WasmTypeKind::U32 => self.made(V::make_u32(alloc, self.as_number(src)?)),
             WasmTypeKind::U64 => self.made(V::make_u64(alloc, self.as_number(src)?)),
             WasmTypeKind::Char => self.read_char(alloc, ty, src),
+            WasmTypeKind::String => self.read_string(alloc, ty, src),
             WasmTypeKind::List => self.read_list(alloc, ty, src),
             WasmTypeKind::Tuple => self.read_tuple(alloc, ty, src),
             WasmTypeKind::Variant => self.read_variant(alloc, ty, src),
@@ -318,6 +319,23 @@ impl Node {
     {
         let val = self.as_char(src)?;
         self.made(V::make_char(alloc, val))
+    }
+
+    /// A string; its text is copied before the maker is called only where it is not one run.
+    fn read_string<V: WasmValue>(
+        &self,
+        alloc: Global,
+        ty: &V::Type,
+        src: &str,
+    ) -> Result<V, ParserError>
+        requires node { IsValueOf src.now self.now }
+        requires kind { V.Type.tree ty.now ≡ type.simple type.string }
+        ensures { Answers V.tree V.is_of V.is_full (V.Type.tree ty.now) src.now self.now result }
+    {
+        match self.as_str(alloc, src)? {
+            CowStr::Borrowed(text) => self.made(V::make_string(alloc, text)),
+            CowStr::Owned(text) => self.made(V::make_string(alloc, text.as_str())),
+        }
     }
 
     /// A bool.
