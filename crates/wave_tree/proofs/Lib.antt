@@ -21,6 +21,7 @@ pub mod Levels
 pub mod Examples
 pub mod BeginExamples
 pub mod Going
+pub mod Askings
 pub mod Answering
 pub mod AtHand
 pub mod Names
