@@ -1,18 +1,18 @@
 -- From what `Value` makes and refuses to the laws of values.
-use Rattle.std.proofs.Common.{◌≡◌, ℕ, Bool, true, false, List, [], ◌∷◌, sym, ap, subst, ◌∙◌, refl, Option, Some, None, Result, Ok, Err, Bor}
+use Rattle.std.proofs.Common.{◌≡◌, ℕ, suc, true, false, List, [], ◌∷◌, length, codes, sym, ap, subst, ◌∙◌, refl, Option, Some, None, Result, Ok, Err, Bor}
 use Rattle.std.specs.Prelude.{IfOk, IfErr}
 use Rattle.wave_wasm.specs.Types as type
-use Rattle.wave_wasm.specs.Types.{TypeTree, kind_of}
+use Rattle.wave_wasm.specs.Types.{TypeTree, Types, MaybeType, type_list, type_option, kind_of}
 use Rattle.wave_wasm.specs.Values as value
 use Rattle.wave_wasm.specs.Values.{Value, Leaf, leaf_type, IsSound, IsWellFormed, values, maybe_value}
 use Rattle.wave_wasm.specs.HasType.{HasType}
-use Rattle.wave_wasm.specs.Makers.{IsMemory, Makes, MakesLeaf, MakesList, MakesOption, MakesEnum, OptionIsOf, FullLeaf, FullList, FullTuple, FullRecord, FullVariant, FullEnum, FullOption, FullResult, FullFlags, FullMap}
+use Rattle.wave_wasm.specs.Makers.{IsMemory, Makes, MakesLeaf, MakesList, MakesTuple, MakesOption, MakesEnum, MakesResult, AreOf, OptionIsOf, PayloadIsOf, EitherIsOf, result_value, either_tree, FullLeaf, FullList, FullTuple, FullRecord, FullEnum, FullOption, FullResult}
 use Rattle.wave_wasm.specs.declared.wasm.WasmValueError.{WasmValueError}
 use Rattle.wave_wasm.proofs.Formed.{formed}
 use Rattle.wasm_wave.specs.TypedValue.{TypedValue, IsAt, IsTyped, MakesOnly, typed_leaf}
 use Rattle.wasm_wave.specs.Built.{IsFull, IsBuilt, is_built}
 use Rattle.wasm_wave.specs.ValueView.{trees, payload_tree}
-use Rattle.wasm_wave.specs.Taken.{Made, AllOwn, TakesList, TakesOption, TakesEnum, RefusesParts, RefusesEnum}
+use Rattle.wasm_wave.specs.Taken.{Made, AllOwn, EachOwn, TakesList, TakesOption, RefusesParts, RefusesTuple, RefusesPayload, RefusesResult, RefusesEnum}
 use Rattle.std.proofs.lemmas.Bool.{false≢true}
 use Rattle.wave_wasm.specs.Lists.{AllOf}
 use Rattle.wave_wasm.specs.Names.{IsOneOf}
@@ -50,34 +50,22 @@ every_first (type.unreadable kind) h = h
 every_first (type.enum names) h = h
 every_first (type.flags names) h = h
 every_first (type.list E) h = refl
+every_first (type.record_type fs) h = refl
+every_first (type.tuple Ts) h = refl
 every_first (type.option P) h = refl
+every_first (type.map K V) h = refl
+every_first (type.variant cs) h = refl
+every_first (type.result A B) h = refl
 every_first _ h = absurd (false≢true h)
 
 -- a type of a kind whose values can't be made isn't full
 none_built : (T U : TypeTree) → IsFull T → T ≡ U → is_built U ≡ false → ⊥
 none_built T U full is no_values = false≢true (sym no_values ∙ every_first U (subst IsBuilt is full.built))
 
-pub no_tuple : (T : TypeTree) (items : List TypedValue) (e : WasmValueError) → FullTuple (λ v T. IsAt T v) IsFull T items e
-no_tuple T items e = λ full Ts is h. absurd (none_built T _ full is refl)
-
-pub no_record : (T : TypeTree) (fields : List (Bor (List ℕ) × TypedValue)) (e : WasmValueError) → FullRecord (λ v T. IsAt T v) IsFull T fields e
-no_record T fields e = λ full fs is distinct ordered same h. absurd (none_built T _ full is refl)
-
-pub no_variant : (T : TypeTree) (name : List ℕ) (payload : Option TypedValue) (e : WasmValueError) → FullVariant (λ v T. IsAt T v) IsFull T name payload e
-no_variant T name payload e = λ full cs is P case h. absurd (none_built T _ full is refl)
-
-pub no_result : (T : TypeTree) (payload : Result (Option TypedValue) (Option TypedValue)) (e : WasmValueError) → FullResult (λ v T. IsAt T v) IsFull T payload e
-no_result T payload e = λ full A B is h. absurd (none_built T _ full is refl)
-
-pub no_flags : (T : TypeTree) (names : List (Bor (List ℕ))) (e : WasmValueError) → FullFlags (λ (v : TypedValue) T. IsAt T v) IsFull T names e
-no_flags T names e = λ full all is distinct h. absurd (none_built T _ full is refl)
-
-pub no_map : (T : TypeTree) (handed : List (TypedValue × TypedValue)) (e : WasmValueError) → FullMap (λ v T. IsAt T v) IsFull T handed e
-no_map T handed e = λ full K V is h. absurd (none_built T _ full is refl)
-
 -- ---- what has parts
 
-lawful : (asked : Value) (T : TypeTree) (v : TypedValue) → Made asked T v → Makes (λ (v : TypedValue). v.tree) (λ v T. IsAt T v) asked T v
+-- what was made means what was asked for and is of the type
+pub lawful : (asked : Value) (T : TypeTree) (v : TypedValue) → Made asked T v → Makes (λ (v : TypedValue). v.tree) (λ v T. IsAt T v) asked T v
 lawful asked T v m = record { means = m.tree; fits = m.fits; is_of = record { own = m.own; fits = subst (HasType T) (sym m.tree) m.fits } }
 
 pub made_list : (T : TypeTree) (vs : List TypedValue) (v : TypedValue) → Made (value.list (values (trees vs))) T v → MakesList (λ v. v.tree) (λ v T. IsAt T v) T vs v
@@ -90,7 +78,7 @@ pub made_enum : (T : TypeTree) (name : List ℕ) (v : TypedValue) → Made (valu
 made_enum T name v m = λ distinct. lawful _ T v m
 
 -- parts of the stated types are refused for want of memory alone
-no_refusal : (kind : WasmTypeKind) (T : TypeTree) (Takes : Type 0) (e : WasmValueError) → kind_of T ≡ kind → Takes → RefusesParts kind T Takes e → IsMemory e
+pub no_refusal : (kind : WasmTypeKind) (T : TypeTree) (Takes : Type 0) (e : WasmValueError) → kind_of T ≡ kind → Takes → RefusesParts kind T Takes e → IsMemory e
 no_refusal kind T Takes (error.WrongTypeKind k s) is h r = absurd (r.0 is)
 no_refusal kind T Takes (error.WrongValueType s q) is h r = absurd (r.1 h)
 no_refusal kind T Takes (error.Memory e) is h r = tt
@@ -118,3 +106,51 @@ case_taken names name _ h r = absurd r
 
 pub full_enum : (T : TypeTree) (name : List ℕ) (e : WasmValueError) → RefusesEnum T name e → FullEnum (λ (v : TypedValue) T. IsAt T v) IsFull T name e
 full_enum T name e r = λ full names is h. case_taken names name e h (subst (λ U. RefusesEnum U name e) is r)
+
+-- ---- tuples
+
+pub made_tuple : (T : TypeTree) (vs : List TypedValue) (v : TypedValue) → Made (value.tuple (values (trees vs))) T v → MakesTuple (λ v. v.tree) (λ v T. IsAt T v) T vs v
+made_tuple T vs v m = λ distinct. lawful _ T v m
+
+each_of : (Ts : List TypeTree) (vs : List TypedValue) → AreOf (λ v T. IsAt T v) Ts vs → EachOwn Ts vs × (length vs ≡ length Ts)
+each_of [] [] h = (tt, refl)
+each_of [] (v ∷ vs) h = absurd h
+each_of (T ∷ Ts) [] h = absurd h
+each_of (T ∷ Ts) (v ∷ vs) h = let more = each_of Ts vs h.1 in ((h.0.own, more.0), ap suc more.1)
+
+tuple_memory : (Ts : Types) (vs : List TypedValue) (e : WasmValueError) → AreOf (λ v T. IsAt T v) (type_list Ts) vs → RefusesTuple (type.tuple Ts) vs e → IsMemory e
+tuple_memory Ts vs (error.WrongTypeKind k s) h r = absurd (r.0 refl)
+tuple_memory Ts vs (error.WrongNumberOfTupleValues want got) h r = absurd (r.3 (r.1 ∙ (sym (each_of (type_list Ts) vs h).1 ∙ sym r.2)))
+tuple_memory Ts vs (error.WrongValueType s q) h r = absurd (r.2 (each_of (type_list Ts) vs h).0)
+tuple_memory Ts vs (error.Memory e) h r = tt
+tuple_memory Ts vs _ h r = absurd r
+
+pub full_tuple : (T : TypeTree) (vs : List TypedValue) (e : WasmValueError) → RefusesTuple T vs e → FullTuple (λ v T. IsAt T v) IsFull T vs e
+full_tuple T vs e r = λ full Ts is h. tuple_memory Ts vs e h (subst (λ U. RefusesTuple U vs e) is r)
+
+-- ---- results
+
+pub made_result : (T : TypeTree) (r : Result (Option TypedValue) (Option TypedValue)) (v : TypedValue) → Made (result_value (either_tree (λ v. v.tree) r)) T v → MakesResult (λ v. v.tree) (λ v T. IsAt T v) T r v
+made_result T r v m = λ distinct. lawful _ T v m
+
+-- a payload as it is stated is refused for want of memory alone
+pub payload_memory : (n : List ℕ) (P : Option TypeTree) (p : Option TypedValue) (e : WasmValueError) → PayloadIsOf (λ v T. IsAt T v) P p → RefusesPayload n P p e → IsMemory e
+payload_memory n None None (error.MissingPayload m) h r = absurd r.1
+payload_memory n (Some T) (Some v) (error.MissingPayload m) h r = absurd r.1
+payload_memory n None None (error.UnexpectedPayload m) h r = absurd r.1
+payload_memory n (Some T) (Some v) (error.UnexpectedPayload m) h r = absurd r.1
+payload_memory n None None (error.WrongValueType s q) h r = absurd r
+payload_memory n (Some T) (Some v) (error.WrongValueType s q) h r = absurd (r h.own)
+payload_memory n None (Some v) e h r = absurd h
+payload_memory n (Some T) None e h r = absurd h
+payload_memory n P p (error.Memory e) h r = tt
+payload_memory n P p _ h r = absurd r
+
+result_memory : (A B : MaybeType) (o : Result (Option TypedValue) (Option TypedValue)) (e : WasmValueError) → EitherIsOf (λ v T. IsAt T v) (type_option A) (type_option B) o → RefusesResult (type.result A B) o e → IsMemory e
+result_memory A B o (error.WrongTypeKind k s) h r = absurd (r.0 refl)
+result_memory A B o (error.Memory e) h r = tt
+result_memory A B (Ok p) e h r = payload_memory (codes "ok") (type_option A) p e h r.1
+result_memory A B (Err p) e h r = payload_memory (codes "err") (type_option B) p e h r.1
+
+pub full_result : (T : TypeTree) (o : Result (Option TypedValue) (Option TypedValue)) (e : WasmValueError) → RefusesResult T o e → FullResult (λ v T. IsAt T v) IsFull T o e
+full_result T o e r = λ full A B is h. result_memory A B o e h (subst (λ U. RefusesResult U o e) is r)

@@ -3,6 +3,7 @@ pub mod TypeEqual
 pub mod Texts
 pub mod TypeOwn
 pub mod Lawful
+pub mod LawfulCases
 pub mod SameValue
 pub mod LabelTest
 pub mod ValueDepths
@@ -10,4 +11,11 @@ pub mod ValueMeans
 pub mod SameContent
 pub mod ValueLists
 pub mod Made
+pub mod MadeCases
+pub mod MadeFlags
+pub mod MadeMap
+pub mod MadeTuple
+pub mod MadeResult
+pub mod MadeRecord
+pub mod LawfulRecord
 pub mod Headline

@@ -1,8 +1,8 @@
 -- What each maker of values accepts, what it makes, and what its refusals say.
-use Rattle.std.specs.Prelude.{ℕ, ◌≡◌, ◌≢◌, Bool, true, false, List, [], ◌∷◌, length, Option, Some, None, Result, Ok, Err, string_bytes}
+use Rattle.std.specs.Prelude.{ℕ, ◌≡◌, ◌≢◌, Bool, true, false, List, [], ◌∷◌, length, Option, Some, None, Result, Ok, Err, string_bytes, codes}
 use Rattle.wave_wasm.specs.Names.{IsOneOf}
 use Rattle.wave_wasm.specs.Types as type
-use Rattle.wave_wasm.specs.Types.{TypeTree, kind_of, type_option, type_list}
+use Rattle.wave_wasm.specs.Types.{TypeTree, kind_of, type_option, type_list, tuple_parts}
 use Rattle.wave_wasm.specs.Values.{Value}
 use Rattle.wave_wasm.specs.HasType.{HasType}
 use Rattle.wave_wasm.specs.declared.wasm.WasmTypeKind.{WasmTypeKind}
@@ -27,6 +27,12 @@ abbrev pub AllOwn : TypeTree → List TypedValue → Type 0
 AllOwn T [] = Unit {0}
 AllOwn T (v ∷ vs) = (v.own ≡ T) × AllOwn T vs
 
+-- as many values as types, each of its type
+abbrev pub EachOwn : List TypeTree → List TypedValue → Type 0
+EachOwn [] [] = Unit {0}
+EachOwn (T ∷ Ts) (v ∷ vs) = (v.own ≡ T) × EachOwn Ts vs
+EachOwn _ _ = ⊥
+
 -- the payload is there exactly where it has a type, which is its own
 abbrev pub PayloadOwn : Option TypeTree → Option TypedValue → Type 0
 PayloadOwn None None = Unit {0}
@@ -37,6 +43,11 @@ PayloadOwn _ _ = ⊥
 abbrev pub TakesList : TypeTree → List TypedValue → Type 0
 TakesList (type.list E) vs = AllOwn E vs
 TakesList _ vs = ⊥
+
+-- a tuple of as many values as types, each of its type
+abbrev pub TakesTuple : TypeTree → List TypedValue → Type 0
+TakesTuple (type.tuple Ts) vs = EachOwn (type_list Ts) vs
+TakesTuple _ vs = ⊥
 
 -- no payload, or one of the payload type
 abbrev pub TakesOption : TypeTree → Option TypedValue → Type 0
@@ -62,7 +73,60 @@ RefusesParts kind T Takes (error.WrongValueType t v) = (kind_of T ≡ kind) × (
 RefusesParts kind T Takes (error.Memory e) = Unit {0}
 RefusesParts kind T Takes _ = ⊥
 
--- so, or an unknown case
+-- so, or another count, which goes first
+abbrev pub RefusesTuple : TypeTree → List TypedValue → WasmValueError → Type 0
+RefusesTuple T vs (error.WrongTypeKind k t) = (kind_of T ≡ kinds.Tuple → ⊥) × (k ≡ kinds.Tuple)
+RefusesTuple T vs (error.WrongNumberOfTupleValues want got) =
+    (kind_of T ≡ kinds.Tuple) × (want ≡ length (tuple_parts T)) × (got ≡ length vs) × (want ≢ got)
+RefusesTuple T vs (error.WrongValueType t v) =
+    (kind_of T ≡ kinds.Tuple) × (length vs ≡ length (tuple_parts T)) × (TakesTuple T vs → ⊥)
+RefusesTuple T vs (error.Memory e) = Unit {0}
+RefusesTuple T vs _ = ⊥
+
+-- a payload type without a payload
+abbrev pub IsMissing : Option TypeTree → Option TypedValue → Type 0
+IsMissing (Some P) None = Unit {0}
+IsMissing _ p = ⊥
+
+-- a payload without a payload type
+abbrev pub IsUnexpected : Option TypeTree → Option TypedValue → Type 0
+IsUnexpected None (Some v) = Unit {0}
+IsUnexpected _ p = ⊥
+
+-- a payload of another type
+abbrev pub IsOther : Option TypeTree → Option TypedValue → Type 0
+IsOther (Some P) (Some v) = v.own ≢ P
+IsOther _ p = ⊥
+
+-- a payload that is missing, unexpected or of another type at the case of this name, or want of memory
+abbrev pub RefusesPayload : List ℕ → Option TypeTree → Option TypedValue → WasmValueError → Type 0
+RefusesPayload name P p (error.MissingPayload n) = (string_bytes n ≡ name) × IsMissing P p
+RefusesPayload name P p (error.UnexpectedPayload n) = (string_bytes n ≡ name) × IsUnexpected P p
+RefusesPayload name P p (error.WrongValueType t v) = IsOther P p
+RefusesPayload name P p (error.Memory e) = Unit {0}
+RefusesPayload name P p _ = ⊥
+
+-- the side that is asked for: its name, its payload type, its payload
+abbrev pub side_name : Result (Option TypedValue) (Option TypedValue) → List ℕ
+side_name (Ok p) = codes "ok"
+side_name (Err p) = codes "err"
+
+abbrev pub side_type : TypeTree → Result (Option TypedValue) (Option TypedValue) → Option TypeTree
+side_type (type.result A B) (Ok p) = type_option A
+side_type (type.result A B) (Err p) = type_option B
+side_type _ r = None
+
+abbrev pub side_payload : Result (Option TypedValue) (Option TypedValue) → Option TypedValue
+side_payload (Ok p) = p
+side_payload (Err p) = p
+
+-- a type of another kind, or a refusal of the payload at `ok` or `err`
+abbrev pub RefusesResult : TypeTree → Result (Option TypedValue) (Option TypedValue) → WasmValueError → Type 0
+RefusesResult T r (error.WrongTypeKind k t) = (kind_of T ≡ kinds.Result → ⊥) × (k ≡ kinds.Result)
+RefusesResult T r (error.Memory e) = Unit {0}
+RefusesResult T r e = (kind_of T ≡ kinds.Result) × RefusesPayload (side_name r) (side_type T r) (side_payload r) e
+
+-- a type of another kind, or an unknown case
 abbrev pub RefusesEnum : TypeTree → List ℕ → WasmValueError → Type 0
 RefusesEnum T name (error.WrongTypeKind k t) = (kind_of T ≡ kinds.Enum → ⊥) × (k ≡ kinds.Enum)
 RefusesEnum T name (error.UnknownCase n) = (kind_of T ≡ kinds.Enum) × (string_bytes n ≡ name) × (TakesEnum T name → ⊥)
@@ -88,3 +152,15 @@ abbrev pub SaysCase : List ℕ → WasmValueError → Type 0
 SaysCase name (error.UnknownCase n) = string_bytes n ≡ name
 SaysCase name (error.Memory e) = Unit {0}
 SaysCase name _ = ⊥
+
+-- the payload is missing
+abbrev pub SaysMissing : List ℕ → WasmValueError → Type 0
+SaysMissing name (error.MissingPayload n) = string_bytes n ≡ name
+SaysMissing name (error.Memory e) = Unit {0}
+SaysMissing name _ = ⊥
+
+-- the payload is unexpected
+abbrev pub SaysUnexpected : List ℕ → WasmValueError → Type 0
+SaysUnexpected name (error.UnexpectedPayload n) = string_bytes n ≡ name
+SaysUnexpected name (error.Memory e) = Unit {0}
+SaysUnexpected name _ = ⊥

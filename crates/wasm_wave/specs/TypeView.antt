@@ -1,8 +1,8 @@
 -- The tree that a `Type` stands for, and what holds of its shape.
-use Rattle.std.specs.Prelude.{ℕ, List, map, String, string_bytes}
+use Rattle.std.specs.Prelude.{ℕ, List, map, String, Option, Some, None, string_bytes}
 use Rattle.std.specs.declared.alloc.Global.{Global}
 use Rattle.wave_wasm.specs.Types as type
-use Rattle.wave_wasm.specs.Types.{Simple, TypeTree, types_of, fields_of, cases_of, maybe_type, IsOwn}
+use Rattle.wave_wasm.specs.Types.{Simple, TypeTree, Types, Fields, types_of, fields_of, cases_of, maybe_type, IsOwn}
 use Rattle.wasm_wave.specs.declared.value.ty.SimpleType.{SimpleType}
 use Rattle.wasm_wave.specs.declared.value.ty.SimpleType.TheVariants as simples
 use Rattle.wasm_wave.specs.declared.value.ty.Shape.{Shape}
@@ -62,3 +62,13 @@ HasSimpleKey _ = Unit {0}
 pub record IsSoundShape (shape : Shape) : Type 0 where
   pub key : HasSimpleKey shape
   pub own : IsOwn (shape_tree shape)
+
+-- the types of a tuple
+abbrev pub tuple_part : TypeTree → Option Types
+tuple_part (type.tuple Ts) = Some Ts
+tuple_part _ = None
+
+-- the fields of a record
+abbrev pub record_part : TypeTree → Option Fields
+record_part (type.record_type fs) = Some fs
+record_part _ = None

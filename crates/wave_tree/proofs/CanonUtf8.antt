@@ -31,11 +31,11 @@ use Rattle.wave_tree.proofs.CanonEscapes.{all_plain, digits_ascii}
 -- ---- parts of a text
 
 -- the front of a text, where what follows is UTF-8
-front_utf8 : (x y : List ℕ) → IsUtf8 (x ++ y) → IsUtf8 y → IsUtf8 x
+pub front_utf8 : (x y : List ℕ) → IsUtf8 (x ++ y) → IsUtf8 y → IsUtf8 x
 front_utf8 x y u v = subst IsUtf8 (take-append_seam x y) (IsUtf8-take (x ++ y) (length x) u (IsCharBoundary-at_seam (x ++ y) x y refl v))
 
 -- what follows a front of ASCII
-ascii_off : (x y : List ℕ) → is_ascii x ≡ true → IsUtf8 (x ++ y) → IsUtf8 y
+pub ascii_off : (x y : List ℕ) → is_ascii x ≡ true → IsUtf8 (x ++ y) → IsUtf8 y
 ascii_off [] y a u = u
 ascii_off (b ∷ x) y a u =
     let p : (nat_lt b 128 ≡ true) × (is_ascii x ≡ true) = and_true _ _ a in

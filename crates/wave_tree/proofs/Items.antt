@@ -52,17 +52,20 @@ node_at source (m ∷ ns) [] i n h lt is = absurd h
 node_at source (m ∷ ns) (t ∷ ts) zero n h lt is = (t, refl, subst (λ (k : NodeTree). IsNodeOf source k t) (sym is) h.0)
 node_at source (m ∷ ns) (t ∷ ts) (suc i) n h lt is = node_at source ns ts i n h.1 (omega (arith, lt)) is
 
-spelled_nodes : (source : List ℕ) (ns : List NodeTree) (ts : List Placed) (from to : ℕ) → AreParsed source ns ts → SpellsAll source from to (placed_trees ts) → AreNodesOf source ns ts
+-- the nodes of trees that are spelled
+pub spelled_nodes : (source : List ℕ) (ns : List NodeTree) (ts : List Placed) (from to : ℕ) → AreParsed source ns ts → SpellsAll source from to (placed_trees ts) → AreNodesOf source ns ts
 spelled_nodes source [] [] from to h s = tt
 spelled_nodes source [] (t ∷ ts) from to h s = absurd h
 spelled_nodes source (n ∷ ns) [] from to h s = absurd h
 spelled_nodes source (n ∷ ns) (t ∷ ts) from to h s = ((h.0, s.1), spelled_nodes source ns ts (span_of t).end to h.1 s.2)
 
+-- a list made trees and back
 pub trees_back : (ts : List Placed) → placed_list (placed_trees ts) ≡ ts
 trees_back [] = refl
 trees_back (t ∷ ts) = ap (λ (more : List Placed). t ∷ more) (trees_back ts)
 
-trees_are : (ts : List Placed) → trees_of (placed_trees ts) ≡ form.trees (map tree_of ts)
+-- the trees of placed trees
+pub trees_are : (ts : List Placed) → trees_of (placed_trees ts) ≡ form.trees (map tree_of ts)
 trees_are [] = refl
 trees_are (t ∷ ts) = ap (λ (more : form.Trees). form.tree_and (tree_of t) more) (trees_are ts)
 

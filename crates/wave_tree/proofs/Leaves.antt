@@ -33,7 +33,7 @@ pub tree_is : (t : Placed) (s : Shape) → shape_of t ≡ s → tree_of t ≡ tr
 tree_is (at p r) s e = ap tree_of_shape e
 
 -- a token spells a leaf
-leaf_read : (S : Simple) (t : Placed) (token : Token) (one_leaf : Leaf) → shape_of t ≡ one token → Spells S token one_leaf → SimpleTree S (tree_of t) (value.leaf one_leaf)
+pub leaf_read : (S : Simple) (t : Placed) (token : Token) (one_leaf : Leaf) → shape_of t ≡ one token → Spells S token one_leaf → SimpleTree S (tree_of t) (value.leaf one_leaf)
 leaf_read S t token one_leaf e spelled = (token, one_leaf, tree_is t (one token) e, spelled, refl)
 
 -- the span of a refusal at a node is that of its tree
@@ -41,7 +41,7 @@ pub at_tree : (why : _) (p q : Range ℕ) (k : Refusal) (r : Range ℕ) → q �
 at_tree why p q k r e refused = (refused.0, refused.1 ∙ sym e)
 
 -- a tree of another form than the simple type takes
-wrong_form : (S : Simple) (o : Option Token) (p : Range ℕ) (k : Refusal) (q : Range ℕ) → ((token : Token) → o ≡ Some token → IsForm S token → ⊥) → Refuses InvalidType p k q → OfForm o p (LeafFault S p) k q
+pub wrong_form : (S : Simple) (o : Option Token) (p : Range ℕ) (k : Refusal) (q : Range ℕ) → ((token : Token) → o ≡ Some token → IsForm S token → ⊥) → Refuses InvalidType p k q → OfForm o p (LeafFault S p) k q
 wrong_form S None p k q apart refused = refused
 wrong_form S (Some token) p k q apart refused = inl (apart token refl, refused)
 

@@ -87,12 +87,12 @@ front_taken p (t ∷ ts) r (g, k, gap_is, longest, text, more) =
     record { last = rest.last; taken = (q, ((lexeme_of t).0, step, token_is), rest.taken); left = rest.left }
 
 -- all tokens of a text, and the end behind them
-record AllOf (p : Place) (ts : List Token) : Type 0 where
+pub record AllOf (p : Place) (ts : List Token) : Type 0 where
   pub last : Place
   pub taken : TakesTokens p ts last
   pub ends : (behind : Place) × Takes last None behind
 
-all_of : (s : List ℕ) (ts : List Token) → CutsInto s ts → AllOf (start_of s) ts
+pub all_of : (s : List ℕ) (ts : List Token) → CutsInto s ts → AllOf (start_of s) ts
 all_of s ts (r, front, gap_is) =
     let it = front_taken (start_of s) ts r front in
     let l = it.last.lexer in
@@ -117,14 +117,14 @@ no_token_there p behind h t q (c, k, e) = apart c (next_one p.lexer q.lexer behi
     apart c e = cc
 
 -- nothing stands at the end
-nothing_there : (p behind q : Place) → Takes p None behind → TakesAny p q → ⊥
+pub nothing_there : (p behind q : Place) → Takes p None behind → TakesAny p q → ⊥
 nothing_there p behind q h (None, something, k) = something
 nothing_there p behind q h (Some x, something, k) = apart x (next_one p.lexer q.lexer behind.lexer (Some x) None k.0 h.0).1
   where
     apart : (x : Result lex.Token (Range ℕ)) → Some x ≡ None → ⊥
     apart x e = cc
 
-all_are_next : (p : Place) (ts : List Token) → AllOf p ts → AreNext p ts
+pub all_are_next : (p : Place) (ts : List Token) → AllOf p ts → AreNext p ts
 all_are_next p ts h = (h.last, h.taken, no_token_there h.last h.ends.0 h.ends.1)
 
 -- one token is next
@@ -139,7 +139,7 @@ one_next p q r t u (c, (h, a), e) (d, (k, b), f) =
     same_class c d k = cc
 
 -- tokens behind which none is next are all
-all_taken : (p q : Place) (front ts : List Token) → TakesTokens p front q → AreNext q [] → (h : AllOf p ts) → (front ≡ ts) × (q ≡ h.last)
+pub all_taken : (p q : Place) (front ts : List Token) → TakesTokens p front q → AreNext q [] → (h : AllOf p ts) → (front ≡ ts) × (q ≡ h.last)
 all_taken p q [] [] e next h = (refl, sym e ∙ h.taken)
 all_taken p q [] (u ∷ ts) e (last, same, none) h = let (k, one, others) = h.taken in absurd (none u k (subst (λ z. TakesToken z u k) (e ∙ same) one))
 all_taken p q (t ∷ front) [] (m, one, more) next h = absurd (no_token_there h.last h.ends.0 h.ends.1 t m (subst (λ z. TakesToken z t m) h.taken one))
@@ -152,19 +152,23 @@ all_taken p q (t ∷ front) (u ∷ ts) (m, one, more) next h =
 
 -- ---- the meaning
 
--- a text whose tokens are those of the tree means its value
-pub means_of : (T : TypeTree) (s : List ℕ) (p : Place) (t : Tree) (v : Value) → IsTaken (start_of s) p t → ((behind : Place) × Takes p None behind) → TreeReads T t v → Means T s v
-means_of T s p t v h (behind, ends) reads =
+-- the tokens that were taken up to the end are the cut of the text
+pub all_cut : (s : List ℕ) (p : Place) (tokens : List Token) → TakesTokens (start_of s) tokens p → ((behind : Place) × Takes p None behind) → CutsInto s tokens
+all_cut s p tokens taken (behind, ends) =
     let n = length s + p.lexer.end in
-    let front = tokens_front (start_of s) p h.tokens n h.taken (omega arith) in
+    let front = tokens_front (start_of s) p tokens n taken (omega arith) in
     let r = remainder_of p.lexer in
     let source_end = length-drop p.lexer.end p.lexer.source in
     let whole : take n s ≡ s = take_all n s (omega arith) in
     let rest : take (n - (p.lexer.end - 0)) r ≡ r = take_all (n - (p.lexer.end - 0)) r (let e = same_length in omega (arith, e, source_end)) in
-    (h.tokens, (r, subst (λ z. Front z (map lexeme_of h.tokens) r) whole (subst (λ z. Front (take n s) (map lexeme_of h.tokens) z) rest front), ends.0.skipped), back T 100 h.tokens t v [] h.takes reads)
+    (r, subst (λ z. Front z (map lexeme_of tokens) r) whole (subst (λ z. Front (take n s) (map lexeme_of tokens) z) rest front), ends.0.skipped)
   where
     same_length : length p.lexer.source ≡ length s
-    same_length = ap length (tokens_source (start_of s) p h.tokens h.taken)
+    same_length = ap length (tokens_source (start_of s) p tokens taken)
+
+-- a text whose tokens are those of the tree means its value
+pub means_of : (T : TypeTree) (s : List ℕ) (p : Place) (t : Tree) (v : Value) → IsTaken (start_of s) p t → ((behind : Place) × Takes p None behind) → TreeReads T t v → Means T s v
+means_of T s p t v h ends reads = (h.tokens, all_cut s p h.tokens h.taken ends, back T 100 h.tokens t v [] h.takes reads)
 
 -- what the parser read of a text that means something is its whole tree
 record IsWhole (T : TypeTree) (t : Tree) (p : Place) (v : Value) : Type 0 where
@@ -194,7 +198,7 @@ refused_means_none T s e p h v (tokens, cut, reads) =
 
 -- ---- the answers
 
-memory_or : (k : ParserErrorKind) → (k ≡ kind.OutOfMemory) ⊎ (k ≢ kind.OutOfMemory)
+pub memory_or : (k : ParserErrorKind) → (k ≡ kind.OutOfMemory) ⊎ (k ≢ kind.OutOfMemory)
 memory_or kind.OutOfMemory = inl refl
 memory_or k = inr (λ e. cc)
 

@@ -22,10 +22,16 @@ pub mod Placed
 pub mod Nodes
 pub mod Faults
 pub mod Answers
+pub mod CowText
 pub mod Typed
+pub mod Records
+pub mod ShownNodes
 pub mod FromText
+pub mod Untyped
+pub mod UntypedCode
 pub mod Laws
 pub mod CanonLaws
 pub mod TreeLaws
 pub mod BeginLaws
 pub mod AnswerLaws
+pub mod ShownLaws

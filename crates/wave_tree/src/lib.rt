@@ -6,5 +6,10 @@ pub mod ast;
 pub mod laws;
 pub mod number;
 pub mod parser;
+mod record;
+#[cfg(test)]
+mod tests;
+mod text;
 mod typed;
+pub mod untyped;
 mod word;

@@ -10,16 +10,18 @@ ghost use Rattle.wave_tree.specs.Due.{Form, due_behind};
 ghost use Rattle.wave_tree.specs.Due as due;
 ghost use Rattle.wave_tree.specs.Refusals.{Gives, GivesWithin, GivesAnywhere, Says};
 ghost use Rattle.wave_lex.specs.Lexing.{span, remainder_of};
+ghost use Rattle.wave_tree.specs.Untyped.{IsUntypedTaken};
 ghost use Rattle.wave_tree.specs.FromText.{IsValueTaken, RefusesValue, IsMeant, RefusesText};
 ghost use Rattle.wave_tree.specs.Word.{form_of, IsClose};
 ghost use Rattle.std.specs.BTreeMap.{values};
 ghost use Rattle.wave_tree.specs.NodeTree.{node, no_nodes, node_trees};
 ghost use Rattle.wave_tree.specs.declared.ast.NodeType.TheVariants as node_type;
 ghost use Rattle.wave_tree.specs.Parsed.{IsNodeTaken, IsParsed, IsParsedBehind, IsMaybe, IsPayload, IsOfItems, IsOfEntries, IsOfFlags, label_children};
-ghost use Rattle.wave_tree.specs.Parsing.{Parsing, ahead_count, IsAhead, first_at, front_of, Advances, Expects, Finishes, StaysWithout};
+ghost use Rattle.wave_tree.specs.Parsing.{Parsing, asked, Asks, ahead_count, IsAhead, first_at, front_of, Advances, Expects, Finishes, StaysWithout};
 
 use crate::ahead::Ahead;
 use crate::ast::{Node, NodeType};
+use crate::untyped::UntypedValue;
 use crate::word::{Word, class_name, key_type, label_name, word_of};
 use std::alloc::Global;
 use std::collections::BTreeMap;
@@ -111,7 +113,8 @@ impl<'source> Parser<'source> {
 
     /// Takes the next item.
     fn take(&mut self) -> Option<Result<Token, Span>>
-        ensures { Takes self.old.place result self.new.place }
+        ensures takes { Takes self.old.place result self.new.place }
+        ensures asks { asked self.new ≡ self.old.place.taken + 1 }
     {
         match self.ahead.take() {
             Some(ahead) => {
@@ -138,6 +141,7 @@ impl<'source> Parser<'source> {
     fn next_is(&mut self, class: Token) -> bool
         ensures stays { self.new.place ≡ self.old.place }
         ensures answer { IsTrue result ↔ ((next : Place) × Takes self.old.place (Some (Ok class)) next) }
+        ensures asks { asked self.new ≡ self.old.place.taken + 1 }
     {
         self.look();
         match &self.ahead {
@@ -148,7 +152,8 @@ impl<'source> Parser<'source> {
 
     /// Takes the next token.
     fn advance(&mut self) -> Result<Token, ParserError>
-        ensures { Advances result self.old.place self.new.place }
+        ensures takes { Advances result self.old.place self.new.place }
+        ensures asks { asked self.new ≡ self.old.place.taken + 1 }
     {
         match self.take() {
             Some(Ok(token)) => Ok(token),
@@ -159,7 +164,8 @@ impl<'source> Parser<'source> {
 
     /// Takes the next token, which has to be of this class.
     fn expect(&mut self, class: Token) -> Result<(), ParserError>
-        ensures { Expects class result self.old.place self.new.place }
+        ensures takes { Expects class result self.old.place self.new.place }
+        ensures asks { asked self.new ≡ self.old.place.taken + 1 }
     {
         let token = self.advance()?;
         if same(token, class) {
@@ -226,6 +232,7 @@ impl<'source> Parser<'source> {
     fn go_back(&mut self, lexer: Lexer<'source>) -> ParserError
         ensures back { self.new.place.lexer ≡ lexer.entry }
         ensures refusal { Says result kind.OutOfMemory (span_at self.new.place) None }
+        ensures asks { asked self.new ≡ asked self.old }
     {
         self.lexer = lexer;
         self.ahead = None;
@@ -234,10 +241,23 @@ impl<'source> Parser<'source> {
 
     /// Reads a value without a type. After a value the parser stands behind it, after a refusal at
     /// the end of the refusal's span; after want of memory it stands where it stood.
-    pub fn parse_raw_value(&mut self, alloc: Global) -> Result<Node, ParserError>
+    pub fn parse_raw_value(&mut self, alloc: Global) -> Result<UntypedValue<'source>, ParserError>
+        ensures value { Gives result 100 due.value [] self.old.place self.new.place [] }
+        ensures tree { IfOk result (IsUntypedTaken self.old.place self.new.place) }
+        ensures memory { IfErr result (λ e. StaysWithout e self.old.place self.new.place) }
+        ensures asks { Asks self.old self.new }
+    {
+        let source = self.lexer.source();
+        let node = self.parse_whole(alloc)?;
+        Ok(UntypedValue::new(source, node))
+    }
+
+    /// Reads the node of a value.
+    fn parse_whole(&mut self, alloc: Global) -> Result<Node, ParserError>
         ensures value { Gives result 100 due.value [] self.old.place self.new.place [] }
         ensures tree { IfOk result (IsNodeTaken self.old.place self.new.place) }
         ensures memory { IfErr result (λ e. StaysWithout e self.old.place self.new.place) }
+        ensures asks { Asks self.old self.new }
     {
         let place = self.lexer.clone();
         let _ = self.remainder();
@@ -263,10 +283,11 @@ impl<'source> Parser<'source> {
         ensures value { IfOk result (IsValueTaken V.tree V.is_of (V.Type.tree ty.now) self.old.place self.new.place) }
         ensures refused { IfErr result (λ e. RefusesValue V.is_full (V.Type.tree ty.now) e self.old.place self.new.place) }
         ensures memory { IfErr result (λ e. StaysWithout e self.old.place self.new.place) }
+        ensures asks { Asks self.old self.new }
     {
         let place = self.lexer.clone();
         let source = self.lexer.source();
-        let node = self.parse_raw_value(alloc)?;
+        let node = self.parse_whole(alloc)?;
         match node.to_wasm_value(alloc, ty, source) {
             Ok(value) => Ok(value),
             Err(error) => {
@@ -283,6 +304,7 @@ impl<'source> Parser<'source> {
     pub fn finish(&mut self) -> Result<(), ParserError>
         ensures stays { self.new.place ≡ self.old.place }
         ensures answer { Finishes result self.old.place }
+        ensures asks { asked self.new ≡ self.old.place.taken + 1 }
     {
         self.look();
         match &self.ahead {
@@ -296,6 +318,7 @@ impl<'source> Parser<'source> {
     fn parse_node(&mut self, alloc: Global, levels: u32) -> Result<Node, ParserError>
         ensures led { GivesWithin result levels due.value [] self.old.place self.new.place }
         ensures tree { IfOk result (IsParsed levels self.old.place self.new.place) }
+        ensures asks { Asks self.old self.new }
     {
         if levels == 0 {
             return Err(ParserError::new(ParserErrorKind::NestingTooDeep, self.span()));
@@ -320,6 +343,7 @@ impl<'source> Parser<'source> {
         ensures led { let d = due_behind (word_of (text_at self.old.place)) in
             GivesWithin result (levels + 1) d [] self.old.place self.new.place }
         ensures tree { IfOk result (IsParsedBehind lex_class.LabelOrKeyword (levels + 1) self.old.place self.new.place) }
+        ensures asks { Asks self.old self.new }
     {
         match word_of(self.slice()) {
             Word::True => Ok(self.leaf(alloc, NodeType::BoolTrue)),
@@ -353,6 +377,7 @@ impl<'source> Parser<'source> {
     ) -> Result<Node, ParserError>
         ensures led { GivesWithin result (levels + 1) due.behind_label [] self.old.place self.new.place }
         ensures tree { IfOk result (IsMaybe levels alone with self.old.place self.new.place) }
+        ensures asks { Asks self.old self.new }
     {
         let start = self.span().start;
         if !self.next_is(Token::ParenOpen) {
@@ -391,6 +416,7 @@ impl<'source> Parser<'source> {
     ) -> Result<Node, ParserError>
         ensures led { GivesWithin result (levels + 1) due.value (due.payload ∷ []) self.old.place self.new.place }
         ensures tree { IfOk result (IsPayload levels ty start front.items self.old.place self.new.place) }
+        ensures asks { Asks self.old self.new }
     {
         let payload = self.parse_node(alloc, levels)?;
         self.expect(Token::ParenClose)?;
@@ -407,6 +433,7 @@ impl<'source> Parser<'source> {
         requires { IsClose close }
         ensures led { GivesWithin result (levels + 1) due.first_item (form_of close ∷ []) self.old.place self.new.place }
         ensures tree { IfOk result (IsOfItems levels close self.old.place self.new.place) }
+        ensures asks { Asks self.old self.new }
     {
         let start = self.span().start;
         let mut items = Vec::new(alloc);
@@ -446,6 +473,7 @@ impl<'source> Parser<'source> {
     fn parse_braces(&mut self, alloc: Global, levels: u32) -> Result<Node, ParserError>
         ensures led { GivesWithin result (levels + 1) due.in_braces [] self.old.place self.new.place }
         ensures tree { IfOk result (IsParsedBehind lex_class.BraceOpen (levels + 1) self.old.place self.new.place) }
+        ensures asks { Asks self.old self.new }
     {
         let start = self.span().start;
         let token = self.advance()?;
@@ -483,6 +511,7 @@ impl<'source> Parser<'source> {
     ) -> Result<Node, ParserError>
         ensures led { GivesWithin result (levels + 1) due.value (due.entries ∷ []) self.old.place self.new.place }
         ensures tree { IfOk result (IsOfEntries levels start key self.old.place self.new.place) }
+        ensures asks { Asks self.old self.new }
     {
         let mut children = Vec::new(alloc);
         if children.push(key).is_err() {
@@ -520,6 +549,7 @@ impl<'source> Parser<'source> {
         requires { (next : Place) → Takes self.old.place (Some (Ok lex_class.Colon)) next → ⊥ }
         ensures led { GivesAnywhere result (due.behind_word (text_at self.old.place)) self.old.place self.new.place }
         ensures tree { IfOk result (IsOfFlags start self.old.place self.new.place) }
+        ensures asks { Asks self.old self.new }
     {
         let mut flags = BTreeMap::new(alloc);
         if flags

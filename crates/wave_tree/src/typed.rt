@@ -1,18 +1,26 @@
 //! Reading nodes at types.
-ghost use Rattle.std.specs.Prelude.{ℕ, List, [], ◌∷◌, ◌++◌, ◌≡◌, ◌≢◌, ◌⊎◌, ◌↔◌, IsTrue, OnOk, IfErr};
-ghost use Rattle.wave_wasm.specs.Types.{kind_of, whole_kind, Whole};
+ghost use Rattle.std.specs.Prelude.{ℕ, List, [], ◌∷◌, ◌++◌, ◌≡◌, ◌≢◌, ◌⊎◌, ◌↔◌, option_map, IsTrue, OnOk, IfOk, IfErr};
+ghost use Rattle.wave_wasm.specs.Types.{kind_of, maybe_type, whole_kind, Whole};
 ghost use Rattle.wave_wasm.specs.Types as type;
-ghost use Rattle.wave_wasm.specs.Shown.{texts};
+ghost use Rattle.wave_wasm.specs.Shown.{texts, shown, shown_cases};
 ghost use Rattle.wave_wasm.specs.TypeText.{kind_word};
-ghost use Rattle.wave_wasm.specs.Causes.{unsupported_type, unknown_case};
+ghost use Rattle.wave_wasm.specs.Causes.{unsupported_type, unknown_case, missing_payload, unexpected_payload, wrong_number};
 ghost use Rattle.wave_lex.specs.declared.error.ParserErrorKind.TheVariants.{OutOfMemory};
-ghost use Rattle.wave_tree.specs.Answers.{Among};
-ghost use Rattle.wave_tree.specs.Typed.{IsValueOf, IsCaused, IsMade, IsServed, Answers, Reads};
+ghost use Rattle.wave_tree.specs.Answers.{Among, shown_node};
+ghost use Rattle.wave_tree.specs.Typed.{IsValueOf, IsKeyOf, IsKeyServed, AnswersKey, IsCaused, IsMade, IsServed, IsServedPayload, IsPayloadOf, GivesFlat, Answers, AnswersPayload, Reads};
+ghost use Rattle.wave_lex.specs.Errors.{refusal_of};
+ghost use Rattle.wave_tree.specs.NodeTree.{place_of};
+ghost use Rattle.wave_tree.specs.Reads.{look_up};
+ghost use Rattle.wave_tree.specs.Faults.{RefusesFor};
+ghost use Rattle.std.specs.Str.{bytes_eq};
+ghost use Rattle.wave_wasm.specs.Merge.{merge};
+ghost use Rattle.wave_wasm.specs.Text.{text};
 
-use crate::ast::Node;
+use crate::ast::{CowStr, Node};
 use std::alloc::Global;
 use wave_lex::error::{ParserError, ParserErrorKind};
 use wave_wasm::wasm::{WasmType, WasmTypeKind, WasmValue, WasmValueError};
+use wave_wasm::writer::{WriterError, merge_map_entries, to_string};
 
 impl Node {
     /// The value that the type gives the node, which was parsed from `src` as a value. Where the
@@ -47,9 +55,15 @@ impl Node {
             WasmTypeKind::U16 => self.made(V::make_u16(alloc, self.as_number(src)?)),
             WasmTypeKind::U32 => self.made(V::make_u32(alloc, self.as_number(src)?)),
             WasmTypeKind::U64 => self.made(V::make_u64(alloc, self.as_number(src)?)),
+            WasmTypeKind::Char => self.read_char(alloc, ty, src),
+            WasmTypeKind::String => self.read_string(alloc, ty, src),
             WasmTypeKind::List => self.read_list(alloc, ty, src),
+            WasmTypeKind::Tuple => self.read_tuple(alloc, ty, src),
+            WasmTypeKind::Variant => self.read_variant(alloc, ty, src),
             WasmTypeKind::Enum => self.read_enum(alloc, ty, src),
             WasmTypeKind::Option => self.read_option(alloc, ty, src),
+            WasmTypeKind::Result => self.read_result(alloc, ty, src),
+            WasmTypeKind::Map => self.read_map(alloc, ty, src),
             kind => Err(self.unsupported(alloc, kind)),
         }
     }
@@ -74,6 +88,84 @@ impl Node {
             self.keep(&mut items, item)?;
         }
         self.made(V::make_list(alloc, ty, items))
+    }
+
+    /// A tuple: as many items as types, each read at its type.
+    #[cycle(reading)]
+    fn read_tuple<V: WasmValue>(
+        &self,
+        alloc: Global,
+        ty: &V::Type,
+        src: &str,
+    ) -> Result<V, ParserError>
+        requires node { IsValueOf src.now self.now }
+        requires kind { kind_of (V.Type.tree ty.now) ≡ WasmTypeKind.Tuple }
+        ensures { IsServed (V.Type.tree ty.now) → Answers V.tree V.is_of V.is_full (V.Type.tree ty.now) src.now self.now result }
+    {
+        let types = match ty.tuple_element_types(alloc) {
+            Ok(types) => types,
+            Err(_) => return Err(self.out_of_memory()),
+        };
+        let nodes = self.as_tuple()?;
+        if nodes.len() != types.len() {
+            return Err(self.wrong_number(types.len(), nodes.len()));
+        }
+        let mut items = Vec::new(alloc);
+        for i in 0..nodes.len() {
+            let item = nodes[i].read(alloc, types[i], src)?;
+            self.keep(&mut items, item)?;
+        }
+        self.made(V::make_tuple(alloc, ty, items))
+    }
+
+    /// A map: every entry is read, then they are merged.
+    #[cycle(reading)]
+    fn read_map<V: WasmValue>(
+        &self,
+        alloc: Global,
+        ty: &V::Type,
+        src: &str,
+    ) -> Result<V, ParserError>
+        requires node { IsValueOf src.now self.now }
+        requires kind { kind_of (V.Type.tree ty.now) ≡ WasmTypeKind.Map }
+        ensures { IsServed (V.Type.tree ty.now) → Answers V.tree V.is_of V.is_full (V.Type.tree ty.now) src.now self.now result }
+    {
+        let (key_type, value_type) = ty.map_key_value_types().unwrap();
+        let mut nodes = self.as_map()?;
+        let mut entries = Vec::new(alloc);
+        'entries: while let Some((key, node)) = nodes.next() {
+            let key = key.read_key(alloc, key_type, src)?;
+            let val = node.read(alloc, value_type, src)?;
+            self.keep(&mut entries, (key, val))?;
+        }
+        match merged(alloc, entries) {
+            Ok(entries) => self.made(V::make_map(alloc, ty, entries)),
+            Err(_) => Err(self.out_of_memory()),
+        }
+    }
+
+    /// A key of a map.
+    fn read_key<V: WasmValue>(
+        &self,
+        alloc: Global,
+        ty: &V::Type,
+        src: &str,
+    ) -> Result<V, ParserError>
+        requires { IsKeyOf src.now self.now }
+        ensures { IsKeyServed (V.Type.tree ty.now) → AnswersKey V.tree V.is_of V.is_full (V.Type.tree ty.now) src.now self.now result }
+    {
+        match ty.kind() {
+            WasmTypeKind::Bool => self.made(V::make_bool(alloc, self.as_bool_key(src)?)),
+            WasmTypeKind::S8 => self.made(V::make_s8(alloc, self.as_number(src)?)),
+            WasmTypeKind::S16 => self.made(V::make_s16(alloc, self.as_number(src)?)),
+            WasmTypeKind::S32 => self.made(V::make_s32(alloc, self.as_number(src)?)),
+            WasmTypeKind::S64 => self.made(V::make_s64(alloc, self.as_number(src)?)),
+            WasmTypeKind::U8 => self.made(V::make_u8(alloc, self.as_number(src)?)),
+            WasmTypeKind::U16 => self.made(V::make_u16(alloc, self.as_number(src)?)),
+            WasmTypeKind::U32 => self.made(V::make_u32(alloc, self.as_number(src)?)),
+            WasmTypeKind::U64 => self.made(V::make_u64(alloc, self.as_number(src)?)),
+            kind => Err(self.unsupported(alloc, kind)),
+        }
     }
 
     /// An option: `none`, `some` of its payload, or a flat payload.
@@ -105,6 +197,93 @@ impl Node {
         }
     }
 
+    /// A result: `ok` or `err` with its payload, or a flat payload of `ok`.
+    #[cycle(reading)]
+    fn read_result<V: WasmValue>(
+        &self,
+        alloc: Global,
+        ty: &V::Type,
+        src: &str,
+    ) -> Result<V, ParserError>
+        requires node { IsValueOf src.now self.now }
+        requires kind { kind_of (V.Type.tree ty.now) ≡ WasmTypeKind.Result }
+        ensures { IsServed (V.Type.tree ty.now) → Answers V.tree V.is_of V.is_full (V.Type.tree ty.now) src.now self.now result }
+    {
+        let (ok, err) = ty.result_types().unwrap();
+        match self.as_result() {
+            Ok(Ok(node)) => {
+                let val = self.read_payload(alloc, "ok", ok, node, src)?;
+                self.made(V::make_result(alloc, ty, Ok(val)))
+            }
+            Ok(Err(node)) => {
+                let val = self.read_payload(alloc, "err", err, node, src)?;
+                self.made(V::make_result(alloc, ty, Err(val)))
+            }
+            Err(error) => {
+                let payload = match flat_type(ok) {
+                    Some(payload) => payload,
+                    None => return Err(error),
+                };
+                let flat = self.read(alloc, payload, src)?;
+                self.made(V::make_result(alloc, ty, Ok(Some(flat))))
+            }
+        }
+    }
+
+    /// A variant: the name of one of its cases, and a payload exactly where the case has one.
+    #[cycle(reading)]
+    fn read_variant<V: WasmValue>(
+        &self,
+        alloc: Global,
+        ty: &V::Type,
+        src: &str,
+    ) -> Result<V, ParserError>
+        requires node { IsValueOf src.now self.now }
+        requires kind { kind_of (V.Type.tree ty.now) ≡ WasmTypeKind.Variant }
+        ensures { IsServed (V.Type.tree ty.now) → Answers V.tree V.is_of V.is_full (V.Type.tree ty.now) src.now self.now result }
+    {
+        let cases = match ty.variant_cases(alloc) {
+            Ok(cases) => cases,
+            Err(_) => return Err(self.out_of_memory()),
+        };
+        let (name, node) = self.as_variant(src)?;
+        match case_payload(&cases, name) {
+            Some(payload) => {
+                let val = self.read_payload(alloc, name, payload, node, src)?;
+                self.made(V::make_variant(alloc, ty, name, val))
+            }
+            None => Err(self.unknown_case(alloc, name)),
+        }
+    }
+
+    /// The payload of the case of this name, where it has a type; the case stands at the node.
+    #[cycle(reading)]
+    fn read_payload<V: WasmValue>(
+        &self,
+        alloc: Global,
+        name: &str,
+        ty: Option<&V::Type>,
+        node: Option<&Node>,
+        src: &str,
+    ) -> Result<Option<V>, ParserError>
+        requires { IsPayloadOf src.now (shown_node node) }
+        ensures { IsServedPayload (maybe_type (shown V.Type.tree ty.entry)) → AnswersPayload V.tree V.is_of V.is_full name.now (shown V.Type.tree ty.entry) src.now self.now (shown_node node.entry) result }
+    {
+        match ty {
+            Some(ty) => match node {
+                Some(node) => {
+                    let val = node.read(alloc, ty, src)?;
+                    Ok(Some(val))
+                }
+                None => Err(self.missing_payload(alloc, name)),
+            },
+            None => match node {
+                Some(_) => Err(self.unexpected_payload(alloc, name)),
+                None => Ok(None),
+            },
+        }
+    }
+
     /// An enum: the name of one of its cases.
     fn read_enum<V: WasmValue>(
         &self,
@@ -127,6 +306,38 @@ impl Node {
         self.made(V::make_enum(alloc, ty, name))
     }
 
+    /// A char.
+    fn read_char<V: WasmValue>(
+        &self,
+        alloc: Global,
+        ty: &V::Type,
+        src: &str,
+    ) -> Result<V, ParserError>
+        requires node { IsValueOf src.now self.now }
+        requires kind { V.Type.tree ty.now ≡ type.simple type.char }
+        ensures { Answers V.tree V.is_of V.is_full (V.Type.tree ty.now) src.now self.now result }
+    {
+        let val = self.as_char(src)?;
+        self.made(V::make_char(alloc, val))
+    }
+
+    /// A string; its text is copied before the maker is called only where it is not one run.
+    fn read_string<V: WasmValue>(
+        &self,
+        alloc: Global,
+        ty: &V::Type,
+        src: &str,
+    ) -> Result<V, ParserError>
+        requires node { IsValueOf src.now self.now }
+        requires kind { V.Type.tree ty.now ≡ type.simple type.string }
+        ensures { Answers V.tree V.is_of V.is_full (V.Type.tree ty.now) src.now self.now result }
+    {
+        match self.as_str(alloc, src)? {
+            CowStr::Borrowed(text) => self.made(V::make_string(alloc, text)),
+            CowStr::Owned(text) => self.made(V::make_string(alloc, text.as_str())),
+        }
+    }
+
     /// A bool.
     fn read_bool<V: WasmValue>(&self, alloc: Global, ty: &V::Type) -> Result<V, ParserError>
         requires { V.Type.tree ty.now ≡ type.simple type.bool }
@@ -147,7 +358,7 @@ impl Node {
     }
 
     /// One more value that was read within the node.
-    fn keep<V: Drop>(&self, items: &mut Vec<V>, item: V) -> Result<(), ParserError>
+    pub(crate) fn keep<V: Drop>(&self, items: &mut Vec<V>, item: V) -> Result<(), ParserError>
         ensures kept { OnOk result (items.new.items ≡ items.old.items ++ item ∷ []) }
         ensures refused { IfErr result (λ e. e.kind ≡ OutOfMemory) }
     {
@@ -158,10 +369,17 @@ impl Node {
     }
 
     /// A refusal for want of memory, at the node.
-    fn out_of_memory(&self) -> ParserError
+    pub(crate) fn out_of_memory(&self) -> ParserError
         ensures { result.kind ≡ OutOfMemory }
     {
         ParserError::new(ParserErrorKind::OutOfMemory, self.span())
+    }
+
+    /// A refusal because a tuple of so many types has another number of items.
+    fn wrong_number(&self, want: usize, got: usize) -> ParserError
+        ensures { RefusesFor (wrong_number want got) (place_of self.now) (refusal_of result) result.span }
+    {
+        self.refused(WasmValueError::WrongNumberOfTupleValues { want, got })
     }
 
     /// A refusal because the type has no case or flag of this name.
@@ -170,6 +388,26 @@ impl Node {
     {
         match String::from_str(alloc, name) {
             Ok(name) => self.refused(WasmValueError::UnknownCase(name)),
+            Err(error) => self.refused(WasmValueError::Memory(error)),
+        }
+    }
+
+    /// A refusal because the case of this name has a payload that is not there.
+    fn missing_payload(&self, alloc: Global, name: &str) -> ParserError
+        ensures { IsCaused (missing_payload name.now) self.now result }
+    {
+        match String::from_str(alloc, name) {
+            Ok(name) => self.refused(WasmValueError::MissingPayload(name)),
+            Err(error) => self.refused(WasmValueError::Memory(error)),
+        }
+    }
+
+    /// A refusal because the case of this name has no payload, and one is there.
+    fn unexpected_payload(&self, alloc: Global, name: &str) -> ParserError
+        ensures { IsCaused (unexpected_payload name.now) self.now result }
+    {
+        match String::from_str(alloc, name) {
+            Ok(name) => self.refused(WasmValueError::UnexpectedPayload(name)),
             Err(error) => self.refused(WasmValueError::Memory(error)),
         }
     }
@@ -185,6 +423,18 @@ impl Node {
     }
 }
 
+/// The entries with each key once, merged by the texts of their keys.
+fn merged<V: WasmValue>(alloc: Global, entries: Vec<(V, V)>) -> Result<Vec<(V, V)>, WriterError>
+    ensures { IfOk result (λ m. m.items ≡ merge (λ a b. bytes_eq (text (V.tree a)) (text (V.tree b))) entries.items) }
+{
+    let mut with_texts = Vec::new(alloc);
+    for (key, val) in entries {
+        let text = to_string(alloc, &key)?;
+        with_texts.push((text, key, val))?;
+    }
+    Ok(merge_map_entries(alloc, with_texts)?)
+}
+
 /// Whether an option or a result may be left out around a value of this kind.
 fn is_flat(kind: WasmTypeKind) -> bool
     ensures { IsTrue result ↔ ((kind ≢ WasmTypeKind.Option) × (kind ≢ WasmTypeKind.Result)) }
@@ -193,6 +443,32 @@ fn is_flat(kind: WasmTypeKind) -> bool
         WasmTypeKind::Option | WasmTypeKind::Result => false,
         _ => true,
     }
+}
+
+/// The type of a payload that may stand alone for `ok` of itself.
+fn flat_type<T: WasmType>(payload: Option<&T>) -> Option<&T>
+    ensures { GivesFlat (shown T.tree payload.entry) (shown T.tree result) }
+{
+    match payload {
+        Some(ty) if is_flat(ty.kind()) => Some(ty),
+        _ => None,
+    }
+}
+
+/// What the case of this name has for the type of its payload, where there is such a case.
+fn case_payload<'ty, T: WasmType>(
+    cases: &Vec<(&str, Option<&'ty T>)>,
+    name: &str,
+) -> Option<Option<&'ty T>>
+    ensures { option_map (shown T.tree) result ≡ look_up (shown_cases T.tree cases.now.items) name.now }
+{
+    for case in cases {
+        let (other, payload) = *case;
+        if name == other {
+            return Some(payload);
+        }
+    }
+    None
 }
 
 /// Whether the name is one of these.

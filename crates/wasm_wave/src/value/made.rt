@@ -1,16 +1,26 @@
 //! Makers of values that have parts.
-ghost use Rattle.std.specs.Prelude.{◌≡◌, IfOk, IfErr, OnOk};
+ghost use Rattle.std.specs.Prelude.{◌≡◌, ℕ, List, map, IfOk, IfErr, OnOk};
 ghost use Rattle.wave_wasm.specs.Values as value;
 ghost use Rattle.wave_wasm.specs.Values.{values, maybe_value};
 ghost use Rattle.wave_wasm.specs.Makers.{result_value, either_tree};
-ghost use Rattle.wasm_wave.specs.ValueView.{trees, payload_tree};
-ghost use Rattle.wasm_wave.specs.Taken.{Made, Tells, TakesList, TakesOption, TakesEnum, RefusesParts, RefusesEnum};
+ghost use Rattle.wasm_wave.specs.ValueView.{trees, payload_tree, boxed, PayloadAt};
+ghost use Rattle.wasm_wave.specs.Taken.{Made, Tells, TakesList, TakesTuple, TakesOption, TakesResult, TakesEnum, RefusesParts, RefusesTuple, RefusesPayload, RefusesResult, RefusesEnum};
+ghost use Rattle.wave_wasm.specs.Shown.{shown, named};
+ghost use Rattle.wasm_wave.specs.TypeView.{by_bytes};
+ghost use Rattle.wasm_wave.specs.Handed.{held, last_under, TakesRecord, MadeRecord, RefusesRecord, RefusesFields, InOrder};
 
-use super::refusals::{unknown_case, wrong_kind, wrong_type};
+use super::refusals::{
+    missing_field, missing_payload, unexpected_payload, unknown_case, unknown_field, wrong_kind,
+    wrong_type,
+};
 use super::{Content, Type, Value};
-use std::alloc::Global;
+use std::alloc::{AllocError, Global};
 use std::boxed::Box;
+use std::collections::BTreeMap;
 use wave_wasm::wasm::{WasmType, WasmTypeKind, WasmValueError};
+
+mod cases;
+mod entries;
 
 impl Value {
     // Whether the value's own type is this one.
@@ -39,6 +49,56 @@ impl Value {
         Ok(Value {
             own: ty.clone()?,
             content: Content::List(vals),
+        })
+    }
+
+    /// The tuple of these items, whose own type is this one. A type of another kind is refused, and
+    /// another count than the type's, and an item whose own type isn't the one at its place.
+    pub fn make_tuple(alloc: Global, ty: &Type, vals: Vec<Value>) -> Result<Value, WasmValueError>
+        ensures made { IfOk result (Made (value.tuple (values (trees vals.items))) ty.now) }
+        ensures taken { OnOk result (TakesTuple ty.now vals.items) }
+        ensures refused { IfErr result (RefusesTuple ty.now vals.items) }
+    {
+        let Some(types) = ty.tuple_types() else {
+            return Err(wrong_kind(alloc, WasmTypeKind::Tuple, ty));
+        };
+        let want = types.len();
+        let got = vals.len();
+        if want != got {
+            return Err(WasmValueError::WrongNumberOfTupleValues { want, got });
+        }
+        for i in 0..got {
+            if !vals[i].is_at(&types[i]) {
+                return Err(wrong_type(alloc, &types[i], &vals[i]));
+            }
+        }
+        Ok(Value {
+            own: ty.clone()?,
+            content: Content::Tuple(vals),
+        })
+    }
+
+    /// The record of these fields, whose own type is this one. Their order is free, and the last value
+    /// under a name counts. A type of another kind is refused, and so is a field that is missing or
+    /// that the type has twice, a name that no field has, and a value whose own type isn't its
+    /// field's.
+    pub fn make_record(
+        alloc: Global,
+        ty: &Type,
+        fields: Vec<(&str, Value)>,
+    ) -> Result<Value, WasmValueError>
+        ensures made { IfOk result (MadeRecord (named fields.entry.items) ty.now) }
+        ensures taken { OnOk result (TakesRecord ty.now (named fields.entry.items)) }
+        ensures refused { IfErr result (RefusesRecord ty.now (named fields.entry.items)) }
+    {
+        let Some(stated) = ty.named_types() else {
+            return Err(wrong_kind(alloc, WasmTypeKind::Record, ty));
+        };
+        let given = last_values(alloc, fields)?;
+        let vals = in_order(alloc, stated, given)?;
+        Ok(Value {
+            own: ty.clone()?,
+            content: Content::Record(vals),
         })
     }
 
@@ -74,6 +134,39 @@ impl Value {
         }
     }
 
+    /// `ok` or `err` with the payload, whose own type is this one. A type of another kind is refused,
+    /// and so is a payload that is missing or unexpected there, or whose own type isn't the stated
+    /// one.
+    pub fn make_result(
+        alloc: Global,
+        ty: &Type,
+        val: Result<Option<Value>, Option<Value>>,
+    ) -> Result<Value, WasmValueError>
+        ensures made { IfOk result (Made (result_value (either_tree (λ v. v.tree) val)) ty.now) }
+        ensures taken { OnOk result (TakesResult ty.now val) }
+        ensures refused { IfErr result (RefusesResult ty.now val) }
+    {
+        let Some((ok, err)) = ty.result_types() else {
+            return Err(wrong_kind(alloc, WasmTypeKind::Result, ty));
+        };
+        match val {
+            Ok(payload) => {
+                let payload = boxed_payload(alloc, "ok", ok, payload)?;
+                Ok(Value {
+                    own: ty.clone()?,
+                    content: Content::Ok(payload),
+                })
+            }
+            Err(payload) => {
+                let payload = boxed_payload(alloc, "err", err, payload)?;
+                Ok(Value {
+                    own: ty.clone()?,
+                    content: Content::Err(payload),
+                })
+            }
+        }
+    }
+
     /// The case of this name, whose own type is this one. A type of another kind is refused, and
     /// a name that is no case.
     pub fn make_enum(alloc: Global, ty: &Type, case: &str) -> Result<Value, WasmValueError>
@@ -91,5 +184,75 @@ impl Value {
             },
             _ => Err(wrong_kind(alloc, WasmTypeKind::Enum, ty)),
         }
+    }
+}
+
+// The payload of this case in its box. One that is missing or unexpected is refused, and one whose
+// own type isn't the stated one.
+fn boxed_payload(
+    alloc: Global,
+    case: &str,
+    stated: Option<&Type>,
+    val: Option<Value>,
+) -> Result<Option<Box<Value>>, WasmValueError>
+    ensures boxed { IfOk result (λ b. boxed b ≡ val) }
+    ensures taken { OnOk result (PayloadAt (shown (λ t. t) stated.entry) val) }
+    ensures refused { IfErr result (RefusesPayload case.now (shown (λ t. t) stated.entry) val) }
+{
+    match val {
+        None => match stated {
+            None => Ok(None),
+            Some(_) => Err(missing_payload(alloc, case)),
+        },
+        Some(val) => match stated {
+            None => Err(unexpected_payload(alloc, case)),
+            Some(stated) => {
+                if !val.is_at(stated) {
+                    return Err(wrong_type(alloc, stated, &val));
+                }
+                Ok(Some(Box::new(alloc, val)?))
+            }
+        },
+    }
+}
+
+// The last value under each name.
+fn last_values<V: Drop>(
+    alloc: Global,
+    fields: Vec<(&str, V)>,
+) -> Result<BTreeMap<&str, V>, AllocError>
+    ensures { IfOk result (λ m. (name : List ℕ) → held m name ≡ last_under (named fields.entry.items) name) }
+{
+    let mut given = BTreeMap::new(alloc);
+    for (name, val) in fields {
+        given.insert(name, val)?;
+    }
+    Ok(given)
+}
+
+// The values in the fields' order. A field without a value is refused, and so is a value of another
+// type, and one that is left.
+fn in_order(
+    alloc: Global,
+    stated: &Vec<(String, Type)>,
+    mut given: BTreeMap<&str, Value>,
+) -> Result<Vec<Value>, WasmValueError>
+    ensures given { IfOk result (λ v. InOrder (map by_bytes stated.now.items) (held given.entry) v.items) }
+    ensures refused { IfErr result (RefusesFields (map by_bytes stated.now.items) (held given.entry)) }
+{
+    let mut vals = Vec::new(alloc);
+    for field in stated {
+        let name = field.0.as_str();
+        let Some(val) = given.remove(name) else {
+            return Err(missing_field(alloc, name));
+        };
+        if !val.is_at(&field.1) {
+            return Err(wrong_type(alloc, &field.1, &val));
+        }
+        vals.push(val)?;
+    }
+    match given.first_key_value() {
+        Some((name, _)) => Err(unknown_field(alloc, *name)),
+        None => Ok(vals),
     }
 }

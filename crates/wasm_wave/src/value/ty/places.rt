@@ -1,10 +1,10 @@
 //! Places of names in a type, and names at places, for the values of the type.
-ghost use Rattle.std.specs.Prelude.{◌≡◌, None, [], get_or, map, string_bytes};
+ghost use Rattle.std.specs.Prelude.{◌≡◌, None, [], get_or, map, option_map, string_bytes};
 ghost use Rattle.std.specs.Str.{bytes_eq};
 ghost use Rattle.std.specs.List.{position};
-ghost use Rattle.wave_wasm.specs.Types.{record_parts, variant_parts, enum_names, flags_names};
+ghost use Rattle.wave_wasm.specs.Types.{types_of, fields_of, record_parts, variant_parts, enum_names, flags_names};
 ghost use Rattle.wave_wasm.specs.Shown.{shown_case};
-ghost use Rattle.wasm_wave.specs.TypeView.{by_bytes};
+ghost use Rattle.wasm_wave.specs.TypeView.{by_bytes, tuple_part, record_part};
 
 use super::{Shape, Type};
 
@@ -77,6 +77,26 @@ impl Type {
         match &self.shape {
             Shape::Variant(cases) => case_in(&**cases, place),
             _ => ("", None),
+        }
+    }
+
+    /// The types of a tuple.
+    pub(crate) fn tuple_types(&self) -> Option<&Vec<Type>>
+        ensures { option_map (λ ts. types_of ts.now.items) result ≡ tuple_part self.now }
+    {
+        match &self.shape {
+            Shape::Tuple(types) => Some(&**types),
+            _ => None,
+        }
+    }
+
+    /// The names and types of a record's fields.
+    pub(crate) fn named_types(&self) -> Option<&Vec<(String, Type)>>
+        ensures { option_map (λ fs. fields_of (map by_bytes fs.now.items)) result ≡ record_part self.now }
+    {
+        match &self.shape {
+            Shape::Record(fields) => Some(&**fields),
+            _ => None,
         }
     }
 }

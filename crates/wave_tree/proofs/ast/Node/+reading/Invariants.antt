@@ -1,19 +1,53 @@
 use Rattle.std.proofs.Common.{ℕ, ◌≡◌, ◌+◌, ◌*◌, take, List}
-use Rattle.wave_wasm.specs.Types.{HasDistinctNames, depth}
+use Rattle.wave_wasm.specs.Types.{HasDistinctNames, maybe_type, depth, depth_of_maybe}
+use Rattle.wave_wasm.specs.Shown.{shown}
 use Rattle.wave_tree.specs.Placed.{Placed}
 use Rattle.wave_tree.specs.Typed.{IsServed}
 use Rattle.wave_tree.proofs.Items.{AreNodesOf, AllRead}
+use Rattle.wave_wasm.specs.Lists.{AllOf}
+use Rattle.wave_wasm.specs.Shown.{shown_all}
+use Rattle.wave_tree.proofs.Tuples.{ReadAt}
+use Rattle.std.proofs.Common.{length}
+use Rattle.wave_tree.specs.Answers.{node_pairs}
+use Rattle.wave_tree.specs.NodeTree.{children_of}
+use Rattle.wave_tree.proofs.Maps.{SoFar}
 use Rattle.wave_tree.proofs.ast.Node.+reading.Given as goal
 
 abbrev pub decreases-read : goal.decreases-read
-decreases-read g l = 2 * depth (g.V.Type.WasmType.tree l.ty.now) + 1
+decreases-read g l = 4 * depth (g.V.Type.WasmType.tree l.ty.now) + 1
 
 abbrev pub decreases-read_list : goal.decreases-read_list
-decreases-read_list g l = 2 * depth (g.V.Type.WasmType.tree l.ty.now)
+decreases-read_list g l = 4 * depth (g.V.Type.WasmType.tree l.ty.now)
+
+abbrev pub decreases-read_tuple : goal.decreases-read_tuple
+decreases-read_tuple g l = 4 * depth (g.V.Type.WasmType.tree l.ty.now)
 
 abbrev pub decreases-read_option : goal.decreases-read_option
-decreases-read_option g l = 2 * depth (g.V.Type.WasmType.tree l.ty.now)
+decreases-read_option g l = 4 * depth (g.V.Type.WasmType.tree l.ty.now)
+
+abbrev pub decreases-read_result : goal.decreases-read_result
+decreases-read_result g l = 4 * depth (g.V.Type.WasmType.tree l.ty.now)
+
+abbrev pub decreases-read_variant : goal.decreases-read_variant
+decreases-read_variant g l = 4 * depth (g.V.Type.WasmType.tree l.ty.now)
+
+abbrev pub decreases-read_payload : goal.decreases-read_payload
+decreases-read_payload g l = 4 * depth_of_maybe (maybe_type (shown g.V.Type.WasmType.tree l.ty)) + 2
+
+abbrev pub decreases-read_map : goal.decreases-read_map
+decreases-read_map g l = 4 * depth (g.V.Type.WasmType.tree l.ty.now)
+
+abbrev pub invariant-read_map-entries : goal.invariant-read_map-entries
+invariant-read_map-entries g l =
+    SoFar g.V.WasmValue.tree g.V.WasmValue.is_of g.V.WasmValue.is_full l.src (g.V.Type.WasmType.tree l.key_type) (g.V.Type.WasmType.tree l.value_type) (node_pairs (children_of l.self)) l.nodes l.entries.items
+
+abbrev pub decreases-read_map-entries : goal.decreases-read_map-entries
+decreases-read_map-entries g l = length l.nodes
 
 abbrev pub invariant-read_list-loop-node : goal.invariant-read_list-loop-node
 invariant-read_list-loop-node g l =
     (ts : List Placed) → AreNodesOf l.src l.nodes ts → IsServed (g.V.Type.WasmType.tree l.element) → HasDistinctNames (g.V.Type.WasmType.tree l.element) → AllRead g.V.WasmValue.tree g.V.WasmValue.is_of g.V.WasmValue.is_full (g.V.Type.WasmType.tree l.element) (take l.node-index ts) l.items.items
+
+abbrev pub invariant-read_tuple-loop-i : goal.invariant-read_tuple-loop-i
+invariant-read_tuple-loop-i g l =
+    (ts : List Placed) → AreNodesOf l.src l.nodes ts → AllOf IsServed (shown_all g.V.Type.WasmType.tree l.types.items) → AllOf HasDistinctNames (shown_all g.V.Type.WasmType.tree l.types.items) → ReadAt g.V.WasmValue.tree g.V.WasmValue.is_of g.V.WasmValue.is_full (take l.i (shown_all g.V.Type.WasmType.tree l.types.items)) (take l.i ts) l.items.items

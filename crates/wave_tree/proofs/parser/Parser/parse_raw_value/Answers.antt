@@ -1,7 +1,0 @@
-use Rattle.std.proofs.Common.{subst, Ok}
-use Rattle.std.specs.Str.{IsUtf8}
-use Rattle.wave_tree.proofs.Texts.{node_parsed}
-use Rattle.wave_tree.proofs.parser.Parser.parse_raw_value.Goals as goal
-
-pub returns-in-Ok-clause-tree : goal.returns-in-Ok-clause-tree
-returns-in-Ok-clause-tree c = node_parsed _ _ _ (subst IsUtf8 c.remainder.ensures c.remainder.utf8) c.in-Ok.ensures.tree

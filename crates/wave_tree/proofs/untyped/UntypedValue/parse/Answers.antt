@@ -1,0 +1,26 @@
+use Rattle.std.proofs.Common.{subst, []}
+use Rattle.wave_tree.specs.Due.{value}
+use Rattle.wave_tree.specs.Refusals.{IsRead, Refuses}
+use Rattle.wave_tree.specs.Parsing.{Parsing}
+use Rattle.wave_tree.specs.Untyped.{IsUntypedTaken}
+use Rattle.wave_tree.proofs.TreeTexts.{untyped_of, refused_spells_none, trailing_spells_none, tree_refusal_handed}
+use Rattle.wave_tree.proofs.untyped.UntypedValue.parse.Goals as goal
+
+pub returns-in_err-value-clause-refused : goal.returns-in_err-value-clause-refused
+returns-in_err-value-clause-refused c =
+    tree_refusal_handed c.args.source.now c.from_residual.result c.in_err-value.field-0.0 c.from_residual.ensures.1
+    (refused_spells_none c.args.source.now c.in_err-value.field-0.0 c.parse_raw_value.new.self.place (subst (λ (z : Parsing). Refuses c.in_err-value.field-0.0 100 value [] z.place c.parse_raw_value.new.self.place) c.new-parser.ensures c.in_err-value.ensures.value))
+
+pub returns-in_err-finish-clause-refused : goal.returns-in_err-finish-clause-refused
+returns-in_err-finish-clause-refused c =
+    tree_refusal_handed c.args.source.now c.from_residual-in_err-finish.result c.in_err-finish.field-0.0 c.from_residual-in_err-finish.ensures.1
+    (trailing_spells_none c.args.source.now c.in_err-finish.field-0.0 c.parse_raw_value.new.self.place c.in_ok-value.value
+    (subst (λ (z : Parsing). IsRead 100 value [] z.place c.parse_raw_value.new.self.place []) c.new-parser.ensures c.in_ok-value.ensures.value)
+    (subst (λ (z : Parsing). IsUntypedTaken z.place c.parse_raw_value.new.self.place c.in_ok-value.value) c.new-parser.ensures c.in_ok-value.ensures.tree)
+    c.in_err-finish.ensures.answer)
+
+pub returns-clause-value : goal.returns-clause-value
+returns-clause-value c =
+    untyped_of c.args.source.now c.parse_raw_value.new.self.place c.in_ok-value.value
+    (subst (λ (z : Parsing). IsUntypedTaken z.place c.parse_raw_value.new.self.place c.in_ok-value.value) c.new-parser.ensures c.in_ok-value.ensures.tree)
+    c.in_ok-finish.ensures.answer

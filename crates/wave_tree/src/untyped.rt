@@ -1,0 +1,108 @@
+//! Values that were read without a type.
+ghost use Rattle.std.specs.Prelude.{◌≡◌, IfOk, IfErr};
+ghost use Rattle.wave_tree.specs.Typed.{IsValueOf, IsServed};
+ghost use Rattle.wave_tree.specs.Typed as typed;
+ghost use Rattle.wave_tree.specs.Untyped.{IsUntypedOf, RefusesTree};
+
+use crate::ast::Node;
+use crate::parser::{Parser, ParserError};
+use std::alloc::Global;
+use std::borrow::CowStr;
+use std::marker::Model;
+use wave_wasm::wasm::WasmValue;
+
+mod display;
+
+/// A value that was parsed without a type: its source, and the node of its tree.
+#[derive(Debug, Drop)]
+pub struct UntypedValue<'source> {
+    source: CowStr<'source, Global>,
+    node: Node,
+}
+
+impl<'source> Model for UntypedValue<'source> {
+    ghost use Rattle.std.specs.Cow.{cow_str_bytes};
+    ghost use Rattle.wave_tree.specs.Typed.{IsValueOf};
+    ghost use Rattle.wave_tree.specs.Untyped.{Untyped};
+    ghost use Rattle.wave_tree.specs.UntypedCode.{untyped_code};
+
+    ghost Value = { Untyped };
+
+    ghost coded = { untyped_code };
+
+    ghost view = { λ u. record { source = cow_str_bytes u.source; node = u.node } };
+
+    ghost invariant = { λ u. IsValueOf (cow_str_bytes u.source) u.node };
+}
+
+impl<'source> UntypedValue<'source> {
+    /// The value of a node that was parsed from the source as a value.
+    pub(crate) fn new(source: &'source str, node: Node) -> UntypedValue<'source>
+        requires { IsValueOf source.now node }
+        ensures { result ≡ record { source = source.now; node = node } }
+    {
+        UntypedValue {
+            source: CowStr::Borrowed(source),
+            node,
+        }
+    }
+
+    /// The value that the whole text spells. What is no value is refused at its span, and what
+    /// follows a value as `TrailingCharacters` at the span of the next token.
+    pub fn parse(alloc: Global, source: &'source str) -> Result<UntypedValue<'source>, ParserError>
+        ensures value { IfOk result (IsUntypedOf source.now) }
+        ensures refused { IfErr result (RefusesTree source.now) }
+    {
+        let mut parser = Parser::new(source);
+        let value = parser.parse_raw_value(alloc)?;
+        parser.finish()?;
+        Ok(value)
+    }
+
+    /// The same value with a copy of its source, where that is borrowed. Where memory is wanting
+    /// the value is handed back.
+    pub fn into_owned(self, alloc: Global) -> Result<UntypedValue<'static>, UntypedValue<'source>>
+        ensures owned { IfOk result (λ value. value ≡ self.entry) }
+        ensures handed_back { IfErr result (λ value. value ≡ self.entry) }
+    {
+        let UntypedValue { source, node } = self;
+        match source {
+            CowStr::Owned(text) => Ok(UntypedValue {
+                source: CowStr::Owned(text),
+                node,
+            }),
+            CowStr::Borrowed(text) => match String::from_str(alloc, text) {
+                Ok(copy) => Ok(UntypedValue {
+                    source: CowStr::Owned(copy),
+                    node,
+                }),
+                Err(_) => Err(UntypedValue {
+                    source: CowStr::Borrowed(text),
+                    node,
+                }),
+            },
+        }
+    }
+
+    /// The text that the value was parsed from.
+    pub fn source(&self) -> &str
+        ensures { result.now ≡ self.now.source }
+    {
+        self.source.as_str()
+    }
+
+    /// The node of the value.
+    pub fn node(&self) -> &Node
+        ensures node { result.now ≡ self.now.node }
+        ensures parsed { IsValueOf self.now.source result.now }
+    {
+        &self.node
+    }
+
+    /// The value that the type gives the untyped one, or a refusal, as of its node.
+    pub fn to_wasm_value<V: WasmValue>(&self, alloc: Global, ty: &V::Type) -> Result<V, ParserError>
+        ensures { IsServed (V.Type.tree ty.now) → typed.Reads V.tree V.is_of V.is_full (V.Type.tree ty.now) self.now.source self.now.node result }
+    {
+        self.node.to_wasm_value(alloc, ty, self.source.as_str())
+    }
+}
