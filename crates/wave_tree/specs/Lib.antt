@@ -24,6 +24,7 @@ pub mod Faults
 pub mod Answers
 pub mod Typed
 pub mod ShownNodes
+pub mod TreeParams
 pub mod FromText
 pub mod Untyped
 pub mod UntypedCode

@@ -257,7 +257,7 @@ impl Node {
     }
 
     /// One more value that was read within the node.
-    fn keep<V: Drop>(&self, items: &mut Vec<V>, item: V) -> Result<(), ParserError>
+    pub(crate) fn keep<V: Drop>(&self, items: &mut Vec<V>, item: V) -> Result<(), ParserError>
         ensures kept { OnOk result (items.new.items ≡ items.old.items ++ item ∷ []) }
         ensures refused { IfErr result (λ e. e.kind ≡ OutOfMemory) }
     {
