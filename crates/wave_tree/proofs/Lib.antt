@@ -88,5 +88,6 @@ pub mod TextLeaves
 pub mod CowTexts
 pub mod OneRuns
 pub mod StringNodes
+pub mod TextKeys
 pub mod Results
 pub mod Variants
