@@ -1,5 +1,5 @@
 -- Keys of maps that are chars or strings.
-use Rattle.std.proofs.Common.{ℕ, ◌≡◌, ◌≢◌, ◌+◌, inl, inr, List, [], length, Result, Ok, Err, MatchResult, refl, sym, ap, subst, ◌∙◌, arith}
+use Rattle.std.proofs.Common.{ℕ, ◌≡◌, ◌≢◌, inl, inr, List, Result, Ok, Err, MatchResult, refl, sym, ap, subst, ◌∙◌}
 use Rattle.std.specs.declared.ops.Range.{Range}
 use Rattle.std.specs.Result.{IsErrAnd}
 use Rattle.wave_wasm.specs.Types as type
@@ -13,7 +13,7 @@ use Rattle.wave_tree.specs.Token.{Token}
 use Rattle.wave_tree.specs.Token as token
 use Rattle.wave_tree.specs.Spells.{Spells}
 use Rattle.wave_tree.specs.Faults.{Refuses, IsForm, SpellsNone, MapKeyFault, TextFault}
-use Rattle.wave_tree.specs.NodeTree.{NodeTree, type_of, place_of}
+use Rattle.wave_tree.specs.NodeTree.{NodeTree, type_of}
 use Rattle.wave_tree.specs.Nodes.{IsTokenOf}
 use Rattle.wave_tree.specs.Answers.{text_at, GivesChar}
 use Rattle.wave_tree.specs.CowText.{StandsFor, GivesString}
