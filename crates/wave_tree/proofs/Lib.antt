@@ -21,6 +21,7 @@ pub mod Levels
 pub mod Examples
 pub mod BeginExamples
 pub mod Going
+pub mod Askings
 pub mod Answering
 pub mod AtHand
 pub mod Names
@@ -63,6 +64,7 @@ pub mod Entries
 pub mod Keys
 pub mod Maps
 pub mod Items
+pub mod Fields
 pub mod Tuples
 pub mod CanonTidy
 pub mod CanonUtf8

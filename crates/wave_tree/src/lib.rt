@@ -6,6 +6,7 @@ pub mod ast;
 pub mod laws;
 pub mod number;
 pub mod parser;
+mod record;
 #[cfg(test)]
 mod tests;
 mod text;

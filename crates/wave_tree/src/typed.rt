@@ -385,7 +385,7 @@ impl Node {
     }
 
     /// One more value that was read within the node.
-    fn keep<V: Drop>(&self, items: &mut Vec<V>, item: V) -> Result<(), ParserError>
+    pub(crate) fn keep<V: Drop>(&self, items: &mut Vec<V>, item: V) -> Result<(), ParserError>
         ensures kept { OnOk result (items.new.items ≡ items.old.items ++ item ∷ []) }
         ensures refused { IfErr result (λ e. e.kind ≡ OutOfMemory) }
     {
@@ -396,7 +396,7 @@ impl Node {
     }
 
     /// A refusal for want of memory, at the node.
-    fn out_of_memory(&self) -> ParserError
+    pub(crate) fn out_of_memory(&self) -> ParserError
         ensures { result.kind ≡ OutOfMemory }
     {
         ParserError::new(ParserErrorKind::OutOfMemory, self.span())
