@@ -26,6 +26,7 @@ case_with : (c t : Placed) (s : Shape) (o : Option (Range ℕ × List ℕ)) → 
 case_with c t s (Some l) is e = record { name = c; payload = t; place = l.0; text = l.1; children = refl; labelled = is; shape = sym (some_is _ _ e) }
 case_with c t s None is e = absurd (cc)
 
+-- the shape of a node of a case with its payload
 pub case_shape : (p : Range ℕ) (text : List ℕ) (cs : List Placed) (s : Shape) → shape_from kind.VariantWithPayload p text cs ≡ Some s → IsCase cs s
 case_shape p text [] s e = absurd (cc)
 case_shape p text (c ∷ []) s e = absurd (cc)

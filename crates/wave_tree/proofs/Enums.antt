@@ -107,7 +107,8 @@ module _ {V : Type 0} (tree : V → Value) (of : V → TypeTree → Type 0) (Ful
 
 -- ---- no value
 
-none_one : (names : List (List ℕ)) (name : List ℕ) → IsNoneOf names name → IsOneOf names name → ⊥
+-- a name that is none of the names is not one of them
+pub none_one : (names : List (List ℕ)) (name : List ℕ) → IsNoneOf names name → IsOneOf names name → ⊥
 none_one [] name none one = one
 none_one (n ∷ names) name none (inl e) = none.0 e
 none_one (n ∷ names) name none (inr h) = none_one names name none.1 h

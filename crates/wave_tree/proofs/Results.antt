@@ -30,7 +30,7 @@ use Rattle.wave_tree.specs.declared.ast.NodeType.{NodeType}
 use Rattle.wave_tree.specs.declared.ast.NodeType.TheVariants as kind
 
 -- a payload's type, from its option and back
-maybe_back : (A : MaybeType) → maybe_type (type_option A) ≡ A
+pub maybe_back : (A : MaybeType) → maybe_type (type_option A) ≡ A
 maybe_back type.no_type = refl
 maybe_back (type.a_type T) = refl
 

@@ -7,6 +7,9 @@ pub mod laws;
 pub mod number;
 mod params;
 pub mod parser;
+mod record;
+#[cfg(test)]
+mod tests;
 mod text;
 mod typed;
 pub mod untyped;
