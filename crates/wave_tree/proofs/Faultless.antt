@@ -78,8 +78,8 @@ list_none E (and_then t more) k q (u ∷ us) vs apart (inr h) e (v, ws, read, ot
 key_is_served : (K : Simple) → IsKeyServed (type.simple K) → IsServed (type.simple K)
 key_is_served type.bool h = tt
 key_is_served (type.whole which) h = tt
-key_is_served type.char h = absurd h
-key_is_served type.string h = absurd h
+key_is_served type.char h = tt
+key_is_served type.string h = tt
 
 mutual
   -- a tree with a fault at a type is given no value by it

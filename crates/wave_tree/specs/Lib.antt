@@ -26,6 +26,7 @@ pub mod CowText
 pub mod Typed
 pub mod Records
 pub mod ShownNodes
+pub mod TreeParams
 pub mod FromText
 pub mod Untyped
 pub mod UntypedCode

@@ -5,6 +5,7 @@ mod ahead;
 pub mod ast;
 pub mod laws;
 pub mod number;
+mod params;
 pub mod parser;
 mod record;
 #[cfg(test)]
