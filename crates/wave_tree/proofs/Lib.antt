@@ -74,3 +74,6 @@ pub mod Quoted
 pub mod TextLeaves
 pub mod Results
 pub mod Variants
+pub mod FlagNodes
+pub mod FlagSets
+pub mod FlagTypes

@@ -57,7 +57,8 @@ total_at o Less e h k = cc
 total_at o Equal e h k = absurd (k refl)
 total_at o Greater e h k = ap is_lt e
 
-total : (a b : List ℕ) → a ≢ b → is_before a b ≡ false → is_before b a ≡ true
+-- of two names one is before the other
+pub total : (a b : List ℕ) → a ≢ b → is_before a b ≡ false → is_before b a ≡ true
 total a b n h = before_is b a ∙ total_at (slice_cmp nat_cmp b a) (slice_cmp nat_cmp a b) (nat_list_cmp_total.antisymm b a) (sym (before_is a b) ∙ h) (λ e. n (equal_names a b e))
 
 trans : (a b c : List ℕ) → is_before a b ≡ true → is_before b c ≡ true → is_before a c ≡ true

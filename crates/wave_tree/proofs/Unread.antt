@@ -39,6 +39,7 @@ pub record IsUnread (k : WasmTypeKind) : Type 0 where
   pub result : k ≢ kind.Result
   pub variant : k ≢ kind.Variant
   pub enum : k ≢ kind.Enum
+  pub flags : k ≢ kind.Flags
 
 -- a type without values is refused with the word of its kind
 unread_fault : (T : TypeTree) (t : Placed) (k : WasmTypeKind) (r : Refusal) (q : Range ℕ) → IsServed T → k ≡ kind_of T → IsUnread k → RefusesFor (unsupported_type (kind_word k)) (span_of t) r q → Fault T t r q
@@ -60,6 +61,7 @@ unread_fault (type.option P) t k r q served e unread refused = absurd (unread.op
 unread_fault (type.result A B) t k r q served e unread refused = absurd (unread.result e)
 unread_fault (type.variant cases) t k r q served e unread refused = absurd (unread.variant e)
 unread_fault (type.enum names) t k r q served e unread refused = absurd (unread.enum e)
+unread_fault (type.flags names) t k r q served e unread refused = absurd (unread.flags e)
 unread_fault _ t k r q served e unread refused = absurd served
 
 -- so a refusal for want of values is a fault

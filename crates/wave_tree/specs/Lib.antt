@@ -23,6 +23,7 @@ pub mod Nodes
 pub mod Faults
 pub mod Answers
 pub mod Typed
+pub mod Flags
 pub mod ShownNodes
 pub mod FromText
 pub mod Untyped

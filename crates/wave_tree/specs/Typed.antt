@@ -74,6 +74,7 @@ abbrev mutual
   IsServed (type.result A B) = IsServedPayload A × IsServedPayload B
   IsServed (type.variant cases) = AreServedCases cases
   IsServed (type.enum names) = Unit {0}
+  IsServed (type.flags names) = Unit {0}
   IsServed _ = ⊥
 
   -- each type of a tuple is read

@@ -7,6 +7,7 @@ ghost use Rattle.wave_tree.specs.NodeTree.{node, node_trees, type_of, place_of, 
 ghost use Rattle.wave_tree.specs.Nodes.{IsParsedFrom};
 ghost use Rattle.wave_tree.specs.Answers.{text_at, quotes_of, IsInside, RefusedAs, OfType, GivesBool, GivesNumber, GivesChar, GivesNodes, GivesOption, GivesResult, GivesLabel, GivesVariant};
 
+pub use crate::flags::FlagLabels;
 use crate::number::WholeNumber;
 use crate::text::char_in;
 use crate::word::label_name;
@@ -256,7 +257,7 @@ impl Node {
     }
 
     /// A refusal of this kind at the node.
-    fn error(&self, kind: ParserErrorKind) -> ParserError
+    pub(crate) fn error(&self, kind: ParserErrorKind) -> ParserError
         ensures { RefusedAs kind self.now result }
     {
         ParserError::new(kind, self.span())
