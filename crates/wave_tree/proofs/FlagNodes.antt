@@ -1,29 +1,22 @@
 -- The labels of a node of flags.
-use Rattle.std.proofs.Common.{ℕ, zero, suc, ◌≡◌, ◌≢◌, ◌⊎◌, inl, inr, ◌<◌, ◌≤◌, ◌+◌, Bool, true, false, if◌then◌else◌, List, [], ◌∷◌, ◌++◌, length, get_or, take, map, filter, Option, Some, None, option_map, Bor, refl, sym, ap, ◌∙◌, subst, add-one, arith}
-use Rattle.std.proofs.lemmas.List.{map-append}
+use Rattle.std.proofs.Common.{ℕ, zero, suc, ◌≡◌, ◌≢◌, ◌⊎◌, inl, inr, Bool, true, false, if◌then◌else◌, List, [], ◌∷◌, map, Option, Some, None, option_map, refl, sym, ap, ◌∙◌, subst}
 use Rattle.std.specs.declared.ops.Range.{Range}
-use Rattle.std.specs.BTreeMap.{BTreeMap}
-use Rattle.wave_wasm.specs.Lists.{AllOf, SomeOf}
-use Rattle.wave_wasm.specs.Names.{IsOneOf, IsNoneOf, AreAllOf, AreDistinct, is_one_of, found_in}
-use Rattle.wave_wasm.specs.Shown.{texts}
+use Rattle.wave_wasm.specs.Names.{IsNoneOf, AreDistinct}
 use Rattle.wave_tree.specs.Token.{Token}
 use Rattle.wave_tree.specs.Token as token
 use Rattle.wave_tree.specs.Tree as form
 use Rattle.wave_tree.specs.Tree.{Word, SpellsTree, Takes, BehindWord, is_before, put_in_order, in_order, word_of}
 use Rattle.wave_tree.specs.Spells.{name_of}
-use Rattle.wave_tree.specs.Placed.{Placed, Shape, at, empty_braces, flags, slice, span_of, shape_of, SpellsEach, SpellsFlags}
-use Rattle.wave_tree.specs.NodeTree.{NodeTree, type_of, place_of, children_of, node_list}
-use Rattle.wave_tree.specs.Nodes.{placed_of, shape_from, flag_of, flags_of, key_of, with_both, IsNodeOf, IsTokenOf, IsParsedFrom}
+use Rattle.wave_tree.specs.Placed.{Placed, Shape, at, empty_braces, flags, slice, shape_of, SpellsEach, SpellsFlags}
+use Rattle.wave_tree.specs.NodeTree.{NodeTree, type_of, place_of, children_of}
+use Rattle.wave_tree.specs.Nodes.{placed_of, shape_from, flag_of, flags_of, key_of, with_both, IsNodeOf, IsParsedFrom}
 use Rattle.wave_tree.specs.Answers.{text_at}
-use Rattle.wave_tree.specs.Flags.{names_at, AreAllParsed, AreFlags, AreInOrder, HoldsNames, PicksFrom}
-use Rattle.wave_tree.specs.Typed.{IsValueOf}
-use Rattle.wave_tree.proofs.Inside.{Inside, inside, some_is, flag_key, AreParsed, parsed, nodes_in, nodes_are}
+use Rattle.wave_tree.specs.Flags.{names_at, AreAllParsed, AreFlags, AreInOrder}
+use Rattle.wave_tree.proofs.Inside.{inside, some_is, flag_key, AreParsed, parsed, nodes_in, nodes_are}
 use Rattle.wave_tree.proofs.Cases.{shape_at}
 use Rattle.wave_tree.proofs.Variants.{flag_text}
-use Rattle.wave_tree.proofs.Ordered.{total, none_of}
-use Rattle.wave_tree.proofs.OneOf.{is_one}
+use Rattle.wave_tree.proofs.Ordered.{total}
 use Rattle.wave_wasm.proofs.Trees.{map_map}
-use Rattle.wave_tree.specs.declared.ast.NodeType.{NodeType}
 use Rattle.wave_tree.specs.declared.ast.NodeType.TheVariants as kind
 
 -- ---- labels in order

@@ -1,8 +1,8 @@
 -- Flags at their types.
-use Rattle.std.proofs.Common.{ℕ, ◌≡◌, ◌≢◌, ◌⊎◌, inl, inr, true, List, [], ◌∷◌, map, filter, Option, Some, None, Bor, Result, Ok, Err, IfOk, IfErr, MatchResult, refl, sym, ap, ◌∙◌, subst}
+use Rattle.std.proofs.Common.{ℕ, ◌≡◌, ◌≢◌, ◌⊎◌, inl, inr, true, List, [], ◌∷◌, map, filter, Bor, Result, Ok, Err, IfOk, IfErr, MatchResult, refl, sym, ap, ◌∙◌, subst}
 use Rattle.std.specs.declared.ops.Range.{Range}
 use Rattle.wave_wasm.specs.Lists.{SomeOf}
-use Rattle.wave_wasm.specs.Names.{IsOneOf, IsNoneOf, AreAllOf, AreDistinct, ArePicked, is_one_of, found_in}
+use Rattle.wave_wasm.specs.Names.{IsNoneOf, AreAllOf, AreDistinct, ArePicked, is_one_of, found_in}
 use Rattle.wave_wasm.specs.Types as type
 use Rattle.wave_wasm.specs.Types.{TypeTree, HasDistinctNames, flags_names, kind_of}
 use Rattle.wave_wasm.specs.Values as value
@@ -24,7 +24,7 @@ use Rattle.wave_tree.specs.NodeTree.{NodeTree, type_of, place_of, children_of}
 use Rattle.wave_tree.specs.Nodes.{IsNodeOf}
 use Rattle.wave_tree.specs.Flags.{names_at, AreFlags, RefusesFlags}
 use Rattle.wave_tree.specs.Typed.{IsRead, IsBlamed, IsMade}
-use Rattle.wave_tree.proofs.Inside.{From, Inside, inside}
+use Rattle.wave_tree.proofs.Inside.{From, inside}
 use Rattle.wave_tree.proofs.Leaves.{tree_is, at_tree}
 use Rattle.wave_tree.proofs.Made.{made}
 use Rattle.wave_tree.proofs.OneOf.{passes}

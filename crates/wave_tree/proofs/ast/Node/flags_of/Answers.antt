@@ -1,12 +1,10 @@
-use Rattle.std.proofs.Common.{◌≡◌, ◌⊎◌, inl, inr, ℕ, List, get_or, ap, ◌∙◌}
+use Rattle.std.proofs.Common.{inl, ap, ◌∙◌}
 use Rattle.wave_wasm.specs.Names.{IsOneOf, IsNoneOf}
 use Rattle.wave_wasm.specs.Shown.{texts}
 use Rattle.wave_wasm.proofs.Sequence.{all_at}
 use Rattle.wave_tree.specs.Spells.{name_of}
 use Rattle.wave_tree.specs.NodeTree.{children_of}
 use Rattle.wave_tree.specs.Nodes.{IsParsedFrom}
-use Rattle.wave_tree.specs.Answers.{text_at}
-use Rattle.wave_tree.specs.Flags.{RefusesFlags}
 use Rattle.wave_tree.proofs.Names.{holds_more, on_ok}
 use Rattle.wave_tree.proofs.FlagNodes.{labels_of}
 use Rattle.wave_tree.proofs.FlagSets.{found_held, none_held, held_more, flag_unknown}

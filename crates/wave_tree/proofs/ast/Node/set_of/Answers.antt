@@ -1,5 +1,4 @@
 use Rattle.std.proofs.Common.{sym, subst}
-use Rattle.wave_wasm.specs.Shown.{texts}
 use Rattle.wave_tree.specs.Flags.{HoldsNames}
 use Rattle.wave_tree.proofs.Names.{holds_more, on_ok}
 use Rattle.wave_tree.proofs.FlagSets.{texts_next}
