@@ -6,7 +6,7 @@ use Rattle.wave_wasm.specs.Types.{TypeTree, Types, MaybeType, type_list, type_op
 use Rattle.wave_wasm.specs.Values as value
 use Rattle.wave_wasm.specs.Values.{Value, Leaf, leaf_type, IsSound, IsWellFormed, values, maybe_value}
 use Rattle.wave_wasm.specs.HasType.{HasType}
-use Rattle.wave_wasm.specs.Makers.{IsMemory, Makes, MakesLeaf, MakesList, MakesTuple, MakesOption, MakesEnum, MakesResult, AreOf, OptionIsOf, PayloadIsOf, EitherIsOf, result_value, either_tree, FullLeaf, FullList, FullTuple, FullRecord, FullEnum, FullOption, FullResult, FullFlags, FullMap}
+use Rattle.wave_wasm.specs.Makers.{IsMemory, Makes, MakesLeaf, MakesList, MakesTuple, MakesOption, MakesEnum, MakesResult, AreOf, OptionIsOf, PayloadIsOf, EitherIsOf, result_value, either_tree, FullLeaf, FullList, FullTuple, FullRecord, FullEnum, FullOption, FullResult}
 use Rattle.wave_wasm.specs.declared.wasm.WasmValueError.{WasmValueError}
 use Rattle.wave_wasm.proofs.Formed.{formed}
 use Rattle.wasm_wave.specs.TypedValue.{TypedValue, IsAt, IsTyped, MakesOnly, typed_leaf}
@@ -50,8 +50,10 @@ every_first (type.unreadable kind) h = h
 every_first (type.enum names) h = h
 every_first (type.flags names) h = h
 every_first (type.list E) h = refl
+every_first (type.record_type fs) h = refl
 every_first (type.tuple Ts) h = refl
 every_first (type.option P) h = refl
+every_first (type.map K V) h = refl
 every_first (type.variant cs) h = refl
 every_first (type.result A B) h = refl
 every_first _ h = absurd (false≢true h)
@@ -59,15 +61,6 @@ every_first _ h = absurd (false≢true h)
 -- a type of a kind whose values can't be made isn't full
 none_built : (T U : TypeTree) → IsFull T → T ≡ U → is_built U ≡ false → ⊥
 none_built T U full is no_values = false≢true (sym no_values ∙ every_first U (subst IsBuilt is full.built))
-
-pub no_record : (T : TypeTree) (fields : List (Bor (List ℕ) × TypedValue)) (e : WasmValueError) → FullRecord (λ v T. IsAt T v) IsFull T fields e
-no_record T fields e = λ full fs is distinct ordered same h. absurd (none_built T _ full is refl)
-
-pub no_flags : (T : TypeTree) (names : List (Bor (List ℕ))) (e : WasmValueError) → FullFlags (λ (v : TypedValue) T. IsAt T v) IsFull T names e
-no_flags T names e = λ full all is distinct h. absurd (none_built T _ full is refl)
-
-pub no_map : (T : TypeTree) (handed : List (TypedValue × TypedValue)) (e : WasmValueError) → FullMap (λ v T. IsAt T v) IsFull T handed e
-no_map T handed e = λ full K V is h. absurd (none_built T _ full is refl)
 
 -- ---- what has parts
 
@@ -85,7 +78,7 @@ pub made_enum : (T : TypeTree) (name : List ℕ) (v : TypedValue) → Made (valu
 made_enum T name v m = λ distinct. lawful _ T v m
 
 -- parts of the stated types are refused for want of memory alone
-no_refusal : (kind : WasmTypeKind) (T : TypeTree) (Takes : Type 0) (e : WasmValueError) → kind_of T ≡ kind → Takes → RefusesParts kind T Takes e → IsMemory e
+pub no_refusal : (kind : WasmTypeKind) (T : TypeTree) (Takes : Type 0) (e : WasmValueError) → kind_of T ≡ kind → Takes → RefusesParts kind T Takes e → IsMemory e
 no_refusal kind T Takes (error.WrongTypeKind k s) is h r = absurd (r.0 is)
 no_refusal kind T Takes (error.WrongValueType s q) is h r = absurd (r.1 h)
 no_refusal kind T Takes (error.Memory e) is h r = tt

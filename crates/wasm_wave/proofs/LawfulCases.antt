@@ -1,21 +1,25 @@
 -- From what `Value` makes and refuses at variants, flags and maps to the laws of values.
-use Rattle.std.proofs.Common.{◌≡◌, ◌≢◌, ℕ, List, [], ◌∷◌, sym, ap, subst, ◌∙◌, refl, inl, inr, Option, Result, Ok, Err}
-use Rattle.std.specs.Prelude.{IfErr}
-use Rattle.wave_wasm.specs.Lists.{SomeOf}
-use Rattle.wave_wasm.specs.Names.{IsNoneOf, AreDistinct}
+use Rattle.std.proofs.Common.{◌≡◌, ◌≢◌, ℕ, List, [], ◌∷◌, sym, ap, subst, ◌∙◌, refl, inl, inr, Option, Result, Ok, Err, Bor}
+use Rattle.std.specs.Prelude.{IfOk, IfErr, OnOk, filter}
+use Rattle.wave_wasm.specs.Lists.{AllOf, SomeOf}
+use Rattle.wave_wasm.specs.Names.{IsOneOf, IsNoneOf, AreAllOf, AreDistinct, ArePicked, is_one_of, found_in}
+use Rattle.wave_wasm.specs.Shown.{texts}
 use Rattle.wave_wasm.specs.Types as type
-use Rattle.wave_wasm.specs.Types.{TypeTree, Cases, no_cases, case_of, case_names, case_list, type_option}
+use Rattle.wave_wasm.specs.Types.{TypeTree, Cases, no_cases, case_of, case_names, case_list, type_option, flags_names, HasDistinctNames}
 use Rattle.wave_wasm.specs.Values as value
 use Rattle.wave_wasm.specs.Values.{Value, maybe_value}
-use Rattle.wave_wasm.specs.Makers.{IsMemory, MakesVariant, FullVariant, PayloadIsOf}
+use Rattle.wave_wasm.specs.Makers.{IsMemory, Makes, MakesVariant, MakesFlags, MakesMap, FullVariant, FullFlags, FullMap, PayloadIsOf}
+use Rattle.wave_wasm.specs.declared.wasm.WasmTypeKind.TheVariants as kinds
 use Rattle.wave_wasm.specs.declared.wasm.WasmValueError.{WasmValueError}
 use Rattle.wave_wasm.specs.declared.wasm.WasmValueError.TheVariants as error
+use Rattle.wave_tree.proofs.CanonNames.{picked_found, picked_of}
+use Rattle.wave_tree.proofs.OneOf.{passes}
 use Rattle.wasm_wave.specs.TypedValue.{TypedValue, IsAt}
 use Rattle.wasm_wave.specs.Built.{IsFull}
 use Rattle.wasm_wave.specs.ValueView.{payload_tree, first_names}
-use Rattle.wasm_wave.specs.Taken.{Made, RefusesPayload}
-use Rattle.wasm_wave.specs.TakenCases.{IsFirstCase, RefusesVariant}
-use Rattle.wasm_wave.proofs.Lawful.{lawful, payload_memory}
+use Rattle.wasm_wave.specs.Taken.{Made, RefusesParts, RefusesPayload}
+use Rattle.wasm_wave.specs.TakenCases.{IsFirstCase, RefusesVariant, TakesFlags, RefusesFlags, MadeMap, EntriesOwn, TakesMap}
+use Rattle.wasm_wave.proofs.Lawful.{lawful, no_refusal, payload_memory}
 
 -- ---- variants
 
@@ -66,3 +70,58 @@ variant_refused T name p e r = λ full cs is P case h.
 pub full_variant : (T : TypeTree) (name : List ℕ) (p : Option TypedValue) (r : Result TypedValue WasmValueError) → IfErr r (RefusesVariant T name p) → IfErr r (FullVariant (λ v T. IsAt T v) IsFull T name p)
 full_variant T name p (Ok v) h = tt
 full_variant T name p (Err e) h = variant_refused T name p e h
+
+-- ---- flags
+
+names_distinct : (T : TypeTree) → HasDistinctNames T → AreDistinct (flags_names T)
+names_distinct (type.flags names) distinct = distinct
+names_distinct _ distinct = tt
+
+known_kept : (names ns : List (List ℕ)) → AreAllOf names ns → filter (is_one_of names) ns ≡ ns
+known_kept names [] h = refl
+known_kept names (n ∷ ns) h = rw (passes names n h.0) (ap (λ ms. n ∷ ms) (known_kept names ns h.1))
+
+flags_lawful : (T : TypeTree) (names : List (Bor (List ℕ))) (v : TypedValue) → Made (value.flags (found_in (texts names) (flags_names T))) T v → TakesFlags T (texts names) → MakesFlags (λ (v : TypedValue). v.tree) (λ v T. IsAt T v) T names v
+flags_lawful T names v m taken = λ distinct apart picked.
+    let some : ArePicked (flags_names T) (texts names) = subst (ArePicked (flags_names T)) (known_kept (flags_names T) (texts names) taken.1) picked in
+    let asked : found_in (texts names) (flags_names T) ≡ texts names = picked_found (flags_names T) (texts names) some (names_distinct T distinct) in
+    subst (λ ns. Makes (λ (v : TypedValue). v.tree) (λ v T. IsAt T v) (value.flags ns) T v) asked (lawful _ T v m)
+
+pub made_flags : (T : TypeTree) (names : List (Bor (List ℕ))) (r : Result TypedValue WasmValueError) → IfOk r (Made (value.flags (found_in (texts names) (flags_names T))) T) → OnOk r (TakesFlags T (texts names)) → IfOk r (MakesFlags (λ (v : TypedValue). v.tree) (λ v T. IsAt T v) T names)
+made_flags T names (Ok v) m taken = flags_lawful T names v m taken
+made_flags T names (Err e) m taken = tt
+
+all_one : (names ns : List (List ℕ)) (n : List ℕ) → AreAllOf names ns → IsOneOf ns n → IsOneOf names n
+all_one names [] n h one = absurd one
+all_one names (m ∷ ns) n h (inl is) = subst (IsOneOf names) (sym is) h.0
+all_one names (m ∷ ns) n h (inr one) = all_one names ns n h.1 one
+
+one_or_none : (names : List (List ℕ)) (n : List ℕ) → IsOneOf names n → IsNoneOf names n → ⊥
+one_or_none [] n one none = one
+one_or_none (m ∷ names) n (inl is) none = none.0 is
+one_or_none (m ∷ names) n (inr one) none = one_or_none names n one none.1
+
+names_refused : (all given : List (List ℕ)) (e : WasmValueError) → ArePicked all given → RefusesFlags (type.flags all) given e → IsMemory e
+names_refused all given (error.WrongTypeKind k t) picked r = absurd (r.0 refl)
+names_refused all given (error.UnknownCase n) picked (kind, (one, none)) = absurd (one_or_none all _ (all_one all given _ (picked_of all given picked) one) none)
+names_refused all given (error.Memory e) picked r = tt
+names_refused all given _ picked r = absurd r.1
+
+pub full_flags : (T : TypeTree) (names : List (Bor (List ℕ))) (r : Result TypedValue WasmValueError) → IfErr r (RefusesFlags T (texts names)) → IfErr r (FullFlags (λ (v : TypedValue) T. IsAt T v) IsFull T names)
+full_flags T names (Ok v) h = tt
+full_flags T names (Err e) h = λ full all is distinct picked. names_refused all (texts names) e picked (subst (λ U. RefusesFlags U (texts names) e) is h)
+
+-- ---- maps
+
+pub made_map : (T : TypeTree) (handed : List (TypedValue × TypedValue)) (r : Result TypedValue WasmValueError) → IfOk r (MadeMap handed T) → IfOk r (MakesMap (λ v. v.tree) (λ v T. IsAt T v) T handed)
+made_map T handed (Ok v) (all, shown, m) = λ distinct. (all, shown, lawful _ T v m)
+made_map T handed (Err e) h = tt
+
+entries_of : (K V : TypeTree) (handed : List (TypedValue × TypedValue)) → AllOf (λ e. IsAt K e.0 × IsAt V e.1) handed → EntriesOwn K V handed
+entries_of K V [] h = tt
+entries_of K V (e ∷ es) h = (h.0.0.own, h.0.1.own, entries_of K V es h.1)
+
+pub full_map : (T : TypeTree) (handed : List (TypedValue × TypedValue)) (r : Result TypedValue WasmValueError) → IfErr r (RefusesParts kinds.Map T (TakesMap T handed)) → IfErr r (FullMap (λ v T. IsAt T v) IsFull T handed)
+full_map T handed (Ok v) h = tt
+full_map T handed (Err e) h = λ full K V is of.
+    no_refusal kinds.Map (type.map K V) (EntriesOwn (type.simple K) V handed) e refl (entries_of (type.simple K) V handed of) (subst (λ U. RefusesParts kinds.Map U (TakesMap U handed) e) is h)

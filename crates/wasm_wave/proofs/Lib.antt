@@ -12,6 +12,10 @@ pub mod SameContent
 pub mod ValueLists
 pub mod Made
 pub mod MadeCases
+pub mod MadeFlags
+pub mod MadeMap
 pub mod MadeTuple
 pub mod MadeResult
+pub mod MadeRecord
+pub mod LawfulRecord
 pub mod Headline

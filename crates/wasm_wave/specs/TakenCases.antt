@@ -1,13 +1,21 @@
 -- What the makers of variants, flags and maps accept, and what their refusals say.
-use Rattle.std.specs.Prelude.{ℕ, ◌≡◌, ◌≢◌, ◌⊎◌, List, [], ◌∷◌, Option, string_bytes}
-use Rattle.wave_wasm.specs.Names.{IsNoneOf}
-use Rattle.wave_wasm.specs.Types.{TypeTree, kind_of, variant_parts}
+use Rattle.std.specs.Prelude.{ℕ, ◌≡◌, ◌≢◌, ◌⊎◌, List, [], ◌∷◌, map, Option, string_bytes, is_some}
+use Rattle.std.specs.Borrow.{Bor}
+use Rattle.std.specs.BTreeMap.{BTreeMap, get_by}
+use Rattle.std.specs.Cmp.Lexicographic.{slice_cmp}
+use Rattle.std.specs.Ordering.{nat_cmp}
+use Rattle.wave_wasm.specs.Names.{IsOneOf, IsNoneOf, AreAllOf, is_one_of}
+use Rattle.wave_wasm.specs.Types as type
+use Rattle.wave_wasm.specs.Types.{TypeTree, kind_of, variant_parts, flags_names}
+use Rattle.wave_wasm.specs.Values as value
+use Rattle.wave_wasm.specs.Values.{Leaf, Value, entries}
+use Rattle.wave_wasm.specs.Makers.{leaf_entries}
 use Rattle.wave_wasm.specs.declared.wasm.WasmTypeKind.TheVariants as kinds
 use Rattle.wave_wasm.specs.declared.wasm.WasmValueError.{WasmValueError}
 use Rattle.wave_wasm.specs.declared.wasm.WasmValueError.TheVariants as error
 use Rattle.wasm_wave.specs.TypedValue.{TypedValue}
 use Rattle.wasm_wave.specs.ValueView.{first_names}
-use Rattle.wasm_wave.specs.Taken.{PayloadOwn, RefusesPayload}
+use Rattle.wasm_wave.specs.Taken.{Made, PayloadOwn, RefusesPayload}
 
 -- ---- variants
 
@@ -26,3 +34,41 @@ RefusesVariant T name payload (error.WrongTypeKind k t) = (kind_of T ≢ kinds.V
 RefusesVariant T name payload (error.UnknownCase n) = (kind_of T ≡ kinds.Variant) × (string_bytes n ≡ name) × IsNoneOf (first_names (variant_parts T)) name
 RefusesVariant T name payload (error.Memory e) = Unit {0}
 RefusesVariant T name payload e = (kind_of T ≡ kinds.Variant) × (P : Option TypeTree) × IsFirstCase (variant_parts T) name P × RefusesPayload name P payload e
+
+-- ---- flags
+
+-- the map has these names as keys, and no others
+abbrev pub HasKeys : {X : Type 0} → BTreeMap (Bor (List ℕ)) X → List (List ℕ) → Type 0
+HasKeys m names = (name : List ℕ) → is_some (get_by (λ k. slice_cmp nat_cmp name k.now) m) ≡ is_one_of names name
+
+-- one of the names handed over is none of these names, or want of memory
+abbrev pub RefusesNames : List (List ℕ) → List (List ℕ) → WasmValueError → Type 0
+RefusesNames names handed (error.UnknownCase n) = IsOneOf handed (string_bytes n) × IsNoneOf names (string_bytes n)
+RefusesNames names handed (error.Memory e) = Unit {0}
+RefusesNames names handed _ = ⊥
+
+-- names of the type's flags, in whatever order and however often
+abbrev pub TakesFlags : TypeTree → List (List ℕ) → Type 0
+TakesFlags T handed = (kind_of T ≡ kinds.Flags) × AreAllOf (flags_names T) handed
+
+-- a type of another kind, a name that is no flag, or want of memory
+abbrev pub RefusesFlags : TypeTree → List (List ℕ) → WasmValueError → Type 0
+RefusesFlags T handed (error.WrongTypeKind k t) = (kind_of T ≢ kinds.Flags) × (k ≡ kinds.Flags)
+RefusesFlags T handed (error.Memory e) = Unit {0}
+RefusesFlags T handed e = (kind_of T ≡ kinds.Flags) × RefusesNames (flags_names T) handed e
+
+-- ---- maps
+
+-- the map has the entries as they are handed over, and is a value of the type, its own
+abbrev pub MadeMap : List (TypedValue × TypedValue) → TypeTree → TypedValue → Type 0
+MadeMap handed T v = (all : List (Leaf × Value)) × (map (λ e. (e.0.tree, e.1.tree)) handed ≡ leaf_entries all) × Made (value.map (entries all)) T v
+
+-- each key's own type is the first, each value's the second
+abbrev pub EntriesOwn : TypeTree → TypeTree → List (TypedValue × TypedValue) → Type 0
+EntriesOwn K V [] = Unit {0}
+EntriesOwn K V (e ∷ es) = (e.0.own ≡ K) × (e.1.own ≡ V) × EntriesOwn K V es
+
+-- entries whose keys and values are of the stated types
+abbrev pub TakesMap : TypeTree → List (TypedValue × TypedValue) → Type 0
+TakesMap (type.map K V) es = EntriesOwn (type.simple K) V es
+TakesMap _ es = ⊥

@@ -140,6 +140,64 @@ fn texts_read(rt: HostRuntime) -> Result<(), Fail> {
     Ok(())
 }
 
+/// The text of what was made, or the refusal's words.
+fn made(rt: HostRuntime, val: Result<Value, WasmValueError>) -> Result<String, Fail> {
+    match val {
+        Ok(val) => Ok(to_string(rt.alloc(), &val)?),
+        Err(e) => Ok(e.to_string(rt.alloc())?),
+    }
+}
+
+#[test]
+fn made_variants(rt: HostRuntime) -> Result<(), Fail> {
+    let mut cases = Vec::new(rt.alloc());
+    cases.push(("off", None))?;
+    cases.push(("on", Some(Type::U8)))?;
+    let Some(ty) = Type::variant(rt.alloc(), cases)? else {
+        return Ok(());
+    };
+    let one = Value::make_u8(rt.alloc(), 1)?;
+    let val = Value::make_variant(rt.alloc(), &ty, "on", Some(one));
+    assert_eq!(rt; made(rt, val)?.as_str(), "on(1)");
+    let val = Value::make_variant(rt.alloc(), &ty, "off", None);
+    assert_eq!(rt; made(rt, val)?.as_str(), "off");
+    let val = Value::make_variant(rt.alloc(), &ty, "on", None);
+    assert!(rt; val.is_err());
+    let val = Value::make_variant(rt.alloc(), &ty, "neither", None);
+    assert_eq!(rt; made(rt, val)?.as_str(), "unknown case \"neither\"");
+    Ok(())
+}
+
+#[test]
+fn made_flags(rt: HostRuntime) -> Result<(), Fail> {
+    let Some(ty) = Type::flags(rt.alloc(), &["read", "write", "run"])? else {
+        return Ok(());
+    };
+    let val = Value::make_flags(rt.alloc(), &ty, &["run", "read", "run"]);
+    assert_eq!(rt; made(rt, val)?.as_str(), "{read, run}");
+    let Some(ty) = Type::flags(rt.alloc(), &["a", "a"])? else {
+        return Ok(());
+    };
+    let val = Value::make_flags(rt.alloc(), &ty, &["a", "b"]);
+    assert_eq!(rt; made(rt, val)?.as_str(), "unknown case \"b\"");
+    Ok(())
+}
+
+#[test]
+fn made_maps(rt: HostRuntime) -> Result<(), Fail> {
+    let Some(ty) = Type::map(rt.alloc(), Type::STRING, Type::U8)? else {
+        return Ok(());
+    };
+    let mut entries = Vec::new(rt.alloc());
+    for (key, val) in [("a", 1), ("b", 2), ("a", 3)] {
+        let key = Value::make_string(rt.alloc(), key)?;
+        entries.push((key, Value::make_u8(rt.alloc(), val)?))?;
+    }
+    let val = Value::make_map(rt.alloc(), &ty, entries);
+    assert_eq!(rt; made(rt, val)?.as_str(), "{\"a\": 3, \"b\": 2}");
+    Ok(())
+}
+
 /// A writer that fails once it took this many texts.
 #[derive(Drop)]
 struct Short {

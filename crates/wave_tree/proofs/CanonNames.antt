@@ -45,7 +45,7 @@ small_within : (lo hi c : ℕ) → nat_lt hi 128 ≡ true → is_within lo hi c 
 small_within lo hi c h e = grind (arith, nat_tests)
 
 -- a text of such a shape is ASCII
-ascii_text : (p : Regex) (s : List ℕ) → has_ascii p ≡ true → Matches p s → is_ascii s ≡ true
+pub ascii_text : (p : Regex) (s : List ℕ) → has_ascii p ≡ true → Matches p s → is_ascii s ≡ true
 ascii_text nothing s a h = absurd h
 ascii_text empty s a h = ap is_ascii h
 ascii_text (within lo hi) s a (c, e, t) = ap is_ascii e ∙ rw (small_within lo hi c a t) refl

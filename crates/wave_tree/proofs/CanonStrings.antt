@@ -55,7 +55,7 @@ character_stops character.Hex4 e = cc
 character_stops character.Hex5 e = cc
 character_stops character.Hex6 e = cc
 
-character_ends : (cs : List ℕ) → Matches shapes.character cs → NoStopAfter class.Char cs
+pub character_ends : (cs : List ℕ) → Matches shapes.character cs → NoStopAfter class.Char cs
 character_ends cs h b s =
     let (q, e) = reached CharState character_rest character_step character_steps character.Start cs h in
     let last : may_be_empty (character_rest q) ≡ true = ap may_be_empty (sym e) ∙ matches_into cs shapes.character h in
@@ -75,7 +75,7 @@ string_stops string.Hex4 e = cc
 string_stops string.Hex5 e = cc
 string_stops string.Hex6 e = cc
 
-string_ends : (cs : List ℕ) → Matches shapes.string cs → NoStopAfter class.String cs
+pub string_ends : (cs : List ℕ) → Matches shapes.string cs → NoStopAfter class.String cs
 string_ends cs h b s =
     let (q, e) = reached StringState string_rest string_step string_steps string.Start cs h in
     let last : may_be_empty (string_rest q) ≡ true = ap may_be_empty (sym e) ∙ matches_into cs shapes.string h in

@@ -35,7 +35,7 @@ ascii_itself (b ∷ s) h = let p : (nat_lt b 128 ≡ true) × (is_ascii s ≡ tr
     ap (λ (z : List ℕ). z ++ encode_utf8_all s) (encode_ascii b (ltb-true b 128 p.0)) ∙ ap (λ (z : List ℕ). b ∷ z) (ascii_itself s p.1)
 
 -- of two fronts of a text the second is no longer, or goes on behind the first
-goes_on : (cs ds r t : List ℕ) → encode_utf8_all cs ++ r ≡ encode_utf8_all ds ++ t
+pub goes_on : (cs ds r t : List ℕ) → encode_utf8_all cs ++ r ≡ encode_utf8_all ds ++ t
     → (length (encode_utf8_all ds) ≤ length (encode_utf8_all cs)) ⊎ ((e : ℕ) × (es : List ℕ) × (ds ≡ cs ++ e ∷ es) × (r ≡ encode_utf8 e ++ (encode_utf8_all es ++ t)))
 goes_on [] [] r t e = inl (omega arith)
 goes_on [] (d ∷ ds) r t e = inr (d, ds, refl, e ∙ append_assoc (encode_utf8 d) (encode_utf8_all ds) t)
@@ -51,7 +51,7 @@ goes_on (c ∷ cs) (d ∷ ds) r t e =
     ]
 
 -- no front goes on behind a text with a scalar that may not follow it
-stops_here : (p : Regex) (cs es : List ℕ) (e : ℕ) → after e (after_all cs p) ≡ nothing → Matches p (cs ++ e ∷ es) → {A : Type 0} → A
+pub stops_here : (p : Regex) (cs es : List ℕ) (e : ℕ) → after e (after_all cs p) ≡ nothing → Matches p (cs ++ e ∷ es) → {A : Type 0} → A
 stops_here p cs es e n h =
     let dead : after_all (cs ++ e ∷ es) p ≡ nothing = after_all_append cs (e ∷ es) p ∙ (ap (after_all es) n ∙ after_all_nothing es) in
     let wrong : false ≡ true = sym (ap may_be_empty dead) ∙ matches_into (cs ++ e ∷ es) p h in cc

@@ -17,7 +17,9 @@ use Rattle.wave_tree.specs.TreeReads.{SimpleTree, TreeReads, TreeReadsPayload, T
 use Rattle.wave_tree.specs.Placed.{Placed, MaybePlaced, no_placed, a_placed, at, one, list, none, some, ok, err, maybe_of, PlacedTrees, no_more, and_then, placed_list, tree_of, trees_of}
 use Rattle.wave_tree.specs.Faults.{LeafFault, IsForm, Fault, FaultOfPayload, FaultOfFlat}
 use Rattle.wave_tree.proofs.Enums.{enum_none}
+use Rattle.wave_tree.proofs.TextLeaves.{string_none}
 use Rattle.wave_tree.proofs.Options.{some_none, flat_none}
+use Rattle.wave_tree.proofs.Maps.{map_none}
 use Rattle.wave_tree.proofs.Results.{ok_none, err_none}
 use Rattle.wave_tree.proofs.Enums.{none_one}
 use Rattle.wave_tree.proofs.FlagTypes.{flags_none}
@@ -29,7 +31,7 @@ use Rattle.wave_tree.specs.TreeReads.{TreeReadsCase}
 use Rattle.wave_tree.specs.Placed.{label}
 use Rattle.wave_tree.specs.Faults.{FaultOfCase}
 use Rattle.wave_tree.specs.Typed.{AreServedCases}
-use Rattle.wave_tree.specs.Typed.{IsRead, IsBlamed, IsRefused, IsServed, IsServedPayload, ReadsNone, AreServed}
+use Rattle.wave_tree.specs.Typed.{IsRead, IsBlamed, IsRefused, IsServed, IsKeyServed, IsServedPayload, ReadsNone, AreServed}
 use Rattle.wave_wasm.specs.Types.{Types}
 use Rattle.wave_tree.specs.TreeReads.{TreeReadsAll}
 use Rattle.wave_tree.specs.Placed.{tuple}
@@ -58,7 +60,7 @@ leaf_none S p t k q l served (inl h) spelled = h.0 (form_of S t l spelled)
 leaf_none type.bool p t k q l served (inr h) spelled = h.1
 leaf_none (type.whole which) p t k q l served (inr h) spelled = h.1.0 l spelled
 leaf_none type.char p t k q l served (inr h) spelled = h.1.0 l spelled
-leaf_none type.string p t k q l served (inr h) spelled = served
+leaf_none type.string p t k q l served (inr h) spelled = string_none p t k q l h.1 spelled
 
 simple_none : (S : Simple) (t : Placed) (k : Refusal) (q : Range ℕ) (v : Value) → IsServed (type.simple S) → Fault (type.simple S) t k q → SimpleTree S (tree_of t) v → ⊥
 simple_none S (at p (one token)) k q v served fault (other, l, e, spelled, f) =
@@ -73,6 +75,12 @@ list_none E no_more k q us vs apart h e each = h
 list_none E (and_then t more) k q [] vs apart h e each = cc
 list_none E (and_then t more) k q (u ∷ us) vs apart (inl fault) e (v, ws, read, others, f) = apart t fault v (subst (λ (w : Tree). TreeReads E w v) (sym (first_tree (tree_of t) u (trees_of more) (trees us) e)) read)
 list_none E (and_then t more) k q (u ∷ us) vs apart (inr h) e (v, ws, read, others, f) = list_none E more k q us ws apart h (cc) others
+
+key_is_served : (K : Simple) → IsKeyServed (type.simple K) → IsServed (type.simple K)
+key_is_served type.bool h = tt
+key_is_served (type.whole which) h = tt
+key_is_served type.char h = tt
+key_is_served type.string h = tt
 
 mutual
   -- a tree with a fault at a type is given no value by it
@@ -95,6 +103,7 @@ mutual
   no_value (type.variant cs) (at p _) k q served names fault = λ v read. absurd (cc)
   no_value (type.flags labels) t k q served names fault = λ v read. flags_none labels t k q v fault read
   no_value (type.enum cases) t k q served names fault = λ v read. enum_none cases t k q v fault read
+  no_value (type.map K V) t k q served names fault = λ v read. map_none K V k q (λ p token l f s. leaf_none K p token k q l (key_is_served K served.0) f s) (λ u h. no_value V u k q served.1 names h) t v fault read
   no_value _ t k q served names fault = absurd served
 
   -- so is the payload of the case of this name

@@ -22,7 +22,7 @@ items-within n close P within tokens (t ∷ more) rest (front, behind, e, p, h) 
     let one = within front t behind p in let all = items-within n close P within behind more rest h in omega arith
 
 -- items
-all-within : (n : ℕ) (close : Token) (P : Spelling Tree) → Within n P → (tokens : List Token) (items : List Tree) (rest : List Token) → Items close P tokens items rest → levels_of_trees (trees items) ≤ n
+pub all-within : (n : ℕ) (close : Token) (P : Spelling Tree) → Within n P → (tokens : List Token) (items : List Tree) (rest : List Token) → Items close P tokens items rest → levels_of_trees (trees items) ≤ n
 all-within n close P within tokens [] rest h = omega arith
 all-within n close P within tokens (t ∷ more) rest (behind, p, h) =
     let one = within tokens t behind p in let all = items-within n close P within behind more rest h in omega arith
@@ -136,7 +136,7 @@ tree-fits m P Q fits (multiline text ∷ behind) t rest l h = h
 tree-fits m P Q fits (token ∷ behind) t rest l h = absurd h
 
 -- each tree has a level
-some-level : (t : Tree) → 0 < levels t
+pub some-level : (t : Tree) → 0 < levels t
 some-level (tree.one token) = omega arith
 some-level (tree.tuple ts) = omega arith
 some-level (tree.list ts) = omega arith

@@ -1,5 +1,5 @@
 -- The flags of a map, in the order of their names.
-use Rattle.std.proofs.Common.{◌≡◌, ◌≢◌, ℕ, List, [], ◌∷◌, ◌++◌, Bool, true, false, refl, sym, ap, subst, ◌∙◌, Bor, map, cond, arith}
+use Rattle.std.proofs.Common.{◌≡◌, ◌≢◌, ℕ, List, [], ◌∷◌, ◌++◌, Bool, true, false, refl, sym, ap, ◌∙◌, Bor, map, cond, arith}
 use Rattle.std.specs.Prelude.{bytes_eq, ◌||◌, if◌then◌else◌, nat_lt, ◌==◌}
 use Rattle.std.specs.Cmp.Lexicographic.{slice_cmp, nat_list_cmp_total}
 use Rattle.std.specs.Ordering.{nat_cmp, is_lt, is_eq, match_ordering, ordering_then, ordering_reverse}
@@ -8,7 +8,6 @@ use Rattle.std.specs.declared.cmp.Ordering.TheVariants.{Less, Equal, Greater}
 use Rattle.std.specs.BTreeMap.{insert_entry}
 use Rattle.std.proofs.lemmas.Slice.Eq.{bytes_eq-Decides}
 use Rattle.std.proofs.lemmas.Map.Text.{is_eq-slice_cmp}
-use Rattle.std.proofs.lemmas.Bool.{false_from_ne_true}
 use Rattle.std.proofs.lemmas.Bool.Decides.{nat_tests, not_from_Decides}
 use Rattle.wave_wasm.specs.Names.{is_one_of, IsNoneOf, AreDistinct}
 use Rattle.wave_tree.specs.Tree.{is_before}
@@ -46,7 +45,8 @@ asym_at o Less e h = ap is_lt e
 asym_at o Equal e h = cc
 asym_at o Greater e h = cc
 
-asym : (a b : List ℕ) → is_before a b ≡ true → is_before b a ≡ false
+-- of two names only one is before the other
+pub asym : (a b : List ℕ) → is_before a b ≡ true → is_before b a ≡ false
 asym a b h = before_is b a ∙ asym_at (slice_cmp nat_cmp b a) (slice_cmp nat_cmp a b) (nat_list_cmp_total.antisymm b a) (sym (before_is a b) ∙ h)
 
 equal_names : (a b : List ℕ) → slice_cmp nat_cmp a b ≡ Equal → a ≡ b
@@ -61,7 +61,8 @@ total_at o Greater e h k = ap is_lt e
 pub total : (a b : List ℕ) → a ≢ b → is_before a b ≡ false → is_before b a ≡ true
 total a b n h = before_is b a ∙ total_at (slice_cmp nat_cmp b a) (slice_cmp nat_cmp a b) (nat_list_cmp_total.antisymm b a) (sym (before_is a b) ∙ h) (λ e. n (equal_names a b e))
 
-trans : (a b c : List ℕ) → is_before a b ≡ true → is_before b c ≡ true → is_before a c ≡ true
+-- what is before a name is before the names behind it
+pub trans : (a b c : List ℕ) → is_before a b ≡ true → is_before b c ≡ true → is_before a c ≡ true
 trans a b c h k = before_is a c ∙ ap is_lt (nat_list_cmp_total.trans a b c (less_is _ (sym (before_is a b) ∙ h)) (less_is _ (sym (before_is b c) ∙ k)))
 
 -- ---- flags are put in order one after another

@@ -33,6 +33,7 @@ pub record IsUnread (k : WasmTypeKind) : Type 0 where
   pub u32 : k ≢ kind.U32
   pub u64 : k ≢ kind.U64
   pub char : k ≢ kind.Char
+  pub string : k ≢ kind.String
   pub list : k ≢ kind.List
   pub tuple : k ≢ kind.Tuple
   pub option : k ≢ kind.Option
@@ -40,6 +41,7 @@ pub record IsUnread (k : WasmTypeKind) : Type 0 where
   pub variant : k ≢ kind.Variant
   pub enum : k ≢ kind.Enum
   pub flags : k ≢ kind.Flags
+  pub map : k ≢ kind.Map
 
 -- a type without values is refused with the word of its kind
 unread_fault : (T : TypeTree) (t : Placed) (k : WasmTypeKind) (r : Refusal) (q : Range ℕ) → IsServed T → k ≡ kind_of T → IsUnread k → RefusesFor (unsupported_type (kind_word k)) (span_of t) r q → Fault T t r q
@@ -53,6 +55,7 @@ unread_fault (type.simple (type.whole type.u16)) t k r q served e unread refused
 unread_fault (type.simple (type.whole type.u32)) t k r q served e unread refused = absurd (unread.u32 e)
 unread_fault (type.simple (type.whole type.u64)) t k r q served e unread refused = absurd (unread.u64 e)
 unread_fault (type.simple type.char) t k r q served e unread refused = absurd (unread.char e)
+unread_fault (type.simple type.string) t k r q served e unread refused = absurd (unread.string e)
 unread_fault (type.unreadable u) t k r q served e unread refused = subst (λ (w : WasmTypeKind). RefusesFor (unsupported_type (kind_word w)) (span_of t) r q) e refused
 unread_fault (type.fixed E n) t k r q served e unread refused = subst (λ (w : WasmTypeKind). RefusesFor (unsupported_type (kind_word w)) (span_of t) r q) e refused
 unread_fault (type.list E) t k r q served e unread refused = absurd (unread.list e)
@@ -62,6 +65,7 @@ unread_fault (type.result A B) t k r q served e unread refused = absurd (unread.
 unread_fault (type.variant cases) t k r q served e unread refused = absurd (unread.variant e)
 unread_fault (type.enum names) t k r q served e unread refused = absurd (unread.enum e)
 unread_fault (type.flags names) t k r q served e unread refused = absurd (unread.flags e)
+unread_fault (type.map K V) t k r q served e unread refused = absurd (unread.map e)
 unread_fault _ t k r q served e unread refused = absurd served
 
 -- so a refusal for want of values is a fault

@@ -1,10 +1,11 @@
 -- What a node answers about itself.
-use Rattle.std.specs.Prelude.{ℕ, ℤ, ◌≡◌, ◌≢◌, ◌⊎◌, ◌++◌, Bool, true, false, List, [], ◌∷◌, Option, Some, None, option_map, Result, Ok, Err, encode_utf8}
+use Rattle.std.specs.Prelude.{ℕ, ℤ, ◌≡◌, ◌≢◌, ◌⊎◌, ◌+◌, ◌++◌, Bool, true, false, List, [], ◌∷◌, Option, Some, None, option_map, Result, Ok, Err, encode_utf8}
 use Rattle.std.specs.Char.{IsScalar}
 use Rattle.std.specs.Borrow.{Bor}
 use Rattle.wave_tree.specs.Spells.{name_of}
 use Rattle.wave_wasm.specs.Names.{IsOneOf, IsNoneOf}
 use Rattle.wave_wasm.specs.Types.{Whole}
+use Rattle.wave_wasm.specs.Text.{bool_text}
 use Rattle.wave_lex.specs.Errors.{refusal_of}
 use Rattle.wave_lex.specs.declared.error.ParserError.{ParserError}
 use Rattle.wave_lex.specs.declared.error.ParserErrorKind.{ParserErrorKind}
@@ -12,6 +13,9 @@ use Rattle.wave_lex.specs.declared.error.ParserErrorKind.TheVariants.{InvalidTyp
 use Rattle.wave_lex.specs.Tokens.{backslash, single_quote, double_quote}
 use Rattle.wave_lex.specs.Lexing.{three_quotes}
 use Rattle.wave_lex.specs.Strings.{IsEscape, CharMeans}
+use Rattle.wave_lex.specs.Left.{one_line}
+use Rattle.wave_lex.specs.Parts.{left_of, OpensTo, OpeningRefused}
+use Rattle.wave_lex.specs.declared.strings.StringPartsIter.{StringPartsIter}
 use Rattle.wave_tree.specs.NumberText.{IsNumberOf}
 use Rattle.wave_tree.specs.Placed.{slice}
 use Rattle.wave_tree.specs.NodeTree.{NodeTree, type_of, place_of, children_of}
@@ -80,6 +84,25 @@ GivesVariant source n (Ok (name, payload)) =
     ⊎ ((c : NodeTree) × (t : NodeTree) × (type_of n ≡ kind.VariantWithPayload) × (children_of n ≡ c ∷ t ∷ []) × (name.now ≡ name_of (text_at source c)) × (shown_node payload ≡ Some t))
 GivesVariant source n (Err e) = (type_of n ≢ kind.Label) × (type_of n ≢ kind.VariantWithPayload) × RefusedAs InvalidType n e
 
+-- the bool of a key, whose label is its word; or `InvalidType` where it is none
+abbrev pub GivesBoolKey : List ℕ → NodeTree → Result Bool ParserError → Type 0
+GivesBoolKey source n (Ok b) = (type_of n ≡ kind.Label) × (text_at source n ≡ bool_text b)
+GivesBoolKey source n (Err e) = ((b : Bool) → type_of n ≡ kind.Label → text_at source n ≢ bool_text b) × RefusedAs InvalidType n e
+
+-- the nodes two by two
+abbrev pub node_pairs : List NodeTree → List (NodeTree × NodeTree)
+node_pairs (key ∷ value ∷ more) = (key, value) ∷ node_pairs more
+node_pairs _ = []
+
+-- the nodes behind two references
+abbrev pub shown_nodes : Bor NodeTree × Bor NodeTree → NodeTree × NodeTree
+shown_nodes e = (e.0.now, e.1.now)
+
+-- the keys and the values of a node of entries, of `{:}` or of `{}`; or `InvalidType` at another node
+abbrev pub GivesEntries : NodeTree → Result (List (NodeTree × NodeTree)) ParserError → Type 0
+GivesEntries n (Ok entries) = ((type_of n ≡ kind.TupleSet) ⊎ (type_of n ≡ kind.EmptySet)) × (entries ≡ node_pairs (children_of n))
+GivesEntries n (Err e) = (type_of n ≢ kind.TupleSet) × (type_of n ≢ kind.EmptySet) × RefusedAs InvalidType n e
+
 module _ {N : Type 0} (which : Whole) (number : N → ℤ) where
   -- the number of a node; or `InvalidValue` where it is none of this type, and `InvalidType` where the node is no number
   abbrev pub GivesNumber : List ℕ → NodeTree → Result N ParserError → Type 0
@@ -114,6 +137,16 @@ GivesChar source n (Ok c) = (type_of n ≡ kind.Char) × CharMeans (text_at sour
 GivesChar source n (Err e) =
     (type_of n ≢ kind.Char) × RefusedAs InvalidType n e
     ⊎ (type_of n ≡ kind.Char) × ((c : ℕ) → CharMeans (text_at source n) c → ⊥) × RefusedAs InvalidEscape n e
+
+-- the parts of a string in front of the first of them; or of a multiline string, which may refuse its opening; or `InvalidType` at another node
+abbrev pub GivesParts : List ℕ → NodeTree → Result StringPartsIter ParserError → Type 0
+GivesParts source n (Ok parts) =
+    (inside : List ℕ) × IsInside source n inside
+    × ((type_of n ≡ kind.String) × (left_of parts ≡ one_line (record { rest = inside; pos = (place_of n).start + 1 }))
+    ⊎ (type_of n ≡ kind.MultilineString) × OpensTo inside ((place_of n).start + 3) (left_of parts))
+GivesParts source n (Err e) =
+    (type_of n ≢ kind.String) × (type_of n ≢ kind.MultilineString) × RefusedAs InvalidType n e
+    ⊎ (type_of n ≡ kind.MultilineString) × (inside : List ℕ) × IsInside source n inside × OpeningRefused inside ((place_of n).start + 3) e
 
 -- the test of whether a name is one of the names
 abbrev pub Among : List (List ℕ) → List ℕ → Bool → Type 0

@@ -22,8 +22,10 @@ pub mod Placed
 pub mod Nodes
 pub mod Faults
 pub mod Answers
+pub mod CowText
 pub mod Typed
 pub mod Flags
+pub mod Records
 pub mod ShownNodes
 pub mod FromText
 pub mod Untyped
@@ -33,3 +35,4 @@ pub mod CanonLaws
 pub mod TreeLaws
 pub mod BeginLaws
 pub mod AnswerLaws
+pub mod ShownLaws

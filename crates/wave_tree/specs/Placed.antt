@@ -1,5 +1,5 @@
 -- A tree whose parts know where they stand in the source.
-use Rattle.std.specs.Prelude.{ℕ, ◌≤◌, ◌≡◌, List, [], ◌∷◌, map, slice_range}
+use Rattle.std.specs.Prelude.{ℕ, ◌≤◌, List, [], ◌∷◌, map, slice_range}
 use Rattle.std.specs.declared.ops.Range.{Range}
 use Rattle.wave_lex.specs.Lexing.{Stands, IsGap, Front}
 use Rattle.wave_tree.specs.Token.{Token, lexeme_of}

@@ -1,5 +1,5 @@
 -- The syntax refusals of a parser: which stands where, and at which span.
-use Rattle.std.specs.Prelude.{ℕ, ◌≡◌, ◌≢◌, ◌⊎◌, ◌≤◌, ◌<◌, ◌+◌, List, [], ◌∷◌, ◌++◌, Option, Some, None, Result, Ok, Err, length}
+use Rattle.std.specs.Prelude.{ℕ, ◌≡◌, ◌≢◌, ◌⊎◌, ◌≤◌, ◌<◌, ◌+◌, List, ◌++◌, Option, Some, None, Result, Ok, Err, length}
 use Rattle.std.specs.declared.ops.Range.{Range}
 use Rattle.wave_lex.specs.declared.lex.Token as lex
 use Rattle.wave_lex.specs.declared.error.ParserError.{ParserError}
@@ -10,7 +10,7 @@ use Rattle.wave_lex.specs.Lexing.{span}
 use Rattle.wave_tree.specs.Token.{Token, paren_open}
 use Rattle.wave_tree.specs.Spells.{name_of}
 use Rattle.wave_tree.specs.Place.{Place, Takes, TakesToken, TakesTokens, token_of, span_at, text_at}
-use Rattle.wave_tree.specs.Due.{Due, Form, value, behind_value, behind_label, Step, unexpected, empty_tuple, repeated_flag, too_deep, step, Leads, IsValueDue}
+use Rattle.wave_tree.specs.Due.{Due, Form, behind_value, behind_label, Step, unexpected, empty_tuple, repeated_flag, too_deep, step, Leads, IsValueDue}
 
 -- the error is of this kind, at this span, with this detail and without a cause
 pub record Says (e : ParserError) (kind : ParserErrorKind) (at : Range ℕ) (detail : Option (List ℕ)) : Type 0 where

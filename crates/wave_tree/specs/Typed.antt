@@ -1,22 +1,26 @@
 -- What reading a node at a type answers.
-use Rattle.std.specs.Prelude.{ℕ, ◌≡◌, ◌⊎◌, List, [], Option, Some, None, option_map, Result, Ok, Err, MatchResult}
+use Rattle.std.specs.Prelude.{ℕ, ◌≡◌, ◌⊎◌, List, [], Option, Some, None, option_map, Result, Ok, Err, IfOk, IfErr, MatchResult}
 use Rattle.wave_wasm.specs.Lists.{AllOf}
 use Rattle.wave_wasm.specs.Names.{AreDistinct}
+use Rattle.std.specs.declared.ops.Range.{Range}
 use Rattle.wave_wasm.specs.Types as type
-use Rattle.wave_wasm.specs.Types.{TypeTree, MaybeType, Cases, type_option, maybe_type, HasDistinctNames, EachNamesOfMaybe, Types}
-use Rattle.wave_wasm.specs.Values.{Value, maybe_value}
+use Rattle.wave_wasm.specs.Types.{TypeTree, Simple, MaybeType, Cases, type_option, maybe_type, HasDistinctNames, EachNamesOfMaybe, Types}
+use Rattle.wave_wasm.specs.Values as value
+use Rattle.wave_wasm.specs.Values.{Value, Leaf, maybe_value}
 use Rattle.wave_wasm.specs.Causes.{Cause, cause_of}
-use Rattle.wave_wasm.specs.Makers.{PayloadIsOf, payload_and}
+use Rattle.wave_wasm.specs.Makers.{PayloadIsOf, payload_and, MakesLeaf, FullLeaf}
 use Rattle.wave_wasm.specs.declared.wasm.WasmValueError as causes
 use Rattle.wave_lex.specs.Errors.{refusal_of, refused_by}
 use Rattle.wave_lex.specs.declared.error.ParserError.{ParserError}
 use Rattle.wave_lex.specs.declared.error.ParserErrorKind.TheVariants.{OutOfMemory, WasmValueError}
 use Rattle.wave_tree.specs.Placed.{Placed, MaybePlaced, no_placed, a_placed, tree_of, maybe_of}
 use Rattle.wave_tree.specs.NodeTree.{NodeTree, place_of}
-use Rattle.wave_tree.specs.Nodes.{IsNodeOf}
+use Rattle.wave_tree.specs.Nodes.{IsNodeOf, IsTokenOf}
 use Rattle.wave_tree.specs.Reads.{IsFlat}
+use Rattle.wave_tree.specs.Token.{Token}
+use Rattle.wave_tree.specs.Spells.{Spells}
 use Rattle.wave_tree.specs.TreeReads.{TreeReads, TreeReadsPayload}
-use Rattle.wave_tree.specs.Faults.{Fault, FaultOfPayload, RefusesFor}
+use Rattle.wave_tree.specs.Faults.{Fault, FaultOfPayload, MapKeyFault, RefusesFor}
 
 -- the type gives the tree the value, which is of the type; V is a stranger's value, `tree` says what it means, `of` when it is of a type
 pub record IsRead {V : Type 0} (tree : V → Value) (of : V → TypeTree → Type 0) (T : TypeTree) (t : Placed) (v : V) : Type 0 where
@@ -41,6 +45,22 @@ IsRefused Full T t e =
 abbrev pub IsValueOf : List ℕ → NodeTree → Type 0
 IsValueOf source n = (t : Placed) × IsNodeOf source n t
 
+-- the node is that of a key
+abbrev pub IsKeyOf : List ℕ → NodeTree → Type 0
+IsKeyOf source n = (p : Range ℕ) × (key : Token) × IsTokenOf source n p key
+
+-- the key spells the value, which is of the simple type
+pub record IsKeyRead {V : Type 0} (tree : V → Value) (of : V → TypeTree → Type 0) (K : Simple) (key : Token) (v : V) : Type 0 where
+  pub leaf : Leaf
+  pub spells : Spells K key leaf
+  pub means : tree v ≡ value.leaf leaf
+  pub is_of : of v (type.simple K)
+
+-- want of memory; or a fault of the key, which stands there; or, where makers do not serve all values of the type, the refusal of one
+abbrev pub IsKeyBlamed : (TypeTree → Type 0) → Simple → Range ℕ → Token → ParserError → Type 0
+IsKeyBlamed Full K p key e =
+    (e.kind ≡ OutOfMemory) ⊎ MapKeyFault K p key (refusal_of e) e.span ⊎ (e.kind ≡ WasmValueError) × (Full (type.simple K) → ⊥)
+
 -- a refusal with this cause at the node, or for want of memory
 abbrev pub IsCaused : Cause → NodeTree → ParserError → Type 0
 IsCaused cause n e = (e.kind ≡ OutOfMemory) ⊎ RefusesFor cause (place_of n) (refusal_of e) e.span
@@ -52,13 +72,29 @@ IsMade n (Err cause) (Err e) = (refusal_of e ≡ refused_by (cause_of cause)) ×
 IsMade n _ _ = ⊥
 
 module _ {V : Type 0} (tree : V → Value) (of : V → TypeTree → Type 0) (Full : TypeTree → Type 0) where
+  -- what a maker answered for the leaf: the value, or a refusal at the node
+  abbrev pub IsLeafMade : Leaf → NodeTree → Result V ParserError → Type 0
+  IsLeafMade one n r = (made : Result V causes.WasmValueError) × IfOk made (MakesLeaf tree of one) × IfErr made (FullLeaf Full one) × IsMade n made r
+
   -- the value of the node's tree at the type, or a refusal of it
   abbrev pub Answers : TypeTree → List ℕ → NodeTree → Result V ParserError → Type 0
   Answers T source n r = (t : Placed) → IsNodeOf source n t → HasDistinctNames T → MatchResult r (IsRead tree of T t) (IsBlamed Full T t)
 
+  -- the value of the node's key at the simple type, or a refusal of it
+  abbrev pub AnswersKey : TypeTree → List ℕ → NodeTree → Result V ParserError → Type 0
+  AnswersKey T source n r = (K : Simple) (p : Range ℕ) (key : Token) → T ≡ type.simple K → IsTokenOf source n p key → MatchResult r (IsKeyRead tree of K key) (IsKeyBlamed Full K p key)
+
   -- so, and a fault stands only where the type gives the tree no value
   abbrev pub Reads : TypeTree → List ℕ → NodeTree → Result V ParserError → Type 0
   Reads T source n r = (t : Placed) → IsNodeOf source n t → HasDistinctNames T → MatchResult r (IsRead tree of T t) (IsRefused Full T t)
+
+-- the types of keys that are read so far
+abbrev pub IsKeyServed : TypeTree → Type 0
+IsKeyServed (type.simple type.bool) = Unit {0}
+IsKeyServed (type.simple (type.whole which)) = Unit {0}
+IsKeyServed (type.simple type.char) = Unit {0}
+IsKeyServed (type.simple type.string) = Unit {0}
+IsKeyServed _ = ⊥
 
 -- the types that are read so far
 abbrev mutual
@@ -66,6 +102,7 @@ abbrev mutual
   IsServed (type.simple type.bool) = Unit {0}
   IsServed (type.simple (type.whole which)) = Unit {0}
   IsServed (type.simple type.char) = Unit {0}
+  IsServed (type.simple type.string) = Unit {0}
   IsServed (type.unreadable kind) = Unit {0}
   IsServed (type.fixed E n) = Unit {0}
   IsServed (type.list E) = IsServed E
@@ -75,6 +112,7 @@ abbrev mutual
   IsServed (type.variant cases) = AreServedCases cases
   IsServed (type.enum names) = Unit {0}
   IsServed (type.flags names) = Unit {0}
+  IsServed (type.map K V) = IsKeyServed (type.simple K) × IsServed V
   IsServed _ = ⊥
 
   -- each type of a tuple is read

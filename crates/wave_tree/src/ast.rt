@@ -5,16 +5,20 @@ ghost use Rattle.wave_lex.specs.Lexing.{Stands};
 ghost use Rattle.wave_lex.specs.Errors.{refusal_of, refused_by};
 ghost use Rattle.wave_tree.specs.NodeTree.{node, node_trees, type_of, place_of, children_of};
 ghost use Rattle.wave_tree.specs.Nodes.{IsParsedFrom};
-ghost use Rattle.wave_tree.specs.Answers.{text_at, quotes_of, IsInside, RefusedAs, OfType, GivesBool, GivesNumber, GivesChar, GivesNodes, GivesOption, GivesResult, GivesLabel, GivesVariant};
+ghost use Rattle.wave_tree.specs.CowText.{GivesString};
+ghost use Rattle.wave_tree.specs.Answers.{text_at, quotes_of, IsInside, RefusedAs, OfType, GivesBool, GivesNumber, GivesChar, GivesParts, GivesNodes, GivesOption, GivesResult, GivesLabel, GivesVariant, GivesEntries, GivesBoolKey, node_pairs};
 
 pub use crate::flags::FlagLabels;
 use crate::number::WholeNumber;
-use crate::text::char_in;
+pub use crate::record::RecordFields;
+use crate::text::{char_in, joined};
 use crate::word::label_name;
 use std::alloc::{AllocError, Global};
+use std::iter::ExactSizeIterator;
 use std::marker::Model;
 use wave_lex::error::{ParserError, ParserErrorKind};
 use wave_lex::lex::Span;
+use wave_lex::strings::StringPartsIter;
 use wave_wasm::wasm::WasmValueError;
 
 /// What a node spells.
@@ -64,6 +68,15 @@ impl Model for Node {
     ghost use Rattle.wave_tree.specs.NodeFalls.{most_le-nodes_depth};
 
     ghost size_decreases = { λ a h. omega (arith, most_le-nodes_depth a.children.items) };
+}
+
+/// A text that is a part of another, or one of its own.
+#[derive(Debug, Drop)]
+pub enum CowStr<'a> {
+    /// A part of another text.
+    Borrowed(&'a str),
+    /// A text of its own.
+    Owned(String),
 }
 
 impl Node {
@@ -146,6 +159,38 @@ impl Node {
         }
     }
 
+    /// The parts of the text, at a string and at a multiline string; else `InvalidType`. What
+    /// `StringPartsIter::new_multiline` refuses of a multiline string is refused here, as
+    /// `InvalidMultilineString`; any other fault comes as an item. The node was parsed from `src`.
+    pub fn iter_str<'src>(&self, src: &'src str) -> Result<StringPartsIter<'src>, ParserError>
+        requires { IsParsedFrom src.now self.now }
+        ensures { GivesParts src.now self.now result }
+    {
+        match self.ty {
+            NodeType::String => {
+                let inside = self.inside(src, 1);
+                Ok(StringPartsIter::new(inside, self.span.start + 1))
+            }
+            NodeType::MultilineString => {
+                let inside = self.inside(src, 3);
+                StringPartsIter::new_multiline(inside, self.span.start + 3)
+            }
+            _ => Err(self.error(ParserErrorKind::InvalidType)),
+        }
+    }
+
+    /// The text, at a string and at a multiline string; else `InvalidType`. It is borrowed where
+    /// it is empty or one run of the source; else it is a copy. A bad escape is `InvalidEscape` at
+    /// its backslash; a multiline string that opens, closes or indents badly is `InvalidMultilineString`. Want of memory is refused
+    /// at the node. The node was parsed from `src`.
+    pub fn as_str<'src>(&self, alloc: Global, src: &'src str) -> Result<CowStr<'src>, ParserError>
+        requires { IsParsedFrom src.now self.now }
+        ensures { GivesString src.now self.now result }
+    {
+        let parts = self.iter_str(src)?;
+        joined(alloc, parts, &self.span)
+    }
+
     /// The items, at a tuple node; else `InvalidType`.
     pub fn as_tuple(&self) -> Result<&[Node], ParserError>
         ensures { GivesNodes NodeType.Tuple self.now result }
@@ -160,6 +205,16 @@ impl Node {
     {
         self.ensure_type(NodeType::List)?;
         Ok(self.nodes())
+    }
+
+    /// The keys and the values, at a node of entries, of `{:}` and of `{}`; else `InvalidType`.
+    pub fn as_map(&self) -> Result<MapEntries<'_>, ParserError>
+        ensures { GivesEntries self.now result }
+    {
+        match self.ty {
+            NodeType::TupleSet | NodeType::EmptySet => Ok(MapEntries::new(self.nodes())),
+            _ => Err(self.error(ParserErrorKind::InvalidType)),
+        }
     }
 
     /// The name of the case, without its `%`, and its payload, at a label and at a case with a
@@ -212,6 +267,19 @@ impl Node {
         }
     }
 
+    /// The bool, at a key whose label is `true` or `false`; else `InvalidType`.
+    pub(crate) fn as_bool_key(&self, src: &str) -> Result<bool, ParserError>
+        requires { IsParsedFrom src.now self.now }
+        ensures { GivesBoolKey src.now self.now result }
+    {
+        self.ensure_type(NodeType::Label)?;
+        match self.slice(src) {
+            "true" => Ok(true),
+            "false" => Ok(false),
+            _ => Err(self.error(ParserErrorKind::InvalidType)),
+        }
+    }
+
     /// The nodes within the node.
     pub(crate) fn nodes(&self) -> &[Node]
         ensures { result.now ≡ children_of self.now }
@@ -239,7 +307,7 @@ impl Node {
     }
 
     /// Refuses a node of another type.
-    fn ensure_type(&self, ty: NodeType) -> Result<(), ParserError>
+    pub(crate) fn ensure_type(&self, ty: NodeType) -> Result<(), ParserError>
         ensures { OfType ty self.now result }
     {
         if self.is_of(ty) {
@@ -269,6 +337,66 @@ impl Node {
         ensures span { result.span ≡ place_of self.now }
     {
         ParserError::with_cause(self.span(), cause)
+    }
+}
+
+/// The keys and the values of a map, in the order of the source.
+#[derive(Drop)]
+pub struct MapEntries<'this> {
+    nodes: &'this [Node],
+}
+
+impl<'this> Model for MapEntries<'this> {
+    ghost use Rattle.std.specs.Prelude.{List};
+    ghost use Rattle.std.specs.Coded.{codes};
+    ghost use Rattle.wave_tree.specs.NodeTree.{NodeTree};
+    ghost use Rattle.wave_tree.specs.NodeTreeCode.{node_code};
+    ghost use Rattle.wave_tree.specs.Answers.{node_pairs};
+
+    ghost Value = { List (NodeTree × NodeTree) };
+
+    ghost coded = { Prim.hlevel (codes, node_code) };
+
+    ghost view = { λ e. node_pairs e.nodes.now };
+}
+
+impl<'this> MapEntries<'this> {
+    /// The nodes two by two.
+    fn new(nodes: &'this [Node]) -> MapEntries<'this>
+        ensures { result ≡ node_pairs nodes.now }
+    {
+        MapEntries { nodes }
+    }
+}
+
+impl<'this> Iterator for MapEntries<'this> {
+    ghost use Rattle.std.specs.Iterator.{YieldsFirstBy, item_count};
+    ghost use Rattle.wave_tree.specs.Answers.{shown_nodes};
+
+    type Item = (&'this Node, &'this Node);
+
+    ghost next_gives = { YieldsFirstBy shown_nodes (λ e. e) };
+
+    ghost remaining = { item_count (λ e. e) };
+
+    /// The next key and its value.
+    fn next(&mut self) -> Option<(&'this Node, &'this Node)> {
+        let (key, behind) = self.nodes.split_first()?;
+        let (value, rest) = behind.split_first()?;
+        self.nodes = rest;
+        Some((key, value))
+    }
+
+    fn size_hint(&self) -> (usize, Option<usize>) {
+        let count = self.len();
+        (count, Some(count))
+    }
+}
+
+impl<'this> ExactSizeIterator for MapEntries<'this> {
+    /// How many entries are left.
+    fn len(&self) -> usize {
+        self.nodes.len() / 2
     }
 }
 

@@ -2,7 +2,8 @@
 ghost use Rattle.wave_wasm.specs.Types.{TypeTree, HasDistinctNames};
 ghost use Rattle.wave_tree.specs.Laws.{OneReading};
 ghost use Rattle.wave_tree.specs.TreeLaws.{OneTree, HasItsLevels, ReadsByTree, TreeIsRead};
-ghost use Rattle.wave_tree.specs.AnswerLaws.{ReadHaveATree, RefusedHaveNone};
+ghost use Rattle.wave_tree.specs.ShownLaws.{ShownKeepsMeaning, ShownCallKeepsMeaning};
+ghost use Rattle.wave_tree.specs.AnswerLaws.{ReadHaveATree, RefusedHaveNone, AskingsAreFew};
 ghost use Rattle.wave_tree.specs.BeginLaws.{TreesAreLed, LedTokensHaveATree, FrontsAreLed, LedTokensBeginATree};
 ghost use Rattle.wave_tree.specs.BeginLaws.{RefusedTokensBeginNone, UnexpectedTokensBeginNone};
 ghost use Rattle.wave_tree.specs.BeginLaws.{EmptyTuplesAreEmpty, RepeatedFlagsAreRepeated, DeepValuesAreDeep};
@@ -74,4 +75,22 @@ pub fn read_values_have_a_tree()
 /// Where a parser has refused a value, memory apart, no tree stands.
 pub fn refused_values_have_none()
     ensures { RefusedHaveNone }
+{}
+
+/// The display of a parsed tree spells a tree of as many levels and of the same display, and means at
+/// every type what the text means that was parsed.
+pub fn shown_keeps_meaning()
+    ensures { ShownKeepsMeaning }
+{}
+
+/// The display of a parsed call is a call of the same name and of the same display, and its tokens are
+/// the same parameters at all types.
+pub fn shown_call_keeps_meaning()
+    ensures { ShownCallKeepsMeaning }
+{}
+
+/// A new parser in front of n tokens, which end or go on with what is no token, asks its lexer n + 1 times
+/// at most for `parse_value` and, where that has read a value, for `finish` behind it.
+pub fn askings_are_few()
+    ensures { AskingsAreFew }
 {}

@@ -7,6 +7,9 @@ mod flags;
 pub mod laws;
 pub mod number;
 pub mod parser;
+mod record;
+#[cfg(test)]
+mod tests;
 mod text;
 mod typed;
 pub mod untyped;

@@ -1,22 +1,28 @@
 //! Reading nodes at types.
-ghost use Rattle.std.specs.Prelude.{ℕ, List, [], ◌∷◌, ◌++◌, ◌≡◌, ◌≢◌, ◌⊎◌, ◌↔◌, option_map, IsTrue, OnOk, IfErr};
+ghost use Rattle.std.specs.Prelude.{ℕ, List, [], ◌∷◌, ◌++◌, ◌≡◌, ◌≢◌, ◌⊎◌, ◌↔◌, option_map, IsTrue, OnOk, IfOk, IfErr};
 ghost use Rattle.wave_wasm.specs.Types.{kind_of, maybe_type, whole_kind, Whole};
 ghost use Rattle.wave_wasm.specs.Types as type;
+ghost use Rattle.wave_wasm.specs.Values as value;
 ghost use Rattle.wave_wasm.specs.Shown.{texts, shown, shown_cases};
 ghost use Rattle.wave_wasm.specs.TypeText.{kind_word};
 ghost use Rattle.wave_wasm.specs.Causes.{unsupported_type, unknown_case, missing_payload, unexpected_payload, wrong_number};
 ghost use Rattle.wave_lex.specs.declared.error.ParserErrorKind.TheVariants.{OutOfMemory};
 ghost use Rattle.wave_tree.specs.Answers.{Among, shown_node};
-ghost use Rattle.wave_tree.specs.Typed.{IsValueOf, IsCaused, IsMade, IsServed, IsServedPayload, IsPayloadOf, GivesFlat, Answers, AnswersPayload, Reads};
+ghost use Rattle.wave_tree.specs.CowText.{cow_text};
+ghost use Rattle.wave_tree.specs.Typed.{IsLeafMade, IsValueOf, IsKeyOf, IsKeyServed, AnswersKey, IsCaused, IsMade, IsServed, IsServedPayload, IsPayloadOf, GivesFlat, Answers, AnswersPayload, Reads};
 ghost use Rattle.wave_lex.specs.Errors.{refusal_of};
 ghost use Rattle.wave_tree.specs.NodeTree.{place_of};
 ghost use Rattle.wave_tree.specs.Reads.{look_up};
 ghost use Rattle.wave_tree.specs.Faults.{RefusesFor};
+ghost use Rattle.std.specs.Str.{bytes_eq};
+ghost use Rattle.wave_wasm.specs.Merge.{merge};
+ghost use Rattle.wave_wasm.specs.Text.{text};
 
-use crate::ast::Node;
+use crate::ast::{CowStr, Node};
 use std::alloc::Global;
 use wave_lex::error::{ParserError, ParserErrorKind};
 use wave_wasm::wasm::{WasmType, WasmTypeKind, WasmValue, WasmValueError};
+use wave_wasm::writer::{WriterError, merge_map_entries, to_string};
 
 impl Node {
     /// The value that the type gives the node, which was parsed from `src` as a value. Where the
@@ -52,6 +58,7 @@ impl Node {
             WasmTypeKind::U32 => self.made(V::make_u32(alloc, self.as_number(src)?)),
             WasmTypeKind::U64 => self.made(V::make_u64(alloc, self.as_number(src)?)),
             WasmTypeKind::Char => self.read_char(alloc, ty, src),
+            WasmTypeKind::String => self.read_string(alloc, ty, src),
             WasmTypeKind::List => self.read_list(alloc, ty, src),
             WasmTypeKind::Tuple => self.read_tuple(alloc, ty, src),
             WasmTypeKind::Variant => self.read_variant(alloc, ty, src),
@@ -59,6 +66,7 @@ impl Node {
             WasmTypeKind::Flags => self.read_flags(alloc, ty, src),
             WasmTypeKind::Option => self.read_option(alloc, ty, src),
             WasmTypeKind::Result => self.read_result(alloc, ty, src),
+            WasmTypeKind::Map => self.read_map(alloc, ty, src),
             kind => Err(self.unsupported(alloc, kind)),
         }
     }
@@ -111,6 +119,73 @@ impl Node {
             self.keep(&mut items, item)?;
         }
         self.made(V::make_tuple(alloc, ty, items))
+    }
+
+    /// A map: every entry is read, then they are merged.
+    #[cycle(reading)]
+    fn read_map<V: WasmValue>(
+        &self,
+        alloc: Global,
+        ty: &V::Type,
+        src: &str,
+    ) -> Result<V, ParserError>
+        requires node { IsValueOf src.now self.now }
+        requires kind { kind_of (V.Type.tree ty.now) ≡ WasmTypeKind.Map }
+        ensures { IsServed (V.Type.tree ty.now) → Answers V.tree V.is_of V.is_full (V.Type.tree ty.now) src.now self.now result }
+    {
+        let (key_type, value_type) = ty.map_key_value_types().unwrap();
+        let mut nodes = self.as_map()?;
+        let mut entries = Vec::new(alloc);
+        'entries: while let Some((key, node)) = nodes.next() {
+            let key = key.read_key(alloc, key_type, src)?;
+            let val = node.read(alloc, value_type, src)?;
+            self.keep(&mut entries, (key, val))?;
+        }
+        match merged(alloc, entries) {
+            Ok(entries) => self.made(V::make_map(alloc, ty, entries)),
+            Err(_) => Err(self.out_of_memory()),
+        }
+    }
+
+    /// A key of a map.
+    fn read_key<V: WasmValue>(
+        &self,
+        alloc: Global,
+        ty: &V::Type,
+        src: &str,
+    ) -> Result<V, ParserError>
+        requires { IsKeyOf src.now self.now }
+        ensures { IsKeyServed (V.Type.tree ty.now) → AnswersKey V.tree V.is_of V.is_full (V.Type.tree ty.now) src.now self.now result }
+    {
+        match ty.kind() {
+            WasmTypeKind::Bool => self.made(V::make_bool(alloc, self.as_bool_key(src)?)),
+            WasmTypeKind::S8 => self.made(V::make_s8(alloc, self.as_number(src)?)),
+            WasmTypeKind::S16 => self.made(V::make_s16(alloc, self.as_number(src)?)),
+            WasmTypeKind::S32 => self.made(V::make_s32(alloc, self.as_number(src)?)),
+            WasmTypeKind::S64 => self.made(V::make_s64(alloc, self.as_number(src)?)),
+            WasmTypeKind::U8 => self.made(V::make_u8(alloc, self.as_number(src)?)),
+            WasmTypeKind::U16 => self.made(V::make_u16(alloc, self.as_number(src)?)),
+            WasmTypeKind::U32 => self.made(V::make_u32(alloc, self.as_number(src)?)),
+            WasmTypeKind::U64 => self.made(V::make_u64(alloc, self.as_number(src)?)),
+            WasmTypeKind::Char => self.made(V::make_char(alloc, self.as_char(src)?)),
+            WasmTypeKind::String => self.read_string_key(alloc, ty, src),
+            kind => Err(self.unsupported(alloc, kind)),
+        }
+    }
+
+    /// A key of a map that is a string.
+    fn read_string_key<V: WasmValue>(
+        &self,
+        alloc: Global,
+        ty: &V::Type,
+        src: &str,
+    ) -> Result<V, ParserError>
+        requires key { IsKeyOf src.now self.now }
+        requires kind { V.Type.tree ty.now ≡ type.simple type.string }
+        ensures { AnswersKey V.tree V.is_of V.is_full (V.Type.tree ty.now) src.now self.now result }
+    {
+        let text = self.as_str(alloc, src)?;
+        self.made_string(alloc, text)
     }
 
     /// An option: `none`, `some` of its payload, or a flat payload.
@@ -286,6 +361,21 @@ impl Node {
         self.made(V::make_flags(alloc, ty, picked.as_slice()))
     }
 
+    /// A string.
+    fn read_string<V: WasmValue>(
+        &self,
+        alloc: Global,
+        ty: &V::Type,
+        src: &str,
+    ) -> Result<V, ParserError>
+        requires node { IsValueOf src.now self.now }
+        requires kind { V.Type.tree ty.now ≡ type.simple type.string }
+        ensures { Answers V.tree V.is_of V.is_full (V.Type.tree ty.now) src.now self.now result }
+    {
+        let text = self.as_str(alloc, src)?;
+        self.made_string(alloc, text)
+    }
+
     /// A bool.
     fn read_bool<V: WasmValue>(&self, alloc: Global, ty: &V::Type) -> Result<V, ParserError>
         requires { V.Type.tree ty.now ≡ type.simple type.bool }
@@ -293,6 +383,16 @@ impl Node {
     {
         let val = self.as_bool()?;
         self.made(V::make_bool(alloc, val))
+    }
+
+    /// The string of this text, which is not copied before the maker is called.
+    fn made_string<V: WasmValue>(&self, alloc: Global, val: CowStr<'_>) -> Result<V, ParserError>
+        ensures { IsLeafMade V.tree V.is_of V.is_full (value.string (cow_text val.entry)) self.now result }
+    {
+        match val {
+            CowStr::Borrowed(text) => self.made(V::make_string(alloc, text)),
+            CowStr::Owned(text) => self.made(V::make_string(alloc, text.as_str())),
+        }
     }
 
     /// The value that was made, or its maker's refusal at the node.
@@ -369,6 +469,18 @@ impl Node {
             Err(error) => self.refused(WasmValueError::Memory(error)),
         }
     }
+}
+
+/// The entries with each key once, merged by the texts of their keys.
+fn merged<V: WasmValue>(alloc: Global, entries: Vec<(V, V)>) -> Result<Vec<(V, V)>, WriterError>
+    ensures { IfOk result (λ m. m.items ≡ merge (λ a b. bytes_eq (text (V.tree a)) (text (V.tree b))) entries.items) }
+{
+    let mut with_texts = Vec::new(alloc);
+    for (key, val) in entries {
+        let text = to_string(alloc, &key)?;
+        with_texts.push((text, key, val))?;
+    }
+    Ok(merge_map_entries(alloc, with_texts)?)
 }
 
 /// Whether an option or a result may be left out around a value of this kind.

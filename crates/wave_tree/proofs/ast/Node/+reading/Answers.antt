@@ -32,6 +32,9 @@ use Rattle.wave_wasm.specs.Causes.{wrong_number}
 use Rattle.wave_tree.specs.Faults.{RefusesFor}
 use Rattle.wave_tree.specs.NodeTree.{place_of}
 use Rattle.std.proofs.Common.{length, ◌≢◌}
+use Rattle.wave_tree.specs.Answers.{node_pairs}
+use Rattle.wave_tree.specs.NodeTree.{children_of}
+use Rattle.wave_tree.proofs.Maps.{map_is, map_deep, map_fault, none_read, next_read, key_ready, value_ready, key_refused, value_refused, map_answered, map_distinct, key_served, value_served}
 use Rattle.wave_tree.proofs.ast.Node.+reading.Goals as goal
 
 pub read-returns-in_err-as_number-in-S8 : goal.read-returns-in_err-as_number-in-S8
@@ -104,7 +107,7 @@ read-returns-in_ok-as_number-in-U64 g m c = λ served t is distinct.
 
 pub read-returns-in_default : goal.read-returns-in_default
 read-returns-in_default g m c = λ served t is distinct.
-    unread_blame g.V.WasmValue.is_full (g.V.Type.WasmType.tree c.args.ty.now) c.args.src.now c.args.self.now t c.kind.result c.unsupported.result is.0 served c.kind.ensures (record { bool = c.in_default.not-Bool; s8 = c.in_default.not-S8; s16 = c.in_default.not-S16; s32 = c.in_default.not-S32; s64 = c.in_default.not-S64; u8 = c.in_default.not-U8; u16 = c.in_default.not-U16; u32 = c.in_default.not-U32; u64 = c.in_default.not-U64; char = c.in_default.not-Char; list = c.in_default.not-List; tuple = c.in_default.not-Tuple; option = c.in_default.not-Option; result = c.in_default.not-Result; variant = c.in_default.not-Variant; enum = c.in_default.not-Enum; flags = c.in_default.not-Flags }) c.unsupported.ensures
+    unread_blame g.V.WasmValue.is_full (g.V.Type.WasmType.tree c.args.ty.now) c.args.src.now c.args.self.now t c.kind.result c.unsupported.result is.0 served c.kind.ensures (record { bool = c.in_default.not-Bool; s8 = c.in_default.not-S8; s16 = c.in_default.not-S16; s32 = c.in_default.not-S32; s64 = c.in_default.not-S64; u8 = c.in_default.not-U8; u16 = c.in_default.not-U16; u32 = c.in_default.not-U32; u64 = c.in_default.not-U64; char = c.in_default.not-Char; string = c.in_default.not-String; list = c.in_default.not-List; tuple = c.in_default.not-Tuple; option = c.in_default.not-Option; result = c.in_default.not-Result; variant = c.in_default.not-Variant; enum = c.in_default.not-Enum; flags = c.in_default.not-Flags; map = c.in_default.not-Map }) c.unsupported.ensures
 
 pub read_list-returns-in_err-nodes : goal.read_list-returns-in_err-nodes
 read_list-returns-in_err-nodes g m c = λ served t is distinct.
@@ -311,3 +314,42 @@ read_variant-returns g m c = λ served t is distinct.
     let variant : VariantType (g.V.Type.WasmType.tree c.args.ty.now) (shown_cases g.V.Type.WasmType.tree c.in-Ok.cases.items) = variant_is (g.V.Type.WasmType.tree c.args.ty.now) (shown_cases g.V.Type.WasmType.tree c.in-Ok.cases.items) kind c.in-Ok.ensures in
     let k = given_case c.args.src.now c.args.self.now t c.in_ok-name.name c.in_ok-name.node is c.in_ok-name.ensures in
     no_case_blame g.V.WasmValue.tree g.V.WasmValue.is_of g.V.WasmValue.is_full (g.V.Type.WasmType.tree c.args.ty.now) variant.cases c.args.src.now c.args.self.now t c.in_ok-name.name.now (shown_node c.in_ok-name.node) k c.unknown_case.result variant.is is.0 (case_missing (g.V.Type.WasmType.tree c.args.ty.now) (shown_cases g.V.Type.WasmType.tree c.in-Ok.cases.items) variant c.in_ok-name.name.now c.in-None.ensures) c.unknown_case.ensures
+
+pub read_map-returns-in_err-nodes : goal.read_map-returns-in_err-nodes
+read_map-returns-in_err-nodes g m c = λ served t is distinct.
+    let map = (map_is g.V.Type.WasmType.tree (g.V.Type.WasmType.tree c.args.ty.now) c.map_key_value_types.result c.unwrap.result c.unwrap.ensures c.map_key_value_types.ensures) in
+    faulty g.V.WasmValue.tree g.V.WasmValue.is_of g.V.WasmValue.is_full (g.V.Type.WasmType.tree c.args.ty.now) t (type.map map.key (g.V.Type.WasmType.tree c.unwrap.result.1.now)) c.in_err-nodes.field-0.0 c.from_residual.result map.is c.from_residual.ensures.1
+    (map_fault map.key (g.V.Type.WasmType.tree c.unwrap.result.1.now) c.args.src.now c.args.self.now t c.in_err-nodes.field-0.0 is.0 c.in_err-nodes.ensures)
+
+pub read_map-entries-init : goal.read_map-entries-init
+read_map-entries-init g m c = none_read g.V.WasmValue.tree g.V.WasmValue.is_of g.V.WasmValue.is_full c.args.src.now (g.V.Type.WasmType.tree c.unwrap.result.0.now) (g.V.Type.WasmType.tree c.unwrap.result.1.now) (node_pairs (children_of c.args.self.now)) c.in_ok-nodes.nodes c.new-entries.result.items c.in_ok-nodes.ensures.1 c.new-entries.ensures.items
+
+pub read_map-read_key-requires : goal.read_map-read_key-requires
+read_map-read_key-requires g m c =
+    let value : IsValueOf c.args.src.now c.args.self.now = search rules in
+    key_ready g.V.WasmValue.tree g.V.WasmValue.is_of g.V.WasmValue.is_full c.args.src.now (g.V.Type.WasmType.tree c.unwrap.result.0.now) (g.V.Type.WasmType.tree c.unwrap.result.1.now) c.args.self.now c.in_ok-nodes.nodes c.entries.nodes c.next.new.self (c.in-Some.key.now, c.in-Some.node.now) c.entries.entries.items value c.in_ok-nodes.ensures c.entries.invariant c.in-Some.ensures.steps
+
+pub read_map-returns-in_err-key : goal.read_map-returns-in_err-key
+read_map-returns-in_err-key g m c = λ served t is distinct.
+    let map = (map_is g.V.Type.WasmType.tree (g.V.Type.WasmType.tree c.args.ty.now) c.map_key_value_types.result c.unwrap.result c.unwrap.ensures c.map_key_value_types.ensures) in
+    handed g.V.WasmValue.tree g.V.WasmValue.is_of g.V.WasmValue.is_full (g.V.Type.WasmType.tree c.args.ty.now) t c.in_err-key.field-0.0 c.from_residual-in_err-key.result c.from_residual-in_err-key.ensures.1
+    (key_refused g.V.WasmValue.tree g.V.WasmValue.is_of g.V.WasmValue.is_full c.args.src.now (g.V.Type.WasmType.tree c.args.ty.now) (g.V.Type.WasmType.tree c.unwrap.result.0.now) (g.V.Type.WasmType.tree c.unwrap.result.1.now) c.args.self.now t c.in_ok-nodes.nodes c.entries.nodes c.next.new.self (c.in-Some.key.now, c.in-Some.node.now) c.entries.entries.items c.in_err-key.field-0.0 map is c.in_ok-nodes.ensures c.entries.invariant c.in-Some.ensures.steps g.met.V.WasmValue.full_parts (c.in_err-key.ensures (key_served (g.V.Type.WasmType.tree c.args.ty.now) (g.V.Type.WasmType.tree c.unwrap.result.0.now) (g.V.Type.WasmType.tree c.unwrap.result.1.now) map served)))
+
+pub read_map-read-requires : goal.read_map-read-requires
+read_map-read-requires g m c κs within =
+    let value : IsValueOf c.args.src.now c.args.self.now = search rules in
+    (omega (arith, map_deep (g.V.Type.WasmType.tree c.args.ty.now) (g.V.Type.WasmType.tree c.unwrap.result.0.now) (g.V.Type.WasmType.tree c.unwrap.result.1.now) (map_is g.V.Type.WasmType.tree (g.V.Type.WasmType.tree c.args.ty.now) c.map_key_value_types.result c.unwrap.result c.unwrap.ensures c.map_key_value_types.ensures)), (within.0, (within.1, value_ready g.V.WasmValue.tree g.V.WasmValue.is_of g.V.WasmValue.is_full c.args.src.now (g.V.Type.WasmType.tree c.unwrap.result.0.now) (g.V.Type.WasmType.tree c.unwrap.result.1.now) c.args.self.now c.in_ok-nodes.nodes c.entries.nodes c.next.new.self (c.in-Some.key.now, c.in-Some.node.now) c.entries.entries.items value c.in_ok-nodes.ensures c.entries.invariant c.in-Some.ensures.steps)))
+
+pub read_map-returns-in_err-val : goal.read_map-returns-in_err-val
+read_map-returns-in_err-val g m c = λ served t is distinct.
+    let map = (map_is g.V.Type.WasmType.tree (g.V.Type.WasmType.tree c.args.ty.now) c.map_key_value_types.result c.unwrap.result c.unwrap.ensures c.map_key_value_types.ensures) in
+    handed g.V.WasmValue.tree g.V.WasmValue.is_of g.V.WasmValue.is_full (g.V.Type.WasmType.tree c.args.ty.now) t c.in_err-val.field-0.0 c.from_residual-in_err-val.result c.from_residual-in_err-val.ensures.1
+    (value_refused g.V.WasmValue.tree g.V.WasmValue.is_of g.V.WasmValue.is_full c.args.src.now (g.V.Type.WasmType.tree c.args.ty.now) (g.V.Type.WasmType.tree c.unwrap.result.0.now) (g.V.Type.WasmType.tree c.unwrap.result.1.now) c.args.self.now t c.in_ok-nodes.nodes c.entries.nodes c.next.new.self (c.in-Some.key.now, c.in-Some.node.now) c.entries.entries.items c.in_err-val.field-0.0 map is c.in_ok-nodes.ensures c.entries.invariant c.in-Some.ensures.steps g.met.V.WasmValue.full_parts (λ u here. c.in_err-val.ensures (value_served (g.V.Type.WasmType.tree c.args.ty.now) (g.V.Type.WasmType.tree c.unwrap.result.0.now) (g.V.Type.WasmType.tree c.unwrap.result.1.now) map served) u here (map_distinct (g.V.Type.WasmType.tree c.args.ty.now) (g.V.Type.WasmType.tree c.unwrap.result.0.now) (g.V.Type.WasmType.tree c.unwrap.result.1.now) map distinct)))
+
+pub read_map-entries-preserved : goal.read_map-entries-preserved
+read_map-entries-preserved g m c =
+    next_read g.V.WasmValue.tree g.V.WasmValue.is_of g.V.WasmValue.is_full c.args.src.now (g.V.Type.WasmType.tree c.unwrap.result.0.now) (g.V.Type.WasmType.tree c.unwrap.result.1.now) (node_pairs (children_of c.args.self.now)) c.entries.nodes c.next.new.self (c.in-Some.key.now, c.in-Some.node.now) c.entries.entries.items c.keep.new.items.items c.in_ok-key.key c.in_ok-val.val c.entries.invariant c.in-Some.ensures.steps c.in_ok-key.ensures c.in_ok-val.ensures c.in_ok-keep.ensures.kept
+
+pub read_map-returns-in-Ok : goal.read_map-returns-in-Ok
+read_map-returns-in-Ok g m c = λ served t is distinct.
+    map_answered g.V.WasmValue.tree g.V.WasmValue.is_of g.V.WasmValue.is_full c.args.src.now (g.V.Type.WasmType.tree c.args.ty.now) (g.V.Type.WasmType.tree c.unwrap.result.0.now) (g.V.Type.WasmType.tree c.unwrap.result.1.now) c.args.self.now t c.in_ok-nodes.nodes c.entries.nodes c.entries.entries.items c.in-Ok.entries.items c.make_map.result c.made.result (map_is g.V.Type.WasmType.tree (g.V.Type.WasmType.tree c.args.ty.now) c.map_key_value_types.result c.unwrap.result c.unwrap.ensures c.map_key_value_types.ensures) is c.in_ok-nodes.ensures c.entries.invariant c.in_default.ensures.steps.0 served distinct g.met.V.WasmValue.of_fits c.in-Ok.ensures c.make_map.ensures.made c.make_map.ensures.full c.made.ensures

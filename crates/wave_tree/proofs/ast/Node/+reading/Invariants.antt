@@ -7,6 +7,10 @@ use Rattle.wave_tree.proofs.Items.{AreNodesOf, AllRead}
 use Rattle.wave_wasm.specs.Lists.{AllOf}
 use Rattle.wave_wasm.specs.Shown.{shown_all}
 use Rattle.wave_tree.proofs.Tuples.{ReadAt}
+use Rattle.std.proofs.Common.{length}
+use Rattle.wave_tree.specs.Answers.{node_pairs}
+use Rattle.wave_tree.specs.NodeTree.{children_of}
+use Rattle.wave_tree.proofs.Maps.{SoFar}
 use Rattle.wave_tree.proofs.ast.Node.+reading.Given as goal
 
 abbrev pub decreases-read : goal.decreases-read
@@ -29,6 +33,16 @@ decreases-read_variant g l = 4 * depth (g.V.Type.WasmType.tree l.ty.now)
 
 abbrev pub decreases-read_payload : goal.decreases-read_payload
 decreases-read_payload g l = 4 * depth_of_maybe (maybe_type (shown g.V.Type.WasmType.tree l.ty)) + 2
+
+abbrev pub decreases-read_map : goal.decreases-read_map
+decreases-read_map g l = 4 * depth (g.V.Type.WasmType.tree l.ty.now)
+
+abbrev pub invariant-read_map-entries : goal.invariant-read_map-entries
+invariant-read_map-entries g l =
+    SoFar g.V.WasmValue.tree g.V.WasmValue.is_of g.V.WasmValue.is_full l.src (g.V.Type.WasmType.tree l.key_type) (g.V.Type.WasmType.tree l.value_type) (node_pairs (children_of l.self)) l.nodes l.entries.items
+
+abbrev pub decreases-read_map-entries : goal.decreases-read_map-entries
+decreases-read_map-entries g l = length l.nodes
 
 abbrev pub invariant-read_list-loop-node : goal.invariant-read_list-loop-node
 invariant-read_list-loop-node g l =
