@@ -37,6 +37,7 @@ pub mod Texts
 pub mod TreeTexts
 pub mod JoinedTexts
 pub mod ShownLemmas
+pub mod ParamLemmas
 pub mod CanonTokens
 pub mod CanonNumbers
 pub mod CanonPrints

@@ -27,6 +27,7 @@ pub mod Typed
 pub mod Flags
 pub mod Records
 pub mod ShownNodes
+pub mod TreeParams
 pub mod FromText
 pub mod Untyped
 pub mod UntypedCode

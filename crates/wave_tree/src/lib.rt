@@ -6,6 +6,7 @@ pub mod ast;
 mod flags;
 pub mod laws;
 pub mod number;
+mod params;
 pub mod parser;
 mod record;
 #[cfg(test)]
