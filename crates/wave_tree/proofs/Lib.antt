@@ -37,6 +37,7 @@ pub mod Texts
 pub mod TreeTexts
 pub mod JoinedTexts
 pub mod ShownLemmas
+pub mod ParamLemmas
 pub mod CanonTokens
 pub mod CanonNumbers
 pub mod CanonPrints
@@ -94,5 +95,9 @@ pub mod TextLeaves
 pub mod CowTexts
 pub mod OneRuns
 pub mod StringNodes
+pub mod TextKeys
 pub mod Results
 pub mod Variants
+pub mod FlagNodes
+pub mod FlagSets
+pub mod FlagTypes
