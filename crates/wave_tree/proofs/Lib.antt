@@ -38,6 +38,7 @@ pub mod Texts
 pub mod TreeTexts
 pub mod JoinedTexts
 pub mod ShownLemmas
+pub mod ParamLemmas
 pub mod CanonTokens
 pub mod CanonNumbers
 pub mod CanonPrints
@@ -94,3 +95,6 @@ pub mod StringNodes
 pub mod TextKeys
 pub mod Results
 pub mod Variants
+pub mod FlagNodes
+pub mod FlagSets
+pub mod FlagTypes
