@@ -50,6 +50,7 @@ every_first (type.unreadable kind) h = h
 every_first (type.enum names) h = h
 every_first (type.flags names) h = h
 every_first (type.list E) h = refl
+every_first (type.record_type fs) h = refl
 every_first (type.tuple Ts) h = refl
 every_first (type.option P) h = refl
 every_first (type.map K V) h = refl
@@ -60,9 +61,6 @@ every_first _ h = absurd (false≢true h)
 -- a type of a kind whose values can't be made isn't full
 none_built : (T U : TypeTree) → IsFull T → T ≡ U → is_built U ≡ false → ⊥
 none_built T U full is no_values = false≢true (sym no_values ∙ every_first U (subst IsBuilt is full.built))
-
-pub no_record : (T : TypeTree) (fields : List (Bor (List ℕ) × TypedValue)) (e : WasmValueError) → FullRecord (λ v T. IsAt T v) IsFull T fields e
-no_record T fields e = λ full fs is distinct ordered same h. absurd (none_built T _ full is refl)
 
 -- ---- what has parts
 

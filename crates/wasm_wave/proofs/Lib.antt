@@ -16,4 +16,6 @@ pub mod MadeFlags
 pub mod MadeMap
 pub mod MadeTuple
 pub mod MadeResult
+pub mod MadeRecord
+pub mod LawfulRecord
 pub mod Headline

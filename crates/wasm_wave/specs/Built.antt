@@ -1,20 +1,21 @@
 -- The types whose values can be made, and those at which makers refuse for want of memory alone.
-use Rattle.std.specs.Prelude.{◌≡◌, refl, Bool, true, false, List, [], string_bytes}
+use Rattle.std.specs.Prelude.{◌≡◌, refl, Bool, true, false, List, [], map, string_bytes}
 use Rattle.std.proofs.lemmas.Bool.{false≢true, and_parts}
 use Rattle.wave_wasm.specs.Lists.{AllOf}
 use Rattle.wave_wasm.specs.Names.{AreDistinct}
 use Rattle.wave_wasm.specs.Types as type
-use Rattle.wave_wasm.specs.Types.{TypeTree, MaybeType, Types, Cases, no_type, a_type, no_types, type_and, no_cases, case_of, type_list, HasDistinctNames, EachNamesOfMaybe, EachNamesOfTypes, EachNamesOfCases, every, every_maybe, every_type, every_case}
+use Rattle.wave_wasm.specs.Types.{TypeTree, MaybeType, Types, Fields, Cases, no_type, a_type, no_types, type_and, no_fields, field, no_cases, case_of, type_list, field_list, HasDistinctNames, EachNamesOfMaybe, EachNamesOfTypes, EachNamesOfFields, EachNamesOfCases, every, every_maybe, every_type, every_field, every_case}
 use Rattle.wave_wasm.specs.Makers.{HasFullParts, payload_and, payload_types}
 use Rattle.wave_wasm.specs.TypeText.{kind_word}
 use Rattle.wave_wasm.specs.declared.wasm.WasmTypeKind.{WasmTypeKind}
 use Rattle.wave_wasm.specs.declared.wasm.WasmValueError.{WasmValueError}
 use Rattle.wave_wasm.specs.declared.wasm.WasmValueError.TheVariants as error
 
--- values of the kind of this type can be made: those of one token, lists, tuples, variants, options, results, enums, flags and maps
+-- values of the kind of this type can be made: of all kinds but f32, f64, unsupported ones and fixed-length lists
 abbrev pub is_built : TypeTree → Bool
 is_built (type.simple S) = true
 is_built (type.list E) = true
+is_built (type.record_type fs) = true
 is_built (type.tuple Ts) = true
 is_built (type.variant cs) = true
 is_built (type.option P) = true
@@ -44,6 +45,13 @@ types_full (type_and T more) names built =
     let b = and_parts (every is_built T) (every_type is_built more) built in
     (record { distinct = names.0; built = b.0 }, types_full more names.1 b.1)
 
+-- the types of full fields are full
+fields_full : (fs : Fields) → EachNamesOfFields AreDistinct fs → every_field is_built fs ≡ true → AllOf IsFull (map (λ f. f.1) (field_list fs))
+fields_full no_fields names built = tt
+fields_full (field name T more) names built =
+    let b = and_parts (every is_built T) (every_field is_built more) built in
+    (record { distinct = names.0; built = b.0 }, fields_full more names.1 b.1)
+
 -- the payload types of full cases are full
 cases_full : (cs : Cases) → EachNamesOfCases AreDistinct cs → every_case is_built cs ≡ true → AllOf IsFull (payload_types cs)
 cases_full no_cases distinct built = tt
@@ -57,6 +65,7 @@ pub full_parts : HasFullParts IsFull
 full_parts (type.simple S) full = tt
 full_parts (type.unreadable kind) full = tt
 full_parts (type.list E) full = (record { distinct = full.distinct; built = full.built }, tt)
+full_parts (type.record_type fs) full = fields_full fs full.distinct.1 full.built
 full_parts (type.tuple Ts) full = types_full Ts full.distinct full.built
 full_parts (type.variant cs) full = cases_full cs full.distinct.1 full.built
 full_parts (type.option P) full = (record { distinct = full.distinct; built = full.built }, tt)

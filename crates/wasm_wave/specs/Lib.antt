@@ -9,6 +9,7 @@ pub mod SameValue
 pub mod ValueView
 pub mod ValueFalls
 pub mod Taken
+pub mod Handed
 pub mod TakenCases
 pub mod SameContent
 pub mod Built

@@ -4,6 +4,8 @@ use Rattle.std.specs.Fmt.{decimal}
 use Rattle.std.specs.String.{string_bytes}
 use Rattle.std.specs.declared.ops.Range.{Range}
 use Rattle.wave_wasm.specs.Causes.{Cause, memory, cause_of, cause_text, quoted_name}
+use Rattle.wave_wasm.specs.declared.wasm.WasmValueError.{WasmValueError}
+use Rattle.wave_wasm.specs.declared.wasm.WasmValueError.TheVariants as error
 use Rattle.wave_lex.specs.declared.error.ParserErrorKind.{ParserErrorKind}
 use Rattle.wave_lex.specs.declared.error.ParserErrorKind.TheVariants as kind
 use Rattle.wave_lex.specs.declared.error.Detail.{Detail}
@@ -28,14 +30,15 @@ plainly k = record { kind = k; cause = None }
 abbrev pub caused : Cause → Refusal
 caused c = record { kind = kind.WasmValueError; cause = Some c }
 
--- the kind of a refusal because a value could not be made
-abbrev pub kind_by : Cause → ParserErrorKind
-kind_by memory = kind.OutOfMemory
-kind_by c = kind.WasmValueError
-
--- a refusal because a value could not be made
+-- a refusal because a value could not be made: want of memory is told by the kind alone
 abbrev pub refused_by : Cause → Refusal
-refused_by c = record { kind = kind_by c; cause = Some c }
+refused_by memory = plainly kind.OutOfMemory
+refused_by c = caused c
+
+-- the error that such a refusal keeps: each but want of memory
+abbrev pub kept : WasmValueError → Option WasmValueError
+kept (error.Memory e) = None
+kept e = Some e
 
 -- the kind and the cause of a `ParserError`
 abbrev pub refusal_of : ParserError → Refusal

@@ -2,7 +2,7 @@
 ghost use Rattle.std.specs.Prelude.{◌≡◌, None, Some, option_map};
 ghost use Rattle.std.specs.String.{string_bytes};
 ghost use Rattle.wave_wasm.specs.Causes.{cause_of};
-ghost use Rattle.wave_lex.specs.Errors.{plainly, refused_by, refusal_of, detail_text, kind_words, error_text};
+ghost use Rattle.wave_lex.specs.Errors.{plainly, refused_by, kept, refusal_of, detail_text, kind_words, error_text};
 
 use crate::lex::Span;
 use std::fmt;
@@ -125,23 +125,22 @@ impl ParserError {
         ParserError::with_parts(kind, span, Detail::Owned(detail))
     }
 
-    /// A refusal because a value could not be made: `OutOfMemory` where memory failed, else
-    /// `WasmValueError`.
+    /// A refusal because a value could not be made: `OutOfMemory` without a cause where memory
+    /// failed, else `WasmValueError` with the cause.
     pub fn with_cause(span: Span, cause: WasmValueError) -> ParserError
         ensures refusal { refusal_of result ≡ refused_by (cause_of cause) }
         ensures span { result.span ≡ span }
         ensures detail { detail_text result.detail ≡ None }
-        ensures cause { result.cause ≡ Some cause }
+        ensures cause { result.cause ≡ kept cause }
     {
-        let kind = match &cause {
-            WasmValueError::Memory(_) => ParserErrorKind::OutOfMemory,
-            _ => ParserErrorKind::WasmValueError,
-        };
-        ParserError {
-            kind,
-            span,
-            detail: Detail::None,
-            cause: Some(cause),
+        match cause {
+            WasmValueError::Memory(_) => ParserError::new(ParserErrorKind::OutOfMemory, span),
+            cause => ParserError {
+                kind: ParserErrorKind::WasmValueError,
+                span,
+                detail: Detail::None,
+                cause: Some(cause),
+            },
         }
     }
 

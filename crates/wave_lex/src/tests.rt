@@ -3,6 +3,7 @@ use crate::asked::Asked;
 use crate::error::{ParserError, ParserErrorKind};
 use crate::lex::{FuncNameLexer, FuncNameToken, Keyword, Lexer, Token};
 use crate::strings::{StringPart, StringParts, StringPartsIter, unescape};
+use std::alloc::AllocError;
 use std::fmt;
 use std::test::Fail;
 use wave_wasm::wasm::WasmValueError;
@@ -174,6 +175,9 @@ fn refusals(rt: HostRuntime) -> Result<(), Fail> {
     assert!(rt; cause.cause().is_some());
     let error: fmt::Error = cause.into();
     assert_eq!(rt; error, fmt::Error);
+    let memory = ParserError::with_cause(0..1, WasmValueError::Memory(AllocError));
+    let text = format!(in rt.alloc(); "{memory}")?;
+    assert_eq!(rt; text.as_str(), "out of memory at 0..1");
     Ok(())
 }
 

@@ -17,6 +17,7 @@ use Rattle.wave_tree.specs.TreeReads.{SimpleTree, TreeReads, TreeReadsPayload, T
 use Rattle.wave_tree.specs.Placed.{Placed, MaybePlaced, no_placed, a_placed, at, one, list, none, some, ok, err, maybe_of, PlacedTrees, no_more, and_then, placed_list, tree_of, trees_of}
 use Rattle.wave_tree.specs.Faults.{LeafFault, IsForm, Fault, FaultOfPayload, FaultOfFlat}
 use Rattle.wave_tree.proofs.Enums.{enum_none}
+use Rattle.wave_tree.proofs.TextLeaves.{string_none}
 use Rattle.wave_tree.proofs.Options.{some_none, flat_none}
 use Rattle.wave_tree.proofs.Maps.{map_none}
 use Rattle.wave_tree.proofs.Results.{ok_none, err_none}
@@ -58,7 +59,7 @@ leaf_none S p t k q l served (inl h) spelled = h.0 (form_of S t l spelled)
 leaf_none type.bool p t k q l served (inr h) spelled = h.1
 leaf_none (type.whole which) p t k q l served (inr h) spelled = h.1.0 l spelled
 leaf_none type.char p t k q l served (inr h) spelled = h.1.0 l spelled
-leaf_none type.string p t k q l served (inr h) spelled = served
+leaf_none type.string p t k q l served (inr h) spelled = string_none p t k q l h.1 spelled
 
 simple_none : (S : Simple) (t : Placed) (k : Refusal) (q : Range ℕ) (v : Value) → IsServed (type.simple S) → Fault (type.simple S) t k q → SimpleTree S (tree_of t) v → ⊥
 simple_none S (at p (one token)) k q v served fault (other, l, e, spelled, f) =
@@ -77,8 +78,8 @@ list_none E (and_then t more) k q (u ∷ us) vs apart (inr h) e (v, ws, read, ot
 key_is_served : (K : Simple) → IsKeyServed (type.simple K) → IsServed (type.simple K)
 key_is_served type.bool h = tt
 key_is_served (type.whole which) h = tt
-key_is_served type.char h = absurd h
-key_is_served type.string h = absurd h
+key_is_served type.char h = tt
+key_is_served type.string h = tt
 
 mutual
   -- a tree with a fault at a type is given no value by it

@@ -21,6 +21,7 @@ pub mod Levels
 pub mod Examples
 pub mod BeginExamples
 pub mod Going
+pub mod Askings
 pub mod Answering
 pub mod AtHand
 pub mod Names
@@ -36,6 +37,7 @@ pub mod Texts
 pub mod TreeTexts
 pub mod JoinedTexts
 pub mod ShownLemmas
+pub mod ParamLemmas
 pub mod CanonTokens
 pub mod CanonNumbers
 pub mod CanonPrints
@@ -63,6 +65,7 @@ pub mod Entries
 pub mod Keys
 pub mod Maps
 pub mod Items
+pub mod Fields
 pub mod Tuples
 pub mod CanonTidy
 pub mod CanonUtf8
@@ -85,5 +88,9 @@ pub mod ShownCalls
 pub mod Chars
 pub mod Quoted
 pub mod TextLeaves
+pub mod CowTexts
+pub mod OneRuns
+pub mod StringNodes
+pub mod TextKeys
 pub mod Results
 pub mod Variants

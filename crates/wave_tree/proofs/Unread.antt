@@ -33,6 +33,7 @@ pub record IsUnread (k : WasmTypeKind) : Type 0 where
   pub u32 : k ≢ kind.U32
   pub u64 : k ≢ kind.U64
   pub char : k ≢ kind.Char
+  pub string : k ≢ kind.String
   pub list : k ≢ kind.List
   pub tuple : k ≢ kind.Tuple
   pub option : k ≢ kind.Option
@@ -53,6 +54,7 @@ unread_fault (type.simple (type.whole type.u16)) t k r q served e unread refused
 unread_fault (type.simple (type.whole type.u32)) t k r q served e unread refused = absurd (unread.u32 e)
 unread_fault (type.simple (type.whole type.u64)) t k r q served e unread refused = absurd (unread.u64 e)
 unread_fault (type.simple type.char) t k r q served e unread refused = absurd (unread.char e)
+unread_fault (type.simple type.string) t k r q served e unread refused = absurd (unread.string e)
 unread_fault (type.unreadable u) t k r q served e unread refused = subst (λ (w : WasmTypeKind). RefusesFor (unsupported_type (kind_word w)) (span_of t) r q) e refused
 unread_fault (type.fixed E n) t k r q served e unread refused = subst (λ (w : WasmTypeKind). RefusesFor (unsupported_type (kind_word w)) (span_of t) r q) e refused
 unread_fault (type.list E) t k r q served e unread refused = absurd (unread.list e)

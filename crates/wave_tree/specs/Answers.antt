@@ -1,5 +1,5 @@
 -- What a node answers about itself.
-use Rattle.std.specs.Prelude.{ℕ, ℤ, ◌≡◌, ◌≢◌, ◌⊎◌, ◌++◌, Bool, true, false, List, [], ◌∷◌, Option, Some, None, option_map, Result, Ok, Err, encode_utf8}
+use Rattle.std.specs.Prelude.{ℕ, ℤ, ◌≡◌, ◌≢◌, ◌⊎◌, ◌+◌, ◌++◌, Bool, true, false, List, [], ◌∷◌, Option, Some, None, option_map, Result, Ok, Err, encode_utf8}
 use Rattle.std.specs.Char.{IsScalar}
 use Rattle.std.specs.Borrow.{Bor}
 use Rattle.wave_tree.specs.Spells.{name_of}
@@ -13,6 +13,9 @@ use Rattle.wave_lex.specs.declared.error.ParserErrorKind.TheVariants.{InvalidTyp
 use Rattle.wave_lex.specs.Tokens.{backslash, single_quote, double_quote}
 use Rattle.wave_lex.specs.Lexing.{three_quotes}
 use Rattle.wave_lex.specs.Strings.{IsEscape, CharMeans}
+use Rattle.wave_lex.specs.Left.{one_line}
+use Rattle.wave_lex.specs.Parts.{left_of, OpensTo, OpeningRefused}
+use Rattle.wave_lex.specs.declared.strings.StringPartsIter.{StringPartsIter}
 use Rattle.wave_tree.specs.NumberText.{IsNumberOf}
 use Rattle.wave_tree.specs.Placed.{slice}
 use Rattle.wave_tree.specs.NodeTree.{NodeTree, type_of, place_of, children_of}
@@ -134,6 +137,16 @@ GivesChar source n (Ok c) = (type_of n ≡ kind.Char) × CharMeans (text_at sour
 GivesChar source n (Err e) =
     (type_of n ≢ kind.Char) × RefusedAs InvalidType n e
     ⊎ (type_of n ≡ kind.Char) × ((c : ℕ) → CharMeans (text_at source n) c → ⊥) × RefusedAs InvalidEscape n e
+
+-- the parts of a string in front of the first of them; or of a multiline string, which may refuse its opening; or `InvalidType` at another node
+abbrev pub GivesParts : List ℕ → NodeTree → Result StringPartsIter ParserError → Type 0
+GivesParts source n (Ok parts) =
+    (inside : List ℕ) × IsInside source n inside
+    × ((type_of n ≡ kind.String) × (left_of parts ≡ one_line (record { rest = inside; pos = (place_of n).start + 1 }))
+    ⊎ (type_of n ≡ kind.MultilineString) × OpensTo inside ((place_of n).start + 3) (left_of parts))
+GivesParts source n (Err e) =
+    (type_of n ≢ kind.String) × (type_of n ≢ kind.MultilineString) × RefusedAs InvalidType n e
+    ⊎ (type_of n ≡ kind.MultilineString) × (inside : List ℕ) × IsInside source n inside × OpeningRefused inside ((place_of n).start + 3) e
 
 -- the test of whether a name is one of the names
 abbrev pub Among : List (List ℕ) → List ℕ → Bool → Type 0

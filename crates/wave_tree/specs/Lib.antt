@@ -22,8 +22,11 @@ pub mod Placed
 pub mod Nodes
 pub mod Faults
 pub mod Answers
+pub mod CowText
 pub mod Typed
+pub mod Records
 pub mod ShownNodes
+pub mod TreeParams
 pub mod FromText
 pub mod Untyped
 pub mod UntypedCode

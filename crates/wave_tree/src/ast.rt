@@ -5,16 +5,19 @@ ghost use Rattle.wave_lex.specs.Lexing.{Stands};
 ghost use Rattle.wave_lex.specs.Errors.{refusal_of, refused_by};
 ghost use Rattle.wave_tree.specs.NodeTree.{node, node_trees, type_of, place_of, children_of};
 ghost use Rattle.wave_tree.specs.Nodes.{IsParsedFrom};
-ghost use Rattle.wave_tree.specs.Answers.{text_at, quotes_of, IsInside, RefusedAs, OfType, GivesBool, GivesNumber, GivesChar, GivesNodes, GivesOption, GivesResult, GivesLabel, GivesVariant, GivesEntries, GivesBoolKey, node_pairs};
+ghost use Rattle.wave_tree.specs.CowText.{GivesString};
+ghost use Rattle.wave_tree.specs.Answers.{text_at, quotes_of, IsInside, RefusedAs, OfType, GivesBool, GivesNumber, GivesChar, GivesParts, GivesNodes, GivesOption, GivesResult, GivesLabel, GivesVariant, GivesEntries, GivesBoolKey, node_pairs};
 
 use crate::number::WholeNumber;
-use crate::text::char_in;
+pub use crate::record::RecordFields;
+use crate::text::{char_in, joined};
 use crate::word::label_name;
 use std::alloc::{AllocError, Global};
 use std::iter::ExactSizeIterator;
 use std::marker::Model;
 use wave_lex::error::{ParserError, ParserErrorKind};
 use wave_lex::lex::Span;
+use wave_lex::strings::StringPartsIter;
 use wave_wasm::wasm::WasmValueError;
 
 /// What a node spells.
@@ -64,6 +67,15 @@ impl Model for Node {
     ghost use Rattle.wave_tree.specs.NodeFalls.{most_le-nodes_depth};
 
     ghost size_decreases = { λ a h. omega (arith, most_le-nodes_depth a.children.items) };
+}
+
+/// A text that is a part of another, or one of its own.
+#[derive(Debug, Drop)]
+pub enum CowStr<'a> {
+    /// A part of another text.
+    Borrowed(&'a str),
+    /// A text of its own.
+    Owned(String),
 }
 
 impl Node {
@@ -144,6 +156,38 @@ impl Node {
             Some(c) => Ok(c),
             None => Err(self.error(ParserErrorKind::InvalidEscape)),
         }
+    }
+
+    /// The parts of the text, at a string and at a multiline string; else `InvalidType`. What
+    /// `StringPartsIter::new_multiline` refuses of a multiline string is refused here, as
+    /// `InvalidMultilineString`; any other fault comes as an item. The node was parsed from `src`.
+    pub fn iter_str<'src>(&self, src: &'src str) -> Result<StringPartsIter<'src>, ParserError>
+        requires { IsParsedFrom src.now self.now }
+        ensures { GivesParts src.now self.now result }
+    {
+        match self.ty {
+            NodeType::String => {
+                let inside = self.inside(src, 1);
+                Ok(StringPartsIter::new(inside, self.span.start + 1))
+            }
+            NodeType::MultilineString => {
+                let inside = self.inside(src, 3);
+                StringPartsIter::new_multiline(inside, self.span.start + 3)
+            }
+            _ => Err(self.error(ParserErrorKind::InvalidType)),
+        }
+    }
+
+    /// The text, at a string and at a multiline string; else `InvalidType`. It is borrowed where
+    /// it is empty or one run of the source; else it is a copy. A bad escape is `InvalidEscape` at
+    /// its backslash; a multiline string that opens, closes or indents badly is `InvalidMultilineString`. Want of memory is refused
+    /// at the node. The node was parsed from `src`.
+    pub fn as_str<'src>(&self, alloc: Global, src: &'src str) -> Result<CowStr<'src>, ParserError>
+        requires { IsParsedFrom src.now self.now }
+        ensures { GivesString src.now self.now result }
+    {
+        let parts = self.iter_str(src)?;
+        joined(alloc, parts, &self.span)
     }
 
     /// The items, at a tuple node; else `InvalidType`.
@@ -262,7 +306,7 @@ impl Node {
     }
 
     /// Refuses a node of another type.
-    fn ensure_type(&self, ty: NodeType) -> Result<(), ParserError>
+    pub(crate) fn ensure_type(&self, ty: NodeType) -> Result<(), ParserError>
         ensures { OfType ty self.now result }
     {
         if self.is_of(ty) {
@@ -280,7 +324,7 @@ impl Node {
     }
 
     /// A refusal of this kind at the node.
-    fn error(&self, kind: ParserErrorKind) -> ParserError
+    pub(crate) fn error(&self, kind: ParserErrorKind) -> ParserError
         ensures { RefusedAs kind self.now result }
     {
         ParserError::new(kind, self.span())

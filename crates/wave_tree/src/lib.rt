@@ -5,7 +5,9 @@ mod ahead;
 pub mod ast;
 pub mod laws;
 pub mod number;
+mod params;
 pub mod parser;
+mod record;
 #[cfg(test)]
 mod tests;
 mod text;

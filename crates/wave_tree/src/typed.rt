@@ -2,12 +2,14 @@
 ghost use Rattle.std.specs.Prelude.{ℕ, List, [], ◌∷◌, ◌++◌, ◌≡◌, ◌≢◌, ◌⊎◌, ◌↔◌, option_map, IsTrue, OnOk, IfOk, IfErr};
 ghost use Rattle.wave_wasm.specs.Types.{kind_of, maybe_type, whole_kind, Whole};
 ghost use Rattle.wave_wasm.specs.Types as type;
+ghost use Rattle.wave_wasm.specs.Values as value;
 ghost use Rattle.wave_wasm.specs.Shown.{texts, shown, shown_cases};
 ghost use Rattle.wave_wasm.specs.TypeText.{kind_word};
 ghost use Rattle.wave_wasm.specs.Causes.{unsupported_type, unknown_case, missing_payload, unexpected_payload, wrong_number};
 ghost use Rattle.wave_lex.specs.declared.error.ParserErrorKind.TheVariants.{OutOfMemory};
 ghost use Rattle.wave_tree.specs.Answers.{Among, shown_node};
-ghost use Rattle.wave_tree.specs.Typed.{IsValueOf, IsKeyOf, IsKeyServed, AnswersKey, IsCaused, IsMade, IsServed, IsServedPayload, IsPayloadOf, GivesFlat, Answers, AnswersPayload, Reads};
+ghost use Rattle.wave_tree.specs.CowText.{cow_text};
+ghost use Rattle.wave_tree.specs.Typed.{IsLeafMade, IsValueOf, IsKeyOf, IsKeyServed, AnswersKey, IsCaused, IsMade, IsServed, IsServedPayload, IsPayloadOf, GivesFlat, Answers, AnswersPayload, Reads};
 ghost use Rattle.wave_lex.specs.Errors.{refusal_of};
 ghost use Rattle.wave_tree.specs.NodeTree.{place_of};
 ghost use Rattle.wave_tree.specs.Reads.{look_up};
@@ -16,7 +18,7 @@ ghost use Rattle.std.specs.Str.{bytes_eq};
 ghost use Rattle.wave_wasm.specs.Merge.{merge};
 ghost use Rattle.wave_wasm.specs.Text.{text};
 
-use crate::ast::Node;
+use crate::ast::{CowStr, Node};
 use std::alloc::Global;
 use wave_lex::error::{ParserError, ParserErrorKind};
 use wave_wasm::wasm::{WasmType, WasmTypeKind, WasmValue, WasmValueError};
@@ -56,6 +58,7 @@ impl Node {
             WasmTypeKind::U32 => self.made(V::make_u32(alloc, self.as_number(src)?)),
             WasmTypeKind::U64 => self.made(V::make_u64(alloc, self.as_number(src)?)),
             WasmTypeKind::Char => self.read_char(alloc, ty, src),
+            WasmTypeKind::String => self.read_string(alloc, ty, src),
             WasmTypeKind::List => self.read_list(alloc, ty, src),
             WasmTypeKind::Tuple => self.read_tuple(alloc, ty, src),
             WasmTypeKind::Variant => self.read_variant(alloc, ty, src),
@@ -163,8 +166,25 @@ impl Node {
             WasmTypeKind::U16 => self.made(V::make_u16(alloc, self.as_number(src)?)),
             WasmTypeKind::U32 => self.made(V::make_u32(alloc, self.as_number(src)?)),
             WasmTypeKind::U64 => self.made(V::make_u64(alloc, self.as_number(src)?)),
+            WasmTypeKind::Char => self.made(V::make_char(alloc, self.as_char(src)?)),
+            WasmTypeKind::String => self.read_string_key(alloc, ty, src),
             kind => Err(self.unsupported(alloc, kind)),
         }
+    }
+
+    /// A key of a map that is a string.
+    fn read_string_key<V: WasmValue>(
+        &self,
+        alloc: Global,
+        ty: &V::Type,
+        src: &str,
+    ) -> Result<V, ParserError>
+        requires key { IsKeyOf src.now self.now }
+        requires kind { V.Type.tree ty.now ≡ type.simple type.string }
+        ensures { AnswersKey V.tree V.is_of V.is_full (V.Type.tree ty.now) src.now self.now result }
+    {
+        let text = self.as_str(alloc, src)?;
+        self.made_string(alloc, text)
     }
 
     /// An option: `none`, `some` of its payload, or a flat payload.
@@ -320,6 +340,21 @@ impl Node {
         self.made(V::make_char(alloc, val))
     }
 
+    /// A string.
+    fn read_string<V: WasmValue>(
+        &self,
+        alloc: Global,
+        ty: &V::Type,
+        src: &str,
+    ) -> Result<V, ParserError>
+        requires node { IsValueOf src.now self.now }
+        requires kind { V.Type.tree ty.now ≡ type.simple type.string }
+        ensures { Answers V.tree V.is_of V.is_full (V.Type.tree ty.now) src.now self.now result }
+    {
+        let text = self.as_str(alloc, src)?;
+        self.made_string(alloc, text)
+    }
+
     /// A bool.
     fn read_bool<V: WasmValue>(&self, alloc: Global, ty: &V::Type) -> Result<V, ParserError>
         requires { V.Type.tree ty.now ≡ type.simple type.bool }
@@ -327,6 +362,16 @@ impl Node {
     {
         let val = self.as_bool()?;
         self.made(V::make_bool(alloc, val))
+    }
+
+    /// The string of this text, which is not copied before the maker is called.
+    fn made_string<V: WasmValue>(&self, alloc: Global, val: CowStr<'_>) -> Result<V, ParserError>
+        ensures { IsLeafMade V.tree V.is_of V.is_full (value.string (cow_text val.entry)) self.now result }
+    {
+        match val {
+            CowStr::Borrowed(text) => self.made(V::make_string(alloc, text)),
+            CowStr::Owned(text) => self.made(V::make_string(alloc, text.as_str())),
+        }
     }
 
     /// The value that was made, or its maker's refusal at the node.
@@ -340,7 +385,7 @@ impl Node {
     }
 
     /// One more value that was read within the node.
-    fn keep<V: Drop>(&self, items: &mut Vec<V>, item: V) -> Result<(), ParserError>
+    pub(crate) fn keep<V: Drop>(&self, items: &mut Vec<V>, item: V) -> Result<(), ParserError>
         ensures kept { OnOk result (items.new.items ≡ items.old.items ++ item ∷ []) }
         ensures refused { IfErr result (λ e. e.kind ≡ OutOfMemory) }
     {
@@ -351,7 +396,7 @@ impl Node {
     }
 
     /// A refusal for want of memory, at the node.
-    fn out_of_memory(&self) -> ParserError
+    pub(crate) fn out_of_memory(&self) -> ParserError
         ensures { result.kind ≡ OutOfMemory }
     {
         ParserError::new(ParserErrorKind::OutOfMemory, self.span())

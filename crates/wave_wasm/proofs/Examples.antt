@@ -7,11 +7,12 @@ use Rattle.ucd_category.proofs.Computing.{ucd_category}
 use Rattle.wave_wasm.specs.Types as type
 use Rattle.wave_wasm.specs.Values as value
 use Rattle.wave_wasm.specs.Values.{Leaf, Value, values, entries, field_values}
-use Rattle.wave_wasm.specs.Merge.{merge, put_all, leaf_eq, merge_by_text}
+use Rattle.wave_wasm.specs.Merge.{merge, leaf_eq, merge_by_text}
 use Rattle.wave_wasm.specs.Text.{text, has_text, quoted_char, escaped, arguments_text, results_text}
 use Rattle.wave_wasm.specs.TypeText.{type_text, function_text}
 use Rattle.wave_wasm.specs.Causes.{cause_text, wrong_number, missing_field}
 use Rattle.wave_wasm.specs.Names.{found_in}
+use Rattle.wave_wasm.proofs.Walk.{put_all}
 
 -- numbers and texts
 abbrev a_u8 : ℕ → Value

@@ -2,7 +2,7 @@ pub mod Merging
 pub mod Formed
 pub mod Examples
 pub mod Writing
-pub mod Scalars
+pub mod Runs
 pub mod Sequence
 pub mod Labels
 pub mod Trees

@@ -1,10 +1,10 @@
 -- The places of merged entries by their texts.
-use Rattle.std.proofs.Common.{ℕ, zero, suc, ◌≡◌, ◌<◌, ◌+◌, ◌⊎◌, inl, inr, List, [], ◌∷◌, ◌++◌, Bool, true, false, cond, if◌then◌else◌, refl, sym, ap, ◌∙◌, length, get_or, set, map, arith, subst, Option, Some, None, option_map, bytes_eq}
+use Rattle.std.proofs.Common.{ℕ, zero, suc, ◌≡◌, ◌<◌, inl, inr, List, [], ◌∷◌, ◌++◌, true, false, if◌then◌else◌, refl, sym, ap, ◌∙◌, length, get_or, set, map, arith, Option, Some, None, option_map, bytes_eq}
 use Rattle.std.proofs.lemmas.List.{length-map, map-append}
 use Rattle.std.proofs.lemmas.Bool.{cases_Bool}
 use Rattle.std.proofs.lemmas.Slice.Eq.{bytes_eq-Decides}
-use Rattle.wave_wasm.specs.Merge.{put, merge, same_text}
-use Rattle.wave_wasm.proofs.Walk.{merge_push}
+use Rattle.wave_wasm.specs.Merge.{merge, same_text}
+use Rattle.wave_wasm.proofs.Walk.{put, merge_push}
 
 -- where the text stands
 abbrev pub found_at : List ℕ → List (List ℕ) → Option ℕ

@@ -2,7 +2,18 @@
 use Rattle.std.proofs.Common.{◌≡◌, List, [], ◌∷◌, ◌++◌, Bool, true, false, not, cond, if◌then◌else◌, inl, inr, refl, sym, ap, ◌∙◌, append_assoc}
 use Rattle.std.proofs.lemmas.Bool.{cases_Bool}
 use Rattle.std.proofs.lemmas.List.{append-nil}
-use Rattle.wave_wasm.specs.Merge.{last_value, without, merge, put, put_all}
+use Rattle.wave_wasm.specs.Merge.{last_value, without, merge}
+
+module _ {K V : Type 0} (same : K → K → Bool) where
+  -- the value goes to the place of its key, which is the end where the key is new
+  abbrev pub put : K → V → List (K × V) → List (K × V)
+  put key v [] = (key, v) ∷ []
+  put key v (e ∷ es) = if same key e.0 then (e.0, v) ∷ es else e ∷ put key v es
+
+  -- each entry goes to its place behind those that are done
+  abbrev pub put_all : List (K × V) → List (K × V) → List (K × V)
+  put_all done [] = done
+  put_all done (e ∷ es) = put_all (put e.0 e.1 done) es
 
 module _ {K : Type 0} (same : K → K → Bool) (turned : (a b : K) → same a b ≡ true → same b a ≡ true) (through : (a b c : K) → same a b ≡ true → same b c ≡ true → same a c ≡ true) where
   -- another key stays another

@@ -44,18 +44,6 @@ module _ {K V : Type 0} (same : K → K → Bool) where
     pub keys : map (λ e. e.0) merged ≡ distinct_keys es
     pub values : AllOf (λ e. value_at_last e.0 es ≡ Some e.1) merged
 
-  -- ---- the same as a walk from the first entry to the last
-
-  -- the value goes to the place of its key, which is the end where the key is new
-  abbrev pub put : K → V → List (K × V) → List (K × V)
-  put key v [] = (key, v) ∷ []
-  put key v (e ∷ es) = if same key e.0 then (e.0, v) ∷ es else e ∷ put key v es
-
-  -- each entry goes to its place behind those that are done
-  abbrev pub put_all : List (K × V) → List (K × V) → List (K × V)
-  put_all done [] = done
-  put_all done (e ∷ es) = put_all (put e.0 e.1 done) es
-
 -- ---- keys of values
 
 -- two bools are equal

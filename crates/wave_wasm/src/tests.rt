@@ -66,14 +66,12 @@ struct Call {
 }
 
 impl WasmFunc for Call {
-    ghost use Rattle.std.specs.Prelude.{[], ◌∷◌};
+    ghost use Rattle.std.specs.Prelude.{[], ◌∷◌, codes};
     ghost use Rattle.wave_wasm.specs.Types.{simple, char};
 
     type Type = CharType;
 
-    ghost params = { λ f. simple char ∷ [] };
-
-    ghost results = { λ f. simple char ∷ [] };
+    ghost func = { λ f. record { params = simple char ∷ []; param_names = codes "a" ∷ []; results = simple char ∷ []; result_names = [] } };
 
     fn params(&self, alloc: Global) -> Result<Vec<&CharType>, AllocError> {
         let mut types = Vec::new(alloc);

@@ -188,24 +188,24 @@ impl<W: TextWrite> Writer<W> {
     fn write_items<V: WasmValue>(
         &mut self,
         alloc: Global,
-        open: &str,
+        opening: &str,
         items: &Vec<&V>,
-        close: &str,
+        closing: &str,
     ) -> Result<(), WriterError>
         ensures ok { OnOk result
-            (Appended (enclosed open.now (map text (shown_all V.tree items.now.items)) close.now) (W.output self.old.out) (W.output self.new.out)) }
+            (Appended (enclosed opening.now (map text (shown_all V.tree items.now.items)) closing.now) (W.output self.old.out) (W.output self.new.out)) }
         ensures writable { OnOk result (list_all has_text (shown_all V.tree items.now.items) ≡ true) }
         ensures err { IfErr result
-            (λ e. Refused (enclosed open.now (map text (shown_all V.tree items.now.items)) close.now) (list_all has_text (shown_all V.tree items.now.items)) e (W.output self.old.out) (W.output self.new.out)) }
+            (λ e. Refused (enclosed opening.now (map text (shown_all V.tree items.now.items)) closing.now) (list_all has_text (shown_all V.tree items.now.items)) e (W.output self.old.out) (W.output self.new.out)) }
     {
-        self.write_text(open)?;
+        self.write_text(opening)?;
         let mut later = false;
         for item in items {
             self.write_separator(later)?;
             later = true;
             self.write_value(alloc, *item)?;
         }
-        self.write_text(close)
+        self.write_text(closing)
     }
 
     #[cycle(write)]
@@ -417,7 +417,7 @@ impl<W: TextWrite> Writer<W> {
         self.write_text("'")
     }
 
-    /// Writes a text between double quotes.
+    /// Writes a text between double quotes. The scalars between two escapes are written as one run.
     fn write_string(&mut self, alloc: Global, s: &str) -> Result<(), WriterError>
         ensures ok { OnOk result
             (Appended (quoted s.now) (W.output self.old.out) (W.output self.new.out)) }
@@ -425,10 +425,29 @@ impl<W: TextWrite> Writer<W> {
             (λ e. Refused (quoted s.now) true e (W.output self.old.out) (W.output self.new.out)) }
     {
         self.write_text("\"")?;
-        for c in s.chars() {
-            self.write_scalar(alloc, c)?;
+        let mut start = 0;
+        for (at, c) in s.char_indices() {
+            if !is_plain(c) {
+                self.write_run(&s[start..at])?;
+                self.write_scalar(alloc, c)?;
+                start = at + c.len_utf8();
+            }
         }
+        self.write_run(&s[start..])?;
         self.write_text("\"")
+    }
+
+    /// Writes a run, which may be empty.
+    fn write_run(&mut self, run: &str) -> Result<(), WriterError>
+        ensures ok { OnOk result (Appended run.now (W.output self.old.out) (W.output self.new.out)) }
+        ensures err { IfErr result
+            (λ e. Refused run.now true e (W.output self.old.out) (W.output self.new.out)) }
+    {
+        if run.is_empty() {
+            Ok(())
+        } else {
+            self.write_text(run)
+        }
     }
 
     /// Writes a scalar as it stands between quotes.
@@ -494,7 +513,8 @@ ghost use Rattle.std.specs.Str.{bytes_eq};
 ghost use Rattle.std.specs.String.{string_bytes};
 ghost use Rattle.wave_wasm.specs.Lists.{AllOf};
 ghost use Rattle.wave_wasm.specs.Values.{IsLeaf};
-ghost use Rattle.wave_wasm.specs.Text.{text, has_text, is_no_option, is_escaped, arguments_text, results_text};
+ghost use Rattle.std.specs.Char.{encode_utf8};
+ghost use Rattle.wave_wasm.specs.Text.{text, has_text, is_no_option, escaped, is_escaped, arguments_text, results_text};
 ghost use Rattle.wave_wasm.specs.Merge.{merge, merge_by_text};
 ghost use Rattle.wave_wasm.specs.Output.{IsGrounded};
 
@@ -577,6 +597,17 @@ fn is_none<V: WasmValue>(val: &V) -> bool
     ensures { result ≡ is_no_option (V.tree val.now) }
 {
     val.kind() == WasmTypeKind::Option && val.unwrap_option().is_none()
+}
+
+/// Whether the scalar stands for itself in a char or string.
+#[tactic(auto, unfolding(crate::specs::Text::escaped))]
+fn is_plain(c: char) -> bool
+    ensures { result ≡ true → escaped c ≡ encode_utf8 c }
+{
+    match c {
+        '\\' | '"' | '\'' | '\t' | '\r' | '\n' => false,
+        _ => !is_escaped(c),
+    }
 }
 
 /// Whether the scalar is written by its number.

@@ -1,16 +1,22 @@
 //! Makers of values that have parts.
-ghost use Rattle.std.specs.Prelude.{◌≡◌, IfOk, IfErr, OnOk};
+ghost use Rattle.std.specs.Prelude.{◌≡◌, ℕ, List, map, IfOk, IfErr, OnOk};
 ghost use Rattle.wave_wasm.specs.Values as value;
 ghost use Rattle.wave_wasm.specs.Values.{values, maybe_value};
 ghost use Rattle.wave_wasm.specs.Makers.{result_value, either_tree};
 ghost use Rattle.wasm_wave.specs.ValueView.{trees, payload_tree, boxed, PayloadAt};
 ghost use Rattle.wasm_wave.specs.Taken.{Made, Tells, TakesList, TakesTuple, TakesOption, TakesResult, TakesEnum, RefusesParts, RefusesTuple, RefusesPayload, RefusesResult, RefusesEnum};
-ghost use Rattle.wave_wasm.specs.Shown.{shown};
+ghost use Rattle.wave_wasm.specs.Shown.{shown, named};
+ghost use Rattle.wasm_wave.specs.TypeView.{by_bytes};
+ghost use Rattle.wasm_wave.specs.Handed.{held, last_under, TakesRecord, MadeRecord, RefusesRecord, RefusesFields, InOrder};
 
-use super::refusals::{missing_payload, unexpected_payload, unknown_case, wrong_kind, wrong_type};
+use super::refusals::{
+    missing_field, missing_payload, unexpected_payload, unknown_case, unknown_field, wrong_kind,
+    wrong_type,
+};
 use super::{Content, Type, Value};
-use std::alloc::Global;
+use std::alloc::{AllocError, Global};
 use std::boxed::Box;
+use std::collections::BTreeMap;
 use wave_wasm::wasm::{WasmType, WasmTypeKind, WasmValueError};
 
 mod cases;
@@ -69,6 +75,30 @@ impl Value {
         Ok(Value {
             own: ty.clone()?,
             content: Content::Tuple(vals),
+        })
+    }
+
+    /// The record of these fields, whose own type is this one. Their order is free, and the last value
+    /// under a name counts. A type of another kind is refused, and so is a field that is missing or
+    /// that the type has twice, a name that no field has, and a value whose own type isn't its
+    /// field's.
+    pub fn make_record(
+        alloc: Global,
+        ty: &Type,
+        fields: Vec<(&str, Value)>,
+    ) -> Result<Value, WasmValueError>
+        ensures made { IfOk result (MadeRecord (named fields.entry.items) ty.now) }
+        ensures taken { OnOk result (TakesRecord ty.now (named fields.entry.items)) }
+        ensures refused { IfErr result (RefusesRecord ty.now (named fields.entry.items)) }
+    {
+        let Some(stated) = ty.named_types() else {
+            return Err(wrong_kind(alloc, WasmTypeKind::Record, ty));
+        };
+        let given = last_values(alloc, fields)?;
+        let vals = in_order(alloc, stated, given)?;
+        Ok(Value {
+            own: ty.clone()?,
+            content: Content::Record(vals),
         })
     }
 
@@ -183,5 +213,46 @@ fn boxed_payload(
                 Ok(Some(Box::new(alloc, val)?))
             }
         },
+    }
+}
+
+// The last value under each name.
+fn last_values<V: Drop>(
+    alloc: Global,
+    fields: Vec<(&str, V)>,
+) -> Result<BTreeMap<&str, V>, AllocError>
+    ensures { IfOk result (λ m. (name : List ℕ) → held m name ≡ last_under (named fields.entry.items) name) }
+{
+    let mut given = BTreeMap::new(alloc);
+    for (name, val) in fields {
+        given.insert(name, val)?;
+    }
+    Ok(given)
+}
+
+// The values in the fields' order. A field without a value is refused, and so is a value of another
+// type, and one that is left.
+fn in_order(
+    alloc: Global,
+    stated: &Vec<(String, Type)>,
+    mut given: BTreeMap<&str, Value>,
+) -> Result<Vec<Value>, WasmValueError>
+    ensures given { IfOk result (λ v. InOrder (map by_bytes stated.now.items) (held given.entry) v.items) }
+    ensures refused { IfErr result (RefusesFields (map by_bytes stated.now.items) (held given.entry)) }
+{
+    let mut vals = Vec::new(alloc);
+    for field in stated {
+        let name = field.0.as_str();
+        let Some(val) = given.remove(name) else {
+            return Err(missing_field(alloc, name));
+        };
+        if !val.is_at(&field.1) {
+            return Err(wrong_type(alloc, &field.1, &val));
+        }
+        vals.push(val)?;
+    }
+    match given.first_key_value() {
+        Some((name, _)) => Err(unknown_field(alloc, *name)),
+        None => Ok(vals),
     }
 }

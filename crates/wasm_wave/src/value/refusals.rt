@@ -1,5 +1,6 @@
 //! Refusals of the makers: their texts, or want of memory where a text can't be made.
 ghost use Rattle.wasm_wave.specs.Taken.{SaysKind, SaysType, SaysCase, SaysMissing, SaysUnexpected};
+ghost use Rattle.wasm_wave.specs.Handed.{SaysMissingField, SaysUnknownField};
 
 use super::{Type, Value};
 use std::alloc::Global;
@@ -55,6 +56,26 @@ pub(super) fn unexpected_payload(alloc: Global, case: &str) -> WasmValueError
 {
     match String::from_str(alloc, case) {
         Ok(case) => WasmValueError::UnexpectedPayload(case),
+        Err(e) => WasmValueError::Memory(e),
+    }
+}
+
+// No value is handed in for the field of this name, or the type has it twice.
+pub(super) fn missing_field(alloc: Global, name: &str) -> WasmValueError
+    ensures { SaysMissingField name.now result }
+{
+    match String::from_str(alloc, name) {
+        Ok(name) => WasmValueError::MissingField(name),
+        Err(e) => WasmValueError::Memory(e),
+    }
+}
+
+// The type has no field of this name.
+pub(super) fn unknown_field(alloc: Global, name: &str) -> WasmValueError
+    ensures { SaysUnknownField name.now result }
+{
+    match String::from_str(alloc, name) {
+        Ok(name) => WasmValueError::UnknownField(name),
         Err(e) => WasmValueError::Memory(e),
     }
 }

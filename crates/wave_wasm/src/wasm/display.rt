@@ -5,7 +5,7 @@ ghost use Rattle.wave_wasm.specs.Types.{kind_of, maybe_type};
 ghost use Rattle.wave_wasm.specs.Commas.{comma_if, joined, in_parens};
 ghost use Rattle.wave_wasm.specs.Shown.{texts, shown, shown_all};
 ghost use Rattle.wave_wasm.specs.Text.{text, arguments_text, results_text};
-ghost use Rattle.wave_wasm.specs.TypeText.{type_text, payload_text, braced, function_results_text, typed_names, name_part, IsFuncText};
+ghost use Rattle.wave_wasm.specs.TypeText.{type_text, payload_text, braced, function_results_text, typed_names, name_part, IsFuncText, ShowsFunc};
 
 use crate::wasm::{WasmFunc, WasmType, WasmTypeKind, WasmValue};
 use crate::writer::{arguments_to_string, results_to_string, to_string};
@@ -84,7 +84,9 @@ impl<F: WasmFunc> DisplayFunc<F> {
 }
 
 impl<F: WasmFunc> fmt::Display for DisplayFunc<F> {
-    fn fmt<W: fmt::Write>(&self, f: &mut fmt::Formatter<W>) -> fmt::Result {
+    fn fmt<W: fmt::Write>(&self, f: &mut fmt::Formatter<W>) -> fmt::Result
+        ensures { ShowsFunc W.write_str_gives (F.func self.now.func) f.old result f.new }
+    {
         match func_to_string(self.alloc, &self.func) {
             Ok(text) => f.write_str(text.as_str()),
             Err(_) => Err(fmt::Error),
@@ -150,7 +152,7 @@ impl<V: WasmValue> fmt::Display for DisplayFuncResults<'_, V> {
 
 /// The text of a function's type.
 fn func_to_string<F: WasmFunc>(alloc: Global, func: &F) -> Result<String, AllocError>
-    ensures { IfOk result (λ s. IsFuncText (F.params func.now) (F.results func.now) (string_bytes s)) }
+    ensures { IfOk result (λ s. IsFuncText (F.func func.now) (string_bytes s)) }
 {
     let params = func.params(alloc)?;
     let param_names = func.param_names(alloc)?;

@@ -8,35 +8,31 @@ pub trait WasmFunc {
     /// The type of parameters and results.
     type Type: WasmType;
 
-    ghost use Rattle.std.specs.Prelude.{◌≡◌, IfOk, List};
-    ghost use Rattle.wave_wasm.specs.Types.{TypeTree};
+    ghost use Rattle.std.specs.Prelude.{◌≡◌, IfOk};
     ghost use Rattle.wave_wasm.specs.Shown.{texts, shown_all};
-    ghost use Rattle.wave_wasm.specs.TypeText.{AreNamesOf};
+    ghost use Rattle.wave_wasm.specs.TypeText.{Func, AreNamesGiven};
 
-    /// The trees of the parameters' types.
-    ghost params: { Self → List TypeTree };
-
-    /// The trees of the results' types.
-    ghost results: { Self → List TypeTree };
+    /// The function: its types and its names.
+    ghost func: { Self → Func };
 
     /// The types of the parameters.
     fn params(&self, alloc: Global) -> Result<Vec<&Self::Type>, AllocError>
-        ensures { IfOk result (λ v. shown_all Self.Type.tree v.items ≡ params self.now) };
+        ensures { IfOk result (λ v. shown_all Self.Type.tree v.items ≡ (func self.now).params) };
 
     /// The names of the parameters, or none.
     fn param_names(&self, alloc: Global) -> Result<Vec<&str>, AllocError>
-        ensures { IfOk result (λ v. AreNamesOf (params self.now) (texts v.items)) }
+        ensures { IfOk result (λ v. AreNamesGiven (func self.now).params (func self.now).param_names (texts v.items)) }
     {
         Ok(Vec::new(alloc))
     }
 
     /// The types of the results.
     fn results(&self, alloc: Global) -> Result<Vec<&Self::Type>, AllocError>
-        ensures { IfOk result (λ v. shown_all Self.Type.tree v.items ≡ results self.now) };
+        ensures { IfOk result (λ v. shown_all Self.Type.tree v.items ≡ (func self.now).results) };
 
     /// The names of the results, or none.
     fn result_names(&self, alloc: Global) -> Result<Vec<&str>, AllocError>
-        ensures { IfOk result (λ v. AreNamesOf (results self.now) (texts v.items)) }
+        ensures { IfOk result (λ v. AreNamesGiven (func self.now).results (func self.now).result_names (texts v.items)) }
     {
         Ok(Vec::new(alloc))
     }

@@ -1,4 +1,4 @@
-use Rattle.std.proofs.Common.{ℕ, List, String, Global, ◌≡◌, ap, sym, ◌∙◌, refl, arith, map, length, Some, None, bytes_eq, if◌then◌else◌}
+use Rattle.std.proofs.Common.{ℕ, List, String, Global, ◌≡◌, ap, sym, ◌∙◌, arith, map, length, Some, None, bytes_eq, if◌then◌else◌}
 use Rattle.std.proofs.lemmas.Map.Text.{btree_map_updates_text}
 use Rattle.std.specs.String.{string_bytes}
 use Rattle.wave_wasm.specs.Merge.{merge, same_text}

@@ -21,7 +21,7 @@ write_items-loop-item-init g t c =
     let ok : Bor g.row.V.Denot → Bool = λ v. has_text (g.V.WasmValue.tree v.now) in
     let same = c.deref-item-items.ensures.value in
     record {
-      writing = writing_start f c.deref-item-items.result.now _ _ (ap (λ z. enclosed c.args.open.now z c.args.close.now) (map_map text tree c.args.items.now.items ∙ ap (map f) (sym same))) c.in_ok-write_text.ensures.ok;
+      writing = writing_start f c.deref-item-items.result.now _ _ (ap (λ z. enclosed c.args.opening.now z c.args.closing.now) (map_map text tree c.args.items.now.items ∙ ap (map f) (sym same))) c.in_ok-write_text.ensures.ok;
       writable = ap (list_all ok) same ∙ sym (all_map has_text tree c.args.items.now.items);
     }
 

@@ -43,7 +43,7 @@ abbrev pub invariant-write_items-loop-item : goal.invariant-write_items-loop-ite
 invariant-write_items-loop-item g l =
     let left = drop l.item-index l.item-items in
     record {
-      writing : Writing (enclosed l.open (map text (shown_all g.V.WasmValue.tree l.items.items)) l.close) (parted l.later (map (λ v. text (g.V.WasmValue.tree v.now)) left) ++ l.close) (g.W.TextWrite.output l.fn.self.out) (g.W.TextWrite.output l.self.out);
+      writing : Writing (enclosed l.opening (map text (shown_all g.V.WasmValue.tree l.items.items)) l.closing) (parted l.later (map (λ v. text (g.V.WasmValue.tree v.now)) left) ++ l.closing) (g.W.TextWrite.output l.fn.self.out) (g.W.TextWrite.output l.self.out);
       writable : list_all (λ v. has_text (g.V.WasmValue.tree v.now)) left ≡ list_all has_text (shown_all g.V.WasmValue.tree l.items.items);
     }
 

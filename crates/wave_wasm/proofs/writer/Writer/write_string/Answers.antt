@@ -1,12 +1,7 @@
-use Rattle.std.proofs.Common.{[], length, refl, arith}
-use Rattle.std.proofs.lemmas.Iterator.{YieldsList-from_chars}
-use Rattle.std.proofs.lemmas.Iterator.Consumers.{YieldsList-turn, YieldsList-end}
-use Rattle.std.proofs.lemmas.List.{length_push}
+use Rattle.std.proofs.Common.{[], refl}
 use Rattle.std.proofs.lemmas.Result.{err_from_is_err_and, IfErr-weaker, IfOk-weaker}
-use Rattle.std.specs.Str.{chars}
-use Rattle.wave_wasm.specs.Text.{escaped}
-use Rattle.wave_wasm.proofs.Scalars.{writing_scalar, writing_no_scalar}
-use Rattle.wave_wasm.proofs.Writing.{writing_more, writing_all, writing_refused_text, start_refused}
+use Rattle.wave_wasm.proofs.Runs.{running_start, running_plain, running_written, running_again, running_end}
+use Rattle.wave_wasm.proofs.Writing.{writing_more, writing_all, writing_refused_text, start_refused, start_written}
 use Rattle.wave_wasm.proofs.writer.Writer.write_string.Goals as goal
 
 pub returns-in_err-write_text-clause-err : goal.returns-in_err-write_text-clause-err
@@ -14,26 +9,46 @@ returns-in_err-write_text-clause-err g c =
     let p = err_from_is_err_and c.from_residual.result c.from_residual.ensures.1 in
     rw (p.1, p.2) (start_refused _ refl c.in_err-write_text.ensures.err)
 
-pub loop-c-preserved : goal.loop-c-preserved
-loop-c-preserved g c =
-    let t = YieldsList-turn (YieldsList-from_chars c.args.s.now c.utf8.s cc) c.loop-c.yielded _ c.loop-c.yielded_by _ _ c.in-Some.c c.in-Some.is c.next.ensures.steps in
-    let w = writing_more (writing_scalar escaped (chars c.args.s.now) (length c.loop-c.yielded) c.in-Some.c _ t c.loop-c.invariant) c.in_ok-write_scalar.ensures.ok in
-    rw length_push w
+pub loop-at-init : goal.loop-at-init
+loop-at-init g c =
+    let e = c.into_iter-at-iterator.ensures.into_iter_gives in
+    rw e (running_start c.args.s.now _ _ c.utf8.s c.char_indices-at-items.ensures.offset c.char_indices-at-items.ensures.rest (start_written _ refl c.in_ok-write_text.ensures.ok))
+
+pub returns-in_err-write_run-clause-err : goal.returns-in_err-write_run-clause-err
+returns-in_err-write_run-clause-err g c =
+    let p = err_from_is_err_and c.from_residual-in_err-write_run.result c.from_residual-in_err-write_run.ensures.1 in
+    let t = c.in-Some.ensures.steps in
+    rw (p.1, p.2) (writing_refused_text _ (running_written _ _ _ _ c.in-Some.c _ _ _ c.loop-at.invariant t.0 t.1 c.range.ensures.value) c.in_err-write_run.ensures.err)
 
 pub returns-in_err-write_scalar-clause-err : goal.returns-in_err-write_scalar-clause-err
 returns-in_err-write_scalar-clause-err g c =
-    let t = YieldsList-turn (YieldsList-from_chars c.args.s.now c.utf8.s cc) c.loop-c.yielded _ c.loop-c.yielded_by _ _ c.in-Some.c c.in-Some.is c.next.ensures.steps in
     let p = err_from_is_err_and c.from_residual-in_err-write_scalar.result c.from_residual-in_err-write_scalar.ensures.1 in
-    rw (p.1, p.2) (writing_refused_text _ (writing_scalar escaped (chars c.args.s.now) (length c.loop-c.yielded) c.in-Some.c _ t c.loop-c.invariant) c.in_err-write_scalar.ensures.err)
+    let t = c.in-Some.ensures.steps in
+    let w = writing_more (running_written _ _ _ _ c.in-Some.c _ _ _ c.loop-at.invariant t.0 t.1 c.range.ensures.value) c.in_ok-write_run.ensures.ok in
+    rw (p.1, p.2) (writing_refused_text _ w c.in_err-write_scalar.ensures.err)
+
+pub loop-at-preserved-then-not-is_plain : goal.loop-at-preserved-then-not-is_plain
+loop-at-preserved-then-not-is_plain g c =
+    let t = c.in-Some.ensures.steps in
+    let w = writing_more (running_written _ _ _ _ c.in-Some.c _ _ _ c.loop-at.invariant t.0 t.1 c.range.ensures.value) c.in_ok-write_run.ensures.ok in
+    running_again _ _ _ _ c.in-Some.c _ _ _ _ c.loop-at.invariant t.0 t.1 c.len_utf8.ensures.len t.2 (writing_more w c.in_ok-write_scalar.ensures.ok)
+
+pub loop-at-preserved : goal.loop-at-preserved
+loop-at-preserved g c =
+    let t = c.in-Some.ensures.steps in
+    running_plain _ _ _ _ c.in-Some.c _ _ c.loop-at.invariant t.1 t.2 (c.is_plain.ensures c.if-not-is_plain.false)
+
+pub returns-in_err-write_run-2-clause-err : goal.returns-in_err-write_run-2-clause-err
+returns-in_err-write_run-2-clause-err g c =
+    let p = err_from_is_err_and c.from_residual-in_err-write_run-2.result c.from_residual-in_err-write_run-2.ensures.1 in
+    rw (p.1, p.2) (writing_refused_text _ (running_end _ _ _ _ _ c.loop-at.invariant c.in-None.ensures.steps.0 c.range_from.ensures.value) c.in_err-write_run-2.ensures.err)
 
 pub returns-clause-ok : goal.returns-clause-ok
 returns-clause-ok g c =
-    let t = YieldsList-end (YieldsList-from_chars c.args.s.now c.utf8.s cc) c.loop-c.yielded _ c.loop-c.yielded_by _ _ c.in-None.is c.next.ensures.steps in
-    let w = writing_no_scalar escaped (chars c.args.s.now) (length c.loop-c.yielded) _ (omega (arith, t.1)) c.loop-c.invariant in
+    let w = writing_more (running_end _ _ _ _ _ c.loop-at.invariant c.in-None.ensures.steps.0 c.range_from.ensures.value) c.in_ok-write_run-2.ensures.ok in
     IfOk-weaker _ _ _ (λ x a. writing_all (writing_more {rest = []} w a)) c.write_text-2.ensures.ok
 
 pub returns-clause-err : goal.returns-clause-err
 returns-clause-err g c =
-    let t = YieldsList-end (YieldsList-from_chars c.args.s.now c.utf8.s cc) c.loop-c.yielded _ c.loop-c.yielded_by _ _ c.in-None.is c.next.ensures.steps in
-    let w = writing_no_scalar escaped (chars c.args.s.now) (length c.loop-c.yielded) _ (omega (arith, t.1)) c.loop-c.invariant in
+    let w = writing_more (running_end _ _ _ _ _ c.loop-at.invariant c.in-None.ensures.steps.0 c.range_from.ensures.value) c.in_ok-write_run-2.ensures.ok in
     IfErr-weaker _ _ _ (λ e r. writing_refused_text [] w r) c.write_text-2.ensures.err
