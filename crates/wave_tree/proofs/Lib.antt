@@ -94,3 +94,6 @@ pub mod StringNodes
 pub mod TextKeys
 pub mod Results
 pub mod Variants
+pub mod FlagNodes
+pub mod FlagSets
+pub mod FlagTypes
