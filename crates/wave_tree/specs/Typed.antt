@@ -115,7 +115,6 @@ abbrev mutual
   IsServed (type.enum names) = Unit {0}
   IsServed (type.flags names) = Unit {0}
   IsServed (type.map K V) = IsKeyServed (type.simple K) × IsServed V
-  IsServed _ = ⊥
 
   -- each type of a tuple is read
   pub AreServed : Types → Type 0
