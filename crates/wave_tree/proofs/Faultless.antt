@@ -110,7 +110,6 @@ mutual
   no_value (type.flags labels) t k q served names fault = λ v read. flags_none labels t k q v fault read
   no_value (type.enum cases) t k q served names fault = λ v read. enum_none cases t k q v fault read
   no_value (type.map K V) t k q served names fault = λ v read. map_none K V k q (λ p token l f s. leaf_none K p token k q l (key_is_served K served.0) f s) (λ u h. no_value V u k q served.1 names h) t v fault read
-  no_value _ t k q served names fault = absurd served
 
   -- so is the payload of the case of this name
   no_case : (cs : Cases) (name : List ℕ) (payload : MaybePlaced) (p : Range ℕ) (k : Refusal) (q : Range ℕ) → AreServedCases cs → AreDistinct (case_names cs) → EachNamesOfCases AreDistinct cs → FaultOfCase cs name payload p k q → (w : MaybeValue) → TreeReadsCase cs name (maybe_of payload) w → ⊥

@@ -22,6 +22,7 @@ pub mod Examples
 pub mod BeginExamples
 pub mod Going
 pub mod Askings
+pub mod Spans
 pub mod Answering
 pub mod AtHand
 pub mod Names

@@ -68,7 +68,6 @@ unread_fault (type.variant cases) t k r q served e unread refused = absurd (unre
 unread_fault (type.enum names) t k r q served e unread refused = absurd (unread.enum e)
 unread_fault (type.flags names) t k r q served e unread refused = absurd (unread.flags e)
 unread_fault (type.map K V) t k r q served e unread refused = absurd (unread.map e)
-unread_fault _ t k r q served e unread refused = absurd served
 
 -- so a refusal for want of values is a fault
 pub unread_blame : (Full : TypeTree → Type 0) (T : TypeTree) (source : List ℕ) (n : NodeTree) (t : Placed) (k : WasmTypeKind) (e : ParserError) → placed_of source n ≡ Some t → IsServed T → k ≡ kind_of T → IsUnread k → IsCaused (unsupported_type (kind_word k)) n e → IsBlamed Full T t e
