@@ -26,6 +26,8 @@ pub mod CowText
 pub mod Typed
 pub mod Records
 pub mod ShownNodes
+pub mod Called
+pub mod CalledCode
 pub mod TreeParams
 pub mod FromText
 pub mod Untyped
