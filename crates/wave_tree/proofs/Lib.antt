@@ -22,6 +22,7 @@ pub mod Examples
 pub mod BeginExamples
 pub mod Going
 pub mod Askings
+pub mod Spans
 pub mod Answering
 pub mod AtHand
 pub mod Names
@@ -95,3 +96,6 @@ pub mod StringNodes
 pub mod TextKeys
 pub mod Results
 pub mod Variants
+pub mod FlagNodes
+pub mod FlagSets
+pub mod FlagTypes

@@ -24,6 +24,7 @@ pub mod Faults
 pub mod Answers
 pub mod CowText
 pub mod Typed
+pub mod Flags
 pub mod Records
 pub mod ShownNodes
 pub mod Called

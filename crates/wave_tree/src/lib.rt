@@ -3,6 +3,7 @@
 
 mod ahead;
 pub mod ast;
+mod flags;
 pub mod laws;
 pub mod number;
 mod params;

@@ -625,6 +625,7 @@ impl<'source> Parser<'source> {
 pub fn from_str<V: WasmValue>(alloc: Global, ty: &V::Type, s: &str) -> Result<V, ParserError>
     ensures value { IfOk result (IsMeant V.tree V.is_of (V.Type.tree ty.now) s.now) }
     ensures refused { IfErr result (RefusesText V.is_full (V.Type.tree ty.now) s.now) }
+    ensures memory { IfErr result (λ e. e.kind ≡ kind.OutOfMemory → Says e kind.OutOfMemory (span 0 0) None) }
 {
     let mut parser = Parser::new(s);
     let value = parser.parse_value::<V>(alloc, ty)?;
