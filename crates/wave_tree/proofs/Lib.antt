@@ -22,6 +22,7 @@ pub mod Examples
 pub mod BeginExamples
 pub mod Going
 pub mod Askings
+pub mod Spans
 pub mod Answering
 pub mod AtHand
 pub mod Names
@@ -35,8 +36,10 @@ pub mod TyingFlags
 pub mod Tied
 pub mod Texts
 pub mod TreeTexts
+pub mod CallTexts
 pub mod JoinedTexts
 pub mod ShownLemmas
+pub mod ParamLemmas
 pub mod CanonTokens
 pub mod CanonNumbers
 pub mod CanonPrints
@@ -93,3 +96,6 @@ pub mod StringNodes
 pub mod TextKeys
 pub mod Results
 pub mod Variants
+pub mod FlagNodes
+pub mod FlagSets
+pub mod FlagTypes

@@ -24,8 +24,12 @@ pub mod Faults
 pub mod Answers
 pub mod CowText
 pub mod Typed
+pub mod Flags
 pub mod Records
 pub mod ShownNodes
+pub mod Called
+pub mod CalledCode
+pub mod TreeParams
 pub mod FromText
 pub mod Untyped
 pub mod UntypedCode

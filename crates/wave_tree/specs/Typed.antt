@@ -111,6 +111,7 @@ abbrev mutual
   IsServed (type.result A B) = IsServedPayload A × IsServedPayload B
   IsServed (type.variant cases) = AreServedCases cases
   IsServed (type.enum names) = Unit {0}
+  IsServed (type.flags names) = Unit {0}
   IsServed (type.map K V) = IsKeyServed (type.simple K) × IsServed V
   IsServed _ = ⊥
 

@@ -8,6 +8,7 @@ ghost use Rattle.wave_tree.specs.Nodes.{IsParsedFrom};
 ghost use Rattle.wave_tree.specs.CowText.{GivesString};
 ghost use Rattle.wave_tree.specs.Answers.{text_at, quotes_of, IsInside, RefusedAs, OfType, GivesBool, GivesNumber, GivesChar, GivesParts, GivesNodes, GivesOption, GivesResult, GivesLabel, GivesVariant, GivesEntries, GivesBoolKey, node_pairs};
 
+pub use crate::flags::FlagLabels;
 use crate::number::WholeNumber;
 pub use crate::record::RecordFields;
 use crate::text::{char_in, joined};

@@ -3,8 +3,10 @@
 
 mod ahead;
 pub mod ast;
+mod flags;
 pub mod laws;
 pub mod number;
+mod params;
 pub mod parser;
 mod record;
 #[cfg(test)]

@@ -63,6 +63,7 @@ impl Node {
             WasmTypeKind::Tuple => self.read_tuple(alloc, ty, src),
             WasmTypeKind::Variant => self.read_variant(alloc, ty, src),
             WasmTypeKind::Enum => self.read_enum(alloc, ty, src),
+            WasmTypeKind::Flags => self.read_flags(alloc, ty, src),
             WasmTypeKind::Option => self.read_option(alloc, ty, src),
             WasmTypeKind::Result => self.read_result(alloc, ty, src),
             WasmTypeKind::Map => self.read_map(alloc, ty, src),
@@ -340,6 +341,26 @@ impl Node {
         self.made(V::make_char(alloc, val))
     }
 
+    /// Flags: some of the type's names.
+    fn read_flags<V: WasmValue>(
+        &self,
+        alloc: Global,
+        ty: &V::Type,
+        src: &str,
+    ) -> Result<V, ParserError>
+        requires node { IsValueOf src.now self.now }
+        requires kind { kind_of (V.Type.tree ty.now) ≡ WasmTypeKind.Flags }
+        ensures { Answers V.tree V.is_of V.is_full (V.Type.tree ty.now) src.now self.now result }
+    {
+        let names = match ty.flags_names(alloc) {
+            Ok(names) => names,
+            Err(_) => return Err(self.out_of_memory()),
+        };
+        let flags = self.flags_of(alloc, &names, src)?;
+        let picked = self.picked(alloc, &names, &flags)?;
+        self.made(V::make_flags(alloc, ty, picked.as_slice()))
+    }
+
     /// A string.
     fn read_string<V: WasmValue>(
         &self,
@@ -410,7 +431,7 @@ impl Node {
     }
 
     /// A refusal because the type has no case or flag of this name.
-    fn unknown_case(&self, alloc: Global, name: &str) -> ParserError
+    pub(crate) fn unknown_case(&self, alloc: Global, name: &str) -> ParserError
         ensures { IsCaused (unknown_case name.now) self.now result }
     {
         match String::from_str(alloc, name) {
