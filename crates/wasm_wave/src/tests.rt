@@ -297,3 +297,187 @@ fn a_type_without_values(rt: HostRuntime) -> Result<(), Fail> {
     }
     Ok(())
 }
+
+/// A writer that fails once, behind this many texts, and goes on.
+#[derive(Drop)]
+struct Once {
+    taken: String,
+    left: usize,
+    failures: u64,
+}
+
+impl TextWrite for Once {
+    ghost use Rattle.std.specs.String.{string_bytes};
+
+    ghost output = { λ s. record { written = string_bytes s.taken; failures = s.failures } };
+
+    fn write_str(&mut self, s: &str) -> Result<(), WriterError> {
+        if self.left == 0 && self.failures == 0 {
+            self.failures = self.failures.saturating_add(1);
+            return Err(WriterError::Io(fmt::Error));
+        }
+        self.left = self.left.saturating_sub(1);
+        self.taken.push_str(s)?;
+        Ok(())
+    }
+}
+
+/// The tuple `(1, "a")`.
+fn pair(rt: HostRuntime) -> Result<Option<Value>, Fail> {
+    let mut types = Vec::new(rt.alloc());
+    types.push(Type::U8)?;
+    types.push(Type::STRING)?;
+    let Some(ty) = Type::tuple(rt.alloc(), types)? else {
+        return Ok(None);
+    };
+    let mut items = Vec::new(rt.alloc());
+    items.push(Value::make_u8(rt.alloc(), 1)?)?;
+    items.push(Value::make_string(rt.alloc(), "a")?)?;
+    Ok(Some(Value::make_tuple(rt.alloc(), &ty, items)?))
+}
+
+/// Whether a write was refused as failed; any other refusal fails the test.
+fn is_failed(rt: HostRuntime, answer: Result<(), WriterError>) -> Result<bool, Fail> {
+    match answer {
+        Ok(_) => Ok(false),
+        Err(WriterError::Io(_)) => Ok(true),
+        Err(_) => {
+            assert!(rt; false);
+            Ok(true)
+        }
+    }
+}
+
+/// What was taken is a beginning of the text, the whole of it where no write failed.
+fn is_taken(
+    rt: HostRuntime,
+    taken: &str,
+    failures: u64,
+    failed: bool,
+    left: usize,
+) -> Result<(), Fail> {
+    let text = "(1, \"a\")";
+    assert!(rt; text.starts_with(taken), "at {left}");
+    assert_eq!(rt; taken.len() < text.len(), failed, "at {left}");
+    assert_eq!(rt; failures == 1, failed, "at {left}");
+    Ok(())
+}
+
+#[test]
+fn writes_that_fail_for_good(rt: HostRuntime) -> Result<(), Fail> {
+    let Some(val) = pair(rt)? else {
+        return Ok(());
+    };
+    for left in 0..20 {
+        let taken = String::new(rt.alloc());
+        let mut writer = Writer::new(Short {
+            taken,
+            left,
+            failures: 0,
+        });
+        let answer = writer.write_value(rt.alloc(), &val);
+        let failed = is_failed(rt, answer)?;
+        let out = writer.into_inner();
+        is_taken(rt, out.taken.as_str(), out.failures, failed, left)?;
+        assert!(rt; failed || left > 0);
+        assert!(rt; !failed || left < 19);
+    }
+    Ok(())
+}
+
+#[test]
+fn a_write_that_fails_once(rt: HostRuntime) -> Result<(), Fail> {
+    let Some(val) = pair(rt)? else {
+        return Ok(());
+    };
+    for left in 0..20 {
+        let taken = String::new(rt.alloc());
+        let mut writer = Writer::new(Once {
+            taken,
+            left,
+            failures: 0,
+        });
+        let answer = writer.write_value(rt.alloc(), &val);
+        let failed = is_failed(rt, answer)?;
+        let out = writer.into_inner();
+        is_taken(rt, out.taken.as_str(), out.failures, failed, left)?;
+    }
+    Ok(())
+}
+
+#[test]
+fn tuples(rt: HostRuntime) -> Result<(), Fail> {
+    let Some(val) = pair(rt)? else {
+        return Ok(());
+    };
+    assert_eq!(rt; to_string(rt.alloc(), &val)?.as_str(), "(1, \"a\")");
+    let ty = val.ty()?;
+    let mut short = Vec::new(rt.alloc());
+    short.push(Value::make_u8(rt.alloc(), 1)?)?;
+    match Value::make_tuple(rt.alloc(), &ty, short) {
+        Err(WasmValueError::WrongNumberOfTupleValues { want, got }) => {
+            assert_eq!(rt; want, 2);
+            assert_eq!(rt; got, 1);
+        }
+        _ => assert!(rt; false),
+    }
+    Ok(())
+}
+
+#[test]
+fn results(rt: HostRuntime) -> Result<(), Fail> {
+    let ty = Type::result(rt.alloc(), Some(Type::U8), None)?;
+    let one = Value::make_u8(rt.alloc(), 1)?;
+    let val = Value::make_result(rt.alloc(), &ty, Ok(Some(one)))?;
+    assert_eq!(rt; to_string(rt.alloc(), &val)?.as_str(), "ok(1)");
+    let val = Value::make_result(rt.alloc(), &ty, Err(None))?;
+    assert_eq!(rt; to_string(rt.alloc(), &val)?.as_str(), "err");
+    match Value::make_result(rt.alloc(), &ty, Ok(None)) {
+        Err(WasmValueError::MissingPayload(case)) => assert_eq!(rt; case.as_str(), "ok"),
+        _ => assert!(rt; false),
+    }
+    Ok(())
+}
+
+/// The type `record { a: u8, b: option<u8> }`.
+fn fields_type(rt: HostRuntime) -> Result<Option<Type>, Fail> {
+    let mut fields = Vec::new(rt.alloc());
+    fields.push(("a", Type::U8))?;
+    fields.push(("b", Type::option(rt.alloc(), Type::U8)?))?;
+    Ok(Type::record(rt.alloc(), fields)?)
+}
+
+#[test]
+fn records(rt: HostRuntime) -> Result<(), Fail> {
+    let Some(ty) = fields_type(rt)? else {
+        return Ok(());
+    };
+    let some = Type::option(rt.alloc(), Type::U8)?;
+    let three = Value::make_u8(rt.alloc(), 3)?;
+    let mut fields = Vec::new(rt.alloc());
+    fields.push(("a", Value::make_u8(rt.alloc(), 1)?))?;
+    fields.push(("b", Value::make_option(rt.alloc(), &some, Some(three))?))?;
+    fields.push(("a", Value::make_u8(rt.alloc(), 2)?))?;
+    let val = Value::make_record(rt.alloc(), &ty, fields)?;
+    assert_eq!(rt; to_string(rt.alloc(), &val)?.as_str(), "{a: 2, b: some(3)}");
+    let mut fields = Vec::new(rt.alloc());
+    fields.push(("a", Value::make_u8(rt.alloc(), 1)?))?;
+    match Value::make_record(rt.alloc(), &ty, fields) {
+        Err(WasmValueError::MissingField(name)) => assert_eq!(rt; name.as_str(), "b"),
+        _ => assert!(rt; false),
+    }
+    Ok(())
+}
+
+#[test]
+fn the_cause_at_a_type_without_values(rt: HostRuntime) -> Result<(), Fail> {
+    let Err(error) = from_str(rt.alloc(), &Type::F64, "1") else {
+        assert!(rt; false);
+        return Ok(());
+    };
+    match error.cause() {
+        Some(WasmValueError::UnsupportedType(word)) => assert_eq!(rt; word.as_str(), "f64"),
+        _ => assert!(rt; false),
+    }
+    Ok(())
+}
