@@ -185,7 +185,7 @@ flat_typed T n reading tokens w rest u (flat, p) = let (h, x) = reading tokens w
 -- ---- flags and maps
 
 -- what is found of names is picked of them
-found_picked : (found names : List (List ℕ)) → ArePicked names (found_in found names)
+pub found_picked : (found names : List (List ℕ)) → ArePicked names (found_in found names)
 found_picked found [] = refl
 found_picked found (name ∷ more) = by_test (is_one_of found name) (found_picked found more)
   where

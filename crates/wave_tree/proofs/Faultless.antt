@@ -22,6 +22,7 @@ use Rattle.wave_tree.proofs.Options.{some_none, flat_none}
 use Rattle.wave_tree.proofs.Maps.{map_none}
 use Rattle.wave_tree.proofs.Results.{ok_none, err_none}
 use Rattle.wave_tree.proofs.Enums.{none_one}
+use Rattle.wave_tree.proofs.FlagTypes.{flags_none}
 use Rattle.wave_tree.proofs.Variants.{variant_none, read_is_one}
 use Rattle.wave_wasm.specs.Names.{IsOneOf}
 use Rattle.wave_wasm.specs.Types.{Cases, case_names, EachNamesOfCases}
@@ -78,8 +79,8 @@ list_none E (and_then t more) k q (u ∷ us) vs apart (inr h) e (v, ws, read, ot
 key_is_served : (K : Simple) → IsKeyServed (type.simple K) → IsServed (type.simple K)
 key_is_served type.bool h = tt
 key_is_served (type.whole which) h = tt
-key_is_served type.char h = absurd h
-key_is_served type.string h = absurd h
+key_is_served type.char h = tt
+key_is_served type.string h = tt
 
 mutual
   -- a tree with a fault at a type is given no value by it
@@ -100,6 +101,7 @@ mutual
   no_value (type.result A B) (at p s) k q served names fault = λ v. elim [ inl (inl h) ↦ absurd (cc) | inl (inr h) ↦ absurd (cc) | inr h ↦ no_flat A (at p s) k q served.0 names.0 fault h.0 h.1 ]
   no_value (type.variant cs) (at p (label r text payload)) k q served names fault = λ v read. variant_none cs text (maybe_of payload) v (no_case cs (name_of text) payload p k q served names.0 names.1 fault) read
   no_value (type.variant cs) (at p _) k q served names fault = λ v read. absurd (cc)
+  no_value (type.flags labels) t k q served names fault = λ v read. flags_none labels t k q v fault read
   no_value (type.enum cases) t k q served names fault = λ v read. enum_none cases t k q v fault read
   no_value (type.map K V) t k q served names fault = λ v read. map_none K V k q (λ p token l f s. leaf_none K p token k q l (key_is_served K served.0) f s) (λ u h. no_value V u k q served.1 names h) t v fault read
   no_value _ t k q served names fault = absurd served

@@ -53,16 +53,16 @@ key_from ty r text cs (at q (one (token.multiline w))) p key f e = subst (IsKeyT
 key_from ty r text cs _ p key f e = absurd (cc)
 
 -- the token of a key is by the type of its node
-key_token : (source : List ℕ) (n : NodeTree) (p : Range ℕ) (key : Token) → IsTokenOf source n p key → IsKeyToken (type_of n) (text_at source n) key
+pub key_token : (source : List ℕ) (n : NodeTree) (p : Range ℕ) (key : Token) → IsTokenOf source n p key → IsKeyToken (type_of n) (text_at source n) key
 key_token source n p key h =
     let i = inside source n h.0.0 h.0.1 in
     key_from (type_of n) (place_of n) (slice source (place_of n)) i.children h.0.0 p key i.from h.0.2
 
 -- a key stands where its node does
-key_at : (source : List ℕ) (n : NodeTree) (p : Range ℕ) (key : Token) → IsTokenOf source n p key → p ≡ place_of n
+pub key_at : (source : List ℕ) (n : NodeTree) (p : Range ℕ) (key : Token) → IsTokenOf source n p key → p ≡ place_of n
 key_at source n p key h = key_place source n h.0.0 p key (inside source n h.0.0 h.0.1) h.0.2
 
-at_key : (why : _) (source : List ℕ) (n : NodeTree) (p : Range ℕ) (key : Token) (k : Refusal) (q : Range ℕ) → IsTokenOf source n p key → Refuses why (place_of n) k q → Refuses why p k q
+pub at_key : (why : _) (source : List ℕ) (n : NodeTree) (p : Range ℕ) (key : Token) (k : Refusal) (q : Range ℕ) → IsTokenOf source n p key → Refuses why (place_of n) k q → Refuses why p k q
 at_key why source n p key k q h refused = (refused.0, refused.1 ∙ sym (key_at source n p key h))
 
 -- ---- bools
@@ -157,6 +157,8 @@ pub record IsUnreadKey (k : WasmTypeKind) : Type 0 where
   pub u16 : k ≢ kinds.U16
   pub u32 : k ≢ kinds.U32
   pub u64 : k ≢ kinds.U64
+  pub char : k ≢ kinds.Char
+  pub string : k ≢ kinds.String
 
 -- a key that is read is of one of them
 pub key_unserved : {X : Type 0} (T : TypeTree) (k : WasmTypeKind) → IsKeyServed T → k ≡ kind_of T → IsUnreadKey k → X
@@ -169,9 +171,12 @@ key_unserved (type.simple (type.whole type.u8)) k served e unread = absurd (unre
 key_unserved (type.simple (type.whole type.u16)) k served e unread = absurd (unread.u16 e)
 key_unserved (type.simple (type.whole type.u32)) k served e unread = absurd (unread.u32 e)
 key_unserved (type.simple (type.whole type.u64)) k served e unread = absurd (unread.u64 e)
+key_unserved (type.simple type.char) k served e unread = absurd (unread.char e)
+key_unserved (type.simple type.string) k served e unread = absurd (unread.string e)
 key_unserved _ k served e unread = absurd served
 
-one_simple : (T : TypeTree) (K S : Simple) → T ≡ type.simple K → T ≡ type.simple S → S ≡ K
+-- a type is one simple type
+pub one_simple : (T : TypeTree) (K S : Simple) → T ≡ type.simple K → T ≡ type.simple S → S ≡ K
 one_simple T K S e f = let same : type.simple S ≡ type.simple K = sym f ∙ e in cc
 
 refused : (Full : TypeTree → Type 0) (K : Simple) (p : Range ℕ) (key : Token) (cause : WasmValueError) (e : ParserError) → refusal_of e ≡ refused_by (cause_of cause) → (Full (type.simple K) → IsMemory cause) → IsKeyBlamed Full K p key e
@@ -191,11 +196,12 @@ module _ {V : Type 0} (tree : V → Value) (of : V → TypeTree → Type 0) (Ful
   key_made T K S p key n l m r e f is spelled ok full done =
       subst (λ (R : Simple). MatchResult r (IsKeyRead tree of R key) (IsKeyBlamed Full R p key)) (one_simple T K S e f) (made_at S p key n l m r is spelled ok full done)
 
-  handed : (K : Simple) (p : Range ℕ) (key : Token) (e : ParserError) (r : Result V ParserError) → IsErrAnd r (λ f. f ≡ e) → IsKeyBlamed Full K p key e → MatchResult r (IsKeyRead tree of K key) (IsKeyBlamed Full K p key)
-  handed K p key e (Ok v) same blamed = absurd same
-  handed K p key e (Err f) same blamed = subst (IsKeyBlamed Full K p key) (sym same) blamed
+  -- a refusal of the key, handed on
+  pub key_handed : (K : Simple) (p : Range ℕ) (key : Token) (e : ParserError) (r : Result V ParserError) → IsErrAnd r (λ f. f ≡ e) → IsKeyBlamed Full K p key e → MatchResult r (IsKeyRead tree of K key) (IsKeyBlamed Full K p key)
+  key_handed K p key e (Ok v) same blamed = absurd same
+  key_handed K p key e (Err f) same blamed = subst (IsKeyBlamed Full K p key) (sym same) blamed
 
   -- a fault of the key, handed on
   pub key_faulty : (T : TypeTree) (K S : Simple) (p : Range ℕ) (key : Token) (e : ParserError) (r : Result V ParserError) → T ≡ type.simple K → T ≡ type.simple S → IsErrAnd r (λ f. f ≡ e) → MapKeyFault S p key (refusal_of e) e.span → MatchResult r (IsKeyRead tree of K key) (IsKeyBlamed Full K p key)
   key_faulty T K S p key e r is same handed_on fault =
-      handed K p key e r handed_on (inr (inl (subst (λ (R : Simple). MapKeyFault R p key (refusal_of e) e.span) (one_simple T K S is same) fault)))
+      key_handed K p key e r handed_on (inr (inl (subst (λ (R : Simple). MapKeyFault R p key (refusal_of e) e.span) (one_simple T K S is same) fault)))

@@ -21,6 +21,8 @@ pub mod Levels
 pub mod Examples
 pub mod BeginExamples
 pub mod Going
+pub mod Askings
+pub mod Spans
 pub mod Answering
 pub mod AtHand
 pub mod Names
@@ -36,6 +38,7 @@ pub mod Texts
 pub mod TreeTexts
 pub mod JoinedTexts
 pub mod ShownLemmas
+pub mod ParamLemmas
 pub mod CanonTokens
 pub mod CanonNumbers
 pub mod CanonPrints
@@ -63,6 +66,7 @@ pub mod Entries
 pub mod Keys
 pub mod Maps
 pub mod Items
+pub mod Fields
 pub mod Tuples
 pub mod CanonTidy
 pub mod CanonUtf8
@@ -88,5 +92,9 @@ pub mod TextLeaves
 pub mod CowTexts
 pub mod OneRuns
 pub mod StringNodes
+pub mod TextKeys
 pub mod Results
 pub mod Variants
+pub mod FlagNodes
+pub mod FlagSets
+pub mod FlagTypes

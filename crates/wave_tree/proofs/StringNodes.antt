@@ -1,19 +1,17 @@
 -- The text of a node that is a string.
-use Rattle.std.proofs.Common.{ℕ, ◌≡◌, ◌≢◌, ◌+◌, ◌⊎◌, inl, inr, List, [], ◌∷◌, ◌++◌, length, None, Some, Result, Ok, Err, refl, sym, ap, subst, ◌∙◌, arith}
+use Rattle.std.proofs.Common.{ℕ, ◌≡◌, ◌+◌, inl, inr, List, [], ◌++◌, Result, Ok, Err, refl, sym, subst, ◌∙◌}
 use Rattle.std.proofs.lemmas.List.{append_cancel_left, append_cancel_right}
 use Rattle.std.specs.Result.{IsErrAnd}
-use Rattle.wave_wasm.specs.Lists.{AllOf}
-use Rattle.wave_lex.specs.declared.strings.StringPart.{StringPart}
 use Rattle.wave_lex.specs.declared.error.ParserError.{ParserError}
 use Rattle.wave_lex.specs.Left.{Undecoded, LinesLeft, one_line}
-use Rattle.wave_lex.specs.Strings.{Decodes, IsInQuotes}
-use Rattle.wave_lex.specs.Multiline.{DecodesLines, IsInThreeQuotes}
-use Rattle.wave_lex.specs.Parts.{part_texts, left_of, LinesRunTo, OpensTo, OpeningRefused}
+use Rattle.wave_lex.specs.Strings.{Decodes}
+use Rattle.wave_lex.specs.Multiline.{DecodesLines}
+use Rattle.wave_lex.specs.Parts.{left_of, OpensTo}
 use Rattle.wave_lex.specs.declared.strings.StringPartsIter.{StringPartsIter}
 use Rattle.wave_lex.proofs.LineParts.{one_line_joins, lines_join}
 use Rattle.wave_tree.specs.NodeTree.{NodeTree, type_of, place_of}
 use Rattle.wave_tree.specs.Answers.{text_at, quotes_of, IsInside, GivesParts}
-use Rattle.wave_tree.specs.CowText.{cow_text, BorrowedWhere, WantsMemory, IsOneRun, PutTogether, StandsFor, TellsStringFault, IsRunAt, GivesString}
+use Rattle.wave_tree.specs.CowText.{IsOneRun, PutTogether, IsRunAt, GivesString}
 use Rattle.wave_tree.proofs.OneRuns.{IsPlain, IsShort, run_is_short, short_is_run}
 use Rattle.wave_tree.proofs.CowTexts.{borrowed_so}
 use Rattle.wave_tree.specs.declared.ast.CowStr.{CowStr}

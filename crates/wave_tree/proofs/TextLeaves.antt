@@ -1,5 +1,5 @@
 -- What the types of chars and strings give the nodes of one token.
-use Rattle.std.proofs.Common.{ℕ, ◌≡◌, ◌≢◌, ◌+◌, inl, inr, List, [], ◌∷◌, ◌++◌, length, Option, Some, Err, refl, sym, ap, ◌∙◌, subst, arith}
+use Rattle.std.proofs.Common.{ℕ, ◌≡◌, ◌≢◌, ◌+◌, inl, inr, List, [], ◌∷◌, ◌++◌, Option, Some, Err, refl, sym, ap, ◌∙◌, subst, arith}
 use Rattle.std.specs.declared.ops.Range.{Range}
 use Rattle.std.proofs.lemmas.List.{append_cancel_left, append_cancel_right}
 use Rattle.wave_wasm.specs.Types as type
@@ -11,7 +11,7 @@ use Rattle.wave_lex.specs.declared.error.ParserError.{ParserError}
 use Rattle.wave_lex.specs.declared.error.ParserErrorKind.TheVariants.{InvalidType, InvalidEscape}
 use Rattle.wave_lex.specs.Lexing.{span, three_quotes}
 use Rattle.wave_lex.specs.Strings.{CharMeans, Decodes}
-use Rattle.wave_lex.specs.Multiline.{DecodesLines, fault_span}
+use Rattle.wave_lex.specs.Multiline.{DecodesLines}
 use Rattle.wave_lex.proofs.Faults.{bad_escape_refuses, faults_refuse}
 use Rattle.wave_tree.specs.Spells.{Spells}
 use Rattle.wave_tree.specs.Token.{Token}
@@ -22,7 +22,7 @@ use Rattle.wave_tree.specs.Faults.{OfForm, LeafFault, IsForm, SpellsNone, TextFa
 use Rattle.wave_tree.specs.NodeTree.{NodeTree, type_of, place_of}
 use Rattle.wave_tree.specs.Nodes.{placed_of}
 use Rattle.wave_tree.specs.Answers.{text_at, GivesChar}
-use Rattle.wave_tree.specs.CowText.{StandsFor, GivesString}
+use Rattle.wave_tree.specs.CowText.{StandsFor, TellsStringFault, GivesString}
 use Rattle.wave_tree.specs.Typed.{IsBlamed}
 use Rattle.wave_tree.proofs.Inside.{From, Inside, inside}
 use Rattle.wave_tree.proofs.Quoted.{IsQuotedToken, quoted_is}
@@ -52,7 +52,7 @@ not_char ty p text cs (one _) f apart t is form = f
 not_char ty p text cs _ f apart t is form = cc
 
 -- a char of no scalar
-no_char : (text : List ℕ) → ((c : ℕ) → CharMeans text c → ⊥) → SpellsNone type.char (token.char text)
+pub no_char : (text : List ℕ) → ((c : ℕ) → CharMeans text c → ⊥) → SpellsNone type.char (token.char text)
 no_char text none l (w, c, e, means, f) = none c (subst (λ (z : List ℕ). CharMeans z c) (sym (text_is text w e)) means)
   where
     text_is : (a b : List ℕ) → token.char a ≡ token.char b → a ≡ b
@@ -104,6 +104,24 @@ text_fault : (t : Placed) (tok : Token) (k : Refusal) (q : Range ℕ) → shape_
 text_fault t tok k q e form fault =
     subst (λ (o : Option Token). OfForm o (span_of t) (LeafFault type.string (span_of t)) k q) (ap one_in (sym e)) (inr (form, fault))
 
+-- what is wrong with the text of a string's token at the node
+pub record ToldFault (source : List ℕ) (n : NodeTree) (e : ParserError) : Type 0 where
+  pub tok : Token
+  pub own : IsQuotedToken (type_of n) (text_at source n) tok
+  pub form : IsForm type.string tok
+  pub wrong : TextFault type.string (place_of n) tok (refusal_of e) e.span
+
+own_token : (ty : NodeType) (source : List ℕ) (n : NodeTree) (t : Token) → type_of n ≡ ty → IsQuotedToken ty (text_at source n) t → IsQuotedToken (type_of n) (text_at source n) t
+own_token ty source n t e h = subst (λ (k : NodeType). IsQuotedToken k (text_at source n) t) (sym e) h
+
+pub told_fault : (source : List ℕ) (n : NodeTree) (e : ParserError) → TellsStringFault source n e → ToldFault source n e
+told_fault source n e (inl (ty, x, k, own, bad, told)) =
+    let last : (place_of n).start + 1 + k + 1 ≡ (place_of n).start + 2 + k = omega arith in
+    let there : e.span ≡ span ((place_of n).start + 1 + k) ((place_of n).start + 2 + k) = told.at ∙ ap (λ (z : ℕ). span ((place_of n).start + 1 + k) z) last in
+    record { tok = token.string (text_at source n); own = own_token kind.String source n (token.string (text_at source n)) ty refl; form = (text_at source n, inl refl); wrong = inl (text_at source n, x, k, refl, own, bad, (told.refusal, there)) }
+told_fault source n e (inr (ty, x, f, own, fault, told)) =
+    record { tok = token.multiline (text_at source n); own = own_token kind.MultilineString source n (token.multiline (text_at source n)) ty refl; form = (text_at source n, inr refl); wrong = inr (text_at source n, x, f, refl, own, fault, (told.refusal, told.at)) }
+
 -- the refusal of a string is a fault, or want of memory
 pub string_blame : (Full : TypeTree → Type 0) (T : TypeTree) (source : List ℕ) (n : NodeTree) (t : Placed) (e : ParserError) → T ≡ type.simple type.string → placed_of source n ≡ Some t → GivesString source n (Err e) → IsBlamed Full T t e
 string_blame Full T source n t e same is h = subst (λ (U : TypeTree). IsBlamed Full U t e) (sym same) (blamed h)
@@ -111,20 +129,12 @@ string_blame Full T source n t e same is h = subst (λ (U : TypeTree). IsBlamed 
     i : Inside source n t
     i = inside source n t is
 
-    start_is : (place_of n).start ≡ (span_of t).start
-    start_is = ap (λ (p : Range ℕ). p.start) (sym i.place)
-
     blamed : GivesString source n (Err e) → IsBlamed Full (type.simple type.string) t e
     blamed (inl (apart, other, refused)) =
         inr (inl (wrong_form type.string (one_in (shape_of t)) (span_of t) (refusal_of e) e.span (not_string (type_of n) (place_of n) (slice source (place_of n)) i.children (shape_of t) i.from apart other) (at_tree InvalidType (place_of n) (span_of t) (refusal_of e) e.span i.place refused)))
-    blamed (inr (inl (inl (ty, x, k, own, bad, told)))) =
-        let last : (place_of n).start + 1 + k + 1 ≡ (place_of n).start + 2 + k = omega arith in
-        let at_node : e.span ≡ span ((place_of n).start + 1 + k) ((place_of n).start + 2 + k) = told.at ∙ ap (λ (z : ℕ). span ((place_of n).start + 1 + k) z) last in
-        let at_it : e.span ≡ span ((span_of t).start + 1 + k) ((span_of t).start + 2 + k) = at_node ∙ ap (λ (z : ℕ). span (z + 1 + k) (z + 2 + k)) start_is in
-        inr (inl (text_fault t (token.string (text_at source n)) (refusal_of e) e.span (string_is source n t is ty) (text_at source n, inl refl) (inl (text_at source n, x, k, refl, own, bad, (told.refusal, at_it)))))
-    blamed (inr (inl (inr (ty, x, f, own, fault, told)))) =
-        let at_it : e.span ≡ fault_span ((span_of t).start + 3) (length x) f = told.at ∙ ap (λ (z : ℕ). fault_span (z + 3) (length x) f) start_is in
-        inr (inl (text_fault t (token.multiline (text_at source n)) (refusal_of e) e.span (multiline_is source n t is ty) (text_at source n, inr refl) (inr (text_at source n, x, f, refl, own, fault, (told.refusal, at_it)))))
+    blamed (inr (inl fault)) =
+        let k = told_fault source n e fault in
+        inr (inl (text_fault t k.tok (refusal_of e) e.span (quoted_is source n t k.tok is k.own) k.form (subst (λ (p : Range ℕ). TextFault type.string p k.tok (refusal_of e) e.span) (sym i.place) k.wrong)))
     blamed (inr (inr (wants, copied))) = inl (ap (λ (r : Refusal). r.kind) wants.0)
 
 string_text : (a b : List ℕ) → token.string a ≡ token.string b → a ≡ b

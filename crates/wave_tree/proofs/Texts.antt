@@ -208,7 +208,7 @@ value_refused Full T s p e h served distinct = by (memory_or e.kind)
   where
     by_blame : (k : IsTypeRefused Full T e (start_of s) p) → Fault T k.placed (refusal_of e) e.span × typed.ReadsNone T k.placed ⊎ (e.kind ≡ kind.WasmValueError) × (Full T → ⊥) →
         (e.kind ≡ kind.OutOfMemory) ⊎ TextFault T s e × MeansNone T s ⊎ (e.kind ≡ kind.WasmValueError) × (Full T → ⊥)
-    by_blame k (inl (fault, none)) = inr (inl (inr (inl (p, k.placed, k.taken, fault)), λ v means. none v (whole_read T s p (tree_of k.placed) v k.read k.taken means).reads))
+    by_blame k (inl (fault, none)) = inr (inl (inr (inl (p, k.placed, k.taken, k.spelled, fault)), λ v means. none v (whole_read T s p (tree_of k.placed) v k.read k.taken means).reads))
     by_blame k (inr other) = inr (inr other)
 
     by_kind : IsRefused e 100 value [] (start_of s) p ⊎ IsTypeRefused Full T e (start_of s) p → (e.kind ≡ kind.OutOfMemory) ⊎ TextFault T s e × MeansNone T s ⊎ (e.kind ≡ kind.WasmValueError) × (Full T → ⊥)

@@ -40,6 +40,7 @@ pub record IsUnread (k : WasmTypeKind) : Type 0 where
   pub result : k ≢ kind.Result
   pub variant : k ≢ kind.Variant
   pub enum : k ≢ kind.Enum
+  pub flags : k ≢ kind.Flags
   pub map : k ≢ kind.Map
 
 -- a type without values is refused with the word of its kind
@@ -63,6 +64,7 @@ unread_fault (type.option P) t k r q served e unread refused = absurd (unread.op
 unread_fault (type.result A B) t k r q served e unread refused = absurd (unread.result e)
 unread_fault (type.variant cases) t k r q served e unread refused = absurd (unread.variant e)
 unread_fault (type.enum names) t k r q served e unread refused = absurd (unread.enum e)
+unread_fault (type.flags names) t k r q served e unread refused = absurd (unread.flags e)
 unread_fault (type.map K V) t k r q served e unread refused = absurd (unread.map e)
 unread_fault _ t k r q served e unread refused = absurd served
 

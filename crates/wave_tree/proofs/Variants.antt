@@ -143,7 +143,8 @@ pub record CaseNode (source : List ℕ) (t : Placed) (name : List ℕ) (o : Opti
   pub named : name ≡ name_of text
   pub node : IsPayloadNodeOf source o payload
 
-flag_text : (source : List ℕ) (m : NodeTree) (c : Placed) (q : Range ℕ) (w : List ℕ) → Inside source m c → flag_of c ≡ Some (q, w) → w ≡ text_at source m
+-- the text of a flag is that at its node
+pub flag_text : (source : List ℕ) (m : NodeTree) (c : Placed) (q : Range ℕ) (w : List ℕ) → Inside source m c → flag_of c ≡ Some (q, w) → w ≡ text_at source m
 flag_text source m (at p (label r v no_placed)) q w i e = sym (ap (λ (f : Range ℕ × List ℕ). f.1) (some_is _ _ e)) ∙ i.from.2
 flag_text source m _ q w i e = absurd (cc)
 

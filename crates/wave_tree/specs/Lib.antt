@@ -24,7 +24,10 @@ pub mod Faults
 pub mod Answers
 pub mod CowText
 pub mod Typed
+pub mod Flags
+pub mod Records
 pub mod ShownNodes
+pub mod TreeParams
 pub mod FromText
 pub mod Untyped
 pub mod UntypedCode

@@ -1,5 +1,5 @@
 -- What a parser is in a contract.
-use Rattle.std.specs.Prelude.{ℕ, ◌≡◌, ◌⊎◌, ◌+◌, true, List, [], ◌∷◌, codes, Option, Some, None, Result, Ok, Err}
+use Rattle.std.specs.Prelude.{ℕ, ◌≡◌, ◌⊎◌, ◌+◌, ◌≤◌, max, length, true, List, [], ◌∷◌, codes, Option, Some, None, Result, Ok, Err}
 use Rattle.std.specs.declared.ops.Range.{Range}
 use Rattle.wave_wasm.specs.Names.{is_one_of}
 use Rattle.wave_lex.specs.declared.lex.Token as lex
@@ -8,7 +8,8 @@ use Rattle.wave_lex.specs.declared.error.ParserErrorKind.TheVariants.{InvalidTok
 use Rattle.wave_lex.specs.Errors.{class_name}
 use Rattle.wave_lex.specs.Lexing.{Lexed, NextIs}
 use Rattle.wave_tree.specs.Tree.{Word, leaf_word, none_word, some_word, ok_word, err_word, case_word}
-use Rattle.wave_tree.specs.Place.{Place, Takes, TakesAny, span_at}
+use Rattle.wave_tree.specs.Token.{Token}
+use Rattle.wave_tree.specs.Place.{Place, Takes, TakesAny, TakesTokens, span_at}
 use Rattle.wave_tree.specs.Refusals.{Says}
 use Rattle.wave_tree.specs.declared.ahead.Ahead.{Ahead}
 use Rattle.wave_tree.specs.declared.word.Word as code
@@ -35,6 +36,14 @@ asked p = p.place.taken + p.ahead
 abbrev pub ahead_count : Option Ahead → ℕ
 ahead_count None = 0
 ahead_count (Some a) = 1
+
+-- no more than n tokens stand from the place on, before the end or what is no token
+abbrev pub HasTokens : Place → ℕ → Type 0
+HasTokens p n = (ts : List Token) (q : Place) → TakesTokens p ts q → length ts ≤ n
+
+-- where n tokens stand, the lexer is asked for them and for one item more at most
+abbrev pub Asks : Parsing → Parsing → Type 0
+Asks old new = (n : ℕ) → HasTokens old.place n → asked new ≤ max (asked old) (old.place.taken + n + 1)
 
 -- what is at hand stands next
 abbrev pub IsAhead : Lexed → Option Ahead → Type 0

@@ -1,5 +1,5 @@
 -- What reading a node at a type answers.
-use Rattle.std.specs.Prelude.{ℕ, ◌≡◌, ◌⊎◌, List, [], Option, Some, None, option_map, Result, Ok, Err, MatchResult}
+use Rattle.std.specs.Prelude.{ℕ, ◌≡◌, ◌⊎◌, List, [], Option, Some, None, option_map, Result, Ok, Err, IfOk, IfErr, MatchResult}
 use Rattle.wave_wasm.specs.Lists.{AllOf}
 use Rattle.wave_wasm.specs.Names.{AreDistinct}
 use Rattle.std.specs.declared.ops.Range.{Range}
@@ -8,7 +8,7 @@ use Rattle.wave_wasm.specs.Types.{TypeTree, Simple, MaybeType, Cases, type_optio
 use Rattle.wave_wasm.specs.Values as value
 use Rattle.wave_wasm.specs.Values.{Value, Leaf, maybe_value}
 use Rattle.wave_wasm.specs.Causes.{Cause, cause_of}
-use Rattle.wave_wasm.specs.Makers.{PayloadIsOf, payload_and}
+use Rattle.wave_wasm.specs.Makers.{PayloadIsOf, payload_and, MakesLeaf, FullLeaf}
 use Rattle.wave_wasm.specs.declared.wasm.WasmValueError as causes
 use Rattle.wave_lex.specs.Errors.{refusal_of, refused_by}
 use Rattle.wave_lex.specs.declared.error.ParserError.{ParserError}
@@ -72,6 +72,10 @@ IsMade n (Err cause) (Err e) = (refusal_of e ≡ refused_by (cause_of cause)) ×
 IsMade n _ _ = ⊥
 
 module _ {V : Type 0} (tree : V → Value) (of : V → TypeTree → Type 0) (Full : TypeTree → Type 0) where
+  -- what a maker answered for the leaf: the value, or a refusal at the node
+  abbrev pub IsLeafMade : Leaf → NodeTree → Result V ParserError → Type 0
+  IsLeafMade one n r = (made : Result V causes.WasmValueError) × IfOk made (MakesLeaf tree of one) × IfErr made (FullLeaf Full one) × IsMade n made r
+
   -- the value of the node's tree at the type, or a refusal of it
   abbrev pub Answers : TypeTree → List ℕ → NodeTree → Result V ParserError → Type 0
   Answers T source n r = (t : Placed) → IsNodeOf source n t → HasDistinctNames T → MatchResult r (IsRead tree of T t) (IsBlamed Full T t)
@@ -88,6 +92,8 @@ module _ {V : Type 0} (tree : V → Value) (of : V → TypeTree → Type 0) (Ful
 abbrev pub IsKeyServed : TypeTree → Type 0
 IsKeyServed (type.simple type.bool) = Unit {0}
 IsKeyServed (type.simple (type.whole which)) = Unit {0}
+IsKeyServed (type.simple type.char) = Unit {0}
+IsKeyServed (type.simple type.string) = Unit {0}
 IsKeyServed _ = ⊥
 
 -- the types that are read so far
@@ -105,6 +111,7 @@ abbrev mutual
   IsServed (type.result A B) = IsServedPayload A × IsServedPayload B
   IsServed (type.variant cases) = AreServedCases cases
   IsServed (type.enum names) = Unit {0}
+  IsServed (type.flags names) = Unit {0}
   IsServed (type.map K V) = IsKeyServed (type.simple K) × IsServed V
   IsServed _ = ⊥
 

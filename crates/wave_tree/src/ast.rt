@@ -8,7 +8,9 @@ ghost use Rattle.wave_tree.specs.Nodes.{IsParsedFrom};
 ghost use Rattle.wave_tree.specs.CowText.{GivesString};
 ghost use Rattle.wave_tree.specs.Answers.{text_at, quotes_of, IsInside, RefusedAs, OfType, GivesBool, GivesNumber, GivesChar, GivesParts, GivesNodes, GivesOption, GivesResult, GivesLabel, GivesVariant, GivesEntries, GivesBoolKey, node_pairs};
 
+pub use crate::flags::FlagLabels;
 use crate::number::WholeNumber;
+pub use crate::record::RecordFields;
 use crate::text::{char_in, joined};
 use crate::word::label_name;
 use std::alloc::{AllocError, Global};
@@ -305,7 +307,7 @@ impl Node {
     }
 
     /// Refuses a node of another type.
-    fn ensure_type(&self, ty: NodeType) -> Result<(), ParserError>
+    pub(crate) fn ensure_type(&self, ty: NodeType) -> Result<(), ParserError>
         ensures { OfType ty self.now result }
     {
         if self.is_of(ty) {
@@ -323,7 +325,7 @@ impl Node {
     }
 
     /// A refusal of this kind at the node.
-    fn error(&self, kind: ParserErrorKind) -> ParserError
+    pub(crate) fn error(&self, kind: ParserErrorKind) -> ParserError
         ensures { RefusedAs kind self.now result }
     {
         ParserError::new(kind, self.span())

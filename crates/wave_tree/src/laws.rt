@@ -3,7 +3,7 @@ ghost use Rattle.wave_wasm.specs.Types.{TypeTree, HasDistinctNames};
 ghost use Rattle.wave_tree.specs.Laws.{OneReading};
 ghost use Rattle.wave_tree.specs.TreeLaws.{OneTree, HasItsLevels, ReadsByTree, TreeIsRead};
 ghost use Rattle.wave_tree.specs.ShownLaws.{ShownKeepsMeaning, ShownCallKeepsMeaning};
-ghost use Rattle.wave_tree.specs.AnswerLaws.{ReadHaveATree, RefusedHaveNone};
+ghost use Rattle.wave_tree.specs.AnswerLaws.{ReadHaveATree, RefusedHaveNone, AskingsAreFew, RefusalsLieInText};
 ghost use Rattle.wave_tree.specs.BeginLaws.{TreesAreLed, LedTokensHaveATree, FrontsAreLed, LedTokensBeginATree};
 ghost use Rattle.wave_tree.specs.BeginLaws.{RefusedTokensBeginNone, UnexpectedTokensBeginNone};
 ghost use Rattle.wave_tree.specs.BeginLaws.{EmptyTuplesAreEmpty, RepeatedFlagsAreRepeated, DeepValuesAreDeep};
@@ -87,4 +87,15 @@ pub fn shown_keeps_meaning()
 /// the same parameters at all types.
 pub fn shown_call_keeps_meaning()
     ensures { ShownCallKeepsMeaning }
+{}
+
+/// A new parser in front of n tokens, which end or go on with what is no token, asks its lexer n + 1 times
+/// at most for `parse_value` and, where that has read a value, for `finish` behind it.
+pub fn askings_are_few()
+    ensures { AskingsAreFew }
+{}
+
+/// The span of a syntax refusal lies in the text, and so does that of what follows a value.
+pub fn refusals_lie_in_the_text()
+    ensures { RefusalsLieInText }
 {}

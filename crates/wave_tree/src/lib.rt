@@ -3,9 +3,12 @@
 
 mod ahead;
 pub mod ast;
+mod flags;
 pub mod laws;
 pub mod number;
+mod params;
 pub mod parser;
+mod record;
 #[cfg(test)]
 mod tests;
 mod text;

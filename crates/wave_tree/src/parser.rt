@@ -17,7 +17,7 @@ ghost use Rattle.std.specs.BTreeMap.{values};
 ghost use Rattle.wave_tree.specs.NodeTree.{node, no_nodes, node_trees};
 ghost use Rattle.wave_tree.specs.declared.ast.NodeType.TheVariants as node_type;
 ghost use Rattle.wave_tree.specs.Parsed.{IsNodeTaken, IsParsed, IsParsedBehind, IsMaybe, IsPayload, IsOfItems, IsOfEntries, IsOfFlags, label_children};
-ghost use Rattle.wave_tree.specs.Parsing.{Parsing, ahead_count, IsAhead, first_at, front_of, Advances, Expects, Finishes, StaysWithout};
+ghost use Rattle.wave_tree.specs.Parsing.{Parsing, asked, Asks, ahead_count, IsAhead, first_at, front_of, Advances, Expects, Finishes, StaysWithout};
 
 use crate::ahead::Ahead;
 use crate::ast::{Node, NodeType};
@@ -113,7 +113,8 @@ impl<'source> Parser<'source> {
 
     /// Takes the next item.
     fn take(&mut self) -> Option<Result<Token, Span>>
-        ensures { Takes self.old.place result self.new.place }
+        ensures takes { Takes self.old.place result self.new.place }
+        ensures asks { asked self.new ≡ self.old.place.taken + 1 }
     {
         match self.ahead.take() {
             Some(ahead) => {
@@ -140,6 +141,7 @@ impl<'source> Parser<'source> {
     fn next_is(&mut self, class: Token) -> bool
         ensures stays { self.new.place ≡ self.old.place }
         ensures answer { IsTrue result ↔ ((next : Place) × Takes self.old.place (Some (Ok class)) next) }
+        ensures asks { asked self.new ≡ self.old.place.taken + 1 }
     {
         self.look();
         match &self.ahead {
@@ -150,7 +152,8 @@ impl<'source> Parser<'source> {
 
     /// Takes the next token.
     fn advance(&mut self) -> Result<Token, ParserError>
-        ensures { Advances result self.old.place self.new.place }
+        ensures takes { Advances result self.old.place self.new.place }
+        ensures asks { asked self.new ≡ self.old.place.taken + 1 }
     {
         match self.take() {
             Some(Ok(token)) => Ok(token),
@@ -161,7 +164,8 @@ impl<'source> Parser<'source> {
 
     /// Takes the next token, which has to be of this class.
     fn expect(&mut self, class: Token) -> Result<(), ParserError>
-        ensures { Expects class result self.old.place self.new.place }
+        ensures takes { Expects class result self.old.place self.new.place }
+        ensures asks { asked self.new ≡ self.old.place.taken + 1 }
     {
         let token = self.advance()?;
         if same(token, class) {
@@ -228,6 +232,7 @@ impl<'source> Parser<'source> {
     fn go_back(&mut self, lexer: Lexer<'source>) -> ParserError
         ensures back { self.new.place.lexer ≡ lexer.entry }
         ensures refusal { Says result kind.OutOfMemory (span_at self.new.place) None }
+        ensures asks { asked self.new ≡ asked self.old }
     {
         self.lexer = lexer;
         self.ahead = None;
@@ -240,6 +245,7 @@ impl<'source> Parser<'source> {
         ensures value { Gives result 100 due.value [] self.old.place self.new.place [] }
         ensures tree { IfOk result (IsUntypedTaken self.old.place self.new.place) }
         ensures memory { IfErr result (λ e. StaysWithout e self.old.place self.new.place) }
+        ensures asks { Asks self.old self.new }
     {
         let source = self.lexer.source();
         let node = self.parse_whole(alloc)?;
@@ -251,6 +257,7 @@ impl<'source> Parser<'source> {
         ensures value { Gives result 100 due.value [] self.old.place self.new.place [] }
         ensures tree { IfOk result (IsNodeTaken self.old.place self.new.place) }
         ensures memory { IfErr result (λ e. StaysWithout e self.old.place self.new.place) }
+        ensures asks { Asks self.old self.new }
     {
         let place = self.lexer.clone();
         let _ = self.remainder();
@@ -276,6 +283,7 @@ impl<'source> Parser<'source> {
         ensures value { IfOk result (IsValueTaken V.tree V.is_of (V.Type.tree ty.now) self.old.place self.new.place) }
         ensures refused { IfErr result (λ e. RefusesValue V.is_full (V.Type.tree ty.now) e self.old.place self.new.place) }
         ensures memory { IfErr result (λ e. StaysWithout e self.old.place self.new.place) }
+        ensures asks { Asks self.old self.new }
     {
         let place = self.lexer.clone();
         let source = self.lexer.source();
@@ -296,6 +304,7 @@ impl<'source> Parser<'source> {
     pub fn finish(&mut self) -> Result<(), ParserError>
         ensures stays { self.new.place ≡ self.old.place }
         ensures answer { Finishes result self.old.place }
+        ensures asks { asked self.new ≡ self.old.place.taken + 1 }
     {
         self.look();
         match &self.ahead {
@@ -309,6 +318,7 @@ impl<'source> Parser<'source> {
     fn parse_node(&mut self, alloc: Global, levels: u32) -> Result<Node, ParserError>
         ensures led { GivesWithin result levels due.value [] self.old.place self.new.place }
         ensures tree { IfOk result (IsParsed levels self.old.place self.new.place) }
+        ensures asks { Asks self.old self.new }
     {
         if levels == 0 {
             return Err(ParserError::new(ParserErrorKind::NestingTooDeep, self.span()));
@@ -333,6 +343,7 @@ impl<'source> Parser<'source> {
         ensures led { let d = due_behind (word_of (text_at self.old.place)) in
             GivesWithin result (levels + 1) d [] self.old.place self.new.place }
         ensures tree { IfOk result (IsParsedBehind lex_class.LabelOrKeyword (levels + 1) self.old.place self.new.place) }
+        ensures asks { Asks self.old self.new }
     {
         match word_of(self.slice()) {
             Word::True => Ok(self.leaf(alloc, NodeType::BoolTrue)),
@@ -366,6 +377,7 @@ impl<'source> Parser<'source> {
     ) -> Result<Node, ParserError>
         ensures led { GivesWithin result (levels + 1) due.behind_label [] self.old.place self.new.place }
         ensures tree { IfOk result (IsMaybe levels alone with self.old.place self.new.place) }
+        ensures asks { Asks self.old self.new }
     {
         let start = self.span().start;
         if !self.next_is(Token::ParenOpen) {
@@ -404,6 +416,7 @@ impl<'source> Parser<'source> {
     ) -> Result<Node, ParserError>
         ensures led { GivesWithin result (levels + 1) due.value (due.payload ∷ []) self.old.place self.new.place }
         ensures tree { IfOk result (IsPayload levels ty start front.items self.old.place self.new.place) }
+        ensures asks { Asks self.old self.new }
     {
         let payload = self.parse_node(alloc, levels)?;
         self.expect(Token::ParenClose)?;
@@ -420,6 +433,7 @@ impl<'source> Parser<'source> {
         requires { IsClose close }
         ensures led { GivesWithin result (levels + 1) due.first_item (form_of close ∷ []) self.old.place self.new.place }
         ensures tree { IfOk result (IsOfItems levels close self.old.place self.new.place) }
+        ensures asks { Asks self.old self.new }
     {
         let start = self.span().start;
         let mut items = Vec::new(alloc);
@@ -459,6 +473,7 @@ impl<'source> Parser<'source> {
     fn parse_braces(&mut self, alloc: Global, levels: u32) -> Result<Node, ParserError>
         ensures led { GivesWithin result (levels + 1) due.in_braces [] self.old.place self.new.place }
         ensures tree { IfOk result (IsParsedBehind lex_class.BraceOpen (levels + 1) self.old.place self.new.place) }
+        ensures asks { Asks self.old self.new }
     {
         let start = self.span().start;
         let token = self.advance()?;
@@ -496,6 +511,7 @@ impl<'source> Parser<'source> {
     ) -> Result<Node, ParserError>
         ensures led { GivesWithin result (levels + 1) due.value (due.entries ∷ []) self.old.place self.new.place }
         ensures tree { IfOk result (IsOfEntries levels start key self.old.place self.new.place) }
+        ensures asks { Asks self.old self.new }
     {
         let mut children = Vec::new(alloc);
         if children.push(key).is_err() {
@@ -533,6 +549,7 @@ impl<'source> Parser<'source> {
         requires { (next : Place) → Takes self.old.place (Some (Ok lex_class.Colon)) next → ⊥ }
         ensures led { GivesAnywhere result (due.behind_word (text_at self.old.place)) self.old.place self.new.place }
         ensures tree { IfOk result (IsOfFlags start self.old.place self.new.place) }
+        ensures asks { Asks self.old self.new }
     {
         let mut flags = BTreeMap::new(alloc);
         if flags
@@ -591,6 +608,7 @@ impl<'source> Parser<'source> {
 pub fn from_str<V: WasmValue>(alloc: Global, ty: &V::Type, s: &str) -> Result<V, ParserError>
     ensures value { IfOk result (IsMeant V.tree V.is_of (V.Type.tree ty.now) s.now) }
     ensures refused { IfErr result (RefusesText V.is_full (V.Type.tree ty.now) s.now) }
+    ensures memory { IfErr result (λ e. e.kind ≡ kind.OutOfMemory → Says e kind.OutOfMemory (span 0 0) None) }
 {
     let mut parser = Parser::new(s);
     let value = parser.parse_value::<V>(alloc, ty)?;

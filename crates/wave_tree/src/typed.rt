@@ -2,12 +2,14 @@
 ghost use Rattle.std.specs.Prelude.{ℕ, List, [], ◌∷◌, ◌++◌, ◌≡◌, ◌≢◌, ◌⊎◌, ◌↔◌, option_map, IsTrue, OnOk, IfOk, IfErr};
 ghost use Rattle.wave_wasm.specs.Types.{kind_of, maybe_type, whole_kind, Whole};
 ghost use Rattle.wave_wasm.specs.Types as type;
+ghost use Rattle.wave_wasm.specs.Values as value;
 ghost use Rattle.wave_wasm.specs.Shown.{texts, shown, shown_cases};
 ghost use Rattle.wave_wasm.specs.TypeText.{kind_word};
 ghost use Rattle.wave_wasm.specs.Causes.{unsupported_type, unknown_case, missing_payload, unexpected_payload, wrong_number};
 ghost use Rattle.wave_lex.specs.declared.error.ParserErrorKind.TheVariants.{OutOfMemory};
 ghost use Rattle.wave_tree.specs.Answers.{Among, shown_node};
-ghost use Rattle.wave_tree.specs.Typed.{IsValueOf, IsKeyOf, IsKeyServed, AnswersKey, IsCaused, IsMade, IsServed, IsServedPayload, IsPayloadOf, GivesFlat, Answers, AnswersPayload, Reads};
+ghost use Rattle.wave_tree.specs.CowText.{cow_text};
+ghost use Rattle.wave_tree.specs.Typed.{IsLeafMade, IsValueOf, IsKeyOf, IsKeyServed, AnswersKey, IsCaused, IsMade, IsServed, IsServedPayload, IsPayloadOf, GivesFlat, Answers, AnswersPayload, Reads};
 ghost use Rattle.wave_lex.specs.Errors.{refusal_of};
 ghost use Rattle.wave_tree.specs.NodeTree.{place_of};
 ghost use Rattle.wave_tree.specs.Reads.{look_up};
@@ -61,6 +63,7 @@ impl Node {
             WasmTypeKind::Tuple => self.read_tuple(alloc, ty, src),
             WasmTypeKind::Variant => self.read_variant(alloc, ty, src),
             WasmTypeKind::Enum => self.read_enum(alloc, ty, src),
+            WasmTypeKind::Flags => self.read_flags(alloc, ty, src),
             WasmTypeKind::Option => self.read_option(alloc, ty, src),
             WasmTypeKind::Result => self.read_result(alloc, ty, src),
             WasmTypeKind::Map => self.read_map(alloc, ty, src),
@@ -164,8 +167,25 @@ impl Node {
             WasmTypeKind::U16 => self.made(V::make_u16(alloc, self.as_number(src)?)),
             WasmTypeKind::U32 => self.made(V::make_u32(alloc, self.as_number(src)?)),
             WasmTypeKind::U64 => self.made(V::make_u64(alloc, self.as_number(src)?)),
+            WasmTypeKind::Char => self.made(V::make_char(alloc, self.as_char(src)?)),
+            WasmTypeKind::String => self.read_string_key(alloc, ty, src),
             kind => Err(self.unsupported(alloc, kind)),
         }
+    }
+
+    /// A key of a map that is a string.
+    fn read_string_key<V: WasmValue>(
+        &self,
+        alloc: Global,
+        ty: &V::Type,
+        src: &str,
+    ) -> Result<V, ParserError>
+        requires key { IsKeyOf src.now self.now }
+        requires kind { V.Type.tree ty.now ≡ type.simple type.string }
+        ensures { AnswersKey V.tree V.is_of V.is_full (V.Type.tree ty.now) src.now self.now result }
+    {
+        let text = self.as_str(alloc, src)?;
+        self.made_string(alloc, text)
     }
 
     /// An option: `none`, `some` of its payload, or a flat payload.
@@ -321,7 +341,27 @@ impl Node {
         self.made(V::make_char(alloc, val))
     }
 
-    /// A string; its text is copied before the maker is called only where it is not one run.
+    /// Flags: some of the type's names.
+    fn read_flags<V: WasmValue>(
+        &self,
+        alloc: Global,
+        ty: &V::Type,
+        src: &str,
+    ) -> Result<V, ParserError>
+        requires node { IsValueOf src.now self.now }
+        requires kind { kind_of (V.Type.tree ty.now) ≡ WasmTypeKind.Flags }
+        ensures { Answers V.tree V.is_of V.is_full (V.Type.tree ty.now) src.now self.now result }
+    {
+        let names = match ty.flags_names(alloc) {
+            Ok(names) => names,
+            Err(_) => return Err(self.out_of_memory()),
+        };
+        let flags = self.flags_of(alloc, &names, src)?;
+        let picked = self.picked(alloc, &names, &flags)?;
+        self.made(V::make_flags(alloc, ty, picked.as_slice()))
+    }
+
+    /// A string.
     fn read_string<V: WasmValue>(
         &self,
         alloc: Global,
@@ -332,10 +372,8 @@ impl Node {
         requires kind { V.Type.tree ty.now ≡ type.simple type.string }
         ensures { Answers V.tree V.is_of V.is_full (V.Type.tree ty.now) src.now self.now result }
     {
-        match self.as_str(alloc, src)? {
-            CowStr::Borrowed(text) => self.made(V::make_string(alloc, text)),
-            CowStr::Owned(text) => self.made(V::make_string(alloc, text.as_str())),
-        }
+        let text = self.as_str(alloc, src)?;
+        self.made_string(alloc, text)
     }
 
     /// A bool.
@@ -345,6 +383,16 @@ impl Node {
     {
         let val = self.as_bool()?;
         self.made(V::make_bool(alloc, val))
+    }
+
+    /// The string of this text, which is not copied before the maker is called.
+    fn made_string<V: WasmValue>(&self, alloc: Global, val: CowStr<'_>) -> Result<V, ParserError>
+        ensures { IsLeafMade V.tree V.is_of V.is_full (value.string (cow_text val.entry)) self.now result }
+    {
+        match val {
+            CowStr::Borrowed(text) => self.made(V::make_string(alloc, text)),
+            CowStr::Owned(text) => self.made(V::make_string(alloc, text.as_str())),
+        }
     }
 
     /// The value that was made, or its maker's refusal at the node.
@@ -358,7 +406,7 @@ impl Node {
     }
 
     /// One more value that was read within the node.
-    fn keep<V: Drop>(&self, items: &mut Vec<V>, item: V) -> Result<(), ParserError>
+    pub(crate) fn keep<V: Drop>(&self, items: &mut Vec<V>, item: V) -> Result<(), ParserError>
         ensures kept { OnOk result (items.new.items ≡ items.old.items ++ item ∷ []) }
         ensures refused { IfErr result (λ e. e.kind ≡ OutOfMemory) }
     {
@@ -369,7 +417,7 @@ impl Node {
     }
 
     /// A refusal for want of memory, at the node.
-    fn out_of_memory(&self) -> ParserError
+    pub(crate) fn out_of_memory(&self) -> ParserError
         ensures { result.kind ≡ OutOfMemory }
     {
         ParserError::new(ParserErrorKind::OutOfMemory, self.span())
@@ -383,7 +431,7 @@ impl Node {
     }
 
     /// A refusal because the type has no case or flag of this name.
-    fn unknown_case(&self, alloc: Global, name: &str) -> ParserError
+    pub(crate) fn unknown_case(&self, alloc: Global, name: &str) -> ParserError
         ensures { IsCaused (unknown_case name.now) self.now result }
     {
         match String::from_str(alloc, name) {

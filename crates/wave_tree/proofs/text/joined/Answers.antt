@@ -1,4 +1,4 @@
-use Rattle.std.proofs.Common.{[], ◌++◌, refl, Some, Ok}
+use Rattle.std.proofs.Common.{[], refl, Some, Ok}
 use Rattle.wave_lex.specs.Parts.{part_text, left_of, LinePartIs}
 use Rattle.wave_lex.specs.declared.strings.StringPart.TheVariants.{Run, Char}
 use Rattle.wave_tree.specs.CowText.{IsEnded, IsOneRun}

@@ -107,7 +107,7 @@ read-returns-in_ok-as_number-in-U64 g m c = λ served t is distinct.
 
 pub read-returns-in_default : goal.read-returns-in_default
 read-returns-in_default g m c = λ served t is distinct.
-    unread_blame g.V.WasmValue.is_full (g.V.Type.WasmType.tree c.args.ty.now) c.args.src.now c.args.self.now t c.kind.result c.unsupported.result is.0 served c.kind.ensures (record { bool = c.in_default.not-Bool; s8 = c.in_default.not-S8; s16 = c.in_default.not-S16; s32 = c.in_default.not-S32; s64 = c.in_default.not-S64; u8 = c.in_default.not-U8; u16 = c.in_default.not-U16; u32 = c.in_default.not-U32; u64 = c.in_default.not-U64; char = c.in_default.not-Char; string = c.in_default.not-String; list = c.in_default.not-List; tuple = c.in_default.not-Tuple; option = c.in_default.not-Option; result = c.in_default.not-Result; variant = c.in_default.not-Variant; enum = c.in_default.not-Enum; map = c.in_default.not-Map }) c.unsupported.ensures
+    unread_blame g.V.WasmValue.is_full (g.V.Type.WasmType.tree c.args.ty.now) c.args.src.now c.args.self.now t c.kind.result c.unsupported.result is.0 served c.kind.ensures (record { bool = c.in_default.not-Bool; s8 = c.in_default.not-S8; s16 = c.in_default.not-S16; s32 = c.in_default.not-S32; s64 = c.in_default.not-S64; u8 = c.in_default.not-U8; u16 = c.in_default.not-U16; u32 = c.in_default.not-U32; u64 = c.in_default.not-U64; char = c.in_default.not-Char; string = c.in_default.not-String; list = c.in_default.not-List; tuple = c.in_default.not-Tuple; option = c.in_default.not-Option; result = c.in_default.not-Result; variant = c.in_default.not-Variant; enum = c.in_default.not-Enum; flags = c.in_default.not-Flags; map = c.in_default.not-Map }) c.unsupported.ensures
 
 pub read_list-returns-in_err-nodes : goal.read_list-returns-in_err-nodes
 read_list-returns-in_err-nodes g m c = λ served t is distinct.

@@ -1,7 +1,6 @@
-use Rattle.std.proofs.Common.{List, [], ap, subst}
-use Rattle.std.specs.declared.ops.Range.{Range}
+use Rattle.std.proofs.Common.{[], ap, subst}
 use Rattle.wave_lex.specs.Parts.{left_of}
-use Rattle.wave_tree.specs.NodeTree.{NodeTree, place_of}
+use Rattle.wave_tree.specs.NodeTree.{place_of}
 use Rattle.wave_tree.specs.CowText.{IsOneRun, PutTogether}
 use Rattle.wave_tree.proofs.StringNodes.{parts_given, parts_refused_on}
 use Rattle.wave_tree.proofs.ast.Node.as_str.Goals as goal

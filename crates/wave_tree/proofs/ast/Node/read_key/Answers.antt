@@ -5,6 +5,7 @@ use Rattle.wave_wasm.specs.Types as type
 use Rattle.wave_wasm.specs.Values as value
 use Rattle.wave_tree.proofs.TypeKinds.{simple_is}
 use Rattle.wave_tree.proofs.Keys.{bool_key, no_bool_key, number_key, no_number_key, number_key_kept, key_made, key_faulty, key_unserved}
+use Rattle.wave_tree.proofs.TextKeys.{char_key, no_char_key}
 use Rattle.wave_tree.proofs.ast.Node.read_key.Goals as goal
 
 pub returns-in_err-as_bool_key-in-Bool : goal.returns-in_err-as_bool_key-in-Bool
@@ -85,4 +86,12 @@ returns-in_ok-as_number-in-U64 g c = λ served K p key is token.
 
 pub returns-in_default : goal.returns-in_default
 returns-in_default g c = λ served K p key is token.
-    key_unserved (g.V.Type.WasmType.tree c.args.ty.now) c.kind.result served c.kind.ensures (record { bool = c.in_default.not-Bool; s8 = c.in_default.not-S8; s16 = c.in_default.not-S16; s32 = c.in_default.not-S32; s64 = c.in_default.not-S64; u8 = c.in_default.not-U8; u16 = c.in_default.not-U16; u32 = c.in_default.not-U32; u64 = c.in_default.not-U64 })
+    key_unserved (g.V.Type.WasmType.tree c.args.ty.now) c.kind.result served c.kind.ensures (record { bool = c.in_default.not-Bool; s8 = c.in_default.not-S8; s16 = c.in_default.not-S16; s32 = c.in_default.not-S32; s64 = c.in_default.not-S64; u8 = c.in_default.not-U8; u16 = c.in_default.not-U16; u32 = c.in_default.not-U32; u64 = c.in_default.not-U64; char = c.in_default.not-Char; string = c.in_default.not-String })
+
+pub returns-in_err-as_char-in-Char : goal.returns-in_err-as_char-in-Char
+returns-in_err-as_char-in-Char g c = λ served K p key is token.
+    key_faulty g.V.WasmValue.tree g.V.WasmValue.is_of g.V.WasmValue.is_full (g.V.Type.WasmType.tree c.args.ty.now) K type.char p key c.in_err-as_char-in-Char.field-0.0 c.from_residual-in_err-as_char-in-Char.result is (simple_is type.char (g.V.Type.WasmType.tree c.args.ty.now) c.in-Char.ensures) c.from_residual-in_err-as_char-in-Char.ensures.1 (no_char_key c.args.src.now c.args.self.now p key c.in_err-as_char-in-Char.field-0.0 token c.in_err-as_char-in-Char.ensures)
+
+pub returns-in_ok-as_char-in-Char : goal.returns-in_ok-as_char-in-Char
+returns-in_ok-as_char-in-Char g c = λ served K p key is token.
+    key_made g.V.WasmValue.tree g.V.WasmValue.is_of g.V.WasmValue.is_full (g.V.Type.WasmType.tree c.args.ty.now) K type.char p key c.args.self.now (value.char c.in_ok-as_char-in-Char.field-0) c.make_char.result c.made-in-Char.result is (simple_is type.char (g.V.Type.WasmType.tree c.args.ty.now) c.in-Char.ensures) refl (char_key c.args.src.now c.args.self.now p key c.in_ok-as_char-in-Char.field-0 token c.in_ok-as_char-in-Char.ensures) c.make_char.ensures.made c.make_char.ensures.full c.made-in-Char.ensures

@@ -21,45 +21,46 @@ use Rattle.wave_tree.specs.NodeTree.{node, no_nodes, node_trees}
 use Rattle.wave_tree.specs.declared.ast.NodeType.TheVariants as kind_of_node
 use Rattle.wave_lex.specs.Lexing.{span}
 use Rattle.wave_tree.proofs.Tied.{class_as, number_tied, char_tied, string_tied, multiline_tied, label_tied, items_tied, braces_tied, leaf_tied, number_word_tied, none_tied, some_tied, ok_tied, err_tied, case_tied, pushed, some_there, type_of_items, items_made, items_none, items_first, items_next, pairs_first, pairs_next, pairs_close, empty_tied, no_fields_tied, entries_tied, flags_tied, payload_tied}
+use Rattle.wave_tree.proofs.Askings.{asks_none, asks_once, asks_token, asks_looked, asks_read, asks_reached}
 use Rattle.wave_tree.proofs.parser.Parser.+parser.Goals as goal
 use Rattle.wave_tree.proofs.parser.Parser.+parser.Goals.{parse_items-then-same-2, parse_items-else-same-2}
 
 pub parse_node-returns-in_err-token-clause-led : goal.parse_node-returns-in_err-token-clause-led
 parse_node-returns-in_err-token-clause-led t c = λ n s e. handed s _ _ c.from_residual.ensures.1
-    (fails (inl tt) (λ _. Unit {0}) c.in_err-token.field-0.0 (here n due.value s _) (shallow n due.value s _ (omega arith)) (any_token n due.value s _ _) c.in_err-token.ensures)
+    (fails (inl tt) (λ _. Unit {0}) c.in_err-token.field-0.0 (here n due.value s _) (shallow n due.value s _ (omega arith)) (any_token n due.value s _ _) c.in_err-token.ensures.takes)
 
 pub parse_node-returns-in-Number-clause-led : goal.parse_node-returns-in-Number-clause-led
-parse_node-returns-in-Number-clause-led t c = λ n s e. read_there (value_read n due.behind_value s s _ _ _ Number (omega arith) c.in_ok-token.ensures c.in-Number.is refl) (inl refl)
+parse_node-returns-in-Number-clause-led t c = λ n s e. read_there (value_read n due.behind_value s s _ _ _ Number (omega arith) c.in_ok-token.ensures.takes c.in-Number.is refl) (inl refl)
 
 pub parse_node-returns-in-Char-clause-led : goal.parse_node-returns-in-Char-clause-led
-parse_node-returns-in-Char-clause-led t c = λ n s e. read_there (value_read n due.behind_value s s _ _ _ Char (omega arith) c.in_ok-token.ensures c.in-Char.is refl) (inl refl)
+parse_node-returns-in-Char-clause-led t c = λ n s e. read_there (value_read n due.behind_value s s _ _ _ Char (omega arith) c.in_ok-token.ensures.takes c.in-Char.is refl) (inl refl)
 
 pub parse_node-returns-in-String-clause-led : goal.parse_node-returns-in-String-clause-led
-parse_node-returns-in-String-clause-led t c = λ n s e. read_there (value_read n due.behind_value s s _ _ _ String (omega arith) c.in_ok-token.ensures c.in-String.is refl) (inl refl)
+parse_node-returns-in-String-clause-led t c = λ n s e. read_there (value_read n due.behind_value s s _ _ _ String (omega arith) c.in_ok-token.ensures.takes c.in-String.is refl) (inl refl)
 
 pub parse_node-returns-in-MultilineString-clause-led : goal.parse_node-returns-in-MultilineString-clause-led
-parse_node-returns-in-MultilineString-clause-led t c = λ n s e. read_there (value_read n due.behind_value s s _ _ _ MultilineString (omega arith) c.in_ok-token.ensures c.in-MultilineString.is refl) (inl refl)
+parse_node-returns-in-MultilineString-clause-led t c = λ n s e. read_there (value_read n due.behind_value s s _ _ _ MultilineString (omega arith) c.in_ok-token.ensures.takes c.in-MultilineString.is refl) (inl refl)
 
 pub parse_node-returns-in-LabelOrKeyword-clause-led : goal.parse_node-returns-in-LabelOrKeyword-clause-led
-parse_node-returns-in-LabelOrKeyword-clause-led t c = λ n s e. gives_then s _ c.parse_label.result (value_read n _ s s _ _ _ LabelOrKeyword (omega arith) c.in_ok-token.ensures c.in-LabelOrKeyword.is refl) (c.parse_label.ensures.led n s (omega arith))
+parse_node-returns-in-LabelOrKeyword-clause-led t c = λ n s e. gives_then s _ c.parse_label.result (value_read n _ s s _ _ _ LabelOrKeyword (omega arith) c.in_ok-token.ensures.takes c.in-LabelOrKeyword.is refl) (c.parse_label.ensures.led n s (omega arith))
 
 pub parse_node-returns-in-ParenOpen-clause-led : goal.parse_node-returns-in-ParenOpen-clause-led
-parse_node-returns-in-ParenOpen-clause-led t c = λ n s e. gives_then s _ c.parse_items.result (value_read n due.first_item s (due.tuple ∷ s) _ _ _ ParenOpen (omega arith) c.in_ok-token.ensures c.in-ParenOpen.is refl) (c.parse_items.ensures.led n s (omega arith))
+parse_node-returns-in-ParenOpen-clause-led t c = λ n s e. gives_then s _ c.parse_items.result (value_read n due.first_item s (due.tuple ∷ s) _ _ _ ParenOpen (omega arith) c.in_ok-token.ensures.takes c.in-ParenOpen.is refl) (c.parse_items.ensures.led n s (omega arith))
 
 pub parse_node-returns-in-BracketOpen-clause-led : goal.parse_node-returns-in-BracketOpen-clause-led
-parse_node-returns-in-BracketOpen-clause-led t c = λ n s e. gives_then s _ c.parse_items-in-BracketOpen.result (value_read n due.first_item s (due.list ∷ s) _ _ _ BracketOpen (omega arith) c.in_ok-token.ensures c.in-BracketOpen.is refl) (c.parse_items-in-BracketOpen.ensures.led n s (omega arith))
+parse_node-returns-in-BracketOpen-clause-led t c = λ n s e. gives_then s _ c.parse_items-in-BracketOpen.result (value_read n due.first_item s (due.list ∷ s) _ _ _ BracketOpen (omega arith) c.in_ok-token.ensures.takes c.in-BracketOpen.is refl) (c.parse_items-in-BracketOpen.ensures.led n s (omega arith))
 
 pub parse_label-returns-in_err-expect-in-Some-clause-led : goal.parse_label-returns-in_err-expect-in-Some-clause-led
 parse_label-returns-in_err-expect-in-Some-clause-led t c = λ n s e.
     let there : due_behind (word_of (text_at c.args.self.now.place)) ≡ due.paren = ap due_behind (ap word_of (sym c.slice.ensures) ∙ (sym c.word_of.ensures.word ∙ ap spec_word c.in-Some.is)) in
     subst (λ z. Gives c.from_residual.result n z s c.args.self.now.place c.expect.new.self.place s) (sym there) (handed s _ _ c.from_residual.ensures.1
-    (fails (inl tt) (λ k. k ≡ ParenOpen) c.in_err-expect-in-Some.field-0.0 (here n due.paren s _) (λ deep. deep.due) (λ k h apart. no_paren n s k (text_at c.expect.new.self.place) apart) c.in_err-expect-in-Some.ensures))
+    (fails (inl tt) (λ k. k ≡ ParenOpen) c.in_err-expect-in-Some.field-0.0 (here n due.paren s _) (λ deep. deep.due) (λ k h apart. no_paren n s k (text_at c.expect.new.self.place) apart) c.in_err-expect-in-Some.ensures.takes))
 
 pub parse_label-returns-in_ok-expect-in-Some-clause-led : goal.parse_label-returns-in_ok-expect-in-Some-clause-led
 parse_label-returns-in_ok-expect-in-Some-clause-led t c = λ n s e.
     let there : due_behind (word_of (text_at c.args.self.now.place)) ≡ due.paren = ap due_behind (ap word_of (sym c.slice.ensures) ∙ (sym c.word_of.ensures.word ∙ ap spec_word c.in-Some.is)) in
     subst (λ z. Gives c.parse_payload.result n z s c.args.self.now.place c.parse_payload.new.self.place s) (sym there)
-    (gives_then s _ c.parse_payload.result (then_token _ (here n due.paren s _) (token_there _ _ ParenOpen c.in_ok-expect-in-Some.ensures) refl) (c.parse_payload.ensures.led n s (omega arith)))
+    (gives_then s _ c.parse_payload.result (then_token _ (here n due.paren s _) (token_there _ _ ParenOpen c.in_ok-expect-in-Some.ensures.takes) refl) (c.parse_payload.ensures.led n s (omega arith)))
 
 pub parse_maybe-returns-then-not-next_is-clause-led : goal.parse_maybe-returns-then-not-next_is-clause-led
 parse_maybe-returns-then-not-next_is-clause-led t c = λ n s e.
@@ -68,49 +69,50 @@ parse_maybe-returns-then-not-next_is-clause-led t c = λ n s e.
 
 pub parse_maybe-returns-in_err-expect-clause-led : goal.parse_maybe-returns-in_err-expect-clause-led
 parse_maybe-returns-in_err-expect-clause-led t c = λ n s e. handed s _ _ c.from_residual-in_err-expect.ensures.1
-    (expected c.args.self.now.place c.next_is.new.self.place c.expect.new.self.place ParenOpen c.in_err-expect.field-0.0 c.next_is.ensures.stays (c.if-not-next_is.ensures.answer.0 refl) c.in_err-expect.ensures)
+    (expected c.args.self.now.place c.next_is.new.self.place c.expect.new.self.place ParenOpen c.in_err-expect.field-0.0 c.next_is.ensures.stays (c.if-not-next_is.ensures.answer.0 refl) c.in_err-expect.ensures.takes)
 
 pub parse_maybe-returns-clause-led : goal.parse_maybe-returns-clause-led
-parse_maybe-returns-clause-led t c = λ n s e. gives_then s _ c.parse_payload.result (then_same ParenOpen (here_is n due.behind_label s _ _ c.next_is.ensures.stays) c.in_ok-expect.ensures refl) (c.parse_payload.ensures.led n s (omega arith))
+parse_maybe-returns-clause-led t c = λ n s e. gives_then s _ c.parse_payload.result (then_same ParenOpen (here_is n due.behind_label s _ _ c.next_is.ensures.stays) c.in_ok-expect.ensures.takes refl) (c.parse_payload.ensures.led n s (omega arith))
 
 pub parse_payload-returns-in_err-expect-clause-led : goal.parse_payload-returns-in_err-expect-clause-led
 parse_payload-returns-in_err-expect-clause-led t c = λ n s e.
     let item = c.in_ok-payload.ensures.led n (due.payload ∷ s) (omega arith) in
-    handed s _ _ c.from_residual-in_err-expect.ensures.1 (fails_behind item.due_there (λ k. k ≡ ParenClose) c.in_err-expect.field-0.0 (reached item) item.is_behind (λ k text apart. payload_other k s text apart) c.in_err-expect.ensures)
+    handed s _ _ c.from_residual-in_err-expect.ensures.1 (fails_behind item.due_there (λ k. k ≡ ParenClose) c.in_err-expect.field-0.0 (reached item) item.is_behind (λ k text apart. payload_other k s text apart) c.in_err-expect.ensures.takes)
 
 pub parse_payload-returns-in-Ok-clause-led : goal.parse_payload-returns-in-Ok-clause-led
 parse_payload-returns-in-Ok-clause-led t c = λ n s e.
     let item = c.in_ok-payload.ensures.led n (due.payload ∷ s) (omega arith) in
-    read_there (then_behind item.due_there ParenClose (reached item) item.is_behind c.in_ok-expect.ensures refl) (inl refl)
+    read_there (then_behind item.due_there ParenClose (reached item) item.is_behind c.in_ok-expect.ensures.takes refl) (inl refl)
 
 pub parse_node-returns-in_default-clause-led : goal.parse_node-returns-in_default-clause-led
-parse_node-returns-in_default-clause-led t c = λ n s e. unexpected_there (inl tt) c.unexpected.result c.in_ok-token.token (here n due.value s _) c.in_ok-token.ensures
+parse_node-returns-in_default-clause-led t c = λ n s e. unexpected_there (inl tt) c.unexpected.result c.in_ok-token.token (here n due.value s _) c.in_ok-token.ensures.takes
     (level_open n s (token_of c.in_ok-token.token (text_at c.advance.new.self.place)) (omega arith) ∙
     no_value s c.in_ok-token.token (text_at c.advance.new.self.place) c.in_default.not-ParenOpen c.in_default.not-BracketOpen c.in_default.not-BraceOpen c.in_default.not-Number c.in_default.not-LabelOrKeyword c.in_default.not-Char c.in_default.not-String c.in_default.not-MultilineString)
     c.unexpected.ensures
 
 pub parse_node-returns-in-BraceOpen-clause-led : goal.parse_node-returns-in-BraceOpen-clause-led
-parse_node-returns-in-BraceOpen-clause-led t c = λ n s e. gives_then s _ c.parse_braces.result (value_read n due.in_braces s s _ _ _ BraceOpen (omega arith) c.in_ok-token.ensures c.in-BraceOpen.is refl) (c.parse_braces.ensures.led n s (omega arith))
+parse_node-returns-in-BraceOpen-clause-led t c = λ n s e. gives_then s _ c.parse_braces.result (value_read n due.in_braces s s _ _ _ BraceOpen (omega arith) c.in_ok-token.ensures.takes c.in-BraceOpen.is refl) (c.parse_braces.ensures.led n s (omega arith))
 
 pub parse_items-returns-in_err-expect-clause-led : goal.parse_items-returns-in_err-expect-clause-led
 parse_items-returns-in_err-expect-clause-led t c = λ n s e. handed s _ _ c.from_residual.ensures.1
-    (expected c.args.self.now.place c.next_is.new.self.place c.expect.new.self.place c.args.close c.in_err-expect.field-0.0 c.next_is.ensures.stays (c.if-next_is.ensures.answer.0 refl) c.in_err-expect.ensures)
+    (expected c.args.self.now.place c.next_is.new.self.place c.expect.new.self.place c.args.close c.in_err-expect.field-0.0 c.next_is.ensures.stays (c.if-next_is.ensures.answer.0 refl) c.in_err-expect.ensures.takes)
 
 pub parse_items-returns-then-same-clause-led : goal.parse_items-returns-then-same-clause-led
 parse_items-returns-then-same-clause-led t c = λ n s e.
     let first = ap (λ (z : Range ℕ). z.start) c.span-start.ensures ∙ sym (ap (λ (z : Place). z.lexer.start) c.next_is.ensures.stays) in
     let last = ap (λ (z : Range ℕ). z.end) c.span.ensures in
-    empty_there (inl tt) c.new.result c.args.close (here_is n due.first_item (form_of c.args.close ∷ s) _ _ c.next_is.ensures.stays) c.in_ok-expect.ensures
+    empty_there (inl tt) c.new.result c.args.close (here_is n due.first_item (form_of c.args.close ∷ s) _ _ c.next_is.ensures.stays) c.in_ok-expect.ensures.takes
     (close_empty n c.args.close s (text_at c.expect.new.self.place) (c.same.ensures.0 c.if-same.true))
     (record { is = c.new.ensures.refusal; stands = c.new.ensures.span ∙ range_path first last; tells = c.new.ensures.detail })
 
 pub parse_items-returns-then-next_is-clause-led : goal.parse_items-returns-then-next_is-clause-led
 parse_items-returns-then-next_is-clause-led t c = λ n s e.
-    read_there (then_same c.args.close (here_is n due.first_item (form_of c.args.close ∷ s) _ _ c.next_is.ensures.stays) c.in_ok-expect.ensures
+    read_there (then_same c.args.close (here_is n due.first_item (form_of c.args.close ∷ s) _ _ c.next_is.ensures.stays) c.in_ok-expect.ensures.takes
     (close_first n c.args.close s (text_at c.expect.new.self.place) c.requires (λ k. untrue _ c.if-same.false (c.same.ensures.1 k)))) (inl refl)
 
 pub parse_items-items-init : goal.parse_items-items-init
 parse_items-items-init t c = record {
+  asks = asks_once c.args.self.now c.next_is.new.self c.next_is.ensures.asks;
   no_close = subst (λ z. (next : Place) × Takes z (Some (Ok c.args.close)) next → ⊥) (sym c.next_is.ensures.stays) (λ next. untrue _ c.if-next_is.false (c.next_is.ensures.answer.1 next));
   reached = λ n s e. (due.first_item, inl refl, here_is n due.first_item (form_of c.args.close ∷ s) _ _ c.next_is.ensures.stays);
   tree = items_first _ _ _ _ _ c.new-items.ensures.items c.next_is.ensures.stays;
@@ -131,7 +133,7 @@ pub parse_items-returns-in_err-token-clause-led : goal.parse_items-returns-in_er
 parse_items-returns-in_err-token-clause-led t c = λ n s e.
     let (d, i, r) = c.items.invariant.reached n s e in
     let item = c.in_ok-item.ensures.led n (form_of c.args.close ∷ s) (omega arith) in
-    handed s _ _ c.from_residual-in_err-token.ensures.1 (fails_behind item.due_there (λ _. Unit {0}) c.in_err-token.field-0.0 (behind_item c.args.close c.requires c.items.invariant.no_close i r item) item.is_behind (λ k text apart. absurd (apart tt)) c.in_err-token.ensures)
+    handed s _ _ c.from_residual-in_err-token.ensures.1 (fails_behind item.due_there (λ _. Unit {0}) c.in_err-token.field-0.0 (behind_item c.args.close c.requires c.items.invariant.no_close i r item) item.is_behind (λ k text apart. absurd (apart tt)) c.in_err-token.ensures.takes)
 
 pub parse_items-returns-then-same-3-clause-led : goal.parse_items-returns-then-same-3-clause-led
 parse_items-returns-then-same-3-clause-led t c = λ n s e.
@@ -139,7 +141,7 @@ parse_items-returns-then-same-3-clause-led t c = λ n s e.
     let item = c.in_ok-item.ensures.led n (form_of c.args.close ∷ s) (omega arith) in
     let behind = behind_item c.args.close c.requires c.items.invariant.no_close i r item in
     let step_there = close_behind c.args.close s (text_at c.advance.new.self.place) c.requires in
-    read_there (then_behind item.due_there c.in_ok-token.token behind item.is_behind c.in_ok-token.ensures
+    read_there (then_behind item.due_there c.in_ok-token.token behind item.is_behind c.in_ok-token.ensures.takes
     (subst (λ z. behind_step (form_of c.args.close ∷ s) (token_of z (text_at c.advance.new.self.place)) ≡ reads due.behind_value s) (sym (c.same-in-items.ensures.0 c.if-same-3.true)) step_there)) (inl refl)
 
 pub parse_items-returns-then-not-same-clause-led : goal.parse_items-returns-then-not-same-clause-led
@@ -147,13 +149,13 @@ parse_items-returns-then-not-same-clause-led t c = λ n s e.
     let (d, i, r) = c.items.invariant.reached n s e in
     let item = c.in_ok-item.ensures.led n (form_of c.args.close ∷ s) (omega arith) in
     let behind = behind_item c.args.close c.requires c.items.invariant.no_close i r item in
-    unexpected_behind item.due_there c.unexpected.result c.in_ok-token.token behind item.is_behind c.in_ok-token.ensures
+    unexpected_behind item.due_there c.unexpected.result c.in_ok-token.token behind item.is_behind c.in_ok-token.ensures.takes
     (other_behind c.args.close c.in_ok-token.token s (text_at c.advance.new.self.place) c.requires (λ k. untrue _ c.if-same-3.false (c.same-in-items.ensures.1 k)) (λ k. untrue _ c.if-not-same.true (c.same-in-items-2.ensures.1 k)))
     c.unexpected.ensures
 
 pub parse_items-returns-in_err-expect-2-clause-led : goal.parse_items-returns-in_err-expect-2-clause-led
 parse_items-returns-in_err-expect-2-clause-led t c = λ n s e. handed s _ _ c.from_residual-in_err-expect-2.ensures.1
-    (expected c.advance.new.self.place c.next_is-in-items.new.self.place c.expect-then-next_is-2.new.self.place c.args.close c.in_err-expect-2.field-0.0 c.next_is-in-items.ensures.stays (c.if-next_is-2.ensures.answer.0 refl) c.in_err-expect-2.ensures)
+    (expected c.advance.new.self.place c.next_is-in-items.new.self.place c.expect-then-next_is-2.new.self.place c.args.close c.in_err-expect-2.field-0.0 c.next_is-in-items.ensures.stays (c.if-next_is-2.ensures.answer.0 refl) c.in_err-expect-2.ensures.takes)
 
 pub parse_items-returns-then-next_is-2-clause-led : goal.parse_items-returns-then-next_is-2-clause-led
 parse_items-returns-then-next_is-2-clause-led t c = λ n s e.
@@ -161,63 +163,66 @@ parse_items-returns-then-next_is-2-clause-led t c = λ n s e.
     let item = c.in_ok-item.ensures.led n (form_of c.args.close ∷ s) (omega arith) in
     let behind = behind_item c.args.close c.requires c.items.invariant.no_close i r item in
     let comma_step = subst (λ z. behind_step (form_of c.args.close ∷ s) (token_of z (text_at c.advance.new.self.place)) ≡ reads due.next_item (form_of c.args.close ∷ s)) (sym (c.same-in-items-2.ensures.0 c.if-not-same.false)) (comma_behind c.args.close s (text_at c.advance.new.self.place) c.requires) in
-    let next = then_behind item.due_there c.in_ok-token.token behind item.is_behind c.in_ok-token.ensures comma_step in
-    read_there (then_same c.args.close (moved c.next_is-in-items.ensures.stays next) c.in_ok-expect-2.ensures (close_next n c.args.close s (text_at c.expect-then-next_is-2.new.self.place) c.requires)) (inl refl)
+    let next = then_behind item.due_there c.in_ok-token.token behind item.is_behind c.in_ok-token.ensures.takes comma_step in
+    read_there (then_same c.args.close (moved c.next_is-in-items.ensures.stays next) c.in_ok-expect-2.ensures.takes (close_next n c.args.close s (text_at c.expect-then-next_is-2.new.self.place) c.requires)) (inl refl)
 
 pub parse_items-items-smaller : goal.parse_items-items-smaller
 parse_items-items-smaller t c =
     let item = c.in_ok-item.ensures.led (c.args.levels + 1 + 0) (form_of c.args.close ∷ []) (omega arith) in
     let one = tokens_less _ _ item.tokens item.taken in
-    let two = token_less _ _ c.in_ok-token.token c.in_ok-token.ensures in
+    let two = token_less _ _ c.in_ok-token.token c.in_ok-token.ensures.takes in
     let three = ap left_at c.next_is-in-items.ensures.stays in
     omega arith
 
 pub parse_items-items-preserved : goal.parse_items-items-preserved
 parse_items-items-preserved t c = record {
+  asks =
+      let (d, i, r) = c.items.invariant.reached (c.args.levels + 1) [] (omega arith) in
+      asks_reached (c.args.levels + 1) due.first_item d (form_of c.args.close ∷ []) (form_of c.args.close ∷ []) c.args.self.now c.items.self c.next_is-in-items.new.self r c.items.invariant.asks (asks_read c.args.levels due.value [] [] c.items.self c.parse_node.new.self c.next_is-in-items.new.self (c.in_ok-item.ensures.led c.args.levels [] (omega arith)) c.parse_node.ensures.asks (asks_token c.parse_node.new.self c.advance.new.self c.next_is-in-items.new.self c.in_ok-token.token c.in_ok-token.ensures.takes c.advance.ensures.asks (asks_once c.advance.new.self c.next_is-in-items.new.self c.next_is-in-items.ensures.asks)));
   no_close = subst (λ z. (next : Place) × Takes z (Some (Ok c.args.close)) next → ⊥) (sym c.next_is-in-items.ensures.stays) (λ next. untrue _ c.if-next_is-2.false (c.next_is-in-items.ensures.answer.1 next));
   reached = λ n s e.
       let (d, i, r) = c.items.invariant.reached n s e in
       let item = c.in_ok-item.ensures.led n (form_of c.args.close ∷ s) (omega arith) in
       let behind = behind_item c.args.close c.requires c.items.invariant.no_close i r item in
       let comma_step = subst (λ z. behind_step (form_of c.args.close ∷ s) (token_of z (text_at c.advance.new.self.place)) ≡ reads due.next_item (form_of c.args.close ∷ s)) (sym (c.same-in-items-2.ensures.0 c.if-not-same.false)) (comma_behind c.args.close s (text_at c.advance.new.self.place) c.requires) in
-      let next = then_behind item.due_there c.in_ok-token.token behind item.is_behind c.in_ok-token.ensures comma_step in
+      let next = then_behind item.due_there c.in_ok-token.token behind item.is_behind c.in_ok-token.ensures.takes comma_step in
       (due.next_item, inr refl, moved c.next_is-in-items.ensures.stays next);
-  tree = items_next _ _ _ _ _ _ _ c.items.items.items _ c.in_ok-item.item c.items.invariant.tree c.in_ok-item.ensures.tree (class_as _ _ _ Comma c.in_ok-token.ensures (c.same-in-items-2.ensures.0 c.if-not-same.false)) c.next_is-in-items.ensures.stays (pushed _ _ _ _ c.push.ensures.items c.if-is_err.ensures.negation);
+  tree = items_next _ _ _ _ _ _ _ c.items.items.items _ c.in_ok-item.item c.items.invariant.tree c.in_ok-item.ensures.tree (class_as _ _ _ Comma c.in_ok-token.ensures.takes (c.same-in-items-2.ensures.0 c.if-not-same.false)) c.next_is-in-items.ensures.stays (pushed _ _ _ _ c.push.ensures.items c.if-is_err.ensures.negation);
 }
 
 pub parse_braces-returns-in_err-token-clause-led : goal.parse_braces-returns-in_err-token-clause-led
 parse_braces-returns-in_err-token-clause-led t c = λ n s e. handed s _ _ c.from_residual.ensures.1
-    (fails (inl tt) (λ _. Unit {0}) c.in_err-token.field-0.0 (here n due.in_braces s _) (λ deep. deep.due) (any_token n due.in_braces s _ _) c.in_err-token.ensures)
+    (fails (inl tt) (λ _. Unit {0}) c.in_err-token.field-0.0 (here n due.in_braces s _) (λ deep. deep.due) (any_token n due.in_braces s _ _) c.in_err-token.ensures.takes)
 
 pub parse_braces-returns-then-same-clause-led : goal.parse_braces-returns-then-same-clause-led
-parse_braces-returns-then-same-clause-led t c = λ n s e. read_there (then_class BraceClose (here n due.in_braces s _) c.in_ok-token.ensures (c.same.ensures.0 c.if-same.true) refl) (inl refl)
+parse_braces-returns-then-same-clause-led t c = λ n s e. read_there (then_class BraceClose (here n due.in_braces s _) c.in_ok-token.ensures.takes (c.same.ensures.0 c.if-same.true) refl) (inl refl)
 
 pub parse_braces-returns-in_err-expect-clause-led : goal.parse_braces-returns-in_err-expect-clause-led
 parse_braces-returns-in_err-expect-clause-led t c = λ n s e. handed s _ _ c.from_residual-in_err-expect.ensures.1
-    (fails (inl tt) (λ k. k ≡ BraceClose) c.in_err-expect.field-0.0 (then_class {f = due.no_fields} {v = s} Colon (here n due.in_braces s _) c.in_ok-token.ensures (c.same-2.ensures.0 c.if-same-2.true) refl) (λ deep. deep.due)
-    (λ k h apart. no_brace n s k (text_at c.expect.new.self.place) apart) c.in_err-expect.ensures)
+    (fails (inl tt) (λ k. k ≡ BraceClose) c.in_err-expect.field-0.0 (then_class {f = due.no_fields} {v = s} Colon (here n due.in_braces s _) c.in_ok-token.ensures.takes (c.same-2.ensures.0 c.if-same-2.true) refl) (λ deep. deep.due)
+    (λ k h apart. no_brace n s k (text_at c.expect.new.self.place) apart) c.in_err-expect.ensures.takes)
 
 pub parse_braces-returns-then-same-2-clause-led : goal.parse_braces-returns-then-same-2-clause-led
 parse_braces-returns-then-same-2-clause-led t c = λ n s e.
-    read_there (then_same BraceClose (then_class {f = due.no_fields} {v = s} Colon (here n due.in_braces s _) c.in_ok-token.ensures (c.same-2.ensures.0 c.if-same-2.true) refl) c.in_ok-expect.ensures refl) (inl refl)
+    read_there (then_same BraceClose (then_class {f = due.no_fields} {v = s} Colon (here n due.in_braces s _) c.in_ok-token.ensures.takes (c.same-2.ensures.0 c.if-same-2.true) refl) c.in_ok-expect.ensures.takes refl) (inl refl)
 
 pub parse_braces-returns-in_err-expect-2-clause-led : goal.parse_braces-returns-in_err-expect-2-clause-led
 parse_braces-returns-in_err-expect-2-clause-led t c = λ n s e. handed s _ _ c.from_residual-in_err-expect-2.ensures.1
-    (expected c.advance.new.self.place c.next_is.new.self.place c.expect-then-next_is.new.self.place Colon c.in_err-expect-2.field-0.0 c.next_is.ensures.stays (c.if-next_is.ensures.answer.0 refl) c.in_err-expect-2.ensures)
+    (expected c.advance.new.self.place c.next_is.new.self.place c.expect-then-next_is.new.self.place Colon c.in_err-expect-2.field-0.0 c.next_is.ensures.stays (c.if-next_is.ensures.answer.0 refl) c.in_err-expect-2.ensures.takes)
 
 pub parse_braces-returns-then-next_is-clause-led : goal.parse_braces-returns-then-next_is-clause-led
 parse_braces-returns-then-next_is-clause-led t c = λ n s e.
-    let word = then_class {f = due.behind_word (text_at c.advance.new.self.place)} {v = s} LabelOrKeyword (here n due.in_braces s _) c.in_ok-token.ensures (c.same-3.ensures.0 c.if-same-3.true) refl in
-    gives_then s _ c.parse_entries.result (then_same Colon (moved c.next_is.ensures.stays word) c.in_ok-expect-2.ensures refl) (c.parse_entries.ensures.led n s e)
+    let word = then_class {f = due.behind_word (text_at c.advance.new.self.place)} {v = s} LabelOrKeyword (here n due.in_braces s _) c.in_ok-token.ensures.takes (c.same-3.ensures.0 c.if-same-3.true) refl in
+    gives_then s _ c.parse_entries.result (then_same Colon (moved c.next_is.ensures.stays word) c.in_ok-expect-2.ensures.takes refl) (c.parse_entries.ensures.led n s e)
 
 pub parse_braces-returns-then-same-3-clause-led : goal.parse_braces-returns-then-same-3-clause-led
 parse_braces-returns-then-same-3-clause-led t c = λ n s e.
-    let word = then_class {f = due.behind_word (text_at c.advance.new.self.place)} {v = s} LabelOrKeyword (here n due.in_braces s _) c.in_ok-token.ensures (c.same-3.ensures.0 c.if-same-3.true) refl in
+    let word = then_class {f = due.behind_word (text_at c.advance.new.self.place)} {v = s} LabelOrKeyword (here n due.in_braces s _) c.in_ok-token.ensures.takes (c.same-3.ensures.0 c.if-same-3.true) refl in
     gives_then s _ c.parse_flags.result (moved c.next_is.ensures.stays word)
     (subst (λ z. Gives c.parse_flags.result n (due.behind_word (text_at z)) s c.next_is.new.self.place c.parse_flags.new.self.place s) c.next_is.ensures.stays (c.parse_flags.ensures.led n s))
 
 pub parse_braces-returns-in_default-clause-led : goal.parse_braces-returns-in_default-clause-led
-parse_braces-returns-in_default-clause-led t c = λ n s e. unexpected_there (inl tt) c.unexpected.result c.in_ok-token.token (here n due.in_braces s _) c.in_ok-token.ensures
+parse_braces-returns-in_default-clause-led t c = λ n s e. unexpected_there (inl tt) c.unexpected.result c.in_ok-token.token (here n due.in_braces s _) c.in_ok-token.ensures.takes
     (brace_key c.in_ok-token.token s (text_at c.advance.new.self.place) (λ k. untrue _ c.if-same-3.false (c.same-3.ensures.1 k)) (λ k. untrue _ c.if-same-2.false (c.same-2.ensures.1 k)) ∙
     no_key c.in_ok-token.token s (text_at c.advance.new.self.place) c.in_default.ensures (λ k. untrue _ c.if-same.false (c.same.ensures.1 k)))
     c.unexpected.ensures
@@ -225,13 +230,13 @@ parse_braces-returns-in_default-clause-led t c = λ n s e. unexpected_there (inl
 pub parse_braces-returns-in_err-expect-3-clause-led : goal.parse_braces-returns-in_err-expect-3-clause-led
 parse_braces-returns-in_err-expect-3-clause-led t c = λ n s e.
     let key_step_there = brace_key c.in_ok-token.token s (text_at c.advance.new.self.place) (λ k. untrue _ c.if-same-3.false (c.same-3.ensures.1 k)) (λ k. untrue _ c.if-same-2.false (c.same-2.ensures.1 k)) ∙ key_reads c.in_ok-token.token s (text_at c.advance.new.self.place) c.in-Some.ensures.0 in
-    handed s _ _ c.from_residual-in_err-expect-3.ensures.1 (fails (inl tt) (λ k. k ≡ Colon) c.in_err-expect-3.field-0.0 (then_same c.in_ok-token.token (here n due.in_braces s _) c.in_ok-token.ensures key_step_there) (λ deep. deep.due)
-    (λ k h apart. no_colon n s k (text_at c.expect-2.new.self.place) apart) c.in_err-expect-3.ensures)
+    handed s _ _ c.from_residual-in_err-expect-3.ensures.1 (fails (inl tt) (λ k. k ≡ Colon) c.in_err-expect-3.field-0.0 (then_same c.in_ok-token.token (here n due.in_braces s _) c.in_ok-token.ensures.takes key_step_there) (λ deep. deep.due)
+    (λ k h apart. no_colon n s k (text_at c.expect-2.new.self.place) apart) c.in_err-expect-3.ensures.takes)
 
 pub parse_braces-returns-clause-led : goal.parse_braces-returns-clause-led
 parse_braces-returns-clause-led t c = λ n s e.
     let key_step_there = brace_key c.in_ok-token.token s (text_at c.advance.new.self.place) (λ k. untrue _ c.if-same-3.false (c.same-3.ensures.1 k)) (λ k. untrue _ c.if-same-2.false (c.same-2.ensures.1 k)) ∙ key_reads c.in_ok-token.token s (text_at c.advance.new.self.place) c.in-Some.ensures.0 in
-    gives_then s _ c.parse_entries-2.result (then_same Colon (then_same c.in_ok-token.token (here n due.in_braces s _) c.in_ok-token.ensures key_step_there) c.in_ok-expect-3.ensures refl) (c.parse_entries-2.ensures.led n s e)
+    gives_then s _ c.parse_entries-2.result (then_same Colon (then_same c.in_ok-token.token (here n due.in_braces s _) c.in_ok-token.ensures.takes key_step_there) c.in_ok-expect-3.ensures.takes refl) (c.parse_entries-2.ensures.led n s e)
 
 pub parse_entries-returns-in_err-value-clause-led : goal.parse_entries-returns-in_err-value-clause-led
 parse_entries-returns-in_err-value-clause-led t c = λ n s e. handed s _ _ c.from_residual.ensures.1
@@ -240,91 +245,92 @@ parse_entries-returns-in_err-value-clause-led t c = λ n s e. handed s _ _ c.fro
 pub parse_entries-returns-in_err-token-clause-led : goal.parse_entries-returns-in_err-token-clause-led
 parse_entries-returns-in_err-token-clause-led t c = λ n s e.
     let item = c.in_ok-value.ensures.led n (due.entries ∷ s) (omega arith) in
-    handed s _ _ c.from_residual-in_err-token.ensures.1 (fails_behind item.due_there (λ _. Unit {0}) c.in_err-token.field-0.0 (then_reached (c.entries.invariant.led n s e) (reached item)) item.is_behind (λ k text apart. absurd (apart tt)) c.in_err-token.ensures)
+    handed s _ _ c.from_residual-in_err-token.ensures.1 (fails_behind item.due_there (λ _. Unit {0}) c.in_err-token.field-0.0 (then_reached (c.entries.invariant.led n s e) (reached item)) item.is_behind (λ k text apart. absurd (apart tt)) c.in_err-token.ensures.takes)
 
 pub parse_entries-returns-then-same-clause-led : goal.parse_entries-returns-then-same-clause-led
 parse_entries-returns-then-same-clause-led t c = λ n s e.
     let item = c.in_ok-value.ensures.led n (due.entries ∷ s) (omega arith) in
-    read_there (then_behind_class item.due_there BraceClose (then_reached (c.entries.invariant.led n s e) (reached item)) item.is_behind c.in_ok-token.ensures (c.same.ensures.0 c.if-same.true) refl) (inl refl)
+    read_there (then_behind_class item.due_there BraceClose (then_reached (c.entries.invariant.led n s e) (reached item)) item.is_behind c.in_ok-token.ensures.takes (c.same.ensures.0 c.if-same.true) refl) (inl refl)
 
 pub parse_entries-returns-then-not-same-clause-led : goal.parse_entries-returns-then-not-same-clause-led
 parse_entries-returns-then-not-same-clause-led t c = λ n s e.
     let item = c.in_ok-value.ensures.led n (due.entries ∷ s) (omega arith) in
-    unexpected_behind item.due_there c.unexpected.result c.in_ok-token.token (then_reached (c.entries.invariant.led n s e) (reached item)) item.is_behind c.in_ok-token.ensures
+    unexpected_behind item.due_there c.unexpected.result c.in_ok-token.token (then_reached (c.entries.invariant.led n s e) (reached item)) item.is_behind c.in_ok-token.ensures.takes
     (entries_other c.in_ok-token.token s (text_at c.advance.new.self.place) (λ k. untrue _ c.if-same.false (c.same.ensures.1 k)) (λ k. untrue _ c.if-not-same.true (c.same-in-entries.ensures.1 k)))
     c.unexpected.ensures
 
 pub parse_entries-returns-in_err-next-clause-led : goal.parse_entries-returns-in_err-next-clause-led
 parse_entries-returns-in_err-next-clause-led t c = λ n s e.
     let item = c.in_ok-value.ensures.led n (due.entries ∷ s) (omega arith) in
-    let due_key = then_behind_class {f = due.key} {b = s} item.due_there Comma (then_reached (c.entries.invariant.led n s e) (reached item)) item.is_behind c.in_ok-token.ensures (c.same-in-entries.ensures.0 c.if-not-same.false) refl in
-    handed s _ _ c.from_residual-in_err-next.ensures.1 (fails (inl tt) (λ _. Unit {0}) c.in_err-next.field-0.0 due_key (λ deep. deep.due) (any_token n due.key s _ _) c.in_err-next.ensures)
+    let due_key = then_behind_class {f = due.key} {b = s} item.due_there Comma (then_reached (c.entries.invariant.led n s e) (reached item)) item.is_behind c.in_ok-token.ensures.takes (c.same-in-entries.ensures.0 c.if-not-same.false) refl in
+    handed s _ _ c.from_residual-in_err-next.ensures.1 (fails (inl tt) (λ _. Unit {0}) c.in_err-next.field-0.0 due_key (λ deep. deep.due) (any_token n due.key s _ _) c.in_err-next.ensures.takes)
 
 pub parse_entries-returns-then-same-2-clause-led : goal.parse_entries-returns-then-same-2-clause-led
 parse_entries-returns-then-same-2-clause-led t c = λ n s e.
     let item = c.in_ok-value.ensures.led n (due.entries ∷ s) (omega arith) in
-    let due_key = then_behind_class {f = due.key} {b = s} item.due_there Comma (then_reached (c.entries.invariant.led n s e) (reached item)) item.is_behind c.in_ok-token.ensures (c.same-in-entries.ensures.0 c.if-not-same.false) refl in
-    read_there (then_class BraceClose due_key c.in_ok-next.ensures (c.same-in-entries-2.ensures.0 c.if-same-2.true) refl) (inl refl)
+    let due_key = then_behind_class {f = due.key} {b = s} item.due_there Comma (then_reached (c.entries.invariant.led n s e) (reached item)) item.is_behind c.in_ok-token.ensures.takes (c.same-in-entries.ensures.0 c.if-not-same.false) refl in
+    read_there (then_class BraceClose due_key c.in_ok-next.ensures.takes (c.same-in-entries-2.ensures.0 c.if-same-2.true) refl) (inl refl)
 
 pub parse_entries-returns-in_default-clause-led : goal.parse_entries-returns-in_default-clause-led
 parse_entries-returns-in_default-clause-led t c = λ n s e.
     let item = c.in_ok-value.ensures.led n (due.entries ∷ s) (omega arith) in
-    let due_key = then_behind_class {f = due.key} {b = s} item.due_there Comma (then_reached (c.entries.invariant.led n s e) (reached item)) item.is_behind c.in_ok-token.ensures (c.same-in-entries.ensures.0 c.if-not-same.false) refl in
-    unexpected_there (inl tt) c.unexpected-in_default.result c.in_ok-next.next due_key c.in_ok-next.ensures
+    let due_key = then_behind_class {f = due.key} {b = s} item.due_there Comma (then_reached (c.entries.invariant.led n s e) (reached item)) item.is_behind c.in_ok-token.ensures.takes (c.same-in-entries.ensures.0 c.if-not-same.false) refl in
+    unexpected_there (inl tt) c.unexpected-in_default.result c.in_ok-next.next due_key c.in_ok-next.ensures.takes
     (no_key c.in_ok-next.next s (text_at c.advance-in-entries.new.self.place) c.in_default.ensures (λ k. untrue _ c.if-same-2.false (c.same-in-entries-2.ensures.1 k)))
     c.unexpected-in_default.ensures
 
 pub parse_entries-returns-in_err-expect-clause-led : goal.parse_entries-returns-in_err-expect-clause-led
 parse_entries-returns-in_err-expect-clause-led t c = λ n s e.
     let item = c.in_ok-value.ensures.led n (due.entries ∷ s) (omega arith) in
-    let due_key = then_behind_class {f = due.key} {b = s} item.due_there Comma (then_reached (c.entries.invariant.led n s e) (reached item)) item.is_behind c.in_ok-token.ensures (c.same-in-entries.ensures.0 c.if-not-same.false) refl in
+    let due_key = then_behind_class {f = due.key} {b = s} item.due_there Comma (then_reached (c.entries.invariant.led n s e) (reached item)) item.is_behind c.in_ok-token.ensures.takes (c.same-in-entries.ensures.0 c.if-not-same.false) refl in
     handed s _ _ c.from_residual-in_err-expect.ensures.1 (fails (inl tt) (λ k. k ≡ Colon) c.in_err-expect.field-0.0
-    (then_same c.in_ok-next.next due_key c.in_ok-next.ensures (key_reads c.in_ok-next.next s (text_at c.advance-in-entries.new.self.place) c.in-Some.ensures.0)) (λ deep. deep.due)
-    (λ k h apart. no_colon n s k (text_at c.expect.new.self.place) apart) c.in_err-expect.ensures)
+    (then_same c.in_ok-next.next due_key c.in_ok-next.ensures.takes (key_reads c.in_ok-next.next s (text_at c.advance-in-entries.new.self.place) c.in-Some.ensures.0)) (λ deep. deep.due)
+    (λ k h apart. no_colon n s k (text_at c.expect.new.self.place) apart) c.in_err-expect.ensures.takes)
 
 pub parse_entries-entries-smaller : goal.parse_entries-entries-smaller
 parse_entries-entries-smaller t c =
     let item = c.in_ok-value.ensures.led (c.args.levels + 1 + 0) (due.entries ∷ []) (omega arith) in
     let one = tokens_less _ _ item.tokens item.taken in
-    let two = token_less _ _ c.in_ok-token.token c.in_ok-token.ensures in
-    let three = token_less _ _ c.in_ok-next.next c.in_ok-next.ensures in
-    let four = token_less _ _ Colon c.in_ok-expect.ensures in
+    let two = token_less _ _ c.in_ok-token.token c.in_ok-token.ensures.takes in
+    let three = token_less _ _ c.in_ok-next.next c.in_ok-next.ensures.takes in
+    let four = token_less _ _ Colon c.in_ok-expect.ensures.takes in
     omega arith
 
 pub parse_entries-entries-preserved : goal.parse_entries-entries-preserved
 parse_entries-entries-preserved t c = record {
-  tree = pairs_next _ _ _ _ _ _ _ c.entries.children.items c.push-in-entries.new.self.items _ c.args.key c.in_ok-value.value c.leaf-key.result c.entries.invariant.tree c.in_ok-value.ensures.tree (class_as _ _ _ Comma c.in_ok-token.ensures (c.same-in-entries.ensures.0 c.if-not-same.false))
-      (c.in_ok-next.next, c.in_ok-next.ensures, c.in-Some.ensures.0, c.leaf-key.ensures ∙ ap (λ z. node z (span_at c.advance-in-entries.new.self.place) no_nodes) c.in-Some.ensures.1) c.in_ok-expect.ensures
+  asks = asks_reached (c.args.levels + 1) due.value due.value (due.entries ∷ []) (due.entries ∷ []) c.args.self.now c.entries.self c.expect.new.self (c.entries.invariant.led (c.args.levels + 1) [] (omega arith)) c.entries.invariant.asks (asks_read c.args.levels due.value [] [] c.entries.self c.parse_node.new.self c.expect.new.self (c.in_ok-value.ensures.led c.args.levels [] (omega arith)) c.parse_node.ensures.asks (asks_token c.parse_node.new.self c.advance.new.self c.expect.new.self c.in_ok-token.token c.in_ok-token.ensures.takes c.advance.ensures.asks (asks_token c.advance.new.self c.advance-in-entries.new.self c.expect.new.self c.in_ok-next.next c.in_ok-next.ensures.takes c.advance-in-entries.ensures.asks (asks_once c.advance-in-entries.new.self c.expect.new.self c.expect.ensures.asks))));
+  tree = pairs_next _ _ _ _ _ _ _ c.entries.children.items c.push-in-entries.new.self.items _ c.args.key c.in_ok-value.value c.leaf-key.result c.entries.invariant.tree c.in_ok-value.ensures.tree (class_as _ _ _ Comma c.in_ok-token.ensures.takes (c.same-in-entries.ensures.0 c.if-not-same.false))
+      (c.in_ok-next.next, c.in_ok-next.ensures.takes, c.in-Some.ensures.0, c.leaf-key.ensures ∙ ap (λ z. node z (span_at c.advance-in-entries.new.self.place) no_nodes) c.in-Some.ensures.1) c.in_ok-expect.ensures.takes
       (pushed _ _ _ _ c.push-in-entries.ensures.items c.if-is_err-2.ensures.negation) (pushed _ _ _ _ c.push-in-entries-2.ensures.items c.if-is_err-3.ensures.negation);
   led = λ n s e.
       let item = c.in_ok-value.ensures.led n (due.entries ∷ s) (omega arith) in
-      let due_key = then_behind_class {f = due.key} {b = s} item.due_there Comma (then_reached (c.entries.invariant.led n s e) (reached item)) item.is_behind c.in_ok-token.ensures (c.same-in-entries.ensures.0 c.if-not-same.false) refl in
-      then_same Colon (then_same c.in_ok-next.next due_key c.in_ok-next.ensures (key_reads c.in_ok-next.next s (text_at c.advance-in-entries.new.self.place) c.in-Some.ensures.0)) c.in_ok-expect.ensures refl;
+      let due_key = then_behind_class {f = due.key} {b = s} item.due_there Comma (then_reached (c.entries.invariant.led n s e) (reached item)) item.is_behind c.in_ok-token.ensures.takes (c.same-in-entries.ensures.0 c.if-not-same.false) refl in
+      then_same Colon (then_same c.in_ok-next.next due_key c.in_ok-next.ensures.takes (key_reads c.in_ok-next.next s (text_at c.advance-in-entries.new.self.place) c.in-Some.ensures.0)) c.in_ok-expect.ensures.takes refl;
 }
 
 pub parse_node-returns-in-Number-clause-tree : goal.parse_node-returns-in-Number-clause-tree
-parse_node-returns-in-Number-clause-tree t c = number_tied _ _ _ _ c.leaf.result (omega arith) c.in_ok-token.ensures c.in-Number.is c.leaf.ensures
+parse_node-returns-in-Number-clause-tree t c = number_tied _ _ _ _ c.leaf.result (omega arith) c.in_ok-token.ensures.takes c.in-Number.is c.leaf.ensures
 
 pub parse_node-returns-in-Char-clause-tree : goal.parse_node-returns-in-Char-clause-tree
-parse_node-returns-in-Char-clause-tree t c = char_tied _ _ _ _ c.leaf-in-Char.result (omega arith) c.in_ok-token.ensures c.in-Char.is c.leaf-in-Char.ensures
+parse_node-returns-in-Char-clause-tree t c = char_tied _ _ _ _ c.leaf-in-Char.result (omega arith) c.in_ok-token.ensures.takes c.in-Char.is c.leaf-in-Char.ensures
 
 pub parse_node-returns-in-String-clause-tree : goal.parse_node-returns-in-String-clause-tree
-parse_node-returns-in-String-clause-tree t c = string_tied _ _ _ _ c.leaf-in-String.result (omega arith) c.in_ok-token.ensures c.in-String.is c.leaf-in-String.ensures
+parse_node-returns-in-String-clause-tree t c = string_tied _ _ _ _ c.leaf-in-String.result (omega arith) c.in_ok-token.ensures.takes c.in-String.is c.leaf-in-String.ensures
 
 pub parse_node-returns-in-MultilineString-clause-tree : goal.parse_node-returns-in-MultilineString-clause-tree
-parse_node-returns-in-MultilineString-clause-tree t c = multiline_tied _ _ _ _ c.leaf-in-MultilineString.result (omega arith) c.in_ok-token.ensures c.in-MultilineString.is c.leaf-in-MultilineString.ensures
+parse_node-returns-in-MultilineString-clause-tree t c = multiline_tied _ _ _ _ c.leaf-in-MultilineString.result (omega arith) c.in_ok-token.ensures.takes c.in-MultilineString.is c.leaf-in-MultilineString.ensures
 
 pub parse_node-returns-in-LabelOrKeyword-clause-tree : goal.parse_node-returns-in-LabelOrKeyword-clause-tree
-parse_node-returns-in-LabelOrKeyword-clause-tree t c = label_tied _ _ _ _ _ c.parse_label.result (omega arith) c.in_ok-token.ensures c.in-LabelOrKeyword.is c.parse_label.ensures.tree
+parse_node-returns-in-LabelOrKeyword-clause-tree t c = label_tied _ _ _ _ _ c.parse_label.result (omega arith) c.in_ok-token.ensures.takes c.in-LabelOrKeyword.is c.parse_label.ensures.tree
 
 pub parse_node-returns-in-ParenOpen-clause-tree : goal.parse_node-returns-in-ParenOpen-clause-tree
-parse_node-returns-in-ParenOpen-clause-tree t c = items_tied _ _ _ _ _ _ _ (inl (refl, refl)) c.parse_items.result (omega arith) c.in_ok-token.ensures c.in-ParenOpen.is c.parse_items.ensures.tree
+parse_node-returns-in-ParenOpen-clause-tree t c = items_tied _ _ _ _ _ _ _ (inl (refl, refl)) c.parse_items.result (omega arith) c.in_ok-token.ensures.takes c.in-ParenOpen.is c.parse_items.ensures.tree
 
 pub parse_node-returns-in-BracketOpen-clause-tree : goal.parse_node-returns-in-BracketOpen-clause-tree
-parse_node-returns-in-BracketOpen-clause-tree t c = items_tied _ _ _ _ _ _ _ (inr (refl, refl)) c.parse_items-in-BracketOpen.result (omega arith) c.in_ok-token.ensures c.in-BracketOpen.is c.parse_items-in-BracketOpen.ensures.tree
+parse_node-returns-in-BracketOpen-clause-tree t c = items_tied _ _ _ _ _ _ _ (inr (refl, refl)) c.parse_items-in-BracketOpen.result (omega arith) c.in_ok-token.ensures.takes c.in-BracketOpen.is c.parse_items-in-BracketOpen.ensures.tree
 
 pub parse_node-returns-in-BraceOpen-clause-tree : goal.parse_node-returns-in-BraceOpen-clause-tree
-parse_node-returns-in-BraceOpen-clause-tree t c = braces_tied _ _ _ _ _ c.parse_braces.result (omega arith) c.in_ok-token.ensures c.in-BraceOpen.is c.parse_braces.ensures.tree
+parse_node-returns-in-BraceOpen-clause-tree t c = braces_tied _ _ _ _ _ c.parse_braces.result (omega arith) c.in_ok-token.ensures.takes c.in-BraceOpen.is c.parse_braces.ensures.tree
 
 pub parse_label-returns-in-True-clause-tree : goal.parse_label-returns-in-True-clause-tree
 parse_label-returns-in-True-clause-tree t c =
@@ -347,7 +353,7 @@ parse_label-returns-in-None-clause-tree t c =
 
 pub parse_label-returns-in_ok-expect-in-Some-clause-tree : goal.parse_label-returns-in_ok-expect-in-Some-clause-tree
 parse_label-returns-in_ok-expect-in-Some-clause-tree t c =
-    some_tied _ _ _ _ _ _ c.parse_payload.result (ap word_of (sym c.slice.ensures) ∙ (sym c.word_of.ensures.word ∙ ap spec_word c.in-Some.is)) (ap (λ (z : Range ℕ). z.start) c.span-start.ensures) c.new.ensures.items c.in_ok-expect-in-Some.ensures c.parse_payload.ensures.tree
+    some_tied _ _ _ _ _ _ c.parse_payload.result (ap word_of (sym c.slice.ensures) ∙ (sym c.word_of.ensures.word ∙ ap spec_word c.in-Some.is)) (ap (λ (z : Range ℕ). z.start) c.span-start.ensures) c.new.ensures.items c.in_ok-expect-in-Some.ensures.takes c.parse_payload.ensures.tree
 
 pub parse_label-returns-in-Ok-clause-tree : goal.parse_label-returns-in-Ok-clause-tree
 parse_label-returns-in-Ok-clause-tree t c = ok_tied _ _ _ c.parse_maybe.result (ap word_of (sym c.slice.ensures) ∙ (sym c.word_of.ensures.word ∙ ap spec_word c.in-Ok.is)) c.parse_maybe.ensures.tree
@@ -359,7 +365,7 @@ pub parse_label-returns-in-Case-clause-tree : goal.parse_label-returns-in-Case-c
 parse_label-returns-in-Case-clause-tree t c = case_tied _ _ _ c.parse_maybe-in-Case.result (ap word_of (sym c.slice.ensures) ∙ (sym c.word_of.ensures.word ∙ ap spec_word c.in-Case.is)) c.parse_maybe-in-Case.ensures.tree
 
 pub parse_items-returns-then-next_is-clause-tree : goal.parse_items-returns-then-next_is-clause-tree
-parse_items-returns-then-next_is-clause-tree t c = items_none _ _ _ c.next_is.new.self.place _ _ c.new-items.result.items c.node.result c.node.ensures c.new-items.ensures.items c.requires (λ k. untrue _ c.if-same.false (c.same.ensures.1 k)) (ap (λ (z : Range ℕ). z.start) c.span-start.ensures) c.next_is.ensures.stays c.in_ok-expect.ensures
+parse_items-returns-then-next_is-clause-tree t c = items_none _ _ _ c.next_is.new.self.place _ _ c.new-items.result.items c.node.result c.node.ensures c.new-items.ensures.items c.requires (λ k. untrue _ c.if-same.false (c.same.ensures.1 k)) (ap (λ (z : Range ℕ). z.start) c.span-start.ensures) c.next_is.ensures.stays c.in_ok-expect.ensures.takes
 
 pub parse_items-returns-then-same-3-clause-tree : goal.parse_items-returns-then-same-3-clause-tree
 parse_items-returns-then-same-3-clause-tree t c =
@@ -369,7 +375,7 @@ parse_items-returns-then-same-3-clause-tree t c =
       | parse_items-else-same-2 w ↦ w.ty-is ∙ sym (type_of_items c.args.close c.requires (λ k. untrue _ w.if-same-2.false (c.same-2.ensures.1 k)))
     ]) (ap (λ (z : Range ℕ). z.start) c.span-start.ensures)
     (subst (λ z. AreItems c.args.levels c.args.close c.args.self.now.place z c.advance.new.self.place) (sym more)
-    (c.items.invariant.tree c.in_ok-item.item _ _ [] c.in_ok-item.ensures.tree (inl (class_as _ _ _ c.args.close c.in_ok-token.ensures (c.same-in-items.ensures.0 c.if-same-3.true)))))
+    (c.items.invariant.tree c.in_ok-item.item _ _ [] c.in_ok-item.ensures.tree (inl (class_as _ _ _ c.args.close c.in_ok-token.ensures.takes (c.same-in-items.ensures.0 c.if-same-3.true)))))
     (λ k. some_there _ _ _ more)
 
 pub parse_items-returns-then-next_is-2-clause-tree : goal.parse_items-returns-then-next_is-2-clause-tree
@@ -382,47 +388,186 @@ parse_items-returns-then-next_is-2-clause-tree t c =
     (subst (λ z. AreItems c.args.levels c.args.close c.args.self.now.place z c.expect-then-next_is-2.new.self.place) (sym more)
     (c.items.invariant.tree c.in_ok-item.item _ _ [] c.in_ok-item.ensures.tree (inr (
       c.advance.new.self.place,
-      class_as _ _ _ Comma c.in_ok-token.ensures (c.same-in-items-2.ensures.0 c.if-not-same.false),
-      subst (λ z. TakesClass c.args.close z c.expect-then-next_is-2.new.self.place) c.next_is-in-items.ensures.stays c.in_ok-expect-2.ensures,
+      class_as _ _ _ Comma c.in_ok-token.ensures.takes (c.same-in-items-2.ensures.0 c.if-not-same.false),
+      subst (λ z. TakesClass c.args.close z c.expect-then-next_is-2.new.self.place) c.next_is-in-items.ensures.stays c.in_ok-expect-2.ensures.takes,
     ))))
     (λ k. some_there _ _ _ more)
 
 pub parse_braces-returns-clause-tree : goal.parse_braces-returns-clause-tree
 parse_braces-returns-clause-tree t c =
     entries_tied _ _ c.advance.new.self.place _ _ _ c.leaf-key-2.result c.parse_entries-2.result
-    (c.in_ok-token.token, c.in_ok-token.ensures, c.in-Some.ensures.0, c.leaf-key-2.ensures ∙ ap (λ z. node z (span_at c.advance.new.self.place) no_nodes) c.in-Some.ensures.1)
-    c.in_ok-expect-3.ensures (ap (λ (z : Range ℕ). z.start) c.span-start.ensures) c.parse_entries-2.ensures.tree
+    (c.in_ok-token.token, c.in_ok-token.ensures.takes, c.in-Some.ensures.0, c.leaf-key-2.ensures ∙ ap (λ z. node z (span_at c.advance.new.self.place) no_nodes) c.in-Some.ensures.1)
+    c.in_ok-expect-3.ensures.takes (ap (λ (z : Range ℕ). z.start) c.span-start.ensures) c.parse_entries-2.ensures.tree
 
 pub parse_braces-returns-then-next_is-clause-tree : goal.parse_braces-returns-then-next_is-clause-tree
 parse_braces-returns-then-next_is-clause-tree t c =
     let stays = c.next_is.ensures.stays in
     entries_tied _ _ c.advance.new.self.place _ _ _ c.leaf-key.result c.parse_entries.result
-    (LabelOrKeyword, class_as _ _ _ LabelOrKeyword c.in_ok-token.ensures (c.same-3.ensures.0 c.if-same-3.true), tt, c.leaf-key.ensures ∙ ap (λ z. node kind_of_node.Label (span_at z) no_nodes) stays)
-    (subst (λ z. TakesClass Colon z c.expect-then-next_is.new.self.place) stays c.in_ok-expect-2.ensures) (ap (λ (z : Range ℕ). z.start) c.span-start.ensures) c.parse_entries.ensures.tree
+    (LabelOrKeyword, class_as _ _ _ LabelOrKeyword c.in_ok-token.ensures.takes (c.same-3.ensures.0 c.if-same-3.true), tt, c.leaf-key.ensures ∙ ap (λ z. node kind_of_node.Label (span_at z) no_nodes) stays)
+    (subst (λ z. TakesClass Colon z c.expect-then-next_is.new.self.place) stays c.in_ok-expect-2.ensures.takes) (ap (λ (z : Range ℕ). z.start) c.span-start.ensures) c.parse_entries.ensures.tree
 
 pub parse_braces-returns-then-same-2-clause-tree : goal.parse_braces-returns-then-same-2-clause-tree
-parse_braces-returns-then-same-2-clause-tree t c = no_fields_tied _ _ _ _ _ c.new-then-same-2.result.items c.node-then-same-2.result (class_as _ _ _ Colon c.in_ok-token.ensures (c.same-2.ensures.0 c.if-same-2.true)) c.in_ok-expect.ensures (ap (λ (z : Range ℕ). z.start) c.span-start.ensures) c.new-then-same-2.ensures.items c.node-then-same-2.ensures
+parse_braces-returns-then-same-2-clause-tree t c = no_fields_tied _ _ _ _ _ c.new-then-same-2.result.items c.node-then-same-2.result (class_as _ _ _ Colon c.in_ok-token.ensures.takes (c.same-2.ensures.0 c.if-same-2.true)) c.in_ok-expect.ensures.takes (ap (λ (z : Range ℕ). z.start) c.span-start.ensures) c.new-then-same-2.ensures.items c.node-then-same-2.ensures
 
 pub parse_braces-returns-then-same-3-clause-tree : goal.parse_braces-returns-then-same-3-clause-tree
 parse_braces-returns-then-same-3-clause-tree t c =
     let stays = c.next_is.ensures.stays in
-    flags_tied _ _ c.next_is.new.self.place _ _ c.parse_flags.result (subst (λ z. TakesClass LabelOrKeyword c.args.self.now.place z) (sym stays) (class_as _ _ _ LabelOrKeyword c.in_ok-token.ensures (c.same-3.ensures.0 c.if-same-3.true)))
+    flags_tied _ _ c.next_is.new.self.place _ _ c.parse_flags.result (subst (λ z. TakesClass LabelOrKeyword c.args.self.now.place z) (sym stays) (class_as _ _ _ LabelOrKeyword c.in_ok-token.ensures.takes (c.same-3.ensures.0 c.if-same-3.true)))
     (ap (λ (z : Range ℕ). z.start) c.span-start.ensures) c.parse_flags.ensures.tree
 
 pub parse_braces-returns-then-same-clause-tree : goal.parse_braces-returns-then-same-clause-tree
-parse_braces-returns-then-same-clause-tree t c = empty_tied _ _ _ _ c.new.result.items c.node.result (class_as _ _ _ BraceClose c.in_ok-token.ensures (c.same.ensures.0 c.if-same.true)) (ap (λ (z : Range ℕ). z.start) c.span-start.ensures) c.new.ensures.items c.node.ensures
+parse_braces-returns-then-same-clause-tree t c = empty_tied _ _ _ _ c.new.result.items c.node.result (class_as _ _ _ BraceClose c.in_ok-token.ensures.takes (c.same.ensures.0 c.if-same.true)) (ap (λ (z : Range ℕ). z.start) c.span-start.ensures) c.new.ensures.items c.node.ensures
 
 pub parse_entries-returns-then-same-clause-tree : goal.parse_entries-returns-then-same-clause-tree
-parse_entries-returns-then-same-clause-tree t c = pairs_close _ _ _ _ _ _ c.entries.children.items _ c.args.key c.in_ok-value.value c.node.result c.entries.invariant.tree c.in_ok-value.ensures.tree (inl (class_as _ _ _ BraceClose c.in_ok-token.ensures (c.same.ensures.0 c.if-same.true))) (pushed _ _ _ _ c.push-in-entries.ensures.items c.if-is_err-2.ensures.negation) c.node.ensures
+parse_entries-returns-then-same-clause-tree t c = pairs_close _ _ _ _ _ _ c.entries.children.items _ c.args.key c.in_ok-value.value c.node.result c.entries.invariant.tree c.in_ok-value.ensures.tree (inl (class_as _ _ _ BraceClose c.in_ok-token.ensures.takes (c.same.ensures.0 c.if-same.true))) (pushed _ _ _ _ c.push-in-entries.ensures.items c.if-is_err-2.ensures.negation) c.node.ensures
 
 pub parse_entries-returns-then-same-2-clause-tree : goal.parse_entries-returns-then-same-2-clause-tree
-parse_entries-returns-then-same-2-clause-tree t c = pairs_close _ _ _ _ _ _ c.entries.children.items _ c.args.key c.in_ok-value.value c.node-then-same-2.result c.entries.invariant.tree c.in_ok-value.ensures.tree (inr (c.advance.new.self.place, class_as _ _ _ Comma c.in_ok-token.ensures (c.same-in-entries.ensures.0 c.if-not-same.false), class_as _ _ _ BraceClose c.in_ok-next.ensures (c.same-in-entries-2.ensures.0 c.if-same-2.true))) (pushed _ _ _ _ c.push-in-entries.ensures.items c.if-is_err-2.ensures.negation) c.node-then-same-2.ensures
+parse_entries-returns-then-same-2-clause-tree t c = pairs_close _ _ _ _ _ _ c.entries.children.items _ c.args.key c.in_ok-value.value c.node-then-same-2.result c.entries.invariant.tree c.in_ok-value.ensures.tree (inr (c.advance.new.self.place, class_as _ _ _ Comma c.in_ok-token.ensures.takes (c.same-in-entries.ensures.0 c.if-not-same.false), class_as _ _ _ BraceClose c.in_ok-next.ensures.takes (c.same-in-entries-2.ensures.0 c.if-same-2.true))) (pushed _ _ _ _ c.push-in-entries.ensures.items c.if-is_err-2.ensures.negation) c.node-then-same-2.ensures
 
 pub parse_maybe-returns-then-not-next_is-clause-tree : goal.parse_maybe-returns-then-not-next_is-clause-tree
 parse_maybe-returns-then-not-next_is-clause-tree t c = inl (c.next_is.ensures.stays, c.leaf.ensures ∙ ap (λ z. node c.args.alone (span_at z) no_nodes) c.next_is.ensures.stays)
 
 pub parse_maybe-returns-clause-tree : goal.parse_maybe-returns-clause-tree
-parse_maybe-returns-clause-tree t c = payload_tied _ _ _ _ _ c.next_is.new.self.place _ _ _ c.parse_payload.result c.next_is.ensures.stays c.in_ok-expect.ensures (ap (λ (z : Range ℕ). z.start) c.span-start.ensures) c.in_ok-front.ensures.made c.parse_payload.ensures.tree
+parse_maybe-returns-clause-tree t c = payload_tied _ _ _ _ _ c.next_is.new.self.place _ _ _ c.parse_payload.result c.next_is.ensures.stays c.in_ok-expect.ensures.takes (ap (λ (z : Range ℕ). z.start) c.span-start.ensures) c.in_ok-front.ensures.made c.parse_payload.ensures.tree
 
 pub parse_payload-returns-in-Ok-clause-tree : goal.parse_payload-returns-in-Ok-clause-tree
-parse_payload-returns-in-Ok-clause-tree t c = record { payload = c.in_ok-payload.payload; behind = c.parse_node.new.self.place; inner = c.in_ok-payload.ensures.tree; close = c.in_ok-expect.ensures; is = c.node.ensures ∙ ap (λ z. node c.args.ty (span c.args.start c.expect.new.self.place.lexer.end) (node_trees z)) c.in-Ok.ensures.items }
+parse_payload-returns-in-Ok-clause-tree t c = record { payload = c.in_ok-payload.payload; behind = c.parse_node.new.self.place; inner = c.in_ok-payload.ensures.tree; close = c.in_ok-expect.ensures.takes; is = c.node.ensures ∙ ap (λ z. node c.args.ty (span c.args.start c.expect.new.self.place.lexer.end) (node_trees z)) c.in-Ok.ensures.items }
+
+pub parse_node-returns-in-LabelOrKeyword-clause-asks : goal.parse_node-returns-in-LabelOrKeyword-clause-asks
+parse_node-returns-in-LabelOrKeyword-clause-asks t c =
+    asks_token c.args.self.now c.advance.new.self c.parse_label.new.self c.in_ok-token.token c.in_ok-token.ensures.takes c.advance.ensures.asks c.parse_label.ensures.asks
+
+pub parse_node-returns-in-ParenOpen-clause-asks : goal.parse_node-returns-in-ParenOpen-clause-asks
+parse_node-returns-in-ParenOpen-clause-asks t c =
+    asks_token c.args.self.now c.advance.new.self c.parse_items.new.self c.in_ok-token.token c.in_ok-token.ensures.takes c.advance.ensures.asks c.parse_items.ensures.asks
+
+pub parse_node-returns-in-BracketOpen-clause-asks : goal.parse_node-returns-in-BracketOpen-clause-asks
+parse_node-returns-in-BracketOpen-clause-asks t c =
+    asks_token c.args.self.now c.advance.new.self c.parse_items-in-BracketOpen.new.self c.in_ok-token.token c.in_ok-token.ensures.takes c.advance.ensures.asks c.parse_items-in-BracketOpen.ensures.asks
+
+pub parse_node-returns-in-BraceOpen-clause-asks : goal.parse_node-returns-in-BraceOpen-clause-asks
+parse_node-returns-in-BraceOpen-clause-asks t c =
+    asks_token c.args.self.now c.advance.new.self c.parse_braces.new.self c.in_ok-token.token c.in_ok-token.ensures.takes c.advance.ensures.asks c.parse_braces.ensures.asks
+
+pub parse_label-returns-in_ok-expect-in-Some-clause-asks : goal.parse_label-returns-in_ok-expect-in-Some-clause-asks
+parse_label-returns-in_ok-expect-in-Some-clause-asks t c =
+    asks_token c.args.self.now c.expect.new.self c.parse_payload.new.self ParenOpen c.in_ok-expect-in-Some.ensures.takes c.expect.ensures.asks c.parse_payload.ensures.asks
+
+pub parse_maybe-returns-clause-asks : goal.parse_maybe-returns-clause-asks
+parse_maybe-returns-clause-asks t c =
+    asks_looked c.args.self.now c.next_is.new.self c.parse_payload.new.self c.next_is.ensures.stays c.next_is.ensures.asks (asks_token c.next_is.new.self c.expect.new.self c.parse_payload.new.self ParenOpen c.in_ok-expect.ensures.takes c.expect.ensures.asks c.parse_payload.ensures.asks)
+
+pub parse_payload-returns-in_err-expect-clause-asks : goal.parse_payload-returns-in_err-expect-clause-asks
+parse_payload-returns-in_err-expect-clause-asks t c =
+    asks_read c.args.levels due.value [] [] c.args.self.now c.parse_node.new.self c.expect.new.self (c.in_ok-payload.ensures.led c.args.levels [] (omega arith)) c.parse_node.ensures.asks (asks_once c.parse_node.new.self c.expect.new.self c.expect.ensures.asks)
+
+pub parse_payload-returns-in-Ok-clause-asks : goal.parse_payload-returns-in-Ok-clause-asks
+parse_payload-returns-in-Ok-clause-asks t c =
+    asks_read c.args.levels due.value [] [] c.args.self.now c.parse_node.new.self c.expect.new.self (c.in_ok-payload.ensures.led c.args.levels [] (omega arith)) c.parse_node.ensures.asks (asks_once c.parse_node.new.self c.expect.new.self c.expect.ensures.asks)
+
+pub parse_payload-returns-in-Err-clause-asks : goal.parse_payload-returns-in-Err-clause-asks
+parse_payload-returns-in-Err-clause-asks t c =
+    asks_read c.args.levels due.value [] [] c.args.self.now c.parse_node.new.self c.expect.new.self (c.in_ok-payload.ensures.led c.args.levels [] (omega arith)) c.parse_node.ensures.asks (asks_once c.parse_node.new.self c.expect.new.self c.expect.ensures.asks)
+
+pub parse_items-returns-in_err-item-clause-asks : goal.parse_items-returns-in_err-item-clause-asks
+parse_items-returns-in_err-item-clause-asks t c =
+    let (d, i, r) = c.items.invariant.reached (c.args.levels + 1) [] (omega arith) in
+    asks_reached (c.args.levels + 1) due.first_item d (form_of c.args.close ∷ []) (form_of c.args.close ∷ []) c.args.self.now c.items.self c.parse_node.new.self r c.items.invariant.asks (c.parse_node.ensures.asks)
+
+pub parse_items-returns-then-is_err-clause-asks : goal.parse_items-returns-then-is_err-clause-asks
+parse_items-returns-then-is_err-clause-asks t c =
+    let (d, i, r) = c.items.invariant.reached (c.args.levels + 1) [] (omega arith) in
+    asks_reached (c.args.levels + 1) due.first_item d (form_of c.args.close ∷ []) (form_of c.args.close ∷ []) c.args.self.now c.items.self c.parse_node.new.self r c.items.invariant.asks (c.parse_node.ensures.asks)
+
+pub parse_items-returns-in_err-token-clause-asks : goal.parse_items-returns-in_err-token-clause-asks
+parse_items-returns-in_err-token-clause-asks t c =
+    let (d, i, r) = c.items.invariant.reached (c.args.levels + 1) [] (omega arith) in
+    asks_reached (c.args.levels + 1) due.first_item d (form_of c.args.close ∷ []) (form_of c.args.close ∷ []) c.args.self.now c.items.self c.advance.new.self r c.items.invariant.asks (asks_read c.args.levels due.value [] [] c.items.self c.parse_node.new.self c.advance.new.self (c.in_ok-item.ensures.led c.args.levels [] (omega arith)) c.parse_node.ensures.asks (asks_once c.parse_node.new.self c.advance.new.self c.advance.ensures.asks))
+
+pub parse_items-returns-then-same-3-clause-asks : goal.parse_items-returns-then-same-3-clause-asks
+parse_items-returns-then-same-3-clause-asks t c =
+    let (d, i, r) = c.items.invariant.reached (c.args.levels + 1) [] (omega arith) in
+    asks_reached (c.args.levels + 1) due.first_item d (form_of c.args.close ∷ []) (form_of c.args.close ∷ []) c.args.self.now c.items.self c.advance.new.self r c.items.invariant.asks (asks_read c.args.levels due.value [] [] c.items.self c.parse_node.new.self c.advance.new.self (c.in_ok-item.ensures.led c.args.levels [] (omega arith)) c.parse_node.ensures.asks (asks_once c.parse_node.new.self c.advance.new.self c.advance.ensures.asks))
+
+pub parse_items-returns-then-not-same-clause-asks : goal.parse_items-returns-then-not-same-clause-asks
+parse_items-returns-then-not-same-clause-asks t c =
+    let (d, i, r) = c.items.invariant.reached (c.args.levels + 1) [] (omega arith) in
+    asks_reached (c.args.levels + 1) due.first_item d (form_of c.args.close ∷ []) (form_of c.args.close ∷ []) c.args.self.now c.items.self c.advance.new.self r c.items.invariant.asks (asks_read c.args.levels due.value [] [] c.items.self c.parse_node.new.self c.advance.new.self (c.in_ok-item.ensures.led c.args.levels [] (omega arith)) c.parse_node.ensures.asks (asks_once c.parse_node.new.self c.advance.new.self c.advance.ensures.asks))
+
+pub parse_items-returns-in_err-expect-2-clause-asks : goal.parse_items-returns-in_err-expect-2-clause-asks
+parse_items-returns-in_err-expect-2-clause-asks t c =
+    let (d, i, r) = c.items.invariant.reached (c.args.levels + 1) [] (omega arith) in
+    asks_reached (c.args.levels + 1) due.first_item d (form_of c.args.close ∷ []) (form_of c.args.close ∷ []) c.args.self.now c.items.self c.expect-then-next_is-2.new.self r c.items.invariant.asks (asks_read c.args.levels due.value [] [] c.items.self c.parse_node.new.self c.expect-then-next_is-2.new.self (c.in_ok-item.ensures.led c.args.levels [] (omega arith)) c.parse_node.ensures.asks (asks_token c.parse_node.new.self c.advance.new.self c.expect-then-next_is-2.new.self c.in_ok-token.token c.in_ok-token.ensures.takes c.advance.ensures.asks (asks_looked c.advance.new.self c.next_is-in-items.new.self c.expect-then-next_is-2.new.self c.next_is-in-items.ensures.stays c.next_is-in-items.ensures.asks (asks_once c.next_is-in-items.new.self c.expect-then-next_is-2.new.self c.expect-then-next_is-2.ensures.asks))))
+
+pub parse_items-returns-then-next_is-2-clause-asks : goal.parse_items-returns-then-next_is-2-clause-asks
+parse_items-returns-then-next_is-2-clause-asks t c =
+    let (d, i, r) = c.items.invariant.reached (c.args.levels + 1) [] (omega arith) in
+    asks_reached (c.args.levels + 1) due.first_item d (form_of c.args.close ∷ []) (form_of c.args.close ∷ []) c.args.self.now c.items.self c.expect-then-next_is-2.new.self r c.items.invariant.asks (asks_read c.args.levels due.value [] [] c.items.self c.parse_node.new.self c.expect-then-next_is-2.new.self (c.in_ok-item.ensures.led c.args.levels [] (omega arith)) c.parse_node.ensures.asks (asks_token c.parse_node.new.self c.advance.new.self c.expect-then-next_is-2.new.self c.in_ok-token.token c.in_ok-token.ensures.takes c.advance.ensures.asks (asks_looked c.advance.new.self c.next_is-in-items.new.self c.expect-then-next_is-2.new.self c.next_is-in-items.ensures.stays c.next_is-in-items.ensures.asks (asks_once c.next_is-in-items.new.self c.expect-then-next_is-2.new.self c.expect-then-next_is-2.ensures.asks))))
+
+pub parse_braces-returns-in_err-expect-clause-asks : goal.parse_braces-returns-in_err-expect-clause-asks
+parse_braces-returns-in_err-expect-clause-asks t c =
+    asks_token c.args.self.now c.advance.new.self c.expect.new.self c.in_ok-token.token c.in_ok-token.ensures.takes c.advance.ensures.asks (asks_once c.advance.new.self c.expect.new.self c.expect.ensures.asks)
+
+pub parse_braces-returns-then-same-2-clause-asks : goal.parse_braces-returns-then-same-2-clause-asks
+parse_braces-returns-then-same-2-clause-asks t c =
+    asks_token c.args.self.now c.advance.new.self c.expect.new.self c.in_ok-token.token c.in_ok-token.ensures.takes c.advance.ensures.asks (asks_once c.advance.new.self c.expect.new.self c.expect.ensures.asks)
+
+pub parse_braces-returns-in_err-expect-2-clause-asks : goal.parse_braces-returns-in_err-expect-2-clause-asks
+parse_braces-returns-in_err-expect-2-clause-asks t c =
+    asks_token c.args.self.now c.advance.new.self c.expect-then-next_is.new.self c.in_ok-token.token c.in_ok-token.ensures.takes c.advance.ensures.asks (asks_looked c.advance.new.self c.next_is.new.self c.expect-then-next_is.new.self c.next_is.ensures.stays c.next_is.ensures.asks (asks_once c.next_is.new.self c.expect-then-next_is.new.self c.expect-then-next_is.ensures.asks))
+
+pub parse_braces-returns-then-next_is-clause-asks : goal.parse_braces-returns-then-next_is-clause-asks
+parse_braces-returns-then-next_is-clause-asks t c =
+    asks_token c.args.self.now c.advance.new.self c.parse_entries.new.self c.in_ok-token.token c.in_ok-token.ensures.takes c.advance.ensures.asks (asks_looked c.advance.new.self c.next_is.new.self c.parse_entries.new.self c.next_is.ensures.stays c.next_is.ensures.asks (asks_token c.next_is.new.self c.expect-then-next_is.new.self c.parse_entries.new.self Colon c.in_ok-expect-2.ensures.takes c.expect-then-next_is.ensures.asks (c.parse_entries.ensures.asks)))
+
+pub parse_braces-returns-then-same-3-clause-asks : goal.parse_braces-returns-then-same-3-clause-asks
+parse_braces-returns-then-same-3-clause-asks t c =
+    asks_token c.args.self.now c.advance.new.self c.parse_flags.new.self c.in_ok-token.token c.in_ok-token.ensures.takes c.advance.ensures.asks (asks_looked c.advance.new.self c.next_is.new.self c.parse_flags.new.self c.next_is.ensures.stays c.next_is.ensures.asks (c.parse_flags.ensures.asks))
+
+pub parse_braces-returns-in_err-expect-3-clause-asks : goal.parse_braces-returns-in_err-expect-3-clause-asks
+parse_braces-returns-in_err-expect-3-clause-asks t c =
+    asks_token c.args.self.now c.advance.new.self c.expect-2.new.self c.in_ok-token.token c.in_ok-token.ensures.takes c.advance.ensures.asks (asks_once c.advance.new.self c.expect-2.new.self c.expect-2.ensures.asks)
+
+pub parse_braces-returns-clause-asks : goal.parse_braces-returns-clause-asks
+parse_braces-returns-clause-asks t c =
+    asks_token c.args.self.now c.advance.new.self c.parse_entries-2.new.self c.in_ok-token.token c.in_ok-token.ensures.takes c.advance.ensures.asks (asks_token c.advance.new.self c.expect-2.new.self c.parse_entries-2.new.self Colon c.in_ok-expect-3.ensures.takes c.expect-2.ensures.asks (c.parse_entries-2.ensures.asks))
+
+pub parse_entries-returns-in_err-value-clause-asks : goal.parse_entries-returns-in_err-value-clause-asks
+parse_entries-returns-in_err-value-clause-asks t c =
+    asks_reached (c.args.levels + 1) due.value due.value (due.entries ∷ []) (due.entries ∷ []) c.args.self.now c.entries.self c.parse_node.new.self (c.entries.invariant.led (c.args.levels + 1) [] (omega arith)) c.entries.invariant.asks (c.parse_node.ensures.asks)
+
+pub parse_entries-returns-then-is_err-2-clause-asks : goal.parse_entries-returns-then-is_err-2-clause-asks
+parse_entries-returns-then-is_err-2-clause-asks t c =
+    asks_reached (c.args.levels + 1) due.value due.value (due.entries ∷ []) (due.entries ∷ []) c.args.self.now c.entries.self c.parse_node.new.self (c.entries.invariant.led (c.args.levels + 1) [] (omega arith)) c.entries.invariant.asks (c.parse_node.ensures.asks)
+
+pub parse_entries-returns-in_err-token-clause-asks : goal.parse_entries-returns-in_err-token-clause-asks
+parse_entries-returns-in_err-token-clause-asks t c =
+    asks_reached (c.args.levels + 1) due.value due.value (due.entries ∷ []) (due.entries ∷ []) c.args.self.now c.entries.self c.advance.new.self (c.entries.invariant.led (c.args.levels + 1) [] (omega arith)) c.entries.invariant.asks (asks_read c.args.levels due.value [] [] c.entries.self c.parse_node.new.self c.advance.new.self (c.in_ok-value.ensures.led c.args.levels [] (omega arith)) c.parse_node.ensures.asks (asks_once c.parse_node.new.self c.advance.new.self c.advance.ensures.asks))
+
+pub parse_entries-returns-then-same-clause-asks : goal.parse_entries-returns-then-same-clause-asks
+parse_entries-returns-then-same-clause-asks t c =
+    asks_reached (c.args.levels + 1) due.value due.value (due.entries ∷ []) (due.entries ∷ []) c.args.self.now c.entries.self c.advance.new.self (c.entries.invariant.led (c.args.levels + 1) [] (omega arith)) c.entries.invariant.asks (asks_read c.args.levels due.value [] [] c.entries.self c.parse_node.new.self c.advance.new.self (c.in_ok-value.ensures.led c.args.levels [] (omega arith)) c.parse_node.ensures.asks (asks_once c.parse_node.new.self c.advance.new.self c.advance.ensures.asks))
+
+pub parse_entries-returns-then-not-same-clause-asks : goal.parse_entries-returns-then-not-same-clause-asks
+parse_entries-returns-then-not-same-clause-asks t c =
+    asks_reached (c.args.levels + 1) due.value due.value (due.entries ∷ []) (due.entries ∷ []) c.args.self.now c.entries.self c.advance.new.self (c.entries.invariant.led (c.args.levels + 1) [] (omega arith)) c.entries.invariant.asks (asks_read c.args.levels due.value [] [] c.entries.self c.parse_node.new.self c.advance.new.self (c.in_ok-value.ensures.led c.args.levels [] (omega arith)) c.parse_node.ensures.asks (asks_once c.parse_node.new.self c.advance.new.self c.advance.ensures.asks))
+
+pub parse_entries-returns-in_err-next-clause-asks : goal.parse_entries-returns-in_err-next-clause-asks
+parse_entries-returns-in_err-next-clause-asks t c =
+    asks_reached (c.args.levels + 1) due.value due.value (due.entries ∷ []) (due.entries ∷ []) c.args.self.now c.entries.self c.advance-in-entries.new.self (c.entries.invariant.led (c.args.levels + 1) [] (omega arith)) c.entries.invariant.asks (asks_read c.args.levels due.value [] [] c.entries.self c.parse_node.new.self c.advance-in-entries.new.self (c.in_ok-value.ensures.led c.args.levels [] (omega arith)) c.parse_node.ensures.asks (asks_token c.parse_node.new.self c.advance.new.self c.advance-in-entries.new.self c.in_ok-token.token c.in_ok-token.ensures.takes c.advance.ensures.asks (asks_once c.advance.new.self c.advance-in-entries.new.self c.advance-in-entries.ensures.asks)))
+
+pub parse_entries-returns-then-same-2-clause-asks : goal.parse_entries-returns-then-same-2-clause-asks
+parse_entries-returns-then-same-2-clause-asks t c =
+    asks_reached (c.args.levels + 1) due.value due.value (due.entries ∷ []) (due.entries ∷ []) c.args.self.now c.entries.self c.advance-in-entries.new.self (c.entries.invariant.led (c.args.levels + 1) [] (omega arith)) c.entries.invariant.asks (asks_read c.args.levels due.value [] [] c.entries.self c.parse_node.new.self c.advance-in-entries.new.self (c.in_ok-value.ensures.led c.args.levels [] (omega arith)) c.parse_node.ensures.asks (asks_token c.parse_node.new.self c.advance.new.self c.advance-in-entries.new.self c.in_ok-token.token c.in_ok-token.ensures.takes c.advance.ensures.asks (asks_once c.advance.new.self c.advance-in-entries.new.self c.advance-in-entries.ensures.asks)))
+
+pub parse_entries-returns-in_default-clause-asks : goal.parse_entries-returns-in_default-clause-asks
+parse_entries-returns-in_default-clause-asks t c =
+    asks_reached (c.args.levels + 1) due.value due.value (due.entries ∷ []) (due.entries ∷ []) c.args.self.now c.entries.self c.advance-in-entries.new.self (c.entries.invariant.led (c.args.levels + 1) [] (omega arith)) c.entries.invariant.asks (asks_read c.args.levels due.value [] [] c.entries.self c.parse_node.new.self c.advance-in-entries.new.self (c.in_ok-value.ensures.led c.args.levels [] (omega arith)) c.parse_node.ensures.asks (asks_token c.parse_node.new.self c.advance.new.self c.advance-in-entries.new.self c.in_ok-token.token c.in_ok-token.ensures.takes c.advance.ensures.asks (asks_once c.advance.new.self c.advance-in-entries.new.self c.advance-in-entries.ensures.asks)))
+
+pub parse_entries-returns-in_err-expect-clause-asks : goal.parse_entries-returns-in_err-expect-clause-asks
+parse_entries-returns-in_err-expect-clause-asks t c =
+    asks_reached (c.args.levels + 1) due.value due.value (due.entries ∷ []) (due.entries ∷ []) c.args.self.now c.entries.self c.expect.new.self (c.entries.invariant.led (c.args.levels + 1) [] (omega arith)) c.entries.invariant.asks (asks_read c.args.levels due.value [] [] c.entries.self c.parse_node.new.self c.expect.new.self (c.in_ok-value.ensures.led c.args.levels [] (omega arith)) c.parse_node.ensures.asks (asks_token c.parse_node.new.self c.advance.new.self c.expect.new.self c.in_ok-token.token c.in_ok-token.ensures.takes c.advance.ensures.asks (asks_token c.advance.new.self c.advance-in-entries.new.self c.expect.new.self c.in_ok-next.next c.in_ok-next.ensures.takes c.advance-in-entries.ensures.asks (asks_once c.advance-in-entries.new.self c.expect.new.self c.expect.ensures.asks))))
+
+pub parse_entries-returns-then-is_err-3-clause-asks : goal.parse_entries-returns-then-is_err-3-clause-asks
+parse_entries-returns-then-is_err-3-clause-asks t c =
+    asks_reached (c.args.levels + 1) due.value due.value (due.entries ∷ []) (due.entries ∷ []) c.args.self.now c.entries.self c.expect.new.self (c.entries.invariant.led (c.args.levels + 1) [] (omega arith)) c.entries.invariant.asks (asks_read c.args.levels due.value [] [] c.entries.self c.parse_node.new.self c.expect.new.self (c.in_ok-value.ensures.led c.args.levels [] (omega arith)) c.parse_node.ensures.asks (asks_token c.parse_node.new.self c.advance.new.self c.expect.new.self c.in_ok-token.token c.in_ok-token.ensures.takes c.advance.ensures.asks (asks_token c.advance.new.self c.advance-in-entries.new.self c.expect.new.self c.in_ok-next.next c.in_ok-next.ensures.takes c.advance-in-entries.ensures.asks (asks_once c.advance-in-entries.new.self c.expect.new.self c.expect.ensures.asks))))

@@ -6,6 +6,7 @@ use Rattle.wave_tree.specs.Word.{form_of}
 use Rattle.wave_tree.specs.NodeTree.{NodeTree}
 use Rattle.wave_tree.specs.Parsed.{IsParsed, AreFurther, AreItems, ArePairs}
 use Rattle.wave_tree.proofs.Going.{Reached, IsItemDue, left_at}
+use Rattle.wave_tree.specs.Parsing.{Asks}
 use Rattle.wave_tree.proofs.parser.Parser.+parser.Given as goal
 
 abbrev pub decreases-parse_node : goal.decreases-parse_node
@@ -25,6 +26,7 @@ decreases-parse_label l = 4 * l.levels + 3
 
 abbrev pub invariant-parse_items-items : goal.invariant-parse_items-items
 invariant-parse_items-items l = record {
+  asks : Asks l.fn.self l.self;
   no_close : (next : Place) × Takes l.self.place (Some (Ok l.close)) next → ⊥;
   reached : (n : ℕ) (s : List Form) → n ≡ l.levels + 1 + length s →
       (d : Due) × IsItemDue d × Reached n first_item (form_of l.close ∷ s) l.fn.self.place d (form_of l.close ∷ s) l.self.place;
@@ -42,6 +44,7 @@ decreases-parse_braces l = 4 * l.levels + 2
 
 abbrev pub invariant-parse_entries-entries : goal.invariant-parse_entries-entries
 invariant-parse_entries-entries l = record {
+  asks : Asks l.fn.self l.self;
   led : (n : ℕ) (s : List Form) → n ≡ l.levels + 1 + length s → Reached n due.value (due.entries ∷ s) l.fn.self.place due.value (due.entries ∷ s) l.self.place;
   tree : (ys : List NodeTree) × (l.children.items ≡ l.fn.key ∷ ys) × ((cs : List NodeTree) (r : Place) → ArePairs l.levels l.self.place cs r → ArePairs l.levels l.fn.self.place (ys ++ cs) r);
 }

@@ -25,6 +25,7 @@ use Rattle.wave_tree.specs.Parsed.{flag_name}
 use Rattle.wave_tree.proofs.Tied.{class_as}
 use Rattle.wave_tree.proofs.Ordered.{entry_of}
 use Rattle.wave_tree.proofs.FlagLoop.{FlagsSoFar, flag_at, grown, ended}
+use Rattle.wave_tree.proofs.Askings.{asks_none, asks_once, asks_token, asks_reached}
 use Rattle.wave_tree.proofs.parser.Parser.parse_flags.Goals as goal
 
 -- behind a comma a further flag is due
@@ -37,95 +38,140 @@ flags-init c =
     let name_is = c.label_name.ensures ∙ ap name_of c.slice.ensures in
     let done = c.if-is_err.ensures.negation in
     let one = holds_more c.new-flags.result c.insert.new.self [] _ _ (holds_none c.new-flags.result c.new-flags.ensures.empty) (on_ok c.insert.result c.insert.ensures.updates done) in
-    let place = c.args.self.now.place in
-    record {
-      more = [];
-      holds = subst (λ z. Holds c.insert.new.self (z ∷ [])) name_is one;
-      distinct = (tt, tt);
-      ordered = ap (map entry_of) (on_ok c.insert.result c.insert.ensures.entries done ∙ ap (λ z. insert_entry (λ a b. slice_cmp nat_cmp a.now b.now) z c.label_name.result c.leaf.result) c.new-flags.ensures.empty)
-          ∙ (λ i. (name_is i, c.leaf.ensures i) ∷ []);
-      tree = λ rest r further. further;
-      led = λ n s. (due.behind_word (text_at place), inr (text_at place, refl, refl, c.requires), here n (due.behind_word (text_at place)) s place);
-    }
+    let place = c.args.self.now.place in (
+      record {
+        more = [];
+        holds = subst (λ z. Holds c.insert.new.self (z ∷ [])) name_is one;
+        distinct = (tt, tt);
+        ordered = ap (map entry_of) (on_ok c.insert.result c.insert.ensures.entries done ∙ ap (λ z. insert_entry (λ a b. slice_cmp nat_cmp a.now b.now) z c.label_name.result c.leaf.result) c.new-flags.ensures.empty)
+            ∙ (λ i. (name_is i, c.leaf.ensures i) ∷ []);
+        tree = λ rest r further. further;
+        led = λ n s. (due.behind_word (text_at place), inr (text_at place, refl, refl, c.requires), here n (due.behind_word (text_at place)) s place);
+      },
+      asks_none c.args.self.now c.args.self.now refl,
+    )
 
 pub returns-in_err-token-clause-led : goal.returns-in_err-token-clause-led
 returns-in_err-token-clause-led c = λ n s.
-    let (d, i, r) = c.flags.invariant.led n s in
-    handed s _ _ c.from_residual.ensures.1 (fails (inl (flag_within d _ _ i)) (λ _. Unit {0}) c.in_err-token.field-0.0 r (flag_not_deep n d _ s _ i) (any_token n d s _ _) c.in_err-token.ensures)
+    let (d, i, r) = c.flags.invariant.0.led n s in
+    handed s _ _ c.from_residual.ensures.1 (fails (inl (flag_within d _ _ i)) (λ _. Unit {0}) c.in_err-token.field-0.0 r (flag_not_deep n d _ s _ i) (any_token n d s _ _) c.in_err-token.ensures.takes)
 
 pub returns-then-same-clause-led : goal.returns-then-same-clause-led
 returns-then-same-clause-led c = λ n s.
-    let (d, i, r) = c.flags.invariant.led n s in
-    gives_read s c.flags_node.result c.flags_node.ensures.memory (read_there (then_same {f = due.behind_value} {v = s} c.in_ok-token.token r c.in_ok-token.ensures
-    (flag_same n d _ s _ _ c.in_ok-token.token i c.in_ok-token.ensures ∙ ap (λ z. behind_flag_step (map flag_name (flag_at c.args.self.now.place ∷ c.flags.invariant.more)) s (token_of z (text_at c.advance.new.self.place))) (c.same.ensures.0 c.if-same.true))) (inl refl))
+    let (d, i, r) = c.flags.invariant.0.led n s in
+    gives_read s c.flags_node.result c.flags_node.ensures.memory (read_there (then_same {f = due.behind_value} {v = s} c.in_ok-token.token r c.in_ok-token.ensures.takes
+    (flag_same n d _ s _ _ c.in_ok-token.token i c.in_ok-token.ensures.takes ∙ ap (λ z. behind_flag_step (map flag_name (flag_at c.args.self.now.place ∷ c.flags.invariant.0.more)) s (token_of z (text_at c.advance.new.self.place))) (c.same.ensures.0 c.if-same.true))) (inl refl))
 
 pub returns-then-not-same-clause-led : goal.returns-then-not-same-clause-led
 returns-then-not-same-clause-led c = λ n s.
-    let (d, i, r) = c.flags.invariant.led n s in
-    unexpected_there (inl (flag_within d _ _ i)) c.unexpected.result c.in_ok-token.token r c.in_ok-token.ensures
-    (flag_same n d _ s _ _ c.in_ok-token.token i c.in_ok-token.ensures ∙
+    let (d, i, r) = c.flags.invariant.0.led n s in
+    unexpected_there (inl (flag_within d _ _ i)) c.unexpected.result c.in_ok-token.token r c.in_ok-token.ensures.takes
+    (flag_same n d _ s _ _ c.in_ok-token.token i c.in_ok-token.ensures.takes ∙
     flags_other _ c.in_ok-token.token s (text_at c.advance.new.self.place) (λ k. untrue _ c.if-same.false (c.same.ensures.1 k)) (λ k. untrue _ c.if-not-same.true (c.same-in-flags.ensures.1 k)))
     c.unexpected.ensures
 
 pub returns-in_err-next-clause-led : goal.returns-in_err-next-clause-led
 returns-in_err-next-clause-led c = λ n s.
-    let (d, i, r) = c.flags.invariant.led n s in
-    let comma = due_flag (map flag_name (flag_at c.args.self.now.place ∷ c.flags.invariant.more)) d c.in_ok-token.token i r c.in_ok-token.ensures (c.same-in-flags.ensures.0 c.if-not-same.false) in
-    handed s _ _ c.from_residual-in_err-next.ensures.1 (fails (inl tt) (λ _. Unit {0}) c.in_err-next.field-0.0 comma (λ deep. deep.due) (any_token n (due.flag (map flag_name (flag_at c.args.self.now.place ∷ c.flags.invariant.more))) s _ _) c.in_err-next.ensures)
+    let (d, i, r) = c.flags.invariant.0.led n s in
+    let comma = due_flag (map flag_name (flag_at c.args.self.now.place ∷ c.flags.invariant.0.more)) d c.in_ok-token.token i r c.in_ok-token.ensures.takes (c.same-in-flags.ensures.0 c.if-not-same.false) in
+    handed s _ _ c.from_residual-in_err-next.ensures.1 (fails (inl tt) (λ _. Unit {0}) c.in_err-next.field-0.0 comma (λ deep. deep.due) (any_token n (due.flag (map flag_name (flag_at c.args.self.now.place ∷ c.flags.invariant.0.more))) s _ _) c.in_err-next.ensures.takes)
 
 pub returns-then-same-2-clause-led : goal.returns-then-same-2-clause-led
 returns-then-same-2-clause-led c = λ n s.
-    let (d, i, r) = c.flags.invariant.led n s in
-    let comma = due_flag (map flag_name (flag_at c.args.self.now.place ∷ c.flags.invariant.more)) d c.in_ok-token.token i r c.in_ok-token.ensures (c.same-in-flags.ensures.0 c.if-not-same.false) in
-    gives_read s c.flags_node-then-same-2.result c.flags_node-then-same-2.ensures.memory (read_there (then_class BraceClose comma c.in_ok-next.ensures (c.same-in-flags-2.ensures.0 c.if-same-2.true) refl) (inl refl))
+    let (d, i, r) = c.flags.invariant.0.led n s in
+    let comma = due_flag (map flag_name (flag_at c.args.self.now.place ∷ c.flags.invariant.0.more)) d c.in_ok-token.token i r c.in_ok-token.ensures.takes (c.same-in-flags.ensures.0 c.if-not-same.false) in
+    gives_read s c.flags_node-then-same-2.result c.flags_node-then-same-2.ensures.memory (read_there (then_class BraceClose comma c.in_ok-next.ensures.takes (c.same-in-flags-2.ensures.0 c.if-same-2.true) refl) (inl refl))
 
 pub returns-then-not-same-2-clause-led : goal.returns-then-not-same-2-clause-led
 returns-then-not-same-2-clause-led c = λ n s.
-    let (d, i, r) = c.flags.invariant.led n s in
-    let comma = due_flag (map flag_name (flag_at c.args.self.now.place ∷ c.flags.invariant.more)) d c.in_ok-token.token i r c.in_ok-token.ensures (c.same-in-flags.ensures.0 c.if-not-same.false) in
-    unexpected_there (inl tt) c.unexpected-then-not-same-2.result c.in_ok-next.next comma c.in_ok-next.ensures
-    (no_flag (map flag_name (flag_at c.args.self.now.place ∷ c.flags.invariant.more)) c.in_ok-next.next s (text_at c.advance-in-flags.new.self.place) (λ k. untrue _ c.if-same-2.false (c.same-in-flags-2.ensures.1 k)) (λ k. untrue _ c.if-not-same-2.true (c.same-in-flags-3.ensures.1 k)))
+    let (d, i, r) = c.flags.invariant.0.led n s in
+    let comma = due_flag (map flag_name (flag_at c.args.self.now.place ∷ c.flags.invariant.0.more)) d c.in_ok-token.token i r c.in_ok-token.ensures.takes (c.same-in-flags.ensures.0 c.if-not-same.false) in
+    unexpected_there (inl tt) c.unexpected-then-not-same-2.result c.in_ok-next.next comma c.in_ok-next.ensures.takes
+    (no_flag (map flag_name (flag_at c.args.self.now.place ∷ c.flags.invariant.0.more)) c.in_ok-next.next s (text_at c.advance-in-flags.new.self.place) (λ k. untrue _ c.if-same-2.false (c.same-in-flags-2.ensures.1 k)) (λ k. untrue _ c.if-not-same-2.true (c.same-in-flags-3.ensures.1 k)))
     c.unexpected-then-not-same-2.ensures
 
 pub returns-then-contains_key-clause-led : goal.returns-then-contains_key-clause-led
 returns-then-contains_key-clause-led c = λ n s.
-    let (d, i, r) = c.flags.invariant.led n s in
-    let names = (map flag_name (flag_at c.args.self.now.place ∷ c.flags.invariant.more)) in
-    let comma = due_flag names d c.in_ok-token.token i r c.in_ok-token.ensures (c.same-in-flags.ensures.0 c.if-not-same.false) in
+    let (d, i, r) = c.flags.invariant.0.led n s in
+    let names = (map flag_name (flag_at c.args.self.now.place ∷ c.flags.invariant.0.more)) in
+    let comma = due_flag names d c.in_ok-token.token i r c.in_ok-token.ensures.takes (c.same-in-flags.ensures.0 c.if-not-same.false) in
     let name_is = c.label_name-name.ensures ∙ ap name_of c.slice-in-flags.ensures in
-    let found = subst (λ z. is_one_of names z ≡ true) name_is (sym (c.flags.invariant.holds c.label_name-name.result.now) ∙ (sym c.contains_key.ensures ∙ c.if-contains_key.true)) in
-    repeated_there (inl tt) c.repeated.result LabelOrKeyword comma (subst (λ z. Takes c.advance.new.self.place (Some (Ok z)) c.advance-in-flags.new.self.place) (c.same-in-flags-3.ensures.0 c.if-not-same-2.false) c.in_ok-next.ensures)
+    let found = subst (λ z. is_one_of names z ≡ true) name_is (sym (c.flags.invariant.0.holds c.label_name-name.result.now) ∙ (sym c.contains_key.ensures ∙ c.if-contains_key.true)) in
+    repeated_there (inl tt) c.repeated.result LabelOrKeyword comma (subst (λ z. Takes c.advance.new.self.place (Some (Ok z)) c.advance-in-flags.new.self.place) (c.same-in-flags-3.ensures.0 c.if-not-same-2.false) c.in_ok-next.ensures.takes)
     (ap (λ b. if b then due.repeated_flag else reads (due.behind_flag (names ++ name_of (text_at c.advance-in-flags.new.self.place) ∷ [])) s) found)
     (subst (λ z. c.repeated.result.kind ≢ kind.OutOfMemory → Says c.repeated.result kind.DuplicateFlag (span_at c.advance-in-flags.new.self.place) (Some (repeated_name z))) name_is c.repeated.ensures)
 
 pub flags-smaller : goal.flags-smaller
 flags-smaller c =
-    let two = token_less _ _ c.in_ok-token.token c.in_ok-token.ensures in
-    let three = token_less _ _ c.in_ok-next.next c.in_ok-next.ensures in
+    let two = token_less _ _ c.in_ok-token.token c.in_ok-token.ensures.takes in
+    let three = token_less _ _ c.in_ok-next.next c.in_ok-next.ensures.takes in
     omega arith
 
 pub flags-preserved : goal.flags-preserved
 flags-preserved c =
-    let names = map flag_name (flag_at c.args.self.now.place ∷ c.flags.invariant.more) in
+    let names = map flag_name (flag_at c.args.self.now.place ∷ c.flags.invariant.0.more) in
     let name_is = c.label_name-name.ensures ∙ ap name_of c.slice-in-flags.ensures in
     let done = c.if-is_err-2.ensures.negation in
-    let more = holds_more c.flags.flags c.insert-in-flags.new.self names _ _ c.flags.invariant.holds (on_ok c.insert-in-flags.result c.insert-in-flags.ensures.updates done) in
-    let new_name = subst (λ z. is_one_of names z ≡ false) name_is (sym (c.flags.invariant.holds c.label_name-name.result.now) ∙ (sym c.contains_key.ensures ∙ c.if-contains_key.false)) in
-    let comma_there = class_as _ _ _ Comma c.in_ok-token.ensures (c.same-in-flags.ensures.0 c.if-not-same.false) in
-    let label_there = class_as _ _ _ LabelOrKeyword c.in_ok-next.ensures (c.same-in-flags-3.ensures.0 c.if-not-same-2.false) in
-    grown c.flags.flags c.insert-in-flags.new.self c.args.self.now.place c.flags.self.place c.advance.new.self.place c.advance-in-flags.new.self.place c.label_name-name.result _ c.flags.invariant comma_there label_there
-    (on_ok c.insert-in-flags.result c.insert-in-flags.ensures.entries done) name_is c.leaf-in-flags.ensures new_name
-    (subst (λ z. Holds c.insert-in-flags.new.self (names ++ z ∷ [])) name_is more)
-    (λ n s.
-    let (d, i, r) = c.flags.invariant.led n s in
-    let comma = due_flag names d c.in_ok-token.token i r c.in_ok-token.ensures (c.same-in-flags.ensures.0 c.if-not-same.false) in (
-      due.behind_flag (names ++ name_of (text_at c.advance-in-flags.new.self.place) ∷ []),
-      inl refl,
-      then_same LabelOrKeyword comma label_there (ap (λ b. if b then due.repeated_flag else reads (due.behind_flag (names ++ name_of (text_at c.advance-in-flags.new.self.place) ∷ [])) s) new_name),
-    ))
+    let more = holds_more c.flags.flags c.insert-in-flags.new.self names _ _ c.flags.invariant.0.holds (on_ok c.insert-in-flags.result c.insert-in-flags.ensures.updates done) in
+    let new_name = subst (λ z. is_one_of names z ≡ false) name_is (sym (c.flags.invariant.0.holds c.label_name-name.result.now) ∙ (sym c.contains_key.ensures ∙ c.if-contains_key.false)) in
+    let comma_there = class_as _ _ _ Comma c.in_ok-token.ensures.takes (c.same-in-flags.ensures.0 c.if-not-same.false) in
+    let label_there = class_as _ _ _ LabelOrKeyword c.in_ok-next.ensures.takes (c.same-in-flags-3.ensures.0 c.if-not-same-2.false) in (
+      grown c.flags.flags c.insert-in-flags.new.self c.args.self.now.place c.flags.self.place c.advance.new.self.place c.advance-in-flags.new.self.place c.label_name-name.result _ c.flags.invariant.0 comma_there label_there
+          (on_ok c.insert-in-flags.result c.insert-in-flags.ensures.entries done) name_is c.leaf-in-flags.ensures new_name
+          (subst (λ z. Holds c.insert-in-flags.new.self (names ++ z ∷ [])) name_is more)
+          (λ n s.
+          let (d, i, r) = c.flags.invariant.0.led n s in
+          let comma = due_flag names d c.in_ok-token.token i r c.in_ok-token.ensures.takes (c.same-in-flags.ensures.0 c.if-not-same.false) in (
+            due.behind_flag (names ++ name_of (text_at c.advance-in-flags.new.self.place) ∷ []),
+            inl refl,
+            then_same LabelOrKeyword comma label_there (ap (λ b. if b then due.repeated_flag else reads (due.behind_flag (names ++ name_of (text_at c.advance-in-flags.new.self.place) ∷ [])) s) new_name),
+          )),
+      (let (d, i, r) = c.flags.invariant.0.led 0 [] in
+          asks_reached 0 (due.behind_word (text_at c.args.self.now.place)) d [] [] c.args.self.now c.flags.self c.advance-in-flags.new.self r c.flags.invariant.1 (asks_token c.flags.self c.advance.new.self c.advance-in-flags.new.self c.in_ok-token.token c.in_ok-token.ensures.takes c.advance.ensures.asks (asks_once c.advance.new.self c.advance-in-flags.new.self c.advance-in-flags.ensures.asks))),
+    )
 
 pub returns-then-same-clause-tree : goal.returns-then-same-clause-tree
-returns-then-same-clause-tree c = ended c.flags.flags _ c.flags.self.place _ _ c.flags_node.result c.flags.invariant (inl (class_as _ _ _ BraceClose c.in_ok-token.ensures (c.same.ensures.0 c.if-same.true))) c.flags_node.ensures.node
+returns-then-same-clause-tree c = ended c.flags.flags _ c.flags.self.place _ _ c.flags_node.result c.flags.invariant.0 (inl (class_as _ _ _ BraceClose c.in_ok-token.ensures.takes (c.same.ensures.0 c.if-same.true))) c.flags_node.ensures.node
 
 pub returns-then-same-2-clause-tree : goal.returns-then-same-2-clause-tree
-returns-then-same-2-clause-tree c = ended c.flags.flags _ c.flags.self.place _ _ c.flags_node-then-same-2.result c.flags.invariant (inr (c.advance.new.self.place, class_as _ _ _ Comma c.in_ok-token.ensures (c.same-in-flags.ensures.0 c.if-not-same.false), class_as _ _ _ BraceClose c.in_ok-next.ensures (c.same-in-flags-2.ensures.0 c.if-same-2.true))) c.flags_node-then-same-2.ensures.node
+returns-then-same-2-clause-tree c = ended c.flags.flags _ c.flags.self.place _ _ c.flags_node-then-same-2.result c.flags.invariant.0 (inr (c.advance.new.self.place, class_as _ _ _ Comma c.in_ok-token.ensures.takes (c.same-in-flags.ensures.0 c.if-not-same.false), class_as _ _ _ BraceClose c.in_ok-next.ensures.takes (c.same-in-flags-2.ensures.0 c.if-same-2.true))) c.flags_node-then-same-2.ensures.node
+
+pub returns-in_err-token-clause-asks : goal.returns-in_err-token-clause-asks
+returns-in_err-token-clause-asks c =
+    let (d, i, r) = c.flags.invariant.0.led 0 [] in
+    asks_reached 0 (due.behind_word (text_at c.args.self.now.place)) d [] [] c.args.self.now c.flags.self c.advance.new.self r c.flags.invariant.1 (asks_once c.flags.self c.advance.new.self c.advance.ensures.asks)
+
+pub returns-then-same-clause-asks : goal.returns-then-same-clause-asks
+returns-then-same-clause-asks c =
+    let (d, i, r) = c.flags.invariant.0.led 0 [] in
+    asks_reached 0 (due.behind_word (text_at c.args.self.now.place)) d [] [] c.args.self.now c.flags.self c.advance.new.self r c.flags.invariant.1 (asks_once c.flags.self c.advance.new.self c.advance.ensures.asks)
+
+pub returns-then-not-same-clause-asks : goal.returns-then-not-same-clause-asks
+returns-then-not-same-clause-asks c =
+    let (d, i, r) = c.flags.invariant.0.led 0 [] in
+    asks_reached 0 (due.behind_word (text_at c.args.self.now.place)) d [] [] c.args.self.now c.flags.self c.advance.new.self r c.flags.invariant.1 (asks_once c.flags.self c.advance.new.self c.advance.ensures.asks)
+
+pub returns-in_err-next-clause-asks : goal.returns-in_err-next-clause-asks
+returns-in_err-next-clause-asks c =
+    let (d, i, r) = c.flags.invariant.0.led 0 [] in
+    asks_reached 0 (due.behind_word (text_at c.args.self.now.place)) d [] [] c.args.self.now c.flags.self c.advance-in-flags.new.self r c.flags.invariant.1 (asks_token c.flags.self c.advance.new.self c.advance-in-flags.new.self c.in_ok-token.token c.in_ok-token.ensures.takes c.advance.ensures.asks (asks_once c.advance.new.self c.advance-in-flags.new.self c.advance-in-flags.ensures.asks))
+
+pub returns-then-same-2-clause-asks : goal.returns-then-same-2-clause-asks
+returns-then-same-2-clause-asks c =
+    let (d, i, r) = c.flags.invariant.0.led 0 [] in
+    asks_reached 0 (due.behind_word (text_at c.args.self.now.place)) d [] [] c.args.self.now c.flags.self c.advance-in-flags.new.self r c.flags.invariant.1 (asks_token c.flags.self c.advance.new.self c.advance-in-flags.new.self c.in_ok-token.token c.in_ok-token.ensures.takes c.advance.ensures.asks (asks_once c.advance.new.self c.advance-in-flags.new.self c.advance-in-flags.ensures.asks))
+
+pub returns-then-not-same-2-clause-asks : goal.returns-then-not-same-2-clause-asks
+returns-then-not-same-2-clause-asks c =
+    let (d, i, r) = c.flags.invariant.0.led 0 [] in
+    asks_reached 0 (due.behind_word (text_at c.args.self.now.place)) d [] [] c.args.self.now c.flags.self c.advance-in-flags.new.self r c.flags.invariant.1 (asks_token c.flags.self c.advance.new.self c.advance-in-flags.new.self c.in_ok-token.token c.in_ok-token.ensures.takes c.advance.ensures.asks (asks_once c.advance.new.self c.advance-in-flags.new.self c.advance-in-flags.ensures.asks))
+
+pub returns-then-contains_key-clause-asks : goal.returns-then-contains_key-clause-asks
+returns-then-contains_key-clause-asks c =
+    let (d, i, r) = c.flags.invariant.0.led 0 [] in
+    asks_reached 0 (due.behind_word (text_at c.args.self.now.place)) d [] [] c.args.self.now c.flags.self c.advance-in-flags.new.self r c.flags.invariant.1 (asks_token c.flags.self c.advance.new.self c.advance-in-flags.new.self c.in_ok-token.token c.in_ok-token.ensures.takes c.advance.ensures.asks (asks_once c.advance.new.self c.advance-in-flags.new.self c.advance-in-flags.ensures.asks))
+
+pub returns-then-is_err-2-clause-asks : goal.returns-then-is_err-2-clause-asks
+returns-then-is_err-2-clause-asks c =
+    let (d, i, r) = c.flags.invariant.0.led 0 [] in
+    asks_reached 0 (due.behind_word (text_at c.args.self.now.place)) d [] [] c.args.self.now c.flags.self c.advance-in-flags.new.self r c.flags.invariant.1 (asks_token c.flags.self c.advance.new.self c.advance-in-flags.new.self c.in_ok-token.token c.in_ok-token.ensures.takes c.advance.ensures.asks (asks_once c.advance.new.self c.advance-in-flags.new.self c.advance-in-flags.ensures.asks))

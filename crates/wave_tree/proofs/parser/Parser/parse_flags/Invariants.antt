@@ -1,10 +1,11 @@
 use Rattle.std.proofs.Common.{ℕ}
 use Rattle.wave_tree.proofs.Going.{left_at}
 use Rattle.wave_tree.proofs.FlagLoop.{FlagsSoFar}
+use Rattle.wave_tree.specs.Parsing.{Asks}
 use Rattle.wave_tree.proofs.parser.Parser.parse_flags.Given as goal
 
 abbrev pub invariant-flags : goal.invariant-flags
-invariant-flags l = FlagsSoFar l.flags l.fn.self.place l.self.place
+invariant-flags l = FlagsSoFar l.flags l.fn.self.place l.self.place × Asks l.fn.self l.self
 
 abbrev pub decreases-flags : goal.decreases-flags
 decreases-flags l = left_at l.self.place

@@ -1,0 +1,5 @@
+use Rattle.wave_tree.proofs.Askings.{few}
+use Rattle.wave_tree.proofs.laws.askings_are_few.Goals as goal
+
+pub returns : goal.returns
+returns c = few

@@ -1,0 +1,73 @@
+-- The values that types give the parameters of a call, by their trees, and why there are none.
+use Rattle.std.specs.Prelude.{ℕ, ◌≡◌, ◌≢◌, ◌-◌, ◌⊎◌, List, [], ◌∷◌, map, Some, codes, Result, Ok, Err}
+use Rattle.std.specs.declared.ops.Range.{Range}
+use Rattle.wave_wasm.specs.Lists.{AllOf, SomeOf}
+use Rattle.wave_wasm.specs.Types.{TypeTree}
+use Rattle.wave_wasm.specs.Values.{Value}
+use Rattle.wave_wasm.specs.Makers.{AreOf}
+use Rattle.wave_lex.specs.Errors.{refusal_of}
+use Rattle.wave_lex.specs.Lexing.{span}
+use Rattle.wave_lex.specs.declared.error.ParserError.{ParserError}
+use Rattle.wave_lex.specs.declared.error.ParserErrorKind.TheVariants.{InvalidParams, InvalidType, OutOfMemory, WasmValueError}
+use Rattle.wave_tree.specs.Reads.{IsOption}
+use Rattle.wave_tree.specs.Params.{Omitted}
+use Rattle.wave_tree.specs.Tree.{Tree}
+use Rattle.wave_tree.specs.TreeReads.{TreeReads}
+use Rattle.wave_tree.specs.Placed.{Placed, tuple, placed_trees, shape_of, span_of, tree_of}
+use Rattle.wave_tree.specs.Faults.{Fault}
+use Rattle.wave_tree.specs.Refusals.{Says}
+use Rattle.wave_tree.specs.NodeTree.{NodeTree, type_of, place_of}
+use Rattle.wave_tree.specs.Nodes.{IsNodeOf}
+use Rattle.wave_tree.specs.Answers.{RefusedAs}
+use Rattle.wave_tree.specs.declared.ast.NodeType.TheVariants as kind
+
+-- each tree has its value at the type in its place; the types that are left are options, each `none`
+abbrev pub TreeParams : List TypeTree → List Tree → List Value → Type 0
+TreeParams Ts [] vs = Omitted Ts vs
+TreeParams [] (t ∷ ts) vs = ⊥
+TreeParams (T ∷ Ts) (t ∷ ts) vs = (v : Value) × (others : List Value) × TreeReads T t v × TreeParams Ts ts others × (vs ≡ v ∷ others)
+
+-- the types give the trees no values
+abbrev pub NoParams : List TypeTree → List Placed → Type 0
+NoParams Ts ts = (vs : List Value) → TreeParams Ts (map tree_of ts) vs → ⊥
+
+-- the type is none of an option
+abbrev pub IsNoOption : TypeTree → Type 0
+IsNoOption T = IsOption T → ⊥
+
+-- what is wrong with the items, read in turn: a fault of one at its type; the first that is too many; or a type that is left and is no option
+abbrev pub ParamsFault : List TypeTree → List Placed → Range ℕ → ParserError → Type 0
+ParamsFault Ts [] close e = SomeOf IsNoOption Ts × Says e InvalidParams close (Some (codes "missing required param(s)"))
+ParamsFault [] (t ∷ ts) close e = Says e InvalidParams (span_of t) (Some (codes "more param(s) than expected"))
+ParamsFault (T ∷ Ts) (t ∷ ts) close e =
+    Fault T t (refusal_of e) e.span × ((v : Value) → TreeReads T (tree_of t) v → ⊥)
+    ⊎ ((v : Value) × TreeReads T (tree_of t) v × ParamsFault Ts ts close e)
+
+-- the last byte of a node: the close of a tuple
+abbrev pub close_of : NodeTree → Range ℕ
+close_of n = span ((place_of n).end - 1) (place_of n).end
+
+module _ {V : Type 0} (tree : V → Value) (of : V → TypeTree → Type 0) where
+  -- the values of the items, each of its type
+  pub record AreRead (Ts : List TypeTree) (items : List Placed) (vs : List V) : Type 0 where
+    pub reads : TreeParams Ts (map tree_of items) (map tree vs)
+    pub are_of : AreOf of Ts vs
+
+  -- the node is a tuple of items that have these values
+  abbrev pub GivesParams : List TypeTree → NodeTree → Placed → List V → Type 0
+  GivesParams Ts n t vs = (items : List Placed) × (shape_of t ≡ tuple (placed_trees items)) × AreRead Ts items vs
+
+-- want of memory; or a fault of the items, which have no values; or, where makers do not serve all values of the types, the refusal of one
+abbrev pub RefusesItems : (TypeTree → Type 0) → List TypeTree → List Placed → Range ℕ → ParserError → Type 0
+RefusesItems Full Ts items close e =
+    (e.kind ≡ OutOfMemory) ⊎ ParamsFault Ts items close e × NoParams Ts items ⊎ (e.kind ≡ WasmValueError) × (AllOf Full Ts → ⊥)
+
+-- so of the items of a tuple, or `InvalidType` at another node
+abbrev pub RefusesParams : (TypeTree → Type 0) → List TypeTree → NodeTree → Placed → ParserError → Type 0
+RefusesParams Full Ts n t e =
+    (type_of n ≢ kind.Tuple) × RefusedAs InvalidType n e
+    ⊎ ((items : List Placed) × (shape_of t ≡ tuple (placed_trees items)) × RefusesItems Full Ts items (close_of n) e)
+
+-- want of memory, or, where makers do not serve all values of the types, the refusal of one at this place
+abbrev pub RefusesOmitted : (TypeTree → Type 0) → List TypeTree → Range ℕ → ParserError → Type 0
+RefusesOmitted Full Ts at e = (e.kind ≡ OutOfMemory) ⊎ (e.kind ≡ WasmValueError) × (e.span ≡ at) × (AllOf Full Ts → ⊥)
