@@ -4,7 +4,18 @@ use Rattle.std.specs.declared.ops.Range.{Range}
 use Rattle.wave_wasm.specs.Lists.{SomeOf}
 use Rattle.wave_wasm.specs.Types as type
 use Rattle.wave_wasm.specs.Types.{TypeTree, MaybeType, Types, Fields, Cases, Simple, no_type, a_type, no_types, type_and, field, no_cases, case_of}
-use Rattle.wave_lex.specs.Errors.{Refusal}
+use Rattle.std.specs.Result.{IsErrAnd, IfErr}
+use Rattle.std.proofs.Common.{Result, Ok, Err}
+use Rattle.wave_wasm.specs.Types.{HasDistinctNames}
+use Rattle.wave_lex.specs.Errors.{Refusal, refusal_of}
+use Rattle.wave_lex.specs.declared.error.ParserError.{ParserError}
+use Rattle.wave_lex.specs.declared.error.ParserErrorKind.TheVariants as kind
+use Rattle.wave_tree.specs.Place.{Place, TakesTokens}
+use Rattle.wave_tree.specs.Refusals.{Says}
+use Rattle.wave_tree.specs.Typed.{IsServed}
+use Rattle.wave_tree.specs.Parsing.{IsTrailing}
+use Rattle.wave_tree.specs.FromText.{start_of, TextFault, MeansNone, RefusesText}
+use Rattle.wave_tree.proofs.Spans.{tokens_inside, refusals_lie}
 use Rattle.wave_lex.specs.Lexing.{span}
 use Rattle.wave_lex.specs.Strings.{IsBadEscapeAt}
 use Rattle.wave_lex.specs.Multiline.{LineFault, closing, opening, indentation, escape, put_first, pieces, spaces, BadLine, BadLines, MultilineFault, fault_span}
@@ -12,7 +23,7 @@ use Rattle.wave_tree.specs.Token.{Token, text_of}
 use Rattle.wave_tree.specs.Token as token
 use Rattle.wave_tree.specs.Placed.{Placed, at, Shape, one, tuple, list, empty_braces, no_fields, entries, flags, label, none, some, ok, err, MaybePlaced, no_placed, a_placed, PlacedTrees, no_more, and_then, PlacedEntries, no_entries, entry, PlacedEntry, entry_list, placed_list, span_of, shape_of, slice, HoldsTokens, SpellsEach, SpellsMaybe, SpellsAll, SpellsEntries, LiesIn}
 use Rattle.wave_tree.specs.Faults.{LeafFault, MapKeyFault, RepeatedField, MissingField, Fault, FaultOfPayload, FaultOfFlat, FaultOfItem, FaultOfField, FaultOfCase}
-use Rattle.wave_tree.specs.AnswerLaws.{FaultsLieInText}
+use Rattle.wave_tree.specs.AnswerLaws.{FaultsLieInText, LiesInText, IsInSource}
 use Rattle.wave_tree.proofs.Quoted.{IsQuoted, one_holds}
 
 -- the span lies between two places
@@ -269,3 +280,35 @@ faults_lie source T t k q h f =
   where
     ends : (source : List ℕ) (t : Placed) → SpellsEach source t → (span_of t).end ≤ length source
     ends source (at p s) h = h.0.1.0.last.0
+
+-- ---- what reading a whole text refuses
+
+front_inside : (s : List ℕ) → IsInSource (start_of s).lexer
+front_inside s = (omega arith, omega arith)
+
+-- what follows what was read lies in the text
+pub trailing_lies : (s : List ℕ) (p : Place) (ts : List Token) (e : ParserError) → TakesTokens (start_of s) ts p → IsTrailing e p → LiesInText s e.span
+trailing_lies s p ts e taken trails =
+    let there = tokens_inside (start_of s) p ts taken (front_inside s) in
+    subst (λ (z : List ℕ). LiesInText z e.span) there.1 (refusals_lie e p there.0 (inr trails))
+
+-- a refusal of a text lies in it, where makers serve all values of the type
+pub text_refusal_lies : (Full : TypeTree → Type 0) (T : TypeTree) (s : List ℕ) (e : ParserError) → RefusesText Full T s e → (e.kind ≡ kind.OutOfMemory → Says e kind.OutOfMemory (span 0 0) None) → IsServed T → HasDistinctNames T → Full T → LiesInText s e.span
+text_refusal_lies Full T s e h memory served distinct full = by (h served distinct)
+  where
+    by : (e.kind ≡ kind.OutOfMemory) ⊎ TextFault T s e × MeansNone T s ⊎ (e.kind ≡ kind.WasmValueError) × (Full T → ⊥) → LiesInText s e.span
+    by (inl wants) = subst (LiesInText s) (sym (memory wants).stands) (omega arith, omega arith)
+    by (inr (inl (inl (p, refused), none_means))) = refusals_lie e (start_of s) (front_inside s) (inl (100, p, refused))
+    by (inr (inl (inr (inl (p, t, taken, spelled, fault)), none_means))) = faults_lie s T t (refusal_of e) e.span spelled fault
+    by (inr (inl (inr (inr (p, t, v, taken, reads, trails)), none_means))) = trailing_lies s p taken.tokens e taken.taken trails
+    by (inr (inr (is, not_full))) = absurd (not_full full)
+
+-- so does one of the value that is handed on
+pub value_lies : {X : Type 0} (Full : TypeTree → Type 0) (T : TypeTree) (s : List ℕ) (r : Result X ParserError) (e : ParserError) → IsErrAnd r (λ f. f ≡ e) → RefusesText Full T s e → (e.kind ≡ kind.OutOfMemory → Says e kind.OutOfMemory (span 0 0) None) → IfErr r (λ f. IsServed T → HasDistinctNames T → Full T → LiesInText s f.span)
+value_lies Full T s (Ok x) e same h memory = absurd same
+value_lies Full T s (Err f) e same h memory = λ served distinct full. subst (λ (g : ParserError). LiesInText s g.span) (sym same) (text_refusal_lies Full T s e h memory served distinct full)
+
+-- and what follows it, handed on
+pub trails_lie : {X : Type 0} (Full : TypeTree → Type 0) (T : TypeTree) (s : List ℕ) (r : Result X ParserError) (e : ParserError) → IsErrAnd r (λ f. f ≡ e) → LiesInText s e.span → IfErr r (λ f. IsServed T → HasDistinctNames T → Full T → LiesInText s f.span)
+trails_lie Full T s (Ok x) e same h = absurd same
+trails_lie Full T s (Err f) e same h = λ served distinct full. subst (λ (g : ParserError). LiesInText s g.span) (sym same) h

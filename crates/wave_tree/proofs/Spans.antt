@@ -32,7 +32,8 @@ next_inside l m None p h = passed l m (length (remainder_of l)) 0 p (omega arith
 next_inside l m (Some (Ok c)) (g, k, p, t) h = passed l m g k p p.skipped.0.fits t.is.0.fits h
 next_inside l m (Some (Err bad)) (g, k, p, u, e) h = passed l m g k p p.skipped.0.fits u.1.0.fits h
 
-tokens_inside : (p q : Place) (ts : List Token) → TakesTokens p ts q → IsInSource p.lexer → IsInSource q.lexer × (q.lexer.source ≡ p.lexer.source)
+-- where tokens were taken the lexer stands in the source
+pub tokens_inside : (p q : Place) (ts : List Token) → TakesTokens p ts q → IsInSource p.lexer → IsInSource q.lexer × (q.lexer.source ≡ p.lexer.source)
 tokens_inside p q [] e h = (subst (λ (z : Place). IsInSource z.lexer) e h, ap (λ (z : Place). z.lexer.source) (sym e))
 tokens_inside p q (t ∷ ts) (m, (c, k, e), more) h =
     let b = next_inside p.lexer m.lexer (Some (Ok c)) k.0 h in
