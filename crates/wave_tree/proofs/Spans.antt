@@ -1,15 +1,14 @@
 -- The spans of refusals lie in the text.
-use Rattle.std.proofs.Common.{ℕ, ◌≡◌, ◌⊎◌, inl, inr, ◌≤◌, ◌+◌, List, [], ◌∷◌, length, drop, length-drop, Option, Some, None, Result, Ok, Err, refl, sym, ap, ◌∙◌, subst, arith}
+use Rattle.std.proofs.Common.{ℕ, ◌≡◌, inl, inr, ◌≤◌, List, [], ◌∷◌, length, drop, length-drop, Some, None, Ok, Err, sym, ap, ◌∙◌, subst, arith}
 use Rattle.std.specs.declared.ops.Range.{Range}
-use Rattle.wave_lex.specs.declared.lex.Token as lex
 use Rattle.wave_lex.specs.declared.error.ParserError.{ParserError}
 use Rattle.wave_lex.specs.declared.error.ParserErrorKind.{ParserErrorKind}
 use Rattle.wave_lex.specs.declared.error.ParserErrorKind.TheVariants as kind
 use Rattle.wave_lex.specs.Lexing.{Lexed, Passes, NextIs, remainder_of, span}
 use Rattle.wave_tree.specs.Token.{Token}
-use Rattle.wave_tree.specs.Place.{Place, Item, Takes, TakesTokens}
+use Rattle.wave_tree.specs.Place.{Place, Item, TakesTokens}
 use Rattle.wave_tree.specs.Due.{Due, Form}
-use Rattle.wave_tree.specs.Refusals.{StandsAt, IsRefused}
+use Rattle.wave_tree.specs.Refusals.{StandsAt}
 use Rattle.wave_tree.specs.AnswerLaws.{LiesInText, IsInSource, RefusalsLieInText}
 
 -- the item behind a gap lies in the source, behind what was read
