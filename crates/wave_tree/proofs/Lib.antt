@@ -22,6 +22,7 @@ pub mod Examples
 pub mod BeginExamples
 pub mod Going
 pub mod Askings
+pub mod Spans
 pub mod Answering
 pub mod AtHand
 pub mod Names
@@ -35,6 +36,7 @@ pub mod TyingFlags
 pub mod Tied
 pub mod Texts
 pub mod TreeTexts
+pub mod CallTexts
 pub mod JoinedTexts
 pub mod ShownLemmas
 pub mod ParamLemmas
