@@ -36,6 +36,7 @@ pub mod TyingFlags
 pub mod Tied
 pub mod Texts
 pub mod TreeTexts
+pub mod CallTexts
 pub mod JoinedTexts
 pub mod ShownLemmas
 pub mod ParamLemmas

@@ -11,6 +11,7 @@ ghost use Rattle.wave_tree.specs.Due as due;
 ghost use Rattle.wave_tree.specs.Refusals.{Gives, GivesWithin, GivesAnywhere, Says};
 ghost use Rattle.wave_lex.specs.Lexing.{span, remainder_of};
 ghost use Rattle.wave_tree.specs.Untyped.{IsUntypedTaken};
+ghost use Rattle.wave_tree.specs.Called.{AreParamsTaken, RefusesTuple};
 ghost use Rattle.wave_tree.specs.FromText.{IsValueTaken, RefusesValue, IsMeant, RefusesText};
 ghost use Rattle.wave_tree.specs.Word.{form_of, IsClose};
 ghost use Rattle.std.specs.BTreeMap.{values};
@@ -22,6 +23,7 @@ ghost use Rattle.wave_tree.specs.Parsing.{Parsing, asked, Asks, ahead_count, IsA
 use crate::ahead::Ahead;
 use crate::ast::{Node, NodeType};
 use crate::untyped::UntypedValue;
+pub use crate::untyped::parse_raw_func_call;
 use crate::word::{Word, class_name, key_type, label_name, word_of};
 use std::alloc::Global;
 use std::collections::BTreeMap;
@@ -311,6 +313,21 @@ impl<'source> Parser<'source> {
             Some(ahead) => trailing(&ahead.item, &ahead.lexer),
             None => Ok(()),
         }
+    }
+
+    /// Reads the parameters of a call: None for `()`, else the node of a tuple.
+    pub(crate) fn parse_params(&mut self, alloc: Global) -> Result<Option<Node>, ParserError>
+        ensures taken { IfOk result (AreParamsTaken self.old.place self.new.place) }
+        ensures refused { IfErr result (λ e. e.kind ≢ kind.OutOfMemory → RefusesTuple e self.old.place self.new.place) }
+    {
+        let _ = self.remainder();
+        self.expect(Token::ParenOpen)?;
+        if self.next_is(Token::ParenClose) {
+            self.expect(Token::ParenClose)?;
+            return Ok(None);
+        }
+        let tuple = self.parse_items(alloc, 100, Token::ParenClose)?;
+        Ok(Some(tuple))
     }
 
     /// Reads a value.
