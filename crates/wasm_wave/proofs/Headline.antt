@@ -127,7 +127,7 @@ refused_so T v (Err e) of h = only_memory e (has_text v) (writes T v of) h
 -- what a lower refusal says of the text
 pub only_none : (T : TypeTree) (s : List ℕ) (e : ParserError) → RefusesText IsFull T s e → RefusesOnly T s e
 only_none T s e h = λ served full memory.
-    elim (h served full.distinct) [
+    elim (h served full) [
       | inl out ↦ absurd (memory out)
       | inr (inl (fault, none)) ↦ none
       | inr (inr (kind, other)) ↦ absurd (other full)

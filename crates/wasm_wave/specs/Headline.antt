@@ -14,7 +14,6 @@ use Rattle.wave_tree.specs.Means.{Means}
 use Rattle.wave_tree.specs.Typed.{IsServed}
 use Rattle.wave_tree.specs.FromText.{MeansNone}
 use Rattle.wasm_wave.specs.TypedValue.{TypedValue, IsAt}
-use Rattle.wasm_wave.specs.Built.{IsFull}
 
 -- the writer is refused for want of memory
 abbrev pub IsWantOfMemory : WriterError → Type 0
@@ -37,6 +36,6 @@ IsReadAs T s v = IsServed T → HasDistinctNames T → Means T s v.tree × IsAt 
 abbrev pub IsMergedAt : TypeTree → TypedValue → Type 0
 IsMergedAt T v = IsServed T → HasDistinctNames T → merged v.tree ≡ v.tree
 
--- at a type that is served, whose names are distinct and whose values can be made, the refusal is want of memory, or the text means no value
+-- at a type that is served, whose names are distinct, the refusal is want of memory, or the text means no value
 abbrev pub RefusesOnly : TypeTree → List ℕ → ParserError → Type 0
-RefusesOnly T s e = IsServed T → IsFull T → (e.kind ≢ OutOfMemory) → MeansNone T s
+RefusesOnly T s e = IsServed T → HasDistinctNames T → (e.kind ≢ OutOfMemory) → MeansNone T s
