@@ -23,6 +23,7 @@ pub mod BeginExamples
 pub mod Going
 pub mod Askings
 pub mod Spans
+pub mod FaultSpans
 pub mod Answering
 pub mod AtHand
 pub mod Names
