@@ -1,6 +1,6 @@
 -- A text means one value, and a value of a type can be written.
 use Rattle.std.proofs.Common.{◌≡◌, ℕ, Bool, true, false, List, [], ◌∷◌, ◌++◌, refl, sym, ap, subst, ◌∙◌, inl, inr, arith}
-use Rattle.std.specs.Prelude.{◌&&◌, not, if◌then◌else◌, IfErr, Result, Ok, Err}
+use Rattle.std.specs.Prelude.{◌&&◌, not, if◌then◌else◌, IfOk, IfErr, Result, Ok, Err}
 use Rattle.std.proofs.lemmas.List.{append-nil}
 use Rattle.std.proofs.lemmas.Bool.{false≢true}
 use Rattle.wave_wasm.specs.Lists.{AllOf}
@@ -18,11 +18,13 @@ use Rattle.wave_tree.specs.Means.{Means}
 use Rattle.wave_tree.specs.Token.{Token, CutsInto}
 use Rattle.wave_tree.specs.Reads.{Reads}
 use Rattle.wave_tree.proofs.Reading.{one_reading}
+use Rattle.wave_tree.proofs.Canon.{reads_merged}
 use Rattle.wave_tree.proofs.CanonLeaves.{one_cut_into}
 use Rattle.wave_lex.specs.declared.error.ParserError.{ParserError}
 use Rattle.wave_tree.specs.FromText.{RefusesText}
+use Rattle.wasm_wave.specs.TypedValue.{TypedValue}
 use Rattle.wasm_wave.specs.Built.{IsFull}
-use Rattle.wasm_wave.specs.Headline.{IsWantOfMemory, OneValue, RefusesOnly}
+use Rattle.wasm_wave.specs.Headline.{IsWantOfMemory, OneValue, IsReadAs, IsMergedAt, RefusesOnly}
 
 -- a text means one value at most
 pub one_value_of : (T : TypeTree) → HasDistinctNames T → OneValue T
@@ -125,7 +127,7 @@ refused_so T v (Err e) of h = only_memory e (has_text v) (writes T v of) h
 -- what a lower refusal says of the text
 pub only_none : (T : TypeTree) (s : List ℕ) (e : ParserError) → RefusesText IsFull T s e → RefusesOnly T s e
 only_none T s e h = λ served full memory.
-    elim (h served full.distinct) [
+    elim (h served full) [
       | inl out ↦ absurd (memory out)
       | inr (inl (fault, none)) ↦ none
       | inr (inr (kind, other)) ↦ absurd (other full)
@@ -134,3 +136,11 @@ only_none T s e h = λ served full memory.
 pub all_none : {S : Type 0} (T : TypeTree) (s : List ℕ) (r : Result S ParserError) → IfErr r (RefusesText IsFull T s) → IfErr r (RefusesOnly T s)
 all_none T s (Ok v) h = tt
 all_none T s (Err e) h = only_none T s e h
+
+-- what is read is merged
+merged_so : (T : TypeTree) (s : List ℕ) (v : TypedValue) → IsReadAs T s v → IsMergedAt T v
+merged_so T s v h = λ served distinct. let (tokens, cut, reads) = (h served distinct).0 in reads_merged T 100 tokens [] v.tree reads
+
+pub all_merged : (T : TypeTree) (s : List ℕ) (r : Result TypedValue ParserError) → IfOk r (IsReadAs T s) → IfOk r (IsMergedAt T)
+all_merged T s (Ok v) h = merged_so T s v h
+all_merged T s (Err e) h = tt

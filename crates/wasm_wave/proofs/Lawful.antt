@@ -10,7 +10,7 @@ use Rattle.wave_wasm.specs.Makers.{IsMemory, Makes, MakesLeaf, MakesList, MakesT
 use Rattle.wave_wasm.specs.declared.wasm.WasmValueError.{WasmValueError}
 use Rattle.wave_wasm.proofs.Formed.{formed}
 use Rattle.wasm_wave.specs.TypedValue.{TypedValue, IsAt, IsTyped, MakesOnly, typed_leaf}
-use Rattle.wasm_wave.specs.Built.{IsFull, IsBuilt, is_built}
+use Rattle.wasm_wave.specs.Built.{IsFull}
 use Rattle.wasm_wave.specs.ValueView.{trees, payload_tree}
 use Rattle.wasm_wave.specs.Taken.{Made, AllOwn, EachOwn, TakesList, TakesOption, RefusesParts, RefusesTuple, RefusesPayload, RefusesResult, RefusesEnum}
 use Rattle.std.proofs.lemmas.Bool.{false≢true}
@@ -43,24 +43,6 @@ never_refused one (Err e) h = absurd h
 -- a refusal for want of memory alone is lawful
 pub full_leaf : (one : Leaf) (e : WasmValueError) → IsMemory e → FullLeaf IsFull one e
 full_leaf one e h = λ full. h
-
-every_first : (U : TypeTree) → IsBuilt U → is_built U ≡ true
-every_first (type.simple S) h = h
-every_first (type.unreadable kind) h = h
-every_first (type.enum names) h = h
-every_first (type.flags names) h = h
-every_first (type.list E) h = refl
-every_first (type.record_type fs) h = refl
-every_first (type.tuple Ts) h = refl
-every_first (type.option P) h = refl
-every_first (type.map K V) h = refl
-every_first (type.variant cs) h = refl
-every_first (type.result A B) h = refl
-every_first _ h = absurd (false≢true h)
-
--- a type of a kind whose values can't be made isn't full
-none_built : (T U : TypeTree) → IsFull T → T ≡ U → is_built U ≡ false → ⊥
-none_built T U full is no_values = false≢true (sym no_values ∙ every_first U (subst IsBuilt is full.built))
 
 -- ---- what has parts
 

@@ -65,7 +65,7 @@ case_refused cs name P p _ first h (kind, Q, other, r) = absurd r
 variant_refused : (T : TypeTree) (name : List ℕ) (p : Option TypedValue) (e : WasmValueError) → RefusesVariant T name p e → FullVariant (λ v T. IsAt T v) IsFull T name p e
 variant_refused T name p e r = λ full cs is P case h.
     let at : IsFull (type.variant cs) = subst IsFull is full in
-    case_refused cs name P p e (first_of cs name P at.distinct.0 case) h (subst (λ U. RefusesVariant U name p e) is r)
+    case_refused cs name P p e (first_of cs name P at.0 case) h (subst (λ U. RefusesVariant U name p e) is r)
 
 pub full_variant : (T : TypeTree) (name : List ℕ) (p : Option TypedValue) (r : Result TypedValue WasmValueError) → IfErr r (RefusesVariant T name p) → IfErr r (FullVariant (λ v T. IsAt T v) IsFull T name p)
 full_variant T name p (Ok v) h = tt

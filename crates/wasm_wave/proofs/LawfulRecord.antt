@@ -255,7 +255,7 @@ record_memory fs given _ d own known r = absurd r.1
 -- fields of the stated types are refused for want of memory alone
 pub full_record : (T : TypeTree) (fields : List (Bor (List ℕ) × TypedValue)) (e : WasmValueError) → RefusesRecord T (named fields) e → FullRecord (λ v T. IsAt T v) IsFull T fields e
 full_record T fields e r = λ full fs is different ordered moved h.
-    let distinct : HasDistinctNames (type.record_type fs) = subst HasDistinctNames is full.distinct in
+    let distinct : HasDistinctNames (type.record_type fs) = subst HasDistinctNames is full in
     let last = all_moved (λ f. last_under (named fields) f.0.now ≡ Some f.1) fields ordered moved (each_last fields (subst AreDistinct (names_handed fields) different)) in
     let known = all_moved (λ f. IsOneOf (first_names (type.field_list fs)) f.0.now) ordered fields (IsPermutation-sym fields ordered moved) (each_known (type.field_list fs) ordered h) in
     record_memory fs (named fields) e (names_of_parts (type.record_type fs) distinct) (each_own (last_under (named fields)) (type.field_list fs) ordered last h) (λ n one. all_known (first_names (type.field_list fs)) fields n known one) (subst (λ U. RefusesRecord U (named fields) e) is r)

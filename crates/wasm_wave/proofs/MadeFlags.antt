@@ -1,5 +1,5 @@
 -- What the maker of flags makes and refuses.
-use Rattle.std.proofs.Common.{ℕ, zero, suc, ◌≡◌, ◌<◌, ◌≤◌, ◌+◌, Bool, true, false, ◌||◌, List, [], ◌∷◌, ◌++◌, map, length, take, get_or, refl, sym, ap, subst, ◌∙◌, arith, inl, inr, Option, Some, None, Bor}
+use Rattle.std.proofs.Common.{ℕ, zero, suc, ◌≡◌, ◌<◌, ◌≤◌, ◌+◌, Bool, true, false, ◌||◌, List, [], ◌∷◌, ◌++◌, map, length, take, get_or, refl, sym, ap, subst, ◌∙◌, arith, Some, Bor}
 use Rattle.std.specs.Prelude.{bytes_eq, is_some, if◌then◌else◌}
 use Rattle.std.specs.BTreeMap as tree
 use Rattle.std.specs.BTreeMap.{BTreeMap}
@@ -21,7 +21,6 @@ use Rattle.wave_wasm.specs.declared.wasm.WasmValueError.{WasmValueError}
 use Rattle.wave_wasm.specs.declared.wasm.WasmValueError.TheVariants as error
 use Rattle.wave_tree.proofs.Names.{holds_more}
 use Rattle.wave_tree.proofs.OneOf.{is_one}
-use Rattle.wasm_wave.specs.TypedValue.{TypedValue}
 use Rattle.wasm_wave.specs.ValueView.{name_at, Grows, FlagsFit}
 use Rattle.wasm_wave.specs.Taken.{Made, SaysCase}
 use Rattle.wasm_wave.specs.TakenCases.{HasKeys, RefusesNames}

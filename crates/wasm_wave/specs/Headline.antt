@@ -14,7 +14,6 @@ use Rattle.wave_tree.specs.Means.{Means}
 use Rattle.wave_tree.specs.Typed.{IsServed}
 use Rattle.wave_tree.specs.FromText.{MeansNone}
 use Rattle.wasm_wave.specs.TypedValue.{TypedValue, IsAt}
-use Rattle.wasm_wave.specs.Built.{IsFull}
 
 -- the writer is refused for want of memory
 abbrev pub IsWantOfMemory : WriterError → Type 0
@@ -33,6 +32,10 @@ IsToldByText T v = (w : Value) → HasType T w → (text v ≡ text w) ↔ (merg
 abbrev pub IsReadAs : TypeTree → List ℕ → TypedValue → Type 0
 IsReadAs T s v = IsServed T → HasDistinctNames T → Means T s v.tree × IsAt T v
 
--- at a type that is served, whose names are distinct and whose values can be made, the refusal is want of memory, or the text means no value
+-- at such a type the value is merged: in each map of it, inner ones too, each key stands once
+abbrev pub IsMergedAt : TypeTree → TypedValue → Type 0
+IsMergedAt T v = IsServed T → HasDistinctNames T → merged v.tree ≡ v.tree
+
+-- at a type that is served, whose names are distinct, the refusal is want of memory, or the text means no value
 abbrev pub RefusesOnly : TypeTree → List ℕ → ParserError → Type 0
-RefusesOnly T s e = IsServed T → IsFull T → (e.kind ≢ OutOfMemory) → MeansNone T s
+RefusesOnly T s e = IsServed T → HasDistinctNames T → (e.kind ≢ OutOfMemory) → MeansNone T s

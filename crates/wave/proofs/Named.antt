@@ -1,5 +1,5 @@
 -- What reading at the named types says of a request.
-use Rattle.std.proofs.Common.{ℕ, ◌≡◌, List, refl}
+use Rattle.std.proofs.Common.{ℕ, ◌≡◌, List}
 use Rattle.wave_wasm.specs.Types.{HasDistinctNames}
 use Rattle.wave_lex.specs.declared.error.ParserError.{ParserError}
 use Rattle.wave_lex.specs.declared.error.ParserErrorKind.TheVariants as kind
@@ -29,21 +29,21 @@ served name.U16 = tt
 served name.U32 = tt
 served name.U64 = tt
 
--- they have no names, and values of them are made
+-- they have no names
 full : (n : TypeName) → IsFull (type_of n)
-full name.Bool = record { distinct = tt; built = refl }
-full name.S8 = record { distinct = tt; built = refl }
-full name.S16 = record { distinct = tt; built = refl }
-full name.S32 = record { distinct = tt; built = refl }
-full name.S64 = record { distinct = tt; built = refl }
-full name.U8 = record { distinct = tt; built = refl }
-full name.U16 = record { distinct = tt; built = refl }
-full name.U32 = record { distinct = tt; built = refl }
-full name.U64 = record { distinct = tt; built = refl }
+full name.Bool = tt
+full name.S8 = tt
+full name.S16 = tt
+full name.S32 = tt
+full name.S64 = tt
+full name.U8 = tt
+full name.U16 = tt
+full name.U32 = tt
+full name.U64 = tt
 
 -- the value that was read is the answer
 pub answered : (n : TypeName) (s : List ℕ) (v : TypedValue) (answer : List ℕ) → IsReadAs (type_of n) s v → answer ≡ text v.tree → Answers (Read n) s answer
-answered n s v answer read same = (v.tree, (read (served n) (full n).distinct).0, same)
+answered n s v answer read same = (v.tree, (read (served n) (full n)).0, same)
 
 -- a refusal says that there is no answer, or memory ran out
 pub refused : (n : TypeName) (s : List ℕ) (e : ParserError) (u : Unanswered) → RefusesOnly (type_of n) s e → MatchesRefusal e u → IsUnanswered (Read n) s u

@@ -22,6 +22,8 @@ pub mod Examples
 pub mod BeginExamples
 pub mod Going
 pub mod Askings
+pub mod Spans
+pub mod FaultSpans
 pub mod Answering
 pub mod AtHand
 pub mod Names
@@ -35,6 +37,7 @@ pub mod TyingFlags
 pub mod Tied
 pub mod Texts
 pub mod TreeTexts
+pub mod CallTexts
 pub mod JoinedTexts
 pub mod ShownLemmas
 pub mod ParamLemmas
@@ -67,6 +70,10 @@ pub mod Maps
 pub mod Items
 pub mod Fields
 pub mod Tuples
+pub mod RecordEntries
+pub mod RecordReads
+pub mod RecordNone
+pub mod LeftOut
 pub mod CanonTidy
 pub mod CanonUtf8
 pub mod CanonTyped

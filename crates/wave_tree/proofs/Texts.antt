@@ -92,9 +92,9 @@ pub record AllOf (p : Place) (ts : List Token) : Type 0 where
   pub taken : TakesTokens p ts last
   pub ends : (behind : Place) × Takes last None behind
 
-pub all_of : (s : List ℕ) (ts : List Token) → CutsInto s ts → AllOf (start_of s) ts
-all_of s ts (r, front, gap_is) =
-    let it = front_taken (start_of s) ts r front in
+pub all_from : (p : Place) (ts : List Token) → CutsInto (remainder_of p.lexer) ts → AllOf p ts
+all_from p ts (r, front, gap_is) =
+    let it = front_taken p ts r front in
     let l = it.last.lexer in
     let n = length (remainder_of l) in
     record {
@@ -105,6 +105,9 @@ all_of s ts (r, front, gap_is) =
         (record { source = refl; skipped = subst (λ z. IsGap z (length z)) (sym it.left) gap_is; start = refl; end = refl }, refl),
       );
     }
+
+pub all_of : (s : List ℕ) (ts : List Token) → CutsInto s ts → AllOf (start_of s) ts
+all_of s ts cut = all_from (start_of s) ts cut
 
 abbrev item : lex.Token → Item
 item c = Some (Ok c)
@@ -128,7 +131,7 @@ pub all_are_next : (p : Place) (ts : List Token) → AllOf p ts → AreNext p ts
 all_are_next p ts h = (h.last, h.taken, no_token_there h.last h.ends.0 h.ends.1)
 
 -- one token is next
-one_next : (p q r : Place) (t u : Token) → TakesToken p t q → TakesToken p u r → (t ≡ u) × (q ≡ r)
+pub one_next : (p q r : Place) (t u : Token) → TakesToken p t q → TakesToken p u r → (t ≡ u) × (q ≡ r)
 one_next p q r t u (c, (h, a), e) (d, (k, b), f) =
     let one = next_one p.lexer q.lexer r.lexer (Some (Ok c)) (Some (Ok d)) h k in
     let there : q ≡ r = place_path q r one.0 (a ∙ sym b) in
@@ -152,19 +155,24 @@ all_taken p q (t ∷ front) (u ∷ ts) (m, one, more) next h =
 
 -- ---- the meaning
 
--- the tokens that were taken up to the end are the cut of the text
-pub all_cut : (s : List ℕ) (p : Place) (tokens : List Token) → TakesTokens (start_of s) tokens p → ((behind : Place) × Takes p None behind) → CutsInto s tokens
-all_cut s p tokens taken (behind, ends) =
-    let n = length s + p.lexer.end in
-    let front = tokens_front (start_of s) p tokens n taken (omega arith) in
-    let r = remainder_of p.lexer in
-    let source_end = length-drop p.lexer.end p.lexer.source in
-    let whole : take n s ≡ s = take_all n s (omega arith) in
-    let rest : take (n - (p.lexer.end - 0)) r ≡ r = take_all (n - (p.lexer.end - 0)) r (let e = same_length in omega (arith, e, source_end)) in
-    (r, subst (λ z. Front z (map lexeme_of tokens) r) whole (subst (λ z. Front (take n s) (map lexeme_of tokens) z) rest front), ends.0.skipped)
+-- the tokens that were taken up to the end are the cut of what was left
+pub cut_from : (p q : Place) (tokens : List Token) → TakesTokens p tokens q → ((behind : Place) × Takes q None behind) → CutsInto (remainder_of p.lexer) tokens
+cut_from p q tokens taken (behind, ends) =
+    let n = length p.lexer.source + q.lexer.end in
+    let front = tokens_front p q tokens n taken (omega arith) in
+    let r = remainder_of q.lexer in
+    let start_left = length-drop p.lexer.end p.lexer.source in
+    let end_left = length-drop q.lexer.end q.lexer.source in
+    let whole : take n (remainder_of p.lexer) ≡ remainder_of p.lexer = take_all n (remainder_of p.lexer) (omega (arith, start_left)) in
+    let rest : take (n - (q.lexer.end - p.lexer.end)) r ≡ r = take_all (n - (q.lexer.end - p.lexer.end)) r (let e = same_length in omega (arith, e, end_left)) in
+    (r, subst (λ z. Front z (map lexeme_of tokens) r) whole (subst (λ z. Front (take n (remainder_of p.lexer)) (map lexeme_of tokens) z) rest front), ends.0.skipped)
   where
-    same_length : length p.lexer.source ≡ length s
-    same_length = ap length (tokens_source (start_of s) p tokens taken)
+    same_length : length q.lexer.source ≡ length p.lexer.source
+    same_length = ap length (tokens_source p q tokens taken)
+
+-- so those of a whole text are its cut
+pub all_cut : (s : List ℕ) (p : Place) (tokens : List Token) → TakesTokens (start_of s) tokens p → ((behind : Place) × Takes p None behind) → CutsInto s tokens
+all_cut s p tokens taken ends = cut_from (start_of s) p tokens taken ends
 
 -- a text whose tokens are those of the tree means its value
 pub means_of : (T : TypeTree) (s : List ℕ) (p : Place) (t : Tree) (v : Value) → IsTaken (start_of s) p t → ((behind : Place) × Takes p None behind) → TreeReads T t v → Means T s v
@@ -208,7 +216,7 @@ value_refused Full T s p e h served distinct = by (memory_or e.kind)
   where
     by_blame : (k : IsTypeRefused Full T e (start_of s) p) → Fault T k.placed (refusal_of e) e.span × typed.ReadsNone T k.placed ⊎ (e.kind ≡ kind.WasmValueError) × (Full T → ⊥) →
         (e.kind ≡ kind.OutOfMemory) ⊎ TextFault T s e × MeansNone T s ⊎ (e.kind ≡ kind.WasmValueError) × (Full T → ⊥)
-    by_blame k (inl (fault, none)) = inr (inl (inr (inl (p, k.placed, k.taken, fault)), λ v means. none v (whole_read T s p (tree_of k.placed) v k.read k.taken means).reads))
+    by_blame k (inl (fault, none)) = inr (inl (inr (inl (p, k.placed, k.taken, k.spelled, fault)), λ v means. none v (whole_read T s p (tree_of k.placed) v k.read k.taken means).reads))
     by_blame k (inr other) = inr (inr other)
 
     by_kind : IsRefused e 100 value [] (start_of s) p ⊎ IsTypeRefused Full T e (start_of s) p → (e.kind ≡ kind.OutOfMemory) ⊎ TextFault T s e × MeansNone T s ⊎ (e.kind ≡ kind.WasmValueError) × (Full T → ⊥)

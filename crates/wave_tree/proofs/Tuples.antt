@@ -128,7 +128,8 @@ pub record TupleNodes (source : List ℕ) (n : NodeTree) (t : Placed) : Type 0 w
 tuple_once : (a b : form.Trees) → form.tuple a ≡ form.tuple b → a ≡ b
 tuple_once a b e = cc
 
-no_word : (w : Word) (text : List ℕ) (n : ℕ) (behind : List Token) (ts : form.Trees) → BehindWord w text (Takes n) behind (form.tuple ts) [] → ⊥
+-- no word stands for a tuple
+pub no_word : (w : Word) (text : List ℕ) (n : ℕ) (behind : List Token) (ts : form.Trees) → BehindWord w text (Takes n) behind (form.tuple ts) [] → ⊥
 no_word form.leaf_word text n behind ts h = absurd (cc h.1)
 no_word form.none_word text n behind ts h = absurd (cc h.1)
 no_word form.some_word text n behind ts h = absurd (cc h.2)

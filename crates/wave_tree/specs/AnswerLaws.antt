@@ -1,5 +1,11 @@
 -- What the answers to reading a value say of the tokens that stand there.
-use Rattle.std.specs.Prelude.{ℕ, ◌≡◌, ◌+◌, ◌≤◌, List, []}
+use Rattle.std.specs.Prelude.{ℕ, ◌≡◌, ◌⊎◌, ◌+◌, ◌≤◌, List, [], length}
+use Rattle.std.specs.declared.ops.Range.{Range}
+use Rattle.wave_lex.specs.Lexing.{Lexed}
+use Rattle.wave_lex.specs.Errors.{Refusal}
+use Rattle.wave_wasm.specs.Types.{TypeTree}
+use Rattle.wave_tree.specs.Placed.{Placed, SpellsEach}
+use Rattle.wave_tree.specs.Faults.{Fault}
 use Rattle.wave_lex.specs.declared.error.ParserError.{ParserError}
 use Rattle.wave_tree.specs.Token.{Token}
 use Rattle.wave_tree.specs.Tree as tree
@@ -7,7 +13,7 @@ use Rattle.wave_tree.specs.Tree.{Tree}
 use Rattle.wave_tree.specs.Place.{Place, TakesToken, TakesTokens}
 use Rattle.wave_tree.specs.Due.{value}
 use Rattle.wave_tree.specs.Refusals.{IsRead, IsRefused}
-use Rattle.wave_tree.specs.Parsing.{Parsing, asked, HasTokens, Asks}
+use Rattle.wave_tree.specs.Parsing.{Parsing, asked, HasTokens, Asks, IsTrailing}
 
 -- the tokens from the place on, up to the end or to what is no token
 abbrev pub AreNext : Place → List Token → Type 0
@@ -28,3 +34,20 @@ abbrev pub AskingsAreFew : Type 0
 AskingsAreFew =
     (n : ℕ) (p q r : Parsing) → HasTokens p.place n → asked p ≡ 0 → Asks p q →
     (asked q ≤ n + 1) × (IsRead 100 value [] p.place q.place [] → asked r ≡ q.place.taken + 1 → asked r ≤ n + 1)
+
+-- the span lies in the text
+abbrev pub LiesInText : List ℕ → Range ℕ → Type 0
+LiesInText s p = (p.start ≤ p.end) × (p.end ≤ length s)
+
+-- the last item of a lexer lies in its source
+abbrev pub IsInSource : Lexed → Type 0
+IsInSource l = (l.start ≤ l.end) × (l.end ≤ length l.source)
+
+-- the span of a syntax refusal, and of what follows a value, lies in the source
+abbrev pub RefusalsLieInText : Type 0
+RefusalsLieInText =
+    (e : ParserError) (p : Place) → IsInSource p.lexer → ((n : ℕ) × (q : Place) × IsRefused e n value [] p q) ⊎ IsTrailing e p → LiesInText p.lexer.source e.span
+
+-- so does the span of a fault of type, of a tree whose parts spell their slices of the source
+abbrev pub FaultsLieInText : Type 0
+FaultsLieInText = (source : List ℕ) (T : TypeTree) (t : Placed) (k : Refusal) (q : Range ℕ) → SpellsEach source t → Fault T t k q → LiesInText source q

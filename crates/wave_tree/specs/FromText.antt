@@ -8,7 +8,7 @@ use Rattle.wave_lex.specs.declared.error.ParserErrorKind.TheVariants.{OutOfMemor
 use Rattle.wave_tree.specs.Place.{Place}
 use Rattle.wave_tree.specs.Due.{value}
 use Rattle.wave_tree.specs.Refusals.{IsRead, IsRefused}
-use Rattle.wave_tree.specs.Placed.{Placed, tree_of}
+use Rattle.wave_tree.specs.Placed.{Placed, tree_of, SpellsEach}
 use Rattle.wave_tree.specs.TreeReads.{TreeReads}
 use Rattle.wave_tree.specs.Faults.{Fault}
 use Rattle.wave_tree.specs.Means.{Means}
@@ -34,11 +34,12 @@ module _ {V : Type 0} (tree : V → Value) (of : V → TypeTree → Type 0) wher
   IsMeant T s v = IsServed T → HasDistinctNames T → Means T s (tree v) × of v T
 
 module _ (Full : TypeTree → Type 0) where
-  -- a tree was read to which the type gives no value, or whose value a maker refused
+  -- a tree was read, each part of which spells its slice of the source; the type gives it no value, or a maker refused its value
   pub record IsTypeRefused (T : TypeTree) (e : ParserError) (old new : Place) : Type 0 where
     pub read : IsRead 100 value [] old new []
     pub placed : Placed
     pub taken : IsTaken old new (tree_of placed)
+    pub spelled : SpellsEach old.lexer.source placed
     pub blames : IsServed T → HasDistinctNames T → Fault T placed (refusal_of e) e.span × typed.ReadsNone T placed ⊎ (e.kind ≡ WasmValueError) × (Full T → ⊥)
 
   -- no value was read: for want of memory, or no tree stands there, or one to which the type gives no value
@@ -49,11 +50,11 @@ module _ (Full : TypeTree → Type 0) where
 abbrev pub MeansNone : TypeTree → List ℕ → Type 0
 MeansNone T s = (v : Value) → Means T s v → ⊥
 
--- what is wrong with the text: no tree begins it; or the type gives its tree no value; or something follows the tree
+-- what is wrong with the text: no tree begins it; or the type gives its tree, each part of which spells its slice of the text, no value; or something follows the tree
 abbrev pub TextFault : TypeTree → List ℕ → ParserError → Type 0
 TextFault T s e =
     ((p : Place) × IsRefused e 100 value [] (start_of s) p)
-    ⊎ ((p : Place) × (t : Placed) × IsTaken (start_of s) p (tree_of t) × Fault T t (refusal_of e) e.span)
+    ⊎ ((p : Place) × (t : Placed) × IsTaken (start_of s) p (tree_of t) × SpellsEach s t × Fault T t (refusal_of e) e.span)
     ⊎ ((p : Place) × (t : Placed) × (v : Value) × IsTaken (start_of s) p (tree_of t) × TreeReads T (tree_of t) v × IsTrailing e p)
 
 -- want of memory; or a fault of the text, which means no value of the type; or, where makers do not serve all values of the type, the refusal of one

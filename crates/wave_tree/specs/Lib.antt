@@ -27,6 +27,8 @@ pub mod Typed
 pub mod Flags
 pub mod Records
 pub mod ShownNodes
+pub mod Called
+pub mod CalledCode
 pub mod TreeParams
 pub mod FromText
 pub mod Untyped

@@ -11,6 +11,7 @@ ghost use Rattle.wave_tree.specs.Due as due;
 ghost use Rattle.wave_tree.specs.Refusals.{Gives, GivesWithin, GivesAnywhere, Says};
 ghost use Rattle.wave_lex.specs.Lexing.{span, remainder_of};
 ghost use Rattle.wave_tree.specs.Untyped.{IsUntypedTaken};
+ghost use Rattle.wave_tree.specs.Called.{AreParamsTaken, RefusesTuple};
 ghost use Rattle.wave_tree.specs.FromText.{IsValueTaken, RefusesValue, IsMeant, RefusesText};
 ghost use Rattle.wave_tree.specs.Word.{form_of, IsClose};
 ghost use Rattle.std.specs.BTreeMap.{values};
@@ -18,10 +19,14 @@ ghost use Rattle.wave_tree.specs.NodeTree.{node, no_nodes, node_trees};
 ghost use Rattle.wave_tree.specs.declared.ast.NodeType.TheVariants as node_type;
 ghost use Rattle.wave_tree.specs.Parsed.{IsNodeTaken, IsParsed, IsParsedBehind, IsMaybe, IsPayload, IsOfItems, IsOfEntries, IsOfFlags, label_children};
 ghost use Rattle.wave_tree.specs.Parsing.{Parsing, asked, Asks, ahead_count, IsAhead, first_at, front_of, Advances, Expects, Finishes, StaysWithout};
+ghost use Rattle.wave_wasm.specs.Types.{HasDistinctNames};
+ghost use Rattle.wave_tree.specs.Typed.{IsServed};
+ghost use Rattle.wave_tree.specs.AnswerLaws.{LiesInText};
 
 use crate::ahead::Ahead;
 use crate::ast::{Node, NodeType};
 use crate::untyped::UntypedValue;
+pub use crate::untyped::parse_raw_func_call;
 use crate::word::{Word, class_name, key_type, label_name, word_of};
 use std::alloc::Global;
 use std::collections::BTreeMap;
@@ -311,6 +316,21 @@ impl<'source> Parser<'source> {
             Some(ahead) => trailing(&ahead.item, &ahead.lexer),
             None => Ok(()),
         }
+    }
+
+    /// Reads the parameters of a call: None for `()`, else the node of a tuple.
+    pub(crate) fn parse_params(&mut self, alloc: Global) -> Result<Option<Node>, ParserError>
+        ensures taken { IfOk result (AreParamsTaken self.old.place self.new.place) }
+        ensures refused { IfErr result (λ e. e.kind ≢ kind.OutOfMemory → RefusesTuple e self.old.place self.new.place) }
+    {
+        let _ = self.remainder();
+        self.expect(Token::ParenOpen)?;
+        if self.next_is(Token::ParenClose) {
+            self.expect(Token::ParenClose)?;
+            return Ok(None);
+        }
+        let tuple = self.parse_items(alloc, 100, Token::ParenClose)?;
+        Ok(Some(tuple))
     }
 
     /// Reads a value.
@@ -608,6 +628,8 @@ impl<'source> Parser<'source> {
 pub fn from_str<V: WasmValue>(alloc: Global, ty: &V::Type, s: &str) -> Result<V, ParserError>
     ensures value { IfOk result (IsMeant V.tree V.is_of (V.Type.tree ty.now) s.now) }
     ensures refused { IfErr result (RefusesText V.is_full (V.Type.tree ty.now) s.now) }
+    ensures memory { IfErr result (λ e. e.kind ≡ kind.OutOfMemory → Says e kind.OutOfMemory (span 0 0) None) }
+    ensures within { IfErr result (λ e. IsServed (V.Type.tree ty.now) → HasDistinctNames (V.Type.tree ty.now) → V.is_full (V.Type.tree ty.now) → LiesInText s.now e.span) }
 {
     let mut parser = Parser::new(s);
     let value = parser.parse_value::<V>(alloc, ty)?;

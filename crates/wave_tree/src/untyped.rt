@@ -4,6 +4,7 @@ ghost use Rattle.wave_tree.specs.Typed.{IsValueOf, IsServed};
 ghost use Rattle.wave_tree.specs.Typed as typed;
 ghost use Rattle.wave_tree.specs.Untyped.{IsUntypedOf, RefusesTree};
 
+pub use self::call::{UntypedFuncCall, parse_raw_func_call};
 use crate::ast::Node;
 use crate::parser::{Parser, ParserError};
 use std::alloc::Global;
@@ -11,6 +12,7 @@ use std::borrow::CowStr;
 use std::marker::Model;
 use wave_wasm::wasm::WasmValue;
 
+mod call;
 mod display;
 
 /// A value that was parsed without a type: its source, and the node of its tree.

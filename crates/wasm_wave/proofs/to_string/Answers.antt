@@ -1,4 +1,4 @@
-use Rattle.wave_tree.proofs.Canon.{equal_texts, reads_back}
+use Rattle.wave_tree.proofs.Canon.{equal_texts, reads_back, reads_back_within_twice}
 use Rattle.wasm_wave.proofs.Headline.{refused_so}
 use Rattle.wasm_wave.proofs.to_string.Goals as goal
 
@@ -10,3 +10,6 @@ returns-clause-equal c = λ good other of. equal_texts c.args.val.now.own good c
 
 pub returns-clause-back : goal.returns-clause-back
 returns-clause-back c = λ good. reads_back c.args.val.now.own good c.is_typed.ensures.own c.args.val.now.tree c.is_typed.ensures.typed
+
+pub returns-clause-twice : goal.returns-clause-twice
+returns-clause-twice c = λ good. reads_back_within_twice c.args.val.now.own good c.is_typed.ensures.own

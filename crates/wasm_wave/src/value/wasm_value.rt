@@ -1,7 +1,4 @@
-//! A value is lawful: it is of its own type, and a type is full where its names are distinct and
-//! its values can be made.
-ghost use Rattle.wasm_wave.specs.Built.{SaysUnsupported};
-
+//! A value is lawful: it is of its own type, and a type is full where its names are distinct.
 use super::{Type, Value};
 use std::alloc::{AllocError, Global};
 use wave_wasm::wasm::{WasmTypeKind, WasmValue, WasmValueError};
@@ -226,15 +223,5 @@ impl WasmValue for Value {
 
     fn unwrap_map(&self, alloc: Global) -> Result<Vec<(&Value, &Value)>, AllocError> {
         Value::unwrap_map(self, alloc)
-    }
-}
-
-// The refusal of a maker whose kind of values can't be made yet.
-fn unsupported(alloc: Global, kind: WasmTypeKind) -> WasmValueError
-    ensures { SaysUnsupported kind result }
-{
-    match kind.to_string(alloc) {
-        Ok(word) => WasmValueError::UnsupportedType(word),
-        Err(e) => WasmValueError::Memory(e),
     }
 }

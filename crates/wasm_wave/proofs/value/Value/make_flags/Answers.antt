@@ -1,5 +1,5 @@
 use Rattle.wave_wasm.specs.Shown.{texts}
-use Rattle.wasm_wave.proofs.MadeFlags.{flags_fit, flags_made}
+use Rattle.wasm_wave.proofs.MadeFlags.{flags_made}
 use Rattle.wasm_wave.proofs.value.Value.make_flags.Goals as goal
 
 pub returns-in-Ok-clause-made : goal.returns-in-Ok-clause-made

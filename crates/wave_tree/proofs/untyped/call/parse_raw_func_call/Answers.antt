@@ -1,0 +1,45 @@
+use Rattle.std.proofs.Common.{◌≡◌, ◌≢◌, ap, sym, subst, ◌∙◌}
+use Rattle.wave_lex.specs.declared.error.ParserError.{ParserError}
+use Rattle.wave_lex.specs.declared.error.ParserErrorKind.TheVariants as because
+use Rattle.wave_lex.specs.Lexing.{Lexed, span}
+use Rattle.wave_tree.specs.Place.{Place}
+use Rattle.wave_tree.specs.Parsing.{Parsing, first_at}
+use Rattle.wave_tree.specs.Called.{Called, AreParamsTaken, RefusesTuple, IsCalledOf, RefusesCall, behind_name}
+use Rattle.wave_tree.proofs.ParamLemmas.{error_handed}
+use Rattle.wave_tree.proofs.CallTexts.{name_refused, params_refused, rest_refused, called_of}
+use Rattle.wave_tree.proofs.untyped.call.parse_raw_func_call.Goals as goal
+
+pub returns-in_err-names-clause-refused : goal.returns-in_err-names-clause-refused
+returns-in_err-names-clause-refused c =
+    error_handed (RefusesCall c.args.source.now) c.from_residual.result c.in_err-names.field-0.0 c.from_residual.ensures.1 (name_refused c.args.source.now c.in_err-names.field-0.0 c.in_err-names.ensures.refused)
+
+pub returns-in_err-params-clause-refused : goal.returns-in_err-params-clause-refused
+returns-in_err-params-clause-refused c =
+    let s = c.args.source.now in
+    let e = c.in_err-params.field-0.0 in
+    let new = c.parse_params.new.self.place in
+    let (k, named, is) = c.in_ok-names.ensures.named in
+    let place : c.with_lexer-parser.result.place ≡ behind_name s k = ap (λ (z : Parsing). z.place) (c.with_lexer-parser.ensures ∙ ap first_at (c.into_lexer.ensures ∙ is)) in
+    error_handed (RefusesCall s) c.from_residual-in_err-params.result e c.from_residual-in_err-params.ensures.1
+    (params_refused s k new e named (subst (λ (z : Place). e.kind ≢ because.OutOfMemory → RefusesTuple e z new) place c.in_err-params.ensures.refused))
+
+pub returns-in_err-finish-clause-refused : goal.returns-in_err-finish-clause-refused
+returns-in_err-finish-clause-refused c =
+    let s = c.args.source.now in
+    let e = c.in_err-finish.field-0.0 in
+    let new = c.parse_params.new.self.place in
+    let (k, named, is) = c.in_ok-names.ensures.named in
+    let place : c.with_lexer-parser.result.place ≡ behind_name s k = ap (λ (z : Parsing). z.place) (c.with_lexer-parser.ensures ∙ ap first_at (c.into_lexer.ensures ∙ is)) in
+    error_handed (RefusesCall s) c.from_residual-in_err-finish.result e c.from_residual-in_err-finish.ensures.1
+    (rest_refused s k new c.in_ok-params.params e named (subst (λ (z : Place). AreParamsTaken z new c.in_ok-params.params) place c.in_ok-params.ensures.taken) c.in_err-finish.ensures.answer)
+
+pub returns-clause-value : goal.returns-clause-value
+returns-clause-value c =
+    let s = c.args.source.now in
+    let new = c.parse_params.new.self.place in
+    let params = c.in_ok-params.params in
+    let (k, named, is) = c.in_ok-names.ensures.named in
+    let place : c.with_lexer-parser.result.place ≡ behind_name s k = ap (λ (z : Parsing). z.place) (c.with_lexer-parser.ensures ∙ ap first_at (c.into_lexer.ensures ∙ is)) in
+    let name : c.span-name.result ≡ span 0 k = c.span-name.ensures ∙ ap (λ (z : Lexed). span z.start z.end) is in
+    let call : c.new.result ≡ record { source = s; name = span 0 k; params = params } = c.new.ensures ∙ (λ i. record { source = s; name = name i; params = params }) in
+    subst (IsCalledOf s) (sym call) (called_of s k new params named (subst (λ (z : Place). AreParamsTaken z new params) place c.in_ok-params.ensures.taken) c.in_ok-finish.ensures.answer)

@@ -1,0 +1,186 @@
+//! Calls that were read without types.
+ghost use Rattle.std.specs.Prelude.{◌≡◌, ℕ, IfOk, IfErr, option_map, map};
+ghost use Rattle.wave_tree.specs.Placed.{slice};
+ghost use Rattle.wave_lex.specs.FunctionName.{IsName};
+ghost use Rattle.wave_wasm.specs.Lists.{AllOf};
+ghost use Rattle.wave_wasm.specs.Types.{HasDistinctNames};
+ghost use Rattle.wave_tree.specs.Typed.{IsServed};
+ghost use Rattle.wave_tree.specs.Called.{IsInSource, IsCalledOf, NameFault, RefusesCall, GivesParamsAt, RefusesParamsAt};
+
+use crate::ast::Node;
+use crate::params::omitted_params;
+use crate::parser::{Parser, ParserError, ParserErrorKind};
+use crate::untyped::display::write_node;
+use std::alloc::Global;
+use std::borrow::CowStr;
+use std::fmt;
+use std::marker::Model;
+use wave_lex::lex::{FuncNameLexer, Span};
+use wave_wasm::wasm::WasmValue;
+
+/// The call that the whole text is: a function name at its start, and parameters in parentheses. A
+/// text that begins with no name is `InvalidToken` at its first scalar; what is no parameters is
+/// refused at its span, and what follows them as `TrailingCharacters`.
+pub fn parse_raw_func_call<'source>(
+    alloc: Global,
+    source: &'source str,
+) -> Result<UntypedFuncCall<'source>, ParserError>
+    ensures value { IfOk result (IsCalledOf source.now) }
+    ensures refused { IfErr result (RefusesCall source.now) }
+{
+    let names = name_at(source)?;
+    let name = names.span();
+    let mut parser = Parser::with_lexer(names.into_lexer());
+    let params = parser.parse_params(alloc)?;
+    parser.finish()?;
+    Ok(UntypedFuncCall::new(source, name, params))
+}
+
+/// The lexer behind the function name at the start of the text.
+fn name_at<'source>(source: &'source str) -> Result<FuncNameLexer<'source>, ParserError>
+    ensures named { IfOk result (λ l. (k : ℕ) × IsName source.now k × (l ≡ record { source = source.now; start = 0; end = k })) }
+    ensures refused { IfErr result (NameFault source.now) }
+{
+    let mut names = FuncNameLexer::new(source);
+    match names.next() {
+        Some(Ok(_)) => Ok(names),
+        Some(Err(_)) => Err(ParserError::new(ParserErrorKind::InvalidToken, names.span())),
+        None => Err(ParserError::new(ParserErrorKind::UnexpectedEnd, names.span())),
+    }
+}
+
+/// A call that was parsed without types: its source, its name and the node of its parameters.
+#[derive(Drop)]
+pub struct UntypedFuncCall<'source> {
+    source: CowStr<'source, Global>,
+    name: Span,
+    params: Option<Node>,
+}
+
+impl<'source> Model for UntypedFuncCall<'source> {
+    ghost use Rattle.std.specs.Cow.{cow_str_bytes};
+    ghost use Rattle.wave_tree.specs.Called.{Called, IsInSource};
+    ghost use Rattle.wave_tree.specs.CalledCode.{called_code};
+
+    ghost Value = { Called };
+
+    ghost coded = { called_code };
+
+    ghost view = { λ u. record { source = cow_str_bytes u.source; name = u.name; params = u.params } };
+
+    ghost invariant = { λ u. IsInSource (cow_str_bytes u.source) u.name u.params };
+}
+
+impl<'source> UntypedFuncCall<'source> {
+    /// The call of this name, with the node of its parameters.
+    fn new(source: &'source str, name: Span, params: Option<Node>) -> UntypedFuncCall<'source>
+        requires { IsInSource source.now name params }
+        ensures { result ≡ record { source = source.now; name = name; params = params } }
+    {
+        UntypedFuncCall {
+            source: CowStr::Borrowed(source),
+            name,
+            params,
+        }
+    }
+
+    /// The call that the whole text is, as by `parse_raw_func_call`.
+    pub fn parse(
+        alloc: Global,
+        source: &'source str,
+    ) -> Result<UntypedFuncCall<'source>, ParserError>
+        ensures value { IfOk result (IsCalledOf source.now) }
+        ensures refused { IfErr result (RefusesCall source.now) }
+    {
+        parse_raw_func_call(alloc, source)
+    }
+
+    /// The same call with a copy of its source, where that is borrowed. Where memory is wanting the
+    /// call is handed back.
+    pub fn into_owned(
+        self,
+        alloc: Global,
+    ) -> Result<UntypedFuncCall<'static>, UntypedFuncCall<'source>>
+        ensures owned { IfOk result (λ call. call ≡ self.entry) }
+        ensures handed_back { IfErr result (λ call. call ≡ self.entry) }
+    {
+        let UntypedFuncCall {
+            source,
+            name,
+            params,
+        } = self;
+        match source {
+            CowStr::Owned(text) => Ok(UntypedFuncCall {
+                source: CowStr::Owned(text),
+                name,
+                params,
+            }),
+            CowStr::Borrowed(text) => match String::from_str(alloc, text) {
+                Ok(copy) => Ok(UntypedFuncCall {
+                    source: CowStr::Owned(copy),
+                    name,
+                    params,
+                }),
+                Err(_) => Err(UntypedFuncCall {
+                    source: CowStr::Borrowed(text),
+                    name,
+                    params,
+                }),
+            },
+        }
+    }
+
+    /// The text that the call was parsed from.
+    pub fn source(&self) -> &str
+        ensures { result.now ≡ self.now.source }
+    {
+        self.source.as_str()
+    }
+
+    /// The node of the parameters, a tuple; None where nothing stands between the parentheses.
+    pub fn params_node(&self) -> Option<&Node>
+        ensures { option_map (λ n. n.now) result ≡ self.now.params }
+    {
+        self.params.as_ref()
+    }
+
+    /// The values of the parameters at the types, as by `Node::to_wasm_params`. Where nothing
+    /// stands between the parentheses each type has to be an option and reads as `none`, else the
+    /// refusal is `InvalidParams` at the name.
+    pub fn to_wasm_params<V: WasmValue>(
+        &self,
+        alloc: Global,
+        types: &[V::Type],
+    ) -> Result<Vec<V>, ParserError>
+        ensures values { AllOf IsServed (map V.Type.tree types.now) → AllOf HasDistinctNames (map V.Type.tree types.now) → IfOk result (λ vs. GivesParamsAt V.tree V.is_of (map V.Type.tree types.now) self.now.source self.now.params vs.items) }
+        ensures refused { AllOf IsServed (map V.Type.tree types.now) → AllOf HasDistinctNames (map V.Type.tree types.now) → IfErr result (RefusesParamsAt V.is_full (map V.Type.tree types.now) self.now.source self.now.name self.now.params) }
+    {
+        match &self.params {
+            Some(params) => params.to_wasm_params(alloc, types, self.source.as_str()),
+            None => omitted_params(alloc, types, self.name.start..self.name.end),
+        }
+    }
+
+    /// The name of the function.
+    pub fn name(&self) -> &str
+        ensures { result.now ≡ slice self.now.source self.now.name }
+    {
+        &self.source.as_str()[self.name.start..self.name.end]
+    }
+}
+
+impl fmt::Display for UntypedFuncCall<'_> {
+    ghost use Rattle.std.specs.Prelude.{Some};
+    ghost use Rattle.wave_tree.specs.Called.{call_shown};
+
+    ghost output = { λ u. Some (call_shown u) };
+
+    fn fmt<W: fmt::Write>(&self, f: &mut fmt::Formatter<W>) -> fmt::Result {
+        let source = self.source.as_str();
+        f.write_str(&source[self.name.start..self.name.end])?;
+        match &self.params {
+            Some(params) => write_node(f, params, source),
+            None => f.write_str("()"),
+        }
+    }
+}
