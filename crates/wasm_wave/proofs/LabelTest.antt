@@ -1,9 +1,9 @@
 -- The test of names says what labels and distinct names are.
-use Rattle.std.proofs.Common.{◌≡◌, ◌≢◌, ℕ, ◌+◌, ◌<◌, ◌≤◌, Bool, true, false, List, [], ◌∷◌, map, length, get_or, drop, Option, Some, None, refl, sym, ap, subst, ◌∙◌, arith, inl, inr, ◌↔◌, IsTrue, String, string_bytes}
+use Rattle.std.proofs.Common.{◌≡◌, ℕ, ◌+◌, ◌<◌, ◌≤◌, Bool, true, false, List, [], ◌∷◌, map, length, get_or, drop, Option, Some, None, refl, sym, ap, ◌∙◌, arith, ◌↔◌, IsTrue, String, string_bytes}
 use Rattle.std.specs.Prelude.{◌&&◌, ◌||◌, not}
 use Rattle.std.proofs.lemmas.Bool.{false≢true, and_parts}
 use Rattle.std.proofs.lemmas.Bool.Decides.{nat_tests}
-use Rattle.std.proofs.lemmas.List.{drop_more, drop_all}
+use Rattle.std.proofs.lemmas.List.{drop_more}
 use Rattle.std.specs.Str.{bytes_eq}
 use Rattle.std.proofs.lemmas.Slice.Eq.{bytes_eq-Decides}
 use Rattle.std.specs.declared.alloc.Global.{Global}
@@ -12,7 +12,7 @@ use Rattle.wave_wasm.specs.Names.{IsNoneOf, AreDistinct, is_one_of}
 use Rattle.wave_wasm.specs.Types as type
 use Rattle.wave_wasm.specs.Types.{TypeTree, MaybeType, Types, Fields, Cases, no_type, a_type, no_types, type_and, no_fields, field, no_cases, case_of, EachNames, EachNamesOfMaybe, EachNamesOfTypes, EachNamesOfFields, EachNamesOfCases, fields_of, cases_of, field_names, case_names}
 use Rattle.wave_lex.specs.Labels.{IsLabel, Good}
-use Rattle.wave_lex.specs.Regex.{Regex, nothing}
+use Rattle.wave_lex.specs.Regex.{nothing}
 use Rattle.wave_lex.specs.Derive.{after, after_all, after_next, may_be_empty}
 use Rattle.wave_lex.specs.Tokens.{label}
 use Rattle.wave_lex.proofs.Derive.{matches_from, matches_into}

@@ -1,22 +1,19 @@
 -- Equality of contents at one type is equality of the values.
-use Rattle.std.proofs.Common.{◌≡◌, ◌≢◌, ℕ, zero, suc, ◌<◌, ◌+◌, Bool, true, false, refl, sym, ap, subst, ◌∙◌, List, [], ◌∷◌, map, length, get_or, Option, Some, None, arith}
-use Rattle.std.specs.Prelude.{◌&&◌, ◌==◌}
+use Rattle.std.proofs.Common.{◌≡◌, ℕ, zero, suc, Bool, true, false, refl, sym, ap, subst, ◌∙◌, List, [], ◌∷◌, map, length, Option, Some, None}
+use Rattle.std.specs.Prelude.{◌&&◌}
 use Rattle.std.specs.Cmp.{both_ways}
 use Rattle.std.specs.Cmp.Lexicographic.{pointwise}
 use Rattle.std.specs.Str.{bytes_eq}
-use Rattle.std.proofs.lemmas.Bool.{false≢true, and_parts}
 use Rattle.std.proofs.lemmas.Slice.Eq.{bytes_eq-Decides}
-use base.Stored.{Gv, gnil, gnum, gcons}
 use Rattle.wave_wasm.specs.Types as type
 use Rattle.wave_wasm.specs.Types.{TypeTree, Simple, type_list, field_list, case_list, enum_names, flags_names}
 use Rattle.wave_wasm.specs.TypeTreeCode.{stored_name, stored_names}
 use Rattle.wave_wasm.specs.Values as value
 use Rattle.wave_wasm.specs.Values.{Leaf, Value, values, field_values, entries, maybe_value}
-use Rattle.wave_wasm.specs.Merge.{leaf_eq}
 use Rattle.wasm_wave.specs.SameType.{same_tree}
 use Rattle.wasm_wave.specs.SameTypeLaws.{same_itself}
 use Rattle.wasm_wave.specs.TypedValue.{TypedValue, IsAt}
-use Rattle.wasm_wave.specs.ValueCode.{stored_leaf, stored_value, stored_values, stored_fields, stored_maybe, stored_entries, value_apart, name_apart}
+use Rattle.wasm_wave.specs.ValueCode.{stored_leaf, stored_values, stored_fields, stored_maybe, stored_entries, name_apart}
 use Rattle.wasm_wave.specs.SameValue.{same_stored, same_value, same_typed, one_stored, stored_itself}
 use Rattle.wasm_wave.specs.SameContent.{same_all, same_pairs, same_option, same_content}
 use Rattle.wasm_wave.specs.declared.value.Content.{Content}

@@ -1,13 +1,12 @@
 -- Equality of contents is equality of values.
-use Rattle.std.proofs.Common.{◌≡◌, ℕ, Bool, true, false, refl, sym, ap, subst, ◌∙◌, List, []}
-use Rattle.std.specs.Prelude.{◌&&◌}
+use Rattle.std.proofs.Common.{◌≡◌, true, ap, subst}
 use Rattle.std.specs.Cmp.{both_ways}
 use Rattle.wave_wasm.specs.Values as value
 use Rattle.wave_wasm.specs.Values.{Leaf, Value}
 use Rattle.wave_wasm.specs.Merge.{leaf_eq}
 use Rattle.wave_wasm.proofs.Merging.{leaf_eq-true, leaf_eq-self}
 use Rattle.wasm_wave.specs.ValueCode.{stored_value, value_apart}
-use Rattle.wasm_wave.specs.SameValue.{same_stored, same_value, one_stored, stored_itself}
+use Rattle.wasm_wave.specs.SameValue.{same_value, one_stored, stored_itself}
 
 abbrev leaf_in : Value → Leaf
 leaf_in (value.leaf one) = one

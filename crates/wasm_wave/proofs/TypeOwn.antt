@@ -1,11 +1,11 @@
 -- Types made of parts that are trees of `Type`.
-use Rattle.std.proofs.Common.{◌≡◌, ℕ, zero, suc, ◌+◌, ◌<◌, ◌≤◌, Bool, true, false, ◌&&◌, ◌==◌, List, [], ◌∷◌, ◌++◌, map, length, take, get_or, String, Option, Some, None, refl, sym, ap, subst, ◌∙◌, arith, Bor, add-one}
+use Rattle.std.proofs.Common.{◌≡◌, ℕ, zero, suc, ◌+◌, ◌<◌, ◌≤◌, Bool, true, false, ◌&&◌, ◌==◌, List, [], ◌∷◌, ◌++◌, map, length, take, get_or, String, Option, refl, sym, ap, subst, ◌∙◌, arith, Bor, add-one}
 use Rattle.std.proofs.lemmas.List.{take_all}
 use Rattle.std.proofs.lemmas.Bool.{false≢true}
 use Rattle.std.specs.declared.alloc.Global.{Global}
 use Rattle.wave_wasm.specs.Lists.{AllOf}
 use Rattle.wave_wasm.specs.Shown.{named}
-use Rattle.wave_wasm.specs.Types.{TypeTree, types_of, fields_of, cases_of, maybe_type, IsOwn, every, every_type, every_field, every_case, every_maybe, can_be_made, record_type, tuple, variant}
+use Rattle.wave_wasm.specs.Types.{TypeTree, types_of, fields_of, cases_of, maybe_type, IsOwn, every_type, every_field, every_case, every_maybe, can_be_made, record_type, tuple, variant}
 use Rattle.wasm_wave.specs.TypeView.{by_bytes}
 
 -- the payload's type, where there is one, is a tree of `Type`

@@ -1,12 +1,11 @@
 -- How deep values nest that stand in a list or in a content.
-use Rattle.std.proofs.Common.{ℕ, zero, suc, ◌≤◌, ◌<◌, ◌+◌, ◌≡◌, max, List, [], ◌∷◌, length, get_or, map, ap, arith, Option, Some, None}
+use Rattle.std.proofs.Common.{ℕ, zero, suc, ◌≤◌, ◌<◌, ◌≡◌, max, List, [], ◌∷◌, length, get_or, ap, arith, Option}
 use Rattle.wave_wasm.specs.Types as type
 use Rattle.wave_wasm.specs.Types.{TypeTree, Simple}
-use Rattle.wave_wasm.specs.Values as value
-use Rattle.wave_wasm.specs.Values.{Value, depth, depth_of_values, depth_of_fields, depth_of_entries, depth_of_maybe, values, field_values, entries, maybe_value}
+use Rattle.wave_wasm.specs.Values.{depth, depth_of_values, depth_of_fields, depth_of_entries, depth_of_maybe, values, field_values, entries, maybe_value}
 use Rattle.wasm_wave.specs.declared.value.Content.{Content}
 use Rattle.wasm_wave.specs.declared.value.Content.TheVariants as contents
-use Rattle.wasm_wave.specs.TypedValue.{TypedValue, IsAt}
+use Rattle.wasm_wave.specs.TypedValue.{TypedValue}
 use Rattle.wasm_wave.specs.ValueView.{trees, first_names, beside, boxed, payload_tree, entry_trees, content_tree, Fits, EntriesAt, MapFits}
 use Rattle.wasm_wave.specs.ValueFalls.{key_flat}
 

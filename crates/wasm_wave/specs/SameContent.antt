@@ -1,5 +1,5 @@
 -- Whether two contents are one at their type, as the code compares them. Only private contracts cite it.
-use Rattle.std.specs.Prelude.{ℕ, Bool, true, false, ◌&&◌, List, [], ◌∷◌, map, Option, Some, None}
+use Rattle.std.specs.Prelude.{Bool, true, false, ◌&&◌, List, [], ◌∷◌, map, Option, Some, None}
 use Rattle.std.specs.Str.{bytes_eq}
 use Rattle.std.specs.Cmp.Lexicographic.{pointwise}
 use Rattle.wave_wasm.specs.Types.{TypeTree, variant_parts, enum_names, flags_names}

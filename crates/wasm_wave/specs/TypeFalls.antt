@@ -4,7 +4,6 @@ use Rattle.std.proofs.Common.{arith, ◌+◌}
 use Rattle.wasm_wave.specs.declared.value.ty.Shape.{Shape}
 use Rattle.wasm_wave.specs.declared.value.ty.Shape.TheVariants as shapes
 use Rattle.wasm_wave.specs.declared.value.ty.Type.TheDeep.{deep-Shape}
-use Rattle.wave_wasm.specs.Types as type
 use Rattle.wave_wasm.specs.Types.{TypeTree, simple, depth, depth_of_types, depth_of_fields, depth_of_cases, types_of, fields_of, cases_of}
 use Rattle.std.specs.declared.alloc.Global.{Global}
 use Rattle.std.specs.declared.rc.Rc.{Rc}

@@ -1,5 +1,5 @@
 -- A value as something that can be stored, by which two values are told apart.
-use Rattle.std.specs.Prelude.{◌≡◌, ℕ, ℤ, pos, negsuc, Bool, true, false, ◌==◌, List, [], ◌∷◌, refl, slice_index_or}
+use Rattle.std.specs.Prelude.{◌≡◌, ℕ, pos, negsuc, Bool, true, false, ◌==◌, List, [], ◌∷◌, refl, slice_index_or}
 use Rattle.std.proofs.Common.{sym, ap, ◌∙◌}
 use Rattle.std.specs.Coded.{Coded, code_by, coded×}
 use base.Stored.{Gv, gnil, gnum, gcons, num}

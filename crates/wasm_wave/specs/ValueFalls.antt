@@ -1,14 +1,12 @@
 -- Each part of a value nests less deep.
-use Rattle.std.specs.Prelude.{ℕ, suc, ◌≤◌, ◌≡◌, max, List, [], ◌∷◌, map, Option, Some, None}
+use Rattle.std.specs.Prelude.{ℕ, suc, ◌≤◌, max, List, [], ◌∷◌, Option, Some, None}
 use Rattle.std.proofs.Common.{arith, ◌+◌, ap}
 use Rattle.std.specs.declared.alloc.Global.{Global}
 use Rattle.std.specs.declared.boxed.Box.{Box}
 use denote.Param.Weighed.{most}
 use Rattle.wave_wasm.specs.Types as type
 use Rattle.wave_wasm.specs.Types.{TypeTree, Simple}
-use Rattle.wave_wasm.specs.Values as value
-use Rattle.wave_wasm.specs.Values.{Value, depth, depth_of_values, depth_of_fields, depth_of_entries, values, field_values, entries}
-use Rattle.wave_wasm.specs.HasType.{HasType}
+use Rattle.wave_wasm.specs.Values.{depth, depth_of_values, depth_of_fields, depth_of_entries, values, field_values, entries}
 use Rattle.wasm_wave.specs.declared.value.Content.{Content}
 use Rattle.wasm_wave.specs.declared.value.Content.TheVariants as contents
 use Rattle.wasm_wave.specs.declared.value.Value.TheDeep.{deep-Content}

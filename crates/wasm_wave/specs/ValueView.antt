@@ -1,5 +1,5 @@
 -- What a value's content means at its type, and what holds of it.
-use Rattle.std.specs.Prelude.{ℕ, ℤ, zero, suc, ◌+◌, ◌≤◌, ◌<◌, pos, ◌≡◌, ◌≢◌, List, [], ◌∷◌, map, length, get_or, Option, Some, None, option_map, string_bytes}
+use Rattle.std.specs.Prelude.{ℕ, zero, suc, ◌+◌, ◌≤◌, ◌<◌, pos, ◌≡◌, ◌≢◌, List, [], ◌∷◌, map, length, get_or, Option, Some, None, option_map, string_bytes}
 use Rattle.std.specs.declared.alloc.Global.{Global}
 use Rattle.std.specs.declared.boxed.Box.{Box}
 use Rattle.wave_wasm.specs.Types as type

@@ -1,8 +1,8 @@
 -- How often a parser asks its lexer.
-use Rattle.std.proofs.Common.{ℕ, ◌≡◌, ◌<◌, ◌≤◌, ◌+◌, ◌-◌, max, List, [], ◌∷◌, ◌++◌, length, length-append, Some, Ok, refl, sym, ap, ◌∙◌, subst, arith}
+use Rattle.std.proofs.Common.{ℕ, ◌≡◌, ◌+◌, ◌-◌, List, [], ◌∷◌, ◌++◌, length, length-append, Some, Ok, refl, sym, arith}
 use Rattle.wave_lex.specs.declared.lex.Token as lex
 use Rattle.wave_tree.specs.Token.{Token}
-use Rattle.wave_tree.specs.Place.{Place, Takes, TakesTokens, token_of, text_at}
+use Rattle.wave_tree.specs.Place.{Takes, TakesTokens, token_of, text_at}
 use Rattle.wave_tree.specs.Due.{Due, Form}
 use Rattle.wave_tree.specs.Refusals.{IsRead}
 use Rattle.wave_tree.specs.Parsing.{Parsing, asked, HasTokens, Asks}

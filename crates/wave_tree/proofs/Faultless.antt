@@ -37,6 +37,11 @@ use Rattle.wave_tree.specs.TreeReads.{TreeReadsAll}
 use Rattle.wave_tree.specs.Placed.{tuple}
 use Rattle.wave_tree.specs.Faults.{FaultOfItem}
 use Rattle.wave_tree.proofs.Tuples.{as_types, tuple_items, first_item}
+use Rattle.wave_wasm.specs.Types.{Fields, EachNamesOfFields}
+use Rattle.wave_tree.specs.Placed.{PlacedEntry}
+use Rattle.wave_tree.specs.Faults.{FaultOfField}
+use Rattle.wave_tree.specs.Typed.{AreServedFields}
+use Rattle.wave_tree.proofs.RecordNone.{HasBadField, some_bad, record_none}
 
 first_tree : (t u : Tree) (ts us : Trees) → tree.tree_and t ts ≡ tree.tree_and u us → t ≡ u
 first_tree t u ts us e = cc
@@ -90,6 +95,7 @@ mutual
   no_value (type.fixed E n) t k q served names fault = λ v read. read
   no_value (type.list E) (at p (list ts)) k q served names fault = λ v read. list_none E ts k q read.0 read.1 (λ u h. no_value E u k q served names h) fault (inner_trees (trees_of ts) (trees read.0) read.2) read.3
   no_value (type.list E) (at p _) k q served names fault = λ v read. absurd (cc)
+  no_value (type.record_type fs) t k q served names fault = λ v read. record_none fs t k q v names.0 (λ es h. no_field fs es k q served names.1 h) fault read
   no_value (type.tuple Ts) (at p (tuple ts)) k q served names (inl h) = λ v read. h.0 (as_types Ts ts read.0 read.1 (tuple_items ts read.0 read.2) read.4)
   no_value (type.tuple Ts) (at p (tuple ts)) k q served names (inr h) = λ v read. no_item Ts ts k q read.0 read.1 served names h (tuple_items ts read.0 read.2) read.4
   no_value (type.tuple Ts) (at p _) k q served names fault = λ v read. absurd (cc)
@@ -104,7 +110,6 @@ mutual
   no_value (type.flags labels) t k q served names fault = λ v read. flags_none labels t k q v fault read
   no_value (type.enum cases) t k q served names fault = λ v read. enum_none cases t k q v fault read
   no_value (type.map K V) t k q served names fault = λ v read. map_none K V k q (λ p token l f s. leaf_none K p token k q l (key_is_served K served.0) f s) (λ u h. no_value V u k q served.1 names h) t v fault read
-  no_value _ t k q served names fault = absurd served
 
   -- so is the payload of the case of this name
   no_case : (cs : Cases) (name : List ℕ) (payload : MaybePlaced) (p : Range ℕ) (k : Refusal) (q : Range ℕ) → AreServedCases cs → AreDistinct (case_names cs) → EachNamesOfCases AreDistinct cs → FaultOfCase cs name payload p k q → (w : MaybeValue) → TreeReadsCase cs name (maybe_of payload) w → ⊥
@@ -126,6 +131,12 @@ mutual
   no_flat no_type t k q served names fault = λ w read. read
   no_flat (a_type T) t k q served names (inl h) = λ w read. h.0 read.0
   no_flat (a_type T) t k q served names (inr h) = λ w read. no_value T t k q served names h.1 w read.1
+
+  -- so is a field's entry that has a fault
+  no_field : (fs : Fields) (es : List PlacedEntry) (k : Refusal) (q : Range ℕ) → AreServedFields fs → EachNamesOfFields AreDistinct fs → FaultOfField fs es k q → HasBadField fs es
+  no_field type.no_fields es k q served names fault = fault
+  no_field (type.field name E more) es k q served names (inl fault) = inl (some_bad E name es k q (λ u h. no_value E u k q served.0 names.0 h) fault)
+  no_field (type.field name E more) es k q served names (inr fault) = inr (no_field more es k q served.1 names.1 fault)
 
   -- so are the items of a tuple where one has a fault
   no_item : (Ts : Types) (ps : PlacedTrees) (k : Refusal) (q : Range ℕ) (us : List Tree) (vs : List Value) → AreServed Ts → EachNamesOfTypes AreDistinct Ts → FaultOfItem Ts (placed_list ps) k q → trees_of ps ≡ trees us → TreeReadsAll Ts us vs → ⊥

@@ -23,6 +23,7 @@ pub mod BeginExamples
 pub mod Going
 pub mod Askings
 pub mod Spans
+pub mod FaultSpans
 pub mod Answering
 pub mod AtHand
 pub mod Names
@@ -69,6 +70,10 @@ pub mod Maps
 pub mod Items
 pub mod Fields
 pub mod Tuples
+pub mod RecordEntries
+pub mod RecordReads
+pub mod RecordNone
+pub mod LeftOut
 pub mod CanonTidy
 pub mod CanonUtf8
 pub mod CanonTyped

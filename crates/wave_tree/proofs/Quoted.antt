@@ -92,7 +92,7 @@ one_taken (suc n) (token.multiline text ∷ more) t q h = cc (h.0, token_same t 
 one_taken (suc n) (_ ∷ more) t q h = absurd h
 
 -- so it stands where the tree does
-one_holds : (source : List ℕ) (t : Placed) (tok : Token) → IsQuoted tok → shape_of t ≡ one tok → SpellsEach source t → HoldsTokens source (span_of t) (tok ∷ [])
+pub one_holds : (source : List ℕ) (t : Placed) (tok : Token) → IsQuoted tok → shape_of t ≡ one tok → SpellsEach source t → HoldsTokens source (span_of t) (tok ∷ [])
 one_holds source (at p s) tok q e h =
     let (tokens, holds, spelled) = subst (λ (x : Shape). SpellsAt source p (tree_of_shape x)) e h.0 in
     subst (HoldsTokens source p) (one_taken spelled.0 tokens tok q spelled.1) holds

@@ -1,15 +1,14 @@
 -- The spans of refusals lie in the text.
-use Rattle.std.proofs.Common.{ℕ, ◌≡◌, ◌⊎◌, inl, inr, ◌≤◌, ◌+◌, List, [], ◌∷◌, length, drop, length-drop, Option, Some, None, Result, Ok, Err, refl, sym, ap, ◌∙◌, subst, arith}
+use Rattle.std.proofs.Common.{ℕ, ◌≡◌, inl, inr, ◌≤◌, List, [], ◌∷◌, length, drop, length-drop, Some, None, Ok, Err, sym, ap, ◌∙◌, subst, arith}
 use Rattle.std.specs.declared.ops.Range.{Range}
-use Rattle.wave_lex.specs.declared.lex.Token as lex
 use Rattle.wave_lex.specs.declared.error.ParserError.{ParserError}
 use Rattle.wave_lex.specs.declared.error.ParserErrorKind.{ParserErrorKind}
 use Rattle.wave_lex.specs.declared.error.ParserErrorKind.TheVariants as kind
 use Rattle.wave_lex.specs.Lexing.{Lexed, Passes, NextIs, remainder_of, span}
 use Rattle.wave_tree.specs.Token.{Token}
-use Rattle.wave_tree.specs.Place.{Place, Item, Takes, TakesTokens}
+use Rattle.wave_tree.specs.Place.{Place, Item, TakesTokens}
 use Rattle.wave_tree.specs.Due.{Due, Form}
-use Rattle.wave_tree.specs.Refusals.{StandsAt, IsRefused}
+use Rattle.wave_tree.specs.Refusals.{StandsAt}
 use Rattle.wave_tree.specs.AnswerLaws.{LiesInText, IsInSource, RefusalsLieInText}
 
 -- the item behind a gap lies in the source, behind what was read
@@ -32,7 +31,8 @@ next_inside l m None p h = passed l m (length (remainder_of l)) 0 p (omega arith
 next_inside l m (Some (Ok c)) (g, k, p, t) h = passed l m g k p p.skipped.0.fits t.is.0.fits h
 next_inside l m (Some (Err bad)) (g, k, p, u, e) h = passed l m g k p p.skipped.0.fits u.1.0.fits h
 
-tokens_inside : (p q : Place) (ts : List Token) → TakesTokens p ts q → IsInSource p.lexer → IsInSource q.lexer × (q.lexer.source ≡ p.lexer.source)
+-- where tokens were taken the lexer stands in the source
+pub tokens_inside : (p q : Place) (ts : List Token) → TakesTokens p ts q → IsInSource p.lexer → IsInSource q.lexer × (q.lexer.source ≡ p.lexer.source)
 tokens_inside p q [] e h = (subst (λ (z : Place). IsInSource z.lexer) e h, ap (λ (z : Place). z.lexer.source) (sym e))
 tokens_inside p q (t ∷ ts) (m, (c, k, e), more) h =
     let b = next_inside p.lexer m.lexer (Some (Ok c)) k.0 h in

@@ -36,6 +36,7 @@ pub record IsUnread (k : WasmTypeKind) : Type 0 where
   pub string : k ≢ kind.String
   pub list : k ≢ kind.List
   pub tuple : k ≢ kind.Tuple
+  pub record_kind : k ≢ kind.Record
   pub option : k ≢ kind.Option
   pub result : k ≢ kind.Result
   pub variant : k ≢ kind.Variant
@@ -59,6 +60,7 @@ unread_fault (type.simple type.string) t k r q served e unread refused = absurd 
 unread_fault (type.unreadable u) t k r q served e unread refused = subst (λ (w : WasmTypeKind). RefusesFor (unsupported_type (kind_word w)) (span_of t) r q) e refused
 unread_fault (type.fixed E n) t k r q served e unread refused = subst (λ (w : WasmTypeKind). RefusesFor (unsupported_type (kind_word w)) (span_of t) r q) e refused
 unread_fault (type.list E) t k r q served e unread refused = absurd (unread.list e)
+unread_fault (type.record_type fs) t k r q served e unread refused = absurd (unread.record_kind e)
 unread_fault (type.tuple Ts) t k r q served e unread refused = absurd (unread.tuple e)
 unread_fault (type.option P) t k r q served e unread refused = absurd (unread.option e)
 unread_fault (type.result A B) t k r q served e unread refused = absurd (unread.result e)
@@ -66,7 +68,6 @@ unread_fault (type.variant cases) t k r q served e unread refused = absurd (unre
 unread_fault (type.enum names) t k r q served e unread refused = absurd (unread.enum e)
 unread_fault (type.flags names) t k r q served e unread refused = absurd (unread.flags e)
 unread_fault (type.map K V) t k r q served e unread refused = absurd (unread.map e)
-unread_fault _ t k r q served e unread refused = absurd served
 
 -- so a refusal for want of values is a fault
 pub unread_blame : (Full : TypeTree → Type 0) (T : TypeTree) (source : List ℕ) (n : NodeTree) (t : Placed) (k : WasmTypeKind) (e : ParserError) → placed_of source n ≡ Some t → IsServed T → k ≡ kind_of T → IsUnread k → IsCaused (unsupported_type (kind_word k)) n e → IsBlamed Full T t e

@@ -2,6 +2,10 @@
 use Rattle.std.specs.Prelude.{ℕ, ◌≡◌, ◌⊎◌, ◌+◌, ◌≤◌, List, [], length}
 use Rattle.std.specs.declared.ops.Range.{Range}
 use Rattle.wave_lex.specs.Lexing.{Lexed}
+use Rattle.wave_lex.specs.Errors.{Refusal}
+use Rattle.wave_wasm.specs.Types.{TypeTree}
+use Rattle.wave_tree.specs.Placed.{Placed, SpellsEach}
+use Rattle.wave_tree.specs.Faults.{Fault}
 use Rattle.wave_lex.specs.declared.error.ParserError.{ParserError}
 use Rattle.wave_tree.specs.Token.{Token}
 use Rattle.wave_tree.specs.Tree as tree
@@ -43,3 +47,7 @@ IsInSource l = (l.start ≤ l.end) × (l.end ≤ length l.source)
 abbrev pub RefusalsLieInText : Type 0
 RefusalsLieInText =
     (e : ParserError) (p : Place) → IsInSource p.lexer → ((n : ℕ) × (q : Place) × IsRefused e n value [] p q) ⊎ IsTrailing e p → LiesInText p.lexer.source e.span
+
+-- so does the span of a fault of type, of a tree whose parts spell their slices of the source
+abbrev pub FaultsLieInText : Type 0
+FaultsLieInText = (source : List ℕ) (T : TypeTree) (t : Placed) (k : Refusal) (q : Range ℕ) → SpellsEach source t → Fault T t k q → LiesInText source q

@@ -1,9 +1,14 @@
 -- What untyped calls are in a contract, and what reading one from a text answers.
-use Rattle.std.specs.Prelude.{ℕ, ◌+◌, ◌≡◌, ◌≢◌, ◌⊎◌, ◌++◌, List, [], ◌∷◌, Option, Some, None, codes}
+use Rattle.std.specs.Prelude.{ℕ, ◌+◌, ◌≡◌, ◌≢◌, ◌⊎◌, ◌++◌, List, [], ◌∷◌, Option, Some, None, codes, length, map}
+use Rattle.std.specs.Fmt.{decimal}
+use Rattle.wave_wasm.specs.Lists.{AllOf, SomeOf}
+use Rattle.wave_wasm.specs.Types.{TypeTree}
+use Rattle.wave_wasm.specs.Values.{Value}
+use Rattle.wave_wasm.specs.Makers.{AreOf}
 use Rattle.std.specs.declared.ops.Range.{Range}
 use Rattle.wave_lex.specs.declared.lex.Token.TheVariants.{ParenOpen, ParenClose}
 use Rattle.wave_lex.specs.declared.error.ParserError.{ParserError}
-use Rattle.wave_lex.specs.declared.error.ParserErrorKind.TheVariants.{InvalidToken, UnexpectedEnd, OutOfMemory}
+use Rattle.wave_lex.specs.declared.error.ParserErrorKind.TheVariants.{InvalidToken, InvalidParams, UnexpectedEnd, OutOfMemory, WasmValueError}
 use Rattle.wave_lex.specs.Fronts.{IsFront}
 use Rattle.wave_lex.specs.Tokens.{any}
 use Rattle.wave_lex.specs.FunctionName.{IsName, NoName}
@@ -21,6 +26,8 @@ use Rattle.wave_tree.specs.Typed.{IsValueOf}
 use Rattle.wave_tree.specs.Parsed.{TakesClass}
 use Rattle.wave_tree.specs.Parsing.{Fails, IsTrailing}
 use Rattle.wave_tree.specs.ShownNodes.{shown_at}
+use Rattle.wave_tree.specs.Params.{Omitted}
+use Rattle.wave_tree.specs.TreeParams.{IsNoOption, GivesParams, RefusesParams}
 use Rattle.wave_tree.specs.declared.ast.NodeType.TheVariants as kind
 
 -- an untyped call: its source, where its name stands, and the node of its parameters, if there are any
@@ -103,3 +110,30 @@ params_at source (Some n) = shown_at source n
 -- the text that shows a call: its name and its parameters
 abbrev pub call_shown : Called → List ℕ
 call_shown u = slice u.source u.name ++ params_at u.source u.params
+
+-- the detail where no parameters are given to a function of n parameters
+abbrev pub none_given : ℕ → List ℕ
+none_given n = codes "no params provided, but " ++ (decimal n ++ codes " required")
+
+-- want of memory; or a type is no option; or, where makers do not serve all values of the types, the refusal of one, at the name
+abbrev pub RefusesNone : (TypeTree → Type 0) → List TypeTree → Range ℕ → ParserError → Type 0
+RefusesNone Full Ts at e =
+    (e.kind ≡ OutOfMemory)
+    ⊎ SomeOf IsNoOption Ts × Says e InvalidParams at (Some (none_given (length Ts)))
+    ⊎ (e.kind ≡ WasmValueError) × (e.span ≡ at) × (AllOf Full Ts → ⊥)
+
+-- a refusal of the parameters at the types
+abbrev pub RefusesParamsAt : (TypeTree → Type 0) → List TypeTree → List ℕ → Range ℕ → Option NodeTree → ParserError → Type 0
+RefusesParamsAt Full Ts source name None e = RefusesNone Full Ts name e
+RefusesParamsAt Full Ts source name (Some n) e = (t : Placed) → IsNodeOf source n t → RefusesParams Full Ts n t e
+
+module _ {V : Type 0} (tree : V → Value) (of : V → TypeTree → Type 0) where
+  -- all types are options, and the values are `none`
+  pub record AreOmitted (Ts : List TypeTree) (vs : List V) : Type 0 where
+    pub omitted : Omitted Ts (map tree vs)
+    pub are_of : AreOf of Ts vs
+
+  -- the values of the parameters at the types
+  abbrev pub GivesParamsAt : List TypeTree → List ℕ → Option NodeTree → List V → Type 0
+  GivesParamsAt Ts source None vs = AreOmitted Ts vs
+  GivesParamsAt Ts source (Some n) vs = (t : Placed) → IsNodeOf source n t → GivesParams tree of Ts n t vs

@@ -4,6 +4,7 @@ use Rattle.wave_wasm.specs.Lists.{AllOf}
 use Rattle.wave_wasm.specs.Names.{AreDistinct}
 use Rattle.std.specs.declared.ops.Range.{Range}
 use Rattle.wave_wasm.specs.Types as type
+use Rattle.wave_wasm.specs.Types.{Fields}
 use Rattle.wave_wasm.specs.Types.{TypeTree, Simple, MaybeType, Cases, type_option, maybe_type, HasDistinctNames, EachNamesOfMaybe, Types}
 use Rattle.wave_wasm.specs.Values as value
 use Rattle.wave_wasm.specs.Values.{Value, Leaf, maybe_value}
@@ -106,6 +107,7 @@ abbrev mutual
   IsServed (type.unreadable kind) = Unit {0}
   IsServed (type.fixed E n) = Unit {0}
   IsServed (type.list E) = IsServed E
+  IsServed (type.record_type fs) = AreServedFields fs
   IsServed (type.tuple Ts) = AreServed Ts
   IsServed (type.option P) = IsServed P
   IsServed (type.result A B) = IsServedPayload A × IsServedPayload B
@@ -113,12 +115,16 @@ abbrev mutual
   IsServed (type.enum names) = Unit {0}
   IsServed (type.flags names) = Unit {0}
   IsServed (type.map K V) = IsKeyServed (type.simple K) × IsServed V
-  IsServed _ = ⊥
 
   -- each type of a tuple is read
   pub AreServed : Types → Type 0
   AreServed type.no_types = Unit {0}
   AreServed (type.type_and T more) = IsServed T × AreServed more
+
+  -- so is each field's type
+  pub AreServedFields : Fields → Type 0
+  AreServedFields type.no_fields = Unit {0}
+  AreServedFields (type.field name T more) = IsServed T × AreServedFields more
 
   -- so is the payload of each case
   pub AreServedCases : Cases → Type 0

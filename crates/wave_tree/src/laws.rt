@@ -3,7 +3,7 @@ ghost use Rattle.wave_wasm.specs.Types.{TypeTree, HasDistinctNames};
 ghost use Rattle.wave_tree.specs.Laws.{OneReading};
 ghost use Rattle.wave_tree.specs.TreeLaws.{OneTree, HasItsLevels, ReadsByTree, TreeIsRead};
 ghost use Rattle.wave_tree.specs.ShownLaws.{ShownKeepsMeaning, ShownCallKeepsMeaning};
-ghost use Rattle.wave_tree.specs.AnswerLaws.{ReadHaveATree, RefusedHaveNone, AskingsAreFew, RefusalsLieInText};
+ghost use Rattle.wave_tree.specs.AnswerLaws.{ReadHaveATree, RefusedHaveNone, AskingsAreFew, RefusalsLieInText, FaultsLieInText};
 ghost use Rattle.wave_tree.specs.BeginLaws.{TreesAreLed, LedTokensHaveATree, FrontsAreLed, LedTokensBeginATree};
 ghost use Rattle.wave_tree.specs.BeginLaws.{RefusedTokensBeginNone, UnexpectedTokensBeginNone};
 ghost use Rattle.wave_tree.specs.BeginLaws.{EmptyTuplesAreEmpty, RepeatedFlagsAreRepeated, DeepValuesAreDeep};
@@ -95,7 +95,9 @@ pub fn askings_are_few()
     ensures { AskingsAreFew }
 {}
 
-/// The span of a syntax refusal lies in the text, and so does that of what follows a value.
+/// The span of a syntax refusal lies in the text, and so does that of what follows a value and that of a
+/// fault of type.
 pub fn refusals_lie_in_the_text()
-    ensures { RefusalsLieInText }
+    ensures syntax { RefusalsLieInText }
+    ensures faults { FaultsLieInText }
 {}

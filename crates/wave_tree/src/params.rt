@@ -1,5 +1,5 @@
 //! Reading the parameters of a call.
-ghost use Rattle.std.specs.Prelude.{◌≡◌, ◌↔◌, ◌++◌, List, [], ◌∷◌, map, Some, IsTrue, OnOk, IfOk, IfErr, MatchBool, codes};
+ghost use Rattle.std.specs.Prelude.{◌≡◌, ◌⊎◌, ◌↔◌, ◌++◌, List, [], ◌∷◌, map, Some, IsTrue, OnOk, IfOk, IfErr, MatchBool, codes};
 ghost use Rattle.wave_wasm.specs.Lists.{AllOf, SomeOf};
 ghost use Rattle.wave_wasm.specs.Types.{HasDistinctNames};
 ghost use Rattle.wave_wasm.specs.Makers.{AreOf};
@@ -11,6 +11,7 @@ ghost use Rattle.wave_tree.specs.Refusals.{Says};
 ghost use Rattle.wave_tree.specs.Nodes.{IsNodeOf};
 ghost use Rattle.wave_tree.specs.Placed.{Placed};
 ghost use Rattle.wave_tree.specs.Typed.{IsValueOf, IsServed};
+ghost use Rattle.wave_tree.specs.Called.{AreOmitted, RefusesNone, none_given};
 ghost use Rattle.wave_tree.specs.TreeParams.{GivesParams, RefusesParams, RefusesOmitted, IsNoOption, close_of};
 
 use crate::ast::Node;
@@ -118,6 +119,34 @@ pub(crate) fn push_omitted<V: WasmValue>(
         keep_at(vals, val, at.start..at.end)?;
     }
     Ok(())
+}
+
+/// `none` for each of the types, which have to be options, where a call of the name at `at` has
+/// nothing between its parentheses.
+pub(crate) fn omitted_params<V: WasmValue>(
+    alloc: Global,
+    types: &[V::Type],
+    at: Span,
+) -> Result<Vec<V>, ParserError>
+    ensures values { AllOf HasDistinctNames (map V.Type.tree types.now) → IfOk result (λ vs. AreOmitted V.tree V.is_of (map V.Type.tree types.now) vs.items) }
+    ensures refused { IfErr result (RefusesNone V.is_full (map V.Type.tree types.now) at) }
+{
+    if !are_options(types) {
+        return Err(none_given(alloc, types.len(), at));
+    }
+    let mut vals = Vec::new(alloc);
+    push_omitted(alloc, types, at, &mut vals)?;
+    Ok(vals)
+}
+
+/// The refusal of a call without parameters to a function of so many.
+fn none_given(alloc: Global, count: usize, at: Span) -> ParserError
+    ensures { (result.kind ≡ OutOfMemory) ⊎ Says result InvalidParams at (Some (none_given count)) }
+{
+    match format!(in alloc; "no params provided, but {count} required") {
+        Ok(detail) => ParserError::with_detail(ParserErrorKind::InvalidParams, at, detail),
+        Err(_) => ParserError::new(ParserErrorKind::OutOfMemory, at),
+    }
 }
 
 /// One more value, or a refusal for want of memory at `at`.

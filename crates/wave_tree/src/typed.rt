@@ -5,12 +5,15 @@ ghost use Rattle.wave_wasm.specs.Types as type;
 ghost use Rattle.wave_wasm.specs.Values as value;
 ghost use Rattle.wave_wasm.specs.Shown.{texts, shown, shown_cases};
 ghost use Rattle.wave_wasm.specs.TypeText.{kind_word};
-ghost use Rattle.wave_wasm.specs.Causes.{unsupported_type, unknown_case, missing_payload, unexpected_payload, wrong_number};
+ghost use Rattle.wave_wasm.specs.Causes.{unsupported_type, unknown_case, missing_field, missing_payload, unexpected_payload, wrong_number};
 ghost use Rattle.wave_lex.specs.declared.error.ParserErrorKind.TheVariants.{OutOfMemory};
 ghost use Rattle.wave_tree.specs.Answers.{Among, shown_node};
 ghost use Rattle.wave_tree.specs.CowText.{cow_text};
 ghost use Rattle.wave_tree.specs.Typed.{IsLeafMade, IsValueOf, IsKeyOf, IsKeyServed, AnswersKey, IsCaused, IsMade, IsServed, IsServedPayload, IsPayloadOf, GivesFlat, Answers, AnswersPayload, Reads};
 ghost use Rattle.wave_lex.specs.Errors.{refusal_of};
+ghost use Rattle.std.specs.Prelude.{MatchResult};
+ghost use Rattle.wave_wasm.specs.Types.{HasDistinctNames};
+ghost use Rattle.wave_tree.specs.Records.{IsFieldNode, AnswersField, IsLeftOut, IsMissing};
 ghost use Rattle.wave_tree.specs.NodeTree.{place_of};
 ghost use Rattle.wave_tree.specs.Reads.{look_up};
 ghost use Rattle.wave_tree.specs.Faults.{RefusesFor};
@@ -60,6 +63,7 @@ impl Node {
             WasmTypeKind::Char => self.read_char(alloc, ty, src),
             WasmTypeKind::String => self.read_string(alloc, ty, src),
             WasmTypeKind::List => self.read_list(alloc, ty, src),
+            WasmTypeKind::Record => self.read_record(alloc, ty, src),
             WasmTypeKind::Tuple => self.read_tuple(alloc, ty, src),
             WasmTypeKind::Variant => self.read_variant(alloc, ty, src),
             WasmTypeKind::Enum => self.read_enum(alloc, ty, src),
@@ -91,6 +95,73 @@ impl Node {
             self.keep(&mut items, item)?;
         }
         self.made(V::make_list(alloc, ty, items))
+    }
+
+    /// A record: each field of the type, in the type's order, read from the entry of its name.
+    #[cycle(reading)]
+    fn read_record<V: WasmValue>(
+        &self,
+        alloc: Global,
+        ty: &V::Type,
+        src: &str,
+    ) -> Result<V, ParserError>
+        requires node { IsValueOf src.now self.now }
+        requires kind { kind_of (V.Type.tree ty.now) ≡ WasmTypeKind.Record }
+        ensures { IsServed (V.Type.tree ty.now) → Answers V.tree V.is_of V.is_full (V.Type.tree ty.now) src.now self.now result }
+    {
+        let types = match ty.record_fields(alloc) {
+            Ok(types) => types,
+            Err(_) => return Err(self.out_of_memory()),
+        };
+        let (_, mut nodes) = self.fields(alloc, src)?;
+        let mut fields = Vec::new(alloc);
+        for i in 0..types.len() {
+            let (name, field) = types[i];
+            let node = nodes.remove(name);
+            let val = self.read_field(alloc, name, field, node, src)?;
+            if fields.push((name, val)).is_err() {
+                return Err(self.out_of_memory());
+            }
+        }
+        if !nodes.is_empty() {
+            return Err(self.error(ParserErrorKind::InvalidValue));
+        }
+        self.made(V::make_record(alloc, ty, fields))
+    }
+
+    /// The value of the record's field of this name: that of its node, or `none` where an option is
+    /// left out.
+    #[cycle(reading)]
+    fn read_field<V: WasmValue>(
+        &self,
+        alloc: Global,
+        name: &str,
+        ty: &V::Type,
+        node: Option<&Node>,
+        src: &str,
+    ) -> Result<V, ParserError>
+        requires { IsFieldNode src.now (shown_node node) }
+        ensures { IsServed (V.Type.tree ty.now) → AnswersField V.tree V.is_of V.is_full (V.Type.tree ty.now) src.now name.now self.now (shown_node node.entry) result }
+    {
+        match node {
+            Some(node) => node.read(alloc, ty, src),
+            None => self.left_out(alloc, name, ty),
+        }
+    }
+
+    /// `none`, for a field that is left out, where its type is an option.
+    fn left_out<V: WasmValue>(
+        &self,
+        alloc: Global,
+        name: &str,
+        ty: &V::Type,
+    ) -> Result<V, ParserError>
+        ensures { HasDistinctNames (V.Type.tree ty.now) → MatchResult result (IsLeftOut V.tree V.is_of (V.Type.tree ty.now)) (IsMissing V.is_full (V.Type.tree ty.now) name.now self.now) }
+    {
+        match ty.kind() {
+            WasmTypeKind::Option => self.made(V::make_option(alloc, ty, None)),
+            _ => Err(self.missing_field(alloc, name)),
+        }
     }
 
     /// A tuple: as many items as types, each read at its type.
@@ -421,6 +492,16 @@ impl Node {
         ensures { result.kind ≡ OutOfMemory }
     {
         ParserError::new(ParserErrorKind::OutOfMemory, self.span())
+    }
+
+    /// A refusal because a field of this name is left out.
+    fn missing_field(&self, alloc: Global, name: &str) -> ParserError
+        ensures { IsCaused (missing_field name.now) self.now result }
+    {
+        match String::from_str(alloc, name) {
+            Ok(name) => self.refused(WasmValueError::MissingField(name)),
+            Err(error) => self.refused(WasmValueError::Memory(error)),
+        }
     }
 
     /// A refusal because a tuple of so many types has another number of items.

@@ -1,10 +1,14 @@
 //! Calls that were read without types.
-ghost use Rattle.std.specs.Prelude.{◌≡◌, ℕ, IfOk, IfErr, option_map};
+ghost use Rattle.std.specs.Prelude.{◌≡◌, ℕ, IfOk, IfErr, option_map, map};
 ghost use Rattle.wave_tree.specs.Placed.{slice};
 ghost use Rattle.wave_lex.specs.FunctionName.{IsName};
-ghost use Rattle.wave_tree.specs.Called.{IsInSource, IsCalledOf, NameFault, RefusesCall};
+ghost use Rattle.wave_wasm.specs.Lists.{AllOf};
+ghost use Rattle.wave_wasm.specs.Types.{HasDistinctNames};
+ghost use Rattle.wave_tree.specs.Typed.{IsServed};
+ghost use Rattle.wave_tree.specs.Called.{IsInSource, IsCalledOf, NameFault, RefusesCall, GivesParamsAt, RefusesParamsAt};
 
 use crate::ast::Node;
+use crate::params::omitted_params;
 use crate::parser::{Parser, ParserError, ParserErrorKind};
 use crate::untyped::display::write_node;
 use std::alloc::Global;
@@ -12,6 +16,7 @@ use std::borrow::CowStr;
 use std::fmt;
 use std::marker::Model;
 use wave_lex::lex::{FuncNameLexer, Span};
+use wave_wasm::wasm::WasmValue;
 
 /// The call that the whole text is: a function name at its start, and parameters in parentheses. A
 /// text that begins with no name is `InvalidToken` at its first scalar; what is no parameters is
@@ -137,6 +142,23 @@ impl<'source> UntypedFuncCall<'source> {
         ensures { option_map (λ n. n.now) result ≡ self.now.params }
     {
         self.params.as_ref()
+    }
+
+    /// The values of the parameters at the types, as by `Node::to_wasm_params`. Where nothing
+    /// stands between the parentheses each type has to be an option and reads as `none`, else the
+    /// refusal is `InvalidParams` at the name.
+    pub fn to_wasm_params<V: WasmValue>(
+        &self,
+        alloc: Global,
+        types: &[V::Type],
+    ) -> Result<Vec<V>, ParserError>
+        ensures values { AllOf IsServed (map V.Type.tree types.now) → AllOf HasDistinctNames (map V.Type.tree types.now) → IfOk result (λ vs. GivesParamsAt V.tree V.is_of (map V.Type.tree types.now) self.now.source self.now.params vs.items) }
+        ensures refused { AllOf IsServed (map V.Type.tree types.now) → AllOf HasDistinctNames (map V.Type.tree types.now) → IfErr result (RefusesParamsAt V.is_full (map V.Type.tree types.now) self.now.source self.now.name self.now.params) }
+    {
+        match &self.params {
+            Some(params) => params.to_wasm_params(alloc, types, self.source.as_str()),
+            None => omitted_params(alloc, types, self.name.start..self.name.end),
+        }
     }
 
     /// The name of the function.

@@ -1,5 +1,9 @@
 use Rattle.wave_tree.proofs.Spans.{refusals_lie}
+use Rattle.wave_tree.proofs.FaultSpans.{faults_lie}
 use Rattle.wave_tree.proofs.laws.refusals_lie_in_the_text.Goals as goal
 
-pub returns : goal.returns
-returns c = refusals_lie
+pub returns-clause-syntax : goal.returns-clause-syntax
+returns-clause-syntax c = refusals_lie
+
+pub returns-clause-faults : goal.returns-clause-faults
+returns-clause-faults c = faults_lie

@@ -1,8 +1,9 @@
 use Rattle.std.proofs.Common.{◌≡◌, Ok, Err, sym, subst, ap, ◌∙◌}
 use Rattle.wave_tree.specs.Place.{Place, Takes}
-use Rattle.wave_tree.specs.Parsing.{Parsing, IsTrailing}
+use Rattle.wave_tree.specs.Parsing.{Parsing, IsTrailing, StaysWithout}
 use Rattle.wave_tree.specs.FromText.{start_of, IsValueTaken, RefusesValue, RefusesText}
 use Rattle.wave_tree.proofs.Texts.{value_refused, trailing_refused, value_meant, refusal_handed}
+use Rattle.wave_tree.proofs.FaultSpans.{trailing_lies, value_lies, trails_lie}
 use Rattle.wave_tree.proofs.parser.from_str.Goals as goal
 
 pub returns-in_err-value-clause-refused : goal.returns-in_err-value-clause-refused
@@ -22,3 +23,15 @@ returns-clause-value g c =
     value_meant g.V.WasmValue.tree g.V.WasmValue.is_of (g.V.Type.WasmType.tree c.args.ty.now) c.args.s.now c.parse_value.new.self.place c.in_ok-value.value
     (subst (λ (z : Parsing). IsValueTaken g.V.WasmValue.tree g.V.WasmValue.is_of (g.V.Type.WasmType.tree c.args.ty.now) z.place c.parse_value.new.self.place c.in_ok-value.value) c.new-parser.ensures c.in_ok-value.ensures.value)
     c.in_ok-finish.ensures.answer
+
+pub returns-in_err-value-clause-within : goal.returns-in_err-value-clause-within
+returns-in_err-value-clause-within g c =
+    let e = c.in_err-value.field-0.0 in
+    let refused = value_refused g.V.WasmValue.is_full (g.V.Type.WasmType.tree c.args.ty.now) c.args.s.now c.parse_value.new.self.place e (subst (λ (z : Parsing). RefusesValue g.V.WasmValue.is_full (g.V.Type.WasmType.tree c.args.ty.now) e z.place c.parse_value.new.self.place) c.new-parser.ensures c.in_err-value.ensures.refused) in
+    let wants = subst (λ (z : Parsing). StaysWithout e z.place c.parse_value.new.self.place) c.new-parser.ensures c.in_err-value.ensures.memory in
+    value_lies g.V.WasmValue.is_full (g.V.Type.WasmType.tree c.args.ty.now) c.args.s.now c.from_residual.result e c.from_residual.ensures.1 refused (λ k. (wants k).1)
+
+pub returns-in_err-finish-clause-within : goal.returns-in_err-finish-clause-within
+returns-in_err-finish-clause-within g c =
+    let taken = subst (λ (z : Parsing). IsValueTaken g.V.WasmValue.tree g.V.WasmValue.is_of (g.V.Type.WasmType.tree c.args.ty.now) z.place c.parse_value.new.self.place c.in_ok-value.value) c.new-parser.ensures c.in_ok-value.ensures.value in
+    trails_lie g.V.WasmValue.is_full (g.V.Type.WasmType.tree c.args.ty.now) c.args.s.now c.from_residual-in_err-finish.result c.in_err-finish.field-0.0 c.from_residual-in_err-finish.ensures.1 (trailing_lies c.args.s.now c.parse_value.new.self.place taken.taken.tokens c.in_err-finish.field-0.0 taken.taken.taken c.in_err-finish.ensures.answer)

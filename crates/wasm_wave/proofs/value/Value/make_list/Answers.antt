@@ -1,4 +1,4 @@
-use Rattle.std.proofs.Common.{rules, sym, ap, refl}
+use Rattle.std.proofs.Common.{refl}
 use Rattle.wasm_wave.proofs.Made.{is_at, not_at, list_is, all_more, all_at, list_taken, list_made, list_refused}
 use Rattle.wasm_wave.proofs.value.Value.make_list.Goals as goal
 

@@ -2,7 +2,7 @@ use Rattle.std.proofs.Common.{arith, ap, sym, ◌∙◌}
 use Rattle.wave_wasm.specs.Values.{depth}
 use Rattle.wasm_wave.specs.SameTypeLaws.{one_tree}
 use Rattle.wasm_wave.specs.TypedValue.{TypedValue}
-use Rattle.wasm_wave.proofs.ValueDepths.{values_depth, pairs_depth, content_deep, value_below, pair_below}
+use Rattle.wasm_wave.proofs.ValueDepths.{content_deep, value_below, pair_below}
 use Rattle.wasm_wave.proofs.SameContent.{typed_same, all_lens, pairs_lens}
 use Rattle.wasm_wave.proofs.value.equality.+same_values.Goals as goal
 

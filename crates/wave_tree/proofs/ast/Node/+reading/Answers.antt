@@ -35,6 +35,14 @@ use Rattle.std.proofs.Common.{length, ◌≢◌}
 use Rattle.wave_tree.specs.Answers.{node_pairs}
 use Rattle.wave_tree.specs.NodeTree.{children_of}
 use Rattle.wave_tree.proofs.Maps.{map_is, map_deep, map_fault, none_read, next_read, key_ready, value_ready, key_refused, value_refused, map_answered, map_distinct, key_served, value_served}
+use Rattle.wave_wasm.specs.Shown.{shown_fields}
+use Rattle.std.proofs.Common.{map, take, ap, ◌∙◌}
+use Rattle.wave_tree.specs.Placed.{entry_list}
+use Rattle.wave_tree.specs.Answers.{shown_node}
+use Rattle.wave_tree.specs.Records.{names_of, shown_field}
+use Rattle.wave_tree.proofs.Fields.{take_whole}
+use Rattle.wave_tree.proofs.RecordEntries.{record_nodes}
+use Rattle.wave_tree.proofs.RecordReads.{RecordType, record_is, part_at, as_parts, record_deep, fields_served, fields_distinct, still_held, held_value, none_before, removed_next, given_fields, failed, nodes_blame, unknown_blame, field_blamed, field_read, fields_kept, record_done}
 use Rattle.wave_tree.proofs.ast.Node.+reading.Goals as goal
 
 pub read-returns-in_err-as_number-in-S8 : goal.read-returns-in_err-as_number-in-S8
@@ -107,7 +115,7 @@ read-returns-in_ok-as_number-in-U64 g m c = λ served t is distinct.
 
 pub read-returns-in_default : goal.read-returns-in_default
 read-returns-in_default g m c = λ served t is distinct.
-    unread_blame g.V.WasmValue.is_full (g.V.Type.WasmType.tree c.args.ty.now) c.args.src.now c.args.self.now t c.kind.result c.unsupported.result is.0 served c.kind.ensures (record { bool = c.in_default.not-Bool; s8 = c.in_default.not-S8; s16 = c.in_default.not-S16; s32 = c.in_default.not-S32; s64 = c.in_default.not-S64; u8 = c.in_default.not-U8; u16 = c.in_default.not-U16; u32 = c.in_default.not-U32; u64 = c.in_default.not-U64; char = c.in_default.not-Char; string = c.in_default.not-String; list = c.in_default.not-List; tuple = c.in_default.not-Tuple; option = c.in_default.not-Option; result = c.in_default.not-Result; variant = c.in_default.not-Variant; enum = c.in_default.not-Enum; flags = c.in_default.not-Flags; map = c.in_default.not-Map }) c.unsupported.ensures
+    unread_blame g.V.WasmValue.is_full (g.V.Type.WasmType.tree c.args.ty.now) c.args.src.now c.args.self.now t c.kind.result c.unsupported.result is.0 served c.kind.ensures (record { bool = c.in_default.not-Bool; s8 = c.in_default.not-S8; s16 = c.in_default.not-S16; s32 = c.in_default.not-S32; s64 = c.in_default.not-S64; u8 = c.in_default.not-U8; u16 = c.in_default.not-U16; u32 = c.in_default.not-U32; u64 = c.in_default.not-U64; char = c.in_default.not-Char; string = c.in_default.not-String; list = c.in_default.not-List; tuple = c.in_default.not-Tuple; record_kind = c.in_default.not-Record; option = c.in_default.not-Option; result = c.in_default.not-Result; variant = c.in_default.not-Variant; enum = c.in_default.not-Enum; flags = c.in_default.not-Flags; map = c.in_default.not-Map }) c.unsupported.ensures
 
 pub read_list-returns-in_err-nodes : goal.read_list-returns-in_err-nodes
 read_list-returns-in_err-nodes g m c = λ served t is distinct.
@@ -353,3 +361,54 @@ read_map-entries-preserved g m c =
 pub read_map-returns-in-Ok : goal.read_map-returns-in-Ok
 read_map-returns-in-Ok g m c = λ served t is distinct.
     map_answered g.V.WasmValue.tree g.V.WasmValue.is_of g.V.WasmValue.is_full c.args.src.now (g.V.Type.WasmType.tree c.args.ty.now) (g.V.Type.WasmType.tree c.unwrap.result.0.now) (g.V.Type.WasmType.tree c.unwrap.result.1.now) c.args.self.now t c.in_ok-nodes.nodes c.entries.nodes c.entries.entries.items c.in-Ok.entries.items c.make_map.result c.made.result (map_is g.V.Type.WasmType.tree (g.V.Type.WasmType.tree c.args.ty.now) c.map_key_value_types.result c.unwrap.result c.unwrap.ensures c.map_key_value_types.ensures) is c.in_ok-nodes.ensures c.entries.invariant c.in_default.ensures.steps.0 served distinct g.met.V.WasmValue.of_fits c.in-Ok.ensures c.make_map.ensures.made c.make_map.ensures.full c.made.ensures
+
+pub read_record-returns-in_err-nodes : goal.read_record-returns-in_err-nodes
+read_record-returns-in_err-nodes g m c = λ served t is distinct.
+    let kind : kinds.Record ≡ kind_of (g.V.Type.WasmType.tree c.args.ty.now) = search rules in
+    let is_record : RecordType (g.V.Type.WasmType.tree c.args.ty.now) (shown_fields g.V.Type.WasmType.tree c.in-Ok.types.items) = record_is (g.V.Type.WasmType.tree c.args.ty.now) (shown_fields g.V.Type.WasmType.tree c.in-Ok.types.items) kind c.in-Ok.ensures in
+    handed g.V.WasmValue.tree g.V.WasmValue.is_of g.V.WasmValue.is_full (g.V.Type.WasmType.tree c.args.ty.now) t c.in_err-nodes.field-0.0 c.from_residual.result c.from_residual.ensures.1
+    (nodes_blame g.V.WasmValue.is_full (g.V.Type.WasmType.tree c.args.ty.now) (shown_fields g.V.Type.WasmType.tree c.in-Ok.types.items) c.args.src.now c.args.self.now t c.in_err-nodes.field-0.0 is_record is c.in_err-nodes.ensures.refused)
+
+pub read_record-read_field-requires : goal.read_record-read_field-requires
+read_record-read_field-requires g m c κs within =
+    let value : IsValueOf c.args.src.now c.args.self.now = search rules in
+    let kind : kinds.Record ≡ kind_of (g.V.Type.WasmType.tree c.args.ty.now) = search rules in
+    let is_record : RecordType (g.V.Type.WasmType.tree c.args.ty.now) (shown_fields g.V.Type.WasmType.tree c.in-Ok.types.items) = record_is (g.V.Type.WasmType.tree c.args.ty.now) (shown_fields g.V.Type.WasmType.tree c.in-Ok.types.items) kind c.in-Ok.ensures in
+    let typed : HasAt (shown_fields g.V.Type.WasmType.tree c.in-Ok.types.items) c.loop-i.i (c.index.result.now.0.now, (g.V.Type.WasmType.tree c.index.result.now.1.now)) = part_at g.V.Type.WasmType.tree c.in-Ok.types.items c.loop-i.i c.index.result.now (omega arith) c.index.ensures in
+    (omega (arith, record_deep (g.V.Type.WasmType.tree c.args.ty.now) (shown_fields g.V.Type.WasmType.tree c.in-Ok.types.items) c.loop-i.i c.index.result.now.0.now (g.V.Type.WasmType.tree c.index.result.now.1.now) is_record typed), (within.0, (within.1, held_value c.args.src.now c.args.self.now value.0 (names_of (take c.loop-i.i (shown_fields g.V.Type.WasmType.tree c.in-Ok.types.items))) c.in_ok-nodes.nodes c.loop-i.nodes (map shown_field c.in_ok-nodes.field-0-0.items) c.index.result.now.0.now c.remove-node.result value.1 c.in_ok-nodes.ensures.given c.in_ok-nodes.ensures.held c.loop-i.invariant.removed c.remove-node.ensures.value)))
+
+pub read_record-returns-in_err-val : goal.read_record-returns-in_err-val
+read_record-returns-in_err-val g m c = λ served t is distinct.
+    let kind : kinds.Record ≡ kind_of (g.V.Type.WasmType.tree c.args.ty.now) = search rules in
+    let is_record : RecordType (g.V.Type.WasmType.tree c.args.ty.now) (shown_fields g.V.Type.WasmType.tree c.in-Ok.types.items) = record_is (g.V.Type.WasmType.tree c.args.ty.now) (shown_fields g.V.Type.WasmType.tree c.in-Ok.types.items) kind c.in-Ok.ensures in
+    let typed : HasAt (shown_fields g.V.Type.WasmType.tree c.in-Ok.types.items) c.loop-i.i (c.index.result.now.0.now, (g.V.Type.WasmType.tree c.index.result.now.1.now)) = part_at g.V.Type.WasmType.tree c.in-Ok.types.items c.loop-i.i c.index.result.now (omega arith) c.index.ensures in
+    let apart = fields_distinct (g.V.Type.WasmType.tree c.args.ty.now) (shown_fields g.V.Type.WasmType.tree c.in-Ok.types.items) is_record distinct in
+    let found = still_held (names_of (take c.loop-i.i (shown_fields g.V.Type.WasmType.tree c.in-Ok.types.items))) c.in_ok-nodes.nodes c.loop-i.nodes (map shown_field c.in_ok-nodes.field-0-0.items) c.index.result.now.0.now c.remove-node.result c.in_ok-nodes.ensures.held c.loop-i.invariant.removed (none_before (shown_fields g.V.Type.WasmType.tree c.in-Ok.types.items) c.loop-i.i c.index.result.now.0.now (g.V.Type.WasmType.tree c.index.result.now.1.now) apart.names typed) c.remove-node.ensures.value in
+    handed g.V.WasmValue.tree g.V.WasmValue.is_of g.V.WasmValue.is_full (g.V.Type.WasmType.tree c.args.ty.now) t c.in_err-val.field-0.0 c.from_residual-in_err-val.result c.from_residual-in_err-val.ensures.1
+    (field_blamed g.V.WasmValue.tree g.V.WasmValue.is_of g.V.WasmValue.is_full (g.V.Type.WasmType.tree c.args.ty.now) (g.V.Type.WasmType.tree c.index.result.now.1.now) (shown_fields g.V.Type.WasmType.tree c.in-Ok.types.items) c.args.src.now c.args.self.now t (map shown_field c.in_ok-nodes.field-0-0.items) c.loop-i.i c.index.result.now.0.now (shown_node c.remove-node.result) c.in_err-val.field-0.0 is_record is c.in_ok-nodes.ensures.given typed (all_has (λ p. HasDistinctNames p.1) (shown_fields g.V.Type.WasmType.tree c.in-Ok.types.items) c.loop-i.i (c.index.result.now.0.now, (g.V.Type.WasmType.tree c.index.result.now.1.now)) apart.within typed) g.met.V.WasmValue.full_parts found (c.in_err-val.ensures (all_has (λ p. IsServed p.1) (shown_fields g.V.Type.WasmType.tree c.in-Ok.types.items) c.loop-i.i (c.index.result.now.0.now, (g.V.Type.WasmType.tree c.index.result.now.1.now)) (fields_served (g.V.Type.WasmType.tree c.args.ty.now) (shown_fields g.V.Type.WasmType.tree c.in-Ok.types.items) is_record served) typed)))
+
+pub read_record-loop-i-preserved : goal.read_record-loop-i-preserved
+read_record-loop-i-preserved g m c =
+    let typed : HasAt (shown_fields g.V.Type.WasmType.tree c.in-Ok.types.items) c.loop-i.i (c.index.result.now.0.now, (g.V.Type.WasmType.tree c.index.result.now.1.now)) = part_at g.V.Type.WasmType.tree c.in-Ok.types.items c.loop-i.i c.index.result.now (omega arith) c.index.ensures in
+    let pushed = c.if-is_err.ensures.negation in
+    let kept = rw pushed at c.push.ensures.items in
+    record {
+      removed = removed_next (shown_fields g.V.Type.WasmType.tree c.in-Ok.types.items) c.loop-i.i c.index.result.now.0.now (g.V.Type.WasmType.tree c.index.result.now.1.now) c.in_ok-nodes.nodes c.loop-i.nodes c.remove-node.new.self typed c.loop-i.invariant.removed c.remove-node.ensures.updates;
+      read = λ given held es all served apart.
+          let found = still_held (names_of (take c.loop-i.i (shown_fields g.V.Type.WasmType.tree c.in-Ok.types.items))) c.in_ok-nodes.nodes c.loop-i.nodes given c.index.result.now.0.now c.remove-node.result held c.loop-i.invariant.removed (none_before (shown_fields g.V.Type.WasmType.tree c.in-Ok.types.items) c.loop-i.i c.index.result.now.0.now (g.V.Type.WasmType.tree c.index.result.now.1.now) apart.names typed) c.remove-node.ensures.value in
+          fields_kept g.V.WasmValue.tree g.V.WasmValue.is_of g.V.WasmValue.is_full (shown_fields g.V.Type.WasmType.tree c.in-Ok.types.items) es c.loop-i.fields.items c.push.new.self.items c.loop-i.i c.index.result.now.0.now (g.V.Type.WasmType.tree c.index.result.now.1.now) c.index.result.now.0 c.in_ok-val.val typed (c.loop-i.invariant.read given held es all served apart) refl (field_read g.V.WasmValue.tree g.V.WasmValue.is_of g.V.WasmValue.is_full (g.V.Type.WasmType.tree c.index.result.now.1.now) c.args.src.now c.args.self.now given es c.index.result.now.0.now (shown_node c.remove-node.result) c.in_ok-val.val all (all_has (λ p. HasDistinctNames p.1) (shown_fields g.V.Type.WasmType.tree c.in-Ok.types.items) c.loop-i.i (c.index.result.now.0.now, (g.V.Type.WasmType.tree c.index.result.now.1.now)) apart.within typed) found (c.in_ok-val.ensures (all_has (λ p. IsServed p.1) (shown_fields g.V.Type.WasmType.tree c.in-Ok.types.items) c.loop-i.i (c.index.result.now.0.now, (g.V.Type.WasmType.tree c.index.result.now.1.now)) served typed))) kept;
+    }
+
+pub read_record-returns-then-not-is_empty : goal.read_record-returns-then-not-is_empty
+read_record-returns-then-not-is_empty g m c = λ served t is distinct.
+    let kind : kinds.Record ≡ kind_of (g.V.Type.WasmType.tree c.args.ty.now) = search rules in
+    let is_record : RecordType (g.V.Type.WasmType.tree c.args.ty.now) (shown_fields g.V.Type.WasmType.tree c.in-Ok.types.items) = record_is (g.V.Type.WasmType.tree c.args.ty.now) (shown_fields g.V.Type.WasmType.tree c.in-Ok.types.items) kind c.in-Ok.ensures in
+    let whole : take c.loop-i.i (shown_fields g.V.Type.WasmType.tree c.in-Ok.types.items) ≡ (shown_fields g.V.Type.WasmType.tree c.in-Ok.types.items) = take_whole (shown_fields g.V.Type.WasmType.tree c.in-Ok.types.items) c.loop-i.i (omega (arith, as_parts g.V.Type.WasmType.tree c.in-Ok.types.items)) in
+    unknown_blame g.V.WasmValue.is_full (g.V.Type.WasmType.tree c.args.ty.now) (shown_fields g.V.Type.WasmType.tree c.in-Ok.types.items) c.args.src.now c.args.self.now t (names_of (take c.loop-i.i (shown_fields g.V.Type.WasmType.tree c.in-Ok.types.items))) c.in_ok-nodes.nodes c.loop-i.nodes (map shown_field c.in_ok-nodes.field-0-0.items) c.error.result is_record is c.in_ok-nodes.ensures.given c.in_ok-nodes.ensures.held (ap names_of whole) c.loop-i.invariant.removed (failed c.is_empty.result c.if-not-is_empty.true c.is_empty.ensures.1) c.error.ensures
+
+pub read_record-returns : goal.read_record-returns
+read_record-returns g m c = λ served t is distinct.
+    let kind : kinds.Record ≡ kind_of (g.V.Type.WasmType.tree c.args.ty.now) = search rules in
+    let is_record : RecordType (g.V.Type.WasmType.tree c.args.ty.now) (shown_fields g.V.Type.WasmType.tree c.in-Ok.types.items) = record_is (g.V.Type.WasmType.tree c.args.ty.now) (shown_fields g.V.Type.WasmType.tree c.in-Ok.types.items) kind c.in-Ok.ensures in
+    let read = c.loop-i.invariant.read (map shown_field c.in_ok-nodes.field-0-0.items) c.in_ok-nodes.ensures.held (entry_list (record_nodes c.args.src.now c.args.self.now t is c.in_ok-nodes.ensures.given.is_set).given) (given_fields c.args.src.now c.args.self.now t (map shown_field c.in_ok-nodes.field-0-0.items) is c.in_ok-nodes.ensures.given) (fields_served (g.V.Type.WasmType.tree c.args.ty.now) (shown_fields g.V.Type.WasmType.tree c.in-Ok.types.items) is_record served) (fields_distinct (g.V.Type.WasmType.tree c.args.ty.now) (shown_fields g.V.Type.WasmType.tree c.in-Ok.types.items) is_record distinct) in
+    record_done g.V.WasmValue.tree g.V.WasmValue.is_of g.V.WasmValue.is_full (g.V.Type.WasmType.tree c.args.ty.now) (shown_fields g.V.Type.WasmType.tree c.in-Ok.types.items) c.args.src.now c.args.self.now t (map shown_field c.in_ok-nodes.field-0-0.items) c.loop-i.i c.in_ok-nodes.nodes c.loop-i.nodes c.loop-i.fields.items c.make_record.result c.made.result is_record distinct is c.in_ok-nodes.ensures.given c.in_ok-nodes.ensures.held (omega (arith, as_parts g.V.Type.WasmType.tree c.in-Ok.types.items)) c.loop-i.invariant.removed (c.is_empty.ensures.0 c.if-not-is_empty.false) read c.make_record.ensures.made c.make_record.ensures.full c.made.ensures

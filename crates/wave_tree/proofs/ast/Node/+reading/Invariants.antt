@@ -11,6 +11,12 @@ use Rattle.std.proofs.Common.{length}
 use Rattle.wave_tree.specs.Answers.{node_pairs}
 use Rattle.wave_tree.specs.NodeTree.{children_of}
 use Rattle.wave_tree.proofs.Maps.{SoFar}
+use Rattle.wave_wasm.specs.Shown.{shown_fields}
+use Rattle.wave_tree.specs.NodeTree.{NodeTree}
+use Rattle.wave_tree.specs.Placed.{PlacedEntry}
+use Rattle.wave_tree.specs.Records.{names_of, HoldsFields}
+use Rattle.wave_tree.proofs.RecordEntries.{AreFieldsOf}
+use Rattle.wave_tree.proofs.RecordReads.{Removed, PartsDistinct, FieldsRead}
 use Rattle.wave_tree.proofs.ast.Node.+reading.Given as goal
 
 abbrev pub decreases-read : goal.decreases-read
@@ -21,6 +27,12 @@ decreases-read_list g l = 4 * depth (g.V.Type.WasmType.tree l.ty.now)
 
 abbrev pub decreases-read_tuple : goal.decreases-read_tuple
 decreases-read_tuple g l = 4 * depth (g.V.Type.WasmType.tree l.ty.now)
+
+abbrev pub decreases-read_record : goal.decreases-read_record
+decreases-read_record g l = 4 * depth (g.V.Type.WasmType.tree l.ty.now)
+
+abbrev pub decreases-read_field : goal.decreases-read_field
+decreases-read_field g l = 4 * depth (g.V.Type.WasmType.tree l.ty.now) + 2
 
 abbrev pub decreases-read_option : goal.decreases-read_option
 decreases-read_option g l = 4 * depth (g.V.Type.WasmType.tree l.ty.now)
@@ -51,3 +63,10 @@ invariant-read_list-loop-node g l =
 abbrev pub invariant-read_tuple-loop-i : goal.invariant-read_tuple-loop-i
 invariant-read_tuple-loop-i g l =
     (ts : List Placed) → AreNodesOf l.src l.nodes ts → AllOf IsServed (shown_all g.V.Type.WasmType.tree l.types.items) → AllOf HasDistinctNames (shown_all g.V.Type.WasmType.tree l.types.items) → ReadAt g.V.WasmValue.tree g.V.WasmValue.is_of g.V.WasmValue.is_full (take l.i (shown_all g.V.Type.WasmType.tree l.types.items)) (take l.i ts) l.items.items
+
+abbrev pub invariant-read_record-loop-i : goal.invariant-read_record-loop-i
+invariant-read_record-loop-i g l = record {
+  removed : Removed (names_of (take l.i (shown_fields g.V.Type.WasmType.tree l.types.items))) l.initial.nodes l.nodes;
+  read : (given : List (List ℕ × NodeTree)) → HoldsFields l.initial.nodes given → (es : List PlacedEntry) → AreFieldsOf l.src given es → AllOf (λ p. IsServed p.1) (shown_fields g.V.Type.WasmType.tree l.types.items) → PartsDistinct (shown_fields g.V.Type.WasmType.tree l.types.items)
+      → FieldsRead g.V.WasmValue.tree g.V.WasmValue.is_of g.V.WasmValue.is_full (take l.i (shown_fields g.V.Type.WasmType.tree l.types.items)) es l.fields.items;
+}

@@ -1,7 +1,6 @@
-use Rattle.std.proofs.Common.{◌≡◌, ◌∙◌, sym, ap, map, string_bytes, arith, rules, length}
+use Rattle.std.proofs.Common.{◌∙◌, sym, string_bytes}
 use Rattle.std.specs.Str.{bytes_eq}
-use Rattle.wasm_wave.specs.TypeView.{by_bytes}
-use Rattle.wasm_wave.proofs.TypeLists.{position-map, case_list-cases_of, families}
+use Rattle.wasm_wave.proofs.TypeLists.{position-map}
 use Rattle.wasm_wave.proofs.value.ty.Type.enum_place.Goals as goal
 
 pub returns-in-Enum : goal.returns-in-Enum

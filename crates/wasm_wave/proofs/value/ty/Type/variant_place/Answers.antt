@@ -1,7 +1,7 @@
-use Rattle.std.proofs.Common.{◌≡◌, ◌∙◌, sym, ap, map, string_bytes, arith, rules, length}
+use Rattle.std.proofs.Common.{◌∙◌, sym}
 use Rattle.std.specs.Str.{bytes_eq}
 use Rattle.wasm_wave.specs.TypeView.{by_bytes}
-use Rattle.wasm_wave.proofs.TypeLists.{position-map, case_list-cases_of, families}
+use Rattle.wasm_wave.proofs.TypeLists.{position-map, case_list-cases_of}
 use Rattle.wasm_wave.proofs.value.ty.Type.variant_place.Goals as goal
 
 pub returns-in-Variant : goal.returns-in-Variant

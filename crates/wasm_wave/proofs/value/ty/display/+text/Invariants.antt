@@ -1,4 +1,4 @@
-use Rattle.std.proofs.Common.{◌≡◌, ◌+◌, ◌*◌, max, map, take, string_bytes}
+use Rattle.std.proofs.Common.{◌≡◌, ◌+◌, ◌*◌, max, map, take}
 use Rattle.std.specs.Fmt.{HasWritten, IsPlainFormatter}
 use Rattle.wave_wasm.specs.Types.{depth, depth_of_types, depth_of_fields, depth_of_cases, depth_of_maybe, types_of, fields_of, cases_of, maybe_type}
 use Rattle.wave_wasm.specs.Commas.{joined}

@@ -1,4 +1,4 @@
-use Rattle.std.proofs.Common.{rules, ◌≡◌, string_bytes, ap, refl}
+use Rattle.std.proofs.Common.{rules, string_bytes}
 use Rattle.std.specs.Fmt.{HasWritten}
 use Rattle.std.proofs.lemmas.Grind.{put_three}
 use Rattle.wasm_wave.proofs.Texts.{separator_more, joined_turn}
