@@ -140,86 +140,6 @@ fn texts_read(rt: HostRuntime) -> Result<(), Fail> {
     Ok(())
 }
 
-/// The canonical text of what the text reads as, or the refusal's words.
-fn read(rt: HostRuntime, ty: &Type, text: &str) -> Result<String, Fail> {
-    match from_str(rt.alloc(), ty, text) {
-        Ok(val) => Ok(to_string(rt.alloc(), &val)?),
-        Err(error) => Ok(format!(in rt.alloc(); "{error}")?),
-    }
-}
-
-#[test]
-fn chars_read(rt: HostRuntime) -> Result<(), Fail> {
-    for (text, answer) in [
-        ("'\\u{1F44B}'", "'👋'"),
-        ("'\\u{D800}'", "invalid character escape at 0..10"),
-        ("'ab'", "invalid token at 0..4"),
-        ("\"a\"", "invalid value type at 0..3"),
-    ] {
-        assert_eq!(rt; read(rt, &Type::CHAR, text)?.as_str(), answer, "at {text}");
-    }
-    Ok(())
-}
-
-#[test]
-fn strings_read(rt: HostRuntime) -> Result<(), Fail> {
-    for (text, answer) in [
-        ("\"a\\u{62}\\n\"", "\"ab\\n\""),
-        ("\"\\u{D800}\"", "invalid character escape at 1..2"),
-        ("'a'", "invalid value type at 0..3"),
-        ("\"\"\"\n\"\"\"", "\"\""),
-        (
-            "\"\"\"\n    Indentation determined\n      by ending delimiter\n  \"\"\"",
-            "\"  Indentation determined\\n    by ending delimiter\"",
-        ),
-    ] {
-        assert_eq!(rt;
-            read(rt, &Type::STRING, text)?.as_str(),
-            answer,
-            "at {text}"
-        );
-    }
-    Ok(())
-}
-
-#[test]
-fn multiline_strings_refused(rt: HostRuntime) -> Result<(), Fail> {
-    for (text, answer) in [
-        (
-            "\"\"\"\nabc\"\"\"",
-            "invalid multiline string: closing \"\"\" must be on a line preceded only by spaces at 7..10",
-        ),
-        (
-            "\"\"\"\"\"\"",
-            "invalid multiline string: opening \"\"\" must be followed immediately by newline at 3..4",
-        ),
-    ] {
-        assert_eq!(rt;
-            read(rt, &Type::STRING, text)?.as_str(),
-            answer,
-            "at {text}"
-        );
-    }
-    Ok(())
-}
-
-#[test]
-fn keys_read(rt: HostRuntime) -> Result<(), Fail> {
-    let Some(ty) = Type::map(rt.alloc(), Type::STRING, Type::U32)? else {
-        return Ok(());
-    };
-    for (text, answer) in [
-        (
-            "{\"a\": 1, \"b\": 2, \"\\u{61}\": 3}",
-            "{\"a\": 3, \"b\": 2}",
-        ),
-        ("{\"a\": \"x\", \"a\": 1}", "invalid value type at 6..9"),
-    ] {
-        assert_eq!(rt; read(rt, &ty, text)?.as_str(), answer, "at {text}");
-    }
-    Ok(())
-}
-
 /// The text of what was made, or the refusal's words.
 fn made(rt: HostRuntime, val: Result<Value, WasmValueError>) -> Result<String, Fail> {
     match val {
@@ -374,6 +294,187 @@ fn a_type_without_values(rt: HostRuntime) -> Result<(), Fail> {
                 "error converting Wasm value: unsupported type f64 at 0..1"
             );
         }
+    }
+    Ok(())
+}
+
+/// A writer that fails once, behind this many texts, and goes on.
+#[derive(Drop)]
+struct Once {
+    taken: String,
+    left: usize,
+    failures: u64,
+}
+
+impl TextWrite for Once {
+    ghost use Rattle.std.specs.String.{string_bytes};
+
+    ghost output = { λ s. record { written = string_bytes s.taken; failures = s.failures } };
+
+    fn write_str(&mut self, s: &str) -> Result<(), WriterError> {
+        if self.left == 0 && self.failures == 0 {
+            self.failures = self.failures.saturating_add(1);
+            return Err(WriterError::Io(fmt::Error));
+        }
+        self.left = self.left.saturating_sub(1);
+        self.taken.push_str(s)?;
+        Ok(())
+    }
+}
+
+/// The tuple `(1, "a")`.
+fn pair(rt: HostRuntime) -> Result<Option<Value>, Fail> {
+    let mut types = Vec::new(rt.alloc());
+    types.push(Type::U8)?;
+    types.push(Type::STRING)?;
+    let Some(ty) = Type::tuple(rt.alloc(), types)? else {
+        return Ok(None);
+    };
+    let mut items = Vec::new(rt.alloc());
+    items.push(Value::make_u8(rt.alloc(), 1)?)?;
+    items.push(Value::make_string(rt.alloc(), "a")?)?;
+    Ok(Some(Value::make_tuple(rt.alloc(), &ty, items)?))
+}
+
+/// Whether the answer, what was taken and the count of failures fit each other: all of the text and
+/// no failure, or a beginning of it and one failure.
+fn fits(answer: Result<(), WriterError>, taken: &str, failures: u64) -> bool {
+    let text = "(1, \"a\")";
+    match answer {
+        Ok(_) => taken == text && failures == 0,
+        Err(WriterError::Io(_)) => {
+            text.starts_with(taken) && taken.len() < text.len() && failures == 1
+        }
+        Err(_) => false,
+    }
+}
+
+#[test]
+fn writes_that_fail_for_good(rt: HostRuntime) -> Result<(), Fail> {
+    let Some(val) = pair(rt)? else {
+        return Ok(());
+    };
+    for left in 0..20 {
+        let taken = String::new(rt.alloc());
+        let mut writer = Writer::new(Short {
+            taken,
+            left,
+            failures: 0,
+        });
+        let answer = writer.write_value(rt.alloc(), &val);
+        let failed = answer.is_err();
+        let out = writer.into_inner();
+        assert!(rt; fits(answer, out.taken.as_str(), out.failures), "at {left}");
+        assert!(rt; failed || left > 0);
+        assert!(rt; !failed || left < 19);
+    }
+    Ok(())
+}
+
+#[test]
+fn a_write_that_fails_once(rt: HostRuntime) -> Result<(), Fail> {
+    let Some(val) = pair(rt)? else {
+        return Ok(());
+    };
+    for left in 0..20 {
+        let taken = String::new(rt.alloc());
+        let mut writer = Writer::new(Once {
+            taken,
+            left,
+            failures: 0,
+        });
+        let answer = writer.write_value(rt.alloc(), &val);
+        let out = writer.into_inner();
+        assert!(rt; fits(answer, out.taken.as_str(), out.failures), "at {left}");
+    }
+    Ok(())
+}
+
+#[test]
+fn tuples(rt: HostRuntime) -> Result<(), Fail> {
+    let Some(val) = pair(rt)? else {
+        return Ok(());
+    };
+    assert_eq!(rt; to_string(rt.alloc(), &val)?.as_str(), "(1, \"a\")");
+    let ty = val.ty()?;
+    let mut short = Vec::new(rt.alloc());
+    short.push(Value::make_u8(rt.alloc(), 1)?)?;
+    match Value::make_tuple(rt.alloc(), &ty, short) {
+        Err(WasmValueError::WrongNumberOfTupleValues { want, got }) => {
+            assert_eq!(rt; want, 2);
+            assert_eq!(rt; got, 1);
+        }
+        _ => assert!(rt; false),
+    }
+    Ok(())
+}
+
+/// Whether the payload of this case was found missing.
+fn misses_payload(answer: &Result<Value, WasmValueError>, case: &str) -> bool {
+    match answer {
+        Err(WasmValueError::MissingPayload(name)) => name.as_str() == case,
+        _ => false,
+    }
+}
+
+/// Whether the field of this name was found missing.
+fn misses_field(answer: &Result<Value, WasmValueError>, field: &str) -> bool {
+    match answer {
+        Err(WasmValueError::MissingField(name)) => name.as_str() == field,
+        _ => false,
+    }
+}
+
+#[test]
+fn results(rt: HostRuntime) -> Result<(), Fail> {
+    let ty = Type::result(rt.alloc(), Some(Type::U8), None)?;
+    let one = Value::make_u8(rt.alloc(), 1)?;
+    let val = Value::make_result(rt.alloc(), &ty, Ok(Some(one)))?;
+    assert_eq!(rt; to_string(rt.alloc(), &val)?.as_str(), "ok(1)");
+    let val = Value::make_result(rt.alloc(), &ty, Err(None))?;
+    assert_eq!(rt; to_string(rt.alloc(), &val)?.as_str(), "err");
+    let refused = Value::make_result(rt.alloc(), &ty, Ok(None));
+    assert!(rt; misses_payload(&refused, "ok"));
+    Ok(())
+}
+
+/// The type `record { a: u8, b: option<u8> }`.
+fn fields_type(rt: HostRuntime) -> Result<Option<Type>, Fail> {
+    let mut fields = Vec::new(rt.alloc());
+    fields.push(("a", Type::U8))?;
+    fields.push(("b", Type::option(rt.alloc(), Type::U8)?))?;
+    Ok(Type::record(rt.alloc(), fields)?)
+}
+
+#[test]
+fn records(rt: HostRuntime) -> Result<(), Fail> {
+    let Some(ty) = fields_type(rt)? else {
+        return Ok(());
+    };
+    let some = Type::option(rt.alloc(), Type::U8)?;
+    let three = Value::make_u8(rt.alloc(), 3)?;
+    let mut fields = Vec::new(rt.alloc());
+    fields.push(("a", Value::make_u8(rt.alloc(), 1)?))?;
+    fields.push(("b", Value::make_option(rt.alloc(), &some, Some(three))?))?;
+    fields.push(("a", Value::make_u8(rt.alloc(), 2)?))?;
+    let val = Value::make_record(rt.alloc(), &ty, fields)?;
+    assert_eq!(rt; to_string(rt.alloc(), &val)?.as_str(), "{a: 2, b: some(3)}");
+    let mut fields = Vec::new(rt.alloc());
+    fields.push(("a", Value::make_u8(rt.alloc(), 1)?))?;
+    let refused = Value::make_record(rt.alloc(), &ty, fields);
+    assert!(rt; misses_field(&refused, "b"));
+    Ok(())
+}
+
+#[test]
+fn the_cause_at_a_type_without_values(rt: HostRuntime) -> Result<(), Fail> {
+    let Err(error) = from_str(rt.alloc(), &Type::F64, "1") else {
+        assert!(rt; false);
+        return Ok(());
+    };
+    match error.cause() {
+        Some(WasmValueError::UnsupportedType(word)) => assert_eq!(rt; word.as_str(), "f64"),
+        _ => assert!(rt; false),
     }
     Ok(())
 }
