@@ -1,5 +1,5 @@
 -- What is at hand is what stands next.
-use Rattle.std.proofs.Common.{◌≡◌, ◌↔◌, ℕ, ◌+◌, Option, Some, None, Result, Ok, Err, refl, sym, ap, subst, ◌∙◌, Bool}
+use Rattle.std.proofs.Common.{◌≡◌, ◌↔◌, ◌+◌, Option, Some, None, Result, Ok, Err, refl, sym, subst, Bool}
 use Rattle.std.specs.Prelude.{IsTrue, IfOk, IfErr}
 use Rattle.wave_lex.specs.declared.error.ParserError.{ParserError}
 use Rattle.wave_lex.specs.declared.error.ParserErrorKind.TheVariants as kind
@@ -7,7 +7,7 @@ use Rattle.wave_lex.specs.declared.lex.Token.{Token}
 use Rattle.wave_lex.specs.Lexing.{Lexed, NextIs, span}
 use Rattle.wave_lex.proofs.Next.{next_one}
 use Rattle.wave_tree.specs.declared.ahead.Ahead.{Ahead}
-use Rattle.wave_tree.specs.Place.{Place, Takes, TakesAny, IsSomething, span_at}
+use Rattle.wave_tree.specs.Place.{Place, Takes, IsSomething}
 use Rattle.wave_tree.specs.Refusals.{Says}
 use Rattle.wave_tree.specs.Parsing.{IsAhead, Finishes}
 

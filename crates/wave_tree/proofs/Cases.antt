@@ -1,13 +1,13 @@
 -- The label and the payload of a case.
-use Rattle.std.proofs.Common.{ℕ, ◌≡◌, ◌⊎◌, ◌<◌, inl, inr, List, [], ◌∷◌, length, get_or, Option, Some, None, option_map, refl, sym, ap, ◌∙◌, subst, arith}
+use Rattle.std.proofs.Common.{ℕ, ◌≡◌, ◌<◌, inl, inr, List, [], ◌∷◌, length, get_or, Option, Some, None, option_map, refl, sym, ap, ◌∙◌, subst, arith}
 use Rattle.std.specs.declared.ops.Range.{Range}
 use Rattle.wave_tree.specs.Token.{Token}
 use Rattle.wave_tree.specs.Token as token
-use Rattle.wave_tree.specs.Placed.{Placed, Shape, at, label, a_placed, slice, shape_of, HoldsTokens, SpellsEach}
+use Rattle.wave_tree.specs.Placed.{Placed, Shape, at, label, a_placed, slice, shape_of, SpellsEach}
 use Rattle.wave_tree.specs.NodeTree.{NodeTree, type_of, place_of, children_of, node_list}
 use Rattle.wave_tree.specs.Spells.{name_of}
 use Rattle.wave_tree.specs.Answers.{text_at}
-use Rattle.wave_tree.specs.Nodes.{placed_of, shape_from, flag_of, key_of, IsNodeOf, IsTokenOf, IsParsedFrom}
+use Rattle.wave_tree.specs.Nodes.{shape_from, flag_of, key_of, IsNodeOf, IsParsedFrom}
 use Rattle.wave_tree.proofs.Inside.{Inside, inside, some_is, flag_key, AreParsed, parsed, pair_parsed, nodes_in, nodes_are}
 use Rattle.wave_tree.specs.declared.ast.NodeType.{NodeType}
 use Rattle.wave_tree.specs.declared.ast.NodeType.TheVariants as kind

@@ -1,12 +1,11 @@
 -- Enums.
-use Rattle.std.proofs.Common.{ℕ, ◌≡◌, ◌≢◌, ◌⊎◌, inl, inr, Bool, true, false, IsTrue, List, [], ◌∷◌, map, Option, Some, None, Bor, Result, Ok, Err, IfOk, IfErr, MatchResult, refl, sym, ap, ◌∙◌, subst}
+use Rattle.std.proofs.Common.{ℕ, ◌≡◌, ◌≢◌, ◌⊎◌, inl, inr, List, [], ◌∷◌, Some, Result, Ok, Err, IfOk, IfErr, MatchResult, refl, sym, ap, subst}
 use Rattle.std.specs.declared.ops.Range.{Range}
 use Rattle.wave_wasm.specs.Names.{IsOneOf, IsNoneOf}
 use Rattle.wave_wasm.specs.Types as type
 use Rattle.wave_wasm.specs.Types.{TypeTree, HasDistinctNames, enum_names, kind_of}
 use Rattle.wave_wasm.specs.Values as value
 use Rattle.wave_wasm.specs.Values.{Value}
-use Rattle.wave_wasm.specs.Shown.{texts}
 use Rattle.wave_wasm.specs.Causes.{unknown_case}
 use Rattle.wave_wasm.specs.Makers.{IsMemory, MakesEnum, FullEnum}
 use Rattle.wave_wasm.specs.declared.wasm.WasmTypeKind.TheVariants as kinds
@@ -20,10 +19,10 @@ use Rattle.wave_tree.specs.TreeReads.{TreeReads}
 use Rattle.wave_tree.specs.Placed.{Placed, Shape, at, label, MaybePlaced, no_placed, a_placed, slice, span_of, shape_of, tree_of}
 use Rattle.wave_tree.specs.Faults.{Blame, Refuses, RefusesFor, OfForm, Fault, label_in}
 use Rattle.wave_tree.specs.NodeTree.{NodeTree, type_of, place_of}
-use Rattle.wave_tree.specs.Nodes.{placed_of, shape_from, IsNodeOf}
+use Rattle.wave_tree.specs.Nodes.{placed_of, shape_from}
 use Rattle.wave_tree.specs.Answers.{text_at}
-use Rattle.wave_tree.specs.Typed.{IsRead, IsBlamed, IsMade, IsServed, IsCaused}
-use Rattle.wave_tree.proofs.Inside.{From, Inside, inside, some_is}
+use Rattle.wave_tree.specs.Typed.{IsRead, IsBlamed, IsMade, IsCaused}
+use Rattle.wave_tree.proofs.Inside.{From, inside, some_is}
 use Rattle.wave_tree.proofs.Cases.{shape_at}
 use Rattle.wave_tree.proofs.Leaves.{tree_is, at_tree}
 use Rattle.wave_tree.proofs.Made.{made}

@@ -1,6 +1,6 @@
 -- What the loop over flags keeps.
-use Rattle.std.proofs.Common.{◌≡◌, ◌≢◌, ℕ, List, [], ◌∷◌, ◌++◌, Bool, true, false, Some, Ok, Err, Result, refl, sym, ap, subst, ◌∙◌, Bor, map, inl, inr, append_assoc}
-use Rattle.std.specs.Prelude.{◌⊎◌, IfOk}
+use Rattle.std.proofs.Common.{◌≡◌, ℕ, List, [], ◌∷◌, ◌++◌, false, Ok, Err, Result, refl, sym, ap, subst, ◌∙◌, Bor, map, append_assoc}
+use Rattle.std.specs.Prelude.{IfOk}
 use Rattle.std.proofs.lemmas.List.{map-append, append-nil}
 use Rattle.std.specs.Cmp.Lexicographic.{slice_cmp}
 use Rattle.std.specs.Ordering.{nat_cmp}
@@ -8,13 +8,13 @@ use Rattle.std.specs.BTreeMap.{BTreeMap, insert_entry, values}
 use Rattle.wave_wasm.specs.Names.{is_one_of, AreDistinct}
 use Rattle.wave_lex.specs.Lexing.{span}
 use Rattle.wave_lex.specs.declared.lex.Token.TheVariants.{BraceClose, LabelOrKeyword, Comma}
-use Rattle.wave_tree.specs.Place.{Place, Takes, text_at, span_at}
+use Rattle.wave_tree.specs.Place.{Place, text_at, span_at}
 use Rattle.wave_tree.specs.Spells.{name_of}
 use Rattle.wave_tree.specs.Due.{Due, Form}
 use Rattle.wave_tree.specs.Due as due
 use Rattle.wave_tree.specs.NodeTree.{NodeTree, node, no_nodes, node_trees}
 use Rattle.wave_tree.specs.declared.ast.NodeType.TheVariants as kind
-use Rattle.wave_tree.specs.Parsed.{Flag, flag_name, flag_node, flags_in_order, TakesClass, IsClosed, AreFurtherFlags, IsOfFlags}
+use Rattle.wave_tree.specs.Parsed.{Flag, flag_name, flags_in_order, TakesClass, IsClosed, AreFurtherFlags, IsOfFlags}
 use Rattle.wave_tree.proofs.Going.{Reached, IsFlagDue}
 use Rattle.wave_tree.proofs.Names.{Holds}
 use Rattle.wave_tree.proofs.Ordered.{order_last, none_of, distinct_more, entry_of, named_node, insert_flag, nodes_of, none_in_order}

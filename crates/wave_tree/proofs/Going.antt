@@ -1,5 +1,5 @@
 -- How a parser goes on from token to token.
-use Rattle.std.proofs.Common.{ℕ, zero, suc, ◌≡◌, ◌≢◌, ◌<◌, ◌≤◌, ◌+◌, inl, inr, List, [], ◌∷◌, ◌++◌, length, Option, Some, None, Result, Ok, Err, Bool, true, false, refl, sym, ap, subst, ◌∙◌, arith}
+use Rattle.std.proofs.Common.{ℕ, ◌≡◌, ◌≢◌, ◌<◌, ◌≤◌, ◌+◌, inl, inr, List, [], ◌∷◌, ◌++◌, length, Option, Some, None, Result, Ok, Err, Bool, true, false, refl, sym, ap, subst, ◌∙◌, arith}
 use Rattle.std.specs.Prelude.{◌⊎◌, nat_lt, if◌then◌else◌, IsErrAnd, IfErr}
 use Rattle.std.specs.declared.ops.Range.{Range}
 use Rattle.wave_lex.specs.declared.lex.Token as lex
@@ -7,8 +7,8 @@ use Rattle.wave_lex.specs.declared.lex.Token.TheVariants.{BraceOpen, BraceClose,
 use Rattle.wave_lex.specs.declared.error.ParserError.{ParserError}
 use Rattle.wave_lex.specs.declared.error.ParserErrorKind.{ParserErrorKind}
 use Rattle.wave_lex.specs.declared.error.ParserErrorKind.TheVariants as kind
-use Rattle.wave_lex.specs.Errors.{plainly, refusal_of, detail_text, class_name, repeated_name}
-use Rattle.wave_lex.specs.Lexing.{Lexed, NextIs, remainder_of, span}
+use Rattle.wave_lex.specs.Errors.{class_name, repeated_name}
+use Rattle.wave_lex.specs.Lexing.{NextIs, remainder_of, span}
 use Rattle.wave_lex.proofs.Next.{next_one, next_less}
 use Rattle.wave_tree.specs.Token.{Token, brace_open, brace_close, paren_open, paren_close, bracket_open, bracket_close, colon, comma, number, label, char, string, multiline}
 use Rattle.wave_tree.specs.Place.{Place, Takes, TakesToken, TakesTokens, token_of, text_at, span_at}

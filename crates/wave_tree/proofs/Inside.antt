@@ -4,9 +4,9 @@ use Rattle.std.specs.declared.ops.Range.{Range}
 use Rattle.wave_wasm.specs.Names.{is_one_of}
 use Rattle.wave_tree.specs.Token.{Token}
 use Rattle.wave_tree.specs.Token as token
-use Rattle.wave_tree.specs.Placed.{Placed, at, Shape, one, tuple, list, empty_braces, no_fields, entries, flags, label, none, some, ok, err, no_placed, a_placed, PlacedTrees, PlacedEntries, placed_trees, placed_list, slice, span_of, shape_of, SpellsEach}
+use Rattle.wave_tree.specs.Placed.{Placed, at, Shape, one, tuple, list, empty_braces, no_fields, entries, flags, label, none, some, ok, err, no_placed, a_placed, PlacedEntries, placed_trees, slice, span_of, shape_of, SpellsEach}
 use Rattle.wave_tree.specs.NodeTree.{NodeTree, NodeTrees, node, no_nodes, node_and, node_list, type_of, place_of, children_of}
-use Rattle.wave_tree.specs.Nodes.{placed_of, all_placed, and_then, with_both, shape_from, pairs_of, flags_of, flag_of, key_of, number_token, IsParsedFrom}
+use Rattle.wave_tree.specs.Nodes.{placed_of, all_placed, and_then, with_both, shape_from, pairs_of, flags_of, flag_of, key_of, IsParsedFrom}
 use Rattle.wave_lex.specs.Lexing.{Stands}
 use Rattle.wave_tree.specs.declared.ast.NodeType.{NodeType}
 use Rattle.wave_tree.specs.declared.ast.NodeType.TheVariants as kind

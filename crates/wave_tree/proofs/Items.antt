@@ -1,5 +1,5 @@
 -- The items of lists and tuples, one by one.
-use Rattle.std.proofs.Common.{ℕ, zero, suc, ◌≡◌, ◌≢◌, ◌⊎◌, inl, inr, ◌<◌, ◌≤◌, ◌+◌, List, [], ◌∷◌, ◌++◌, length, get_or, take, map, Option, Some, None, option_map, Bor, Result, Ok, Err, IfOk, IfErr, MatchResult, refl, sym, ap, ◌∙◌, subst, add-one, arith}
+use Rattle.std.proofs.Common.{ℕ, zero, suc, ◌≡◌, ◌≢◌, inl, inr, ◌<◌, ◌≤◌, ◌+◌, List, [], ◌∷◌, ◌++◌, length, get_or, take, map, Option, Some, None, option_map, Bor, Result, Ok, Err, IfOk, IfErr, MatchResult, refl, sym, ap, ◌∙◌, subst, add-one, arith}
 use Rattle.std.specs.declared.ops.Range.{Range}
 use Rattle.wave_wasm.specs.Lists.{AllOf, SomeOf}
 use Rattle.wave_wasm.specs.Types as type
@@ -14,18 +14,17 @@ use Rattle.wave_lex.specs.declared.error.ParserErrorKind.TheVariants.{InvalidTyp
 use Rattle.wave_tree.specs.Tree as form
 use Rattle.wave_tree.specs.Tree.{Tree}
 use Rattle.wave_tree.specs.TreeReads.{TreeReads, Each}
-use Rattle.wave_tree.specs.Placed.{Placed, Shape, at, list, PlacedTrees, placed_trees, placed_list, slice, span_of, shape_of, tree_of, tree_of_shape, trees_of, SpellsEach, SpellsAll}
+use Rattle.wave_tree.specs.Placed.{Placed, Shape, at, list, placed_trees, placed_list, slice, span_of, shape_of, tree_of, trees_of, SpellsEach, SpellsAll}
 use Rattle.wave_tree.specs.Faults.{Refuses, OfForm, Fault, list_in}
-use Rattle.wave_tree.specs.NodeTree.{NodeTree, type_of, place_of, children_of, node_list}
-use Rattle.wave_tree.specs.Nodes.{placed_of, shape_from, IsNodeOf}
+use Rattle.wave_tree.specs.NodeTree.{NodeTree, type_of, place_of, children_of}
+use Rattle.wave_tree.specs.Nodes.{placed_of, IsNodeOf}
 use Rattle.wave_tree.specs.Typed.{IsRead, IsBlamed, IsMade, IsServed, IsValueOf}
-use Rattle.wave_tree.proofs.Inside.{From, Inside, inside, some_is, AreParsed, parsed, nodes_in, nodes_are}
+use Rattle.wave_tree.proofs.Inside.{From, inside, some_is, AreParsed, parsed, nodes_in, nodes_are}
 use Rattle.wave_tree.proofs.Cases.{shape_at}
 use Rattle.wave_tree.proofs.Leaves.{tree_is, at_tree}
 use Rattle.wave_tree.proofs.Made.{made}
 use Rattle.wave_tree.specs.declared.ast.NodeType.{NodeType}
 use Rattle.wave_tree.specs.declared.ast.NodeType.TheVariants as kind
-use Rattle.wave_wasm.specs.declared.wasm.WasmTypeKind.TheVariants as kinds
 
 -- the nodes are those of the trees
 abbrev pub AreNodesOf : List ℕ → List NodeTree → List Placed → Type 0

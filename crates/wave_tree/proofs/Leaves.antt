@@ -1,29 +1,28 @@
 -- What the simple types give the nodes of one token.
-use Rattle.std.proofs.Common.{ℕ, ℤ, ◌≡◌, ◌≢◌, ◌⊎◌, inl, inr, Bool, true, false, if◌then◌else◌, List, [], ◌∷◌, Option, Some, None, Err, codes, refl, sym, ap, ◌∙◌, subst}
+use Rattle.std.proofs.Common.{ℕ, ℤ, ◌≡◌, ◌≢◌, inl, inr, Bool, true, false, if◌then◌else◌, List, [], ◌∷◌, Option, Some, None, Err, codes, refl, sym, ap, ◌∙◌, subst}
 use Rattle.std.specs.declared.ops.Range.{Range}
 use Rattle.wave_wasm.specs.Names.{IsOneOf}
 use Rattle.wave_wasm.specs.Types as type
 use Rattle.wave_wasm.specs.Types.{TypeTree, Whole, Simple}
-use Rattle.wave_wasm.specs.Numbers.{IsInRange, is_signed}
+use Rattle.wave_wasm.specs.Numbers.{is_signed}
 use Rattle.wave_wasm.specs.Values as value
 use Rattle.wave_wasm.specs.Values.{Leaf}
 use Rattle.wave_wasm.specs.Text.{bool_text}
-use Rattle.wave_lex.specs.Errors.{Refusal, plainly, refusal_of}
+use Rattle.wave_lex.specs.Errors.{Refusal, refusal_of}
 use Rattle.wave_lex.specs.declared.error.ParserError.{ParserError}
 use Rattle.wave_lex.specs.declared.error.ParserErrorKind.TheVariants.{InvalidType, InvalidValue}
 use Rattle.wave_tree.specs.Token.{Token}
 use Rattle.wave_tree.specs.Token as token
-use Rattle.wave_tree.specs.Tree as tree
 use Rattle.wave_tree.specs.Spells.{Spells}
 use Rattle.wave_tree.specs.NumberText.{IsNumberOf, whole_text, signed_text, unsigned_text}
 use Rattle.wave_tree.specs.TreeReads.{SimpleTree}
 use Rattle.wave_tree.specs.Placed.{Placed, Shape, at, one, slice, span_of, shape_of, tree_of, tree_of_shape}
-use Rattle.wave_tree.specs.Faults.{Refuses, OfForm, LeafFault, IsForm, SpellsNone, Fault, one_in}
+use Rattle.wave_tree.specs.Faults.{Refuses, OfForm, LeafFault, IsForm, Fault, one_in}
 use Rattle.wave_tree.specs.NodeTree.{NodeTree, type_of, place_of}
 use Rattle.wave_tree.specs.Nodes.{placed_of, shape_from, number_token}
 use Rattle.wave_tree.specs.Answers.{bool_type, GivesNumber}
 use Rattle.wave_tree.proofs.OneOf.{is_one}
-use Rattle.wave_tree.proofs.Inside.{From, Inside, inside, some_is, is_number_word}
+use Rattle.wave_tree.proofs.Inside.{From, inside, some_is, is_number_word}
 use Rattle.wave_tree.specs.declared.ast.NodeType.{NodeType}
 use Rattle.wave_tree.specs.declared.ast.NodeType.TheVariants as kind
 

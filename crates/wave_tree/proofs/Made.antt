@@ -1,9 +1,9 @@
 -- What an answer is where a value was made, or was not.
-use Rattle.std.proofs.Common.{ℕ, ◌≡◌, ◌⊎◌, inl, inr, Result, Ok, Err, IfOk, IfErr, MatchResult, refl, sym, ap, ◌∙◌, subst}
+use Rattle.std.proofs.Common.{◌≡◌, inl, inr, Result, Ok, Err, IfOk, IfErr, MatchResult, sym, ap, subst}
 use Rattle.std.specs.Result.{IsErrAnd}
 use Rattle.wave_wasm.specs.Types.{TypeTree, simple}
 use Rattle.wave_wasm.specs.Values.{Value}
-use Rattle.wave_wasm.specs.Causes.{Cause, cause_of}
+use Rattle.wave_wasm.specs.Causes.{cause_of}
 use Rattle.wave_wasm.specs.Values as value
 use Rattle.wave_wasm.specs.Values.{Leaf, leaf_type}
 use Rattle.wave_wasm.specs.Makers.{IsMemory, MakesLeaf, FullLeaf}
@@ -13,7 +13,7 @@ use Rattle.wave_lex.specs.Errors.{Refusal, refusal_of, refused_by}
 use Rattle.wave_lex.specs.declared.error.ParserError.{ParserError}
 use Rattle.wave_tree.specs.Placed.{Placed, tree_of}
 use Rattle.wave_tree.specs.TreeReads.{SimpleTree}
-use Rattle.wave_tree.specs.NodeTree.{NodeTree, place_of}
+use Rattle.wave_tree.specs.NodeTree.{NodeTree}
 use Rattle.wave_tree.specs.Faults.{Fault}
 use Rattle.wave_tree.specs.Typed.{IsRead, IsBlamed, IsMade}
 

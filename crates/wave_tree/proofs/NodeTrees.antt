@@ -1,5 +1,5 @@
 -- How deep the nodes of a list nest.
-use Rattle.std.proofs.Common.{ℕ, zero, suc, ◌≤◌, ◌<◌, ◌+◌, ◌≡◌, List, [], ◌∷◌, length, get_or, ap, refl, arith}
+use Rattle.std.proofs.Common.{ℕ, zero, suc, ◌<◌, ◌≡◌, List, [], ◌∷◌, length, get_or, ap, refl, arith}
 use Rattle.wave_tree.specs.NodeTree.{NodeTree, depth, nodes_depth, node_trees, node_list}
 
 -- each node nests less deep than all of them together

@@ -1,5 +1,5 @@
 -- Options, and values that stand for an option around them.
-use Rattle.std.proofs.Common.{ℕ, ◌≡◌, ◌≢◌, ◌⊎◌, inl, inr, ◌<◌, Bool, true, false, IsTrue, ◌↔◌, List, [], ◌∷◌, Option, Some, None, option_map, Bor, Result, Ok, Err, IfOk, IfErr, MatchResult, refl, sym, ap, ◌∙◌, subst, arith}
+use Rattle.std.proofs.Common.{ℕ, ◌≡◌, ◌≢◌, ◌⊎◌, inl, inr, ◌<◌, Bool, false, IsTrue, List, [], ◌∷◌, Option, Some, None, option_map, Bor, Result, Ok, Err, IfOk, IfErr, MatchResult, refl, sym, ap, ◌∙◌, subst, arith}
 use Rattle.std.specs.declared.ops.Range.{Range}
 use Rattle.wave_wasm.specs.Types as type
 use Rattle.wave_wasm.specs.Types.{TypeTree, HasDistinctNames, option_part, depth, kind_of, simple_kind, unreadable_kind}
@@ -19,9 +19,9 @@ use Rattle.wave_tree.specs.Placed.{Placed, Shape, at, none, some, slice, span_of
 use Rattle.wave_tree.specs.Faults.{Blame, Refuses, OfOption, Fault}
 use Rattle.wave_tree.specs.NodeTree.{NodeTree, type_of, place_of, children_of, node_list}
 use Rattle.wave_tree.specs.Nodes.{placed_of, shape_from, IsNodeOf}
-use Rattle.wave_tree.specs.Answers.{shown_node, first_of, GivesOption}
-use Rattle.wave_tree.specs.Typed.{IsRead, IsBlamed, IsMade, IsServed, IsValueOf}
-use Rattle.wave_tree.proofs.Inside.{From, Inside, inside, some_is, AreParsed, parsed, nodes_in, nodes_are}
+use Rattle.wave_tree.specs.Answers.{first_of, GivesOption}
+use Rattle.wave_tree.specs.Typed.{IsRead, IsBlamed, IsMade, IsValueOf}
+use Rattle.wave_tree.proofs.Inside.{From, inside, some_is, AreParsed, parsed, nodes_in, nodes_are}
 use Rattle.wave_tree.proofs.Cases.{shape_at}
 use Rattle.wave_tree.proofs.Leaves.{tree_is, at_tree}
 use Rattle.wave_tree.proofs.Made.{made}

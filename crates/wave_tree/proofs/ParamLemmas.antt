@@ -1,16 +1,15 @@
 -- The values of parameters, read one by one.
-use Rattle.std.proofs.Common.{ℕ, zero, suc, ◌≡◌, ◌≢◌, ◌⊎◌, inl, inr, ◌<◌, ◌≤◌, ◌+◌, ◌-◌, List, [], ◌∷◌, ◌++◌, length, get_or, take, drop, map, codes, Some, None, Result, Ok, Err, IfOk, IfErr, MatchResult, refl, sym, ap, ◌∙◌, subst, add-one, append_assoc, length-drop, arith}
+use Rattle.std.proofs.Common.{ℕ, zero, suc, ◌≡◌, ◌≢◌, inl, inr, ◌<◌, ◌≤◌, ◌+◌, ◌-◌, List, [], ◌∷◌, ◌++◌, length, get_or, take, drop, map, codes, Some, None, Result, Ok, Err, IfErr, refl, sym, ap, ◌∙◌, subst, add-one, append_assoc, length-drop, arith}
 use Rattle.std.specs.declared.ops.Range.{Range}
 use Rattle.std.specs.Result.{IsErrAnd}
-use Rattle.std.proofs.lemmas.List.{append-nil, drop-map, drop_more, take_all, map-append}
+use Rattle.std.proofs.lemmas.List.{drop-map, take_all}
 use Rattle.wave_wasm.specs.Lists.{AllOf, SomeOf}
 use Rattle.wave_wasm.specs.Types as type
 use Rattle.wave_wasm.specs.Types.{TypeTree, HasDistinctNames, kind_of}
 use Rattle.wave_wasm.specs.Values as value
 use Rattle.wave_wasm.specs.Values.{Value, no_value}
-use Rattle.wave_wasm.specs.Makers.{IsMemory, Makes, MakesOption, FullOption, AreOf}
+use Rattle.wave_wasm.specs.Makers.{IsMemory, Makes, FullOption, AreOf}
 use Rattle.wave_wasm.specs.Causes.{cause_of}
-use Rattle.wave_wasm.specs.declared.wasm.WasmTypeKind.{WasmTypeKind}
 use Rattle.wave_wasm.specs.declared.wasm.WasmTypeKind.TheVariants as kinds
 use Rattle.wave_wasm.specs.declared.wasm.WasmValueError.{WasmValueError}
 use Rattle.wave_wasm.specs.declared.wasm.WasmValueError.TheVariants as error
@@ -19,10 +18,9 @@ use Rattle.wave_lex.specs.declared.error.ParserError.{ParserError}
 use Rattle.wave_lex.specs.declared.error.ParserErrorKind.TheVariants as because
 use Rattle.wave_tree.specs.Reads.{IsOption}
 use Rattle.wave_tree.specs.Params.{Omitted}
-use Rattle.wave_tree.specs.TreeReads.{TreeReads}
-use Rattle.wave_tree.specs.Placed.{Placed, tuple, placed_trees, shape_of, tree_of}
-use Rattle.wave_tree.specs.Typed.{IsRead, IsRefused}
-use Rattle.wave_tree.specs.TreeParams.{TreeParams, NoParams, IsNoOption, ParamsFault, AreRead, RefusesItems, RefusesOmitted}
+use Rattle.wave_tree.specs.Placed.{Placed}
+use Rattle.wave_tree.specs.Typed.{IsRefused}
+use Rattle.wave_tree.specs.TreeParams.{NoParams, IsNoOption, ParamsFault, AreRead, RefusesItems, RefusesOmitted}
 use Rattle.wave_tree.specs.NodeTree.{NodeTree, place_of}
 use Rattle.wave_tree.specs.Nodes.{IsNodeOf}
 use Rattle.wave_tree.specs.Refusals.{Says}

@@ -1,10 +1,10 @@
 -- The entries of a record, by their names, and the faults of its keys.
-use Rattle.std.proofs.Common.{ℕ, zero, suc, ◌≡◌, ◌≢◌, ◌⊎◌, inl, inr, ◌<◌, Bool, true, false, if◌then◌else◌, List, [], ◌∷◌, ◌++◌, length, map, Option, Some, None, refl, sym, ap, ◌∙◌, subst, arith}
+use Rattle.std.proofs.Common.{ℕ, ◌≡◌, ◌≢◌, ◌⊎◌, inl, inr, ◌<◌, Bool, true, false, if◌then◌else◌, List, [], ◌∷◌, ◌++◌, length, map, Option, Some, None, refl, sym, ap, ◌∙◌, subst}
 use Rattle.std.specs.declared.ops.Range.{Range}
 use Rattle.std.specs.Str.{bytes_eq}
 use Rattle.std.proofs.lemmas.Slice.Eq.{bytes_eq-Decides}
 use Rattle.wave_wasm.specs.Lists.{AllOf, SomeOf}
-use Rattle.wave_wasm.specs.Names.{IsOneOf, IsNoneOf, AreDistinct}
+use Rattle.wave_wasm.specs.Names.{IsOneOf, IsNoneOf}
 use Rattle.wave_wasm.specs.Types as type
 use Rattle.wave_wasm.specs.Types.{Fields, field_names}
 use Rattle.wave_lex.specs.Errors.{Refusal, refusal_of}
@@ -14,13 +14,12 @@ use Rattle.wave_tree.specs.Token.{Token}
 use Rattle.wave_tree.specs.Token as token
 use Rattle.wave_tree.specs.Spells.{name_of}
 use Rattle.wave_tree.specs.Reads.{look_up}
-use Rattle.wave_tree.specs.Refusals.{Says}
 use Rattle.wave_tree.specs.Placed.{Placed, Shape, at, one, label, entries, no_fields, empty_braces, no_placed, PlacedEntries, no_entries, PlacedEntry, entry_list, slice, span_of, shape_of}
-use Rattle.wave_tree.specs.Faults.{Blame, Refuses, OfForm, Fault, names_in, record_in, KeyFault, UnknownField, RepeatedField, IsFor, MissingField, FaultOfField}
+use Rattle.wave_tree.specs.Faults.{Refuses, OfForm, Fault, names_in, record_in, KeyFault, UnknownField, RepeatedField, IsFor, MissingField, FaultOfField}
 use Rattle.wave_tree.specs.NodeTree.{NodeTree, type_of, place_of, children_of}
 use Rattle.wave_tree.specs.Nodes.{placed_of, key_of, IsNodeOf, IsTokenOf}
 use Rattle.wave_tree.specs.Answers.{text_at, node_pairs}
-use Rattle.wave_tree.specs.Records.{IsLabelled, field_of, names_of, RefusesKey, RefusesEntry, RefusesFields}
+use Rattle.wave_tree.specs.Records.{IsLabelled, field_of, names_of, RefusesKey, RefusesFields}
 use Rattle.wave_tree.proofs.Inside.{From, Inside, inside, some_is, key_place}
 use Rattle.wave_tree.proofs.Items.{HasAt, some_at}
 use Rattle.wave_tree.proofs.Entries.{AreEntriesOf, IsOfMap, map_nodes}

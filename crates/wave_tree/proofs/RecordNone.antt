@@ -1,5 +1,5 @@
 -- A record with a fault has no value.
-use Rattle.std.proofs.Common.{ℕ, zero, suc, ◌≡◌, ◌≢◌, ◌⊎◌, inl, inr, ◌<◌, List, [], ◌∷◌, ◌++◌, length, map, Option, Some, None, refl, sym, ap, ◌∙◌, subst}
+use Rattle.std.proofs.Common.{ℕ, zero, suc, ◌≡◌, ◌⊎◌, inl, inr, List, [], ◌∷◌, ◌++◌, Option, Some, None, refl, sym, ap, ◌∙◌, subst}
 use Rattle.std.specs.declared.ops.Range.{Range}
 use Rattle.wave_wasm.specs.Lists.{AllOf, SomeOf}
 use Rattle.wave_wasm.specs.Names.{IsOneOf, IsNoneOf, AreDistinct}
@@ -14,8 +14,8 @@ use Rattle.wave_tree.specs.Reads.{IsOption, FieldIs, Fills, look_up}
 use Rattle.wave_tree.specs.Tree as form
 use Rattle.wave_tree.specs.Tree.{Tree, TreeEntries}
 use Rattle.wave_tree.specs.TreeReads.{TreeReads, TreeReadsField, Each, NamedTree}
-use Rattle.wave_tree.specs.Placed.{Placed, at, entries, no_fields, PlacedEntries, no_entries, entry, PlacedEntry, entry_list, span_of, shape_of, tree_of, entries_of}
-use Rattle.wave_tree.specs.Faults.{Fault, names_in, record_in, KeyFault, UnknownField, RepeatedField, IsFor, MissingField, FaultOfField}
+use Rattle.wave_tree.specs.Placed.{Placed, at, entries, no_fields, PlacedEntries, no_entries, entry, PlacedEntry, entry_list, tree_of, entries_of}
+use Rattle.wave_tree.specs.Faults.{Fault, names_in, KeyFault, UnknownField, RepeatedField, IsFor, MissingField, FaultOfField}
 use Rattle.wave_tree.specs.Typed.{ReadsNone}
 use Rattle.wave_tree.specs.Records.{names_of}
 use Rattle.wave_tree.proofs.Items.{HasAt}

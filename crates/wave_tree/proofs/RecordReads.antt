@@ -1,8 +1,6 @@
 -- Records: fields that are read each at its own type.
-use Rattle.std.proofs.Common.{rules, ℕ, zero, suc, ◌≡◌, ◌≢◌, ◌⊎◌, inl, inr, ◌<◌, ◌≤◌, ◌+◌, Bool, true, false, ◌||◌, cond, if◌then◌else◌, List, [], ◌∷◌, ◌++◌, length, get_or, take, map, Option, Some, None, option_map, Bor, Result, Ok, Err, IfOk, IfErr, MatchResult, refl, sym, ap, ◌∙◌, subst, add-one, arith}
+use Rattle.std.proofs.Common.{rules, ℕ, zero, suc, ◌≡◌, ◌⊎◌, inl, inr, ◌<◌, ◌≤◌, ◌+◌, Bool, true, false, ◌||◌, cond, if◌then◌else◌, List, [], ◌∷◌, ◌++◌, length, get_or, take, map, Option, Some, None, option_map, Bor, Result, Ok, Err, IfOk, IfErr, MatchResult, refl, sym, ap, ◌∙◌, subst, add-one, arith}
 use Rattle.std.specs.List as std_list
-use Rattle.std.specs.List.{list_any}
-use Rattle.std.specs.List.Sorted.{IsPermutation}
 use Rattle.std.proofs.lemmas.List.Sorted.{IsPermutation-refl, All-permutation}
 use Rattle.std.proofs.lemmas.List.Folds.{list_any-append}
 use Rattle.std.specs.declared.ops.Range.{Range}
@@ -35,13 +33,13 @@ use Rattle.wave_tree.specs.Reads.{IsOption, FieldIs, Fills, look_up}
 use Rattle.wave_tree.specs.Tree as form
 use Rattle.wave_tree.specs.Tree.{Tree}
 use Rattle.wave_tree.specs.TreeReads.{TreeReads, TreeReadsField, Each, NamedTree}
-use Rattle.wave_tree.specs.Placed.{Placed, Shape, entries, no_fields, PlacedEntries, no_entries, entry, PlacedEntry, entry_list, span_of, shape_of, tree_of, entries_of}
+use Rattle.wave_tree.specs.Placed.{Placed, entries, no_fields, PlacedEntries, no_entries, entry, PlacedEntry, entry_list, span_of, shape_of, tree_of, entries_of}
 use Rattle.wave_tree.specs.Faults.{Refuses, RefusesFor, Fault, record_in, names_in, UnknownField, IsFor, MissingField, FaultOfField}
-use Rattle.wave_tree.specs.NodeTree.{NodeTree, type_of, place_of, children_of}
+use Rattle.wave_tree.specs.NodeTree.{NodeTree, place_of, children_of}
 use Rattle.wave_tree.specs.Nodes.{IsNodeOf}
 use Rattle.wave_tree.specs.Answers.{node_pairs}
-use Rattle.wave_tree.specs.Typed.{IsRead, IsBlamed, IsMade, IsServed, AreServedFields, IsValueOf, Answers}
-use Rattle.wave_tree.specs.Records.{IsFieldsOf, names_of, field_of, held_at, HoldsFields, IsFieldNode, IsLeftOut, IsMissing, AnswersField, RefusesFields}
+use Rattle.wave_tree.specs.Typed.{IsRead, IsBlamed, IsMade, IsServed, AreServedFields, IsValueOf}
+use Rattle.wave_tree.specs.Records.{IsFieldsOf, names_of, held_at, HoldsFields, IsFieldNode, IsLeftOut, IsMissing, AnswersField, RefusesFields}
 use Rattle.wave_tree.proofs.Inside.{inside, some_is}
 use Rattle.wave_tree.proofs.Leaves.{tree_is}
 use Rattle.wave_tree.proofs.Made.{made}
@@ -49,9 +47,8 @@ use Rattle.wave_tree.proofs.OneOf.{is_one}
 use Rattle.wave_tree.proofs.Ordered.{none_of}
 use Rattle.wave_tree.proofs.Items.{HasAt, some_at}
 use Rattle.wave_tree.proofs.Tuples.{place_has, map_has, all_has}
-use Rattle.wave_tree.proofs.Fields.{take_next, take_whole, map_last, is_found, not_found}
+use Rattle.wave_tree.proofs.Fields.{take_next, take_whole, map_last, not_found}
 use Rattle.wave_tree.proofs.RecordEntries.{AreFieldsOf, RecordNodes, record_nodes, fields_of_entries, for_one, entry_found, none_found, not_both, some_map, within_record, fields_blame}
-use Rattle.wave_tree.specs.declared.ast.NodeType.TheVariants as kind
 
 -- the entries with their trees
 abbrev pub entry_trees : List PlacedEntry → List (Token × Tree)

@@ -1,25 +1,24 @@
 -- Worked examples of texts of several lines, of calls, of what a type gives a tree, and of types that repeat a name.
-use Rattle.std.proofs.Common.{ℕ, ◌-◌, ◌<◌, ◌≡◌, ◌≢◌, ◌⊎◌, List, [], ◌∷◌, ◌++◌, length, inl, inr, refl, true, false, sym, subst, ◌∙◌, ap, lit<, arith, Some, None, pos}
+use Rattle.std.proofs.Common.{ℕ, ◌≡◌, ◌≢◌, List, [], ◌∷◌, ◌++◌, inl, inr, refl, lit<, arith, pos}
 use Rattle.std.specs.Prelude.{codes}
 use Rattle.wave_wasm.specs.Types as type
 use Rattle.wave_wasm.specs.Types.{TypeTree}
 use Rattle.wave_wasm.specs.Values as value
 use Rattle.wave_wasm.specs.Values.{Value, values, entries}
 use Rattle.wave_lex.specs.declared.lex.Token.TheVariants as class
-use Rattle.wave_lex.specs.Multiline.{MultilineMeans, LineMeans}
+use Rattle.wave_lex.specs.Multiline.{MultilineMeans}
 use Rattle.wave_lex.specs.Strings.{Decodes}
 use Rattle.wave_lex.specs.Tokens.{gap, function_name}
 use Rattle.wave_lex.proofs.Decoding.{plain_from}
 use Rattle.wave_lex.proofs.Fronts.{longest_here, token_here}
-use Rattle.wave_tree.specs.Token.{Token, label, number, brace_open, brace_close, paren_open, paren_close, comma}
+use Rattle.wave_tree.specs.Token.{label, number, brace_open, brace_close, paren_open, paren_close, comma}
 use Rattle.wave_tree.specs.Reads.{Reads}
 use Rattle.wave_tree.specs.Tree as tree
 use Rattle.wave_tree.specs.Tree.{Tree, trees, tree_entries}
 use Rattle.wave_tree.specs.TreeReads.{TreeReads}
 use Rattle.wave_tree.specs.Calls.{IsCall}
 use Rattle.wave_tree.proofs.Unique.{apart}
-use Rattle.wave_tree.proofs.RowsNone.{no_number}
-use Rattle.wave_tree.proofs.RowsReading.{bool_type, u8, a_u8}
+use Rattle.wave_tree.proofs.RowsReading.{u8, a_u8}
 
 -- ---- calls
 

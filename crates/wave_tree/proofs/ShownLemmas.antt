@@ -1,5 +1,5 @@
 -- What shows a node of each type.
-use Rattle.std.proofs.Common.{◌≡◌, ℕ, zero, suc, ◌+◌, ◌<◌, ◌≤◌, inl, inr, Bool, true, false, List, [], ◌∷◌, ◌++◌, map, length, take, drop, get_or, codes, sym, ap, ◌∙◌, refl, subst, append_assoc, arith, Option, Some, None, option_map}
+use Rattle.std.proofs.Common.{◌≡◌, ℕ, zero, suc, ◌+◌, ◌<◌, inl, inr, Bool, true, false, List, [], ◌∷◌, ◌++◌, map, length, drop, get_or, codes, sym, ap, ◌∙◌, refl, subst, arith, Option, Some, None, option_map}
 use Rattle.std.specs.Prelude.{All, ◌⊎◌, if◌then◌else◌}
 use Rattle.std.specs.declared.ops.Range.{Range}
 use Rattle.std.proofs.lemmas.List.{drop_more}
@@ -9,14 +9,14 @@ use Rattle.wave_tree.specs.Token.{Token, text_of}
 use Rattle.wave_tree.specs.Token as token
 use Rattle.wave_tree.specs.Spells.{name_of}
 use Rattle.wave_tree.specs.Tree.{shown, shown_trees, shown_entries}
-use Rattle.wave_tree.specs.Placed.{Placed, Shape, at, one, tuple, list, empty_braces, no_fields, entries, flags, label, none, some, ok, err, no_placed, a_placed, PlacedEntries, no_entries, entry, placed_trees, slice, span_of, shape_of, tree_of, tree_of_shape, trees_of, entries_of, HoldsTokens, SpellsEach, SpellsAll, SpellsEntries, SpellsFlags}
+use Rattle.wave_tree.specs.Placed.{Placed, Shape, at, one, tuple, list, empty_braces, no_fields, entries, flags, label, none, some, ok, err, no_placed, a_placed, PlacedEntries, no_entries, entry, placed_trees, span_of, shape_of, tree_of, tree_of_shape, trees_of, entries_of, SpellsEach, SpellsEntries, SpellsFlags}
 use Rattle.wave_tree.specs.NodeTree.{NodeTree, NodeTrees, node, no_nodes, node_and, type_of, place_of, children_of, node_list, node_trees, depth, nodes_depth}
-use Rattle.wave_tree.specs.Nodes.{placed_of, shape_from, pairs_of, flags_of, flag_of, key_of, with_both, IsNodeOf, IsParsedFrom}
+use Rattle.wave_tree.specs.Nodes.{placed_of, shape_from, pairs_of, flags_of, flag_of, key_of, with_both, IsParsedFrom}
 use Rattle.wave_tree.specs.Answers.{text_at}
 use Rattle.wave_tree.specs.Typed.{IsValueOf}
 use Rattle.wave_tree.specs.ShownNodes.{shown_placed, shown_at, name_at, entries_at, fields_at, payload_at, AreEntriesOf}
-use Rattle.wave_tree.proofs.Inside.{From, Inside, inside, some_is, flag_key, AreParsed, parsed, pair_parsed, nodes_in, nodes_are, is_number_word}
-use Rattle.wave_tree.proofs.Cases.{shape_at, IsCase, case_shape}
+use Rattle.wave_tree.proofs.Inside.{From, inside, some_is, flag_key, AreParsed, parsed, pair_parsed, nodes_in, nodes_are, is_number_word}
+use Rattle.wave_tree.proofs.Cases.{shape_at, case_shape}
 use Rattle.wave_tree.proofs.Leaves.{tree_is}
 use Rattle.wave_tree.proofs.Items.{AreNodesOf, spelled_nodes}
 use Rattle.wave_tree.specs.declared.ast.NodeType.{NodeType}

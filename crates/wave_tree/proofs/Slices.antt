@@ -1,24 +1,20 @@
 -- What a slice of a source cuts into: the tokens that stand there.
-use Rattle.std.proofs.Common.{◌≡◌, ◌≢◌, ℕ, ◌≤◌, ◌<◌, ◌+◌, ◌-◌, inl, inr, Bool, true, false, List, [], ◌∷◌, ◌++◌, refl, sym, ap, subst, ◌∙◌, length, take, drop, arith, Option, Some, None, Result, Ok, Err, length-drop, append_assoc, zero, suc, map}
-use Rattle.std.specs.Prelude.{◌⊎◌, encode_utf8, encode_utf8_all, slice_range, codes, min}
-use Rattle.std.specs.declared.ops.Range.{Range}
+use Rattle.std.proofs.Common.{◌≡◌, ℕ, ◌≤◌, ◌+◌, ◌-◌, inl, inr, true, false, List, [], ◌∷◌, ◌++◌, refl, sym, ap, subst, ◌∙◌, length, take, drop, arith, Some, None, Ok, append_assoc, map}
+use Rattle.std.specs.Prelude.{◌⊎◌, encode_utf8, encode_utf8_all, slice_range}
 use Rattle.std.proofs.lemmas.Bool.Decides.{nat_tests}
-use Rattle.std.proofs.lemmas.List.{take-append-drop, take-take, drop-drop, drop-take, length-take, length-take-le, take_all}
+use Rattle.std.proofs.lemmas.List.{take-append-drop, take-take, drop-drop, drop-take, length-take, length-take-le}
 use Rattle.wave_lex.specs.declared.lex.Token as lex
 use Rattle.wave_lex.specs.declared.lex.Token.TheVariants.{BraceOpen, BraceClose, ParenOpen, ParenClose, BracketOpen, BracketClose, Colon, Comma, Number, LabelOrKeyword, Char, String, MultilineString}
-use Rattle.wave_lex.specs.Fronts.{Greatest, IsFront}
+use Rattle.wave_lex.specs.Fronts.{IsFront}
 use Rattle.wave_lex.specs.Regex.{Regex, either, both, empty, Matches, joined, Each, is_within}
 use Rattle.wave_lex.specs.Tokens.{shape, gap, blank, comment_text, one}
-use Rattle.wave_lex.specs.Lexing.{three_quotes, MayStandAt, IsToken, IsLongestToken, IsGap, Lexed, Lexeme, Front, Cuts, Passes, NextIs, remainder_of, span, Stands}
+use Rattle.wave_lex.specs.Lexing.{three_quotes, MayStandAt, IsToken, IsLongestToken, IsGap, Lexeme, Front, remainder_of}
 use Rattle.wave_lex.specs.Reading.{class_of}
 use Rattle.wave_lex.proofs.Derive.{empty_from, empty_into}
-use Rattle.wave_lex.proofs.Shapes.{same_list_true}
-use Rattle.wave_lex.proofs.Classes.{no_string, token_shows, shape_not_empty}
+use Rattle.wave_lex.proofs.Classes.{no_string, token_shows}
 use Rattle.wave_lex.proofs.Cutting.{one_class}
-use Rattle.wave_lex.proofs.Fronts.{front_positive}
-use Rattle.wave_tree.specs.Token.{Token, lexeme_of, CutsInto}
-use Rattle.wave_tree.specs.Place.{Place, Takes, TakesToken, TakesTokens, token_of, text_at, span_at}
-use Rattle.wave_tree.specs.Placed.{HoldsTokens, slice}
+use Rattle.wave_tree.specs.Token.{Token, lexeme_of}
+use Rattle.wave_tree.specs.Place.{Place, Takes, TakesTokens, token_of, text_at}
 
 -- ---- fronts within a beginning of a text
 

@@ -1,33 +1,32 @@
 -- What a text means, by what a parser takes of it.
-use Rattle.std.proofs.Common.{◌≡◌, ◌≢◌, ℕ, ◌≤◌, ◌<◌, ◌+◌, ◌-◌, inl, inr, List, [], ◌∷◌, ◌++◌, refl, sym, ap, subst, ◌∙◌, length, take, drop, arith, Option, Some, None, Result, Ok, Err, map, length-drop}
-use Rattle.std.specs.Prelude.{◌⊎◌, IfOk, IfErr, IsErrAnd, slice_range}
+use Rattle.std.proofs.Common.{◌≡◌, ◌≢◌, ℕ, ◌+◌, ◌-◌, inl, inr, List, [], ◌∷◌, refl, sym, ap, subst, ◌∙◌, length, take, drop, arith, Some, None, Result, Ok, Err, map, length-drop}
+use Rattle.std.specs.Prelude.{◌⊎◌, IfErr, IsErrAnd}
 use Rattle.std.specs.declared.ops.Range.{Range}
 use Rattle.std.proofs.lemmas.List.{append-nil, take_all, drop-drop}
-use Rattle.wave_wasm.specs.Types.{TypeTree, HasDistinctNames}
+use Rattle.wave_wasm.specs.Types.{TypeTree}
 use Rattle.wave_wasm.specs.Values.{Value}
 use Rattle.wave_lex.specs.declared.lex.Token as lex
 use Rattle.wave_lex.specs.declared.error.ParserError.{ParserError}
 use Rattle.wave_lex.specs.declared.error.ParserErrorKind.{ParserErrorKind}
 use Rattle.wave_lex.specs.declared.error.ParserErrorKind.TheVariants as kind
 use Rattle.wave_lex.specs.Errors.{refusal_of}
-use Rattle.wave_lex.specs.Lexing.{IsGap, IsLongestToken, Lexed, Lexeme, Front, Cuts, Passes, NextIs, remainder_of, span}
+use Rattle.wave_lex.specs.Lexing.{IsGap, Front, remainder_of}
 use Rattle.wave_lex.proofs.Next.{next_one}
 use Rattle.wave_tree.specs.Token as token
 use Rattle.wave_tree.specs.Token.{Token, lexeme_of, CutsInto, brace_open, brace_close, paren_open, paren_close, bracket_open, bracket_close, colon, comma}
 use Rattle.wave_tree.specs.Means.{Means}
-use Rattle.wave_tree.specs.Reads.{Reads}
 use Rattle.wave_tree.specs.Tree as tree
 use Rattle.wave_tree.specs.Tree.{Tree}
 use Rattle.wave_tree.specs.TreeReads.{TreeReads}
-use Rattle.wave_tree.specs.Placed.{Placed, tree_of}
+use Rattle.wave_tree.specs.Placed.{tree_of}
 use Rattle.wave_tree.specs.NodeTree.{NodeTree}
 use Rattle.wave_tree.specs.Faults.{Fault}
-use Rattle.wave_tree.specs.Place.{Place, Item, Takes, TakesToken, TakesTokens, TakesAny, IsSomething, token_of, text_at, span_at}
+use Rattle.wave_tree.specs.Place.{Place, Item, Takes, TakesToken, TakesTokens, TakesAny, token_of, text_at}
 use Rattle.wave_tree.specs.Due.{value}
 use Rattle.wave_tree.specs.Refusals.{IsRead, IsRefused}
 use Rattle.wave_tree.specs.AnswerLaws.{AreNext}
-use Rattle.wave_tree.specs.Parsed.{IsSound, NoParen, IsParsed, IsTaken, IsNodeTaken}
-use Rattle.wave_tree.specs.Parsing.{IsTrailing, front_of}
+use Rattle.wave_tree.specs.Parsed.{IsSound, IsParsed, IsTaken, IsNodeTaken}
+use Rattle.wave_tree.specs.Parsing.{IsTrailing}
 use Rattle.wave_tree.specs.Typed as typed
 use Rattle.wave_tree.specs.FromText.{start_of, IsValueTaken, IsMeant, IsTypeRefused, RefusesValue, MeansNone, TextFault, RefusesText}
 use Rattle.wave_tree.proofs.Going.{place_path}
@@ -35,7 +34,7 @@ use Rattle.wave_tree.proofs.Bridge.{through}
 use Rattle.wave_tree.proofs.Back.{back}
 use Rattle.wave_tree.proofs.UniqueTree.{one_tree}
 use Rattle.wave_tree.proofs.Answering.{read_have_tree, refused_have_none}
-use Rattle.wave_tree.proofs.Slices.{taken_is, tokens_front, tokens_source}
+use Rattle.wave_tree.proofs.Slices.{tokens_front, tokens_source}
 
 -- ---- nodes
 

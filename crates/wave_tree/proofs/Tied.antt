@@ -1,5 +1,5 @@
 -- The answers of a parser's calls, tied to trees.
-use Rattle.std.proofs.Common.{◌≡◌, ◌≢◌, ℕ, ◌<◌, ◌+◌, ◌-◌, inl, inr, true, List, [], ◌∷◌, ◌++◌, refl, sym, ap, subst, ◌∙◌, arith, Some, None, Result, Ok, Err, Bool, false, append_assoc}
+use Rattle.std.proofs.Common.{◌≡◌, ◌≢◌, ℕ, ◌<◌, ◌+◌, ◌-◌, inl, inr, true, List, [], ◌∷◌, ◌++◌, sym, ap, subst, ◌∙◌, arith, Some, Result, Ok, Err, Bool, append_assoc}
 use Rattle.std.specs.Prelude.{◌⊎◌, IfOk, codes, if◌then◌else◌}
 use Rattle.wave_wasm.specs.Names.{is_one_of}
 use Rattle.wave_lex.specs.declared.lex.Token as lex
@@ -11,8 +11,8 @@ use Rattle.wave_tree.specs.Placed.{one}
 use Rattle.wave_tree.specs.NodeTree.{NodeTree, node, no_nodes, node_trees}
 use Rattle.wave_tree.specs.declared.ast.NodeType.{NodeType}
 use Rattle.wave_tree.specs.declared.ast.NodeType.TheVariants as kind
-use Rattle.wave_tree.specs.Parsed.{IsParsed, IsParsedBehind, IsMaybe, IsPayload, IsOfItems, TakesClass, items_type, AreItems, AreFurther, IsKeyAt, key_node_type, ArePairs, IsOfEntries, IsOfFlags, label_children}
-use Rattle.wave_tree.specs.Word.{IsClose, IsKeyClass}
+use Rattle.wave_tree.specs.Parsed.{IsParsed, IsParsedBehind, IsMaybe, IsPayload, IsOfItems, TakesClass, items_type, AreItems, AreFurther, IsKeyAt, ArePairs, IsOfEntries, IsOfFlags, label_children}
+use Rattle.wave_tree.specs.Word.{IsClose}
 use Rattle.wave_lex.specs.Lexing.{span}
 use Rattle.wave_tree.proofs.TyingBraces.{entries_parsed, empty_parsed, no_fields_parsed}
 use Rattle.wave_tree.proofs.TyingFlags.{flags_parsed}

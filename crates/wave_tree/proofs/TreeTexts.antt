@@ -1,20 +1,17 @@
 -- What tree a text spells, by what a parser takes of it.
-use Rattle.std.proofs.Common.{◌≡◌, ◌≢◌, ℕ, inl, inr, List, [], refl, sym, subst, ◌∙◌, Result, Ok, Err, None}
-use Rattle.std.specs.Prelude.{◌⊎◌, IfErr, IsErrAnd}
+use Rattle.std.proofs.Common.{◌≡◌, ℕ, inl, inr, List, [], sym, subst, Result, Ok, Err, None}
+use Rattle.std.specs.Prelude.{IfErr, IsErrAnd}
 use Rattle.wave_lex.specs.declared.error.ParserError.{ParserError}
-use Rattle.wave_lex.specs.declared.error.ParserErrorKind.TheVariants.{OutOfMemory}
-use Rattle.wave_tree.specs.Token.{Token}
-use Rattle.wave_tree.specs.Tree as tree
 use Rattle.wave_tree.specs.Tree.{Tree}
 use Rattle.wave_tree.specs.Placed.{tree_of}
 use Rattle.wave_tree.specs.Place.{Place, Takes}
 use Rattle.wave_tree.specs.Due.{value}
-use Rattle.wave_tree.specs.Refusals.{IsRead, IsRefused, Refuses}
+use Rattle.wave_tree.specs.Refusals.{IsRead, Refuses}
 use Rattle.wave_tree.specs.AnswerLaws.{AreNext}
 use Rattle.wave_tree.specs.Parsed.{IsTaken}
-use Rattle.wave_tree.specs.Parsing.{Parsing, Finishes, IsTrailing}
+use Rattle.wave_tree.specs.Parsing.{IsTrailing}
 use Rattle.wave_tree.specs.FromText.{start_of}
-use Rattle.wave_tree.specs.Untyped.{Untyped, IsUntypedTaken, SpellsText, IsUntypedOf, SyntaxFault, SpellsNone, RefusesTree}
+use Rattle.wave_tree.specs.Untyped.{Untyped, IsUntypedTaken, SpellsText, IsUntypedOf, RefusesTree}
 use Rattle.wave_tree.proofs.UniqueTree.{one_tree}
 use Rattle.wave_tree.proofs.Answering.{read_have_tree, refused_have_none}
 use Rattle.wave_tree.proofs.Texts.{all_of, all_cut, all_are_next, all_taken, nothing_there}

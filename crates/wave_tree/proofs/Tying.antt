@@ -1,6 +1,6 @@
 -- From the nodes that a parser makes to the trees that they mean.
-use Rattle.std.proofs.Common.{rules, ◌≡◌, ◌≢◌, ℕ, ◌≤◌, ◌<◌, ◌+◌, ◌-◌, inl, inr, Bool, true, false, List, [], ◌∷◌, ◌++◌, refl, sym, ap, subst, ◌∙◌, length, take, drop, arith, Option, Some, None, Result, Ok, Err, append_assoc, length-drop, add-one, zero, suc, map, option_map}
-use Rattle.std.specs.Prelude.{◌⊎◌, ◌||◌, slice_range, codes, if◌then◌else◌, encode_utf8, bytes_eq}
+use Rattle.std.proofs.Common.{◌≡◌, ℕ, ◌≤◌, ◌<◌, ◌+◌, ◌-◌, inl, inr, false, List, [], ◌∷◌, ◌++◌, refl, sym, ap, subst, ◌∙◌, length, take, drop, arith, Some, Ok, append_assoc, length-drop, add-one, zero, suc, map, option_map}
+use Rattle.std.specs.Prelude.{◌||◌, slice_range, codes, if◌then◌else◌, encode_utf8, bytes_eq}
 use Rattle.std.proofs.lemmas.Slice.Eq.{bytes_eq-Decides}
 use Rattle.std.proofs.lemmas.Bool.{false_from_ne_true}
 use Rattle.std.specs.declared.ops.Range.{Range}
@@ -9,9 +9,9 @@ use Rattle.std.proofs.lemmas.List.{append-nil, drop-drop, take-append-drop}
 use Rattle.std.proofs.lemmas.Str.{IsUtf8-drop, IsCharBoundary-from_rest}
 use Rattle.wave_wasm.specs.Names.{is_one_of}
 use Rattle.wave_lex.specs.declared.lex.Token as lex
-use Rattle.wave_lex.specs.declared.lex.Token.TheVariants.{BraceOpen, BraceClose, ParenOpen, ParenClose, BracketOpen, BracketClose, Colon, Comma, Number, LabelOrKeyword, Char, String, MultilineString}
+use Rattle.wave_lex.specs.declared.lex.Token.TheVariants.{ParenOpen, ParenClose, Number, LabelOrKeyword, Char, String, MultilineString}
 use Rattle.wave_lex.specs.Tokens.{shape, gap}
-use Rattle.wave_lex.specs.Lexing.{IsGap, IsLongestToken, Lexed, Front, remainder_of, span, Stands}
+use Rattle.wave_lex.specs.Lexing.{IsGap, IsLongestToken, Front, remainder_of, span, Stands}
 use Rattle.wave_lex.specs.Reading.{class_of}
 use Rattle.wave_lex.proofs.Classes.{token_shows, shape_not_empty}
 use Rattle.wave_lex.proofs.Fronts.{front_positive}
@@ -22,15 +22,14 @@ use Rattle.wave_tree.specs.Place.{Place, Takes, TakesToken, TakesTokens, token_o
 use Rattle.wave_tree.specs.Tree as tree
 use Rattle.wave_tree.specs.Tree.{Tree, ATree, BehindWord, word_of, leaf_word, none_word, some_word, ok_word, err_word, case_word, MaybeInParens}
 use Rattle.wave_tree.specs.Reads.{InParens}
-use Rattle.wave_tree.specs.Placed as placed
-use Rattle.wave_tree.specs.Placed.{Placed, at, Shape, one, none, some, ok, err, label, no_placed, a_placed, MaybePlaced, HoldsTokens, SpellsParts, SpellsMaybe, SpellsEach, LiesIn, span_of, tree_of, tree_of_shape, maybe_of, slice}
-use Rattle.wave_tree.specs.NodeTree.{NodeTree, node, no_nodes, node_and, node_trees}
-use Rattle.wave_tree.specs.Nodes.{placed_of, all_placed, shape_from, and_then, with_both, number_token}
+use Rattle.wave_tree.specs.Placed.{Placed, at, Shape, one, none, some, ok, err, label, no_placed, a_placed, HoldsTokens, SpellsParts, SpellsEach, LiesIn, span_of, tree_of, tree_of_shape, slice}
+use Rattle.wave_tree.specs.NodeTree.{NodeTree, node, no_nodes}
+use Rattle.wave_tree.specs.Nodes.{placed_of, shape_from, and_then, with_both}
 use Rattle.wave_tree.specs.declared.ast.NodeType.{NodeType}
 use Rattle.wave_tree.specs.declared.ast.NodeType.TheVariants as kind
-use Rattle.wave_tree.specs.Parsed.{IsSound, NoParen, IsParsed, TakesClass, IsPayload, IsMaybe, label_children}
+use Rattle.wave_tree.specs.Parsed.{IsSound, NoParen, IsParsed, IsPayload, IsMaybe}
 use Rattle.wave_tree.proofs.Going.{tokens_join, token_there}
-use Rattle.wave_tree.proofs.Slices.{Taken, taken_is, gap_zero, tokens_front, tokens_forward, tokens_source, gap_none}
+use Rattle.wave_tree.proofs.Slices.{Taken, taken_is, gap_zero, tokens_front, tokens_forward, gap_none}
 
 -- ---- sound places
 

@@ -1,40 +1,27 @@
 -- From the entries and the flags that a parser reads to the trees that their nodes mean.
-use Rattle.std.proofs.Common.{rules, ◌≡◌, ◌≢◌, ℕ, ◌≤◌, ◌<◌, ◌+◌, ◌-◌, inl, inr, Bool, true, false, List, [], ◌∷◌, ◌++◌, refl, sym, ap, subst, ◌∙◌, length, take, drop, arith, Option, Some, None, Result, Ok, Err, append_assoc, add-one, zero, suc, map, option_map}
-use Rattle.std.specs.Prelude.{◌⊎◌, ◌||◌, slice_range, codes, if◌then◌else◌, encode_utf8, bytes_eq}
-use Rattle.std.proofs.lemmas.Slice.Eq.{bytes_eq-Decides}
-use Rattle.std.proofs.lemmas.Bool.{false_from_ne_true}
+use Rattle.std.proofs.Common.{◌≡◌, ℕ, ◌≤◌, ◌+◌, inl, inr, List, [], ◌∷◌, ◌++◌, refl, sym, ap, subst, ◌∙◌, arith, Some, Ok, append_assoc, option_map}
+use Rattle.std.specs.Prelude.{if◌then◌else◌}
 use Rattle.std.specs.declared.ops.Range.{Range}
-use Rattle.std.specs.Str.{IsUtf8, IsCharBoundary}
-use Rattle.std.proofs.lemmas.List.{length-map, append-nil, drop-drop, take-append-drop}
-use Rattle.std.proofs.lemmas.Str.{IsUtf8-drop}
-use Rattle.wave_wasm.specs.Names.{is_one_of}
 use Rattle.wave_lex.specs.declared.lex.Token as lex
 use Rattle.wave_lex.specs.declared.lex.Token.TheVariants.{BraceOpen, BraceClose, ParenOpen, ParenClose, BracketOpen, BracketClose, Colon, Comma, Number, LabelOrKeyword, Char, String, MultilineString}
-use Rattle.wave_lex.specs.Tokens.{shape, gap}
-use Rattle.wave_lex.specs.Lexing.{IsGap, IsLongestToken, Lexed, Front, remainder_of, span, Stands}
-use Rattle.wave_lex.specs.Reading.{class_of}
-use Rattle.wave_lex.proofs.Classes.{token_shows}
-use Rattle.wave_lex.proofs.Lexing.{stands_next}
-use Rattle.wave_lex.proofs.Scanning.{front_boundary}
+use Rattle.wave_lex.specs.Lexing.{span}
 use Rattle.wave_tree.specs.Token as token
 use Rattle.wave_tree.specs.Token.{Token, lexeme_of, paren_open, paren_close, brace_open, brace_close, bracket_open, bracket_close, colon, comma}
-use Rattle.wave_tree.specs.Place.{Place, Takes, TakesToken, TakesTokens, token_of, text_at, span_at}
+use Rattle.wave_tree.specs.Place.{Place, Takes, TakesTokens, token_of, text_at, span_at}
 use Rattle.wave_tree.specs.Tree as tree
 use Rattle.wave_tree.specs.Tree.{Tree, ATree, KeyAnd, Label, IsKey, InBraces, BehindWord, word_of, leaf_word, none_word, some_word, ok_word, err_word, case_word, MaybeInParens}
-use Rattle.wave_tree.specs.Reads.{InParens}
 use Rattle.wave_tree.specs.Placed as placed
 use Rattle.wave_tree.specs.Placed.{Placed, at, PlacedEntries, no_entries, entry, entries, no_fields, empty_braces, Shape, one, none, some, ok, err, label, no_placed, a_placed, MaybePlaced, HoldsTokens, SpellsParts, SpellsAll, SpellsEntries, SpellsFlags, SpellsEach, placed_trees, LiesIn, span_of, tree_of, tree_of_shape, maybe_of, slice}
-use Rattle.wave_tree.specs.NodeTree.{NodeTree, node, no_nodes, node_and, node_trees}
-use Rattle.wave_tree.specs.Nodes.{placed_of, all_placed, key_of, pairs_of, flags_of, flag_of, shape_from, and_then, with_both, number_token}
-use Rattle.wave_tree.specs.declared.ast.NodeType.{NodeType}
+use Rattle.wave_tree.specs.NodeTree.{NodeTree, node, no_nodes, node_trees}
+use Rattle.wave_tree.specs.Nodes.{placed_of, all_placed, key_of, pairs_of, shape_from, and_then, with_both, number_token}
 use Rattle.wave_tree.specs.declared.ast.NodeType.TheVariants as kind
-use Rattle.wave_tree.specs.Parsed.{IsSound, NoParen, IsParsed, TakesClass, IsClosed, AreFurther, AreItems, IsOfItems, items_type, IsKeyAt, key_node_type, ArePairs, AreFurtherPairs, IsOfEntries, Flag, flag_name, flag_node, put_flag, flags_in_order, AreFurtherFlags, IsOfFlags}
-use Rattle.wave_tree.specs.Word.{IsClose, IsKeyClass}
-use Rattle.wave_tree.specs.Joined.{Spelling, Closes, FurtherItems, Items}
-use Rattle.wave_tree.proofs.TyingItems.{IsMark, brace_mark, closed_tokens, no_paren_further}
-use Rattle.wave_tree.proofs.Tying.{number_alone, in_order, sound_next, sound_tokens, holds, made, one_token, takes_plus, takes_less, text_there}
-use Rattle.wave_tree.proofs.Going.{tokens_join, token_there}
-use Rattle.wave_tree.proofs.Slices.{Taken, taken_is, gap_zero, tokens_front, tokens_forward, tokens_source, gap_none}
+use Rattle.wave_tree.specs.Parsed.{IsSound, IsParsed, IsKeyAt, key_node_type, ArePairs, AreFurtherPairs, IsOfEntries}
+use Rattle.wave_tree.specs.Word.{IsKeyClass}
+use Rattle.wave_tree.specs.Joined.{FurtherItems}
+use Rattle.wave_tree.proofs.TyingItems.{brace_mark, closed_tokens, no_paren_further}
+use Rattle.wave_tree.proofs.Tying.{number_alone, in_order, sound_next, sound_tokens, holds, made, takes_plus, text_there}
+use Rattle.wave_tree.proofs.Going.{tokens_join}
+use Rattle.wave_tree.proofs.Slices.{taken_is, tokens_forward, tokens_source}
 
 -- ---- keys
 

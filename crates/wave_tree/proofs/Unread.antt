@@ -1,5 +1,5 @@
 -- The types that have no values.
-use Rattle.std.proofs.Common.{ℕ, ◌≡◌, ◌≢◌, ◌⊎◌, inl, inr, Option, Some, None, List, refl, sym, ap, ◌∙◌, subst}
+use Rattle.std.proofs.Common.{ℕ, ◌≡◌, ◌≢◌, inl, inr, Some, List, sym, ◌∙◌, subst}
 use Rattle.std.specs.declared.ops.Range.{Range}
 use Rattle.wave_wasm.specs.Types as type
 use Rattle.wave_wasm.specs.Types.{TypeTree, kind_of}
@@ -8,7 +8,7 @@ use Rattle.wave_wasm.specs.Causes.{Cause, unsupported_type}
 use Rattle.wave_lex.specs.Errors.{Refusal, refusal_of}
 use Rattle.wave_lex.specs.declared.error.ParserError.{ParserError}
 use Rattle.wave_tree.specs.Placed.{Placed, span_of}
-use Rattle.wave_tree.specs.NodeTree.{NodeTree, place_of}
+use Rattle.wave_tree.specs.NodeTree.{NodeTree}
 use Rattle.wave_tree.specs.Nodes.{placed_of}
 use Rattle.wave_tree.specs.Faults.{RefusesFor, Fault}
 use Rattle.wave_tree.specs.Typed.{IsBlamed, IsCaused, IsServed}

@@ -14,7 +14,7 @@ use Rattle.wave_lex.specs.Tokens.{any}
 use Rattle.wave_lex.specs.FunctionName.{IsName, NoName}
 use Rattle.wave_lex.specs.Lexing.{Stands, span}
 use Rattle.wave_tree.specs.Token.{Token}
-use Rattle.wave_tree.specs.Tree.{Tree, MaybeTree, no_tree, a_tree, Takes}
+use Rattle.wave_tree.specs.Tree.{MaybeTree, no_tree, a_tree, Takes}
 use Rattle.wave_tree.specs.Calls.{IsCall}
 use Rattle.wave_tree.specs.Place.{Place, TakesTokens}
 use Rattle.wave_tree.specs.Due.{value, first_item, tuple}

@@ -1,5 +1,5 @@
 -- Each child of a node nests less deep than the node.
-use Rattle.std.specs.Prelude.{ℕ, ◌+◌, ◌≤◌, max, List, [], ◌∷◌}
+use Rattle.std.specs.Prelude.{◌+◌, ◌≤◌, List, [], ◌∷◌}
 use Rattle.std.proofs.Common.{arith}
 use denote.Param.Weighed.{most}
 use Rattle.wave_tree.specs.NodeTree.{NodeTree, depth, nodes_depth, node_trees}

@@ -18,7 +18,6 @@ use Rattle.wave_tree.specs.Reads.{IsOption, look_up}
 use Rattle.wave_tree.specs.Refusals.{Says}
 use Rattle.wave_tree.specs.Faults.{RefusesFor}
 use Rattle.wave_tree.specs.NodeTree.{NodeTree, type_of, place_of, children_of}
-use Rattle.wave_tree.specs.Nodes.{IsNodeOf}
 use Rattle.wave_tree.specs.Answers.{text_at, RefusedAs, node_pairs}
 use Rattle.wave_tree.specs.Typed.{IsValueOf, Answers}
 use Rattle.wave_tree.specs.declared.ast.NodeType.TheVariants as kind

@@ -1,5 +1,5 @@
 -- The values that types give the parameters of a call, by their trees, and why there are none.
-use Rattle.std.specs.Prelude.{ℕ, ◌≡◌, ◌≢◌, ◌-◌, ◌⊎◌, List, [], ◌∷◌, map, Some, codes, Result, Ok, Err}
+use Rattle.std.specs.Prelude.{ℕ, ◌≡◌, ◌≢◌, ◌-◌, ◌⊎◌, List, [], ◌∷◌, map, Some, codes}
 use Rattle.std.specs.declared.ops.Range.{Range}
 use Rattle.wave_wasm.specs.Lists.{AllOf, SomeOf}
 use Rattle.wave_wasm.specs.Types.{TypeTree}
@@ -17,7 +17,6 @@ use Rattle.wave_tree.specs.Placed.{Placed, tuple, placed_trees, shape_of, span_o
 use Rattle.wave_tree.specs.Faults.{Fault}
 use Rattle.wave_tree.specs.Refusals.{Says}
 use Rattle.wave_tree.specs.NodeTree.{NodeTree, type_of, place_of}
-use Rattle.wave_tree.specs.Nodes.{IsNodeOf}
 use Rattle.wave_tree.specs.Answers.{RefusedAs}
 use Rattle.wave_tree.specs.declared.ast.NodeType.TheVariants as kind
 

@@ -1,5 +1,4 @@
 use Rattle.std.proofs.Common.{arith}
-use Rattle.wave_tree.specs.NumberText.{IsMagnitude}
 use Rattle.wave_tree.proofs.Digits.{too_great, read_all}
 use Rattle.wave_tree.proofs.number.magnitude.Goals as goal
 

@@ -1,7 +1,6 @@
-use Rattle.std.proofs.Common.{◌≡◌, Ok, Err, sym, subst, ap, ◌∙◌}
-use Rattle.wave_tree.specs.Place.{Place, Takes}
-use Rattle.wave_tree.specs.Parsing.{Parsing, IsTrailing, StaysWithout}
-use Rattle.wave_tree.specs.FromText.{start_of, IsValueTaken, RefusesValue, RefusesText}
+use Rattle.std.proofs.Common.{subst}
+use Rattle.wave_tree.specs.Parsing.{Parsing, StaysWithout}
+use Rattle.wave_tree.specs.FromText.{IsValueTaken, RefusesValue}
 use Rattle.wave_tree.proofs.Texts.{value_refused, trailing_refused, value_meant, refusal_handed}
 use Rattle.wave_tree.proofs.FaultSpans.{trailing_lies, value_lies, trails_lie}
 use Rattle.wave_tree.proofs.parser.from_str.Goals as goal

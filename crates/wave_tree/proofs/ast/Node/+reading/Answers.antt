@@ -16,13 +16,12 @@ use Rattle.wave_tree.proofs.Variants.{VariantType, HasCase, variant_is, variant_
 use Rattle.wave_wasm.specs.Shown.{shown_cases}
 use Rattle.wave_tree.specs.Answers.{shown_node}
 use Rattle.wave_tree.specs.Reads.{IsFlat}
-use Rattle.std.proofs.Common.{Option, inr, inl, ap, ◌∙◌, Ok, Some, None, refl}
-use Rattle.wave_tree.specs.Answers.{GivesOption}
+use Rattle.std.proofs.Common.{Option, inr, inl, ap, ◌∙◌, refl}
 use Rattle.wave_wasm.specs.Types.{TypeTree, HasDistinctNames}
 use Rattle.wave_lex.specs.Errors.{refusal_of}
 use Rattle.wave_tree.specs.Faults.{Fault}
 use Rattle.wave_tree.specs.Typed.{IsServed}
-use Rattle.std.proofs.Common.{subst, sym, Bool, true, false, not, IsTrue}
+use Rattle.std.proofs.Common.{subst, sym}
 use Rattle.wave_wasm.specs.Shown.{shown_all}
 use Rattle.wave_tree.proofs.Tuples.{TupleType, tuple_is, tuple_fault, count_blame, as_shown, type_at, tuple_deep, tuple_item, item_blamed, all_has, parts_served, parts_distinct, tuple_kept, given_items, tuple_nodes, tuple_made}
 use Rattle.wave_tree.proofs.Items.{HasAt}

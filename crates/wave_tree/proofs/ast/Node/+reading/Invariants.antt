@@ -1,4 +1,4 @@
-use Rattle.std.proofs.Common.{ℕ, ◌≡◌, ◌+◌, ◌*◌, take, List}
+use Rattle.std.proofs.Common.{ℕ, ◌+◌, ◌*◌, take, List}
 use Rattle.wave_wasm.specs.Types.{HasDistinctNames, maybe_type, depth, depth_of_maybe}
 use Rattle.wave_wasm.specs.Shown.{shown}
 use Rattle.wave_tree.specs.Placed.{Placed}

@@ -1,9 +1,9 @@
-use Rattle.std.proofs.Common.{arith, map, sym, refl, ◌+◌, ◌*◌, ◌<◌, length}
+use Rattle.std.proofs.Common.{arith, map, refl}
 use Rattle.wave_tree.specs.Answers.{node_pairs}
 use Rattle.wave_tree.specs.Records.{shown_field, RefusesFields}
 use Rattle.wave_tree.proofs.Items.{HasAt}
 use Rattle.wave_tree.proofs.Names.{on_ok}
-use Rattle.wave_tree.proofs.Fields.{pair_has, key_parsed, new_name, old_name, holds_field, refused_label, refused_name, fields_whole, fields_kept, field_held, err_handed}
+use Rattle.wave_tree.proofs.Fields.{pair_has, key_parsed, new_name, old_name, refused_label, refused_name, fields_whole, fields_kept, field_held, err_handed}
 use Rattle.wave_tree.proofs.ast.Node.fields.Goals as goal
 
 pub field_name-requires : goal.field_name-requires

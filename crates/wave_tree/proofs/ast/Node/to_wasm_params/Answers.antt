@@ -1,9 +1,7 @@
-use Rattle.std.proofs.Common.{rules, ◌≡◌, ◌≤◌, ◌<◌, ◌+◌, ◌-◌, length, map, take, drop, inl, inr, sym, subst, ap, ◌∙◌, arith}
+use Rattle.std.proofs.Common.{◌≡◌, ◌≤◌, ◌-◌, length, map, take, drop, inl, inr, sym, subst, arith}
 use Rattle.wave_wasm.specs.Lists.{AllOf}
 use Rattle.wave_wasm.specs.Types.{HasDistinctNames}
-use Rattle.wave_tree.specs.Typed.{IsValueOf}
 use Rattle.wave_tree.specs.TreeParams.{RefusesParams, close_of}
-use Rattle.wave_tree.proofs.Items.{node_at}
 use Rattle.wave_tree.proofs.Tuples.{tuple_nodes, given_items, tuple_item, tuple_kept, place_has, map_has, all_has}
 use Rattle.wave_tree.proofs.ParamLemmas.{mapped_count, rest_mapped, error_handed, all_drop, too_many_refused, item_refused, missing_refused, params_read, omitted_refused}
 use Rattle.wave_tree.proofs.ast.Node.to_wasm_params.Goals as goal

@@ -1,4 +1,3 @@
-use Rattle.wave_tree.specs.NumberText.{IsNumberOf}
 use Rattle.wave_tree.proofs.Narrow.{no_s32}
 use Rattle.wave_tree.proofs.number.I32WholeNumber.from_text.Goals as goal
 

@@ -1,4 +1,3 @@
-use Rattle.wave_tree.specs.NumberText.{IsNumberOf}
 use Rattle.wave_tree.proofs.Narrow.{no_s8}
 use Rattle.wave_tree.proofs.number.I8WholeNumber.from_text.Goals as goal
 

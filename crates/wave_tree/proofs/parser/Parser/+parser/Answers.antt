@@ -1,27 +1,24 @@
 use Rattle.std.specs.Prelude.{codes}
 use Rattle.wave_wasm.specs.Names.{is_one_of}
-use Rattle.std.proofs.Common.{◌≡◌, ◌≢◌, ◌↔◌, ℕ, ◌+◌, ◌<◌, Some, None, Ok, Err, length, List, [], ◌∷◌, refl, sym, ap, subst, ◌∙◌, inl, inr, arith}
+use Rattle.std.proofs.Common.{◌≡◌, ℕ, ◌+◌, Some, Ok, List, [], ◌∷◌, refl, sym, ap, subst, ◌∙◌, inl, inr, arith}
 use Rattle.wave_lex.specs.declared.lex.Token as lex
-use Rattle.wave_lex.specs.declared.lex.Token.TheVariants.{BraceOpen, BraceClose, ParenOpen, ParenClose, BracketOpen, BracketClose, Colon, Comma, Number, LabelOrKeyword, Char, String, MultilineString}
-use Rattle.wave_lex.specs.declared.error.ParserErrorKind.TheVariants as kind
+use Rattle.wave_lex.specs.declared.lex.Token.TheVariants.{BraceOpen, BraceClose, ParenOpen, ParenClose, BracketOpen, Colon, Comma, Number, LabelOrKeyword, Char, String, MultilineString}
 use Rattle.wave_tree.specs.Place.{Place, Takes, span_at, text_at, token_of}
 use Rattle.wave_tree.specs.Tree.{word_of}
 use Rattle.wave_tree.specs.Due.{Due, Form, due_behind, reads, behind_step, step, key_step, brace_step, behind_flag_step, flag_step}
 use Rattle.wave_tree.specs.Due as due
-use Rattle.wave_tree.specs.Refusals.{Gives, IsBehind, IsRead, IsRefused}
+use Rattle.wave_tree.specs.Refusals.{Gives, IsBehind, IsRead}
 use Rattle.std.specs.declared.ops.Range.{Range}
-use Rattle.wave_lex.specs.declared.error.ParserError.{ParserError}
 use Rattle.wave_tree.specs.Word.{form_of, IsClose}
-use Rattle.wave_tree.specs.Parsing.{Parsing, Fails, spec_word}
-use Rattle.wave_tree.proofs.Going.{here, here_is, handed, gives_then, fails, any_token, shallow, value_read, no_value, level_open, read_there, unexpected_there, no_paren, then_token, token_there, behind_bare, reached, fails_behind, then_behind, payload_other, unexpected_behind, expected, untrue, moved, then_class, then_behind_class, range_path, close_first, close_empty, close_next, then_same, then_refuses, item_refuses, item_read, then_reached, Reached, IsItemDue, no_close, repeated_there, empty_there, key_reads, no_key, brace_key, entries_other, flags_other, no_flag, IsFlagDue, flag_same, flag_not_deep, flag_within, close_behind, comma_behind, other_behind, token_less, tokens_less, left_at, no_colon, no_brace}
-use Rattle.wave_tree.specs.Tree.{leaf_word, none_word, some_word, ok_word, err_word, case_word}
+use Rattle.wave_tree.specs.Parsing.{spec_word}
+use Rattle.wave_tree.proofs.Going.{here, here_is, handed, gives_then, fails, any_token, shallow, value_read, no_value, level_open, read_there, unexpected_there, no_paren, then_token, token_there, behind_bare, reached, fails_behind, then_behind, payload_other, unexpected_behind, expected, untrue, moved, then_class, then_behind_class, range_path, close_first, close_empty, close_next, then_same, then_refuses, item_refuses, item_read, then_reached, Reached, IsItemDue, no_close, empty_there, key_reads, no_key, brace_key, entries_other, close_behind, comma_behind, other_behind, token_less, tokens_less, left_at, no_colon, no_brace}
 use Rattle.wave_tree.specs.Parsing.{HasText}
-use Rattle.wave_tree.specs.Parsed.{IsParsed, IsParsedBehind, IsMaybe, IsPayload, IsOfItems, AreItems, TakesClass, items_type}
+use Rattle.wave_tree.specs.Parsed.{AreItems, TakesClass, items_type}
 use Rattle.wave_tree.specs.NodeTree.{node, no_nodes, node_trees}
 use Rattle.wave_tree.specs.declared.ast.NodeType.TheVariants as kind_of_node
 use Rattle.wave_lex.specs.Lexing.{span}
-use Rattle.wave_tree.proofs.Tied.{class_as, number_tied, char_tied, string_tied, multiline_tied, label_tied, items_tied, braces_tied, leaf_tied, number_word_tied, none_tied, some_tied, ok_tied, err_tied, case_tied, pushed, some_there, type_of_items, items_made, items_none, items_first, items_next, pairs_first, pairs_next, pairs_close, empty_tied, no_fields_tied, entries_tied, flags_tied, payload_tied}
-use Rattle.wave_tree.proofs.Askings.{asks_none, asks_once, asks_token, asks_looked, asks_read, asks_reached}
+use Rattle.wave_tree.proofs.Tied.{class_as, number_tied, char_tied, string_tied, multiline_tied, label_tied, items_tied, braces_tied, leaf_tied, number_word_tied, none_tied, some_tied, ok_tied, err_tied, case_tied, pushed, some_there, type_of_items, items_made, items_none, items_first, items_next, pairs_next, pairs_close, empty_tied, no_fields_tied, entries_tied, flags_tied, payload_tied}
+use Rattle.wave_tree.proofs.Askings.{asks_once, asks_token, asks_looked, asks_read, asks_reached}
 use Rattle.wave_tree.proofs.parser.Parser.+parser.Goals as goal
 use Rattle.wave_tree.proofs.parser.Parser.+parser.Goals.{parse_items-then-same-2, parse_items-else-same-2}
 

@@ -1,6 +1,6 @@
-use Rattle.std.proofs.Common.{◌≡◌, ℕ, ◌+◌, Some, None, Ok, Err, ap, sym, subst, ◌∙◌, arith}
-use Rattle.wave_tree.specs.Place.{Place, Takes}
-use Rattle.wave_tree.specs.Parsing.{Parsing, ahead_count, IsAhead}
+use Rattle.std.proofs.Common.{◌≡◌, ap, sym, ◌∙◌, arith}
+use Rattle.wave_tree.specs.Place.{Place}
+use Rattle.wave_tree.specs.Parsing.{Parsing, ahead_count}
 use Rattle.wave_tree.proofs.AtHand.{finish_at}
 use Rattle.wave_tree.proofs.parser.Parser.finish.Goals as goal
 use Rattle.wave_tree.proofs.parser.Parser.finish.Goals.{in-Some, in-None}

@@ -1,6 +1,6 @@
-use Rattle.std.proofs.Common.{rules, ◌≡◌, ◌↔◌, ℕ, ◌+◌, Some, None, Ok, Err, IsTrue, ap, sym, ◌∙◌, arith}
-use Rattle.wave_tree.specs.Place.{Place, Takes}
-use Rattle.wave_tree.specs.Parsing.{Parsing, ahead_count, IsAhead}
+use Rattle.std.proofs.Common.{◌≡◌, ap, sym, ◌∙◌, arith}
+use Rattle.wave_tree.specs.Place.{Place}
+use Rattle.wave_tree.specs.Parsing.{Parsing, ahead_count}
 use Rattle.wave_tree.proofs.AtHand.{at_hand}
 use Rattle.wave_tree.proofs.parser.Parser.next_is.Goals as goal
 use Rattle.wave_tree.proofs.parser.Parser.next_is.Goals.{in-Some, in-None}

@@ -1,22 +1,17 @@
-use Rattle.std.proofs.Common.{◌≡◌, ◌≢◌, ◌↔◌, ℕ, ◌+◌, ◌<◌, Some, None, Ok, Err, length, List, [], ◌∷◌, ◌++◌, true, false, Bool, cond, Bor, refl, sym, ap, subst, ◌∙◌, inl, inr, arith}
+use Rattle.std.proofs.Common.{◌≡◌, ◌≢◌, ℕ, Some, Ok, List, [], ◌∷◌, ◌++◌, true, false, refl, sym, ap, subst, ◌∙◌, inl, inr, arith}
 use Rattle.wave_lex.specs.declared.lex.Token as lex
-use Rattle.wave_lex.specs.declared.lex.Token.TheVariants.{BraceOpen, BraceClose, ParenOpen, ParenClose, BracketOpen, BracketClose, Colon, Comma, Number, LabelOrKeyword, Char, String, MultilineString}
+use Rattle.wave_lex.specs.declared.lex.Token.TheVariants.{BraceClose, Comma, LabelOrKeyword}
 use Rattle.wave_lex.specs.declared.error.ParserErrorKind.TheVariants as kind
 use Rattle.wave_tree.specs.Place.{Place, Takes, span_at, text_at, token_of}
-use Rattle.wave_tree.specs.Tree.{word_of}
 use Rattle.wave_tree.specs.Spells.{name_of}
 use Rattle.wave_tree.specs.Due.{Due, Form, due_behind, reads, behind_step, step, key_step, brace_step, behind_flag_step, flag_step}
 use Rattle.wave_tree.specs.Due as due
-use Rattle.wave_tree.specs.Refusals.{Gives, IsBehind, IsRead, IsRefused}
-use Rattle.std.specs.declared.ops.Range.{Range}
-use Rattle.wave_lex.specs.declared.error.ParserError.{ParserError}
-use Rattle.wave_tree.specs.Parsing.{Parsing, Fails}
-use Rattle.wave_tree.proofs.Going.{here, here_is, handed, gives_then, fails, any_token, shallow, value_read, no_value, level_open, read_there, unexpected_there, no_paren, then_token, token_there, behind_bare, reached, fails_behind, then_behind, payload_other, unexpected_behind, expected, untrue, moved, then_class, then_behind_class, range_path, close_first, close_empty, close_next, then_same, then_refuses, item_refuses, item_read, then_reached, Reached, IsItemDue, no_close, repeated_there, gives_read, empty_there, key_reads, no_key, brace_key, entries_other, flags_other, no_flag, IsFlagDue, flag_same, flag_not_deep, flag_within, close_behind, comma_behind, other_behind, token_less, tokens_less, left_at, no_colon, no_brace}
-use Rattle.std.specs.Prelude.{if◌then◌else◌, is_some}
+use Rattle.wave_tree.proofs.Going.{here, handed, fails, any_token, read_there, unexpected_there, untrue, then_class, then_same, Reached, repeated_there, gives_read, flags_other, no_flag, IsFlagDue, flag_same, flag_not_deep, flag_within, token_less}
+use Rattle.std.specs.Prelude.{if◌then◌else◌}
 use Rattle.wave_wasm.specs.Names.{is_one_of}
 use Rattle.wave_tree.specs.Refusals.{Says}
 use Rattle.wave_lex.specs.Errors.{repeated_name}
-use Rattle.wave_tree.proofs.Names.{Holds, held, holds_none, holds_more, on_ok}
+use Rattle.wave_tree.proofs.Names.{Holds, holds_none, holds_more, on_ok}
 use Rattle.std.specs.Prelude.{map}
 use Rattle.std.specs.BTreeMap.{insert_entry}
 use Rattle.std.specs.Cmp.Lexicographic.{slice_cmp}
@@ -24,7 +19,7 @@ use Rattle.std.specs.Ordering.{nat_cmp}
 use Rattle.wave_tree.specs.Parsed.{flag_name}
 use Rattle.wave_tree.proofs.Tied.{class_as}
 use Rattle.wave_tree.proofs.Ordered.{entry_of}
-use Rattle.wave_tree.proofs.FlagLoop.{FlagsSoFar, flag_at, grown, ended}
+use Rattle.wave_tree.proofs.FlagLoop.{flag_at, grown, ended}
 use Rattle.wave_tree.proofs.Askings.{asks_none, asks_once, asks_token, asks_reached}
 use Rattle.wave_tree.proofs.parser.Parser.parse_flags.Goals as goal
 

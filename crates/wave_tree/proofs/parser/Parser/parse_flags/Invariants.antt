@@ -1,4 +1,3 @@
-use Rattle.std.proofs.Common.{ℕ}
 use Rattle.wave_tree.proofs.Going.{left_at}
 use Rattle.wave_tree.proofs.FlagLoop.{FlagsSoFar}
 use Rattle.wave_tree.specs.Parsing.{Asks}

@@ -1,4 +1,4 @@
-use Rattle.std.proofs.Common.{subst, Ok}
+use Rattle.std.proofs.Common.{subst}
 use Rattle.std.specs.Str.{IsUtf8}
 use Rattle.wave_tree.proofs.Texts.{node_parsed}
 use Rattle.wave_tree.proofs.parser.Parser.parse_whole.Goals as goal

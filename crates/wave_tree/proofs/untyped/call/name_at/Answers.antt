@@ -1,4 +1,4 @@
-use Rattle.std.proofs.Common.{ap, ◌∙◌, subst, Some, Ok, Err}
+use Rattle.std.proofs.Common.{ap, ◌∙◌, subst, Some}
 use Rattle.wave_lex.specs.Lexing.{Lexed}
 use Rattle.wave_lex.specs.FunctionName.{NameIs}
 use Rattle.wave_tree.proofs.CallTexts.{named_at, unnamed_at}

@@ -1,10 +1,9 @@
 use Rattle.std.proofs.Common.{◌≡◌, ◌≢◌, ap, sym, subst, ◌∙◌}
-use Rattle.wave_lex.specs.declared.error.ParserError.{ParserError}
 use Rattle.wave_lex.specs.declared.error.ParserErrorKind.TheVariants as because
 use Rattle.wave_lex.specs.Lexing.{Lexed, span}
 use Rattle.wave_tree.specs.Place.{Place}
 use Rattle.wave_tree.specs.Parsing.{Parsing, first_at}
-use Rattle.wave_tree.specs.Called.{Called, AreParamsTaken, RefusesTuple, IsCalledOf, RefusesCall, behind_name}
+use Rattle.wave_tree.specs.Called.{AreParamsTaken, RefusesTuple, IsCalledOf, RefusesCall, behind_name}
 use Rattle.wave_tree.proofs.ParamLemmas.{error_handed}
 use Rattle.wave_tree.proofs.CallTexts.{name_refused, params_refused, rest_refused, called_of}
 use Rattle.wave_tree.proofs.untyped.call.parse_raw_func_call.Goals as goal

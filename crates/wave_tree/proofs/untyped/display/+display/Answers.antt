@@ -1,4 +1,4 @@
-use Rattle.std.proofs.Common.{rules, ◌≡◌, ℕ, List, [], ◌∷◌, ◌++◌, ◌+◌, ap, sym, ◌∙◌, subst, refl, arith, codes, map, length, get_or, drop}
+use Rattle.std.proofs.Common.{rules, ◌≡◌, List, [], ◌∷◌, ◌++◌, ◌+◌, ap, sym, ◌∙◌, subst, refl, arith, codes, map, length, get_or, drop}
 use Rattle.std.specs.Prelude.{All}
 use Rattle.std.specs.Fmt.{HasWritten}
 use Rattle.std.proofs.lemmas.Grind.{put_three, put_four}
@@ -7,7 +7,7 @@ use Rattle.wave_wasm.specs.Commas.{enclosed, joined, behind_name, in_parens, in_
 use Rattle.wave_wasm.specs.Keywords.{case_label}
 use Rattle.wave_tree.specs.Spells.{name_of}
 use Rattle.wave_tree.specs.Answers.{text_at}
-use Rattle.wave_tree.specs.NodeTree.{NodeTree, type_of, children_of}
+use Rattle.wave_tree.specs.NodeTree.{NodeTree, type_of}
 use Rattle.wave_tree.specs.Typed.{IsValueOf}
 use Rattle.wave_tree.specs.Nodes.{IsParsedFrom}
 use Rattle.wave_tree.specs.ShownNodes.{shown_at, name_at, entries_at, fields_at, payload_at, AreEntriesOf}

@@ -1,4 +1,4 @@
-use Rattle.std.proofs.Common.{rules, ◌≡◌, ap, sym, ◌∙◌, subst, refl}
+use Rattle.std.proofs.Common.{rules, ap, sym, ◌∙◌, subst, refl}
 use Rattle.std.specs.Fmt.{HasWritten}
 use Rattle.std.proofs.lemmas.Grind.{put_three}
 use Rattle.std.proofs.Output.{has_written_of_eq}
