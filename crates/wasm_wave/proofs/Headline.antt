@@ -126,8 +126,8 @@ refused_so T v (Err e) of h = only_memory e (has_text v) (writes T v of) h
 
 -- what a lower refusal says of the text
 pub only_none : (T : TypeTree) (s : List ℕ) (e : ParserError) → RefusesText IsFull T s e → RefusesOnly T s e
-only_none T s e h = λ served full memory.
-    elim (h served full) [
+only_none T s e h = λ full memory.
+    elim (h full) [
       | inl out ↦ absurd (memory out)
       | inr (inl (fault, none)) ↦ none
       | inr (inr (kind, other)) ↦ absurd (other full)
@@ -139,7 +139,7 @@ all_none T s (Err e) h = only_none T s e h
 
 -- what is read is merged
 merged_so : (T : TypeTree) (s : List ℕ) (v : TypedValue) → IsReadAs T s v → IsMergedAt T v
-merged_so T s v h = λ served distinct. let (tokens, cut, reads) = (h served distinct).0 in reads_merged T 100 tokens [] v.tree reads
+merged_so T s v h = λ distinct. let (tokens, cut, reads) = (h distinct).0 in reads_merged T 100 tokens [] v.tree reads
 
 pub all_merged : (T : TypeTree) (s : List ℕ) (r : Result TypedValue ParserError) → IfOk r (IsReadAs T s) → IfOk r (IsMergedAt T)
 all_merged T s (Ok v) h = merged_so T s v h

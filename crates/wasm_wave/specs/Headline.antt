@@ -11,7 +11,6 @@ use Rattle.wave_wasm.specs.Types.{HasDistinctNames}
 use Rattle.wave_lex.specs.declared.error.ParserError.{ParserError}
 use Rattle.wave_lex.specs.declared.error.ParserErrorKind.TheVariants.{OutOfMemory}
 use Rattle.wave_tree.specs.Means.{Means}
-use Rattle.wave_tree.specs.Typed.{IsServed}
 use Rattle.wave_tree.specs.FromText.{MeansNone}
 use Rattle.wasm_wave.specs.TypedValue.{TypedValue, IsAt}
 
@@ -28,14 +27,14 @@ OneValue T = (s : List ℕ) (v w : Value) → Means T s v → Means T s w → v 
 abbrev pub IsToldByText : TypeTree → Value → Type 0
 IsToldByText T v = (w : Value) → HasType T w → (text v ≡ text w) ↔ (merged v ≡ merged w)
 
--- at a type that is served, whose names are distinct, the text means the value, which is of the type
+-- at a type whose names are distinct the text means the value, which is of the type
 abbrev pub IsReadAs : TypeTree → List ℕ → TypedValue → Type 0
-IsReadAs T s v = IsServed T → HasDistinctNames T → Means T s v.tree × IsAt T v
+IsReadAs T s v = HasDistinctNames T → Means T s v.tree × IsAt T v
 
 -- at such a type the value is merged: in each map of it, inner ones too, each key stands once
 abbrev pub IsMergedAt : TypeTree → TypedValue → Type 0
-IsMergedAt T v = IsServed T → HasDistinctNames T → merged v.tree ≡ v.tree
+IsMergedAt T v = HasDistinctNames T → merged v.tree ≡ v.tree
 
--- at a type that is served, whose names are distinct, the refusal is want of memory, or the text means no value
+-- at a type whose names are distinct the refusal is want of memory, or the text means no value
 abbrev pub RefusesOnly : TypeTree → List ℕ → ParserError → Type 0
-RefusesOnly T s e = IsServed T → HasDistinctNames T → (e.kind ≢ OutOfMemory) → MeansNone T s
+RefusesOnly T s e = HasDistinctNames T → (e.kind ≢ OutOfMemory) → MeansNone T s

@@ -20,14 +20,13 @@ pub mod laws;
 pub mod value;
 
 pub use wave_lex::{lex, strings};
-pub use wave_tree::{ast, parser};
+pub use wave_tree::{ast, parser, untyped};
 pub use wave_wasm::{wasm, writer};
 
 /// The value that the whole text means at the type, of that type; a text that means none is
 /// refused, and so is any text for want of memory. What is read is merged. Where the names of the
 /// type are distinct no text means two values; where they are labels too, what is read within some
-/// levels has a canonical text of at most twice as many. (For now this holds at the types that are served: those of bools and whole
-/// numbers, lists and options.)
+/// levels has a canonical text of at most twice as many. A refusal's span lies in the text.
 pub fn from_str(alloc: Global, ty: &Type, s: &str) -> Result<Value, ParserError>
     ensures read { IfOk result (IsReadAs ty.now s.now) }
     ensures merged { IfOk result (IsMergedAt ty.now) }

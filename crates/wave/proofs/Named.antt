@@ -3,7 +3,6 @@ use Rattle.std.proofs.Common.{ℕ, ◌≡◌, List}
 use Rattle.wave_wasm.specs.Types.{HasDistinctNames}
 use Rattle.wave_lex.specs.declared.error.ParserError.{ParserError}
 use Rattle.wave_lex.specs.declared.error.ParserErrorKind.TheVariants as kind
-use Rattle.wave_tree.specs.Typed.{IsServed}
 use Rattle.wave_tree.specs.FromText.{MeansNone}
 use Rattle.wasm_wave.specs.Built.{IsFull}
 use Rattle.wasm_wave.specs.Headline.{IsReadAs, RefusesOnly}
@@ -16,18 +15,6 @@ use Rattle.wave.specs.declared.program.Unanswered.{Unanswered}
 use Rattle.wave.specs.declared.program.Unanswered.TheVariants as why
 use Rattle.wave.specs.Requests.{type_of}
 use Rattle.wave.specs.Answers.{Answers, IsRefused, IsUnanswered, MatchesRefusal}
-
--- the named types are read
-served : (n : TypeName) → IsServed (type_of n)
-served name.Bool = tt
-served name.S8 = tt
-served name.S16 = tt
-served name.S32 = tt
-served name.S64 = tt
-served name.U8 = tt
-served name.U16 = tt
-served name.U32 = tt
-served name.U64 = tt
 
 -- they have no names
 full : (n : TypeName) → IsFull (type_of n)
@@ -43,9 +30,9 @@ full name.U64 = tt
 
 -- the value that was read is the answer
 pub answered : (n : TypeName) (s : List ℕ) (v : TypedValue) (answer : List ℕ) → IsReadAs (type_of n) s v → answer ≡ text v.tree → Answers (Read n) s answer
-answered n s v answer read same = (v.tree, (read (served n) (full n)).0, same)
+answered n s v answer read same = (v.tree, (read (full n)).0, same)
 
 -- a refusal says that there is no answer, or memory ran out
 pub refused : (n : TypeName) (s : List ℕ) (e : ParserError) (u : Unanswered) → RefusesOnly (type_of n) s e → MatchesRefusal e u → IsUnanswered (Read n) s u
-refused n s e (why.Refused refusal) only same = λ answer found. only (served n) (full n) same.1 found.0 found.1
+refused n s e (why.Refused refusal) only same = λ answer found. only (full n) same.1 found.0 found.1
 refused n s e why.OutOfMemory only same = tt

@@ -12,7 +12,6 @@ use Rattle.wave_lex.specs.declared.error.ParserError.{ParserError}
 use Rattle.wave_lex.specs.declared.error.ParserErrorKind.TheVariants as kind
 use Rattle.wave_tree.specs.Place.{Place, TakesTokens}
 use Rattle.wave_tree.specs.Refusals.{Says}
-use Rattle.wave_tree.specs.Typed.{IsServed}
 use Rattle.wave_tree.specs.Parsing.{IsTrailing}
 use Rattle.wave_tree.specs.FromText.{start_of, TextFault, MeansNone, RefusesText}
 use Rattle.wave_tree.proofs.Spans.{tokens_inside, refusals_lie}
@@ -292,8 +291,8 @@ trailing_lies s p ts e taken trails =
     subst (λ (z : List ℕ). LiesInText z e.span) there.1 (refusals_lie e p there.0 (inr trails))
 
 -- a refusal of a text lies in it, where makers serve all values of the type
-pub text_refusal_lies : (Full : TypeTree → Type 0) (T : TypeTree) (s : List ℕ) (e : ParserError) → RefusesText Full T s e → (e.kind ≡ kind.OutOfMemory → Says e kind.OutOfMemory (span 0 0) None) → IsServed T → HasDistinctNames T → Full T → LiesInText s e.span
-text_refusal_lies Full T s e h memory served distinct full = by (h served distinct)
+pub text_refusal_lies : (Full : TypeTree → Type 0) (T : TypeTree) (s : List ℕ) (e : ParserError) → RefusesText Full T s e → (e.kind ≡ kind.OutOfMemory → Says e kind.OutOfMemory (span 0 0) None) → HasDistinctNames T → Full T → LiesInText s e.span
+text_refusal_lies Full T s e h memory distinct full = by (h distinct)
   where
     by : (e.kind ≡ kind.OutOfMemory) ⊎ TextFault T s e × MeansNone T s ⊎ (e.kind ≡ kind.WasmValueError) × (Full T → ⊥) → LiesInText s e.span
     by (inl wants) = subst (LiesInText s) (sym (memory wants).stands) (omega arith, omega arith)
@@ -303,11 +302,11 @@ text_refusal_lies Full T s e h memory served distinct full = by (h served distin
     by (inr (inr (is, not_full))) = absurd (not_full full)
 
 -- so does one of the value that is handed on
-pub value_lies : {X : Type 0} (Full : TypeTree → Type 0) (T : TypeTree) (s : List ℕ) (r : Result X ParserError) (e : ParserError) → IsErrAnd r (λ f. f ≡ e) → RefusesText Full T s e → (e.kind ≡ kind.OutOfMemory → Says e kind.OutOfMemory (span 0 0) None) → IfErr r (λ f. IsServed T → HasDistinctNames T → Full T → LiesInText s f.span)
+pub value_lies : {X : Type 0} (Full : TypeTree → Type 0) (T : TypeTree) (s : List ℕ) (r : Result X ParserError) (e : ParserError) → IsErrAnd r (λ f. f ≡ e) → RefusesText Full T s e → (e.kind ≡ kind.OutOfMemory → Says e kind.OutOfMemory (span 0 0) None) → IfErr r (λ f. HasDistinctNames T → Full T → LiesInText s f.span)
 value_lies Full T s (Ok x) e same h memory = absurd same
-value_lies Full T s (Err f) e same h memory = λ served distinct full. subst (λ (g : ParserError). LiesInText s g.span) (sym same) (text_refusal_lies Full T s e h memory served distinct full)
+value_lies Full T s (Err f) e same h memory = λ distinct full. subst (λ (g : ParserError). LiesInText s g.span) (sym same) (text_refusal_lies Full T s e h memory distinct full)
 
 -- and what follows it, handed on
-pub trails_lie : {X : Type 0} (Full : TypeTree → Type 0) (T : TypeTree) (s : List ℕ) (r : Result X ParserError) (e : ParserError) → IsErrAnd r (λ f. f ≡ e) → LiesInText s e.span → IfErr r (λ f. IsServed T → HasDistinctNames T → Full T → LiesInText s f.span)
+pub trails_lie : {X : Type 0} (Full : TypeTree → Type 0) (T : TypeTree) (s : List ℕ) (r : Result X ParserError) (e : ParserError) → IsErrAnd r (λ f. f ≡ e) → LiesInText s e.span → IfErr r (λ f. HasDistinctNames T → Full T → LiesInText s f.span)
 trails_lie Full T s (Ok x) e same h = absurd same
-trails_lie Full T s (Err f) e same h = λ served distinct full. subst (λ (g : ParserError). LiesInText s g.span) (sym same) h
+trails_lie Full T s (Err f) e same h = λ distinct full. subst (λ (g : ParserError). LiesInText s g.span) (sym same) h

@@ -29,7 +29,6 @@ use Rattle.wave_tree.specs.AnswerLaws.{AreNext}
 use Rattle.wave_tree.specs.Parsed.{IsSound, NoParen, IsParsed, IsTaken, IsNodeTaken}
 use Rattle.wave_tree.specs.Parsing.{IsTrailing, front_of}
 use Rattle.wave_tree.specs.Typed as typed
-use Rattle.wave_tree.specs.Typed.{IsServed}
 use Rattle.wave_tree.specs.FromText.{start_of, IsValueTaken, IsMeant, IsTypeRefused, RefusesValue, MeansNone, TextFault, RefusesText}
 use Rattle.wave_tree.proofs.Going.{place_path}
 use Rattle.wave_tree.proofs.Bridge.{through}
@@ -212,7 +211,7 @@ memory_or k = inr (λ e. cc)
 
 -- what a value that could not be read says of the text
 pub value_refused : (Full : TypeTree → Type 0) (T : TypeTree) (s : List ℕ) (p : Place) (e : ParserError) → RefusesValue Full T e (start_of s) p → RefusesText Full T s e
-value_refused Full T s p e h served distinct = by (memory_or e.kind)
+value_refused Full T s p e h distinct = by (memory_or e.kind)
   where
     by_blame : (k : IsTypeRefused Full T e (start_of s) p) → Fault T k.placed (refusal_of e) e.span × typed.ReadsNone T k.placed ⊎ (e.kind ≡ kind.WasmValueError) × (Full T → ⊥) →
         (e.kind ≡ kind.OutOfMemory) ⊎ TextFault T s e × MeansNone T s ⊎ (e.kind ≡ kind.WasmValueError) × (Full T → ⊥)
@@ -221,7 +220,7 @@ value_refused Full T s p e h served distinct = by (memory_or e.kind)
 
     by_kind : IsRefused e 100 value [] (start_of s) p ⊎ IsTypeRefused Full T e (start_of s) p → (e.kind ≡ kind.OutOfMemory) ⊎ TextFault T s e × MeansNone T s ⊎ (e.kind ≡ kind.WasmValueError) × (Full T → ⊥)
     by_kind (inl k) = inr (inl (inl (p, k), refused_means_none T s e p k))
-    by_kind (inr k) = by_blame k (k.blames served distinct)
+    by_kind (inr k) = by_blame k (k.blames distinct)
 
     by : (e.kind ≡ kind.OutOfMemory) ⊎ (e.kind ≢ kind.OutOfMemory) → (e.kind ≡ kind.OutOfMemory) ⊎ TextFault T s e × MeansNone T s ⊎ (e.kind ≡ kind.WasmValueError) × (Full T → ⊥)
     by (inl memory) = inl memory
@@ -229,17 +228,17 @@ value_refused Full T s p e h served distinct = by (memory_or e.kind)
 
 -- what follows a value is refused
 pub trailing_refused : {V : Type 0} (tree_of_value : V → Value) (of : V → TypeTree → Type 0) (Full : TypeTree → Type 0) (T : TypeTree) (s : List ℕ) (p : Place) (v : V) (e : ParserError) → IsValueTaken tree_of_value of T (start_of s) p v → IsTrailing e p → RefusesText Full T s e
-trailing_refused tree_of_value of Full T s p v e h trails served distinct =
+trailing_refused tree_of_value of Full T s p v e h trails distinct =
     let (behind, any, says) = trails in
     inr (inl (
-      inr (inr (p, h.placed, tree_of_value v, h.taken, (h.means served distinct).reads, trails)),
+      inr (inr (p, h.placed, tree_of_value v, h.taken, (h.means distinct).reads, trails)),
       λ w means. let ends = (whole_read T s p (tree_of h.placed) w h.read h.taken means).ends in nothing_there p ends.0 behind ends.1 any,
     ))
 
 -- a value behind which nothing follows is meant
 pub value_meant : {V : Type 0} (tree_of_value : V → Value) (of : V → TypeTree → Type 0) (T : TypeTree) (s : List ℕ) (p : Place) (v : V) → IsValueTaken tree_of_value of T (start_of s) p v → ((behind : Place) × Takes p None behind) → IsMeant tree_of_value of T s v
-value_meant tree_of_value of T s p v h ends served distinct =
-    let it = h.means served distinct in
+value_meant tree_of_value of T s p v h ends distinct =
+    let it = h.means distinct in
     (means_of T s p (tree_of h.placed) (tree_of_value v) h.taken ends it.reads, it.is_of)
 
 -- a refusal that is handed on

@@ -15,7 +15,6 @@ use Rattle.wave_tree.specs.Means.{Means}
 use Rattle.wave_tree.specs.Parsed.{IsTaken}
 use Rattle.wave_tree.specs.Parsing.{IsTrailing, front_of}
 use Rattle.wave_tree.specs.Typed as typed
-use Rattle.wave_tree.specs.Typed.{IsServed}
 
 -- in front of the text
 abbrev pub start_of : List ℕ → Place
@@ -27,11 +26,11 @@ module _ {V : Type 0} (tree : V → Value) (of : V → TypeTree → Type 0) wher
     pub read : IsRead 100 value [] old new []
     pub placed : Placed
     pub taken : IsTaken old new (tree_of placed)
-    pub means : IsServed T → HasDistinctNames T → typed.IsRead tree of T placed v
+    pub means : HasDistinctNames T → typed.IsRead tree of T placed v
 
   -- the text means the value, which is of the type
   abbrev pub IsMeant : TypeTree → List ℕ → V → Type 0
-  IsMeant T s v = IsServed T → HasDistinctNames T → Means T s (tree v) × of v T
+  IsMeant T s v = HasDistinctNames T → Means T s (tree v) × of v T
 
 module _ (Full : TypeTree → Type 0) where
   -- a tree was read, each part of which spells its slice of the source; the type gives it no value, or a maker refused its value
@@ -40,7 +39,7 @@ module _ (Full : TypeTree → Type 0) where
     pub placed : Placed
     pub taken : IsTaken old new (tree_of placed)
     pub spelled : SpellsEach old.lexer.source placed
-    pub blames : IsServed T → HasDistinctNames T → Fault T placed (refusal_of e) e.span × typed.ReadsNone T placed ⊎ (e.kind ≡ WasmValueError) × (Full T → ⊥)
+    pub blames : HasDistinctNames T → Fault T placed (refusal_of e) e.span × typed.ReadsNone T placed ⊎ (e.kind ≡ WasmValueError) × (Full T → ⊥)
 
   -- no value was read: for want of memory, or no tree stands there, or one to which the type gives no value
   abbrev pub RefusesValue : TypeTree → ParserError → Place → Place → Type 0
@@ -60,5 +59,5 @@ TextFault T s e =
 -- want of memory; or a fault of the text, which means no value of the type; or, where makers do not serve all values of the type, the refusal of one
 abbrev pub RefusesText : (TypeTree → Type 0) → TypeTree → List ℕ → ParserError → Type 0
 RefusesText Full T s e =
-    IsServed T → HasDistinctNames T →
+    HasDistinctNames T →
     (e.kind ≡ OutOfMemory) ⊎ TextFault T s e × MeansNone T s ⊎ (e.kind ≡ WasmValueError) × (Full T → ⊥)

@@ -10,7 +10,7 @@ ghost use Rattle.wave_tree.specs.NodeTree.{place_of};
 ghost use Rattle.wave_tree.specs.Refusals.{Says};
 ghost use Rattle.wave_tree.specs.Nodes.{IsNodeOf};
 ghost use Rattle.wave_tree.specs.Placed.{Placed};
-ghost use Rattle.wave_tree.specs.Typed.{IsValueOf, IsServed};
+ghost use Rattle.wave_tree.specs.Typed.{IsValueOf};
 ghost use Rattle.wave_tree.specs.Called.{AreOmitted, RefusesNone, none_given};
 ghost use Rattle.wave_tree.specs.TreeParams.{GivesParams, RefusesParams, RefusesOmitted, IsNoOption, close_of};
 
@@ -32,9 +32,9 @@ impl Node {
         src: &str,
     ) -> Result<Vec<V>, ParserError>
         requires { IsValueOf src.now self.now }
-        ensures values { AllOf IsServed (map V.Type.tree types.now) → AllOf HasDistinctNames (map V.Type.tree types.now) → (t : Placed) → IsNodeOf src.now self.now t
+        ensures values { AllOf HasDistinctNames (map V.Type.tree types.now) → (t : Placed) → IsNodeOf src.now self.now t
             → IfOk result (λ vs. GivesParams V.tree V.is_of (map V.Type.tree types.now) self.now t vs.items) }
-        ensures refused { AllOf IsServed (map V.Type.tree types.now) → AllOf HasDistinctNames (map V.Type.tree types.now) → (t : Placed) → IsNodeOf src.now self.now t
+        ensures refused { AllOf HasDistinctNames (map V.Type.tree types.now) → (t : Placed) → IsNodeOf src.now self.now t
             → IfErr result (RefusesParams V.is_full (map V.Type.tree types.now) self.now t) }
     {
         let nodes = self.as_tuple()?;

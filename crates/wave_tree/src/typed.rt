@@ -39,7 +39,7 @@ impl Node {
         src: &str,
     ) -> Result<V, ParserError>
         requires { IsValueOf src.now self.now }
-        ensures { IsServed (V.Type.tree ty.now) → Reads V.tree V.is_of V.is_full (V.Type.tree ty.now) src.now self.now result }
+        ensures { Reads V.tree V.is_of V.is_full (V.Type.tree ty.now) src.now self.now result }
     {
         self.read(alloc, ty, src)
     }

@@ -1,6 +1,6 @@
 //! Values that were read without a type.
 ghost use Rattle.std.specs.Prelude.{◌≡◌, IfOk, IfErr};
-ghost use Rattle.wave_tree.specs.Typed.{IsValueOf, IsServed};
+ghost use Rattle.wave_tree.specs.Typed.{IsValueOf};
 ghost use Rattle.wave_tree.specs.Typed as typed;
 ghost use Rattle.wave_tree.specs.Untyped.{IsUntypedOf, RefusesTree};
 
@@ -103,7 +103,7 @@ impl<'source> UntypedValue<'source> {
 
     /// The value that the type gives the untyped one, or a refusal, as of its node.
     pub fn to_wasm_value<V: WasmValue>(&self, alloc: Global, ty: &V::Type) -> Result<V, ParserError>
-        ensures { IsServed (V.Type.tree ty.now) → typed.Reads V.tree V.is_of V.is_full (V.Type.tree ty.now) self.now.source self.now.node result }
+        ensures { typed.Reads V.tree V.is_of V.is_full (V.Type.tree ty.now) self.now.source self.now.node result }
     {
         self.node.to_wasm_value(alloc, ty, self.source.as_str())
     }

@@ -4,7 +4,6 @@ ghost use Rattle.wave_tree.specs.Placed.{slice};
 ghost use Rattle.wave_lex.specs.FunctionName.{IsName};
 ghost use Rattle.wave_wasm.specs.Lists.{AllOf};
 ghost use Rattle.wave_wasm.specs.Types.{HasDistinctNames};
-ghost use Rattle.wave_tree.specs.Typed.{IsServed};
 ghost use Rattle.wave_tree.specs.Called.{IsInSource, IsCalledOf, NameFault, RefusesCall, GivesParamsAt, RefusesParamsAt};
 
 use crate::ast::Node;
@@ -152,8 +151,8 @@ impl<'source> UntypedFuncCall<'source> {
         alloc: Global,
         types: &[V::Type],
     ) -> Result<Vec<V>, ParserError>
-        ensures values { AllOf IsServed (map V.Type.tree types.now) → AllOf HasDistinctNames (map V.Type.tree types.now) → IfOk result (λ vs. GivesParamsAt V.tree V.is_of (map V.Type.tree types.now) self.now.source self.now.params vs.items) }
-        ensures refused { AllOf IsServed (map V.Type.tree types.now) → AllOf HasDistinctNames (map V.Type.tree types.now) → IfErr result (RefusesParamsAt V.is_full (map V.Type.tree types.now) self.now.source self.now.name self.now.params) }
+        ensures values { AllOf HasDistinctNames (map V.Type.tree types.now) → IfOk result (λ vs. GivesParamsAt V.tree V.is_of (map V.Type.tree types.now) self.now.source self.now.params vs.items) }
+        ensures refused { AllOf HasDistinctNames (map V.Type.tree types.now) → IfErr result (RefusesParamsAt V.is_full (map V.Type.tree types.now) self.now.source self.now.name self.now.params) }
     {
         match &self.params {
             Some(params) => params.to_wasm_params(alloc, types, self.source.as_str()),

@@ -1,7 +1,7 @@
 use Rattle.std.proofs.Common.{rules, ◌≡◌, ◌≤◌, ◌<◌, ◌+◌, ◌-◌, length, map, take, drop, inl, inr, sym, subst, ap, ◌∙◌, arith}
 use Rattle.wave_wasm.specs.Lists.{AllOf}
 use Rattle.wave_wasm.specs.Types.{HasDistinctNames}
-use Rattle.wave_tree.specs.Typed.{IsServed, IsValueOf}
+use Rattle.wave_tree.specs.Typed.{IsValueOf}
 use Rattle.wave_tree.specs.TreeParams.{RefusesParams, close_of}
 use Rattle.wave_tree.proofs.Items.{node_at}
 use Rattle.wave_tree.proofs.Tuples.{tuple_nodes, given_items, tuple_item, tuple_kept, place_has, map_has, all_has}
@@ -9,13 +9,13 @@ use Rattle.wave_tree.proofs.ParamLemmas.{mapped_count, rest_mapped, error_handed
 use Rattle.wave_tree.proofs.ast.Node.to_wasm_params.Goals as goal
 
 pub returns-then-i-types-clause-refused : goal.returns-then-i-types-clause-refused
-returns-then-i-types-clause-refused g c = λ served distinct t is.
+returns-then-i-types-clause-refused g c = λ distinct t is.
     let Ts = (map g.V.Type.WasmType.tree c.args.types.now) in
     let ns = c.in_ok-nodes.nodes.now in
     let src = c.args.src.now in
     let inner = tuple_nodes src c.args.self.now t is c.in_ok-nodes.ensures.0 in
     let nodes = given_items src c.args.self.now t ns is c.in_ok-nodes.ensures.0 c.in_ok-nodes.ensures.1 in
-    let before = c.loop-i.invariant.1 inner.items nodes served distinct in
+    let before = c.loop-i.invariant.1 inner.items nodes distinct in
     let many = mapped_count g.V.Type.WasmType.tree c.args.types.now in
     let fits : c.loop-i.i ≤ length Ts = omega (arith, c.loop-i.invariant.0, many) in
     inr (inner.items, inner.shape, too_many_refused g.V.WasmValue.tree g.V.WasmValue.is_of g.V.WasmValue.is_full src Ts ns inner.items c.loop-i.vals.items c.loop-i.i c.index-nodes-i.result (close_of c.args.self.now) c.too_many.result nodes c.loop-i-test.true c.index-nodes-i.is fits (omega (arith, c.if-i-types.true, many)) before c.too_many.ensures)
@@ -24,13 +24,13 @@ pub to_wasm_value-requires : goal.to_wasm_value-requires
 to_wasm_value-requires g c = tuple_item c.args.src.now c.args.self.now c.in_ok-nodes.nodes.now c.loop-i.i c.index-nodes-i-in-loop-i.result c.requires c.in_ok-nodes.ensures.0 c.in_ok-nodes.ensures.1 c.loop-i-test.true c.index-nodes-i-in-loop-i.is
 
 pub returns-in_err-val-clause-refused : goal.returns-in_err-val-clause-refused
-returns-in_err-val-clause-refused g c = λ served distinct t is.
+returns-in_err-val-clause-refused g c = λ distinct t is.
     let Ts = (map g.V.Type.WasmType.tree c.args.types.now) in
     let ns = c.in_ok-nodes.nodes.now in
     let src = c.args.src.now in
     let inner = tuple_nodes src c.args.self.now t is c.in_ok-nodes.ensures.0 in
     let nodes = given_items src c.args.self.now t ns is c.in_ok-nodes.ensures.0 c.in_ok-nodes.ensures.1 in
-    let before = c.loop-i.invariant.1 inner.items nodes served distinct in
+    let before = c.loop-i.invariant.1 inner.items nodes distinct in
     let many = mapped_count g.V.Type.WasmType.tree c.args.types.now in
     let fits : c.loop-i.i ≤ length Ts = omega (arith, c.loop-i.invariant.0, many) in
     let T = g.V.Type.WasmType.tree c.index-types-i.result in
@@ -40,11 +40,11 @@ returns-in_err-val-clause-refused g c = λ served distinct t is.
       inner.items,
       inner.shape,
       item_refused g.V.WasmValue.tree g.V.WasmValue.is_of g.V.WasmValue.is_full src Ts ns inner.items c.loop-i.vals.items c.loop-i.i c.index-nodes-i-in-loop-i.result T (close_of c.args.self.now) c.in_err-val.field-0.0 nodes c.loop-i-test.true c.index-nodes-i-in-loop-i.is (omega (arith, c.if-i-types.false, many)) typed before
-          (λ u here. c.in_err-val.ensures (all_has IsServed Ts c.loop-i.i T served typed) u here (all_has HasDistinctNames Ts c.loop-i.i T distinct typed)),
+          (λ u here. c.in_err-val.ensures u here (all_has HasDistinctNames Ts c.loop-i.i T distinct typed)),
     ))
 
 pub returns-in_err-keep-clause-refused : goal.returns-in_err-keep-clause-refused
-returns-in_err-keep-clause-refused g c = λ served distinct t is.
+returns-in_err-keep-clause-refused g c = λ distinct t is.
     let inner = tuple_nodes c.args.src.now c.args.self.now t is c.in_ok-nodes.ensures.0 in
     error_handed (RefusesParams g.V.WasmValue.is_full (map g.V.Type.WasmType.tree c.args.types.now) c.args.self.now t) c.from_residual-in_err-keep.result c.in_err-keep.field-0.0 c.from_residual-in_err-keep.ensures.1
     (inr (inner.items, inner.shape, inl c.in_err-keep.ensures.refused))
@@ -55,19 +55,19 @@ loop-i-preserved g c =
     let T = g.V.Type.WasmType.tree c.index-types-i.result in
     let typed = map_has g.V.Type.WasmType.tree c.args.types.now c.loop-i.i c.index-types-i.result (place_has c.args.types.now c.loop-i.i c.index-types-i.result c.if-i-types.false c.index-types-i.is) in (
       omega (arith, c.if-i-types.false),
-      λ ts nodes served distinct.
-          tuple_kept g.V.WasmValue.tree g.V.WasmValue.is_of g.V.WasmValue.is_full c.args.src.now Ts c.in_ok-nodes.nodes.now ts c.loop-i.vals.items c.keep.new.items.items c.loop-i.i c.index-nodes-i-in-loop-i.result T c.in_ok-val.val nodes c.loop-i-test.true c.index-nodes-i-in-loop-i.is typed (c.loop-i.invariant.1 ts nodes served distinct)
-          (λ u here. c.in_ok-val.ensures (all_has IsServed Ts c.loop-i.i T served typed) u here (all_has HasDistinctNames Ts c.loop-i.i T distinct typed)) c.in_ok-keep.ensures.kept,
+      λ ts nodes distinct.
+          tuple_kept g.V.WasmValue.tree g.V.WasmValue.is_of g.V.WasmValue.is_full c.args.src.now Ts c.in_ok-nodes.nodes.now ts c.loop-i.vals.items c.keep.new.items.items c.loop-i.i c.index-nodes-i-in-loop-i.result T c.in_ok-val.val nodes c.loop-i-test.true c.index-nodes-i-in-loop-i.is typed (c.loop-i.invariant.1 ts nodes distinct)
+          (λ u here. c.in_ok-val.ensures u here (all_has HasDistinctNames Ts c.loop-i.i T distinct typed)) c.in_ok-keep.ensures.kept,
     )
 
 pub returns-then-not-are_options-clause-refused : goal.returns-then-not-are_options-clause-refused
-returns-then-not-are_options-clause-refused g c = λ served distinct t is.
+returns-then-not-are_options-clause-refused g c = λ distinct t is.
     let Ts = (map g.V.Type.WasmType.tree c.args.types.now) in
     let ns = c.in_ok-nodes.nodes.now in
     let src = c.args.src.now in
     let inner = tuple_nodes src c.args.self.now t is c.in_ok-nodes.ensures.0 in
     let nodes = given_items src c.args.self.now t ns is c.in_ok-nodes.ensures.0 c.in_ok-nodes.ensures.1 in
-    let before = c.loop-i.invariant.1 inner.items nodes served distinct in
+    let before = c.loop-i.invariant.1 inner.items nodes distinct in
     let many = mapped_count g.V.Type.WasmType.tree c.args.types.now in
     let fits : c.loop-i.i ≤ length Ts = omega (arith, c.loop-i.invariant.0, many) in
     let Left = map g.V.Type.WasmType.tree (take (length c.args.types.now - length ns) (drop (length ns) c.args.types.now)) in
@@ -75,13 +75,13 @@ returns-then-not-are_options-clause-refused g c = λ served distinct t is.
     inr (inner.items, inner.shape, missing_refused g.V.WasmValue.tree g.V.WasmValue.is_of g.V.WasmValue.is_full src Ts Left ns inner.items c.loop-i.vals.items c.loop-i.i (close_of c.args.self.now) c.missing.result nodes c.loop-i.auto.i-end c.loop-i-test.false fits before left c.if-not-are_options.ensures c.missing.ensures)
 
 pub returns-in_err-push_omitted-clause-refused : goal.returns-in_err-push_omitted-clause-refused
-returns-in_err-push_omitted-clause-refused g c = λ served distinct t is.
+returns-in_err-push_omitted-clause-refused g c = λ distinct t is.
     let Ts = (map g.V.Type.WasmType.tree c.args.types.now) in
     let ns = c.in_ok-nodes.nodes.now in
     let src = c.args.src.now in
     let inner = tuple_nodes src c.args.self.now t is c.in_ok-nodes.ensures.0 in
     let nodes = given_items src c.args.self.now t ns is c.in_ok-nodes.ensures.0 c.in_ok-nodes.ensures.1 in
-    let before = c.loop-i.invariant.1 inner.items nodes served distinct in
+    let before = c.loop-i.invariant.1 inner.items nodes distinct in
     let many = mapped_count g.V.Type.WasmType.tree c.args.types.now in
     let fits : c.loop-i.i ≤ length Ts = omega (arith, c.loop-i.invariant.0, many) in
     let Left = map g.V.Type.WasmType.tree (take (length c.args.types.now - length ns) (drop (length ns) c.args.types.now)) in
@@ -90,13 +90,13 @@ returns-in_err-push_omitted-clause-refused g c = λ served distinct t is.
     (inr (inner.items, inner.shape, omitted_refused g.V.WasmValue.tree g.V.WasmValue.is_of g.V.WasmValue.is_full Ts Left (length ns) inner.items (close_of c.args.self.now) c.span.result c.in_err-push_omitted.field-0.0 left c.in_err-push_omitted.ensures.refused))
 
 pub returns-clause-values : goal.returns-clause-values
-returns-clause-values g c = λ served distinct t is.
+returns-clause-values g c = λ distinct t is.
     let Ts = (map g.V.Type.WasmType.tree c.args.types.now) in
     let ns = c.in_ok-nodes.nodes.now in
     let src = c.args.src.now in
     let inner = tuple_nodes src c.args.self.now t is c.in_ok-nodes.ensures.0 in
     let nodes = given_items src c.args.self.now t ns is c.in_ok-nodes.ensures.0 c.in_ok-nodes.ensures.1 in
-    let before = c.loop-i.invariant.1 inner.items nodes served distinct in
+    let before = c.loop-i.invariant.1 inner.items nodes distinct in
     let many = mapped_count g.V.Type.WasmType.tree c.args.types.now in
     let fits : c.loop-i.i ≤ length Ts = omega (arith, c.loop-i.invariant.0, many) in
     let Left = map g.V.Type.WasmType.tree (take (length c.args.types.now - length ns) (drop (length ns) c.args.types.now)) in

@@ -2,7 +2,6 @@ use Rattle.std.proofs.Common.{List, ◌≤◌, length, map, take}
 use Rattle.wave_wasm.specs.Lists.{AllOf}
 use Rattle.wave_wasm.specs.Types.{HasDistinctNames}
 use Rattle.wave_tree.specs.Placed.{Placed}
-use Rattle.wave_tree.specs.Typed.{IsServed}
 use Rattle.wave_tree.proofs.Items.{AreNodesOf}
 use Rattle.wave_tree.proofs.Tuples.{ReadAt}
 use Rattle.wave_tree.proofs.ast.Node.to_wasm_params.Given as goal
@@ -10,4 +9,4 @@ use Rattle.wave_tree.proofs.ast.Node.to_wasm_params.Given as goal
 abbrev pub invariant-loop-i : goal.invariant-loop-i
 invariant-loop-i g l =
     (l.i ≤ length l.types)
-    × ((ts : List Placed) → AreNodesOf l.src l.nodes ts → AllOf IsServed (map g.V.Type.WasmType.tree l.types) → AllOf HasDistinctNames (map g.V.Type.WasmType.tree l.types) → ReadAt g.V.WasmValue.tree g.V.WasmValue.is_of g.V.WasmValue.is_full (take l.i (map g.V.Type.WasmType.tree l.types)) (take l.i ts) l.vals.items)
+    × ((ts : List Placed) → AreNodesOf l.src l.nodes ts → AllOf HasDistinctNames (map g.V.Type.WasmType.tree l.types) → ReadAt g.V.WasmValue.tree g.V.WasmValue.is_of g.V.WasmValue.is_full (take l.i (map g.V.Type.WasmType.tree l.types)) (take l.i ts) l.vals.items)
