@@ -140,6 +140,86 @@ fn texts_read(rt: HostRuntime) -> Result<(), Fail> {
     Ok(())
 }
 
+/// The canonical text of what the text reads as, or the refusal's words.
+fn read(rt: HostRuntime, ty: &Type, text: &str) -> Result<String, Fail> {
+    match from_str(rt.alloc(), ty, text) {
+        Ok(val) => Ok(to_string(rt.alloc(), &val)?),
+        Err(error) => Ok(format!(in rt.alloc(); "{error}")?),
+    }
+}
+
+#[test]
+fn chars_read(rt: HostRuntime) -> Result<(), Fail> {
+    for (text, answer) in [
+        ("'\\u{1F44B}'", "'👋'"),
+        ("'\\u{D800}'", "invalid character escape at 0..10"),
+        ("'ab'", "invalid token at 0..4"),
+        ("\"a\"", "invalid value type at 0..3"),
+    ] {
+        assert_eq!(rt; read(rt, &Type::CHAR, text)?.as_str(), answer, "at {text}");
+    }
+    Ok(())
+}
+
+#[test]
+fn strings_read(rt: HostRuntime) -> Result<(), Fail> {
+    for (text, answer) in [
+        ("\"a\\u{62}\\n\"", "\"ab\\n\""),
+        ("\"\\u{D800}\"", "invalid character escape at 1..2"),
+        ("'a'", "invalid value type at 0..3"),
+        ("\"\"\"\n\"\"\"", "\"\""),
+        (
+            "\"\"\"\n    Indentation determined\n      by ending delimiter\n  \"\"\"",
+            "\"  Indentation determined\\n    by ending delimiter\"",
+        ),
+    ] {
+        assert_eq!(rt;
+            read(rt, &Type::STRING, text)?.as_str(),
+            answer,
+            "at {text}"
+        );
+    }
+    Ok(())
+}
+
+#[test]
+fn multiline_strings_refused(rt: HostRuntime) -> Result<(), Fail> {
+    for (text, answer) in [
+        (
+            "\"\"\"\nabc\"\"\"",
+            "invalid multiline string: closing \"\"\" must be on a line preceded only by spaces at 7..10",
+        ),
+        (
+            "\"\"\"\"\"\"",
+            "invalid multiline string: opening \"\"\" must be followed immediately by newline at 3..4",
+        ),
+    ] {
+        assert_eq!(rt;
+            read(rt, &Type::STRING, text)?.as_str(),
+            answer,
+            "at {text}"
+        );
+    }
+    Ok(())
+}
+
+#[test]
+fn keys_read(rt: HostRuntime) -> Result<(), Fail> {
+    let Some(ty) = Type::map(rt.alloc(), Type::STRING, Type::U32)? else {
+        return Ok(());
+    };
+    for (text, answer) in [
+        (
+            "{\"a\": 1, \"b\": 2, \"\\u{61}\": 3}",
+            "{\"a\": 3, \"b\": 2}",
+        ),
+        ("{\"a\": \"x\", \"a\": 1}", "invalid value type at 6..9"),
+    ] {
+        assert_eq!(rt; read(rt, &ty, text)?.as_str(), answer, "at {text}");
+    }
+    Ok(())
+}
+
 /// The text of what was made, or the refusal's words.
 fn made(rt: HostRuntime, val: Result<Value, WasmValueError>) -> Result<String, Fail> {
     match val {
