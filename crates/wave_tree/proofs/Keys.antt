@@ -1,5 +1,5 @@
 -- The keys of maps.
-use Rattle.std.proofs.Common.{ℕ, ℤ, ◌≡◌, ◌≢◌, inl, inr, Bool, List, Some, None, Result, Ok, Err, IfOk, IfErr, MatchResult, refl, sym, ap, ◌∙◌, subst}
+use Rattle.std.proofs.Common.{ℕ, ℤ, ◌≡◌, ◌≢◌, ◌⊎◌, inl, inr, Bool, List, Some, None, Result, Ok, Err, IfOk, IfErr, MatchResult, refl, sym, ap, ◌∙◌, subst}
 use Rattle.std.specs.Result.{IsErrAnd}
 use Rattle.std.specs.declared.ops.Range.{Range}
 use Rattle.wave_wasm.specs.Types as type
@@ -15,7 +15,7 @@ use Rattle.wave_wasm.specs.declared.wasm.WasmValueError.{WasmValueError}
 use Rattle.wave_wasm.specs.declared.wasm.WasmValueError.TheVariants as error
 use Rattle.wave_lex.specs.Errors.{Refusal, refusal_of, refused_by}
 use Rattle.wave_lex.specs.declared.error.ParserError.{ParserError}
-use Rattle.wave_lex.specs.declared.error.ParserErrorKind.TheVariants.{InvalidType, InvalidValue}
+use Rattle.wave_lex.specs.declared.error.ParserErrorKind.TheVariants.{InvalidType, InvalidValue, OutOfMemory}
 use Rattle.wave_tree.specs.Token.{Token}
 use Rattle.wave_tree.specs.Token as token
 use Rattle.wave_tree.specs.Spells.{Spells}
@@ -205,3 +205,15 @@ module _ {V : Type 0} (tree : V → Value) (of : V → TypeTree → Type 0) (Ful
   pub key_faulty : (T : TypeTree) (K S : Simple) (p : Range ℕ) (key : Token) (e : ParserError) (r : Result V ParserError) → T ≡ type.simple K → T ≡ type.simple S → IsErrAnd r (λ f. f ≡ e) → MapKeyFault S p key (refusal_of e) e.span → MatchResult r (IsKeyRead tree of K key) (IsKeyBlamed Full K p key)
   key_faulty T K S p key e r is same handed_on fault =
       key_handed K p key e r handed_on (inr (inl (subst (λ (R : Simple). MapKeyFault R p key (refusal_of e) e.span) (one_simple T K S is same) fault)))
+
+-- a refusal that says the same blames the same
+blamed_again : (Full : TypeTree → Type 0) (K : Simple) (p : Range ℕ) (key : Token) (e f : ParserError) → (f.kind ≡ OutOfMemory) ⊎ (refusal_of f ≡ refusal_of e) × (f.span ≡ e.span) → IsKeyBlamed Full K p key e → IsKeyBlamed Full K p key f
+blamed_again Full K p key e f (inl memory) h = inl memory
+blamed_again Full K p key e f (inr (same, place)) (inl memory) = inl (ap (λ (r : Refusal). r.kind) same ∙ memory)
+blamed_again Full K p key e f (inr (same, place)) (inr (inl fault)) =
+    inr (inl (subst (λ (q : Range ℕ). MapKeyFault K p key (refusal_of f) q) (sym place) (subst (λ (r : Refusal). MapKeyFault K p key r e.span) (sym same) fault)))
+blamed_again Full K p key e f (inr (same, place)) (inr (inr (kind, full))) = inr (inr (ap (λ (r : Refusal). r.kind) same ∙ kind, full))
+
+-- so of a key that was not read
+pub key_told : {V : Type 0} (tree : V → Value) (of : V → TypeTree → Type 0) (Full : TypeTree → Type 0) (K : Simple) (p : Range ℕ) (key : Token) (r : Result V ParserError) (e f : ParserError) → r ≡ Err e → (f.kind ≡ OutOfMemory) ⊎ (refusal_of f ≡ refusal_of e) × (f.span ≡ e.span) → MatchResult r (IsKeyRead tree of K key) (IsKeyBlamed Full K p key) → IsKeyBlamed Full K p key f
+key_told {V} tree of Full K p key r e f is told h = blamed_again Full K p key e f told (subst (λ (s : Result V ParserError). MatchResult s (IsKeyRead tree of K key) (IsKeyBlamed Full K p key)) is h)

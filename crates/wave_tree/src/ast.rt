@@ -318,7 +318,7 @@ impl Node {
     }
 
     /// Whether the node is of this type.
-    fn is_of(&self, ty: NodeType) -> bool
+    pub(crate) fn is_of(&self, ty: NodeType) -> bool
         ensures { IsTrue result ↔ (type_of self.now ≡ ty) }
     {
         self.ty == ty

@@ -21,10 +21,10 @@ ghost use Rattle.std.specs.Str.{bytes_eq};
 ghost use Rattle.wave_wasm.specs.Merge.{merge};
 ghost use Rattle.wave_wasm.specs.Text.{text};
 
-use crate::ast::{CowStr, Node};
+use crate::ast::{CowStr, Node, NodeType};
 use std::alloc::Global;
 use wave_lex::error::{ParserError, ParserErrorKind};
-use wave_wasm::wasm::{WasmType, WasmTypeKind, WasmValue, WasmValueError};
+use wave_wasm::wasm::{DisplayType, WasmType, WasmTypeKind, WasmValue, WasmValueError};
 use wave_wasm::writer::{WriterError, merge_map_entries, to_string};
 
 impl Node {
@@ -218,8 +218,43 @@ impl Node {
         }
     }
 
-    /// A key of a map.
+    /// A key of a map. Of a label that spells none the refusal says what it should be.
     fn read_key<V: WasmValue>(
+        &self,
+        alloc: Global,
+        ty: &V::Type,
+        src: &str,
+    ) -> Result<V, ParserError>
+        requires { IsKeyOf src.now self.now }
+        ensures { IsKeyServed (V.Type.tree ty.now) → AnswersKey V.tree V.is_of V.is_full (V.Type.tree ty.now) src.now self.now result }
+    {
+        match self.read_plain_key(alloc, ty, src) {
+            Ok(key) => Ok(key),
+            Err(error) => Err(self.told_label(alloc, ty, error)),
+        }
+    }
+
+    /// The refusal of a key; where the key is a label, with the type of the key that is due.
+    fn told_label<T: WasmType>(&self, alloc: Global, ty: &T, error: ParserError) -> ParserError
+        ensures { (result.kind ≡ OutOfMemory) ⊎ (refusal_of result ≡ refusal_of error) × (result.span ≡ error.span) }
+    {
+        if error.kind() != ParserErrorKind::InvalidType
+            || error.cause().is_some()
+            || !self.is_of(NodeType::Label)
+        {
+            return error;
+        }
+        match format!(in alloc;
+            "expected a {} key, found a label",
+            DisplayType::new(alloc, ty)
+        ) {
+            Ok(detail) => ParserError::with_detail(error.kind(), error.span(), detail),
+            Err(_) => self.out_of_memory(),
+        }
+    }
+
+    /// A key of a map, its refusal without a detail where it is a label.
+    fn read_plain_key<V: WasmValue>(
         &self,
         alloc: Global,
         ty: &V::Type,
