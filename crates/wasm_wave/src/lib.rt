@@ -26,7 +26,7 @@ pub use wave_wasm::{wasm, writer};
 /// The value that the whole text means at the type, of that type; a text that means none is
 /// refused, and so is any text for want of memory. What is read is merged. Where the names of the
 /// type are distinct no text means two values; where they are labels too, what is read within some
-/// levels has a canonical text of at most twice as many. A refusal's span lies in the text.
+/// levels has a canonical text of at most twice as many.
 pub fn from_str(alloc: Global, ty: &Type, s: &str) -> Result<Value, ParserError>
     ensures read { IfOk result (IsReadAs ty.now s.now) }
     ensures merged { IfOk result (IsMergedAt ty.now) }
