@@ -1,5 +1,5 @@
 -- Words of the contracts of reading and writing.
-use Rattle.std.specs.Prelude.{ℕ, ◌≡◌, ◌≢◌, ◌↔◌, List}
+use Rattle.std.specs.Prelude.{ℕ, ◌≡◌, ◌≢◌, ◌≤◌, ◌↔◌, List}
 use Rattle.wave_wasm.specs.Types.{TypeTree}
 use Rattle.wave_wasm.specs.Values.{Value}
 use Rattle.wave_wasm.specs.HasType.{HasType}
@@ -10,7 +10,9 @@ use Rattle.wave_wasm.specs.declared.writer.WriterError.TheVariants as refusal
 use Rattle.wave_wasm.specs.Types.{HasDistinctNames}
 use Rattle.wave_lex.specs.declared.error.ParserError.{ParserError}
 use Rattle.wave_lex.specs.declared.error.ParserErrorKind.TheVariants.{OutOfMemory}
+use Rattle.wave_tree.specs.Tree.{levels}
 use Rattle.wave_tree.specs.Means.{Means}
+use Rattle.wave_tree.specs.CanonLaws.{ReadBack}
 use Rattle.wave_tree.specs.FromText.{MeansNone}
 use Rattle.wasm_wave.specs.TypedValue.{TypedValue, IsAt}
 
@@ -26,6 +28,10 @@ OneValue T = (s : List ℕ) (v w : Value) → Means T s v → Means T s w → v 
 -- another value of the type has the same canonical text exactly where the two are equal, merged
 abbrev pub IsToldByText : TypeTree → Value → Type 0
 IsToldByText T v = (w : Value) → HasType T w → (text v ≡ text w) ↔ (merged v ≡ merged w)
+
+-- where its canonical text holds at most 100 levels, that text means the value, merged
+abbrev pub IsReadAgain : TypeTree → Value → Type 0
+IsReadAgain T v = (back : ReadBack T v) → levels back.tree ≤ 100 → Means T (text v) (merged v)
 
 -- at a type whose names are distinct the text means the value, which is of the type
 abbrev pub IsReadAs : TypeTree → List ℕ → TypedValue → Type 0

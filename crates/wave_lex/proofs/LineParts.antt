@@ -10,7 +10,7 @@ use Rattle.wave_lex.specs.Lexing.{span}
 use Rattle.wave_lex.specs.Strings.{Decodes, IsBadEscapeAt}
 use Rattle.wave_lex.specs.Multiline.{LinesMean, in_lines, DecodesLines, LineFault, closing, opening, indentation, escape, BadLines, MultilineFault, fault_span}
 use Rattle.wave_lex.specs.Left.{Undecoded, LinesLeft, one_line}
-use Rattle.wave_lex.specs.Parts.{part_text, part_texts, TellsBadEscape, TellsFault, EntersLine, MeetsBadLine, StaysInLine, LinePartIs, Begins, OpeningRefused, LinesRunTo, LinesJoin, OneLineJoins}
+use Rattle.wave_lex.specs.Parts.{part_text, part_texts, TellsBadEscape, TellsFault, EntersLine, HasBadLine, MeetsBadLine, StaysInLine, LinePartIs, Begins, OpeningRefused, LinesRunTo, LinesJoin, OneLineJoins}
 use Rattle.wave_lex.proofs.Decoding.{empty_once}
 use Rattle.wave_lex.proofs.Parts.{takes, bad_behind, bad_here}
 
@@ -108,7 +108,7 @@ fault_here : (pos n at : ℕ) (old new : LinesLeft) (e : ParserError) → old.ne
     → (f : LineFault) × BadLines old.indent at old.later f × TellsFault e f (fault_span pos n f)
 fault_here pos n at old new e there h = (
   indentation at,
-  subst (λ (z : List (List ℕ)). BadLines old.indent at z (indentation at)) (sym h.there) (inl (inl (h.bad, refl))),
+  subst (λ (z : List (List ℕ)). BadLines old.indent at z (indentation at)) (sym h.met.there) (inl (inl (h.met.bad, refl))),
   record { refusal = h.told.refusal; detail = h.told.detail; at = h.told.at ∙ ap (λ (z : ℕ). span z (z + 1)) there },
 )
 
@@ -142,15 +142,23 @@ no_lines k (u ∷ us) h = absurd h
 inside_means : (s : List ℕ) (pos : ℕ) (l : LinesLeft) (us : List (List ℕ)) → Begins s pos l → LinesMean l.indent l.later us → DecodesLines s (in_lines us)
 inside_means s pos l us b lines = record { first = b.first; between = l.later; indent = l.indent; texts = us; cut = b.cut; opens = b.opens; lines = lines; joins = refl }
 
+-- a line with too few spaces means nothing
+bad_means_none : (l : LinesLeft) (us : List (List ℕ)) → (h : HasBadLine l) → LinesMean l.indent (h.line ∷ h.more) us → ⊥
+bad_means_none l [] h lines = lines
+bad_means_none l (u ∷ us) h ((y, (x, whole, drops), decodes), lines) = h.bad x whole
+
 -- what is left at the beginning means what the inside means
-opened_means : (s : List ℕ) (pos : ℕ) (l new : LinesLeft) (t : List ℕ) → Begins s pos l → ((l.later ≡ []) × (new ≡ l) ⊎ EntersLine l new) → LeftMeans new t → DecodesLines s t
+opened_means : (s : List ℕ) (pos : ℕ) (l new : LinesLeft) (t : List ℕ) → Begins s pos l → ((l.later ≡ []) × (new ≡ l) ⊎ HasBadLine l × (new ≡ l) ⊎ EntersLine l new) → LeftMeans new t → DecodesLines s t
 opened_means s pos l new t b (inl (none, same)) (u, us, decodes, lines, joined) =
     let empty : u ≡ [] = empty_once u (subst (λ (z : List ℕ). Decodes z u) (ap (λ (z : LinesLeft). z.line.rest) same ∙ b.read) decodes) in
     let lines_there : LinesMean l.indent l.later us = subst (λ (z : LinesLeft). LinesMean z.indent z.later us) same lines in
     let no : us ≡ [] = no_lines l.indent us (subst (λ (z : List (List ℕ)). LinesMean l.indent z us) none lines_there) in
     let text : t ≡ in_lines us = joined ∙ (ap (λ (z : List ℕ). in_lines (z ∷ us)) empty ∙ (ap (λ (z : List (List ℕ)). in_lines ([] ∷ z)) no ∙ ap in_lines (sym no))) in
     subst (λ (z : List ℕ). DecodesLines s z) (sym text) (inside_means s pos l us b lines_there)
-opened_means s pos l new t b (inr h) (u, us, decodes, lines, joined) =
+opened_means s pos l new t b (inr (inl (h, same))) (u, us, decodes, lines, joined) =
+    let lines_there : LinesMean l.indent l.later us = subst (λ (z : LinesLeft). LinesMean z.indent z.later us) same lines in
+    absurd (bad_means_none l us h (subst (λ (z : List (List ℕ)). LinesMean l.indent z us) h.there lines_there))
+opened_means s pos l new t b (inr (inr h)) (u, us, decodes, lines, joined) =
     subst (λ (z : List ℕ). DecodesLines s z) (sym joined) (inside_means s pos l (u ∷ us) b (entered_means l new u us h decodes lines))
 
 -- a fault of the lines is one of the inside
@@ -159,7 +167,7 @@ inside_fault : (s : List ℕ) (pos n : ℕ) (l : LinesLeft) (e : ParserError) �
 inside_fault s pos n l e b (f, bad, told) = (f, inr (inr (record { first = b.first; between = l.later; indent = l.indent; cut = b.cut; opens = b.opens; bad = bad })), told)
 
 -- what is wrong with the rest is wrong with the inside
-opened_fault : (s : List ℕ) (pos n : ℕ) (l new : LinesLeft) (e : ParserError) → (b : Begins s pos l) → ((l.later ≡ []) × (new ≡ l) ⊎ EntersLine l new)
+opened_fault : (s : List ℕ) (pos n : ℕ) (l new : LinesLeft) (e : ParserError) → (b : Begins s pos l) → ((l.later ≡ []) × (new ≡ l) ⊎ HasBadLine l × (new ≡ l) ⊎ EntersLine l new)
     → ((at : ℕ) → new.next ≡ pos + at → LeftFault pos n at new e) → (f : LineFault) × MultilineFault s f × TellsFault e f (fault_span pos n f)
 opened_fault s pos n l new e b (inl (none, same)) fault =
     no_fault (fault (length b.first + 1) (ap (λ (z : LinesLeft). z.next) same ∙ b.next))
@@ -167,7 +175,13 @@ opened_fault s pos n l new e b (inl (none, same)) fault =
     no_fault : LeftFault pos n (length b.first + 1) new e → (f : LineFault) × MultilineFault s f × TellsFault e f (fault_span pos n f)
     no_fault (inl (i, bad, told)) = absurd (no_bad_escape i (subst (λ (z : List ℕ). IsBadEscapeAt z i) (ap (λ (z : LinesLeft). z.line.rest) same ∙ b.read) bad))
     no_fault (inr (u, f, decodes, bad, told)) = absurd (subst (λ (z : List (List ℕ)). BadLines new.indent (length b.first + 1) z f) (ap (λ (z : LinesLeft). z.later) same ∙ none) bad)
-opened_fault s pos n l new e b (inr h) fault =
+opened_fault s pos n l new e b (inr (inl (h, same))) fault =
+    first_fault (fault (length b.first + 1) (ap (λ (z : LinesLeft). z.next) same ∙ b.next))
+  where
+    first_fault : LeftFault pos n (length b.first + 1) new e → (f : LineFault) × MultilineFault s f × TellsFault e f (fault_span pos n f)
+    first_fault (inl (i, bad, told)) = absurd (no_bad_escape i (subst (λ (z : List ℕ). IsBadEscapeAt z i) (ap (λ (z : LinesLeft). z.line.rest) same ∙ b.read) bad))
+    first_fault (inr (u, f, decodes, bad, told)) = inside_fault s pos n l e b (f, subst (λ (z : LinesLeft). BadLines z.indent (length b.first + 1) z.later f) same bad, told)
+opened_fault s pos n l new e b (inr (inr h)) fault =
     let next : l.next ≡ pos + (length b.first + 1) = b.next in
     let moved : new.next ≡ l.next + length h.line + 1 = h.moved in
     let later : new.next ≡ pos + (length b.first + 1 + length h.line + 1) = omega arith in
@@ -176,8 +190,7 @@ opened_fault s pos n l new e b (inr h) fault =
 -- what is refused at the beginning is wrong with the inside
 opening_fault : (s : List ℕ) (pos : ℕ) (e : ParserError) → OpeningRefused s pos e → (f : LineFault) × MultilineFault s f × TellsFault e f (fault_span pos (length s) f)
 opening_fault s pos e (inl (bad, told)) = (closing, inl (bad, refl), told)
-opening_fault s pos e (inr (inl (good, bad, told))) = (opening, inr (inl (good, bad, refl)), told)
-opening_fault s pos e (inr (inr (l, new, b, bad))) = inside_fault s pos (length s) l e b (fault_here pos (length s) (length b.first + 1) l new e b.next bad)
+opening_fault s pos e (inr (good, bad, told)) = (opening, inr (inl (good, bad, refl)), told)
 
 -- the parts of a multiline string join to what it means
 pub lines_join : LinesJoin

@@ -1,5 +1,5 @@
 -- The pieces of a text between its line feeds, and the spaces at the front of a line.
-use Rattle.std.proofs.Common.{◌≡◌, ℕ, ◌≤◌, ◌<◌, ◌+◌, ◌-◌, ◌≢◌, zero, suc, Bool, true, false, nat_eq, List, [], ◌∷◌, ◌++◌, ◌⊎◌, inl, inr, Option, Some, Result, Ok, Err, refl, sym, ap, subst, ◌∙◌, length, take, drop, arith, get_or, length-append, length-drop, length-take-le}
+use Rattle.std.proofs.Common.{◌≡◌, ℕ, ◌≤◌, ◌<◌, ◌+◌, ◌-◌, ◌≢◌, zero, suc, Bool, true, false, nat_eq, List, [], ◌∷◌, ◌++◌, ◌⊎◌, inl, inr, Option, None, Some, Result, Ok, Err, refl, sym, ap, subst, ◌∙◌, length, take, drop, arith, get_or, length-append, length-drop, length-take-le}
 use Rattle.std.specs.Prelude.{if◌then◌else◌}
 use Rattle.std.proofs.lemmas.Bool.{cases_lt}
 use Rattle.std.proofs.lemmas.Bool.Decides.{nat_tests}
@@ -10,7 +10,7 @@ use Rattle.wave_lex.proofs.Decoding.{length_spaces}
 use Rattle.wave_lex.specs.Multiline.{put_first, pieces, spaces, DropsReturn, IsIndented, Opens, IsSpaces, without_return, last_of, closing_piece, OpensWell}
 use Rattle.wave_lex.specs.Left.{Undecoded, LinesLeft, but_last, ended_lines}
 use Rattle.wave_lex.specs.declared.error.ParserError.{ParserError}
-use Rattle.wave_lex.specs.Parts.{Begins, EntersLine, MeetsBadLine}
+use Rattle.wave_lex.specs.Parts.{Begins, EntersLine, HasBadLine}
 use Rattle.wave_lex.specs.Lines.{BehindLastFeed, SplitsLine, OpeningIs, LineIs}
 
 -- ---- spaces
@@ -334,10 +334,8 @@ begins_here s closing body first start pos k line h o e l m sp b r =
       read = r;
     }
 
--- a line was read
-pub entered : (old new : LinesLeft) (r : Option (Result (Unit {0}) ParserError)) {q : Result (Unit {0}) ParserError} {u : Unit {0}} → LineIs old r new → r ≡ Some q → q ≡ Ok u → EntersLine old new
-entered old new r {u = u} h e f = subst (λ z. LineIs old z new) (e ∙ ap Some f) h
-
--- a line was refused
-pub refused : (old new : LinesLeft) (r : Option (Result (Unit {0}) ParserError)) (e : ParserError) {q : Result (Unit {0}) ParserError} → LineIs old r new → r ≡ Some q → q ≡ Err e → MeetsBadLine old new e
-refused old new r e h p f = subst (λ z. LineIs old z new) (p ∙ ap Some f) h
+-- what reading the first line leaves
+pub opened : (old new : LinesLeft) (r : Option (Result (Unit {0}) ParserError)) → LineIs old r new → (old.later ≡ []) × (new ≡ old) ⊎ HasBadLine old × (new ≡ old) ⊎ EntersLine old new
+opened old new None h = inl h
+opened old new (Some (Ok u)) h = inr (inr h)
+opened old new (Some (Err e)) (bad, told, same) = inr (inl (bad, same))

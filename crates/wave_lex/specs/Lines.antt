@@ -4,13 +4,13 @@ use Rattle.wave_lex.specs.declared.error.ParserError.{ParserError}
 use Rattle.wave_lex.specs.Tokens.{line_feed}
 use Rattle.wave_lex.specs.Multiline.{pieces, Opens, OpensWell}
 use Rattle.wave_lex.specs.Left.{LinesLeft, ended_lines}
-use Rattle.wave_lex.specs.Parts.{EntersLine, MeetsBadLine}
+use Rattle.wave_lex.specs.Parts.{TellsBadLine, EntersLine, HasBadLine}
 
--- the next line is read, or refused, or there is none
+-- the next line is read; or it has too few spaces, is refused and stays; or there is none
 abbrev pub LineIs : LinesLeft → Option (Result (Unit {0}) ParserError) → LinesLeft → Type 0
 LineIs old None new = (old.later ≡ []) × (new ≡ old)
 LineIs old (Some (Ok done)) new = EntersLine old new
-LineIs old (Some (Err e)) new = MeetsBadLine old new e
+LineIs old (Some (Err e)) new = HasBadLine old × TellsBadLine e old.next × (new ≡ old)
 
 -- the text is the line, a line feed and what stands behind it
 pub record SplitsLine (text line behind : List ℕ) : Type 0 where

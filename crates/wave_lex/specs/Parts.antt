@@ -99,12 +99,16 @@ pub record EntersLine (old new : LinesLeft) : Type 0 where
   pub moved : new.next ≡ old.next + length line + 1
   pub stays : new.indent ≡ old.indent
 
--- the next line has too few spaces; it is refused at its first byte, and no line is left
-pub record MeetsBadLine (old new : LinesLeft) (e : ParserError) : Type 0 where
+-- the next line has too few spaces
+pub record HasBadLine (l : LinesLeft) : Type 0 where
   pub line : List ℕ
   pub more : List (List ℕ)
-  pub there : old.later ≡ line ∷ more
-  pub bad : (x : List ℕ) → line ≢ spaces old.indent ++ x
+  pub there : l.later ≡ line ∷ more
+  pub bad : (x : List ℕ) → line ≢ spaces l.indent ++ x
+
+-- the next line has too few spaces; it is refused at its first byte, and no line is left
+pub record MeetsBadLine (old new : LinesLeft) (e : ParserError) : Type 0 where
+  pub met : HasBadLine old
   pub stays : new.line ≡ old.line
   pub ended : new.later ≡ []
   pub told : TellsBadLine e old.next
@@ -130,16 +134,15 @@ pub record Begins (s : List ℕ) (pos : ℕ) (l : LinesLeft) : Type 0 where
   pub next : l.next ≡ pos + (length first + 1)
   pub read : l.line.rest ≡ []
 
--- what a multiline iterator begins with: the first line is read, or there is none
+-- what a multiline iterator begins with: there is no line; or the first has too few spaces, and the first part is its refusal; or it is read
 abbrev pub OpensTo : List ℕ → ℕ → LinesLeft → Type 0
-OpensTo s pos new = (l : LinesLeft) × Begins s pos l × ((l.later ≡ []) × (new ≡ l) ⊎ EntersLine l new)
+OpensTo s pos new = (l : LinesLeft) × Begins s pos l × ((l.later ≡ []) × (new ≡ l) ⊎ HasBadLine l × (new ≡ l) ⊎ EntersLine l new)
 
--- why there is no iterator: the last piece, the first, or the spaces of the first line
+-- why there is no iterator: the last piece, or the first
 abbrev pub OpeningRefused : List ℕ → ℕ → ParserError → Type 0
 OpeningRefused s pos e =
     ((IsSpaces (closing_piece (pieces s)) → ⊥) × TellsFault e closing (fault_span pos (length s) closing))
     ⊎ (IsSpaces (closing_piece (pieces s)) × (OpensWell (pieces s) → ⊥) × TellsFault e opening (fault_span pos (length s) opening))
-    ⊎ ((l : LinesLeft) × (new : LinesLeft) × Begins s pos l × MeetsBadLine l new e)
 
 -- the parts that came, up to None or up to an error
 abbrev pub LinesRunTo : LinesLeft → List StringPart → Option ParserError → Type 0

@@ -103,8 +103,8 @@ impl<'a> Model for MultilineStringParts<'a> {
 
 impl<'a> MultilineStringParts<'a> {
     /// The parts of `src`, which stands at the byte `pos` of the source, in front of the first
-    /// one. What stands before the first and behind the last line feed is refused here, and so is
-    /// a first line with too few spaces.
+    /// one. What stands before the first and behind the last line feed is refused here; a first
+    /// line with too few spaces by the first `next`.
     fn new(src: &'a str, pos: usize) -> Result<MultilineStringParts<'a>, ParserError>
         requires { pos + length src.now + 3 < 2 ^ 64 }
         ensures { MatchResult result (OpensTo src.now pos) (OpeningRefused src.now pos) }
@@ -132,22 +132,19 @@ impl<'a> MultilineStringParts<'a> {
             next: pos + first + 1,
             indent: closing.len(),
         };
-        match parts.next_line() {
-            None => Ok(parts),
-            Some(Ok(())) => Ok(parts),
-            Some(Err(error)) => Err(error),
-        }
+        // A line with too few spaces stays, for the first `next` to refuse.
+        let _ = parts.next_line();
+        Ok(parts)
     }
 
     /// Reads the next line; None where there is none. A line with too few spaces is refused at its
-    /// first byte, and no line is left.
+    /// first byte, and stays.
     fn next_line(&mut self) -> Option<Result<(), ParserError>>
         ensures { LineIs self.old result self.new }
     {
         let place = self.next;
         let (line, behind) = split_line(self.rest)?;
         if length_of_spaces(line.as_bytes()) < self.indent {
-            self.rest = "";
             return Some(Err(ParserError::with_static(
                 ParserErrorKind::InvalidMultilineString,
                 place..place + 1,
@@ -180,7 +177,10 @@ impl<'a> Iterator for MultilineStringParts<'a> {
             }
             None => match self.next_line()? {
                 Ok(()) => Some(Ok(StringPart::Char('\n'))),
-                Err(error) => Some(Err(error)),
+                Err(error) => {
+                    self.rest = "";
+                    Some(Err(error))
+                }
             },
         }
     }
@@ -205,7 +205,7 @@ impl<'a> StringPartsIter<'a> {
 
     /// The parts of `src`, which stands between the quotes of a multiline string, at the byte
     /// `pos` of the source. What stands before the first and behind the last line feed is refused
-    /// here, and so is a first line with too few spaces.
+    /// here, any other fault as an item.
     pub fn new_multiline(src: &'a str, pos: usize) -> Result<StringPartsIter<'a>, ParserError>
         requires { pos + length src.now + 3 < 2 ^ 64 }
         ensures { MatchResult result (λ parts. OpensTo src.now pos (left_of parts)) (OpeningRefused src.now pos) }

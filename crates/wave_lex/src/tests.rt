@@ -208,11 +208,12 @@ fn parts_of_strings(rt: HostRuntime) -> Result<(), Fail> {
     Ok(())
 }
 
-/// What the inside of a multiline string at the place 3 gives.
+/// What the inside of a multiline string at the place 3 gives; where there is no iterator, the
+/// refusal in square brackets.
 fn lines_of(rt: HostRuntime, inside: &str) -> Result<String, Fail> {
     match StringPartsIter::new_multiline(inside, 3) {
         Ok(parts) => joined(rt, parts),
-        Err(error) => Ok(format!(in rt.alloc(); "<{error}>")?),
+        Err(error) => Ok(format!(in rt.alloc(); "[{error}]")?),
     }
 }
 
@@ -229,22 +230,26 @@ fn parts_of_lines(rt: HostRuntime) -> Result<(), Fail> {
         ("\n\n\\u{e9}\n\n", "\né\n"),
         (
             "\nabc",
-            "<invalid multiline string: closing \"\"\" must be on a line preceded only by spaces at 7..10>",
+            "[invalid multiline string: closing \"\"\" must be on a line preceded only by spaces at 7..10]",
         ),
         (
             "abc",
-            "<invalid multiline string: closing \"\"\" must be on a line preceded only by spaces at 6..9>",
+            "[invalid multiline string: closing \"\"\" must be on a line preceded only by spaces at 6..9]",
         ),
         (
             "",
-            "<invalid multiline string: opening \"\"\" must be followed immediately by newline at 3..4>",
+            "[invalid multiline string: opening \"\"\" must be followed immediately by newline at 3..4]",
         ),
         (
             "\r",
-            "<invalid multiline string: opening \"\"\" must be followed immediately by newline at 3..4>",
+            "[invalid multiline string: opening \"\"\" must be followed immediately by newline at 3..4]",
         ),
         (
             "\na\n  ",
+            "<invalid multiline string: lines must be indented at least as much as closing \"\"\" at 4..5>",
+        ),
+        (
+            "\na\n  b\n  ",
             "<invalid multiline string: lines must be indented at least as much as closing \"\"\" at 4..5>",
         ),
         (

@@ -7,12 +7,12 @@ use Rattle.std.specs.declared.ops.Range.{Range}
 use Rattle.wave_lex.specs.declared.strings.StringPart.{StringPart}
 use Rattle.wave_lex.specs.declared.strings.StringPart.TheVariants.{Run, Char}
 use Rattle.wave_lex.specs.declared.error.ParserError.{ParserError}
-use Rattle.wave_lex.specs.Left.{LinesLeft}
-use Rattle.wave_lex.specs.Parts.{part_text, part_texts, LinePartIs, LinesRunTo}
+use Rattle.wave_lex.specs.Left.{Undecoded, LinesLeft}
+use Rattle.wave_lex.specs.Parts.{part_text, part_texts, PartIs, LinePartIs, LinesRunTo}
 use Rattle.wave_lex.proofs.LineParts.{LinesRun, run_more, run_ended, run_refused, texts_more}
 use Rattle.wave_lex.proofs.Decoding.{escape_head}
 use Rattle.wave_wasm.specs.Lists.{AllOf}
-use Rattle.wave_tree.specs.CowText.{BorrowedWhere, IsEnded, IsOneRun, PutTogether}
+use Rattle.wave_tree.specs.CowText.{BorrowedWhere, IsEnded, IsOneRun, IsRefusedFirst, IsUncopied, PutTogether}
 use Rattle.wave_tree.specs.declared.ast.CowStr.{CowStr}
 use Rattle.wave_tree.specs.declared.ast.CowStr.TheVariants.{Borrowed, Owned}
 
@@ -63,23 +63,41 @@ one_in_front P Q front longer l m p place (Ok c) step e to from ((parts, run, te
 one_in_front P Q front longer l m p place (Err e) step same to from (inl (parts, run)) = inl (p ∷ parts, (m, step, run))
 one_in_front P Q front longer l m p place (Err e) step same to from (inr (wants, never)) = inr (wants, λ h. never (to h))
 
--- where nothing is left no part comes
-pub ended_gives_none : (l m : LinesLeft) (p : StringPart) → LinePartIs l (Some (Ok p)) m → IsEnded l → ⊥
-ended_gives_none l m (Run s) (inl h) ended =
-    let none : s.now ++ m.line.rest ≡ [] = sym h.item.taken ∙ ended.0 in
-    h.item.some (append_none s.now m.line.rest none)
+-- where nothing is left of a line no part of it comes
+none_in_line : (old new : Undecoded) (p : StringPart) → PartIs old (Some (Ok p)) new → old.rest ≡ [] → ⊥
+none_in_line old new (Run s) h e =
+    let none : s.now ++ new.rest ≡ [] = sym h.taken ∙ e in
+    h.some (append_none s.now new.rest none)
   where
     append_none : (x y : List ℕ) → x ++ y ≡ [] → x ≡ []
     append_none [] y e = refl
     append_none (b ∷ x) y e = absurd (cc)
-ended_gives_none l m (Char c) (inl h) ended =
-    let k = escape_head h.item.escape c h.item.is in
-    let none : 92 ∷ (k.0 ++ m.line.rest) ≡ [] = sym (ap (λ (z : List ℕ). z ++ m.line.rest) k.1) ∙ (sym h.item.taken ∙ ended.0) in
+none_in_line old new (Char c) h e =
+    let k = escape_head h.escape c h.is in
+    let none : 92 ∷ (k.0 ++ new.rest) ≡ [] = sym (ap (λ (z : List ℕ). z ++ new.rest) k.1) ∙ (sym h.taken ∙ e) in
     cc
+
+-- where nothing is left no part comes
+pub ended_gives_none : (l m : LinesLeft) (p : StringPart) → LinePartIs l (Some (Ok p)) m → IsEnded l → ⊥
+ended_gives_none l m p (inl h) ended = none_in_line l.line m.line p h.item ended.0
 ended_gives_none l m p (inr (e, f, h)) ended = let none : h.line ∷ h.more ≡ [] = sym h.there ∙ ended.1 in cc
 
+-- before a refusal of the next line no part comes
+refused_gives_none : (l m : LinesLeft) (p : StringPart) → LinePartIs l (Some (Ok p)) m → IsRefusedFirst l → ⊥
+refused_gives_none l m p (inl h) (read, bad) = none_in_line l.line m.line p h.item read
+refused_gives_none l m p (inr (e, f, h)) (read, bad) =
+    let (x, whole, drops) = h.indented in
+    let both : bad.line ∷ bad.more ≡ h.line ∷ h.more = sym bad.there ∙ h.there in
+    let same : bad.line ≡ h.line = cc in
+    bad.bad x (same ∙ whole)
+
+-- a refusal of the next line is no end
+pub refused_ends_not : (l : LinesLeft) (ps : List StringPart) → LinesRunTo l ps None → IsRefusedFirst l → ⊥
+refused_ends_not l [] (t, step) (read, bad) = let none : bad.line ∷ bad.more ≡ [] = sym bad.there ∙ step.1 in cc
+refused_ends_not l (p ∷ ps) (t, step, run) refused = refused_gives_none l t p step refused
+
 -- an escape or a next line is no run
-pub char_is_no_run : (l m : LinesLeft) (c : ℕ) → LinePartIs l (Some (Ok (Char c))) m → IsOneRun l → ⊥
+char_is_no_run : (l m : LinesLeft) (c : ℕ) → LinePartIs l (Some (Ok (Char c))) m → IsOneRun l → ⊥
 char_is_no_run l m c (inl h) run =
     let k = escape_head h.item.escape c h.item.is in
     let begins : l.line.rest ≡ 92 ∷ (k.0 ++ m.line.rest) = h.item.taken ∙ ap (λ (z : List ℕ). z ++ m.line.rest) k.1 in
@@ -90,8 +108,13 @@ all_behind_run : (x y : List ℕ) → AllOf (λ b. b ≢ 92) (x ++ y) → AllOf 
 all_behind_run [] y h = h
 all_behind_run (b ∷ x) y h = all_behind_run x y h.1
 
+-- an escape or a next line is copied
+pub char_is_copied : (l m : LinesLeft) (c : ℕ) → LinePartIs l (Some (Ok (Char c))) m → IsUncopied l → ⊥
+char_is_copied l m c step (inl run) = char_is_no_run l m c step run
+char_is_copied l m c step (inr refused) = refused_gives_none l m (Char c) step refused
+
 -- behind one run nothing is left
-pub run_is_all : (l m : LinesLeft) (s : Bor (List ℕ)) → LinePartIs l (Some (Ok (Run s))) m → IsOneRun l → IsEnded m
+run_is_all : (l m : LinesLeft) (s : Bor (List ℕ)) → LinePartIs l (Some (Ok (Run s))) m → IsOneRun l → IsEnded m
 run_is_all l m s (inl h) run = (ended h.item.stops, h.later ∙ run.1)
   where
     ended : (m.line.rest ≡ []) ⊎ ((t : List ℕ) × (m.line.rest ≡ 92 ∷ t)) → m.line.rest ≡ []
@@ -101,9 +124,18 @@ run_is_all l m s (inl h) run = (ended h.item.stops, h.later ∙ run.1)
         absurd ((subst (AllOf (λ b. b ≢ 92)) e plain).0 refl)
 run_is_all l m s (inr (e, f, h)) run = absurd (cc)
 
+-- behind a run that isn't copied nothing is left
+pub uncopied_ends : (l m : LinesLeft) (s : Bor (List ℕ)) → LinePartIs l (Some (Ok (Run s))) m → IsUncopied l → IsEnded m
+uncopied_ends l m s step (inl run) = run_is_all l m s step run
+uncopied_ends l m s step (inr refused) = absurd (refused_gives_none l m (Run s) step refused)
+
 -- a run behind which nothing is left is one run
-pub all_is_run : (l m : LinesLeft) (s : Bor (List ℕ)) → LinePartIs l (Some (Ok (Run s))) m → IsEnded m → IsOneRun l
+all_is_run : (l m : LinesLeft) (s : Bor (List ℕ)) → LinePartIs l (Some (Ok (Run s))) m → IsEnded m → IsOneRun l
 all_is_run l m s (inl h) ended =
     let whole : l.line.rest ≡ s.now = h.item.taken ∙ (ap (λ (z : List ℕ). s.now ++ z) ended.0 ∙ append-nil s.now) in
     (subst (AllOf (λ b. b ≢ 92)) (sym whole) h.item.plain, sym h.later ∙ ended.1)
 all_is_run l m s (inr (e, f, h)) ended = absurd (cc)
+
+-- a run behind which nothing is left isn't copied
+pub ended_uncopied : (l m : LinesLeft) (s : Bor (List ℕ)) → LinePartIs l (Some (Ok (Run s))) m → IsEnded m → IsUncopied l
+ended_uncopied l m s step ended = inl (all_is_run l m s step ended)

@@ -297,8 +297,8 @@ text_refusal_lies Full T s e h memory distinct full = by (h distinct)
     by : (e.kind ≡ kind.OutOfMemory) ⊎ TextFault T s e × MeansNone T s ⊎ (e.kind ≡ kind.WasmValueError) × (Full T → ⊥) → LiesInText s e.span
     by (inl wants) = subst (LiesInText s) (sym (memory wants).stands) (omega arith, omega arith)
     by (inr (inl (inl (p, refused), none_means))) = refusals_lie e (start_of s) (front_inside s) (inl (100, p, refused))
-    by (inr (inl (inr (inl (p, t, taken, spelled, fault)), none_means))) = faults_lie s T t (refusal_of e) e.span spelled fault
-    by (inr (inl (inr (inr (p, t, v, taken, reads, trails)), none_means))) = trailing_lies s p taken.tokens e taken.taken trails
+    by (inr (inl (inr (inl (p, t, read, taken, stands, spelled, fault)), none_means))) = faults_lie s T t (refusal_of e) e.span spelled fault
+    by (inr (inl (inr (inr (p, t, v, read, taken, reads, trails)), none_means))) = trailing_lies s p taken.tokens e taken.taken trails
     by (inr (inr (is, not_full))) = absurd (not_full full)
 
 -- so does one of the value that is handed on

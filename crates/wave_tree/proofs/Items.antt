@@ -18,7 +18,7 @@ use Rattle.wave_tree.specs.Placed.{Placed, Shape, at, list, placed_trees, placed
 use Rattle.wave_tree.specs.Faults.{Refuses, OfForm, Fault, list_in}
 use Rattle.wave_tree.specs.NodeTree.{NodeTree, type_of, place_of, children_of}
 use Rattle.wave_tree.specs.Nodes.{placed_of, IsNodeOf}
-use Rattle.wave_tree.specs.Typed.{IsRead, IsBlamed, IsMade, IsServed, IsValueOf}
+use Rattle.wave_tree.specs.Typed.{IsRead, IsBlamed, IsMade, IsValueOf}
 use Rattle.wave_tree.proofs.Inside.{From, inside, some_is, AreParsed, parsed, nodes_in, nodes_are}
 use Rattle.wave_tree.proofs.Cases.{shape_at}
 use Rattle.wave_tree.proofs.Leaves.{tree_is, at_tree}
@@ -200,7 +200,3 @@ given_nodes source m t ns node ty children = subst (λ (l : List NodeTree). AreN
 -- the names of the items' type are those of the list
 pub element_distinct : (T E : TypeTree) → T ≡ type.list E → HasDistinctNames T → HasDistinctNames E
 element_distinct T E e h = subst HasDistinctNames e h
-
--- a list is read where its items are
-pub element_served : (T E : TypeTree) → T ≡ type.list E → IsServed T → IsServed E
-element_served T E e h = subst IsServed e h

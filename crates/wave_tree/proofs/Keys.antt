@@ -25,7 +25,7 @@ use Rattle.wave_tree.specs.Faults.{Refuses, IsForm, MapKeyFault}
 use Rattle.wave_tree.specs.NodeTree.{NodeTree, type_of, place_of}
 use Rattle.wave_tree.specs.Nodes.{key_of, IsTokenOf}
 use Rattle.wave_tree.specs.Answers.{text_at, GivesBoolKey, GivesNumber}
-use Rattle.wave_tree.specs.Typed.{IsKeyRead, IsKeyBlamed, IsKeyServed, IsMade}
+use Rattle.wave_tree.specs.Typed.{IsKeyRead, IsKeyBlamed, IsMade}
 use Rattle.wave_tree.proofs.Inside.{From, inside, some_is, key_place}
 use Rattle.wave_tree.specs.declared.ast.NodeType.{NodeType}
 use Rattle.wave_tree.specs.declared.ast.NodeType.TheVariants as kind
@@ -160,20 +160,19 @@ pub record IsUnreadKey (k : WasmTypeKind) : Type 0 where
   pub char : k ≢ kinds.Char
   pub string : k ≢ kinds.String
 
--- a key that is read is of one of them
-pub key_unserved : {X : Type 0} (T : TypeTree) (k : WasmTypeKind) → IsKeyServed T → k ≡ kind_of T → IsUnreadKey k → X
-key_unserved (type.simple type.bool) k served e unread = absurd (unread.bool e)
-key_unserved (type.simple (type.whole type.s8)) k served e unread = absurd (unread.s8 e)
-key_unserved (type.simple (type.whole type.s16)) k served e unread = absurd (unread.s16 e)
-key_unserved (type.simple (type.whole type.s32)) k served e unread = absurd (unread.s32 e)
-key_unserved (type.simple (type.whole type.s64)) k served e unread = absurd (unread.s64 e)
-key_unserved (type.simple (type.whole type.u8)) k served e unread = absurd (unread.u8 e)
-key_unserved (type.simple (type.whole type.u16)) k served e unread = absurd (unread.u16 e)
-key_unserved (type.simple (type.whole type.u32)) k served e unread = absurd (unread.u32 e)
-key_unserved (type.simple (type.whole type.u64)) k served e unread = absurd (unread.u64 e)
-key_unserved (type.simple type.char) k served e unread = absurd (unread.char e)
-key_unserved (type.simple type.string) k served e unread = absurd (unread.string e)
-key_unserved _ k served e unread = absurd served
+-- a key is of one of them
+pub no_unread_key : {X : Type 0} (K : Simple) (k : WasmTypeKind) → k ≡ kind_of (type.simple K) → IsUnreadKey k → X
+no_unread_key type.bool k e unread = absurd (unread.bool e)
+no_unread_key (type.whole type.s8) k e unread = absurd (unread.s8 e)
+no_unread_key (type.whole type.s16) k e unread = absurd (unread.s16 e)
+no_unread_key (type.whole type.s32) k e unread = absurd (unread.s32 e)
+no_unread_key (type.whole type.s64) k e unread = absurd (unread.s64 e)
+no_unread_key (type.whole type.u8) k e unread = absurd (unread.u8 e)
+no_unread_key (type.whole type.u16) k e unread = absurd (unread.u16 e)
+no_unread_key (type.whole type.u32) k e unread = absurd (unread.u32 e)
+no_unread_key (type.whole type.u64) k e unread = absurd (unread.u64 e)
+no_unread_key type.char k e unread = absurd (unread.char e)
+no_unread_key type.string k e unread = absurd (unread.string e)
 
 -- a type is one simple type
 pub one_simple : (T : TypeTree) (K S : Simple) → T ≡ type.simple K → T ≡ type.simple S → S ≡ K

@@ -104,4 +104,3 @@ pub mod Variants
 pub mod FlagNodes
 pub mod FlagSets
 pub mod FlagTypes
-pub mod Served

@@ -28,7 +28,7 @@ use Rattle.wave_tree.specs.Faults.{OfForm, Fault, LeafFault, MapKeyFault}
 use Rattle.wave_tree.specs.NodeTree.{NodeTree, place_of, children_of}
 use Rattle.wave_tree.specs.Nodes.{placed_of, IsNodeOf, IsTokenOf}
 use Rattle.wave_tree.specs.Answers.{node_pairs, GivesEntries}
-use Rattle.wave_tree.specs.Typed.{IsRead, IsBlamed, ReadsNone, IsMade, IsServed, IsValueOf, IsKeyOf, IsKeyServed, IsKeyRead, IsKeyBlamed}
+use Rattle.wave_tree.specs.Typed.{IsRead, IsBlamed, ReadsNone, IsMade, IsValueOf, IsKeyOf, IsKeyRead, IsKeyBlamed}
 use Rattle.wave_tree.proofs.Entries.{AreEntriesOf, IsOfMap, map_nodes, map_given, no_map}
 use Rattle.wave_tree.proofs.Inside.{inside, some_is}
 use Rattle.wave_tree.proofs.Leaves.{tree_is, at_tree}
@@ -59,14 +59,6 @@ map_deep T S U h = omega (arith, ap depth h.is)
 -- the names of the values' type are those of the map
 pub map_distinct : (T S U : TypeTree) → IsMapOf T S U → HasDistinctNames T → HasDistinctNames U
 map_distinct T S U m h = subst HasDistinctNames m.is h
-
--- the keys of a map that is read are served
-pub key_served : (T S U : TypeTree) → IsMapOf T S U → IsServed T → IsKeyServed S
-key_served T S U m h = let both : IsServed (type.map m.key U) = subst IsServed m.is h in subst IsKeyServed (sym m.key_is) both.0
-
--- so are its values
-pub value_served : (T S U : TypeTree) → IsMapOf T S U → IsServed T → IsServed U
-value_served T S U m h = let both : IsServed (type.map m.key U) = subst IsServed m.is h in both.1
 
 -- ---- the entries that are left
 
@@ -157,19 +149,19 @@ module _ {V : Type 0} (tree : V → Value) (of : V → TypeTree → Type 0) (Ful
   -- of all these nodes those before the ones that are left were read
   abbrev pub SoFar : List ℕ → TypeTree → TypeTree → List (NodeTree × NodeTree) → List (NodeTree × NodeTree) → List (V × V) → Type 0
   SoFar source S U all left xs =
-      (es : List PlacedEntry) → AreEntriesOf source all es → (h : Halfway source es left) × ((K : Simple) → S ≡ type.simple K → IsKeyServed S → IsServed U → HasDistinctNames U → EntriesRead K U h.done xs)
+      (es : List PlacedEntry) → AreEntriesOf source all es → (h : Halfway source es left) × ((K : Simple) → S ≡ type.simple K → HasDistinctNames U → EntriesRead K U h.done xs)
 
   -- none was read
   pub none_read : (source : List ℕ) (S U : TypeTree) (all left : List (NodeTree × NodeTree)) (xs : List (V × V)) → left ≡ all → xs ≡ [] → SoFar source S U all left xs
-  none_read source S U all left xs e none = λ es h. (record { done = []; rest = es; is = refl; nodes = subst (λ (l : List (NodeTree × NodeTree)). AreEntriesOf source l es) (sym e) h }, λ K is keys values distinct. subst (EntriesRead K U []) (sym none) tt)
+  none_read source S U all left xs e none = λ es h. (record { done = []; rest = es; is = refl; nodes = subst (λ (l : List (NodeTree × NodeTree)). AreEntriesOf source l es) (sym e) h }, λ K is distinct. subst (EntriesRead K U []) (sym none) tt)
 
   -- the next one was read
-  pub next_read : (source : List ℕ) (S U : TypeTree) (all now left : List (NodeTree × NodeTree)) (n : NodeTree × NodeTree) (xs ys : List (V × V)) (k v : V) → SoFar source S U all now xs → now ≡ n ∷ left → (IsKeyServed S → (K : Simple) (p : Range ℕ) (key : Token) → S ≡ type.simple K → IsTokenOf source n.0 p key → IsKeyRead tree of K key k) → (IsServed U → (t : Placed) → IsNodeOf source n.1 t → HasDistinctNames U → IsRead tree of U t v) → ys ≡ xs ++ (k, v) ∷ [] → SoFar source S U all left ys
+  pub next_read : (source : List ℕ) (S U : TypeTree) (all now left : List (NodeTree × NodeTree)) (n : NodeTree × NodeTree) (xs ys : List (V × V)) (k v : V) → SoFar source S U all now xs → now ≡ n ∷ left → ((K : Simple) (p : Range ℕ) (key : Token) → S ≡ type.simple K → IsTokenOf source n.0 p key → IsKeyRead tree of K key k) → ((t : Placed) → IsNodeOf source n.1 t → HasDistinctNames U → IsRead tree of U t v) → ys ≡ xs ++ (k, v) ∷ [] → SoFar source S U all left ys
   next_read source S U all now left n xs ys k v so e key val is = λ es h.
       let before = so es h in
       let x = next_entry source es now left n e before.0 in (
         record { done = before.0.done ++ x.here ∷ []; rest = x.rest; is = x.is ∙ sym (append_assoc before.0.done (x.here ∷ []) x.rest); nodes = x.nodes },
-        λ K is_key keys values distinct. read_more K U before.0.done xs ys x.here (k, v) (before.1 K is_key keys values distinct) (key keys K x.here.place x.here.key is_key x.key) (val values x.here.value x.node distinct) is,
+        λ K is_key distinct. read_more K U before.0.done xs ys x.here (k, v) (before.1 K is_key distinct) (key K x.here.place x.here.key is_key x.key) (val x.here.value x.node distinct) is,
       )
 
   -- the next key is one
@@ -310,11 +302,11 @@ module _ {V : Type 0} (tree : V → Value) (of : V → TypeTree → Type 0) (Ful
       made tree of Full T t n made_map r done (map_means T S U t es xs handed made_map m distinct shape read merged ok) (map_full T S U (entry_list es) xs handed made_map m read merged full)
 
   -- so it was where all entries of the node were read
-  pub map_answered : (source : List ℕ) (T S U : TypeTree) (m : NodeTree) (t : Placed) (ns now : List (NodeTree × NodeTree)) (xs handed : List (V × V)) (made_map : Result V WasmValueError) (r : Result V ParserError) → IsMapOf T S U → IsNodeOf source m t → GivesEntries m (Ok ns) → SoFar tree of Full source S U (node_pairs (children_of m)) now xs → now ≡ [] → IsServed T → HasDistinctNames T → ((v : V) (T : TypeTree) → of v T → HasType T (tree v)) → handed ≡ merge (same_texts tree of Full) xs → IfOk made_map (MakesMap tree of T handed) → IfErr made_map (FullMap of Full T handed) → IsMade m made_map r → MatchResult r (IsRead tree of T t) (IsBlamed Full T t)
-  map_answered source T S U m t ns now xs handed made_map r map node given so none served distinct fits merged ok full done =
+  pub map_answered : (source : List ℕ) (T S U : TypeTree) (m : NodeTree) (t : Placed) (ns now : List (NodeTree × NodeTree)) (xs handed : List (V × V)) (made_map : Result V WasmValueError) (r : Result V ParserError) → IsMapOf T S U → IsNodeOf source m t → GivesEntries m (Ok ns) → SoFar tree of Full source S U (node_pairs (children_of m)) now xs → now ≡ [] → HasDistinctNames T → ((v : V) (T : TypeTree) → of v T → HasType T (tree v)) → handed ≡ merge (same_texts tree of Full) xs → IfOk made_map (MakesMap tree of T handed) → IfErr made_map (FullMap of Full T handed) → IsMade m made_map r → MatchResult r (IsRead tree of T t) (IsBlamed Full T t)
+  map_answered source T S U m t ns now xs handed made_map r map node given so none distinct fits merged ok full done =
       let nodes = map_nodes source m t node given.0 in
       let h = so (entry_list nodes.given) nodes.nodes in
-      let read : EntriesRead tree of Full map.key U h.0.done xs = h.1 map.key map.key_is (key_served T S U map served) (value_served T S U map served) (map_distinct T S U map distinct) in
+      let read : EntriesRead tree of Full map.key U h.0.done xs = h.1 map.key map.key_is (map_distinct T S U map distinct) in
       let all : EntriesRead tree of Full map.key U (entry_list nodes.given) xs = subst (λ (es : List PlacedEntry). EntriesRead tree of Full map.key U es xs) (all_done source (entry_list nodes.given) now none h.0) read in
       map_made T S U t nodes.given xs handed m made_map r map distinct nodes.shape fits all merged ok full done
 

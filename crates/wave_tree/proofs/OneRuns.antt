@@ -5,7 +5,7 @@ use Rattle.wave_wasm.specs.Lists.{AllOf}
 use Rattle.wave_lex.specs.Left.{LinesLeft}
 use Rattle.wave_lex.specs.Multiline.{pieces, put_first, spaces, DropsReturn, Opens}
 use Rattle.wave_lex.specs.Parts.{OpensTo}
-use Rattle.wave_tree.specs.CowText.{IsOneRun}
+use Rattle.wave_tree.specs.CowText.{IsOneRun, IsRefusedFirst, IsUncopied}
 
 -- no `\`
 abbrev pub IsPlain : List ℕ → Type 0
@@ -89,7 +89,10 @@ pub run_is_short : (s : List ℕ) (pos : ℕ) (l : LinesLeft) → OpensTo s pos 
 run_is_short s pos l (o, b, inl (none, same)) run =
     let cut : pieces s ≡ b.first ∷ ([] ++ spaces o.indent ∷ []) = b.cut ∙ ap (λ (ps : List (List ℕ)). b.first ∷ (ps ++ spaces o.indent ∷ [])) none in
     (cut_plain b.first o.indent [] s b.opens tt cut, omega (arith, ap length cut))
-run_is_short s pos l (o, b, inr h) run =
+run_is_short s pos l (o, b, inr (inl (bad, same))) run =
+    let none : bad.line ∷ bad.more ≡ [] = sym bad.there ∙ (sym (ap (λ (z : LinesLeft). z.later) same) ∙ run.1) in
+    absurd (cc)
+run_is_short s pos l (o, b, inr (inr h)) run =
     let alone : o.later ≡ h.line ∷ [] = h.there ∙ ap (λ (ps : List (List ℕ)). h.line ∷ ps) (sym h.later ∙ run.1) in
     let cut : pieces s ≡ b.first ∷ (h.line ∷ spaces o.indent ∷ []) = b.cut ∙ ap (λ (ps : List (List ℕ)). b.first ∷ (ps ++ spaces o.indent ∷ [])) alone in
     let (x, whole, drops) = h.indented in
@@ -100,14 +103,15 @@ none_of_length : (ps : List (List ℕ)) → length ps ≤ 0 → ps ≡ []
 none_of_length [] l = refl
 none_of_length (p ∷ ps) l = absurd (omega arith)
 
--- one run of all lines is one run at the beginning
-pub short_is_run : (s : List ℕ) (pos : ℕ) (l : LinesLeft) → OpensTo s pos l → IsShort s → IsOneRun l
-short_is_run s pos l (o, b, inl (none, same)) short =
-    (subst IsPlain (sym (ap (λ (z : LinesLeft). z.line.rest) same ∙ b.read)) tt, ap (λ (z : LinesLeft). z.later) same ∙ none)
-short_is_run s pos l (o, b, inr h) (plain, few) =
+-- one run of all lines isn't copied from the beginning
+pub short_is_uncopied : (s : List ℕ) (pos : ℕ) (l : LinesLeft) → OpensTo s pos l → IsShort s → IsUncopied l
+short_is_uncopied s pos l (o, b, inl (none, same)) short =
+    inl (subst IsPlain (sym (ap (λ (z : LinesLeft). z.line.rest) same ∙ b.read)) tt, ap (λ (z : LinesLeft). z.later) same ∙ none)
+short_is_uncopied s pos l (o, b, inr (inl (bad, same))) short = inr (subst IsRefusedFirst (sym same) (b.read, bad))
+short_is_uncopied s pos l (o, b, inr (inr h)) (plain, few) =
     let cut : pieces s ≡ b.first ∷ (h.line ∷ (h.more ++ spaces o.indent ∷ [])) = b.cut ∙ ap (λ (ps : List (List ℕ)). b.first ∷ (ps ++ spaces o.indent ∷ [])) h.there in
     let size : length (pieces s) ≡ suc (suc (length (h.more ++ spaces o.indent ∷ []))) = ap length cut in
     let none : h.more ≡ [] = none_of_length h.more (omega (arith, length-append h.more (spaces o.indent ∷ []))) in
     let each : AllOf IsPlain (b.first ∷ (h.line ∷ (h.more ++ spaces o.indent ∷ []))) = subst (AllOf IsPlain) cut (pieces_plain s plain) in
     let (x, whole, drops) = h.indented in
-    (dropped_plain x l.line.rest drops (plain_behind (spaces o.indent) x (subst IsPlain whole each.1.0)), h.later ∙ none)
+    inl (dropped_plain x l.line.rest drops (plain_behind (spaces o.indent) x (subst IsPlain whole each.1.0)), h.later ∙ none)

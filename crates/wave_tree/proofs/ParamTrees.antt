@@ -9,15 +9,11 @@ use Rattle.wave_tree.specs.Params.{Omitted, FurtherParams, Params}
 use Rattle.wave_tree.specs.Parsed.{NoParen}
 use Rattle.wave_tree.specs.Tree.{Tree, Takes}
 use Rattle.wave_tree.specs.TreeReads.{TreeReads}
+use Rattle.wave_tree.specs.TreeParams.{TreeParams}
+use Rattle.wave_tree.specs.TreeLaws.{ParamsAreByTree}
 use Rattle.wave_tree.proofs.Bridge.{through}
 use Rattle.wave_tree.proofs.Back.{back}
 use Rattle.wave_tree.proofs.UniqueTree.{one_tree}
-
--- each tree read at the type of its place, the types that are left being options of `none`
-abbrev pub ParamsOf : List TypeTree → List Tree → List Value → Type 0
-ParamsOf Ts [] vs = Omitted Ts vs
-ParamsOf [] (t ∷ ts) vs = ⊥
-ParamsOf (T ∷ more) (t ∷ ts) vs = (v : Value) × (others : List Value) × TreeReads T t v × ParamsOf more ts others × (vs ≡ v ∷ others)
 
 tail : (a b : Token) (more others : List Token) → a ∷ more ≡ b ∷ others → more ≡ others
 tail a b more others e = cc
@@ -44,7 +40,7 @@ one_param T n m front behind rest v t bare read h =
     let (same, left) = one_tree n m front u t behind rest j h in
     (subst (λ (z : Tree). TreeReads T z v) same q, left)
 
-further_to : (Ts : List TypeTree) (n : ℕ) (tokens : List Token) (ts : List Tree) (vs : List Value) → FurtherItems paren_close (Takes n) tokens ts [] → FurtherParams Ts tokens vs → ParamsOf Ts ts vs
+further_to : (Ts : List TypeTree) (n : ℕ) (tokens : List Token) (ts : List Tree) (vs : List Value) → FurtherItems paren_close (Takes n) tokens ts [] → FurtherParams Ts tokens vs → TreeParams Ts ts vs
 further_to [] n tokens [] vs closes (c, e) = e
 further_to [] n tokens (t ∷ ts) vs (front, behind, e, h, more) (c, f) = no_tree_there n front t behind (closes_first tokens front c e) h
 further_to (T ∷ Ts) n tokens [] vs closes (inl (c, left_out)) = left_out
@@ -58,7 +54,7 @@ further_to (T ∷ Ts) n tokens (t ∷ ts) vs (front, behind, e, h, more) (inr (m
     (v, ws, q, further_to Ts n rest ts ws (subst (λ (z : List Token). FurtherItems paren_close (Takes n) z ts []) (sym left) more) g, k)
 
 -- the parameters are those of the trees
-pub params_to : (Ts : List TypeTree) (n : ℕ) (front : List Token) (ts : List Tree) (vs : List Value) → 0 < length ts → Items paren_close (Takes n) front ts [] → Params Ts (paren_open ∷ front) vs → ParamsOf Ts ts vs
+pub params_to : (Ts : List TypeTree) (n : ℕ) (front : List Token) (ts : List Tree) (vs : List Value) → 0 < length ts → Items paren_close (Takes n) front ts [] → Params Ts (paren_open ∷ front) vs → TreeParams Ts ts vs
 params_to Ts n front [] vs l items p = absurd (omega (arith, l))
 params_to [] n front (t ∷ ts) vs l (behind, h, more) (e, f) = no_tree_there n front t behind (tail paren_open paren_open front (paren_close ∷ []) e) h
 params_to (T ∷ Ts) n front (t ∷ ts) vs l (behind, h, more) (inl (e, left_out)) = absurd (no_tree_there n front t behind (tail paren_open paren_open front (paren_close ∷ []) e) h)
@@ -67,14 +63,31 @@ params_to (T ∷ Ts) n front (t ∷ ts) vs l (behind, h, more) (inr (m, others, 
     let (q, left) = one_param T m n others rest behind v t (no_open Ts rest ws g) read there in
     (v, ws, q, further_to Ts n rest ts ws (subst (λ (z : List Token). FurtherItems paren_close (Takes n) z ts []) (sym left) more) g, k)
 
-further_from : (Ts : List TypeTree) (n : ℕ) (tokens : List Token) (ts : List Tree) (vs : List Value) → FurtherItems paren_close (Takes n) tokens ts [] → ParamsOf Ts ts vs → FurtherParams Ts tokens vs
+further_from : (Ts : List TypeTree) (n : ℕ) (tokens : List Token) (ts : List Tree) (vs : List Value) → FurtherItems paren_close (Takes n) tokens ts [] → TreeParams Ts ts vs → FurtherParams Ts tokens vs
 further_from [] n tokens [] vs closes e = (closes, e)
 further_from [] n tokens (t ∷ ts) vs items p = absurd p
 further_from (T ∷ Ts) n tokens [] vs closes left_out = inl (closes, left_out)
 further_from (T ∷ Ts) n tokens (t ∷ ts) vs (front, behind, e, h, more) (v, ws, q, p, k) = inr (n, front, behind, v, ws, e, back T n front t v behind h q, further_from Ts n behind ts ws more p, k)
 
 -- and those of the trees are the parameters
-pub params_from : (Ts : List TypeTree) (n : ℕ) (front : List Token) (ts : List Tree) (vs : List Value) → 0 < length ts → Items paren_close (Takes n) front ts [] → ParamsOf Ts ts vs → Params Ts (paren_open ∷ front) vs
+pub params_from : (Ts : List TypeTree) (n : ℕ) (front : List Token) (ts : List Tree) (vs : List Value) → 0 < length ts → Items paren_close (Takes n) front ts [] → TreeParams Ts ts vs → Params Ts (paren_open ∷ front) vs
 params_from Ts n front [] vs l items p = absurd (omega (arith, l))
 params_from [] n front (t ∷ ts) vs l items p = absurd p
 params_from (T ∷ Ts) n front (t ∷ ts) vs l (behind, h, more) (v, ws, q, p, k) = inr (n, front, behind, v, ws, refl, back T n front t v behind h q, further_from Ts n behind ts ws more p, k)
+
+none_to : (Ts : List TypeTree) (vs : List Value) → Params Ts (paren_open ∷ paren_close ∷ []) vs → TreeParams Ts [] vs
+none_to [] vs (e, f) = f
+none_to (T ∷ Ts) vs (inl (e, left_out)) = left_out
+none_to (T ∷ Ts) vs (inr (n, front, behind, v, others, e, read, h, f)) =
+    let (u, j, q) = through T n front v behind read (no_open Ts behind others h) in
+    absurd (no_tree_there n front u behind (tail paren_open paren_open front (paren_close ∷ []) (sym e)) j)
+
+none_from : (Ts : List TypeTree) (vs : List Value) → TreeParams Ts [] vs → Params Ts (paren_open ∷ paren_close ∷ []) vs
+none_from [] vs e = (refl, e)
+none_from (T ∷ Ts) vs left_out = inl (refl, left_out)
+
+-- the parameters that tokens are, are those of the trees that they spell
+pub params_by_tree : ParamsAreByTree
+params_by_tree Ts n front [] vs items =
+    (λ p. none_to Ts vs (subst (λ (z : List Token). Params Ts (paren_open ∷ z) vs) items p), λ p. subst (λ (z : List Token). Params Ts (paren_open ∷ z) vs) (sym items) (none_from Ts vs p))
+params_by_tree Ts n front (t ∷ ts) vs items = (params_to Ts n front (t ∷ ts) vs (omega arith) items, params_from Ts n front (t ∷ ts) vs (omega arith) items)

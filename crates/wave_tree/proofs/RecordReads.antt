@@ -38,7 +38,7 @@ use Rattle.wave_tree.specs.Faults.{Refuses, RefusesFor, Fault, record_in, names_
 use Rattle.wave_tree.specs.NodeTree.{NodeTree, place_of, children_of}
 use Rattle.wave_tree.specs.Nodes.{IsNodeOf}
 use Rattle.wave_tree.specs.Answers.{node_pairs}
-use Rattle.wave_tree.specs.Typed.{IsRead, IsBlamed, IsMade, IsServed, AreServedFields, IsValueOf}
+use Rattle.wave_tree.specs.Typed.{IsRead, IsBlamed, IsMade, IsValueOf}
 use Rattle.wave_tree.specs.Records.{IsFieldsOf, names_of, held_at, HoldsFields, IsFieldNode, IsLeftOut, IsMissing, AnswersField, RefusesFields}
 use Rattle.wave_tree.proofs.Inside.{inside, some_is}
 use Rattle.wave_tree.proofs.Leaves.{tree_is}
@@ -99,10 +99,6 @@ deep_at (type.field other U more) (suc i) name E h = omega (arith, deep_at more 
 pub record_deep : (T : TypeTree) (parts : List (List ℕ × TypeTree)) (i : ℕ) (name : List ℕ) (E : TypeTree) → RecordType T parts → HasAt parts i (name, E) → depth E < depth T
 record_deep T parts i name E is h = omega (arith, ap depth is.is, deep_at is.fields i name E (subst (λ (l : List (List ℕ × TypeTree)). HasAt l i (name, E)) is.parts_are h))
 
-served_all : (fs : Fields) → AreServedFields fs → AllOf (λ p. IsServed p.1) (type.field_list fs)
-served_all type.no_fields h = tt
-served_all (type.field name T more) h = (h.0, served_all more h.1)
-
 distinct_all : (fs : Fields) → EachNamesOfFields AreDistinct fs → AllOf (λ p. HasDistinctNames p.1) (type.field_list fs)
 distinct_all type.no_fields h = tt
 distinct_all (type.field name T more) h = (h.0, distinct_all more h.1)
@@ -111,10 +107,6 @@ distinct_all (type.field name T more) h = (h.0, distinct_all more h.1)
 pub names_are : (fs : Fields) → names_of (type.field_list fs) ≡ field_names fs
 names_are type.no_fields = refl
 names_are (type.field name T more) = ap (λ (ns : List (List ℕ)). name ∷ ns) (names_are more)
-
--- a record is read where the type of each field is
-pub fields_served : (T : TypeTree) (parts : List (List ℕ × TypeTree)) → RecordType T parts → IsServed T → AllOf (λ p. IsServed p.1) parts
-fields_served T parts is h = subst (AllOf (λ p. IsServed p.1)) (sym is.parts_are) (served_all is.fields (subst IsServed is.is h))
 
 -- what the names of a record type say of its parts
 pub record PartsDistinct (parts : List (List ℕ × TypeTree)) : Type 0 where

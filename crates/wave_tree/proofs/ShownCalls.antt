@@ -38,7 +38,8 @@ use Rattle.wave_tree.proofs.ShownTidy.{tidied, parens, shows_all}
 use Rattle.wave_tree.proofs.ShownReads.{shown_tidied}
 use Rattle.wave_tree.proofs.ShownMeans.{alike_tidy}
 use Rattle.wave_tree.proofs.Alike.{AllAlike, alike_back, carries}
-use Rattle.wave_tree.proofs.ParamTrees.{ParamsOf, params_to, params_from}
+use Rattle.wave_tree.specs.TreeParams.{TreeParams}
+use Rattle.wave_tree.proofs.ParamTrees.{params_to, params_from}
 
 -- ---- names
 
@@ -110,7 +111,7 @@ call_of s name params others x tokens call cut spelled =
 
 -- ---- parameters
 
-params_carried : (Ts : List TypeTree) (ts us : List Tree) (vs : List Value) → AllAlike ts us → ParamsOf Ts ts vs → ParamsOf Ts us vs
+params_carried : (Ts : List TypeTree) (ts us : List Tree) (vs : List Value) → AllAlike ts us → TreeParams Ts ts vs → TreeParams Ts us vs
 params_carried Ts [] [] vs h p = p
 params_carried Ts [] (u ∷ us) vs h p = absurd h
 params_carried Ts (t ∷ ts) [] vs h p = absurd h

@@ -44,6 +44,7 @@ node_parsed old new parsed sound h = record {
   placed = h.placed;
   is_node = h.is_node sound;
   taken = record { tokens = h.token ∷ h.others; taken = (h.first, h.begins, h.taken); takes = subst (λ z. tree.Takes 100 (h.token ∷ z) (tree_of h.placed) []) (append-nil h.others) (h.takes [] (λ more e. cc)) };
+  stands = (h.first, h.token, h.begins, h.spans);
 }
 
 -- ---- the tokens of a text
@@ -214,7 +215,7 @@ value_refused Full T s p e h distinct = by (memory_or e.kind)
   where
     by_blame : (k : IsTypeRefused Full T e (start_of s) p) → Fault T k.placed (refusal_of e) e.span × typed.ReadsNone T k.placed ⊎ (e.kind ≡ kind.WasmValueError) × (Full T → ⊥) →
         (e.kind ≡ kind.OutOfMemory) ⊎ TextFault T s e × MeansNone T s ⊎ (e.kind ≡ kind.WasmValueError) × (Full T → ⊥)
-    by_blame k (inl (fault, none)) = inr (inl (inr (inl (p, k.placed, k.taken, k.spelled, fault)), λ v means. none v (whole_read T s p (tree_of k.placed) v k.read k.taken means).reads))
+    by_blame k (inl (fault, none)) = inr (inl (inr (inl (p, k.placed, k.read, k.taken, k.stands, k.spelled, fault)), λ v means. none v (whole_read T s p (tree_of k.placed) v k.read k.taken means).reads))
     by_blame k (inr other) = inr (inr other)
 
     by_kind : IsRefused e 100 value [] (start_of s) p ⊎ IsTypeRefused Full T e (start_of s) p → (e.kind ≡ kind.OutOfMemory) ⊎ TextFault T s e × MeansNone T s ⊎ (e.kind ≡ kind.WasmValueError) × (Full T → ⊥)
@@ -230,7 +231,7 @@ pub trailing_refused : {V : Type 0} (tree_of_value : V → Value) (of : V → Ty
 trailing_refused tree_of_value of Full T s p v e h trails distinct =
     let (behind, any, says) = trails in
     inr (inl (
-      inr (inr (p, h.placed, tree_of_value v, h.taken, (h.means distinct).reads, trails)),
+      inr (inr (p, h.placed, tree_of_value v, h.read, h.taken, (h.means distinct).reads, trails)),
       λ w means. let ends = (whole_read T s p (tree_of h.placed) w h.read h.taken means).ends in nothing_there p ends.0 behind ends.1 any,
     ))
 

@@ -32,6 +32,9 @@ untyped_of s p u (same, h) ends = record {
   placed = h.placed;
   is_node = h.is_node;
   spelled = (h.taken.tokens, all_cut s p h.taken.tokens h.taken.taken ends, h.taken.takes);
+  last = p;
+  stands = h.stands;
+  ends = ends;
 }
 
 -- where no tree stands a text spells none
@@ -46,7 +49,7 @@ refused_spells_none s e p h apart =
 pub trailing_spells_none : (s : List ℕ) (e : ParserError) (p : Place) (u : Untyped) → IsRead 100 value [] (start_of s) p [] → IsUntypedTaken (start_of s) p u → IsTrailing e p → RefusesTree s e
 trailing_spells_none s e p u read (same, h) trails apart =
     let (behind, any, says) = trails in (
-      inr (p, tree_of h.placed, h.taken, trails),
+      inr (p, tree_of h.placed, read, h.taken, trails),
       λ t spelled. let ends = ends_there s p (tree_of h.placed) t read h.taken spelled in nothing_there p ends.0 behind ends.1 any,
     )
 

@@ -24,7 +24,7 @@ use Rattle.wave_tree.specs.Placed.{Placed, Shape, at, tuple, PlacedTrees, no_mor
 use Rattle.wave_tree.specs.Faults.{Refuses, RefusesFor, OfForm, Fault, FaultOfItem, tuple_in}
 use Rattle.wave_tree.specs.NodeTree.{NodeTree, type_of, place_of, children_of}
 use Rattle.wave_tree.specs.Nodes.{placed_of, IsNodeOf}
-use Rattle.wave_tree.specs.Typed.{IsRead, IsBlamed, IsMade, IsServed, AreServed, IsValueOf}
+use Rattle.wave_tree.specs.Typed.{IsRead, IsBlamed, IsMade, IsValueOf}
 use Rattle.wave_tree.proofs.Inside.{From, inside, some_is, AreParsed, parsed, nodes_in, nodes_are}
 use Rattle.wave_tree.proofs.Cases.{shape_at}
 use Rattle.wave_tree.proofs.Leaves.{tree_is, at_tree}
@@ -96,17 +96,9 @@ deep_at (type.type_and U more) (suc i) E h = omega (arith, deep_at more i E h)
 pub tuple_deep : (T : TypeTree) (parts : List TypeTree) (i : ℕ) (E : TypeTree) → TupleType T parts → HasAt parts i E → depth E < depth T
 tuple_deep T parts i E is h = omega (arith, ap depth is.is, deep_at is.types i E (subst (λ (l : List TypeTree). HasAt l i E) is.parts_are h))
 
-served_all : (Ts : Types) → AreServed Ts → AllOf IsServed (type_list Ts)
-served_all type.no_types h = tt
-served_all (type.type_and T more) h = (h.0, served_all more h.1)
-
 distinct_all : (Ts : Types) → EachNamesOfTypes AreDistinct Ts → AllOf HasDistinctNames (type_list Ts)
 distinct_all type.no_types h = tt
 distinct_all (type.type_and T more) h = (h.0, distinct_all more h.1)
-
--- a tuple is read where the type of each item is
-pub parts_served : (T : TypeTree) (parts : List TypeTree) → TupleType T parts → IsServed T → AllOf IsServed parts
-parts_served T parts is h = subst (AllOf IsServed) (sym is.parts_are) (served_all is.types (subst IsServed is.is h))
 
 -- the names of the items' types are those of the tuple
 pub parts_distinct : (T : TypeTree) (parts : List TypeTree) → TupleType T parts → HasDistinctNames T → AllOf HasDistinctNames parts

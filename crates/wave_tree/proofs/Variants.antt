@@ -25,7 +25,7 @@ use Rattle.wave_tree.specs.Faults.{Blame, Refuses, RefusesFor, OfForm, Fault, Fa
 use Rattle.wave_tree.specs.NodeTree.{NodeTree, type_of, place_of, children_of, node_list}
 use Rattle.wave_tree.specs.Nodes.{placed_of, flag_of, IsNodeOf}
 use Rattle.wave_tree.specs.Answers.{text_at, shown_node, GivesVariant}
-use Rattle.wave_tree.specs.Typed.{IsRead, IsBlamed, IsMade, IsCaused, IsValueOf, IsServedPayload, AreServedCases, IsPayloadNodeOf, IsPayloadOf, IsPayloadRead, IsPayloadBlamed}
+use Rattle.wave_tree.specs.Typed.{IsRead, IsBlamed, IsMade, IsCaused, IsValueOf, IsPayloadNodeOf, IsPayloadOf, IsPayloadRead, IsPayloadBlamed}
 use Rattle.wave_tree.proofs.Inside.{From, Inside, inside, some_is, AreParsed, parsed, nodes_in, nodes_are}
 use Rattle.wave_tree.proofs.Cases.{shape_at, case_shape}
 use Rattle.wave_tree.proofs.Enums.{label_node}
@@ -100,12 +100,6 @@ payload_deep (type.case_of other A more) name P (inr h) = omega (arith, payload_
 -- the payload's type nests less deep
 pub case_deep : (T : TypeTree) (cs : Cases) (name : List ℕ) (P : MaybeType) → T ≡ type.variant cs → HasCase cs name P → depth_of_maybe P < depth T
 case_deep T cs name P e h = omega (arith, ap depth e, payload_deep cs name P h)
-
--- the payload's type is read where those of all cases are
-pub case_served : (cs : Cases) (name : List ℕ) (P : MaybeType) → HasCase cs name P → AreServedCases cs → IsServedPayload P
-case_served type.no_cases name P h served = absurd h
-case_served (type.case_of other A more) name P (inl h) served = subst IsServedPayload h.1 served.0
-case_served (type.case_of other A more) name P (inr h) served = case_served more name P h.1 served.1
 
 -- the names of the payload's type are among those of the cases
 pub case_distinct : (cs : Cases) (name : List ℕ) (P : MaybeType) → HasCase cs name P → EachNamesOfCases AreDistinct cs → EachNamesOfMaybe AreDistinct P

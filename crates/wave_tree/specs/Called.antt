@@ -50,12 +50,13 @@ abbrev pub MeansParams : List ℕ → Option NodeTree → MaybeTree → Type 0
 MeansParams source None params = params ≡ no_tree
 MeansParams source (Some n) params = (t : Placed) × IsNodeOf source n t × (params ≡ a_tree (tree_of t))
 
--- the call keeps the text, which is a call of its name with the parameters that its node means
+-- the call keeps the text, which is a call of its name, at its front, with the parameters that its node means
 pub record IsCalledOf (s : List ℕ) (u : Called) : Type 0 where
   pub source : u.source ≡ s
   pub params : MaybeTree
   pub means : MeansParams s u.params params
   pub call : IsCall s (slice s u.name) params
+  pub name : u.name ≡ span 0 call.bytes
 
 -- behind a function name of so many bytes, before its parameters
 abbrev pub behind_name : List ℕ → ℕ → Place

@@ -9,7 +9,7 @@ use Rattle.wave_lex.specs.declared.error.ParserError.{ParserError}
 use Rattle.wave_lex.specs.declared.error.ParserErrorKind.TheVariants.{InvalidType, OutOfMemory}
 use Rattle.wave_lex.specs.declared.strings.StringPart.{StringPart}
 use Rattle.wave_lex.specs.Left.{LinesLeft}
-use Rattle.wave_lex.specs.Parts.{part_texts, LinesRunTo, TellsBadEscape, TellsFault}
+use Rattle.wave_lex.specs.Parts.{part_texts, HasBadLine, LinesRunTo, TellsBadEscape, TellsFault}
 use Rattle.wave_lex.specs.Strings.{StringMeans, IsInQuotes, IsBadEscapeAt}
 use Rattle.wave_lex.specs.Multiline.{pieces, MultilineMeans, IsInThreeQuotes, LineFault, MultilineFault, fault_span}
 use Rattle.wave_tree.specs.NodeTree.{NodeTree, type_of, place_of}
@@ -40,6 +40,14 @@ IsEnded l = (l.line.rest ≡ []) × (l.later ≡ [])
 -- one run is left, or nothing: no `\`, and no line behind
 abbrev pub IsOneRun : LinesLeft → Type 0
 IsOneRun l = AllOf (λ b. b ≢ backslash) l.line.rest × (l.later ≡ [])
+
+-- no part is left before a refusal: the next line has too few spaces, and nothing is left of the line before it
+abbrev pub IsRefusedFirst : LinesLeft → Type 0
+IsRefusedFirst l = (l.line.rest ≡ []) × HasBadLine l
+
+-- nothing of it is copied: one run is left, or nothing, or no part before a refusal
+abbrev pub IsUncopied : LinesLeft → Type 0
+IsUncopied l = IsOneRun l ⊎ IsRefusedFirst l
 
 -- the text so far and the parts that are left, borrowed where P holds; or a refusal among the parts; or want of memory, where P doesn't hold
 abbrev pub PutTogether : Type 0 → List ℕ → LinesLeft → Range ℕ → Result CowStr ParserError → Type 0

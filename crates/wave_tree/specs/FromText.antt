@@ -12,7 +12,7 @@ use Rattle.wave_tree.specs.Placed.{Placed, tree_of, SpellsEach}
 use Rattle.wave_tree.specs.TreeReads.{TreeReads}
 use Rattle.wave_tree.specs.Faults.{Fault}
 use Rattle.wave_tree.specs.Means.{Means}
-use Rattle.wave_tree.specs.Parsed.{IsTaken}
+use Rattle.wave_tree.specs.Parsed.{IsTaken, StandsBetween}
 use Rattle.wave_tree.specs.Parsing.{IsTrailing, front_of}
 use Rattle.wave_tree.specs.Typed as typed
 
@@ -38,6 +38,7 @@ module _ (Full : TypeTree → Type 0) where
     pub read : IsRead 100 value [] old new []
     pub placed : Placed
     pub taken : IsTaken old new (tree_of placed)
+    pub stands : StandsBetween old new placed
     pub spelled : SpellsEach old.lexer.source placed
     pub blames : HasDistinctNames T → Fault T placed (refusal_of e) e.span × typed.ReadsNone T placed ⊎ (e.kind ≡ WasmValueError) × (Full T → ⊥)
 
@@ -49,12 +50,12 @@ module _ (Full : TypeTree → Type 0) where
 abbrev pub MeansNone : TypeTree → List ℕ → Type 0
 MeansNone T s = (v : Value) → Means T s v → ⊥
 
--- what is wrong with the text: no tree begins it; or the type gives its tree, each part of which spells its slice of the text, no value; or something follows the tree
+-- what is wrong with the text: no tree begins it; or the type gives the tree that was read, from its first token to its last and each part of which spells its slice of the text, no value; or something follows the tree
 abbrev pub TextFault : TypeTree → List ℕ → ParserError → Type 0
 TextFault T s e =
     ((p : Place) × IsRefused e 100 value [] (start_of s) p)
-    ⊎ ((p : Place) × (t : Placed) × IsTaken (start_of s) p (tree_of t) × SpellsEach s t × Fault T t (refusal_of e) e.span)
-    ⊎ ((p : Place) × (t : Placed) × (v : Value) × IsTaken (start_of s) p (tree_of t) × TreeReads T (tree_of t) v × IsTrailing e p)
+    ⊎ ((p : Place) × (t : Placed) × IsRead 100 value [] (start_of s) p [] × IsTaken (start_of s) p (tree_of t) × StandsBetween (start_of s) p t × SpellsEach s t × Fault T t (refusal_of e) e.span)
+    ⊎ ((p : Place) × (t : Placed) × (v : Value) × IsRead 100 value [] (start_of s) p [] × IsTaken (start_of s) p (tree_of t) × TreeReads T (tree_of t) v × IsTrailing e p)
 
 -- want of memory; or a fault of the text, which means no value of the type; or, where makers do not serve all values of the type, the refusal of one
 abbrev pub RefusesText : (TypeTree → Type 0) → TypeTree → List ℕ → ParserError → Type 0

@@ -172,8 +172,13 @@ pub record IsTaken (old new : Place) (t : tree.Tree) : Type 0 where
   pub taken : TakesTokens old tokens new
   pub takes : tree.Takes 100 tokens t []
 
--- the parser took the tokens of the tree that the node means
+-- the tree stands between the places, from its first token to its last
+abbrev pub StandsBetween : Place → Place → Placed → Type 0
+StandsBetween old new t = (first : Place) × (token : Token) × TakesToken old token first × (span_of t ≡ span first.lexer.start new.lexer.end)
+
+-- the parser took the tokens of the tree that the node means, and there it stands
 pub record IsNodeTaken (old new : Place) (parsed : NodeTree) : Type 0 where
   pub placed : Placed
   pub is_node : IsNodeOf old.lexer.source parsed placed
   pub taken : IsTaken old new (tree_of placed)
+  pub stands : StandsBetween old new placed

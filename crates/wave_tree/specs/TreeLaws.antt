@@ -1,8 +1,11 @@
 -- What holds of trees.
-use Rattle.std.specs.Prelude.{ℕ, ◌≡◌, ◌≢◌, ◌≤◌, List, ◌∷◌}
+use Rattle.std.specs.Prelude.{ℕ, ◌≡◌, ◌≢◌, ◌≤◌, ◌↔◌, List, [], ◌∷◌}
 use Rattle.wave_wasm.specs.Types.{TypeTree}
 use Rattle.wave_wasm.specs.Values.{Value}
-use Rattle.wave_tree.specs.Token.{Token, paren_open}
+use Rattle.wave_tree.specs.Token.{Token, paren_open, paren_close}
+use Rattle.wave_tree.specs.Joined.{Items}
+use Rattle.wave_tree.specs.Params.{Params}
+use Rattle.wave_tree.specs.TreeParams.{TreeParams}
 use Rattle.wave_tree.specs.Reads.{Reads}
 use Rattle.wave_tree.specs.Tree.{Tree, Takes, levels}
 use Rattle.wave_tree.specs.TreeReads.{TreeReads}
@@ -23,3 +26,8 @@ ReadsByTree T =
 -- a tree to which the type gives a value spells that value
 abbrev pub TreeIsRead : TypeTree → Type 0
 TreeIsRead T = (n : ℕ) (tokens rest : List Token) (t : Tree) (v : Value) → Takes n tokens t rest → TreeReads T t v → Reads T n tokens v rest
+
+-- the parameters that the tokens of some items in parentheses are, are the values that the types in their places give the items' trees
+abbrev pub ParamsAreByTree : Type 0
+ParamsAreByTree =
+    (Ts : List TypeTree) (n : ℕ) (front : List Token) (ts : List Tree) (vs : List Value) → Items paren_close (Takes n) front ts [] → Params Ts (paren_open ∷ front) vs ↔ TreeParams Ts ts vs

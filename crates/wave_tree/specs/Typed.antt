@@ -4,8 +4,7 @@ use Rattle.wave_wasm.specs.Lists.{AllOf}
 use Rattle.wave_wasm.specs.Names.{AreDistinct}
 use Rattle.std.specs.declared.ops.Range.{Range}
 use Rattle.wave_wasm.specs.Types as type
-use Rattle.wave_wasm.specs.Types.{Fields}
-use Rattle.wave_wasm.specs.Types.{TypeTree, Simple, MaybeType, Cases, type_option, maybe_type, HasDistinctNames, EachNamesOfMaybe, Types}
+use Rattle.wave_wasm.specs.Types.{TypeTree, Simple, MaybeType, type_option, maybe_type, HasDistinctNames, EachNamesOfMaybe}
 use Rattle.wave_wasm.specs.Values as value
 use Rattle.wave_wasm.specs.Values.{Value, Leaf, maybe_value}
 use Rattle.wave_wasm.specs.Causes.{Cause, cause_of}
@@ -88,53 +87,6 @@ module _ {V : Type 0} (tree : V → Value) (of : V → TypeTree → Type 0) (Ful
   -- so, and a fault stands only where the type gives the tree no value
   abbrev pub Reads : TypeTree → List ℕ → NodeTree → Result V ParserError → Type 0
   Reads T source n r = (t : Placed) → IsNodeOf source n t → HasDistinctNames T → MatchResult r (IsRead tree of T t) (IsRefused Full T t)
-
--- the types of keys that are read so far
-abbrev pub IsKeyServed : TypeTree → Type 0
-IsKeyServed (type.simple type.bool) = Unit {0}
-IsKeyServed (type.simple (type.whole which)) = Unit {0}
-IsKeyServed (type.simple type.char) = Unit {0}
-IsKeyServed (type.simple type.string) = Unit {0}
-IsKeyServed _ = ⊥
-
--- the types that are read so far
-abbrev mutual
-  pub IsServed : TypeTree → Type 0
-  IsServed (type.simple type.bool) = Unit {0}
-  IsServed (type.simple (type.whole which)) = Unit {0}
-  IsServed (type.simple type.char) = Unit {0}
-  IsServed (type.simple type.string) = Unit {0}
-  IsServed (type.unreadable kind) = Unit {0}
-  IsServed (type.fixed E n) = Unit {0}
-  IsServed (type.list E) = IsServed E
-  IsServed (type.record_type fs) = AreServedFields fs
-  IsServed (type.tuple Ts) = AreServed Ts
-  IsServed (type.option P) = IsServed P
-  IsServed (type.result A B) = IsServedPayload A × IsServedPayload B
-  IsServed (type.variant cases) = AreServedCases cases
-  IsServed (type.enum names) = Unit {0}
-  IsServed (type.flags names) = Unit {0}
-  IsServed (type.map K V) = IsKeyServed (type.simple K) × IsServed V
-
-  -- each type of a tuple is read
-  pub AreServed : Types → Type 0
-  AreServed type.no_types = Unit {0}
-  AreServed (type.type_and T more) = IsServed T × AreServed more
-
-  -- so is each field's type
-  pub AreServedFields : Fields → Type 0
-  AreServedFields type.no_fields = Unit {0}
-  AreServedFields (type.field name T more) = IsServed T × AreServedFields more
-
-  -- so is the payload of each case
-  pub AreServedCases : Cases → Type 0
-  AreServedCases type.no_cases = Unit {0}
-  AreServedCases (type.case_of name payload more) = IsServedPayload payload × AreServedCases more
-
-  -- so is a payload's type, where there is one
-  pub IsServedPayload : MaybeType → Type 0
-  IsServedPayload type.no_type = Unit {0}
-  IsServedPayload (type.a_type T) = IsServed T
 
 -- ---- payloads
 

@@ -1,16 +1,17 @@
 -- What untyped values are in a contract, and what reading one from a text answers.
-use Rattle.std.specs.Prelude.{ℕ, ◌≡◌, ◌≢◌, ◌⊎◌, List, []}
+use Rattle.std.specs.Prelude.{ℕ, ◌≡◌, ◌≢◌, ◌⊎◌, List, [], None}
 use Rattle.wave_lex.specs.declared.error.ParserError.{ParserError}
 use Rattle.wave_lex.specs.declared.error.ParserErrorKind.TheVariants.{OutOfMemory}
 use Rattle.wave_tree.specs.Token.{Token, CutsInto}
-use Rattle.wave_tree.specs.Tree.{Tree, Takes}
-use Rattle.wave_tree.specs.Place.{Place}
+use Rattle.wave_tree.specs.Tree as tree
+use Rattle.wave_tree.specs.Tree.{Tree}
+use Rattle.wave_tree.specs.Place.{Place, Takes}
 use Rattle.wave_tree.specs.Due.{value}
-use Rattle.wave_tree.specs.Refusals.{IsRefused}
+use Rattle.wave_tree.specs.Refusals.{IsRead, IsRefused}
 use Rattle.wave_tree.specs.Placed.{Placed, tree_of}
 use Rattle.wave_tree.specs.NodeTree.{NodeTree}
 use Rattle.wave_tree.specs.Nodes.{IsNodeOf}
-use Rattle.wave_tree.specs.Parsed.{IsTaken, IsNodeTaken}
+use Rattle.wave_tree.specs.Parsed.{IsTaken, IsNodeTaken, StandsBetween}
 use Rattle.wave_tree.specs.Parsing.{IsTrailing}
 use Rattle.wave_tree.specs.FromText.{start_of}
 
@@ -25,7 +26,7 @@ IsUntypedTaken old new u = (u.source ≡ old.lexer.source) × IsNodeTaken old ne
 
 -- the whole text spells the tree within 100 levels
 abbrev pub SpellsText : List ℕ → Tree → Type 0
-SpellsText s t = (tokens : List Token) × CutsInto s tokens × Takes 100 tokens t []
+SpellsText s t = (tokens : List Token) × CutsInto s tokens × tree.Takes 100 tokens t []
 
 -- the value keeps the text, and its node means the tree that the whole text spells
 pub record IsUntypedOf (s : List ℕ) (u : Untyped) : Type 0 where
@@ -33,12 +34,15 @@ pub record IsUntypedOf (s : List ℕ) (u : Untyped) : Type 0 where
   pub placed : Placed
   pub is_node : IsNodeOf s u.node placed
   pub spelled : SpellsText s (tree_of placed)
+  pub last : Place
+  pub stands : StandsBetween (start_of s) last placed
+  pub ends : (behind : Place) × Takes last None behind
 
 -- what is wrong with the text: no tree begins it, or something follows the tree
 abbrev pub SyntaxFault : List ℕ → ParserError → Type 0
 SyntaxFault s e =
     ((p : Place) × IsRefused e 100 value [] (start_of s) p)
-    ⊎ ((p : Place) × (t : Tree) × IsTaken (start_of s) p t × IsTrailing e p)
+    ⊎ ((p : Place) × (t : Tree) × IsRead 100 value [] (start_of s) p [] × IsTaken (start_of s) p t × IsTrailing e p)
 
 -- the whole text spells no tree
 abbrev pub SpellsNone : List ℕ → Type 0

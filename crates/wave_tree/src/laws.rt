@@ -1,7 +1,7 @@
 //! Laws of the definitions.
 ghost use Rattle.wave_wasm.specs.Types.{TypeTree, HasDistinctNames};
 ghost use Rattle.wave_tree.specs.Laws.{OneReading};
-ghost use Rattle.wave_tree.specs.TreeLaws.{OneTree, HasItsLevels, ReadsByTree, TreeIsRead};
+ghost use Rattle.wave_tree.specs.TreeLaws.{OneTree, HasItsLevels, ReadsByTree, TreeIsRead, ParamsAreByTree};
 ghost use Rattle.wave_tree.specs.ShownLaws.{ShownKeepsMeaning, ShownCallKeepsMeaning};
 ghost use Rattle.wave_tree.specs.AnswerLaws.{ReadHaveATree, RefusedHaveNone, AskingsAreFew, RefusalsLieInText, FaultsLieInText};
 ghost use Rattle.wave_tree.specs.BeginLaws.{TreesAreLed, LedTokensHaveATree, FrontsAreLed, LedTokensBeginATree};
@@ -27,6 +27,12 @@ pub fn levels_are_exact()
 pub fn reading_is_by_tree()
     ensures through { (T : TypeTree) → ReadsByTree T }
     ensures back { (T : TypeTree) → TreeIsRead T }
+{}
+
+/// The tokens of a call are parameters exactly where the types in their places give the trees of
+/// its items these values.
+pub fn params_are_by_tree()
+    ensures { ParamsAreByTree }
 {}
 
 /// The tokens of a tree lead, within its levels, from where a value is due to its end.

@@ -3,7 +3,7 @@ ghost use Rattle.std.specs.Prelude.{◌≡◌, ◌++◌, [], OnOk, IfErr};
 ghost use Rattle.std.specs.String.{string_bytes};
 ghost use Rattle.wave_lex.specs.Parts.{part_text, left_of};
 ghost use Rattle.wave_tree.specs.Answers.{CharIn};
-ghost use Rattle.wave_tree.specs.CowText.{WantsMemory, IsEnded, IsOneRun, PutTogether};
+ghost use Rattle.wave_tree.specs.CowText.{WantsMemory, IsEnded, IsUncopied, PutTogether};
 
 use crate::ast::CowStr;
 use std::alloc::Global;
@@ -39,7 +39,7 @@ pub(crate) fn joined<'a>(
     parts: StringPartsIter<'a>,
     place: &Span,
 ) -> Result<CowStr<'a>, ParserError>
-    ensures { PutTogether (IsOneRun (left_of parts.entry)) [] (left_of parts.entry) place.now result }
+    ensures { PutTogether (IsUncopied (left_of parts.entry)) [] (left_of parts.entry) place.now result }
 {
     let mut parts = parts;
     match parts.next() {

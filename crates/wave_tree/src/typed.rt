@@ -1,6 +1,6 @@
 //! Reading nodes at types.
 ghost use Rattle.std.specs.Prelude.{ℕ, List, [], ◌∷◌, ◌++◌, ◌≡◌, ◌≢◌, ◌⊎◌, ◌↔◌, option_map, IsTrue, OnOk, IfOk, IfErr};
-ghost use Rattle.wave_wasm.specs.Types.{kind_of, maybe_type, whole_kind, Whole};
+ghost use Rattle.wave_wasm.specs.Types.{kind_of, whole_kind, Whole};
 ghost use Rattle.wave_wasm.specs.Types as type;
 ghost use Rattle.wave_wasm.specs.Values as value;
 ghost use Rattle.wave_wasm.specs.Shown.{texts, shown, shown_cases};
@@ -9,7 +9,7 @@ ghost use Rattle.wave_wasm.specs.Causes.{unsupported_type, unknown_case, missing
 ghost use Rattle.wave_lex.specs.declared.error.ParserErrorKind.TheVariants.{OutOfMemory};
 ghost use Rattle.wave_tree.specs.Answers.{Among, shown_node};
 ghost use Rattle.wave_tree.specs.CowText.{cow_text};
-ghost use Rattle.wave_tree.specs.Typed.{IsLeafMade, IsValueOf, IsKeyOf, IsKeyServed, AnswersKey, IsCaused, IsMade, IsServed, IsServedPayload, IsPayloadOf, GivesFlat, Answers, AnswersPayload, Reads};
+ghost use Rattle.wave_tree.specs.Typed.{IsLeafMade, IsValueOf, IsKeyOf, AnswersKey, IsCaused, IsMade, IsPayloadOf, GivesFlat, Answers, AnswersPayload, Reads};
 ghost use Rattle.wave_lex.specs.Errors.{refusal_of};
 ghost use Rattle.std.specs.Prelude.{MatchResult};
 ghost use Rattle.wave_wasm.specs.Types.{HasDistinctNames};
@@ -48,7 +48,7 @@ impl Node {
     #[cycle(reading)]
     fn read<V: WasmValue>(&self, alloc: Global, ty: &V::Type, src: &str) -> Result<V, ParserError>
         requires { IsValueOf src.now self.now }
-        ensures { IsServed (V.Type.tree ty.now) → Answers V.tree V.is_of V.is_full (V.Type.tree ty.now) src.now self.now result }
+        ensures { Answers V.tree V.is_of V.is_full (V.Type.tree ty.now) src.now self.now result }
     {
         match ty.kind() {
             WasmTypeKind::Bool => self.read_bool(alloc, ty),
@@ -85,7 +85,7 @@ impl Node {
     ) -> Result<V, ParserError>
         requires node { IsValueOf src.now self.now }
         requires kind { kind_of (V.Type.tree ty.now) ≡ WasmTypeKind.List }
-        ensures { IsServed (V.Type.tree ty.now) → Answers V.tree V.is_of V.is_full (V.Type.tree ty.now) src.now self.now result }
+        ensures { Answers V.tree V.is_of V.is_full (V.Type.tree ty.now) src.now self.now result }
     {
         let element = ty.list_element_type().unwrap();
         let nodes = self.as_list()?;
@@ -107,7 +107,7 @@ impl Node {
     ) -> Result<V, ParserError>
         requires node { IsValueOf src.now self.now }
         requires kind { kind_of (V.Type.tree ty.now) ≡ WasmTypeKind.Record }
-        ensures { IsServed (V.Type.tree ty.now) → Answers V.tree V.is_of V.is_full (V.Type.tree ty.now) src.now self.now result }
+        ensures { Answers V.tree V.is_of V.is_full (V.Type.tree ty.now) src.now self.now result }
     {
         let types = match ty.record_fields(alloc) {
             Ok(types) => types,
@@ -141,7 +141,7 @@ impl Node {
         src: &str,
     ) -> Result<V, ParserError>
         requires { IsFieldNode src.now (shown_node node) }
-        ensures { IsServed (V.Type.tree ty.now) → AnswersField V.tree V.is_of V.is_full (V.Type.tree ty.now) src.now name.now self.now (shown_node node.entry) result }
+        ensures { AnswersField V.tree V.is_of V.is_full (V.Type.tree ty.now) src.now name.now self.now (shown_node node.entry) result }
     {
         match node {
             Some(node) => node.read(alloc, ty, src),
@@ -174,7 +174,7 @@ impl Node {
     ) -> Result<V, ParserError>
         requires node { IsValueOf src.now self.now }
         requires kind { kind_of (V.Type.tree ty.now) ≡ WasmTypeKind.Tuple }
-        ensures { IsServed (V.Type.tree ty.now) → Answers V.tree V.is_of V.is_full (V.Type.tree ty.now) src.now self.now result }
+        ensures { Answers V.tree V.is_of V.is_full (V.Type.tree ty.now) src.now self.now result }
     {
         let types = match ty.tuple_element_types(alloc) {
             Ok(types) => types,
@@ -202,7 +202,7 @@ impl Node {
     ) -> Result<V, ParserError>
         requires node { IsValueOf src.now self.now }
         requires kind { kind_of (V.Type.tree ty.now) ≡ WasmTypeKind.Map }
-        ensures { IsServed (V.Type.tree ty.now) → Answers V.tree V.is_of V.is_full (V.Type.tree ty.now) src.now self.now result }
+        ensures { Answers V.tree V.is_of V.is_full (V.Type.tree ty.now) src.now self.now result }
     {
         let (key_type, value_type) = ty.map_key_value_types().unwrap();
         let mut nodes = self.as_map()?;
@@ -226,7 +226,7 @@ impl Node {
         src: &str,
     ) -> Result<V, ParserError>
         requires { IsKeyOf src.now self.now }
-        ensures { IsKeyServed (V.Type.tree ty.now) → AnswersKey V.tree V.is_of V.is_full (V.Type.tree ty.now) src.now self.now result }
+        ensures { AnswersKey V.tree V.is_of V.is_full (V.Type.tree ty.now) src.now self.now result }
     {
         match self.read_plain_key(alloc, ty, src) {
             Ok(key) => Ok(key),
@@ -261,7 +261,7 @@ impl Node {
         src: &str,
     ) -> Result<V, ParserError>
         requires { IsKeyOf src.now self.now }
-        ensures { IsKeyServed (V.Type.tree ty.now) → AnswersKey V.tree V.is_of V.is_full (V.Type.tree ty.now) src.now self.now result }
+        ensures { AnswersKey V.tree V.is_of V.is_full (V.Type.tree ty.now) src.now self.now result }
     {
         match ty.kind() {
             WasmTypeKind::Bool => self.made(V::make_bool(alloc, self.as_bool_key(src)?)),
@@ -304,7 +304,7 @@ impl Node {
     ) -> Result<V, ParserError>
         requires node { IsValueOf src.now self.now }
         requires kind { kind_of (V.Type.tree ty.now) ≡ WasmTypeKind.Option }
-        ensures { IsServed (V.Type.tree ty.now) → Answers V.tree V.is_of V.is_full (V.Type.tree ty.now) src.now self.now result }
+        ensures { Answers V.tree V.is_of V.is_full (V.Type.tree ty.now) src.now self.now result }
     {
         let payload = ty.option_some_type().unwrap();
         match self.as_option() {
@@ -333,7 +333,7 @@ impl Node {
     ) -> Result<V, ParserError>
         requires node { IsValueOf src.now self.now }
         requires kind { kind_of (V.Type.tree ty.now) ≡ WasmTypeKind.Result }
-        ensures { IsServed (V.Type.tree ty.now) → Answers V.tree V.is_of V.is_full (V.Type.tree ty.now) src.now self.now result }
+        ensures { Answers V.tree V.is_of V.is_full (V.Type.tree ty.now) src.now self.now result }
     {
         let (ok, err) = ty.result_types().unwrap();
         match self.as_result() {
@@ -366,7 +366,7 @@ impl Node {
     ) -> Result<V, ParserError>
         requires node { IsValueOf src.now self.now }
         requires kind { kind_of (V.Type.tree ty.now) ≡ WasmTypeKind.Variant }
-        ensures { IsServed (V.Type.tree ty.now) → Answers V.tree V.is_of V.is_full (V.Type.tree ty.now) src.now self.now result }
+        ensures { Answers V.tree V.is_of V.is_full (V.Type.tree ty.now) src.now self.now result }
     {
         let cases = match ty.variant_cases(alloc) {
             Ok(cases) => cases,
@@ -393,7 +393,7 @@ impl Node {
         src: &str,
     ) -> Result<Option<V>, ParserError>
         requires { IsPayloadOf src.now (shown_node node) }
-        ensures { IsServedPayload (maybe_type (shown V.Type.tree ty.entry)) → AnswersPayload V.tree V.is_of V.is_full name.now (shown V.Type.tree ty.entry) src.now self.now (shown_node node.entry) result }
+        ensures { AnswersPayload V.tree V.is_of V.is_full name.now (shown V.Type.tree ty.entry) src.now self.now (shown_node node.entry) result }
     {
         match ty {
             Some(ty) => match node {

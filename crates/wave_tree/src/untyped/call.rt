@@ -4,7 +4,7 @@ ghost use Rattle.wave_tree.specs.Placed.{slice};
 ghost use Rattle.wave_lex.specs.FunctionName.{IsName};
 ghost use Rattle.wave_wasm.specs.Lists.{AllOf};
 ghost use Rattle.wave_wasm.specs.Types.{HasDistinctNames};
-ghost use Rattle.wave_tree.specs.Called.{IsInSource, IsCalledOf, NameFault, RefusesCall, GivesParamsAt, RefusesParamsAt};
+ghost use Rattle.wave_tree.specs.Called.{IsParamsOf, IsInSource, IsCalledOf, NameFault, RefusesCall, GivesParamsAt, RefusesParamsAt};
 
 use crate::ast::Node;
 use crate::params::omitted_params;
@@ -138,7 +138,8 @@ impl<'source> UntypedFuncCall<'source> {
 
     /// The node of the parameters, a tuple; None where nothing stands between the parentheses.
     pub fn params_node(&self) -> Option<&Node>
-        ensures { option_map (λ n. n.now) result ≡ self.now.params }
+        ensures node { option_map (λ n. n.now) result ≡ self.now.params }
+        ensures parsed { IsParamsOf self.now.source (option_map (λ n. n.now) result) }
     {
         self.params.as_ref()
     }

@@ -2,7 +2,7 @@ use Rattle.std.proofs.Common.{◌≡◌, ◌≢◌, ℕ, ◌≤◌, ◌<◌, inl
 use Rattle.wave_lex.specs.Multiline.{pieces, IsSpaces, OpensWell}
 use Rattle.wave_lex.specs.Left.{Undecoded}
 use Rattle.wave_lex.specs.Lines.{BehindLastFeed, OpeningIs}
-use Rattle.wave_lex.proofs.Lines.{not_spaces, all_spaces, behind_feed, behind_last, begins_here, entered, refused}
+use Rattle.wave_lex.proofs.Lines.{not_spaces, all_spaces, behind_feed, behind_last, begins_here, opened}
 use Rattle.wave_lex.proofs.strings.MultilineStringParts.new.Goals as goal
 
 pub returns-then-length_of_spaces-closing : goal.returns-then-length_of_spaces-closing
@@ -19,11 +19,11 @@ returns-in_default c =
     let within : c.length_of_spaces.result ≤ length c.closing_piece-closing.result.now = rw (← ap length c.as_bytes-2.ensures.value) c.length_of_spaces.ensures.within in
     let all = all_spaces c.closing_piece-closing.result.now c.length_of_spaces.result within c.if-length_of_spaces-closing.false
     (λ i l. subst (λ (z : List ℕ). get_or z i 0 ≡ 32) c.as_bytes-2.ensures.value (c.length_of_spaces.ensures.spaces i l)) in
-    inr (inl (
+    inr (
       subst IsSpaces c.closing_piece-closing.ensures (length c.closing_piece-closing.result.now, all),
       subst (λ (z : List ℕ). OpensWell (pieces z) → ⊥) c.as_bytes-3.ensures.value c.in_default.ensures,
       record { refusal = c.with_static-in_default.ensures.refusal; detail = c.with_static-in_default.ensures.detail; at = c.with_static-in_default.ensures.span },
-    ))
+    )
 
 pub range-requires-clause-start_boundary : goal.range-requires-clause-start_boundary
 range-requires-clause-start_boundary c = λ _.
@@ -35,8 +35,8 @@ pub range-requires-clause-end_boundary : goal.range-requires-clause-end_boundary
 range-requires-clause-end_boundary c = behind_last c.args.src.now c.last_line_start-start.result c.utf8.src
     (subst (λ (z : List ℕ). BehindLastFeed z c.last_line_start-start.result) c.as_bytes.ensures.value c.last_line_start-start.ensures)
 
-pub returns-in-None : goal.returns-in-None
-returns-in-None c =
+pub returns : goal.returns
+returns c =
     let within : c.length_of_spaces.result ≤ length c.closing_piece-closing.result.now = rw (← ap length c.as_bytes-2.ensures.value) c.length_of_spaces.ensures.within in
     let begins = begins_here c.args.src.now c.closing_piece-closing.result.now c.range.result.now c.in-Some.first c.last_line_start-start.result c.args.pos c.length_of_spaces.result c.new.result
     (subst (λ (z : List ℕ). BehindLastFeed z c.last_line_start-start.result) c.as_bytes.ensures.value c.last_line_start-start.ensures)
@@ -44,26 +44,4 @@ returns-in-None c =
     c.closing_piece-closing.ensures within c.if-length_of_spaces-closing.false
     (λ i l. subst (λ (z : List ℕ). get_or z i 0 ≡ 32) c.as_bytes-2.ensures.value (c.length_of_spaces.ensures.spaces i l))
     c.range.ensures.value (ap (λ (u : Undecoded). u.rest) c.new.ensures) in
-    (_, begins, inl c.in-None.ensures)
-
-pub returns-in-Some-Ok : goal.returns-in-Some-Ok
-returns-in-Some-Ok c =
-    let within : c.length_of_spaces.result ≤ length c.closing_piece-closing.result.now = rw (← ap length c.as_bytes-2.ensures.value) c.length_of_spaces.ensures.within in
-    let begins = begins_here c.args.src.now c.closing_piece-closing.result.now c.range.result.now c.in-Some.first c.last_line_start-start.result c.args.pos c.length_of_spaces.result c.new.result
-    (subst (λ (z : List ℕ). BehindLastFeed z c.last_line_start-start.result) c.as_bytes.ensures.value c.last_line_start-start.ensures)
-    (subst (λ (z : List ℕ). OpeningIs z (Some c.in-Some.first)) c.as_bytes-3.ensures.value c.in-Some.ensures)
-    c.closing_piece-closing.ensures within c.if-length_of_spaces-closing.false
-    (λ i l. subst (λ (z : List ℕ). get_or z i 0 ≡ 32) c.as_bytes-2.ensures.value (c.length_of_spaces.ensures.spaces i l))
-    c.range.ensures.value (ap (λ (u : Undecoded). u.rest) c.new.ensures) in
-    (_, begins, inr (entered _ _ _ c.next_line.ensures c.in-Some-Ok.is c.in-Some-Ok.field-0-is))
-
-pub returns-in-Some-Err : goal.returns-in-Some-Err
-returns-in-Some-Err c =
-    let within : c.length_of_spaces.result ≤ length c.closing_piece-closing.result.now = rw (← ap length c.as_bytes-2.ensures.value) c.length_of_spaces.ensures.within in
-    let begins = begins_here c.args.src.now c.closing_piece-closing.result.now c.range.result.now c.in-Some.first c.last_line_start-start.result c.args.pos c.length_of_spaces.result c.new.result
-    (subst (λ (z : List ℕ). BehindLastFeed z c.last_line_start-start.result) c.as_bytes.ensures.value c.last_line_start-start.ensures)
-    (subst (λ (z : List ℕ). OpeningIs z (Some c.in-Some.first)) c.as_bytes-3.ensures.value c.in-Some.ensures)
-    c.closing_piece-closing.ensures within c.if-length_of_spaces-closing.false
-    (λ i l. subst (λ (z : List ℕ). get_or z i 0 ≡ 32) c.as_bytes-2.ensures.value (c.length_of_spaces.ensures.spaces i l))
-    c.range.ensures.value (ap (λ (u : Undecoded). u.rest) c.new.ensures) in
-    inr (inr (_, _, begins, refused _ _ _ _ c.next_line.ensures c.in-Some-Err.is c.in-Some-Err.field-0-is))
+    (_, begins, opened _ _ c.next_line.result c.next_line.ensures)

@@ -8,16 +8,17 @@ use Rattle.wave_lex.proofs.strings.MultilineStringParts.next_line.Goals as goal
 pub returns-then-length_of_spaces-self : goal.returns-then-length_of_spaces-self
 returns-then-length_of_spaces-self c =
     let line = c.in_ok-line.line.now in
-    rw (← c.self.view_is) (record {
-      line = c.in_ok-line.line.now;
-      more = ended_lines c.in_ok-line.behind.now;
-      there = c.in_ok-line.ensures.lines;
-      bad = too_few c.in_ok-line.line.now c.length_of_spaces.result c.self.inside.indent c.if-length_of_spaces-self.true
-          (λ l. subst (λ (z : List ℕ). get_or z c.length_of_spaces.result 0 ≢ 32) c.as_bytes.ensures.value (c.length_of_spaces.ensures.stops (rw c.as_bytes.ensures.value l)));
-      stays = refl;
-      ended = refl;
-      told = record { refusal = c.with_static.ensures.refusal; detail = c.with_static.ensures.detail; at = c.with_static.ensures.span };
-    })
+    rw (← c.self.view_is) (
+      record {
+        line = c.in_ok-line.line.now;
+        more = ended_lines c.in_ok-line.behind.now;
+        there = c.in_ok-line.ensures.lines;
+        bad = too_few c.in_ok-line.line.now c.length_of_spaces.result c.self.inside.indent c.if-length_of_spaces-self.true
+            (λ l. subst (λ (z : List ℕ). get_or z c.length_of_spaces.result 0 ≢ 32) c.as_bytes.ensures.value (c.length_of_spaces.ensures.stops (rw c.as_bytes.ensures.value l)));
+      },
+      record { refusal = c.with_static.ensures.refusal; detail = c.with_static.ensures.detail; at = c.with_static.ensures.span },
+      refl,
+    )
 
 pub range_from-requires : goal.range_from-requires
 range_from-requires c = λ _. behind_spaces c.in_ok-line.line.now c.length_of_spaces.result c.self.inside.indent

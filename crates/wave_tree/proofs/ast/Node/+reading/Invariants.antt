@@ -2,7 +2,6 @@ use Rattle.std.proofs.Common.{ℕ, ◌+◌, ◌*◌, take, List}
 use Rattle.wave_wasm.specs.Types.{HasDistinctNames, maybe_type, depth, depth_of_maybe}
 use Rattle.wave_wasm.specs.Shown.{shown}
 use Rattle.wave_tree.specs.Placed.{Placed}
-use Rattle.wave_tree.specs.Typed.{IsServed}
 use Rattle.wave_tree.proofs.Items.{AreNodesOf, AllRead}
 use Rattle.wave_wasm.specs.Lists.{AllOf}
 use Rattle.wave_wasm.specs.Shown.{shown_all}
@@ -58,15 +57,15 @@ decreases-read_map-entries g l = length l.nodes
 
 abbrev pub invariant-read_list-loop-node : goal.invariant-read_list-loop-node
 invariant-read_list-loop-node g l =
-    (ts : List Placed) → AreNodesOf l.src l.nodes ts → IsServed (g.V.Type.WasmType.tree l.element) → HasDistinctNames (g.V.Type.WasmType.tree l.element) → AllRead g.V.WasmValue.tree g.V.WasmValue.is_of g.V.WasmValue.is_full (g.V.Type.WasmType.tree l.element) (take l.node-index ts) l.items.items
+    (ts : List Placed) → AreNodesOf l.src l.nodes ts → HasDistinctNames (g.V.Type.WasmType.tree l.element) → AllRead g.V.WasmValue.tree g.V.WasmValue.is_of g.V.WasmValue.is_full (g.V.Type.WasmType.tree l.element) (take l.node-index ts) l.items.items
 
 abbrev pub invariant-read_tuple-loop-i : goal.invariant-read_tuple-loop-i
 invariant-read_tuple-loop-i g l =
-    (ts : List Placed) → AreNodesOf l.src l.nodes ts → AllOf IsServed (shown_all g.V.Type.WasmType.tree l.types.items) → AllOf HasDistinctNames (shown_all g.V.Type.WasmType.tree l.types.items) → ReadAt g.V.WasmValue.tree g.V.WasmValue.is_of g.V.WasmValue.is_full (take l.i (shown_all g.V.Type.WasmType.tree l.types.items)) (take l.i ts) l.items.items
+    (ts : List Placed) → AreNodesOf l.src l.nodes ts → AllOf HasDistinctNames (shown_all g.V.Type.WasmType.tree l.types.items) → ReadAt g.V.WasmValue.tree g.V.WasmValue.is_of g.V.WasmValue.is_full (take l.i (shown_all g.V.Type.WasmType.tree l.types.items)) (take l.i ts) l.items.items
 
 abbrev pub invariant-read_record-loop-i : goal.invariant-read_record-loop-i
 invariant-read_record-loop-i g l = record {
   removed : Removed (names_of (take l.i (shown_fields g.V.Type.WasmType.tree l.types.items))) l.initial.nodes l.nodes;
-  read : (given : List (List ℕ × NodeTree)) → HoldsFields l.initial.nodes given → (es : List PlacedEntry) → AreFieldsOf l.src given es → AllOf (λ p. IsServed p.1) (shown_fields g.V.Type.WasmType.tree l.types.items) → PartsDistinct (shown_fields g.V.Type.WasmType.tree l.types.items)
+  read : (given : List (List ℕ × NodeTree)) → HoldsFields l.initial.nodes given → (es : List PlacedEntry) → AreFieldsOf l.src given es → PartsDistinct (shown_fields g.V.Type.WasmType.tree l.types.items)
       → FieldsRead g.V.WasmValue.tree g.V.WasmValue.is_of g.V.WasmValue.is_full (take l.i (shown_fields g.V.Type.WasmType.tree l.types.items)) es l.fields.items;
 }
