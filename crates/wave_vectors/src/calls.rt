@@ -1,0 +1,104 @@
+//! Worked rows of calls: how each is displayed, what its parameters are, or how it is refused.
+use crate::types::types_of;
+use std::test::Fail;
+use wasm_wave::parser::ParserError;
+use wasm_wave::untyped::UntypedFuncCall;
+use wasm_wave::value::{Type, Value};
+use wasm_wave::wasm::DisplayFuncArgs;
+
+/// How the call is displayed, or why it is refused.
+fn shown(rt: HostRuntime, text: &str) -> Result<String, Fail> {
+    match UntypedFuncCall::parse(rt.alloc(), text) {
+        Ok(call) => Ok(call.to_string(rt.alloc())?),
+        Err(error) => Ok(format!(in rt.alloc(); "{error}")?),
+    }
+}
+
+#[test]
+fn displays(rt: HostRuntime) -> Result<(), Fail> {
+    for (text, expected) in [
+        ("f (1 , )", "f(1)"),
+        ("a:b/c.d@1.0.0()", "a:b/c.d@1.0.0()"),
+        (" f()", "invalid token at 0..1"),
+        ("f(,)", "unexpected token: Comma at 2..3"),
+        ("f", "unexpected end of input at 1..1"),
+        ("f 1", "unexpected token: Number at 2..3"),
+        ("f(1) 2", "trailing characters after value at 5..6"),
+        ("a.b.c()", "invalid token at 3..4"),
+        ("a@1.0()", "invalid token at 1..2"),
+        ("a:b()", "unexpected token: Colon at 1..2"),
+        ("f(())", "empty tuple at 2..4"),
+    ] {
+        assert_eq!(rt; shown(rt, text)?.as_str(), expected, "{text}");
+    }
+    Ok(())
+}
+
+/// The parameters of the call at the types.
+fn params(rt: HostRuntime, types: &[Type], text: &str) -> Result<Vec<Value>, ParserError> {
+    UntypedFuncCall::parse(rt.alloc(), text)?.to_wasm_params(rt.alloc(), types)
+}
+
+/// The display of the parameters at the types, or their refusal.
+fn arguments(rt: HostRuntime, types: &[&str], text: &str) -> Result<String, Fail> {
+    let types = types_of(rt, types)?;
+    match params(rt, types.as_slice(), text) {
+        Ok(vals) => Ok(format!(in rt.alloc();
+            "{}",
+            DisplayFuncArgs::new(rt.alloc(), vals.as_slice())
+        )?),
+        Err(error) => Ok(format!(in rt.alloc(); "{error}")?),
+    }
+}
+
+#[test]
+fn parameters(rt: HostRuntime) -> Result<(), Fail> {
+    for (types, text, expected) in [
+        (&["option<u8>", "option<string>"][..], "f()", "(none, none)"),
+        (
+            &["option<u8>", "option<u8>", "option<u8>"][..],
+            "f(some(1))",
+            "(some(1), none, none)",
+        ),
+        (
+            &["u8"][..],
+            "f(1, 2)",
+            "invalid params: more param(s) than expected at 5..6",
+        ),
+        (
+            &["u8", "u8"][..],
+            "f(1)",
+            "invalid params: missing required param(s) at 3..4",
+        ),
+        (
+            &["u8"][..],
+            "f()",
+            "invalid params: no params provided, but 1 required at 0..1",
+        ),
+    ] {
+        assert_eq!(rt; arguments(rt, types, text)?.as_str(), expected, "{text}");
+    }
+    Ok(())
+}
+
+/// The name, the source and the display of the call with a source of its own.
+fn owned(rt: HostRuntime, text: &str) -> Result<String, Fail> {
+    match UntypedFuncCall::parse(rt.alloc(), text)?.into_owned(rt.alloc()) {
+        Ok(call) => Ok(format!(in rt.alloc(); "{} in {} is {call}", call.name(), call.source())?),
+        Err(_) => Ok(String::from_str(rt.alloc(), "out of memory")?),
+    }
+}
+
+#[test]
+fn owned_calls(rt: HostRuntime) -> Result<(), Fail> {
+    for (text, expected) in [
+        ("f (1 , )", "f in f (1 , ) is f(1)"),
+        (
+            "a:b/c.d@1.0.0()",
+            "a:b/c.d@1.0.0 in a:b/c.d@1.0.0() is a:b/c.d@1.0.0()",
+        ),
+    ] {
+        assert_eq!(rt; owned(rt, text)?.as_str(), expected);
+    }
+    Ok(())
+}

@@ -1,0 +1,121 @@
+//! Texts of many levels.
+use crate::types::type_of;
+use std::test::Fail;
+use wasm_wave::untyped::{UntypedFuncCall, UntypedValue};
+use wasm_wave::{from_str, to_string};
+
+/// The part, so many times.
+fn repeated(rt: HostRuntime, part: &str, times: usize) -> Result<String, Fail> {
+    let mut text = String::new(rt.alloc());
+    for _ in 0..times {
+        text.push_str(part)?;
+    }
+    Ok(text)
+}
+
+/// The middle between fronts and ends, so many of each.
+fn within(
+    rt: HostRuntime,
+    front: &str,
+    times: usize,
+    middle: &str,
+    end: &str,
+) -> Result<String, Fail> {
+    let mut text = repeated(rt, front, times)?;
+    text.push_str(middle)?;
+    text.push_str(repeated(rt, end, times)?.as_str())?;
+    Ok(text)
+}
+
+/// How the text is refused without a type; nothing where it isn't.
+fn refused(rt: HostRuntime, text: &str) -> Result<String, Fail> {
+    match UntypedValue::parse(rt.alloc(), text) {
+        Ok(_) => Ok(String::new(rt.alloc())),
+        Err(error) => Ok(format!(in rt.alloc(); "{error}")?),
+    }
+}
+
+/// How the call is refused; nothing where it isn't.
+fn refused_call(rt: HostRuntime, text: &str) -> Result<String, Fail> {
+    match UntypedFuncCall::parse(rt.alloc(), text) {
+        Ok(_) => Ok(String::new(rt.alloc())),
+        Err(error) => Ok(format!(in rt.alloc(); "{error}")?),
+    }
+}
+
+#[test]
+fn levels(rt: HostRuntime) -> Result<(), Fail> {
+    for (front, times, middle, end, answer) in [
+        ("[", 100, "", "]", ""),
+        ("[", 101, "", "]", "value nesting too deep at 99..100"),
+        ("[", 99, "", "", "unexpected end of input at 99..99"),
+        ("[", 100, "", "", "value nesting too deep at 99..100"),
+        ("[", 101, "", "", "value nesting too deep at 99..100"),
+        ("[", 100, ")", "", "value nesting too deep at 99..100"),
+        ("(", 101, "0", ")", "value nesting too deep at 99..100"),
+        ("some(", 101, "0", ")", "value nesting too deep at 499..500"),
+        ("ok(", 101, "0", ")", "value nesting too deep at 299..300"),
+        ("v(", 101, "0", ")", "value nesting too deep at 199..200"),
+        ("{a:", 101, "0", "}", "value nesting too deep at 299..300"),
+        ("{1:", 101, "0", "}", "value nesting too deep at 299..300"),
+    ] {
+        let text = within(rt, front, times, middle, end)?;
+        assert_eq!(rt; refused(rt, text.as_str())?.as_str(), answer, "of {front}");
+    }
+    Ok(())
+}
+
+/// A call with a number within so many payloads as its parameter.
+fn deep_call(rt: HostRuntime, payloads: usize) -> Result<String, Fail> {
+    let param = within(rt, "some(", payloads, "0", ")")?;
+    Ok(format!(in rt.alloc(); "f({param})")?)
+}
+
+#[test]
+fn levels_of_calls(rt: HostRuntime) -> Result<(), Fail> {
+    for (payloads, answer) in [(99, ""), (100, "value nesting too deep at 501..502")] {
+        let text = deep_call(rt, payloads)?;
+        assert_eq!(rt; refused_call(rt, text.as_str())?.as_str(), answer);
+    }
+    Ok(())
+}
+
+/// What the text prints at the type, or its refusal.
+fn answer(rt: HostRuntime, ty: &str, text: &str) -> Result<String, Fail> {
+    match from_str(rt.alloc(), &type_of(rt, ty)?, text) {
+        Ok(val) => Ok(to_string(rt.alloc(), &val)?),
+        Err(error) => Ok(format!(in rt.alloc(); "{error}")?),
+    }
+}
+
+/// Lists in lists, a hundred levels of them, read and printed.
+fn hundred_lists(rt: HostRuntime, text: &str) -> Result<String, Fail> {
+    let ty = within(rt, "list<", 100, "u8", ">")?;
+    answer(rt, ty.as_str(), text)
+}
+
+#[test]
+fn read_at_each_level(rt: HostRuntime) -> Result<(), Fail> {
+    let text = within(rt, "[", 100, "", "]")?;
+    assert_eq!(rt; hundred_lists(rt, text.as_str())?.as_str(), text.as_str());
+    Ok(())
+}
+
+/// Lists of options of such lists, 59 of them around a list, read and printed.
+fn lists_of_options(rt: HostRuntime, text: &str) -> Result<String, Fail> {
+    let ty = within(rt, "list<option<", 59, "list<u8>", ">>")?;
+    answer(rt, ty.as_str(), text)
+}
+
+#[test]
+fn written_deeper_than_read(rt: HostRuntime) -> Result<(), Fail> {
+    let flat = within(rt, "[", 60, "", "]")?;
+    let written = within(rt, "[some(", 59, "[]", ")]")?;
+    assert_eq!(rt;
+        lists_of_options(rt, flat.as_str())?.as_str(),
+        written.as_str()
+    );
+    let refusal = lists_of_options(rt, written.as_str())?;
+    assert_eq!(rt; refusal.as_str(), "value nesting too deep at 299..300");
+    Ok(())
+}

@@ -1,0 +1,104 @@
+//! Writers that fail.
+use crate::types::type_of;
+use std::fmt;
+use std::test::Fail;
+use wasm_wave::from_str;
+use wasm_wave::value::{Type, Value};
+use wasm_wave::writer::{TextWrite, Writer, WriterError};
+
+/// A writer that passes so many texts and then fails, once or for good.
+#[derive(Drop)]
+struct Failing {
+    taken: String,
+    left: usize,
+    once: bool,
+    failures: u64,
+}
+
+impl TextWrite for Failing {
+    ghost use Rattle.std.specs.String.{string_bytes};
+
+    ghost output = { λ s. record { written = string_bytes s.taken; failures = s.failures } };
+
+    fn write_str(&mut self, s: &str) -> Result<(), WriterError> {
+        if self.left == 0 && !(self.once && self.failures > 0) {
+            self.failures = self.failures.saturating_add(1);
+            return Err(WriterError::Io(fmt::Error));
+        }
+        self.left = self.left.saturating_sub(1);
+        self.taken.push_str(s)?;
+        Ok(())
+    }
+}
+
+/// Such a writer that took nothing yet.
+fn failing(rt: HostRuntime, left: usize, once: bool) -> Writer<Failing> {
+    Writer::new(Failing {
+        taken: String::new(rt.alloc()),
+        left,
+        once,
+        failures: 0,
+    })
+}
+
+/// Whether the answer, what was taken of the text and the count of failures fit each other: all of
+/// it and no failure, or a beginning of it and one failure.
+fn fits(answer: &Result<(), WriterError>, text: &str, out: &Failing) -> bool {
+    let taken = out.taken.as_str();
+    match answer {
+        Ok(_) => taken == text && out.failures == 0,
+        Err(WriterError::Io(_)) => {
+            text.starts_with(taken) && taken.len() < text.len() && out.failures == 1
+        }
+        Err(_) => false,
+    }
+}
+
+/// `io`, `done` or `unfit`: how the value is written to a writer that passes so many texts.
+fn outcome(rt: HostRuntime, val: &Value, left: usize, once: bool) -> &'static str {
+    let mut writer = failing(rt, left, once);
+    let answer = writer.write_value(rt.alloc(), val);
+    let out = writer.into_inner();
+    match (fits(&answer, "(1, \"a\")", &out), answer) {
+        (true, Ok(_)) => "done",
+        (true, Err(_)) => "io",
+        _ => "unfit",
+    }
+}
+
+/// How the tuple `(1, "a")` is written, one letter for each number of texts that pass
+fn outcomes(rt: HostRuntime, once: bool) -> Result<bool, Fail> {
+    let val = from_str(rt.alloc(), &type_of(rt, "tuple<u8, string>")?, "(1, \"a\")")?;
+    let mut was_done = false;
+    for left in 0..20 {
+        match outcome(rt, &val, left, once) {
+            "io" if !was_done => {}
+            "done" if left > 0 => was_done = true,
+            _ => return Ok(false),
+        }
+    }
+    Ok(was_done)
+}
+
+#[test]
+fn failed_writes(rt: HostRuntime) -> Result<(), Fail> {
+    assert!(rt; outcomes(rt, false)? && outcomes(rt, true)?);
+    Ok(())
+}
+
+/// What a writer took that passes a first char and a part of the second.
+fn behind_another(rt: HostRuntime) -> Result<String, Fail> {
+    let mut writer = failing(rt, 4, false);
+    let first = writer.write_value(rt.alloc(), &Value::make_char(rt.alloc(), 'x')?);
+    let second = writer.write_value(rt.alloc(), &Value::make_char(rt.alloc(), 'y')?);
+    if first.is_err() || second.is_ok() || writer.as_mut().failures != 1 {
+        return Ok(String::new(rt.alloc()));
+    }
+    Ok(writer.into_inner().taken)
+}
+
+#[test]
+fn a_write_that_fails_behind_another(rt: HostRuntime) -> Result<(), Fail> {
+    assert_eq!(rt; behind_another(rt)?.as_str(), "'x''");
+    Ok(())
+}
