@@ -32,7 +32,7 @@ impl TextWrite for Failing {
 }
 
 /// Such a writer that took nothing yet.
-fn failing(rt: HostRuntime, left: usize, once: bool) -> Writer<Failing> {
+fn writer_that_fails(rt: HostRuntime, left: usize, once: bool) -> Writer<Failing> {
     Writer::new(Failing {
         taken: String::new(rt.alloc()),
         left,
@@ -56,7 +56,7 @@ fn fits(answer: &Result<(), WriterError>, text: &str, out: &Failing) -> bool {
 
 /// `io`, `done` or `unfit`: how the value is written to a writer that passes so many texts.
 fn outcome(rt: HostRuntime, val: &Value, left: usize, once: bool) -> &'static str {
-    let mut writer = failing(rt, left, once);
+    let mut writer = writer_that_fails(rt, left, once);
     let answer = writer.write_value(rt.alloc(), val);
     let out = writer.into_inner();
     match (fits(&answer, "(1, \"a\")", &out), answer) {
@@ -88,7 +88,7 @@ fn failed_writes(rt: HostRuntime) -> Result<(), Fail> {
 
 /// What a writer took that passes a first char and a part of the second.
 fn behind_another(rt: HostRuntime) -> Result<String, Fail> {
-    let mut writer = failing(rt, 4, false);
+    let mut writer = writer_that_fails(rt, 4, false);
     let first = writer.write_value(rt.alloc(), &Value::make_char(rt.alloc(), 'x')?);
     let second = writer.write_value(rt.alloc(), &Value::make_char(rt.alloc(), 'y')?);
     if first.is_err() || second.is_ok() || writer.as_mut().failures != 1 {
