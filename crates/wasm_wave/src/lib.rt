@@ -60,6 +60,3 @@ pub fn to_string(alloc: Global, val: &Value) -> Result<String, WriterError>
     val.is_typed();
     writer::to_string(alloc, val)
 }
-
-#[cfg(test)]
-mod tests;

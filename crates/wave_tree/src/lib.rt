@@ -9,8 +9,6 @@ pub mod number;
 mod params;
 pub mod parser;
 mod record;
-#[cfg(test)]
-mod tests;
 mod text;
 mod typed;
 pub mod untyped;
