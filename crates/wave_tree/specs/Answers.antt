@@ -6,7 +6,6 @@ use Rattle.wave_tree.specs.Spells.{name_of}
 use Rattle.wave_wasm.specs.Names.{IsOneOf, IsNoneOf}
 use Rattle.wave_wasm.specs.Types.{Whole}
 use Rattle.wave_wasm.specs.Text.{bool_text}
-use Rattle.wave_lex.specs.Errors.{refusal_of}
 use Rattle.wave_lex.specs.declared.error.ParserError.{ParserError}
 use Rattle.wave_lex.specs.declared.error.ParserErrorKind.{ParserErrorKind}
 use Rattle.wave_lex.specs.declared.error.ParserErrorKind.TheVariants.{InvalidType, InvalidValue, InvalidEscape}
@@ -19,7 +18,7 @@ use Rattle.wave_lex.specs.declared.strings.StringPartsIter.{StringPartsIter}
 use Rattle.wave_tree.specs.NumberText.{IsNumberOf}
 use Rattle.wave_tree.specs.Placed.{slice}
 use Rattle.wave_tree.specs.NodeTree.{NodeTree, type_of, place_of, children_of}
-use Rattle.wave_tree.specs.Faults.{Refuses}
+use Rattle.wave_tree.specs.Refusals.{Says}
 use Rattle.wave_tree.specs.declared.ast.NodeType.{NodeType}
 use Rattle.wave_tree.specs.declared.ast.NodeType.TheVariants as kind
 
@@ -27,9 +26,9 @@ use Rattle.wave_tree.specs.declared.ast.NodeType.TheVariants as kind
 abbrev pub text_at : List ℕ → NodeTree → List ℕ
 text_at source n = slice source (place_of n)
 
--- a refusal of this kind, at the node
+-- a refusal of this kind, at the node, without a detail
 abbrev pub RefusedAs : ParserErrorKind → NodeTree → ParserError → Type 0
-RefusedAs why n e = Refuses why (place_of n) (refusal_of e) e.span
+RefusedAs why n e = Says e why (place_of n) None
 
 -- the node is of this type; or `InvalidType` at the node
 abbrev pub OfType : NodeType → NodeTree → Result Unit ParserError → Type 0
