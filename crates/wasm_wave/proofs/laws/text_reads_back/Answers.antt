@@ -1,5 +1,5 @@
 use Rattle.wave_tree.proofs.Canon.{reads_back}
-use Rattle.wasm_wave.proofs.laws.texts_read_back.Goals as goal
+use Rattle.wasm_wave.proofs.laws.text_reads_back.Goals as goal
 
 pub returns : goal.returns
 returns c = reads_back
