@@ -9,7 +9,7 @@ ghost use Rattle.wave.specs.Statuses.{IsAnswer, IsRefusal, IsUsage, IsCutShort, 
 use crate::input::{Fault, Input, read_whole};
 use crate::output::{Output, write_whole};
 use crate::request::{Request, TypeName, request_of};
-use std::alloc::Global;
+use std::alloc::{AllocError, Global};
 use std::io::{Read, Write};
 use wasm_wave::parser::{ParserError, ParserErrorKind};
 use wasm_wave::value::Type;
@@ -105,17 +105,21 @@ fn respond<R: Read>(alloc: Global, request: Request, input: &mut Input<R>) -> Re
         return Err(Fault::NotUtf8);
     };
     match answer(alloc, request, text) {
-        Ok(mut line) => {
-            line.push('\n')?;
-            Ok(Outcome::Answered(line))
+        Ok(answer) => Ok(Outcome::Answered(line_of(answer)?)),
+        Err(Unanswered::Refused(refusal)) => {
+            Ok(Outcome::Refused(line_of(refusal.to_string(alloc)?)?))
         }
         Err(Unanswered::OutOfMemory) => Err(Fault::OutOfMemory),
-        Err(Unanswered::Refused(refusal)) => {
-            let mut line = refusal.to_string(alloc)?;
-            line.push('\n')?;
-            Ok(Outcome::Refused(line))
-        }
     }
+}
+
+/// The text and a line feed.
+fn line_of(text: String) -> Result<String, AllocError>
+    ensures { IfOk result (λ whole. string_bytes whole ≡ line (string_bytes text)) }
+{
+    let mut whole = text;
+    whole.push('\n')?;
+    Ok(whole)
 }
 
 /// The answer of the request on the text.
