@@ -3,7 +3,7 @@ use Rattle.std.proofs.Common.{◌≡◌, ℕ, ◌+◌, ◌-◌, List, [], ◌∷
 use Rattle.std.specs.Prelude.{slice_range}
 use Rattle.std.specs.declared.ops.Range.{Range}
 use Rattle.std.proofs.lemmas.List.{drop-drop}
-use Rattle.wave_lex.specs.Lexing.{Lexeme, Front, Cuts, IsGap, Lexed, Passes, NextIs, remainder_of}
+use Rattle.wave_lex.specs.Lexing.{Lexeme, Front, Cuts, IsGap, Lexed, Passes, remainder_of}
 use Rattle.wave_lex.specs.Items.{ComeTo, TokensCut}
 use Rattle.wave_lex.proofs.Next.{next_one}
 

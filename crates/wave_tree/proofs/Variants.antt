@@ -155,7 +155,7 @@ with_payload source n c u (at r s) name h ty children named =
 pub given_case : (source : List ℕ) (n : NodeTree) (t : Placed) (name : Bor (List ℕ)) (o : Option (Bor NodeTree)) → IsNodeOf source n t → GivesVariant source n (Ok (name, o)) → CaseNode source t name.now (shown_node o)
 given_case source n t name o h (inl g) =
     record { place = place_of n; text = text_at source n; payload = no_placed; shape = label_node source n t h.0 g.0; named = g.1; node = subst (λ (m : Option NodeTree). IsPayloadNodeOf source m no_placed) (sym g.2) tt }
-given_case source n t name o h (inr (c, u, ty, children, named, payload)) =
+given_case source n t name o h (inr (c, u, ty, children, named, payload, of_value)) =
     subst (CaseNode source t name.now) (sym payload) (with_payload source n c u t name.now h ty children named)
 
 -- so there is a payload
