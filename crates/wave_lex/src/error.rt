@@ -211,6 +211,11 @@ impl std::error::Error for ParserErrorKind {}
 impl std::error::Error for ParserError {}
 
 impl From<ParserError> for fmt::Error {
+    ghost use Rattle.std.specs.Prelude.{◌≡◌};
+    ghost use Rattle.std.specs.Fmt.{fmt_error};
+
+    ghost from_gives = { λ _ r. r ≡ fmt_error };
+
     fn from(_error: ParserError) -> fmt::Error {
         fmt::Error
     }

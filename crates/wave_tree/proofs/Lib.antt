@@ -101,6 +101,8 @@ pub mod StringNodes
 pub mod TextKeys
 pub mod Results
 pub mod Variants
+pub mod Parts
+pub mod Agreeing
 pub mod FlagNodes
 pub mod FlagSets
 pub mod FlagTypes

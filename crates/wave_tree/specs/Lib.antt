@@ -39,3 +39,4 @@ pub mod TreeLaws
 pub mod BeginLaws
 pub mod AnswerLaws
 pub mod ShownLaws
+pub mod MeaningLaws
