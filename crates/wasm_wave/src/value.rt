@@ -15,6 +15,7 @@ use wave_wasm::wasm::{WasmTypeKind, WasmValueError};
 
 mod equality;
 mod made;
+mod makers;
 mod refusals;
 mod ty;
 mod views;
