@@ -1,37 +1,33 @@
 -- A text means what the tree that it spells means.
-use Rattle.std.proofs.Common.{ℕ, ◌≡◌, List, [], Some, sym, ap, ◌∙◌, subst, map}
-use Rattle.std.specs.Prelude.{◌↔◌, length}
+use Rattle.std.proofs.Common.{ℕ, ◌≡◌, List, [], sym, ◌∙◌, subst}
+use Rattle.std.specs.Prelude.{length}
 use Rattle.wave_wasm.specs.Types.{TypeTree}
 use Rattle.wave_wasm.specs.Values.{Value}
 use Rattle.wave_lex.specs.Lexing.{IsGap}
-use Rattle.wave_tree.specs.Token.{Token, CutsInto, lexeme_of}
-use Rattle.wave_tree.specs.Tree.{Tree, Takes, levels}
+use Rattle.wave_tree.specs.Token.{Token, CutsInto}
+use Rattle.wave_tree.specs.Tree.{Tree, Takes}
 use Rattle.wave_tree.specs.Reads.{Reads}
 use Rattle.wave_tree.specs.TreeReads.{TreeReads}
-use Rattle.wave_tree.specs.Placed.{Placed, HoldsTokens, slice, span_of, tree_of, tree_of_shape, at}
+use Rattle.wave_tree.specs.Placed.{Placed, HoldsTokens, slice, tree_of, tree_of_shape, at}
 use Rattle.wave_tree.specs.NodeTree.{NodeTree, place_of}
 use Rattle.wave_tree.specs.Nodes.{IsNodeOf}
 use Rattle.wave_tree.specs.Means.{Means}
-use Rattle.wave_tree.specs.Typed.{IsRead, ReadsNone}
-use Rattle.wave_tree.specs.FromText.{MeansNone}
-use Rattle.wave_tree.specs.Untyped.{Untyped, SpellsText, SpellsNone, IsUntypedOf}
-use Rattle.wave_tree.specs.ShownLaws.{MeanTheSame}
+use Rattle.wave_tree.specs.Untyped.{SpellsText}
 use Rattle.wave_tree.specs.MeaningLaws.{MeansByTree, IsTreeOfText, ReadAlike, RefusedAlike, NodesReadAsTokens, SameTokensMeanTheSame, SameTreeMeansTheSame}
 use Rattle.wave_tree.proofs.Inside.{inside, some_is}
 use Rattle.wave_tree.proofs.Bridge.{through}
 use Rattle.wave_tree.proofs.Back.{back}
-use Rattle.wave_tree.proofs.Levels.{takes-within, takes-levels}
 use Rattle.wave_tree.proofs.UniqueTree.{one_tree}
 use Rattle.wave_tree.proofs.CanonLeaves.{one_cut_into}
 use Rattle.wave_tree.proofs.CanonTokens.{end_cut}
 
 -- what a text means a tree means that it spells
-means_tree : (T : TypeTree) (s : List ℕ) (v : Value) → Means T s v → (t : Tree) × SpellsText s t × TreeReads T t v
+pub means_tree : (T : TypeTree) (s : List ℕ) (v : Value) → Means T s v → (t : Tree) × SpellsText s t × TreeReads T t v
 means_tree T s v (tokens, cut, read) =
     let (t, takes, means) = through T 100 tokens v [] read (λ more e. cc) in
     (t, (tokens, cut, takes), means)
 
-tree_means : (T : TypeTree) (s : List ℕ) (v : Value) (t : Tree) → SpellsText s t → TreeReads T t v → Means T s v
+pub tree_means : (T : TypeTree) (s : List ℕ) (v : Value) (t : Tree) → SpellsText s t → TreeReads T t v → Means T s v
 tree_means T s v t (tokens, cut, takes) means = (tokens, cut, back T 100 tokens t v [] takes means)
 
 pub means_by_tree : MeansByTree
@@ -51,7 +47,7 @@ text_spells s t (u, h, node) =
     subst (λ (p : Placed). SpellsText s (tree_of p)) same h.spelled
 
 -- what a text means, the tree that it spells means
-spelled_means : (T : TypeTree) (s : List ℕ) (v : Value) (t : Tree) → SpellsText s t → Means T s v → TreeReads T t v
+pub spelled_means : (T : TypeTree) (s : List ℕ) (v : Value) (t : Tree) → SpellsText s t → Means T s v → TreeReads T t v
 spelled_means T s v t spelled means =
     let (u, other, read) = means_tree T s v means in
     subst (λ (z : Tree). TreeReads T z v) (one_spelled s u t other spelled) read

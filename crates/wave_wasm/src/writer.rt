@@ -509,6 +509,7 @@ impl<W: TextWrite> Writer<W> {
 }
 
 ghost use Rattle.std.specs.Prelude.{◌≡◌, OnOk, IfOk, IfErr, true, map};
+ghost use Rattle.std.specs.List.{list_all};
 ghost use Rattle.std.specs.Str.{bytes_eq};
 ghost use Rattle.std.specs.String.{string_bytes};
 ghost use Rattle.wave_wasm.specs.Lists.{AllOf};
@@ -535,7 +536,8 @@ pub(crate) fn arguments_to_string<V: WasmValue>(
     alloc: Global,
     vals: &[V],
 ) -> Result<String, WriterError>
-    ensures { IfOk result (λ s. string_bytes s ≡ arguments_text (map V.tree vals.now)) }
+    ensures ok { IfOk result (λ s. string_bytes s ≡ arguments_text (map V.tree vals.now)) }
+    ensures writable { OnOk result (list_all has_text (map V.tree vals.now) ≡ true) }
 {
     let mut writer = Writer::new(String::new(alloc));
     writer.write_text("(")?;
@@ -554,7 +556,8 @@ pub(crate) fn results_to_string<V: WasmValue>(
     alloc: Global,
     vals: &[V],
 ) -> Result<String, WriterError>
-    ensures { IfOk result (λ s. string_bytes s ≡ results_text (map V.tree vals.now)) }
+    ensures ok { IfOk result (λ s. string_bytes s ≡ results_text (map V.tree vals.now)) }
+    ensures writable { OnOk result (list_all has_text (map V.tree vals.now) ≡ true) }
 {
     if vals.len() == 1 {
         to_string(alloc, &vals[0])
