@@ -82,8 +82,11 @@ impl fmt::Display for ParserErrorKind {
 /// A word more on a refusal.
 #[derive(Debug, Drop)]
 pub enum Detail {
+    /// No word more.
     None,
+    /// Words that are written in the program.
     Static(&'static str),
+    /// Words that were made for this refusal.
     Owned(String),
 }
 

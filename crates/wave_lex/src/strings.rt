@@ -190,7 +190,9 @@ impl<'a> Iterator for MultilineStringParts<'a> {
 /// The parts of a string of either kind.
 #[derive(Drop)]
 pub enum StringPartsIter<'a> {
+    /// Those of a string in one line.
     Normal(StringParts<'a>),
+    /// Those of a multiline string.
     Multiline(MultilineStringParts<'a>),
 }
 

@@ -9,7 +9,7 @@ use Rattle.wave_tree.specs.Tree.{Tree, Takes}
 use Rattle.wave_tree.specs.Reads.{Reads}
 use Rattle.wave_tree.specs.TreeReads.{TreeReads}
 use Rattle.wave_tree.specs.Placed.{Placed, HoldsTokens, slice, tree_of, tree_of_shape, at}
-use Rattle.wave_tree.specs.NodeTree.{NodeTree, place_of}
+use Rattle.wave_tree.specs.NodeTree.{place_of}
 use Rattle.wave_tree.specs.Nodes.{IsNodeOf}
 use Rattle.wave_tree.specs.Means.{Means}
 use Rattle.wave_tree.specs.Untyped.{SpellsText}
@@ -47,7 +47,7 @@ text_spells s t (u, h, node) =
     subst (λ (p : Placed). SpellsText s (tree_of p)) same h.spelled
 
 -- what a text means, the tree that it spells means
-spelled_means : (T : TypeTree) (s : List ℕ) (v : Value) (t : Tree) → SpellsText s t → Means T s v → TreeReads T t v
+pub spelled_means : (T : TypeTree) (s : List ℕ) (v : Value) (t : Tree) → SpellsText s t → Means T s v → TreeReads T t v
 spelled_means T s v t spelled means =
     let (u, other, read) = means_tree T s v means in
     subst (λ (z : Tree). TreeReads T z v) (one_spelled s u t other spelled) read

@@ -104,6 +104,7 @@ pub mod Variants
 pub mod Parts
 pub mod Agreeing
 pub mod LastCommas
+pub mod Orders
 pub mod FlagNodes
 pub mod FlagSets
 pub mod FlagTypes

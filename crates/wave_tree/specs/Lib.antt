@@ -40,3 +40,4 @@ pub mod BeginLaws
 pub mod AnswerLaws
 pub mod ShownLaws
 pub mod MeaningLaws
+pub mod OrderLaws

@@ -4,6 +4,7 @@ ghost use Rattle.wave_tree.specs.Laws.{OneReading};
 ghost use Rattle.wave_tree.specs.TreeLaws.{OneTree, HasItsLevels, ReadsByTree, TreeIsRead, ParamsAreByTree};
 ghost use Rattle.wave_tree.specs.ShownLaws.{ShownKeepsMeaning, ShownCallKeepsMeaning};
 ghost use Rattle.wave_tree.specs.MeaningLaws.{MeansByTree, ReadAlike, RefusedAlike, NodesReadAsTokens, SameTokensMeanTheSame, SameTreeMeansTheSame, LastCommasMayGo, LastCommasMeanNothing};
+ghost use Rattle.wave_tree.specs.OrderLaws.{FieldsInAnyOrder, FlagsInAnyOrder};
 ghost use Rattle.wave_tree.specs.AnswerLaws.{ReadHaveATree, RefusedHaveNone, AskingsAreFew, RefusalsLieInText, FaultsLieInText};
 ghost use Rattle.wave_tree.specs.BeginLaws.{TreesAreLed, LedTokensHaveATree, FrontsAreLed, LedTokensBeginATree};
 ghost use Rattle.wave_tree.specs.BeginLaws.{RefusedTokensBeginNone, UnexpectedTokensBeginNone};
@@ -111,6 +112,13 @@ pub fn same_tokens_mean_the_same()
 pub fn last_commas_mean_nothing()
     ensures may_go { LastCommasMayGo }
     ensures meaning { LastCommasMeanNothing }
+{}
+
+/// Texts of the same fields mean the same at a record type, and texts of the same flags at a type of
+/// flags, in any order and whether a name carries its `%` or not.
+pub fn order_means_nothing()
+    ensures fields { FieldsInAnyOrder }
+    ensures flags { FlagsInAnyOrder }
 {}
 
 /// The display of a parsed tree spells a tree of as many levels and of the same display, and means at
