@@ -2,7 +2,7 @@
 use wasm_wave::from_str;
 use wasm_wave::parser::ParserError;
 use wasm_wave::untyped::{UntypedFuncCall, UntypedValue};
-use wasm_wave::value::Type;
+use wasm_wave::value::{Type, Value};
 
 /// Whether each front of the text is told at the type, without a type, and as a call.
 pub fn is_told_at_each_cut(rt: HostRuntime, ty: &Type, text: &str) -> bool {
@@ -17,7 +17,7 @@ pub fn is_told_at_each_cut(rt: HostRuntime, ty: &Type, text: &str) -> bool {
 /// Whether each refusal of the text has its span within the text.
 fn is_told(rt: HostRuntime, ty: &Type, text: &str) -> bool {
     let end = text.len();
-    lies_within(from_str(rt.alloc(), ty, text).err(), end)
+    lies_within(from_str::<Value>(rt.alloc(), ty, text).err(), end)
         && lies_within(UntypedValue::parse(rt.alloc(), text).err(), end)
         && lies_within(UntypedFuncCall::parse(rt.alloc(), text).err(), end)
 }

@@ -2,6 +2,7 @@
 use crate::types::type_of;
 use std::test::Fail;
 use wasm_wave::untyped::{UntypedFuncCall, UntypedValue};
+use wasm_wave::value::Value;
 use wasm_wave::{from_str, to_string};
 
 /// The part, so many times.
@@ -82,7 +83,7 @@ fn levels_of_calls(rt: HostRuntime) -> Result<(), Fail> {
 
 /// What the text prints at the type, or its refusal.
 fn answer(rt: HostRuntime, ty: &str, text: &str) -> Result<String, Fail> {
-    match from_str(rt.alloc(), &type_of(rt, ty)?, text) {
+    match from_str::<Value>(rt.alloc(), &type_of(rt, ty)?, text) {
         Ok(val) => Ok(to_string(rt.alloc(), &val)?),
         Err(error) => Ok(format!(in rt.alloc(); "{error}")?),
     }

@@ -5,13 +5,20 @@ use wasm_wave::to_string;
 use wasm_wave::value::{Type, Value};
 use wasm_wave::wasm::WasmValueError;
 
-/// Numbers, from 1 on.
+/// Numbers, from 0 on.
 fn numbers(rt: HostRuntime, count: u8) -> Result<Vec<Value>, WasmValueError> {
     let mut items = Vec::new(rt.alloc());
     for number in 0..count {
         items.push(Value::make_u8(rt.alloc(), number)?)?;
     }
     Ok(items)
+}
+
+/// A list of one empty list of another type.
+fn empty_lists(rt: HostRuntime) -> Result<Vec<Value>, WasmValueError> {
+    let ty = Type::list(rt.alloc(), Type::U16)?;
+    let empty = Value::make_list(rt.alloc(), &ty, Vec::new(rt.alloc()))?;
+    Ok(Vec::from_array(rt.alloc(), [empty])?)
 }
 
 /// Fields of these names, with the numbers from 0 on.
@@ -57,6 +64,8 @@ fn scalar(rt: HostRuntime, name: &str) -> Result<Value, WasmValueError> {
 fn parts(rt: HostRuntime, maker: &str, ty: &Type) -> Result<Value, WasmValueError> {
     match maker {
         "list" => Value::make_list(rt.alloc(), ty, numbers(rt, 3)?),
+        "list of lists" => Value::make_list(rt.alloc(), ty, empty_lists(rt)?),
+        "entry" => Value::make_map(rt.alloc(), ty, entries(rt, &[("a", 1)][..])?),
         "tuple" => Value::make_tuple(rt.alloc(), ty, numbers(rt, 2)?),
         "record" => Value::make_record(
             rt.alloc(),
@@ -136,7 +145,14 @@ fn compounds(rt: HostRuntime) -> Result<(), Fail> {
     for (maker, ty, expected) in [
         ("list", "list<u8>", "[0, 1, 2]"),
         ("list", "map<u8, u8>", "expected a list; got map<u8, u8>"),
+        (
+            "list of lists",
+            "list<list<u8>>",
+            "expected a list<u8>; got []",
+        ),
+        ("list of lists", "list<list<u16>>", "[[]]"),
         ("tuple", "tuple<u8, u8>", "(0, 1)"),
+        ("tuple", "tuple<u8, s8>", "expected a s8; got 1"),
         ("tuple", "tuple<u8>", "expected 1 tuple elements; got 2"),
         ("tuple", "u8", "expected a tuple; got u8"),
         ("record", "record { a: u8, b: u8 }", "{a: 2, b: 3}"),
@@ -171,6 +187,7 @@ fn compounds(rt: HostRuntime) -> Result<(), Fail> {
         ("enum", "u8", "expected a enum; got u8"),
         ("none", "option<u8>", "none"),
         ("some", "option<u8>", "some(255)"),
+        ("some", "option<s8>", "expected a s8; got 255"),
         ("some", "result<u8>", "expected a option; got result<u8>"),
         ("ok", "result", "ok"),
         ("ok", "result<u8>", "missing payload for \"ok\" case"),
@@ -190,6 +207,8 @@ fn compounds(rt: HostRuntime) -> Result<(), Fail> {
         ("flags", "u8", "expected a flags; got u8"),
         ("map", "map<string, u8>", "{\"a\": 3, \"b\": 2}"),
         ("map", "list<u32>", "expected a map; got list<u32>"),
+        ("entry", "map<string, s8>", "expected a s8; got 1"),
+        ("entry", "map<u32, u8>", "expected a u32; got \"a\""),
     ] {
         assert_eq!(rt; made(rt, maker, ty)?.as_str(), expected, "{maker} at {ty}");
     }

@@ -2,10 +2,11 @@
 use crate::types::type_of;
 use std::test::Fail;
 use wasm_wave::ast::{CowStr, Node, NodeType};
+use wasm_wave::parser::{ParserError, ParserErrorKind};
 use wasm_wave::strings::StringPart;
 use wasm_wave::to_string;
 use wasm_wave::untyped::{UntypedFuncCall, UntypedValue};
-use wasm_wave::value::Value;
+use wasm_wave::value::{Type, Value};
 
 /// How many nodes there are.
 fn counted(rt: HostRuntime, nodes: &[Node]) -> Result<String, Fail> {
@@ -133,18 +134,27 @@ fn accessors(rt: HostRuntime) -> Result<(), Fail> {
     Ok(())
 }
 
-/// The parts of the text's string: runs in angle brackets, chars bare, refusals in braces.
-fn string_parts(rt: HostRuntime, text: &str) -> Result<String, Fail> {
+/// A part of a string: a run in angle brackets, a char bare, a refusal in braces.
+fn part_text(rt: HostRuntime, part: Result<StringPart, ParserError>) -> Result<String, Fail> {
+    match part {
+        Ok(StringPart::Run(run)) => Ok(format!(in rt.alloc(); "<{run}>")?),
+        Ok(StringPart::Char(c)) => Ok(format!(in rt.alloc(); "{c}")?),
+        Err(error) => Ok(format!(in rt.alloc(); "{{{error}}}")?),
+    }
+}
+
+/// The parts of the value, which is a string.
+fn parts_of(rt: HostRuntime, value: &UntypedValue) -> Result<String, Fail> {
     let mut out = String::new(rt.alloc());
-    let value = UntypedValue::parse(rt.alloc(), text)?;
     for part in value.node().iter_str(value.source())? {
-        match part {
-            Ok(StringPart::Run(run)) => out.push_str(format!(in rt.alloc(); "<{run}>")?.as_str())?,
-            Ok(StringPart::Char(c)) => out.push(c)?,
-            Err(error) => out.push_str(format!(in rt.alloc(); "{{{error}}}")?.as_str())?,
-        }
+        out.push_str(part_text(rt, part)?.as_str())?;
     }
     Ok(out)
+}
+
+/// The parts of the text's string.
+fn string_parts(rt: HostRuntime, text: &str) -> Result<String, Fail> {
+    parts_of(rt, &UntypedValue::parse(rt.alloc(), text)?)
 }
 
 #[test]
@@ -159,12 +169,21 @@ fn parts_of_strings(rt: HostRuntime) -> Result<(), Fail> {
     Ok(())
 }
 
-/// The value of a copy of the text's node at the type, printed.
-fn copied(rt: HostRuntime, ty: &str, text: &str) -> Result<String, Fail> {
-    let ty = type_of(rt, ty)?;
-    let value = UntypedValue::parse(rt.alloc(), text)?;
-    let node = value.node().clone(rt.alloc())?;
-    let val: Value = node.to_wasm_value(rt.alloc(), &ty, value.source())?;
+/// The value of a copy of the value's node at the type.
+fn copied(rt: HostRuntime, ty: &Type, value: &UntypedValue) -> Result<Value, ParserError> {
+    match value.node().clone(rt.alloc()) {
+        Ok(node) => node.to_wasm_value(rt.alloc(), ty, value.source()),
+        Err(_) => Err(ParserError::new(ParserErrorKind::OutOfMemory, 0..0)),
+    }
+}
+
+/// What the text reads as by a copy of its node, printed.
+fn printed(rt: HostRuntime, ty: &str, text: &str) -> Result<String, Fail> {
+    let val = copied(
+        rt,
+        &type_of(rt, ty)?,
+        &UntypedValue::parse(rt.alloc(), text)?,
+    )?;
     Ok(to_string(rt.alloc(), &val)?)
 }
 
@@ -179,7 +198,7 @@ fn params(rt: HostRuntime, text: &str) -> Result<String, Fail> {
 
 #[test]
 fn copies_and_parameters(rt: HostRuntime) -> Result<(), Fail> {
-    let copy = copied(rt, "tuple<option<u8>, string>", "(7, \"a\")")?;
+    let copy = printed(rt, "tuple<option<u8>, string>", "(7, \"a\")")?;
     assert_eq!(rt; copy.as_str(), "(some(7), \"a\")");
     for (text, expected) in [("f(1, 2)", "2 items"), ("f( )", "")] {
         assert_eq!(rt; params(rt, text)?.as_str(), expected);

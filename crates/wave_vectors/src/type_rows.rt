@@ -89,15 +89,24 @@ fn makers_of_types(rt: HostRuntime) -> Result<(), Fail> {
     Ok(())
 }
 
-/// The enum whose one name is no label: its value's text, and how that text is refused.
-fn odd_name(rt: HostRuntime) -> Result<String, Fail> {
-    let Some(ty) = Type::enum_ty(rt.alloc(), &["A b"])? else {
-        return Ok(String::new(rt.alloc()));
-    };
-    let text = to_string(rt.alloc(), &Value::make_enum(rt.alloc(), &ty, "A b")?)?;
-    match from_str(rt.alloc(), &ty, text.as_str()) {
+/// How the text is refused at the type; the text itself where it is read.
+fn refusal(rt: HostRuntime, ty: &Type, text: String) -> Result<String, Fail> {
+    match from_str::<Value>(rt.alloc(), ty, text.as_str()) {
         Ok(_) => Ok(text),
         Err(error) => Ok(format!(in rt.alloc(); "{text}: {error}, {}", ty.names_are_labels())?),
+    }
+}
+
+/// The text of the one value of the enum.
+fn written(rt: HostRuntime, ty: &Type, name: &str) -> Result<String, Fail> {
+    Ok(to_string(rt.alloc(), &Value::make_enum(rt.alloc(), ty, name)?)?)
+}
+
+/// The enum whose one name is no label: its value's text, and how that text is refused.
+fn odd_name(rt: HostRuntime) -> Result<String, Fail> {
+    match Type::enum_ty(rt.alloc(), &["A b"])? {
+        Some(ty) => refusal(rt, &ty, written(rt, &ty, "A b")?),
+        None => Ok(String::new(rt.alloc())),
     }
 }
 

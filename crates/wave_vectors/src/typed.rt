@@ -14,7 +14,10 @@ fn read_late(rt: HostRuntime, ty: &Type, text: &str) -> Result<Value, ParserErro
 
 /// Whether the text means the same value, or none, where it is read without the type at first.
 fn is_read_alike(rt: HostRuntime, ty: &Type, text: &str) -> bool {
-    match (from_str(rt.alloc(), ty, text), read_late(rt, ty, text)) {
+    match (
+        from_str::<Value>(rt.alloc(), ty, text),
+        read_late(rt, ty, text),
+    ) {
         (Ok(one), Ok(other)) => one == other,
         (Err(_), Err(_)) => true,
         _ => false,
@@ -23,7 +26,7 @@ fn is_read_alike(rt: HostRuntime, ty: &Type, text: &str) -> bool {
 
 /// What the text prints at the type, or its refusal.
 fn answer(rt: HostRuntime, ty: &Type, text: &str) -> Result<String, Fail> {
-    match from_str(rt.alloc(), ty, text) {
+    match from_str::<Value>(rt.alloc(), ty, text) {
         Ok(val) => Ok(to_string(rt.alloc(), &val)?),
         Err(error) => Ok(format!(in rt.alloc(); "{error}")?),
     }

@@ -96,7 +96,7 @@ fn viewed(rt: HostRuntime, val: &Value) -> Result<String, Fail> {
 
 /// What the view answers of the text read at the type, or how it is refused.
 fn read(rt: HostRuntime, ty: &str, text: &str) -> Result<String, Fail> {
-    match from_str(rt.alloc(), &type_of(rt, ty)?, text) {
+    match from_str::<Value>(rt.alloc(), &type_of(rt, ty)?, text) {
         Ok(val) => viewed(rt, &val),
         Err(error) => Ok(format!(in rt.alloc(); "{error}")?),
     }

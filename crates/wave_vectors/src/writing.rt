@@ -68,7 +68,7 @@ fn outcome(rt: HostRuntime, val: &Value, left: usize, once: bool) -> &'static st
 
 /// How the tuple `(1, "a")` is written, one letter for each number of texts that pass
 fn outcomes(rt: HostRuntime, once: bool) -> Result<bool, Fail> {
-    let val = from_str(rt.alloc(), &type_of(rt, "tuple<u8, string>")?, "(1, \"a\")")?;
+    let val = from_str::<Value>(rt.alloc(), &type_of(rt, "tuple<u8, string>")?, "(1, \"a\")")?;
     let mut was_done = false;
     for left in 0..20 {
         match outcome(rt, &val, left, once) {
