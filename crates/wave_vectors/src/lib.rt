@@ -3,8 +3,6 @@
 #![tactic(auto)]
 
 #[cfg(test)]
-mod bare;
-#[cfg(test)]
 mod calls;
 #[cfg(test)]
 mod cuts;

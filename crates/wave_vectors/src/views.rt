@@ -9,7 +9,7 @@ use wasm_wave::{from_str, to_string};
 fn joined(rt: HostRuntime, vals: &[&Value]) -> Result<String, Fail> {
     let mut text = String::new(rt.alloc());
     for val in vals {
-        text.push_str(to_string(rt.alloc(), val)?.as_str())?;
+        text.push_str(to_string(rt.alloc(), *val)?.as_str())?;
         text.push_str(";")?;
     }
     Ok(text)
