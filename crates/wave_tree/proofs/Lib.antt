@@ -104,3 +104,4 @@ pub mod Variants
 pub mod FlagNodes
 pub mod FlagSets
 pub mod FlagTypes
+pub mod Standing

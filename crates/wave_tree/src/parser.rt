@@ -12,14 +12,14 @@ ghost use Rattle.wave_tree.specs.Refusals.{Gives, GivesWithin, GivesAnywhere, Sa
 ghost use Rattle.wave_lex.specs.Lexing.{span, remainder_of};
 ghost use Rattle.wave_tree.specs.Untyped.{IsUntypedTaken};
 ghost use Rattle.wave_tree.specs.Called.{AreParamsTaken, RefusesTuple};
-ghost use Rattle.wave_tree.specs.FromText.{IsValueTaken, RefusesValue, IsMeant, RefusesText};
+ghost use Rattle.wave_tree.specs.FromText.{start_of, IsValueTaken, RefusesValue, IsMeant, RefusesText};
 ghost use Rattle.wave_tree.specs.Word.{form_of, IsClose};
 ghost use Rattle.std.specs.BTreeMap.{values};
 ghost use Rattle.wave_tree.specs.NodeTree.{node, no_nodes, node_trees};
 ghost use Rattle.wave_tree.specs.declared.ast.NodeType.TheVariants as node_type;
 ghost use Rattle.wave_tree.specs.Parsed.{IsNodeTaken, IsParsed, IsParsedBehind, IsMaybe, IsPayload, IsOfItems, IsOfEntries, IsOfFlags, label_children};
 ghost use Rattle.wave_tree.specs.Parsing.{Parsing, asked, Asks, ahead_count, IsAhead, first_at, front_of, Advances, Expects, Finishes, StaysWithout};
-ghost use Rattle.wave_wasm.specs.Types.{HasDistinctNames};
+ghost use Rattle.wave_tree.specs.Standing.{IsCausedBetween};
 ghost use Rattle.wave_tree.specs.AnswerLaws.{LiesInText};
 
 use crate::ahead::Ahead;
@@ -248,6 +248,7 @@ impl<'source> Parser<'source> {
     pub fn parse_raw_value(&mut self, alloc: Global) -> Result<UntypedValue<'source>, ParserError>
         ensures value { Gives result 100 due.value [] self.old.place self.new.place [] }
         ensures tree { IfOk result (IsUntypedTaken self.old.place self.new.place) }
+        ensures within { IfErr result (λ e. LiesInText self.old.place.lexer.source e.span) }
         ensures memory { IfErr result (λ e. StaysWithout e self.old.place self.new.place) }
         ensures asks { Asks self.old self.new }
     {
@@ -260,6 +261,8 @@ impl<'source> Parser<'source> {
     fn parse_whole(&mut self, alloc: Global) -> Result<Node, ParserError>
         ensures value { Gives result 100 due.value [] self.old.place self.new.place [] }
         ensures tree { IfOk result (IsNodeTaken self.old.place self.new.place) }
+        ensures within { IfErr result (λ e. LiesInText self.old.place.lexer.source e.span) }
+        ensures uncaused { IfErr result (λ e. e.kind ≢ kind.WasmValueError) }
         ensures memory { IfErr result (λ e. StaysWithout e self.old.place self.new.place) }
         ensures asks { Asks self.old self.new }
     {
@@ -286,6 +289,8 @@ impl<'source> Parser<'source> {
     ) -> Result<V, ParserError>
         ensures value { IfOk result (IsValueTaken V.tree V.is_of (V.Type.tree ty.now) self.old.place self.new.place) }
         ensures refused { IfErr result (λ e. RefusesValue V.is_full (V.Type.tree ty.now) e self.old.place self.new.place) }
+        ensures within { IfErr result (λ e. LiesInText self.old.place.lexer.source e.span) }
+        ensures caused { IfErr result (IsCausedBetween self.old.place self.new.place) }
         ensures memory { IfErr result (λ e. StaysWithout e self.old.place self.new.place) }
         ensures asks { Asks self.old self.new }
     {
@@ -308,6 +313,7 @@ impl<'source> Parser<'source> {
     pub fn finish(&mut self) -> Result<(), ParserError>
         ensures stays { self.new.place ≡ self.old.place }
         ensures answer { Finishes result self.old.place }
+        ensures within { IfErr result (λ e. LiesInText self.old.place.lexer.source e.span) }
         ensures asks { asked self.new ≡ self.old.place.taken + 1 }
     {
         self.look();
@@ -628,7 +634,8 @@ pub fn from_str<V: WasmValue>(alloc: Global, ty: &V::Type, s: &str) -> Result<V,
     ensures value { IfOk result (IsMeant V.tree V.is_of (V.Type.tree ty.now) s.now) }
     ensures refused { IfErr result (RefusesText V.is_full (V.Type.tree ty.now) s.now) }
     ensures memory { IfErr result (λ e. e.kind ≡ kind.OutOfMemory → Says e kind.OutOfMemory (span 0 0) None) }
-    ensures within { IfErr result (λ e. HasDistinctNames (V.Type.tree ty.now) → V.is_full (V.Type.tree ty.now) → LiesInText s.now e.span) }
+    ensures within { IfErr result (λ e. LiesInText s.now e.span) }
+    ensures caused { IfErr result (λ e. (p : Place) × IsCausedBetween (start_of s.now) p e) }
 {
     let mut parser = Parser::new(s);
     let value = parser.parse_value::<V>(alloc, ty)?;

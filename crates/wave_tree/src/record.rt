@@ -7,6 +7,7 @@ ghost use Rattle.wave_tree.specs.NodeTree.{type_of, place_of};
 ghost use Rattle.wave_tree.specs.Nodes.{IsParsedFrom};
 ghost use Rattle.wave_tree.specs.Answers.{text_at};
 ghost use Rattle.wave_tree.specs.Refusals.{Says};
+ghost use Rattle.wave_tree.specs.Standing.{StandsIn};
 ghost use Rattle.wave_tree.specs.Records.{IsFieldsOf, RefusesFields, GivesRecord, GivesName, shown_field, HoldsFields};
 
 use crate::ast::{Node, NodeType};
@@ -28,7 +29,8 @@ impl Node {
         src: &'src str,
     ) -> Result<RecordFields<'this, 'src>, ParserError>
         requires { IsParsedFrom src.now self.now }
-        ensures { GivesRecord src.now self.now result }
+        ensures given { GivesRecord src.now self.now result }
+        ensures within { IfErr result (StandsIn self.now) }
     {
         let (fields, _) = self.fields(alloc, src)?;
         Ok(RecordFields::new(fields))
@@ -50,6 +52,7 @@ impl Node {
         ensures given { IfOk result (λ r. IsFieldsOf src.now self.now (map shown_field r.0.items)) }
         ensures held { IfOk result (λ r. HoldsFields r.1 (map shown_field r.0.items)) }
         ensures refused { IfErr result (RefusesFields src.now self.now) }
+        ensures within { IfErr result (StandsIn self.now) }
     {
         self.ensure_type(NodeType::TupleSet)?;
         let nodes = self.nodes();
@@ -89,7 +92,8 @@ impl Node {
 
     /// The refusal of a key whose name an earlier one has.
     fn repeated(&self, alloc: Global, name: &str) -> ParserError
-        ensures { (result.kind ≡ OutOfMemory) ⊎ Says result DuplicateField (place_of self.now) (Some (repeated_name name.now)) }
+        ensures refusal { (result.kind ≡ OutOfMemory) ⊎ Says result DuplicateField (place_of self.now) (Some (repeated_name name.now)) }
+        ensures span { result.span ≡ place_of self.now }
     {
         match format!(in alloc; "\"{name}\"") {
             Ok(detail) => ParserError::with_detail(

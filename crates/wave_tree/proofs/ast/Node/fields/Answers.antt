@@ -21,7 +21,7 @@ pub returns-then-contains_key-clause-refused : goal.returns-then-contains_key-cl
 returns-then-contains_key-clause-refused c =
     let here : HasAt (node_pairs c.nodes-nodes.result.now) c.loop-i.i (c.index-nodes-i.result, c.index-nodes-i-in-loop-i.result) = pair_has c.nodes-nodes.result.now c.loop-i.i c.index-nodes-i.result c.index-nodes-i-in-loop-i.result (omega arith) c.index-nodes-i.is c.index-nodes-i-in-loop-i.is in
     refused_name c.args.src.now c.args.self.now c.nodes-nodes.result.now c.loop-i.i c.index-nodes-i.result c.index-nodes-i-in-loop-i.result (map shown_field c.loop-i.fields.items) c.in_ok-name.name.now c.repeated.result c.in_ok-ensure_type.ensures c.nodes-nodes.ensures here c.loop-i.invariant.so_far c.in_ok-name.ensures.0 c.in_ok-name.ensures.1
-    (old_name c.loop-i.by_name (map shown_field c.loop-i.fields.items) c.in_ok-name.name.now c.contains_key.result c.loop-i.invariant.holds c.contains_key.ensures c.if-contains_key.true) c.repeated.ensures
+    (old_name c.loop-i.by_name (map shown_field c.loop-i.fields.items) c.in_ok-name.name.now c.contains_key.result c.loop-i.invariant.holds c.contains_key.ensures c.if-contains_key.true) c.repeated.ensures.refusal
 
 pub loop-i-preserved : goal.loop-i-preserved
 loop-i-preserved c =

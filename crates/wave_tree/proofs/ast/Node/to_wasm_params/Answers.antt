@@ -38,7 +38,7 @@ returns-in_err-val-clause-refused g c = λ distinct t is.
       inner.items,
       inner.shape,
       item_refused g.V.WasmValue.tree g.V.WasmValue.is_of g.V.WasmValue.is_full src Ts ns inner.items c.loop-i.vals.items c.loop-i.i c.index-nodes-i-in-loop-i.result T (close_of c.args.self.now) c.in_err-val.field-0.0 nodes c.loop-i-test.true c.index-nodes-i-in-loop-i.is (omega (arith, c.if-i-types.false, many)) typed before
-          (λ u here. c.in_err-val.ensures u here (all_has HasDistinctNames Ts c.loop-i.i T distinct typed)),
+          (λ u here. c.in_err-val.ensures.answer u here (all_has HasDistinctNames Ts c.loop-i.i T distinct typed)),
     ))
 
 pub returns-in_err-keep-clause-refused : goal.returns-in_err-keep-clause-refused
@@ -55,7 +55,7 @@ loop-i-preserved g c =
       omega (arith, c.if-i-types.false),
       λ ts nodes distinct.
           tuple_kept g.V.WasmValue.tree g.V.WasmValue.is_of g.V.WasmValue.is_full c.args.src.now Ts c.in_ok-nodes.nodes.now ts c.loop-i.vals.items c.keep.new.items.items c.loop-i.i c.index-nodes-i-in-loop-i.result T c.in_ok-val.val nodes c.loop-i-test.true c.index-nodes-i-in-loop-i.is typed (c.loop-i.invariant.1 ts nodes distinct)
-          (λ u here. c.in_ok-val.ensures u here (all_has HasDistinctNames Ts c.loop-i.i T distinct typed)) c.in_ok-keep.ensures.kept,
+          (λ u here. c.in_ok-val.ensures.answer u here (all_has HasDistinctNames Ts c.loop-i.i T distinct typed)) c.in_ok-keep.ensures.kept,
     )
 
 pub returns-then-not-are_options-clause-refused : goal.returns-then-not-are_options-clause-refused
