@@ -1,5 +1,5 @@
 -- Where refusals of nodes stand.
-use Rattle.std.proofs.Common.{ℕ, ◌≡◌, ◌≢◌, ◌⊎◌, inl, inr, ◌≤◌, ◌<◌, List, [], ◌∷◌, length, get_or, map, Option, Some, None, Bor, Result, Ok, Err, IfOk, IfErr, refl, sym, ap, ◌∙◌, subst, arith}
+use Rattle.std.proofs.Common.{ℕ, ℤ, ◌≡◌, ◌+◌, ◌-◌, drop, length-take, length-append, ◌≢◌, ◌⊎◌, inl, inr, ◌≤◌, ◌<◌, List, [], ◌∷◌, length, get_or, map, Option, Some, None, Bor, Result, Ok, Err, IfOk, IfErr, refl, sym, ap, ◌∙◌, subst, arith}
 use Rattle.std.specs.Result.{IsErrAnd}
 use Rattle.std.specs.declared.ops.Range.{Range}
 use Rattle.wave_wasm.specs.Lists.{AllOf}
@@ -10,6 +10,7 @@ use Rattle.wave_lex.specs.Errors.{Refusal, refusal_of, refused_by, caused, plain
 use Rattle.wave_lex.specs.declared.error.ParserError.{ParserError}
 use Rattle.wave_lex.specs.declared.error.ParserErrorKind.{ParserErrorKind}
 use Rattle.wave_lex.specs.declared.error.ParserErrorKind.TheVariants as why
+use Rattle.wave_lex.specs.Lexing.{Stands}
 use Rattle.wave_tree.specs.Token.{Token}
 use Rattle.wave_tree.specs.Token as token
 use Rattle.wave_tree.specs.Placed.{Placed, at, Shape, one, tuple, list, empty_braces, no_fields, entries, flags, label, none, some, ok, err, no_placed, a_placed, PlacedEntries, entry, placed_trees, slice, span_of, shape_of, LiesIn, SpellsEach, SpellsParts, SpellsAll, SpellsEntries, SpellsFlags}
@@ -17,13 +18,24 @@ use Rattle.wave_tree.specs.NodeTree.{NodeTree, NodeTrees, node, no_nodes, node_a
 use Rattle.wave_tree.specs.Nodes.{placed_of, pairs_of, flags_of, flag_of, key_of, with_both, IsNodeOf, IsParsedFrom}
 use Rattle.wave_tree.specs.Typed.{IsValueOf, IsMade, IsCaused}
 use Rattle.wave_tree.specs.AnswerLaws.{LiesInText}
-use Rattle.wave_tree.specs.Answers.{node_pairs, RefusedAs, first_of}
+use Rattle.wave_tree.specs.Answers.{node_pairs, RefusedAs, first_of, shown_node, GivesNumber, GivesChar, GivesOption, GivesVariant}
+use Rattle.std.specs.BTreeMap.{BTreeMap}
+use Rattle.wave_tree.specs.Records.{IsFieldsOf, HoldsFields, field_of, held_at}
+use Rattle.wave_tree.specs.Refusals.{Says}
+use Rattle.wave_tree.specs.TreeParams.{close_of}
+use Rattle.wave_tree.specs.declared.ast.NodeType.TheVariants as node_kind
+use Rattle.wave_tree.proofs.Fields.{not_key}
+use Rattle.wave_tree.proofs.RecordReads.{Removed, left_over, look_all}
+use Rattle.wave_tree.specs.CowText.{TellsStringFault, GivesString}
+use Rattle.wave_lex.specs.Multiline.{LineFault, closing, opening, indentation, escape, fault_kind}
+use Rattle.wave_wasm.specs.Types.{Whole}
 use Rattle.wave_tree.specs.Standing.{HasCause, IsAtPlace, IsAtNode, IsPartOf, IsPartOfOne, LiesInNode, IsCausedIn, StandsIn, StandsInPart}
 use Rattle.wave_tree.specs.declared.ast.NodeType.{NodeType}
-use Rattle.wave_tree.proofs.Inside.{From, inside, AreParsed, parsed, pair_parsed, nodes_in, nodes_are, key_place, flag_key, stands}
+use Rattle.wave_tree.proofs.Inside.{From, inside, some_is, AreParsed, parsed, pair_parsed, nodes_in, nodes_are, key_place, flag_key, stands}
 use Rattle.wave_tree.proofs.Entries.{both_some}
 use Rattle.wave_tree.proofs.Items.{HasAt}
 use Rattle.wave_tree.proofs.Tuples.{place_has, all_has}
+use Rattle.wave_tree.proofs.FaultSpans.{escape_inside, multiline_offset, fault_place}
 
 -- ---- nodes within a node
 
@@ -64,7 +76,7 @@ entries_between source (n ∷ m ∷ ns) (k ∷ v ∷ cs) es from to h e s =
     let key = spelled.1.0.ordered in
     let behind = spelled.2.0 in
     let value = ordered source v spelled.3 in (
-      subst (λ (p : Range ℕ). LiesIn p from to) (key_place source n k b.0.0 b.0.1 (inside source n k h.0) b.2) (spelled.0.0, let last = spelled.2.1 in omega arith),
+      subst (λ (p : Range ℕ). LiesIn p from to) (key_place source n k b.0.0 b.0.1 (inside source n k h.0) b.2) spelled.0,
       between source m v from to h.1.0 (omega arith, spelled.2.1),
       all_wider from (span_of v).end to ns (omega arith) (entries_between source ns cs b.1 (span_of v).end to h.1.1 b.3 spelled.4),
     )
@@ -145,7 +157,7 @@ whole_part (node ty p ns) = inl refl
 
 -- both nodes of an entry belong to the node
 abbrev pub PairBelongs : NodeTree → NodeTree × NodeTree → Type 0
-PairBelongs n entry = BelongsTo n entry.0 × BelongsTo n entry.1
+PairBelongs n pair = BelongsTo n pair.0 × BelongsTo n pair.1
 
 pairs_belong : (n : NodeTree) (ns : List NodeTree) → AllOf (BelongsTo n) ns → AllOf (PairBelongs n) (node_pairs ns)
 pairs_belong n [] h = tt
@@ -165,25 +177,25 @@ node_ordered source n h = (stands source n h).ordered
 pub at_in : (source : List ℕ) (n : NodeTree) (e : ParserError) → IsParsedFrom source n → IsAtNode n e → StandsIn n e
 at_in source n e h told =
     let o = node_ordered source n h in
-    record { lies = subst (LiesInNode n) (sym told.0) (omega arith, o, omega arith); caused = λ kind. (n, whole_part n, told) }
+    record { lies = subst (LiesInNode n) (sym told.0) (omega arith, o, omega arith); caused = λ was. (n, whole_part n, told) }
 
 -- a refusal of another kind has no cause to tell
 pub plain_kind : (k : ParserErrorKind) (e : ParserError) → k ≢ why.WasmValueError → refusal_of e ≡ plainly k → HasCause e
-plain_kind k e apart is = λ kind. absurd (apart (sym (ap (λ (r : Refusal). r.kind) is) ∙ kind))
+plain_kind k e apart is = λ was. absurd (apart (sym (ap (λ (r : Refusal). r.kind) is) ∙ was))
 
 -- a refusal for want of memory
 pub memory_at : (p : Range ℕ) (e : ParserError) → e.kind ≡ why.OutOfMemory → e.span ≡ p → IsAtPlace p e
-memory_at p e is place = (place, λ kind. cc (sym is ∙ kind))
+memory_at p e is place = (place, λ was. absurd (cc (sym is ∙ was)))
 
 -- a maker's refusal has its cause
 pub made_cause : (c : WasmValueError) (e : ParserError) → refusal_of e ≡ refused_by (cause_of c) → HasCause e
-made_cause (error.Memory a) e is = λ kind. cc (sym (ap (λ (r : Refusal). r.kind) is) ∙ kind)
-made_cause c e is = λ kind. (cause_of c, is)
+made_cause (error.Memory a) e is = λ was. absurd (cc (sym (ap (λ (r : Refusal). r.kind) is) ∙ was))
+made_cause c e is = λ was. (cause_of c, is)
 
 -- a refusal with this cause
 pub caused_at : (c : Cause) (n : NodeTree) (e : ParserError) → IsCaused c n e → e.span ≡ place_of n → IsAtNode n e
 caused_at c n e (inl memory) place = memory_at (place_of n) e memory place
-caused_at c n e (inr h) place = (place, λ kind. (c, h.0))
+caused_at c n e (inr h) place = (place, λ was. (c, h.0))
 
 -- a refusal of the kind at the node
 pub refused_at : (k : ParserErrorKind) (n : NodeTree) (e : ParserError) → k ≢ why.WasmValueError → RefusedAs k n e → IsAtNode n e
@@ -195,13 +207,14 @@ made_at n m (Ok w) is = tt
 made_at n (Ok v) (Err e) is = absurd is
 made_at n (Err c) (Err e) is = (is.1, made_cause c e is.0)
 
+-- what stands at the node stands in it
+pub all_in : {V : Type 0} (source : List ℕ) (n : NodeTree) (r : Result V ParserError) → IsParsedFrom source n → IfErr r (IsAtNode n) → IfErr r (StandsIn n)
+all_in source n (Ok w) h told = tt
+all_in source n (Err e) h told = at_in source n e h told
+
 -- so it stands in the node
 pub made_in : {V : Type 0} (source : List ℕ) (n : NodeTree) (m : Result V WasmValueError) (r : Result V ParserError) → IsParsedFrom source n → IsMade n m r → IfErr r (StandsIn n)
 made_in source n m r h is = all_in source n r h (made_at n m r is)
-  where
-    all_in : {V : Type 0} (source : List ℕ) (n : NodeTree) (r : Result V ParserError) → IsParsedFrom source n → IfErr r (IsAtNode n) → IfErr r (StandsIn n)
-    all_in source n (Ok w) h told = tt
-    all_in source n (Err e) h told = at_in source n e h told
 
 -- a refusal that stands in a node of the node
 pub deeper : (n m : NodeTree) (e : ParserError) → BelongsTo n m → StandsIn m e → StandsIn n e
@@ -210,7 +223,7 @@ deeper n m e b h =
     let to = b.lies.1 in
     let first = h.lies.0 in
     let last = h.lies.2 in
-    record { lies = (omega arith, h.lies.1, omega arith); caused = λ kind. let (k, part, told) = h.caused kind in (k, b.parts k part, told) }
+    record { lies = (omega arith, h.lies.1, omega arith); caused = λ was. let (k, part, told) = h.caused was in (k, b.parts k part, told) }
 
 -- so of the node at a place
 pub deeper_at : (source : List ℕ) (n : NodeTree) (ns : List NodeTree) (i : ℕ) (m : NodeTree) (e : ParserError) → IsValueOf source n → ns ≡ children_of n → i < length ns → m ≡ get_or ns i m → StandsIn m e → StandsIn n e
@@ -227,7 +240,7 @@ first_belongs source n o v is m here = by (children_of n) (children_belong sourc
   where
     by : (ns : List NodeTree) → AllOf (BelongsTo n) ns → first_of ns ≡ Some m → BelongsTo n m
     by [] h e = absurd (cc)
-    by (x ∷ xs) h e = let same : x ≡ m = cc in subst (BelongsTo n) same h.0
+    by (x ∷ xs) h e = subst (BelongsTo n) (some_is x m e) h.0
 
 -- a node lies in the source
 pub node_in_text : (source : List ℕ) (n : NodeTree) → IsParsedFrom source n → LiesInText source (place_of n)
@@ -240,3 +253,131 @@ in_text source n e parsed h =
     let last = l.1 in
     let to = h.lies.2 in
     (h.lies.1, omega arith)
+
+-- so does what stands at it
+pub at_in_text : (source : List ℕ) (n : NodeTree) (e : ParserError) → IsParsedFrom source n → IsAtNode n e → LiesInText source e.span
+at_in_text source n e parsed told = subst (LiesInText source) (sym told.0) (node_in_text source n parsed)
+
+-- what stands in the node, or in that of a part
+pub all_part : {V : Type 0} (n : NodeTree) (m : NodeTree) (r : Result V ParserError) → IfErr r (StandsIn m) → IfErr r (StandsInPart n (Some m))
+all_part n m (Ok w) h = tt
+all_part n m (Err e) h = inr (m, refl, h)
+
+-- what stands at the node, or in that of a part
+pub all_at : {V : Type 0} (n : NodeTree) (o : Option NodeTree) (r : Result V ParserError) → IfErr r (IsAtNode n) → IfErr r (StandsInPart n o)
+all_at n o (Ok w) h = tt
+all_at n o (Err e) h = inl h
+
+-- ---- what accessors refuse
+
+pub number_at : {N : Type 0} (which : Whole) (number : N → ℤ) (source : List ℕ) (n : NodeTree) (e : ParserError) → GivesNumber which number source n (Err e) → IsAtNode n e
+number_at which number source n e (inl h) = refused_at why.InvalidType n e (λ k. cc) h.1
+number_at which number source n e (inr h) = refused_at why.InvalidValue n e (λ k. cc) h.2
+
+pub char_at : (source : List ℕ) (n : NodeTree) (e : ParserError) → GivesChar source n (Err e) → IsAtNode n e
+char_at source n e (inl h) = refused_at why.InvalidType n e (λ k. cc) h.1
+char_at source n e (inr h) = refused_at why.InvalidEscape n e (λ k. cc) h.2
+
+pub type_at : (n : NodeTree) (e : ParserError) → RefusedAs why.InvalidType n e → IsAtNode n e
+type_at n e h = refused_at why.InvalidType n e (λ k. cc) h
+
+text_fits : (source : List ℕ) (p : Range ℕ) → p.start ≤ p.end → p.start + length (slice source p) ≤ p.end
+text_fits source p o = let a = length-take (p.end - p.start) (drop p.start source) in omega arith
+
+fault_plain : (f : LineFault) (e : ParserError) → refusal_of e ≡ plainly (fault_kind f) → e.kind ≢ why.WasmValueError
+fault_plain closing e is was = cc (sym (ap (λ (r : Refusal). r.kind) is) ∙ was)
+fault_plain opening e is was = cc (sym (ap (λ (r : Refusal). r.kind) is) ∙ was)
+fault_plain (indentation i) e is was = cc (sym (ap (λ (r : Refusal). r.kind) is) ∙ was)
+fault_plain (escape i) e is was = cc (sym (ap (λ (r : Refusal). r.kind) is) ∙ was)
+
+string_fault_in : (source : List ℕ) (n : NodeTree) (e : ParserError) → IsParsedFrom source n → TellsStringFault source n e → StandsIn n e
+string_fault_in source n e h (inl (ty, x, i, own, bad, tells)) =
+    let fits = text_fits source (place_of n) (node_ordered source n h) in
+    let bytes = ap length own in
+    let parts = length-append x (34 ∷ []) in
+    let before = escape_inside x i bad in
+    record {
+      lies = subst (LiesInNode n) (sym tells.at) (omega arith, omega arith, omega arith);
+      caused = λ was. absurd (cc (sym (ap (λ (r : Refusal). r.kind) tells.refusal) ∙ was));
+    }
+string_fault_in source n e h (inr (ty, x, f, own, bad, tells)) =
+    let fits = text_fits source (place_of n) (node_ordered source n h) in
+    let bytes = ap length own in
+    let parts = length-append x (34 ∷ 34 ∷ 34 ∷ []) in
+    let place = fault_place ((place_of n).start + 3) (length x) f (multiline_offset x f bad) in
+    let from = place.0 in
+    let to = place.2 in
+    record {
+      lies = subst (LiesInNode n) (sym tells.at) (omega arith, place.1, omega arith);
+      caused = λ was. absurd (fault_plain f e tells.refusal was);
+    }
+
+pub string_in : (source : List ℕ) (n : NodeTree) (e : ParserError) → IsParsedFrom source n → GivesString source n (Err e) → StandsIn n e
+string_in source n e h (inl told) = at_in source n e h (type_at n e told.2)
+string_in source n e h (inr (inl told)) = string_fault_in source n e h told
+string_in source n e h (inr (inr told)) = at_in source n e h (refused_at why.OutOfMemory n e (λ k. cc) told.0)
+
+-- ---- parts that accessors give
+
+-- the payload of `some`
+pub some_belongs : (source : List ℕ) (n : NodeTree) (x : Bor NodeTree) → IsValueOf source n → GivesOption n (Ok (Some x)) → BelongsTo n x.now
+some_belongs source n x v (inl h) = first_belongs source n (Some x.now) v h.1 x.now refl
+some_belongs source n x v (inr h) = absurd (cc (h.1))
+
+-- the payload of a case
+pub case_belongs : (source : List ℕ) (n : NodeTree) (name : Bor (List ℕ)) (o : Option (Bor NodeTree)) → IsValueOf source n → GivesVariant source n (Ok (name, o)) → (m : NodeTree) → shown_node o ≡ Some m → BelongsTo n m
+case_belongs source n name o v (inl h) m is = absurd (cc (sym h.2 ∙ is))
+case_belongs source n name o v (inr (c, t, ty, kids, named, given)) m is =
+    let both : AllOf (BelongsTo n) (c ∷ t ∷ []) = subst (AllOf (BelongsTo n)) kids (children_belong source n v) in
+    subst (BelongsTo n) (some_is t m (sym given ∙ is)) both.1.0
+
+-- the next entry
+pub next_belongs : (n : NodeTree) (now left : List (NodeTree × NodeTree)) (pair : NodeTree × NodeTree) → AllOf (PairBelongs n) now → now ≡ pair ∷ left → PairBelongs n pair × AllOf (PairBelongs n) left
+next_belongs n now left pair h is = subst (AllOf (PairBelongs n)) is h
+
+-- a node of entries is that of a value
+pub set_value : (source : List ℕ) (n : NodeTree) → IsParsedFrom source n → type_of n ≡ node_kind.TupleSet → IsValueOf source n
+set_value source n (inl v) set = v
+set_value source n (inr k) set = absurd (not_key source n k.2.0.0 k.0 k.1 (inside source n k.2.0.0 k.2.0.1) k.2.0.2 set)
+
+-- the key of an entry
+pub key_belongs : (source : List ℕ) (n : NodeTree) (ns : List NodeTree) (i : ℕ) (k v : NodeTree) → IsParsedFrom source n → type_of n ≡ node_kind.TupleSet → ns ≡ children_of n → HasAt (node_pairs ns) i (k, v) → BelongsTo n k
+key_belongs source n ns i k v h set is here =
+    (all_has (PairBelongs n) (node_pairs ns) i (k, v) (subst (λ (l : List NodeTree). AllOf (PairBelongs n) (node_pairs l)) (sym is) (entries_belong source n (set_value source n h set))) here).0
+
+fields_belong : (source : List ℕ) (n : NodeTree) (pairs : List (NodeTree × NodeTree)) → AllOf (PairBelongs n) pairs → AllOf (λ f. BelongsTo n f.1) (map (field_of source) pairs)
+fields_belong source n [] h = tt
+fields_belong source n (e ∷ es) h = (h.0.1, fields_belong source n es h.1)
+
+-- the value of a field
+pub held_belongs : (source : List ℕ) (n : NodeTree) (names : List (List ℕ)) (old m : BTreeMap (Bor (List ℕ)) (Bor NodeTree)) (fs : List (List ℕ × NodeTree)) (name : List ℕ) (o : Option (Bor NodeTree)) → IsValueOf source n → IsFieldsOf source n fs → HoldsFields old fs → Removed names old m → o ≡ held_at m name → (k : NodeTree) → shown_node o ≡ Some k → BelongsTo n k
+held_belongs source n names old m fs name None v given held h is k here = absurd (cc)
+held_belongs source n names old m fs name (Some x) v given held h is k here =
+    let over = left_over names old m fs name x held h (sym is) in
+    let all : AllOf (λ f. BelongsTo n f.1) fs = subst (AllOf (λ f. BelongsTo n f.1)) (sym given.given) (fields_belong source n (node_pairs (children_of n)) (entries_belong source n v)) in
+    subst (BelongsTo n) (some_is x.now k here) (look_all (λ q c. BelongsTo n c) fs name x.now all over.1)
+
+-- ---- parameters
+
+-- the close of a node lies in the source
+pub close_lies : (source : List ℕ) (n : NodeTree) → IsParsedFrom source n → LiesInText source (close_of n)
+close_lies source n h = let l = node_in_text source n h in (omega arith, l.1)
+
+-- a refusal without a cause
+pub said_plain : (e : ParserError) (k : ParserErrorKind) (p : Range ℕ) (detail : Option (List ℕ)) → k ≢ why.WasmValueError → Says e k p detail → IsAtPlace p e
+said_plain e k p detail apart says = (says.stands, plain_kind k e apart says.is)
+
+-- want of memory, or a refusal without a cause
+pub memory_or_plain : (e : ParserError) (k : ParserErrorKind) (p : Range ℕ) (detail : Option (List ℕ)) → k ≢ why.WasmValueError → (e.kind ≡ why.OutOfMemory) ⊎ Says e k p detail → e.span ≡ p → IsAtPlace p e
+memory_or_plain e k p detail apart (inl memory) place = memory_at p e memory place
+memory_or_plain e k p detail apart (inr says) place = said_plain e k p detail apart says
+
+-- what stands at a place of the source lies in it
+pub all_at_text : {X : Type 0} (source : List ℕ) (p : Range ℕ) (r : Result X ParserError) → Stands source p.start p.end → IfErr r (IsAtPlace p) → IfErr r (λ e. LiesInText source e.span)
+all_at_text source p (Ok x) h told = tt
+all_at_text source p (Err e) h told = subst (LiesInText source) (sym told.0) (h.ordered, h.last.0)
+
+-- a refusal at a place is one with a cause there, where it is a `WasmValueError`
+pub all_at_cause : {X : Type 0} (p : Range ℕ) (r : Result X ParserError) → IfErr r (IsAtPlace p) → IfErr r (λ e. e.kind ≡ why.WasmValueError → IsAtPlace p e)
+all_at_cause p (Ok x) told = tt
+all_at_cause p (Err e) told = λ was. told

@@ -1,5 +1,5 @@
 -- Where the refusal of a node stands.
-use Rattle.std.specs.Prelude.{ℕ, ◌≡◌, ◌⊎◌, ◌≤◌, Option, Some}
+use Rattle.std.specs.Prelude.{ℕ, ◌≡◌, ◌⊎◌, ◌≤◌, Option, Some, None}
 use Rattle.std.specs.declared.ops.Range.{Range}
 use Rattle.wave_wasm.specs.Causes.{Cause}
 use Rattle.wave_lex.specs.Errors.{refusal_of, caused}
@@ -47,6 +47,11 @@ pub record StandsIn (n : NodeTree) (e : ParserError) : Type 0 where
 -- the refusal stands at the node, or in that of its part
 abbrev pub StandsInPart : NodeTree → Option NodeTree → ParserError → Type 0
 StandsInPart n part e = IsAtNode n e ⊎ ((m : NodeTree) × (part ≡ Some m) × StandsIn m e)
+
+-- so among the parameters of a call; at its name where it gives none
+abbrev pub IsCausedInParams : Range ℕ → Option NodeTree → ParserError → Type 0
+IsCausedInParams name None e = IsAtPlace name e
+IsCausedInParams name (Some n) e = IsCausedIn n e
 
 -- a `WasmValueError` stands, with a cause, at a node of the tree whose tokens the parser took
 abbrev pub IsCausedBetween : Place → Place → ParserError → Type 0

@@ -20,7 +20,7 @@ ghost use Rattle.wave_tree.specs.declared.ast.NodeType.TheVariants as node_type;
 ghost use Rattle.wave_tree.specs.Parsed.{IsNodeTaken, IsParsed, IsParsedBehind, IsMaybe, IsPayload, IsOfItems, IsOfEntries, IsOfFlags, label_children};
 ghost use Rattle.wave_tree.specs.Parsing.{Parsing, asked, Asks, ahead_count, IsAhead, first_at, front_of, Advances, Expects, Finishes, StaysWithout};
 ghost use Rattle.wave_tree.specs.Standing.{IsCausedBetween};
-ghost use Rattle.wave_tree.specs.AnswerLaws.{LiesInText};
+ghost use Rattle.wave_tree.specs.AnswerLaws.{LiesInText, IsInSource};
 
 use crate::ahead::Ahead;
 use crate::ast::{Node, NodeType};
@@ -225,6 +225,15 @@ impl<'source> Parser<'source> {
         Node::new(ty, start..self.span().end, children)
     }
 
+    /// A second lexer that stands where the parser's does.
+    fn here(&self) -> Lexer<'source>
+        ensures place { result ≡ self.now.place.lexer }
+        ensures inside { IsInSource self.now.place.lexer }
+    {
+        let _ = self.lexer.span();
+        self.lexer.clone()
+    }
+
     /// What is left of the source.
     fn remainder(&self) -> &'source str
         ensures { result.now ≡ remainder_of self.now.place.lexer }
@@ -266,7 +275,7 @@ impl<'source> Parser<'source> {
         ensures memory { IfErr result (λ e. StaysWithout e self.old.place self.new.place) }
         ensures asks { Asks self.old self.new }
     {
-        let place = self.lexer.clone();
+        let place = self.here();
         let _ = self.remainder();
         match self.parse_node(alloc, 100) {
             Ok(node) => Ok(node),
@@ -294,7 +303,7 @@ impl<'source> Parser<'source> {
         ensures memory { IfErr result (λ e. StaysWithout e self.old.place self.new.place) }
         ensures asks { Asks self.old self.new }
     {
-        let place = self.lexer.clone();
+        let place = self.here();
         let source = self.lexer.source();
         let node = self.parse_whole(alloc)?;
         match node.to_wasm_value(alloc, ty, source) {
@@ -316,6 +325,7 @@ impl<'source> Parser<'source> {
         ensures within { IfErr result (λ e. LiesInText self.old.place.lexer.source e.span) }
         ensures asks { asked self.new ≡ self.old.place.taken + 1 }
     {
+        let _ = self.here();
         self.look();
         match &self.ahead {
             Some(ahead) => trailing(&ahead.item, &ahead.lexer),
@@ -323,19 +333,29 @@ impl<'source> Parser<'source> {
         }
     }
 
-    /// Reads the parameters of a call: None for `()`, else the node of a tuple.
+    /// Reads the parameters of a call: None for `()`, else the node of a tuple. Want of memory is
+    /// refused where the parser stood.
     pub(crate) fn parse_params(&mut self, alloc: Global) -> Result<Option<Node>, ParserError>
         ensures taken { IfOk result (AreParamsTaken self.old.place self.new.place) }
         ensures refused { IfErr result (λ e. e.kind ≢ kind.OutOfMemory → RefusesTuple e self.old.place self.new.place) }
+        ensures within { IfErr result (λ e. LiesInText self.old.place.lexer.source e.span) }
     {
+        let place = self.here();
         let _ = self.remainder();
         self.expect(Token::ParenOpen)?;
         if self.next_is(Token::ParenClose) {
             self.expect(Token::ParenClose)?;
             return Ok(None);
         }
-        let tuple = self.parse_items(alloc, 100, Token::ParenClose)?;
-        Ok(Some(tuple))
+        match self.parse_items(alloc, 100, Token::ParenClose) {
+            Ok(tuple) => Ok(Some(tuple)),
+            Err(error) => {
+                if !is_memory(error.kind()) {
+                    return Err(error);
+                }
+                Err(self.go_back(place))
+            }
+        }
     }
 
     /// Reads a value.

@@ -41,6 +41,10 @@ use Rattle.wave_tree.specs.Records.{names_of, shown_field}
 use Rattle.wave_tree.proofs.Fields.{take_whole}
 use Rattle.wave_tree.proofs.RecordEntries.{record_nodes}
 use Rattle.wave_tree.proofs.RecordReads.{RecordType, record_is, part_at, as_parts, record_deep, fields_distinct, still_held, held_value, none_before, removed_next, given_fields, failed, nodes_blame, unknown_blame, field_blamed, field_read, fields_kept, record_done}
+use Rattle.wave_wasm.specs.Lists.{AllOf}
+use Rattle.wave_tree.specs.Standing.{StandsIn}
+use Rattle.wave_tree.proofs.ParamLemmas.{error_handed}
+use Rattle.wave_tree.proofs.Standing.{PairBelongs, at_in, all_in, number_at, type_at, made_in, caused_at, memory_at, refused_at, deeper, deeper_at, part_in, first_belongs, some_belongs, case_belongs, next_belongs, held_belongs, entries_belong}
 use Rattle.wave_tree.proofs.ast.Node.+reading.Goals as goal
 
 pub read-returns-in_err-as_number-in-S8-clause-answer : goal.read-returns-in_err-as_number-in-S8-clause-answer
@@ -328,37 +332,39 @@ read_map-returns-in_err-nodes-clause-answer g m c = λ t is distinct.
     (map_fault map.key (g.V.Type.WasmType.tree c.unwrap.result.1.now) c.args.src.now c.args.self.now t c.in_err-nodes.field-0.0 is.0 c.in_err-nodes.ensures)
 
 pub read_map-entries-init : goal.read_map-entries-init
-read_map-entries-init g m c = none_read g.V.WasmValue.tree g.V.WasmValue.is_of g.V.WasmValue.is_full c.args.src.now (g.V.Type.WasmType.tree c.unwrap.result.0.now) (g.V.Type.WasmType.tree c.unwrap.result.1.now) (node_pairs (children_of c.args.self.now)) c.in_ok-nodes.nodes c.new-entries.result.items c.in_ok-nodes.ensures.1 c.new-entries.ensures.items
+read_map-entries-init g m c =
+    let value : IsValueOf c.args.src.now c.args.self.now = search rules in
+    (none_read g.V.WasmValue.tree g.V.WasmValue.is_of g.V.WasmValue.is_full c.args.src.now (g.V.Type.WasmType.tree c.unwrap.result.0.now) (g.V.Type.WasmType.tree c.unwrap.result.1.now) (node_pairs (children_of c.args.self.now)) c.in_ok-nodes.nodes c.new-entries.result.items c.in_ok-nodes.ensures.1 c.new-entries.ensures.items, subst (AllOf (PairBelongs c.args.self.now)) (sym c.in_ok-nodes.ensures.1) (entries_belong c.args.src.now c.args.self.now value))
 
 pub read_map-read_key-requires : goal.read_map-read_key-requires
 read_map-read_key-requires g m c =
     let value : IsValueOf c.args.src.now c.args.self.now = search rules in
-    key_ready g.V.WasmValue.tree g.V.WasmValue.is_of g.V.WasmValue.is_full c.args.src.now (g.V.Type.WasmType.tree c.unwrap.result.0.now) (g.V.Type.WasmType.tree c.unwrap.result.1.now) c.args.self.now c.in_ok-nodes.nodes c.entries.nodes c.next.new.self (c.in-Some.key.now, c.in-Some.node.now) c.entries.entries.items value c.in_ok-nodes.ensures c.entries.invariant c.in-Some.ensures.steps
+    key_ready g.V.WasmValue.tree g.V.WasmValue.is_of g.V.WasmValue.is_full c.args.src.now (g.V.Type.WasmType.tree c.unwrap.result.0.now) (g.V.Type.WasmType.tree c.unwrap.result.1.now) c.args.self.now c.in_ok-nodes.nodes c.entries.nodes c.next.new.self (c.in-Some.key.now, c.in-Some.node.now) c.entries.entries.items value c.in_ok-nodes.ensures c.entries.invariant.0 c.in-Some.ensures.steps
 
 pub read_map-returns-in_err-key-clause-answer : goal.read_map-returns-in_err-key-clause-answer
 read_map-returns-in_err-key-clause-answer g m c = λ t is distinct.
     let map = (map_is g.V.Type.WasmType.tree (g.V.Type.WasmType.tree c.args.ty.now) c.map_key_value_types.result c.unwrap.result c.unwrap.ensures c.map_key_value_types.ensures) in
     handed g.V.WasmValue.tree g.V.WasmValue.is_of g.V.WasmValue.is_full (g.V.Type.WasmType.tree c.args.ty.now) t c.in_err-key.field-0.0 c.from_residual-in_err-key.result c.from_residual-in_err-key.ensures.1
-    (key_refused g.V.WasmValue.tree g.V.WasmValue.is_of g.V.WasmValue.is_full c.args.src.now (g.V.Type.WasmType.tree c.args.ty.now) (g.V.Type.WasmType.tree c.unwrap.result.0.now) (g.V.Type.WasmType.tree c.unwrap.result.1.now) c.args.self.now t c.in_ok-nodes.nodes c.entries.nodes c.next.new.self (c.in-Some.key.now, c.in-Some.node.now) c.entries.entries.items c.in_err-key.field-0.0 map is c.in_ok-nodes.ensures c.entries.invariant c.in-Some.ensures.steps g.met.V.WasmValue.full_parts c.in_err-key.ensures.answer)
+    (key_refused g.V.WasmValue.tree g.V.WasmValue.is_of g.V.WasmValue.is_full c.args.src.now (g.V.Type.WasmType.tree c.args.ty.now) (g.V.Type.WasmType.tree c.unwrap.result.0.now) (g.V.Type.WasmType.tree c.unwrap.result.1.now) c.args.self.now t c.in_ok-nodes.nodes c.entries.nodes c.next.new.self (c.in-Some.key.now, c.in-Some.node.now) c.entries.entries.items c.in_err-key.field-0.0 map is c.in_ok-nodes.ensures c.entries.invariant.0 c.in-Some.ensures.steps g.met.V.WasmValue.full_parts c.in_err-key.ensures.answer)
 
 pub read_map-read-requires : goal.read_map-read-requires
 read_map-read-requires g m c κs within =
     let value : IsValueOf c.args.src.now c.args.self.now = search rules in
-    (omega (arith, map_deep (g.V.Type.WasmType.tree c.args.ty.now) (g.V.Type.WasmType.tree c.unwrap.result.0.now) (g.V.Type.WasmType.tree c.unwrap.result.1.now) (map_is g.V.Type.WasmType.tree (g.V.Type.WasmType.tree c.args.ty.now) c.map_key_value_types.result c.unwrap.result c.unwrap.ensures c.map_key_value_types.ensures)), (within.0, (within.1, value_ready g.V.WasmValue.tree g.V.WasmValue.is_of g.V.WasmValue.is_full c.args.src.now (g.V.Type.WasmType.tree c.unwrap.result.0.now) (g.V.Type.WasmType.tree c.unwrap.result.1.now) c.args.self.now c.in_ok-nodes.nodes c.entries.nodes c.next.new.self (c.in-Some.key.now, c.in-Some.node.now) c.entries.entries.items value c.in_ok-nodes.ensures c.entries.invariant c.in-Some.ensures.steps)))
+    (omega (arith, map_deep (g.V.Type.WasmType.tree c.args.ty.now) (g.V.Type.WasmType.tree c.unwrap.result.0.now) (g.V.Type.WasmType.tree c.unwrap.result.1.now) (map_is g.V.Type.WasmType.tree (g.V.Type.WasmType.tree c.args.ty.now) c.map_key_value_types.result c.unwrap.result c.unwrap.ensures c.map_key_value_types.ensures)), (within.0, (within.1, value_ready g.V.WasmValue.tree g.V.WasmValue.is_of g.V.WasmValue.is_full c.args.src.now (g.V.Type.WasmType.tree c.unwrap.result.0.now) (g.V.Type.WasmType.tree c.unwrap.result.1.now) c.args.self.now c.in_ok-nodes.nodes c.entries.nodes c.next.new.self (c.in-Some.key.now, c.in-Some.node.now) c.entries.entries.items value c.in_ok-nodes.ensures c.entries.invariant.0 c.in-Some.ensures.steps)))
 
 pub read_map-returns-in_err-val-clause-answer : goal.read_map-returns-in_err-val-clause-answer
 read_map-returns-in_err-val-clause-answer g m c = λ t is distinct.
     let map = (map_is g.V.Type.WasmType.tree (g.V.Type.WasmType.tree c.args.ty.now) c.map_key_value_types.result c.unwrap.result c.unwrap.ensures c.map_key_value_types.ensures) in
     handed g.V.WasmValue.tree g.V.WasmValue.is_of g.V.WasmValue.is_full (g.V.Type.WasmType.tree c.args.ty.now) t c.in_err-val.field-0.0 c.from_residual-in_err-val.result c.from_residual-in_err-val.ensures.1
-    (value_refused g.V.WasmValue.tree g.V.WasmValue.is_of g.V.WasmValue.is_full c.args.src.now (g.V.Type.WasmType.tree c.args.ty.now) (g.V.Type.WasmType.tree c.unwrap.result.0.now) (g.V.Type.WasmType.tree c.unwrap.result.1.now) c.args.self.now t c.in_ok-nodes.nodes c.entries.nodes c.next.new.self (c.in-Some.key.now, c.in-Some.node.now) c.entries.entries.items c.in_err-val.field-0.0 map is c.in_ok-nodes.ensures c.entries.invariant c.in-Some.ensures.steps g.met.V.WasmValue.full_parts (λ u here. c.in_err-val.ensures.answer u here (map_distinct (g.V.Type.WasmType.tree c.args.ty.now) (g.V.Type.WasmType.tree c.unwrap.result.0.now) (g.V.Type.WasmType.tree c.unwrap.result.1.now) map distinct)))
+    (value_refused g.V.WasmValue.tree g.V.WasmValue.is_of g.V.WasmValue.is_full c.args.src.now (g.V.Type.WasmType.tree c.args.ty.now) (g.V.Type.WasmType.tree c.unwrap.result.0.now) (g.V.Type.WasmType.tree c.unwrap.result.1.now) c.args.self.now t c.in_ok-nodes.nodes c.entries.nodes c.next.new.self (c.in-Some.key.now, c.in-Some.node.now) c.entries.entries.items c.in_err-val.field-0.0 map is c.in_ok-nodes.ensures c.entries.invariant.0 c.in-Some.ensures.steps g.met.V.WasmValue.full_parts (λ u here. c.in_err-val.ensures.answer u here (map_distinct (g.V.Type.WasmType.tree c.args.ty.now) (g.V.Type.WasmType.tree c.unwrap.result.0.now) (g.V.Type.WasmType.tree c.unwrap.result.1.now) map distinct)))
 
 pub read_map-entries-preserved : goal.read_map-entries-preserved
 read_map-entries-preserved g m c =
-    next_read g.V.WasmValue.tree g.V.WasmValue.is_of g.V.WasmValue.is_full c.args.src.now (g.V.Type.WasmType.tree c.unwrap.result.0.now) (g.V.Type.WasmType.tree c.unwrap.result.1.now) (node_pairs (children_of c.args.self.now)) c.entries.nodes c.next.new.self (c.in-Some.key.now, c.in-Some.node.now) c.entries.entries.items c.keep.new.items.items c.in_ok-key.key c.in_ok-val.val c.entries.invariant c.in-Some.ensures.steps c.in_ok-key.ensures.answer c.in_ok-val.ensures.answer c.in_ok-keep.ensures.kept
+    (next_read g.V.WasmValue.tree g.V.WasmValue.is_of g.V.WasmValue.is_full c.args.src.now (g.V.Type.WasmType.tree c.unwrap.result.0.now) (g.V.Type.WasmType.tree c.unwrap.result.1.now) (node_pairs (children_of c.args.self.now)) c.entries.nodes c.next.new.self (c.in-Some.key.now, c.in-Some.node.now) c.entries.entries.items c.keep.new.items.items c.in_ok-key.key c.in_ok-val.val c.entries.invariant.0 c.in-Some.ensures.steps c.in_ok-key.ensures.answer c.in_ok-val.ensures.answer c.in_ok-keep.ensures.kept, (next_belongs c.args.self.now c.entries.nodes c.next.new.self (c.in-Some.key.now, c.in-Some.node.now) c.entries.invariant.1 c.in-Some.ensures.steps).1)
 
 pub read_map-returns-in-Ok-clause-answer : goal.read_map-returns-in-Ok-clause-answer
 read_map-returns-in-Ok-clause-answer g m c = λ t is distinct.
-    map_answered g.V.WasmValue.tree g.V.WasmValue.is_of g.V.WasmValue.is_full c.args.src.now (g.V.Type.WasmType.tree c.args.ty.now) (g.V.Type.WasmType.tree c.unwrap.result.0.now) (g.V.Type.WasmType.tree c.unwrap.result.1.now) c.args.self.now t c.in_ok-nodes.nodes c.entries.nodes c.entries.entries.items c.in-Ok.entries.items c.make_map.result c.made.result (map_is g.V.Type.WasmType.tree (g.V.Type.WasmType.tree c.args.ty.now) c.map_key_value_types.result c.unwrap.result c.unwrap.ensures c.map_key_value_types.ensures) is c.in_ok-nodes.ensures c.entries.invariant c.in_default.ensures.steps.0 distinct g.met.V.WasmValue.of_fits c.in-Ok.ensures c.make_map.ensures.made c.make_map.ensures.full c.made.ensures
+    map_answered g.V.WasmValue.tree g.V.WasmValue.is_of g.V.WasmValue.is_full c.args.src.now (g.V.Type.WasmType.tree c.args.ty.now) (g.V.Type.WasmType.tree c.unwrap.result.0.now) (g.V.Type.WasmType.tree c.unwrap.result.1.now) c.args.self.now t c.in_ok-nodes.nodes c.entries.nodes c.entries.entries.items c.in-Ok.entries.items c.make_map.result c.made.result (map_is g.V.Type.WasmType.tree (g.V.Type.WasmType.tree c.args.ty.now) c.map_key_value_types.result c.unwrap.result c.unwrap.ensures c.map_key_value_types.ensures) is c.in_ok-nodes.ensures c.entries.invariant.0 c.in_default.ensures.steps.0 distinct g.met.V.WasmValue.of_fits c.in-Ok.ensures c.make_map.ensures.made c.make_map.ensures.full c.made.ensures
 
 pub read_record-returns-in_err-nodes-clause-answer : goal.read_record-returns-in_err-nodes-clause-answer
 read_record-returns-in_err-nodes-clause-answer g m c = λ t is distinct.
@@ -410,3 +416,287 @@ read_record-returns-clause-answer g m c = λ t is distinct.
     let is_record : RecordType (g.V.Type.WasmType.tree c.args.ty.now) (shown_fields g.V.Type.WasmType.tree c.in-Ok.types.items) = record_is (g.V.Type.WasmType.tree c.args.ty.now) (shown_fields g.V.Type.WasmType.tree c.in-Ok.types.items) kind c.in-Ok.ensures in
     let read = c.loop-i.invariant.read (map shown_field c.in_ok-nodes.field-0-0.items) c.in_ok-nodes.ensures.held (entry_list (record_nodes c.args.src.now c.args.self.now t is c.in_ok-nodes.ensures.given.is_set).given) (given_fields c.args.src.now c.args.self.now t (map shown_field c.in_ok-nodes.field-0-0.items) is c.in_ok-nodes.ensures.given) (fields_distinct (g.V.Type.WasmType.tree c.args.ty.now) (shown_fields g.V.Type.WasmType.tree c.in-Ok.types.items) is_record distinct) in
     record_done g.V.WasmValue.tree g.V.WasmValue.is_of g.V.WasmValue.is_full (g.V.Type.WasmType.tree c.args.ty.now) (shown_fields g.V.Type.WasmType.tree c.in-Ok.types.items) c.args.src.now c.args.self.now t (map shown_field c.in_ok-nodes.field-0-0.items) c.loop-i.i c.in_ok-nodes.nodes c.loop-i.nodes c.loop-i.fields.items c.make_record.result c.made.result is_record distinct is c.in_ok-nodes.ensures.given c.in_ok-nodes.ensures.held (omega (arith, as_parts g.V.Type.WasmType.tree c.in-Ok.types.items)) c.loop-i.invariant.removed (c.is_empty.ensures.0 c.if-not-is_empty.false) read c.make_record.ensures.made c.make_record.ensures.full c.made.ensures
+
+pub read-returns-in_err-as_number-in-S8-clause-within : goal.read-returns-in_err-as_number-in-S8-clause-within
+read-returns-in_err-as_number-in-S8-clause-within g m c =
+    let value : IsValueOf c.args.src.now c.args.self.now = search rules in
+    error_handed (StandsIn c.args.self.now) c.from_residual.result c.in_err-as_number-in-S8.field-0.0 c.from_residual.ensures.1 (at_in c.args.src.now c.args.self.now c.in_err-as_number-in-S8.field-0.0 (inl value) (number_at type.s8 (λ (z : ℤ). z) c.args.src.now c.args.self.now c.in_err-as_number-in-S8.field-0.0 c.in_err-as_number-in-S8.ensures))
+
+pub read-returns-in_ok-as_number-in-S8-clause-within : goal.read-returns-in_ok-as_number-in-S8-clause-within
+read-returns-in_ok-as_number-in-S8-clause-within g m c =
+    let value : IsValueOf c.args.src.now c.args.self.now = search rules in
+    made_in c.args.src.now c.args.self.now c.make_s8.result c.made.result (inl value) c.made.ensures
+
+pub read-returns-in_err-as_number-in-S16-clause-within : goal.read-returns-in_err-as_number-in-S16-clause-within
+read-returns-in_err-as_number-in-S16-clause-within g m c =
+    let value : IsValueOf c.args.src.now c.args.self.now = search rules in
+    error_handed (StandsIn c.args.self.now) c.from_residual-in_err-as_number-in-S16.result c.in_err-as_number-in-S16.field-0.0 c.from_residual-in_err-as_number-in-S16.ensures.1 (at_in c.args.src.now c.args.self.now c.in_err-as_number-in-S16.field-0.0 (inl value) (number_at type.s16 (λ (z : ℤ). z) c.args.src.now c.args.self.now c.in_err-as_number-in-S16.field-0.0 c.in_err-as_number-in-S16.ensures))
+
+pub read-returns-in_ok-as_number-in-S16-clause-within : goal.read-returns-in_ok-as_number-in-S16-clause-within
+read-returns-in_ok-as_number-in-S16-clause-within g m c =
+    let value : IsValueOf c.args.src.now c.args.self.now = search rules in
+    made_in c.args.src.now c.args.self.now c.make_s16.result c.made-in-S16.result (inl value) c.made-in-S16.ensures
+
+pub read-returns-in_err-as_number-in-S32-clause-within : goal.read-returns-in_err-as_number-in-S32-clause-within
+read-returns-in_err-as_number-in-S32-clause-within g m c =
+    let value : IsValueOf c.args.src.now c.args.self.now = search rules in
+    error_handed (StandsIn c.args.self.now) c.from_residual-in_err-as_number-in-S32.result c.in_err-as_number-in-S32.field-0.0 c.from_residual-in_err-as_number-in-S32.ensures.1 (at_in c.args.src.now c.args.self.now c.in_err-as_number-in-S32.field-0.0 (inl value) (number_at type.s32 (λ (z : ℤ). z) c.args.src.now c.args.self.now c.in_err-as_number-in-S32.field-0.0 c.in_err-as_number-in-S32.ensures))
+
+pub read-returns-in_ok-as_number-in-S32-clause-within : goal.read-returns-in_ok-as_number-in-S32-clause-within
+read-returns-in_ok-as_number-in-S32-clause-within g m c =
+    let value : IsValueOf c.args.src.now c.args.self.now = search rules in
+    made_in c.args.src.now c.args.self.now c.make_s32.result c.made-in-S32.result (inl value) c.made-in-S32.ensures
+
+pub read-returns-in_err-as_number-in-S64-clause-within : goal.read-returns-in_err-as_number-in-S64-clause-within
+read-returns-in_err-as_number-in-S64-clause-within g m c =
+    let value : IsValueOf c.args.src.now c.args.self.now = search rules in
+    error_handed (StandsIn c.args.self.now) c.from_residual-in_err-as_number-in-S64.result c.in_err-as_number-in-S64.field-0.0 c.from_residual-in_err-as_number-in-S64.ensures.1 (at_in c.args.src.now c.args.self.now c.in_err-as_number-in-S64.field-0.0 (inl value) (number_at type.s64 (λ (z : ℤ). z) c.args.src.now c.args.self.now c.in_err-as_number-in-S64.field-0.0 c.in_err-as_number-in-S64.ensures))
+
+pub read-returns-in_ok-as_number-in-S64-clause-within : goal.read-returns-in_ok-as_number-in-S64-clause-within
+read-returns-in_ok-as_number-in-S64-clause-within g m c =
+    let value : IsValueOf c.args.src.now c.args.self.now = search rules in
+    made_in c.args.src.now c.args.self.now c.make_s64.result c.made-in-S64.result (inl value) c.made-in-S64.ensures
+
+pub read-returns-in_err-as_number-in-U8-clause-within : goal.read-returns-in_err-as_number-in-U8-clause-within
+read-returns-in_err-as_number-in-U8-clause-within g m c =
+    let value : IsValueOf c.args.src.now c.args.self.now = search rules in
+    error_handed (StandsIn c.args.self.now) c.from_residual-in_err-as_number-in-U8.result c.in_err-as_number-in-U8.field-0.0 c.from_residual-in_err-as_number-in-U8.ensures.1 (at_in c.args.src.now c.args.self.now c.in_err-as_number-in-U8.field-0.0 (inl value) (number_at type.u8 pos c.args.src.now c.args.self.now c.in_err-as_number-in-U8.field-0.0 c.in_err-as_number-in-U8.ensures))
+
+pub read-returns-in_ok-as_number-in-U8-clause-within : goal.read-returns-in_ok-as_number-in-U8-clause-within
+read-returns-in_ok-as_number-in-U8-clause-within g m c =
+    let value : IsValueOf c.args.src.now c.args.self.now = search rules in
+    made_in c.args.src.now c.args.self.now c.make_u8.result c.made-in-U8.result (inl value) c.made-in-U8.ensures
+
+pub read-returns-in_err-as_number-in-U16-clause-within : goal.read-returns-in_err-as_number-in-U16-clause-within
+read-returns-in_err-as_number-in-U16-clause-within g m c =
+    let value : IsValueOf c.args.src.now c.args.self.now = search rules in
+    error_handed (StandsIn c.args.self.now) c.from_residual-in_err-as_number-in-U16.result c.in_err-as_number-in-U16.field-0.0 c.from_residual-in_err-as_number-in-U16.ensures.1 (at_in c.args.src.now c.args.self.now c.in_err-as_number-in-U16.field-0.0 (inl value) (number_at type.u16 pos c.args.src.now c.args.self.now c.in_err-as_number-in-U16.field-0.0 c.in_err-as_number-in-U16.ensures))
+
+pub read-returns-in_ok-as_number-in-U16-clause-within : goal.read-returns-in_ok-as_number-in-U16-clause-within
+read-returns-in_ok-as_number-in-U16-clause-within g m c =
+    let value : IsValueOf c.args.src.now c.args.self.now = search rules in
+    made_in c.args.src.now c.args.self.now c.make_u16.result c.made-in-U16.result (inl value) c.made-in-U16.ensures
+
+pub read-returns-in_err-as_number-in-U32-clause-within : goal.read-returns-in_err-as_number-in-U32-clause-within
+read-returns-in_err-as_number-in-U32-clause-within g m c =
+    let value : IsValueOf c.args.src.now c.args.self.now = search rules in
+    error_handed (StandsIn c.args.self.now) c.from_residual-in_err-as_number-in-U32.result c.in_err-as_number-in-U32.field-0.0 c.from_residual-in_err-as_number-in-U32.ensures.1 (at_in c.args.src.now c.args.self.now c.in_err-as_number-in-U32.field-0.0 (inl value) (number_at type.u32 pos c.args.src.now c.args.self.now c.in_err-as_number-in-U32.field-0.0 c.in_err-as_number-in-U32.ensures))
+
+pub read-returns-in_ok-as_number-in-U32-clause-within : goal.read-returns-in_ok-as_number-in-U32-clause-within
+read-returns-in_ok-as_number-in-U32-clause-within g m c =
+    let value : IsValueOf c.args.src.now c.args.self.now = search rules in
+    made_in c.args.src.now c.args.self.now c.make_u32.result c.made-in-U32.result (inl value) c.made-in-U32.ensures
+
+pub read-returns-in_err-as_number-in-U64-clause-within : goal.read-returns-in_err-as_number-in-U64-clause-within
+read-returns-in_err-as_number-in-U64-clause-within g m c =
+    let value : IsValueOf c.args.src.now c.args.self.now = search rules in
+    error_handed (StandsIn c.args.self.now) c.from_residual-in_err-as_number-in-U64.result c.in_err-as_number-in-U64.field-0.0 c.from_residual-in_err-as_number-in-U64.ensures.1 (at_in c.args.src.now c.args.self.now c.in_err-as_number-in-U64.field-0.0 (inl value) (number_at type.u64 pos c.args.src.now c.args.self.now c.in_err-as_number-in-U64.field-0.0 c.in_err-as_number-in-U64.ensures))
+
+pub read-returns-in_ok-as_number-in-U64-clause-within : goal.read-returns-in_ok-as_number-in-U64-clause-within
+read-returns-in_ok-as_number-in-U64-clause-within g m c =
+    let value : IsValueOf c.args.src.now c.args.self.now = search rules in
+    made_in c.args.src.now c.args.self.now c.make_u64.result c.made-in-U64.result (inl value) c.made-in-U64.ensures
+
+pub read-returns-in_default-clause-within : goal.read-returns-in_default-clause-within
+read-returns-in_default-clause-within g m c =
+    let value : IsValueOf c.args.src.now c.args.self.now = search rules in
+    at_in c.args.src.now c.args.self.now c.unsupported.result (inl value) (caused_at _ c.args.self.now c.unsupported.result c.unsupported.ensures.cause c.unsupported.ensures.span)
+
+pub read-returns-in-Bool-clause-within : goal.read-returns-in-Bool-clause-within
+read-returns-in-Bool-clause-within g m c =
+    let value : IsValueOf c.args.src.now c.args.self.now = search rules in
+    all_in c.args.src.now c.args.self.now c.read_bool.result (inl value) c.read_bool.ensures.within
+
+pub read_list-returns-in_err-nodes-clause-within : goal.read_list-returns-in_err-nodes-clause-within
+read_list-returns-in_err-nodes-clause-within g m c =
+    let value : IsValueOf c.args.src.now c.args.self.now = search rules in
+    error_handed (StandsIn c.args.self.now) c.from_residual.result c.in_err-nodes.field-0.0 c.from_residual.ensures.1 (at_in c.args.src.now c.args.self.now c.in_err-nodes.field-0.0 (inl value) (type_at c.args.self.now c.in_err-nodes.field-0.0 c.in_err-nodes.ensures.1))
+
+pub read_list-returns-in_err-item-clause-within : goal.read_list-returns-in_err-item-clause-within
+read_list-returns-in_err-item-clause-within g m c =
+    let value : IsValueOf c.args.src.now c.args.self.now = search rules in
+    error_handed (StandsIn c.args.self.now) c.from_residual-in_err-item.result c.in_err-item.field-0.0 c.from_residual-in_err-item.ensures.1 (deeper_at c.args.src.now c.args.self.now c.in_ok-nodes.nodes.now c.loop-node.node-index c.node-item.result c.in_err-item.field-0.0 value c.in_ok-nodes.ensures.1 c.loop-node-test.true c.node-item.is c.in_err-item.ensures.within)
+
+pub read_list-returns-in_err-keep-clause-within : goal.read_list-returns-in_err-keep-clause-within
+read_list-returns-in_err-keep-clause-within g m c =
+    let value : IsValueOf c.args.src.now c.args.self.now = search rules in
+    error_handed (StandsIn c.args.self.now) c.from_residual-in_err-keep.result c.in_err-keep.field-0.0 c.from_residual-in_err-keep.ensures.1 (at_in c.args.src.now c.args.self.now c.in_err-keep.field-0.0 (inl value) (memory_at (place_of c.args.self.now) c.in_err-keep.field-0.0 c.in_err-keep.ensures.refused c.in_err-keep.ensures.place))
+
+pub read_list-returns-clause-within : goal.read_list-returns-clause-within
+read_list-returns-clause-within g m c =
+    let value : IsValueOf c.args.src.now c.args.self.now = search rules in
+    made_in c.args.src.now c.args.self.now c.make_list.result c.made.result (inl value) c.made.ensures
+
+pub read_option-returns-in-Ok-None-clause-within : goal.read_option-returns-in-Ok-None-clause-within
+read_option-returns-in-Ok-None-clause-within g m c =
+    let value : IsValueOf c.args.src.now c.args.self.now = search rules in
+    made_in c.args.src.now c.args.self.now c.make_option.result c.made.result (inl value) c.made.ensures
+
+pub read_option-returns-in_err-val-in-Ok-Some-clause-within : goal.read_option-returns-in_err-val-in-Ok-Some-clause-within
+read_option-returns-in_err-val-in-Ok-Some-clause-within g m c =
+    let value : IsValueOf c.args.src.now c.args.self.now = search rules in
+    error_handed (StandsIn c.args.self.now) c.from_residual.result c.in_err-val-in-Ok-Some.field-0.0 c.from_residual.ensures.1 (deeper c.args.self.now c.in-Ok-Some.node.now c.in_err-val-in-Ok-Some.field-0.0 (some_belongs c.args.src.now c.args.self.now c.in-Ok-Some.node value (rw c.in-Ok-Some.field-0-is at c.in-Ok-Some.ensures)) c.in_err-val-in-Ok-Some.ensures.within)
+
+pub read_option-returns-in_ok-val-in-Ok-Some-clause-within : goal.read_option-returns-in_ok-val-in-Ok-Some-clause-within
+read_option-returns-in_ok-val-in-Ok-Some-clause-within g m c =
+    let value : IsValueOf c.args.src.now c.args.self.now = search rules in
+    made_in c.args.src.now c.args.self.now c.make_option-in-Ok-Some.result c.made-in-Ok-Some.result (inl value) c.made-in-Ok-Some.ensures
+
+pub read_option-returns-then-not-is_flat-clause-within : goal.read_option-returns-then-not-is_flat-clause-within
+read_option-returns-then-not-is_flat-clause-within g m c =
+    let value : IsValueOf c.args.src.now c.args.self.now = search rules in
+    at_in c.args.src.now c.args.self.now c.in-Err.error (inl value) (type_at c.args.self.now c.in-Err.error c.in-Err.ensures.2)
+
+pub read_option-returns-in_err-flat-in-Err-clause-within : goal.read_option-returns-in_err-flat-in-Err-clause-within
+read_option-returns-in_err-flat-in-Err-clause-within g m c =
+    error_handed (StandsIn c.args.self.now) c.from_residual-in_err-flat-in-Err.result c.in_err-flat-in-Err.field-0.0 c.from_residual-in_err-flat-in-Err.ensures.1 (c.in_err-flat-in-Err.ensures.within)
+
+pub read_option-returns-in_ok-flat-in-Err-clause-within : goal.read_option-returns-in_ok-flat-in-Err-clause-within
+read_option-returns-in_ok-flat-in-Err-clause-within g m c =
+    let value : IsValueOf c.args.src.now c.args.self.now = search rules in
+    made_in c.args.src.now c.args.self.now c.make_option-in-Err.result c.made-in-Err.result (inl value) c.made-in-Err.ensures
+
+pub read_result-returns-in_err-val-in-Ok-Ok-clause-within : goal.read_result-returns-in_err-val-in-Ok-Ok-clause-within
+read_result-returns-in_err-val-in-Ok-Ok-clause-within g m c =
+    let value : IsValueOf c.args.src.now c.args.self.now = search rules in
+    let given = rw c.in-Ok-Ok.field-0-is at c.in-Ok-Ok.ensures in
+    error_handed (StandsIn c.args.self.now) c.from_residual.result c.in_err-val-in-Ok-Ok.field-0.0 c.from_residual.ensures.1 (part_in c.args.src.now c.args.self.now (shown_node c.in-Ok-Ok.node) c.in_err-val-in-Ok-Ok.field-0.0 (inl value) (first_belongs c.args.src.now c.args.self.now (shown_node c.in-Ok-Ok.node) value given.1) c.in_err-val-in-Ok-Ok.ensures.within)
+
+pub read_result-returns-in_err-val-in-Ok-Err-clause-within : goal.read_result-returns-in_err-val-in-Ok-Err-clause-within
+read_result-returns-in_err-val-in-Ok-Err-clause-within g m c =
+    let value : IsValueOf c.args.src.now c.args.self.now = search rules in
+    let given = rw c.in-Ok-Err.field-0-is at c.in-Ok-Err.ensures in
+    error_handed (StandsIn c.args.self.now) c.from_residual-in_err-val-in-Ok-Err.result c.in_err-val-in-Ok-Err.field-0.0 c.from_residual-in_err-val-in-Ok-Err.ensures.1 (part_in c.args.src.now c.args.self.now (shown_node c.in-Ok-Err.node) c.in_err-val-in-Ok-Err.field-0.0 (inl value) (first_belongs c.args.src.now c.args.self.now (shown_node c.in-Ok-Err.node) value given.1) c.in_err-val-in-Ok-Err.ensures.within)
+
+pub read_result-returns-in_ok-val-in-Ok-Ok-clause-within : goal.read_result-returns-in_ok-val-in-Ok-Ok-clause-within
+read_result-returns-in_ok-val-in-Ok-Ok-clause-within g m c =
+    let value : IsValueOf c.args.src.now c.args.self.now = search rules in
+    made_in c.args.src.now c.args.self.now c.make_result.result c.made.result (inl value) c.made.ensures
+
+pub read_result-returns-in_ok-val-in-Ok-Err-clause-within : goal.read_result-returns-in_ok-val-in-Ok-Err-clause-within
+read_result-returns-in_ok-val-in-Ok-Err-clause-within g m c =
+    let value : IsValueOf c.args.src.now c.args.self.now = search rules in
+    made_in c.args.src.now c.args.self.now c.make_result-in-Ok-Err.result c.made-in-Ok-Err.result (inl value) c.made-in-Ok-Err.ensures
+
+pub read_result-returns-in-None-clause-within : goal.read_result-returns-in-None-clause-within
+read_result-returns-in-None-clause-within g m c =
+    let value : IsValueOf c.args.src.now c.args.self.now = search rules in
+    at_in c.args.src.now c.args.self.now c.in-Err.error (inl value) (type_at c.args.self.now c.in-Err.error c.in-Err.ensures.2)
+
+pub read_result-returns-in_err-flat-in-Err-clause-within : goal.read_result-returns-in_err-flat-in-Err-clause-within
+read_result-returns-in_err-flat-in-Err-clause-within g m c =
+    error_handed (StandsIn c.args.self.now) c.from_residual-in_err-flat-in-Err.result c.in_err-flat-in-Err.field-0.0 c.from_residual-in_err-flat-in-Err.ensures.1 (c.in_err-flat-in-Err.ensures.within)
+
+pub read_result-returns-in_ok-flat-in-Err-clause-within : goal.read_result-returns-in_ok-flat-in-Err-clause-within
+read_result-returns-in_ok-flat-in-Err-clause-within g m c =
+    let value : IsValueOf c.args.src.now c.args.self.now = search rules in
+    made_in c.args.src.now c.args.self.now c.make_result-in-Err.result c.made-in-Err.result (inl value) c.made-in-Err.ensures
+
+pub read_tuple-returns-in_err-nodes-clause-within : goal.read_tuple-returns-in_err-nodes-clause-within
+read_tuple-returns-in_err-nodes-clause-within g m c =
+    let value : IsValueOf c.args.src.now c.args.self.now = search rules in
+    error_handed (StandsIn c.args.self.now) c.from_residual.result c.in_err-nodes.field-0.0 c.from_residual.ensures.1 (at_in c.args.src.now c.args.self.now c.in_err-nodes.field-0.0 (inl value) (type_at c.args.self.now c.in_err-nodes.field-0.0 c.in_err-nodes.ensures.1))
+
+pub read_tuple-returns-then-nodes-len-clause-within : goal.read_tuple-returns-then-nodes-len-clause-within
+read_tuple-returns-then-nodes-len-clause-within g m c =
+    let value : IsValueOf c.args.src.now c.args.self.now = search rules in
+    at_in c.args.src.now c.args.self.now c.wrong_number.result (inl value) ((c.wrong_number.ensures.1, λ was. (_, c.wrong_number.ensures.0)))
+
+pub read_tuple-returns-in_err-item-clause-within : goal.read_tuple-returns-in_err-item-clause-within
+read_tuple-returns-in_err-item-clause-within g m c =
+    let value : IsValueOf c.args.src.now c.args.self.now = search rules in
+    error_handed (StandsIn c.args.self.now) c.from_residual-in_err-item.result c.in_err-item.field-0.0 c.from_residual-in_err-item.ensures.1 (deeper_at c.args.src.now c.args.self.now c.in_ok-nodes.nodes.now c.loop-i.i c.index-nodes-i.result c.in_err-item.field-0.0 value c.in_ok-nodes.ensures.1 c.loop-i-test.true c.index-nodes-i.is c.in_err-item.ensures.within)
+
+pub read_tuple-returns-in_err-keep-clause-within : goal.read_tuple-returns-in_err-keep-clause-within
+read_tuple-returns-in_err-keep-clause-within g m c =
+    let value : IsValueOf c.args.src.now c.args.self.now = search rules in
+    error_handed (StandsIn c.args.self.now) c.from_residual-in_err-keep.result c.in_err-keep.field-0.0 c.from_residual-in_err-keep.ensures.1 (at_in c.args.src.now c.args.self.now c.in_err-keep.field-0.0 (inl value) (memory_at (place_of c.args.self.now) c.in_err-keep.field-0.0 c.in_err-keep.ensures.refused c.in_err-keep.ensures.place))
+
+pub read_tuple-returns-clause-within : goal.read_tuple-returns-clause-within
+read_tuple-returns-clause-within g m c =
+    let value : IsValueOf c.args.src.now c.args.self.now = search rules in
+    made_in c.args.src.now c.args.self.now c.make_tuple.result c.made.result (inl value) c.made.ensures
+
+pub read_tuple-returns-in-Err-clause-within : goal.read_tuple-returns-in-Err-clause-within
+read_tuple-returns-in-Err-clause-within g m c =
+    let value : IsValueOf c.args.src.now c.args.self.now = search rules in
+    at_in c.args.src.now c.args.self.now c.out_of_memory.result (inl value) (memory_at (place_of c.args.self.now) c.out_of_memory.result c.out_of_memory.ensures.kind c.out_of_memory.ensures.span)
+
+pub read_variant-returns-in-Err-clause-within : goal.read_variant-returns-in-Err-clause-within
+read_variant-returns-in-Err-clause-within g m c =
+    let value : IsValueOf c.args.src.now c.args.self.now = search rules in
+    at_in c.args.src.now c.args.self.now c.out_of_memory.result (inl value) (memory_at (place_of c.args.self.now) c.out_of_memory.result c.out_of_memory.ensures.kind c.out_of_memory.ensures.span)
+
+pub read_variant-returns-in_err-name-clause-within : goal.read_variant-returns-in_err-name-clause-within
+read_variant-returns-in_err-name-clause-within g m c =
+    let value : IsValueOf c.args.src.now c.args.self.now = search rules in
+    error_handed (StandsIn c.args.self.now) c.from_residual.result c.in_err-name.field-0.0 c.from_residual.ensures.1 (at_in c.args.src.now c.args.self.now c.in_err-name.field-0.0 (inl value) (type_at c.args.self.now c.in_err-name.field-0.0 c.in_err-name.ensures.2))
+
+pub read_variant-returns-in_err-val-in-Some-clause-within : goal.read_variant-returns-in_err-val-in-Some-clause-within
+read_variant-returns-in_err-val-in-Some-clause-within g m c =
+    let value : IsValueOf c.args.src.now c.args.self.now = search rules in
+    error_handed (StandsIn c.args.self.now) c.from_residual-in_err-val-in-Some.result c.in_err-val-in-Some.field-0.0 c.from_residual-in_err-val-in-Some.ensures.1 (part_in c.args.src.now c.args.self.now (shown_node c.in_ok-name.node) c.in_err-val-in-Some.field-0.0 (inl value) (case_belongs c.args.src.now c.args.self.now c.in_ok-name.name c.in_ok-name.node value c.in_ok-name.ensures) c.in_err-val-in-Some.ensures.within)
+
+pub read_variant-returns-in-Some-clause-within : goal.read_variant-returns-in-Some-clause-within
+read_variant-returns-in-Some-clause-within g m c =
+    let value : IsValueOf c.args.src.now c.args.self.now = search rules in
+    made_in c.args.src.now c.args.self.now c.make_variant.result c.made.result (inl value) c.made.ensures
+
+pub read_variant-returns-clause-within : goal.read_variant-returns-clause-within
+read_variant-returns-clause-within g m c =
+    let value : IsValueOf c.args.src.now c.args.self.now = search rules in
+    at_in c.args.src.now c.args.self.now c.unknown_case.result (inl value) (caused_at _ c.args.self.now c.unknown_case.result c.unknown_case.ensures.cause c.unknown_case.ensures.span)
+
+pub read_map-returns-in_err-nodes-clause-within : goal.read_map-returns-in_err-nodes-clause-within
+read_map-returns-in_err-nodes-clause-within g m c =
+    let value : IsValueOf c.args.src.now c.args.self.now = search rules in
+    error_handed (StandsIn c.args.self.now) c.from_residual.result c.in_err-nodes.field-0.0 c.from_residual.ensures.1 (at_in c.args.src.now c.args.self.now c.in_err-nodes.field-0.0 (inl value) (type_at c.args.self.now c.in_err-nodes.field-0.0 c.in_err-nodes.ensures.2))
+
+pub read_map-returns-in_err-key-clause-within : goal.read_map-returns-in_err-key-clause-within
+read_map-returns-in_err-key-clause-within g m c =
+    let next = next_belongs c.args.self.now c.entries.nodes c.next.new.self (c.in-Some.key.now, c.in-Some.node.now) c.entries.invariant.1 c.in-Some.ensures.steps in
+    error_handed (StandsIn c.args.self.now) c.from_residual-in_err-key.result c.in_err-key.field-0.0 c.from_residual-in_err-key.ensures.1 (deeper c.args.self.now c.in-Some.key.now c.in_err-key.field-0.0 next.0.0 c.in_err-key.ensures.within)
+
+pub read_map-returns-in_err-val-clause-within : goal.read_map-returns-in_err-val-clause-within
+read_map-returns-in_err-val-clause-within g m c =
+    let next = next_belongs c.args.self.now c.entries.nodes c.next.new.self (c.in-Some.key.now, c.in-Some.node.now) c.entries.invariant.1 c.in-Some.ensures.steps in
+    error_handed (StandsIn c.args.self.now) c.from_residual-in_err-val.result c.in_err-val.field-0.0 c.from_residual-in_err-val.ensures.1 (deeper c.args.self.now c.in-Some.node.now c.in_err-val.field-0.0 next.0.1 c.in_err-val.ensures.within)
+
+pub read_map-returns-in_err-keep-clause-within : goal.read_map-returns-in_err-keep-clause-within
+read_map-returns-in_err-keep-clause-within g m c =
+    let value : IsValueOf c.args.src.now c.args.self.now = search rules in
+    error_handed (StandsIn c.args.self.now) c.from_residual-in_err-keep.result c.in_err-keep.field-0.0 c.from_residual-in_err-keep.ensures.1 (at_in c.args.src.now c.args.self.now c.in_err-keep.field-0.0 (inl value) (memory_at (place_of c.args.self.now) c.in_err-keep.field-0.0 c.in_err-keep.ensures.refused c.in_err-keep.ensures.place))
+
+pub read_map-returns-in-Ok-clause-within : goal.read_map-returns-in-Ok-clause-within
+read_map-returns-in-Ok-clause-within g m c =
+    let value : IsValueOf c.args.src.now c.args.self.now = search rules in
+    made_in c.args.src.now c.args.self.now c.make_map.result c.made.result (inl value) c.made.ensures
+
+pub read_map-returns-in-Err-clause-within : goal.read_map-returns-in-Err-clause-within
+read_map-returns-in-Err-clause-within g m c =
+    let value : IsValueOf c.args.src.now c.args.self.now = search rules in
+    at_in c.args.src.now c.args.self.now c.out_of_memory.result (inl value) (memory_at (place_of c.args.self.now) c.out_of_memory.result c.out_of_memory.ensures.kind c.out_of_memory.ensures.span)
+
+pub read_record-returns-in-Err-clause-within : goal.read_record-returns-in-Err-clause-within
+read_record-returns-in-Err-clause-within g m c =
+    let value : IsValueOf c.args.src.now c.args.self.now = search rules in
+    at_in c.args.src.now c.args.self.now c.out_of_memory.result (inl value) (memory_at (place_of c.args.self.now) c.out_of_memory.result c.out_of_memory.ensures.kind c.out_of_memory.ensures.span)
+
+pub read_record-returns-in_err-nodes-clause-within : goal.read_record-returns-in_err-nodes-clause-within
+read_record-returns-in_err-nodes-clause-within g m c =
+    error_handed (StandsIn c.args.self.now) c.from_residual.result c.in_err-nodes.field-0.0 c.from_residual.ensures.1 (c.in_err-nodes.ensures.within)
+
+pub read_record-returns-in_err-val-clause-within : goal.read_record-returns-in_err-val-clause-within
+read_record-returns-in_err-val-clause-within g m c =
+    let value : IsValueOf c.args.src.now c.args.self.now = search rules in
+    error_handed (StandsIn c.args.self.now) c.from_residual-in_err-val.result c.in_err-val.field-0.0 c.from_residual-in_err-val.ensures.1 (part_in c.args.src.now c.args.self.now (shown_node c.remove-node.result) c.in_err-val.field-0.0 (inl value) (held_belongs c.args.src.now c.args.self.now (names_of (take c.loop-i.i (shown_fields g.V.Type.WasmType.tree c.in-Ok.types.items))) c.in_ok-nodes.nodes c.loop-i.nodes (map shown_field c.in_ok-nodes.field-0-0.items) c.index.result.now.0.now c.remove-node.result value c.in_ok-nodes.ensures.given c.in_ok-nodes.ensures.held c.loop-i.invariant.removed c.remove-node.ensures.value) c.in_err-val.ensures.within)
+
+pub read_record-returns-then-not-is_empty-clause-within : goal.read_record-returns-then-not-is_empty-clause-within
+read_record-returns-then-not-is_empty-clause-within g m c =
+    let value : IsValueOf c.args.src.now c.args.self.now = search rules in
+    at_in c.args.src.now c.args.self.now c.error.result (inl value) (refused_at _ c.args.self.now c.error.result (λ was. cc) c.error.ensures)
+
+pub read_record-returns-clause-within : goal.read_record-returns-clause-within
+read_record-returns-clause-within g m c =
+    let value : IsValueOf c.args.src.now c.args.self.now = search rules in
+    made_in c.args.src.now c.args.self.now c.make_record.result c.made.result (inl value) c.made.ensures
