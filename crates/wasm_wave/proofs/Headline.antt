@@ -14,7 +14,6 @@ use Rattle.wave_wasm.specs.Merge.{merged, merged_maybe, merged_values, merged_fi
 use Rattle.wave_wasm.specs.Output.{IsGrounded}
 use Rattle.wave_wasm.specs.declared.writer.WriterError.{WriterError}
 use Rattle.wave_wasm.specs.declared.writer.WriterError.TheVariants as refusal
-use Rattle.wave_tree.specs.AnswerLaws.{LiesInText}
 use Rattle.wave_tree.specs.Means.{Means}
 use Rattle.wave_tree.specs.Token.{Token, CutsInto}
 use Rattle.wave_tree.specs.Reads.{Reads}
@@ -137,11 +136,6 @@ only_none T s e h = λ full memory.
 pub all_none : {S : Type 0} (T : TypeTree) (s : List ℕ) (r : Result S ParserError) → IfErr r (RefusesText IsFull T s) → IfErr r (RefusesOnly T s)
 all_none T s (Ok v) h = tt
 all_none T s (Err e) h = only_none T s e h
-
--- makers refuse for want of memory alone where the names are distinct, so every refusal lies in the text there
-pub all_within : {S : Type 0} (T : TypeTree) (s : List ℕ) (r : Result S ParserError) → IfErr r (λ e. HasDistinctNames T → IsFull T → LiesInText s e.span) → IfErr r (λ e. HasDistinctNames T → LiesInText s e.span)
-all_within T s (Ok v) h = tt
-all_within T s (Err e) h = λ distinct. h distinct distinct
 
 -- what is read is merged
 merged_so : (T : TypeTree) (s : List ℕ) (v : TypedValue) → IsReadAs T s v → IsMergedAt T v

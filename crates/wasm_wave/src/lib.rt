@@ -26,8 +26,8 @@ pub use wave_tree::{ast, parser, untyped};
 pub use wave_wasm::{wasm, writer};
 
 /// The value that the whole text means at the type, of that type; a text that means none is
-/// refused, and so is any text for want of memory. All this where the names of the type are
-/// distinct: there what is read is merged, a refusal's span lies in the text, and no tokens spell
+/// refused, and so is any text for want of memory. A refusal's span lies in the text. The rest is
+/// said where the names of the type are distinct: there what is read is merged, and no tokens spell
 /// two values nor begin the spelling of another; where the names are labels too, what is read
 /// within some levels has a canonical text of at most twice as many.
 pub fn from_str(alloc: Global, ty: &Type, s: &str) -> Result<Value, ParserError>
@@ -35,7 +35,7 @@ pub fn from_str(alloc: Global, ty: &Type, s: &str) -> Result<Value, ParserError>
     ensures merged { IfOk result (IsMergedAt ty.now) }
     ensures refused { IfErr result (RefusesOnly ty.now s.now) }
     ensures fault { IfErr result (RefusesText IsFull ty.now s.now) }
-    ensures within { IfErr result (λ e. HasDistinctNames ty.now → LiesInText s.now e.span) }
+    ensures within { IfErr result (λ e. LiesInText s.now e.span) }
     ensures one { HasDistinctNames ty.now → OneValue ty.now }
     ensures reading { HasDistinctNames ty.now → OneReading ty.now }
     ensures twice { Good ty.now → ReadsBackWithinTwice ty.now }

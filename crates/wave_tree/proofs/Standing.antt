@@ -16,7 +16,9 @@ use Rattle.wave_tree.specs.Token as token
 use Rattle.wave_tree.specs.Placed.{Placed, at, Shape, one, tuple, list, empty_braces, no_fields, entries, flags, label, none, some, ok, err, no_placed, a_placed, PlacedEntries, entry, placed_trees, slice, span_of, shape_of, LiesIn, SpellsEach, SpellsParts, SpellsAll, SpellsEntries, SpellsFlags}
 use Rattle.wave_tree.specs.NodeTree.{NodeTree, NodeTrees, node, no_nodes, node_and, node_list, type_of, place_of, children_of}
 use Rattle.wave_tree.specs.Nodes.{placed_of, pairs_of, flags_of, flag_of, key_of, with_both, IsNodeOf, IsParsedFrom}
-use Rattle.wave_tree.specs.Typed.{IsValueOf, IsMade, IsCaused}
+use Rattle.wave_wasm.specs.Types.{TypeTree}
+use Rattle.wave_wasm.specs.Values.{Value, Leaf}
+use Rattle.wave_tree.specs.Typed.{IsValueOf, IsMade, IsCaused, IsLeafMade}
 use Rattle.wave_tree.specs.AnswerLaws.{LiesInText}
 use Rattle.wave_tree.specs.Answers.{node_pairs, RefusedAs, first_of, shown_node, GivesNumber, GivesChar, GivesOption, GivesVariant}
 use Rattle.std.specs.BTreeMap.{BTreeMap}
@@ -77,8 +79,7 @@ entries_between source (n ∷ m ∷ ns) (k ∷ v ∷ cs) es from to h e s =
     let behind = spelled.2.0 in
     let value = ordered source v spelled.3 in (
       subst (λ (p : Range ℕ). LiesIn p from to) (key_place source n k b.0.0 b.0.1 (inside source n k h.0) b.2) spelled.0,
-      between source m v from to h.1.0 (omega arith, spelled.2.1),
-      all_wider from (span_of v).end to ns (omega arith) (entries_between source ns cs b.1 (span_of v).end to h.1.1 b.3 spelled.4),
+      (between source m v from to h.1.0 (omega arith, spelled.2.1), all_wider from (span_of v).end to ns (omega arith) (entries_between source ns cs b.1 (span_of v).end to h.1.1 b.3 spelled.4)),
     )
 
 flags_between : (source : List ℕ) (p : Range ℕ) (ns : List NodeTree) (cs : List Placed) (fs : List (Range ℕ × List ℕ)) → AreParsed source ns cs → flags_of cs ≡ Some fs → SpellsFlags source p fs → AllOf (Between p.start p.end) ns
@@ -105,8 +106,7 @@ case_between source p q w ns cs c t e flag h first o behind =
     let next = behind.0 in
     subst (AllOf (Between p.start p.end)) (sym k.2) (
       subst (λ (r : Range ℕ). LiesIn r p.start p.end) (key_place source k.0 c q (token.label w) (inside source k.0 c k.3) (flag_key c q w flag)) first,
-      between source k.1 t p.start p.end k.4 (omega arith, behind.1),
-      tt,
+      (between source k.1 t p.start p.end k.4 (omega arith, behind.1), tt),
     )
 
 shape_between : (source : List ℕ) (ty : NodeType) (p : Range ℕ) (text : List ℕ) (cs : List Placed) (s : Shape) (ns : List NodeTree) → From ty p text cs s → SpellsParts source p s → AreParsed source ns cs → AllOf (Between p.start p.end) ns
@@ -278,8 +278,8 @@ pub char_at : (source : List ℕ) (n : NodeTree) (e : ParserError) → GivesChar
 char_at source n e (inl h) = refused_at why.InvalidType n e (λ k. cc) h.1
 char_at source n e (inr h) = refused_at why.InvalidEscape n e (λ k. cc) h.2
 
-pub type_at : (n : NodeTree) (e : ParserError) → RefusedAs why.InvalidType n e → IsAtNode n e
-type_at n e h = refused_at why.InvalidType n e (λ k. cc) h
+pub form_at : (n : NodeTree) (e : ParserError) → RefusedAs why.InvalidType n e → IsAtNode n e
+form_at n e h = refused_at why.InvalidType n e (λ k. cc) h
 
 text_fits : (source : List ℕ) (p : Range ℕ) → p.start ≤ p.end → p.start + length (slice source p) ≤ p.end
 text_fits source p o = let a = length-take (p.end - p.start) (drop p.start source) in omega arith
@@ -313,7 +313,7 @@ string_fault_in source n e h (inr (ty, x, f, own, bad, tells)) =
     }
 
 pub string_in : (source : List ℕ) (n : NodeTree) (e : ParserError) → IsParsedFrom source n → GivesString source n (Err e) → StandsIn n e
-string_in source n e h (inl told) = at_in source n e h (type_at n e told.2)
+string_in source n e h (inl told) = at_in source n e h (form_at n e told.2)
 string_in source n e h (inr (inl told)) = string_fault_in source n e h told
 string_in source n e h (inr (inr told)) = at_in source n e h (refused_at why.OutOfMemory n e (λ k. cc) told.0)
 
@@ -381,3 +381,22 @@ all_at_text source p (Err e) h told = subst (LiesInText source) (sym told.0) (h.
 pub all_at_cause : {X : Type 0} (p : Range ℕ) (r : Result X ParserError) → IfErr r (IsAtPlace p) → IfErr r (λ e. e.kind ≡ why.WasmValueError → IsAtPlace p e)
 all_at_cause p (Ok x) told = tt
 all_at_cause p (Err e) told = λ was. told
+
+-- ---- leaves and keys
+
+-- what was answered for a leaf stands at the node
+pub leaf_at : {V : Type 0} (tree : V → Value) (of : V → TypeTree → Type 0) (Full : TypeTree → Type 0) (leaf : Leaf) (n : NodeTree) (r : Result V ParserError) → IsLeafMade tree of Full leaf n r → IfErr r (IsAtNode n)
+leaf_at tree of Full leaf n r h = made_at n h.0 r h.3
+
+-- a refusal that says the same of a key, or want of memory
+pub told_in : {V : Type 0} (source : List ℕ) (n : NodeTree) (r : Result V ParserError) (e f : ParserError) → IsParsedFrom source n → r ≡ Err e → IfErr r (StandsIn n) → (f.kind ≡ why.OutOfMemory) × (f.span ≡ place_of n) ⊎ (refusal_of f ≡ refusal_of e) × (f.span ≡ e.span) → StandsIn n f
+told_in source n r e f parsed is h (inl memory) = at_in source n f parsed (memory_at (place_of n) f memory.0 memory.1)
+told_in {V} source n r e f parsed is h (inr (same, place)) =
+    let before : StandsIn n e = subst (λ (s : Result V ParserError). IfErr s (StandsIn n)) is h in
+    let kinds : e.kind ≡ f.kind = sym (ap (λ (x : Refusal). x.kind) same) in
+    record {
+      lies = subst (LiesInNode n) (sym place) before.lies;
+      caused = λ was.
+          let (k, part, told) = before.caused (kinds ∙ was) in
+          (k, part, (place ∙ told.0, λ now. let (c, tells) = told.1 (kinds ∙ now) in (c, same ∙ tells)));
+    }

@@ -1,13 +1,13 @@
 use Rattle.wave_tree.proofs.Canon.{reads_back_within_twice}
 use Rattle.wave_tree.proofs.Reading.{one_reading}
-use Rattle.wasm_wave.proofs.Headline.{all_none, all_within, all_merged, one_value_of}
+use Rattle.wasm_wave.proofs.Headline.{all_none, all_merged, one_value_of}
 use Rattle.wasm_wave.proofs.from_str.Goals as goal
 
 pub returns-clause-refused : goal.returns-clause-refused
 returns-clause-refused c = all_none c.args.ty.now c.args.s.now _ c.from_str.ensures.refused
 
 pub returns-clause-within : goal.returns-clause-within
-returns-clause-within c = all_within c.args.ty.now c.args.s.now _ c.from_str.ensures.within
+returns-clause-within c = c.from_str.ensures.within
 
 pub returns-clause-one : goal.returns-clause-one
 returns-clause-one c = one_value_of c.args.ty.now

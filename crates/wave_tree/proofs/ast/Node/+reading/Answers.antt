@@ -44,7 +44,7 @@ use Rattle.wave_tree.proofs.RecordReads.{RecordType, record_is, part_at, as_part
 use Rattle.wave_wasm.specs.Lists.{AllOf}
 use Rattle.wave_tree.specs.Standing.{StandsIn}
 use Rattle.wave_tree.proofs.ParamLemmas.{error_handed}
-use Rattle.wave_tree.proofs.Standing.{PairBelongs, at_in, all_in, number_at, type_at, made_in, caused_at, memory_at, refused_at, deeper, deeper_at, part_in, first_belongs, some_belongs, case_belongs, next_belongs, held_belongs, entries_belong}
+use Rattle.wave_tree.proofs.Standing.{PairBelongs, at_in, all_in, number_at, form_at, made_in, caused_at, memory_at, refused_at, deeper, deeper_at, part_in, first_belongs, some_belongs, case_belongs, next_belongs, held_belongs, entries_belong}
 use Rattle.wave_tree.proofs.ast.Node.+reading.Goals as goal
 
 pub read-returns-in_err-as_number-in-S8-clause-answer : goal.read-returns-in_err-as_number-in-S8-clause-answer
@@ -510,7 +510,7 @@ read-returns-in-Bool-clause-within g m c =
 pub read_list-returns-in_err-nodes-clause-within : goal.read_list-returns-in_err-nodes-clause-within
 read_list-returns-in_err-nodes-clause-within g m c =
     let value : IsValueOf c.args.src.now c.args.self.now = search rules in
-    error_handed (StandsIn c.args.self.now) c.from_residual.result c.in_err-nodes.field-0.0 c.from_residual.ensures.1 (at_in c.args.src.now c.args.self.now c.in_err-nodes.field-0.0 (inl value) (type_at c.args.self.now c.in_err-nodes.field-0.0 c.in_err-nodes.ensures.1))
+    error_handed (StandsIn c.args.self.now) c.from_residual.result c.in_err-nodes.field-0.0 c.from_residual.ensures.1 (at_in c.args.src.now c.args.self.now c.in_err-nodes.field-0.0 (inl value) (form_at c.args.self.now c.in_err-nodes.field-0.0 c.in_err-nodes.ensures.1))
 
 pub read_list-returns-in_err-item-clause-within : goal.read_list-returns-in_err-item-clause-within
 read_list-returns-in_err-item-clause-within g m c =
@@ -545,7 +545,7 @@ read_option-returns-in_ok-val-in-Ok-Some-clause-within g m c =
 pub read_option-returns-then-not-is_flat-clause-within : goal.read_option-returns-then-not-is_flat-clause-within
 read_option-returns-then-not-is_flat-clause-within g m c =
     let value : IsValueOf c.args.src.now c.args.self.now = search rules in
-    at_in c.args.src.now c.args.self.now c.in-Err.error (inl value) (type_at c.args.self.now c.in-Err.error c.in-Err.ensures.2)
+    at_in c.args.src.now c.args.self.now c.in-Err.error (inl value) (form_at c.args.self.now c.in-Err.error c.in-Err.ensures.2)
 
 pub read_option-returns-in_err-flat-in-Err-clause-within : goal.read_option-returns-in_err-flat-in-Err-clause-within
 read_option-returns-in_err-flat-in-Err-clause-within g m c =
@@ -581,7 +581,7 @@ read_result-returns-in_ok-val-in-Ok-Err-clause-within g m c =
 pub read_result-returns-in-None-clause-within : goal.read_result-returns-in-None-clause-within
 read_result-returns-in-None-clause-within g m c =
     let value : IsValueOf c.args.src.now c.args.self.now = search rules in
-    at_in c.args.src.now c.args.self.now c.in-Err.error (inl value) (type_at c.args.self.now c.in-Err.error c.in-Err.ensures.2)
+    at_in c.args.src.now c.args.self.now c.in-Err.error (inl value) (form_at c.args.self.now c.in-Err.error c.in-Err.ensures.2)
 
 pub read_result-returns-in_err-flat-in-Err-clause-within : goal.read_result-returns-in_err-flat-in-Err-clause-within
 read_result-returns-in_err-flat-in-Err-clause-within g m c =
@@ -595,7 +595,7 @@ read_result-returns-in_ok-flat-in-Err-clause-within g m c =
 pub read_tuple-returns-in_err-nodes-clause-within : goal.read_tuple-returns-in_err-nodes-clause-within
 read_tuple-returns-in_err-nodes-clause-within g m c =
     let value : IsValueOf c.args.src.now c.args.self.now = search rules in
-    error_handed (StandsIn c.args.self.now) c.from_residual.result c.in_err-nodes.field-0.0 c.from_residual.ensures.1 (at_in c.args.src.now c.args.self.now c.in_err-nodes.field-0.0 (inl value) (type_at c.args.self.now c.in_err-nodes.field-0.0 c.in_err-nodes.ensures.1))
+    error_handed (StandsIn c.args.self.now) c.from_residual.result c.in_err-nodes.field-0.0 c.from_residual.ensures.1 (at_in c.args.src.now c.args.self.now c.in_err-nodes.field-0.0 (inl value) (form_at c.args.self.now c.in_err-nodes.field-0.0 c.in_err-nodes.ensures.1))
 
 pub read_tuple-returns-then-nodes-len-clause-within : goal.read_tuple-returns-then-nodes-len-clause-within
 read_tuple-returns-then-nodes-len-clause-within g m c =
@@ -630,7 +630,7 @@ read_variant-returns-in-Err-clause-within g m c =
 pub read_variant-returns-in_err-name-clause-within : goal.read_variant-returns-in_err-name-clause-within
 read_variant-returns-in_err-name-clause-within g m c =
     let value : IsValueOf c.args.src.now c.args.self.now = search rules in
-    error_handed (StandsIn c.args.self.now) c.from_residual.result c.in_err-name.field-0.0 c.from_residual.ensures.1 (at_in c.args.src.now c.args.self.now c.in_err-name.field-0.0 (inl value) (type_at c.args.self.now c.in_err-name.field-0.0 c.in_err-name.ensures.2))
+    error_handed (StandsIn c.args.self.now) c.from_residual.result c.in_err-name.field-0.0 c.from_residual.ensures.1 (at_in c.args.src.now c.args.self.now c.in_err-name.field-0.0 (inl value) (form_at c.args.self.now c.in_err-name.field-0.0 c.in_err-name.ensures.2))
 
 pub read_variant-returns-in_err-val-in-Some-clause-within : goal.read_variant-returns-in_err-val-in-Some-clause-within
 read_variant-returns-in_err-val-in-Some-clause-within g m c =
@@ -650,7 +650,7 @@ read_variant-returns-clause-within g m c =
 pub read_map-returns-in_err-nodes-clause-within : goal.read_map-returns-in_err-nodes-clause-within
 read_map-returns-in_err-nodes-clause-within g m c =
     let value : IsValueOf c.args.src.now c.args.self.now = search rules in
-    error_handed (StandsIn c.args.self.now) c.from_residual.result c.in_err-nodes.field-0.0 c.from_residual.ensures.1 (at_in c.args.src.now c.args.self.now c.in_err-nodes.field-0.0 (inl value) (type_at c.args.self.now c.in_err-nodes.field-0.0 c.in_err-nodes.ensures.2))
+    error_handed (StandsIn c.args.self.now) c.from_residual.result c.in_err-nodes.field-0.0 c.from_residual.ensures.1 (at_in c.args.src.now c.args.self.now c.in_err-nodes.field-0.0 (inl value) (form_at c.args.self.now c.in_err-nodes.field-0.0 c.in_err-nodes.ensures.2))
 
 pub read_map-returns-in_err-key-clause-within : goal.read_map-returns-in_err-key-clause-within
 read_map-returns-in_err-key-clause-within g m c =
@@ -700,3 +700,8 @@ pub read_record-returns-clause-within : goal.read_record-returns-clause-within
 read_record-returns-clause-within g m c =
     let value : IsValueOf c.args.src.now c.args.self.now = search rules in
     made_in c.args.src.now c.args.self.now c.make_record.result c.made.result (inl value) c.made.ensures
+
+pub read_record-returns-then-is_err-clause-within : goal.read_record-returns-then-is_err-clause-within
+read_record-returns-then-is_err-clause-within g m c =
+    let value : IsValueOf c.args.src.now c.args.self.now = search rules in
+    at_in c.args.src.now c.args.self.now c.out_of_memory-then-is_err.result (inl value) (memory_at (place_of c.args.self.now) c.out_of_memory-then-is_err.result c.out_of_memory-then-is_err.ensures.kind c.out_of_memory-then-is_err.ensures.span)

@@ -7,6 +7,10 @@ use Rattle.wave_wasm.specs.Values as value
 use Rattle.wave_tree.proofs.TypeKinds.{simple_is}
 use Rattle.wave_tree.proofs.Keys.{bool_key, no_bool_key, number_key, no_number_key, number_key_kept, key_made, key_faulty, no_unread_key}
 use Rattle.wave_tree.proofs.TextKeys.{char_key, no_char_key}
+use Rattle.std.proofs.Common.{inr}
+use Rattle.wave_tree.specs.Standing.{StandsIn}
+use Rattle.wave_tree.proofs.ParamLemmas.{error_handed}
+use Rattle.wave_tree.proofs.Standing.{at_in, made_in, form_at, number_at, char_at, caused_at}
 use Rattle.wave_tree.proofs.ast.Node.read_plain_key.Goals as goal
 
 pub returns-in_err-as_bool_key-in-Bool-clause-answer : goal.returns-in_err-as_bool_key-in-Bool-clause-answer
@@ -96,3 +100,51 @@ returns-in_err-as_char-in-Char-clause-answer g c = λ K p key is token.
 pub returns-in_ok-as_char-in-Char-clause-answer : goal.returns-in_ok-as_char-in-Char-clause-answer
 returns-in_ok-as_char-in-Char-clause-answer g c = λ K p key is token.
     key_made g.V.WasmValue.tree g.V.WasmValue.is_of g.V.WasmValue.is_full (g.V.Type.WasmType.tree c.args.ty.now) K type.char p key c.args.self.now (value.char c.in_ok-as_char-in-Char.field-0) c.make_char.result c.made-in-Char.result is (simple_is type.char (g.V.Type.WasmType.tree c.args.ty.now) c.in-Char.ensures) refl (char_key c.args.src.now c.args.self.now p key c.in_ok-as_char-in-Char.field-0 token c.in_ok-as_char-in-Char.ensures) c.make_char.ensures.made c.make_char.ensures.full c.made-in-Char.ensures
+
+pub returns-in_err-as_bool_key-in-Bool-clause-within : goal.returns-in_err-as_bool_key-in-Bool-clause-within
+returns-in_err-as_bool_key-in-Bool-clause-within g c =
+    error_handed (StandsIn c.args.self.now) c.from_residual.result c.in_err-as_bool_key-in-Bool.field-0.0 c.from_residual.ensures.1 (at_in c.args.src.now c.args.self.now c.in_err-as_bool_key-in-Bool.field-0.0 (inr c.requires) (form_at c.args.self.now c.in_err-as_bool_key-in-Bool.field-0.0 c.in_err-as_bool_key-in-Bool.ensures.1))
+
+pub returns-in_err-as_number-in-S8-clause-within : goal.returns-in_err-as_number-in-S8-clause-within
+returns-in_err-as_number-in-S8-clause-within g c =
+    error_handed (StandsIn c.args.self.now) c.from_residual-in_err-as_number-in-S8.result c.in_err-as_number-in-S8.field-0.0 c.from_residual-in_err-as_number-in-S8.ensures.1 (at_in c.args.src.now c.args.self.now c.in_err-as_number-in-S8.field-0.0 (inr c.requires) (number_at type.s8 (λ (z : ℤ). z) c.args.src.now c.args.self.now c.in_err-as_number-in-S8.field-0.0 c.in_err-as_number-in-S8.ensures))
+
+pub returns-in_err-as_number-in-S16-clause-within : goal.returns-in_err-as_number-in-S16-clause-within
+returns-in_err-as_number-in-S16-clause-within g c =
+    error_handed (StandsIn c.args.self.now) c.from_residual-in_err-as_number-in-S16.result c.in_err-as_number-in-S16.field-0.0 c.from_residual-in_err-as_number-in-S16.ensures.1 (at_in c.args.src.now c.args.self.now c.in_err-as_number-in-S16.field-0.0 (inr c.requires) (number_at type.s16 (λ (z : ℤ). z) c.args.src.now c.args.self.now c.in_err-as_number-in-S16.field-0.0 c.in_err-as_number-in-S16.ensures))
+
+pub returns-in_err-as_number-in-S32-clause-within : goal.returns-in_err-as_number-in-S32-clause-within
+returns-in_err-as_number-in-S32-clause-within g c =
+    error_handed (StandsIn c.args.self.now) c.from_residual-in_err-as_number-in-S32.result c.in_err-as_number-in-S32.field-0.0 c.from_residual-in_err-as_number-in-S32.ensures.1 (at_in c.args.src.now c.args.self.now c.in_err-as_number-in-S32.field-0.0 (inr c.requires) (number_at type.s32 (λ (z : ℤ). z) c.args.src.now c.args.self.now c.in_err-as_number-in-S32.field-0.0 c.in_err-as_number-in-S32.ensures))
+
+pub returns-in_err-as_number-in-S64-clause-within : goal.returns-in_err-as_number-in-S64-clause-within
+returns-in_err-as_number-in-S64-clause-within g c =
+    error_handed (StandsIn c.args.self.now) c.from_residual-in_err-as_number-in-S64.result c.in_err-as_number-in-S64.field-0.0 c.from_residual-in_err-as_number-in-S64.ensures.1 (at_in c.args.src.now c.args.self.now c.in_err-as_number-in-S64.field-0.0 (inr c.requires) (number_at type.s64 (λ (z : ℤ). z) c.args.src.now c.args.self.now c.in_err-as_number-in-S64.field-0.0 c.in_err-as_number-in-S64.ensures))
+
+pub returns-in_err-as_number-in-U8-clause-within : goal.returns-in_err-as_number-in-U8-clause-within
+returns-in_err-as_number-in-U8-clause-within g c =
+    error_handed (StandsIn c.args.self.now) c.from_residual-in_err-as_number-in-U8.result c.in_err-as_number-in-U8.field-0.0 c.from_residual-in_err-as_number-in-U8.ensures.1 (at_in c.args.src.now c.args.self.now c.in_err-as_number-in-U8.field-0.0 (inr c.requires) (number_at type.u8 pos c.args.src.now c.args.self.now c.in_err-as_number-in-U8.field-0.0 c.in_err-as_number-in-U8.ensures))
+
+pub returns-in_err-as_number-in-U16-clause-within : goal.returns-in_err-as_number-in-U16-clause-within
+returns-in_err-as_number-in-U16-clause-within g c =
+    error_handed (StandsIn c.args.self.now) c.from_residual-in_err-as_number-in-U16.result c.in_err-as_number-in-U16.field-0.0 c.from_residual-in_err-as_number-in-U16.ensures.1 (at_in c.args.src.now c.args.self.now c.in_err-as_number-in-U16.field-0.0 (inr c.requires) (number_at type.u16 pos c.args.src.now c.args.self.now c.in_err-as_number-in-U16.field-0.0 c.in_err-as_number-in-U16.ensures))
+
+pub returns-in_err-as_number-in-U32-clause-within : goal.returns-in_err-as_number-in-U32-clause-within
+returns-in_err-as_number-in-U32-clause-within g c =
+    error_handed (StandsIn c.args.self.now) c.from_residual-in_err-as_number-in-U32.result c.in_err-as_number-in-U32.field-0.0 c.from_residual-in_err-as_number-in-U32.ensures.1 (at_in c.args.src.now c.args.self.now c.in_err-as_number-in-U32.field-0.0 (inr c.requires) (number_at type.u32 pos c.args.src.now c.args.self.now c.in_err-as_number-in-U32.field-0.0 c.in_err-as_number-in-U32.ensures))
+
+pub returns-in_err-as_number-in-U64-clause-within : goal.returns-in_err-as_number-in-U64-clause-within
+returns-in_err-as_number-in-U64-clause-within g c =
+    error_handed (StandsIn c.args.self.now) c.from_residual-in_err-as_number-in-U64.result c.in_err-as_number-in-U64.field-0.0 c.from_residual-in_err-as_number-in-U64.ensures.1 (at_in c.args.src.now c.args.self.now c.in_err-as_number-in-U64.field-0.0 (inr c.requires) (number_at type.u64 pos c.args.src.now c.args.self.now c.in_err-as_number-in-U64.field-0.0 c.in_err-as_number-in-U64.ensures))
+
+pub returns-in_err-as_char-in-Char-clause-within : goal.returns-in_err-as_char-in-Char-clause-within
+returns-in_err-as_char-in-Char-clause-within g c =
+    error_handed (StandsIn c.args.self.now) c.from_residual-in_err-as_char-in-Char.result c.in_err-as_char-in-Char.field-0.0 c.from_residual-in_err-as_char-in-Char.ensures.1 (at_in c.args.src.now c.args.self.now c.in_err-as_char-in-Char.field-0.0 (inr c.requires) (char_at c.args.src.now c.args.self.now c.in_err-as_char-in-Char.field-0.0 c.in_err-as_char-in-Char.ensures))
+
+pub returns-in_ok-as_bool_key-in-Bool-clause-within : goal.returns-in_ok-as_bool_key-in-Bool-clause-within
+returns-in_ok-as_bool_key-in-Bool-clause-within g c =
+    made_in c.args.src.now c.args.self.now c.make_bool.result c.made.result (inr c.requires) c.made.ensures
+
+pub returns-in_default-clause-within : goal.returns-in_default-clause-within
+returns-in_default-clause-within g c =
+    at_in c.args.src.now c.args.self.now c.unsupported.result (inr c.requires) (caused_at _ c.args.self.now c.unsupported.result c.unsupported.ensures.cause c.unsupported.ensures.span)

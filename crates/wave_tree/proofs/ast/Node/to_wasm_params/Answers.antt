@@ -12,7 +12,7 @@ use Rattle.wave_lex.specs.declared.error.ParserErrorKind.TheVariants as because
 use Rattle.wave_tree.specs.NodeTree.{place_of}
 use Rattle.wave_tree.specs.AnswerLaws.{LiesInText}
 use Rattle.wave_tree.specs.Standing.{IsAtPlace, IsCausedIn}
-use Rattle.wave_tree.proofs.Standing.{at_in, at_in_text, type_at, memory_at, node_in_text, deeper_at, close_lies}
+use Rattle.wave_tree.proofs.Standing.{at_in, at_in_text, form_at, memory_at, node_in_text, deeper_at, close_lies}
 use Rattle.wave_tree.proofs.ast.Node.to_wasm_params.Goals as goal
 
 pub returns-then-i-types-clause-refused : goal.returns-then-i-types-clause-refused
@@ -116,11 +116,11 @@ returns-clause-values g c = λ distinct t is.
 
 pub returns-in_err-nodes-clause-within : goal.returns-in_err-nodes-clause-within
 returns-in_err-nodes-clause-within g c =
-    error_handed (λ (x : ParserError). LiesInText c.args.src.now x.span) c.from_residual.result c.in_err-nodes.field-0.0 c.from_residual.ensures.1 (at_in_text c.args.src.now c.args.self.now c.in_err-nodes.field-0.0 (inl c.requires) (type_at c.args.self.now c.in_err-nodes.field-0.0 c.in_err-nodes.ensures.1))
+    error_handed (λ (x : ParserError). LiesInText c.args.src.now x.span) c.from_residual.result c.in_err-nodes.field-0.0 c.from_residual.ensures.1 (at_in_text c.args.src.now c.args.self.now c.in_err-nodes.field-0.0 (inl c.requires) (form_at c.args.self.now c.in_err-nodes.field-0.0 c.in_err-nodes.ensures.1))
 
 pub returns-in_err-nodes-clause-caused : goal.returns-in_err-nodes-clause-caused
 returns-in_err-nodes-clause-caused g c =
-    error_handed (λ (x : ParserError). x.kind ≡ because.WasmValueError → IsCausedIn c.args.self.now x) c.from_residual.result c.in_err-nodes.field-0.0 c.from_residual.ensures.1 ((at_in c.args.src.now c.args.self.now c.in_err-nodes.field-0.0 (inl c.requires) (type_at c.args.self.now c.in_err-nodes.field-0.0 c.in_err-nodes.ensures.1)).caused)
+    error_handed (λ (x : ParserError). x.kind ≡ because.WasmValueError → IsCausedIn c.args.self.now x) c.from_residual.result c.in_err-nodes.field-0.0 c.from_residual.ensures.1 ((at_in c.args.src.now c.args.self.now c.in_err-nodes.field-0.0 (inl c.requires) (form_at c.args.self.now c.in_err-nodes.field-0.0 c.in_err-nodes.ensures.1)).caused)
 
 pub returns-then-i-types-clause-within : goal.returns-then-i-types-clause-within
 returns-then-i-types-clause-within g c =

@@ -35,7 +35,7 @@ pub returns-then-not-is_memory-clause-within : goal.returns-then-not-is_memory-c
 returns-then-not-is_memory-clause-within c =
     let new = c.parse_items.new.self.place in
     let e = c.in-Err.error in
-    let apart = λ m. cc (sym c.if-not-is_memory.true ∙ c.is_memory.ensures.1 (c.kind.ensures ∙ m)) in
+    let apart : e.kind ≢ because.OutOfMemory = λ m. cc (sym c.if-not-is_memory.true ∙ c.is_memory.ensures.1 (c.kind.ensures ∙ m)) in
     tuple_lies e c.args.self.now.place new (inr (
       c.expect.new.self.place,
       c.in_ok-expect.ensures.takes,
@@ -43,8 +43,8 @@ returns-then-not-is_memory-clause-within c =
       subst (λ (z : Place). IsRefused e 101 due.first_item (due.tuple ∷ []) z new) c.next_is.ensures.stays (c.in-Err.ensures.led 101 [] refl apart),
     )) c.here-place.ensures.inside
 
-pub returns-in-Err-clause-within : goal.returns-in-Err-clause-within
-returns-in-Err-clause-within c = memory_lies c.go_back.result c.args.self.now.place.lexer c.go_back.new.self.place c.here-place.ensures.inside (c.go_back.ensures.back ∙ c.here-place.ensures.place) c.go_back.ensures.refusal.stands
+pub returns-else-not-is_memory-clause-within : goal.returns-else-not-is_memory-clause-within
+returns-else-not-is_memory-clause-within c = memory_lies c.go_back.result c.args.self.now.place.lexer c.go_back.new.self.place c.here-place.ensures.inside (c.go_back.ensures.back ∙ c.here-place.ensures.place) c.go_back.ensures.refusal.stands
 
 pub returns-in_err-expect-clause-within : goal.returns-in_err-expect-clause-within
 returns-in_err-expect-clause-within c =

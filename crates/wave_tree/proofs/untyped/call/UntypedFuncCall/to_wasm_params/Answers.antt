@@ -1,4 +1,4 @@
-use Rattle.std.proofs.Common.{Option, IfErr, sym, subst}
+use Rattle.std.proofs.Common.{◌≡◌, Option, IfErr, sym, subst}
 use Rattle.std.specs.Cow.{cow_str_bytes}
 use Rattle.wave_lex.specs.declared.error.ParserErrorKind.TheVariants.{WasmValueError}
 use Rattle.wave_tree.specs.NodeTree.{NodeTree}
