@@ -18,8 +18,8 @@ use Rattle.wasm_wave.specs.TypedValue.{TypedValue, IsAt}
 use Rattle.wasm_wave.specs.Built.{IsFull}
 use Rattle.wasm_wave.specs.ValueView.{payload_tree, first_names}
 use Rattle.wasm_wave.specs.Taken.{Made, RefusesParts, RefusesPayload}
-use Rattle.wasm_wave.specs.TakenCases.{IsFirstCase, RefusesVariant, TakesFlags, RefusesFlags, MadeMap, EntriesOwn, TakesMap}
-use Rattle.wasm_wave.proofs.Lawful.{lawful, no_refusal, payload_memory}
+use Rattle.wasm_wave.specs.TakenCases.{IsFirstCase, RefusesVariant, TakesFlags, RefusesFlags, MadeMap, entries_stated, map_stated}
+use Rattle.wasm_wave.proofs.Lawful.{IsAsStated, lawful, no_refusal, payload_memory}
 
 -- ---- variants
 
@@ -50,26 +50,26 @@ has_case (c ∷ cs) name P (inl h) none = none.0 h.0
 has_case (c ∷ cs) name P (inr h) none = has_case cs name P h.1 none.1
 
 -- what a refusal says of the payload holds of the first case
-at_first : (cs : List (List ℕ × Option TypeTree)) (name : List ℕ) (P Q : Option TypeTree) (p : Option TypedValue) (e : WasmValueError) → IsFirstCase cs name P → PayloadIsOf (λ v T. IsAt T v) P p → IsFirstCase cs name Q → RefusesPayload name Q p e → IsMemory e
-at_first cs name P Q p e first h other r = payload_memory name P p e h (subst (λ Z. RefusesPayload name Z p e) (one_first cs name P Q first other) r)
+at_first : (words : TypedValue → List ℕ) (cs : List (List ℕ × Option TypeTree)) (name : List ℕ) (P Q : Option TypeTree) (p : Option TypedValue) (e : WasmValueError) → IsFirstCase cs name P → PayloadIsOf (λ v T. IsAt T v) P p → IsFirstCase cs name Q → RefusesPayload words name Q p e → IsMemory e
+at_first words cs name P Q p e first h other r = payload_memory words name P p e h (subst (λ Z. RefusesPayload words name Z p e) (one_first cs name P Q first other) r)
 
-case_refused : (cs : Cases) (name : List ℕ) (P : Option TypeTree) (p : Option TypedValue) (e : WasmValueError) → IsFirstCase (case_list cs) name P → PayloadIsOf (λ v T. IsAt T v) P p → RefusesVariant (type.variant cs) name p e → IsMemory e
-case_refused cs name P p (error.WrongTypeKind k t) first h r = absurd (r.0 refl)
-case_refused cs name P p (error.UnknownCase n) first h r = absurd (has_case (case_list cs) name P first r.2)
-case_refused cs name P p (error.Memory e) first h r = tt
-case_refused cs name P p (error.MissingPayload n) first h (kind, Q, other, r) = at_first (case_list cs) name P Q p (error.MissingPayload n) first h other r
-case_refused cs name P p (error.UnexpectedPayload n) first h (kind, Q, other, r) = at_first (case_list cs) name P Q p (error.UnexpectedPayload n) first h other r
-case_refused cs name P p (error.WrongValueType t v) first h (kind, Q, other, r) = at_first (case_list cs) name P Q p (error.WrongValueType t v) first h other r
-case_refused cs name P p _ first h (kind, Q, other, r) = absurd r
+case_refused : (words : TypedValue → List ℕ) (cs : Cases) (name : List ℕ) (P : Option TypeTree) (p : Option TypedValue) (e : WasmValueError) → IsFirstCase (case_list cs) name P → PayloadIsOf (λ v T. IsAt T v) P p → RefusesVariant words (type.variant cs) name p e → IsMemory e
+case_refused words cs name P p (error.WrongTypeKind k t) first h r = absurd (r.0 refl)
+case_refused words cs name P p (error.UnknownCase n) first h r = absurd (has_case (case_list cs) name P first r.2)
+case_refused words cs name P p (error.Memory e) first h r = tt
+case_refused words cs name P p (error.MissingPayload n) first h (kind, Q, other, r) = at_first words (case_list cs) name P Q p (error.MissingPayload n) first h other r
+case_refused words cs name P p (error.UnexpectedPayload n) first h (kind, Q, other, r) = at_first words (case_list cs) name P Q p (error.UnexpectedPayload n) first h other r
+case_refused words cs name P p (error.WrongValueType t v) first h (kind, Q, other, r) = at_first words (case_list cs) name P Q p (error.WrongValueType t v) first h other r
+case_refused words cs name P p _ first h (kind, Q, other, r) = absurd r
 
-variant_refused : (T : TypeTree) (name : List ℕ) (p : Option TypedValue) (e : WasmValueError) → RefusesVariant T name p e → FullVariant (λ v T. IsAt T v) IsFull T name p e
-variant_refused T name p e r = λ full cs is P case h.
+variant_refused : (words : TypedValue → List ℕ) (T : TypeTree) (name : List ℕ) (p : Option TypedValue) (e : WasmValueError) → RefusesVariant words T name p e → FullVariant (λ v T. IsAt T v) IsFull T name p e
+variant_refused words T name p e r = λ full cs is P case h.
     let at : IsFull (type.variant cs) = subst IsFull is full in
-    case_refused cs name P p e (first_of cs name P at.0 case) h (subst (λ U. RefusesVariant U name p e) is r)
+    case_refused words cs name P p e (first_of cs name P at.0 case) h (subst (λ U. RefusesVariant words U name p e) is r)
 
-pub full_variant : (T : TypeTree) (name : List ℕ) (p : Option TypedValue) (r : Result TypedValue WasmValueError) → IfErr r (RefusesVariant T name p) → IfErr r (FullVariant (λ v T. IsAt T v) IsFull T name p)
-full_variant T name p (Ok v) h = tt
-full_variant T name p (Err e) h = variant_refused T name p e h
+pub full_variant : (words : TypedValue → List ℕ) (T : TypeTree) (name : List ℕ) (p : Option TypedValue) (r : Result TypedValue WasmValueError) → IfErr r (RefusesVariant words T name p) → IfErr r (FullVariant (λ v T. IsAt T v) IsFull T name p)
+full_variant words T name p (Ok v) h = tt
+full_variant words T name p (Err e) h = variant_refused words T name p e h
 
 -- ---- flags
 
@@ -117,11 +117,11 @@ pub made_map : (T : TypeTree) (handed : List (TypedValue × TypedValue)) (r : Re
 made_map T handed (Ok v) (all, shown, m) = λ distinct. (all, shown, lawful _ T v m)
 made_map T handed (Err e) h = tt
 
-entries_of : (K V : TypeTree) (handed : List (TypedValue × TypedValue)) → AllOf (λ e. IsAt K e.0 × IsAt V e.1) handed → EntriesOwn K V handed
+entries_of : (K V : TypeTree) (handed : List (TypedValue × TypedValue)) → AllOf (λ e. IsAt K e.0 × IsAt V e.1) handed → AllOf IsAsStated (entries_stated K V handed)
 entries_of K V [] h = tt
-entries_of K V (e ∷ es) h = (h.0.0.own, h.0.1.own, entries_of K V es h.1)
+entries_of K V (e ∷ es) h = (h.0.0.own, (h.0.1.own, entries_of K V es h.1))
 
-pub full_map : (T : TypeTree) (handed : List (TypedValue × TypedValue)) (r : Result TypedValue WasmValueError) → IfErr r (RefusesParts kinds.Map T (TakesMap T handed)) → IfErr r (FullMap (λ v T. IsAt T v) IsFull T handed)
-full_map T handed (Ok v) h = tt
-full_map T handed (Err e) h = λ full K V is of.
-    no_refusal kinds.Map (type.map K V) (EntriesOwn (type.simple K) V handed) e refl (entries_of (type.simple K) V handed of) (subst (λ U. RefusesParts kinds.Map U (TakesMap U handed) e) is h)
+pub full_map : (words : TypedValue → List ℕ) (T : TypeTree) (handed : List (TypedValue × TypedValue)) (r : Result TypedValue WasmValueError) → IfErr r (RefusesParts words kinds.Map T (map_stated T handed)) → IfErr r (FullMap (λ v T. IsAt T v) IsFull T handed)
+full_map words T handed (Ok v) h = tt
+full_map words T handed (Err e) h = λ full K V is of.
+    no_refusal words kinds.Map (type.map K V) (entries_stated (type.simple K) V handed) e refl (entries_of (type.simple K) V handed of) (subst (λ U. RefusesParts words kinds.Map U (map_stated U handed) e) is h)

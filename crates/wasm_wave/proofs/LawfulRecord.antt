@@ -233,29 +233,29 @@ own_some under [] n h one none = one
 own_some under (f ∷ fs) n h (inl e) none = subst (HasOwn f.1) (ap under (sym e) ∙ none) h.0
 own_some under (f ∷ fs) n h (inr one) none = own_some under fs n h.1 one none
 
-never_other : (under : List ℕ → Option TypedValue) (fs : List (List ℕ × TypeTree)) → AllOf (λ f. HasOwn f.1 (under f.0)) fs → SomeOf (λ f. HasOther f.1 (under f.0)) fs → ⊥
-never_other under [] h s = s
-never_other under (f ∷ fs) h (inl other) = both (under f.0) h.0 other
-  where
-    both : (o : Option TypedValue) → HasOwn f.1 o → HasOther f.1 o → ⊥
-    both None own other = own
-    both (Some v) own other = other own
-never_other under (f ∷ fs) h (inr s) = never_other under fs h.1 s
+own_and_other : (words : TypedValue → List ℕ) (t s : List ℕ) (T : TypeTree) (o : Option TypedValue) → HasOwn T o → HasOther words t s T o → ⊥
+own_and_other words t s T None own other = own
+own_and_other words t s T (Some v) own other = other.0 own
 
-record_memory : (fs : Fields) (given : List (List ℕ × TypedValue)) (e : WasmValueError) → AreDistinct (first_names (type.field_list fs)) → AllOf (λ f. HasOwn f.1 (last_under given f.0)) (type.field_list fs)
-    → ((n : List ℕ) → IsOneOf (first_names given) n → IsOneOf (first_names (type.field_list fs)) n) → RefusesRecord (type.record_type fs) given e → IsMemory e
-record_memory fs given (error.WrongTypeKind k s) d own known r = absurd (r.0 refl)
-record_memory fs given (error.MissingField n) d own known (is, (one, inl none)) = absurd (own_some (last_under given) (type.field_list fs) _ own one none)
-record_memory fs given (error.MissingField n) d own known (is, (one, inr twice)) = absurd (never_repeated (first_names (type.field_list fs)) _ d twice)
-record_memory fs given (error.UnknownField n) d own known (is, (some, none)) = absurd (none (known _ (last_among given _ some)))
-record_memory fs given (error.WrongValueType s t) d own known (is, other) = absurd (never_other (last_under given) (type.field_list fs) own other)
-record_memory fs given (error.Memory m) d own known r = tt
-record_memory fs given _ d own known r = absurd r.1
+never_other : (words : TypedValue → List ℕ) (t s : List ℕ) (under : List ℕ → Option TypedValue) (fs : List (List ℕ × TypeTree)) → AllOf (λ f. HasOwn f.1 (under f.0)) fs → SomeOf (λ f. HasOther words t s f.1 (under f.0)) fs → ⊥
+never_other words t s under [] h one = one
+never_other words t s under (f ∷ fs) h (inl other) = own_and_other words t s f.1 (under f.0) h.0 other
+never_other words t s under (f ∷ fs) h (inr one) = never_other words t s under fs h.1 one
+
+record_memory : (words : TypedValue → List ℕ) (fs : Fields) (given : List (List ℕ × TypedValue)) (e : WasmValueError) → AreDistinct (first_names (type.field_list fs)) → AllOf (λ f. HasOwn f.1 (last_under given f.0)) (type.field_list fs)
+    → ((n : List ℕ) → IsOneOf (first_names given) n → IsOneOf (first_names (type.field_list fs)) n) → RefusesRecord words (type.record_type fs) given e → IsMemory e
+record_memory words fs given (error.WrongTypeKind k s) d own known r = absurd (r.0 refl)
+record_memory words fs given (error.MissingField n) d own known (is, (one, inl none)) = absurd (own_some (last_under given) (type.field_list fs) _ own one none)
+record_memory words fs given (error.MissingField n) d own known (is, (one, inr twice)) = absurd (never_repeated (first_names (type.field_list fs)) _ d twice)
+record_memory words fs given (error.UnknownField n) d own known (is, (some, none)) = absurd (none (known _ (last_among given _ some)))
+record_memory words fs given (error.WrongValueType s t) d own known (is, other) = absurd (never_other words _ _ (last_under given) (type.field_list fs) own other)
+record_memory words fs given (error.Memory m) d own known r = tt
+record_memory words fs given _ d own known r = absurd r.1
 
 -- fields of the stated types are refused for want of memory alone
-pub full_record : (T : TypeTree) (fields : List (Bor (List ℕ) × TypedValue)) (e : WasmValueError) → RefusesRecord T (named fields) e → FullRecord (λ v T. IsAt T v) IsFull T fields e
-full_record T fields e r = λ full fs is different ordered moved h.
+pub full_record : (words : TypedValue → List ℕ) (T : TypeTree) (fields : List (Bor (List ℕ) × TypedValue)) (e : WasmValueError) → RefusesRecord words T (named fields) e → FullRecord (λ v T. IsAt T v) IsFull T fields e
+full_record words T fields e r = λ full fs is different ordered moved h.
     let distinct : HasDistinctNames (type.record_type fs) = subst HasDistinctNames is full in
     let last = all_moved (λ f. last_under (named fields) f.0.now ≡ Some f.1) fields ordered moved (each_last fields (subst AreDistinct (names_handed fields) different)) in
     let known = all_moved (λ f. IsOneOf (first_names (type.field_list fs)) f.0.now) ordered fields (IsPermutation-sym fields ordered moved) (each_known (type.field_list fs) ordered h) in
-    record_memory fs (named fields) e (names_of_parts (type.record_type fs) distinct) (each_own (last_under (named fields)) (type.field_list fs) ordered last h) (λ n one. all_known (first_names (type.field_list fs)) fields n known one) (subst (λ U. RefusesRecord U (named fields) e) is r)
+    record_memory words fs (named fields) e (names_of_parts (type.record_type fs) distinct) (each_own (last_under (named fields)) (type.field_list fs) ordered last h) (λ n one. all_known (first_names (type.field_list fs)) fields n known one) (subst (λ U. RefusesRecord words U (named fields) e) is r)

@@ -2,19 +2,21 @@
 use Rattle.std.proofs.Common.{ℕ, zero, suc, ◌≡◌, ◌<◌, ◌≤◌, ◌+◌, Bool, true, false, List, [], ◌∷◌, map, length, take, get_or, refl, sym, ap, subst, ◌∙◌, arith, inl, inr, Option, Some, None, cond, nat_lt}
 use Rattle.std.proofs.lemmas.Bool.Decides.{nat_tests}
 use Rattle.std.specs.List.{position, position_or_len}
-use Rattle.std.specs.Prelude.{not}
+use Rattle.std.specs.Prelude.{not, string_bytes}
 use Rattle.std.specs.Str.{bytes_eq}
 use Rattle.std.proofs.lemmas.Bool.{false≢true}
 use Rattle.std.proofs.Math.Numerals.{add-one}
 use Rattle.std.proofs.lemmas.List.{take_all}
 use Rattle.std.proofs.lemmas.List.Quantifiers.{position-Some}
 use Rattle.std.proofs.lemmas.Slice.Eq.{bytes_eq-Decides}
+use Rattle.wave_wasm.specs.Lists.{SomeOf}
 use Rattle.wave_wasm.specs.Names.{IsOneOf}
 use Rattle.wave_wasm.specs.Types as type
 use Rattle.wave_wasm.specs.Types.{TypeTree, list_part, option_part, kind_of, enum_names}
 use Rattle.wave_wasm.specs.Values as value
 use Rattle.wave_wasm.specs.Values.{Value, values}
 use Rattle.wave_wasm.specs.HasType.{HasType}
+use Rattle.wave_wasm.specs.declared.wasm.WasmTypeKind.{WasmTypeKind}
 use Rattle.wave_wasm.specs.declared.wasm.WasmTypeKind.TheVariants as kinds
 use Rattle.wave_wasm.specs.declared.wasm.WasmValueError.{WasmValueError}
 use Rattle.wave_wasm.specs.declared.wasm.WasmValueError.TheVariants as error
@@ -23,7 +25,7 @@ use Rattle.wasm_wave.specs.SameTypeLaws.{one_tree, same_itself}
 use Rattle.wasm_wave.specs.declared.value.Content.{Content}
 use Rattle.wasm_wave.specs.TypedValue.{TypedValue, IsAt}
 use Rattle.wasm_wave.specs.ValueView.{name_at, trees, content_tree, AllAt, Fits}
-use Rattle.wasm_wave.specs.Taken.{Made, Tells, AllOwn, TakesList, TakesEnum, RefusesParts, RefusesEnum, SaysType, SaysCase}
+use Rattle.wasm_wave.specs.Taken.{Made, Tells, AllOwn, TakesList, TakesEnum, TellsOther, list_stated, option_stated, RefusesParts, RefusesEnum, SaysType, SaysCase}
 use Rattle.wasm_wave.proofs.ValueMeans.{means, list_value, one_of}
 
 -- a test of the own type
@@ -39,6 +41,19 @@ is_at b T v e h = subst (λ b. Tells b T v) e h
 pub not_at : (b : Bool) (T : TypeTree) (v : TypedValue) → b ≡ false → Tells b T v → v.own ≡ T → ⊥
 not_at b T v e h = subst (λ b. Tells b T v) e h
 
+-- ---- a component of another type than the stated one
+
+pub some_so : (P : TypeTree × TypedValue → Type 0) (q : TypeTree × TypedValue) (stated : List (TypeTree × TypedValue)) → SomeOf (λ p. q ≡ p) stated → P q → SomeOf P stated
+some_so P q [] one h = absurd one
+some_so P q (p ∷ ps) (inl e) h = inl (subst P e h)
+some_so P q (p ∷ ps) (inr one) h = inr (some_so P q ps one h)
+
+pub tells_so : (words : TypedValue → List ℕ) (kind : WasmTypeKind) (T : TypeTree) (stated : List (TypeTree × TypedValue)) (U : TypeTree) (v : TypedValue) (e : WasmValueError) → kind_of T ≡ kind → SomeOf (λ p. (U, v) ≡ p) stated → (v.own ≡ U → ⊥) → SaysType words U v e → RefusesParts words kind T stated e
+tells_so words kind T stated U v (error.WrongValueType t s) is one other says =
+    (is, some_so (λ p. TellsOther words (string_bytes t) (string_bytes s) p.0 p.1) (U, v) stated one (other, says.0, says.1))
+tells_so words kind T stated U v (error.Memory r) is one other says = tt
+tells_so words kind T stated U v _ is one other says = absurd says
+
 -- ---- lists
 
 abbrev or_else : Option TypeTree → TypeTree → TypeTree
@@ -49,10 +64,10 @@ all_own : (E : TypeTree) (vs : List TypedValue) → AllAt E vs → AllOwn E vs
 all_own E [] h = tt
 all_own E (v ∷ vs) h = (h.0.own, all_own E vs h.1)
 
-one_apart : (E : TypeTree) (vs : List TypedValue) (i : ℕ) (v : TypedValue) → i < length vs → v ≡ get_or vs i v → (v.own ≡ E → ⊥) → AllOwn E vs → ⊥
-one_apart E [] i v lt is other h = absurd (omega (arith, lt))
-one_apart E (w ∷ vs) zero v lt is other h = other (ap (λ (u : TypedValue). u.own) is ∙ h.0)
-one_apart E (w ∷ vs) (suc i) v lt is other h = one_apart E vs i v (omega (arith, lt)) is other h.1
+item_stated : (E : TypeTree) (vs : List TypedValue) (i : ℕ) (v : TypedValue) → i < length vs → v ≡ get_or vs i v → SomeOf (λ p. (E, v) ≡ p) (list_stated (type.list E) vs)
+item_stated E [] i v lt is = absurd (omega (arith, lt))
+item_stated E (w ∷ vs) zero v lt is = inl (λ j. (E, is j))
+item_stated E (w ∷ vs) (suc i) v lt is = inr (item_stated E vs i v (omega (arith, lt)) is)
 
 -- a type with an element type is a list's
 pub list_is : (T E : TypeTree) → Some E ≡ list_part T → T ≡ type.list E
@@ -65,14 +80,20 @@ list_taken T E vs is h = subst (λ U. TakesList U vs) (sym is) (all_own E vs h)
 pub list_made : (T E : TypeTree) (vs : List TypedValue) → T ≡ type.list E → AllAt E vs → HasType T (value.list (values (trees vs)))
 list_made T E vs is h = subst (λ U. HasType U (value.list (values (trees vs)))) (sym is) (list_value (type.list E) vs h)
 
-refused : (E : TypeTree) (vs : List TypedValue) (e : WasmValueError) → (AllOwn E vs → ⊥) → SaysType e → RefusesParts kinds.List (type.list E) (AllOwn E vs) e
-refused E vs (error.WrongValueType s r) h says = (refl, h)
-refused E vs (error.Memory r) h says = tt
-refused E vs _ h says = absurd says
+pub list_refused : (words : TypedValue → List ℕ) (T E : TypeTree) (xs vs : List TypedValue) (i : ℕ) (v : TypedValue) (e : WasmValueError) → T ≡ type.list E → xs ≡ vs → i < length xs → v ≡ get_or xs i v → (v.own ≡ E → ⊥) → SaysType words E v e → RefusesParts words kinds.List T (list_stated T vs) e
+list_refused words T E xs vs i v e is same lt at other says =
+    let one = subst (λ zs. SomeOf (λ p. (E, v) ≡ p) (list_stated (type.list E) zs)) same (item_stated E xs i v lt at) in
+    subst (λ U. RefusesParts words kinds.List U (list_stated U vs) e) (sym is) (tells_so words kinds.List (type.list E) (list_stated (type.list E) vs) E v e refl one other says)
 
-pub list_refused : (T E : TypeTree) (xs vs : List TypedValue) (i : ℕ) (v : TypedValue) (e : WasmValueError) → T ≡ type.list E → xs ≡ vs → i < length xs → v ≡ get_or xs i v → (v.own ≡ E → ⊥) → SaysType e → RefusesParts kinds.List T (TakesList T vs) e
-list_refused T E xs vs i v e is same lt at other says =
-    subst (λ U. RefusesParts kinds.List U (TakesList U vs) e) (sym is) (refused E vs e (λ h. one_apart E xs i v lt at other (subst (AllOwn E) (sym same) h)) says)
+-- ---- options
+
+option_is : (T P : TypeTree) → Some P ≡ option_part T → T ≡ type.option P
+option_is (type.option U) P e = ap type.option (ap (λ o. or_else o U) (sym e))
+option_is _ P e = absurd (cc)
+
+pub option_refused : (words : TypedValue → List ℕ) (T P : TypeTree) (v : TypedValue) (e : WasmValueError) → Some P ≡ option_part T → (v.own ≡ P → ⊥) → SaysType words P v e → RefusesParts words kinds.Option T (option_stated T (Some v)) e
+option_refused words T P v e is other says =
+    subst (λ U. RefusesParts words kinds.Option U (option_stated U (Some v)) e) (sym (option_is T P is)) (tells_so words kinds.Option (type.option P) ((P, v) ∷ []) P v e refl (inl refl) other says)
 
 -- ---- enums
 

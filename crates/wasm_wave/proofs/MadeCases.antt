@@ -89,12 +89,12 @@ pub variant_taken : (T : TypeTree) (name : List ℕ) (i : ℕ) (c : List ℕ × 
 variant_taken T name i c p e is at = (c.1, first_found (variant_parts T) name i c e is, own_payload c.1 p at)
 
 -- the first case of the name doesn't take the payload
-pub payload_refused : (T : TypeTree) (name : List ℕ) (i : ℕ) (c : List ℕ × Option TypeTree) (p : Option TypedValue) (e : WasmValueError) → kinds.Variant ≡ kind_of T → Some i ≡ position (λ c. bytes_eq name c.0) (variant_parts T) → c ≡ case_at (variant_parts T) i → RefusesPayload name c.1 p e → RefusesVariant T name p e
-payload_refused T name i c p (error.MissingPayload n) kind e is refuses = (sym kind, c.1, first_found (variant_parts T) name i c e is, refuses)
-payload_refused T name i c p (error.UnexpectedPayload n) kind e is refuses = (sym kind, c.1, first_found (variant_parts T) name i c e is, refuses)
-payload_refused T name i c p (error.WrongValueType t v) kind e is refuses = (sym kind, c.1, first_found (variant_parts T) name i c e is, refuses)
-payload_refused T name i c p (error.Memory r) kind e is refuses = tt
-payload_refused T name i c p _ kind e is refuses = absurd refuses
+pub payload_refused : (words : TypedValue → List ℕ) (T : TypeTree) (name : List ℕ) (i : ℕ) (c : List ℕ × Option TypeTree) (p : Option TypedValue) (e : WasmValueError) → kinds.Variant ≡ kind_of T → Some i ≡ position (λ c. bytes_eq name c.0) (variant_parts T) → c ≡ case_at (variant_parts T) i → RefusesPayload words name c.1 p e → RefusesVariant words T name p e
+payload_refused words T name i c p (error.MissingPayload n) kind e is refuses = (sym kind, c.1, first_found (variant_parts T) name i c e is, refuses)
+payload_refused words T name i c p (error.UnexpectedPayload n) kind e is refuses = (sym kind, c.1, first_found (variant_parts T) name i c e is, refuses)
+payload_refused words T name i c p (error.WrongValueType t v) kind e is refuses = (sym kind, c.1, first_found (variant_parts T) name i c e is, refuses)
+payload_refused words T name i c p (error.Memory r) kind e is refuses = tt
+payload_refused words T name i c p _ kind e is refuses = absurd refuses
 
 -- ---- a name that isn't found
 
@@ -120,7 +120,7 @@ no_name [] name h = tt
 no_name (c ∷ cs) name h = (other_name name c.0 h.0, no_name cs name h.1)
 
 -- no case has the name
-pub unknown : (T : TypeTree) (name : List ℕ) (p : Option TypedValue) (e : WasmValueError) → kinds.Variant ≡ kind_of T → None ≡ position (λ c. bytes_eq name c.0) (variant_parts T) → SaysCase name e → RefusesVariant T name p e
-unknown T name p (error.UnknownCase n) kind e says = (sym kind, says, no_name (variant_parts T) name (none_found (λ (c : List ℕ × Option TypeTree). bytes_eq name c.0) (variant_parts T) e))
-unknown T name p (error.Memory r) kind e says = tt
-unknown T name p _ kind e says = absurd says
+pub unknown : (words : TypedValue → List ℕ) (T : TypeTree) (name : List ℕ) (p : Option TypedValue) (e : WasmValueError) → kinds.Variant ≡ kind_of T → None ≡ position (λ c. bytes_eq name c.0) (variant_parts T) → SaysCase name e → RefusesVariant words T name p e
+unknown words T name p (error.UnknownCase n) kind e says = (sym kind, says, no_name (variant_parts T) name (none_found (λ (c : List ℕ × Option TypeTree). bytes_eq name c.0) (variant_parts T) e))
+unknown words T name p (error.Memory r) kind e says = tt
+unknown words T name p _ kind e says = absurd says

@@ -1,7 +1,8 @@
 -- What the maker of maps makes and refuses.
-use Rattle.std.proofs.Common.{ℕ, zero, suc, ◌≡◌, ◌<◌, ◌≤◌, ◌+◌, List, [], ◌∷◌, length, take, get_or, refl, sym, ap, subst, ◌∙◌, arith, Option, Some, None}
+use Rattle.std.proofs.Common.{ℕ, zero, suc, ◌≡◌, ◌<◌, ◌≤◌, ◌+◌, List, [], ◌∷◌, length, take, get_or, refl, sym, ap, subst, ◌∙◌, arith, inl, inr, Option, Some, None}
 use Rattle.std.proofs.Math.Numerals.{add-one}
 use Rattle.std.proofs.lemmas.List.{take_all}
+use Rattle.wave_wasm.specs.Lists.{SomeOf}
 use Rattle.wave_wasm.specs.Types as type
 use Rattle.wave_wasm.specs.Types.{TypeTree, Simple, kind_of, map_parts}
 use Rattle.wave_wasm.specs.Values as value
@@ -9,11 +10,11 @@ use Rattle.wave_wasm.specs.Values.{entries}
 use Rattle.wave_wasm.specs.Makers.{leaf_entries}
 use Rattle.wave_wasm.specs.declared.wasm.WasmTypeKind.TheVariants as kinds
 use Rattle.wave_wasm.specs.declared.wasm.WasmValueError.{WasmValueError}
-use Rattle.wave_wasm.specs.declared.wasm.WasmValueError.TheVariants as error
 use Rattle.wasm_wave.specs.TypedValue.{TypedValue, IsAt}
 use Rattle.wasm_wave.specs.ValueView.{entry_trees, EntriesAt, MapFits}
 use Rattle.wasm_wave.specs.Taken.{RefusesParts, SaysType}
-use Rattle.wasm_wave.specs.TakenCases.{MadeMap, EntriesOwn, TakesMap}
+use Rattle.wasm_wave.specs.TakenCases.{MadeMap, EntriesOwn, TakesMap, entries_stated, map_stated}
+use Rattle.wasm_wave.proofs.Made.{tells_so}
 use Rattle.wasm_wave.proofs.ValueMeans.{map_value}
 use Rattle.wasm_wave.proofs.ValueLists.{map_back, entry_list-entries}
 
@@ -46,33 +47,31 @@ map_made T own A B es same e h =
     let fits = map_fits T T A B es refl e h in
     (entry_trees es, map_back T es fits ∙ ap leaf_entries (entry_list-entries (entry_trees es)), record { own = same; tree = refl; fits = map_value T es fits })
 
-key_apart : (A B : TypeTree) (es : List (TypedValue × TypedValue)) (i : ℕ) (e : TypedValue × TypedValue) → i < length es → e ≡ get_or es i e → (e.0.own ≡ A → ⊥) → EntriesOwn A B es → ⊥
-key_apart A B [] i e lt is other h = absurd (omega (arith, lt))
-key_apart A B (d ∷ es) zero e lt is other h = other (ap (λ (p : TypedValue × TypedValue). p.0.own) is ∙ h.0)
-key_apart A B (d ∷ es) (suc i) e lt is other h = key_apart A B es i e (omega (arith, lt)) is other h.2
+key_stated : (A B : TypeTree) (es : List (TypedValue × TypedValue)) (i : ℕ) (e : TypedValue × TypedValue) → i < length es → e ≡ get_or es i e → SomeOf (λ p. (A, e.0) ≡ p) (entries_stated A B es)
+key_stated A B [] i e lt is = absurd (omega (arith, lt))
+key_stated A B (d ∷ es) zero e lt is = inl (λ j. (A, (is j).0))
+key_stated A B (d ∷ es) (suc i) e lt is = inr (inr (key_stated A B es i e (omega (arith, lt)) is))
 
-value_apart : (A B : TypeTree) (es : List (TypedValue × TypedValue)) (i : ℕ) (e : TypedValue × TypedValue) → i < length es → e ≡ get_or es i e → (e.1.own ≡ B → ⊥) → EntriesOwn A B es → ⊥
-value_apart A B [] i e lt is other h = absurd (omega (arith, lt))
-value_apart A B (d ∷ es) zero e lt is other h = other (ap (λ (p : TypedValue × TypedValue). p.1.own) is ∙ h.1)
-value_apart A B (d ∷ es) (suc i) e lt is other h = value_apart A B es i e (omega (arith, lt)) is other h.2
+value_stated : (A B : TypeTree) (es : List (TypedValue × TypedValue)) (i : ℕ) (e : TypedValue × TypedValue) → i < length es → e ≡ get_or es i e → SomeOf (λ p. (B, e.1) ≡ p) (entries_stated A B es)
+value_stated A B [] i e lt is = absurd (omega (arith, lt))
+value_stated A B (d ∷ es) zero e lt is = inr (inl (λ j. (B, (is j).1)))
+value_stated A B (d ∷ es) (suc i) e lt is = inr (inr (value_stated A B es i e (omega (arith, lt)) is))
 
-says_so : (K : Simple) (V : TypeTree) (Takes : Type 0) (r : WasmValueError) → (Takes → ⊥) → SaysType r → RefusesParts kinds.Map (type.map K V) Takes r
-says_so K V Takes (error.WrongValueType s t) h says = (refl, h)
-says_so K V Takes (error.Memory e) h says = tt
-says_so K V Takes _ h says = absurd says
-
-refused : (T A B : TypeTree) (es : List (TypedValue × TypedValue)) (r : WasmValueError) → Some (A, B) ≡ map_parts T → (EntriesOwn A B es → ⊥) → SaysType r → RefusesParts kinds.Map T (TakesMap T es) r
-refused T A B es r e other says =
+refused : (words : TypedValue → List ℕ) (T A B : TypeTree) (es : List (TypedValue × TypedValue)) (U : TypeTree) (v : TypedValue) (r : WasmValueError) → Some (A, B) ≡ map_parts T → SomeOf (λ p. (U, v) ≡ p) (entries_stated A B es) → (v.own ≡ U → ⊥) → SaysType words U v r → RefusesParts words kinds.Map T (map_stated T es) r
+refused words T A B es U v r e one other says =
     let (K, key, is) = map_is T A B e in
-    subst (λ U. RefusesParts kinds.Map U (TakesMap U es) r) (sym is) (says_so K B (EntriesOwn (type.simple K) B es) r (λ h. other (subst (λ Z. EntriesOwn Z B es) (sym key) h)) says)
+    let there = subst (λ Z. SomeOf (λ p. (U, v) ≡ p) (entries_stated Z B es)) key one in
+    subst (λ X. RefusesParts words kinds.Map X (map_stated X es) r) (sym is) (tells_so words kinds.Map (type.map K B) (entries_stated (type.simple K) B es) U v r refl there other says)
 
 -- a key of another type
-pub key_refused : (T A B : TypeTree) (xs es : List (TypedValue × TypedValue)) (i : ℕ) (d : TypedValue × TypedValue) (r : WasmValueError) → Some (A, B) ≡ map_parts T → xs ≡ es → i < length xs → d ≡ get_or xs i d → (d.0.own ≡ A → ⊥) → SaysType r → RefusesParts kinds.Map T (TakesMap T es) r
-key_refused T A B xs es i d r e same lt at other says = refused T A B es r e (λ h. key_apart A B xs i d lt at other (subst (EntriesOwn A B) (sym same) h)) says
+pub key_refused : (words : TypedValue → List ℕ) (T A B : TypeTree) (xs es : List (TypedValue × TypedValue)) (i : ℕ) (d : TypedValue × TypedValue) (r : WasmValueError) → Some (A, B) ≡ map_parts T → xs ≡ es → i < length xs → d ≡ get_or xs i d → (d.0.own ≡ A → ⊥) → SaysType words A d.0 r → RefusesParts words kinds.Map T (map_stated T es) r
+key_refused words T A B xs es i d r e same lt at other says =
+    refused words T A B es A d.0 r e (subst (λ zs. SomeOf (λ p. (A, d.0) ≡ p) (entries_stated A B zs)) same (key_stated A B xs i d lt at)) other says
 
 -- a value of another type
-pub value_refused : (T A B : TypeTree) (xs es : List (TypedValue × TypedValue)) (i : ℕ) (d : TypedValue × TypedValue) (r : WasmValueError) → Some (A, B) ≡ map_parts T → xs ≡ es → i < length xs → d ≡ get_or xs i d → (d.1.own ≡ B → ⊥) → SaysType r → RefusesParts kinds.Map T (TakesMap T es) r
-value_refused T A B xs es i d r e same lt at other says = refused T A B es r e (λ h. value_apart A B xs i d lt at other (subst (EntriesOwn A B) (sym same) h)) says
+pub value_refused : (words : TypedValue → List ℕ) (T A B : TypeTree) (xs es : List (TypedValue × TypedValue)) (i : ℕ) (d : TypedValue × TypedValue) (r : WasmValueError) → Some (A, B) ≡ map_parts T → xs ≡ es → i < length xs → d ≡ get_or xs i d → (d.1.own ≡ B → ⊥) → SaysType words B d.1 r → RefusesParts words kinds.Map T (map_stated T es) r
+value_refused words T A B xs es i d r e same lt at other says =
+    refused words T A B es B d.1 r e (subst (λ zs. SomeOf (λ p. (B, d.1) ≡ p) (entries_stated A B zs)) same (value_stated A B xs i d lt at)) other says
 
 entry_next : (A B : TypeTree) (es : List (TypedValue × TypedValue)) (i : ℕ) (e : TypedValue × TypedValue) → i < length es → e ≡ get_or es i e → IsAt A e.0 → IsAt B e.1 → EntriesAt A B (take i es) → EntriesAt A B (take (suc i) es)
 entry_next A B [] i e lt is key val h = absurd (omega (arith, lt))

@@ -26,7 +26,7 @@ use Rattle.wave_wasm.specs.declared.wasm.WasmValueError.TheVariants as error
 use Rattle.wave_tree.proofs.OneOf.{is_one, passes}
 use Rattle.wave_tree.proofs.Ordered.{none_of, distinct_more}
 use Rattle.wasm_wave.specs.Handed.{or_else, last_under, held, HasOwn, HasOther, TakesRecord, MadeRecord, RefusesRecord, IsRepeated, RefusesFields, FieldsHeld, InOrder, SaysMissingField, SaysUnknownField}
-use Rattle.wasm_wave.specs.Taken.{SaysType}
+use Rattle.wasm_wave.specs.Taken.{TellsOther, SaysType}
 use Rattle.wasm_wave.specs.TypedValue.{TypedValue, IsAt}
 use Rattle.wasm_wave.specs.TypeView.{by_bytes, record_part}
 use Rattle.wasm_wave.specs.ValueView.{first_names, trees, beside, FieldsAt, RecordFits}
@@ -114,26 +114,26 @@ repeated (x ∷ xs) zero f lt is h = absurd h
 repeated (x ∷ xs) (suc i) f lt is (inl e) = inl (e, one_name xs i f (omega (arith, lt)) is)
 repeated (x ∷ xs) (suc i) f lt is (inr h) = inr (repeated xs i f (omega (arith, lt)) is h)
 
-other_at : (xs : List (String Global × TypeTree)) (i : ℕ) (f : String Global × TypeTree) (under : List ℕ → Option TypedValue) (v : TypedValue) → i < length xs → f ≡ get_or xs i f → under (string_bytes f.0) ≡ Some v → v.own ≢ f.1 → SomeOf (λ g. HasOther g.1 (under g.0)) (map by_bytes xs)
-other_at [] i f under v lt is e other = absurd (omega (arith, lt))
-other_at (x ∷ xs) zero f under v lt is e other =
-    inl (subst (λ (g : String Global × TypeTree). HasOther g.1 (under (string_bytes g.0))) is (subst (HasOther f.1) (sym e) other))
-other_at (x ∷ xs) (suc i) f under v lt is e other = inr (other_at xs i f under v (omega (arith, lt)) is e other)
+other_at : (words : TypedValue → List ℕ) (t s : List ℕ) (xs : List (String Global × TypeTree)) (i : ℕ) (f : String Global × TypeTree) (under : List ℕ → Option TypedValue) (v : TypedValue) → i < length xs → f ≡ get_or xs i f → under (string_bytes f.0) ≡ Some v → TellsOther words t s f.1 v → SomeOf (λ g. HasOther words t s g.1 (under g.0)) (map by_bytes xs)
+other_at words t s [] i f under v lt is e other = absurd (omega (arith, lt))
+other_at words t s (x ∷ xs) zero f under v lt is e other =
+    inl (subst (λ (g : String Global × TypeTree). HasOther words t s g.1 (under (string_bytes g.0))) is (subst (HasOther words t s f.1) (sym e) other))
+other_at words t s (x ∷ xs) (suc i) f under v lt is e other = inr (other_at words t s xs i f under v (omega (arith, lt)) is e other)
 
 -- no value is left under the name, or there was none
 missing_or_repeated : (b : Bool) (o : Option TypedValue) → cond b None o ≡ None → (o ≡ None) ⊎ (b ≡ true)
 missing_or_repeated true o e = inr refl
 missing_or_repeated false o e = inl e
 
-missing_is : (ys : List (List ℕ × TypeTree)) (under : List ℕ → Option TypedValue) (n : List ℕ) (e : WasmValueError) → IsOneOf (first_names ys) n → (under n ≡ None) ⊎ IsRepeated (first_names ys) n → SaysMissingField n e → RefusesFields ys under e
-missing_is ys under n (error.MissingField m) one why says =
+missing_is : (words : TypedValue → List ℕ) (ys : List (List ℕ × TypeTree)) (under : List ℕ → Option TypedValue) (n : List ℕ) (e : WasmValueError) → IsOneOf (first_names ys) n → (under n ≡ None) ⊎ IsRepeated (first_names ys) n → SaysMissingField n e → RefusesFields words ys under e
+missing_is words ys under n (error.MissingField m) one why says =
     subst (λ k. IsOneOf (first_names ys) k × ((under k ≡ None) ⊎ IsRepeated (first_names ys) k)) (sym says) (one, why)
-missing_is ys under n (error.Memory r) one why says = tt
-missing_is ys under n _ one why says = absurd says
+missing_is words ys under n (error.Memory r) one why says = tt
+missing_is words ys under n _ one why says = absurd says
 
 -- a field without a value
-pub missing_refused : (xs ys : List (String Global × TypeTree)) (i : ℕ) (f : String Global × TypeTree) (n : List ℕ) (under now : List ℕ → Option TypedValue) (vs : List TypedValue) (e : WasmValueError) → xs ≡ ys → i < length xs → f ≡ get_or xs i f → n ≡ string_bytes f.0 → Taking (map by_bytes (take i xs)) under now vs → now n ≡ None → SaysMissingField n e → RefusesFields (map by_bytes ys) under e
-missing_refused xs ys i f n under now vs e same lt is called t none says =
+pub missing_refused : (words : TypedValue → List ℕ) (xs ys : List (String Global × TypeTree)) (i : ℕ) (f : String Global × TypeTree) (n : List ℕ) (under now : List ℕ → Option TypedValue) (vs : List TypedValue) (e : WasmValueError) → xs ≡ ys → i < length xs → f ≡ get_or xs i f → n ≡ string_bytes f.0 → Taking (map by_bytes (take i xs)) under now vs → now n ≡ None → SaysMissingField n e → RefusesFields words (map by_bytes ys) under e
+missing_refused words xs ys i f n under now vs e same lt is called t none says =
     let there : now (string_bytes f.0) ≡ None = subst (λ k. now k ≡ None) called none in
     let why : (under (string_bytes f.0) ≡ None) ⊎ IsRepeated (first_names (map by_bytes xs)) (string_bytes f.0) =
     elim (missing_or_repeated (is_one_of (first_names (map by_bytes (take i xs))) (string_bytes f.0)) (under (string_bytes f.0)) (sym (t.left (string_bytes f.0)) ∙ there)) [
@@ -141,22 +141,23 @@ missing_refused xs ys i f n under now vs e same lt is called t none says =
       | inr twice ↦ inr (repeated xs i f lt is (is_one (first_names (map by_bytes (take i xs))) (string_bytes f.0) twice))
     ]
     in
-    subst (λ zs. RefusesFields (map by_bytes zs) under e) same (missing_is (map by_bytes xs) under (string_bytes f.0) e (one_name xs i f lt is) why (subst (λ k. SaysMissingField k e) called says))
+    subst (λ zs. RefusesFields words (map by_bytes zs) under e) same (missing_is words (map by_bytes xs) under (string_bytes f.0) e (one_name xs i f lt is) why (subst (λ k. SaysMissingField k e) called says))
 
 -- the value under the name was there from the beginning
 was_under : (fs : List (List ℕ × TypeTree)) (under now : List ℕ → Option TypedValue) (vs : List TypedValue) (n : List ℕ) (v : TypedValue) → Taking fs under now vs → now n ≡ Some v → under n ≡ Some v
 was_under fs under now vs n v t e = (none_left (is_one_of (first_names fs) n) (under n) v (sym (t.left n) ∙ e)).1
 
-other_is : (ys : List (List ℕ × TypeTree)) (under : List ℕ → Option TypedValue) (e : WasmValueError) → SomeOf (λ g. HasOther g.1 (under g.0)) ys → SaysType e → RefusesFields ys under e
-other_is ys under (error.WrongValueType s t) h says = h
-other_is ys under (error.Memory r) h says = tt
-other_is ys under _ h says = absurd says
+other_is : (words : TypedValue → List ℕ) (ys : List (List ℕ × TypeTree)) (under : List ℕ → Option TypedValue) (T : TypeTree) (v : TypedValue) (e : WasmValueError) → ((t s : List ℕ) → TellsOther words t s T v → SomeOf (λ g. HasOther words t s g.1 (under g.0)) ys) → v.own ≢ T → SaysType words T v e → RefusesFields words ys under e
+other_is words ys under T v (error.WrongValueType t s) one other says = one (string_bytes t) (string_bytes s) (other, says.0, says.1)
+other_is words ys under T v (error.Memory r) one other says = tt
+other_is words ys under T v _ one other says = absurd says
 
 -- a value of another type
-pub other_refused : (xs ys : List (String Global × TypeTree)) (i : ℕ) (f : String Global × TypeTree) (n : List ℕ) (under now : List ℕ → Option TypedValue) (vs : List TypedValue) (v : TypedValue) (e : WasmValueError) → xs ≡ ys → i < length xs → f ≡ get_or xs i f → n ≡ string_bytes f.0 → Taking (map by_bytes (take i xs)) under now vs → now n ≡ Some v → v.own ≢ f.1 → SaysType e → RefusesFields (map by_bytes ys) under e
-other_refused xs ys i f n under now vs v e same lt is called t some other says =
-    let there = was_under _ under now vs n v t some in
-    subst (λ zs. RefusesFields (map by_bytes zs) under e) same (other_is (map by_bytes xs) under e (other_at xs i f under v lt is (subst (λ k. under k ≡ Some v) called there) other) says)
+pub other_refused : (words : TypedValue → List ℕ) (xs ys : List (String Global × TypeTree)) (i : ℕ) (f : String Global × TypeTree) (n : List ℕ) (under now : List ℕ → Option TypedValue) (vs : List TypedValue) (v : TypedValue) (e : WasmValueError) → xs ≡ ys → i < length xs → f ≡ get_or xs i f → n ≡ string_bytes f.0 → Taking (map by_bytes (take i xs)) under now vs → now n ≡ Some v → v.own ≢ f.1 → SaysType words f.1 v e → RefusesFields words (map by_bytes ys) under e
+other_refused words xs ys i f n under now vs v e same lt is called taking some other says =
+    let there = was_under _ under now vs n v taking some in
+    let one = λ (t : List ℕ) (s : List ℕ) (tells : TellsOther words t s f.1 v). other_at words t s xs i f under v lt is (subst (λ k. under k ≡ Some v) called there) tells in
+    subst (λ zs. RefusesFields words (map by_bytes zs) under e) same (other_is words (map by_bytes xs) under f.1 v e one other says)
 
 -- one more field was taken
 pub taking_more : (xs : List (String Global × TypeTree)) (i : ℕ) (f : String Global × TypeTree) (n : List ℕ) (under : List ℕ → Option TypedValue) (m new : BTreeMap (Bor (List ℕ)) TypedValue) (vs : List TypedValue) (v : TypedValue) → i < length xs → f ≡ get_or xs i f → n ≡ string_bytes f.0 → Taking (map by_bytes (take i xs)) under (held m) vs → held m n ≡ Some v → IsAt f.1 v
@@ -176,18 +177,18 @@ taking_more xs i f n under m new vs v lt is called t some at u =
 whole_taken : (xs ys : List (String Global × TypeTree)) (i : ℕ) (under now : List ℕ → Option TypedValue) (vs : List TypedValue) → xs ≡ ys → length xs ≤ i → Taking (map by_bytes (take i xs)) under now vs → Taking (map by_bytes ys) under now vs
 whole_taken xs ys i under now vs same le t = subst (λ zs. Taking (map by_bytes zs) under now vs) (take_all i xs le ∙ same) t
 
-unknown_is : (fs : List (List ℕ × TypeTree)) (under : List ℕ → Option TypedValue) (n : List ℕ) (e : WasmValueError) → under n ≢ None → (IsOneOf (first_names fs) n → ⊥) → SaysUnknownField n e → RefusesFields fs under e
-unknown_is fs under n (error.UnknownField m) some none says = subst (λ k. (under k ≢ None) × (IsOneOf (first_names fs) k → ⊥)) (sym says) (some, none)
-unknown_is fs under n (error.Memory r) some none says = tt
-unknown_is fs under n _ some none says = absurd says
+unknown_is : (words : TypedValue → List ℕ) (fs : List (List ℕ × TypeTree)) (under : List ℕ → Option TypedValue) (n : List ℕ) (e : WasmValueError) → under n ≢ None → (IsOneOf (first_names fs) n → ⊥) → SaysUnknownField n e → RefusesFields words fs under e
+unknown_is words fs under n (error.UnknownField m) some none says = subst (λ k. (under k ≢ None) × (IsOneOf (first_names fs) k → ⊥)) (sym says) (some, none)
+unknown_is words fs under n (error.Memory r) some none says = tt
+unknown_is words fs under n _ some none says = absurd says
 
 -- a value is left
-pub unknown_refused : (xs ys : List (String Global × TypeTree)) (i : ℕ) (under now : List ℕ → Option TypedValue) (vs : List TypedValue) (n : List ℕ) (v : TypedValue) (e : WasmValueError) → xs ≡ ys → length xs ≤ i → Taking (map by_bytes (take i xs)) under now vs → now n ≡ Some v → SaysUnknownField n e → RefusesFields (map by_bytes ys) under e
-unknown_refused xs ys i under now vs n v e same le t some says =
+pub unknown_refused : (words : TypedValue → List ℕ) (xs ys : List (String Global × TypeTree)) (i : ℕ) (under now : List ℕ → Option TypedValue) (vs : List TypedValue) (n : List ℕ) (v : TypedValue) (e : WasmValueError) → xs ≡ ys → length xs ≤ i → Taking (map by_bytes (take i xs)) under now vs → now n ≡ Some v → SaysUnknownField n e → RefusesFields words (map by_bytes ys) under e
+unknown_refused words xs ys i under now vs n v e same le t some says =
     let whole = whole_taken xs ys i under now vs same le t in
     let names = first_names (map by_bytes ys) in
     let there : (is_one_of names n ≡ false) × (under n ≡ Some v) = none_left (is_one_of names n) (under n) v (sym (whole.left n) ∙ some) in
-    unknown_is (map by_bytes ys) under n e (λ none. some_none v (sym there.1 ∙ none)) (λ one. false≢true (sym there.0 ∙ passes names n one)) says
+    unknown_is words (map by_bytes ys) under n e (λ none. some_none v (sym there.1 ∙ none)) (λ one. false≢true (sym there.0 ∙ passes names n one)) says
   where
     some_none : (v : TypedValue) → Some v ≡ None → ⊥
     some_none v e = cc
@@ -291,15 +292,15 @@ record_taken T parts under given vs is agree o =
     subst (λ U. TakesRecord U given) (record_is T parts is)
     (subst (λ fs. AreDistinct (first_names fs) × AreAllOf (first_names fs) (first_names given) × AllOf (λ f. HasOwn f.1 (last_under given f.0)) fs) (sym (field_list-fields_of parts)) (o.distinct, known, own))
 
-fields_refused : (parts : List (List ℕ × TypeTree)) (given : List (List ℕ × TypedValue)) (e : WasmValueError) → RefusesFields (field_list (fields_of parts)) (last_under given) e → RefusesRecord (type.record_type (fields_of parts)) given e
-fields_refused parts given (error.MissingField n) r = (refl, r)
-fields_refused parts given (error.UnknownField n) r = (refl, r)
-fields_refused parts given (error.WrongValueType s t) r = (refl, r)
-fields_refused parts given (error.Memory m) r = tt
-fields_refused parts given _ r = absurd r
+fields_refused : (words : TypedValue → List ℕ) (parts : List (List ℕ × TypeTree)) (given : List (List ℕ × TypedValue)) (e : WasmValueError) → RefusesFields words (field_list (fields_of parts)) (last_under given) e → RefusesRecord words (type.record_type (fields_of parts)) given e
+fields_refused words parts given (error.MissingField n) r = (refl, r)
+fields_refused words parts given (error.UnknownField n) r = (refl, r)
+fields_refused words parts given (error.WrongValueType s t) r = (refl, r)
+fields_refused words parts given (error.Memory m) r = tt
+fields_refused words parts given _ r = absurd r
 
 -- the fields are refused
-pub record_refused : (T : TypeTree) (parts : List (List ℕ × TypeTree)) (under : List ℕ → Option TypedValue) (given : List (List ℕ × TypedValue)) (e : WasmValueError) → Some (fields_of parts) ≡ record_part T → ((n : List ℕ) → under n ≡ last_under given n) → RefusesFields parts under e → RefusesRecord T given e
-record_refused T parts under given e is agree r =
-    subst (λ U. RefusesRecord U given e) (record_is T parts is)
-    (fields_refused parts given e (subst (λ fs. RefusesFields fs (last_under given) e) (sym (field_list-fields_of parts)) (subst (λ (u : List ℕ → Option TypedValue). RefusesFields parts u e) (λ i n. agree n i) r)))
+pub record_refused : (words : TypedValue → List ℕ) (T : TypeTree) (parts : List (List ℕ × TypeTree)) (under : List ℕ → Option TypedValue) (given : List (List ℕ × TypedValue)) (e : WasmValueError) → Some (fields_of parts) ≡ record_part T → ((n : List ℕ) → under n ≡ last_under given n) → RefusesFields words parts under e → RefusesRecord words T given e
+record_refused words T parts under given e is agree r =
+    subst (λ U. RefusesRecord words U given e) (record_is T parts is)
+    (fields_refused words parts given e (subst (λ fs. RefusesFields words fs (last_under given) e) (sym (field_list-fields_of parts)) (subst (λ (u : List ℕ → Option TypedValue). RefusesFields words parts u e) (λ i n. agree n i) r)))

@@ -9,9 +9,9 @@ use Rattle.wasm_wave.specs.TypedValue.{TypedValue}
 use Rattle.wasm_wave.specs.Taken.{RefusesPayload, SaysUnexpected}
 
 -- a payload at a case without one
-pub unexpected_refused : (n : List ℕ) (P : Option (Bor TypeTree)) (p : Option TypedValue) (v : TypedValue) (e : WasmValueError) → P ≡ None → p ≡ Some v → SaysUnexpected n e → RefusesPayload n (shown (λ t. t) P) p e
-unexpected_refused n (Some T) p v e none some says = absurd (cc)
-unexpected_refused n None None v e none some says = absurd (cc)
-unexpected_refused n None (Some w) v (error.UnexpectedPayload m) none some says = (says, tt)
-unexpected_refused n None (Some w) v (error.Memory m) none some says = tt
-unexpected_refused n None (Some w) v _ none some says = absurd says
+pub unexpected_refused : (words : TypedValue → List ℕ) (n : List ℕ) (P : Option (Bor TypeTree)) (p : Option TypedValue) (v : TypedValue) (e : WasmValueError) → P ≡ None → p ≡ Some v → SaysUnexpected n e → RefusesPayload words n (shown (λ t. t) P) p e
+unexpected_refused words n (Some T) p v e none some says = absurd (cc)
+unexpected_refused words n None None v e none some says = absurd (cc)
+unexpected_refused words n None (Some w) v (error.UnexpectedPayload m) none some says = (says, tt)
+unexpected_refused words n None (Some w) v (error.Memory m) none some says = tt
+unexpected_refused words n None (Some w) v _ none some says = absurd says

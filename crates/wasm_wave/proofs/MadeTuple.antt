@@ -1,7 +1,9 @@
 -- What the maker of tuples makes and refuses.
-use Rattle.std.proofs.Common.{ℕ, zero, suc, ◌≡◌, ◌<◌, ◌≤◌, ◌+◌, List, [], ◌∷◌, length, take, get_or, refl, sym, ap, subst, ◌∙◌, arith, Option, Some, None}
+use Rattle.std.proofs.Common.{ℕ, zero, suc, ◌≡◌, ◌<◌, ◌≤◌, ◌+◌, List, [], ◌∷◌, length, take, get_or, refl, sym, ap, subst, ◌∙◌, arith, inl, inr, Option, Some, None}
+use Rattle.std.specs.Prelude.{string_bytes}
 use Rattle.std.proofs.Math.Numerals.{add-one}
 use Rattle.std.proofs.lemmas.List.{take_all}
+use Rattle.wave_wasm.specs.Lists.{SomeOf}
 use Rattle.wave_wasm.specs.Types as type
 use Rattle.wave_wasm.specs.Types.{TypeTree, Types, kind_of, types_of, type_list, tuple_parts}
 use Rattle.wave_wasm.specs.Values as value
@@ -12,7 +14,8 @@ use Rattle.wave_wasm.specs.declared.wasm.WasmValueError.TheVariants as error
 use Rattle.wasm_wave.specs.TypeView.{tuple_part}
 use Rattle.wasm_wave.specs.TypedValue.{TypedValue, IsAt}
 use Rattle.wasm_wave.specs.ValueView.{trees, EachAt, TupleFits}
-use Rattle.wasm_wave.specs.Taken.{Made, EachOwn, TakesTuple, RefusesTuple, SaysType}
+use Rattle.wasm_wave.specs.Taken.{Made, EachOwn, TakesTuple, TellsOther, TellsOne, each_stated, RefusesTuple, SaysType}
+use Rattle.wasm_wave.proofs.Made.{some_so}
 use Rattle.wasm_wave.proofs.TypeLists.{type_list-types_of}
 use Rattle.wasm_wave.proofs.ValueMeans.{tuple_value}
 
@@ -59,22 +62,25 @@ parts_are : (Us : List TypeTree) (n : ℕ) → n ≡ length Us → n ≡ length 
 parts_are Us n e = e ∙ ap length (sym (type_list-types_of Us))
 
 -- another count
-pub count_refused : (T : TypeTree) (Us : List TypeTree) (vs : List TypedValue) (want got : ℕ) → Some (types_of Us) ≡ tuple_part T → want ≡ length Us → got ≡ length vs → (want ≡ got → ⊥) → RefusesTuple T vs (error.WrongNumberOfTupleValues want got)
-count_refused T Us vs want got is w g other =
-    subst (λ U. RefusesTuple U vs (error.WrongNumberOfTupleValues want got)) (tuple_is T Us is) (refl, parts_are Us want w, g, other)
+pub count_refused : (words : TypedValue → List ℕ) (T : TypeTree) (Us : List TypeTree) (vs : List TypedValue) (want got : ℕ) → Some (types_of Us) ≡ tuple_part T → want ≡ length Us → got ≡ length vs → (want ≡ got → ⊥) → RefusesTuple words T vs (error.WrongNumberOfTupleValues want got)
+count_refused words T Us vs want got is w g other =
+    subst (λ U. RefusesTuple words U vs (error.WrongNumberOfTupleValues want got)) (tuple_is T Us is) (refl, parts_are Us want w, g, other)
 
-one_apart : (Ts : List TypeTree) (vs : List TypedValue) (i : ℕ) (T : TypeTree) (v : TypedValue) → i < length Ts → i < length vs → T ≡ get_or Ts i T → v ≡ get_or vs i v → (v.own ≡ T → ⊥) → EachOwn Ts vs → ⊥
-one_apart [] vs i T v lt lv s r other h = absurd (omega (arith, lt))
-one_apart (U ∷ Ts) [] i T v lt lv s r other h = absurd (omega (arith, lv))
-one_apart (U ∷ Ts) (w ∷ vs) zero T v lt lv s r other h = other (ap (λ (u : TypedValue). u.own) r ∙ (h.0 ∙ sym s))
-one_apart (U ∷ Ts) (w ∷ vs) (suc i) T v lt lv s r other h = one_apart Ts vs i T v (omega (arith, lt)) (omega (arith, lv)) s r other h.1
+item_stated : (Ts : List TypeTree) (vs : List TypedValue) (i : ℕ) (T : TypeTree) (v : TypedValue) → i < length Ts → i < length vs → T ≡ get_or Ts i T → v ≡ get_or vs i v → SomeOf (λ p. (T, v) ≡ p) (each_stated Ts vs)
+item_stated [] vs i T v lt lv s r = absurd (omega (arith, lt))
+item_stated (U ∷ Ts) [] i T v lt lv s r = absurd (omega (arith, lv))
+item_stated (U ∷ Ts) (w ∷ vs) zero T v lt lv s r = inl (λ j. (s j, r j))
+item_stated (U ∷ Ts) (w ∷ vs) (suc i) T v lt lv s r = inr (item_stated Ts vs i T v (omega (arith, lt)) (omega (arith, lv)) s r)
 
-item_refused : (Us : List TypeTree) (vs : List TypedValue) (e : WasmValueError) → length vs ≡ length Us → (EachOwn Us vs → ⊥) → SaysType e → RefusesTuple (type.tuple (types_of Us)) vs e
-item_refused Us vs (error.WrongValueType s r) same h says = (refl, parts_are Us (length vs) same, λ own. h (subst (λ Ts. EachOwn Ts vs) (type_list-types_of Us) own))
-item_refused Us vs (error.Memory r) same h says = tt
-item_refused Us vs _ same h says = absurd says
+item_refused : (words : TypedValue → List ℕ) (Us : List TypeTree) (vs : List TypedValue) (U : TypeTree) (v : TypedValue) (e : WasmValueError) → length vs ≡ length Us → SomeOf (λ p. (U, v) ≡ p) (each_stated Us vs) → (v.own ≡ U → ⊥) → SaysType words U v e → RefusesTuple words (type.tuple (types_of Us)) vs e
+item_refused words Us vs U v (error.WrongValueType t s) same one other says =
+    let told : TellsOne words (string_bytes t) (string_bytes s) (each_stated Us vs) =
+    some_so (λ p. TellsOther words (string_bytes t) (string_bytes s) p.0 p.1) (U, v) (each_stated Us vs) one (other, says.0, says.1) in
+    (refl, parts_are Us (length vs) same, subst (λ Ts. TellsOne words (string_bytes t) (string_bytes s) (each_stated Ts vs)) (sym (type_list-types_of Us)) told)
+item_refused words Us vs U v (error.Memory r) same one other says = tt
+item_refused words Us vs U v _ same one other says = absurd says
 
 -- an item of another type
-pub tuple_refused : (T : TypeTree) (Us : List TypeTree) (vs : List TypedValue) (i : ℕ) (U : TypeTree) (v : TypedValue) (e : WasmValueError) → Some (types_of Us) ≡ tuple_part T → length Us ≡ length vs → i < length vs → U ≡ get_or Us i U → v ≡ get_or vs i v → (v.own ≡ U → ⊥) → SaysType e → RefusesTuple T vs e
-tuple_refused T Us vs i U v e is same lt s r other says =
-    subst (λ W. RefusesTuple W vs e) (tuple_is T Us is) (item_refused Us vs e (sym same) (one_apart Us vs i U v (omega (arith, lt, same)) lt s r other) says)
+pub tuple_refused : (words : TypedValue → List ℕ) (T : TypeTree) (Us : List TypeTree) (vs : List TypedValue) (i : ℕ) (U : TypeTree) (v : TypedValue) (e : WasmValueError) → Some (types_of Us) ≡ tuple_part T → length Us ≡ length vs → i < length vs → U ≡ get_or Us i U → v ≡ get_or vs i v → (v.own ≡ U → ⊥) → SaysType words U v e → RefusesTuple words T vs e
+tuple_refused words T Us vs i U v e is same lt s r other says =
+    subst (λ W. RefusesTuple words W vs e) (tuple_is T Us is) (item_refused words Us vs U v e (sym same) (item_stated Us vs i U v (omega (arith, lt, same)) lt s r) other says)

@@ -16,7 +16,7 @@ use Rattle.wave_wasm.specs.declared.wasm.WasmValueError.{WasmValueError}
 use Rattle.wave_wasm.specs.declared.wasm.WasmValueError.TheVariants as error
 use Rattle.wasm_wave.specs.TypedValue.{TypedValue, IsAt}
 use Rattle.wasm_wave.specs.ValueView.{first_names, trees, beside}
-use Rattle.wasm_wave.specs.Taken.{Made}
+use Rattle.wasm_wave.specs.Taken.{Made, TellsKind, TellsOther}
 
 -- the first of two, where it is there, else the second
 abbrev pub or_else : {A : Type 0} → Option A → Option A → Option A
@@ -37,10 +37,10 @@ abbrev pub HasOwn : TypeTree → Option TypedValue → Type 0
 HasOwn T None = ⊥
 HasOwn T (Some v) = v.own ≡ T
 
--- there is a value, whose own type is another one
-abbrev pub HasOther : TypeTree → Option TypedValue → Type 0
-HasOther T None = ⊥
-HasOther T (Some v) = v.own ≢ T
+-- there is a value, whose own type is another one, and this is told of it
+abbrev pub HasOther : (TypedValue → List ℕ) → List ℕ → List ℕ → TypeTree → Option TypedValue → Type 0
+HasOther words t s T None = ⊥
+HasOther words t s T (Some v) = TellsOther words t s T v
 
 -- the name stands twice
 abbrev pub IsRepeated : List (List ℕ) → List ℕ → Type 0
@@ -61,19 +61,19 @@ pub record MadeRecord (given : List (List ℕ × TypedValue)) (T : TypeTree) (v 
   pub made : Made (value.record_value (field_values (beside (first_names (record_parts T)) (trees last)))) T v
 
 -- a field that is missing or repeated in the type, a name that no field has, a value of another type, or want of memory
-abbrev pub RefusesFields : List (List ℕ × TypeTree) → (List ℕ → Option TypedValue) → WasmValueError → Type 0
-RefusesFields fs under (error.MissingField n) =
+abbrev pub RefusesFields : (TypedValue → List ℕ) → List (List ℕ × TypeTree) → (List ℕ → Option TypedValue) → WasmValueError → Type 0
+RefusesFields words fs under (error.MissingField n) =
     IsOneOf (first_names fs) (string_bytes n) × ((under (string_bytes n) ≡ None) ⊎ IsRepeated (first_names fs) (string_bytes n))
-RefusesFields fs under (error.UnknownField n) = (under (string_bytes n) ≢ None) × (IsOneOf (first_names fs) (string_bytes n) → ⊥)
-RefusesFields fs under (error.WrongValueType t v) = SomeOf (λ f. HasOther f.1 (under f.0)) fs
-RefusesFields fs under (error.Memory e) = Unit {0}
-RefusesFields fs under _ = ⊥
+RefusesFields words fs under (error.UnknownField n) = (under (string_bytes n) ≢ None) × (IsOneOf (first_names fs) (string_bytes n) → ⊥)
+RefusesFields words fs under (error.WrongValueType t s) = SomeOf (λ f. HasOther words (string_bytes t) (string_bytes s) f.1 (under f.0)) fs
+RefusesFields words fs under (error.Memory e) = Unit {0}
+RefusesFields words fs under _ = ⊥
 
 -- a type of another kind, or a refusal of the fields
-abbrev pub RefusesRecord : TypeTree → List (List ℕ × TypedValue) → WasmValueError → Type 0
-RefusesRecord T given (error.WrongTypeKind k t) = (kind_of T ≡ kinds.Record → ⊥) × (k ≡ kinds.Record)
-RefusesRecord T given (error.Memory e) = Unit {0}
-RefusesRecord T given e = (kind_of T ≡ kinds.Record) × RefusesFields (record_parts T) (last_under given) e
+abbrev pub RefusesRecord : (TypedValue → List ℕ) → TypeTree → List (List ℕ × TypedValue) → WasmValueError → Type 0
+RefusesRecord words T given (error.WrongTypeKind k t) = TellsKind kinds.Record T k (string_bytes t)
+RefusesRecord words T given (error.Memory e) = Unit {0}
+RefusesRecord words T given e = (kind_of T ≡ kinds.Record) × RefusesFields words (record_parts T) (last_under given) e
 
 -- each value is at its field's type, and the one under the field's name
 abbrev pub FieldsHeld : (List ℕ → Option TypedValue) → List (List ℕ × TypeTree) → List TypedValue → Type 0

@@ -1,6 +1,9 @@
 -- What each maker of values accepts, what it makes, and what its refusals say.
-use Rattle.std.specs.Prelude.{ℕ, ◌≡◌, ◌≢◌, Bool, true, false, List, [], ◌∷◌, length, Option, Some, None, Result, Ok, Err, string_bytes, codes}
+use Rattle.std.specs.Prelude.{ℕ, ◌≡◌, ◌≢◌, Bool, true, false, List, [], ◌∷◌, map, length, Option, Some, None, Result, Ok, Err, string_bytes, codes}
+use Rattle.wave_wasm.specs.Lists.{SomeOf}
 use Rattle.wave_wasm.specs.Names.{IsOneOf}
+use Rattle.wave_wasm.specs.Text.{text}
+use Rattle.wave_wasm.specs.TypeText.{type_text}
 use Rattle.wave_wasm.specs.Types as type
 use Rattle.wave_wasm.specs.Types.{TypeTree, kind_of, type_option, type_list, tuple_parts}
 use Rattle.wave_wasm.specs.Values.{Value}
@@ -66,22 +69,57 @@ abbrev pub TakesEnum : TypeTree → List ℕ → Type 0
 TakesEnum (type.enum names) name = IsOneOf names name
 TakesEnum _ name = ⊥
 
--- a type of another kind, a component of another type, or want of memory
-abbrev pub RefusesParts : WasmTypeKind → TypeTree → Type 0 → WasmValueError → Type 0
-RefusesParts kind T Takes (error.WrongTypeKind k t) = (kind_of T ≡ kind → ⊥) × (k ≡ kind)
-RefusesParts kind T Takes (error.WrongValueType t v) = (kind_of T ≡ kind) × (Takes → ⊥)
-RefusesParts kind T Takes (error.Memory e) = Unit {0}
-RefusesParts kind T Takes _ = ⊥
+-- what shows a value in a refusal: its canonical text
+abbrev pub value_text : TypedValue → List ℕ
+value_text v = text v.tree
+
+-- or the text of its own type
+abbrev pub own_text : TypedValue → List ℕ
+own_text v = type_text v.own
+
+-- the type is of another kind than this one, which is told beside the type's text
+abbrev pub TellsKind : WasmTypeKind → TypeTree → WasmTypeKind → List ℕ → Type 0
+TellsKind kind T k t = (kind_of T ≢ kind) × (k ≡ kind) × (t ≡ type_text T)
+
+-- the value's own type is another one than this, whose text is told beside what shows the value
+abbrev pub TellsOther : (TypedValue → List ℕ) → List ℕ → List ℕ → TypeTree → TypedValue → Type 0
+TellsOther words t s T v = (v.own ≢ T) × (t ≡ type_text T) × (s ≡ words v)
+
+-- of one of the values, each beside the type that is stated for it, this is told
+abbrev pub TellsOne : (TypedValue → List ℕ) → List ℕ → List ℕ → List (TypeTree × TypedValue) → Type 0
+TellsOne words t s stated = SomeOf (λ p. TellsOther words t s p.0 p.1) stated
+
+-- each item beside the element type
+abbrev pub list_stated : TypeTree → List TypedValue → List (TypeTree × TypedValue)
+list_stated (type.list E) vs = map (λ v. (E, v)) vs
+list_stated _ vs = []
+
+-- each item beside the type at its place
+abbrev pub each_stated : List TypeTree → List TypedValue → List (TypeTree × TypedValue)
+each_stated (T ∷ Ts) (v ∷ vs) = (T, v) ∷ each_stated Ts vs
+each_stated _ _ = []
+
+-- the payload beside its type
+abbrev pub option_stated : TypeTree → Option TypedValue → List (TypeTree × TypedValue)
+option_stated (type.option P) (Some v) = (P, v) ∷ []
+option_stated _ _ = []
+
+-- a type of another kind, a component of another type than the one stated for it, or want of memory
+abbrev pub RefusesParts : (TypedValue → List ℕ) → WasmTypeKind → TypeTree → List (TypeTree × TypedValue) → WasmValueError → Type 0
+RefusesParts words kind T stated (error.WrongTypeKind k t) = TellsKind kind T k (string_bytes t)
+RefusesParts words kind T stated (error.WrongValueType t s) = (kind_of T ≡ kind) × TellsOne words (string_bytes t) (string_bytes s) stated
+RefusesParts words kind T stated (error.Memory e) = Unit {0}
+RefusesParts words kind T stated _ = ⊥
 
 -- so, or another count, which goes first
-abbrev pub RefusesTuple : TypeTree → List TypedValue → WasmValueError → Type 0
-RefusesTuple T vs (error.WrongTypeKind k t) = (kind_of T ≡ kinds.Tuple → ⊥) × (k ≡ kinds.Tuple)
-RefusesTuple T vs (error.WrongNumberOfTupleValues want got) =
+abbrev pub RefusesTuple : (TypedValue → List ℕ) → TypeTree → List TypedValue → WasmValueError → Type 0
+RefusesTuple words T vs (error.WrongTypeKind k t) = TellsKind kinds.Tuple T k (string_bytes t)
+RefusesTuple words T vs (error.WrongNumberOfTupleValues want got) =
     (kind_of T ≡ kinds.Tuple) × (want ≡ length (tuple_parts T)) × (got ≡ length vs) × (want ≢ got)
-RefusesTuple T vs (error.WrongValueType t v) =
-    (kind_of T ≡ kinds.Tuple) × (length vs ≡ length (tuple_parts T)) × (TakesTuple T vs → ⊥)
-RefusesTuple T vs (error.Memory e) = Unit {0}
-RefusesTuple T vs _ = ⊥
+RefusesTuple words T vs (error.WrongValueType t s) =
+    (kind_of T ≡ kinds.Tuple) × (length vs ≡ length (tuple_parts T)) × TellsOne words (string_bytes t) (string_bytes s) (each_stated (tuple_parts T) vs)
+RefusesTuple words T vs (error.Memory e) = Unit {0}
+RefusesTuple words T vs _ = ⊥
 
 -- a payload type without a payload
 abbrev pub IsMissing : Option TypeTree → Option TypedValue → Type 0
@@ -93,18 +131,18 @@ abbrev pub IsUnexpected : Option TypeTree → Option TypedValue → Type 0
 IsUnexpected None (Some v) = Unit {0}
 IsUnexpected _ p = ⊥
 
--- a payload of another type
-abbrev pub IsOther : Option TypeTree → Option TypedValue → Type 0
-IsOther (Some P) (Some v) = v.own ≢ P
-IsOther _ p = ⊥
+-- a payload of another type, and this is told of it
+abbrev pub IsOther : (TypedValue → List ℕ) → List ℕ → List ℕ → Option TypeTree → Option TypedValue → Type 0
+IsOther words t s (Some P) (Some v) = TellsOther words t s P v
+IsOther words t s _ p = ⊥
 
 -- a payload that is missing, unexpected or of another type at the case of this name, or want of memory
-abbrev pub RefusesPayload : List ℕ → Option TypeTree → Option TypedValue → WasmValueError → Type 0
-RefusesPayload name P p (error.MissingPayload n) = (string_bytes n ≡ name) × IsMissing P p
-RefusesPayload name P p (error.UnexpectedPayload n) = (string_bytes n ≡ name) × IsUnexpected P p
-RefusesPayload name P p (error.WrongValueType t v) = IsOther P p
-RefusesPayload name P p (error.Memory e) = Unit {0}
-RefusesPayload name P p _ = ⊥
+abbrev pub RefusesPayload : (TypedValue → List ℕ) → List ℕ → Option TypeTree → Option TypedValue → WasmValueError → Type 0
+RefusesPayload words name P p (error.MissingPayload n) = (string_bytes n ≡ name) × IsMissing P p
+RefusesPayload words name P p (error.UnexpectedPayload n) = (string_bytes n ≡ name) × IsUnexpected P p
+RefusesPayload words name P p (error.WrongValueType t s) = IsOther words (string_bytes t) (string_bytes s) P p
+RefusesPayload words name P p (error.Memory e) = Unit {0}
+RefusesPayload words name P p _ = ⊥
 
 -- the side that is asked for: its name, its payload type, its payload
 abbrev pub side_name : Result (Option TypedValue) (Option TypedValue) → List ℕ
@@ -121,14 +159,14 @@ side_payload (Ok p) = p
 side_payload (Err p) = p
 
 -- a type of another kind, or a refusal of the payload at `ok` or `err`
-abbrev pub RefusesResult : TypeTree → Result (Option TypedValue) (Option TypedValue) → WasmValueError → Type 0
-RefusesResult T r (error.WrongTypeKind k t) = (kind_of T ≡ kinds.Result → ⊥) × (k ≡ kinds.Result)
-RefusesResult T r (error.Memory e) = Unit {0}
-RefusesResult T r e = (kind_of T ≡ kinds.Result) × RefusesPayload (side_name r) (side_type T r) (side_payload r) e
+abbrev pub RefusesResult : (TypedValue → List ℕ) → TypeTree → Result (Option TypedValue) (Option TypedValue) → WasmValueError → Type 0
+RefusesResult words T r (error.WrongTypeKind k t) = TellsKind kinds.Result T k (string_bytes t)
+RefusesResult words T r (error.Memory e) = Unit {0}
+RefusesResult words T r e = (kind_of T ≡ kinds.Result) × RefusesPayload words (side_name r) (side_type T r) (side_payload r) e
 
 -- a type of another kind, or an unknown case
 abbrev pub RefusesEnum : TypeTree → List ℕ → WasmValueError → Type 0
-RefusesEnum T name (error.WrongTypeKind k t) = (kind_of T ≡ kinds.Enum → ⊥) × (k ≡ kinds.Enum)
+RefusesEnum T name (error.WrongTypeKind k t) = TellsKind kinds.Enum T k (string_bytes t)
 RefusesEnum T name (error.UnknownCase n) = (kind_of T ≡ kinds.Enum) × (string_bytes n ≡ name) × (TakesEnum T name → ⊥)
 RefusesEnum T name (error.Memory e) = Unit {0}
 RefusesEnum T name _ = ⊥
@@ -136,16 +174,16 @@ RefusesEnum T name _ = ⊥
 -- ---- what the helpers of refusals say
 
 -- the type is of another kind than this one
-abbrev pub SaysKind : WasmTypeKind → WasmValueError → Type 0
-SaysKind kind (error.WrongTypeKind k t) = k ≡ kind
-SaysKind kind (error.Memory e) = Unit {0}
-SaysKind kind _ = ⊥
+abbrev pub SaysKind : WasmTypeKind → TypeTree → WasmValueError → Type 0
+SaysKind kind T (error.WrongTypeKind k t) = (k ≡ kind) × (string_bytes t ≡ type_text T)
+SaysKind kind T (error.Memory e) = Unit {0}
+SaysKind kind T _ = ⊥
 
--- a component is of another type
-abbrev pub SaysType : WasmValueError → Type 0
-SaysType (error.WrongValueType t v) = Unit {0}
-SaysType (error.Memory e) = Unit {0}
-SaysType _ = ⊥
+-- the value is of another type than this one
+abbrev pub SaysType : (TypedValue → List ℕ) → TypeTree → TypedValue → WasmValueError → Type 0
+SaysType words T v (error.WrongValueType t s) = (string_bytes t ≡ type_text T) × (string_bytes s ≡ words v)
+SaysType words T v (error.Memory e) = Unit {0}
+SaysType words T v _ = ⊥
 
 -- the case is unknown
 abbrev pub SaysCase : List ℕ → WasmValueError → Type 0

@@ -15,7 +15,7 @@ use Rattle.wave_wasm.specs.declared.wasm.WasmValueError.{WasmValueError}
 use Rattle.wave_wasm.specs.declared.wasm.WasmValueError.TheVariants as error
 use Rattle.wasm_wave.specs.TypedValue.{TypedValue}
 use Rattle.wasm_wave.specs.ValueView.{first_names}
-use Rattle.wasm_wave.specs.Taken.{Made, PayloadOwn, RefusesPayload}
+use Rattle.wasm_wave.specs.Taken.{Made, PayloadOwn, TellsKind, RefusesPayload}
 
 -- ---- variants
 
@@ -29,11 +29,11 @@ abbrev pub TakesVariant : TypeTree → List ℕ → Option TypedValue → Type 0
 TakesVariant T name payload = (P : Option TypeTree) × IsFirstCase (variant_parts T) name P × PayloadOwn P payload
 
 -- a type of another kind, a name that is no case, a payload that the first case of this name doesn't take, or want of memory
-abbrev pub RefusesVariant : TypeTree → List ℕ → Option TypedValue → WasmValueError → Type 0
-RefusesVariant T name payload (error.WrongTypeKind k t) = (kind_of T ≢ kinds.Variant) × (k ≡ kinds.Variant)
-RefusesVariant T name payload (error.UnknownCase n) = (kind_of T ≡ kinds.Variant) × (string_bytes n ≡ name) × IsNoneOf (first_names (variant_parts T)) name
-RefusesVariant T name payload (error.Memory e) = Unit {0}
-RefusesVariant T name payload e = (kind_of T ≡ kinds.Variant) × (P : Option TypeTree) × IsFirstCase (variant_parts T) name P × RefusesPayload name P payload e
+abbrev pub RefusesVariant : (TypedValue → List ℕ) → TypeTree → List ℕ → Option TypedValue → WasmValueError → Type 0
+RefusesVariant words T name payload (error.WrongTypeKind k t) = TellsKind kinds.Variant T k (string_bytes t)
+RefusesVariant words T name payload (error.UnknownCase n) = (kind_of T ≡ kinds.Variant) × (string_bytes n ≡ name) × IsNoneOf (first_names (variant_parts T)) name
+RefusesVariant words T name payload (error.Memory e) = Unit {0}
+RefusesVariant words T name payload e = (kind_of T ≡ kinds.Variant) × (P : Option TypeTree) × IsFirstCase (variant_parts T) name P × RefusesPayload words name P payload e
 
 -- ---- flags
 
@@ -53,7 +53,7 @@ TakesFlags T handed = (kind_of T ≡ kinds.Flags) × AreAllOf (flags_names T) ha
 
 -- a type of another kind, a name that is no flag, or want of memory
 abbrev pub RefusesFlags : TypeTree → List (List ℕ) → WasmValueError → Type 0
-RefusesFlags T handed (error.WrongTypeKind k t) = (kind_of T ≢ kinds.Flags) × (k ≡ kinds.Flags)
+RefusesFlags T handed (error.WrongTypeKind k t) = TellsKind kinds.Flags T k (string_bytes t)
 RefusesFlags T handed (error.Memory e) = Unit {0}
 RefusesFlags T handed e = (kind_of T ≡ kinds.Flags) × RefusesNames (flags_names T) handed e
 
@@ -72,3 +72,12 @@ EntriesOwn K V (e ∷ es) = (e.0.own ≡ K) × (e.1.own ≡ V) × EntriesOwn K V
 abbrev pub TakesMap : TypeTree → List (TypedValue × TypedValue) → Type 0
 TakesMap (type.map K V) es = EntriesOwn (type.simple K) V es
 TakesMap _ es = ⊥
+
+-- each key beside the key type, and each value beside the value type
+abbrev pub entries_stated : TypeTree → TypeTree → List (TypedValue × TypedValue) → List (TypeTree × TypedValue)
+entries_stated K V [] = []
+entries_stated K V (e ∷ es) = (K, e.0) ∷ ((V, e.1) ∷ entries_stated K V es)
+
+abbrev pub map_stated : TypeTree → List (TypedValue × TypedValue) → List (TypeTree × TypedValue)
+map_stated (type.map K V) es = entries_stated (type.simple K) V es
+map_stated _ es = []

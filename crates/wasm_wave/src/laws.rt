@@ -1,9 +1,27 @@
-//! Laws of reading and writing, over the definitions alone.
+//! Laws of reading and writing, over the definitions alone: those of this crate, and those of the
+//! crates below under the same names.
+ghost use Rattle.std.specs.Prelude.{◌≡◌, ◌↔◌, true};
 ghost use Rattle.wave_wasm.specs.Types.{TypeTree, HasDistinctNames, IsOwn};
 ghost use Rattle.wave_lex.specs.Labels.{Good};
 ghost use Rattle.wave_tree.specs.Laws.{OneReading};
 ghost use Rattle.wave_tree.specs.CanonLaws.{ReadsBack, EqualTexts, ReadsMerged, ReadsBackWithinTwice};
 ghost use Rattle.wasm_wave.specs.Headline.{OneValue};
+ghost use Rattle.wasm_wave.specs.SameType.{same_tree};
+ghost use Rattle.wasm_wave.specs.SameValue.{same_typed};
+ghost use Rattle.wasm_wave.specs.TypedValue.{TypedValue};
+
+pub use wave_lex::laws::{
+    faults_refuse, lines_join, no_longer_label, one_cut, one_line_joins, one_meaning, parts_join,
+    through_first_quotes,
+};
+pub use wave_tree::laws::{
+    askings_are_few, fronts_are_led, led_tokens_begin_a_tree, led_tokens_have_a_tree,
+    levels_are_exact, one_reading, one_tree, params_are_by_tree, read_values_have_a_tree,
+    reading_is_by_tree, refusals_are_of_their_kind, refusals_lie_in_the_text,
+    refused_tokens_begin_none, refused_values_have_none, shown_call_keeps_meaning,
+    shown_keeps_meaning, trees_are_led, unexpected_tokens_begin_none,
+};
+pub use wave_wasm::laws::{key_text_injective, merging_keeps_last_values};
 
 /// The grammar gives no text two values: where one spelling begins another, both are one and spell
 /// one value; so a text means one value at most.
@@ -14,13 +32,13 @@ pub fn one_value()
 
 /// Two values of a type whose names are distinct labels have one canonical text exactly where they
 /// are equal, merged, however deep they nest.
-pub fn equal_texts()
+pub fn text_injective()
     ensures { (T : TypeTree) → Good T → EqualTexts T }
 {}
 
 /// The canonical text of a value of such a type cuts into tokens that spell the value, merged, and
 /// no more levels than they hold are needed.
-pub fn texts_read_back()
+pub fn text_reads_back()
     ensures { (T : TypeTree) → Good T → IsOwn T → ReadsBack T }
 {}
 
@@ -31,6 +49,17 @@ pub fn read_values_are_merged()
 
 /// Where the tokens of a text spell a value of such a type within some levels, the value's
 /// canonical text reads back, and holds at most twice as many.
-pub fn texts_within_twice()
+pub fn levels_at_most_double()
     ensures { (T : TypeTree) → Good T → IsOwn T → ReadsBackWithinTwice T }
+{}
+
+/// What `==` answers of two types is true exactly where their trees are one.
+pub fn equal_types()
+    ensures { (T U : TypeTree) → (same_tree T U ≡ true) ↔ (T ≡ U) }
+{}
+
+/// What `==` answers of two values is true exactly where their own types are one and their trees
+/// are: two values of one tree and two types aren't equal.
+pub fn equal_values()
+    ensures { (v w : TypedValue) → (same_typed v w ≡ true) ↔ (v ≡ w) }
 {}

@@ -264,6 +264,20 @@ fn made_flags(rt: HostRuntime) -> Result<(), Fail> {
 }
 
 #[test]
+fn refusals_show_values(rt: HostRuntime) -> Result<(), Fail> {
+    let bytes = Type::list(rt.alloc(), Type::U8)?;
+    let lists = Type::list(rt.alloc(), bytes)?;
+    let wide = Type::list(rt.alloc(), Type::U16)?;
+    let mut items = Vec::new(rt.alloc());
+    items.push(Value::make_list(rt.alloc(), &wide, Vec::new(rt.alloc()))?)?;
+    let refused = made(rt, Value::make_list(rt.alloc(), &lists, items))?;
+    assert_eq!(rt; refused.as_str(), "expected a list<u8>; got []");
+    let refused = made(rt, Value::make_enum(rt.alloc(), &lists, "a"))?;
+    assert_eq!(rt; refused.as_str(), "expected a enum; got list<list<u8>>");
+    Ok(())
+}
+
+#[test]
 fn made_maps(rt: HostRuntime) -> Result<(), Fail> {
     let Some(ty) = Type::map(rt.alloc(), Type::STRING, Type::U8)? else {
         return Ok(());

@@ -15,6 +15,7 @@ use wave_wasm::wasm::{WasmTypeKind, WasmValueError};
 
 mod equality;
 mod made;
+mod makers;
 mod refusals;
 mod ty;
 mod views;
@@ -114,10 +115,13 @@ impl Value {
         self.own.is_own();
     }
 
-    /// The value's own type.
+    /// The value's own type. The value is one of it, and it has a tree of a type.
     pub fn ty(&self) -> Result<Type, AllocError>
-        ensures { IfOk result (λ t. t ≡ self.now.own) }
+        ensures own { IfOk result (λ t. t ≡ self.now.own) }
+        ensures typed { IsTyped self.now }
+        ensures tree { IsOwn self.now.own }
     {
+        self.is_typed();
         self.own.clone()
     }
 

@@ -1,3 +1,4 @@
 pub mod Pairs
-pub mod Written
+pub mod Moved
 pub mod Named
+pub mod Printed

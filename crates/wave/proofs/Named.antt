@@ -1,11 +1,10 @@
 -- What reading at the named types says of a request.
-use Rattle.std.proofs.Common.{ℕ, ◌≡◌, List}
-use Rattle.wave_wasm.specs.Types.{HasDistinctNames}
+use Rattle.std.proofs.Common.{ℕ, ◌≡◌, ◌≢◌, ◌⊎◌, List, inl, inr, subst, sym}
 use Rattle.wave_lex.specs.declared.error.ParserError.{ParserError}
 use Rattle.wave_lex.specs.declared.error.ParserErrorKind.TheVariants as kind
-use Rattle.wave_tree.specs.FromText.{MeansNone}
+use Rattle.wave_tree.specs.FromText.{MeansNone, TextFault, RefusesText}
 use Rattle.wasm_wave.specs.Built.{IsFull}
-use Rattle.wasm_wave.specs.Headline.{IsReadAs, RefusesOnly}
+use Rattle.wasm_wave.specs.Headline.{IsReadAs}
 use Rattle.wasm_wave.specs.TypedValue.{TypedValue}
 use Rattle.wave_wasm.specs.Text.{text}
 use Rattle.wave.specs.declared.request.TypeName.{TypeName}
@@ -32,7 +31,15 @@ full name.U64 = tt
 pub answered : (n : TypeName) (s : List ℕ) (v : TypedValue) (answer : List ℕ) → IsReadAs (type_of n) s v → answer ≡ text v.tree → Answers (Read n) s answer
 answered n s v answer read same = (v.tree, (read (full n)).0, same)
 
--- a refusal says that there is no answer, or memory ran out
-pub refused : (n : TypeName) (s : List ℕ) (e : ParserError) (u : Unanswered) → RefusesOnly (type_of n) s e → MatchesRefusal e u → IsUnanswered (Read n) s u
-refused n s e (why.Refused refusal) only same = λ answer found. only (full n) same.1 found.0 found.1
-refused n s e why.OutOfMemory only same = tt
+-- the refusal tells a fault of the text, which has no answer; or it is want of memory
+told : (n : TypeName) (s : List ℕ) (e : ParserError) → RefusesText IsFull (type_of n) s e → e.kind ≢ kind.OutOfMemory → IsRefused (Read n) s e
+told n s e fault other = by (fault (full n)) where
+  by : (e.kind ≡ kind.OutOfMemory) ⊎ TextFault (type_of n) s e × MeansNone (type_of n) s ⊎ (e.kind ≡ kind.WasmValueError) × (IsFull (type_of n) → ⊥) → IsRefused (Read n) s e
+  by (inl memory) = absurd (other memory)
+  by (inr (inl (wrong, none))) = (wrong, λ answer found. none found.0 found.1)
+  by (inr (inr (is, partly))) = absurd (partly (full n))
+
+-- so is what the program makes of it
+pub refused : (n : TypeName) (s : List ℕ) (e : ParserError) (u : Unanswered) → RefusesText IsFull (type_of n) s e → MatchesRefusal e u → IsUnanswered (Read n) s u
+refused n s e (why.Refused refusal) fault same = subst (IsRefused (Read n) s) (sym same.0) (told n s e fault same.1)
+refused n s e why.OutOfMemory fault same = tt

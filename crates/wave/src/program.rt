@@ -1,17 +1,15 @@
 // The program between a reader and a writer.
-ghost use Rattle.std.specs.Prelude.{ℕ, ◌≡◌, ◌≢◌, ◌≤◌, ◌⊎◌, take, map, MatchResult, IfOk, IfErr, string_bytes, ◌++◌, ◌∷◌, []};
-ghost use Rattle.std.specs.Io.KnownBytes.{Appends};
-ghost use Rattle.wave.specs.Fronts.{AppendsFront};
-ghost use Rattle.wave_lex.specs.declared.error.ParserErrorKind.TheVariants as kind;
-ghost use Rattle.wave.specs.declared.input.Fault.TheVariants.{NotUtf8};
+ghost use Rattle.std.specs.Prelude.{ℕ, List, ◌≡◌, ◌≢◌, ◌≤◌, ◌⊎◌, map, MatchResult, IfOk, IfErr, OnOk, string_bytes};
+ghost use Rattle.wave.specs.Written.{WritesWhole, WritesLess};
 ghost use Rattle.wave.specs.declared.request.Request.TheVariants as request;
 ghost use Rattle.wave.specs.Requests.{AreUnknown, type_of};
-ghost use Rattle.wave.specs.Answers.{Answers, IsRefused, IsAnswered, IsRefusal, IsOutcome, IsCutShort, IsNoText, IsUnanswered, MatchesRefusal, line, words_of_fault, usage};
+ghost use Rattle.wave.specs.Answers.{Answers, IsOutcome, IsFaultOf, IsUnanswered, MatchesRefusal, line, words_of_fault};
+ghost use Rattle.wave.specs.Statuses.{IsAnswer, IsRefusal, IsUsage, IsCutShort, IsFaulty, TellsFault};
 
-use crate::input::{Fault, read_whole};
-use crate::output::write_whole;
+use crate::input::{Fault, Input, read_whole};
+use crate::output::{Output, write_whole};
 use crate::request::{Request, TypeName, request_of};
-use std::alloc::Global;
+use std::alloc::{AllocError, Global};
 use std::io::{Read, Write};
 use wasm_wave::parser::{ParserError, ParserErrorKind};
 use wasm_wave::value::Type;
@@ -22,44 +20,59 @@ const USAGE: &str = "usage: wave value | wave call | wave read NAME\n";
 /// Answers the words on the input, and gives the status to end with: 0 where the request has an
 /// answer, 1 where it has none, 2 where the words make no request, and 3 where the input or the
 /// output failed, the input is no text, or memory ran out.
-pub fn run<R: Read, W: Write>(alloc: Global, words: &[String], reader: &mut R, writer: &mut W) -> u8
+pub fn run<R: Read, W: Write>(
+    alloc: Global,
+    words: &[String],
+    input: &mut Input<R>,
+    output: &mut Output<W>,
+) -> u8
     ensures statuses { result ≤ 3 }
-    ensures answered { result ≡ 0 → IsAnswered (map string_bytes words.now) (R.remaining reader.old) (W.contents writer.old) (W.contents writer.new) }
-    ensures refused { result ≡ 1 → IsRefusal (map string_bytes words.now) (R.remaining reader.old) (W.contents writer.old) (W.contents writer.new) }
-    ensures unknown { result ≡ 2 → AreUnknown (map string_bytes words.now) × Appends (W.contents writer.old) (W.contents writer.new) usage }
-    ensures failed { result ≡ 3 → IsCutShort (map string_bytes words.now) (R.remaining reader.old) (W.contents writer.old) (W.contents writer.new) }
+    ensures answered { result ≡ 0 → (said : List ℕ) × IsAnswer (map string_bytes words.now) (R.remaining input.old.reader) said × WritesWhole W.contents output.old output.new said }
+    ensures refused { result ≡ 1 → (said : List ℕ) × IsRefusal (map string_bytes words.now) (R.remaining input.old.reader) said × WritesWhole W.contents output.old output.new said }
+    ensures unknown { result ≡ 2 → (said : List ℕ) × IsUsage (map string_bytes words.now) said × WritesWhole W.contents output.old output.new said }
+    ensures failed { result ≡ 3 →
+        IsCutShort W.contents (map string_bytes words.now) (R.remaining input.old.reader) output.old output.new
+        ⊎ IsFaulty W.contents (map string_bytes words.now) (R.remaining input.old.reader) input.new output.old output.new }
     // The words are tested before anything is read.
-    ensures tested_first { AreUnknown (map string_bytes words.now) → (reader.new ≡ reader.old) × ((result ≡ 2) ⊎ (result ≡ 3)) }
+    ensures tested_first { AreUnknown (map string_bytes words.now) → input.new ≡ input.old }
+    ensures went_well { result ≢ 3 → input.new.has_failed ≡ input.old.has_failed }
+    ensures counted { input.new.reads_left ≤ input.old.reads_left }
 {
     let Some(request) = request_of(words) else {
-        return print(writer, USAGE, 2);
+        return print(output, USAGE, 2);
     };
-    match respond(alloc, request, reader) {
-        Ok(Outcome::Answered(line)) => print(writer, line.as_str(), 0),
-        Ok(Outcome::Refused(line)) => print(writer, line.as_str(), 1),
-        Err(fault) => report(writer, fault),
+    match respond(alloc, request, input) {
+        Ok(Outcome::Answered(line)) => print(output, line.as_str(), 0),
+        Ok(Outcome::Refused(line)) => print(output, line.as_str(), 1),
+        Err(fault) => report(output, fault),
     }
 }
 
 /// Says why there is no answer and no refusal.
-pub fn report<W: Write>(writer: &mut W, fault: Fault) -> u8
+pub fn report<W: Write>(output: &mut Output<W>, fault: Fault) -> u8
     ensures status { result ≡ 3 }
-    ensures front { AppendsFront (W.contents writer.old) (W.contents writer.new) (line (words_of_fault fault)) }
+    ensures told { TellsFault W.contents output.old output.new fault }
 {
-    let line = match fault {
+    print(output, fault_line(fault), 3)
+}
+
+/// The words of a fault, and a line feed.
+fn fault_line(fault: Fault) -> &'static str
+    ensures { result.now ≡ line (words_of_fault fault) }
+{
+    match fault {
         Fault::NotUtf8 => "input is not UTF-8\n",
         Fault::InputFailed => "input failed\n",
         Fault::OutOfMemory => "out of memory\n",
-    };
-    print(writer, line, 3)
+    }
 }
 
-/// The status, or 3 where the line couldn't be written.
-fn print<W: Write>(writer: &mut W, line: &str, status: u8) -> u8
-    ensures status { (result ≡ status × Appends (W.contents writer.old) (W.contents writer.new) line.now) ⊎ (result ≡ 3) }
-    ensures front { AppendsFront (W.contents writer.old) (W.contents writer.new) line.now }
+/// The status, or 3 where a write failed before all of the line was written.
+fn print<W: Write>(output: &mut Output<W>, line: &str, status: u8) -> u8
+    ensures { ((result ≡ status) × WritesWhole W.contents output.old output.new line.now)
+        ⊎ ((result ≡ 3) × WritesLess W.contents output.old output.new line.now) }
 {
-    if write_whole(writer, line.as_bytes()) {
+    if write_whole(output, line.as_bytes()) {
         status
     } else {
         3
@@ -81,26 +94,32 @@ enum Unanswered {
 }
 
 /// The outcome of the request on all of the input.
-fn respond<R: Read>(alloc: Global, request: Request, reader: &mut R) -> Result<Outcome, Fault>
-    ensures outcome { IfOk result (λ outcome. IsOutcome request (R.remaining reader.old) outcome) }
-    ensures fault { IfErr result (λ fault. fault ≡ NotUtf8 → IsNoText (R.remaining reader.old)) }
+fn respond<R: Read>(alloc: Global, request: Request, input: &mut Input<R>) -> Result<Outcome, Fault>
+    ensures outcome { IfOk result (IsOutcome request (R.remaining input.old.reader)) }
+    ensures went_well { OnOk result (input.new.has_failed ≡ input.old.has_failed) }
+    ensures fault { IfErr result (IsFaultOf (R.remaining input.old.reader) input.new) }
+    ensures counted { input.new.reads_left ≤ input.old.reads_left }
 {
-    let bytes = read_whole(alloc, reader)?;
+    let bytes = read_whole(alloc, input)?;
     let Ok(text) = str::from_utf8(&bytes) else {
         return Err(Fault::NotUtf8);
     };
     match answer(alloc, request, text) {
-        Ok(mut line) => {
-            line.push('\n')?;
-            Ok(Outcome::Answered(line))
+        Ok(answer) => Ok(Outcome::Answered(line_of(answer)?)),
+        Err(Unanswered::Refused(refusal)) => {
+            Ok(Outcome::Refused(line_of(refusal.to_string(alloc)?)?))
         }
         Err(Unanswered::OutOfMemory) => Err(Fault::OutOfMemory),
-        Err(Unanswered::Refused(refusal)) => {
-            let mut line = refusal.to_string(alloc)?;
-            line.push('\n')?;
-            Ok(Outcome::Refused(line))
-        }
     }
+}
+
+/// The text and a line feed.
+fn line_of(text: String) -> Result<String, AllocError>
+    ensures { IfOk result (λ whole. string_bytes whole ≡ line (string_bytes text)) }
+{
+    let mut whole = text;
+    whole.push('\n')?;
+    Ok(whole)
 }
 
 /// The answer of the request on the text.

@@ -1,4 +1,6 @@
 // Runs of the program between readers and writers of their own.
+use crate::input::Input;
+use crate::output::Output;
 use crate::program::run;
 use std::alloc::{AllocError, Global};
 use std::io;
@@ -78,7 +80,12 @@ fn read(alloc: Global, name: &str, input: &[u8]) -> Result<(u8, Vec<u8>), AllocE
     let words = texts(alloc, &["read", name])?;
     let mut reader = input;
     let mut written = Vec::new(alloc);
-    let status = run(alloc, &words, &mut reader, &mut written);
+    let status = run(
+        alloc,
+        &words,
+        &mut Input::new(&mut reader),
+        &mut Output::new(&mut written),
+    );
     Ok((status, written))
 }
 
@@ -178,7 +185,15 @@ fn words_come_before_input(rt: HostRuntime) -> Result<(), Fail> {
         let mut reader = &b"1//"[..];
         let mut written = Vec::new(alloc);
         let words = texts(alloc, words)?;
-        assert_eq!(rt; run(alloc, &words, &mut reader, &mut written), 2);
+        assert_eq!(rt;
+            run(
+                alloc,
+                &words,
+                &mut Input::new(&mut reader),
+                &mut Output::new(&mut written)
+            ),
+            2
+        );
         assert_eq!(rt; written.as_slice(), usage);
         assert_eq!(rt; reader.len(), 3);
     }
@@ -200,7 +215,15 @@ fn counts_reads(rt: HostRuntime) -> Result<(), Fail> {
         let words = texts(alloc, &["read", "u8"])?;
         let mut reader = Drip { left: bytes };
         let mut written = Vec::new(alloc);
-        assert_eq!(rt; run(alloc, &words, &mut reader, &mut written), status);
+        assert_eq!(rt;
+            run(
+                alloc,
+                &words,
+                &mut Input::new(&mut reader),
+                &mut Output::new(&mut written)
+            ),
+            status
+        );
     }
     Ok(())
 }
@@ -211,7 +234,15 @@ fn a_failed_read(rt: HostRuntime) -> Result<(), Fail> {
     let words = texts(alloc, &["read", "u8"])?;
     let mut written = Vec::new(alloc);
     let mut reader = Broken { is_begun: false };
-    assert_eq!(rt; run(alloc, &words, &mut reader, &mut written), 3);
+    assert_eq!(rt;
+        run(
+            alloc,
+            &words,
+            &mut Input::new(&mut reader),
+            &mut Output::new(&mut written)
+        ),
+        3
+    );
     assert_eq!(rt; str::from_utf8(&written)?, "input failed\n");
     Ok(())
 }
@@ -229,7 +260,15 @@ fn a_failed_write(rt: HostRuntime) -> Result<(), Fail> {
         let mut reader = &b"1//"[..];
         let taken = Vec::new(alloc);
         let mut writer = Narrow { taken, room, fails };
-        assert_eq!(rt; run(alloc, &words, &mut reader, &mut writer), status);
+        assert_eq!(rt;
+            run(
+                alloc,
+                &words,
+                &mut Input::new(&mut reader),
+                &mut Output::new(&mut writer)
+            ),
+            status
+        );
         assert_eq!(rt; writer.taken.as_slice(), output);
     }
     Ok(())

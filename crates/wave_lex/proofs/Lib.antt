@@ -10,6 +10,7 @@ pub mod Lexing
 pub mod Fieldless
 pub mod Cutting
 pub mod Next
+pub mod Items
 pub mod Decoding
 pub mod Unescape
 pub mod Parts

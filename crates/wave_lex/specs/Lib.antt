@@ -3,6 +3,7 @@ pub mod Derive
 pub mod Fronts
 pub mod Tokens
 pub mod Lexing
+pub mod Items
 pub mod Reading
 pub mod Machines
 pub mod NameMachine

@@ -82,8 +82,11 @@ impl fmt::Display for ParserErrorKind {
 /// A word more on a refusal.
 #[derive(Debug, Drop)]
 pub enum Detail {
+    /// No word more.
     None,
+    /// Words that are written in the program.
     Static(&'static str),
+    /// Words that were made for this refusal.
     Owned(String),
 }
 
@@ -211,6 +214,11 @@ impl std::error::Error for ParserErrorKind {}
 impl std::error::Error for ParserError {}
 
 impl From<ParserError> for fmt::Error {
+    ghost use Rattle.std.specs.Prelude.{◌≡◌};
+    ghost use Rattle.std.specs.Fmt.{fmt_error};
+
+    ghost from_gives = { λ _ r. r ≡ fmt_error };
+
     fn from(_error: ParserError) -> fmt::Error {
         fmt::Error
     }

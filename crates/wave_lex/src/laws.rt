@@ -1,4 +1,5 @@
 //! Laws of the definitions.
+ghost use Rattle.wave_lex.specs.Items.{TokensCut};
 ghost use Rattle.wave_lex.specs.Lexing.{NoLongerLabel, OneCut, ThroughFirstQuotes};
 ghost use Rattle.wave_lex.specs.Multiline.{FaultsRefuse, OneMeaning};
 ghost use Rattle.wave_lex.specs.Parts.{LinesJoin, OneLineJoins, PartsJoin};
@@ -6,6 +7,12 @@ ghost use Rattle.wave_lex.specs.Parts.{LinesJoin, OneLineJoins, PartsJoin};
 /// No text is cut into tokens in two ways.
 pub fn one_cut()
     ensures { OneCut }
+{}
+
+/// The tokens that a lexer gives are those into which the source cuts; where it refuses one, the source
+/// cuts into none.
+pub fn tokens_cut()
+    ensures { TokensCut }
 {}
 
 /// The parts of a string join to what it decodes to; a refusal tells its first bad escape.

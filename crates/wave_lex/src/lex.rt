@@ -31,18 +31,31 @@ pub type Span = Range<usize>;
 /// The class of a token.
 #[derive(Clone, Copy, Debug, PartialEq, Eq)]
 pub enum Token {
+    /// `{`
     BraceOpen,
+    /// `}`
     BraceClose,
+    /// `(`
     ParenOpen,
+    /// `)`
     ParenClose,
+    /// `[`
     BracketOpen,
+    /// `]`
     BracketClose,
+    /// `:`
     Colon,
+    /// `,`
     Comma,
+    /// A number, or `-inf`.
     Number,
+    /// A label, perhaps behind a `%`, or a keyword.
     LabelOrKeyword,
+    /// One scalar or escape between single quotes.
     Char,
+    /// A text in one line between double quotes.
     String,
+    /// Lines between three double quotes.
     MultilineString,
 }
 
@@ -80,6 +93,7 @@ impl fmt::Display for Token {
 /// The one class of a function name lexer.
 #[derive(Clone, Copy, Debug, PartialEq, Eq)]
 pub enum FuncNameToken {
+    /// The name of a function, with its package, its interface and its version where it has them.
     FunctionName,
 }
 

@@ -4,7 +4,8 @@ ghost use Rattle.std.specs.Iterator.{at_most};
 ghost use Rattle.std.specs.Char.{digit_value};
 ghost use Rattle.wave_lex.specs.Strings.{UnescapesTo, short_escape};
 ghost use Rattle.wave_lex.specs.Multiline.{pieces, closing_piece, DropsReturn};
-ghost use Rattle.wave_lex.specs.Left.{ended_lines, size_of, one_line};
+ghost use Rattle.wave_lex.specs.declared.strings.StringPartsIter.TheVariants.{Normal};
+ghost use Rattle.wave_lex.specs.Left.{ended_lines, size_of};
 ghost use Rattle.wave_lex.specs.Parts.{PartIs, LinePartIs, OpensTo, OpeningRefused, left_of};
 ghost use Rattle.wave_lex.specs.Lines.{LineIs, SplitsLine, OpeningIs, BehindLastFeed};
 
@@ -189,7 +190,9 @@ impl<'a> Iterator for MultilineStringParts<'a> {
 /// The parts of a string of either kind.
 #[derive(Drop)]
 pub enum StringPartsIter<'a> {
+    /// Those of a string in one line.
     Normal(StringParts<'a>),
+    /// Those of a multiline string.
     Multiline(MultilineStringParts<'a>),
 }
 
@@ -198,7 +201,7 @@ impl<'a> StringPartsIter<'a> {
     /// source.
     pub fn new(src: &'a str, pos: usize) -> StringPartsIter<'a>
         requires { pos + length src.now + 3 < 2 ^ 64 }
-        ensures { left_of result ≡ one_line (record { rest = src.now; pos = pos }) }
+        ensures { result ≡ Normal (record { rest = src.now; pos = pos }) }
     {
         StringPartsIter::Normal(StringParts::new(src, pos))
     }

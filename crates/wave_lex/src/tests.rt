@@ -57,6 +57,13 @@ fn tokens(rt: HostRuntime) -> Result<(), Fail> {
         ),
         ("", "0..0"),
         ("// only", "7..7"),
+        ("1//", "Number 0..1, 3..3"),
+        ("[1, ", "BracketOpen 0..1, Number 1..2, Comma 2..3, 4..4"),
+        ("\"\"\"abc", "refused 0..3, LabelOrKeyword 3..6, 6..6"),
+        ("\"\"\"\"\"", "refused 0..3, String 3..5, 5..5"),
+        ("\"\"\"\"\"\"", "MultilineString 0..6, 6..6"),
+        ("'☃' '☃\u{fe0f}'", "Char 0..5, refused 6..14, 14..14"),
+        ("'\\u{D800}'", "Char 0..10, 10..10"),
         (
             "a//\r1\nb",
             "LabelOrKeyword 0..1, LabelOrKeyword 6..7, 7..7",
@@ -73,6 +80,8 @@ fn tokens(rt: HostRuntime) -> Result<(), Fail> {
 fn lexer_calls(rt: HostRuntime) -> Result<(), Fail> {
     let mut asked = Asked::new();
     let mut lexer = Lexer::new(" ab 1");
+    assert_eq!(rt; lexer.span(), 0..0);
+    assert_eq!(rt; lexer.slice(), "");
     assert_eq!(rt; lexer.remainder(), " ab 1");
     assert_eq!(rt;
         lexer.next_ticked(&mut asked),
@@ -86,6 +95,14 @@ fn lexer_calls(rt: HostRuntime) -> Result<(), Fail> {
     assert_eq!(rt; other.next(), None);
     assert_eq!(rt; other.span(), 5..5);
     assert_eq!(rt; lexer.span(), 1..3);
+    assert_eq!(rt; lexer.next_ticked(&mut asked), Some(Ok(Token::Number)));
+    assert_eq!(rt; lexer.next_ticked(&mut asked), None);
+    assert_eq!(rt; lexer.next_ticked(&mut asked), None);
+    let mut last = None;
+    for item in Lexer::new("a ☃ 1") {
+        last = Some(item);
+    }
+    assert_eq!(rt; last, Some(Ok(Token::Number)));
     assert_eq!(rt; Token::Comma.name(), "Comma");
     assert_eq!(rt; Keyword::decode("inf"), Some(Keyword::Inf));
     Ok(())
@@ -94,6 +111,7 @@ fn lexer_calls(rt: HostRuntime) -> Result<(), Fail> {
 #[test]
 fn function_names(rt: HostRuntime) -> Result<(), Fail> {
     let mut lexer = FuncNameLexer::new("a:b/c.d@1.0.0(1)");
+    assert_eq!(rt; lexer.span(), 0..0);
     assert_eq!(rt; lexer.next(), Some(Ok(FuncNameToken::FunctionName)));
     assert_eq!(rt; lexer.slice(), "a:b/c.d@1.0.0");
     assert_eq!(rt; lexer.remainder(), "(1)");
@@ -106,6 +124,11 @@ fn function_names(rt: HostRuntime) -> Result<(), Fail> {
     assert_eq!(rt; blank.next(), Some(Err(0..1)));
     assert_eq!(rt; blank.span(), 0..1);
     assert_eq!(rt; FuncNameLexer::new("").next(), None);
+    let mut last = None;
+    for item in FuncNameLexer::new("a.b.") {
+        last = Some(item);
+    }
+    assert_eq!(rt; last, Some(Err(3..4)));
     let name = format!(in rt.alloc(); "{}", FuncNameToken::FunctionName)?;
     assert_eq!(rt; name.as_str(), "FunctionName");
     Ok(())
@@ -162,9 +185,12 @@ fn refusals(rt: HostRuntime) -> Result<(), Fail> {
     let token = ParserError::with_static(ParserErrorKind::UnexpectedToken, 4..7, "String");
     let text = format!(in rt.alloc(); "{token}")?;
     assert_eq!(rt; text.as_str(), "unexpected token: String at 4..7");
+    assert_eq!(rt; token.detail(), Some("String"));
     let name = String::from_str(rt.alloc(), "\"a\"")?;
     let field = ParserError::with_detail(ParserErrorKind::DuplicateField, 7..9, name);
     assert_eq!(rt; field.detail(), Some("\"a\""));
+    let text = format!(in rt.alloc(); "{field}")?;
+    assert_eq!(rt; text.as_str(), "duplicate field: \"a\" at 7..9");
     let word = String::from_str(rt.alloc(), "f64")?;
     let cause = ParserError::with_cause(0..1, WasmValueError::UnsupportedType(word));
     let text = format!(in rt.alloc(); "{cause}")?;
@@ -172,12 +198,14 @@ fn refusals(rt: HostRuntime) -> Result<(), Fail> {
         text.as_str(),
         "error converting Wasm value: unsupported type f64 at 0..1"
     );
-    assert!(rt; cause.cause().is_some());
+    assert!(rt; matches!(cause.cause(), Some(WasmValueError::UnsupportedType(_))));
+    assert_eq!(rt; cause.kind(), ParserErrorKind::WasmValueError);
     let error: fmt::Error = cause.into();
     assert_eq!(rt; error, fmt::Error);
     let memory = ParserError::with_cause(0..1, WasmValueError::Memory(AllocError));
     let text = format!(in rt.alloc(); "{memory}")?;
     assert_eq!(rt; text.as_str(), "out of memory at 0..1");
+    assert!(rt; memory.cause().is_none());
     Ok(())
 }
 
@@ -194,6 +222,11 @@ fn joined(rt: HostRuntime, parts: StringPartsIter<'_>) -> Result<String, Fail> {
     Ok(out)
 }
 
+/// What the inside of a string at the place 1 gives.
+fn line_of(rt: HostRuntime, inside: &str) -> Result<String, Fail> {
+    joined(rt, StringPartsIter::new(inside, 1))
+}
+
 #[test]
 fn parts_of_strings(rt: HostRuntime) -> Result<(), Fail> {
     let mut parts = StringParts::new("a\\tb", 1);
@@ -201,10 +234,42 @@ fn parts_of_strings(rt: HostRuntime) -> Result<(), Fail> {
     assert!(rt; matches!(parts.next(), Some(Ok(StringPart::Char('\t')))));
     assert!(rt; matches!(parts.next(), Some(Ok(StringPart::Run("b")))));
     assert!(rt; parts.next().is_none());
-    let text = joined(rt, StringPartsIter::new("x\\u{D800}y", 1))?;
-    assert_eq!(rt; text.as_str(), "x<invalid character escape at 2..3>");
-    assert_eq!(rt; unescape("\\u{1F44B}b"), Some(('👋', 9)));
-    assert_eq!(rt; unescape("\\u{1000000}"), None);
+    let rows = [
+        ("", ""),
+        ("\\u{D800}", "<invalid character escape at 1..2>"),
+        ("x\\u{D800}y", "x<invalid character escape at 2..3>"),
+        ("é\\n\\q\\q", "é\n<invalid character escape at 5..6>"),
+    ];
+    for (inside, want) in rows {
+        let got = line_of(rt, inside)?;
+        assert_eq!(rt; got.as_str(), want, "of {inside}");
+    }
+    Ok(())
+}
+
+#[test]
+fn escapes(rt: HostRuntime) -> Result<(), Fail> {
+    let rows = [
+        ("\\'", Some(('\'', 2))),
+        ("\\\"", Some(('"', 2))),
+        ("\\t", Some(('\t', 2))),
+        ("\\n", Some(('\n', 2))),
+        ("\\r", Some(('\r', 2))),
+        ("\\\\\\", Some(('\\', 2))),
+        ("\\u{1F44B}b", Some(('👋', 9))),
+        ("\\u{10ffff}", Some(('\u{10ffff}', 10))),
+        ("\\u{110000}", None),
+        ("\\u{1000000}", None),
+        ("\\u{dfff}", None),
+        ("\\u{}", None),
+        ("\\u{1", None),
+        ("\\q", None),
+        ("\\", None),
+        ("a\\t", None),
+    ];
+    for (text, want) in rows {
+        assert!(rt; unescape(text) == want, "of {text}");
+    }
     Ok(())
 }
 
@@ -225,12 +290,21 @@ fn parts_of_lines(rt: HostRuntime) -> Result<(), Fail> {
             "  Indentation determined\n    by ending delimiter",
         ),
         ("\n", ""),
+        ("\n  ", ""),
         ("\r\na\r\n", "a"),
         ("\na\r\r\n", "a\r"),
         ("\n\n\\u{e9}\n\n", "\né\n"),
         (
             "\nabc",
             "[invalid multiline string: closing \"\"\" must be on a line preceded only by spaces at 7..10]",
+        ),
+        (
+            "\n\\",
+            "[invalid multiline string: closing \"\"\" must be on a line preceded only by spaces at 5..8]",
+        ),
+        (
+            "\r\r",
+            "[invalid multiline string: closing \"\"\" must be on a line preceded only by spaces at 5..8]",
         ),
         (
             "abc",
@@ -262,5 +336,12 @@ fn parts_of_lines(rt: HostRuntime) -> Result<(), Fail> {
         let got = lines_of(rt, inside)?;
         assert_eq!(rt; got.as_str(), want, "of {inside}");
     }
+    let Ok(StringPartsIter::Multiline(mut lines)) = StringPartsIter::new_multiline("\n a\n", 3)
+    else {
+        assert!(rt; false);
+        return Ok(());
+    };
+    assert!(rt; matches!(lines.next(), Some(Ok(StringPart::Run(" a")))));
+    assert!(rt; lines.next().is_none());
     Ok(())
 }

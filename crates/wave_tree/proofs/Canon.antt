@@ -49,10 +49,6 @@ equal_texts T good a b ha hb = (same, λ e. ap printed e)
         let tokens : ts ≡ us = one_cut_into (text b ++ []) ts us (subst (λ (z : List ℕ). CutsInto (z ++ []) ts) e c) d in
         (once T good.1 (height (merged a)) (height (merged b)) us (merged a) (merged b) [] [] (subst (λ (z : List Token). Writes T (height (merged a)) z (merged a) []) tokens i) j).0
 
--- the same at a type that `Type` has
-pub equal_texts_of : (T : TypeTree) → Good T → IsOwn T → EqualTexts T
-equal_texts_of T good own = equal_texts T good
-
 -- what is read within some levels is read within more
 pub within_more : (T : TypeTree) (n m : ℕ) (tokens : List Token) (v : Value) → n ≤ m → Reads T n tokens v [] → Reads T m tokens v []
 within_more T n m tokens v l h =

@@ -8,6 +8,7 @@ use Rattle.wave_tree.specs.NodeTree.{NodeTree, type_of, place_of, children_of, n
 use Rattle.wave_tree.specs.Spells.{name_of}
 use Rattle.wave_tree.specs.Answers.{text_at}
 use Rattle.wave_tree.specs.Nodes.{shape_from, flag_of, key_of, IsNodeOf, IsParsedFrom}
+use Rattle.wave_tree.specs.Typed.{IsValueOf}
 use Rattle.wave_tree.proofs.Inside.{Inside, inside, some_is, flag_key, AreParsed, parsed, pair_parsed, nodes_in, nodes_are}
 use Rattle.wave_tree.specs.declared.ast.NodeType.{NodeType}
 use Rattle.wave_tree.specs.declared.ast.NodeType.TheVariants as kind
@@ -43,6 +44,7 @@ pub record CaseNodes (source : List ℕ) (n : NodeTree) : Type 0 where
   pub payload : NodeTree
   pub children : children_of n ≡ name ∷ payload ∷ []
   pub named : IsParsedFrom source name
+  pub valued : IsValueOf source payload
 
 case_of_value : (source : List ℕ) (n : NodeTree) (t : Placed) → IsNodeOf source n t → type_of n ≡ kind.VariantWithPayload → CaseNodes source n
 case_of_value source n (at r s) h e =
@@ -51,7 +53,7 @@ case_of_value source n (at r s) h e =
     let both = parsed source (nodes_in n) i.children i.each in
     let k = pair_parsed source (node_list (nodes_in n)) c.name c.payload (subst (λ (ts : List Placed). AreParsed source (node_list (nodes_in n)) ts) c.children both) in
     let spelled : SpellsEach source (at r (label c.place c.text (a_placed c.payload))) = subst (λ (x : Shape). SpellsEach source (at r x)) c.shape h.1 in
-    record { name = k.0; payload = k.1; children = sym (nodes_are n) ∙ k.2; named = inr (c.place, token.label c.text, ((c.name, k.3, flag_key c.name c.place c.text c.labelled), spelled.1.1)) }
+    record { name = k.0; payload = k.1; children = sym (nodes_are n) ∙ k.2; named = inr (c.place, token.label c.text, ((c.name, k.3, flag_key c.name c.place c.text c.labelled), spelled.1.1)); valued = (c.payload, (k.4, spelled.1.2.1)) }
 
 not_key : (source : List ℕ) (n : NodeTree) (t : Placed) (p : Range ℕ) (key : Token) → Inside source n t → key_of t ≡ Some (p, key) → type_of n ≡ kind.VariantWithPayload → ⊥
 not_key source n t p key i is e =
@@ -82,9 +84,9 @@ label_parsed source n ns x h e is first =
     subst (IsParsedFrom source) (sym (first_of_two ns (children_of n) c.name c.payload x is c.children first)) c.named
 
 -- the label and the payload of a case
-pub case_given : (source : List ℕ) (n : NodeTree) (ns : List NodeTree) (x y : NodeTree) (name text : List ℕ) → IsParsedFrom source n → type_of n ≡ kind.VariantWithPayload → ns ≡ children_of n → x ≡ get_or ns 0 x → y ≡ get_or ns 1 y → text ≡ text_at source x → name ≡ name_of text → (a : NodeTree) × (b : NodeTree) × (type_of n ≡ kind.VariantWithPayload) × (children_of n ≡ a ∷ b ∷ []) × (name ≡ name_of (text_at source a)) × (Some y ≡ Some b)
+pub case_given : (source : List ℕ) (n : NodeTree) (ns : List NodeTree) (x y : NodeTree) (name text : List ℕ) → IsParsedFrom source n → type_of n ≡ kind.VariantWithPayload → ns ≡ children_of n → x ≡ get_or ns 0 x → y ≡ get_or ns 1 y → text ≡ text_at source x → name ≡ name_of text → (a : NodeTree) × (b : NodeTree) × (type_of n ≡ kind.VariantWithPayload) × (children_of n ≡ a ∷ b ∷ []) × (name ≡ name_of (text_at source a)) × (Some y ≡ Some b) × IsValueOf source b
 case_given source n ns x y name text h e is first second at_x is_name =
     let c = case_children source n h e in
     let x_is : x ≡ c.name = first_of_two ns (children_of n) c.name c.payload x is c.children first in
     let y_is : y ≡ c.payload = second_of_two ns (children_of n) c.name c.payload y is c.children second in
-    (c.name, c.payload, e, c.children, is_name ∙ (ap name_of at_x ∙ ap (λ (m : NodeTree). name_of (text_at source m)) x_is), ap (λ (m : NodeTree). Some m) y_is)
+    (c.name, c.payload, e, c.children, is_name ∙ (ap name_of at_x ∙ ap (λ (m : NodeTree). name_of (text_at source m)) x_is), ap (λ (m : NodeTree). Some m) y_is, c.valued)

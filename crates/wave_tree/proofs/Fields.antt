@@ -184,6 +184,11 @@ not_key source n (at q (one (token.string w))) p key i is e = cc (sym e ∙ i.fr
 not_key source n (at q (one (token.multiline w))) p key i is e = cc (sym e ∙ i.from.1)
 not_key source n _ p key i is e = absurd (cc)
 
+-- a node of entries was parsed as a value
+pub set_value : (source : List ℕ) (n : NodeTree) → IsParsedFrom source n → type_of n ≡ kind.TupleSet → (t : Placed) × IsNodeOf source n t
+set_value source n (inl t) set = t
+set_value source n (inr t) set = absurd (not_key source n t.2.0.0 t.0 t.1 (inside source n t.2.0.0 t.2.0.1) t.2.0.2 set)
+
 -- the key of an entry was parsed from the source
 pub key_parsed : (source : List ℕ) (n : NodeTree) (ns : List NodeTree) (i : ℕ) (k v : NodeTree) → IsParsedFrom source n → type_of n ≡ kind.TupleSet → ns ≡ children_of n → HasAt (node_pairs ns) i (k, v) → IsParsedFrom source k
 key_parsed source n ns i k v (inl t) set children here =

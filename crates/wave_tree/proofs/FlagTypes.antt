@@ -25,7 +25,7 @@ use Rattle.wave_tree.specs.Nodes.{IsNodeOf}
 use Rattle.wave_tree.specs.Flags.{names_at, AreFlags, RefusesFlags}
 use Rattle.wave_tree.specs.Typed.{IsRead, IsBlamed, IsMade}
 use Rattle.wave_tree.proofs.Inside.{From, inside}
-use Rattle.wave_tree.proofs.Leaves.{tree_is, at_tree}
+use Rattle.wave_tree.proofs.Leaves.{tree_is, at_tree, said}
 use Rattle.wave_tree.proofs.Made.{made}
 use Rattle.wave_tree.proofs.OneOf.{passes}
 use Rattle.wave_tree.proofs.Enums.{none_one}
@@ -91,7 +91,7 @@ module _ {V : Type 0} (tree : V → Value) (of : V → TypeTree → Type 0) (Ful
   flags_blame T names source n t e is node (inl memory) = inl memory
   flags_blame T names source n t e is node (inr (inl h)) =
       let i = inside source n t node.0 in
-      let fault : Fault (type.flags names) t (refusal_of e) e.span = no_flags names (type_of n) (place_of n) (span_of t) (slice source (place_of n)) i.children (shape_of t) (refusal_of e) e.span i.from h.0 h.1 (at_tree InvalidType (place_of n) (span_of t) (refusal_of e) e.span i.place h.2) in
+      let fault : Fault (type.flags names) t (refusal_of e) e.span = no_flags names (type_of n) (place_of n) (span_of t) (slice source (place_of n)) i.children (shape_of t) (refusal_of e) e.span i.from h.0 h.1 (at_tree InvalidType (place_of n) (span_of t) (refusal_of e) e.span i.place (said h.2)) in
       inr (inl (subst (λ (U : TypeTree). Fault U t (refusal_of e) e.span) (sym is) fault))
   flags_blame T names source n t e is node (inr (inr h)) =
       let some = subst (λ (p : Range ℕ). SomeOf (λ name. FlagFault names p name (refusal_of e) e.span) (names_at source (children_of n))) (sym (inside source n t node.0).place) h.1 in

@@ -27,6 +27,7 @@ use Rattle.wave_tree.specs.Nodes.{key_of, IsTokenOf}
 use Rattle.wave_tree.specs.Answers.{text_at, GivesBoolKey, GivesNumber}
 use Rattle.wave_tree.specs.Typed.{IsKeyRead, IsKeyBlamed, IsMade}
 use Rattle.wave_tree.proofs.Inside.{From, inside, some_is, key_place}
+use Rattle.wave_tree.proofs.Leaves.{said}
 use Rattle.wave_tree.specs.declared.ast.NodeType.{NodeType}
 use Rattle.wave_tree.specs.declared.ast.NodeType.TheVariants as kind
 
@@ -93,7 +94,7 @@ bool_key source n p key b h given = bool_spelled b (type_of n) (text_at source n
 -- a key of no bool
 pub no_bool_key : (source : List ℕ) (n : NodeTree) (p : Range ℕ) (key : Token) (e : ParserError) → IsTokenOf source n p key → GivesBoolKey source n (Err e) → MapKeyFault type.bool p key (refusal_of e) e.span
 no_bool_key source n p key e h given =
-    bool_unspelled (type_of n) (text_at source n) p key (refusal_of e) e.span (key_token source n p key h) given.0 (at_key InvalidType source n p key (refusal_of e) e.span h given.1)
+    bool_unspelled (type_of n) (text_at source n) p key (refusal_of e) e.span (key_token source n p key h) given.0 (at_key InvalidType source n p key (refusal_of e) e.span h (said given.1))
 
 -- ---- whole numbers
 
@@ -136,9 +137,9 @@ number_key which number source n p key x h given = number_spelled which (number 
 -- a key of no number
 pub no_number_key : {N : Type 0} (which : Whole) (number : N → ℤ) (source : List ℕ) (n : NodeTree) (p : Range ℕ) (key : Token) (e : ParserError) → IsTokenOf source n p key → GivesNumber which number source n (Err e) → MapKeyFault (type.whole which) p key (refusal_of e) e.span
 no_number_key which number source n p key e h (inl given) =
-    number_unspelled which (type_of n) (text_at source n) p key (refusal_of e) e.span (key_token source n p key h) given.0 (at_key InvalidType source n p key (refusal_of e) e.span h given.1)
+    number_unspelled which (type_of n) (text_at source n) p key (refusal_of e) e.span (key_token source n p key h) given.0 (at_key InvalidType source n p key (refusal_of e) e.span h (said given.1))
 no_number_key which number source n p key e h (inr given) =
-    number_wrong which (type_of n) (text_at source n) p key (refusal_of e) e.span (key_token source n p key h) given.0 given.1 (at_key InvalidValue source n p key (refusal_of e) e.span h given.2)
+    number_wrong which (type_of n) (text_at source n) p key (refusal_of e) e.span (key_token source n p key h) given.0 given.1 (at_key InvalidValue source n p key (refusal_of e) e.span h (said given.2))
 
 -- the same number in another form
 pub number_key_kept : (which : Whole) (key : Token) (y z : ℤ) → y ≡ z → Spells (type.whole which) key (value.whole which z) → Spells (type.whole which) key (value.whole which y)

@@ -10,6 +10,7 @@ use Rattle.wave_wasm.specs.Values.{Leaf}
 use Rattle.wave_wasm.specs.Text.{bool_text}
 use Rattle.wave_lex.specs.Errors.{Refusal, refusal_of}
 use Rattle.wave_lex.specs.declared.error.ParserError.{ParserError}
+use Rattle.wave_lex.specs.declared.error.ParserErrorKind.{ParserErrorKind}
 use Rattle.wave_lex.specs.declared.error.ParserErrorKind.TheVariants.{InvalidType, InvalidValue}
 use Rattle.wave_tree.specs.Token.{Token}
 use Rattle.wave_tree.specs.Token as token
@@ -18,6 +19,7 @@ use Rattle.wave_tree.specs.NumberText.{IsNumberOf, whole_text, signed_text, unsi
 use Rattle.wave_tree.specs.TreeReads.{SimpleTree}
 use Rattle.wave_tree.specs.Placed.{Placed, Shape, at, one, slice, span_of, shape_of, tree_of, tree_of_shape}
 use Rattle.wave_tree.specs.Faults.{Refuses, OfForm, LeafFault, IsForm, Fault, one_in}
+use Rattle.wave_tree.specs.Refusals.{Says}
 use Rattle.wave_tree.specs.NodeTree.{NodeTree, type_of, place_of}
 use Rattle.wave_tree.specs.Nodes.{placed_of, shape_from, number_token}
 use Rattle.wave_tree.specs.Answers.{bool_type, GivesNumber}
@@ -38,6 +40,10 @@ leaf_read S t token one_leaf e spelled = (token, one_leaf, tree_is t (one token)
 -- the span of a refusal at a node is that of its tree
 pub at_tree : (why : _) (p q : Range ℕ) (k : Refusal) (r : Range ℕ) → q ≡ p → Refuses why p k r → Refuses why q k r
 at_tree why p q k r e refused = (refused.0, refused.1 ∙ sym e)
+
+-- the kind and the span of a refusal that says no more
+pub said : {e : ParserError} {why : ParserErrorKind} {p : Range ℕ} {tells : Option (List ℕ)} → Says e why p tells → Refuses why p (refusal_of e) e.span
+said says = (says.is, says.stands)
 
 -- a tree of another form than the simple type takes
 pub wrong_form : (S : Simple) (o : Option Token) (p : Range ℕ) (k : Refusal) (q : Range ℕ) → ((token : Token) → o ≡ Some token → IsForm S token → ⊥) → Refuses InvalidType p k q → OfForm o p (LeafFault S p) k q
@@ -165,8 +171,8 @@ number_fault which source n t k q e apart refused =
 
 -- the refusal of a number is a fault
 pub number_blame : {N : Type 0} (which : Whole) (number : N → ℤ) (source : List ℕ) (n : NodeTree) (t : Placed) (e : ParserError) → placed_of source n ≡ Some t → GivesNumber which number source n (Err e) → Fault (type.simple (type.whole which)) t (refusal_of e) e.span
-number_blame which number source n t e is (inl h) = number_fault which source n t (refusal_of e) e.span is h.0 h.1
-number_blame which number source n t e is (inr h) = value_fault which source n t (refusal_of e) e.span is h.0 h.1 h.2
+number_blame which number source n t e is (inl h) = number_fault which source n t (refusal_of e) e.span is h.0 (said h.1)
+number_blame which number source n t e is (inr h) = value_fault which source n t (refusal_of e) e.span is h.0 h.1 (said h.2)
 
 -- the same number in another form
 pub number_kept : (which : Whole) (t : Placed) (y z : ℤ) → y ≡ z → SimpleTree (type.whole which) (tree_of t) (value.leaf (value.whole which z)) → SimpleTree (type.whole which) (tree_of t) (value.leaf (value.whole which y))

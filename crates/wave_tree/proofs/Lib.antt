@@ -101,6 +101,10 @@ pub mod StringNodes
 pub mod TextKeys
 pub mod Results
 pub mod Variants
+pub mod Parts
+pub mod Agreeing
+pub mod LastCommas
+pub mod Orders
 pub mod FlagNodes
 pub mod FlagSets
 pub mod FlagTypes

@@ -31,7 +31,7 @@ use Rattle.wave_tree.specs.Answers.{node_pairs, GivesEntries}
 use Rattle.wave_tree.specs.Typed.{IsRead, IsBlamed, ReadsNone, IsMade, IsValueOf, IsKeyOf, IsKeyRead, IsKeyBlamed}
 use Rattle.wave_tree.proofs.Entries.{AreEntriesOf, IsOfMap, map_nodes, map_given, no_map}
 use Rattle.wave_tree.proofs.Inside.{inside, some_is}
-use Rattle.wave_tree.proofs.Leaves.{tree_is, at_tree}
+use Rattle.wave_tree.proofs.Leaves.{tree_is, at_tree, said}
 use Rattle.wave_tree.proofs.Made.{made}
 
 -- ---- the type
@@ -108,7 +108,7 @@ some_in P (y ∷ xs) ys x h = inr (some_in P xs ys x h)
 -- a node that gives no entries
 pub map_fault : (K : Simple) (V : TypeTree) (source : List ℕ) (n : NodeTree) (t : Placed) (e : ParserError) → placed_of source n ≡ Some t → GivesEntries n (Err e) → Fault (type.map K V) t (refusal_of e) e.span
 map_fault K V source n t e is given =
-    subst (λ (o : Option (List PlacedEntry)). OfForm o (span_of t) (λ es l r. SomeOf (λ x. MapKeyFault K x.place x.key l r ⊎ Fault V x.value l r) es) (refusal_of e) e.span) (sym (no_map source n t is given.0 given.1)) (at_tree InvalidType (place_of n) (span_of t) (refusal_of e) e.span (inside source n t is).place given.2)
+    subst (λ (o : Option (List PlacedEntry)). OfForm o (span_of t) (λ es l r. SomeOf (λ x. MapKeyFault K x.place x.key l r ⊎ Fault V x.value l r) es) (refusal_of e) e.span) (sym (no_map source n t is given.0 given.1)) (at_tree InvalidType (place_of n) (span_of t) (refusal_of e) e.span (inside source n t is).place (said given.2))
 
 entry_fault : (K : Simple) (V : TypeTree) (t : Placed) (es : PlacedEntries) (done rest : List PlacedEntry) (x : PlacedEntry) (k : Refusal) (q : Range ℕ) → IsOfMap (shape_of t) es → entry_list es ≡ done ++ x ∷ rest → MapKeyFault K x.place x.key k q ⊎ Fault V x.value k q → Fault (type.map K V) t k q
 entry_fault K V t es done rest x k q shape is fault =

@@ -23,7 +23,7 @@ use Rattle.wave_tree.specs.Answers.{first_of, GivesOption}
 use Rattle.wave_tree.specs.Typed.{IsRead, IsBlamed, IsMade, IsValueOf}
 use Rattle.wave_tree.proofs.Inside.{From, inside, some_is, AreParsed, parsed, nodes_in, nodes_are}
 use Rattle.wave_tree.proofs.Cases.{shape_at}
-use Rattle.wave_tree.proofs.Leaves.{tree_is, at_tree}
+use Rattle.wave_tree.proofs.Leaves.{tree_is, at_tree, said}
 use Rattle.wave_tree.proofs.Made.{made}
 use Rattle.wave_tree.specs.declared.ast.NodeType.{NodeType}
 use Rattle.wave_tree.specs.declared.ast.NodeType.TheVariants as kind
@@ -157,7 +157,7 @@ some_fault P t u k q shape fault =
 pub option_fault : (P : TypeTree) (source : List ℕ) (n : NodeTree) (t : Placed) (e : ParserError) → placed_of source n ≡ Some t → GivesOption n (Err e) → (IsFlat P → ⊥) → Fault (type.option P) t (refusal_of e) e.span
 option_fault P source n t e is g apart =
     let i = inside source n t is in
-    other_form (type_of n) (place_of n) (slice source (place_of n)) i.children (shape_of t) (Fault P) (λ l r. (IsFlat P → ⊥) × Refuses InvalidType (span_of t) l r ⊎ IsFlat P × Fault P t l r) (refusal_of e) e.span i.from g.0 g.1 (inl (apart, at_tree InvalidType (place_of n) (span_of t) (refusal_of e) e.span i.place g.2))
+    other_form (type_of n) (place_of n) (slice source (place_of n)) i.children (shape_of t) (Fault P) (λ l r. (IsFlat P → ⊥) × Refuses InvalidType (span_of t) l r ⊎ IsFlat P × Fault P t l r) (refusal_of e) e.span i.from g.0 g.1 (inl (apart, at_tree InvalidType (place_of n) (span_of t) (refusal_of e) e.span i.place (said g.2)))
 
 module _ {V : Type 0} (tree : V → Value) (of : V → TypeTree → Type 0) (Full : TypeTree → Type 0) where
   -- a refusal of the payload of `some`

@@ -1,5 +1,5 @@
 -- The values of parameters, read one by one.
-use Rattle.std.proofs.Common.{ℕ, zero, suc, ◌≡◌, ◌≢◌, inl, inr, ◌<◌, ◌≤◌, ◌+◌, ◌-◌, List, [], ◌∷◌, ◌++◌, length, get_or, take, drop, map, codes, Some, None, Result, Ok, Err, IfErr, refl, sym, ap, ◌∙◌, subst, add-one, append_assoc, length-drop, arith}
+use Rattle.std.proofs.Common.{ℕ, zero, suc, ◌≡◌, ◌≢◌, inl, inr, ◌<◌, ◌≤◌, ◌+◌, ◌-◌, List, [], ◌∷◌, ◌++◌, length, get_or, take, drop, map, Some, None, Result, Ok, Err, IfErr, refl, sym, ap, ◌∙◌, subst, add-one, append_assoc, length-drop, arith}
 use Rattle.std.specs.declared.ops.Range.{Range}
 use Rattle.std.specs.Result.{IsErrAnd}
 use Rattle.std.proofs.lemmas.List.{drop-map, take_all}
@@ -13,7 +13,7 @@ use Rattle.wave_wasm.specs.Causes.{cause_of}
 use Rattle.wave_wasm.specs.declared.wasm.WasmTypeKind.TheVariants as kinds
 use Rattle.wave_wasm.specs.declared.wasm.WasmValueError.{WasmValueError}
 use Rattle.wave_wasm.specs.declared.wasm.WasmValueError.TheVariants as error
-use Rattle.wave_lex.specs.Errors.{Refusal, refusal_of, refused_by}
+use Rattle.wave_lex.specs.Errors.{Refusal, refusal_of, refused_by, too_many_params, too_few_params}
 use Rattle.wave_lex.specs.declared.error.ParserError.{ParserError}
 use Rattle.wave_lex.specs.declared.error.ParserErrorKind.TheVariants as because
 use Rattle.wave_tree.specs.Reads.{IsOption}
@@ -164,12 +164,12 @@ module _ {V : Type 0} (tree : V → Value) (of : V → TypeTree → Type 0) (Ful
 
   -- an item that is too many
   pub too_many_refused : (source : List ℕ) (Ts : List TypeTree) (ns : List NodeTree) (ts : List Placed) (vs : List V) (i : ℕ) (n : NodeTree) (close : Range ℕ) (e : ParserError) → AreNodesOf source ns ts → i < length ns → n ≡ get_or ns i n → i ≤ length Ts → length Ts ≤ i → ReadAt tree of Full (take i Ts) (take i ts) vs →
-      Says e because.InvalidParams (place_of n) (Some (codes "more param(s) than expected")) → RefusesItems Full Ts ts close e
+      Says e because.InvalidParams (place_of n) (Some too_many_params) → RefusesItems Full Ts ts close e
   too_many_refused source Ts ns ts vs i n close e nodes lt at_i l m before says =
       let (u, here, means) = node_at source ns ts i n nodes lt at_i in
       let fits : i ≤ length ts = omega (arith, lt, node_count source ns ts nodes) in
       let place = (inside source n u means.0).place in
-      let fault : ParamsFault [] (u ∷ drop (suc i) ts) close e = subst (λ (p : Range ℕ). Says e because.InvalidParams p (Some (codes "more param(s) than expected"))) (sym place) says in
+      let fault : ParamsFault [] (u ∷ drop (suc i) ts) close e = subst (λ (p : Range ℕ). Says e because.InvalidParams p (Some too_many_params)) (sym place) says in
       refused_behind Ts ts vs i close e l fits before
       (subst (λ (z : List TypeTree). ParamsFault z (drop i ts) close e) (sym (drop_end Ts i m)) (subst (λ (z : List Placed). ParamsFault [] z close e) (sym (has_drop ts i u here)) fault))
 
@@ -182,7 +182,7 @@ module _ {V : Type 0} (tree : V → Value) (of : V → TypeTree → Type 0) (Ful
 
   -- a type that is left and is no option
   pub missing_refused : (source : List ℕ) (Ts Left : List TypeTree) (ns : List NodeTree) (ts : List Placed) (vs : List V) (i : ℕ) (close : Range ℕ) (e : ParserError) → AreNodesOf source ns ts → i ≤ length ns → length ns ≤ i → i ≤ length Ts → ReadAt tree of Full (take i Ts) (take i ts) vs → Left ≡ drop (length ns) Ts → SomeOf IsNoOption Left →
-      Says e because.InvalidParams close (Some (codes "missing required param(s)")) → RefusesItems Full Ts ts close e
+      Says e because.InvalidParams close (Some too_few_params) → RefusesItems Full Ts ts close e
   missing_refused source Ts Left ns ts vs i close e nodes le ge l before left some says =
       let many = node_count source ns ts nodes in
       let same : length ns ≡ i = omega (arith, le, ge) in

@@ -24,7 +24,7 @@ use Rattle.wave_tree.proofs.Inside.{From, Inside, inside, some_is, key_place}
 use Rattle.wave_tree.proofs.Items.{HasAt, some_at}
 use Rattle.wave_tree.proofs.Entries.{AreEntriesOf, IsOfMap, map_nodes}
 use Rattle.wave_tree.proofs.Enums.{label_node}
-use Rattle.wave_tree.proofs.Leaves.{at_tree}
+use Rattle.wave_tree.proofs.Leaves.{at_tree, said}
 use Rattle.wave_tree.proofs.Fields.{entry_has, not_found}
 use Rattle.wave_tree.specs.declared.ast.NodeType.{NodeType}
 use Rattle.wave_tree.specs.declared.ast.NodeType.TheVariants as kind
@@ -191,7 +191,7 @@ refused_key fs source t before entry behind es e taken h labels (inr (labelled, 
 -- a refusal of a record's node or of its keys is want of memory or a fault
 pub fields_blame : (fs : Fields) (source : List ℕ) (n : NodeTree) (t : Placed) (e : ParserError) → IsNodeOf source n t → RefusesFields source n e → (e.kind ≡ OutOfMemory) ⊎ Fault (type.record_type fs) t (refusal_of e) e.span
 fields_blame fs source n t e h (inl memory) = inl memory
-fields_blame fs source n t e h (inr (inl other)) = inr (other_fault fs source n t (refusal_of e) e.span h.0 other.0 other.1)
+fields_blame fs source n t e h (inr (inl other)) = inr (other_fault fs source n t (refusal_of e) e.span h.0 other.0 (said other.1))
 fields_blame fs source n t e h (inr (inr r)) =
     let inner = record_nodes source n t h r.is_set in
     inr (refused_key fs source t r.before r.entry r.behind (entry_list inner.given) e inner.taken (subst (λ (ps : List (NodeTree × NodeTree)). AreEntriesOf source ps (entry_list inner.given)) r.entries inner.nodes) r.labels r.refused)

@@ -24,7 +24,7 @@ use Rattle.wave_tree.specs.Typed.{IsRead, IsBlamed, IsMade, IsValueOf, IsPayload
 use Rattle.wave_tree.proofs.Inside.{From, inside, some_is, AreParsed, parsed, nodes_in, nodes_are}
 use Rattle.wave_tree.proofs.Cases.{shape_at}
 use Rattle.wave_tree.proofs.Options.{one_parsed}
-use Rattle.wave_tree.proofs.Leaves.{tree_is, at_tree}
+use Rattle.wave_tree.proofs.Leaves.{tree_is, at_tree, said}
 use Rattle.wave_tree.proofs.Made.{made}
 use Rattle.wave_tree.specs.declared.ast.NodeType.{NodeType}
 use Rattle.wave_tree.specs.declared.ast.NodeType.TheVariants as kind
@@ -160,7 +160,7 @@ refused_flat (Some U) t k q apart refused = inl (apart U refl, refused)
 pub result_fault : (T : TypeTree) (P : Option TypeTree) (B : MaybeType) (source : List ℕ) (n : NodeTree) (t : Placed) (e : ParserError) → T ≡ type.result (maybe_type P) B → placed_of source n ≡ Some t → GivesResult n (Err e) → ((U : TypeTree) → P ≡ Some U → IsFlat U → ⊥) → Fault T t (refusal_of e) e.span
 result_fault T P B source n t e is node given apart =
     let i = inside source n t node in
-    subst (λ (U : TypeTree). Fault U t (refusal_of e) e.span) (sym is) (flat_fault (maybe_type P) B source n t e (refusal_of e) e.span node given (refused_flat P t (refusal_of e) e.span apart (at_tree InvalidType (place_of n) (span_of t) (refusal_of e) e.span i.place given.2)))
+    subst (λ (U : TypeTree). Fault U t (refusal_of e) e.span) (sym is) (flat_fault (maybe_type P) B source n t e (refusal_of e) e.span node given (refused_flat P t (refusal_of e) e.span apart (at_tree InvalidType (place_of n) (span_of t) (refusal_of e) e.span i.place (said given.2))))
 
 module _ {V : Type 0} (tree : V → Value) (of : V → TypeTree → Type 0) (Full : TypeTree → Type 0) where
   ok_full : (A B : MaybeType) → AllOf Full (payload_and A (payload_and B [])) → AllOf Full (payload_and A [])

@@ -199,7 +199,7 @@ caused_at c n e (inr h) place = (place, λ was. (c, h.0))
 
 -- a refusal of the kind at the node
 pub refused_at : (k : ParserErrorKind) (n : NodeTree) (e : ParserError) → k ≢ why.WasmValueError → RefusedAs k n e → IsAtNode n e
-refused_at k n e apart h = (h.1, plain_kind k e apart h.0)
+refused_at k n e apart h = (h.stands, plain_kind k e apart h.is)
 
 -- what a maker refused, at the node
 pub made_at : {V : Type 0} (n : NodeTree) (m : Result V WasmValueError) (r : Result V ParserError) → IsMade n m r → IfErr r (IsAtNode n)
@@ -327,7 +327,7 @@ some_belongs source n x v (inr h) = absurd (cc (h.1))
 -- the payload of a case
 pub case_belongs : (source : List ℕ) (n : NodeTree) (name : Bor (List ℕ)) (o : Option (Bor NodeTree)) → IsValueOf source n → GivesVariant source n (Ok (name, o)) → (m : NodeTree) → shown_node o ≡ Some m → BelongsTo n m
 case_belongs source n name o v (inl h) m is = absurd (cc (sym h.2 ∙ is))
-case_belongs source n name o v (inr (c, t, ty, kids, named, given)) m is =
+case_belongs source n name o v (inr (c, t, ty, kids, named, given, of_value)) m is =
     let both : AllOf (BelongsTo n) (c ∷ t ∷ []) = subst (AllOf (BelongsTo n)) kids (children_belong source n v) in
     subst (BelongsTo n) (some_is t m (sym given ∙ is)) both.1.0
 

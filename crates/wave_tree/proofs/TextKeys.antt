@@ -21,6 +21,7 @@ use Rattle.wave_tree.specs.Typed.{IsKeyRead, IsKeyBlamed}
 use Rattle.wave_tree.proofs.Keys.{IsKeyToken, key_token, key_at, at_key, one_simple, key_handed}
 use Rattle.wave_tree.proofs.Quoted.{IsQuotedToken}
 use Rattle.wave_tree.proofs.TextLeaves.{no_char, told_fault}
+use Rattle.wave_tree.proofs.Leaves.{said}
 use Rattle.wave_tree.specs.declared.ast.NodeType.{NodeType}
 use Rattle.wave_tree.specs.declared.ast.NodeType.TheVariants as kind
 
@@ -56,10 +57,10 @@ char_unspelled ty text p _ k q h apart refused = absurd h
 -- a key of no char
 pub no_char_key : (source : List ℕ) (n : NodeTree) (p : Range ℕ) (key : Token) (e : ParserError) → IsTokenOf source n p key → GivesChar source n (Err e) → MapKeyFault type.char p key (refusal_of e) e.span
 no_char_key source n p key e h (inl given) =
-    char_unspelled (type_of n) (text_at source n) p key (refusal_of e) e.span (key_token source n p key h) given.0 (at_key InvalidType source n p key (refusal_of e) e.span h given.1)
+    char_unspelled (type_of n) (text_at source n) p key (refusal_of e) e.span (key_token source n p key h) given.0 (at_key InvalidType source n p key (refusal_of e) e.span h (said given.1))
 no_char_key source n p key e h (inr given) =
     subst (λ (t : Token). MapKeyFault type.char p t (refusal_of e) e.span) (sym (key_text kind.Char source n p key (token.char (text_at source n)) h given.0 refl))
-    (inr (refl, inr ((text_at source n, refl), (no_char (text_at source n) given.1, at_key InvalidEscape source n p key (refusal_of e) e.span h given.2))))
+    (inr (refl, inr ((text_at source n, refl), (no_char (text_at source n) given.1, at_key InvalidEscape source n p key (refusal_of e) e.span h (said given.2)))))
 
 -- ---- strings
 
@@ -96,12 +97,12 @@ of_text _ form wrong = inr (refl, inr (form, wrong))
 -- the refusal of a string is a fault of the key, or want of memory
 pub string_key_blame : (Full : TypeTree → Type 0) (source : List ℕ) (n : NodeTree) (p : Range ℕ) (key : Token) (e : ParserError) → IsTokenOf source n p key → GivesString source n (Err e) → IsKeyBlamed Full type.string p key e
 string_key_blame Full source n p key e h (inl (apart, other, refused)) =
-    inr (inl (string_unspelled (type_of n) (text_at source n) p key (refusal_of e) e.span (key_token source n p key h) apart other (at_key InvalidType source n p key (refusal_of e) e.span h refused)))
+    inr (inl (string_unspelled (type_of n) (text_at source n) p key (refusal_of e) e.span (key_token source n p key h) apart other (at_key InvalidType source n p key (refusal_of e) e.span h (said refused))))
 string_key_blame Full source n p key e h (inr (inl fault)) =
     let k = told_fault source n e fault in
     let is : key ≡ k.tok = key_text (type_of n) source n p key k.tok h refl k.own in
     inr (inl (subst (λ (t : Token). MapKeyFault type.string p t (refusal_of e) e.span) (sym is) (of_text k.tok k.form (subst (λ (r : Range ℕ). TextFault type.string r k.tok (refusal_of e) e.span) (sym (key_at source n p key h)) k.wrong))))
-string_key_blame Full source n p key e h (inr (inr (wants, copied))) = inl (ap (λ (r : Refusal). r.kind) wants.0)
+string_key_blame Full source n p key e h (inr (inr (wants, copied))) = inl (ap (λ (r : Refusal). r.kind) wants.is)
 
 module _ {V : Type 0} (tree : V → Value) (of : V → TypeTree → Type 0) (Full : TypeTree → Type 0) where
   -- so it is handed on

@@ -26,7 +26,7 @@ use Rattle.wave_tree.specs.CowText.{StandsFor, TellsStringFault, GivesString}
 use Rattle.wave_tree.specs.Typed.{IsBlamed}
 use Rattle.wave_tree.proofs.Inside.{From, Inside, inside}
 use Rattle.wave_tree.proofs.Quoted.{IsQuotedToken, quoted_is}
-use Rattle.wave_tree.proofs.Leaves.{leaf_read, wrong_form, at_tree}
+use Rattle.wave_tree.proofs.Leaves.{leaf_read, wrong_form, at_tree, said}
 use Rattle.wave_tree.specs.declared.ast.NodeType.{NodeType}
 use Rattle.wave_tree.specs.declared.ast.NodeType.TheVariants as kind
 
@@ -62,11 +62,11 @@ no_char text none l (w, c, e, means, f) = none c (subst (λ (z : List ℕ). Char
 pub char_blame : (source : List ℕ) (n : NodeTree) (t : Placed) (e : ParserError) → placed_of source n ≡ Some t → GivesChar source n (Err e) → Fault (type.simple type.char) t (refusal_of e) e.span
 char_blame source n t e is (inl h) =
     let i = inside source n t is in
-    wrong_form type.char (one_in (shape_of t)) (span_of t) (refusal_of e) e.span (not_char (type_of n) (place_of n) (slice source (place_of n)) i.children (shape_of t) i.from h.0) (at_tree InvalidType (place_of n) (span_of t) (refusal_of e) e.span i.place h.1)
+    wrong_form type.char (one_in (shape_of t)) (span_of t) (refusal_of e) e.span (not_char (type_of n) (place_of n) (slice source (place_of n)) i.children (shape_of t) i.from h.0) (at_tree InvalidType (place_of n) (span_of t) (refusal_of e) e.span i.place (said h.1))
 char_blame source n t e is (inr h) =
     let i = inside source n t is in
     subst (λ (o : Option Token). OfForm o (span_of t) (LeafFault type.char (span_of t)) (refusal_of e) e.span) (ap one_in (sym (char_is source n t is h.0)))
-    (inr ((text_at source n, refl), (no_char (text_at source n) h.1, at_tree InvalidEscape (place_of n) (span_of t) (refusal_of e) e.span i.place h.2)))
+    (inr ((text_at source n, refl), (no_char (text_at source n) h.1, at_tree InvalidEscape (place_of n) (span_of t) (refusal_of e) e.span i.place (said h.2))))
 
 -- ---- strings
 
@@ -131,11 +131,11 @@ string_blame Full T source n t e same is h = subst (λ (U : TypeTree). IsBlamed 
 
     blamed : GivesString source n (Err e) → IsBlamed Full (type.simple type.string) t e
     blamed (inl (apart, other, refused)) =
-        inr (inl (wrong_form type.string (one_in (shape_of t)) (span_of t) (refusal_of e) e.span (not_string (type_of n) (place_of n) (slice source (place_of n)) i.children (shape_of t) i.from apart other) (at_tree InvalidType (place_of n) (span_of t) (refusal_of e) e.span i.place refused)))
+        inr (inl (wrong_form type.string (one_in (shape_of t)) (span_of t) (refusal_of e) e.span (not_string (type_of n) (place_of n) (slice source (place_of n)) i.children (shape_of t) i.from apart other) (at_tree InvalidType (place_of n) (span_of t) (refusal_of e) e.span i.place (said refused))))
     blamed (inr (inl fault)) =
         let k = told_fault source n e fault in
         inr (inl (text_fault t k.tok (refusal_of e) e.span (quoted_is source n t k.tok is k.own) k.form (subst (λ (p : Range ℕ). TextFault type.string p k.tok (refusal_of e) e.span) (sym i.place) k.wrong)))
-    blamed (inr (inr (wants, copied))) = inl (ap (λ (r : Refusal). r.kind) wants.0)
+    blamed (inr (inr (wants, copied))) = inl (ap (λ (r : Refusal). r.kind) wants.is)
 
 string_text : (a b : List ℕ) → token.string a ≡ token.string b → a ≡ b
 string_text a b e = cc

@@ -29,7 +29,7 @@ use Rattle.wave_tree.specs.Typed.{IsRead, IsBlamed, IsMade, IsCaused, IsValueOf,
 use Rattle.wave_tree.proofs.Inside.{From, Inside, inside, some_is, AreParsed, parsed, nodes_in, nodes_are}
 use Rattle.wave_tree.proofs.Cases.{shape_at, case_shape}
 use Rattle.wave_tree.proofs.Enums.{label_node}
-use Rattle.wave_tree.proofs.Leaves.{tree_is, at_tree}
+use Rattle.wave_tree.proofs.Leaves.{tree_is, at_tree, said}
 use Rattle.wave_tree.proofs.Made.{made}
 use Rattle.wave_tree.proofs.Results.{maybe_back}
 use Rattle.wave_tree.proofs.Unread.{caused_blame}
@@ -155,7 +155,7 @@ with_payload source n c u (at r s) name h ty children named =
 pub given_case : (source : List ℕ) (n : NodeTree) (t : Placed) (name : Bor (List ℕ)) (o : Option (Bor NodeTree)) → IsNodeOf source n t → GivesVariant source n (Ok (name, o)) → CaseNode source t name.now (shown_node o)
 given_case source n t name o h (inl g) =
     record { place = place_of n; text = text_at source n; payload = no_placed; shape = label_node source n t h.0 g.0; named = g.1; node = subst (λ (m : Option NodeTree). IsPayloadNodeOf source m no_placed) (sym g.2) tt }
-given_case source n t name o h (inr (c, u, ty, children, named, payload)) =
+given_case source n t name o h (inr (c, u, ty, children, named, payload, of_value)) =
     subst (CaseNode source t name.now) (sym payload) (with_payload source n c u t name.now h ty children named)
 
 -- so there is a payload
@@ -177,7 +177,7 @@ no_label cs ty p r text children _ k q f x y refused = refused
 pub variant_fault : (cs : Cases) (source : List ℕ) (n : NodeTree) (t : Placed) (e : ParserError) → placed_of source n ≡ Some t → GivesVariant source n (Err e) → Fault (type.variant cs) t (refusal_of e) e.span
 variant_fault cs source n t e is given =
     let i = inside source n t is in
-    no_label cs (type_of n) (place_of n) (span_of t) (slice source (place_of n)) i.children (shape_of t) (refusal_of e) e.span i.from given.0 given.1 (at_tree InvalidType (place_of n) (span_of t) (refusal_of e) e.span i.place given.2)
+    no_label cs (type_of n) (place_of n) (span_of t) (slice source (place_of n)) i.children (shape_of t) (refusal_of e) e.span i.from given.0 given.1 (at_tree InvalidType (place_of n) (span_of t) (refusal_of e) e.span i.place (said given.2))
 
 label_fault : (cs : Cases) (t : Placed) (p : Range ℕ) (text : List ℕ) (payload : MaybePlaced) (name : List ℕ) (k : Refusal) (q : Range ℕ) → shape_of t ≡ label p text payload → name ≡ name_of text → FaultOfCase cs name payload (span_of t) k q → Fault (type.variant cs) t k q
 label_fault cs t p text payload name k q shape named fault =

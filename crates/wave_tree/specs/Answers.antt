@@ -3,10 +3,10 @@ use Rattle.std.specs.Prelude.{ℕ, ℤ, ◌≡◌, ◌≢◌, ◌⊎◌, ◌+◌
 use Rattle.std.specs.Char.{IsScalar}
 use Rattle.std.specs.Borrow.{Bor}
 use Rattle.wave_tree.specs.Spells.{name_of}
+use Rattle.wave_wasm.specs.Lists.{AllOf}
 use Rattle.wave_wasm.specs.Names.{IsOneOf, IsNoneOf}
 use Rattle.wave_wasm.specs.Types.{Whole}
 use Rattle.wave_wasm.specs.Text.{bool_text}
-use Rattle.wave_lex.specs.Errors.{refusal_of}
 use Rattle.wave_lex.specs.declared.error.ParserError.{ParserError}
 use Rattle.wave_lex.specs.declared.error.ParserErrorKind.{ParserErrorKind}
 use Rattle.wave_lex.specs.declared.error.ParserErrorKind.TheVariants.{InvalidType, InvalidValue, InvalidEscape}
@@ -19,7 +19,8 @@ use Rattle.wave_lex.specs.declared.strings.StringPartsIter.{StringPartsIter}
 use Rattle.wave_tree.specs.NumberText.{IsNumberOf}
 use Rattle.wave_tree.specs.Placed.{slice}
 use Rattle.wave_tree.specs.NodeTree.{NodeTree, type_of, place_of, children_of}
-use Rattle.wave_tree.specs.Faults.{Refuses}
+use Rattle.wave_tree.specs.Refusals.{Says}
+use Rattle.wave_tree.specs.Typed.{IsValueOf, IsKeyOf}
 use Rattle.wave_tree.specs.declared.ast.NodeType.{NodeType}
 use Rattle.wave_tree.specs.declared.ast.NodeType.TheVariants as kind
 
@@ -27,9 +28,9 @@ use Rattle.wave_tree.specs.declared.ast.NodeType.TheVariants as kind
 abbrev pub text_at : List ℕ → NodeTree → List ℕ
 text_at source n = slice source (place_of n)
 
--- a refusal of this kind, at the node
+-- a refusal of this kind, at the node, without a detail
 abbrev pub RefusedAs : ParserErrorKind → NodeTree → ParserError → Type 0
-RefusedAs why n e = Refuses why (place_of n) (refusal_of e) e.span
+RefusedAs why n e = Says e why (place_of n) None
 
 -- the node is of this type; or `InvalidType` at the node
 abbrev pub OfType : NodeType → NodeTree → Result Unit ParserError → Type 0
@@ -55,21 +56,30 @@ abbrev pub first_of : List NodeTree → Option NodeTree
 first_of [] = None
 first_of (n ∷ ns) = Some n
 
--- the children of a node of this type; or `InvalidType` at another node
+-- where the node was parsed as a value, so was each of these
+abbrev pub AreValuesWithin : NodeTree → List NodeTree → Type 0
+AreValuesWithin n ns = (source : List ℕ) → IsValueOf source n → AllOf (IsValueOf source) ns
+
+-- so was this one, where there is one
+abbrev pub IsValueWithin : NodeTree → Option NodeTree → Type 0
+IsValueWithin n None = Unit {0}
+IsValueWithin n (Some m) = (source : List ℕ) → IsValueOf source n → IsValueOf source m
+
+-- the children of a node of this type, each a value; or `InvalidType` at another node
 abbrev pub GivesNodes : NodeType → NodeTree → Result (Bor (List NodeTree)) ParserError → Type 0
-GivesNodes ty n (Ok nodes) = (type_of n ≡ ty) × (nodes.now ≡ children_of n)
+GivesNodes ty n (Ok nodes) = (type_of n ≡ ty) × (nodes.now ≡ children_of n) × AreValuesWithin n nodes.now
 GivesNodes ty n (Err e) = (type_of n ≢ ty) × RefusedAs InvalidType n e
 
 -- the payload of `some`, or nothing at `none`; or `InvalidType` at another node
 abbrev pub GivesOption : NodeTree → Result (Option (Bor NodeTree)) ParserError → Type 0
 GivesOption n (Ok o) =
-    (type_of n ≡ kind.OptionSome) × (shown_node o ≡ first_of (children_of n)) ⊎ (type_of n ≡ kind.OptionNone) × (shown_node o ≡ None)
+    (type_of n ≡ kind.OptionSome) × (shown_node o ≡ first_of (children_of n)) × IsValueWithin n (shown_node o) ⊎ (type_of n ≡ kind.OptionNone) × (shown_node o ≡ None)
 GivesOption n (Err e) = (type_of n ≢ kind.OptionSome) × (type_of n ≢ kind.OptionNone) × RefusedAs InvalidType n e
 
 -- the payload of `ok` or of `err`, where it has one; or `InvalidType` at another node
 abbrev pub GivesResult : NodeTree → Result (Result (Option (Bor NodeTree)) (Option (Bor NodeTree))) ParserError → Type 0
-GivesResult n (Ok (Ok o)) = (type_of n ≡ kind.ResultOk) × (shown_node o ≡ first_of (children_of n))
-GivesResult n (Ok (Err o)) = (type_of n ≡ kind.ResultErr) × (shown_node o ≡ first_of (children_of n))
+GivesResult n (Ok (Ok o)) = (type_of n ≡ kind.ResultOk) × (shown_node o ≡ first_of (children_of n)) × IsValueWithin n (shown_node o)
+GivesResult n (Ok (Err o)) = (type_of n ≡ kind.ResultErr) × (shown_node o ≡ first_of (children_of n)) × IsValueWithin n (shown_node o)
 GivesResult n (Err e) = (type_of n ≢ kind.ResultOk) × (type_of n ≢ kind.ResultErr) × RefusedAs InvalidType n e
 
 -- the name of a label alone; or `InvalidType` at another node
@@ -77,11 +87,11 @@ abbrev pub GivesLabel : List ℕ → NodeTree → Result (Bor (List ℕ)) Parser
 GivesLabel source n (Ok name) = (type_of n ≡ kind.Label) × (name.now ≡ name_of (text_at source n))
 GivesLabel source n (Err e) = (type_of n ≢ kind.Label) × RefusedAs InvalidType n e
 
--- the name and the payload of a case; or `InvalidType` at another node
+-- the name and the payload of a case, which is a value; or `InvalidType` at another node
 abbrev pub GivesVariant : List ℕ → NodeTree → Result (Bor (List ℕ) × Option (Bor NodeTree)) ParserError → Type 0
 GivesVariant source n (Ok (name, payload)) =
     (type_of n ≡ kind.Label) × (name.now ≡ name_of (text_at source n)) × (shown_node payload ≡ None)
-    ⊎ ((c : NodeTree) × (t : NodeTree) × (type_of n ≡ kind.VariantWithPayload) × (children_of n ≡ c ∷ t ∷ []) × (name.now ≡ name_of (text_at source c)) × (shown_node payload ≡ Some t))
+    ⊎ ((c : NodeTree) × (t : NodeTree) × (type_of n ≡ kind.VariantWithPayload) × (children_of n ≡ c ∷ t ∷ []) × (name.now ≡ name_of (text_at source c)) × (shown_node payload ≡ Some t) × IsValueOf source t)
 GivesVariant source n (Err e) = (type_of n ≢ kind.Label) × (type_of n ≢ kind.VariantWithPayload) × RefusedAs InvalidType n e
 
 -- the bool of a key, whose label is its word; or `InvalidType` where it is none
@@ -98,9 +108,17 @@ node_pairs _ = []
 abbrev pub shown_nodes : Bor NodeTree × Bor NodeTree → NodeTree × NodeTree
 shown_nodes e = (e.0.now, e.1.now)
 
+-- a key and a value
+abbrev pub IsEntryOf : List ℕ → NodeTree × NodeTree → Type 0
+IsEntryOf source e = IsKeyOf source e.0 × IsValueOf source e.1
+
+-- where the node was parsed as a value, each of these is a key and a value
+abbrev pub AreEntriesWithin : NodeTree → List (NodeTree × NodeTree) → Type 0
+AreEntriesWithin n entries = (source : List ℕ) → IsValueOf source n → AllOf (IsEntryOf source) entries
+
 -- the keys and the values of a node of entries, of `{:}` or of `{}`; or `InvalidType` at another node
 abbrev pub GivesEntries : NodeTree → Result (List (NodeTree × NodeTree)) ParserError → Type 0
-GivesEntries n (Ok entries) = ((type_of n ≡ kind.TupleSet) ⊎ (type_of n ≡ kind.EmptySet)) × (entries ≡ node_pairs (children_of n))
+GivesEntries n (Ok entries) = ((type_of n ≡ kind.TupleSet) ⊎ (type_of n ≡ kind.EmptySet)) × (entries ≡ node_pairs (children_of n)) × AreEntriesWithin n entries
 GivesEntries n (Err e) = (type_of n ≢ kind.TupleSet) × (type_of n ≢ kind.EmptySet) × RefusedAs InvalidType n e
 
 module _ {N : Type 0} (which : Whole) (number : N → ℤ) where

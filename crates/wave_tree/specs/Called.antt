@@ -1,11 +1,11 @@
 -- What untyped calls are in a contract, and what reading one from a text answers.
 use Rattle.std.specs.Prelude.{ℕ, ◌+◌, ◌≡◌, ◌≢◌, ◌⊎◌, ◌++◌, List, [], ◌∷◌, Option, Some, None, codes, length, map}
-use Rattle.std.specs.Fmt.{decimal}
 use Rattle.wave_wasm.specs.Lists.{AllOf, SomeOf}
 use Rattle.wave_wasm.specs.Types.{TypeTree}
 use Rattle.wave_wasm.specs.Values.{Value}
 use Rattle.wave_wasm.specs.Makers.{AreOf}
 use Rattle.std.specs.declared.ops.Range.{Range}
+use Rattle.wave_lex.specs.Errors.{no_params}
 use Rattle.wave_lex.specs.declared.lex.Token.TheVariants.{ParenOpen, ParenClose}
 use Rattle.wave_lex.specs.declared.error.ParserError.{ParserError}
 use Rattle.wave_lex.specs.declared.error.ParserErrorKind.TheVariants.{InvalidToken, InvalidParams, UnexpectedEnd, OutOfMemory, WasmValueError}
@@ -112,15 +112,11 @@ params_at source (Some n) = shown_at source n
 abbrev pub call_shown : Called → List ℕ
 call_shown u = slice u.source u.name ++ params_at u.source u.params
 
--- the detail where no parameters are given to a function of n parameters
-abbrev pub none_given : ℕ → List ℕ
-none_given n = codes "no params provided, but " ++ (decimal n ++ codes " required")
-
 -- want of memory; or a type is no option; or, where makers do not serve all values of the types, the refusal of one, at the name
 abbrev pub RefusesNone : (TypeTree → Type 0) → List TypeTree → Range ℕ → ParserError → Type 0
 RefusesNone Full Ts at e =
     (e.kind ≡ OutOfMemory)
-    ⊎ SomeOf IsNoOption Ts × Says e InvalidParams at (Some (none_given (length Ts)))
+    ⊎ SomeOf IsNoOption Ts × Says e InvalidParams at (Some (no_params (length Ts)))
     ⊎ (e.kind ≡ WasmValueError) × (e.span ≡ at) × (AllOf Full Ts → ⊥)
 
 -- a refusal of the parameters at the types

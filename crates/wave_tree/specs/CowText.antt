@@ -4,7 +4,6 @@ use Rattle.std.specs.String.{string_bytes}
 use Rattle.std.specs.declared.ops.Range.{Range}
 use Rattle.wave_wasm.specs.Lists.{AllOf}
 use Rattle.wave_lex.specs.Tokens.{backslash}
-use Rattle.wave_lex.specs.Errors.{refusal_of}
 use Rattle.wave_lex.specs.declared.error.ParserError.{ParserError}
 use Rattle.wave_lex.specs.declared.error.ParserErrorKind.TheVariants.{InvalidType, OutOfMemory}
 use Rattle.wave_lex.specs.declared.strings.StringPart.{StringPart}
@@ -13,7 +12,7 @@ use Rattle.wave_lex.specs.Parts.{part_texts, HasBadLine, LinesRunTo, TellsBadEsc
 use Rattle.wave_lex.specs.Strings.{StringMeans, IsInQuotes, IsBadEscapeAt}
 use Rattle.wave_lex.specs.Multiline.{pieces, MultilineMeans, IsInThreeQuotes, LineFault, MultilineFault, fault_span}
 use Rattle.wave_tree.specs.NodeTree.{NodeTree, type_of, place_of}
-use Rattle.wave_tree.specs.Faults.{Refuses}
+use Rattle.wave_tree.specs.Refusals.{Says}
 use Rattle.wave_tree.specs.Answers.{text_at, RefusedAs, IsInside}
 use Rattle.wave_tree.specs.declared.ast.NodeType.TheVariants as kind
 use Rattle.wave_tree.specs.declared.ast.CowStr.{CowStr}
@@ -31,7 +30,7 @@ BorrowedWhere P (Owned s) = P → ⊥
 
 -- a refusal for want of memory, at the place
 abbrev pub WantsMemory : Range ℕ → ParserError → Type 0
-WantsMemory place e = Refuses OutOfMemory place (refusal_of e) e.span
+WantsMemory place e = Says e OutOfMemory place None
 
 -- nothing is left
 abbrev pub IsEnded : LinesLeft → Type 0

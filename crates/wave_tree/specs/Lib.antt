@@ -40,3 +40,5 @@ pub mod TreeLaws
 pub mod BeginLaws
 pub mod AnswerLaws
 pub mod ShownLaws
+pub mod MeaningLaws
+pub mod OrderLaws

@@ -1,11 +1,11 @@
 -- The values that types give the parameters of a call, by their trees, and why there are none.
-use Rattle.std.specs.Prelude.{ℕ, ◌≡◌, ◌≢◌, ◌-◌, ◌⊎◌, List, [], ◌∷◌, map, Some, codes}
+use Rattle.std.specs.Prelude.{ℕ, ◌≡◌, ◌≢◌, ◌-◌, ◌⊎◌, List, [], ◌∷◌, map, Some}
 use Rattle.std.specs.declared.ops.Range.{Range}
 use Rattle.wave_wasm.specs.Lists.{AllOf, SomeOf}
 use Rattle.wave_wasm.specs.Types.{TypeTree}
 use Rattle.wave_wasm.specs.Values.{Value}
 use Rattle.wave_wasm.specs.Makers.{AreOf}
-use Rattle.wave_lex.specs.Errors.{refusal_of}
+use Rattle.wave_lex.specs.Errors.{refusal_of, too_many_params, too_few_params}
 use Rattle.wave_lex.specs.Lexing.{span}
 use Rattle.wave_lex.specs.declared.error.ParserError.{ParserError}
 use Rattle.wave_lex.specs.declared.error.ParserErrorKind.TheVariants.{InvalidParams, InvalidType, OutOfMemory, WasmValueError}
@@ -36,8 +36,8 @@ IsNoOption T = IsOption T → ⊥
 
 -- what is wrong with the items, read in turn: a fault of one at its type; the first that is too many; or a type that is left and is no option
 abbrev pub ParamsFault : List TypeTree → List Placed → Range ℕ → ParserError → Type 0
-ParamsFault Ts [] close e = SomeOf IsNoOption Ts × Says e InvalidParams close (Some (codes "missing required param(s)"))
-ParamsFault [] (t ∷ ts) close e = Says e InvalidParams (span_of t) (Some (codes "more param(s) than expected"))
+ParamsFault Ts [] close e = SomeOf IsNoOption Ts × Says e InvalidParams close (Some too_few_params)
+ParamsFault [] (t ∷ ts) close e = Says e InvalidParams (span_of t) (Some too_many_params)
 ParamsFault (T ∷ Ts) (t ∷ ts) close e =
     Fault T t (refusal_of e) e.span × ((v : Value) → TreeReads T (tree_of t) v → ⊥)
     ⊎ ((v : Value) × TreeReads T (tree_of t) v × ParamsFault Ts ts close e)

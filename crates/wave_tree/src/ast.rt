@@ -191,7 +191,8 @@ impl Node {
         joined(alloc, parts, &self.span)
     }
 
-    /// The items, at a tuple node; else `InvalidType`.
+    /// The items, at a tuple node; else `InvalidType`. Where the node was parsed as a value from a
+    /// source, so was each item.
     pub fn as_tuple(&self) -> Result<&[Node], ParserError>
         ensures { GivesNodes NodeType.Tuple self.now result }
     {
@@ -199,7 +200,8 @@ impl Node {
         Ok(self.nodes())
     }
 
-    /// The items, at a list node; else `InvalidType`.
+    /// The items, at a list node; else `InvalidType`. Where the node was parsed as a value from a
+    /// source, so was each item.
     pub fn as_list(&self) -> Result<&[Node], ParserError>
         ensures { GivesNodes NodeType.List self.now result }
     {
@@ -207,7 +209,8 @@ impl Node {
         Ok(self.nodes())
     }
 
-    /// The keys and the values, at a node of entries, of `{:}` and of `{}`; else `InvalidType`.
+    /// The keys and the values, at a node of entries, of `{:}` and of `{}`; else `InvalidType`. Where
+    /// the node was parsed as a value from a source, so was each value, and each key as a key.
     pub fn as_map(&self) -> Result<MapEntries<'_>, ParserError>
         ensures { GivesEntries self.now result }
     {
@@ -218,7 +221,7 @@ impl Node {
     }
 
     /// The name of the case, without its `%`, and its payload, at a label and at a case with a
-    /// payload; else `InvalidType`. The node was parsed from `src`.
+    /// payload; else `InvalidType`. The node was parsed from `src`, and so was the payload, as a value.
     pub fn as_variant<'this, 'src>(
         &'this self,
         src: &'src str,
@@ -245,7 +248,8 @@ impl Node {
         Ok(label_name(self.slice(src)))
     }
 
-    /// The payload, at `some`, and None at `none`; else `InvalidType`.
+    /// The payload, at `some`, and None at `none`; else `InvalidType`. Where the node was parsed as a
+    /// value from a source, so was the payload.
     pub fn as_option(&self) -> Result<Option<&Node>, ParserError>
         ensures { GivesOption self.now result }
     {
@@ -256,7 +260,8 @@ impl Node {
         }
     }
 
-    /// The payload, where there is one, at `ok` and at `err`; else `InvalidType`.
+    /// The payload, where there is one, at `ok` and at `err`; else `InvalidType`. Where the node was
+    /// parsed as a value from a source, so was the payload.
     pub fn as_result(&self) -> Result<Result<Option<&Node>, Option<&Node>>, ParserError>
         ensures { GivesResult self.now result }
     {

@@ -3,10 +3,14 @@ ghost use Rattle.wave_wasm.specs.Types.{TypeTree, HasDistinctNames};
 ghost use Rattle.wave_tree.specs.Laws.{OneReading};
 ghost use Rattle.wave_tree.specs.TreeLaws.{OneTree, HasItsLevels, ReadsByTree, TreeIsRead, ParamsAreByTree};
 ghost use Rattle.wave_tree.specs.ShownLaws.{ShownKeepsMeaning, ShownCallKeepsMeaning};
+ghost use Rattle.wave_tree.specs.MeaningLaws.{MeansByTree, ReadAlike, RefusedAlike, NodesReadAsTokens, SameTokensMeanTheSame, SameTreeMeansTheSame, LastCommasMayGo, LastCommasMeanNothing};
+ghost use Rattle.wave_tree.specs.OrderLaws.{FieldsInAnyOrder, FlagsInAnyOrder};
 ghost use Rattle.wave_tree.specs.AnswerLaws.{ReadHaveATree, RefusedHaveNone, AskingsAreFew, RefusalsLieInText, FaultsLieInText};
 ghost use Rattle.wave_tree.specs.BeginLaws.{TreesAreLed, LedTokensHaveATree, FrontsAreLed, LedTokensBeginATree};
 ghost use Rattle.wave_tree.specs.BeginLaws.{RefusedTokensBeginNone, UnexpectedTokensBeginNone};
 ghost use Rattle.wave_tree.specs.BeginLaws.{EmptyTuplesAreEmpty, RepeatedFlagsAreRepeated, DeepValuesAreDeep};
+
+use wave_wasm::wasm::WasmValue;
 
 /// No tokens spell two values of a type whose names are distinct, nor does a spelling begin another.
 pub fn one_reading()
@@ -81,6 +85,40 @@ pub fn read_values_have_a_tree()
 /// Where a parser has refused a value, memory apart, no tree stands.
 pub fn refused_values_have_none()
     ensures { RefusedHaveNone }
+{}
+
+/// A text means at a type what the type gives the tree that the text spells. So a value is read from
+/// a text at a type exactly where it is read from the text's untyped value, and a text that is
+/// refused by one of them, memory apart, is refused by the other.
+pub fn untyped_reading_agrees<V: WasmValue>()
+    ensures tree { MeansByTree }
+    ensures read { ReadAlike V.tree V.is_of }
+    ensures refused { RefusedAlike }
+{}
+
+/// A type gives a node the values that the tokens spell which stand at the node.
+pub fn nodes_read_as_their_tokens()
+    ensures { NodesReadAsTokens }
+{}
+
+/// Texts of the same tokens mean the same at every type, and so do texts that spell one tree.
+pub fn same_tokens_mean_the_same()
+    ensures tokens { SameTokensMeanTheSame }
+    ensures tree { SameTreeMeansTheSame }
+{}
+
+/// A comma before a close means nothing: without it tokens spell the same tree, and texts that spell
+/// trees and differ only in such commas spell one tree and mean the same at every type.
+pub fn last_commas_mean_nothing()
+    ensures may_go { LastCommasMayGo }
+    ensures meaning { LastCommasMeanNothing }
+{}
+
+/// Texts of the same fields mean the same at a record type, and texts of the same flags at a type of
+/// flags, in any order and whether a name carries its `%` or not.
+pub fn order_means_nothing()
+    ensures fields { FieldsInAnyOrder }
+    ensures flags { FlagsInAnyOrder }
 {}
 
 /// The display of a parsed tree spells a tree of as many levels and of the same display, and means at

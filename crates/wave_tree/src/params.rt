@@ -1,8 +1,9 @@
 //! Reading the parameters of a call.
-ghost use Rattle.std.specs.Prelude.{◌≡◌, ◌⊎◌, ◌↔◌, ◌++◌, List, [], ◌∷◌, map, Some, IsTrue, OnOk, IfOk, IfErr, MatchBool, codes};
+ghost use Rattle.std.specs.Prelude.{◌≡◌, ◌⊎◌, ◌↔◌, ◌++◌, List, [], ◌∷◌, map, Some, IsTrue, OnOk, IfOk, IfErr, MatchBool};
 ghost use Rattle.wave_wasm.specs.Lists.{AllOf, SomeOf};
 ghost use Rattle.wave_wasm.specs.Types.{HasDistinctNames};
 ghost use Rattle.wave_wasm.specs.Makers.{AreOf};
+ghost use Rattle.wave_lex.specs.Errors.{too_many_params, too_few_params, no_params};
 ghost use Rattle.wave_lex.specs.declared.error.ParserErrorKind.TheVariants.{InvalidParams, OutOfMemory, WasmValueError};
 ghost use Rattle.wave_tree.specs.Reads.{IsOption};
 ghost use Rattle.wave_tree.specs.Params.{Omitted};
@@ -13,7 +14,7 @@ ghost use Rattle.wave_tree.specs.AnswerLaws.{LiesInText};
 ghost use Rattle.wave_tree.specs.Nodes.{IsNodeOf};
 ghost use Rattle.wave_tree.specs.Placed.{Placed};
 ghost use Rattle.wave_tree.specs.Typed.{IsValueOf};
-ghost use Rattle.wave_tree.specs.Called.{AreOmitted, RefusesNone, none_given};
+ghost use Rattle.wave_tree.specs.Called.{AreOmitted, RefusesNone};
 ghost use Rattle.wave_tree.specs.TreeParams.{GivesParams, RefusesParams, RefusesOmitted, IsNoOption, close_of};
 
 use crate::ast::Node;
@@ -60,7 +61,7 @@ impl Node {
 
     /// The refusal of an item that has no type.
     fn too_many(&self) -> ParserError
-        ensures { Says result InvalidParams (place_of self.now) (Some (codes "more param(s) than expected")) }
+        ensures { Says result InvalidParams (place_of self.now) (Some too_many_params) }
     {
         ParserError::with_static(
             ParserErrorKind::InvalidParams,
@@ -71,7 +72,7 @@ impl Node {
 
     /// The refusal of a tuple that has too few items.
     fn missing(&self) -> ParserError
-        ensures { Says result InvalidParams (close_of self.now) (Some (codes "missing required param(s)")) }
+        ensures { Says result InvalidParams (close_of self.now) (Some too_few_params) }
     {
         let end = self.span().end;
         ParserError::with_static(
@@ -147,7 +148,7 @@ pub(crate) fn omitted_params<V: WasmValue>(
 
 /// The refusal of a call without parameters to a function of so many.
 fn none_given(alloc: Global, count: usize, at: Span) -> ParserError
-    ensures refusal { (result.kind ≡ OutOfMemory) ⊎ Says result InvalidParams at (Some (none_given count)) }
+    ensures refusal { (result.kind ≡ OutOfMemory) ⊎ Says result InvalidParams at (Some (no_params count)) }
     ensures span { result.span ≡ at }
 {
     match format!(in alloc; "no params provided, but {count} required") {

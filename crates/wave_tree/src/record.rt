@@ -1,11 +1,13 @@
 //! The fields of records.
 ghost use Rattle.std.specs.Prelude.{◌≡◌, ◌⊎◌, Some, map, IfOk, IfErr, MatchResult};
+ghost use Rattle.wave_wasm.specs.Lists.{AllOf};
 ghost use Rattle.wave_lex.specs.Errors.{field_label_due, repeated_name};
 ghost use Rattle.wave_lex.specs.declared.error.ParserErrorKind.TheVariants.{InvalidType, DuplicateField, OutOfMemory};
 ghost use Rattle.wave_tree.specs.Spells.{name_of};
 ghost use Rattle.wave_tree.specs.NodeTree.{type_of, place_of};
 ghost use Rattle.wave_tree.specs.Nodes.{IsParsedFrom};
 ghost use Rattle.wave_tree.specs.Answers.{text_at};
+ghost use Rattle.wave_tree.specs.Typed.{IsValueOf};
 ghost use Rattle.wave_tree.specs.Refusals.{Says};
 ghost use Rattle.wave_tree.specs.Standing.{StandsIn};
 ghost use Rattle.wave_tree.specs.Records.{IsFieldsOf, RefusesFields, GivesRecord, GivesName, shown_field, HoldsFields};
@@ -22,7 +24,8 @@ impl Node {
     /// The names, without their `%`, and the values of a record, in the order of the source, at a
     /// node of entries and at `{:}`; else `InvalidType`. The first key that is no label is
     /// `InvalidType` at the key, and the first that has the name of an earlier one
-    /// `DuplicateField` at the later key. The node was parsed from `src`.
+    /// `DuplicateField` at the later key. The node was parsed from `src`, and so were the values of
+    /// the fields, as values.
     pub fn as_record<'this, 'src>(
         &'this self,
         alloc: Global,
@@ -30,6 +33,7 @@ impl Node {
     ) -> Result<RecordFields<'this, 'src>, ParserError>
         requires { IsParsedFrom src.now self.now }
         ensures given { GivesRecord src.now self.now result }
+        ensures values { IfOk result (AllOf (λ f. IsValueOf src.now f.1)) }
         ensures within { IfErr result (StandsIn self.now) }
     {
         let (fields, _) = self.fields(alloc, src)?;

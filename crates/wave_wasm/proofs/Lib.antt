@@ -17,3 +17,4 @@ pub mod Places
 pub mod Adding
 pub mod TypeTrees
 pub mod Functions
+pub mod HexDigits

@@ -3,7 +3,7 @@ use Rattle.std.proofs.Common.{ℕ, ◌≡◌, List, [], ◌++◌, Bool, true, fa
 use Rattle.std.proofs.lemmas.List.{append-nil}
 use Rattle.std.specs.declared.alloc.AllocError.{AllocError}
 use Rattle.wave_wasm.specs.declared.writer.WriterError.{WriterError}
-use Rattle.wave_wasm.specs.Output.{Output, Appended, TextRefused, IsGrounded, Refused}
+use Rattle.wave_wasm.specs.Output.{Output, Appended, TextRefused, IsGrounded, CountsOnce, Refused}
 
 -- of the text `whole`, all but `rest` was taken, and no write failed
 pub record Writing (whole rest : List ℕ) (old now : Output) : Type 0 where
@@ -43,13 +43,14 @@ writing_refused {whole} {part} rest {old} {now} {new} {writable} {all} {e} w h r
     whole_is = w.whole_is ∙ (ap (λ s. w.done ++ (s ++ rest)) r.began.whole_is ∙ (ap (λ s. w.done ++ s) (append_assoc r.began.done r.began.rest rest) ∙ sym (append_assoc w.done r.began.done (r.began.rest ++ rest))));
   };
   grounded = grounded_later e writable all old.failures now.failures new.failures w.failures h r.grounded;
+  counts = subst (λ n. CountsOnce e n new.failures) w.failures r.counts;
 }
 
 -- the refusal of one text
 pub refused_text : {whole : List ℕ} {old new : Output} (e : WriterError) → TextRefused whole e old new → Refused whole true e old new
-refused_text (WriterError.Io e) r = record { began = r.began; grounded = search arith }
+refused_text (WriterError.Io e) r = record { began = r.began; grounded = search arith; counts = r.counts }
 refused_text WriterError.UnsupportedType r = absurd r.counts
-refused_text (WriterError.Memory e) r = record { began = r.began; grounded = tt }
+refused_text (WriterError.Memory e) r = record { began = r.began; grounded = tt; counts = r.counts }
 
 -- the same, where the part can be written as any text can
 pub writing_refused_text : {whole part : List ℕ} (rest : List ℕ) {old now new : Output} {all : Bool} {e : WriterError} → Writing whole (part ++ rest) old now → Refused part true e now new → Refused whole all e old new
@@ -61,7 +62,7 @@ start_refused {whole} rest {old} is r = let w : Writing whole (_ ++ rest) old ol
 
 -- want of memory before anything is written
 pub refused_before : (whole : List ℕ) (writable : Bool) (old : Output) (e : AllocError) → Refused whole writable (WriterError.Memory e) old old
-refused_before whole writable old e = record { began = record { done = []; rest = whole; written = sym (append-nil old.written); whole_is = refl }; grounded = tt }
+refused_before whole writable old e = record { began = record { done = []; rest = whole; written = sym (append-nil old.written); whole_is = refl }; grounded = tt; counts = refl }
 
 -- the same of what is left to write, rewritten
 pub writing_as : {whole rest left : List ℕ} {old now : Output} → rest ≡ left → Writing whole rest old now → Writing whole left old now
@@ -83,7 +84,7 @@ writing_last_text {whole} {part} w r = writing_refused_text [] (writing_as (sym 
 
 -- a value without text is refused before anything is written
 pub refused_unsupported : (whole : List ℕ) (writable : Bool) (old : Output) → writable ≡ false → Refused whole writable WriterError.UnsupportedType old old
-refused_unsupported whole writable old no_text = record { began = record { done = []; rest = whole; written = sym (append-nil old.written); whole_is = refl }; grounded = no_text }
+refused_unsupported whole writable old no_text = record { began = record { done = []; rest = whole; written = sym (append-nil old.written); whole_is = refl }; grounded = no_text; counts = refl }
 
 -- the last part is refused
 pub writing_last : {whole part : List ℕ} {old now new : Output} {writable all : Bool} {e : WriterError} → Writing whole part old now → all ≡ writable → Refused part writable e now new → Refused whole all e old new

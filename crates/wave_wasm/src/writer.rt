@@ -1,4 +1,5 @@
 //! The canonical text of values.
+use crate::escape::{ESCAPE_LEN, number_escape};
 use crate::keyword::Keyword;
 use crate::wasm::{WasmTypeKind, WasmValue};
 use itoa::{Buffer, Integer};
@@ -153,7 +154,7 @@ impl<W: TextWrite> Writer<W> {
             WasmTypeKind::F32 | WasmTypeKind::F64 | WasmTypeKind::Unsupported => {
                 Err(WriterError::UnsupportedType)
             }
-            _ => self.write_leaf(alloc, val),
+            _ => self.write_leaf(val),
         }
     }
 
@@ -327,7 +328,7 @@ impl<W: TextWrite> Writer<W> {
             let (key, value) = *entry;
             self.write_separator(later)?;
             later = true;
-            self.write_leaf(alloc, key)?;
+            self.write_leaf(key)?;
             self.write_text(": ")?;
             self.write_value(alloc, value)?;
         }
@@ -370,7 +371,7 @@ impl<W: TextWrite> Writer<W> {
     }
 
     /// Writes a value of one token.
-    fn write_leaf<V: WasmValue>(&mut self, alloc: Global, val: &V) -> Result<(), WriterError>
+    fn write_leaf<V: WasmValue>(&mut self, val: &V) -> Result<(), WriterError>
         requires { IsLeaf (V.tree val.now) }
         ensures ok { OnOk result
             (Appended (text (V.tree val.now)) (W.output self.old.out) (W.output self.new.out)) }
@@ -389,8 +390,8 @@ impl<W: TextWrite> Writer<W> {
             WasmTypeKind::U16 => self.write_number(val.unwrap_u16()),
             WasmTypeKind::U32 => self.write_number(val.unwrap_u32()),
             WasmTypeKind::U64 => self.write_number(val.unwrap_u64()),
-            WasmTypeKind::Char => self.write_char(alloc, val.unwrap_char()),
-            WasmTypeKind::String => self.write_string(alloc, val.unwrap_string()),
+            WasmTypeKind::Char => self.write_char(val.unwrap_char()),
+            WasmTypeKind::String => self.write_string(val.unwrap_string()),
             _ => unreachable!(),
         }
     }
@@ -406,19 +407,19 @@ impl<W: TextWrite> Writer<W> {
     }
 
     /// Writes a scalar between single quotes.
-    fn write_char(&mut self, alloc: Global, c: char) -> Result<(), WriterError>
+    fn write_char(&mut self, c: char) -> Result<(), WriterError>
         ensures ok { OnOk result
             (Appended (quoted_char c) (W.output self.old.out) (W.output self.new.out)) }
         ensures err { IfErr result
             (λ e. Refused (quoted_char c) true e (W.output self.old.out) (W.output self.new.out)) }
     {
         self.write_text("'")?;
-        self.write_scalar(alloc, c)?;
+        self.write_scalar(c)?;
         self.write_text("'")
     }
 
     /// Writes a text between double quotes. The scalars between two escapes are written as one run.
-    fn write_string(&mut self, alloc: Global, s: &str) -> Result<(), WriterError>
+    fn write_string(&mut self, s: &str) -> Result<(), WriterError>
         ensures ok { OnOk result
             (Appended (quoted s.now) (W.output self.old.out) (W.output self.new.out)) }
         ensures err { IfErr result
@@ -429,7 +430,7 @@ impl<W: TextWrite> Writer<W> {
         for (at, c) in s.char_indices() {
             if !is_plain(c) {
                 self.write_run(&s[start..at])?;
-                self.write_scalar(alloc, c)?;
+                self.write_scalar(c)?;
                 start = at + c.len_utf8();
             }
         }
@@ -452,7 +453,7 @@ impl<W: TextWrite> Writer<W> {
 
     /// Writes a scalar as it stands between quotes.
     #[tactic(auto, using(crate::proofs::Writing::refused_before), unfolding(crate::specs::Text::escaped))]
-    fn write_scalar(&mut self, alloc: Global, c: char) -> Result<(), WriterError>
+    fn write_scalar(&mut self, c: char) -> Result<(), WriterError>
         ensures ok { OnOk result
             (Appended (escaped c) (W.output self.old.out) (W.output self.new.out)) }
         ensures err { IfErr result
@@ -466,9 +467,8 @@ impl<W: TextWrite> Writer<W> {
             '\r' => self.write_text("\\r"),
             '\n' => self.write_text("\\n"),
             _ if is_escaped(c) => {
-                let number = u32::from(c);
-                let text = format!(in alloc; "\\u{{{number:x}}}")?;
-                self.write_text(text.as_str())
+                let mut bytes = [0u8; ESCAPE_LEN];
+                self.write_text(number_escape(c, &mut bytes))
             }
             _ => {
                 let mut bytes = [0u8; 4];
@@ -509,6 +509,7 @@ impl<W: TextWrite> Writer<W> {
 }
 
 ghost use Rattle.std.specs.Prelude.{◌≡◌, OnOk, IfOk, IfErr, true, map};
+ghost use Rattle.std.specs.List.{list_all};
 ghost use Rattle.std.specs.Str.{bytes_eq};
 ghost use Rattle.std.specs.String.{string_bytes};
 ghost use Rattle.wave_wasm.specs.Lists.{AllOf};
@@ -535,7 +536,8 @@ pub(crate) fn arguments_to_string<V: WasmValue>(
     alloc: Global,
     vals: &[V],
 ) -> Result<String, WriterError>
-    ensures { IfOk result (λ s. string_bytes s ≡ arguments_text (map V.tree vals.now)) }
+    ensures ok { IfOk result (λ s. string_bytes s ≡ arguments_text (map V.tree vals.now)) }
+    ensures writable { OnOk result (list_all has_text (map V.tree vals.now) ≡ true) }
 {
     let mut writer = Writer::new(String::new(alloc));
     writer.write_text("(")?;
@@ -554,7 +556,8 @@ pub(crate) fn results_to_string<V: WasmValue>(
     alloc: Global,
     vals: &[V],
 ) -> Result<String, WriterError>
-    ensures { IfOk result (λ s. string_bytes s ≡ results_text (map V.tree vals.now)) }
+    ensures ok { IfOk result (λ s. string_bytes s ≡ results_text (map V.tree vals.now)) }
+    ensures writable { OnOk result (list_all has_text (map V.tree vals.now) ≡ true) }
 {
     if vals.len() == 1 {
         to_string(alloc, &vals[0])
@@ -570,7 +573,7 @@ fn leaf_text<V: WasmValue>(alloc: Global, val: &V) -> Result<String, WriterError
     ensures err { IfErr result (λ e. IsGrounded e true 0 0) }
 {
     let mut writer = Writer::new(String::new(alloc));
-    writer.write_leaf(alloc, val)?;
+    writer.write_leaf(val)?;
     Ok(writer.into_inner())
 }
 

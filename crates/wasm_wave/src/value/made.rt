@@ -4,14 +4,14 @@ ghost use Rattle.wave_wasm.specs.Values as value;
 ghost use Rattle.wave_wasm.specs.Values.{values, maybe_value};
 ghost use Rattle.wave_wasm.specs.Makers.{result_value, either_tree};
 ghost use Rattle.wasm_wave.specs.ValueView.{trees, payload_tree, boxed, PayloadAt};
-ghost use Rattle.wasm_wave.specs.Taken.{Made, Tells, TakesList, TakesTuple, TakesOption, TakesResult, TakesEnum, RefusesParts, RefusesTuple, RefusesPayload, RefusesResult, RefusesEnum};
+ghost use Rattle.wasm_wave.specs.Taken.{Made, Tells, TakesList, TakesTuple, TakesOption, TakesResult, TakesEnum, list_stated, option_stated, RefusesParts, RefusesTuple, RefusesPayload, RefusesResult, RefusesEnum};
 ghost use Rattle.wave_wasm.specs.Shown.{shown, named};
 ghost use Rattle.wasm_wave.specs.TypeView.{by_bytes};
 ghost use Rattle.wasm_wave.specs.Handed.{held, last_under, TakesRecord, MadeRecord, RefusesRecord, RefusesFields, InOrder};
 
 use super::refusals::{
-    missing_field, missing_payload, unexpected_payload, unknown_case, unknown_field, wrong_kind,
-    wrong_type,
+    ShowsValue, missing_field, missing_payload, unexpected_payload, unknown_case, unknown_field,
+    wrong_kind, wrong_type,
 };
 use super::{Content, Type, Value};
 use std::alloc::{AllocError, Global};
@@ -31,19 +31,22 @@ impl Value {
         self.own == *ty
     }
 
-    /// The list of these items, whose own type is this one. A type of another kind is refused,
-    /// and an item whose own type isn't the element type.
-    pub fn make_list(alloc: Global, ty: &Type, vals: Vec<Value>) -> Result<Value, WasmValueError>
+    // What `make_list` answers, where a refusal shows values so.
+    pub(crate) fn list_of<S: ShowsValue>(
+        alloc: Global,
+        ty: &Type,
+        vals: Vec<Value>,
+    ) -> Result<Value, WasmValueError>
         ensures made { IfOk result (Made (value.list (values (trees vals.items))) ty.now) }
         ensures taken { OnOk result (TakesList ty.now vals.items) }
-        ensures refused { IfErr result (RefusesParts WasmTypeKind.List ty.now (TakesList ty.now vals.items)) }
+        ensures refused { IfErr result (RefusesParts S.words WasmTypeKind.List ty.now (list_stated ty.now vals.items)) }
     {
         let Some(element) = ty.list_element_type() else {
             return Err(wrong_kind(alloc, WasmTypeKind::List, ty));
         };
         for val in &vals {
             if !val.is_at(element) {
-                return Err(wrong_type(alloc, element, val));
+                return Err(wrong_type::<S>(alloc, element, val));
             }
         }
         Ok(Value {
@@ -52,12 +55,15 @@ impl Value {
         })
     }
 
-    /// The tuple of these items, whose own type is this one. A type of another kind is refused, and
-    /// another count than the type's, and an item whose own type isn't the one at its place.
-    pub fn make_tuple(alloc: Global, ty: &Type, vals: Vec<Value>) -> Result<Value, WasmValueError>
+    // What `make_tuple` answers, where a refusal shows values so.
+    pub(crate) fn tuple_of<S: ShowsValue>(
+        alloc: Global,
+        ty: &Type,
+        vals: Vec<Value>,
+    ) -> Result<Value, WasmValueError>
         ensures made { IfOk result (Made (value.tuple (values (trees vals.items))) ty.now) }
         ensures taken { OnOk result (TakesTuple ty.now vals.items) }
-        ensures refused { IfErr result (RefusesTuple ty.now vals.items) }
+        ensures refused { IfErr result (RefusesTuple S.words ty.now vals.items) }
     {
         let Some(types) = ty.tuple_types() else {
             return Err(wrong_kind(alloc, WasmTypeKind::Tuple, ty));
@@ -68,8 +74,10 @@ impl Value {
             return Err(WasmValueError::WrongNumberOfTupleValues { want, got });
         }
         for i in 0..got {
-            if !vals[i].is_at(&types[i]) {
-                return Err(wrong_type(alloc, &types[i], &vals[i]));
+            let stated = &types[i];
+            let val = &vals[i];
+            if !val.is_at(stated) {
+                return Err(wrong_type::<S>(alloc, stated, val));
             }
         }
         Ok(Value {
@@ -78,40 +86,36 @@ impl Value {
         })
     }
 
-    /// The record of these fields, whose own type is this one. Their order is free, and the last value
-    /// under a name counts. A type of another kind is refused, and so is a field that is missing or
-    /// that the type has twice, a name that no field has, and a value whose own type isn't its
-    /// field's.
-    pub fn make_record(
+    // What `make_record` answers, where a refusal shows values so.
+    pub(crate) fn record_of<S: ShowsValue>(
         alloc: Global,
         ty: &Type,
         fields: Vec<(&str, Value)>,
     ) -> Result<Value, WasmValueError>
         ensures made { IfOk result (MadeRecord (named fields.entry.items) ty.now) }
         ensures taken { OnOk result (TakesRecord ty.now (named fields.entry.items)) }
-        ensures refused { IfErr result (RefusesRecord ty.now (named fields.entry.items)) }
+        ensures refused { IfErr result (RefusesRecord S.words ty.now (named fields.entry.items)) }
     {
         let Some(stated) = ty.named_types() else {
             return Err(wrong_kind(alloc, WasmTypeKind::Record, ty));
         };
         let given = last_values(alloc, fields)?;
-        let vals = in_order(alloc, stated, given)?;
+        let vals = in_order::<S>(alloc, stated, given)?;
         Ok(Value {
             own: ty.clone()?,
             content: Content::Record(vals),
         })
     }
 
-    /// `some` of the payload, or `none`, whose own type is this one. A type of another kind is
-    /// refused, and a payload whose own type isn't the payload type.
-    pub fn make_option(
+    // What `make_option` answers, where a refusal shows values so.
+    pub(crate) fn option_of<S: ShowsValue>(
         alloc: Global,
         ty: &Type,
         val: Option<Value>,
     ) -> Result<Value, WasmValueError>
         ensures made { IfOk result (Made (value.option (maybe_value (payload_tree val))) ty.now) }
         ensures taken { OnOk result (TakesOption ty.now val) }
-        ensures refused { IfErr result (RefusesParts WasmTypeKind.Option ty.now (TakesOption ty.now val)) }
+        ensures refused { IfErr result (RefusesParts S.words WasmTypeKind.Option ty.now (option_stated ty.now val)) }
     {
         let Some(some) = ty.option_some_type() else {
             return Err(wrong_kind(alloc, WasmTypeKind::Option, ty));
@@ -123,7 +127,7 @@ impl Value {
             }),
             Some(val) => {
                 if !val.is_at(some) {
-                    return Err(wrong_type(alloc, some, &val));
+                    return Err(wrong_type::<S>(alloc, some, &val));
                 }
                 let val = Box::new(alloc, val)?;
                 Ok(Value {
@@ -134,31 +138,29 @@ impl Value {
         }
     }
 
-    /// `ok` or `err` with the payload, whose own type is this one. A type of another kind is refused,
-    /// and so is a payload that is missing or unexpected there, or whose own type isn't the stated
-    /// one.
-    pub fn make_result(
+    // What `make_result` answers, where a refusal shows values so.
+    pub(crate) fn result_of<S: ShowsValue>(
         alloc: Global,
         ty: &Type,
         val: Result<Option<Value>, Option<Value>>,
     ) -> Result<Value, WasmValueError>
         ensures made { IfOk result (Made (result_value (either_tree (λ v. v.tree) val)) ty.now) }
         ensures taken { OnOk result (TakesResult ty.now val) }
-        ensures refused { IfErr result (RefusesResult ty.now val) }
+        ensures refused { IfErr result (RefusesResult S.words ty.now val) }
     {
         let Some((ok, err)) = ty.result_types() else {
             return Err(wrong_kind(alloc, WasmTypeKind::Result, ty));
         };
         match val {
             Ok(payload) => {
-                let payload = boxed_payload(alloc, "ok", ok, payload)?;
+                let payload = boxed_payload::<S>(alloc, "ok", ok, payload)?;
                 Ok(Value {
                     own: ty.clone()?,
                     content: Content::Ok(payload),
                 })
             }
             Err(payload) => {
-                let payload = boxed_payload(alloc, "err", err, payload)?;
+                let payload = boxed_payload::<S>(alloc, "err", err, payload)?;
                 Ok(Value {
                     own: ty.clone()?,
                     content: Content::Err(payload),
@@ -189,7 +191,7 @@ impl Value {
 
 // The payload of this case in its box. One that is missing or unexpected is refused, and one whose
 // own type isn't the stated one.
-fn boxed_payload(
+fn boxed_payload<S: ShowsValue>(
     alloc: Global,
     case: &str,
     stated: Option<&Type>,
@@ -197,7 +199,7 @@ fn boxed_payload(
 ) -> Result<Option<Box<Value>>, WasmValueError>
     ensures boxed { IfOk result (λ b. boxed b ≡ val) }
     ensures taken { OnOk result (PayloadAt (shown (λ t. t) stated.entry) val) }
-    ensures refused { IfErr result (RefusesPayload case.now (shown (λ t. t) stated.entry) val) }
+    ensures refused { IfErr result (RefusesPayload S.words case.now (shown (λ t. t) stated.entry) val) }
 {
     match val {
         None => match stated {
@@ -208,7 +210,7 @@ fn boxed_payload(
             None => Err(unexpected_payload(alloc, case)),
             Some(stated) => {
                 if !val.is_at(stated) {
-                    return Err(wrong_type(alloc, stated, &val));
+                    return Err(wrong_type::<S>(alloc, stated, &val));
                 }
                 Ok(Some(Box::new(alloc, val)?))
             }
@@ -232,13 +234,13 @@ fn last_values<V: Drop>(
 
 // The values in the fields' order. A field without a value is refused, and so is a value of another
 // type, and one that is left.
-fn in_order(
+fn in_order<S: ShowsValue>(
     alloc: Global,
     stated: &Vec<(String, Type)>,
     mut given: BTreeMap<&str, Value>,
 ) -> Result<Vec<Value>, WasmValueError>
     ensures given { IfOk result (λ v. InOrder (map by_bytes stated.now.items) (held given.entry) v.items) }
-    ensures refused { IfErr result (RefusesFields (map by_bytes stated.now.items) (held given.entry)) }
+    ensures refused { IfErr result (RefusesFields S.words (map by_bytes stated.now.items) (held given.entry)) }
 {
     let mut vals = Vec::new(alloc);
     for field in stated {
@@ -247,7 +249,7 @@ fn in_order(
             return Err(missing_field(alloc, name));
         };
         if !val.is_at(&field.1) {
-            return Err(wrong_type(alloc, &field.1, &val));
+            return Err(wrong_type::<S>(alloc, &field.1, &val));
         }
         vals.push(val)?;
     }

@@ -3,13 +3,55 @@ ghost use Rattle.wasm_wave.specs.Taken.{SaysKind, SaysType, SaysCase, SaysMissin
 ghost use Rattle.wasm_wave.specs.Handed.{SaysMissingField, SaysUnknownField};
 
 use super::{Type, Value};
-use std::alloc::Global;
+use crate::writer::WriterError;
+use std::alloc::{AllocError, Global};
 use wave_wasm::wasm::{WasmTypeKind, WasmValueError};
-use wave_wasm::writer;
+
+// What shows a value in a refusal.
+pub(super) trait ShowsValue {
+    ghost use Rattle.std.specs.Prelude.{◌≡◌, ℕ, List, IfOk, string_bytes};
+    ghost use Rattle.wasm_wave.specs.TypedValue.{TypedValue};
+
+    ghost words: { TypedValue → List ℕ };
+
+    fn show(alloc: Global, val: &Value) -> Result<String, AllocError>
+        ensures { IfOk result (λ s. string_bytes s ≡ words val.now) };
+}
+
+// The value's canonical text.
+pub(super) struct ByText;
+
+impl ShowsValue for ByText {
+    ghost use Rattle.wasm_wave.specs.Taken.{value_text};
+
+    ghost words = { value_text };
+
+    fn show(alloc: Global, val: &Value) -> Result<String, AllocError> {
+        match crate::to_string(alloc, val) {
+            Ok(text) => Ok(text),
+            Err(WriterError::Memory(e)) => Err(e),
+            Err(_) => unreachable!(),
+        }
+    }
+}
+
+// The text of the value's own type: the makers that the writer stands on can't call the writer.
+pub(super) struct ByType;
+
+impl ShowsValue for ByType {
+    ghost use Rattle.wasm_wave.specs.Taken.{own_text};
+
+    ghost words = { own_text };
+
+    fn show(alloc: Global, val: &Value) -> Result<String, AllocError> {
+        let own = val.ty()?;
+        own.to_string(alloc)
+    }
+}
 
 // The type is of another kind than this one.
 pub(super) fn wrong_kind(alloc: Global, kind: WasmTypeKind, ty: &Type) -> WasmValueError
-    ensures { SaysKind kind result }
+    ensures { SaysKind kind ty.now result }
 {
     match ty.to_string(alloc) {
         Ok(ty) => WasmValueError::WrongTypeKind { kind, ty },
@@ -18,11 +60,11 @@ pub(super) fn wrong_kind(alloc: Global, kind: WasmTypeKind, ty: &Type) -> WasmVa
 }
 
 // The value is of another type than this one.
-pub(super) fn wrong_type(alloc: Global, ty: &Type, val: &Value) -> WasmValueError
-    ensures { SaysType result }
+pub(super) fn wrong_type<S: ShowsValue>(alloc: Global, ty: &Type, val: &Value) -> WasmValueError
+    ensures { SaysType S.words ty.now val.now result }
 {
     match ty.to_string(alloc) {
-        Ok(ty) => match val.ty().and_then(|own| own.to_string(alloc)) {
+        Ok(ty) => match S::show(alloc, val) {
             Ok(val) => WasmValueError::WrongValueType { ty, val },
             Err(e) => WasmValueError::Memory(e),
         },

@@ -1,4 +1,5 @@
 //! A value is lawful: it is of its own type, and a type is full where its names are distinct.
+use super::refusals::ByType;
 use super::{Type, Value};
 use std::alloc::{AllocError, Global};
 use wave_wasm::wasm::{WasmTypeKind, WasmValue, WasmValueError};
@@ -75,14 +76,14 @@ impl WasmValue for Value {
         ensures made { IfOk result (MakesList (λ v. v.tree) (λ v T. IsAt T v) ty.now vals.items) }
         ensures full { IfErr result (FullList (λ v T. IsAt T v) IsFull ty.now vals.items) }
     {
-        Value::make_list(alloc, ty, vals)
+        Value::list_of::<ByType>(alloc, ty, vals)
     }
 
     fn make_tuple(alloc: Global, ty: &Type, vals: Vec<Value>) -> Result<Value, WasmValueError>
         ensures made { IfOk result (MakesTuple (λ v. v.tree) (λ v T. IsAt T v) ty.now vals.items) }
         ensures full { IfErr result (FullTuple (λ v T. IsAt T v) IsFull ty.now vals.items) }
     {
-        Value::make_tuple(alloc, ty, vals)
+        Value::tuple_of::<ByType>(alloc, ty, vals)
     }
 
     fn make_record(
@@ -93,7 +94,7 @@ impl WasmValue for Value {
         ensures made { IfOk result (MakesRecord (λ v. v.tree) (λ v T. IsAt T v) ty.now fields.entry.items) }
         ensures full { IfErr result (FullRecord (λ v T. IsAt T v) IsFull ty.now fields.entry.items) }
     {
-        Value::make_record(alloc, ty, fields)
+        Value::record_of::<ByType>(alloc, ty, fields)
     }
 
     fn make_variant(
@@ -105,7 +106,7 @@ impl WasmValue for Value {
         ensures made { IfOk result (MakesVariant (λ v. v.tree) (λ v T. IsAt T v) ty.now case.now val) }
         ensures full { IfErr result (FullVariant (λ v T. IsAt T v) IsFull ty.now case.now val) }
     {
-        Value::make_variant(alloc, ty, case, val)
+        Value::variant_of::<ByType>(alloc, ty, case, val)
     }
 
     fn make_enum(alloc: Global, ty: &Type, case: &str) -> Result<Value, WasmValueError> {
@@ -116,7 +117,7 @@ impl WasmValue for Value {
         ensures made { IfOk result (MakesOption (λ v. v.tree) (λ v T. IsAt T v) ty.now val) }
         ensures full { IfErr result (FullOption (λ v T. IsAt T v) IsFull ty.now val) }
     {
-        Value::make_option(alloc, ty, val)
+        Value::option_of::<ByType>(alloc, ty, val)
     }
 
     fn make_result(
@@ -127,7 +128,7 @@ impl WasmValue for Value {
         ensures made { IfOk result (MakesResult (λ v. v.tree) (λ v T. IsAt T v) ty.now val) }
         ensures full { IfErr result (FullResult (λ v T. IsAt T v) IsFull ty.now val) }
     {
-        Value::make_result(alloc, ty, val)
+        Value::result_of::<ByType>(alloc, ty, val)
     }
 
     fn make_flags(alloc: Global, ty: &Type, names: &[&str]) -> Result<Value, WasmValueError> {
@@ -142,7 +143,7 @@ impl WasmValue for Value {
         ensures made { IfOk result (MakesMap (λ v. v.tree) (λ v T. IsAt T v) ty.now entries.items) }
         ensures full { IfErr result (FullMap (λ v T. IsAt T v) IsFull ty.now entries.items) }
     {
-        Value::make_map(alloc, ty, entries)
+        Value::map_of::<ByType>(alloc, ty, entries)
     }
 
     fn unwrap_bool(&self) -> bool {

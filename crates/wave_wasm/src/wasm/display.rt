@@ -1,10 +1,12 @@
 //! Types, functions and values as text.
-ghost use Rattle.std.specs.Prelude.{◌≡◌, ◌++◌, List, IfOk, OnOk, Some, map};
+ghost use Rattle.std.specs.Prelude.{◌≡◌, ◌++◌, List, IfOk, OnOk, Some, true, map};
+ghost use Rattle.std.specs.Fmt.{DisplaysOnOk};
+ghost use Rattle.std.specs.List.{list_all};
 ghost use Rattle.std.specs.String.{string_bytes};
 ghost use Rattle.wave_wasm.specs.Types.{kind_of, maybe_type};
 ghost use Rattle.wave_wasm.specs.Commas.{comma_if, joined, in_parens};
 ghost use Rattle.wave_wasm.specs.Shown.{texts, shown, shown_all};
-ghost use Rattle.wave_wasm.specs.Text.{text, arguments_text, results_text};
+ghost use Rattle.wave_wasm.specs.Text.{text, has_text, arguments_text, results_text};
 ghost use Rattle.wave_wasm.specs.TypeText.{type_text, payload_text, braced, function_results_text, typed_names, name_part, IsFuncText, ShowsFunc};
 
 use crate::wasm::{WasmFunc, WasmType, WasmTypeKind, WasmValue};
@@ -59,7 +61,10 @@ impl<'a, V: WasmValue> DisplayValue<'a, V> {
 impl<V: WasmValue> fmt::Display for DisplayValue<'_, V> {
     ghost output = { λ d. Some (text (V.tree d.val.now)) };
 
-    fn fmt<W: fmt::Write>(&self, f: &mut fmt::Formatter<W>) -> fmt::Result {
+    fn fmt<W: fmt::Write>(&self, f: &mut fmt::Formatter<W>) -> fmt::Result
+        ensures writes { DisplaysOnOk W.write_str_gives f.old result (Some (text (V.tree self.now.val.now))) f.new }
+        ensures writable { OnOk result (has_text (V.tree self.now.val.now) ≡ true) }
+    {
         match to_string(self.alloc, self.val) {
             Ok(text) => f.write_str(text.as_str()),
             Err(_) => Err(fmt::Error),
@@ -114,7 +119,10 @@ impl<'a, V: WasmValue> DisplayFuncArgs<'a, V> {
 impl<V: WasmValue> fmt::Display for DisplayFuncArgs<'_, V> {
     ghost output = { λ d. Some (arguments_text (map V.tree d.vals.now)) };
 
-    fn fmt<W: fmt::Write>(&self, f: &mut fmt::Formatter<W>) -> fmt::Result {
+    fn fmt<W: fmt::Write>(&self, f: &mut fmt::Formatter<W>) -> fmt::Result
+        ensures writes { DisplaysOnOk W.write_str_gives f.old result (Some (arguments_text (map V.tree self.now.vals.now))) f.new }
+        ensures writable { OnOk result (list_all has_text (map V.tree self.now.vals.now) ≡ true) }
+    {
         match arguments_to_string(self.alloc, self.vals) {
             Ok(text) => f.write_str(text.as_str()),
             Err(_) => Err(fmt::Error),
@@ -142,7 +150,10 @@ impl<'a, V: WasmValue> DisplayFuncResults<'a, V> {
 impl<V: WasmValue> fmt::Display for DisplayFuncResults<'_, V> {
     ghost output = { λ d. Some (results_text (map V.tree d.vals.now)) };
 
-    fn fmt<W: fmt::Write>(&self, f: &mut fmt::Formatter<W>) -> fmt::Result {
+    fn fmt<W: fmt::Write>(&self, f: &mut fmt::Formatter<W>) -> fmt::Result
+        ensures writes { DisplaysOnOk W.write_str_gives f.old result (Some (results_text (map V.tree self.now.vals.now))) f.new }
+        ensures writable { OnOk result (list_all has_text (map V.tree self.now.vals.now) ≡ true) }
+    {
         match results_to_string(self.alloc, self.vals) {
             Ok(text) => f.write_str(text.as_str()),
             Err(_) => Err(fmt::Error),

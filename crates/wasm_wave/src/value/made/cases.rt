@@ -9,7 +9,7 @@ ghost use Rattle.wasm_wave.specs.ValueView.{Grows, name_at, payload_tree};
 ghost use Rattle.wasm_wave.specs.Taken.{Made};
 ghost use Rattle.wasm_wave.specs.TakenCases.{HasKeys, TakesVariant, TakesFlags, RefusesVariant, RefusesNames, RefusesFlags};
 
-use super::super::refusals::{unknown_case, wrong_kind};
+use super::super::refusals::{ShowsValue, unknown_case, wrong_kind};
 use super::super::{Content, Type, Value};
 use super::boxed_payload;
 use std::alloc::{AllocError, Global};
@@ -17,10 +17,8 @@ use std::collections::BTreeMap;
 use wave_wasm::wasm::{WasmType, WasmTypeKind, WasmValueError};
 
 impl Value {
-    /// The first case of this name with this payload, whose own type is this one. Refused are a
-    /// type of another kind, a name that is no case, and a payload that is missing, unexpected or
-    /// whose own type isn't the payload type of that case.
-    pub fn make_variant(
+    // What `make_variant` answers, where a refusal shows values so.
+    pub(crate) fn variant_of<S: ShowsValue>(
         alloc: Global,
         ty: &Type,
         case: &str,
@@ -28,13 +26,13 @@ impl Value {
     ) -> Result<Value, WasmValueError>
         ensures made { IfOk result (Made (value.variant case.now (maybe_value (payload_tree val))) ty.now) }
         ensures taken { OnOk result (TakesVariant ty.now case.now val) }
-        ensures refused { IfErr result (RefusesVariant ty.now case.now val) }
+        ensures refused { IfErr result (RefusesVariant S.words ty.now case.now val) }
     {
         match ty.kind() {
             WasmTypeKind::Variant => match ty.variant_place(case) {
                 Some(place) => {
                     let (_, stated) = ty.variant_case(place);
-                    match boxed_payload(alloc, case, stated, val) {
+                    match boxed_payload::<S>(alloc, case, stated, val) {
                         Ok(val) => Ok(Value {
                             own: ty.clone()?,
                             content: Content::Variant(place, val),

@@ -1,11 +1,13 @@
 use Rattle.std.proofs.Common.{subst}
-use Rattle.wasm_wave.specs.Headline.{IsReadAs, RefusesOnly}
+use Rattle.wasm_wave.specs.Headline.{IsReadAs}
+use Rattle.wave_tree.specs.FromText.{RefusesText}
+use Rattle.wasm_wave.specs.Built.{IsFull}
 use Rattle.wave.proofs.Named.{answered, refused}
 use Rattle.wave.proofs.program.read.Goals as goal
 
 pub returns-in-Err : goal.returns-in-Err
 returns-in-Err c =
-    refused c.args.name c.args.text.now _ _ (subst (λ t. RefusesOnly t c.args.text.now c.in-Err.error) c.type_of.ensures c.in-Err.ensures.refused) c.why_refused.ensures
+    refused c.args.name c.args.text.now _ _ (subst (λ t. RefusesText IsFull t c.args.text.now c.in-Err.error) c.type_of.ensures c.in-Err.ensures.fault) c.why_refused.ensures
 
 pub returns-in-Ok-to_string : goal.returns-in-Ok-to_string
 returns-in-Ok-to_string c =

@@ -5,4 +5,4 @@ use Rattle.wasm_wave.proofs.MadeRecord.{Taking}
 use Rattle.wasm_wave.proofs.value.made.in_order.Given as goal
 
 abbrev pub invariant-loop-field : goal.invariant-loop-field
-invariant-loop-field l = Taking (map by_bytes (take l.field-index l.field-items)) (held l.fn.given) (held l.given) l.vals.items
+invariant-loop-field g l = Taking (map by_bytes (take l.field-index l.field-items)) (held l.fn.given) (held l.given) l.vals.items

@@ -3,7 +3,7 @@ use Rattle.std.proofs.lemmas.Int.{to_z-of_z}
 use Rattle.wave_wasm.specs.Types as type
 use Rattle.wave_wasm.specs.Values as value
 use Rattle.wave_tree.proofs.Made.{faulty, handed, leaf_made}
-use Rattle.wave_tree.proofs.Leaves.{number_read, number_kept, number_blame}
+use Rattle.wave_tree.proofs.Leaves.{said, number_read, number_kept, number_blame}
 use Rattle.wave_tree.proofs.TypeKinds.{simple_is}
 use Rattle.wave_tree.proofs.Unread.{unread_blame}
 use Rattle.wave_tree.specs.Typed.{IsValueOf}
@@ -122,7 +122,7 @@ read-returns-in_default-clause-answer g m c = λ t is distinct.
 pub read_list-returns-in_err-nodes-clause-answer : goal.read_list-returns-in_err-nodes-clause-answer
 read_list-returns-in_err-nodes-clause-answer g m c = λ t is distinct.
     faulty g.V.WasmValue.tree g.V.WasmValue.is_of g.V.WasmValue.is_full (g.V.Type.WasmType.tree c.args.ty.now) t (type.list (g.V.Type.WasmType.tree c.unwrap-element.result.now)) c.in_err-nodes.field-0.0 c.from_residual.result (element_is g.V.Type.WasmType.tree (g.V.Type.WasmType.tree c.args.ty.now) c.list_element_type.result c.unwrap-element.result c.unwrap-element.ensures c.list_element_type.ensures) c.from_residual.ensures.1
-    (list_fault (g.V.Type.WasmType.tree c.args.ty.now) (g.V.Type.WasmType.tree c.unwrap-element.result.now) c.args.src.now c.args.self.now t _ _ is.0 c.in_err-nodes.ensures.0 c.in_err-nodes.ensures.1)
+    (list_fault (g.V.Type.WasmType.tree c.args.ty.now) (g.V.Type.WasmType.tree c.unwrap-element.result.now) c.args.src.now c.args.self.now t _ _ is.0 c.in_err-nodes.ensures.0 (said c.in_err-nodes.ensures.1))
 
 pub read_list-read-requires : goal.read_list-read-requires
 read_list-read-requires g m c κs within =
@@ -248,7 +248,7 @@ read_tuple-returns-in_err-nodes-clause-answer g m c = λ t is distinct.
     let kind : kinds.Tuple ≡ kind_of (g.V.Type.WasmType.tree c.args.ty.now) = search rules in
     let tuple : TupleType (g.V.Type.WasmType.tree c.args.ty.now) (shown_all g.V.Type.WasmType.tree c.in-Ok.types.items) = tuple_is (g.V.Type.WasmType.tree c.args.ty.now) (shown_all g.V.Type.WasmType.tree c.in-Ok.types.items) kind c.in-Ok.ensures in
     faulty g.V.WasmValue.tree g.V.WasmValue.is_of g.V.WasmValue.is_full (g.V.Type.WasmType.tree c.args.ty.now) t (type.tuple tuple.types) c.in_err-nodes.field-0.0 c.from_residual.result tuple.is c.from_residual.ensures.1
-    (tuple_fault tuple.types c.args.src.now c.args.self.now t _ _ is.0 c.in_err-nodes.ensures.0 c.in_err-nodes.ensures.1)
+    (tuple_fault tuple.types c.args.src.now c.args.self.now t _ _ is.0 c.in_err-nodes.ensures.0 (said c.in_err-nodes.ensures.1))
 
 pub read_tuple-returns-then-nodes-len-clause-answer : goal.read_tuple-returns-then-nodes-len-clause-answer
 read_tuple-returns-then-nodes-len-clause-answer g m c = λ t is distinct.
@@ -408,7 +408,7 @@ read_record-returns-then-not-is_empty-clause-answer g m c = λ t is distinct.
     let kind : kinds.Record ≡ kind_of (g.V.Type.WasmType.tree c.args.ty.now) = search rules in
     let is_record : RecordType (g.V.Type.WasmType.tree c.args.ty.now) (shown_fields g.V.Type.WasmType.tree c.in-Ok.types.items) = record_is (g.V.Type.WasmType.tree c.args.ty.now) (shown_fields g.V.Type.WasmType.tree c.in-Ok.types.items) kind c.in-Ok.ensures in
     let whole : take c.loop-i.i (shown_fields g.V.Type.WasmType.tree c.in-Ok.types.items) ≡ (shown_fields g.V.Type.WasmType.tree c.in-Ok.types.items) = take_whole (shown_fields g.V.Type.WasmType.tree c.in-Ok.types.items) c.loop-i.i (omega (arith, as_parts g.V.Type.WasmType.tree c.in-Ok.types.items)) in
-    unknown_blame g.V.WasmValue.is_full (g.V.Type.WasmType.tree c.args.ty.now) (shown_fields g.V.Type.WasmType.tree c.in-Ok.types.items) c.args.src.now c.args.self.now t (names_of (take c.loop-i.i (shown_fields g.V.Type.WasmType.tree c.in-Ok.types.items))) c.in_ok-nodes.nodes c.loop-i.nodes (map shown_field c.in_ok-nodes.field-0-0.items) c.error.result is_record is c.in_ok-nodes.ensures.given c.in_ok-nodes.ensures.held (ap names_of whole) c.loop-i.invariant.removed (failed c.is_empty.result c.if-not-is_empty.true c.is_empty.ensures.1) c.error.ensures
+    unknown_blame g.V.WasmValue.is_full (g.V.Type.WasmType.tree c.args.ty.now) (shown_fields g.V.Type.WasmType.tree c.in-Ok.types.items) c.args.src.now c.args.self.now t (names_of (take c.loop-i.i (shown_fields g.V.Type.WasmType.tree c.in-Ok.types.items))) c.in_ok-nodes.nodes c.loop-i.nodes (map shown_field c.in_ok-nodes.field-0-0.items) c.error.result is_record is c.in_ok-nodes.ensures.given c.in_ok-nodes.ensures.held (ap names_of whole) c.loop-i.invariant.removed (failed c.is_empty.result c.if-not-is_empty.true c.is_empty.ensures.1) (said c.error.ensures)
 
 pub read_record-returns-clause-answer : goal.read_record-returns-clause-answer
 read_record-returns-clause-answer g m c = λ t is distinct.

@@ -2,13 +2,14 @@ use Rattle.std.proofs.Common.{sym}
 use Rattle.wave_wasm.specs.Types as type
 use Rattle.wave_wasm.specs.Shown.{texts}
 use Rattle.wave_tree.proofs.Made.{faulty}
+use Rattle.wave_tree.proofs.Leaves.{said}
 use Rattle.wave_tree.proofs.Enums.{enum_is, enum_fault, unknown_blame, enum_made}
 use Rattle.wave_tree.proofs.ast.Node.read_enum.Goals as goal
 
 pub returns-in_err-name-clause-answer : goal.returns-in_err-name-clause-answer
 returns-in_err-name-clause-answer g c = λ t is distinct.
     faulty g.V.WasmValue.tree g.V.WasmValue.is_of g.V.WasmValue.is_full (g.V.Type.WasmType.tree c.args.ty.now) t (type.enum (texts c.in-Ok.cases.items)) c.in_err-name.field-0.0 c.from_residual.result (enum_is (g.V.Type.WasmType.tree c.args.ty.now) (sym c.requires.kind) (texts c.in-Ok.cases.items) c.in-Ok.ensures) c.from_residual.ensures.1
-    (enum_fault (texts c.in-Ok.cases.items) c.args.src.now c.args.self.now t _ _ is.0 c.in_err-name.ensures.0 c.in_err-name.ensures.1)
+    (enum_fault (texts c.in-Ok.cases.items) c.args.src.now c.args.self.now t _ _ is.0 c.in_err-name.ensures.0 (said c.in_err-name.ensures.1))
 
 pub returns-then-not-is_among-clause-answer : goal.returns-then-not-is_among-clause-answer
 returns-then-not-is_among-clause-answer g c = λ t is distinct.

@@ -3,10 +3,11 @@ use Rattle.wave_wasm.specs.Makers.{FullRecord}
 use Rattle.wave_wasm.specs.Shown.{named}
 use Rattle.wasm_wave.specs.Built.{IsFull}
 use Rattle.wasm_wave.specs.Handed.{RefusesRecord}
+use Rattle.wasm_wave.specs.Taken.{own_text}
 use Rattle.wasm_wave.specs.TypedValue.{IsAt}
 use Rattle.wasm_wave.proofs.LawfulRecord.{full_record}
 use Rattle.wasm_wave.proofs.value.wasm_value.ValueWasmValue.make_record.Goals as goal
 
 pub returns-clause-full : goal.returns-clause-full
 returns-clause-full c =
-    IfErr-weaker c.make_record.result (RefusesRecord c.args.ty.now (named c.args.fields.items)) (FullRecord (λ v T. IsAt T v) IsFull c.args.ty.now c.args.fields.items) (λ e r. full_record c.args.ty.now c.args.fields.items e r) c.make_record.ensures.refused
+    IfErr-weaker c.record_of.result (RefusesRecord own_text c.args.ty.now (named c.args.fields.items)) (FullRecord (λ v T. IsAt T v) IsFull c.args.ty.now c.args.fields.items) (λ e r. full_record own_text c.args.ty.now c.args.fields.items e r) c.record_of.ensures.refused

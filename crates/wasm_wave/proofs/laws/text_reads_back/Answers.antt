@@ -1,0 +1,5 @@
+use Rattle.wave_tree.proofs.Canon.{reads_back}
+use Rattle.wasm_wave.proofs.laws.text_reads_back.Goals as goal
+
+pub returns : goal.returns
+returns c = reads_back

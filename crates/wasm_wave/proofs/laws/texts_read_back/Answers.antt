@@ -1,5 +1,0 @@
-use Rattle.wave_tree.proofs.Canon.{reads_back}
-use Rattle.wasm_wave.proofs.laws.texts_read_back.Goals as goal
-
-pub returns : goal.returns
-returns c = reads_back

@@ -1,6 +1,0 @@
-use Rattle.std.proofs.Common.{take}
-use Rattle.wasm_wave.specs.ValueView.{AllAt}
-use Rattle.wasm_wave.proofs.value.Value.make_list.Given as goal
-
-abbrev pub invariant-loop-val : goal.invariant-loop-val
-invariant-loop-val l = AllAt l.element (take l.val-index l.val-items)

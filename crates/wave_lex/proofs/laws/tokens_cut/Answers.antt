@@ -1,0 +1,5 @@
+use Rattle.wave_lex.proofs.Items.{tokens_cut}
+use Rattle.wave_lex.proofs.laws.tokens_cut.Goals as goal
+
+pub returns : goal.returns
+returns c = tokens_cut
