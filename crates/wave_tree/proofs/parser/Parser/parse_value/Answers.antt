@@ -2,6 +2,7 @@ use Rattle.std.proofs.Common.{List, ℕ, ◌≡◌, sym, ap, subst, ◌∙◌}
 use Rattle.wave_lex.specs.Errors.{Refusal}
 use Rattle.wave_lex.specs.declared.error.ParserError.{ParserError}
 use Rattle.wave_tree.specs.AnswerLaws.{LiesInText}
+use Rattle.wave_tree.specs.Parsing.{Parsing}
 use Rattle.wave_tree.specs.Standing.{IsCausedBetween}
 use Rattle.wave_tree.proofs.ParamLemmas.{error_handed}
 use Rattle.wave_tree.proofs.Spans.{memory_lies}
@@ -12,7 +13,7 @@ returns-in_err-node-clause-caused g c =
     error_handed (IsCausedBetween c.args.self.now.place c.parse_whole.new.self.place) c.from_residual.result c.in_err-node.field-0.0 c.from_residual.ensures.1 (λ was. absurd (c.in_err-node.ensures.uncaused was))
 
 pub returns-then-not-is_memory-clause-within : goal.returns-then-not-is_memory-clause-within
-returns-then-not-is_memory-clause-within g c = subst (λ (s : List ℕ). LiesInText s c.in-Err.error.span) c.source-source.ensures c.in-Err.ensures.in_text
+returns-then-not-is_memory-clause-within g c = subst (λ (s : List ℕ). LiesInText s c.in-Err.error.span) (c.source-source.ensures ∙ ap (λ (z : Parsing). z.place.lexer.source) c.self.view_is) c.in-Err.ensures.in_text
 
 pub returns-then-not-is_memory-clause-caused : goal.returns-then-not-is_memory-clause-caused
 returns-then-not-is_memory-clause-caused g c = λ was. (c.in_ok-node.node, c.in_ok-node.ensures.tree, c.in-Err.ensures.within.caused was)
