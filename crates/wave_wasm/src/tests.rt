@@ -58,48 +58,90 @@ impl WasmType for CharType {
     }
 }
 
-/// A function from a scalar to another, whose parameter has a name.
+/// A function on scalars, with names or without.
 #[derive(Drop)]
-struct Call {
-    param: CharType,
-    result: CharType,
+struct Call<'a> {
+    params: &'a [&'a CharType],
+    param_names: &'a [&'a str],
+    results: &'a [&'a CharType],
+    result_names: &'a [&'a str],
 }
 
-impl WasmFunc for Call {
-    ghost use Rattle.std.specs.Prelude.{[], ◌∷◌, codes};
+impl<'a> Call<'a> {
+    fn new(
+        params: &'a [&'a CharType],
+        param_names: &'a [&'a str],
+        results: &'a [&'a CharType],
+        result_names: &'a [&'a str],
+    ) -> Call<'a> {
+        Call {
+            params,
+            param_names,
+            results,
+            result_names,
+        }
+    }
+}
+
+impl WasmFunc for Call<'_> {
+    ghost use Rattle.wave_wasm.specs.Shown.{texts, shown_all};
     ghost use Rattle.wave_wasm.specs.Types.{simple, char};
 
     type Type = CharType;
 
-    ghost func = { λ f. record { params = simple char ∷ []; param_names = codes "a" ∷ []; results = simple char ∷ []; result_names = [] } };
+    ghost func = { λ f. record { params = shown_all (λ t. simple char) f.params.now; param_names = texts f.param_names.now; results = shown_all (λ t. simple char) f.results.now; result_names = texts f.result_names.now } };
 
     fn params(&self, alloc: Global) -> Result<Vec<&CharType>, AllocError> {
-        let mut types = Vec::new(alloc);
-        types.push(&self.param)?;
-        Ok(types)
+        Vec::from_slice(alloc, self.params)
     }
 
     fn param_names(&self, alloc: Global) -> Result<Vec<&str>, AllocError> {
-        let mut names = Vec::new(alloc);
-        names.push("a")?;
-        Ok(names)
+        if self.param_names.len() == self.params.len() {
+            Vec::from_slice(alloc, self.param_names)
+        } else {
+            Ok(Vec::new(alloc))
+        }
     }
 
     fn results(&self, alloc: Global) -> Result<Vec<&CharType>, AllocError> {
-        let mut types = Vec::new(alloc);
-        types.push(&self.result)?;
-        Ok(types)
+        Vec::from_slice(alloc, self.results)
     }
+
+    fn result_names(&self, alloc: Global) -> Result<Vec<&str>, AllocError> {
+        if self.result_names.len() == self.results.len() {
+            Vec::from_slice(alloc, self.result_names)
+        } else {
+            Ok(Vec::new(alloc))
+        }
+    }
+}
+
+fn function_text(rt: HostRuntime, call: Call) -> Result<String, Fail> {
+    Ok(format!(in rt.alloc(); "{}", DisplayFunc::new(rt.alloc(), call))?)
 }
 
 #[test]
 fn functions(rt: HostRuntime) -> Result<(), Fail> {
-    let call = Call {
-        param: CharType,
-        result: CharType,
-    };
-    let shown = format!(in rt.alloc(); "{}", DisplayFunc::new(rt.alloc(), call))?;
-    assert_eq!(rt; shown.as_str(), "func(a: char) -> char");
+    let char = CharType;
+    let mut types = Vec::new(rt.alloc());
+    types.push(&char)?;
+    types.push(&char)?;
+    let (none, one, two) = (&types[..0], &types[..1], &types[..2]);
+    let names = &["a", "b"][..];
+    let (no_name, name) = (&names[..0], &names[..1]);
+    let text = function_text(rt, Call::new(none, no_name, none, no_name))?;
+    assert_eq!(rt; text.as_str(), "func()");
+    let text = function_text(rt, Call::new(one, no_name, one, no_name))?;
+    assert_eq!(rt; text.as_str(), "func(char) -> char");
+    let text = function_text(rt, Call::new(one, name, one, name))?;
+    assert_eq!(rt; text.as_str(), "func(a: char) -> (a: char)");
+    let text = function_text(rt, Call::new(two, no_name, two, no_name))?;
+    assert_eq!(rt; text.as_str(), "func(char, char) -> (char, char)");
+    let text = function_text(rt, Call::new(two, names, two, names))?;
+    assert_eq!(rt;
+        text.as_str(),
+        "func(a: char, b: char) -> (a: char, b: char)"
+    );
     Ok(())
 }
 
@@ -115,8 +157,46 @@ fn kinds(rt: HostRuntime) -> Result<(), Fail> {
             assert_eq!(rt; shown.as_str(), "expected a list<_,N>; got char");
         }
     }
-    let shown = format!(in rt.alloc(); "{}", WasmTypeKind::Unsupported)?;
-    assert_eq!(rt; shown.as_str(), "<<UNSUPPORTED>>");
+    Ok(())
+}
+
+#[test]
+fn kind_words(rt: HostRuntime) -> Result<(), Fail> {
+    use WasmTypeKind::*;
+    let kinds = [
+        Bool,
+        S8,
+        S16,
+        S32,
+        S64,
+        U8,
+        U16,
+        U32,
+        U64,
+        F32,
+        F64,
+        Char,
+        String,
+        List,
+        FixedLengthList,
+        Record,
+        Tuple,
+        Variant,
+        Enum,
+        Option,
+        Result,
+        Flags,
+        Map,
+        Unsupported,
+    ];
+    let words =
+        "bool s8 s16 s32 s64 u8 u16 u32 u64 f32 f64 char string list list<_,N> record tuple variant enum option result flags map <<UNSUPPORTED>>";
+    let mut words = words.split(' ');
+    for kind in kinds {
+        let shown = format!(in rt.alloc(); "{kind}")?;
+        assert!(rt; words.next() == Some(shown.as_str()));
+    }
+    assert!(rt; words.next().is_none());
     Ok(())
 }
 
@@ -143,19 +223,63 @@ fn keywords(rt: HostRuntime) -> Result<(), Fail> {
 
 #[test]
 fn refusals(rt: HostRuntime) -> Result<(), Fail> {
-    let shown = format!(in rt.alloc(); "{}", WriterError::from(fmt::Error))?;
-    assert_eq!(rt;
-        shown.as_str(),
-        "write failed: an error occurred when formatting an argument"
-    );
-    let shown = format!(in rt.alloc(); "{}", WriterError::UnsupportedType)?;
-    assert_eq!(rt; shown.as_str(), "unsupported value type");
-    let cause = WasmValueError::MissingField(String::from_str(rt.alloc(), "must-have")?);
-    let shown = format!(in rt.alloc(); "{cause}")?;
-    assert_eq!(rt; shown.as_str(), "missing field \"must-have\"");
-    let cause = WasmValueError::WrongNumberOfTupleValues { want: 2, got: 3 };
-    let shown = format!(in rt.alloc(); "{cause}")?;
-    assert_eq!(rt; shown.as_str(), "expected 2 tuple elements; got 3");
+    let failed = "write failed: an error occurred when formatting an argument";
+    let rows = [
+        (WriterError::from(fmt::Error), failed),
+        (WriterError::UnsupportedType, "unsupported value type"),
+        (WriterError::from(AllocError), "out of memory"),
+    ];
+    for (error, words) in rows {
+        let shown = format!(in rt.alloc(); "{error}")?;
+        assert_eq!(rt; shown.as_str(), words);
+    }
+    Ok(())
+}
+
+#[test]
+fn causes(rt: HostRuntime) -> Result<(), Fail> {
+    let name = || String::from_str(rt.alloc(), "a");
+    let rows = [
+        (WasmValueError::MissingField(name()?), "missing field \"a\""),
+        (
+            WasmValueError::MissingPayload(name()?),
+            "missing payload for \"a\" case",
+        ),
+        (
+            WasmValueError::UnexpectedPayload(name()?),
+            "unexpected payload for \"a\" case",
+        ),
+        (WasmValueError::UnknownCase(name()?), "unknown case \"a\""),
+        (WasmValueError::UnknownField(name()?), "unknown field \"a\""),
+        (
+            WasmValueError::UnsupportedType(name()?),
+            "unsupported type a",
+        ),
+        (WasmValueError::Other(name()?), "a"),
+        (WasmValueError::from(AllocError), "out of memory"),
+        (
+            WasmValueError::WrongNumberOfTupleValues { want: 2, got: 3 },
+            "expected 2 tuple elements; got 3",
+        ),
+        (
+            WasmValueError::WrongTypeKind {
+                kind: WasmTypeKind::List,
+                ty: name()?,
+            },
+            "expected a list; got a",
+        ),
+        (
+            WasmValueError::WrongValueType {
+                ty: name()?,
+                val: name()?,
+            },
+            "expected a a; got a",
+        ),
+    ];
+    for (cause, words) in rows {
+        let shown = format!(in rt.alloc(); "{cause}")?;
+        assert_eq!(rt; shown.as_str(), words);
+    }
     Ok(())
 }
 
