@@ -22,10 +22,8 @@ use Rattle.wave_tree.proofs.Reading.{one_reading}
 use Rattle.wave_tree.proofs.Canon.{reads_merged}
 use Rattle.wave_tree.proofs.CanonLeaves.{one_cut_into}
 use Rattle.wave_lex.specs.declared.error.ParserError.{ParserError}
-use Rattle.wave_tree.specs.FromText.{RefusesText}
-use Rattle.wasm_wave.specs.TypedValue.{TypedValue}
-use Rattle.wasm_wave.specs.Built.{IsFull}
-use Rattle.wasm_wave.specs.Headline.{IsWantOfMemory, OneValue, IsReadAs, IsMergedAt, RefusesOnly}
+use Rattle.wave_tree.specs.FromText.{IsMeant, RefusesText}
+use Rattle.wasm_wave.specs.Headline.{IsWantOfMemory, IsForMemory, OneValue, IsMergedAt, RefusesOnly}
 
 -- a text means one value at most
 pub one_value_of : (T : TypeTree) → HasDistinctNames T → OneValue T
@@ -121,32 +119,28 @@ mutual
   case_writes (case_of other T more) name payload (inr h) = case_writes more name payload h
 
 -- a refusal to write a value of a type is want of memory
-pub refused_so : {S : Type 0} (T : TypeTree) (v : Value) (r : Result S WriterError) → HasType T v → IfErr r (λ e. IsGrounded e (has_text v) 0 0) → IfErr r IsWantOfMemory
-refused_so T v (Ok s) of h = tt
-refused_so T v (Err e) of h = only_memory e (has_text v) (writes T v of) h
+pub refused_so : {S : Type 0} (v : Value) (r : Result S WriterError) → IfErr r (λ e. IsGrounded e (has_text v) 0 0) → IfErr r (IsForMemory v)
+refused_so v (Ok s) h = tt
+refused_so v (Err e) h = λ T of. only_memory e (has_text v) (writes T v of) h
 
 -- what a lower refusal says of the text
-pub only_none : (T : TypeTree) (s : List ℕ) (e : ParserError) → RefusesText IsFull T s e → RefusesOnly T s e
-only_none T s e h = λ full memory.
-    elim (h full) [
+pub only_none : (Full : TypeTree → Type 0) (T : TypeTree) (s : List ℕ) (e : ParserError) → RefusesText Full T s e → RefusesOnly Full T s e
+only_none Full T s e h = λ distinct full memory.
+    elim (h distinct) [
       | inl out ↦ absurd (memory out)
       | inr (inl (fault, none)) ↦ none
       | inr (inr (kind, other)) ↦ absurd (other full)
     ]
 
-pub all_none : {S : Type 0} (T : TypeTree) (s : List ℕ) (r : Result S ParserError) → IfErr r (RefusesText IsFull T s) → IfErr r (RefusesOnly T s)
-all_none T s (Ok v) h = tt
-all_none T s (Err e) h = only_none T s e h
+pub all_none : {S : Type 0} (Full : TypeTree → Type 0) (T : TypeTree) (s : List ℕ) (r : Result S ParserError) → IfErr r (RefusesText Full T s) → IfErr r (RefusesOnly Full T s)
+all_none Full T s (Ok v) h = tt
+all_none Full T s (Err e) h = only_none Full T s e h
 
--- makers refuse for want of memory alone where the names are distinct, so every refusal lies in the text there
-pub all_within : {S : Type 0} (T : TypeTree) (s : List ℕ) (r : Result S ParserError) → IfErr r (λ e. HasDistinctNames T → IsFull T → LiesInText s e.span) → IfErr r (λ e. HasDistinctNames T → LiesInText s e.span)
-all_within T s (Ok v) h = tt
-all_within T s (Err e) h = λ distinct. h distinct distinct
+module _ {V : Type 0} (tree : V → Value) (of : V → TypeTree → Type 0) where
+  -- what is read is merged
+  merged_so : (T : TypeTree) (s : List ℕ) (v : V) → IsMeant tree of T s v → IsMergedAt T (tree v)
+  merged_so T s v h = λ distinct. let (tokens, cut, reads) = (h distinct).0 in reads_merged T 100 tokens [] (tree v) reads
 
--- what is read is merged
-merged_so : (T : TypeTree) (s : List ℕ) (v : TypedValue) → IsReadAs T s v → IsMergedAt T v
-merged_so T s v h = λ distinct. let (tokens, cut, reads) = (h distinct).0 in reads_merged T 100 tokens [] v.tree reads
-
-pub all_merged : (T : TypeTree) (s : List ℕ) (r : Result TypedValue ParserError) → IfOk r (IsReadAs T s) → IfOk r (IsMergedAt T)
-all_merged T s (Ok v) h = merged_so T s v h
-all_merged T s (Err e) h = tt
+  pub all_merged : (T : TypeTree) (s : List ℕ) (r : Result V ParserError) → IfOk r (IsMeant tree of T s) → IfOk r (λ v. IsMergedAt T (tree v))
+  all_merged T s (Ok v) h = merged_so T s v h
+  all_merged T s (Err e) h = tt

@@ -14,7 +14,6 @@ use Rattle.wave_tree.specs.Tree.{levels}
 use Rattle.wave_tree.specs.Means.{Means}
 use Rattle.wave_tree.specs.CanonLaws.{ReadBack}
 use Rattle.wave_tree.specs.FromText.{MeansNone}
-use Rattle.wasm_wave.specs.TypedValue.{TypedValue, IsAt}
 
 -- the writer is refused for want of memory
 abbrev pub IsWantOfMemory : WriterError → Type 0
@@ -33,14 +32,14 @@ IsToldByText T v = (w : Value) → HasType T w → (text v ≡ text w) ↔ (merg
 abbrev pub IsReadAgain : TypeTree → Value → Type 0
 IsReadAgain T v = (back : ReadBack T v) → levels back.tree ≤ 100 → Means T (text v) (merged v)
 
--- at a type whose names are distinct the text means the value, which is of the type
-abbrev pub IsReadAs : TypeTree → List ℕ → TypedValue → Type 0
-IsReadAs T s v = HasDistinctNames T → Means T s v.tree × IsAt T v
+-- the refusal of a value that is one of a type is want of memory
+abbrev pub IsForMemory : Value → WriterError → Type 0
+IsForMemory v e = (T : TypeTree) → HasType T v → IsWantOfMemory e
 
--- at such a type the value is merged: in each map of it, inner ones too, each key stands once
-abbrev pub IsMergedAt : TypeTree → TypedValue → Type 0
-IsMergedAt T v = HasDistinctNames T → merged v.tree ≡ v.tree
+-- at a type whose names are distinct the value is merged: in each map of it, inner ones too, each key stands once
+abbrev pub IsMergedAt : TypeTree → Value → Type 0
+IsMergedAt T v = HasDistinctNames T → merged v ≡ v
 
--- at a type whose names are distinct the refusal is want of memory, or the text means no value
-abbrev pub RefusesOnly : TypeTree → List ℕ → ParserError → Type 0
-RefusesOnly T s e = HasDistinctNames T → (e.kind ≢ OutOfMemory) → MeansNone T s
+-- at a full type whose names are distinct the refusal is want of memory, or the text means no value
+abbrev pub RefusesOnly : (TypeTree → Type 0) → TypeTree → List ℕ → ParserError → Type 0
+RefusesOnly Full T s e = HasDistinctNames T → Full T → (e.kind ≢ OutOfMemory) → MeansNone T s

@@ -3,17 +3,18 @@
 
 ghost use Rattle.std.specs.Prelude.{◌≡◌, IfOk, IfErr};
 ghost use Rattle.std.specs.String.{string_bytes};
-ghost use Rattle.wave_wasm.specs.Text.{text};
+ghost use Rattle.wave_wasm.specs.Text.{text, has_text};
+ghost use Rattle.wave_wasm.specs.Output.{IsGrounded};
+ghost use Rattle.wave_wasm.specs.HasType.{HasType};
 ghost use Rattle.wave_lex.specs.Labels.{Good};
 ghost use Rattle.wave_tree.specs.AnswerLaws.{LiesInText};
 ghost use Rattle.wave_tree.specs.Laws.{OneReading};
 ghost use Rattle.wave_tree.specs.CanonLaws.{ReadBack, ReadsBackWithinTwice};
-ghost use Rattle.wave_wasm.specs.Types.{HasDistinctNames};
-ghost use Rattle.wave_tree.specs.FromText.{RefusesText};
-ghost use Rattle.wasm_wave.specs.Built.{IsFull};
-ghost use Rattle.wasm_wave.specs.Headline.{IsWantOfMemory, IsToldByText, IsReadAgain, OneValue, IsReadAs, IsMergedAt, RefusesOnly};
+ghost use Rattle.wave_wasm.specs.Types.{TypeTree, HasDistinctNames, IsOwn};
+ghost use Rattle.wave_tree.specs.FromText.{IsMeant, RefusesText};
+ghost use Rattle.wasm_wave.specs.Headline.{IsForMemory, IsToldByText, IsReadAgain, OneValue, IsMergedAt, RefusesOnly};
 
-use crate::value::{Type, Value};
+use crate::wasm::WasmValue;
 use crate::writer::WriterError;
 use std::alloc::Global;
 use wave_lex::error::ParserError;
@@ -27,39 +28,40 @@ pub use wave_tree::number::WholeNumber;
 pub use wave_tree::{ast, parser, untyped};
 pub use wave_wasm::{wasm, writer};
 
-/// The value that the whole text means at the type, of that type; a text that means none is
-/// refused, and so is any text for want of memory. All this where the names of the type are
-/// distinct: there what is read is merged, a refusal's span lies in the text, and no tokens spell
-/// two values nor begin the spelling of another; where the names are labels too, what is read
-/// within some levels has a canonical text of at most twice as many.
-pub fn from_str(alloc: Global, ty: &Type, s: &str) -> Result<Value, ParserError>
-    ensures read { IfOk result (IsReadAs ty.now s.now) }
-    ensures merged { IfOk result (IsMergedAt ty.now) }
-    ensures refused { IfErr result (RefusesOnly ty.now s.now) }
-    ensures fault { IfErr result (RefusesText IsFull ty.now s.now) }
-    ensures within { IfErr result (λ e. HasDistinctNames ty.now → LiesInText s.now e.span) }
-    ensures one { HasDistinctNames ty.now → OneValue ty.now }
-    ensures reading { HasDistinctNames ty.now → OneReading ty.now }
-    ensures twice { Good ty.now → ReadsBackWithinTwice ty.now }
+/// The value that the whole text means at the type, which is of that type; a text that means none
+/// is refused, and so is any text for want of memory. All this where the names of the type are
+/// distinct and, for a refusal, makers serve every value of the type, as those of `Value` do there:
+/// what is read is merged, a refusal's span lies in the text, and no tokens spell two values nor
+/// begin the spelling of another; where the names are labels too and the type's tree is one that
+/// `Type` has, what is read within some levels has a canonical text of at most twice as many.
+pub fn from_str<V: WasmValue>(alloc: Global, ty: &V::Type, s: &str) -> Result<V, ParserError>
+    ensures read { IfOk result (IsMeant V.tree V.is_of (V.Type.tree ty.now) s.now) }
+    ensures merged { IfOk result (λ v. IsMergedAt (V.Type.tree ty.now) (V.tree v)) }
+    ensures refused { IfErr result (RefusesOnly V.is_full (V.Type.tree ty.now) s.now) }
+    ensures fault { IfErr result (RefusesText V.is_full (V.Type.tree ty.now) s.now) }
+    ensures within { IfErr result (λ e. HasDistinctNames (V.Type.tree ty.now) → V.is_full (V.Type.tree ty.now) → LiesInText s.now e.span) }
+    ensures one { HasDistinctNames (V.Type.tree ty.now) → OneValue (V.Type.tree ty.now) }
+    ensures reading { HasDistinctNames (V.Type.tree ty.now) → OneReading (V.Type.tree ty.now) }
+    ensures twice { Good (V.Type.tree ty.now) → IsOwn (V.Type.tree ty.now) → ReadsBackWithinTwice (V.Type.tree ty.now) }
 {
-    ty.is_own();
-    parser::from_str::<Value>(alloc, ty, s)
+    parser::from_str::<V>(alloc, ty, s)
 }
 
-/// The canonical text of the value; it is refused for want of memory alone. Where the names of the
-/// value's type are distinct labels, another value of the type has the same text exactly where the
-/// two are equal, merged; the text is read back as the value, merged, within its own levels, so by
-/// `from_str` where these are at most 100; and it has at most twice the levels of any text that is
-/// read as the value.
-pub fn to_string(alloc: Global, val: &Value) -> Result<String, WriterError>
-    ensures text { IfOk result (λ s. string_bytes s ≡ text val.now.tree) }
-    ensures memory { IfErr result IsWantOfMemory }
-    ensures equal { Good val.now.own → IsToldByText val.now.own val.now.tree }
-    ensures back { Good val.now.own → ReadBack val.now.own val.now.tree }
-    ensures again { IsReadAgain val.now.own val.now.tree }
-    ensures twice { Good val.now.own → ReadsBackWithinTwice val.now.own }
+/// The canonical text of the value; `UnsupportedType` is answered only where it has none, `Io`
+/// never, and a value of a type is refused for want of memory alone: every `Value` is one of its own
+/// type (`Value::ty`). Of a type whose names are distinct labels, another value has the same text
+/// exactly where the two are equal, merged; the text is read back as the value, merged, within its
+/// own levels, so by `from_str` where these are at most 100; and it has at most twice the levels of
+/// any text that is read as the value.
+pub fn to_string<V: WasmValue>(alloc: Global, val: &V) -> Result<String, WriterError>
+    ensures text { IfOk result (λ s. string_bytes s ≡ text (V.tree val.now)) }
+    ensures grounded { IfErr result (λ e. IsGrounded e (has_text (V.tree val.now)) 0 0) }
+    ensures memory { IfErr result (IsForMemory (V.tree val.now)) }
+    ensures equal { (T : TypeTree) → Good T → HasType T (V.tree val.now) → IsToldByText T (V.tree val.now) }
+    ensures back { (T : TypeTree) → Good T → IsOwn T → HasType T (V.tree val.now) → ReadBack T (V.tree val.now) }
+    ensures again { (T : TypeTree) → IsReadAgain T (V.tree val.now) }
+    ensures twice { (T : TypeTree) → Good T → IsOwn T → ReadsBackWithinTwice T }
 {
-    val.is_typed();
     writer::to_string(alloc, val)
 }
 

@@ -122,15 +122,18 @@ fn values(rt: HostRuntime) -> Result<(), Fail> {
 fn texts_read(rt: HostRuntime) -> Result<(), Fail> {
     for text in ["[1, 2]", "[]", " [ 255 , ] // end"] {
         let ty = Type::list(rt.alloc(), Type::U8)?;
-        match from_str(rt.alloc(), &ty, text) {
+        match from_str::<Value>(rt.alloc(), &ty, text) {
             Ok(val) => assert!(rt; val.ty()? == ty),
             Err(_) => assert!(rt; false, "at {text}"),
         }
     }
     for text in ["256", "-1", "1.0", "true", "1 1", "", "[1]"] {
-        assert!(rt; from_str(rt.alloc(), &Type::U8, text).is_err(), "at {text}");
+        assert!(rt;
+            from_str::<Value>(rt.alloc(), &Type::U8, text).is_err(),
+            "at {text}"
+        );
     }
-    match from_str(rt.alloc(), &Type::S8, "-0") {
+    match from_str::<Value>(rt.alloc(), &Type::S8, "-0") {
         Ok(val) => match to_string(rt.alloc(), &val) {
             Ok(text) => assert_eq!(rt; text.as_str(), "0"),
             Err(_) => assert!(rt; false),
@@ -142,7 +145,7 @@ fn texts_read(rt: HostRuntime) -> Result<(), Fail> {
 
 /// The canonical text of what the text reads as, or the refusal's words.
 fn read(rt: HostRuntime, ty: &Type, text: &str) -> Result<String, Fail> {
-    match from_str(rt.alloc(), ty, text) {
+    match from_str::<Value>(rt.alloc(), ty, text) {
         Ok(val) => Ok(to_string(rt.alloc(), &val)?),
         Err(error) => Ok(format!(in rt.alloc(); "{error}")?),
     }
@@ -378,7 +381,7 @@ fn failed_writes(rt: HostRuntime) -> Result<(), Fail> {
 
 #[test]
 fn a_type_without_values(rt: HostRuntime) -> Result<(), Fail> {
-    match from_str(rt.alloc(), &Type::F64, "1") {
+    match from_str::<Value>(rt.alloc(), &Type::F64, "1") {
         Ok(_) => assert!(rt; false),
         Err(error) => {
             assert_eq!(rt; error.span(), 0..1);
@@ -562,7 +565,7 @@ fn records(rt: HostRuntime) -> Result<(), Fail> {
 
 #[test]
 fn the_cause_at_a_type_without_values(rt: HostRuntime) -> Result<(), Fail> {
-    let Err(error) = from_str(rt.alloc(), &Type::F64, "1") else {
+    let Err(error) = from_str::<Value>(rt.alloc(), &Type::F64, "1") else {
         assert!(rt; false);
         return Ok(());
     };

@@ -2,10 +2,9 @@
 use Rattle.std.proofs.Common.{ℕ, ◌≡◌, ◌≢◌, ◌⊎◌, List, inl, inr, subst, sym}
 use Rattle.wave_lex.specs.declared.error.ParserError.{ParserError}
 use Rattle.wave_lex.specs.declared.error.ParserErrorKind.TheVariants as kind
-use Rattle.wave_tree.specs.FromText.{MeansNone, TextFault, RefusesText}
+use Rattle.wave_tree.specs.FromText.{IsMeant, MeansNone, TextFault, RefusesText}
 use Rattle.wasm_wave.specs.Built.{IsFull}
-use Rattle.wasm_wave.specs.Headline.{IsReadAs}
-use Rattle.wasm_wave.specs.TypedValue.{TypedValue}
+use Rattle.wasm_wave.specs.TypedValue.{TypedValue, IsAt}
 use Rattle.wave_wasm.specs.Text.{text}
 use Rattle.wave.specs.declared.request.TypeName.{TypeName}
 use Rattle.wave.specs.declared.request.TypeName.TheVariants as name
@@ -28,7 +27,7 @@ full name.U32 = tt
 full name.U64 = tt
 
 -- the value that was read is the answer
-pub answered : (n : TypeName) (s : List ℕ) (v : TypedValue) (answer : List ℕ) → IsReadAs (type_of n) s v → answer ≡ text v.tree → Answers (Read n) s answer
+pub answered : (n : TypeName) (s : List ℕ) (v : TypedValue) (answer : List ℕ) → IsMeant (λ (v : TypedValue). v.tree) (λ v T. IsAt T v) (type_of n) s v → answer ≡ text v.tree → Answers (Read n) s answer
 answered n s v answer read same = (v.tree, (read (full n)).0, same)
 
 -- the refusal tells a fault of the text, which has no answer; or it is want of memory

@@ -1,5 +1,5 @@
 -- What the program answers.
-use Rattle.std.specs.Prelude.{ℕ, List, [], ◌∷◌, ◌++◌, ◌≡◌, ◌≢◌, ◌⊎◌, IfSome, IsUtf8, string_bytes, codes}
+use Rattle.std.specs.Prelude.{ℕ, List, [], ◌∷◌, ◌++◌, ◌≡◌, ◌≢◌, IfSome, IsUtf8, string_bytes, codes}
 use Rattle.std.specs.declared.option.Option.{Option}
 use Rattle.wave_wasm.specs.Values.{Value}
 use Rattle.wave_wasm.specs.Text.{text}
@@ -17,7 +17,7 @@ use Rattle.wave.specs.declared.program.Outcome.TheVariants.{Answered, Refused}
 use Rattle.wave.specs.declared.input.Input.{Input}
 use Rattle.wave.specs.declared.input.Fault.{Fault}
 use Rattle.wave.specs.declared.input.Fault.TheVariants.{NotUtf8, InputFailed, OutOfMemory}
-use Rattle.wave.specs.Requests.{words_of, type_of, AreUnknown}
+use Rattle.wave.specs.Requests.{type_of}
 use Rattle.wave.specs.ReadFaults.{IsUnread}
 
 -- the request on the text has the answer: the canonical text of the value that the text means

@@ -1,5 +1,5 @@
 -- Why an input was not read to its end.
-use Rattle.std.specs.Prelude.{ℕ, List, ◌≡◌, ◌⊎◌, true}
+use Rattle.std.specs.Prelude.{◌≡◌, ◌⊎◌, true}
 use Rattle.wave.specs.declared.input.Fault.{Fault}
 use Rattle.wave.specs.declared.input.Fault.TheVariants.{NotUtf8, InputFailed, OutOfMemory}
 use Rattle.wave.specs.declared.input.Input.{Input}

@@ -12,7 +12,7 @@ use crate::request::{Request, TypeName, request_of};
 use std::alloc::{AllocError, Global};
 use std::io::{Read, Write};
 use wasm_wave::parser::{ParserError, ParserErrorKind};
-use wasm_wave::value::Type;
+use wasm_wave::value::{Type, Value};
 use wasm_wave::{from_str, to_string};
 
 const USAGE: &str = "usage: wave value | wave call | wave read NAME\n";
@@ -139,7 +139,7 @@ fn read(alloc: Global, name: TypeName, text: &str) -> Result<String, Unanswered>
         (λ answer. Answers (request.Read name) text.now (string_bytes answer))
         (λ why. IsUnanswered (request.Read name) text.now why) }
 {
-    let value = match from_str(alloc, &type_of(name), text) {
+    let value = match from_str::<Value>(alloc, &type_of(name), text) {
         Ok(value) => value,
         Err(error) => return Err(why_refused(error)),
     };

@@ -9,7 +9,7 @@ use Rattle.wave_tree.specs.Tree.{Tree, Takes}
 use Rattle.wave_tree.specs.Reads.{Reads}
 use Rattle.wave_tree.specs.TreeReads.{TreeReads}
 use Rattle.wave_tree.specs.Placed.{Placed, HoldsTokens, slice, tree_of, tree_of_shape, at}
-use Rattle.wave_tree.specs.NodeTree.{NodeTree, place_of}
+use Rattle.wave_tree.specs.NodeTree.{place_of}
 use Rattle.wave_tree.specs.Nodes.{IsNodeOf}
 use Rattle.wave_tree.specs.Means.{Means}
 use Rattle.wave_tree.specs.Untyped.{SpellsText}

@@ -1,11 +1,11 @@
 -- The commas before a close mean nothing.
-use Rattle.std.proofs.Common.{ℕ, zero, suc, ◌≡◌, ◌≢◌, ◌≤◌, inl, inr, List, [], ◌∷◌, refl, sym, ap, ◌∙◌, subst, arith}
+use Rattle.std.proofs.Common.{ℕ, zero, suc, ◌≡◌, ◌≢◌, ◌≤◌, inl, inr, List, [], ◌∷◌, refl, sym, ap, ◌∙◌, subst}
 use Rattle.wave_wasm.specs.Types.{TypeTree}
 use Rattle.wave_wasm.specs.Values.{Value}
 use Rattle.wave_tree.specs.Token.{Token, CutsInto, comma, colon, number, label, char, string, multiline, brace_open, brace_close, paren_open, paren_close, bracket_open, bracket_close}
 use Rattle.wave_tree.specs.Joined.{Spelling, Items, FurtherItems}
 use Rattle.wave_tree.specs.Reads.{InParens}
-use Rattle.wave_tree.specs.Tree.{Tree, MaybeTree, Takes, SpellsTree, ATree, InBraces, BehindWord, MaybeInParens, KeyAnd, Label, IsKey, Word, word_of, leaf_word, none_word, some_word, ok_word, err_word, case_word, levels}
+use Rattle.wave_tree.specs.Tree.{Tree, Takes, ATree, InBraces, BehindWord, MaybeInParens, KeyAnd, Label, IsKey, Word, word_of, leaf_word, none_word, some_word, ok_word, err_word, case_word, levels}
 use Rattle.wave_tree.specs.TreeReads.{TreeReads}
 use Rattle.wave_tree.specs.Means.{Means}
 use Rattle.wave_tree.specs.MeaningLaws.{put_token, without_last_commas, LastCommasMayGo, LastCommasMeanNothing}

@@ -1,7 +1,6 @@
 -- The order of names means nothing, nor does the `%` of a name.
-use Rattle.std.proofs.Common.{ℕ, ◌≡◌, ◌≢◌, ◌⊎◌, ◌<◌, inl, inr, Bool, true, false, if◌then◌else◌, List, [], ◌∷◌, map, length, Option, Some, None, refl, sym, ap, ◌∙◌, subst, arith}
+use Rattle.std.proofs.Common.{ℕ, ◌≡◌, ◌<◌, inl, inr, Bool, true, false, if◌then◌else◌, List, [], ◌∷◌, map, length, Option, Some, None, refl, sym, ap, ◌∙◌, subst, arith}
 use Rattle.std.specs.Str.{bytes_eq}
-use Rattle.std.specs.Prelude.{filter}
 use Rattle.std.proofs.lemmas.Slice.Eq.{bytes_eq-Decides}
 use Rattle.wave_wasm.specs.Lists.{AllOf}
 use Rattle.wave_wasm.specs.Names.{IsOneOf, IsNoneOf, AreAllOf, AreDistinct, is_one_of, found_in}
@@ -12,13 +11,10 @@ use Rattle.wave_wasm.specs.Values.{Value, FieldValues}
 use Rattle.wave_tree.specs.Token as token
 use Rattle.wave_tree.specs.Token.{Token}
 use Rattle.wave_tree.specs.Spells.{name_of}
-use Rattle.wave_tree.specs.Tree as tree
 use Rattle.wave_tree.specs.Tree.{Tree, TreeEntries, entries, tree_entries, flags}
 use Rattle.wave_tree.specs.Reads.{look_up, Fills, FieldIs}
-use Rattle.wave_tree.specs.TreeReads.{Meaning, Each, NamedTree, RecordTree, FlagsTree, TreeReads}
-use Rattle.wave_tree.specs.Means.{Means}
-use Rattle.wave_tree.specs.Untyped.{SpellsText}
-use Rattle.wave_tree.specs.OrderLaws.{Labelled, label_entries, named, label_names, HaveSameFields, FieldsInAnyOrder, HaveSameNames, FlagsInAnyOrder}
+use Rattle.wave_tree.specs.TreeReads.{Meaning, Each, NamedTree, RecordTree, FlagsTree}
+use Rattle.wave_tree.specs.OrderLaws.{Labelled, label_entries, named, label_names, FieldsInAnyOrder, FlagsInAnyOrder}
 use Rattle.wave_tree.proofs.OneOf.{is_one, passes}
 use Rattle.wave_tree.proofs.Fields.{is_found, finds_none}
 use Rattle.wave_tree.proofs.Unique.{pair-path}

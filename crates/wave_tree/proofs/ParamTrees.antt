@@ -5,7 +5,7 @@ use Rattle.wave_wasm.specs.Values.{Value}
 use Rattle.wave_tree.specs.Token.{Token, paren_open, paren_close, comma}
 use Rattle.wave_tree.specs.Joined.{Closes, FurtherItems, Items}
 use Rattle.wave_tree.specs.Reads.{Reads}
-use Rattle.wave_tree.specs.Params.{Omitted, FurtherParams, Params}
+use Rattle.wave_tree.specs.Params.{FurtherParams, Params}
 use Rattle.wave_tree.specs.Parsed.{NoParen}
 use Rattle.wave_tree.specs.Tree.{Tree, Takes}
 use Rattle.wave_tree.specs.TreeReads.{TreeReads}

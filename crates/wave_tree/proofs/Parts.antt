@@ -1,5 +1,5 @@
 -- The nodes within a node that was parsed as a value are parsed too.
-use Rattle.std.proofs.Common.{ℕ, ◌≡◌, ◌⊎◌, inl, inr, List, [], ◌∷◌, map, Option, Some, None, Bor, refl, sym, ap, ◌∙◌, subst}
+use Rattle.std.proofs.Common.{ℕ, ◌≡◌, ◌⊎◌, inl, List, [], ◌∷◌, map, Option, Some, None, Bor, refl, sym, ap, ◌∙◌, subst}
 use Rattle.wave_wasm.specs.Lists.{AllOf}
 use Rattle.wave_tree.specs.Placed.{Placed, MaybePlaced, no_placed, a_placed, PlacedEntry, entry_list}
 use Rattle.wave_tree.specs.NodeTree.{NodeTree, type_of, children_of}

@@ -47,16 +47,16 @@ fn lists_of_options(rt: HostRuntime, times: usize) -> Result<Type, Fail> {
 #[test]
 fn deep_lists(rt: HostRuntime) -> Result<(), Fail> {
     let text = brackets(rt, 100)?;
-    match from_str(rt.alloc(), &lists(rt, 100)?, text.as_str()) {
+    match from_str::<Value>(rt.alloc(), &lists(rt, 100)?, text.as_str()) {
         Ok(val) => assert_eq!(rt; to_string(rt.alloc(), &val)?.as_str(), text.as_str()),
         Err(error) => assert!(rt; false, "{error}"),
     }
-    match from_str(rt.alloc(), &lists(rt, 1)?, text.as_str()) {
+    match from_str::<Value>(rt.alloc(), &lists(rt, 1)?, text.as_str()) {
         Ok(_) => assert!(rt; false),
         Err(error) => assert!(rt; is_at(&error, ParserErrorKind::InvalidType, 1, 199)),
     }
     let text = repeated(rt, "[", 101)?;
-    match from_str(rt.alloc(), &lists(rt, 1)?, text.as_str()) {
+    match from_str::<Value>(rt.alloc(), &lists(rt, 1)?, text.as_str()) {
         Ok(_) => assert!(rt; false),
         Err(error) => assert!(rt; is_at(&error, ParserErrorKind::NestingTooDeep, 99, 100)),
     }
@@ -67,10 +67,10 @@ fn deep_lists(rt: HostRuntime) -> Result<(), Fail> {
 fn written_deeper_than_read(rt: HostRuntime) -> Result<(), Fail> {
     let ty = lists_of_options(rt, 59)?;
     let text = brackets(rt, 60)?;
-    match from_str(rt.alloc(), &ty, text.as_str()) {
+    match from_str::<Value>(rt.alloc(), &ty, text.as_str()) {
         Ok(val) => {
             let written = to_string(rt.alloc(), &val)?;
-            match from_str(rt.alloc(), &ty, written.as_str()) {
+            match from_str::<Value>(rt.alloc(), &ty, written.as_str()) {
                 Ok(_) => assert!(rt; false),
                 Err(error) => assert!(rt; is_at(&error, ParserErrorKind::NestingTooDeep, 299, 300)),
             }

@@ -1,6 +1,6 @@
 //! The worked rows of texts at types: what each text prints once it is read, or how it is refused.
 use std::test::Fail;
-use wasm_wave::value::Type;
+use wasm_wave::value::{Type, Value};
 use wasm_wave::{from_str, to_string};
 
 /// The type that was made.
@@ -13,7 +13,7 @@ fn made(ty: Option<Type>) -> Type {
 
 /// What the text prints at the type, or its refusal.
 fn answer(rt: HostRuntime, ty: &Type, text: &str) -> Result<String, Fail> {
-    match from_str(rt.alloc(), ty, text) {
+    match from_str::<Value>(rt.alloc(), ty, text) {
         Ok(val) => Ok(to_string(rt.alloc(), &val)?),
         Err(error) => Ok(format!(in rt.alloc(); "{error}")?),
     }

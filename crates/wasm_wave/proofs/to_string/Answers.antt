@@ -3,16 +3,16 @@ use Rattle.wasm_wave.proofs.Headline.{refused_so}
 use Rattle.wasm_wave.proofs.to_string.Goals as goal
 
 pub returns-clause-memory : goal.returns-clause-memory
-returns-clause-memory c = refused_so c.args.val.now.own c.args.val.now.tree _ c.is_typed.ensures.typed c.to_string.ensures.err
+returns-clause-memory g c = refused_so _ _ c.to_string.ensures.err
 
 pub returns-clause-equal : goal.returns-clause-equal
-returns-clause-equal c = λ good other of. equal_texts c.args.val.now.own good c.args.val.now.tree other c.is_typed.ensures.typed of
+returns-clause-equal g c = λ T good of other also. equal_texts T good _ other of also
 
 pub returns-clause-back : goal.returns-clause-back
-returns-clause-back c = λ good. reads_back c.args.val.now.own good c.is_typed.ensures.own c.args.val.now.tree c.is_typed.ensures.typed
+returns-clause-back g c = λ T good own of. reads_back T good own _ of
 
 pub returns-clause-again : goal.returns-clause-again
-returns-clause-again c = λ back low. text_means c.args.val.now.own c.args.val.now.tree back low
+returns-clause-again g c = λ T back low. text_means T _ back low
 
 pub returns-clause-twice : goal.returns-clause-twice
-returns-clause-twice c = λ good. reads_back_within_twice c.args.val.now.own good c.is_typed.ensures.own
+returns-clause-twice g c = λ T good own. reads_back_within_twice T good own

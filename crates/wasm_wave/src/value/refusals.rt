@@ -27,6 +27,7 @@ impl ShowsValue for ByText {
     ghost words = { value_text };
 
     fn show(alloc: Global, val: &Value) -> Result<String, AllocError> {
+        val.is_typed();
         match crate::to_string(alloc, val) {
             Ok(text) => Ok(text),
             Err(WriterError::Memory(e)) => Err(e),

@@ -1,6 +1,6 @@
 //! Whether the names within a type are labels.
 ghost use Rattle.std.specs.Prelude.{◌≡◌, ◌↔◌, IsTrue, map, string_bytes, drop, ◌+◌};
-ghost use Rattle.wave_wasm.specs.Types.{types_of, fields_of, cases_of, maybe_type};
+ghost use Rattle.wave_wasm.specs.Types.{IsOwn, types_of, fields_of, cases_of, maybe_type};
 ghost use Rattle.wave_wasm.specs.Names.{is_one_of};
 ghost use Rattle.wave_lex.specs.Labels.{Good};
 ghost use Rattle.wasm_wave.specs.TypeView.{by_bytes};
@@ -10,10 +10,12 @@ use super::{Shape, Type};
 
 impl Type {
     /// Whether within each record, variant, enum and flags of the type the names are labels, and
-    /// no name stands twice.
+    /// no name stands twice. The type's tree is one that a type can have.
     pub fn names_are_labels(&self) -> bool
-        ensures { IsTrue result ↔ Good self.now }
+        ensures labels { IsTrue result ↔ Good self.now }
+        ensures own { IsOwn self.now }
     {
+        self.is_own();
         names_pass(self)
     }
 }

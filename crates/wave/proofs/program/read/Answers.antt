@@ -1,7 +1,7 @@
 use Rattle.std.proofs.Common.{subst}
-use Rattle.wasm_wave.specs.Headline.{IsReadAs}
-use Rattle.wave_tree.specs.FromText.{RefusesText}
+use Rattle.wave_tree.specs.FromText.{IsMeant, RefusesText}
 use Rattle.wasm_wave.specs.Built.{IsFull}
+use Rattle.wasm_wave.specs.TypedValue.{TypedValue, IsAt}
 use Rattle.wave.proofs.Named.{answered, refused}
 use Rattle.wave.proofs.program.read.Goals as goal
 
@@ -11,4 +11,4 @@ returns-in-Err c =
 
 pub returns-in-Ok-to_string : goal.returns-in-Ok-to_string
 returns-in-Ok-to_string c =
-    answered c.args.name c.args.text.now c.in-Ok.value _ (subst (λ t. IsReadAs t c.args.text.now c.in-Ok.value) c.type_of.ensures c.in-Ok.ensures.read) c.in-Ok-to_string.ensures.text
+    answered c.args.name c.args.text.now c.in-Ok.value _ (subst (λ t. IsMeant (λ (v : TypedValue). v.tree) (λ v T. IsAt T v) t c.args.text.now c.in-Ok.value) c.type_of.ensures c.in-Ok.ensures.read) c.in-Ok-to_string.ensures.text

@@ -1,7 +1,6 @@
 use Rattle.std.proofs.Common.{sym, subst}
 use Rattle.wave_wasm.specs.Lists.{AllOf}
 use Rattle.wave_tree.specs.Typed.{IsValueOf}
-use Rattle.wave_tree.specs.Records.{shown_field}
 use Rattle.wave_tree.proofs.Parts.{fields_values}
 use Rattle.wave_tree.proofs.ast.Node.as_record.Goals as goal
 
