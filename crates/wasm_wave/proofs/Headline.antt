@@ -14,7 +14,6 @@ use Rattle.wave_wasm.specs.Merge.{merged, merged_maybe, merged_values, merged_fi
 use Rattle.wave_wasm.specs.Output.{IsGrounded}
 use Rattle.wave_wasm.specs.declared.writer.WriterError.{WriterError}
 use Rattle.wave_wasm.specs.declared.writer.WriterError.TheVariants as refusal
-use Rattle.wave_tree.specs.AnswerLaws.{LiesInText}
 use Rattle.wave_tree.specs.Means.{Means}
 use Rattle.wave_tree.specs.Token.{Token, CutsInto}
 use Rattle.wave_tree.specs.Reads.{Reads}

@@ -29,17 +29,17 @@ pub use wave_tree::{ast, parser, untyped};
 pub use wave_wasm::{wasm, writer};
 
 /// The value that the whole text means at the type, which is of that type; a text that means none
-/// is refused, and so is any text for want of memory. All this where the names of the type are
-/// distinct and, for a refusal, makers serve every value of the type, as those of `Value` do there:
-/// what is read is merged, a refusal's span lies in the text, and no tokens spell two values nor
-/// begin the spelling of another; where the names are labels too and the type's tree is one that
+/// is refused, and so is any text for want of memory. A refusal's span lies in the text. All the
+/// rest where the names of the type are distinct and, for a refusal, makers serve every value of
+/// the type, as those of `Value` do there: what is read is merged, and no tokens spell two values
+/// nor begin the spelling of another; where the names are labels too and the type's tree is one that
 /// `Type` has, what is read within some levels has a canonical text of at most twice as many.
 pub fn from_str<V: WasmValue>(alloc: Global, ty: &V::Type, s: &str) -> Result<V, ParserError>
     ensures read { IfOk result (IsMeant V.tree V.is_of (V.Type.tree ty.now) s.now) }
     ensures merged { IfOk result (λ v. IsMergedAt (V.Type.tree ty.now) (V.tree v)) }
     ensures refused { IfErr result (RefusesOnly V.is_full (V.Type.tree ty.now) s.now) }
     ensures fault { IfErr result (RefusesText V.is_full (V.Type.tree ty.now) s.now) }
-    ensures within { IfErr result (λ e. HasDistinctNames (V.Type.tree ty.now) → V.is_full (V.Type.tree ty.now) → LiesInText s.now e.span) }
+    ensures within { IfErr result (λ e. LiesInText s.now e.span) }
     ensures one { HasDistinctNames (V.Type.tree ty.now) → OneValue (V.Type.tree ty.now) }
     ensures reading { HasDistinctNames (V.Type.tree ty.now) → OneReading (V.Type.tree ty.now) }
     ensures twice { Good (V.Type.tree ty.now) → IsOwn (V.Type.tree ty.now) → ReadsBackWithinTwice (V.Type.tree ty.now) }

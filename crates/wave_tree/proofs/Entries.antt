@@ -22,7 +22,7 @@ pairs_fit (k ∷ v ∷ more) = let h = pairs_fit more in (omega (arith, h.0), om
 pub pairs_count : (ns : List NodeTree) → length ns / 2 ≡ length (node_pairs ns)
 pairs_count ns = let h = pairs_fit ns in omega (arith, h.0, h.1)
 
-both_some : {A B C : Type 0} (f : A → B → C) (a : Option A) (b : Option B) (c : C) → with_both f a b ≡ Some c → (x : A) × (y : B) × (a ≡ Some x) × (b ≡ Some y) × (c ≡ f x y)
+pub both_some : {A B C : Type 0} (f : A → B → C) (a : Option A) (b : Option B) (c : C) → with_both f a b ≡ Some c → (x : A) × (y : B) × (a ≡ Some x) × (b ≡ Some y) × (c ≡ f x y)
 both_some f (Some x) (Some y) c e = (x, y, refl, refl, sym (some_is _ _ e))
 both_some f (Some x) None c e = absurd (cc)
 both_some f None b c e = absurd (cc)

@@ -25,7 +25,7 @@ use Rattle.wave_tree.specs.AnswerLaws.{FaultsLieInText, LiesInText, IsInSource}
 use Rattle.wave_tree.proofs.Quoted.{IsQuoted, one_holds}
 
 -- the span lies between two places
-abbrev Lies : ℕ → ℕ → Range ℕ → Type 0
+abbrev pub Lies : ℕ → ℕ → Range ℕ → Type 0
 Lies from to q = (from ≤ q.start) × (q.start ≤ q.end) × (q.end ≤ to)
 
 wider : (a b c d : ℕ) (q : Range ℕ) → a ≤ c → d ≤ b → Lies c d q → Lies a b q
@@ -70,13 +70,13 @@ spaces_length zero = refl
 spaces_length (suc k) = ap suc (spaces_length k)
 
 -- where a fault stands in the inside
-offset : LineFault → ℕ
+pub offset : LineFault → ℕ
 offset closing = 0
 offset opening = 0
 offset (indentation i) = i
 offset (escape i) = i
 
-escape_inside : (s : List ℕ) (i : ℕ) → IsBadEscapeAt s i → i < length s
+pub escape_inside : (s : List ℕ) (i : ℕ) → IsBadEscapeAt s i → i < length s
 escape_inside s i (front, rest, t, is, decodes, apart, e) = omega (arith, ap length is, length-append front (92 ∷ rest), e)
 
 line_offset : (k start : ℕ) (line : List ℕ) (f : LineFault) → BadLine k start line f → offset f < start + length line + 1
@@ -93,14 +93,14 @@ lines_offset k start [] f h = absurd h
 lines_offset k start (p ∷ ps) f (inl h) = omega (arith, line_offset k start p f h)
 lines_offset k start (p ∷ ps) f (inr (t, means, h)) = omega (arith, lines_offset k (start + length p + 1) ps f h)
 
-multiline_offset : (s : List ℕ) (f : LineFault) → MultilineFault s f → offset f ≤ length s
+pub multiline_offset : (s : List ℕ) (f : LineFault) → MultilineFault s f → offset f ≤ length s
 unfolding offset total
 multiline_offset s f (inl (bad, e)) = rw e (omega arith)
 multiline_offset s f (inr (inl (good, bad, e))) = rw e (omega arith)
 multiline_offset s f (inr (inr b)) =
     omega (arith, lines_offset b.indent (length b.first + 1) b.between f b.bad, total_pieces s, ap total b.cut, total_append b.between (spaces b.indent ∷ []))
 
-fault_place : (pos n : ℕ) (f : LineFault) → offset f ≤ n → Lies pos (pos + n + 3) (fault_span pos n f)
+pub fault_place : (pos n : ℕ) (f : LineFault) → offset f ≤ n → Lies pos (pos + n + 3) (fault_span pos n f)
 unfolding offset
 fault_place pos n closing h = (omega arith, omega arith, omega arith)
 fault_place pos n opening h = (omega arith, omega arith, omega arith)
@@ -289,24 +289,3 @@ pub trailing_lies : (s : List ℕ) (p : Place) (ts : List Token) (e : ParserErro
 trailing_lies s p ts e taken trails =
     let there = tokens_inside (start_of s) p ts taken (front_inside s) in
     subst (λ (z : List ℕ). LiesInText z e.span) there.1 (refusals_lie e p there.0 (inr trails))
-
--- a refusal of a text lies in it, where makers serve all values of the type
-pub text_refusal_lies : (Full : TypeTree → Type 0) (T : TypeTree) (s : List ℕ) (e : ParserError) → RefusesText Full T s e → (e.kind ≡ kind.OutOfMemory → Says e kind.OutOfMemory (span 0 0) None) → HasDistinctNames T → Full T → LiesInText s e.span
-text_refusal_lies Full T s e h memory distinct full = by (h distinct)
-  where
-    by : (e.kind ≡ kind.OutOfMemory) ⊎ TextFault T s e × MeansNone T s ⊎ (e.kind ≡ kind.WasmValueError) × (Full T → ⊥) → LiesInText s e.span
-    by (inl wants) = subst (LiesInText s) (sym (memory wants).stands) (omega arith, omega arith)
-    by (inr (inl (inl (p, refused), none_means))) = refusals_lie e (start_of s) (front_inside s) (inl (100, p, refused))
-    by (inr (inl (inr (inl (p, t, read, taken, stands, spelled, fault)), none_means))) = faults_lie s T t (refusal_of e) e.span spelled fault
-    by (inr (inl (inr (inr (p, t, v, read, taken, reads, trails)), none_means))) = trailing_lies s p taken.tokens e taken.taken trails
-    by (inr (inr (is, not_full))) = absurd (not_full full)
-
--- so does one of the value that is handed on
-pub value_lies : {X : Type 0} (Full : TypeTree → Type 0) (T : TypeTree) (s : List ℕ) (r : Result X ParserError) (e : ParserError) → IsErrAnd r (λ f. f ≡ e) → RefusesText Full T s e → (e.kind ≡ kind.OutOfMemory → Says e kind.OutOfMemory (span 0 0) None) → IfErr r (λ f. HasDistinctNames T → Full T → LiesInText s f.span)
-value_lies Full T s (Ok x) e same h memory = absurd same
-value_lies Full T s (Err f) e same h memory = λ distinct full. subst (λ (g : ParserError). LiesInText s g.span) (sym same) (text_refusal_lies Full T s e h memory distinct full)
-
--- and what follows it, handed on
-pub trails_lie : {X : Type 0} (Full : TypeTree → Type 0) (T : TypeTree) (s : List ℕ) (r : Result X ParserError) (e : ParserError) → IsErrAnd r (λ f. f ≡ e) → LiesInText s e.span → IfErr r (λ f. HasDistinctNames T → Full T → LiesInText s f.span)
-trails_lie Full T s (Ok x) e same h = absurd same
-trails_lie Full T s (Err f) e same h = λ distinct full. subst (λ (g : ParserError). LiesInText s g.span) (sym same) h

@@ -176,7 +176,7 @@ entry_has source (n ∷ ns) [] i p h here = absurd h
 entry_has source (n ∷ ns) (e ∷ es) zero p h here = (e, refl, subst (λ (q : NodeTree × NodeTree). IsTokenOf source q.0 e.place e.key) here h.0, subst (λ (q : NodeTree × NodeTree). IsNodeOf source q.1 e.value) here h.1)
 entry_has source (n ∷ ns) (e ∷ es) (suc i) p h here = entry_has source ns es i p h.2 here
 
-not_key : (source : List ℕ) (n : NodeTree) (t : Placed) (p : Range ℕ) (key : Token) → Inside source n t → key_of t ≡ Some (p, key) → type_of n ≡ kind.TupleSet → ⊥
+pub not_key : (source : List ℕ) (n : NodeTree) (t : Placed) (p : Range ℕ) (key : Token) → Inside source n t → key_of t ≡ Some (p, key) → type_of n ≡ kind.TupleSet → ⊥
 not_key source n (at q (label r w no_placed)) p key i is e = cc (sym e ∙ i.from.0)
 not_key source n (at q (one (token.number w))) p key i is e = cc (sym e ∙ i.from.1)
 not_key source n (at q (one (token.char w))) p key i is e = cc (sym e ∙ i.from.1)

@@ -207,13 +207,13 @@ module _ {V : Type 0} (tree : V → Value) (of : V → TypeTree → Type 0) (Ful
       key_handed K p key e r handed_on (inr (inl (subst (λ (R : Simple). MapKeyFault R p key (refusal_of e) e.span) (one_simple T K S is same) fault)))
 
 -- a refusal that says the same blames the same
-blamed_again : (Full : TypeTree → Type 0) (K : Simple) (p : Range ℕ) (key : Token) (e f : ParserError) → (f.kind ≡ OutOfMemory) ⊎ (refusal_of f ≡ refusal_of e) × (f.span ≡ e.span) → IsKeyBlamed Full K p key e → IsKeyBlamed Full K p key f
-blamed_again Full K p key e f (inl memory) h = inl memory
-blamed_again Full K p key e f (inr (same, place)) (inl memory) = inl (ap (λ (r : Refusal). r.kind) same ∙ memory)
-blamed_again Full K p key e f (inr (same, place)) (inr (inl fault)) =
+blamed_again : (Full : TypeTree → Type 0) (K : Simple) (p q : Range ℕ) (key : Token) (e f : ParserError) → (f.kind ≡ OutOfMemory) × (f.span ≡ q) ⊎ (refusal_of f ≡ refusal_of e) × (f.span ≡ e.span) → IsKeyBlamed Full K p key e → IsKeyBlamed Full K p key f
+blamed_again Full K p q key e f (inl memory) h = inl memory.0
+blamed_again Full K p q key e f (inr (same, place)) (inl memory) = inl (ap (λ (r : Refusal). r.kind) same ∙ memory)
+blamed_again Full K p q key e f (inr (same, place)) (inr (inl fault)) =
     inr (inl (subst (λ (q : Range ℕ). MapKeyFault K p key (refusal_of f) q) (sym place) (subst (λ (r : Refusal). MapKeyFault K p key r e.span) (sym same) fault)))
-blamed_again Full K p key e f (inr (same, place)) (inr (inr (kind, full))) = inr (inr (ap (λ (r : Refusal). r.kind) same ∙ kind, full))
+blamed_again Full K p q key e f (inr (same, place)) (inr (inr (kind, full))) = inr (inr (ap (λ (r : Refusal). r.kind) same ∙ kind, full))
 
 -- so of a key that was not read
-pub key_told : {V : Type 0} (tree : V → Value) (of : V → TypeTree → Type 0) (Full : TypeTree → Type 0) (K : Simple) (p : Range ℕ) (key : Token) (r : Result V ParserError) (e f : ParserError) → r ≡ Err e → (f.kind ≡ OutOfMemory) ⊎ (refusal_of f ≡ refusal_of e) × (f.span ≡ e.span) → MatchResult r (IsKeyRead tree of K key) (IsKeyBlamed Full K p key) → IsKeyBlamed Full K p key f
-key_told {V} tree of Full K p key r e f is told h = blamed_again Full K p key e f told (subst (λ (s : Result V ParserError). MatchResult s (IsKeyRead tree of K key) (IsKeyBlamed Full K p key)) is h)
+pub key_told : {V : Type 0} (tree : V → Value) (of : V → TypeTree → Type 0) (Full : TypeTree → Type 0) (K : Simple) (p q : Range ℕ) (key : Token) (r : Result V ParserError) (e f : ParserError) → r ≡ Err e → (f.kind ≡ OutOfMemory) × (f.span ≡ q) ⊎ (refusal_of f ≡ refusal_of e) × (f.span ≡ e.span) → MatchResult r (IsKeyRead tree of K key) (IsKeyBlamed Full K p key) → IsKeyBlamed Full K p key f
+key_told {V} tree of Full K p q key r e f is told h = blamed_again Full K p q key e f told (subst (λ (s : Result V ParserError). MatchResult s (IsKeyRead tree of K key) (IsKeyBlamed Full K p key)) is h)

@@ -108,3 +108,4 @@ pub mod Orders
 pub mod FlagNodes
 pub mod FlagSets
 pub mod FlagTypes
+pub mod Standing

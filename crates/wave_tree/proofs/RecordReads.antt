@@ -161,7 +161,7 @@ found_one (f ∷ fs) name h = by (bytes_eq name f.0) refl (found_one fs name) h
     by false is more (inr one) = more one
 
 -- what is found is as all of them are
-look_all : {A : Type 0} (P : List ℕ → A → Type 0) (fs : List (List ℕ × A)) (name : List ℕ) (x : A) → AllOf (λ f. P f.0 f.1) fs → look_up fs name ≡ Some x → P name x
+pub look_all : {A : Type 0} (P : List ℕ → A → Type 0) (fs : List (List ℕ × A)) (name : List ℕ) (x : A) → AllOf (λ f. P f.0 f.1) fs → look_up fs name ≡ Some x → P name x
 look_all P [] name x all e = absurd (cc)
 look_all P (f ∷ fs) name x all e = by (bytes_eq name f.0) refl (look_all P fs name x all.1) e
   where

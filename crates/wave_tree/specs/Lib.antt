@@ -30,6 +30,7 @@ pub mod ShownNodes
 pub mod Called
 pub mod CalledCode
 pub mod TreeParams
+pub mod Standing
 pub mod FromText
 pub mod Untyped
 pub mod UntypedCode

@@ -3,7 +3,8 @@ ghost use Rattle.std.specs.Prelude.{◌≡◌, IfOk, IfErr};
 ghost use Rattle.wave_wasm.specs.Names.{AreAllOf, found_in};
 ghost use Rattle.wave_wasm.specs.Shown.{texts};
 ghost use Rattle.wave_lex.specs.declared.error.ParserErrorKind.TheVariants.{OutOfMemory};
-ghost use Rattle.wave_tree.specs.NodeTree.{children_of};
+ghost use Rattle.wave_tree.specs.NodeTree.{children_of, place_of};
+ghost use Rattle.wave_tree.specs.Standing.{IsAtNode};
 ghost use Rattle.wave_tree.specs.Nodes.{IsParsedFrom};
 ghost use Rattle.wave_tree.specs.Typed.{IsValueOf};
 ghost use Rattle.wave_tree.specs.Flags.{AreAllParsed, AreFlags, AreInOrder, GivesFlags, GivesFlagNodes, HoldsNames, PicksFrom, RefusesFlags, names_at};
@@ -53,6 +54,7 @@ impl Node {
         ensures held { IfOk result (λ flags. HoldsNames flags (names_at src.now (children_of self.now))) }
         ensures known { IfOk result (λ _. AreAllOf (texts names.now.items) (names_at src.now (children_of self.now))) }
         ensures refused { IfErr result (RefusesFlags (texts names.now.items) src.now self.now) }
+        ensures within { IfErr result (IsAtNode self.now) }
     {
         let nodes = self.flag_nodes()?;
         let known = self.set_of(alloc, names)?;
@@ -77,6 +79,7 @@ impl Node {
     ) -> Result<BTreeMap<&'name str, ()>, ParserError>
         ensures set { IfOk result (λ set. HoldsNames set (texts names.now.items)) }
         ensures refused { IfErr result (λ e. e.kind ≡ OutOfMemory) }
+        ensures place { IfErr result (λ e. e.span ≡ place_of self.now) }
     {
         let mut set = BTreeMap::new(alloc);
         for name in names {
@@ -96,6 +99,7 @@ impl Node {
     ) -> Result<Vec<&'name str>, ParserError>
         ensures picked { IfOk result (λ picked. PicksFrom set.now (texts names.now.items) (texts picked.items)) }
         ensures refused { IfErr result (λ e. e.kind ≡ OutOfMemory) }
+        ensures place { IfErr result (λ e. e.span ≡ place_of self.now) }
     {
         let mut picked = Vec::new(alloc);
         for name in names {

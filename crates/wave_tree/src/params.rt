@@ -4,11 +4,13 @@ ghost use Rattle.wave_wasm.specs.Lists.{AllOf, SomeOf};
 ghost use Rattle.wave_wasm.specs.Types.{HasDistinctNames};
 ghost use Rattle.wave_wasm.specs.Makers.{AreOf};
 ghost use Rattle.wave_lex.specs.Errors.{too_many_params, too_few_params, no_params};
-ghost use Rattle.wave_lex.specs.declared.error.ParserErrorKind.TheVariants.{InvalidParams, OutOfMemory};
+ghost use Rattle.wave_lex.specs.declared.error.ParserErrorKind.TheVariants.{InvalidParams, OutOfMemory, WasmValueError};
 ghost use Rattle.wave_tree.specs.Reads.{IsOption};
 ghost use Rattle.wave_tree.specs.Params.{Omitted};
 ghost use Rattle.wave_tree.specs.NodeTree.{place_of};
 ghost use Rattle.wave_tree.specs.Refusals.{Says};
+ghost use Rattle.wave_tree.specs.Standing.{IsCausedIn, IsAtPlace};
+ghost use Rattle.wave_tree.specs.AnswerLaws.{LiesInText};
 ghost use Rattle.wave_tree.specs.Nodes.{IsNodeOf};
 ghost use Rattle.wave_tree.specs.Placed.{Placed};
 ghost use Rattle.wave_tree.specs.Typed.{IsValueOf};
@@ -37,6 +39,8 @@ impl Node {
             → IfOk result (λ vs. GivesParams V.tree V.is_of (map V.Type.tree types.now) self.now t vs.items) }
         ensures refused { AllOf HasDistinctNames (map V.Type.tree types.now) → (t : Placed) → IsNodeOf src.now self.now t
             → IfErr result (RefusesParams V.is_full (map V.Type.tree types.now) self.now t) }
+        ensures within { IfErr result (λ e. LiesInText src.now e.span) }
+        ensures caused { IfErr result (λ e. e.kind ≡ WasmValueError → IsCausedIn self.now e) }
     {
         let nodes = self.as_tuple()?;
         let mut vals = Vec::new(alloc);
@@ -111,6 +115,7 @@ pub(crate) fn push_omitted<V: WasmValue>(
     requires { AllOf IsOption (map V.Type.tree types.now) }
     ensures values { AllOf HasDistinctNames (map V.Type.tree types.now) → IfOk result (λ _. (others : List V) × (vals.new.items ≡ vals.old.items ++ others) × Omitted (map V.Type.tree types.now) (map V.tree others) × AreOf V.is_of (map V.Type.tree types.now) others) }
     ensures refused { IfErr result (RefusesOmitted V.is_full (map V.Type.tree types.now) at) }
+    ensures within { IfErr result (IsAtPlace at) }
 {
     for ty in types {
         let val = match V::make_option(alloc, ty, None) {
@@ -131,6 +136,7 @@ pub(crate) fn omitted_params<V: WasmValue>(
 ) -> Result<Vec<V>, ParserError>
     ensures values { AllOf HasDistinctNames (map V.Type.tree types.now) → IfOk result (λ vs. AreOmitted V.tree V.is_of (map V.Type.tree types.now) vs.items) }
     ensures refused { IfErr result (RefusesNone V.is_full (map V.Type.tree types.now) at) }
+    ensures within { IfErr result (IsAtPlace at) }
 {
     if !are_options(types) {
         return Err(none_given(alloc, types.len(), at));
@@ -142,7 +148,8 @@ pub(crate) fn omitted_params<V: WasmValue>(
 
 /// The refusal of a call without parameters to a function of so many.
 fn none_given(alloc: Global, count: usize, at: Span) -> ParserError
-    ensures { (result.kind ≡ OutOfMemory) ⊎ Says result InvalidParams at (Some (no_params count)) }
+    ensures refusal { (result.kind ≡ OutOfMemory) ⊎ Says result InvalidParams at (Some (no_params count)) }
+    ensures span { result.span ≡ at }
 {
     match format!(in alloc; "no params provided, but {count} required") {
         Ok(detail) => ParserError::with_detail(ParserErrorKind::InvalidParams, at, detail),
@@ -154,6 +161,7 @@ fn none_given(alloc: Global, count: usize, at: Span) -> ParserError
 fn keep_at<V: Drop>(vals: &mut Vec<V>, val: V, at: Span) -> Result<(), ParserError>
     ensures kept { OnOk result (vals.new.items ≡ vals.old.items ++ val ∷ []) }
     ensures refused { IfErr result (λ e. e.kind ≡ OutOfMemory) }
+    ensures place { IfErr result (λ e. e.span ≡ at) }
 {
     match vals.push(val) {
         Ok(()) => Ok(()),

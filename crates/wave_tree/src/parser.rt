@@ -12,15 +12,15 @@ ghost use Rattle.wave_tree.specs.Refusals.{Gives, GivesWithin, GivesAnywhere, Sa
 ghost use Rattle.wave_lex.specs.Lexing.{span, remainder_of};
 ghost use Rattle.wave_tree.specs.Untyped.{IsUntypedTaken};
 ghost use Rattle.wave_tree.specs.Called.{AreParamsTaken, RefusesTuple};
-ghost use Rattle.wave_tree.specs.FromText.{IsValueTaken, RefusesValue, IsMeant, RefusesText};
+ghost use Rattle.wave_tree.specs.FromText.{start_of, IsValueTaken, RefusesValue, IsMeant, RefusesText};
 ghost use Rattle.wave_tree.specs.Word.{form_of, IsClose};
 ghost use Rattle.std.specs.BTreeMap.{values};
 ghost use Rattle.wave_tree.specs.NodeTree.{node, no_nodes, node_trees};
 ghost use Rattle.wave_tree.specs.declared.ast.NodeType.TheVariants as node_type;
 ghost use Rattle.wave_tree.specs.Parsed.{IsNodeTaken, IsParsed, IsParsedBehind, IsMaybe, IsPayload, IsOfItems, IsOfEntries, IsOfFlags, label_children};
 ghost use Rattle.wave_tree.specs.Parsing.{Parsing, asked, Asks, ahead_count, IsAhead, first_at, front_of, Advances, Expects, Finishes, StaysWithout};
-ghost use Rattle.wave_wasm.specs.Types.{HasDistinctNames};
-ghost use Rattle.wave_tree.specs.AnswerLaws.{LiesInText};
+ghost use Rattle.wave_tree.specs.Standing.{IsCausedBetween};
+ghost use Rattle.wave_tree.specs.AnswerLaws.{LiesInText, IsInSource};
 
 use crate::ahead::Ahead;
 use crate::ast::{Node, NodeType};
@@ -225,6 +225,15 @@ impl<'source> Parser<'source> {
         Node::new(ty, start..self.span().end, children)
     }
 
+    /// A second lexer that stands where the parser's does.
+    fn here(&self) -> Lexer<'source>
+        ensures place { result ≡ self.now.place.lexer }
+        ensures inside { IsInSource self.now.place.lexer }
+    {
+        let _ = self.lexer.span();
+        self.lexer.clone()
+    }
+
     /// What is left of the source.
     fn remainder(&self) -> &'source str
         ensures { result.now ≡ remainder_of self.now.place.lexer }
@@ -248,6 +257,7 @@ impl<'source> Parser<'source> {
     pub fn parse_raw_value(&mut self, alloc: Global) -> Result<UntypedValue<'source>, ParserError>
         ensures value { Gives result 100 due.value [] self.old.place self.new.place [] }
         ensures tree { IfOk result (IsUntypedTaken self.old.place self.new.place) }
+        ensures within { IfErr result (λ e. LiesInText self.old.place.lexer.source e.span) }
         ensures memory { IfErr result (λ e. StaysWithout e self.old.place self.new.place) }
         ensures asks { Asks self.old self.new }
     {
@@ -260,10 +270,12 @@ impl<'source> Parser<'source> {
     fn parse_whole(&mut self, alloc: Global) -> Result<Node, ParserError>
         ensures value { Gives result 100 due.value [] self.old.place self.new.place [] }
         ensures tree { IfOk result (IsNodeTaken self.old.place self.new.place) }
+        ensures within { IfErr result (λ e. LiesInText self.old.place.lexer.source e.span) }
+        ensures uncaused { IfErr result (λ e. e.kind ≢ kind.WasmValueError) }
         ensures memory { IfErr result (λ e. StaysWithout e self.old.place self.new.place) }
         ensures asks { Asks self.old self.new }
     {
-        let place = self.lexer.clone();
+        let place = self.here();
         let _ = self.remainder();
         match self.parse_node(alloc, 100) {
             Ok(node) => Ok(node),
@@ -286,10 +298,12 @@ impl<'source> Parser<'source> {
     ) -> Result<V, ParserError>
         ensures value { IfOk result (IsValueTaken V.tree V.is_of (V.Type.tree ty.now) self.old.place self.new.place) }
         ensures refused { IfErr result (λ e. RefusesValue V.is_full (V.Type.tree ty.now) e self.old.place self.new.place) }
+        ensures within { IfErr result (λ e. LiesInText self.old.place.lexer.source e.span) }
+        ensures caused { IfErr result (IsCausedBetween self.old.place self.new.place) }
         ensures memory { IfErr result (λ e. StaysWithout e self.old.place self.new.place) }
         ensures asks { Asks self.old self.new }
     {
-        let place = self.lexer.clone();
+        let place = self.here();
         let source = self.lexer.source();
         let node = self.parse_whole(alloc)?;
         match node.to_wasm_value(alloc, ty, source) {
@@ -308,8 +322,10 @@ impl<'source> Parser<'source> {
     pub fn finish(&mut self) -> Result<(), ParserError>
         ensures stays { self.new.place ≡ self.old.place }
         ensures answer { Finishes result self.old.place }
+        ensures within { IfErr result (λ e. LiesInText self.old.place.lexer.source e.span) }
         ensures asks { asked self.new ≡ self.old.place.taken + 1 }
     {
+        let _ = self.here();
         self.look();
         match &self.ahead {
             Some(ahead) => trailing(&ahead.item, &ahead.lexer),
@@ -317,19 +333,29 @@ impl<'source> Parser<'source> {
         }
     }
 
-    /// Reads the parameters of a call: None for `()`, else the node of a tuple.
+    /// Reads the parameters of a call: None for `()`, else the node of a tuple. Want of memory is
+    /// refused where the parser stood.
     pub(crate) fn parse_params(&mut self, alloc: Global) -> Result<Option<Node>, ParserError>
         ensures taken { IfOk result (AreParamsTaken self.old.place self.new.place) }
         ensures refused { IfErr result (λ e. e.kind ≢ kind.OutOfMemory → RefusesTuple e self.old.place self.new.place) }
+        ensures within { IfErr result (λ e. LiesInText self.old.place.lexer.source e.span) }
     {
+        let place = self.here();
         let _ = self.remainder();
         self.expect(Token::ParenOpen)?;
         if self.next_is(Token::ParenClose) {
             self.expect(Token::ParenClose)?;
             return Ok(None);
         }
-        let tuple = self.parse_items(alloc, 100, Token::ParenClose)?;
-        Ok(Some(tuple))
+        match self.parse_items(alloc, 100, Token::ParenClose) {
+            Ok(tuple) => Ok(Some(tuple)),
+            Err(error) => {
+                if !is_memory(error.kind()) {
+                    return Err(error);
+                }
+                Err(self.go_back(place))
+            }
+        }
     }
 
     /// Reads a value.
@@ -628,7 +654,8 @@ pub fn from_str<V: WasmValue>(alloc: Global, ty: &V::Type, s: &str) -> Result<V,
     ensures value { IfOk result (IsMeant V.tree V.is_of (V.Type.tree ty.now) s.now) }
     ensures refused { IfErr result (RefusesText V.is_full (V.Type.tree ty.now) s.now) }
     ensures memory { IfErr result (λ e. e.kind ≡ kind.OutOfMemory → Says e kind.OutOfMemory (span 0 0) None) }
-    ensures within { IfErr result (λ e. HasDistinctNames (V.Type.tree ty.now) → V.is_full (V.Type.tree ty.now) → LiesInText s.now e.span) }
+    ensures within { IfErr result (λ e. LiesInText s.now e.span) }
+    ensures caused { IfErr result (λ e. (p : Place) × IsCausedBetween (start_of s.now) p e) }
 {
     let mut parser = Parser::new(s);
     let value = parser.parse_value::<V>(alloc, ty)?;

@@ -9,6 +9,7 @@ ghost use Rattle.wave_tree.specs.Nodes.{IsParsedFrom};
 ghost use Rattle.wave_tree.specs.Answers.{text_at};
 ghost use Rattle.wave_tree.specs.Typed.{IsValueOf};
 ghost use Rattle.wave_tree.specs.Refusals.{Says};
+ghost use Rattle.wave_tree.specs.Standing.{StandsIn};
 ghost use Rattle.wave_tree.specs.Records.{IsFieldsOf, RefusesFields, GivesRecord, GivesName, shown_field, HoldsFields};
 
 use crate::ast::{Node, NodeType};
@@ -33,6 +34,7 @@ impl Node {
         requires { IsParsedFrom src.now self.now }
         ensures given { GivesRecord src.now self.now result }
         ensures values { IfOk result (AllOf (λ f. IsValueOf src.now f.1)) }
+        ensures within { IfErr result (StandsIn self.now) }
     {
         let (fields, _) = self.fields(alloc, src)?;
         Ok(RecordFields::new(fields))
@@ -54,6 +56,7 @@ impl Node {
         ensures given { IfOk result (λ r. IsFieldsOf src.now self.now (map shown_field r.0.items)) }
         ensures held { IfOk result (λ r. HoldsFields r.1 (map shown_field r.0.items)) }
         ensures refused { IfErr result (RefusesFields src.now self.now) }
+        ensures within { IfErr result (StandsIn self.now) }
     {
         self.ensure_type(NodeType::TupleSet)?;
         let nodes = self.nodes();
@@ -93,7 +96,8 @@ impl Node {
 
     /// The refusal of a key whose name an earlier one has.
     fn repeated(&self, alloc: Global, name: &str) -> ParserError
-        ensures { (result.kind ≡ OutOfMemory) ⊎ Says result DuplicateField (place_of self.now) (Some (repeated_name name.now)) }
+        ensures refusal { (result.kind ≡ OutOfMemory) ⊎ Says result DuplicateField (place_of self.now) (Some (repeated_name name.now)) }
+        ensures span { result.span ≡ place_of self.now }
     {
         match format!(in alloc; "\"{name}\"") {
             Ok(detail) => ParserError::with_detail(

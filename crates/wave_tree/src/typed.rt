@@ -12,6 +12,8 @@ ghost use Rattle.wave_tree.specs.CowText.{cow_text};
 ghost use Rattle.wave_tree.specs.Typed.{IsLeafMade, IsValueOf, IsKeyOf, AnswersKey, IsCaused, IsMade, IsPayloadOf, GivesFlat, Answers, AnswersPayload, Reads};
 ghost use Rattle.wave_lex.specs.Errors.{refusal_of};
 ghost use Rattle.std.specs.Prelude.{MatchResult};
+ghost use Rattle.wave_tree.specs.Standing.{StandsIn, StandsInPart, IsAtNode};
+ghost use Rattle.wave_tree.specs.AnswerLaws.{LiesInText};
 ghost use Rattle.wave_wasm.specs.Types.{HasDistinctNames};
 ghost use Rattle.wave_tree.specs.Records.{IsFieldNode, AnswersField, IsLeftOut, IsMissing};
 ghost use Rattle.wave_tree.specs.NodeTree.{place_of};
@@ -39,7 +41,9 @@ impl Node {
         src: &str,
     ) -> Result<V, ParserError>
         requires { IsValueOf src.now self.now }
-        ensures { Reads V.tree V.is_of V.is_full (V.Type.tree ty.now) src.now self.now result }
+        ensures answer { Reads V.tree V.is_of V.is_full (V.Type.tree ty.now) src.now self.now result }
+        ensures within { IfErr result (StandsIn self.now) }
+        ensures in_text { IfErr result (λ e. LiesInText src.now e.span) }
     {
         self.read(alloc, ty, src)
     }
@@ -48,7 +52,8 @@ impl Node {
     #[cycle(reading)]
     fn read<V: WasmValue>(&self, alloc: Global, ty: &V::Type, src: &str) -> Result<V, ParserError>
         requires { IsValueOf src.now self.now }
-        ensures { Answers V.tree V.is_of V.is_full (V.Type.tree ty.now) src.now self.now result }
+        ensures answer { Answers V.tree V.is_of V.is_full (V.Type.tree ty.now) src.now self.now result }
+        ensures within { IfErr result (StandsIn self.now) }
     {
         match ty.kind() {
             WasmTypeKind::Bool => self.read_bool(alloc, ty),
@@ -85,7 +90,8 @@ impl Node {
     ) -> Result<V, ParserError>
         requires node { IsValueOf src.now self.now }
         requires kind { kind_of (V.Type.tree ty.now) ≡ WasmTypeKind.List }
-        ensures { Answers V.tree V.is_of V.is_full (V.Type.tree ty.now) src.now self.now result }
+        ensures answer { Answers V.tree V.is_of V.is_full (V.Type.tree ty.now) src.now self.now result }
+        ensures within { IfErr result (StandsIn self.now) }
     {
         let element = ty.list_element_type().unwrap();
         let nodes = self.as_list()?;
@@ -107,7 +113,8 @@ impl Node {
     ) -> Result<V, ParserError>
         requires node { IsValueOf src.now self.now }
         requires kind { kind_of (V.Type.tree ty.now) ≡ WasmTypeKind.Record }
-        ensures { Answers V.tree V.is_of V.is_full (V.Type.tree ty.now) src.now self.now result }
+        ensures answer { Answers V.tree V.is_of V.is_full (V.Type.tree ty.now) src.now self.now result }
+        ensures within { IfErr result (StandsIn self.now) }
     {
         let types = match ty.record_fields(alloc) {
             Ok(types) => types,
@@ -141,7 +148,8 @@ impl Node {
         src: &str,
     ) -> Result<V, ParserError>
         requires { IsFieldNode src.now (shown_node node) }
-        ensures { AnswersField V.tree V.is_of V.is_full (V.Type.tree ty.now) src.now name.now self.now (shown_node node.entry) result }
+        ensures answer { AnswersField V.tree V.is_of V.is_full (V.Type.tree ty.now) src.now name.now self.now (shown_node node.entry) result }
+        ensures within { IfErr result (StandsInPart self.now (shown_node node.entry)) }
     {
         match node {
             Some(node) => node.read(alloc, ty, src),
@@ -156,7 +164,8 @@ impl Node {
         name: &str,
         ty: &V::Type,
     ) -> Result<V, ParserError>
-        ensures { HasDistinctNames (V.Type.tree ty.now) → MatchResult result (IsLeftOut V.tree V.is_of (V.Type.tree ty.now)) (IsMissing V.is_full (V.Type.tree ty.now) name.now self.now) }
+        ensures answer { HasDistinctNames (V.Type.tree ty.now) → MatchResult result (IsLeftOut V.tree V.is_of (V.Type.tree ty.now)) (IsMissing V.is_full (V.Type.tree ty.now) name.now self.now) }
+        ensures within { IfErr result (IsAtNode self.now) }
     {
         match ty.kind() {
             WasmTypeKind::Option => self.made(V::make_option(alloc, ty, None)),
@@ -174,7 +183,8 @@ impl Node {
     ) -> Result<V, ParserError>
         requires node { IsValueOf src.now self.now }
         requires kind { kind_of (V.Type.tree ty.now) ≡ WasmTypeKind.Tuple }
-        ensures { Answers V.tree V.is_of V.is_full (V.Type.tree ty.now) src.now self.now result }
+        ensures answer { Answers V.tree V.is_of V.is_full (V.Type.tree ty.now) src.now self.now result }
+        ensures within { IfErr result (StandsIn self.now) }
     {
         let types = match ty.tuple_element_types(alloc) {
             Ok(types) => types,
@@ -202,7 +212,8 @@ impl Node {
     ) -> Result<V, ParserError>
         requires node { IsValueOf src.now self.now }
         requires kind { kind_of (V.Type.tree ty.now) ≡ WasmTypeKind.Map }
-        ensures { Answers V.tree V.is_of V.is_full (V.Type.tree ty.now) src.now self.now result }
+        ensures answer { Answers V.tree V.is_of V.is_full (V.Type.tree ty.now) src.now self.now result }
+        ensures within { IfErr result (StandsIn self.now) }
     {
         let (key_type, value_type) = ty.map_key_value_types().unwrap();
         let mut nodes = self.as_map()?;
@@ -226,7 +237,8 @@ impl Node {
         src: &str,
     ) -> Result<V, ParserError>
         requires { IsKeyOf src.now self.now }
-        ensures { AnswersKey V.tree V.is_of V.is_full (V.Type.tree ty.now) src.now self.now result }
+        ensures answer { AnswersKey V.tree V.is_of V.is_full (V.Type.tree ty.now) src.now self.now result }
+        ensures within { IfErr result (StandsIn self.now) }
     {
         match self.read_plain_key(alloc, ty, src) {
             Ok(key) => Ok(key),
@@ -236,7 +248,7 @@ impl Node {
 
     /// The refusal of a key; where the key is a label, with the type of the key that is due.
     fn told_label<T: WasmType>(&self, alloc: Global, ty: &T, error: ParserError) -> ParserError
-        ensures { (result.kind ≡ OutOfMemory) ⊎ (refusal_of result ≡ refusal_of error) × (result.span ≡ error.span) }
+        ensures { (result.kind ≡ OutOfMemory) × (result.span ≡ place_of self.now) ⊎ (refusal_of result ≡ refusal_of error) × (result.span ≡ error.span) }
     {
         if error.kind() != ParserErrorKind::InvalidType
             || error.cause().is_some()
@@ -261,7 +273,8 @@ impl Node {
         src: &str,
     ) -> Result<V, ParserError>
         requires { IsKeyOf src.now self.now }
-        ensures { AnswersKey V.tree V.is_of V.is_full (V.Type.tree ty.now) src.now self.now result }
+        ensures answer { AnswersKey V.tree V.is_of V.is_full (V.Type.tree ty.now) src.now self.now result }
+        ensures within { IfErr result (StandsIn self.now) }
     {
         match ty.kind() {
             WasmTypeKind::Bool => self.made(V::make_bool(alloc, self.as_bool_key(src)?)),
@@ -288,7 +301,8 @@ impl Node {
     ) -> Result<V, ParserError>
         requires key { IsKeyOf src.now self.now }
         requires kind { V.Type.tree ty.now ≡ type.simple type.string }
-        ensures { AnswersKey V.tree V.is_of V.is_full (V.Type.tree ty.now) src.now self.now result }
+        ensures answer { AnswersKey V.tree V.is_of V.is_full (V.Type.tree ty.now) src.now self.now result }
+        ensures within { IfErr result (StandsIn self.now) }
     {
         let text = self.as_str(alloc, src)?;
         self.made_string(alloc, text)
@@ -304,7 +318,8 @@ impl Node {
     ) -> Result<V, ParserError>
         requires node { IsValueOf src.now self.now }
         requires kind { kind_of (V.Type.tree ty.now) ≡ WasmTypeKind.Option }
-        ensures { Answers V.tree V.is_of V.is_full (V.Type.tree ty.now) src.now self.now result }
+        ensures answer { Answers V.tree V.is_of V.is_full (V.Type.tree ty.now) src.now self.now result }
+        ensures within { IfErr result (StandsIn self.now) }
     {
         let payload = ty.option_some_type().unwrap();
         match self.as_option() {
@@ -333,7 +348,8 @@ impl Node {
     ) -> Result<V, ParserError>
         requires node { IsValueOf src.now self.now }
         requires kind { kind_of (V.Type.tree ty.now) ≡ WasmTypeKind.Result }
-        ensures { Answers V.tree V.is_of V.is_full (V.Type.tree ty.now) src.now self.now result }
+        ensures answer { Answers V.tree V.is_of V.is_full (V.Type.tree ty.now) src.now self.now result }
+        ensures within { IfErr result (StandsIn self.now) }
     {
         let (ok, err) = ty.result_types().unwrap();
         match self.as_result() {
@@ -366,7 +382,8 @@ impl Node {
     ) -> Result<V, ParserError>
         requires node { IsValueOf src.now self.now }
         requires kind { kind_of (V.Type.tree ty.now) ≡ WasmTypeKind.Variant }
-        ensures { Answers V.tree V.is_of V.is_full (V.Type.tree ty.now) src.now self.now result }
+        ensures answer { Answers V.tree V.is_of V.is_full (V.Type.tree ty.now) src.now self.now result }
+        ensures within { IfErr result (StandsIn self.now) }
     {
         let cases = match ty.variant_cases(alloc) {
             Ok(cases) => cases,
@@ -393,7 +410,8 @@ impl Node {
         src: &str,
     ) -> Result<Option<V>, ParserError>
         requires { IsPayloadOf src.now (shown_node node) }
-        ensures { AnswersPayload V.tree V.is_of V.is_full name.now (shown V.Type.tree ty.entry) src.now self.now (shown_node node.entry) result }
+        ensures answer { AnswersPayload V.tree V.is_of V.is_full name.now (shown V.Type.tree ty.entry) src.now self.now (shown_node node.entry) result }
+        ensures within { IfErr result (StandsInPart self.now (shown_node node.entry)) }
     {
         match ty {
             Some(ty) => match node {
@@ -419,7 +437,8 @@ impl Node {
     ) -> Result<V, ParserError>
         requires node { IsValueOf src.now self.now }
         requires kind { kind_of (V.Type.tree ty.now) ≡ WasmTypeKind.Enum }
-        ensures { Answers V.tree V.is_of V.is_full (V.Type.tree ty.now) src.now self.now result }
+        ensures answer { Answers V.tree V.is_of V.is_full (V.Type.tree ty.now) src.now self.now result }
+        ensures within { IfErr result (StandsIn self.now) }
     {
         let cases = match ty.enum_cases(alloc) {
             Ok(cases) => cases,
@@ -441,7 +460,8 @@ impl Node {
     ) -> Result<V, ParserError>
         requires node { IsValueOf src.now self.now }
         requires kind { V.Type.tree ty.now ≡ type.simple type.char }
-        ensures { Answers V.tree V.is_of V.is_full (V.Type.tree ty.now) src.now self.now result }
+        ensures answer { Answers V.tree V.is_of V.is_full (V.Type.tree ty.now) src.now self.now result }
+        ensures within { IfErr result (StandsIn self.now) }
     {
         let val = self.as_char(src)?;
         self.made(V::make_char(alloc, val))
@@ -456,7 +476,8 @@ impl Node {
     ) -> Result<V, ParserError>
         requires node { IsValueOf src.now self.now }
         requires kind { kind_of (V.Type.tree ty.now) ≡ WasmTypeKind.Flags }
-        ensures { Answers V.tree V.is_of V.is_full (V.Type.tree ty.now) src.now self.now result }
+        ensures answer { Answers V.tree V.is_of V.is_full (V.Type.tree ty.now) src.now self.now result }
+        ensures within { IfErr result (StandsIn self.now) }
     {
         let names = match ty.flags_names(alloc) {
             Ok(names) => names,
@@ -476,7 +497,8 @@ impl Node {
     ) -> Result<V, ParserError>
         requires node { IsValueOf src.now self.now }
         requires kind { V.Type.tree ty.now ≡ type.simple type.string }
-        ensures { Answers V.tree V.is_of V.is_full (V.Type.tree ty.now) src.now self.now result }
+        ensures answer { Answers V.tree V.is_of V.is_full (V.Type.tree ty.now) src.now self.now result }
+        ensures within { IfErr result (StandsIn self.now) }
     {
         let text = self.as_str(alloc, src)?;
         self.made_string(alloc, text)
@@ -485,7 +507,8 @@ impl Node {
     /// A bool.
     fn read_bool<V: WasmValue>(&self, alloc: Global, ty: &V::Type) -> Result<V, ParserError>
         requires { V.Type.tree ty.now ≡ type.simple type.bool }
-        ensures { (source : List ℕ) → Answers V.tree V.is_of V.is_full (V.Type.tree ty.now) source self.now result }
+        ensures answer { (source : List ℕ) → Answers V.tree V.is_of V.is_full (V.Type.tree ty.now) source self.now result }
+        ensures within { IfErr result (IsAtNode self.now) }
     {
         let val = self.as_bool()?;
         self.made(V::make_bool(alloc, val))
@@ -515,6 +538,7 @@ impl Node {
     pub(crate) fn keep<V: Drop>(&self, items: &mut Vec<V>, item: V) -> Result<(), ParserError>
         ensures kept { OnOk result (items.new.items ≡ items.old.items ++ item ∷ []) }
         ensures refused { IfErr result (λ e. e.kind ≡ OutOfMemory) }
+        ensures place { IfErr result (λ e. e.span ≡ place_of self.now) }
     {
         match items.push(item) {
             Ok(()) => Ok(()),
@@ -524,14 +548,16 @@ impl Node {
 
     /// A refusal for want of memory, at the node.
     pub(crate) fn out_of_memory(&self) -> ParserError
-        ensures { result.kind ≡ OutOfMemory }
+        ensures kind { result.kind ≡ OutOfMemory }
+        ensures span { result.span ≡ place_of self.now }
     {
         ParserError::new(ParserErrorKind::OutOfMemory, self.span())
     }
 
     /// A refusal because a field of this name is left out.
     fn missing_field(&self, alloc: Global, name: &str) -> ParserError
-        ensures { IsCaused (missing_field name.now) self.now result }
+        ensures cause { IsCaused (missing_field name.now) self.now result }
+        ensures span { result.span ≡ place_of self.now }
     {
         match String::from_str(alloc, name) {
             Ok(name) => self.refused(WasmValueError::MissingField(name)),
@@ -548,7 +574,8 @@ impl Node {
 
     /// A refusal because the type has no case or flag of this name.
     pub(crate) fn unknown_case(&self, alloc: Global, name: &str) -> ParserError
-        ensures { IsCaused (unknown_case name.now) self.now result }
+        ensures cause { IsCaused (unknown_case name.now) self.now result }
+        ensures span { result.span ≡ place_of self.now }
     {
         match String::from_str(alloc, name) {
             Ok(name) => self.refused(WasmValueError::UnknownCase(name)),
@@ -558,7 +585,8 @@ impl Node {
 
     /// A refusal because the case of this name has a payload that is not there.
     fn missing_payload(&self, alloc: Global, name: &str) -> ParserError
-        ensures { IsCaused (missing_payload name.now) self.now result }
+        ensures cause { IsCaused (missing_payload name.now) self.now result }
+        ensures span { result.span ≡ place_of self.now }
     {
         match String::from_str(alloc, name) {
             Ok(name) => self.refused(WasmValueError::MissingPayload(name)),
@@ -568,7 +596,8 @@ impl Node {
 
     /// A refusal because the case of this name has no payload, and one is there.
     fn unexpected_payload(&self, alloc: Global, name: &str) -> ParserError
-        ensures { IsCaused (unexpected_payload name.now) self.now result }
+        ensures cause { IsCaused (unexpected_payload name.now) self.now result }
+        ensures span { result.span ≡ place_of self.now }
     {
         match String::from_str(alloc, name) {
             Ok(name) => self.refused(WasmValueError::UnexpectedPayload(name)),
@@ -578,7 +607,8 @@ impl Node {
 
     /// A refusal because values of this kind can't be read.
     fn unsupported(&self, alloc: Global, kind: WasmTypeKind) -> ParserError
-        ensures { IsCaused (unsupported_type (kind_word kind)) self.now result }
+        ensures cause { IsCaused (unsupported_type (kind_word kind)) self.now result }
+        ensures span { result.span ≡ place_of self.now }
     {
         match kind.to_string(alloc) {
             Ok(word) => self.refused(WasmValueError::UnsupportedType(word)),

@@ -3,6 +3,8 @@ ghost use Rattle.std.specs.Prelude.{◌≡◌, IfOk, IfErr};
 ghost use Rattle.wave_tree.specs.Typed.{IsValueOf};
 ghost use Rattle.wave_tree.specs.Typed as typed;
 ghost use Rattle.wave_tree.specs.Untyped.{IsUntypedOf, RefusesTree};
+ghost use Rattle.wave_tree.specs.Standing.{StandsIn};
+ghost use Rattle.wave_tree.specs.AnswerLaws.{LiesInText};
 
 pub use self::call::{UntypedFuncCall, parse_raw_func_call};
 use crate::ast::Node;
@@ -54,6 +56,7 @@ impl<'source> UntypedValue<'source> {
     pub fn parse(alloc: Global, source: &'source str) -> Result<UntypedValue<'source>, ParserError>
         ensures value { IfOk result (IsUntypedOf source.now) }
         ensures refused { IfErr result (RefusesTree source.now) }
+        ensures within { IfErr result (λ e. LiesInText source.now e.span) }
     {
         let mut parser = Parser::new(source);
         let value = parser.parse_raw_value(alloc)?;
@@ -103,7 +106,9 @@ impl<'source> UntypedValue<'source> {
 
     /// The value that the type gives the untyped one, or a refusal, as of its node.
     pub fn to_wasm_value<V: WasmValue>(&self, alloc: Global, ty: &V::Type) -> Result<V, ParserError>
-        ensures { typed.Reads V.tree V.is_of V.is_full (V.Type.tree ty.now) self.now.source self.now.node result }
+        ensures answer { typed.Reads V.tree V.is_of V.is_full (V.Type.tree ty.now) self.now.source self.now.node result }
+        ensures within { IfErr result (StandsIn self.now.node) }
+        ensures in_text { IfErr result (λ e. LiesInText self.now.source e.span) }
     {
         self.node.to_wasm_value(alloc, ty, self.source.as_str())
     }

@@ -116,6 +116,29 @@ impl WasmFunc for Call<'_> {
     }
 }
 
+/// A function on one scalar that says nothing of names.
+#[derive(Drop)]
+struct Unnamed {
+    char: CharType,
+}
+
+impl WasmFunc for Unnamed {
+    ghost use Rattle.std.specs.Prelude.{[], ◌∷◌};
+    ghost use Rattle.wave_wasm.specs.Types.{simple, char};
+
+    type Type = CharType;
+
+    ghost func = { λ f. record { params = simple char ∷ []; param_names = []; results = simple char ∷ []; result_names = [] } };
+
+    fn params(&self, alloc: Global) -> Result<Vec<&CharType>, AllocError> {
+        Vec::from_slice(alloc, &[&self.char])
+    }
+
+    fn results(&self, alloc: Global) -> Result<Vec<&CharType>, AllocError> {
+        self.params(alloc)
+    }
+}
+
 fn function_text(rt: HostRuntime, call: Call) -> Result<String, Fail> {
     Ok(format!(in rt.alloc(); "{}", DisplayFunc::new(rt.alloc(), call))?)
 }

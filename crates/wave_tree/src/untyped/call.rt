@@ -1,6 +1,9 @@
 //! Calls that were read without types.
 ghost use Rattle.std.specs.Prelude.{◌≡◌, ℕ, IfOk, IfErr, option_map, map};
 ghost use Rattle.wave_tree.specs.Placed.{slice};
+ghost use Rattle.wave_tree.specs.Standing.{IsCausedInParams};
+ghost use Rattle.wave_lex.specs.declared.error.ParserErrorKind.TheVariants.{WasmValueError};
+ghost use Rattle.wave_tree.specs.AnswerLaws.{LiesInText};
 ghost use Rattle.wave_lex.specs.FunctionName.{IsName};
 ghost use Rattle.wave_wasm.specs.Lists.{AllOf};
 ghost use Rattle.wave_wasm.specs.Types.{HasDistinctNames};
@@ -26,6 +29,7 @@ pub fn parse_raw_func_call<'source>(
 ) -> Result<UntypedFuncCall<'source>, ParserError>
     ensures value { IfOk result (IsCalledOf source.now) }
     ensures refused { IfErr result (RefusesCall source.now) }
+    ensures within { IfErr result (λ e. LiesInText source.now e.span) }
 {
     let names = name_at(source)?;
     let name = names.span();
@@ -90,6 +94,7 @@ impl<'source> UntypedFuncCall<'source> {
     ) -> Result<UntypedFuncCall<'source>, ParserError>
         ensures value { IfOk result (IsCalledOf source.now) }
         ensures refused { IfErr result (RefusesCall source.now) }
+        ensures within { IfErr result (λ e. LiesInText source.now e.span) }
     {
         parse_raw_func_call(alloc, source)
     }
@@ -154,6 +159,8 @@ impl<'source> UntypedFuncCall<'source> {
     ) -> Result<Vec<V>, ParserError>
         ensures values { AllOf HasDistinctNames (map V.Type.tree types.now) → IfOk result (λ vs. GivesParamsAt V.tree V.is_of (map V.Type.tree types.now) self.now.source self.now.params vs.items) }
         ensures refused { AllOf HasDistinctNames (map V.Type.tree types.now) → IfErr result (RefusesParamsAt V.is_full (map V.Type.tree types.now) self.now.source self.now.name self.now.params) }
+        ensures within { IfErr result (λ e. LiesInText self.now.source e.span) }
+        ensures caused { IfErr result (λ e. e.kind ≡ WasmValueError → IsCausedInParams self.now.name self.now.params e) }
     {
         match &self.params {
             Some(params) => params.to_wasm_params(alloc, types, self.source.as_str()),

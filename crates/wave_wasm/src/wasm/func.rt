@@ -23,7 +23,7 @@ pub trait WasmFunc {
     fn param_names(&self, alloc: Global) -> Result<Vec<&str>, AllocError>
         ensures { IfOk result (λ v. AreNamesGiven (func self.now).params (func self.now).param_names (texts v.items)) }
     {
-        Ok(Vec::new(alloc))
+        no_names(alloc)
     }
 
     /// The types of the results.
@@ -34,6 +34,15 @@ pub trait WasmFunc {
     fn result_names(&self, alloc: Global) -> Result<Vec<&str>, AllocError>
         ensures { IfOk result (λ v. AreNamesGiven (func self.now).results (func self.now).result_names (texts v.items)) }
     {
-        Ok(Vec::new(alloc))
+        no_names(alloc)
     }
+}
+
+ghost use Rattle.std.specs.Prelude.{◌≡◌, IfOk, []};
+
+/// No names, for a function whose types have none.
+fn no_names<'a>(alloc: Global) -> Result<Vec<&'a str>, AllocError>
+    ensures { IfOk result (λ v. v.items ≡ []) }
+{
+    Ok(Vec::new(alloc))
 }

@@ -16,6 +16,7 @@ use Rattle.wave_tree.specs.Placed.{PlacedEntry}
 use Rattle.wave_tree.specs.Records.{names_of, HoldsFields}
 use Rattle.wave_tree.proofs.RecordEntries.{AreFieldsOf}
 use Rattle.wave_tree.proofs.RecordReads.{Removed, PartsDistinct, FieldsRead}
+use Rattle.wave_tree.proofs.Standing.{PairBelongs}
 use Rattle.wave_tree.proofs.ast.Node.+reading.Given as goal
 
 abbrev pub decreases-read : goal.decreases-read
@@ -50,7 +51,7 @@ decreases-read_map g l = 4 * depth (g.V.Type.WasmType.tree l.ty.now)
 
 abbrev pub invariant-read_map-entries : goal.invariant-read_map-entries
 invariant-read_map-entries g l =
-    SoFar g.V.WasmValue.tree g.V.WasmValue.is_of g.V.WasmValue.is_full l.src (g.V.Type.WasmType.tree l.key_type) (g.V.Type.WasmType.tree l.value_type) (node_pairs (children_of l.self)) l.nodes l.entries.items
+    SoFar g.V.WasmValue.tree g.V.WasmValue.is_of g.V.WasmValue.is_full l.src (g.V.Type.WasmType.tree l.key_type) (g.V.Type.WasmType.tree l.value_type) (node_pairs (children_of l.self)) l.nodes l.entries.items × AllOf (PairBelongs l.self) l.nodes
 
 abbrev pub decreases-read_map-entries : goal.decreases-read_map-entries
 decreases-read_map-entries g l = length l.nodes

@@ -17,7 +17,7 @@ slice-requires c =
 pub returns-then-not-contains_key-clause-refused : goal.returns-then-not-contains_key-clause-refused
 returns-then-not-contains_key-clause-refused c =
     let none : IsNoneOf (texts c.args.names.now.items) c.label_name-name.result.now = none_held c.in_ok-known.known (texts c.args.names.now.items) c.label_name-name.result.now c.contains_key.result c.in_ok-known.ensures.set c.contains_key.ensures c.if-not-contains_key.true in
-    flag_unknown (texts c.args.names.now.items) c.args.src.now c.args.self.now c.in_ok-nodes.nodes.now c.loop-node.node-index c.node-item.result c.label_name-name.result.now c.unknown_case.result c.in_ok-nodes.ensures.0 c.in_ok-nodes.ensures.1 c.loop-node-test.true c.node-item.is (c.label_name-name.ensures ∙ ap name_of c.slice.ensures) none c.unknown_case.ensures
+    flag_unknown (texts c.args.names.now.items) c.args.src.now c.args.self.now c.in_ok-nodes.nodes.now c.loop-node.node-index c.node-item.result c.label_name-name.result.now c.unknown_case.result c.in_ok-nodes.ensures.0 c.in_ok-nodes.ensures.1 c.loop-node-test.true c.node-item.is (c.label_name-name.ensures ∙ ap name_of c.slice.ensures) none c.unknown_case.ensures.cause
 
 pub loop-node-preserved : goal.loop-node-preserved
 loop-node-preserved c =

@@ -2,6 +2,7 @@ use Rattle.std.proofs.Common.{◌≡◌, ap, sym, ◌∙◌, arith}
 use Rattle.wave_tree.specs.Place.{Place}
 use Rattle.wave_tree.specs.Parsing.{Parsing, ahead_count}
 use Rattle.wave_tree.proofs.AtHand.{finish_at}
+use Rattle.wave_tree.proofs.Spans.{finishes_lie}
 use Rattle.wave_tree.proofs.parser.Parser.finish.Goals as goal
 use Rattle.wave_tree.proofs.parser.Parser.finish.Goals.{in-Some, in-None}
 
@@ -13,3 +14,12 @@ returns-clause-answer c =
       | in-None w ↦ let one : ahead_count c.self.inside.ahead ≡ 1 = ap (λ (z : Parsing). z.ahead) c.self.view_is ∙ c.look.ensures.looks in
           let none : ahead_count c.self.inside.ahead ≡ 0 = ap ahead_count w.in-None.is in absurd (omega arith)
     ]
+
+pub returns-clause-within : goal.returns-clause-within
+returns-clause-within c =
+    let here : c.args.self.now.place.lexer ≡ c.self.inside.lexer = sym (ap (λ (z : Parsing). z.place.lexer) c.self.view_is ∙ ap (λ (z : Place). z.lexer) c.look.ensures.stays) in
+    finishes_lie _ c.args.self.now.place c.here.ensures.inside (elim c.match-self.branch [
+      | in-Some w ↦ finish_at _ _ _ w.in-Some.ahead _ w.trailing.result here c.self.invariant.0 w.in-Some.is w.result-is w.trailing.ensures.end w.trailing.ensures.refused
+      | in-None w ↦ let one : ahead_count c.self.inside.ahead ≡ 1 = ap (λ (z : Parsing). z.ahead) c.self.view_is ∙ c.look.ensures.looks in
+          let none : ahead_count c.self.inside.ahead ≡ 0 = ap ahead_count w.in-None.is in absurd (omega arith)
+    ])
