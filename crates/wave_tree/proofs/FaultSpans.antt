@@ -221,11 +221,11 @@ module _ (source : List ℕ) (k : Refusal) (q : Range ℕ) where
     fault_lies (type.enum names) (at p (label r text payload)) h (inr f) = whole p q f.2.1 h.0.1.0.ordered
     fault_lies (type.enum names) (at p _) h f = whole p q f.1 h.0.1.0.ordered
     fault_lies (type.option P) (at p none) h f = absurd f
-    fault_lies (type.option P) (at p (some u)) h f = wider p.start p.end (span_of u).start (span_of u).end q h.1.0.0 h.1.0.1 (fault_lies P u h.1.1 f)
+    fault_lies (type.option P) (at p (some u)) h f = wider p.start p.end (span_of u).start (span_of u).end q (let a = h.1.0.0 in omega arith) h.1.0.1 (fault_lies P u h.1.1 f)
     fault_lies (type.option P) (at p s) h (inl f) = whole p q f.1.1 h.0.1.0.ordered
     fault_lies (type.option P) (at p s) h (inr f) = fault_lies P (at p s) h f.1
-    fault_lies (type.result A B) (at p (ok payload)) h f = payload_lies A _ payload p p.start p.end h.0.1.0.ordered (omega arith) (omega arith) h.1 f
-    fault_lies (type.result A B) (at p (err payload)) h f = payload_lies B _ payload p p.start p.end h.0.1.0.ordered (omega arith) (omega arith) h.1 f
+    fault_lies (type.result A B) (at p (ok payload)) h f = payload_lies A _ payload p (p.start + 1) p.end h.0.1.0.ordered (omega arith) (omega arith) h.1 f
+    fault_lies (type.result A B) (at p (err payload)) h f = payload_lies B _ payload p (p.start + 1) p.end h.0.1.0.ordered (omega arith) (omega arith) h.1 f
     fault_lies (type.result A B) (at p s) h f = flat_lies A (at p s) h f
     fault_lies (type.flags names) (at p (flags fs)) h f = whole p q (some_is _ p fs (λ x g. g.1.1) f) h.0.1.0.ordered
     fault_lies (type.flags names) (at p empty_braces) h f = absurd f

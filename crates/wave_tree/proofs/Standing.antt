@@ -109,6 +109,9 @@ case_between source p q w ns cs c t e flag h first o behind =
       (between source k.1 t p.start p.end k.4 (omega arith, behind.1), tt),
     )
 
+behind_word : (p : Range ℕ) (t : Placed) → LiesIn (span_of t) (p.start + 1) p.end → LiesIn (span_of t) p.start p.end
+behind_word p t l = let a = l.0 in (omega arith, l.1)
+
 shape_between : (source : List ℕ) (ty : NodeType) (p : Range ℕ) (text : List ℕ) (cs : List Placed) (s : Shape) (ns : List NodeTree) → From ty p text cs s → SpellsParts source p s → AreParsed source ns cs → AllOf (Between p.start p.end) ns
 shape_between source ty p text cs (one (token.label w)) ns f s h = none_between source p.start p.end ns cs f.0 h
 shape_between source ty p text cs (one (token.number w)) ns f s h = none_between source p.start p.end ns cs f.0 h
@@ -125,11 +128,11 @@ shape_between source ty p text cs (flags fs) ns f s h = flags_between source p n
 shape_between source ty p text cs (label q w no_placed) ns f s h = none_between source p.start p.end ns cs f.3 h
 shape_between source ty p text cs (label q w (a_placed t)) ns f s h = case_between source p q w ns cs f.1 t f.2 f.3 h s.0 s.1.0.ordered s.2.0
 shape_between source ty p text cs none ns f s h = none_between source p.start p.end ns cs f.1 h
-shape_between source ty p text cs (some t) ns f s h = one_between source p.start p.end ns cs t f.1 h s.0
+shape_between source ty p text cs (some t) ns f s h = one_between source p.start p.end ns cs t f.1 h (behind_word p t s.0)
 shape_between source ty p text cs (ok no_placed) ns f s h = none_between source p.start p.end ns cs f.1 h
-shape_between source ty p text cs (ok (a_placed t)) ns f s h = one_between source p.start p.end ns cs t f.1 h s.0
+shape_between source ty p text cs (ok (a_placed t)) ns f s h = one_between source p.start p.end ns cs t f.1 h (behind_word p t s.0)
 shape_between source ty p text cs (err no_placed) ns f s h = none_between source p.start p.end ns cs f.1 h
-shape_between source ty p text cs (err (a_placed t)) ns f s h = one_between source p.start p.end ns cs t f.1 h s.0
+shape_between source ty p text cs (err (a_placed t)) ns f s h = one_between source p.start p.end ns cs t f.1 h (behind_word p t s.0)
 
 children_between : (source : List ℕ) (n : NodeTree) (t : Placed) → IsNodeOf source n t → AllOf (Between (place_of n).start (place_of n).end) (children_of n)
 children_between source n (at r s) h =

@@ -60,6 +60,15 @@ sound_next p q c h sound =
 pub in_order : (p q : Place) (c : lex.Token) → Takes p (Some (Ok c)) q → q.lexer.start ≤ q.lexer.end
 in_order p q c h = let it = taken_is p q c h in let a = it.start in let b = it.end in omega (arith, a, b)
 
+-- a token has a byte
+not_empty : (p q : Place) (c : lex.Token) → Takes p (Some (Ok c)) q → q.lexer.start + 1 ≤ q.lexer.end
+not_empty p q c h =
+    let it = taken_is p q c h in
+    let a = it.start in
+    let b = it.end in
+    let some : 0 < it.k = front_positive (shape c) (drop it.g (remainder_of p.lexer)) it.k (shape_not_empty c) it.token_is.is.0 in
+    omega (arith, a, b, some)
+
 -- the source is cut where the token stands
 pub stands_after : (p q : Place) (c : lex.Token) → Takes p (Some (Ok c)) q → IsSound p → Stands p.lexer.source q.lexer.start q.lexer.end
 stands_after p q c h sound =
@@ -290,7 +299,7 @@ some_parsed n p m w q parsed h word_is open_there k =
     (λ sound. subst (λ z. placed_of p.lexer.source z ≡ Some (at (span m.lexer.start q.lexer.end) (some inner.means))) (sym k.is)
     (ap (λ o. option_map (at (span m.lexer.start q.lexer.end)) (and_then (with_both (λ t ts. t ∷ ts) o (Some [])) (shape_from kind.OptionSome (span m.lexer.start q.lexer.end) (slice p.lexer.source (span m.lexer.start q.lexer.end)))))
     (subst (λ z. placed_of z k.payload ≡ Some inner.means) it.source (inner.means_it (sound_next p m LabelOrKeyword h sound)))))
-    (λ sound. ((omega (arith, lies.0, in_order p m LabelOrKeyword h), lies.1), subst (λ z. SpellsEach z inner.means) it.source (inner.spells (sound_next p m LabelOrKeyword h sound))))
+    (λ sound. ((omega (arith, lies.0, not_empty p m LabelOrKeyword h), lies.1), subst (λ z. SpellsEach z inner.means) it.source (inner.spells (sound_next p m LabelOrKeyword h sound))))
     (inner.there (start_of p m) (token.label (text_at m)) (at_start p m (token.label (text_at m)) (token_there p m LabelOrKeyword h)), tt)
     (λ rest none_there. word_takes n some_word (text_at m) (inner.others ++ rest) (tree.some (tree_of inner.means)) rest word_is (tree_of inner.means, inner.inside rest, refl))
 
@@ -313,7 +322,7 @@ ok_parsed n p m q parsed h word_is (inr (w, open_there, k)) =
     (λ sound. subst (λ z. placed_of p.lexer.source z ≡ Some (at (span m.lexer.start q.lexer.end) (ok (a_placed inner.means)))) (sym k.is)
     (ap (λ o. option_map (at (span m.lexer.start q.lexer.end)) (and_then (with_both (λ t ts. t ∷ ts) o (Some [])) (shape_from kind.ResultOk (span m.lexer.start q.lexer.end) (slice p.lexer.source (span m.lexer.start q.lexer.end)))))
     (subst (λ z. placed_of z k.payload ≡ Some inner.means) it.source (inner.means_it (sound_next p m LabelOrKeyword h sound)))))
-    (λ sound. ((omega (arith, lies.0, in_order p m LabelOrKeyword h), lies.1), subst (λ z. SpellsEach z inner.means) it.source (inner.spells (sound_next p m LabelOrKeyword h sound))))
+    (λ sound. ((omega (arith, lies.0, not_empty p m LabelOrKeyword h), lies.1), subst (λ z. SpellsEach z inner.means) it.source (inner.spells (sound_next p m LabelOrKeyword h sound))))
     (inner.there (start_of p m) (token.label (text_at m)) (at_start p m (token.label (text_at m)) (token_there p m LabelOrKeyword h)), tt)
     (λ rest none_there. word_takes n ok_word (text_at m) (inner.others ++ rest) (tree.ok (tree.a_tree (tree_of inner.means))) rest word_is
     (tree.a_tree (tree_of inner.means), inr (tree_of inner.means, inner.inside rest, refl), refl))
@@ -331,7 +340,7 @@ err_parsed n p m q parsed h word_is (inr (w, open_there, k)) =
     (λ sound. subst (λ z. placed_of p.lexer.source z ≡ Some (at (span m.lexer.start q.lexer.end) (err (a_placed inner.means)))) (sym k.is)
     (ap (λ o. option_map (at (span m.lexer.start q.lexer.end)) (and_then (with_both (λ t ts. t ∷ ts) o (Some [])) (shape_from kind.ResultErr (span m.lexer.start q.lexer.end) (slice p.lexer.source (span m.lexer.start q.lexer.end)))))
     (subst (λ z. placed_of z k.payload ≡ Some inner.means) it.source (inner.means_it (sound_next p m LabelOrKeyword h sound)))))
-    (λ sound. ((omega (arith, lies.0, in_order p m LabelOrKeyword h), lies.1), subst (λ z. SpellsEach z inner.means) it.source (inner.spells (sound_next p m LabelOrKeyword h sound))))
+    (λ sound. ((omega (arith, lies.0, not_empty p m LabelOrKeyword h), lies.1), subst (λ z. SpellsEach z inner.means) it.source (inner.spells (sound_next p m LabelOrKeyword h sound))))
     (inner.there (start_of p m) (token.label (text_at m)) (at_start p m (token.label (text_at m)) (token_there p m LabelOrKeyword h)), tt)
     (λ rest none_there. word_takes n err_word (text_at m) (inner.others ++ rest) (tree.err (tree.a_tree (tree_of inner.means))) rest word_is
     (tree.a_tree (tree_of inner.means), inr (tree_of inner.means, inner.inside rest, refl), refl))

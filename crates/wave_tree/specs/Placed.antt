@@ -170,7 +170,7 @@ abbrev mutual
   pub SpellsEach : List ℕ → Placed → Type 0
   SpellsEach source (at p s) = SpellsAt source p (tree_of_shape s) × SpellsParts source p s × AllOf (StandsAtTokens source p) (part_places s)
 
-  -- so it is of the parts of a shape
+  -- so it is of the parts of a shape; the payload of `some`, `ok` or `err` begins behind the word, so behind its first byte
   pub SpellsParts : List ℕ → Range ℕ → Shape → Type 0
   SpellsParts source p (one token) = Unit {0}
   SpellsParts source p (tuple ts) = SpellsAll source p.start p.end ts
@@ -181,9 +181,9 @@ abbrev mutual
   SpellsParts source p (flags fs) = SpellsFlags source p fs
   SpellsParts source p (label q text payload) = LiesIn q p.start p.end × HoldsTokens source q (token.label text ∷ []) × SpellsMaybe source q.end p.end payload
   SpellsParts source p none = Unit {0}
-  SpellsParts source p (some t) = LiesIn (span_of t) p.start p.end × SpellsEach source t
-  SpellsParts source p (ok payload) = SpellsMaybe source p.start p.end payload
-  SpellsParts source p (err payload) = SpellsMaybe source p.start p.end payload
+  SpellsParts source p (some t) = LiesIn (span_of t) (p.start + 1) p.end × SpellsEach source t
+  SpellsParts source p (ok payload) = SpellsMaybe source (p.start + 1) p.end payload
+  SpellsParts source p (err payload) = SpellsMaybe source (p.start + 1) p.end payload
 
   -- so it is of a payload, between two places
   pub SpellsMaybe : List ℕ → ℕ → ℕ → MaybePlaced → Type 0
