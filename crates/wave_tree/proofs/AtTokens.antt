@@ -1,5 +1,5 @@
 -- The parts of a node stand at tokens of its slice.
-use Rattle.std.proofs.Common.{◌≡◌, ℕ, ◌≤◌, ◌+◌, ◌-◌, List, [], ◌∷◌, ◌++◌, sym, ap, subst, ◌∙◌, take, drop, arith, map}
+use Rattle.std.proofs.Common.{◌≡◌, ℕ, ◌≤◌, ◌+◌, ◌-◌, List, ◌∷◌, ◌++◌, sym, ap, subst, ◌∙◌, take, drop, arith, map}
 use Rattle.std.proofs.lemmas.List.{drop-drop}
 use Rattle.wave_lex.specs.Lexing.{IsGap, Front, remainder_of, span}
 use Rattle.wave_tree.specs.Token.{Token, lexeme_of}

@@ -1,21 +1,16 @@
 -- Faults of type stand within the tree.
-use Rattle.std.proofs.Common.{ℕ, zero, suc, ◌≡◌, ◌⊎◌, inl, inr, ◌<◌, ◌≤◌, ◌+◌, ◌-◌, Bool, true, false, if◌then◌else◌, List, [], ◌∷◌, ◌++◌, length, drop, length-append, length-take, length-drop, nat_eq, None, refl, sym, ap, subst, arith}
+use Rattle.std.proofs.Common.{ℕ, zero, suc, ◌≡◌, ◌⊎◌, inl, inr, ◌<◌, ◌≤◌, ◌+◌, ◌-◌, Bool, true, false, if◌then◌else◌, List, [], ◌∷◌, ◌++◌, length, drop, length-append, length-take, length-drop, nat_eq, refl, sym, ap, subst, arith}
 use Rattle.std.specs.declared.ops.Range.{Range}
 use Rattle.wave_wasm.specs.Lists.{SomeOf}
 use Rattle.wave_wasm.specs.Types as type
 use Rattle.wave_wasm.specs.Types.{TypeTree, MaybeType, Types, Fields, Cases, Simple, no_type, a_type, no_types, type_and, field, no_cases, case_of}
-use Rattle.std.specs.Result.{IsErrAnd, IfErr}
-use Rattle.std.proofs.Common.{Result, Ok, Err}
 use Rattle.wave_wasm.specs.Types.{HasDistinctNames}
-use Rattle.wave_lex.specs.Errors.{Refusal, refusal_of}
+use Rattle.wave_lex.specs.Errors.{Refusal}
 use Rattle.wave_lex.specs.declared.error.ParserError.{ParserError}
-use Rattle.wave_lex.specs.declared.error.ParserErrorKind.TheVariants as kind
 use Rattle.wave_tree.specs.Place.{Place, TakesTokens}
-use Rattle.wave_tree.specs.Refusals.{Says}
 use Rattle.wave_tree.specs.Parsing.{IsTrailing}
-use Rattle.wave_tree.specs.FromText.{start_of, TextFault, MeansNone, RefusesText}
+use Rattle.wave_tree.specs.FromText.{start_of}
 use Rattle.wave_tree.proofs.Spans.{tokens_inside, refusals_lie}
-use Rattle.wave_lex.specs.Lexing.{span}
 use Rattle.wave_lex.specs.Strings.{IsBadEscapeAt}
 use Rattle.wave_lex.specs.Multiline.{LineFault, closing, opening, indentation, escape, put_first, pieces, spaces, BadLine, BadLines, MultilineFault, fault_span}
 use Rattle.wave_tree.specs.Token.{Token, text_of}

@@ -1,21 +1,20 @@
 -- Where refusals of nodes stand.
-use Rattle.std.proofs.Common.{ℕ, ℤ, ◌≡◌, ◌+◌, ◌-◌, drop, length-take, length-append, ◌≢◌, ◌⊎◌, inl, inr, ◌≤◌, ◌<◌, List, [], ◌∷◌, length, get_or, map, Option, Some, None, Bor, Result, Ok, Err, IfOk, IfErr, refl, sym, ap, ◌∙◌, subst, arith}
-use Rattle.std.specs.Result.{IsErrAnd}
+use Rattle.std.proofs.Common.{ℕ, ℤ, ◌≡◌, ◌+◌, ◌-◌, drop, length-take, length-append, ◌≢◌, ◌⊎◌, inl, inr, ◌≤◌, ◌<◌, List, [], ◌∷◌, length, get_or, map, Option, Some, None, Bor, Result, Ok, Err, IfErr, refl, sym, ap, ◌∙◌, subst, arith}
 use Rattle.std.specs.declared.ops.Range.{Range}
 use Rattle.wave_wasm.specs.Lists.{AllOf}
 use Rattle.wave_wasm.specs.Causes.{Cause, cause_of}
 use Rattle.wave_wasm.specs.declared.wasm.WasmValueError.{WasmValueError}
 use Rattle.wave_wasm.specs.declared.wasm.WasmValueError.TheVariants as error
-use Rattle.wave_lex.specs.Errors.{Refusal, refusal_of, refused_by, caused, plainly}
+use Rattle.wave_lex.specs.Errors.{Refusal, refusal_of, refused_by, plainly}
 use Rattle.wave_lex.specs.declared.error.ParserError.{ParserError}
 use Rattle.wave_lex.specs.declared.error.ParserErrorKind.{ParserErrorKind}
 use Rattle.wave_lex.specs.declared.error.ParserErrorKind.TheVariants as why
 use Rattle.wave_lex.specs.Lexing.{Stands}
 use Rattle.wave_tree.specs.Token.{Token}
 use Rattle.wave_tree.specs.Token as token
-use Rattle.wave_tree.specs.Placed.{Placed, at, Shape, one, tuple, list, empty_braces, no_fields, entries, flags, label, none, some, ok, err, no_placed, a_placed, PlacedEntries, entry, placed_trees, slice, span_of, shape_of, LiesIn, SpellsEach, SpellsParts, SpellsAll, SpellsEntries, SpellsFlags}
+use Rattle.wave_tree.specs.Placed.{Placed, at, Shape, one, tuple, list, empty_braces, no_fields, entries, flags, label, none, some, ok, err, no_placed, a_placed, PlacedEntries, entry, placed_trees, slice, span_of, LiesIn, SpellsEach, SpellsParts, SpellsAll, SpellsEntries, SpellsFlags}
 use Rattle.wave_tree.specs.NodeTree.{NodeTree, NodeTrees, node, no_nodes, node_and, node_list, type_of, place_of, children_of}
-use Rattle.wave_tree.specs.Nodes.{placed_of, pairs_of, flags_of, flag_of, key_of, with_both, IsNodeOf, IsParsedFrom}
+use Rattle.wave_tree.specs.Nodes.{placed_of, pairs_of, flags_of, flag_of, key_of, IsNodeOf, IsParsedFrom}
 use Rattle.wave_wasm.specs.Types.{TypeTree}
 use Rattle.wave_wasm.specs.Values.{Value, Leaf}
 use Rattle.wave_tree.specs.Typed.{IsValueOf, IsMade, IsCaused, IsLeafMade}
@@ -31,7 +30,7 @@ use Rattle.wave_tree.proofs.RecordReads.{Removed, left_over, look_all}
 use Rattle.wave_tree.specs.CowText.{TellsStringFault, GivesString}
 use Rattle.wave_lex.specs.Multiline.{LineFault, closing, opening, indentation, escape, fault_kind}
 use Rattle.wave_wasm.specs.Types.{Whole}
-use Rattle.wave_tree.specs.Standing.{HasCause, IsAtPlace, IsAtNode, IsPartOf, IsPartOfOne, LiesInNode, IsCausedIn, StandsIn, StandsInPart}
+use Rattle.wave_tree.specs.Standing.{HasCause, IsAtPlace, IsAtNode, IsPartOf, IsPartOfOne, LiesInNode, StandsIn, StandsInPart}
 use Rattle.wave_tree.specs.declared.ast.NodeType.{NodeType}
 use Rattle.wave_tree.proofs.Inside.{From, inside, some_is, AreParsed, parsed, pair_parsed, nodes_in, nodes_are, key_place, flag_key, stands}
 use Rattle.wave_tree.proofs.Entries.{both_some}
