@@ -20,6 +20,7 @@ pub mod RefusedKinds
 pub mod Levels
 pub mod Examples
 pub mod BeginExamples
+pub mod PlaceExamples
 pub mod Going
 pub mod Askings
 pub mod Spans
