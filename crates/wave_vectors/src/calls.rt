@@ -1,7 +1,7 @@
 //! Worked rows of calls: how each is displayed, what its parameters are, or how it is refused.
 use crate::types::types_of;
 use std::test::Fail;
-use wasm_wave::parser::ParserError;
+use wasm_wave::parser::{ParserError, parse_raw_func_call};
 use wasm_wave::untyped::UntypedFuncCall;
 use wasm_wave::value::{Type, Value};
 use wasm_wave::wasm::DisplayFuncArgs;
@@ -100,5 +100,19 @@ fn owned_calls(rt: HostRuntime) -> Result<(), Fail> {
     ] {
         assert_eq!(rt; owned(rt, text)?.as_str(), expected);
     }
+    Ok(())
+}
+
+/// How the call is displayed that the parser's own function reads, or why it is refused.
+fn raw(rt: HostRuntime, text: &str) -> Result<String, Fail> {
+    match parse_raw_func_call(rt.alloc(), text) {
+        Ok(call) => Ok(call.to_string(rt.alloc())?),
+        Err(error) => Ok(format!(in rt.alloc(); "{error}")?),
+    }
+}
+
+#[test]
+fn raw_calls(rt: HostRuntime) -> Result<(), Fail> {
+    assert_eq!(rt; raw(rt, "f (1 , )")?.as_str(), "f(1)");
     Ok(())
 }

@@ -95,6 +95,7 @@ fn scalars(rt: HostRuntime) -> Result<(), Fail> {
             &[
                 ("-0", "invalid value at 0..2"),
                 ("1.0", "invalid value at 0..3"),
+                ("inf", "invalid value at 0..3"),
                 ("1//", "1"),
                 ("1 2", "trailing characters after value at 2..3"),
                 ("x y", "invalid value type at 0..1"),
