@@ -269,6 +269,13 @@ fn parts(rt: HostRuntime) -> Result<(), Fail> {
                 ),
             ][..],
         ),
+        (
+            "result<result<u8>>",
+            &[(
+                "ok(ok)",
+                "error converting Wasm value: missing payload for \"ok\" case at 3..5",
+            )][..],
+        ),
         ("result<bool>", &[("false", "ok(false)")][..]),
         (
             "option<option<u8>>",
