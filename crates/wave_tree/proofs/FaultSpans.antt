@@ -1,21 +1,16 @@
 -- Faults of type stand within the tree.
-use Rattle.std.proofs.Common.{ℕ, zero, suc, ◌≡◌, ◌⊎◌, inl, inr, ◌<◌, ◌≤◌, ◌+◌, ◌-◌, Bool, true, false, if◌then◌else◌, List, [], ◌∷◌, ◌++◌, length, drop, length-append, length-take, length-drop, nat_eq, None, refl, sym, ap, subst, arith}
+use Rattle.std.proofs.Common.{ℕ, zero, suc, ◌≡◌, ◌⊎◌, inl, inr, ◌<◌, ◌≤◌, ◌+◌, ◌-◌, Bool, true, false, if◌then◌else◌, List, [], ◌∷◌, ◌++◌, length, drop, length-append, length-take, length-drop, nat_eq, refl, sym, ap, subst, arith}
 use Rattle.std.specs.declared.ops.Range.{Range}
 use Rattle.wave_wasm.specs.Lists.{SomeOf}
 use Rattle.wave_wasm.specs.Types as type
 use Rattle.wave_wasm.specs.Types.{TypeTree, MaybeType, Types, Fields, Cases, Simple, no_type, a_type, no_types, type_and, field, no_cases, case_of}
-use Rattle.std.specs.Result.{IsErrAnd, IfErr}
-use Rattle.std.proofs.Common.{Result, Ok, Err}
 use Rattle.wave_wasm.specs.Types.{HasDistinctNames}
-use Rattle.wave_lex.specs.Errors.{Refusal, refusal_of}
+use Rattle.wave_lex.specs.Errors.{Refusal}
 use Rattle.wave_lex.specs.declared.error.ParserError.{ParserError}
-use Rattle.wave_lex.specs.declared.error.ParserErrorKind.TheVariants as kind
 use Rattle.wave_tree.specs.Place.{Place, TakesTokens}
-use Rattle.wave_tree.specs.Refusals.{Says}
 use Rattle.wave_tree.specs.Parsing.{IsTrailing}
-use Rattle.wave_tree.specs.FromText.{start_of, TextFault, MeansNone, RefusesText}
+use Rattle.wave_tree.specs.FromText.{start_of}
 use Rattle.wave_tree.proofs.Spans.{tokens_inside, refusals_lie}
-use Rattle.wave_lex.specs.Lexing.{span}
 use Rattle.wave_lex.specs.Strings.{IsBadEscapeAt}
 use Rattle.wave_lex.specs.Multiline.{LineFault, closing, opening, indentation, escape, put_first, pieces, spaces, BadLine, BadLines, MultilineFault, fault_span}
 use Rattle.wave_tree.specs.Token.{Token, text_of}
@@ -221,11 +216,11 @@ module _ (source : List ℕ) (k : Refusal) (q : Range ℕ) where
     fault_lies (type.enum names) (at p (label r text payload)) h (inr f) = whole p q f.2.1 h.0.1.0.ordered
     fault_lies (type.enum names) (at p _) h f = whole p q f.1 h.0.1.0.ordered
     fault_lies (type.option P) (at p none) h f = absurd f
-    fault_lies (type.option P) (at p (some u)) h f = wider p.start p.end (span_of u).start (span_of u).end q h.1.0.0 h.1.0.1 (fault_lies P u h.1.1 f)
+    fault_lies (type.option P) (at p (some u)) h f = wider p.start p.end (span_of u).start (span_of u).end q (let a = h.1.0.0 in omega arith) h.1.0.1 (fault_lies P u h.1.1 f)
     fault_lies (type.option P) (at p s) h (inl f) = whole p q f.1.1 h.0.1.0.ordered
     fault_lies (type.option P) (at p s) h (inr f) = fault_lies P (at p s) h f.1
-    fault_lies (type.result A B) (at p (ok payload)) h f = payload_lies A _ payload p p.start p.end h.0.1.0.ordered (omega arith) (omega arith) h.1 f
-    fault_lies (type.result A B) (at p (err payload)) h f = payload_lies B _ payload p p.start p.end h.0.1.0.ordered (omega arith) (omega arith) h.1 f
+    fault_lies (type.result A B) (at p (ok payload)) h f = payload_lies A _ payload p (p.start + 1) p.end h.0.1.0.ordered (omega arith) (omega arith) h.1 f
+    fault_lies (type.result A B) (at p (err payload)) h f = payload_lies B _ payload p (p.start + 1) p.end h.0.1.0.ordered (omega arith) (omega arith) h.1 f
     fault_lies (type.result A B) (at p s) h f = flat_lies A (at p s) h f
     fault_lies (type.flags names) (at p (flags fs)) h f = whole p q (some_is _ p fs (λ x g. g.1.1) f) h.0.1.0.ordered
     fault_lies (type.flags names) (at p empty_braces) h f = absurd f

@@ -29,6 +29,7 @@ pub mod AtHand
 pub mod Names
 pub mod Ordered
 pub mod FlagLoop
+pub mod AtTokens
 pub mod Slices
 pub mod Tying
 pub mod TyingItems

@@ -1,5 +1,5 @@
 -- Results, and values that stand for `ok` of themselves.
-use Rattle.std.proofs.Common.{ℕ, ◌≡◌, ◌≢◌, inl, inr, ◌<◌, List, [], ◌∷◌, Option, Some, None, option_map, Bor, Result, Ok, Err, IfOk, IfErr, MatchResult, codes, refl, sym, ap, ◌∙◌, subst, arith}
+use Rattle.std.proofs.Common.{ℕ, ◌≡◌, ◌≢◌, inl, inr, ◌<◌, ◌+◌, List, [], ◌∷◌, Option, Some, None, option_map, Bor, Result, Ok, Err, IfOk, IfErr, MatchResult, codes, refl, sym, ap, ◌∙◌, subst, arith}
 use Rattle.std.specs.declared.ops.Range.{Range}
 use Rattle.wave_wasm.specs.Lists.{AllOf}
 use Rattle.wave_wasm.specs.Types as type
@@ -94,7 +94,7 @@ ok_node source n (at r s) h e =
     let i = inside source n (at r s) h.0 in
     let c = ok_shape (place_of n) (slice source (place_of n)) i.children s (shape_at kind.ResultOk source n (at r s) i e) in
     let spelled : SpellsEach source (at r (ok c.0)) = subst (λ (x : Shape). SpellsEach source (at r x)) c.2 h.1 in
-    (c.0, c.2, payload_node source n i.children c.0 r.start r.end i.each c.1 spelled.1)
+    (c.0, c.2, payload_node source n i.children c.0 (r.start + 1) r.end i.each c.1 spelled.1)
 
 -- the payload of `err`
 pub err_node : (source : List ℕ) (n : NodeTree) (t : Placed) → IsNodeOf source n t → type_of n ≡ kind.ResultErr → (payload : MaybePlaced) × (shape_of t ≡ err payload) × IsPayloadNodeOf source (first_of (children_of n)) payload
@@ -102,7 +102,7 @@ err_node source n (at r s) h e =
     let i = inside source n (at r s) h.0 in
     let c = err_shape (place_of n) (slice source (place_of n)) i.children s (shape_at kind.ResultErr source n (at r s) i e) in
     let spelled : SpellsEach source (at r (err c.0)) = subst (λ (x : Shape). SpellsEach source (at r x)) c.2 h.1 in
-    (c.0, c.2, payload_node source n i.children c.0 r.start r.end i.each c.1 spelled.1)
+    (c.0, c.2, payload_node source n i.children c.0 (r.start + 1) r.end i.each c.1 spelled.1)
 
 -- what is answered at `ok` is its payload
 pub given_ok : (source : List ℕ) (n : NodeTree) (t : Placed) (o : Option (Bor NodeTree)) → IsNodeOf source n t → GivesResult n (Ok (Ok o)) → (payload : MaybePlaced) × (shape_of t ≡ ok payload) × IsPayloadNodeOf source (shown_node o) payload

@@ -36,7 +36,7 @@ front_uncut p r k n f =
     record { scalars = f.scalars; fits = omega (arith, a, b); spelled = f.spelled ∙ take-take k n r c; has = f.has }
 
 -- the gap before a token is that of each beginning that has it
-gap_cut : (s : List ℕ) (g n : ℕ) → g ≤ n → IsGap s g → IsGap (take n s) g
+pub gap_cut : (s : List ℕ) (g n : ℕ) → g ≤ n → IsGap s g → IsGap (take n s) g
 gap_cut s g n l h = (front_cut gap s g n l h.0, λ j f. h.1 j (front_uncut gap s j n f))
 
 -- no gap stands at a beginning either
@@ -189,7 +189,7 @@ taken_is p q c ((g, k, h, t), n) =
     }
 
 -- a cut text behind some of its bytes
-drop_cut : (n k : ℕ) (r : List ℕ) → k ≤ n → drop k (take n r) ≡ take (n - k) (drop k r)
+pub drop_cut : (n k : ℕ) (r : List ℕ) → k ≤ n → drop k (take n r) ≡ take (n - k) (drop k r)
 drop_cut n k r l = ap (λ z. drop k (take z r)) (omega (arith, l)) ∙ drop-take k (n - k) r
 
 -- the lexer only goes forward

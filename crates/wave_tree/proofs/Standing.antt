@@ -1,21 +1,20 @@
 -- Where refusals of nodes stand.
-use Rattle.std.proofs.Common.{ℕ, ℤ, ◌≡◌, ◌+◌, ◌-◌, drop, length-take, length-append, ◌≢◌, ◌⊎◌, inl, inr, ◌≤◌, ◌<◌, List, [], ◌∷◌, length, get_or, map, Option, Some, None, Bor, Result, Ok, Err, IfOk, IfErr, refl, sym, ap, ◌∙◌, subst, arith}
-use Rattle.std.specs.Result.{IsErrAnd}
+use Rattle.std.proofs.Common.{ℕ, ℤ, ◌≡◌, ◌+◌, ◌-◌, drop, length-take, length-append, ◌≢◌, ◌⊎◌, inl, inr, ◌≤◌, ◌<◌, List, [], ◌∷◌, length, get_or, map, Option, Some, None, Bor, Result, Ok, Err, IfErr, refl, sym, ap, ◌∙◌, subst, arith}
 use Rattle.std.specs.declared.ops.Range.{Range}
 use Rattle.wave_wasm.specs.Lists.{AllOf}
 use Rattle.wave_wasm.specs.Causes.{Cause, cause_of}
 use Rattle.wave_wasm.specs.declared.wasm.WasmValueError.{WasmValueError}
 use Rattle.wave_wasm.specs.declared.wasm.WasmValueError.TheVariants as error
-use Rattle.wave_lex.specs.Errors.{Refusal, refusal_of, refused_by, caused, plainly}
+use Rattle.wave_lex.specs.Errors.{Refusal, refusal_of, refused_by, plainly}
 use Rattle.wave_lex.specs.declared.error.ParserError.{ParserError}
 use Rattle.wave_lex.specs.declared.error.ParserErrorKind.{ParserErrorKind}
 use Rattle.wave_lex.specs.declared.error.ParserErrorKind.TheVariants as why
 use Rattle.wave_lex.specs.Lexing.{Stands}
 use Rattle.wave_tree.specs.Token.{Token}
 use Rattle.wave_tree.specs.Token as token
-use Rattle.wave_tree.specs.Placed.{Placed, at, Shape, one, tuple, list, empty_braces, no_fields, entries, flags, label, none, some, ok, err, no_placed, a_placed, PlacedEntries, entry, placed_trees, slice, span_of, shape_of, LiesIn, SpellsEach, SpellsParts, SpellsAll, SpellsEntries, SpellsFlags}
+use Rattle.wave_tree.specs.Placed.{Placed, at, Shape, one, tuple, list, empty_braces, no_fields, entries, flags, label, none, some, ok, err, no_placed, a_placed, PlacedEntries, entry, placed_trees, slice, span_of, LiesIn, SpellsEach, SpellsParts, SpellsAll, SpellsEntries, SpellsFlags}
 use Rattle.wave_tree.specs.NodeTree.{NodeTree, NodeTrees, node, no_nodes, node_and, node_list, type_of, place_of, children_of}
-use Rattle.wave_tree.specs.Nodes.{placed_of, pairs_of, flags_of, flag_of, key_of, with_both, IsNodeOf, IsParsedFrom}
+use Rattle.wave_tree.specs.Nodes.{placed_of, pairs_of, flags_of, flag_of, key_of, IsNodeOf, IsParsedFrom}
 use Rattle.wave_wasm.specs.Types.{TypeTree}
 use Rattle.wave_wasm.specs.Values.{Value, Leaf}
 use Rattle.wave_tree.specs.Typed.{IsValueOf, IsMade, IsCaused, IsLeafMade}
@@ -31,7 +30,7 @@ use Rattle.wave_tree.proofs.RecordReads.{Removed, left_over, look_all}
 use Rattle.wave_tree.specs.CowText.{TellsStringFault, GivesString}
 use Rattle.wave_lex.specs.Multiline.{LineFault, closing, opening, indentation, escape, fault_kind}
 use Rattle.wave_wasm.specs.Types.{Whole}
-use Rattle.wave_tree.specs.Standing.{HasCause, IsAtPlace, IsAtNode, IsPartOf, IsPartOfOne, LiesInNode, IsCausedIn, StandsIn, StandsInPart}
+use Rattle.wave_tree.specs.Standing.{HasCause, IsAtPlace, IsAtNode, IsPartOf, IsPartOfOne, LiesInNode, StandsIn, StandsInPart}
 use Rattle.wave_tree.specs.declared.ast.NodeType.{NodeType}
 use Rattle.wave_tree.proofs.Inside.{From, inside, some_is, AreParsed, parsed, pair_parsed, nodes_in, nodes_are, key_place, flag_key, stands}
 use Rattle.wave_tree.proofs.Entries.{both_some}
@@ -109,6 +108,9 @@ case_between source p q w ns cs c t e flag h first o behind =
       (between source k.1 t p.start p.end k.4 (omega arith, behind.1), tt),
     )
 
+behind_word : (p : Range ℕ) (t : Placed) → LiesIn (span_of t) (p.start + 1) p.end → LiesIn (span_of t) p.start p.end
+behind_word p t l = let a = l.0 in (omega arith, l.1)
+
 shape_between : (source : List ℕ) (ty : NodeType) (p : Range ℕ) (text : List ℕ) (cs : List Placed) (s : Shape) (ns : List NodeTree) → From ty p text cs s → SpellsParts source p s → AreParsed source ns cs → AllOf (Between p.start p.end) ns
 shape_between source ty p text cs (one (token.label w)) ns f s h = none_between source p.start p.end ns cs f.0 h
 shape_between source ty p text cs (one (token.number w)) ns f s h = none_between source p.start p.end ns cs f.0 h
@@ -125,11 +127,11 @@ shape_between source ty p text cs (flags fs) ns f s h = flags_between source p n
 shape_between source ty p text cs (label q w no_placed) ns f s h = none_between source p.start p.end ns cs f.3 h
 shape_between source ty p text cs (label q w (a_placed t)) ns f s h = case_between source p q w ns cs f.1 t f.2 f.3 h s.0 s.1.0.ordered s.2.0
 shape_between source ty p text cs none ns f s h = none_between source p.start p.end ns cs f.1 h
-shape_between source ty p text cs (some t) ns f s h = one_between source p.start p.end ns cs t f.1 h s.0
+shape_between source ty p text cs (some t) ns f s h = one_between source p.start p.end ns cs t f.1 h (behind_word p t s.0)
 shape_between source ty p text cs (ok no_placed) ns f s h = none_between source p.start p.end ns cs f.1 h
-shape_between source ty p text cs (ok (a_placed t)) ns f s h = one_between source p.start p.end ns cs t f.1 h s.0
+shape_between source ty p text cs (ok (a_placed t)) ns f s h = one_between source p.start p.end ns cs t f.1 h (behind_word p t s.0)
 shape_between source ty p text cs (err no_placed) ns f s h = none_between source p.start p.end ns cs f.1 h
-shape_between source ty p text cs (err (a_placed t)) ns f s h = one_between source p.start p.end ns cs t f.1 h s.0
+shape_between source ty p text cs (err (a_placed t)) ns f s h = one_between source p.start p.end ns cs t f.1 h (behind_word p t s.0)
 
 children_between : (source : List ℕ) (n : NodeTree) (t : Placed) → IsNodeOf source n t → AllOf (Between (place_of n).start (place_of n).end) (children_of n)
 children_between source n (at r s) h =

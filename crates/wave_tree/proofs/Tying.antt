@@ -7,6 +7,7 @@ use Rattle.std.specs.declared.ops.Range.{Range}
 use Rattle.std.specs.Str.{IsUtf8, IsCharBoundary}
 use Rattle.std.proofs.lemmas.List.{append-nil, drop-drop, take-append-drop}
 use Rattle.std.proofs.lemmas.Str.{IsUtf8-drop, IsCharBoundary-from_rest}
+use Rattle.wave_wasm.specs.Lists.{AllOf}
 use Rattle.wave_wasm.specs.Names.{is_one_of}
 use Rattle.wave_lex.specs.declared.lex.Token as lex
 use Rattle.wave_lex.specs.declared.lex.Token.TheVariants.{ParenOpen, ParenClose, Number, LabelOrKeyword, Char, String, MultilineString}
@@ -22,13 +23,14 @@ use Rattle.wave_tree.specs.Place.{Place, Takes, TakesToken, TakesTokens, token_o
 use Rattle.wave_tree.specs.Tree as tree
 use Rattle.wave_tree.specs.Tree.{Tree, ATree, BehindWord, word_of, leaf_word, none_word, some_word, ok_word, err_word, case_word, MaybeInParens}
 use Rattle.wave_tree.specs.Reads.{InParens}
-use Rattle.wave_tree.specs.Placed.{Placed, at, Shape, one, none, some, ok, err, label, no_placed, a_placed, HoldsTokens, SpellsParts, SpellsEach, LiesIn, span_of, tree_of, tree_of_shape, slice}
+use Rattle.wave_tree.specs.Placed.{Placed, at, Shape, one, none, some, ok, err, label, no_placed, a_placed, HoldsTokens, SpellsParts, SpellsEach, StandsAtTokens, part_places, LiesIn, span_of, tree_of, tree_of_shape, slice}
 use Rattle.wave_tree.specs.NodeTree.{NodeTree, node, no_nodes}
 use Rattle.wave_tree.specs.Nodes.{placed_of, shape_from, and_then, with_both}
 use Rattle.wave_tree.specs.declared.ast.NodeType.{NodeType}
 use Rattle.wave_tree.specs.declared.ast.NodeType.TheVariants as kind
 use Rattle.wave_tree.specs.Parsed.{IsSound, NoParen, IsParsed, IsPayload, IsMaybe}
 use Rattle.wave_tree.proofs.Going.{tokens_join, token_there}
+use Rattle.wave_tree.proofs.AtTokens.{part_at}
 use Rattle.wave_tree.proofs.Slices.{Taken, taken_is, gap_zero, tokens_front, tokens_forward, gap_none}
 
 -- ---- sound places
@@ -57,6 +59,15 @@ sound_next p q c h sound =
 -- the span of a token
 pub in_order : (p q : Place) (c : lex.Token) → Takes p (Some (Ok c)) q → q.lexer.start ≤ q.lexer.end
 in_order p q c h = let it = taken_is p q c h in let a = it.start in let b = it.end in omega (arith, a, b)
+
+-- a token has a byte
+not_empty : (p q : Place) (c : lex.Token) → Takes p (Some (Ok c)) q → q.lexer.start + 1 ≤ q.lexer.end
+not_empty p q c h =
+    let it = taken_is p q c h in
+    let a = it.start in
+    let b = it.end in
+    let some : 0 < it.k = front_positive (shape c) (drop it.g (remainder_of p.lexer)) it.k (shape_not_empty c) it.token_is.is.0 in
+    omega (arith, a, b, some)
 
 -- the source is cut where the token stands
 pub stands_after : (p q : Place) (c : lex.Token) → Takes p (Some (Ok c)) q → IsSound p → Stands p.lexer.source q.lexer.start q.lexer.end
@@ -92,10 +103,10 @@ sound_tokens p q (t ∷ ts) (m, (c, h, e), more) sound = sound_tokens m q ts mor
 -- ---- a node's slice
 
 -- the place where a token starts
-abbrev start_of : Place → Place → Place
+abbrev pub start_of : Place → Place → Place
 start_of p m = record { lexer = record { source = p.lexer.source; start = m.lexer.start; end = m.lexer.start }; taken = p.taken }
 
-at_start : (p m : Place) (t : Token) → TakesToken p t m → TakesToken (start_of p m) t m
+pub at_start : (p m : Place) (t : Token) → TakesToken p t m → TakesToken (start_of p m) t m
 at_start p m t (c, h, e) =
     let it = taken_is p m c h in
     let left : remainder_of (start_of p m).lexer ≡ drop it.g (remainder_of p.lexer) = ap (λ z. drop z p.lexer.source) it.start ∙ sym (drop-drop it.g p.lexer.end p.lexer.source) in (
@@ -153,8 +164,9 @@ holds p m q t ts sound (c, h, e) more =
 pub made : (n : ℕ) (p m q : Place) (t : Token) (ts : List Token) (parsed : NodeTree) (s : Shape) → TakesToken p t m → TakesTokens m ts q →
     (IsSound p → placed_of p.lexer.source parsed ≡ Some (at (span m.lexer.start q.lexer.end) s)) →
     (IsSound p → SpellsParts p.lexer.source (span m.lexer.start q.lexer.end) s) →
+    AllOf (StandsAtTokens p.lexer.source (span m.lexer.start q.lexer.end)) (part_places s) →
     ((rest : List Token) → NoParen rest → tree.Takes n (t ∷ (ts ++ rest)) (tree_of_shape s) rest) → IsParsed n p q parsed
-made n p m q t ts parsed s first others means parts takes = record {
+made n p m q t ts parsed s first others means parts places takes = record {
   first = m;
   token = t;
   others = ts;
@@ -162,7 +174,7 @@ made n p m q t ts parsed s first others means parts takes = record {
   taken = others;
   placed = at (span m.lexer.start q.lexer.end) s;
   spans = refl;
-  is_node = λ sound. (means sound, ((t ∷ ts, holds p m q t ts sound first others, (n, subst (λ z. tree.Takes n (t ∷ z) (tree_of_shape s) []) (append-nil ts) (takes [] (λ more e. cc)))), parts sound));
+  is_node = λ sound. (means sound, ((t ∷ ts, holds p m q t ts sound first others, (n, subst (λ z. tree.Takes n (t ∷ z) (tree_of_shape s) []) (append-nil ts) (takes [] (λ more e. cc)))), parts sound, places));
   takes = takes;
 }
 
@@ -180,11 +192,12 @@ takes_less (suc n) l tokens t rest h = let e : suc n - 1 ≡ n = omega arith in 
 -- a node of one token, of a shape without parts
 pub one_token : (n : ℕ) (p m : Place) (c : lex.Token) (ty : NodeType) (s : Shape) → Takes p (Some (Ok c)) m → shape_from ty (span_at m) (text_at m) [] ≡ Some s →
     (IsSound p → SpellsParts p.lexer.source (span_at m) s) →
+    AllOf (StandsAtTokens p.lexer.source (span_at m)) (part_places s) →
     ((rest : List Token) → NoParen rest → tree.Takes n (token_of c (text_at m) ∷ rest) (tree_of_shape s) rest) → IsParsed n p m (node ty (span_at m) no_nodes)
-one_token n p m c ty s h shape_is parts takes =
+one_token n p m c ty s h shape_is parts places takes =
     made n p m m (token_of c (text_at m)) [] (node ty (span_at m) no_nodes) s (token_there p m c h) refl
     (λ sound. ap (option_map (at (span_at m))) (ap (λ z. shape_from ty (span_at m) (slice_range z m.lexer.start m.lexer.end) []) (sym (taken_is p m c h).source) ∙ shape_is))
-    parts takes
+    parts places takes
 
 -- no number begins as a label does
 number_begins : (p m : Place) (x : ℕ) (w : List ℕ) → Takes p (Some (Ok Number)) m → encode_utf8 x ≡ x ∷ [] → class_of x ≡ Some LabelOrKeyword → text_at m ≡ x ∷ w → ⊥
@@ -209,17 +222,17 @@ number_alone p m h =
 -- a number, a char, a string and a multiline string
 pub number_parsed : (n : ℕ) (p m : Place) → 0 < n → Takes p (Some (Ok Number)) m → IsParsed n p m (node kind.Number (span_at m) no_nodes)
 number_parsed n p m l h = one_token n p m Number kind.Number (one (token.number (text_at m))) h
-    (ap (λ b. Some (one (if b then token.label (text_at m) else token.number (text_at m)))) (number_alone p m h)) (λ sound. tt)
+    (ap (λ b. Some (one (if b then token.label (text_at m) else token.number (text_at m)))) (number_alone p m h)) (λ sound. tt) tt
     (λ rest k. takes_less n l _ _ rest (refl, refl))
 
 pub char_parsed : (n : ℕ) (p m : Place) → 0 < n → Takes p (Some (Ok Char)) m → IsParsed n p m (node kind.Char (span_at m) no_nodes)
-char_parsed n p m l h = one_token n p m Char kind.Char (one (token.char (text_at m))) h refl (λ sound. tt) (λ rest k. takes_less n l _ _ rest (refl, refl))
+char_parsed n p m l h = one_token n p m Char kind.Char (one (token.char (text_at m))) h refl (λ sound. tt) tt (λ rest k. takes_less n l _ _ rest (refl, refl))
 
 pub string_parsed : (n : ℕ) (p m : Place) → 0 < n → Takes p (Some (Ok String)) m → IsParsed n p m (node kind.String (span_at m) no_nodes)
-string_parsed n p m l h = one_token n p m String kind.String (one (token.string (text_at m))) h refl (λ sound. tt) (λ rest k. takes_less n l _ _ rest (refl, refl))
+string_parsed n p m l h = one_token n p m String kind.String (one (token.string (text_at m))) h refl (λ sound. tt) tt (λ rest k. takes_less n l _ _ rest (refl, refl))
 
 pub multiline_parsed : (n : ℕ) (p m : Place) → 0 < n → Takes p (Some (Ok MultilineString)) m → IsParsed n p m (node kind.MultilineString (span_at m) no_nodes)
-multiline_parsed n p m l h = one_token n p m MultilineString kind.MultilineString (one (token.multiline (text_at m))) h refl (λ sound. tt) (λ rest k. takes_less n l _ _ rest (refl, refl))
+multiline_parsed n p m l h = one_token n p m MultilineString kind.MultilineString (one (token.multiline (text_at m))) h refl (λ sound. tt) tt (λ rest k. takes_less n l _ _ rest (refl, refl))
 
 -- ---- labels
 
@@ -230,11 +243,11 @@ word_takes n w text behind t rest e h = takes_plus n (token.label text ∷ behin
 -- a label that is a leaf
 pub word_parsed : (n : ℕ) (p m : Place) (ty : NodeType) → Takes p (Some (Ok LabelOrKeyword)) m → word_of (text_at m) ≡ leaf_word →
     shape_from ty (span_at m) (text_at m) [] ≡ Some (one (token.label (text_at m))) → IsParsed (n + 1) p m (node ty (span_at m) no_nodes)
-word_parsed n p m ty h w e = one_token (n + 1) p m LabelOrKeyword ty (one (token.label (text_at m))) h e (λ sound. tt)
+word_parsed n p m ty h w e = one_token (n + 1) p m LabelOrKeyword ty (one (token.label (text_at m))) h e (λ sound. tt) tt
     (λ rest k. word_takes n leaf_word (text_at m) rest (tree.one (token.label (text_at m))) rest w (refl, refl))
 
 pub none_parsed : (n : ℕ) (p m : Place) → Takes p (Some (Ok LabelOrKeyword)) m → word_of (text_at m) ≡ none_word → IsParsed (n + 1) p m (node kind.OptionNone (span_at m) no_nodes)
-none_parsed n p m h w = one_token (n + 1) p m LabelOrKeyword kind.OptionNone none h refl (λ sound. tt)
+none_parsed n p m h w = one_token (n + 1) p m LabelOrKeyword kind.OptionNone none h refl (λ sound. tt) tt
     (λ rest k. word_takes n none_word (text_at m) rest tree.none rest w (refl, refl))
 
 -- ---- payloads
@@ -247,6 +260,7 @@ record InParentheses (n : ℕ) (m q : Place) (payload : NodeTree) : Type 0 where
   pub means_it : IsSound m → placed_of m.lexer.source payload ≡ Some means
   pub lies : LiesIn (span_of means) m.lexer.end q.lexer.end
   pub spells : IsSound m → SpellsEach m.lexer.source means
+  pub there : (p : Place) (t : Token) → TakesToken p t m → StandsAtTokens p.lexer.source (span p.lexer.end q.lexer.end) (span_of means)
   pub inside : (rest : List Token) → InParens (tree.Takes n) (others ++ rest) (tree_of means) rest
 
 in_parentheses : (n : ℕ) (m w q : Place) (ty : NodeType) (start : ℕ) (front : List NodeTree) (parsed : NodeTree) → Takes m (Some (Ok ParenOpen)) w → (h : IsPayload n ty start front w q parsed) → InParentheses n m q h.payload
@@ -267,6 +281,9 @@ in_parentheses n m w q ty start front parsed open_there h =
       means_it = λ sound. subst (λ z. placed_of z h.payload ≡ Some inner.placed) same (inner.is_node (sound_next m w ParenOpen open_there sound)).0;
       lies = subst (λ (z : Range ℕ). LiesIn z m.lexer.end q.lexer.end) (sym spans) (omega (arith, a, b), omega (arith, c));
       spells = λ sound. subst (λ z. SpellsEach z inner.placed) same (inner.is_node (sound_next m w ParenOpen open_there sound)).1;
+      there = λ p t before.
+          subst (λ (z : Range ℕ). StandsAtTokens p.lexer.source (span p.lexer.end q.lexer.end) z) (sym spans)
+          (part_at p w inner.first h.behind q inner.token (t ∷ paren_open ∷ []) inner.others (paren_close ∷ []) (m, before, (w, (ParenOpen, open_there, refl), refl)) inner.begins inner.taken close_taken);
       inside = λ rest. (inner.token ∷ (inner.others ++ paren_close ∷ rest), ap (λ z. paren_open ∷ inner.token ∷ z) (append_assoc inner.others (paren_close ∷ []) rest), inner.takes (paren_close ∷ rest) (λ more e. cc));
     }
 
@@ -282,7 +299,8 @@ some_parsed n p m w q parsed h word_is open_there k =
     (λ sound. subst (λ z. placed_of p.lexer.source z ≡ Some (at (span m.lexer.start q.lexer.end) (some inner.means))) (sym k.is)
     (ap (λ o. option_map (at (span m.lexer.start q.lexer.end)) (and_then (with_both (λ t ts. t ∷ ts) o (Some [])) (shape_from kind.OptionSome (span m.lexer.start q.lexer.end) (slice p.lexer.source (span m.lexer.start q.lexer.end)))))
     (subst (λ z. placed_of z k.payload ≡ Some inner.means) it.source (inner.means_it (sound_next p m LabelOrKeyword h sound)))))
-    (λ sound. ((omega (arith, lies.0, in_order p m LabelOrKeyword h), lies.1), subst (λ z. SpellsEach z inner.means) it.source (inner.spells (sound_next p m LabelOrKeyword h sound))))
+    (λ sound. ((omega (arith, lies.0, not_empty p m LabelOrKeyword h), lies.1), subst (λ z. SpellsEach z inner.means) it.source (inner.spells (sound_next p m LabelOrKeyword h sound))))
+    (inner.there (start_of p m) (token.label (text_at m)) (at_start p m (token.label (text_at m)) (token_there p m LabelOrKeyword h)), tt)
     (λ rest none_there. word_takes n some_word (text_at m) (inner.others ++ rest) (tree.some (tree_of inner.means)) rest word_is (tree_of inner.means, inner.inside rest, refl))
 
 -- ---- labels with a payload, or without
@@ -294,7 +312,7 @@ same_place n p m q ty parsed e f h = subst (λ z. IsParsed n p z parsed) (sym e)
 -- `ok`, and its payload if it has one
 pub ok_parsed : (n : ℕ) (p m q : Place) (parsed : NodeTree) → Takes p (Some (Ok LabelOrKeyword)) m → word_of (text_at m) ≡ ok_word → IsMaybe n kind.ResultOk kind.ResultOk m q parsed → IsParsed (n + 1) p q parsed
 ok_parsed n p m q parsed h word_is (inl (same, is)) = same_place (n + 1) p m q kind.ResultOk parsed same is
-    (one_token (n + 1) p m LabelOrKeyword kind.ResultOk (ok no_placed) h refl (λ sound. tt)
+    (one_token (n + 1) p m LabelOrKeyword kind.ResultOk (ok no_placed) h refl (λ sound. tt) tt
     (λ rest k. word_takes n ok_word (text_at m) rest (tree.ok tree.no_tree) rest word_is (tree.no_tree, inl (refl, k, refl), refl)))
 ok_parsed n p m q parsed h word_is (inr (w, open_there, k)) =
     let inner = in_parentheses n m w q kind.ResultOk m.lexer.start [] parsed open_there k in
@@ -304,14 +322,15 @@ ok_parsed n p m q parsed h word_is (inr (w, open_there, k)) =
     (λ sound. subst (λ z. placed_of p.lexer.source z ≡ Some (at (span m.lexer.start q.lexer.end) (ok (a_placed inner.means)))) (sym k.is)
     (ap (λ o. option_map (at (span m.lexer.start q.lexer.end)) (and_then (with_both (λ t ts. t ∷ ts) o (Some [])) (shape_from kind.ResultOk (span m.lexer.start q.lexer.end) (slice p.lexer.source (span m.lexer.start q.lexer.end)))))
     (subst (λ z. placed_of z k.payload ≡ Some inner.means) it.source (inner.means_it (sound_next p m LabelOrKeyword h sound)))))
-    (λ sound. ((omega (arith, lies.0, in_order p m LabelOrKeyword h), lies.1), subst (λ z. SpellsEach z inner.means) it.source (inner.spells (sound_next p m LabelOrKeyword h sound))))
+    (λ sound. ((omega (arith, lies.0, not_empty p m LabelOrKeyword h), lies.1), subst (λ z. SpellsEach z inner.means) it.source (inner.spells (sound_next p m LabelOrKeyword h sound))))
+    (inner.there (start_of p m) (token.label (text_at m)) (at_start p m (token.label (text_at m)) (token_there p m LabelOrKeyword h)), tt)
     (λ rest none_there. word_takes n ok_word (text_at m) (inner.others ++ rest) (tree.ok (tree.a_tree (tree_of inner.means))) rest word_is
     (tree.a_tree (tree_of inner.means), inr (tree_of inner.means, inner.inside rest, refl), refl))
 
 -- `err`, and its payload if it has one
 pub err_parsed : (n : ℕ) (p m q : Place) (parsed : NodeTree) → Takes p (Some (Ok LabelOrKeyword)) m → word_of (text_at m) ≡ err_word → IsMaybe n kind.ResultErr kind.ResultErr m q parsed → IsParsed (n + 1) p q parsed
 err_parsed n p m q parsed h word_is (inl (same, is)) = same_place (n + 1) p m q kind.ResultErr parsed same is
-    (one_token (n + 1) p m LabelOrKeyword kind.ResultErr (err no_placed) h refl (λ sound. tt)
+    (one_token (n + 1) p m LabelOrKeyword kind.ResultErr (err no_placed) h refl (λ sound. tt) tt
     (λ rest k. word_takes n err_word (text_at m) rest (tree.err tree.no_tree) rest word_is (tree.no_tree, inl (refl, k, refl), refl)))
 err_parsed n p m q parsed h word_is (inr (w, open_there, k)) =
     let inner = in_parentheses n m w q kind.ResultErr m.lexer.start [] parsed open_there k in
@@ -321,7 +340,8 @@ err_parsed n p m q parsed h word_is (inr (w, open_there, k)) =
     (λ sound. subst (λ z. placed_of p.lexer.source z ≡ Some (at (span m.lexer.start q.lexer.end) (err (a_placed inner.means)))) (sym k.is)
     (ap (λ o. option_map (at (span m.lexer.start q.lexer.end)) (and_then (with_both (λ t ts. t ∷ ts) o (Some [])) (shape_from kind.ResultErr (span m.lexer.start q.lexer.end) (slice p.lexer.source (span m.lexer.start q.lexer.end)))))
     (subst (λ z. placed_of z k.payload ≡ Some inner.means) it.source (inner.means_it (sound_next p m LabelOrKeyword h sound)))))
-    (λ sound. ((omega (arith, lies.0, in_order p m LabelOrKeyword h), lies.1), subst (λ z. SpellsEach z inner.means) it.source (inner.spells (sound_next p m LabelOrKeyword h sound))))
+    (λ sound. ((omega (arith, lies.0, not_empty p m LabelOrKeyword h), lies.1), subst (λ z. SpellsEach z inner.means) it.source (inner.spells (sound_next p m LabelOrKeyword h sound))))
+    (inner.there (start_of p m) (token.label (text_at m)) (at_start p m (token.label (text_at m)) (token_there p m LabelOrKeyword h)), tt)
     (λ rest none_there. word_takes n err_word (text_at m) (inner.others ++ rest) (tree.err (tree.a_tree (tree_of inner.means))) rest word_is
     (tree.a_tree (tree_of inner.means), inr (tree_of inner.means, inner.inside rest, refl), refl))
 
@@ -334,6 +354,7 @@ pub case_parsed : (n : ℕ) (p m q : Place) (parsed : NodeTree) → Takes p (Som
 case_parsed n p m q parsed h word_is (inl (same, is)) = same_place (n + 1) p m q kind.Label parsed same is
     (one_token (n + 1) p m LabelOrKeyword kind.Label (label (span_at m) (text_at m) no_placed) h refl
     (λ sound. ((omega arith, omega arith), holds p m m (token.label (text_at m)) [] sound (token_there p m LabelOrKeyword h) refl, tt))
+    (part_at (start_of p m) (start_of p m) m m m (token.label (text_at m)) [] [] [] refl (at_start p m (token.label (text_at m)) (token_there p m LabelOrKeyword h)) refl refl, tt)
     (λ rest k. word_takes n case_word (text_at m) rest (tree.label (text_at m) tree.no_tree) rest word_is (tree.no_tree, inl (refl, k, refl), refl)))
 case_parsed n p m q parsed h word_is (inr (w, open_there, k)) =
     let inner = in_parentheses n m w q kind.VariantWithPayload m.lexer.start (node kind.Label (span_at m) no_nodes ∷ []) parsed open_there k in
@@ -351,5 +372,6 @@ case_parsed n p m q parsed h word_is (inr (w, open_there, k)) =
       holds p m m (token.label (text_at m)) [] sound (token_there p m LabelOrKeyword h) refl,
       ((lies.0, lies.1), subst (λ z. SpellsEach z inner.means) it.source (inner.spells (sound_next p m LabelOrKeyword h sound))),
     ))
+    (part_at (start_of p m) (start_of p m) m m q (token.label (text_at m)) [] [] inner.others refl (at_start p m (token.label (text_at m)) (token_there p m LabelOrKeyword h)) refl inner.taken, (inner.there (start_of p m) (token.label (text_at m)) (at_start p m (token.label (text_at m)) (token_there p m LabelOrKeyword h)), tt))
     (λ rest none_there. word_takes n case_word (text_at m) (inner.others ++ rest) (tree.label (text_at m) (tree.a_tree (tree_of inner.means))) rest word_is
     (tree.a_tree (tree_of inner.means), inr (tree_of inner.means, inner.inside rest, refl), refl))

@@ -2,6 +2,7 @@
 use Rattle.std.proofs.Common.{◌≡◌, ℕ, ◌≤◌, ◌+◌, inl, inr, List, [], ◌∷◌, ◌++◌, refl, sym, ap, subst, ◌∙◌, arith, Some, Ok, append_assoc, option_map}
 use Rattle.std.specs.Prelude.{if◌then◌else◌}
 use Rattle.std.specs.declared.ops.Range.{Range}
+use Rattle.wave_wasm.specs.Lists.{AllOf}
 use Rattle.wave_lex.specs.declared.lex.Token as lex
 use Rattle.wave_lex.specs.declared.lex.Token.TheVariants.{BraceOpen, BraceClose, ParenOpen, ParenClose, BracketOpen, BracketClose, Colon, Comma, Number, LabelOrKeyword, Char, String, MultilineString}
 use Rattle.wave_lex.specs.Lexing.{span}
@@ -11,7 +12,7 @@ use Rattle.wave_tree.specs.Place.{Place, Takes, TakesTokens, token_of, text_at, 
 use Rattle.wave_tree.specs.Tree as tree
 use Rattle.wave_tree.specs.Tree.{Tree, ATree, KeyAnd, Label, IsKey, InBraces, BehindWord, word_of, leaf_word, none_word, some_word, ok_word, err_word, case_word, MaybeInParens}
 use Rattle.wave_tree.specs.Placed as placed
-use Rattle.wave_tree.specs.Placed.{Placed, at, PlacedEntries, no_entries, entry, entries, no_fields, empty_braces, Shape, one, none, some, ok, err, label, no_placed, a_placed, MaybePlaced, HoldsTokens, SpellsParts, SpellsAll, SpellsEntries, SpellsFlags, SpellsEach, placed_trees, LiesIn, span_of, tree_of, tree_of_shape, maybe_of, slice}
+use Rattle.wave_tree.specs.Placed.{Placed, at, PlacedEntries, no_entries, entry, entries, no_fields, empty_braces, Shape, one, none, some, ok, err, label, no_placed, a_placed, MaybePlaced, HoldsTokens, SpellsParts, SpellsAll, SpellsEntries, SpellsFlags, SpellsEach, StandsAtTokens, entry_places, placed_trees, LiesIn, span_of, tree_of, tree_of_shape, maybe_of, slice}
 use Rattle.wave_tree.specs.NodeTree.{NodeTree, node, no_nodes, node_trees}
 use Rattle.wave_tree.specs.Nodes.{placed_of, all_placed, key_of, pairs_of, shape_from, and_then, with_both, number_token}
 use Rattle.wave_tree.specs.declared.ast.NodeType.TheVariants as kind
@@ -19,8 +20,9 @@ use Rattle.wave_tree.specs.Parsed.{IsSound, IsParsed, IsKeyAt, key_node_type, Ar
 use Rattle.wave_tree.specs.Word.{IsKeyClass}
 use Rattle.wave_tree.specs.Joined.{FurtherItems}
 use Rattle.wave_tree.proofs.TyingItems.{brace_mark, closed_tokens, no_paren_further}
-use Rattle.wave_tree.proofs.Tying.{number_alone, in_order, sound_next, sound_tokens, holds, made, takes_plus, text_there}
+use Rattle.wave_tree.proofs.Tying.{number_alone, in_order, sound_next, sound_tokens, start_of, at_start, holds, made, takes_plus, text_there}
 use Rattle.wave_tree.proofs.Going.{tokens_join}
+use Rattle.wave_tree.proofs.AtTokens.{part_at}
 use Rattle.wave_tree.proofs.Slices.{taken_is, tokens_forward, tokens_source}
 
 -- ---- keys
@@ -88,6 +90,7 @@ record FurtherSpell (n : ℕ) (p q : Place) (ns : List NodeTree) : Type 0 where
   pub means_them : IsSound p → all_placed p.lexer.source (node_trees ns) ≡ Some means
   pub pairs : pairs_of means ≡ Some all
   pub spell : IsSound p → (from : ℕ) → from ≤ p.lexer.end → SpellsEntries p.lexer.source from q.lexer.end all
+  pub places : (o : Place) (before : List Token) → TakesTokens o before p → AllOf (StandsAtTokens o.lexer.source (span o.lexer.end q.lexer.end)) (entry_places all)
   pub items : (rest : List Token) → FurtherItems brace_close (KeyAnd (tree.Takes n)) (tokens ++ rest) (pairs_in all) rest
 
 -- what the value behind a first key and further entries give
@@ -100,13 +103,14 @@ record PairsSpell (n : ℕ) (p q : Place) (ns : List NodeTree) : Type 0 where
   pub means_them : IsSound p → all_placed p.lexer.source (node_trees ns) ≡ Some (value ∷ means)
   pub pairs : pairs_of means ≡ Some all
   pub spell : IsSound p → (from : ℕ) → from ≤ p.lexer.end → LiesIn (span_of value) from q.lexer.end × SpellsEach p.lexer.source value × SpellsEntries p.lexer.source (span_of value).end q.lexer.end all
+  pub places : (o : Place) (before : List Token) → TakesTokens o before p → StandsAtTokens o.lexer.source (span o.lexer.end q.lexer.end) (span_of value) × AllOf (StandsAtTokens o.lexer.source (span o.lexer.end q.lexer.end)) (entry_places all)
   pub items : (rest : List Token) → (behind : List Token) × tree.Takes n (tokens ++ rest) (tree_of value) behind × FurtherItems brace_close (KeyAnd (tree.Takes n)) behind (pairs_in all) rest
 
 mutual
   further_spell : (n : ℕ) (p q : Place) (ns : List NodeTree) → AreFurtherPairs n p ns q → FurtherSpell n p q ns
   further_spell n p q [] h =
       let (ts, taken, closes) = closed_tokens BraceClose p q brace_mark h in
-      record { tokens = ts; taken = taken; means = []; all = no_entries; means_them = λ sound. refl; pairs = refl; spell = λ sound from l. tt; items = closes }
+      record { tokens = ts; taken = taken; means = []; all = no_entries; means_them = λ sound. refl; pairs = refl; spell = λ sound from l. tt; places = λ o before h. tt; items = closes }
   further_spell n p q (key ∷ more) (m, k, b, comma_there, (c, key_there, is_key, key_node), colon_there, others) =
       let pairs_of_it = pairs_spell n b q more others in
       let it = key_means m k c key_there is_key in
@@ -137,6 +141,11 @@ mutual
               inner.0,
               subst (λ z. SpellsEach z pairs_of_it.value) source_b inner.1,
               subst (λ z. SpellsEntries z (span_of pairs_of_it.value).end q.lexer.end pairs_of_it.all) source_b inner.2,
+            );
+        places = λ o before there.
+            let inner = pairs_of_it.places o (before ++ comma ∷ kt ∷ colon ∷ []) (tokens_join o p b before (comma ∷ kt ∷ colon ∷ []) there front) in (
+              part_at o m k k q kt (before ++ comma ∷ []) [] (colon ∷ pairs_of_it.tokens) (tokens_join o p m before (comma ∷ []) there (m, (Comma, comma_there, refl), refl)) (c, key_there, refl) refl (b, (Colon, colon_there, refl), pairs_of_it.taken),
+              (inner.0, inner.1),
             );
         items = λ rest.
             let (behind, value_there, further) = pairs_of_it.items rest in
@@ -170,6 +179,10 @@ mutual
               subst (λ z. SpellsEntries z (span_of h.placed).end q.lexer.end rest_of.all) source_w
                   (rest_of.spell (sound_tokens p w (h.token ∷ h.others) front sound) (span_of h.placed).end (omega (arith, end_is))),
             );
+        places = λ o before there. (
+          subst (λ (z : Range ℕ). StandsAtTokens o.lexer.source (span o.lexer.end q.lexer.end) z) (sym h.spans) (part_at o p h.first w q h.token before h.others rest_of.tokens there h.begins h.taken rest_of.taken),
+          rest_of.places o (before ++ h.token ∷ h.others) (tokens_join o p w before (h.token ∷ h.others) there front),
+        );
         items = λ rest.
             let more_items = rest_of.items rest in (
               rest_of.tokens ++ rest,
@@ -213,6 +226,10 @@ entries_parsed n p m k b q key parsed h (c, key_there, is_key, key_node) colon_t
       subst (λ z. SpellsEach z inner.value) source_b spelled.1,
       subst (λ z. SpellsEntries z (span_of inner.value).end q.lexer.end inner.all) source_b spelled.2,
     ))
+    (let o = start_of p m in
+    let brace_there = at_start p m brace_open (BraceOpen, h, refl) in
+    let values = inner.places o (brace_open ∷ kt ∷ colon ∷ []) (m, brace_there, front) in
+    (part_at o m k k q kt (brace_open ∷ []) [] (colon ∷ inner.tokens) (m, brace_there, refl) (c, key_there, refl) refl (b, (Colon, colon_there, refl), inner.taken), (values.0, values.1)))
     (λ rest none_there.
     let (behind, value_there, further) = inner.items rest in
     takes_plus n (brace_open ∷ kt ∷ colon ∷ (inner.tokens ++ rest)) (tree_of_shape (entries all)) rest
@@ -220,10 +237,10 @@ entries_parsed n p m k b q key parsed h (c, key_there, is_key, key_node) colon_t
 
 -- `{}`
 pub empty_parsed : (n : ℕ) (p m q : Place) → Takes p (Some (Ok BraceOpen)) m → Takes m (Some (Ok BraceClose)) q → IsParsed (n + 1) p q (node kind.EmptySet (span m.lexer.start q.lexer.end) no_nodes)
-empty_parsed n p m q h k = made (n + 1) p m q brace_open (brace_close ∷ []) _ empty_braces (BraceOpen, h, refl) (q, (BraceClose, k, refl), refl) (λ sound. refl) (λ sound. tt)
+empty_parsed n p m q h k = made (n + 1) p m q brace_open (brace_close ∷ []) _ empty_braces (BraceOpen, h, refl) (q, (BraceClose, k, refl), refl) (λ sound. refl) (λ sound. tt) tt
     (λ rest none_there. takes_plus n (brace_open ∷ brace_close ∷ rest) tree.empty_braces rest (inl (refl, refl)))
 
 -- `{:}`
 pub no_fields_parsed : (n : ℕ) (p m w q : Place) → Takes p (Some (Ok BraceOpen)) m → Takes m (Some (Ok Colon)) w → Takes w (Some (Ok BraceClose)) q → IsParsed (n + 1) p q (node kind.TupleSet (span m.lexer.start q.lexer.end) no_nodes)
-no_fields_parsed n p m w q h c k = made (n + 1) p m q brace_open (colon ∷ brace_close ∷ []) _ no_fields (BraceOpen, h, refl) (w, (Colon, c, refl), (q, (BraceClose, k, refl), refl)) (λ sound. refl) (λ sound. tt)
+no_fields_parsed n p m w q h c k = made (n + 1) p m q brace_open (colon ∷ brace_close ∷ []) _ no_fields (BraceOpen, h, refl) (w, (Colon, c, refl), (q, (BraceClose, k, refl), refl)) (λ sound. refl) (λ sound. tt) tt
     (λ rest none_there. takes_plus n (brace_open ∷ colon ∷ brace_close ∷ rest) tree.no_fields rest (inr (inl (refl, refl))))

@@ -2,6 +2,7 @@
 use Rattle.std.proofs.Common.{◌≡◌, ℕ, ◌≤◌, ◌+◌, inr, Bool, true, false, List, [], ◌∷◌, ◌++◌, refl, sym, ap, subst, ◌∙◌, arith, Some, Ok, map, option_map}
 use Rattle.std.specs.Prelude.{if◌then◌else◌}
 use Rattle.std.specs.declared.ops.Range.{Range}
+use Rattle.wave_wasm.specs.Lists.{AllOf}
 use Rattle.wave_wasm.specs.Names.{AreDistinct}
 use Rattle.wave_tree.specs.Spells.{name_of}
 use Rattle.wave_lex.specs.declared.lex.Token.TheVariants.{BraceOpen, BraceClose, Comma, LabelOrKeyword}
@@ -11,14 +12,16 @@ use Rattle.wave_tree.specs.Token.{Token, lexeme_of, paren_open, paren_close, bra
 use Rattle.wave_tree.specs.Place.{Place, Takes, TakesTokens, text_at, span_at}
 use Rattle.wave_tree.specs.Tree as tree
 use Rattle.wave_tree.specs.Tree.{Tree, ATree, KeyAnd, Label, IsKey, InBraces, BehindWord, word_of, leaf_word, none_word, some_word, ok_word, err_word, case_word, MaybeInParens}
-use Rattle.wave_tree.specs.Placed.{Placed, at, flags, label, no_placed, HoldsTokens, SpellsFlags, LiesIn, slice}
+use Rattle.wave_tree.specs.Placed.{Placed, at, flags, label, no_placed, HoldsTokens, SpellsFlags, StandsAtTokens, LiesIn, slice}
 use Rattle.wave_tree.specs.NodeTree.{NodeTree, node_trees}
 use Rattle.wave_tree.specs.Nodes.{placed_of, all_placed, flags_of, shape_from, and_then, with_both}
 use Rattle.wave_tree.specs.declared.ast.NodeType.TheVariants as kind
 use Rattle.wave_tree.specs.Parsed.{IsSound, IsParsed, Flag, flag_name, flag_node, put_flag, flags_in_order, AreFurtherFlags, IsOfFlags}
 use Rattle.wave_tree.specs.Joined.{FurtherItems}
 use Rattle.wave_tree.proofs.TyingItems.{brace_mark, closed_tokens}
-use Rattle.wave_tree.proofs.Tying.{in_order, sound_next, holds, made, takes_plus, text_there}
+use Rattle.wave_tree.proofs.Tying.{in_order, sound_next, start_of, at_start, holds, made, takes_plus, text_there}
+use Rattle.wave_tree.proofs.Going.{tokens_join}
+use Rattle.wave_tree.proofs.AtTokens.{part_at}
 use Rattle.wave_tree.proofs.Slices.{taken_is, tokens_forward, tokens_source}
 
 -- ---- what holds of each flag
@@ -51,6 +54,18 @@ put_among source from to f (g ∷ gs) h (k, hs) = by (tree.is_before (flag_name 
 in_order_among : (source : List ℕ) (from to : ℕ) (fs : List Flag) → AreFlagsOf source from to fs → AreFlagsOf source from to (flags_in_order fs)
 in_order_among source from to [] h = tt
 in_order_among source from to (f ∷ fs) (h, hs) = put_among source from to f (flags_in_order fs) h (in_order_among source from to fs hs)
+
+put_place : (P : Range ℕ → Type 0) (f : Flag) (gs : List Flag) → P f.0 → AllOf P (map (λ g. g.0) gs) → AllOf P (map (λ g. g.0) (put_flag f gs))
+put_place P f [] h hs = (h, tt)
+put_place P f (g ∷ gs) h (k, hs) = by (tree.is_before (flag_name f) (flag_name g)) (put_place P f gs h hs)
+  where
+    by : (b : Bool) → AllOf P (map (λ (x : Flag). x.0) (put_flag f gs)) → AllOf P (map (λ (x : Flag). x.0) (if b then f ∷ g ∷ gs else g ∷ put_flag f gs))
+    by true more = (h, (k, hs))
+    by false more = (k, more)
+
+places_in_order : (P : Range ℕ → Type 0) (fs : List Flag) → AllOf P (map (λ g. g.0) fs) → AllOf P (map (λ g. g.0) (flags_in_order fs))
+places_in_order P [] h = tt
+places_in_order P (f ∷ fs) (h, hs) = put_place P f (flags_in_order fs) h (places_in_order P fs hs)
 
 -- ---- their nodes and texts
 
@@ -95,6 +110,7 @@ record FlagsSpell (p q : Place) (fs : List Flag) : Type 0 where
   pub tokens : List Token
   pub taken : TakesTokens p tokens q
   pub are : IsSound p → AreFlagsOf p.lexer.source p.lexer.end q.lexer.end fs
+  pub places : (o : Place) (before : List Token) → TakesTokens o before p → AllOf (StandsAtTokens o.lexer.source (span o.lexer.end q.lexer.end)) (map (λ g. g.0) fs)
   pub items : (rest : List Token) → FurtherItems brace_close Label (tokens ++ rest) (map (λ g. g.1) fs) rest
 
 flag_there : (m k : Place) (to : ℕ) → Takes m (Some (Ok LabelOrKeyword)) k → k.lexer.end ≤ to → IsSound m → IsFlagOf m.lexer.source m.lexer.end to (span_at k, text_at k)
@@ -106,7 +122,7 @@ flag_there m k to h l sound =
 further_flags : (p q : Place) (fs : List Flag) → AreFurtherFlags p fs q → FlagsSpell p q fs
 further_flags p q [] h =
     let (ts, taken, closes) = closed_tokens BraceClose p q brace_mark h in
-    record { tokens = ts; taken = taken; are = λ sound. tt; items = closes }
+    record { tokens = ts; taken = taken; are = λ sound. tt; places = λ o before h. tt; items = closes }
 further_flags p q (f ∷ more) (m, k, comma_there, label_there, same, others) =
     let rest_of = further_flags k q more others in
     let comma_is = taken_is p m Comma comma_there in
@@ -125,6 +141,12 @@ further_flags p q (f ∷ more) (m, k, comma_there, label_there, same, others) =
             subst (IsFlagOf p.lexer.source p.lexer.end q.lexer.end) (sym same) (record { text = one_flag.text; lies = (omega (arith, low, a1), one_flag.lies.1); spells = one_flag.spells }),
             wider p.lexer.source k.lexer.end p.lexer.end q.lexer.end more (omega (arith, a1, a2))
                 (subst (λ z. AreFlagsOf z k.lexer.end q.lexer.end more) source_k (rest_of.are (sound_next m k LabelOrKeyword label_there m_sound))),
+          );
+      places = λ o before there.
+          let whole = span o.lexer.end q.lexer.end in (
+            subst (λ (z : Flag). StandsAtTokens o.lexer.source whole z.0) (sym same)
+                (part_at o m k k q (token.label (text_at k)) (before ++ comma ∷ []) [] rest_of.tokens (tokens_join o p m before (comma ∷ []) there (m, (Comma, comma_there, refl), refl)) (LabelOrKeyword, label_there, refl) refl rest_of.taken),
+            rest_of.places o (before ++ comma ∷ token.label (text_at k) ∷ []) (tokens_join o p k before (comma ∷ token.label (text_at k) ∷ []) there front),
           );
       items = λ rest. (
         token.label (text_at k) ∷ (rest_of.tokens ++ rest),
@@ -161,5 +183,11 @@ flags_parsed n p m k q parsed h label_there e =
     (ap (λ o. option_map (at whole) (and_then o (shape_from kind.Flags whole (slice p.lexer.source whole)))) (nodes_mean p.lexer.source m.lexer.start q.lexer.end sorted (in_order_among p.lexer.source m.lexer.start q.lexer.end fs (good sound)))
     ∙ ap (λ o. option_map (at whole) (option_map flags o)) (flags_again sorted)))
     (λ sound. flags_spell p.lexer.source whole sorted (in_order_among p.lexer.source m.lexer.start q.lexer.end fs (good sound)))
+    (let o = start_of p m in
+    let brace_there = at_start p m brace_open (BraceOpen, h, refl) in
+    places_in_order (StandsAtTokens p.lexer.source whole) fs (
+      part_at o m k k q (token.label (text_at k)) (brace_open ∷ []) [] inner.tokens (m, brace_there, refl) (LabelOrKeyword, label_there, refl) refl inner.taken,
+      inner.places o (brace_open ∷ token.label (text_at k) ∷ []) (m, brace_there, (k, (LabelOrKeyword, label_there, refl), refl)),
+    ))
     (λ rest none_there. takes_plus n (brace_open ∷ token.label (text_at k) ∷ (inner.tokens ++ rest)) (tree.flags (map (λ g. g.1) sorted)) rest
     (inr (inr (inr (map (λ (g : Flag). g.1) fs, omega arith, (inner.tokens ++ rest, refl, inner.items rest), subst AreDistinct (names_are fs) e.distinct, ap tree.flags (texts_in_order fs))))))

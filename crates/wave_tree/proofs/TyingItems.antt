@@ -1,6 +1,7 @@
 -- From the items, the entries and the flags that a parser reads to the trees that their nodes mean.
 use Rattle.std.proofs.Common.{◌≡◌, ◌≢◌, ℕ, ◌≤◌, ◌<◌, ◌-◌, inl, inr, List, [], ◌∷◌, ◌++◌, refl, sym, ap, subst, ◌∙◌, length, arith, Some, Ok, append_assoc, map, option_map}
 use Rattle.std.specs.declared.ops.Range.{Range}
+use Rattle.wave_wasm.specs.Lists.{AllOf}
 use Rattle.wave_lex.specs.declared.lex.Token as lex
 use Rattle.wave_lex.specs.declared.lex.Token.TheVariants.{BraceClose, ParenOpen, ParenClose, BracketOpen, BracketClose, Comma}
 use Rattle.wave_lex.specs.Lexing.{span}
@@ -9,15 +10,16 @@ use Rattle.wave_tree.specs.Place.{Place, Takes, TakesTokens, token_of, text_at}
 use Rattle.wave_tree.specs.Tree as tree
 use Rattle.wave_tree.specs.Tree.{Tree, ATree, BehindWord, word_of, leaf_word, none_word, some_word, ok_word, err_word, case_word, MaybeInParens}
 use Rattle.wave_tree.specs.Placed as placed
-use Rattle.wave_tree.specs.Placed.{Placed, at, Shape, one, none, some, ok, err, label, no_placed, a_placed, MaybePlaced, HoldsTokens, SpellsParts, SpellsAll, SpellsEntries, SpellsFlags, SpellsEach, placed_trees, LiesIn, span_of, tree_of, tree_of_shape, maybe_of, slice}
+use Rattle.wave_tree.specs.Placed.{Placed, at, Shape, one, none, some, ok, err, label, no_placed, a_placed, MaybePlaced, HoldsTokens, SpellsParts, SpellsAll, SpellsEntries, SpellsFlags, SpellsEach, StandsAtTokens, placed_trees, placed_list, LiesIn, span_of, tree_of, tree_of_shape, maybe_of, slice}
 use Rattle.wave_tree.specs.NodeTree.{NodeTree, node_trees}
 use Rattle.wave_tree.specs.Nodes.{placed_of, all_placed, shape_from, and_then, with_both}
 use Rattle.wave_tree.specs.declared.ast.NodeType.TheVariants as kind
 use Rattle.wave_tree.specs.Parsed.{IsSound, NoParen, IsParsed, IsClosed, AreFurther, AreItems, IsOfItems}
 use Rattle.wave_tree.specs.Word.{IsClose}
 use Rattle.wave_tree.specs.Joined.{Spelling, Closes, FurtherItems, Items}
-use Rattle.wave_tree.proofs.Tying.{in_order, sound_next, sound_tokens, made, takes_less}
+use Rattle.wave_tree.proofs.Tying.{in_order, sound_next, sound_tokens, start_of, at_start, made, takes_less}
 use Rattle.wave_tree.proofs.Going.{tokens_join}
+use Rattle.wave_tree.proofs.AtTokens.{part_at}
 use Rattle.wave_tree.proofs.Slices.{taken_is, tokens_forward, tokens_source}
 
 -- ---- items
@@ -29,6 +31,7 @@ record ItemsSpell (n : ℕ) (p q : Place) (ns : List NodeTree) (Rest : List Toke
   pub means : List Placed
   pub means_them : IsSound p → all_placed p.lexer.source (node_trees ns) ≡ Some means
   pub spell : IsSound p → (from : ℕ) → from ≤ p.lexer.end → SpellsAll p.lexer.source from q.lexer.end (placed_trees means)
+  pub places : (o : Place) (before : List Token) → TakesTokens o before p → AllOf (StandsAtTokens o.lexer.source (span o.lexer.end q.lexer.end)) (map span_of (placed_list (placed_trees means)))
   pub items : (rest : List Token) → Rest (tokens ++ rest) (map tree_of means) rest
   pub longer : ns ≢ [] → 0 < length means
 
@@ -66,7 +69,7 @@ no_paren_further c P tokens (t ∷ ts) rest mark (front, behind, e, h, k) = λ m
 further_spell : (c : lex.Token) (n : ℕ) (p q : Place) (ns : List NodeTree) → IsMark c → AreFurther n c p ns q → ItemsSpell n p q ns (FurtherItems (token_of c []) (tree.Takes n))
 further_spell c n p q [] mark h =
     let (ts, taken, closes) = closed_tokens c p q mark h in
-    record { tokens = ts; taken = taken; means = []; means_them = λ sound. refl; spell = λ sound from l. tt; items = closes; longer = λ h. absurd (h refl) }
+    record { tokens = ts; taken = taken; means = []; means_them = λ sound. refl; spell = λ sound from l. tt; places = λ o before h. tt; items = closes; longer = λ h. absurd (h refl) }
 further_spell c n p q (item ∷ more) mark (m, w, a, h, others) =
     let rest_of = further_spell c n w q more mark others in
     let comma_is = taken_is p m Comma a in
@@ -93,6 +96,11 @@ further_spell c n p q (item ∷ more) mark (m, w, a, h, others) =
             subst (λ z. SpellsAll z (span_of h.placed).end q.lexer.end (placed_trees rest_of.means)) source_w
                 (rest_of.spell (sound_tokens p w (comma ∷ h.token ∷ h.others) front sound) (span_of h.placed).end (omega (arith, end_is))),
           );
+      places = λ o before there. (
+        subst (λ (z : Range ℕ). StandsAtTokens o.lexer.source (span o.lexer.end q.lexer.end) z) (sym h.spans)
+            (part_at o m h.first w q h.token (before ++ comma ∷ []) h.others rest_of.tokens (tokens_join o p m before (comma ∷ []) there (m, (Comma, a, refl), refl)) h.begins h.taken rest_of.taken),
+        rest_of.places o (before ++ comma ∷ h.token ∷ h.others) (tokens_join o p w before (comma ∷ h.token ∷ h.others) there front),
+      );
       items = λ rest.
           let more_items = rest_of.items rest in (
             h.token ∷ (h.others ++ (rest_of.tokens ++ rest)),
@@ -112,6 +120,7 @@ items_spell c n p q [] mark h = record {
   means = [];
   means_them = λ sound. refl;
   spell = λ sound from l. tt;
+  places = λ o before h. tt;
   items = λ rest. refl;
   longer = λ h. absurd (h refl);
 }
@@ -137,6 +146,10 @@ items_spell c n p q (item ∷ more) mark (w, h, others) =
             subst (λ z. SpellsAll z (span_of h.placed).end q.lexer.end (placed_trees rest_of.means)) source_w
                 (rest_of.spell (sound_tokens p w (h.token ∷ h.others) front sound) (span_of h.placed).end (omega (arith, end_is))),
           );
+      places = λ o before there. (
+        subst (λ (z : Range ℕ). StandsAtTokens o.lexer.source (span o.lexer.end q.lexer.end) z) (sym h.spans) (part_at o p h.first w q h.token before h.others rest_of.tokens there h.begins h.taken rest_of.taken),
+        rest_of.places o (before ++ h.token ∷ h.others) (tokens_join o p w before (h.token ∷ h.others) there front),
+      );
       items = λ rest.
           let more_items = rest_of.items rest in (
             rest_of.tokens ++ rest,
@@ -168,6 +181,7 @@ tuple_parsed n p m q parsed l h k =
     (subst (λ z. all_placed z (node_trees k.items) ≡ Some inner.means) it.source (inner.means_them (sound_next p m ParenOpen h sound)))))
     (λ sound. subst (λ z. SpellsAll z m.lexer.start q.lexer.end (placed_trees inner.means)) it.source
     (inner.spell (sound_next p m ParenOpen h sound) m.lexer.start (in_order p m ParenOpen h)))
+    (inner.places (start_of p m) (paren_open ∷ []) (m, at_start p m paren_open (ParenOpen, h, refl), refl))
     (λ rest none_there. takes_less n l (paren_open ∷ (inner.tokens ++ rest)) (tree.tuple (placed.trees_of (placed_trees inner.means))) rest
     (map tree_of inner.means, some_trees inner.means (inner.longer (k.some refl)), inner.items rest, ap tree.tuple (trees_are inner.means)))
 
@@ -183,5 +197,6 @@ list_parsed n p m q parsed l h k =
     (subst (λ z. all_placed z (node_trees k.items) ≡ Some inner.means) it.source (inner.means_them (sound_next p m BracketOpen h sound)))))
     (λ sound. subst (λ z. SpellsAll z m.lexer.start q.lexer.end (placed_trees inner.means)) it.source
     (inner.spell (sound_next p m BracketOpen h sound) m.lexer.start (in_order p m BracketOpen h)))
+    (inner.places (start_of p m) (bracket_open ∷ []) (m, at_start p m bracket_open (BracketOpen, h, refl), refl))
     (λ rest none_there. takes_less n l (bracket_open ∷ (inner.tokens ++ rest)) (tree.list (placed.trees_of (placed_trees inner.means))) rest
     (map tree_of inner.means, inner.items rest, ap tree.list (trees_are inner.means)))

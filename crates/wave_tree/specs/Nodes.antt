@@ -82,7 +82,7 @@ abbrev mutual
   all_placed source no_nodes = Some []
   all_placed source (node_and n more) = with_both (λ t ts. t ∷ ts) (placed_of source n) (all_placed source more)
 
--- the node means the tree, and each part of it spells its slice of the source
+-- the node means the tree, and each part of it spells its slice of the source and stands at tokens of the whole
 abbrev pub IsNodeOf : List ℕ → NodeTree → Placed → Type 0
 IsNodeOf source n t = (placed_of source n ≡ Some t) × SpellsEach source t
 

@@ -1,6 +1,7 @@
 -- A tree whose parts know where they stand in the source.
-use Rattle.std.specs.Prelude.{ℕ, ◌≤◌, List, [], ◌∷◌, map, slice_range}
+use Rattle.std.specs.Prelude.{ℕ, ◌≡◌, ◌≤◌, ◌+◌, ◌-◌, List, [], ◌∷◌, map, drop, slice_range}
 use Rattle.std.specs.declared.ops.Range.{Range}
+use Rattle.wave_wasm.specs.Lists.{AllOf}
 use Rattle.wave_lex.specs.Lexing.{Stands, IsGap, Front}
 use Rattle.wave_tree.specs.Token.{Token, lexeme_of}
 use Rattle.wave_tree.specs.Token as token
@@ -122,17 +123,54 @@ SpellsAt source p t = (tokens : List Token) × HoldsTokens source p tokens × tr
 abbrev pub LiesIn : Range ℕ → ℕ → ℕ → Type 0
 LiesIn p from to = (from ≤ p.start) × (p.end ≤ to)
 
+-- the first k bytes of s are tokens of its cut and the gaps before them
+abbrev pub EndsToken : List ℕ → ℕ → Type 0
+EndsToken s k = (tokens : List Token) × Front s (map lexeme_of tokens) (drop k s)
+
+-- so they are, and behind them the gap before the next token
+abbrev pub BeginsToken : List ℕ → ℕ → Type 0
+BeginsToken s k = (j : ℕ) × (g : ℕ) × EndsToken s j × IsGap (drop j s) g × (k ≡ j + g)
+
+-- in the cut of the whole's slice the part begins where a token does, and ends where one does
+abbrev pub StandsAtTokens : List ℕ → Range ℕ → Range ℕ → Type 0
+StandsAtTokens source whole part = BeginsToken (slice source whole) (part.start - whole.start) × EndsToken (slice source whole) (part.end - whole.start)
+
+-- the places of a payload, where there is one
+abbrev pub payload_places : MaybePlaced → List (Range ℕ)
+payload_places no_placed = []
+payload_places (a_placed t) = span_of t ∷ []
+
+-- the places of the keys and values
+abbrev pub entry_places : PlacedEntries → List (Range ℕ)
+entry_places no_entries = []
+entry_places (entry p key t more) = p ∷ span_of t ∷ entry_places more
+
+-- the places of the parts of a shape
+abbrev pub part_places : Shape → List (Range ℕ)
+part_places (one token) = []
+part_places (tuple ts) = map span_of (placed_list ts)
+part_places (list ts) = map span_of (placed_list ts)
+part_places empty_braces = []
+part_places no_fields = []
+part_places (entries es) = entry_places es
+part_places (flags fs) = map (λ f. f.0) fs
+part_places (label q text payload) = q ∷ payload_places payload
+part_places none = []
+part_places (some t) = span_of t ∷ []
+part_places (ok payload) = payload_places payload
+part_places (err payload) = payload_places payload
+
 -- each flag is one label, within the braces
 abbrev pub SpellsFlags : List ℕ → Range ℕ → List (Range ℕ × List ℕ) → Type 0
 SpellsFlags source p [] = Unit {0}
 SpellsFlags source p (f ∷ more) = LiesIn f.0 p.start p.end × HoldsTokens source f.0 (token.label f.1 ∷ []) × SpellsFlags source p more
 
--- each value within spells its tree where it stands, each key, flag and case label is its one token; but for flags, which are sorted, they stand one behind another
+-- each value within spells its tree where it stands, each key, flag and case label is its one token; each stands at tokens of the whole; but for flags, which are sorted, they stand one behind another
 abbrev mutual
   pub SpellsEach : List ℕ → Placed → Type 0
-  SpellsEach source (at p s) = SpellsAt source p (tree_of_shape s) × SpellsParts source p s
+  SpellsEach source (at p s) = SpellsAt source p (tree_of_shape s) × SpellsParts source p s × AllOf (StandsAtTokens source p) (part_places s)
 
-  -- so it is of the parts of a shape
+  -- so it is of the parts of a shape; the payload of `some`, `ok` or `err` begins behind the word, so behind its first byte
   pub SpellsParts : List ℕ → Range ℕ → Shape → Type 0
   SpellsParts source p (one token) = Unit {0}
   SpellsParts source p (tuple ts) = SpellsAll source p.start p.end ts
@@ -143,9 +181,9 @@ abbrev mutual
   SpellsParts source p (flags fs) = SpellsFlags source p fs
   SpellsParts source p (label q text payload) = LiesIn q p.start p.end × HoldsTokens source q (token.label text ∷ []) × SpellsMaybe source q.end p.end payload
   SpellsParts source p none = Unit {0}
-  SpellsParts source p (some t) = LiesIn (span_of t) p.start p.end × SpellsEach source t
-  SpellsParts source p (ok payload) = SpellsMaybe source p.start p.end payload
-  SpellsParts source p (err payload) = SpellsMaybe source p.start p.end payload
+  SpellsParts source p (some t) = LiesIn (span_of t) (p.start + 1) p.end × SpellsEach source t
+  SpellsParts source p (ok payload) = SpellsMaybe source (p.start + 1) p.end payload
+  SpellsParts source p (err payload) = SpellsMaybe source (p.start + 1) p.end payload
 
   -- so it is of a payload, between two places
   pub SpellsMaybe : List ℕ → ℕ → ℕ → MaybePlaced → Type 0

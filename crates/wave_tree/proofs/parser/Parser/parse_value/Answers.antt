@@ -1,6 +1,5 @@
-use Rattle.std.proofs.Common.{List, ℕ, ◌≡◌, sym, ap, subst, ◌∙◌}
+use Rattle.std.proofs.Common.{List, ℕ, sym, ap, subst, ◌∙◌}
 use Rattle.wave_lex.specs.Errors.{Refusal}
-use Rattle.wave_lex.specs.declared.error.ParserError.{ParserError}
 use Rattle.wave_tree.specs.AnswerLaws.{LiesInText}
 use Rattle.wave_tree.specs.Parsing.{Parsing}
 use Rattle.wave_tree.specs.Standing.{IsCausedBetween}

@@ -1,4 +1,4 @@
-use Rattle.std.proofs.Common.{◌≡◌, ◌≢◌, [], refl, sym, ap, subst, ◌∙◌}
+use Rattle.std.proofs.Common.{◌≢◌, [], refl, sym, ap, subst, ◌∙◌}
 use Rattle.wave_lex.specs.Errors.{Refusal}
 use Rattle.wave_lex.specs.declared.error.ParserErrorKind.TheVariants as because
 use Rattle.std.specs.Str.{IsUtf8}
