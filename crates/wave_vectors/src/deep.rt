@@ -1,9 +1,8 @@
 //! Texts of many levels.
-use crate::cuts::is_told_at_each_cut;
 use crate::types::type_of;
 use std::test::Fail;
 use wasm_wave::untyped::{UntypedFuncCall, UntypedValue};
-use wasm_wave::value::{Type, Value};
+use wasm_wave::value::Value;
 use wasm_wave::{from_str, to_string};
 
 /// The part, so many times.
@@ -63,7 +62,6 @@ fn levels(rt: HostRuntime) -> Result<(), Fail> {
     ] {
         let text = within(rt, front, times, middle, end)?;
         assert_eq!(rt; refused(rt, text.as_str())?.as_str(), answer, "of {front}");
-        assert!(rt; is_told_at_each_cut(rt, &Type::U8, text.as_str()));
     }
     Ok(())
 }
@@ -79,7 +77,6 @@ fn levels_of_calls(rt: HostRuntime) -> Result<(), Fail> {
     for (payloads, answer) in [(99, ""), (100, "value nesting too deep at 501..502")] {
         let text = deep_call(rt, payloads)?;
         assert_eq!(rt; refused_call(rt, text.as_str())?.as_str(), answer);
-        assert!(rt; is_told_at_each_cut(rt, &Type::U8, text.as_str()));
     }
     Ok(())
 }
