@@ -142,6 +142,7 @@ fn refuses_with_a_place(rt: HostRuntime) -> Result<(), Fail> {
             &b"invalid value at 0..20\n"[..],
         ),
         ("u8", &b"1.0"[..], &b"invalid value at 0..3\n"[..]),
+        ("u8", &b"inf"[..], &b"invalid value at 0..3\n"[..]),
         (
             "u8",
             &b"1 2"[..],

@@ -368,6 +368,19 @@ surrogate = none_long (codes "\\u{D800}") (codes "D800}") 4 refl (record { digit
     first_four (suc (suc (suc zero))) l = lit< tt
     first_four (suc (suc (suc (suc i)))) l = let w : ⊥ = omega arith in absurd w
 
+-- the number 110000 is no scalar: it is past the last
+past_last : UnescapesTo (codes "\\u{110000}") None
+past_last = none_long (codes "\\u{110000}") (codes "110000}") 6 refl (record { digits = first_six; stops = λ l. lit< tt }) (λ g. let w : false ≡ true = g.scalar in cc)
+  where
+    first_six : (i : ℕ) → i < 6 → digit_value (get_or (codes "110000}") i 0) < 16
+    first_six zero l = lit< tt
+    first_six (suc zero) l = lit< tt
+    first_six (suc (suc zero)) l = lit< tt
+    first_six (suc (suc (suc zero))) l = lit< tt
+    first_six (suc (suc (suc (suc zero)))) l = lit< tt
+    first_six (suc (suc (suc (suc (suc zero))))) l = lit< tt
+    first_six (suc (suc (suc (suc (suc (suc i)))))) l = let w : ⊥ = omega arith in absurd w
+
 -- `a\u{D800}` has a bad escape at its second byte
 surrogate_place : IsBadEscapeAt (codes "a\\u{D800}") 1
 surrogate_place = (codes "a", codes "u{D800}", codes "a", refl, (record { source = 97 ∷ []; meaning = 97 ∷ [] } ∷ [], (inl (97, (λ e. omega arith), refl), [], [], refl, refl, (refl, refl))), surrogate, refl)

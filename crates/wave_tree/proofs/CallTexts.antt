@@ -61,6 +61,7 @@ tuple_taken old m new parsed sound open_there read items =
       tokens = h.token ∷ h.others;
       taken = (h.first, h.begins, h.taken);
       takes = subst (λ z. Takes 101 (h.token ∷ z) (tree_of h.placed) []) (append-nil h.others) (h.takes [] (λ more e. cc));
+      stands = (h.first, h.token, h.begins, h.spans);
     }
 
 -- ---- the spelling of parameters
@@ -233,7 +234,7 @@ pub called_of : (s : List ℕ) (k : ℕ) (p : Place) (params : Option NodeTree) 
 called_of s k p None named (m, open_there, close_there) ends =
     let tokens = paren_open ∷ paren_close ∷ [] in
     let taken : TakesTokens (behind_name s k) tokens p = (m, (ParenOpen, open_there, refl), (p, (ParenClose, close_there, refl), refl)) in
-    record { source = refl; params = no_tree; means = refl; call = record { bytes = k; tokens = tokens; named = named; is = ap (λ (z : ℕ). take z s) (omega arith); cut = cut_from (behind_name s k) p tokens taken ends; spelled = inl (refl, refl) }; name = refl }
+    record { source = refl; params = no_tree; means = refl; call = record { bytes = k; tokens = tokens; named = named; is = ap (λ (z : ℕ). take z s) (omega arith); cut = cut_from (behind_name s k) p tokens taken ends; spelled = inl (refl, refl) }; name = refl; stands = tt }
 called_of s k p (Some n) named h ends =
     let inner = tuple_nodes s n h.placed h.is_node h.ty in
     let is : tree_of h.placed ≡ form.tuple (trees_of (placed_trees inner.items)) = tree_is h.placed (tuple (placed_trees inner.items)) inner.shape in
@@ -243,6 +244,7 @@ called_of s k p (Some n) named h ends =
       means = (h.placed, h.is_node, refl);
       call = record { bytes = k; tokens = h.tokens; named = named; is = ap (λ (z : ℕ). take z s) (omega arith); cut = cut_from (behind_name s k) p h.tokens h.taken ends; spelled = subst (λ z. SpellsParams 100 h.tokens (a_tree z)) (sym is) (tuple_tokens h.tokens 100 (trees_of (placed_trees inner.items)) (subst (λ z. Takes 101 h.tokens z []) is h.takes)) };
       name = refl;
+      stands = (h.placed, p, ends.0, h.is_node, h.stands, ends.1);
     }
 
 -- a name and parameters that stand in their source

@@ -6,6 +6,7 @@ use Rattle.wave_wasm.specs.Types.{TypeTree}
 use Rattle.wave_wasm.specs.Keywords.{keywords}
 use Rattle.wave_wasm.specs.Values as value
 use Rattle.wave_wasm.specs.Values.{Value, values}
+use Rattle.wave_wasm.specs.Text.{text}
 use Rattle.wave_lex.specs.declared.lex.Token.TheVariants as class
 use Rattle.wave_lex.specs.Lexing.{Lexeme, IsGap, IsToken}
 use Rattle.wave_lex.specs.Tokens.{gap}
@@ -188,6 +189,14 @@ nested_options (suc k) rest = (
 
 sixty_options : Reads (options_of 59) 60 (nest 59 []) (deep_options 59) []
 sixty_options = nested_options 59 []
+
+-- what is written of them is the display of the tree that spells each option by `some`, of 119 levels
+abbrev deep_somes : ℕ → Tree
+deep_somes zero = tree.list tree.no_trees
+deep_somes (suc k) = tree.list (tree.tree_and (tree.some (deep_somes k)) tree.no_trees)
+
+sixty_written : (tree.shown (deep_somes 59) ≡ text (deep_options 59)) × (tree.levels (deep_somes 59) ≡ 119)
+sixty_written = (refl, refl)
 
 -- ---- whole texts
 

@@ -16,6 +16,7 @@ use Rattle.wave_lex.specs.Lexing.{Stands, span}
 use Rattle.wave_tree.specs.Token.{Token}
 use Rattle.wave_tree.specs.Tree.{MaybeTree, no_tree, a_tree, Takes}
 use Rattle.wave_tree.specs.Calls.{IsCall}
+use Rattle.wave_tree.specs.Place as place
 use Rattle.wave_tree.specs.Place.{Place, TakesTokens}
 use Rattle.wave_tree.specs.Due.{value, first_item, tuple}
 use Rattle.wave_tree.specs.Refusals.{Says, IsRead, IsRefused}
@@ -23,7 +24,7 @@ use Rattle.wave_tree.specs.Placed.{Placed, tree_of, slice}
 use Rattle.wave_tree.specs.NodeTree.{NodeTree, type_of}
 use Rattle.wave_tree.specs.Nodes.{IsNodeOf}
 use Rattle.wave_tree.specs.Typed.{IsValueOf}
-use Rattle.wave_tree.specs.Parsed.{TakesClass}
+use Rattle.wave_tree.specs.Parsed.{TakesClass, StandsBetween}
 use Rattle.wave_tree.specs.Parsing.{Fails, IsTrailing}
 use Rattle.wave_tree.specs.ShownNodes.{shown_at}
 use Rattle.wave_tree.specs.Params.{Omitted}
@@ -50,6 +51,17 @@ abbrev pub MeansParams : List ℕ → Option NodeTree → MaybeTree → Type 0
 MeansParams source None params = params ≡ no_tree
 MeansParams source (Some n) params = (t : Placed) × IsNodeOf source n t × (params ≡ a_tree (tree_of t))
 
+-- behind a function name of so many bytes, before its parameters
+abbrev pub behind_name : List ℕ → ℕ → Place
+behind_name s k = record { lexer = record { source = s; start = 0; end = k }; taken = 0 }
+
+-- the node of the parameters stands from the first token behind a name of k bytes to the last token of the text
+abbrev pub ParamsStand : List ℕ → ℕ → Option NodeTree → Type 0
+ParamsStand s k None = Unit {0}
+ParamsStand s k (Some n) =
+    (t : Placed) × (last : Place) × (behind : Place)
+    × IsNodeOf s n t × StandsBetween (behind_name s k) last t × place.Takes last None behind
+
 -- the call keeps the text, which is a call of its name, at its front, with the parameters that its node means
 pub record IsCalledOf (s : List ℕ) (u : Called) : Type 0 where
   pub source : u.source ≡ s
@@ -57,10 +69,7 @@ pub record IsCalledOf (s : List ℕ) (u : Called) : Type 0 where
   pub means : MeansParams s u.params params
   pub call : IsCall s (slice s u.name) params
   pub name : u.name ≡ span 0 call.bytes
-
--- behind a function name of so many bytes, before its parameters
-abbrev pub behind_name : List ℕ → ℕ → Place
-behind_name s k = record { lexer = record { source = s; start = 0; end = k }; taken = 0 }
+  pub stands : ParamsStand s call.bytes u.params
 
 -- the parser took a `(` and a `)`; or the tokens of a tuple that the node means, each of its items within n levels
 pub record IsTupleTaken (n : ℕ) (old new : Place) (parsed : NodeTree) : Type 0 where
@@ -71,6 +80,7 @@ pub record IsTupleTaken (n : ℕ) (old new : Place) (parsed : NodeTree) : Type 0
   pub tokens : List Token
   pub taken : TakesTokens old tokens new
   pub takes : Takes (n + 1) tokens (tree_of placed) []
+  pub stands : StandsBetween old new placed
 
 abbrev pub AreParamsTaken : Place → Place → Option NodeTree → Type 0
 AreParamsTaken old new None = (m : Place) × TakesClass ParenOpen old m × TakesClass ParenClose m new

@@ -375,7 +375,9 @@ impl<'this> MapEntries<'this> {
 }
 
 impl<'this> Iterator for MapEntries<'this> {
-    ghost use Rattle.std.specs.Iterator.{YieldsFirstBy, item_count};
+    ghost use Rattle.std.specs.Prelude.{◌≡◌, Some, IfSome, length};
+    ghost use Rattle.std.specs.Iterator.{YieldsFirstBy, UpTo, item_count};
+    ghost use Rattle.std.specs.Iterator.SizeHint.{IsWithinCount};
     ghost use Rattle.wave_tree.specs.Answers.{shown_nodes};
 
     type Item = (&'this Node, &'this Node);
@@ -392,7 +394,12 @@ impl<'this> Iterator for MapEntries<'this> {
         Some((key, value))
     }
 
-    fn size_hint(&self) -> (usize, Option<usize>) {
+    /// How many are left.
+    fn size_hint(&self) -> (usize, Option<usize>)
+        ensures lower { IsWithinCount result.0 (item_count (λ e. e) self.now) }
+        ensures upper { IfSome result.1 (UpTo (item_count (λ e. e) self.now)) }
+        ensures exact { (result.0 ≡ length self.now) × (result.1 ≡ Some result.0) }
+    {
         let count = self.len();
         (count, Some(count))
     }

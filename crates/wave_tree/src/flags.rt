@@ -143,7 +143,9 @@ impl<'this, 'src> FlagLabels<'this, 'src> {
 }
 
 impl<'this, 'src> Iterator for FlagLabels<'this, 'src> {
-    ghost use Rattle.std.specs.Iterator.{YieldsFirstRef, item_count};
+    ghost use Rattle.std.specs.Prelude.{◌≡◌, Some, IfSome, length};
+    ghost use Rattle.std.specs.Iterator.{YieldsFirstRef, UpTo, item_count};
+    ghost use Rattle.std.specs.Iterator.SizeHint.{IsWithinCount};
 
     type Item = &'src str;
 
@@ -158,7 +160,12 @@ impl<'this, 'src> Iterator for FlagLabels<'this, 'src> {
         Some(label_name(node.slice(self.src)))
     }
 
-    fn size_hint(&self) -> (usize, Option<usize>) {
+    /// How many are left.
+    fn size_hint(&self) -> (usize, Option<usize>)
+        ensures lower { IsWithinCount result.0 (item_count (λ f. f) self.now) }
+        ensures upper { IfSome result.1 (UpTo (item_count (λ f. f) self.now)) }
+        ensures exact { (result.0 ≡ length self.now) × (result.1 ≡ Some result.0) }
+    {
         let count = self.len();
         (count, Some(count))
     }

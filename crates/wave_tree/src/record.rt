@@ -143,7 +143,9 @@ impl<'this, 'src> RecordFields<'this, 'src> {
 }
 
 impl<'this, 'src> Iterator for RecordFields<'this, 'src> {
-    ghost use Rattle.std.specs.Iterator.{YieldsFirstBy, item_count};
+    ghost use Rattle.std.specs.Prelude.{◌≡◌, Some, IfSome, length};
+    ghost use Rattle.std.specs.Iterator.{YieldsFirstBy, UpTo, item_count};
+    ghost use Rattle.std.specs.Iterator.SizeHint.{IsWithinCount};
     ghost use Rattle.wave_tree.specs.Records.{shown_field};
 
     type Item = (&'src str, &'this Node);
@@ -157,7 +159,12 @@ impl<'this, 'src> Iterator for RecordFields<'this, 'src> {
         self.rest.next()
     }
 
-    fn size_hint(&self) -> (usize, Option<usize>) {
+    /// How many are left.
+    fn size_hint(&self) -> (usize, Option<usize>)
+        ensures lower { IsWithinCount result.0 (item_count (λ f. f) self.now) }
+        ensures upper { IfSome result.1 (UpTo (item_count (λ f. f) self.now)) }
+        ensures exact { (result.0 ≡ length self.now) × (result.1 ≡ Some result.0) }
+    {
         let count = self.len();
         (count, Some(count))
     }

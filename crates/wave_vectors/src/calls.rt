@@ -1,7 +1,8 @@
 //! Worked rows of calls: how each is displayed, what its parameters are, or how it is refused.
+use crate::cuts::is_told_at_each_cut;
 use crate::types::types_of;
 use std::test::Fail;
-use wasm_wave::parser::ParserError;
+use wasm_wave::parser::{ParserError, parse_raw_func_call};
 use wasm_wave::untyped::UntypedFuncCall;
 use wasm_wave::value::{Type, Value};
 use wasm_wave::wasm::DisplayFuncArgs;
@@ -30,6 +31,7 @@ fn displays(rt: HostRuntime) -> Result<(), Fail> {
         ("f(())", "empty tuple at 2..4"),
     ] {
         assert_eq!(rt; shown(rt, text)?.as_str(), expected, "{text}");
+        assert!(rt; is_told_at_each_cut(rt, &Type::U8, text), "{text}");
     }
     Ok(())
 }
@@ -77,7 +79,31 @@ fn parameters(rt: HostRuntime) -> Result<(), Fail> {
         ),
     ] {
         assert_eq!(rt; arguments(rt, types, text)?.as_str(), expected, "{text}");
+        assert!(rt; is_told_at_each_cut(rt, &Type::U8, text), "{text}");
     }
+    Ok(())
+}
+
+/// The values of the node of the call's parameters at the types; none where it has no node.
+fn values_of_node(rt: HostRuntime, types: &[Type], text: &str) -> Result<Vec<Value>, ParserError> {
+    let call = UntypedFuncCall::parse(rt.alloc(), text)?;
+    match call.params_node() {
+        Some(node) => node.to_wasm_params(rt.alloc(), types, call.source()),
+        None => Ok(Vec::new(rt.alloc())),
+    }
+}
+
+/// The display of the values of the node of the call's parameters.
+fn arguments_of_node(rt: HostRuntime, types: &[&str], text: &str) -> Result<String, Fail> {
+    let types = types_of(rt, types)?;
+    let vals = values_of_node(rt, types.as_slice(), text)?;
+    Ok(format!(in rt.alloc(); "{}", DisplayFuncArgs::new(rt.alloc(), vals.as_slice()))?)
+}
+
+#[test]
+fn parameters_of_nodes(rt: HostRuntime) -> Result<(), Fail> {
+    let shown = arguments_of_node(rt, &["u8", "option<u8>"][..], "f(1)")?;
+    assert_eq!(rt; shown.as_str(), "(1, none)");
     Ok(())
 }
 
@@ -100,5 +126,19 @@ fn owned_calls(rt: HostRuntime) -> Result<(), Fail> {
     ] {
         assert_eq!(rt; owned(rt, text)?.as_str(), expected);
     }
+    Ok(())
+}
+
+/// How the call is displayed that the parser's own function reads, or why it is refused.
+fn raw(rt: HostRuntime, text: &str) -> Result<String, Fail> {
+    match parse_raw_func_call(rt.alloc(), text) {
+        Ok(call) => Ok(call.to_string(rt.alloc())?),
+        Err(error) => Ok(format!(in rt.alloc(); "{error}")?),
+    }
+}
+
+#[test]
+fn raw_calls(rt: HostRuntime) -> Result<(), Fail> {
+    assert_eq!(rt; raw(rt, "f (1 , )")?.as_str(), "f(1)");
     Ok(())
 }

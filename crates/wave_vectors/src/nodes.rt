@@ -1,4 +1,5 @@
 //! What the accessors of parsed nodes answer.
+use crate::cuts::is_told_at_each_cut;
 use crate::types::type_of;
 use std::test::Fail;
 use wasm_wave::ast::{CowStr, Node, NodeType};
@@ -128,9 +129,27 @@ fn accessors(rt: HostRuntime) -> Result<(), Fail> {
         ("none", "none"),
         ("ok", "ok"),
         ("err(1)", "err of 4..5"),
+        ("ok(ok)", "ok of 3..5"),
     ] {
         assert_eq!(rt; answered(rt, text)?.as_str(), expected, "{text}");
+        assert!(rt; is_told_at_each_cut(rt, &Type::U8, text), "{text}");
     }
+    Ok(())
+}
+
+#[test]
+fn lengths(rt: HostRuntime) -> Result<(), Fail> {
+    let flags = UntypedValue::parse(rt.alloc(), "{b, a}")?;
+    let mut names = flags.node().as_flags(flags.source())?;
+    assert_eq!(rt; names.size_hint(), (2, Some(2)));
+    assert!(rt; names.next() == Some("a") && names.len() == 1);
+    let record = UntypedValue::parse(rt.alloc(), "{%b: 1, a: 2}")?;
+    let mut fields = record.node().as_record(rt.alloc(), record.source())?;
+    assert_eq!(rt; fields.size_hint(), (2, Some(2)));
+    assert!(rt; fields.next().is_some() && fields.len() == 1);
+    let mut entries = record.node().as_map()?;
+    assert_eq!(rt; entries.size_hint(), (2, Some(2)));
+    assert!(rt; entries.next().is_some() && entries.len() == 1);
     Ok(())
 }
 

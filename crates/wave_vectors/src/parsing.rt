@@ -1,9 +1,11 @@
 //! Rows of one parser that answers one value after the other.
+use crate::cuts::is_told_at_each_cut;
 use crate::types::type_of;
 use std::test::Fail;
+use wasm_wave::lex::{Lexer, Token};
 use wasm_wave::parser::Parser;
 use wasm_wave::to_string;
-use wasm_wave::value::Value;
+use wasm_wave::value::{Type, Value};
 
 /// The value read next at the type, printed, or its refusal.
 fn at_type(rt: HostRuntime, parser: &mut Parser, ty: &str) -> Result<String, Fail> {
@@ -114,6 +116,17 @@ fn one_value_after_the_other(rt: HostRuntime) -> Result<(), Fail> {
         ),
     ] {
         assert_eq!(rt; wrong(rt, text, rows)?.as_str(), "", "of {text}");
+        assert!(rt; is_told_at_each_cut(rt, &Type::U8, text), "{text}");
     }
+    Ok(())
+}
+
+#[test]
+fn a_parser_behind_a_token(rt: HostRuntime) -> Result<(), Fail> {
+    let mut lexer = Lexer::new("1 2");
+    assert!(rt; lexer.next() == Some(Ok(Token::Number)));
+    let mut parser = Parser::with_lexer(lexer);
+    assert_eq!(rt; at_type(rt, &mut parser, "u8")?.as_str(), "2");
+    assert_eq!(rt; finished(rt, &mut parser)?.as_str(), "done");
     Ok(())
 }

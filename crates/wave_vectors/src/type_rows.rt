@@ -3,14 +3,16 @@ use crate::types::type_of;
 use std::alloc::{AllocError, Global};
 use std::test::Fail;
 use wasm_wave::value::{Type, Value};
-use wasm_wave::wasm::{DisplayFunc, WasmFunc, WasmType, WasmTypeKind};
+use wasm_wave::wasm::{DisplayFunc, DisplayType, WasmFunc, WasmType, WasmTypeKind};
 use wasm_wave::{from_str, to_string};
 
-/// The text of a copy of the type; nothing where the copy is another type.
+/// The text of a copy of the type; nothing where the copy is another type, or is shown as another
+/// text among all lawful types.
 fn text_of(rt: HostRuntime, text: &str) -> Result<String, Fail> {
     let ty = type_of(rt, text)?;
     let copy = ty.clone()?;
-    match copy == ty {
+    let shown = format!(in rt.alloc(); "{}", DisplayType::new(rt.alloc(), &ty))?;
+    match copy == ty && shown.as_str() == text {
         true => Ok(copy.to_string(rt.alloc())?),
         false => Ok(String::new(rt.alloc())),
     }

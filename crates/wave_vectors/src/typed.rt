@@ -95,6 +95,7 @@ fn scalars(rt: HostRuntime) -> Result<(), Fail> {
             &[
                 ("-0", "invalid value at 0..2"),
                 ("1.0", "invalid value at 0..3"),
+                ("inf", "invalid value at 0..3"),
                 ("1//", "1"),
                 ("1 2", "trailing characters after value at 2..3"),
                 ("x y", "invalid value type at 0..1"),
@@ -267,6 +268,13 @@ fn parts(rt: HostRuntime) -> Result<(), Fail> {
                     "error converting Wasm value: missing payload for \"ok\" case at 0..2",
                 ),
             ][..],
+        ),
+        (
+            "result<result<u8>>",
+            &[(
+                "ok(ok)",
+                "error converting Wasm value: missing payload for \"ok\" case at 3..5",
+            )][..],
         ),
         ("result<bool>", &[("false", "ok(false)")][..]),
         (

@@ -85,6 +85,11 @@ plain_scalar : quoted_char 0x1f44b ≡ 39 ∷ 0xf0 ∷ 0x9f ∷ 0x91 ∷ 0x8b �
 unfolding escaped digits ucd_category lib.Utf8.encode
 plain_scalar = refl
 
+-- the other short escapes
+other_escapes : (escaped 0x5c ≡ codes "\\\\") × (escaped 0x22 ≡ codes "\\\"") × (escaped 0x0d ≡ codes "\\r") × (escaped 0x0a ≡ codes "\\n")
+unfolding escaped
+other_escapes = (refl, refl, refl, refl)
+
 -- U+00AD and U+10FFFF are escaped
 escaped_hyphen : escaped 0xad ≡ codes "\\u{ad}"
 unfolding escaped digits ucd_category

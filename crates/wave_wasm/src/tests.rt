@@ -169,6 +169,25 @@ fn functions(rt: HostRuntime) -> Result<(), Fail> {
 }
 
 #[test]
+fn functions_of_other_shapes(rt: HostRuntime) -> Result<(), Fail> {
+    let char = CharType;
+    let mut types = Vec::new(rt.alloc());
+    types.push(&char)?;
+    types.push(&char)?;
+    let (none, one, two) = (&types[..0], &types[..1], &types[..2]);
+    let results = &["x", "y"][..];
+    let (no_name, name) = (&results[..0], &results[..1]);
+    let text = function_text(rt, Call::new(none, no_name, one, name))?;
+    assert_eq!(rt; text.as_str(), "func() -> (x: char)");
+    let text = function_text(rt, Call::new(one, &["a"][..], two, results))?;
+    assert_eq!(rt; text.as_str(), "func(a: char) -> (x: char, y: char)");
+    let unnamed = DisplayFunc::new(rt.alloc(), Unnamed { char: CharType });
+    let text = format!(in rt.alloc(); "{unnamed}")?;
+    assert_eq!(rt; text.as_str(), "func(char) -> char");
+    Ok(())
+}
+
+#[test]
 fn kinds(rt: HostRuntime) -> Result<(), Fail> {
     let shown = format!(in rt.alloc(); "{}", DisplayType::new(rt.alloc(), &CharType))?;
     assert_eq!(rt; shown.as_str(), "char");
