@@ -70,7 +70,7 @@ refused_alike s T = (
 )
 
 -- tokens that fill a text are its cut
-filled : (s : List ℕ) (p : _) (tokens : List Token) → HoldsTokens s p tokens → CutsInto (slice s p) tokens
+pub filled : (s : List ℕ) (p : _) (tokens : List Token) → HoldsTokens s p tokens → CutsInto (slice s p) tokens
 filled s p tokens h = ([], h.2, end_gap)
   where
     end_gap : IsGap [] 0

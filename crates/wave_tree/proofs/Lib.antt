@@ -105,6 +105,7 @@ pub mod Results
 pub mod Variants
 pub mod Parts
 pub mod Agreeing
+pub mod ShownAgain
 pub mod LastCommas
 pub mod Orders
 pub mod FlagNodes

@@ -40,5 +40,6 @@ pub mod TreeLaws
 pub mod BeginLaws
 pub mod AnswerLaws
 pub mod ShownLaws
+pub mod ShownAgain
 pub mod MeaningLaws
 pub mod OrderLaws

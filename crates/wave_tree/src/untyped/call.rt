@@ -1,5 +1,6 @@
 //! Calls that were read without types.
-ghost use Rattle.std.specs.Prelude.{◌≡◌, ℕ, IfOk, IfErr, option_map, map};
+ghost use Rattle.std.specs.Prelude.{◌≡◌, ℕ, Some, IfOk, IfErr, option_map, map};
+ghost use Rattle.std.specs.Fmt.{DisplaysOnOk};
 ghost use Rattle.wave_tree.specs.Placed.{slice};
 ghost use Rattle.wave_tree.specs.Standing.{IsCausedInParams};
 ghost use Rattle.wave_lex.specs.declared.error.ParserErrorKind.TheVariants.{WasmValueError};
@@ -7,7 +8,8 @@ ghost use Rattle.wave_tree.specs.AnswerLaws.{LiesInText};
 ghost use Rattle.wave_lex.specs.FunctionName.{IsName};
 ghost use Rattle.wave_wasm.specs.Lists.{AllOf};
 ghost use Rattle.wave_wasm.specs.Types.{HasDistinctNames};
-ghost use Rattle.wave_tree.specs.Called.{IsParamsOf, IsInSource, IsCalledOf, NameFault, RefusesCall, GivesParamsAt, RefusesParamsAt};
+ghost use Rattle.wave_tree.specs.Called.{IsParamsOf, IsInSource, IsCalledOf, NameFault, RefusesCall, GivesParamsAt, RefusesParamsAt, call_shown};
+ghost use Rattle.wave_tree.specs.ShownAgain.{IsCallKeptByDisplay};
 
 use crate::ast::Node;
 use crate::params::omitted_params;
@@ -182,7 +184,10 @@ impl fmt::Display for UntypedFuncCall<'_> {
 
     ghost output = { λ u. Some (call_shown u) };
 
-    fn fmt<W: fmt::Write>(&self, f: &mut fmt::Formatter<W>) -> fmt::Result {
+    fn fmt<W: fmt::Write>(&self, f: &mut fmt::Formatter<W>) -> fmt::Result
+        ensures writes { DisplaysOnOk W.write_str_gives f.old result (Some (call_shown self.now)) f.new }
+        ensures kept { IsCallKeptByDisplay self.now (call_shown self.now) }
+    {
         let source = self.source.as_str();
         f.write_str(&source[self.name.start..self.name.end])?;
         match &self.params {

@@ -1,12 +1,13 @@
 //! The text of what was read without a type.
-ghost use Rattle.std.specs.Prelude.{◌≡◌, ◌++◌, All, map, codes};
-ghost use Rattle.std.specs.Fmt.{WritesOnOk};
+ghost use Rattle.std.specs.Prelude.{◌≡◌, ◌++◌, All, Some, map, codes};
+ghost use Rattle.std.specs.Fmt.{WritesOnOk, DisplaysOnOk};
 ghost use Rattle.wave_wasm.specs.Commas.{joined, enclosed, behind_name, in_parens, in_braces};
 ghost use Rattle.wave_wasm.specs.Keywords.{case_label};
 ghost use Rattle.wave_tree.specs.NodeTree.{type_of};
 ghost use Rattle.wave_tree.specs.Nodes.{IsParsedFrom};
 ghost use Rattle.wave_tree.specs.Typed.{IsValueOf};
 ghost use Rattle.wave_tree.specs.Answers.{text_at};
+ghost use Rattle.wave_tree.specs.ShownAgain.{IsKeptByDisplay};
 ghost use Rattle.wave_tree.specs.ShownNodes.{shown_at, name_at, entries_at, fields_at, payload_at, AreEntriesOf};
 
 use crate::ast::{Node, NodeType};
@@ -21,7 +22,10 @@ impl fmt::Display for UntypedValue<'_> {
 
     ghost output = { λ u. Some (shown_at u.source u.node) };
 
-    fn fmt<W: fmt::Write>(&self, f: &mut fmt::Formatter<W>) -> fmt::Result {
+    fn fmt<W: fmt::Write>(&self, f: &mut fmt::Formatter<W>) -> fmt::Result
+        ensures writes { DisplaysOnOk W.write_str_gives f.old result (Some (shown_at self.now.source self.now.node)) f.new }
+        ensures kept { IsKeptByDisplay self.now.source self.now.node (shown_at self.now.source self.now.node) }
+    {
         let node = self.node();
         write_node(f, node, self.source())
     }
