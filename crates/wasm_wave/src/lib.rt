@@ -1,7 +1,7 @@
 //! Component values, their types and their text: reading and writing, by the crates below.
 #![tactic(auto)]
 
-ghost use Rattle.std.specs.Prelude.{◌≡◌, IfOk, IfErr};
+ghost use Rattle.std.specs.Prelude.{◌≡◌, None, IfOk, IfErr};
 ghost use Rattle.std.specs.String.{string_bytes};
 ghost use Rattle.wave_wasm.specs.Text.{text, has_text};
 ghost use Rattle.wave_wasm.specs.Output.{IsGrounded};
@@ -11,7 +11,12 @@ ghost use Rattle.wave_tree.specs.AnswerLaws.{LiesInText};
 ghost use Rattle.wave_tree.specs.Laws.{OneReading};
 ghost use Rattle.wave_tree.specs.CanonLaws.{ReadBack, ReadsBackWithinTwice};
 ghost use Rattle.wave_wasm.specs.Types.{TypeTree, HasDistinctNames, IsOwn};
-ghost use Rattle.wave_tree.specs.FromText.{IsMeant, RefusesText};
+ghost use Rattle.wave_lex.specs.Lexing.{span};
+ghost use Rattle.wave_lex.specs.declared.error.ParserErrorKind.TheVariants as kind;
+ghost use Rattle.wave_tree.specs.Place.{Place};
+ghost use Rattle.wave_tree.specs.Refusals.{Says};
+ghost use Rattle.wave_tree.specs.Standing.{IsCausedBetween};
+ghost use Rattle.wave_tree.specs.FromText.{IsMeant, RefusesText, start_of};
 ghost use Rattle.wasm_wave.specs.Headline.{IsForMemory, IsToldByText, IsReadAgain, OneValue, IsMergedAt, RefusesOnly};
 
 use crate::wasm::WasmValue;
@@ -29,17 +34,20 @@ pub use wave_tree::{ast, parser, untyped};
 pub use wave_wasm::{wasm, writer};
 
 /// The value that the whole text means at the type, which is of that type; a text that means none
-/// is refused, and so is any text for want of memory. A refusal's span lies in the text. All the
-/// rest where the names of the type are distinct and, for a refusal, makers serve every value of
-/// the type, as those of `Value` do there: what is read is merged, and no tokens spell two values
-/// nor begin the spelling of another; where the names are labels too and the type's tree is one that
-/// `Type` has, what is read within some levels has a canonical text of at most twice as many.
+/// is refused, and so is any text for want of memory, at 0..0. A refusal's span lies in the text; a
+/// `WasmValueError` has a cause and stands at a node of what was read. All the rest where the names
+/// of the type are distinct and, for a refusal, makers serve every value of the type, as those of
+/// `Value` do there: what is read is merged, and no tokens spell two values nor begin the spelling of
+/// another; where the names are labels too and the type's tree is one that `Type` has, what is read
+/// within some levels has a canonical text of at most twice as many.
 pub fn from_str<V: WasmValue>(alloc: Global, ty: &V::Type, s: &str) -> Result<V, ParserError>
     ensures read { IfOk result (IsMeant V.tree V.is_of (V.Type.tree ty.now) s.now) }
     ensures merged { IfOk result (λ v. IsMergedAt (V.Type.tree ty.now) (V.tree v)) }
     ensures refused { IfErr result (RefusesOnly V.is_full (V.Type.tree ty.now) s.now) }
     ensures fault { IfErr result (RefusesText V.is_full (V.Type.tree ty.now) s.now) }
     ensures within { IfErr result (λ e. LiesInText s.now e.span) }
+    ensures caused { IfErr result (λ e. (p : Place) × IsCausedBetween (start_of s.now) p e) }
+    ensures memory { IfErr result (λ e. e.kind ≡ kind.OutOfMemory → Says e kind.OutOfMemory (span 0 0) None) }
     ensures one { HasDistinctNames (V.Type.tree ty.now) → OneValue (V.Type.tree ty.now) }
     ensures reading { HasDistinctNames (V.Type.tree ty.now) → OneReading (V.Type.tree ty.now) }
     ensures twice { Good (V.Type.tree ty.now) → IsOwn (V.Type.tree ty.now) → ReadsBackWithinTwice (V.Type.tree ty.now) }
