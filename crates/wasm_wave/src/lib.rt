@@ -52,7 +52,7 @@ pub fn from_str<V: WasmValue>(alloc: Global, ty: &V::Type, s: &str) -> Result<V,
     ensures reading { HasDistinctNames (V.Type.tree ty.now) → OneReading (V.Type.tree ty.now) }
     ensures twice { Good (V.Type.tree ty.now) → IsOwn (V.Type.tree ty.now) → ReadsBackWithinTwice (V.Type.tree ty.now) }
 {
-    parser::from_str::<V>(alloc, ty, s)
+    wave_tree::from_str::<V>(alloc, ty, s)
 }
 
 /// The canonical text of the value; `UnsupportedType` is answered only where it has none, `Io`

@@ -1,6 +1,20 @@
 //! Trees of values, read from texts.
 #![tactic(auto)]
 
+ghost use Rattle.std.specs.Prelude.{◌≡◌, None, IfOk, IfErr};
+ghost use Rattle.wave_lex.specs.Lexing.{span};
+ghost use Rattle.wave_lex.specs.declared.error.ParserErrorKind.TheVariants as kind;
+ghost use Rattle.wave_tree.specs.Place.{Place};
+ghost use Rattle.wave_tree.specs.Refusals.{Says};
+ghost use Rattle.wave_tree.specs.FromText.{start_of, IsMeant, RefusesText};
+ghost use Rattle.wave_tree.specs.Standing.{IsCausedBetween};
+ghost use Rattle.wave_tree.specs.AnswerLaws.{LiesInText};
+
+use crate::parser::Parser;
+use std::alloc::Global;
+use wave_lex::error::ParserError;
+use wave_wasm::wasm::WasmValue;
+
 mod ahead;
 pub mod ast;
 mod flags;
@@ -13,3 +27,18 @@ mod text;
 mod typed;
 pub mod untyped;
 mod word;
+
+/// The value of the type that the whole text means. A syntax fault of the value is answered before
+/// any fault of type, and a fault of type before `TrailingCharacters`.
+pub fn from_str<V: WasmValue>(alloc: Global, ty: &V::Type, s: &str) -> Result<V, ParserError>
+    ensures value { IfOk result (IsMeant V.tree V.is_of (V.Type.tree ty.now) s.now) }
+    ensures refused { IfErr result (RefusesText V.is_full (V.Type.tree ty.now) s.now) }
+    ensures memory { IfErr result (λ e. e.kind ≡ kind.OutOfMemory → Says e kind.OutOfMemory (span 0 0) None) }
+    ensures within { IfErr result (λ e. LiesInText s.now e.span) }
+    ensures caused { IfErr result (λ e. (p : Place) × IsCausedBetween (start_of s.now) p e) }
+{
+    let mut parser = Parser::new(s);
+    let value = parser.parse_value::<V>(alloc, ty)?;
+    parser.finish()?;
+    Ok(value)
+}

@@ -12,7 +12,7 @@ ghost use Rattle.wave_tree.specs.Refusals.{Gives, GivesWithin, GivesAnywhere, Sa
 ghost use Rattle.wave_lex.specs.Lexing.{span, remainder_of};
 ghost use Rattle.wave_tree.specs.Untyped.{IsUntypedTaken};
 ghost use Rattle.wave_tree.specs.Called.{AreParamsTaken, RefusesTuple};
-ghost use Rattle.wave_tree.specs.FromText.{start_of, IsValueTaken, RefusesValue, IsMeant, RefusesText};
+ghost use Rattle.wave_tree.specs.FromText.{IsValueTaken, RefusesValue};
 ghost use Rattle.wave_tree.specs.Word.{form_of, IsClose};
 ghost use Rattle.std.specs.BTreeMap.{values};
 ghost use Rattle.wave_tree.specs.NodeTree.{node, no_nodes, node_trees};
@@ -26,7 +26,7 @@ use crate::ahead::Ahead;
 use crate::ast::{Node, NodeType};
 use crate::untyped::UntypedValue;
 pub use crate::untyped::parse_raw_func_call;
-use crate::word::{Word, class_name, key_type, label_name, word_of};
+use crate::word::{Word, key_type, label_name, word_of};
 use std::alloc::Global;
 use std::collections::BTreeMap;
 use std::marker::Model;
@@ -186,7 +186,7 @@ impl<'source> Parser<'source> {
         ParserError::with_static(
             ParserErrorKind::UnexpectedToken,
             self.span(),
-            class_name(token),
+            token.name(),
         )
     }
 
@@ -646,19 +646,4 @@ impl<'source> Parser<'source> {
             Err(_) => Err(self.out_of_memory()),
         }
     }
-}
-
-/// The value of the type that the whole text means. A syntax fault of the value is answered before
-/// any fault of type, and a fault of type before `TrailingCharacters`.
-pub fn from_str<V: WasmValue>(alloc: Global, ty: &V::Type, s: &str) -> Result<V, ParserError>
-    ensures value { IfOk result (IsMeant V.tree V.is_of (V.Type.tree ty.now) s.now) }
-    ensures refused { IfErr result (RefusesText V.is_full (V.Type.tree ty.now) s.now) }
-    ensures memory { IfErr result (λ e. e.kind ≡ kind.OutOfMemory → Says e kind.OutOfMemory (span 0 0) None) }
-    ensures within { IfErr result (λ e. LiesInText s.now e.span) }
-    ensures caused { IfErr result (λ e. (p : Place) × IsCausedBetween (start_of s.now) p e) }
-{
-    let mut parser = Parser::new(s);
-    let value = parser.parse_value::<V>(alloc, ty)?;
-    parser.finish()?;
-    Ok(value)
 }

@@ -1,6 +1,5 @@
 //! What labels and tokens are to the parser.
 ghost use Rattle.std.specs.Prelude.{◌≡◌, MatchOption};
-ghost use Rattle.wave_lex.specs.Errors.{class_name};
 ghost use Rattle.wave_tree.specs.Spells.{name_of};
 ghost use Rattle.wave_tree.specs.Tree.{word_of};
 ghost use Rattle.wave_tree.specs.Word.{IsKeyClass};
@@ -69,26 +68,5 @@ pub(crate) fn key_type(token: Token) -> Option<NodeType>
         Token::String => Some(NodeType::String),
         Token::MultilineString => Some(NodeType::MultilineString),
         _ => None,
-    }
-}
-
-/// The name of a class, which the refusal of an unexpected token tells.
-pub(crate) fn class_name(token: Token) -> &'static str
-    ensures { result.now ≡ class_name token }
-{
-    match token {
-        Token::BraceOpen => "BraceOpen",
-        Token::BraceClose => "BraceClose",
-        Token::ParenOpen => "ParenOpen",
-        Token::ParenClose => "ParenClose",
-        Token::BracketOpen => "BracketOpen",
-        Token::BracketClose => "BracketClose",
-        Token::Colon => "Colon",
-        Token::Comma => "Comma",
-        Token::Number => "Number",
-        Token::LabelOrKeyword => "LabelOrKeyword",
-        Token::Char => "Char",
-        Token::String => "String",
-        Token::MultilineString => "MultilineString",
     }
 }

@@ -10,7 +10,7 @@ use Rattle.wave_tree.specs.Standing.{IsCausedBetween}
 use Rattle.wave_tree.proofs.ParamLemmas.{error_handed}
 use Rattle.wave_tree.proofs.Spans.{trailing_kind}
 use Rattle.wave_tree.proofs.FaultSpans.{trailing_lies}
-use Rattle.wave_tree.proofs.parser.from_str.Goals as goal
+use Rattle.wave_tree.proofs.from_str.Goals as goal
 
 pub returns-in_err-value-clause-refused : goal.returns-in_err-value-clause-refused
 returns-in_err-value-clause-refused g c =
