@@ -215,12 +215,12 @@ module _ {V : Type 0} (tree : V → Value) (of : V → TypeTree → Type 0) (Ful
   pub omitted_refused : (source : List ℕ) (Ts Left : List TypeTree) (ns : List NodeTree) (ts : List Placed) (vs : List V) (i : ℕ) (whole : NodeTree) (e : ParserError) → AreNodesOf source ns ts → i ≤ length ns → length ns ≤ i → i ≤ length Ts → ReadAt tree of Full (take i Ts) (take i ts) vs → Left ≡ drop (length ns) Ts →
       RefusesOmitted Full Left (place_of whole) e → RefusesItems Full Ts ts whole e
   omitted_refused source Ts Left ns ts vs i whole e nodes le ge l before left (inl memory) = inl memory
-  omitted_refused source Ts Left ns ts vs i whole e nodes le ge l before left (inr (kind, place, apart)) =
+  omitted_refused source Ts Left ns ts vs i whole e nodes le ge l before left (inr (kind, place, options, apart)) =
       let many = node_count source ns ts nodes in
       let same : length ns ≡ i = omega (arith, le, ge) in
       let there : Left ≡ drop i Ts = left ∙ ap (λ (k : ℕ). drop k Ts) same in
       maker_refused Ts ts vs i whole e l (omega (arith, le, many)) before kind
-      (subst (λ (z : List Placed). MakerRefuses Full (drop i Ts) z whole e) (sym (drop_end ts i (omega (arith, ge, many)))) (subst (λ (z : List TypeTree). AllOf Full z → ⊥) there apart, place))
+      (subst (λ (z : List Placed). MakerRefuses Full (drop i Ts) z whole e) (sym (drop_end ts i (omega (arith, ge, many)))) (subst (AllOf IsOption) there options, subst (λ (z : List TypeTree). AllOf Full z → ⊥) there apart, place))
 
   -- ---- omitted parameters
 
@@ -250,12 +250,12 @@ module _ {V : Type 0} (tree : V → Value) (of : V → TypeTree → Type 0) (Ful
   omitted_more Ts vs ws i T v before after here is makes e f omitted are =
       (ws ++ v ∷ [], f ∙ (ap (λ (z : List V). z ++ v ∷ []) e ∙ append_assoc vs ws (v ∷ [])), rw add-one (omitted_push Ts ws i T v here is makes.means omitted), rw add-one (are_push Ts ws i T v here makes.is_of are))
 
-  refused_by_cause : (Ts : List TypeTree) (at : Range ℕ) (cause : WasmValueError) (e : ParserError) → refusal_of e ≡ refused_by (cause_of cause) → e.span ≡ at → (AllOf Full Ts → IsMemory cause) → RefusesOmitted Full Ts at e
-  refused_by_cause Ts at (error.Memory a) e is place full = inl (ap (λ (r : Refusal). r.kind) is)
-  refused_by_cause Ts at _ e is place full = inr (ap (λ (r : Refusal). r.kind) is, place, full)
+  refused_by_cause : (Ts : List TypeTree) (at : Range ℕ) (cause : WasmValueError) (e : ParserError) → refusal_of e ≡ refused_by (cause_of cause) → e.span ≡ at → AllOf IsOption Ts → (AllOf Full Ts → IsMemory cause) → RefusesOmitted Full Ts at e
+  refused_by_cause Ts at (error.Memory a) e is place options full = inl (ap (λ (r : Refusal). r.kind) is)
+  refused_by_cause Ts at _ e is place options full = inr (ap (λ (r : Refusal). r.kind) is, place, options, full)
 
   -- a maker that refuses `none`
   pub omission_refused : (Ts : List TypeTree) (at : Range ℕ) (i : ℕ) (T : TypeTree) (cause : WasmValueError) (e : ParserError) → HasAt Ts i T → AllOf IsOption Ts → FullOption of Full T None cause → refusal_of e ≡ refused_by (cause_of cause) → e.span ≡ at → RefusesOmitted Full Ts at e
   omission_refused Ts at i T cause e here options full is place =
       let (P, option) = option_of T (all_has IsOption Ts i T options here) in
-      refused_by_cause Ts at cause e is place (λ all. full (all_has Full Ts i T all here) P option tt)
+      refused_by_cause Ts at cause e is place options (λ all. full (all_has Full Ts i T all here) P option tt)

@@ -56,9 +56,9 @@ module _ {V : Type 0} (tree : V → Value) (of : V → TypeTree → Type 0) wher
   abbrev pub GivesParams : List TypeTree → NodeTree → Placed → List V → Type 0
   GivesParams Ts n t vs = (items : List Placed) × (shape_of t ≡ tuple (placed_trees items)) × AreRead Ts items vs
 
--- the refusal of a maker that does not serve all values of its type, behind items that have theirs: it lies in the next item; or, for a type that is left, it stands at the node
+-- the refusal of a maker that does not serve all values of its type, behind items that have theirs: it lies in the next item; or, for a type that is left, where all that are left are options, it stands at the node
 abbrev pub MakerRefuses : (TypeTree → Type 0) → List TypeTree → List Placed → NodeTree → ParserError → Type 0
-MakerRefuses Full Ts [] n e = (AllOf Full Ts → ⊥) × (e.span ≡ place_of n)
+MakerRefuses Full Ts [] n e = AllOf IsOption Ts × (AllOf Full Ts → ⊥) × (e.span ≡ place_of n)
 MakerRefuses Full [] (t ∷ ts) n e = ⊥
 MakerRefuses Full (T ∷ Ts) (t ∷ ts) n e =
     (Full T → ⊥) × LiesIn e.span (span_of t).start (span_of t).end
@@ -75,6 +75,6 @@ RefusesParams Full Ts n t e =
     (type_of n ≢ kind.Tuple) × RefusedAs InvalidType n e
     ⊎ ((items : List Placed) × (shape_of t ≡ tuple (placed_trees items)) × RefusesItems Full Ts items n e)
 
--- want of memory, or, where makers do not serve all values of the types, the refusal of one at this place
+-- want of memory, or, where makers do not serve all values of the types, which are options, the refusal of one at this place
 abbrev pub RefusesOmitted : (TypeTree → Type 0) → List TypeTree → Range ℕ → ParserError → Type 0
-RefusesOmitted Full Ts at e = (e.kind ≡ OutOfMemory) ⊎ (e.kind ≡ WasmValueError) × (e.span ≡ at) × (AllOf Full Ts → ⊥)
+RefusesOmitted Full Ts at e = (e.kind ≡ OutOfMemory) ⊎ (e.kind ≡ WasmValueError) × (e.span ≡ at) × AllOf IsOption Ts × (AllOf Full Ts → ⊥)
