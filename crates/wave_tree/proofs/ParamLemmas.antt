@@ -18,12 +18,14 @@ use Rattle.wave_lex.specs.declared.error.ParserError.{ParserError}
 use Rattle.wave_lex.specs.declared.error.ParserErrorKind.TheVariants as because
 use Rattle.wave_tree.specs.Reads.{IsOption}
 use Rattle.wave_tree.specs.Params.{Omitted}
-use Rattle.wave_tree.specs.Placed.{Placed}
+use Rattle.wave_tree.specs.Placed.{Placed, span_of, tree_of, LiesIn}
 use Rattle.wave_tree.specs.Typed.{IsRefused}
-use Rattle.wave_tree.specs.TreeParams.{NoParams, IsNoOption, ParamsFault, AreRead, RefusesItems, RefusesOmitted}
+use Rattle.wave_tree.specs.TreeReads.{TreeReads}
+use Rattle.wave_tree.specs.TreeParams.{NoParams, IsNoOption, ParamsFault, AreRead, MakerRefuses, RefusesItems, RefusesOmitted, close_of}
 use Rattle.wave_tree.specs.NodeTree.{NodeTree, place_of}
 use Rattle.wave_tree.specs.Nodes.{IsNodeOf}
 use Rattle.wave_tree.specs.Refusals.{Says}
+use Rattle.wave_tree.specs.Standing.{StandsIn}
 use Rattle.wave_tree.proofs.Inside.{inside}
 use Rattle.wave_tree.proofs.Items.{HasAt, AreNodesOf, node_at}
 use Rattle.wave_tree.proofs.Tuples.{ReadAt, all_has}
@@ -129,25 +131,34 @@ fault_none (T ∷ Ts) (t ∷ ts) close e (inl h) vs (v, others, reads, rest, is)
 fault_none (T ∷ Ts) (t ∷ ts) close e (inr (w, reads, h)) vs (v, others, k, rest, is) = fault_none Ts ts close e h others rest
 
 module _ {V : Type 0} (tree : V → Value) (of : V → TypeTree → Type 0) (Full : TypeTree → Type 0) where
-  -- a fault behind items that have values
-  pub fault_behind : (Ts : List TypeTree) (ts : List Placed) (vs : List V) (i : ℕ) (close : Range ℕ) (e : ParserError) → i ≤ length Ts → i ≤ length ts → ReadAt tree of Full (take i Ts) (take i ts) vs → ParamsFault (drop i Ts) (drop i ts) close e → ParamsFault Ts ts close e
-  fault_behind Ts ts vs zero close e l m before fault = fault
-  fault_behind [] ts vs (suc i) close e l m before fault = absurd (omega (arith, l))
-  fault_behind (T ∷ Ts) [] vs (suc i) close e l m before fault = absurd (omega (arith, m))
-  fault_behind (T ∷ Ts) (t ∷ ts) [] (suc i) close e l m before fault = absurd before
-  fault_behind (T ∷ Ts) (t ∷ ts) (v ∷ vs) (suc i) close e l m before fault = inr (tree v, before.0.reads, fault_behind Ts ts vs i close e (omega (arith, l)) (omega (arith, m)) before.1 fault)
+  -- what holds of what is left holds behind items that have values
+  behind : (P : List TypeTree → List Placed → Type 0) → ((T : TypeTree) (Ts : List TypeTree) (t : Placed) (ts : List Placed) (v : Value) → TreeReads T (tree_of t) v → P Ts ts → P (T ∷ Ts) (t ∷ ts)) →
+      (Ts : List TypeTree) (ts : List Placed) (vs : List V) (i : ℕ) → i ≤ length Ts → i ≤ length ts → ReadAt tree of Full (take i Ts) (take i ts) vs → P (drop i Ts) (drop i ts) → P Ts ts
+  behind P more Ts ts vs zero l m before left = left
+  behind P more [] ts vs (suc i) l m before left = absurd (omega (arith, l))
+  behind P more (T ∷ Ts) [] vs (suc i) l m before left = absurd (omega (arith, m))
+  behind P more (T ∷ Ts) (t ∷ ts) [] (suc i) l m before left = absurd before
+  behind P more (T ∷ Ts) (t ∷ ts) (v ∷ vs) (suc i) l m before left = more T Ts t ts (tree v) before.0.reads (behind P more Ts ts vs i (omega (arith, l)) (omega (arith, m)) before.1 left)
 
-  -- so it is refused
-  pub refused_behind : (Ts : List TypeTree) (ts : List Placed) (vs : List V) (i : ℕ) (close : Range ℕ) (e : ParserError) → i ≤ length Ts → i ≤ length ts → ReadAt tree of Full (take i Ts) (take i ts) vs → ParamsFault (drop i Ts) (drop i ts) close e → RefusesItems Full Ts ts close e
-  refused_behind Ts ts vs i close e l m before fault = let h = fault_behind Ts ts vs i close e l m before fault in inr (inl (h, fault_none Ts ts close e h))
+  -- a fault behind items that have values
+  fault_refused : (Ts : List TypeTree) (ts : List Placed) (vs : List V) (i : ℕ) (whole : NodeTree) (e : ParserError) → i ≤ length Ts → i ≤ length ts → ReadAt tree of Full (take i Ts) (take i ts) vs → ParamsFault (drop i Ts) (drop i ts) (close_of whole) e → RefusesItems Full Ts ts whole e
+  fault_refused Ts ts vs i whole e l m before fault =
+      let h = behind (λ Us us. ParamsFault Us us (close_of whole) e) (λ U Us u us v reads rest. inr (v, reads, rest)) Ts ts vs i l m before fault in
+      inr (inl (h, fault_none Ts ts (close_of whole) e h))
+
+  -- a maker's refusal behind them
+  maker_refused : (Ts : List TypeTree) (ts : List Placed) (vs : List V) (i : ℕ) (whole : NodeTree) (e : ParserError) → i ≤ length Ts → i ≤ length ts → ReadAt tree of Full (take i Ts) (take i ts) vs → e.kind ≡ because.WasmValueError → MakerRefuses Full (drop i Ts) (drop i ts) whole e → RefusesItems Full Ts ts whole e
+  maker_refused Ts ts vs i whole e l m before kind refuses = inr (inr (kind, behind (λ Us us. MakerRefuses Full Us us whole e) (λ U Us u us v reads rest. inr (v, reads, rest)) Ts ts vs i l m before refuses))
 
   -- a refusal of the next item
-  pub next_refused : (Ts : List TypeTree) (ts : List Placed) (vs : List V) (i : ℕ) (close : Range ℕ) (e : ParserError) (T : TypeTree) (t : Placed) → i < length Ts → i < length ts → ReadAt tree of Full (take i Ts) (take i ts) vs → HasAt Ts i T → HasAt ts i t → IsRefused Full T t e → RefusesItems Full Ts ts close e
-  next_refused Ts ts vs i close e T t l m before typed here (inl memory) = inl memory
-  next_refused Ts ts vs i close e T t l m before typed here (inr (inl fault)) =
-      refused_behind Ts ts vs i close e (omega (arith, l)) (omega (arith, m)) before
-      (subst (λ (z : List TypeTree). ParamsFault z (drop i ts) close e) (sym (has_drop Ts i T typed)) (subst (λ (z : List Placed). ParamsFault (T ∷ drop (suc i) Ts) z close e) (sym (has_drop ts i t here)) (inl fault)))
-  next_refused Ts ts vs i close e T t l m before typed here (inr (inr h)) = inr (inr (h.0, λ full. h.1 (all_has Full Ts i T full typed)))
+  next_refused : (Ts : List TypeTree) (ts : List Placed) (vs : List V) (i : ℕ) (whole : NodeTree) (e : ParserError) (T : TypeTree) (t : Placed) → i < length Ts → i < length ts → ReadAt tree of Full (take i Ts) (take i ts) vs → HasAt Ts i T → HasAt ts i t → IsRefused Full T t e → LiesIn e.span (span_of t).start (span_of t).end → RefusesItems Full Ts ts whole e
+  next_refused Ts ts vs i whole e T t l m before typed here (inl memory) lies = inl memory
+  next_refused Ts ts vs i whole e T t l m before typed here (inr (inl fault)) lies =
+      fault_refused Ts ts vs i whole e (omega (arith, l)) (omega (arith, m)) before
+      (subst (λ (z : List TypeTree). ParamsFault z (drop i ts) (close_of whole) e) (sym (has_drop Ts i T typed)) (subst (λ (z : List Placed). ParamsFault (T ∷ drop (suc i) Ts) z (close_of whole) e) (sym (has_drop ts i t here)) (inl fault)))
+  next_refused Ts ts vs i whole e T t l m before typed here (inr (inr h)) lies =
+      maker_refused Ts ts vs i whole e (omega (arith, l)) (omega (arith, m)) before h.0
+      (subst (λ (z : List TypeTree). MakerRefuses Full z (drop i ts) whole e) (sym (has_drop Ts i T typed)) (subst (λ (z : List Placed). MakerRefuses Full (T ∷ drop (suc i) Ts) z whole e) (sym (has_drop ts i t here)) (inl (h.1, lies))))
 
   -- the values that were read, and `none` for the types that are left
   pub read_and_omitted : (Ts : List TypeTree) (ts : List Placed) (vs others : List V) (i : ℕ) → i ≤ length Ts → length ts ≤ i → i ≤ length ts → ReadAt tree of Full (take i Ts) (take i ts) vs → Omitted (drop i Ts) (map tree others) → AreOf of (drop i Ts) others → AreRead tree of Ts ts (vs ++ others)
@@ -163,31 +174,32 @@ module _ {V : Type 0} (tree : V → Value) (of : V → TypeTree → Type 0) (Ful
       record { reads = (tree v, map tree (vs ++ others), before.0.reads, it.reads, refl); are_of = (before.0.is_of, it.are_of) }
 
   -- an item that is too many
-  pub too_many_refused : (source : List ℕ) (Ts : List TypeTree) (ns : List NodeTree) (ts : List Placed) (vs : List V) (i : ℕ) (n : NodeTree) (close : Range ℕ) (e : ParserError) → AreNodesOf source ns ts → i < length ns → n ≡ get_or ns i n → i ≤ length Ts → length Ts ≤ i → ReadAt tree of Full (take i Ts) (take i ts) vs →
-      Says e because.InvalidParams (place_of n) (Some too_many_params) → RefusesItems Full Ts ts close e
-  too_many_refused source Ts ns ts vs i n close e nodes lt at_i l m before says =
+  pub too_many_refused : (source : List ℕ) (Ts : List TypeTree) (ns : List NodeTree) (ts : List Placed) (vs : List V) (i : ℕ) (n whole : NodeTree) (e : ParserError) → AreNodesOf source ns ts → i < length ns → n ≡ get_or ns i n → i ≤ length Ts → length Ts ≤ i → ReadAt tree of Full (take i Ts) (take i ts) vs →
+      Says e because.InvalidParams (place_of n) (Some too_many_params) → RefusesItems Full Ts ts whole e
+  too_many_refused source Ts ns ts vs i n whole e nodes lt at_i l m before says =
       let (u, here, means) = node_at source ns ts i n nodes lt at_i in
       let fits : i ≤ length ts = omega (arith, lt, node_count source ns ts nodes) in
       let place = (inside source n u means.0).place in
-      let fault : ParamsFault [] (u ∷ drop (suc i) ts) close e = subst (λ (p : Range ℕ). Says e because.InvalidParams p (Some too_many_params)) (sym place) says in
-      refused_behind Ts ts vs i close e l fits before
-      (subst (λ (z : List TypeTree). ParamsFault z (drop i ts) close e) (sym (drop_end Ts i m)) (subst (λ (z : List Placed). ParamsFault [] z close e) (sym (has_drop ts i u here)) fault))
+      let fault : ParamsFault [] (u ∷ drop (suc i) ts) (close_of whole) e = subst (λ (p : Range ℕ). Says e because.InvalidParams p (Some too_many_params)) (sym place) says in
+      fault_refused Ts ts vs i whole e l fits before
+      (subst (λ (z : List TypeTree). ParamsFault z (drop i ts) (close_of whole) e) (sym (drop_end Ts i m)) (subst (λ (z : List Placed). ParamsFault [] z (close_of whole) e) (sym (has_drop ts i u here)) fault))
 
   -- a refusal of an item
-  pub item_refused : (source : List ℕ) (Ts : List TypeTree) (ns : List NodeTree) (ts : List Placed) (vs : List V) (i : ℕ) (n : NodeTree) (T : TypeTree) (close : Range ℕ) (e : ParserError) → AreNodesOf source ns ts → i < length ns → n ≡ get_or ns i n → i < length Ts → HasAt Ts i T → ReadAt tree of Full (take i Ts) (take i ts) vs →
-      ((u : Placed) → IsNodeOf source n u → IsRefused Full T u e) → RefusesItems Full Ts ts close e
-  item_refused source Ts ns ts vs i n T close e nodes lt at_i l typed before blamed =
+  pub item_refused : (source : List ℕ) (Ts : List TypeTree) (ns : List NodeTree) (ts : List Placed) (vs : List V) (i : ℕ) (n : NodeTree) (T : TypeTree) (whole : NodeTree) (e : ParserError) → AreNodesOf source ns ts → i < length ns → n ≡ get_or ns i n → i < length Ts → HasAt Ts i T → ReadAt tree of Full (take i Ts) (take i ts) vs →
+      ((u : Placed) → IsNodeOf source n u → IsRefused Full T u e) → StandsIn n e → RefusesItems Full Ts ts whole e
+  item_refused source Ts ns ts vs i n T whole e nodes lt at_i l typed before blamed within =
       let (u, here, means) = node_at source ns ts i n nodes lt at_i in
-      next_refused Ts ts vs i close e T u l (omega (arith, lt, node_count source ns ts nodes)) before typed here (blamed u means)
+      let lies = subst (λ (p : Range ℕ). LiesIn e.span p.start p.end) (sym (inside source n u means.0).place) (within.lies.0, within.lies.2) in
+      next_refused Ts ts vs i whole e T u l (omega (arith, lt, node_count source ns ts nodes)) before typed here (blamed u means) lies
 
   -- a type that is left and is no option
-  pub missing_refused : (source : List ℕ) (Ts Left : List TypeTree) (ns : List NodeTree) (ts : List Placed) (vs : List V) (i : ℕ) (close : Range ℕ) (e : ParserError) → AreNodesOf source ns ts → i ≤ length ns → length ns ≤ i → i ≤ length Ts → ReadAt tree of Full (take i Ts) (take i ts) vs → Left ≡ drop (length ns) Ts → SomeOf IsNoOption Left →
-      Says e because.InvalidParams close (Some too_few_params) → RefusesItems Full Ts ts close e
-  missing_refused source Ts Left ns ts vs i close e nodes le ge l before left some says =
+  pub missing_refused : (source : List ℕ) (Ts Left : List TypeTree) (ns : List NodeTree) (ts : List Placed) (vs : List V) (i : ℕ) (whole : NodeTree) (e : ParserError) → AreNodesOf source ns ts → i ≤ length ns → length ns ≤ i → i ≤ length Ts → ReadAt tree of Full (take i Ts) (take i ts) vs → Left ≡ drop (length ns) Ts → SomeOf IsNoOption Left →
+      Says e because.InvalidParams (close_of whole) (Some too_few_params) → RefusesItems Full Ts ts whole e
+  missing_refused source Ts Left ns ts vs i whole e nodes le ge l before left some says =
       let many = node_count source ns ts nodes in
       let same : length ns ≡ i = omega (arith, le, ge) in
       let there : SomeOf IsNoOption (drop i Ts) = subst (λ (k : ℕ). SomeOf IsNoOption (drop k Ts)) same (subst (SomeOf IsNoOption) left some) in
-      refused_behind Ts ts vs i close e l (omega (arith, le, many)) before (subst (λ (z : List Placed). ParamsFault (drop i Ts) z close e) (sym (drop_end ts i (omega (arith, ge, many)))) (there, says))
+      fault_refused Ts ts vs i whole e l (omega (arith, le, many)) before (subst (λ (z : List Placed). ParamsFault (drop i Ts) z (close_of whole) e) (sym (drop_end ts i (omega (arith, ge, many)))) (there, says))
 
   -- all were read
   pub params_read : (source : List ℕ) (Ts Left : List TypeTree) (ns : List NodeTree) (ts : List Placed) (vs ws : List V) (i : ℕ) → AreNodesOf source ns ts → i ≤ length ns → length ns ≤ i → i ≤ length Ts → ReadAt tree of Full (take i Ts) (take i ts) vs → Left ≡ drop (length ns) Ts →
@@ -200,9 +212,15 @@ module _ {V : Type 0} (tree : V → Value) (of : V → TypeTree → Type 0) (Ful
       (read_and_omitted Ts ts vs others i l (omega (arith, ge, many)) (omega (arith, le, many)) before (subst (λ (z : List TypeTree). Omitted z (map tree others)) there omitted) (subst (λ (z : List TypeTree). AreOf of z others) there are))
 
   -- a refusal to make one that is left
-  pub omitted_refused : (Ts Left : List TypeTree) (k : ℕ) (ts : List Placed) (close at : Range ℕ) (e : ParserError) → Left ≡ drop k Ts → RefusesOmitted Full Left at e → RefusesItems Full Ts ts close e
-  omitted_refused Ts Left k ts close at e left (inl memory) = inl memory
-  omitted_refused Ts Left k ts close at e left (inr (kind, place, apart)) = inr (inr (kind, λ full. apart (subst (AllOf Full) (sym left) (all_drop Full Ts k full))))
+  pub omitted_refused : (source : List ℕ) (Ts Left : List TypeTree) (ns : List NodeTree) (ts : List Placed) (vs : List V) (i : ℕ) (whole : NodeTree) (e : ParserError) → AreNodesOf source ns ts → i ≤ length ns → length ns ≤ i → i ≤ length Ts → ReadAt tree of Full (take i Ts) (take i ts) vs → Left ≡ drop (length ns) Ts →
+      RefusesOmitted Full Left (place_of whole) e → RefusesItems Full Ts ts whole e
+  omitted_refused source Ts Left ns ts vs i whole e nodes le ge l before left (inl memory) = inl memory
+  omitted_refused source Ts Left ns ts vs i whole e nodes le ge l before left (inr (kind, place, options, apart)) =
+      let many = node_count source ns ts nodes in
+      let same : length ns ≡ i = omega (arith, le, ge) in
+      let there : Left ≡ drop i Ts = left ∙ ap (λ (k : ℕ). drop k Ts) same in
+      maker_refused Ts ts vs i whole e l (omega (arith, le, many)) before kind
+      (subst (λ (z : List Placed). MakerRefuses Full (drop i Ts) z whole e) (sym (drop_end ts i (omega (arith, ge, many)))) (subst (AllOf IsOption) there options, subst (λ (z : List TypeTree). AllOf Full z → ⊥) there apart, place))
 
   -- ---- omitted parameters
 
@@ -232,12 +250,12 @@ module _ {V : Type 0} (tree : V → Value) (of : V → TypeTree → Type 0) (Ful
   omitted_more Ts vs ws i T v before after here is makes e f omitted are =
       (ws ++ v ∷ [], f ∙ (ap (λ (z : List V). z ++ v ∷ []) e ∙ append_assoc vs ws (v ∷ [])), rw add-one (omitted_push Ts ws i T v here is makes.means omitted), rw add-one (are_push Ts ws i T v here makes.is_of are))
 
-  refused_by_cause : (Ts : List TypeTree) (at : Range ℕ) (cause : WasmValueError) (e : ParserError) → refusal_of e ≡ refused_by (cause_of cause) → e.span ≡ at → (AllOf Full Ts → IsMemory cause) → RefusesOmitted Full Ts at e
-  refused_by_cause Ts at (error.Memory a) e is place full = inl (ap (λ (r : Refusal). r.kind) is)
-  refused_by_cause Ts at _ e is place full = inr (ap (λ (r : Refusal). r.kind) is, place, full)
+  refused_by_cause : (Ts : List TypeTree) (at : Range ℕ) (cause : WasmValueError) (e : ParserError) → refusal_of e ≡ refused_by (cause_of cause) → e.span ≡ at → AllOf IsOption Ts → (AllOf Full Ts → IsMemory cause) → RefusesOmitted Full Ts at e
+  refused_by_cause Ts at (error.Memory a) e is place options full = inl (ap (λ (r : Refusal). r.kind) is)
+  refused_by_cause Ts at _ e is place options full = inr (ap (λ (r : Refusal). r.kind) is, place, options, full)
 
   -- a maker that refuses `none`
   pub omission_refused : (Ts : List TypeTree) (at : Range ℕ) (i : ℕ) (T : TypeTree) (cause : WasmValueError) (e : ParserError) → HasAt Ts i T → AllOf IsOption Ts → FullOption of Full T None cause → refusal_of e ≡ refused_by (cause_of cause) → e.span ≡ at → RefusesOmitted Full Ts at e
   omission_refused Ts at i T cause e here options full is place =
       let (P, option) = option_of T (all_has IsOption Ts i T options here) in
-      refused_by_cause Ts at cause e is place (λ all. full (all_has Full Ts i T all here) P option tt)
+      refused_by_cause Ts at cause e is place options (λ all. full (all_has Full Ts i T all here) P option tt)

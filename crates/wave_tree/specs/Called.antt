@@ -27,6 +27,7 @@ use Rattle.wave_tree.specs.Typed.{IsValueOf}
 use Rattle.wave_tree.specs.Parsed.{TakesClass, StandsBetween}
 use Rattle.wave_tree.specs.Parsing.{Fails, IsTrailing}
 use Rattle.wave_tree.specs.ShownNodes.{shown_at}
+use Rattle.wave_tree.specs.Reads.{IsOption}
 use Rattle.wave_tree.specs.Params.{Omitted}
 use Rattle.wave_tree.specs.TreeParams.{IsNoOption, GivesParams, RefusesParams}
 use Rattle.wave_tree.specs.declared.ast.NodeType.TheVariants as kind
@@ -122,12 +123,12 @@ params_at source (Some n) = shown_at source n
 abbrev pub call_shown : Called → List ℕ
 call_shown u = slice u.source u.name ++ params_at u.source u.params
 
--- want of memory; or a type is no option; or, where makers do not serve all values of the types, the refusal of one, at the name
+-- want of memory; or a type is no option; or, where all are and makers do not serve all their values, the refusal of one, at the name
 abbrev pub RefusesNone : (TypeTree → Type 0) → List TypeTree → Range ℕ → ParserError → Type 0
 RefusesNone Full Ts at e =
     (e.kind ≡ OutOfMemory)
     ⊎ SomeOf IsNoOption Ts × Says e InvalidParams at (Some (no_params (length Ts)))
-    ⊎ (e.kind ≡ WasmValueError) × (e.span ≡ at) × (AllOf Full Ts → ⊥)
+    ⊎ (e.kind ≡ WasmValueError) × (e.span ≡ at) × AllOf IsOption Ts × (AllOf Full Ts → ⊥)
 
 -- a refusal of the parameters at the types
 abbrev pub RefusesParamsAt : (TypeTree → Type 0) → List TypeTree → List ℕ → Range ℕ → Option NodeTree → ParserError → Type 0

@@ -13,7 +13,7 @@ use Rattle.wave_tree.specs.Reads.{IsOption}
 use Rattle.wave_tree.specs.Params.{Omitted}
 use Rattle.wave_tree.specs.Tree.{Tree}
 use Rattle.wave_tree.specs.TreeReads.{TreeReads}
-use Rattle.wave_tree.specs.Placed.{Placed, tuple, placed_trees, shape_of, span_of, tree_of}
+use Rattle.wave_tree.specs.Placed.{Placed, tuple, placed_trees, shape_of, span_of, tree_of, LiesIn}
 use Rattle.wave_tree.specs.Faults.{Fault}
 use Rattle.wave_tree.specs.Refusals.{Says}
 use Rattle.wave_tree.specs.NodeTree.{NodeTree, type_of, place_of}
@@ -56,17 +56,25 @@ module _ {V : Type 0} (tree : V → Value) (of : V → TypeTree → Type 0) wher
   abbrev pub GivesParams : List TypeTree → NodeTree → Placed → List V → Type 0
   GivesParams Ts n t vs = (items : List Placed) × (shape_of t ≡ tuple (placed_trees items)) × AreRead Ts items vs
 
--- want of memory; or a fault of the items, which have no values; or, where makers do not serve all values of the types, the refusal of one
-abbrev pub RefusesItems : (TypeTree → Type 0) → List TypeTree → List Placed → Range ℕ → ParserError → Type 0
-RefusesItems Full Ts items close e =
-    (e.kind ≡ OutOfMemory) ⊎ ParamsFault Ts items close e × NoParams Ts items ⊎ (e.kind ≡ WasmValueError) × (AllOf Full Ts → ⊥)
+-- the refusal of a maker that does not serve all values of its type, behind items that have theirs: it lies in the next item; or, for a type that is left, where all that are left are options, it stands at the node
+abbrev pub MakerRefuses : (TypeTree → Type 0) → List TypeTree → List Placed → NodeTree → ParserError → Type 0
+MakerRefuses Full Ts [] n e = AllOf IsOption Ts × (AllOf Full Ts → ⊥) × (e.span ≡ place_of n)
+MakerRefuses Full [] (t ∷ ts) n e = ⊥
+MakerRefuses Full (T ∷ Ts) (t ∷ ts) n e =
+    (Full T → ⊥) × LiesIn e.span (span_of t).start (span_of t).end
+    ⊎ ((v : Value) × TreeReads T (tree_of t) v × MakerRefuses Full Ts ts n e)
+
+-- want of memory; or a fault of the items of the node, which have no values; or the refusal of a maker
+abbrev pub RefusesItems : (TypeTree → Type 0) → List TypeTree → List Placed → NodeTree → ParserError → Type 0
+RefusesItems Full Ts items n e =
+    (e.kind ≡ OutOfMemory) ⊎ ParamsFault Ts items (close_of n) e × NoParams Ts items ⊎ (e.kind ≡ WasmValueError) × MakerRefuses Full Ts items n e
 
 -- so of the items of a tuple, or `InvalidType` at another node
 abbrev pub RefusesParams : (TypeTree → Type 0) → List TypeTree → NodeTree → Placed → ParserError → Type 0
 RefusesParams Full Ts n t e =
     (type_of n ≢ kind.Tuple) × RefusedAs InvalidType n e
-    ⊎ ((items : List Placed) × (shape_of t ≡ tuple (placed_trees items)) × RefusesItems Full Ts items (close_of n) e)
+    ⊎ ((items : List Placed) × (shape_of t ≡ tuple (placed_trees items)) × RefusesItems Full Ts items n e)
 
--- want of memory, or, where makers do not serve all values of the types, the refusal of one at this place
+-- want of memory, or, where makers do not serve all values of the types, which are options, the refusal of one at this place
 abbrev pub RefusesOmitted : (TypeTree → Type 0) → List TypeTree → Range ℕ → ParserError → Type 0
-RefusesOmitted Full Ts at e = (e.kind ≡ OutOfMemory) ⊎ (e.kind ≡ WasmValueError) × (e.span ≡ at) × (AllOf Full Ts → ⊥)
+RefusesOmitted Full Ts at e = (e.kind ≡ OutOfMemory) ⊎ (e.kind ≡ WasmValueError) × (e.span ≡ at) × AllOf IsOption Ts × (AllOf Full Ts → ⊥)

@@ -1,7 +1,7 @@
 use Rattle.std.proofs.Common.{◌≡◌, ◌≤◌, ◌-◌, length, map, take, drop, inl, inr, sym, subst, arith}
 use Rattle.wave_wasm.specs.Lists.{AllOf}
 use Rattle.wave_wasm.specs.Types.{HasDistinctNames}
-use Rattle.wave_tree.specs.TreeParams.{RefusesParams, close_of}
+use Rattle.wave_tree.specs.TreeParams.{RefusesParams, RefusesOmitted}
 use Rattle.wave_tree.proofs.Tuples.{tuple_nodes, given_items, tuple_item, tuple_kept, place_has, map_has, all_has}
 use Rattle.wave_tree.proofs.ParamLemmas.{mapped_count, rest_mapped, error_handed, all_drop, too_many_refused, item_refused, missing_refused, params_read, omitted_refused}
 use Rattle.std.proofs.Common.{ℕ, ap, ◌∙◌}
@@ -25,7 +25,7 @@ returns-then-i-types-clause-refused g c = λ distinct t is.
     let before = c.loop-i.invariant.1 inner.items nodes distinct in
     let many = mapped_count g.V.Type.WasmType.tree c.args.types.now in
     let fits : c.loop-i.i ≤ length Ts = omega (arith, c.loop-i.invariant.0, many) in
-    inr (inner.items, inner.shape, too_many_refused g.V.WasmValue.tree g.V.WasmValue.is_of g.V.WasmValue.is_full src Ts ns inner.items c.loop-i.vals.items c.loop-i.i c.index-nodes-i.result (close_of c.args.self.now) c.too_many.result nodes c.loop-i-test.true c.index-nodes-i.is fits (omega (arith, c.if-i-types.true, many)) before c.too_many.ensures)
+    inr (inner.items, inner.shape, too_many_refused g.V.WasmValue.tree g.V.WasmValue.is_of g.V.WasmValue.is_full src Ts ns inner.items c.loop-i.vals.items c.loop-i.i c.index-nodes-i.result c.args.self.now c.too_many.result nodes c.loop-i-test.true c.index-nodes-i.is fits (omega (arith, c.if-i-types.true, many)) before c.too_many.ensures)
 
 pub to_wasm_value-requires : goal.to_wasm_value-requires
 to_wasm_value-requires g c = tuple_item c.args.src.now c.args.self.now c.in_ok-nodes.nodes.now c.loop-i.i c.index-nodes-i-in-loop-i.result c.requires c.in_ok-nodes.ensures.0 c.in_ok-nodes.ensures.1 c.loop-i-test.true c.index-nodes-i-in-loop-i.is
@@ -46,8 +46,8 @@ returns-in_err-val-clause-refused g c = λ distinct t is.
     (inr (
       inner.items,
       inner.shape,
-      item_refused g.V.WasmValue.tree g.V.WasmValue.is_of g.V.WasmValue.is_full src Ts ns inner.items c.loop-i.vals.items c.loop-i.i c.index-nodes-i-in-loop-i.result T (close_of c.args.self.now) c.in_err-val.field-0.0 nodes c.loop-i-test.true c.index-nodes-i-in-loop-i.is (omega (arith, c.if-i-types.false, many)) typed before
-          (λ u here. c.in_err-val.ensures.answer u here (all_has HasDistinctNames Ts c.loop-i.i T distinct typed)),
+      item_refused g.V.WasmValue.tree g.V.WasmValue.is_of g.V.WasmValue.is_full src Ts ns inner.items c.loop-i.vals.items c.loop-i.i c.index-nodes-i-in-loop-i.result T c.args.self.now c.in_err-val.field-0.0 nodes c.loop-i-test.true c.index-nodes-i-in-loop-i.is (omega (arith, c.if-i-types.false, many)) typed before
+          (λ u here. c.in_err-val.ensures.answer u here (all_has HasDistinctNames Ts c.loop-i.i T distinct typed)) c.in_err-val.ensures.within,
     ))
 
 pub returns-in_err-keep-clause-refused : goal.returns-in_err-keep-clause-refused
@@ -79,7 +79,7 @@ returns-then-not-are_options-clause-refused g c = λ distinct t is.
     let fits : c.loop-i.i ≤ length Ts = omega (arith, c.loop-i.invariant.0, many) in
     let Left = map g.V.Type.WasmType.tree (take (length c.args.types.now - length ns) (drop (length ns) c.args.types.now)) in
     let left : Left ≡ drop (length ns) Ts = rest_mapped g.V.Type.WasmType.tree c.args.types.now (length ns) in
-    inr (inner.items, inner.shape, missing_refused g.V.WasmValue.tree g.V.WasmValue.is_of g.V.WasmValue.is_full src Ts Left ns inner.items c.loop-i.vals.items c.loop-i.i (close_of c.args.self.now) c.missing.result nodes c.loop-i.auto.i-end c.loop-i-test.false fits before left c.if-not-are_options.ensures c.missing.ensures)
+    inr (inner.items, inner.shape, missing_refused g.V.WasmValue.tree g.V.WasmValue.is_of g.V.WasmValue.is_full src Ts Left ns inner.items c.loop-i.vals.items c.loop-i.i c.args.self.now c.missing.result nodes c.loop-i.auto.i-end c.loop-i-test.false fits before left c.if-not-are_options.ensures c.missing.ensures)
 
 pub returns-in_err-push_omitted-clause-refused : goal.returns-in_err-push_omitted-clause-refused
 returns-in_err-push_omitted-clause-refused g c = λ distinct t is.
@@ -94,7 +94,12 @@ returns-in_err-push_omitted-clause-refused g c = λ distinct t is.
     let Left = map g.V.Type.WasmType.tree (take (length c.args.types.now - length ns) (drop (length ns) c.args.types.now)) in
     let left : Left ≡ drop (length ns) Ts = rest_mapped g.V.Type.WasmType.tree c.args.types.now (length ns) in
     error_handed (RefusesParams g.V.WasmValue.is_full Ts c.args.self.now t) c.from_residual-in_err-push_omitted.result c.in_err-push_omitted.field-0.0 c.from_residual-in_err-push_omitted.ensures.1
-    (inr (inner.items, inner.shape, omitted_refused g.V.WasmValue.tree g.V.WasmValue.is_of g.V.WasmValue.is_full Ts Left (length ns) inner.items (close_of c.args.self.now) c.span.result c.in_err-push_omitted.field-0.0 left c.in_err-push_omitted.ensures.refused))
+    (inr (
+      inner.items,
+      inner.shape,
+      omitted_refused g.V.WasmValue.tree g.V.WasmValue.is_of g.V.WasmValue.is_full src Ts Left ns inner.items c.loop-i.vals.items c.loop-i.i c.args.self.now c.in_err-push_omitted.field-0.0 nodes c.loop-i.auto.i-end c.loop-i-test.false fits before left
+          (subst (λ (p : Range ℕ). RefusesOmitted g.V.WasmValue.is_full Left p c.in_err-push_omitted.field-0.0) c.span.ensures c.in_err-push_omitted.ensures.refused),
+    ))
 
 pub returns-clause-values : goal.returns-clause-values
 returns-clause-values g c = λ distinct t is.
