@@ -56,6 +56,7 @@ fn wrong(rt: HostRuntime, text: &str, rows: &[(&str, &str)]) -> Result<String, F
 
 #[test]
 fn one_value_after_the_other(rt: HostRuntime) -> Result<(), Fail> {
+    let bytes = type_of(rt, "list<u8>")?;
     let brackets =
         "[[[[[[[[[[[[[[[[[[[[[[[[[[[[[[[[[[[[[[[[[[[[[[[[[[[[[[[[[[[[[[[[[[[[[[[[[[[[[[[[[[[[[[[[[[[[[[[[[[[[?";
     for (text, rows) in [
@@ -117,6 +118,7 @@ fn one_value_after_the_other(rt: HostRuntime) -> Result<(), Fail> {
     ] {
         assert_eq!(rt; wrong(rt, text, rows)?.as_str(), "", "of {text}");
         assert!(rt; is_told_at_each_cut(rt, &Type::U8, text), "{text}");
+        assert!(rt; is_told_at_each_cut(rt, &bytes, text), "{text} at list<u8>");
     }
     Ok(())
 }

@@ -1,4 +1,6 @@
 //! Rows of types: their texts, their names, and parts of which there is no type.
+use crate::cuts::is_told_at_each_cut;
+use crate::typed::is_read_alike;
 use crate::types::type_of;
 use std::alloc::{AllocError, Global};
 use std::test::Fail;
@@ -88,6 +90,7 @@ fn is_fixed(rt: HostRuntime) -> Result<bool, Fail> {
 #[test]
 fn makers_of_types(rt: HostRuntime) -> Result<(), Fail> {
     assert!(rt; are_none_empty(rt)? && is_fixed(rt)? && Type::simple(WasmTypeKind::List).is_none());
+    assert!(rt; Type::simple(WasmTypeKind::Char) == Some(Type::CHAR));
     Ok(())
 }
 
@@ -112,10 +115,19 @@ fn odd_name(rt: HostRuntime) -> Result<String, Fail> {
     }
 }
 
+/// Whether the name that is no label is read alike without its type first, and so each front of it.
+fn is_odd_name_told(rt: HostRuntime) -> Result<bool, Fail> {
+    match Type::enum_ty(rt.alloc(), &["A b"])? {
+        Some(ty) => Ok(is_read_alike(rt, &ty, "A b") && is_told_at_each_cut(rt, &ty, "A b")),
+        None => Ok(false),
+    }
+}
+
 #[test]
 fn a_name_that_is_no_label(rt: HostRuntime) -> Result<(), Fail> {
     let expected = "A b: error converting Wasm value: unknown case \"A\" at 0..1, false";
     assert_eq!(rt; odd_name(rt)?.as_str(), expected);
+    assert!(rt; is_odd_name_told(rt)?);
     Ok(())
 }
 

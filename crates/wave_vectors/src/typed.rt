@@ -13,7 +13,7 @@ fn read_late(rt: HostRuntime, ty: &Type, text: &str) -> Result<Value, ParserErro
 }
 
 /// Whether the text means the same value, or none, where it is read without the type at first.
-fn is_read_alike(rt: HostRuntime, ty: &Type, text: &str) -> bool {
+pub fn is_read_alike(rt: HostRuntime, ty: &Type, text: &str) -> bool {
     match (
         from_str::<Value>(rt.alloc(), ty, text),
         read_late(rt, ty, text),
