@@ -19,3 +19,5 @@ pub mod MadeResult
 pub mod MadeRecord
 pub mod LawfulRecord
 pub mod Headline
+pub mod TextFronts
+pub mod TypeTexts

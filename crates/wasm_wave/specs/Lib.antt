@@ -15,3 +15,4 @@ pub mod SameContent
 pub mod Built
 pub mod LabelTest
 pub mod Headline
+pub mod TypeTexts

@@ -9,6 +9,7 @@ ghost use Rattle.wasm_wave.specs.Headline.{OneValue};
 ghost use Rattle.wasm_wave.specs.SameType.{same_tree};
 ghost use Rattle.wasm_wave.specs.SameValue.{same_typed};
 ghost use Rattle.wasm_wave.specs.TypedValue.{TypedValue};
+ghost use Rattle.wasm_wave.specs.TypeTexts.{IsShownWhole, TypeTextTells};
 
 pub use wave_lex::laws::{
     faults_refuse, lines_join, no_longer_label, one_cut, one_line_joins, one_meaning, parts_join,
@@ -52,6 +53,12 @@ pub fn read_values_are_merged()
 /// canonical text reads back, and holds at most twice as many.
 pub fn levels_at_most_double()
     ensures { (T : TypeTree) → Good T → IsOwn T → ReadsBackWithinTwice T }
+{}
+
+/// The text of a type tells the type: two types that `Type` has, without fixed-length lists and with
+/// labels for names, have one text only where they are one.
+pub fn type_text_injective()
+    ensures { (T : TypeTree) → IsOwn T → IsShownWhole T → TypeTextTells T }
 {}
 
 /// What `==` answers of two types is true exactly where their trees are one.

@@ -1,10 +1,11 @@
 //! The text of a type.
-ghost use Rattle.std.specs.Prelude.{map, string_bytes, ◌++◌};
-ghost use Rattle.std.specs.Fmt.{WritesOnOk};
+ghost use Rattle.std.specs.Prelude.{map, string_bytes, ◌++◌, Some};
+ghost use Rattle.std.specs.Fmt.{WritesOnOk, DisplaysOnOk};
 ghost use Rattle.wave_wasm.specs.Types.{types_of, fields_of, cases_of, maybe_type, simple_kind};
 ghost use Rattle.wave_wasm.specs.Commas.{joined, behind_name};
 ghost use Rattle.wave_wasm.specs.TypeText.{kind_word, type_text, type_texts, field_texts, case_texts, payload_text, maybe_text, result_text};
 ghost use Rattle.wasm_wave.specs.TypeView.{by_bytes, simple_of};
+ghost use Rattle.wasm_wave.specs.TypeTexts.{IsShownWhole, TypeTextTells};
 
 use super::{Shape, SimpleType, Type};
 use std::fmt::{self, Display};
@@ -41,56 +42,67 @@ impl fmt::Display for Type {
 
     ghost output = { λ t. Some (type_text t) };
 
-    #[cycle(text)]
-    fn fmt<W: fmt::Write>(&self, f: &mut fmt::Formatter<W>) -> fmt::Result {
-        match &self.shape {
-            Shape::Simple(simple) => write!(f, "{simple}"),
-            Shape::F32 => write!(f, "f32"),
-            Shape::F64 => write!(f, "f64"),
-            Shape::List(element) => {
-                write!(f, "list<")?;
-                (**element).fmt(f)?;
-                write!(f, ">")
-            }
-            Shape::FixedLengthList(_, _) => write!(f, "list<_,N>"),
-            Shape::Record(fields) => {
-                write!(f, "record {{ ")?;
-                write_fields(f, fields)?;
-                write!(f, " }}")
-            }
-            Shape::Tuple(types) => {
-                write!(f, "tuple<")?;
-                write_types(f, types)?;
-                write!(f, ">")
-            }
-            Shape::Variant(cases) => {
-                write!(f, "variant {{ ")?;
-                write_cases(f, cases)?;
-                write!(f, " }}")
-            }
-            Shape::Enum(names) => {
-                write!(f, "enum {{ ")?;
-                write_names(f, names)?;
-                write!(f, " }}")
-            }
-            Shape::Option(some) => {
-                write!(f, "option<")?;
-                (**some).fmt(f)?;
-                write!(f, ">")
-            }
-            Shape::Result(payloads) => write_result(f, &payloads.0, &payloads.1),
-            Shape::Flags(names) => {
-                write!(f, "flags {{ ")?;
-                write_names(f, names)?;
-                write!(f, " }}")
-            }
-            Shape::Map(types) => {
-                write!(f, "map<")?;
-                types.0.fmt(f)?;
-                write!(f, ", ")?;
-                types.1.fmt(f)?;
-                write!(f, ">")
-            }
+    fn fmt<W: fmt::Write>(&self, f: &mut fmt::Formatter<W>) -> fmt::Result
+        ensures writes { DisplaysOnOk W.write_str_gives f.old result (Some (type_text self.now)) f.new }
+        ensures apart { IsShownWhole self.now → TypeTextTells self.now }
+    {
+        self.is_own();
+        write_type(f, self)
+    }
+}
+
+// The type.
+#[cycle(text)]
+fn write_type<W: fmt::Write>(f: &mut fmt::Formatter<W>, ty: &Type) -> fmt::Result
+    ensures { WritesOnOk W.write_str_gives f.old result (type_text ty.now) f.new }
+{
+    match &ty.shape {
+        Shape::Simple(simple) => write!(f, "{simple}"),
+        Shape::F32 => write!(f, "f32"),
+        Shape::F64 => write!(f, "f64"),
+        Shape::List(element) => {
+            write!(f, "list<")?;
+            write_type(f, element)?;
+            write!(f, ">")
+        }
+        Shape::FixedLengthList(_, _) => write!(f, "list<_,N>"),
+        Shape::Record(fields) => {
+            write!(f, "record {{ ")?;
+            write_fields(f, fields)?;
+            write!(f, " }}")
+        }
+        Shape::Tuple(types) => {
+            write!(f, "tuple<")?;
+            write_types(f, types)?;
+            write!(f, ">")
+        }
+        Shape::Variant(cases) => {
+            write!(f, "variant {{ ")?;
+            write_cases(f, cases)?;
+            write!(f, " }}")
+        }
+        Shape::Enum(names) => {
+            write!(f, "enum {{ ")?;
+            write_names(f, names)?;
+            write!(f, " }}")
+        }
+        Shape::Option(some) => {
+            write!(f, "option<")?;
+            write_type(f, some)?;
+            write!(f, ">")
+        }
+        Shape::Result(payloads) => write_result(f, &payloads.0, &payloads.1),
+        Shape::Flags(names) => {
+            write!(f, "flags {{ ")?;
+            write_names(f, names)?;
+            write!(f, " }}")
+        }
+        Shape::Map(types) => {
+            write!(f, "map<")?;
+            write_type(f, &types.0)?;
+            write!(f, ", ")?;
+            write_type(f, &types.1)?;
+            write!(f, ">")
         }
     }
 }
@@ -103,7 +115,7 @@ fn write_types<W: fmt::Write>(f: &mut fmt::Formatter<W>, types: &Vec<Type>) -> f
     let mut separator = "";
     for ty in types.iter() {
         write!(f, "{separator}")?;
-        ty.fmt(f)?;
+        write_type(f, ty)?;
         separator = ", ";
     }
     Ok(())
@@ -132,7 +144,7 @@ fn write_field<W: fmt::Write>(f: &mut fmt::Formatter<W>, field: &(String, Type))
     ensures { WritesOnOk W.write_str_gives f.old result (behind_name (string_bytes field.now.0) (type_text field.now.1)) f.new }
 {
     write!(f, "{}: ", field.0.as_str())?;
-    field.1.fmt(f)
+    write_type(f, &field.1)
 }
 
 // The cases, with commas between.
@@ -165,7 +177,7 @@ fn write_case<W: fmt::Write>(
         None => Ok(()),
         Some(payload) => {
             write!(f, "(")?;
-            payload.fmt(f)?;
+            write_type(f, payload)?;
             write!(f, ")")
         }
     }
@@ -184,19 +196,19 @@ fn write_result<W: fmt::Write>(
         (None, None) => write!(f, "result"),
         (Some(ok), None) => {
             write!(f, "result<")?;
-            ok.fmt(f)?;
+            write_type(f, ok)?;
             write!(f, ">")
         }
         (None, Some(err)) => {
             write!(f, "result<_, ")?;
-            err.fmt(f)?;
+            write_type(f, err)?;
             write!(f, ">")
         }
         (Some(ok), Some(err)) => {
             write!(f, "result<")?;
-            ok.fmt(f)?;
+            write_type(f, ok)?;
             write!(f, ", ")?;
-            err.fmt(f)?;
+            write_type(f, err)?;
             write!(f, ">")
         }
     }

@@ -7,8 +7,8 @@ use Rattle.wasm_wave.proofs.Texts.{field_line, case_line, separator_more, joined
 use Rattle.wasm_wave.proofs.TypeEqual.{type_at, field_at, case_at}
 use Rattle.wasm_wave.proofs.value.ty.display.+text.Goals as goal
 
-pub write_types-fmt-requires : goal.write_types-fmt-requires
-write_types-fmt-requires g t c κs within = search (rules, type_at)
+pub write_types-write_type-requires : goal.write_types-write_type-requires
+write_types-write_type-requires g t c κs within = search (rules, type_at)
 
 pub write_types-loop-ty-preserved : goal.write_types-loop-ty-preserved
 write_types-loop-ty-preserved g t c =
@@ -19,7 +19,7 @@ write_types-loop-ty-preserved g t c =
       λ p.
           let before = c.loop-ty.invariant.1 p in
           let comma : HasWritten took c.loop-ty.f c.loop-ty.separator.now c.write.new.self = search rules in
-          let part : HasWritten took c.write.new.self (type_text c.ty-item.result) c.fmt.new.f = search rules in
+          let part : HasWritten took c.write.new.self (type_text c.ty-item.result) c.write_type.new.f = search rules in
           put_three _ _ _ _ _ _ _ _ _ before comma part (joined_turn type_text xs i c.loop-ty.separator.now c.ty-item.result c.loop-ty-test.true c.loop-ty.invariant.0 c.ty-item.is),
     )
 

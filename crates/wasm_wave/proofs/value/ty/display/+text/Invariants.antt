@@ -7,8 +7,8 @@ use Rattle.wasm_wave.specs.TypeView.{by_bytes}
 use Rattle.wasm_wave.proofs.Texts.{separator, field_line, case_line}
 use Rattle.wasm_wave.proofs.value.ty.display.+text.Given as goal
 
-abbrev pub decreases-TypeDisplay::fmt : goal.decreases-TypeDisplay::fmt
-decreases-TypeDisplay::fmt g l = 4 * depth l.self.now
+abbrev pub decreases-write_type : goal.decreases-write_type
+decreases-write_type g l = 4 * depth l.ty.now
 
 abbrev pub decreases-write_types : goal.decreases-write_types
 decreases-write_types g l = 4 * depth_of_types (types_of l.types.now.items) + 3
