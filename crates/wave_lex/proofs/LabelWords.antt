@@ -1,11 +1,11 @@
 -- Labels are words joined by hyphens.
-use Rattle.std.proofs.Common.{◌≡◌, ◌≤◌, ◌<◌, ◌≢◌, ℕ, Bool, true, false, List, [], ◌∷◌, ◌++◌, ◌⊎◌, inl, inr, refl, sym, ap, subst, ◌∙◌, arith, length, take, append_assoc, nat_lt}
-use Rattle.std.specs.Prelude.{◌&&◌, ◌||◌, IsTrue, codes, encode_utf8, encode_utf8_all}
+use Rattle.std.proofs.Common.{◌≡◌, ◌<◌, ◌≢◌, ℕ, Bool, true, false, List, [], ◌∷◌, ◌++◌, ◌⊎◌, inl, inr, refl, sym, ap, subst, ◌∙◌, arith, take, nat_lt}
+use Rattle.std.specs.Prelude.{◌&&◌, ◌||◌, IsTrue, codes, encode_utf8_all}
 use Rattle.std.specs.Int.{is_in_range}
 use Rattle.std.specs.Str.{IsAscii}
 use Rattle.std.specs.Char.{is_ascii_alphabetic}
 use Rattle.std.specs.List.{join_with_byte}
-use Rattle.std.proofs.lemmas.Bool.{ltb-true, or_left, or_right, or_cases}
+use Rattle.std.proofs.lemmas.Bool.{or_left, or_right, or_cases}
 use Rattle.std.proofs.lemmas.Bool.Decides.{nat_tests}
 use Rattle.std.proofs.lemmas.List.{append-nil}
 use Rattle.std.proofs.lemmas.Str.{IsAscii-append}
@@ -13,7 +13,7 @@ use Rattle.std.proofs.lemmas.Str.Ascii.{encodes-IsAscii, IsAscii-nil, IsAscii-co
 use Rattle.wave_wasm.specs.Lists.{AllOf}
 use Rattle.wave_lex.specs.declared.lex.Token.TheVariants.{LabelOrKeyword}
 use Rattle.wave_lex.specs.Regex.{Regex, nothing, empty, within, other, both, either, many, Matches, Each, joined, is_within}
-use Rattle.wave_lex.specs.Tokens.{some, digit, label, label_or_keyword, first_word, next_word}
+use Rattle.wave_lex.specs.Tokens.{some, digit, label_or_keyword, first_word, next_word}
 use Rattle.wave_lex.specs.Labels.{IsLabel}
 use Rattle.wave_lex.specs.Lexing.{IsToken}
 use Rattle.wave_lex.specs.LabelWords.{IsLowerOrDigit, IsUpperOrDigit, IsWord, BeginsWithLetter, IsJoinedWords, LabelsAreWords, LabelTokensAreLabels}
@@ -37,27 +37,27 @@ of_case lo hi = either (within lo hi) digit
 abbrev IsOfCase : ℕ → ℕ → ℕ → Type 0
 IsOfCase lo hi c = IsTrue (is_in_range lo hi c || is_in_range 48 57 c)
 
--- one of them
+-- a text of the shape is one of them
 one_into : (lo hi : ℕ) (s : List ℕ) → Matches (of_case lo hi) s → (c : ℕ) × (s ≡ c ∷ []) × IsOfCase lo hi c
 one_into lo hi s (inl (c, e, t)) = (c, e, or_left (is_in_range lo hi c) (is_in_range 48 57 c) t)
 one_into lo hi s (inr (c, e, t)) = (c, e, or_right (is_in_range lo hi c) (is_in_range 48 57 c) t)
 
--- one of them
+-- one of them has the shape
 one_from : (lo hi c : ℕ) → IsOfCase lo hi c → Matches (of_case lo hi) (c ∷ [])
 one_from lo hi c t = elim (or_cases (is_in_range lo hi c) (is_in_range 48 57 c) t) [ inl a ↦ inl (c, refl, a) | inr b ↦ inr (c, refl, b) ]
 
--- any number of them
+-- parts of the shape join to them alone
 all_joined : (lo hi : ℕ) (parts : List (List ℕ)) → Each (Matches (of_case lo hi)) parts → AllOf (IsOfCase lo hi) (joined parts)
 all_joined lo hi [] h = tt
 all_joined lo hi (p ∷ ps) h =
     let one = one_into lo hi p h.0 in
     subst (λ (z : List ℕ). AllOf (IsOfCase lo hi) (z ++ joined ps)) (sym one.1) (one.2, all_joined lo hi ps h.1)
 
--- any number of them
+-- a text of the shape is of them alone
 all_into : (lo hi : ℕ) (s : List ℕ) → Matches (many (of_case lo hi)) s → AllOf (IsOfCase lo hi) s
 all_into lo hi s (parts, e, each) = subst (AllOf (IsOfCase lo hi)) (sym e) (all_joined lo hi parts each)
 
--- any number of them
+-- a text of them alone has the shape
 all_from : (lo hi : ℕ) (s : List ℕ) → AllOf (IsOfCase lo hi) s → Matches (many (of_case lo hi)) s
 all_from lo hi [] h = ([], refl, tt)
 all_from lo hi (c ∷ s) h =
@@ -66,31 +66,31 @@ all_from lo hi (c ∷ s) h =
 
 -- ---- words
 
--- at least one of them
+-- a text of at least one of them isn't empty, and is of them alone
 some_into : (lo hi : ℕ) (s : List ℕ) → Matches (some (of_case lo hi)) s → (s ≢ []) × AllOf (IsOfCase lo hi) s
 some_into lo hi s (x, y, e, m, n) =
     let one = one_into lo hi x m in
     let is : s ≡ one.0 ∷ y = e ∙ ap (λ (z : List ℕ). z ++ y) one.1 in
     (λ w. let wrong : one.0 ∷ y ≡ [] = sym is ∙ w in cc, subst (AllOf (IsOfCase lo hi)) (sym is) (one.2, all_into lo hi y n))
 
--- at least one of them
+-- such a text is of at least one of them
 some_from : (lo hi : ℕ) (s : List ℕ) → s ≢ [] → AllOf (IsOfCase lo hi) s → Matches (some (of_case lo hi)) s
 some_from lo hi [] n h = absurd (n refl)
 some_from lo hi (c ∷ s) n h = (c ∷ [], s, refl, one_from lo hi c h.0, all_from lo hi s h.1)
 
--- a further word
+-- a text of the shape of a further word is a word
 next_into : (s : List ℕ) → Matches next_word s → IsWord s
 next_into s (inl m) = let h = some_into 97 122 s m in (h.0, inl h.1)
 next_into s (inr m) = let h = some_into 65 90 s m in (h.0, inr h.1)
 
--- a further word
+-- a word has the shape of a further word
 next_from : (s : List ℕ) → IsWord s → Matches next_word s
 next_from s (n, inl h) = inl (some_from 97 122 s n h)
 next_from s (n, inr h) = inr (some_from 65 90 s n h)
 
 -- ---- the first word
 
--- a letter of the range and any number of them
+-- a letter of the range and any number of them are a word that begins with a letter
 headed_into : (lo hi : ℕ) (s : List ℕ) → ((c : ℕ) → is_within lo hi c ≡ true → IsTrue (is_ascii_alphabetic c)) → Matches (both (within lo hi) (many (of_case lo hi))) s
     → (s ≢ []) × AllOf (IsOfCase lo hi) s × BeginsWithLetter s
 headed_into lo hi s letter (x, y, e, (c, f, t), n) =
@@ -114,12 +114,12 @@ is_lower c a b = grind (arith, nat_tests)
 is_upper : (c : ℕ) → IsUpperOrDigit c → IsTrue (is_ascii_alphabetic c) → is_within 65 90 c ≡ true
 is_upper c a b = grind (arith, nat_tests)
 
--- the first word
+-- a text of the shape of a first word is a word that begins with a letter
 first_into : (s : List ℕ) → Matches first_word s → IsWord s × BeginsWithLetter s
 first_into s (inl m) = let h = headed_into 97 122 s lower_letter m in ((h.0, inl h.1), h.2)
 first_into s (inr m) = let h = headed_into 65 90 s upper_letter m in ((h.0, inr h.1), h.2)
 
--- the first word
+-- a word that begins with a letter has the shape of a first word
 first_from : (s : List ℕ) → IsWord s → BeginsWithLetter s → Matches first_word s
 first_from [] w b = absurd b
 first_from (c ∷ s) (n, inl h) b = inl (c ∷ [], s, refl, (c, refl, is_lower c h.0 b), all_from 97 122 s h.1)
@@ -141,13 +141,13 @@ joined_behind first (w ∷ ws) = ap (λ (z : List ℕ). first ++ 45 ∷ z) (join
 abbrev hyphen_word : Regex
 hyphen_word = both (within 45 45) next_word
 
--- a hyphen and a further word
+-- a text of that shape is a hyphen and a word
 hyphen_into : (s : List ℕ) → Matches hyphen_word s → (w : List ℕ) × (s ≡ 45 ∷ w) × IsWord w
 hyphen_into s (x, y, e, (c, f, t), m) =
     let is : c ≡ 45 = one_is 45 c t in
     (y, e ∙ (ap (λ (z : List ℕ). z ++ y) f ∙ ap (λ (z : ℕ). z ∷ y) is), next_into y m)
 
--- the parts behind the first word
+-- the parts behind the first word are words behind hyphens
 parts_into : (parts : List (List ℕ)) → Each (Matches hyphen_word) parts → (more : List (List ℕ)) × (joined parts ≡ behind_hyphens more) × AllOf IsWord more
 parts_into [] h = ([], refl, tt)
 parts_into (p ∷ ps) h =
@@ -158,7 +158,7 @@ parts_into (p ∷ ps) h =
       (one.2, rest.2),
     )
 
--- the parts behind the first word
+-- words behind hyphens are such parts
 parts_from : (more : List (List ℕ)) → AllOf IsWord more → Matches (many hyphen_word) (behind_hyphens more)
 parts_from [] h = ([], refl, tt)
 parts_from (w ∷ ws) h =
@@ -246,6 +246,7 @@ label_tokens_are_labels r k fits = (into, from)
   where
     into : IsToken r k LabelOrKeyword → IsLabel (take k r) ⊎ ((s : List ℕ) × (take k r ≡ codes "%" ++ s) × IsLabel s)
     into (f, u) = class_into (take k r) (subst (Matches label_or_keyword) (sym (spelled_by_itself f.scalars f.has) ∙ f.spelled) f.has)
+
     from : IsLabel (take k r) ⊎ ((s : List ℕ) × (take k r ≡ codes "%" ++ s) × IsLabel s) → IsToken r k LabelOrKeyword
     from h =
         let has = class_from (take k r) h in
