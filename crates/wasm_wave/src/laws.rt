@@ -12,8 +12,8 @@ ghost use Rattle.wasm_wave.specs.TypedValue.{TypedValue};
 ghost use Rattle.wasm_wave.specs.TypeTexts.{IsShownWhole, TypeTextTells};
 
 pub use wave_lex::laws::{
-    faults_refuse, lines_join, no_longer_label, one_cut, one_line_joins, one_meaning, parts_join,
-    through_first_quotes, tokens_cut,
+    faults_refuse, labels_are_words, lines_join, no_longer_label, one_cut, one_line_joins,
+    one_meaning, parts_join, through_first_quotes, tokens_cut,
 };
 pub use wave_tree::laws::{
     askings_are_few, fronts_are_led, last_commas_mean_nothing, led_tokens_begin_a_tree,

@@ -17,5 +17,6 @@ pub mod Parts
 pub mod Lines
 pub mod Faults
 pub mod Quotes
+pub mod LabelWords
 pub mod LineParts
 pub mod Examples

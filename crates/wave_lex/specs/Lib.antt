@@ -8,6 +8,7 @@ pub mod Reading
 pub mod Machines
 pub mod NameMachine
 pub mod Labels
+pub mod LabelWords
 pub mod FunctionName
 pub mod Strings
 pub mod Multiline

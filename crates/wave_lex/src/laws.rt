@@ -1,5 +1,6 @@
 //! Laws of the definitions.
 ghost use Rattle.wave_lex.specs.Items.{TokensCut};
+ghost use Rattle.wave_lex.specs.LabelWords.{LabelTokensAreLabels, LabelsAreWords};
 ghost use Rattle.wave_lex.specs.Lexing.{NoLongerLabel, OneCut, ThroughFirstQuotes};
 ghost use Rattle.wave_lex.specs.Multiline.{FaultsRefuse, OneMeaning};
 ghost use Rattle.wave_lex.specs.Parts.{LinesJoin, OneLineJoins, PartsJoin};
@@ -44,6 +45,13 @@ pub fn faults_refuse()
 /// A multiline token goes from three quotes through the first later three quotes.
 pub fn through_first_quotes()
     ensures { ThroughFirstQuotes }
+{}
+
+/// A label is words joined by hyphens, each of lower-case letters and digits or of upper-case letters
+/// and digits, and begins with a letter; a token of its class is a label, or `%` and a label.
+pub fn labels_are_words()
+    ensures words { LabelsAreWords }
+    ensures tokens { LabelTokensAreLabels }
 {}
 
 /// No label at the place of a token is longer than the token.
