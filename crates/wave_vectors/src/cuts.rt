@@ -6,7 +6,12 @@ use wasm_wave::value::{Type, Value};
 
 /// Whether each front of the text is told at the type, without a type, and as a call.
 pub fn is_told_at_each_cut(rt: HostRuntime, ty: &Type, text: &str) -> bool {
-    for end in 0..text.len() {
+    is_told_from(rt, ty, text, 0)
+}
+
+/// Whether each front of the text that has at least so many bytes is told in these ways.
+pub fn is_told_from(rt: HostRuntime, ty: &Type, text: &str, first: usize) -> bool {
+    for end in first..text.len() {
         if text.is_char_boundary(end) && !is_told(rt, ty, &text[..end]) {
             return false;
         }

@@ -1,8 +1,9 @@
 //! Texts of many levels.
+use crate::cuts::{is_told_at_each_cut, is_told_from};
 use crate::types::type_of;
 use std::test::Fail;
 use wasm_wave::untyped::{UntypedFuncCall, UntypedValue};
-use wasm_wave::value::Value;
+use wasm_wave::value::{Type, Value};
 use wasm_wave::{from_str, to_string};
 
 /// The part, so many times.
@@ -66,6 +67,33 @@ fn levels(rt: HostRuntime) -> Result<(), Fail> {
     Ok(())
 }
 
+/// The type of the middle within so many layers.
+fn nest(rt: HostRuntime, front: &str, times: usize, middle: &str, end: &str) -> Result<Type, Fail> {
+    type_of(rt, within(rt, front, times, middle, end)?.as_str())
+}
+
+/// The fronts of the texts of `levels` and of `read_at_each_level`: those of each text there that is
+/// not below are among these. The type has as many layers as the text, and what opens in the text is
+/// well-typed at it.
+#[test]
+fn fronts(rt: HostRuntime) -> Result<(), Fail> {
+    for (front, times, middle, end, around, behind) in [
+        ("[", 100, "", "]", "list<", ">"),
+        ("[", 101, "", "]", "list<", ">"),
+        ("(", 101, "0", ")", "tuple<", ">"),
+        ("some(", 101, "0", ")", "option<", ">"),
+        ("ok(", 101, "0", ")", "result<", ">"),
+        ("v(", 101, "0", ")", "variant{v(", ")}"),
+        ("{a:", 101, "0", "}", "record{a:", "}"),
+        ("{1:", 101, "0", "}", "map<u8,", ">"),
+    ] {
+        let ty = nest(rt, around, times, "u8", behind)?;
+        let text = within(rt, front, times, middle, end)?;
+        assert!(rt; is_told_at_each_cut(rt, &ty, text.as_str()), "of {front}");
+    }
+    Ok(())
+}
+
 /// A call with a number within so many payloads as its parameter.
 fn deep_call(rt: HostRuntime, payloads: usize) -> Result<String, Fail> {
     let param = within(rt, "some(", payloads, "0", ")")?;
@@ -77,6 +105,23 @@ fn levels_of_calls(rt: HostRuntime) -> Result<(), Fail> {
     for (payloads, answer) in [(99, ""), (100, "value nesting too deep at 501..502")] {
         let text = deep_call(rt, payloads)?;
         assert_eq!(rt; refused_call(rt, text.as_str())?.as_str(), answer);
+    }
+    Ok(())
+}
+
+/// The fronts of the calls of `levels_of_calls`, at a variant of a hundred options: the shorter call
+/// is of it too, since a number stands for `some` of itself. The first 497 bytes of the calls are
+/// equal, and the fronts within these are read once.
+#[test]
+fn fronts_of_calls(rt: HostRuntime) -> Result<(), Fail> {
+    let options = within(rt, "option<", 100, "u8", ">")?;
+    let ty = nest(rt, "variant{f(", 1, options.as_str(), ")}")?;
+    for (payloads, first) in [(99, 0), (100, 497)] {
+        let text = deep_call(rt, payloads)?;
+        assert!(rt;
+            is_told_from(rt, &ty, text.as_str(), first),
+            "{payloads} payloads"
+        );
     }
     Ok(())
 }
@@ -118,5 +163,16 @@ fn written_deeper_than_read(rt: HostRuntime) -> Result<(), Fail> {
     );
     let refusal = lists_of_options(rt, written.as_str())?;
     assert_eq!(rt; refusal.as_str(), "value nesting too deep at 299..300");
+    Ok(())
+}
+
+/// The fronts of the texts of `written_deeper_than_read`, at their type.
+#[test]
+fn fronts_of_lists_of_options(rt: HostRuntime) -> Result<(), Fail> {
+    let ty = nest(rt, "list<option<", 59, "list<u8>", ">>")?;
+    for (front, times, middle, end) in [("[", 60, "", "]"), ("[some(", 59, "[]", ")]")] {
+        let text = within(rt, front, times, middle, end)?;
+        assert!(rt; is_told_at_each_cut(rt, &ty, text.as_str()), "of {front}");
+    }
     Ok(())
 }
