@@ -1,5 +1,6 @@
 //! Texts of many levels.
 use crate::cuts::{is_told_at_each_cut, is_told_from};
+use crate::typed::is_read_alike;
 use crate::types::type_of;
 use std::test::Fail;
 use wasm_wave::untyped::{UntypedFuncCall, UntypedValue};
@@ -126,9 +127,12 @@ fn fronts_of_calls(rt: HostRuntime) -> Result<(), Fail> {
     Ok(())
 }
 
-/// What the text prints at the type, or its refusal.
+/// What the text prints at the type, or its refusal; `otherwise` where it is read otherwise without
+/// the type first.
 fn answer(rt: HostRuntime, ty: &str, text: &str) -> Result<String, Fail> {
-    match from_str::<Value>(rt.alloc(), &type_of(rt, ty)?, text) {
+    let ty = type_of(rt, ty)?;
+    match from_str::<Value>(rt.alloc(), &ty, text) {
+        _ if !is_read_alike(rt, &ty, text) => Ok(String::from_str(rt.alloc(), "otherwise")?),
         Ok(val) => Ok(to_string(rt.alloc(), &val)?),
         Err(error) => Ok(format!(in rt.alloc(); "{error}")?),
     }
