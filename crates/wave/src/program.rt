@@ -1,19 +1,22 @@
 // The program between a reader and a writer.
-ghost use Rattle.std.specs.Prelude.{ℕ, List, ◌≡◌, ◌≢◌, ◌≤◌, ◌⊎◌, map, MatchResult, IfOk, IfErr, OnOk, string_bytes};
+ghost use Rattle.std.specs.Prelude.{ℕ, List, ◌≡◌, ◌≢◌, ◌≤◌, ◌⊎◌, true, false, map, MatchResult, IfOk, IfErr, OnOk, IfSome, string_bytes};
+ghost use Rattle.wave.specs.ReadFaults.{IsReadFault};
 ghost use Rattle.wave.specs.Written.{WritesWhole, WritesLess};
 ghost use Rattle.wave.specs.declared.request.Request.TheVariants as request;
 ghost use Rattle.wave.specs.Requests.{AreUnknown, type_of};
 ghost use Rattle.wave.specs.Answers.{Answers, IsOutcome, IsFaultOf, IsUnanswered, MatchesRefusal, line, words_of_fault};
 ghost use Rattle.wave.specs.Statuses.{IsAnswer, IsRefusal, IsUsage, IsCutShort, IsFaulty, TellsFault};
 
-use crate::input::{Fault, Input, read_whole};
-use crate::output::{Output, write_whole};
+use crate::input::{Fault, Input};
+use crate::output::Output;
 use crate::request::{Request, TypeName, request_of};
 use std::alloc::{AllocError, Global};
 use std::io::{Read, Write};
 use wasm_wave::parser::{ParserError, ParserErrorKind};
 use wasm_wave::value::{Type, Value};
 use wasm_wave::{from_str, to_string};
+
+const CHUNK: usize = 65_536;
 
 const USAGE: &str = "usage: wave value | wave call | wave read NAME\n";
 
@@ -79,6 +82,22 @@ fn print<W: Write>(output: &mut Output<W>, line: &str, status: u8) -> u8
     }
 }
 
+/// Writes all of the bytes, or answers false where a write failed before all were written.
+fn write_whole<W: Write>(output: &mut Output<W>, bytes: &[u8]) -> bool
+    ensures whole { result ≡ true → WritesWhole W.contents output.old output.new bytes.now }
+    ensures cut { result ≡ false → WritesLess W.contents output.old output.new bytes.now }
+{
+    let mut rest = bytes;
+    while !rest.is_empty() {
+        let count = output.write(rest);
+        if count == 0 {
+            return false;
+        }
+        rest = &rest[count..];
+    }
+    true
+}
+
 /// What is printed for a request, with its line feed.
 #[derive(Drop)]
 enum Outcome {
@@ -111,6 +130,25 @@ fn respond<R: Read>(alloc: Global, request: Request, input: &mut Input<R>) -> Re
         }
         Err(Unanswered::OutOfMemory) => Err(Fault::OutOfMemory),
     }
+}
+
+/// The bytes up to the end of the input.
+fn read_whole<R: Read>(alloc: Global, input: &mut Input<R>) -> Result<Vec<u8>, Fault>
+    ensures whole { IfOk result (λ bytes. IfSome (R.remaining input.old.reader) (λ left. bytes.items ≡ left)) }
+    ensures went_well { OnOk result (input.new.has_failed ≡ input.old.has_failed) }
+    ensures fault { IfErr result (IsReadFault input.new) }
+    ensures counted { input.new.reads_left ≤ input.old.reads_left }
+{
+    let mut bytes = Vec::new(alloc);
+    let mut chunk = [0; CHUNK];
+    while input.reads_left() > 0 {
+        match input.read(&mut chunk) {
+            Ok(0) => return Ok(bytes),
+            Ok(count) => bytes.extend_from_slice(&chunk[..count])?,
+            Err(fault) => return Err(fault),
+        }
+    }
+    Err(Fault::InputFailed)
 }
 
 /// The text and a line feed.
