@@ -340,7 +340,7 @@ fn merging(rt: HostRuntime) -> Result<(), Fail> {
 }
 
 /// A value that no maker makes, as a stranger's: bytes, values without a text, and fixed-length
-/// lists of both.
+/// lists of them.
 #[derive(Clone, Copy)]
 enum Odd {
     One,
@@ -354,7 +354,7 @@ enum Odd {
 
 impl WasmValue for Odd {
     ghost use Rattle.std.specs.Prelude.{pos, [], ◌∷◌, IfOk, IfErr};
-    ghost use Rattle.wave_wasm.specs.Types.{u8, f32, f64, unsupported};
+    ghost use Rattle.wave_wasm.specs.Types.{simple, char, u8, f32, f64, unsupported};
     ghost use Rattle.wave_wasm.specs.Values.{leaf, whole, unreadable, fixed, values};
     ghost use Rattle.wave_wasm.specs.Makers.{MakesList, MakesTuple, MakesRecord, MakesVariant, MakesOption, MakesResult, MakesMap, FullList, FullTuple, FullRecord, FullVariant, FullOption, FullResult, FullMap};
     ghost use Rattle.wave_wasm.specs.declared.tests.Odd.TheVariants as odd;
@@ -426,15 +426,15 @@ impl WasmValue for Odd {
     }
 
     fn make_list(alloc: Global, ty: &CharType, vals: Vec<Odd>) -> Result<Odd, WasmValueError>
-        ensures made { IfOk result (MakesList ⟦<Odd as WasmValue>⟧.tree ⟦<Odd as WasmValue>⟧.is_of (⟦<CharType as WasmType>⟧.tree ty.now) vals.items) }
-        ensures full { IfErr result (FullList ⟦<Odd as WasmValue>⟧.is_of ⟦<Odd as WasmValue>⟧.is_full (⟦<CharType as WasmType>⟧.tree ty.now) vals.items) }
+        ensures made { IfOk result (MakesList ⟦<Odd as WasmValue>⟧.tree (λ v T. ⊥) (simple char) vals.items) }
+        ensures full { IfErr result (FullList (λ v T. ⊥) (λ T. ⊥) (simple char) vals.items) }
     {
         Err(WasmValueError::UnsupportedType(String::new(alloc)))
     }
 
     fn make_tuple(alloc: Global, ty: &CharType, vals: Vec<Odd>) -> Result<Odd, WasmValueError>
-        ensures made { IfOk result (MakesTuple ⟦<Odd as WasmValue>⟧.tree ⟦<Odd as WasmValue>⟧.is_of (⟦<CharType as WasmType>⟧.tree ty.now) vals.items) }
-        ensures full { IfErr result (FullTuple ⟦<Odd as WasmValue>⟧.is_of ⟦<Odd as WasmValue>⟧.is_full (⟦<CharType as WasmType>⟧.tree ty.now) vals.items) }
+        ensures made { IfOk result (MakesTuple ⟦<Odd as WasmValue>⟧.tree (λ v T. ⊥) (simple char) vals.items) }
+        ensures full { IfErr result (FullTuple (λ v T. ⊥) (λ T. ⊥) (simple char) vals.items) }
     {
         Err(WasmValueError::UnsupportedType(String::new(alloc)))
     }
@@ -444,8 +444,8 @@ impl WasmValue for Odd {
         ty: &CharType,
         fields: Vec<(&str, Odd)>,
     ) -> Result<Odd, WasmValueError>
-        ensures made { IfOk result (MakesRecord ⟦<Odd as WasmValue>⟧.tree ⟦<Odd as WasmValue>⟧.is_of (⟦<CharType as WasmType>⟧.tree ty.now) fields.entry.items) }
-        ensures full { IfErr result (FullRecord ⟦<Odd as WasmValue>⟧.is_of ⟦<Odd as WasmValue>⟧.is_full (⟦<CharType as WasmType>⟧.tree ty.now) fields.entry.items) }
+        ensures made { IfOk result (MakesRecord ⟦<Odd as WasmValue>⟧.tree (λ v T. ⊥) (simple char) fields.entry.items) }
+        ensures full { IfErr result (FullRecord (λ v T. ⊥) (λ T. ⊥) (simple char) fields.entry.items) }
     {
         Err(WasmValueError::UnsupportedType(String::new(alloc)))
     }
@@ -456,8 +456,8 @@ impl WasmValue for Odd {
         case: &str,
         val: Option<Odd>,
     ) -> Result<Odd, WasmValueError>
-        ensures made { IfOk result (MakesVariant ⟦<Odd as WasmValue>⟧.tree ⟦<Odd as WasmValue>⟧.is_of (⟦<CharType as WasmType>⟧.tree ty.now) case.now val) }
-        ensures full { IfErr result (FullVariant ⟦<Odd as WasmValue>⟧.is_of ⟦<Odd as WasmValue>⟧.is_full (⟦<CharType as WasmType>⟧.tree ty.now) case.now val) }
+        ensures made { IfOk result (MakesVariant ⟦<Odd as WasmValue>⟧.tree (λ v T. ⊥) (simple char) case.now val) }
+        ensures full { IfErr result (FullVariant (λ v T. ⊥) (λ T. ⊥) (simple char) case.now val) }
     {
         Err(WasmValueError::UnsupportedType(String::new(alloc)))
     }
@@ -467,8 +467,8 @@ impl WasmValue for Odd {
     }
 
     fn make_option(alloc: Global, ty: &CharType, val: Option<Odd>) -> Result<Odd, WasmValueError>
-        ensures made { IfOk result (MakesOption ⟦<Odd as WasmValue>⟧.tree ⟦<Odd as WasmValue>⟧.is_of (⟦<CharType as WasmType>⟧.tree ty.now) val) }
-        ensures full { IfErr result (FullOption ⟦<Odd as WasmValue>⟧.is_of ⟦<Odd as WasmValue>⟧.is_full (⟦<CharType as WasmType>⟧.tree ty.now) val) }
+        ensures made { IfOk result (MakesOption ⟦<Odd as WasmValue>⟧.tree (λ v T. ⊥) (simple char) val) }
+        ensures full { IfErr result (FullOption (λ v T. ⊥) (λ T. ⊥) (simple char) val) }
     {
         Err(WasmValueError::UnsupportedType(String::new(alloc)))
     }
@@ -478,8 +478,8 @@ impl WasmValue for Odd {
         ty: &CharType,
         val: Result<Option<Odd>, Option<Odd>>,
     ) -> Result<Odd, WasmValueError>
-        ensures made { IfOk result (MakesResult ⟦<Odd as WasmValue>⟧.tree ⟦<Odd as WasmValue>⟧.is_of (⟦<CharType as WasmType>⟧.tree ty.now) val) }
-        ensures full { IfErr result (FullResult ⟦<Odd as WasmValue>⟧.is_of ⟦<Odd as WasmValue>⟧.is_full (⟦<CharType as WasmType>⟧.tree ty.now) val) }
+        ensures made { IfOk result (MakesResult ⟦<Odd as WasmValue>⟧.tree (λ v T. ⊥) (simple char) val) }
+        ensures full { IfErr result (FullResult (λ v T. ⊥) (λ T. ⊥) (simple char) val) }
     {
         Err(WasmValueError::UnsupportedType(String::new(alloc)))
     }
@@ -493,8 +493,8 @@ impl WasmValue for Odd {
         ty: &CharType,
         entries: Vec<(Odd, Odd)>,
     ) -> Result<Odd, WasmValueError>
-        ensures made { IfOk result (MakesMap ⟦<Odd as WasmValue>⟧.tree ⟦<Odd as WasmValue>⟧.is_of (⟦<CharType as WasmType>⟧.tree ty.now) entries.items) }
-        ensures full { IfErr result (FullMap ⟦<Odd as WasmValue>⟧.is_of ⟦<Odd as WasmValue>⟧.is_full (⟦<CharType as WasmType>⟧.tree ty.now) entries.items) }
+        ensures made { IfOk result (MakesMap ⟦<Odd as WasmValue>⟧.tree (λ v T. ⊥) (simple char) entries.items) }
+        ensures full { IfErr result (FullMap (λ v T. ⊥) (λ T. ⊥) (simple char) entries.items) }
     {
         Err(WasmValueError::UnsupportedType(String::new(alloc)))
     }
