@@ -1,9 +1,10 @@
 //! What no clause says: printed words, and one run of each call.
 use crate::keyword::Keyword;
 use crate::wasm::{
-    DisplayFunc, DisplayType, WasmFunc, WasmType, WasmTypeKind, WasmValueError, ensure_type_kind,
+    DisplayFunc, DisplayFuncArgs, DisplayFuncResults, DisplayType, DisplayValue, WasmFunc,
+    WasmType, WasmTypeKind, WasmValue, WasmValueError, ensure_type_kind,
 };
-use crate::writer::{WriterError, merge_map_entries};
+use crate::writer::{Writer, WriterError, merge_map_entries, to_string};
 use std::alloc::{AllocError, Global};
 use std::fmt;
 use std::test::Fail;
@@ -335,5 +336,297 @@ fn merging(rt: HostRuntime) -> Result<(), Fail> {
     assert_eq!(rt; merged.len(), 2);
     assert!(rt; merged[0] == (1, 30));
     assert!(rt; merged[1] == (2, 20));
+    Ok(())
+}
+
+/// A value that no maker makes, as a stranger's: bytes, values without a text, and fixed-length
+/// lists of them.
+#[derive(Clone, Copy)]
+enum Odd {
+    One,
+    Two,
+    F32,
+    F64,
+    Unsupported,
+    Bytes,
+    Unsupporteds,
+}
+
+impl WasmValue for Odd {
+    ghost use Rattle.std.specs.Prelude.{pos, [], ◌∷◌, IfOk, IfErr};
+    ghost use Rattle.wave_wasm.specs.Types.{simple, char, u8, f32, f64, unsupported};
+    ghost use Rattle.wave_wasm.specs.Values.{leaf, whole, unreadable, fixed, values};
+    ghost use Rattle.wave_wasm.specs.Makers.{MakesList, MakesTuple, MakesRecord, MakesVariant, MakesOption, MakesResult, MakesMap, FullList, FullTuple, FullRecord, FullVariant, FullOption, FullResult, FullMap};
+    ghost use Rattle.wave_wasm.specs.declared.tests.Odd.TheVariants as odd;
+
+    type Type = CharType;
+
+    ghost tree = { elim [ odd.One ↦ leaf (whole u8 (pos 1)) | odd.Two ↦ leaf (whole u8 (pos 2)) | odd.F32 ↦ unreadable f32 | odd.F64 ↦ unreadable f64 | odd.Unsupported ↦ unreadable unsupported | odd.Bytes ↦ fixed (values (leaf (whole u8 (pos 1)) ∷ leaf (whole u8 (pos 2)) ∷ [])) | odd.Unsupporteds ↦ fixed (values (unreadable unsupported ∷ [])) ] };
+
+    ghost is_of = { λ v T. ⊥ };
+
+    ghost is_full = { λ T. ⊥ };
+
+    ghost of_fits = { λ v T h. elim h [ ] };
+
+    ghost full_parts = { λ T h. elim h [ ] };
+
+    fn kind(&self) -> WasmTypeKind {
+        match self {
+            Odd::One | Odd::Two => WasmTypeKind::U8,
+            Odd::F32 => WasmTypeKind::F32,
+            Odd::F64 => WasmTypeKind::F64,
+            Odd::Unsupported => WasmTypeKind::Unsupported,
+            Odd::Bytes | Odd::Unsupporteds => WasmTypeKind::FixedLengthList,
+        }
+    }
+
+    fn make_bool(alloc: Global, _val: bool) -> Result<Odd, WasmValueError> {
+        Err(WasmValueError::UnsupportedType(String::new(alloc)))
+    }
+
+    fn make_s8(alloc: Global, _val: i8) -> Result<Odd, WasmValueError> {
+        Err(WasmValueError::UnsupportedType(String::new(alloc)))
+    }
+
+    fn make_s16(alloc: Global, _val: i16) -> Result<Odd, WasmValueError> {
+        Err(WasmValueError::UnsupportedType(String::new(alloc)))
+    }
+
+    fn make_s32(alloc: Global, _val: i32) -> Result<Odd, WasmValueError> {
+        Err(WasmValueError::UnsupportedType(String::new(alloc)))
+    }
+
+    fn make_s64(alloc: Global, _val: i64) -> Result<Odd, WasmValueError> {
+        Err(WasmValueError::UnsupportedType(String::new(alloc)))
+    }
+
+    fn make_u8(alloc: Global, _val: u8) -> Result<Odd, WasmValueError> {
+        Err(WasmValueError::UnsupportedType(String::new(alloc)))
+    }
+
+    fn make_u16(alloc: Global, _val: u16) -> Result<Odd, WasmValueError> {
+        Err(WasmValueError::UnsupportedType(String::new(alloc)))
+    }
+
+    fn make_u32(alloc: Global, _val: u32) -> Result<Odd, WasmValueError> {
+        Err(WasmValueError::UnsupportedType(String::new(alloc)))
+    }
+
+    fn make_u64(alloc: Global, _val: u64) -> Result<Odd, WasmValueError> {
+        Err(WasmValueError::UnsupportedType(String::new(alloc)))
+    }
+
+    fn make_char(alloc: Global, _val: char) -> Result<Odd, WasmValueError> {
+        Err(WasmValueError::UnsupportedType(String::new(alloc)))
+    }
+
+    fn make_string(alloc: Global, _val: &str) -> Result<Odd, WasmValueError> {
+        Err(WasmValueError::UnsupportedType(String::new(alloc)))
+    }
+
+    fn make_list(alloc: Global, ty: &CharType, vals: Vec<Odd>) -> Result<Odd, WasmValueError>
+        ensures made { IfOk result (MakesList ⟦<Odd as WasmValue>⟧.tree (λ v T. ⊥) (simple char) vals.items) }
+        ensures full { IfErr result (FullList (λ v T. ⊥) (λ T. ⊥) (simple char) vals.items) }
+    {
+        Err(WasmValueError::UnsupportedType(String::new(alloc)))
+    }
+
+    fn make_tuple(alloc: Global, ty: &CharType, vals: Vec<Odd>) -> Result<Odd, WasmValueError>
+        ensures made { IfOk result (MakesTuple ⟦<Odd as WasmValue>⟧.tree (λ v T. ⊥) (simple char) vals.items) }
+        ensures full { IfErr result (FullTuple (λ v T. ⊥) (λ T. ⊥) (simple char) vals.items) }
+    {
+        Err(WasmValueError::UnsupportedType(String::new(alloc)))
+    }
+
+    fn make_record(
+        alloc: Global,
+        ty: &CharType,
+        fields: Vec<(&str, Odd)>,
+    ) -> Result<Odd, WasmValueError>
+        ensures made { IfOk result (MakesRecord ⟦<Odd as WasmValue>⟧.tree (λ v T. ⊥) (simple char) fields.entry.items) }
+        ensures full { IfErr result (FullRecord (λ v T. ⊥) (λ T. ⊥) (simple char) fields.entry.items) }
+    {
+        Err(WasmValueError::UnsupportedType(String::new(alloc)))
+    }
+
+    fn make_variant(
+        alloc: Global,
+        ty: &CharType,
+        case: &str,
+        val: Option<Odd>,
+    ) -> Result<Odd, WasmValueError>
+        ensures made { IfOk result (MakesVariant ⟦<Odd as WasmValue>⟧.tree (λ v T. ⊥) (simple char) case.now val) }
+        ensures full { IfErr result (FullVariant (λ v T. ⊥) (λ T. ⊥) (simple char) case.now val) }
+    {
+        Err(WasmValueError::UnsupportedType(String::new(alloc)))
+    }
+
+    fn make_enum(alloc: Global, _ty: &CharType, _case: &str) -> Result<Odd, WasmValueError> {
+        Err(WasmValueError::UnsupportedType(String::new(alloc)))
+    }
+
+    fn make_option(alloc: Global, ty: &CharType, val: Option<Odd>) -> Result<Odd, WasmValueError>
+        ensures made { IfOk result (MakesOption ⟦<Odd as WasmValue>⟧.tree (λ v T. ⊥) (simple char) val) }
+        ensures full { IfErr result (FullOption (λ v T. ⊥) (λ T. ⊥) (simple char) val) }
+    {
+        Err(WasmValueError::UnsupportedType(String::new(alloc)))
+    }
+
+    fn make_result(
+        alloc: Global,
+        ty: &CharType,
+        val: Result<Option<Odd>, Option<Odd>>,
+    ) -> Result<Odd, WasmValueError>
+        ensures made { IfOk result (MakesResult ⟦<Odd as WasmValue>⟧.tree (λ v T. ⊥) (simple char) val) }
+        ensures full { IfErr result (FullResult (λ v T. ⊥) (λ T. ⊥) (simple char) val) }
+    {
+        Err(WasmValueError::UnsupportedType(String::new(alloc)))
+    }
+
+    fn make_flags(alloc: Global, _ty: &CharType, _names: &[&str]) -> Result<Odd, WasmValueError> {
+        Err(WasmValueError::UnsupportedType(String::new(alloc)))
+    }
+
+    fn make_map(
+        alloc: Global,
+        ty: &CharType,
+        entries: Vec<(Odd, Odd)>,
+    ) -> Result<Odd, WasmValueError>
+        ensures made { IfOk result (MakesMap ⟦<Odd as WasmValue>⟧.tree (λ v T. ⊥) (simple char) entries.items) }
+        ensures full { IfErr result (FullMap (λ v T. ⊥) (λ T. ⊥) (simple char) entries.items) }
+    {
+        Err(WasmValueError::UnsupportedType(String::new(alloc)))
+    }
+
+    fn unwrap_bool(&self) -> bool {
+        unreachable!()
+    }
+
+    fn unwrap_s8(&self) -> i8 {
+        unreachable!()
+    }
+
+    fn unwrap_s16(&self) -> i16 {
+        unreachable!()
+    }
+
+    fn unwrap_s32(&self) -> i32 {
+        unreachable!()
+    }
+
+    fn unwrap_s64(&self) -> i64 {
+        unreachable!()
+    }
+
+    fn unwrap_u8(&self) -> u8 {
+        match self {
+            Odd::One => 1,
+            Odd::Two => 2,
+            _ => unreachable!(),
+        }
+    }
+
+    fn unwrap_u16(&self) -> u16 {
+        unreachable!()
+    }
+
+    fn unwrap_u32(&self) -> u32 {
+        unreachable!()
+    }
+
+    fn unwrap_u64(&self) -> u64 {
+        unreachable!()
+    }
+
+    fn unwrap_char(&self) -> char {
+        unreachable!()
+    }
+
+    fn unwrap_string(&self) -> &str {
+        unreachable!()
+    }
+
+    fn unwrap_list(&self, alloc: Global) -> Result<Vec<&Odd>, AllocError> {
+        match self {
+            Odd::Bytes => {
+                let mut items = Vec::new(alloc);
+                items.push(&Odd::One)?;
+                items.push(&Odd::Two)?;
+                Ok(items)
+            }
+            Odd::Unsupporteds => {
+                let mut items = Vec::new(alloc);
+                items.push(&Odd::Unsupported)?;
+                Ok(items)
+            }
+            _ => unreachable!(),
+        }
+    }
+
+    fn unwrap_tuple(&self, _alloc: Global) -> Result<Vec<&Odd>, AllocError> {
+        unreachable!()
+    }
+
+    fn unwrap_record(&self, _alloc: Global) -> Result<Vec<(&str, &Odd)>, AllocError> {
+        unreachable!()
+    }
+
+    fn unwrap_variant(&self) -> (&str, Option<&Odd>) {
+        unreachable!()
+    }
+
+    fn unwrap_enum(&self) -> &str {
+        unreachable!()
+    }
+
+    fn unwrap_option(&self) -> Option<&Odd> {
+        unreachable!()
+    }
+
+    fn unwrap_result(&self) -> Result<Option<&Odd>, Option<&Odd>> {
+        unreachable!()
+    }
+
+    fn unwrap_flags(&self, _alloc: Global) -> Result<Vec<&str>, AllocError> {
+        unreachable!()
+    }
+
+    fn unwrap_map(&self, _alloc: Global) -> Result<Vec<(&Odd, &Odd)>, AllocError> {
+        unreachable!()
+    }
+}
+
+/// Whether `to_string` and a writer refuse the value as one without a text.
+fn is_unsupported(rt: HostRuntime, val: &Odd) -> bool {
+    let mut writer = Writer::new(String::new(rt.alloc()));
+    let written = writer.write_value(rt.alloc(), val);
+    let text = to_string(rt.alloc(), val);
+    matches!(written, Err(WriterError::UnsupportedType))
+        && matches!(text, Err(WriterError::UnsupportedType))
+}
+
+#[test]
+fn values_without_a_text(rt: HostRuntime) -> Result<(), Fail> {
+    let alloc = rt.alloc();
+    for val in [Odd::F32, Odd::F64, Odd::Unsupported, Odd::Unsupporteds] {
+        assert!(rt; is_unsupported(rt, &val));
+        let vals = &[val][..];
+        assert!(rt; format!(in alloc; "{}", DisplayValue::new(alloc, &val)).is_err());
+        assert!(rt; format!(in alloc; "{}", DisplayFuncArgs::new(alloc, vals)).is_err());
+        assert!(rt; format!(in alloc; "{}", DisplayFuncResults::new(alloc, vals)).is_err());
+    }
+    Ok(())
+}
+
+#[test]
+fn fixed_length_lists(rt: HostRuntime) -> Result<(), Fail> {
+    let text = to_string(rt.alloc(), &Odd::Bytes)?;
+    assert_eq!(rt; text.as_str(), "[1, 2]");
+    let mut writer = Writer::new(String::new(rt.alloc()));
+    writer.write_value(rt.alloc(), &Odd::Bytes)?;
+    assert_eq!(rt; writer.into_inner().as_str(), "[1, 2]");
+    let shown = format!(in rt.alloc(); "{}", DisplayValue::new(rt.alloc(), &Odd::Bytes))?;
+    assert_eq!(rt; shown.as_str(), "[1, 2]");
     Ok(())
 }
