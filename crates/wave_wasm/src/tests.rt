@@ -5,7 +5,7 @@ use crate::wasm::{
     WasmType, WasmTypeKind, WasmValue, WasmValueError, ensure_type_kind,
 };
 use crate::writer::{Writer, WriterError, merge_map_entries, to_string};
-use std::alloc::{AllocError, Global};
+use std::alloc::{AllocError, AllocFailed, Global};
 use std::fmt;
 use std::test::Fail;
 
@@ -271,6 +271,7 @@ fn refusals(rt: HostRuntime) -> Result<(), Fail> {
         (WriterError::from(fmt::Error), failed),
         (WriterError::UnsupportedType, "unsupported value type"),
         (WriterError::from(AllocError), "out of memory"),
+        (WriterError::from(AllocFailed { value: 1 }), "out of memory"),
     ];
     for (error, words) in rows {
         let shown = format!(in rt.alloc(); "{error}")?;
@@ -300,6 +301,10 @@ fn causes(rt: HostRuntime) -> Result<(), Fail> {
         ),
         (WasmValueError::Other(name()?), "a"),
         (WasmValueError::from(AllocError), "out of memory"),
+        (
+            WasmValueError::from(AllocFailed { value: 1 }),
+            "out of memory",
+        ),
         (
             WasmValueError::WrongNumberOfTupleValues { want: 2, got: 3 },
             "expected 2 tuple elements; got 3",
