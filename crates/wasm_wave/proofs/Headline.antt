@@ -1,22 +1,18 @@
 -- A text means one value, and a value of a type can be written.
-use Rattle.std.proofs.Common.{◌≡◌, ℕ, Bool, true, false, List, [], ◌∷◌, ◌++◌, refl, sym, ap, subst, ◌∙◌, inl, inr, arith}
+use Rattle.std.proofs.Common.{◌≡◌, ℕ, Bool, true, false, List, [], ◌∷◌, refl, sym, subst, ◌∙◌, inl, inr, arith}
 use Rattle.std.specs.Prelude.{◌&&◌, not, if◌then◌else◌, IfOk, IfErr, Result, Ok, Err}
 use Rattle.std.proofs.lemmas.List.{append-nil}
 use Rattle.std.proofs.lemmas.Bool.{false≢true}
 use Rattle.wave_wasm.specs.Lists.{AllOf}
 use Rattle.wave_wasm.specs.Types as type
 use Rattle.wave_wasm.specs.Types.{TypeTree, MaybeType, Types, Fields, Cases, no_type, a_type, no_types, type_and, no_cases, case_of, HasDistinctNames}
-use Rattle.wave_wasm.specs.Values as value
-use Rattle.wave_wasm.specs.Values.{Value, Leaf, MaybeValue, FieldValues, values, entries, no_value}
+use Rattle.wave_wasm.specs.Values.{Value, Leaf, MaybeValue, FieldValues, values, entries}
 use Rattle.wave_wasm.specs.HasType.{IsLeafOf, HasType, HasPayload, HasTypes, HasFields, HasCase}
 use Rattle.wave_wasm.specs.Text.{has_text, is_writable, is_writable_maybe, are_writable, are_writable_fields, are_writable_entries}
 use Rattle.wave_wasm.specs.Merge.{merged, merged_maybe, merged_values, merged_fields, merged_entries, merge, last_value, without, leaf_eq}
 use Rattle.wave_wasm.specs.Output.{IsGrounded}
 use Rattle.wave_wasm.specs.declared.writer.WriterError.{WriterError}
 use Rattle.wave_wasm.specs.declared.writer.WriterError.TheVariants as refusal
-use Rattle.wave_tree.specs.Means.{Means}
-use Rattle.wave_tree.specs.Token.{Token, CutsInto}
-use Rattle.wave_tree.specs.Reads.{Reads}
 use Rattle.wave_tree.proofs.Reading.{one_reading}
 use Rattle.wave_tree.proofs.Canon.{reads_merged}
 use Rattle.wave_tree.proofs.CanonLeaves.{one_cut_into}

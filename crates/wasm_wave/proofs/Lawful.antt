@@ -1,19 +1,18 @@
 -- From what `Value` makes and refuses to the laws of values.
-use Rattle.std.proofs.Common.{◌≡◌, ℕ, suc, true, false, List, [], ◌∷◌, map, inl, inr, length, codes, sym, ap, subst, ◌∙◌, refl, Option, Some, None, Result, Ok, Err, Bor}
+use Rattle.std.proofs.Common.{◌≡◌, ℕ, suc, List, [], ◌∷◌, inl, inr, length, codes, sym, ap, subst, ◌∙◌, refl, Option, Some, None, Result, Ok, Err}
 use Rattle.std.specs.Prelude.{IfOk, IfErr}
 use Rattle.wave_wasm.specs.Types as type
 use Rattle.wave_wasm.specs.Types.{TypeTree, Types, MaybeType, type_list, type_option, kind_of}
 use Rattle.wave_wasm.specs.Values as value
 use Rattle.wave_wasm.specs.Values.{Value, Leaf, leaf_type, IsSound, IsWellFormed, values, maybe_value}
 use Rattle.wave_wasm.specs.HasType.{HasType}
-use Rattle.wave_wasm.specs.Makers.{IsMemory, Makes, MakesLeaf, MakesList, MakesTuple, MakesOption, MakesEnum, MakesResult, AreOf, OptionIsOf, PayloadIsOf, EitherIsOf, result_value, either_tree, FullLeaf, FullList, FullTuple, FullRecord, FullEnum, FullOption, FullResult}
+use Rattle.wave_wasm.specs.Makers.{IsMemory, Makes, MakesLeaf, MakesList, MakesTuple, MakesOption, MakesEnum, MakesResult, AreOf, OptionIsOf, PayloadIsOf, EitherIsOf, result_value, either_tree, FullLeaf, FullList, FullTuple, FullEnum, FullOption, FullResult}
 use Rattle.wave_wasm.specs.declared.wasm.WasmValueError.{WasmValueError}
 use Rattle.wave_wasm.proofs.Formed.{formed}
 use Rattle.wasm_wave.specs.TypedValue.{TypedValue, IsAt, IsTyped, MakesOnly, typed_leaf}
 use Rattle.wasm_wave.specs.Built.{IsFull}
 use Rattle.wasm_wave.specs.ValueView.{trees, payload_tree}
 use Rattle.wasm_wave.specs.Taken.{Made, TellsOne, list_stated, option_stated, each_stated, RefusesParts, RefusesTuple, RefusesPayload, RefusesResult, RefusesEnum}
-use Rattle.std.proofs.lemmas.Bool.{false≢true}
 use Rattle.wave_wasm.specs.Lists.{AllOf}
 use Rattle.wave_wasm.specs.Names.{IsOneOf}
 use Rattle.wave_wasm.specs.declared.wasm.WasmTypeKind.{WasmTypeKind}

@@ -1,10 +1,9 @@
 -- What is shown of a node, and of a call, keeps what it means.
 use Rattle.std.proofs.Common.{ℕ, ◌≡◌, ◌++◌, List, Option, Some, None, sym, ap, subst, ◌∙◌}
-use Rattle.wave_tree.specs.Tree.{MaybeTree, no_tree, a_tree, shown}
+use Rattle.wave_tree.specs.Tree.{MaybeTree, shown}
 use Rattle.wave_tree.specs.Calls.{shown_call}
-use Rattle.wave_tree.specs.Placed.{Placed, slice, tree_of, at}
+use Rattle.wave_tree.specs.Placed.{slice, tree_of, at}
 use Rattle.wave_tree.specs.NodeTree.{NodeTree, place_of}
-use Rattle.wave_tree.specs.Nodes.{IsNodeOf}
 use Rattle.wave_tree.specs.ShownNodes.{shown_at}
 use Rattle.wave_tree.specs.ShownLaws.{MeanTheSame}
 use Rattle.wave_tree.specs.ShownAgain.{IsKeptByDisplay, IsCallKeptByDisplay}

@@ -8,9 +8,8 @@ use Rattle.wave_tree.specs.Params.{Params}
 use Rattle.wave_tree.specs.Placed.{Placed, slice, tree_of}
 use Rattle.wave_tree.specs.NodeTree.{NodeTree, place_of}
 use Rattle.wave_tree.specs.Nodes.{IsNodeOf}
-use Rattle.wave_tree.specs.ShownNodes.{shown_at}
 use Rattle.wave_tree.specs.ShownLaws.{ShowsAgain, ShowsCallAgain, MeanTheSame}
-use Rattle.wave_tree.specs.Called.{Called, IsCalledOf, call_shown}
+use Rattle.wave_tree.specs.Called.{Called, IsCalledOf}
 
 -- the text is the display of the node's tree, spells a tree of as many levels and of the same display, and means what the node's slice means
 abbrev pub IsKeptByDisplay : List ℕ → NodeTree → List ℕ → Type 0

@@ -183,11 +183,7 @@ impl<'source> Parser<'source> {
     fn unexpected(&self, token: Token) -> ParserError
         ensures { Says result kind.UnexpectedToken (span_at self.now.place) (Some (class_name token)) }
     {
-        ParserError::with_static(
-            ParserErrorKind::UnexpectedToken,
-            self.span(),
-            token.name(),
-        )
+        ParserError::with_static(ParserErrorKind::UnexpectedToken, self.span(), token.name())
     }
 
     /// The refusal of the label of this name, which was taken last.
