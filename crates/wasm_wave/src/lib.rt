@@ -58,9 +58,9 @@ pub fn from_str<V: WasmValue>(alloc: Global, ty: &V::Type, s: &str) -> Result<V,
 /// The canonical text of the value; `UnsupportedType` is answered only where it has none, `Io`
 /// never, and a value of a type is refused for want of memory alone: every `Value` is one of its own
 /// type (`Value::ty`). Of a type whose names are distinct labels, another value has the same text
-/// exactly where the two are equal, merged; the text is read back as the value, merged, within its
-/// own levels, so by `from_str` where these are at most 100; and it has at most twice the levels of
-/// any text that is read as the value.
+/// exactly where the two are equal, merged. Where the type's tree is also one that `Type` has, the
+/// text is read back as the value, merged, within its own levels, so by `from_str` where these are at
+/// most 100; and it has at most twice the levels of any text that is read as the value.
 pub fn to_string<V: WasmValue>(alloc: Global, val: &V) -> Result<String, WriterError>
     ensures text { IfOk result (λ s. string_bytes s ≡ text (V.tree val.now)) }
     ensures grounded { IfErr result (λ e. IsGrounded e (has_text (V.tree val.now)) 0 0) }
