@@ -112,7 +112,7 @@ fn levels_of_calls(rt: HostRuntime) -> Result<(), Fail> {
 
 /// The fronts of the calls of `levels_of_calls`, at a variant of a hundred options: the shorter call
 /// is of it too, since a number stands for `some` of itself. The first 497 bytes of the calls are
-/// equal, and the fronts within these are read once.
+/// equal, and the fronts shorter than that are read once.
 #[test]
 fn fronts_of_calls(rt: HostRuntime) -> Result<(), Fail> {
     let options = within(rt, "option<", 100, "u8", ">")?;
