@@ -1,5 +1,5 @@
 -- What a refusal says: kind, cause, detail, and the text of it.
-use Rattle.std.specs.Prelude.{ℕ, ◌++◌, List, [], Option, Some, None, option_map, codes}
+use Rattle.std.specs.Prelude.{◌≡◌, ℕ, ◌≤◌, ◌++◌, List, [], length, Option, Some, None, option_map, codes}
 use Rattle.std.specs.Fmt.{decimal}
 use Rattle.std.specs.String.{string_bytes}
 use Rattle.std.specs.declared.ops.Range.{Range}
@@ -49,6 +49,16 @@ abbrev pub detail_text : Detail → Option (List ℕ)
 detail_text detail.None = None
 detail_text (detail.Static s) = Some s.now
 detail_text (detail.Owned s) = Some (string_bytes s)
+
+-- the error is of this kind, at this span, with this detail and without a cause
+pub record Says (e : ParserError) (kind : ParserErrorKind) (at : Range ℕ) (detail : Option (List ℕ)) : Type 0 where
+  pub is : refusal_of e ≡ plainly kind
+  pub stands : e.span ≡ at
+  pub tells : detail_text e.detail ≡ detail
+
+-- the span lies in the text
+abbrev pub LiesInText : List ℕ → Range ℕ → Type 0
+LiesInText s p = (p.start ≤ p.end) × (p.end ≤ length s)
 
 -- ---- words
 
