@@ -29,10 +29,6 @@ NoParen rest = (more : List Token) → rest ≢ paren_open ∷ more
 abbrev pub Through : {T A : Type 0} → Spelling A → Spelling T → Meaning T A → Type 0
 Through {T} {A} P I Q = (tokens : List Token) (a : A) (rest : List Token) → P tokens a rest → NoParen rest → (t : T) × I tokens t rest × Q t a
 
--- a mark that is no open parenthesis
-abbrev IsEnd : Token → Type 0
-IsEnd close = (close ≢ paren_open) × Unit {0}
-
 -- behind an item stands no open parenthesis
 further-no_paren : {A : Type 0} (close : Token) (P : Spelling A) → close ≢ paren_open → (tokens : List Token) (items : List A) (rest : List Token) → FurtherItems close P tokens items rest → NoParen tokens
 further-no_paren close P end tokens [] rest (inl e) more f = end cc

@@ -247,11 +247,6 @@ called_of s k p (Some n) named h ends =
       stands = (h.placed, p, ends.0, h.is_node, h.stands, ends.1);
     }
 
--- a name and parameters that stand in their source
-pub in_source : (s : List ℕ) (k : ℕ) (p : Place) (params : Option NodeTree) → IsUtf8 s → IsName s k → AreParamsTaken (behind_name s k) p params → IsInSource s (span 0 k) params
-in_source s k p None utf8 named h = (record { ordered = omega arith; first = IsCharBoundary-start s utf8; last = front_boundary function_name s k utf8 named.0 }, tt)
-in_source s k p (Some n) utf8 named h = (record { ordered = omega arith; first = IsCharBoundary-start s utf8; last = front_boundary function_name s k utf8 named.0 }, ((h.placed, h.is_node), h.ty))
-
 -- ---- the name
 
 -- the lexer behind a name
@@ -267,9 +262,6 @@ unnamed_at s l bad e (k, it, none, front, place) says = inr (k, none, front, sub
   where
     zero_plus : 0 + k ≡ k
     zero_plus = omega arith
-
-pub ended_at : (s : List ℕ) (l : Lexed) (e : ParserError) → NameIs (record { source = s; start = 0; end = 0 }) l None → Says e because.UnexpectedEnd (span l.start l.end) None → NameFault s e
-ended_at s l e (empty, it) says = inl (empty, subst (λ (p : Range ℕ). Says e because.UnexpectedEnd p None) (λ i. span (it.start i) (it.end i)) says)
 
 pub name_refused : (s : List ℕ) (e : ParserError) → NameFault s e → RefusesCall s e
 name_refused s e (inl h) apart = (inl (inl h), no_call_empty s h.0)

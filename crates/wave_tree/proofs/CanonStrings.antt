@@ -172,7 +172,3 @@ sound_written (value.string s) sound = string_written s sound
 -- the text of each value of one token is one token
 pub leaf_written : (S : Simple) (one : Leaf) → IsLeafOf S one → IsWritten S one
 leaf_written S one of = subst (λ (z : Simple). IsWritten z one) of.0 (sound_written one of.1)
-
--- each simple type reads back
-pub simple_back : (S : Simple) → ReadsBack (type.simple S)
-simple_back S = simple_reads_back S (leaf_written S)

@@ -195,10 +195,6 @@ only_one source (f ∷ fs) (x ∷ es) (suc i) e name Q h d here is (inr some) = 
 abbrev pub Removed : List (List ℕ) → BTreeMap (Bor (List ℕ)) (Bor NodeTree) → BTreeMap (Bor (List ℕ)) (Bor NodeTree) → Type 0
 Removed names old new = (name : List ℕ) → held_at new name ≡ (if is_one_of names name then None else held_at old name)
 
--- nothing was removed
-pub removed_none : (m : BTreeMap (Bor (List ℕ)) (Bor NodeTree)) → Removed [] m m
-removed_none m = λ name. refl
-
 either_cond : {A : Type 0} (a b : Bool) (o : Option A) → cond a None (if b then None else o) ≡ (if b || (a || false) then None else o)
 either_cond true true o = refl
 either_cond true false o = refl

@@ -69,9 +69,6 @@ places_in_order P (f ∷ fs) (h, hs) = put_place P f (flags_in_order fs) h (plac
 
 -- ---- their nodes and texts
 
-flag_placed : Flag → Placed
-flag_placed f = at f.0 (label f.0 f.1 no_placed)
-
 nodes_mean : (source : List ℕ) (from to : ℕ) (fs : List Flag) → AreFlagsOf source from to fs → all_placed source (node_trees (map flag_node fs)) ≡ Some (map (λ f. at f.0 (label f.0 f.1 no_placed)) fs)
 nodes_mean source from to [] h = refl
 nodes_mean source from to (f ∷ fs) (h, hs) =
