@@ -8,16 +8,16 @@ use Rattle.wave_wasm.specs.Types as type
 use Rattle.wave_wasm.specs.Types.{TypeTree, MaybeType, Types, Fields, Cases, Simple, no_type, a_type, no_types, type_and, no_fields, field, no_cases, case_of}
 use Rattle.wave_wasm.specs.Names.{IsNoneOf, AreDistinct}
 use Rattle.wave_wasm.specs.Values as value
-use Rattle.wave_wasm.specs.Values.{Value, MaybeValue, FieldValues, Leaf, no_value, a_value, values, entries}
+use Rattle.wave_wasm.specs.Values.{Value, MaybeValue, Leaf, entries}
 use Rattle.wave_tree.specs.Joined.{Spelling, FurtherItems, Items}
 use Rattle.wave_wasm.specs.Names.{IsOneOf, AreAllOf}
 use Rattle.wave_wasm.specs.Keywords as kw
 use Rattle.wave_wasm.specs.Names as nm
 use Rattle.wave_tree.specs.Reads as r
 use Rattle.wave_tree.specs.Spells.{name_of, Spells}
-use Rattle.wave_tree.specs.Reads.{Reads, ReadsPayload, ReadsFlat, ReadsTuple, ReadsFurther, ReadsField, ReadsCase, IsFlat}
+use Rattle.wave_tree.specs.Reads.{Reads, ReadsPayload, ReadsFlat, ReadsTuple, ReadsFurther, ReadsField, ReadsCase}
 use Rattle.wave_tree.specs.Tree as tree
-use Rattle.wave_tree.specs.Tree.{Tree, MaybeTree, trees, tree_entries, no_tree, a_tree, in_order, ATree, Takes, KeyAnd, MaybeInParens, InBraces, IsKey}
+use Rattle.wave_tree.specs.Tree.{Tree, MaybeTree, trees, tree_entries, no_tree, a_tree, in_order, ATree, Takes, KeyAnd, MaybeInParens, IsKey}
 use Rattle.wave_tree.specs.TreeReads as m
 use Rattle.wave_tree.specs.TreeReads.{Meaning, Each, TreeReads, TreeReadsPayload, TreeReadsFlat, TreeReadsAll, TreeReadsField, TreeReadsCase}
 

@@ -2,35 +2,32 @@
 use Rattle.std.proofs.Common.{◌≡◌, ◌≢◌, ℕ, zero, suc, ◌+◌, inl, inr, List, [], ◌∷◌, refl, sym, ap, subst, ◌∙◌, length, take, drop, arith, Option, Some, None, Ok, Err, length-drop}
 use Rattle.std.specs.Prelude.{◌⊎◌}
 use Rattle.std.specs.declared.ops.Range.{Range}
-use Rattle.std.specs.Str.{IsUtf8}
 use Rattle.std.proofs.lemmas.List.{append-nil}
-use Rattle.std.proofs.lemmas.Str.{IsCharBoundary-start}
 use Rattle.wave_lex.specs.declared.lex.Token as lex
 use Rattle.wave_lex.specs.declared.lex.Token.TheVariants.{BraceOpen, BraceClose, ParenOpen, ParenClose, BracketOpen, BracketClose, Colon, Comma, Number, LabelOrKeyword, Char, String, MultilineString}
 use Rattle.wave_lex.specs.declared.lex.FuncNameToken.{FuncNameToken}
 use Rattle.wave_lex.specs.declared.error.ParserError.{ParserError}
 use Rattle.wave_lex.specs.declared.error.ParserErrorKind.TheVariants as because
-use Rattle.wave_lex.specs.Tokens.{shape, function_name}
+use Rattle.wave_lex.specs.Tokens.{shape}
 use Rattle.wave_lex.specs.FunctionName.{IsName, NoName, NameIs}
 use Rattle.wave_lex.specs.Lexing.{Lexed, span}
 use Rattle.wave_lex.proofs.Classes.{shape_not_empty}
 use Rattle.wave_lex.proofs.Fronts.{front_positive}
-use Rattle.wave_lex.proofs.Scanning.{front_boundary}
 use Rattle.wave_tree.specs.Token as token
-use Rattle.wave_tree.specs.Token.{Token, CutsInto, lexeme_of, paren_open, paren_close}
+use Rattle.wave_tree.specs.Token.{Token, CutsInto, paren_open, paren_close}
 use Rattle.wave_tree.specs.Tree as form
-use Rattle.wave_tree.specs.Tree.{Tree, MaybeTree, no_tree, a_tree, Takes, BehindWord, Word, word_of}
+use Rattle.wave_tree.specs.Tree.{Tree, MaybeTree, no_tree, a_tree, Takes, word_of}
 use Rattle.wave_tree.specs.Calls.{SpellsParams, IsCall}
 use Rattle.wave_tree.specs.Placed.{tuple, placed_trees, trees_of, tree_of}
 use Rattle.wave_tree.specs.NodeTree.{NodeTree, type_of}
 use Rattle.wave_tree.specs.Place as place
-use Rattle.wave_tree.specs.Place.{Place, TakesToken, TakesTokens, TakesAny, token_of, text_at}
+use Rattle.wave_tree.specs.Place.{Place, TakesToken, TakesTokens, token_of, text_at}
 use Rattle.wave_tree.specs.Due as due
 use Rattle.wave_tree.specs.Refusals.{Says, IsRead, IsRefused}
 use Rattle.wave_tree.specs.AnswerLaws.{AreNext}
 use Rattle.wave_tree.specs.Parsed.{IsSound, TakesClass, IsOfItems}
 use Rattle.wave_tree.specs.Parsing.{IsTrailing}
-use Rattle.wave_tree.specs.Called.{IsTupleTaken, AreParamsTaken, RefusesTuple, IsCalledOf, IsInSource, IsNoCall, NameFault, RefusesCall, behind_name}
+use Rattle.wave_tree.specs.Called.{IsTupleTaken, AreParamsTaken, RefusesTuple, IsCalledOf, IsNoCall, NameFault, RefusesCall, behind_name}
 use Rattle.wave_tree.proofs.UniqueTree.{one_tree}
 use Rattle.wave_tree.proofs.Answering.{read_have_tree, refused_have_none}
 use Rattle.wave_tree.proofs.Going.{expected}

@@ -3,10 +3,10 @@ use Rattle.std.proofs.Common.{◌≡◌, ℕ, ℤ, ◌<◌, Bool, true, false, L
 use Rattle.std.specs.Prelude.{codes, map}
 use Rattle.std.specs.Fmt.{signed_decimal}
 use Rattle.wave_wasm.specs.Types as type
-use Rattle.wave_wasm.specs.Types.{TypeTree, Simple, Whole, HasDistinctNames}
+use Rattle.wave_wasm.specs.Types.{Simple, Whole}
 use Rattle.wave_wasm.specs.Numbers.{IsInRange}
 use Rattle.wave_wasm.specs.Values as value
-use Rattle.wave_wasm.specs.Values.{Value, Leaf, leaf_type, IsSound}
+use Rattle.wave_wasm.specs.Values.{Value, Leaf}
 use Rattle.wave_wasm.specs.HasType.{IsLeafOf}
 use Rattle.wave_wasm.specs.Text.{text, leaf_text}
 use Rattle.wave_lex.specs.declared.lex.Token.TheVariants as class

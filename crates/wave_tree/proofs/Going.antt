@@ -13,7 +13,7 @@ use Rattle.wave_lex.proofs.Next.{next_one, next_less}
 use Rattle.wave_tree.specs.Token.{Token, brace_open, brace_close, paren_open, paren_close, bracket_open, bracket_close, colon, comma, number, label, char, string, multiline}
 use Rattle.wave_tree.specs.Place.{Place, Takes, TakesToken, TakesTokens, token_of, text_at, span_at}
 use Rattle.wave_tree.specs.Due as due
-use Rattle.wave_tree.specs.Due.{Due, Form, Step, value, first_item, next_item, behind_value, behind_label, reads, unexpected, empty_tuple, repeated_flag, too_deep, step, Leads, IsValueDue, closes, is_paren, is_colon, is_brace_close, behind_step, level_step, value_step, key_step, brace_step, behind_flag_step, flag_step}
+use Rattle.wave_tree.specs.Due.{Due, Form, value, first_item, next_item, behind_value, behind_label, reads, unexpected, empty_tuple, repeated_flag, too_deep, step, Leads, IsValueDue, closes, is_paren, is_colon, is_brace_close, behind_step, value_step, key_step, brace_step, behind_flag_step, flag_step}
 use Rattle.wave_tree.specs.Refusals.{IsTooDeep, StandsAt, Says, IsRefused, Refuses, IsBehind, IsRead, Gives, IsWithin, IsUnfinished}
 use Rattle.wave_tree.specs.Parsing.{Fails}
 use Rattle.wave_tree.specs.Word.{form_of, IsClose, IsKeyClass}

@@ -61,4 +61,3 @@ one_param = inr (1, _, _, _, _, refl, one_reads 1 _ (lit< tt), inl (inl refl, (_
 
 two_params : Params (u8 ∷ u8 ∷ []) (paren_open ∷ one ∷ comma ∷ one ∷ comma ∷ paren_close ∷ []) (a_u8 1 ∷ a_u8 1 ∷ [])
 two_params = inr (1, _, _, _, _, refl, one_reads 1 _ (lit< tt), inr (1, _, _, _, _, refl, one_reads 1 _ (lit< tt), (inr refl, refl), refl), refl)
-

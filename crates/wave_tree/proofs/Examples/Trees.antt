@@ -3,8 +3,8 @@ use Rattle.std.proofs.Common.{ℕ, zero, suc, ◌≡◌, List, [], ◌∷◌, in
 use Rattle.std.specs.Prelude.{codes, map}
 use Rattle.wave_wasm.specs.Types as type
 use Rattle.wave_wasm.specs.Values as value
-use Rattle.wave_wasm.specs.Values.{Value, values, entries, field_values}
-use Rattle.wave_tree.specs.Token.{Token, number, string, char, multiline, label, brace_open, brace_close, paren_open, paren_close, bracket_open, bracket_close, comma, colon}
+use Rattle.wave_wasm.specs.Values.{values, entries, field_values}
+use Rattle.wave_tree.specs.Token.{Token, string, char, multiline, label, brace_open, brace_close, paren_open, paren_close, bracket_open, bracket_close, comma, colon}
 use Rattle.wave_tree.specs.Tree as tree
 use Rattle.wave_tree.specs.Tree.{Tree, Takes, word_of, leaf_word, none_word, some_word, ok_word, err_word, case_word, in_order, shown, trees, tree_entries, levels}
 use Rattle.wave_tree.specs.TreeReads.{TreeReads}
@@ -116,4 +116,3 @@ entries_given = (
 cases_given : TreeReads (type.variant (type.case_of (codes "ok") (type.a_type u8) type.no_cases)) (tree.label (codes "%ok") (tree.a_tree one_tree)) (value.variant (codes "ok") (value.a_value (a_u8 1)))
     × TreeReads (type.enum (codes "ok" ∷ [])) (tree.label (codes "%ok") tree.no_tree) (value.enum (codes "ok"))
 cases_given = ((codes "%ok", tree.a_tree one_tree, value.a_value (a_u8 1), refl, inl (refl, (one_tree, a_u8 1, refl, one_given, refl)), refl), (codes "%ok", refl, inl refl, refl))
-

@@ -105,4 +105,3 @@ no_nested n v rest (inr (w, (flat, h), f)) = flat
 results : Reads (type.result (type.a_type u8) type.no_type) 2 (word (codes "ok") ∷ paren_open ∷ one ∷ paren_close ∷ []) (value.ok (value.a_value (a_u8 1))) []
     × Reads (type.result (type.a_type u8) type.no_type) 1 (word (codes "err") ∷ []) (value.err value.no_value) [] × Reads (type.result (type.a_type u8) type.no_type) 1 (one ∷ []) (value.ok (value.a_value (a_u8 1))) []
 results = (inl (lit< tt, inl (_, (_, refl, (a_u8 1, (_, refl, one_reads 1 _ (lit< tt)), refl)), refl)), inl (lit< tt, inr (_, (_, refl, (refl, refl)), refl)), inr (a_u8 1, (tt, one_reads 1 _ (lit< tt)), refl))
-
