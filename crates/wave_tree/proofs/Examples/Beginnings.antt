@@ -1,12 +1,11 @@
 -- Worked examples of what is due behind tokens, of tokens that are refused there, and of refusals at a parser's place.
 use Rattle.std.proofs.Common.{ℕ, ◌≡◌, inl, inr, List, [], ◌∷◌, refl, arith, None}
 use Rattle.std.specs.Prelude.{codes, map}
-use Rattle.wave_lex.specs.declared.lex.Token.TheVariants as class
 use Rattle.wave_lex.specs.declared.error.ParserError.{ParserError}
-use Rattle.wave_lex.specs.declared.error.ParserErrorKind.TheVariants.{EmptyTuple, UnexpectedEnd, NestingTooDeep}
+use Rattle.wave_lex.specs.declared.error.ParserErrorKind.TheVariants.{UnexpectedEnd, NestingTooDeep}
 use Rattle.wave_lex.specs.Lexing.{span}
 use Rattle.wave_lex.specs.Tokens.{gap}
-use Rattle.wave_lex.proofs.Fronts.{longest_here, token_here}
+use Rattle.wave_lex.proofs.Fronts.{longest_here}
 use Rattle.wave_tree.specs.Token.{Token, brace_open, brace_close, paren_open, paren_close, bracket_open, bracket_close, colon, comma, number, label, char, string, multiline}
 use Rattle.wave_tree.specs.Tree as tree
 use Rattle.wave_tree.specs.Tree.{trees}
@@ -89,14 +88,6 @@ at s from to count = record { lexer = record { source = s; start = from; end = t
 -- `[` ends, and what stands there is refused at 1..1
 end_refused : (e : ParserError) → Says e UnexpectedEnd (span 1 1) None → StandsAt UnexpectedEnd e 100 first_item (due.list ∷ []) (at (codes "[") 0 1 1) (at (codes "[") 1 1 2)
 end_refused e says = ((record { source = refl; skipped = longest_here gap _ _ refl refl refl refl; start = refl; end = refl }, refl), (λ deep. omega (arith, deep.full)), says)
-
--- the `)` of `()`, refused with its `(` at 0..2
-tuple_refused : (e : ParserError) → Says e EmptyTuple (span 0 2) None → StandsAt EmptyTuple e 100 first_item (due.tuple ∷ []) (at (codes "()") 0 1 1) (at (codes "()") 1 2 2)
-tuple_refused e says = (
-  class.ParenClose,
-  (((0, 1, record { source = refl; skipped = longest_here gap _ _ refl refl refl refl; start = refl; end = refl }, token_here _ 1 class.ParenClose refl refl refl tt refl), refl), refl),
-  says,
-)
 
 -- where no level is left, whatever stands there
 level_refused : (e : ParserError) (p : Place) → Says e NestingTooDeep (span p.lexer.start p.lexer.end) None → StandsAt NestingTooDeep e 0 value [] p p

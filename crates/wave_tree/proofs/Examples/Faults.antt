@@ -1,23 +1,20 @@
 -- Worked examples of refusals: which kind, cause and span a type gives a placed tree that it doesn't take.
-use Rattle.std.proofs.Common.{ℕ, ◌≡◌, ◌⊎◌, ◌+◌, List, [], ◌∷◌, inl, inr, refl, true, false, arith}
+use Rattle.std.proofs.Common.{ℕ, ◌≡◌, ◌⊎◌, ◌+◌, List, [], ◌∷◌, inl, inr, refl, arith}
 use Rattle.std.specs.Prelude.{codes}
 use Rattle.std.specs.declared.ops.Range.{Range}
 use Rattle.wave_wasm.specs.Types as type
 use Rattle.wave_wasm.specs.Types.{TypeTree}
 use Rattle.wave_wasm.specs.Causes.{missing_field, missing_payload, unexpected_payload, unknown_case, wrong_number, unsupported_type}
 use Rattle.wave_lex.specs.declared.error.ParserErrorKind.TheVariants.{InvalidType, InvalidValue, InvalidMultilineString, DuplicateField}
-use Rattle.wave_lex.specs.declared.lex.Token.TheVariants as class
 use Rattle.wave_lex.specs.Errors.{Refusal, plainly, caused}
 use Rattle.wave_lex.specs.Lexing.{span}
 use Rattle.wave_lex.specs.Multiline.{opening}
-use Rattle.wave_lex.specs.Tokens.{gap}
-use Rattle.wave_lex.proofs.Fronts.{longest_here, token_here}
 use Rattle.wave_tree.specs.Token.{Token, number, multiline}
 use Rattle.wave_tree.specs.Token as token
 use Rattle.wave_tree.specs.Tree as tree
 use Rattle.wave_tree.specs.Placed as placed
-use Rattle.wave_tree.specs.Placed.{Placed, MaybePlaced, at, no_placed, a_placed, tree_of, shape_of, part_places, StandsAtTokens}
-use Rattle.wave_tree.specs.Faults.{Fault, IsForm}
+use Rattle.wave_tree.specs.Placed.{Placed, MaybePlaced, at, no_placed, a_placed, tree_of, shape_of, part_places}
+use Rattle.wave_tree.specs.Faults.{Fault}
 use Rattle.wave_tree.proofs.Unique.{apart}
 use Rattle.wave_tree.proofs.CanonNames.{not_among}
 use Rattle.wave_tree.proofs.Examples.Leaves.{above_u8}
@@ -43,35 +40,11 @@ parts : (tree_of some_entry ≡ tree.entries (tree.entry one (tree.ok tree.no_tr
     × (part_places (shape_of (label 0 4 (codes "a") (a_placed (leaf 2 3 one)))) ≡ span 0 1 ∷ span 2 3 ∷ [])
 parts = (refl, refl, refl)
 
--- in `[ a]` the place of `a` begins behind a gap and ends where its token does
-at_tokens : StandsAtTokens (codes "[ a]") (span 0 4) (span 2 3)
-at_tokens = (
-  (1, 1, (token.bracket_open ∷ [], (0, 1, longest_here gap _ _ refl refl refl refl, token_here _ 1 class.BracketOpen refl refl refl tt refl, refl, refl)), longest_here gap _ _ refl refl refl refl, refl),
-  (
-    token.bracket_open ∷ token.label (codes "a") ∷ [],
-    (
-      0,
-      1,
-      longest_here gap _ _ refl refl refl refl,
-      token_here _ 1 class.BracketOpen refl refl refl tt refl,
-      refl,
-      (1, 1, longest_here gap _ _ refl refl refl refl, token_here _ 1 class.LabelOrKeyword refl refl refl tt refl, refl, refl),
-    ),
-  ),
-)
-
 -- ---- leaves
 
--- `a` at u8: `InvalidType` 0..1; so `inf` at bool
-label_at_number : Fault u8 (label 0 1 (codes "a") no_placed) (plainly InvalidType) (span 0 1)
-label_at_number = (refl, refl)
-
-word_at_bool : Fault (type.simple type.bool) (leaf 0 3 (token.label (codes "inf"))) (plainly InvalidType) (span 0 3)
-word_at_bool = inl (no_word, (refl, refl))
-  where
-    no_word : IsForm type.bool (token.label (codes "inf")) → ⊥
-    no_word (true, e) = let w : codes "inf" ≡ codes "true" = cc in apart _ _ refl w
-    no_word (false, e) = let w : codes "inf" ≡ codes "false" = cc in apart _ _ refl w
+-- `a` at u8 and `1` at char: `InvalidType` 0..1
+other_form : Fault u8 (label 0 1 (codes "a") no_placed) (plainly InvalidType) (span 0 1) × Fault (type.simple type.char) (leaf 0 1 one) (plainly InvalidType) (span 0 1)
+other_form = ((refl, refl), inl ((λ h. let e = h.1 in cc), (refl, refl)))
 
 -- six quotes at string: `InvalidMultilineString` 3..4
 no_line : Fault (type.simple type.string) (leaf 0 6 (multiline (codes "\"\"\"\"\"\""))) (plainly InvalidMultilineString) (span 3 4)

@@ -1,5 +1,5 @@
 -- Worked examples of nodes: what a node of each type is, by its text and its children.
-use Rattle.std.proofs.Common.{◌≡◌, List, [], ◌∷◌, refl, Some, None}
+use Rattle.std.proofs.Common.{◌≡◌, [], ◌∷◌, refl, Some, None}
 use Rattle.std.specs.Prelude.{codes, map}
 use Rattle.wave_lex.specs.Lexing.{span}
 use Rattle.wave_tree.specs.Token.{number}

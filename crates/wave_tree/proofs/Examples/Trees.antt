@@ -1,5 +1,5 @@
 -- Worked examples of trees: which tokens spell which tree, how many levels it has, how it is shown and what a type gives it.
-use Rattle.std.proofs.Common.{ℕ, zero, suc, ◌≡◌, List, [], ◌∷◌, inl, inr, refl, lit<, arith, pos, true}
+use Rattle.std.proofs.Common.{ℕ, ◌≡◌, List, [], ◌∷◌, inl, inr, refl, lit<, pos, true}
 use Rattle.std.specs.Prelude.{codes, map}
 use Rattle.wave_wasm.specs.Types as type
 use Rattle.wave_wasm.specs.Values as value
@@ -31,18 +31,9 @@ leaves : (rest : List Token) → Takes 1 (one ∷ rest) one_tree rest × Takes 1
 leaves rest = ((refl, refl), (refl, refl), (refl, refl), (refl, refl), (refl, refl), (refl, refl))
 
 -- `(1)`, `[1, 1,]`, `[]`
-a_tuple : Takes 2 (paren_open ∷ one ∷ paren_close ∷ []) (tree.tuple (trees (one_tree ∷ []))) []
-a_tuple = (one_tree ∷ [], lit< tt, (_, (refl, refl), inl refl), refl)
-
-lists : Takes 2 (bracket_open ∷ one ∷ comma ∷ one ∷ comma ∷ bracket_close ∷ []) (tree.list (trees (one_tree ∷ one_tree ∷ []))) [] × Takes 1 (bracket_open ∷ bracket_close ∷ []) (tree.list tree.no_trees) []
-lists = ((one_tree ∷ one_tree ∷ [], (_, (refl, refl), (_, _, refl, (refl, refl), inr refl)), refl), ([], refl, refl))
-
--- `()` is none
-no_empty_tuple : (n : ℕ) (t : Tree) (rest : List Token) → Takes n (paren_open ∷ paren_close ∷ []) t rest → ⊥
-no_empty_tuple zero t rest h = h
-no_empty_tuple (suc n) t rest ([], some, h, e) = absurd (omega (arith, some))
-no_empty_tuple (suc zero) t rest (a ∷ more, some, (behind, h, k), e) = h
-no_empty_tuple (suc (suc n)) t rest (a ∷ more, some, (behind, h, k), e) = h
+items : Takes 2 (paren_open ∷ one ∷ paren_close ∷ []) (tree.tuple (trees (one_tree ∷ []))) [] × Takes 2 (bracket_open ∷ one ∷ comma ∷ one ∷ comma ∷ bracket_close ∷ []) (tree.list (trees (one_tree ∷ one_tree ∷ []))) []
+    × Takes 1 (bracket_open ∷ bracket_close ∷ []) (tree.list tree.no_trees) []
+items = ((one_tree ∷ [], lit< tt, (_, (refl, refl), inl refl), refl), (one_tree ∷ one_tree ∷ [], (_, (refl, refl), (_, _, refl, (refl, refl), inr refl)), refl), ([], refl, refl))
 
 -- `{}`, `{:}`, `{a: 1, 1: 1}`, `{%b, a,}`, whose flags stand in order
 braces : Takes 1 (brace_open ∷ brace_close ∷ []) tree.empty_braces [] × Takes 1 (brace_open ∷ colon ∷ brace_close ∷ []) tree.no_fields []

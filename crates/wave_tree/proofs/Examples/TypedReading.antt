@@ -1,5 +1,5 @@
 -- Worked examples of the typed grammar: what tokens spell at each kind of type, and what they don't.
-use Rattle.std.proofs.Common.{ℕ, ◌≡◌, List, [], ◌∷◌, inl, inr, refl, ap, ◌∙◌, lit<, arith, pos, true}
+use Rattle.std.proofs.Common.{ℕ, ◌≡◌, List, [], ◌∷◌, inl, inr, refl, lit<, pos, true}
 use Rattle.std.specs.Prelude.{codes, ◌<◌}
 use Rattle.wave_wasm.specs.Types as type
 use Rattle.wave_wasm.specs.Types.{TypeTree}
@@ -29,12 +29,9 @@ word text = label text
 pub one_reads : (n : ℕ) (rest : List Token) → 0 < n → Reads u8 n (one ∷ rest) (a_u8 1) rest
 one_reads n rest l = (l, (one, _, refl, spells_number type.u8 (codes "1") (pos 1) refl (record { le = tt }, record { lt = tt }), refl))
 
+-- `[1, 1,]` at list<u8>
 two_items : Reads (type.list u8) 2 (bracket_open ∷ one ∷ comma ∷ one ∷ comma ∷ bracket_close ∷ []) (value.list (values (a_u8 1 ∷ a_u8 1 ∷ []))) []
 two_items = (lit< tt, (a_u8 1 ∷ a_u8 1 ∷ [], (_, refl, (_, one_reads 1 _ (lit< tt), (_, _, refl, one_reads 1 _ (lit< tt), inr refl))), refl))
-
-item_too_deep : (v : Value) → Reads (type.list u8) 1 (bracket_open ∷ one ∷ bracket_close ∷ []) v [] → ⊥
-item_too_deep v (le, ([], (inside, e, h), f)) = let g : bracket_open ∷ one ∷ bracket_close ∷ [] ≡ bracket_open ∷ bracket_close ∷ [] = e ∙ ap (λ x. bracket_open ∷ x) h in cc
-item_too_deep v (le, (a ∷ more, (inside, e, (behind, (l, h), k)), f)) = absurd (omega (arith, l))
 
 -- `(1, 1)` at tuple<u8, u8>
 a_pair : Reads (type.tuple (type.type_and u8 (type.type_and u8 type.no_types))) 2 (paren_open ∷ one ∷ comma ∷ one ∷ paren_close ∷ []) (value.tuple (values (a_u8 1 ∷ a_u8 1 ∷ []))) []
