@@ -188,10 +188,6 @@ as_many_entries [] (f ∷ fs) h = absurd h
 as_many_entries (e ∷ es) [] h = absurd h
 as_many_entries (e ∷ es) (f ∷ fs) h = ap (λ (n : ℕ). suc n) (as_many_entries es fs h.2)
 
--- at a type
-at_tree : {A : Type 0} (Mean : Meaning Tree A) (t u : Tree) (a : A) → u ≡ t → Mean t a → Mean u a
-at_tree Mean t u a e h = subst (λ (w : Tree). Mean w a) (sym e) h
-
 simple_carries : (S : Simple) → Carries (m.SimpleTree S)
 simple_carries S t u v h (token, leaf, e, spelled, f) = (token, leaf, alike_one token u (subst (λ (w : Tree). Alike w u) e h), spelled, f)
 

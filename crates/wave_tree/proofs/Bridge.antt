@@ -8,16 +8,16 @@ use Rattle.wave_wasm.specs.Types as type
 use Rattle.wave_wasm.specs.Types.{TypeTree, MaybeType, Types, Fields, Cases, Simple, no_type, a_type, no_types, type_and, no_fields, field, no_cases, case_of}
 use Rattle.wave_wasm.specs.Names.{IsNoneOf, AreDistinct}
 use Rattle.wave_wasm.specs.Values as value
-use Rattle.wave_wasm.specs.Values.{Value, MaybeValue, FieldValues, Leaf, no_value, a_value, values, entries}
+use Rattle.wave_wasm.specs.Values.{Value, MaybeValue, Leaf, entries}
 use Rattle.wave_tree.specs.Joined.{Spelling, FurtherItems, Items}
 use Rattle.wave_wasm.specs.Names.{IsOneOf, AreAllOf}
 use Rattle.wave_wasm.specs.Keywords as kw
 use Rattle.wave_wasm.specs.Names as nm
 use Rattle.wave_tree.specs.Reads as r
 use Rattle.wave_tree.specs.Spells.{name_of, Spells}
-use Rattle.wave_tree.specs.Reads.{Reads, ReadsPayload, ReadsFlat, ReadsTuple, ReadsFurther, ReadsField, ReadsCase, IsFlat}
+use Rattle.wave_tree.specs.Reads.{Reads, ReadsPayload, ReadsFlat, ReadsTuple, ReadsFurther, ReadsField, ReadsCase}
 use Rattle.wave_tree.specs.Tree as tree
-use Rattle.wave_tree.specs.Tree.{Tree, MaybeTree, trees, tree_entries, no_tree, a_tree, in_order, ATree, Takes, KeyAnd, MaybeInParens, InBraces, IsKey}
+use Rattle.wave_tree.specs.Tree.{Tree, MaybeTree, trees, tree_entries, no_tree, a_tree, in_order, ATree, Takes, KeyAnd, MaybeInParens, IsKey}
 use Rattle.wave_tree.specs.TreeReads as m
 use Rattle.wave_tree.specs.TreeReads.{Meaning, Each, TreeReads, TreeReadsPayload, TreeReadsFlat, TreeReadsAll, TreeReadsField, TreeReadsCase}
 
@@ -28,10 +28,6 @@ NoParen rest = (more : List Token) → rest ≢ paren_open ∷ more
 -- what is read is a tree with this meaning
 abbrev pub Through : {T A : Type 0} → Spelling A → Spelling T → Meaning T A → Type 0
 Through {T} {A} P I Q = (tokens : List Token) (a : A) (rest : List Token) → P tokens a rest → NoParen rest → (t : T) × I tokens t rest × Q t a
-
--- a mark that is no open parenthesis
-abbrev IsEnd : Token → Type 0
-IsEnd close = (close ≢ paren_open) × Unit {0}
 
 -- behind an item stands no open parenthesis
 further-no_paren : {A : Type 0} (close : Token) (P : Spelling A) → close ≢ paren_open → (tokens : List Token) (items : List A) (rest : List Token) → FurtherItems close P tokens items rest → NoParen tokens

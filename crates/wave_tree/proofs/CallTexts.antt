@@ -2,35 +2,32 @@
 use Rattle.std.proofs.Common.{◌≡◌, ◌≢◌, ℕ, zero, suc, ◌+◌, inl, inr, List, [], ◌∷◌, refl, sym, ap, subst, ◌∙◌, length, take, drop, arith, Option, Some, None, Ok, Err, length-drop}
 use Rattle.std.specs.Prelude.{◌⊎◌}
 use Rattle.std.specs.declared.ops.Range.{Range}
-use Rattle.std.specs.Str.{IsUtf8}
 use Rattle.std.proofs.lemmas.List.{append-nil}
-use Rattle.std.proofs.lemmas.Str.{IsCharBoundary-start}
 use Rattle.wave_lex.specs.declared.lex.Token as lex
 use Rattle.wave_lex.specs.declared.lex.Token.TheVariants.{BraceOpen, BraceClose, ParenOpen, ParenClose, BracketOpen, BracketClose, Colon, Comma, Number, LabelOrKeyword, Char, String, MultilineString}
 use Rattle.wave_lex.specs.declared.lex.FuncNameToken.{FuncNameToken}
 use Rattle.wave_lex.specs.declared.error.ParserError.{ParserError}
 use Rattle.wave_lex.specs.declared.error.ParserErrorKind.TheVariants as because
-use Rattle.wave_lex.specs.Tokens.{shape, function_name}
+use Rattle.wave_lex.specs.Tokens.{shape}
 use Rattle.wave_lex.specs.FunctionName.{IsName, NoName, NameIs}
 use Rattle.wave_lex.specs.Lexing.{Lexed, span}
 use Rattle.wave_lex.proofs.Classes.{shape_not_empty}
 use Rattle.wave_lex.proofs.Fronts.{front_positive}
-use Rattle.wave_lex.proofs.Scanning.{front_boundary}
 use Rattle.wave_tree.specs.Token as token
-use Rattle.wave_tree.specs.Token.{Token, CutsInto, lexeme_of, paren_open, paren_close}
+use Rattle.wave_tree.specs.Token.{Token, CutsInto, paren_open, paren_close}
 use Rattle.wave_tree.specs.Tree as form
-use Rattle.wave_tree.specs.Tree.{Tree, MaybeTree, no_tree, a_tree, Takes, BehindWord, Word, word_of}
+use Rattle.wave_tree.specs.Tree.{Tree, MaybeTree, no_tree, a_tree, Takes, word_of}
 use Rattle.wave_tree.specs.Calls.{SpellsParams, IsCall}
 use Rattle.wave_tree.specs.Placed.{tuple, placed_trees, trees_of, tree_of}
 use Rattle.wave_tree.specs.NodeTree.{NodeTree, type_of}
 use Rattle.wave_tree.specs.Place as place
-use Rattle.wave_tree.specs.Place.{Place, TakesToken, TakesTokens, TakesAny, token_of, text_at}
+use Rattle.wave_tree.specs.Place.{Place, TakesToken, TakesTokens, token_of, text_at}
 use Rattle.wave_tree.specs.Due as due
 use Rattle.wave_tree.specs.Refusals.{Says, IsRead, IsRefused}
 use Rattle.wave_tree.specs.AnswerLaws.{AreNext}
 use Rattle.wave_tree.specs.Parsed.{IsSound, TakesClass, IsOfItems}
 use Rattle.wave_tree.specs.Parsing.{IsTrailing}
-use Rattle.wave_tree.specs.Called.{IsTupleTaken, AreParamsTaken, RefusesTuple, IsCalledOf, IsInSource, IsNoCall, NameFault, RefusesCall, behind_name}
+use Rattle.wave_tree.specs.Called.{IsTupleTaken, AreParamsTaken, RefusesTuple, IsCalledOf, IsNoCall, NameFault, RefusesCall, behind_name}
 use Rattle.wave_tree.proofs.UniqueTree.{one_tree}
 use Rattle.wave_tree.proofs.Answering.{read_have_tree, refused_have_none}
 use Rattle.wave_tree.proofs.Going.{expected}
@@ -247,11 +244,6 @@ called_of s k p (Some n) named h ends =
       stands = (h.placed, p, ends.0, h.is_node, h.stands, ends.1);
     }
 
--- a name and parameters that stand in their source
-pub in_source : (s : List ℕ) (k : ℕ) (p : Place) (params : Option NodeTree) → IsUtf8 s → IsName s k → AreParamsTaken (behind_name s k) p params → IsInSource s (span 0 k) params
-in_source s k p None utf8 named h = (record { ordered = omega arith; first = IsCharBoundary-start s utf8; last = front_boundary function_name s k utf8 named.0 }, tt)
-in_source s k p (Some n) utf8 named h = (record { ordered = omega arith; first = IsCharBoundary-start s utf8; last = front_boundary function_name s k utf8 named.0 }, ((h.placed, h.is_node), h.ty))
-
 -- ---- the name
 
 -- the lexer behind a name
@@ -267,9 +259,6 @@ unnamed_at s l bad e (k, it, none, front, place) says = inr (k, none, front, sub
   where
     zero_plus : 0 + k ≡ k
     zero_plus = omega arith
-
-pub ended_at : (s : List ℕ) (l : Lexed) (e : ParserError) → NameIs (record { source = s; start = 0; end = 0 }) l None → Says e because.UnexpectedEnd (span l.start l.end) None → NameFault s e
-ended_at s l e (empty, it) says = inl (empty, subst (λ (p : Range ℕ). Says e because.UnexpectedEnd p None) (λ i. span (it.start i) (it.end i)) says)
 
 pub name_refused : (s : List ℕ) (e : ParserError) → NameFault s e → RefusesCall s e
 name_refused s e (inl h) apart = (inl (inl h), no_call_empty s h.0)

@@ -11,7 +11,7 @@ use Rattle.wave_tree.specs.Joined.{Spelling}
 use Rattle.wave_tree.specs.Reads.{Reads}
 use Rattle.wave_tree.specs.Tree.{levels}
 use Rattle.wave_tree.specs.Means.{Means}
-use Rattle.wave_tree.specs.CanonLaws.{ReadBack, ReadsBack, EqualTexts, ReadsMerged, ReadsOwn, ReadsBackWithinTwice}
+use Rattle.wave_tree.specs.CanonLaws.{ReadBack, ReadsBack, EqualTexts, AreOfText, ReadsMerged, ReadsBackWithinTwice}
 use Rattle.wave_tree.proofs.Bridge.{through}
 use Rattle.wave_tree.proofs.Back.{back}
 use Rattle.wave_tree.proofs.Levels.{takes-levels, takes-within}
@@ -65,7 +65,7 @@ pub reads_merged : (T : TypeTree) → ReadsMerged T
 reads_merged T n tokens rest v h = (tidy T n tokens v rest h).0
 
 -- what is read from the tokens of a text is of the type
-pub reads_own : (T : TypeTree) → HasDistinctNames T → ReadsOwn T
+reads_own : (T : TypeTree) → HasDistinctNames T → (n : ℕ) (tokens : List Token) (v : Value) → AreOfText tokens → Reads T n tokens v [] → HasType T v
 reads_own T distinct n tokens v (s, u, cut) h = (typed T distinct n tokens v [] (texts_utf8 s tokens u cut) h).0
 
 -- a value of the type that was read within n levels has a canonical text of at most twice as many

@@ -3,10 +3,10 @@ use Rattle.std.proofs.Common.{◌≡◌, ℕ, ℤ, ◌<◌, Bool, true, false, L
 use Rattle.std.specs.Prelude.{codes, map}
 use Rattle.std.specs.Fmt.{signed_decimal}
 use Rattle.wave_wasm.specs.Types as type
-use Rattle.wave_wasm.specs.Types.{TypeTree, Simple, Whole, HasDistinctNames}
+use Rattle.wave_wasm.specs.Types.{Simple, Whole}
 use Rattle.wave_wasm.specs.Numbers.{IsInRange}
 use Rattle.wave_wasm.specs.Values as value
-use Rattle.wave_wasm.specs.Values.{Value, Leaf, leaf_type, IsSound}
+use Rattle.wave_wasm.specs.Values.{Value, Leaf}
 use Rattle.wave_wasm.specs.HasType.{IsLeafOf}
 use Rattle.wave_wasm.specs.Text.{text, leaf_text}
 use Rattle.wave_lex.specs.declared.lex.Token.TheVariants as class
@@ -83,18 +83,6 @@ whole_written kind z h =
       λ r rest s cut. stopped_cut class.Number (signed_decimal z) (signed_decimal z) r _ (ascii_itself (signed_decimal z) w.ascii) w.shaped (number_ends (signed_decimal z) w.shaped) s cut,
     )
 
--- the types of one token but char and string
-abbrev pub IsBoolOrWhole : Simple → Type 0
-IsBoolOrWhole type.bool = Unit {0}
-IsBoolOrWhole (type.whole kind) = Unit {0}
-IsBoolOrWhole _ = ⊥
-
-plain_written : (one : Leaf) → IsSound one → IsBoolOrWhole (leaf_type one) → IsWritten (leaf_type one) one
-plain_written (value.bool b) sound plain = bool_written b
-plain_written (value.whole kind z) sound plain = whole_written kind z sound
-plain_written (value.char c) sound plain = absurd plain
-plain_written (value.string s) sound plain = absurd plain
-
 -- the text of a value of one token prints it
 pub leaf_prints : (S : Simple) (n : ℕ) (one : Leaf) → 0 < n → IsWritten S one → Prints (Reads (type.simple S) n) (leaf_text one) (value.leaf one)
 leaf_prints S n one l (token, spells, cut) r rest s behind = (token ∷ rest, cut r rest s behind, (l, (token, one, refl, spells, refl)))
@@ -103,7 +91,3 @@ leaf_prints S n one l (token, spells, cut) r rest s behind = (token ∷ rest, cu
 pub simple_reads_back : (S : Simple) → ((one : Leaf) → IsLeafOf S one → IsWritten S one) → ReadsBack (type.simple S)
 simple_reads_back S written v (one, of, e) =
     subst (λ (z : Value). ReadBack (type.simple S) z) (sym e) (read_back (type.simple S) 1 (value.leaf one) (leaf_prints S 1 one (omega arith) (written one of))).0
-
--- bool and the whole-number types read back
-pub plain_reads_back : (S : Simple) → IsBoolOrWhole S → ReadsBack (type.simple S)
-plain_reads_back S plain = simple_reads_back S (λ one of. subst (λ (z : Simple). IsWritten z one) of.0 (plain_written one of.1 (subst IsBoolOrWhole (sym of.0) plain)))

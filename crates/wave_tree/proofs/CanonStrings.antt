@@ -9,7 +9,7 @@ use lib.Utf8.{scalar, scalars}
 use Rattle.std.proofs.lemmas.List.{append-nil}
 use Rattle.std.proofs.lemmas.Str.{encodes-append, encodes-chars, scalars-chars, encode_ascii}
 use Rattle.wave_wasm.specs.Types as type
-use Rattle.wave_wasm.specs.Types.{Simple, TypeTree}
+use Rattle.wave_wasm.specs.Types.{Simple}
 use Rattle.wave_wasm.specs.Values as value
 use Rattle.wave_wasm.specs.Values.{Leaf, leaf_type, IsSound}
 use Rattle.wave_wasm.specs.HasType.{IsLeafOf}
@@ -21,7 +21,7 @@ use Rattle.wave_lex.specs.declared.machine.string.StringState.{StringState}
 use Rattle.wave_lex.specs.declared.machine.string.StringState.TheVariants as string
 use Rattle.wave_lex.specs.Machines.{character_rest, character_step, string_rest, string_step}
 use Rattle.wave_lex.specs.Regex as regex
-use Rattle.wave_lex.specs.Regex.{Regex, Matches, many, other, either}
+use Rattle.wave_lex.specs.Regex.{Regex, Matches, other, either}
 use Rattle.wave_lex.specs.Derive.{may_be_empty, after}
 use Rattle.wave_lex.specs.Strings.{CharMeans, Decodes}
 use Rattle.wave_lex.specs.Tokens as shapes
@@ -32,11 +32,9 @@ use Rattle.wave_lex.proofs.Derive.{matches_into}
 use Rattle.wave_lex.proofs.Shapes.{and_true}
 use Rattle.wave_lex.proofs.Machines.{character_steps, string_steps}
 use Rattle.wave_tree.specs.Token as token
-use Rattle.wave_tree.specs.Token.{Token}
-use Rattle.wave_tree.specs.CanonLaws.{ReadsBack}
 use Rattle.wave_tree.proofs.CanonTokens.{NoStopAfter, reached, no_stop, no_stop_after, stopped_cut, ascii_itself}
 use Rattle.wave_tree.proofs.CanonEscapes.{IsForm, is_form, all_plain}
-use Rattle.wave_tree.proofs.CanonLeaves.{IsWritten, bool_written, whole_written, simple_reads_back}
+use Rattle.wave_tree.proofs.CanonLeaves.{IsWritten, bool_written, whole_written}
 
 -- ---- no mark goes on with a char or a string
 
@@ -172,7 +170,3 @@ sound_written (value.string s) sound = string_written s sound
 -- the text of each value of one token is one token
 pub leaf_written : (S : Simple) (one : Leaf) → IsLeafOf S one → IsWritten S one
 leaf_written S one of = subst (λ (z : Simple). IsWritten z one) of.0 (sound_written one of.1)
-
--- each simple type reads back
-pub simple_back : (S : Simple) → ReadsBack (type.simple S)
-simple_back S = simple_reads_back S (leaf_written S)

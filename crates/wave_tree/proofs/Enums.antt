@@ -1,5 +1,5 @@
 -- Enums.
-use Rattle.std.proofs.Common.{ℕ, ◌≡◌, ◌≢◌, ◌⊎◌, inl, inr, List, [], ◌∷◌, Some, Result, Ok, Err, IfOk, IfErr, MatchResult, refl, sym, ap, subst}
+use Rattle.std.proofs.Common.{ℕ, ◌≡◌, ◌≢◌, ◌⊎◌, inl, inr, List, [], ◌∷◌, Some, Result, Ok, Err, IfOk, IfErr, MatchResult, refl, sym, ap, ◌∙◌, subst}
 use Rattle.std.specs.declared.ops.Range.{Range}
 use Rattle.wave_wasm.specs.Names.{IsOneOf, IsNoneOf}
 use Rattle.wave_wasm.specs.Types as type
@@ -29,25 +29,11 @@ use Rattle.wave_tree.proofs.Made.{made}
 use Rattle.wave_tree.proofs.Unread.{caused_blame}
 use Rattle.wave_tree.specs.declared.ast.NodeType.{NodeType}
 use Rattle.wave_tree.specs.declared.ast.NodeType.TheVariants as kind
+use Rattle.wave_tree.proofs.TypeKinds.{formed_as}
 
 -- the type of the kind of enums
 pub enum_is : (T : TypeTree) → kinds.Enum ≡ kind_of T → (names : List (List ℕ)) → names ≡ enum_names T → T ≡ type.enum names
-enum_is (type.enum all) e names h = ap type.enum (sym h)
-enum_is (type.simple type.bool) e names h = absurd (cc)
-enum_is (type.simple (type.whole type.s8)) e names h = absurd (cc)
-enum_is (type.simple (type.whole type.s16)) e names h = absurd (cc)
-enum_is (type.simple (type.whole type.s32)) e names h = absurd (cc)
-enum_is (type.simple (type.whole type.s64)) e names h = absurd (cc)
-enum_is (type.simple (type.whole type.u8)) e names h = absurd (cc)
-enum_is (type.simple (type.whole type.u16)) e names h = absurd (cc)
-enum_is (type.simple (type.whole type.u32)) e names h = absurd (cc)
-enum_is (type.simple (type.whole type.u64)) e names h = absurd (cc)
-enum_is (type.simple type.char) e names h = absurd (cc)
-enum_is (type.simple type.string) e names h = absurd (cc)
-enum_is (type.unreadable type.f32) e names h = absurd (cc)
-enum_is (type.unreadable type.f64) e names h = absurd (cc)
-enum_is (type.unreadable type.unsupported) e names h = absurd (cc)
-enum_is _ e names h = absurd (cc)
+enum_is T e names h = let (all, is) = formed_as kinds.Enum T e in is ∙ ap type.enum (sym (h ∙ ap enum_names is))
 
 label_shape : (p : Range ℕ) (text : List ℕ) (cs : List Placed) (s : Shape) → shape_from kind.Label p text cs ≡ Some s → s ≡ label p text no_placed
 label_shape p text [] s e = sym (some_is _ _ e)

@@ -107,10 +107,6 @@ look_last (f ∷ fs) name x q none = by (bytes_eq q f.0) (bytes_eq name q) refl 
 
 -- ---- the loop
 
--- an empty map holds no field
-pub holds_no_field : (m : BTreeMap (Bor (List ℕ)) (Bor NodeTree)) → tree.IsEmpty m → HoldsFields m []
-holds_no_field m e = λ name. search (rules, e)
-
 map_cond : {A B : Type 0} (f : A → B) (b : Bool) (x : A) (o : Option A) → option_map f (cond b (Some x) o) ≡ cond b (Some (f x)) (option_map f o)
 map_cond f true x o = refl
 map_cond f false x o = refl

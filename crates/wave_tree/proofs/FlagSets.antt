@@ -71,10 +71,6 @@ held_more m n names source ns i k name flags lt is named one holds =
     let next : names_at source (take i ns) ++ name ∷ [] ≡ names_at source (take (i + 1) ns) = ap (λ (x : List ℕ). names_at source (take i ns) ++ x ∷ []) named ∙ sym (taken (λ (m : NodeTree). name_of (text_at source m)) ns i k lt is) in
     record { held = subst (HoldsNames n) next holds; known = subst (AreAllOf names) next (all_more names (names_at source (take i ns)) name flags.known one) }
 
--- all of the nodes
-pub held_all : (m : BTreeMap (Bor (List ℕ)) Unit) (names : List (List ℕ)) (source : List ℕ) (ns ms : List NodeTree) (i : ℕ) → FlagsHeld m names source (take i ns) → length ns ≤ i → ns ≡ ms → FlagsHeld m names source ms
-held_all m names source ns ms i flags le same = subst (FlagsHeld m names source) (take_all i ns le ∙ same) flags
-
 -- what holds of the name of a node holds of one of the names
 pub some_name : (P : List ℕ → Type 0) (source : List ℕ) (ns ms : List NodeTree) (i : ℕ) (node : NodeTree) (name : List ℕ) → ns ≡ ms → i < length ns → node ≡ get_or ns i node → name ≡ name_of (text_at source node) → P name → SomeOf P (names_at source ms)
 some_name P source ns ms i k name same lt is named p = subst (λ (l : List NodeTree). SomeOf P (names_at source l)) same (some_here ns i lt is)

@@ -35,25 +35,11 @@ use Rattle.wave_tree.proofs.FlagNodes.{FlagsNode, flags_given}
 use Rattle.wave_wasm.proofs.Trees.{map_map}
 use Rattle.wave_tree.specs.declared.ast.NodeType.{NodeType}
 use Rattle.wave_tree.specs.declared.ast.NodeType.TheVariants as kind
+use Rattle.wave_tree.proofs.TypeKinds.{formed_as}
 
 -- the type of the kind of flags
 pub flags_is : (T : TypeTree) → kinds.Flags ≡ kind_of T → (names : List (List ℕ)) → names ≡ flags_names T → T ≡ type.flags names
-flags_is (type.flags all) e names h = ap type.flags (sym h)
-flags_is (type.simple type.bool) e names h = absurd (cc)
-flags_is (type.simple (type.whole type.s8)) e names h = absurd (cc)
-flags_is (type.simple (type.whole type.s16)) e names h = absurd (cc)
-flags_is (type.simple (type.whole type.s32)) e names h = absurd (cc)
-flags_is (type.simple (type.whole type.s64)) e names h = absurd (cc)
-flags_is (type.simple (type.whole type.u8)) e names h = absurd (cc)
-flags_is (type.simple (type.whole type.u16)) e names h = absurd (cc)
-flags_is (type.simple (type.whole type.u32)) e names h = absurd (cc)
-flags_is (type.simple (type.whole type.u64)) e names h = absurd (cc)
-flags_is (type.simple type.char) e names h = absurd (cc)
-flags_is (type.simple type.string) e names h = absurd (cc)
-flags_is (type.unreadable type.f32) e names h = absurd (cc)
-flags_is (type.unreadable type.f64) e names h = absurd (cc)
-flags_is (type.unreadable type.unsupported) e names h = absurd (cc)
-flags_is _ e names h = absurd (cc)
+flags_is T e names h = let (all, is) = formed_as kinds.Flags T e in is ∙ ap type.flags (sym (h ∙ ap flags_names is))
 
 -- ---- faults
 

@@ -13,7 +13,7 @@ use Rattle.wave_lex.proofs.Next.{next_one, next_less}
 use Rattle.wave_tree.specs.Token.{Token, brace_open, brace_close, paren_open, paren_close, bracket_open, bracket_close, colon, comma, number, label, char, string, multiline}
 use Rattle.wave_tree.specs.Place.{Place, Takes, TakesToken, TakesTokens, token_of, text_at, span_at}
 use Rattle.wave_tree.specs.Due as due
-use Rattle.wave_tree.specs.Due.{Due, Form, Step, value, first_item, next_item, behind_value, behind_label, reads, unexpected, empty_tuple, repeated_flag, too_deep, step, Leads, IsValueDue, closes, is_paren, is_colon, is_brace_close, behind_step, level_step, value_step, key_step, brace_step, behind_flag_step, flag_step}
+use Rattle.wave_tree.specs.Due.{Due, Form, value, first_item, next_item, behind_value, behind_label, reads, unexpected, empty_tuple, repeated_flag, too_deep, step, Leads, IsValueDue, closes, is_paren, is_colon, is_brace_close, behind_step, value_step, key_step, brace_step, behind_flag_step, flag_step}
 use Rattle.wave_tree.specs.Refusals.{IsTooDeep, StandsAt, Says, IsRefused, Refuses, IsBehind, IsRead, Gives, IsWithin, IsUnfinished}
 use Rattle.wave_tree.specs.Parsing.{Fails}
 use Rattle.wave_tree.specs.Word.{form_of, IsClose, IsKeyClass}
@@ -629,51 +629,9 @@ taken_count p q (t ∷ ts) (m, (c, h, e), more) = let one = taken_count m q ts m
 pub place_path : (p q : Place) → p.lexer ≡ q.lexer → p.taken ≡ q.taken → p ≡ q
 place_path p q e f = λ i. record { lexer = e i; taken = f i }
 
--- the tokens of a text: as many as come before the end or an invalid place
-pub record AllTokens (p : Place) (ts : List Token) : Type 0 where
-  pub last : Place
-  pub taken : TakesTokens p ts last
-  pub no_more : (t : Token) (q : Place) → TakesToken last t q → ⊥
-
--- who takes tokens one after the other takes no more than there are
-pub no_more_than : (p q : Place) (us ts : List Token) → TakesTokens p us q → AllTokens p ts → length us ≤ length ts
-no_more_than p q [] ts h all = omega arith
-no_more_than p q (u ∷ us) [] (m, h, more) all = absurd (all.no_more u m (subst (λ z. TakesToken z u m) all.taken h))
-no_more_than p q (u ∷ us) (t ∷ ts) (m, (c, h, e), more) all =
-    let (n, (d, k, f), rest) = all.taken in
-    let same = place_path n m (sym (next_one p.lexer m.lexer n.lexer (Some (Ok c)) (Some (Ok d)) h.0 k.0).0) (k.1 ∙ sym h.1) in
-    let one = no_more_than m q us ts more (record { last = all.last; taken = subst (λ z. TakesTokens z ts all.last) same rest; no_more = all.no_more }) in omega arith
-
-pub read_count : (n : ℕ) (d : Due) (s v : List Form) (p q : Place) (ts : List Token) → IsRead n d s p q v → AllTokens p ts → q.taken ≤ p.taken + length ts
-read_count n d s v p q ts h all = let one = taken_count p q h.tokens h.taken in let two = no_more_than p q h.tokens ts h.taken all in omega arith
-
-stands_count : (k : ParserErrorKind) (x : ParserError) (n : ℕ) (d : Due) (s : List Form) (p q : Place) → StandsAt k x n d s p q → q.taken ≤ p.taken + 1
-stands_count kind.EmptyTuple x n d s p q (c, (h, e), f) = let one = h.1 in omega arith
-stands_count kind.InvalidToken x n d s p q (bad, h, f, g) = let one = h.1 in omega arith
-stands_count kind.UnexpectedEnd x n d s p q (h, f, g) = let one = h.1 in omega arith
-stands_count kind.UnexpectedToken x n d s p q (c, (h, e), f) = let one = h.1 in omega arith
-stands_count kind.DuplicateFlag x n d s p q (c, (h, e), f) = let one = h.1 in omega arith
-stands_count kind.NestingTooDeep x n d s p q (h, e, f) = let one = ap (λ z. z.taken) e in omega arith
-stands_count k x n d s p q h = absurd h
-
--- a refusal takes at most one item behind the tokens
-pub refused_count : (x : ParserError) (n : ℕ) (d : Due) (s : List Form) (p q : Place) (ts : List Token) → IsRefused x n d s p q → AllTokens p ts → q.taken ≤ p.taken + length ts + 1
-refused_count x n d s p q ts h all =
-    let one = taken_count p h.at h.tokens h.taken in let two = no_more_than p h.at h.tokens ts h.taken all in
-    let three = stands_count x.kind x n h.due_there h.open_there h.at q h.stands in omega arith
-
 pub flag_within : (d : Due) (names : List (List ℕ)) (p : Place) → IsFlagDue d names p → IsWithin d
 flag_within d names p (inl e) = subst IsWithin (sym e) tt
 flag_within d names p (inr (text, e, f, apart)) = subst IsWithin (sym e) tt
-
--- want of memory is no other refusal
-pub memory_refuses : {x : ParserError} {n : ℕ} {d : Due} {s : List Form} {p q : Place} {at : Range ℕ} {tells : Option (List ℕ)} → Says x kind.OutOfMemory at tells → Refuses x n d s p q
-memory_refuses says = λ apart. absurd (apart (kind_is says))
-
--- no level is left for a value
-pub deep_refuses : {n : ℕ} {s : List Form} {p : Place} (x : ParserError) → n ≤ length s → Says x kind.NestingTooDeep (span_at p) None → Refuses x n value s p p
-deep_refuses {n} {s} {p} x full says = λ apart. refused_there (inl tt) x (here n value s p)
-    (subst (λ z. StandsAt z x n value s p p) (sym (kind_is says)) (record { full = full; due = tt; no_close = λ t q h. level_deep n s t full }, refl, says))
 
 -- the answer of a call that can refuse for want of memory alone, behind a value
 pub gives_read : {X : Type 0} {n : ℕ} {d : Due} {s : List Form} {p q : Place} (v : List Form) (r : Result X ParserError) → IfErr r (λ e. e.kind ≡ kind.OutOfMemory) → IsRead n d s p q v → Gives r n d s p q v

@@ -44,11 +44,6 @@ abbrev pub left : List ℕ → List (List ℕ) → List ℕ
 left s [] = []
 left s (x ∷ xs) = s ++ (x ++ followed xs)
 
--- all texts are left at the start
-pub left_first : (xs : List (List ℕ)) → [] ++ left [] xs ≡ joined xs
-left_first [] = refl
-left_first (x ∷ xs) = refl
-
 left_comma : (xs : List (List ℕ)) → left (codes ", ") xs ≡ followed xs
 left_comma [] = refl
 left_comma (x ∷ xs) = refl

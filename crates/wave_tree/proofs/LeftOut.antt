@@ -1,5 +1,5 @@
 -- Fields that are left out.
-use Rattle.std.proofs.Common.{ℕ, ◌≡◌, ◌≢◌, inl, inr, List, None, Result, Ok, Err, IfOk, IfErr, MatchResult, refl, sym, ap, subst}
+use Rattle.std.proofs.Common.{ℕ, ◌≡◌, ◌≢◌, inl, inr, List, None, Result, Ok, Err, IfOk, IfErr, MatchResult, sym, ap, subst}
 use Rattle.wave_wasm.specs.Types as type
 use Rattle.wave_wasm.specs.Types.{TypeTree, HasDistinctNames, kind_of}
 use Rattle.wave_wasm.specs.Values.{Value}
@@ -15,25 +15,7 @@ use Rattle.wave_tree.specs.Reads.{IsOption}
 use Rattle.wave_tree.specs.NodeTree.{NodeTree}
 use Rattle.wave_tree.specs.Typed.{IsMade, IsCaused}
 use Rattle.wave_tree.specs.Records.{IsLeftOut, IsMissing}
-
--- the type of the kind of options
-option_kind : (T : TypeTree) → kinds.Option ≡ kind_of T → (P : TypeTree) × (T ≡ type.option P)
-option_kind (type.option P) e = (P, refl)
-option_kind (type.simple type.bool) e = absurd (cc)
-option_kind (type.simple (type.whole type.s8)) e = absurd (cc)
-option_kind (type.simple (type.whole type.s16)) e = absurd (cc)
-option_kind (type.simple (type.whole type.s32)) e = absurd (cc)
-option_kind (type.simple (type.whole type.s64)) e = absurd (cc)
-option_kind (type.simple (type.whole type.u8)) e = absurd (cc)
-option_kind (type.simple (type.whole type.u16)) e = absurd (cc)
-option_kind (type.simple (type.whole type.u32)) e = absurd (cc)
-option_kind (type.simple (type.whole type.u64)) e = absurd (cc)
-option_kind (type.simple type.char) e = absurd (cc)
-option_kind (type.simple type.string) e = absurd (cc)
-option_kind (type.unreadable type.f32) e = absurd (cc)
-option_kind (type.unreadable type.f64) e = absurd (cc)
-option_kind (type.unreadable type.unsupported) e = absurd (cc)
-option_kind _ e = absurd (cc)
+use Rattle.wave_tree.proofs.TypeKinds.{formed_as}
 
 not_option : (T : TypeTree) (k : WasmTypeKind) → k ≡ kind_of T → k ≢ kinds.Option → IsOption T → ⊥
 not_option (type.option P) k e apart o = apart e
@@ -53,9 +35,9 @@ module _ {V : Type 0} (tree : V → Value) (of : V → TypeTree → Type 0) (Ful
   pub left_made : (T : TypeTree) (name : List ℕ) (n : NodeTree) (m : Result V WasmValueError) (r : Result V ParserError) → kinds.Option ≡ kind_of T → HasDistinctNames T → IfOk m (MakesOption tree of T None) → IfErr m (FullOption of Full T None) → IsMade n m r → MatchResult r (IsLeftOut tree of T) (IsMissing Full T name n)
   left_made T name n (Ok v) (Ok w) is distinct ok full done =
       let makes = ok distinct in
-      subst (IsLeftOut tree of T) (sym done) (record { option = subst IsOption (sym (option_kind T is).1) tt; means = makes.means; is_of = makes.is_of })
+      subst (IsLeftOut tree of T) (sym done) (record { option = subst IsOption (sym (formed_as kinds.Option T is).1) tt; means = makes.means; is_of = makes.is_of })
   left_made T name n (Ok v) (Err e) is distinct ok full done = absurd done
   left_made T name n (Err cause) (Ok w) is distinct ok full done = absurd done
   left_made T name n (Err cause) (Err e) is distinct ok full done =
-      let option = option_kind T is in
+      let option = formed_as kinds.Option T is in
       not_made Full T name n cause e done.0 (λ f. full f option.0 option.1 tt)

@@ -1,13 +1,5 @@
 pub mod Unique
 pub mod Framed
-pub mod RowsNone
-pub mod RowsReading
-pub mod RowsForms
-pub mod RowsCases
-pub mod RowsTrees
-pub mod RowsFaults
-pub mod RowsCalls
-pub mod RowsTexts
 pub mod Reading
 pub mod Bridge
 pub mod Back
@@ -19,8 +11,6 @@ pub mod Loosely
 pub mod RefusedKinds
 pub mod Levels
 pub mod Examples
-pub mod BeginExamples
-pub mod PlaceExamples
 pub mod Going
 pub mod Askings
 pub mod Spans

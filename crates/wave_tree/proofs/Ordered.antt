@@ -16,9 +16,6 @@ use Rattle.wave_tree.specs.Parsed.{Flag, flag_name, flag_node, put_flag, flags_i
 
 -- ---- the order of names
 
-by_bytes : List ℕ → List ℕ → Ordering
-by_bytes a b = slice_cmp nat_cmp a b
-
 heads : (x y z r : Bool) (o : Ordering) → (x ≡ true → y ≡ false) → (x ≡ false → y ≡ false → z ≡ true) → (y ≡ true → z ≡ false) → r ≡ is_lt o →
     (if x then true else (if y then false else r)) ≡ is_lt (ordering_then (cond x Less (cond z Equal Greater)) o)
 heads true y z r o f g h e = refl

@@ -5,7 +5,7 @@ use Rattle.std.specs.Result.{IsErrAnd}
 use Rattle.std.proofs.lemmas.List.{drop-map, take_all}
 use Rattle.wave_wasm.specs.Lists.{AllOf, SomeOf}
 use Rattle.wave_wasm.specs.Types as type
-use Rattle.wave_wasm.specs.Types.{TypeTree, HasDistinctNames, kind_of}
+use Rattle.wave_wasm.specs.Types.{TypeTree, kind_of}
 use Rattle.wave_wasm.specs.Values as value
 use Rattle.wave_wasm.specs.Values.{Value, no_value}
 use Rattle.wave_wasm.specs.Makers.{IsMemory, Makes, FullOption, AreOf}
@@ -29,27 +29,13 @@ use Rattle.wave_tree.specs.Standing.{StandsIn}
 use Rattle.wave_tree.proofs.Inside.{inside}
 use Rattle.wave_tree.proofs.Items.{HasAt, AreNodesOf, node_at}
 use Rattle.wave_tree.proofs.Tuples.{ReadAt, all_has}
+use Rattle.wave_tree.proofs.TypeKinds.{formed_as}
 
 -- ---- options
 
 -- a type of the kind of options is one
 pub option_kind : (T : TypeTree) → kind_of T ≡ kinds.Option → IsOption T
-option_kind (type.option P) e = tt
-option_kind (type.simple type.bool) e = absurd (cc)
-option_kind (type.simple (type.whole type.s8)) e = absurd (cc)
-option_kind (type.simple (type.whole type.s16)) e = absurd (cc)
-option_kind (type.simple (type.whole type.s32)) e = absurd (cc)
-option_kind (type.simple (type.whole type.s64)) e = absurd (cc)
-option_kind (type.simple (type.whole type.u8)) e = absurd (cc)
-option_kind (type.simple (type.whole type.u16)) e = absurd (cc)
-option_kind (type.simple (type.whole type.u32)) e = absurd (cc)
-option_kind (type.simple (type.whole type.u64)) e = absurd (cc)
-option_kind (type.simple type.char) e = absurd (cc)
-option_kind (type.simple type.string) e = absurd (cc)
-option_kind (type.unreadable type.f32) e = absurd (cc)
-option_kind (type.unreadable type.f64) e = absurd (cc)
-option_kind (type.unreadable type.unsupported) e = absurd (cc)
-option_kind _ e = absurd (cc)
+option_kind T e = subst IsOption (sym (formed_as kinds.Option T (sym e)).1) tt
 
 -- and no other type is
 pub no_option_kind : (T : TypeTree) → kind_of T ≢ kinds.Option → IsNoOption T

@@ -49,6 +49,7 @@ use Rattle.wave_tree.proofs.Items.{HasAt, some_at}
 use Rattle.wave_tree.proofs.Tuples.{place_has, map_has, all_has}
 use Rattle.wave_tree.proofs.Fields.{take_next, take_whole, map_last, not_found}
 use Rattle.wave_tree.proofs.RecordEntries.{AreFieldsOf, RecordNodes, record_nodes, fields_of_entries, for_one, entry_found, none_found, not_both, some_map, within_record, fields_blame}
+use Rattle.wave_tree.proofs.TypeKinds.{formed_as}
 
 -- the entries with their trees
 abbrev pub entry_trees : List PlacedEntry → List (Token × Tree)
@@ -64,22 +65,7 @@ pub record RecordType (T : TypeTree) (parts : List (List ℕ × TypeTree)) : Typ
 
 -- so is a type of that kind with these parts
 pub record_is : (T : TypeTree) (parts : List (List ℕ × TypeTree)) → kinds.Record ≡ kind_of T → parts ≡ record_parts T → RecordType T parts
-record_is (type.record_type fs) parts e h = record { fields = fs; is = refl; parts_are = h }
-record_is (type.simple type.bool) parts e h = absurd (cc)
-record_is (type.simple (type.whole type.s8)) parts e h = absurd (cc)
-record_is (type.simple (type.whole type.s16)) parts e h = absurd (cc)
-record_is (type.simple (type.whole type.s32)) parts e h = absurd (cc)
-record_is (type.simple (type.whole type.s64)) parts e h = absurd (cc)
-record_is (type.simple (type.whole type.u8)) parts e h = absurd (cc)
-record_is (type.simple (type.whole type.u16)) parts e h = absurd (cc)
-record_is (type.simple (type.whole type.u32)) parts e h = absurd (cc)
-record_is (type.simple (type.whole type.u64)) parts e h = absurd (cc)
-record_is (type.simple type.char) parts e h = absurd (cc)
-record_is (type.simple type.string) parts e h = absurd (cc)
-record_is (type.unreadable type.f32) parts e h = absurd (cc)
-record_is (type.unreadable type.f64) parts e h = absurd (cc)
-record_is (type.unreadable type.unsupported) parts e h = absurd (cc)
-record_is _ parts e h = absurd (cc)
+record_is T parts e h = let (fs, is) = formed_as kinds.Record T e in record { fields = fs; is = is; parts_are = h ∙ ap record_parts is }
 
 -- the name and the type at a place, where they are borrowed
 pub part_at : {S : Type 0} (type_tree : S → TypeTree) (xs : List (Bor (List ℕ) × Bor S)) (i : ℕ) (x : Bor (List ℕ) × Bor S) → i < length xs → x ≡ get_or xs i x → HasAt (shown_fields type_tree xs) i (x.0.now, type_tree x.1.now)
@@ -194,10 +180,6 @@ only_one source (f ∷ fs) (x ∷ es) (suc i) e name Q h d here is (inr some) = 
 -- the map has what the old one had, but at these names nothing
 abbrev pub Removed : List (List ℕ) → BTreeMap (Bor (List ℕ)) (Bor NodeTree) → BTreeMap (Bor (List ℕ)) (Bor NodeTree) → Type 0
 Removed names old new = (name : List ℕ) → held_at new name ≡ (if is_one_of names name then None else held_at old name)
-
--- nothing was removed
-pub removed_none : (m : BTreeMap (Bor (List ℕ)) (Bor NodeTree)) → Removed [] m m
-removed_none m = λ name. refl
 
 either_cond : {A : Type 0} (a b : Bool) (o : Option A) → cond a None (if b then None else o) ≡ (if b || (a || false) then None else o)
 either_cond true true o = refl

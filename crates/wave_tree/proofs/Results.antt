@@ -34,11 +34,6 @@ pub maybe_back : (A : MaybeType) → maybe_type (type_option A) ≡ A
 maybe_back type.no_type = refl
 maybe_back (type.a_type T) = refl
 
--- so the other way
-pub option_back : (P : Option TypeTree) → type_option (maybe_type P) ≡ P
-option_back None = refl
-option_back (Some T) = refl
-
 two_parts : (T : TypeTree) (A B : Option TypeTree) → Some (A, B) ≡ result_parts T → T ≡ type.result (maybe_type A) (maybe_type B)
 two_parts (type.result C D) A B e =
     let parts : (A, B) ≡ (type_option C, type_option D) = some_is _ _ e in

@@ -18,15 +18,6 @@ IsLeafToken (token.string text) = Unit {0}
 IsLeafToken (token.multiline text) = Unit {0}
 IsLeafToken _ = ⊥
 
--- a leaf's token may be a key
-pub leaf_key : (t : Token) → IsLeafToken t → IsKey t
-leaf_key (token.label text) h = tt
-leaf_key (token.number text) h = tt
-leaf_key (token.char text) h = tt
-leaf_key (token.string text) h = tt
-leaf_key (token.multiline text) h = tt
-leaf_key _ h = absurd h
-
 -- the tokens of the tree have the shapes of their classes, its flags are in order, and what may not be empty isn't
 abbrev mutual
   pub Sound : Tree → Type 0

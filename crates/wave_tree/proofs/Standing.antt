@@ -248,27 +248,9 @@ first_belongs source n o v is m here = by (children_of n) (children_belong sourc
 pub node_in_text : (source : List ℕ) (n : NodeTree) → IsParsedFrom source n → LiesInText source (place_of n)
 node_in_text source n h = let s = stands source n h in (s.ordered, s.last.0)
 
--- so does what stands in it
-pub in_text : (source : List ℕ) (n : NodeTree) (e : ParserError) → IsParsedFrom source n → StandsIn n e → LiesInText source e.span
-in_text source n e parsed h =
-    let l = node_in_text source n parsed in
-    let last = l.1 in
-    let to = h.lies.2 in
-    (h.lies.1, omega arith)
-
 -- so does what stands at it
 pub at_in_text : (source : List ℕ) (n : NodeTree) (e : ParserError) → IsParsedFrom source n → IsAtNode n e → LiesInText source e.span
 at_in_text source n e parsed told = subst (LiesInText source) (sym told.0) (node_in_text source n parsed)
-
--- what stands in the node, or in that of a part
-pub all_part : {V : Type 0} (n : NodeTree) (m : NodeTree) (r : Result V ParserError) → IfErr r (StandsIn m) → IfErr r (StandsInPart n (Some m))
-all_part n m (Ok w) h = tt
-all_part n m (Err e) h = inr (m, refl, h)
-
--- what stands at the node, or in that of a part
-pub all_at : {V : Type 0} (n : NodeTree) (o : Option NodeTree) (r : Result V ParserError) → IfErr r (IsAtNode n) → IfErr r (StandsInPart n o)
-all_at n o (Ok w) h = tt
-all_at n o (Err e) h = inl h
 
 -- ---- what accessors refuse
 

@@ -136,11 +136,6 @@ items_next n close p0 p m w v xs ys one_item go h comma_there same e item b r mo
 
 -- ---- entries
 
--- before the value of the first key
-pub pairs_first : (n : ℕ) (p : Place) (key : NodeTree) (none_yet xs : List NodeTree) (b : Bool) → none_yet ≡ [] → xs ≡ (if b then none_yet ++ key ∷ [] else none_yet) → b ≡ true →
-    (ys : List NodeTree) × (xs ≡ key ∷ ys) × ((cs : List NodeTree) (r : Place) → ArePairs n p cs r → ArePairs n p (ys ++ cs) r)
-pairs_first n p key none_yet xs b a e f = ([], pushed none_yet xs key b e f ∙ ap (λ z. z ++ key ∷ []) a, λ cs r h. h)
-
 -- behind a value, a comma, a key and its colon
 pub pairs_next : (n : ℕ) (p0 p m w k b : Place) (xs ys zs : List NodeTree) (first value key : NodeTree) →
     (hs : List NodeTree) × (xs ≡ first ∷ hs) × ((cs : List NodeTree) (r : Place) → ArePairs n p cs r → ArePairs n p0 (hs ++ cs) r) →

@@ -18,7 +18,7 @@ use Rattle.wave_lex.specs.declared.error.ParserErrorKind.TheVariants.{InvalidTyp
 use Rattle.wave_tree.specs.Token.{Token}
 use Rattle.wave_tree.specs.Token as token
 use Rattle.wave_tree.specs.Tree as form
-use Rattle.wave_tree.specs.Tree.{Tree, SpellsTree, Takes, BehindWord, Word, word_of}
+use Rattle.wave_tree.specs.Tree.{Tree, Takes, BehindWord, Word, word_of}
 use Rattle.wave_tree.specs.TreeReads.{TreeReads, TreeReadsAll}
 use Rattle.wave_tree.specs.Placed.{Placed, Shape, at, tuple, PlacedTrees, no_more, and_then, placed_trees, placed_list, slice, span_of, shape_of, tree_of, trees_of, SpellsEach}
 use Rattle.wave_tree.specs.Faults.{Refuses, RefusesFor, OfForm, Fault, FaultOfItem, tuple_in}
@@ -32,6 +32,7 @@ use Rattle.wave_tree.proofs.Made.{made}
 use Rattle.wave_tree.proofs.Items.{AreNodesOf, HasAt, node_at, spelled_nodes, trees_back, trees_are}
 use Rattle.wave_tree.specs.declared.ast.NodeType.{NodeType}
 use Rattle.wave_tree.specs.declared.ast.NodeType.TheVariants as kind
+use Rattle.wave_tree.proofs.TypeKinds.{formed_as}
 
 -- ---- types
 
@@ -43,22 +44,7 @@ pub record TupleType (T : TypeTree) (parts : List TypeTree) : Type 0 where
 
 -- so is a type of that kind with these parts
 pub tuple_is : (T : TypeTree) (parts : List TypeTree) → kinds.Tuple ≡ kind_of T → parts ≡ tuple_parts T → TupleType T parts
-tuple_is (type.tuple Ts) parts e h = record { types = Ts; is = refl; parts_are = h }
-tuple_is (type.simple type.bool) parts e h = absurd (cc)
-tuple_is (type.simple (type.whole type.s8)) parts e h = absurd (cc)
-tuple_is (type.simple (type.whole type.s16)) parts e h = absurd (cc)
-tuple_is (type.simple (type.whole type.s32)) parts e h = absurd (cc)
-tuple_is (type.simple (type.whole type.s64)) parts e h = absurd (cc)
-tuple_is (type.simple (type.whole type.u8)) parts e h = absurd (cc)
-tuple_is (type.simple (type.whole type.u16)) parts e h = absurd (cc)
-tuple_is (type.simple (type.whole type.u32)) parts e h = absurd (cc)
-tuple_is (type.simple (type.whole type.u64)) parts e h = absurd (cc)
-tuple_is (type.simple type.char) parts e h = absurd (cc)
-tuple_is (type.simple type.string) parts e h = absurd (cc)
-tuple_is (type.unreadable type.f32) parts e h = absurd (cc)
-tuple_is (type.unreadable type.f64) parts e h = absurd (cc)
-tuple_is (type.unreadable type.unsupported) parts e h = absurd (cc)
-tuple_is _ parts e h = absurd (cc)
+tuple_is T parts e h = let (Ts, is) = formed_as kinds.Tuple T e in record { types = Ts; is = is; parts_are = h ∙ ap tuple_parts is }
 
 -- what stands at a place of the list
 pub place_has : {A : Type 0} (xs : List A) (i : ℕ) (x : A) → i < length xs → x ≡ get_or xs i x → HasAt xs i x

@@ -1,4 +1,4 @@
--- From the entries and the flags that a parser reads to the trees that their nodes mean.
+-- From the entries that a parser reads, and from braces with nothing in them, to the trees that their nodes mean.
 use Rattle.std.proofs.Common.{◌≡◌, ℕ, ◌≤◌, ◌+◌, inl, inr, List, [], ◌∷◌, ◌++◌, refl, sym, ap, subst, ◌∙◌, arith, Some, Ok, append_assoc, option_map}
 use Rattle.std.specs.Prelude.{if◌then◌else◌}
 use Rattle.std.specs.declared.ops.Range.{Range}
@@ -7,12 +7,12 @@ use Rattle.wave_lex.specs.declared.lex.Token as lex
 use Rattle.wave_lex.specs.declared.lex.Token.TheVariants.{BraceOpen, BraceClose, ParenOpen, ParenClose, BracketOpen, BracketClose, Colon, Comma, Number, LabelOrKeyword, Char, String, MultilineString}
 use Rattle.wave_lex.specs.Lexing.{span}
 use Rattle.wave_tree.specs.Token as token
-use Rattle.wave_tree.specs.Token.{Token, lexeme_of, paren_open, paren_close, brace_open, brace_close, bracket_open, bracket_close, colon, comma}
+use Rattle.wave_tree.specs.Token.{Token, brace_open, brace_close, colon, comma}
 use Rattle.wave_tree.specs.Place.{Place, Takes, TakesTokens, token_of, text_at, span_at}
 use Rattle.wave_tree.specs.Tree as tree
-use Rattle.wave_tree.specs.Tree.{Tree, ATree, KeyAnd, Label, IsKey, InBraces, BehindWord, word_of, leaf_word, none_word, some_word, ok_word, err_word, case_word, MaybeInParens}
+use Rattle.wave_tree.specs.Tree.{Tree, KeyAnd, IsKey}
 use Rattle.wave_tree.specs.Placed as placed
-use Rattle.wave_tree.specs.Placed.{Placed, at, PlacedEntries, no_entries, entry, entries, no_fields, empty_braces, Shape, one, none, some, ok, err, label, no_placed, a_placed, MaybePlaced, HoldsTokens, SpellsParts, SpellsAll, SpellsEntries, SpellsFlags, SpellsEach, StandsAtTokens, entry_places, placed_trees, LiesIn, span_of, tree_of, tree_of_shape, maybe_of, slice}
+use Rattle.wave_tree.specs.Placed.{Placed, at, PlacedEntries, no_entries, entry, entries, no_fields, empty_braces, one, label, no_placed, HoldsTokens, SpellsEntries, SpellsEach, StandsAtTokens, entry_places, LiesIn, span_of, tree_of, tree_of_shape, slice}
 use Rattle.wave_tree.specs.NodeTree.{NodeTree, node, no_nodes, node_trees}
 use Rattle.wave_tree.specs.Nodes.{placed_of, all_placed, key_of, pairs_of, shape_from, and_then, with_both, number_token}
 use Rattle.wave_tree.specs.declared.ast.NodeType.TheVariants as kind

@@ -8,11 +8,11 @@ use Rattle.wave_tree.specs.Spells.{name_of}
 use Rattle.wave_lex.specs.declared.lex.Token.TheVariants.{BraceOpen, BraceClose, Comma, LabelOrKeyword}
 use Rattle.wave_lex.specs.Lexing.{span}
 use Rattle.wave_tree.specs.Token as token
-use Rattle.wave_tree.specs.Token.{Token, lexeme_of, paren_open, paren_close, brace_open, brace_close, bracket_open, bracket_close, colon, comma}
+use Rattle.wave_tree.specs.Token.{Token, brace_open, brace_close, comma}
 use Rattle.wave_tree.specs.Place.{Place, Takes, TakesTokens, text_at, span_at}
 use Rattle.wave_tree.specs.Tree as tree
-use Rattle.wave_tree.specs.Tree.{Tree, ATree, KeyAnd, Label, IsKey, InBraces, BehindWord, word_of, leaf_word, none_word, some_word, ok_word, err_word, case_word, MaybeInParens}
-use Rattle.wave_tree.specs.Placed.{Placed, at, flags, label, no_placed, HoldsTokens, SpellsFlags, StandsAtTokens, LiesIn, slice}
+use Rattle.wave_tree.specs.Tree.{Label}
+use Rattle.wave_tree.specs.Placed.{at, flags, label, no_placed, HoldsTokens, SpellsFlags, StandsAtTokens, LiesIn, slice}
 use Rattle.wave_tree.specs.NodeTree.{NodeTree, node_trees}
 use Rattle.wave_tree.specs.Nodes.{placed_of, all_placed, flags_of, shape_from, and_then, with_both}
 use Rattle.wave_tree.specs.declared.ast.NodeType.TheVariants as kind
@@ -68,9 +68,6 @@ places_in_order P [] h = tt
 places_in_order P (f ∷ fs) (h, hs) = put_place P f (flags_in_order fs) h (places_in_order P fs hs)
 
 -- ---- their nodes and texts
-
-flag_placed : Flag → Placed
-flag_placed f = at f.0 (label f.0 f.1 no_placed)
 
 nodes_mean : (source : List ℕ) (from to : ℕ) (fs : List Flag) → AreFlagsOf source from to fs → all_placed source (node_trees (map flag_node fs)) ≡ Some (map (λ f. at f.0 (label f.0 f.1 no_placed)) fs)
 nodes_mean source from to [] h = refl

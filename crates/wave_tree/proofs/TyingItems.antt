@@ -1,4 +1,4 @@
--- From the items, the entries and the flags that a parser reads to the trees that their nodes mean.
+-- From the items that a parser reads to the trees that their nodes mean: tuples and lists.
 use Rattle.std.proofs.Common.{◌≡◌, ◌≢◌, ℕ, ◌≤◌, ◌<◌, ◌-◌, inl, inr, List, [], ◌∷◌, ◌++◌, refl, sym, ap, subst, ◌∙◌, length, arith, Some, Ok, append_assoc, map, option_map}
 use Rattle.std.specs.declared.ops.Range.{Range}
 use Rattle.wave_wasm.specs.Lists.{AllOf}
@@ -8,9 +8,9 @@ use Rattle.wave_lex.specs.Lexing.{span}
 use Rattle.wave_tree.specs.Token.{Token, paren_open, bracket_open, comma}
 use Rattle.wave_tree.specs.Place.{Place, Takes, TakesTokens, token_of, text_at}
 use Rattle.wave_tree.specs.Tree as tree
-use Rattle.wave_tree.specs.Tree.{Tree, ATree, BehindWord, word_of, leaf_word, none_word, some_word, ok_word, err_word, case_word, MaybeInParens}
+use Rattle.wave_tree.specs.Tree.{Tree}
 use Rattle.wave_tree.specs.Placed as placed
-use Rattle.wave_tree.specs.Placed.{Placed, at, Shape, one, none, some, ok, err, label, no_placed, a_placed, MaybePlaced, HoldsTokens, SpellsParts, SpellsAll, SpellsEntries, SpellsFlags, SpellsEach, StandsAtTokens, placed_trees, placed_list, LiesIn, span_of, tree_of, tree_of_shape, maybe_of, slice}
+use Rattle.wave_tree.specs.Placed.{Placed, at, some, SpellsAll, SpellsEach, StandsAtTokens, placed_trees, placed_list, span_of, tree_of, slice}
 use Rattle.wave_tree.specs.NodeTree.{NodeTree, node_trees}
 use Rattle.wave_tree.specs.Nodes.{placed_of, all_placed, shape_from, and_then, with_both}
 use Rattle.wave_tree.specs.declared.ast.NodeType.TheVariants as kind

@@ -1,7 +1,7 @@
 -- Which type has a kind.
-use Rattle.std.proofs.Common.{◌≡◌, Bool, true, false, refl, sym, ap, ◌∙◌}
+use Rattle.std.proofs.Common.{ℕ, ◌≡◌, Bool, true, false, List, refl, sym, ap, subst, ◌∙◌}
 use Rattle.wave_wasm.specs.Types as type
-use Rattle.wave_wasm.specs.Types.{TypeTree, Simple, Unreadable, simple_kind, unreadable_kind, kind_of}
+use Rattle.wave_wasm.specs.Types.{TypeTree, Types, Fields, Cases, Simple, Unreadable, simple_kind, unreadable_kind, kind_of}
 use Rattle.wave_wasm.specs.declared.wasm.WasmTypeKind.{WasmTypeKind}
 use Rattle.wave_wasm.specs.declared.wasm.WasmTypeKind.TheVariants as kind
 
@@ -82,3 +82,42 @@ simple_is S (type.option P) e = absurd (not_simple kind.Option S (sym e) refl)
 simple_is S (type.result A B) e = absurd (not_simple kind.Result S (sym e) refl)
 simple_is S (type.flags names) e = absurd (not_simple kind.Flags S (sym e) refl)
 simple_is S (type.map K V) e = absurd (not_simple kind.Map S (sym e) refl)
+
+-- ---- types of parts and names
+
+-- what a type of this kind is
+abbrev pub IsFormed : WasmTypeKind → TypeTree → Type 0
+IsFormed kind.Record T = (fs : Fields) × (T ≡ type.record_type fs)
+IsFormed kind.Tuple T = (Ts : Types) × (T ≡ type.tuple Ts)
+IsFormed kind.Variant T = (cs : Cases) × (T ≡ type.variant cs)
+IsFormed kind.Enum T = (names : List (List ℕ)) × (T ≡ type.enum names)
+IsFormed kind.Option T = (P : TypeTree) × (T ≡ type.option P)
+IsFormed kind.Flags T = (names : List (List ℕ)) × (T ≡ type.flags names)
+IsFormed _ T = Unit {0}
+
+formed : (T : TypeTree) → IsFormed (kind_of T) T
+formed (type.record_type fs) = (fs, refl)
+formed (type.tuple Ts) = (Ts, refl)
+formed (type.variant cs) = (cs, refl)
+formed (type.enum names) = (names, refl)
+formed (type.option P) = (P, refl)
+formed (type.flags names) = (names, refl)
+formed (type.simple type.bool) = tt
+formed (type.simple (type.whole type.s8)) = tt
+formed (type.simple (type.whole type.s16)) = tt
+formed (type.simple (type.whole type.s32)) = tt
+formed (type.simple (type.whole type.s64)) = tt
+formed (type.simple (type.whole type.u8)) = tt
+formed (type.simple (type.whole type.u16)) = tt
+formed (type.simple (type.whole type.u32)) = tt
+formed (type.simple (type.whole type.u64)) = tt
+formed (type.simple type.char) = tt
+formed (type.simple type.string) = tt
+formed (type.unreadable type.f32) = tt
+formed (type.unreadable type.f64) = tt
+formed (type.unreadable type.unsupported) = tt
+formed _ = tt
+
+-- a type is what its kind says
+pub formed_as : (k : WasmTypeKind) (T : TypeTree) → k ≡ kind_of T → IsFormed k T
+formed_as k T e = subst (λ (kind : WasmTypeKind). IsFormed kind T) (sym e) (formed T)

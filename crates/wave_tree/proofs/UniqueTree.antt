@@ -3,12 +3,8 @@ use Rattle.std.proofs.Common.{ℕ, zero, suc, ◌<◌, ◌≡◌, inl, inr, List
 use Rattle.wave_tree.specs.Token.{Token, brace_open, brace_close, paren_open, paren_close, bracket_open, bracket_close, colon, number, label, char, string, multiline}
 use Rattle.wave_tree.specs.Joined.{Spelling, Items}
 use Rattle.wave_tree.specs.Tree as tree
-use Rattle.wave_tree.specs.Tree.{Tree, MaybeTree, trees, tree_entries, no_tree, a_tree, in_order, ATree, Takes, KeyAnd, Label, MaybeInParens, InBraces, BehindWord, IsKey, Word, word_of, leaf_word, none_word, some_word, ok_word, err_word, case_word}
+use Rattle.wave_tree.specs.Tree.{Tree, trees, tree_entries, in_order, ATree, Takes, KeyAnd, Label, MaybeInParens, InBraces, BehindWord, IsKey, Word, word_of, leaf_word, none_word, some_word, ok_word, err_word, case_word}
 use Rattle.wave_tree.proofs.Unique.{Agree, NeverBegins, items-agree, parens-agree, pair-path}
-
--- a tree begins with neither a close nor a colon
-tree-begins : (Inner : Spelling Tree) → NeverBegins paren_close (ATree Inner) × NeverBegins bracket_close (ATree Inner)
-tree-begins Inner = (λ behind rest t h. h, λ behind rest t h. h)
 
 -- a payload, or none
 maybe-agree : (P Q : Spelling Tree) → Agree P Q → Agree (MaybeInParens P) (MaybeInParens Q)

@@ -35,6 +35,7 @@ use Rattle.wave_tree.proofs.Results.{maybe_back}
 use Rattle.wave_tree.proofs.Unread.{caused_blame}
 use Rattle.wave_tree.specs.declared.ast.NodeType.{NodeType}
 use Rattle.wave_tree.specs.declared.ast.NodeType.TheVariants as kind
+use Rattle.wave_tree.proofs.TypeKinds.{formed_as}
 
 -- a type of these cases
 pub record VariantType (T : TypeTree) (parts : List (List ℕ × Option TypeTree)) : Type 0 where
@@ -44,22 +45,7 @@ pub record VariantType (T : TypeTree) (parts : List (List ℕ × Option TypeTree
 
 -- the type of the kind of variants
 pub variant_is : (T : TypeTree) (parts : List (List ℕ × Option TypeTree)) → kinds.Variant ≡ kind_of T → parts ≡ variant_parts T → VariantType T parts
-variant_is (type.variant cs) parts e h = record { cases = cs; is = refl; parts_are = h }
-variant_is (type.simple type.bool) parts e h = absurd (cc)
-variant_is (type.simple (type.whole type.s8)) parts e h = absurd (cc)
-variant_is (type.simple (type.whole type.s16)) parts e h = absurd (cc)
-variant_is (type.simple (type.whole type.s32)) parts e h = absurd (cc)
-variant_is (type.simple (type.whole type.s64)) parts e h = absurd (cc)
-variant_is (type.simple (type.whole type.u8)) parts e h = absurd (cc)
-variant_is (type.simple (type.whole type.u16)) parts e h = absurd (cc)
-variant_is (type.simple (type.whole type.u32)) parts e h = absurd (cc)
-variant_is (type.simple (type.whole type.u64)) parts e h = absurd (cc)
-variant_is (type.simple type.char) parts e h = absurd (cc)
-variant_is (type.simple type.string) parts e h = absurd (cc)
-variant_is (type.unreadable type.f32) parts e h = absurd (cc)
-variant_is (type.unreadable type.f64) parts e h = absurd (cc)
-variant_is (type.unreadable type.unsupported) parts e h = absurd (cc)
-variant_is _ parts e h = absurd (cc)
+variant_is T parts e h = let (cs, is) = formed_as kinds.Variant T e in record { cases = cs; is = is; parts_are = h ∙ ap variant_parts is }
 
 -- ---- the case of a name
 

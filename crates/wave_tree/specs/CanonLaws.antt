@@ -34,10 +34,6 @@ AreOfText tokens = (s : List ℕ) × IsUtf8 s × CutsInto s tokens
 abbrev pub ReadsMerged : TypeTree → Type 0
 ReadsMerged T = (n : ℕ) (tokens rest : List Token) (v : Value) → Reads T n tokens v rest → merged v ≡ v
 
--- what the tokens of a text spell at the type is a value of the type
-abbrev pub ReadsOwn : TypeTree → Type 0
-ReadsOwn T = (n : ℕ) (tokens : List Token) (v : Value) → AreOfText tokens → Reads T n tokens v [] → HasType T v
-
 -- what the tokens of a text spell within n levels reads back, from a canonical text of at most twice as many
 abbrev pub ReadsBackWithinTwice : TypeTree → Type 0
 ReadsBackWithinTwice T = (n : ℕ) (tokens : List Token) (v : Value) → AreOfText tokens → Reads T n tokens v [] → (back : ReadBack T v) × (levels back.tree ≤ 2 * n)
