@@ -17,7 +17,8 @@ ghost use Rattle.wave_tree.specs.Place.{Place};
 ghost use Rattle.wave_tree.specs.Refusals.{Says};
 ghost use Rattle.wave_tree.specs.Standing.{IsCausedBetween};
 ghost use Rattle.wave_tree.specs.FromText.{IsMeant, RefusesText, start_of};
-ghost use Rattle.wasm_wave.specs.Headline.{IsForMemory, IsToldByText, IsReadAgain, OneValue, IsMergedAt, RefusesOnly};
+ghost use Rattle.wave_wasm.specs.Output.{IsForMemory};
+ghost use Rattle.wasm_wave.specs.Headline.{IsToldByText, IsReadAgain, OneValue, IsMergedAt, RefusesOnly};
 
 use crate::wasm::WasmValue;
 use crate::writer::WriterError;
