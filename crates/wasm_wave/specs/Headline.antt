@@ -5,8 +5,6 @@ use Rattle.wave_wasm.specs.Values.{Value}
 use Rattle.wave_wasm.specs.HasType.{HasType}
 use Rattle.wave_wasm.specs.Merge.{merged}
 use Rattle.wave_wasm.specs.Text.{text}
-use Rattle.wave_wasm.specs.declared.writer.WriterError.{WriterError}
-use Rattle.wave_wasm.specs.declared.writer.WriterError.TheVariants as refusal
 use Rattle.wave_wasm.specs.Types.{HasDistinctNames}
 use Rattle.wave_lex.specs.declared.error.ParserError.{ParserError}
 use Rattle.wave_lex.specs.declared.error.ParserErrorKind.TheVariants.{OutOfMemory}
@@ -14,11 +12,6 @@ use Rattle.wave_tree.specs.Tree.{levels}
 use Rattle.wave_tree.specs.Means.{Means}
 use Rattle.wave_tree.specs.CanonLaws.{ReadBack}
 use Rattle.wave_tree.specs.FromText.{MeansNone}
-
--- the writer is refused for want of memory
-abbrev pub IsWantOfMemory : WriterError → Type 0
-IsWantOfMemory (refusal.Memory e) = Unit {0}
-IsWantOfMemory _ = ⊥
 
 -- no text means two values of the type
 abbrev pub OneValue : TypeTree → Type 0
@@ -31,10 +24,6 @@ IsToldByText T v = (w : Value) → HasType T w → (text v ≡ text w) ↔ (merg
 -- where its canonical text holds at most 100 levels, that text means the value, merged
 abbrev pub IsReadAgain : TypeTree → Value → Type 0
 IsReadAgain T v = (back : ReadBack T v) → levels back.tree ≤ 100 → Means T (text v) (merged v)
-
--- the refusal of a value that is one of a type is want of memory
-abbrev pub IsForMemory : Value → WriterError → Type 0
-IsForMemory v e = (T : TypeTree) → HasType T v → IsWantOfMemory e
 
 -- at a type whose names are distinct the value is merged: in each map of it, inner ones too, each key stands once
 abbrev pub IsMergedAt : TypeTree → Value → Type 0

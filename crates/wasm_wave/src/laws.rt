@@ -1,15 +1,10 @@
 //! Laws of reading and writing, over the definitions alone: those of this crate, and those of the
 //! crates below under the same names.
-ghost use Rattle.std.specs.Prelude.{◌≡◌, ◌↔◌, true};
 ghost use Rattle.wave_wasm.specs.Types.{TypeTree, HasDistinctNames, IsOwn};
 ghost use Rattle.wave_lex.specs.Labels.{Good};
 ghost use Rattle.wave_tree.specs.Laws.{OneReading};
 ghost use Rattle.wave_tree.specs.CanonLaws.{ReadsBack, EqualTexts, ReadsMerged, ReadsBackWithinTwice};
 ghost use Rattle.wasm_wave.specs.Headline.{OneValue};
-ghost use Rattle.wasm_wave.specs.SameType.{same_tree};
-ghost use Rattle.wasm_wave.specs.SameValue.{same_typed};
-ghost use Rattle.wasm_wave.specs.TypedValue.{TypedValue};
-ghost use Rattle.wasm_wave.specs.TypeTexts.{IsShownWhole, TypeTextTells};
 
 pub use wave_lex::laws::{
     faults_refuse, labels_are_words, lines_join, no_longer_label, one_cut, one_line_joins,
@@ -23,6 +18,8 @@ pub use wave_tree::laws::{
     refused_values_have_none, same_tokens_mean_the_same, shown_call_keeps_meaning,
     shown_keeps_meaning, trees_are_led, unexpected_tokens_begin_none, untyped_reading_agrees,
 };
+pub use wave_type::laws::{equal_types, type_text_injective};
+pub use wave_value::laws::equal_values;
 pub use wave_wasm::laws::{key_text_injective, merging_keeps_last_values};
 
 /// The grammar gives no text two values: where one spelling begins another, both are one and spell
@@ -53,21 +50,4 @@ pub fn read_values_are_merged()
 /// canonical text reads back, and holds at most twice as many.
 pub fn levels_at_most_double()
     ensures { (T : TypeTree) → Good T → IsOwn T → ReadsBackWithinTwice T }
-{}
-
-/// The text of a type tells the type: two types that `Type` has, without fixed-length lists and with
-/// labels for names, have one text only where they are one.
-pub fn type_text_injective()
-    ensures { (T : TypeTree) → IsOwn T → IsShownWhole T → TypeTextTells T }
-{}
-
-/// What `==` answers of two types is true exactly where their trees are one.
-pub fn equal_types()
-    ensures { (T U : TypeTree) → (same_tree T U ≡ true) ↔ (T ≡ U) }
-{}
-
-/// What `==` answers of two values is true exactly where their own types are one and their trees
-/// are: two values of one tree and two types aren't equal.
-pub fn equal_values()
-    ensures { (v w : TypedValue) → (same_typed v w ≡ true) ↔ (v ≡ w) }
 {}

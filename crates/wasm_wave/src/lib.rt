@@ -4,7 +4,7 @@
 ghost use Rattle.std.specs.Prelude.{◌≡◌, None, IfOk, IfErr};
 ghost use Rattle.std.specs.String.{string_bytes};
 ghost use Rattle.wave_wasm.specs.Text.{text, has_text};
-ghost use Rattle.wave_wasm.specs.Output.{IsGrounded};
+ghost use Rattle.wave_wasm.specs.Output.{IsGrounded, IsForMemory};
 ghost use Rattle.wave_wasm.specs.HasType.{HasType};
 ghost use Rattle.wave_lex.specs.Labels.{Good};
 ghost use Rattle.wave_tree.specs.AnswerLaws.{LiesInText};
@@ -17,7 +17,7 @@ ghost use Rattle.wave_tree.specs.Place.{Place};
 ghost use Rattle.wave_tree.specs.Refusals.{Says};
 ghost use Rattle.wave_tree.specs.Standing.{IsCausedBetween};
 ghost use Rattle.wave_tree.specs.FromText.{IsMeant, RefusesText, start_of};
-ghost use Rattle.wasm_wave.specs.Headline.{IsForMemory, IsToldByText, IsReadAgain, OneValue, IsMergedAt, RefusesOnly};
+ghost use Rattle.wasm_wave.specs.Headline.{IsToldByText, IsReadAgain, OneValue, IsMergedAt, RefusesOnly};
 
 use crate::wasm::WasmValue;
 use crate::writer::WriterError;

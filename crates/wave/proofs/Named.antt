@@ -3,8 +3,8 @@ use Rattle.std.proofs.Common.{ℕ, ◌≡◌, ◌≢◌, ◌⊎◌, List, inl, i
 use Rattle.wave_lex.specs.declared.error.ParserError.{ParserError}
 use Rattle.wave_lex.specs.declared.error.ParserErrorKind.TheVariants as kind
 use Rattle.wave_tree.specs.FromText.{IsMeant, MeansNone, TextFault, RefusesText}
-use Rattle.wasm_wave.specs.Built.{IsFull}
-use Rattle.wasm_wave.specs.TypedValue.{TypedValue, IsAt}
+use Rattle.wave_value.specs.Built.{IsFull}
+use Rattle.wave_value.specs.TypedValue.{TypedValue, IsAt}
 use Rattle.wave_wasm.specs.Text.{text}
 use Rattle.wave.specs.declared.request.TypeName.{TypeName}
 use Rattle.wave.specs.declared.request.TypeName.TheVariants as name

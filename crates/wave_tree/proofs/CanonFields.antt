@@ -17,7 +17,7 @@ use Rattle.wave_tree.specs.Token.{brace_open, brace_close, colon}
 use Rattle.wave_tree.specs.Joined.{Spelling, Listed}
 use Rattle.wave_tree.specs.Reads.{Named, EmptyBraces, look_up, IsOption, FieldIs, Fills}
 use Rattle.wave_tree.proofs.CanonWrites.{Writes, WritesField}
-use Rattle.wave_tree.proofs.CanonNames.{same_bytes, unlike}
+use Rattle.wave_wasm.proofs.Picked.{same_bytes, unlike}
 use Rattle.wave_tree.proofs.CanonHeights.{height, height_of_fields}
 use Rattle.wave_tree.proofs.CanonPrints.{Prints, brace_open_cut, brace_close_cut, bare_colon_cut}
 use Rattle.wave_tree.proofs.CanonRows.{AllPrint, all_print, braces_print, named_print}

@@ -17,7 +17,8 @@ use Rattle.wave_lex.proofs.Derive.{matches_from}
 use Rattle.wave_tree.specs.Reads.{InParens, Keyed, Name, Named}
 use Rattle.wave_tree.proofs.CanonWrites.{Writes, WritesPayload, WritesCase, WritesField}
 use Rattle.wave_tree.proofs.CanonHeights.{height, height_of_maybe, height_of_values, height_of_entries}
-use Rattle.wave_tree.proofs.CanonNames.{case_token, picked_distinct, picked_of, picked_all, picked_found, merge_twice, merge_keeps}
+use Rattle.wave_tree.proofs.CanonNames.{case_token, merge_twice, merge_keeps}
+use Rattle.wave_wasm.proofs.Picked.{picked_distinct, picked_of, picked_all, picked_found}
 use Rattle.wave_tree.proofs.CanonPrints.{Prints, label_cut}
 use Rattle.wave_tree.proofs.CanonLeaves.{leaf_prints}
 use Rattle.wave_tree.proofs.CanonStrings.{leaf_written}

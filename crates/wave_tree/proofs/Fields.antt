@@ -30,7 +30,7 @@ use Rattle.wave_lex.specs.declared.error.ParserErrorKind.TheVariants.{InvalidTyp
 use Rattle.wave_tree.specs.Records.{RefusesFields, IsFieldsOf}
 use Rattle.wave_tree.specs.declared.ast.NodeType.TheVariants as kind
 use Rattle.wave_tree.proofs.Items.{HasAt}
-use Rattle.wave_tree.proofs.Ordered.{distinct_more}
+use Rattle.wave_wasm.proofs.OneOf.{distinct_more}
 
 -- ---- lists
 

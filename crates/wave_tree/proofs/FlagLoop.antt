@@ -16,8 +16,9 @@ use Rattle.wave_tree.specs.NodeTree.{NodeTree, node, no_nodes, node_trees}
 use Rattle.wave_tree.specs.declared.ast.NodeType.TheVariants as kind
 use Rattle.wave_tree.specs.Parsed.{Flag, flag_name, flags_in_order, TakesClass, IsClosed, AreFurtherFlags, IsOfFlags}
 use Rattle.wave_tree.proofs.Going.{Reached, IsFlagDue}
-use Rattle.wave_tree.proofs.Names.{Holds}
-use Rattle.wave_tree.proofs.Ordered.{order_last, none_of, distinct_more, entry_of, named_node, insert_flag, nodes_of, none_in_order}
+use Rattle.wave_wasm.proofs.Names.{Holds}
+use Rattle.wave_tree.proofs.Ordered.{order_last, entry_of, named_node, insert_flag, nodes_of, none_in_order}
+use Rattle.wave_wasm.proofs.OneOf.{none_of, distinct_more}
 
 -- the flag that was taken last
 abbrev pub flag_at : Place → Flag

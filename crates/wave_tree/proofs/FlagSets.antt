@@ -16,9 +16,8 @@ use Rattle.wave_tree.specs.Faults.{RefusesFor}
 use Rattle.wave_tree.specs.Typed.{IsCaused}
 use Rattle.wave_tree.specs.Answers.{text_at}
 use Rattle.wave_tree.specs.Flags.{names_at, AreFlags, HoldsNames, PicksFrom, RefusesFlags}
-use Rattle.wave_tree.proofs.Names.{held}
-use Rattle.wave_tree.proofs.OneOf.{is_one}
-use Rattle.wave_tree.proofs.Ordered.{none_of}
+use Rattle.wave_wasm.proofs.Names.{held}
+use Rattle.wave_wasm.proofs.OneOf.{is_one, none_of}
 
 -- one more item is taken
 taken : {X Y : Type 0} (f : X → Y) (xs : List X) (i : ℕ) (x : X) → i < length xs → x ≡ get_or xs i x → map f (take (i + 1) xs) ≡ map f (take i xs) ++ f x ∷ []

@@ -27,9 +27,9 @@ use Rattle.wave_tree.specs.Typed.{IsRead, IsBlamed, IsMade}
 use Rattle.wave_tree.proofs.Inside.{From, inside}
 use Rattle.wave_tree.proofs.Leaves.{tree_is, at_tree, said}
 use Rattle.wave_tree.proofs.Made.{made}
-use Rattle.wave_tree.proofs.OneOf.{passes}
+use Rattle.wave_wasm.proofs.OneOf.{passes}
 use Rattle.wave_tree.proofs.Enums.{none_one}
-use Rattle.wave_tree.proofs.CanonNames.{picked_distinct, picked_of}
+use Rattle.wave_wasm.proofs.Picked.{picked_distinct, picked_of}
 use Rattle.wave_tree.proofs.CanonTyped.{found_picked}
 use Rattle.wave_tree.proofs.FlagNodes.{FlagsNode, flags_given}
 use Rattle.wave_wasm.proofs.Trees.{map_map}

@@ -23,7 +23,7 @@ use Rattle.wave_tree.specs.Refusals.{Says}
 use Rattle.wave_tree.specs.NodeTree.{NodeTree, type_of, place_of}
 use Rattle.wave_tree.specs.Nodes.{placed_of, shape_from, number_token}
 use Rattle.wave_tree.specs.Answers.{bool_type, GivesNumber}
-use Rattle.wave_tree.proofs.OneOf.{is_one}
+use Rattle.wave_wasm.proofs.OneOf.{is_one}
 use Rattle.wave_tree.proofs.Inside.{From, inside, some_is, is_number_word}
 use Rattle.wave_tree.specs.declared.ast.NodeType.{NodeType}
 use Rattle.wave_tree.specs.declared.ast.NodeType.TheVariants as kind

@@ -17,7 +17,6 @@ pub mod Spans
 pub mod FaultSpans
 pub mod Answering
 pub mod AtHand
-pub mod Names
 pub mod Ordered
 pub mod FlagLoop
 pub mod AtTokens
@@ -43,8 +42,6 @@ pub mod Narrow
 pub mod Inside
 pub mod Made
 pub mod Leaves
-pub mod OneOf
-pub mod TypeKinds
 pub mod Unread
 pub mod Faultless
 pub mod CanonEscapes

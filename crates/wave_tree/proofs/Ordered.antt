@@ -1,6 +1,6 @@
 -- The flags of a map, in the order of their names.
 use Rattle.std.proofs.Common.{◌≡◌, ◌≢◌, ℕ, List, [], ◌∷◌, ◌++◌, Bool, true, false, refl, sym, ap, ◌∙◌, Bor, map, cond, arith}
-use Rattle.std.specs.Prelude.{bytes_eq, ◌||◌, if◌then◌else◌, nat_lt, ◌==◌}
+use Rattle.std.specs.Prelude.{if◌then◌else◌, nat_lt, ◌==◌}
 use Rattle.std.specs.Cmp.Lexicographic.{slice_cmp, nat_list_cmp_total}
 use Rattle.std.specs.Ordering.{nat_cmp, is_lt, is_eq, match_ordering, ordering_then, ordering_reverse}
 use Rattle.std.specs.declared.cmp.Ordering.{Ordering}
@@ -8,8 +8,8 @@ use Rattle.std.specs.declared.cmp.Ordering.TheVariants.{Less, Equal, Greater}
 use Rattle.std.specs.BTreeMap.{insert_entry}
 use Rattle.std.proofs.lemmas.Slice.Eq.{bytes_eq-Decides}
 use Rattle.std.proofs.lemmas.Map.Text.{is_eq-slice_cmp}
-use Rattle.std.proofs.lemmas.Bool.Decides.{nat_tests, not_from_Decides}
-use Rattle.wave_wasm.specs.Names.{is_one_of, IsNoneOf, AreDistinct}
+use Rattle.std.proofs.lemmas.Bool.Decides.{nat_tests}
+use Rattle.wave_wasm.specs.Names.{IsNoneOf}
 use Rattle.wave_tree.specs.Tree.{is_before}
 use Rattle.wave_tree.specs.NodeTree.{NodeTree}
 use Rattle.wave_tree.specs.Parsed.{Flag, flag_name, flag_node, put_flag, flags_in_order}
@@ -105,26 +105,6 @@ commute a f (x ∷ xs) n = three_at a f x xs _ _ _ n refl refl refl (commute a f
 pub order_last : (fs : List Flag) (f : Flag) → IsNoneOf (map flag_name fs) (flag_name f) → flags_in_order (fs ++ f ∷ []) ≡ put_flag f (flags_in_order fs)
 order_last [] f h = refl
 order_last (a ∷ fs) f (n, h) = ap (put_flag a) (order_last fs f h) ∙ commute a f (flags_in_order fs) (λ e. n (sym e))
-
--- ---- names
-
--- a name that the test does not find
-pub none_of : (names : List (List ℕ)) (name : List ℕ) → is_one_of names name ≡ false → IsNoneOf names name
-none_of [] name e = tt
-none_of (x ∷ xs) name e = by (bytes_eq name x) (is_one_of xs name) refl (none_of xs name) e
-  where
-    by : (b c : Bool) → bytes_eq name x ≡ b → (c ≡ false → IsNoneOf xs name) → (b || c) ≡ false → (name ≢ x) × IsNoneOf xs name
-    by true c f g e = cc
-    by false c f g e = (not_from_Decides _ (bytes_eq-Decides name x) f, g e)
-
--- names with a new last one
-pub distinct_more : (names : List (List ℕ)) (name : List ℕ) → AreDistinct names → IsNoneOf names name → AreDistinct (names ++ name ∷ [])
-distinct_more [] name d h = (tt, tt)
-distinct_more (x ∷ xs) name (n, d) (m, h) = (none_more xs name x n (λ e. m (sym e)), distinct_more xs name d h)
-  where
-    none_more : (xs : List (List ℕ)) (name x : List ℕ) → IsNoneOf xs x → x ≢ name → IsNoneOf (xs ++ name ∷ []) x
-    none_more [] name x h n = (n, tt)
-    none_more (y ∷ ys) name x (k, h) n = (k, none_more ys name x h n)
 
 -- ---- the entries of the map
 

@@ -15,7 +15,7 @@ use Rattle.wave_tree.specs.Tree.{Tree, TreeEntries, entries, tree_entries, flags
 use Rattle.wave_tree.specs.Reads.{look_up, Fills, FieldIs}
 use Rattle.wave_tree.specs.TreeReads.{Meaning, Each, NamedTree, RecordTree, FlagsTree}
 use Rattle.wave_tree.specs.OrderLaws.{Labelled, label_entries, named, label_names, FieldsInAnyOrder, FlagsInAnyOrder}
-use Rattle.wave_tree.proofs.OneOf.{is_one, passes}
+use Rattle.wave_wasm.proofs.OneOf.{is_one, passes}
 use Rattle.wave_tree.proofs.Fields.{is_found, finds_none}
 use Rattle.wave_tree.proofs.Unique.{pair-path}
 use Rattle.wave_tree.proofs.Agreeing.{tree_means, spelled_means}

@@ -43,8 +43,7 @@ use Rattle.wave_tree.specs.Records.{IsFieldsOf, names_of, held_at, HoldsFields, 
 use Rattle.wave_tree.proofs.Inside.{inside, some_is}
 use Rattle.wave_tree.proofs.Leaves.{tree_is}
 use Rattle.wave_tree.proofs.Made.{made}
-use Rattle.wave_tree.proofs.OneOf.{is_one}
-use Rattle.wave_tree.proofs.Ordered.{none_of}
+use Rattle.wave_wasm.proofs.OneOf.{is_one, none_of}
 use Rattle.wave_tree.proofs.Items.{HasAt, some_at}
 use Rattle.wave_tree.proofs.Tuples.{place_has, map_has, all_has}
 use Rattle.wave_tree.proofs.Fields.{take_next, take_whole, map_last, not_found}

@@ -1,5 +1,5 @@
 use Rattle.wave_tree.proofs.Canon.{equal_texts, reads_back, reads_back_within_twice, text_means}
-use Rattle.wasm_wave.proofs.Headline.{refused_so}
+use Rattle.wave_wasm.proofs.Writable.{refused_so}
 use Rattle.wasm_wave.proofs.to_string.Goals as goal
 
 pub returns-clause-memory : goal.returns-clause-memory

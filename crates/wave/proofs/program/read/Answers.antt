@@ -1,7 +1,7 @@
 use Rattle.std.proofs.Common.{subst}
 use Rattle.wave_tree.specs.FromText.{IsMeant, RefusesText}
-use Rattle.wasm_wave.specs.Built.{IsFull}
-use Rattle.wasm_wave.specs.TypedValue.{TypedValue, IsAt}
+use Rattle.wave_value.specs.Built.{IsFull}
+use Rattle.wave_value.specs.TypedValue.{TypedValue, IsAt}
 use Rattle.wave.proofs.Named.{answered, refused}
 use Rattle.wave.proofs.program.read.Goals as goal
 

@@ -4,7 +4,7 @@ use Rattle.wave_wasm.specs.Types as type
 use Rattle.wave_wasm.specs.Values as value
 use Rattle.wave_tree.proofs.Made.{faulty, handed, leaf_made}
 use Rattle.wave_tree.proofs.Leaves.{said, number_read, number_kept, number_blame}
-use Rattle.wave_tree.proofs.TypeKinds.{simple_is}
+use Rattle.wave_wasm.proofs.TypeKinds.{simple_is}
 use Rattle.wave_tree.proofs.Unread.{unread_blame}
 use Rattle.wave_tree.specs.Typed.{IsValueOf}
 use Rattle.wave_tree.proofs.Items.{element_is, list_fault, list_deep, list_item, list_blame, list_kept, list_made, list_nodes, given_nodes, read_all, element_distinct}

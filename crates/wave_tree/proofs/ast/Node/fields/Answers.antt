@@ -2,7 +2,7 @@ use Rattle.std.proofs.Common.{arith, map, refl}
 use Rattle.wave_tree.specs.Answers.{node_pairs}
 use Rattle.wave_tree.specs.Records.{shown_field, RefusesFields}
 use Rattle.wave_tree.proofs.Items.{HasAt}
-use Rattle.wave_tree.proofs.Names.{on_ok}
+use Rattle.wave_wasm.proofs.Names.{on_ok}
 use Rattle.wave_tree.proofs.Fields.{pair_has, key_parsed, new_name, old_name, refused_label, refused_name, fields_whole, fields_kept, field_held, err_handed}
 use Rattle.wave_tree.specs.Standing.{StandsIn}
 use Rattle.wave_tree.proofs.ParamLemmas.{error_handed}

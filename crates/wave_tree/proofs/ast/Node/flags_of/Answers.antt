@@ -5,7 +5,7 @@ use Rattle.wave_wasm.proofs.Sequence.{all_at}
 use Rattle.wave_tree.specs.Spells.{name_of}
 use Rattle.wave_tree.specs.NodeTree.{children_of}
 use Rattle.wave_tree.specs.Nodes.{IsParsedFrom}
-use Rattle.wave_tree.proofs.Names.{holds_more, on_ok}
+use Rattle.wave_wasm.proofs.Names.{holds_more, on_ok}
 use Rattle.wave_tree.proofs.FlagNodes.{labels_of}
 use Rattle.wave_tree.proofs.FlagSets.{found_held, none_held, held_more, flag_unknown}
 use Rattle.wave_tree.proofs.ast.Node.flags_of.Goals as goal

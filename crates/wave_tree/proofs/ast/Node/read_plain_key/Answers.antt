@@ -4,7 +4,7 @@ use Rattle.std.proofs.Common.{refl, ap, ◌∙◌}
 use Rattle.wave_wasm.specs.Types as type
 use Rattle.wave_wasm.specs.Types.{kind_of}
 use Rattle.wave_wasm.specs.Values as value
-use Rattle.wave_tree.proofs.TypeKinds.{simple_is}
+use Rattle.wave_wasm.proofs.TypeKinds.{simple_is}
 use Rattle.wave_tree.proofs.Keys.{bool_key, no_bool_key, number_key, no_number_key, number_key_kept, key_made, key_faulty, no_unread_key}
 use Rattle.wave_tree.proofs.TextKeys.{char_key, no_char_key}
 use Rattle.std.proofs.Common.{inr}

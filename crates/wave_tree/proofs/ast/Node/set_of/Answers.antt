@@ -1,6 +1,6 @@
 use Rattle.std.proofs.Common.{sym, subst}
 use Rattle.wave_tree.specs.Flags.{HoldsNames}
-use Rattle.wave_tree.proofs.Names.{holds_more, on_ok}
+use Rattle.wave_wasm.proofs.Names.{holds_more, on_ok}
 use Rattle.wave_tree.proofs.FlagSets.{texts_next}
 use Rattle.wave_tree.proofs.ast.Node.set_of.Goals as goal
 

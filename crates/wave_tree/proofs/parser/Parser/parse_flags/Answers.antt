@@ -11,7 +11,7 @@ use Rattle.std.specs.Prelude.{if◌then◌else◌}
 use Rattle.wave_wasm.specs.Names.{is_one_of}
 use Rattle.wave_tree.specs.Refusals.{Says}
 use Rattle.wave_lex.specs.Errors.{repeated_name}
-use Rattle.wave_tree.proofs.Names.{Holds, holds_none, holds_more, on_ok}
+use Rattle.wave_wasm.proofs.Names.{Holds, holds_none, holds_more, on_ok}
 use Rattle.std.specs.Prelude.{map}
 use Rattle.std.specs.BTreeMap.{insert_entry}
 use Rattle.std.specs.Cmp.Lexicographic.{slice_cmp}

@@ -1,7 +1,0 @@
-use Rattle.std.proofs.Common.{◌≡◌, true, subst}
-use Rattle.wasm_wave.specs.SameType.{same_tree}
-use Rattle.wasm_wave.specs.SameTypeLaws.{one_tree, same_itself}
-use Rattle.wasm_wave.proofs.laws.equal_types.Goals as goal
-
-pub returns : goal.returns
-returns c = λ T U. (one_tree T U, λ e. subst (λ V. same_tree T V ≡ true) e (same_itself T))

@@ -1,6 +1,0 @@
-use Rattle.std.proofs.Common.{◌≡◌, true, subst}
-use Rattle.wasm_wave.specs.SameValue.{same_typed, one_typed, typed_itself}
-use Rattle.wasm_wave.proofs.laws.equal_values.Goals as goal
-
-pub returns : goal.returns
-returns c = λ v w. (one_typed v w, λ e. subst (λ u. same_typed v u ≡ true) e (typed_itself v))

@@ -1,8 +1,0 @@
-use Rattle.std.proofs.Common.{subst}
-use Rattle.wasm_wave.specs.Taken.{Tells}
-use Rattle.wasm_wave.proofs.Made.{tells}
-use Rattle.wasm_wave.proofs.value.Value.is_at.Goals as goal
-
-pub returns : goal.returns
-returns c =
-    subst (Tells c.eq.result c.args.ty.now) c.self.view_is (tells c.eq.result c.self.inside.own c.args.ty.now c.self.inside.content c.eq.ensures c.self.invariant)

@@ -1,6 +1,0 @@
-use Rattle.std.proofs.Common.{take}
-use Rattle.wasm_wave.specs.ValueView.{EntriesAt}
-use Rattle.wasm_wave.proofs.value.Value.map_of.Given as goal
-
-abbrev pub invariant-loop-entry : goal.invariant-loop-entry
-invariant-loop-entry g l = EntriesAt l.key l.value (take l.entry-index l.entry-items)

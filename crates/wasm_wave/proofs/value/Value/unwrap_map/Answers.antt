@@ -1,8 +1,0 @@
-use Rattle.std.proofs.Common.{subst, ◌∙◌}
-use Rattle.wasm_wave.specs.ValueView.{Fits}
-use Rattle.wasm_wave.proofs.ValueLists.{map_back}
-use Rattle.wasm_wave.proofs.value.Value.unwrap_map.Goals as goal
-
-pub returns-in_ok-shown-in-Map : goal.returns-in_ok-shown-in-Map
-returns-in_ok-shown-in-Map c =
-    rw (← c.self.view_is) (rw c.in-Map.is (c.in_ok-shown-in-Map.ensures ∙ map_back c.self.inside.own c.in-Map.entries.items (subst (Fits c.self.inside.own) c.in-Map.is c.self.invariant)))

@@ -1,7 +1,0 @@
-use Rattle.std.proofs.Common.{take}
-use Rattle.wave_wasm.specs.Shown.{texts}
-use Rattle.wasm_wave.specs.TakenCases.{HasKeys}
-use Rattle.wasm_wave.proofs.value.made.cases.keys_of.Given as goal
-
-abbrev pub invariant-loop-name : goal.invariant-loop-name
-invariant-loop-name l = HasKeys l.keys (texts (take l.name-index l.names))

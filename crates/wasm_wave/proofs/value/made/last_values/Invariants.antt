@@ -1,7 +1,0 @@
-use Rattle.std.proofs.Common.{◌≡◌, ℕ, List}
-use Rattle.wave_wasm.specs.Shown.{named}
-use Rattle.wasm_wave.specs.Handed.{held, last_under}
-use Rattle.wasm_wave.proofs.value.made.last_values.Given as goal
-
-abbrev pub invariant-loop-name : goal.invariant-loop-name
-invariant-loop-name g l = (name : List ℕ) → held l.given name ≡ last_under (named l.yielded) name

@@ -1,5 +1,0 @@
-use Rattle.wasm_wave.proofs.LabelTest.{pass_is_good}
-use Rattle.wasm_wave.proofs.value.ty.Type.names_are_labels.Goals as goal
-
-pub returns-clause-labels : goal.returns-clause-labels
-returns-clause-labels c = pass_is_good c.args.self.now _ c.names_pass.ensures

@@ -1,7 +1,0 @@
-use Rattle.std.proofs.Common.{◌≡◌, map, take}
-use Rattle.wasm_wave.specs.TypeView.{by_bytes}
-use Rattle.wave_wasm.specs.Shown.{shown_fields}
-use Rattle.wasm_wave.proofs.value.ty.parts.borrowed_fields.Given as goal
-
-abbrev pub invariant-loop-field : goal.invariant-loop-field
-invariant-loop-field l = shown_fields (λ t. t) l.answer.items ≡ map by_bytes (take l.field-index l.fields.items)

@@ -1,6 +1,0 @@
-use Rattle.std.proofs.Common.{◌≡◌, take}
-use Rattle.wave_wasm.specs.Shown.{shown_all}
-use Rattle.wasm_wave.proofs.value.ty.parts.borrowed_types.Given as goal
-
-abbrev pub invariant-loop-ty : goal.invariant-loop-ty
-invariant-loop-ty l = shown_all (λ t. t) l.answer.items ≡ take l.ty-index l.types.items

@@ -1,6 +1,0 @@
-use Rattle.std.proofs.Common.{◌≡◌, map, take}
-use Rattle.wave_wasm.specs.Shown.{shown_pairs}
-use Rattle.wasm_wave.proofs.value.views.borrowed_entries.Given as goal
-
-abbrev pub invariant-loop-entry : goal.invariant-loop-entry
-invariant-loop-entry l = shown_pairs (λ w. w.tree) l.answer.items ≡ map (λ e. (e.0.tree, e.1.tree)) (take l.entry-index l.entries.items)

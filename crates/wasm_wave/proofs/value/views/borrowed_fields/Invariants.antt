@@ -1,8 +1,0 @@
-use Rattle.std.proofs.Common.{◌≡◌, take}
-use Rattle.wave_wasm.specs.Types.{record_parts}
-use Rattle.wave_wasm.specs.Shown.{shown_fields}
-use Rattle.wasm_wave.specs.ValueView.{trees, beside, first_names}
-use Rattle.wasm_wave.proofs.value.views.borrowed_fields.Given as goal
-
-abbrev pub invariant-loop-i : goal.invariant-loop-i
-invariant-loop-i l = shown_fields (λ w. w.tree) l.answer.items ≡ beside (first_names (record_parts l.own)) (trees (take l.i l.values.items))

@@ -1,6 +1,0 @@
-use Rattle.wasm_wave.specs.Taken.{own_text}
-use Rattle.wasm_wave.proofs.LawfulCases.{full_map}
-use Rattle.wasm_wave.proofs.value.wasm_value.ValueWasmValue.make_map.Goals as goal
-
-pub returns-clause-full : goal.returns-clause-full
-returns-clause-full c = full_map own_text c.args.ty.now c.args.entries.items _ c.map_of.ensures.refused

@@ -1,6 +1,0 @@
-use Rattle.wasm_wave.specs.Taken.{own_text}
-use Rattle.wasm_wave.proofs.LawfulCases.{full_variant}
-use Rattle.wasm_wave.proofs.value.wasm_value.ValueWasmValue.make_variant.Goals as goal
-
-pub returns-clause-full : goal.returns-clause-full
-returns-clause-full c = full_variant own_text c.args.ty.now c.args.case.now c.args.val _ c.variant_of.ensures.refused

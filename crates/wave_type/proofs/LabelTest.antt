@@ -1,0 +1,227 @@
+-- The test of names says what labels and distinct names are.
+use Rattle.std.proofs.Common.{◌≡◌, ℕ, ◌+◌, ◌<◌, ◌≤◌, Bool, true, false, List, [], ◌∷◌, map, length, get_or, drop, Option, Some, None, refl, sym, ap, ◌∙◌, arith, ◌↔◌, IsTrue, String, string_bytes}
+use Rattle.std.specs.Prelude.{◌&&◌, ◌||◌, not}
+use Rattle.std.proofs.lemmas.Bool.{false≢true, and_parts}
+use Rattle.std.proofs.lemmas.Bool.Decides.{nat_tests}
+use Rattle.std.proofs.lemmas.List.{drop_more}
+use Rattle.std.specs.Str.{bytes_eq}
+use Rattle.std.proofs.lemmas.Slice.Eq.{bytes_eq-Decides}
+use Rattle.std.specs.declared.alloc.Global.{Global}
+use Rattle.wave_wasm.specs.Lists.{AllOf}
+use Rattle.wave_wasm.specs.Names.{IsNoneOf, AreDistinct, is_one_of}
+use Rattle.wave_wasm.specs.Types as type
+use Rattle.wave_wasm.specs.Types.{TypeTree, MaybeType, Types, Fields, Cases, no_type, a_type, no_types, type_and, no_fields, field, no_cases, case_of, EachNames, EachNamesOfMaybe, EachNamesOfTypes, EachNamesOfFields, EachNamesOfCases, fields_of, cases_of, field_names, case_names}
+use Rattle.wave_lex.specs.Labels.{IsLabel, Good}
+use Rattle.wave_lex.specs.Regex.{nothing}
+use Rattle.wave_lex.specs.Derive.{after, after_all, after_next, may_be_empty}
+use Rattle.wave_lex.specs.Tokens.{label}
+use Rattle.wave_lex.proofs.Derive.{matches_from, matches_into}
+use Rattle.wave_lex.proofs.Shapes.{each_below, is_ascii_shape}
+use Rattle.wave_lex.proofs.Machines.{agrees, steps_agree}
+use Rattle.wave_type.specs.TypeView.{by_bytes}
+use Rattle.wave_type.specs.LabelTest.{label_rest, label_step, is_label, are_label_names, names_pass, payload_passes, types_pass, fields_pass, cases_pass}
+use Rattle.wave_type.specs.declared.ty.labels.LabelPlace.{LabelPlace}
+use Rattle.wave_type.specs.declared.ty.labels.LabelPlace.TheVariants as place
+
+-- ---- the walk over a name
+
+computed : (q : LabelPlace) → (each_below 129 (agrees LabelPlace label_rest label_step q) ≡ true) × (is_ascii_shape (label_rest q) ≡ true)
+computed place.Start = (refl, refl)
+computed place.Lower = (refl, refl)
+computed place.Upper = (refl, refl)
+computed place.Hyphen = (refl, refl)
+computed place.Digits = (refl, refl)
+
+past : (q : LabelPlace) (c : ℕ) → 128 ≤ c → label_step q c ≡ label_step q 128
+past place.Start c k = grind (arith, nat_tests)
+past place.Lower c k = grind (arith, nat_tests)
+past place.Upper c k = grind (arith, nat_tests)
+past place.Hyphen c k = grind (arith, nat_tests)
+past place.Digits c k = grind (arith, nat_tests)
+
+steps : (q : LabelPlace) (c : ℕ) → after c (label_rest q) ≡ after_next LabelPlace label_rest (label_step q c)
+steps q c = let h = computed q in steps_agree LabelPlace label_rest label_step q c h.0 h.1 (past q c)
+
+after_nothing : (bs : List ℕ) → after_all bs nothing ≡ nothing
+after_nothing [] = refl
+after_nothing (b ∷ bs) = after_nothing bs
+
+-- one more byte
+turn : (bs : List ℕ) (i : ℕ) (q : LabelPlace) (o : Option LabelPlace) → i < length bs → o ≡ label_step q (get_or bs i 0) → after_all (drop i bs) (label_rest q) ≡ after_all (drop (i + 1) bs) (after_next LabelPlace label_rest o)
+turn bs i q o h says =
+    ap (λ cs. after_all cs (label_rest q)) (drop_more bs i 0 h)
+    ∙ ap (after_all (drop (i + 1) bs)) (steps q (get_or bs i 0) ∙ ap (after_next LabelPlace label_rest) (sym says))
+
+-- one with which the label goes on
+pub turn_on : (bs : List ℕ) (i : ℕ) (q p : LabelPlace) → i < length bs → Some p ≡ label_step q (get_or bs i 0) → after_all bs label ≡ after_all (drop i bs) (label_rest q) → after_all bs label ≡ after_all (drop (i + 1) bs) (label_rest p)
+turn_on bs i q p h says so = so ∙ turn bs i q (Some p) h says
+
+-- one with which it doesn't
+pub turn_off : (name bs : List ℕ) (i : ℕ) (q : LabelPlace) (o : Option LabelPlace) → bs ≡ name → i < length bs → o ≡ None → o ≡ label_step q (get_or bs i 0) → after_all bs label ≡ after_all (drop i bs) (label_rest q) → false ≡ is_label name
+turn_off name bs i q o same h none says so =
+    ap may_be_empty (sym (so ∙ (turn bs i q None h (sym none ∙ says) ∙ after_nothing (drop (i + 1) bs)))) ∙ ap is_label same
+
+-- ---- names
+
+none_step : (ns : List (List ℕ)) (n m : List ℕ) (b : Bool) → bytes_eq n m ≡ b → (not (is_one_of ns n) ≡ true → IsNoneOf ns n) → not (is_one_of (m ∷ ns) n) ≡ true → IsNoneOf (m ∷ ns) n
+none_step ns n m true same rest e = absurd (false≢true (ap (λ c. not (c || is_one_of ns n)) (sym same) ∙ e))
+none_step ns n m false other rest e =
+    (λ is. false≢true (sym other ∙ (bytes_eq-Decides n m).1 is), rest (ap (λ c. not (c || is_one_of ns n)) (sym other) ∙ e))
+
+none_from : (ns : List (List ℕ)) (n : List ℕ) → not (is_one_of ns n) ≡ true → IsNoneOf ns n
+none_from [] n e = tt
+none_from (m ∷ ns) n e = none_step ns n m (bytes_eq n m) refl (none_from ns n) e
+
+into_step : (ns : List (List ℕ)) (n m : List ℕ) (b : Bool) → bytes_eq n m ≡ b → IsNoneOf (m ∷ ns) n → not (is_one_of ns n) ≡ true → not (is_one_of (m ∷ ns) n) ≡ true
+into_step ns n m true same h rest = absurd (h.0 ((bytes_eq-Decides n m).0 same))
+into_step ns n m false other h rest = ap (λ c. not (c || is_one_of ns n)) other ∙ rest
+
+none_into : (ns : List (List ℕ)) (n : List ℕ) → IsNoneOf ns n → not (is_one_of ns n) ≡ true
+none_into [] n h = refl
+none_into (m ∷ ns) n h = into_step ns n m (bytes_eq n m) refl h (none_into ns n h.1)
+
+labels_from : (ns : List (List ℕ)) → are_label_names ns ≡ true → AllOf IsLabel ns
+labels_from [] e = tt
+labels_from (n ∷ ns) e =
+    let p = and_parts _ _ e in
+    let q = and_parts _ _ p.1 in
+    (matches_from n label p.0, labels_from ns q.1)
+
+distinct_from : (ns : List (List ℕ)) → are_label_names ns ≡ true → AreDistinct ns
+distinct_from [] e = tt
+distinct_from (n ∷ ns) e =
+    let p = and_parts _ _ e in
+    let q = and_parts _ _ p.1 in
+    (none_from ns n q.0, distinct_from ns q.1)
+
+both : {a b : Bool} → a ≡ true → b ≡ true → (a && b) ≡ true
+both p q = λ i. p i && q i
+
+names_into : (ns : List (List ℕ)) → AllOf IsLabel ns → AreDistinct ns → are_label_names ns ≡ true
+names_into [] h d = refl
+names_into (n ∷ ns) h d = both (matches_into n label h.0) (both (none_into ns n d.0) (names_into ns h.1 d.1))
+
+-- ---- types
+
+module _ (Pass : List (List ℕ) → Type 0) (says : (ns : List (List ℕ)) → are_label_names ns ≡ true → Pass ns) where
+  mutual
+    pub each_from : (T : TypeTree) → names_pass T ≡ true → EachNames Pass T
+    each_from (type.simple S) e = tt
+    each_from (type.unreadable kind) e = tt
+    each_from (type.list E) e = each_from E e
+    each_from (type.fixed E n) e = each_from E e
+    each_from (type.record_type fs) e = let p = and_parts _ _ e in (says (field_names fs) p.0, fields_from fs p.1)
+    each_from (type.tuple Ts) e = types_from Ts e
+    each_from (type.variant cs) e = let p = and_parts _ _ e in (says (case_names cs) p.0, cases_from cs p.1)
+    each_from (type.enum names) e = says names e
+    each_from (type.option P) e = each_from P e
+    each_from (type.result A B) e = let p = and_parts _ _ e in (maybe_from A p.0, maybe_from B p.1)
+    each_from (type.flags names) e = says names e
+    each_from (type.map K V) e = each_from V e
+
+    maybe_from : (P : MaybeType) → payload_passes P ≡ true → EachNamesOfMaybe Pass P
+    maybe_from no_type e = tt
+    maybe_from (a_type T) e = each_from T e
+
+    types_from : (Ts : Types) → types_pass Ts ≡ true → EachNamesOfTypes Pass Ts
+    types_from no_types e = tt
+    types_from (type_and T more) e = let p = and_parts _ _ e in (each_from T p.0, types_from more p.1)
+
+    fields_from : (fs : Fields) → fields_pass fs ≡ true → EachNamesOfFields Pass fs
+    fields_from no_fields e = tt
+    fields_from (field name T more) e = let p = and_parts _ _ e in (each_from T p.0, fields_from more p.1)
+
+    cases_from : (cs : Cases) → cases_pass cs ≡ true → EachNamesOfCases Pass cs
+    cases_from no_cases e = tt
+    cases_from (case_of name payload more) e = let p = and_parts _ _ e in (maybe_from payload p.0, cases_from more p.1)
+
+module _ (Pass Also : List (List ℕ) → Type 0) (says : (ns : List (List ℕ)) → Pass ns → Also ns → are_label_names ns ≡ true) where
+  mutual
+    pub each_into : (T : TypeTree) → EachNames Pass T → EachNames Also T → names_pass T ≡ true
+    each_into (type.simple S) h k = refl
+    each_into (type.unreadable kind) h k = refl
+    each_into (type.list E) h k = each_into E h k
+    each_into (type.fixed E n) h k = each_into E h k
+    each_into (type.record_type fs) h k = both (says (field_names fs) h.0 k.0) (fields_into fs h.1 k.1)
+    each_into (type.tuple Ts) h k = types_into Ts h k
+    each_into (type.variant cs) h k = both (says (case_names cs) h.0 k.0) (cases_into cs h.1 k.1)
+    each_into (type.enum names) h k = says names h k
+    each_into (type.option P) h k = each_into P h k
+    each_into (type.result A B) h k = both (maybe_into A h.0 k.0) (maybe_into B h.1 k.1)
+    each_into (type.flags names) h k = says names h k
+    each_into (type.map K V) h k = each_into V h k
+
+    maybe_into : (P : MaybeType) → EachNamesOfMaybe Pass P → EachNamesOfMaybe Also P → payload_passes P ≡ true
+    maybe_into no_type h k = refl
+    maybe_into (a_type T) h k = each_into T h k
+
+    types_into : (Ts : Types) → EachNamesOfTypes Pass Ts → EachNamesOfTypes Also Ts → types_pass Ts ≡ true
+    types_into no_types h k = refl
+    types_into (type_and T more) h k = both (each_into T h.0 k.0) (types_into more h.1 k.1)
+
+    fields_into : (fs : Fields) → EachNamesOfFields Pass fs → EachNamesOfFields Also fs → fields_pass fs ≡ true
+    fields_into no_fields h k = refl
+    fields_into (field name T more) h k = both (each_into T h.0 k.0) (fields_into more h.1 k.1)
+
+    cases_into : (cs : Cases) → EachNamesOfCases Pass cs → EachNamesOfCases Also cs → cases_pass cs ≡ true
+    cases_into no_cases h k = refl
+    cases_into (case_of name payload more) h k = both (maybe_into payload h.0 k.0) (cases_into more h.1 k.1)
+
+-- the test passes exactly where the names are labels and distinct
+pub pass_is_good : (T : TypeTree) (b : Bool) → b ≡ names_pass T → IsTrue b ↔ Good T
+pass_is_good T b e =
+    (λ h. (each_from (AllOf IsLabel) labels_from T (sym e ∙ h), each_from AreDistinct distinct_from T (sym e ∙ h)), λ g. e ∙ each_into (AllOf IsLabel) AreDistinct names_into T g.0 g.1)
+
+-- ---- kept names
+
+-- the names of fields that are kept with their names
+pub kept_fields : (fs : List (String Global × TypeTree)) → field_names (fields_of (map by_bytes fs)) ≡ map (λ f. string_bytes f.0) fs
+kept_fields [] = refl
+kept_fields (f ∷ fs) = ap (λ ns. string_bytes f.0 ∷ ns) (kept_fields fs)
+
+-- the names of cases, likewise
+pub kept_cases : (cs : List (String Global × Option TypeTree)) → case_names (cases_of (map by_bytes cs)) ≡ map (λ c. string_bytes c.0) cs
+kept_cases [] = refl
+kept_cases (c ∷ cs) = ap (λ ns. string_bytes c.0 ∷ ns) (kept_cases cs)
+
+module _ {A : Type 0} (name_of : A → List ℕ) where
+  behind : (xs : List A) (i : ℕ) (x : A) (n m : List ℕ) (b : Bool) → i < length xs → x ≡ get_or xs i x → m ≡ name_of x → b ≡ bytes_eq n m → is_one_of (map name_of (drop i xs)) n ≡ (b || is_one_of (map name_of (drop (i + 1) xs)) n)
+  behind xs i x n m b h is called says =
+      ap (λ ys. is_one_of (map name_of ys) n) (drop_more xs i x h)
+      ∙ (ap (λ y. bytes_eq n (name_of y) || is_one_of (map name_of (drop (i + 1) xs)) n) (sym is)
+      ∙ (ap (λ k. bytes_eq n k || is_one_of (map name_of (drop (i + 1) xs)) n) (sym called)
+      ∙ ap (λ c. c || is_one_of (map name_of (drop (i + 1) xs)) n) (sym says)))
+
+  -- the name stands here
+  pub found : (xs : List A) (from i : ℕ) (x : A) (n m : List ℕ) (b : Bool) → i < length xs → x ≡ get_or xs i x → m ≡ name_of x → b ≡ bytes_eq n m → b ≡ true
+      → is_one_of (map name_of (drop i xs)) n ≡ is_one_of (map name_of (drop from xs)) n → true ≡ is_one_of (map name_of (drop from xs)) n
+  found xs from i x n m b h is called says passes so =
+      sym (sym so ∙ (behind xs i x n m b h is called says ∙ ap (λ c. c || is_one_of (map name_of (drop (i + 1) xs)) n) passes))
+
+  -- it doesn't stand here
+  pub passed : (xs : List A) (from i : ℕ) (x : A) (n m : List ℕ) (b : Bool) → i < length xs → x ≡ get_or xs i x → m ≡ name_of x → b ≡ bytes_eq n m → b ≡ false
+      → is_one_of (map name_of (drop i xs)) n ≡ is_one_of (map name_of (drop from xs)) n → is_one_of (map name_of (drop (i + 1) xs)) n ≡ is_one_of (map name_of (drop from xs)) n
+  passed xs from i x n m b h is called says other so =
+      sym (behind xs i x n m b h is called says ∙ ap (λ c. c || is_one_of (map name_of (drop (i + 1) xs)) n) other) ∙ so
+
+-- a record whose names were tested
+pub record_passes : (fs gs hs : List (String Global × TypeTree)) (b d : Bool) → gs ≡ fs → hs ≡ fs → b ≡ are_label_names (map (λ f. string_bytes f.0) gs) → b ≡ true → d ≡ fields_pass (fields_of (map by_bytes hs)) → d ≡ names_pass (type.record_type (fields_of (map by_bytes fs)))
+record_passes fs gs hs b d g h names passes says =
+    let test : true ≡ are_label_names (field_names (fields_of (map by_bytes fs))) = sym passes ∙ (names ∙ (ap (λ us. are_label_names (map (λ (f : String Global × TypeTree). string_bytes f.0) us)) g ∙ ap are_label_names (sym (kept_fields fs)))) in
+    says ∙ (ap (λ us. fields_pass (fields_of (map by_bytes us))) h ∙ ap (λ c. c && fields_pass (fields_of (map by_bytes fs))) test)
+
+pub record_fails : (fs gs : List (String Global × TypeTree)) (b : Bool) → gs ≡ fs → b ≡ are_label_names (map (λ f. string_bytes f.0) gs) → b ≡ false → b ≡ names_pass (type.record_type (fields_of (map by_bytes fs)))
+record_fails fs gs b g names no_labels =
+    let test : false ≡ are_label_names (field_names (fields_of (map by_bytes fs))) = sym no_labels ∙ (names ∙ (ap (λ us. are_label_names (map (λ (f : String Global × TypeTree). string_bytes f.0) us)) g ∙ ap are_label_names (sym (kept_fields fs)))) in
+    no_labels ∙ ap (λ c. c && fields_pass (fields_of (map by_bytes fs))) test
+
+-- a variant, likewise
+pub variant_passes : (cs gs hs : List (String Global × Option TypeTree)) (b d : Bool) → gs ≡ cs → hs ≡ cs → b ≡ are_label_names (map (λ c. string_bytes c.0) gs) → b ≡ true → d ≡ cases_pass (cases_of (map by_bytes hs)) → d ≡ names_pass (type.variant (cases_of (map by_bytes cs)))
+variant_passes cs gs hs b d g h names passes says =
+    let test : true ≡ are_label_names (case_names (cases_of (map by_bytes cs))) = sym passes ∙ (names ∙ (ap (λ us. are_label_names (map (λ (c : String Global × Option TypeTree). string_bytes c.0) us)) g ∙ ap are_label_names (sym (kept_cases cs)))) in
+    says ∙ (ap (λ us. cases_pass (cases_of (map by_bytes us))) h ∙ ap (λ c. c && cases_pass (cases_of (map by_bytes cs))) test)
+
+pub variant_fails : (cs gs : List (String Global × Option TypeTree)) (b : Bool) → gs ≡ cs → b ≡ are_label_names (map (λ c. string_bytes c.0) gs) → b ≡ false → b ≡ names_pass (type.variant (cases_of (map by_bytes cs)))
+variant_fails cs gs b g names no_labels =
+    let test : false ≡ are_label_names (case_names (cases_of (map by_bytes cs))) = sym no_labels ∙ (names ∙ (ap (λ us. are_label_names (map (λ (c : String Global × Option TypeTree). string_bytes c.0) us)) g ∙ ap are_label_names (sym (kept_cases cs)))) in
+    no_labels ∙ ap (λ c. c && cases_pass (cases_of (map by_bytes cs))) test

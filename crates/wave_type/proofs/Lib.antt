@@ -1,0 +1,7 @@
+pub mod TypeLists
+pub mod TypeEqual
+pub mod Texts
+pub mod TypeOwn
+pub mod LabelTest
+pub mod TextFronts
+pub mod TypeTexts

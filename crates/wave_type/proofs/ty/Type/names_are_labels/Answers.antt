@@ -1,0 +1,5 @@
+use Rattle.wave_type.proofs.LabelTest.{pass_is_good}
+use Rattle.wave_type.proofs.ty.Type.names_are_labels.Goals as goal
+
+pub returns-clause-labels : goal.returns-clause-labels
+returns-clause-labels c = pass_is_good c.args.self.now _ c.names_pass.ensures

@@ -1,0 +1,368 @@
+//! A type of component values, which shares its parts.
+ghost use Rattle.std.specs.Prelude.{◌≡◌, IfOk, Some, map, string_bytes, ◌↔◌, IsTrue, true, ◌≢◌, None};
+ghost use Rattle.wave_wasm.specs.Types as type;
+ghost use Rattle.wave_wasm.specs.Types.{maybe_type, every_maybe, can_be_made};
+ghost use Rattle.wave_wasm.specs.Shown.{texts, named};
+ghost use Rattle.wave_type.specs.TypeView.{IsSimple};
+ghost use Rattle.wave_type.specs.TypeMade.{simple_type, record_type, tuple_type, variant_type, enum_type, flags_type, map_type};
+
+use std::alloc::{AllocError, Global};
+use std::marker::Model;
+use std::rc::Rc;
+use wave_wasm::wasm::WasmTypeKind;
+
+mod display;
+mod equality;
+mod labels;
+mod parts;
+pub mod places;
+
+use self::places::is_own;
+
+#[derive(Clone, Copy, PartialEq, Eq, Debug)]
+enum SimpleType {
+    Bool,
+    S8,
+    S16,
+    S32,
+    S64,
+    U8,
+    U16,
+    U32,
+    U64,
+    Char,
+    String,
+}
+
+#[cycle(types)]
+#[derive(Debug, Drop)]
+enum Shape {
+    Simple(SimpleType),
+    F32,
+    F64,
+    List(Rc<Type>),
+    FixedLengthList(Rc<Type>, u32),
+    Record(Rc<Vec<(String, Type)>>),
+    Tuple(Rc<Vec<Type>>),
+    Variant(Rc<Vec<(String, Option<Type>)>>),
+    Enum(Rc<Vec<String>>),
+    Option(Rc<Type>),
+    Result(Rc<(Option<Type>, Option<Type>)>),
+    Flags(Rc<Vec<String>>),
+    Map(Rc<(Type, Type)>),
+}
+
+/// A type of component values. Its parts are shared by its clones.
+#[cycle(types)]
+#[derive(Debug, Drop)]
+pub struct Type {
+    shape: Shape,
+}
+
+impl Model for Type {
+    ghost use Rattle.wave_wasm.specs.Types.{TypeTree, depth};
+    ghost use Rattle.wave_wasm.specs.TypeTreeCode.{tree_code};
+
+    ghost Value = { TypeTree };
+
+    ghost coded = { tree_code };
+
+    ghost use Rattle.wave_type.specs.TypeView.{shape_tree, IsSoundShape};
+
+    ghost view = { λ t. shape_tree t.shape };
+
+    ghost invariant = { λ t. IsSoundShape t.shape };
+
+    ghost size = { depth };
+
+    ghost use Rattle.wave_type.specs.TypeFalls.{deep_le-depth};
+
+    ghost size_decreases = { λ a h. deep_le-depth a.shape h };
+}
+
+impl Type {
+    /// `bool`.
+    pub const BOOL: Type = Type {
+        shape: Shape::Simple(SimpleType::Bool),
+    };
+
+    /// `s8`.
+    pub const S8: Type = Type {
+        shape: Shape::Simple(SimpleType::S8),
+    };
+
+    /// `s16`.
+    pub const S16: Type = Type {
+        shape: Shape::Simple(SimpleType::S16),
+    };
+
+    /// `s32`.
+    pub const S32: Type = Type {
+        shape: Shape::Simple(SimpleType::S32),
+    };
+
+    /// `s64`.
+    pub const S64: Type = Type {
+        shape: Shape::Simple(SimpleType::S64),
+    };
+
+    /// `u8`.
+    pub const U8: Type = Type {
+        shape: Shape::Simple(SimpleType::U8),
+    };
+
+    /// `u16`.
+    pub const U16: Type = Type {
+        shape: Shape::Simple(SimpleType::U16),
+    };
+
+    /// `u32`.
+    pub const U32: Type = Type {
+        shape: Shape::Simple(SimpleType::U32),
+    };
+
+    /// `u64`.
+    pub const U64: Type = Type {
+        shape: Shape::Simple(SimpleType::U64),
+    };
+
+    /// `f32`, which has no value here.
+    pub const F32: Type = Type { shape: Shape::F32 };
+
+    /// `f64`, which has no value here.
+    pub const F64: Type = Type { shape: Shape::F64 };
+
+    /// `char`.
+    pub const CHAR: Type = Type {
+        shape: Shape::Simple(SimpleType::Char),
+    };
+
+    /// `string`.
+    pub const STRING: Type = Type {
+        shape: Shape::Simple(SimpleType::String),
+    };
+
+    /// The type without parts of this kind; none for a kind of types that have parts, and for
+    /// the unsupported kind.
+    pub fn simple(kind: WasmTypeKind) -> Option<Type>
+        ensures { result ≡ simple_type kind }
+    {
+        match kind {
+            WasmTypeKind::Bool => Some(Type::BOOL),
+            WasmTypeKind::S8 => Some(Type::S8),
+            WasmTypeKind::S16 => Some(Type::S16),
+            WasmTypeKind::S32 => Some(Type::S32),
+            WasmTypeKind::S64 => Some(Type::S64),
+            WasmTypeKind::U8 => Some(Type::U8),
+            WasmTypeKind::U16 => Some(Type::U16),
+            WasmTypeKind::U32 => Some(Type::U32),
+            WasmTypeKind::U64 => Some(Type::U64),
+            WasmTypeKind::F32 => Some(Type::F32),
+            WasmTypeKind::F64 => Some(Type::F64),
+            WasmTypeKind::Char => Some(Type::CHAR),
+            WasmTypeKind::String => Some(Type::STRING),
+            _ => None,
+        }
+    }
+
+    /// The type without parts of this kind. It asks for such a kind.
+    pub fn must_simple(kind: WasmTypeKind) -> Type
+        requires { simple_type kind ≢ None }
+        ensures { Some result ≡ simple_type kind }
+    {
+        match Type::simple(kind) {
+            Some(ty) => ty,
+            None => unreachable!(),
+        }
+    }
+
+    /// The list type of this element type.
+    pub fn list(alloc: Global, element: Type) -> Result<Type, AllocError>
+        ensures { IfOk result (λ t. t ≡ type.list element) }
+    {
+        is_own(&element);
+        Ok(Type {
+            shape: Shape::List(Rc::new(alloc, element)?),
+        })
+    }
+
+    /// The type of lists of so many elements of this type.
+    pub fn fixed_length_list(alloc: Global, element: Type, count: u32) -> Result<Type, AllocError>
+        ensures { IfOk result (λ t. t ≡ type.fixed element count) }
+    {
+        is_own(&element);
+        Ok(Type {
+            shape: Shape::FixedLengthList(Rc::new(alloc, element)?, count),
+        })
+    }
+
+    /// The option type of this payload type.
+    pub fn option(alloc: Global, some: Type) -> Result<Type, AllocError>
+        ensures { IfOk result (λ t. t ≡ type.option some) }
+    {
+        is_own(&some);
+        Ok(Type {
+            shape: Shape::Option(Rc::new(alloc, some)?),
+        })
+    }
+
+    /// The result type of these payload types, where there are such.
+    pub fn result(alloc: Global, ok: Option<Type>, err: Option<Type>) -> Result<Type, AllocError>
+        ensures { IfOk result (λ t. t ≡ type.result (maybe_type ok) (maybe_type err)) }
+    {
+        payload_is_own(&ok);
+        payload_is_own(&err);
+        Ok(Type {
+            shape: Shape::Result(Rc::new(alloc, (ok, err))?),
+        })
+    }
+
+    /// The tuple type of these types; none where there is no type.
+    pub fn tuple(alloc: Global, types: Vec<Type>) -> Result<Option<Type>, AllocError>
+        ensures { IfOk result (λ r. r ≡ tuple_type types.items) }
+    {
+        if types.is_empty() {
+            return Ok(None);
+        }
+        for ty in &types {
+            is_own(ty);
+        }
+        Ok(Some(Type {
+            shape: Shape::Tuple(Rc::new(alloc, types)?),
+        }))
+    }
+
+    /// The record type of these fields, by their names and types; none where there is no field.
+    pub fn record(alloc: Global, fields: Vec<(&str, Type)>) -> Result<Option<Type>, AllocError>
+        ensures { IfOk result (λ r. r ≡ record_type (named fields.entry.items)) }
+    {
+        if fields.is_empty() {
+            return Ok(None);
+        }
+        let mut owned = Vec::new(alloc);
+        for (name, ty) in fields {
+            is_own(&ty);
+            let name = String::from_str(alloc, name)?;
+            owned.push((name, ty))?;
+        }
+        Ok(Some(Type {
+            shape: Shape::Record(Rc::new(alloc, owned)?),
+        }))
+    }
+
+    /// The variant type of these cases, by their names and payload types; none where there is
+    /// no case.
+    pub fn variant(
+        alloc: Global,
+        cases: Vec<(&str, Option<Type>)>,
+    ) -> Result<Option<Type>, AllocError>
+        ensures { IfOk result (λ r. r ≡ variant_type (named cases.entry.items)) }
+    {
+        if cases.is_empty() {
+            return Ok(None);
+        }
+        let mut owned = Vec::new(alloc);
+        for (name, payload) in cases {
+            payload_is_own(&payload);
+            let name = String::from_str(alloc, name)?;
+            owned.push((name, payload))?;
+        }
+        Ok(Some(Type {
+            shape: Shape::Variant(Rc::new(alloc, owned)?),
+        }))
+    }
+
+    /// The enum type of these cases; none where there is no case.
+    pub fn enum_ty(alloc: Global, cases: &[&str]) -> Result<Option<Type>, AllocError>
+        ensures { IfOk result (λ r. r ≡ enum_type (texts cases.now)) }
+    {
+        if cases.is_empty() {
+            return Ok(None);
+        }
+        Ok(Some(Type {
+            shape: Shape::Enum(Rc::new(alloc, owned_names(alloc, cases)?)?),
+        }))
+    }
+
+    /// The type of flags of these names; none where there is no name.
+    pub fn flags(alloc: Global, names: &[&str]) -> Result<Option<Type>, AllocError>
+        ensures { IfOk result (λ r. r ≡ flags_type (texts names.now)) }
+    {
+        if names.is_empty() {
+            return Ok(None);
+        }
+        Ok(Some(Type {
+            shape: Shape::Flags(Rc::new(alloc, owned_names(alloc, names)?)?),
+        }))
+    }
+
+    /// The map type of these key and value types; none where the key type isn't `bool`, a
+    /// whole-number type, `char` or `string`.
+    pub fn map(alloc: Global, key: Type, value: Type) -> Result<Option<Type>, AllocError>
+        ensures { IfOk result (λ r. r ≡ map_type key value) }
+    {
+        if !key.is_simple() {
+            return Ok(None);
+        }
+        is_own(&value);
+        Ok(Some(Type {
+            shape: Shape::Map(Rc::new(alloc, (key, value))?),
+        }))
+    }
+
+    // Whether values of the type are one token.
+    fn is_simple(&self) -> bool
+        ensures { IsTrue result ↔ IsSimple self.now }
+    {
+        match &self.shape {
+            Shape::Simple(_) => true,
+            _ => false,
+        }
+    }
+}
+
+// Says nothing at run time: the payload's type, where there is one, has a tree of a type.
+fn payload_is_own(payload: &Option<Type>)
+    ensures { every_maybe can_be_made (maybe_type payload.now) ≡ true }
+{
+    if let Some(ty) = payload {
+        is_own(ty);
+    }
+}
+
+// Copies of the names, in their order.
+fn owned_names(alloc: Global, names: &[&str]) -> Result<Vec<String>, AllocError>
+    ensures { IfOk result (λ v. map string_bytes v.items ≡ texts names.now) }
+{
+    let mut owned = Vec::new(alloc);
+    for name in names {
+        owned.push(String::from_str(alloc, *name)?)?;
+    }
+    Ok(owned)
+}
+
+impl Clone for Type {
+    ghost is_clone = { λ t u. u ≡ t };
+
+    fn clone(&self) -> Result<Type, AllocError> {
+        let shape = match &self.shape {
+            Shape::Simple(simple) => Shape::Simple(*simple),
+            Shape::F32 => Shape::F32,
+            Shape::F64 => Shape::F64,
+            Shape::List(element) => Shape::List(element.clone()?),
+            Shape::FixedLengthList(element, count) => Shape::FixedLengthList(
+                element.clone()?,
+                *count,
+            ),
+            Shape::Record(fields) => Shape::Record(fields.clone()?),
+            Shape::Tuple(types) => Shape::Tuple(types.clone()?),
+            Shape::Variant(cases) => Shape::Variant(cases.clone()?),
+            Shape::Enum(cases) => Shape::Enum(cases.clone()?),
+            Shape::Option(some) => Shape::Option(some.clone()?),
+            Shape::Result(payloads) => Shape::Result(payloads.clone()?),
+            Shape::Flags(names) => Shape::Flags(names.clone()?),
+            Shape::Map(types) => Shape::Map(types.clone()?),
+        };
+        Ok(Type { shape })
+    }
+}

@@ -1,0 +1,229 @@
+//! The text of a type.
+ghost use Rattle.std.specs.Prelude.{map, string_bytes, ◌++◌, Some};
+ghost use Rattle.std.specs.Fmt.{WritesOnOk, DisplaysOnOk};
+ghost use Rattle.wave_wasm.specs.Types.{types_of, fields_of, cases_of, maybe_type, simple_kind};
+ghost use Rattle.wave_wasm.specs.Commas.{joined, behind_name};
+ghost use Rattle.wave_wasm.specs.TypeText.{kind_word, type_text, type_texts, field_texts, case_texts, payload_text, maybe_text, result_text};
+ghost use Rattle.wave_type.specs.TypeView.{by_bytes, simple_of};
+ghost use Rattle.wave_type.specs.TypeTexts.{IsShownWhole, TypeTextTells};
+
+use super::places::is_own;
+use super::{Shape, SimpleType, Type};
+use std::fmt::{self, Display};
+
+impl fmt::Display for SimpleType {
+    ghost use Rattle.std.specs.Prelude.{Some};
+    ghost use Rattle.wave_wasm.specs.Types.{simple_kind};
+    ghost use Rattle.wave_wasm.specs.TypeText.{kind_word};
+    ghost use Rattle.wave_type.specs.TypeView.{simple_of};
+
+    ghost output = { λ s. Some (kind_word (simple_kind (simple_of s))) };
+
+    fn fmt<W: fmt::Write>(&self, f: &mut fmt::Formatter<W>) -> fmt::Result {
+        let word = match self {
+            SimpleType::Bool => "bool",
+            SimpleType::S8 => "s8",
+            SimpleType::S16 => "s16",
+            SimpleType::S32 => "s32",
+            SimpleType::S64 => "s64",
+            SimpleType::U8 => "u8",
+            SimpleType::U16 => "u16",
+            SimpleType::U32 => "u32",
+            SimpleType::U64 => "u64",
+            SimpleType::Char => "char",
+            SimpleType::String => "string",
+        };
+        write!(f, "{word}")
+    }
+}
+
+impl fmt::Display for Type {
+    ghost use Rattle.std.specs.Prelude.{Some};
+    ghost use Rattle.wave_wasm.specs.TypeText.{type_text};
+
+    ghost output = { λ t. Some (type_text t) };
+
+    fn fmt<W: fmt::Write>(&self, f: &mut fmt::Formatter<W>) -> fmt::Result
+        ensures writes { DisplaysOnOk W.write_str_gives f.old result (Some (type_text self.now)) f.new }
+        ensures apart { IsShownWhole self.now → TypeTextTells self.now }
+    {
+        is_own(self);
+        write_type(f, self)
+    }
+}
+
+// The type.
+#[cycle(text)]
+fn write_type<W: fmt::Write>(f: &mut fmt::Formatter<W>, ty: &Type) -> fmt::Result
+    ensures { WritesOnOk W.write_str_gives f.old result (type_text ty.now) f.new }
+{
+    match &ty.shape {
+        Shape::Simple(simple) => write!(f, "{simple}"),
+        Shape::F32 => write!(f, "f32"),
+        Shape::F64 => write!(f, "f64"),
+        Shape::List(element) => {
+            write!(f, "list<")?;
+            write_type(f, element)?;
+            write!(f, ">")
+        }
+        Shape::FixedLengthList(_, _) => write!(f, "list<_,N>"),
+        Shape::Record(fields) => {
+            write!(f, "record {{ ")?;
+            write_fields(f, fields)?;
+            write!(f, " }}")
+        }
+        Shape::Tuple(types) => {
+            write!(f, "tuple<")?;
+            write_types(f, types)?;
+            write!(f, ">")
+        }
+        Shape::Variant(cases) => {
+            write!(f, "variant {{ ")?;
+            write_cases(f, cases)?;
+            write!(f, " }}")
+        }
+        Shape::Enum(names) => {
+            write!(f, "enum {{ ")?;
+            write_names(f, names)?;
+            write!(f, " }}")
+        }
+        Shape::Option(some) => {
+            write!(f, "option<")?;
+            write_type(f, some)?;
+            write!(f, ">")
+        }
+        Shape::Result(payloads) => write_result(f, &payloads.0, &payloads.1),
+        Shape::Flags(names) => {
+            write!(f, "flags {{ ")?;
+            write_names(f, names)?;
+            write!(f, " }}")
+        }
+        Shape::Map(types) => {
+            write!(f, "map<")?;
+            write_type(f, &types.0)?;
+            write!(f, ", ")?;
+            write_type(f, &types.1)?;
+            write!(f, ">")
+        }
+    }
+}
+
+// The types, with commas between.
+#[cycle(text)]
+fn write_types<W: fmt::Write>(f: &mut fmt::Formatter<W>, types: &Vec<Type>) -> fmt::Result
+    ensures { WritesOnOk W.write_str_gives f.old result (joined (type_texts (types_of types.now.items))) f.new }
+{
+    let mut separator = "";
+    for ty in types.iter() {
+        write!(f, "{separator}")?;
+        write_type(f, ty)?;
+        separator = ", ";
+    }
+    Ok(())
+}
+
+// The fields, with commas between.
+#[cycle(text)]
+fn write_fields<W: fmt::Write>(
+    f: &mut fmt::Formatter<W>,
+    fields: &Vec<(String, Type)>,
+) -> fmt::Result
+    ensures { WritesOnOk W.write_str_gives f.old result (joined (field_texts (fields_of (map by_bytes fields.now.items)))) f.new }
+{
+    let mut separator = "";
+    for field in fields.iter() {
+        write!(f, "{separator}")?;
+        write_field(f, field)?;
+        separator = ", ";
+    }
+    Ok(())
+}
+
+// A field: `name: type`.
+#[cycle(text)]
+fn write_field<W: fmt::Write>(f: &mut fmt::Formatter<W>, field: &(String, Type)) -> fmt::Result
+    ensures { WritesOnOk W.write_str_gives f.old result (behind_name (string_bytes field.now.0) (type_text field.now.1)) f.new }
+{
+    write!(f, "{}: ", field.0.as_str())?;
+    write_type(f, &field.1)
+}
+
+// The cases, with commas between.
+#[cycle(text)]
+fn write_cases<W: fmt::Write>(
+    f: &mut fmt::Formatter<W>,
+    cases: &Vec<(String, Option<Type>)>,
+) -> fmt::Result
+    ensures { WritesOnOk W.write_str_gives f.old result (joined (case_texts (cases_of (map by_bytes cases.now.items)))) f.new }
+{
+    let mut separator = "";
+    for case in cases.iter() {
+        write!(f, "{separator}")?;
+        write_case(f, case)?;
+        separator = ", ";
+    }
+    Ok(())
+}
+
+// A case: `name`, or `name(type)`.
+#[cycle(text)]
+fn write_case<W: fmt::Write>(
+    f: &mut fmt::Formatter<W>,
+    case: &(String, Option<Type>),
+) -> fmt::Result
+    ensures { WritesOnOk W.write_str_gives f.old result (string_bytes case.now.0 ++ payload_text (maybe_type case.now.1)) f.new }
+{
+    write!(f, "{}", case.0.as_str())?;
+    match &case.1 {
+        None => Ok(()),
+        Some(payload) => {
+            write!(f, "(")?;
+            write_type(f, payload)?;
+            write!(f, ")")
+        }
+    }
+}
+
+// A result type with these payload types: `_` stands for a missing first one.
+#[cycle(text)]
+fn write_result<W: fmt::Write>(
+    f: &mut fmt::Formatter<W>,
+    ok: &Option<Type>,
+    err: &Option<Type>,
+) -> fmt::Result
+    ensures { WritesOnOk W.write_str_gives f.old result (result_text (maybe_text (maybe_type ok.now)) (maybe_text (maybe_type err.now))) f.new }
+{
+    match (ok, err) {
+        (None, None) => write!(f, "result"),
+        (Some(ok), None) => {
+            write!(f, "result<")?;
+            write_type(f, ok)?;
+            write!(f, ">")
+        }
+        (None, Some(err)) => {
+            write!(f, "result<_, ")?;
+            write_type(f, err)?;
+            write!(f, ">")
+        }
+        (Some(ok), Some(err)) => {
+            write!(f, "result<")?;
+            write_type(f, ok)?;
+            write!(f, ", ")?;
+            write_type(f, err)?;
+            write!(f, ">")
+        }
+    }
+}
+
+// The names, with commas between.
+fn write_names<W: fmt::Write>(f: &mut fmt::Formatter<W>, names: &Vec<String>) -> fmt::Result
+    ensures { WritesOnOk W.write_str_gives f.old result (joined (map string_bytes names.now.items)) f.new }
+{
+    let mut separator = "";
+    for name in names.iter() {
+        write!(f, "{separator}")?;
+        write!(f, "{}", name.as_str())?;
+        separator = ", ";
+    }
+    Ok(())
+}

@@ -1,0 +1,154 @@
+//! What a type answers about itself.
+ghost use Rattle.std.specs.Prelude.{◌≡◌, IfOk, map, string_bytes};
+ghost use Rattle.wave_wasm.specs.Shown.{texts, shown_all, shown_fields, shown_cases};
+ghost use Rattle.wave_type.specs.TypeView.{by_bytes};
+
+use super::{Shape, SimpleType, Type};
+use std::alloc::{AllocError, Global};
+use wave_wasm::wasm::{WasmType, WasmTypeKind};
+
+#[tactic(auto, using(crate::proofs::TypeLists::families))]
+impl WasmType for Type {
+    ghost tree = { λ t. t };
+
+    fn kind(&self) -> WasmTypeKind {
+        match &self.shape {
+            Shape::Simple(SimpleType::Bool) => WasmTypeKind::Bool,
+            Shape::Simple(SimpleType::S8) => WasmTypeKind::S8,
+            Shape::Simple(SimpleType::S16) => WasmTypeKind::S16,
+            Shape::Simple(SimpleType::S32) => WasmTypeKind::S32,
+            Shape::Simple(SimpleType::S64) => WasmTypeKind::S64,
+            Shape::Simple(SimpleType::U8) => WasmTypeKind::U8,
+            Shape::Simple(SimpleType::U16) => WasmTypeKind::U16,
+            Shape::Simple(SimpleType::U32) => WasmTypeKind::U32,
+            Shape::Simple(SimpleType::U64) => WasmTypeKind::U64,
+            Shape::Simple(SimpleType::Char) => WasmTypeKind::Char,
+            Shape::Simple(SimpleType::String) => WasmTypeKind::String,
+            Shape::F32 => WasmTypeKind::F32,
+            Shape::F64 => WasmTypeKind::F64,
+            Shape::List(_) => WasmTypeKind::List,
+            Shape::FixedLengthList(_, _) => WasmTypeKind::FixedLengthList,
+            Shape::Record(_) => WasmTypeKind::Record,
+            Shape::Tuple(_) => WasmTypeKind::Tuple,
+            Shape::Variant(_) => WasmTypeKind::Variant,
+            Shape::Enum(_) => WasmTypeKind::Enum,
+            Shape::Option(_) => WasmTypeKind::Option,
+            Shape::Result(_) => WasmTypeKind::Result,
+            Shape::Flags(_) => WasmTypeKind::Flags,
+            Shape::Map(_) => WasmTypeKind::Map,
+        }
+    }
+
+    fn list_element_type(&self) -> Option<&Type> {
+        match &self.shape {
+            Shape::List(element) => Some(&**element),
+            _ => None,
+        }
+    }
+
+    fn record_fields(&self, alloc: Global) -> Result<Vec<(&str, &Type)>, AllocError> {
+        match &self.shape {
+            Shape::Record(fields) => borrowed_fields(alloc, fields),
+            _ => Ok(Vec::new(alloc)),
+        }
+    }
+
+    fn tuple_element_types(&self, alloc: Global) -> Result<Vec<&Type>, AllocError> {
+        match &self.shape {
+            Shape::Tuple(types) => borrowed_types(alloc, types),
+            _ => Ok(Vec::new(alloc)),
+        }
+    }
+
+    fn variant_cases(&self, alloc: Global) -> Result<Vec<(&str, Option<&Type>)>, AllocError> {
+        match &self.shape {
+            Shape::Variant(cases) => borrowed_cases(alloc, cases),
+            _ => Ok(Vec::new(alloc)),
+        }
+    }
+
+    fn enum_cases(&self, alloc: Global) -> Result<Vec<&str>, AllocError> {
+        match &self.shape {
+            Shape::Enum(names) => borrowed_names(alloc, names),
+            _ => Ok(Vec::new(alloc)),
+        }
+    }
+
+    fn option_some_type(&self) -> Option<&Type> {
+        match &self.shape {
+            Shape::Option(some) => Some(&**some),
+            _ => None,
+        }
+    }
+
+    fn result_types(&self) -> Option<(Option<&Type>, Option<&Type>)> {
+        match &self.shape {
+            Shape::Result(payloads) => Some((payloads.0.as_ref(), payloads.1.as_ref())),
+            _ => None,
+        }
+    }
+
+    fn flags_names(&self, alloc: Global) -> Result<Vec<&str>, AllocError> {
+        match &self.shape {
+            Shape::Flags(names) => borrowed_names(alloc, names),
+            _ => Ok(Vec::new(alloc)),
+        }
+    }
+
+    fn map_key_value_types(&self) -> Option<(&Type, &Type)> {
+        match &self.shape {
+            Shape::Map(types) => Some((&types.0, &types.1)),
+            _ => None,
+        }
+    }
+}
+
+// The names as texts, in their order.
+fn borrowed_names(alloc: Global, names: &Vec<String>) -> Result<Vec<&str>, AllocError>
+    ensures { IfOk result (λ v. texts v.items ≡ map string_bytes names.now.items) }
+{
+    let mut answer = Vec::new(alloc);
+    for name in names {
+        answer.push(name.as_str())?;
+    }
+    Ok(answer)
+}
+
+// The fields by their names and types, in their order.
+fn borrowed_fields(
+    alloc: Global,
+    fields: &Vec<(String, Type)>,
+) -> Result<Vec<(&str, &Type)>, AllocError>
+    ensures { IfOk result (λ v. shown_fields (λ t. t) v.items ≡ map by_bytes fields.now.items) }
+{
+    let mut answer = Vec::new(alloc);
+    for field in fields {
+        answer.push((field.0.as_str(), &field.1))?;
+    }
+    Ok(answer)
+}
+
+// The types, in their order.
+fn borrowed_types(alloc: Global, types: &Vec<Type>) -> Result<Vec<&Type>, AllocError>
+    ensures { IfOk result (λ v. shown_all (λ t. t) v.items ≡ types.now.items) }
+{
+    let mut answer = Vec::new(alloc);
+    for ty in types {
+        answer.push(ty)?;
+    }
+    Ok(answer)
+}
+
+// The cases by their names and payload types, in their order.
+fn borrowed_cases(
+    alloc: Global,
+    cases: &Vec<(String, Option<Type>)>,
+) -> Result<Vec<(&str, Option<&Type>)>, AllocError>
+    ensures { IfOk result (λ v. shown_cases (λ t. t) v.items ≡ map by_bytes cases.now.items) }
+{
+    let mut answer = Vec::new(alloc);
+    for case in cases {
+        answer.push((case.0.as_str(), case.1.as_ref()))?;
+    }
+    Ok(answer)
+}

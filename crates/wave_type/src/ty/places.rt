@@ -1,0 +1,162 @@
+//! What the values of a type ask of it: places of names, names at places, and parts.
+ghost use Rattle.std.specs.Prelude.{◌≡◌, None, [], get_or, map, option_map, string_bytes};
+ghost use Rattle.std.specs.Str.{bytes_eq};
+ghost use Rattle.std.specs.List.{position};
+ghost use Rattle.wave_wasm.specs.Types.{IsOwn, types_of, fields_of, record_parts, variant_parts, enum_names, flags_names};
+ghost use Rattle.wave_wasm.specs.Shown.{shown_case};
+ghost use Rattle.wave_type.specs.TypeView.{by_bytes, tuple_part, record_part};
+
+use super::{Shape, Type};
+
+/// Says nothing at run time: the tree of each type is one that a type can have.
+pub fn is_own(ty: &Type)
+    ensures { IsOwn ty.now }
+{
+    let _ = &ty.shape;
+}
+
+/// Where the case of this name stands in an enum.
+#[tactic(auto, using(crate::proofs::TypeLists::families))]
+pub fn enum_place(ty: &Type, name: &str) -> Option<usize>
+    ensures { result ≡ position (λ n. bytes_eq name.now n) (enum_names ty.now) }
+{
+    match &ty.shape {
+        Shape::Enum(names) => place_in(&**names, name),
+        _ => None,
+    }
+}
+
+/// The name of the case at this place of an enum.
+#[tactic(auto, using(crate::proofs::TypeLists::families))]
+pub fn enum_name(ty: &Type, place: usize) -> &str
+    ensures { result.now ≡ get_or (enum_names ty.now) place [] }
+{
+    match &ty.shape {
+        Shape::Enum(names) => name_in(&**names, place),
+        _ => "",
+    }
+}
+
+/// The name of the flag at this place.
+#[tactic(auto, using(crate::proofs::TypeLists::families))]
+pub fn flag_name(ty: &Type, place: usize) -> &str
+    ensures { result.now ≡ get_or (flags_names ty.now) place [] }
+{
+    match &ty.shape {
+        Shape::Flags(names) => name_in(&**names, place),
+        _ => "",
+    }
+}
+
+/// Where the first case of this name stands in a variant.
+#[tactic(auto, using(crate::proofs::TypeLists::families))]
+pub fn variant_place(ty: &Type, name: &str) -> Option<usize>
+    ensures { result ≡ position (λ c. bytes_eq name.now c.0) (variant_parts ty.now) }
+{
+    match &ty.shape {
+        Shape::Variant(cases) => case_place(&**cases, name),
+        _ => None,
+    }
+}
+
+/// The name of the case at this place of a variant.
+#[tactic(auto, using(crate::proofs::TypeLists::families))]
+pub fn variant_name(ty: &Type, place: usize) -> &str
+    ensures { result.now ≡ get_or (map (λ c. c.0) (variant_parts ty.now)) place [] }
+{
+    match &ty.shape {
+        Shape::Variant(cases) => part_name(&**cases, place),
+        _ => "",
+    }
+}
+
+/// The name of the field at this place of a record.
+#[tactic(auto, using(crate::proofs::TypeLists::families))]
+pub fn field_name(ty: &Type, place: usize) -> &str
+    ensures { result.now ≡ get_or (map (λ f. f.0) (record_parts ty.now)) place [] }
+{
+    match &ty.shape {
+        Shape::Record(fields) => part_name(&**fields, place),
+        _ => "",
+    }
+}
+
+/// The name and the payload type of the case at this place of a variant.
+#[tactic(auto, using(crate::proofs::TypeLists::families))]
+pub fn variant_case(ty: &Type, place: usize) -> (&str, Option<&Type>)
+    ensures { shown_case (λ t. t) result ≡ get_or (variant_parts ty.now) place ([], None) }
+{
+    match &ty.shape {
+        Shape::Variant(cases) => case_in(&**cases, place),
+        _ => ("", None),
+    }
+}
+
+/// The types of a tuple.
+#[tactic(auto, using(crate::proofs::TypeLists::families))]
+pub fn tuple_types(ty: &Type) -> Option<&Vec<Type>>
+    ensures { option_map (λ ts. types_of ts.now.items) result ≡ tuple_part ty.now }
+{
+    match &ty.shape {
+        Shape::Tuple(types) => Some(&**types),
+        _ => None,
+    }
+}
+
+/// The names and types of a record's fields.
+#[tactic(auto, using(crate::proofs::TypeLists::families))]
+pub fn named_types(ty: &Type) -> Option<&Vec<(String, Type)>>
+    ensures { option_map (λ fs. fields_of (map by_bytes fs.now.items)) result ≡ record_part ty.now }
+{
+    match &ty.shape {
+        Shape::Record(fields) => Some(&**fields),
+        _ => None,
+    }
+}
+
+// Where the name stands first.
+fn place_in(names: &Vec<String>, name: &str) -> Option<usize>
+    ensures { result ≡ position (λ n. bytes_eq name.now (string_bytes n)) names.now.items }
+{
+    names.iter().position(|n| name == n.as_str())
+}
+
+// The name at the place, and no text past the end.
+fn name_in(names: &Vec<String>, place: usize) -> &str
+    ensures { result.now ≡ get_or (map string_bytes names.now.items) place [] }
+{
+    if place >= names.len() {
+        return "";
+    }
+    let name = &names[place];
+    name.as_str()
+}
+
+// The name of the field or case at the place, and no text past the end.
+fn part_name<A>(parts: &Vec<(String, A)>, place: usize) -> &str
+    ensures { result.now ≡ get_or (map (λ p. p.0) (map by_bytes parts.now.items)) place [] }
+{
+    if place >= parts.len() {
+        return "";
+    }
+    let part = &parts[place];
+    part.0.as_str()
+}
+
+// Where the name stands first among the cases.
+fn case_place(cases: &Vec<(String, Option<Type>)>, name: &str) -> Option<usize>
+    ensures { result ≡ position (λ c. bytes_eq name.now (string_bytes c.0)) cases.now.items }
+{
+    cases.iter().position(|c| name == c.0.as_str())
+}
+
+// The case at the place, and none past the end.
+fn case_in(cases: &Vec<(String, Option<Type>)>, place: usize) -> (&str, Option<&Type>)
+    ensures { shown_case (λ t. t) result ≡ get_or (map by_bytes cases.now.items) place ([], None) }
+{
+    if place >= cases.len() {
+        return ("", None);
+    }
+    let case = &cases[place];
+    (case.0.as_str(), case.1.as_ref())
+}

@@ -1,0 +1,15 @@
+pub mod Lawful
+pub mod LawfulCases
+pub mod SameValue
+pub mod ValueDepths
+pub mod ValueMeans
+pub mod SameContent
+pub mod ValueLists
+pub mod Made
+pub mod MadeCases
+pub mod MadeFlags
+pub mod MadeMap
+pub mod MadeTuple
+pub mod MadeResult
+pub mod MadeRecord
+pub mod LawfulRecord

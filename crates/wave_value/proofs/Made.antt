@@ -1,0 +1,163 @@
+-- What the makers of values with parts make and refuse.
+use Rattle.std.proofs.Common.{ℕ, zero, suc, ◌≡◌, ◌<◌, ◌≤◌, ◌+◌, Bool, true, false, List, [], ◌∷◌, length, take, get_or, refl, sym, ap, subst, ◌∙◌, arith, inl, inr, Option, Some, None, cond, nat_lt}
+use Rattle.std.proofs.lemmas.Bool.Decides.{nat_tests}
+use Rattle.std.specs.List.{position, position_or_len}
+use Rattle.std.specs.Prelude.{not, string_bytes}
+use Rattle.std.specs.Str.{bytes_eq}
+use Rattle.std.proofs.lemmas.Bool.{false≢true}
+use Rattle.std.proofs.Math.Numerals.{add-one}
+use Rattle.std.proofs.lemmas.List.{take_all}
+use Rattle.std.proofs.lemmas.List.Quantifiers.{position-Some}
+use Rattle.std.proofs.lemmas.Slice.Eq.{bytes_eq-Decides}
+use Rattle.wave_wasm.specs.Lists.{SomeOf}
+use Rattle.wave_wasm.specs.Names.{IsOneOf}
+use Rattle.wave_wasm.specs.Types as type
+use Rattle.wave_wasm.specs.Types.{TypeTree, list_part, option_part, kind_of, enum_names}
+use Rattle.wave_wasm.specs.Values as value
+use Rattle.wave_wasm.specs.Values.{Value, values}
+use Rattle.wave_wasm.specs.HasType.{HasType}
+use Rattle.wave_wasm.specs.declared.wasm.WasmTypeKind.{WasmTypeKind}
+use Rattle.wave_wasm.specs.declared.wasm.WasmTypeKind.TheVariants as kinds
+use Rattle.wave_wasm.specs.declared.wasm.WasmValueError.{WasmValueError}
+use Rattle.wave_wasm.specs.declared.wasm.WasmValueError.TheVariants as error
+use Rattle.wave_type.specs.SameType.{same_tree}
+use Rattle.wave_type.specs.SameTypeLaws.{one_tree, same_itself}
+use Rattle.wave_value.specs.declared.value.Content.{Content}
+use Rattle.wave_value.specs.TypedValue.{TypedValue, IsAt}
+use Rattle.wave_value.specs.ValueView.{name_at, trees, content_tree, AllAt, Fits}
+use Rattle.wave_value.specs.Taken.{Made, Tells, AllOwn, TakesList, TakesEnum, TellsOther, list_stated, option_stated, RefusesParts, RefusesEnum, SaysType, SaysCase}
+use Rattle.wave_value.proofs.ValueMeans.{means, list_value, one_of}
+
+-- a test of the own type
+pub tells : (b : Bool) (own T : TypeTree) (c : Content) → b ≡ same_tree own T → Fits own c → Tells b T (record { own = own; tree = content_tree own c })
+tells true own T c e h =
+    let same : own ≡ T = one_tree own T (sym e) in
+    record { own = same; fits = subst (λ U. HasType U (content_tree own c)) same (means own c h) }
+tells false own T c e h = λ same. absurd (false≢true (e ∙ subst (λ U. same_tree own U ≡ true) same (same_itself own)))
+
+pub is_at : (b : Bool) (T : TypeTree) (v : TypedValue) → b ≡ true → Tells b T v → IsAt T v
+is_at b T v e h = subst (λ b. Tells b T v) e h
+
+pub not_at : (b : Bool) (T : TypeTree) (v : TypedValue) → b ≡ false → Tells b T v → v.own ≡ T → ⊥
+not_at b T v e h = subst (λ b. Tells b T v) e h
+
+-- ---- a component of another type than the stated one
+
+pub some_so : (P : TypeTree × TypedValue → Type 0) (q : TypeTree × TypedValue) (stated : List (TypeTree × TypedValue)) → SomeOf (λ p. q ≡ p) stated → P q → SomeOf P stated
+some_so P q [] one h = absurd one
+some_so P q (p ∷ ps) (inl e) h = inl (subst P e h)
+some_so P q (p ∷ ps) (inr one) h = inr (some_so P q ps one h)
+
+pub tells_so : (words : TypedValue → List ℕ) (kind : WasmTypeKind) (T : TypeTree) (stated : List (TypeTree × TypedValue)) (U : TypeTree) (v : TypedValue) (e : WasmValueError) → kind_of T ≡ kind → SomeOf (λ p. (U, v) ≡ p) stated → (v.own ≡ U → ⊥) → SaysType words U v e → RefusesParts words kind T stated e
+tells_so words kind T stated U v (error.WrongValueType t s) is one other says =
+    (is, some_so (λ p. TellsOther words (string_bytes t) (string_bytes s) p.0 p.1) (U, v) stated one (other, says.0, says.1))
+tells_so words kind T stated U v (error.Memory r) is one other says = tt
+tells_so words kind T stated U v _ is one other says = absurd says
+
+-- ---- lists
+
+abbrev or_else : Option TypeTree → TypeTree → TypeTree
+or_else None T = T
+or_else (Some U) T = U
+
+all_own : (E : TypeTree) (vs : List TypedValue) → AllAt E vs → AllOwn E vs
+all_own E [] h = tt
+all_own E (v ∷ vs) h = (h.0.own, all_own E vs h.1)
+
+item_stated : (E : TypeTree) (vs : List TypedValue) (i : ℕ) (v : TypedValue) → i < length vs → v ≡ get_or vs i v → SomeOf (λ p. (E, v) ≡ p) (list_stated (type.list E) vs)
+item_stated E [] i v lt is = absurd (omega (arith, lt))
+item_stated E (w ∷ vs) zero v lt is = inl (λ j. (E, is j))
+item_stated E (w ∷ vs) (suc i) v lt is = inr (item_stated E vs i v (omega (arith, lt)) is)
+
+-- a type with an element type is a list's
+pub list_is : (T E : TypeTree) → Some E ≡ list_part T → T ≡ type.list E
+list_is (type.list U) E e = ap type.list (ap (λ o. or_else o U) (sym e))
+list_is _ E e = absurd (cc)
+
+pub list_taken : (T E : TypeTree) (vs : List TypedValue) → T ≡ type.list E → AllAt E vs → TakesList T vs
+list_taken T E vs is h = subst (λ U. TakesList U vs) (sym is) (all_own E vs h)
+
+pub list_made : (T E : TypeTree) (vs : List TypedValue) → T ≡ type.list E → AllAt E vs → HasType T (value.list (values (trees vs)))
+list_made T E vs is h = subst (λ U. HasType U (value.list (values (trees vs)))) (sym is) (list_value (type.list E) vs h)
+
+pub list_refused : (words : TypedValue → List ℕ) (T E : TypeTree) (xs vs : List TypedValue) (i : ℕ) (v : TypedValue) (e : WasmValueError) → T ≡ type.list E → xs ≡ vs → i < length xs → v ≡ get_or xs i v → (v.own ≡ E → ⊥) → SaysType words E v e → RefusesParts words kinds.List T (list_stated T vs) e
+list_refused words T E xs vs i v e is same lt at other says =
+    let one = subst (λ zs. SomeOf (λ p. (E, v) ≡ p) (list_stated (type.list E) zs)) same (item_stated E xs i v lt at) in
+    subst (λ U. RefusesParts words kinds.List U (list_stated U vs) e) (sym is) (tells_so words kinds.List (type.list E) (list_stated (type.list E) vs) E v e refl one other says)
+
+-- ---- options
+
+option_is : (T P : TypeTree) → Some P ≡ option_part T → T ≡ type.option P
+option_is (type.option U) P e = ap type.option (ap (λ o. or_else o U) (sym e))
+option_is _ P e = absurd (cc)
+
+pub option_refused : (words : TypedValue → List ℕ) (T P : TypeTree) (v : TypedValue) (e : WasmValueError) → Some P ≡ option_part T → (v.own ≡ P → ⊥) → SaysType words P v e → RefusesParts words kinds.Option T (option_stated T (Some v)) e
+option_refused words T P v e is other says =
+    subst (λ U. RefusesParts words kinds.Option U (option_stated U (Some v)) e) (sym (option_is T P is)) (tells_so words kinds.Option (type.option P) ((P, v) ∷ []) P v e refl (inl refl) other says)
+
+-- ---- enums
+
+name_there : (n : List ℕ) (ns : List (List ℕ)) (i : ℕ) → Some i ≡ position (λ m. bytes_eq n m) ns → (i < length ns) × (name_at ns i ≡ n)
+name_there n ns i e = let p = position-Some (λ m. bytes_eq n m) ns i [] (sym e) in (p.0, sym ((bytes_eq-Decides n (name_at ns i)).0 p.1))
+
+pub enum_taken : (T : TypeTree) (n : List ℕ) (i : ℕ) → Some i ≡ position (λ m. bytes_eq n m) (enum_names T) → TakesEnum T n
+enum_taken (type.enum ns) n i e = let p = name_there n ns i e in subst (IsOneOf ns) p.1 (one_of ns i p.0)
+enum_taken _ n i e = absurd (omega (arith, (name_there n [] i e).0))
+
+enum_has : (T : TypeTree) (n : List ℕ) → TakesEnum T n → HasType T (value.enum n)
+enum_has (type.enum ns) n h = (n, h, refl)
+enum_has _ n h = absurd h
+
+pub enum_made : (T own : TypeTree) (n : List ℕ) (i : ℕ) → own ≡ T → Some i ≡ position (λ m. bytes_eq n m) (enum_names T) → Made (value.enum n) T (record { own = own; tree = value.enum (name_at (enum_names own) i) })
+enum_made T own n i same e = record {
+  own = same;
+  tree = ap (λ U. value.enum (name_at (enum_names U) i)) same ∙ ap value.enum (name_there n (enum_names T) i e).1;
+  fits = enum_has T n (enum_taken T n i e);
+}
+
+below_step : (b : Bool) (k l : ℕ) → k < l → cond b 0 (1 + k) < suc l
+below_step true k l h = omega arith
+below_step false k l h = omega (arith, h)
+
+first_step : (p : List ℕ → Bool) (m : List ℕ) (ns : List (List ℕ)) → position_or_len p (m ∷ ns) ≡ cond (p m) 0 (1 + position_or_len p ns)
+first_step p m ns = head_step (p m) (position_or_len p ns)
+  where
+    head_step : (b : Bool) (k : ℕ) → cond (not b) (1 + k) 0 ≡ cond b 0 (1 + k)
+    head_step true k = refl
+    head_step false k = refl
+
+first_below : (p : List ℕ → Bool) (ns : List (List ℕ)) (n : List ℕ) → IsOneOf ns n → p n ≡ true → position_or_len p ns < length ns
+first_below p [] n h e = absurd h
+first_below p (m ∷ ns) n (inl is) e =
+    rw first_step (subst (λ b. cond b 0 (1 + position_or_len p ns) < suc (length ns)) (sym (subst (λ k. p k ≡ true) is e)) (omega arith))
+first_below p (m ∷ ns) n (inr h) e = rw first_step (below_step (p m) (position_or_len p ns) (length ns) (first_below p ns n h e))
+
+-- a case of the type has a place
+pub has_place : (T : TypeTree) (n : List ℕ) → None ≡ position (λ m. bytes_eq n m) (enum_names T) → TakesEnum T n → ⊥
+has_place (type.enum ns) n e h =
+    let lt = first_below (λ m. bytes_eq n m) ns n h ((bytes_eq-Decides n n).1 refl) in
+    let found : nat_lt (position_or_len (λ m. bytes_eq n m) ns) (length ns) ≡ true = grind (arith, nat_tests) in
+    no_some _ (e ∙ ap (λ b. cond b (Some (position_or_len (λ m. bytes_eq n m) ns)) None) found)
+  where
+    no_some : (k : ℕ) → None ≡ Some k → ⊥
+    no_some k e = cc
+has_place _ n e h = absurd h
+
+-- the refusal of an unknown case
+pub enum_refused : (T : TypeTree) (n : List ℕ) (e : WasmValueError) → kinds.Enum ≡ kind_of T → None ≡ position (λ m. bytes_eq n m) (enum_names T) → SaysCase n e → RefusesEnum T n e
+enum_refused T n (error.UnknownCase m) is none says = (sym is, says, has_place T n none)
+enum_refused T n (error.Memory r) is none says = tt
+enum_refused T n _ is none says = absurd says
+
+all_next : (E : TypeTree) (vs : List TypedValue) (i : ℕ) (v : TypedValue) → i < length vs → v ≡ get_or vs i v → IsAt E v → AllAt E (take i vs) → AllAt E (take (suc i) vs)
+all_next E [] i v lt is at h = absurd (omega (arith, lt))
+all_next E (w ∷ vs) zero v lt is at h = (subst (IsAt E) is at, tt)
+all_next E (w ∷ vs) (suc i) v lt is at h = (h.0, all_next E vs i v (omega (arith, lt)) is at h.1)
+
+-- one more value is at the type
+pub all_more : (E : TypeTree) (vs : List TypedValue) (i : ℕ) (v : TypedValue) → i < length vs → v ≡ get_or vs i v → IsAt E v → AllAt E (take i vs) → AllAt E (take (i + 1) vs)
+all_more E vs i v lt is at h = rw add-one (all_next E vs i v lt is at h)
+
+-- all values are, at the end of the loop
+pub all_at : (E : TypeTree) (xs vs : List TypedValue) (i : ℕ) → xs ≡ vs → length xs ≤ i → AllAt E (take i xs) → AllAt E vs
+all_at E xs vs i same le h = subst (AllAt E) (take_all i xs le ∙ same) h

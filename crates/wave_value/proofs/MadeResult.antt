@@ -1,0 +1,17 @@
+-- What the maker of results refuses.
+use Rattle.std.proofs.Common.{ℕ, ◌≡◌, List, Option, Some, None}
+use Rattle.std.specs.Borrow.{Bor}
+use Rattle.wave_wasm.specs.Shown.{shown}
+use Rattle.wave_wasm.specs.Types.{TypeTree}
+use Rattle.wave_wasm.specs.declared.wasm.WasmValueError.{WasmValueError}
+use Rattle.wave_wasm.specs.declared.wasm.WasmValueError.TheVariants as error
+use Rattle.wave_value.specs.TypedValue.{TypedValue}
+use Rattle.wave_value.specs.Taken.{RefusesPayload, SaysUnexpected}
+
+-- a payload at a case without one
+pub unexpected_refused : (words : TypedValue → List ℕ) (n : List ℕ) (P : Option (Bor TypeTree)) (p : Option TypedValue) (v : TypedValue) (e : WasmValueError) → P ≡ None → p ≡ Some v → SaysUnexpected n e → RefusesPayload words n (shown (λ t. t) P) p e
+unexpected_refused words n (Some T) p v e none some says = absurd (cc)
+unexpected_refused words n None None v e none some says = absurd (cc)
+unexpected_refused words n None (Some w) v (error.UnexpectedPayload m) none some says = (says, tt)
+unexpected_refused words n None (Some w) v (error.Memory m) none some says = tt
+unexpected_refused words n None (Some w) v _ none some says = absurd says

@@ -1,0 +1,8 @@
+use Rattle.std.proofs.Common.{subst}
+use Rattle.wave_value.specs.Taken.{Tells}
+use Rattle.wave_value.proofs.Made.{tells}
+use Rattle.wave_value.proofs.value.Value.is_at.Goals as goal
+
+pub returns : goal.returns
+returns c =
+    subst (Tells c.eq.result c.args.ty.now) c.self.view_is (tells c.eq.result c.self.inside.own c.args.ty.now c.self.inside.content c.eq.ensures c.self.invariant)

@@ -1,0 +1,12 @@
+use Rattle.wave_value.proofs.Made.{enum_made, enum_taken, enum_refused}
+use Rattle.wave_value.proofs.value.Value.make_enum.Goals as goal
+
+pub returns-in_ok-clone-in-Some-clause-made : goal.returns-in_ok-clone-in-Some-clause-made
+returns-in_ok-clone-in-Some-clause-made c =
+    enum_made _ _ _ c.in-Some.place c.in_ok-clone-in-Some.ensures.cases c.in-Some.ensures
+
+pub returns-in_ok-clone-in-Some-clause-taken : goal.returns-in_ok-clone-in-Some-clause-taken
+returns-in_ok-clone-in-Some-clause-taken c = enum_taken _ _ c.in-Some.place c.in-Some.ensures
+
+pub returns-in-None-clause-refused : goal.returns-in-None-clause-refused
+returns-in-None-clause-refused c = enum_refused _ _ _ c.in-Enum.ensures c.in-None.ensures c.unknown_case.ensures

@@ -1,0 +1,6 @@
+use Rattle.wave_wasm.specs.Shown.{texts}
+use Rattle.wave_value.proofs.MadeFlags.{PlacesSoFar}
+use Rattle.wave_value.proofs.value.made.cases.places_of.Given as goal
+
+abbrev pub invariant-loop-i : goal.invariant-loop-i
+invariant-loop-i l = PlacesSoFar (texts l.fn.names) l.all l.i l.places.items

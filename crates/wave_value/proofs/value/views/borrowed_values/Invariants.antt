@@ -1,0 +1,7 @@
+use Rattle.std.proofs.Common.{◌≡◌, take}
+use Rattle.wave_wasm.specs.Shown.{shown_all}
+use Rattle.wave_value.specs.ValueView.{trees}
+use Rattle.wave_value.proofs.value.views.borrowed_values.Given as goal
+
+abbrev pub invariant-loop-value : goal.invariant-loop-value
+invariant-loop-value l = shown_all (λ w. w.tree) l.answer.items ≡ trees (take l.value-index l.values.items)

@@ -1,0 +1,13 @@
+use Rattle.std.proofs.lemmas.Result.{IfErr-weaker}
+use Rattle.wave_wasm.specs.Makers.{FullRecord}
+use Rattle.wave_wasm.specs.Shown.{named}
+use Rattle.wave_value.specs.Built.{IsFull}
+use Rattle.wave_value.specs.Handed.{RefusesRecord}
+use Rattle.wave_value.specs.Taken.{own_text}
+use Rattle.wave_value.specs.TypedValue.{IsAt}
+use Rattle.wave_value.proofs.LawfulRecord.{full_record}
+use Rattle.wave_value.proofs.value.wasm_value.ValueWasmValue.make_record.Goals as goal
+
+pub returns-clause-full : goal.returns-clause-full
+returns-clause-full c =
+    IfErr-weaker c.record_of.result (RefusesRecord own_text c.args.ty.now (named c.args.fields.items)) (FullRecord (λ v T. IsAt T v) IsFull c.args.ty.now c.args.fields.items) (λ e r. full_record own_text c.args.ty.now c.args.fields.items e r) c.record_of.ensures.refused

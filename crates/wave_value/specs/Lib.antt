@@ -1,0 +1,10 @@
+pub mod TypedValue
+pub mod ValueCode
+pub mod SameValue
+pub mod ValueView
+pub mod ValueFalls
+pub mod Taken
+pub mod Handed
+pub mod TakenCases
+pub mod SameContent
+pub mod Built

@@ -1,0 +1,5 @@
+//! Values of component types.
+#![tactic(auto)]
+
+pub mod laws;
+pub mod value;

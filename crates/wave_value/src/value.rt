@@ -1,0 +1,481 @@
+//! Values of component types.
+ghost use Rattle.std.specs.Prelude.{◌≡◌, IfOk, IfErr, pos};
+ghost use Rattle.wave_wasm.specs.Types as type;
+ghost use Rattle.wave_wasm.specs.Types.{IsOwn, simple_kind};
+ghost use Rattle.wave_wasm.specs.Values as value;
+ghost use Rattle.wave_wasm.specs.Values.{kind_of, leaf_type, IsSound};
+ghost use Rattle.wave_wasm.specs.Makers.{IsMemory};
+ghost use Rattle.wave_value.specs.ValueView.{scalar_leaf, boxed, IsAsGood};
+ghost use Rattle.wave_value.specs.TypedValue.{MakesOnly, IsTyped, typed_leaf};
+
+use std::alloc::{AllocError, Global};
+use std::boxed::Box;
+use std::marker::Model;
+use wave_type::ty::Type;
+use wave_type::ty::places::is_own;
+use wave_wasm::wasm::{WasmTypeKind, WasmValueError};
+
+mod equality;
+mod made;
+mod makers;
+mod refusals;
+mod views;
+mod wasm_value;
+
+// A value of one token.
+#[derive(Debug, Drop)]
+enum Scalar {
+    Bool(bool),
+    S8(i8),
+    S16(i16),
+    S32(i32),
+    S64(i64),
+    U8(u8),
+    U16(u16),
+    U32(u32),
+    U64(u64),
+    Char(char),
+    String(String),
+}
+
+// What a value is made of, beside its type: cases and flags are places in the type.
+#[cycle(values)]
+#[derive(Debug, Drop)]
+enum Content {
+    Scalar(Scalar),
+    List(Vec<Value>),
+    Record(Vec<Value>),
+    Tuple(Vec<Value>),
+    Variant(usize, Option<Box<Value>>),
+    Enum(usize),
+    Option(Option<Box<Value>>),
+    Ok(Option<Box<Value>>),
+    Err(Option<Box<Value>>),
+    Flags(Vec<usize>),
+    Map(Vec<(Value, Value)>),
+}
+
+/// A value of a component type. It has a type as its own, whose parts it shares.
+#[cycle(values)]
+#[derive(Debug, Drop)]
+pub struct Value {
+    own: Type,
+    content: Content,
+}
+
+impl Model for Value {
+    ghost use Rattle.wave_wasm.specs.Values.{depth};
+    ghost use Rattle.wave_value.specs.TypedValue.{TypedValue};
+    ghost use Rattle.wave_value.specs.ValueCode.{typed_code};
+
+    ghost Value = { TypedValue };
+
+    ghost coded = { typed_code };
+
+    ghost use Rattle.wave_value.specs.ValueView.{content_tree, Fits};
+
+    ghost view = { λ v. record { own = v.own; tree = content_tree v.own v.content } };
+
+    ghost invariant = { λ v. Fits v.own v.content };
+
+    ghost size = { λ v. depth v.tree };
+
+    ghost use Rattle.wave_value.specs.ValueFalls.{deep_le-depth};
+
+    ghost size_decreases = { λ a h. deep_le-depth a.own a.content h };
+}
+
+impl Value {
+    /// The kind of the value.
+    pub fn kind(&self) -> WasmTypeKind
+        ensures { result ≡ kind_of self.now.tree }
+    {
+        match &self.content {
+            Content::Scalar(one) => scalar_kind(one),
+            Content::List(_) => WasmTypeKind::List,
+            Content::Record(_) => WasmTypeKind::Record,
+            Content::Tuple(_) => WasmTypeKind::Tuple,
+            Content::Variant(_, _) => WasmTypeKind::Variant,
+            Content::Enum(_) => WasmTypeKind::Enum,
+            Content::Option(_) => WasmTypeKind::Option,
+            Content::Ok(_) => WasmTypeKind::Result,
+            Content::Err(_) => WasmTypeKind::Result,
+            Content::Flags(_) => WasmTypeKind::Flags,
+            Content::Map(_) => WasmTypeKind::Map,
+        }
+    }
+
+    // Says nothing at run time: each value is one of its own type, which is the tree of a type.
+    pub(crate) fn is_typed(&self)
+        ensures typed { IsTyped self.now }
+        ensures own { IsOwn self.now.own }
+    {
+        let _ = &self.content;
+        is_own(&self.own);
+    }
+
+    /// The value's own type. The value is one of it, and it has a tree of a type.
+    pub fn ty(&self) -> Result<Type, AllocError>
+        ensures own { IfOk result (λ t. t ≡ self.now.own) }
+        ensures typed { IsTyped self.now }
+        ensures tree { IsOwn self.now.own }
+    {
+        self.is_typed();
+        self.own.clone()
+    }
+
+    /// An equal value.
+    #[cycle(clone)]
+    pub fn clone(&self, alloc: Global) -> Result<Value, AllocError>
+        ensures { IfOk result (λ v. v ≡ self.now) }
+    {
+        let content = clone_content(alloc, &self.content)?;
+        Ok(Value {
+            own: self.own.clone()?,
+            content,
+        })
+    }
+
+    /// The value of `bool`. It is never refused.
+    pub fn make_bool(_alloc: Global, val: bool) -> Result<Value, WasmValueError>
+        ensures { MakesOnly (value.bool val) result }
+    {
+        Ok(Value {
+            own: Type::BOOL,
+            content: Content::Scalar(Scalar::Bool(val)),
+        })
+    }
+
+    /// The value of `s8`. It is never refused.
+    pub fn make_s8(_alloc: Global, val: i8) -> Result<Value, WasmValueError>
+        ensures { MakesOnly (value.whole type.s8 val) result }
+    {
+        Ok(Value {
+            own: Type::S8,
+            content: Content::Scalar(Scalar::S8(val)),
+        })
+    }
+
+    /// The value of `s16`. It is never refused.
+    pub fn make_s16(_alloc: Global, val: i16) -> Result<Value, WasmValueError>
+        ensures { MakesOnly (value.whole type.s16 val) result }
+    {
+        Ok(Value {
+            own: Type::S16,
+            content: Content::Scalar(Scalar::S16(val)),
+        })
+    }
+
+    /// The value of `s32`. It is never refused.
+    pub fn make_s32(_alloc: Global, val: i32) -> Result<Value, WasmValueError>
+        ensures { MakesOnly (value.whole type.s32 val) result }
+    {
+        Ok(Value {
+            own: Type::S32,
+            content: Content::Scalar(Scalar::S32(val)),
+        })
+    }
+
+    /// The value of `s64`. It is never refused.
+    pub fn make_s64(_alloc: Global, val: i64) -> Result<Value, WasmValueError>
+        ensures { MakesOnly (value.whole type.s64 val) result }
+    {
+        Ok(Value {
+            own: Type::S64,
+            content: Content::Scalar(Scalar::S64(val)),
+        })
+    }
+
+    /// The value of `u8`. It is never refused.
+    pub fn make_u8(_alloc: Global, val: u8) -> Result<Value, WasmValueError>
+        ensures { MakesOnly (value.whole type.u8 (pos val)) result }
+    {
+        Ok(Value {
+            own: Type::U8,
+            content: Content::Scalar(Scalar::U8(val)),
+        })
+    }
+
+    /// The value of `u16`. It is never refused.
+    pub fn make_u16(_alloc: Global, val: u16) -> Result<Value, WasmValueError>
+        ensures { MakesOnly (value.whole type.u16 (pos val)) result }
+    {
+        Ok(Value {
+            own: Type::U16,
+            content: Content::Scalar(Scalar::U16(val)),
+        })
+    }
+
+    /// The value of `u32`. It is never refused.
+    pub fn make_u32(_alloc: Global, val: u32) -> Result<Value, WasmValueError>
+        ensures { MakesOnly (value.whole type.u32 (pos val)) result }
+    {
+        Ok(Value {
+            own: Type::U32,
+            content: Content::Scalar(Scalar::U32(val)),
+        })
+    }
+
+    /// The value of `u64`. It is never refused.
+    pub fn make_u64(_alloc: Global, val: u64) -> Result<Value, WasmValueError>
+        ensures { MakesOnly (value.whole type.u64 (pos val)) result }
+    {
+        Ok(Value {
+            own: Type::U64,
+            content: Content::Scalar(Scalar::U64(val)),
+        })
+    }
+
+    /// The value of `char`. It is never refused.
+    pub fn make_char(_alloc: Global, val: char) -> Result<Value, WasmValueError>
+        ensures { MakesOnly (value.char val) result }
+    {
+        Ok(Value {
+            own: Type::CHAR,
+            content: Content::Scalar(Scalar::Char(val)),
+        })
+    }
+
+    /// The value of `string`.
+    pub fn make_string(alloc: Global, val: &str) -> Result<Value, WasmValueError>
+        ensures made { IfOk result (λ v. (v ≡ typed_leaf (value.string val.now)) × IsSound (value.string val.now)) }
+        ensures refused { IfErr result IsMemory }
+    {
+        Ok(Value {
+            own: Type::STRING,
+            content: Content::Scalar(Scalar::String(String::from_str(alloc, val)?)),
+        })
+    }
+
+    /// The bool that the value is. It asks for a value of this kind.
+    pub fn unwrap_bool(&self) -> bool
+        requires { kind_of self.now.tree ≡ WasmTypeKind.Bool }
+        ensures { self.now.tree ≡ value.leaf (value.bool result) }
+    {
+        match &self.content {
+            Content::Scalar(Scalar::Bool(val)) => *val,
+            _ => unreachable!(),
+        }
+    }
+
+    /// The s8 that the value is. It asks for a value of this kind.
+    pub fn unwrap_s8(&self) -> i8
+        requires { kind_of self.now.tree ≡ WasmTypeKind.S8 }
+        ensures { self.now.tree ≡ value.leaf (value.whole type.s8 result) }
+    {
+        match &self.content {
+            Content::Scalar(Scalar::S8(val)) => *val,
+            _ => unreachable!(),
+        }
+    }
+
+    /// The s16 that the value is. It asks for a value of this kind.
+    pub fn unwrap_s16(&self) -> i16
+        requires { kind_of self.now.tree ≡ WasmTypeKind.S16 }
+        ensures { self.now.tree ≡ value.leaf (value.whole type.s16 result) }
+    {
+        match &self.content {
+            Content::Scalar(Scalar::S16(val)) => *val,
+            _ => unreachable!(),
+        }
+    }
+
+    /// The s32 that the value is. It asks for a value of this kind.
+    pub fn unwrap_s32(&self) -> i32
+        requires { kind_of self.now.tree ≡ WasmTypeKind.S32 }
+        ensures { self.now.tree ≡ value.leaf (value.whole type.s32 result) }
+    {
+        match &self.content {
+            Content::Scalar(Scalar::S32(val)) => *val,
+            _ => unreachable!(),
+        }
+    }
+
+    /// The s64 that the value is. It asks for a value of this kind.
+    pub fn unwrap_s64(&self) -> i64
+        requires { kind_of self.now.tree ≡ WasmTypeKind.S64 }
+        ensures { self.now.tree ≡ value.leaf (value.whole type.s64 result) }
+    {
+        match &self.content {
+            Content::Scalar(Scalar::S64(val)) => *val,
+            _ => unreachable!(),
+        }
+    }
+
+    /// The u8 that the value is. It asks for a value of this kind.
+    pub fn unwrap_u8(&self) -> u8
+        requires { kind_of self.now.tree ≡ WasmTypeKind.U8 }
+        ensures { self.now.tree ≡ value.leaf (value.whole type.u8 (pos result)) }
+    {
+        match &self.content {
+            Content::Scalar(Scalar::U8(val)) => *val,
+            _ => unreachable!(),
+        }
+    }
+
+    /// The u16 that the value is. It asks for a value of this kind.
+    pub fn unwrap_u16(&self) -> u16
+        requires { kind_of self.now.tree ≡ WasmTypeKind.U16 }
+        ensures { self.now.tree ≡ value.leaf (value.whole type.u16 (pos result)) }
+    {
+        match &self.content {
+            Content::Scalar(Scalar::U16(val)) => *val,
+            _ => unreachable!(),
+        }
+    }
+
+    /// The u32 that the value is. It asks for a value of this kind.
+    pub fn unwrap_u32(&self) -> u32
+        requires { kind_of self.now.tree ≡ WasmTypeKind.U32 }
+        ensures { self.now.tree ≡ value.leaf (value.whole type.u32 (pos result)) }
+    {
+        match &self.content {
+            Content::Scalar(Scalar::U32(val)) => *val,
+            _ => unreachable!(),
+        }
+    }
+
+    /// The u64 that the value is. It asks for a value of this kind.
+    pub fn unwrap_u64(&self) -> u64
+        requires { kind_of self.now.tree ≡ WasmTypeKind.U64 }
+        ensures { self.now.tree ≡ value.leaf (value.whole type.u64 (pos result)) }
+    {
+        match &self.content {
+            Content::Scalar(Scalar::U64(val)) => *val,
+            _ => unreachable!(),
+        }
+    }
+
+    /// The char that the value is. It asks for a value of this kind.
+    pub fn unwrap_char(&self) -> char
+        requires { kind_of self.now.tree ≡ WasmTypeKind.Char }
+        ensures { self.now.tree ≡ value.leaf (value.char result) }
+    {
+        match &self.content {
+            Content::Scalar(Scalar::Char(val)) => *val,
+            _ => unreachable!(),
+        }
+    }
+
+    /// The string that the value is. It asks for a value of this kind.
+    pub fn unwrap_string(&self) -> &str
+        requires { kind_of self.now.tree ≡ WasmTypeKind.String }
+        ensures { self.now.tree ≡ value.leaf (value.string result.now) }
+    {
+        match &self.content {
+            Content::Scalar(Scalar::String(val)) => val.as_str(),
+            _ => unreachable!(),
+        }
+    }
+}
+
+// The kind of a value of one token.
+fn scalar_kind(one: &Scalar) -> WasmTypeKind
+    ensures { result ≡ simple_kind (leaf_type (scalar_leaf one.now)) }
+{
+    match one {
+        Scalar::Bool(_) => WasmTypeKind::Bool,
+        Scalar::S8(_) => WasmTypeKind::S8,
+        Scalar::S16(_) => WasmTypeKind::S16,
+        Scalar::S32(_) => WasmTypeKind::S32,
+        Scalar::S64(_) => WasmTypeKind::S64,
+        Scalar::U8(_) => WasmTypeKind::U8,
+        Scalar::U16(_) => WasmTypeKind::U16,
+        Scalar::U32(_) => WasmTypeKind::U32,
+        Scalar::U64(_) => WasmTypeKind::U64,
+        Scalar::Char(_) => WasmTypeKind::Char,
+        Scalar::String(_) => WasmTypeKind::String,
+    }
+}
+
+// A copy of a value of one token.
+fn clone_scalar(alloc: Global, one: &Scalar) -> Result<Scalar, AllocError>
+    ensures { IfOk result (λ c. scalar_leaf c ≡ scalar_leaf one.now) }
+{
+    match one {
+        Scalar::Bool(val) => Ok(Scalar::Bool(*val)),
+        Scalar::S8(val) => Ok(Scalar::S8(*val)),
+        Scalar::S16(val) => Ok(Scalar::S16(*val)),
+        Scalar::S32(val) => Ok(Scalar::S32(*val)),
+        Scalar::S64(val) => Ok(Scalar::S64(*val)),
+        Scalar::U8(val) => Ok(Scalar::U8(*val)),
+        Scalar::U16(val) => Ok(Scalar::U16(*val)),
+        Scalar::U32(val) => Ok(Scalar::U32(*val)),
+        Scalar::U64(val) => Ok(Scalar::U64(*val)),
+        Scalar::Char(val) => Ok(Scalar::Char(*val)),
+        Scalar::String(val) => Ok(Scalar::String(String::from_str(alloc, val.as_str())?)),
+    }
+}
+
+// A copy of the content.
+#[cycle(clone)]
+fn clone_content(alloc: Global, content: &Content) -> Result<Content, AllocError>
+    ensures { IfOk result (λ c. IsAsGood c content.now) }
+{
+    match content {
+        Content::Scalar(one) => Ok(Content::Scalar(clone_scalar(alloc, one)?)),
+        Content::List(vals) => Ok(Content::List(clone_values(alloc, vals)?)),
+        Content::Record(vals) => Ok(Content::Record(clone_values(alloc, vals)?)),
+        Content::Tuple(vals) => Ok(Content::Tuple(clone_values(alloc, vals)?)),
+        Content::Variant(place, val) => Ok(Content::Variant(*place, clone_payload(alloc, val)?)),
+        Content::Enum(place) => Ok(Content::Enum(*place)),
+        Content::Option(val) => Ok(Content::Option(clone_payload(alloc, val)?)),
+        Content::Ok(val) => Ok(Content::Ok(clone_payload(alloc, val)?)),
+        Content::Err(val) => Ok(Content::Err(clone_payload(alloc, val)?)),
+        Content::Flags(places) => Ok(Content::Flags(clone_places(alloc, places)?)),
+        Content::Map(entries) => Ok(Content::Map(clone_entries(alloc, entries)?)),
+    }
+}
+
+// A copy of the places.
+fn clone_places(alloc: Global, places: &Vec<usize>) -> Result<Vec<usize>, AllocError>
+    ensures { IfOk result (λ v. v.items ≡ places.now.items) }
+{
+    let mut answer = Vec::new(alloc);
+    for place in places {
+        answer.push(*place)?;
+    }
+    Ok(answer)
+}
+
+// Copies of the values.
+#[cycle(clone)]
+fn clone_values(alloc: Global, values: &Vec<Value>) -> Result<Vec<Value>, AllocError>
+    ensures { IfOk result (λ vs. vs.items ≡ values.now.items) }
+{
+    let mut answer = Vec::new(alloc);
+    for value in values {
+        answer.push(value.clone(alloc)?)?;
+    }
+    Ok(answer)
+}
+
+// A copy of the payload, where there is one.
+#[cycle(clone)]
+fn clone_payload(
+    alloc: Global,
+    value: &Option<Box<Value>>,
+) -> Result<Option<Box<Value>>, AllocError>
+    ensures { IfOk result (λ p. boxed p ≡ boxed value.now) }
+{
+    match value {
+        None => Ok(None),
+        Some(value) => Ok(Some(Box::new(alloc, (**value).clone(alloc)?)?)),
+    }
+}
+
+// Copies of the entries.
+#[cycle(clone)]
+fn clone_entries(
+    alloc: Global,
+    entries: &Vec<(Value, Value)>,
+) -> Result<Vec<(Value, Value)>, AllocError>
+    ensures { IfOk result (λ es. es.items ≡ entries.now.items) }
+{
+    let mut answer = Vec::new(alloc);
+    for entry in entries {
+        let key = entry.0.clone(alloc)?;
+        answer.push((key, entry.1.clone(alloc)?))?;
+    }
+    Ok(answer)
+}

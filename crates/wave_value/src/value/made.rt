@@ -1,0 +1,261 @@
+//! Makers of values that have parts.
+ghost use Rattle.std.specs.Prelude.{◌≡◌, ℕ, List, map, IfOk, IfErr, OnOk};
+ghost use Rattle.wave_wasm.specs.Values as value;
+ghost use Rattle.wave_wasm.specs.Values.{values, maybe_value};
+ghost use Rattle.wave_wasm.specs.Makers.{result_value, either_tree};
+ghost use Rattle.wave_value.specs.ValueView.{trees, payload_tree, boxed, PayloadAt};
+ghost use Rattle.wave_value.specs.Taken.{Made, Tells, TakesList, TakesTuple, TakesOption, TakesResult, TakesEnum, list_stated, option_stated, RefusesParts, RefusesTuple, RefusesPayload, RefusesResult, RefusesEnum};
+ghost use Rattle.wave_wasm.specs.Shown.{shown, named};
+ghost use Rattle.wave_type.specs.TypeView.{by_bytes};
+ghost use Rattle.wave_value.specs.Handed.{held, last_under, TakesRecord, MadeRecord, RefusesRecord, RefusesFields, InOrder};
+
+use super::refusals::{
+    ShowsValue, missing_field, missing_payload, unexpected_payload, unknown_case, unknown_field,
+    wrong_kind, wrong_type,
+};
+use super::{Content, Type, Value};
+use std::alloc::{AllocError, Global};
+use std::boxed::Box;
+use std::collections::BTreeMap;
+use wave_type::ty::places::{enum_place, named_types, tuple_types};
+use wave_wasm::wasm::{WasmType, WasmTypeKind, WasmValueError};
+
+mod cases;
+mod entries;
+
+impl Value {
+    // Whether the value's own type is this one.
+    fn is_at(&self, ty: &Type) -> bool
+        ensures { Tells result ty.now self.now }
+    {
+        let _ = &self.content;
+        self.own == *ty
+    }
+
+    // What `make_list` answers, where a refusal shows values so.
+    pub(crate) fn list_of<S: ShowsValue>(
+        alloc: Global,
+        ty: &Type,
+        vals: Vec<Value>,
+    ) -> Result<Value, WasmValueError>
+        ensures made { IfOk result (Made (value.list (values (trees vals.items))) ty.now) }
+        ensures taken { OnOk result (TakesList ty.now vals.items) }
+        ensures refused { IfErr result (RefusesParts S.words WasmTypeKind.List ty.now (list_stated ty.now vals.items)) }
+    {
+        let Some(element) = ty.list_element_type() else {
+            return Err(wrong_kind(alloc, WasmTypeKind::List, ty));
+        };
+        for val in &vals {
+            if !val.is_at(element) {
+                return Err(wrong_type::<S>(alloc, element, val));
+            }
+        }
+        Ok(Value {
+            own: ty.clone()?,
+            content: Content::List(vals),
+        })
+    }
+
+    // What `make_tuple` answers, where a refusal shows values so.
+    pub(crate) fn tuple_of<S: ShowsValue>(
+        alloc: Global,
+        ty: &Type,
+        vals: Vec<Value>,
+    ) -> Result<Value, WasmValueError>
+        ensures made { IfOk result (Made (value.tuple (values (trees vals.items))) ty.now) }
+        ensures taken { OnOk result (TakesTuple ty.now vals.items) }
+        ensures refused { IfErr result (RefusesTuple S.words ty.now vals.items) }
+    {
+        let Some(types) = tuple_types(ty) else {
+            return Err(wrong_kind(alloc, WasmTypeKind::Tuple, ty));
+        };
+        let want = types.len();
+        let got = vals.len();
+        if want != got {
+            return Err(WasmValueError::WrongNumberOfTupleValues { want, got });
+        }
+        for i in 0..got {
+            let stated = &types[i];
+            let val = &vals[i];
+            if !val.is_at(stated) {
+                return Err(wrong_type::<S>(alloc, stated, val));
+            }
+        }
+        Ok(Value {
+            own: ty.clone()?,
+            content: Content::Tuple(vals),
+        })
+    }
+
+    // What `make_record` answers, where a refusal shows values so.
+    pub(crate) fn record_of<S: ShowsValue>(
+        alloc: Global,
+        ty: &Type,
+        fields: Vec<(&str, Value)>,
+    ) -> Result<Value, WasmValueError>
+        ensures made { IfOk result (MadeRecord (named fields.entry.items) ty.now) }
+        ensures taken { OnOk result (TakesRecord ty.now (named fields.entry.items)) }
+        ensures refused { IfErr result (RefusesRecord S.words ty.now (named fields.entry.items)) }
+    {
+        let Some(stated) = named_types(ty) else {
+            return Err(wrong_kind(alloc, WasmTypeKind::Record, ty));
+        };
+        let given = last_values(alloc, fields)?;
+        let vals = in_order::<S>(alloc, stated, given)?;
+        Ok(Value {
+            own: ty.clone()?,
+            content: Content::Record(vals),
+        })
+    }
+
+    // What `make_option` answers, where a refusal shows values so.
+    pub(crate) fn option_of<S: ShowsValue>(
+        alloc: Global,
+        ty: &Type,
+        val: Option<Value>,
+    ) -> Result<Value, WasmValueError>
+        ensures made { IfOk result (Made (value.option (maybe_value (payload_tree val))) ty.now) }
+        ensures taken { OnOk result (TakesOption ty.now val) }
+        ensures refused { IfErr result (RefusesParts S.words WasmTypeKind.Option ty.now (option_stated ty.now val)) }
+    {
+        let Some(some) = ty.option_some_type() else {
+            return Err(wrong_kind(alloc, WasmTypeKind::Option, ty));
+        };
+        match val {
+            None => Ok(Value {
+                own: ty.clone()?,
+                content: Content::Option(None),
+            }),
+            Some(val) => {
+                if !val.is_at(some) {
+                    return Err(wrong_type::<S>(alloc, some, &val));
+                }
+                let val = Box::new(alloc, val)?;
+                Ok(Value {
+                    own: ty.clone()?,
+                    content: Content::Option(Some(val)),
+                })
+            }
+        }
+    }
+
+    // What `make_result` answers, where a refusal shows values so.
+    pub(crate) fn result_of<S: ShowsValue>(
+        alloc: Global,
+        ty: &Type,
+        val: Result<Option<Value>, Option<Value>>,
+    ) -> Result<Value, WasmValueError>
+        ensures made { IfOk result (Made (result_value (either_tree (λ v. v.tree) val)) ty.now) }
+        ensures taken { OnOk result (TakesResult ty.now val) }
+        ensures refused { IfErr result (RefusesResult S.words ty.now val) }
+    {
+        let Some((ok, err)) = ty.result_types() else {
+            return Err(wrong_kind(alloc, WasmTypeKind::Result, ty));
+        };
+        match val {
+            Ok(payload) => {
+                let payload = boxed_payload::<S>(alloc, "ok", ok, payload)?;
+                Ok(Value {
+                    own: ty.clone()?,
+                    content: Content::Ok(payload),
+                })
+            }
+            Err(payload) => {
+                let payload = boxed_payload::<S>(alloc, "err", err, payload)?;
+                Ok(Value {
+                    own: ty.clone()?,
+                    content: Content::Err(payload),
+                })
+            }
+        }
+    }
+
+    /// The case of this name, whose own type is this one. A type of another kind is refused, and
+    /// a name that is no case.
+    pub fn make_enum(alloc: Global, ty: &Type, case: &str) -> Result<Value, WasmValueError>
+        ensures made { IfOk result (Made (value.enum case.now) ty.now) }
+        ensures taken { OnOk result (TakesEnum ty.now case.now) }
+        ensures refused { IfErr result (RefusesEnum ty.now case.now) }
+    {
+        match ty.kind() {
+            WasmTypeKind::Enum => match enum_place(ty, case) {
+                Some(place) => Ok(Value {
+                    own: ty.clone()?,
+                    content: Content::Enum(place),
+                }),
+                None => Err(unknown_case(alloc, case)),
+            },
+            _ => Err(wrong_kind(alloc, WasmTypeKind::Enum, ty)),
+        }
+    }
+}
+
+// The payload of this case in its box. One that is missing or unexpected is refused, and one whose
+// own type isn't the stated one.
+fn boxed_payload<S: ShowsValue>(
+    alloc: Global,
+    case: &str,
+    stated: Option<&Type>,
+    val: Option<Value>,
+) -> Result<Option<Box<Value>>, WasmValueError>
+    ensures boxed { IfOk result (λ b. boxed b ≡ val) }
+    ensures taken { OnOk result (PayloadAt (shown (λ t. t) stated.entry) val) }
+    ensures refused { IfErr result (RefusesPayload S.words case.now (shown (λ t. t) stated.entry) val) }
+{
+    match val {
+        None => match stated {
+            None => Ok(None),
+            Some(_) => Err(missing_payload(alloc, case)),
+        },
+        Some(val) => match stated {
+            None => Err(unexpected_payload(alloc, case)),
+            Some(stated) => {
+                if !val.is_at(stated) {
+                    return Err(wrong_type::<S>(alloc, stated, &val));
+                }
+                Ok(Some(Box::new(alloc, val)?))
+            }
+        },
+    }
+}
+
+// The last value under each name.
+fn last_values<V: Drop>(
+    alloc: Global,
+    fields: Vec<(&str, V)>,
+) -> Result<BTreeMap<&str, V>, AllocError>
+    ensures { IfOk result (λ m. (name : List ℕ) → held m name ≡ last_under (named fields.entry.items) name) }
+{
+    let mut given = BTreeMap::new(alloc);
+    for (name, val) in fields {
+        given.insert(name, val)?;
+    }
+    Ok(given)
+}
+
+// The values in the fields' order. A field without a value is refused, and so is a value of another
+// type, and one that is left.
+fn in_order<S: ShowsValue>(
+    alloc: Global,
+    stated: &Vec<(String, Type)>,
+    mut given: BTreeMap<&str, Value>,
+) -> Result<Vec<Value>, WasmValueError>
+    ensures given { IfOk result (λ v. InOrder (map by_bytes stated.now.items) (held given.entry) v.items) }
+    ensures refused { IfErr result (RefusesFields S.words (map by_bytes stated.now.items) (held given.entry)) }
+{
+    let mut vals = Vec::new(alloc);
+    for field in stated {
+        let name = field.0.as_str();
+        let Some(val) = given.remove(name) else {
+            return Err(missing_field(alloc, name));
+        };
+        if !val.is_at(&field.1) {
+            return Err(wrong_type::<S>(alloc, &field.1, &val));
+        }
+        vals.push(val)?;
+    }
+    match given.first_key_value() {
+        Some((name, _)) => Err(unknown_field(alloc, *name)),
+        None => Ok(vals),
+    }
+}

@@ -1,0 +1,124 @@
+//! Refusals of the makers: their texts, or want of memory where a text can't be made.
+ghost use Rattle.wave_value.specs.Taken.{SaysKind, SaysType, SaysCase, SaysMissing, SaysUnexpected};
+ghost use Rattle.wave_value.specs.Handed.{SaysMissingField, SaysUnknownField};
+
+use super::{Type, Value};
+use std::alloc::{AllocError, Global};
+use wave_wasm::wasm::{WasmTypeKind, WasmValueError};
+use wave_wasm::writer::{self, WriterError};
+
+// What shows a value in a refusal.
+pub(super) trait ShowsValue {
+    ghost use Rattle.std.specs.Prelude.{◌≡◌, ℕ, List, IfOk, string_bytes};
+    ghost use Rattle.wave_value.specs.TypedValue.{TypedValue};
+
+    ghost words: { TypedValue → List ℕ };
+
+    fn show(alloc: Global, val: &Value) -> Result<String, AllocError>
+        ensures { IfOk result (λ s. string_bytes s ≡ words val.now) };
+}
+
+// The value's canonical text.
+pub(super) struct ByText;
+
+impl ShowsValue for ByText {
+    ghost use Rattle.wave_value.specs.Taken.{value_text};
+
+    ghost words = { value_text };
+
+    fn show(alloc: Global, val: &Value) -> Result<String, AllocError> {
+        val.is_typed();
+        match writer::to_string(alloc, val) {
+            Ok(text) => Ok(text),
+            Err(WriterError::Memory(e)) => Err(e),
+            Err(_) => unreachable!(),
+        }
+    }
+}
+
+// The text of the value's own type: the makers that the writer stands on can't call the writer.
+pub(super) struct ByType;
+
+impl ShowsValue for ByType {
+    ghost use Rattle.wave_value.specs.Taken.{own_text};
+
+    ghost words = { own_text };
+
+    fn show(alloc: Global, val: &Value) -> Result<String, AllocError> {
+        let own = val.ty()?;
+        own.to_string(alloc)
+    }
+}
+
+// The type is of another kind than this one.
+pub(super) fn wrong_kind(alloc: Global, kind: WasmTypeKind, ty: &Type) -> WasmValueError
+    ensures { SaysKind kind ty.now result }
+{
+    match ty.to_string(alloc) {
+        Ok(ty) => WasmValueError::WrongTypeKind { kind, ty },
+        Err(e) => WasmValueError::Memory(e),
+    }
+}
+
+// The value is of another type than this one.
+pub(super) fn wrong_type<S: ShowsValue>(alloc: Global, ty: &Type, val: &Value) -> WasmValueError
+    ensures { SaysType S.words ty.now val.now result }
+{
+    match ty.to_string(alloc) {
+        Ok(ty) => match S::show(alloc, val) {
+            Ok(val) => WasmValueError::WrongValueType { ty, val },
+            Err(e) => WasmValueError::Memory(e),
+        },
+        Err(e) => WasmValueError::Memory(e),
+    }
+}
+
+// The type has no case of this name.
+pub(super) fn unknown_case(alloc: Global, case: &str) -> WasmValueError
+    ensures { SaysCase case.now result }
+{
+    match String::from_str(alloc, case) {
+        Ok(case) => WasmValueError::UnknownCase(case),
+        Err(e) => WasmValueError::Memory(e),
+    }
+}
+
+// The payload of this name is missing.
+pub(super) fn missing_payload(alloc: Global, case: &str) -> WasmValueError
+    ensures { SaysMissing case.now result }
+{
+    match String::from_str(alloc, case) {
+        Ok(case) => WasmValueError::MissingPayload(case),
+        Err(e) => WasmValueError::Memory(e),
+    }
+}
+
+// The case of this name has no payload.
+pub(super) fn unexpected_payload(alloc: Global, case: &str) -> WasmValueError
+    ensures { SaysUnexpected case.now result }
+{
+    match String::from_str(alloc, case) {
+        Ok(case) => WasmValueError::UnexpectedPayload(case),
+        Err(e) => WasmValueError::Memory(e),
+    }
+}
+
+// No value is handed in for the field of this name, or the type has it twice.
+pub(super) fn missing_field(alloc: Global, name: &str) -> WasmValueError
+    ensures { SaysMissingField name.now result }
+{
+    match String::from_str(alloc, name) {
+        Ok(name) => WasmValueError::MissingField(name),
+        Err(e) => WasmValueError::Memory(e),
+    }
+}
+
+// The type has no field of this name.
+pub(super) fn unknown_field(alloc: Global, name: &str) -> WasmValueError
+    ensures { SaysUnknownField name.now result }
+{
+    match String::from_str(alloc, name) {
+        Ok(name) => WasmValueError::UnknownField(name),
+        Err(e) => WasmValueError::Memory(e),
+    }
+}

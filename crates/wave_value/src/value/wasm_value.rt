@@ -1,0 +1,296 @@
+//! A value is lawful: it is of its own type, and a type is full where its names are distinct. Beside
+//! the trait's clauses each maker has those of the maker of `Value` of the same name; a refusal
+//! shows a value by the text of its own type.
+use super::refusals::ByType;
+use super::{Type, Value};
+use std::alloc::{AllocError, Global};
+use wave_wasm::wasm::{WasmTypeKind, WasmValue, WasmValueError};
+
+#[tactic(auto, using(crate::proofs::Lawful::made_leaf, crate::proofs::Lawful::made_only, crate::proofs::Lawful::never_refused, crate::proofs::Lawful::full_leaf, crate::proofs::Lawful::well_formed, crate::proofs::Lawful::made_list, crate::proofs::Lawful::full_list, crate::proofs::Lawful::made_tuple, crate::proofs::Lawful::full_tuple, crate::proofs::LawfulRecord::made_record, crate::proofs::LawfulCases::made_variant, crate::proofs::LawfulCases::full_variant, crate::proofs::Lawful::made_option, crate::proofs::Lawful::full_option, crate::proofs::Lawful::made_enum, crate::proofs::Lawful::full_enum, crate::proofs::Lawful::made_result, crate::proofs::Lawful::full_result, crate::proofs::LawfulCases::made_flags, crate::proofs::LawfulCases::full_flags, crate::proofs::LawfulCases::made_map, crate::proofs::LawfulCases::full_map))]
+impl WasmValue for Value {
+    ghost use Rattle.std.specs.Prelude.{◌≡◌, IfOk, IfErr, OnOk, pos};
+    ghost use Rattle.wave_wasm.specs.Names.{found_in};
+    ghost use Rattle.wave_wasm.specs.Types as type;
+    ghost use Rattle.wave_wasm.specs.Types.{flags_names};
+    ghost use Rattle.wave_wasm.specs.Values as value;
+    ghost use Rattle.wave_wasm.specs.Values.{values, maybe_value, IsSound};
+    ghost use Rattle.wave_wasm.specs.Shown.{texts, named};
+    ghost use Rattle.wave_wasm.specs.Makers.{IsMemory, result_value, either_tree, MakesList, MakesTuple, MakesRecord, MakesVariant, MakesEnum, MakesOption, MakesResult, MakesFlags, MakesMap, FullList, FullTuple, FullRecord, FullVariant, FullEnum, FullOption, FullResult, FullFlags, FullMap};
+    ghost use Rattle.wave_value.specs.ValueView.{trees, payload_tree};
+    ghost use Rattle.wave_value.specs.TypedValue.{IsAt, MakesOnly, typed_leaf};
+    ghost use Rattle.wave_value.specs.Taken.{Made, TakesList, TakesTuple, TakesOption, TakesResult, TakesEnum, own_text, list_stated, option_stated, RefusesParts, RefusesTuple, RefusesResult, RefusesEnum};
+    ghost use Rattle.wave_value.specs.TakenCases.{TakesVariant, RefusesVariant, TakesFlags, RefusesFlags, MadeMap, TakesMap, map_stated};
+    ghost use Rattle.wave_value.specs.Handed.{TakesRecord, MadeRecord, RefusesRecord};
+    ghost use Rattle.wave_value.specs.Built.{IsFull, full_parts};
+
+    type Type = Type;
+
+    ghost tree = { λ v. v.tree };
+
+    ghost is_of = { λ v T. IsAt T v };
+
+    ghost is_full = { IsFull };
+
+    ghost of_fits = { λ v T h. h.fits };
+
+    ghost full_parts = { full_parts };
+
+    fn kind(&self) -> WasmTypeKind {
+        self.is_typed();
+        Value::kind(self)
+    }
+
+    fn make_bool(alloc: Global, val: bool) -> Result<Value, WasmValueError>
+        ensures { MakesOnly (value.bool val) result }
+    {
+        Value::make_bool(alloc, val)
+    }
+
+    fn make_s8(alloc: Global, val: i8) -> Result<Value, WasmValueError>
+        ensures { MakesOnly (value.whole type.s8 val) result }
+    {
+        Value::make_s8(alloc, val)
+    }
+
+    fn make_s16(alloc: Global, val: i16) -> Result<Value, WasmValueError>
+        ensures { MakesOnly (value.whole type.s16 val) result }
+    {
+        Value::make_s16(alloc, val)
+    }
+
+    fn make_s32(alloc: Global, val: i32) -> Result<Value, WasmValueError>
+        ensures { MakesOnly (value.whole type.s32 val) result }
+    {
+        Value::make_s32(alloc, val)
+    }
+
+    fn make_s64(alloc: Global, val: i64) -> Result<Value, WasmValueError>
+        ensures { MakesOnly (value.whole type.s64 val) result }
+    {
+        Value::make_s64(alloc, val)
+    }
+
+    fn make_u8(alloc: Global, val: u8) -> Result<Value, WasmValueError>
+        ensures { MakesOnly (value.whole type.u8 (pos val)) result }
+    {
+        Value::make_u8(alloc, val)
+    }
+
+    fn make_u16(alloc: Global, val: u16) -> Result<Value, WasmValueError>
+        ensures { MakesOnly (value.whole type.u16 (pos val)) result }
+    {
+        Value::make_u16(alloc, val)
+    }
+
+    fn make_u32(alloc: Global, val: u32) -> Result<Value, WasmValueError>
+        ensures { MakesOnly (value.whole type.u32 (pos val)) result }
+    {
+        Value::make_u32(alloc, val)
+    }
+
+    fn make_u64(alloc: Global, val: u64) -> Result<Value, WasmValueError>
+        ensures { MakesOnly (value.whole type.u64 (pos val)) result }
+    {
+        Value::make_u64(alloc, val)
+    }
+
+    fn make_char(alloc: Global, val: char) -> Result<Value, WasmValueError>
+        ensures { MakesOnly (value.char val) result }
+    {
+        Value::make_char(alloc, val)
+    }
+
+    fn make_string(alloc: Global, val: &str) -> Result<Value, WasmValueError>
+        ensures made { IfOk result (λ v. (v ≡ typed_leaf (value.string val.now)) × IsSound (value.string val.now)) }
+        ensures refused { IfErr result IsMemory }
+    {
+        Value::make_string(alloc, val)
+    }
+
+    fn make_list(alloc: Global, ty: &Type, vals: Vec<Value>) -> Result<Value, WasmValueError>
+        ensures made { IfOk result (MakesList (λ v. v.tree) (λ v T. IsAt T v) ty.now vals.items) }
+        ensures full { IfErr result (FullList (λ v T. IsAt T v) IsFull ty.now vals.items) }
+        ensures exact { IfOk result (Made (value.list (values (trees vals.items))) ty.now) }
+        ensures taken { OnOk result (TakesList ty.now vals.items) }
+        ensures refused { IfErr result (RefusesParts own_text WasmTypeKind.List ty.now (list_stated ty.now vals.items)) }
+    {
+        Value::list_of::<ByType>(alloc, ty, vals)
+    }
+
+    fn make_tuple(alloc: Global, ty: &Type, vals: Vec<Value>) -> Result<Value, WasmValueError>
+        ensures made { IfOk result (MakesTuple (λ v. v.tree) (λ v T. IsAt T v) ty.now vals.items) }
+        ensures full { IfErr result (FullTuple (λ v T. IsAt T v) IsFull ty.now vals.items) }
+        ensures exact { IfOk result (Made (value.tuple (values (trees vals.items))) ty.now) }
+        ensures taken { OnOk result (TakesTuple ty.now vals.items) }
+        ensures refused { IfErr result (RefusesTuple own_text ty.now vals.items) }
+    {
+        Value::tuple_of::<ByType>(alloc, ty, vals)
+    }
+
+    fn make_record(
+        alloc: Global,
+        ty: &Type,
+        fields: Vec<(&str, Value)>,
+    ) -> Result<Value, WasmValueError>
+        ensures made { IfOk result (MakesRecord (λ v. v.tree) (λ v T. IsAt T v) ty.now fields.entry.items) }
+        ensures full { IfErr result (FullRecord (λ v T. IsAt T v) IsFull ty.now fields.entry.items) }
+        ensures exact { IfOk result (MadeRecord (named fields.entry.items) ty.now) }
+        ensures taken { OnOk result (TakesRecord ty.now (named fields.entry.items)) }
+        ensures refused { IfErr result (RefusesRecord own_text ty.now (named fields.entry.items)) }
+    {
+        Value::record_of::<ByType>(alloc, ty, fields)
+    }
+
+    fn make_variant(
+        alloc: Global,
+        ty: &Type,
+        case: &str,
+        val: Option<Value>,
+    ) -> Result<Value, WasmValueError>
+        ensures made { IfOk result (MakesVariant (λ v. v.tree) (λ v T. IsAt T v) ty.now case.now val) }
+        ensures full { IfErr result (FullVariant (λ v T. IsAt T v) IsFull ty.now case.now val) }
+        ensures exact { IfOk result (Made (value.variant case.now (maybe_value (payload_tree val))) ty.now) }
+        ensures taken { OnOk result (TakesVariant ty.now case.now val) }
+        ensures refused { IfErr result (RefusesVariant own_text ty.now case.now val) }
+    {
+        Value::variant_of::<ByType>(alloc, ty, case, val)
+    }
+
+    fn make_enum(alloc: Global, ty: &Type, case: &str) -> Result<Value, WasmValueError>
+        ensures made { IfOk result (MakesEnum (λ v. v.tree) (λ v T. IsAt T v) ty.now case.now) }
+        ensures full { IfErr result (FullEnum (λ v T. IsAt T v) IsFull ty.now case.now) }
+        ensures exact { IfOk result (Made (value.enum case.now) ty.now) }
+        ensures taken { OnOk result (TakesEnum ty.now case.now) }
+        ensures refused { IfErr result (RefusesEnum ty.now case.now) }
+    {
+        Value::make_enum(alloc, ty, case)
+    }
+
+    fn make_option(alloc: Global, ty: &Type, val: Option<Value>) -> Result<Value, WasmValueError>
+        ensures made { IfOk result (MakesOption (λ v. v.tree) (λ v T. IsAt T v) ty.now val) }
+        ensures full { IfErr result (FullOption (λ v T. IsAt T v) IsFull ty.now val) }
+        ensures exact { IfOk result (Made (value.option (maybe_value (payload_tree val))) ty.now) }
+        ensures taken { OnOk result (TakesOption ty.now val) }
+        ensures refused { IfErr result (RefusesParts own_text WasmTypeKind.Option ty.now (option_stated ty.now val)) }
+    {
+        Value::option_of::<ByType>(alloc, ty, val)
+    }
+
+    fn make_result(
+        alloc: Global,
+        ty: &Type,
+        val: Result<Option<Value>, Option<Value>>,
+    ) -> Result<Value, WasmValueError>
+        ensures made { IfOk result (MakesResult (λ v. v.tree) (λ v T. IsAt T v) ty.now val) }
+        ensures full { IfErr result (FullResult (λ v T. IsAt T v) IsFull ty.now val) }
+        ensures exact { IfOk result (Made (result_value (either_tree (λ v. v.tree) val)) ty.now) }
+        ensures taken { OnOk result (TakesResult ty.now val) }
+        ensures refused { IfErr result (RefusesResult own_text ty.now val) }
+    {
+        Value::result_of::<ByType>(alloc, ty, val)
+    }
+
+    fn make_flags(alloc: Global, ty: &Type, names: &[&str]) -> Result<Value, WasmValueError>
+        ensures made { IfOk result (MakesFlags (λ v. v.tree) (λ v T. IsAt T v) ty.now names.now) }
+        ensures full { IfErr result (FullFlags (λ v T. IsAt T v) IsFull ty.now names.now) }
+        ensures exact { IfOk result (Made (value.flags (found_in (texts names.now) (flags_names ty.now))) ty.now) }
+        ensures taken { OnOk result (TakesFlags ty.now (texts names.now)) }
+        ensures refused { IfErr result (RefusesFlags ty.now (texts names.now)) }
+    {
+        Value::make_flags(alloc, ty, names)
+    }
+
+    fn make_map(
+        alloc: Global,
+        ty: &Type,
+        entries: Vec<(Value, Value)>,
+    ) -> Result<Value, WasmValueError>
+        ensures made { IfOk result (MakesMap (λ v. v.tree) (λ v T. IsAt T v) ty.now entries.items) }
+        ensures full { IfErr result (FullMap (λ v T. IsAt T v) IsFull ty.now entries.items) }
+        ensures exact { IfOk result (MadeMap entries.items ty.now) }
+        ensures taken { OnOk result (TakesMap ty.now entries.items) }
+        ensures refused { IfErr result (RefusesParts own_text WasmTypeKind.Map ty.now (map_stated ty.now entries.items)) }
+    {
+        Value::map_of::<ByType>(alloc, ty, entries)
+    }
+
+    fn unwrap_bool(&self) -> bool {
+        Value::unwrap_bool(self)
+    }
+
+    fn unwrap_s8(&self) -> i8 {
+        Value::unwrap_s8(self)
+    }
+
+    fn unwrap_s16(&self) -> i16 {
+        Value::unwrap_s16(self)
+    }
+
+    fn unwrap_s32(&self) -> i32 {
+        Value::unwrap_s32(self)
+    }
+
+    fn unwrap_s64(&self) -> i64 {
+        Value::unwrap_s64(self)
+    }
+
+    fn unwrap_u8(&self) -> u8 {
+        Value::unwrap_u8(self)
+    }
+
+    fn unwrap_u16(&self) -> u16 {
+        Value::unwrap_u16(self)
+    }
+
+    fn unwrap_u32(&self) -> u32 {
+        Value::unwrap_u32(self)
+    }
+
+    fn unwrap_u64(&self) -> u64 {
+        Value::unwrap_u64(self)
+    }
+
+    fn unwrap_char(&self) -> char {
+        Value::unwrap_char(self)
+    }
+
+    fn unwrap_string(&self) -> &str {
+        Value::unwrap_string(self)
+    }
+
+    fn unwrap_list(&self, alloc: Global) -> Result<Vec<&Value>, AllocError> {
+        Value::unwrap_list(self, alloc)
+    }
+
+    fn unwrap_tuple(&self, alloc: Global) -> Result<Vec<&Value>, AllocError> {
+        Value::unwrap_tuple(self, alloc)
+    }
+
+    fn unwrap_record(&self, alloc: Global) -> Result<Vec<(&str, &Value)>, AllocError> {
+        Value::unwrap_record(self, alloc)
+    }
+
+    fn unwrap_variant(&self) -> (&str, Option<&Value>) {
+        Value::unwrap_variant(self)
+    }
+
+    fn unwrap_enum(&self) -> &str {
+        Value::unwrap_enum(self)
+    }
+
+    fn unwrap_option(&self) -> Option<&Value> {
+        Value::unwrap_option(self)
+    }
+
+    fn unwrap_result(&self) -> Result<Option<&Value>, Option<&Value>> {
+        Value::unwrap_result(self)
+    }
+
+    fn unwrap_flags(&self, alloc: Global) -> Result<Vec<&str>, AllocError> {
+        Value::unwrap_flags(self, alloc)
+    }
+
+    fn unwrap_map(&self, alloc: Global) -> Result<Vec<(&Value, &Value)>, AllocError> {
+        Value::unwrap_map(self, alloc)
+    }
+}
