@@ -4,11 +4,11 @@ use Rattle.std.specs.Prelude.{IfOk, IfErr, Result, Ok, Err}
 use Rattle.std.proofs.lemmas.List.{append-nil}
 use Rattle.wave_wasm.specs.Types.{TypeTree, HasDistinctNames}
 use Rattle.wave_wasm.specs.Values.{Value}
-use Rattle.wave_tree.proofs.Reading.{one_reading}
-use Rattle.wave_tree.proofs.Canon.{reads_merged}
-use Rattle.wave_tree.proofs.CanonLeaves.{one_cut_into}
+use Rattle.wave_grammar.proofs.Unambiguity.OneReading.{one_reading}
+use Rattle.wave_grammar.proofs.RoundTrip.ReadsBack.{reads_merged}
+use Rattle.wave_grammar.proofs.RoundTrip.Leaves.{one_cut_into}
 use Rattle.wave_lex.specs.declared.error.ParserError.{ParserError}
-use Rattle.wave_tree.specs.FromText.{IsMeant, RefusesText}
+use Rattle.wave_tree.specs.FromStr.{IsMeant, RefusesText}
 use Rattle.wasm_wave.specs.Headline.{OneValue, IsMergedAt, RefusesOnly}
 
 -- a text means one value at most

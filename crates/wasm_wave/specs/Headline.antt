@@ -8,10 +8,10 @@ use Rattle.wave_wasm.specs.Text.{text}
 use Rattle.wave_wasm.specs.Types.{HasDistinctNames}
 use Rattle.wave_lex.specs.declared.error.ParserError.{ParserError}
 use Rattle.wave_lex.specs.declared.error.ParserErrorKind.TheVariants.{OutOfMemory}
-use Rattle.wave_tree.specs.Tree.{levels}
-use Rattle.wave_tree.specs.Means.{Means}
-use Rattle.wave_tree.specs.CanonLaws.{ReadBack}
-use Rattle.wave_tree.specs.FromText.{MeansNone}
+use Rattle.wave_grammar.specs.Tree.{levels}
+use Rattle.wave_grammar.specs.Denotes.{Means}
+use Rattle.wave_grammar.specs.RoundTripLaws.{ReadBack}
+use Rattle.wave_grammar.specs.Denotes.{MeansNone}
 
 -- no text means two values of the type
 abbrev pub OneValue : TypeTree → Type 0

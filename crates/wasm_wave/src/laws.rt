@@ -2,8 +2,8 @@
 //! crates below under the same names.
 ghost use Rattle.wave_wasm.specs.Types.{TypeTree, HasDistinctNames, IsOwn};
 ghost use Rattle.wave_lex.specs.Labels.{Good};
-ghost use Rattle.wave_tree.specs.Laws.{OneReading};
-ghost use Rattle.wave_tree.specs.CanonLaws.{ReadsBack, EqualTexts, ReadsMerged, ReadsBackWithinTwice};
+ghost use Rattle.wave_grammar.specs.UnambiguityLaws.{OneReading};
+ghost use Rattle.wave_grammar.specs.RoundTripLaws.{ReadsBack, EqualTexts, ReadsMerged, ReadsBackWithinTwice};
 ghost use Rattle.wasm_wave.specs.Headline.{OneValue};
 
 pub use wave_lex::laws::{

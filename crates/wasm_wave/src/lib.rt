@@ -7,16 +7,16 @@ ghost use Rattle.wave_wasm.specs.Text.{text, has_text};
 ghost use Rattle.wave_wasm.specs.Output.{IsGrounded, IsForMemory};
 ghost use Rattle.wave_wasm.specs.HasType.{HasType};
 ghost use Rattle.wave_lex.specs.Labels.{Good};
-ghost use Rattle.wave_tree.specs.AnswerLaws.{LiesInText};
-ghost use Rattle.wave_tree.specs.Laws.{OneReading};
-ghost use Rattle.wave_tree.specs.CanonLaws.{ReadBack, ReadsBackWithinTwice};
+ghost use Rattle.wave_lex.specs.Errors.{LiesInText};
+ghost use Rattle.wave_grammar.specs.UnambiguityLaws.{OneReading};
+ghost use Rattle.wave_grammar.specs.RoundTripLaws.{ReadBack, ReadsBackWithinTwice};
 ghost use Rattle.wave_wasm.specs.Types.{TypeTree, HasDistinctNames, IsOwn};
 ghost use Rattle.wave_lex.specs.Lexing.{span};
 ghost use Rattle.wave_lex.specs.declared.error.ParserErrorKind.TheVariants as kind;
-ghost use Rattle.wave_tree.specs.Place.{Place};
-ghost use Rattle.wave_tree.specs.Refusals.{Says};
-ghost use Rattle.wave_tree.specs.Standing.{IsCausedBetween};
-ghost use Rattle.wave_tree.specs.FromText.{IsMeant, RefusesText, start_of};
+ghost use Rattle.wave_grammar.specs.ParserPosition.{Place};
+ghost use Rattle.wave_lex.specs.Errors.{Says};
+ghost use Rattle.wave_tree.specs.FromStr.{IsCausedBetween};
+ghost use Rattle.wave_tree.specs.FromStr.{IsMeant, RefusesText, start_of};
 ghost use Rattle.wasm_wave.specs.Headline.{IsToldByText, IsReadAgain, OneValue, IsMergedAt, RefusesOnly};
 
 use crate::wasm::WasmValue;
@@ -29,7 +29,7 @@ pub mod value;
 
 pub use wave_lex::asked::Asked;
 pub use wave_lex::{lex, strings};
-pub use wave_tree::number::WholeNumber;
+pub use wave_grammar::number::WholeNumber;
 pub use wave_tree::{ast, parser, untyped};
 pub use wave_wasm::{wasm, writer};
 

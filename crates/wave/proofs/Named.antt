@@ -2,7 +2,8 @@
 use Rattle.std.proofs.Common.{ℕ, ◌≡◌, ◌≢◌, ◌⊎◌, List, inl, inr, subst, sym}
 use Rattle.wave_lex.specs.declared.error.ParserError.{ParserError}
 use Rattle.wave_lex.specs.declared.error.ParserErrorKind.TheVariants as kind
-use Rattle.wave_tree.specs.FromText.{IsMeant, MeansNone, TextFault, RefusesText}
+use Rattle.wave_tree.specs.FromStr.{IsMeant, TextFault, RefusesText}
+use Rattle.wave_grammar.specs.Denotes.{MeansNone}
 use Rattle.wave_value.specs.Built.{IsFull}
 use Rattle.wave_value.specs.TypedValue.{TypedValue, IsAt}
 use Rattle.wave_wasm.specs.Text.{text}

@@ -6,8 +6,8 @@ use Rattle.wave_wasm.specs.Text.{text}
 use Rattle.wave_lex.specs.Errors.{error_text}
 use Rattle.wave_lex.specs.declared.error.ParserError.{ParserError}
 use Rattle.wave_lex.specs.declared.error.ParserErrorKind.TheVariants as kind
-use Rattle.wave_tree.specs.Means.{Means}
-use Rattle.wave_tree.specs.FromText.{TextFault}
+use Rattle.wave_grammar.specs.Denotes.{Means}
+use Rattle.wave_tree.specs.FromStr.{TextFault}
 use Rattle.wave.specs.declared.program.Unanswered.{Unanswered}
 use Rattle.wave.specs.declared.program.Unanswered.TheVariants as why
 use Rattle.wave.specs.declared.request.Request.{Request}

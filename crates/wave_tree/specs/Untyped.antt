@@ -2,18 +2,17 @@
 use Rattle.std.specs.Prelude.{ℕ, ◌≡◌, ◌≢◌, ◌⊎◌, List, [], None}
 use Rattle.wave_lex.specs.declared.error.ParserError.{ParserError}
 use Rattle.wave_lex.specs.declared.error.ParserErrorKind.TheVariants.{OutOfMemory}
-use Rattle.wave_tree.specs.Token.{Token, CutsInto}
-use Rattle.wave_tree.specs.Tree as tree
-use Rattle.wave_tree.specs.Tree.{Tree}
-use Rattle.wave_tree.specs.Place.{Place, Takes}
-use Rattle.wave_tree.specs.Due.{value}
-use Rattle.wave_tree.specs.Refusals.{IsRead, IsRefused}
-use Rattle.wave_tree.specs.Placed.{Placed, tree_of}
-use Rattle.wave_tree.specs.NodeTree.{NodeTree}
-use Rattle.wave_tree.specs.Nodes.{IsNodeOf}
-use Rattle.wave_tree.specs.Parsed.{IsTaken, IsNodeTaken, StandsBetween}
-use Rattle.wave_tree.specs.Parsing.{IsTrailing}
-use Rattle.wave_tree.specs.FromText.{start_of}
+use Rattle.wave_grammar.specs.Tree.{Tree}
+use Rattle.wave_grammar.specs.ParserPosition.{Place, TakesItem}
+use Rattle.wave_grammar.specs.PrefixAutomaton.{value}
+use Rattle.wave_grammar.specs.SyntaxErrors.{LeadsBehindValue, IsSyntaxError}
+use Rattle.wave_grammar.specs.SpannedTree.{Placed, tree_of}
+use Rattle.wave_node.specs.NodeTree.{NodeTree}
+use Rattle.wave_node.specs.Nodes.{IsNodeOf}
+use Rattle.wave_tree.specs.ParsedNodes.{IsTaken, IsNodeTaken, StandsBetween}
+use Rattle.wave_tree.specs.ParserState.{IsTrailing}
+use Rattle.wave_tree.specs.FromStr.{start_of}
+use Rattle.wave_grammar.specs.Denotes.{SpellsNoTree, SpellsText}
 
 -- an untyped value: its source, and the node of its tree
 pub record Untyped : Type 0 where
@@ -24,10 +23,6 @@ pub record Untyped : Type 0 where
 abbrev pub IsUntypedTaken : Place → Place → Untyped → Type 0
 IsUntypedTaken old new u = (u.source ≡ old.lexer.source) × IsNodeTaken old new u.node
 
--- the whole text spells the tree within 100 levels
-abbrev pub SpellsText : List ℕ → Tree → Type 0
-SpellsText s t = (tokens : List Token) × CutsInto s tokens × tree.Takes 100 tokens t []
-
 -- the value keeps the text, and its node means the tree that the whole text spells
 pub record IsUntypedOf (s : List ℕ) (u : Untyped) : Type 0 where
   pub source : u.source ≡ s
@@ -36,18 +31,14 @@ pub record IsUntypedOf (s : List ℕ) (u : Untyped) : Type 0 where
   pub spelled : SpellsText s (tree_of placed)
   pub last : Place
   pub stands : StandsBetween (start_of s) last placed
-  pub ends : (behind : Place) × Takes last None behind
+  pub ends : (behind : Place) × TakesItem last None behind
 
 -- what is wrong with the text: no tree begins it, or something follows the tree
 abbrev pub SyntaxFault : List ℕ → ParserError → Type 0
 SyntaxFault s e =
-    ((p : Place) × IsRefused e 100 value [] (start_of s) p)
-    ⊎ ((p : Place) × (t : Tree) × IsRead 100 value [] (start_of s) p [] × IsTaken (start_of s) p t × IsTrailing e p)
-
--- the whole text spells no tree
-abbrev pub SpellsNone : List ℕ → Type 0
-SpellsNone s = (t : Tree) → SpellsText s t → ⊥
+    ((p : Place) × IsSyntaxError e 100 value [] (start_of s) p)
+    ⊎ ((p : Place) × (t : Tree) × LeadsBehindValue 100 value [] (start_of s) p [] × IsTaken (start_of s) p t × IsTrailing e p)
 
 -- want of memory; or a fault of the text, which spells no tree
 abbrev pub RefusesTree : List ℕ → ParserError → Type 0
-RefusesTree s e = (e.kind ≢ OutOfMemory) → SyntaxFault s e × SpellsNone s
+RefusesTree s e = (e.kind ≢ OutOfMemory) → SyntaxFault s e × SpellsNoTree s

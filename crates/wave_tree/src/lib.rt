@@ -1,14 +1,14 @@
-//! Trees of values, read from texts.
+//! The parser: trees and values, read from texts.
 #![tactic(auto)]
 
 ghost use Rattle.std.specs.Prelude.{◌≡◌, None, IfOk, IfErr};
 ghost use Rattle.wave_lex.specs.Lexing.{span};
 ghost use Rattle.wave_lex.specs.declared.error.ParserErrorKind.TheVariants as kind;
-ghost use Rattle.wave_tree.specs.Place.{Place};
-ghost use Rattle.wave_tree.specs.Refusals.{Says};
-ghost use Rattle.wave_tree.specs.FromText.{start_of, IsMeant, RefusesText};
-ghost use Rattle.wave_tree.specs.Standing.{IsCausedBetween};
-ghost use Rattle.wave_tree.specs.AnswerLaws.{LiesInText};
+ghost use Rattle.wave_grammar.specs.ParserPosition.{Place};
+ghost use Rattle.wave_lex.specs.Errors.{Says};
+ghost use Rattle.wave_tree.specs.FromStr.{start_of, IsMeant, RefusesText};
+ghost use Rattle.wave_tree.specs.FromStr.{IsCausedBetween};
+ghost use Rattle.wave_lex.specs.Errors.{LiesInText};
 
 use crate::parser::Parser;
 use std::alloc::Global;
@@ -17,16 +17,10 @@ use wave_wasm::wasm::WasmValue;
 
 mod ahead;
 pub mod ast;
-mod flags;
 pub mod laws;
-pub mod number;
-mod params;
 pub mod parser;
-mod record;
-mod text;
-mod typed;
+mod role;
 pub mod untyped;
-mod word;
 
 /// The value of the type that the whole text means. A syntax fault of the value is answered before
 /// any fault of type, and a fault of type before `TrailingCharacters`.

@@ -4,35 +4,39 @@ ghost use Rattle.wave_lex.specs.declared.lex.Token as lex;
 ghost use Rattle.wave_lex.specs.declared.lex.Token.TheVariants as lex_class;
 ghost use Rattle.wave_lex.specs.declared.error.ParserErrorKind.TheVariants as kind;
 ghost use Rattle.wave_lex.specs.Errors.{class_name, repeated_name};
-ghost use Rattle.wave_tree.specs.Place.{Place, Takes, TakesAny, IsSomething, span_at, text_at};
-ghost use Rattle.wave_tree.specs.Tree.{word_of};
-ghost use Rattle.wave_tree.specs.Due.{Form, due_behind};
-ghost use Rattle.wave_tree.specs.Due as due;
-ghost use Rattle.wave_tree.specs.Refusals.{Gives, GivesWithin, GivesAnywhere, Says};
+ghost use Rattle.wave_grammar.specs.ParserPosition.{Place, TakesItem, TakesAny, IsSomething, span_at, text_at};
+ghost use Rattle.wave_grammar.specs.Tree.{word_of};
+ghost use Rattle.wave_grammar.specs.PrefixAutomaton.{Form, due_behind};
+ghost use Rattle.wave_grammar.specs.PrefixAutomaton as due;
+ghost use Rattle.wave_grammar.specs.SyntaxErrors.{Gives, GivesWithin, GivesAnywhere};
+ghost use Rattle.wave_lex.specs.Errors.{Says};
 ghost use Rattle.wave_lex.specs.Lexing.{span, remainder_of};
 ghost use Rattle.wave_tree.specs.Untyped.{IsUntypedTaken};
-ghost use Rattle.wave_tree.specs.Called.{AreParamsTaken, RefusesTuple};
-ghost use Rattle.wave_tree.specs.FromText.{IsValueTaken, RefusesValue};
-ghost use Rattle.wave_tree.specs.Word.{form_of, IsClose};
+ghost use Rattle.wave_tree.specs.UntypedCall.{AreParamsTaken, RefusesTuple};
+ghost use Rattle.wave_tree.specs.FromStr.{IsValueTaken, RefusesValue};
+ghost use Rattle.wave_grammar.specs.TokenRoles.{form_of, IsClose};
 ghost use Rattle.std.specs.BTreeMap.{values};
-ghost use Rattle.wave_tree.specs.NodeTree.{node, no_nodes, node_trees};
-ghost use Rattle.wave_tree.specs.declared.ast.NodeType.TheVariants as node_type;
-ghost use Rattle.wave_tree.specs.Parsed.{IsNodeTaken, IsParsed, IsParsedBehind, IsMaybe, IsPayload, IsOfItems, IsOfEntries, IsOfFlags, label_children};
-ghost use Rattle.wave_tree.specs.Parsing.{Parsing, asked, Asks, ahead_count, IsAhead, first_at, front_of, Advances, Expects, Finishes, StaysWithout};
-ghost use Rattle.wave_tree.specs.Standing.{IsCausedBetween};
-ghost use Rattle.wave_tree.specs.AnswerLaws.{LiesInText, IsInSource};
+ghost use Rattle.wave_node.specs.NodeTree.{node, no_nodes, node_trees};
+ghost use Rattle.wave_node.specs.declared.ast.NodeType.TheVariants as node_type;
+ghost use Rattle.wave_tree.specs.ParsedNodes.{IsNodeTaken, IsParsed, IsParsedBehind, IsMaybe, IsPayload, IsOfItems, IsOfEntries, IsOfFlags, label_children};
+ghost use Rattle.wave_tree.specs.ParserState.{Parsing, asked, Asks, ahead_count, IsAhead, first_at, front_of, Advances, Expects, Finishes, StaysWithout};
+ghost use Rattle.wave_tree.specs.FromStr.{IsCausedBetween};
+ghost use Rattle.wave_lex.specs.Errors.{LiesInText};
+ghost use Rattle.wave_tree.specs.ParserLaws.{LiesInSource};
 
 use crate::ahead::Ahead;
 use crate::ast::{Node, NodeType};
 use crate::untyped::UntypedValue;
 pub use crate::untyped::parse_raw_func_call;
-use crate::word::{Word, key_type, label_name, word_of};
+use crate::role::{LabelRole, key_type, role_of};
 use std::alloc::Global;
 use std::collections::BTreeMap;
 use std::marker::Model;
+use wave_grammar::label::label_name;
 use wave_lex::asked::Asked;
 pub use wave_lex::error::{ParserError, ParserErrorKind};
 use wave_lex::lex::{Lexer, Span, Token};
+use wave_node::ast::make;
 use wave_wasm::wasm::WasmValue;
 
 /// Whether the item is a token of this class.
@@ -117,7 +121,7 @@ impl<'source> Parser<'source> {
 
     /// Takes the next item.
     fn take(&mut self) -> Option<Result<Token, Span>>
-        ensures takes { Takes self.old.place result self.new.place }
+        ensures takes { TakesItem self.old.place result self.new.place }
         ensures asks { asked self.new ≡ self.old.place.taken + 1 }
     {
         match self.ahead.take() {
@@ -144,7 +148,7 @@ impl<'source> Parser<'source> {
     /// Whether a token of this class stands next.
     fn next_is(&mut self, class: Token) -> bool
         ensures stays { self.new.place ≡ self.old.place }
-        ensures answer { IsTrue result ↔ ((next : Place) × Takes self.old.place (Some (Ok class)) next) }
+        ensures answer { IsTrue result ↔ ((next : Place) × TakesItem self.old.place (Some (Ok class)) next) }
         ensures asks { asked self.new ≡ self.old.place.taken + 1 }
     {
         self.look();
@@ -211,20 +215,20 @@ impl<'source> Parser<'source> {
     fn leaf(&self, alloc: Global, ty: NodeType) -> Node
         ensures { result ≡ node ty (span_at self.now.place) no_nodes }
     {
-        Node::leaf(alloc, ty, self.span())
+        make::leaf(alloc, ty, self.span())
     }
 
     /// A node from `start` to the last token.
     fn node(&self, ty: NodeType, start: usize, children: Vec<Node>) -> Node
         ensures { result ≡ node ty (span start self.now.place.lexer.end) (node_trees children.items) }
     {
-        Node::new(ty, start..self.span().end, children)
+        make::node(ty, start..self.span().end, children)
     }
 
     /// A second lexer that stands where the parser's does.
     fn here(&self) -> Lexer<'source>
         ensures place { result ≡ self.now.place.lexer }
-        ensures inside { IsInSource self.now.place.lexer }
+        ensures inside { LiesInSource self.now.place.lexer }
     {
         let _ = self.lexer.span();
         self.lexer.clone()
@@ -386,19 +390,19 @@ impl<'source> Parser<'source> {
         ensures tree { IfOk result (IsParsedBehind lex_class.LabelOrKeyword (levels + 1) self.old.place self.new.place) }
         ensures asks { Asks self.old self.new }
     {
-        match word_of(self.slice()) {
-            Word::True => Ok(self.leaf(alloc, NodeType::BoolTrue)),
-            Word::False => Ok(self.leaf(alloc, NodeType::BoolFalse)),
-            Word::Number => Ok(self.leaf(alloc, NodeType::Number)),
-            Word::None => Ok(self.leaf(alloc, NodeType::OptionNone)),
-            Word::Some => {
+        match role_of(self.slice()) {
+            LabelRole::True => Ok(self.leaf(alloc, NodeType::BoolTrue)),
+            LabelRole::False => Ok(self.leaf(alloc, NodeType::BoolFalse)),
+            LabelRole::Number => Ok(self.leaf(alloc, NodeType::Number)),
+            LabelRole::None => Ok(self.leaf(alloc, NodeType::OptionNone)),
+            LabelRole::Some => {
                 let start = self.span().start;
                 self.expect(Token::ParenOpen)?;
                 self.parse_payload(alloc, levels, NodeType::OptionSome, start, Vec::new(alloc))
             }
-            Word::Ok => self.parse_maybe(alloc, levels, NodeType::ResultOk, NodeType::ResultOk),
-            Word::Err => self.parse_maybe(alloc, levels, NodeType::ResultErr, NodeType::ResultErr),
-            Word::Case => self.parse_maybe(
+            LabelRole::Ok => self.parse_maybe(alloc, levels, NodeType::ResultOk, NodeType::ResultOk),
+            LabelRole::Err => self.parse_maybe(alloc, levels, NodeType::ResultErr, NodeType::ResultErr),
+            LabelRole::Case => self.parse_maybe(
                 alloc,
                 levels,
                 NodeType::Label,
@@ -587,7 +591,7 @@ impl<'source> Parser<'source> {
 
     /// Reads the flags behind the first, which was read, and the close.
     fn parse_flags(&mut self, alloc: Global, start: usize) -> Result<Node, ParserError>
-        requires { (next : Place) → Takes self.old.place (Some (Ok lex_class.Colon)) next → ⊥ }
+        requires { (next : Place) → TakesItem self.old.place (Some (Ok lex_class.Colon)) next → ⊥ }
         ensures led { GivesAnywhere result (due.behind_word (text_at self.old.place)) self.old.place self.new.place }
         ensures tree { IfOk result (IsOfFlags start self.old.place self.new.place) }
         ensures asks { Asks self.old self.new }

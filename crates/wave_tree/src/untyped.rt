@@ -1,10 +1,10 @@
 //! Values that were read without a type.
 ghost use Rattle.std.specs.Prelude.{◌≡◌, IfOk, IfErr};
-ghost use Rattle.wave_tree.specs.Typed.{IsValueOf};
-ghost use Rattle.wave_tree.specs.Typed as typed;
+ghost use Rattle.wave_node.specs.TypedReading.{IsValueOf};
+ghost use Rattle.wave_node.specs.TypedReading as typed;
 ghost use Rattle.wave_tree.specs.Untyped.{IsUntypedOf, RefusesTree};
-ghost use Rattle.wave_tree.specs.Standing.{StandsIn};
-ghost use Rattle.wave_tree.specs.AnswerLaws.{LiesInText};
+ghost use Rattle.wave_node.specs.ErrorSpans.{StandsIn};
+ghost use Rattle.wave_lex.specs.Errors.{LiesInText};
 
 pub use self::call::{UntypedFuncCall, parse_raw_func_call};
 use crate::ast::Node;
@@ -26,9 +26,9 @@ pub struct UntypedValue<'source> {
 
 impl<'source> Model for UntypedValue<'source> {
     ghost use Rattle.std.specs.Cow.{cow_str_bytes};
-    ghost use Rattle.wave_tree.specs.Typed.{IsValueOf};
+    ghost use Rattle.wave_node.specs.TypedReading.{IsValueOf};
     ghost use Rattle.wave_tree.specs.Untyped.{Untyped};
-    ghost use Rattle.wave_tree.specs.UntypedCode.{untyped_code};
+    ghost use Rattle.wave_tree.specs.UntypedEncoding.{untyped_code};
 
     ghost Value = { Untyped };
 
@@ -106,7 +106,7 @@ impl<'source> UntypedValue<'source> {
 
     /// The value that the type gives the untyped one, or a refusal, as of its node.
     pub fn to_wasm_value<V: WasmValue>(&self, alloc: Global, ty: &V::Type) -> Result<V, ParserError>
-        ensures answer { typed.Reads V.tree V.is_of V.is_full (V.Type.tree ty.now) self.now.source self.now.node result }
+        ensures answer { typed.ReadsAtType V.tree V.is_of V.is_full (V.Type.tree ty.now) self.now.source self.now.node result }
         ensures within { IfErr result (StandsIn self.now.node) }
         ensures in_text { IfErr result (λ e. LiesInText self.now.source e.span) }
     {

@@ -1,4 +1,4 @@
-use Rattle.wave_tree.proofs.Canon.{equal_texts, reads_back, reads_back_within_twice, text_means}
+use Rattle.wave_grammar.proofs.RoundTrip.ReadsBack.{equal_texts, reads_back, reads_back_within_twice, text_means}
 use Rattle.wave_wasm.proofs.Writable.{refused_so}
 use Rattle.wasm_wave.proofs.to_string.Goals as goal
 

@@ -1,15 +1,15 @@
 use Rattle.std.proofs.Common.{subst}
-use Rattle.wave_tree.specs.Parsing.{Parsing}
-use Rattle.wave_tree.specs.FromText.{IsValueTaken, RefusesValue}
-use Rattle.wave_tree.proofs.Texts.{value_refused, trailing_refused, value_meant, refusal_handed}
+use Rattle.wave_tree.specs.ParserState.{Parsing}
+use Rattle.wave_tree.specs.FromStr.{IsValueTaken, RefusesValue}
+use Rattle.wave_tree.proofs.TextReading.{value_refused, trailing_refused, value_meant, refusal_handed}
 use Rattle.wave_lex.specs.declared.error.ParserError.{ParserError}
-use Rattle.wave_tree.specs.Place.{Place}
-use Rattle.wave_tree.specs.FromText.{start_of}
-use Rattle.wave_tree.specs.AnswerLaws.{LiesInText}
-use Rattle.wave_tree.specs.Standing.{IsCausedBetween}
-use Rattle.wave_tree.proofs.ParamLemmas.{error_handed}
-use Rattle.wave_tree.proofs.Spans.{trailing_kind}
-use Rattle.wave_tree.proofs.FaultSpans.{trailing_lies}
+use Rattle.wave_grammar.specs.ParserPosition.{Place}
+use Rattle.wave_tree.specs.FromStr.{start_of}
+use Rattle.wave_lex.specs.Errors.{LiesInText}
+use Rattle.wave_tree.specs.FromStr.{IsCausedBetween}
+use Rattle.wave_node.proofs.Parameters.{error_handed}
+use Rattle.wave_tree.proofs.ErrorSpans.Syntax.{trailing_kind}
+use Rattle.wave_tree.proofs.ErrorSpans.Trailing.{trailing_lies}
 use Rattle.wave_tree.proofs.from_str.Goals as goal
 
 pub returns-in_err-value-clause-refused : goal.returns-in_err-value-clause-refused

@@ -1,18 +1,17 @@
 //! Calls that were read without types.
 ghost use Rattle.std.specs.Prelude.{◌≡◌, ℕ, Some, IfOk, IfErr, option_map, map};
 ghost use Rattle.std.specs.Fmt.{DisplaysOnOk};
-ghost use Rattle.wave_tree.specs.Placed.{slice};
-ghost use Rattle.wave_tree.specs.Standing.{IsCausedInParams};
+ghost use Rattle.wave_grammar.specs.SpannedTree.{slice};
+ghost use Rattle.wave_node.specs.ErrorSpans.{IsCausedInParams};
 ghost use Rattle.wave_lex.specs.declared.error.ParserErrorKind.TheVariants.{WasmValueError};
-ghost use Rattle.wave_tree.specs.AnswerLaws.{LiesInText};
+ghost use Rattle.wave_lex.specs.Errors.{LiesInText};
 ghost use Rattle.wave_lex.specs.FunctionName.{IsName};
 ghost use Rattle.wave_wasm.specs.Lists.{AllOf};
 ghost use Rattle.wave_wasm.specs.Types.{HasDistinctNames};
-ghost use Rattle.wave_tree.specs.Called.{IsParamsOf, IsInSource, IsCalledOf, NameFault, RefusesCall, GivesParamsAt, RefusesParamsAt, call_shown};
-ghost use Rattle.wave_tree.specs.ShownAgain.{IsCallKeptByDisplay};
+ghost use Rattle.wave_tree.specs.UntypedCall.{IsParamsOf, CallStandsIn, IsCalledOf, NameFault, RefusesCall, GivesParamsAt, RefusesParamsAt, call_shown};
+ghost use Rattle.wave_tree.specs.DisplayKeeps.{IsCallKeptByDisplay};
 
 use crate::ast::Node;
-use crate::params::omitted_params;
 use crate::parser::{Parser, ParserError, ParserErrorKind};
 use crate::untyped::display::write_node;
 use std::alloc::Global;
@@ -20,6 +19,7 @@ use std::borrow::CowStr;
 use std::fmt;
 use std::marker::Model;
 use wave_lex::lex::{FuncNameLexer, Span};
+use wave_node::params::omitted_params;
 use wave_wasm::wasm::WasmValue;
 
 /// The call that the whole text is: a function name at its start, and parameters in parentheses. A
@@ -64,8 +64,8 @@ pub struct UntypedFuncCall<'source> {
 
 impl<'source> Model for UntypedFuncCall<'source> {
     ghost use Rattle.std.specs.Cow.{cow_str_bytes};
-    ghost use Rattle.wave_tree.specs.Called.{Called, IsInSource};
-    ghost use Rattle.wave_tree.specs.CalledCode.{called_code};
+    ghost use Rattle.wave_tree.specs.UntypedCall.{Called, CallStandsIn};
+    ghost use Rattle.wave_tree.specs.CallEncoding.{called_code};
 
     ghost Value = { Called };
 
@@ -73,13 +73,13 @@ impl<'source> Model for UntypedFuncCall<'source> {
 
     ghost view = { λ u. record { source = cow_str_bytes u.source; name = u.name; params = u.params } };
 
-    ghost invariant = { λ u. IsInSource (cow_str_bytes u.source) u.name u.params };
+    ghost invariant = { λ u. CallStandsIn (cow_str_bytes u.source) u.name u.params };
 }
 
 impl<'source> UntypedFuncCall<'source> {
     /// The call of this name, with the node of its parameters.
     fn new(source: &'source str, name: Span, params: Option<Node>) -> UntypedFuncCall<'source>
-        requires { IsInSource source.now name params }
+        requires { CallStandsIn source.now name params }
         ensures { result ≡ record { source = source.now; name = name; params = params } }
     {
         UntypedFuncCall {
@@ -180,7 +180,7 @@ impl<'source> UntypedFuncCall<'source> {
 
 impl fmt::Display for UntypedFuncCall<'_> {
     ghost use Rattle.std.specs.Prelude.{Some};
-    ghost use Rattle.wave_tree.specs.Called.{call_shown};
+    ghost use Rattle.wave_tree.specs.UntypedCall.{call_shown};
 
     ghost output = { λ u. Some (call_shown u) };
 

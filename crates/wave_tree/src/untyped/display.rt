@@ -3,22 +3,23 @@ ghost use Rattle.std.specs.Prelude.{◌≡◌, ◌++◌, All, Some, map, codes};
 ghost use Rattle.std.specs.Fmt.{WritesOnOk, DisplaysOnOk};
 ghost use Rattle.wave_wasm.specs.Commas.{joined, enclosed, behind_name, in_parens, in_braces};
 ghost use Rattle.wave_wasm.specs.Keywords.{case_label};
-ghost use Rattle.wave_tree.specs.NodeTree.{type_of};
-ghost use Rattle.wave_tree.specs.Nodes.{IsParsedFrom};
-ghost use Rattle.wave_tree.specs.Typed.{IsValueOf};
-ghost use Rattle.wave_tree.specs.Answers.{text_at};
-ghost use Rattle.wave_tree.specs.ShownAgain.{IsKeptByDisplay};
-ghost use Rattle.wave_tree.specs.ShownNodes.{shown_at, name_at, entries_at, fields_at, payload_at, AreEntriesOf};
+ghost use Rattle.wave_node.specs.NodeTree.{type_of};
+ghost use Rattle.wave_node.specs.Nodes.{IsParsedFrom};
+ghost use Rattle.wave_node.specs.TypedReading.{IsValueOf};
+ghost use Rattle.wave_node.specs.NodeAccessors.{node_text};
+ghost use Rattle.wave_tree.specs.DisplayKeeps.{IsKeptByDisplay};
+ghost use Rattle.wave_tree.specs.NodeDisplay.{shown_at, name_at, entries_at, fields_at, payload_at, AreEntriesOf};
 
 use crate::ast::{Node, NodeType};
 use crate::untyped::UntypedValue;
-use crate::word::label_name;
 use std::fmt;
+use wave_grammar::label::label_name;
+use wave_node::ast::make;
 use wave_wasm::keyword::Keyword;
 
 impl fmt::Display for UntypedValue<'_> {
     ghost use Rattle.std.specs.Prelude.{Some};
-    ghost use Rattle.wave_tree.specs.ShownNodes.{shown_at};
+    ghost use Rattle.wave_tree.specs.NodeDisplay.{shown_at};
 
     ghost output = { λ u. Some (shown_at u.source u.node) };
 
@@ -48,17 +49,17 @@ pub(crate) fn write_node<W: fmt::Write>(
         | NodeType::Char
         | NodeType::String
         | NodeType::MultilineString
-        | NodeType::Label => f.write_str(node.slice(src)),
-        NodeType::Tuple => write_listed(f, "(", node.nodes(), ")", src),
-        NodeType::List => write_listed(f, "[", node.nodes(), "]", src),
-        NodeType::TupleSet => write_fields(f, node.nodes(), src),
+        | NodeType::Label => f.write_str(make::slice(node, src)),
+        NodeType::Tuple => write_listed(f, "(", make::nodes(node), ")", src),
+        NodeType::List => write_listed(f, "[", make::nodes(node), "]", src),
+        NodeType::TupleSet => write_fields(f, make::nodes(node), src),
         NodeType::EmptySet => f.write_str("{}"),
         NodeType::VariantWithPayload => write_case(f, node, src),
-        NodeType::OptionSome => write_payload(f, "some", node.nodes(), src),
+        NodeType::OptionSome => write_payload(f, "some", make::nodes(node), src),
         NodeType::OptionNone => f.write_str("none"),
-        NodeType::ResultOk => write_payload(f, "ok", node.nodes(), src),
-        NodeType::ResultErr => write_payload(f, "err", node.nodes(), src),
-        NodeType::Flags => write_flags(f, node.nodes(), src),
+        NodeType::ResultOk => write_payload(f, "ok", make::nodes(node), src),
+        NodeType::ResultErr => write_payload(f, "err", make::nodes(node), src),
+        NodeType::Flags => write_flags(f, make::nodes(node), src),
     }
 }
 
@@ -135,9 +136,9 @@ fn write_entry<W: fmt::Write>(
 ) -> fmt::Result
     requires key { IsParsedFrom src.now key.now }
     requires value { IsValueOf src.now value.now }
-    ensures { WritesOnOk W.write_str_gives f.old result (behind_name (text_at src.now key.now) (shown_at src.now value.now)) f.new }
+    ensures { WritesOnOk W.write_str_gives f.old result (behind_name (node_text src.now key.now) (shown_at src.now value.now)) f.new }
 {
-    f.write_str(key.slice(src))?;
+    f.write_str(make::slice(key, src))?;
     f.write_str(": ")?;
     write_node(f, value, src)
 }
@@ -169,10 +170,10 @@ fn write_case<W: fmt::Write>(f: &mut fmt::Formatter<W>, node: &Node, src: &str) 
     requires ty { type_of node.now ≡ NodeType.VariantWithPayload }
     ensures { WritesOnOk W.write_str_gives f.old result (shown_at src.now node.now) f.new }
 {
-    let nodes = node.nodes();
+    let nodes = make::nodes(node);
     let label = &nodes[0];
     let payload = &nodes[1];
-    write_label(f, label_name(label.slice(src)))?;
+    write_label(f, label_name(make::slice(label, src)))?;
     f.write_str("(")?;
     write_node(f, payload, src)?;
     f.write_str(")")
@@ -209,7 +210,7 @@ fn write_names<W: fmt::Write>(f: &mut fmt::Formatter<W>, nodes: &[Node], src: &s
     let mut separator = "";
     for node in nodes {
         f.write_str(separator)?;
-        f.write_str(label_name(node.slice(src)))?;
+        f.write_str(label_name(make::slice(node, src)))?;
         separator = ", ";
     }
     Ok(())

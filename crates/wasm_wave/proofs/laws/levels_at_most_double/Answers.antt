@@ -1,4 +1,4 @@
-use Rattle.wave_tree.proofs.Canon.{reads_back_within_twice}
+use Rattle.wave_grammar.proofs.RoundTrip.ReadsBack.{reads_back_within_twice}
 use Rattle.wasm_wave.proofs.laws.levels_at_most_double.Goals as goal
 
 pub returns : goal.returns

@@ -1,4 +1,4 @@
-use Rattle.wave_tree.proofs.Reading.{one_reading}
+use Rattle.wave_grammar.proofs.Unambiguity.OneReading.{one_reading}
 use Rattle.wasm_wave.proofs.Headline.{one_value_of}
 use Rattle.wasm_wave.proofs.laws.one_value.Goals as goal
 

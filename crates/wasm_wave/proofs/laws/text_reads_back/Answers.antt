@@ -1,4 +1,4 @@
-use Rattle.wave_tree.proofs.Canon.{reads_back}
+use Rattle.wave_grammar.proofs.RoundTrip.ReadsBack.{reads_back}
 use Rattle.wasm_wave.proofs.laws.text_reads_back.Goals as goal
 
 pub returns : goal.returns

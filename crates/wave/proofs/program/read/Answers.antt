@@ -1,5 +1,5 @@
 use Rattle.std.proofs.Common.{subst}
-use Rattle.wave_tree.specs.FromText.{IsMeant, RefusesText}
+use Rattle.wave_tree.specs.FromStr.{IsMeant, RefusesText}
 use Rattle.wave_value.specs.Built.{IsFull}
 use Rattle.wave_value.specs.TypedValue.{TypedValue, IsAt}
 use Rattle.wave.proofs.Named.{answered, refused}

@@ -1,4 +1,4 @@
-use Rattle.wave_tree.proofs.Askings.{few}
+use Rattle.wave_tree.proofs.LexerCallCount.{few}
 use Rattle.wave_tree.proofs.laws.askings_are_few.Goals as goal
 
 pub returns : goal.returns

@@ -3,22 +3,22 @@ use Rattle.wave_wasm.specs.Names.{is_one_of}
 use Rattle.std.proofs.Common.{◌≡◌, ℕ, ◌+◌, Some, Ok, List, [], ◌∷◌, refl, sym, ap, subst, ◌∙◌, inl, inr, arith}
 use Rattle.wave_lex.specs.declared.lex.Token as lex
 use Rattle.wave_lex.specs.declared.lex.Token.TheVariants.{BraceOpen, BraceClose, ParenOpen, ParenClose, BracketOpen, Colon, Comma, Number, LabelOrKeyword, Char, String, MultilineString}
-use Rattle.wave_tree.specs.Place.{Place, Takes, span_at, text_at, token_of}
-use Rattle.wave_tree.specs.Tree.{word_of}
-use Rattle.wave_tree.specs.Due.{Due, Form, due_behind, reads, behind_step, step, key_step, brace_step, behind_flag_step, flag_step}
-use Rattle.wave_tree.specs.Due as due
-use Rattle.wave_tree.specs.Refusals.{Gives, IsBehind, IsRead}
+use Rattle.wave_grammar.specs.ParserPosition.{Place, TakesItem, span_at, text_at, token_of}
+use Rattle.wave_grammar.specs.Tree.{word_of}
+use Rattle.wave_grammar.specs.PrefixAutomaton.{Due, Form, due_behind, reads, behind_step, step, key_step, brace_step, behind_flag_step, flag_step}
+use Rattle.wave_grammar.specs.PrefixAutomaton as due
+use Rattle.wave_grammar.specs.SyntaxErrors.{Gives, IsBehind, LeadsBehindValue}
 use Rattle.std.specs.declared.ops.Range.{Range}
-use Rattle.wave_tree.specs.Word.{form_of, IsClose}
-use Rattle.wave_tree.specs.Parsing.{spec_word}
-use Rattle.wave_tree.proofs.Going.{here, here_is, handed, gives_then, fails, any_token, shallow, value_read, no_value, level_open, read_there, unexpected_there, no_paren, then_token, token_there, behind_bare, reached, fails_behind, then_behind, payload_other, unexpected_behind, expected, untrue, moved, then_class, then_behind_class, range_path, close_first, close_empty, close_next, then_same, then_refuses, item_refuses, item_read, then_reached, Reached, IsItemDue, no_close, empty_there, key_reads, no_key, brace_key, entries_other, close_behind, comma_behind, other_behind, token_less, tokens_less, left_at, no_colon, no_brace}
-use Rattle.wave_tree.specs.Parsing.{HasText}
-use Rattle.wave_tree.specs.Parsed.{AreItems, TakesClass, items_type}
-use Rattle.wave_tree.specs.NodeTree.{node, no_nodes, node_trees}
-use Rattle.wave_tree.specs.declared.ast.NodeType.TheVariants as kind_of_node
+use Rattle.wave_grammar.specs.TokenRoles.{form_of, IsClose}
+use Rattle.wave_tree.specs.ParserState.{spec_word}
+use Rattle.wave_tree.proofs.ParserSteps.{here, here_is, handed, gives_then, fails, any_token, shallow, value_read, no_value, level_open, read_there, unexpected_there, no_paren, then_token, token_there, behind_bare, reached, fails_behind, then_behind, payload_other, unexpected_behind, expected, untrue, moved, then_class, then_behind_class, range_path, close_first, close_empty, close_next, then_same, then_refuses, item_refuses, item_read, then_reached, Reached, IsItemDue, no_close, empty_there, key_reads, no_key, brace_key, entries_other, close_behind, comma_behind, other_behind, token_less, tokens_less, left_at, no_colon, no_brace}
+use Rattle.wave_tree.specs.ParserState.{HasText}
+use Rattle.wave_tree.specs.ParsedNodes.{AreItems, TakesClass, items_type}
+use Rattle.wave_node.specs.NodeTree.{node, no_nodes, node_trees}
+use Rattle.wave_node.specs.declared.ast.NodeType.TheVariants as kind_of_node
 use Rattle.wave_lex.specs.Lexing.{span}
-use Rattle.wave_tree.proofs.Tied.{class_as, number_tied, char_tied, string_tied, multiline_tied, label_tied, items_tied, braces_tied, leaf_tied, number_word_tied, none_tied, some_tied, ok_tied, err_tied, case_tied, pushed, some_there, type_of_items, items_made, items_none, items_first, items_next, pairs_next, pairs_close, empty_tied, no_fields_tied, entries_tied, flags_tied, payload_tied}
-use Rattle.wave_tree.proofs.Askings.{asks_once, asks_token, asks_looked, asks_read, asks_reached}
+use Rattle.wave_tree.proofs.NodeCorrectness.Items.{class_as, number_tied, char_tied, string_tied, multiline_tied, label_tied, items_tied, braces_tied, leaf_tied, number_word_tied, none_tied, some_tied, ok_tied, err_tied, case_tied, pushed, some_there, type_of_items, items_made, items_none, items_first, items_next, pairs_next, pairs_close, empty_tied, no_fields_tied, entries_tied, flags_tied, payload_tied}
+use Rattle.wave_tree.proofs.LexerCallCount.{asks_once, asks_token, asks_looked, asks_read, asks_reached}
 use Rattle.wave_tree.proofs.parser.Parser.+parser.Goals as goal
 use Rattle.wave_tree.proofs.parser.Parser.+parser.Goals.{parse_items-then-same-2, parse_items-else-same-2}
 
@@ -49,13 +49,13 @@ parse_node-returns-in-BracketOpen-clause-led t c = λ n s e. gives_then s _ c.pa
 
 pub parse_label-returns-in_err-expect-in-Some-clause-led : goal.parse_label-returns-in_err-expect-in-Some-clause-led
 parse_label-returns-in_err-expect-in-Some-clause-led t c = λ n s e.
-    let there : due_behind (word_of (text_at c.args.self.now.place)) ≡ due.paren = ap due_behind (ap word_of (sym c.slice.ensures) ∙ (sym c.word_of.ensures.word ∙ ap spec_word c.in-Some.is)) in
+    let there : due_behind (word_of (text_at c.args.self.now.place)) ≡ due.paren = ap due_behind (ap word_of (sym c.slice.ensures) ∙ (sym c.role_of.ensures.word ∙ ap spec_word c.in-Some.is)) in
     subst (λ z. Gives c.from_residual.result n z s c.args.self.now.place c.expect.new.self.place s) (sym there) (handed s _ _ c.from_residual.ensures.1
     (fails (inl tt) (λ k. k ≡ ParenOpen) c.in_err-expect-in-Some.field-0.0 (here n due.paren s _) (λ deep. deep.due) (λ k h apart. no_paren n s k (text_at c.expect.new.self.place) apart) c.in_err-expect-in-Some.ensures.takes))
 
 pub parse_label-returns-in_ok-expect-in-Some-clause-led : goal.parse_label-returns-in_ok-expect-in-Some-clause-led
 parse_label-returns-in_ok-expect-in-Some-clause-led t c = λ n s e.
-    let there : due_behind (word_of (text_at c.args.self.now.place)) ≡ due.paren = ap due_behind (ap word_of (sym c.slice.ensures) ∙ (sym c.word_of.ensures.word ∙ ap spec_word c.in-Some.is)) in
+    let there : due_behind (word_of (text_at c.args.self.now.place)) ≡ due.paren = ap due_behind (ap word_of (sym c.slice.ensures) ∙ (sym c.role_of.ensures.word ∙ ap spec_word c.in-Some.is)) in
     subst (λ z. Gives c.parse_payload.result n z s c.args.self.now.place c.parse_payload.new.self.place s) (sym there)
     (gives_then s _ c.parse_payload.result (then_token _ (here n due.paren s _) (token_there _ _ ParenOpen c.in_ok-expect-in-Some.ensures.takes) refl) (c.parse_payload.ensures.led n s (omega arith)))
 
@@ -110,7 +110,7 @@ parse_items-returns-then-next_is-clause-led t c = λ n s e.
 pub parse_items-items-init : goal.parse_items-items-init
 parse_items-items-init t c = record {
   asks = asks_once c.args.self.now c.next_is.new.self c.next_is.ensures.asks;
-  no_close = subst (λ z. (next : Place) × Takes z (Some (Ok c.args.close)) next → ⊥) (sym c.next_is.ensures.stays) (λ next. untrue _ c.if-next_is.false (c.next_is.ensures.answer.1 next));
+  no_close = subst (λ z. (next : Place) × TakesItem z (Some (Ok c.args.close)) next → ⊥) (sym c.next_is.ensures.stays) (λ next. untrue _ c.if-next_is.false (c.next_is.ensures.answer.1 next));
   reached = λ n s e. (due.first_item, inl refl, here_is n due.first_item (form_of c.args.close ∷ s) _ _ c.next_is.ensures.stays);
   tree = items_first _ _ _ _ _ c.new-items.ensures.items c.next_is.ensures.stays;
 }
@@ -122,8 +122,8 @@ parse_items-returns-in_err-item-clause-led t c = λ n s e.
     (item_refuses d c.in_err-item.field-0.0 i (no_close c.args.close s _ c.requires c.items.invariant.no_close) (c.in_err-item.ensures.led n (form_of c.args.close ∷ s) (omega arith))))
 
 -- behind an item that was read
-behind_item : {n : ℕ} {d e : Due} {s : List Form} {p q w : Place} (close : lex.Token) → IsClose close → ((next : Place) × Takes q (Some (Ok close)) next → ⊥) → IsItemDue e →
-    Reached n d (form_of close ∷ s) p e (form_of close ∷ s) q → (h : IsRead n due.value (form_of close ∷ s) q w (form_of close ∷ s)) → Reached n d (form_of close ∷ s) p h.due_there (form_of close ∷ s) w
+behind_item : {n : ℕ} {d e : Due} {s : List Form} {p q w : Place} (close : lex.Token) → IsClose close → ((next : Place) × TakesItem q (Some (Ok close)) next → ⊥) → IsItemDue e →
+    Reached n d (form_of close ∷ s) p e (form_of close ∷ s) q → (h : LeadsBehindValue n due.value (form_of close ∷ s) q w (form_of close ∷ s)) → Reached n d (form_of close ∷ s) p h.due_there (form_of close ∷ s) w
 behind_item {e = e} {s = s} {q = q} close is_close none i r h = then_reached r (item_read e i (no_close close s q is_close none) h)
 
 pub parse_items-returns-in_err-token-clause-led : goal.parse_items-returns-in_err-token-clause-led
@@ -176,7 +176,7 @@ parse_items-items-preserved t c = record {
   asks =
       let (d, i, r) = c.items.invariant.reached (c.args.levels + 1) [] (omega arith) in
       asks_reached (c.args.levels + 1) due.first_item d (form_of c.args.close ∷ []) (form_of c.args.close ∷ []) c.args.self.now c.items.self c.next_is-in-items.new.self r c.items.invariant.asks (asks_read c.args.levels due.value [] [] c.items.self c.parse_node.new.self c.next_is-in-items.new.self (c.in_ok-item.ensures.led c.args.levels [] (omega arith)) c.parse_node.ensures.asks (asks_token c.parse_node.new.self c.advance.new.self c.next_is-in-items.new.self c.in_ok-token.token c.in_ok-token.ensures.takes c.advance.ensures.asks (asks_once c.advance.new.self c.next_is-in-items.new.self c.next_is-in-items.ensures.asks)));
-  no_close = subst (λ z. (next : Place) × Takes z (Some (Ok c.args.close)) next → ⊥) (sym c.next_is-in-items.ensures.stays) (λ next. untrue _ c.if-next_is-2.false (c.next_is-in-items.ensures.answer.1 next));
+  no_close = subst (λ z. (next : Place) × TakesItem z (Some (Ok c.args.close)) next → ⊥) (sym c.next_is-in-items.ensures.stays) (λ next. untrue _ c.if-next_is-2.false (c.next_is-in-items.ensures.answer.1 next));
   reached = λ n s e.
       let (d, i, r) = c.items.invariant.reached n s e in
       let item = c.in_ok-item.ensures.led n (form_of c.args.close ∷ s) (omega arith) in
@@ -331,35 +331,35 @@ parse_node-returns-in-BraceOpen-clause-tree t c = braces_tied _ _ _ _ _ c.parse_
 
 pub parse_label-returns-in-True-clause-tree : goal.parse_label-returns-in-True-clause-tree
 parse_label-returns-in-True-clause-tree t c =
-    let text_is = sym c.slice.ensures ∙ subst (λ z. HasText z c.slice.result.now) c.in-True.is c.word_of.ensures.text in
-    leaf_tied _ _ _ c.leaf.result (ap word_of (sym c.slice.ensures) ∙ (sym c.word_of.ensures.word ∙ ap spec_word c.in-True.is)) (inl (refl, text_is)) c.leaf.ensures
+    let text_is = sym c.slice.ensures ∙ subst (λ z. HasText z c.slice.result.now) c.in-True.is c.role_of.ensures.text in
+    leaf_tied _ _ _ c.leaf.result (ap word_of (sym c.slice.ensures) ∙ (sym c.role_of.ensures.word ∙ ap spec_word c.in-True.is)) (inl (refl, text_is)) c.leaf.ensures
 
 pub parse_label-returns-in-False-clause-tree : goal.parse_label-returns-in-False-clause-tree
 parse_label-returns-in-False-clause-tree t c =
-    let text_is = sym c.slice.ensures ∙ subst (λ z. HasText z c.slice.result.now) c.in-False.is c.word_of.ensures.text in
-    leaf_tied _ _ _ c.leaf-in-False.result (ap word_of (sym c.slice.ensures) ∙ (sym c.word_of.ensures.word ∙ ap spec_word c.in-False.is)) (inr (refl, text_is)) c.leaf-in-False.ensures
+    let text_is = sym c.slice.ensures ∙ subst (λ z. HasText z c.slice.result.now) c.in-False.is c.role_of.ensures.text in
+    leaf_tied _ _ _ c.leaf-in-False.result (ap word_of (sym c.slice.ensures) ∙ (sym c.role_of.ensures.word ∙ ap spec_word c.in-False.is)) (inr (refl, text_is)) c.leaf-in-False.ensures
 
 pub parse_label-returns-in-Number-clause-tree : goal.parse_label-returns-in-Number-clause-tree
 parse_label-returns-in-Number-clause-tree t c =
-    let text_is = ap (is_one_of (codes "inf" ∷ codes "nan" ∷ [])) (sym c.slice.ensures) ∙ subst (λ z. HasText z c.slice.result.now) c.in-Number.is c.word_of.ensures.text in
-    number_word_tied _ _ c.leaf-in-Number.result (ap word_of (sym c.slice.ensures) ∙ (sym c.word_of.ensures.word ∙ ap spec_word c.in-Number.is)) text_is c.leaf-in-Number.ensures
+    let text_is = ap (is_one_of (codes "inf" ∷ codes "nan" ∷ [])) (sym c.slice.ensures) ∙ subst (λ z. HasText z c.slice.result.now) c.in-Number.is c.role_of.ensures.text in
+    number_word_tied _ _ c.leaf-in-Number.result (ap word_of (sym c.slice.ensures) ∙ (sym c.role_of.ensures.word ∙ ap spec_word c.in-Number.is)) text_is c.leaf-in-Number.ensures
 
 pub parse_label-returns-in-None-clause-tree : goal.parse_label-returns-in-None-clause-tree
 parse_label-returns-in-None-clause-tree t c =
-    none_tied _ _ c.leaf-in-None.result (ap word_of (sym c.slice.ensures) ∙ (sym c.word_of.ensures.word ∙ ap spec_word c.in-None.is)) c.leaf-in-None.ensures
+    none_tied _ _ c.leaf-in-None.result (ap word_of (sym c.slice.ensures) ∙ (sym c.role_of.ensures.word ∙ ap spec_word c.in-None.is)) c.leaf-in-None.ensures
 
 pub parse_label-returns-in_ok-expect-in-Some-clause-tree : goal.parse_label-returns-in_ok-expect-in-Some-clause-tree
 parse_label-returns-in_ok-expect-in-Some-clause-tree t c =
-    some_tied _ _ _ _ _ _ c.parse_payload.result (ap word_of (sym c.slice.ensures) ∙ (sym c.word_of.ensures.word ∙ ap spec_word c.in-Some.is)) (ap (λ (z : Range ℕ). z.start) c.span-start.ensures) c.new.ensures.items c.in_ok-expect-in-Some.ensures.takes c.parse_payload.ensures.tree
+    some_tied _ _ _ _ _ _ c.parse_payload.result (ap word_of (sym c.slice.ensures) ∙ (sym c.role_of.ensures.word ∙ ap spec_word c.in-Some.is)) (ap (λ (z : Range ℕ). z.start) c.span-start.ensures) c.new.ensures.items c.in_ok-expect-in-Some.ensures.takes c.parse_payload.ensures.tree
 
 pub parse_label-returns-in-Ok-clause-tree : goal.parse_label-returns-in-Ok-clause-tree
-parse_label-returns-in-Ok-clause-tree t c = ok_tied _ _ _ c.parse_maybe.result (ap word_of (sym c.slice.ensures) ∙ (sym c.word_of.ensures.word ∙ ap spec_word c.in-Ok.is)) c.parse_maybe.ensures.tree
+parse_label-returns-in-Ok-clause-tree t c = ok_tied _ _ _ c.parse_maybe.result (ap word_of (sym c.slice.ensures) ∙ (sym c.role_of.ensures.word ∙ ap spec_word c.in-Ok.is)) c.parse_maybe.ensures.tree
 
 pub parse_label-returns-in-Err-clause-tree : goal.parse_label-returns-in-Err-clause-tree
-parse_label-returns-in-Err-clause-tree t c = err_tied _ _ _ c.parse_maybe-in-Err.result (ap word_of (sym c.slice.ensures) ∙ (sym c.word_of.ensures.word ∙ ap spec_word c.in-Err.is)) c.parse_maybe-in-Err.ensures.tree
+parse_label-returns-in-Err-clause-tree t c = err_tied _ _ _ c.parse_maybe-in-Err.result (ap word_of (sym c.slice.ensures) ∙ (sym c.role_of.ensures.word ∙ ap spec_word c.in-Err.is)) c.parse_maybe-in-Err.ensures.tree
 
 pub parse_label-returns-in-Case-clause-tree : goal.parse_label-returns-in-Case-clause-tree
-parse_label-returns-in-Case-clause-tree t c = case_tied _ _ _ c.parse_maybe-in-Case.result (ap word_of (sym c.slice.ensures) ∙ (sym c.word_of.ensures.word ∙ ap spec_word c.in-Case.is)) c.parse_maybe-in-Case.ensures.tree
+parse_label-returns-in-Case-clause-tree t c = case_tied _ _ _ c.parse_maybe-in-Case.result (ap word_of (sym c.slice.ensures) ∙ (sym c.role_of.ensures.word ∙ ap spec_word c.in-Case.is)) c.parse_maybe-in-Case.ensures.tree
 
 pub parse_items-returns-then-next_is-clause-tree : goal.parse_items-returns-then-next_is-clause-tree
 parse_items-returns-then-next_is-clause-tree t c = items_none _ _ _ c.next_is.new.self.place _ _ c.new-items.result.items c.node.result c.node.ensures c.new-items.ensures.items c.requires (λ k. untrue _ c.if-same.false (c.same.ensures.1 k)) (ap (λ (z : Range ℕ). z.start) c.span-start.ensures) c.next_is.ensures.stays c.in_ok-expect.ensures.takes

@@ -1,12 +1,12 @@
 use Rattle.std.proofs.Common.{◌≡◌, ℕ, ◌+◌, ◌*◌, length, List, ◌∷◌, ◌++◌, Some, Ok}
-use Rattle.wave_tree.specs.Place.{Place, Takes}
-use Rattle.wave_tree.specs.Due.{Due, Form, first_item}
-use Rattle.wave_tree.specs.Due as due
-use Rattle.wave_tree.specs.Word.{form_of}
-use Rattle.wave_tree.specs.NodeTree.{NodeTree}
-use Rattle.wave_tree.specs.Parsed.{IsParsed, AreFurther, AreItems, ArePairs}
-use Rattle.wave_tree.proofs.Going.{Reached, IsItemDue, left_at}
-use Rattle.wave_tree.specs.Parsing.{Asks}
+use Rattle.wave_grammar.specs.ParserPosition.{Place, TakesItem}
+use Rattle.wave_grammar.specs.PrefixAutomaton.{Due, Form, first_item}
+use Rattle.wave_grammar.specs.PrefixAutomaton as due
+use Rattle.wave_grammar.specs.TokenRoles.{form_of}
+use Rattle.wave_node.specs.NodeTree.{NodeTree}
+use Rattle.wave_tree.specs.ParsedNodes.{IsParsed, AreFurther, AreItems, ArePairs}
+use Rattle.wave_tree.proofs.ParserSteps.{Reached, IsItemDue, left_at}
+use Rattle.wave_tree.specs.ParserState.{Asks}
 use Rattle.wave_tree.proofs.parser.Parser.+parser.Given as goal
 
 abbrev pub decreases-parse_node : goal.decreases-parse_node
@@ -27,7 +27,7 @@ decreases-parse_label l = 4 * l.levels + 3
 abbrev pub invariant-parse_items-items : goal.invariant-parse_items-items
 invariant-parse_items-items l = record {
   asks : Asks l.fn.self l.self;
-  no_close : (next : Place) × Takes l.self.place (Some (Ok l.close)) next → ⊥;
+  no_close : (next : Place) × TakesItem l.self.place (Some (Ok l.close)) next → ⊥;
   reached : (n : ℕ) (s : List Form) → n ≡ l.levels + 1 + length s →
       (d : Due) × IsItemDue d × Reached n first_item (form_of l.close ∷ s) l.fn.self.place d (form_of l.close ∷ s) l.self.place;
   tree : (item : NodeTree) (m r : Place) (more : List NodeTree) → IsParsed l.levels l.self.place m item → AreFurther l.levels l.close m more r → AreItems l.levels l.close l.fn.self.place (l.items.items ++ item ∷ more) r;

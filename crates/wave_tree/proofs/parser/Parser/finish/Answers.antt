@@ -1,8 +1,8 @@
 use Rattle.std.proofs.Common.{◌≡◌, ap, sym, ◌∙◌, arith}
-use Rattle.wave_tree.specs.Place.{Place}
-use Rattle.wave_tree.specs.Parsing.{Parsing, ahead_count}
-use Rattle.wave_tree.proofs.AtHand.{finish_at}
-use Rattle.wave_tree.proofs.Spans.{finishes_lie}
+use Rattle.wave_grammar.specs.ParserPosition.{Place}
+use Rattle.wave_tree.specs.ParserState.{Parsing, ahead_count}
+use Rattle.wave_tree.proofs.Lookahead.{finish_at}
+use Rattle.wave_tree.proofs.ErrorSpans.Syntax.{finishes_lie}
 use Rattle.wave_tree.proofs.parser.Parser.finish.Goals as goal
 use Rattle.wave_tree.proofs.parser.Parser.finish.Goals.{in-Some, in-None}
 

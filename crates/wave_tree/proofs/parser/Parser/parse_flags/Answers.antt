@@ -2,29 +2,29 @@ use Rattle.std.proofs.Common.{◌≡◌, ◌≢◌, ℕ, Some, Ok, List, [], ◌
 use Rattle.wave_lex.specs.declared.lex.Token as lex
 use Rattle.wave_lex.specs.declared.lex.Token.TheVariants.{BraceClose, Comma, LabelOrKeyword}
 use Rattle.wave_lex.specs.declared.error.ParserErrorKind.TheVariants as kind
-use Rattle.wave_tree.specs.Place.{Place, Takes, span_at, text_at, token_of}
-use Rattle.wave_tree.specs.Spells.{name_of}
-use Rattle.wave_tree.specs.Due.{Due, Form, due_behind, reads, behind_step, step, key_step, brace_step, behind_flag_step, flag_step}
-use Rattle.wave_tree.specs.Due as due
-use Rattle.wave_tree.proofs.Going.{here, handed, fails, any_token, read_there, unexpected_there, untrue, then_class, then_same, Reached, repeated_there, gives_read, flags_other, no_flag, IsFlagDue, flag_same, flag_not_deep, flag_within, token_less}
+use Rattle.wave_grammar.specs.ParserPosition.{Place, TakesItem, span_at, text_at, token_of}
+use Rattle.wave_grammar.specs.LeafTokens.{name_of}
+use Rattle.wave_grammar.specs.PrefixAutomaton.{Due, Form, due_behind, reads, behind_step, step, key_step, brace_step, behind_flag_step, flag_step}
+use Rattle.wave_grammar.specs.PrefixAutomaton as due
+use Rattle.wave_tree.proofs.ParserSteps.{here, handed, fails, any_token, read_there, unexpected_there, untrue, then_class, then_same, Reached, repeated_there, gives_read, flags_other, no_flag, IsFlagDue, flag_same, flag_not_deep, flag_within, token_less}
 use Rattle.std.specs.Prelude.{if◌then◌else◌}
 use Rattle.wave_wasm.specs.Names.{is_one_of}
-use Rattle.wave_tree.specs.Refusals.{Says}
+use Rattle.wave_lex.specs.Errors.{Says}
 use Rattle.wave_lex.specs.Errors.{repeated_name}
 use Rattle.wave_wasm.proofs.Names.{Holds, holds_none, holds_more, on_ok}
 use Rattle.std.specs.Prelude.{map}
 use Rattle.std.specs.BTreeMap.{insert_entry}
 use Rattle.std.specs.Cmp.Lexicographic.{slice_cmp}
 use Rattle.std.specs.Ordering.{nat_cmp}
-use Rattle.wave_tree.specs.Parsed.{flag_name}
-use Rattle.wave_tree.proofs.Tied.{class_as}
-use Rattle.wave_tree.proofs.Ordered.{entry_of}
+use Rattle.wave_grammar.specs.FlagOrder.{flag_name}
+use Rattle.wave_tree.proofs.NodeCorrectness.Items.{class_as}
+use Rattle.wave_tree.proofs.FlagsSorted.{entry_of}
 use Rattle.wave_tree.proofs.FlagLoop.{flag_at, grown, ended}
-use Rattle.wave_tree.proofs.Askings.{asks_none, asks_once, asks_token, asks_reached}
+use Rattle.wave_tree.proofs.LexerCallCount.{asks_none, asks_once, asks_token, asks_reached}
 use Rattle.wave_tree.proofs.parser.Parser.parse_flags.Goals as goal
 
 -- behind a comma a further flag is due
-due_flag : (names : List (List ℕ)) {n : ℕ} {s : List Form} {p q w : Place} {text : List ℕ} (d : Due) (c : lex.Token) → IsFlagDue d names q → Reached n (due.behind_word text) s p d s q → Takes q (Some (Ok c)) w → c ≡ Comma →
+due_flag : (names : List (List ℕ)) {n : ℕ} {s : List Form} {p q w : Place} {text : List ℕ} (d : Due) (c : lex.Token) → IsFlagDue d names q → Reached n (due.behind_word text) s p d s q → TakesItem q (Some (Ok c)) w → c ≡ Comma →
     Reached n (due.behind_word text) s p (due.flag names) s w
 due_flag names {n} {s} {p} {q} {w} d c i r h e = then_same c r h (flag_same n d names s q w c i h ∙ ap (λ z. behind_flag_step names s (token_of z (text_at w))) e)
 
@@ -92,7 +92,7 @@ returns-then-contains_key-clause-led c = λ n s.
     let comma = due_flag names d c.in_ok-token.token i r c.in_ok-token.ensures.takes (c.same-in-flags.ensures.0 c.if-not-same.false) in
     let name_is = c.label_name-name.ensures ∙ ap name_of c.slice-in-flags.ensures in
     let found = subst (λ z. is_one_of names z ≡ true) name_is (sym (c.flags.invariant.0.holds c.label_name-name.result.now) ∙ (sym c.contains_key.ensures ∙ c.if-contains_key.true)) in
-    repeated_there (inl tt) c.repeated.result LabelOrKeyword comma (subst (λ z. Takes c.advance.new.self.place (Some (Ok z)) c.advance-in-flags.new.self.place) (c.same-in-flags-3.ensures.0 c.if-not-same-2.false) c.in_ok-next.ensures.takes)
+    repeated_there (inl tt) c.repeated.result LabelOrKeyword comma (subst (λ z. TakesItem c.advance.new.self.place (Some (Ok z)) c.advance-in-flags.new.self.place) (c.same-in-flags-3.ensures.0 c.if-not-same-2.false) c.in_ok-next.ensures.takes)
     (ap (λ b. if b then due.repeated_flag else reads (due.behind_flag (names ++ name_of (text_at c.advance-in-flags.new.self.place) ∷ [])) s) found)
     (subst (λ z. c.repeated.result.kind ≢ kind.OutOfMemory → Says c.repeated.result kind.DuplicateFlag (span_at c.advance-in-flags.new.self.place) (Some (repeated_name z))) name_is c.repeated.ensures)
 

@@ -1,6 +1,6 @@
-use Rattle.wave_tree.proofs.Going.{left_at}
+use Rattle.wave_tree.proofs.ParserSteps.{left_at}
 use Rattle.wave_tree.proofs.FlagLoop.{FlagsSoFar}
-use Rattle.wave_tree.specs.Parsing.{Asks}
+use Rattle.wave_tree.specs.ParserState.{Asks}
 use Rattle.wave_tree.proofs.parser.Parser.parse_flags.Given as goal
 
 abbrev pub invariant-flags : goal.invariant-flags

@@ -3,16 +3,16 @@ use Rattle.std.specs.Str.{IsUtf8}
 use Rattle.wave_lex.specs.declared.error.ParserError.{ParserError}
 use Rattle.wave_lex.specs.declared.error.ParserErrorKind.TheVariants as because
 use Rattle.wave_lex.specs.declared.lex.Token.TheVariants as class
-use Rattle.wave_tree.specs.Place.{Place}
-use Rattle.wave_tree.specs.Due as due
-use Rattle.wave_tree.specs.Refusals.{IsRead, IsRefused}
-use Rattle.wave_tree.specs.Parsed.{IsOfItems}
-use Rattle.wave_tree.specs.Called.{RefusesTuple}
-use Rattle.wave_tree.proofs.Going.{expected}
-use Rattle.wave_tree.proofs.ParamLemmas.{error_handed}
-use Rattle.wave_tree.specs.AnswerLaws.{LiesInText}
-use Rattle.wave_tree.proofs.Spans.{fails_lie, tuple_lies, memory_lies}
-use Rattle.wave_tree.proofs.CallTexts.{tuple_taken}
+use Rattle.wave_grammar.specs.ParserPosition.{Place}
+use Rattle.wave_grammar.specs.PrefixAutomaton as due
+use Rattle.wave_grammar.specs.SyntaxErrors.{LeadsBehindValue, IsSyntaxError}
+use Rattle.wave_tree.specs.ParsedNodes.{IsOfItems}
+use Rattle.wave_tree.specs.UntypedCall.{RefusesTuple}
+use Rattle.wave_tree.proofs.ParserSteps.{expected}
+use Rattle.wave_node.proofs.Parameters.{error_handed}
+use Rattle.wave_lex.specs.Errors.{LiesInText}
+use Rattle.wave_tree.proofs.ErrorSpans.Syntax.{fails_lie, tuple_lies, memory_lies}
+use Rattle.wave_tree.proofs.CallReading.{tuple_taken}
 use Rattle.wave_tree.proofs.parser.Parser.parse_params.Goals as goal
 
 pub returns-in_err-expect-2-clause-refused : goal.returns-in_err-expect-2-clause-refused
@@ -28,7 +28,7 @@ returns-then-not-is_memory-clause-refused c =
       c.expect.new.self.place,
       c.in_ok-expect.ensures.takes,
       λ q h. cc (sym c.if-next_is.false ∙ c.next_is.ensures.answer.1 (q, h)),
-      subst (λ (z : Place). IsRefused e 101 due.first_item (due.tuple ∷ []) z new) c.next_is.ensures.stays (c.in-Err.ensures.led 101 [] refl apart),
+      subst (λ (z : Place). IsSyntaxError e 101 due.first_item (due.tuple ∷ []) z new) c.next_is.ensures.stays (c.in-Err.ensures.led 101 [] refl apart),
     )
 
 pub returns-then-not-is_memory-clause-within : goal.returns-then-not-is_memory-clause-within
@@ -40,7 +40,7 @@ returns-then-not-is_memory-clause-within c =
       c.expect.new.self.place,
       c.in_ok-expect.ensures.takes,
       λ q h. cc (sym c.if-next_is.false ∙ c.next_is.ensures.answer.1 (q, h)),
-      subst (λ (z : Place). IsRefused e 101 due.first_item (due.tuple ∷ []) z new) c.next_is.ensures.stays (c.in-Err.ensures.led 101 [] refl apart),
+      subst (λ (z : Place). IsSyntaxError e 101 due.first_item (due.tuple ∷ []) z new) c.next_is.ensures.stays (c.in-Err.ensures.led 101 [] refl apart),
     )) c.here-place.ensures.inside
 
 pub returns-else-not-is_memory-clause-within : goal.returns-else-not-is_memory-clause-within
@@ -59,5 +59,5 @@ pub returns-in-Ok-clause-taken : goal.returns-in-Ok-clause-taken
 returns-in-Ok-clause-taken c =
     let new = c.parse_items.new.self.place in
     tuple_taken c.args.self.now.place c.expect.new.self.place new c.in-Ok.tuple (subst IsUtf8 c.remainder.ensures c.remainder.utf8) c.in_ok-expect.ensures.takes
-    (subst (λ (z : Place). IsRead 101 due.first_item (due.tuple ∷ []) z new []) c.next_is.ensures.stays (c.in-Ok.ensures.led 101 [] refl))
+    (subst (λ (z : Place). LeadsBehindValue 101 due.first_item (due.tuple ∷ []) z new []) c.next_is.ensures.stays (c.in-Ok.ensures.led 101 [] refl))
     (subst (λ (z : Place). IsOfItems 100 class.ParenClose z new c.in-Ok.tuple) c.next_is.ensures.stays c.in-Ok.ensures.tree)

@@ -1,10 +1,10 @@
 use Rattle.std.proofs.Common.{List, ℕ, sym, ap, subst, ◌∙◌}
 use Rattle.wave_lex.specs.Errors.{Refusal}
-use Rattle.wave_tree.specs.AnswerLaws.{LiesInText}
-use Rattle.wave_tree.specs.Parsing.{Parsing}
-use Rattle.wave_tree.specs.Standing.{IsCausedBetween}
-use Rattle.wave_tree.proofs.ParamLemmas.{error_handed}
-use Rattle.wave_tree.proofs.Spans.{memory_lies}
+use Rattle.wave_lex.specs.Errors.{LiesInText}
+use Rattle.wave_tree.specs.ParserState.{Parsing}
+use Rattle.wave_tree.specs.FromStr.{IsCausedBetween}
+use Rattle.wave_node.proofs.Parameters.{error_handed}
+use Rattle.wave_tree.proofs.ErrorSpans.Syntax.{memory_lies}
 use Rattle.wave_tree.proofs.parser.Parser.parse_value.Goals as goal
 
 pub returns-in_err-node-clause-caused : goal.returns-in_err-node-clause-caused

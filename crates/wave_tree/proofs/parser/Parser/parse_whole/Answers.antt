@@ -2,9 +2,9 @@ use Rattle.std.proofs.Common.{◌≢◌, [], refl, sym, ap, subst, ◌∙◌}
 use Rattle.wave_lex.specs.Errors.{Refusal}
 use Rattle.wave_lex.specs.declared.error.ParserErrorKind.TheVariants as because
 use Rattle.std.specs.Str.{IsUtf8}
-use Rattle.wave_tree.specs.Due.{value}
-use Rattle.wave_tree.proofs.Texts.{node_parsed}
-use Rattle.wave_tree.proofs.Spans.{refused_lies, refused_kind, memory_lies}
+use Rattle.wave_grammar.specs.PrefixAutomaton.{value}
+use Rattle.wave_tree.proofs.TextReading.{node_parsed}
+use Rattle.wave_tree.proofs.ErrorSpans.Syntax.{refused_lies, refused_kind, memory_lies}
 use Rattle.wave_tree.proofs.parser.Parser.parse_whole.Goals as goal
 
 pub returns-in-Ok-clause-tree : goal.returns-in-Ok-clause-tree

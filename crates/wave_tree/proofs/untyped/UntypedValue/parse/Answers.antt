@@ -1,25 +1,25 @@
 use Rattle.std.proofs.Common.{subst, []}
-use Rattle.wave_tree.specs.Due.{value}
-use Rattle.wave_tree.specs.Refusals.{IsRead, Refuses}
-use Rattle.wave_tree.specs.Parsing.{Parsing}
+use Rattle.wave_grammar.specs.PrefixAutomaton.{value}
+use Rattle.wave_grammar.specs.SyntaxErrors.{LeadsBehindValue, FailsBySyntax}
+use Rattle.wave_tree.specs.ParserState.{Parsing}
 use Rattle.wave_tree.specs.Untyped.{IsUntypedTaken}
-use Rattle.wave_tree.proofs.TreeTexts.{untyped_of, refused_spells_none, trailing_spells_none, tree_refusal_handed}
+use Rattle.wave_tree.proofs.UntypedReading.{untyped_of, refused_spells_none, trailing_spells_none, tree_refusal_handed}
 use Rattle.wave_lex.specs.declared.error.ParserError.{ParserError}
-use Rattle.wave_tree.specs.AnswerLaws.{LiesInText}
-use Rattle.wave_tree.proofs.ParamLemmas.{error_handed}
-use Rattle.wave_tree.proofs.FaultSpans.{trailing_lies}
+use Rattle.wave_lex.specs.Errors.{LiesInText}
+use Rattle.wave_node.proofs.Parameters.{error_handed}
+use Rattle.wave_tree.proofs.ErrorSpans.Trailing.{trailing_lies}
 use Rattle.wave_tree.proofs.untyped.UntypedValue.parse.Goals as goal
 
 pub returns-in_err-value-clause-refused : goal.returns-in_err-value-clause-refused
 returns-in_err-value-clause-refused c =
     tree_refusal_handed c.args.source.now c.from_residual.result c.in_err-value.field-0.0 c.from_residual.ensures.1
-    (refused_spells_none c.args.source.now c.in_err-value.field-0.0 c.parse_raw_value.new.self.place (subst (λ (z : Parsing). Refuses c.in_err-value.field-0.0 100 value [] z.place c.parse_raw_value.new.self.place) c.new-parser.ensures c.in_err-value.ensures.value))
+    (refused_spells_none c.args.source.now c.in_err-value.field-0.0 c.parse_raw_value.new.self.place (subst (λ (z : Parsing). FailsBySyntax c.in_err-value.field-0.0 100 value [] z.place c.parse_raw_value.new.self.place) c.new-parser.ensures c.in_err-value.ensures.value))
 
 pub returns-in_err-finish-clause-refused : goal.returns-in_err-finish-clause-refused
 returns-in_err-finish-clause-refused c =
     tree_refusal_handed c.args.source.now c.from_residual-in_err-finish.result c.in_err-finish.field-0.0 c.from_residual-in_err-finish.ensures.1
     (trailing_spells_none c.args.source.now c.in_err-finish.field-0.0 c.parse_raw_value.new.self.place c.in_ok-value.value
-    (subst (λ (z : Parsing). IsRead 100 value [] z.place c.parse_raw_value.new.self.place []) c.new-parser.ensures c.in_ok-value.ensures.value)
+    (subst (λ (z : Parsing). LeadsBehindValue 100 value [] z.place c.parse_raw_value.new.self.place []) c.new-parser.ensures c.in_ok-value.ensures.value)
     (subst (λ (z : Parsing). IsUntypedTaken z.place c.parse_raw_value.new.self.place c.in_ok-value.value) c.new-parser.ensures c.in_ok-value.ensures.tree)
     c.in_err-finish.ensures.answer)
 
@@ -37,5 +37,5 @@ returns-in_err-value-clause-within c =
 pub returns-in_err-finish-clause-within : goal.returns-in_err-finish-clause-within
 returns-in_err-finish-clause-within c =
     let e = c.in_err-finish.field-0.0 in
-    let read = subst (λ (z : Parsing). IsRead 100 value [] z.place c.parse_raw_value.new.self.place []) c.new-parser.ensures c.in_ok-value.ensures.value in
+    let read = subst (λ (z : Parsing). LeadsBehindValue 100 value [] z.place c.parse_raw_value.new.self.place []) c.new-parser.ensures c.in_ok-value.ensures.value in
     error_handed (λ (f : ParserError). LiesInText c.args.source.now f.span) c.from_residual-in_err-finish.result e c.from_residual-in_err-finish.ensures.1 (trailing_lies c.args.source.now c.parse_raw_value.new.self.place read.tokens e read.taken c.in_err-finish.ensures.answer)

@@ -1,14 +1,14 @@
 use Rattle.std.proofs.Common.{◌≡◌, ◌≢◌, ap, sym, subst, ◌∙◌}
 use Rattle.wave_lex.specs.declared.error.ParserErrorKind.TheVariants as because
 use Rattle.wave_lex.specs.Lexing.{Lexed, span}
-use Rattle.wave_tree.specs.Place.{Place}
-use Rattle.wave_tree.specs.Parsing.{Parsing, first_at}
-use Rattle.wave_tree.specs.Called.{AreParamsTaken, RefusesTuple, IsCalledOf, RefusesCall, behind_name}
-use Rattle.wave_tree.proofs.ParamLemmas.{error_handed}
-use Rattle.wave_tree.proofs.CallTexts.{name_refused, params_refused, rest_refused, called_of}
+use Rattle.wave_grammar.specs.ParserPosition.{Place}
+use Rattle.wave_tree.specs.ParserState.{Parsing, first_at}
+use Rattle.wave_tree.specs.UntypedCall.{AreParamsTaken, RefusesTuple, IsCalledOf, RefusesCall, behind_name}
+use Rattle.wave_node.proofs.Parameters.{error_handed}
+use Rattle.wave_tree.proofs.CallReading.{name_refused, params_refused, rest_refused, called_of}
 use Rattle.wave_lex.specs.declared.error.ParserError.{ParserError}
-use Rattle.wave_tree.specs.AnswerLaws.{LiesInText}
-use Rattle.wave_tree.proofs.Spans.{name_lies, behind_params_lies}
+use Rattle.wave_lex.specs.Errors.{LiesInText}
+use Rattle.wave_tree.proofs.ErrorSpans.Syntax.{name_lies, behind_params_lies}
 use Rattle.wave_tree.proofs.untyped.call.parse_raw_func_call.Goals as goal
 
 pub returns-in_err-names-clause-refused : goal.returns-in_err-names-clause-refused

@@ -5,16 +5,16 @@ use Rattle.std.proofs.lemmas.Grind.{put_three, put_four}
 use Rattle.std.proofs.Output.{has_written_of_eq}
 use Rattle.wave_wasm.specs.Commas.{enclosed, joined, behind_name, in_parens, in_braces}
 use Rattle.wave_wasm.specs.Keywords.{case_label}
-use Rattle.wave_tree.specs.Spells.{name_of}
-use Rattle.wave_tree.specs.Answers.{text_at}
-use Rattle.wave_tree.specs.NodeTree.{NodeTree, type_of}
-use Rattle.wave_tree.specs.Typed.{IsValueOf}
-use Rattle.wave_tree.specs.Nodes.{IsParsedFrom}
-use Rattle.wave_tree.specs.ShownNodes.{shown_at, name_at, entries_at, fields_at, payload_at, AreEntriesOf}
-use Rattle.wave_tree.specs.declared.ast.NodeType.TheVariants as kind
-use Rattle.wave_tree.proofs.NodeTrees.{node_below}
-use Rattle.wave_tree.proofs.JoinedTexts.{separator_more, joined_turn, all_joined, left, left_turn}
-use Rattle.wave_tree.proofs.ShownLemmas.{plain_shown, word_shown, tuple_shown, list_shown, fields_shown, some_shown, ok_shown, err_shown, flags_shown, case_shown, children_deep, entries_two, entry_at}
+use Rattle.wave_grammar.specs.LeafTokens.{name_of}
+use Rattle.wave_node.specs.NodeAccessors.{node_text}
+use Rattle.wave_node.specs.NodeTree.{NodeTree, type_of}
+use Rattle.wave_node.specs.TypedReading.{IsValueOf}
+use Rattle.wave_node.specs.Nodes.{IsParsedFrom}
+use Rattle.wave_tree.specs.NodeDisplay.{shown_at, name_at, entries_at, fields_at, payload_at, AreEntriesOf}
+use Rattle.wave_node.specs.declared.ast.NodeType.TheVariants as kind
+use Rattle.wave_node.proofs.ChildNodes.Trees.{node_below}
+use Rattle.wave_grammar.proofs.JoinedTexts.{separator_more, joined_turn, all_joined, left, left_turn}
+use Rattle.wave_tree.proofs.Displays.Nodes.{plain_shown, word_shown, tuple_shown, list_shown, fields_shown, some_shown, ok_shown, err_shown, flags_shown, case_shown, children_deep, entries_two, entry_at}
 use Rattle.wave_tree.proofs.untyped.display.+display.Goals as goal
 
 pub write_node-write_listed-requires : goal.write_node-write_listed-requires
@@ -216,7 +216,7 @@ write_entries-loop-i-preserved g t c =
     let two = entries_two source ns c.loop-i.i c.loop-i-test.true c.loop-i.invariant.1 in
     let is = entry_at source ns c.loop-i.i c.index-nodes-i.result c.index-nodes-i-in-loop-i.result two c.index-nodes-i.is c.index-nodes-i-in-loop-i.is in
     let here = subst (AreEntriesOf source) is c.loop-i.invariant.1 in
-    let x = behind_name (text_at source c.index-nodes-i.result) (shown_at source c.index-nodes-i-in-loop-i.result) in (
+    let x = behind_name (node_text source c.index-nodes-i.result) (shown_at source c.index-nodes-i-in-loop-i.result) in (
       search rules,
       here.2,
       λ p.

@@ -1,4 +1,4 @@
-use Rattle.wave_tree.proofs.ShownAgain.{call_kept_by_display}
+use Rattle.wave_tree.proofs.Displays.Meaning.{call_kept_by_display}
 use Rattle.wave_tree.proofs.untyped.call.UntypedFuncCallDisplay.fmt.Goals as goal
 
 pub returns-in_err-write_str-clause-kept : goal.returns-in_err-write_str-clause-kept

@@ -1,4 +1,4 @@
-use Rattle.wave_tree.proofs.ShownAgain.{kept_by_display}
+use Rattle.wave_tree.proofs.Displays.Meaning.{kept_by_display}
 use Rattle.wave_tree.proofs.untyped.display.UntypedValueDisplay.fmt.Goals as goal
 
 pub returns-clause-kept : goal.returns-clause-kept

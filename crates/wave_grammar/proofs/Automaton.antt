@@ -1,0 +1,5 @@
+pub mod Sound
+pub mod Complete
+pub mod Prefixes
+pub mod Lenient
+pub mod RefusedKinds

@@ -1,0 +1,177 @@
+-- The display of a parsed call is such a call, with the same parameters.
+use Rattle.std.proofs.Common.{◌≡◌, ℕ, ◌≤◌, ◌<◌, List, [], ◌∷◌, ◌++◌, inl, inr, refl, sym, ap, subst, ◌∙◌, length, drop, length-append, length-take-le, arith}
+use Rattle.std.specs.Prelude.{encode_utf8_all, ◌↔◌}
+use Rattle.std.proofs.lemmas.Bool.{ltb-true}
+use Rattle.std.proofs.lemmas.List.{append-nil, take-append-drop}
+use Rattle.std.proofs.lemmas.Str.{encode_same, encode_ascii}
+use Rattle.std.proofs.Math.Seq.{take-append_seam, drop-append_seam}
+use Rattle.wave_wasm.specs.Lists.{AllOf}
+use Rattle.wave_wasm.specs.Commas.{joined, in_parens}
+use Rattle.wave_wasm.specs.Types.{TypeTree}
+use Rattle.wave_wasm.specs.Values.{Value}
+use Rattle.wave_lex.specs.declared.machine.name.NameState.{NameState}
+use Rattle.wave_lex.specs.declared.machine.name.NameState.TheVariants.{Label, Version}
+use Rattle.wave_lex.specs.declared.machine.name.Section.TheVariants as section
+use Rattle.wave_lex.specs.declared.machine.name.Word.TheVariants as word
+use Rattle.wave_lex.specs.declared.machine.name.Component.TheVariants as component
+use Rattle.wave_lex.specs.declared.machine.name.Number.TheVariants as number
+use Rattle.wave_lex.specs.NameMachine.{name_rest, name_step}
+use Rattle.wave_lex.specs.FunctionName.{IsName}
+use Rattle.wave_lex.specs.Fronts.{IsFront}
+use Rattle.wave_lex.specs.Regex.{nothing, Matches}
+use Rattle.wave_lex.specs.Derive.{after, after_all}
+use Rattle.wave_lex.specs.Tokens.{function_name}
+use Rattle.wave_lex.proofs.NameMachine.{name_steps}
+use Rattle.wave_grammar.specs.Token.{Token, CutsInto, paren_open, paren_close}
+use Rattle.wave_grammar.specs.CommaSeparated.{Items}
+use Rattle.wave_grammar.specs.Params.{Params}
+use Rattle.wave_grammar.specs.Tree.{Tree, MaybeTree, no_tree, a_tree, tuple, trees, Takes, levels_of_trees, shown_trees}
+use Rattle.wave_grammar.specs.Calls.{SpellsParams, IsCall}
+use Rattle.wave_grammar.specs.DisplayLaws.{ShowsCallAgain, ShownCallKeepsMeaning}
+use Rattle.wave_grammar.proofs.Unambiguity.Levels.{takes-levels, all-within}
+use Rattle.wave_grammar.proofs.RoundTrip.Tokens.{goes_on, stops_here, reached, end_cut}
+use Rattle.wave_grammar.proofs.RoundTrip.Injective.{paren_open_cut, paren_close_cut}
+use Rattle.wave_grammar.proofs.Display.Tokens.{HasShape, cut_shapes}
+use Rattle.wave_grammar.proofs.Display.Trees.{Sound, AreSound, takes_sound, items_keep, sound_trees}
+use Rattle.wave_grammar.proofs.Display.Items.{listed_show}
+use Rattle.wave_grammar.proofs.Display.Tidy.{tidied, parens, shows_all}
+use Rattle.wave_grammar.proofs.Display.Reading.{shown_tidied}
+use Rattle.wave_grammar.proofs.Display.Meaning.{alike_tidy}
+use Rattle.wave_grammar.proofs.Equivalence.LabelSpelling.{AllAlike, alike_back, carries}
+use Rattle.wave_grammar.specs.ParamElaboration.{TreeParams}
+use Rattle.wave_grammar.proofs.Elaboration.Params.{params_to, params_from}
+
+-- ---- names
+
+-- no state of a name takes a `(`
+name_stops : (q : NameState) → after 40 (name_rest q) ≡ nothing
+name_stops (Label section.First word.Start) = refl
+name_stops (Label section.First word.Lower) = refl
+name_stops (Label section.First word.Upper) = refl
+name_stops (Label section.First word.Hyphen) = refl
+name_stops (Label section.First word.Digits) = refl
+name_stops (Label section.Namespace word.Start) = refl
+name_stops (Label section.Namespace word.Lower) = refl
+name_stops (Label section.Namespace word.Upper) = refl
+name_stops (Label section.Namespace word.Hyphen) = refl
+name_stops (Label section.Namespace word.Digits) = refl
+name_stops (Label section.Function word.Start) = refl
+name_stops (Label section.Function word.Lower) = refl
+name_stops (Label section.Function word.Upper) = refl
+name_stops (Label section.Function word.Hyphen) = refl
+name_stops (Label section.Function word.Digits) = refl
+name_stops (Label section.Member word.Start) = refl
+name_stops (Label section.Member word.Lower) = refl
+name_stops (Label section.Member word.Upper) = refl
+name_stops (Label section.Member word.Hyphen) = refl
+name_stops (Label section.Member word.Digits) = refl
+name_stops (Version component.Major number.Start) = refl
+name_stops (Version component.Major number.Zero) = refl
+name_stops (Version component.Major number.Whole) = refl
+name_stops (Version component.Minor number.Start) = refl
+name_stops (Version component.Minor number.Zero) = refl
+name_stops (Version component.Minor number.Whole) = refl
+name_stops (Version component.Patch number.Start) = refl
+name_stops (Version component.Patch number.Zero) = refl
+name_stops (Version component.Patch number.Whole) = refl
+
+name_ends : (cs : List ℕ) → Matches function_name cs → after 40 (after_all cs function_name) ≡ nothing
+name_ends cs h = let (q, e) = reached NameState name_rest name_step name_steps (Label section.First word.Start) cs h in ap (after 40) e ∙ name_stops q
+
+-- a name is the longest before a `(`
+name_there : (cs x r : List ℕ) → encode_utf8_all cs ≡ x → Matches function_name cs → IsName (x ++ 40 ∷ r) (length x)
+name_there cs x r e h =
+    (record { scalars = cs; fits = omega (arith, length-append x (40 ∷ r)); spelled = e ∙ sym (take-append_seam x (40 ∷ r)); has = h }, λ j f. no_longer j f)
+  where
+    no_longer : (j : ℕ) → IsFront function_name (x ++ 40 ∷ r) j → j ≤ length x
+    no_longer j f =
+        let size : length (encode_utf8_all f.scalars) ≡ j = ap length f.spelled ∙ length-take-le j (x ++ 40 ∷ r) f.fits in
+        let long : length (encode_utf8_all cs) ≡ length x = ap length e in
+        elim (goes_on cs f.scalars (40 ∷ r) (drop j (x ++ 40 ∷ r)) (ap (λ (z : List ℕ). z ++ 40 ∷ r) e ∙ (sym (take-append-drop j (x ++ 40 ∷ r)) ∙ ap (λ (z : List ℕ). z ++ drop j (x ++ 40 ∷ r)) (sym f.spelled)))) as (λ _. j ≤ length x) [
+          | inl l ↦ omega arith
+          | inr (c, es, g, there) ↦
+              let same : c ≡ 40 = (encode_same c 40 _ r (sym there ∙ ap (λ (z : List ℕ). z ++ r) (sym (encode_ascii 40 (ltb-true 40 128 refl))))).0 in
+              stops_here function_name cs es c (ap (λ (z : ℕ). after z (after_all cs function_name)) same ∙ name_ends cs h) (subst (λ (z : List ℕ). Matches function_name z) g f.has)
+        ]
+
+-- the parameters of a call, displayed behind its name
+call_of : (s name : List ℕ) (params others : MaybeTree) (x : List ℕ) (tokens : List Token) → IsCall s name params → CutsInto (40 ∷ x) tokens → SpellsParams 100 tokens others → (other : IsCall (name ++ 40 ∷ x) name others) × (other.tokens ≡ tokens)
+call_of s name params others x tokens call cut spelled =
+    let f = call.named.0 in (
+      record {
+        bytes = length name;
+        tokens = tokens;
+        named = name_there f.scalars name x (f.spelled ∙ sym call.is) f.has;
+        is = sym (take-append_seam name (40 ∷ x));
+        cut = subst (λ (z : List ℕ). CutsInto z tokens) (sym (drop-append_seam name (40 ∷ x))) cut;
+        spelled = spelled;
+      },
+      refl,
+    )
+
+-- ---- parameters
+
+params_carried : (Ts : List TypeTree) (ts us : List Tree) (vs : List Value) → AllAlike ts us → TreeParams Ts ts vs → TreeParams Ts us vs
+params_carried Ts [] [] vs h p = p
+params_carried Ts [] (u ∷ us) vs h p = absurd h
+params_carried Ts (t ∷ ts) [] vs h p = absurd h
+params_carried [] (t ∷ ts) (u ∷ us) vs h p = absurd p
+params_carried (T ∷ Ts) (t ∷ ts) (u ∷ us) vs h (v, ws, read, p, e) = (v, ws, carries T t u v h.0 read, params_carried Ts ts us ws h.1 p, e)
+
+all_alike : (ts : List Tree) → AllOf Sound ts → AllAlike ts (tidied (trees ts))
+all_alike [] sound = tt
+all_alike (t ∷ ts) sound = (alike_tidy t sound.0, all_alike ts sound.1)
+
+all_alike_back : (ts us : List Tree) → AllAlike ts us → AllAlike us ts
+all_alike_back [] [] h = tt
+all_alike_back [] (u ∷ us) h = absurd h
+all_alike_back (t ∷ ts) [] h = absurd h
+all_alike_back (t ∷ ts) (u ∷ us) h = (alike_back t u h.0, all_alike_back ts us h.1)
+
+as_many : (ts : List Tree) → 0 < length ts → 0 < length (tidied (trees ts))
+as_many [] l = l
+as_many (t ∷ ts) l = omega arith
+
+-- the display, and that its tokens are the same parameters
+abbrev Keeps : List ℕ → List Token → MaybeTree → Type 0
+Keeps name tokens params = (again : ShowsCallAgain name params) × ((Ts : List TypeTree) (vs : List Value) → Params Ts tokens vs ↔ Params Ts again.call.tokens vs)
+
+keeps_none : (s name : List ℕ) (params : MaybeTree) (call : IsCall s name params) → call.tokens ≡ paren_open ∷ paren_close ∷ [] → Keeps name call.tokens no_tree
+keeps_none s name params call e =
+    let cut : CutsInto (40 ∷ 41 ∷ []) (paren_open ∷ paren_close ∷ []) = paren_open_cut (41 ∷ []) (paren_close ∷ []) (paren_close_cut [] [] end_cut) in
+    let (other, same) = call_of s name params no_tree (41 ∷ []) (paren_open ∷ paren_close ∷ []) call cut (inl (refl, refl)) in (
+      record { others = no_tree; call = other; shown = refl },
+      λ Ts vs. (λ p. subst (λ (z : List Token). Params Ts z vs) (e ∙ sym same) p, λ p. subst (λ (z : List Token). Params Ts z vs) (same ∙ sym e) p),
+    )
+
+keeps_items : (s name : List ℕ) (params : MaybeTree) (call : IsCall s name params) (front : List Token) (items : List Tree) → call.tokens ≡ paren_open ∷ front → 0 < length items → Items paren_close (Takes 100) front items [] → Keeps name call.tokens (a_tree (tuple (trees items)))
+keeps_items s name params call front items e l h =
+    let shapes : AllOf HasShape (paren_open ∷ front) = subst (AllOf HasShape) e (cut_shapes (drop call.bytes s) call.tokens call.cut) in
+    let sound : AllOf Sound items = (items_keep paren_close (Takes 100) Sound (takes_sound 100) front items [] h shapes.1).0 in
+    let all : AreSound (trees items) = sound_trees items sound in
+    let low : levels_of_trees (trees items) ≤ 100 = all-within 100 paren_close (Takes 100) (takes-levels 100) front items [] h in
+    let us : List Tree = tidied (trees items) in
+    let x : List ℕ = joined (shown_trees (trees items)) ++ 41 ∷ [] in
+    let (tokens, c, i) = listed_show paren_open paren_close 40 41 (Takes 100) paren_open_cut parens (shown_trees (trees items)) us (shows_all 100 (trees items) all low) [] [] end_cut in
+    let cut : CutsInto (40 ∷ x) (paren_open ∷ tokens) = subst (λ (z : List ℕ). CutsInto z (paren_open ∷ tokens)) (append-nil (40 ∷ x)) c in
+    let some_items : 0 < length us = as_many items l in
+    let alike : AllAlike items us = all_alike items sound in
+    let (other, same) = call_of s name params (a_tree (tuple (trees us))) x (paren_open ∷ tokens) call cut (inr (tokens, us, refl, some_items, i, refl)) in (
+      record {
+        others = a_tree (tuple (trees us));
+        call = other;
+        shown = ap (λ (xs : List (List ℕ)). name ++ in_parens (joined xs)) (shown_tidied (trees items) all);
+      },
+      λ Ts vs. (
+        λ p. subst (λ (z : List Token). Params Ts z vs) (sym same) (params_from Ts 100 tokens us vs some_items i (params_carried Ts items us vs alike (params_to Ts 100 front items vs l h (subst (λ (z : List Token). Params Ts z vs) e p)))),
+        λ p. subst (λ (z : List Token). Params Ts z vs) (sym e) (params_from Ts 100 front items vs l h (params_carried Ts us items vs (all_alike_back items us alike) (params_to Ts 100 tokens us vs some_items i (subst (λ (z : List Token). Params Ts z vs) same p)))),
+      ),
+    )
+
+-- the display of a parsed call
+pub shown_call_keeps : ShownCallKeepsMeaning
+shown_call_keeps s name params call =
+    elim call.spelled [
+      | inl (e, f) ↦ subst (Keeps name call.tokens) (sym f) (keeps_none s name params call e)
+      | inr (front, items, e, l, h, f) ↦ subst (Keeps name call.tokens) (sym f) (keeps_items s name params call front items e l h)
+    ]

@@ -1,0 +1,3 @@
+pub mod GrammarToTree
+pub mod TreeToGrammar
+pub mod Params

@@ -1,0 +1,4 @@
+pub mod LabelSpelling
+pub mod ByTree
+pub mod LastCommas
+pub mod NameOrder

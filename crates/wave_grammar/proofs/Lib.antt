@@ -1,0 +1,14 @@
+pub mod Unambiguity
+pub mod Elaboration
+pub mod Automaton
+pub mod Examples
+pub mod FlagOrder
+pub mod Slices
+pub mod JoinedTexts
+pub mod RoundTrip
+pub mod Numbers
+pub mod FieldNames
+pub mod Membership
+pub mod Display
+pub mod Equivalence
+pub mod Strings

@@ -1,0 +1,17 @@
+pub mod Tokens
+pub mod Numbers
+pub mod Injective
+pub mod Leaves
+pub mod Escapes
+pub mod Strings
+pub mod Names
+pub mod Items
+pub mod Depth
+pub mod Fields
+pub mod Types
+pub mod ReadsBack
+pub mod Tidy
+pub mod Utf8
+pub mod Typed
+pub mod Cuts
+pub mod Merged

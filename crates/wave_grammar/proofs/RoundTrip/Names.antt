@@ -1,0 +1,171 @@
+-- Labels as tokens, names that are picked, and merged entries that are merged again.
+use Rattle.std.proofs.Common.{◌≡◌, ℕ, ◌≢◌, Bool, true, false, not, cond, nat_lt, List, [], ◌∷◌, ◌++◌, inl, inr, refl, ap, subst, ◌∙◌, arith}
+use Rattle.std.specs.Prelude.{◌&&◌, ◌||◌, ◌==◌, codes, if◌then◌else◌}
+use Rattle.std.specs.Str.{bytes_eq}
+use Rattle.std.proofs.lemmas.Bool.{eqb-true}
+use Rattle.std.proofs.lemmas.Bool.Decides.{nat_tests}
+use Rattle.wave_wasm.specs.Lists.{AllOf}
+use Rattle.wave_wasm.specs.Names.{IsNoneOf, is_one_of}
+use Rattle.wave_wasm.specs.Keywords.{keywords, is_keyword, case_label}
+use Rattle.wave_wasm.specs.Merge.{merge, last_value, without}
+use Rattle.wave_lex.specs.Regex.{Regex, nothing, empty, within, other, both, either, many, Matches, Each, joined, is_within}
+use Rattle.wave_lex.specs.Tokens as shapes
+use Rattle.wave_lex.specs.Labels.{IsLabel}
+use Rattle.wave_lex.proofs.Derive.{after_into}
+use Rattle.wave_lex.proofs.Shapes.{and_true}
+use Rattle.wave_lex.proofs.Fronts.{is_ascii}
+use Rattle.wave_grammar.specs.Token.{label}
+use Rattle.wave_grammar.specs.LeafTokens.{name_of}
+use Rattle.wave_grammar.proofs.Unambiguity.Values.{apart}
+use Rattle.wave_grammar.proofs.RoundTrip.Injective.{IsOneToken, label_cut}
+
+-- ---- labels
+
+-- the shape has ASCII alone
+abbrev has_ascii : Regex → Bool
+has_ascii nothing = true
+has_ascii empty = true
+has_ascii (within lo hi) = nat_lt hi 128
+has_ascii (other cs) = false
+has_ascii (both p q) = has_ascii p && has_ascii q
+has_ascii (either p q) = has_ascii p && has_ascii q
+has_ascii (many p) = has_ascii p
+
+ascii_append : (x y : List ℕ) → is_ascii x ≡ true → is_ascii y ≡ true → is_ascii (x ++ y) ≡ true
+ascii_append [] y a b = b
+ascii_append (c ∷ x) y a b = let p : (nat_lt c 128 ≡ true) × (is_ascii x ≡ true) = and_true _ _ a in rw (p.0, ascii_append x y p.1 b) refl
+
+ascii_joined : (p : Regex) → ((s : List ℕ) → Matches p s → is_ascii s ≡ true) → (parts : List (List ℕ)) → Each (Matches p) parts → is_ascii (joined parts) ≡ true
+ascii_joined p each [] h = refl
+ascii_joined p each (x ∷ parts) h = ascii_append x (joined parts) (each x h.0) (ascii_joined p each parts h.1)
+
+small_within : (lo hi c : ℕ) → nat_lt hi 128 ≡ true → is_within lo hi c ≡ true → nat_lt c 128 ≡ true
+small_within lo hi c h e = grind (arith, nat_tests)
+
+-- a text of such a shape is ASCII
+pub ascii_text : (p : Regex) (s : List ℕ) → has_ascii p ≡ true → Matches p s → is_ascii s ≡ true
+ascii_text nothing s a h = absurd h
+ascii_text empty s a h = ap is_ascii h
+ascii_text (within lo hi) s a (c, e, t) = ap is_ascii e ∙ rw (small_within lo hi c a t) refl
+ascii_text (other cs) s a h = cc
+ascii_text (both p q) s a (x, y, e, hx, hy) =
+    let w : (has_ascii p ≡ true) × (has_ascii q ≡ true) = and_true _ _ a in
+    ap is_ascii e ∙ ascii_append x y (ascii_text p x w.0 hx) (ascii_text q y w.1 hy)
+ascii_text (either p q) s a (inl h) = let w : (has_ascii p ≡ true) × (has_ascii q ≡ true) = and_true _ _ a in ascii_text p s w.0 h
+ascii_text (either p q) s a (inr h) = let w : (has_ascii p ≡ true) × (has_ascii q ≡ true) = and_true _ _ a in ascii_text q s w.1 h
+ascii_text (many p) s a (parts, e, h) = ap is_ascii e ∙ ascii_joined p (λ x. ascii_text p x a) parts h
+
+-- a label, bare or behind a `%`, is one token
+pub label_token : (name : List ℕ) → IsLabel name → IsOneToken name (label name)
+label_token name h = label_cut name ([], name, refl, inl refl, h) (ascii_text shapes.label name refl h)
+
+prefixed_token : (name : List ℕ) → IsLabel name → IsOneToken (37 ∷ name) (label (37 ∷ name))
+prefixed_token name h = label_cut (37 ∷ name) (37 ∷ [], name, refl, inr (37, refl, refl), h) (ascii_text shapes.label name refl h)
+
+-- a label has no `%`
+pub label_name : (name : List ℕ) → IsLabel name → name_of name ≡ name
+label_name [] h = refl
+label_name (b ∷ more) h = by_test (b == 37) refl
+  where
+    by_test : (t : Bool) → (b == 37) ≡ t → (if t then more else b ∷ more) ≡ b ∷ more
+    by_test true e = let same : b ≡ 37 = eqb-true b 37 e in absurd (after_into 37 shapes.label more (subst (λ (z : ℕ). IsLabel (z ∷ more)) same h))
+    by_test false e = refl
+
+-- ---- tests of names
+
+pub not_among : (names : List (List ℕ)) (name : List ℕ) → is_one_of names name ≡ false → IsNoneOf names name
+not_among [] name h = tt
+not_among (first ∷ more) name h =
+    let p = both_false (bytes_eq name first) (is_one_of more name) h in ((λ e. apart name first p.0 e), not_among more name p.1)
+  where
+    both_false : (a b : Bool) → (a || b) ≡ false → (a ≡ false) × (b ≡ false)
+    both_false true b h = cc
+    both_false false b h = (refl, h)
+
+-- how a case is written: a token that stands for its name and is no keyword
+pub case_token : (name : List ℕ) → IsLabel name → IsOneToken (case_label name) (label (case_label name)) × (name_of (case_label name) ≡ name) × IsNoneOf keywords (case_label name)
+case_token name h = by_test (is_keyword name) refl
+  where
+    no_word : (b : ℕ) (word : List ℕ) → 37 ≢ b → (37 ∷ name) ≢ (b ∷ word)
+    no_word b word n e = n cc
+
+    by_test : (t : Bool) → is_keyword name ≡ t
+        → IsOneToken (if t then codes "%" ++ name else name) (label (if t then codes "%" ++ name else name)) × (name_of (if t then codes "%" ++ name else name) ≡ name) × IsNoneOf keywords (if t then codes "%" ++ name else name)
+    by_test true e = (
+      prefixed_token name h,
+      refl,
+      (
+        no_word _ _ (λ f. omega (arith, f)),
+        (no_word _ _ (λ f. omega (arith, f)), (no_word _ _ (λ f. omega (arith, f)), (no_word _ _ (λ f. omega (arith, f)), (no_word _ _ (λ f. omega (arith, f)), (no_word _ _ (λ f. omega (arith, f)), (no_word _ _ (λ f. omega (arith, f)), (no_word _ _ (λ f. omega (arith, f)), tt))))))),
+      ),
+    )
+    by_test false e = (label_token name h, label_name name h, not_among keywords name e)
+
+-- ---- merged entries
+
+module _ {K V : Type 0} (same : K → K → Bool) where
+  -- no key is the key of an entry behind it
+  abbrev pub AreApart : List (K × V) → Type 0
+  AreApart [] = Unit {0}
+  AreApart (e ∷ es) = AllOf (λ f. same e.0 f.0 ≡ false) es × AreApart es
+
+  kept : (P : K × V → Type 0) (key : K) (es : List (K × V)) → AllOf P es → AllOf P (without same key es)
+  kept P key [] h = tt
+  kept P key (e ∷ es) h = by_test (same key e.0) (kept P key es h.1)
+    where
+      by_test : (t : Bool) → AllOf P (without same key es) → AllOf P (cond (not t) (e ∷ without same key es) (without same key es))
+      by_test true w = w
+      by_test false w = (h.0, w)
+
+  kept_apart : (key : K) (es : List (K × V)) → AreApart es → AreApart (without same key es)
+  kept_apart key [] h = tt
+  kept_apart key (e ∷ es) h = by_test (same key e.0) (kept_apart key es h.1)
+    where
+      by_test : (t : Bool) → AreApart (without same key es) → AreApart (cond (not t) (e ∷ without same key es) (without same key es))
+      by_test true w = w
+      by_test false w = (kept (λ f. same e.0 f.0 ≡ false) key es h.0, w)
+
+  kept_other : (key : K) (es : List (K × V)) → AllOf (λ f. same key f.0 ≡ false) (without same key es)
+  kept_other key [] = tt
+  kept_other key (e ∷ es) = by_test (same key e.0) refl (kept_other key es)
+    where
+      by_test : (t : Bool) → same key e.0 ≡ t → AllOf (λ f. same key f.0 ≡ false) (without same key es) → AllOf (λ f. same key f.0 ≡ false) (cond (not t) (e ∷ without same key es) (without same key es))
+      by_test true f w = w
+      by_test false f w = (f, w)
+
+  -- merged entries have keys apart
+  merge_apart : (es : List (K × V)) → AreApart (merge same es)
+  merge_apart [] = tt
+  merge_apart (e ∷ es) = (kept_other e.0 (merge same es), kept_apart e.0 (merge same es) (merge_apart es))
+
+  last_alone : (key : K) (v : V) (es : List (K × V)) → AllOf (λ f. same key f.0 ≡ false) es → last_value same key v es ≡ v
+  last_alone key v [] h = refl
+  last_alone key v (e ∷ es) h = rw h.0 (last_alone key v es h.1)
+
+  without_none : (key : K) (es : List (K × V)) → AllOf (λ f. same key f.0 ≡ false) es → without same key es ≡ es
+  without_none key [] h = refl
+  without_none key (e ∷ es) h = rw h.0 (ap (λ (z : List (K × V)). e ∷ z) (without_none key es h.1))
+
+  apart_merge : (es : List (K × V)) → AreApart es → merge same es ≡ es
+  apart_merge [] h = refl
+  apart_merge (e ∷ es) h =
+      let rest : merge same es ≡ es = apart_merge es h.1 in
+      ap (λ (z : V). (e.0, z) ∷ without same e.0 (merge same es)) (last_alone e.0 e.1 es h.0)
+      ∙ (ap (λ (z : List (K × V)). e ∷ without same e.0 z) rest ∙ ap (λ (z : List (K × V)). e ∷ z) (without_none e.0 es h.0))
+
+  -- what is merged is merged again to itself
+  pub merge_twice : (es : List (K × V)) → merge same (merge same es) ≡ merge same es
+  merge_twice es = apart_merge (merge same es) (merge_apart es)
+
+  last_keeps : (P : K → Type 0) (Q : V → Type 0) (key : K) (v : V) (es : List (K × V)) → Q v → AllOf (λ e. P e.0 × Q e.1) es → Q (last_value same key v es)
+  last_keeps P Q key v [] q h = q
+  last_keeps P Q key v (e ∷ es) q h = last_keeps P Q key (if same key e.0 then e.1 else v) es (by_test (same key e.0)) h.1
+    where
+      by_test : (t : Bool) → Q (if t then e.1 else v)
+      by_test true = h.0.1
+      by_test false = q
+
+  -- merged entries have keys and values of the entries
+  pub merge_keeps : (P : K → Type 0) (Q : V → Type 0) (es : List (K × V)) → AllOf (λ e. P e.0 × Q e.1) es → AllOf (λ e. P e.0 × Q e.1) (merge same es)
+  merge_keeps P Q [] h = tt
+  merge_keeps P Q (e ∷ es) h = ((h.0.0, last_keeps P Q e.0 e.1 es h.0.1 h.1), kept (λ f. P f.0 × Q f.1) e.0 (merge same es) (merge_keeps P Q es h.1))

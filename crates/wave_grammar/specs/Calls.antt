@@ -1,0 +1,27 @@
+-- The text of a call, and how it is shown.
+use Rattle.std.specs.Prelude.{ℕ, ◌<◌, ◌≡◌, ◌⊎◌, ◌++◌, List, [], ◌∷◌, length, take, drop, codes}
+use Rattle.wave_lex.specs.FunctionName.{IsName}
+use Rattle.wave_grammar.specs.Token.{Token, CutsInto, paren_open, paren_close}
+use Rattle.wave_grammar.specs.CommaSeparated.{Items}
+use Rattle.wave_grammar.specs.Tree.{Tree, MaybeTree, no_tree, a_tree, tuple, trees, Takes, shown}
+
+-- `()`; or `(` values `)`, each within n levels
+abbrev pub SpellsParams : ℕ → List Token → MaybeTree → Type 0
+SpellsParams n tokens params =
+    (tokens ≡ paren_open ∷ paren_close ∷ []) × (params ≡ no_tree)
+    ⊎ ((front : List Token) × (items : List Tree) × (tokens ≡ paren_open ∷ front) × (0 < length items)
+    × Items paren_close (Takes n) front items [] × (params ≡ a_tree (tuple (trees items))))
+
+-- the text is a name, a gap, the parameters and a gap
+pub record IsCall (s name : List ℕ) (params : MaybeTree) : Type 0 where
+  pub bytes : ℕ
+  pub tokens : List Token
+  pub named : IsName s bytes
+  pub is : name ≡ take bytes s
+  pub cut : CutsInto (drop bytes s) tokens
+  pub spelled : SpellsParams 100 tokens params
+
+-- the name and the tuple, or the name and `()`
+abbrev pub shown_call : List ℕ → MaybeTree → List ℕ
+shown_call name no_tree = name ++ codes "()"
+shown_call name (a_tree t) = name ++ shown t

@@ -1,0 +1,40 @@
+-- What holds of displayed trees.
+use Rattle.std.specs.Prelude.{ℕ, ◌≡◌, ◌↔◌, List}
+use Rattle.wave_wasm.specs.Types.{TypeTree}
+use Rattle.wave_wasm.specs.Values.{Value}
+use Rattle.wave_grammar.specs.Token.{Token, CutsInto}
+use Rattle.wave_grammar.specs.Tree.{Tree, MaybeTree, SpellsTree, levels, shown}
+use Rattle.wave_grammar.specs.Calls.{IsCall, shown_call}
+use Rattle.wave_grammar.specs.Params.{Params}
+use Rattle.wave_grammar.specs.Denotes.{Means}
+
+-- the text cuts into tokens that spell the tree
+abbrev pub IsTextOf : List ℕ → Tree → Type 0
+IsTextOf s t = (tokens : List Token) × CutsInto s tokens × SpellsTree tokens t
+
+-- the display of the tree cuts into tokens that spell a tree of as many levels and of the same display
+pub record ShowsAgain (t : Tree) : Type 0 where
+  pub tree : Tree
+  pub text : IsTextOf (shown t) tree
+  pub levels : levels tree ≡ levels t
+  pub shown : shown tree ≡ shown t
+
+-- the texts mean the same values, at every type
+abbrev pub MeanTheSame : List ℕ → List ℕ → Type 0
+MeanTheSame s d = (T : TypeTree) (v : Value) → Means T s v ↔ Means T d v
+
+-- the display of a parsed tree spells such a tree, and means what the text means that was parsed
+abbrev pub ShownKeepsMeaning : Type 0
+ShownKeepsMeaning = (s : List ℕ) (t : Tree) → IsTextOf s t → ShowsAgain t × MeanTheSame s (shown t)
+
+-- the display of the call is a call of the same name, whose display is the same
+pub record ShowsCallAgain (name : List ℕ) (params : MaybeTree) : Type 0 where
+  pub others : MaybeTree
+  pub call : IsCall (shown_call name params) name others
+  pub shown : shown_call name others ≡ shown_call name params
+
+-- the display of a parsed call is such a call, and its tokens are the same parameters at all types
+abbrev pub ShownCallKeepsMeaning : Type 0
+ShownCallKeepsMeaning =
+    (s name : List ℕ) (params : MaybeTree) (call : IsCall s name params)
+    → (again : ShowsCallAgain name params) × ((Ts : List TypeTree) (vs : List Value) → Params Ts call.tokens vs ↔ Params Ts again.call.tokens vs)

@@ -1,0 +1,90 @@
+-- The syntax refusals of a parser: which stands where, and at which span.
+use Rattle.std.specs.Prelude.{ℕ, ◌≡◌, ◌≢◌, ◌⊎◌, ◌≤◌, ◌<◌, ◌+◌, List, ◌++◌, Some, None, Result, Ok, Err, length}
+use Rattle.std.specs.declared.ops.Range.{Range}
+use Rattle.wave_lex.specs.declared.lex.Token as lex
+use Rattle.wave_lex.specs.declared.error.ParserError.{ParserError}
+use Rattle.wave_lex.specs.declared.error.ParserErrorKind.{ParserErrorKind}
+use Rattle.wave_lex.specs.declared.error.ParserErrorKind.TheVariants.{EmptyTuple, InvalidToken, UnexpectedEnd, UnexpectedToken, DuplicateFlag, NestingTooDeep, OutOfMemory}
+use Rattle.wave_lex.specs.Errors.{class_name, repeated_name, Says}
+use Rattle.wave_lex.specs.Lexing.{span}
+use Rattle.wave_grammar.specs.Token.{Token, paren_open}
+use Rattle.wave_grammar.specs.LeafTokens.{name_of}
+use Rattle.wave_grammar.specs.ParserPosition.{Place, TakesItem, TakesToken, TakesTokens, token_of, span_at, text_at}
+use Rattle.wave_grammar.specs.PrefixAutomaton.{Due, Form, behind_value, behind_label, Step, unexpected, empty_tuple, repeated_flag, too_deep, step, Leads, IsValueDue}
+
+-- a value is due where n forms are open, and not its form's close stands there
+pub record IsTooDeep (n : ℕ) (d : Due) (open_forms : List Form) (at : Place) : Type 0 where
+  pub full : n ≤ length open_forms
+  pub due : IsValueDue d
+  pub no_close : (t : Token) (new : Place) → TakesToken at t new → step n d open_forms t ≡ too_deep
+
+-- the token behind the place `at` is this step where d is due, and ends at the place `new`
+abbrev pub Steps : ℕ → Due → List Form → Place → lex.Token → Place → Step → Type 0
+Steps n d open_forms at c new s = TakesItem at (Some (Ok c)) new × (step n d open_forms (token_of c (text_at new)) ≡ s)
+
+-- the refusal of this kind stands at the place `at`, where d is due; the parser is left at the place `new`
+abbrev pub StandsAt : ParserErrorKind → ParserError → ℕ → Due → List Form → Place → Place → Type 0
+StandsAt EmptyTuple e n d open_forms at new =
+    (c : lex.Token) × Steps n d open_forms at c new empty_tuple × Says e EmptyTuple (span at.lexer.start new.lexer.end) None
+StandsAt InvalidToken e n d open_forms at new =
+    (bad : Range ℕ) × TakesItem at (Some (Err bad)) new × (IsTooDeep n d open_forms at → ⊥) × Says e InvalidToken bad None
+StandsAt UnexpectedEnd e n d open_forms at new =
+    TakesItem at None new × (IsTooDeep n d open_forms at → ⊥) × Says e UnexpectedEnd (span_at new) None
+StandsAt UnexpectedToken e n d open_forms at new =
+    (c : lex.Token) × Steps n d open_forms at c new unexpected × Says e UnexpectedToken (span_at new) (Some (class_name c))
+StandsAt DuplicateFlag e n d open_forms at new =
+    (c : lex.Token) × Steps n d open_forms at c new repeated_flag × Says e DuplicateFlag (span_at new) (Some (repeated_name (name_of (text_at new))))
+StandsAt NestingTooDeep e n d open_forms at new =
+    IsTooDeep n d open_forms at × (at ≡ new) × Says e NestingTooDeep (span_at at) None
+StandsAt _ e n d open_forms at new = ⊥
+
+-- something is due within the value
+abbrev pub IsWithin : Due → Type 0
+IsWithin behind_value = ⊥
+IsWithin behind_label = ⊥
+IsWithin _ = Unit {0}
+
+-- more is due of the outermost value
+abbrev pub IsUnfinished : Due → List Form → Type 0
+IsUnfinished d open_forms = IsWithin d ⊎ (0 < length open_forms)
+
+-- from the place old, where d is due, tokens lead to the refusal; the parser is left at the place new
+pub record IsSyntaxError (e : ParserError) (n : ℕ) (d : Due) (open_forms : List Form) (old new : Place) : Type 0 where
+  pub tokens : List Token
+  pub at : Place
+  pub due_there : Due
+  pub open_there : List Form
+  pub taken : TakesTokens old tokens at
+  pub leads : Leads n d open_forms tokens due_there open_there
+  pub unfinished : IsUnfinished due_there open_there
+  pub stands : StandsAt e.kind e n due_there open_there at new
+
+-- the error is want of memory, or that refusal
+abbrev pub FailsBySyntax : ParserError → ℕ → Due → List Form → Place → Place → Type 0
+FailsBySyntax e n d open_forms old new = (e.kind ≢ OutOfMemory) → IsSyntaxError e n d open_forms old new
+
+-- a value was read and no more is due of it
+abbrev pub IsBehind : Due → Place → Type 0
+IsBehind d at = (d ≡ behind_value) ⊎ (d ≡ behind_label) × ((new : Place) → TakesToken at paren_open new → ⊥)
+
+-- from the place old, where d is due, tokens lead behind a value, which takes as many forms as it closes
+pub record LeadsBehindValue (n : ℕ) (d : Due) (open_forms : List Form) (old new : Place) (behind : List Form) : Type 0 where
+  pub tokens : List Token
+  pub taken : TakesTokens old tokens new
+  pub due_there : Due
+  pub is_behind : IsBehind due_there new
+  pub leads : Leads n d open_forms tokens due_there behind
+
+-- the answer of a call that reads from where d is due
+abbrev pub Gives : {X : Type 0} → Result X ParserError → ℕ → Due → List Form → Place → Place → List Form → Type 0
+Gives (Ok x) n d open_forms old new behind = LeadsBehindValue n d open_forms old new behind
+Gives (Err e) n d open_forms old new behind = FailsBySyntax e n d open_forms old new
+
+-- so within all open forms, where this many levels are left, behind forms that the call itself is to close
+abbrev pub GivesWithin : {X : Type 0} → Result X ParserError → ℕ → Due → List Form → Place → Place → Type 0
+GivesWithin result levels d opened old new =
+    (n : ℕ) (s : List Form) → n ≡ levels + length s → Gives result n d (opened ++ s) old new s
+
+-- the answer where no level is needed
+abbrev pub GivesAnywhere : {X : Type 0} → Result X ParserError → Due → Place → Place → Type 0
+GivesAnywhere result d old new = (n : ℕ) (s : List Form) → Gives result n d s old new s

@@ -1,0 +1,221 @@
+-- The tree of a text that is read without a type.
+use Rattle.std.specs.Prelude.{ℕ, zero, suc, ◌+◌, ◌<◌, ◌≡◌, ◌≢◌, ◌⊎◌, ◌++◌, max, Bool, true, false, if◌then◌else◌, List, [], ◌∷◌, map, length, codes, nat_lt, ◌||◌}
+use Rattle.std.specs.Str.{bytes_eq}
+use Rattle.wave_wasm.specs.Names.{AreDistinct, is_one_of}
+use Rattle.wave_wasm.specs.Keywords.{case_label}
+use Rattle.wave_wasm.specs.Commas as commas
+use Rattle.wave_wasm.specs.Commas.{behind_name, in_parens, in_brackets, in_braces}
+use Rattle.wave_grammar.specs.Token.{Token, brace_open, brace_close, paren_open, paren_close, bracket_open, bracket_close, colon, comma, number, char, string, multiline, text_of}
+use Rattle.wave_grammar.specs.Token as token
+use Rattle.wave_grammar.specs.LeafTokens.{name_of}
+use Rattle.wave_grammar.specs.CommaSeparated.{Spelling, Items}
+use Rattle.wave_grammar.specs.TypedGrammar.{InParens, Never}
+use Rattle.std.proofs.Common.{ℕ, ◌-◌, ◌<◌, ◌≡◌, ◌≢◌, List, [], ◌∷◌, ◌∙◌}
+
+mutual
+  -- a tree
+  pub data Tree : Type 0 where
+    -- a bool, a number, a char or a string
+    one : Token → Tree
+    tuple : Trees → Tree
+    list : Trees → Tree
+    -- `{}` and `{:}`
+    empty_braces : Tree
+    no_fields : Tree
+    entries : TreeEntries → Tree
+    -- the labels in the order of their names
+    flags : List (List ℕ) → Tree
+    label : List ℕ → MaybeTree → Tree
+    none : Tree
+    some : Tree → Tree
+    ok : MaybeTree → Tree
+    err : MaybeTree → Tree
+
+  -- a tree, or nothing: a payload
+  pub data MaybeTree : Type 0 where
+    no_tree : MaybeTree
+    a_tree : Tree → MaybeTree
+
+  -- the items of a tuple or list
+  pub data Trees : Type 0 where
+    no_trees : Trees
+    tree_and : Tree → Trees → Trees
+
+  -- the entries of braces, in source order
+  pub data TreeEntries : Type 0 where
+    no_entries : TreeEntries
+    entry : Token → Tree → TreeEntries → TreeEntries
+
+-- the trees in this list
+abbrev pub trees : List Tree → Trees
+trees [] = no_trees
+trees (t ∷ ts) = tree_and t (trees ts)
+
+-- the entries in this list
+abbrev pub tree_entries : List (Token × Tree) → TreeEntries
+tree_entries [] = no_entries
+tree_entries (e ∷ es) = entry e.0 e.1 (tree_entries es)
+
+-- what a label is that stands where a value is due
+pub data Word : Type 0 where
+  leaf_word none_word some_word ok_word err_word case_word : Word
+
+-- what the label of this text is, where a value is due
+abbrev pub word_of : List ℕ → Word
+word_of text =
+    if is_one_of (codes "true" ∷ codes "false" ∷ codes "inf" ∷ codes "nan" ∷ []) text then leaf_word
+    else (if bytes_eq text (codes "none") then none_word
+    else (if bytes_eq text (codes "some") then some_word
+    else (if bytes_eq text (codes "ok") then ok_word
+    else (if bytes_eq text (codes "err") then err_word
+    else case_word))))
+
+-- the token may be a key: a label, number, char, string or multiline token
+abbrev pub IsKey : Token → Type 0
+IsKey (token.label text) = Unit {0}
+IsKey (number text) = Unit {0}
+IsKey (char text) = Unit {0}
+IsKey (string text) = Unit {0}
+IsKey (multiline text) = Unit {0}
+IsKey _ = ⊥
+
+-- a key, a colon and a value
+abbrev pub KeyAnd : Spelling Tree → Spelling (Token × Tree)
+KeyAnd Inner tokens e rest = (front : List Token) × (tokens ≡ e.0 ∷ colon ∷ front) × IsKey e.0 × Inner front e.1 rest
+
+-- one label, with its `%`
+abbrev pub Label : Spelling (List ℕ)
+Label tokens text rest = tokens ≡ token.label text ∷ rest
+
+-- the first text is before the second in byte order
+abbrev pub is_before : List ℕ → List ℕ → Bool
+is_before [] [] = false
+is_before [] (b ∷ bs) = true
+is_before (a ∷ as') [] = false
+is_before (a ∷ as') (b ∷ bs) = if nat_lt a b then true else (if nat_lt b a then false else is_before as' bs)
+
+-- the label among others that are in order
+abbrev pub put_in_order : List ℕ → List (List ℕ) → List (List ℕ)
+put_in_order text [] = text ∷ []
+put_in_order text (other ∷ more) = if is_before (name_of text) (name_of other) then text ∷ other ∷ more else other ∷ put_in_order text more
+
+-- the labels in byte order of their names
+abbrev pub in_order : List (List ℕ) → List (List ℕ)
+in_order [] = []
+in_order (text ∷ more) = put_in_order text (in_order more)
+
+-- no payload, and no parenthesis behind; or a payload in parentheses
+abbrev pub MaybeInParens : Spelling Tree → Spelling MaybeTree
+MaybeInParens Inner tokens payload rest =
+    (tokens ≡ rest) × ((more : List Token) → rest ≢ paren_open ∷ more) × (payload ≡ no_tree)
+    ⊎ ((t : Tree) × InParens Inner tokens t rest × (payload ≡ a_tree t))
+
+-- what stands behind an open brace
+abbrev pub InBraces : Spelling Tree → Spelling Tree
+InBraces Inner tokens t rest =
+    (tokens ≡ brace_close ∷ rest) × (t ≡ empty_braces)
+    ⊎ (tokens ≡ colon ∷ brace_close ∷ rest) × (t ≡ no_fields)
+    ⊎ ((es : List (Token × Tree)) × (0 < length es) × Items brace_close (KeyAnd Inner) tokens es rest × (t ≡ entries (tree_entries es)))
+    ⊎ ((texts : List (List ℕ)) × (0 < length texts) × Items brace_close Label tokens texts rest × AreDistinct (map name_of texts) × (t ≡ flags (in_order texts)))
+
+-- what stands behind a label
+abbrev pub BehindWord : Word → List ℕ → Spelling Tree → Spelling Tree
+BehindWord leaf_word text Inner tokens t rest = (tokens ≡ rest) × (t ≡ one (token.label text))
+BehindWord none_word text Inner tokens t rest = (tokens ≡ rest) × (t ≡ none)
+BehindWord some_word text Inner tokens t rest = (inner : Tree) × InParens Inner tokens inner rest × (t ≡ some inner)
+BehindWord ok_word text Inner tokens t rest = (payload : MaybeTree) × MaybeInParens Inner tokens payload rest × (t ≡ ok payload)
+BehindWord err_word text Inner tokens t rest = (payload : MaybeTree) × MaybeInParens Inner tokens payload rest × (t ≡ err payload)
+BehindWord case_word text Inner tokens t rest = (payload : MaybeTree) × MaybeInParens Inner tokens payload rest × (t ≡ label text payload)
+
+-- a tree, over the trees within it
+abbrev pub ATree : Spelling Tree → Spelling Tree
+ATree Inner (paren_open ∷ front) t rest = (items : List Tree) × (0 < length items) × Items paren_close Inner front items rest × (t ≡ tuple (trees items))
+ATree Inner (bracket_open ∷ front) t rest = (items : List Tree) × Items bracket_close Inner front items rest × (t ≡ list (trees items))
+ATree Inner (brace_open ∷ front) t rest = InBraces Inner front t rest
+ATree Inner (token.label text ∷ behind) t rest = BehindWord (word_of text) text Inner behind t rest
+ATree Inner (number text ∷ behind) t rest = (behind ≡ rest) × (t ≡ one (number text))
+ATree Inner (char text ∷ behind) t rest = (behind ≡ rest) × (t ≡ one (char text))
+ATree Inner (string text ∷ behind) t rest = (behind ≡ rest) × (t ≡ one (string text))
+ATree Inner (multiline text ∷ behind) t rest = (behind ≡ rest) × (t ≡ one (multiline text))
+ATree Inner _ t rest = ⊥
+
+-- at the front of the tokens stands the tree within n levels, and the rest is left; behind a bare label, `ok` or `err` the rest begins with no `(`
+abbrev pub Takes : ℕ → Spelling Tree
+Takes zero = Never
+Takes (suc n) = ATree (Takes n)
+
+-- the tokens spell the tree
+abbrev pub SpellsTree : List Token → Tree → Type 0
+SpellsTree tokens t = (n : ℕ) × Takes n tokens t []
+
+-- how many levels a tree has: one, and those of what stands in it
+abbrev mutual
+  pub levels : Tree → ℕ
+  levels (one t) = 1
+  levels (tuple ts) = levels_of_trees ts + 1
+  levels (list ts) = levels_of_trees ts + 1
+  levels empty_braces = 1
+  levels no_fields = 1
+  levels (entries es) = levels_of_entries es + 1
+  levels (flags texts) = 1
+  levels (label text payload) = levels_of_maybe payload + 1
+  levels none = 1
+  levels (some t) = levels t + 1
+  levels (ok payload) = levels_of_maybe payload + 1
+  levels (err payload) = levels_of_maybe payload + 1
+
+  -- the levels of a payload
+  pub levels_of_maybe : MaybeTree → ℕ
+  levels_of_maybe no_tree = 0
+  levels_of_maybe (a_tree t) = levels t
+
+  -- the most levels of the items
+  pub levels_of_trees : Trees → ℕ
+  levels_of_trees no_trees = 0
+  levels_of_trees (tree_and t more) = max (levels t) (levels_of_trees more)
+
+  -- the most levels of the values
+  pub levels_of_entries : TreeEntries → ℕ
+  levels_of_entries no_entries = 0
+  levels_of_entries (entry key t more) = max (levels t) (levels_of_entries more)
+
+-- the text that shows a tree
+abbrev mutual
+  pub shown : Tree → List ℕ
+  shown (one t) = text_of t
+  shown (tuple ts) = in_parens (commas.joined (shown_trees ts))
+  shown (list ts) = in_brackets (commas.joined (shown_trees ts))
+  shown empty_braces = codes "{}"
+  shown no_fields = codes "{:}"
+  shown (entries es) = in_braces (commas.joined (shown_entries es))
+  shown (flags texts) = in_braces (commas.joined (map name_of texts))
+  -- a label alone is shown as it stands
+  shown (label text payload) = shown_label payload text
+  shown none = codes "none"
+  shown (some t) = codes "some" ++ in_parens (shown t)
+  shown (ok payload) = codes "ok" ++ shown_maybe payload
+  shown (err payload) = codes "err" ++ shown_maybe payload
+
+  -- a label alone as it stands; before a payload with a `%` only where it is a keyword
+  pub shown_label : MaybeTree → List ℕ → List ℕ
+  shown_label no_tree text = text
+  shown_label (a_tree t) text = case_label (name_of text) ++ in_parens (shown t)
+
+  -- `(a)`, or nothing
+  pub shown_maybe : MaybeTree → List ℕ
+  shown_maybe no_tree = []
+  shown_maybe (a_tree t) = in_parens (shown t)
+
+  -- the items, shown
+  pub shown_trees : Trees → List (List ℕ)
+  shown_trees no_trees = []
+  shown_trees (tree_and t more) = shown t ∷ shown_trees more
+
+  -- the entries, shown
+  pub shown_entries : TreeEntries → List (List ℕ)
+  shown_entries no_entries = []
+  shown_entries (entry key t more) = behind_name (text_of key) (shown t) ∷ shown_entries more
+
+-- no `(` stands first
+abbrev pub NoParen : List Token → Type 0
+NoParen rest = (more : List Token) → rest ≢ paren_open ∷ more

@@ -1,0 +1,12 @@
+pub mod Leaves
+pub mod Keys
+pub mod Maps
+pub mod Lists
+pub mod Tuples
+pub mod Options
+pub mod Enums
+pub mod TextLeaves
+pub mod TextKeys
+pub mod Results
+pub mod Variants
+pub mod Flags

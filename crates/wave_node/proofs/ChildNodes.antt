@@ -1,0 +1,5 @@
+pub mod Trees
+pub mod Inside
+pub mod Cases
+pub mod Entries
+pub mod Parts

@@ -1,0 +1,5 @@
+pub mod Lookup
+pub mod Entries
+pub mod Reading
+pub mod Refused
+pub mod LeftOut

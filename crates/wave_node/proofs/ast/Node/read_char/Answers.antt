@@ -1,0 +1,12 @@
+use Rattle.wave_wasm.specs.Values.{char}
+use Rattle.wave_node.proofs.MakerAnswers.{faulty, leaf_made}
+use Rattle.wave_node.proofs.ByKind.TextLeaves.{char_read, char_blame}
+use Rattle.wave_node.proofs.ast.Node.read_char.Goals as goal
+
+pub returns-in_err-val-clause-answer : goal.returns-in_err-val-clause-answer
+returns-in_err-val-clause-answer g c = λ t is distinct.
+    faulty g.V.WasmValue.tree g.V.WasmValue.is_of g.V.WasmValue.is_full _ t _ c.in_err-val.field-0.0 c.from_residual.result c.requires.kind c.from_residual.ensures.1 (char_blame c.args.src.now c.args.self.now t c.in_err-val.field-0.0 is.0 c.in_err-val.ensures)
+
+pub returns-clause-answer : goal.returns-clause-answer
+returns-clause-answer g c = λ t is distinct.
+    leaf_made g.V.WasmValue.tree g.V.WasmValue.is_of g.V.WasmValue.is_full _ t c.args.self.now (char c.in_ok-val.val) c.make_char.result c.made.result c.requires.kind (char_read c.args.src.now c.args.self.now t c.in_ok-val.val is.0 c.in_ok-val.ensures.0 c.in_ok-val.ensures.1) c.make_char.ensures.made c.make_char.ensures.full c.made.ensures

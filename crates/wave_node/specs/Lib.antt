@@ -1,0 +1,12 @@
+pub mod NodeTree
+pub mod NodeEncoding
+pub mod NodeDepth
+pub mod Nodes
+pub mod NodeAccessors
+pub mod NodeStrings
+pub mod TypedReading
+pub mod NodeFlags
+pub mod NodeFields
+pub mod NodeParams
+pub mod ErrorSpans
+pub mod NodeLaws

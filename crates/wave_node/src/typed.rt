@@ -1,0 +1,678 @@
+//! Reading nodes at types.
+ghost use Rattle.std.specs.Prelude.{ℕ, List, [], ◌∷◌, ◌++◌, ◌≡◌, ◌≢◌, ◌⊎◌, ◌↔◌, option_map, IsTrue, OnOk, IfOk, IfErr};
+ghost use Rattle.wave_wasm.specs.Types.{kind_of, whole_kind, Whole};
+ghost use Rattle.wave_wasm.specs.Types as type;
+ghost use Rattle.wave_wasm.specs.Values as value;
+ghost use Rattle.wave_wasm.specs.Shown.{texts, shown, shown_cases};
+ghost use Rattle.wave_wasm.specs.TypeText.{kind_word};
+ghost use Rattle.wave_wasm.specs.Causes.{unsupported_type, unknown_case, missing_field, missing_payload, unexpected_payload, wrong_number};
+ghost use Rattle.wave_lex.specs.declared.error.ParserErrorKind.TheVariants.{OutOfMemory};
+ghost use Rattle.wave_node.specs.NodeAccessors.{Among, shown_node};
+ghost use Rattle.std.specs.Cow.{cow_str_bytes};
+ghost use Rattle.wave_node.specs.TypedReading.{IsLeafMade, IsValueOf, IsKeyOf, AnswersKey, IsCaused, IsMade, IsPayloadOf, GivesFlat, Answers, AnswersPayload, ReadsAtType};
+ghost use Rattle.wave_lex.specs.Errors.{refusal_of};
+ghost use Rattle.std.specs.Prelude.{MatchResult};
+ghost use Rattle.wave_node.specs.ErrorSpans.{StandsIn, StandsInPart, IsAtNode};
+ghost use Rattle.wave_lex.specs.Errors.{LiesInText};
+ghost use Rattle.wave_wasm.specs.Types.{HasDistinctNames};
+ghost use Rattle.wave_node.specs.NodeFields.{IsFieldNode, AnswersField, IsLeftOut, IsMissing};
+ghost use Rattle.wave_node.specs.NodeTree.{place_of};
+ghost use Rattle.wave_grammar.specs.TypedGrammar.{look_up};
+ghost use Rattle.wave_grammar.specs.TypeErrors.{RefusesFor};
+ghost use Rattle.std.specs.Str.{bytes_eq};
+ghost use Rattle.wave_wasm.specs.Merge.{merge};
+ghost use Rattle.wave_wasm.specs.Text.{text};
+
+use crate::ast::{CowStr, Node, NodeType};
+use std::alloc::Global;
+use wave_lex::error::{ParserError, ParserErrorKind};
+use wave_wasm::wasm::{DisplayType, WasmType, WasmTypeKind, WasmValue, WasmValueError};
+use wave_wasm::writer::{WriterError, merge_map_entries, to_string};
+
+impl Node {
+    /// The value that the type gives the node, which was parsed from `src` as a value. Where the
+    /// type gives it none the refusal is a fault of the node or of a part of it, at its span. A
+    /// maker of `V` that refuses is the cause of a refusal at the node that was read; `Value`
+    /// refuses so for want of memory alone, where the names of the type are distinct.
+    pub fn to_wasm_value<V: WasmValue>(
+        &self,
+        alloc: Global,
+        ty: &V::Type,
+        src: &str,
+    ) -> Result<V, ParserError>
+        requires { IsValueOf src.now self.now }
+        ensures answer { ReadsAtType V.tree V.is_of V.is_full (V.Type.tree ty.now) src.now self.now result }
+        ensures within { IfErr result (StandsIn self.now) }
+        ensures in_text { IfErr result (λ e. LiesInText src.now e.span) }
+    {
+        self.read(alloc, ty, src)
+    }
+
+    /// The value of the node at the type.
+    #[cycle(reading)]
+    fn read<V: WasmValue>(&self, alloc: Global, ty: &V::Type, src: &str) -> Result<V, ParserError>
+        requires { IsValueOf src.now self.now }
+        ensures answer { Answers V.tree V.is_of V.is_full (V.Type.tree ty.now) src.now self.now result }
+        ensures within { IfErr result (StandsIn self.now) }
+    {
+        match ty.kind() {
+            WasmTypeKind::Bool => self.read_bool(alloc, ty),
+            WasmTypeKind::S8 => self.made(V::make_s8(alloc, self.as_number(src)?)),
+            WasmTypeKind::S16 => self.made(V::make_s16(alloc, self.as_number(src)?)),
+            WasmTypeKind::S32 => self.made(V::make_s32(alloc, self.as_number(src)?)),
+            WasmTypeKind::S64 => self.made(V::make_s64(alloc, self.as_number(src)?)),
+            WasmTypeKind::U8 => self.made(V::make_u8(alloc, self.as_number(src)?)),
+            WasmTypeKind::U16 => self.made(V::make_u16(alloc, self.as_number(src)?)),
+            WasmTypeKind::U32 => self.made(V::make_u32(alloc, self.as_number(src)?)),
+            WasmTypeKind::U64 => self.made(V::make_u64(alloc, self.as_number(src)?)),
+            WasmTypeKind::Char => self.read_char(alloc, ty, src),
+            WasmTypeKind::String => self.read_string(alloc, ty, src),
+            WasmTypeKind::List => self.read_list(alloc, ty, src),
+            WasmTypeKind::Record => self.read_record(alloc, ty, src),
+            WasmTypeKind::Tuple => self.read_tuple(alloc, ty, src),
+            WasmTypeKind::Variant => self.read_variant(alloc, ty, src),
+            WasmTypeKind::Enum => self.read_enum(alloc, ty, src),
+            WasmTypeKind::Flags => self.read_flags(alloc, ty, src),
+            WasmTypeKind::Option => self.read_option(alloc, ty, src),
+            WasmTypeKind::Result => self.read_result(alloc, ty, src),
+            WasmTypeKind::Map => self.read_map(alloc, ty, src),
+            kind => Err(self.unsupported(alloc, kind)),
+        }
+    }
+
+    /// A list.
+    #[cycle(reading)]
+    fn read_list<V: WasmValue>(
+        &self,
+        alloc: Global,
+        ty: &V::Type,
+        src: &str,
+    ) -> Result<V, ParserError>
+        requires node { IsValueOf src.now self.now }
+        requires kind { kind_of (V.Type.tree ty.now) ≡ WasmTypeKind.List }
+        ensures answer { Answers V.tree V.is_of V.is_full (V.Type.tree ty.now) src.now self.now result }
+        ensures within { IfErr result (StandsIn self.now) }
+    {
+        let element = ty.list_element_type().unwrap();
+        let nodes = self.as_list()?;
+        let mut items = Vec::new(alloc);
+        for node in nodes {
+            let item = node.read(alloc, element, src)?;
+            self.keep(&mut items, item)?;
+        }
+        self.made(V::make_list(alloc, ty, items))
+    }
+
+    /// A record: each field of the type, in the type's order, read from the entry of its name.
+    #[cycle(reading)]
+    fn read_record<V: WasmValue>(
+        &self,
+        alloc: Global,
+        ty: &V::Type,
+        src: &str,
+    ) -> Result<V, ParserError>
+        requires node { IsValueOf src.now self.now }
+        requires kind { kind_of (V.Type.tree ty.now) ≡ WasmTypeKind.Record }
+        ensures answer { Answers V.tree V.is_of V.is_full (V.Type.tree ty.now) src.now self.now result }
+        ensures within { IfErr result (StandsIn self.now) }
+    {
+        let types = match ty.record_fields(alloc) {
+            Ok(types) => types,
+            Err(_) => return Err(self.out_of_memory()),
+        };
+        let (_, mut nodes) = self.fields(alloc, src)?;
+        let mut fields = Vec::new(alloc);
+        for i in 0..types.len() {
+            let (name, field) = types[i];
+            let node = nodes.remove(name);
+            let val = self.read_field(alloc, name, field, node, src)?;
+            if fields.push((name, val)).is_err() {
+                return Err(self.out_of_memory());
+            }
+        }
+        if !nodes.is_empty() {
+            return Err(self.error(ParserErrorKind::InvalidValue));
+        }
+        self.made(V::make_record(alloc, ty, fields))
+    }
+
+    /// The value of the record's field of this name: that of its node, or `none` where an option is
+    /// left out.
+    #[cycle(reading)]
+    fn read_field<V: WasmValue>(
+        &self,
+        alloc: Global,
+        name: &str,
+        ty: &V::Type,
+        node: Option<&Node>,
+        src: &str,
+    ) -> Result<V, ParserError>
+        requires { IsFieldNode src.now (shown_node node) }
+        ensures answer { AnswersField V.tree V.is_of V.is_full (V.Type.tree ty.now) src.now name.now self.now (shown_node node.entry) result }
+        ensures within { IfErr result (StandsInPart self.now (shown_node node.entry)) }
+    {
+        match node {
+            Some(node) => node.read(alloc, ty, src),
+            None => self.left_out(alloc, name, ty),
+        }
+    }
+
+    /// `none`, for a field that is left out, where its type is an option.
+    fn left_out<V: WasmValue>(
+        &self,
+        alloc: Global,
+        name: &str,
+        ty: &V::Type,
+    ) -> Result<V, ParserError>
+        ensures answer { HasDistinctNames (V.Type.tree ty.now) → MatchResult result (IsLeftOut V.tree V.is_of (V.Type.tree ty.now)) (IsMissing V.is_full (V.Type.tree ty.now) name.now self.now) }
+        ensures within { IfErr result (IsAtNode self.now) }
+    {
+        match ty.kind() {
+            WasmTypeKind::Option => self.made(V::make_option(alloc, ty, None)),
+            _ => Err(self.missing_field(alloc, name)),
+        }
+    }
+
+    /// A tuple: as many items as types, each read at its type.
+    #[cycle(reading)]
+    fn read_tuple<V: WasmValue>(
+        &self,
+        alloc: Global,
+        ty: &V::Type,
+        src: &str,
+    ) -> Result<V, ParserError>
+        requires node { IsValueOf src.now self.now }
+        requires kind { kind_of (V.Type.tree ty.now) ≡ WasmTypeKind.Tuple }
+        ensures answer { Answers V.tree V.is_of V.is_full (V.Type.tree ty.now) src.now self.now result }
+        ensures within { IfErr result (StandsIn self.now) }
+    {
+        let types = match ty.tuple_element_types(alloc) {
+            Ok(types) => types,
+            Err(_) => return Err(self.out_of_memory()),
+        };
+        let nodes = self.as_tuple()?;
+        if nodes.len() != types.len() {
+            return Err(self.wrong_number(types.len(), nodes.len()));
+        }
+        let mut items = Vec::new(alloc);
+        for i in 0..nodes.len() {
+            let item = nodes[i].read(alloc, types[i], src)?;
+            self.keep(&mut items, item)?;
+        }
+        self.made(V::make_tuple(alloc, ty, items))
+    }
+
+    /// A map: every entry is read, then they are merged.
+    #[cycle(reading)]
+    fn read_map<V: WasmValue>(
+        &self,
+        alloc: Global,
+        ty: &V::Type,
+        src: &str,
+    ) -> Result<V, ParserError>
+        requires node { IsValueOf src.now self.now }
+        requires kind { kind_of (V.Type.tree ty.now) ≡ WasmTypeKind.Map }
+        ensures answer { Answers V.tree V.is_of V.is_full (V.Type.tree ty.now) src.now self.now result }
+        ensures within { IfErr result (StandsIn self.now) }
+    {
+        let (key_type, value_type) = ty.map_key_value_types().unwrap();
+        let mut nodes = self.as_map()?;
+        let mut entries = Vec::new(alloc);
+        'entries: while let Some((key, node)) = nodes.next() {
+            let key = key.read_key(alloc, key_type, src)?;
+            let val = node.read(alloc, value_type, src)?;
+            self.keep(&mut entries, (key, val))?;
+        }
+        match merged(alloc, entries) {
+            Ok(entries) => self.made(V::make_map(alloc, ty, entries)),
+            Err(_) => Err(self.out_of_memory()),
+        }
+    }
+
+    /// A key of a map. Of a label that spells none the refusal says what it should be.
+    fn read_key<V: WasmValue>(
+        &self,
+        alloc: Global,
+        ty: &V::Type,
+        src: &str,
+    ) -> Result<V, ParserError>
+        requires { IsKeyOf src.now self.now }
+        ensures answer { AnswersKey V.tree V.is_of V.is_full (V.Type.tree ty.now) src.now self.now result }
+        ensures within { IfErr result (StandsIn self.now) }
+    {
+        match self.read_plain_key(alloc, ty, src) {
+            Ok(key) => Ok(key),
+            Err(error) => Err(self.told_label(alloc, ty, error)),
+        }
+    }
+
+    /// The refusal of a key; where the key is a label, with the type of the key that is due.
+    fn told_label<T: WasmType>(&self, alloc: Global, ty: &T, error: ParserError) -> ParserError
+        ensures { (result.kind ≡ OutOfMemory) × (result.span ≡ place_of self.now) ⊎ (refusal_of result ≡ refusal_of error) × (result.span ≡ error.span) }
+    {
+        if error.kind() != ParserErrorKind::InvalidType
+            || error.cause().is_some()
+            || !self.is_of(NodeType::Label)
+        {
+            return error;
+        }
+        match format!(in alloc;
+            "expected a {} key, found a label",
+            DisplayType::new(alloc, ty)
+        ) {
+            Ok(detail) => ParserError::with_detail(error.kind(), error.span(), detail),
+            Err(_) => self.out_of_memory(),
+        }
+    }
+
+    /// A key of a map, its refusal without a detail where it is a label.
+    fn read_plain_key<V: WasmValue>(
+        &self,
+        alloc: Global,
+        ty: &V::Type,
+        src: &str,
+    ) -> Result<V, ParserError>
+        requires { IsKeyOf src.now self.now }
+        ensures answer { AnswersKey V.tree V.is_of V.is_full (V.Type.tree ty.now) src.now self.now result }
+        ensures within { IfErr result (StandsIn self.now) }
+    {
+        match ty.kind() {
+            WasmTypeKind::Bool => self.made(V::make_bool(alloc, self.as_bool_key(src)?)),
+            WasmTypeKind::S8 => self.made(V::make_s8(alloc, self.as_number(src)?)),
+            WasmTypeKind::S16 => self.made(V::make_s16(alloc, self.as_number(src)?)),
+            WasmTypeKind::S32 => self.made(V::make_s32(alloc, self.as_number(src)?)),
+            WasmTypeKind::S64 => self.made(V::make_s64(alloc, self.as_number(src)?)),
+            WasmTypeKind::U8 => self.made(V::make_u8(alloc, self.as_number(src)?)),
+            WasmTypeKind::U16 => self.made(V::make_u16(alloc, self.as_number(src)?)),
+            WasmTypeKind::U32 => self.made(V::make_u32(alloc, self.as_number(src)?)),
+            WasmTypeKind::U64 => self.made(V::make_u64(alloc, self.as_number(src)?)),
+            WasmTypeKind::Char => self.made(V::make_char(alloc, self.as_char(src)?)),
+            WasmTypeKind::String => self.read_string_key(alloc, ty, src),
+            kind => Err(self.unsupported(alloc, kind)),
+        }
+    }
+
+    /// A key of a map that is a string.
+    fn read_string_key<V: WasmValue>(
+        &self,
+        alloc: Global,
+        ty: &V::Type,
+        src: &str,
+    ) -> Result<V, ParserError>
+        requires key { IsKeyOf src.now self.now }
+        requires kind { V.Type.tree ty.now ≡ type.simple type.string }
+        ensures answer { AnswersKey V.tree V.is_of V.is_full (V.Type.tree ty.now) src.now self.now result }
+        ensures within { IfErr result (StandsIn self.now) }
+    {
+        let text = self.as_str(alloc, src)?;
+        self.made_string(alloc, text)
+    }
+
+    /// An option: `none`, `some` of its payload, or a flat payload.
+    #[cycle(reading)]
+    fn read_option<V: WasmValue>(
+        &self,
+        alloc: Global,
+        ty: &V::Type,
+        src: &str,
+    ) -> Result<V, ParserError>
+        requires node { IsValueOf src.now self.now }
+        requires kind { kind_of (V.Type.tree ty.now) ≡ WasmTypeKind.Option }
+        ensures answer { Answers V.tree V.is_of V.is_full (V.Type.tree ty.now) src.now self.now result }
+        ensures within { IfErr result (StandsIn self.now) }
+    {
+        let payload = ty.option_some_type().unwrap();
+        match self.as_option() {
+            Ok(None) => self.made(V::make_option(alloc, ty, None)),
+            Ok(Some(node)) => {
+                let val = node.read(alloc, payload, src)?;
+                self.made(V::make_option(alloc, ty, Some(val)))
+            }
+            Err(error) => {
+                if !is_flat(payload.kind()) {
+                    return Err(error);
+                }
+                let flat = self.read(alloc, payload, src)?;
+                self.made(V::make_option(alloc, ty, Some(flat)))
+            }
+        }
+    }
+
+    /// A result: `ok` or `err` with its payload, or a flat payload of `ok`.
+    #[cycle(reading)]
+    fn read_result<V: WasmValue>(
+        &self,
+        alloc: Global,
+        ty: &V::Type,
+        src: &str,
+    ) -> Result<V, ParserError>
+        requires node { IsValueOf src.now self.now }
+        requires kind { kind_of (V.Type.tree ty.now) ≡ WasmTypeKind.Result }
+        ensures answer { Answers V.tree V.is_of V.is_full (V.Type.tree ty.now) src.now self.now result }
+        ensures within { IfErr result (StandsIn self.now) }
+    {
+        let (ok, err) = ty.result_types().unwrap();
+        match self.as_result() {
+            Ok(Ok(node)) => {
+                let val = self.read_payload(alloc, "ok", ok, node, src)?;
+                self.made(V::make_result(alloc, ty, Ok(val)))
+            }
+            Ok(Err(node)) => {
+                let val = self.read_payload(alloc, "err", err, node, src)?;
+                self.made(V::make_result(alloc, ty, Err(val)))
+            }
+            Err(error) => {
+                let payload = match flat_type(ok) {
+                    Some(payload) => payload,
+                    None => return Err(error),
+                };
+                let flat = self.read(alloc, payload, src)?;
+                self.made(V::make_result(alloc, ty, Ok(Some(flat))))
+            }
+        }
+    }
+
+    /// A variant: the name of one of its cases, and a payload exactly where the case has one.
+    #[cycle(reading)]
+    fn read_variant<V: WasmValue>(
+        &self,
+        alloc: Global,
+        ty: &V::Type,
+        src: &str,
+    ) -> Result<V, ParserError>
+        requires node { IsValueOf src.now self.now }
+        requires kind { kind_of (V.Type.tree ty.now) ≡ WasmTypeKind.Variant }
+        ensures answer { Answers V.tree V.is_of V.is_full (V.Type.tree ty.now) src.now self.now result }
+        ensures within { IfErr result (StandsIn self.now) }
+    {
+        let cases = match ty.variant_cases(alloc) {
+            Ok(cases) => cases,
+            Err(_) => return Err(self.out_of_memory()),
+        };
+        let (name, node) = self.as_variant(src)?;
+        match case_payload(&cases, name) {
+            Some(payload) => {
+                let val = self.read_payload(alloc, name, payload, node, src)?;
+                self.made(V::make_variant(alloc, ty, name, val))
+            }
+            None => Err(self.unknown_case(alloc, name)),
+        }
+    }
+
+    /// The payload of the case of this name, where it has a type; the case stands at the node.
+    #[cycle(reading)]
+    fn read_payload<V: WasmValue>(
+        &self,
+        alloc: Global,
+        name: &str,
+        ty: Option<&V::Type>,
+        node: Option<&Node>,
+        src: &str,
+    ) -> Result<Option<V>, ParserError>
+        requires { IsPayloadOf src.now (shown_node node) }
+        ensures answer { AnswersPayload V.tree V.is_of V.is_full name.now (shown V.Type.tree ty.entry) src.now self.now (shown_node node.entry) result }
+        ensures within { IfErr result (StandsInPart self.now (shown_node node.entry)) }
+    {
+        match ty {
+            Some(ty) => match node {
+                Some(node) => {
+                    let val = node.read(alloc, ty, src)?;
+                    Ok(Some(val))
+                }
+                None => Err(self.missing_payload(alloc, name)),
+            },
+            None => match node {
+                Some(_) => Err(self.unexpected_payload(alloc, name)),
+                None => Ok(None),
+            },
+        }
+    }
+
+    /// An enum: the name of one of its cases.
+    fn read_enum<V: WasmValue>(
+        &self,
+        alloc: Global,
+        ty: &V::Type,
+        src: &str,
+    ) -> Result<V, ParserError>
+        requires node { IsValueOf src.now self.now }
+        requires kind { kind_of (V.Type.tree ty.now) ≡ WasmTypeKind.Enum }
+        ensures answer { Answers V.tree V.is_of V.is_full (V.Type.tree ty.now) src.now self.now result }
+        ensures within { IfErr result (StandsIn self.now) }
+    {
+        let cases = match ty.enum_cases(alloc) {
+            Ok(cases) => cases,
+            Err(_) => return Err(self.out_of_memory()),
+        };
+        let name = self.as_enum(src)?;
+        if !is_among(&cases, name) {
+            return Err(self.unknown_case(alloc, name));
+        }
+        self.made(V::make_enum(alloc, ty, name))
+    }
+
+    /// A char.
+    fn read_char<V: WasmValue>(
+        &self,
+        alloc: Global,
+        ty: &V::Type,
+        src: &str,
+    ) -> Result<V, ParserError>
+        requires node { IsValueOf src.now self.now }
+        requires kind { V.Type.tree ty.now ≡ type.simple type.char }
+        ensures answer { Answers V.tree V.is_of V.is_full (V.Type.tree ty.now) src.now self.now result }
+        ensures within { IfErr result (StandsIn self.now) }
+    {
+        let val = self.as_char(src)?;
+        self.made(V::make_char(alloc, val))
+    }
+
+    /// Flags: some of the type's names.
+    fn read_flags<V: WasmValue>(
+        &self,
+        alloc: Global,
+        ty: &V::Type,
+        src: &str,
+    ) -> Result<V, ParserError>
+        requires node { IsValueOf src.now self.now }
+        requires kind { kind_of (V.Type.tree ty.now) ≡ WasmTypeKind.Flags }
+        ensures answer { Answers V.tree V.is_of V.is_full (V.Type.tree ty.now) src.now self.now result }
+        ensures within { IfErr result (StandsIn self.now) }
+    {
+        let names = match ty.flags_names(alloc) {
+            Ok(names) => names,
+            Err(_) => return Err(self.out_of_memory()),
+        };
+        let flags = self.flags_of(alloc, &names, src)?;
+        let picked = self.picked(alloc, &names, &flags)?;
+        self.made(V::make_flags(alloc, ty, picked.as_slice()))
+    }
+
+    /// A string.
+    fn read_string<V: WasmValue>(
+        &self,
+        alloc: Global,
+        ty: &V::Type,
+        src: &str,
+    ) -> Result<V, ParserError>
+        requires node { IsValueOf src.now self.now }
+        requires kind { V.Type.tree ty.now ≡ type.simple type.string }
+        ensures answer { Answers V.tree V.is_of V.is_full (V.Type.tree ty.now) src.now self.now result }
+        ensures within { IfErr result (StandsIn self.now) }
+    {
+        let text = self.as_str(alloc, src)?;
+        self.made_string(alloc, text)
+    }
+
+    /// A bool.
+    fn read_bool<V: WasmValue>(&self, alloc: Global, ty: &V::Type) -> Result<V, ParserError>
+        requires { V.Type.tree ty.now ≡ type.simple type.bool }
+        ensures answer { (source : List ℕ) → Answers V.tree V.is_of V.is_full (V.Type.tree ty.now) source self.now result }
+        ensures within { IfErr result (IsAtNode self.now) }
+    {
+        let val = self.as_bool()?;
+        self.made(V::make_bool(alloc, val))
+    }
+
+    /// The string of this text, which is not copied before the maker is called.
+    fn made_string<V: WasmValue>(&self, alloc: Global, val: CowStr<'_>) -> Result<V, ParserError>
+        ensures { IsLeafMade V.tree V.is_of V.is_full (value.string (cow_str_bytes val.entry)) self.now result }
+    {
+        match val {
+            CowStr::Borrowed(text) => self.made(V::make_string(alloc, text)),
+            CowStr::Owned(text) => self.made(V::make_string(alloc, text.as_str())),
+        }
+    }
+
+    /// The value that was made, or its maker's refusal at the node.
+    fn made<V>(&self, made: Result<V, WasmValueError>) -> Result<V, ParserError>
+        ensures { IsMade self.now made result }
+    {
+        match made {
+            Ok(val) => Ok(val),
+            Err(cause) => Err(self.refused(cause)),
+        }
+    }
+
+    /// One more value that was read within the node.
+    pub(crate) fn keep<V: Drop>(&self, items: &mut Vec<V>, item: V) -> Result<(), ParserError>
+        ensures kept { OnOk result (items.new.items ≡ items.old.items ++ item ∷ []) }
+        ensures refused { IfErr result (λ e. e.kind ≡ OutOfMemory) }
+        ensures place { IfErr result (λ e. e.span ≡ place_of self.now) }
+    {
+        match items.push(item) {
+            Ok(()) => Ok(()),
+            Err(_) => Err(self.out_of_memory()),
+        }
+    }
+
+    /// A refusal for want of memory, at the node.
+    pub(crate) fn out_of_memory(&self) -> ParserError
+        ensures kind { result.kind ≡ OutOfMemory }
+        ensures span { result.span ≡ place_of self.now }
+    {
+        ParserError::new(ParserErrorKind::OutOfMemory, self.span())
+    }
+
+    /// A refusal because a field of this name is left out.
+    fn missing_field(&self, alloc: Global, name: &str) -> ParserError
+        ensures cause { IsCaused (missing_field name.now) self.now result }
+        ensures span { result.span ≡ place_of self.now }
+    {
+        match String::from_str(alloc, name) {
+            Ok(name) => self.refused(WasmValueError::MissingField(name)),
+            Err(error) => self.refused(WasmValueError::Memory(error)),
+        }
+    }
+
+    /// A refusal because a tuple of so many types has another number of items.
+    fn wrong_number(&self, want: usize, got: usize) -> ParserError
+        ensures { RefusesFor (wrong_number want got) (place_of self.now) (refusal_of result) result.span }
+    {
+        self.refused(WasmValueError::WrongNumberOfTupleValues { want, got })
+    }
+
+    /// A refusal because the type has no case or flag of this name.
+    pub(crate) fn unknown_case(&self, alloc: Global, name: &str) -> ParserError
+        ensures cause { IsCaused (unknown_case name.now) self.now result }
+        ensures span { result.span ≡ place_of self.now }
+    {
+        match String::from_str(alloc, name) {
+            Ok(name) => self.refused(WasmValueError::UnknownCase(name)),
+            Err(error) => self.refused(WasmValueError::Memory(error)),
+        }
+    }
+
+    /// A refusal because the case of this name has a payload that is not there.
+    fn missing_payload(&self, alloc: Global, name: &str) -> ParserError
+        ensures cause { IsCaused (missing_payload name.now) self.now result }
+        ensures span { result.span ≡ place_of self.now }
+    {
+        match String::from_str(alloc, name) {
+            Ok(name) => self.refused(WasmValueError::MissingPayload(name)),
+            Err(error) => self.refused(WasmValueError::Memory(error)),
+        }
+    }
+
+    /// A refusal because the case of this name has no payload, and one is there.
+    fn unexpected_payload(&self, alloc: Global, name: &str) -> ParserError
+        ensures cause { IsCaused (unexpected_payload name.now) self.now result }
+        ensures span { result.span ≡ place_of self.now }
+    {
+        match String::from_str(alloc, name) {
+            Ok(name) => self.refused(WasmValueError::UnexpectedPayload(name)),
+            Err(error) => self.refused(WasmValueError::Memory(error)),
+        }
+    }
+
+    /// A refusal because values of this kind can't be read.
+    fn unsupported(&self, alloc: Global, kind: WasmTypeKind) -> ParserError
+        ensures cause { IsCaused (unsupported_type (kind_word kind)) self.now result }
+        ensures span { result.span ≡ place_of self.now }
+    {
+        match kind.to_string(alloc) {
+            Ok(word) => self.refused(WasmValueError::UnsupportedType(word)),
+            Err(error) => self.refused(WasmValueError::Memory(error)),
+        }
+    }
+}
+
+/// The entries with each key once, merged by the texts of their keys.
+fn merged<V: WasmValue>(alloc: Global, entries: Vec<(V, V)>) -> Result<Vec<(V, V)>, WriterError>
+    ensures { IfOk result (λ m. m.items ≡ merge (λ a b. bytes_eq (text (V.tree a)) (text (V.tree b))) entries.items) }
+{
+    let mut with_texts = Vec::new(alloc);
+    for (key, val) in entries {
+        let text = to_string(alloc, &key)?;
+        with_texts.push((text, key, val))?;
+    }
+    Ok(merge_map_entries(alloc, with_texts)?)
+}
+
+/// Whether an option or a result may be left out around a value of this kind.
+fn is_flat(kind: WasmTypeKind) -> bool
+    ensures { IsTrue result ↔ ((kind ≢ WasmTypeKind.Option) × (kind ≢ WasmTypeKind.Result)) }
+{
+    match kind {
+        WasmTypeKind::Option | WasmTypeKind::Result => false,
+        _ => true,
+    }
+}
+
+/// The type of a payload that may stand alone for `ok` of itself.
+fn flat_type<T: WasmType>(payload: Option<&T>) -> Option<&T>
+    ensures { GivesFlat (shown T.tree payload.entry) (shown T.tree result) }
+{
+    match payload {
+        Some(ty) if is_flat(ty.kind()) => Some(ty),
+        _ => None,
+    }
+}
+
+/// What the case of this name has for the type of its payload, where there is such a case.
+fn case_payload<'ty, T: WasmType>(
+    cases: &Vec<(&str, Option<&'ty T>)>,
+    name: &str,
+) -> Option<Option<&'ty T>>
+    ensures { option_map (shown T.tree) result ≡ look_up (shown_cases T.tree cases.now.items) name.now }
+{
+    for case in cases {
+        let (other, payload) = *case;
+        if name == other {
+            return Some(payload);
+        }
+    }
+    None
+}
+
+/// Whether the name is one of these.
+fn is_among(names: &Vec<&str>, name: &str) -> bool
+    ensures { Among (texts names.now.items) name.now result }
+{
+    for other in names {
+        if name == *other {
+            return true;
+        }
+    }
+    false
+}

@@ -1,0 +1,31 @@
+-- What is at hand is what stands next.
+use Rattle.std.proofs.Common.{◌≡◌, ◌↔◌, ◌+◌, Option, Some, None, Result, Ok, Err, refl, sym, subst, Bool}
+use Rattle.std.specs.Prelude.{IsTrue, IfOk, IfErr}
+use Rattle.wave_lex.specs.declared.error.ParserError.{ParserError}
+use Rattle.wave_lex.specs.declared.error.ParserErrorKind.TheVariants as kind
+use Rattle.wave_lex.specs.declared.lex.Token.{Token}
+use Rattle.wave_lex.specs.Lexing.{Lexed, NextIs, span}
+use Rattle.wave_lex.proofs.Next.{next_one}
+use Rattle.wave_tree.specs.declared.ahead.Ahead.{Ahead}
+use Rattle.wave_grammar.specs.ParserPosition.{Place, TakesItem, IsSomething}
+use Rattle.wave_lex.specs.Errors.{Says}
+use Rattle.wave_tree.specs.ParserState.{IsAhead, Finishes}
+
+-- whether a token stands next, by the item at hand
+pub at_hand : (l : Lexed) (p : Place) (o : Option Ahead) (a : Ahead) (c : Token) (b r : Bool) → p.lexer ≡ l → IsAhead l o → o ≡ Some a → (IsTrue b ↔ (a.item ≡ Some (Ok c))) → r ≡ b →
+    IsTrue r ↔ ((next : Place) × TakesItem p (Some (Ok c)) next)
+at_hand l p o a c b r e h f k g =
+    let there : NextIs p.lexer a.lexer a.item = subst (λ z. NextIs z a.lexer a.item) (sym e) (subst (IsAhead l) f h) in (
+      λ t. (record { lexer = a.lexer; taken = p.taken + 1 }, (subst (λ z. NextIs p.lexer a.lexer z) (k.0 (subst IsTrue g t)) there, refl)),
+      λ next. subst IsTrue (sym g) (k.1 ((next_one p.lexer a.lexer next.0.lexer a.item (Some (Ok c)) there next.1.0).1)),
+    )
+
+-- whether something stands next, by the item at hand
+pub finish_at : (l : Lexed) (p : Place) (o : Option Ahead) (a : Ahead) (r q : Result (Unit {0}) ParserError) → p.lexer ≡ l → IsAhead l o → o ≡ Some a → r ≡ q →
+    IfOk q (λ _. a.item ≡ None) → IfErr q (λ e. Says e kind.TrailingCharacters (span a.lexer.start a.lexer.end) None × IsSomething a.item) → Finishes r p
+finish_at l p o a r (Ok u) e h f g k m =
+    let there : NextIs p.lexer a.lexer a.item = subst (λ z. NextIs z a.lexer a.item) (sym e) (subst (IsAhead l) f h) in
+    subst (λ z. Finishes z p) (sym g) (record { lexer = a.lexer; taken = p.taken + 1 }, (subst (λ z. NextIs p.lexer a.lexer z) k there, refl))
+finish_at l p o a r (Err x) e h f g k (says, something) =
+    let there : NextIs p.lexer a.lexer a.item = subst (λ z. NextIs z a.lexer a.item) (sym e) (subst (IsAhead l) f h) in
+    subst (λ z. Finishes z p) (sym g) (record { lexer = a.lexer; taken = p.taken + 1 }, (a.item, something, (there, refl)), says)

@@ -1,0 +1,5 @@
+pub mod Tokens
+pub mod Lists
+pub mod Braces
+pub mod Flags
+pub mod Items

@@ -1,5 +1,0 @@
-use Rattle.wave_tree.proofs.ParamTrees.{params_by_tree}
-use Rattle.wave_tree.proofs.laws.params_are_by_tree.Goals as goal
-
-pub returns : goal.returns
-returns c = params_by_tree

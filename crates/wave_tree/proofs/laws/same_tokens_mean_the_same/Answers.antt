@@ -1,8 +1,0 @@
-use Rattle.wave_tree.proofs.Agreeing.{same_tokens, same_tree}
-use Rattle.wave_tree.proofs.laws.same_tokens_mean_the_same.Goals as goal
-
-pub returns-clause-tokens : goal.returns-clause-tokens
-returns-clause-tokens c = same_tokens
-
-pub returns-clause-tree : goal.returns-clause-tree
-returns-clause-tree c = same_tree

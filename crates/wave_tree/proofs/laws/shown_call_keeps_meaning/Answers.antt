@@ -1,5 +1,0 @@
-use Rattle.wave_tree.proofs.ShownCalls.{shown_call_keeps}
-use Rattle.wave_tree.proofs.laws.shown_call_keeps_meaning.Goals as goal
-
-pub returns : goal.returns
-returns c = shown_call_keeps

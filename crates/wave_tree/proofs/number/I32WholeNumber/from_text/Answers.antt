@@ -1,5 +1,0 @@
-use Rattle.wave_tree.proofs.Narrow.{no_s32}
-use Rattle.wave_tree.proofs.number.I32WholeNumber.from_text.Goals as goal
-
-pub returns-in_err-signed : goal.returns-in_err-signed
-returns-in_err-signed c = rw c.from_residual.ensures (no_s32 c.args.text.now (rw c.in_err-signed.was at c.signed.ensures))

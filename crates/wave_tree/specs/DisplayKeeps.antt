@@ -1,0 +1,26 @@
+-- What is kept where untyped values and calls are displayed.
+use Rattle.std.specs.Prelude.{ℕ, ◌≡◌, ◌↔◌, List}
+use Rattle.wave_wasm.specs.Types.{TypeTree}
+use Rattle.wave_wasm.specs.Values.{Value}
+use Rattle.wave_grammar.specs.Tree.{shown}
+use Rattle.wave_grammar.specs.Calls.{shown_call}
+use Rattle.wave_grammar.specs.Params.{Params}
+use Rattle.wave_grammar.specs.SpannedTree.{Placed, slice, tree_of}
+use Rattle.wave_node.specs.NodeTree.{NodeTree, place_of}
+use Rattle.wave_node.specs.Nodes.{IsNodeOf}
+use Rattle.wave_grammar.specs.DisplayLaws.{ShowsAgain, ShowsCallAgain, MeanTheSame}
+use Rattle.wave_tree.specs.UntypedCall.{Called, IsCalledOf}
+
+-- the text is the display of the node's tree, spells a tree of as many levels and of the same display, and means what the node's slice means
+abbrev pub IsKeptByDisplay : List ℕ → NodeTree → List ℕ → Type 0
+IsKeptByDisplay source n text =
+    (t : Placed) → IsNodeOf source n t
+    → (text ≡ shown (tree_of t)) × ShowsAgain (tree_of t) × MeanTheSame (slice source (place_of n)) text
+
+-- of a call that is its whole source, the text is its display, a call of the same name and the same display, with the same parameters at all types
+abbrev pub IsCallKeptByDisplay : Called → List ℕ → Type 0
+IsCallKeptByDisplay u text =
+    (c : IsCalledOf u.source u)
+    → (text ≡ shown_call (slice u.source u.name) c.params)
+    × ((again : ShowsCallAgain (slice u.source u.name) c.params)
+    × ((Ts : List TypeTree) (vs : List Value) → Params Ts c.call.tokens vs ↔ Params Ts again.call.tokens vs))

@@ -1,0 +1,25 @@
+-- How reading a text agrees with reading its untyped value.
+use Rattle.std.specs.Prelude.{ℕ, ◌≡◌, ◌↔◌, List, [], ◌∷◌}
+use Rattle.wave_wasm.specs.Types.{TypeTree}
+use Rattle.wave_wasm.specs.Values.{Value}
+use Rattle.wave_grammar.specs.SpannedTree.{Placed}
+use Rattle.wave_node.specs.Nodes.{IsNodeOf}
+use Rattle.wave_grammar.specs.Denotes.{Means, MeansNone, SpellsNoTree}
+use Rattle.wave_node.specs.TypedReading.{IsTypedValue, ReadsNone}
+use Rattle.wave_tree.specs.Untyped.{Untyped, IsUntypedOf}
+
+-- the untyped value is that of the text, and its node means the tree
+abbrev pub IsTreeOfText : List ℕ → Placed → Type 0
+IsTreeOfText s t = (u : Untyped) × IsUntypedOf s u × IsNodeOf u.source u.node t
+
+module _ {V : Type 0} (tree : V → Value) (of : V → TypeTree → Type 0) where
+  -- a value is read from a text at a type exactly where it is read from the text's untyped value
+  abbrev pub ReadAlike : Type 0
+  ReadAlike = (s : List ℕ) (t : Placed) → IsTreeOfText s t → (T : TypeTree) (v : V) → (Means T s (tree v) × of v T) ↔ IsTypedValue tree of T t v
+
+-- a text means nothing at a type where it spells no tree; and where it has an untyped value, exactly where the type gives that none
+abbrev pub RefusedAlike : Type 0
+RefusedAlike =
+    (s : List ℕ) (T : TypeTree) → (SpellsNoTree s → MeansNone T s) × ((t : Placed) → IsTreeOfText s t → MeansNone T s ↔ ReadsNone T t)
+
+-- ---- commas

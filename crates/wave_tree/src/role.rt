@@ -1,0 +1,60 @@
+//! What labels and tokens are to the parser.
+ghost use Rattle.std.specs.Prelude.{◌≡◌, MatchOption};
+ghost use Rattle.wave_grammar.specs.Tree.{word_of};
+ghost use Rattle.wave_grammar.specs.TokenRoles.{IsKeyClass};
+ghost use Rattle.wave_tree.specs.ParsedNodes.{key_node_type};
+ghost use Rattle.wave_tree.specs.ParserState.{spec_word, HasText};
+
+use crate::ast::NodeType;
+use wave_lex::lex::Token;
+
+/// What a label is that stands where a value is due.
+#[derive(Clone, Copy)]
+pub(crate) enum LabelRole {
+    True,
+    False,
+    Number,
+    None,
+    Some,
+    Ok,
+    Err,
+    Case,
+}
+
+/// What the label of this text is, where a value is due.
+pub(crate) fn role_of(text: &str) -> LabelRole
+    ensures word { spec_word result ≡ word_of text.now }
+    ensures text { HasText result text.now }
+{
+    if text == "true" {
+        LabelRole::True
+    } else if text == "false" {
+        LabelRole::False
+    } else if text == "inf" || text == "nan" {
+        LabelRole::Number
+    } else if text == "none" {
+        LabelRole::None
+    } else if text == "some" {
+        LabelRole::Some
+    } else if text == "ok" {
+        LabelRole::Ok
+    } else if text == "err" {
+        LabelRole::Err
+    } else {
+        LabelRole::Case
+    }
+}
+
+/// The type of a key's node.
+pub(crate) fn key_type(token: Token) -> Option<NodeType>
+    ensures { MatchOption result (IsKeyClass token → ⊥) (λ ty. IsKeyClass token × (ty ≡ key_node_type token)) }
+{
+    match token {
+        Token::LabelOrKeyword => Some(NodeType::Label),
+        Token::Number => Some(NodeType::Number),
+        Token::Char => Some(NodeType::Char),
+        Token::String => Some(NodeType::String),
+        Token::MultilineString => Some(NodeType::MultilineString),
+        _ => None,
+    }
+}
