@@ -61,11 +61,6 @@ indented line y k n l m h d =
     let front : take n line ≡ spaces n = spaces_taken line n (omega arith) (λ i j. h i (omega arith)) in
     (drop n line, sym (take-append-drop n line) ∙ ap (λ (z : List ℕ). z ++ drop n line) front, d)
 
--- dropping a carriage return makes no line longer
-pub drops_less : (x y : List ℕ) → DropsReturn x y → length y ≤ length x
-drops_less x y (inl e) = let l : length x ≡ length (y ++ 13 ∷ []) = ap length e in omega (arith, length-append y (13 ∷ []))
-drops_less x y (inr e) = let l : length x ≡ length y = ap length e.0 in omega arith
-
 -- ---- pieces
 
 -- a byte in front of the first of some pieces
@@ -271,13 +266,6 @@ opens_badly s n l cut bad w =
 -- a sole piece is not right
 pub opens_alone : (s : List ℕ) → ((i : ℕ) → i < length s → get_or s i 0 ≢ 10) → OpensWell (pieces s) → ⊥
 opens_alone s h w = subst OpensWell (pieces_none s h) w
-
--- the first piece is right
-pub opens_here : (s : List ℕ) (n : ℕ) → n < length s → n ≤ 1 → (n ≡ 1 → get_or s 0 0 ≡ 13) → Opens (take n s)
-opens_here s zero l m h = inl refl
-opens_here [] (suc n) l m h = let v : ⊥ = omega arith in absurd v
-opens_here (b ∷ s) (suc zero) l m h = inr (ap (λ (z : ℕ). z ∷ []) (h refl))
-opens_here (b ∷ s) (suc (suc n)) l m h = let v : ⊥ = omega arith in absurd v
 
 -- no line is ended where no line feed stands
 pub none_ended : (s : List ℕ) → ((i : ℕ) → i < length s → get_or s i 0 ≢ 10) → ended_lines s ≡ []
