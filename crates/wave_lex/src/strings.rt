@@ -2,7 +2,7 @@
 ghost use Rattle.std.specs.Prelude.{◌≡◌, ℕ, ◌+◌, ◌<◌, ◌≤◌, ◌^◌, ◌≢◌, [], length, slice_index, MatchResult, MatchOption};
 ghost use Rattle.std.specs.Iterator.{at_most};
 ghost use Rattle.std.specs.Char.{digit_value};
-ghost use Rattle.wave_lex.specs.Strings.{UnescapesTo, short_escape};
+ghost use Rattle.wave_lex.specs.Strings.{UnescapesTo};
 ghost use Rattle.wave_lex.specs.Multiline.{pieces, closing_piece, DropsReturn};
 ghost use Rattle.wave_lex.specs.declared.strings.StringPartsIter.TheVariants.{Normal};
 ghost use Rattle.wave_lex.specs.Left.{ended_lines, size_of};
@@ -10,6 +10,7 @@ ghost use Rattle.wave_lex.specs.Parts.{PartIs, LinePartIs, OpensTo, OpeningRefus
 ghost use Rattle.wave_lex.specs.Lines.{LineIs, SplitsLine, OpeningIs, BehindLastFeed};
 
 use crate::error::{ParserError, ParserErrorKind};
+use crate::machine::escape::short_escape;
 use std::marker::Model;
 
 /// A run of the source without escapes, or a decoded escape, or the line feed between two lines.
@@ -244,7 +245,7 @@ pub fn unescape(src: &str) -> Option<(char, usize)>
         return None;
     }
     if bytes[1] != b'u' {
-        let short = short_escape(bytes[1])?;
+        let short = short_escape(char::from(bytes[1]))?;
         return Some((short, 2));
     }
     if bytes.len() < 3 || bytes[2] != b'{' {
@@ -258,21 +259,6 @@ pub fn unescape(src: &str) -> Option<(char, usize)>
     let value = u32::from_str_radix(&src[3..3 + count], 16).ok()?;
     let scalar = char::from_u32(value)?;
     Some((scalar, count + 4))
-}
-
-/// What a backslash and this byte stand for.
-fn short_escape(byte: u8) -> Option<char>
-    ensures { result ≡ short_escape byte }
-{
-    match byte {
-        b'\\' => Some('\\'),
-        b'\'' => Some('\''),
-        b'"' => Some('"'),
-        b't' => Some('\t'),
-        b'n' => Some('\n'),
-        b'r' => Some('\r'),
-        _ => None,
-    }
 }
 
 /// How many hexadecimal digits stand at the front.
