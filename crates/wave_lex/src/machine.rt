@@ -34,7 +34,6 @@ pub fn longest_front<M: Machine>(start: M, text: &str) -> Option<usize>
 {
     let mut state = start;
     let mut longest = if state.may_end() { Some(0) } else { None };
-    let _len = text.len();
     let mut place = 0;
     for c in text.chars() {
         let Some(next) = state.step(c) else {
