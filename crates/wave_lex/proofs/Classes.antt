@@ -14,7 +14,7 @@ use Rattle.wave_lex.specs.Tokens.{shape, word, string}
 use Rattle.wave_lex.specs.Lexing.{three_quotes, MayStandAt, IsToken}
 use Rattle.wave_lex.specs.Reading.{class_of, ClassAt}
 use Rattle.wave_lex.proofs.Derive.{after_into, empty_into}
-use Rattle.wave_lex.proofs.Shapes.{same, same_true, each_below, each_below_at, is_ascii_shape, after_past}
+use Rattle.wave_lex.proofs.Shapes.{same, same_true, each_below, each_below_at, is_ascii_shape, after_past, one_is}
 
 -- a true choice has a true side
 or_true : (a b : Bool) → (a || b) ≡ true → (a ≡ true) ⊎ (b ≡ true)
@@ -130,15 +130,11 @@ token_shows r rest k x d b t =
     let f = front_begins (shape d) r t.0.scalars rest k x w.3 b t.0.spelled t.0.has in
     class_shown d x f.0 (after_into x (shape d) f.0 (subst (λ (z : List ℕ). Matches (shape d) z) f.1 t.0.has))
 
--- one scalar alone lies from itself to itself
-within_one : (c d : ℕ) → is_within c c d ≡ true → c ≡ d
-within_one c d e = grind (arith, nat_tests)
-
 -- a text of the shape of a word is the word
 word_is : (w x : List ℕ) → Matches (word w) x → x ≡ w
 word_is [] x h = h
 word_is (c ∷ w) x (a, b, e, (d, ed, td), hb) =
-    let i : c ≡ d = within_one c d td in
+    let i : c ≡ d = sym (one_is c d td) in
     let j : b ≡ w = word_is w b hb in cc
 
 -- a multiline token begins with three quotes

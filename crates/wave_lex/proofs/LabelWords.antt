@@ -17,11 +17,7 @@ use Rattle.wave_lex.specs.Tokens.{some, digit, label_or_keyword, first_word, nex
 use Rattle.wave_lex.specs.Labels.{IsLabel}
 use Rattle.wave_lex.specs.Lexing.{IsToken}
 use Rattle.wave_lex.specs.LabelWords.{IsLowerOrDigit, IsUpperOrDigit, IsWord, BeginsWithLetter, IsJoinedWords, LabelsAreWords, LabelTokensAreLabels}
-use Rattle.wave_lex.proofs.Shapes.{and_true}
-
--- a scalar from c to c is c
-one_is : (c d : ℕ) → is_within c c d ≡ true → d ≡ c
-one_is c d e = grind (arith, nat_tests)
+use Rattle.wave_lex.proofs.Shapes.{and_true, one_is}
 
 -- a scalar of a range of ASCII is ASCII
 below : (lo hi c : ℕ) → nat_lt hi 128 ≡ true → is_within lo hi c ≡ true → c < 128

@@ -1,5 +1,6 @@
 -- The pieces of a text between its line feeds, and the spaces at the front of a line.
-use Rattle.std.proofs.Common.{◌≡◌, ℕ, ◌≤◌, ◌<◌, ◌+◌, ◌-◌, ◌≢◌, zero, suc, Bool, true, false, nat_eq, List, [], ◌∷◌, ◌++◌, ◌⊎◌, inl, inr, Option, None, Some, Result, Ok, Err, refl, sym, ap, subst, ◌∙◌, length, take, drop, arith, get_or, length-append, length-drop, length-take-le}
+use Rattle.std.specs.Prelude.{MatchOption, unwrap_or}
+use Rattle.std.proofs.Common.{Bor, ◌≡◌, ℕ, ◌≤◌, ◌<◌, ◌+◌, ◌-◌, ◌≢◌, zero, suc, Bool, true, false, nat_eq, List, [], ◌∷◌, ◌++◌, ◌⊎◌, inl, inr, Option, None, Some, Result, Ok, Err, refl, sym, ap, subst, ◌∙◌, length, take, drop, arith, get_or, length-append, length-drop, length-take-le}
 use Rattle.std.specs.Prelude.{if◌then◌else◌}
 use Rattle.std.proofs.lemmas.Bool.{cases_lt}
 use Rattle.std.proofs.lemmas.Bool.Decides.{nat_tests}
@@ -60,11 +61,6 @@ pub indented : (line y : List ℕ) (k n : ℕ) → n ≤ k → k ≤ length line
 indented line y k n l m h d =
     let front : take n line ≡ spaces n = spaces_taken line n (omega arith) (λ i j. h i (omega arith)) in
     (drop n line, sym (take-append-drop n line) ∙ ap (λ (z : List ℕ). z ++ drop n line) front, d)
-
--- dropping a carriage return makes no line longer
-pub drops_less : (x y : List ℕ) → DropsReturn x y → length y ≤ length x
-drops_less x y (inl e) = let l : length x ≡ length (y ++ 13 ∷ []) = ap length e in omega (arith, length-append y (13 ∷ []))
-drops_less x y (inr e) = let l : length x ≡ length y = ap length e.0 in omega arith
 
 -- ---- pieces
 
@@ -272,25 +268,36 @@ opens_badly s n l cut bad w =
 pub opens_alone : (s : List ℕ) → ((i : ℕ) → i < length s → get_or s i 0 ≢ 10) → OpensWell (pieces s) → ⊥
 opens_alone s h w = subst OpensWell (pieces_none s h) w
 
--- the first piece is right
-pub opens_here : (s : List ℕ) (n : ℕ) → n < length s → n ≤ 1 → (n ≡ 1 → get_or s 0 0 ≡ 13) → Opens (take n s)
-opens_here s zero l m h = inl refl
-opens_here [] (suc n) l m h = let v : ⊥ = omega arith in absurd v
-opens_here (b ∷ s) (suc zero) l m h = inr (ap (λ (z : ℕ). z ∷ []) (h refl))
-opens_here (b ∷ s) (suc (suc n)) l m h = let v : ⊥ = omega arith in absurd v
-
 -- no line is ended where no line feed stands
 pub none_ended : (s : List ℕ) → ((i : ℕ) → i < length s → get_or s i 0 ≢ 10) → ended_lines s ≡ []
 none_ended s h = ap but_last (pieces_none s h)
 
--- the first line and what stands behind it
-pub line_split : (s line behind : List ℕ) (n : ℕ) → n < length s → get_or s n 0 ≡ 10 → ((i : ℕ) → i < n → get_or s i 0 ≢ 10) → line ≡ take n s → behind ≡ drop (n + 1) s → SplitsLine s line behind
-line_split s line behind n l e h p q =
-    let cut : pieces s ≡ take n s ∷ pieces (drop (n + 1) s) = pieces_before s n l e h in
-    record {
-      parts = split_at s n 10 l e ∙ (ap (λ (z : List ℕ). z ++ 10 ∷ drop (suc n) s) (sym p) ∙ ap (λ (z : List ℕ). line ++ 10 ∷ z) (next_drop s n ∙ sym q));
-      lines = ended_behind s (take n s) (drop (n + 1) s) cut ∙ (ap (λ (z : List ℕ). z ∷ ended_lines (drop (n + 1) s)) (sym p) ∙ ap (λ (z : List ℕ). line ∷ ended_lines z) (sym q));
-    }
+-- the first line and what stands behind it, where a line feed stands
+pub lines_split : (s : List ℕ) (o : Option (Bor (List ℕ) × Bor (List ℕ)))
+    → MatchOption o ((i : ℕ) → i < length s → get_or s i 0 ≢ 10) (λ x. (s ≡ x.0.now ++ 10 ∷ x.1.now) × ((i : ℕ) → i < length x.0.now → get_or x.0.now i 0 ≢ 10))
+    → MatchOption o (ended_lines s ≡ []) (λ x. SplitsLine s x.0.now x.1.now)
+lines_split s None h = none_ended s h
+lines_split s (Some x) h =
+    let cut : pieces s ≡ x.0.now ∷ pieces x.1.now = ap pieces h.0 ∙ (pieces_append x.0.now x.1.now ∙ ap (λ (z : List (List ℕ)). z ++ pieces x.1.now) (pieces_none x.0.now h.1)) in
+    record { parts = h.0; lines = ended_behind s x.0.now x.1.now cut }
+
+-- the line without the carriage return that was found at its end
+pub drops_return : (line : Bor (List ℕ)) (o : Option (Bor (List ℕ)))
+    → MatchOption o ((front : List ℕ) → line.now ≢ front ++ 13 ∷ []) (λ x. line.now ≡ x.now ++ 13 ∷ []) → DropsReturn line.now (unwrap_or o line).now
+drops_return line None h = inr (refl, h)
+drops_return line (Some x) h = inl h
+
+-- behind the last line feed that was found
+pub behind_found : (s : List ℕ) (k : ℕ) → (k < length s) × (get_or s k 0 ≡ 10) × ((i : ℕ) → k < i → i < length s → get_or s i 0 ≢ 10) → BehindLastFeed s (k + 1)
+behind_found s k h = record {
+  fits = omega (arith, h.0);
+  behind = λ l. let m : k + 1 - 1 ≡ k = omega arith in subst (λ (z : ℕ). get_or s z 0 ≡ 10) (sym m) h.1;
+  last = λ i l m. h.2 i (omega arith) m;
+}
+
+-- at the beginning, where none was found
+pub behind_no_feed : (s : List ℕ) → ((i : ℕ) → i < length s → get_or s i 0 ≢ 10) → BehindLastFeed s 0
+behind_no_feed s h = record { fits = omega arith; behind = λ l. let v : ⊥ = omega arith in absurd v; last = λ i l m. h i m }
 
 -- ---- where a text may be cut
 

@@ -1,5 +1,6 @@
 -- The steps of a string's parts, and what all of them are together.
-use Rattle.std.proofs.Common.{◌≡◌, ℕ, ◌≤◌, ◌<◌, ◌+◌, ◌≢◌, zero, suc, List, [], ◌∷◌, ◌++◌, ◌⊎◌, inl, inr, refl, sym, ap, subst, ◌∙◌, length, take, drop, arith, Some, None, Ok, get_or, append_assoc, length-take-le, length-append}
+use Rattle.std.specs.Prelude.{MatchOption, unwrap_or}
+use Rattle.std.proofs.Common.{Option, ◌≡◌, ℕ, ◌≤◌, ◌<◌, ◌+◌, ◌≢◌, zero, suc, List, [], ◌∷◌, ◌++◌, ◌⊎◌, inl, inr, refl, sym, ap, subst, ◌∙◌, length, take, drop, arith, Some, None, Ok, get_or, append_assoc, length-take-le, length-append}
 use Rattle.std.specs.Prelude.{encode_utf8}
 use Rattle.std.specs.Char.{digit_value}
 use Rattle.std.specs.Str.Parse.{AllDigits}
@@ -41,6 +42,18 @@ left_at (a ∷ s) (suc k) b l h = left_at s k b (omega arith) (λ m. h (omega ar
 -- some bytes are not none
 not_none : (s : List ℕ) → 0 < length s → s ≢ []
 not_none s l e = let w : length s ≡ 0 = ap length e in let v : ⊥ = omega arith in v
+
+-- k bytes stand before the first `\`
+pub record IsRun (s : List ℕ) (k : ℕ) : Type 0 where
+  pub within : k ≤ length s
+  pub before : (i : ℕ) → i < k → get_or s i 0 ≢ 92
+  pub stops : k < length s → get_or s k 0 ≡ 92
+
+-- the place that was found, or else the whole length
+pub run_found : (s : List ℕ) (o : Option ℕ)
+    → MatchOption o ((i : ℕ) → i < length s → get_or s i 0 ≢ 92) (λ k. (k < length s) × (get_or s k 0 ≡ 92) × ((i : ℕ) → i < k → get_or s i 0 ≢ 92)) → IsRun s (unwrap_or o (length s))
+run_found s None h = record { within = omega arith; before = h; stops = λ l. let v : ⊥ = omega arith in absurd v }
+run_found s (Some k) h = record { within = omega (arith, h.0); before = h.2; stops = λ l. h.1 }
 
 -- the bytes through the first `\` are a run
 pub run_taken : (s part rest : List ℕ) (pos k : ℕ) → 0 < k → k ≤ length s → ((i : ℕ) → i < k → get_or s i 0 ≢ 92) → (k < length s → get_or s k 0 ≡ 92)

@@ -6,12 +6,9 @@ use Rattle.std.proofs.lemmas.Bool.Decides.{nat_tests}
 use Rattle.wave_lex.specs.Regex.{Regex, other, both, Matches, Each, joined, is_one_of, is_within}
 use Rattle.wave_lex.specs.Tokens.{one, word, up_to, multiline_string}
 use Rattle.wave_lex.specs.Lexing.{three_quotes, HasNoThreeQuotes, ThroughFirstQuotes}
+use Rattle.wave_lex.proofs.Shapes.{one_is}
 
 -- ---- words
-
--- a scalar from c to c is c
-one_is : (c d : ℕ) → is_within c c d ≡ true → d ≡ c
-one_is c d e = grind (arith, nat_tests)
 
 -- c lies from c to c
 within_one : (c : ℕ) → is_within c c c ≡ true

@@ -6,6 +6,10 @@ use Rattle.std.proofs.lemmas.Bool.Decides.{nat_tests}
 use Rattle.wave_lex.specs.Regex.{Regex, nothing, empty, within, other, both, either, many, is_one_of, is_within}
 use Rattle.wave_lex.specs.Derive.{after, join, choice, may_be_empty}
 
+-- a scalar from c to c is c
+pub one_is : (c d : ℕ) → is_within c c d ≡ true → d ≡ c
+one_is c d e = grind (arith, nat_tests)
+
 -- two lists are equal, by computing
 abbrev pub same_list : List ℕ → List ℕ → Bool
 same_list [] [] = true

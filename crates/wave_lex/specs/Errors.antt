@@ -140,10 +140,6 @@ repeated_name name = quoted_name name
 abbrev pub field_label_due : List ℕ
 field_label_due = codes "expected a record field label"
 
--- the detail of a label that is no key of the type of this text
-abbrev pub label_found : List ℕ → List ℕ
-label_found ty = codes "expected a " ++ (ty ++ codes " key, found a label")
-
 -- the details of a call's parameters: too many values, too few, none
 abbrev pub too_many_params : List ℕ
 too_many_params = codes "more param(s) than expected"

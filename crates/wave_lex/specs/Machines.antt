@@ -1,16 +1,23 @@
 -- What each state of a machine reads next, and what may still follow it. Only private contracts cite it.
-use Rattle.std.specs.Prelude.{ℕ, ◌||◌, Bool, if◌then◌else◌, nat_eq, [], ◌∷◌, Option, Some, None, codes}
+use Rattle.std.specs.Prelude.{ℕ, ◌||◌, Bool, true, false, if◌then◌else◌, nat_eq, List, [], ◌∷◌, ◌++◌, Option, Some, None, codes}
 use Rattle.wave_lex.specs.Regex.{Regex, empty, is_within}
 use Rattle.wave_lex.specs.Derive.{after_all}
-use Rattle.wave_lex.specs.Tokens.{number, label_or_keyword, gap, string, character, multiline_string, invalid, one}
+use Rattle.wave_lex.specs.Strings.{short_escape}
+use Rattle.wave_lex.specs.Tokens.{number, label, label_or_keyword, gap, string, character, multiline_string, invalid, one}
 use Rattle.wave_lex.specs.declared.machine.character.CharState.TheVariants as character
 use Rattle.wave_lex.specs.declared.machine.character.CharState.{CharState}
+use Rattle.wave_lex.specs.declared.machine.escape.EscapeState.TheVariants as escape
+use Rattle.wave_lex.specs.declared.machine.escape.EscapeState.{EscapeState}
+use Rattle.wave_lex.specs.declared.machine.escape.EscapeStep.TheVariants.{Within, Last}
+use Rattle.wave_lex.specs.declared.machine.escape.EscapeStep.{EscapeStep}
 use Rattle.wave_lex.specs.declared.machine.gap.GapState.TheVariants as gap
 use Rattle.wave_lex.specs.declared.machine.gap.GapState.{GapState}
 use Rattle.wave_lex.specs.declared.machine.invalid.InvalidState.TheVariants as invalid
 use Rattle.wave_lex.specs.declared.machine.invalid.InvalidState.{InvalidState}
 use Rattle.wave_lex.specs.declared.machine.label.LabelState.TheVariants as l
 use Rattle.wave_lex.specs.declared.machine.label.LabelState.{LabelState}
+use Rattle.wave_lex.specs.declared.machine.label.LabelTokenState.TheVariants as token
+use Rattle.wave_lex.specs.declared.machine.label.LabelTokenState.{LabelTokenState}
 use Rattle.wave_lex.specs.declared.machine.mark.MarkState.TheVariants.{Start, Close}
 use Rattle.wave_lex.specs.declared.machine.mark.MarkState.{MarkState}
 use Rattle.wave_lex.specs.declared.machine.multiline.MultilineState.TheVariants as multiline
@@ -58,14 +65,17 @@ number_step n.Exponent b = if is_digit b then Some n.Power else (if nat_eq b 45 
 number_step n.Sign b = if is_digit b then Some n.Power else None
 number_step n.Power b = if is_digit b then Some n.Power else None
 
+-- a label read so far
+abbrev pub label_read : LabelState → List ℕ
+label_read l.Start = []
+label_read l.Lower = codes "a"
+label_read l.Upper = codes "A"
+label_read l.Hyphen = codes "a-"
+label_read l.Digits = codes "a-0"
+
 -- what may still follow in a label
 abbrev pub label_rest : LabelState → Regex
-label_rest l.Start = label_or_keyword
-label_rest l.Percent = after_all (codes "%") label_or_keyword
-label_rest l.Lower = after_all (codes "a") label_or_keyword
-label_rest l.Upper = after_all (codes "A") label_or_keyword
-label_rest l.Hyphen = after_all (codes "a-") label_or_keyword
-label_rest l.Digits = after_all (codes "a-0") label_or_keyword
+label_rest q = after_all (label_read q) label
 
 -- a word that begins
 abbrev pub first_letter : ℕ → Option LabelState
@@ -73,12 +83,32 @@ first_letter b = if is_within 97 122 b then Some l.Lower else (if is_within 65 9
 
 -- what a label reads next
 abbrev pub label_step : LabelState → ℕ → Option LabelState
-label_step l.Start b = if nat_eq b 37 then Some l.Percent else first_letter b
-label_step l.Percent b = first_letter b
+label_step l.Start b = first_letter b
 label_step l.Lower b = if is_within 97 122 b || is_digit b then Some l.Lower else (if nat_eq b 45 then Some l.Hyphen else None)
 label_step l.Upper b = if is_within 65 90 b || is_digit b then Some l.Upper else (if nat_eq b 45 then Some l.Hyphen else None)
 label_step l.Hyphen b = if is_digit b then Some l.Digits else first_letter b
 label_step l.Digits b = if is_digit b then Some l.Digits else (if nat_eq b 45 then Some l.Hyphen else first_letter b)
+
+-- a label may end here
+abbrev pub label_ends : LabelState → Bool
+label_ends l.Start = false
+label_ends l.Hyphen = false
+label_ends q = true
+
+-- what may still follow in a token of the class of labels
+abbrev pub label_token_rest : LabelTokenState → Regex
+label_token_rest token.Start = label_or_keyword
+label_token_rest (token.Label q) = label_rest q
+
+-- the label of the token goes on
+abbrev pub in_token : Option LabelState → Option LabelTokenState
+in_token None = None
+in_token (Some q) = Some (token.Label q)
+
+-- what a token of the class of labels reads next
+abbrev pub label_token_step : LabelTokenState → ℕ → Option LabelTokenState
+label_token_step token.Start b = if nat_eq b 37 then Some (token.Label l.Start) else in_token (label_step l.Start b)
+label_token_step (token.Label q) b = in_token (label_step q b)
 
 -- what may still follow in a gap
 abbrev pub gap_rest : GapState → Regex
@@ -92,67 +122,80 @@ gap_step gap.Start c = (if nat_eq c 32 || nat_eq c 9 || nat_eq c 10 || nat_eq c 
 gap_step gap.Slash c = (if nat_eq c 47 then Some gap.Comment else None)
 gap_step gap.Comment c = (if nat_eq c 10 then Some gap.Start else Some gap.Comment)
 
+-- an escape read so far, behind its backslash
+abbrev pub escape_read : EscapeState → List ℕ
+escape_read escape.Backslash = []
+escape_read escape.U = codes "u"
+escape_read escape.Hex0 = codes "u{"
+escape_read escape.Hex1 = codes "u{0"
+escape_read escape.Hex2 = codes "u{00"
+escape_read escape.Hex3 = codes "u{000"
+escape_read escape.Hex4 = codes "u{0000"
+escape_read escape.Hex5 = codes "u{00000"
+escape_read escape.Hex6 = codes "u{000000"
+
+-- a short escape ends with this scalar
+abbrev pub ends_short : Option ℕ → Option EscapeStep
+ends_short None = None
+ends_short (Some c) = Some Last
+
+-- 0 to 9, a to f, or A to F
+abbrev pub is_hexadecimal : ℕ → Bool
+is_hexadecimal c = is_within 48 57 c || is_within 97 102 c || is_within 65 70 c
+
+-- what an escape reads next
+abbrev pub escape_step : EscapeState → ℕ → Option EscapeStep
+escape_step escape.Backslash c = if nat_eq c 117 then Some (Within escape.U) else ends_short (short_escape c)
+escape_step escape.U c = if nat_eq c 123 then Some (Within escape.Hex0) else None
+escape_step escape.Hex0 c = if is_hexadecimal c then Some (Within escape.Hex1) else None
+escape_step escape.Hex1 c = if is_hexadecimal c then Some (Within escape.Hex2) else (if nat_eq c 125 then Some Last else None)
+escape_step escape.Hex2 c = if is_hexadecimal c then Some (Within escape.Hex3) else (if nat_eq c 125 then Some Last else None)
+escape_step escape.Hex3 c = if is_hexadecimal c then Some (Within escape.Hex4) else (if nat_eq c 125 then Some Last else None)
+escape_step escape.Hex4 c = if is_hexadecimal c then Some (Within escape.Hex5) else (if nat_eq c 125 then Some Last else None)
+escape_step escape.Hex5 c = if is_hexadecimal c then Some (Within escape.Hex6) else (if nat_eq c 125 then Some Last else None)
+escape_step escape.Hex6 c = if nat_eq c 125 then Some Last else None
+
 -- what may still follow in a string
 abbrev pub string_rest : StringState → Regex
-string_rest string.Start = after_all ([]) string
-string_rest string.Inside = after_all (34 ∷ []) string
-string_rest string.Close = after_all (34 ∷ 34 ∷ []) string
-string_rest string.Escape = after_all (34 ∷ 92 ∷ []) string
-string_rest string.EscapeU = after_all (34 ∷ 92 ∷ 117 ∷ []) string
-string_rest string.Hex0 = after_all (34 ∷ 92 ∷ 117 ∷ 123 ∷ []) string
-string_rest string.Hex1 = after_all (34 ∷ 92 ∷ 117 ∷ 123 ∷ 48 ∷ []) string
-string_rest string.Hex2 = after_all (34 ∷ 92 ∷ 117 ∷ 123 ∷ 48 ∷ 48 ∷ []) string
-string_rest string.Hex3 = after_all (34 ∷ 92 ∷ 117 ∷ 123 ∷ 48 ∷ 48 ∷ 48 ∷ []) string
-string_rest string.Hex4 = after_all (34 ∷ 92 ∷ 117 ∷ 123 ∷ 48 ∷ 48 ∷ 48 ∷ 48 ∷ []) string
-string_rest string.Hex5 = after_all (34 ∷ 92 ∷ 117 ∷ 123 ∷ 48 ∷ 48 ∷ 48 ∷ 48 ∷ 48 ∷ []) string
-string_rest string.Hex6 = after_all (34 ∷ 92 ∷ 117 ∷ 123 ∷ 48 ∷ 48 ∷ 48 ∷ 48 ∷ 48 ∷ 48 ∷ []) string
+string_rest string.Start = string
+string_rest string.Inside = after_all (codes "\"") string
+string_rest (string.Escape e) = after_all (codes "\"\\" ++ escape_read e) string
+string_rest string.Close = after_all (codes "\"\"") string
+
+-- the string goes on, in the escape or behind it
+abbrev pub in_string : Option EscapeStep → Option StringState
+in_string None = None
+in_string (Some (Within e)) = Some (string.Escape e)
+in_string (Some Last) = Some string.Inside
 
 -- what a string reads next
 abbrev pub string_step : StringState → ℕ → Option StringState
-string_step string.Start c = (if nat_eq c 34 then Some string.Inside else None)
-string_step string.Inside c = (if nat_eq c 34 then Some string.Close else (if nat_eq c 92 then Some string.Escape else (if nat_eq c 10 then None else Some string.Inside)))
+string_step string.Start c = if nat_eq c 34 then Some string.Inside else None
+string_step string.Inside c = if nat_eq c 34 then Some string.Close else (if nat_eq c 92 then Some (string.Escape escape.Backslash) else (if nat_eq c 10 then None else Some string.Inside))
+string_step (string.Escape e) c = in_string (escape_step e c)
 string_step string.Close c = None
-string_step string.Escape c = (if nat_eq c 39 || nat_eq c 34 || nat_eq c 116 || nat_eq c 110 || nat_eq c 114 || nat_eq c 92 then Some string.Inside else (if nat_eq c 117 then Some string.EscapeU else None))
-string_step string.EscapeU c = (if nat_eq c 123 then Some string.Hex0 else None)
-string_step string.Hex0 c = (if is_within 48 57 c || is_within 97 102 c || is_within 65 70 c then Some string.Hex1 else None)
-string_step string.Hex1 c = (if is_within 48 57 c || is_within 97 102 c || is_within 65 70 c then Some string.Hex2 else (if nat_eq c 125 then Some string.Inside else None))
-string_step string.Hex2 c = (if is_within 48 57 c || is_within 97 102 c || is_within 65 70 c then Some string.Hex3 else (if nat_eq c 125 then Some string.Inside else None))
-string_step string.Hex3 c = (if is_within 48 57 c || is_within 97 102 c || is_within 65 70 c then Some string.Hex4 else (if nat_eq c 125 then Some string.Inside else None))
-string_step string.Hex4 c = (if is_within 48 57 c || is_within 97 102 c || is_within 65 70 c then Some string.Hex5 else (if nat_eq c 125 then Some string.Inside else None))
-string_step string.Hex5 c = (if is_within 48 57 c || is_within 97 102 c || is_within 65 70 c then Some string.Hex6 else (if nat_eq c 125 then Some string.Inside else None))
-string_step string.Hex6 c = (if nat_eq c 125 then Some string.Inside else None)
 
 -- what may still follow in a char
 abbrev pub character_rest : CharState → Regex
-character_rest character.Start = after_all ([]) character
-character_rest character.Open = after_all (39 ∷ []) character
-character_rest character.Filled = after_all (39 ∷ 97 ∷ []) character
-character_rest character.Close = after_all (39 ∷ 97 ∷ 39 ∷ []) character
-character_rest character.Escape = after_all (39 ∷ 92 ∷ []) character
-character_rest character.EscapeU = after_all (39 ∷ 92 ∷ 117 ∷ []) character
-character_rest character.Hex0 = after_all (39 ∷ 92 ∷ 117 ∷ 123 ∷ []) character
-character_rest character.Hex1 = after_all (39 ∷ 92 ∷ 117 ∷ 123 ∷ 48 ∷ []) character
-character_rest character.Hex2 = after_all (39 ∷ 92 ∷ 117 ∷ 123 ∷ 48 ∷ 48 ∷ []) character
-character_rest character.Hex3 = after_all (39 ∷ 92 ∷ 117 ∷ 123 ∷ 48 ∷ 48 ∷ 48 ∷ []) character
-character_rest character.Hex4 = after_all (39 ∷ 92 ∷ 117 ∷ 123 ∷ 48 ∷ 48 ∷ 48 ∷ 48 ∷ []) character
-character_rest character.Hex5 = after_all (39 ∷ 92 ∷ 117 ∷ 123 ∷ 48 ∷ 48 ∷ 48 ∷ 48 ∷ 48 ∷ []) character
-character_rest character.Hex6 = after_all (39 ∷ 92 ∷ 117 ∷ 123 ∷ 48 ∷ 48 ∷ 48 ∷ 48 ∷ 48 ∷ 48 ∷ []) character
+character_rest character.Start = character
+character_rest character.Open = after_all (codes "'") character
+character_rest (character.Escape e) = after_all (codes "'\\" ++ escape_read e) character
+character_rest character.Filled = after_all (codes "'a") character
+character_rest character.Close = after_all (codes "'a'") character
+
+-- the char goes on, in the escape or behind it
+abbrev pub in_char : Option EscapeStep → Option CharState
+in_char None = None
+in_char (Some (Within e)) = Some (character.Escape e)
+in_char (Some Last) = Some character.Filled
 
 -- what a char reads next
 abbrev pub character_step : CharState → ℕ → Option CharState
-character_step character.Start c = (if nat_eq c 39 then Some character.Open else None)
-character_step character.Open c = (if nat_eq c 92 then Some character.Escape else (if nat_eq c 10 || nat_eq c 39 then None else Some character.Filled))
-character_step character.Filled c = (if nat_eq c 39 then Some character.Close else None)
+character_step character.Start c = if nat_eq c 39 then Some character.Open else None
+character_step character.Open c = if nat_eq c 92 then Some (character.Escape escape.Backslash) else (if nat_eq c 10 || nat_eq c 39 then None else Some character.Filled)
+character_step (character.Escape e) c = in_char (escape_step e c)
+character_step character.Filled c = if nat_eq c 39 then Some character.Close else None
 character_step character.Close c = None
-character_step character.Escape c = (if nat_eq c 39 || nat_eq c 34 || nat_eq c 116 || nat_eq c 110 || nat_eq c 114 || nat_eq c 92 then Some character.Filled else (if nat_eq c 117 then Some character.EscapeU else None))
-character_step character.EscapeU c = (if nat_eq c 123 then Some character.Hex0 else None)
-character_step character.Hex0 c = (if is_within 48 57 c || is_within 97 102 c || is_within 65 70 c then Some character.Hex1 else None)
-character_step character.Hex1 c = (if is_within 48 57 c || is_within 97 102 c || is_within 65 70 c then Some character.Hex2 else (if nat_eq c 125 then Some character.Filled else None))
-character_step character.Hex2 c = (if is_within 48 57 c || is_within 97 102 c || is_within 65 70 c then Some character.Hex3 else (if nat_eq c 125 then Some character.Filled else None))
-character_step character.Hex3 c = (if is_within 48 57 c || is_within 97 102 c || is_within 65 70 c then Some character.Hex4 else (if nat_eq c 125 then Some character.Filled else None))
-character_step character.Hex4 c = (if is_within 48 57 c || is_within 97 102 c || is_within 65 70 c then Some character.Hex5 else (if nat_eq c 125 then Some character.Filled else None))
-character_step character.Hex5 c = (if is_within 48 57 c || is_within 97 102 c || is_within 65 70 c then Some character.Hex6 else (if nat_eq c 125 then Some character.Filled else None))
-character_step character.Hex6 c = (if nat_eq c 125 then Some character.Filled else None)
 
 -- what may still follow in a multiline string
 abbrev pub multiline_rest : MultilineState → Regex

@@ -1,14 +1,15 @@
 -- What each state of the machine of function names reads next, and what may still follow it. Only private contracts cite it.
-use Rattle.std.specs.Prelude.{ℕ, ◌||◌, Bool, true, false, if◌then◌else◌, nat_eq, List, [], ◌++◌, Option, Some, None, codes}
+use Rattle.std.specs.Prelude.{ℕ, Bool, true, false, if◌then◌else◌, nat_eq, List, [], ◌++◌, Option, Some, None, codes}
 use Rattle.wave_lex.specs.Regex.{Regex, is_within}
 use Rattle.wave_lex.specs.Derive.{after_all}
 use Rattle.wave_lex.specs.Tokens.{function_name}
+use Rattle.wave_lex.specs.Machines.{is_digit, label_read, label_step, label_ends}
 use Rattle.wave_lex.specs.declared.machine.name.NameState.{NameState}
 use Rattle.wave_lex.specs.declared.machine.name.NameState.TheVariants.{Label, Version}
 use Rattle.wave_lex.specs.declared.machine.name.Section.{Section}
 use Rattle.wave_lex.specs.declared.machine.name.Section.TheVariants as section
-use Rattle.wave_lex.specs.declared.machine.name.Word.{Word}
-use Rattle.wave_lex.specs.declared.machine.name.Word.TheVariants as word
+use Rattle.wave_lex.specs.declared.machine.label.LabelState.{LabelState}
+use Rattle.wave_lex.specs.declared.machine.label.LabelState.TheVariants as l
 use Rattle.wave_lex.specs.declared.machine.name.Component.{Component}
 use Rattle.wave_lex.specs.declared.machine.name.Component.TheVariants as component
 use Rattle.wave_lex.specs.declared.machine.name.Number.{Number}
@@ -20,14 +21,6 @@ before_label section.First = []
 before_label section.Namespace = codes "a:"
 before_label section.Function = codes "a:a/"
 before_label section.Member = codes "a."
-
--- a label read so far
-abbrev pub word_read : Word → List ℕ
-word_read word.Start = []
-word_read word.Lower = codes "a"
-word_read word.Upper = codes "A"
-word_read word.Hyphen = codes "a-"
-word_read word.Digits = codes "a-0"
 
 -- what may stand before a number of the version
 abbrev pub before_number : Component → List ℕ
@@ -43,43 +36,19 @@ number_read number.Whole = codes "1"
 
 -- what may still follow
 abbrev pub name_rest : NameState → Regex
-name_rest (Label s w) = after_all (before_label s ++ word_read w) function_name
+name_rest (Label s w) = after_all (before_label s ++ label_read w) function_name
 name_rest (Version c n) = after_all (before_number c ++ number_read n) function_name
-
--- a to z
-abbrev pub is_lower : ℕ → Bool
-is_lower c = is_within 97 122 c
-
--- A to Z
-abbrev pub is_upper : ℕ → Bool
-is_upper c = is_within 65 90 c
-
--- 0 to 9
-abbrev pub is_digit : ℕ → Bool
-is_digit c = is_within 48 57 c
-
--- a word that begins
-abbrev pub first_letter : ℕ → Option Word
-first_letter c = if is_lower c then Some word.Lower else (if is_upper c then Some word.Upper else None)
-
--- what a word reads next
-abbrev pub word_step : Word → ℕ → Option Word
-word_step word.Start c = first_letter c
-word_step word.Lower c = if is_lower c || is_digit c then Some word.Lower else (if nat_eq c 45 then Some word.Hyphen else None)
-word_step word.Upper c = if is_upper c || is_digit c then Some word.Upper else (if nat_eq c 45 then Some word.Hyphen else None)
-word_step word.Hyphen c = if is_digit c then Some word.Digits else first_letter c
-word_step word.Digits c = if is_digit c then Some word.Digits else (if nat_eq c 45 then Some word.Hyphen else first_letter c)
 
 -- what follows a label
 abbrev pub behind_label : Section → ℕ → Option NameState
 behind_label section.First c =
-    if nat_eq c 58 then Some (Label section.Namespace word.Start)
-    else (if nat_eq c 46 then Some (Label section.Member word.Start)
+    if nat_eq c 58 then Some (Label section.Namespace l.Start)
+    else (if nat_eq c 46 then Some (Label section.Member l.Start)
     else (if nat_eq c 64 then Some (Version component.Major number.Start)
     else None))
-behind_label section.Namespace c = if nat_eq c 47 then Some (Label section.Function word.Start) else None
+behind_label section.Namespace c = if nat_eq c 47 then Some (Label section.Function l.Start) else None
 behind_label section.Function c =
-    if nat_eq c 46 then Some (Label section.Member word.Start)
+    if nat_eq c 46 then Some (Label section.Member l.Start)
     else (if nat_eq c 64 then Some (Version component.Major number.Start)
     else None)
 behind_label section.Member c = if nat_eq c 64 then Some (Version component.Major number.Start) else None
@@ -96,19 +65,13 @@ behind_number component.Major c = if nat_eq c 46 then Some (Version component.Mi
 behind_number component.Minor c = if nat_eq c 46 then Some (Version component.Patch number.Start) else None
 behind_number component.Patch c = None
 
--- a label may end here
-abbrev pub word_ends : Word → Bool
-word_ends word.Start = false
-word_ends word.Hyphen = false
-word_ends w = true
-
 -- a number may end here
 abbrev pub number_ends : Number → Bool
 number_ends number.Start = false
 number_ends n = true
 
 -- the label goes on, or what follows it begins
-abbrev pub label_goes : Section → Bool → Option Word → Option NameState → Option NameState
+abbrev pub label_goes : Section → Bool → Option LabelState → Option NameState → Option NameState
 label_goes s ends (Some w) behind = Some (Label s w)
 label_goes s true None behind = behind
 label_goes s false None behind = None
@@ -121,5 +84,5 @@ number_goes c false None behind = None
 
 -- what a name reads next
 abbrev pub name_step : NameState → ℕ → Option NameState
-name_step (Label s w) c = label_goes s (word_ends w) (word_step w c) (behind_label s c)
+name_step (Label s w) c = label_goes s (label_ends w) (label_step w c) (behind_label s c)
 name_step (Version k n) c = number_goes k (number_ends n) (number_step n c) (behind_number k c)

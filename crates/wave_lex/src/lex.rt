@@ -12,7 +12,7 @@ use crate::asked::Asked;
 use crate::machine::character::CharState;
 use crate::machine::gap::GapState;
 use crate::machine::invalid::InvalidState;
-use crate::machine::label::LabelState;
+use crate::machine::label::LabelTokenState;
 use crate::machine::longest_front;
 use crate::machine::mark::MarkState;
 use crate::machine::multiline::MultilineState;
@@ -142,7 +142,7 @@ fn longest_in(class: Token, text: &str) -> Option<usize>
         Token::Colon => longest_front(MarkState::Start(':'), text),
         Token::Comma => longest_front(MarkState::Start(','), text),
         Token::Number => longest_front(NumberState::Start, text),
-        Token::LabelOrKeyword => longest_front(LabelState::Start, text),
+        Token::LabelOrKeyword => longest_front(LabelTokenState::Start, text),
         Token::Char => longest_front(CharState::Start, text),
         Token::String => longest_front(StringState::Start, text),
         Token::MultilineString => longest_front(MultilineState::Start, text),

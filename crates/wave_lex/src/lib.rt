@@ -5,7 +5,7 @@ pub mod asked;
 pub mod error;
 pub mod laws;
 pub mod lex;
-mod machine;
+pub mod machine;
 pub mod strings;
 #[cfg(test)]
 mod tests;

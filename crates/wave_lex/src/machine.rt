@@ -4,15 +4,16 @@ ghost use Rattle.wave_lex.specs.Regex.{Regex};
 ghost use Rattle.wave_lex.specs.Derive.{may_be_empty, after, after_next};
 ghost use Rattle.wave_lex.specs.Fronts.{Greatest, IsFront};
 
-pub mod character;
-pub mod gap;
-pub mod invalid;
+pub(crate) mod character;
+pub(crate) mod escape;
+pub(crate) mod gap;
+pub(crate) mod invalid;
 pub mod label;
-pub mod mark;
-pub mod multiline;
-pub mod name;
-pub mod number;
-pub mod string;
+pub(crate) mod mark;
+pub(crate) mod multiline;
+pub(crate) mod name;
+pub(crate) mod number;
+pub(crate) mod string;
 
 /// A machine that reads a text scalar by scalar, and knows what may still follow.
 pub trait Machine: Copy {
@@ -33,7 +34,6 @@ pub fn longest_front<M: Machine>(start: M, text: &str) -> Option<usize>
 {
     let mut state = start;
     let mut longest = if state.may_end() { Some(0) } else { None };
-    let _len = text.len();
     let mut place = 0;
     for c in text.chars() {
         let Some(next) = state.step(c) else {

@@ -2,7 +2,8 @@
 ghost use Rattle.std.specs.Prelude.{◌≡◌, ℕ, ◌+◌, ◌<◌, ◌≤◌, ◌^◌, ◌≢◌, [], length, slice_index, MatchResult, MatchOption};
 ghost use Rattle.std.specs.Iterator.{at_most};
 ghost use Rattle.std.specs.Char.{digit_value};
-ghost use Rattle.wave_lex.specs.Strings.{UnescapesTo, short_escape};
+ghost use Rattle.std.specs.Str.{IsUtf8};
+ghost use Rattle.wave_lex.specs.Strings.{UnescapesTo};
 ghost use Rattle.wave_lex.specs.Multiline.{pieces, closing_piece, DropsReturn};
 ghost use Rattle.wave_lex.specs.declared.strings.StringPartsIter.TheVariants.{Normal};
 ghost use Rattle.wave_lex.specs.Left.{ended_lines, size_of};
@@ -10,6 +11,7 @@ ghost use Rattle.wave_lex.specs.Parts.{PartIs, LinePartIs, OpensTo, OpeningRefus
 ghost use Rattle.wave_lex.specs.Lines.{LineIs, SplitsLine, OpeningIs, BehindLastFeed};
 
 use crate::error::{ParserError, ParserErrorKind};
+use crate::machine::escape::short_escape;
 use std::marker::Model;
 
 /// A run of the source without escapes, or a decoded escape, or the line feed between two lines.
@@ -62,7 +64,7 @@ impl<'a> Iterator for StringParts<'a> {
         if self.src.is_empty() {
             return None;
         }
-        let run = length_before(b'\\', self.src.as_bytes());
+        let run = run_length(self.src);
         if run > 0 {
             let (part, rest) = self.src.split_at(run);
             self.src = rest;
@@ -111,7 +113,7 @@ impl<'a> MultilineStringParts<'a> {
         ensures { MatchResult result (OpensTo src.now pos) (OpeningRefused src.now pos) }
     {
         let end = pos + src.len();
-        let start = last_line_start(src.as_bytes());
+        let start = last_line_start(src);
         let closing = closing_piece(src, start);
         if length_of_spaces(closing.as_bytes()) < closing.len() {
             return Err(ParserError::with_static(
@@ -120,7 +122,7 @@ impl<'a> MultilineStringParts<'a> {
                 "closing \"\"\" must be on a line preceded only by spaces",
             ));
         }
-        let Some(first) = opening_length(src.as_bytes()) else {
+        let Some(first) = opening_length(src) else {
             return Err(ParserError::with_static(
                 ParserErrorKind::InvalidMultilineString,
                 pos..pos + 1,
@@ -244,7 +246,7 @@ pub fn unescape(src: &str) -> Option<(char, usize)>
         return None;
     }
     if bytes[1] != b'u' {
-        let short = short_escape(bytes[1])?;
+        let short = short_escape(char::from(bytes[1]))?;
         return Some((short, 2));
     }
     if bytes.len() < 3 || bytes[2] != b'{' {
@@ -258,21 +260,6 @@ pub fn unescape(src: &str) -> Option<(char, usize)>
     let value = u32::from_str_radix(&src[3..3 + count], 16).ok()?;
     let scalar = char::from_u32(value)?;
     Some((scalar, count + 4))
-}
-
-/// What a backslash and this byte stand for.
-fn short_escape(byte: u8) -> Option<char>
-    ensures { result ≡ short_escape byte }
-{
-    match byte {
-        b'\\' => Some('\\'),
-        b'\'' => Some('\''),
-        b'"' => Some('"'),
-        b't' => Some('\t'),
-        b'n' => Some('\n'),
-        b'r' => Some('\r'),
-        _ => None,
-    }
 }
 
 /// How many hexadecimal digits stand at the front.
@@ -289,18 +276,14 @@ fn hex_length(bytes: &[u8]) -> usize
     bytes.len()
 }
 
-/// How many bytes stand before the first one that is `stop`.
-fn length_before(stop: u8, bytes: &[u8]) -> usize
-    ensures within { result ≤ length bytes.now }
-    ensures before { (i : ℕ) → i < result → slice_index bytes.now i ≢ stop }
-    ensures stops { result < length bytes.now → slice_index bytes.now result ≡ stop }
+/// How many bytes stand before the first backslash.
+fn run_length(text: &str) -> usize
+    ensures within { result ≤ length text.now }
+    ensures before { (i : ℕ) → i < result → slice_index text.now i ≢ 92 }
+    ensures stops { result < length text.now → slice_index text.now result ≡ 92 }
+    ensures utf8 { IsUtf8 text.now }
 {
-    for (i, byte) in bytes.iter().enumerate() {
-        if *byte == stop {
-            return i;
-        }
-    }
-    bytes.len()
+    text.find('\\').unwrap_or(text.len())
 }
 
 /// How many spaces stand at the front.
@@ -318,16 +301,13 @@ fn length_of_spaces(bytes: &[u8]) -> usize
 }
 
 /// Where the text behind the last line feed begins; 0 where there is none.
-fn last_line_start(bytes: &[u8]) -> usize
-    ensures { BehindLastFeed bytes.now result }
+fn last_line_start(src: &str) -> usize
+    ensures { BehindLastFeed src.now result }
 {
-    let mut start = 0;
-    for (i, byte) in bytes.iter().enumerate() {
-        if *byte == b'\n' {
-            start = i + 1;
-        }
+    match src.rfind('\n') {
+        Some(feed) => feed + 1,
+        None => 0,
     }
-    start
 }
 
 /// What must be spaces: the text behind the last line feed, which begins at `start`; where there is
@@ -344,14 +324,14 @@ fn closing_piece(src: &str, start: usize) -> &str
 }
 
 /// How long the text before the first line feed is, where it is empty or one carriage return.
-fn opening_length(bytes: &[u8]) -> Option<usize>
-    ensures { OpeningIs bytes.now result }
+fn opening_length(src: &str) -> Option<usize>
+    ensures { OpeningIs src.now result }
 {
-    let first = length_before(b'\n', bytes);
-    if first == bytes.len() || first > 1 {
+    let first = src.find('\n')?;
+    if first > 1 {
         return None;
     }
-    if first == 1 && bytes[0] != b'\r' {
+    if first == 1 && src.as_bytes()[0] != b'\r' {
         return None;
     }
     Some(first)
@@ -361,21 +341,12 @@ fn opening_length(bytes: &[u8]) -> Option<usize>
 fn split_line(text: &str) -> Option<(&str, &str)>
     ensures { MatchOption result (ended_lines text.now ≡ []) (λ parts. SplitsLine text.now parts.0.now parts.1.now) }
 {
-    let end = length_before(b'\n', text.as_bytes());
-    if end == text.len() {
-        return None;
-    }
-    Some((&text[..end], &text[end + 1..]))
+    text.split_once('\n')
 }
 
 /// The line without one carriage return at its end.
 fn without_final_return(line: &str) -> &str
     ensures { DropsReturn line.now result.now }
 {
-    let bytes = line.as_bytes();
-    let count = bytes.len();
-    if count > 0 && bytes[count - 1] == b'\r' {
-        return &line[..count - 1];
-    }
-    line
+    line.strip_suffix('\r').unwrap_or(line)
 }

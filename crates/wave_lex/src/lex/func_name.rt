@@ -5,8 +5,9 @@ ghost use Rattle.wave_lex.specs.FunctionName.{NameIs};
 ghost use Rattle.wave_lex.specs.Lexing.{Lexed, Stands, remainder_of, span};
 
 use crate::lex::{FuncNameToken, Lexer, Span};
+use crate::machine::label::LabelState;
 use crate::machine::longest_front;
-use crate::machine::name::{NameState, Section, Word};
+use crate::machine::name::{NameState, Section};
 use std::marker::Model;
 
 /// Cuts a source into function names, one by one; it skips nothing. Places are counted in bytes.
@@ -98,7 +99,10 @@ impl<'source> Iterator for FuncNameLexer<'source> {
     fn next(&mut self) -> Option<Result<FuncNameToken, Span>> {
         let rest = &self.source[self.end..];
         self.start = self.end;
-        if let Some(length) = longest_front(NameState::Label(Section::First, Word::Start), rest) {
+        if let Some(length) = longest_front(
+            NameState::Label(Section::First, LabelState::Start),
+            rest,
+        ) {
             self.end = self.start + length;
             return Some(Ok(FuncNameToken::FunctionName));
         }

@@ -2,23 +2,21 @@ ghost use Rattle.std.specs.Prelude.{◌≡◌};
 ghost use Rattle.wave_lex.specs.Machines.{character_step, character_rest};
 
 use crate::machine::Machine;
+use crate::machine::escape::{EscapeState, EscapeStep, escape_step};
 
 /// Where a char has been read to.
 #[derive(Clone, Copy)]
 pub enum CharState {
+    /// In front of it.
     Start,
+    /// Behind the first quote.
     Open,
+    /// Behind the scalar or the escape.
     Filled,
+    /// Behind the last quote.
     Close,
-    Escape,
-    EscapeU,
-    Hex0,
-    Hex1,
-    Hex2,
-    Hex3,
-    Hex4,
-    Hex5,
-    Hex6,
+    /// Within the escape.
+    Escape(EscapeState),
 }
 
 /// What a state reads next.
@@ -27,25 +25,14 @@ fn character_step(state: CharState, c: char) -> Option<CharState>
 {
     match (state, c) {
         (CharState::Start, '\'') => Some(CharState::Open),
-        (CharState::Open, '\\') => Some(CharState::Escape),
+        (CharState::Open, '\\') => Some(CharState::Escape(EscapeState::Backslash)),
         (CharState::Open, '\n' | '\'') => None,
         (CharState::Open, _) => Some(CharState::Filled),
         (CharState::Filled, '\'') => Some(CharState::Close),
-        (CharState::Escape, '\'' | '"' | 't' | 'n' | 'r' | '\\') => Some(CharState::Filled),
-        (CharState::Escape, 'u') => Some(CharState::EscapeU),
-        (CharState::EscapeU, '{') => Some(CharState::Hex0),
-        (CharState::Hex0, '0'..='9' | 'a'..='f' | 'A'..='F') => Some(CharState::Hex1),
-        (CharState::Hex1, '0'..='9' | 'a'..='f' | 'A'..='F') => Some(CharState::Hex2),
-        (CharState::Hex1, '}') => Some(CharState::Filled),
-        (CharState::Hex2, '0'..='9' | 'a'..='f' | 'A'..='F') => Some(CharState::Hex3),
-        (CharState::Hex2, '}') => Some(CharState::Filled),
-        (CharState::Hex3, '0'..='9' | 'a'..='f' | 'A'..='F') => Some(CharState::Hex4),
-        (CharState::Hex3, '}') => Some(CharState::Filled),
-        (CharState::Hex4, '0'..='9' | 'a'..='f' | 'A'..='F') => Some(CharState::Hex5),
-        (CharState::Hex4, '}') => Some(CharState::Filled),
-        (CharState::Hex5, '0'..='9' | 'a'..='f' | 'A'..='F') => Some(CharState::Hex6),
-        (CharState::Hex5, '}') => Some(CharState::Filled),
-        (CharState::Hex6, '}') => Some(CharState::Filled),
+        (CharState::Escape(escape), _) => match escape_step(escape, c)? {
+            EscapeStep::Within(next) => Some(CharState::Escape(next)),
+            EscapeStep::Last => Some(CharState::Filled),
+        },
         _ => None,
     }
 }

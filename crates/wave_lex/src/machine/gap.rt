@@ -6,8 +6,11 @@ use crate::machine::Machine;
 /// Where a gap has been read to.
 #[derive(Clone, Copy)]
 pub enum GapState {
+    /// Behind blanks and whole comments.
     Start,
+    /// Behind the first slash of a comment.
     Slash,
+    /// Within a comment.
     Comment,
 }
 

@@ -6,14 +6,23 @@ use crate::machine::Machine;
 /// Where an invalid token has been read to.
 #[derive(Clone, Copy)]
 pub enum InvalidState {
+    /// In front of it.
     Start,
+    /// Behind a single quote.
     Quote0,
+    /// Behind one scalar more.
     Quote1,
+    /// Behind two scalars more.
     Quote2,
+    /// Behind three scalars more.
     Quote3,
+    /// Behind four scalars more.
     Quote4,
+    /// Behind one double quote.
     Double1,
+    /// Behind two double quotes.
     Double2,
+    /// Behind it.
     Close,
 }
 

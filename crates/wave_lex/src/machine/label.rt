@@ -1,25 +1,30 @@
+//! The machine of labels: words joined by hyphens, each of lower-case letters and digits or of
+//! upper-case letters and digits.
 ghost use Rattle.std.specs.Prelude.{◌≡◌};
-ghost use Rattle.wave_lex.specs.Machines.{label_step, label_rest};
+ghost use Rattle.wave_lex.specs.Machines.{label_step, label_rest, label_token_step, label_token_rest};
 
 use crate::machine::Machine;
 
 /// Where a label has been read to.
 #[derive(Clone, Copy)]
 pub enum LabelState {
+    /// In front of it.
     Start,
-    Percent,
+    /// Behind a lower-case letter of a word, or a digit behind one.
     Lower,
+    /// Behind an upper-case letter of a word, or a digit behind one.
     Upper,
+    /// Behind a hyphen.
     Hyphen,
+    /// Behind digits with which a word begins.
     Digits,
 }
 
 /// What a state reads next.
-fn label_step(state: LabelState, c: char) -> Option<LabelState>
+pub fn label_step(state: LabelState, c: char) -> Option<LabelState>
     ensures { result ≡ label_step state c }
 {
     match (state, c) {
-        (LabelState::Start, '%') => Some(LabelState::Percent),
         (LabelState::Lower, 'a'..='z' | '0'..='9') => Some(LabelState::Lower),
         (LabelState::Upper, 'A'..='Z' | '0'..='9') => Some(LabelState::Upper),
         (LabelState::Lower | LabelState::Upper | LabelState::Digits, '-') => Some(
@@ -45,5 +50,43 @@ impl Machine for LabelState {
             self,
             LabelState::Lower | LabelState::Upper | LabelState::Digits
         )
+    }
+}
+
+/// Where a token of the class of labels has been read to.
+#[derive(Clone, Copy)]
+pub enum LabelTokenState {
+    /// In front of it.
+    Start,
+    /// Within the label.
+    Label(LabelState),
+}
+
+/// What a state reads next.
+fn label_token_step(state: LabelTokenState, c: char) -> Option<LabelTokenState>
+    ensures { result ≡ label_token_step state c }
+{
+    let label = match state {
+        LabelTokenState::Start if c == '%' => {
+            return Some(LabelTokenState::Label(LabelState::Start));
+        }
+        LabelTokenState::Start => LabelState::Start,
+        LabelTokenState::Label(label) => label,
+    };
+    Some(LabelTokenState::Label(label_step(label, c)?))
+}
+
+impl Machine for LabelTokenState {
+    ghost rest = { label_token_rest };
+
+    fn step(self, c: char) -> Option<Self> {
+        label_token_step(self, c)
+    }
+
+    fn may_end(self) -> bool {
+        match self {
+            LabelTokenState::Start => false,
+            LabelTokenState::Label(label) => label.may_end(),
+        }
     }
 }

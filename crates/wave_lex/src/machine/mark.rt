@@ -6,7 +6,9 @@ use crate::machine::Machine;
 /// Reads the one scalar that it holds.
 #[derive(Clone, Copy)]
 pub enum MarkState {
+    /// In front of this scalar.
     Start(char),
+    /// Behind it.
     Close,
 }
 

@@ -6,12 +6,19 @@ use crate::machine::Machine;
 /// Where a multiline string has been read to.
 #[derive(Clone, Copy)]
 pub enum MultilineState {
+    /// In front of it.
     Start,
+    /// Behind one quote.
     Open1,
+    /// Behind two quotes.
     Open2,
+    /// Within the text.
     Inside,
+    /// Behind one quote within the text.
     Quote1,
+    /// Behind two quotes within the text.
     Quote2,
+    /// Behind the last quote.
     Close,
 }
 

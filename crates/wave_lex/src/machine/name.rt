@@ -1,64 +1,52 @@
 //! The machine of function names.
 ghost use Rattle.std.specs.Prelude.{◌≡◌};
-ghost use Rattle.wave_lex.specs.NameMachine.{word_step, behind_label, number_step, behind_number, name_step, name_rest};
+ghost use Rattle.wave_lex.specs.NameMachine.{behind_label, number_step, behind_number, name_step, name_rest};
 
 use crate::machine::Machine;
+use crate::machine::label::{LabelState, label_step};
 
-/// Which label of the name: the first of all, that behind `:`, that behind `/`, that behind `.`.
+/// Which label of the name.
 #[derive(Clone, Copy)]
 pub enum Section {
+    /// The first of all.
     First,
+    /// That behind `:`.
     Namespace,
+    /// That behind `/`.
     Function,
+    /// That behind `.`.
     Member,
-}
-
-/// Where a label has been read to.
-#[derive(Clone, Copy)]
-pub enum Word {
-    Start,
-    Lower,
-    Upper,
-    Hyphen,
-    Digits,
 }
 
 /// Which number of the version.
 #[derive(Clone, Copy)]
 pub enum Component {
+    /// The first.
     Major,
+    /// The second.
     Minor,
+    /// The third.
     Patch,
 }
 
 /// Where a number of the version has been read to.
 #[derive(Clone, Copy)]
 pub enum Number {
+    /// In front of it.
     Start,
+    /// Behind a first zero.
     Zero,
+    /// Within it.
     Whole,
 }
 
 /// Where a function name has been read to.
 #[derive(Clone, Copy)]
 pub enum NameState {
-    Label(Section, Word),
+    /// Within a label.
+    Label(Section, LabelState),
+    /// Within a number of the version.
     Version(Component, Number),
-}
-
-/// What a label reads next.
-fn word_step(word: Word, c: char) -> Option<Word>
-    ensures { result ≡ word_step word c }
-{
-    match (word, c) {
-        (Word::Start | Word::Hyphen | Word::Digits | Word::Lower, 'a'..='z') => Some(Word::Lower),
-        (Word::Start | Word::Hyphen | Word::Digits | Word::Upper, 'A'..='Z') => Some(Word::Upper),
-        (Word::Lower, '0'..='9') => Some(Word::Lower),
-        (Word::Upper, '0'..='9') => Some(Word::Upper),
-        (Word::Hyphen | Word::Digits, '0'..='9') => Some(Word::Digits),
-        (Word::Lower | Word::Upper | Word::Digits, '-') => Some(Word::Hyphen),
-        _ => None,
-    }
 }
 
 /// What a scalar begins that is none of the label's.
@@ -66,10 +54,10 @@ fn behind_label(section: Section, c: char) -> Option<NameState>
     ensures { result ≡ behind_label section c }
 {
     match (section, c) {
-        (Section::First, ':') => Some(NameState::Label(Section::Namespace, Word::Start)),
-        (Section::Namespace, '/') => Some(NameState::Label(Section::Function, Word::Start)),
+        (Section::First, ':') => Some(NameState::Label(Section::Namespace, LabelState::Start)),
+        (Section::Namespace, '/') => Some(NameState::Label(Section::Function, LabelState::Start)),
         (Section::First | Section::Function, '.') => {
-            Some(NameState::Label(Section::Member, Word::Start))
+            Some(NameState::Label(Section::Member, LabelState::Start))
         }
         (Section::First | Section::Function | Section::Member, '@') => {
             Some(NameState::Version(Component::Major, Number::Start))
@@ -106,9 +94,9 @@ fn name_step(state: NameState, c: char) -> Option<NameState>
     ensures { result ≡ name_step state c }
 {
     match state {
-        NameState::Label(section, word) => match word_step(word, c) {
+        NameState::Label(section, label) => match label_step(label, c) {
             Some(next) => Some(NameState::Label(section, next)),
-            None if matches!(word, Word::Start | Word::Hyphen) => None,
+            None if !label.may_end() => None,
             None => behind_label(section, c),
         },
         NameState::Version(component, number) => match number_step(number, c) {
@@ -129,7 +117,7 @@ impl Machine for NameState {
     fn may_end(self) -> bool {
         match self {
             NameState::Label(Section::Namespace, _) => false,
-            NameState::Label(_, word) => !matches!(word, Word::Start | Word::Hyphen),
+            NameState::Label(_, label) => label.may_end(),
             NameState::Version(Component::Patch, number) => !matches!(number, Number::Start),
             NameState::Version(_, _) => false,
         }

@@ -6,17 +6,29 @@ use crate::machine::Machine;
 /// Where a number has been read to.
 #[derive(Clone, Copy)]
 pub enum NumberState {
+    /// In front of it.
     Start,
+    /// Behind the sign.
     Minus,
+    /// Behind `-i`.
     MinusI,
+    /// Behind `-in`.
     MinusIn,
+    /// Behind `-inf`.
     MinusInf,
+    /// Behind a first zero.
     Zero,
+    /// Within the whole part.
     Whole,
+    /// Behind the point.
     Point,
+    /// Within the fraction.
     Fraction,
+    /// Behind the `e`.
     Exponent,
+    /// Behind the sign of the exponent.
     Sign,
+    /// Within the exponent.
     Power,
 }
 

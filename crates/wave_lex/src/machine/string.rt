@@ -2,22 +2,19 @@ ghost use Rattle.std.specs.Prelude.{◌≡◌};
 ghost use Rattle.wave_lex.specs.Machines.{string_step, string_rest};
 
 use crate::machine::Machine;
+use crate::machine::escape::{EscapeState, EscapeStep, escape_step};
 
 /// Where a string has been read to.
 #[derive(Clone, Copy)]
 pub enum StringState {
+    /// In front of it.
     Start,
+    /// Within the text.
     Inside,
+    /// Behind the last quote.
     Close,
-    Escape,
-    EscapeU,
-    Hex0,
-    Hex1,
-    Hex2,
-    Hex3,
-    Hex4,
-    Hex5,
-    Hex6,
+    /// Within an escape.
+    Escape(EscapeState),
 }
 
 /// What a state reads next.
@@ -27,24 +24,13 @@ fn string_step(state: StringState, c: char) -> Option<StringState>
     match (state, c) {
         (StringState::Start, '"') => Some(StringState::Inside),
         (StringState::Inside, '"') => Some(StringState::Close),
-        (StringState::Inside, '\\') => Some(StringState::Escape),
+        (StringState::Inside, '\\') => Some(StringState::Escape(EscapeState::Backslash)),
         (StringState::Inside, '\n') => None,
         (StringState::Inside, _) => Some(StringState::Inside),
-        (StringState::Escape, '\'' | '"' | 't' | 'n' | 'r' | '\\') => Some(StringState::Inside),
-        (StringState::Escape, 'u') => Some(StringState::EscapeU),
-        (StringState::EscapeU, '{') => Some(StringState::Hex0),
-        (StringState::Hex0, '0'..='9' | 'a'..='f' | 'A'..='F') => Some(StringState::Hex1),
-        (StringState::Hex1, '0'..='9' | 'a'..='f' | 'A'..='F') => Some(StringState::Hex2),
-        (StringState::Hex1, '}') => Some(StringState::Inside),
-        (StringState::Hex2, '0'..='9' | 'a'..='f' | 'A'..='F') => Some(StringState::Hex3),
-        (StringState::Hex2, '}') => Some(StringState::Inside),
-        (StringState::Hex3, '0'..='9' | 'a'..='f' | 'A'..='F') => Some(StringState::Hex4),
-        (StringState::Hex3, '}') => Some(StringState::Inside),
-        (StringState::Hex4, '0'..='9' | 'a'..='f' | 'A'..='F') => Some(StringState::Hex5),
-        (StringState::Hex4, '}') => Some(StringState::Inside),
-        (StringState::Hex5, '0'..='9' | 'a'..='f' | 'A'..='F') => Some(StringState::Hex6),
-        (StringState::Hex5, '}') => Some(StringState::Inside),
-        (StringState::Hex6, '}') => Some(StringState::Inside),
+        (StringState::Escape(escape), _) => match escape_step(escape, c)? {
+            EscapeStep::Within(next) => Some(StringState::Escape(next)),
+            EscapeStep::Last => Some(StringState::Inside),
+        },
         _ => None,
     }
 }

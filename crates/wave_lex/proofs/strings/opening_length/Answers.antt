@@ -1,16 +1,18 @@
-use Rattle.std.proofs.Common.{◌≤◌, ◌<◌, inl, length, arith}
+use Rattle.std.proofs.Common.{◌≡◌, ◌≢◌, ℕ, List, None, Some, inl, inr, sym, subst, get_or, arith}
+use Rattle.std.proofs.lemmas.Str.Pattern.{find_char}
 use Rattle.wave_lex.proofs.Lines.{pieces_before, opens_badly, opens_alone}
 use Rattle.wave_lex.proofs.strings.opening_length.Goals as goal
-use Rattle.wave_lex.proofs.strings.opening_length.Goals.{then-first-bytes-via-then-first-bytes, then-first-bytes-via-else-first-bytes+then-first-gt1}
 
-pub returns-then-first-bytes : goal.returns-then-first-bytes
-returns-then-first-bytes c = elim c.then-first-bytes.branch [
-  | then-first-bytes-via-then-first-bytes w ↦ opens_alone c.args.bytes.now (λ i l. c.length_before-first.ensures.before i (rw w.if-first-bytes.true l))
-  | then-first-bytes-via-else-first-bytes+then-first-gt1 w ↦ (
-      let within : c.length_before-first.result ≤ length c.args.bytes.now = c.length_before-first.ensures.within in
-      let differ = w.if-first-bytes.false in
-      let inside : c.length_before-first.result < length c.args.bytes.now = omega arith in
-      opens_badly c.args.bytes.now c.length_before-first.result inside
-      (pieces_before c.args.bytes.now c.length_before-first.result inside (c.length_before-first.ensures.stops inside) c.length_before-first.ensures.before)
-      (inl w.if-first-gt1.true))
-]
+pub returns-in_err-first : goal.returns-in_err-first
+returns-in_err-first c = rw c.from_residual.ensures (opens_alone c.args.src.now (find_char 10 c.args.src.now None c.in_err-first.ensures.cases (omega arith)))
+
+pub returns-then-first-gt1 : goal.returns-then-first-gt1
+returns-then-first-gt1 c =
+    let f = find_char 10 c.args.src.now (Some c.in_ok-first.first) c.in_ok-first.ensures.cases (omega arith) in
+    opens_badly c.args.src.now c.in_ok-first.first f.0 (pieces_before c.args.src.now c.in_ok-first.first f.0 f.1 f.2) (inl c.if-first-gt1.true)
+
+pub returns-then-as_bytes-ne13 : goal.returns-then-as_bytes-ne13
+returns-then-as_bytes-ne13 c =
+    let f = find_char 10 c.args.src.now (Some c.in_ok-first.first) c.in_ok-first.ensures.cases (omega arith) in
+    opens_badly c.args.src.now c.in_ok-first.first f.0 (pieces_before c.args.src.now c.in_ok-first.first f.0 f.1 f.2)
+    (inr (c.if-first-eq1.true, subst (λ (z : List ℕ). get_or z 0 0 ≢ 13) c.as_bytes.ensures.value c.if-as_bytes-ne13.true))

@@ -4,7 +4,7 @@ use Rattle.std.specs.Result.{result_ok}
 use Rattle.std.specs.Str.Parse.{digits_value, IsNumeral, without_leading_plus, ParsesUnsigned}
 use Rattle.std.specs.Char.{IsScalar}
 use Rattle.std.proofs.Math.Seq.{take-length}
-use Rattle.wave_lex.specs.Strings.{UnescapesTo}
+use Rattle.wave_lex.specs.Strings.{UnescapesTo, short_escape}
 use Rattle.wave_lex.proofs.Unescape.{Good, Counts, none_long, some_long, opened, short, no_plus, numeral, all_digits}
 use Rattle.wave_lex.proofs.strings.unescape.Goals as goal
 use Rattle.wave_lex.proofs.strings.unescape.Goals.{then-count-eq0-via-then-count-eq0, then-count-eq0-via-else-count-eq0+then-count-gt6, then-count-eq0-via-else-count-eq0+else-count-gt6+then-count-digits, then-count-eq0-via-else-count-eq0+else-count-gt6+else-count-digits+then-digits-count-ne125}
@@ -85,4 +85,4 @@ returns c =
 pub returns-then-bytes-ne117 : goal.returns-then-bytes-ne117
 returns-then-bytes-ne117 c =
     let P : List ℕ → Type 0 = λ z. UnescapesTo z (Some (c.in_ok-short.short, 2)) in
-    subst P c.as_bytes-bytes.ensures.value (short c.as_bytes-bytes.result.now _ c.if-bytes-lt2.false c.if-bytes-ne92.false (sym c.short_escape.ensures ∙ c.in_ok-short.was))
+    subst P c.as_bytes-bytes.ensures.value (short c.as_bytes-bytes.result.now _ c.if-bytes-lt2.false c.if-bytes-ne92.false (ap short_escape (sym c.from.ensures) ∙ (sym c.short_escape.ensures ∙ c.in_ok-short.was)))

@@ -8,40 +8,40 @@ use Rattle.wave_lex.proofs.strings.MultilineStringParts.new.Goals as goal
 pub returns-then-length_of_spaces-closing : goal.returns-then-length_of_spaces-closing
 returns-then-length_of_spaces-closing c = inl (
   (λ h. not_spaces c.closing_piece-closing.result.now c.length_of_spaces.result c.if-length_of_spaces-closing.true
-      (subst (λ (z : List ℕ). get_or z c.length_of_spaces.result 0 ≢ 32) c.as_bytes-2.ensures.value
-      (c.length_of_spaces.ensures.stops (rw c.as_bytes-2.ensures.value c.if-length_of_spaces-closing.true)))
+      (subst (λ (z : List ℕ). get_or z c.length_of_spaces.result 0 ≢ 32) c.as_bytes.ensures.value
+      (c.length_of_spaces.ensures.stops (rw c.as_bytes.ensures.value c.if-length_of_spaces-closing.true)))
       (subst IsSpaces (sym c.closing_piece-closing.ensures) h)),
   record { refusal = c.with_static.ensures.refusal; detail = c.with_static.ensures.detail; at = c.with_static.ensures.span },
 )
 
 pub returns-in_default : goal.returns-in_default
 returns-in_default c =
-    let within : c.length_of_spaces.result ≤ length c.closing_piece-closing.result.now = rw (← ap length c.as_bytes-2.ensures.value) c.length_of_spaces.ensures.within in
+    let within : c.length_of_spaces.result ≤ length c.closing_piece-closing.result.now = rw (← ap length c.as_bytes.ensures.value) c.length_of_spaces.ensures.within in
     let all = all_spaces c.closing_piece-closing.result.now c.length_of_spaces.result within c.if-length_of_spaces-closing.false
-    (λ i l. subst (λ (z : List ℕ). get_or z i 0 ≡ 32) c.as_bytes-2.ensures.value (c.length_of_spaces.ensures.spaces i l)) in
+    (λ i l. subst (λ (z : List ℕ). get_or z i 0 ≡ 32) c.as_bytes.ensures.value (c.length_of_spaces.ensures.spaces i l)) in
     inr (
       subst IsSpaces c.closing_piece-closing.ensures (length c.closing_piece-closing.result.now, all),
-      subst (λ (z : List ℕ). OpensWell (pieces z) → ⊥) c.as_bytes-3.ensures.value c.in_default.ensures,
+      c.in_default.ensures,
       record { refusal = c.with_static-in_default.ensures.refusal; detail = c.with_static-in_default.ensures.detail; at = c.with_static-in_default.ensures.span },
     )
 
 pub range-requires-clause-start_boundary : goal.range-requires-clause-start_boundary
 range-requires-clause-start_boundary c = λ _.
     behind_feed c.args.src.now c.in-Some.first c.utf8.src
-    (subst (λ (z : List ℕ). c.in-Some.first < length z) c.as_bytes-3.ensures.value c.in-Some.ensures.0)
-    (subst (λ (z : List ℕ). get_or z c.in-Some.first 0 ≡ 10) c.as_bytes-3.ensures.value c.in-Some.ensures.1)
+    c.in-Some.ensures.0
+    c.in-Some.ensures.1
 
 pub range-requires-clause-end_boundary : goal.range-requires-clause-end_boundary
 range-requires-clause-end_boundary c = behind_last c.args.src.now c.last_line_start-start.result c.utf8.src
-    (subst (λ (z : List ℕ). BehindLastFeed z c.last_line_start-start.result) c.as_bytes.ensures.value c.last_line_start-start.ensures)
+    c.last_line_start-start.ensures
 
 pub returns : goal.returns
 returns c =
-    let within : c.length_of_spaces.result ≤ length c.closing_piece-closing.result.now = rw (← ap length c.as_bytes-2.ensures.value) c.length_of_spaces.ensures.within in
+    let within : c.length_of_spaces.result ≤ length c.closing_piece-closing.result.now = rw (← ap length c.as_bytes.ensures.value) c.length_of_spaces.ensures.within in
     let begins = begins_here c.args.src.now c.closing_piece-closing.result.now c.range.result.now c.in-Some.first c.last_line_start-start.result c.args.pos c.length_of_spaces.result c.new.result
-    (subst (λ (z : List ℕ). BehindLastFeed z c.last_line_start-start.result) c.as_bytes.ensures.value c.last_line_start-start.ensures)
-    (subst (λ (z : List ℕ). OpeningIs z (Some c.in-Some.first)) c.as_bytes-3.ensures.value c.in-Some.ensures)
+    c.last_line_start-start.ensures
+    c.in-Some.ensures
     c.closing_piece-closing.ensures within c.if-length_of_spaces-closing.false
-    (λ i l. subst (λ (z : List ℕ). get_or z i 0 ≡ 32) c.as_bytes-2.ensures.value (c.length_of_spaces.ensures.spaces i l))
+    (λ i l. subst (λ (z : List ℕ). get_or z i 0 ≡ 32) c.as_bytes.ensures.value (c.length_of_spaces.ensures.spaces i l))
     c.range.ensures.value (ap (λ (u : Undecoded). u.rest) c.new.ensures) in
     (_, begins, opened _ _ c.next_line.result c.next_line.ensures)
