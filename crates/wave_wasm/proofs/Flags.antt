@@ -16,12 +16,3 @@ flags_text (value.unreadable type.f32) names k e = absurd (cc)
 flags_text (value.unreadable type.f64) names k e = absurd (cc)
 flags_text (value.unreadable type.unsupported) names k e = absurd (cc)
 flags_text _ names k e = absurd (cc)
-
--- flags can be written
-pub flags_writable : (v : Value) → kind_of v ≡ kinds.Flags → has_text v ≡ true
-flags_writable (value.flags all) k = refl
-flags_writable (value.leaf one) k = absurd (not_leaf one kinds.Flags refl k)
-flags_writable (value.unreadable type.f32) k = absurd (cc)
-flags_writable (value.unreadable type.f64) k = absurd (cc)
-flags_writable (value.unreadable type.unsupported) k = absurd (cc)
-flags_writable _ k = absurd (cc)

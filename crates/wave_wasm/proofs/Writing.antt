@@ -46,12 +46,6 @@ writing_refused {whole} {part} rest {old} {now} {new} {writable} {all} {e} w h r
   counts = subst (λ n. CountsOnce e n new.failures) w.failures r.counts;
 }
 
--- the refusal of one text
-pub refused_text : {whole : List ℕ} {old new : Output} (e : WriterError) → TextRefused whole e old new → Refused whole true e old new
-refused_text (WriterError.Io e) r = record { began = r.began; grounded = search arith; counts = r.counts }
-refused_text WriterError.UnsupportedType r = absurd r.counts
-refused_text (WriterError.Memory e) r = record { began = r.began; grounded = tt; counts = r.counts }
-
 -- the same, where the part can be written as any text can
 pub writing_refused_text : {whole part : List ℕ} (rest : List ℕ) {old now new : Output} {all : Bool} {e : WriterError} → Writing whole (part ++ rest) old now → Refused part true e now new → Refused whole all e old new
 writing_refused_text rest w r = writing_refused rest w (λ h. cc) r

@@ -8,12 +8,14 @@ use std::collections::BTreeMap;
 use std::fmt;
 use unicode::properties::GeneralCategory;
 
-/// Why a value isn't written: the text wasn't taken, the value has a part without a text, or
-/// there was no memory.
+/// Why a value isn't written.
 #[derive(Debug, Drop)]
 pub enum WriterError {
+    /// The text wasn't taken.
     Io(fmt::Error),
+    /// The value has a part without a text.
     UnsupportedType,
+    /// There was no memory.
     Memory(AllocError),
 }
 
