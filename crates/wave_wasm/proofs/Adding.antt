@@ -1,8 +1,8 @@
 -- How the parts that are added to a text join to the whole.
-use Rattle.std.proofs.Common.{ℕ, ◌≡◌, ◌<◌, ◌≤◌, ◌+◌, List, [], ◌++◌, Bool, true, false, refl, sym, ap, ◌∙◌, append_assoc, length, get_or, drop, map, subst}
+use Rattle.std.proofs.Common.{ℕ, ◌≡◌, ◌<◌, ◌+◌, List, [], ◌++◌, Bool, true, false, refl, sym, ap, ◌∙◌, append_assoc, length, get_or, drop, map, subst}
 use Rattle.std.proofs.lemmas.List.{append-nil}
 use Rattle.wave_wasm.specs.Commas.{comma_if, enclosed}
-use Rattle.wave_wasm.proofs.Sequence.{at_item, at_end, parted, parted_joined}
+use Rattle.wave_wasm.proofs.Sequence.{at_item, parted, parted_joined}
 
 -- of the text `whole`, all but `rest` was added
 pub record Adding (whole rest old now : List ℕ) : Type 0 where

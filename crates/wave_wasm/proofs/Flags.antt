@@ -1,11 +1,11 @@
 -- The text of flags, by their names.
-use Rattle.std.proofs.Common.{◌≡◌, ℕ, List, true, refl, sym, ap, codes}
+use Rattle.std.proofs.Common.{◌≡◌, ℕ, List, refl, sym, ap, codes}
 use Rattle.wave_wasm.specs.declared.wasm.WasmTypeKind.TheVariants as kinds
 use Rattle.wave_wasm.specs.Types as type
 use Rattle.wave_wasm.specs.Values as value
 use Rattle.wave_wasm.specs.Values.{Value, kind_of, flags_names}
 use Rattle.wave_wasm.specs.Commas.{enclosed}
-use Rattle.wave_wasm.specs.Text.{text, has_text}
+use Rattle.wave_wasm.specs.Text.{text}
 use Rattle.wave_wasm.proofs.Trees.{not_leaf}
 
 -- flags are their names with commas between

@@ -17,4 +17,4 @@ pub mod Places
 pub mod Adding
 pub mod TypeTrees
 pub mod Functions
-pub mod HexDigits
+pub mod NumberEscapes
