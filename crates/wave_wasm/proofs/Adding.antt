@@ -1,8 +1,8 @@
 -- How the parts that are added to a text join to the whole.
-use Rattle.std.proofs.Common.{ℕ, ◌≡◌, ◌<◌, ◌≤◌, ◌+◌, List, [], ◌++◌, Bool, true, false, refl, sym, ap, ◌∙◌, append_assoc, length, get_or, drop, map, subst}
+use Rattle.std.proofs.Common.{ℕ, ◌≡◌, ◌<◌, ◌+◌, List, [], ◌++◌, Bool, true, false, refl, sym, ap, ◌∙◌, append_assoc, length, get_or, drop, map, subst}
 use Rattle.std.proofs.lemmas.List.{append-nil}
 use Rattle.wave_wasm.specs.Commas.{comma_if, enclosed}
-use Rattle.wave_wasm.proofs.Sequence.{at_item, at_end, parted, parted_joined}
+use Rattle.wave_wasm.proofs.Sequence.{at_item, parted, parted_joined}
 
 -- of the text `whole`, all but `rest` was added
 pub record Adding (whole rest old now : List ℕ) : Type 0 where
@@ -30,10 +30,6 @@ adding_more {whole} {rest} {old} part a e = record {
 pub adding_two : {whole rest old now mid new : List ℕ} (p q : List ℕ) → Adding whole ((p ++ q) ++ rest) old now → mid ≡ now ++ p → new ≡ mid ++ q → Adding whole rest old new
 adding_two {whole} {rest} p q a e f = adding_more q (adding_more p (adding_as (append_assoc p q rest) a) e) f
 
--- the last part was added
-pub adding_last : {whole part old now new : List ℕ} → Adding whole part old now → new ≡ now ++ part → new ≡ old ++ whole
-adding_last {whole} {part} {old} a e = e ∙ (ap (λ s. s ++ part) a.added ∙ (append_assoc old a.done part ∙ ap (λ s. old ++ s) (sym a.whole_is)))
-
 -- the start of a sequence was added
 pub adding_start : {X : Type 0} (f : X → List ℕ) (xs : List X) (start end : List ℕ) {whole old now new : List ℕ} → Adding whole (enclosed start (map f xs) end) old now → new ≡ now ++ start → Adding whole (parted false (map f xs) ++ end) old new
 adding_start f xs start end a e = adding_more start (adding_as (ap (λ z. start ++ (z ++ end)) (sym (parted_joined (map f xs)))) a) e
@@ -43,7 +39,3 @@ pub adding_item : {X : Type 0} (f : X → List ℕ) (xs : List X) (i : ℕ) (x :
 adding_item f xs i x later close lt is a =
     let left = parted true (map f (drop (i + 1) xs)) in
     adding_as (at_item (λ l. parted later (map f l) ++ close) xs i x lt is ∙ (append_assoc (comma_if later) (f x ++ left) close ∙ ap (λ s. comma_if later ++ s) (append_assoc (f x) left close))) a
-
--- after the last item only the close is left
-pub adding_close : {X : Type 0} (f : X → List ℕ) (xs : List X) (i : ℕ) {whole : List ℕ} (later : Bool) (close : List ℕ) {old now : List ℕ} → length xs ≤ i → Adding whole (parted later (map f (drop i xs)) ++ close) old now → Adding whole close old now
-adding_close f xs i later close le a = adding_as (at_end (λ l. parted later (map f l) ++ close) xs i le) a

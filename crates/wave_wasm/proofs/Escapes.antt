@@ -1,5 +1,5 @@
 -- Escaped scalars can be told apart.
-use Rattle.std.proofs.Common.{ℕ, ◌≡◌, ◌≢◌, ◌<◌, ◌==◌, ◌⊎◌, inl, inr, List, [], ◌∷◌, ◌++◌, Bool, true, false, ◌&&◌, if◌then◌else◌, refl, sym, ap, ◌∙◌, get_or, drop, arith, codes, append_assoc, flat_map, chars, IsUtf8}
+use Rattle.std.proofs.Common.{ℕ, ◌≡◌, ◌≢◌, ◌<◌, ◌^◌, ◌==◌, ◌⊎◌, inl, inr, List, [], ◌∷◌, ◌++◌, Bool, true, false, ◌&&◌, if◌then◌else◌, refl, sym, ap, ◌∙◌, get_or, drop, arith, codes, append_assoc, flat_map, chars, IsUtf8}
 use Rattle.std.proofs.Math.Utf8.{scalar, scalars, scalar_fits, encode, encodes}
 use Rattle.std.proofs.lemmas.Bool.{cases_Bool, eqb-true}
 use Rattle.std.proofs.lemmas.Bool.Decides.{nat_tests}
@@ -11,7 +11,7 @@ use Rattle.std.specs.Cmp.{unsigned_Decides}
 use Rattle.std.specs.Fmt.{digits}
 use Rattle.std.specs.Str.Parse.{AllDigits, digits_value}
 use Rattle.wave_wasm.specs.Lists.{AllOf}
-use Rattle.wave_wasm.specs.Text.{escaped, is_escaped, quoted, quoted_char}
+use Rattle.wave_wasm.specs.Text.{escaped, number_escape, is_escaped, quoted, quoted_char}
 
 -- the escape of a scalar, as scalars
 abbrev escape : ℕ → List ℕ
@@ -22,7 +22,7 @@ escape c =
     else (if c == 0x09 then codes "\\t"
     else (if c == 0x0d then codes "\\r"
     else (if c == 0x0a then codes "\\n"
-    else (if is_escaped c then codes "\\u{" ++ (digits 16 false c ++ codes "}")
+    else (if is_escaped c then number_escape c
     else c ∷ []))))))
 
 -- ---- the escape in UTF-8
@@ -38,8 +38,11 @@ ascii_encodes : (bs : List ℕ) → AllOf (λ b. b < 123) bs → encodes bs ≡ 
 ascii_encodes [] h = refl
 ascii_encodes (b ∷ bs) h = ap (λ s. s ++ encodes bs) (encode_ascii b (omega (arith, h.0))) ∙ ap (λ s. b ∷ s) (ascii_encodes bs h.1)
 
-numeral : (c : ℕ) → scalar c ≡ true → AllDigits 16 (digits 16 false c)
-numeral c s = let f = scalar_fits c s in (digits_is_IsNumeral 16 false (omega arith) (omega arith) c (omega (arith, f))).0.1
+numeral : (c : ℕ) → c < 2 ^ 32 → AllDigits 16 (digits 16 false c)
+numeral c h = (digits_is_IsNumeral 16 false (omega arith) (omega arith) c (omega (arith, h))).0.1
+
+scalar_small : (c : ℕ) → scalar c ≡ true → c < 2 ^ 32
+scalar_small c s = let f = scalar_fits c s in omega (arith, f)
 
 opening_encodes : encodes (codes "\\u{") ≡ codes "\\u{"
 unfolding encode
@@ -49,9 +52,10 @@ closing_encodes : encodes (codes "}") ≡ codes "}"
 unfolding encode
 closing_encodes = refl
 
-number_encodes : (c : ℕ) → scalar c ≡ true → codes "\\u{" ++ (digits 16 false c ++ codes "}") ≡ encodes (codes "\\u{" ++ (digits 16 false c ++ codes "}"))
-number_encodes c s =
-    sym (encodes-append (codes "\\u{") (digits 16 false c ++ codes "}") ∙ (ap (λ z. z ++ encodes (digits 16 false c ++ codes "}")) opening_encodes ∙ ap (λ z. codes "\\u{" ++ z) (encodes-append (digits 16 false c) (codes "}") ∙ (ap (λ z. z ++ encodes (codes "}")) (ascii_encodes (digits 16 false c) (digits_small (digits 16 false c) (numeral c s))) ∙ ap (λ z. digits 16 false c ++ z) closing_encodes))))
+-- the escape by a number is ASCII
+pub number_encodes : (c : ℕ) → c < 2 ^ 32 → number_escape c ≡ encodes (number_escape c)
+number_encodes c h =
+    sym (encodes-append (codes "\\u{") (digits 16 false c ++ codes "}") ∙ (ap (λ z. z ++ encodes (digits 16 false c ++ codes "}")) opening_encodes ∙ ap (λ z. codes "\\u{" ++ z) (encodes-append (digits 16 false c) (codes "}") ∙ (ap (λ z. z ++ encodes (codes "}")) (ascii_encodes (digits 16 false c) (digits_small (digits 16 false c) (numeral c h))) ∙ ap (λ z. digits 16 false c ++ z) closing_encodes))))
 
 either_encodes : (b : Bool) (s t u v : List ℕ) → s ≡ encodes u → t ≡ encodes v → (if b then s else t) ≡ encodes (if b then u else v)
 either_encodes true s t u v e f = e
@@ -60,7 +64,7 @@ either_encodes false s t u v e f = f
 escaped_encodes : (c : ℕ) → scalar c ≡ true → escaped c ≡ encodes (escape c)
 unfolding escaped encode
 escaped_encodes c s =
-    either_encodes (c == 0x5c) _ _ _ _ refl (either_encodes (c == 0x22) _ _ _ _ refl (either_encodes (c == 0x27) _ _ _ _ refl (either_encodes (c == 0x09) _ _ _ _ refl (either_encodes (c == 0x0d) _ _ _ _ refl (either_encodes (c == 0x0a) _ _ _ _ refl (either_encodes (is_escaped c) _ _ _ _ (number_encodes c s) (sym (append-nil (encode c)))))))))
+    either_encodes (c == 0x5c) _ _ _ _ refl (either_encodes (c == 0x22) _ _ _ _ refl (either_encodes (c == 0x27) _ _ _ _ refl (either_encodes (c == 0x09) _ _ _ _ refl (either_encodes (c == 0x0d) _ _ _ _ refl (either_encodes (c == 0x0a) _ _ _ _ refl (either_encodes (is_escaped c) _ _ _ _ (number_encodes c (scalar_small c s)) (sym (append-nil (encode c)))))))))
 
 -- ---- what an escape looks like
 
@@ -136,7 +140,7 @@ front c d m n t u (inl (x, e, p, a)) (inr (inr (f, k, l))) r s h = absurd (k (sy
 front c d m n t u (inr (inl e)) (inl (y, f, q, b)) r s h = absurd (b (sym (ap (λ l. get_or l 1 0) (placed t u _ _ r s e f h))))
 front c d m n t u (inr (inl e)) (inr (inl f)) r s h =
     let g : (digits 16 false c ++ 125 ∷ []) ++ r ≡ (digits 16 false d ++ 125 ∷ []) ++ s = ap (drop 3) (placed t u _ _ r s e f h) in
-    let b = before_close (digits 16 false c) (digits 16 false d) r s (digits_small (digits 16 false c) (numeral c m)) (digits_small (digits 16 false d) (numeral d n)) (sym (append_assoc (digits 16 false c) (125 ∷ []) r) ∙ (g ∙ append_assoc (digits 16 false d) (125 ∷ []) s)) in
+    let b = before_close (digits 16 false c) (digits 16 false d) r s (digits_small (digits 16 false c) (numeral c (scalar_small c m))) (digits_small (digits 16 false d) (numeral d (scalar_small d n))) (sym (append_assoc (digits 16 false c) (125 ∷ []) r) ∙ (g ∙ append_assoc (digits 16 false d) (125 ∷ []) s)) in
     (same_digits c d m n b.0, b.1)
 front c d m n t u (inr (inl e)) (inr (inr (f, k, l))) r s h = absurd (k (sym (ap (λ l. get_or l 0 0) (placed t u _ _ r s e f h))))
 front c d m n t u (inr (inr (e, k, l))) (inl (y, f, q, b)) r s h = absurd (k (ap (λ l. get_or l 0 0) (placed t u _ _ r s e f h)))

@@ -1,279 +1,100 @@
--- Worked texts of values, types, functions and causes.
-use Rattle.std.proofs.Common.{◌≡◌, ℕ, List, [], ◌∷◌, true, false, refl, Some, None, pos, negsuc}
+-- Worked examples: each row of a definition is met once. The words of kinds and causes, and `merge_map_entries`, are in the tests.
+use Rattle.std.proofs.Common.{◌≡◌, ℕ, List, [], ◌∷◌, true, false, refl, Some, None, pos, negsuc, map, inl, inr}
 use Rattle.std.specs.Prelude.{codes}
 use Rattle.std.specs.Fmt.{digits}
 use Rattle.std.specs.Str.{chars}
 use Rattle.ucd_category.proofs.Computing.{ucd_category}
 use Rattle.wave_wasm.specs.Types as type
+use Rattle.wave_wasm.specs.Types.{TypeTree}
 use Rattle.wave_wasm.specs.Values as value
-use Rattle.wave_wasm.specs.Values.{Leaf, Value, values, entries, field_values}
-use Rattle.wave_wasm.specs.Merge.{merge, leaf_eq, merge_by_text}
-use Rattle.wave_wasm.specs.Text.{text, has_text, quoted_char, escaped, arguments_text, results_text}
+use Rattle.wave_wasm.specs.Values.{Leaf, Value, values, entries, field_values, no_value, a_value}
+use Rattle.wave_wasm.specs.HasType.{HasType}
+use Rattle.wave_wasm.specs.Merge.{merge, leaf_eq, distinct_keys, value_at_last}
+use Rattle.wave_wasm.specs.Text.{text, has_text, is_escaped, escaped, arguments_text, results_text}
 use Rattle.wave_wasm.specs.TypeText.{type_text, function_text}
-use Rattle.wave_wasm.specs.Causes.{cause_text, wrong_number, missing_field}
-use Rattle.wave_wasm.specs.Names.{found_in}
-use Rattle.wave_wasm.proofs.Walk.{put_all}
 
--- numbers and texts
 abbrev a_u8 : ℕ → Value
 a_u8 n = value.leaf (value.whole type.u8 (pos n))
 
-abbrev a_u32 : ℕ → Value
-a_u32 n = value.leaf (value.whole type.u32 (pos n))
+abbrev yes : Value
+yes = value.leaf (value.bool true)
 
-abbrev a_s32 : ℕ → Value
-a_s32 n = value.leaf (value.whole type.s32 (pos n))
+abbrev a_map : List (Leaf × Value) → Value
+a_map es = value.map (entries es)
 
-abbrev a_text : List ℕ → Value
-a_text s = value.leaf (value.string s)
+-- ---- chars and strings
+
+-- one scalar of each of the nine categories; the space and `a`
+hidden : map is_escaped (0 ∷ 0xad ∷ 0xe000 ∷ 0x10ffff ∷ 0x2028 ∷ 0x2029 ∷ 0x301 ∷ 0x20dd ∷ 0xa0 ∷ 0x20 ∷ 97 ∷ []) ≡ true ∷ true ∷ true ∷ true ∷ true ∷ true ∷ true ∷ true ∷ true ∷ false ∷ false ∷ []
+unfolding ucd_category
+hidden = refl
+
+scalars : map escaped (0x5c ∷ 0x22 ∷ 0x27 ∷ 0x09 ∷ 0x0d ∷ 0x0a ∷ 0x301 ∷ 0x1f44b ∷ []) ≡ codes "\\\\" ∷ codes "\\\"" ∷ codes "\\'" ∷ codes "\\t" ∷ codes "\\r" ∷ codes "\\n" ∷ codes "\\u{301}" ∷ (0xf0 ∷ 0x9f ∷ 0x91 ∷ 0x8b ∷ []) ∷ []
+unfolding escaped digits ucd_category lib.Utf8.encode
+scalars = refl
+
+-- ---- values
+
+values_written : map text (yes ∷ value.leaf (value.bool false) ∷ value.leaf (value.whole type.s64 (negsuc 9223372036854775807)) ∷ value.leaf (value.char 97) ∷ value.leaf (value.string (codes "it's")) ∷ value.list (values []) ∷ value.list (values (a_u8 1 ∷ a_u8 2 ∷ [])) ∷ value.fixed (values (yes ∷ [])) ∷ value.tuple (values (a_u8 1 ∷ yes ∷ [])) ∷ []) ≡ codes "true" ∷ codes "false" ∷ codes "-9223372036854775808" ∷ codes "'a'" ∷ codes "\"it\\'s\"" ∷ codes "[]" ∷ codes "[1, 2]" ∷ codes "[true]" ∷ codes "(1, true)" ∷ []
+unfolding digits chars escaped ucd_category lib.Utf8.encode
+values_written = refl
+
+names : map text (value.enum (codes "not-found") ∷ value.enum (codes "some") ∷ value.variant (codes "off") no_value ∷ value.variant (codes "err") (a_value yes) ∷ value.flags [] ∷ value.flags (codes "read" ∷ codes "write" ∷ []) ∷ []) ≡ codes "not-found" ∷ codes "%some" ∷ codes "off" ∷ codes "%err(true)" ∷ codes "{}" ∷ codes "{read, write}" ∷ []
+names = refl
+
+payloads : map text (value.option no_value ∷ value.option (a_value (value.option no_value)) ∷ value.ok no_value ∷ value.ok (a_value yes) ∷ value.err no_value ∷ value.err (a_value yes) ∷ []) ≡ codes "none" ∷ codes "some(none)" ∷ codes "ok" ∷ codes "ok(true)" ∷ codes "err" ∷ codes "err(true)" ∷ []
+payloads = refl
+
+records : map (λ fs. text (value.record_value (field_values fs))) (((codes "a", value.option no_value) ∷ []) ∷ ((codes "ok", yes) ∷ (codes "b", value.option no_value) ∷ (codes "c", yes) ∷ []) ∷ []) ≡ codes "{:}" ∷ codes "{ok: true, c: true}" ∷ []
+records = refl
+
+unwritable : map has_text (value.list (values (value.unreadable type.f32 ∷ [])) ∷ value.option (a_value (value.unreadable type.f64)) ∷ value.record_value (field_values ((codes "a", value.unreadable type.unsupported) ∷ [])) ∷ a_map ((value.bool true, value.unreadable type.f32) ∷ []) ∷ yes ∷ []) ≡ false ∷ false ∷ false ∷ false ∷ true ∷ []
+unwritable = refl
+
+calls : arguments_text (yes ∷ yes ∷ []) ∷ map results_text ((yes ∷ yes ∷ []) ∷ (yes ∷ []) ∷ [] ∷ []) ≡ codes "(true, true)" ∷ codes "(true, true)" ∷ codes "true" ∷ codes "()" ∷ []
+calls = refl
 
 -- ---- merging
 
 -- ("a", 1), ("b", 2), ("a", 3)
-abbrev repeated_pairs : List (Leaf × Value)
-repeated_pairs = (value.string (codes "a"), a_u32 1) ∷ (value.string (codes "b"), a_u32 2) ∷ (value.string (codes "a"), a_u32 3) ∷ []
+abbrev repeated : List (Leaf × Value)
+repeated = (value.string (codes "a"), a_u8 1) ∷ (value.string (codes "b"), a_u8 2) ∷ (value.string (codes "a"), a_u8 3) ∷ []
 
-merged_pairs : merge leaf_eq repeated_pairs ≡ (value.string (codes "a"), a_u32 3) ∷ (value.string (codes "b"), a_u32 2) ∷ []
-merged_pairs = refl
-
-walked_pairs : put_all leaf_eq [] repeated_pairs ≡ merge leaf_eq repeated_pairs
-walked_pairs = refl
-
-merged_map_text : text (value.map (entries repeated_pairs)) ≡ codes "{\"a\": 3, \"b\": 2}"
-unfolding digits chars escaped ucd_category lib.Utf8.encode
-merged_map_text = refl
-
--- merge_map_entries of ("k", 1, 10), ("m", 2, 20), ("k", 3, 30)
-merged_by_text : merge_by_text {K = ℕ} {V = ℕ} (((codes "k", 1), 10) ∷ ((codes "m", 2), 20) ∷ ((codes "k", 3), 30) ∷ []) ≡ (1, 30) ∷ (2, 20) ∷ []
-merged_by_text = refl
-
--- -0 and 0 are one key
-one_zero : text (value.map (entries ((value.whole type.s8 (pos 0), a_u8 1) ∷ (value.whole type.s8 (pos 0), a_u8 2) ∷ []))) ≡ codes "{0: 2}"
-unfolding digits
-one_zero = refl
+merged_entries : (merge leaf_eq repeated ≡ (value.string (codes "a"), a_u8 3) ∷ (value.string (codes "b"), a_u8 2) ∷ []) × (distinct_keys leaf_eq repeated ≡ value.string (codes "a") ∷ value.string (codes "b") ∷ []) × (value_at_last leaf_eq (value.string (codes "a")) repeated ≡ Some (a_u8 3))
+merged_entries = (refl, refl, refl)
 
 -- maps within maps are merged
-inner_maps : text (value.list (values (value.map (entries ((value.bool true, a_u8 1) ∷ (value.bool true, a_u8 2) ∷ [])) ∷ []))) ≡ codes "[{true: 2}]"
-unfolding digits
-inner_maps = refl
+maps : map text (a_map [] ∷ a_map ((value.whole type.s8 (pos 0), yes) ∷ (value.whole type.s8 (pos 0), a_u8 2) ∷ []) ∷ a_map ((value.char 97, yes) ∷ (value.char 98, yes) ∷ []) ∷ value.list (values (a_map ((value.bool true, a_u8 1) ∷ (value.bool false, a_u8 2) ∷ (value.bool true, a_u8 3) ∷ []) ∷ [])) ∷ []) ≡ codes "{}" ∷ codes "{0: 2}" ∷ codes "{'a': true, 'b': true}" ∷ codes "[{true: 3, false: 2}]" ∷ []
+unfolding digits escaped ucd_category lib.Utf8.encode
+maps = refl
 
--- ---- chars and strings
+-- ---- types and functions
 
--- `it's`, U+0301, U+00A0, U+0000, U+0009
-quote_in_string : text (a_text (codes "it's")) ≡ codes "\"it\\'s\""
-unfolding chars escaped ucd_category lib.Utf8.encode
-quote_in_string = refl
+abbrev bool : TypeTree
+bool = type.simple type.bool
 
-escaped_mark : quoted_char 0x301 ≡ codes "'\\u{301}'"
-unfolding escaped digits ucd_category
-escaped_mark = refl
+types : map type_text (type.unreadable type.f64 ∷ type.list bool ∷ type.fixed bool 4 ∷ type.tuple (type.types_of (bool ∷ bool ∷ [])) ∷ type.enum (codes "ok" ∷ codes "no" ∷ []) ∷ type.flags (codes "a" ∷ []) ∷ type.map type.char (type.option bool) ∷ []) ≡ codes "f64" ∷ codes "list<bool>" ∷ codes "list<_,N>" ∷ codes "tuple<bool, bool>" ∷ codes "enum { ok, no }" ∷ codes "flags { a }" ∷ codes "map<char, option<bool>>" ∷ []
+types = refl
 
-escaped_space : quoted_char 0xa0 ≡ codes "'\\u{a0}'"
-unfolding escaped digits ucd_category
-escaped_space = refl
+types_of_parts : map type_text (type.result type.no_type type.no_type ∷ type.result (type.a_type bool) type.no_type ∷ type.result type.no_type (type.a_type bool) ∷ type.result (type.a_type bool) (type.a_type bool) ∷ type.record_type (type.fields_of ((codes "a", bool) ∷ (codes "b", bool) ∷ [])) ∷ type.variant (type.cases_of ((codes "off", None) ∷ (codes "on", Some bool) ∷ [])) ∷ []) ≡ codes "result" ∷ codes "result<bool>" ∷ codes "result<_, bool>" ∷ codes "result<bool, bool>" ∷ codes "record { a: bool, b: bool }" ∷ codes "variant { off, on(bool) }" ∷ []
+types_of_parts = refl
 
-escaped_null : quoted_char 0 ≡ codes "'\\u{0}'"
-unfolding escaped digits ucd_category
-escaped_null = refl
+functions : map function_text (record { params = []; param_names = []; results = []; result_names = [] } ∷ record { params = bool ∷ bool ∷ []; param_names = codes "a" ∷ codes "b" ∷ []; results = bool ∷ []; result_names = [] } ∷ record { params = bool ∷ []; param_names = []; results = bool ∷ []; result_names = codes "n" ∷ [] } ∷ []) ≡ codes "func()" ∷ codes "func(a: bool, b: bool) -> bool" ∷ codes "func(bool) -> (n: bool)" ∷ []
+functions = refl
 
-escaped_tab : quoted_char 9 ≡ codes "'\\t'"
-unfolding escaped
-escaped_tab = refl
+-- ---- which values a type has
 
--- U+1F44B stands for itself
-plain_scalar : quoted_char 0x1f44b ≡ 39 ∷ 0xf0 ∷ 0x9f ∷ 0x91 ∷ 0x8b ∷ 39 ∷ []
-unfolding escaped digits ucd_category lib.Utf8.encode
-plain_scalar = refl
+has_yes : HasType bool yes
+has_yes = (value.bool true, (refl, tt), refl)
 
--- the other short escapes
-other_escapes : (escaped 0x5c ≡ codes "\\\\") × (escaped 0x22 ≡ codes "\\\"") × (escaped 0x0d ≡ codes "\\r") × (escaped 0x0a ≡ codes "\\n")
-unfolding escaped
-other_escapes = (refl, refl, refl, refl)
+has_sequences : HasType (type.list bool) (value.list (values (yes ∷ []))) × HasType (type.tuple (type.type_and bool type.no_types)) (value.tuple (values (yes ∷ []))) × HasType (type.record_type (type.field (codes "a") bool type.no_fields)) (value.record_value (value.field (codes "a") yes value.no_fields)) × HasType (type.map type.bool bool) (a_map ((value.bool true, yes) ∷ []))
+has_sequences = ((yes ∷ [], (has_yes, tt), refl), (yes ∷ [], (yes, [], has_yes, refl, refl), refl), (value.field (codes "a") yes value.no_fields, (yes, value.no_fields, has_yes, refl, refl), refl), ((value.bool true, yes) ∷ [], (((refl, tt), has_yes), tt), refl))
 
--- U+00AD and U+10FFFF are escaped
-escaped_hyphen : escaped 0xad ≡ codes "\\u{ad}"
-unfolding escaped digits ucd_category
-escaped_hyphen = refl
+has_names : HasType (type.enum (codes "a" ∷ codes "b" ∷ [])) (value.enum (codes "b")) × HasType (type.flags (codes "a" ∷ codes "b" ∷ [])) (value.flags (codes "b" ∷ [])) × HasType (type.variant (type.cases_of ((codes "a", None) ∷ (codes "b", Some bool) ∷ []))) (value.variant (codes "b") (a_value yes))
+has_names = ((codes "b", inr (inl refl), refl), (codes "b" ∷ [], inl (inr ([], refl, refl)), refl), (codes "b", a_value yes, inr (inl (refl, (yes, has_yes, refl))), refl))
 
-escaped_last : escaped 0x10ffff ≡ codes "\\u{10ffff}"
-unfolding escaped digits ucd_category
-escaped_last = refl
+has_payloads : HasType (type.option bool) (value.option no_value) × HasType (type.option bool) (value.option (a_value yes)) × HasType (type.result type.no_type type.no_type) (value.ok no_value) × HasType (type.result type.no_type (type.a_type bool)) (value.err (a_value yes))
+has_payloads = (inl refl, inr (yes, has_yes, refl), inl (no_value, refl, refl), inr (a_value yes, (yes, has_yes, refl), refl))
 
--- ---- values
-
--- a record of one option, which is `none`; a map without entries
-omitted_field : text (value.record_value (field_values ((codes "a", value.option value.no_value) ∷ []))) ≡ codes "{:}"
-omitted_field = refl
-
-empty_map : text (value.map value.no_entries) ≡ codes "{}"
-empty_map = refl
-
--- a record in the type's order
-record_in_order : text (value.record_value (field_values ((codes "red", a_s32 0) ∷ (codes "green", value.leaf (value.char 97)) ∷ []))) ≡ codes "{red: 0, green: 'a'}"
-unfolding digits chars escaped ucd_category lib.Utf8.encode
-record_in_order = refl
-
--- `ok(7)`, `%some`, `{a: some(7), b: some(none)}`
-ok_payload : text (value.ok (value.a_value (a_u8 7))) ≡ codes "ok(7)"
-unfolding digits
-ok_payload = refl
-
-keyword_case : text (value.enum (codes "some")) ≡ codes "%some"
-keyword_case = refl
-
-option_fields : text (value.record_value (field_values ((codes "a", value.option (value.a_value (a_u8 7))) ∷ (codes "b", value.option (value.a_value (value.option value.no_value))) ∷ []))) ≡ codes "{a: some(7), b: some(none)}"
-unfolding digits
-option_fields = refl
-
--- `%err("oops")`, `{read, write}`
-keyword_case_payload : text (value.variant (codes "err") (value.a_value (a_text (codes "oops")))) ≡ codes "%err(\"oops\")"
-unfolding chars escaped ucd_category lib.Utf8.encode
-keyword_case_payload = refl
-
-two_flags : text (value.flags (codes "read" ∷ codes "write" ∷ [])) ≡ codes "{read, write}"
-two_flags = refl
-
-flags_in_order : found_in (codes "write" ∷ codes "read" ∷ []) (codes "read" ∷ codes "write" ∷ codes "exec" ∷ []) ≡ codes "read" ∷ codes "write" ∷ []
-flags_in_order = refl
-
--- `(some(1), none, none)`; `(1, 2)`, `1`, `()`
-option_arguments : arguments_text (value.option (value.a_value (a_u8 1)) ∷ value.option value.no_value ∷ value.option value.no_value ∷ []) ≡ codes "(some(1), none, none)"
-unfolding digits
-option_arguments = refl
-
-two_results : results_text (a_u8 1 ∷ a_u8 2 ∷ []) ≡ codes "(1, 2)"
-unfolding digits
-two_results = refl
-
-one_result : results_text (a_u8 1 ∷ []) ≡ codes "1"
-unfolding digits
-one_result = refl
-
-no_result : results_text [] ≡ codes "()"
-no_result = refl
-
--- the least s64
-least_s64 : text (value.leaf (value.whole type.s64 (negsuc 9223372036854775807))) ≡ codes "-9223372036854775808"
-unfolding digits
-least_s64 = refl
-
--- lists, tuples, fixed-length lists, and each without items
-two_items : text (value.list (values (a_u8 1 ∷ a_u8 2 ∷ []))) ≡ codes "[1, 2]"
-unfolding digits
-two_items = refl
-
-no_items : text (value.list (values [])) ≡ codes "[]"
-no_items = refl
-
-fixed_items : text (value.fixed (values (a_u8 1 ∷ []))) ≡ codes "[1]"
-unfolding digits
-fixed_items = refl
-
-tuple_items : text (value.tuple (values (a_u8 1 ∷ value.leaf (value.bool true) ∷ []))) ≡ codes "(1, true)"
-unfolding digits
-tuple_items = refl
-
--- cases, options and results without and with a payload
-plain_case : text (value.variant (codes "off") value.no_value) ≡ codes "off"
-plain_case = refl
-
-plain_enum : text (value.enum (codes "not-found")) ≡ codes "not-found"
-plain_enum = refl
-
-bare_ok : text (value.ok value.no_value) ≡ codes "ok"
-bare_ok = refl
-
-bare_err : text (value.err value.no_value) ≡ codes "err"
-bare_err = refl
-
-err_payload : text (value.err (value.a_value (value.leaf (value.bool false)))) ≡ codes "err(false)"
-err_payload = refl
-
-outer_none : text (value.option value.no_value) ≡ codes "none"
-outer_none = refl
-
-nested_none : text (value.option (value.a_value (value.option value.no_value))) ≡ codes "some(none)"
-nested_none = refl
-
--- flags keep their order; none of them
-no_flags : text (value.flags []) ≡ codes "{}"
-no_flags = refl
-
--- a field named by a keyword carries no `%`
-keyword_field : text (value.record_value (field_values ((codes "ok", value.leaf (value.bool true)) ∷ []))) ≡ codes "{ok: true}"
-keyword_field = refl
-
--- an unsupported leaf has no text
-unsupported_item : has_text (value.list (values (value.unreadable type.unsupported ∷ []))) ≡ false
-unsupported_item = refl
-
--- ---- types
-
--- types by their texts
-err_type : type_text (type.result type.no_type (type.a_type (type.simple type.string))) ≡ codes "result<_, string>"
-err_type = refl
-
-variant_type : type_text (type.variant (type.cases_of ((codes "off", None) ∷ (codes "on", Some (type.simple (type.whole type.u8))) ∷ []))) ≡ codes "variant { off, on(u8) }"
-variant_type = refl
-
-map_type : type_text (type.map type.char (type.map type.bool (type.list (type.simple (type.whole type.u8))))) ≡ codes "map<char, map<bool, list<u8>>>"
-map_type = refl
-
-fixed_type : type_text (type.fixed (type.simple (type.whole type.u8)) 4) ≡ codes "list<_,N>"
-fixed_type = refl
-
--- each other type by its text
-list_type : type_text (type.list (type.simple type.char)) ≡ codes "list<char>"
-list_type = refl
-
-tuple_type : type_text (type.tuple (type.types_of (type.simple type.bool ∷ type.unreadable type.f64 ∷ []))) ≡ codes "tuple<bool, f64>"
-tuple_type = refl
-
-record_type : type_text (type.record_type (type.fields_of ((codes "a", type.simple type.string) ∷ (codes "b", type.option (type.simple type.bool)) ∷ []))) ≡ codes "record { a: string, b: option<bool> }"
-record_type = refl
-
-enum_type : type_text (type.enum (codes "ok" ∷ codes "not-found" ∷ [])) ≡ codes "enum { ok, not-found }"
-enum_type = refl
-
-flags_type : type_text (type.flags (codes "read" ∷ codes "write" ∷ [])) ≡ codes "flags { read, write }"
-flags_type = refl
-
-bare_result_type : type_text (type.result type.no_type type.no_type) ≡ codes "result"
-bare_result_type = refl
-
-ok_result_type : type_text (type.result (type.a_type (type.simple type.bool)) type.no_type) ≡ codes "result<bool>"
-ok_result_type = refl
-
-full_result_type : type_text (type.result (type.a_type (type.simple type.bool)) (type.a_type (type.simple type.char))) ≡ codes "result<bool, char>"
-full_result_type = refl
-
-unsupported_type : type_text (type.unreadable type.unsupported) ≡ codes "<<UNSUPPORTED>>"
-unsupported_type = refl
-
--- `func(a: u8, b: string) -> u8`, `func()`, `func() -> (n: u8)`, `func(a: u8) -> (x: u8, y: bool)`
-abbrev u8 : type.TypeTree
-u8 = type.simple (type.whole type.u8)
-
-function_one_result : function_text (record { params = u8 ∷ type.simple type.string ∷ []; param_names = codes "a" ∷ codes "b" ∷ []; results = u8 ∷ []; result_names = [] }) ≡ codes "func(a: u8, b: string) -> u8"
-function_one_result = refl
-
-function_bare : function_text (record { params = []; param_names = []; results = []; result_names = [] }) ≡ codes "func()"
-function_bare = refl
-
-function_named_result : function_text (record { params = []; param_names = []; results = u8 ∷ []; result_names = codes "n" ∷ [] }) ≡ codes "func() -> (n: u8)"
-function_named_result = refl
-
-function_two_results : function_text (record { params = u8 ∷ []; param_names = codes "a" ∷ []; results = u8 ∷ type.simple type.bool ∷ []; result_names = codes "x" ∷ codes "y" ∷ [] }) ≡ codes "func(a: u8) -> (x: u8, y: bool)"
-function_two_results = refl
-
--- words of causes
-tuple_cause : cause_text (wrong_number 1 2) ≡ codes "expected 1 tuple elements; got 2"
-unfolding digits
-tuple_cause = refl
-
-field_cause : cause_text (missing_field (codes "must-have")) ≡ codes "missing field \"must-have\""
-field_cause = refl
-
--- a record without fields is no tree of `Type`
-empty_record_type : type.is_own (type.record_type type.no_fields) ≡ false
-empty_record_type = refl
+has_none : (v : Value) → (HasType (type.unreadable type.f32) v → ⊥) × (HasType (type.fixed bool 4) v → ⊥)
+has_none v = (λ h. h, λ h. h)

@@ -17,9 +17,9 @@ pub mod Places
 pub mod Adding
 pub mod TypeTrees
 pub mod Functions
-pub mod HexDigits
 pub mod OneOf
 pub mod TypeKinds
 pub mod Names
 pub mod Picked
 pub mod Writable
+pub mod NumberEscapes

@@ -11,7 +11,7 @@ use Rattle.wave_wasm.specs.Values.{Leaf, Value, Entries, no_entries, entry, entr
 use Rattle.wave_wasm.specs.HasType.{IsLeafOf}
 use Rattle.wave_wasm.specs.Makers.{leaf_entries}
 use Rattle.wave_wasm.specs.Commas.{enclosed, behind_name, comma_if}
-use Rattle.wave_wasm.specs.Merge.{merged, merged_entries, merge, leaf_eq}
+use Rattle.wave_wasm.specs.Merge.{merged, merged_entries, merge, leaf_eq, with_key_texts}
 use Rattle.wave_wasm.specs.Text.{text, has_text, leaf_text, printed_entries, are_writable_entries}
 use Rattle.wave_wasm.specs.Output.{Output}
 use Rattle.wave_wasm.proofs.Keys.{leaf_tests}
@@ -92,7 +92,6 @@ module _ {X : Type 0} (f : X → Value) where
     pub text_is : text v ≡ enclosed (codes "{") (map (λ e. behind_name (text (f e.0)) (text (f e.1))) xs) (codes "}")
     pub writable_is : has_text v ≡ list_all (λ e. has_text (f e.1)) xs
     pub depths_are : AllOf (λ e. depth (f e.1) < depth v) xs
-    pub keys_are : AllOf (λ e. IsLeaf (f e.0)) xs
 
   map_of : (es : Entries) (xs : List (X × X)) → paired f f xs ≡ leaf_entries (merge leaf_eq (entry_list es)) → IsMap (value.map es) xs
   map_of es xs same =
@@ -105,7 +104,6 @@ module _ {X : Type 0} (f : X → Value) where
         text_is = ap (λ z. enclosed (codes "{") z (codes "}")) (ap (λ l. printed_entries (entries l)) (merged_list es) ∙ (entries_texts left ∙ (sym (map_map one lf left) ∙ (ap (map one) (sym same) ∙ map_map one ff xs))));
         writable_is = ap (λ l. are_writable_entries (entries l)) (merged_list es) ∙ (entries_writable left ∙ (sym (all_map ok lf left) ∙ (ap (list_all ok) (sym same) ∙ all_map ok ff xs)));
         depths_are = all_below (λ p. depth p.1 < depth (value.map es)) ff xs (subst (AllOf (λ p. depth p.1 < depth (value.map es))) (sym same) (all_above (λ p. depth p.1 < depth (value.map es)) lf left (values_keep (λ v. depth v < depth (value.map es)) leaf_eq (entry_list es) (entries_depths (depth_of_entries es) es (omega arith)))));
-        keys_are = all_below (λ p. IsLeaf p.0) ff xs (subst (AllOf (λ p. IsLeaf p.0)) (sym same) (leaves_are_leaves left));
       }
 
   -- the facts of a map that the writer needs
@@ -119,8 +117,28 @@ module _ {X : Type 0} (f : X → Value) where
   map_is (value.unreadable type.unsupported) es k formed e xs left = absurd (cc)
   map_is _ es k formed e xs left = absurd (cc)
 
+  -- the same by the texts of the keys
+  pub record IsWrittenMap {T : Type 0} (s : T → List ℕ) (v : Value) (ms : List (T × X)) : Type 0 where
+    pub text_is : text v ≡ enclosed (codes "{") (map (λ e. behind_name (s e.0) (text (f e.1))) ms) (codes "}")
+    pub writable_is : has_text v ≡ list_all (λ e. has_text (f e.1)) ms
+    pub depths_are : AllOf (λ e. depth (f e.1) < depth v) ms
+
+  pub written_map : {T : Type 0} (s : T → List ℕ) (v : Value) (es : List (X × X)) → kind_of v ≡ kinds.Map → IsWellFormed v → paired f f es ≡ leaf_entries (map_entries v) → (ms : List (T × X)) → with_key_texts s ms ≡ with_key_texts (λ x. text (f x)) (merge same_texts es) → IsWrittenMap s v ms
+  written_map {T} s v es kind formed e ms same =
+      let xs = merge same_texts es in
+      let m = map_is v es kind formed e xs refl in
+      let one : List ℕ × X → List ℕ = λ p. behind_name p.0 (text (f p.1)) in
+      let ok : List ℕ × X → Bool = λ p. has_text (f p.1) in
+      let from : X × X → List ℕ × X = λ e. (text (f e.0), e.1) in
+      let to : T × X → List ℕ × X = λ e. (s e.0, e.1) in
+      record {
+        text_is = m.text_is ∙ ap (λ z. enclosed (codes "{") z (codes "}")) (sym (map_map one from xs) ∙ (ap (map one) (sym same) ∙ map_map one to ms));
+        writable_is = m.writable_is ∙ (sym (all_map ok from xs) ∙ (ap (list_all ok) (sym same) ∙ all_map ok to ms));
+        depths_are = all_below (λ p. depth (f p.1) < depth v) to ms (subst (AllOf (λ p. depth (f p.1) < depth v)) (sym same) (all_above (λ p. depth (f p.1) < depth v) from xs m.depths_are));
+      }
+
 -- what is left to write begins with the next entry
-pub writing_entry : {Y : Type 0} (key value : Y → List ℕ) (xs : List Y) (i : ℕ) (x : Y) {whole : List ℕ} (later : Bool) (close : List ℕ) {old now : Output} → i < length xs → x ≡ get_or xs i x → Writing whole (parted later (map (λ e. behind_name (key e) (value e)) (drop i xs)) ++ close) old now → Writing whole (comma_if later ++ (key x ++ (codes ": " ++ (value x ++ (parted true (map (λ e. behind_name (key e) (value e)) (drop (i + 1) xs)) ++ close))))) old now
-writing_entry key value xs i x later close lt is w =
+pub writing_entry : {Y : Type 0} (key value : Y → List ℕ) (xs : List Y) (i : ℕ) (x : Y) {whole : List ℕ} (later : Bool) (close key_part : List ℕ) {old now : Output} → i < length xs → x ≡ get_or xs i x → key_part ≡ key x → Writing whole (parted later (map (λ e. behind_name (key e) (value e)) (drop i xs)) ++ close) old now → Writing whole (comma_if later ++ (key_part ++ (codes ": " ++ (value x ++ (parted true (map (λ e. behind_name (key e) (value e)) (drop (i + 1) xs)) ++ close))))) old now
+writing_entry key value xs i x later close key_part lt is same w =
     let left = parted true (map (λ e. behind_name (key e) (value e)) (drop (i + 1) xs)) ++ close in
-    writing_as (ap (λ s. comma_if later ++ s) (append_assoc (key x) (codes ": " ++ value x) left ∙ ap (λ s. key x ++ s) (append_assoc (codes ": ") (value x) left))) (writing_item (λ e. behind_name (key e) (value e)) xs i x later close lt is w)
+    writing_as (ap (λ s. comma_if later ++ s) (append_assoc (key x) (codes ": " ++ value x) left ∙ (ap (λ s. key x ++ s) (append_assoc (codes ": ") (value x) left) ∙ ap (λ s. s ++ (codes ": " ++ (value x ++ left))) (sym same)))) (writing_item (λ e. behind_name (key e) (value e)) xs i x later close lt is w)

@@ -18,10 +18,6 @@ field_skipped later name v fs h = rw h refl
 pub writing_field : {X : Type 0} (f : X → List ℕ × Value) (xs : List X) (i : ℕ) (x : X) {whole : List ℕ} (later : Bool) {old now : Output} → i < length xs → x ≡ get_or xs i x → is_no_option (f x).1 ≡ false → Writing whole (fields_left later (map f (drop i xs))) old now → Writing whole (cond later (codes ", ") (codes "{") ++ ((f x).0 ++ (codes ": " ++ (text (f x).1 ++ fields_left true (map f (drop (i + 1) xs)))))) old now
 writing_field f xs i x later lt is some w = writing_as (at_item (λ l. fields_left later (map f l)) xs i x lt is ∙ field_here later (f x).0 (f x).1 (map f (drop (i + 1) xs)) some) w
 
--- a field that is `none` is passed over
-pub skipping_field : {X : Type 0} (f : X → List ℕ × Value) (xs : List X) (i : ℕ) (x : X) {whole : List ℕ} (later : Bool) {old now : Output} → i < length xs → x ≡ get_or xs i x → is_no_option (f x).1 ≡ true → Writing whole (fields_left later (map f (drop i xs))) old now → Writing whole (fields_left later (map f (drop (i + 1) xs))) old now
-skipping_field f xs i x later lt is none w = writing_as (at_item (λ l. fields_left later (map f l)) xs i x lt is ∙ field_skipped later (f x).0 (f x).1 (map f (drop (i + 1) xs)) none) w
-
 -- after the last field only the close is left
 pub writing_record_close : {X : Type 0} (f : X → List ℕ × Value) (xs : List X) (i : ℕ) {whole : List ℕ} (later : Bool) {old now : Output} → length xs ≤ i → Writing whole (fields_left later (map f (drop i xs))) old now → Writing whole (cond later (codes "}") (codes "{:}") ++ []) old now
 writing_record_close f xs i later le w = writing_as (at_end (λ l. fields_left later (map f l)) xs i le ∙ sym (append-nil (cond later (codes "}") (codes "{:}")))) w

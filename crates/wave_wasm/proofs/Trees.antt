@@ -144,12 +144,6 @@ none_merged (value.err payload) = refl
 none_merged (value.flags names) = refl
 none_merged (value.map es) = refl
 
--- `none` can be written
-pub none_has_text : (v : Value) → is_no_option v ≡ true → has_text v ≡ true
-none_has_text (value.option no_value) h = refl
-none_has_text (value.option (a_value v)) h = cc
-none_has_text _ h = cc
-
 -- what is left of a record's text at these fields
 abbrev pub fields_left : Bool → List (List ℕ × Value) → List ℕ
 fields_left later [] = cond later (codes "}") (codes "{:}")
@@ -215,18 +209,10 @@ pub ok_text : (payload : Option Value) → text (value.ok (maybe_value payload))
 ok_text None = refl
 ok_text (Some v) = refl
 
-pub ok_writable : (payload : Option Value) → has_text (value.ok (maybe_value payload)) ≡ has_payload_text payload
-ok_writable None = refl
-ok_writable (Some v) = refl
-
 -- `err` with its payload
 pub err_text : (payload : Option Value) → text (value.err (maybe_value payload)) ≡ codes "err" ++ payload_text payload
 err_text None = refl
 err_text (Some v) = refl
-
-pub err_writable : (payload : Option Value) → has_text (value.err (maybe_value payload)) ≡ has_payload_text payload
-err_writable None = refl
-err_writable (Some v) = refl
 
 -- a value of a kind without text can't be written
 no_text : (v : Value) → is_readable_kind (kind_of v) ≡ false → has_text v ≡ false
@@ -249,7 +235,3 @@ pub no_text_of_kind : (v : Value) (k : WasmTypeKind) → k ≡ kind_of v → (k 
 no_text_of_kind v k e (inl is) = no_text v (ap is_readable_kind (sym e ∙ is))
 no_text_of_kind v k e (inr (inl is)) = no_text v (ap is_readable_kind (sym e ∙ is))
 no_text_of_kind v k e (inr (inr is)) = no_text v (ap is_readable_kind (sym e ∙ is))
-
--- enums can be written
-pub enum_writable : (v : Value) (name : List ℕ) → v ≡ value.enum name → has_text v ≡ true
-enum_writable v name e = ap has_text e

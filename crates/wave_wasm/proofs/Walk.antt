@@ -1,7 +1,6 @@
 -- Merging as a walk from the first entry to the last.
-use Rattle.std.proofs.Common.{◌≡◌, List, [], ◌∷◌, ◌++◌, Bool, true, false, not, cond, if◌then◌else◌, inl, inr, refl, sym, ap, ◌∙◌, append_assoc}
+use Rattle.std.proofs.Common.{◌≡◌, List, [], ◌∷◌, ◌++◌, Bool, true, false, not, cond, if◌then◌else◌, inl, inr, refl, ap, ◌∙◌}
 use Rattle.std.proofs.lemmas.Bool.{cases_Bool}
-use Rattle.std.proofs.lemmas.List.{append-nil}
 use Rattle.wave_wasm.specs.Merge.{last_value, without, merge}
 
 module _ {K V : Type 0} (same : K → K → Bool) where
@@ -9,11 +8,6 @@ module _ {K V : Type 0} (same : K → K → Bool) where
   abbrev pub put : K → V → List (K × V) → List (K × V)
   put key v [] = (key, v) ∷ []
   put key v (e ∷ es) = if same key e.0 then (e.0, v) ∷ es else e ∷ put key v es
-
-  -- each entry goes to its place behind those that are done
-  abbrev pub put_all : List (K × V) → List (K × V) → List (K × V)
-  put_all done [] = done
-  put_all done (e ∷ es) = put_all (put e.0 e.1 done) es
 
 module _ {K : Type 0} (same : K → K → Bool) (turned : (a b : K) → same a b ≡ true → same b a ≡ true) (through : (a b c : K) → same a b ≡ true → same b c ≡ true → same a c ≡ true) where
   -- another key stays another
@@ -60,11 +54,3 @@ module _ {K V : Type 0} (same : K → K → Bool) (turned : (a b : K) → same a
         | inl t ↦ rw (turned x.0 e.0 t) (rw t (ap (λ l. (x.0, e.1) ∷ l) (without_put_same x.0 e.0 e.1 (merge same es) t)))
         | inr f ↦ rw (apart_turned same turned through x.0 e.0 f) (rw f (ap (λ l. (x.0, last) ∷ l) (without_put_other x.0 e.0 e.1 (merge same es) f)))
       ])
-
-  walked : (ds es : List (K × V)) → put_all same (merge same ds) es ≡ merge same (ds ++ es)
-  walked ds [] = ap (merge same) (sym (append-nil ds))
-  walked ds (e ∷ es) = ap (λ l. put_all same l es) (sym (merge_push ds e)) ∙ (walked (ds ++ e ∷ []) es ∙ ap (merge same) (append_assoc ds (e ∷ []) es))
-
-  -- the walk gives what merging gives
-  pub walk_is_merge : (es : List (K × V)) → put_all same [] es ≡ merge same es
-  walk_is_merge es = walked [] es

@@ -3,7 +3,7 @@ use Rattle.std.proofs.Common.{ℕ, ◌≡◌, List, [], ◌++◌, Bool, true, fa
 use Rattle.std.proofs.lemmas.List.{append-nil}
 use Rattle.std.specs.declared.alloc.AllocError.{AllocError}
 use Rattle.wave_wasm.specs.declared.writer.WriterError.{WriterError}
-use Rattle.wave_wasm.specs.Output.{Output, Appended, TextRefused, IsGrounded, CountsOnce, Refused}
+use Rattle.wave_wasm.specs.Output.{Output, Appended, IsGrounded, CountsOnce, Refused}
 
 -- of the text `whole`, all but `rest` was taken, and no write failed
 pub record Writing (whole rest : List ℕ) (old now : Output) : Type 0 where
@@ -45,12 +45,6 @@ writing_refused {whole} {part} rest {old} {now} {new} {writable} {all} {e} w h r
   grounded = grounded_later e writable all old.failures now.failures new.failures w.failures h r.grounded;
   counts = subst (λ n. CountsOnce e n new.failures) w.failures r.counts;
 }
-
--- the refusal of one text
-pub refused_text : {whole : List ℕ} {old new : Output} (e : WriterError) → TextRefused whole e old new → Refused whole true e old new
-refused_text (WriterError.Io e) r = record { began = r.began; grounded = search arith; counts = r.counts }
-refused_text WriterError.UnsupportedType r = absurd r.counts
-refused_text (WriterError.Memory e) r = record { began = r.began; grounded = tt; counts = r.counts }
 
 -- the same, where the part can be written as any text can
 pub writing_refused_text : {whole part : List ℕ} (rest : List ℕ) {old now new : Output} {all : Bool} {e : WriterError} → Writing whole (part ++ rest) old now → Refused part true e now new → Refused whole all e old new

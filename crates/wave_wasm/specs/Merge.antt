@@ -105,3 +105,7 @@ same_text a b = bytes_eq a.0 b.0
 -- the distinct texts in the order of their first places, each with its first key and its last value
 abbrev pub merge_by_text : {K V : Type 0} → List ((List ℕ × K) × V) → List (K × V)
 merge_by_text es = map (λ e. (e.0.1, e.1)) (merge same_text es)
+
+-- the entries, each with the text of its key in place of the key
+abbrev pub with_key_texts : {K V : Type 0} → (K → List ℕ) → List (K × V) → List (List ℕ × V)
+with_key_texts key_text es = map (λ e. (key_text e.0, e.1)) es

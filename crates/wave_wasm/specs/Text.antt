@@ -32,6 +32,10 @@ is_hidden _ = false
 abbrev pub is_escaped : ℕ → Bool
 is_escaped c = is_hidden (general_category c) && not (c == 0x20)
 
+-- the escape of a scalar by its number: `\u{h}`, in lower-case digits without a leading zero
+abbrev pub number_escape : ℕ → List ℕ
+number_escape c = codes "\\u{" ++ (digits 16 false c ++ codes "}")
+
 -- how a scalar stands in a char or string: `\\`, `\"`, `\'`, `\t`, `\r`, `\n`, `\u{h}`, or itself
 unfoldable pub escaped : ℕ → List ℕ
 escaped c =

@@ -4,13 +4,21 @@ use std::fmt;
 /// A word of the text that is no name unless a `%` stands before it.
 #[derive(Clone, Copy, Debug, PartialEq, Eq)]
 pub enum Keyword {
+    /// `true`
     True,
+    /// `false`
     False,
+    /// `some`
     Some,
+    /// `none`
     None,
+    /// `ok`
     Ok,
+    /// `err`
     Err,
+    /// `inf`
     Inf,
+    /// `nan`
     Nan,
 }
 

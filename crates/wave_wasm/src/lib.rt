@@ -1,7 +1,6 @@
 //! Component values, their types, and their text.
 #![tactic(auto)]
 
-mod escape;
 pub mod keyword;
 pub mod laws;
 #[cfg(test)]

@@ -10,29 +10,53 @@ use std::fmt;
 /// The kind of a type or value. `F32`, `F64` and `Unsupported` are the kinds that have no text.
 #[derive(Clone, Copy, Debug, PartialEq, Eq)]
 pub enum WasmTypeKind {
+    /// `true` or `false`.
     Bool,
+    /// A signed number of 8 bits.
     S8,
+    /// A signed number of 16 bits.
     S16,
+    /// A signed number of 32 bits.
     S32,
+    /// A signed number of 64 bits.
     S64,
+    /// An unsigned number of 8 bits.
     U8,
+    /// An unsigned number of 16 bits.
     U16,
+    /// An unsigned number of 32 bits.
     U32,
+    /// An unsigned number of 64 bits.
     U64,
+    /// A float of 32 bits.
     F32,
+    /// A float of 64 bits.
     F64,
+    /// A Unicode scalar.
     Char,
+    /// A text.
     String,
+    /// Items of one type.
     List,
+    /// So many items of one type.
     FixedLengthList,
+    /// A value for each of its named fields.
     Record,
+    /// Items, each of a type of its own.
     Tuple,
+    /// One of its named cases, with the payload that the case has.
     Variant,
+    /// One of its names.
     Enum,
+    /// A payload or `none`.
     Option,
+    /// `ok` or `err`, each with the payload that it has.
     Result,
+    /// Some of its names.
     Flags,
+    /// Entries of keys and values.
     Map,
+    /// A kind that has no text.
     Unsupported,
 }
 
@@ -87,16 +111,27 @@ impl fmt::Display for WasmTypeKind {
 /// their texts.
 #[derive(Debug, Drop)]
 pub enum WasmValueError {
+    /// The field of this name is missing.
     MissingField(String),
+    /// The case of this name has a payload, and none was given.
     MissingPayload(String),
+    /// The case of this name has no payload, and one was given.
     UnexpectedPayload(String),
+    /// The type has no case of this name.
     UnknownCase(String),
+    /// The type has no field of this name.
     UnknownField(String),
+    /// A type of this word has no values here.
     UnsupportedType(String),
+    /// So many items were wanted, and so many given.
     WrongNumberOfTupleValues { want: usize, got: usize },
+    /// A type of this kind was wanted; the type given has the text `ty`.
     WrongTypeKind { kind: WasmTypeKind, ty: String },
+    /// A value of the type with the text `ty` was wanted; the value given has the text `val`.
     WrongValueType { ty: String, val: String },
+    /// Another cause, in these words.
     Other(String),
+    /// There was no memory.
     Memory(AllocError),
 }
 

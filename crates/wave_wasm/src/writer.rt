@@ -1,5 +1,4 @@
 //! The canonical text of values.
-use crate::escape::{ESCAPE_LEN, number_escape};
 use crate::keyword::Keyword;
 use crate::wasm::{WasmTypeKind, WasmValue};
 use itoa::{Buffer, Integer};
@@ -8,12 +7,14 @@ use std::collections::BTreeMap;
 use std::fmt;
 use unicode::properties::GeneralCategory;
 
-/// Why a value isn't written: the text wasn't taken, the value has a part without a text, or
-/// there was no memory.
+/// Why a value isn't written.
 #[derive(Debug, Drop)]
 pub enum WriterError {
+    /// The text wasn't taken.
     Io(fmt::Error),
+    /// The value has a part without a text.
     UnsupportedType,
+    /// There was no memory.
     Memory(AllocError),
 }
 
@@ -108,7 +109,7 @@ impl<W: TextWrite> Writer<W> {
     ghost use Rattle.wave_wasm.specs.Commas.{comma_if, enclosed};
     ghost use Rattle.wave_wasm.specs.Makers.{IsOfListKind};
     ghost use Rattle.wave_wasm.specs.Shown.{texts, shown, shown_all};
-    ghost use Rattle.wave_wasm.specs.Text.{escaped, quoted, quoted_char, text, has_text, payload_text, has_payload_text};
+    ghost use Rattle.wave_wasm.specs.Text.{escaped, number_escape, quoted, quoted_char, text, has_text, payload_text, has_payload_text};
 
     /// A writer into `out`.
     pub fn new(out: W) -> Writer<W>
@@ -325,12 +326,11 @@ impl<W: TextWrite> Writer<W> {
         self.write_text("{")?;
         let mut later = false;
         for entry in &merged {
-            let (key, value) = *entry;
             self.write_separator(later)?;
             later = true;
-            self.write_leaf(key)?;
+            self.write_text(entry.0.as_str())?;
             self.write_text(": ")?;
-            self.write_value(alloc, value)?;
+            self.write_value(alloc, entry.1)?;
         }
         self.write_text("}")
     }
@@ -452,29 +452,34 @@ impl<W: TextWrite> Writer<W> {
     }
 
     /// Writes a scalar as it stands between quotes.
-    #[tactic(auto, using(crate::proofs::Writing::refused_before), unfolding(crate::specs::Text::escaped))]
     fn write_scalar(&mut self, c: char) -> Result<(), WriterError>
         ensures ok { OnOk result
             (Appended (escaped c) (W.output self.old.out) (W.output self.new.out)) }
         ensures err { IfErr result
             (λ e. Refused (escaped c) true e (W.output self.old.out) (W.output self.new.out)) }
     {
-        match c {
-            '\\' => self.write_text("\\\\"),
-            '"' => self.write_text("\\\""),
-            '\'' => self.write_text("\\'"),
-            '\t' => self.write_text("\\t"),
-            '\r' => self.write_text("\\r"),
-            '\n' => self.write_text("\\n"),
-            _ if is_escaped(c) => {
-                let mut bytes = [0u8; ESCAPE_LEN];
-                self.write_text(number_escape(c, &mut bytes))
-            }
-            _ => {
+        match short_escape(c) {
+            Some(escape) => self.write_text(escape),
+            None if is_escaped(c) => self.write_number_escape(c),
+            None => {
                 let mut bytes = [0u8; 4];
                 self.write_text(c.encode_utf8(&mut bytes))
             }
         }
+    }
+
+    /// Writes a scalar by its number, as `\u{h}`.
+    fn write_number_escape(&mut self, c: char) -> Result<(), WriterError>
+        ensures ok { OnOk result
+            (Appended (number_escape c) (W.output self.old.out) (W.output self.new.out)) }
+        ensures err { IfErr result
+            (λ e. Refused (number_escape c) true e (W.output self.old.out) (W.output self.new.out)) }
+    {
+        for part in c.escape_unicode() {
+            let mut bytes = [0u8; 4];
+            self.write_text(part.encode_utf8(&mut bytes))?;
+        }
+        Ok(())
     }
 
     fn write_separator(&mut self, later: bool) -> Result<(), WriterError>
@@ -508,15 +513,15 @@ impl<W: TextWrite> Writer<W> {
     }
 }
 
-ghost use Rattle.std.specs.Prelude.{◌≡◌, OnOk, IfOk, IfErr, true, map};
+ghost use Rattle.std.specs.Prelude.{◌≡◌, OnOk, IfOk, IfErr, IfSome, IsNone, true, map, if◌then◌else◌};
 ghost use Rattle.std.specs.List.{list_all};
 ghost use Rattle.std.specs.Str.{bytes_eq};
 ghost use Rattle.std.specs.String.{string_bytes};
 ghost use Rattle.wave_wasm.specs.Lists.{AllOf};
 ghost use Rattle.wave_wasm.specs.Values.{IsLeaf};
 ghost use Rattle.std.specs.Char.{encode_utf8};
-ghost use Rattle.wave_wasm.specs.Text.{text, has_text, is_no_option, escaped, is_escaped, arguments_text, results_text};
-ghost use Rattle.wave_wasm.specs.Merge.{merge, merge_by_text};
+ghost use Rattle.wave_wasm.specs.Text.{text, has_text, is_no_option, escaped, number_escape, is_escaped, arguments_text, results_text};
+ghost use Rattle.wave_wasm.specs.Merge.{merge, merge_by_text, with_key_texts};
 ghost use Rattle.wave_wasm.specs.Output.{IsGrounded};
 
 /// The canonical text of the value. `UnsupportedType` is answered only where it has none, and
@@ -577,21 +582,21 @@ fn leaf_text<V: WasmValue>(alloc: Global, val: &V) -> Result<String, WriterError
     Ok(writer.into_inner())
 }
 
-/// The entries with each key once, merged by the texts of their keys.
+/// The entries, each with the text of its key, merged by these texts.
 fn merge_entries<'a, V: WasmValue>(
     alloc: Global,
     entries: &Vec<(&'a V, &'a V)>,
-) -> Result<Vec<(&'a V, &'a V)>, WriterError>
+) -> Result<Vec<(String, &'a V)>, WriterError>
     requires { AllOf (λ e. IsLeaf (V.tree e.0.now)) entries.now.items }
-    ensures ok { IfOk result
-        (λ m. m.items ≡ merge (λ a b. bytes_eq (text (V.tree a.now)) (text (V.tree b.now))) entries.now.items) }
+    ensures ok { IfOk result (λ m. with_key_texts string_bytes m.items ≡ with_key_texts (λ k. text (V.tree k.now))
+        (merge (λ a b. bytes_eq (text (V.tree a.now)) (text (V.tree b.now))) entries.now.items)) }
     ensures err { IfErr result (λ e. IsGrounded e true 0 0) }
 {
     let mut with_texts = Vec::new(alloc);
     for entry in entries {
         let (key, value) = *entry;
         let text = leaf_text(alloc, key)?;
-        with_texts.push((text, key, value))?;
+        with_texts.push((text.clone()?, text, value))?;
     }
     Ok(merge_map_entries(alloc, with_texts)?)
 }
@@ -603,13 +608,26 @@ fn is_none<V: WasmValue>(val: &V) -> bool
 }
 
 /// Whether the scalar stands for itself in a char or string.
-#[tactic(auto, unfolding(crate::specs::Text::escaped))]
 fn is_plain(c: char) -> bool
     ensures { result ≡ true → escaped c ≡ encode_utf8 c }
 {
+    short_escape(c).is_none() && !is_escaped(c)
+}
+
+/// The escape by a `\` and a letter or the scalar itself, for the scalars that have one.
+#[tactic(auto, unfolding(crate::specs::Text::escaped))]
+fn short_escape(c: char) -> Option<&'static str>
+    ensures short { IfSome result (λ s. s.now ≡ escaped c) }
+    ensures long { IsNone result → escaped c ≡ (if is_escaped c then number_escape c else encode_utf8 c) }
+{
     match c {
-        '\\' | '"' | '\'' | '\t' | '\r' | '\n' => false,
-        _ => !is_escaped(c),
+        '\\' => Some("\\\\"),
+        '"' => Some("\\\""),
+        '\'' => Some("\\'"),
+        '\t' => Some("\\t"),
+        '\r' => Some("\\r"),
+        '\n' => Some("\\n"),
+        _ => None,
     }
 }
 

@@ -1,6 +1,8 @@
-use Rattle.std.proofs.Common.{arith, ℕ, List, [], ap, sym, ◌∙◌, refl, Bor, Bool, map}
+use Rattle.std.proofs.Common.{arith, ℕ, List, String, Global, [], ap, sym, ◌∙◌, refl, Bor, Bool, map}
 use Rattle.std.proofs.lemmas.Result.{err_from_is_err_and, IfErr-weaker}
 use Rattle.std.specs.List.{list_all}
+use Rattle.std.specs.String.{string_bytes}
+use Rattle.wave_wasm.specs.Merge.{with_key_texts}
 use Rattle.wave_wasm.specs.Commas.{enclosed, behind_name}
 use Rattle.wave_wasm.specs.Shown.{shown}
 use Rattle.wave_wasm.specs.Text.{text, has_text, payload_text}
@@ -9,7 +11,7 @@ use Rattle.wave_wasm.proofs.Writing.{writing_more, writing_refused, writing_refu
 use Rattle.wave_wasm.proofs.Sequence.{writing_start, writing_item, writing_close, item_blocks, item_passes, part_depth, all_at}
 use Rattle.wave_wasm.proofs.Trees.{map_map, all_map, list_sequence, tuple_sequence, record_is, variant_text, variant_writable, ok_text, err_text, no_text_of_kind}
 use Rattle.wave_wasm.proofs.Records.{writing_field, writing_record_close}
-use Rattle.wave_wasm.proofs.Maps.{map_is, keys_are_leaves, writing_entry}
+use Rattle.wave_wasm.proofs.Maps.{written_map, keys_are_leaves, writing_entry}
 use Rattle.wave_wasm.proofs.writer.Writer.+write.Goals as goal
 
 -- items between a start and an end
@@ -222,78 +224,75 @@ write_map-returns-in_err-merged-clause-err g t c =
 pub write_map-returns-in_err-write_text-clause-err : goal.write_map-returns-in_err-write_text-clause-err
 write_map-returns-in_err-write_text-clause-err g t c =
     let f : Bor g.row.V.Denot → Value = λ v. g.V.WasmValue.tree v.now in
-    let s = map_is f _ c.in_ok-entries.entries.items c.requires.kind c.requires.formed c.in_ok-entries.ensures _ c.in_ok-merged.ensures.ok in
+    let s = written_map f string_bytes _ c.in_ok-entries.entries.items c.requires.kind c.requires.formed c.in_ok-entries.ensures c.in_ok-merged.merged.items c.in_ok-merged.ensures.ok in
     let p = err_from_is_err_and c.from_residual-in_err-write_text.result c.from_residual-in_err-write_text.ensures.1 in
     rw (p.1, p.2) (start_refused _ s.text_is c.in_err-write_text.ensures.err)
 
 pub write_map-loop-entry-init : goal.write_map-loop-entry-init
 write_map-loop-entry-init g t c =
     let f : Bor g.row.V.Denot → Value = λ v. g.V.WasmValue.tree v.now in
-    let s = map_is f _ c.in_ok-entries.entries.items c.requires.kind c.requires.formed c.in_ok-entries.ensures c.deref-entry-items.result.now (c.deref-entry-items.ensures.value ∙ c.in_ok-merged.ensures.ok) in
+    let key : String Global × Bor g.row.V.Denot → List ℕ = λ e. string_bytes e.0 in
+    let value : String Global × Bor g.row.V.Denot → List ℕ = λ e. text (g.V.WasmValue.tree e.1.now) in
+    let s = written_map f string_bytes _ c.in_ok-entries.entries.items c.requires.kind c.requires.formed c.in_ok-entries.ensures c.deref-entry-items.result.now (ap (with_key_texts string_bytes) c.deref-entry-items.ensures.value ∙ c.in_ok-merged.ensures.ok) in
     record {
-      writing = writing_start (λ e. behind_name (text (f e.0)) (text (f e.1))) c.deref-entry-items.result.now _ _ s.text_is c.in_ok-write_text.ensures.ok;
+      writing = writing_start (λ e. behind_name (key e) (value e)) c.deref-entry-items.result.now _ _ s.text_is c.in_ok-write_text.ensures.ok;
       writable = sym s.writable_is;
     }
 
 pub write_map-returns-in_err-write_separator-clause-err : goal.write_map-returns-in_err-write_separator-clause-err
 write_map-returns-in_err-write_separator-clause-err g t c =
-    let key : Bor g.row.V.Denot × Bor g.row.V.Denot → List ℕ = λ e. text (g.V.WasmValue.tree e.0.now) in
-    let value : Bor g.row.V.Denot × Bor g.row.V.Denot → List ℕ = λ e. text (g.V.WasmValue.tree e.1.now) in
+    let key : String Global × Bor g.row.V.Denot → List ℕ = λ e. string_bytes e.0 in
+    let value : String Global × Bor g.row.V.Denot → List ℕ = λ e. text (g.V.WasmValue.tree e.1.now) in
     let p = err_from_is_err_and c.from_residual-in_err-write_separator.result c.from_residual-in_err-write_separator.ensures.1 in
-    let w = writing_entry key value c.deref-entry-items.result.now c.loop-entry.entry-index c.entry-item.result _ _ c.loop-entry-test.true c.entry-item.is c.loop-entry.invariant.writing in
+    let w = writing_entry key value c.deref-entry-items.result.now c.loop-entry.entry-index c.entry-item.result _ _ _ c.loop-entry-test.true c.entry-item.is refl c.loop-entry.invariant.writing in
     rw (p.1, p.2) (writing_refused_text _ w c.in_err-write_separator.ensures.err)
-
-pub write_map-write_leaf-requires : goal.write_map-write_leaf-requires
-write_map-write_leaf-requires g t c =
-    let f : Bor g.row.V.Denot → Value = λ v. g.V.WasmValue.tree v.now in
-    let s = map_is f _ c.in_ok-entries.entries.items c.requires.kind c.requires.formed c.in_ok-entries.ensures c.deref-entry-items.result.now (c.deref-entry-items.ensures.value ∙ c.in_ok-merged.ensures.ok) in
-    all_at _ c.deref-entry-items.result.now c.deref-entry-items.result.now c.loop-entry.entry-index c.entry-item.result refl c.loop-entry-test.true c.entry-item.is s.keys_are
-
-pub write_map-returns-in_err-write_leaf-clause-err : goal.write_map-returns-in_err-write_leaf-clause-err
-write_map-returns-in_err-write_leaf-clause-err g t c =
-    let key : Bor g.row.V.Denot × Bor g.row.V.Denot → List ℕ = λ e. text (g.V.WasmValue.tree e.0.now) in
-    let value : Bor g.row.V.Denot × Bor g.row.V.Denot → List ℕ = λ e. text (g.V.WasmValue.tree e.1.now) in
-    let p = err_from_is_err_and c.from_residual-in_err-write_leaf.result c.from_residual-in_err-write_leaf.ensures.1 in
-    let w = writing_entry key value c.deref-entry-items.result.now c.loop-entry.entry-index c.entry-item.result _ _ c.loop-entry-test.true c.entry-item.is c.loop-entry.invariant.writing in
-    rw (p.1, p.2) (writing_refused_text _ (writing_more w c.in_ok-write_separator.ensures.ok) c.in_err-write_leaf.ensures.err)
 
 pub write_map-returns-in_err-write_text-2-clause-err : goal.write_map-returns-in_err-write_text-2-clause-err
 write_map-returns-in_err-write_text-2-clause-err g t c =
-    let key : Bor g.row.V.Denot × Bor g.row.V.Denot → List ℕ = λ e. text (g.V.WasmValue.tree e.0.now) in
-    let value : Bor g.row.V.Denot × Bor g.row.V.Denot → List ℕ = λ e. text (g.V.WasmValue.tree e.1.now) in
+    let key : String Global × Bor g.row.V.Denot → List ℕ = λ e. string_bytes e.0 in
+    let value : String Global × Bor g.row.V.Denot → List ℕ = λ e. text (g.V.WasmValue.tree e.1.now) in
     let p = err_from_is_err_and c.from_residual-in_err-write_text-2.result c.from_residual-in_err-write_text-2.ensures.1 in
-    let w = writing_entry key value c.deref-entry-items.result.now c.loop-entry.entry-index c.entry-item.result _ _ c.loop-entry-test.true c.entry-item.is c.loop-entry.invariant.writing in
-    rw (p.1, p.2) (writing_refused_text _ (writing_more (writing_more w c.in_ok-write_separator.ensures.ok) c.in_ok-write_leaf.ensures.ok) c.in_err-write_text-2.ensures.err)
+    let w = writing_entry key value c.deref-entry-items.result.now c.loop-entry.entry-index c.entry-item.result _ _ _ c.loop-entry-test.true c.entry-item.is c.as_str.ensures.value c.loop-entry.invariant.writing in
+    rw (p.1, p.2) (writing_refused_text _ (writing_more w c.in_ok-write_separator.ensures.ok) c.in_err-write_text-2.ensures.err)
+
+pub write_map-returns-in_err-write_text-3-clause-err : goal.write_map-returns-in_err-write_text-3-clause-err
+write_map-returns-in_err-write_text-3-clause-err g t c =
+    let key : String Global × Bor g.row.V.Denot → List ℕ = λ e. string_bytes e.0 in
+    let value : String Global × Bor g.row.V.Denot → List ℕ = λ e. text (g.V.WasmValue.tree e.1.now) in
+    let p = err_from_is_err_and c.from_residual-in_err-write_text-3.result c.from_residual-in_err-write_text-3.ensures.1 in
+    let w = writing_entry key value c.deref-entry-items.result.now c.loop-entry.entry-index c.entry-item.result _ _ _ c.loop-entry-test.true c.entry-item.is c.as_str.ensures.value c.loop-entry.invariant.writing in
+    rw (p.1, p.2) (writing_refused_text _ (writing_more (writing_more w c.in_ok-write_separator.ensures.ok) c.in_ok-write_text-2.ensures.ok) c.in_err-write_text-3.ensures.err)
 
 pub write_map-write_value-requires : goal.write_map-write_value-requires
 write_map-write_value-requires g t c κs within =
     let f : Bor g.row.V.Denot → Value = λ v. g.V.WasmValue.tree v.now in
-    let s = map_is f _ c.in_ok-entries.entries.items c.requires.kind c.requires.formed c.in_ok-entries.ensures c.deref-entry-items.result.now (c.deref-entry-items.ensures.value ∙ c.in_ok-merged.ensures.ok) in
+    let s = written_map f string_bytes _ c.in_ok-entries.entries.items c.requires.kind c.requires.formed c.in_ok-entries.ensures c.deref-entry-items.result.now (ap (with_key_texts string_bytes) c.deref-entry-items.ensures.value ∙ c.in_ok-merged.ensures.ok) in
     let d = all_at _ c.deref-entry-items.result.now c.deref-entry-items.result.now c.loop-entry.entry-index c.entry-item.result refl c.loop-entry-test.true c.entry-item.is s.depths_are in
     (omega (arith, d), within)
 
 pub write_map-returns-in_err-write_value-clause-err : goal.write_map-returns-in_err-write_value-clause-err
 write_map-returns-in_err-write_value-clause-err g t c =
-    let key : Bor g.row.V.Denot × Bor g.row.V.Denot → List ℕ = λ e. text (g.V.WasmValue.tree e.0.now) in
-    let value : Bor g.row.V.Denot × Bor g.row.V.Denot → List ℕ = λ e. text (g.V.WasmValue.tree e.1.now) in
-    let ok : Bor g.row.V.Denot × Bor g.row.V.Denot → Bool = λ e. has_text (g.V.WasmValue.tree e.1.now) in
+    let key : String Global × Bor g.row.V.Denot → List ℕ = λ e. string_bytes e.0 in
+    let value : String Global × Bor g.row.V.Denot → List ℕ = λ e. text (g.V.WasmValue.tree e.1.now) in
+    let ok : String Global × Bor g.row.V.Denot → Bool = λ e. has_text (g.V.WasmValue.tree e.1.now) in
     let p = err_from_is_err_and c.from_residual-in_err-write_value.result c.from_residual-in_err-write_value.ensures.1 in
-    let w = writing_entry key value c.deref-entry-items.result.now c.loop-entry.entry-index c.entry-item.result _ _ c.loop-entry-test.true c.entry-item.is c.loop-entry.invariant.writing in
-    rw (p.1, p.2) (writing_refused _ (writing_more (writing_more (writing_more w c.in_ok-write_separator.ensures.ok) c.in_ok-write_leaf.ensures.ok) c.in_ok-write_text-2.ensures.ok) (item_blocks ok c.deref-entry-items.result.now c.loop-entry.entry-index c.entry-item.result _ c.loop-entry-test.true c.entry-item.is c.loop-entry.invariant.writable) c.in_err-write_value.ensures.err)
+    let w = writing_entry key value c.deref-entry-items.result.now c.loop-entry.entry-index c.entry-item.result _ _ _ c.loop-entry-test.true c.entry-item.is c.as_str.ensures.value c.loop-entry.invariant.writing in
+    rw (p.1, p.2) (writing_refused _ (writing_more (writing_more (writing_more w c.in_ok-write_separator.ensures.ok) c.in_ok-write_text-2.ensures.ok) c.in_ok-write_text-3.ensures.ok) (item_blocks ok c.deref-entry-items.result.now c.loop-entry.entry-index c.entry-item.result _ c.loop-entry-test.true c.entry-item.is c.loop-entry.invariant.writable) c.in_err-write_value.ensures.err)
 
 pub write_map-loop-entry-preserved : goal.write_map-loop-entry-preserved
 write_map-loop-entry-preserved g t c =
-    let key : Bor g.row.V.Denot × Bor g.row.V.Denot → List ℕ = λ e. text (g.V.WasmValue.tree e.0.now) in
-    let value : Bor g.row.V.Denot × Bor g.row.V.Denot → List ℕ = λ e. text (g.V.WasmValue.tree e.1.now) in
-    let ok : Bor g.row.V.Denot × Bor g.row.V.Denot → Bool = λ e. has_text (g.V.WasmValue.tree e.1.now) in
-    let w = writing_entry key value c.deref-entry-items.result.now c.loop-entry.entry-index c.entry-item.result _ _ c.loop-entry-test.true c.entry-item.is c.loop-entry.invariant.writing in
+    let key : String Global × Bor g.row.V.Denot → List ℕ = λ e. string_bytes e.0 in
+    let value : String Global × Bor g.row.V.Denot → List ℕ = λ e. text (g.V.WasmValue.tree e.1.now) in
+    let ok : String Global × Bor g.row.V.Denot → Bool = λ e. has_text (g.V.WasmValue.tree e.1.now) in
+    let w = writing_entry key value c.deref-entry-items.result.now c.loop-entry.entry-index c.entry-item.result _ _ _ c.loop-entry-test.true c.entry-item.is c.as_str.ensures.value c.loop-entry.invariant.writing in
     record {
-      writing = writing_more (writing_more (writing_more (writing_more w c.in_ok-write_separator.ensures.ok) c.in_ok-write_leaf.ensures.ok) c.in_ok-write_text-2.ensures.ok) c.in_ok-write_value.ensures.ok;
+      writing = writing_more (writing_more (writing_more (writing_more w c.in_ok-write_separator.ensures.ok) c.in_ok-write_text-2.ensures.ok) c.in_ok-write_text-3.ensures.ok) c.in_ok-write_value.ensures.ok;
       writable = item_passes ok c.deref-entry-items.result.now c.loop-entry.entry-index c.entry-item.result _ c.loop-entry-test.true c.entry-item.is c.loop-entry.invariant.writable c.in_ok-write_value.ensures.writable;
     }
 
 pub write_map-returns-clause-err : goal.write_map-returns-clause-err
 write_map-returns-clause-err g t c =
-    let f : Bor g.row.V.Denot → Value = λ v. g.V.WasmValue.tree v.now in
-    let w = writing_close (λ e. behind_name (text (f e.0)) (text (f e.1))) c.deref-entry-items.result.now c.loop-entry.entry-index _ _ c.loop-entry-test.false c.loop-entry.invariant.writing in
+    let key : String Global × Bor g.row.V.Denot → List ℕ = λ e. string_bytes e.0 in
+    let value : String Global × Bor g.row.V.Denot → List ℕ = λ e. text (g.V.WasmValue.tree e.1.now) in
+    let w = writing_close (λ e. behind_name (key e) (value e)) c.deref-entry-items.result.now c.loop-entry.entry-index _ _ c.loop-entry-test.false c.loop-entry.invariant.writing in
     IfErr-weaker _ _ _ (λ e r. writing_refused_text [] w r) c.write_text-2.ensures.err

@@ -1,0 +1,18 @@
+use Rattle.std.proofs.Common.{◌<◌, ◌^◌, arith}
+use Rattle.std.proofs.lemmas.Result.{err_from_is_err_and}
+use Rattle.wave_wasm.proofs.NumberEscapes.{escape_start, escape_next}
+use Rattle.wave_wasm.proofs.Writing.{writing_refused_text}
+use Rattle.wave_wasm.proofs.writer.Writer.write_number_escape.Goals as goal
+
+pub loop-part-init : goal.loop-part-init
+loop-part-init g c =
+    let e = c.into_iter-part-iterator.ensures.into_iter_gives in
+    let small : c.args.c < 16 ^ 6 = (let s = c.ranges.c in omega (arith, s)) in
+    let escape = c.escape_unicode-part-items.ensures in
+    rw e (record { bound = escape.bound; writing = escape_start c.args.c _ _ small escape.rest })
+
+pub returns-in_err-write_text-clause-err : goal.returns-in_err-write_text-clause-err
+returns-in_err-write_text-clause-err g c =
+    let p = err_from_is_err_and c.from_residual.result c.from_residual.ensures.1 in
+    let step = c.in-Some.ensures.steps in
+    rw (p.1, p.2) (writing_refused_text _ (escape_next _ _ _ c.in-Some.part step.1.0 c.encode_utf8.ensures.value c.loop-part.invariant.writing) c.in_err-write_text.ensures.err)
