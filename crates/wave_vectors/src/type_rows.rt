@@ -219,10 +219,9 @@ fn texts_of_no_type_of_names(rt: HostRuntime) -> Result<(), Fail> {
 
 /// The first type whose names are labels where they are to be none, or the other way round; nothing
 /// where there is none.
-fn labelled(rt: HostRuntime, rows: &[(&str, bool)]) -> Result<String, Fail> {
-    for row in rows {
-        let (text, expected) = *row;
-        if type_of(rt.alloc(), text)?.names_are_labels() != expected {
+fn wrong_names(rt: HostRuntime, texts: &[&str], are_labels: bool) -> Result<String, Fail> {
+    for text in texts {
+        if type_of(rt.alloc(), text)?.names_are_labels() != are_labels {
             return Ok(String::from_str(rt.alloc(), text)?);
         }
     }
@@ -231,17 +230,24 @@ fn labelled(rt: HostRuntime, rows: &[(&str, bool)]) -> Result<String, Fail> {
 
 #[test]
 fn names_that_are_labels(rt: HostRuntime) -> Result<(), Fail> {
-    let found = labelled(
+    let found = wrong_names(rt, &["list<flags { A1, b-2 }>"], true)?;
+    assert_eq!(rt; found.as_str(), "");
+    Ok(())
+}
+
+#[test]
+fn names_that_are_no_labels(rt: HostRuntime) -> Result<(), Fail> {
+    let found = wrong_names(
         rt,
         &[
-            ("list<flags { A1, b-2 }>", true),
-            ("flags { a, a }", false),
-            ("flags { aB, c }", false),
-            ("enum { 1, c }", false),
-            ("record { a: u8, a: u8 }", false),
-            ("variant { a, a(u8) }", false),
-            ("option<enum { a, %b }>", false),
+            "flags { a, a }",
+            "flags { aB, c }",
+            "enum { 1, c }",
+            "record { a: u8, a: u8 }",
+            "variant { a, a(u8) }",
+            "option<enum { a, %b }>",
         ],
+        false,
     )?;
     assert_eq!(rt; found.as_str(), "");
     Ok(())

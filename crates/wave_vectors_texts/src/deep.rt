@@ -85,7 +85,8 @@ fn levels(rt: HostRuntime) -> Result<(), Fail> {
 
 /// The type of the middle within so many layers.
 fn nest(rt: HostRuntime, front: &str, times: usize, middle: &str, end: &str) -> Result<Type, Fail> {
-    type_of(rt.alloc(), within(rt, front, times, middle, end)?.as_str())
+    let text = within(rt, front, times, middle, end)?;
+    Ok(type_of(rt.alloc(), text.as_str())?)
 }
 
 /// The front of the first text that is not told at each cut, at its type of so many layers around
