@@ -7,8 +7,7 @@ use Rattle.std.proofs.lemmas.List.{take-append-drop}
 use Rattle.std.proofs.lemmas.Str.{encode_same}
 use Rattle.wave_lex.specs.declared.lex.Token.{Token}
 use Rattle.wave_lex.specs.declared.lex.Token.TheVariants.{BraceOpen, BraceClose, ParenOpen, ParenClose, BracketOpen, BracketClose, Colon, Comma, Number, LabelOrKeyword, Char, String, MultilineString}
-use Rattle.std.proofs.lemmas.Bool.Decides.{nat_tests}
-use Rattle.wave_lex.specs.Regex.{Regex, nothing, Matches, is_within}
+use Rattle.wave_lex.specs.Regex.{Regex, nothing, Matches}
 use Rattle.wave_lex.specs.Derive.{may_be_empty, after}
 use Rattle.wave_lex.specs.Tokens.{shape, word, string}
 use Rattle.wave_lex.specs.Lexing.{three_quotes, MayStandAt, IsToken}

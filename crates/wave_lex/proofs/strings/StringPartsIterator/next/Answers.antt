@@ -1,5 +1,4 @@
-use Rattle.std.proofs.Common.{◌≡◌, ℕ, ◌<◌, ◌≢◌, List, length, refl, ap, subst, arith, get_or, Bool, false, nat_eq}
-use Rattle.std.specs.Str.{IsUtf8}
+use Rattle.std.proofs.Common.{◌≡◌, ℕ, ◌<◌, List, length, refl, subst, arith, get_or, Bool, false, nat_eq}
 use Rattle.std.proofs.lemmas.Bool.Decides.{nat_tests}
 use Rattle.wave_lex.proofs.Parts.{run_taken, escape_taken, escape_boundary, begins_with}
 use Rattle.wave_lex.proofs.strings.StringPartsIterator.next.Goals as goal
