@@ -12,7 +12,7 @@ use Rattle.wave_wasm.specs.Values.{Value}
 use Rattle.wave_lex.specs.declared.machine.name.NameState.{NameState}
 use Rattle.wave_lex.specs.declared.machine.name.NameState.TheVariants.{Label, Version}
 use Rattle.wave_lex.specs.declared.machine.name.Section.TheVariants as section
-use Rattle.wave_lex.specs.declared.machine.name.Word.TheVariants as word
+use Rattle.wave_lex.specs.declared.machine.label.LabelState.TheVariants as word
 use Rattle.wave_lex.specs.declared.machine.name.Component.TheVariants as component
 use Rattle.wave_lex.specs.declared.machine.name.Number.TheVariants as number
 use Rattle.wave_lex.specs.NameMachine.{name_rest, name_step}

@@ -17,6 +17,7 @@ use Rattle.wave_wasm.specs.Text.{escaped, quoted_char, quoted}
 use Rattle.wave_lex.specs.declared.lex.Token.TheVariants as class
 use Rattle.wave_lex.specs.declared.machine.character.CharState.{CharState}
 use Rattle.wave_lex.specs.declared.machine.character.CharState.TheVariants as character
+use Rattle.wave_lex.specs.declared.machine.escape.EscapeState.TheVariants as escape
 use Rattle.wave_lex.specs.declared.machine.string.StringState.{StringState}
 use Rattle.wave_lex.specs.declared.machine.string.StringState.TheVariants as string
 use Rattle.wave_lex.specs.Machines.{character_rest, character_step, string_rest, string_step}
@@ -43,15 +44,15 @@ character_stops character.Start e = cc
 character_stops character.Open e = cc
 character_stops character.Filled e = cc
 character_stops character.Close e = refl
-character_stops character.Escape e = cc
-character_stops character.EscapeU e = cc
-character_stops character.Hex0 e = cc
-character_stops character.Hex1 e = cc
-character_stops character.Hex2 e = cc
-character_stops character.Hex3 e = cc
-character_stops character.Hex4 e = cc
-character_stops character.Hex5 e = cc
-character_stops character.Hex6 e = cc
+character_stops (character.Escape escape.Backslash) e = cc
+character_stops (character.Escape escape.U) e = cc
+character_stops (character.Escape escape.Hex0) e = cc
+character_stops (character.Escape escape.Hex1) e = cc
+character_stops (character.Escape escape.Hex2) e = cc
+character_stops (character.Escape escape.Hex3) e = cc
+character_stops (character.Escape escape.Hex4) e = cc
+character_stops (character.Escape escape.Hex5) e = cc
+character_stops (character.Escape escape.Hex6) e = cc
 
 pub character_ends : (cs : List ℕ) → Matches shapes.character cs → NoStopAfter class.Char cs
 character_ends cs h b s =
@@ -63,15 +64,15 @@ string_stops : (q : StringState) → may_be_empty (string_rest q) ≡ true → n
 string_stops string.Start e = cc
 string_stops string.Inside e = cc
 string_stops string.Close e = refl
-string_stops string.Escape e = cc
-string_stops string.EscapeU e = cc
-string_stops string.Hex0 e = cc
-string_stops string.Hex1 e = cc
-string_stops string.Hex2 e = cc
-string_stops string.Hex3 e = cc
-string_stops string.Hex4 e = cc
-string_stops string.Hex5 e = cc
-string_stops string.Hex6 e = cc
+string_stops (string.Escape escape.Backslash) e = cc
+string_stops (string.Escape escape.U) e = cc
+string_stops (string.Escape escape.Hex0) e = cc
+string_stops (string.Escape escape.Hex1) e = cc
+string_stops (string.Escape escape.Hex2) e = cc
+string_stops (string.Escape escape.Hex3) e = cc
+string_stops (string.Escape escape.Hex4) e = cc
+string_stops (string.Escape escape.Hex5) e = cc
+string_stops (string.Escape escape.Hex6) e = cc
 
 pub string_ends : (cs : List ℕ) → Matches shapes.string cs → NoStopAfter class.String cs
 string_ends cs h b s =
