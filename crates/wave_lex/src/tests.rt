@@ -65,6 +65,12 @@ fn tokens(rt: HostRuntime) -> Result<(), Fail> {
         ("'☃' '☃\u{fe0f}'", "Char 0..5, refused 6..14, 14..14"),
         ("'\\u{D800}'", "Char 0..10, 10..10"),
         (
+            "'\\u{1000000}'",
+            "refused 0..1, refused 1..2, LabelOrKeyword 2..3, BraceOpen 3..4, Number 4..11, BraceClose 11..12, refused 12..13, 13..13",
+        ),
+        ("'abcd'", "refused 0..6, 6..6"),
+        ("\"a\\\"b\"", "String 0..6, 6..6"),
+        (
             "a//\r1\nb",
             "LabelOrKeyword 0..1, LabelOrKeyword 6..7, 7..7",
         ),
@@ -129,6 +135,22 @@ fn function_names(rt: HostRuntime) -> Result<(), Fail> {
         last = Some(item);
     }
     assert_eq!(rt; last, Some(Err(3..4)));
+    let rows = [
+        ("wasi:io/read", 12),
+        ("run@0.2.10(", 10),
+        ("file.open", 9),
+        ("f (1)", 1),
+        ("f@1.02.3", 1),
+    ];
+    for (source, end) in rows {
+        let mut names = FuncNameLexer::new(source);
+        assert_eq!(rt;
+            names.next(),
+            Some(Ok(FuncNameToken::FunctionName)),
+            "of {source}"
+        );
+        assert_eq!(rt; names.span(), 0..end, "of {source}");
+    }
     let name = format!(in rt.alloc(); "{}", FuncNameToken::FunctionName)?;
     assert_eq!(rt; name.as_str(), "FunctionName");
     Ok(())
