@@ -11,9 +11,6 @@ use Rattle.wave_wasm.proofs.Writing.{Writing, writing_as}
 field_here : (later : Bool) (name : List ℕ) (v : Value) (fs : List (List ℕ × Value)) → is_no_option v ≡ false → fields_left later ((name, v) ∷ fs) ≡ cond later (codes ", ") (codes "{") ++ (name ++ (codes ": " ++ (text v ++ fields_left true fs)))
 field_here later name v fs h = rw h refl
 
-field_skipped : (later : Bool) (name : List ℕ) (v : Value) (fs : List (List ℕ × Value)) → is_no_option v ≡ true → fields_left later ((name, v) ∷ fs) ≡ fields_left later fs
-field_skipped later name v fs h = rw h refl
-
 -- what is left begins with the next field
 pub writing_field : {X : Type 0} (f : X → List ℕ × Value) (xs : List X) (i : ℕ) (x : X) {whole : List ℕ} (later : Bool) {old now : Output} → i < length xs → x ≡ get_or xs i x → is_no_option (f x).1 ≡ false → Writing whole (fields_left later (map f (drop i xs))) old now → Writing whole (cond later (codes ", ") (codes "{") ++ ((f x).0 ++ (codes ": " ++ (text (f x).1 ++ fields_left true (map f (drop (i + 1) xs)))))) old now
 writing_field f xs i x later lt is some w = writing_as (at_item (λ l. fields_left later (map f l)) xs i x lt is ∙ field_here later (f x).0 (f x).1 (map f (drop (i + 1) xs)) some) w

@@ -1,11 +1,11 @@
 -- The text and the depth of a type, by the lists of its parts.
-use Rattle.std.proofs.Common.{ℕ, suc, ◌≡◌, List, ◌∷◌, ◌++◌, Bool, true, false, refl, sym, ap, ◌∙◌, map, max, codes, Option, Some}
+use Rattle.std.proofs.Common.{ℕ, suc, ◌≡◌, List, ◌∷◌, ◌++◌, Bool, true, false, refl, sym, ap, ◌∙◌, map, max, codes, Option}
 use Rattle.wave_wasm.specs.declared.wasm.WasmTypeKind.{WasmTypeKind}
 use Rattle.wave_wasm.specs.declared.wasm.WasmTypeKind.TheVariants as kinds
 use Rattle.wave_wasm.specs.Types as type
 use Rattle.wave_wasm.specs.Types.{TypeTree, Simple, Types, Fields, Cases, MaybeType, simple_kind, kind_of, maybe_type, type_option, type_list, field_list, case_list, list_part, option_part, map_parts, result_parts, record_parts, tuple_parts, variant_parts, enum_names, flags_names, depth, depth_of_maybe, depth_of_types, depth_of_fields, depth_of_cases}
 use Rattle.wave_wasm.specs.Commas.{behind_name, joined}
-use Rattle.wave_wasm.specs.TypeText.{type_text, type_texts, field_texts, case_texts, payload_text, kind_word, angled, braced}
+use Rattle.wave_wasm.specs.TypeText.{type_text, type_texts, field_texts, case_texts, payload_text, angled, braced}
 use Rattle.wave_wasm.proofs.Sequence.{depths}
 
 -- ---- a simple type is of a kind of simple types
@@ -44,62 +44,7 @@ not_simple S k h e = let t = simple_has_kind S in let s = ap is_simple_kind e in
 
 -- ---- types of one word
 
--- a type of none of these kinds is shown by its kind's word
-pub word_text : (t : TypeTree) → (kind_of t ≡ kinds.List → ⊥) → (kind_of t ≡ kinds.Record → ⊥) → (kind_of t ≡ kinds.Tuple → ⊥) → (kind_of t ≡ kinds.Variant → ⊥) → (kind_of t ≡ kinds.Enum → ⊥) → (kind_of t ≡ kinds.Option → ⊥) → (kind_of t ≡ kinds.Result → ⊥) → (kind_of t ≡ kinds.Flags → ⊥) → (kind_of t ≡ kinds.Map → ⊥) → type_text t ≡ kind_word (kind_of t)
-word_text (type.simple S) a b c d e f g h i = refl
-word_text (type.unreadable kind) a b c d e f g h i = refl
-word_text (type.fixed E n) a b c d e f g h i = refl
-word_text (type.list E) a b c d e f g h i = absurd (a refl)
-word_text (type.record_type fs) a b c d e f g h i = absurd (b refl)
-word_text (type.tuple Ts) a b c d e f g h i = absurd (c refl)
-word_text (type.variant cs) a b c d e f g h i = absurd (d refl)
-word_text (type.enum names) a b c d e f g h i = absurd (e refl)
-word_text (type.option P) a b c d e f g h i = absurd (f refl)
-word_text (type.result A B) a b c d e f g h i = absurd (g refl)
-word_text (type.flags names) a b c d e f g h i = absurd (h refl)
-word_text (type.map K V) a b c d e f g h i = absurd (i refl)
-
 -- ---- types of one or two parts
-
--- a list type is `list<T>` of its part
-pub list_is : (t : TypeTree) (part : Option TypeTree) → kind_of t ≡ kinds.List → part ≡ list_part t → (E : TypeTree) × (part ≡ Some E) × (t ≡ type.list E)
-list_is (type.list E) part k e = (E, e, refl)
-list_is (type.simple S) part k e = absurd (not_simple S kinds.List refl k)
-list_is (type.unreadable type.f32) part k e = absurd (cc)
-list_is (type.unreadable type.f64) part k e = absurd (cc)
-list_is (type.unreadable type.unsupported) part k e = absurd (cc)
-list_is _ part k e = absurd (cc)
-
--- so is an option
-pub option_is : (t : TypeTree) (part : Option TypeTree) → kind_of t ≡ kinds.Option → part ≡ option_part t → (P : TypeTree) × (part ≡ Some P) × (t ≡ type.option P)
-option_is (type.option P) part k e = (P, e, refl)
-option_is (type.simple S) part k e = absurd (not_simple S kinds.Option refl k)
-option_is (type.unreadable type.f32) part k e = absurd (cc)
-option_is (type.unreadable type.f64) part k e = absurd (cc)
-option_is (type.unreadable type.unsupported) part k e = absurd (cc)
-option_is _ part k e = absurd (cc)
-
--- a map type is of its key type and its value type
-pub map_is : (t : TypeTree) (parts : Option (TypeTree × TypeTree)) → kind_of t ≡ kinds.Map → parts ≡ map_parts t → (K : Simple) × (V : TypeTree) × (parts ≡ Some (type.simple K, V)) × (t ≡ type.map K V)
-map_is (type.map K V) parts k e = (K, V, e, refl)
-map_is (type.simple S) parts k e = absurd (not_simple S kinds.Map refl k)
-map_is (type.unreadable type.f32) parts k e = absurd (cc)
-map_is (type.unreadable type.f64) parts k e = absurd (cc)
-map_is (type.unreadable type.unsupported) parts k e = absurd (cc)
-map_is _ parts k e = absurd (cc)
-
--- a result type is of its two payloads
-pub result_is : (t : TypeTree) (parts : Option (Option TypeTree × Option TypeTree)) → kind_of t ≡ kinds.Result → parts ≡ result_parts t → (A B : Option TypeTree) × (parts ≡ Some (A, B)) × (t ≡ type.result (maybe_type A) (maybe_type B))
-result_is (type.result A B) parts k e = (type_option A, type_option B, e, λ i. type.result (sym (back A) i) (sym (back B) i))
-  where
-    back : (A : MaybeType) → maybe_type (type_option A) ≡ A
-    back type.no_type = refl
-    back (type.a_type T) = refl
-result_is (type.simple S) parts k e = absurd (not_simple S kinds.Result refl k)
-result_is (type.unreadable type.f32) parts k e = absurd (cc)
-result_is (type.unreadable type.f64) parts k e = absurd (cc)
-result_is (type.unreadable type.unsupported) parts k e = absurd (cc)
-result_is _ parts k e = absurd (cc)
 
 -- ---- types of many parts
 
@@ -187,21 +132,3 @@ variant_is (type.unreadable type.f32) parts k e = absurd (cc)
 variant_is (type.unreadable type.f64) parts k e = absurd (cc)
 variant_is (type.unreadable type.unsupported) parts k e = absurd (cc)
 variant_is _ parts k e = absurd (cc)
-
--- an enum type
-pub enum_is : (t : TypeTree) (names : List (List ℕ)) → kind_of t ≡ kinds.Enum → names ≡ enum_names t → type_text t ≡ braced (codes "enum") names
-enum_is (type.enum all) names k e = ap (braced (codes "enum")) (sym e)
-enum_is (type.simple S) names k e = absurd (not_simple S kinds.Enum refl k)
-enum_is (type.unreadable type.f32) names k e = absurd (cc)
-enum_is (type.unreadable type.f64) names k e = absurd (cc)
-enum_is (type.unreadable type.unsupported) names k e = absurd (cc)
-enum_is _ names k e = absurd (cc)
-
--- a flags type
-pub flags_is : (t : TypeTree) (names : List (List ℕ)) → kind_of t ≡ kinds.Flags → names ≡ flags_names t → type_text t ≡ braced (codes "flags") names
-flags_is (type.flags all) names k e = ap (braced (codes "flags")) (sym e)
-flags_is (type.simple S) names k e = absurd (not_simple S kinds.Flags refl k)
-flags_is (type.unreadable type.f32) names k e = absurd (cc)
-flags_is (type.unreadable type.f64) names k e = absurd (cc)
-flags_is (type.unreadable type.unsupported) names k e = absurd (cc)
-flags_is _ names k e = absurd (cc)

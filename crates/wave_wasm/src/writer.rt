@@ -103,7 +103,7 @@ impl<W: TextWrite> Writer<W> {
     ghost use Rattle.std.specs.List.{list_all};
     ghost use Rattle.std.specs.Borrow.{Lends, sem};
     ghost use Rattle.wave_wasm.specs.contracts.writer.Writer.{the_row};
-    ghost use Rattle.wave_wasm.specs.Output.{Appended, Refused};
+    ghost use Rattle.wave_wasm.specs.Output.{Appended, Refused, Writes, Refuses};
     ghost use Rattle.wave_wasm.specs.Values.{kind_of, IsLeaf, IsWellFormed, flags_names};
     ghost use Rattle.wave_wasm.specs.Keywords.{case_label};
     ghost use Rattle.wave_wasm.specs.Commas.{comma_if, enclosed};
@@ -162,11 +162,9 @@ impl<W: TextWrite> Writer<W> {
     #[cycle(write)]
     fn write_list<V: WasmValue>(&mut self, alloc: Global, val: &V) -> Result<(), WriterError>
         requires { IsOfListKind (kind_of (V.tree val.now)) }
-        ensures ok { OnOk result
-            (Appended (text (V.tree val.now)) (W.output self.old.out) (W.output self.new.out)) }
+        ensures ok { Writes (text (V.tree val.now)) result (W.output self.old.out) (W.output self.new.out) }
         ensures writable { OnOk result (has_text (V.tree val.now) ≡ true) }
-        ensures err { IfErr result
-            (λ e. Refused (text (V.tree val.now)) (has_text (V.tree val.now)) e (W.output self.old.out) (W.output self.new.out)) }
+        ensures err { Refuses (text (V.tree val.now)) (has_text (V.tree val.now)) result (W.output self.old.out) (W.output self.new.out) }
     {
         let items = val.unwrap_list(alloc)?;
         self.write_items(alloc, "[", &items, "]")
@@ -175,11 +173,9 @@ impl<W: TextWrite> Writer<W> {
     #[cycle(write)]
     fn write_tuple<V: WasmValue>(&mut self, alloc: Global, val: &V) -> Result<(), WriterError>
         requires { kind_of (V.tree val.now) ≡ WasmTypeKind.Tuple }
-        ensures ok { OnOk result
-            (Appended (text (V.tree val.now)) (W.output self.old.out) (W.output self.new.out)) }
+        ensures ok { Writes (text (V.tree val.now)) result (W.output self.old.out) (W.output self.new.out) }
         ensures writable { OnOk result (has_text (V.tree val.now) ≡ true) }
-        ensures err { IfErr result
-            (λ e. Refused (text (V.tree val.now)) (has_text (V.tree val.now)) e (W.output self.old.out) (W.output self.new.out)) }
+        ensures err { Refuses (text (V.tree val.now)) (has_text (V.tree val.now)) result (W.output self.old.out) (W.output self.new.out) }
     {
         let items = val.unwrap_tuple(alloc)?;
         self.write_items(alloc, "(", &items, ")")
@@ -194,11 +190,9 @@ impl<W: TextWrite> Writer<W> {
         items: &Vec<&V>,
         closing: &str,
     ) -> Result<(), WriterError>
-        ensures ok { OnOk result
-            (Appended (enclosed opening.now (map text (shown_all V.tree items.now.items)) closing.now) (W.output self.old.out) (W.output self.new.out)) }
+        ensures ok { Writes (enclosed opening.now (map text (shown_all V.tree items.now.items)) closing.now) result (W.output self.old.out) (W.output self.new.out) }
         ensures writable { OnOk result (list_all has_text (shown_all V.tree items.now.items) ≡ true) }
-        ensures err { IfErr result
-            (λ e. Refused (enclosed opening.now (map text (shown_all V.tree items.now.items)) closing.now) (list_all has_text (shown_all V.tree items.now.items)) e (W.output self.old.out) (W.output self.new.out)) }
+        ensures err { Refuses (enclosed opening.now (map text (shown_all V.tree items.now.items)) closing.now) (list_all has_text (shown_all V.tree items.now.items)) result (W.output self.old.out) (W.output self.new.out) }
     {
         self.write_text(opening)?;
         let mut later = false;
@@ -213,11 +207,9 @@ impl<W: TextWrite> Writer<W> {
     #[cycle(write)]
     fn write_record<V: WasmValue>(&mut self, alloc: Global, val: &V) -> Result<(), WriterError>
         requires { kind_of (V.tree val.now) ≡ WasmTypeKind.Record }
-        ensures ok { OnOk result
-            (Appended (text (V.tree val.now)) (W.output self.old.out) (W.output self.new.out)) }
+        ensures ok { Writes (text (V.tree val.now)) result (W.output self.old.out) (W.output self.new.out) }
         ensures writable { OnOk result (has_text (V.tree val.now) ≡ true) }
-        ensures err { IfErr result
-            (λ e. Refused (text (V.tree val.now)) (has_text (V.tree val.now)) e (W.output self.old.out) (W.output self.new.out)) }
+        ensures err { Refuses (text (V.tree val.now)) (has_text (V.tree val.now)) result (W.output self.old.out) (W.output self.new.out) }
     {
         let fields = val.unwrap_record(alloc)?;
         let mut later = false;
@@ -238,11 +230,9 @@ impl<W: TextWrite> Writer<W> {
     #[cycle(write)]
     fn write_variant<V: WasmValue>(&mut self, alloc: Global, val: &V) -> Result<(), WriterError>
         requires { kind_of (V.tree val.now) ≡ WasmTypeKind.Variant }
-        ensures ok { OnOk result
-            (Appended (text (V.tree val.now)) (W.output self.old.out) (W.output self.new.out)) }
+        ensures ok { Writes (text (V.tree val.now)) result (W.output self.old.out) (W.output self.new.out) }
         ensures writable { OnOk result (has_text (V.tree val.now) ≡ true) }
-        ensures err { IfErr result
-            (λ e. Refused (text (V.tree val.now)) (has_text (V.tree val.now)) e (W.output self.old.out) (W.output self.new.out)) }
+        ensures err { Refuses (text (V.tree val.now)) (has_text (V.tree val.now)) result (W.output self.old.out) (W.output self.new.out) }
     {
         let (case, payload) = val.unwrap_variant();
         self.write_case(case)?;
@@ -252,11 +242,9 @@ impl<W: TextWrite> Writer<W> {
     #[cycle(write)]
     fn write_option<V: WasmValue>(&mut self, alloc: Global, val: &V) -> Result<(), WriterError>
         requires { kind_of (V.tree val.now) ≡ WasmTypeKind.Option }
-        ensures ok { OnOk result
-            (Appended (text (V.tree val.now)) (W.output self.old.out) (W.output self.new.out)) }
+        ensures ok { Writes (text (V.tree val.now)) result (W.output self.old.out) (W.output self.new.out) }
         ensures writable { OnOk result (has_text (V.tree val.now) ≡ true) }
-        ensures err { IfErr result
-            (λ e. Refused (text (V.tree val.now)) (has_text (V.tree val.now)) e (W.output self.old.out) (W.output self.new.out)) }
+        ensures err { Refuses (text (V.tree val.now)) (has_text (V.tree val.now)) result (W.output self.old.out) (W.output self.new.out) }
     {
         match val.unwrap_option() {
             None => self.write_text("none"),
@@ -270,11 +258,9 @@ impl<W: TextWrite> Writer<W> {
     #[cycle(write)]
     fn write_result<V: WasmValue>(&mut self, alloc: Global, val: &V) -> Result<(), WriterError>
         requires { kind_of (V.tree val.now) ≡ WasmTypeKind.Result }
-        ensures ok { OnOk result
-            (Appended (text (V.tree val.now)) (W.output self.old.out) (W.output self.new.out)) }
+        ensures ok { Writes (text (V.tree val.now)) result (W.output self.old.out) (W.output self.new.out) }
         ensures writable { OnOk result (has_text (V.tree val.now) ≡ true) }
-        ensures err { IfErr result
-            (λ e. Refused (text (V.tree val.now)) (has_text (V.tree val.now)) e (W.output self.old.out) (W.output self.new.out)) }
+        ensures err { Refuses (text (V.tree val.now)) (has_text (V.tree val.now)) result (W.output self.old.out) (W.output self.new.out) }
     {
         match val.unwrap_result() {
             Ok(payload) => {
@@ -295,11 +281,9 @@ impl<W: TextWrite> Writer<W> {
         alloc: Global,
         payload: Option<&V>,
     ) -> Result<(), WriterError>
-        ensures ok { OnOk result
-            (Appended (payload_text (shown V.tree payload.entry)) (W.output self.old.out) (W.output self.new.out)) }
+        ensures ok { Writes (payload_text (shown V.tree payload.entry)) result (W.output self.old.out) (W.output self.new.out) }
         ensures writable { OnOk result (has_payload_text (shown V.tree payload.entry) ≡ true) }
-        ensures err { IfErr result
-            (λ e. Refused (payload_text (shown V.tree payload.entry)) (has_payload_text (shown V.tree payload.entry)) e (W.output self.old.out) (W.output self.new.out)) }
+        ensures err { Refuses (payload_text (shown V.tree payload.entry)) (has_payload_text (shown V.tree payload.entry)) result (W.output self.old.out) (W.output self.new.out) }
     {
         match payload {
             None => Ok(()),
@@ -315,11 +299,9 @@ impl<W: TextWrite> Writer<W> {
     fn write_map<V: WasmValue>(&mut self, alloc: Global, val: &V) -> Result<(), WriterError>
         requires kind { kind_of (V.tree val.now) ≡ WasmTypeKind.Map }
         requires formed { IsWellFormed (V.tree val.now) }
-        ensures ok { OnOk result
-            (Appended (text (V.tree val.now)) (W.output self.old.out) (W.output self.new.out)) }
+        ensures ok { Writes (text (V.tree val.now)) result (W.output self.old.out) (W.output self.new.out) }
         ensures writable { OnOk result (has_text (V.tree val.now) ≡ true) }
-        ensures err { IfErr result
-            (λ e. Refused (text (V.tree val.now)) (has_text (V.tree val.now)) e (W.output self.old.out) (W.output self.new.out)) }
+        ensures err { Refuses (text (V.tree val.now)) (has_text (V.tree val.now)) result (W.output self.old.out) (W.output self.new.out) }
     {
         let entries = val.unwrap_map(alloc)?;
         let merged = merge_entries(alloc, &entries)?;
@@ -337,11 +319,9 @@ impl<W: TextWrite> Writer<W> {
 
     fn write_flags<V: WasmValue>(&mut self, alloc: Global, val: &V) -> Result<(), WriterError>
         requires { kind_of (V.tree val.now) ≡ WasmTypeKind.Flags }
-        ensures ok { OnOk result
-            (Appended (text (V.tree val.now)) (W.output self.old.out) (W.output self.new.out)) }
+        ensures ok { Writes (text (V.tree val.now)) result (W.output self.old.out) (W.output self.new.out) }
         ensures writable { OnOk result (has_text (V.tree val.now) ≡ true) }
-        ensures err { IfErr result
-            (λ e. Refused (text (V.tree val.now)) (has_text (V.tree val.now)) e (W.output self.old.out) (W.output self.new.out)) }
+        ensures err { Refuses (text (V.tree val.now)) (has_text (V.tree val.now)) result (W.output self.old.out) (W.output self.new.out) }
     {
         let names = val.unwrap_flags(alloc)?;
         self.write_text("{")?;
@@ -356,10 +336,8 @@ impl<W: TextWrite> Writer<W> {
 
     /// Writes the name of a case, behind a `%` where it is a keyword.
     fn write_case(&mut self, case: &str) -> Result<(), WriterError>
-        ensures ok { OnOk result
-            (Appended (case_label case.now) (W.output self.old.out) (W.output self.new.out)) }
-        ensures err { IfErr result
-            (λ e. Refused (case_label case.now) true e (W.output self.old.out) (W.output self.new.out)) }
+        ensures ok { Writes (case_label case.now) result (W.output self.old.out) (W.output self.new.out) }
+        ensures err { Refuses (case_label case.now) true result (W.output self.old.out) (W.output self.new.out) }
     {
         match Keyword::decode(case) {
             Some(_) => {
@@ -373,10 +351,8 @@ impl<W: TextWrite> Writer<W> {
     /// Writes a value of one token.
     fn write_leaf<V: WasmValue>(&mut self, val: &V) -> Result<(), WriterError>
         requires { IsLeaf (V.tree val.now) }
-        ensures ok { OnOk result
-            (Appended (text (V.tree val.now)) (W.output self.old.out) (W.output self.new.out)) }
-        ensures err { IfErr result
-            (λ e. Refused (text (V.tree val.now)) true e (W.output self.old.out) (W.output self.new.out)) }
+        ensures ok { Writes (text (V.tree val.now)) result (W.output self.old.out) (W.output self.new.out) }
+        ensures err { Refuses (text (V.tree val.now)) true result (W.output self.old.out) (W.output self.new.out) }
     {
         match val.kind() {
             WasmTypeKind::Bool => {
@@ -397,10 +373,8 @@ impl<W: TextWrite> Writer<W> {
     }
 
     fn write_number<N: Integer>(&mut self, number: N) -> Result<(), WriterError>
-        ensures ok { OnOk result
-            (Appended (N.text number) (W.output self.old.out) (W.output self.new.out)) }
-        ensures err { IfErr result
-            (λ e. Refused (N.text number) true e (W.output self.old.out) (W.output self.new.out)) }
+        ensures ok { Writes (N.text number) result (W.output self.old.out) (W.output self.new.out) }
+        ensures err { Refuses (N.text number) true result (W.output self.old.out) (W.output self.new.out) }
     {
         let mut buffer = Buffer::new();
         self.write_text(buffer.format(number))
@@ -408,10 +382,8 @@ impl<W: TextWrite> Writer<W> {
 
     /// Writes a scalar between single quotes.
     fn write_char(&mut self, c: char) -> Result<(), WriterError>
-        ensures ok { OnOk result
-            (Appended (quoted_char c) (W.output self.old.out) (W.output self.new.out)) }
-        ensures err { IfErr result
-            (λ e. Refused (quoted_char c) true e (W.output self.old.out) (W.output self.new.out)) }
+        ensures ok { Writes (quoted_char c) result (W.output self.old.out) (W.output self.new.out) }
+        ensures err { Refuses (quoted_char c) true result (W.output self.old.out) (W.output self.new.out) }
     {
         self.write_text("'")?;
         self.write_scalar(c)?;
@@ -420,10 +392,8 @@ impl<W: TextWrite> Writer<W> {
 
     /// Writes a text between double quotes. The scalars between two escapes are written as one run.
     fn write_string(&mut self, s: &str) -> Result<(), WriterError>
-        ensures ok { OnOk result
-            (Appended (quoted s.now) (W.output self.old.out) (W.output self.new.out)) }
-        ensures err { IfErr result
-            (λ e. Refused (quoted s.now) true e (W.output self.old.out) (W.output self.new.out)) }
+        ensures ok { Writes (quoted s.now) result (W.output self.old.out) (W.output self.new.out) }
+        ensures err { Refuses (quoted s.now) true result (W.output self.old.out) (W.output self.new.out) }
     {
         self.write_text("\"")?;
         let mut start = 0;
@@ -440,9 +410,8 @@ impl<W: TextWrite> Writer<W> {
 
     /// Writes a run, which may be empty.
     fn write_run(&mut self, run: &str) -> Result<(), WriterError>
-        ensures ok { OnOk result (Appended run.now (W.output self.old.out) (W.output self.new.out)) }
-        ensures err { IfErr result
-            (λ e. Refused run.now true e (W.output self.old.out) (W.output self.new.out)) }
+        ensures ok { Writes run.now result (W.output self.old.out) (W.output self.new.out) }
+        ensures err { Refuses run.now true result (W.output self.old.out) (W.output self.new.out) }
     {
         if run.is_empty() {
             Ok(())
@@ -453,10 +422,8 @@ impl<W: TextWrite> Writer<W> {
 
     /// Writes a scalar as it stands between quotes.
     fn write_scalar(&mut self, c: char) -> Result<(), WriterError>
-        ensures ok { OnOk result
-            (Appended (escaped c) (W.output self.old.out) (W.output self.new.out)) }
-        ensures err { IfErr result
-            (λ e. Refused (escaped c) true e (W.output self.old.out) (W.output self.new.out)) }
+        ensures ok { Writes (escaped c) result (W.output self.old.out) (W.output self.new.out) }
+        ensures err { Refuses (escaped c) true result (W.output self.old.out) (W.output self.new.out) }
     {
         match short_escape(c) {
             Some(escape) => self.write_text(escape),
@@ -470,10 +437,8 @@ impl<W: TextWrite> Writer<W> {
 
     /// Writes a scalar by its number, as `\u{h}`.
     fn write_number_escape(&mut self, c: char) -> Result<(), WriterError>
-        ensures ok { OnOk result
-            (Appended (number_escape c) (W.output self.old.out) (W.output self.new.out)) }
-        ensures err { IfErr result
-            (λ e. Refused (number_escape c) true e (W.output self.old.out) (W.output self.new.out)) }
+        ensures ok { Writes (number_escape c) result (W.output self.old.out) (W.output self.new.out) }
+        ensures err { Refuses (number_escape c) true result (W.output self.old.out) (W.output self.new.out) }
     {
         for part in c.escape_unicode() {
             let mut bytes = [0u8; 4];
@@ -483,19 +448,15 @@ impl<W: TextWrite> Writer<W> {
     }
 
     fn write_separator(&mut self, later: bool) -> Result<(), WriterError>
-        ensures ok { OnOk result
-            (Appended (comma_if later) (W.output self.old.out) (W.output self.new.out)) }
-        ensures err { IfErr result
-            (λ e. Refused (comma_if later) true e (W.output self.old.out) (W.output self.new.out)) }
+        ensures ok { Writes (comma_if later) result (W.output self.old.out) (W.output self.new.out) }
+        ensures err { Refuses (comma_if later) true result (W.output self.old.out) (W.output self.new.out) }
     {
         if later { self.write_text(", ") } else { Ok(()) }
     }
 
     fn write_either(&mut self, first: bool, a: &str, b: &str) -> Result<(), WriterError>
-        ensures ok { OnOk result
-            (Appended (if first then a.now else b.now) (W.output self.old.out) (W.output self.new.out)) }
-        ensures err { IfErr result
-            (λ e. Refused (if first then a.now else b.now) true e (W.output self.old.out) (W.output self.new.out)) }
+        ensures ok { Writes (if first then a.now else b.now) result (W.output self.old.out) (W.output self.new.out) }
+        ensures err { Refuses (if first then a.now else b.now) true result (W.output self.old.out) (W.output self.new.out) }
     {
         if first {
             self.write_text(a)
@@ -505,9 +466,8 @@ impl<W: TextWrite> Writer<W> {
     }
 
     fn write_text(&mut self, s: &str) -> Result<(), WriterError>
-        ensures ok { OnOk result (Appended s.now (W.output self.old.out) (W.output self.new.out)) }
-        ensures err { IfErr result
-            (λ e. Refused s.now true e (W.output self.old.out) (W.output self.new.out)) }
+        ensures ok { Writes s.now result (W.output self.old.out) (W.output self.new.out) }
+        ensures err { Refuses s.now true result (W.output self.old.out) (W.output self.new.out) }
     {
         self.out.write_str(s)
     }
