@@ -176,7 +176,7 @@ impl Type {
         }
     }
 
-    /// The list type of this element type.
+    /// The list type of this element type. The only error is want of memory.
     pub fn list(alloc: Global, element: Type) -> Result<Type, AllocError>
         ensures { IfOk result (λ t. t ≡ type.list element) }
     {
@@ -186,7 +186,8 @@ impl Type {
         })
     }
 
-    /// The type of lists of so many elements of this type.
+    /// The type of lists of `count` elements of this type; `count` may be zero. The only error is
+    /// want of memory.
     pub fn fixed_length_list(alloc: Global, element: Type, count: u32) -> Result<Type, AllocError>
         ensures { IfOk result (λ t. t ≡ type.fixed element count) }
     {
@@ -196,7 +197,7 @@ impl Type {
         })
     }
 
-    /// The option type of this payload type.
+    /// The option type of this payload type. The only error is want of memory.
     pub fn option(alloc: Global, some: Type) -> Result<Type, AllocError>
         ensures { IfOk result (λ t. t ≡ type.option some) }
     {
@@ -206,7 +207,8 @@ impl Type {
         })
     }
 
-    /// The result type of these payload types, where there are such.
+    /// The result type of these payload types, where there are such. The only error is want of
+    /// memory.
     pub fn result(alloc: Global, ok: Option<Type>, err: Option<Type>) -> Result<Type, AllocError>
         ensures { IfOk result (λ t. t ≡ type.result (maybe_type ok) (maybe_type err)) }
     {
@@ -217,7 +219,8 @@ impl Type {
         })
     }
 
-    /// The tuple type of these types; none where there is no type.
+    /// The tuple type of these types; none where there is no type. The only error is want of
+    /// memory.
     pub fn tuple(alloc: Global, types: Vec<Type>) -> Result<Option<Type>, AllocError>
         ensures { IfOk result (λ r. r ≡ tuple_type types.items) }
     {
@@ -233,6 +236,7 @@ impl Type {
     }
 
     /// The record type of these fields, by their names and types; none where there is no field.
+    /// Any names are taken: `names_are_labels` tests them. The only error is want of memory.
     pub fn record(alloc: Global, fields: Vec<(&str, Type)>) -> Result<Option<Type>, AllocError>
         ensures { IfOk result (λ r. r ≡ record_type (named fields.entry.items)) }
     {
@@ -251,7 +255,8 @@ impl Type {
     }
 
     /// The variant type of these cases, by their names and payload types; none where there is
-    /// no case.
+    /// no case. Any names are taken: `names_are_labels` tests them. The only error is want of
+    /// memory.
     pub fn variant(
         alloc: Global,
         cases: Vec<(&str, Option<Type>)>,
@@ -272,7 +277,8 @@ impl Type {
         }))
     }
 
-    /// The enum type of these cases; none where there is no case.
+    /// The enum type of these cases; none where there is no case. Any names are taken:
+    /// `names_are_labels` tests them. The only error is want of memory.
     pub fn enum_ty(alloc: Global, cases: &[&str]) -> Result<Option<Type>, AllocError>
         ensures { IfOk result (λ r. r ≡ enum_type (texts cases.now)) }
     {
@@ -284,7 +290,8 @@ impl Type {
         }))
     }
 
-    /// The type of flags of these names; none where there is no name.
+    /// The type of flags of these names; none where there is no name. Any names are taken:
+    /// `names_are_labels` tests them. The only error is want of memory.
     pub fn flags(alloc: Global, names: &[&str]) -> Result<Option<Type>, AllocError>
         ensures { IfOk result (λ r. r ≡ flags_type (texts names.now)) }
     {
@@ -297,7 +304,7 @@ impl Type {
     }
 
     /// The map type of these key and value types; none where the key type isn't `bool`, a
-    /// whole-number type, `char` or `string`.
+    /// whole-number type, `char` or `string`. The only error is want of memory.
     pub fn map(alloc: Global, key: Type, value: Type) -> Result<Option<Type>, AllocError>
         ensures { IfOk result (λ r. r ≡ map_type key value) }
     {
