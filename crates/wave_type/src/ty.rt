@@ -17,8 +17,6 @@ mod labels;
 mod parts;
 pub mod places;
 
-use self::places::is_own;
-
 #[derive(Clone, Copy, PartialEq, Eq, Debug)]
 enum SimpleType {
     Bool,
@@ -180,7 +178,7 @@ impl Type {
     pub fn list(alloc: Global, element: Type) -> Result<Type, AllocError>
         ensures { IfOk result (λ t. t ≡ type.list element) }
     {
-        is_own(&element);
+        let _ = &element.shape;
         Ok(Type {
             shape: Shape::List(Rc::new(alloc, element)?),
         })
@@ -191,7 +189,7 @@ impl Type {
     pub fn fixed_length_list(alloc: Global, element: Type, count: u32) -> Result<Type, AllocError>
         ensures { IfOk result (λ t. t ≡ type.fixed element count) }
     {
-        is_own(&element);
+        let _ = &element.shape;
         Ok(Type {
             shape: Shape::FixedLengthList(Rc::new(alloc, element)?, count),
         })
@@ -201,7 +199,7 @@ impl Type {
     pub fn option(alloc: Global, some: Type) -> Result<Type, AllocError>
         ensures { IfOk result (λ t. t ≡ type.option some) }
     {
-        is_own(&some);
+        let _ = &some.shape;
         Ok(Type {
             shape: Shape::Option(Rc::new(alloc, some)?),
         })
@@ -228,7 +226,7 @@ impl Type {
             return Ok(None);
         }
         for ty in &types {
-            is_own(ty);
+            let _ = &ty.shape;
         }
         Ok(Some(Type {
             shape: Shape::Tuple(Rc::new(alloc, types)?),
@@ -245,7 +243,7 @@ impl Type {
         }
         let mut owned = Vec::new(alloc);
         for (name, ty) in fields {
-            is_own(&ty);
+            let _ = &ty.shape;
             let name = String::from_str(alloc, name)?;
             owned.push((name, ty))?;
         }
@@ -311,7 +309,7 @@ impl Type {
         if !key.is_simple() {
             return Ok(None);
         }
-        is_own(&value);
+        let _ = &value.shape;
         Ok(Some(Type {
             shape: Shape::Map(Rc::new(alloc, (key, value))?),
         }))
@@ -333,7 +331,7 @@ fn payload_is_own(payload: &Option<Type>)
     ensures { every_maybe can_be_made (maybe_type payload.now) ≡ true }
 {
     if let Some(ty) = payload {
-        is_own(ty);
+        let _ = &ty.shape;
     }
 }
 
