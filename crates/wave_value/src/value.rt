@@ -105,22 +105,14 @@ impl Value {
         }
     }
 
-    // Says nothing at run time: each value is one of its own type, which is the tree of a type.
-    pub(crate) fn is_typed(&self)
-        ensures typed { IsTyped self.now }
-        ensures own { IsOwn self.now.own }
-    {
-        let _ = &self.content;
-        is_own(&self.own);
-    }
-
-    /// The value's own type. The value is one of it, and it has a tree of a type.
+    /// The value's own type. The value is one of it, and it has a tree of a type. The only error
+    /// is want of memory.
     pub fn ty(&self) -> Result<Type, AllocError>
         ensures own { IfOk result (λ t. t ≡ self.now.own) }
         ensures typed { IsTyped self.now }
         ensures tree { IsOwn self.now.own }
     {
-        self.is_typed();
+        is_own(&self.own);
         self.own.clone()
     }
 

@@ -28,7 +28,6 @@ impl Value {
     fn is_at(&self, ty: &Type) -> bool
         ensures { Tells result ty.now self.now }
     {
-        let _ = &self.content;
         self.own == *ty
     }
 

@@ -27,7 +27,7 @@ impl ShowsValue for ByText {
     ghost words = { value_text };
 
     fn show(alloc: Global, val: &Value) -> Result<String, AllocError> {
-        val.is_typed();
+        let _ = &val.content;
         match writer::to_string(alloc, val) {
             Ok(text) => Ok(text),
             Err(WriterError::Memory(e)) => Err(e),
