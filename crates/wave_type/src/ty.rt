@@ -17,8 +17,6 @@ mod labels;
 mod parts;
 pub mod places;
 
-use self::places::is_own;
-
 #[derive(Clone, Copy, PartialEq, Eq, Debug)]
 enum SimpleType {
     Bool,
@@ -176,37 +174,39 @@ impl Type {
         }
     }
 
-    /// The list type of this element type.
+    /// The list type of this element type. The only error is want of memory.
     pub fn list(alloc: Global, element: Type) -> Result<Type, AllocError>
         ensures { IfOk result (λ t. t ≡ type.list element) }
     {
-        is_own(&element);
+        let _ = &element.shape;
         Ok(Type {
             shape: Shape::List(Rc::new(alloc, element)?),
         })
     }
 
-    /// The type of lists of so many elements of this type.
+    /// The type of lists of `count` elements of this type; `count` may be zero. The only error is
+    /// want of memory.
     pub fn fixed_length_list(alloc: Global, element: Type, count: u32) -> Result<Type, AllocError>
         ensures { IfOk result (λ t. t ≡ type.fixed element count) }
     {
-        is_own(&element);
+        let _ = &element.shape;
         Ok(Type {
             shape: Shape::FixedLengthList(Rc::new(alloc, element)?, count),
         })
     }
 
-    /// The option type of this payload type.
+    /// The option type of this payload type. The only error is want of memory.
     pub fn option(alloc: Global, some: Type) -> Result<Type, AllocError>
         ensures { IfOk result (λ t. t ≡ type.option some) }
     {
-        is_own(&some);
+        let _ = &some.shape;
         Ok(Type {
             shape: Shape::Option(Rc::new(alloc, some)?),
         })
     }
 
-    /// The result type of these payload types, where there are such.
+    /// The result type of these payload types, where there are such. The only error is want of
+    /// memory.
     pub fn result(alloc: Global, ok: Option<Type>, err: Option<Type>) -> Result<Type, AllocError>
         ensures { IfOk result (λ t. t ≡ type.result (maybe_type ok) (maybe_type err)) }
     {
@@ -217,7 +217,8 @@ impl Type {
         })
     }
 
-    /// The tuple type of these types; none where there is no type.
+    /// The tuple type of these types; none where there is no type. The only error is want of
+    /// memory.
     pub fn tuple(alloc: Global, types: Vec<Type>) -> Result<Option<Type>, AllocError>
         ensures { IfOk result (λ r. r ≡ tuple_type types.items) }
     {
@@ -225,7 +226,7 @@ impl Type {
             return Ok(None);
         }
         for ty in &types {
-            is_own(ty);
+            let _ = &ty.shape;
         }
         Ok(Some(Type {
             shape: Shape::Tuple(Rc::new(alloc, types)?),
@@ -233,6 +234,7 @@ impl Type {
     }
 
     /// The record type of these fields, by their names and types; none where there is no field.
+    /// Any names are taken: `names_are_labels` tests them. The only error is want of memory.
     pub fn record(alloc: Global, fields: Vec<(&str, Type)>) -> Result<Option<Type>, AllocError>
         ensures { IfOk result (λ r. r ≡ record_type (named fields.entry.items)) }
     {
@@ -241,7 +243,7 @@ impl Type {
         }
         let mut owned = Vec::new(alloc);
         for (name, ty) in fields {
-            is_own(&ty);
+            let _ = &ty.shape;
             let name = String::from_str(alloc, name)?;
             owned.push((name, ty))?;
         }
@@ -251,7 +253,8 @@ impl Type {
     }
 
     /// The variant type of these cases, by their names and payload types; none where there is
-    /// no case.
+    /// no case. Any names are taken: `names_are_labels` tests them. The only error is want of
+    /// memory.
     pub fn variant(
         alloc: Global,
         cases: Vec<(&str, Option<Type>)>,
@@ -272,7 +275,8 @@ impl Type {
         }))
     }
 
-    /// The enum type of these cases; none where there is no case.
+    /// The enum type of these cases; none where there is no case. Any names are taken:
+    /// `names_are_labels` tests them. The only error is want of memory.
     pub fn enum_ty(alloc: Global, cases: &[&str]) -> Result<Option<Type>, AllocError>
         ensures { IfOk result (λ r. r ≡ enum_type (texts cases.now)) }
     {
@@ -284,7 +288,8 @@ impl Type {
         }))
     }
 
-    /// The type of flags of these names; none where there is no name.
+    /// The type of flags of these names; none where there is no name. Any names are taken:
+    /// `names_are_labels` tests them. The only error is want of memory.
     pub fn flags(alloc: Global, names: &[&str]) -> Result<Option<Type>, AllocError>
         ensures { IfOk result (λ r. r ≡ flags_type (texts names.now)) }
     {
@@ -297,14 +302,14 @@ impl Type {
     }
 
     /// The map type of these key and value types; none where the key type isn't `bool`, a
-    /// whole-number type, `char` or `string`.
+    /// whole-number type, `char` or `string`. The only error is want of memory.
     pub fn map(alloc: Global, key: Type, value: Type) -> Result<Option<Type>, AllocError>
         ensures { IfOk result (λ r. r ≡ map_type key value) }
     {
         if !key.is_simple() {
             return Ok(None);
         }
-        is_own(&value);
+        let _ = &value.shape;
         Ok(Some(Type {
             shape: Shape::Map(Rc::new(alloc, (key, value))?),
         }))
@@ -326,7 +331,7 @@ fn payload_is_own(payload: &Option<Type>)
     ensures { every_maybe can_be_made (maybe_type payload.now) ≡ true }
 {
     if let Some(ty) = payload {
-        is_own(ty);
+        let _ = &ty.shape;
     }
 }
 

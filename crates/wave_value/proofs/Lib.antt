@@ -13,3 +13,4 @@ pub mod MadeTuple
 pub mod MadeResult
 pub mod MadeRecord
 pub mod LawfulRecord
+pub mod Refusals

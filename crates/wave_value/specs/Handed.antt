@@ -16,7 +16,9 @@ use Rattle.wave_wasm.specs.declared.wasm.WasmValueError.{WasmValueError}
 use Rattle.wave_wasm.specs.declared.wasm.WasmValueError.TheVariants as error
 use Rattle.wave_value.specs.TypedValue.{TypedValue, IsAt}
 use Rattle.wave_value.specs.ValueView.{first_names, trees, beside}
-use Rattle.wave_value.specs.Taken.{Made, TellsKind, TellsOther}
+use Rattle.wave_value.specs.declared.value.refusals.Amiss.{Amiss}
+use Rattle.wave_value.specs.declared.value.refusals.Amiss.TheVariants as amiss
+use Rattle.wave_value.specs.Taken.{SaysCase, SaysMissing, SaysUnexpected, Made, TellsKind, TellsOther}
 
 -- the first of two, where it is there, else the second
 abbrev pub or_else : {A : Type 0} → Option A → Option A → Option A
@@ -100,3 +102,11 @@ abbrev pub SaysUnknownField : List ℕ → WasmValueError → Type 0
 SaysUnknownField name (error.UnknownField n) = string_bytes n ≡ name
 SaysUnknownField name (error.Memory e) = Unit {0}
 SaysUnknownField name _ = ⊥
+
+-- this is amiss with the case or the field of this name
+abbrev pub SaysName : Amiss → List ℕ → WasmValueError → Type 0
+SaysName amiss.UnknownCase = SaysCase
+SaysName amiss.MissingPayload = SaysMissing
+SaysName amiss.UnexpectedPayload = SaysUnexpected
+SaysName amiss.MissingField = SaysMissingField
+SaysName amiss.UnknownField = SaysUnknownField

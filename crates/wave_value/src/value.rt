@@ -105,26 +105,18 @@ impl Value {
         }
     }
 
-    // Says nothing at run time: each value is one of its own type, which is the tree of a type.
-    pub(crate) fn is_typed(&self)
-        ensures typed { IsTyped self.now }
-        ensures own { IsOwn self.now.own }
-    {
-        let _ = &self.content;
-        is_own(&self.own);
-    }
-
-    /// The value's own type. The value is one of it, and it has a tree of a type.
+    /// The value's own type. The value is one of it, and it has a tree of a type. The only error
+    /// is want of memory.
     pub fn ty(&self) -> Result<Type, AllocError>
         ensures own { IfOk result (λ t. t ≡ self.now.own) }
         ensures typed { IsTyped self.now }
         ensures tree { IsOwn self.now.own }
     {
-        self.is_typed();
+        is_own(&self.own);
         self.own.clone()
     }
 
-    /// An equal value.
+    /// An equal value, whose own type is the same. The only error is want of memory.
     #[cycle(clone)]
     pub fn clone(&self, alloc: Global) -> Result<Value, AllocError>
         ensures { IfOk result (λ v. v ≡ self.now) }
@@ -236,7 +228,7 @@ impl Value {
         })
     }
 
-    /// The value of `string`.
+    /// The value of `string`, a copy of this text. It is refused only for want of memory.
     pub fn make_string(alloc: Global, val: &str) -> Result<Value, WasmValueError>
         ensures made { IfOk result (λ v. (v ≡ typed_leaf (value.string val.now)) × IsSound (value.string val.now)) }
         ensures refused { IfErr result IsMemory }
@@ -247,7 +239,7 @@ impl Value {
         })
     }
 
-    /// The bool that the value is. It asks for a value of this kind.
+    /// The bool that the value is. It asks for a value of `bool`.
     pub fn unwrap_bool(&self) -> bool
         requires { kind_of self.now.tree ≡ WasmTypeKind.Bool }
         ensures { self.now.tree ≡ value.leaf (value.bool result) }
@@ -258,7 +250,7 @@ impl Value {
         }
     }
 
-    /// The s8 that the value is. It asks for a value of this kind.
+    /// The number that the value is. It asks for a value of `s8`.
     pub fn unwrap_s8(&self) -> i8
         requires { kind_of self.now.tree ≡ WasmTypeKind.S8 }
         ensures { self.now.tree ≡ value.leaf (value.whole type.s8 result) }
@@ -269,7 +261,7 @@ impl Value {
         }
     }
 
-    /// The s16 that the value is. It asks for a value of this kind.
+    /// The number that the value is. It asks for a value of `s16`.
     pub fn unwrap_s16(&self) -> i16
         requires { kind_of self.now.tree ≡ WasmTypeKind.S16 }
         ensures { self.now.tree ≡ value.leaf (value.whole type.s16 result) }
@@ -280,7 +272,7 @@ impl Value {
         }
     }
 
-    /// The s32 that the value is. It asks for a value of this kind.
+    /// The number that the value is. It asks for a value of `s32`.
     pub fn unwrap_s32(&self) -> i32
         requires { kind_of self.now.tree ≡ WasmTypeKind.S32 }
         ensures { self.now.tree ≡ value.leaf (value.whole type.s32 result) }
@@ -291,7 +283,7 @@ impl Value {
         }
     }
 
-    /// The s64 that the value is. It asks for a value of this kind.
+    /// The number that the value is. It asks for a value of `s64`.
     pub fn unwrap_s64(&self) -> i64
         requires { kind_of self.now.tree ≡ WasmTypeKind.S64 }
         ensures { self.now.tree ≡ value.leaf (value.whole type.s64 result) }
@@ -302,7 +294,7 @@ impl Value {
         }
     }
 
-    /// The u8 that the value is. It asks for a value of this kind.
+    /// The number that the value is. It asks for a value of `u8`.
     pub fn unwrap_u8(&self) -> u8
         requires { kind_of self.now.tree ≡ WasmTypeKind.U8 }
         ensures { self.now.tree ≡ value.leaf (value.whole type.u8 (pos result)) }
@@ -313,7 +305,7 @@ impl Value {
         }
     }
 
-    /// The u16 that the value is. It asks for a value of this kind.
+    /// The number that the value is. It asks for a value of `u16`.
     pub fn unwrap_u16(&self) -> u16
         requires { kind_of self.now.tree ≡ WasmTypeKind.U16 }
         ensures { self.now.tree ≡ value.leaf (value.whole type.u16 (pos result)) }
@@ -324,7 +316,7 @@ impl Value {
         }
     }
 
-    /// The u32 that the value is. It asks for a value of this kind.
+    /// The number that the value is. It asks for a value of `u32`.
     pub fn unwrap_u32(&self) -> u32
         requires { kind_of self.now.tree ≡ WasmTypeKind.U32 }
         ensures { self.now.tree ≡ value.leaf (value.whole type.u32 (pos result)) }
@@ -335,7 +327,7 @@ impl Value {
         }
     }
 
-    /// The u64 that the value is. It asks for a value of this kind.
+    /// The number that the value is. It asks for a value of `u64`.
     pub fn unwrap_u64(&self) -> u64
         requires { kind_of self.now.tree ≡ WasmTypeKind.U64 }
         ensures { self.now.tree ≡ value.leaf (value.whole type.u64 (pos result)) }
@@ -346,7 +338,7 @@ impl Value {
         }
     }
 
-    /// The char that the value is. It asks for a value of this kind.
+    /// The character that the value is. It asks for a value of `char`.
     pub fn unwrap_char(&self) -> char
         requires { kind_of self.now.tree ≡ WasmTypeKind.Char }
         ensures { self.now.tree ≡ value.leaf (value.char result) }
@@ -357,7 +349,7 @@ impl Value {
         }
     }
 
-    /// The string that the value is. It asks for a value of this kind.
+    /// The text that the value is. It asks for a value of `string`.
     pub fn unwrap_string(&self) -> &str
         requires { kind_of self.now.tree ≡ WasmTypeKind.String }
         ensures { self.now.tree ≡ value.leaf (value.string result.now) }

@@ -7,7 +7,6 @@ ghost use Rattle.wave_wasm.specs.TypeText.{kind_word, type_text, type_texts, fie
 ghost use Rattle.wave_type.specs.TypeView.{by_bytes, simple_of};
 ghost use Rattle.wave_type.specs.TypeTexts.{IsShownWhole, TypeTextTells};
 
-use super::places::is_own;
 use super::{Shape, SimpleType, Type};
 use std::fmt::{self, Display};
 
@@ -47,7 +46,7 @@ impl fmt::Display for Type {
         ensures writes { DisplaysOnOk W.write_str_gives f.old result (Some (type_text self.now)) f.new }
         ensures apart { IsShownWhole self.now → TypeTextTells self.now }
     {
-        is_own(self);
+        let _ = &self.shape;
         write_type(f, self)
     }
 }

@@ -6,7 +6,6 @@ ghost use Rattle.wave_lex.specs.Labels.{Good};
 ghost use Rattle.wave_type.specs.TypeView.{by_bytes};
 ghost use Rattle.wave_type.specs.LabelTest.{label_step, is_label, are_label_names, names_pass, types_pass, fields_pass, cases_pass, payload_passes};
 
-use super::places::is_own;
 use super::{Shape, Type};
 
 impl Type {
@@ -16,7 +15,7 @@ impl Type {
         ensures labels { IsTrue result ↔ Good self.now }
         ensures own { IsOwn self.now }
     {
-        is_own(self);
+        let _ = &self.shape;
         names_pass(self)
     }
 }

@@ -9,10 +9,7 @@ ghost use Rattle.wave_wasm.specs.Shown.{shown, named};
 ghost use Rattle.wave_type.specs.TypeView.{by_bytes};
 ghost use Rattle.wave_value.specs.Handed.{held, last_under, TakesRecord, MadeRecord, RefusesRecord, RefusesFields, InOrder};
 
-use super::refusals::{
-    ShowsValue, missing_field, missing_payload, unexpected_payload, unknown_case, unknown_field,
-    wrong_kind, wrong_type,
-};
+use super::refusals::{Amiss, ShowsValue, named, wrong_kind, wrong_type};
 use super::{Content, Type, Value};
 use std::alloc::{AllocError, Global};
 use std::boxed::Box;
@@ -28,7 +25,6 @@ impl Value {
     fn is_at(&self, ty: &Type) -> bool
         ensures { Tells result ty.now self.now }
     {
-        let _ = &self.content;
         self.own == *ty
     }
 
@@ -183,7 +179,7 @@ impl Value {
                     own: ty.clone()?,
                     content: Content::Enum(place),
                 }),
-                None => Err(unknown_case(alloc, case)),
+                None => Err(named(alloc, Amiss::UnknownCase, case)),
             },
             _ => Err(wrong_kind(alloc, WasmTypeKind::Enum, ty)),
         }
@@ -205,10 +201,10 @@ fn boxed_payload<S: ShowsValue>(
     match val {
         None => match stated {
             None => Ok(None),
-            Some(_) => Err(missing_payload(alloc, case)),
+            Some(_) => Err(named(alloc, Amiss::MissingPayload, case)),
         },
         Some(val) => match stated {
-            None => Err(unexpected_payload(alloc, case)),
+            None => Err(named(alloc, Amiss::UnexpectedPayload, case)),
             Some(stated) => {
                 if !val.is_at(stated) {
                     return Err(wrong_type::<S>(alloc, stated, &val));
@@ -247,7 +243,7 @@ fn in_order<S: ShowsValue>(
     for field in stated {
         let name = field.0.as_str();
         let Some(val) = given.remove(name) else {
-            return Err(missing_field(alloc, name));
+            return Err(named(alloc, Amiss::MissingField, name));
         };
         if !val.is_at(&field.1) {
             return Err(wrong_type::<S>(alloc, &field.1, &val));
@@ -255,7 +251,7 @@ fn in_order<S: ShowsValue>(
         vals.push(val)?;
     }
     match given.first_key_value() {
-        Some((name, _)) => Err(unknown_field(alloc, *name)),
+        Some((name, _)) => Err(named(alloc, Amiss::UnknownField, *name)),
         None => Ok(vals),
     }
 }

@@ -1,6 +1,6 @@
 //! Refusals of the makers: their texts, or want of memory where a text can't be made.
-ghost use Rattle.wave_value.specs.Taken.{SaysKind, SaysType, SaysCase, SaysMissing, SaysUnexpected};
-ghost use Rattle.wave_value.specs.Handed.{SaysMissingField, SaysUnknownField};
+ghost use Rattle.wave_value.specs.Taken.{SaysKind, SaysType};
+ghost use Rattle.wave_value.specs.Handed.{SaysName};
 
 use super::{Type, Value};
 use std::alloc::{AllocError, Global};
@@ -27,7 +27,7 @@ impl ShowsValue for ByText {
     ghost words = { value_text };
 
     fn show(alloc: Global, val: &Value) -> Result<String, AllocError> {
-        val.is_typed();
+        let _ = &val.content;
         match writer::to_string(alloc, val) {
             Ok(text) => Ok(text),
             Err(WriterError::Memory(e)) => Err(e),
@@ -73,52 +73,34 @@ pub(super) fn wrong_type<S: ShowsValue>(alloc: Global, ty: &Type, val: &Value) -
     }
 }
 
-// The type has no case of this name.
-pub(super) fn unknown_case(alloc: Global, case: &str) -> WasmValueError
-    ensures { SaysCase case.now result }
-{
-    match String::from_str(alloc, case) {
-        Ok(case) => WasmValueError::UnknownCase(case),
-        Err(e) => WasmValueError::Memory(e),
-    }
+// What is amiss with the case or the field that a refusal names.
+#[derive(Clone, Copy)]
+pub(super) enum Amiss {
+    // The type has no case or flag of this name.
+    UnknownCase,
+    // The payload of this case is missing.
+    MissingPayload,
+    // The case of this name has no payload.
+    UnexpectedPayload,
+    // No value is handed in for the field of this name, or the type has it twice.
+    MissingField,
+    // The type has no field of this name.
+    UnknownField,
 }
 
-// The payload of this name is missing.
-pub(super) fn missing_payload(alloc: Global, case: &str) -> WasmValueError
-    ensures { SaysMissing case.now result }
-{
-    match String::from_str(alloc, case) {
-        Ok(case) => WasmValueError::MissingPayload(case),
-        Err(e) => WasmValueError::Memory(e),
-    }
-}
-
-// The case of this name has no payload.
-pub(super) fn unexpected_payload(alloc: Global, case: &str) -> WasmValueError
-    ensures { SaysUnexpected case.now result }
-{
-    match String::from_str(alloc, case) {
-        Ok(case) => WasmValueError::UnexpectedPayload(case),
-        Err(e) => WasmValueError::Memory(e),
-    }
-}
-
-// No value is handed in for the field of this name, or the type has it twice.
-pub(super) fn missing_field(alloc: Global, name: &str) -> WasmValueError
-    ensures { SaysMissingField name.now result }
+// This is amiss with the case or the field of this name.
+#[tactic(auto, using(crate::proofs::Refusals::memory_said))]
+pub(super) fn named(alloc: Global, amiss: Amiss, name: &str) -> WasmValueError
+    ensures { SaysName amiss name.now result }
 {
     match String::from_str(alloc, name) {
-        Ok(name) => WasmValueError::MissingField(name),
-        Err(e) => WasmValueError::Memory(e),
-    }
-}
-
-// The type has no field of this name.
-pub(super) fn unknown_field(alloc: Global, name: &str) -> WasmValueError
-    ensures { SaysUnknownField name.now result }
-{
-    match String::from_str(alloc, name) {
-        Ok(name) => WasmValueError::UnknownField(name),
+        Ok(name) => match amiss {
+            Amiss::UnknownCase => WasmValueError::UnknownCase(name),
+            Amiss::MissingPayload => WasmValueError::MissingPayload(name),
+            Amiss::UnexpectedPayload => WasmValueError::UnexpectedPayload(name),
+            Amiss::MissingField => WasmValueError::MissingField(name),
+            Amiss::UnknownField => WasmValueError::UnknownField(name),
+        },
         Err(e) => WasmValueError::Memory(e),
     }
 }

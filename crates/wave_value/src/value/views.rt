@@ -14,7 +14,7 @@ use wave_wasm::wasm::WasmTypeKind;
 
 #[tactic(auto, using(crate::proofs::ValueLists::value_families))]
 impl Value {
-    /// The items. It asks for a list.
+    /// The items. It asks for a list. The only error is want of memory.
     pub fn unwrap_list(&self, alloc: Global) -> Result<Vec<&Value>, AllocError>
         requires { IsOfListKind (kind_of self.now.tree) }
         ensures { IfOk result (λ v. shown_all (λ w. w.tree) v.items ≡ list_items self.now.tree) }
@@ -25,7 +25,7 @@ impl Value {
         }
     }
 
-    /// The items. It asks for a tuple.
+    /// The items. It asks for a tuple. The only error is want of memory.
     pub fn unwrap_tuple(&self, alloc: Global) -> Result<Vec<&Value>, AllocError>
         requires { kind_of self.now.tree ≡ WasmTypeKind.Tuple }
         ensures { IfOk result (λ v. shown_all (λ w. w.tree) v.items ≡ tuple_items self.now.tree) }
@@ -36,7 +36,8 @@ impl Value {
         }
     }
 
-    /// The names and values of the fields in the type's order. It asks for a record.
+    /// The names and values of the fields in the type's order. It asks for a record. The only error
+    /// is want of memory.
     pub fn unwrap_record(&self, alloc: Global) -> Result<Vec<(&str, &Value)>, AllocError>
         requires { kind_of self.now.tree ≡ WasmTypeKind.Record }
         ensures { IfOk result (λ v. shown_fields (λ w. w.tree) v.items ≡ record_fields self.now.tree) }
@@ -47,7 +48,7 @@ impl Value {
         }
     }
 
-    /// The entries in their order. It asks for a map.
+    /// The entries in their order. It asks for a map. The only error is want of memory.
     pub fn unwrap_map(&self, alloc: Global) -> Result<Vec<(&Value, &Value)>, AllocError>
         requires { kind_of self.now.tree ≡ WasmTypeKind.Map }
         ensures { IfOk result
@@ -111,7 +112,8 @@ impl Value {
         }
     }
 
-    /// The names of the flags in the type's order. It asks for flags.
+    /// The names of the flags in the type's order. It asks for flags. The only error is want of
+    /// memory.
     pub fn unwrap_flags(&self, alloc: Global) -> Result<Vec<&str>, AllocError>
         requires { kind_of self.now.tree ≡ WasmTypeKind.Flags }
         ensures { IfOk result (λ v. texts v.items ≡ value.flags_names self.now.tree) }

@@ -36,7 +36,7 @@ impl WasmValue for Value {
     ghost full_parts = { full_parts };
 
     fn kind(&self) -> WasmTypeKind {
-        self.is_typed();
+        let _ = &self.content;
         Value::kind(self)
     }
 

@@ -9,7 +9,7 @@ ghost use Rattle.wave_value.specs.ValueView.{Grows, name_at, payload_tree};
 ghost use Rattle.wave_value.specs.Taken.{Made};
 ghost use Rattle.wave_value.specs.TakenCases.{HasKeys, TakesVariant, TakesFlags, RefusesVariant, RefusesNames, RefusesFlags};
 
-use super::super::refusals::{ShowsValue, unknown_case, wrong_kind};
+use super::super::refusals::{Amiss, ShowsValue, named, wrong_kind};
 use super::super::{Content, Type, Value};
 use super::boxed_payload;
 use std::alloc::{AllocError, Global};
@@ -41,7 +41,7 @@ impl Value {
                         Err(e) => Err(e),
                     }
                 }
-                None => Err(unknown_case(alloc, case)),
+                None => Err(named(alloc, Amiss::UnknownCase, case)),
             },
             _ => Err(wrong_kind(alloc, WasmTypeKind::Variant, ty)),
         }
@@ -93,7 +93,7 @@ fn check_names(alloc: Global, all: &[&str], names: &[&str]) -> Result<(), WasmVa
     let known = keys_of(alloc, all)?;
     for name in names {
         if !known.contains_key(*name) {
-            return Err(unknown_case(alloc, *name));
+            return Err(named(alloc, Amiss::UnknownCase, *name));
         }
     }
     Ok(())

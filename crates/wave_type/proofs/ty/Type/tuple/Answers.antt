@@ -1,10 +1,11 @@
+use Rattle.std.proofs.Common.{subst}
 use Rattle.wave_type.proofs.TypeOwn.{tuple_own, not_empty, all_more, all_taken}
 use Rattle.wave_wasm.specs.Types.{IsOwn}
 use Rattle.wave_type.proofs.ty.Type.tuple.Goals as goal
 
 pub loop-ty-preserved : goal.loop-ty-preserved
 loop-ty-preserved c =
-    all_more IsOwn c.deref-ty-items.result.now c.loop-ty.ty-index c.ty-item.result c.loop-ty-test.true c.ty-item.is c.is_own.ensures c.loop-ty.invariant
+    all_more IsOwn c.deref-ty-items.result.now c.loop-ty.ty-index c.ty-item.result c.loop-ty-test.true c.ty-item.is (subst IsOwn c.ty.view_is c.ty.invariant.own) c.loop-ty.invariant
 
 pub invariant_of-result : goal.invariant_of-result
 invariant_of-result c =

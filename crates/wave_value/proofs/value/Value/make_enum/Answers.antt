@@ -9,4 +9,4 @@ pub returns-in_ok-clone-in-Some-clause-taken : goal.returns-in_ok-clone-in-Some-
 returns-in_ok-clone-in-Some-clause-taken c = enum_taken _ _ c.in-Some.place c.in-Some.ensures
 
 pub returns-in-None-clause-refused : goal.returns-in-None-clause-refused
-returns-in-None-clause-refused c = enum_refused _ _ _ c.in-Enum.ensures c.in-None.ensures c.unknown_case.ensures
+returns-in-None-clause-refused c = enum_refused _ _ _ c.in-Enum.ensures c.in-None.ensures c.named.ensures

@@ -16,4 +16,4 @@ pub returns-in-Err-clause-refused : goal.returns-in-Err-clause-refused
 returns-in-Err-clause-refused g c = payload_refused g.S.ShowsValue.words _ _ _ _ _ _ c.in-Variant.ensures c.in-Some.ensures c.variant_case.ensures c.in-Err.ensures.refused
 
 pub returns-in-None-clause-refused : goal.returns-in-None-clause-refused
-returns-in-None-clause-refused g c = unknown g.S.ShowsValue.words _ _ _ _ c.in-Variant.ensures c.in-None.ensures c.unknown_case.ensures
+returns-in-None-clause-refused g c = unknown g.S.ShowsValue.words _ _ _ _ c.in-Variant.ensures c.in-None.ensures c.named.ensures

@@ -7,7 +7,7 @@ use Rattle.wave_value.proofs.value.made.in_order.Goals as goal
 
 pub returns-in_default-clause-refused : goal.returns-in_default-clause-refused
 returns-in_default-clause-refused g c =
-    missing_refused g.S.ShowsValue.words c.deref-field-items.result.now _ c.loop-field.field-index c.field-item.result _ (held c.args.given) (held c.loop-field.given) c.loop-field.vals.items _ c.deref-field-items.ensures.value c.loop-field-test.true c.field-item.is c.as_str-name.ensures.value c.loop-field.invariant (sym c.in_default.ensures.value) c.missing_field.ensures
+    missing_refused g.S.ShowsValue.words c.deref-field-items.result.now _ c.loop-field.field-index c.field-item.result _ (held c.args.given) (held c.loop-field.given) c.loop-field.vals.items _ c.deref-field-items.ensures.value c.loop-field-test.true c.field-item.is c.as_str-name.ensures.value c.loop-field.invariant (sym c.in_default.ensures.value) c.named.ensures
 
 pub returns-then-not-is_at-clause-refused : goal.returns-then-not-is_at-clause-refused
 returns-then-not-is_at-clause-refused g c =
@@ -19,7 +19,7 @@ loop-field-preserved g c =
 
 pub returns-in-Some-first_key_value-clause-refused : goal.returns-in-Some-first_key_value-clause-refused
 returns-in-Some-first_key_value-clause-refused g c =
-    unknown_refused g.S.ShowsValue.words c.deref-field-items.result.now _ c.loop-field.field-index (held c.args.given) (held c.loop-field.given) c.loop-field.vals.items c.in-Some-first_key_value.name.now.now c.in-Some-first_key_value.field-0-1.now _ c.deref-field-items.ensures.value c.loop-field-test.false c.loop-field.invariant c.in-Some-first_key_value.ensures.value c.unknown_field.ensures
+    unknown_refused g.S.ShowsValue.words c.deref-field-items.result.now _ c.loop-field.field-index (held c.args.given) (held c.loop-field.given) c.loop-field.vals.items c.in-Some-first_key_value.name.now.now c.in-Some-first_key_value.field-0-1.now _ c.deref-field-items.ensures.value c.loop-field-test.false c.loop-field.invariant c.in-Some-first_key_value.ensures.value c.named.ensures
 
 pub returns-clause-given : goal.returns-clause-given
 returns-clause-given g c =

@@ -1,6 +1,10 @@
-use Rattle.std.proofs.Common.{rules}
+use Rattle.std.proofs.Common.{rules, subst}
 use Rattle.wave_wasm.proofs.Writable.{only_memory, writes}
+use Rattle.wave_value.specs.TypedValue.{IsTyped}
+use Rattle.wave_value.proofs.ValueMeans.{means}
 use Rattle.wave_value.proofs.value.refusals.ByTextShowsValue.show.Goals as goal
 
 pub unreachable-requires : goal.unreachable-requires
-unreachable-requires c = search (rules, only_memory c.in-Err.field-0 _ (writes _ _ c.is_typed.ensures.typed) c.in-Err.ensures.err)
+unreachable-requires c =
+    let typed = subst IsTyped c.val.view_is (means c.val.inside.own c.val.inside.content c.val.invariant) in
+    search (rules, only_memory c.in-Err.field-0 _ (writes _ _ typed) c.in-Err.ensures.err)

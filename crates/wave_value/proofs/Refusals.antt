@@ -1,0 +1,15 @@
+-- What the refusals say where memory is wanting.
+use Rattle.std.proofs.Common.{ℕ, List}
+use Rattle.std.specs.declared.alloc.AllocError.{AllocError}
+use Rattle.wave_wasm.specs.declared.wasm.WasmValueError.TheVariants as error
+use Rattle.wave_value.specs.declared.value.refusals.Amiss.{Amiss}
+use Rattle.wave_value.specs.declared.value.refusals.Amiss.TheVariants as amiss
+use Rattle.wave_value.specs.Handed.{SaysName}
+
+-- whatever is amiss, want of memory may be told
+pub memory_said : (what : Amiss) (name : List ℕ) (e : AllocError) → SaysName what name (error.Memory e)
+memory_said amiss.UnknownCase name e = tt
+memory_said amiss.MissingPayload name e = tt
+memory_said amiss.UnexpectedPayload name e = tt
+memory_said amiss.MissingField name e = tt
+memory_said amiss.UnknownField name e = tt
