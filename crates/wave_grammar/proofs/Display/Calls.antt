@@ -12,7 +12,7 @@ use Rattle.wave_wasm.specs.Values.{Value}
 use Rattle.wave_lex.specs.declared.machine.name.NameState.{NameState}
 use Rattle.wave_lex.specs.declared.machine.name.NameState.TheVariants.{Label, Version}
 use Rattle.wave_lex.specs.declared.machine.name.Section.TheVariants as section
-use Rattle.wave_lex.specs.declared.machine.name.Word.TheVariants as word
+use Rattle.wave_lex.specs.declared.machine.label.LabelState.TheVariants as label
 use Rattle.wave_lex.specs.declared.machine.name.Component.TheVariants as component
 use Rattle.wave_lex.specs.declared.machine.name.Number.TheVariants as number
 use Rattle.wave_lex.specs.NameMachine.{name_rest, name_step}
@@ -45,26 +45,26 @@ use Rattle.wave_grammar.proofs.Elaboration.Params.{params_to, params_from}
 
 -- no state of a name takes a `(`
 name_stops : (q : NameState) → after 40 (name_rest q) ≡ nothing
-name_stops (Label section.First word.Start) = refl
-name_stops (Label section.First word.Lower) = refl
-name_stops (Label section.First word.Upper) = refl
-name_stops (Label section.First word.Hyphen) = refl
-name_stops (Label section.First word.Digits) = refl
-name_stops (Label section.Namespace word.Start) = refl
-name_stops (Label section.Namespace word.Lower) = refl
-name_stops (Label section.Namespace word.Upper) = refl
-name_stops (Label section.Namespace word.Hyphen) = refl
-name_stops (Label section.Namespace word.Digits) = refl
-name_stops (Label section.Function word.Start) = refl
-name_stops (Label section.Function word.Lower) = refl
-name_stops (Label section.Function word.Upper) = refl
-name_stops (Label section.Function word.Hyphen) = refl
-name_stops (Label section.Function word.Digits) = refl
-name_stops (Label section.Member word.Start) = refl
-name_stops (Label section.Member word.Lower) = refl
-name_stops (Label section.Member word.Upper) = refl
-name_stops (Label section.Member word.Hyphen) = refl
-name_stops (Label section.Member word.Digits) = refl
+name_stops (Label section.First label.Start) = refl
+name_stops (Label section.First label.Lower) = refl
+name_stops (Label section.First label.Upper) = refl
+name_stops (Label section.First label.Hyphen) = refl
+name_stops (Label section.First label.Digits) = refl
+name_stops (Label section.Namespace label.Start) = refl
+name_stops (Label section.Namespace label.Lower) = refl
+name_stops (Label section.Namespace label.Upper) = refl
+name_stops (Label section.Namespace label.Hyphen) = refl
+name_stops (Label section.Namespace label.Digits) = refl
+name_stops (Label section.Function label.Start) = refl
+name_stops (Label section.Function label.Lower) = refl
+name_stops (Label section.Function label.Upper) = refl
+name_stops (Label section.Function label.Hyphen) = refl
+name_stops (Label section.Function label.Digits) = refl
+name_stops (Label section.Member label.Start) = refl
+name_stops (Label section.Member label.Lower) = refl
+name_stops (Label section.Member label.Upper) = refl
+name_stops (Label section.Member label.Hyphen) = refl
+name_stops (Label section.Member label.Digits) = refl
 name_stops (Version component.Major number.Start) = refl
 name_stops (Version component.Major number.Zero) = refl
 name_stops (Version component.Major number.Whole) = refl
@@ -76,7 +76,7 @@ name_stops (Version component.Patch number.Zero) = refl
 name_stops (Version component.Patch number.Whole) = refl
 
 name_ends : (cs : List ℕ) → Matches function_name cs → after 40 (after_all cs function_name) ≡ nothing
-name_ends cs h = let (q, e) = reached NameState name_rest name_step name_steps (Label section.First word.Start) cs h in ap (after 40) e ∙ name_stops q
+name_ends cs h = let (q, e) = reached NameState name_rest name_step name_steps (Label section.First label.Start) cs h in ap (after 40) e ∙ name_stops q
 
 -- a name is the longest before a `(`
 name_there : (cs x r : List ℕ) → encode_utf8_all cs ≡ x → Matches function_name cs → IsName (x ++ 40 ∷ r) (length x)

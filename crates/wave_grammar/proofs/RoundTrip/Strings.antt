@@ -17,6 +17,7 @@ use Rattle.wave_wasm.specs.Text.{escaped, quoted_char, quoted}
 use Rattle.wave_lex.specs.declared.lex.Token.TheVariants as class
 use Rattle.wave_lex.specs.declared.machine.character.CharState.{CharState}
 use Rattle.wave_lex.specs.declared.machine.character.CharState.TheVariants as character
+use Rattle.wave_lex.specs.declared.machine.escape.EscapeState.TheVariants as escape_state
 use Rattle.wave_lex.specs.declared.machine.string.StringState.{StringState}
 use Rattle.wave_lex.specs.declared.machine.string.StringState.TheVariants as string
 use Rattle.wave_lex.specs.Machines.{character_rest, character_step, string_rest, string_step}
@@ -39,19 +40,19 @@ use Rattle.wave_grammar.proofs.RoundTrip.Leaves.{IsWritten, bool_written, whole_
 -- ---- no mark goes on with a char or a string
 
 character_stops : (q : CharState) → may_be_empty (character_rest q) ≡ true → no_stop (character_rest q) ≡ true
-character_stops character.Start e = cc
-character_stops character.Open e = cc
-character_stops character.Filled e = cc
-character_stops character.Close e = refl
-character_stops character.Escape e = cc
-character_stops character.EscapeU e = cc
-character_stops character.Hex0 e = cc
-character_stops character.Hex1 e = cc
-character_stops character.Hex2 e = cc
-character_stops character.Hex3 e = cc
-character_stops character.Hex4 e = cc
-character_stops character.Hex5 e = cc
-character_stops character.Hex6 e = cc
+character_stops character.Start h = cc
+character_stops character.Open h = cc
+character_stops character.Filled h = cc
+character_stops character.Close h = refl
+character_stops (character.Escape escape_state.Backslash) h = cc
+character_stops (character.Escape escape_state.U) h = cc
+character_stops (character.Escape escape_state.Hex0) h = cc
+character_stops (character.Escape escape_state.Hex1) h = cc
+character_stops (character.Escape escape_state.Hex2) h = cc
+character_stops (character.Escape escape_state.Hex3) h = cc
+character_stops (character.Escape escape_state.Hex4) h = cc
+character_stops (character.Escape escape_state.Hex5) h = cc
+character_stops (character.Escape escape_state.Hex6) h = cc
 
 pub character_ends : (cs : List ℕ) → Matches shapes.character cs → NoStopAfter class.Char cs
 character_ends cs h b s =
@@ -60,18 +61,18 @@ character_ends cs h b s =
     ap (after b) e ∙ no_stop_after (character_rest q) (character_stops q last) b s
 
 string_stops : (q : StringState) → may_be_empty (string_rest q) ≡ true → no_stop (string_rest q) ≡ true
-string_stops string.Start e = cc
-string_stops string.Inside e = cc
-string_stops string.Close e = refl
-string_stops string.Escape e = cc
-string_stops string.EscapeU e = cc
-string_stops string.Hex0 e = cc
-string_stops string.Hex1 e = cc
-string_stops string.Hex2 e = cc
-string_stops string.Hex3 e = cc
-string_stops string.Hex4 e = cc
-string_stops string.Hex5 e = cc
-string_stops string.Hex6 e = cc
+string_stops string.Start h = cc
+string_stops string.Inside h = cc
+string_stops string.Close h = refl
+string_stops (string.Escape escape_state.Backslash) h = cc
+string_stops (string.Escape escape_state.U) h = cc
+string_stops (string.Escape escape_state.Hex0) h = cc
+string_stops (string.Escape escape_state.Hex1) h = cc
+string_stops (string.Escape escape_state.Hex2) h = cc
+string_stops (string.Escape escape_state.Hex3) h = cc
+string_stops (string.Escape escape_state.Hex4) h = cc
+string_stops (string.Escape escape_state.Hex5) h = cc
+string_stops (string.Escape escape_state.Hex6) h = cc
 
 pub string_ends : (cs : List ℕ) → Matches shapes.string cs → NoStopAfter class.String cs
 string_ends cs h b s =

@@ -9,10 +9,11 @@ use Rattle.wave_lex.specs.declared.lex.Token.{Token}
 use Rattle.wave_lex.specs.declared.lex.Token.TheVariants.{BraceOpen, BraceClose, ParenOpen, ParenClose, BracketOpen, BracketClose, Colon, Comma, Number, LabelOrKeyword, Char, String, MultilineString}
 use Rattle.wave_lex.specs.declared.machine.number.NumberState.{NumberState}
 use Rattle.wave_lex.specs.declared.machine.number.NumberState.TheVariants as n
-use Rattle.wave_lex.specs.declared.machine.label.LabelState.{LabelState}
 use Rattle.wave_lex.specs.declared.machine.label.LabelState.TheVariants as l
-use Rattle.wave_lex.specs.Machines.{number_rest, number_step, label_rest, label_step}
-use Rattle.wave_lex.proofs.Machines.{number_steps, label_steps}
+use Rattle.wave_lex.specs.declared.machine.label.LabelTokenState.{LabelTokenState}
+use Rattle.wave_lex.specs.declared.machine.label.LabelTokenState.TheVariants as token
+use Rattle.wave_lex.specs.Machines.{number_rest, number_step, label_token_rest, label_token_step}
+use Rattle.wave_lex.proofs.Machines.{number_steps, label_token_steps}
 use Rattle.wave_lex.specs.Regex.{Regex, nothing, empty, Matches, is_one_of}
 use Rattle.wave_lex.specs.Derive.{may_be_empty, after, after_all, after_next}
 use Rattle.wave_lex.specs.Fronts.{IsFront}
@@ -315,16 +316,16 @@ number_ends cs h b s =
     let (q, e) = reached NumberState number_rest number_step number_steps n.Start cs h in
     ap (after b) e ∙ no_stop_after (number_rest q) (number_stops q) b s
 
-label_stops : (q : LabelState) → no_stop (label_rest q) ≡ true
-label_stops l.Start = refl
-label_stops l.Percent = refl
-label_stops l.Lower = refl
-label_stops l.Upper = refl
-label_stops l.Hyphen = refl
-label_stops l.Digits = refl
+label_stops : (q : LabelTokenState) → no_stop (label_token_rest q) ≡ true
+label_stops token.Start = refl
+label_stops (token.Label l.Start) = refl
+label_stops (token.Label l.Lower) = refl
+label_stops (token.Label l.Upper) = refl
+label_stops (token.Label l.Hyphen) = refl
+label_stops (token.Label l.Digits) = refl
 
 -- no mark may follow a label
 pub label_ends : (cs : List ℕ) → Matches label_or_keyword cs → NoStopAfter LabelOrKeyword cs
 label_ends cs h b s =
-    let (q, e) = reached LabelState label_rest label_step label_steps l.Start cs h in
-    ap (after b) e ∙ no_stop_after (label_rest q) (label_stops q) b s
+    let (q, e) = reached LabelTokenState label_token_rest label_token_step label_token_steps token.Start cs h in
+    ap (after b) e ∙ no_stop_after (label_token_rest q) (label_stops q) b s
