@@ -104,7 +104,7 @@ impl Node {
         let mut picked = Vec::new(alloc);
         for name in names {
             if set.contains_key(*name) {
-                self.keep(&mut picked, *name)?;
+                self.push(&mut picked, *name)?;
             }
         }
         Ok(picked)

@@ -49,7 +49,7 @@ impl Node {
                 return Err(nodes[i].too_many());
             }
             let val = nodes[i].to_wasm_value(alloc, &types[i], src)?;
-            self.keep(&mut vals, val)?;
+            self.push(&mut vals, val)?;
         }
         let left = &types[nodes.len()..];
         if !are_options(left) {
@@ -122,7 +122,7 @@ pub(crate) fn push_omitted<V: WasmValue>(
             Ok(val) => val,
             Err(cause) => return Err(ParserError::with_cause(at.start..at.end, cause)),
         };
-        keep_at(vals, val, at.start..at.end)?;
+        push_at(vals, val, at.start..at.end)?;
     }
     Ok(())
 }
@@ -157,8 +157,8 @@ fn none_given(alloc: Global, count: usize, at: Span) -> ParserError
     }
 }
 
-/// One more value, or a refusal for want of memory at `at`.
-fn keep_at<V: Drop>(vals: &mut Vec<V>, val: V, at: Span) -> Result<(), ParserError>
+/// Pushes a value; want of memory is refused at `at`.
+fn push_at<V: Drop>(vals: &mut Vec<V>, val: V, at: Span) -> Result<(), ParserError>
     ensures kept { OnOk result (vals.new.items ≡ vals.old.items ++ val ∷ []) }
     ensures refused { IfErr result (λ e. e.kind ≡ OutOfMemory) }
     ensures place { IfErr result (λ e. e.span ≡ at) }

@@ -57,14 +57,14 @@ impl Node {
     {
         match ty.kind() {
             WasmTypeKind::Bool => self.read_bool(alloc, ty),
-            WasmTypeKind::S8 => self.made(V::make_s8(alloc, self.as_number(src)?)),
-            WasmTypeKind::S16 => self.made(V::make_s16(alloc, self.as_number(src)?)),
-            WasmTypeKind::S32 => self.made(V::make_s32(alloc, self.as_number(src)?)),
-            WasmTypeKind::S64 => self.made(V::make_s64(alloc, self.as_number(src)?)),
-            WasmTypeKind::U8 => self.made(V::make_u8(alloc, self.as_number(src)?)),
-            WasmTypeKind::U16 => self.made(V::make_u16(alloc, self.as_number(src)?)),
-            WasmTypeKind::U32 => self.made(V::make_u32(alloc, self.as_number(src)?)),
-            WasmTypeKind::U64 => self.made(V::make_u64(alloc, self.as_number(src)?)),
+            WasmTypeKind::S8 => self.or_error_here(V::make_s8(alloc, self.as_number(src)?)),
+            WasmTypeKind::S16 => self.or_error_here(V::make_s16(alloc, self.as_number(src)?)),
+            WasmTypeKind::S32 => self.or_error_here(V::make_s32(alloc, self.as_number(src)?)),
+            WasmTypeKind::S64 => self.or_error_here(V::make_s64(alloc, self.as_number(src)?)),
+            WasmTypeKind::U8 => self.or_error_here(V::make_u8(alloc, self.as_number(src)?)),
+            WasmTypeKind::U16 => self.or_error_here(V::make_u16(alloc, self.as_number(src)?)),
+            WasmTypeKind::U32 => self.or_error_here(V::make_u32(alloc, self.as_number(src)?)),
+            WasmTypeKind::U64 => self.or_error_here(V::make_u64(alloc, self.as_number(src)?)),
             WasmTypeKind::Char => self.read_char(alloc, ty, src),
             WasmTypeKind::String => self.read_string(alloc, ty, src),
             WasmTypeKind::List => self.read_list(alloc, ty, src),
@@ -98,9 +98,9 @@ impl Node {
         let mut items = Vec::new(alloc);
         for node in nodes {
             let item = node.read(alloc, element, src)?;
-            self.keep(&mut items, item)?;
+            self.push(&mut items, item)?;
         }
-        self.made(V::make_list(alloc, ty, items))
+        self.or_error_here(V::make_list(alloc, ty, items))
     }
 
     /// A record: each field of the type, in the type's order, read from the entry of its name.
@@ -133,7 +133,7 @@ impl Node {
         if !nodes.is_empty() {
             return Err(self.error(ParserErrorKind::InvalidValue));
         }
-        self.made(V::make_record(alloc, ty, fields))
+        self.or_error_here(V::make_record(alloc, ty, fields))
     }
 
     /// The value of the record's field of this name: that of its node, or `none` where an option is
@@ -168,7 +168,7 @@ impl Node {
         ensures within { IfErr result (IsAtNode self.now) }
     {
         match ty.kind() {
-            WasmTypeKind::Option => self.made(V::make_option(alloc, ty, None)),
+            WasmTypeKind::Option => self.or_error_here(V::make_option(alloc, ty, None)),
             _ => Err(self.missing_field(alloc, name)),
         }
     }
@@ -197,9 +197,9 @@ impl Node {
         let mut items = Vec::new(alloc);
         for i in 0..nodes.len() {
             let item = nodes[i].read(alloc, types[i], src)?;
-            self.keep(&mut items, item)?;
+            self.push(&mut items, item)?;
         }
-        self.made(V::make_tuple(alloc, ty, items))
+        self.or_error_here(V::make_tuple(alloc, ty, items))
     }
 
     /// A map: every entry is read, then they are merged.
@@ -221,10 +221,10 @@ impl Node {
         'entries: while let Some((key, node)) = nodes.next() {
             let key = key.read_key(alloc, key_type, src)?;
             let val = node.read(alloc, value_type, src)?;
-            self.keep(&mut entries, (key, val))?;
+            self.push(&mut entries, (key, val))?;
         }
         match merged(alloc, entries) {
-            Ok(entries) => self.made(V::make_map(alloc, ty, entries)),
+            Ok(entries) => self.or_error_here(V::make_map(alloc, ty, entries)),
             Err(_) => Err(self.out_of_memory()),
         }
     }
@@ -242,12 +242,13 @@ impl Node {
     {
         match self.read_plain_key(alloc, ty, src) {
             Ok(key) => Ok(key),
-            Err(error) => Err(self.told_label(alloc, ty, error)),
+            Err(error) => Err(self.with_key_detail(alloc, ty, error)),
         }
     }
 
-    /// The refusal of a key; where the key is a label, with the type of the key that is due.
-    fn told_label<T: WasmType>(&self, alloc: Global, ty: &T, error: ParserError) -> ParserError
+    /// The refusal of a key; where the key is a label, with a detail that says the type of the key
+    /// that is due.
+    fn with_key_detail<T: WasmType>(&self, alloc: Global, ty: &T, error: ParserError) -> ParserError
         ensures { (result.kind ≡ OutOfMemory) × (result.span ≡ place_of self.now) ⊎ (refusal_of result ≡ refusal_of error) × (result.span ≡ error.span) }
     {
         if error.kind() != ParserErrorKind::InvalidType
@@ -277,16 +278,16 @@ impl Node {
         ensures within { IfErr result (StandsIn self.now) }
     {
         match ty.kind() {
-            WasmTypeKind::Bool => self.made(V::make_bool(alloc, self.as_bool_key(src)?)),
-            WasmTypeKind::S8 => self.made(V::make_s8(alloc, self.as_number(src)?)),
-            WasmTypeKind::S16 => self.made(V::make_s16(alloc, self.as_number(src)?)),
-            WasmTypeKind::S32 => self.made(V::make_s32(alloc, self.as_number(src)?)),
-            WasmTypeKind::S64 => self.made(V::make_s64(alloc, self.as_number(src)?)),
-            WasmTypeKind::U8 => self.made(V::make_u8(alloc, self.as_number(src)?)),
-            WasmTypeKind::U16 => self.made(V::make_u16(alloc, self.as_number(src)?)),
-            WasmTypeKind::U32 => self.made(V::make_u32(alloc, self.as_number(src)?)),
-            WasmTypeKind::U64 => self.made(V::make_u64(alloc, self.as_number(src)?)),
-            WasmTypeKind::Char => self.made(V::make_char(alloc, self.as_char(src)?)),
+            WasmTypeKind::Bool => self.or_error_here(V::make_bool(alloc, self.as_bool_key(src)?)),
+            WasmTypeKind::S8 => self.or_error_here(V::make_s8(alloc, self.as_number(src)?)),
+            WasmTypeKind::S16 => self.or_error_here(V::make_s16(alloc, self.as_number(src)?)),
+            WasmTypeKind::S32 => self.or_error_here(V::make_s32(alloc, self.as_number(src)?)),
+            WasmTypeKind::S64 => self.or_error_here(V::make_s64(alloc, self.as_number(src)?)),
+            WasmTypeKind::U8 => self.or_error_here(V::make_u8(alloc, self.as_number(src)?)),
+            WasmTypeKind::U16 => self.or_error_here(V::make_u16(alloc, self.as_number(src)?)),
+            WasmTypeKind::U32 => self.or_error_here(V::make_u32(alloc, self.as_number(src)?)),
+            WasmTypeKind::U64 => self.or_error_here(V::make_u64(alloc, self.as_number(src)?)),
+            WasmTypeKind::Char => self.or_error_here(V::make_char(alloc, self.as_char(src)?)),
             WasmTypeKind::String => self.read_string_key(alloc, ty, src),
             kind => Err(self.unsupported(alloc, kind)),
         }
@@ -323,17 +324,17 @@ impl Node {
     {
         let payload = ty.option_some_type().unwrap();
         match self.as_option() {
-            Ok(None) => self.made(V::make_option(alloc, ty, None)),
+            Ok(None) => self.or_error_here(V::make_option(alloc, ty, None)),
             Ok(Some(node)) => {
                 let val = node.read(alloc, payload, src)?;
-                self.made(V::make_option(alloc, ty, Some(val)))
+                self.or_error_here(V::make_option(alloc, ty, Some(val)))
             }
             Err(error) => {
                 if !is_flat(payload.kind()) {
                     return Err(error);
                 }
                 let flat = self.read(alloc, payload, src)?;
-                self.made(V::make_option(alloc, ty, Some(flat)))
+                self.or_error_here(V::make_option(alloc, ty, Some(flat)))
             }
         }
     }
@@ -355,11 +356,11 @@ impl Node {
         match self.as_result() {
             Ok(Ok(node)) => {
                 let val = self.read_payload(alloc, "ok", ok, node, src)?;
-                self.made(V::make_result(alloc, ty, Ok(val)))
+                self.or_error_here(V::make_result(alloc, ty, Ok(val)))
             }
             Ok(Err(node)) => {
                 let val = self.read_payload(alloc, "err", err, node, src)?;
-                self.made(V::make_result(alloc, ty, Err(val)))
+                self.or_error_here(V::make_result(alloc, ty, Err(val)))
             }
             Err(error) => {
                 let payload = match flat_type(ok) {
@@ -367,7 +368,7 @@ impl Node {
                     None => return Err(error),
                 };
                 let flat = self.read(alloc, payload, src)?;
-                self.made(V::make_result(alloc, ty, Ok(Some(flat))))
+                self.or_error_here(V::make_result(alloc, ty, Ok(Some(flat))))
             }
         }
     }
@@ -393,7 +394,7 @@ impl Node {
         match case_payload(&cases, name) {
             Some(payload) => {
                 let val = self.read_payload(alloc, name, payload, node, src)?;
-                self.made(V::make_variant(alloc, ty, name, val))
+                self.or_error_here(V::make_variant(alloc, ty, name, val))
             }
             None => Err(self.unknown_case(alloc, name)),
         }
@@ -448,7 +449,7 @@ impl Node {
         if !is_among(&cases, name) {
             return Err(self.unknown_case(alloc, name));
         }
-        self.made(V::make_enum(alloc, ty, name))
+        self.or_error_here(V::make_enum(alloc, ty, name))
     }
 
     /// A char.
@@ -464,7 +465,7 @@ impl Node {
         ensures within { IfErr result (StandsIn self.now) }
     {
         let val = self.as_char(src)?;
-        self.made(V::make_char(alloc, val))
+        self.or_error_here(V::make_char(alloc, val))
     }
 
     /// Flags: some of the type's names.
@@ -485,7 +486,7 @@ impl Node {
         };
         let flags = self.flags_of(alloc, &names, src)?;
         let picked = self.picked(alloc, &names, &flags)?;
-        self.made(V::make_flags(alloc, ty, picked.as_slice()))
+        self.or_error_here(V::make_flags(alloc, ty, picked.as_slice()))
     }
 
     /// A string.
@@ -511,7 +512,7 @@ impl Node {
         ensures within { IfErr result (IsAtNode self.now) }
     {
         let val = self.as_bool()?;
-        self.made(V::make_bool(alloc, val))
+        self.or_error_here(V::make_bool(alloc, val))
     }
 
     /// The string of this text, which is not copied before the maker is called.
@@ -519,13 +520,13 @@ impl Node {
         ensures { IsLeafMade V.tree V.is_of V.is_full (value.string (cow_str_bytes val.entry)) self.now result }
     {
         match val {
-            CowStr::Borrowed(text) => self.made(V::make_string(alloc, text)),
-            CowStr::Owned(text) => self.made(V::make_string(alloc, text.as_str())),
+            CowStr::Borrowed(text) => self.or_error_here(V::make_string(alloc, text)),
+            CowStr::Owned(text) => self.or_error_here(V::make_string(alloc, text.as_str())),
         }
     }
 
-    /// The value that was made, or its maker's refusal at the node.
-    fn made<V>(&self, made: Result<V, WasmValueError>) -> Result<V, ParserError>
+    /// The value that was made, or its maker's refusal as an error at the node.
+    fn or_error_here<V>(&self, made: Result<V, WasmValueError>) -> Result<V, ParserError>
         ensures { IsMade self.now made result }
     {
         match made {
@@ -534,8 +535,8 @@ impl Node {
         }
     }
 
-    /// One more value that was read within the node.
-    pub(crate) fn keep<V: Drop>(&self, items: &mut Vec<V>, item: V) -> Result<(), ParserError>
+    /// Pushes a value; want of memory is refused at the node.
+    pub(crate) fn push<V: Drop>(&self, items: &mut Vec<V>, item: V) -> Result<(), ParserError>
         ensures kept { OnOk result (items.new.items ≡ items.old.items ++ item ∷ []) }
         ensures refused { IfErr result (λ e. e.kind ≡ OutOfMemory) }
         ensures place { IfErr result (λ e. e.span ≡ place_of self.now) }

@@ -22,11 +22,11 @@ loop-ty-preserved g c = λ distinct.
     let T = g.V.Type.WasmType.tree c.ty-item.result in
     let here = map_has g.V.Type.WasmType.tree c.args.types.now i c.ty-item.result (place_has c.args.types.now i c.ty-item.result c.loop-ty-test.true c.ty-item.is) in
     let (others, is, omitted, are) = c.loop-ty.invariant distinct in
-    omitted_more g.V.WasmValue.tree g.V.WasmValue.is_of g.V.WasmValue.is_full Ts c.args.vals.now.items others i T c.in-Ok.val c.loop-ty.vals.items c.keep_at.new.vals.items here (all_has IsOption Ts i T c.requires here) (c.in-Ok.ensures.made (all_has HasDistinctNames Ts i T distinct here)) is c.in_ok-keep_at.ensures.kept omitted are
+    omitted_more g.V.WasmValue.tree g.V.WasmValue.is_of g.V.WasmValue.is_full Ts c.args.vals.now.items others i T c.in-Ok.val c.loop-ty.vals.items c.push_at.new.vals.items here (all_has IsOption Ts i T c.requires here) (c.in-Ok.ensures.made (all_has HasDistinctNames Ts i T distinct here)) is c.in_ok-push_at.ensures.kept omitted are
 
 pub returns-in-Err-clause-within : goal.returns-in-Err-clause-within
 returns-in-Err-clause-within g c = (c.with_cause.ensures.span, made_cause c.in-Err.cause c.with_cause.result c.with_cause.ensures.refusal)
 
-pub returns-in_err-keep_at-clause-within : goal.returns-in_err-keep_at-clause-within
-returns-in_err-keep_at-clause-within g c =
-    error_handed (IsAtPlace c.args.at) c.from_residual.result c.in_err-keep_at.field-0.0 c.from_residual.ensures.1 (memory_at c.args.at c.in_err-keep_at.field-0.0 c.in_err-keep_at.ensures.refused c.in_err-keep_at.ensures.place)
+pub returns-in_err-push_at-clause-within : goal.returns-in_err-push_at-clause-within
+returns-in_err-push_at-clause-within g c =
+    error_handed (IsAtPlace c.args.at) c.from_residual.result c.in_err-push_at.field-0.0 c.from_residual.ensures.1 (memory_at c.args.at c.in_err-push_at.field-0.0 c.in_err-push_at.ensures.refused c.in_err-push_at.ensures.place)

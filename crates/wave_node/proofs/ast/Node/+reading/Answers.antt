@@ -55,7 +55,7 @@ read-returns-in_err-as_number-in-S8-clause-answer g m c = λ t is distinct.
 pub read-returns-in_ok-as_number-in-S8-clause-answer : goal.read-returns-in_ok-as_number-in-S8-clause-answer
 read-returns-in_ok-as_number-in-S8-clause-answer g m c = λ t is distinct.
     let fits : FitsSigned w8 c.in_ok-as_number-in-S8.field-0 = search rules in
-    leaf_made g.V.WasmValue.tree g.V.WasmValue.is_of g.V.WasmValue.is_full _ t c.args.self.now (value.whole type.s8 (to_z w8 (of_z w8 c.in_ok-as_number-in-S8.field-0))) c.make_s8.result c.made.result (simple_is (type.whole type.s8) _ c.in-S8.ensures) (number_kept type.s8 t (to_z w8 (of_z w8 c.in_ok-as_number-in-S8.field-0)) c.in_ok-as_number-in-S8.field-0 (to_z-of_z w8 c.in_ok-as_number-in-S8.field-0 fits) (number_read type.s8 c.args.src.now c.args.self.now t c.in_ok-as_number-in-S8.field-0 is.0 c.in_ok-as_number-in-S8.ensures.0 c.in_ok-as_number-in-S8.ensures.1)) c.make_s8.ensures.made c.make_s8.ensures.full c.made.ensures
+    leaf_made g.V.WasmValue.tree g.V.WasmValue.is_of g.V.WasmValue.is_full _ t c.args.self.now (value.whole type.s8 (to_z w8 (of_z w8 c.in_ok-as_number-in-S8.field-0))) c.make_s8.result c.or_error_here.result (simple_is (type.whole type.s8) _ c.in-S8.ensures) (number_kept type.s8 t (to_z w8 (of_z w8 c.in_ok-as_number-in-S8.field-0)) c.in_ok-as_number-in-S8.field-0 (to_z-of_z w8 c.in_ok-as_number-in-S8.field-0 fits) (number_read type.s8 c.args.src.now c.args.self.now t c.in_ok-as_number-in-S8.field-0 is.0 c.in_ok-as_number-in-S8.ensures.0 c.in_ok-as_number-in-S8.ensures.1)) c.make_s8.ensures.made c.make_s8.ensures.full c.or_error_here.ensures
 
 pub read-returns-in_err-as_number-in-S16-clause-answer : goal.read-returns-in_err-as_number-in-S16-clause-answer
 read-returns-in_err-as_number-in-S16-clause-answer g m c = λ t is distinct.
@@ -64,7 +64,7 @@ read-returns-in_err-as_number-in-S16-clause-answer g m c = λ t is distinct.
 pub read-returns-in_ok-as_number-in-S16-clause-answer : goal.read-returns-in_ok-as_number-in-S16-clause-answer
 read-returns-in_ok-as_number-in-S16-clause-answer g m c = λ t is distinct.
     let fits : FitsSigned w16 c.in_ok-as_number-in-S16.field-0 = search rules in
-    leaf_made g.V.WasmValue.tree g.V.WasmValue.is_of g.V.WasmValue.is_full _ t c.args.self.now (value.whole type.s16 (to_z w16 (of_z w16 c.in_ok-as_number-in-S16.field-0))) c.make_s16.result c.made-in-S16.result (simple_is (type.whole type.s16) _ c.in-S16.ensures) (number_kept type.s16 t (to_z w16 (of_z w16 c.in_ok-as_number-in-S16.field-0)) c.in_ok-as_number-in-S16.field-0 (to_z-of_z w16 c.in_ok-as_number-in-S16.field-0 fits) (number_read type.s16 c.args.src.now c.args.self.now t c.in_ok-as_number-in-S16.field-0 is.0 c.in_ok-as_number-in-S16.ensures.0 c.in_ok-as_number-in-S16.ensures.1)) c.make_s16.ensures.made c.make_s16.ensures.full c.made-in-S16.ensures
+    leaf_made g.V.WasmValue.tree g.V.WasmValue.is_of g.V.WasmValue.is_full _ t c.args.self.now (value.whole type.s16 (to_z w16 (of_z w16 c.in_ok-as_number-in-S16.field-0))) c.make_s16.result c.or_error_here-in-S16.result (simple_is (type.whole type.s16) _ c.in-S16.ensures) (number_kept type.s16 t (to_z w16 (of_z w16 c.in_ok-as_number-in-S16.field-0)) c.in_ok-as_number-in-S16.field-0 (to_z-of_z w16 c.in_ok-as_number-in-S16.field-0 fits) (number_read type.s16 c.args.src.now c.args.self.now t c.in_ok-as_number-in-S16.field-0 is.0 c.in_ok-as_number-in-S16.ensures.0 c.in_ok-as_number-in-S16.ensures.1)) c.make_s16.ensures.made c.make_s16.ensures.full c.or_error_here-in-S16.ensures
 
 pub read-returns-in_err-as_number-in-S32-clause-answer : goal.read-returns-in_err-as_number-in-S32-clause-answer
 read-returns-in_err-as_number-in-S32-clause-answer g m c = λ t is distinct.
@@ -73,7 +73,7 @@ read-returns-in_err-as_number-in-S32-clause-answer g m c = λ t is distinct.
 pub read-returns-in_ok-as_number-in-S32-clause-answer : goal.read-returns-in_ok-as_number-in-S32-clause-answer
 read-returns-in_ok-as_number-in-S32-clause-answer g m c = λ t is distinct.
     let fits : FitsSigned w32 c.in_ok-as_number-in-S32.field-0 = search rules in
-    leaf_made g.V.WasmValue.tree g.V.WasmValue.is_of g.V.WasmValue.is_full _ t c.args.self.now (value.whole type.s32 (to_z w32 (of_z w32 c.in_ok-as_number-in-S32.field-0))) c.make_s32.result c.made-in-S32.result (simple_is (type.whole type.s32) _ c.in-S32.ensures) (number_kept type.s32 t (to_z w32 (of_z w32 c.in_ok-as_number-in-S32.field-0)) c.in_ok-as_number-in-S32.field-0 (to_z-of_z w32 c.in_ok-as_number-in-S32.field-0 fits) (number_read type.s32 c.args.src.now c.args.self.now t c.in_ok-as_number-in-S32.field-0 is.0 c.in_ok-as_number-in-S32.ensures.0 c.in_ok-as_number-in-S32.ensures.1)) c.make_s32.ensures.made c.make_s32.ensures.full c.made-in-S32.ensures
+    leaf_made g.V.WasmValue.tree g.V.WasmValue.is_of g.V.WasmValue.is_full _ t c.args.self.now (value.whole type.s32 (to_z w32 (of_z w32 c.in_ok-as_number-in-S32.field-0))) c.make_s32.result c.or_error_here-in-S32.result (simple_is (type.whole type.s32) _ c.in-S32.ensures) (number_kept type.s32 t (to_z w32 (of_z w32 c.in_ok-as_number-in-S32.field-0)) c.in_ok-as_number-in-S32.field-0 (to_z-of_z w32 c.in_ok-as_number-in-S32.field-0 fits) (number_read type.s32 c.args.src.now c.args.self.now t c.in_ok-as_number-in-S32.field-0 is.0 c.in_ok-as_number-in-S32.ensures.0 c.in_ok-as_number-in-S32.ensures.1)) c.make_s32.ensures.made c.make_s32.ensures.full c.or_error_here-in-S32.ensures
 
 pub read-returns-in_err-as_number-in-S64-clause-answer : goal.read-returns-in_err-as_number-in-S64-clause-answer
 read-returns-in_err-as_number-in-S64-clause-answer g m c = λ t is distinct.
@@ -82,7 +82,7 @@ read-returns-in_err-as_number-in-S64-clause-answer g m c = λ t is distinct.
 pub read-returns-in_ok-as_number-in-S64-clause-answer : goal.read-returns-in_ok-as_number-in-S64-clause-answer
 read-returns-in_ok-as_number-in-S64-clause-answer g m c = λ t is distinct.
     let fits : FitsSigned w64 c.in_ok-as_number-in-S64.field-0 = search rules in
-    leaf_made g.V.WasmValue.tree g.V.WasmValue.is_of g.V.WasmValue.is_full _ t c.args.self.now (value.whole type.s64 (to_z w64 (of_z w64 c.in_ok-as_number-in-S64.field-0))) c.make_s64.result c.made-in-S64.result (simple_is (type.whole type.s64) _ c.in-S64.ensures) (number_kept type.s64 t (to_z w64 (of_z w64 c.in_ok-as_number-in-S64.field-0)) c.in_ok-as_number-in-S64.field-0 (to_z-of_z w64 c.in_ok-as_number-in-S64.field-0 fits) (number_read type.s64 c.args.src.now c.args.self.now t c.in_ok-as_number-in-S64.field-0 is.0 c.in_ok-as_number-in-S64.ensures.0 c.in_ok-as_number-in-S64.ensures.1)) c.make_s64.ensures.made c.make_s64.ensures.full c.made-in-S64.ensures
+    leaf_made g.V.WasmValue.tree g.V.WasmValue.is_of g.V.WasmValue.is_full _ t c.args.self.now (value.whole type.s64 (to_z w64 (of_z w64 c.in_ok-as_number-in-S64.field-0))) c.make_s64.result c.or_error_here-in-S64.result (simple_is (type.whole type.s64) _ c.in-S64.ensures) (number_kept type.s64 t (to_z w64 (of_z w64 c.in_ok-as_number-in-S64.field-0)) c.in_ok-as_number-in-S64.field-0 (to_z-of_z w64 c.in_ok-as_number-in-S64.field-0 fits) (number_read type.s64 c.args.src.now c.args.self.now t c.in_ok-as_number-in-S64.field-0 is.0 c.in_ok-as_number-in-S64.ensures.0 c.in_ok-as_number-in-S64.ensures.1)) c.make_s64.ensures.made c.make_s64.ensures.full c.or_error_here-in-S64.ensures
 
 pub read-returns-in_err-as_number-in-U8-clause-answer : goal.read-returns-in_err-as_number-in-U8-clause-answer
 read-returns-in_err-as_number-in-U8-clause-answer g m c = λ t is distinct.
@@ -90,7 +90,7 @@ read-returns-in_err-as_number-in-U8-clause-answer g m c = λ t is distinct.
 
 pub read-returns-in_ok-as_number-in-U8-clause-answer : goal.read-returns-in_ok-as_number-in-U8-clause-answer
 read-returns-in_ok-as_number-in-U8-clause-answer g m c = λ t is distinct.
-    leaf_made g.V.WasmValue.tree g.V.WasmValue.is_of g.V.WasmValue.is_full _ t c.args.self.now (value.whole type.u8 (pos c.in_ok-as_number-in-U8.field-0)) c.make_u8.result c.made-in-U8.result (simple_is (type.whole type.u8) _ c.in-U8.ensures) (number_read type.u8 c.args.src.now c.args.self.now t (pos c.in_ok-as_number-in-U8.field-0) is.0 c.in_ok-as_number-in-U8.ensures.0 c.in_ok-as_number-in-U8.ensures.1) c.make_u8.ensures.made c.make_u8.ensures.full c.made-in-U8.ensures
+    leaf_made g.V.WasmValue.tree g.V.WasmValue.is_of g.V.WasmValue.is_full _ t c.args.self.now (value.whole type.u8 (pos c.in_ok-as_number-in-U8.field-0)) c.make_u8.result c.or_error_here-in-U8.result (simple_is (type.whole type.u8) _ c.in-U8.ensures) (number_read type.u8 c.args.src.now c.args.self.now t (pos c.in_ok-as_number-in-U8.field-0) is.0 c.in_ok-as_number-in-U8.ensures.0 c.in_ok-as_number-in-U8.ensures.1) c.make_u8.ensures.made c.make_u8.ensures.full c.or_error_here-in-U8.ensures
 
 pub read-returns-in_err-as_number-in-U16-clause-answer : goal.read-returns-in_err-as_number-in-U16-clause-answer
 read-returns-in_err-as_number-in-U16-clause-answer g m c = λ t is distinct.
@@ -98,7 +98,7 @@ read-returns-in_err-as_number-in-U16-clause-answer g m c = λ t is distinct.
 
 pub read-returns-in_ok-as_number-in-U16-clause-answer : goal.read-returns-in_ok-as_number-in-U16-clause-answer
 read-returns-in_ok-as_number-in-U16-clause-answer g m c = λ t is distinct.
-    leaf_made g.V.WasmValue.tree g.V.WasmValue.is_of g.V.WasmValue.is_full _ t c.args.self.now (value.whole type.u16 (pos c.in_ok-as_number-in-U16.field-0)) c.make_u16.result c.made-in-U16.result (simple_is (type.whole type.u16) _ c.in-U16.ensures) (number_read type.u16 c.args.src.now c.args.self.now t (pos c.in_ok-as_number-in-U16.field-0) is.0 c.in_ok-as_number-in-U16.ensures.0 c.in_ok-as_number-in-U16.ensures.1) c.make_u16.ensures.made c.make_u16.ensures.full c.made-in-U16.ensures
+    leaf_made g.V.WasmValue.tree g.V.WasmValue.is_of g.V.WasmValue.is_full _ t c.args.self.now (value.whole type.u16 (pos c.in_ok-as_number-in-U16.field-0)) c.make_u16.result c.or_error_here-in-U16.result (simple_is (type.whole type.u16) _ c.in-U16.ensures) (number_read type.u16 c.args.src.now c.args.self.now t (pos c.in_ok-as_number-in-U16.field-0) is.0 c.in_ok-as_number-in-U16.ensures.0 c.in_ok-as_number-in-U16.ensures.1) c.make_u16.ensures.made c.make_u16.ensures.full c.or_error_here-in-U16.ensures
 
 pub read-returns-in_err-as_number-in-U32-clause-answer : goal.read-returns-in_err-as_number-in-U32-clause-answer
 read-returns-in_err-as_number-in-U32-clause-answer g m c = λ t is distinct.
@@ -106,7 +106,7 @@ read-returns-in_err-as_number-in-U32-clause-answer g m c = λ t is distinct.
 
 pub read-returns-in_ok-as_number-in-U32-clause-answer : goal.read-returns-in_ok-as_number-in-U32-clause-answer
 read-returns-in_ok-as_number-in-U32-clause-answer g m c = λ t is distinct.
-    leaf_made g.V.WasmValue.tree g.V.WasmValue.is_of g.V.WasmValue.is_full _ t c.args.self.now (value.whole type.u32 (pos c.in_ok-as_number-in-U32.field-0)) c.make_u32.result c.made-in-U32.result (simple_is (type.whole type.u32) _ c.in-U32.ensures) (number_read type.u32 c.args.src.now c.args.self.now t (pos c.in_ok-as_number-in-U32.field-0) is.0 c.in_ok-as_number-in-U32.ensures.0 c.in_ok-as_number-in-U32.ensures.1) c.make_u32.ensures.made c.make_u32.ensures.full c.made-in-U32.ensures
+    leaf_made g.V.WasmValue.tree g.V.WasmValue.is_of g.V.WasmValue.is_full _ t c.args.self.now (value.whole type.u32 (pos c.in_ok-as_number-in-U32.field-0)) c.make_u32.result c.or_error_here-in-U32.result (simple_is (type.whole type.u32) _ c.in-U32.ensures) (number_read type.u32 c.args.src.now c.args.self.now t (pos c.in_ok-as_number-in-U32.field-0) is.0 c.in_ok-as_number-in-U32.ensures.0 c.in_ok-as_number-in-U32.ensures.1) c.make_u32.ensures.made c.make_u32.ensures.full c.or_error_here-in-U32.ensures
 
 pub read-returns-in_err-as_number-in-U64-clause-answer : goal.read-returns-in_err-as_number-in-U64-clause-answer
 read-returns-in_err-as_number-in-U64-clause-answer g m c = λ t is distinct.
@@ -114,7 +114,7 @@ read-returns-in_err-as_number-in-U64-clause-answer g m c = λ t is distinct.
 
 pub read-returns-in_ok-as_number-in-U64-clause-answer : goal.read-returns-in_ok-as_number-in-U64-clause-answer
 read-returns-in_ok-as_number-in-U64-clause-answer g m c = λ t is distinct.
-    leaf_made g.V.WasmValue.tree g.V.WasmValue.is_of g.V.WasmValue.is_full _ t c.args.self.now (value.whole type.u64 (pos c.in_ok-as_number-in-U64.field-0)) c.make_u64.result c.made-in-U64.result (simple_is (type.whole type.u64) _ c.in-U64.ensures) (number_read type.u64 c.args.src.now c.args.self.now t (pos c.in_ok-as_number-in-U64.field-0) is.0 c.in_ok-as_number-in-U64.ensures.0 c.in_ok-as_number-in-U64.ensures.1) c.make_u64.ensures.made c.make_u64.ensures.full c.made-in-U64.ensures
+    leaf_made g.V.WasmValue.tree g.V.WasmValue.is_of g.V.WasmValue.is_full _ t c.args.self.now (value.whole type.u64 (pos c.in_ok-as_number-in-U64.field-0)) c.make_u64.result c.or_error_here-in-U64.result (simple_is (type.whole type.u64) _ c.in-U64.ensures) (number_read type.u64 c.args.src.now c.args.self.now t (pos c.in_ok-as_number-in-U64.field-0) is.0 c.in_ok-as_number-in-U64.ensures.0 c.in_ok-as_number-in-U64.ensures.1) c.make_u64.ensures.made c.make_u64.ensures.full c.or_error_here-in-U64.ensures
 
 pub read-returns-in_default-clause-answer : goal.read-returns-in_default-clause-answer
 read-returns-in_default-clause-answer g m c = λ t is distinct.
@@ -138,15 +138,15 @@ read_list-returns-in_err-item-clause-answer g m c = λ t is distinct.
 
 pub read_list-loop-node-preserved : goal.read_list-loop-node-preserved
 read_list-loop-node-preserved g m c = λ ts nodes distinct.
-    list_kept g.V.WasmValue.tree g.V.WasmValue.is_of g.V.WasmValue.is_full c.args.src.now (g.V.Type.WasmType.tree c.unwrap-element.result.now) c.in_ok-nodes.nodes.now ts c.loop-node.items.items c.keep.new.items.items c.loop-node.node-index c.node-item.result c.in_ok-item.item nodes c.loop-node-test.true c.node-item.is (c.loop-node.invariant ts nodes distinct) (λ u here. c.in_ok-item.ensures.answer u here distinct) c.in_ok-keep.ensures.kept
+    list_kept g.V.WasmValue.tree g.V.WasmValue.is_of g.V.WasmValue.is_full c.args.src.now (g.V.Type.WasmType.tree c.unwrap-element.result.now) c.in_ok-nodes.nodes.now ts c.loop-node.items.items c.push.new.items.items c.loop-node.node-index c.node-item.result c.in_ok-item.item nodes c.loop-node-test.true c.node-item.is (c.loop-node.invariant ts nodes distinct) (λ u here. c.in_ok-item.ensures.answer u here distinct) c.in_ok-push.ensures.kept
 
 pub read_list-returns-clause-answer : goal.read_list-returns-clause-answer
 read_list-returns-clause-answer g m c = λ t is distinct.
     let list : (g.V.Type.WasmType.tree c.args.ty.now) ≡ type.list (g.V.Type.WasmType.tree c.unwrap-element.result.now) = (element_is g.V.Type.WasmType.tree (g.V.Type.WasmType.tree c.args.ty.now) c.list_element_type.result c.unwrap-element.result c.unwrap-element.ensures c.list_element_type.ensures) in
     let inner = list_nodes c.args.src.now c.args.self.now t is c.in_ok-nodes.ensures.0 in
     let nodes = given_nodes c.args.src.now c.args.self.now t c.in_ok-nodes.nodes.now is c.in_ok-nodes.ensures.0 c.in_ok-nodes.ensures.1 in
-    list_made g.V.WasmValue.tree g.V.WasmValue.is_of g.V.WasmValue.is_full (g.V.Type.WasmType.tree c.args.ty.now) (g.V.Type.WasmType.tree c.unwrap-element.result.now) t inner.items c.loop-node.items.items c.args.self.now c.make_list.result c.made.result list distinct inner.shape
-    (read_all g.V.WasmValue.tree g.V.WasmValue.is_of g.V.WasmValue.is_full c.args.src.now (g.V.Type.WasmType.tree c.unwrap-element.result.now) c.in_ok-nodes.nodes.now inner.items c.loop-node.items.items c.loop-node.node-index nodes c.loop-node-test.false (c.loop-node.invariant inner.items nodes (element_distinct (g.V.Type.WasmType.tree c.args.ty.now) (g.V.Type.WasmType.tree c.unwrap-element.result.now) list distinct))) c.make_list.ensures.made c.make_list.ensures.full c.made.ensures
+    list_made g.V.WasmValue.tree g.V.WasmValue.is_of g.V.WasmValue.is_full (g.V.Type.WasmType.tree c.args.ty.now) (g.V.Type.WasmType.tree c.unwrap-element.result.now) t inner.items c.loop-node.items.items c.args.self.now c.make_list.result c.or_error_here.result list distinct inner.shape
+    (read_all g.V.WasmValue.tree g.V.WasmValue.is_of g.V.WasmValue.is_full c.args.src.now (g.V.Type.WasmType.tree c.unwrap-element.result.now) c.in_ok-nodes.nodes.now inner.items c.loop-node.items.items c.loop-node.node-index nodes c.loop-node-test.false (c.loop-node.invariant inner.items nodes (element_distinct (g.V.Type.WasmType.tree c.args.ty.now) (g.V.Type.WasmType.tree c.unwrap-element.result.now) list distinct))) c.make_list.ensures.made c.make_list.ensures.full c.or_error_here.ensures
 
 pub read_option-read-requires : goal.read_option-read-requires
 read_option-read-requires g m c κs within =
@@ -176,20 +176,20 @@ read_option-returns-in_err-flat-in-Err-clause-answer g m c = λ t is distinct.
 
 pub read_option-returns-in-Ok-None-clause-answer : goal.read_option-returns-in-Ok-None-clause-answer
 read_option-returns-in-Ok-None-clause-answer g m c = λ t is distinct.
-    none_made g.V.WasmValue.tree g.V.WasmValue.is_of g.V.WasmValue.is_full (g.V.Type.WasmType.tree c.args.ty.now) (g.V.Type.WasmType.tree c.unwrap-payload.result.now) c.args.src.now t c.args.self.now c.make_option.result c.made.result (payload_is g.V.Type.WasmType.tree (g.V.Type.WasmType.tree c.args.ty.now) c.option_some_type.result c.unwrap-payload.result c.unwrap-payload.ensures c.option_some_type.ensures) distinct (given_none c.args.src.now c.args.self.now t is (rw c.in-Ok-None.field-0-is at c.in-Ok-None.ensures)) c.make_option.ensures.made c.make_option.ensures.full c.made.ensures
+    none_made g.V.WasmValue.tree g.V.WasmValue.is_of g.V.WasmValue.is_full (g.V.Type.WasmType.tree c.args.ty.now) (g.V.Type.WasmType.tree c.unwrap-payload.result.now) c.args.src.now t c.args.self.now c.make_option.result c.or_error_here.result (payload_is g.V.Type.WasmType.tree (g.V.Type.WasmType.tree c.args.ty.now) c.option_some_type.result c.unwrap-payload.result c.unwrap-payload.ensures c.option_some_type.ensures) distinct (given_none c.args.src.now c.args.self.now t is (rw c.in-Ok-None.field-0-is at c.in-Ok-None.ensures)) c.make_option.ensures.made c.make_option.ensures.full c.or_error_here.ensures
 
 pub read_option-returns-in_ok-val-in-Ok-Some-clause-answer : goal.read_option-returns-in_ok-val-in-Ok-Some-clause-answer
 read_option-returns-in_ok-val-in-Ok-Some-clause-answer g m c = λ t is distinct.
     let option : (g.V.Type.WasmType.tree c.args.ty.now) ≡ type.option (g.V.Type.WasmType.tree c.unwrap-payload.result.now) = (payload_is g.V.Type.WasmType.tree (g.V.Type.WasmType.tree c.args.ty.now) c.option_some_type.result c.unwrap-payload.result c.unwrap-payload.ensures c.option_some_type.ensures) in
     let k = given_some c.args.src.now c.args.self.now t c.in-Ok-Some.node is (rw c.in-Ok-Some.field-0-is at c.in-Ok-Some.ensures) in
-    some_made g.V.WasmValue.tree g.V.WasmValue.is_of g.V.WasmValue.is_full (g.V.Type.WasmType.tree c.args.ty.now) (g.V.Type.WasmType.tree c.unwrap-payload.result.now) t k.0 c.args.self.now c.in_ok-val-in-Ok-Some.val c.make_option-in-Ok-Some.result c.made-in-Ok-Some.result option distinct k.1 (c.in_ok-val-in-Ok-Some.ensures.answer k.0 k.2 (subst HasDistinctNames option distinct)) c.make_option-in-Ok-Some.ensures.made c.make_option-in-Ok-Some.ensures.full c.made-in-Ok-Some.ensures
+    some_made g.V.WasmValue.tree g.V.WasmValue.is_of g.V.WasmValue.is_full (g.V.Type.WasmType.tree c.args.ty.now) (g.V.Type.WasmType.tree c.unwrap-payload.result.now) t k.0 c.args.self.now c.in_ok-val-in-Ok-Some.val c.make_option-in-Ok-Some.result c.or_error_here-in-Ok-Some.result option distinct k.1 (c.in_ok-val-in-Ok-Some.ensures.answer k.0 k.2 (subst HasDistinctNames option distinct)) c.make_option-in-Ok-Some.ensures.made c.make_option-in-Ok-Some.ensures.full c.or_error_here-in-Ok-Some.ensures
 
 pub read_option-returns-in_ok-flat-in-Err-clause-answer : goal.read_option-returns-in_ok-flat-in-Err-clause-answer
 read_option-returns-in_ok-flat-in-Err-clause-answer g m c = λ t is distinct.
     let option : (g.V.Type.WasmType.tree c.args.ty.now) ≡ type.option (g.V.Type.WasmType.tree c.unwrap-payload.result.now) = (payload_is g.V.Type.WasmType.tree (g.V.Type.WasmType.tree c.args.ty.now) c.option_some_type.result c.unwrap-payload.result c.unwrap-payload.ensures c.option_some_type.ensures) in
     let kinds = c.is_flat.ensures.0 c.if-not-is_flat.false in
     let flat : IsFlat (g.V.Type.WasmType.tree c.unwrap-payload.result.now) = flat_true (g.V.Type.WasmType.tree c.unwrap-payload.result.now) c.kind.result c.kind.ensures kinds.0 kinds.1 in
-    flat_made g.V.WasmValue.tree g.V.WasmValue.is_of g.V.WasmValue.is_full (g.V.Type.WasmType.tree c.args.ty.now) (g.V.Type.WasmType.tree c.unwrap-payload.result.now) t c.args.self.now c.in_ok-flat-in-Err.flat c.make_option-in-Err.result c.made-in-Err.result option distinct flat (c.in_ok-flat-in-Err.ensures.answer t is (subst HasDistinctNames option distinct)) c.make_option-in-Err.ensures.made c.make_option-in-Err.ensures.full c.made-in-Err.ensures
+    flat_made g.V.WasmValue.tree g.V.WasmValue.is_of g.V.WasmValue.is_full (g.V.Type.WasmType.tree c.args.ty.now) (g.V.Type.WasmType.tree c.unwrap-payload.result.now) t c.args.self.now c.in_ok-flat-in-Err.flat c.make_option-in-Err.result c.or_error_here-in-Err.result option distinct flat (c.in_ok-flat-in-Err.ensures.answer t is (subst HasDistinctNames option distinct)) c.make_option-in-Err.ensures.made c.make_option-in-Err.ensures.full c.or_error_here-in-Err.ensures
 
 pub read_result-read_payload-requires : goal.read_result-read_payload-requires
 read_result-read_payload-requires g m c κs within =
@@ -207,7 +207,7 @@ pub read_result-returns-in_ok-val-in-Ok-Ok-clause-answer : goal.read_result-retu
 read_result-returns-in_ok-val-in-Ok-Ok-clause-answer g m c = λ t is distinct.
     let result : (g.V.Type.WasmType.tree c.args.ty.now) ≡ type.result (maybe_type (shown g.V.Type.WasmType.tree c.unwrap.result.0)) (maybe_type (shown g.V.Type.WasmType.tree c.unwrap.result.1)) = (result_type g.V.Type.WasmType.tree (g.V.Type.WasmType.tree c.args.ty.now) c.result_types.result c.unwrap.result c.unwrap.ensures c.result_types.ensures) in
     let k = given_ok c.args.src.now c.args.self.now t c.in-Ok-Ok.node is (rw c.in-Ok-Ok.field-0-is at c.in-Ok-Ok.ensures) in
-    ok_made g.V.WasmValue.tree g.V.WasmValue.is_of g.V.WasmValue.is_full (g.V.Type.WasmType.tree c.args.ty.now) (maybe_type (shown g.V.Type.WasmType.tree c.unwrap.result.0)) (maybe_type (shown g.V.Type.WasmType.tree c.unwrap.result.1)) t c.args.self.now k.0 c.in_ok-val-in-Ok-Ok.val c.make_result.result c.made.result result distinct k.1 (c.in_ok-val-in-Ok-Ok.ensures.answer k.0 k.2 (subst HasDistinctNames result distinct).0) c.make_result.ensures.made c.make_result.ensures.full c.made.ensures
+    ok_made g.V.WasmValue.tree g.V.WasmValue.is_of g.V.WasmValue.is_full (g.V.Type.WasmType.tree c.args.ty.now) (maybe_type (shown g.V.Type.WasmType.tree c.unwrap.result.0)) (maybe_type (shown g.V.Type.WasmType.tree c.unwrap.result.1)) t c.args.self.now k.0 c.in_ok-val-in-Ok-Ok.val c.make_result.result c.or_error_here.result result distinct k.1 (c.in_ok-val-in-Ok-Ok.ensures.answer k.0 k.2 (subst HasDistinctNames result distinct).0) c.make_result.ensures.made c.make_result.ensures.full c.or_error_here.ensures
 
 pub read_result-read_payload-requires-in-Ok-Err : goal.read_result-read_payload-requires-in-Ok-Err
 read_result-read_payload-requires-in-Ok-Err g m c κs within =
@@ -225,7 +225,7 @@ pub read_result-returns-in_ok-val-in-Ok-Err-clause-answer : goal.read_result-ret
 read_result-returns-in_ok-val-in-Ok-Err-clause-answer g m c = λ t is distinct.
     let result : (g.V.Type.WasmType.tree c.args.ty.now) ≡ type.result (maybe_type (shown g.V.Type.WasmType.tree c.unwrap.result.0)) (maybe_type (shown g.V.Type.WasmType.tree c.unwrap.result.1)) = (result_type g.V.Type.WasmType.tree (g.V.Type.WasmType.tree c.args.ty.now) c.result_types.result c.unwrap.result c.unwrap.ensures c.result_types.ensures) in
     let k = given_err c.args.src.now c.args.self.now t c.in-Ok-Err.node is (rw c.in-Ok-Err.field-0-is at c.in-Ok-Err.ensures) in
-    err_made g.V.WasmValue.tree g.V.WasmValue.is_of g.V.WasmValue.is_full (g.V.Type.WasmType.tree c.args.ty.now) (maybe_type (shown g.V.Type.WasmType.tree c.unwrap.result.0)) (maybe_type (shown g.V.Type.WasmType.tree c.unwrap.result.1)) t c.args.self.now k.0 c.in_ok-val-in-Ok-Err.val c.make_result-in-Ok-Err.result c.made-in-Ok-Err.result result distinct k.1 (c.in_ok-val-in-Ok-Err.ensures.answer k.0 k.2 (subst HasDistinctNames result distinct).1) c.make_result-in-Ok-Err.ensures.made c.make_result-in-Ok-Err.ensures.full c.made-in-Ok-Err.ensures
+    err_made g.V.WasmValue.tree g.V.WasmValue.is_of g.V.WasmValue.is_full (g.V.Type.WasmType.tree c.args.ty.now) (maybe_type (shown g.V.Type.WasmType.tree c.unwrap.result.0)) (maybe_type (shown g.V.Type.WasmType.tree c.unwrap.result.1)) t c.args.self.now k.0 c.in_ok-val-in-Ok-Err.val c.make_result-in-Ok-Err.result c.or_error_here-in-Ok-Err.result result distinct k.1 (c.in_ok-val-in-Ok-Err.ensures.answer k.0 k.2 (subst HasDistinctNames result distinct).1) c.make_result-in-Ok-Err.ensures.made c.make_result-in-Ok-Err.ensures.full c.or_error_here-in-Ok-Err.ensures
 
 pub read_result-returns-in-None-clause-answer : goal.read_result-returns-in-None-clause-answer
 read_result-returns-in-None-clause-answer g m c = λ t is distinct.
@@ -242,7 +242,7 @@ pub read_result-returns-in_ok-flat-in-Err-clause-answer : goal.read_result-retur
 read_result-returns-in_ok-flat-in-Err-clause-answer g m c = λ t is distinct.
     let result : (g.V.Type.WasmType.tree c.args.ty.now) ≡ type.result (maybe_type (shown g.V.Type.WasmType.tree c.unwrap.result.0)) (maybe_type (shown g.V.Type.WasmType.tree c.unwrap.result.1)) = (result_type g.V.Type.WasmType.tree (g.V.Type.WasmType.tree c.args.ty.now) c.result_types.result c.unwrap.result c.unwrap.ensures c.result_types.ensures) in
     let flat : (g.V.Type.WasmType.tree c.args.ty.now) ≡ type.result (type.a_type (g.V.Type.WasmType.tree c.in-Some.payload.now)) (maybe_type (shown g.V.Type.WasmType.tree c.unwrap.result.1)) = result ∙ ap (λ (P : Option TypeTree). type.result (maybe_type P) (maybe_type (shown g.V.Type.WasmType.tree c.unwrap.result.1))) c.in-Some.ensures.0 in
-    result_flat_made g.V.WasmValue.tree g.V.WasmValue.is_of g.V.WasmValue.is_full (g.V.Type.WasmType.tree c.args.ty.now) (g.V.Type.WasmType.tree c.in-Some.payload.now) (maybe_type (shown g.V.Type.WasmType.tree c.unwrap.result.1)) t c.args.self.now c.in_ok-flat-in-Err.flat c.make_result-in-Err.result c.made-in-Err.result flat distinct c.in-Some.ensures.1 (c.in_ok-flat-in-Err.ensures.answer t is (subst HasDistinctNames flat distinct).0) c.make_result-in-Err.ensures.made c.make_result-in-Err.ensures.full c.made-in-Err.ensures
+    result_flat_made g.V.WasmValue.tree g.V.WasmValue.is_of g.V.WasmValue.is_full (g.V.Type.WasmType.tree c.args.ty.now) (g.V.Type.WasmType.tree c.in-Some.payload.now) (maybe_type (shown g.V.Type.WasmType.tree c.unwrap.result.1)) t c.args.self.now c.in_ok-flat-in-Err.flat c.make_result-in-Err.result c.or_error_here-in-Err.result flat distinct c.in-Some.ensures.1 (c.in_ok-flat-in-Err.ensures.answer t is (subst HasDistinctNames flat distinct).0) c.make_result-in-Err.ensures.made c.make_result-in-Err.ensures.full c.or_error_here-in-Err.ensures
 
 pub read_tuple-returns-in_err-nodes-clause-answer : goal.read_tuple-returns-in_err-nodes-clause-answer
 read_tuple-returns-in_err-nodes-clause-answer g m c = λ t is distinct.
@@ -278,7 +278,7 @@ read_tuple-returns-in_err-item-clause-answer g m c = λ t is distinct.
 pub read_tuple-loop-i-preserved : goal.read_tuple-loop-i-preserved
 read_tuple-loop-i-preserved g m c = λ ts nodes distinct.
     let typed : HasAt (shown_all g.V.Type.WasmType.tree c.in-Ok.types.items) c.loop-i.i (g.V.Type.WasmType.tree c.index.result.now.now) = type_at g.V.Type.WasmType.tree c.in-Ok.types.items c.loop-i.i c.index.result.now (omega arith) c.index.ensures in
-    tuple_kept g.V.WasmValue.tree g.V.WasmValue.is_of g.V.WasmValue.is_full c.args.src.now (shown_all g.V.Type.WasmType.tree c.in-Ok.types.items) c.in_ok-nodes.nodes.now ts c.loop-i.items.items c.keep.new.items.items c.loop-i.i c.index-nodes-i.result (g.V.Type.WasmType.tree c.index.result.now.now) c.in_ok-item.item nodes c.loop-i-test.true c.index-nodes-i.is typed (c.loop-i.invariant ts nodes distinct) (λ u here. c.in_ok-item.ensures.answer u here (all_has HasDistinctNames (shown_all g.V.Type.WasmType.tree c.in-Ok.types.items) c.loop-i.i (g.V.Type.WasmType.tree c.index.result.now.now) distinct typed)) c.in_ok-keep.ensures.kept
+    tuple_kept g.V.WasmValue.tree g.V.WasmValue.is_of g.V.WasmValue.is_full c.args.src.now (shown_all g.V.Type.WasmType.tree c.in-Ok.types.items) c.in_ok-nodes.nodes.now ts c.loop-i.items.items c.push.new.items.items c.loop-i.i c.index-nodes-i.result (g.V.Type.WasmType.tree c.index.result.now.now) c.in_ok-item.item nodes c.loop-i-test.true c.index-nodes-i.is typed (c.loop-i.invariant ts nodes distinct) (λ u here. c.in_ok-item.ensures.answer u here (all_has HasDistinctNames (shown_all g.V.Type.WasmType.tree c.in-Ok.types.items) c.loop-i.i (g.V.Type.WasmType.tree c.index.result.now.now) distinct typed)) c.in_ok-push.ensures.kept
 
 pub read_tuple-returns-clause-answer : goal.read_tuple-returns-clause-answer
 read_tuple-returns-clause-answer g m c = λ t is distinct.
@@ -286,7 +286,7 @@ read_tuple-returns-clause-answer g m c = λ t is distinct.
     let tuple : TupleType (g.V.Type.WasmType.tree c.args.ty.now) (shown_all g.V.Type.WasmType.tree c.in-Ok.types.items) = tuple_is (g.V.Type.WasmType.tree c.args.ty.now) (shown_all g.V.Type.WasmType.tree c.in-Ok.types.items) kind c.in-Ok.ensures in
     let many : length c.in_ok-nodes.nodes.now ≡ length (shown_all g.V.Type.WasmType.tree c.in-Ok.types.items) = omega (arith, as_shown g.V.Type.WasmType.tree c.in-Ok.types.items) in
     let inner = tuple_nodes c.args.src.now c.args.self.now t is c.in_ok-nodes.ensures.0 in
-    tuple_made g.V.WasmValue.tree g.V.WasmValue.is_of g.V.WasmValue.is_full c.args.src.now (g.V.Type.WasmType.tree c.args.ty.now) (shown_all g.V.Type.WasmType.tree c.in-Ok.types.items) c.args.self.now t c.in_ok-nodes.nodes.now c.loop-i.items.items c.loop-i.i c.make_tuple.result c.made.result tuple distinct is c.in_ok-nodes.ensures.0 c.in_ok-nodes.ensures.1 many c.loop-i-test.false (c.loop-i.invariant inner.items (given_items c.args.src.now c.args.self.now t c.in_ok-nodes.nodes.now is c.in_ok-nodes.ensures.0 c.in_ok-nodes.ensures.1) (parts_distinct (g.V.Type.WasmType.tree c.args.ty.now) (shown_all g.V.Type.WasmType.tree c.in-Ok.types.items) tuple distinct)) c.make_tuple.ensures.made c.make_tuple.ensures.full c.made.ensures
+    tuple_made g.V.WasmValue.tree g.V.WasmValue.is_of g.V.WasmValue.is_full c.args.src.now (g.V.Type.WasmType.tree c.args.ty.now) (shown_all g.V.Type.WasmType.tree c.in-Ok.types.items) c.args.self.now t c.in_ok-nodes.nodes.now c.loop-i.items.items c.loop-i.i c.make_tuple.result c.or_error_here.result tuple distinct is c.in_ok-nodes.ensures.0 c.in_ok-nodes.ensures.1 many c.loop-i-test.false (c.loop-i.invariant inner.items (given_items c.args.src.now c.args.self.now t c.in_ok-nodes.nodes.now is c.in_ok-nodes.ensures.0 c.in_ok-nodes.ensures.1) (parts_distinct (g.V.Type.WasmType.tree c.args.ty.now) (shown_all g.V.Type.WasmType.tree c.in-Ok.types.items) tuple distinct)) c.make_tuple.ensures.made c.make_tuple.ensures.full c.or_error_here.ensures
 
 pub read_variant-returns-in_err-name-clause-answer : goal.read_variant-returns-in_err-name-clause-answer
 read_variant-returns-in_err-name-clause-answer g m c = λ t is distinct.
@@ -317,7 +317,7 @@ read_variant-returns-in-Some-clause-answer g m c = λ t is distinct.
     let variant : VariantType (g.V.Type.WasmType.tree c.args.ty.now) (shown_cases g.V.Type.WasmType.tree c.in-Ok.cases.items) = variant_is (g.V.Type.WasmType.tree c.args.ty.now) (shown_cases g.V.Type.WasmType.tree c.in-Ok.cases.items) kind c.in-Ok.ensures in
     let found : HasCase variant.cases c.in_ok-name.name.now (maybe_type (shown g.V.Type.WasmType.tree c.in-Some.payload)) = case_found (g.V.Type.WasmType.tree c.args.ty.now) (shown_cases g.V.Type.WasmType.tree c.in-Ok.cases.items) variant c.in_ok-name.name.now (shown g.V.Type.WasmType.tree c.in-Some.payload) c.in-Some.ensures in
     let k = given_case c.args.src.now c.args.self.now t c.in_ok-name.name c.in_ok-name.node is c.in_ok-name.ensures in
-    variant_made g.V.WasmValue.tree g.V.WasmValue.is_of g.V.WasmValue.is_full (g.V.Type.WasmType.tree c.args.ty.now) variant.cases c.args.src.now t c.args.self.now c.in_ok-name.name.now (shown_node c.in_ok-name.node) k (maybe_type (shown g.V.Type.WasmType.tree c.in-Some.payload)) c.in_ok-val-in-Some.val c.make_variant.result c.made.result variant.is distinct found (c.in_ok-val-in-Some.ensures.answer k.payload k.node (case_distinct variant.cases c.in_ok-name.name.now (maybe_type (shown g.V.Type.WasmType.tree c.in-Some.payload)) found (subst HasDistinctNames variant.is distinct).1)) c.make_variant.ensures.made c.make_variant.ensures.full c.made.ensures
+    variant_made g.V.WasmValue.tree g.V.WasmValue.is_of g.V.WasmValue.is_full (g.V.Type.WasmType.tree c.args.ty.now) variant.cases c.args.src.now t c.args.self.now c.in_ok-name.name.now (shown_node c.in_ok-name.node) k (maybe_type (shown g.V.Type.WasmType.tree c.in-Some.payload)) c.in_ok-val-in-Some.val c.make_variant.result c.or_error_here.result variant.is distinct found (c.in_ok-val-in-Some.ensures.answer k.payload k.node (case_distinct variant.cases c.in_ok-name.name.now (maybe_type (shown g.V.Type.WasmType.tree c.in-Some.payload)) found (subst HasDistinctNames variant.is distinct).1)) c.make_variant.ensures.made c.make_variant.ensures.full c.or_error_here.ensures
 
 pub read_variant-returns-clause-answer : goal.read_variant-returns-clause-answer
 read_variant-returns-clause-answer g m c = λ t is distinct.
@@ -361,11 +361,11 @@ read_map-returns-in_err-val-clause-answer g m c = λ t is distinct.
 
 pub read_map-entries-preserved : goal.read_map-entries-preserved
 read_map-entries-preserved g m c =
-    (next_read g.V.WasmValue.tree g.V.WasmValue.is_of g.V.WasmValue.is_full c.args.src.now (g.V.Type.WasmType.tree c.unwrap.result.0.now) (g.V.Type.WasmType.tree c.unwrap.result.1.now) (node_pairs (children_of c.args.self.now)) c.entries.nodes c.next.new.self (c.in-Some.key.now, c.in-Some.node.now) c.entries.entries.items c.keep.new.items.items c.in_ok-key.key c.in_ok-val.val c.entries.invariant.0 c.in-Some.ensures.steps c.in_ok-key.ensures.answer c.in_ok-val.ensures.answer c.in_ok-keep.ensures.kept, (next_belongs c.args.self.now c.entries.nodes c.next.new.self (c.in-Some.key.now, c.in-Some.node.now) c.entries.invariant.1 c.in-Some.ensures.steps).1)
+    (next_read g.V.WasmValue.tree g.V.WasmValue.is_of g.V.WasmValue.is_full c.args.src.now (g.V.Type.WasmType.tree c.unwrap.result.0.now) (g.V.Type.WasmType.tree c.unwrap.result.1.now) (node_pairs (children_of c.args.self.now)) c.entries.nodes c.next.new.self (c.in-Some.key.now, c.in-Some.node.now) c.entries.entries.items c.push.new.items.items c.in_ok-key.key c.in_ok-val.val c.entries.invariant.0 c.in-Some.ensures.steps c.in_ok-key.ensures.answer c.in_ok-val.ensures.answer c.in_ok-push.ensures.kept, (next_belongs c.args.self.now c.entries.nodes c.next.new.self (c.in-Some.key.now, c.in-Some.node.now) c.entries.invariant.1 c.in-Some.ensures.steps).1)
 
 pub read_map-returns-in-Ok-clause-answer : goal.read_map-returns-in-Ok-clause-answer
 read_map-returns-in-Ok-clause-answer g m c = λ t is distinct.
-    map_answered g.V.WasmValue.tree g.V.WasmValue.is_of g.V.WasmValue.is_full c.args.src.now (g.V.Type.WasmType.tree c.args.ty.now) (g.V.Type.WasmType.tree c.unwrap.result.0.now) (g.V.Type.WasmType.tree c.unwrap.result.1.now) c.args.self.now t c.in_ok-nodes.nodes c.entries.nodes c.entries.entries.items c.in-Ok.entries.items c.make_map.result c.made.result (map_is g.V.Type.WasmType.tree (g.V.Type.WasmType.tree c.args.ty.now) c.map_key_value_types.result c.unwrap.result c.unwrap.ensures c.map_key_value_types.ensures) is c.in_ok-nodes.ensures c.entries.invariant.0 c.in_default.ensures.steps.0 distinct g.met.V.WasmValue.of_fits c.in-Ok.ensures c.make_map.ensures.made c.make_map.ensures.full c.made.ensures
+    map_answered g.V.WasmValue.tree g.V.WasmValue.is_of g.V.WasmValue.is_full c.args.src.now (g.V.Type.WasmType.tree c.args.ty.now) (g.V.Type.WasmType.tree c.unwrap.result.0.now) (g.V.Type.WasmType.tree c.unwrap.result.1.now) c.args.self.now t c.in_ok-nodes.nodes c.entries.nodes c.entries.entries.items c.in-Ok.entries.items c.make_map.result c.or_error_here.result (map_is g.V.Type.WasmType.tree (g.V.Type.WasmType.tree c.args.ty.now) c.map_key_value_types.result c.unwrap.result c.unwrap.ensures c.map_key_value_types.ensures) is c.in_ok-nodes.ensures c.entries.invariant.0 c.in_default.ensures.steps.0 distinct g.met.V.WasmValue.of_fits c.in-Ok.ensures c.make_map.ensures.made c.make_map.ensures.full c.or_error_here.ensures
 
 pub read_record-returns-in_err-nodes-clause-answer : goal.read_record-returns-in_err-nodes-clause-answer
 read_record-returns-in_err-nodes-clause-answer g m c = λ t is distinct.
@@ -416,7 +416,7 @@ read_record-returns-clause-answer g m c = λ t is distinct.
     let kind : kinds.Record ≡ kind_of (g.V.Type.WasmType.tree c.args.ty.now) = search rules in
     let is_record : RecordType (g.V.Type.WasmType.tree c.args.ty.now) (shown_fields g.V.Type.WasmType.tree c.in-Ok.types.items) = record_is (g.V.Type.WasmType.tree c.args.ty.now) (shown_fields g.V.Type.WasmType.tree c.in-Ok.types.items) kind c.in-Ok.ensures in
     let read = c.loop-i.invariant.read (map shown_field c.in_ok-nodes.field-0-0.items) c.in_ok-nodes.ensures.held (entry_list (record_nodes c.args.src.now c.args.self.now t is c.in_ok-nodes.ensures.given.is_set).given) (given_fields c.args.src.now c.args.self.now t (map shown_field c.in_ok-nodes.field-0-0.items) is c.in_ok-nodes.ensures.given) (fields_distinct (g.V.Type.WasmType.tree c.args.ty.now) (shown_fields g.V.Type.WasmType.tree c.in-Ok.types.items) is_record distinct) in
-    record_done g.V.WasmValue.tree g.V.WasmValue.is_of g.V.WasmValue.is_full (g.V.Type.WasmType.tree c.args.ty.now) (shown_fields g.V.Type.WasmType.tree c.in-Ok.types.items) c.args.src.now c.args.self.now t (map shown_field c.in_ok-nodes.field-0-0.items) c.loop-i.i c.in_ok-nodes.nodes c.loop-i.nodes c.loop-i.fields.items c.make_record.result c.made.result is_record distinct is c.in_ok-nodes.ensures.given c.in_ok-nodes.ensures.held (omega (arith, as_parts g.V.Type.WasmType.tree c.in-Ok.types.items)) c.loop-i.invariant.removed (c.is_empty.ensures.0 c.if-not-is_empty.false) read c.make_record.ensures.made c.make_record.ensures.full c.made.ensures
+    record_done g.V.WasmValue.tree g.V.WasmValue.is_of g.V.WasmValue.is_full (g.V.Type.WasmType.tree c.args.ty.now) (shown_fields g.V.Type.WasmType.tree c.in-Ok.types.items) c.args.src.now c.args.self.now t (map shown_field c.in_ok-nodes.field-0-0.items) c.loop-i.i c.in_ok-nodes.nodes c.loop-i.nodes c.loop-i.fields.items c.make_record.result c.or_error_here.result is_record distinct is c.in_ok-nodes.ensures.given c.in_ok-nodes.ensures.held (omega (arith, as_parts g.V.Type.WasmType.tree c.in-Ok.types.items)) c.loop-i.invariant.removed (c.is_empty.ensures.0 c.if-not-is_empty.false) read c.make_record.ensures.made c.make_record.ensures.full c.or_error_here.ensures
 
 pub read-returns-in_err-as_number-in-S8-clause-within : goal.read-returns-in_err-as_number-in-S8-clause-within
 read-returns-in_err-as_number-in-S8-clause-within g m c =
@@ -426,7 +426,7 @@ read-returns-in_err-as_number-in-S8-clause-within g m c =
 pub read-returns-in_ok-as_number-in-S8-clause-within : goal.read-returns-in_ok-as_number-in-S8-clause-within
 read-returns-in_ok-as_number-in-S8-clause-within g m c =
     let value : IsValueOf c.args.src.now c.args.self.now = search rules in
-    made_in c.args.src.now c.args.self.now c.make_s8.result c.made.result (inl value) c.made.ensures
+    made_in c.args.src.now c.args.self.now c.make_s8.result c.or_error_here.result (inl value) c.or_error_here.ensures
 
 pub read-returns-in_err-as_number-in-S16-clause-within : goal.read-returns-in_err-as_number-in-S16-clause-within
 read-returns-in_err-as_number-in-S16-clause-within g m c =
@@ -436,7 +436,7 @@ read-returns-in_err-as_number-in-S16-clause-within g m c =
 pub read-returns-in_ok-as_number-in-S16-clause-within : goal.read-returns-in_ok-as_number-in-S16-clause-within
 read-returns-in_ok-as_number-in-S16-clause-within g m c =
     let value : IsValueOf c.args.src.now c.args.self.now = search rules in
-    made_in c.args.src.now c.args.self.now c.make_s16.result c.made-in-S16.result (inl value) c.made-in-S16.ensures
+    made_in c.args.src.now c.args.self.now c.make_s16.result c.or_error_here-in-S16.result (inl value) c.or_error_here-in-S16.ensures
 
 pub read-returns-in_err-as_number-in-S32-clause-within : goal.read-returns-in_err-as_number-in-S32-clause-within
 read-returns-in_err-as_number-in-S32-clause-within g m c =
@@ -446,7 +446,7 @@ read-returns-in_err-as_number-in-S32-clause-within g m c =
 pub read-returns-in_ok-as_number-in-S32-clause-within : goal.read-returns-in_ok-as_number-in-S32-clause-within
 read-returns-in_ok-as_number-in-S32-clause-within g m c =
     let value : IsValueOf c.args.src.now c.args.self.now = search rules in
-    made_in c.args.src.now c.args.self.now c.make_s32.result c.made-in-S32.result (inl value) c.made-in-S32.ensures
+    made_in c.args.src.now c.args.self.now c.make_s32.result c.or_error_here-in-S32.result (inl value) c.or_error_here-in-S32.ensures
 
 pub read-returns-in_err-as_number-in-S64-clause-within : goal.read-returns-in_err-as_number-in-S64-clause-within
 read-returns-in_err-as_number-in-S64-clause-within g m c =
@@ -456,7 +456,7 @@ read-returns-in_err-as_number-in-S64-clause-within g m c =
 pub read-returns-in_ok-as_number-in-S64-clause-within : goal.read-returns-in_ok-as_number-in-S64-clause-within
 read-returns-in_ok-as_number-in-S64-clause-within g m c =
     let value : IsValueOf c.args.src.now c.args.self.now = search rules in
-    made_in c.args.src.now c.args.self.now c.make_s64.result c.made-in-S64.result (inl value) c.made-in-S64.ensures
+    made_in c.args.src.now c.args.self.now c.make_s64.result c.or_error_here-in-S64.result (inl value) c.or_error_here-in-S64.ensures
 
 pub read-returns-in_err-as_number-in-U8-clause-within : goal.read-returns-in_err-as_number-in-U8-clause-within
 read-returns-in_err-as_number-in-U8-clause-within g m c =
@@ -466,7 +466,7 @@ read-returns-in_err-as_number-in-U8-clause-within g m c =
 pub read-returns-in_ok-as_number-in-U8-clause-within : goal.read-returns-in_ok-as_number-in-U8-clause-within
 read-returns-in_ok-as_number-in-U8-clause-within g m c =
     let value : IsValueOf c.args.src.now c.args.self.now = search rules in
-    made_in c.args.src.now c.args.self.now c.make_u8.result c.made-in-U8.result (inl value) c.made-in-U8.ensures
+    made_in c.args.src.now c.args.self.now c.make_u8.result c.or_error_here-in-U8.result (inl value) c.or_error_here-in-U8.ensures
 
 pub read-returns-in_err-as_number-in-U16-clause-within : goal.read-returns-in_err-as_number-in-U16-clause-within
 read-returns-in_err-as_number-in-U16-clause-within g m c =
@@ -476,7 +476,7 @@ read-returns-in_err-as_number-in-U16-clause-within g m c =
 pub read-returns-in_ok-as_number-in-U16-clause-within : goal.read-returns-in_ok-as_number-in-U16-clause-within
 read-returns-in_ok-as_number-in-U16-clause-within g m c =
     let value : IsValueOf c.args.src.now c.args.self.now = search rules in
-    made_in c.args.src.now c.args.self.now c.make_u16.result c.made-in-U16.result (inl value) c.made-in-U16.ensures
+    made_in c.args.src.now c.args.self.now c.make_u16.result c.or_error_here-in-U16.result (inl value) c.or_error_here-in-U16.ensures
 
 pub read-returns-in_err-as_number-in-U32-clause-within : goal.read-returns-in_err-as_number-in-U32-clause-within
 read-returns-in_err-as_number-in-U32-clause-within g m c =
@@ -486,7 +486,7 @@ read-returns-in_err-as_number-in-U32-clause-within g m c =
 pub read-returns-in_ok-as_number-in-U32-clause-within : goal.read-returns-in_ok-as_number-in-U32-clause-within
 read-returns-in_ok-as_number-in-U32-clause-within g m c =
     let value : IsValueOf c.args.src.now c.args.self.now = search rules in
-    made_in c.args.src.now c.args.self.now c.make_u32.result c.made-in-U32.result (inl value) c.made-in-U32.ensures
+    made_in c.args.src.now c.args.self.now c.make_u32.result c.or_error_here-in-U32.result (inl value) c.or_error_here-in-U32.ensures
 
 pub read-returns-in_err-as_number-in-U64-clause-within : goal.read-returns-in_err-as_number-in-U64-clause-within
 read-returns-in_err-as_number-in-U64-clause-within g m c =
@@ -496,7 +496,7 @@ read-returns-in_err-as_number-in-U64-clause-within g m c =
 pub read-returns-in_ok-as_number-in-U64-clause-within : goal.read-returns-in_ok-as_number-in-U64-clause-within
 read-returns-in_ok-as_number-in-U64-clause-within g m c =
     let value : IsValueOf c.args.src.now c.args.self.now = search rules in
-    made_in c.args.src.now c.args.self.now c.make_u64.result c.made-in-U64.result (inl value) c.made-in-U64.ensures
+    made_in c.args.src.now c.args.self.now c.make_u64.result c.or_error_here-in-U64.result (inl value) c.or_error_here-in-U64.ensures
 
 pub read-returns-in_default-clause-within : goal.read-returns-in_default-clause-within
 read-returns-in_default-clause-within g m c =
@@ -518,20 +518,20 @@ read_list-returns-in_err-item-clause-within g m c =
     let value : IsValueOf c.args.src.now c.args.self.now = search rules in
     error_handed (StandsIn c.args.self.now) c.from_residual-in_err-item.result c.in_err-item.field-0.0 c.from_residual-in_err-item.ensures.1 (deeper_at c.args.src.now c.args.self.now c.in_ok-nodes.nodes.now c.loop-node.node-index c.node-item.result c.in_err-item.field-0.0 value c.in_ok-nodes.ensures.1 c.loop-node-test.true c.node-item.is c.in_err-item.ensures.within)
 
-pub read_list-returns-in_err-keep-clause-within : goal.read_list-returns-in_err-keep-clause-within
-read_list-returns-in_err-keep-clause-within g m c =
+pub read_list-returns-in_err-push-clause-within : goal.read_list-returns-in_err-push-clause-within
+read_list-returns-in_err-push-clause-within g m c =
     let value : IsValueOf c.args.src.now c.args.self.now = search rules in
-    error_handed (StandsIn c.args.self.now) c.from_residual-in_err-keep.result c.in_err-keep.field-0.0 c.from_residual-in_err-keep.ensures.1 (at_in c.args.src.now c.args.self.now c.in_err-keep.field-0.0 (inl value) (memory_at (place_of c.args.self.now) c.in_err-keep.field-0.0 c.in_err-keep.ensures.refused c.in_err-keep.ensures.place))
+    error_handed (StandsIn c.args.self.now) c.from_residual-in_err-push.result c.in_err-push.field-0.0 c.from_residual-in_err-push.ensures.1 (at_in c.args.src.now c.args.self.now c.in_err-push.field-0.0 (inl value) (memory_at (place_of c.args.self.now) c.in_err-push.field-0.0 c.in_err-push.ensures.refused c.in_err-push.ensures.place))
 
 pub read_list-returns-clause-within : goal.read_list-returns-clause-within
 read_list-returns-clause-within g m c =
     let value : IsValueOf c.args.src.now c.args.self.now = search rules in
-    made_in c.args.src.now c.args.self.now c.make_list.result c.made.result (inl value) c.made.ensures
+    made_in c.args.src.now c.args.self.now c.make_list.result c.or_error_here.result (inl value) c.or_error_here.ensures
 
 pub read_option-returns-in-Ok-None-clause-within : goal.read_option-returns-in-Ok-None-clause-within
 read_option-returns-in-Ok-None-clause-within g m c =
     let value : IsValueOf c.args.src.now c.args.self.now = search rules in
-    made_in c.args.src.now c.args.self.now c.make_option.result c.made.result (inl value) c.made.ensures
+    made_in c.args.src.now c.args.self.now c.make_option.result c.or_error_here.result (inl value) c.or_error_here.ensures
 
 pub read_option-returns-in_err-val-in-Ok-Some-clause-within : goal.read_option-returns-in_err-val-in-Ok-Some-clause-within
 read_option-returns-in_err-val-in-Ok-Some-clause-within g m c =
@@ -541,7 +541,7 @@ read_option-returns-in_err-val-in-Ok-Some-clause-within g m c =
 pub read_option-returns-in_ok-val-in-Ok-Some-clause-within : goal.read_option-returns-in_ok-val-in-Ok-Some-clause-within
 read_option-returns-in_ok-val-in-Ok-Some-clause-within g m c =
     let value : IsValueOf c.args.src.now c.args.self.now = search rules in
-    made_in c.args.src.now c.args.self.now c.make_option-in-Ok-Some.result c.made-in-Ok-Some.result (inl value) c.made-in-Ok-Some.ensures
+    made_in c.args.src.now c.args.self.now c.make_option-in-Ok-Some.result c.or_error_here-in-Ok-Some.result (inl value) c.or_error_here-in-Ok-Some.ensures
 
 pub read_option-returns-then-not-is_flat-clause-within : goal.read_option-returns-then-not-is_flat-clause-within
 read_option-returns-then-not-is_flat-clause-within g m c =
@@ -555,7 +555,7 @@ read_option-returns-in_err-flat-in-Err-clause-within g m c =
 pub read_option-returns-in_ok-flat-in-Err-clause-within : goal.read_option-returns-in_ok-flat-in-Err-clause-within
 read_option-returns-in_ok-flat-in-Err-clause-within g m c =
     let value : IsValueOf c.args.src.now c.args.self.now = search rules in
-    made_in c.args.src.now c.args.self.now c.make_option-in-Err.result c.made-in-Err.result (inl value) c.made-in-Err.ensures
+    made_in c.args.src.now c.args.self.now c.make_option-in-Err.result c.or_error_here-in-Err.result (inl value) c.or_error_here-in-Err.ensures
 
 pub read_result-returns-in_err-val-in-Ok-Ok-clause-within : goal.read_result-returns-in_err-val-in-Ok-Ok-clause-within
 read_result-returns-in_err-val-in-Ok-Ok-clause-within g m c =
@@ -572,12 +572,12 @@ read_result-returns-in_err-val-in-Ok-Err-clause-within g m c =
 pub read_result-returns-in_ok-val-in-Ok-Ok-clause-within : goal.read_result-returns-in_ok-val-in-Ok-Ok-clause-within
 read_result-returns-in_ok-val-in-Ok-Ok-clause-within g m c =
     let value : IsValueOf c.args.src.now c.args.self.now = search rules in
-    made_in c.args.src.now c.args.self.now c.make_result.result c.made.result (inl value) c.made.ensures
+    made_in c.args.src.now c.args.self.now c.make_result.result c.or_error_here.result (inl value) c.or_error_here.ensures
 
 pub read_result-returns-in_ok-val-in-Ok-Err-clause-within : goal.read_result-returns-in_ok-val-in-Ok-Err-clause-within
 read_result-returns-in_ok-val-in-Ok-Err-clause-within g m c =
     let value : IsValueOf c.args.src.now c.args.self.now = search rules in
-    made_in c.args.src.now c.args.self.now c.make_result-in-Ok-Err.result c.made-in-Ok-Err.result (inl value) c.made-in-Ok-Err.ensures
+    made_in c.args.src.now c.args.self.now c.make_result-in-Ok-Err.result c.or_error_here-in-Ok-Err.result (inl value) c.or_error_here-in-Ok-Err.ensures
 
 pub read_result-returns-in-None-clause-within : goal.read_result-returns-in-None-clause-within
 read_result-returns-in-None-clause-within g m c =
@@ -591,7 +591,7 @@ read_result-returns-in_err-flat-in-Err-clause-within g m c =
 pub read_result-returns-in_ok-flat-in-Err-clause-within : goal.read_result-returns-in_ok-flat-in-Err-clause-within
 read_result-returns-in_ok-flat-in-Err-clause-within g m c =
     let value : IsValueOf c.args.src.now c.args.self.now = search rules in
-    made_in c.args.src.now c.args.self.now c.make_result-in-Err.result c.made-in-Err.result (inl value) c.made-in-Err.ensures
+    made_in c.args.src.now c.args.self.now c.make_result-in-Err.result c.or_error_here-in-Err.result (inl value) c.or_error_here-in-Err.ensures
 
 pub read_tuple-returns-in_err-nodes-clause-within : goal.read_tuple-returns-in_err-nodes-clause-within
 read_tuple-returns-in_err-nodes-clause-within g m c =
@@ -608,15 +608,15 @@ read_tuple-returns-in_err-item-clause-within g m c =
     let value : IsValueOf c.args.src.now c.args.self.now = search rules in
     error_handed (StandsIn c.args.self.now) c.from_residual-in_err-item.result c.in_err-item.field-0.0 c.from_residual-in_err-item.ensures.1 (deeper_at c.args.src.now c.args.self.now c.in_ok-nodes.nodes.now c.loop-i.i c.index-nodes-i.result c.in_err-item.field-0.0 value c.in_ok-nodes.ensures.1 c.loop-i-test.true c.index-nodes-i.is c.in_err-item.ensures.within)
 
-pub read_tuple-returns-in_err-keep-clause-within : goal.read_tuple-returns-in_err-keep-clause-within
-read_tuple-returns-in_err-keep-clause-within g m c =
+pub read_tuple-returns-in_err-push-clause-within : goal.read_tuple-returns-in_err-push-clause-within
+read_tuple-returns-in_err-push-clause-within g m c =
     let value : IsValueOf c.args.src.now c.args.self.now = search rules in
-    error_handed (StandsIn c.args.self.now) c.from_residual-in_err-keep.result c.in_err-keep.field-0.0 c.from_residual-in_err-keep.ensures.1 (at_in c.args.src.now c.args.self.now c.in_err-keep.field-0.0 (inl value) (memory_at (place_of c.args.self.now) c.in_err-keep.field-0.0 c.in_err-keep.ensures.refused c.in_err-keep.ensures.place))
+    error_handed (StandsIn c.args.self.now) c.from_residual-in_err-push.result c.in_err-push.field-0.0 c.from_residual-in_err-push.ensures.1 (at_in c.args.src.now c.args.self.now c.in_err-push.field-0.0 (inl value) (memory_at (place_of c.args.self.now) c.in_err-push.field-0.0 c.in_err-push.ensures.refused c.in_err-push.ensures.place))
 
 pub read_tuple-returns-clause-within : goal.read_tuple-returns-clause-within
 read_tuple-returns-clause-within g m c =
     let value : IsValueOf c.args.src.now c.args.self.now = search rules in
-    made_in c.args.src.now c.args.self.now c.make_tuple.result c.made.result (inl value) c.made.ensures
+    made_in c.args.src.now c.args.self.now c.make_tuple.result c.or_error_here.result (inl value) c.or_error_here.ensures
 
 pub read_tuple-returns-in-Err-clause-within : goal.read_tuple-returns-in-Err-clause-within
 read_tuple-returns-in-Err-clause-within g m c =
@@ -641,7 +641,7 @@ read_variant-returns-in_err-val-in-Some-clause-within g m c =
 pub read_variant-returns-in-Some-clause-within : goal.read_variant-returns-in-Some-clause-within
 read_variant-returns-in-Some-clause-within g m c =
     let value : IsValueOf c.args.src.now c.args.self.now = search rules in
-    made_in c.args.src.now c.args.self.now c.make_variant.result c.made.result (inl value) c.made.ensures
+    made_in c.args.src.now c.args.self.now c.make_variant.result c.or_error_here.result (inl value) c.or_error_here.ensures
 
 pub read_variant-returns-clause-within : goal.read_variant-returns-clause-within
 read_variant-returns-clause-within g m c =
@@ -663,15 +663,15 @@ read_map-returns-in_err-val-clause-within g m c =
     let next = next_belongs c.args.self.now c.entries.nodes c.next.new.self (c.in-Some.key.now, c.in-Some.node.now) c.entries.invariant.1 c.in-Some.ensures.steps in
     error_handed (StandsIn c.args.self.now) c.from_residual-in_err-val.result c.in_err-val.field-0.0 c.from_residual-in_err-val.ensures.1 (deeper c.args.self.now c.in-Some.node.now c.in_err-val.field-0.0 next.0.1 c.in_err-val.ensures.within)
 
-pub read_map-returns-in_err-keep-clause-within : goal.read_map-returns-in_err-keep-clause-within
-read_map-returns-in_err-keep-clause-within g m c =
+pub read_map-returns-in_err-push-clause-within : goal.read_map-returns-in_err-push-clause-within
+read_map-returns-in_err-push-clause-within g m c =
     let value : IsValueOf c.args.src.now c.args.self.now = search rules in
-    error_handed (StandsIn c.args.self.now) c.from_residual-in_err-keep.result c.in_err-keep.field-0.0 c.from_residual-in_err-keep.ensures.1 (at_in c.args.src.now c.args.self.now c.in_err-keep.field-0.0 (inl value) (memory_at (place_of c.args.self.now) c.in_err-keep.field-0.0 c.in_err-keep.ensures.refused c.in_err-keep.ensures.place))
+    error_handed (StandsIn c.args.self.now) c.from_residual-in_err-push.result c.in_err-push.field-0.0 c.from_residual-in_err-push.ensures.1 (at_in c.args.src.now c.args.self.now c.in_err-push.field-0.0 (inl value) (memory_at (place_of c.args.self.now) c.in_err-push.field-0.0 c.in_err-push.ensures.refused c.in_err-push.ensures.place))
 
 pub read_map-returns-in-Ok-clause-within : goal.read_map-returns-in-Ok-clause-within
 read_map-returns-in-Ok-clause-within g m c =
     let value : IsValueOf c.args.src.now c.args.self.now = search rules in
-    made_in c.args.src.now c.args.self.now c.make_map.result c.made.result (inl value) c.made.ensures
+    made_in c.args.src.now c.args.self.now c.make_map.result c.or_error_here.result (inl value) c.or_error_here.ensures
 
 pub read_map-returns-in-Err-clause-within : goal.read_map-returns-in-Err-clause-within
 read_map-returns-in-Err-clause-within g m c =
@@ -700,7 +700,7 @@ read_record-returns-then-not-is_empty-clause-within g m c =
 pub read_record-returns-clause-within : goal.read_record-returns-clause-within
 read_record-returns-clause-within g m c =
     let value : IsValueOf c.args.src.now c.args.self.now = search rules in
-    made_in c.args.src.now c.args.self.now c.make_record.result c.made.result (inl value) c.made.ensures
+    made_in c.args.src.now c.args.self.now c.make_record.result c.or_error_here.result (inl value) c.or_error_here.ensures
 
 pub read_record-returns-then-is_err-clause-within : goal.read_record-returns-then-is_err-clause-within
 read_record-returns-then-is_err-clause-within g m c =

@@ -9,4 +9,4 @@ returns-in_err-val-clause-answer g c = λ source t is distinct.
 
 pub returns-clause-answer : goal.returns-clause-answer
 returns-clause-answer g c = λ source t is distinct.
-    leaf_made g.V.WasmValue.tree g.V.WasmValue.is_of g.V.WasmValue.is_full _ t c.args.self.now (bool c.in_ok-val.val) c.make_bool.result c.made.result c.requires (bool_read source c.args.self.now t c.in_ok-val.val is.0 c.in_ok-val.ensures) c.make_bool.ensures.made c.make_bool.ensures.full c.made.ensures
+    leaf_made g.V.WasmValue.tree g.V.WasmValue.is_of g.V.WasmValue.is_full _ t c.args.self.now (bool c.in_ok-val.val) c.make_bool.result c.or_error_here.result c.requires (bool_read source c.args.self.now t c.in_ok-val.val is.0 c.in_ok-val.ensures) c.make_bool.ensures.made c.make_bool.ensures.full c.or_error_here.ensures

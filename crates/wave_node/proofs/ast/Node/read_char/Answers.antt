@@ -9,4 +9,4 @@ returns-in_err-val-clause-answer g c = λ t is distinct.
 
 pub returns-clause-answer : goal.returns-clause-answer
 returns-clause-answer g c = λ t is distinct.
-    leaf_made g.V.WasmValue.tree g.V.WasmValue.is_of g.V.WasmValue.is_full _ t c.args.self.now (char c.in_ok-val.val) c.make_char.result c.made.result c.requires.kind (char_read c.args.src.now c.args.self.now t c.in_ok-val.val is.0 c.in_ok-val.ensures.0 c.in_ok-val.ensures.1) c.make_char.ensures.made c.make_char.ensures.full c.made.ensures
+    leaf_made g.V.WasmValue.tree g.V.WasmValue.is_of g.V.WasmValue.is_full _ t c.args.self.now (char c.in_ok-val.val) c.make_char.result c.or_error_here.result c.requires.kind (char_read c.args.src.now c.args.self.now t c.in_ok-val.val is.0 c.in_ok-val.ensures.0 c.in_ok-val.ensures.1) c.make_char.ensures.made c.make_char.ensures.full c.or_error_here.ensures

@@ -17,4 +17,4 @@ returns-then-not-is_among-clause-answer g c = λ t is distinct.
 
 pub returns-clause-answer : goal.returns-clause-answer
 returns-clause-answer g c = λ t is distinct.
-    enum_made g.V.WasmValue.tree g.V.WasmValue.is_of g.V.WasmValue.is_full (g.V.Type.WasmType.tree c.args.ty.now) (texts c.in-Ok.cases.items) c.args.src.now c.args.self.now t c.in_ok-name.name.now c.make_enum.result c.made.result (enum_is (g.V.Type.WasmType.tree c.args.ty.now) (sym c.requires.kind) (texts c.in-Ok.cases.items) c.in-Ok.ensures) distinct is.0 c.in_ok-name.ensures.0 c.in_ok-name.ensures.1 c.if-not-is_among.ensures c.make_enum.ensures.made c.make_enum.ensures.full c.made.ensures
+    enum_made g.V.WasmValue.tree g.V.WasmValue.is_of g.V.WasmValue.is_full (g.V.Type.WasmType.tree c.args.ty.now) (texts c.in-Ok.cases.items) c.args.src.now c.args.self.now t c.in_ok-name.name.now c.make_enum.result c.or_error_here.result (enum_is (g.V.Type.WasmType.tree c.args.ty.now) (sym c.requires.kind) (texts c.in-Ok.cases.items) c.in-Ok.ensures) distinct is.0 c.in_ok-name.ensures.0 c.in_ok-name.ensures.1 c.if-not-is_among.ensures c.make_enum.ensures.made c.make_enum.ensures.full c.or_error_here.ensures

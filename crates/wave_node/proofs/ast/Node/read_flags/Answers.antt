@@ -19,7 +19,7 @@ returns-in_err-picked-clause-answer g c = λ t is distinct.
 
 pub returns-clause-answer : goal.returns-clause-answer
 returns-clause-answer g c = λ t is distinct.
-    flags_made g.V.WasmValue.tree g.V.WasmValue.is_of g.V.WasmValue.is_full (g.V.Type.WasmType.tree c.args.ty.now) (texts c.in-Ok.names.items) c.args.src.now c.args.self.now t c.as_slice.result.now c.make_flags.result c.made.result (flags_is (g.V.Type.WasmType.tree c.args.ty.now) (sym c.requires.kind) (texts c.in-Ok.names.items) c.in-Ok.ensures) distinct is c.in_ok-flags.ensures.form c.in_ok-flags.ensures.known (ap texts c.as_slice.ensures.value ∙ c.in_ok-picked.ensures.picked (names_at c.args.src.now (children_of c.args.self.now)) c.in_ok-flags.ensures.held) c.make_flags.ensures.made c.make_flags.ensures.full c.made.ensures
+    flags_made g.V.WasmValue.tree g.V.WasmValue.is_of g.V.WasmValue.is_full (g.V.Type.WasmType.tree c.args.ty.now) (texts c.in-Ok.names.items) c.args.src.now c.args.self.now t c.as_slice.result.now c.make_flags.result c.or_error_here.result (flags_is (g.V.Type.WasmType.tree c.args.ty.now) (sym c.requires.kind) (texts c.in-Ok.names.items) c.in-Ok.ensures) distinct is c.in_ok-flags.ensures.form c.in_ok-flags.ensures.known (ap texts c.as_slice.ensures.value ∙ c.in_ok-picked.ensures.picked (names_at c.args.src.now (children_of c.args.self.now)) c.in_ok-flags.ensures.held) c.make_flags.ensures.made c.make_flags.ensures.full c.or_error_here.ensures
 
 pub returns-in_err-flags-clause-within : goal.returns-in_err-flags-clause-within
 returns-in_err-flags-clause-within g c =
@@ -27,4 +27,4 @@ returns-in_err-flags-clause-within g c =
 
 pub returns-clause-within : goal.returns-clause-within
 returns-clause-within g c =
-    made_in c.args.src.now c.args.self.now c.make_flags.result c.made.result (inl c.requires.node) c.made.ensures
+    made_in c.args.src.now c.args.self.now c.make_flags.result c.or_error_here.result (inl c.requires.node) c.or_error_here.ensures

@@ -19,7 +19,7 @@ returns-in_err-as_bool_key-in-Bool-clause-answer g c = λ K p key is token.
 
 pub returns-in_ok-as_bool_key-in-Bool-clause-answer : goal.returns-in_ok-as_bool_key-in-Bool-clause-answer
 returns-in_ok-as_bool_key-in-Bool-clause-answer g c = λ K p key is token.
-    key_made g.V.WasmValue.tree g.V.WasmValue.is_of g.V.WasmValue.is_full (g.V.Type.WasmType.tree c.args.ty.now) K type.bool p key c.args.self.now (value.bool c.in_ok-as_bool_key-in-Bool.field-0) c.make_bool.result c.made.result is (simple_is type.bool (g.V.Type.WasmType.tree c.args.ty.now) c.in-Bool.ensures) refl (bool_key c.args.src.now c.args.self.now p key c.in_ok-as_bool_key-in-Bool.field-0 token c.in_ok-as_bool_key-in-Bool.ensures) c.make_bool.ensures.made c.make_bool.ensures.full c.made.ensures
+    key_made g.V.WasmValue.tree g.V.WasmValue.is_of g.V.WasmValue.is_full (g.V.Type.WasmType.tree c.args.ty.now) K type.bool p key c.args.self.now (value.bool c.in_ok-as_bool_key-in-Bool.field-0) c.make_bool.result c.or_error_here.result is (simple_is type.bool (g.V.Type.WasmType.tree c.args.ty.now) c.in-Bool.ensures) refl (bool_key c.args.src.now c.args.self.now p key c.in_ok-as_bool_key-in-Bool.field-0 token c.in_ok-as_bool_key-in-Bool.ensures) c.make_bool.ensures.made c.make_bool.ensures.full c.or_error_here.ensures
 
 pub returns-in_err-as_number-in-S8-clause-answer : goal.returns-in_err-as_number-in-S8-clause-answer
 returns-in_err-as_number-in-S8-clause-answer g c = λ K p key is token.
@@ -28,7 +28,7 @@ returns-in_err-as_number-in-S8-clause-answer g c = λ K p key is token.
 pub returns-in_ok-as_number-in-S8-clause-answer : goal.returns-in_ok-as_number-in-S8-clause-answer
 returns-in_ok-as_number-in-S8-clause-answer g c = λ K p key is token.
     let fits : FitsSigned w8 c.in_ok-as_number-in-S8.field-0 = search rules in
-    key_made g.V.WasmValue.tree g.V.WasmValue.is_of g.V.WasmValue.is_full (g.V.Type.WasmType.tree c.args.ty.now) K (type.whole type.s8) p key c.args.self.now (value.whole type.s8 (to_z w8 (of_z w8 c.in_ok-as_number-in-S8.field-0))) c.make_s8.result c.made-in-S8.result is (simple_is (type.whole type.s8) (g.V.Type.WasmType.tree c.args.ty.now) c.in-S8.ensures) refl (number_key_kept type.s8 key (to_z w8 (of_z w8 c.in_ok-as_number-in-S8.field-0)) c.in_ok-as_number-in-S8.field-0 (to_z-of_z w8 c.in_ok-as_number-in-S8.field-0 fits) (number_key type.s8 (λ (z : ℤ). z) c.args.src.now c.args.self.now p key c.in_ok-as_number-in-S8.field-0 token c.in_ok-as_number-in-S8.ensures)) c.make_s8.ensures.made c.make_s8.ensures.full c.made-in-S8.ensures
+    key_made g.V.WasmValue.tree g.V.WasmValue.is_of g.V.WasmValue.is_full (g.V.Type.WasmType.tree c.args.ty.now) K (type.whole type.s8) p key c.args.self.now (value.whole type.s8 (to_z w8 (of_z w8 c.in_ok-as_number-in-S8.field-0))) c.make_s8.result c.or_error_here-in-S8.result is (simple_is (type.whole type.s8) (g.V.Type.WasmType.tree c.args.ty.now) c.in-S8.ensures) refl (number_key_kept type.s8 key (to_z w8 (of_z w8 c.in_ok-as_number-in-S8.field-0)) c.in_ok-as_number-in-S8.field-0 (to_z-of_z w8 c.in_ok-as_number-in-S8.field-0 fits) (number_key type.s8 (λ (z : ℤ). z) c.args.src.now c.args.self.now p key c.in_ok-as_number-in-S8.field-0 token c.in_ok-as_number-in-S8.ensures)) c.make_s8.ensures.made c.make_s8.ensures.full c.or_error_here-in-S8.ensures
 
 pub returns-in_err-as_number-in-S16-clause-answer : goal.returns-in_err-as_number-in-S16-clause-answer
 returns-in_err-as_number-in-S16-clause-answer g c = λ K p key is token.
@@ -37,7 +37,7 @@ returns-in_err-as_number-in-S16-clause-answer g c = λ K p key is token.
 pub returns-in_ok-as_number-in-S16-clause-answer : goal.returns-in_ok-as_number-in-S16-clause-answer
 returns-in_ok-as_number-in-S16-clause-answer g c = λ K p key is token.
     let fits : FitsSigned w16 c.in_ok-as_number-in-S16.field-0 = search rules in
-    key_made g.V.WasmValue.tree g.V.WasmValue.is_of g.V.WasmValue.is_full (g.V.Type.WasmType.tree c.args.ty.now) K (type.whole type.s16) p key c.args.self.now (value.whole type.s16 (to_z w16 (of_z w16 c.in_ok-as_number-in-S16.field-0))) c.make_s16.result c.made-in-S16.result is (simple_is (type.whole type.s16) (g.V.Type.WasmType.tree c.args.ty.now) c.in-S16.ensures) refl (number_key_kept type.s16 key (to_z w16 (of_z w16 c.in_ok-as_number-in-S16.field-0)) c.in_ok-as_number-in-S16.field-0 (to_z-of_z w16 c.in_ok-as_number-in-S16.field-0 fits) (number_key type.s16 (λ (z : ℤ). z) c.args.src.now c.args.self.now p key c.in_ok-as_number-in-S16.field-0 token c.in_ok-as_number-in-S16.ensures)) c.make_s16.ensures.made c.make_s16.ensures.full c.made-in-S16.ensures
+    key_made g.V.WasmValue.tree g.V.WasmValue.is_of g.V.WasmValue.is_full (g.V.Type.WasmType.tree c.args.ty.now) K (type.whole type.s16) p key c.args.self.now (value.whole type.s16 (to_z w16 (of_z w16 c.in_ok-as_number-in-S16.field-0))) c.make_s16.result c.or_error_here-in-S16.result is (simple_is (type.whole type.s16) (g.V.Type.WasmType.tree c.args.ty.now) c.in-S16.ensures) refl (number_key_kept type.s16 key (to_z w16 (of_z w16 c.in_ok-as_number-in-S16.field-0)) c.in_ok-as_number-in-S16.field-0 (to_z-of_z w16 c.in_ok-as_number-in-S16.field-0 fits) (number_key type.s16 (λ (z : ℤ). z) c.args.src.now c.args.self.now p key c.in_ok-as_number-in-S16.field-0 token c.in_ok-as_number-in-S16.ensures)) c.make_s16.ensures.made c.make_s16.ensures.full c.or_error_here-in-S16.ensures
 
 pub returns-in_err-as_number-in-S32-clause-answer : goal.returns-in_err-as_number-in-S32-clause-answer
 returns-in_err-as_number-in-S32-clause-answer g c = λ K p key is token.
@@ -46,7 +46,7 @@ returns-in_err-as_number-in-S32-clause-answer g c = λ K p key is token.
 pub returns-in_ok-as_number-in-S32-clause-answer : goal.returns-in_ok-as_number-in-S32-clause-answer
 returns-in_ok-as_number-in-S32-clause-answer g c = λ K p key is token.
     let fits : FitsSigned w32 c.in_ok-as_number-in-S32.field-0 = search rules in
-    key_made g.V.WasmValue.tree g.V.WasmValue.is_of g.V.WasmValue.is_full (g.V.Type.WasmType.tree c.args.ty.now) K (type.whole type.s32) p key c.args.self.now (value.whole type.s32 (to_z w32 (of_z w32 c.in_ok-as_number-in-S32.field-0))) c.make_s32.result c.made-in-S32.result is (simple_is (type.whole type.s32) (g.V.Type.WasmType.tree c.args.ty.now) c.in-S32.ensures) refl (number_key_kept type.s32 key (to_z w32 (of_z w32 c.in_ok-as_number-in-S32.field-0)) c.in_ok-as_number-in-S32.field-0 (to_z-of_z w32 c.in_ok-as_number-in-S32.field-0 fits) (number_key type.s32 (λ (z : ℤ). z) c.args.src.now c.args.self.now p key c.in_ok-as_number-in-S32.field-0 token c.in_ok-as_number-in-S32.ensures)) c.make_s32.ensures.made c.make_s32.ensures.full c.made-in-S32.ensures
+    key_made g.V.WasmValue.tree g.V.WasmValue.is_of g.V.WasmValue.is_full (g.V.Type.WasmType.tree c.args.ty.now) K (type.whole type.s32) p key c.args.self.now (value.whole type.s32 (to_z w32 (of_z w32 c.in_ok-as_number-in-S32.field-0))) c.make_s32.result c.or_error_here-in-S32.result is (simple_is (type.whole type.s32) (g.V.Type.WasmType.tree c.args.ty.now) c.in-S32.ensures) refl (number_key_kept type.s32 key (to_z w32 (of_z w32 c.in_ok-as_number-in-S32.field-0)) c.in_ok-as_number-in-S32.field-0 (to_z-of_z w32 c.in_ok-as_number-in-S32.field-0 fits) (number_key type.s32 (λ (z : ℤ). z) c.args.src.now c.args.self.now p key c.in_ok-as_number-in-S32.field-0 token c.in_ok-as_number-in-S32.ensures)) c.make_s32.ensures.made c.make_s32.ensures.full c.or_error_here-in-S32.ensures
 
 pub returns-in_err-as_number-in-S64-clause-answer : goal.returns-in_err-as_number-in-S64-clause-answer
 returns-in_err-as_number-in-S64-clause-answer g c = λ K p key is token.
@@ -55,7 +55,7 @@ returns-in_err-as_number-in-S64-clause-answer g c = λ K p key is token.
 pub returns-in_ok-as_number-in-S64-clause-answer : goal.returns-in_ok-as_number-in-S64-clause-answer
 returns-in_ok-as_number-in-S64-clause-answer g c = λ K p key is token.
     let fits : FitsSigned w64 c.in_ok-as_number-in-S64.field-0 = search rules in
-    key_made g.V.WasmValue.tree g.V.WasmValue.is_of g.V.WasmValue.is_full (g.V.Type.WasmType.tree c.args.ty.now) K (type.whole type.s64) p key c.args.self.now (value.whole type.s64 (to_z w64 (of_z w64 c.in_ok-as_number-in-S64.field-0))) c.make_s64.result c.made-in-S64.result is (simple_is (type.whole type.s64) (g.V.Type.WasmType.tree c.args.ty.now) c.in-S64.ensures) refl (number_key_kept type.s64 key (to_z w64 (of_z w64 c.in_ok-as_number-in-S64.field-0)) c.in_ok-as_number-in-S64.field-0 (to_z-of_z w64 c.in_ok-as_number-in-S64.field-0 fits) (number_key type.s64 (λ (z : ℤ). z) c.args.src.now c.args.self.now p key c.in_ok-as_number-in-S64.field-0 token c.in_ok-as_number-in-S64.ensures)) c.make_s64.ensures.made c.make_s64.ensures.full c.made-in-S64.ensures
+    key_made g.V.WasmValue.tree g.V.WasmValue.is_of g.V.WasmValue.is_full (g.V.Type.WasmType.tree c.args.ty.now) K (type.whole type.s64) p key c.args.self.now (value.whole type.s64 (to_z w64 (of_z w64 c.in_ok-as_number-in-S64.field-0))) c.make_s64.result c.or_error_here-in-S64.result is (simple_is (type.whole type.s64) (g.V.Type.WasmType.tree c.args.ty.now) c.in-S64.ensures) refl (number_key_kept type.s64 key (to_z w64 (of_z w64 c.in_ok-as_number-in-S64.field-0)) c.in_ok-as_number-in-S64.field-0 (to_z-of_z w64 c.in_ok-as_number-in-S64.field-0 fits) (number_key type.s64 (λ (z : ℤ). z) c.args.src.now c.args.self.now p key c.in_ok-as_number-in-S64.field-0 token c.in_ok-as_number-in-S64.ensures)) c.make_s64.ensures.made c.make_s64.ensures.full c.or_error_here-in-S64.ensures
 
 pub returns-in_err-as_number-in-U8-clause-answer : goal.returns-in_err-as_number-in-U8-clause-answer
 returns-in_err-as_number-in-U8-clause-answer g c = λ K p key is token.
@@ -63,7 +63,7 @@ returns-in_err-as_number-in-U8-clause-answer g c = λ K p key is token.
 
 pub returns-in_ok-as_number-in-U8-clause-answer : goal.returns-in_ok-as_number-in-U8-clause-answer
 returns-in_ok-as_number-in-U8-clause-answer g c = λ K p key is token.
-    key_made g.V.WasmValue.tree g.V.WasmValue.is_of g.V.WasmValue.is_full (g.V.Type.WasmType.tree c.args.ty.now) K (type.whole type.u8) p key c.args.self.now (value.whole type.u8 (pos c.in_ok-as_number-in-U8.field-0)) c.make_u8.result c.made-in-U8.result is (simple_is (type.whole type.u8) (g.V.Type.WasmType.tree c.args.ty.now) c.in-U8.ensures) refl (number_key type.u8 pos c.args.src.now c.args.self.now p key c.in_ok-as_number-in-U8.field-0 token c.in_ok-as_number-in-U8.ensures) c.make_u8.ensures.made c.make_u8.ensures.full c.made-in-U8.ensures
+    key_made g.V.WasmValue.tree g.V.WasmValue.is_of g.V.WasmValue.is_full (g.V.Type.WasmType.tree c.args.ty.now) K (type.whole type.u8) p key c.args.self.now (value.whole type.u8 (pos c.in_ok-as_number-in-U8.field-0)) c.make_u8.result c.or_error_here-in-U8.result is (simple_is (type.whole type.u8) (g.V.Type.WasmType.tree c.args.ty.now) c.in-U8.ensures) refl (number_key type.u8 pos c.args.src.now c.args.self.now p key c.in_ok-as_number-in-U8.field-0 token c.in_ok-as_number-in-U8.ensures) c.make_u8.ensures.made c.make_u8.ensures.full c.or_error_here-in-U8.ensures
 
 pub returns-in_err-as_number-in-U16-clause-answer : goal.returns-in_err-as_number-in-U16-clause-answer
 returns-in_err-as_number-in-U16-clause-answer g c = λ K p key is token.
@@ -71,7 +71,7 @@ returns-in_err-as_number-in-U16-clause-answer g c = λ K p key is token.
 
 pub returns-in_ok-as_number-in-U16-clause-answer : goal.returns-in_ok-as_number-in-U16-clause-answer
 returns-in_ok-as_number-in-U16-clause-answer g c = λ K p key is token.
-    key_made g.V.WasmValue.tree g.V.WasmValue.is_of g.V.WasmValue.is_full (g.V.Type.WasmType.tree c.args.ty.now) K (type.whole type.u16) p key c.args.self.now (value.whole type.u16 (pos c.in_ok-as_number-in-U16.field-0)) c.make_u16.result c.made-in-U16.result is (simple_is (type.whole type.u16) (g.V.Type.WasmType.tree c.args.ty.now) c.in-U16.ensures) refl (number_key type.u16 pos c.args.src.now c.args.self.now p key c.in_ok-as_number-in-U16.field-0 token c.in_ok-as_number-in-U16.ensures) c.make_u16.ensures.made c.make_u16.ensures.full c.made-in-U16.ensures
+    key_made g.V.WasmValue.tree g.V.WasmValue.is_of g.V.WasmValue.is_full (g.V.Type.WasmType.tree c.args.ty.now) K (type.whole type.u16) p key c.args.self.now (value.whole type.u16 (pos c.in_ok-as_number-in-U16.field-0)) c.make_u16.result c.or_error_here-in-U16.result is (simple_is (type.whole type.u16) (g.V.Type.WasmType.tree c.args.ty.now) c.in-U16.ensures) refl (number_key type.u16 pos c.args.src.now c.args.self.now p key c.in_ok-as_number-in-U16.field-0 token c.in_ok-as_number-in-U16.ensures) c.make_u16.ensures.made c.make_u16.ensures.full c.or_error_here-in-U16.ensures
 
 pub returns-in_err-as_number-in-U32-clause-answer : goal.returns-in_err-as_number-in-U32-clause-answer
 returns-in_err-as_number-in-U32-clause-answer g c = λ K p key is token.
@@ -79,7 +79,7 @@ returns-in_err-as_number-in-U32-clause-answer g c = λ K p key is token.
 
 pub returns-in_ok-as_number-in-U32-clause-answer : goal.returns-in_ok-as_number-in-U32-clause-answer
 returns-in_ok-as_number-in-U32-clause-answer g c = λ K p key is token.
-    key_made g.V.WasmValue.tree g.V.WasmValue.is_of g.V.WasmValue.is_full (g.V.Type.WasmType.tree c.args.ty.now) K (type.whole type.u32) p key c.args.self.now (value.whole type.u32 (pos c.in_ok-as_number-in-U32.field-0)) c.make_u32.result c.made-in-U32.result is (simple_is (type.whole type.u32) (g.V.Type.WasmType.tree c.args.ty.now) c.in-U32.ensures) refl (number_key type.u32 pos c.args.src.now c.args.self.now p key c.in_ok-as_number-in-U32.field-0 token c.in_ok-as_number-in-U32.ensures) c.make_u32.ensures.made c.make_u32.ensures.full c.made-in-U32.ensures
+    key_made g.V.WasmValue.tree g.V.WasmValue.is_of g.V.WasmValue.is_full (g.V.Type.WasmType.tree c.args.ty.now) K (type.whole type.u32) p key c.args.self.now (value.whole type.u32 (pos c.in_ok-as_number-in-U32.field-0)) c.make_u32.result c.or_error_here-in-U32.result is (simple_is (type.whole type.u32) (g.V.Type.WasmType.tree c.args.ty.now) c.in-U32.ensures) refl (number_key type.u32 pos c.args.src.now c.args.self.now p key c.in_ok-as_number-in-U32.field-0 token c.in_ok-as_number-in-U32.ensures) c.make_u32.ensures.made c.make_u32.ensures.full c.or_error_here-in-U32.ensures
 
 pub returns-in_err-as_number-in-U64-clause-answer : goal.returns-in_err-as_number-in-U64-clause-answer
 returns-in_err-as_number-in-U64-clause-answer g c = λ K p key is token.
@@ -87,7 +87,7 @@ returns-in_err-as_number-in-U64-clause-answer g c = λ K p key is token.
 
 pub returns-in_ok-as_number-in-U64-clause-answer : goal.returns-in_ok-as_number-in-U64-clause-answer
 returns-in_ok-as_number-in-U64-clause-answer g c = λ K p key is token.
-    key_made g.V.WasmValue.tree g.V.WasmValue.is_of g.V.WasmValue.is_full (g.V.Type.WasmType.tree c.args.ty.now) K (type.whole type.u64) p key c.args.self.now (value.whole type.u64 (pos c.in_ok-as_number-in-U64.field-0)) c.make_u64.result c.made-in-U64.result is (simple_is (type.whole type.u64) (g.V.Type.WasmType.tree c.args.ty.now) c.in-U64.ensures) refl (number_key type.u64 pos c.args.src.now c.args.self.now p key c.in_ok-as_number-in-U64.field-0 token c.in_ok-as_number-in-U64.ensures) c.make_u64.ensures.made c.make_u64.ensures.full c.made-in-U64.ensures
+    key_made g.V.WasmValue.tree g.V.WasmValue.is_of g.V.WasmValue.is_full (g.V.Type.WasmType.tree c.args.ty.now) K (type.whole type.u64) p key c.args.self.now (value.whole type.u64 (pos c.in_ok-as_number-in-U64.field-0)) c.make_u64.result c.or_error_here-in-U64.result is (simple_is (type.whole type.u64) (g.V.Type.WasmType.tree c.args.ty.now) c.in-U64.ensures) refl (number_key type.u64 pos c.args.src.now c.args.self.now p key c.in_ok-as_number-in-U64.field-0 token c.in_ok-as_number-in-U64.ensures) c.make_u64.ensures.made c.make_u64.ensures.full c.or_error_here-in-U64.ensures
 
 pub returns-in_default-clause-answer : goal.returns-in_default-clause-answer
 returns-in_default-clause-answer g c = λ K p key is token.
@@ -99,7 +99,7 @@ returns-in_err-as_char-in-Char-clause-answer g c = λ K p key is token.
 
 pub returns-in_ok-as_char-in-Char-clause-answer : goal.returns-in_ok-as_char-in-Char-clause-answer
 returns-in_ok-as_char-in-Char-clause-answer g c = λ K p key is token.
-    key_made g.V.WasmValue.tree g.V.WasmValue.is_of g.V.WasmValue.is_full (g.V.Type.WasmType.tree c.args.ty.now) K type.char p key c.args.self.now (value.char c.in_ok-as_char-in-Char.field-0) c.make_char.result c.made-in-Char.result is (simple_is type.char (g.V.Type.WasmType.tree c.args.ty.now) c.in-Char.ensures) refl (char_key c.args.src.now c.args.self.now p key c.in_ok-as_char-in-Char.field-0 token c.in_ok-as_char-in-Char.ensures) c.make_char.ensures.made c.make_char.ensures.full c.made-in-Char.ensures
+    key_made g.V.WasmValue.tree g.V.WasmValue.is_of g.V.WasmValue.is_full (g.V.Type.WasmType.tree c.args.ty.now) K type.char p key c.args.self.now (value.char c.in_ok-as_char-in-Char.field-0) c.make_char.result c.or_error_here-in-Char.result is (simple_is type.char (g.V.Type.WasmType.tree c.args.ty.now) c.in-Char.ensures) refl (char_key c.args.src.now c.args.self.now p key c.in_ok-as_char-in-Char.field-0 token c.in_ok-as_char-in-Char.ensures) c.make_char.ensures.made c.make_char.ensures.full c.or_error_here-in-Char.ensures
 
 pub returns-in_err-as_bool_key-in-Bool-clause-within : goal.returns-in_err-as_bool_key-in-Bool-clause-within
 returns-in_err-as_bool_key-in-Bool-clause-within g c =
@@ -143,7 +143,7 @@ returns-in_err-as_char-in-Char-clause-within g c =
 
 pub returns-in_ok-as_bool_key-in-Bool-clause-within : goal.returns-in_ok-as_bool_key-in-Bool-clause-within
 returns-in_ok-as_bool_key-in-Bool-clause-within g c =
-    made_in c.args.src.now c.args.self.now c.make_bool.result c.made.result (inr c.requires) c.made.ensures
+    made_in c.args.src.now c.args.self.now c.make_bool.result c.or_error_here.result (inr c.requires) c.or_error_here.ensures
 
 pub returns-in_default-clause-within : goal.returns-in_default-clause-within
 returns-in_default-clause-within g c =

@@ -50,11 +50,11 @@ returns-in_err-val-clause-refused g c = λ distinct t is.
           (λ u here. c.in_err-val.ensures.answer u here (all_has HasDistinctNames Ts c.loop-i.i T distinct typed)) c.in_err-val.ensures.within,
     ))
 
-pub returns-in_err-keep-clause-refused : goal.returns-in_err-keep-clause-refused
-returns-in_err-keep-clause-refused g c = λ distinct t is.
+pub returns-in_err-push-clause-refused : goal.returns-in_err-push-clause-refused
+returns-in_err-push-clause-refused g c = λ distinct t is.
     let inner = tuple_nodes c.args.src.now c.args.self.now t is c.in_ok-nodes.ensures.0 in
-    error_handed (RefusesParams g.V.WasmValue.is_full (map g.V.Type.WasmType.tree c.args.types.now) c.args.self.now t) c.from_residual-in_err-keep.result c.in_err-keep.field-0.0 c.from_residual-in_err-keep.ensures.1
-    (inr (inner.items, inner.shape, inl c.in_err-keep.ensures.refused))
+    error_handed (RefusesParams g.V.WasmValue.is_full (map g.V.Type.WasmType.tree c.args.types.now) c.args.self.now t) c.from_residual-in_err-push.result c.in_err-push.field-0.0 c.from_residual-in_err-push.ensures.1
+    (inr (inner.items, inner.shape, inl c.in_err-push.ensures.refused))
 
 pub loop-i-preserved : goal.loop-i-preserved
 loop-i-preserved g c =
@@ -63,8 +63,8 @@ loop-i-preserved g c =
     let typed = map_has g.V.Type.WasmType.tree c.args.types.now c.loop-i.i c.index-types-i.result (place_has c.args.types.now c.loop-i.i c.index-types-i.result c.if-i-types.false c.index-types-i.is) in (
       omega (arith, c.if-i-types.false),
       λ ts nodes distinct.
-          tuple_kept g.V.WasmValue.tree g.V.WasmValue.is_of g.V.WasmValue.is_full c.args.src.now Ts c.in_ok-nodes.nodes.now ts c.loop-i.vals.items c.keep.new.items.items c.loop-i.i c.index-nodes-i-in-loop-i.result T c.in_ok-val.val nodes c.loop-i-test.true c.index-nodes-i-in-loop-i.is typed (c.loop-i.invariant.1 ts nodes distinct)
-          (λ u here. c.in_ok-val.ensures.answer u here (all_has HasDistinctNames Ts c.loop-i.i T distinct typed)) c.in_ok-keep.ensures.kept,
+          tuple_kept g.V.WasmValue.tree g.V.WasmValue.is_of g.V.WasmValue.is_full c.args.src.now Ts c.in_ok-nodes.nodes.now ts c.loop-i.vals.items c.push.new.items.items c.loop-i.i c.index-nodes-i-in-loop-i.result T c.in_ok-val.val nodes c.loop-i-test.true c.index-nodes-i-in-loop-i.is typed (c.loop-i.invariant.1 ts nodes distinct)
+          (λ u here. c.in_ok-val.ensures.answer u here (all_has HasDistinctNames Ts c.loop-i.i T distinct typed)) c.in_ok-push.ensures.kept,
     )
 
 pub returns-then-not-are_options-clause-refused : goal.returns-then-not-are_options-clause-refused
@@ -143,13 +143,13 @@ pub returns-in_err-val-clause-caused : goal.returns-in_err-val-clause-caused
 returns-in_err-val-clause-caused g c =
     error_handed (λ (x : ParserError). x.kind ≡ because.WasmValueError → IsCausedIn c.args.self.now x) c.from_residual-in_err-val.result c.in_err-val.field-0.0 c.from_residual-in_err-val.ensures.1 ((deeper_at c.args.src.now c.args.self.now c.in_ok-nodes.nodes.now c.loop-i.i c.index-nodes-i-in-loop-i.result c.in_err-val.field-0.0 c.requires c.in_ok-nodes.ensures.1 c.loop-i-test.true c.index-nodes-i-in-loop-i.is c.in_err-val.ensures.within).caused)
 
-pub returns-in_err-keep-clause-within : goal.returns-in_err-keep-clause-within
-returns-in_err-keep-clause-within g c =
-    error_handed (λ (x : ParserError). LiesInText c.args.src.now x.span) c.from_residual-in_err-keep.result c.in_err-keep.field-0.0 c.from_residual-in_err-keep.ensures.1 (at_in_text c.args.src.now c.args.self.now c.in_err-keep.field-0.0 (inl c.requires) (memory_at (place_of c.args.self.now) c.in_err-keep.field-0.0 c.in_err-keep.ensures.refused c.in_err-keep.ensures.place))
+pub returns-in_err-push-clause-within : goal.returns-in_err-push-clause-within
+returns-in_err-push-clause-within g c =
+    error_handed (λ (x : ParserError). LiesInText c.args.src.now x.span) c.from_residual-in_err-push.result c.in_err-push.field-0.0 c.from_residual-in_err-push.ensures.1 (at_in_text c.args.src.now c.args.self.now c.in_err-push.field-0.0 (inl c.requires) (memory_at (place_of c.args.self.now) c.in_err-push.field-0.0 c.in_err-push.ensures.refused c.in_err-push.ensures.place))
 
-pub returns-in_err-keep-clause-caused : goal.returns-in_err-keep-clause-caused
-returns-in_err-keep-clause-caused g c =
-    error_handed (λ (x : ParserError). x.kind ≡ because.WasmValueError → IsCausedIn c.args.self.now x) c.from_residual-in_err-keep.result c.in_err-keep.field-0.0 c.from_residual-in_err-keep.ensures.1 ((at_in c.args.src.now c.args.self.now c.in_err-keep.field-0.0 (inl c.requires) (memory_at (place_of c.args.self.now) c.in_err-keep.field-0.0 c.in_err-keep.ensures.refused c.in_err-keep.ensures.place)).caused)
+pub returns-in_err-push-clause-caused : goal.returns-in_err-push-clause-caused
+returns-in_err-push-clause-caused g c =
+    error_handed (λ (x : ParserError). x.kind ≡ because.WasmValueError → IsCausedIn c.args.self.now x) c.from_residual-in_err-push.result c.in_err-push.field-0.0 c.from_residual-in_err-push.ensures.1 ((at_in c.args.src.now c.args.self.now c.in_err-push.field-0.0 (inl c.requires) (memory_at (place_of c.args.self.now) c.in_err-push.field-0.0 c.in_err-push.ensures.refused c.in_err-push.ensures.place)).caused)
 
 pub returns-then-not-are_options-clause-within : goal.returns-then-not-are_options-clause-within
 returns-then-not-are_options-clause-within g c =
