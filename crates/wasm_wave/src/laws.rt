@@ -4,7 +4,7 @@ ghost use Rattle.wave_wasm.specs.Types.{TypeTree, HasDistinctNames, IsOwn};
 ghost use Rattle.wave_lex.specs.Labels.{Good};
 ghost use Rattle.wave_grammar.specs.UnambiguityLaws.{OneReading};
 ghost use Rattle.wave_grammar.specs.RoundTripLaws.{ReadsBack, EqualTexts, ReadsMerged, ReadsBackWithinTwice};
-ghost use Rattle.wasm_wave.specs.Headline.{OneValue};
+ghost use Rattle.wasm_wave.specs.MainTheorem.{OneValue};
 
 pub use wave_lex::laws::{
     faults_refuse, labels_are_words, lines_join, no_longer_label, one_cut, one_line_joins,

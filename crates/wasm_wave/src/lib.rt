@@ -4,20 +4,20 @@
 ghost use Rattle.std.specs.Prelude.{◌≡◌, None, IfOk, IfErr};
 ghost use Rattle.std.specs.String.{string_bytes};
 ghost use Rattle.wave_wasm.specs.Text.{text, has_text};
-ghost use Rattle.wave_wasm.specs.Output.{IsGrounded, IsForMemory};
+ghost use Rattle.wave_wasm.specs.WriterState.{IsGrounded, IsForMemory};
 ghost use Rattle.wave_wasm.specs.HasType.{HasType};
 ghost use Rattle.wave_lex.specs.Labels.{Good};
 ghost use Rattle.wave_lex.specs.Errors.{LiesInText};
 ghost use Rattle.wave_grammar.specs.UnambiguityLaws.{OneReading};
 ghost use Rattle.wave_grammar.specs.RoundTripLaws.{ReadBack, ReadsBackWithinTwice};
 ghost use Rattle.wave_wasm.specs.Types.{TypeTree, HasDistinctNames, IsOwn};
-ghost use Rattle.wave_lex.specs.Lexing.{span};
+ghost use Rattle.wave_lex.specs.Tokenization.{span};
 ghost use Rattle.wave_lex.specs.declared.error.ParserErrorKind.TheVariants as kind;
 ghost use Rattle.wave_grammar.specs.ParserPosition.{Place};
 ghost use Rattle.wave_lex.specs.Errors.{Says};
 ghost use Rattle.wave_tree.specs.FromStr.{IsCausedBetween};
 ghost use Rattle.wave_tree.specs.FromStr.{IsMeant, RefusesText, start_of};
-ghost use Rattle.wasm_wave.specs.Headline.{IsToldByText, IsReadAgain, OneValue, IsMergedAt, RefusesOnly};
+ghost use Rattle.wasm_wave.specs.MainTheorem.{IsToldByText, IsReadAgain, OneValue, IsMergedAt, RefusesOnly};
 
 use crate::wasm::WasmValue;
 use crate::writer::WriterError;

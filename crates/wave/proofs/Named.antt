@@ -4,7 +4,7 @@ use Rattle.wave_lex.specs.declared.error.ParserError.{ParserError}
 use Rattle.wave_lex.specs.declared.error.ParserErrorKind.TheVariants as kind
 use Rattle.wave_tree.specs.FromStr.{IsMeant, TextFault, RefusesText}
 use Rattle.wave_grammar.specs.Denotes.{MeansNone}
-use Rattle.wave_value.specs.Built.{IsFull}
+use Rattle.wave_value.specs.FullTypes.{IsFull}
 use Rattle.wave_value.specs.TypedValue.{TypedValue, IsAt}
 use Rattle.wave_wasm.specs.Text.{text}
 use Rattle.wave.specs.declared.request.TypeName.{TypeName}
@@ -13,7 +13,8 @@ use Rattle.wave.specs.declared.request.Request.TheVariants.{Read}
 use Rattle.wave.specs.declared.program.Unanswered.{Unanswered}
 use Rattle.wave.specs.declared.program.Unanswered.TheVariants as why
 use Rattle.wave.specs.Requests.{type_of}
-use Rattle.wave.specs.Answers.{Answers, IsRefused, IsUnanswered, MatchesRefusal}
+use Rattle.wave.specs.Answers.{Answers, IsRefused}
+use Rattle.wave.specs.Private.Answers.{IsUnanswered, MatchesRefusal}
 
 -- they have no names
 full : (n : TypeName) → IsFull (type_of n)

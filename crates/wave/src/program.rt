@@ -4,7 +4,8 @@ ghost use Rattle.wave.specs.ReadFaults.{IsReadFault};
 ghost use Rattle.wave.specs.Written.{WritesWhole, WritesLess};
 ghost use Rattle.wave.specs.declared.request.Request.TheVariants as request;
 ghost use Rattle.wave.specs.Requests.{AreUnknown, type_of};
-ghost use Rattle.wave.specs.Answers.{Answers, IsOutcome, IsFaultOf, IsUnanswered, MatchesRefusal, line, words_of_fault};
+ghost use Rattle.wave.specs.Answers.{Answers, IsFaultOf, line, words_of_fault};
+ghost use Rattle.wave.specs.Private.Answers.{IsOutcome, IsUnanswered, MatchesRefusal};
 ghost use Rattle.wave.specs.Statuses.{IsAnswer, IsRefusal, IsUsage, IsCutShort, IsFaulty, TellsFault};
 
 use crate::input::{Fault, Input};

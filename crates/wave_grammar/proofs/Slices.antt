@@ -5,11 +5,11 @@ use Rattle.std.proofs.lemmas.Bool.Decides.{nat_tests}
 use Rattle.std.proofs.lemmas.List.{take-append-drop, take-take, drop-drop, drop-take, length-take, length-take-le}
 use Rattle.wave_lex.specs.declared.lex.Token as lex
 use Rattle.wave_lex.specs.declared.lex.Token.TheVariants.{BraceOpen, BraceClose, ParenOpen, ParenClose, BracketOpen, BracketClose, Colon, Comma, Number, LabelOrKeyword, Char, String, MultilineString}
-use Rattle.wave_lex.specs.Fronts.{IsFront}
+use Rattle.wave_lex.specs.LongestMatch.{IsFront}
 use Rattle.wave_lex.specs.Regex.{Regex, either, both, empty, Matches, joined, Each, is_within}
 use Rattle.wave_lex.specs.Tokens.{shape, gap, blank, comment_text, one}
-use Rattle.wave_lex.specs.Lexing.{three_quotes, MayStandAt, IsToken, IsLongestToken, IsGap, Lexeme, Front, remainder_of}
-use Rattle.wave_lex.specs.Reading.{class_of}
+use Rattle.wave_lex.specs.Tokenization.{three_quotes, MayStandAt, IsToken, IsLongestToken, IsGap, Lexeme, Front, remainder_of}
+use Rattle.wave_lex.specs.Private.Reading.{class_of}
 use Rattle.wave_lex.proofs.Derive.{empty_from, empty_into}
 use Rattle.wave_lex.proofs.Classes.{no_string, token_shows}
 use Rattle.wave_lex.proofs.Cutting.{one_class}

@@ -1,5 +1,6 @@
 pub mod Token
 pub mod NumberText
+pub mod Private
 pub mod LeafTokens
 pub mod CommaSeparated
 pub mod TypedGrammar
@@ -7,11 +8,9 @@ pub mod Denotes
 pub mod Tree
 pub mod Elaborates
 pub mod PrefixAutomaton
-pub mod TokenRoles
 pub mod LenientTree
 pub mod ParserPosition
 pub mod SyntaxErrors
-pub mod FlagOrder
 pub mod Params
 pub mod Calls
 pub mod SpannedTree

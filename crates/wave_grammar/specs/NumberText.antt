@@ -30,8 +30,3 @@ whole_text kind text = if is_signed kind then signed_text text else unsigned_tex
 abbrev pub IsNumberOf : Whole → List ℕ → Option ℤ → Type 0
 IsNumberOf kind text (Some z) = (whole_text kind text ≡ Some z) × IsInRange kind z
 IsNumberOf kind text None = (z : ℤ) → whole_text kind text ≡ Some z → IsInRange kind z → ⊥
-
--- the digits stand for a number of 64 bits, and this one; or they don't
-abbrev pub IsMagnitude : List ℕ → Option ℕ → Type 0
-IsMagnitude text (Some n) = (all_digits text ≡ Some n) × (n < 2 ^ 64)
-IsMagnitude text None = (n : ℕ) → all_digits text ≡ Some n → 2 ^ 64 ≤ n

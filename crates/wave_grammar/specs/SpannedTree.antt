@@ -2,7 +2,7 @@
 use Rattle.std.specs.Prelude.{ℕ, ◌≡◌, ◌≤◌, ◌+◌, ◌-◌, List, [], ◌∷◌, map, drop, slice_range}
 use Rattle.std.specs.declared.ops.Range.{Range}
 use Rattle.wave_wasm.specs.Lists.{AllOf}
-use Rattle.wave_lex.specs.Lexing.{Stands, IsGap, Front}
+use Rattle.wave_lex.specs.Tokenization.{Stands, IsGap, Front}
 use Rattle.wave_grammar.specs.Token.{Token, lexeme_of}
 use Rattle.wave_grammar.specs.Token as token
 use Rattle.wave_grammar.specs.Tree as tree

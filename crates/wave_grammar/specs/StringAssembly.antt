@@ -8,7 +8,7 @@ use Rattle.wave_wasm.specs.Lists.{AllOf}
 use Rattle.wave_lex.specs.declared.error.ParserError.{ParserError}
 use Rattle.wave_lex.specs.declared.error.ParserErrorKind.TheVariants.{OutOfMemory}
 use Rattle.wave_lex.specs.declared.strings.StringPart.{StringPart}
-use Rattle.wave_lex.specs.Left.{LinesLeft}
+use Rattle.wave_lex.specs.Remaining.{LinesLeft}
 use Rattle.wave_lex.specs.Parts.{part_texts, HasBadLine, LinesRunTo}
 use Rattle.wave_lex.specs.Errors.{Says}
 use Rattle.std.specs.Cow.{cow_str_bytes}
@@ -32,10 +32,6 @@ BorrowedWhere P (Owned s) = P → ⊥
 -- a refusal for want of memory, at the place
 abbrev pub WantsMemory : Range ℕ → ParserError → Type 0
 WantsMemory place e = Says e OutOfMemory place None
-
--- nothing is left
-abbrev pub IsEnded : LinesLeft → Type 0
-IsEnded l = (l.line.rest ≡ []) × (l.later ≡ [])
 
 -- one run is left, or nothing: no `\`, and no line behind
 abbrev pub IsOneRun : LinesLeft → Type 0

@@ -6,7 +6,7 @@ use Rattle.wave_lex.specs.declared.error.ParserError.{ParserError}
 use Rattle.wave_lex.specs.declared.error.ParserErrorKind.{ParserErrorKind}
 use Rattle.wave_lex.specs.declared.error.ParserErrorKind.TheVariants.{EmptyTuple, InvalidToken, UnexpectedEnd, UnexpectedToken, DuplicateFlag, NestingTooDeep, OutOfMemory}
 use Rattle.wave_lex.specs.Errors.{class_name, repeated_name, Says}
-use Rattle.wave_lex.specs.Lexing.{span}
+use Rattle.wave_lex.specs.Tokenization.{span}
 use Rattle.wave_grammar.specs.Token.{Token, paren_open}
 use Rattle.wave_grammar.specs.LeafTokens.{name_of}
 use Rattle.wave_grammar.specs.ParserPosition.{Place, TakesItem, TakesToken, TakesTokens, token_of, span_at, text_at}
@@ -79,12 +79,3 @@ pub record LeadsBehindValue (n : ℕ) (d : Due) (open_forms : List Form) (old ne
 abbrev pub Gives : {X : Type 0} → Result X ParserError → ℕ → Due → List Form → Place → Place → List Form → Type 0
 Gives (Ok x) n d open_forms old new behind = LeadsBehindValue n d open_forms old new behind
 Gives (Err e) n d open_forms old new behind = FailsBySyntax e n d open_forms old new
-
--- so within all open forms, where this many levels are left, behind forms that the call itself is to close
-abbrev pub GivesWithin : {X : Type 0} → Result X ParserError → ℕ → Due → List Form → Place → Place → Type 0
-GivesWithin result levels d opened old new =
-    (n : ℕ) (s : List Form) → n ≡ levels + length s → Gives result n d (opened ++ s) old new s
-
--- the answer where no level is needed
-abbrev pub GivesAnywhere : {X : Type 0} → Result X ParserError → Due → Place → Place → Type 0
-GivesAnywhere result d old new = (n : ℕ) (s : List Form) → Gives result n d s old new s

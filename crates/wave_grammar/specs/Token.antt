@@ -1,6 +1,6 @@
 -- A token is its class and its text. The text of a punctuation mark is known by its class.
 use Rattle.std.specs.Prelude.{ℕ, List, map, codes}
-use Rattle.wave_lex.specs.Lexing.{Lexeme, Cuts}
+use Rattle.wave_lex.specs.Tokenization.{Lexeme, Cuts}
 use Rattle.wave_lex.specs.declared.lex.Token.TheVariants as class
 
 -- a token

@@ -8,11 +8,11 @@ use Rattle.wave_wasm.specs.Types.{TypeTree, MaybeType, Types, Fields, Cases, Sim
 use Rattle.wave_wasm.specs.Values.{Leaf}
 use Rattle.wave_wasm.specs.Text.{bool_text}
 use Rattle.wave_wasm.specs.TypeText.{kind_word}
-use Rattle.wave_wasm.specs.Causes.{Cause, missing_field, missing_payload, unexpected_payload, unknown_case, wrong_number, unsupported_type}
+use Rattle.wave_wasm.specs.ValueErrors.{Cause, missing_field, missing_payload, unexpected_payload, unknown_case, wrong_number, unsupported_type}
 use Rattle.wave_lex.specs.declared.error.ParserErrorKind.{ParserErrorKind}
 use Rattle.wave_lex.specs.declared.error.ParserErrorKind.TheVariants.{InvalidType, InvalidValue, InvalidEscape, DuplicateField}
 use Rattle.wave_lex.specs.Errors.{Refusal, plainly, caused}
-use Rattle.wave_lex.specs.Lexing.{span}
+use Rattle.wave_lex.specs.Tokenization.{span}
 use Rattle.wave_lex.specs.Strings.{IsInQuotes, IsBadEscapeAt}
 use Rattle.wave_lex.specs.Multiline.{LineFault, MultilineFault, IsInThreeQuotes, fault_kind, fault_span}
 use Rattle.wave_grammar.specs.Token.{Token}

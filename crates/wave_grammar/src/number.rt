@@ -1,7 +1,8 @@
 //! Whole numbers, by the texts of their tokens.
 ghost use Rattle.std.specs.Prelude.{ℕ, ◌≡◌, ◌≤◌, ◌^◌, Some, None};
 ghost use Rattle.wave_wasm.specs.Types.{s64, u64};
-ghost use Rattle.wave_grammar.specs.NumberText.{IsNumberOf, IsMagnitude};
+ghost use Rattle.wave_grammar.specs.NumberText.{IsNumberOf};
+ghost use Rattle.wave_grammar.specs.Private.NumberText.{IsMagnitude};
 
 /// The types of whole numbers that a value may have: i8, i16, i32, i64, u8, u16, u32 and u64.
 pub trait WholeNumber: Sized {

@@ -3,7 +3,8 @@ ghost use Rattle.std.specs.Prelude.{◌≡◌, ◌++◌, [], OnOk, IfErr};
 ghost use Rattle.std.specs.String.{string_bytes};
 ghost use Rattle.wave_lex.specs.Parts.{part_text, left_of};
 ghost use Rattle.wave_grammar.specs.StringAssembly.{CharIn};
-ghost use Rattle.wave_grammar.specs.StringAssembly.{WantsMemory, IsEnded, IsUncopied, PutTogether};
+ghost use Rattle.wave_grammar.specs.StringAssembly.{WantsMemory, IsUncopied, PutTogether};
+ghost use Rattle.wave_grammar.specs.Private.StringAssembly.{IsEnded};
 
 use std::alloc::Global;
 use std::borrow::CowStr;

@@ -6,13 +6,13 @@ use Rattle.wave_lex.specs.declared.lex.Token.{Token}
 use Rattle.wave_lex.specs.declared.lex.Token.TheVariants.{LabelOrKeyword, MultilineString}
 use Rattle.wave_lex.specs.Regex.{Matches}
 use Rattle.wave_lex.specs.Tokens.{shape}
-use Rattle.wave_lex.specs.Lexing.{three_quotes, IsToken, NoToken, IsLongestToken, IsGap, Lexeme, Front, OneCut, NoLongerLabel}
-use Rattle.wave_lex.specs.Reading.{ClassAt, class_of}
+use Rattle.wave_lex.specs.Tokenization.{three_quotes, IsToken, NoToken, IsLongestToken, IsGap, Lexeme, Front, OneCut, NoLongerLabel}
+use Rattle.wave_lex.specs.Private.Reading.{ClassAt, class_of}
 use Rattle.wave_lex.proofs.Derive.{empty_into}
 use Rattle.wave_lex.proofs.Shapes.{same_list, same_list_true}
 use Rattle.wave_lex.proofs.Classes.{class_here, class_quoted, shape_not_empty}
-use Rattle.wave_lex.proofs.Fronts.{front_positive, is_ascii, no_front, no_front_here}
-use Rattle.wave_lex.specs.Fronts.{IsFront}
+use Rattle.wave_lex.proofs.LongestMatch.{front_positive, is_ascii, no_front, no_front_here}
+use Rattle.wave_lex.specs.LongestMatch.{IsFront}
 
 -- a token has a first scalar
 first_scalar : (r cs : List ℕ) (k : ℕ) (c : Token) → encode_utf8_all cs ≡ take k r → Matches (shape c) cs → (x : ℕ) × (rest : List ℕ) × (r ≡ encode_utf8 x ++ rest)

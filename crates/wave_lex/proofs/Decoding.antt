@@ -5,7 +5,7 @@ use Rattle.std.specs.Char.{digit_value}
 use Rattle.std.specs.Str.Parse.{AllDigits, digits_value}
 use Rattle.std.proofs.lemmas.List.{append_cancel_left, append_cancel_right, append-nil}
 use Rattle.std.proofs.lemmas.Str.{encode_same}
-use Rattle.wave_lex.specs.Lexing.{three_quotes}
+use Rattle.wave_lex.specs.Tokenization.{three_quotes}
 use Rattle.wave_lex.specs.Multiline.{DropsReturn, LineMeans, LinesMean, spaces, in_lines, DecodesLines, MultilineMeans}
 use Rattle.wave_lex.specs.Strings.{CharMeans, StringMeans, short_escape, IsEscape, StringPiece, IsCutInto, Decodes}
 

@@ -11,7 +11,7 @@ use Rattle.wave_lex.specs.declared.lex.Token.TheVariants as class
 use Rattle.wave_lex.specs.declared.error.ParserErrorKind.TheVariants as kind
 use Rattle.wave_lex.specs.declared.error.Detail.TheVariants as detail
 use Rattle.wave_lex.specs.Tokens.{gap, invalid, function_name, label}
-use Rattle.wave_lex.specs.Lexing.{IsInvalid, IsLongestToken, Cuts, three_quotes, span}
+use Rattle.wave_lex.specs.Tokenization.{IsInvalid, IsLongestToken, Cuts, three_quotes, span}
 use Rattle.wave_lex.specs.FunctionName.{IsName}
 use Rattle.wave_lex.specs.Labels.{IsLabel}
 use Rattle.wave_lex.specs.Strings.{CharMeans, StringMeans, UnescapesTo, IsBadEscapeAt, short_escape}
@@ -19,7 +19,7 @@ use Rattle.wave_lex.specs.Multiline.{MultilineMeans, MultilineFault, closing, op
 use Rattle.wave_lex.specs.Errors.{error_text}
 use Rattle.wave_lex.proofs.Unescape.{none_long}
 use Rattle.wave_lex.proofs.Derive.{matches_from}
-use Rattle.wave_lex.proofs.Fronts.{longest_here, token_here, no_token_here}
+use Rattle.wave_lex.proofs.LongestMatch.{longest_here, token_here, no_token_here}
 use Rattle.wave_lex.proofs.Cutting.{no_token_quoted}
 
 -- ---- tokens

@@ -15,7 +15,7 @@ use Rattle.wave_lex.specs.declared.lex.Token.TheVariants.{LabelOrKeyword}
 use Rattle.wave_lex.specs.Regex.{Regex, nothing, empty, within, other, both, either, many, Matches, Each, joined, is_within}
 use Rattle.wave_lex.specs.Tokens.{some, digit, label_or_keyword, first_word, next_word}
 use Rattle.wave_lex.specs.Labels.{IsLabel}
-use Rattle.wave_lex.specs.Lexing.{IsToken}
+use Rattle.wave_lex.specs.Tokenization.{IsToken}
 use Rattle.wave_lex.specs.LabelWords.{IsLowerOrDigit, IsUpperOrDigit, IsWord, BeginsWithLetter, IsJoinedWords, LabelsAreWords, LabelTokensAreLabels}
 use Rattle.wave_lex.proofs.Shapes.{and_true, one_is}
 

@@ -6,10 +6,10 @@ use Rattle.std.proofs.lemmas.List.{append-nil}
 use Rattle.wave_lex.specs.declared.strings.StringPart.{StringPart}
 use Rattle.wave_lex.specs.declared.strings.StringPart.TheVariants.{Char}
 use Rattle.wave_lex.specs.declared.error.ParserError.{ParserError}
-use Rattle.wave_lex.specs.Lexing.{span}
+use Rattle.wave_lex.specs.Tokenization.{span}
 use Rattle.wave_lex.specs.Strings.{Decodes, IsBadEscapeAt}
 use Rattle.wave_lex.specs.Multiline.{LinesMean, in_lines, DecodesLines, LineFault, closing, opening, indentation, escape, BadLines, MultilineFault, fault_span}
-use Rattle.wave_lex.specs.Left.{Undecoded, LinesLeft, one_line}
+use Rattle.wave_lex.specs.Remaining.{Undecoded, LinesLeft, one_line}
 use Rattle.wave_lex.specs.Parts.{part_text, part_texts, TellsBadEscape, TellsFault, EntersLine, HasBadLine, MeetsBadLine, StaysInLine, LinePartIs, Begins, OpeningRefused, LinesRunTo, LinesJoin, OneLineJoins}
 use Rattle.wave_lex.proofs.Decoding.{empty_once}
 use Rattle.wave_lex.proofs.Parts.{takes, bad_behind, bad_here}

@@ -9,10 +9,10 @@ use Rattle.std.proofs.lemmas.Str.{IsCharBoundary-start, IsCharBoundary-after_asc
 use Rattle.std.proofs.lemmas.List.{append-nil, take-append-drop}
 use Rattle.wave_lex.proofs.Decoding.{length_spaces}
 use Rattle.wave_lex.specs.Multiline.{put_first, pieces, spaces, DropsReturn, IsIndented, Opens, IsSpaces, without_return, last_of, closing_piece, OpensWell}
-use Rattle.wave_lex.specs.Left.{Undecoded, LinesLeft, but_last, ended_lines}
+use Rattle.wave_lex.specs.Remaining.{Undecoded, LinesLeft, but_last, ended_lines}
 use Rattle.wave_lex.specs.declared.error.ParserError.{ParserError}
 use Rattle.wave_lex.specs.Parts.{Begins, EntersLine, HasBadLine}
-use Rattle.wave_lex.specs.Lines.{BehindLastFeed, SplitsLine, OpeningIs, LineIs}
+use Rattle.wave_lex.specs.Private.Lines.{BehindLastFeed, SplitsLine, OpeningIs, LineIs}
 
 -- ---- spaces
 

@@ -3,9 +3,9 @@ use Rattle.std.proofs.Common.{◌≡◌, ℕ, ◌≤◌, ◌<◌, ◌+◌, List,
 use Rattle.std.specs.declared.ops.Range.{Range}
 use Rattle.wave_lex.specs.declared.lex.Token.{Token}
 use Rattle.wave_lex.specs.Tokens.{shape, invalid}
-use Rattle.wave_lex.specs.Lexing.{Lexed, Passes, IsGap, IsLongestToken, IsInvalid, NextIs, remainder_of}
+use Rattle.wave_lex.specs.Tokenization.{Lexed, Passes, IsGap, IsLongestToken, IsInvalid, NextIs, remainder_of}
 use Rattle.wave_lex.proofs.Classes.{shape_not_empty}
-use Rattle.wave_lex.proofs.Fronts.{front_positive}
+use Rattle.wave_lex.proofs.LongestMatch.{front_positive}
 use Rattle.wave_lex.proofs.Cutting.{one_class, same_gap, no_token_left}
 
 -- two lexers with equal parts are one

@@ -5,7 +5,7 @@ use Rattle.std.proofs.lemmas.Bool.{eqb-true}
 use Rattle.std.proofs.lemmas.Bool.Decides.{nat_tests}
 use Rattle.wave_lex.specs.Regex.{Regex, other, both, Matches, Each, joined, is_one_of, is_within}
 use Rattle.wave_lex.specs.Tokens.{one, word, up_to, multiline_string}
-use Rattle.wave_lex.specs.Lexing.{three_quotes, HasNoThreeQuotes, ThroughFirstQuotes}
+use Rattle.wave_lex.specs.Tokenization.{three_quotes, HasNoThreeQuotes, ThroughFirstQuotes}
 use Rattle.wave_lex.proofs.Shapes.{one_is}
 
 -- ---- words

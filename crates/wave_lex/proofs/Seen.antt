@@ -2,7 +2,7 @@
 use Rattle.std.specs.Prelude.{◌≡◌, ℕ, ◌≤◌, true, List, Option, Some, None, take, length, encode_utf8_all}
 use Rattle.wave_lex.specs.Regex.{Regex}
 use Rattle.wave_lex.specs.Derive.{may_be_empty, after_all}
-use Rattle.wave_lex.specs.Fronts.{Greatest}
+use Rattle.wave_lex.specs.LongestMatch.{Greatest}
 
 -- how many bytes the first i scalars take
 abbrev pub place_of : List ℕ → ℕ → ℕ

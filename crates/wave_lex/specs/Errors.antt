@@ -3,7 +3,7 @@ use Rattle.std.specs.Prelude.{◌≡◌, ℕ, ◌≤◌, ◌++◌, List, [], len
 use Rattle.std.specs.Fmt.{decimal}
 use Rattle.std.specs.String.{string_bytes}
 use Rattle.std.specs.declared.ops.Range.{Range}
-use Rattle.wave_wasm.specs.Causes.{Cause, memory, cause_of, cause_text, quoted_name}
+use Rattle.wave_wasm.specs.ValueErrors.{Cause, memory, cause_of, cause_text, quoted_name}
 use Rattle.wave_wasm.specs.declared.wasm.WasmValueError.{WasmValueError}
 use Rattle.wave_wasm.specs.declared.wasm.WasmValueError.TheVariants as error
 use Rattle.wave_lex.specs.declared.error.ParserErrorKind.{ParserErrorKind}

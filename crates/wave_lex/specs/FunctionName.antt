@@ -2,9 +2,9 @@
 use Rattle.std.specs.Prelude.{◌≡◌, ℕ, ◌+◌, List, [], Option, Some, None, Result, Ok, Err}
 use Rattle.std.specs.declared.ops.Range.{Range}
 use Rattle.wave_lex.specs.declared.lex.FuncNameToken.{FuncNameToken}
-use Rattle.wave_lex.specs.Fronts.{Greatest, IsFront}
+use Rattle.wave_lex.specs.LongestMatch.{Greatest, IsFront}
 use Rattle.wave_lex.specs.Tokens.{function_name, any}
-use Rattle.wave_lex.specs.Lexing.{Lexed, remainder_of, span}
+use Rattle.wave_lex.specs.Tokenization.{Lexed, remainder_of, span}
 
 -- the first k bytes of s are the longest function name
 abbrev pub IsName : List ℕ → ℕ → Type 0

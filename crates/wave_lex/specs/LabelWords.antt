@@ -5,7 +5,7 @@ use Rattle.std.specs.List.{join_with_byte}
 use Rattle.wave_wasm.specs.Lists.{AllOf}
 use Rattle.wave_lex.specs.declared.lex.Token.TheVariants.{LabelOrKeyword}
 use Rattle.wave_lex.specs.Labels.{IsLabel}
-use Rattle.wave_lex.specs.Lexing.{IsToken}
+use Rattle.wave_lex.specs.Tokenization.{IsToken}
 
 -- `-`
 abbrev pub hyphen : ℕ

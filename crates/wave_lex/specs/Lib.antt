@@ -1,10 +1,10 @@
 pub mod Regex
 pub mod Derive
-pub mod Fronts
+pub mod LongestMatch
 pub mod Tokens
-pub mod Lexing
-pub mod Items
-pub mod Reading
+pub mod Tokenization
+pub mod LexerRuns
+pub mod Private
 pub mod Machines
 pub mod NameMachine
 pub mod Labels
@@ -13,6 +13,5 @@ pub mod FunctionName
 pub mod Strings
 pub mod Multiline
 pub mod Errors
-pub mod Left
+pub mod Remaining
 pub mod Parts
-pub mod Lines

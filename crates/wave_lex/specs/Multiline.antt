@@ -4,7 +4,7 @@ use Rattle.std.specs.declared.ops.Range.{Range}
 use Rattle.wave_lex.specs.declared.error.ParserErrorKind.{ParserErrorKind}
 use Rattle.wave_lex.specs.declared.error.ParserErrorKind.TheVariants.{InvalidEscape, InvalidMultilineString}
 use Rattle.wave_lex.specs.Tokens.{line_feed, carriage_return}
-use Rattle.wave_lex.specs.Lexing.{three_quotes, span}
+use Rattle.wave_lex.specs.Tokenization.{three_quotes, span}
 use Rattle.wave_lex.specs.Strings.{CharMeans, StringMeans, Decodes, Undecodable, IsBadEscapeAt}
 
 -- ---- lines

@@ -9,8 +9,8 @@ use Rattle.wave_lex.specs.declared.strings.StringPartsIter.{StringPartsIter}
 use Rattle.wave_lex.specs.declared.strings.StringPartsIter.TheVariants.{Normal, Multiline}
 use Rattle.std.specs.declared.ops.Range.{Range}
 use Rattle.wave_lex.specs.Tokens.{backslash, line_feed}
-use Rattle.wave_lex.specs.Left.{Undecoded, LinesLeft, one_line}
-use Rattle.wave_lex.specs.Lexing.{span}
+use Rattle.wave_lex.specs.Remaining.{Undecoded, LinesLeft, one_line}
+use Rattle.wave_lex.specs.Tokenization.{span}
 use Rattle.wave_lex.specs.Strings.{IsEscape, UnescapesTo, Decodes, IsBadEscapeAt}
 use Rattle.wave_lex.specs.Multiline.{pieces, spaces, IsIndented, Opens, DecodesLines, LineFault, closing, opening, IsSpaces, closing_piece, OpensWell, MultilineFault, fault_kind, fault_span}
 use Rattle.wave_lex.specs.Errors.{refusal_of, plainly, detail_text, fault_detail, badly_indented}

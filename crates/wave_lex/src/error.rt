@@ -1,7 +1,7 @@
 //! Why a text is refused.
 ghost use Rattle.std.specs.Prelude.{◌≡◌, None, Some, option_map};
 ghost use Rattle.std.specs.String.{string_bytes};
-ghost use Rattle.wave_wasm.specs.Causes.{cause_of};
+ghost use Rattle.wave_wasm.specs.ValueErrors.{cause_of};
 ghost use Rattle.wave_lex.specs.Errors.{plainly, refused_by, kept, refusal_of, detail_text, kind_words, error_text};
 
 use crate::lex::Span;

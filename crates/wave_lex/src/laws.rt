@@ -1,7 +1,7 @@
 //! Laws of the definitions.
-ghost use Rattle.wave_lex.specs.Items.{TokensCut};
+ghost use Rattle.wave_lex.specs.LexerRuns.{TokensCut};
 ghost use Rattle.wave_lex.specs.LabelWords.{LabelTokensAreLabels, LabelsAreWords};
-ghost use Rattle.wave_lex.specs.Lexing.{NoLongerLabel, OneCut, ThroughFirstQuotes};
+ghost use Rattle.wave_lex.specs.Tokenization.{NoLongerLabel, OneCut, ThroughFirstQuotes};
 ghost use Rattle.wave_lex.specs.Multiline.{FaultsRefuse, OneMeaning};
 ghost use Rattle.wave_lex.specs.Parts.{LinesJoin, OneLineJoins, PartsJoin};
 

@@ -2,10 +2,10 @@
 ghost use Rattle.std.specs.Prelude.{◌≡◌, ℕ, ◌+◌, Some, slice_range, length};
 ghost use Rattle.std.specs.Iterator.{at_most};
 ghost use Rattle.wave_lex.specs.Errors.{class_name, name_class_name};
-ghost use Rattle.wave_lex.specs.Fronts.{Greatest, IsFront};
+ghost use Rattle.wave_lex.specs.LongestMatch.{Greatest, IsFront};
 ghost use Rattle.wave_lex.specs.Tokens.{shape, gap, invalid};
-ghost use Rattle.wave_lex.specs.Lexing.{IsGap, Lexed, Stands, NextIs, remainder_of, span};
-ghost use Rattle.wave_lex.specs.Reading.{class_of, ClassAt, TokenAt};
+ghost use Rattle.wave_lex.specs.Tokenization.{IsGap, Lexed, Stands, NextIs, remainder_of, span};
+ghost use Rattle.wave_lex.specs.Private.Reading.{class_of, ClassAt, TokenAt};
 
 pub use self::func_name::FuncNameLexer;
 use crate::asked::Asked;

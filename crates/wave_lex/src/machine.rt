@@ -2,7 +2,7 @@
 ghost use Rattle.std.specs.Prelude.{◌≡◌, ℕ, ◌≤◌, length};
 ghost use Rattle.wave_lex.specs.Regex.{Regex};
 ghost use Rattle.wave_lex.specs.Derive.{may_be_empty, after, after_next};
-ghost use Rattle.wave_lex.specs.Fronts.{Greatest, IsFront};
+ghost use Rattle.wave_lex.specs.LongestMatch.{Greatest, IsFront};
 
 pub(crate) mod character;
 pub(crate) mod escape;

@@ -6,9 +6,9 @@ ghost use Rattle.std.specs.Str.{IsUtf8};
 ghost use Rattle.wave_lex.specs.Strings.{UnescapesTo};
 ghost use Rattle.wave_lex.specs.Multiline.{pieces, closing_piece, DropsReturn};
 ghost use Rattle.wave_lex.specs.declared.strings.StringPartsIter.TheVariants.{Normal};
-ghost use Rattle.wave_lex.specs.Left.{ended_lines, size_of};
+ghost use Rattle.wave_lex.specs.Remaining.{ended_lines, size_of};
 ghost use Rattle.wave_lex.specs.Parts.{PartIs, LinePartIs, OpensTo, OpeningRefused, left_of};
-ghost use Rattle.wave_lex.specs.Lines.{LineIs, SplitsLine, OpeningIs, BehindLastFeed};
+ghost use Rattle.wave_lex.specs.Private.Lines.{LineIs, SplitsLine, OpeningIs, BehindLastFeed};
 
 use crate::error::{ParserError, ParserErrorKind};
 use crate::machine::escape::short_escape;
@@ -32,7 +32,7 @@ pub struct StringParts<'a> {
 
 impl<'a> Model for StringParts<'a> {
     ghost use Rattle.std.specs.Prelude.{◌+◌, ◌<◌, ◌^◌, length};
-    ghost use Rattle.wave_lex.specs.Left.{Undecoded};
+    ghost use Rattle.wave_lex.specs.Remaining.{Undecoded};
 
     ghost Value = { Undecoded };
 
@@ -95,7 +95,7 @@ pub struct MultilineStringParts<'a> {
 
 impl<'a> Model for MultilineStringParts<'a> {
     ghost use Rattle.std.specs.Prelude.{◌+◌, ◌<◌, ◌^◌, length};
-    ghost use Rattle.wave_lex.specs.Left.{LinesLeft, ended_lines};
+    ghost use Rattle.wave_lex.specs.Remaining.{LinesLeft, ended_lines};
 
     ghost Value = { LinesLeft };
 

@@ -11,7 +11,8 @@ use Rattle.wave_grammar.specs.SpannedTree.{Placed, Shape, at, empty_braces, flag
 use Rattle.wave_node.specs.NodeTree.{NodeTree, type_of, place_of, children_of}
 use Rattle.wave_node.specs.Nodes.{placed_of, shape_from, flag_of, flags_of, key_of, with_both, IsNodeOf, IsParsedFrom}
 use Rattle.wave_node.specs.NodeAccessors.{node_text}
-use Rattle.wave_node.specs.NodeFlags.{names_at, AreAllParsed, AreFlags, AreInOrder}
+use Rattle.wave_node.specs.NodeFlags.{names_at, AreFlags, AreInOrder}
+use Rattle.wave_node.specs.Private.NodeFlags.{AreAllParsed}
 use Rattle.wave_node.proofs.ChildNodes.Inside.{inside, some_is, flag_key, AreParsed, parsed, nodes_in, nodes_are}
 use Rattle.wave_node.proofs.ChildNodes.Cases.{shape_at}
 use Rattle.wave_node.proofs.ByKind.Variants.{flag_text}

@@ -6,18 +6,19 @@ use Rattle.std.specs.Prelude.{is_some}
 use Rattle.std.specs.BTreeMap.{BTreeMap}
 use Rattle.wave_wasm.specs.Lists.{SomeOf}
 use Rattle.wave_wasm.specs.Names.{IsOneOf, IsNoneOf, AreAllOf, is_one_of, found_in}
-use Rattle.wave_wasm.specs.Shown.{texts}
+use Rattle.wave_wasm.specs.Borrowed.{texts}
 use Rattle.wave_grammar.specs.LeafTokens.{name_of}
-use Rattle.wave_wasm.specs.Causes.{unknown_case}
+use Rattle.wave_wasm.specs.ValueErrors.{unknown_case}
 use Rattle.wave_lex.specs.Errors.{refusal_of}
 use Rattle.wave_lex.specs.declared.error.ParserError.{ParserError}
 use Rattle.wave_node.specs.NodeTree.{NodeTree, place_of, children_of}
 use Rattle.wave_grammar.specs.TypeErrors.{RefusesFor}
-use Rattle.wave_node.specs.TypedReading.{IsCaused}
+use Rattle.wave_node.specs.Private.TypedReading.{IsCaused}
 use Rattle.wave_node.specs.NodeAccessors.{node_text}
-use Rattle.wave_node.specs.NodeFlags.{names_at, AreFlags, HoldsNames, PicksFrom, RefusesFlags}
-use Rattle.wave_wasm.proofs.Names.{held}
-use Rattle.wave_wasm.proofs.OneOf.{is_one, none_of}
+use Rattle.wave_node.specs.NodeFlags.{names_at, AreFlags}
+use Rattle.wave_node.specs.Private.NodeFlags.{HoldsNames, PicksFrom, RefusesFlags}
+use Rattle.wave_wasm.proofs.NameSets.{held}
+use Rattle.wave_wasm.proofs.NameTests.{is_one, none_of}
 
 -- one more item is taken
 taken : {X Y : Type 0} (f : X → Y) (xs : List X) (i : ℕ) (x : X) → i < length xs → x ≡ get_or xs i x → map f (take (i + 1) xs) ≡ map f (take i xs) ++ f x ∷ []

@@ -3,9 +3,9 @@ use Rattle.std.proofs.Common.{◌≡◌, inl, inr, Result, Ok, Err, IfOk, IfErr,
 use Rattle.std.specs.Result.{IsErrAnd}
 use Rattle.wave_wasm.specs.Types.{TypeTree, simple}
 use Rattle.wave_wasm.specs.Values.{Value, Leaf, leaf_type}
-use Rattle.wave_wasm.specs.Causes.{cause_of}
+use Rattle.wave_wasm.specs.ValueErrors.{cause_of}
 use Rattle.wave_wasm.specs.Values as value
-use Rattle.wave_wasm.specs.Makers.{IsMemory, MakesLeaf, FullLeaf}
+use Rattle.wave_wasm.specs.ConstructorContracts.{IsMemory, MakesLeaf, FullLeaf}
 use Rattle.wave_wasm.specs.declared.wasm.WasmValueError.{WasmValueError}
 use Rattle.wave_wasm.specs.declared.wasm.WasmValueError.TheVariants as error
 use Rattle.wave_lex.specs.Errors.{Refusal, refusal_of, refused_by}

@@ -1,7 +1,7 @@
 -- Worked examples of nodes: what a node of each type is, by its text and its children.
 use Rattle.std.proofs.Common.{◌≡◌, [], ◌∷◌, refl, Some, None}
 use Rattle.std.specs.Prelude.{codes, map}
-use Rattle.wave_lex.specs.Lexing.{span}
+use Rattle.wave_lex.specs.Tokenization.{span}
 use Rattle.wave_grammar.specs.Token.{number}
 use Rattle.wave_grammar.specs.Token as token
 use Rattle.wave_grammar.specs.SpannedTree as placed

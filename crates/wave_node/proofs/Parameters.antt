@@ -8,8 +8,8 @@ use Rattle.wave_wasm.specs.Types as type
 use Rattle.wave_wasm.specs.Types.{TypeTree, kind_of}
 use Rattle.wave_wasm.specs.Values as value
 use Rattle.wave_wasm.specs.Values.{Value, no_value}
-use Rattle.wave_wasm.specs.Makers.{IsMemory, Makes, FullOption, AreOf}
-use Rattle.wave_wasm.specs.Causes.{cause_of}
+use Rattle.wave_wasm.specs.ConstructorContracts.{IsMemory, Makes, FullOption, AreOf}
+use Rattle.wave_wasm.specs.ValueErrors.{cause_of}
 use Rattle.wave_wasm.specs.declared.wasm.WasmTypeKind.TheVariants as kinds
 use Rattle.wave_wasm.specs.declared.wasm.WasmValueError.{WasmValueError}
 use Rattle.wave_wasm.specs.declared.wasm.WasmValueError.TheVariants as error
@@ -21,7 +21,8 @@ use Rattle.wave_grammar.specs.Params.{Omitted}
 use Rattle.wave_grammar.specs.SpannedTree.{Placed, span_of, tree_of, LiesIn}
 use Rattle.wave_node.specs.TypedReading.{IsTypeError}
 use Rattle.wave_grammar.specs.Elaborates.{TreeReads}
-use Rattle.wave_node.specs.NodeParams.{NoParams, IsNoOption, ParamsFault, AreRead, MakerRefuses, RefusesItems, RefusesOmitted, close_of}
+use Rattle.wave_node.specs.NodeParams.{NoParams, IsNoOption, ParamsFault, AreRead, MakerRefuses, RefusesItems, close_of}
+use Rattle.wave_node.specs.Private.NodeParams.{RefusesOmitted}
 use Rattle.wave_node.specs.NodeTree.{NodeTree, place_of}
 use Rattle.wave_node.specs.Nodes.{IsNodeOf}
 use Rattle.wave_node.specs.ErrorSpans.{StandsIn}

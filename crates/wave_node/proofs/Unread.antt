@@ -4,14 +4,15 @@ use Rattle.std.specs.declared.ops.Range.{Range}
 use Rattle.wave_wasm.specs.Types as type
 use Rattle.wave_wasm.specs.Types.{TypeTree, kind_of}
 use Rattle.wave_wasm.specs.TypeText.{kind_word}
-use Rattle.wave_wasm.specs.Causes.{Cause, unsupported_type}
+use Rattle.wave_wasm.specs.ValueErrors.{Cause, unsupported_type}
 use Rattle.wave_lex.specs.Errors.{Refusal, refusal_of}
 use Rattle.wave_lex.specs.declared.error.ParserError.{ParserError}
 use Rattle.wave_grammar.specs.SpannedTree.{Placed, span_of}
 use Rattle.wave_node.specs.NodeTree.{NodeTree}
 use Rattle.wave_node.specs.Nodes.{placed_of}
 use Rattle.wave_grammar.specs.TypeErrors.{RefusesFor, Fault}
-use Rattle.wave_node.specs.TypedReading.{IsBlamed, IsCaused}
+use Rattle.wave_node.specs.TypedReading.{IsBlamed}
+use Rattle.wave_node.specs.Private.TypedReading.{IsCaused}
 use Rattle.wave_node.proofs.ChildNodes.Inside.{inside}
 use Rattle.wave_wasm.specs.declared.wasm.WasmTypeKind.{WasmTypeKind}
 use Rattle.wave_wasm.specs.declared.wasm.WasmTypeKind.TheVariants as kind

@@ -1,7 +1,7 @@
 -- Where the refusal of a node stands.
 use Rattle.std.specs.Prelude.{ℕ, ◌≡◌, ◌⊎◌, ◌≤◌, Option, Some, None}
 use Rattle.std.specs.declared.ops.Range.{Range}
-use Rattle.wave_wasm.specs.Causes.{Cause}
+use Rattle.wave_wasm.specs.ValueErrors.{Cause}
 use Rattle.wave_lex.specs.Errors.{refusal_of, caused}
 use Rattle.wave_lex.specs.declared.error.ParserError.{ParserError}
 use Rattle.wave_lex.specs.declared.error.ParserErrorKind.TheVariants.{WasmValueError}
@@ -41,10 +41,6 @@ IsCausedIn n e = (m : NodeTree) × IsPartOf m n × IsAtNode m e
 pub record StandsIn (n : NodeTree) (e : ParserError) : Type 0 where
   pub lies : LiesInNode n e.span
   pub caused : e.kind ≡ WasmValueError → IsCausedIn n e
-
--- the refusal stands at the node, or in that of its part
-abbrev pub StandsInPart : NodeTree → Option NodeTree → ParserError → Type 0
-StandsInPart n part e = IsAtNode n e ⊎ ((m : NodeTree) × (part ≡ Some m) × StandsIn m e)
 
 -- so among the parameters of a call; at its name where it gives none
 abbrev pub IsCausedInParams : Range ℕ → Option NodeTree → ParserError → Type 0

@@ -1,6 +1,5 @@
 pub mod NodeTree
-pub mod NodeEncoding
-pub mod NodeDepth
+pub mod Private
 pub mod Nodes
 pub mod NodeAccessors
 pub mod NodeStrings

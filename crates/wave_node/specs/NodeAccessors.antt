@@ -3,16 +3,14 @@ use Rattle.std.specs.Prelude.{ℕ, ℤ, ◌≡◌, ◌≢◌, ◌⊎◌, ◌+◌
 use Rattle.std.specs.Borrow.{Bor}
 use Rattle.wave_grammar.specs.LeafTokens.{name_of}
 use Rattle.wave_wasm.specs.Lists.{AllOf}
-use Rattle.wave_wasm.specs.Names.{IsOneOf, IsNoneOf}
 use Rattle.wave_wasm.specs.Types.{Whole}
-use Rattle.wave_wasm.specs.Text.{bool_text}
 use Rattle.wave_lex.specs.declared.error.ParserError.{ParserError}
 use Rattle.wave_lex.specs.declared.error.ParserErrorKind.{ParserErrorKind}
 use Rattle.wave_lex.specs.declared.error.ParserErrorKind.TheVariants.{InvalidType, InvalidValue, InvalidEscape}
 use Rattle.wave_lex.specs.Tokens.{single_quote, double_quote}
-use Rattle.wave_lex.specs.Lexing.{three_quotes}
+use Rattle.wave_lex.specs.Tokenization.{three_quotes}
 use Rattle.wave_lex.specs.Strings.{CharMeans}
-use Rattle.wave_lex.specs.Left.{one_line}
+use Rattle.wave_lex.specs.Remaining.{one_line}
 use Rattle.wave_lex.specs.Parts.{left_of, OpensTo, OpeningRefused}
 use Rattle.wave_lex.specs.declared.strings.StringPartsIter.{StringPartsIter}
 use Rattle.wave_grammar.specs.NumberText.{IsNumberOf}
@@ -30,11 +28,6 @@ node_text source n = slice source (place_of n)
 -- a refusal of this kind, at the node, without a detail
 abbrev pub RefusedAs : ParserErrorKind → NodeTree → ParserError → Type 0
 RefusedAs why n e = Says e why (place_of n) None
-
--- the node is of this type; or `InvalidType` at the node
-abbrev pub OfType : NodeType → NodeTree → Result Unit ParserError → Type 0
-OfType ty n (Ok done) = type_of n ≡ ty
-OfType ty n (Err e) = (type_of n ≢ ty) × RefusedAs InvalidType n e
 
 -- the type of the nodes of this bool
 abbrev pub bool_type : Bool → NodeType
@@ -93,11 +86,6 @@ GivesVariant source n (Ok (name, payload)) =
     ⊎ ((c : NodeTree) × (t : NodeTree) × (type_of n ≡ kind.VariantWithPayload) × (children_of n ≡ c ∷ t ∷ []) × (name.now ≡ name_of (node_text source c)) × (shown_node payload ≡ Some t) × IsValueOf source t)
 GivesVariant source n (Err e) = (type_of n ≢ kind.Label) × (type_of n ≢ kind.VariantWithPayload) × RefusedAs InvalidType n e
 
--- the bool of a key, whose label is its word; or `InvalidType` where it is none
-abbrev pub GivesBoolKey : List ℕ → NodeTree → Result Bool ParserError → Type 0
-GivesBoolKey source n (Ok b) = (type_of n ≡ kind.Label) × (node_text source n ≡ bool_text b)
-GivesBoolKey source n (Err e) = ((b : Bool) → type_of n ≡ kind.Label → node_text source n ≢ bool_text b) × RefusedAs InvalidType n e
-
 -- the nodes two by two
 abbrev pub node_pairs : List NodeTree → List (NodeTree × NodeTree)
 node_pairs (key ∷ value ∷ more) = (key, value) ∷ node_pairs more
@@ -155,8 +143,3 @@ GivesParts source n (Ok parts) =
 GivesParts source n (Err e) =
     (type_of n ≢ kind.String) × (type_of n ≢ kind.MultilineString) × RefusedAs InvalidType n e
     ⊎ (type_of n ≡ kind.MultilineString) × (inside : List ℕ) × IsInside source n inside × OpeningRefused inside ((place_of n).start + 3) e
-
--- the test of whether a name is one of the names
-abbrev pub Among : List (List ℕ) → List ℕ → Bool → Type 0
-Among names name true = IsOneOf names name
-Among names name false = IsNoneOf names name

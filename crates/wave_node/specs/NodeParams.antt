@@ -3,14 +3,14 @@ use Rattle.std.specs.Prelude.{ℕ, ◌+◌, ◌≡◌, ◌≢◌, ◌⊎◌, ◌
 use Rattle.wave_wasm.specs.Lists.{AllOf, SomeOf}
 use Rattle.wave_wasm.specs.Types.{TypeTree}
 use Rattle.wave_wasm.specs.Values.{Value}
-use Rattle.wave_wasm.specs.Makers.{AreOf}
+use Rattle.wave_wasm.specs.ConstructorContracts.{AreOf}
 use Rattle.std.specs.declared.ops.Range.{Range}
 use Rattle.wave_lex.specs.Errors.{no_params, Says, refusal_of, too_many_params, too_few_params}
 use Rattle.wave_lex.specs.declared.error.ParserError.{ParserError}
 use Rattle.wave_lex.specs.declared.error.ParserErrorKind.TheVariants.{InvalidParams, OutOfMemory, WasmValueError, InvalidType}
 use Rattle.wave_grammar.specs.TypedGrammar.{IsOption}
 use Rattle.wave_grammar.specs.Params.{Omitted}
-use Rattle.wave_lex.specs.Lexing.{span}
+use Rattle.wave_lex.specs.Tokenization.{span}
 use Rattle.wave_grammar.specs.Elaborates.{TreeReads}
 use Rattle.wave_grammar.specs.SpannedTree.{Placed, tuple, placed_trees, shape_of, span_of, tree_of, LiesIn}
 use Rattle.wave_grammar.specs.TypeErrors.{Fault}
@@ -67,10 +67,6 @@ abbrev pub RefusesParams : (TypeTree → Type 0) → List TypeTree → NodeTree 
 RefusesParams Full Ts n t e =
     (type_of n ≢ kind.Tuple) × RefusedAs InvalidType n e
     ⊎ ((items : List Placed) × (shape_of t ≡ tuple (placed_trees items)) × RefusesItems Full Ts items n e)
-
--- want of memory, or, where makers do not serve all values of the types, which are options, the refusal of one at this place
-abbrev pub RefusesOmitted : (TypeTree → Type 0) → List TypeTree → Range ℕ → ParserError → Type 0
-RefusesOmitted Full Ts at e = (e.kind ≡ OutOfMemory) ⊎ (e.kind ≡ WasmValueError) × (e.span ≡ at) × AllOf IsOption Ts × (AllOf Full Ts → ⊥)
 
 -- want of memory; or a type is no option; or, where all are and makers do not serve all their values, the refusal of one, at the name
 abbrev pub RefusesNone : (TypeTree → Type 0) → List TypeTree → Range ℕ → ParserError → Type 0

@@ -1,12 +1,13 @@
 //! Nodes of the untyped tree.
 ghost use Rattle.std.specs.Prelude.{◌≡◌, [], length, IfOk, IsTrue, ◌↔◌};
-ghost use Rattle.wave_wasm.specs.Causes.{cause_of};
-ghost use Rattle.wave_lex.specs.Lexing.{Stands};
+ghost use Rattle.wave_wasm.specs.ValueErrors.{cause_of};
+ghost use Rattle.wave_lex.specs.Tokenization.{Stands};
 ghost use Rattle.wave_lex.specs.Errors.{refusal_of, refused_by};
 ghost use Rattle.wave_node.specs.NodeTree.{node, node_trees, type_of, place_of, children_of};
 ghost use Rattle.wave_node.specs.Nodes.{IsParsedFrom};
 ghost use Rattle.wave_node.specs.NodeStrings.{GivesString};
-ghost use Rattle.wave_node.specs.NodeAccessors.{node_text, quotes_of, IsInside, RefusedAs, OfType, GivesBool, GivesNumber, GivesChar, GivesParts, GivesNodes, GivesOption, GivesResult, GivesLabel, GivesVariant, GivesEntries, GivesBoolKey, node_pairs};
+ghost use Rattle.wave_node.specs.NodeAccessors.{node_text, quotes_of, IsInside, RefusedAs, GivesBool, GivesNumber, GivesChar, GivesParts, GivesNodes, GivesOption, GivesResult, GivesLabel, GivesVariant, GivesEntries, node_pairs};
+ghost use Rattle.wave_node.specs.Private.NodeAccessors.{OfType, GivesBoolKey};
 
 pub use crate::flags::FlagLabels;
 pub use crate::record::RecordFields;
@@ -80,8 +81,9 @@ pub struct Node {
 }
 
 impl Model for Node {
-    ghost use Rattle.wave_node.specs.NodeTree.{NodeTree, node, node_trees, depth};
-    ghost use Rattle.wave_node.specs.NodeEncoding.{node_code};
+    ghost use Rattle.wave_node.specs.NodeTree.{NodeTree, node, node_trees};
+    ghost use Rattle.wave_node.specs.Private.NodeTree.{depth};
+    ghost use Rattle.wave_node.specs.Private.NodeEncoding.{node_code};
 
     ghost Value = { NodeTree };
 
@@ -92,7 +94,7 @@ impl Model for Node {
     ghost size = { depth };
 
     ghost use Rattle.std.proofs.Common.{arith};
-    ghost use Rattle.wave_node.specs.NodeDepth.{most_le-nodes_depth};
+    ghost use Rattle.wave_node.specs.Private.NodeDepth.{most_le-nodes_depth};
 
     ghost size_decreases = { λ a h. omega (arith, most_le-nodes_depth a.children.items) };
 }
@@ -355,7 +357,7 @@ impl<'this> Model for MapEntries<'this> {
     ghost use Rattle.std.specs.Prelude.{List};
     ghost use Rattle.std.specs.Coded.{codes};
     ghost use Rattle.wave_node.specs.NodeTree.{NodeTree};
-    ghost use Rattle.wave_node.specs.NodeEncoding.{node_code};
+    ghost use Rattle.wave_node.specs.Private.NodeEncoding.{node_code};
     ghost use Rattle.wave_node.specs.NodeAccessors.{node_pairs};
 
     ghost Value = { List (NodeTree × NodeTree) };

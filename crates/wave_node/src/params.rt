@@ -2,7 +2,7 @@
 ghost use Rattle.std.specs.Prelude.{◌≡◌, ◌⊎◌, ◌↔◌, ◌++◌, List, [], ◌∷◌, map, Some, IsTrue, OnOk, IfOk, IfErr, MatchBool};
 ghost use Rattle.wave_wasm.specs.Lists.{AllOf, SomeOf};
 ghost use Rattle.wave_wasm.specs.Types.{HasDistinctNames};
-ghost use Rattle.wave_wasm.specs.Makers.{AreOf};
+ghost use Rattle.wave_wasm.specs.ConstructorContracts.{AreOf};
 ghost use Rattle.wave_lex.specs.Errors.{too_many_params, too_few_params, no_params};
 ghost use Rattle.wave_lex.specs.declared.error.ParserErrorKind.TheVariants.{InvalidParams, OutOfMemory, WasmValueError};
 ghost use Rattle.wave_grammar.specs.TypedGrammar.{IsOption};
@@ -15,7 +15,8 @@ ghost use Rattle.wave_node.specs.Nodes.{IsNodeOf};
 ghost use Rattle.wave_grammar.specs.SpannedTree.{Placed};
 ghost use Rattle.wave_node.specs.TypedReading.{IsValueOf};
 ghost use Rattle.wave_node.specs.NodeParams.{AreOmitted, RefusesNone};
-ghost use Rattle.wave_node.specs.NodeParams.{GivesParams, RefusesParams, RefusesOmitted, IsNoOption, close_of};
+ghost use Rattle.wave_node.specs.NodeParams.{GivesParams, RefusesParams, IsNoOption, close_of};
+ghost use Rattle.wave_node.specs.Private.NodeParams.{RefusesOmitted};
 
 use crate::ast::Node;
 use std::alloc::Global;

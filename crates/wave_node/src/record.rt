@@ -10,7 +10,8 @@ ghost use Rattle.wave_node.specs.NodeAccessors.{node_text};
 ghost use Rattle.wave_node.specs.TypedReading.{IsValueOf};
 ghost use Rattle.wave_lex.specs.Errors.{Says};
 ghost use Rattle.wave_node.specs.ErrorSpans.{StandsIn};
-ghost use Rattle.wave_node.specs.NodeFields.{IsFieldsOf, RefusesFields, GivesRecord, GivesName, shown_field, HoldsFields};
+ghost use Rattle.wave_node.specs.NodeFields.{IsFieldsOf, RefusesFields, GivesRecord, shown_field};
+ghost use Rattle.wave_node.specs.Private.NodeFields.{GivesName, HoldsFields};
 
 use crate::ast::{Node, NodeType};
 use std::alloc::Global;
@@ -121,7 +122,7 @@ impl<'this, 'src> Model for RecordFields<'this, 'src> {
     ghost use Rattle.std.specs.Coded.{codes};
     ghost use Rattle.std.specs.Vec.Iter.{into_iter_items};
     ghost use Rattle.wave_node.specs.NodeTree.{NodeTree};
-    ghost use Rattle.wave_node.specs.NodeEncoding.{node_code};
+    ghost use Rattle.wave_node.specs.Private.NodeEncoding.{node_code};
     ghost use Rattle.wave_node.specs.NodeFields.{shown_field};
 
     ghost Value = { List (List ℕ × NodeTree) };

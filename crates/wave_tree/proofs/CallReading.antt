@@ -10,9 +10,9 @@ use Rattle.wave_lex.specs.declared.error.ParserError.{ParserError}
 use Rattle.wave_lex.specs.declared.error.ParserErrorKind.TheVariants as because
 use Rattle.wave_lex.specs.Tokens.{shape}
 use Rattle.wave_lex.specs.FunctionName.{IsName, NoName, NameIs}
-use Rattle.wave_lex.specs.Lexing.{Lexed, span}
+use Rattle.wave_lex.specs.Tokenization.{Lexed, span}
 use Rattle.wave_lex.proofs.Classes.{shape_not_empty}
-use Rattle.wave_lex.proofs.Fronts.{front_positive}
+use Rattle.wave_lex.proofs.LongestMatch.{front_positive}
 use Rattle.wave_grammar.specs.Token as token
 use Rattle.wave_grammar.specs.Token.{Token, CutsInto, paren_open, paren_close}
 use Rattle.wave_grammar.specs.Tree as form
@@ -26,7 +26,8 @@ use Rattle.wave_grammar.specs.PrefixAutomaton as due
 use Rattle.wave_lex.specs.Errors.{Says}
 use Rattle.wave_grammar.specs.SyntaxErrors.{LeadsBehindValue, IsSyntaxError}
 use Rattle.wave_tree.specs.ParserLaws.{AreNext}
-use Rattle.wave_tree.specs.ParsedNodes.{IsSound, TakesClass, IsOfItems}
+use Rattle.wave_tree.specs.ParsedNodes.{IsSound, TakesClass}
+use Rattle.wave_tree.specs.Private.ParsedNodes.{IsOfItems}
 use Rattle.wave_tree.specs.ParserState.{IsTrailing}
 use Rattle.wave_tree.specs.UntypedCall.{IsTupleTaken, AreParamsTaken, RefusesTuple, IsCalledOf, IsNoCall, NameFault, RefusesCall, behind_name}
 use Rattle.wave_grammar.proofs.Unambiguity.Trees.{one_tree}

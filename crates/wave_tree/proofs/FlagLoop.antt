@@ -6,7 +6,7 @@ use Rattle.std.specs.Cmp.Lexicographic.{slice_cmp}
 use Rattle.std.specs.Ordering.{nat_cmp}
 use Rattle.std.specs.BTreeMap.{BTreeMap, insert_entry, values}
 use Rattle.wave_wasm.specs.Names.{is_one_of, AreDistinct}
-use Rattle.wave_lex.specs.Lexing.{span}
+use Rattle.wave_lex.specs.Tokenization.{span}
 use Rattle.wave_lex.specs.declared.lex.Token.TheVariants.{BraceClose, LabelOrKeyword, Comma}
 use Rattle.wave_grammar.specs.ParserPosition.{Place, text_at, span_at}
 use Rattle.wave_grammar.specs.LeafTokens.{name_of}
@@ -14,13 +14,14 @@ use Rattle.wave_grammar.specs.PrefixAutomaton.{Due, Form}
 use Rattle.wave_grammar.specs.PrefixAutomaton as due
 use Rattle.wave_node.specs.NodeTree.{NodeTree, node, no_nodes, node_trees}
 use Rattle.wave_node.specs.declared.ast.NodeType.TheVariants as kind
-use Rattle.wave_grammar.specs.FlagOrder.{Flag, flag_name, flags_in_order}
-use Rattle.wave_tree.specs.ParsedNodes.{TakesClass, IsClosed, AreFurtherFlags, IsOfFlags}
+use Rattle.wave_grammar.specs.Private.FlagOrder.{Flag, flag_name, flags_in_order}
+use Rattle.wave_tree.specs.ParsedNodes.{TakesClass}
+use Rattle.wave_tree.specs.Private.ParsedNodes.{IsClosed, AreFurtherFlags, IsOfFlags}
 use Rattle.wave_tree.proofs.ParserSteps.{Reached, IsFlagDue}
-use Rattle.wave_wasm.proofs.Names.{Holds}
+use Rattle.wave_wasm.proofs.NameSets.{Holds}
 use Rattle.wave_grammar.proofs.FlagOrder.{order_last, none_in_order}
 use Rattle.wave_tree.proofs.FlagsSorted.{entry_of, named_node, insert_flag, nodes_of}
-use Rattle.wave_wasm.proofs.OneOf.{none_of, distinct_more}
+use Rattle.wave_wasm.proofs.NameTests.{none_of, distinct_more}
 
 -- the flag that was taken last
 abbrev pub flag_at : Place → Flag

@@ -9,8 +9,8 @@ use Rattle.std.specs.BTreeMap.{insert_entry}
 use Rattle.wave_wasm.specs.Names.{IsNoneOf}
 use Rattle.wave_grammar.specs.Tree.{is_before}
 use Rattle.wave_node.specs.NodeTree.{NodeTree}
-use Rattle.wave_grammar.specs.FlagOrder.{Flag, flag_name, put_flag}
-use Rattle.wave_tree.specs.ParsedNodes.{flag_node}
+use Rattle.wave_grammar.specs.Private.FlagOrder.{Flag, flag_name, put_flag}
+use Rattle.wave_tree.specs.Private.ParsedNodes.{flag_node}
 use Rattle.wave_grammar.proofs.FlagOrder.{before_is, equal_names}
 
 -- an entry's name and node

@@ -4,12 +4,13 @@ use Rattle.std.specs.Prelude.{IsTrue, IfOk, IfErr}
 use Rattle.wave_lex.specs.declared.error.ParserError.{ParserError}
 use Rattle.wave_lex.specs.declared.error.ParserErrorKind.TheVariants as kind
 use Rattle.wave_lex.specs.declared.lex.Token.{Token}
-use Rattle.wave_lex.specs.Lexing.{Lexed, NextIs, span}
+use Rattle.wave_lex.specs.Tokenization.{Lexed, NextIs, span}
 use Rattle.wave_lex.proofs.Next.{next_one}
 use Rattle.wave_tree.specs.declared.ahead.Ahead.{Ahead}
 use Rattle.wave_grammar.specs.ParserPosition.{Place, TakesItem, IsSomething}
 use Rattle.wave_lex.specs.Errors.{Says}
-use Rattle.wave_tree.specs.ParserState.{IsAhead, Finishes}
+use Rattle.wave_tree.specs.Private.ParserState.{IsAhead}
+use Rattle.wave_tree.specs.ParserState.{Finishes}
 
 -- whether a token stands next, by the item at hand
 pub at_hand : (l : Lexed) (p : Place) (o : Option Ahead) (a : Ahead) (c : Token) (b r : Bool) → p.lexer ≡ l → IsAhead l o → o ≡ Some a → (IsTrue b ↔ (a.item ≡ Some (Ok c))) → r ≡ b →

@@ -8,7 +8,7 @@ use Rattle.wave_lex.specs.declared.error.ParserError.{ParserError}
 use Rattle.wave_lex.specs.declared.error.ParserErrorKind.{ParserErrorKind}
 use Rattle.wave_lex.specs.declared.error.ParserErrorKind.TheVariants as kind
 use Rattle.wave_lex.specs.Errors.{class_name, repeated_name, Says}
-use Rattle.wave_lex.specs.Lexing.{NextIs, remainder_of, span}
+use Rattle.wave_lex.specs.Tokenization.{NextIs, remainder_of, span}
 use Rattle.wave_lex.proofs.Next.{next_one, next_less}
 use Rattle.wave_grammar.specs.Token.{Token, brace_open, brace_close, paren_open, paren_close, bracket_open, bracket_close, colon, comma, number, label, char, string, multiline}
 use Rattle.wave_grammar.specs.ParserPosition.{Place, TakesItem, TakesToken, TakesTokens, token_of, text_at, span_at}
@@ -16,7 +16,7 @@ use Rattle.wave_grammar.specs.PrefixAutomaton as due
 use Rattle.wave_grammar.specs.PrefixAutomaton.{Due, Form, value, first_item, next_item, behind_value, behind_label, reads, unexpected, empty_tuple, repeated_flag, too_deep, step, Leads, IsValueDue, closes, is_paren, is_colon, is_brace_close, behind_step, value_step, key_step, brace_step, behind_flag_step, flag_step}
 use Rattle.wave_grammar.specs.SyntaxErrors.{IsTooDeep, StandsAt, IsSyntaxError, FailsBySyntax, IsBehind, LeadsBehindValue, Gives, IsWithin, IsUnfinished}
 use Rattle.wave_tree.specs.ParserState.{Fails}
-use Rattle.wave_grammar.specs.TokenRoles.{form_of, IsClose, IsKeyClass}
+use Rattle.wave_grammar.specs.Private.TokenRoles.{form_of, IsClose, IsKeyClass}
 use Rattle.wave_grammar.specs.LeafTokens.{name_of}
 use Rattle.wave_grammar.proofs.Automaton.Sound.{leads_join, if_false}
 

@@ -10,7 +10,7 @@ use Rattle.wave_lex.specs.declared.error.ParserError.{ParserError}
 use Rattle.wave_lex.specs.declared.error.ParserErrorKind.{ParserErrorKind}
 use Rattle.wave_lex.specs.declared.error.ParserErrorKind.TheVariants as kind
 use Rattle.wave_lex.specs.Errors.{refusal_of}
-use Rattle.wave_lex.specs.Lexing.{IsGap, Front, remainder_of}
+use Rattle.wave_lex.specs.Tokenization.{IsGap, Front, remainder_of}
 use Rattle.wave_lex.proofs.Next.{next_one}
 use Rattle.wave_grammar.specs.Token as token
 use Rattle.wave_grammar.specs.Token.{Token, lexeme_of, CutsInto, brace_open, brace_close, paren_open, paren_close, bracket_open, bracket_close, colon, comma}

@@ -1,7 +1,7 @@
 -- The parts of a node stand at tokens of its slice.
 use Rattle.std.proofs.Common.{◌≡◌, ℕ, ◌≤◌, ◌+◌, ◌-◌, List, ◌∷◌, ◌++◌, sym, ap, subst, ◌∙◌, take, drop, arith, map}
 use Rattle.std.proofs.lemmas.List.{drop-drop}
-use Rattle.wave_lex.specs.Lexing.{IsGap, Front, remainder_of, span}
+use Rattle.wave_lex.specs.Tokenization.{IsGap, Front, remainder_of, span}
 use Rattle.wave_grammar.specs.Token.{Token, lexeme_of}
 use Rattle.wave_grammar.specs.ParserPosition.{Place, TakesToken, TakesTokens}
 use Rattle.wave_grammar.specs.SpannedTree.{slice, EndsToken, BeginsToken, StandsAtTokens}

@@ -1,11 +1,10 @@
 pub mod ParsedNodes
+pub mod Private
 pub mod ParserState
 pub mod NodeDisplay
 pub mod UntypedCall
-pub mod CallEncoding
 pub mod FromStr
 pub mod Untyped
-pub mod UntypedEncoding
 pub mod ParserLaws
 pub mod DisplayKeeps
 pub mod UntypedLaws

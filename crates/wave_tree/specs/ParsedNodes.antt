@@ -1,22 +1,15 @@
 -- The nodes that a parser makes of the tokens that it takes.
-use Rattle.std.specs.Prelude.{ℕ, ◌≡◌, ◌≢◌, ◌⊎◌, if◌then◌else◌, List, [], ◌∷◌, ◌++◌, map, Some, Ok}
-use Rattle.std.specs.declared.ops.Range.{Range}
+use Rattle.std.specs.Prelude.{ℕ, ◌≡◌, ◌≢◌, ◌⊎◌, if◌then◌else◌, List, [], ◌∷◌, ◌++◌, Some, Ok}
 use Rattle.std.specs.Str.{IsUtf8}
-use Rattle.wave_wasm.specs.Names.{AreDistinct}
 use Rattle.wave_lex.specs.declared.lex.Token as lex
-use Rattle.wave_lex.specs.declared.lex.Token.TheVariants as class
-use Rattle.wave_lex.specs.Lexing.{remainder_of, span}
+use Rattle.wave_lex.specs.Tokenization.{remainder_of, span}
 use Rattle.wave_grammar.specs.Token.{Token}
 use Rattle.wave_grammar.specs.Tree as tree
 use Rattle.wave_grammar.specs.SpannedTree.{Placed, tree_of, span_of}
-use Rattle.wave_node.specs.NodeTree.{NodeTree, node, no_nodes, node_trees}
+use Rattle.wave_node.specs.NodeTree.{NodeTree, node}
 use Rattle.wave_node.specs.Nodes.{IsNodeOf}
-use Rattle.wave_grammar.specs.TokenRoles.{IsKeyClass}
-use Rattle.wave_grammar.specs.ParserPosition.{Place, TakesItem, TakesToken, TakesTokens, span_at, text_at}
-use Rattle.wave_node.specs.declared.ast.NodeType.{NodeType}
-use Rattle.wave_node.specs.declared.ast.NodeType.TheVariants as kind
+use Rattle.wave_grammar.specs.ParserPosition.{Place, TakesItem, TakesToken, TakesTokens}
 use Rattle.wave_grammar.specs.Tree.{NoParen}
-use Rattle.wave_grammar.specs.FlagOrder.{Flag, flag_name, flags_in_order}
 
 -- what is left at the place is UTF-8
 abbrev pub IsSound : Place → Type 0
@@ -38,110 +31,13 @@ pub record IsParsed (n : ℕ) (old new : Place) (parsed : NodeTree) : Type 0 whe
 abbrev pub TakesClass : lex.Token → Place → Place → Type 0
 TakesClass c p q = TakesItem p (Some (Ok c)) q
 
--- behind a token of this class, which was taken before, stands what is left of a tree
-abbrev pub IsParsedBehind : lex.Token → ℕ → Place → Place → NodeTree → Type 0
-IsParsedBehind c n first new parsed = (old : Place) → TakesClass c old first → IsParsed n old new parsed
-
 -- ---- payloads
-
--- the children in front of a payload: the label of a case, at this place
-abbrev pub label_children : NodeType → Range ℕ → List NodeTree
-label_children kind.VariantWithPayload p = node kind.Label p no_nodes ∷ []
-label_children _ p = []
-
--- a value and a close parenthesis, behind these children, in a node that starts there
-pub record IsPayload (n : ℕ) (ty : NodeType) (start : ℕ) (children : List NodeTree) (old new : Place) (parsed : NodeTree) : Type 0 where
-  pub payload : NodeTree
-  pub behind : Place
-  pub inner : IsParsed n old behind payload
-  pub close : TakesClass class.ParenClose behind new
-  pub is : parsed ≡ node ty (span start new.lexer.end) (node_trees (children ++ payload ∷ []))
-
--- behind a label no payload, or one in parentheses
-abbrev pub IsMaybe : ℕ → NodeType → NodeType → Place → Place → NodeTree → Type 0
-IsMaybe n alone with old new parsed =
-    (new ≡ old) × (parsed ≡ node alone (span_at old) no_nodes)
-    ⊎ ((m : Place) × TakesClass class.ParenOpen old m × IsPayload n with old.lexer.start (label_children with (span_at old)) m new parsed)
 
 -- ---- items
 
--- the close, or a comma and the close
-abbrev pub IsClosed : lex.Token → Place → Place → Type 0
-IsClosed close p q = TakesClass close p q ⊎ ((m : Place) × TakesClass class.Comma p m × TakesClass close m q)
-
--- each further item behind its comma, then the close
-abbrev pub AreFurther : ℕ → lex.Token → Place → List NodeTree → Place → Type 0
-AreFurther n close p [] q = IsClosed close p q
-AreFurther n close p (item ∷ more) q =
-    (m : Place) × (behind : Place) × TakesClass class.Comma p m × IsParsed n m behind item × AreFurther n close behind more q
-
--- the items and the close
-abbrev pub AreItems : ℕ → lex.Token → Place → List NodeTree → Place → Type 0
-AreItems n close p [] q = TakesClass close p q
-AreItems n close p (item ∷ more) q = (behind : Place) × IsParsed n p behind item × AreFurther n close behind more q
-
--- the type of the node of these items
-abbrev pub items_type : lex.Token → NodeType
-items_type class.ParenClose = kind.Tuple
-items_type _ = kind.List
-
--- a node of items, which starts with the mark before the place old; no tuple is empty
-pub record IsOfItems (n : ℕ) (close : lex.Token) (old new : Place) (parsed : NodeTree) : Type 0 where
-  pub items : List NodeTree
-  pub are : AreItems n close old items new
-  pub some : close ≡ class.ParenClose → items ≢ []
-  pub is : parsed ≡ node (items_type close) (span old.lexer.start new.lexer.end) (node_trees items)
-
 -- ---- entries
 
--- the type of a key's node
-abbrev pub key_node_type : lex.Token → NodeType
-key_node_type class.Number = kind.Number
-key_node_type class.Char = kind.Char
-key_node_type class.String = kind.String
-key_node_type class.MultilineString = kind.MultilineString
-key_node_type _ = kind.Label
-
--- the node is that of the key that stands next
-abbrev pub IsKeyAt : Place → NodeTree → Place → Type 0
-IsKeyAt p parsed q = (c : lex.Token) × TakesClass c p q × IsKeyClass c × (parsed ≡ node (key_node_type c) (span_at q) no_nodes)
-
-abbrev mutual
-  -- behind a key and its colon: its value, and the further keys and values
-  pub ArePairs : ℕ → Place → List NodeTree → Place → Type 0
-  ArePairs n p [] q = ⊥
-  ArePairs n p (value ∷ more) q = (behind : Place) × IsParsed n p behind value × AreFurtherPairs n behind more q
-
-  -- further keys and values, each pair behind its comma, then the close
-  pub AreFurtherPairs : ℕ → Place → List NodeTree → Place → Type 0
-  AreFurtherPairs n p [] q = IsClosed class.BraceClose p q
-  AreFurtherPairs n p (key ∷ more) q =
-      (m : Place) × (k : Place) × (behind : Place) × TakesClass class.Comma p m × IsKeyAt m key k × TakesClass class.Colon k behind × ArePairs n behind more q
-
--- a node of entries behind its first key, which starts there
-pub record IsOfEntries (n : ℕ) (start : ℕ) (key : NodeTree) (old new : Place) (parsed : NodeTree) : Type 0 where
-  pub pairs : List NodeTree
-  pub are : ArePairs n old pairs new
-  pub is : parsed ≡ node kind.TupleSet (span start new.lexer.end) (node_trees (key ∷ pairs))
-
 -- ---- flags
-
--- the flag's node
-abbrev pub flag_node : Flag → NodeTree
-flag_node f = node kind.Label f.0 no_nodes
-
--- each further flag behind its comma, then the close
-abbrev pub AreFurtherFlags : Place → List Flag → Place → Type 0
-AreFurtherFlags p [] q = IsClosed class.BraceClose p q
-AreFurtherFlags p (f ∷ more) q =
-    (m : Place) × (k : Place) × TakesClass class.Comma p m × TakesClass class.LabelOrKeyword m k × (f ≡ (span_at k, text_at k)) × AreFurtherFlags k more q
-
--- a node of flags behind its first one, which starts there
-pub record IsOfFlags (start : ℕ) (old new : Place) (parsed : NodeTree) : Type 0 where
-  pub more : List Flag
-  pub are : AreFurtherFlags old more new
-  pub distinct : AreDistinct (map flag_name ((span_at old, text_at old) ∷ more))
-  pub is : parsed ≡ node kind.Flags (span start new.lexer.end) (node_trees (map flag_node (flags_in_order ((span_at old, text_at old) ∷ more))))
 
 -- ---- whole values
 

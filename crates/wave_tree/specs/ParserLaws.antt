@@ -1,6 +1,6 @@
 -- What the answers to reading a value say of the tokens that stand there.
 use Rattle.std.specs.Prelude.{ℕ, ◌≡◌, ◌⊎◌, ◌+◌, ◌≤◌, List, [], length}
-use Rattle.wave_lex.specs.Lexing.{Lexed}
+use Rattle.wave_lex.specs.Tokenization.{Lexed}
 use Rattle.wave_lex.specs.declared.error.ParserError.{ParserError}
 use Rattle.wave_grammar.specs.Token.{Token}
 use Rattle.wave_grammar.specs.Tree as tree

@@ -6,10 +6,10 @@ use Rattle.std.specs.declared.ops.Range.{Range}
 use Rattle.wave_lex.specs.declared.lex.Token.TheVariants.{ParenOpen, ParenClose}
 use Rattle.wave_lex.specs.declared.error.ParserError.{ParserError}
 use Rattle.wave_lex.specs.declared.error.ParserErrorKind.TheVariants.{InvalidToken, UnexpectedEnd, OutOfMemory}
-use Rattle.wave_lex.specs.Fronts.{IsFront}
+use Rattle.wave_lex.specs.LongestMatch.{IsFront}
 use Rattle.wave_lex.specs.Tokens.{any}
 use Rattle.wave_lex.specs.FunctionName.{IsName, NoName}
-use Rattle.wave_lex.specs.Lexing.{Stands, span}
+use Rattle.wave_lex.specs.Tokenization.{span}
 use Rattle.wave_grammar.specs.Token.{Token}
 use Rattle.wave_grammar.specs.Tree.{MaybeTree, no_tree, a_tree, Takes}
 use Rattle.wave_grammar.specs.Calls.{IsCall}
@@ -38,10 +38,6 @@ pub record Called : Type 0 where
 abbrev pub IsParamsOf : List ℕ → Option NodeTree → Type 0
 IsParamsOf source None = Unit {0}
 IsParamsOf source (Some n) = IsValueOf source n × (type_of n ≡ kind.Tuple)
-
--- the name stands in the source, and so do the parameters
-abbrev pub CallStandsIn : List ℕ → Range ℕ → Option NodeTree → Type 0
-CallStandsIn source name params = Stands source name.start name.end × IsParamsOf source params
 
 -- the tuple that a node means, or nothing for none
 abbrev pub MeansParams : List ℕ → Option NodeTree → MaybeTree → Type 0

@@ -2,7 +2,7 @@
 #![tactic(auto)]
 
 ghost use Rattle.std.specs.Prelude.{◌≡◌, None, IfOk, IfErr};
-ghost use Rattle.wave_lex.specs.Lexing.{span};
+ghost use Rattle.wave_lex.specs.Tokenization.{span};
 ghost use Rattle.wave_lex.specs.declared.error.ParserErrorKind.TheVariants as kind;
 ghost use Rattle.wave_grammar.specs.ParserPosition.{Place};
 ghost use Rattle.wave_lex.specs.Errors.{Says};

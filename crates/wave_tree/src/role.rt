@@ -1,9 +1,9 @@
 //! What labels and tokens are to the parser.
 ghost use Rattle.std.specs.Prelude.{◌≡◌, MatchOption};
 ghost use Rattle.wave_grammar.specs.Tree.{word_of};
-ghost use Rattle.wave_grammar.specs.TokenRoles.{IsKeyClass};
-ghost use Rattle.wave_tree.specs.ParsedNodes.{key_node_type};
-ghost use Rattle.wave_tree.specs.ParserState.{spec_word, HasText};
+ghost use Rattle.wave_grammar.specs.Private.TokenRoles.{IsKeyClass};
+ghost use Rattle.wave_tree.specs.Private.ParsedNodes.{key_node_type};
+ghost use Rattle.wave_tree.specs.Private.ParserState.{spec_word, HasText};
 
 use crate::ast::NodeType;
 use wave_lex::lex::Token;

@@ -28,7 +28,7 @@ impl<'source> Model for UntypedValue<'source> {
     ghost use Rattle.std.specs.Cow.{cow_str_bytes};
     ghost use Rattle.wave_node.specs.TypedReading.{IsValueOf};
     ghost use Rattle.wave_tree.specs.Untyped.{Untyped};
-    ghost use Rattle.wave_tree.specs.UntypedEncoding.{untyped_code};
+    ghost use Rattle.wave_tree.specs.Private.UntypedEncoding.{untyped_code};
 
     ghost Value = { Untyped };
 

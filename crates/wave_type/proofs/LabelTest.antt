@@ -18,8 +18,9 @@ use Rattle.wave_lex.specs.Tokens.{label}
 use Rattle.wave_lex.proofs.Derive.{matches_from, matches_into}
 use Rattle.wave_lex.proofs.Shapes.{each_below, is_ascii_shape}
 use Rattle.wave_lex.proofs.Machines.{agrees, steps_agree}
-use Rattle.wave_type.specs.TypeView.{by_bytes}
-use Rattle.wave_type.specs.LabelTest.{label_rest, label_step, is_label, are_label_names, names_pass, payload_passes, types_pass, fields_pass, cases_pass}
+use Rattle.wave_type.specs.TypeModel.{by_bytes}
+use Rattle.wave_type.specs.Private.LabelTest.{label_rest, label_step}
+use Rattle.wave_type.specs.LabelTest.{is_label, are_label_names, names_pass, payload_passes, types_pass, fields_pass, cases_pass}
 use Rattle.wave_type.specs.declared.ty.labels.LabelPlace.{LabelPlace}
 use Rattle.wave_type.specs.declared.ty.labels.LabelPlace.TheVariants as place
 

@@ -6,7 +6,7 @@ use Rattle.std.specs.declared.alloc.Global.{Global}
 use Rattle.wave_wasm.specs.Types.{TypeTree, types_of, fields_of, cases_of, maybe_type}
 use Rattle.wave_wasm.specs.Commas.{joined, followed, behind_name}
 use Rattle.wave_wasm.specs.TypeText.{type_text, type_texts, field_texts, case_texts, payload_text}
-use Rattle.wave_type.specs.TypeView.{by_bytes}
+use Rattle.wave_type.specs.TypeModel.{by_bytes}
 
 -- what goes before one more text
 abbrev pub separator : List (List ℕ) → List ℕ

@@ -4,7 +4,7 @@ use Rattle.std.proofs.lemmas.List.{length-map, get_or-map}
 use Rattle.std.proofs.Common.{◌≡◌, ◌<◌, ◌∙◌, sym, not, Bool, map, length, get_or, arith, ℕ, List, [], ◌∷◌, Option, Some, None, refl, ap}
 use Rattle.std.specs.declared.alloc.Global.{Global}
 use Rattle.std.proofs.Common.{String, string_bytes, zero, suc}
-use Rattle.wave_type.specs.TypeView.{by_bytes}
+use Rattle.wave_type.specs.TypeModel.{by_bytes}
 use Rattle.wave_wasm.specs.Types.{TypeTree, types_of, type_list, fields_of, field_list, cases_of, case_list, maybe_type, type_option}
 
 pub type_list-types_of : (ts : List TypeTree) → type_list (types_of ts) ≡ ts

@@ -4,9 +4,9 @@ use Rattle.std.proofs.lemmas.List.{take_all}
 use Rattle.std.proofs.lemmas.Bool.{false≢true}
 use Rattle.std.specs.declared.alloc.Global.{Global}
 use Rattle.wave_wasm.specs.Lists.{AllOf}
-use Rattle.wave_wasm.specs.Shown.{named}
+use Rattle.wave_wasm.specs.Borrowed.{named}
 use Rattle.wave_wasm.specs.Types.{TypeTree, types_of, fields_of, cases_of, maybe_type, IsOwn, every_type, every_field, every_case, every_maybe, can_be_made, record_type, tuple, variant}
-use Rattle.wave_type.specs.TypeView.{by_bytes}
+use Rattle.wave_type.specs.TypeModel.{by_bytes}
 
 -- the payload's type, where there is one, is a tree of `Type`
 abbrev pub IsOwnPayload : Option TypeTree → Type 0

@@ -1,7 +1,7 @@
-pub mod TypeView
-pub mod TypeFalls
+pub mod TypeModel
+pub mod Private
 pub mod TypeMade
-pub mod SameType
-pub mod SameTypeLaws
+pub mod TypeEquality
+pub mod TypeEqualityLaws
 pub mod LabelTest
 pub mod TypeTexts

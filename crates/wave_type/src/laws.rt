@@ -1,7 +1,7 @@
 //! Laws of types, over the definitions alone.
 ghost use Rattle.std.specs.Prelude.{◌≡◌, ◌↔◌, true};
 ghost use Rattle.wave_wasm.specs.Types.{TypeTree, IsOwn};
-ghost use Rattle.wave_type.specs.SameType.{same_tree};
+ghost use Rattle.wave_type.specs.TypeEquality.{same_tree};
 ghost use Rattle.wave_type.specs.TypeTexts.{IsShownWhole, TypeTextTells};
 
 /// The text of a type tells the type: two types that `Type` has, without fixed-length lists and with

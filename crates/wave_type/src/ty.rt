@@ -2,8 +2,8 @@
 ghost use Rattle.std.specs.Prelude.{◌≡◌, IfOk, Some, map, string_bytes, ◌↔◌, IsTrue, true, ◌≢◌, None};
 ghost use Rattle.wave_wasm.specs.Types as type;
 ghost use Rattle.wave_wasm.specs.Types.{maybe_type, every_maybe, can_be_made};
-ghost use Rattle.wave_wasm.specs.Shown.{texts, named};
-ghost use Rattle.wave_type.specs.TypeView.{IsSimple};
+ghost use Rattle.wave_wasm.specs.Borrowed.{texts, named};
+ghost use Rattle.wave_type.specs.Private.TypeModel.{IsSimple};
 ghost use Rattle.wave_type.specs.TypeMade.{simple_type, record_type, tuple_type, variant_type, enum_type, flags_type, map_type};
 
 use std::alloc::{AllocError, Global};
@@ -58,14 +58,15 @@ pub struct Type {
 }
 
 impl Model for Type {
-    ghost use Rattle.wave_wasm.specs.Types.{TypeTree, depth};
-    ghost use Rattle.wave_wasm.specs.TypeTreeCode.{tree_code};
+    ghost use Rattle.wave_wasm.specs.Types.{TypeTree};
+    ghost use Rattle.wave_wasm.specs.Private.Types.{depth};
+    ghost use Rattle.wave_wasm.specs.Private.TypeTreeEncoding.{tree_code};
 
     ghost Value = { TypeTree };
 
     ghost coded = { tree_code };
 
-    ghost use Rattle.wave_type.specs.TypeView.{shape_tree, IsSoundShape};
+    ghost use Rattle.wave_type.specs.Private.TypeModel.{shape_tree, IsSoundShape};
 
     ghost view = { λ t. shape_tree t.shape };
 
@@ -73,7 +74,7 @@ impl Model for Type {
 
     ghost size = { depth };
 
-    ghost use Rattle.wave_type.specs.TypeFalls.{deep_le-depth};
+    ghost use Rattle.wave_type.specs.Private.TypeDepth.{deep_le-depth};
 
     ghost size_decreases = { λ a h. deep_le-depth a.shape h };
 }

@@ -6,13 +6,13 @@ use Rattle.wave_wasm.specs.Types.{TypeTree, Types, MaybeType, type_list, type_op
 use Rattle.wave_wasm.specs.Values as value
 use Rattle.wave_wasm.specs.Values.{Value, Leaf, leaf_type, IsSound, IsWellFormed, values, maybe_value}
 use Rattle.wave_wasm.specs.HasType.{HasType}
-use Rattle.wave_wasm.specs.Makers.{IsMemory, Makes, MakesLeaf, MakesList, MakesTuple, MakesOption, MakesEnum, MakesResult, AreOf, OptionIsOf, PayloadIsOf, EitherIsOf, result_value, either_tree, FullLeaf, FullList, FullTuple, FullEnum, FullOption, FullResult}
+use Rattle.wave_wasm.specs.ConstructorContracts.{IsMemory, Makes, MakesLeaf, MakesList, MakesTuple, MakesOption, MakesEnum, MakesResult, AreOf, OptionIsOf, PayloadIsOf, EitherIsOf, result_value, either_tree, FullLeaf, FullList, FullTuple, FullEnum, FullOption, FullResult}
 use Rattle.wave_wasm.specs.declared.wasm.WasmValueError.{WasmValueError}
 use Rattle.wave_wasm.proofs.Formed.{formed}
 use Rattle.wave_value.specs.TypedValue.{TypedValue, IsAt, IsTyped, MakesOnly, typed_leaf}
-use Rattle.wave_value.specs.Built.{IsFull}
-use Rattle.wave_value.specs.ValueView.{trees, payload_tree}
-use Rattle.wave_value.specs.Taken.{Made, TellsOne, list_stated, option_stated, each_stated, RefusesParts, RefusesTuple, RefusesPayload, RefusesResult, RefusesEnum}
+use Rattle.wave_value.specs.FullTypes.{IsFull}
+use Rattle.wave_value.specs.ValueModel.{trees, payload_tree}
+use Rattle.wave_value.specs.ConstructorRules.{Made, TellsOne, list_stated, option_stated, each_stated, RefusesParts, RefusesTuple, RefusesPayload, RefusesResult, RefusesEnum}
 use Rattle.wave_wasm.specs.Lists.{AllOf}
 use Rattle.wave_wasm.specs.Names.{IsOneOf}
 use Rattle.wave_wasm.specs.declared.wasm.WasmTypeKind.{WasmTypeKind}

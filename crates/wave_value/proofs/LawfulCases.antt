@@ -3,22 +3,22 @@ use Rattle.std.proofs.Common.{◌≡◌, ◌≢◌, ℕ, List, [], ◌∷◌, sy
 use Rattle.std.specs.Prelude.{IfOk, IfErr, OnOk, filter}
 use Rattle.wave_wasm.specs.Lists.{AllOf, SomeOf}
 use Rattle.wave_wasm.specs.Names.{IsOneOf, IsNoneOf, AreAllOf, AreDistinct, ArePicked, is_one_of, found_in}
-use Rattle.wave_wasm.specs.Shown.{texts}
+use Rattle.wave_wasm.specs.Borrowed.{texts}
 use Rattle.wave_wasm.specs.Types as type
 use Rattle.wave_wasm.specs.Types.{TypeTree, Cases, no_cases, case_of, case_names, case_list, type_option, flags_names, HasDistinctNames}
 use Rattle.wave_wasm.specs.Values as value
 use Rattle.wave_wasm.specs.Values.{Value, maybe_value}
-use Rattle.wave_wasm.specs.Makers.{IsMemory, Makes, MakesVariant, MakesFlags, MakesMap, FullVariant, FullFlags, FullMap, PayloadIsOf}
+use Rattle.wave_wasm.specs.ConstructorContracts.{IsMemory, Makes, MakesVariant, MakesFlags, MakesMap, FullVariant, FullFlags, FullMap, PayloadIsOf}
 use Rattle.wave_wasm.specs.declared.wasm.WasmTypeKind.TheVariants as kinds
 use Rattle.wave_wasm.specs.declared.wasm.WasmValueError.{WasmValueError}
 use Rattle.wave_wasm.specs.declared.wasm.WasmValueError.TheVariants as error
 use Rattle.wave_wasm.proofs.Picked.{picked_found, picked_of}
-use Rattle.wave_wasm.proofs.OneOf.{passes}
+use Rattle.wave_wasm.proofs.NameTests.{passes}
 use Rattle.wave_value.specs.TypedValue.{TypedValue, IsAt}
-use Rattle.wave_value.specs.Built.{IsFull}
-use Rattle.wave_value.specs.ValueView.{payload_tree, first_names}
-use Rattle.wave_value.specs.Taken.{Made, RefusesParts, RefusesPayload}
-use Rattle.wave_value.specs.TakenCases.{IsFirstCase, RefusesVariant, TakesFlags, RefusesFlags, MadeMap, entries_stated, map_stated}
+use Rattle.wave_value.specs.FullTypes.{IsFull}
+use Rattle.wave_value.specs.ValueModel.{payload_tree, first_names}
+use Rattle.wave_value.specs.ConstructorRules.{Made, RefusesParts, RefusesPayload}
+use Rattle.wave_value.specs.CaseRules.{IsFirstCase, RefusesVariant, TakesFlags, RefusesFlags, MadeMap, entries_stated, map_stated}
 use Rattle.wave_value.proofs.Lawful.{IsAsStated, lawful, no_refusal, payload_memory}
 
 -- ---- variants

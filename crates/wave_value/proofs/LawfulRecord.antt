@@ -9,20 +9,20 @@ use Rattle.std.proofs.lemmas.List.Sorted.{IsPermutation-refl, IsPermutation-sym,
 use Rattle.std.proofs.lemmas.Slice.Eq.{bytes_eq-Decides}
 use Rattle.wave_wasm.specs.Lists.{AllOf, SomeOf}
 use Rattle.wave_wasm.specs.Names.{IsOneOf, IsNoneOf, AreDistinct, AreAllOf, is_one_of}
-use Rattle.wave_wasm.specs.Shown.{named}
+use Rattle.wave_wasm.specs.Borrowed.{named}
 use Rattle.wave_wasm.specs.Types as type
 use Rattle.wave_wasm.specs.Types.{TypeTree, Fields, HasDistinctNames, field_names, record_parts}
 use Rattle.wave_wasm.specs.Values as value
 use Rattle.wave_wasm.specs.Values.{Value, field_values}
 use Rattle.wave_wasm.specs.HasType.{HasType}
-use Rattle.wave_wasm.specs.Makers.{IsMemory, Makes, MakesRecord, FieldsAreOf, FullRecord, field_trees}
+use Rattle.wave_wasm.specs.ConstructorContracts.{IsMemory, Makes, MakesRecord, FieldsAreOf, FullRecord, field_trees}
 use Rattle.wave_wasm.specs.declared.wasm.WasmValueError.{WasmValueError}
 use Rattle.wave_wasm.specs.declared.wasm.WasmValueError.TheVariants as error
-use Rattle.wave_wasm.proofs.OneOf.{is_one, none_of}
-use Rattle.wave_value.specs.Built.{IsFull}
-use Rattle.wave_value.specs.Handed.{or_else, last_under, HasOwn, HasOther, IsRepeated, TakesRecord, MadeRecord, RefusesRecord}
+use Rattle.wave_wasm.proofs.NameTests.{is_one, none_of}
+use Rattle.wave_value.specs.FullTypes.{IsFull}
+use Rattle.wave_value.specs.RecordConstructor.{or_else, last_under, HasOwn, HasOther, IsRepeated, TakesRecord, MadeRecord, RefusesRecord}
 use Rattle.wave_value.specs.TypedValue.{TypedValue, IsAt}
-use Rattle.wave_value.specs.ValueView.{first_names, trees, beside}
+use Rattle.wave_value.specs.ValueModel.{first_names, trees, beside}
 use Rattle.wave_value.proofs.ValueLists.{field_list-field_values}
 
 -- ---- names

@@ -1,9 +1,9 @@
 pub mod Lawful
 pub mod LawfulCases
-pub mod SameValue
+pub mod ValueEquality
 pub mod ValueDepths
 pub mod ValueMeans
-pub mod SameContent
+pub mod ContentEquality
 pub mod ValueLists
 pub mod Made
 pub mod MadeCases

@@ -20,12 +20,14 @@ use Rattle.wave_wasm.specs.declared.wasm.WasmTypeKind.{WasmTypeKind}
 use Rattle.wave_wasm.specs.declared.wasm.WasmTypeKind.TheVariants as kinds
 use Rattle.wave_wasm.specs.declared.wasm.WasmValueError.{WasmValueError}
 use Rattle.wave_wasm.specs.declared.wasm.WasmValueError.TheVariants as error
-use Rattle.wave_type.specs.SameType.{same_tree}
-use Rattle.wave_type.specs.SameTypeLaws.{one_tree, same_itself}
+use Rattle.wave_type.specs.TypeEquality.{same_tree}
+use Rattle.wave_type.specs.TypeEqualityLaws.{one_tree, same_itself}
 use Rattle.wave_value.specs.declared.value.Content.{Content}
 use Rattle.wave_value.specs.TypedValue.{TypedValue, IsAt}
-use Rattle.wave_value.specs.ValueView.{name_at, trees, content_tree, AllAt, Fits}
-use Rattle.wave_value.specs.Taken.{Made, Tells, AllOwn, TakesList, TakesEnum, TellsOther, list_stated, option_stated, RefusesParts, RefusesEnum, SaysType, SaysCase}
+use Rattle.wave_value.specs.ValueModel.{name_at, trees}
+use Rattle.wave_value.specs.Private.ValueModel.{content_tree, AllAt, Fits}
+use Rattle.wave_value.specs.ConstructorRules.{Made, AllOwn, TakesList, TakesEnum, TellsOther, list_stated, option_stated, RefusesParts, RefusesEnum}
+use Rattle.wave_value.specs.Private.ConstructorRules.{Tells, SaysType, SaysCase}
 use Rattle.wave_value.proofs.ValueMeans.{means, list_value, one_of}
 
 -- a test of the own type

@@ -18,9 +18,11 @@ use Rattle.wave_wasm.specs.declared.wasm.WasmTypeKind.TheVariants as kinds
 use Rattle.wave_wasm.specs.declared.wasm.WasmValueError.{WasmValueError}
 use Rattle.wave_wasm.specs.declared.wasm.WasmValueError.TheVariants as error
 use Rattle.wave_value.specs.TypedValue.{TypedValue}
-use Rattle.wave_value.specs.ValueView.{name_at, first_names, payload_tree, PayloadAt, CaseAt, VariantFits}
-use Rattle.wave_value.specs.Taken.{Made, PayloadOwn, RefusesPayload, SaysCase}
-use Rattle.wave_value.specs.TakenCases.{IsFirstCase, TakesVariant, RefusesVariant}
+use Rattle.wave_value.specs.ValueModel.{name_at, first_names, payload_tree}
+use Rattle.wave_value.specs.Private.ValueModel.{PayloadAt, CaseAt, VariantFits}
+use Rattle.wave_value.specs.ConstructorRules.{Made, PayloadOwn, RefusesPayload}
+use Rattle.wave_value.specs.Private.ConstructorRules.{SaysCase}
+use Rattle.wave_value.specs.CaseRules.{IsFirstCase, TakesVariant, RefusesVariant}
 use Rattle.wave_value.proofs.ValueMeans.{variant_value}
 
 -- ---- the first case of a name

@@ -10,7 +10,7 @@ use Rattle.std.proofs.lemmas.List.{take_more, take_all, map-append, append-nil}
 use Rattle.std.proofs.lemmas.List.Elements.{filter-append}
 use Rattle.std.proofs.lemmas.Slice.Eq.{bytes_eq-Decides}
 use Rattle.wave_wasm.specs.Names.{IsOneOf, IsNoneOf, AreAllOf, is_one_of, found_in}
-use Rattle.wave_wasm.specs.Shown.{texts}
+use Rattle.wave_wasm.specs.Borrowed.{texts}
 use Rattle.wave_wasm.specs.Types as type
 use Rattle.wave_wasm.specs.Types.{TypeTree, Simple, kind_of, simple_kind, flags_names}
 use Rattle.wave_wasm.specs.Values as value
@@ -19,11 +19,14 @@ use Rattle.wave_wasm.specs.declared.wasm.WasmTypeKind.{WasmTypeKind}
 use Rattle.wave_wasm.specs.declared.wasm.WasmTypeKind.TheVariants as kinds
 use Rattle.wave_wasm.specs.declared.wasm.WasmValueError.{WasmValueError}
 use Rattle.wave_wasm.specs.declared.wasm.WasmValueError.TheVariants as error
-use Rattle.wave_wasm.proofs.Names.{holds_more}
-use Rattle.wave_wasm.proofs.OneOf.{is_one}
-use Rattle.wave_value.specs.ValueView.{name_at, Grows, FlagsFit}
-use Rattle.wave_value.specs.Taken.{Made, SaysCase}
-use Rattle.wave_value.specs.TakenCases.{HasKeys, RefusesNames}
+use Rattle.wave_wasm.proofs.NameSets.{holds_more}
+use Rattle.wave_wasm.proofs.NameTests.{is_one}
+use Rattle.wave_value.specs.ValueModel.{name_at}
+use Rattle.wave_value.specs.Private.ValueModel.{Grows, FlagsFit}
+use Rattle.wave_value.specs.ConstructorRules.{Made}
+use Rattle.wave_value.specs.Private.ConstructorRules.{SaysCase}
+use Rattle.wave_value.specs.Private.CaseRules.{HasKeys}
+use Rattle.wave_value.specs.CaseRules.{RefusesNames}
 use Rattle.wave_value.proofs.ValueMeans.{one_of, flags_value}
 
 -- ---- the names as keys

@@ -7,13 +7,14 @@ use Rattle.wave_wasm.specs.Types as type
 use Rattle.wave_wasm.specs.Types.{TypeTree, Simple, kind_of, map_parts}
 use Rattle.wave_wasm.specs.Values as value
 use Rattle.wave_wasm.specs.Values.{entries}
-use Rattle.wave_wasm.specs.Makers.{leaf_entries}
+use Rattle.wave_wasm.specs.ConstructorContracts.{leaf_entries}
 use Rattle.wave_wasm.specs.declared.wasm.WasmTypeKind.TheVariants as kinds
 use Rattle.wave_wasm.specs.declared.wasm.WasmValueError.{WasmValueError}
 use Rattle.wave_value.specs.TypedValue.{TypedValue, IsAt}
-use Rattle.wave_value.specs.ValueView.{entry_trees, EntriesAt, MapFits}
-use Rattle.wave_value.specs.Taken.{RefusesParts, SaysType}
-use Rattle.wave_value.specs.TakenCases.{MadeMap, EntriesOwn, TakesMap, entries_stated, map_stated}
+use Rattle.wave_value.specs.Private.ValueModel.{entry_trees, EntriesAt, MapFits}
+use Rattle.wave_value.specs.ConstructorRules.{RefusesParts}
+use Rattle.wave_value.specs.Private.ConstructorRules.{SaysType}
+use Rattle.wave_value.specs.CaseRules.{MadeMap, EntriesOwn, TakesMap, entries_stated, map_stated}
 use Rattle.wave_value.proofs.Made.{tells_so}
 use Rattle.wave_value.proofs.ValueMeans.{map_value}
 use Rattle.wave_value.proofs.ValueLists.{map_back, entry_list-entries}

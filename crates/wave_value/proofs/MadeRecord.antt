@@ -15,19 +15,22 @@ use Rattle.std.proofs.lemmas.Map.Text.{btree_map_updates_str}
 use Rattle.std.proofs.lemmas.Slice.Eq.{bytes_eq-Decides}
 use Rattle.wave_wasm.specs.Lists.{AllOf, SomeOf}
 use Rattle.wave_wasm.specs.Names.{IsOneOf, AreDistinct, AreAllOf, is_one_of}
-use Rattle.wave_wasm.specs.Shown.{named}
+use Rattle.wave_wasm.specs.Borrowed.{named}
 use Rattle.wave_wasm.specs.Types as type
 use Rattle.wave_wasm.specs.Types.{TypeTree, Fields, fields_of, field_list, record_parts}
 use Rattle.wave_wasm.specs.Values as value
 use Rattle.wave_wasm.specs.Values.{field_values}
 use Rattle.wave_wasm.specs.declared.wasm.WasmValueError.{WasmValueError}
 use Rattle.wave_wasm.specs.declared.wasm.WasmValueError.TheVariants as error
-use Rattle.wave_wasm.proofs.OneOf.{is_one, passes, none_of, distinct_more}
-use Rattle.wave_value.specs.Handed.{or_else, last_under, held, HasOwn, HasOther, TakesRecord, MadeRecord, RefusesRecord, IsRepeated, RefusesFields, FieldsHeld, InOrder, SaysMissingField, SaysUnknownField}
-use Rattle.wave_value.specs.Taken.{TellsOther, SaysType}
+use Rattle.wave_wasm.proofs.NameTests.{is_one, passes, none_of, distinct_more}
+use Rattle.wave_value.specs.RecordConstructor.{or_else, last_under, HasOwn, HasOther, TakesRecord, MadeRecord, RefusesRecord, IsRepeated, RefusesFields}
+use Rattle.wave_value.specs.Private.RecordConstructor.{held, FieldsHeld, InOrder, SaysMissingField, SaysUnknownField}
+use Rattle.wave_value.specs.ConstructorRules.{TellsOther}
+use Rattle.wave_value.specs.Private.ConstructorRules.{SaysType}
 use Rattle.wave_value.specs.TypedValue.{TypedValue, IsAt}
-use Rattle.wave_type.specs.TypeView.{by_bytes, record_part}
-use Rattle.wave_value.specs.ValueView.{first_names, trees, beside, FieldsAt, RecordFits}
+use Rattle.wave_type.specs.TypeModel.{by_bytes, record_part}
+use Rattle.wave_value.specs.ValueModel.{first_names, trees, beside}
+use Rattle.wave_value.specs.Private.ValueModel.{FieldsAt, RecordFits}
 use Rattle.wave_type.proofs.TypeLists.{field_list-fields_of}
 use Rattle.wave_value.proofs.ValueLists.{map_push}
 use Rattle.wave_value.proofs.ValueMeans.{record_value}

@@ -11,10 +11,12 @@ use Rattle.wave_wasm.specs.Values.{values}
 use Rattle.wave_wasm.specs.HasType.{HasType}
 use Rattle.wave_wasm.specs.declared.wasm.WasmValueError.{WasmValueError}
 use Rattle.wave_wasm.specs.declared.wasm.WasmValueError.TheVariants as error
-use Rattle.wave_type.specs.TypeView.{tuple_part}
+use Rattle.wave_type.specs.TypeModel.{tuple_part}
 use Rattle.wave_value.specs.TypedValue.{TypedValue, IsAt}
-use Rattle.wave_value.specs.ValueView.{trees, EachAt, TupleFits}
-use Rattle.wave_value.specs.Taken.{Made, EachOwn, TakesTuple, TellsOther, TellsOne, each_stated, RefusesTuple, SaysType}
+use Rattle.wave_value.specs.ValueModel.{trees}
+use Rattle.wave_value.specs.Private.ValueModel.{EachAt, TupleFits}
+use Rattle.wave_value.specs.ConstructorRules.{Made, EachOwn, TakesTuple, TellsOther, TellsOne, each_stated, RefusesTuple}
+use Rattle.wave_value.specs.Private.ConstructorRules.{SaysType}
 use Rattle.wave_value.proofs.Made.{some_so}
 use Rattle.wave_type.proofs.TypeLists.{type_list-types_of}
 use Rattle.wave_value.proofs.ValueMeans.{tuple_value}

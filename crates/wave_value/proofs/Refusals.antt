@@ -4,7 +4,7 @@ use Rattle.std.specs.declared.alloc.AllocError.{AllocError}
 use Rattle.wave_wasm.specs.declared.wasm.WasmValueError.TheVariants as error
 use Rattle.wave_value.specs.declared.value.refusals.Amiss.{Amiss}
 use Rattle.wave_value.specs.declared.value.refusals.Amiss.TheVariants as amiss
-use Rattle.wave_value.specs.Handed.{SaysName}
+use Rattle.wave_value.specs.Private.RecordConstructor.{SaysName}
 
 -- whatever is amiss, want of memory may be told
 pub memory_said : (what : Amiss) (name : List ℕ) (e : AllocError) → SaysName what name (error.Memory e)

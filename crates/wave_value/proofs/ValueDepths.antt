@@ -2,12 +2,14 @@
 use Rattle.std.proofs.Common.{ℕ, zero, suc, ◌≤◌, ◌<◌, ◌≡◌, max, List, [], ◌∷◌, length, get_or, ap, arith, Option}
 use Rattle.wave_wasm.specs.Types as type
 use Rattle.wave_wasm.specs.Types.{TypeTree, Simple}
-use Rattle.wave_wasm.specs.Values.{depth, depth_of_values, depth_of_fields, depth_of_entries, depth_of_maybe, values, field_values, entries, maybe_value}
+use Rattle.wave_wasm.specs.Private.Values.{depth, depth_of_values, depth_of_fields, depth_of_entries, depth_of_maybe}
+use Rattle.wave_wasm.specs.Values.{values, field_values, entries, maybe_value}
 use Rattle.wave_value.specs.declared.value.Content.{Content}
 use Rattle.wave_value.specs.declared.value.Content.TheVariants as contents
 use Rattle.wave_value.specs.TypedValue.{TypedValue}
-use Rattle.wave_value.specs.ValueView.{trees, first_names, beside, boxed, payload_tree, entry_trees, content_tree, Fits, EntriesAt, MapFits}
-use Rattle.wave_value.specs.ValueFalls.{key_flat}
+use Rattle.wave_value.specs.ValueModel.{trees, first_names, beside, boxed, payload_tree}
+use Rattle.wave_value.specs.Private.ValueModel.{entry_trees, content_tree, Fits, EntriesAt, MapFits}
+use Rattle.wave_value.specs.Private.ValueDepth.{key_flat}
 
 -- how deep the deepest value nests
 abbrev pub values_depth : List TypedValue → ℕ

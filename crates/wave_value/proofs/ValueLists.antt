@@ -3,11 +3,13 @@ use Rattle.std.proofs.Common.{◌≡◌, ℕ, ◌<◌, List, [], ◌∷◌, ◌+
 use Rattle.std.proofs.Math.Numerals.{add-one}
 use Rattle.wave_wasm.specs.Types as type
 use Rattle.wave_wasm.specs.Types.{TypeTree, Simple}
-use Rattle.wave_wasm.specs.Makers.{leaf_entries}
+use Rattle.wave_wasm.specs.ConstructorContracts.{leaf_entries}
 use Rattle.wave_value.specs.TypedValue.{TypedValue, IsAt}
-use Rattle.wave_value.specs.ValueView.{trees, beside, key_of, entry_trees, EntriesAt, MapFits}
+use Rattle.wave_value.specs.ValueModel.{trees, beside}
+use Rattle.wave_value.specs.Private.ValueModel.{key_of, entry_trees, EntriesAt, MapFits}
 use Rattle.wave_wasm.specs.Values as value
-use Rattle.wave_wasm.specs.Values.{Leaf, Value, values, value_list, field_values, field_list, entries, entry_list, maybe_value, value_option}
+use Rattle.wave_wasm.specs.Values.{Leaf, Value, values, value_list, field_values, field_list, entries, entry_list, maybe_value}
+use Rattle.wave_wasm.specs.Private.Values.{value_option}
 
 pub value_list-values : (vs : List Value) → value_list (values vs) ≡ vs
 value_list-values [] = refl

@@ -11,7 +11,8 @@ use Rattle.wave_wasm.specs.HasType.{IsLeafOf, HasType, HasPayload, HasTypes, Has
 use Rattle.wave_value.specs.declared.value.Content.{Content}
 use Rattle.wave_value.specs.declared.value.Content.TheVariants as contents
 use Rattle.wave_value.specs.TypedValue.{TypedValue, IsAt}
-use Rattle.wave_value.specs.ValueView.{scalar_leaf, name_at, first_names, trees, beside, boxed, payload_tree, key_of, entry_trees, content_tree, AllAt, EachAt, FieldsAt, PayloadAt, CaseAt, Grows, EntriesAt, ListFits, RecordFits, TupleFits, VariantFits, EnumFits, OptionFits, OkFits, ErrFits, FlagsFit, MapFits, ScalarFits, Fits}
+use Rattle.wave_value.specs.ValueModel.{scalar_leaf, name_at, first_names, trees, beside, boxed, payload_tree}
+use Rattle.wave_value.specs.Private.ValueModel.{key_of, entry_trees, content_tree, AllAt, EachAt, FieldsAt, PayloadAt, CaseAt, Grows, EntriesAt, ListFits, RecordFits, TupleFits, VariantFits, EnumFits, OptionFits, OkFits, ErrFits, FlagsFit, MapFits, ScalarFits, Fits}
 
 all_mean : (E : TypeTree) (vs : List TypedValue) → AllAt E vs → AllOf (HasType E) (trees vs)
 all_mean E [] h = tt

@@ -4,8 +4,9 @@ ghost use Rattle.wave_wasm.specs.Types as type;
 ghost use Rattle.wave_wasm.specs.Types.{IsOwn, simple_kind};
 ghost use Rattle.wave_wasm.specs.Values as value;
 ghost use Rattle.wave_wasm.specs.Values.{kind_of, leaf_type, IsSound};
-ghost use Rattle.wave_wasm.specs.Makers.{IsMemory};
-ghost use Rattle.wave_value.specs.ValueView.{scalar_leaf, boxed, IsAsGood};
+ghost use Rattle.wave_wasm.specs.ConstructorContracts.{IsMemory};
+ghost use Rattle.wave_value.specs.ValueModel.{scalar_leaf, boxed};
+ghost use Rattle.wave_value.specs.Private.ValueModel.{IsAsGood};
 ghost use Rattle.wave_value.specs.TypedValue.{MakesOnly, IsTyped, typed_leaf};
 
 use std::alloc::{AllocError, Global};
@@ -64,15 +65,15 @@ pub struct Value {
 }
 
 impl Model for Value {
-    ghost use Rattle.wave_wasm.specs.Values.{depth};
+    ghost use Rattle.wave_wasm.specs.Private.Values.{depth};
     ghost use Rattle.wave_value.specs.TypedValue.{TypedValue};
-    ghost use Rattle.wave_value.specs.ValueCode.{typed_code};
+    ghost use Rattle.wave_value.specs.Private.ValueEncoding.{typed_code};
 
     ghost Value = { TypedValue };
 
     ghost coded = { typed_code };
 
-    ghost use Rattle.wave_value.specs.ValueView.{content_tree, Fits};
+    ghost use Rattle.wave_value.specs.Private.ValueModel.{content_tree, Fits};
 
     ghost view = { λ v. record { own = v.own; tree = content_tree v.own v.content } };
 
@@ -80,7 +81,7 @@ impl Model for Value {
 
     ghost size = { λ v. depth v.tree };
 
-    ghost use Rattle.wave_value.specs.ValueFalls.{deep_le-depth};
+    ghost use Rattle.wave_value.specs.Private.ValueDepth.{deep_le-depth};
 
     ghost size_decreases = { λ a h. deep_le-depth a.own a.content h };
 }

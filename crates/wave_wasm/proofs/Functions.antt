@@ -1,11 +1,12 @@
 -- The names and types of a function, from one place on.
 use Rattle.std.proofs.Common.{ℕ, zero, suc, true, ◌≡◌, ◌<◌, ◌≤◌, ◌+◌, List, [], ◌∷◌, ◌++◌, Bool, refl, sym, ap, ◌∙◌, length, get_or, drop, map, arith, add-one, append_assoc, codes, Bor, subst}
 use Rattle.std.proofs.Math.Seq.{drop-nil}
-use Rattle.wave_wasm.specs.Shown.{texts}
+use Rattle.wave_wasm.specs.Borrowed.{texts}
 use Rattle.wave_wasm.specs.Types.{TypeTree}
-use Rattle.wave_wasm.specs.Commas.{comma_if}
-use Rattle.wave_wasm.specs.TypeText.{type_text, typed_names, name_part}
-use Rattle.wave_wasm.proofs.Adding.{Adding, adding_as}
+use Rattle.wave_wasm.specs.Private.Commas.{comma_if}
+use Rattle.wave_wasm.specs.TypeText.{type_text, typed_names}
+use Rattle.wave_wasm.specs.Private.TypeText.{name_part}
+use Rattle.wave_wasm.proofs.TextAppend.{Adding, adding_as}
 use Rattle.wave_wasm.proofs.Sequence.{parted}
 
 -- the name at a place where there is one

@@ -7,15 +7,18 @@ use Rattle.wave_wasm.specs.Lists.{AllOf}
 use Rattle.wave_wasm.specs.Types as type
 use Rattle.wave_wasm.specs.Types.{Simple}
 use Rattle.wave_wasm.specs.Values as value
-use Rattle.wave_wasm.specs.Values.{Leaf, Value, Entries, no_entries, entry, entries, entry_list, map_entries, kind_of, leaf_type, depth, depth_of_entries, IsLeaf, IsSound, AreOfOneKind, IsWellFormed, AreWellFormedEntries}
+use Rattle.wave_wasm.specs.Values.{Leaf, Value, Entries, no_entries, entry, entries, entry_list, map_entries, kind_of, leaf_type, IsSound, AreOfOneKind, IsWellFormed, AreWellFormedEntries}
+use Rattle.wave_wasm.specs.Private.Values.{depth, depth_of_entries, IsLeaf}
 use Rattle.wave_wasm.specs.HasType.{IsLeafOf}
-use Rattle.wave_wasm.specs.Makers.{leaf_entries}
-use Rattle.wave_wasm.specs.Commas.{enclosed, behind_name, comma_if}
-use Rattle.wave_wasm.specs.Merge.{merged, merged_entries, merge, leaf_eq, with_key_texts}
+use Rattle.wave_wasm.specs.ConstructorContracts.{leaf_entries}
+use Rattle.wave_wasm.specs.Private.Commas.{enclosed, comma_if}
+use Rattle.wave_wasm.specs.Commas.{behind_name}
+use Rattle.wave_wasm.specs.Merge.{merged, merged_entries, merge, leaf_eq}
+use Rattle.wave_wasm.specs.Private.Merge.{with_key_texts}
 use Rattle.wave_wasm.specs.Text.{text, has_text, leaf_text, printed_entries, are_writable_entries}
-use Rattle.wave_wasm.specs.Output.{Output}
+use Rattle.wave_wasm.specs.WriterState.{Output}
 use Rattle.wave_wasm.proofs.Keys.{leaf_tests}
-use Rattle.wave_wasm.proofs.Natural.{paired, merge_paired, values_keep}
+use Rattle.wave_wasm.proofs.MergeCongruence.{paired, merge_paired, values_keep}
 use Rattle.wave_wasm.proofs.Sequence.{parted, writing_item}
 use Rattle.wave_wasm.proofs.Trees.{not_leaf, map_map, all_map}
 use Rattle.wave_wasm.proofs.Writing.{Writing, writing_as}

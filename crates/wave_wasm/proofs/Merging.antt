@@ -7,7 +7,7 @@ use Rattle.wave_wasm.specs.Merge.{or_else, last_value, without, merge, distinct_
 use Rattle.wave_wasm.specs.Values as value
 use Rattle.wave_wasm.specs.Values.{Leaf, leaf_type}
 use Rattle.wave_wasm.specs.Types as type
-use Rattle.wave_wasm.specs.TypeTreeCode.{simple_apart, simple_number}
+use Rattle.wave_wasm.specs.TypeTreeEncoding.{simple_apart, simple_number}
 use Rattle.std.proofs.lemmas.Bool.{eqb-true}
 use Rattle.std.specs.Cmp.{signed_Decides, unsigned_Decides}
 use Rattle.std.proofs.lemmas.Slice.Eq.{bytes_eq-Decides}

@@ -7,8 +7,8 @@ use Rattle.std.proofs.lemmas.Fmt.{hex_one_digit}
 use Rattle.std.specs.Char.{encode_utf8, digit_char}
 use Rattle.std.specs.Char.Escape.{escape_unicode, hex_digit_at}
 use Rattle.std.specs.Fmt.{digits, digits_onto, digit_glyph}
-use Rattle.wave_wasm.specs.Output.{Output}
-use Rattle.wave_wasm.specs.Text.{number_escape}
+use Rattle.wave_wasm.specs.WriterState.{Output}
+use Rattle.wave_wasm.specs.Private.Text.{number_escape}
 use Rattle.wave_wasm.proofs.Escapes.{number_encodes}
 use Rattle.wave_wasm.proofs.Writing.{Writing, writing_as, writing_none}
 

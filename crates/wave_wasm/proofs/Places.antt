@@ -4,7 +4,7 @@ use Rattle.std.proofs.lemmas.List.{length-map, map-append}
 use Rattle.std.proofs.lemmas.Bool.{cases_Bool}
 use Rattle.std.proofs.lemmas.Slice.Eq.{bytes_eq-Decides}
 use Rattle.wave_wasm.specs.Merge.{merge, same_text}
-use Rattle.wave_wasm.proofs.Walk.{put, merge_push}
+use Rattle.wave_wasm.proofs.MergeLoop.{put, merge_push}
 
 -- where the text stands
 abbrev pub found_at : List ℕ → List (List ℕ) → Option ℕ

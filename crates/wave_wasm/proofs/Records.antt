@@ -3,7 +3,7 @@ use Rattle.std.proofs.Common.{ℕ, ◌≡◌, ◌<◌, ◌≤◌, ◌+◌, List,
 use Rattle.std.proofs.lemmas.List.{append-nil}
 use Rattle.wave_wasm.specs.Values.{Value}
 use Rattle.wave_wasm.specs.Text.{text, is_no_option}
-use Rattle.wave_wasm.specs.Output.{Output}
+use Rattle.wave_wasm.specs.WriterState.{Output}
 use Rattle.wave_wasm.proofs.Sequence.{at_item, at_end}
 use Rattle.wave_wasm.proofs.Trees.{fields_left}
 use Rattle.wave_wasm.proofs.Writing.{Writing, writing_as}

@@ -5,7 +5,7 @@ use Rattle.std.proofs.lemmas.Str.{chars-nil, chars_past_char, IsUtf8-past_char, 
 use Rattle.std.specs.Char.{encode_utf8}
 use Rattle.std.specs.List.{flat_map}
 use Rattle.std.specs.Str.{IsUtf8, IsCharBoundary, chars}
-use Rattle.wave_wasm.specs.Output.{Output}
+use Rattle.wave_wasm.specs.WriterState.{Output}
 use Rattle.wave_wasm.specs.Text.{escaped, quoted}
 use Rattle.wave_wasm.proofs.Writing.{Writing, writing_as}
 

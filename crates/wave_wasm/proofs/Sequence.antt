@@ -3,8 +3,9 @@ use Rattle.std.proofs.Common.{ℕ, zero, suc, ◌≡◌, ◌<◌, ◌≤◌, ◌
 use Rattle.std.proofs.Math.Seq.{drop-cons, drop-nil}
 use Rattle.std.specs.List.{list_all}
 use Rattle.wave_wasm.specs.Lists.{AllOf}
-use Rattle.wave_wasm.specs.Commas.{joined, followed, enclosed, comma_if}
-use Rattle.wave_wasm.specs.Output.{Output, Appended}
+use Rattle.wave_wasm.specs.Commas.{joined, followed}
+use Rattle.wave_wasm.specs.Private.Commas.{enclosed, comma_if}
+use Rattle.wave_wasm.specs.WriterState.{Output, Appended}
 use Rattle.wave_wasm.proofs.Writing.{Writing, writing_as, start_written}
 
 -- a fact of what is left at i, from the item there

@@ -9,7 +9,7 @@ use Rattle.wave_wasm.specs.Values.{Value, Leaf, MaybeValue, FieldValues, values,
 use Rattle.wave_wasm.specs.HasType.{IsLeafOf, HasType, HasPayload, HasTypes, HasFields, HasCase}
 use Rattle.wave_wasm.specs.Text.{has_text, is_writable, is_writable_maybe, are_writable, are_writable_fields, are_writable_entries}
 use Rattle.wave_wasm.specs.Merge.{merged, merged_maybe, merged_values, merged_fields, merged_entries, merge, last_value, without, leaf_eq}
-use Rattle.wave_wasm.specs.Output.{IsGrounded, IsWantOfMemory, IsForMemory}
+use Rattle.wave_wasm.specs.WriterState.{IsGrounded, IsWantOfMemory, IsForMemory}
 use Rattle.wave_wasm.specs.declared.writer.WriterError.{WriterError}
 use Rattle.wave_wasm.specs.declared.writer.WriterError.TheVariants as refusal
 

@@ -3,7 +3,7 @@ use Rattle.std.proofs.Common.{ℕ, ◌≡◌, List, [], ◌++◌, Bool, true, fa
 use Rattle.std.proofs.lemmas.List.{append-nil}
 use Rattle.std.specs.declared.alloc.AllocError.{AllocError}
 use Rattle.wave_wasm.specs.declared.writer.WriterError.{WriterError}
-use Rattle.wave_wasm.specs.Output.{Output, Appended, IsGrounded, CountsOnce, Refused}
+use Rattle.wave_wasm.specs.WriterState.{Output, Appended, IsGrounded, CountsOnce, Refused}
 
 -- of the text `whole`, all but `rest` was taken, and no write failed
 pub record Writing (whole rest : List ℕ) (old now : Output) : Type 0 where

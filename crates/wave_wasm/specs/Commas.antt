@@ -1,5 +1,5 @@
 -- Texts with commas between.
-use Rattle.std.specs.Prelude.{ℕ, Bool, if◌then◌else◌, List, [], ◌∷◌, ◌++◌, codes}
+use Rattle.std.specs.Prelude.{ℕ, if◌then◌else◌, List, [], ◌∷◌, ◌++◌, codes}
 
 -- the texts behind a first, each after a comma
 abbrev pub followed : List (List ℕ) → List ℕ
@@ -11,17 +11,9 @@ abbrev pub joined : List (List ℕ) → List ℕ
 joined [] = []
 joined (s ∷ ss) = s ++ followed ss
 
--- a comma where an item stands before
-abbrev pub comma_if : Bool → List ℕ
-comma_if later = if later then codes ", " else []
-
 -- `a: b`
 abbrev pub behind_name : List ℕ → List ℕ → List ℕ
 behind_name name text = name ++ (codes ": " ++ text)
-
--- the texts with commas between, from a start to an end
-abbrev pub enclosed : List ℕ → List (List ℕ) → List ℕ → List ℕ
-enclosed start texts end = start ++ (joined texts ++ end)
 
 -- a text in parentheses
 abbrev pub in_parens : List ℕ → List ℕ

@@ -3,7 +3,7 @@ use Rattle.std.specs.Prelude.{ℕ, ◌≡◌, Bool, true, false, not, ◌&&◌, 
 use Rattle.std.specs.Str.{bytes_eq}
 use Rattle.wave_wasm.specs.Lists.{AllOf}
 use Rattle.std.specs.Ordering.{int_eq}
-use Rattle.wave_wasm.specs.TypeTreeCode.{simple_number}
+use Rattle.wave_wasm.specs.TypeTreeEncoding.{simple_number}
 use Rattle.wave_wasm.specs.Values as value
 use Rattle.wave_wasm.specs.Values.{Leaf, Value, MaybeValue, Values, FieldValues, Entries, entries, leaf_type, no_value, a_value, no_values, value_and, no_fields, field, no_entries, entry}
 
@@ -105,7 +105,3 @@ same_text a b = bytes_eq a.0 b.0
 -- the distinct texts in the order of their first places, each with its first key and its last value
 abbrev pub merge_by_text : {K V : Type 0} → List ((List ℕ × K) × V) → List (K × V)
 merge_by_text es = map (λ e. (e.0.1, e.1)) (merge same_text es)
-
--- the entries, each with the text of its key in place of the key
-abbrev pub with_key_texts : {K V : Type 0} → (K → List ℕ) → List (K × V) → List (List ℕ × V)
-with_key_texts key_text es = map (λ e. (key_text e.0, e.1)) es

@@ -1,5 +1,5 @@
 -- The canonical text of a value.
-use Rattle.std.specs.Prelude.{ℕ, List, [], ◌∷◌, ◌++◌, Bool, true, false, not, ◌&&◌, ◌==◌, if◌then◌else◌, codes, map, Option, Some, None}
+use Rattle.std.specs.Prelude.{ℕ, List, [], ◌∷◌, ◌++◌, Bool, true, false, not, ◌&&◌, ◌==◌, if◌then◌else◌, codes, map}
 use Rattle.std.specs.Char.{encode_utf8}
 use Rattle.std.specs.Fmt.{digits, signed_decimal}
 use Rattle.std.specs.List.{flat_map}
@@ -31,10 +31,6 @@ is_hidden _ = false
 -- a scalar that is written by its number: of those categories, and not the space
 abbrev pub is_escaped : ℕ → Bool
 is_escaped c = is_hidden (general_category c) && not (c == 0x20)
-
--- the escape of a scalar by its number: `\u{h}`, in lower-case digits without a leading zero
-abbrev pub number_escape : ℕ → List ℕ
-number_escape c = codes "\\u{" ++ (digits 16 false c ++ codes "}")
 
 -- how a scalar stands in a char or string: `\\`, `\"`, `\'`, `\t`, `\r`, `\n`, `\u{h}`, or itself
 unfoldable pub escaped : ℕ → List ℕ
@@ -166,16 +162,6 @@ text v = printed (merged v)
 -- the value has a canonical text
 abbrev pub has_text : Value → Bool
 has_text v = is_writable (merged v)
-
--- the canonical text of a payload: `(a)`, or nothing
-abbrev pub payload_text : Option Value → List ℕ
-payload_text None = []
-payload_text (Some v) = in_parens (text v)
-
--- the payload has a canonical text
-abbrev pub has_payload_text : Option Value → Bool
-has_payload_text None = true
-has_payload_text (Some v) = has_text v
 
 -- ---- several values
 

@@ -2,7 +2,7 @@
 use Rattle.std.specs.declared.fmt.Formatter.{Formatter}
 use Rattle.std.specs.declared.fmt.Error.{Error}
 use Rattle.std.specs.Fmt.{IsPlainFormatter, HasWritten}
-use Rattle.std.specs.Prelude.{ℕ, zero, suc, ◌≡◌, ◌⊎◌, length, List, [], ◌∷◌, ◌++◌, Option, Some, None, codes, Result, IsOk}
+use Rattle.std.specs.Prelude.{ℕ, ◌≡◌, ◌⊎◌, length, List, [], ◌∷◌, ◌++◌, Option, Some, None, codes, Result, IsOk}
 use Rattle.wave_wasm.specs.Types.{TypeTree, simple, unreadable, list, fixed, record_type, tuple, variant, enum, option, result, flags, map, MaybeType, no_type, a_type, Types, no_types, type_and, Fields, no_fields, field, Cases, no_cases, case_of, simple_kind, unreadable_kind}
 use Rattle.wave_wasm.specs.Commas.{joined, behind_name, in_parens}
 use Rattle.wave_wasm.specs.declared.wasm.WasmTypeKind.{WasmTypeKind}
@@ -129,12 +129,6 @@ abbrev pub IsFuncText : Func → List ℕ → Type 0
 IsFuncText f text =
     (param_names result_names : List (List ℕ)) × AreNamesGiven f.params f.param_names param_names × AreNamesGiven f.results f.result_names result_names
     × (text ≡ function_text (record { params = f.params; param_names = param_names; results = f.results; result_names = result_names }))
-
--- the name at this place and `: `, or nothing where there is none
-abbrev pub name_part : List (List ℕ) → ℕ → List ℕ
-name_part [] n = []
-name_part (name ∷ names) zero = name ++ codes ": "
-name_part (name ∷ names) (suc n) = name_part names n
 
 -- the text of the function was shown, where the formatter is plain and nothing failed
 abbrev pub ShowsFunc : {W : Type 0} → (W → List ℕ → W → Type 0) → Func → Formatter W → Result (Unit {0}) Error → Formatter W → Type 0

@@ -84,7 +84,7 @@ impl<'a> Call<'a> {
 }
 
 impl WasmFunc for Call<'_> {
-    ghost use Rattle.wave_wasm.specs.Shown.{texts, shown_all};
+    ghost use Rattle.wave_wasm.specs.Borrowed.{texts, shown_all};
     ghost use Rattle.wave_wasm.specs.Types.{simple, char};
 
     type Type = CharType;

@@ -137,7 +137,7 @@ pub enum WasmValueError {
 
 impl fmt::Display for WasmValueError {
     ghost use Rattle.std.specs.Prelude.{Some};
-    ghost use Rattle.wave_wasm.specs.Causes.{cause_of, cause_text};
+    ghost use Rattle.wave_wasm.specs.ValueErrors.{cause_of, cause_text};
 
     ghost output = { λ error. Some (cause_text (cause_of error)) };
 
@@ -195,7 +195,7 @@ impl<T: Drop> From<AllocFailed<T>> for WasmValueError {
 pub trait WasmType: Sized {
     ghost use Rattle.std.specs.Prelude.{◌≡◌, IfOk};
     ghost use Rattle.wave_wasm.specs.Types.{TypeTree, kind_of, list_part, record_parts, tuple_parts, variant_parts, enum_names, option_part, result_parts, flags_names, map_parts};
-    ghost use Rattle.wave_wasm.specs.Shown.{texts, shown, shown_all, shown_fields, shown_cases, shown_result, shown_pair};
+    ghost use Rattle.wave_wasm.specs.Borrowed.{texts, shown, shown_all, shown_fields, shown_cases, shown_result, shown_pair};
 
     /// The tree that the type means.
     ghost tree: { Self → TypeTree };
@@ -253,8 +253,8 @@ pub trait WasmValue: Sized + Drop {
     ghost use Rattle.wave_wasm.specs.Values as value;
     ghost use Rattle.wave_wasm.specs.Values.{Value, kind_of, maybe_value, list_items, tuple_items, record_fields, flags_names, map_entries, IsWellFormed};
     ghost use Rattle.wave_wasm.specs.HasType.{HasType};
-    ghost use Rattle.wave_wasm.specs.Shown.{texts, shown, shown_all, shown_fields, shown_pairs, shown_either};
-    ghost use Rattle.wave_wasm.specs.Makers.{IsOfListKind, result_value, leaf_entries, HasFullParts, MakesLeaf, MakesList, MakesTuple, MakesRecord, MakesVariant, MakesEnum, MakesOption, MakesResult, MakesFlags, MakesMap, FullLeaf, FullList, FullTuple, FullRecord, FullVariant, FullEnum, FullOption, FullResult, FullFlags, FullMap};
+    ghost use Rattle.wave_wasm.specs.Borrowed.{texts, shown, shown_all, shown_fields, shown_pairs, shown_either};
+    ghost use Rattle.wave_wasm.specs.ConstructorContracts.{IsOfListKind, result_value, leaf_entries, HasFullParts, MakesLeaf, MakesList, MakesTuple, MakesRecord, MakesVariant, MakesEnum, MakesOption, MakesResult, MakesFlags, MakesMap, FullLeaf, FullList, FullTuple, FullRecord, FullVariant, FullEnum, FullOption, FullResult, FullFlags, FullMap};
 
     /// The tree that the value means.
     ghost tree: { Self → Value };
@@ -499,9 +499,9 @@ pub trait WasmValue: Sized + Drop {
 
 ghost use Rattle.std.specs.Prelude.{◌≡◌, ◌≢◌, ◌⊎◌, OnOk, OnErr, IfErr};
 ghost use Rattle.wave_wasm.specs.Types.{kind_of as kind_of_type};
-ghost use Rattle.wave_wasm.specs.Makers.{IsMemory};
+ghost use Rattle.wave_wasm.specs.ConstructorContracts.{IsMemory};
 ghost use Rattle.wave_wasm.specs.TypeText.{type_text};
-ghost use Rattle.wave_wasm.specs.Causes.{cause_of, wrong_kind};
+ghost use Rattle.wave_wasm.specs.ValueErrors.{cause_of, wrong_kind};
 
 /// Asks for a type of this kind. Another is refused as `WrongTypeKind` with the type's text, or as
 /// `Memory` where there is none for that text.

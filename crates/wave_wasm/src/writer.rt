@@ -19,7 +19,7 @@ pub enum WriterError {
 }
 
 impl fmt::Display for WriterError {
-    ghost use Rattle.wave_wasm.specs.Causes.{refusal_text};
+    ghost use Rattle.wave_wasm.specs.ValueErrors.{refusal_text};
 
     ghost output = { refusal_text };
 
@@ -70,7 +70,7 @@ impl<T: Drop> From<AllocFailed<T>> for WriterError {
 /// What takes text. A value means the text taken so far and how often a write failed.
 pub trait TextWrite {
     ghost use Rattle.std.specs.Prelude.{OnOk, IfErr};
-    ghost use Rattle.wave_wasm.specs.Output.{Output, Appended, TextRefused};
+    ghost use Rattle.wave_wasm.specs.WriterState.{Output, Appended, TextRefused};
 
     /// The text taken so far and the count of failures.
     ghost output: { Self → Output };
@@ -103,13 +103,16 @@ impl<W: TextWrite> Writer<W> {
     ghost use Rattle.std.specs.List.{list_all};
     ghost use Rattle.std.specs.Borrow.{Lends, sem};
     ghost use Rattle.wave_wasm.specs.contracts.writer.Writer.{the_row};
-    ghost use Rattle.wave_wasm.specs.Output.{Appended, Refused, Writes, Refuses};
-    ghost use Rattle.wave_wasm.specs.Values.{kind_of, IsLeaf, IsWellFormed, flags_names};
+    ghost use Rattle.wave_wasm.specs.WriterState.{Appended, Refused};
+    ghost use Rattle.wave_wasm.specs.Private.WriterState.{Writes, Refuses};
+    ghost use Rattle.wave_wasm.specs.Values.{kind_of, IsWellFormed, flags_names};
+    ghost use Rattle.wave_wasm.specs.Private.Values.{IsLeaf};
     ghost use Rattle.wave_wasm.specs.Keywords.{case_label};
-    ghost use Rattle.wave_wasm.specs.Commas.{comma_if, enclosed};
-    ghost use Rattle.wave_wasm.specs.Makers.{IsOfListKind};
-    ghost use Rattle.wave_wasm.specs.Shown.{texts, shown, shown_all};
-    ghost use Rattle.wave_wasm.specs.Text.{escaped, number_escape, quoted, quoted_char, text, has_text, payload_text, has_payload_text};
+    ghost use Rattle.wave_wasm.specs.Private.Commas.{comma_if, enclosed};
+    ghost use Rattle.wave_wasm.specs.ConstructorContracts.{IsOfListKind};
+    ghost use Rattle.wave_wasm.specs.Borrowed.{texts, shown, shown_all};
+    ghost use Rattle.wave_wasm.specs.Text.{escaped, quoted, quoted_char, text, has_text};
+    ghost use Rattle.wave_wasm.specs.Private.Text.{number_escape, payload_text, has_payload_text};
 
     /// A writer into `out`.
     pub fn new(out: W) -> Writer<W>
@@ -478,11 +481,13 @@ ghost use Rattle.std.specs.List.{list_all};
 ghost use Rattle.std.specs.Str.{bytes_eq};
 ghost use Rattle.std.specs.String.{string_bytes};
 ghost use Rattle.wave_wasm.specs.Lists.{AllOf};
-ghost use Rattle.wave_wasm.specs.Values.{IsLeaf};
+ghost use Rattle.wave_wasm.specs.Private.Values.{IsLeaf};
 ghost use Rattle.std.specs.Char.{encode_utf8};
-ghost use Rattle.wave_wasm.specs.Text.{text, has_text, is_no_option, escaped, number_escape, is_escaped, arguments_text, results_text};
-ghost use Rattle.wave_wasm.specs.Merge.{merge, merge_by_text, with_key_texts};
-ghost use Rattle.wave_wasm.specs.Output.{IsGrounded};
+ghost use Rattle.wave_wasm.specs.Text.{text, has_text, is_no_option, escaped, is_escaped, arguments_text, results_text};
+ghost use Rattle.wave_wasm.specs.Private.Text.{number_escape};
+ghost use Rattle.wave_wasm.specs.Merge.{merge, merge_by_text};
+ghost use Rattle.wave_wasm.specs.Private.Merge.{with_key_texts};
+ghost use Rattle.wave_wasm.specs.WriterState.{IsGrounded};
 
 /// The canonical text of the value. `UnsupportedType` is answered only where it has none, and
 /// `Io` never.

@@ -1,6 +1,6 @@
 use Rattle.wave_grammar.proofs.RoundTrip.ReadsBack.{reads_back_within_twice}
 use Rattle.wave_grammar.proofs.Unambiguity.OneReading.{one_reading}
-use Rattle.wasm_wave.proofs.Headline.{all_none, all_merged, one_value_of}
+use Rattle.wasm_wave.proofs.MainTheorem.{all_none, all_merged, one_value_of}
 use Rattle.wasm_wave.proofs.from_str.Goals as goal
 
 pub returns-clause-refused : goal.returns-clause-refused

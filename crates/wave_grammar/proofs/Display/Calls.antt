@@ -17,7 +17,7 @@ use Rattle.wave_lex.specs.declared.machine.name.Component.TheVariants as compone
 use Rattle.wave_lex.specs.declared.machine.name.Number.TheVariants as number
 use Rattle.wave_lex.specs.NameMachine.{name_rest, name_step}
 use Rattle.wave_lex.specs.FunctionName.{IsName}
-use Rattle.wave_lex.specs.Fronts.{IsFront}
+use Rattle.wave_lex.specs.LongestMatch.{IsFront}
 use Rattle.wave_lex.specs.Regex.{nothing, Matches}
 use Rattle.wave_lex.specs.Derive.{after, after_all}
 use Rattle.wave_lex.specs.Tokens.{function_name}

@@ -12,7 +12,7 @@ use Rattle.wave_lex.specs.Derive.{may_be_empty, after}
 use Rattle.wave_lex.specs.Tokens as shapes
 use Rattle.wave_lex.specs.Tokens.{shape}
 use Rattle.wave_lex.specs.Labels.{IsLabel}
-use Rattle.wave_lex.specs.Lexing.{Front}
+use Rattle.wave_lex.specs.Tokenization.{Front}
 use Rattle.wave_lex.proofs.Derive.{matches_into}
 use Rattle.wave_lex.proofs.Machines.{multiline_steps}
 use Rattle.wave_grammar.specs.Token.{Token, CutsInto, lexeme_of, text_of, number, label, char, string, multiline}

@@ -5,7 +5,7 @@ use Rattle.wave_wasm.specs.Types as type
 use Rattle.wave_wasm.specs.Values as value
 use Rattle.wave_lex.specs.declared.lex.Token.TheVariants as class
 use Rattle.wave_lex.specs.Tokens.{gap, function_name}
-use Rattle.wave_lex.proofs.Fronts.{longest_here, token_here}
+use Rattle.wave_lex.proofs.LongestMatch.{longest_here, token_here}
 use Rattle.wave_grammar.specs.Token.{paren_open, paren_close, comma}
 use Rattle.wave_grammar.specs.Denotes.{Means}
 use Rattle.wave_grammar.specs.Params.{Params}

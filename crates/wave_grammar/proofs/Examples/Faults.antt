@@ -4,10 +4,10 @@ use Rattle.std.specs.Prelude.{codes}
 use Rattle.std.specs.declared.ops.Range.{Range}
 use Rattle.wave_wasm.specs.Types as type
 use Rattle.wave_wasm.specs.Types.{TypeTree}
-use Rattle.wave_wasm.specs.Causes.{missing_field, missing_payload, unexpected_payload, unknown_case, wrong_number, unsupported_type}
+use Rattle.wave_wasm.specs.ValueErrors.{missing_field, missing_payload, unexpected_payload, unknown_case, wrong_number, unsupported_type}
 use Rattle.wave_lex.specs.declared.error.ParserErrorKind.TheVariants.{InvalidType, InvalidValue, InvalidMultilineString, DuplicateField}
 use Rattle.wave_lex.specs.Errors.{Refusal, plainly, caused}
-use Rattle.wave_lex.specs.Lexing.{span}
+use Rattle.wave_lex.specs.Tokenization.{span}
 use Rattle.wave_lex.specs.Multiline.{opening}
 use Rattle.wave_grammar.specs.Token.{Token, number, multiline}
 use Rattle.wave_grammar.specs.Token as token

@@ -6,7 +6,8 @@ use Rattle.wave_wasm.specs.Types.{Whole}
 use Rattle.wave_wasm.specs.Numbers.{IsInRange}
 use Rattle.wave_wasm.specs.Values as value
 use Rattle.wave_grammar.specs.Token.{Token, brace_open, brace_close, paren_open, paren_close, bracket_open, bracket_close, colon, comma, number, label, char, string, multiline, lexeme_of, text_of}
-use Rattle.wave_grammar.specs.NumberText.{all_digits, whole_text, IsNumberOf, IsMagnitude}
+use Rattle.wave_grammar.specs.NumberText.{all_digits, whole_text, IsNumberOf}
+use Rattle.wave_grammar.specs.Private.NumberText.{IsMagnitude}
 use Rattle.wave_grammar.specs.LeafTokens.{Spells, name_of}
 use Rattle.wave_grammar.specs.ParserPosition.{token_of}
 use Rattle.wave_grammar.specs.TypeErrors.{SpellsNoLeaf}

@@ -1,7 +1,8 @@
 -- The number of digits grows with each of them.
 use Rattle.std.proofs.Common.{ℕ, zero, suc, ◌+◌, ◌-◌, ◌*◌, ◌^◌, ◌≤◌, ◌<◌, ◌≡◌, Bool, true, false, List, [], ◌∷◌, length, get_or, drop, Option, Some, None, sym, ap, ◌∙◌, refl, arith}
 use Rattle.std.specs.Bool.{◌==◌}
-use Rattle.wave_grammar.specs.NumberText.{digits, all_digits, IsMagnitude}
+use Rattle.wave_grammar.specs.NumberText.{digits, all_digits}
+use Rattle.wave_grammar.specs.Private.NumberText.{IsMagnitude}
 
 -- behind a digit the number goes on
 passed : (b : Bool) (x : Option ℕ) (n : ℕ) → elim b [ true ↦ x | false ↦ None ] ≡ Some n → x ≡ Some n

@@ -15,7 +15,7 @@ use Rattle.wave_lex.specs.Tokens.{escape, hexadecimal, up_to, one, word}
 use Rattle.wave_lex.specs.Strings.{IsEscape}
 use Rattle.wave_lex.proofs.Parts.{AllPlain}
 use Rattle.wave_lex.proofs.Derive.{matches_from}
-use Rattle.wave_lex.proofs.Fronts.{is_ascii}
+use Rattle.wave_lex.proofs.LongestMatch.{is_ascii}
 
 -- ---- hexadecimal digits
 

@@ -10,7 +10,7 @@ use Rattle.wave_wasm.specs.Values.{Value, Leaf}
 use Rattle.wave_wasm.specs.HasType.{IsLeafOf}
 use Rattle.wave_wasm.specs.Text.{text, leaf_text}
 use Rattle.wave_lex.specs.declared.lex.Token.TheVariants as class
-use Rattle.wave_lex.specs.Lexing.{Lexeme}
+use Rattle.wave_lex.specs.Tokenization.{Lexeme}
 use Rattle.wave_lex.specs.Tokens.{label_or_keyword}
 use Rattle.wave_lex.proofs.Derive.{matches_from}
 use Rattle.wave_lex.proofs.Cutting.{cuts_once}

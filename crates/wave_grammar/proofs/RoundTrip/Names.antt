@@ -13,7 +13,7 @@ use Rattle.wave_lex.specs.Tokens as shapes
 use Rattle.wave_lex.specs.Labels.{IsLabel}
 use Rattle.wave_lex.proofs.Derive.{after_into}
 use Rattle.wave_lex.proofs.Shapes.{and_true}
-use Rattle.wave_lex.proofs.Fronts.{is_ascii}
+use Rattle.wave_lex.proofs.LongestMatch.{is_ascii}
 use Rattle.wave_grammar.specs.Token.{label}
 use Rattle.wave_grammar.specs.LeafTokens.{name_of}
 use Rattle.wave_grammar.proofs.Unambiguity.Values.{apart}

@@ -17,7 +17,7 @@ use Rattle.wave_lex.proofs.Derive.{matches_from}
 use Rattle.wave_lex.proofs.Shapes.{and_true}
 use Rattle.wave_lex.proofs.Scanning.{after_all_append}
 use Rattle.wave_lex.proofs.Machines.{number_steps}
-use Rattle.wave_lex.proofs.Fronts.{is_ascii}
+use Rattle.wave_lex.proofs.LongestMatch.{is_ascii}
 use Rattle.wave_grammar.specs.NumberText.{all_digits, digits, signed_text, whole_text}
 
 -- ---- one more digit

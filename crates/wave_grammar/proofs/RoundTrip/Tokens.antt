@@ -16,14 +16,14 @@ use Rattle.wave_lex.specs.Machines.{number_rest, number_step, label_token_rest, 
 use Rattle.wave_lex.proofs.Machines.{number_steps, label_token_steps}
 use Rattle.wave_lex.specs.Regex.{Regex, nothing, empty, Matches, is_one_of}
 use Rattle.wave_lex.specs.Derive.{may_be_empty, after, after_all, after_next}
-use Rattle.wave_lex.specs.Fronts.{IsFront}
+use Rattle.wave_lex.specs.LongestMatch.{IsFront}
 use Rattle.wave_lex.specs.Tokens.{shape, gap, number, label_or_keyword}
-use Rattle.wave_lex.specs.Lexing.{MayStandAt, IsToken, IsLongestToken, IsGap, Lexeme, Front, Cuts, three_quotes}
-use Rattle.wave_lex.specs.Reading.{class_of}
+use Rattle.wave_lex.specs.Tokenization.{MayStandAt, IsToken, IsLongestToken, IsGap, Lexeme, Front, Cuts, three_quotes}
+use Rattle.wave_lex.specs.Private.Reading.{class_of}
 use Rattle.wave_lex.proofs.Derive.{matches_from, matches_into, after_into, after_from, empty_into}
 use Rattle.wave_lex.proofs.Shapes.{and_true, same, same_true, each_below_at, after_past}
 use Rattle.wave_lex.proofs.Scanning.{after_all_append, after_all_nothing}
-use Rattle.wave_lex.proofs.Fronts.{is_ascii, longest_here}
+use Rattle.wave_lex.proofs.LongestMatch.{is_ascii, longest_here}
 use Rattle.wave_lex.proofs.Classes.{group, token_shows, shape_not_empty}
 use Rattle.wave_lex.proofs.Cutting.{one_class}
 

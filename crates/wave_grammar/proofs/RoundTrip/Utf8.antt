@@ -14,13 +14,13 @@ use Rattle.wave_wasm.specs.Types as type
 use Rattle.wave_wasm.specs.Types.{Simple}
 use Rattle.wave_wasm.specs.Values.{Leaf}
 use Rattle.wave_wasm.specs.HasType.{IsLeafOf}
-use Rattle.wave_lex.specs.Lexing.{Front, three_quotes}
+use Rattle.wave_lex.specs.Tokenization.{Front, three_quotes}
 use Rattle.wave_lex.specs.Tokens.{shape, gap}
 use Rattle.wave_lex.specs.Strings.{IsEscape, short_escape, StringPiece, Decodes, StringMeans}
 use Rattle.wave_lex.specs.Multiline.{pieces, put_first, spaces, DropsReturn, LineMeans, LinesMean, in_lines, DecodesLines, MultilineMeans}
 use Rattle.wave_lex.proofs.Decoding.{plain_into, escape_head, decodes_once}
 use Rattle.wave_lex.proofs.Parts.{AllPlain}
-use Rattle.wave_lex.proofs.Fronts.{is_ascii}
+use Rattle.wave_lex.proofs.LongestMatch.{is_ascii}
 use Rattle.wave_lex.proofs.Scanning.{front_boundary}
 use Rattle.wave_lex.proofs.Shapes.{and_true}
 use Rattle.wave_grammar.specs.Token.{Token, CutsInto, lexeme_of, text_of}

@@ -7,12 +7,13 @@ use Rattle.std.specs.declared.ops.Range.{Range}
 use Rattle.wave_lex.specs.declared.strings.StringPart.{StringPart}
 use Rattle.wave_lex.specs.declared.strings.StringPart.TheVariants.{Run, Char}
 use Rattle.wave_lex.specs.declared.error.ParserError.{ParserError}
-use Rattle.wave_lex.specs.Left.{Undecoded, LinesLeft}
+use Rattle.wave_lex.specs.Remaining.{Undecoded, LinesLeft}
 use Rattle.wave_lex.specs.Parts.{part_text, part_texts, PartIs, LinePartIs, LinesRunTo}
 use Rattle.wave_lex.proofs.LineParts.{LinesRun, run_more, run_ended, run_refused, texts_more}
 use Rattle.wave_lex.proofs.Decoding.{escape_head}
 use Rattle.wave_wasm.specs.Lists.{AllOf}
-use Rattle.wave_grammar.specs.StringAssembly.{BorrowedWhere, IsEnded, IsOneRun, IsRefusedFirst, IsUncopied, PutTogether}
+use Rattle.wave_grammar.specs.StringAssembly.{BorrowedWhere, IsOneRun, IsRefusedFirst, IsUncopied, PutTogether}
+use Rattle.wave_grammar.specs.Private.StringAssembly.{IsEnded}
 use Rattle.std.specs.declared.borrow.CowStr.{CowStr}
 use Rattle.std.specs.declared.borrow.CowStr.TheVariants.{Borrowed, Owned}
 

@@ -2,7 +2,7 @@
 use Rattle.std.proofs.Common.{ℕ, zero, suc, ◌≡◌, ◌≢◌, ◌≤◌, inl, inr, Bool, true, false, nat_eq, if◌then◌else◌, List, [], ◌∷◌, ◌++◌, length, refl, sym, ap, subst, ◌∙◌, arith, length-append}
 use Rattle.std.proofs.lemmas.Bool.{eqb-true}
 use Rattle.wave_wasm.specs.Lists.{AllOf}
-use Rattle.wave_lex.specs.Left.{LinesLeft}
+use Rattle.wave_lex.specs.Remaining.{LinesLeft}
 use Rattle.wave_lex.specs.Multiline.{pieces, put_first, spaces, DropsReturn, Opens}
 use Rattle.wave_lex.specs.Parts.{OpensTo}
 use Rattle.wave_grammar.specs.StringAssembly.{IsOneRun, IsRefusedFirst, IsUncopied}

@@ -2,7 +2,7 @@
 ghost use Rattle.std.specs.Prelude.{◌≡◌, slice_range, length};
 ghost use Rattle.std.specs.Iterator.{at_most};
 ghost use Rattle.wave_lex.specs.FunctionName.{NameIs};
-ghost use Rattle.wave_lex.specs.Lexing.{Lexed, Stands, remainder_of, span};
+ghost use Rattle.wave_lex.specs.Tokenization.{Lexed, Stands, remainder_of, span};
 
 use crate::lex::{FuncNameToken, Lexer, Span};
 use crate::machine::label::LabelState;

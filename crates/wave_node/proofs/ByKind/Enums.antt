@@ -6,8 +6,8 @@ use Rattle.wave_wasm.specs.Types as type
 use Rattle.wave_wasm.specs.Types.{TypeTree, HasDistinctNames, enum_names, kind_of}
 use Rattle.wave_wasm.specs.Values as value
 use Rattle.wave_wasm.specs.Values.{Value}
-use Rattle.wave_wasm.specs.Causes.{unknown_case}
-use Rattle.wave_wasm.specs.Makers.{IsMemory, MakesEnum, FullEnum}
+use Rattle.wave_wasm.specs.ValueErrors.{unknown_case}
+use Rattle.wave_wasm.specs.ConstructorContracts.{IsMemory, MakesEnum, FullEnum}
 use Rattle.wave_wasm.specs.declared.wasm.WasmTypeKind.TheVariants as kinds
 use Rattle.wave_wasm.specs.declared.wasm.WasmValueError.{WasmValueError}
 use Rattle.wave_lex.specs.Errors.{Refusal, refusal_of}
@@ -21,7 +21,8 @@ use Rattle.wave_grammar.specs.TypeErrors.{Blame, IsRefusalOf, RefusesFor, OfForm
 use Rattle.wave_node.specs.NodeTree.{NodeTree, type_of, place_of}
 use Rattle.wave_node.specs.Nodes.{placed_of, shape_from}
 use Rattle.wave_node.specs.NodeAccessors.{node_text}
-use Rattle.wave_node.specs.TypedReading.{IsTypedValue, IsBlamed, IsMade, IsCaused}
+use Rattle.wave_node.specs.TypedReading.{IsTypedValue, IsBlamed, IsMade}
+use Rattle.wave_node.specs.Private.TypedReading.{IsCaused}
 use Rattle.wave_node.proofs.ChildNodes.Inside.{From, inside, some_is}
 use Rattle.wave_node.proofs.ChildNodes.Cases.{shape_at}
 use Rattle.wave_node.proofs.ByKind.Leaves.{tree_is, at_tree}

@@ -7,9 +7,9 @@ use Rattle.wave_wasm.specs.Types as type
 use Rattle.wave_wasm.specs.Types.{TypeTree, HasDistinctNames, flags_names, kind_of}
 use Rattle.wave_wasm.specs.Values as value
 use Rattle.wave_wasm.specs.Values.{Value}
-use Rattle.wave_wasm.specs.Shown.{texts}
-use Rattle.wave_wasm.specs.Causes.{unknown_case}
-use Rattle.wave_wasm.specs.Makers.{IsMemory, MakesFlags, FullFlags}
+use Rattle.wave_wasm.specs.Borrowed.{texts}
+use Rattle.wave_wasm.specs.ValueErrors.{unknown_case}
+use Rattle.wave_wasm.specs.ConstructorContracts.{IsMemory, MakesFlags, FullFlags}
 use Rattle.wave_wasm.specs.declared.wasm.WasmTypeKind.TheVariants as kinds
 use Rattle.wave_wasm.specs.declared.wasm.WasmValueError.{WasmValueError}
 use Rattle.wave_lex.specs.Errors.{Refusal, refusal_of}
@@ -22,12 +22,13 @@ use Rattle.wave_grammar.specs.SpannedTree.{Placed, Shape, at, empty_braces, flag
 use Rattle.wave_grammar.specs.TypeErrors.{Blame, IsRefusalOf, RefusesFor, OfForm, Fault, flags_in}
 use Rattle.wave_node.specs.NodeTree.{NodeTree, type_of, place_of, children_of}
 use Rattle.wave_node.specs.Nodes.{IsNodeOf}
-use Rattle.wave_node.specs.NodeFlags.{names_at, AreFlags, RefusesFlags}
+use Rattle.wave_node.specs.NodeFlags.{names_at, AreFlags}
+use Rattle.wave_node.specs.Private.NodeFlags.{RefusesFlags}
 use Rattle.wave_node.specs.TypedReading.{IsTypedValue, IsBlamed, IsMade}
 use Rattle.wave_node.proofs.ChildNodes.Inside.{From, inside}
 use Rattle.wave_node.proofs.ByKind.Leaves.{tree_is, at_tree, said}
 use Rattle.wave_node.proofs.MakerAnswers.{made}
-use Rattle.wave_wasm.proofs.OneOf.{passes}
+use Rattle.wave_wasm.proofs.NameTests.{passes}
 use Rattle.wave_node.proofs.ByKind.Enums.{none_one}
 use Rattle.wave_wasm.proofs.Picked.{picked_distinct, picked_of}
 use Rattle.wave_grammar.proofs.RoundTrip.Typed.{found_picked}

@@ -9,8 +9,8 @@ use Rattle.wave_wasm.specs.declared.wasm.WasmTypeKind.TheVariants as kinds
 use Rattle.wave_wasm.specs.Values as value
 use Rattle.wave_wasm.specs.Values.{Value, Leaf, leaf_type}
 use Rattle.wave_wasm.specs.Text.{bool_text}
-use Rattle.wave_wasm.specs.Causes.{cause_of}
-use Rattle.wave_wasm.specs.Makers.{IsMemory, MakesLeaf, FullLeaf}
+use Rattle.wave_wasm.specs.ValueErrors.{cause_of}
+use Rattle.wave_wasm.specs.ConstructorContracts.{IsMemory, MakesLeaf, FullLeaf}
 use Rattle.wave_wasm.specs.declared.wasm.WasmValueError.{WasmValueError}
 use Rattle.wave_wasm.specs.declared.wasm.WasmValueError.TheVariants as error
 use Rattle.wave_lex.specs.Errors.{Refusal, refusal_of, refused_by}
@@ -24,7 +24,8 @@ use Rattle.wave_grammar.specs.SpannedTree.{Placed, at, one, label, no_placed, sl
 use Rattle.wave_grammar.specs.TypeErrors.{IsRefusalOf, IsForm, MapKeyFault}
 use Rattle.wave_node.specs.NodeTree.{NodeTree, type_of, place_of}
 use Rattle.wave_node.specs.Nodes.{key_of, IsTokenOf}
-use Rattle.wave_node.specs.NodeAccessors.{node_text, GivesBoolKey, GivesNumber}
+use Rattle.wave_node.specs.NodeAccessors.{node_text, GivesNumber}
+use Rattle.wave_node.specs.Private.NodeAccessors.{GivesBoolKey}
 use Rattle.wave_node.specs.TypedReading.{IsKeyRead, IsKeyBlamed, IsMade}
 use Rattle.wave_node.proofs.ChildNodes.Inside.{From, inside, some_is, key_place}
 use Rattle.wave_node.proofs.ByKind.Leaves.{said}

@@ -22,7 +22,7 @@ use Rattle.wave_grammar.specs.TypeErrors.{IsRefusalOf, OfForm, LeafFault, IsForm
 use Rattle.wave_node.specs.NodeTree.{NodeTree, type_of, place_of}
 use Rattle.wave_node.specs.Nodes.{placed_of, shape_from, number_token}
 use Rattle.wave_node.specs.NodeAccessors.{bool_type, GivesNumber}
-use Rattle.wave_wasm.proofs.OneOf.{is_one}
+use Rattle.wave_wasm.proofs.NameTests.{is_one}
 use Rattle.wave_node.proofs.ChildNodes.Inside.{From, inside, some_is, is_number_word}
 use Rattle.wave_node.specs.declared.ast.NodeType.{NodeType}
 use Rattle.wave_node.specs.declared.ast.NodeType.TheVariants as kind

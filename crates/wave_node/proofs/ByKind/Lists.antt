@@ -3,10 +3,11 @@ use Rattle.std.proofs.Common.{ℕ, zero, suc, ◌≡◌, ◌≢◌, inl, inr, �
 use Rattle.std.specs.declared.ops.Range.{Range}
 use Rattle.wave_wasm.specs.Lists.{AllOf, SomeOf}
 use Rattle.wave_wasm.specs.Types as type
-use Rattle.wave_wasm.specs.Types.{TypeTree, HasDistinctNames, list_part, depth, kind_of}
+use Rattle.wave_wasm.specs.Types.{TypeTree, HasDistinctNames, list_part, kind_of}
+use Rattle.wave_wasm.specs.Private.Types.{depth}
 use Rattle.wave_wasm.specs.Values as value
 use Rattle.wave_wasm.specs.Values.{Value, values}
-use Rattle.wave_wasm.specs.Makers.{IsMemory, MakesList, FullList, HasFullParts}
+use Rattle.wave_wasm.specs.ConstructorContracts.{IsMemory, MakesList, FullList, HasFullParts}
 use Rattle.wave_wasm.specs.declared.wasm.WasmValueError.{WasmValueError}
 use Rattle.wave_lex.specs.Errors.{Refusal, refusal_of}
 use Rattle.wave_lex.specs.declared.error.ParserError.{ParserError}

@@ -4,16 +4,17 @@ use Rattle.std.specs.declared.ops.Range.{Range}
 use Rattle.std.specs.Str.{bytes_eq}
 use Rattle.wave_wasm.specs.Lists.{AllOf, SomeOf}
 use Rattle.wave_wasm.specs.Types as type
-use Rattle.wave_wasm.specs.Types.{TypeTree, Simple, HasDistinctNames, map_parts, depth}
+use Rattle.wave_wasm.specs.Types.{TypeTree, Simple, HasDistinctNames, map_parts}
+use Rattle.wave_wasm.specs.Private.Types.{depth}
 use Rattle.wave_wasm.specs.Values as value
 use Rattle.wave_wasm.specs.Values.{Value, Leaf, entries}
 use Rattle.wave_wasm.specs.HasType.{HasType, IsLeafOf}
 use Rattle.wave_wasm.specs.Merge.{merge, leaf_eq}
 use Rattle.wave_wasm.specs.Text.{text}
-use Rattle.wave_wasm.specs.Makers.{IsMemory, MakesMap, FullMap, HasFullParts, entry_trees, leaf_entries}
+use Rattle.wave_wasm.specs.ConstructorContracts.{IsMemory, MakesMap, FullMap, HasFullParts, entry_trees, leaf_entries}
 use Rattle.wave_wasm.specs.declared.wasm.WasmValueError.{WasmValueError}
 use Rattle.wave_wasm.proofs.Keys.{leaf_tests}
-use Rattle.wave_wasm.proofs.Natural.{merge_paired, keys_keep, values_keep}
+use Rattle.wave_wasm.proofs.MergeCongruence.{merge_paired, keys_keep, values_keep}
 use Rattle.wave_lex.specs.Errors.{Refusal, refusal_of}
 use Rattle.wave_lex.specs.declared.error.ParserError.{ParserError}
 use Rattle.wave_lex.specs.declared.error.ParserErrorKind.TheVariants.{InvalidType}

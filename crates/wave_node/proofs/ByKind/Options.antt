@@ -2,10 +2,11 @@
 use Rattle.std.proofs.Common.{ℕ, ◌≡◌, ◌≢◌, ◌⊎◌, inl, inr, ◌<◌, Bool, false, IsTrue, List, [], ◌∷◌, Option, Some, None, option_map, Bor, Result, Ok, Err, IfOk, IfErr, MatchResult, refl, sym, ap, ◌∙◌, subst, arith}
 use Rattle.std.specs.declared.ops.Range.{Range}
 use Rattle.wave_wasm.specs.Types as type
-use Rattle.wave_wasm.specs.Types.{TypeTree, HasDistinctNames, option_part, depth, kind_of, simple_kind, unreadable_kind}
+use Rattle.wave_wasm.specs.Types.{TypeTree, HasDistinctNames, option_part, kind_of, simple_kind, unreadable_kind}
+use Rattle.wave_wasm.specs.Private.Types.{depth}
 use Rattle.wave_wasm.specs.Values as value
 use Rattle.wave_wasm.specs.Values.{Value, no_value, a_value, maybe_value}
-use Rattle.wave_wasm.specs.Makers.{IsMemory, MakesOption, FullOption, OptionIsOf, HasFullParts}
+use Rattle.wave_wasm.specs.ConstructorContracts.{IsMemory, MakesOption, FullOption, OptionIsOf, HasFullParts}
 use Rattle.wave_wasm.specs.declared.wasm.WasmTypeKind.{WasmTypeKind}
 use Rattle.wave_wasm.specs.declared.wasm.WasmTypeKind.TheVariants as kinds
 use Rattle.wave_wasm.specs.declared.wasm.WasmValueError.{WasmValueError}

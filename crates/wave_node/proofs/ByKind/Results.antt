@@ -3,11 +3,12 @@ use Rattle.std.proofs.Common.{ℕ, ◌≡◌, ◌≢◌, inl, inr, ◌<◌, ◌+
 use Rattle.std.specs.declared.ops.Range.{Range}
 use Rattle.wave_wasm.specs.Lists.{AllOf}
 use Rattle.wave_wasm.specs.Types as type
-use Rattle.wave_wasm.specs.Types.{TypeTree, MaybeType, HasDistinctNames, maybe_type, type_option, result_parts, depth, depth_of_maybe}
+use Rattle.wave_wasm.specs.Types.{TypeTree, MaybeType, HasDistinctNames, maybe_type, type_option, result_parts}
+use Rattle.wave_wasm.specs.Private.Types.{depth, depth_of_maybe}
 use Rattle.wave_wasm.specs.Values as value
 use Rattle.wave_wasm.specs.Values.{Value}
-use Rattle.wave_wasm.specs.Shown.{shown, shown_result}
-use Rattle.wave_wasm.specs.Makers.{IsMemory, MakesResult, FullResult, EitherIsOf, result_value, either_tree, payload_and, HasFullParts}
+use Rattle.wave_wasm.specs.Borrowed.{shown, shown_result}
+use Rattle.wave_wasm.specs.ConstructorContracts.{IsMemory, MakesResult, FullResult, EitherIsOf, result_value, either_tree, payload_and, HasFullParts}
 use Rattle.wave_wasm.specs.declared.wasm.WasmValueError.{WasmValueError}
 use Rattle.wave_lex.specs.Errors.{Refusal, refusal_of}
 use Rattle.wave_lex.specs.declared.error.ParserError.{ParserError}
@@ -20,7 +21,8 @@ use Rattle.wave_grammar.specs.TypeErrors.{Blame, IsRefusalOf, OfResult, Fault, F
 use Rattle.wave_node.specs.NodeTree.{NodeTree, type_of, place_of, children_of, node_list}
 use Rattle.wave_node.specs.Nodes.{placed_of, all_placed, shape_from, IsNodeOf}
 use Rattle.wave_node.specs.NodeAccessors.{shown_node, first_of, GivesResult}
-use Rattle.wave_node.specs.TypedReading.{IsTypedValue, IsBlamed, IsMade, IsValueOf, IsPayloadNodeOf, IsPayloadOf, IsPayloadRead, IsPayloadBlamed}
+use Rattle.wave_node.specs.TypedReading.{IsTypedValue, IsBlamed, IsMade, IsValueOf}
+use Rattle.wave_node.specs.Private.TypedReading.{IsPayloadNodeOf, IsPayloadOf, IsPayloadRead, IsPayloadBlamed}
 use Rattle.wave_node.proofs.ChildNodes.Inside.{From, inside, some_is, AreParsed, parsed, nodes_in, nodes_are}
 use Rattle.wave_node.proofs.ChildNodes.Cases.{shape_at}
 use Rattle.wave_node.proofs.ByKind.Options.{one_parsed}

@@ -9,7 +9,7 @@ use Rattle.wave_wasm.specs.Values.{Leaf}
 use Rattle.wave_lex.specs.Errors.{Refusal, refusal_of}
 use Rattle.wave_lex.specs.declared.error.ParserError.{ParserError}
 use Rattle.wave_lex.specs.declared.error.ParserErrorKind.TheVariants.{InvalidType, InvalidEscape}
-use Rattle.wave_lex.specs.Lexing.{span, three_quotes}
+use Rattle.wave_lex.specs.Tokenization.{span, three_quotes}
 use Rattle.wave_lex.specs.Strings.{CharMeans, Decodes}
 use Rattle.wave_lex.specs.Multiline.{DecodesLines}
 use Rattle.wave_lex.proofs.Faults.{bad_escape_refuses, faults_refuse}

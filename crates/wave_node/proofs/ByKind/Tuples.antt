@@ -4,12 +4,13 @@ use Rattle.std.specs.declared.ops.Range.{Range}
 use Rattle.wave_wasm.specs.Lists.{AllOf}
 use Rattle.wave_wasm.specs.Names.{AreDistinct}
 use Rattle.wave_wasm.specs.Types as type
-use Rattle.wave_wasm.specs.Types.{TypeTree, Types, HasDistinctNames, EachNamesOfTypes, tuple_parts, type_list, count_of, depth, depth_of_types, kind_of}
+use Rattle.wave_wasm.specs.Types.{TypeTree, Types, HasDistinctNames, EachNamesOfTypes, tuple_parts, type_list, count_of, kind_of}
+use Rattle.wave_wasm.specs.Private.Types.{depth, depth_of_types}
 use Rattle.wave_wasm.specs.Values as value
 use Rattle.wave_wasm.specs.Values.{Value, values}
-use Rattle.wave_wasm.specs.Shown.{shown_all}
-use Rattle.wave_wasm.specs.Causes.{wrong_number}
-use Rattle.wave_wasm.specs.Makers.{IsMemory, MakesTuple, FullTuple, AreOf, HasFullParts}
+use Rattle.wave_wasm.specs.Borrowed.{shown_all}
+use Rattle.wave_wasm.specs.ValueErrors.{wrong_number}
+use Rattle.wave_wasm.specs.ConstructorContracts.{IsMemory, MakesTuple, FullTuple, AreOf, HasFullParts}
 use Rattle.wave_wasm.specs.declared.wasm.WasmValueError.{WasmValueError}
 use Rattle.wave_wasm.specs.declared.wasm.WasmTypeKind.TheVariants as kinds
 use Rattle.wave_lex.specs.Errors.{Refusal, refusal_of}

@@ -6,11 +6,12 @@ use Rattle.std.proofs.lemmas.Slice.Eq.{bytes_eq-Decides}
 use Rattle.wave_wasm.specs.Lists.{AllOf, SomeOf}
 use Rattle.wave_wasm.specs.Names.{IsOneOf, IsNoneOf, AreDistinct}
 use Rattle.wave_wasm.specs.Types as type
-use Rattle.wave_wasm.specs.Types.{TypeTree, MaybeType, Cases, HasDistinctNames, EachNamesOfMaybe, EachNamesOfCases, maybe_type, type_option, case_list, case_names, variant_parts, depth, depth_of_maybe, depth_of_cases, kind_of}
+use Rattle.wave_wasm.specs.Types.{TypeTree, MaybeType, Cases, HasDistinctNames, EachNamesOfMaybe, EachNamesOfCases, maybe_type, type_option, case_list, case_names, variant_parts, kind_of}
+use Rattle.wave_wasm.specs.Private.Types.{depth, depth_of_maybe, depth_of_cases}
 use Rattle.wave_wasm.specs.Values as value
 use Rattle.wave_wasm.specs.Values.{Value, MaybeValue, maybe_value}
-use Rattle.wave_wasm.specs.Causes.{unknown_case}
-use Rattle.wave_wasm.specs.Makers.{IsMemory, MakesVariant, FullVariant, PayloadIsOf, payload_and, payload_types, HasFullParts}
+use Rattle.wave_wasm.specs.ValueErrors.{unknown_case}
+use Rattle.wave_wasm.specs.ConstructorContracts.{IsMemory, MakesVariant, FullVariant, PayloadIsOf, payload_and, payload_types, HasFullParts}
 use Rattle.wave_wasm.specs.declared.wasm.WasmTypeKind.TheVariants as kinds
 use Rattle.wave_wasm.specs.declared.wasm.WasmValueError.{WasmValueError}
 use Rattle.wave_lex.specs.Errors.{Refusal, refusal_of}
@@ -25,7 +26,8 @@ use Rattle.wave_grammar.specs.TypeErrors.{Blame, IsRefusalOf, RefusesFor, OfForm
 use Rattle.wave_node.specs.NodeTree.{NodeTree, type_of, place_of, children_of, node_list}
 use Rattle.wave_node.specs.Nodes.{placed_of, flag_of, IsNodeOf}
 use Rattle.wave_node.specs.NodeAccessors.{node_text, shown_node, GivesVariant}
-use Rattle.wave_node.specs.TypedReading.{IsTypedValue, IsBlamed, IsMade, IsCaused, IsValueOf, IsPayloadNodeOf, IsPayloadOf, IsPayloadRead, IsPayloadBlamed}
+use Rattle.wave_node.specs.TypedReading.{IsTypedValue, IsBlamed, IsMade, IsValueOf}
+use Rattle.wave_node.specs.Private.TypedReading.{IsCaused, IsPayloadNodeOf, IsPayloadOf, IsPayloadRead, IsPayloadBlamed}
 use Rattle.wave_node.proofs.ChildNodes.Inside.{From, Inside, inside, some_is, AreParsed, parsed, nodes_in, nodes_are}
 use Rattle.wave_node.proofs.ChildNodes.Cases.{shape_at, case_shape}
 use Rattle.wave_node.proofs.ByKind.Enums.{label_node}

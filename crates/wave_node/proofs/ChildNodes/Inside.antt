@@ -7,7 +7,7 @@ use Rattle.wave_grammar.specs.Token as token
 use Rattle.wave_grammar.specs.SpannedTree.{Placed, at, Shape, one, tuple, list, empty_braces, no_fields, entries, flags, label, none, some, ok, err, no_placed, a_placed, PlacedEntries, placed_trees, slice, span_of, shape_of, SpellsEach}
 use Rattle.wave_node.specs.NodeTree.{NodeTree, NodeTrees, node, no_nodes, node_and, node_list, type_of, place_of, children_of}
 use Rattle.wave_node.specs.Nodes.{placed_of, all_placed, and_then, with_both, shape_from, pairs_of, flags_of, flag_of, key_of, IsParsedFrom}
-use Rattle.wave_lex.specs.Lexing.{Stands}
+use Rattle.wave_lex.specs.Tokenization.{Stands}
 use Rattle.wave_node.specs.declared.ast.NodeType.{NodeType}
 use Rattle.wave_node.specs.declared.ast.NodeType.TheVariants as kind
 

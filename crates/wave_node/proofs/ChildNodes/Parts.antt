@@ -5,7 +5,8 @@ use Rattle.wave_grammar.specs.SpannedTree.{Placed, MaybePlaced, no_placed, a_pla
 use Rattle.wave_node.specs.NodeTree.{NodeTree, type_of, children_of}
 use Rattle.wave_node.specs.Nodes.{IsNodeOf, IsParsedFrom}
 use Rattle.wave_node.specs.NodeAccessors.{first_of, shown_node, node_pairs, AreValuesWithin, IsValueWithin, IsEntryOf, AreEntriesWithin}
-use Rattle.wave_node.specs.TypedReading.{IsValueOf, IsPayloadNodeOf}
+use Rattle.wave_node.specs.TypedReading.{IsValueOf}
+use Rattle.wave_node.specs.Private.TypedReading.{IsPayloadNodeOf}
 use Rattle.wave_node.specs.NodeFields.{IsFieldsOf, field_of}
 use Rattle.wave_node.proofs.ChildNodes.Inside.{some_is}
 use Rattle.wave_node.proofs.ByKind.Lists.{AreNodesOf, list_nodes}

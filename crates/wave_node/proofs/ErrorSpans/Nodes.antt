@@ -2,14 +2,14 @@
 use Rattle.std.proofs.Common.{ℕ, ℤ, ◌≡◌, ◌+◌, ◌-◌, drop, length-take, length-append, ◌≢◌, ◌⊎◌, inl, inr, ◌≤◌, ◌<◌, List, [], ◌∷◌, length, get_or, map, Option, Some, None, Bor, Result, Ok, Err, IfErr, refl, sym, ap, ◌∙◌, subst, arith}
 use Rattle.std.specs.declared.ops.Range.{Range}
 use Rattle.wave_wasm.specs.Lists.{AllOf}
-use Rattle.wave_wasm.specs.Causes.{Cause, cause_of}
+use Rattle.wave_wasm.specs.ValueErrors.{Cause, cause_of}
 use Rattle.wave_wasm.specs.declared.wasm.WasmValueError.{WasmValueError}
 use Rattle.wave_wasm.specs.declared.wasm.WasmValueError.TheVariants as error
 use Rattle.wave_lex.specs.Errors.{Refusal, refusal_of, refused_by, plainly, LiesInText, Says}
 use Rattle.wave_lex.specs.declared.error.ParserError.{ParserError}
 use Rattle.wave_lex.specs.declared.error.ParserErrorKind.{ParserErrorKind}
 use Rattle.wave_lex.specs.declared.error.ParserErrorKind.TheVariants as why
-use Rattle.wave_lex.specs.Lexing.{Stands}
+use Rattle.wave_lex.specs.Tokenization.{Stands}
 use Rattle.wave_grammar.specs.Token.{Token}
 use Rattle.wave_grammar.specs.Token as token
 use Rattle.wave_grammar.specs.SpannedTree.{Placed, at, Shape, one, tuple, list, empty_braces, no_fields, entries, flags, label, none, some, ok, err, no_placed, a_placed, PlacedEntries, entry, placed_trees, slice, span_of, LiesIn, SpellsEach, SpellsParts, SpellsAll, SpellsEntries, SpellsFlags}
@@ -17,17 +17,20 @@ use Rattle.wave_node.specs.NodeTree.{NodeTree, NodeTrees, node, no_nodes, node_a
 use Rattle.wave_node.specs.Nodes.{placed_of, pairs_of, flags_of, flag_of, key_of, IsNodeOf, IsParsedFrom}
 use Rattle.wave_wasm.specs.Types.{TypeTree, Whole}
 use Rattle.wave_wasm.specs.Values.{Value, Leaf}
-use Rattle.wave_node.specs.TypedReading.{IsValueOf, IsMade, IsCaused, IsLeafMade}
+use Rattle.wave_node.specs.TypedReading.{IsValueOf, IsMade, IsLeafMade}
+use Rattle.wave_node.specs.Private.TypedReading.{IsCaused}
 use Rattle.wave_node.specs.NodeAccessors.{node_pairs, RefusedAs, first_of, shown_node, GivesNumber, GivesChar, GivesOption, GivesVariant}
 use Rattle.std.specs.BTreeMap.{BTreeMap}
-use Rattle.wave_node.specs.NodeFields.{IsFieldsOf, HoldsFields, field_of, held_at}
+use Rattle.wave_node.specs.NodeFields.{IsFieldsOf, field_of}
+use Rattle.wave_node.specs.Private.NodeFields.{HoldsFields, held_at}
 use Rattle.wave_node.specs.NodeParams.{close_of}
 use Rattle.wave_node.specs.declared.ast.NodeType.TheVariants as node_kind
 use Rattle.wave_node.proofs.Fields.Lookup.{not_key}
 use Rattle.wave_node.proofs.Fields.Reading.{Removed, left_over, look_all}
 use Rattle.wave_node.specs.NodeStrings.{TellsStringFault, RefusesString}
 use Rattle.wave_lex.specs.Multiline.{LineFault, closing, opening, indentation, escape, fault_kind}
-use Rattle.wave_node.specs.ErrorSpans.{HasCause, IsAtPlace, IsAtNode, IsPartOf, IsPartOfOne, LiesInNode, StandsIn, StandsInPart}
+use Rattle.wave_node.specs.ErrorSpans.{HasCause, IsAtPlace, IsAtNode, IsPartOf, IsPartOfOne, LiesInNode, StandsIn}
+use Rattle.wave_node.specs.Private.ErrorSpans.{StandsInPart}
 use Rattle.wave_node.specs.declared.ast.NodeType.{NodeType}
 use Rattle.wave_node.proofs.ChildNodes.Inside.{From, inside, some_is, AreParsed, parsed, pair_parsed, nodes_in, nodes_are, key_place, flag_key, stands}
 use Rattle.wave_node.proofs.ChildNodes.Entries.{both_some}

@@ -3,8 +3,8 @@ use Rattle.std.proofs.Common.{ℕ, ◌≡◌, ◌≢◌, inl, inr, List, None, R
 use Rattle.wave_wasm.specs.Types as type
 use Rattle.wave_wasm.specs.Types.{TypeTree, HasDistinctNames, kind_of}
 use Rattle.wave_wasm.specs.Values.{Value}
-use Rattle.wave_wasm.specs.Causes.{cause_of, missing_field}
-use Rattle.wave_wasm.specs.Makers.{IsMemory, MakesOption, FullOption}
+use Rattle.wave_wasm.specs.ValueErrors.{cause_of, missing_field}
+use Rattle.wave_wasm.specs.ConstructorContracts.{IsMemory, MakesOption, FullOption}
 use Rattle.wave_wasm.specs.declared.wasm.WasmTypeKind.{WasmTypeKind}
 use Rattle.wave_wasm.specs.declared.wasm.WasmTypeKind.TheVariants as kinds
 use Rattle.wave_wasm.specs.declared.wasm.WasmValueError.{WasmValueError}
@@ -13,8 +13,9 @@ use Rattle.wave_lex.specs.Errors.{Refusal, refusal_of, refused_by}
 use Rattle.wave_lex.specs.declared.error.ParserError.{ParserError}
 use Rattle.wave_grammar.specs.TypedGrammar.{IsOption}
 use Rattle.wave_node.specs.NodeTree.{NodeTree}
-use Rattle.wave_node.specs.TypedReading.{IsMade, IsCaused}
-use Rattle.wave_node.specs.NodeFields.{IsLeftOut, IsMissing}
+use Rattle.wave_node.specs.TypedReading.{IsMade}
+use Rattle.wave_node.specs.Private.TypedReading.{IsCaused}
+use Rattle.wave_node.specs.Private.NodeFields.{IsLeftOut, IsMissing}
 use Rattle.wave_wasm.proofs.TypeKinds.{formed_as}
 
 not_option : (T : TypeTree) (k : WasmTypeKind) → k ≡ kind_of T → k ≢ kinds.Option → IsOption T → ⊥

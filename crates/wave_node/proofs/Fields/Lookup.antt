@@ -15,7 +15,8 @@ use Rattle.wave_grammar.specs.LeafTokens.{name_of}
 use Rattle.wave_grammar.specs.TypedGrammar.{look_up, names_of}
 use Rattle.wave_node.specs.NodeTree.{NodeTree, type_of, place_of, children_of}
 use Rattle.wave_node.specs.NodeAccessors.{node_text, node_pairs}
-use Rattle.wave_node.specs.NodeFields.{IsLabelled, field_of, shown_field, held_at, HoldsFields, RefusesFields, IsFieldsOf}
+use Rattle.wave_node.specs.NodeFields.{IsLabelled, field_of, shown_field, RefusesFields, IsFieldsOf}
+use Rattle.wave_node.specs.Private.NodeFields.{held_at, HoldsFields}
 use Rattle.std.specs.declared.ops.Range.{Range}
 use Rattle.wave_grammar.specs.Token.{Token}
 use Rattle.wave_grammar.specs.Token as token
@@ -28,7 +29,7 @@ use Rattle.wave_lex.specs.declared.error.ParserError.{ParserError}
 use Rattle.wave_lex.specs.declared.error.ParserErrorKind.TheVariants.{InvalidType, DuplicateField, OutOfMemory}
 use Rattle.wave_node.specs.declared.ast.NodeType.TheVariants as kind
 use Rattle.wave_node.proofs.ByKind.Lists.{HasAt}
-use Rattle.wave_wasm.proofs.OneOf.{distinct_more}
+use Rattle.wave_wasm.proofs.NameTests.{distinct_more}
 use Rattle.wave_grammar.proofs.FieldNames.{is_found}
 
 -- ---- lists

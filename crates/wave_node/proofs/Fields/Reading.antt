@@ -14,13 +14,14 @@ use Rattle.std.proofs.lemmas.Map.Text.{btree_map_updates_str, is_eq-slice_cmp}
 use Rattle.wave_wasm.specs.Lists.{AllOf, SomeOf}
 use Rattle.wave_wasm.specs.Names.{IsOneOf, IsNoneOf, AreDistinct, is_one_of}
 use Rattle.wave_wasm.specs.Types as type
-use Rattle.wave_wasm.specs.Types.{TypeTree, Fields, HasDistinctNames, EachNamesOfFields, record_parts, field_names, depth, depth_of_fields, kind_of}
+use Rattle.wave_wasm.specs.Types.{TypeTree, Fields, HasDistinctNames, EachNamesOfFields, record_parts, field_names, kind_of}
+use Rattle.wave_wasm.specs.Private.Types.{depth, depth_of_fields}
 use Rattle.wave_wasm.specs.Values as value
 use Rattle.wave_wasm.specs.Values.{Value, FieldValues}
 use Rattle.wave_wasm.specs.HasType.{HasType, HasFields}
-use Rattle.wave_wasm.specs.Shown.{shown_fields}
-use Rattle.wave_wasm.specs.Causes.{missing_field}
-use Rattle.wave_wasm.specs.Makers.{IsMemory, MakesRecord, FullRecord, FieldsAreOf, HasFullParts, field_trees}
+use Rattle.wave_wasm.specs.Borrowed.{shown_fields}
+use Rattle.wave_wasm.specs.ValueErrors.{missing_field}
+use Rattle.wave_wasm.specs.ConstructorContracts.{IsMemory, MakesRecord, FullRecord, FieldsAreOf, HasFullParts, field_trees}
 use Rattle.wave_wasm.specs.declared.wasm.WasmValueError.{WasmValueError}
 use Rattle.wave_wasm.specs.declared.wasm.WasmTypeKind.TheVariants as kinds
 use Rattle.wave_lex.specs.Errors.{Refusal, refusal_of}
@@ -39,11 +40,12 @@ use Rattle.wave_node.specs.NodeTree.{NodeTree, place_of, children_of}
 use Rattle.wave_node.specs.Nodes.{IsNodeOf}
 use Rattle.wave_node.specs.NodeAccessors.{node_pairs}
 use Rattle.wave_node.specs.TypedReading.{IsTypedValue, IsBlamed, IsMade, IsValueOf}
-use Rattle.wave_node.specs.NodeFields.{IsFieldsOf, held_at, HoldsFields, IsFieldNode, IsLeftOut, IsMissing, AnswersField, RefusesFields}
+use Rattle.wave_node.specs.NodeFields.{IsFieldsOf, RefusesFields}
+use Rattle.wave_node.specs.Private.NodeFields.{held_at, HoldsFields, IsFieldNode, IsLeftOut, IsMissing, AnswersField}
 use Rattle.wave_node.proofs.ChildNodes.Inside.{inside, some_is}
 use Rattle.wave_node.proofs.ByKind.Leaves.{tree_is}
 use Rattle.wave_node.proofs.MakerAnswers.{made}
-use Rattle.wave_wasm.proofs.OneOf.{is_one, none_of}
+use Rattle.wave_wasm.proofs.NameTests.{is_one, none_of}
 use Rattle.wave_node.proofs.ByKind.Lists.{HasAt, some_at}
 use Rattle.wave_node.proofs.ByKind.Tuples.{place_has, map_has, all_has}
 use Rattle.wave_node.proofs.Fields.Lookup.{take_next, take_whole, map_last, not_found}

@@ -3,7 +3,7 @@ use Rattle.std.proofs.Common.{ℕ, ◌≡◌, ◌+◌, inl, inr, List, [], ◌�
 use Rattle.std.proofs.lemmas.List.{append_cancel_left, append_cancel_right}
 use Rattle.std.specs.Result.{IsErrAnd}
 use Rattle.wave_lex.specs.declared.error.ParserError.{ParserError}
-use Rattle.wave_lex.specs.Left.{Undecoded, LinesLeft, one_line}
+use Rattle.wave_lex.specs.Remaining.{Undecoded, LinesLeft, one_line}
 use Rattle.wave_lex.specs.Strings.{Decodes}
 use Rattle.wave_lex.specs.Multiline.{DecodesLines}
 use Rattle.wave_lex.specs.Parts.{left_of, OpensTo, LinesRunTo}

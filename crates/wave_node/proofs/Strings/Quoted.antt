@@ -10,8 +10,8 @@ use Rattle.std.specs.declared.ops.Range.{Range}
 use Rattle.wave_lex.specs.Regex.{Regex, other, many, Matches, is_within}
 use Rattle.wave_lex.specs.Tokens as shapes
 use Rattle.wave_lex.specs.Tokens.{shape, plain, escape, ◌then◌, ◌or◌}
-use Rattle.wave_lex.proofs.Fronts.{is_ascii}
-use Rattle.wave_lex.specs.Lexing.{three_quotes}
+use Rattle.wave_lex.proofs.LongestMatch.{is_ascii}
+use Rattle.wave_lex.specs.Tokenization.{three_quotes}
 use Rattle.wave_lex.proofs.Quotes.{through_first_quotes}
 use Rattle.wave_grammar.specs.Token.{Token, lexeme_of, text_of}
 use Rattle.wave_grammar.specs.Token as token

@@ -8,7 +8,7 @@ use Rattle.wave_lex.specs.declared.lex.Token as lex
 use Rattle.wave_lex.specs.declared.lex.Token.TheVariants.{ParenOpen, ParenClose}
 use Rattle.wave_lex.specs.FunctionName.{IsName}
 use Rattle.wave_lex.specs.Errors.{Refusal, LiesInText}
-use Rattle.wave_lex.specs.Lexing.{Lexed, Stands, Passes, NextIs, remainder_of, span}
+use Rattle.wave_lex.specs.Tokenization.{Lexed, Stands, Passes, NextIs, remainder_of, span}
 use Rattle.wave_grammar.specs.Token.{Token}
 use Rattle.wave_grammar.specs.ParserPosition.{Place, Item, TakesTokens, span_at}
 use Rattle.wave_grammar.specs.PrefixAutomaton.{Due, Form, value, first_item, tuple}

@@ -5,7 +5,7 @@ use Rattle.std.specs.declared.ops.Range.{Range}
 use Rattle.wave_wasm.specs.Lists.{AllOf}
 use Rattle.wave_lex.specs.declared.lex.Token as lex
 use Rattle.wave_lex.specs.declared.lex.Token.TheVariants.{BraceOpen, BraceClose, ParenOpen, ParenClose, BracketOpen, BracketClose, Colon, Comma, Number, LabelOrKeyword, Char, String, MultilineString}
-use Rattle.wave_lex.specs.Lexing.{span}
+use Rattle.wave_lex.specs.Tokenization.{span}
 use Rattle.wave_grammar.specs.Token as token
 use Rattle.wave_grammar.specs.Token.{Token, brace_open, brace_close, colon, comma}
 use Rattle.wave_grammar.specs.ParserPosition.{Place, TakesItem, TakesTokens, token_of, text_at, span_at}
@@ -16,8 +16,9 @@ use Rattle.wave_grammar.specs.SpannedTree.{Placed, at, PlacedEntries, no_entries
 use Rattle.wave_node.specs.NodeTree.{NodeTree, node, no_nodes, node_trees}
 use Rattle.wave_node.specs.Nodes.{placed_of, all_placed, key_of, pairs_of, shape_from, and_then, with_both, number_token}
 use Rattle.wave_node.specs.declared.ast.NodeType.TheVariants as kind
-use Rattle.wave_tree.specs.ParsedNodes.{IsSound, IsParsed, IsKeyAt, key_node_type, ArePairs, AreFurtherPairs, IsOfEntries}
-use Rattle.wave_grammar.specs.TokenRoles.{IsKeyClass}
+use Rattle.wave_tree.specs.ParsedNodes.{IsSound, IsParsed}
+use Rattle.wave_tree.specs.Private.ParsedNodes.{IsKeyAt, key_node_type, ArePairs, AreFurtherPairs, IsOfEntries}
+use Rattle.wave_grammar.specs.Private.TokenRoles.{IsKeyClass}
 use Rattle.wave_grammar.specs.CommaSeparated.{FurtherItems}
 use Rattle.wave_tree.proofs.NodeCorrectness.Lists.{brace_mark, closed_tokens, no_paren_further}
 use Rattle.wave_tree.proofs.NodeCorrectness.Tokens.{number_alone, in_order, sound_next, sound_tokens, start_of, at_start, holds, made, takes_plus, text_there}

@@ -6,7 +6,7 @@ use Rattle.wave_wasm.specs.Lists.{AllOf}
 use Rattle.wave_wasm.specs.Names.{AreDistinct}
 use Rattle.wave_grammar.specs.LeafTokens.{name_of}
 use Rattle.wave_lex.specs.declared.lex.Token.TheVariants.{BraceOpen, BraceClose, Comma, LabelOrKeyword}
-use Rattle.wave_lex.specs.Lexing.{span}
+use Rattle.wave_lex.specs.Tokenization.{span}
 use Rattle.wave_grammar.specs.Token as token
 use Rattle.wave_grammar.specs.Token.{Token, brace_open, brace_close, comma}
 use Rattle.wave_grammar.specs.ParserPosition.{Place, TakesItem, TakesTokens, text_at, span_at}
@@ -16,8 +16,9 @@ use Rattle.wave_grammar.specs.SpannedTree.{at, flags, label, no_placed, HoldsTok
 use Rattle.wave_node.specs.NodeTree.{NodeTree, node_trees}
 use Rattle.wave_node.specs.Nodes.{placed_of, all_placed, flags_of, shape_from, and_then, with_both}
 use Rattle.wave_node.specs.declared.ast.NodeType.TheVariants as kind
-use Rattle.wave_tree.specs.ParsedNodes.{IsSound, IsParsed, flag_node, AreFurtherFlags, IsOfFlags}
-use Rattle.wave_grammar.specs.FlagOrder.{Flag, flag_name, put_flag, flags_in_order}
+use Rattle.wave_tree.specs.ParsedNodes.{IsSound, IsParsed}
+use Rattle.wave_tree.specs.Private.ParsedNodes.{flag_node, AreFurtherFlags, IsOfFlags}
+use Rattle.wave_grammar.specs.Private.FlagOrder.{Flag, flag_name, put_flag, flags_in_order}
 use Rattle.wave_grammar.specs.CommaSeparated.{FurtherItems}
 use Rattle.wave_tree.proofs.NodeCorrectness.Lists.{brace_mark, closed_tokens}
 use Rattle.wave_tree.proofs.NodeCorrectness.Tokens.{in_order, sound_next, start_of, at_start, holds, made, takes_plus, text_there}

@@ -11,9 +11,10 @@ use Rattle.wave_grammar.specs.SpannedTree.{one}
 use Rattle.wave_node.specs.NodeTree.{NodeTree, node, no_nodes, node_trees}
 use Rattle.wave_node.specs.declared.ast.NodeType.{NodeType}
 use Rattle.wave_node.specs.declared.ast.NodeType.TheVariants as kind
-use Rattle.wave_tree.specs.ParsedNodes.{IsParsed, IsParsedBehind, IsMaybe, IsPayload, IsOfItems, TakesClass, items_type, AreItems, AreFurther, IsKeyAt, ArePairs, IsOfEntries, IsOfFlags, label_children}
-use Rattle.wave_grammar.specs.TokenRoles.{IsClose}
-use Rattle.wave_lex.specs.Lexing.{span}
+use Rattle.wave_tree.specs.ParsedNodes.{IsParsed, TakesClass}
+use Rattle.wave_tree.specs.Private.ParsedNodes.{IsParsedBehind, IsMaybe, IsPayload, IsOfItems, items_type, AreItems, AreFurther, IsKeyAt, ArePairs, IsOfEntries, IsOfFlags, label_children}
+use Rattle.wave_grammar.specs.Private.TokenRoles.{IsClose}
+use Rattle.wave_lex.specs.Tokenization.{span}
 use Rattle.wave_tree.proofs.NodeCorrectness.Braces.{entries_parsed, empty_parsed, no_fields_parsed}
 use Rattle.wave_tree.proofs.NodeCorrectness.Flags.{flags_parsed}
 use Rattle.wave_tree.proofs.NodeCorrectness.Tokens.{number_parsed, char_parsed, string_parsed, multiline_parsed, word_parsed, none_parsed, some_parsed, ok_parsed, err_parsed, case_parsed}

@@ -4,7 +4,7 @@ use Rattle.std.specs.declared.ops.Range.{Range}
 use Rattle.wave_wasm.specs.Lists.{AllOf}
 use Rattle.wave_lex.specs.declared.lex.Token as lex
 use Rattle.wave_lex.specs.declared.lex.Token.TheVariants.{BraceClose, ParenOpen, ParenClose, BracketOpen, BracketClose, Comma}
-use Rattle.wave_lex.specs.Lexing.{span}
+use Rattle.wave_lex.specs.Tokenization.{span}
 use Rattle.wave_grammar.specs.Token.{Token, paren_open, bracket_open, comma}
 use Rattle.wave_grammar.specs.ParserPosition.{Place, TakesItem, TakesTokens, token_of, text_at}
 use Rattle.wave_grammar.specs.Tree as tree
@@ -14,8 +14,9 @@ use Rattle.wave_grammar.specs.SpannedTree.{Placed, at, some, SpellsAll, SpellsEa
 use Rattle.wave_node.specs.NodeTree.{NodeTree, node_trees}
 use Rattle.wave_node.specs.Nodes.{placed_of, all_placed, shape_from, and_then, with_both}
 use Rattle.wave_node.specs.declared.ast.NodeType.TheVariants as kind
-use Rattle.wave_tree.specs.ParsedNodes.{IsSound, IsParsed, IsClosed, AreFurther, AreItems, IsOfItems}
-use Rattle.wave_grammar.specs.TokenRoles.{IsClose}
+use Rattle.wave_tree.specs.ParsedNodes.{IsSound, IsParsed}
+use Rattle.wave_tree.specs.Private.ParsedNodes.{IsClosed, AreFurther, AreItems, IsOfItems}
+use Rattle.wave_grammar.specs.Private.TokenRoles.{IsClose}
 use Rattle.wave_grammar.specs.CommaSeparated.{Spelling, Closes, FurtherItems, Items}
 use Rattle.wave_tree.proofs.NodeCorrectness.Tokens.{in_order, sound_next, sound_tokens, start_of, at_start, made, takes_less}
 use Rattle.wave_tree.proofs.ParserSteps.{tokens_join}

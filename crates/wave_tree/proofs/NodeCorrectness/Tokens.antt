@@ -12,10 +12,10 @@ use Rattle.wave_wasm.specs.Names.{is_one_of}
 use Rattle.wave_lex.specs.declared.lex.Token as lex
 use Rattle.wave_lex.specs.declared.lex.Token.TheVariants.{ParenOpen, ParenClose, Number, LabelOrKeyword, Char, String, MultilineString}
 use Rattle.wave_lex.specs.Tokens.{shape, gap}
-use Rattle.wave_lex.specs.Lexing.{IsGap, IsLongestToken, Front, remainder_of, span, Stands}
-use Rattle.wave_lex.specs.Reading.{class_of}
+use Rattle.wave_lex.specs.Tokenization.{IsGap, IsLongestToken, Front, remainder_of, span, Stands}
+use Rattle.wave_lex.specs.Private.Reading.{class_of}
 use Rattle.wave_lex.proofs.Classes.{token_shows, shape_not_empty}
-use Rattle.wave_lex.proofs.Fronts.{front_positive}
+use Rattle.wave_lex.proofs.LongestMatch.{front_positive}
 use Rattle.wave_lex.proofs.Scanning.{front_boundary}
 use Rattle.wave_grammar.specs.Token as token
 use Rattle.wave_grammar.specs.Token.{Token, lexeme_of, paren_open, paren_close, brace_open, brace_close, bracket_open, bracket_close, colon, comma}
@@ -28,7 +28,8 @@ use Rattle.wave_node.specs.NodeTree.{NodeTree, node, no_nodes}
 use Rattle.wave_node.specs.Nodes.{placed_of, shape_from, and_then, with_both}
 use Rattle.wave_node.specs.declared.ast.NodeType.{NodeType}
 use Rattle.wave_node.specs.declared.ast.NodeType.TheVariants as kind
-use Rattle.wave_tree.specs.ParsedNodes.{IsSound, IsParsed, IsPayload, IsMaybe}
+use Rattle.wave_tree.specs.ParsedNodes.{IsSound, IsParsed}
+use Rattle.wave_tree.specs.Private.ParsedNodes.{IsPayload, IsMaybe}
 use Rattle.wave_tree.proofs.ParserSteps.{tokens_join, token_there}
 use Rattle.wave_tree.proofs.TokenAlignment.{part_at}
 use Rattle.wave_grammar.proofs.Slices.{Taken, taken_is, gap_zero, tokens_front, tokens_forward, gap_none}

@@ -8,7 +8,8 @@ ghost use Rattle.wave_lex.specs.Errors.{LiesInText};
 ghost use Rattle.wave_lex.specs.FunctionName.{IsName};
 ghost use Rattle.wave_wasm.specs.Lists.{AllOf};
 ghost use Rattle.wave_wasm.specs.Types.{HasDistinctNames};
-ghost use Rattle.wave_tree.specs.UntypedCall.{IsParamsOf, CallStandsIn, IsCalledOf, NameFault, RefusesCall, GivesParamsAt, RefusesParamsAt, call_shown};
+ghost use Rattle.wave_tree.specs.UntypedCall.{IsParamsOf, IsCalledOf, NameFault, RefusesCall, GivesParamsAt, RefusesParamsAt, call_shown};
+ghost use Rattle.wave_tree.specs.Private.UntypedCall.{CallStandsIn};
 ghost use Rattle.wave_tree.specs.DisplayKeeps.{IsCallKeptByDisplay};
 
 use crate::ast::Node;
@@ -64,8 +65,9 @@ pub struct UntypedFuncCall<'source> {
 
 impl<'source> Model for UntypedFuncCall<'source> {
     ghost use Rattle.std.specs.Cow.{cow_str_bytes};
-    ghost use Rattle.wave_tree.specs.UntypedCall.{Called, CallStandsIn};
-    ghost use Rattle.wave_tree.specs.CallEncoding.{called_code};
+    ghost use Rattle.wave_tree.specs.UntypedCall.{Called};
+    ghost use Rattle.wave_tree.specs.Private.UntypedCall.{CallStandsIn};
+    ghost use Rattle.wave_tree.specs.Private.CallEncoding.{called_code};
 
     ghost Value = { Called };
 

@@ -1,14 +1,16 @@
 //! The text of what was read without a type.
 ghost use Rattle.std.specs.Prelude.{◌≡◌, ◌++◌, All, Some, map, codes};
 ghost use Rattle.std.specs.Fmt.{WritesOnOk, DisplaysOnOk};
-ghost use Rattle.wave_wasm.specs.Commas.{joined, enclosed, behind_name, in_parens, in_braces};
+ghost use Rattle.wave_wasm.specs.Commas.{joined, behind_name, in_parens, in_braces};
+ghost use Rattle.wave_wasm.specs.Private.Commas.{enclosed};
 ghost use Rattle.wave_wasm.specs.Keywords.{case_label};
 ghost use Rattle.wave_node.specs.NodeTree.{type_of};
 ghost use Rattle.wave_node.specs.Nodes.{IsParsedFrom};
 ghost use Rattle.wave_node.specs.TypedReading.{IsValueOf};
 ghost use Rattle.wave_node.specs.NodeAccessors.{node_text};
 ghost use Rattle.wave_tree.specs.DisplayKeeps.{IsKeptByDisplay};
-ghost use Rattle.wave_tree.specs.NodeDisplay.{shown_at, name_at, entries_at, fields_at, payload_at, AreEntriesOf};
+ghost use Rattle.wave_tree.specs.NodeDisplay.{shown_at};
+ghost use Rattle.wave_tree.specs.Private.NodeDisplay.{name_at, entries_at, fields_at, payload_at, AreEntriesOf};
 
 use crate::ast::{Node, NodeType};
 use crate::untyped::UntypedValue;

@@ -4,7 +4,7 @@ ghost use Rattle.std.specs.Fmt.{WritesOnOk, DisplaysOnOk};
 ghost use Rattle.wave_wasm.specs.Types.{types_of, fields_of, cases_of, maybe_type, simple_kind};
 ghost use Rattle.wave_wasm.specs.Commas.{joined, behind_name};
 ghost use Rattle.wave_wasm.specs.TypeText.{kind_word, type_text, type_texts, field_texts, case_texts, payload_text, maybe_text, result_text};
-ghost use Rattle.wave_type.specs.TypeView.{by_bytes, simple_of};
+ghost use Rattle.wave_type.specs.TypeModel.{by_bytes, simple_of};
 ghost use Rattle.wave_type.specs.TypeTexts.{IsShownWhole, TypeTextTells};
 
 use super::{Shape, SimpleType, Type};
@@ -14,7 +14,7 @@ impl fmt::Display for SimpleType {
     ghost use Rattle.std.specs.Prelude.{Some};
     ghost use Rattle.wave_wasm.specs.Types.{simple_kind};
     ghost use Rattle.wave_wasm.specs.TypeText.{kind_word};
-    ghost use Rattle.wave_type.specs.TypeView.{simple_of};
+    ghost use Rattle.wave_type.specs.TypeModel.{simple_of};
 
     ghost output = { λ s. Some (kind_word (simple_kind (simple_of s))) };
 

@@ -1,9 +1,9 @@
 //! Equality of types: equality of their trees.
 ghost use Rattle.std.specs.Prelude.{◌≡◌, map, string_bytes};
 ghost use Rattle.wave_wasm.specs.Types.{types_of, fields_of, cases_of, maybe_type};
-ghost use Rattle.wave_type.specs.TypeView.{by_bytes};
-ghost use Rattle.wave_type.specs.SameType.{same_tree, same_types, same_fields, same_cases, same_payload, same_names};
-ghost use Rattle.wave_type.specs.SameTypeLaws.{same_per, same_equiv};
+ghost use Rattle.wave_type.specs.TypeModel.{by_bytes};
+ghost use Rattle.wave_type.specs.TypeEquality.{same_tree, same_types, same_fields, same_cases, same_payload, same_names};
+ghost use Rattle.wave_type.specs.TypeEqualityLaws.{same_per, same_equiv};
 
 use super::{Shape, Type};
 

@@ -3,8 +3,9 @@ ghost use Rattle.std.specs.Prelude.{◌≡◌, ◌↔◌, IsTrue, map, string_by
 ghost use Rattle.wave_wasm.specs.Types.{IsOwn, types_of, fields_of, cases_of, maybe_type};
 ghost use Rattle.wave_wasm.specs.Names.{is_one_of};
 ghost use Rattle.wave_lex.specs.Labels.{Good};
-ghost use Rattle.wave_type.specs.TypeView.{by_bytes};
-ghost use Rattle.wave_type.specs.LabelTest.{label_step, is_label, are_label_names, names_pass, types_pass, fields_pass, cases_pass, payload_passes};
+ghost use Rattle.wave_type.specs.TypeModel.{by_bytes};
+ghost use Rattle.wave_type.specs.Private.LabelTest.{label_step};
+ghost use Rattle.wave_type.specs.LabelTest.{is_label, are_label_names, names_pass, types_pass, fields_pass, cases_pass, payload_passes};
 
 use super::{Shape, Type};
 

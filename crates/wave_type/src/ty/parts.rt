@@ -1,7 +1,7 @@
 //! What a type answers about itself.
 ghost use Rattle.std.specs.Prelude.{◌≡◌, IfOk, map, string_bytes};
-ghost use Rattle.wave_wasm.specs.Shown.{texts, shown_all, shown_fields, shown_cases};
-ghost use Rattle.wave_type.specs.TypeView.{by_bytes};
+ghost use Rattle.wave_wasm.specs.Borrowed.{texts, shown_all, shown_fields, shown_cases};
+ghost use Rattle.wave_type.specs.TypeModel.{by_bytes};
 
 use super::{Shape, SimpleType, Type};
 use std::alloc::{AllocError, Global};

@@ -3,8 +3,8 @@ ghost use Rattle.std.specs.Prelude.{◌≡◌, None, [], get_or, map, option_map
 ghost use Rattle.std.specs.Str.{bytes_eq};
 ghost use Rattle.std.specs.List.{position};
 ghost use Rattle.wave_wasm.specs.Types.{IsOwn, types_of, fields_of, record_parts, variant_parts, enum_names, flags_names};
-ghost use Rattle.wave_wasm.specs.Shown.{shown_case};
-ghost use Rattle.wave_type.specs.TypeView.{by_bytes, tuple_part, record_part};
+ghost use Rattle.wave_wasm.specs.Borrowed.{shown_case};
+ghost use Rattle.wave_type.specs.TypeModel.{by_bytes, tuple_part, record_part};
 
 use super::{Shape, Type};
 

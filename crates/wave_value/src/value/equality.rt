@@ -4,15 +4,15 @@ ghost use Rattle.std.specs.Str.{bytes_eq};
 ghost use Rattle.std.specs.Cmp.Lexicographic.{pointwise};
 ghost use Rattle.wave_wasm.specs.Types.{flags_names};
 ghost use Rattle.wave_wasm.specs.Merge.{leaf_eq};
-ghost use Rattle.wave_value.specs.ValueView.{scalar_leaf, name_at, boxed};
-ghost use Rattle.wave_value.specs.SameContent.{same_all, same_pairs, same_option, same_content};
+ghost use Rattle.wave_value.specs.ValueModel.{scalar_leaf, name_at, boxed};
+ghost use Rattle.wave_value.specs.ContentEquality.{same_all, same_pairs, same_option, same_content};
 
 use super::{Content, Scalar, Type, Value};
 use std::boxed::Box;
 use wave_type::ty::places::{enum_name, flag_name, variant_name};
 
 impl PartialEq for Value {
-    ghost use Rattle.wave_value.specs.SameValue.{same_typed, typed_per};
+    ghost use Rattle.wave_value.specs.ValueEquality.{same_typed, typed_per};
 
     ghost eq = { same_typed };
 
@@ -25,7 +25,7 @@ impl PartialEq for Value {
 }
 
 impl Eq for Value {
-    ghost use Rattle.wave_value.specs.SameValue.{typed_equiv};
+    ghost use Rattle.wave_value.specs.ValueEquality.{typed_equiv};
 
     ghost laws = { typed_equiv };
 }

@@ -2,12 +2,15 @@
 ghost use Rattle.std.specs.Prelude.{◌≡◌, ℕ, List, map, IfOk, IfErr, OnOk};
 ghost use Rattle.wave_wasm.specs.Values as value;
 ghost use Rattle.wave_wasm.specs.Values.{values, maybe_value};
-ghost use Rattle.wave_wasm.specs.Makers.{result_value, either_tree};
-ghost use Rattle.wave_value.specs.ValueView.{trees, payload_tree, boxed, PayloadAt};
-ghost use Rattle.wave_value.specs.Taken.{Made, Tells, TakesList, TakesTuple, TakesOption, TakesResult, TakesEnum, list_stated, option_stated, RefusesParts, RefusesTuple, RefusesPayload, RefusesResult, RefusesEnum};
-ghost use Rattle.wave_wasm.specs.Shown.{shown, named};
-ghost use Rattle.wave_type.specs.TypeView.{by_bytes};
-ghost use Rattle.wave_value.specs.Handed.{held, last_under, TakesRecord, MadeRecord, RefusesRecord, RefusesFields, InOrder};
+ghost use Rattle.wave_wasm.specs.ConstructorContracts.{result_value, either_tree};
+ghost use Rattle.wave_value.specs.ValueModel.{trees, payload_tree, boxed};
+ghost use Rattle.wave_value.specs.Private.ValueModel.{PayloadAt};
+ghost use Rattle.wave_value.specs.ConstructorRules.{Made, TakesList, TakesTuple, TakesOption, TakesResult, TakesEnum, list_stated, option_stated, RefusesParts, RefusesTuple, RefusesPayload, RefusesResult, RefusesEnum};
+ghost use Rattle.wave_value.specs.Private.ConstructorRules.{Tells};
+ghost use Rattle.wave_wasm.specs.Borrowed.{shown, named};
+ghost use Rattle.wave_type.specs.TypeModel.{by_bytes};
+ghost use Rattle.wave_value.specs.Private.RecordConstructor.{held, InOrder};
+ghost use Rattle.wave_value.specs.RecordConstructor.{last_under, TakesRecord, MadeRecord, RefusesRecord, RefusesFields};
 
 use super::refusals::{Amiss, ShowsValue, named, wrong_kind, wrong_type};
 use super::{Content, Type, Value};

@@ -3,12 +3,12 @@
 ghost use Rattle.std.specs.Prelude.{IfOk, IfErr, OnOk};
 ghost use Rattle.wave_wasm.specs.Values as value;
 ghost use Rattle.wave_wasm.specs.Values.{values, maybe_value};
-ghost use Rattle.wave_wasm.specs.Makers.{result_value, either_tree};
-ghost use Rattle.wave_wasm.specs.Shown.{named};
-ghost use Rattle.wave_value.specs.ValueView.{trees, payload_tree};
-ghost use Rattle.wave_value.specs.Taken.{Made, TakesList, TakesTuple, TakesOption, TakesResult, value_text, list_stated, option_stated, RefusesParts, RefusesTuple, RefusesResult};
-ghost use Rattle.wave_value.specs.TakenCases.{TakesVariant, RefusesVariant, MadeMap, TakesMap, map_stated};
-ghost use Rattle.wave_value.specs.Handed.{TakesRecord, MadeRecord, RefusesRecord};
+ghost use Rattle.wave_wasm.specs.ConstructorContracts.{result_value, either_tree};
+ghost use Rattle.wave_wasm.specs.Borrowed.{named};
+ghost use Rattle.wave_value.specs.ValueModel.{trees, payload_tree};
+ghost use Rattle.wave_value.specs.ConstructorRules.{Made, TakesList, TakesTuple, TakesOption, TakesResult, value_text, list_stated, option_stated, RefusesParts, RefusesTuple, RefusesResult};
+ghost use Rattle.wave_value.specs.CaseRules.{TakesVariant, RefusesVariant, MadeMap, TakesMap, map_stated};
+ghost use Rattle.wave_value.specs.RecordConstructor.{TakesRecord, MadeRecord, RefusesRecord};
 
 use super::refusals::ByText;
 use super::{Type, Value};

@@ -1,6 +1,6 @@
 //! Refusals of the makers: their texts, or want of memory where a text can't be made.
-ghost use Rattle.wave_value.specs.Taken.{SaysKind, SaysType};
-ghost use Rattle.wave_value.specs.Handed.{SaysName};
+ghost use Rattle.wave_value.specs.Private.ConstructorRules.{SaysKind, SaysType};
+ghost use Rattle.wave_value.specs.Private.RecordConstructor.{SaysName};
 
 use super::{Type, Value};
 use std::alloc::{AllocError, Global};
@@ -22,7 +22,7 @@ pub(super) trait ShowsValue {
 pub(super) struct ByText;
 
 impl ShowsValue for ByText {
-    ghost use Rattle.wave_value.specs.Taken.{value_text};
+    ghost use Rattle.wave_value.specs.ConstructorRules.{value_text};
 
     ghost words = { value_text };
 
@@ -40,7 +40,7 @@ impl ShowsValue for ByText {
 pub(super) struct ByType;
 
 impl ShowsValue for ByType {
-    ghost use Rattle.wave_value.specs.Taken.{own_text};
+    ghost use Rattle.wave_value.specs.ConstructorRules.{own_text};
 
     ghost words = { own_text };
 

@@ -3,9 +3,9 @@ ghost use Rattle.std.specs.Prelude.{◌≡◌, IfOk, map};
 ghost use Rattle.wave_wasm.specs.Types.{flags_names, record_parts};
 ghost use Rattle.wave_wasm.specs.Values as value;
 ghost use Rattle.wave_wasm.specs.Values.{kind_of, maybe_value, list_items, tuple_items, record_fields, map_entries};
-ghost use Rattle.wave_wasm.specs.Shown.{texts, shown, shown_all, shown_fields, shown_pairs, shown_either};
-ghost use Rattle.wave_wasm.specs.Makers.{IsOfListKind, result_value, leaf_entries};
-ghost use Rattle.wave_value.specs.ValueView.{trees, name_at, first_names, beside};
+ghost use Rattle.wave_wasm.specs.Borrowed.{texts, shown, shown_all, shown_fields, shown_pairs, shown_either};
+ghost use Rattle.wave_wasm.specs.ConstructorContracts.{IsOfListKind, result_value, leaf_entries};
+ghost use Rattle.wave_value.specs.ValueModel.{trees, name_at, first_names, beside};
 
 use super::{Content, Type, Value};
 use std::alloc::{AllocError, Global};

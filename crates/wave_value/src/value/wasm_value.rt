@@ -14,14 +14,14 @@ impl WasmValue for Value {
     ghost use Rattle.wave_wasm.specs.Types.{flags_names};
     ghost use Rattle.wave_wasm.specs.Values as value;
     ghost use Rattle.wave_wasm.specs.Values.{values, maybe_value, IsSound};
-    ghost use Rattle.wave_wasm.specs.Shown.{texts, named};
-    ghost use Rattle.wave_wasm.specs.Makers.{IsMemory, result_value, either_tree, MakesList, MakesTuple, MakesRecord, MakesVariant, MakesEnum, MakesOption, MakesResult, MakesFlags, MakesMap, FullList, FullTuple, FullRecord, FullVariant, FullEnum, FullOption, FullResult, FullFlags, FullMap};
-    ghost use Rattle.wave_value.specs.ValueView.{trees, payload_tree};
+    ghost use Rattle.wave_wasm.specs.Borrowed.{texts, named};
+    ghost use Rattle.wave_wasm.specs.ConstructorContracts.{IsMemory, result_value, either_tree, MakesList, MakesTuple, MakesRecord, MakesVariant, MakesEnum, MakesOption, MakesResult, MakesFlags, MakesMap, FullList, FullTuple, FullRecord, FullVariant, FullEnum, FullOption, FullResult, FullFlags, FullMap};
+    ghost use Rattle.wave_value.specs.ValueModel.{trees, payload_tree};
     ghost use Rattle.wave_value.specs.TypedValue.{IsAt, MakesOnly, typed_leaf};
-    ghost use Rattle.wave_value.specs.Taken.{Made, TakesList, TakesTuple, TakesOption, TakesResult, TakesEnum, own_text, list_stated, option_stated, RefusesParts, RefusesTuple, RefusesResult, RefusesEnum};
-    ghost use Rattle.wave_value.specs.TakenCases.{TakesVariant, RefusesVariant, TakesFlags, RefusesFlags, MadeMap, TakesMap, map_stated};
-    ghost use Rattle.wave_value.specs.Handed.{TakesRecord, MadeRecord, RefusesRecord};
-    ghost use Rattle.wave_value.specs.Built.{IsFull, full_parts};
+    ghost use Rattle.wave_value.specs.ConstructorRules.{Made, TakesList, TakesTuple, TakesOption, TakesResult, TakesEnum, own_text, list_stated, option_stated, RefusesParts, RefusesTuple, RefusesResult, RefusesEnum};
+    ghost use Rattle.wave_value.specs.CaseRules.{TakesVariant, RefusesVariant, TakesFlags, RefusesFlags, MadeMap, TakesMap, map_stated};
+    ghost use Rattle.wave_value.specs.RecordConstructor.{TakesRecord, MadeRecord, RefusesRecord};
+    ghost use Rattle.wave_value.specs.FullTypes.{IsFull, full_parts};
 
     type Type = Type;
 

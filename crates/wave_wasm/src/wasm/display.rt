@@ -4,10 +4,12 @@ ghost use Rattle.std.specs.Fmt.{DisplaysOnOk};
 ghost use Rattle.std.specs.List.{list_all};
 ghost use Rattle.std.specs.String.{string_bytes};
 ghost use Rattle.wave_wasm.specs.Types.{kind_of, maybe_type};
-ghost use Rattle.wave_wasm.specs.Commas.{comma_if, joined, in_parens};
-ghost use Rattle.wave_wasm.specs.Shown.{texts, shown, shown_all};
+ghost use Rattle.wave_wasm.specs.Private.Commas.{comma_if};
+ghost use Rattle.wave_wasm.specs.Commas.{joined, in_parens};
+ghost use Rattle.wave_wasm.specs.Borrowed.{texts, shown, shown_all};
 ghost use Rattle.wave_wasm.specs.Text.{text, has_text, arguments_text, results_text};
-ghost use Rattle.wave_wasm.specs.TypeText.{type_text, payload_text, braced, function_results_text, typed_names, name_part, IsFuncText, ShowsFunc};
+ghost use Rattle.wave_wasm.specs.TypeText.{type_text, payload_text, braced, function_results_text, typed_names, IsFuncText, ShowsFunc};
+ghost use Rattle.wave_wasm.specs.Private.TypeText.{name_part};
 
 use crate::wasm::{WasmFunc, WasmType, WasmTypeKind, WasmValue};
 use crate::writer::{arguments_to_string, results_to_string, to_string};

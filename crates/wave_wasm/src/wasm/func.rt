@@ -9,7 +9,7 @@ pub trait WasmFunc {
     type Type: WasmType;
 
     ghost use Rattle.std.specs.Prelude.{◌≡◌, IfOk};
-    ghost use Rattle.wave_wasm.specs.Shown.{texts, shown_all};
+    ghost use Rattle.wave_wasm.specs.Borrowed.{texts, shown_all};
     ghost use Rattle.wave_wasm.specs.TypeText.{Func, AreNamesGiven};
 
     /// The function: its types and its names.

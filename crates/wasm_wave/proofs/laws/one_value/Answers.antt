@@ -1,5 +1,5 @@
 use Rattle.wave_grammar.proofs.Unambiguity.OneReading.{one_reading}
-use Rattle.wasm_wave.proofs.Headline.{one_value_of}
+use Rattle.wasm_wave.proofs.MainTheorem.{one_value_of}
 use Rattle.wasm_wave.proofs.laws.one_value.Goals as goal
 
 pub returns-clause-reading : goal.returns-clause-reading

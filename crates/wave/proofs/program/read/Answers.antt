@@ -1,6 +1,6 @@
 use Rattle.std.proofs.Common.{subst}
 use Rattle.wave_tree.specs.FromStr.{IsMeant, RefusesText}
-use Rattle.wave_value.specs.Built.{IsFull}
+use Rattle.wave_value.specs.FullTypes.{IsFull}
 use Rattle.wave_value.specs.TypedValue.{TypedValue, IsAt}
 use Rattle.wave.proofs.Named.{answered, refused}
 use Rattle.wave.proofs.program.read.Goals as goal

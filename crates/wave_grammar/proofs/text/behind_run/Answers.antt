@@ -1,6 +1,6 @@
 use Rattle.std.proofs.Common.{◌++◌, refl, Some, Ok}
 use Rattle.wave_lex.specs.Parts.{part_text, left_of, LinePartIs}
-use Rattle.wave_grammar.specs.StringAssembly.{IsEnded}
+use Rattle.wave_grammar.specs.Private.StringAssembly.{IsEnded}
 use Rattle.wave_grammar.proofs.Strings.Assembly.{one_in_front, ended_gives_none}
 use Rattle.wave_grammar.proofs.text.behind_run.Goals as goal
 

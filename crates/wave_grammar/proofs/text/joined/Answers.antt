@@ -1,7 +1,8 @@
 use Rattle.std.proofs.Common.{[], refl, Some, Ok}
 use Rattle.wave_lex.specs.Parts.{part_text, left_of, LinePartIs}
 use Rattle.wave_lex.specs.declared.strings.StringPart.TheVariants.{Run, Char}
-use Rattle.wave_grammar.specs.StringAssembly.{IsEnded, IsUncopied}
+use Rattle.wave_grammar.specs.Private.StringAssembly.{IsEnded}
+use Rattle.wave_grammar.specs.StringAssembly.{IsUncopied}
 use Rattle.wave_grammar.proofs.Strings.Assembly.{one_in_front, char_is_copied, uncopied_ends, ended_uncopied}
 use Rattle.wave_grammar.proofs.text.joined.Goals as goal
 

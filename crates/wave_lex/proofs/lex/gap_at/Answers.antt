@@ -1,6 +1,6 @@
 use Rattle.std.proofs.Common.{ℕ, Option, Some, None, refl}
 use Rattle.std.specs.Option.{IsSome}
-use Rattle.wave_lex.specs.Fronts.{Greatest, IsFront}
+use Rattle.wave_lex.specs.LongestMatch.{Greatest, IsFront}
 use Rattle.wave_lex.specs.Tokens.{gap}
 use Rattle.std.proofs.Common.{List}
 use Rattle.wave_lex.proofs.Scanning.{gap_some}

@@ -1,6 +1,6 @@
 use Rattle.std.proofs.Common.{subst}
 use Rattle.wave_lex.specs.declared.lex.Token.{Token}
-use Rattle.wave_lex.specs.Fronts.{IsFront}
+use Rattle.wave_lex.specs.LongestMatch.{IsFront}
 use Rattle.wave_lex.specs.Tokens.{shape}
 use Rattle.wave_lex.proofs.lex.token_at.Goals as goal
 

@@ -1,5 +1,6 @@
 use Rattle.std.proofs.Common.{arith, ap, List}
-use Rattle.wave_node.specs.NodeTree.{NodeTree, depth, nodes_depth, node_trees}
+use Rattle.wave_node.specs.NodeTree.{NodeTree, node_trees}
+use Rattle.wave_node.specs.Private.NodeTree.{depth, nodes_depth}
 use Rattle.wave_node.proofs.ChildNodes.Trees.{node_below}
 use Rattle.wave_node.proofs.ast.+clone.Goals as goal
 

@@ -1,7 +1,7 @@
 use Rattle.std.proofs.Common.{List, ◌≡◌, ◌++◌, map, take}
 use Rattle.wave_wasm.specs.Lists.{AllOf}
 use Rattle.wave_wasm.specs.Types.{HasDistinctNames}
-use Rattle.wave_wasm.specs.Makers.{AreOf}
+use Rattle.wave_wasm.specs.ConstructorContracts.{AreOf}
 use Rattle.wave_grammar.specs.Params.{Omitted}
 use Rattle.wave_node.proofs.params.push_omitted.Given as goal
 

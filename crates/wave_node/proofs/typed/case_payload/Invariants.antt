@@ -1,5 +1,5 @@
 use Rattle.std.proofs.Common.{◌≡◌, drop}
-use Rattle.wave_wasm.specs.Shown.{shown_cases}
+use Rattle.wave_wasm.specs.Borrowed.{shown_cases}
 use Rattle.wave_grammar.specs.TypedGrammar.{look_up}
 use Rattle.wave_node.proofs.typed.case_payload.Given as goal
 

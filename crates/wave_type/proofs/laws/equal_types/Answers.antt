@@ -1,6 +1,6 @@
 use Rattle.std.proofs.Common.{◌≡◌, true, subst}
-use Rattle.wave_type.specs.SameType.{same_tree}
-use Rattle.wave_type.specs.SameTypeLaws.{one_tree, same_itself}
+use Rattle.wave_type.specs.TypeEquality.{same_tree}
+use Rattle.wave_type.specs.TypeEqualityLaws.{one_tree, same_itself}
 use Rattle.wave_type.proofs.laws.equal_types.Goals as goal
 
 pub returns : goal.returns

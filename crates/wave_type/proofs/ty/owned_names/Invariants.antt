@@ -1,5 +1,5 @@
 use Rattle.std.proofs.Common.{◌≡◌, map, string_bytes, take}
-use Rattle.wave_wasm.specs.Shown.{texts}
+use Rattle.wave_wasm.specs.Borrowed.{texts}
 use Rattle.wave_type.proofs.ty.owned_names.Given as goal
 
 abbrev pub invariant-loop-name : goal.invariant-loop-name

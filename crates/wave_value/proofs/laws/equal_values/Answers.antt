@@ -1,5 +1,5 @@
 use Rattle.std.proofs.Common.{◌≡◌, true, subst}
-use Rattle.wave_value.specs.SameValue.{same_typed, one_typed, typed_itself}
+use Rattle.wave_value.specs.ValueEquality.{same_typed, one_typed, typed_itself}
 use Rattle.wave_value.proofs.laws.equal_values.Goals as goal
 
 pub returns : goal.returns

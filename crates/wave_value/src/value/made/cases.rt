@@ -2,12 +2,14 @@
 ghost use Rattle.std.specs.Prelude.{◌≡◌, IfOk, IfErr, OnOk, length, map};
 ghost use Rattle.wave_wasm.specs.Names.{AreAllOf, found_in};
 ghost use Rattle.wave_wasm.specs.Types.{flags_names};
-ghost use Rattle.wave_wasm.specs.Shown.{texts};
+ghost use Rattle.wave_wasm.specs.Borrowed.{texts};
 ghost use Rattle.wave_wasm.specs.Values as value;
 ghost use Rattle.wave_wasm.specs.Values.{maybe_value};
-ghost use Rattle.wave_value.specs.ValueView.{Grows, name_at, payload_tree};
-ghost use Rattle.wave_value.specs.Taken.{Made};
-ghost use Rattle.wave_value.specs.TakenCases.{HasKeys, TakesVariant, TakesFlags, RefusesVariant, RefusesNames, RefusesFlags};
+ghost use Rattle.wave_value.specs.Private.ValueModel.{Grows};
+ghost use Rattle.wave_value.specs.ValueModel.{name_at, payload_tree};
+ghost use Rattle.wave_value.specs.ConstructorRules.{Made};
+ghost use Rattle.wave_value.specs.Private.CaseRules.{HasKeys};
+ghost use Rattle.wave_value.specs.CaseRules.{TakesVariant, TakesFlags, RefusesVariant, RefusesNames, RefusesFlags};
 
 use super::super::refusals::{Amiss, ShowsValue, named, wrong_kind};
 use super::super::{Content, Type, Value};

@@ -1,7 +1,7 @@
 //! The maker of maps.
 ghost use Rattle.std.specs.Prelude.{IfOk, IfErr, OnOk};
-ghost use Rattle.wave_value.specs.Taken.{RefusesParts};
-ghost use Rattle.wave_value.specs.TakenCases.{MadeMap, TakesMap, map_stated};
+ghost use Rattle.wave_value.specs.ConstructorRules.{RefusesParts};
+ghost use Rattle.wave_value.specs.CaseRules.{MadeMap, TakesMap, map_stated};
 
 use super::super::refusals::{ShowsValue, wrong_kind, wrong_type};
 use super::super::{Content, Type, Value};

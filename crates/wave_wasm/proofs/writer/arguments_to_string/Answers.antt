@@ -1,7 +1,7 @@
 use Rattle.std.proofs.Common.{rules, ap, sym, codes, ◌++◌, ℕ, List}
 use Rattle.wave_wasm.specs.Text.{text, has_text}
 use Rattle.wave_wasm.specs.Commas.{joined}
-use Rattle.wave_wasm.proofs.Adding.{adding_none, adding_as, adding_start}
+use Rattle.wave_wasm.proofs.TextAppend.{adding_none, adding_as, adding_start}
 use Rattle.wave_wasm.proofs.Trees.{map_map, all_map}
 use Rattle.wave_wasm.proofs.writer.arguments_to_string.Goals as goal
 

@@ -2,7 +2,7 @@ use Rattle.std.proofs.Common.{◌≡◌, ◌++◌, [], map, drop, codes}
 use Rattle.std.specs.List.{list_all}
 use Rattle.std.specs.String.{string_bytes}
 use Rattle.wave_wasm.specs.Text.{text, has_text, arguments_text}
-use Rattle.wave_wasm.proofs.Adding.{Adding}
+use Rattle.wave_wasm.proofs.TextAppend.{Adding}
 use Rattle.wave_wasm.proofs.Sequence.{parted}
 use Rattle.wave_wasm.proofs.writer.arguments_to_string.Given as goal
 

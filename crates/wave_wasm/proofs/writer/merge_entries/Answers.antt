@@ -2,10 +2,10 @@ use Rattle.std.proofs.Common.{ℕ, List, String, Global, map, Bor, ap, ◌∙◌
 use Rattle.std.specs.String.{string_bytes}
 use Rattle.wave_wasm.proofs.Trees.{map_map}
 use Rattle.std.proofs.lemmas.List.{take_all}
-use Rattle.wave_wasm.specs.Merge.{with_key_texts}
-use Rattle.wave_wasm.specs.Values.{IsLeaf}
+use Rattle.wave_wasm.specs.Private.Merge.{with_key_texts}
+use Rattle.wave_wasm.specs.Private.Values.{IsLeaf}
 use Rattle.wave_wasm.specs.Text.{text}
-use Rattle.wave_wasm.proofs.Natural.{merge_texts}
+use Rattle.wave_wasm.proofs.MergeCongruence.{merge_texts}
 use Rattle.wave_wasm.proofs.Sequence.{all_at}
 use Rattle.wave_wasm.proofs.writer.merge_entries.Goals as goal
 

@@ -25,7 +25,7 @@ use denote.Triple.Entry.{alive}
 use denote.Triple.Spec.{Meets, triple_of}
 use denote.Triple.Table.{entered}
 use denote.Triple.Walked.{says, Stays, stay_dropped, walk_of, ends_at, walk_Meets, Goes-dropped}
-use Rattle.wave_lex.proofs.Fieldless.{none, none_made}
+use Rattle.wave_lex.proofs.EmptyStruct.{none, none_made}
 use Rattle.wave_lex.specs.contracts.asked.Asked as Asked
 use Rattle.wave_lex.specs.contracts.asked.Asked.and_one as F
 use Rattle.wave_lex.specs.contracts.asked.Asked.and_one.Key.{name as #self}

@@ -23,7 +23,7 @@ use denote.Triple.Entry.{alive}
 use denote.Triple.Spec.{Meets, triple_of}
 use denote.Triple.Table.{entered}
 use denote.Triple.Walked.{says, Stays, walk_of, ends_at, walk_Meets}
-use Rattle.wave_lex.proofs.Fieldless.{none, none_made}
+use Rattle.wave_lex.proofs.EmptyStruct.{none, none_made}
 use Rattle.wave_lex.specs.contracts.asked.Asked as Asked
 use Rattle.wave_lex.specs.contracts.asked.Asked.new as F
 use Rattle.wave_lex.specs.contracts.asked.Asked.new.Key.{name as #self}

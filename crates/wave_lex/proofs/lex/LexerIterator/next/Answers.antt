@@ -1,9 +1,9 @@
 use Rattle.std.proofs.Common.{◌≡◌, ℕ, List, length, drop, refl, ap, subst, ◌∙◌, arith}
 use Rattle.wave_lex.specs.Tokens.{gap, invalid}
-use Rattle.wave_lex.specs.Lexing.{IsGap, IsLongestToken, IsInvalid}
+use Rattle.wave_lex.specs.Tokenization.{IsGap, IsLongestToken, IsInvalid}
 use Rattle.wave_lex.proofs.Scanning.{front_boundary}
-use Rattle.wave_lex.proofs.Lexing.{stands_at, stands_next, gap_is_rest, less_left}
-use Rattle.wave_lex.proofs.Fronts.{front_positive}
+use Rattle.wave_lex.proofs.Tokenization.{stands_at, stands_next, gap_is_rest, less_left}
+use Rattle.wave_lex.proofs.LongestMatch.{front_positive}
 use Rattle.wave_lex.proofs.Classes.{shape_not_empty}
 use Rattle.wave_lex.proofs.lex.LexerIterator.next.Goals as goal
 

@@ -1,6 +1,6 @@
 use Rattle.std.proofs.Common.{◌≡◌, ◌≢◌, ℕ, ◌≤◌, inl, inr, List, length, sym, ap, subst, get_or}
 use Rattle.wave_lex.specs.Multiline.{IsSpaces}
-use Rattle.wave_lex.specs.Left.{Undecoded}
+use Rattle.wave_lex.specs.Remaining.{Undecoded}
 use Rattle.wave_lex.proofs.Lines.{not_spaces, all_spaces, behind_feed, behind_last, begins_here, opened}
 use Rattle.wave_lex.proofs.strings.MultilineStringParts.new.Goals as goal
 

@@ -1,7 +1,7 @@
 use Rattle.std.proofs.Common.{◌≡◌, ◌≢◌, ℕ, List, length, refl, ap, subst, get_or}
 use Rattle.std.specs.Str.{IsUtf8}
 use Rattle.wave_lex.specs.Multiline.{DropsReturn}
-use Rattle.wave_lex.specs.Left.{Undecoded, ended_lines}
+use Rattle.wave_lex.specs.Remaining.{Undecoded, ended_lines}
 use Rattle.wave_lex.proofs.Lines.{too_few, indented, behind_spaces}
 use Rattle.wave_lex.proofs.strings.MultilineStringParts.next_line.Goals as goal
 

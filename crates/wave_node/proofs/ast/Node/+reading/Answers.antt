@@ -11,9 +11,9 @@ use Rattle.wave_node.proofs.ByKind.Lists.{element_is, list_fault, list_deep, lis
 use Rattle.wave_node.proofs.ByKind.Options.{payload_is, option_deep, flat_true, not_flat, given_none, given_some, some_value, option_fault, some_blame, flat_blame, none_made, some_made, flat_made}
 use Rattle.wave_node.proofs.ByKind.Results.{result_type, ok_deep, err_deep, given_ok, given_err, ok_payload, err_payload, result_fault, ok_blame, err_blame, result_flat_blame, ok_made, err_made, result_flat_made}
 use Rattle.wave_wasm.specs.Types.{maybe_type}
-use Rattle.wave_wasm.specs.Shown.{shown}
+use Rattle.wave_wasm.specs.Borrowed.{shown}
 use Rattle.wave_node.proofs.ByKind.Variants.{VariantType, HasCase, variant_is, variant_fault, case_found, case_missing, case_deep, case_distinct, given_case, case_payload_is, case_blame, no_case_blame, variant_made}
-use Rattle.wave_wasm.specs.Shown.{shown_cases}
+use Rattle.wave_wasm.specs.Borrowed.{shown_cases}
 use Rattle.wave_node.specs.NodeAccessors.{shown_node}
 use Rattle.wave_grammar.specs.TypedGrammar.{IsFlat}
 use Rattle.std.proofs.Common.{Option, inr, inl, ap, ◌∙◌, refl}
@@ -21,19 +21,19 @@ use Rattle.wave_wasm.specs.Types.{TypeTree, HasDistinctNames}
 use Rattle.wave_lex.specs.Errors.{refusal_of}
 use Rattle.wave_grammar.specs.TypeErrors.{Fault}
 use Rattle.std.proofs.Common.{subst, sym}
-use Rattle.wave_wasm.specs.Shown.{shown_all}
+use Rattle.wave_wasm.specs.Borrowed.{shown_all}
 use Rattle.wave_node.proofs.ByKind.Tuples.{TupleType, tuple_is, tuple_fault, count_blame, as_shown, type_at, tuple_deep, tuple_item, item_blamed, all_has, parts_distinct, tuple_kept, given_items, tuple_nodes, tuple_made}
 use Rattle.wave_node.proofs.ByKind.Lists.{HasAt}
 use Rattle.wave_wasm.specs.Types.{kind_of}
 use Rattle.wave_wasm.specs.declared.wasm.WasmTypeKind.TheVariants as kinds
-use Rattle.wave_wasm.specs.Causes.{wrong_number}
+use Rattle.wave_wasm.specs.ValueErrors.{wrong_number}
 use Rattle.wave_grammar.specs.TypeErrors.{RefusesFor}
 use Rattle.wave_node.specs.NodeTree.{place_of}
 use Rattle.std.proofs.Common.{length, ◌≢◌}
 use Rattle.wave_node.specs.NodeAccessors.{node_pairs}
 use Rattle.wave_node.specs.NodeTree.{children_of}
 use Rattle.wave_node.proofs.ByKind.Maps.{map_is, map_deep, map_fault, none_read, next_read, key_ready, value_ready, key_refused, value_refused, map_answered, map_distinct}
-use Rattle.wave_wasm.specs.Shown.{shown_fields}
+use Rattle.wave_wasm.specs.Borrowed.{shown_fields}
 use Rattle.std.proofs.Common.{map, take, ap, ◌∙◌}
 use Rattle.wave_grammar.specs.SpannedTree.{entry_list}
 use Rattle.wave_node.specs.NodeAccessors.{shown_node}

@@ -1,5 +1,6 @@
 use Rattle.std.proofs.Common.{sym, ap, ◌∙◌, subst}
-use Rattle.wave_node.specs.NodeFlags.{AreAllParsed, AreInOrder, names_at}
+use Rattle.wave_node.specs.Private.NodeFlags.{AreAllParsed}
+use Rattle.wave_node.specs.NodeFlags.{AreInOrder, names_at}
 use Rattle.wave_node.proofs.FlagNodes.{labels_of, labels_ordered}
 use Rattle.wave_node.proofs.ast.Node.as_flags.Goals as goal
 

@@ -2,7 +2,7 @@ use Rattle.std.proofs.Common.{arith, map, refl}
 use Rattle.wave_node.specs.NodeAccessors.{node_pairs}
 use Rattle.wave_node.specs.NodeFields.{shown_field, RefusesFields}
 use Rattle.wave_node.proofs.ByKind.Lists.{HasAt}
-use Rattle.wave_wasm.proofs.Names.{on_ok}
+use Rattle.wave_wasm.proofs.NameSets.{on_ok}
 use Rattle.wave_node.proofs.Fields.Lookup.{pair_has, key_parsed, new_name, old_name, refused_label, refused_name, fields_whole, fields_kept, field_held, err_handed}
 use Rattle.wave_node.specs.ErrorSpans.{StandsIn}
 use Rattle.wave_node.proofs.Parameters.{error_handed}

@@ -1,6 +1,7 @@
 use Rattle.std.proofs.Common.{take, map}
 use Rattle.wave_node.specs.NodeAccessors.{node_pairs}
-use Rattle.wave_node.specs.NodeFields.{shown_field, HoldsFields}
+use Rattle.wave_node.specs.NodeFields.{shown_field}
+use Rattle.wave_node.specs.Private.NodeFields.{HoldsFields}
 use Rattle.wave_node.proofs.Fields.Lookup.{FieldsSoFar}
 use Rattle.wave_node.proofs.ast.Node.fields.Given as goal
 

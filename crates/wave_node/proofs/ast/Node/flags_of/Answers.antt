@@ -1,11 +1,11 @@
 use Rattle.std.proofs.Common.{inl, ap, ◌∙◌}
 use Rattle.wave_wasm.specs.Names.{IsOneOf, IsNoneOf}
-use Rattle.wave_wasm.specs.Shown.{texts}
+use Rattle.wave_wasm.specs.Borrowed.{texts}
 use Rattle.wave_wasm.proofs.Sequence.{all_at}
 use Rattle.wave_grammar.specs.LeafTokens.{name_of}
 use Rattle.wave_node.specs.NodeTree.{children_of}
 use Rattle.wave_node.specs.Nodes.{IsParsedFrom}
-use Rattle.wave_wasm.proofs.Names.{holds_more, on_ok}
+use Rattle.wave_wasm.proofs.NameSets.{holds_more, on_ok}
 use Rattle.wave_node.proofs.FlagNodes.{labels_of}
 use Rattle.wave_node.proofs.FlagSets.{found_held, none_held, held_more, flag_unknown}
 use Rattle.wave_node.proofs.ast.Node.flags_of.Goals as goal

@@ -1,5 +1,5 @@
 use Rattle.std.proofs.Common.{take}
-use Rattle.wave_wasm.specs.Shown.{texts}
+use Rattle.wave_wasm.specs.Borrowed.{texts}
 use Rattle.wave_node.proofs.FlagSets.{FlagsHeld}
 use Rattle.wave_node.proofs.ast.Node.flags_of.Given as goal
 

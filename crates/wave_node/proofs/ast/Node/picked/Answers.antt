@@ -1,7 +1,7 @@
 use Rattle.std.proofs.Common.{◌+◌, sym, ap, ◌∙◌, subst, take}
 use Rattle.std.proofs.lemmas.List.{map-append}
-use Rattle.wave_wasm.specs.Shown.{texts}
-use Rattle.wave_node.specs.NodeFlags.{PicksFrom}
+use Rattle.wave_wasm.specs.Borrowed.{texts}
+use Rattle.wave_node.specs.Private.NodeFlags.{PicksFrom}
 use Rattle.wave_node.proofs.FlagSets.{texts_next, texts_all, picks_more, picks_same}
 use Rattle.wave_node.proofs.ast.Node.picked.Goals.{then-contains_key+in_ok-push, else-contains_key}
 use Rattle.wave_node.proofs.ast.Node.picked.Goals as goal

@@ -1,6 +1,6 @@
 use Rattle.std.proofs.Common.{take}
-use Rattle.wave_wasm.specs.Shown.{texts}
-use Rattle.wave_node.specs.NodeFlags.{PicksFrom}
+use Rattle.wave_wasm.specs.Borrowed.{texts}
+use Rattle.wave_node.specs.Private.NodeFlags.{PicksFrom}
 use Rattle.wave_node.proofs.ast.Node.picked.Given as goal
 
 abbrev pub invariant-loop-name : goal.invariant-loop-name

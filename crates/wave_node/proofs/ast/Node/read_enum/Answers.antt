@@ -1,6 +1,6 @@
 use Rattle.std.proofs.Common.{sym}
 use Rattle.wave_wasm.specs.Types as type
-use Rattle.wave_wasm.specs.Shown.{texts}
+use Rattle.wave_wasm.specs.Borrowed.{texts}
 use Rattle.wave_node.proofs.MakerAnswers.{faulty}
 use Rattle.wave_node.proofs.ByKind.Leaves.{said}
 use Rattle.wave_node.proofs.ByKind.Enums.{enum_is, enum_fault, unknown_blame, enum_made}

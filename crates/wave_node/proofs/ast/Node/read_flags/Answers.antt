@@ -1,5 +1,5 @@
 use Rattle.std.proofs.Common.{sym, ap, ◌∙◌, inl}
-use Rattle.wave_wasm.specs.Shown.{texts}
+use Rattle.wave_wasm.specs.Borrowed.{texts}
 use Rattle.wave_node.specs.NodeFlags.{names_at}
 use Rattle.wave_node.specs.NodeTree.{children_of}
 use Rattle.wave_node.proofs.MakerAnswers.{handed}

@@ -1,6 +1,6 @@
 use Rattle.std.proofs.Common.{sym, subst}
-use Rattle.wave_node.specs.NodeFlags.{HoldsNames}
-use Rattle.wave_wasm.proofs.Names.{holds_more, on_ok}
+use Rattle.wave_node.specs.Private.NodeFlags.{HoldsNames}
+use Rattle.wave_wasm.proofs.NameSets.{holds_more, on_ok}
 use Rattle.wave_node.proofs.FlagSets.{texts_next}
 use Rattle.wave_node.proofs.ast.Node.set_of.Goals as goal
 

@@ -1,7 +1,8 @@
 use Rattle.std.proofs.Common.{◌≡◌, ◌≤◌, ◌-◌, length, map, take, drop, inl, inr, sym, subst, arith}
 use Rattle.wave_wasm.specs.Lists.{AllOf}
 use Rattle.wave_wasm.specs.Types.{HasDistinctNames}
-use Rattle.wave_node.specs.NodeParams.{RefusesParams, RefusesOmitted}
+use Rattle.wave_node.specs.NodeParams.{RefusesParams}
+use Rattle.wave_node.specs.Private.NodeParams.{RefusesOmitted}
 use Rattle.wave_node.proofs.ByKind.Tuples.{tuple_nodes, given_items, tuple_item, tuple_kept, place_has, map_has, all_has}
 use Rattle.wave_node.proofs.Parameters.{mapped_count, rest_mapped, error_handed, all_drop, too_many_refused, item_refused, missing_refused, params_read, omitted_refused}
 use Rattle.std.proofs.Common.{ℕ, ap, ◌∙◌}

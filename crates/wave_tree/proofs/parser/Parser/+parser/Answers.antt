@@ -9,14 +9,15 @@ use Rattle.wave_grammar.specs.PrefixAutomaton.{Due, Form, due_behind, reads, beh
 use Rattle.wave_grammar.specs.PrefixAutomaton as due
 use Rattle.wave_grammar.specs.SyntaxErrors.{Gives, IsBehind, LeadsBehindValue}
 use Rattle.std.specs.declared.ops.Range.{Range}
-use Rattle.wave_grammar.specs.TokenRoles.{form_of, IsClose}
-use Rattle.wave_tree.specs.ParserState.{spec_word}
+use Rattle.wave_grammar.specs.Private.TokenRoles.{form_of, IsClose}
+use Rattle.wave_tree.specs.Private.ParserState.{spec_word}
 use Rattle.wave_tree.proofs.ParserSteps.{here, here_is, handed, gives_then, fails, any_token, shallow, value_read, no_value, level_open, read_there, unexpected_there, no_paren, then_token, token_there, behind_bare, reached, fails_behind, then_behind, payload_other, unexpected_behind, expected, untrue, moved, then_class, then_behind_class, range_path, close_first, close_empty, close_next, then_same, then_refuses, item_refuses, item_read, then_reached, Reached, IsItemDue, no_close, empty_there, key_reads, no_key, brace_key, entries_other, close_behind, comma_behind, other_behind, token_less, tokens_less, left_at, no_colon, no_brace}
-use Rattle.wave_tree.specs.ParserState.{HasText}
-use Rattle.wave_tree.specs.ParsedNodes.{AreItems, TakesClass, items_type}
+use Rattle.wave_tree.specs.Private.ParserState.{HasText}
+use Rattle.wave_tree.specs.Private.ParsedNodes.{AreItems, items_type}
+use Rattle.wave_tree.specs.ParsedNodes.{TakesClass}
 use Rattle.wave_node.specs.NodeTree.{node, no_nodes, node_trees}
 use Rattle.wave_node.specs.declared.ast.NodeType.TheVariants as kind_of_node
-use Rattle.wave_lex.specs.Lexing.{span}
+use Rattle.wave_lex.specs.Tokenization.{span}
 use Rattle.wave_tree.proofs.NodeCorrectness.Items.{class_as, number_tied, char_tied, string_tied, multiline_tied, label_tied, items_tied, braces_tied, leaf_tied, number_word_tied, none_tied, some_tied, ok_tied, err_tied, case_tied, pushed, some_there, type_of_items, items_made, items_none, items_first, items_next, pairs_next, pairs_close, empty_tied, no_fields_tied, entries_tied, flags_tied, payload_tied}
 use Rattle.wave_tree.proofs.LexerCallCount.{asks_once, asks_token, asks_looked, asks_read, asks_reached}
 use Rattle.wave_tree.proofs.parser.Parser.+parser.Goals as goal

@@ -2,9 +2,10 @@ use Rattle.std.proofs.Common.{◌≡◌, ℕ, ◌+◌, ◌*◌, length, List, �
 use Rattle.wave_grammar.specs.ParserPosition.{Place, TakesItem}
 use Rattle.wave_grammar.specs.PrefixAutomaton.{Due, Form, first_item}
 use Rattle.wave_grammar.specs.PrefixAutomaton as due
-use Rattle.wave_grammar.specs.TokenRoles.{form_of}
+use Rattle.wave_grammar.specs.Private.TokenRoles.{form_of}
 use Rattle.wave_node.specs.NodeTree.{NodeTree}
-use Rattle.wave_tree.specs.ParsedNodes.{IsParsed, AreFurther, AreItems, ArePairs}
+use Rattle.wave_tree.specs.ParsedNodes.{IsParsed}
+use Rattle.wave_tree.specs.Private.ParsedNodes.{AreFurther, AreItems, ArePairs}
 use Rattle.wave_tree.proofs.ParserSteps.{Reached, IsItemDue, left_at}
 use Rattle.wave_tree.specs.ParserState.{Asks}
 use Rattle.wave_tree.proofs.parser.Parser.+parser.Given as goal

@@ -1,6 +1,7 @@
 use Rattle.std.proofs.Common.{◌≡◌, ap, sym, ◌∙◌, arith}
 use Rattle.wave_grammar.specs.ParserPosition.{Place}
-use Rattle.wave_tree.specs.ParserState.{Parsing, ahead_count}
+use Rattle.wave_tree.specs.ParserState.{Parsing}
+use Rattle.wave_tree.specs.Private.ParserState.{ahead_count}
 use Rattle.wave_tree.proofs.Lookahead.{finish_at}
 use Rattle.wave_tree.proofs.ErrorSpans.Syntax.{finishes_lie}
 use Rattle.wave_tree.proofs.parser.Parser.finish.Goals as goal

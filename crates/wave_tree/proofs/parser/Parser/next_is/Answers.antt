@@ -1,6 +1,7 @@
 use Rattle.std.proofs.Common.{◌≡◌, ap, sym, ◌∙◌, arith}
 use Rattle.wave_grammar.specs.ParserPosition.{Place}
-use Rattle.wave_tree.specs.ParserState.{Parsing, ahead_count}
+use Rattle.wave_tree.specs.ParserState.{Parsing}
+use Rattle.wave_tree.specs.Private.ParserState.{ahead_count}
 use Rattle.wave_tree.proofs.Lookahead.{at_hand}
 use Rattle.wave_tree.proofs.parser.Parser.next_is.Goals as goal
 use Rattle.wave_tree.proofs.parser.Parser.next_is.Goals.{in-Some, in-None}

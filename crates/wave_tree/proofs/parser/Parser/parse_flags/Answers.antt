@@ -11,12 +11,12 @@ use Rattle.std.specs.Prelude.{if◌then◌else◌}
 use Rattle.wave_wasm.specs.Names.{is_one_of}
 use Rattle.wave_lex.specs.Errors.{Says}
 use Rattle.wave_lex.specs.Errors.{repeated_name}
-use Rattle.wave_wasm.proofs.Names.{Holds, holds_none, holds_more, on_ok}
+use Rattle.wave_wasm.proofs.NameSets.{Holds, holds_none, holds_more, on_ok}
 use Rattle.std.specs.Prelude.{map}
 use Rattle.std.specs.BTreeMap.{insert_entry}
 use Rattle.std.specs.Cmp.Lexicographic.{slice_cmp}
 use Rattle.std.specs.Ordering.{nat_cmp}
-use Rattle.wave_grammar.specs.FlagOrder.{flag_name}
+use Rattle.wave_grammar.specs.Private.FlagOrder.{flag_name}
 use Rattle.wave_tree.proofs.NodeCorrectness.Items.{class_as}
 use Rattle.wave_tree.proofs.FlagsSorted.{entry_of}
 use Rattle.wave_tree.proofs.FlagLoop.{flag_at, grown, ended}

@@ -6,7 +6,7 @@ use Rattle.wave_lex.specs.declared.lex.Token.TheVariants as class
 use Rattle.wave_grammar.specs.ParserPosition.{Place}
 use Rattle.wave_grammar.specs.PrefixAutomaton as due
 use Rattle.wave_grammar.specs.SyntaxErrors.{LeadsBehindValue, IsSyntaxError}
-use Rattle.wave_tree.specs.ParsedNodes.{IsOfItems}
+use Rattle.wave_tree.specs.Private.ParsedNodes.{IsOfItems}
 use Rattle.wave_tree.specs.UntypedCall.{RefusesTuple}
 use Rattle.wave_tree.proofs.ParserSteps.{expected}
 use Rattle.wave_node.proofs.Parameters.{error_handed}

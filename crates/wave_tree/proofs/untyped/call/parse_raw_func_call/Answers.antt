@@ -1,6 +1,6 @@
 use Rattle.std.proofs.Common.{◌≡◌, ◌≢◌, ap, sym, subst, ◌∙◌}
 use Rattle.wave_lex.specs.declared.error.ParserErrorKind.TheVariants as because
-use Rattle.wave_lex.specs.Lexing.{Lexed, span}
+use Rattle.wave_lex.specs.Tokenization.{Lexed, span}
 use Rattle.wave_grammar.specs.ParserPosition.{Place}
 use Rattle.wave_tree.specs.ParserState.{Parsing, first_at}
 use Rattle.wave_tree.specs.UntypedCall.{AreParamsTaken, RefusesTuple, IsCalledOf, RefusesCall, behind_name}

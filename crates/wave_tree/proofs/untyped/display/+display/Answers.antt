@@ -3,14 +3,16 @@ use Rattle.std.specs.Prelude.{All}
 use Rattle.std.specs.Fmt.{HasWritten}
 use Rattle.std.proofs.lemmas.Grind.{put_three, put_four}
 use Rattle.std.proofs.Output.{has_written_of_eq}
-use Rattle.wave_wasm.specs.Commas.{enclosed, joined, behind_name, in_parens, in_braces}
+use Rattle.wave_wasm.specs.Private.Commas.{enclosed}
+use Rattle.wave_wasm.specs.Commas.{joined, behind_name, in_parens, in_braces}
 use Rattle.wave_wasm.specs.Keywords.{case_label}
 use Rattle.wave_grammar.specs.LeafTokens.{name_of}
 use Rattle.wave_node.specs.NodeAccessors.{node_text}
 use Rattle.wave_node.specs.NodeTree.{NodeTree, type_of}
 use Rattle.wave_node.specs.TypedReading.{IsValueOf}
 use Rattle.wave_node.specs.Nodes.{IsParsedFrom}
-use Rattle.wave_tree.specs.NodeDisplay.{shown_at, name_at, entries_at, fields_at, payload_at, AreEntriesOf}
+use Rattle.wave_tree.specs.NodeDisplay.{shown_at}
+use Rattle.wave_tree.specs.Private.NodeDisplay.{name_at, entries_at, fields_at, payload_at, AreEntriesOf}
 use Rattle.wave_node.specs.declared.ast.NodeType.TheVariants as kind
 use Rattle.wave_node.proofs.ChildNodes.Trees.{node_below}
 use Rattle.wave_grammar.proofs.JoinedTexts.{separator_more, joined_turn, all_joined, left, left_turn}

@@ -1,8 +1,8 @@
 use Rattle.std.proofs.Common.{◌≡◌, map}
 use Rattle.wave_wasm.specs.Lists.{AllOf}
-use Rattle.wave_wasm.specs.Shown.{named}
+use Rattle.wave_wasm.specs.Borrowed.{named}
 use Rattle.wave_wasm.specs.Types.{IsOwn}
-use Rattle.wave_type.specs.TypeView.{by_bytes}
+use Rattle.wave_type.specs.TypeModel.{by_bytes}
 use Rattle.wave_type.proofs.ty.Type.record.Given as goal
 
 abbrev pub invariant-loop-name : goal.invariant-loop-name

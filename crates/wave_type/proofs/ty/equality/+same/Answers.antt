@@ -1,7 +1,7 @@
 use Rattle.std.proofs.Common.{rules, arith, ◌∙◌, map}
-use Rattle.wave_type.specs.SameType.{same_fields, same_cases}
+use Rattle.wave_type.specs.TypeEquality.{same_fields, same_cases}
 use Rattle.wave_wasm.specs.Types.{fields_of, cases_of}
-use Rattle.wave_type.specs.TypeView.{by_bytes}
+use Rattle.wave_type.specs.TypeModel.{by_bytes}
 use Rattle.wave_type.proofs.TypeEqual.{types_apart, fields_apart, cases_apart, type_at, field_at, case_at}
 use Rattle.wave_type.proofs.ty.equality.+same.Goals as goal
 

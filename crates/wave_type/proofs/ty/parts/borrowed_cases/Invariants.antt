@@ -1,6 +1,6 @@
 use Rattle.std.proofs.Common.{◌≡◌, map, take}
-use Rattle.wave_type.specs.TypeView.{by_bytes}
-use Rattle.wave_wasm.specs.Shown.{shown_cases}
+use Rattle.wave_type.specs.TypeModel.{by_bytes}
+use Rattle.wave_wasm.specs.Borrowed.{shown_cases}
 use Rattle.wave_type.proofs.ty.parts.borrowed_cases.Given as goal
 
 abbrev pub invariant-loop-case : goal.invariant-loop-case

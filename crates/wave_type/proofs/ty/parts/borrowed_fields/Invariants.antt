@@ -1,6 +1,6 @@
 use Rattle.std.proofs.Common.{◌≡◌, map, take}
-use Rattle.wave_type.specs.TypeView.{by_bytes}
-use Rattle.wave_wasm.specs.Shown.{shown_fields}
+use Rattle.wave_type.specs.TypeModel.{by_bytes}
+use Rattle.wave_wasm.specs.Borrowed.{shown_fields}
 use Rattle.wave_type.proofs.ty.parts.borrowed_fields.Given as goal
 
 abbrev pub invariant-loop-field : goal.invariant-loop-field

@@ -1,5 +1,5 @@
 use Rattle.std.proofs.Common.{◌≡◌, take}
-use Rattle.wave_wasm.specs.Shown.{shown_all}
+use Rattle.wave_wasm.specs.Borrowed.{shown_all}
 use Rattle.wave_type.proofs.ty.parts.borrowed_types.Given as goal
 
 abbrev pub invariant-loop-ty : goal.invariant-loop-ty

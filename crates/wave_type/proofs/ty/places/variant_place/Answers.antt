@@ -1,6 +1,6 @@
 use Rattle.std.proofs.Common.{◌∙◌, sym}
 use Rattle.std.specs.Str.{bytes_eq}
-use Rattle.wave_type.specs.TypeView.{by_bytes}
+use Rattle.wave_type.specs.TypeModel.{by_bytes}
 use Rattle.wave_type.proofs.TypeLists.{position-map, case_list-cases_of}
 use Rattle.wave_type.proofs.ty.places.variant_place.Goals as goal
 

@@ -1,5 +1,5 @@
 use Rattle.std.proofs.Common.{subst}
-use Rattle.wave_value.specs.Taken.{Tells}
+use Rattle.wave_value.specs.Private.ConstructorRules.{Tells}
 use Rattle.wave_value.proofs.Made.{tells}
 use Rattle.wave_value.proofs.value.Value.is_at.Goals as goal
 

@@ -1,5 +1,5 @@
 use Rattle.std.proofs.Common.{take}
-use Rattle.wave_value.specs.ValueView.{AllAt}
+use Rattle.wave_value.specs.Private.ValueModel.{AllAt}
 use Rattle.wave_value.proofs.value.Value.list_of.Given as goal
 
 abbrev pub invariant-loop-val : goal.invariant-loop-val

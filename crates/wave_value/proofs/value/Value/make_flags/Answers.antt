@@ -1,4 +1,4 @@
-use Rattle.wave_wasm.specs.Shown.{texts}
+use Rattle.wave_wasm.specs.Borrowed.{texts}
 use Rattle.wave_value.proofs.MadeFlags.{flags_made}
 use Rattle.wave_value.proofs.value.Value.make_flags.Goals as goal
 

@@ -1,5 +1,5 @@
 use Rattle.std.proofs.Common.{take}
-use Rattle.wave_value.specs.ValueView.{EntriesAt}
+use Rattle.wave_value.specs.Private.ValueModel.{EntriesAt}
 use Rattle.wave_value.proofs.value.Value.map_of.Given as goal
 
 abbrev pub invariant-loop-entry : goal.invariant-loop-entry

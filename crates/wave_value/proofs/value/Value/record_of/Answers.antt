@@ -1,8 +1,8 @@
 use Rattle.std.proofs.Common.{map, sym, ap, ◌∙◌}
 use Rattle.std.proofs.lemmas.Result.{err_from_is_err_and}
-use Rattle.wave_wasm.specs.Shown.{named}
-use Rattle.wave_value.specs.Handed.{held}
-use Rattle.wave_type.specs.TypeView.{by_bytes, record_part}
+use Rattle.wave_wasm.specs.Borrowed.{named}
+use Rattle.wave_value.specs.Private.RecordConstructor.{held}
+use Rattle.wave_type.specs.TypeModel.{by_bytes, record_part}
 use Rattle.wave_value.proofs.MadeRecord.{record_fits, record_made, record_taken, record_refused}
 use Rattle.wave_value.proofs.value.Value.record_of.Goals as goal
 

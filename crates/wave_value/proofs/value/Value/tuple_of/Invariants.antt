@@ -1,5 +1,5 @@
 use Rattle.std.proofs.Common.{take}
-use Rattle.wave_value.specs.ValueView.{EachAt}
+use Rattle.wave_value.specs.Private.ValueModel.{EachAt}
 use Rattle.wave_value.proofs.value.Value.tuple_of.Given as goal
 
 abbrev pub invariant-loop-i : goal.invariant-loop-i

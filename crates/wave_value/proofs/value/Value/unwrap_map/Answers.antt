@@ -1,5 +1,5 @@
 use Rattle.std.proofs.Common.{subst, ◌∙◌}
-use Rattle.wave_value.specs.ValueView.{Fits}
+use Rattle.wave_value.specs.Private.ValueModel.{Fits}
 use Rattle.wave_value.proofs.ValueLists.{map_back}
 use Rattle.wave_value.proofs.value.Value.unwrap_map.Goals as goal
 

@@ -2,7 +2,7 @@ use Rattle.std.proofs.Common.{◌≡◌, map, drop}
 use Rattle.std.specs.Str.{bytes_eq}
 use Rattle.std.specs.Cmp.Lexicographic.{pointwise}
 use Rattle.wave_wasm.specs.Types.{flags_names}
-use Rattle.wave_value.specs.ValueView.{name_at}
+use Rattle.wave_value.specs.ValueModel.{name_at}
 use Rattle.wave_value.proofs.value.equality.same_flags.Given as goal
 
 abbrev pub invariant-loop-i : goal.invariant-loop-i

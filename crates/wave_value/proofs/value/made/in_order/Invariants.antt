@@ -1,6 +1,6 @@
 use Rattle.std.proofs.Common.{map, take}
-use Rattle.wave_value.specs.Handed.{held}
-use Rattle.wave_type.specs.TypeView.{by_bytes}
+use Rattle.wave_value.specs.Private.RecordConstructor.{held}
+use Rattle.wave_type.specs.TypeModel.{by_bytes}
 use Rattle.wave_value.proofs.MadeRecord.{Taking}
 use Rattle.wave_value.proofs.value.made.in_order.Given as goal
 

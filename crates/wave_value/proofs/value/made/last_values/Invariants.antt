@@ -1,6 +1,7 @@
 use Rattle.std.proofs.Common.{◌≡◌, ℕ, List}
-use Rattle.wave_wasm.specs.Shown.{named}
-use Rattle.wave_value.specs.Handed.{held, last_under}
+use Rattle.wave_wasm.specs.Borrowed.{named}
+use Rattle.wave_value.specs.Private.RecordConstructor.{held}
+use Rattle.wave_value.specs.RecordConstructor.{last_under}
 use Rattle.wave_value.proofs.value.made.last_values.Given as goal
 
 abbrev pub invariant-loop-name : goal.invariant-loop-name

@@ -1,5 +1,5 @@
 use Rattle.std.proofs.Common.{◌≡◌, map, take}
-use Rattle.wave_wasm.specs.Shown.{shown_pairs}
+use Rattle.wave_wasm.specs.Borrowed.{shown_pairs}
 use Rattle.wave_value.proofs.value.views.borrowed_entries.Given as goal
 
 abbrev pub invariant-loop-entry : goal.invariant-loop-entry

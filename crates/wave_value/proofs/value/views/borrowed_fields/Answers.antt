@@ -1,7 +1,7 @@
 use Rattle.std.proofs.Common.{arith, ◌∙◌, ap, List, [], ◌∷◌, ◌++◌, ℕ, ◌<◌, length}
 use Rattle.wave_wasm.specs.Types.{record_parts}
 use Rattle.wave_wasm.specs.Values.{Value}
-use Rattle.wave_value.specs.ValueView.{first_names}
+use Rattle.wave_value.specs.ValueModel.{first_names}
 use Rattle.wave_value.proofs.ValueLists.{map_push, fields_turn}
 use Rattle.wave_value.proofs.value.views.borrowed_fields.Goals as goal
 

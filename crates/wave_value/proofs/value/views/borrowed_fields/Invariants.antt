@@ -1,7 +1,7 @@
 use Rattle.std.proofs.Common.{◌≡◌, take}
 use Rattle.wave_wasm.specs.Types.{record_parts}
-use Rattle.wave_wasm.specs.Shown.{shown_fields}
-use Rattle.wave_value.specs.ValueView.{trees, beside, first_names}
+use Rattle.wave_wasm.specs.Borrowed.{shown_fields}
+use Rattle.wave_value.specs.ValueModel.{trees, beside, first_names}
 use Rattle.wave_value.proofs.value.views.borrowed_fields.Given as goal
 
 abbrev pub invariant-loop-i : goal.invariant-loop-i

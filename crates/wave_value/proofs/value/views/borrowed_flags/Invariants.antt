@@ -1,7 +1,7 @@
 use Rattle.std.proofs.Common.{◌≡◌, map, take}
 use Rattle.wave_wasm.specs.Types.{flags_names}
-use Rattle.wave_wasm.specs.Shown.{texts}
-use Rattle.wave_value.specs.ValueView.{name_at}
+use Rattle.wave_wasm.specs.Borrowed.{texts}
+use Rattle.wave_value.specs.ValueModel.{name_at}
 use Rattle.wave_value.proofs.value.views.borrowed_flags.Given as goal
 
 abbrev pub invariant-loop-place : goal.invariant-loop-place

@@ -1,6 +1,6 @@
 use Rattle.std.proofs.Common.{◌≡◌, take}
-use Rattle.wave_wasm.specs.Shown.{shown_all}
-use Rattle.wave_value.specs.ValueView.{trees}
+use Rattle.wave_wasm.specs.Borrowed.{shown_all}
+use Rattle.wave_value.specs.ValueModel.{trees}
 use Rattle.wave_value.proofs.value.views.borrowed_values.Given as goal
 
 abbrev pub invariant-loop-value : goal.invariant-loop-value

@@ -1,9 +1,11 @@
 use Rattle.std.proofs.Common.{arith, ℕ, List, ◌++◌, ap, ◌∙◌, Bor, codes, map, Option, append_assoc}
-use Rattle.wave_wasm.specs.Shown.{shown}
-use Rattle.wave_wasm.specs.Types.{TypeTree, depth, maybe_type}
+use Rattle.wave_wasm.specs.Borrowed.{shown}
+use Rattle.wave_wasm.specs.Types.{TypeTree, maybe_type}
+use Rattle.wave_wasm.specs.Private.Types.{depth}
 use Rattle.wave_wasm.specs.TypeText.{type_text, payload_text}
-use Rattle.wave_wasm.specs.Commas.{joined, comma_if}
-use Rattle.wave_wasm.proofs.Adding.{adding_none, adding_as, adding_more, adding_two, adding_start, adding_item}
+use Rattle.wave_wasm.specs.Commas.{joined}
+use Rattle.wave_wasm.specs.Private.Commas.{comma_if}
+use Rattle.wave_wasm.proofs.TextAppend.{adding_none, adding_as, adding_more, adding_two, adding_start, adding_item}
 use Rattle.wave_wasm.proofs.Sequence.{part_depth}
 use Rattle.wave_wasm.proofs.Trees.{map_map}
 use Rattle.wave_wasm.proofs.TypeTrees.{record_is, tuple_is, variant_is, field_text, field_depth, case_text, case_depth}

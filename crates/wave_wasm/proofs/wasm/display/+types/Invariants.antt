@@ -1,9 +1,10 @@
 use Rattle.std.proofs.Common.{◌++◌, ◌+◌, ◌*◌, map, drop, codes}
 use Rattle.std.specs.String.{string_bytes}
-use Rattle.wave_wasm.specs.Shown.{shown}
-use Rattle.wave_wasm.specs.Types.{depth, depth_of_maybe, maybe_type}
+use Rattle.wave_wasm.specs.Borrowed.{shown}
+use Rattle.wave_wasm.specs.Private.Types.{depth, depth_of_maybe}
+use Rattle.wave_wasm.specs.Types.{maybe_type}
 use Rattle.wave_wasm.specs.TypeText.{type_text}
-use Rattle.wave_wasm.proofs.Adding.{Adding}
+use Rattle.wave_wasm.proofs.TextAppend.{Adding}
 use Rattle.wave_wasm.proofs.Sequence.{parted}
 use Rattle.wave_wasm.proofs.TypeTrees.{field_text, case_text}
 use Rattle.wave_wasm.proofs.wasm.display.+types.Given as goal

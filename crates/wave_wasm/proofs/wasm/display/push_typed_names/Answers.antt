@@ -1,9 +1,10 @@
 use Rattle.std.proofs.Common.{ap, sym, codes, ◌++◌, Bor, arith}
-use Rattle.wave_wasm.specs.Shown.{texts, shown_all}
+use Rattle.wave_wasm.specs.Borrowed.{texts, shown_all}
 use Rattle.wave_wasm.specs.Types.{TypeTree}
-use Rattle.wave_wasm.specs.Commas.{comma_if}
-use Rattle.wave_wasm.specs.TypeText.{type_text, typed_names, name_part}
-use Rattle.wave_wasm.proofs.Adding.{adding_none, adding_as, adding_more, adding_two}
+use Rattle.wave_wasm.specs.Private.Commas.{comma_if}
+use Rattle.wave_wasm.specs.TypeText.{type_text, typed_names}
+use Rattle.wave_wasm.specs.Private.TypeText.{name_part}
+use Rattle.wave_wasm.proofs.TextAppend.{adding_none, adding_as, adding_more, adding_two}
 use Rattle.wave_wasm.proofs.Functions.{adding_typed}
 use Rattle.wave_wasm.proofs.Sequence.{parted_joined}
 use Rattle.wave_wasm.proofs.wasm.display.push_typed_names.Goals as goal

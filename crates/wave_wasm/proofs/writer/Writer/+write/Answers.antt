@@ -2,11 +2,14 @@ use Rattle.std.proofs.Common.{arith, ℕ, List, String, Global, [], ap, sym, ◌
 use Rattle.std.proofs.lemmas.Result.{err_from_is_err_and, IfErr-weaker}
 use Rattle.std.specs.List.{list_all}
 use Rattle.std.specs.String.{string_bytes}
-use Rattle.wave_wasm.specs.Merge.{with_key_texts}
-use Rattle.wave_wasm.specs.Commas.{enclosed, behind_name}
-use Rattle.wave_wasm.specs.Shown.{shown}
-use Rattle.wave_wasm.specs.Text.{text, has_text, payload_text}
-use Rattle.wave_wasm.specs.Values.{Value, depth}
+use Rattle.wave_wasm.specs.Private.Merge.{with_key_texts}
+use Rattle.wave_wasm.specs.Private.Commas.{enclosed}
+use Rattle.wave_wasm.specs.Commas.{behind_name}
+use Rattle.wave_wasm.specs.Borrowed.{shown}
+use Rattle.wave_wasm.specs.Text.{text, has_text}
+use Rattle.wave_wasm.specs.Private.Text.{payload_text}
+use Rattle.wave_wasm.specs.Values.{Value}
+use Rattle.wave_wasm.specs.Private.Values.{depth}
 use Rattle.wave_wasm.proofs.Writing.{writing_more, writing_refused, writing_refused_text, start_refused, start_written, writing_as, writing_none, refused_before, refused_grounded, refused_unsupported, writing_last, writing_last_text}
 use Rattle.wave_wasm.proofs.Sequence.{writing_start, writing_item, writing_close, item_blocks, item_passes, part_depth, all_at}
 use Rattle.wave_wasm.proofs.Trees.{map_map, all_map, list_sequence, tuple_sequence, record_is, variant_text, variant_writable, ok_text, err_text, no_text_of_kind}

@@ -1,4 +1,4 @@
-use Rattle.wave_wasm.specs.Shown.{texts}
+use Rattle.wave_wasm.specs.Borrowed.{texts}
 use Rattle.wave_value.proofs.MadeFlags.{known_more, name_refused}
 use Rattle.wave_value.proofs.value.made.cases.check_names.Goals as goal
 

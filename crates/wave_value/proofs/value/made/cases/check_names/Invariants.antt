@@ -1,6 +1,6 @@
 use Rattle.std.proofs.Common.{take}
 use Rattle.wave_wasm.specs.Names.{AreAllOf}
-use Rattle.wave_wasm.specs.Shown.{texts}
+use Rattle.wave_wasm.specs.Borrowed.{texts}
 use Rattle.wave_value.proofs.value.made.cases.check_names.Given as goal
 
 abbrev pub invariant-loop-name : goal.invariant-loop-name

@@ -1,5 +1,5 @@
 use Rattle.std.proofs.Common.{subst, sym}
-use Rattle.wave_wasm.specs.Shown.{texts}
+use Rattle.wave_wasm.specs.Borrowed.{texts}
 use Rattle.wave_value.proofs.MadeFlags.{PlacesSoFar, place_found, place_passed, places_end}
 use Rattle.wave_value.proofs.value.made.cases.places_of.Goals as goal
 

@@ -1,4 +1,4 @@
-use Rattle.wave_wasm.specs.Shown.{texts}
+use Rattle.wave_wasm.specs.Borrowed.{texts}
 use Rattle.wave_value.proofs.MadeFlags.{PlacesSoFar}
 use Rattle.wave_value.proofs.value.made.cases.places_of.Given as goal
 

@@ -1,4 +1,4 @@
-use Rattle.wave_value.specs.Taken.{own_text}
+use Rattle.wave_value.specs.ConstructorRules.{own_text}
 use Rattle.wave_value.proofs.LawfulCases.{full_map}
 use Rattle.wave_value.proofs.value.wasm_value.ValueWasmValue.make_map.Goals as goal
 

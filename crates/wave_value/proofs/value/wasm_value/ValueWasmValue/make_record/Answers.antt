@@ -1,9 +1,9 @@
 use Rattle.std.proofs.lemmas.Result.{IfErr-weaker}
-use Rattle.wave_wasm.specs.Makers.{FullRecord}
-use Rattle.wave_wasm.specs.Shown.{named}
-use Rattle.wave_value.specs.Built.{IsFull}
-use Rattle.wave_value.specs.Handed.{RefusesRecord}
-use Rattle.wave_value.specs.Taken.{own_text}
+use Rattle.wave_wasm.specs.ConstructorContracts.{FullRecord}
+use Rattle.wave_wasm.specs.Borrowed.{named}
+use Rattle.wave_value.specs.FullTypes.{IsFull}
+use Rattle.wave_value.specs.RecordConstructor.{RefusesRecord}
+use Rattle.wave_value.specs.ConstructorRules.{own_text}
 use Rattle.wave_value.specs.TypedValue.{IsAt}
 use Rattle.wave_value.proofs.LawfulRecord.{full_record}
 use Rattle.wave_value.proofs.value.wasm_value.ValueWasmValue.make_record.Goals as goal

@@ -1,0 +1,5 @@
+pub mod NumberText
+pub mod TokenRoles
+pub mod SyntaxErrors
+pub mod FlagOrder
+pub mod StringAssembly

@@ -1,0 +1,54 @@
+-- What reading a node at a type answers.
+use Rattle.std.specs.Prelude.{ℕ, ◌≡◌, ◌⊎◌, List, [], Option, Some, None, option_map, Result, MatchResult}
+use Rattle.wave_wasm.specs.Lists.{AllOf}
+use Rattle.wave_wasm.specs.Names.{AreDistinct}
+use Rattle.wave_wasm.specs.Types.{TypeTree, MaybeType, type_option, maybe_type, EachNamesOfMaybe}
+use Rattle.wave_wasm.specs.Values.{Value, maybe_value}
+use Rattle.wave_wasm.specs.ValueErrors.{Cause}
+use Rattle.wave_wasm.specs.ConstructorContracts.{PayloadIsOf, payload_and}
+use Rattle.wave_lex.specs.Errors.{refusal_of}
+use Rattle.wave_lex.specs.declared.error.ParserError.{ParserError}
+use Rattle.wave_lex.specs.declared.error.ParserErrorKind.TheVariants.{OutOfMemory, WasmValueError}
+use Rattle.wave_grammar.specs.SpannedTree.{MaybePlaced, no_placed, a_placed, maybe_of}
+use Rattle.wave_node.specs.NodeTree.{NodeTree, place_of}
+use Rattle.wave_node.specs.Nodes.{IsNodeOf}
+use Rattle.wave_grammar.specs.TypedGrammar.{IsFlat}
+use Rattle.wave_grammar.specs.Elaborates.{TreeReadsPayload}
+use Rattle.wave_grammar.specs.TypeErrors.{FaultOfPayload, RefusesFor}
+use Rattle.wave_node.specs.TypedReading.{IsBlamed}
+
+-- a refusal with this cause at the node, or for want of memory
+abbrev pub IsCaused : Cause → NodeTree → ParserError → Type 0
+IsCaused cause n e = (e.kind ≡ OutOfMemory) ⊎ RefusesFor cause (place_of n) (refusal_of e) e.span
+
+-- the node of a payload, where there is one
+abbrev pub IsPayloadNodeOf : List ℕ → Option NodeTree → MaybePlaced → Type 0
+IsPayloadNodeOf source None no_placed = Unit {0}
+IsPayloadNodeOf source (Some n) (a_placed t) = IsNodeOf source n t
+IsPayloadNodeOf source _ _ = ⊥
+
+-- so for some payload
+abbrev pub IsPayloadOf : List ℕ → Option NodeTree → Type 0
+IsPayloadOf source o = (payload : MaybePlaced) × IsPayloadNodeOf source o payload
+
+-- the payload's type, where there is one that is flat
+abbrev pub GivesFlat : Option TypeTree → Option TypeTree → Type 0
+GivesFlat payload (Some T) = (payload ≡ Some T) × IsFlat T
+GivesFlat payload None = (T : TypeTree) → payload ≡ Some T → IsFlat T → ⊥
+
+-- the type of a payload gives it the value, which is of the type; there is a value where there is a type
+pub record IsPayloadRead {V : Type 0} (tree : V → Value) (of : V → TypeTree → Type 0) (T : MaybeType) (payload : MaybePlaced) (v : Option V) : Type 0 where
+  pub reads : TreeReadsPayload T (maybe_of payload) (maybe_value (option_map tree v))
+  pub is_of : PayloadIsOf of (type_option T) v
+
+-- as `IsBlamed`, of the payload of the case of this name at the node
+abbrev pub IsPayloadBlamed : (TypeTree → Type 0) → List ℕ → MaybeType → NodeTree → MaybePlaced → ParserError → Type 0
+IsPayloadBlamed Full name T n payload e =
+    (e.kind ≡ OutOfMemory) ⊎ FaultOfPayload name T payload (place_of n) (refusal_of e) e.span ⊎ (e.kind ≡ WasmValueError) × (AllOf Full (payload_and T []) → ⊥)
+
+module _ {V : Type 0} (tree : V → Value) (of : V → TypeTree → Type 0) (Full : TypeTree → Type 0) where
+  -- the payload of the case of this name at its type, or a refusal of it
+  abbrev pub AnswersPayload : List ℕ → Option TypeTree → List ℕ → NodeTree → Option NodeTree → Result (Option V) ParserError → Type 0
+  AnswersPayload name T source n inner r =
+      (payload : MaybePlaced) → IsPayloadNodeOf source inner payload → EachNamesOfMaybe AreDistinct (maybe_type T)
+      → MatchResult r (IsPayloadRead tree of (maybe_type T) payload) (IsPayloadBlamed Full name (maybe_type T) n payload)

@@ -1,0 +1,6 @@
+pub mod ParsedNodes
+pub mod ParserState
+pub mod NodeDisplay
+pub mod UntypedCall
+pub mod CallEncoding
+pub mod UntypedEncoding

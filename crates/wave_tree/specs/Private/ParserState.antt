@@ -1,0 +1,50 @@
+-- What a parser is in a contract.
+use Rattle.std.specs.Prelude.{ℕ, ◌≡◌, ◌⊎◌, ◌+◌, ◌≤◌, true, List, [], ◌∷◌, codes, Option, Some, None, Result, Ok, Err}
+use Rattle.wave_wasm.specs.Names.{is_one_of}
+use Rattle.wave_lex.specs.declared.lex.Token as lex
+use Rattle.wave_lex.specs.declared.error.ParserError.{ParserError}
+use Rattle.wave_lex.specs.Tokenization.{Lexed, NextIs}
+use Rattle.wave_grammar.specs.Tree.{Word, leaf_word, none_word, some_word, ok_word, err_word, case_word}
+use Rattle.wave_grammar.specs.ParserPosition.{Place, TakesItem}
+use Rattle.wave_tree.specs.declared.ahead.Ahead.{Ahead}
+use Rattle.wave_tree.specs.declared.role.LabelRole as code
+use Rattle.wave_tree.specs.declared.role.LabelRole.TheVariants as word
+use Rattle.wave_tree.specs.ParserState.{Fails}
+
+-- how many items are at hand
+abbrev pub ahead_count : Option Ahead → ℕ
+ahead_count None = 0
+ahead_count (Some a) = 1
+
+-- what is at hand stands next
+abbrev pub IsAhead : Lexed → Option Ahead → Type 0
+IsAhead l None = Unit {0}
+IsAhead l (Some a) = NextIs l a.lexer a.item
+
+-- the next token was taken, or what stands next is no token
+abbrev pub Advances : Result lex.Token ParserError → Place → Place → Type 0
+Advances (Ok c) old new = TakesItem old (Some (Ok c)) new
+Advances (Err e) old new = Fails (λ _. Unit {0}) e old new
+
+-- the next token was taken, and is of this class; or what stands next is none of this class
+abbrev pub Expects : lex.Token → Result (Unit {0}) ParserError → Place → Place → Type 0
+Expects class (Ok u) old new = TakesItem old (Some (Ok class)) new
+Expects class (Err e) old new = Fails (λ c. c ≡ class) e old new
+
+-- what a word is in the untyped grammar
+abbrev pub spec_word : code.LabelRole → Word
+spec_word word.True = leaf_word
+spec_word word.False = leaf_word
+spec_word word.Number = leaf_word
+spec_word word.None = none_word
+spec_word word.Some = some_word
+spec_word word.Ok = ok_word
+spec_word word.Err = err_word
+spec_word word.Case = case_word
+
+-- the texts of the words of bools and numbers
+abbrev pub HasText : code.LabelRole → List ℕ → Type 0
+HasText word.True text = text ≡ codes "true"
+HasText word.False text = text ≡ codes "false"
+HasText word.Number text = is_one_of (codes "inf" ∷ codes "nan" ∷ []) text ≡ true
+HasText _ text = Unit {0}

@@ -1,0 +1,3 @@
+pub mod TypeModel
+pub mod TypeDepth
+pub mod LabelTest

@@ -1,0 +1,43 @@
+-- The tree that a `Type` stands for, and what holds of its shape.
+use Rattle.std.specs.Prelude.{ℕ, map, string_bytes}
+use Rattle.wave_wasm.specs.Types as type
+use Rattle.wave_wasm.specs.Types.{Simple, TypeTree, types_of, fields_of, cases_of, maybe_type, IsOwn}
+use Rattle.wave_type.specs.declared.ty.Shape.{Shape}
+use Rattle.wave_type.specs.declared.ty.Shape.TheVariants as shapes
+use Rattle.wave_type.specs.TypeModel.{by_bytes, simple_of}
+
+-- the simple type that the key of a map is; bool where it is none, which no map has
+abbrev pub simple_or_bool : TypeTree → Simple
+simple_or_bool (type.simple S) = S
+simple_or_bool _ = type.bool
+
+-- the tree of a shape
+abbrev pub shape_tree : Shape → TypeTree
+shape_tree (shapes.Simple S) = type.simple (simple_of S)
+shape_tree shapes.F32 = type.unreadable type.f32
+shape_tree shapes.F64 = type.unreadable type.f64
+shape_tree (shapes.List E) = type.list E.value
+shape_tree (shapes.FixedLengthList E n) = type.fixed E.value n
+shape_tree (shapes.Record fs) = type.record_type (fields_of (map by_bytes fs.value.items))
+shape_tree (shapes.Tuple Ts) = type.tuple (types_of Ts.value.items)
+shape_tree (shapes.Variant cs) = type.variant (cases_of (map by_bytes cs.value.items))
+shape_tree (shapes.Enum ns) = type.enum (map string_bytes ns.value.items)
+shape_tree (shapes.Option P) = type.option P.value
+shape_tree (shapes.Result r) = type.result (maybe_type r.value.0) (maybe_type r.value.1)
+shape_tree (shapes.Flags ns) = type.flags (map string_bytes ns.value.items)
+shape_tree (shapes.Map m) = type.map (simple_or_bool m.value.0) m.value.1
+
+-- values of the type are one token
+abbrev pub IsSimple : TypeTree → Type 0
+IsSimple (type.simple S) = Unit {0}
+IsSimple _ = ⊥
+
+-- the key of a map is of a simple type
+abbrev pub HasSimpleKey : Shape → Type 0
+HasSimpleKey (shapes.Map m) = IsSimple m.value.0
+HasSimpleKey _ = Unit {0}
+
+-- the shape is of a tree that a `Type` can have
+pub record IsSoundShape (shape : Shape) : Type 0 where
+  pub key : HasSimpleKey shape
+  pub own : IsOwn (shape_tree shape)

@@ -1,0 +1,6 @@
+pub mod ValueEncoding
+pub mod ValueModel
+pub mod ValueDepth
+pub mod ConstructorRules
+pub mod RecordConstructor
+pub mod CaseRules

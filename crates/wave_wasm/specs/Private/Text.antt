@@ -1,0 +1,20 @@
+-- The canonical text of a value.
+use Rattle.std.specs.Prelude.{ℕ, List, [], ◌∷◌, ◌++◌, Bool, true, false, ◌&&◌, ◌==◌, if◌then◌else◌, codes, Option, Some, None}
+use Rattle.std.specs.Fmt.{digits}
+use Rattle.wave_wasm.specs.Values.{Value}
+use Rattle.wave_wasm.specs.Commas.{in_parens}
+use Rattle.wave_wasm.specs.Text.{has_text, text}
+
+-- the escape of a scalar by its number: `\u{h}`, in lower-case digits without a leading zero
+abbrev pub number_escape : ℕ → List ℕ
+number_escape c = codes "\\u{" ++ (digits 16 false c ++ codes "}")
+
+-- the canonical text of a payload: `(a)`, or nothing
+abbrev pub payload_text : Option Value → List ℕ
+payload_text None = []
+payload_text (Some v) = in_parens (text v)
+
+-- the payload has a canonical text
+abbrev pub has_payload_text : Option Value → Bool
+has_payload_text None = true
+has_payload_text (Some v) = has_text v
