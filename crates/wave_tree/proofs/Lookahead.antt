@@ -1,5 +1,5 @@
 -- What is at hand is what stands next.
-use Rattle.std.proofs.Common.{◌≡◌, ◌↔◌, ◌+◌, Option, Some, None, Result, Ok, Err, refl, sym, subst, Bool}
+use Rattle.std.proofs.Common.{ℕ, List, ◌≡◌, ◌↔◌, ◌+◌, Option, Some, None, Result, Ok, Err, refl, sym, subst, Bool}
 use Rattle.std.specs.Prelude.{IsTrue, IfOk, IfErr}
 use Rattle.wave_lex.specs.declared.error.ParserError.{ParserError}
 use Rattle.wave_lex.specs.declared.error.ParserErrorKind.TheVariants as kind
@@ -7,8 +7,8 @@ use Rattle.wave_lex.specs.declared.lex.Token.{Token}
 use Rattle.wave_lex.specs.Tokenization.{Lexed, NextIs, span}
 use Rattle.wave_lex.proofs.Next.{next_one}
 use Rattle.wave_tree.specs.declared.ahead.Ahead.{Ahead}
-use Rattle.wave_grammar.specs.ParserPosition.{Place, TakesItem, IsSomething}
-use Rattle.wave_lex.specs.Errors.{Says}
+use Rattle.wave_grammar.specs.ParserPosition.{Place, Item, TakesItem, IsSomething}
+use Rattle.wave_lex.specs.Errors.{Says, LiesInText}
 use Rattle.wave_tree.specs.Private.ParserState.{IsAhead}
 use Rattle.wave_tree.specs.ParserState.{Finishes}
 
@@ -30,3 +30,15 @@ finish_at l p o a r (Ok u) e h f g k m =
 finish_at l p o a r (Err x) e h f g k (says, something) =
     let there : NextIs p.lexer a.lexer a.item = subst (λ z. NextIs z a.lexer a.item) (sym e) (subst (IsAhead l) f h) in
     subst (λ z. Finishes z p) (sym g) (record { lexer = a.lexer; taken = p.taken + 1 }, (a.item, something, (there, refl)), says)
+
+next_source : (l m : Lexed) (item : Item) → NextIs l m item → m.source ≡ l.source
+next_source l m None p = p.source
+next_source l m (Some (Ok c)) (g, k, p, t) = p.source
+next_source l m (Some (Err bad)) (g, k, p, u, e) = p.source
+
+-- the refusal of the item at hand lies in the source
+pub finish_within : (l : Lexed) (p : Place) (o : Option Ahead) (a : Ahead) (r q : Result (Unit {0}) ParserError) → p.lexer ≡ l → IsAhead l o → o ≡ Some a → r ≡ q →
+    IfErr q (λ e. LiesInText a.lexer.source e.span) → IfErr r (λ e. LiesInText p.lexer.source e.span)
+finish_within l p o a r q e h f g k =
+    let there : NextIs p.lexer a.lexer a.item = subst (λ z. NextIs z a.lexer a.item) (sym e) (subst (IsAhead l) f h) in
+    subst (λ z. IfErr z (λ x. LiesInText p.lexer.source x.span)) (sym g) (subst (λ (s : List ℕ). IfErr q (λ x. LiesInText s x.span)) (next_source p.lexer a.lexer a.item there) k)

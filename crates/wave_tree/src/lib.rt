@@ -23,7 +23,8 @@ mod role;
 pub mod untyped;
 
 /// The value of the type that the whole text means. A syntax fault of the value is answered before
-/// any fault of type, and a fault of type before `TrailingCharacters`.
+/// any fault of type, and a fault of type before `TrailingCharacters`. The span of a refusal is in
+/// byte places of the text; `OutOfMemory` is told at 0..0.
 pub fn from_str<V: WasmValue>(alloc: Global, ty: &V::Type, s: &str) -> Result<V, ParserError>
     ensures value { IfOk result (IsMeant V.tree V.is_of (V.Type.tree ty.now) s.now) }
     ensures refused { IfErr result (RefusesText V.is_full (V.Type.tree ty.now) s.now) }

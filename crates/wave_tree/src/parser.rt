@@ -29,9 +29,9 @@ ghost use Rattle.wave_tree.specs.ParserLaws.{LiesInSource};
 
 use crate::ahead::Ahead;
 use crate::ast::{Node, NodeType};
+use crate::role::{LabelRole, key_type, role_of};
 use crate::untyped::UntypedValue;
 pub use crate::untyped::parse_raw_func_call;
-use crate::role::{LabelRole, key_type, role_of};
 use std::alloc::Global;
 use std::collections::BTreeMap;
 use std::marker::Model;
@@ -52,10 +52,11 @@ fn is_token(item: &Option<Result<Token, Span>>, class: Token) -> bool
     }
 }
 
-/// The refusal of an item that is no end.
+/// The refusal of an item that is no end, at its span.
 fn trailing(item: &Option<Result<Token, Span>>, behind: &Lexer) -> Result<(), ParserError>
     ensures end { IfOk result (λ _. item.now ≡ None) }
     ensures refused { IfErr result (λ e. Says e kind.TrailingCharacters (span behind.now.start behind.now.end) None × IsSomething item.now) }
+    ensures within { IfErr result (λ e. LiesInText behind.now.source e.span) }
 {
     match item {
         None => Ok(()),
@@ -75,7 +76,8 @@ fn same(a: Token, b: Token) -> bool
     a == b
 }
 
-/// Reads values from a source, one after the other, and looks at most one item ahead.
+/// Reads values from a source, one after the other, and looks at most one item ahead. The spans of
+/// its refusals are byte places of the source.
 #[derive(Drop)]
 pub struct Parser<'source> {
     lexer: Lexer<'source>,
@@ -137,7 +139,7 @@ impl<'source> Parser<'source> {
     }
 
     /// Looks at the next item, which stays.
-    fn look(&mut self)
+    fn peek(&mut self)
         ensures stays { self.new.place ≡ self.old.place }
         ensures looks { self.new.ahead ≡ 1 }
     {
@@ -154,7 +156,7 @@ impl<'source> Parser<'source> {
         ensures answer { IsTrue result ↔ ((next : Place) × TakesItem self.old.place (Some (Ok class)) next) }
         ensures asks { asked self.new ≡ self.old.place.taken + 1 }
     {
-        self.look();
+        self.peek();
         match &self.ahead {
             Some(ahead) => is_token(&ahead.item, class),
             None => false,
@@ -229,7 +231,7 @@ impl<'source> Parser<'source> {
     }
 
     /// A second lexer that stands where the parser's does.
-    fn here(&self) -> Lexer<'source>
+    fn lexer_here(&self) -> Lexer<'source>
         ensures place { result ≡ self.now.place.lexer }
         ensures inside { LiesInSource self.now.place.lexer }
     {
@@ -244,19 +246,30 @@ impl<'source> Parser<'source> {
         self.lexer.remainder()
     }
 
-    /// Goes back to where the lexer stood, and refuses for want of memory there.
-    fn go_back(&mut self, lexer: Lexer<'source>) -> ParserError
-        ensures back { self.new.place.lexer ≡ lexer.entry }
-        ensures refusal { Says result kind.OutOfMemory (span_at self.new.place) None }
+    /// The refusal of what was read from `start` on: for want of memory the parser goes back to
+    /// there, and refuses there; any other error stays, and so does the parser.
+    fn refuse(&mut self, error: ParserError, start: Lexer<'source>) -> ParserError
+        ensures other { result.kind ≢ kind.OutOfMemory → (result ≡ error) × (self.new ≡ self.old) }
+        ensures memory { result.kind ≡ kind.OutOfMemory → (self.new.place.lexer ≡ start.entry) × Says result kind.OutOfMemory (span start.entry.start start.entry.end) None }
+        ensures within { (error.kind ≢ kind.OutOfMemory → LiesInText start.entry.source error.span) → LiesInText start.entry.source result.span }
         ensures asks { asked self.new ≡ asked self.old }
     {
-        self.lexer = lexer;
+        if !is_memory(error.kind()) {
+            return error;
+        }
+        let span = start.span();
+        self.lexer = start;
         self.ahead = None;
-        self.out_of_memory()
+        ParserError::new(ParserErrorKind::OutOfMemory, span)
     }
 
-    /// Reads a value without a type. After a value the parser stands behind it, after a refusal at
-    /// the end of the refusal's span; after want of memory it stands where it stood.
+    /// Reads a value of at most 100 levels without a type. After a value the parser stands behind
+    /// it, after a refusal at the end of the refusal's span. What is no token is `InvalidToken`, a
+    /// token that may not stand there `UnexpectedToken`, and a flag that was read before
+    /// `DuplicateFlag`, each at its span; the end is `UnexpectedEnd` at the empty span there, `()` is
+    /// `EmptyTuple` at both parentheses, and level 101 `NestingTooDeep` at the last token that was
+    /// taken. `OutOfMemory` is told at the last item before the value, and the parser stands where it
+    /// stood.
     pub fn parse_raw_value(&mut self, alloc: Global) -> Result<UntypedValue<'source>, ParserError>
         ensures value { Gives result 100 due.value [] self.old.place self.new.place [] }
         ensures tree { IfOk result (IsUntypedTaken self.old.place self.new.place) }
@@ -264,36 +277,31 @@ impl<'source> Parser<'source> {
         ensures memory { IfErr result (λ e. StaysWithout e self.old.place self.new.place) }
         ensures asks { Asks self.old self.new }
     {
-        let source = self.lexer.source();
-        let node = self.parse_whole(alloc)?;
-        Ok(UntypedValue::new(source, node))
+        let (node, start) = self.parse_whole(alloc)?;
+        Ok(UntypedValue::new(start.source(), node))
     }
 
-    /// Reads the node of a value.
-    fn parse_whole(&mut self, alloc: Global) -> Result<Node, ParserError>
+    /// Reads the node of a value. The lexer stands in front of it.
+    fn parse_whole(&mut self, alloc: Global) -> Result<(Node, Lexer<'source>), ParserError>
         ensures value { Gives result 100 due.value [] self.old.place self.new.place [] }
-        ensures tree { IfOk result (IsNodeTaken self.old.place self.new.place) }
+        ensures tree { IfOk result (λ read. IsNodeTaken self.old.place self.new.place read.0) }
+        ensures start { IfOk result (λ read. read.1 ≡ self.old.place.lexer) }
         ensures within { IfErr result (λ e. LiesInText self.old.place.lexer.source e.span) }
         ensures uncaused { IfErr result (λ e. e.kind ≢ kind.WasmValueError) }
         ensures memory { IfErr result (λ e. StaysWithout e self.old.place self.new.place) }
         ensures asks { Asks self.old self.new }
     {
-        let place = self.here();
+        let start = self.lexer_here();
         let _ = self.remainder();
         match self.parse_node(alloc, 100) {
-            Ok(node) => Ok(node),
-            Err(error) => {
-                if !is_memory(error.kind()) {
-                    return Err(error);
-                }
-                Err(self.go_back(place))
-            }
+            Ok(node) => Ok((node, start)),
+            Err(error) => Err(self.refuse(error, start)),
         }
     }
 
     /// Reads a value of the type. After a value the parser stands behind it, and so it does where
-    /// the type gives what was read no value; after any other refusal it stands at the end of the
-    /// refusal's span, and after want of memory where it stood.
+    /// the type gives what was read no value, which is refused at the node that has the fault; all
+    /// other refusals are those of `parse_raw_value`.
     pub fn parse_value<V: WasmValue>(
         &mut self,
         alloc: Global,
@@ -306,17 +314,10 @@ impl<'source> Parser<'source> {
         ensures memory { IfErr result (λ e. StaysWithout e self.old.place self.new.place) }
         ensures asks { Asks self.old self.new }
     {
-        let place = self.here();
-        let source = self.lexer.source();
-        let node = self.parse_whole(alloc)?;
-        match node.to_wasm_value(alloc, ty, source) {
+        let (node, start) = self.parse_whole(alloc)?;
+        match node.to_wasm_value(alloc, ty, start.source()) {
             Ok(value) => Ok(value),
-            Err(error) => {
-                if !is_memory(error.kind()) {
-                    return Err(error);
-                }
-                Err(self.go_back(place))
-            }
+            Err(error) => Err(self.refuse(error, start)),
         }
     }
 
@@ -328,8 +329,7 @@ impl<'source> Parser<'source> {
         ensures within { IfErr result (λ e. LiesInText self.old.place.lexer.source e.span) }
         ensures asks { asked self.new ≡ self.old.place.taken + 1 }
     {
-        let _ = self.here();
-        self.look();
+        self.peek();
         match &self.ahead {
             Some(ahead) => trailing(&ahead.item, &ahead.lexer),
             None => Ok(()),
@@ -343,7 +343,7 @@ impl<'source> Parser<'source> {
         ensures refused { IfErr result (λ e. e.kind ≢ kind.OutOfMemory → RefusesTuple e self.old.place self.new.place) }
         ensures within { IfErr result (λ e. LiesInText self.old.place.lexer.source e.span) }
     {
-        let place = self.here();
+        let start = self.lexer_here();
         let _ = self.remainder();
         self.expect(Token::ParenOpen)?;
         if self.next_is(Token::ParenClose) {
@@ -352,12 +352,7 @@ impl<'source> Parser<'source> {
         }
         match self.parse_items(alloc, 100, Token::ParenClose) {
             Ok(tuple) => Ok(Some(tuple)),
-            Err(error) => {
-                if !is_memory(error.kind()) {
-                    return Err(error);
-                }
-                Err(self.go_back(place))
-            }
+            Err(error) => Err(self.refuse(error, start)),
         }
     }
 
@@ -403,8 +398,18 @@ impl<'source> Parser<'source> {
                 self.expect(Token::ParenOpen)?;
                 self.parse_payload(alloc, levels, NodeType::OptionSome, start, Vec::new(alloc))
             }
-            LabelRole::Ok => self.parse_maybe(alloc, levels, NodeType::ResultOk, NodeType::ResultOk),
-            LabelRole::Err => self.parse_maybe(alloc, levels, NodeType::ResultErr, NodeType::ResultErr),
+            LabelRole::Ok => self.parse_maybe(
+                alloc,
+                levels,
+                NodeType::ResultOk,
+                NodeType::ResultOk,
+            ),
+            LabelRole::Err => self.parse_maybe(
+                alloc,
+                levels,
+                NodeType::ResultErr,
+                NodeType::ResultErr,
+            ),
             LabelRole::Case => self.parse_maybe(
                 alloc,
                 levels,

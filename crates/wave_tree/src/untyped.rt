@@ -17,7 +17,8 @@ use wave_wasm::wasm::WasmValue;
 mod call;
 mod display;
 
-/// A value that was parsed without a type: its source, and the node of its tree.
+/// A value that was parsed without a type: its source, and the node of its tree, whose spans are byte
+/// places of the source.
 #[derive(Debug, Drop)]
 pub struct UntypedValue<'source> {
     source: CowStr<'source, Global>,
@@ -51,8 +52,9 @@ impl<'source> UntypedValue<'source> {
         }
     }
 
-    /// The value that the whole text spells. What is no value is refused at its span, and what
-    /// follows a value as `TrailingCharacters` at the span of the next token.
+    /// The value that the whole text spells. What is no value is refused as by
+    /// `Parser::parse_raw_value`, and what follows a value as `TrailingCharacters` at the span of the
+    /// next token. Spans are byte places of the text.
     pub fn parse(alloc: Global, source: &'source str) -> Result<UntypedValue<'source>, ParserError>
         ensures value { IfOk result (IsUntypedOf source.now) }
         ensures refused { IfErr result (RefusesTree source.now) }
@@ -104,7 +106,8 @@ impl<'source> UntypedValue<'source> {
         &self.node
     }
 
-    /// The value that the type gives the untyped one, or a refusal, as of its node.
+    /// The value that the type gives the untyped one, as by `Node::to_wasm_value`. Else the refusal
+    /// stands at the node that has the fault, in byte places of the source.
     pub fn to_wasm_value<V: WasmValue>(&self, alloc: Global, ty: &V::Type) -> Result<V, ParserError>
         ensures answer { typed.ReadsAtType V.tree V.is_of V.is_full (V.Type.tree ty.now) self.now.source self.now.node result }
         ensures within { IfErr result (StandsIn self.now.node) }

@@ -1,5 +1,5 @@
 -- The spans of refusals lie in the text.
-use Rattle.std.proofs.Common.{ℕ, ◌≡◌, ◌≢◌, Option, inl, inr, ◌≤◌, List, [], ◌∷◌, length, drop, length-drop, Some, None, Result, Ok, Err, IfErr, sym, ap, ◌∙◌, subst, arith}
+use Rattle.std.proofs.Common.{ℕ, ◌≡◌, ◌≢◌, Option, inl, inr, ◌≤◌, List, [], ◌∷◌, length, drop, length-drop, Some, None, Ok, Err, sym, ap, ◌∙◌, subst, arith}
 use Rattle.std.specs.declared.ops.Range.{Range}
 use Rattle.wave_lex.specs.declared.error.ParserError.{ParserError}
 use Rattle.wave_lex.specs.declared.error.ParserErrorKind.{ParserErrorKind}
@@ -13,7 +13,7 @@ use Rattle.wave_grammar.specs.Token.{Token}
 use Rattle.wave_grammar.specs.ParserPosition.{Place, Item, TakesTokens, span_at}
 use Rattle.wave_grammar.specs.PrefixAutomaton.{Due, Form, value, first_item, tuple}
 use Rattle.wave_grammar.specs.SyntaxErrors.{StandsAt, IsSyntaxError}
-use Rattle.wave_tree.specs.ParserState.{Fails, IsTrailing, Finishes}
+use Rattle.wave_tree.specs.ParserState.{Fails, IsTrailing}
 use Rattle.wave_node.specs.NodeTree.{NodeTree}
 use Rattle.wave_tree.specs.UntypedCall.{RefusesTuple, AreParamsTaken, NameFault, behind_name}
 use Rattle.wave_tree.specs.ParserLaws.{LiesInSource, RefusalsLieInText}
@@ -126,12 +126,3 @@ behind_params_lies s k q o e named taken trails =
 -- the last item of a lexer lies in its source
 pub lexer_inside : (l : Lexed) → Stands l.source l.start l.end → LiesInSource l
 lexer_inside l h = (h.ordered, h.last.0)
-
--- want of memory that is told where the lexer stood lies in the source
-pub memory_lies : (e : ParserError) (l : Lexed) (q : Place) → LiesInSource l → q.lexer ≡ l → e.span ≡ span_at q → LiesInText l.source e.span
-memory_lies e l q i same stands = subst (LiesInText l.source) (sym (stands ∙ ap (λ (m : Lexed). span m.start m.end) same)) i
-
--- what `finish` refuses lies in the source
-pub finishes_lie : (r : Result (Unit {0}) ParserError) (p : Place) → LiesInSource p.lexer → Finishes r p → IfErr r (λ e. LiesInText p.lexer.source e.span)
-finishes_lie (Ok u) p i h = tt
-finishes_lie (Err e) p i h = refusals_lie e p i (inr h)

@@ -23,9 +23,11 @@ use wave_lex::lex::{FuncNameLexer, Span};
 use wave_node::params::omitted_params;
 use wave_wasm::wasm::WasmValue;
 
-/// The call that the whole text is: a function name at its start, and parameters in parentheses. A
-/// text that begins with no name is `InvalidToken` at its first scalar; what is no parameters is
-/// refused at its span, and what follows them as `TrailingCharacters`.
+/// The call that the whole text is: a function name at its start, and parameters in parentheses, each
+/// of at most 100 levels. The empty text is `UnexpectedEnd` at 0..0, and one that begins with no name
+/// `InvalidToken` at its first scalar; what is no parameters is refused as by
+/// `Parser::parse_raw_value`, and what follows them as `TrailingCharacters` at the span of the next
+/// token. Spans are byte places of the text.
 pub fn parse_raw_func_call<'source>(
     alloc: Global,
     source: &'source str,

@@ -8,9 +8,9 @@ use Rattle.wave_tree.proofs.parser.Parser.next_is.Goals.{in-Some, in-None}
 
 pub returns-clause-answer : goal.returns-clause-answer
 returns-clause-answer c =
-    let here : c.args.self.now.place.lexer ≡ c.self.inside.lexer = sym (ap (λ (z : Parsing). z.place.lexer) c.self.view_is ∙ ap (λ (z : Place). z.lexer) c.look.ensures.stays) in
+    let here : c.args.self.now.place.lexer ≡ c.self.inside.lexer = sym (ap (λ (z : Parsing). z.place.lexer) c.self.view_is ∙ ap (λ (z : Place). z.lexer) c.peek.ensures.stays) in
     elim c.match-self.branch [
       | in-Some w ↦ at_hand _ _ _ w.in-Some.ahead _ w.is_token.result _ here c.self.invariant.0 w.in-Some.is w.is_token.ensures w.result-is
-      | in-None w ↦ let one : ahead_count c.self.inside.ahead ≡ 1 = ap (λ (z : Parsing). z.ahead) c.self.view_is ∙ c.look.ensures.looks in
+      | in-None w ↦ let one : ahead_count c.self.inside.ahead ≡ 1 = ap (λ (z : Parsing). z.ahead) c.self.view_is ∙ c.peek.ensures.looks in
           let none : ahead_count c.self.inside.ahead ≡ 0 = ap ahead_count w.in-None.is in absurd (omega arith)
     ]

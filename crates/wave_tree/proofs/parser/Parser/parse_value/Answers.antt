@@ -1,24 +1,54 @@
-use Rattle.std.proofs.Common.{List, ℕ, sym, ap, subst, ◌∙◌}
-use Rattle.wave_lex.specs.Errors.{Refusal}
+use Rattle.std.proofs.Common.{List, ℕ, ◌≡◌, ◌≢◌, inl, inr, [], rules, sym, ap, subst, ◌∙◌}
+use Rattle.std.specs.Prelude.{◌⊎◌}
+use Rattle.wave_lex.specs.declared.error.ParserError.{ParserError}
+use Rattle.wave_lex.specs.declared.error.ParserErrorKind.TheVariants as because
 use Rattle.wave_lex.specs.Errors.{LiesInText}
-use Rattle.wave_tree.specs.ParserState.{Parsing}
-use Rattle.wave_tree.specs.FromStr.{IsCausedBetween}
+use Rattle.wave_lex.specs.Tokenization.{Lexed}
+use Rattle.wave_grammar.specs.PrefixAutomaton.{value}
+use Rattle.wave_grammar.specs.SyntaxErrors.{IsSyntaxError}
+use Rattle.wave_node.specs.Nodes.{IsNodeOf}
 use Rattle.wave_node.proofs.Parameters.{error_handed}
-use Rattle.wave_tree.proofs.ErrorSpans.Syntax.{memory_lies}
+use Rattle.wave_tree.specs.ParserState.{Parsing}
+use Rattle.wave_tree.specs.FromStr.{IsCausedBetween, IsTypeRefused}
+use Rattle.wave_tree.specs.ParsedNodes.{IsNodeTaken}
+use Rattle.wave_node.specs.ErrorSpans.{IsCausedIn}
 use Rattle.wave_tree.proofs.parser.Parser.parse_value.Goals as goal
 
 pub returns-in_err-node-clause-caused : goal.returns-in_err-node-clause-caused
 returns-in_err-node-clause-caused g c =
     error_handed (IsCausedBetween c.args.self.now.place c.parse_whole.new.self.place) c.from_residual.result c.in_err-node.field-0.0 c.from_residual.ensures.1 (λ was. absurd (c.in_err-node.ensures.uncaused was))
 
-pub returns-then-not-is_memory-clause-within : goal.returns-then-not-is_memory-clause-within
-returns-then-not-is_memory-clause-within g c = subst (λ (s : List ℕ). LiesInText s c.in-Err.error.span) (c.source-source.ensures ∙ ap (λ (z : Parsing). z.place.lexer.source) c.self.view_is) c.in-Err.ensures.in_text
-
-pub returns-then-not-is_memory-clause-caused : goal.returns-then-not-is_memory-clause-caused
-returns-then-not-is_memory-clause-caused g c = λ was. (c.in_ok-node.node, c.in_ok-node.ensures.tree, c.in-Err.ensures.within.caused was)
+pub returns-clause-refused : goal.returns-clause-refused
+returns-clause-refused g c = λ apart.
+    let back = c.refuse.ensures.other apart in
+    let kind_is : c.refuse.result.kind ≡ c.in-Err.error.kind = ap (λ (e : ParserError). e.kind) back.0 in
+    let T = g.V.Type.WasmType.tree c.args.ty.now in
+    let text : c.source.result.now ≡ c.args.self.now.place.lexer.source = c.source.ensures ∙ ap (λ (l : Lexed). l.source) c.in_ok-node.ensures.start in
+    let taken = c.in_ok-node.ensures.tree in
+    let there : IsSyntaxError c.in-Err.error 100 value [] c.args.self.now.place c.parse_whole.new.self.place ⊎ IsTypeRefused g.V.WasmValue.is_full T c.in-Err.error c.args.self.now.place c.parse_whole.new.self.place = inr (record {
+      read = c.in_ok-node.ensures.value;
+      placed = taken.placed;
+      taken = taken.taken;
+      stands = taken.stands;
+      spelled = taken.is_node.1;
+      blames = λ distinct. elim (c.in-Err.ensures.answer taken.placed (subst (λ (s : List ℕ). IsNodeOf s c.in_ok-node.node taken.placed) (sym text) taken.is_node) distinct) [
+        | inl memory ↦ absurd (apart (kind_is ∙ memory))
+        | inr other ↦ other
+      ];
+    }) in
+    subst (λ (e : ParserError). IsSyntaxError e 100 value [] c.args.self.now.place c.refuse.new.self.place ⊎ IsTypeRefused g.V.WasmValue.is_full T e c.args.self.now.place c.refuse.new.self.place) (sym back.0)
+    (subst (λ (p : Parsing). IsSyntaxError c.in-Err.error 100 value [] c.args.self.now.place p.place ⊎ IsTypeRefused g.V.WasmValue.is_full T c.in-Err.error c.args.self.now.place p.place) (sym back.1) there)
 
 pub returns-clause-within : goal.returns-clause-within
-returns-clause-within g c = memory_lies c.go_back.result c.args.self.now.place.lexer c.go_back.new.self.place c.here-place.ensures.inside (c.go_back.ensures.back ∙ c.here-place.ensures.place) c.go_back.ensures.refusal.stands
+returns-clause-within g c =
+    subst (λ (l : Lexed). LiesInText l.source c.refuse.result.span) c.in_ok-node.ensures.start (c.refuse.ensures.within (λ apart.
+    subst (λ (s : List ℕ). LiesInText s c.in-Err.error.span) c.source.ensures c.in-Err.ensures.in_text))
 
 pub returns-clause-caused : goal.returns-clause-caused
-returns-clause-caused g c = λ was. absurd (cc (sym (ap (λ (r : Refusal). r.kind) c.go_back.ensures.refusal.is) ∙ was))
+returns-clause-caused g c = λ was.
+    let apart : c.refuse.result.kind ≢ because.OutOfMemory = λ m. cc in
+    let back = c.refuse.ensures.other apart in (
+      c.in_ok-node.node,
+      subst (λ (p : Parsing). IsNodeTaken c.args.self.now.place p.place c.in_ok-node.node) (sym back.1) c.in_ok-node.ensures.tree,
+      subst (λ (e : ParserError). IsCausedIn c.in_ok-node.node e) (sym back.0) (c.in-Err.ensures.within.caused (ap (λ (e : ParserError). e.kind) (sym back.0) ∙ was)),
+    )
