@@ -27,9 +27,9 @@ use wave_lex::error::ParserError;
 pub mod laws;
 pub mod value;
 
+pub use wave_grammar::number::WholeNumber;
 pub use wave_lex::asked::Asked;
 pub use wave_lex::{lex, strings};
-pub use wave_grammar::number::WholeNumber;
 pub use wave_tree::{ast, parser, untyped};
 pub use wave_wasm::{wasm, writer};
 

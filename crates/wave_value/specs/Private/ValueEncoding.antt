@@ -8,7 +8,7 @@ use Rattle.wave_wasm.specs.TypeTreeEncoding.{stored, stored_name}
 use Rattle.wave_wasm.specs.Private.TypeTreeEncoding.{tree_code}
 use Rattle.wave_wasm.specs.Values.{Value}
 use Rattle.wave_value.specs.TypedValue.{TypedValue}
-use Rattle.wave_value.specs.ValueEncoding.{name_back, name_in, value_apart}
+use Rattle.wave_value.specs.ValueEncoding.{name_back, name_in, stored_value, value_apart}
 
 -- two names that are stored alike are one
 pub name_apart : (m n : List ℕ) → stored_name m ≡ stored_name n → m ≡ n
