@@ -19,7 +19,7 @@ loop-field-preserved g c =
 
 pub returns-in-Some-first_key_value-clause-refused : goal.returns-in-Some-first_key_value-clause-refused
 returns-in-Some-first_key_value-clause-refused g c =
-    unknown_refused g.S.ShowsValue.words c.deref-field-items.result.now _ c.loop-field.field-index (held c.args.given) (held c.loop-field.given) c.loop-field.vals.items c.in-Some-first_key_value.name.now.now c.in-Some-first_key_value.field-0-1.now _ c.deref-field-items.ensures.value c.loop-field-test.false c.loop-field.invariant c.in-Some-first_key_value.ensures.value c.named.ensures
+    unknown_refused g.S.ShowsValue.words c.deref-field-items.result.now _ c.loop-field.field-index (held c.args.given) (held c.loop-field.given) c.loop-field.vals.items c.in-Some-first_key_value.name.now.now c.in-Some-first_key_value.field-0-1.now _ c.deref-field-items.ensures.value c.loop-field-test.false c.loop-field.invariant c.in-Some-first_key_value.ensures.value c.named-in-Some-first_key_value.ensures
 
 pub returns-clause-given : goal.returns-clause-given
 returns-clause-given g c =
