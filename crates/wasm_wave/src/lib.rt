@@ -1,7 +1,7 @@
 //! Component values, their types and their text: reading and writing, by the crates below.
 #![tactic(auto)]
 
-ghost use Rattle.std.specs.Prelude.{◌≡◌, None, IfOk, IfErr};
+ghost use Rattle.std.specs.Prelude.{◌≡◌, None, IfOk, IfErr, OnOk, true};
 ghost use Rattle.std.specs.String.{string_bytes};
 ghost use Rattle.wave_wasm.specs.Text.{text, has_text};
 ghost use Rattle.wave_wasm.specs.WriterState.{IsGrounded, IsForMemory};
@@ -55,14 +55,15 @@ pub fn from_str<V: WasmValue>(alloc: Global, ty: &V::Type, s: &str) -> Result<V,
     wave_tree::from_str::<V>(alloc, ty, s)
 }
 
-/// The canonical text of the value; `UnsupportedType` is answered only where it has none, `Io`
-/// never, and a value of a type is refused for want of memory alone: every `Value` is one of its own
+/// The canonical text of the value, which then has one; `UnsupportedType` is answered only where it
+/// has none, `Io` never, and a value of a type is refused for want of memory alone: every `Value` is one of its own
 /// type (`Value::ty`). Of a type whose names are distinct labels, another value has the same text
 /// exactly where the two are equal, merged. Where the type's tree is also one that `Type` has, the
 /// text is read back as the value, merged, within its own levels, so by `from_str` where these are at
 /// most 100; and it has at most twice the levels of any text that is read as the value.
 pub fn to_string<V: WasmValue>(alloc: Global, val: &V) -> Result<String, WriterError>
     ensures text { IfOk result (λ s. string_bytes s ≡ text (V.tree val.now)) }
+    ensures writable { OnOk result (has_text (V.tree val.now) ≡ true) }
     ensures grounded { IfErr result (λ e. IsGrounded e (has_text (V.tree val.now)) 0 0) }
     ensures memory { IfErr result (IsForMemory (V.tree val.now)) }
     ensures equal { (T : TypeTree) → Good T → HasType T (V.tree val.now) → IsToldByText T (V.tree val.now) }

@@ -6,6 +6,7 @@ ghost use Rattle.wave_lex.specs.Errors.{plainly, refused_by, kept, refusal_of, d
 
 use crate::lex::Span;
 use std::fmt;
+use thiserror::Error;
 use wave_wasm::wasm::WasmValueError;
 
 /// What kind of refusal it is.
@@ -92,7 +93,7 @@ pub enum Detail {
 
 /// A refusal of a text: its kind, the bytes of the source where it arose, and perhaps a detail or
 /// the error of the value that could not be made.
-#[derive(Debug, Drop)]
+#[derive(Debug, Drop, Error)]
 pub struct ParserError {
     kind: ParserErrorKind,
     span: Span,
@@ -208,10 +209,6 @@ impl fmt::Display for ParserError {
         }
     }
 }
-
-impl std::error::Error for ParserErrorKind {}
-
-impl std::error::Error for ParserError {}
 
 impl From<ParserError> for fmt::Error {
     ghost use Rattle.std.specs.Prelude.{◌≡◌};

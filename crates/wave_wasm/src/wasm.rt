@@ -6,6 +6,7 @@ pub use display::{DisplayFunc, DisplayFuncArgs, DisplayFuncResults, DisplayType,
 pub use func::WasmFunc;
 use std::alloc::{AllocError, AllocFailed, Global};
 use std::fmt;
+use thiserror::Error;
 
 /// The kind of a type or value. `F32`, `F64` and `Unsupported` are the kinds that have no text.
 #[derive(Clone, Copy, Debug, PartialEq, Eq)]
@@ -109,7 +110,7 @@ impl fmt::Display for WasmTypeKind {
 
 /// Why a value can't be made. Names are those that were handed in; types and values are shown by
 /// their texts.
-#[derive(Debug, Drop)]
+#[derive(Debug, Drop, Error)]
 pub enum WasmValueError {
     /// The field of this name is missing.
     MissingField(String),
@@ -165,8 +166,6 @@ impl fmt::Display for WasmValueError {
         }
     }
 }
-
-impl std::error::Error for WasmValueError {}
 
 impl From<AllocError> for WasmValueError {
     ghost use Rattle.std.specs.Prelude.{◌≡◌};

@@ -5,10 +5,11 @@ use itoa::{Buffer, Integer};
 use std::alloc::{AllocError, AllocFailed, Global};
 use std::collections::BTreeMap;
 use std::fmt;
+use thiserror::Error;
 use unicode::properties::GeneralCategory;
 
 /// Why a value isn't written.
-#[derive(Debug, Drop)]
+#[derive(Debug, Drop, Error)]
 pub enum WriterError {
     /// The text wasn't taken.
     Io(fmt::Error),
@@ -31,8 +32,6 @@ impl fmt::Display for WriterError {
         }
     }
 }
-
-impl std::error::Error for WriterError {}
 
 impl From<fmt::Error> for WriterError {
     ghost use Rattle.std.specs.Prelude.{◌≡◌};
@@ -121,9 +120,10 @@ impl<W: TextWrite> Writer<W> {
         Writer { out }
     }
 
-    /// What the text goes into.
+    /// What the text goes into, as it is now; what is done to it is done to the writer's.
     pub fn as_mut(&mut self) -> &mut W
-        ensures* { sem 𝓛 (Lends (the_row W.row) W.row self.entry result (λ w. record { out = w })) }
+        ensures now { result.now ≡ self.old.out }
+        ensures* lends { sem 𝓛 (Lends (the_row W.row) W.row self.entry result (λ w. record { out = w })) }
     {
         &mut self.out
     }

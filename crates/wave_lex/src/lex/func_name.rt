@@ -41,7 +41,8 @@ impl<'source> FuncNameLexer<'source> {
     /// Where the last item stands, in bytes of the source; behind the last one the empty span at
     /// the end.
     pub fn span(&self) -> Span
-        ensures { result ≡ span self.now.start self.now.end }
+        ensures span { result ≡ span self.now.start self.now.end }
+        ensures stands { Stands self.now.source self.now.start self.now.end }
     {
         self.start..self.end
     }
