@@ -1,8 +1,8 @@
 -- A type tree as a value that can be stored, by which two trees are told apart.
 use Rattle.std.specs.Prelude.{◌≡◌, ℕ, List, [], ◌∷◌, refl, slice_index_or}
 use Rattle.std.proofs.Common.{sym, ap, ◌∙◌}
-use base.Stored.{Gv, gnil, gnum, gcons, num}
-use Rattle.wave_wasm.specs.Types.{s8, s16, s32, s64, u8, u16, u32, u64, Simple, bool, whole, char, string, Unreadable, f32, f64, unsupported, simple}
+use base.Stored.{Gv, gnil, gnum, gcons}
+use Rattle.wave_wasm.specs.Types.{s8, s16, s32, s64, u8, u16, u32, u64, Simple, bool, whole, char, string, Unreadable, f32, f64, unsupported}
 
 -- the number of a simple type
 abbrev pub simple_number : Simple → ℕ

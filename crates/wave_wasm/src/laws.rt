@@ -1,5 +1,5 @@
 //! Laws of the definitions.
-ghost use Rattle.wave_wasm.specs.Laws.{KeyTextInjective, MergesToLastValues};
+ghost use Rattle.wave_wasm.specs.Laws.{KeyTextInjective, ComparesKeys, MergesToLastValues};
 
 /// Keys of one type that have one text are equal.
 pub fn key_text_injective()
@@ -7,7 +7,8 @@ pub fn key_text_injective()
 {}
 
 /// Merging leaves the distinct keys in the order of their first places, each with the value of its
-/// last place.
+/// last place; keys are compared by what they are.
 pub fn merging_keeps_last_values()
-    ensures { MergesToLastValues }
+    ensures keys { ComparesKeys }
+    ensures merged { MergesToLastValues }
 {}

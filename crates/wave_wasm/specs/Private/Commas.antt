@@ -1,5 +1,5 @@
 -- Texts with commas between.
-use Rattle.std.specs.Prelude.{ℕ, Bool, if◌then◌else◌, List, [], ◌∷◌, ◌++◌, codes}
+use Rattle.std.specs.Prelude.{ℕ, Bool, if◌then◌else◌, List, [], ◌++◌, codes}
 use Rattle.wave_wasm.specs.Commas.{joined}
 
 -- a comma where an item stands before

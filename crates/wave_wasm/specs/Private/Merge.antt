@@ -1,6 +1,5 @@
 -- Merging: the distinct keys in the order of their first places, each with the value of its last place.
-use Rattle.std.specs.Prelude.{ℕ, ◌≡◌, ◌&&◌, if◌then◌else◌, List, [], ◌∷◌, map}
-use Rattle.wave_wasm.specs.Values.{entries}
+use Rattle.std.specs.Prelude.{ℕ, List, map}
 
 -- the entries, each with the text of its key in place of the key
 abbrev pub with_key_texts : {K V : Type 0} → (K → List ℕ) → List (K × V) → List (List ℕ × V)

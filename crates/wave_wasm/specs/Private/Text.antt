@@ -1,5 +1,5 @@
 -- The canonical text of a value.
-use Rattle.std.specs.Prelude.{ℕ, List, [], ◌∷◌, ◌++◌, Bool, true, false, ◌&&◌, ◌==◌, if◌then◌else◌, codes, Option, Some, None}
+use Rattle.std.specs.Prelude.{ℕ, List, [], ◌++◌, Bool, true, false, codes, Option, Some, None}
 use Rattle.std.specs.Fmt.{digits}
 use Rattle.wave_wasm.specs.Values.{Value}
 use Rattle.wave_wasm.specs.Commas.{in_parens}

@@ -1,5 +1,5 @@
 -- The text of a type and of a function.
-use Rattle.std.specs.Prelude.{ℕ, zero, suc, ◌≡◌, ◌⊎◌, List, [], ◌∷◌, ◌++◌, codes}
+use Rattle.std.specs.Prelude.{ℕ, zero, suc, List, [], ◌∷◌, ◌++◌, codes}
 
 -- the name at this place and `: `, or nothing where there is none
 abbrev pub name_part : List (List ℕ) → ℕ → List ℕ

@@ -1,5 +1,5 @@
 -- What a writer of text took, and what its answers say.
-use Rattle.std.specs.Prelude.{Result, OnOk, IfErr, ℕ, ◌≡◌, ◌+◌, ◌-◌, ◌^◌, ◌<◌, ◌⊎◌, List, ◌++◌, Bool}
+use Rattle.std.specs.Prelude.{Result, OnOk, IfErr, ℕ, List, Bool}
 use Rattle.wave_wasm.specs.declared.writer.WriterError.{WriterError}
 use Rattle.wave_wasm.specs.WriterState.{Appended, Output, Refused}
 
