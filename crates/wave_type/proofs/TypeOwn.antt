@@ -1,6 +1,5 @@
 -- Types made of parts that are trees of `Type`.
-use Rattle.std.proofs.Common.{◌≡◌, ℕ, zero, suc, ◌+◌, ◌<◌, ◌≤◌, Bool, true, false, ◌&&◌, ◌==◌, List, [], ◌∷◌, ◌++◌, map, length, take, get_or, String, Option, refl, sym, ap, subst, ◌∙◌, arith, Bor, add-one}
-use Rattle.std.proofs.lemmas.List.{take_all}
+use Rattle.std.proofs.Common.{◌≡◌, ℕ, Bool, true, false, ◌&&◌, ◌==◌, List, [], ◌∷◌, ◌++◌, map, length, String, Option, refl, sym, ap, ◌∙◌, Bor}
 use Rattle.std.proofs.lemmas.Bool.{false≢true}
 use Rattle.std.specs.declared.alloc.Global.{Global}
 use Rattle.wave_wasm.specs.Lists.{AllOf}
@@ -48,19 +47,6 @@ variant_own (f ∷ fs) given e some h = cases_own (f ∷ fs) h
 pub tuple_own : (Ts : List TypeTree) → (length Ts ≡ 0 → ⊥) → AllOf IsOwn Ts → IsOwn (tuple (types_of Ts))
 tuple_own [] some h = absurd (some refl)
 tuple_own (T ∷ Ts) some h = types_own (T ∷ Ts) h
-
-all_next : {A : Type 0} (P : A → Type 0) (xs : List A) (i : ℕ) (x : A) → i < length xs → x ≡ get_or xs i x → P x → AllOf P (take i xs) → AllOf P (take (suc i) xs)
-all_next P [] i x lt is p h = absurd (omega (arith, lt))
-all_next P (y ∷ ys) zero x lt is p h = (subst P is p, tt)
-all_next P (y ∷ ys) (suc i) x lt is p h = (h.0, all_next P ys i x (omega (arith, lt)) is p h.1)
-
--- one more item holds, at a turn of a loop
-pub all_more : {A : Type 0} (P : A → Type 0) (xs : List A) (i : ℕ) (x : A) → i < length xs → x ≡ get_or xs i x → P x → AllOf P (take i xs) → AllOf P (take (i + 1) xs)
-all_more P xs i x lt is p h = rw add-one (all_next P xs i x lt is p h)
-
--- all items hold, at the end of a loop
-pub all_taken : {A : Type 0} (P : A → Type 0) (xs ys : List A) (i : ℕ) → xs ≡ ys → length xs ≤ i → AllOf P (take i xs) → AllOf P ys
-all_taken P xs ys i same le h = subst (AllOf P) (take_all i xs le ∙ same) h
 
 -- a list that was tested isn't empty
 pub not_empty : (n m : ℕ) (test : Bool) → test ≡ (n == 0) → test ≡ false → n ≡ m → m ≡ 0 → ⊥
