@@ -1,6 +1,7 @@
 -- Types made of parts that are trees of `Type`.
-use Rattle.std.proofs.Common.{◌≡◌, ℕ, Bool, true, false, ◌&&◌, ◌==◌, List, [], ◌∷◌, ◌++◌, map, length, String, Option, refl, sym, ap, ◌∙◌, Bor}
+use Rattle.std.proofs.Common.{◌≡◌, ℕ, Bool, true, false, ◌==◌, List, [], ◌∷◌, map, length, String, Option, refl, sym, ap, ◌∙◌, Bor}
 use Rattle.std.proofs.lemmas.Bool.{false≢true}
+use Rattle.std.specs.Cmp.Derive.{both_true}
 use Rattle.std.specs.declared.alloc.Global.{Global}
 use Rattle.wave_wasm.specs.Lists.{AllOf}
 use Rattle.wave_wasm.specs.Borrowed.{named}
@@ -11,25 +12,17 @@ use Rattle.wave_type.specs.TypeModel.{by_bytes}
 abbrev pub IsOwnPayload : Option TypeTree → Type 0
 IsOwnPayload payload = every_maybe can_be_made (maybe_type payload) ≡ true
 
-both : {a b : Bool} → a ≡ true → b ≡ true → (a && b) ≡ true
-both p q = λ i. p i && q i
-
--- one more item
-pub all_push : {A : Type 0} (P : A → Type 0) (xs : List A) (x : A) → AllOf P xs → P x → AllOf P (xs ++ x ∷ [])
-all_push P [] x h p = (p, tt)
-all_push P (y ∷ ys) x h p = (h.0, all_push P ys x h.1 p)
-
 types_own : (Ts : List TypeTree) → AllOf IsOwn Ts → every_type can_be_made (types_of Ts) ≡ true
 types_own [] h = refl
-types_own (T ∷ Ts) h = both h.0 (types_own Ts h.1)
+types_own (T ∷ Ts) h = both_true h.0 (types_own Ts h.1)
 
 fields_own : (fs : List (String Global × TypeTree)) → AllOf (λ f. IsOwn f.1) fs → every_field can_be_made (fields_of (map by_bytes fs)) ≡ true
 fields_own [] h = refl
-fields_own (f ∷ fs) h = both h.0 (fields_own fs h.1)
+fields_own (f ∷ fs) h = both_true h.0 (fields_own fs h.1)
 
 cases_own : (cs : List (String Global × Option TypeTree)) → AllOf (λ c. IsOwnPayload c.1) cs → every_case can_be_made (cases_of (map by_bytes cs)) ≡ true
 cases_own [] h = refl
-cases_own (c ∷ cs) h = both h.0 (cases_own cs h.1)
+cases_own (c ∷ cs) h = both_true h.0 (cases_own cs h.1)
 
 -- some fields of types of `Type` make a record of `Type`
 pub record_own : (owned : List (String Global × TypeTree)) (given : List (Bor (List ℕ) × TypeTree)) → map by_bytes owned ≡ named given → (length given ≡ 0 → ⊥) → AllOf (λ f. IsOwn f.1) owned → IsOwn (record_type (fields_of (map by_bytes owned)))
