@@ -193,7 +193,7 @@ labels_are_words s = (label_into s, label_from s)
 -- ---- tokens
 
 -- each scalar of a text of the shape is ASCII
-abbrev only_ascii : Regex → Bool
+abbrev pub only_ascii : Regex → Bool
 only_ascii nothing = true
 only_ascii empty = true
 only_ascii (within lo hi) = nat_lt hi 128
@@ -208,7 +208,7 @@ ascii_joined P ascii [] h = IsAscii-nil
 ascii_joined P ascii (x ∷ xs) h = IsAscii-append x (joined xs) (ascii x h.0) (ascii_joined P ascii xs h.1)
 
 -- so the text is ASCII
-ascii_text : (r : Regex) (s : List ℕ) → only_ascii r ≡ true → Matches r s → IsAscii s
+pub ascii_text : (r : Regex) (s : List ℕ) → only_ascii r ≡ true → Matches r s → IsAscii s
 ascii_text nothing s a m = absurd m
 ascii_text empty s a m = subst IsAscii (sym m) IsAscii-nil
 ascii_text (within lo hi) s a (c, e, t) = subst IsAscii (sym e) (IsAscii-cons c [] (below lo hi c a t) IsAscii-nil)

@@ -1,85 +1,54 @@
 -- The test of names says what labels and distinct names are.
-use Rattle.std.proofs.Common.{◌≡◌, ℕ, ◌+◌, ◌<◌, ◌≤◌, Bool, true, false, List, [], ◌∷◌, map, length, get_or, drop, Option, Some, None, refl, sym, ap, ◌∙◌, arith, ◌↔◌, IsTrue, String, string_bytes}
-use Rattle.std.specs.Prelude.{◌&&◌, ◌||◌, not}
-use Rattle.std.proofs.lemmas.Bool.{false≢true, and_parts}
-use Rattle.std.proofs.lemmas.Bool.Decides.{nat_tests}
-use Rattle.std.proofs.lemmas.List.{drop_more}
+use Rattle.std.proofs.Common.{◌≡◌, ℕ, ◌+◌, ◌<◌, Bool, true, false, eqb, List, [], ◌∷◌, map, length, get_or, drop, Option, Some, None, refl, sym, ap, subst, ◌∙◌, arith, ◌↔◌, IsTrue, String, string_bytes}
+use Rattle.std.specs.Prelude.{◌&&◌, ◌||◌, encode_utf8_all}
+use Rattle.std.specs.Cmp.{both_ways}
+use Rattle.std.specs.Cmp.Derive.{both_true}
+use Rattle.std.specs.Option.{option_eq}
 use Rattle.std.specs.Str.{bytes_eq}
-use Rattle.std.proofs.lemmas.Slice.Eq.{bytes_eq-Decides}
 use Rattle.std.specs.declared.alloc.Global.{Global}
+use Rattle.std.proofs.Math.Seq.{take-length}
+use Rattle.std.proofs.lemmas.Bool.{and_parts, or_from, eq-eqb, eqb-true, not-true, not_from_false, false_from_ne_true}
+use Rattle.std.proofs.lemmas.List.{drop_more}
+use Rattle.std.proofs.lemmas.Slice.Eq.{bytes_eq-Decides}
+use Rattle.std.proofs.lemmas.Str.{encodes-IsAscii}
 use Rattle.wave_wasm.specs.Lists.{AllOf}
 use Rattle.wave_wasm.specs.Names.{IsNoneOf, AreDistinct, is_one_of}
 use Rattle.wave_wasm.specs.Types as type
 use Rattle.wave_wasm.specs.Types.{TypeTree, MaybeType, Types, Fields, Cases, no_type, a_type, no_types, type_and, no_fields, field, no_cases, case_of, EachNames, EachNamesOfMaybe, EachNamesOfTypes, EachNamesOfFields, EachNamesOfCases, fields_of, cases_of, field_names, case_names}
+use Rattle.wave_wasm.proofs.NameTests.{none_of}
 use Rattle.wave_lex.specs.Labels.{IsLabel, Good}
-use Rattle.wave_lex.specs.Regex.{nothing}
-use Rattle.wave_lex.specs.Derive.{after, after_all, after_next, may_be_empty}
+use Rattle.wave_lex.specs.LongestMatch.{Greatest, IsFront}
 use Rattle.wave_lex.specs.Tokens.{label}
 use Rattle.wave_lex.proofs.Derive.{matches_from, matches_into}
-use Rattle.wave_lex.proofs.Shapes.{each_below, is_ascii_shape}
-use Rattle.wave_lex.proofs.Machines.{agrees, steps_agree}
+use Rattle.wave_lex.proofs.LabelWords.{ascii_text}
 use Rattle.wave_type.specs.TypeModel.{by_bytes}
-use Rattle.wave_type.specs.Private.LabelTest.{label_rest, label_step}
 use Rattle.wave_type.specs.LabelTest.{is_label, are_label_names, names_pass, payload_passes, types_pass, fields_pass, cases_pass}
-use Rattle.wave_type.specs.declared.ty.labels.LabelPlace.{LabelPlace}
-use Rattle.wave_type.specs.declared.ty.labels.LabelPlace.TheVariants as place
 
--- ---- the walk over a name
+-- ---- a name
 
-computed : (q : LabelPlace) → (each_below 129 (agrees LabelPlace label_rest label_step q) ≡ true) × (is_ascii_shape (label_rest q) ≡ true)
-computed place.Start = (refl, refl)
-computed place.Lower = (refl, refl)
-computed place.Upper = (refl, refl)
-computed place.Hyphen = (refl, refl)
-computed place.Digits = (refl, refl)
+-- a label is spelled by itself
+by_itself : (s : List ℕ) → IsLabel s → encode_utf8_all s ≡ s
+by_itself s h = encodes-IsAscii s (ascii_text label s refl h)
 
-past : (q : LabelPlace) (c : ℕ) → 128 ≤ c → label_step q c ≡ label_step q 128
-past place.Start c k = grind (arith, nat_tests)
-past place.Lower c k = grind (arith, nat_tests)
-past place.Upper c k = grind (arith, nat_tests)
-past place.Hyphen c k = grind (arith, nat_tests)
-past place.Digits c k = grind (arith, nat_tests)
+-- a front that is a label and the whole name makes the name a label
+whole_into : (s : List ℕ) → IsFront label s (length s) → IsLabel s
+whole_into s f = subst IsLabel (sym (by_itself f.scalars f.has) ∙ (f.spelled ∙ take-length s)) f.has
 
-steps : (q : LabelPlace) (c : ℕ) → after c (label_rest q) ≡ after_next LabelPlace label_rest (label_step q c)
-steps q c = let h = computed q in steps_agree LabelPlace label_rest label_step q c h.0 h.1 (past q c)
+-- a label is such a front of itself
+whole_from : (s : List ℕ) → IsLabel s → IsFront label s (length s)
+whole_from s h = record { scalars = s; fits = omega arith; spelled = by_itself s h ∙ sym (take-length s); has = h }
 
-after_nothing : (bs : List ℕ) → after_all bs nothing ≡ nothing
-after_nothing [] = refl
-after_nothing (b ∷ bs) = after_nothing bs
-
--- one more byte
-turn : (bs : List ℕ) (i : ℕ) (q : LabelPlace) (o : Option LabelPlace) → i < length bs → o ≡ label_step q (get_or bs i 0) → after_all (drop i bs) (label_rest q) ≡ after_all (drop (i + 1) bs) (after_next LabelPlace label_rest o)
-turn bs i q o h says =
-    ap (λ cs. after_all cs (label_rest q)) (drop_more bs i 0 h)
-    ∙ ap (after_all (drop (i + 1) bs)) (steps q (get_or bs i 0) ∙ ap (after_next LabelPlace label_rest) (sym says))
-
--- one with which the label goes on
-pub turn_on : (bs : List ℕ) (i : ℕ) (q p : LabelPlace) → i < length bs → Some p ≡ label_step q (get_or bs i 0) → after_all bs label ≡ after_all (drop i bs) (label_rest q) → after_all bs label ≡ after_all (drop (i + 1) bs) (label_rest p)
-turn_on bs i q p h says so = so ∙ turn bs i q (Some p) h says
-
--- one with which it doesn't
-pub turn_off : (name bs : List ℕ) (i : ℕ) (q : LabelPlace) (o : Option LabelPlace) → bs ≡ name → i < length bs → o ≡ None → o ≡ label_step q (get_or bs i 0) → after_all bs label ≡ after_all (drop i bs) (label_rest q) → false ≡ is_label name
-turn_off name bs i q o same h none says so =
-    ap may_be_empty (sym (so ∙ (turn bs i q None h (sym none ∙ says) ∙ after_nothing (drop (i + 1) bs)))) ∙ ap is_label same
+-- the longest label at the front of a name is the whole name exactly where the name is a label
+pub front_tells : (s : List ℕ) (o : Option ℕ) → Greatest (IsFront label s) o → option_eq eqb o (Some (length s)) ≡ is_label s
+front_tells s None none = sym (false_from_ne_true (is_label s) (λ t. none (length s) (whole_from s (matches_from s label t))))
+front_tells s (Some k) best =
+    both_ways (eqb k (length s)) (is_label s) (λ e. matches_into s label (whole_into s (subst (IsFront label s) (eqb-true k (length s) e) best.0))) (λ t. let le = best.1 (length s) (whole_from s (matches_from s label t)) in eq-eqb k (length s) (omega (arith, best.0.fits)))
 
 -- ---- names
 
-none_step : (ns : List (List ℕ)) (n m : List ℕ) (b : Bool) → bytes_eq n m ≡ b → (not (is_one_of ns n) ≡ true → IsNoneOf ns n) → not (is_one_of (m ∷ ns) n) ≡ true → IsNoneOf (m ∷ ns) n
-none_step ns n m true same rest e = absurd (false≢true (ap (λ c. not (c || is_one_of ns n)) (sym same) ∙ e))
-none_step ns n m false other rest e =
-    (λ is. false≢true (sym other ∙ (bytes_eq-Decides n m).1 is), rest (ap (λ c. not (c || is_one_of ns n)) (sym other) ∙ e))
-
-none_from : (ns : List (List ℕ)) (n : List ℕ) → not (is_one_of ns n) ≡ true → IsNoneOf ns n
-none_from [] n e = tt
-none_from (m ∷ ns) n e = none_step ns n m (bytes_eq n m) refl (none_from ns n) e
-
-into_step : (ns : List (List ℕ)) (n m : List ℕ) (b : Bool) → bytes_eq n m ≡ b → IsNoneOf (m ∷ ns) n → not (is_one_of ns n) ≡ true → not (is_one_of (m ∷ ns) n) ≡ true
-into_step ns n m true same h rest = absurd (h.0 ((bytes_eq-Decides n m).0 same))
-into_step ns n m false other h rest = ap (λ c. not (c || is_one_of ns n)) other ∙ rest
-
-none_into : (ns : List (List ℕ)) (n : List ℕ) → IsNoneOf ns n → not (is_one_of ns n) ≡ true
+none_into : (ns : List (List ℕ)) (n : List ℕ) → IsNoneOf ns n → is_one_of ns n ≡ false
 none_into [] n h = refl
-none_into (m ∷ ns) n h = into_step ns n m (bytes_eq n m) refl h (none_into ns n h.1)
+none_into (m ∷ ns) n h = or_from (bytes_eq n m) (is_one_of ns n) (false_from_ne_true (bytes_eq n m) (λ e. h.0 ((bytes_eq-Decides n m).0 e))) (none_into ns n h.1)
 
 labels_from : (ns : List (List ℕ)) → are_label_names ns ≡ true → AllOf IsLabel ns
 labels_from [] e = tt
@@ -93,14 +62,11 @@ distinct_from [] e = tt
 distinct_from (n ∷ ns) e =
     let p = and_parts _ _ e in
     let q = and_parts _ _ p.1 in
-    (none_from ns n q.0, distinct_from ns q.1)
-
-both : {a b : Bool} → a ≡ true → b ≡ true → (a && b) ≡ true
-both p q = λ i. p i && q i
+    (none_of ns n (not-true _ q.0), distinct_from ns q.1)
 
 names_into : (ns : List (List ℕ)) → AllOf IsLabel ns → AreDistinct ns → are_label_names ns ≡ true
 names_into [] h d = refl
-names_into (n ∷ ns) h d = both (matches_into n label h.0) (both (none_into ns n d.0) (names_into ns h.1 d.1))
+names_into (n ∷ ns) h d = both_true (matches_into n label h.0) (both_true (not_from_false (is_one_of ns n) (none_into ns n d.0)) (names_into ns h.1 d.1))
 
 -- ---- types
 
@@ -143,12 +109,12 @@ module _ (Pass Also : List (List ℕ) → Type 0) (says : (ns : List (List ℕ))
     each_into (type.unreadable kind) h k = refl
     each_into (type.list E) h k = each_into E h k
     each_into (type.fixed E n) h k = each_into E h k
-    each_into (type.record_type fs) h k = both (says (field_names fs) h.0 k.0) (fields_into fs h.1 k.1)
+    each_into (type.record_type fs) h k = both_true (says (field_names fs) h.0 k.0) (fields_into fs h.1 k.1)
     each_into (type.tuple Ts) h k = types_into Ts h k
-    each_into (type.variant cs) h k = both (says (case_names cs) h.0 k.0) (cases_into cs h.1 k.1)
+    each_into (type.variant cs) h k = both_true (says (case_names cs) h.0 k.0) (cases_into cs h.1 k.1)
     each_into (type.enum names) h k = says names h k
     each_into (type.option P) h k = each_into P h k
-    each_into (type.result A B) h k = both (maybe_into A h.0 k.0) (maybe_into B h.1 k.1)
+    each_into (type.result A B) h k = both_true (maybe_into A h.0 k.0) (maybe_into B h.1 k.1)
     each_into (type.flags names) h k = says names h k
     each_into (type.map K V) h k = each_into V h k
 
@@ -158,15 +124,15 @@ module _ (Pass Also : List (List ℕ) → Type 0) (says : (ns : List (List ℕ))
 
     types_into : (Ts : Types) → EachNamesOfTypes Pass Ts → EachNamesOfTypes Also Ts → types_pass Ts ≡ true
     types_into no_types h k = refl
-    types_into (type_and T more) h k = both (each_into T h.0 k.0) (types_into more h.1 k.1)
+    types_into (type_and T more) h k = both_true (each_into T h.0 k.0) (types_into more h.1 k.1)
 
     fields_into : (fs : Fields) → EachNamesOfFields Pass fs → EachNamesOfFields Also fs → fields_pass fs ≡ true
     fields_into no_fields h k = refl
-    fields_into (field name T more) h k = both (each_into T h.0 k.0) (fields_into more h.1 k.1)
+    fields_into (field name T more) h k = both_true (each_into T h.0 k.0) (fields_into more h.1 k.1)
 
     cases_into : (cs : Cases) → EachNamesOfCases Pass cs → EachNamesOfCases Also cs → cases_pass cs ≡ true
     cases_into no_cases h k = refl
-    cases_into (case_of name payload more) h k = both (maybe_into payload h.0 k.0) (cases_into more h.1 k.1)
+    cases_into (case_of name payload more) h k = both_true (maybe_into payload h.0 k.0) (cases_into more h.1 k.1)
 
 -- the test passes exactly where the names are labels and distinct
 pub pass_is_good : (T : TypeTree) (b : Bool) → b ≡ names_pass T → IsTrue b ↔ Good T

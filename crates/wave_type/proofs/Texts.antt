@@ -70,7 +70,3 @@ all_fields xs fs i same h = ap (λ us. joined (map field_line us)) (take_all i x
 -- all cases
 pub all_cases : (xs cs : List (String Global × Option TypeTree)) (i : ℕ) → xs ≡ cs → length xs ≤ i → joined (map case_line (take i xs)) ≡ joined (case_texts (cases_of (map by_bytes cs)))
 all_cases xs cs i same h = ap (λ us. joined (map case_line us)) (take_all i xs h ∙ same) ∙ ap joined (case_lines cs)
-
--- all names
-pub all_names : (xs ns : List (String Global)) (i : ℕ) → xs ≡ ns → length xs ≤ i → joined (map string_bytes (take i xs)) ≡ joined (map string_bytes ns)
-all_names xs ns i same h = ap (λ us. joined (map string_bytes us)) (take_all i xs h ∙ same)

@@ -1,7 +1,7 @@
 -- The families of a tree and their lists give each other back.
 use Rattle.std.specs.List.{position, prefix_len}
-use Rattle.std.proofs.lemmas.List.{length-map, get_or-map}
-use Rattle.std.proofs.Common.{◌≡◌, ◌<◌, ◌∙◌, sym, not, Bool, map, length, get_or, arith, ℕ, List, [], ◌∷◌, Option, Some, None, refl, ap}
+use Rattle.std.proofs.lemmas.List.{length-map}
+use Rattle.std.proofs.Common.{◌≡◌, ◌<◌, not, Bool, map, length, get_or, arith, ℕ, List, [], ◌∷◌, Option, Some, None, refl, ap}
 use Rattle.std.specs.declared.alloc.Global.{Global}
 use Rattle.std.proofs.Common.{String, string_bytes, zero, suc}
 use Rattle.wave_type.specs.TypeModel.{by_bytes}
@@ -32,10 +32,6 @@ length-run q f (x ∷ xs) = rw (length-run q f xs) refl
 
 pub position-map : {A B : Type 0} (p : B → Bool) (f : A → B) (xs : List A) → position p (map f xs) ≡ position (λ x. p (f x)) xs
 position-map p f xs = rw (length-run (λ y. not (p y)) f xs, length-map) refl
-
--- an element of a mapped list, whatever stands past the ends
-pub mapped_at : {A B : Type 0} (f : A → B) (xs : List A) (i : ℕ) (x : A) (e : B) → x ≡ get_or xs i x → i < length (map f xs) → f x ≡ get_or (map f xs) i e
-mapped_at f xs i x e is lt = let h : i < length xs = rw length-map at lt in sym (get_or-map f xs i x e h ∙ ap f (sym is))
 
 -- the name of the part at a place
 pub name_at_place : {A : Type 0} (xs : List (String Global × A)) (i : ℕ) (x : String Global × A) → i < length xs → x ≡ get_or xs i x → string_bytes x.0 ≡ get_or (map (λ p. p.0) (map by_bytes xs)) i []

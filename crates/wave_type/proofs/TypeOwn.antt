@@ -1,7 +1,7 @@
 -- Types made of parts that are trees of `Type`.
-use Rattle.std.proofs.Common.{◌≡◌, ℕ, zero, suc, ◌+◌, ◌<◌, ◌≤◌, Bool, true, false, ◌&&◌, ◌==◌, List, [], ◌∷◌, ◌++◌, map, length, take, get_or, String, Option, refl, sym, ap, subst, ◌∙◌, arith, Bor, add-one}
-use Rattle.std.proofs.lemmas.List.{take_all}
+use Rattle.std.proofs.Common.{◌≡◌, ℕ, Bool, true, false, ◌==◌, List, [], ◌∷◌, map, length, String, Option, refl, sym, ap, ◌∙◌, Bor}
 use Rattle.std.proofs.lemmas.Bool.{false≢true}
+use Rattle.std.specs.Cmp.Derive.{both_true}
 use Rattle.std.specs.declared.alloc.Global.{Global}
 use Rattle.wave_wasm.specs.Lists.{AllOf}
 use Rattle.wave_wasm.specs.Borrowed.{named}
@@ -12,25 +12,17 @@ use Rattle.wave_type.specs.TypeModel.{by_bytes}
 abbrev pub IsOwnPayload : Option TypeTree → Type 0
 IsOwnPayload payload = every_maybe can_be_made (maybe_type payload) ≡ true
 
-both : {a b : Bool} → a ≡ true → b ≡ true → (a && b) ≡ true
-both p q = λ i. p i && q i
-
--- one more item
-pub all_push : {A : Type 0} (P : A → Type 0) (xs : List A) (x : A) → AllOf P xs → P x → AllOf P (xs ++ x ∷ [])
-all_push P [] x h p = (p, tt)
-all_push P (y ∷ ys) x h p = (h.0, all_push P ys x h.1 p)
-
 types_own : (Ts : List TypeTree) → AllOf IsOwn Ts → every_type can_be_made (types_of Ts) ≡ true
 types_own [] h = refl
-types_own (T ∷ Ts) h = both h.0 (types_own Ts h.1)
+types_own (T ∷ Ts) h = both_true h.0 (types_own Ts h.1)
 
 fields_own : (fs : List (String Global × TypeTree)) → AllOf (λ f. IsOwn f.1) fs → every_field can_be_made (fields_of (map by_bytes fs)) ≡ true
 fields_own [] h = refl
-fields_own (f ∷ fs) h = both h.0 (fields_own fs h.1)
+fields_own (f ∷ fs) h = both_true h.0 (fields_own fs h.1)
 
 cases_own : (cs : List (String Global × Option TypeTree)) → AllOf (λ c. IsOwnPayload c.1) cs → every_case can_be_made (cases_of (map by_bytes cs)) ≡ true
 cases_own [] h = refl
-cases_own (c ∷ cs) h = both h.0 (cases_own cs h.1)
+cases_own (c ∷ cs) h = both_true h.0 (cases_own cs h.1)
 
 -- some fields of types of `Type` make a record of `Type`
 pub record_own : (owned : List (String Global × TypeTree)) (given : List (Bor (List ℕ) × TypeTree)) → map by_bytes owned ≡ named given → (length given ≡ 0 → ⊥) → AllOf (λ f. IsOwn f.1) owned → IsOwn (record_type (fields_of (map by_bytes owned)))
@@ -48,19 +40,6 @@ variant_own (f ∷ fs) given e some h = cases_own (f ∷ fs) h
 pub tuple_own : (Ts : List TypeTree) → (length Ts ≡ 0 → ⊥) → AllOf IsOwn Ts → IsOwn (tuple (types_of Ts))
 tuple_own [] some h = absurd (some refl)
 tuple_own (T ∷ Ts) some h = types_own (T ∷ Ts) h
-
-all_next : {A : Type 0} (P : A → Type 0) (xs : List A) (i : ℕ) (x : A) → i < length xs → x ≡ get_or xs i x → P x → AllOf P (take i xs) → AllOf P (take (suc i) xs)
-all_next P [] i x lt is p h = absurd (omega (arith, lt))
-all_next P (y ∷ ys) zero x lt is p h = (subst P is p, tt)
-all_next P (y ∷ ys) (suc i) x lt is p h = (h.0, all_next P ys i x (omega (arith, lt)) is p h.1)
-
--- one more item holds, at a turn of a loop
-pub all_more : {A : Type 0} (P : A → Type 0) (xs : List A) (i : ℕ) (x : A) → i < length xs → x ≡ get_or xs i x → P x → AllOf P (take i xs) → AllOf P (take (i + 1) xs)
-all_more P xs i x lt is p h = rw add-one (all_next P xs i x lt is p h)
-
--- all items hold, at the end of a loop
-pub all_taken : {A : Type 0} (P : A → Type 0) (xs ys : List A) (i : ℕ) → xs ≡ ys → length xs ≤ i → AllOf P (take i xs) → AllOf P ys
-all_taken P xs ys i same le h = subst (AllOf P) (take_all i xs le ∙ same) h
 
 -- a list that was tested isn't empty
 pub not_empty : (n m : ℕ) (test : Bool) → test ≡ (n == 0) → test ≡ false → n ≡ m → m ≡ 0 → ⊥

@@ -1,3 +1,2 @@
 pub mod TypeModel
 pub mod TypeDepth
-pub mod LabelTest

@@ -1,5 +1,5 @@
 -- The tree that a `Type` stands for, and what holds of its shape.
-use Rattle.std.specs.Prelude.{ℕ, map, string_bytes}
+use Rattle.std.specs.Prelude.{map, string_bytes}
 use Rattle.wave_wasm.specs.Types as type
 use Rattle.wave_wasm.specs.Types.{Simple, TypeTree, types_of, fields_of, cases_of, maybe_type, IsOwn}
 use Rattle.wave_type.specs.declared.ty.Shape.{Shape}

@@ -4,10 +4,11 @@ ghost use Rattle.wave_wasm.specs.Types.{IsOwn, types_of, fields_of, cases_of, ma
 ghost use Rattle.wave_wasm.specs.Names.{is_one_of};
 ghost use Rattle.wave_lex.specs.Labels.{Good};
 ghost use Rattle.wave_type.specs.TypeModel.{by_bytes};
-ghost use Rattle.wave_type.specs.Private.LabelTest.{label_step};
 ghost use Rattle.wave_type.specs.LabelTest.{is_label, are_label_names, names_pass, types_pass, fields_pass, cases_pass, payload_passes};
 
 use super::{Shape, Type};
+use wave_lex::machine::label::LabelState;
+use wave_lex::machine::longest_front;
 
 impl Type {
     /// Whether within each record, variant, enum and flags of the type the names are labels, and
@@ -143,47 +144,9 @@ fn stands_behind<N: Named>(items: &Vec<N>, from: usize, name: &str) -> bool
     false
 }
 
-// Where a label has been read to.
-#[derive(Clone, Copy)]
-enum LabelPlace {
-    Start,
-    Lower,
-    Upper,
-    Hyphen,
-    Digits,
-}
-
-// The place behind one more byte, where the label goes on with it.
-fn label_step(place: LabelPlace, byte: u8) -> Option<LabelPlace>
-    ensures { result ≡ label_step place byte }
-{
-    match (place, byte) {
-        (LabelPlace::Lower, b'a'..=b'z' | b'0'..=b'9') => Some(LabelPlace::Lower),
-        (LabelPlace::Upper, b'A'..=b'Z' | b'0'..=b'9') => Some(LabelPlace::Upper),
-        (LabelPlace::Lower | LabelPlace::Upper | LabelPlace::Digits, b'-') => Some(
-            LabelPlace::Hyphen,
-        ),
-        (LabelPlace::Hyphen | LabelPlace::Digits, b'0'..=b'9') => Some(LabelPlace::Digits),
-        (LabelPlace::Lower | LabelPlace::Upper, _) => None,
-        (_, b'a'..=b'z') => Some(LabelPlace::Lower),
-        (_, b'A'..=b'Z') => Some(LabelPlace::Upper),
-        _ => None,
-    }
-}
-
-// Whether the name is a label.
+// Whether the name is a label: the longest label at its front is the whole name.
 fn is_label(name: &str) -> bool
     ensures { result ≡ is_label name.now }
 {
-    let mut place = LabelPlace::Start;
-    for byte in name.as_bytes() {
-        let Some(next) = label_step(place, *byte) else {
-            return false;
-        };
-        place = next;
-    }
-    matches!(
-        place,
-        LabelPlace::Lower | LabelPlace::Upper | LabelPlace::Digits
-    )
+    longest_front(LabelState::Start, name) == Some(name.len())
 }

@@ -2,17 +2,17 @@ use Rattle.std.proofs.Common.{rules, arith, ◌∙◌, map}
 use Rattle.wave_type.specs.TypeEquality.{same_fields, same_cases}
 use Rattle.wave_wasm.specs.Types.{fields_of, cases_of}
 use Rattle.wave_type.specs.TypeModel.{by_bytes}
-use Rattle.wave_type.proofs.TypeEqual.{types_apart, fields_apart, cases_apart, type_at, field_at, case_at}
+use Rattle.wave_type.proofs.TypeEqual.{types_lens, fields_lens, cases_lens, unequal, type_at, field_at, case_at}
 use Rattle.wave_type.proofs.ty.equality.+same.Goals as goal
 
 pub same_types-returns-then-len : goal.same_types-returns-then-len
-same_types-returns-then-len t c = types_apart c.args.a.now.items c.args.b.now.items _ _ (c.len.ensures ∙ c.args.a.now.ok.0) (c.len-2.ensures ∙ c.args.b.now.ok.0) c.if-len.true
+same_types-returns-then-len t c = types_lens c.args.a.now.items c.args.b.now.items (unequal _ _ (c.len.ensures ∙ c.args.a.now.ok.0) (c.len-2.ensures ∙ c.args.b.now.ok.0) c.if-len.true)
 
 pub same_fields-returns-then-len : goal.same_fields-returns-then-len
-same_fields-returns-then-len t c = fields_apart c.args.a.now.items c.args.b.now.items _ _ (c.len.ensures ∙ c.args.a.now.ok.0) (c.len-2.ensures ∙ c.args.b.now.ok.0) c.if-len.true
+same_fields-returns-then-len t c = fields_lens c.args.a.now.items c.args.b.now.items (unequal _ _ (c.len.ensures ∙ c.args.a.now.ok.0) (c.len-2.ensures ∙ c.args.b.now.ok.0) c.if-len.true)
 
 pub same_cases-returns-then-len : goal.same_cases-returns-then-len
-same_cases-returns-then-len t c = cases_apart c.args.a.now.items c.args.b.now.items _ _ (c.len.ensures ∙ c.args.a.now.ok.0) (c.len-2.ensures ∙ c.args.b.now.ok.0) c.if-len.true
+same_cases-returns-then-len t c = cases_lens c.args.a.now.items c.args.b.now.items (unequal _ _ (c.len.ensures ∙ c.args.a.now.ok.0) (c.len-2.ensures ∙ c.args.b.now.ok.0) c.if-len.true)
 
 pub same_types-eq-same-requires : goal.same_types-eq-same-requires
 same_types-eq-same-requires t c = search (rules, type_at)
