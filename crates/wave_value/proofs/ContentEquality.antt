@@ -11,6 +11,7 @@ use Rattle.wave_wasm.specs.TypeTreeEncoding.{stored_name, stored_names}
 use Rattle.wave_wasm.specs.Values as value
 use Rattle.wave_wasm.specs.Values.{Leaf, Value, values, field_values, entries, maybe_value}
 use Rattle.wave_type.specs.TypeEquality.{same_tree}
+use Rattle.wave_type.proofs.TypeEqual.{and_false}
 use Rattle.wave_type.specs.TypeEqualityLaws.{same_itself}
 use Rattle.wave_value.specs.TypedValue.{TypedValue, IsAt}
 use Rattle.wave_value.specs.ValueEncoding.{stored_leaf, stored_values, stored_fields, stored_maybe, stored_entries}
@@ -142,7 +143,7 @@ pairs_same : (K : Simple) (V : TypeTree) (ds es : List (TypedValue × TypedValue
 pairs_same K V [] [] h k = refl
 pairs_same K V [] (e ∷ es) h k = refl
 pairs_same K V (d ∷ ds) [] h k = refl
-pairs_same K V (d ∷ ds) (e ∷ es) h k = λ i. keys_same K d.0 e.0 h.0 k.0 i && (at_same V d.1 e.1 h.1 k.1 i && pairs_same K V ds es h.2 k.2 i)
+pairs_same K V (d ∷ ds) (e ∷ es) h k = λ i. keys_same K d.0 e.0 h.0.0 k.0.0 i && (at_same V d.1 e.1 h.0.1 k.0.1 i && pairs_same K V ds es h.1 k.1 i)
 
 map_same : (T : TypeTree) (ds es : List (TypedValue × TypedValue)) → MapFits T ds → MapFits T es → same_pairs ds es ≡ same_stored (stored_entries (entries (entry_trees ds))) (stored_entries (entries (entry_trees es)))
 map_same (type.map K V) ds es h k = pairs_same K V ds es h k
@@ -171,26 +172,16 @@ pub typed_same : (T U : TypeTree) (a b : Content) (x y : Bool) → x ≡ same_tr
 typed_same T U a b x y types same one h k says =
     says ∙ (content_same T a b h (subst (λ V. Fits V b) (sym one) k) ∙ (ap (λ V. same_value (content_tree T a) (content_tree V b)) one ∙ ap (λ c. c && same_value (content_tree T a) (content_tree U b)) (sym same ∙ types)))
 
-and_false : (a b : Bool) → false ≡ b → false ≡ (a && b)
-and_false true b e = e
-and_false false b e = refl
-
-lens_apart : (vs ws : List TypedValue) → (length vs ≡ length ws → ⊥) → false ≡ same_all vs ws
-lens_apart [] [] h = absurd (h refl)
-lens_apart [] (w ∷ ws) h = refl
-lens_apart (v ∷ vs) [] h = refl
-lens_apart (v ∷ vs) (w ∷ ws) h = and_false (same_typed v w) _ (lens_apart vs ws (λ e. h (ap suc e)))
-
 -- lists of unequal lengths
-pub all_lens : (vs ws : List TypedValue) (m n : ℕ) → m ≡ length vs → n ≡ length ws → (m ≡ n → ⊥) → false ≡ same_all vs ws
-all_lens vs ws m n hm hn h = lens_apart vs ws (λ e. h (hm ∙ (e ∙ sym hn)))
-
-pair_lens_apart : (ds es : List (TypedValue × TypedValue)) → (length ds ≡ length es → ⊥) → false ≡ same_pairs ds es
-pair_lens_apart [] [] h = absurd (h refl)
-pair_lens_apart [] (e ∷ es) h = refl
-pair_lens_apart (d ∷ ds) [] h = refl
-pair_lens_apart (d ∷ ds) (e ∷ es) h = and_false (same_typed d.0 e.0) _ (and_false (same_typed d.1 e.1) _ (pair_lens_apart ds es (λ i. h (ap suc i))))
+pub all_lens : (vs ws : List TypedValue) → (length vs ≡ length ws → ⊥) → false ≡ same_all vs ws
+all_lens [] [] h = absurd (h refl)
+all_lens [] (w ∷ ws) h = refl
+all_lens (v ∷ vs) [] h = refl
+all_lens (v ∷ vs) (w ∷ ws) h = and_false (same_typed v w) _ (all_lens vs ws (λ e. h (ap suc e)))
 
 -- entries, likewise
-pub pairs_lens : (ds es : List (TypedValue × TypedValue)) (m n : ℕ) → m ≡ length ds → n ≡ length es → (m ≡ n → ⊥) → false ≡ same_pairs ds es
-pairs_lens ds es m n hm hn h = pair_lens_apart ds es (λ e. h (hm ∙ (e ∙ sym hn)))
+pub pairs_lens : (ds es : List (TypedValue × TypedValue)) → (length ds ≡ length es → ⊥) → false ≡ same_pairs ds es
+pairs_lens [] [] h = absurd (h refl)
+pairs_lens [] (e ∷ es) h = refl
+pairs_lens (d ∷ ds) [] h = refl
+pairs_lens (d ∷ ds) (e ∷ es) h = and_false (same_typed d.0 e.0) _ (and_false (same_typed d.1 e.1) _ (pairs_lens ds es (λ i. h (ap suc i))))

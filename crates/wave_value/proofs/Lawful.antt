@@ -6,18 +6,33 @@ use Rattle.wave_wasm.specs.Types.{TypeTree, Types, MaybeType, type_list, type_op
 use Rattle.wave_wasm.specs.Values as value
 use Rattle.wave_wasm.specs.Values.{Value, Leaf, leaf_type, IsSound, IsWellFormed, values, maybe_value}
 use Rattle.wave_wasm.specs.HasType.{HasType}
-use Rattle.wave_wasm.specs.ConstructorContracts.{IsMemory, Makes, MakesLeaf, MakesList, MakesTuple, MakesOption, MakesEnum, MakesResult, AreOf, OptionIsOf, PayloadIsOf, EitherIsOf, result_value, either_tree, FullLeaf, FullList, FullTuple, FullEnum, FullOption, FullResult}
+use Rattle.wave_wasm.specs.ConstructorContracts.{IsMemory, Makes, MakesLeaf, AreOf, OptionIsOf, PayloadIsOf, EitherIsOf, FullLeaf, FullList, FullTuple, FullEnum, FullOption, FullResult}
 use Rattle.wave_wasm.specs.declared.wasm.WasmValueError.{WasmValueError}
 use Rattle.wave_wasm.proofs.Formed.{formed}
 use Rattle.wave_value.specs.TypedValue.{TypedValue, IsAt, IsTyped, MakesOnly, typed_leaf}
 use Rattle.wave_value.specs.FullTypes.{IsFull}
-use Rattle.wave_value.specs.ValueModel.{trees, payload_tree}
 use Rattle.wave_value.specs.ConstructorRules.{Made, TellsOne, list_stated, option_stated, each_stated, RefusesParts, RefusesTuple, RefusesPayload, RefusesResult, RefusesEnum}
 use Rattle.wave_wasm.specs.Lists.{AllOf}
-use Rattle.wave_wasm.specs.Names.{IsOneOf}
+use Rattle.wave_wasm.specs.Names.{IsOneOf, IsNoneOf, AreAllOf}
 use Rattle.wave_wasm.specs.declared.wasm.WasmTypeKind.{WasmTypeKind}
 use Rattle.wave_wasm.specs.declared.wasm.WasmTypeKind.TheVariants as kinds
 use Rattle.wave_wasm.specs.declared.wasm.WasmValueError.TheVariants as error
+
+-- ---- names
+
+-- a name isn't one of some names and none of them
+pub one_none : (ns : List (List ℕ)) (n : List ℕ) → IsOneOf ns n → IsNoneOf ns n → ⊥
+one_none [] n h k = h
+one_none (m ∷ ns) n (inl e) k = k.0 e
+one_none (m ∷ ns) n (inr h) k = one_none ns n h k.1
+
+-- one of names that are all among others is one of those
+pub among : (ns ms : List (List ℕ)) (n : List ℕ) → AreAllOf ns ms → IsOneOf ms n → IsOneOf ns n
+among ns [] n h k = absurd k
+among ns (m ∷ ms) n h (inl e) = subst (IsOneOf ns) (sym e) h.0
+among ns (m ∷ ms) n h (inr k) = among ns ms n h.1 k
+
+-- ---- one token
 
 -- what was made of a value of one token is lawful
 pub made_leaf : (one : Leaf) (v : TypedValue) → IsSound one → v ≡ typed_leaf one → MakesLeaf (λ v. v.tree) (λ v T. IsAt T v) one v
@@ -49,14 +64,9 @@ full_leaf one e h = λ full. h
 pub lawful : (asked : Value) (T : TypeTree) (v : TypedValue) → Made asked T v → Makes (λ (v : TypedValue). v.tree) (λ v T. IsAt T v) asked T v
 lawful asked T v m = record { means = m.tree; fits = m.fits; is_of = record { own = m.own; fits = subst (HasType T) (sym m.tree) m.fits } }
 
-pub made_list : (T : TypeTree) (vs : List TypedValue) (v : TypedValue) → Made (value.list (values (trees vs))) T v → MakesList (λ v. v.tree) (λ v T. IsAt T v) T vs v
-made_list T vs v m = λ distinct. lawful _ T v m
-
-pub made_option : (T : TypeTree) (o : Option TypedValue) (v : TypedValue) → Made (value.option (maybe_value (payload_tree o))) T v → MakesOption (λ v. v.tree) (λ v T. IsAt T v) T o v
-made_option T o v m = λ distinct. lawful _ T v m
-
-pub made_enum : (T : TypeTree) (name : List ℕ) (v : TypedValue) → Made (value.enum name) T v → MakesEnum (λ (v : TypedValue). v.tree) (λ v T. IsAt T v) T name v
-made_enum T name v m = λ distinct. lawful _ T v m
+-- so it is also where the names are distinct
+pub made_where : {D : Type 0} (asked : Value) (T : TypeTree) (v : TypedValue) → Made asked T v → D → Makes (λ (v : TypedValue). v.tree) (λ v T. IsAt T v) asked T v
+made_where asked T v m = λ distinct. lawful asked T v m
 
 -- parts of the stated types are refused for want of memory alone
 abbrev pub IsAsStated : TypeTree × TypedValue → Type 0
@@ -98,9 +108,6 @@ full_enum T name e r = λ full names is h. case_taken names name e h (subst (λ 
 
 -- ---- tuples
 
-pub made_tuple : (T : TypeTree) (vs : List TypedValue) (v : TypedValue) → Made (value.tuple (values (trees vs))) T v → MakesTuple (λ v. v.tree) (λ v T. IsAt T v) T vs v
-made_tuple T vs v m = λ distinct. lawful _ T v m
-
 each_of : (Ts : List TypeTree) (vs : List TypedValue) → AreOf (λ v T. IsAt T v) Ts vs → AllOf IsAsStated (each_stated Ts vs) × (length vs ≡ length Ts)
 each_of [] [] h = (tt, refl)
 each_of [] (v ∷ vs) h = absurd h
@@ -118,9 +125,6 @@ pub full_tuple : (words : TypedValue → List ℕ) (T : TypeTree) (vs : List Typ
 full_tuple words T vs e r = λ full Ts is h. tuple_memory words Ts vs e h (subst (λ U. RefusesTuple words U vs e) is r)
 
 -- ---- results
-
-pub made_result : (T : TypeTree) (r : Result (Option TypedValue) (Option TypedValue)) (v : TypedValue) → Made (result_value (either_tree (λ v. v.tree) r)) T v → MakesResult (λ v. v.tree) (λ v T. IsAt T v) T r v
-made_result T r v m = λ distinct. lawful _ T v m
 
 -- a payload as it is stated is refused for want of memory alone
 pub payload_memory : (words : TypedValue → List ℕ) (n : List ℕ) (P : Option TypeTree) (p : Option TypedValue) (e : WasmValueError) → PayloadIsOf (λ v T. IsAt T v) P p → RefusesPayload words n P p e → IsMemory e

@@ -2,13 +2,13 @@
 use Rattle.std.proofs.Common.{◌≡◌, ◌≢◌, ℕ, List, [], ◌∷◌, sym, ap, subst, ◌∙◌, refl, inl, inr, Option, Result, Ok, Err, Bor}
 use Rattle.std.specs.Prelude.{IfOk, IfErr, OnOk, filter}
 use Rattle.wave_wasm.specs.Lists.{AllOf, SomeOf}
-use Rattle.wave_wasm.specs.Names.{IsOneOf, IsNoneOf, AreAllOf, AreDistinct, ArePicked, is_one_of, found_in}
+use Rattle.wave_wasm.specs.Names.{IsNoneOf, AreAllOf, AreDistinct, ArePicked, is_one_of, found_in}
 use Rattle.wave_wasm.specs.Borrowed.{texts}
 use Rattle.wave_wasm.specs.Types as type
 use Rattle.wave_wasm.specs.Types.{TypeTree, Cases, no_cases, case_of, case_names, case_list, type_option, flags_names, HasDistinctNames}
 use Rattle.wave_wasm.specs.Values as value
 use Rattle.wave_wasm.specs.Values.{Value, maybe_value}
-use Rattle.wave_wasm.specs.ConstructorContracts.{IsMemory, Makes, MakesVariant, MakesFlags, MakesMap, FullVariant, FullFlags, FullMap, PayloadIsOf}
+use Rattle.wave_wasm.specs.ConstructorContracts.{IsMemory, Makes, MakesFlags, MakesMap, FullVariant, FullFlags, FullMap, PayloadIsOf}
 use Rattle.wave_wasm.specs.declared.wasm.WasmTypeKind.TheVariants as kinds
 use Rattle.wave_wasm.specs.declared.wasm.WasmValueError.{WasmValueError}
 use Rattle.wave_wasm.specs.declared.wasm.WasmValueError.TheVariants as error
@@ -16,15 +16,12 @@ use Rattle.wave_wasm.proofs.Picked.{picked_found, picked_of}
 use Rattle.wave_wasm.proofs.NameTests.{passes}
 use Rattle.wave_value.specs.TypedValue.{TypedValue, IsAt}
 use Rattle.wave_value.specs.FullTypes.{IsFull}
-use Rattle.wave_value.specs.ValueModel.{payload_tree, first_names}
+use Rattle.wave_value.specs.ValueModel.{first_names}
 use Rattle.wave_value.specs.ConstructorRules.{Made, RefusesParts, RefusesPayload}
 use Rattle.wave_value.specs.CaseRules.{IsFirstCase, RefusesVariant, TakesFlags, RefusesFlags, MadeMap, entries_stated, map_stated}
-use Rattle.wave_value.proofs.Lawful.{IsAsStated, lawful, no_refusal, payload_memory}
+use Rattle.wave_value.proofs.Lawful.{IsAsStated, lawful, one_none, among, no_refusal, payload_memory}
 
 -- ---- variants
-
-pub made_variant : (T : TypeTree) (name : List ℕ) (p : Option TypedValue) (v : TypedValue) → Made (value.variant name (maybe_value (payload_tree p))) T v → MakesVariant (λ v. v.tree) (λ v T. IsAt T v) T name p v
-made_variant T name p v m = λ distinct. lawful _ T v m
 
 apart : (cs : Cases) (name other : List ℕ) (P : Option TypeTree) → IsNoneOf (case_names cs) other → SomeOf (λ c. c ≡ (name, P)) (case_list cs) → name ≢ other
 apart no_cases name other P none h = absurd h
@@ -91,19 +88,9 @@ pub made_flags : (T : TypeTree) (names : List (Bor (List ℕ))) (r : Result Type
 made_flags T names (Ok v) m taken = flags_lawful T names v m taken
 made_flags T names (Err e) m taken = tt
 
-all_one : (names ns : List (List ℕ)) (n : List ℕ) → AreAllOf names ns → IsOneOf ns n → IsOneOf names n
-all_one names [] n h one = absurd one
-all_one names (m ∷ ns) n h (inl is) = subst (IsOneOf names) (sym is) h.0
-all_one names (m ∷ ns) n h (inr one) = all_one names ns n h.1 one
-
-one_or_none : (names : List (List ℕ)) (n : List ℕ) → IsOneOf names n → IsNoneOf names n → ⊥
-one_or_none [] n one none = one
-one_or_none (m ∷ names) n (inl is) none = none.0 is
-one_or_none (m ∷ names) n (inr one) none = one_or_none names n one none.1
-
 names_refused : (all given : List (List ℕ)) (e : WasmValueError) → ArePicked all given → RefusesFlags (type.flags all) given e → IsMemory e
 names_refused all given (error.WrongTypeKind k t) picked r = absurd (r.0 refl)
-names_refused all given (error.UnknownCase n) picked (kind, (one, none)) = absurd (one_or_none all _ (all_one all given _ (picked_of all given picked) one) none)
+names_refused all given (error.UnknownCase n) picked (kind, (one, none)) = absurd (one_none all _ (among all given _ (picked_of all given picked) one) none)
 names_refused all given (error.Memory e) picked r = tt
 names_refused all given _ picked r = absurd r.1
 

@@ -3,12 +3,12 @@ use Rattle.std.proofs.Common.{ℕ, ◌≡◌, ◌≢◌, inl, inr, Bool, true, f
 use Rattle.std.specs.Prelude.{if◌then◌else◌}
 use Rattle.std.specs.List.{All}
 use Rattle.std.specs.Str.{bytes_eq}
-use Rattle.std.proofs.lemmas.Bool.{false≢true}
+use Rattle.std.proofs.lemmas.Bool.{false≢true, false_from_ne_true}
 use Rattle.std.proofs.lemmas.List.Elements.{All-nil, All-cons, All-head, All-tail}
 use Rattle.std.proofs.lemmas.List.Sorted.{IsPermutation-refl, IsPermutation-sym, IsPermutation-trans, IsPermutation-cons, IsPermutation-middle, IsPermutation-map, All-permutation}
 use Rattle.std.proofs.lemmas.Slice.Eq.{bytes_eq-Decides}
 use Rattle.wave_wasm.specs.Lists.{AllOf, SomeOf}
-use Rattle.wave_wasm.specs.Names.{IsOneOf, IsNoneOf, AreDistinct, AreAllOf, is_one_of}
+use Rattle.wave_wasm.specs.Names.{IsOneOf, IsNoneOf, AreDistinct, is_one_of}
 use Rattle.wave_wasm.specs.Borrowed.{named}
 use Rattle.wave_wasm.specs.Types as type
 use Rattle.wave_wasm.specs.Types.{TypeTree, Fields, HasDistinctNames, field_names, record_parts}
@@ -23,14 +23,10 @@ use Rattle.wave_value.specs.FullTypes.{IsFull}
 use Rattle.wave_value.specs.RecordConstructor.{or_else, last_under, HasOwn, HasOther, IsRepeated, TakesRecord, MadeRecord, RefusesRecord}
 use Rattle.wave_value.specs.TypedValue.{TypedValue, IsAt}
 use Rattle.wave_value.specs.ValueModel.{first_names, trees, beside}
+use Rattle.wave_value.proofs.Lawful.{one_none, among}
 use Rattle.wave_value.proofs.ValueLists.{field_list-field_values}
 
 -- ---- names
-
-one_none : (ns : List (List ℕ)) (n : List ℕ) → IsOneOf ns n → IsNoneOf ns n → ⊥
-one_none [] n h k = h
-one_none (m ∷ ns) n (inl e) k = k.0 e
-one_none (m ∷ ns) n (inr h) k = one_none ns n h k.1
 
 never_repeated : (ns : List (List ℕ)) (n : List ℕ) → AreDistinct ns → IsRepeated ns n → ⊥
 never_repeated [] n d h = h
@@ -41,20 +37,11 @@ names_are : (fs : Fields) → field_names fs ≡ first_names (type.field_list fs
 names_are type.no_fields = refl
 names_are (type.field n T fs) = ap (λ ns. n ∷ ns) (names_are fs)
 
-among : (ns ms : List (List ℕ)) (n : List ℕ) → AreAllOf ns ms → IsOneOf ms n → IsOneOf ns n
-among ns [] n h k = absurd k
-among ns (m ∷ ms) n h (inl e) = subst (IsOneOf ns) (sym e) h.0
-among ns (m ∷ ms) n h (inr k) = among ns ms n h.1 k
-
 same_text : (a : List ℕ) → bytes_eq a a ≡ true
 same_text a = (bytes_eq-Decides a a).1 refl
 
 other_text : (a b : List ℕ) → a ≢ b → bytes_eq a b ≡ false
-other_text a b n = by (bytes_eq a b) refl
-  where
-    by : (t : Bool) → bytes_eq a b ≡ t → t ≡ false
-    by true e = absurd (n ((bytes_eq-Decides a b).0 e))
-    by false e = refl
+other_text a b n = false_from_ne_true (bytes_eq a b) (λ e. n ((bytes_eq-Decides a b).0 e))
 
 -- ---- the last value under a name, where names are distinct
 

@@ -1,15 +1,14 @@
 -- What the makers of values with parts make and refuse.
-use Rattle.std.proofs.Common.{ℕ, zero, suc, ◌≡◌, ◌<◌, ◌≤◌, ◌+◌, Bool, true, false, List, [], ◌∷◌, length, take, get_or, refl, sym, ap, subst, ◌∙◌, arith, inl, inr, Option, Some, None, cond, nat_lt}
+use Rattle.std.proofs.Common.{ℕ, suc, ◌≡◌, ◌<◌, ◌≤◌, ◌+◌, Bool, true, false, List, [], ◌∷◌, length, get_or, refl, sym, ap, subst, ◌∙◌, arith, inl, inr, Some, None, cond, nat_lt}
 use Rattle.std.proofs.lemmas.Bool.Decides.{nat_tests}
 use Rattle.std.specs.List.{position, position_or_len}
 use Rattle.std.specs.Prelude.{not, string_bytes}
 use Rattle.std.specs.Str.{bytes_eq}
 use Rattle.std.proofs.lemmas.Bool.{false≢true}
-use Rattle.std.proofs.Math.Numerals.{add-one}
-use Rattle.std.proofs.lemmas.List.{take_all}
+use Rattle.std.proofs.lemmas.Option.{same_Some, none-some}
 use Rattle.std.proofs.lemmas.List.Quantifiers.{position-Some}
 use Rattle.std.proofs.lemmas.Slice.Eq.{bytes_eq-Decides}
-use Rattle.wave_wasm.specs.Lists.{SomeOf}
+use Rattle.wave_wasm.specs.Lists.{AllOf, SomeOf}
 use Rattle.wave_wasm.specs.Names.{IsOneOf}
 use Rattle.wave_wasm.specs.Types as type
 use Rattle.wave_wasm.specs.Types.{TypeTree, list_part, option_part, kind_of, enum_names}
@@ -26,8 +25,9 @@ use Rattle.wave_value.specs.declared.value.Content.{Content}
 use Rattle.wave_value.specs.TypedValue.{TypedValue, IsAt}
 use Rattle.wave_value.specs.ValueModel.{name_at, trees}
 use Rattle.wave_value.specs.Private.ValueModel.{content_tree, AllAt, Fits}
-use Rattle.wave_value.specs.ConstructorRules.{Made, AllOwn, TakesList, TakesEnum, TellsOther, list_stated, option_stated, RefusesParts, RefusesEnum}
+use Rattle.wave_value.specs.ConstructorRules.{Made, AllOwn, TakesList, TakesEnum, TellsOther, list_stated, RefusesParts, RefusesEnum}
 use Rattle.wave_value.specs.Private.ConstructorRules.{Tells, SaysType, SaysCase}
+use Rattle.wave_value.proofs.ValueLists.{some_mapped}
 use Rattle.wave_value.proofs.ValueMeans.{means, list_value, one_of}
 
 -- a test of the own type
@@ -58,22 +58,13 @@ tells_so words kind T stated U v _ is one other says = absurd says
 
 -- ---- lists
 
-abbrev or_else : Option TypeTree → TypeTree → TypeTree
-or_else None T = T
-or_else (Some U) T = U
-
 all_own : (E : TypeTree) (vs : List TypedValue) → AllAt E vs → AllOwn E vs
 all_own E [] h = tt
 all_own E (v ∷ vs) h = (h.0.own, all_own E vs h.1)
 
-item_stated : (E : TypeTree) (vs : List TypedValue) (i : ℕ) (v : TypedValue) → i < length vs → v ≡ get_or vs i v → SomeOf (λ p. (E, v) ≡ p) (list_stated (type.list E) vs)
-item_stated E [] i v lt is = absurd (omega (arith, lt))
-item_stated E (w ∷ vs) zero v lt is = inl (λ j. (E, is j))
-item_stated E (w ∷ vs) (suc i) v lt is = inr (item_stated E vs i v (omega (arith, lt)) is)
-
 -- a type with an element type is a list's
 pub list_is : (T E : TypeTree) → Some E ≡ list_part T → T ≡ type.list E
-list_is (type.list U) E e = ap type.list (ap (λ o. or_else o U) (sym e))
+list_is (type.list U) E e = ap type.list (sym (same_Some E U e))
 list_is _ E e = absurd (cc)
 
 pub list_taken : (T E : TypeTree) (vs : List TypedValue) → T ≡ type.list E → AllAt E vs → TakesList T vs
@@ -84,18 +75,8 @@ list_made T E vs is h = subst (λ U. HasType U (value.list (values (trees vs))))
 
 pub list_refused : (words : TypedValue → List ℕ) (T E : TypeTree) (xs vs : List TypedValue) (i : ℕ) (v : TypedValue) (e : WasmValueError) → T ≡ type.list E → xs ≡ vs → i < length xs → v ≡ get_or xs i v → (v.own ≡ E → ⊥) → SaysType words E v e → RefusesParts words kinds.List T (list_stated T vs) e
 list_refused words T E xs vs i v e is same lt at other says =
-    let one = subst (λ zs. SomeOf (λ p. (E, v) ≡ p) (list_stated (type.list E) zs)) same (item_stated E xs i v lt at) in
+    let one = subst (λ zs. SomeOf (λ p. (E, v) ≡ p) (list_stated (type.list E) zs)) same (some_mapped (λ w. (E, w)) (λ p. (E, v) ≡ p) xs i v lt at refl) in
     subst (λ U. RefusesParts words kinds.List U (list_stated U vs) e) (sym is) (tells_so words kinds.List (type.list E) (list_stated (type.list E) vs) E v e refl one other says)
-
--- ---- options
-
-option_is : (T P : TypeTree) → Some P ≡ option_part T → T ≡ type.option P
-option_is (type.option U) P e = ap type.option (ap (λ o. or_else o U) (sym e))
-option_is _ P e = absurd (cc)
-
-pub option_refused : (words : TypedValue → List ℕ) (T P : TypeTree) (v : TypedValue) (e : WasmValueError) → Some P ≡ option_part T → (v.own ≡ P → ⊥) → SaysType words P v e → RefusesParts words kinds.Option T (option_stated T (Some v)) e
-option_refused words T P v e is other says =
-    subst (λ U. RefusesParts words kinds.Option U (option_stated U (Some v)) e) (sym (option_is T P is)) (tells_so words kinds.Option (type.option P) ((P, v) ∷ []) P v e refl (inl refl) other says)
 
 -- ---- enums
 
@@ -117,32 +98,31 @@ enum_made T own n i same e = record {
   fits = enum_has T n (enum_taken T n i e);
 }
 
-below_step : (b : Bool) (k l : ℕ) → k < l → cond b 0 (1 + k) < suc l
-below_step true k l h = omega arith
-below_step false k l h = omega (arith, h)
+no_place : (b : Bool) (k l : ℕ) → nat_lt k l ≡ b → None ≡ cond b (Some k) None → l ≤ k
+no_place true k l is e = absurd (none-some k e)
+no_place false k l is e = grind (arith, nat_tests)
 
-first_step : (p : List ℕ → Bool) (m : List ℕ) (ns : List (List ℕ)) → position_or_len p (m ∷ ns) ≡ cond (p m) 0 (1 + position_or_len p ns)
-first_step p m ns = head_step (p m) (position_or_len p ns)
-  where
-    head_step : (b : Bool) (k : ℕ) → cond (not b) (1 + k) 0 ≡ cond b 0 (1 + k)
-    head_step true k = refl
-    head_step false k = refl
+fails_step : (b : Bool) (k l : ℕ) → suc l ≤ cond (not b) (1 + k) 0 → (b ≡ false) × (l ≤ k)
+fails_step true k l le = absurd (omega (arith, le))
+fails_step false k l le = (refl, omega (arith, le))
 
-first_below : (p : List ℕ → Bool) (ns : List (List ℕ)) (n : List ℕ) → IsOneOf ns n → p n ≡ true → position_or_len p ns < length ns
-first_below p [] n h e = absurd h
-first_below p (m ∷ ns) n (inl is) e =
-    rw first_step (subst (λ b. cond b 0 (1 + position_or_len p ns) < suc (length ns)) (sym (subst (λ k. p k ≡ true) is e)) (omega arith))
-first_below p (m ∷ ns) n (inr h) e = rw first_step (below_step (p m) (position_or_len p ns) (length ns) (first_below p ns n h e))
+module _ {A : Type 0} (test : A → Bool) where
+  fails : (xs : List A) → length xs ≤ position_or_len test xs → AllOf (λ x. test x ≡ false) xs
+  fails [] le = tt
+  fails (x ∷ xs) le = let p = fails_step (test x) (position_or_len test xs) (length xs) le in (p.0, fails xs p.1)
+
+  -- what isn't found passes nowhere
+  pub none_found : (xs : List A) → None ≡ position test xs → AllOf (λ x. test x ≡ false) xs
+  none_found xs e = fails xs (no_place (nat_lt (position_or_len test xs) (length xs)) (position_or_len test xs) (length xs) refl e)
+
+no_one : (n : List ℕ) (ns : List (List ℕ)) → AllOf (λ m. bytes_eq n m ≡ false) ns → IsOneOf ns n → ⊥
+no_one n [] h one = one
+no_one n (m ∷ ns) h (inl is) = false≢true (sym h.0 ∙ (bytes_eq-Decides n m).1 is)
+no_one n (m ∷ ns) h (inr one) = no_one n ns h.1 one
 
 -- a case of the type has a place
-pub has_place : (T : TypeTree) (n : List ℕ) → None ≡ position (λ m. bytes_eq n m) (enum_names T) → TakesEnum T n → ⊥
-has_place (type.enum ns) n e h =
-    let lt = first_below (λ m. bytes_eq n m) ns n h ((bytes_eq-Decides n n).1 refl) in
-    let found : nat_lt (position_or_len (λ m. bytes_eq n m) ns) (length ns) ≡ true = grind (arith, nat_tests) in
-    no_some _ (e ∙ ap (λ b. cond b (Some (position_or_len (λ m. bytes_eq n m) ns)) None) found)
-  where
-    no_some : (k : ℕ) → None ≡ Some k → ⊥
-    no_some k e = cc
+has_place : (T : TypeTree) (n : List ℕ) → None ≡ position (λ m. bytes_eq n m) (enum_names T) → TakesEnum T n → ⊥
+has_place (type.enum ns) n e h = no_one n ns (none_found (λ m. bytes_eq n m) ns e) h
 has_place _ n e h = absurd h
 
 -- the refusal of an unknown case
@@ -150,16 +130,3 @@ pub enum_refused : (T : TypeTree) (n : List ℕ) (e : WasmValueError) → kinds.
 enum_refused T n (error.UnknownCase m) is none says = (sym is, says, has_place T n none)
 enum_refused T n (error.Memory r) is none says = tt
 enum_refused T n _ is none says = absurd says
-
-all_next : (E : TypeTree) (vs : List TypedValue) (i : ℕ) (v : TypedValue) → i < length vs → v ≡ get_or vs i v → IsAt E v → AllAt E (take i vs) → AllAt E (take (suc i) vs)
-all_next E [] i v lt is at h = absurd (omega (arith, lt))
-all_next E (w ∷ vs) zero v lt is at h = (subst (IsAt E) is at, tt)
-all_next E (w ∷ vs) (suc i) v lt is at h = (h.0, all_next E vs i v (omega (arith, lt)) is at h.1)
-
--- one more value is at the type
-pub all_more : (E : TypeTree) (vs : List TypedValue) (i : ℕ) (v : TypedValue) → i < length vs → v ≡ get_or vs i v → IsAt E v → AllAt E (take i vs) → AllAt E (take (i + 1) vs)
-all_more E vs i v lt is at h = rw add-one (all_next E vs i v lt is at h)
-
--- all values are, at the end of the loop
-pub all_at : (E : TypeTree) (xs vs : List TypedValue) (i : ℕ) → xs ≡ vs → length xs ≤ i → AllAt E (take i xs) → AllAt E vs
-all_at E xs vs i same le h = subst (AllAt E) (take_all i xs le ∙ same) h

@@ -1,10 +1,8 @@
 -- What the makers of variants and flags make and refuse.
-use Rattle.std.proofs.Common.{ℕ, zero, suc, ◌≡◌, ◌≢◌, ◌<◌, ◌≤◌, ◌+◌, Bool, true, false, List, [], ◌∷◌, length, get_or, refl, sym, ap, subst, ◌∙◌, arith, inl, inr, Option, Some, None, cond, nat_lt}
-use Rattle.std.specs.List.{position, position_or_len}
-use Rattle.std.specs.Prelude.{not}
+use Rattle.std.proofs.Common.{ℕ, zero, suc, ◌≡◌, ◌≢◌, ◌<◌, true, false, List, [], ◌∷◌, length, get_or, refl, sym, ap, subst, ◌∙◌, arith, inl, inr, Option, Some, None}
+use Rattle.std.specs.List.{position}
 use Rattle.std.specs.Str.{bytes_eq}
 use Rattle.std.proofs.lemmas.Bool.{false≢true}
-use Rattle.std.proofs.lemmas.Bool.Decides.{nat_tests}
 use Rattle.std.proofs.lemmas.List.Quantifiers.{position-Some}
 use Rattle.std.proofs.lemmas.Slice.Eq.{bytes_eq-Decides}
 use Rattle.wave_wasm.specs.Lists.{AllOf}
@@ -23,6 +21,7 @@ use Rattle.wave_value.specs.Private.ValueModel.{PayloadAt, CaseAt, VariantFits}
 use Rattle.wave_value.specs.ConstructorRules.{Made, PayloadOwn, RefusesPayload}
 use Rattle.wave_value.specs.Private.ConstructorRules.{SaysCase}
 use Rattle.wave_value.specs.CaseRules.{IsFirstCase, TakesVariant, RefusesVariant}
+use Rattle.wave_value.proofs.Made.{none_found}
 use Rattle.wave_value.proofs.ValueMeans.{variant_value}
 
 -- ---- the first case of a name
@@ -99,23 +98,6 @@ payload_refused words T name i c p (error.Memory r) kind e is refuses = tt
 payload_refused words T name i c p _ kind e is refuses = absurd refuses
 
 -- ---- a name that isn't found
-
-no_place : (b : Bool) (k l : ℕ) → nat_lt k l ≡ b → None ≡ cond b (Some k) None → l ≤ k
-no_place true k l is e = absurd (cc)
-no_place false k l is e = grind (arith, nat_tests)
-
-fails_step : (b : Bool) (k l : ℕ) → suc l ≤ cond (not b) (1 + k) 0 → (b ≡ false) × (l ≤ k)
-fails_step true k l le = absurd (omega (arith, le))
-fails_step false k l le = (refl, omega (arith, le))
-
-module _ {A : Type 0} (test : A → Bool) where
-  fails : (xs : List A) → length xs ≤ position_or_len test xs → AllOf (λ x. test x ≡ false) xs
-  fails [] le = tt
-  fails (x ∷ xs) le = let p = fails_step (test x) (position_or_len test xs) (length xs) le in (p.0, fails xs p.1)
-
-  -- what isn't found passes nowhere
-  pub none_found : (xs : List A) → None ≡ position test xs → AllOf (λ x. test x ≡ false) xs
-  none_found xs e = fails xs (no_place (nat_lt (position_or_len test xs) (length xs)) (position_or_len test xs) (length xs) refl e)
 
 no_name : (cs : List (List ℕ × Option TypeTree)) (name : List ℕ) → AllOf (λ c. bytes_eq name c.0 ≡ false) cs → IsNoneOf (first_names cs) name
 no_name [] name h = tt

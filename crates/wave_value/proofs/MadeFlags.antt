@@ -1,14 +1,13 @@
 -- What the maker of flags makes and refuses.
-use Rattle.std.proofs.Common.{ℕ, zero, suc, ◌≡◌, ◌<◌, ◌≤◌, ◌+◌, Bool, true, false, ◌||◌, List, [], ◌∷◌, ◌++◌, map, length, take, get_or, refl, sym, ap, subst, ◌∙◌, arith, Some, Bor}
-use Rattle.std.specs.Prelude.{bytes_eq, is_some, if◌then◌else◌}
+use Rattle.std.proofs.Common.{ℕ, ◌≡◌, ◌<◌, ◌≤◌, ◌+◌, Bool, true, false, List, [], ◌∷◌, ◌++◌, map, length, take, get_or, refl, sym, ap, subst, ◌∙◌, arith, Some, Bor}
+use Rattle.std.specs.Prelude.{is_some, if◌then◌else◌}
 use Rattle.std.specs.BTreeMap as tree
 use Rattle.std.specs.BTreeMap.{BTreeMap}
 use Rattle.std.specs.Cmp.Lexicographic.{slice_cmp}
 use Rattle.std.specs.Ordering.{nat_cmp}
 use Rattle.std.proofs.lemmas.Bool.{false≢true}
-use Rattle.std.proofs.lemmas.List.{take_more, take_all, map-append, append-nil}
+use Rattle.std.proofs.lemmas.List.{take_more, take_all, map-append, append-nil, length-map, get_or-map}
 use Rattle.std.proofs.lemmas.List.Elements.{filter-append}
-use Rattle.std.proofs.lemmas.Slice.Eq.{bytes_eq-Decides}
 use Rattle.wave_wasm.specs.Names.{IsOneOf, IsNoneOf, AreAllOf, is_one_of, found_in}
 use Rattle.wave_wasm.specs.Borrowed.{texts}
 use Rattle.wave_wasm.specs.Types as type
@@ -20,7 +19,7 @@ use Rattle.wave_wasm.specs.declared.wasm.WasmTypeKind.TheVariants as kinds
 use Rattle.wave_wasm.specs.declared.wasm.WasmValueError.{WasmValueError}
 use Rattle.wave_wasm.specs.declared.wasm.WasmValueError.TheVariants as error
 use Rattle.wave_wasm.proofs.NameSets.{holds_more}
-use Rattle.wave_wasm.proofs.NameTests.{is_one}
+use Rattle.wave_wasm.proofs.NameTests.{is_one, none_of}
 use Rattle.wave_value.specs.ValueModel.{name_at}
 use Rattle.wave_value.specs.Private.ValueModel.{Grows, FlagsFit}
 use Rattle.wave_value.specs.ConstructorRules.{Made}
@@ -39,15 +38,6 @@ pub keys_more : {X : Type 0} (m n : BTreeMap (Bor (List ℕ)) X) (xs : List (Bor
     → tree.UpdatesBy (λ a b. slice_cmp nat_cmp a.now b.now) (λ k. slice_cmp nat_cmp (get_or xs i d).now k.now) m n (Some x) → HasKeys n (texts (take (i + 1) xs))
 keys_more m n xs i d x lt h u = subst (HasKeys n) (sym (texts_more xs i d lt)) (holds_more m n (texts (take i xs)) (get_or xs i d).now x h u)
 
-text_at : (xs : List (Bor (List ℕ))) (i : ℕ) (d : Bor (List ℕ)) → i < length xs → name_at (texts xs) i ≡ (get_or xs i d).now
-text_at [] i d lt = absurd (omega (arith, lt))
-text_at (x ∷ xs) zero d lt = refl
-text_at (x ∷ xs) (suc i) d lt = text_at xs i d (omega (arith, lt))
-
-text_length : (xs : List (Bor (List ℕ))) → length (texts xs) ≡ length xs
-text_length [] = refl
-text_length (x ∷ xs) = ap suc (text_length xs)
-
 all_push : (names ns : List (List ℕ)) (n : List ℕ) → AreAllOf names ns → IsOneOf names n → AreAllOf names (ns ++ n ∷ [])
 all_push names [] n h one = (one, tt)
 all_push names (m ∷ ns) n h one = (h.0, all_push names ns n h.1 one)
@@ -58,16 +48,6 @@ pub known_more : {X : Type 0} (m : BTreeMap (Bor (List ℕ)) X) (names : List (L
 known_more m names xs i d b lt keys found there h =
     subst (AreAllOf names) (sym (texts_more xs i d lt)) (all_push names (texts (take i xs)) (get_or xs i d).now h (is_one names (get_or xs i d).now (sym (keys (get_or xs i d).now) ∙ (sym found ∙ there))))
 
-or_false : (a b : Bool) → (a || b) ≡ false → (a ≡ false) × (b ≡ false)
-or_false true b e = absurd (cc)
-or_false false b e = (refl, e)
-
-none_is : (names : List (List ℕ)) (n : List ℕ) → is_one_of names n ≡ false → IsNoneOf names n
-none_is [] n e = tt
-none_is (m ∷ names) n e =
-    let p = or_false (bytes_eq n m) (is_one_of names n) e in
-    (λ same. false≢true (sym p.0 ∙ (bytes_eq-Decides n m).1 same), none_is names n p.1)
-
 refused : (names handed : List (List ℕ)) (n : List ℕ) (e : WasmValueError) → IsOneOf handed n → IsNoneOf names n → SaysCase n e → RefusesNames names handed e
 refused names handed n (error.UnknownCase m) one none says = (subst (IsOneOf handed) (sym says) one, subst (IsNoneOf names) (sym says) none)
 refused names handed n (error.Memory r) one none says = tt
@@ -77,8 +57,8 @@ refused names handed n _ one none says = absurd says
 pub name_refused : {X : Type 0} (m : BTreeMap (Bor (List ℕ)) X) (names : List (List ℕ)) (xs : List (Bor (List ℕ))) (i : ℕ) (d : Bor (List ℕ)) (b : Bool) (e : WasmValueError) → i < length xs → HasKeys m names
     → b ≡ is_some (tree.get_by (λ k. slice_cmp nat_cmp (get_or xs i d).now k.now) m) → b ≡ false → SaysCase (get_or xs i d).now e → RefusesNames names (texts xs) e
 name_refused m names xs i d b e lt keys found not_there says =
-    let among : IsOneOf (texts xs) (get_or xs i d).now = subst (IsOneOf (texts xs)) (text_at xs i d lt) (one_of (texts xs) i (omega (arith, text_length xs, lt))) in
-    refused names (texts xs) (get_or xs i d).now e among (none_is names (get_or xs i d).now (sym (keys (get_or xs i d).now) ∙ (sym found ∙ not_there))) says
+    let among : IsOneOf (texts xs) (get_or xs i d).now = subst (IsOneOf (texts xs)) (get_or-map (λ (n : Bor (List ℕ)). n.now) xs i d [] lt) (one_of (texts xs) i (omega (arith, length-map xs (λ (n : Bor (List ℕ)). n.now), lt))) in
+    refused names (texts xs) (get_or xs i d).now e among (none_of names (get_or xs i d).now (sym (keys (get_or xs i d).now) ∙ (sym found ∙ not_there))) says
 
 -- ---- the places that are found
 
@@ -107,7 +87,7 @@ pub place_found : {X : Type 0} (m : BTreeMap (Bor (List ℕ)) X) (handed : List 
 place_found m handed all i d b is lt keys found there h =
     let more = found_more handed all i d true lt (sym (keys (get_or all i d).now) ∙ (sym found ∙ there)) in
     let called : map (name_at (texts all)) (is ++ i ∷ []) ≡ found_in handed (texts (take i all)) ++ (get_or all i d).now ∷ [] =
-    map-append (name_at (texts all)) is (i ∷ []) ∙ (λ j. h.1 j ++ text_at all i d lt j ∷ []) in
+    map-append (name_at (texts all)) is (i ∷ []) ∙ (λ j. h.1 j ++ get_or-map (λ (n : Bor (List ℕ)). n.now) all i d [] lt j ∷ []) in
     (grows_push 0 i is (omega arith) h.0, called ∙ sym more)
 
 -- a name that isn't has none
@@ -152,7 +132,7 @@ places_fit _ is kind h = absurd (cc)
 -- the places of all names fit the type
 pub flags_fit : (T own : TypeTree) (xs ys : List (Bor (List ℕ))) (is : List ℕ) → kinds.Flags ≡ kind_of T → own ≡ T → xs ≡ ys → texts ys ≡ flags_names T → Grows 0 (length xs) is → FlagsFit own is
 flags_fit T own xs ys is kind same view names h =
-    let long : length xs ≡ length (flags_names T) = sym (text_length xs) ∙ ap length (ap texts view ∙ names) in
+    let long : length xs ≡ length (flags_names T) = sym (length-map xs (λ (n : Bor (List ℕ)). n.now)) ∙ ap length (ap texts view ∙ names) in
     subst (λ U. FlagsFit U is) (sym same) (places_fit T is kind (subst (λ n. Grows 0 n is) long h))
 
 -- what was made are those of the type's names that were handed over

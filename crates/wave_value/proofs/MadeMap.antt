@@ -1,7 +1,6 @@
 -- What the maker of maps makes and refuses.
-use Rattle.std.proofs.Common.{ℕ, zero, suc, ◌≡◌, ◌<◌, ◌≤◌, ◌+◌, List, [], ◌∷◌, length, take, get_or, refl, sym, ap, subst, ◌∙◌, arith, inl, inr, Option, Some, None}
-use Rattle.std.proofs.Math.Numerals.{add-one}
-use Rattle.std.proofs.lemmas.List.{take_all}
+use Rattle.std.proofs.Common.{ℕ, zero, suc, ◌≡◌, ◌<◌, List, [], ◌∷◌, length, get_or, refl, sym, ap, subst, ◌∙◌, arith, inl, inr, Some}
+use Rattle.std.proofs.lemmas.Option.{same_Some}
 use Rattle.wave_wasm.specs.Lists.{SomeOf}
 use Rattle.wave_wasm.specs.Types as type
 use Rattle.wave_wasm.specs.Types.{TypeTree, Simple, kind_of, map_parts}
@@ -10,7 +9,7 @@ use Rattle.wave_wasm.specs.Values.{entries}
 use Rattle.wave_wasm.specs.ConstructorContracts.{leaf_entries}
 use Rattle.wave_wasm.specs.declared.wasm.WasmTypeKind.TheVariants as kinds
 use Rattle.wave_wasm.specs.declared.wasm.WasmValueError.{WasmValueError}
-use Rattle.wave_value.specs.TypedValue.{TypedValue, IsAt}
+use Rattle.wave_value.specs.TypedValue.{TypedValue}
 use Rattle.wave_value.specs.Private.ValueModel.{entry_trees, EntriesAt, MapFits}
 use Rattle.wave_value.specs.ConstructorRules.{RefusesParts}
 use Rattle.wave_value.specs.Private.ConstructorRules.{SaysType}
@@ -19,13 +18,11 @@ use Rattle.wave_value.proofs.Made.{tells_so}
 use Rattle.wave_value.proofs.ValueMeans.{map_value}
 use Rattle.wave_value.proofs.ValueLists.{map_back, entry_list-entries}
 
-abbrev or_both : Option (TypeTree × TypeTree) → TypeTree → TypeTree × TypeTree
-or_both None T = (T, T)
-or_both (Some p) T = p
-
 -- a type with a key type and a value type is a map's
 map_is : (T A B : TypeTree) → Some (A, B) ≡ map_parts T → (K : Simple) × (A ≡ type.simple K) × (T ≡ type.map K B)
-map_is (type.map K V) A B e = (K, ap (λ o. (or_both o V).0) e, ap (λ o. type.map K (or_both o V).1) (sym e))
+map_is (type.map K V) A B e =
+    let same : ◌≡◌ {A = TypeTree × TypeTree} (A, B) (type.simple K, V) = same_Some _ _ e in
+    (K, ap (λ (p : TypeTree × TypeTree). p.0) same, ap (λ (p : TypeTree × TypeTree). type.map K p.1) (sym same))
 map_is _ A B e = absurd (cc)
 
 pub map_fits : (T own A B : TypeTree) (es : List (TypedValue × TypedValue)) → own ≡ T → Some (A, B) ≡ map_parts T → EntriesAt A B es → MapFits own es
@@ -35,7 +32,7 @@ map_fits T own A B es same e h =
 
 entries_own : (A B : TypeTree) (es : List (TypedValue × TypedValue)) → EntriesAt A B es → EntriesOwn A B es
 entries_own A B [] h = tt
-entries_own A B (e ∷ es) h = (h.0.own, h.1.own, entries_own A B es h.2)
+entries_own A B (e ∷ es) h = (h.0.0.own, h.0.1.own, entries_own A B es h.1)
 
 pub map_taken : (T A B : TypeTree) (es : List (TypedValue × TypedValue)) → Some (A, B) ≡ map_parts T → EntriesAt A B es → TakesMap T es
 map_taken T A B es e h =
@@ -73,16 +70,3 @@ key_refused words T A B xs es i d r e same lt at other says =
 pub value_refused : (words : TypedValue → List ℕ) (T A B : TypeTree) (xs es : List (TypedValue × TypedValue)) (i : ℕ) (d : TypedValue × TypedValue) (r : WasmValueError) → Some (A, B) ≡ map_parts T → xs ≡ es → i < length xs → d ≡ get_or xs i d → (d.1.own ≡ B → ⊥) → SaysType words B d.1 r → RefusesParts words kinds.Map T (map_stated T es) r
 value_refused words T A B xs es i d r e same lt at other says =
     refused words T A B es B d.1 r e (subst (λ zs. SomeOf (λ p. (B, d.1) ≡ p) (entries_stated A B zs)) same (value_stated A B xs i d lt at)) other says
-
-entry_next : (A B : TypeTree) (es : List (TypedValue × TypedValue)) (i : ℕ) (e : TypedValue × TypedValue) → i < length es → e ≡ get_or es i e → IsAt A e.0 → IsAt B e.1 → EntriesAt A B (take i es) → EntriesAt A B (take (suc i) es)
-entry_next A B [] i e lt is key val h = absurd (omega (arith, lt))
-entry_next A B (d ∷ es) zero e lt is key val h = (subst (λ (p : TypedValue × TypedValue). IsAt A p.0) is key, subst (λ (p : TypedValue × TypedValue). IsAt B p.1) is val, tt)
-entry_next A B (d ∷ es) (suc i) e lt is key val h = (h.0, h.1, entry_next A B es i e (omega (arith, lt)) is key val h.2)
-
--- one more entry is at the types
-pub entry_more : (A B : TypeTree) (es : List (TypedValue × TypedValue)) (i : ℕ) (e : TypedValue × TypedValue) → i < length es → e ≡ get_or es i e → IsAt A e.0 → IsAt B e.1 → EntriesAt A B (take i es) → EntriesAt A B (take (i + 1) es)
-entry_more A B es i e lt is key val h = rw add-one (entry_next A B es i e lt is key val h)
-
--- all entries are, at the end of the loop
-pub entries_at : (A B : TypeTree) (xs es : List (TypedValue × TypedValue)) (i : ℕ) → xs ≡ es → length xs ≤ i → EntriesAt A B (take i xs) → EntriesAt A B es
-entries_at A B xs es i same le h = subst (EntriesAt A B) (take_all i xs le ∙ same) h

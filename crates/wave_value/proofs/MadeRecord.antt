@@ -9,7 +9,8 @@ use Rattle.std.specs.Map.{lookup}
 use Rattle.std.specs.Str.{bytes_eq}
 use Rattle.std.specs.declared.alloc.Global.{Global}
 use Rattle.std.proofs.lemmas.Bool.{false≢true}
-use Rattle.std.proofs.lemmas.List.{take_all, take_more}
+use Rattle.std.proofs.lemmas.List.{take_all, take_more, map-append}
+use Rattle.std.proofs.lemmas.Option.{same_Some, none-some}
 use Rattle.std.proofs.lemmas.List.Folds.{list_any-append}
 use Rattle.std.proofs.lemmas.Map.Text.{btree_map_updates_str}
 use Rattle.std.proofs.lemmas.Slice.Eq.{bytes_eq-Decides}
@@ -32,16 +33,12 @@ use Rattle.wave_type.specs.TypeModel.{by_bytes, record_part}
 use Rattle.wave_value.specs.ValueModel.{first_names, trees, beside}
 use Rattle.wave_value.specs.Private.ValueModel.{FieldsAt, RecordFits}
 use Rattle.wave_type.proofs.TypeLists.{field_list-fields_of}
-use Rattle.wave_value.proofs.ValueLists.{map_push}
+use Rattle.wave_value.proofs.ValueLists.{some_mapped}
 use Rattle.wave_value.proofs.ValueMeans.{record_value}
 
 -- ---- the last value under each name
 
 module _ {A : Type 0} where
-  -- an empty map holds nothing
-  pub held_none : (m : BTreeMap (Bor (List ℕ)) A) → tree.IsEmpty m → (name : List ℕ) → held m name ≡ None
-  held_none m e name = search (rules, e)
-
   or_cond : (b : Bool) (v : A) (o p : Option A) → or_else (cond b (Some v) o) p ≡ cond b (Some v) (or_else o p)
   or_cond true v o p = refl
   or_cond false v o p = refl
@@ -59,7 +56,7 @@ module _ {A : Type 0} where
   held_more m n given name v h u q =
       btree_map_updates_str name.now m n (Some v) u q
       ∙ (ap (λ o. cond (bytes_eq name.now q) (Some v) o) (h q)
-      ∙ (sym (last_more (named given) name.now v q) ∙ ap (λ l. last_under l q) (sym (map_push (λ f. (f.0.now, f.1)) given (name, v)))))
+      ∙ (sym (last_more (named given) name.now v q) ∙ ap (λ l. last_under l q) (sym (map-append (λ f. (f.0.now, f.1)) given ((name, v) ∷ [])))))
 
 -- ---- the values in the fields' order
 
@@ -93,7 +90,7 @@ pub taking_push : (fs : List (List ℕ × TypeTree)) (under now new : List ℕ �
 taking_push fs under now new vs f v t e at step =
     let names = first_names fs in
     let there : (is_one_of names f.0 ≡ false) × (under f.0 ≡ Some v) = none_left (is_one_of names f.0) (under f.0) v (sym (t.left f.0) ∙ e) in
-    let pushed : first_names (fs ++ f ∷ []) ≡ names ++ f.0 ∷ [] = map_push (λ p. p.0) fs f in
+    let pushed : first_names (fs ++ f ∷ []) ≡ names ++ f.0 ∷ [] = map-append (λ p. p.0) fs (f ∷ []) in
     record {
       left = λ name. step name ∙ (ap (λ o. cond (bytes_eq f.0 name) None o) (t.left name) ∙ (out_of (is_one_of names name) (bytes_eq f.0 name) (under name)
           ∙ (ap (λ b. cond (is_one_of names name || (b || false)) None (under name)) (eq_turn f.0 name)
@@ -114,12 +111,6 @@ repeated [] i f lt is h = absurd (omega (arith, lt))
 repeated (x ∷ xs) zero f lt is h = absurd h
 repeated (x ∷ xs) (suc i) f lt is (inl e) = inl (e, one_name xs i f (omega (arith, lt)) is)
 repeated (x ∷ xs) (suc i) f lt is (inr h) = inr (repeated xs i f (omega (arith, lt)) is h)
-
-other_at : (words : TypedValue → List ℕ) (t s : List ℕ) (xs : List (String Global × TypeTree)) (i : ℕ) (f : String Global × TypeTree) (under : List ℕ → Option TypedValue) (v : TypedValue) → i < length xs → f ≡ get_or xs i f → under (string_bytes f.0) ≡ Some v → TellsOther words t s f.1 v → SomeOf (λ g. HasOther words t s g.1 (under g.0)) (map by_bytes xs)
-other_at words t s [] i f under v lt is e other = absurd (omega (arith, lt))
-other_at words t s (x ∷ xs) zero f under v lt is e other =
-    inl (subst (λ (g : String Global × TypeTree). HasOther words t s g.1 (under (string_bytes g.0))) is (subst (HasOther words t s f.1) (sym e) other))
-other_at words t s (x ∷ xs) (suc i) f under v lt is e other = inr (other_at words t s xs i f under v (omega (arith, lt)) is e other)
 
 -- no value is left under the name, or there was none
 missing_or_repeated : (b : Bool) (o : Option TypedValue) → cond b None o ≡ None → (o ≡ None) ⊎ (b ≡ true)
@@ -157,7 +148,7 @@ other_is words ys under T v _ one other says = absurd says
 pub other_refused : (words : TypedValue → List ℕ) (xs ys : List (String Global × TypeTree)) (i : ℕ) (f : String Global × TypeTree) (n : List ℕ) (under now : List ℕ → Option TypedValue) (vs : List TypedValue) (v : TypedValue) (e : WasmValueError) → xs ≡ ys → i < length xs → f ≡ get_or xs i f → n ≡ string_bytes f.0 → Taking (map by_bytes (take i xs)) under now vs → now n ≡ Some v → v.own ≢ f.1 → SaysType words f.1 v e → RefusesFields words (map by_bytes ys) under e
 other_refused words xs ys i f n under now vs v e same lt is called taking some other says =
     let there = was_under _ under now vs n v taking some in
-    let one = λ (t : List ℕ) (s : List ℕ) (tells : TellsOther words t s f.1 v). other_at words t s xs i f under v lt is (subst (λ k. under k ≡ Some v) called there) tells in
+    let one = λ (t : List ℕ) (s : List ℕ) (tells : TellsOther words t s f.1 v). some_mapped by_bytes (λ g. HasOther words t s g.1 (under g.0)) xs i f lt is (subst (HasOther words t s f.1) (sym (subst (λ k. under k ≡ Some v) called there)) tells) in
     subst (λ zs. RefusesFields words (map by_bytes zs) under e) same (other_is words (map by_bytes xs) under f.1 v e one other says)
 
 -- one more field was taken
@@ -165,7 +156,7 @@ pub taking_more : (xs : List (String Global × TypeTree)) (i : ℕ) (f : String 
     → tree.UpdatesBy (λ a b. slice_cmp nat_cmp a.now b.now) (λ k. slice_cmp nat_cmp n k.now) m new None → Taking (map by_bytes (take (i + 1) xs)) under (held new) (vs ++ v ∷ [])
 taking_more xs i f n under m new vs v lt is called t some at u =
     let more : map by_bytes (take (i + 1) xs) ≡ map by_bytes (take i xs) ++ by_bytes f ∷ [] =
-    ap (map by_bytes) (take_more xs i f lt ∙ ap (λ g. take i xs ++ g ∷ []) (sym is)) ∙ map_push by_bytes (take i xs) f
+    ap (map by_bytes) (take_more xs i f lt ∙ ap (λ g. take i xs ++ g ∷ []) (sym is)) ∙ map-append by_bytes (take i xs) (f ∷ [])
     in
     let step : (q : List ℕ) → held new q ≡ cond (bytes_eq (string_bytes f.0) q) None (held m q) =
     λ q. btree_map_updates_str n m new None u q ∙ ap (λ k. cond (bytes_eq k q) None (held m q)) called
@@ -189,10 +180,7 @@ unknown_refused words xs ys i under now vs n v e same le t some says =
     let whole = whole_taken xs ys i under now vs same le t in
     let names = first_names (map by_bytes ys) in
     let there : (is_one_of names n ≡ false) × (under n ≡ Some v) = none_left (is_one_of names n) (under n) v (sym (whole.left n) ∙ some) in
-    unknown_is words (map by_bytes ys) under n e (λ none. some_none v (sym there.1 ∙ none)) (λ one. false≢true (sym there.0 ∙ passes names n one)) says
-  where
-    some_none : (v : TypedValue) → Some v ≡ None → ⊥
-    some_none v e = cc
+    unknown_is words (map by_bytes ys) under n e (λ none. none-some v (sym none ∙ there.1)) (λ one. false≢true (sym there.0 ∙ passes names n one)) says
 
 empty_holds : (test : Bor (List ℕ) → Bool) (es : List (Bor (List ℕ) × TypedValue)) → length es ≤ 0 → lookup test es ≡ None
 empty_holds test [] none = refl
@@ -215,13 +203,9 @@ all_in_order xs ys i under m vs same le t none =
 
 -- ---- the record
 
-abbrev or_those : Option Fields → Fields → Fields
-or_those None fs = fs
-or_those (Some gs) fs = gs
-
 -- a type with such fields is a record's
 pub record_is : (T : TypeTree) (parts : List (List ℕ × TypeTree)) → Some (fields_of parts) ≡ record_part T → type.record_type (fields_of parts) ≡ T
-record_is (type.record_type fs) parts e = ap type.record_type (ap (λ o. or_those o fs) e)
+record_is (type.record_type fs) parts e = ap type.record_type (same_Some (fields_of parts) fs e)
 record_is _ parts e = absurd (cc)
 
 fields_at : (under : List ℕ → Option TypedValue) (fs : List (List ℕ × TypeTree)) (vs : List TypedValue) → FieldsHeld under fs vs → FieldsAt fs vs

@@ -1,8 +1,9 @@
 -- What the maker of tuples makes and refuses.
-use Rattle.std.proofs.Common.{ℕ, zero, suc, ◌≡◌, ◌<◌, ◌≤◌, ◌+◌, List, [], ◌∷◌, length, take, get_or, refl, sym, ap, subst, ◌∙◌, arith, inl, inr, Option, Some, None}
+use Rattle.std.proofs.Common.{ℕ, zero, suc, ◌≡◌, ◌<◌, ◌≤◌, ◌+◌, List, [], ◌∷◌, length, take, get_or, refl, sym, ap, subst, ◌∙◌, arith, inl, inr, Some}
 use Rattle.std.specs.Prelude.{string_bytes}
 use Rattle.std.proofs.Math.Numerals.{add-one}
 use Rattle.std.proofs.lemmas.List.{take_all}
+use Rattle.std.proofs.lemmas.Option.{same_Some}
 use Rattle.wave_wasm.specs.Lists.{SomeOf}
 use Rattle.wave_wasm.specs.Types as type
 use Rattle.wave_wasm.specs.Types.{TypeTree, Types, kind_of, types_of, type_list, tuple_parts}
@@ -21,13 +22,9 @@ use Rattle.wave_value.proofs.Made.{some_so}
 use Rattle.wave_type.proofs.TypeLists.{type_list-types_of}
 use Rattle.wave_value.proofs.ValueMeans.{tuple_value}
 
-abbrev or_these : Option Types → Types → Types
-or_these None Ts = Ts
-or_these (Some Us) Ts = Us
-
 -- a type with such parts is a tuple's
 pub tuple_is : (T : TypeTree) (Us : List TypeTree) → Some (types_of Us) ≡ tuple_part T → type.tuple (types_of Us) ≡ T
-tuple_is (type.tuple Ts) Us e = ap type.tuple (ap (λ o. or_these o Ts) e)
+tuple_is (type.tuple Ts) Us e = ap type.tuple (same_Some (types_of Us) Ts e)
 tuple_is _ Us e = absurd (cc)
 
 each_own : (Ts : List TypeTree) (vs : List TypedValue) → EachAt Ts vs → EachOwn Ts vs

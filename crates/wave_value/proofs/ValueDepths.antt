@@ -48,7 +48,7 @@ fields_deep (n ∷ ns) (v ∷ vs) = omega (arith, fields_deep ns vs)
 
 pairs_deep : (K : Simple) (V : TypeTree) (es : List (TypedValue × TypedValue)) → EntriesAt (type.simple K) V es → pairs_depth es ≤ depth_of_entries (entries (entry_trees es))
 pairs_deep K V [] h = omega arith
-pairs_deep K V (e ∷ es) (key, val, more) = omega (arith, key_flat K e.0 key, pairs_deep K V es more)
+pairs_deep K V (e ∷ es) ((key, val), more) = omega (arith, key_flat K e.0 key, pairs_deep K V es more)
 
 map_deep : (T : TypeTree) (es : List (TypedValue × TypedValue)) → MapFits T es → pairs_depth es ≤ depth_of_entries (entries (entry_trees es))
 map_deep (type.map K V) es h = pairs_deep K V es h

@@ -105,7 +105,7 @@ key_means K v h = let (one, of, is) = h.fits in subst (λ w. IsLeafOf K (key_of 
 
 entries_mean : (K : Simple) (V : TypeTree) (es : List (TypedValue × TypedValue)) → EntriesAt (type.simple K) V es → AllOf (λ e. IsLeafOf K e.0 × HasType V e.1) (entry_trees es)
 entries_mean K V [] h = tt
-entries_mean K V (e ∷ es) (key, val, more) = ((key_means K e.0 key, val.fits), entries_mean K V es more)
+entries_mean K V (e ∷ es) ((key, val), more) = ((key_means K e.0 key, val.fits), entries_mean K V es more)
 
 pub map_value : (T : TypeTree) (es : List (TypedValue × TypedValue)) → MapFits T es → HasType T (value.map (entries (entry_trees es)))
 map_value (type.map K V) es h = (entry_trees es, entries_mean K V es h, refl)

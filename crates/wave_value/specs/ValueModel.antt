@@ -1,5 +1,5 @@
 -- What a value's content means at its type, and what holds of it.
-use Rattle.std.specs.Prelude.{ℕ, ◌+◌, ◌≤◌, ◌<◌, pos, ◌≡◌, ◌≢◌, List, [], ◌∷◌, map, get_or, Option, option_map, string_bytes}
+use Rattle.std.specs.Prelude.{ℕ, pos, List, [], ◌∷◌, map, get_or, Option, option_map, string_bytes}
 use Rattle.std.specs.declared.alloc.Global.{Global}
 use Rattle.std.specs.declared.boxed.Box.{Box}
 use Rattle.wave_wasm.specs.Types as type

@@ -415,20 +415,9 @@ fn clone_content(alloc: Global, content: &Content) -> Result<Content, AllocError
         Content::Option(val) => Ok(Content::Option(clone_payload(alloc, val)?)),
         Content::Ok(val) => Ok(Content::Ok(clone_payload(alloc, val)?)),
         Content::Err(val) => Ok(Content::Err(clone_payload(alloc, val)?)),
-        Content::Flags(places) => Ok(Content::Flags(clone_places(alloc, places)?)),
+        Content::Flags(places) => Ok(Content::Flags(places.clone()?)),
         Content::Map(entries) => Ok(Content::Map(clone_entries(alloc, entries)?)),
     }
-}
-
-// A copy of the places.
-fn clone_places(alloc: Global, places: &Vec<usize>) -> Result<Vec<usize>, AllocError>
-    ensures { IfOk result (λ v. v.items ≡ places.now.items) }
-{
-    let mut answer = Vec::new(alloc);
-    for place in places {
-        answer.push(*place)?;
-    }
-    Ok(answer)
 }
 
 // Copies of the values.

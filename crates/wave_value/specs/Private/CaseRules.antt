@@ -1,5 +1,5 @@
 -- What the makers of variants, flags and maps accept, and what their refusals say.
-use Rattle.std.specs.Prelude.{ℕ, ◌≡◌, ◌≢◌, ◌⊎◌, List, [], ◌∷◌, map, is_some}
+use Rattle.std.specs.Prelude.{ℕ, ◌≡◌, List, is_some}
 use Rattle.std.specs.Borrow.{Bor}
 use Rattle.std.specs.BTreeMap.{BTreeMap, get_by}
 use Rattle.std.specs.Cmp.Lexicographic.{slice_cmp}

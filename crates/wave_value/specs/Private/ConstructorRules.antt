@@ -1,5 +1,5 @@
 -- What each maker of values accepts, what it makes, and what its refusals say.
-use Rattle.std.specs.Prelude.{ℕ, ◌≡◌, ◌≢◌, Bool, true, false, List, [], ◌∷◌, string_bytes}
+use Rattle.std.specs.Prelude.{ℕ, ◌≡◌, Bool, true, false, List, string_bytes}
 use Rattle.wave_wasm.specs.TypeText.{type_text}
 use Rattle.wave_wasm.specs.Types.{TypeTree}
 use Rattle.wave_wasm.specs.declared.wasm.WasmTypeKind.{WasmTypeKind}

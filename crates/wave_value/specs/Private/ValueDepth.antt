@@ -30,7 +30,7 @@ key_flat K v h = let (one, fits, is) = h.fits in omega (arith, ap depth is)
 
 entries_most : (K : Simple) (V : TypeTree) (es : List (TypedValue × TypedValue)) → EntriesAt (type.simple K) V es → most (λ e. max (depth e.0.tree + 1) (max (depth e.1.tree + 1) 0)) es ≤ suc (depth_of_entries (entries (entry_trees es)))
 entries_most K V [] h = omega arith
-entries_most K V (e ∷ es) (key, val, more) = omega (arith, key_flat K e.0 key, entries_most K V es more)
+entries_most K V (e ∷ es) ((key, val), more) = omega (arith, key_flat K e.0 key, entries_most K V es more)
 
 two_max : {m n : ℕ} → m ≤ n → max (max m 0) 0 ≤ n
 two_max h = omega arith

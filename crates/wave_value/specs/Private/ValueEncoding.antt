@@ -1,10 +1,9 @@
 -- A value as something that can be stored, by which two values are told apart.
-use Rattle.std.specs.Prelude.{◌≡◌, ℕ, ◌==◌, List, [], ◌∷◌, refl}
+use Rattle.std.specs.Prelude.{◌≡◌, ℕ, List, refl}
 use Rattle.std.proofs.Common.{sym, ap, ◌∙◌}
 use Rattle.std.specs.Coded.{Coded, code_by, coded×}
-use base.Stored.{Gv, gnil, gnum, gcons, num}
 use Rattle.wave_wasm.specs.Types.{TypeTree}
-use Rattle.wave_wasm.specs.TypeTreeEncoding.{stored, stored_name}
+use Rattle.wave_wasm.specs.TypeTreeEncoding.{stored_name}
 use Rattle.wave_wasm.specs.Private.TypeTreeEncoding.{tree_code}
 use Rattle.wave_wasm.specs.Values.{Value}
 use Rattle.wave_value.specs.TypedValue.{TypedValue}

@@ -1,5 +1,6 @@
 -- What a value's content means at its type, and what holds of it.
 use Rattle.std.specs.Prelude.{ℕ, zero, suc, ◌+◌, ◌≤◌, ◌<◌, ◌≡◌, ◌≢◌, List, [], ◌∷◌, map, length, Option, Some, None}
+use Rattle.wave_wasm.specs.Lists.{AllOf}
 use Rattle.wave_wasm.specs.Types as type
 use Rattle.wave_wasm.specs.Types.{TypeTree, record_parts, variant_parts, enum_names, flags_names}
 use Rattle.wave_wasm.specs.Values as value
@@ -34,8 +35,7 @@ content_tree T (contents.Map es) = value.map (entries (entry_trees es.items))
 
 -- each value is at this type
 abbrev pub AllAt : TypeTree → List TypedValue → Type 0
-AllAt T [] = Unit {0}
-AllAt T (v ∷ vs) = IsAt T v × AllAt T vs
+AllAt T vs = AllOf (IsAt T) vs
 
 -- the values are at these types, in order
 abbrev pub EachAt : List TypeTree → List TypedValue → Type 0
@@ -66,10 +66,13 @@ abbrev pub Grows : ℕ → ℕ → List ℕ → Type 0
 Grows from count [] = Unit {0}
 Grows from count (i ∷ is) = (from ≤ i) × (i < count) × Grows (i + 1) count is
 
--- the keys and values are at these types
+-- the key and the value are at these types
+abbrev pub EntryAt : TypeTree → TypeTree → TypedValue × TypedValue → Type 0
+EntryAt K V e = IsAt K e.0 × IsAt V e.1
+
+-- so it is of each entry
 abbrev pub EntriesAt : TypeTree → TypeTree → List (TypedValue × TypedValue) → Type 0
-EntriesAt K V [] = Unit {0}
-EntriesAt K V (e ∷ es) = IsAt K e.0 × IsAt V e.1 × EntriesAt K V es
+EntriesAt K V es = AllOf (EntryAt K V) es
 
 -- a list's items
 abbrev pub ListFits : TypeTree → List TypedValue → Type 0

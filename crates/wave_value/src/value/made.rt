@@ -6,6 +6,7 @@ ghost use Rattle.wave_wasm.specs.ConstructorContracts.{result_value, either_tree
 ghost use Rattle.wave_value.specs.ValueModel.{trees, payload_tree, boxed};
 ghost use Rattle.wave_value.specs.Private.ValueModel.{PayloadAt};
 ghost use Rattle.wave_value.specs.ConstructorRules.{Made, TakesList, TakesTuple, TakesOption, TakesResult, TakesEnum, list_stated, option_stated, RefusesParts, RefusesTuple, RefusesPayload, RefusesResult, RefusesEnum};
+ghost use Rattle.wave_value.specs.CaseRules.{MadeMap, TakesMap, map_stated};
 ghost use Rattle.wave_value.specs.Private.ConstructorRules.{Tells};
 ghost use Rattle.wave_wasm.specs.Borrowed.{shown, named};
 ghost use Rattle.wave_type.specs.TypeModel.{by_bytes};
@@ -21,7 +22,6 @@ use wave_type::ty::places::{enum_place, named_types, tuple_types};
 use wave_wasm::wasm::{WasmType, WasmTypeKind, WasmValueError};
 
 mod cases;
-mod entries;
 
 impl Value {
     // Whether the value's own type is this one.
@@ -104,6 +104,33 @@ impl Value {
         Ok(Value {
             own: ty.clone()?,
             content: Content::Record(vals),
+        })
+    }
+
+    // What `make_map` answers, where a refusal shows values so.
+    pub(crate) fn map_of<S: ShowsValue>(
+        alloc: Global,
+        ty: &Type,
+        entries: Vec<(Value, Value)>,
+    ) -> Result<Value, WasmValueError>
+        ensures made { IfOk result (MadeMap entries.items ty.now) }
+        ensures taken { OnOk result (TakesMap ty.now entries.items) }
+        ensures refused { IfErr result (RefusesParts S.words WasmTypeKind.Map ty.now (map_stated ty.now entries.items)) }
+    {
+        let Some((key, value)) = ty.map_key_value_types() else {
+            return Err(wrong_kind(alloc, WasmTypeKind::Map, ty));
+        };
+        for entry in &entries {
+            if !entry.0.is_at(key) {
+                return Err(wrong_type::<S>(alloc, key, &entry.0));
+            }
+            if !entry.1.is_at(value) {
+                return Err(wrong_type::<S>(alloc, value, &entry.1));
+            }
+        }
+        Ok(Value {
+            own: ty.clone()?,
+            content: Content::Map(entries),
         })
     }
 

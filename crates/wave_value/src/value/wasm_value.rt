@@ -6,7 +6,7 @@ use super::{Type, Value};
 use std::alloc::{AllocError, Global};
 use wave_wasm::wasm::{WasmTypeKind, WasmValue, WasmValueError};
 
-#[tactic(auto, using(crate::proofs::Lawful::made_leaf, crate::proofs::Lawful::made_only, crate::proofs::Lawful::never_refused, crate::proofs::Lawful::full_leaf, crate::proofs::Lawful::well_formed, crate::proofs::Lawful::made_list, crate::proofs::Lawful::full_list, crate::proofs::Lawful::made_tuple, crate::proofs::Lawful::full_tuple, crate::proofs::LawfulRecord::made_record, crate::proofs::LawfulCases::made_variant, crate::proofs::LawfulCases::full_variant, crate::proofs::Lawful::made_option, crate::proofs::Lawful::full_option, crate::proofs::Lawful::made_enum, crate::proofs::Lawful::full_enum, crate::proofs::Lawful::made_result, crate::proofs::Lawful::full_result, crate::proofs::LawfulCases::made_flags, crate::proofs::LawfulCases::full_flags, crate::proofs::LawfulCases::made_map, crate::proofs::LawfulCases::full_map))]
+#[tactic(auto, using(crate::proofs::Lawful::made_leaf, crate::proofs::Lawful::made_only, crate::proofs::Lawful::never_refused, crate::proofs::Lawful::full_leaf, crate::proofs::Lawful::well_formed, crate::proofs::Lawful::made_where, crate::proofs::Lawful::full_list, crate::proofs::Lawful::full_tuple, crate::proofs::LawfulRecord::made_record, crate::proofs::LawfulCases::full_variant, crate::proofs::Lawful::full_option, crate::proofs::Lawful::full_enum, crate::proofs::Lawful::full_result, crate::proofs::LawfulCases::made_flags, crate::proofs::LawfulCases::full_flags, crate::proofs::LawfulCases::made_map, crate::proofs::LawfulCases::full_map))]
 impl WasmValue for Value {
     ghost use Rattle.std.specs.Prelude.{◌≡◌, IfOk, IfErr, OnOk, pos};
     ghost use Rattle.wave_wasm.specs.Names.{found_in};

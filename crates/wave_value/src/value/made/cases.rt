@@ -35,13 +35,11 @@ impl Value {
             WasmTypeKind::Variant => match variant_place(ty, case) {
                 Some(place) => {
                     let (_, stated) = variant_case(ty, place);
-                    match boxed_payload::<S>(alloc, case, stated, val) {
-                        Ok(val) => Ok(Value {
-                            own: ty.clone()?,
-                            content: Content::Variant(place, val),
-                        }),
-                        Err(e) => Err(e),
-                    }
+                    let val = boxed_payload::<S>(alloc, case, stated, val)?;
+                    Ok(Value {
+                        own: ty.clone()?,
+                        content: Content::Variant(place, val),
+                    })
                 }
                 None => Err(named(alloc, Amiss::UnknownCase, case)),
             },
@@ -60,16 +58,12 @@ impl Value {
         match ty.kind() {
             WasmTypeKind::Flags => {
                 let all = ty.flags_names(alloc)?;
-                match check_names(alloc, &all, names) {
-                    Ok(()) => {
-                        let places = places_of(alloc, &all, names)?;
-                        Ok(Value {
-                            own: ty.clone()?,
-                            content: Content::Flags(places),
-                        })
-                    }
-                    Err(e) => Err(e),
-                }
+                check_names(alloc, &all, names)?;
+                let places = places_of(alloc, &all, names)?;
+                Ok(Value {
+                    own: ty.clone()?,
+                    content: Content::Flags(places),
+                })
             }
             _ => Err(wrong_kind(alloc, WasmTypeKind::Flags, ty)),
         }

@@ -1,5 +1,7 @@
+use Rattle.wave_value.specs.Private.ValueModel.{EntryAt}
+use Rattle.wave_value.proofs.ValueLists.{all_more, all_items}
 use Rattle.wave_value.proofs.Made.{is_at, not_at}
-use Rattle.wave_value.proofs.MadeMap.{map_taken, map_made, key_refused, value_refused, entry_more, entries_at}
+use Rattle.wave_value.proofs.MadeMap.{map_taken, map_made, key_refused, value_refused}
 use Rattle.wave_value.proofs.value.Value.map_of.Goals as goal
 
 pub returns-then-not-is_at-clause-refused : goal.returns-then-not-is_at-clause-refused
@@ -12,12 +14,12 @@ returns-then-not-is_at-2-clause-refused g c =
 
 pub loop-entry-preserved : goal.loop-entry-preserved
 loop-entry-preserved g c =
-    entry_more c.in-Some.key.now c.in-Some.value.now c.deref-entry-items.result.now c.loop-entry.entry-index c.entry-item.result c.loop-entry-test.true c.entry-item.is (is_at _ _ _ c.if-not-is_at.false c.is_at.ensures) (is_at _ _ _ c.if-not-is_at-2.false c.is_at-in-loop-entry.ensures) c.loop-entry.invariant
+    all_more (EntryAt c.in-Some.key.now c.in-Some.value.now) c.deref-entry-items.result.now c.loop-entry.entry-index c.entry-item.result c.loop-entry-test.true c.entry-item.is (is_at _ _ _ c.if-not-is_at.false c.is_at.ensures, is_at _ _ _ c.if-not-is_at-2.false c.is_at-in-loop-entry.ensures) c.loop-entry.invariant
 
 pub returns-clause-made : goal.returns-clause-made
 returns-clause-made g c =
-    map_made c.args.ty.now c.in_ok-clone.field-0 c.in-Some.key.now c.in-Some.value.now c.args.entries.items c.in_ok-clone.ensures.cases c.in-Some.ensures (entries_at _ _ c.deref-entry-items.result.now c.args.entries.items c.loop-entry.entry-index c.deref-entry-items.ensures.value c.loop-entry-test.false c.loop-entry.invariant)
+    map_made c.args.ty.now c.in_ok-clone.field-0 c.in-Some.key.now c.in-Some.value.now c.args.entries.items c.in_ok-clone.ensures.cases c.in-Some.ensures (all_items (EntryAt c.in-Some.key.now c.in-Some.value.now) c.deref-entry-items.result.now c.args.entries.items c.loop-entry.entry-index c.deref-entry-items.ensures.value c.loop-entry-test.false c.loop-entry.invariant)
 
 pub returns-clause-taken : goal.returns-clause-taken
 returns-clause-taken g c =
-    map_taken c.args.ty.now c.in-Some.key.now c.in-Some.value.now c.args.entries.items c.in-Some.ensures (entries_at _ _ c.deref-entry-items.result.now c.args.entries.items c.loop-entry.entry-index c.deref-entry-items.ensures.value c.loop-entry-test.false c.loop-entry.invariant)
+    map_taken c.args.ty.now c.in-Some.key.now c.in-Some.value.now c.args.entries.items c.in-Some.ensures (all_items (EntryAt c.in-Some.key.now c.in-Some.value.now) c.deref-entry-items.result.now c.args.entries.items c.loop-entry.entry-index c.deref-entry-items.ensures.value c.loop-entry-test.false c.loop-entry.invariant)

@@ -1,6 +1,7 @@
 use Rattle.std.proofs.Common.{arith, ap, sym, ◌∙◌}
 use Rattle.wave_wasm.specs.Private.Values.{depth}
 use Rattle.wave_type.specs.TypeEqualityLaws.{one_tree}
+use Rattle.wave_type.proofs.TypeEqual.{unequal}
 use Rattle.wave_value.specs.TypedValue.{TypedValue}
 use Rattle.wave_value.proofs.ValueDepths.{content_deep, value_below, pair_below}
 use Rattle.wave_value.proofs.ContentEquality.{typed_same, all_lens, pairs_lens}
@@ -16,10 +17,10 @@ ValuePartialEq::eq-returns-then-eq t c =
     rw (← c.self.view_is) (rw (← c.other.view_is) (typed_same c.self.inside.own c.other.inside.own c.self.inside.content c.other.inside.content _ _ c.eq.ensures c.if-eq.true one c.self.invariant c.other.invariant c.same_content.ensures))
 
 pub same_values-returns-then-len : goal.same_values-returns-then-len
-same_values-returns-then-len t c = all_lens c.args.a.now.items c.args.b.now.items _ _ (c.len.ensures ∙ c.args.a.now.ok.0) (c.len-2.ensures ∙ c.args.b.now.ok.0) c.if-len.true
+same_values-returns-then-len t c = all_lens c.args.a.now.items c.args.b.now.items (unequal _ _ (c.len.ensures ∙ c.args.a.now.ok.0) (c.len-2.ensures ∙ c.args.b.now.ok.0) c.if-len.true)
 
 pub same_entries-returns-then-len : goal.same_entries-returns-then-len
-same_entries-returns-then-len t c = pairs_lens c.args.a.now.items c.args.b.now.items _ _ (c.len.ensures ∙ c.args.a.now.ok.0) (c.len-2.ensures ∙ c.args.b.now.ok.0) c.if-len.true
+same_entries-returns-then-len t c = pairs_lens c.args.a.now.items c.args.b.now.items (unequal _ _ (c.len.ensures ∙ c.args.a.now.ok.0) (c.len-2.ensures ∙ c.args.b.now.ok.0) c.if-len.true)
 
 pub same_values-eq-same-requires : goal.same_values-eq-same-requires
 same_values-eq-same-requires t c =
