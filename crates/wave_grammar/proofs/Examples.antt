@@ -1,6 +1,2 @@
-pub mod Leaves
-pub mod TypedReading
-pub mod Trees
-pub mod Beginnings
-pub mod Faults
-pub mod Calls
+pub mod Readings
+pub mod Refusals

@@ -4,7 +4,6 @@ pub mod Automaton
 pub mod Examples
 pub mod FlagOrder
 pub mod Slices
-pub mod JoinedTexts
 pub mod RoundTrip
 pub mod Numbers
 pub mod FieldNames

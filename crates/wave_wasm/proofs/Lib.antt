@@ -15,6 +15,7 @@ pub mod Maps
 pub mod MergeLoop
 pub mod Places
 pub mod TextAppend
+pub mod JoinedTexts
 pub mod TypeTrees
 pub mod Functions
 pub mod NameTests

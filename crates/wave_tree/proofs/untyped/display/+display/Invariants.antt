@@ -7,7 +7,7 @@ use Rattle.wave_node.specs.Private.NodeTree.{depth, nodes_depth}
 use Rattle.wave_node.specs.NodeTree.{node_trees}
 use Rattle.wave_tree.specs.NodeDisplay.{shown_at}
 use Rattle.wave_tree.specs.Private.NodeDisplay.{entries_at, AreEntriesOf}
-use Rattle.wave_grammar.proofs.JoinedTexts.{separator, left}
+use Rattle.wave_wasm.proofs.JoinedTexts.{separator, left}
 use Rattle.wave_tree.proofs.untyped.display.+display.Given as goal
 
 abbrev pub decreases-write_node : goal.decreases-write_node

@@ -3,7 +3,8 @@ use Rattle.std.specs.Fmt.{HasWritten}
 use Rattle.std.proofs.lemmas.Grind.{put_three}
 use Rattle.std.proofs.Output.{has_written_of_eq}
 use Rattle.wave_wasm.specs.TypeText.{type_text}
-use Rattle.wave_type.proofs.Texts.{field_line, case_line, separator_more, joined_turn, all_types, all_fields, all_cases}
+use Rattle.wave_wasm.proofs.JoinedTexts.{separator_more, joined_turn}
+use Rattle.wave_type.proofs.Texts.{field_line, case_line, all_types, all_fields, all_cases}
 use Rattle.wave_type.proofs.TypeEqual.{type_at, field_at, case_at}
 use Rattle.wave_type.proofs.ty.display.+text.Goals as goal
 

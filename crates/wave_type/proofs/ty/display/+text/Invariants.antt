@@ -5,7 +5,8 @@ use Rattle.wave_wasm.specs.Types.{types_of, fields_of, cases_of, maybe_type}
 use Rattle.wave_wasm.specs.Commas.{joined}
 use Rattle.wave_wasm.specs.TypeText.{type_text}
 use Rattle.wave_type.specs.TypeModel.{by_bytes}
-use Rattle.wave_type.proofs.Texts.{separator, field_line, case_line}
+use Rattle.wave_wasm.proofs.JoinedTexts.{separator}
+use Rattle.wave_type.proofs.Texts.{field_line, case_line}
 use Rattle.wave_type.proofs.ty.display.+text.Given as goal
 
 abbrev pub decreases-write_type : goal.decreases-write_type

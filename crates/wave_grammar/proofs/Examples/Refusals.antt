@@ -1,0 +1,134 @@
+-- Worked examples of refusals: tokens that begin no tree, and placed trees that a type does not take.
+use Rattle.std.proofs.Common.{ℕ, ◌≡◌, ◌+◌, inl, inr, List, [], ◌∷◌, map, codes, refl, arith, None}
+use Prim.Native.String.{String}
+use Rattle.wave_lex.specs.declared.error.ParserError.{ParserError}
+use Rattle.wave_lex.specs.declared.error.ParserErrorKind.TheVariants.{UnexpectedEnd, NestingTooDeep, InvalidType, InvalidValue, InvalidMultilineString, DuplicateField}
+use Rattle.wave_lex.specs.Tokenization.{span}
+use Rattle.wave_lex.specs.Tokens.{gap}
+use Rattle.wave_lex.proofs.LongestMatch.{longest_here}
+use Rattle.wave_grammar.specs.Token.{Token, number, multiline}
+use Rattle.wave_grammar.specs.Tree as tree
+use Rattle.wave_grammar.specs.LenientTree.{TakesLoosely}
+use Rattle.wave_grammar.specs.ParserPosition.{Place}
+use Rattle.wave_lex.specs.Errors.{Says, Refusal, plainly, caused}
+use Rattle.wave_grammar.specs.SyntaxErrors.{StandsAt}
+use Rattle.wave_grammar.specs.PrefixAutomaton as due
+use Rattle.wave_grammar.specs.PrefixAutomaton.{Step, step, Leads, reads, unexpected, empty_tuple, repeated_flag, too_deep, value, first_item, next_item, behind_value}
+use Rattle.std.specs.declared.ops.Range.{Range}
+use Rattle.wave_wasm.specs.Types as type
+use Rattle.wave_wasm.specs.ValueErrors.{missing_field, missing_payload, unexpected_payload, unknown_case, wrong_number, unsupported_type}
+use Rattle.wave_lex.specs.Multiline.{opening}
+use Rattle.wave_grammar.specs.Token as token
+use Rattle.wave_grammar.specs.SpannedTree as placed
+use Rattle.wave_grammar.specs.SpannedTree.{Placed, MaybePlaced, PlacedTrees, at, no_placed, a_placed, tree_of, shape_of, part_places}
+use Rattle.wave_grammar.specs.TypeErrors.{Fault, Blame}
+use Rattle.wave_grammar.proofs.Unambiguity.Values.{apart}
+use Rattle.wave_grammar.proofs.RoundTrip.Names.{not_among}
+use Rattle.wave_grammar.proofs.Examples.Readings.{tokens, one, above_u8, u8, u8_or_err}
+
+-- what the last of the tokens does behind the others, within three levels; a refusal stays
+abbrev goes : Step → List Token → Step
+goes s [] = s
+goes (reads d forms) (t ∷ more) = goes (step 3 d forms t) more
+goes refusal (t ∷ more) = refusal
+
+-- what the last token of a text does where a value is due, and that it ends the value
+abbrev last : String → Step
+last text = goes (reads value []) (tokens text)
+
+abbrev whole : Step
+whole = reads behind_value []
+
+-- leaves and items; entries; flags; words; no form is past three levels, but keys and flags are none
+steps : (map last ("1" ∷ "'x'" ∷ "\"x\"" ∷ "\"\"\"x\"\"\"" ∷ ")" ∷ "1," ∷ "()" ∷ "(1)" ∷ "(1,)" ∷ "[]" ∷ "[1]" ∷ "[1,]" ∷ []) ≡ whole ∷ whole ∷ whole ∷ whole ∷ unexpected ∷ unexpected ∷ empty_tuple ∷ whole ∷ whole ∷ whole ∷ whole ∷ whole ∷ [])
+    × (map last ("{}" ∷ "{:}" ∷ "{:," ∷ "{," ∷ "{1: 1, a: 1,}" ∷ "{a: 1}" ∷ "{1: 1, 'x'," ∷ []) ≡ whole ∷ whole ∷ unexpected ∷ unexpected ∷ whole ∷ whole ∷ unexpected ∷ [])
+    × (map last ("{a}" ∷ "{a, true,}" ∷ "{a, %a" ∷ "{a, 1" ∷ "{a, true:" ∷ []) ≡ whole ∷ whole ∷ repeated_flag ∷ unexpected ∷ unexpected ∷ [])
+    × (map last ("a(1)" ∷ "some," ∷ "none(" ∷ "true(" ∷ "some(" ∷ "[ok," ∷ "err(" ∷ []) ≡ whole ∷ unexpected ∷ unexpected ∷ unexpected ∷ reads value (due.payload ∷ []) ∷ reads next_item (due.list ∷ []) ∷ reads value (due.payload ∷ []) ∷ [])
+    × (map last ("[[[]" ∷ "[[{a}" ∷ "[[[1" ∷ "[[{a: 1" ∷ []) ≡ reads behind_value (due.list ∷ due.list ∷ []) ∷ reads behind_value (due.list ∷ due.list ∷ []) ∷ too_deep ∷ too_deep ∷ [])
+steps = (refl, refl, refl, refl, refl)
+
+-- tokens lead behind a flag; two texts would be trees if a tuple might be empty and a flag repeated
+led : Leads 100 value [] (tokens "{a, %b") (due.behind_flag (codes "a" ∷ codes "b" ∷ [])) []
+    × TakesLoosely 2 (tokens "[()]") (tree.list (tree.trees (tree.tuple tree.no_trees ∷ []))) [] × TakesLoosely 1 (tokens "{a, a}") (tree.flags (codes "a" ∷ codes "a" ∷ [])) []
+led = ((_, _, refl, (_, _, refl, (_, _, refl, (_, _, refl, (refl, refl))))), inl (_ ∷ [], (_, inr (inl (refl, refl)), inl refl), refl), inr (inr (_, codes "a" ∷ codes "a" ∷ [], omega arith, refl, (_, refl, (_, _, refl, refl, inl refl)), refl)))
+
+-- `[` ends, and what stands there is refused at 1..1; where no level is left, whatever stands there
+end_refused : (e : ParserError) → Says e UnexpectedEnd (span 1 1) None
+    → StandsAt UnexpectedEnd e 100 first_item (due.list ∷ []) (record { lexer = record { source = codes "["; start = 0; end = 1 }; taken = 1 }) (record { lexer = record { source = codes "["; start = 1; end = 1 }; taken = 2 })
+end_refused e says = ((record { source = refl; skipped = longest_here gap _ _ refl refl refl refl; start = refl; end = refl }, refl), (λ deep. omega (arith, deep.full)), says)
+
+level_refused : (e : ParserError) (p : Place) → Says e NestingTooDeep (span p.lexer.start p.lexer.end) None → StandsAt NestingTooDeep e 0 value [] p p
+level_refused e p says = (record { full = omega arith; due = tt; no_close = λ t new h. refl }, refl, says)
+
+-- a leaf, a label of one byte with or without payload, and the fault of `256` at u8
+abbrev leaf : ℕ → ℕ → Token → Placed
+leaf from to t = at (span from to) (placed.one t)
+
+abbrev label : ℕ → ℕ → List ℕ → MaybePlaced → Placed
+label from to text payload = at (span from to) (placed.label (span from (from + 1)) text payload)
+
+abbrev big : Token
+big = number (codes "256")
+
+too_large : {from to : ℕ} → Fault u8 (leaf from to big) (plainly InvalidValue) (span from to)
+too_large = inr ((codes "256", inl refl), (above_u8, (refl, refl)))
+
+-- `{1: ok}`, its tree and the places of its parts
+abbrev some_entry : Placed
+some_entry = at (span 0 7) (placed.entries (placed.entry (span 1 2) one (at (span 4 6) (placed.ok no_placed)) placed.no_entries))
+
+parts : (tree_of some_entry ≡ tree.entries (tree.entry one (tree.ok tree.no_tree) tree.no_entries)) × (part_places (shape_of some_entry) ≡ span 1 2 ∷ span 4 6 ∷ [])
+    × (part_places (shape_of (label 0 4 (codes "a") (a_placed (leaf 2 3 one)))) ≡ span 0 1 ∷ span 2 3 ∷ [])
+parts = (refl, refl, refl)
+
+-- `a` at u8 and `1` at char: `InvalidType` 0..1; `1` at f64 and at a fixed-length list: the cause `UnsupportedType`; six quotes at string: `InvalidMultilineString` 3..4
+leaves : Fault u8 (label 0 1 (codes "a") no_placed) (plainly InvalidType) (span 0 1) × Fault (type.simple type.char) (leaf 0 1 one) (plainly InvalidType) (span 0 1)
+    × Fault (type.unreadable type.f64) (leaf 0 1 one) (caused (unsupported_type (codes "f64"))) (span 0 1) × Fault (type.fixed u8 4) (leaf 0 1 one) (caused (unsupported_type (codes "list<_,N>"))) (span 0 1)
+    × Fault (type.simple type.string) (leaf 0 6 (multiline (codes "\"\"\"\"\"\""))) (plainly InvalidMultilineString) (span 3 4)
+leaves = ((refl, refl), inl ((λ h. let e = h.1 in cc), (refl, refl)), (refl, refl), (refl, refl), inr ((_, inr refl), inr (_, [], opening, refl, refl, inr (inl ((0, refl), (λ no_second. no_second), refl)), (refl, refl))))
+
+-- `[1, 256]` at list<u8>: `InvalidValue` 4..7; `(1, 256)` at tuple<u8> the cause `WrongNumberOfTupleValues` 0..8, and at tuple<u8, u8> `InvalidValue` 4..7
+abbrev two : PlacedTrees
+two = placed.placed_trees (leaf 1 2 one ∷ leaf 4 7 big ∷ [])
+
+items : Fault (type.list u8) (at (span 0 8) (placed.list two)) (plainly InvalidValue) (span 4 7) × Fault (type.tuple (type.type_and u8 type.no_types)) (at (span 0 8) (placed.tuple two)) (caused (wrong_number 1 2)) (span 0 8)
+    × Fault (type.tuple (type.type_and u8 (type.type_and u8 type.no_types))) (at (span 0 8) (placed.tuple two)) (plainly InvalidValue) (span 4 7)
+items = (inr (inl too_large), inl ((λ e. omega arith), (refl, refl)), inr (inr (inl too_large)))
+
+-- at `record { a: u8 }` `{b: 1, a: 256, %a: 1}`: `InvalidValue` 0..21, `DuplicateField` 15..17, `InvalidValue` 10..13;
+-- `{1: ok}`: `InvalidType` 1..2, at the key, and the cause `MissingField("a")` 0..7; `{}`: `InvalidType` 0..2
+abbrev a_type : type.TypeTree
+a_type = type.record_type (type.field (codes "a") u8 type.no_fields)
+
+abbrev three_entries : Placed
+three_entries = at (span 0 21) (placed.entries (placed.entry (span 1 2) (token.label (codes "b")) (leaf 4 5 one)
+    (placed.entry (span 7 8) (token.label (codes "a")) (leaf 10 13 big) (placed.entry (span 15 17) (token.label (codes "%a")) (leaf 19 20 one) placed.no_entries))))
+
+records : Fault a_type three_entries (plainly InvalidValue) (span 0 21) × Fault a_type three_entries (plainly DuplicateField) (span 15 17) × Fault a_type three_entries (plainly InvalidValue) (span 10 13)
+records = (inr (inl (inl (inl (not_among (codes "a" ∷ []) (codes "b") refl)), (refl, refl))), inr (inr (inl (inr (inr (inl (inl (inl refl), (refl, refl))))))), inr (inr (inr (inr (inl (inr (inl (refl, too_large))))))))
+
+other_records : Fault a_type some_entry (plainly InvalidType) (span 1 2) × Fault a_type some_entry (caused (missing_field (codes "a"))) (span 0 7) × Fault a_type (at (span 0 2) placed.empty_braces) (plainly InvalidType) (span 0 2)
+other_records = (inl (inl (refl, (refl, refl))), inr (inr (inr (inl (inl ((λ option. option), (elim [ inl e ↦ cc | inr h ↦ h ]), (refl, refl)))))), (refl, refl))
+
+-- `{a, b}` at `flags { a }`: the cause `UnknownCase("b")` 0..6; at `enum { a }` `b` the same, `a(1)` `InvalidType` 0..4;
+-- at `variant { b(u8) }` `c` the cause `UnknownCase("c")`, `b(256)` `InvalidValue` 2..5
+names : Fault (type.flags (codes "a" ∷ [])) (at (span 0 6) (placed.flags ((span 1 2, codes "a") ∷ (span 4 5, codes "b") ∷ []))) (caused (unknown_case (codes "b"))) (span 0 6)
+    × Fault (type.enum (codes "a" ∷ [])) (label 0 1 (codes "b") no_placed) (caused (unknown_case (codes "b"))) (span 0 1) × Fault (type.enum (codes "a" ∷ [])) (label 0 4 (codes "a") (a_placed (leaf 2 3 one))) (plainly InvalidType) (span 0 4)
+    × Fault (type.variant (type.case_of (codes "b") (type.a_type u8) type.no_cases)) (label 0 1 (codes "c") no_placed) (caused (unknown_case (codes "c"))) (span 0 1)
+    × Fault (type.variant (type.case_of (codes "b") (type.a_type u8) type.no_cases)) (label 0 6 (codes "b") (a_placed (leaf 2 5 big))) (plainly InvalidValue) (span 2 5)
+names = (inr (inl (not_among (codes "a" ∷ []) (codes "b") refl, (refl, refl))), inr (refl, not_among (codes "a" ∷ []) (codes "b") refl, (refl, refl)), inl ((λ e. cc), (refl, refl)), inr ((λ e. apart _ _ refl e), (refl, refl)), inl (refl, too_large))
+
+-- at map<u8, u8> `{inf: 256}`: `InvalidType` 1..4, at the key, and `InvalidValue` 6..9; `{256: 1}`: `InvalidValue` 1..4
+abbrev map_fault : Token → Token → Blame
+map_fault key v = Fault (type.map (type.whole type.u8) u8) (at (span 0 10) (placed.entries (placed.entry (span 1 4) key (leaf 6 9 v) placed.no_entries)))
+
+maps : map_fault (token.label (codes "inf")) big (plainly InvalidType) (span 1 4) × map_fault (token.label (codes "inf")) big (plainly InvalidValue) (span 6 9) × map_fault big one (plainly InvalidValue) (span 1 4)
+maps = (inl (inl (inl ((λ e. cc), (λ leaf h. cc), (refl, refl)))), inl (inr too_large), inl (inl (inr (refl, too_large))))
+
+-- at option<u8> `some(256)` and `256` `InvalidValue`, `none` nothing; `1` at option<option<u8>> `InvalidType`
+-- at result<u8> `ok` the cause `MissingPayload("ok")`, `err(1)` `UnexpectedPayload("err")`, `256` `InvalidValue`; `1` at result `InvalidType`
+options : Fault (type.option u8) (at (span 0 9) (placed.some (leaf 5 8 big))) (plainly InvalidValue) (span 5 8) × Fault (type.option u8) (leaf 0 3 big) (plainly InvalidValue) (span 0 3)
+    × ((k : Refusal) (p : Range ℕ) → Fault (type.option u8) (at (span 0 4) placed.none) k p → ⊥) × Fault (type.option (type.option u8)) (leaf 0 1 one) (plainly InvalidType) (span 0 1)
+    × Fault u8_or_err (at (span 0 2) (placed.ok no_placed)) (caused (missing_payload (codes "ok"))) (span 0 2) × Fault u8_or_err (at (span 0 6) (placed.err (a_placed (leaf 4 5 one)))) (caused (unexpected_payload (codes "err"))) (span 0 6)
+    × Fault u8_or_err (leaf 0 3 big) (plainly InvalidValue) (span 0 3) × Fault (type.result type.no_type type.no_type) (leaf 0 1 one) (plainly InvalidType) (span 0 1)
+options = (too_large, inr (tt, too_large), (λ k p h. h), inl ((λ flat. flat), (refl, refl)), (refl, refl), (refl, refl), inr (tt, too_large), (refl, refl))
