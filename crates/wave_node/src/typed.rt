@@ -123,7 +123,7 @@ impl Node {
             Ok(types) => types,
             Err(_) => return Err(self.out_of_memory()),
         };
-        let (_, mut nodes) = self.fields(alloc, src)?;
+        let mut nodes = self.fields(alloc, src)?;
         let mut fields = Vec::new(alloc);
         for i in 0..types.len() {
             let (name, field) = types[i];

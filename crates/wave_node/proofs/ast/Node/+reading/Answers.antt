@@ -38,7 +38,7 @@ use Rattle.std.proofs.Common.{map, take, ap, ◌∙◌}
 use Rattle.wave_grammar.specs.SpannedTree.{entry_list}
 use Rattle.wave_node.specs.NodeAccessors.{shown_node}
 use Rattle.wave_grammar.specs.TypedGrammar.{names_of}
-use Rattle.wave_node.specs.NodeFields.{shown_field}
+use Rattle.wave_node.specs.Private.NodeFields.{fields_at}
 use Rattle.wave_node.proofs.Fields.Lookup.{take_whole}
 use Rattle.wave_node.proofs.Fields.Entries.{record_nodes}
 use Rattle.wave_node.proofs.Fields.Reading.{RecordType, record_is, part_at, as_parts, record_deep, fields_distinct, still_held, held_value, none_before, removed_next, given_fields, failed, nodes_blame, unknown_blame, field_blamed, field_read, fields_kept, record_done}
@@ -380,7 +380,7 @@ read_record-read_field-requires g m c κs within =
     let kind : kinds.Record ≡ kind_of (g.V.Type.WasmType.tree c.args.ty.now) = search rules in
     let is_record : RecordType (g.V.Type.WasmType.tree c.args.ty.now) (shown_fields g.V.Type.WasmType.tree c.in-Ok.types.items) = record_is (g.V.Type.WasmType.tree c.args.ty.now) (shown_fields g.V.Type.WasmType.tree c.in-Ok.types.items) kind c.in-Ok.ensures in
     let typed : HasAt (shown_fields g.V.Type.WasmType.tree c.in-Ok.types.items) c.loop-i.i (c.index.result.now.0.now, (g.V.Type.WasmType.tree c.index.result.now.1.now)) = part_at g.V.Type.WasmType.tree c.in-Ok.types.items c.loop-i.i c.index.result.now (omega arith) c.index.ensures in
-    (omega (arith, record_deep (g.V.Type.WasmType.tree c.args.ty.now) (shown_fields g.V.Type.WasmType.tree c.in-Ok.types.items) c.loop-i.i c.index.result.now.0.now (g.V.Type.WasmType.tree c.index.result.now.1.now) is_record typed), (within.0, (within.1, held_value c.args.src.now c.args.self.now value.0 (names_of (take c.loop-i.i (shown_fields g.V.Type.WasmType.tree c.in-Ok.types.items))) c.in_ok-nodes.nodes c.loop-i.nodes (map shown_field c.in_ok-nodes.field-0-0.items) c.index.result.now.0.now c.remove-node.result value.1 c.in_ok-nodes.ensures.given c.in_ok-nodes.ensures.held c.loop-i.invariant.removed c.remove-node.ensures.value)))
+    (omega (arith, record_deep (g.V.Type.WasmType.tree c.args.ty.now) (shown_fields g.V.Type.WasmType.tree c.in-Ok.types.items) c.loop-i.i c.index.result.now.0.now (g.V.Type.WasmType.tree c.index.result.now.1.now) is_record typed), (within.0, (within.1, held_value c.args.src.now c.args.self.now value.0 (names_of (take c.loop-i.i (shown_fields g.V.Type.WasmType.tree c.in-Ok.types.items))) c.in_ok-nodes.nodes c.loop-i.nodes (fields_at c.args.src.now (children_of c.args.self.now)) c.index.result.now.0.now c.remove-node.result value.1 c.in_ok-nodes.ensures.given c.in_ok-nodes.ensures.held c.loop-i.invariant.removed c.remove-node.ensures.value)))
 
 pub read_record-returns-in_err-val-clause-answer : goal.read_record-returns-in_err-val-clause-answer
 read_record-returns-in_err-val-clause-answer g m c = λ t is distinct.
@@ -388,9 +388,9 @@ read_record-returns-in_err-val-clause-answer g m c = λ t is distinct.
     let is_record : RecordType (g.V.Type.WasmType.tree c.args.ty.now) (shown_fields g.V.Type.WasmType.tree c.in-Ok.types.items) = record_is (g.V.Type.WasmType.tree c.args.ty.now) (shown_fields g.V.Type.WasmType.tree c.in-Ok.types.items) kind c.in-Ok.ensures in
     let typed : HasAt (shown_fields g.V.Type.WasmType.tree c.in-Ok.types.items) c.loop-i.i (c.index.result.now.0.now, (g.V.Type.WasmType.tree c.index.result.now.1.now)) = part_at g.V.Type.WasmType.tree c.in-Ok.types.items c.loop-i.i c.index.result.now (omega arith) c.index.ensures in
     let apart = fields_distinct (g.V.Type.WasmType.tree c.args.ty.now) (shown_fields g.V.Type.WasmType.tree c.in-Ok.types.items) is_record distinct in
-    let found = still_held (names_of (take c.loop-i.i (shown_fields g.V.Type.WasmType.tree c.in-Ok.types.items))) c.in_ok-nodes.nodes c.loop-i.nodes (map shown_field c.in_ok-nodes.field-0-0.items) c.index.result.now.0.now c.remove-node.result c.in_ok-nodes.ensures.held c.loop-i.invariant.removed (none_before (shown_fields g.V.Type.WasmType.tree c.in-Ok.types.items) c.loop-i.i c.index.result.now.0.now (g.V.Type.WasmType.tree c.index.result.now.1.now) apart.names typed) c.remove-node.ensures.value in
+    let found = still_held (names_of (take c.loop-i.i (shown_fields g.V.Type.WasmType.tree c.in-Ok.types.items))) c.in_ok-nodes.nodes c.loop-i.nodes (fields_at c.args.src.now (children_of c.args.self.now)) c.index.result.now.0.now c.remove-node.result c.in_ok-nodes.ensures.held c.loop-i.invariant.removed (none_before (shown_fields g.V.Type.WasmType.tree c.in-Ok.types.items) c.loop-i.i c.index.result.now.0.now (g.V.Type.WasmType.tree c.index.result.now.1.now) apart.names typed) c.remove-node.ensures.value in
     handed g.V.WasmValue.tree g.V.WasmValue.is_of g.V.WasmValue.is_full (g.V.Type.WasmType.tree c.args.ty.now) t c.in_err-val.field-0.0 c.from_residual-in_err-val.result c.from_residual-in_err-val.ensures.1
-    (field_blamed g.V.WasmValue.tree g.V.WasmValue.is_of g.V.WasmValue.is_full (g.V.Type.WasmType.tree c.args.ty.now) (g.V.Type.WasmType.tree c.index.result.now.1.now) (shown_fields g.V.Type.WasmType.tree c.in-Ok.types.items) c.args.src.now c.args.self.now t (map shown_field c.in_ok-nodes.field-0-0.items) c.loop-i.i c.index.result.now.0.now (shown_node c.remove-node.result) c.in_err-val.field-0.0 is_record is c.in_ok-nodes.ensures.given typed (all_has (λ p. HasDistinctNames p.1) (shown_fields g.V.Type.WasmType.tree c.in-Ok.types.items) c.loop-i.i (c.index.result.now.0.now, (g.V.Type.WasmType.tree c.index.result.now.1.now)) apart.within typed) g.met.V.WasmValue.full_parts found c.in_err-val.ensures.answer)
+    (field_blamed g.V.WasmValue.tree g.V.WasmValue.is_of g.V.WasmValue.is_full (g.V.Type.WasmType.tree c.args.ty.now) (g.V.Type.WasmType.tree c.index.result.now.1.now) (shown_fields g.V.Type.WasmType.tree c.in-Ok.types.items) c.args.src.now c.args.self.now t (fields_at c.args.src.now (children_of c.args.self.now)) c.loop-i.i c.index.result.now.0.now (shown_node c.remove-node.result) c.in_err-val.field-0.0 is_record is c.in_ok-nodes.ensures.given typed (all_has (λ p. HasDistinctNames p.1) (shown_fields g.V.Type.WasmType.tree c.in-Ok.types.items) c.loop-i.i (c.index.result.now.0.now, (g.V.Type.WasmType.tree c.index.result.now.1.now)) apart.within typed) g.met.V.WasmValue.full_parts found c.in_err-val.ensures.answer)
 
 pub read_record-loop-i-preserved : goal.read_record-loop-i-preserved
 read_record-loop-i-preserved g m c =
@@ -409,14 +409,14 @@ read_record-returns-then-not-is_empty-clause-answer g m c = λ t is distinct.
     let kind : kinds.Record ≡ kind_of (g.V.Type.WasmType.tree c.args.ty.now) = search rules in
     let is_record : RecordType (g.V.Type.WasmType.tree c.args.ty.now) (shown_fields g.V.Type.WasmType.tree c.in-Ok.types.items) = record_is (g.V.Type.WasmType.tree c.args.ty.now) (shown_fields g.V.Type.WasmType.tree c.in-Ok.types.items) kind c.in-Ok.ensures in
     let whole : take c.loop-i.i (shown_fields g.V.Type.WasmType.tree c.in-Ok.types.items) ≡ (shown_fields g.V.Type.WasmType.tree c.in-Ok.types.items) = take_whole (shown_fields g.V.Type.WasmType.tree c.in-Ok.types.items) c.loop-i.i (omega (arith, as_parts g.V.Type.WasmType.tree c.in-Ok.types.items)) in
-    unknown_blame g.V.WasmValue.is_full (g.V.Type.WasmType.tree c.args.ty.now) (shown_fields g.V.Type.WasmType.tree c.in-Ok.types.items) c.args.src.now c.args.self.now t (names_of (take c.loop-i.i (shown_fields g.V.Type.WasmType.tree c.in-Ok.types.items))) c.in_ok-nodes.nodes c.loop-i.nodes (map shown_field c.in_ok-nodes.field-0-0.items) c.error.result is_record is c.in_ok-nodes.ensures.given c.in_ok-nodes.ensures.held (ap names_of whole) c.loop-i.invariant.removed (failed c.is_empty.result c.if-not-is_empty.true c.is_empty.ensures.1) (said c.error.ensures)
+    unknown_blame g.V.WasmValue.is_full (g.V.Type.WasmType.tree c.args.ty.now) (shown_fields g.V.Type.WasmType.tree c.in-Ok.types.items) c.args.src.now c.args.self.now t (names_of (take c.loop-i.i (shown_fields g.V.Type.WasmType.tree c.in-Ok.types.items))) c.in_ok-nodes.nodes c.loop-i.nodes (fields_at c.args.src.now (children_of c.args.self.now)) c.error.result is_record is c.in_ok-nodes.ensures.given c.in_ok-nodes.ensures.held (ap names_of whole) c.loop-i.invariant.removed (failed c.is_empty.result c.if-not-is_empty.true c.is_empty.ensures.1) (said c.error.ensures)
 
 pub read_record-returns-clause-answer : goal.read_record-returns-clause-answer
 read_record-returns-clause-answer g m c = λ t is distinct.
     let kind : kinds.Record ≡ kind_of (g.V.Type.WasmType.tree c.args.ty.now) = search rules in
     let is_record : RecordType (g.V.Type.WasmType.tree c.args.ty.now) (shown_fields g.V.Type.WasmType.tree c.in-Ok.types.items) = record_is (g.V.Type.WasmType.tree c.args.ty.now) (shown_fields g.V.Type.WasmType.tree c.in-Ok.types.items) kind c.in-Ok.ensures in
-    let read = c.loop-i.invariant.read (map shown_field c.in_ok-nodes.field-0-0.items) c.in_ok-nodes.ensures.held (entry_list (record_nodes c.args.src.now c.args.self.now t is c.in_ok-nodes.ensures.given.is_set).given) (given_fields c.args.src.now c.args.self.now t (map shown_field c.in_ok-nodes.field-0-0.items) is c.in_ok-nodes.ensures.given) (fields_distinct (g.V.Type.WasmType.tree c.args.ty.now) (shown_fields g.V.Type.WasmType.tree c.in-Ok.types.items) is_record distinct) in
-    record_done g.V.WasmValue.tree g.V.WasmValue.is_of g.V.WasmValue.is_full (g.V.Type.WasmType.tree c.args.ty.now) (shown_fields g.V.Type.WasmType.tree c.in-Ok.types.items) c.args.src.now c.args.self.now t (map shown_field c.in_ok-nodes.field-0-0.items) c.loop-i.i c.in_ok-nodes.nodes c.loop-i.nodes c.loop-i.fields.items c.make_record.result c.or_error_here.result is_record distinct is c.in_ok-nodes.ensures.given c.in_ok-nodes.ensures.held (omega (arith, as_parts g.V.Type.WasmType.tree c.in-Ok.types.items)) c.loop-i.invariant.removed (c.is_empty.ensures.0 c.if-not-is_empty.false) read c.make_record.ensures.made c.make_record.ensures.full c.or_error_here.ensures
+    let read = c.loop-i.invariant.read (fields_at c.args.src.now (children_of c.args.self.now)) c.in_ok-nodes.ensures.held (entry_list (record_nodes c.args.src.now c.args.self.now t is c.in_ok-nodes.ensures.given.is_set).given) (given_fields c.args.src.now c.args.self.now t (fields_at c.args.src.now (children_of c.args.self.now)) is c.in_ok-nodes.ensures.given) (fields_distinct (g.V.Type.WasmType.tree c.args.ty.now) (shown_fields g.V.Type.WasmType.tree c.in-Ok.types.items) is_record distinct) in
+    record_done g.V.WasmValue.tree g.V.WasmValue.is_of g.V.WasmValue.is_full (g.V.Type.WasmType.tree c.args.ty.now) (shown_fields g.V.Type.WasmType.tree c.in-Ok.types.items) c.args.src.now c.args.self.now t (fields_at c.args.src.now (children_of c.args.self.now)) c.loop-i.i c.in_ok-nodes.nodes c.loop-i.nodes c.loop-i.fields.items c.make_record.result c.or_error_here.result is_record distinct is c.in_ok-nodes.ensures.given c.in_ok-nodes.ensures.held (omega (arith, as_parts g.V.Type.WasmType.tree c.in-Ok.types.items)) c.loop-i.invariant.removed (c.is_empty.ensures.0 c.if-not-is_empty.false) read c.make_record.ensures.made c.make_record.ensures.full c.or_error_here.ensures
 
 pub read-returns-in_err-as_number-in-S8-clause-within : goal.read-returns-in_err-as_number-in-S8-clause-within
 read-returns-in_err-as_number-in-S8-clause-within g m c =
@@ -690,7 +690,7 @@ read_record-returns-in_err-nodes-clause-within g m c =
 pub read_record-returns-in_err-val-clause-within : goal.read_record-returns-in_err-val-clause-within
 read_record-returns-in_err-val-clause-within g m c =
     let value : IsValueOf c.args.src.now c.args.self.now = search rules in
-    error_handed (StandsIn c.args.self.now) c.from_residual-in_err-val.result c.in_err-val.field-0.0 c.from_residual-in_err-val.ensures.1 (part_in c.args.src.now c.args.self.now (shown_node c.remove-node.result) c.in_err-val.field-0.0 (inl value) (held_belongs c.args.src.now c.args.self.now (names_of (take c.loop-i.i (shown_fields g.V.Type.WasmType.tree c.in-Ok.types.items))) c.in_ok-nodes.nodes c.loop-i.nodes (map shown_field c.in_ok-nodes.field-0-0.items) c.index.result.now.0.now c.remove-node.result value c.in_ok-nodes.ensures.given c.in_ok-nodes.ensures.held c.loop-i.invariant.removed c.remove-node.ensures.value) c.in_err-val.ensures.within)
+    error_handed (StandsIn c.args.self.now) c.from_residual-in_err-val.result c.in_err-val.field-0.0 c.from_residual-in_err-val.ensures.1 (part_in c.args.src.now c.args.self.now (shown_node c.remove-node.result) c.in_err-val.field-0.0 (inl value) (held_belongs c.args.src.now c.args.self.now (names_of (take c.loop-i.i (shown_fields g.V.Type.WasmType.tree c.in-Ok.types.items))) c.in_ok-nodes.nodes c.loop-i.nodes (fields_at c.args.src.now (children_of c.args.self.now)) c.index.result.now.0.now c.remove-node.result value c.in_ok-nodes.ensures.given c.in_ok-nodes.ensures.held c.loop-i.invariant.removed c.remove-node.ensures.value) c.in_err-val.ensures.within)
 
 pub read_record-returns-then-not-is_empty-clause-within : goal.read_record-returns-then-not-is_empty-clause-within
 read_record-returns-then-not-is_empty-clause-within g m c =
