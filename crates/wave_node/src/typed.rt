@@ -487,8 +487,7 @@ impl Node {
             Ok(names) => names,
             Err(_) => return Err(self.out_of_memory()),
         };
-        let flags = self.flags_of(alloc, &names, src)?;
-        let picked = self.picked(alloc, &names, &flags)?;
+        let picked = self.picked(alloc, &names, src)?;
         self.or_error_here(V::make_flags(alloc, ty, picked.as_slice()))
     }
 

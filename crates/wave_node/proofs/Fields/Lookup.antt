@@ -74,7 +74,8 @@ not_found (f ∷ fs) name e = by (bytes_eq name f.0) refl (not_found fs name) e
     by true is more e = absurd (cc)
     by false is more e = ((λ same. cc (sym is ∙ (bytes_eq-Decides name f.0).1 same)), more e)
 
-eq_turn : (a b : List ℕ) → bytes_eq a b ≡ bytes_eq b a
+-- the same test, turned
+pub eq_turn : (a b : List ℕ) → bytes_eq a b ≡ bytes_eq b a
 eq_turn a b = search (rules, bytes_eq-Decides a b, bytes_eq-Decides b a)
 
 -- a look-up among fields and one of a new name
