@@ -10,3 +10,4 @@ pub mod TextKeys
 pub mod Results
 pub mod Variants
 pub mod Flags
+pub mod Wholes

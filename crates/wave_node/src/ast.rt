@@ -369,7 +369,7 @@ impl<'this> Model for MapEntries<'this> {
 
 impl<'this> MapEntries<'this> {
     /// The nodes two by two.
-    fn new(nodes: &'this [Node]) -> MapEntries<'this>
+    pub(crate) fn new(nodes: &'this [Node]) -> MapEntries<'this>
         ensures { result ≡ node_pairs nodes.now }
     {
         MapEntries { nodes }

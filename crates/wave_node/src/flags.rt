@@ -1,5 +1,5 @@
 //! The flags of nodes.
-ghost use Rattle.std.specs.Prelude.{◌≡◌, IfOk, IfErr};
+ghost use Rattle.std.specs.Prelude.{◌≡◌, [], IfOk, IfErr};
 ghost use Rattle.wave_wasm.specs.Names.{AreAllOf, found_in};
 ghost use Rattle.wave_wasm.specs.Borrowed.{texts};
 ghost use Rattle.wave_lex.specs.declared.error.ParserErrorKind.TheVariants.{OutOfMemory};
@@ -7,7 +7,7 @@ ghost use Rattle.wave_node.specs.NodeTree.{children_of, place_of};
 ghost use Rattle.wave_node.specs.ErrorSpans.{IsAtNode};
 ghost use Rattle.wave_node.specs.Nodes.{IsParsedFrom};
 ghost use Rattle.wave_node.specs.TypedReading.{IsValueOf};
-ghost use Rattle.wave_node.specs.Private.NodeFlags.{AreAllParsed, GivesFlagNodes, HoldsNames, PicksFrom, RefusesFlags};
+ghost use Rattle.wave_node.specs.Private.NodeFlags.{AreAllParsed, GivesFlagNodes, MarksNames, MarksOneMore, TellsUnmarked, RefusesFlags};
 ghost use Rattle.wave_node.specs.NodeFlags.{AreFlags, AreInOrder, GivesFlags, names_at};
 
 use crate::ast::{Node, NodeType};
@@ -43,72 +43,86 @@ impl Node {
         }
     }
 
-    /// The names of the node's flags, where each is one of these names.
-    pub(crate) fn flags_of<'src>(
-        &self,
-        alloc: Global,
-        names: &Vec<&str>,
-        src: &'src str,
-    ) -> Result<BTreeMap<&'src str, ()>, ParserError>
-        requires { IsValueOf src.now self.now }
-        ensures form { IfOk result (λ _. AreFlags self.now) }
-        ensures held { IfOk result (λ flags. HoldsNames flags (names_at src.now (children_of self.now))) }
-        ensures known { IfOk result (λ _. AreAllOf (texts names.now.items) (names_at src.now (children_of self.now))) }
-        ensures refused { IfErr result (RefusesFlags (texts names.now.items) src.now self.now) }
-        ensures within { IfErr result (IsAtNode self.now) }
-    {
-        let nodes = self.flag_nodes()?;
-        let known = self.set_of(alloc, names)?;
-        let mut flags = BTreeMap::new(alloc);
-        for node in nodes {
-            let name = label_name(node.slice(src));
-            if !known.contains_key(name) {
-                return Err(self.unknown_case(alloc, name));
-            }
-            if flags.insert(name, ()).is_err() {
-                return Err(self.out_of_memory());
-            }
-        }
-        Ok(flags)
-    }
-
-    /// A set of these names.
-    fn set_of<'name>(
-        &self,
-        alloc: Global,
-        names: &Vec<&'name str>,
-    ) -> Result<BTreeMap<&'name str, ()>, ParserError>
-        ensures set { IfOk result (λ set. HoldsNames set (texts names.now.items)) }
-        ensures refused { IfErr result (λ e. e.kind ≡ OutOfMemory) }
-        ensures place { IfErr result (λ e. e.span ≡ place_of self.now) }
-    {
-        let mut set = BTreeMap::new(alloc);
-        for name in names {
-            if set.insert(*name, ()).is_err() {
-                return Err(self.out_of_memory());
-            }
-        }
-        Ok(set)
-    }
-
-    /// Those of the names that are in the set, in their own order.
+    /// Those of these names that flags of the node have, in the names' own order; each flag of the
+    /// node has one of the names.
     pub(crate) fn picked<'name>(
         &self,
         alloc: Global,
         names: &Vec<&'name str>,
-        set: &BTreeMap<&str, ()>,
+        src: &str,
     ) -> Result<Vec<&'name str>, ParserError>
-        ensures picked { IfOk result (λ picked. PicksFrom set.now (texts names.now.items) (texts picked.items)) }
-        ensures refused { IfErr result (λ e. e.kind ≡ OutOfMemory) }
-        ensures place { IfErr result (λ e. e.span ≡ place_of self.now) }
+        requires { IsValueOf src.now self.now }
+        ensures form { IfOk result (λ _. AreFlags self.now) }
+        ensures known { IfOk result (λ _. AreAllOf (texts names.now.items) (names_at src.now (children_of self.now))) }
+        ensures picked { IfOk result (λ picked. texts picked.items ≡ found_in (names_at src.now (children_of self.now)) (texts names.now.items)) }
+        ensures refused { IfErr result (RefusesFlags (texts names.now.items) src.now self.now) }
+        ensures within { IfErr result (IsAtNode self.now) }
     {
+        let nodes = self.flag_nodes()?;
+        let mut marks = self.unmarked(alloc, nodes, src)?;
         let mut picked = Vec::new(alloc);
         for name in names {
-            if set.contains_key(*name) {
+            if mark(&mut marks, *name) {
                 self.push(&mut picked, *name)?;
             }
         }
+        self.ensure_marked(alloc, nodes, src, &marks)?;
         Ok(picked)
+    }
+
+    /// The names of these flags, none of them marked.
+    fn unmarked<'src>(
+        &self,
+        alloc: Global,
+        nodes: &[Node],
+        src: &'src str,
+    ) -> Result<BTreeMap<&'src str, bool>, ParserError>
+        requires { AreAllParsed src.now nodes.now }
+        ensures marks { IfOk result (λ marks. MarksNames marks (names_at src.now nodes.now) []) }
+        ensures refused { IfErr result (λ e. e.kind ≡ OutOfMemory) }
+        ensures place { IfErr result (λ e. e.span ≡ place_of self.now) }
+    {
+        let mut marks = BTreeMap::new(alloc);
+        for node in nodes {
+            if marks.insert(label_name(node.slice(src)), false).is_err() {
+                return Err(self.out_of_memory());
+            }
+        }
+        Ok(marks)
+    }
+
+    /// Refuses the first of these flags that is not marked.
+    fn ensure_marked(
+        &self,
+        alloc: Global,
+        nodes: &[Node],
+        src: &str,
+        marks: &BTreeMap<&str, bool>,
+    ) -> Result<(), ParserError>
+        requires { AreAllParsed src.now nodes.now }
+        ensures marked { TellsUnmarked marks.now (names_at src.now nodes.now) self.now result }
+        ensures place { IfErr result (IsAtNode self.now) }
+    {
+        for node in nodes {
+            let name = label_name(node.slice(src));
+            if !marks.get(name).copied().unwrap_or(false) {
+                return Err(self.unknown_case(alloc, name));
+            }
+        }
+        Ok(())
+    }
+}
+
+/// Marks the flag of this name; answers whether there is one.
+fn mark(marks: &mut BTreeMap<&str, bool>, name: &str) -> bool
+    ensures { MarksOneMore marks.old marks.new name.now result }
+{
+    match marks.get_mut(name) {
+        Some(is_marked) => {
+            *is_marked = true;
+            true
+        }
+        None => false,
     }
 }
 

@@ -1,24 +1,24 @@
 //! The fields of records.
-ghost use Rattle.std.specs.Prelude.{◌≡◌, ◌⊎◌, Some, map, IfOk, IfErr, MatchResult};
+ghost use Rattle.std.specs.Prelude.{◌≡◌, ◌⊎◌, Some, IfOk, IfErr, MatchResult};
 ghost use Rattle.wave_wasm.specs.Lists.{AllOf};
 ghost use Rattle.wave_lex.specs.Errors.{field_label_due, repeated_name};
 ghost use Rattle.wave_lex.specs.declared.error.ParserErrorKind.TheVariants.{InvalidType, DuplicateField, OutOfMemory};
 ghost use Rattle.wave_grammar.specs.LeafTokens.{name_of};
-ghost use Rattle.wave_node.specs.NodeTree.{type_of, place_of};
+ghost use Rattle.wave_node.specs.NodeTree.{type_of, place_of, children_of};
 ghost use Rattle.wave_node.specs.Nodes.{IsParsedFrom};
-ghost use Rattle.wave_node.specs.NodeAccessors.{node_text};
+ghost use Rattle.wave_node.specs.NodeAccessors.{node_text, node_pairs, IsEntryOf};
 ghost use Rattle.wave_node.specs.TypedReading.{IsValueOf};
 ghost use Rattle.wave_lex.specs.Errors.{Says};
 ghost use Rattle.wave_node.specs.ErrorSpans.{StandsIn};
-ghost use Rattle.wave_node.specs.NodeFields.{IsFieldsOf, RefusesFields, GivesRecord, shown_field};
-ghost use Rattle.wave_node.specs.Private.NodeFields.{GivesName, HoldsFields};
+ghost use Rattle.wave_node.specs.NodeFields.{IsFieldsOf, RefusesFields, GivesRecord};
+ghost use Rattle.wave_node.specs.Private.NodeFields.{GivesName, HoldsFields, fields_at};
 
-use crate::ast::{Node, NodeType};
+use crate::ast::{MapEntries, Node, NodeType};
 use std::alloc::Global;
 use std::collections::BTreeMap;
 use std::iter::ExactSizeIterator;
 use std::marker::Model;
-use std::vec::IntoIter;
+use wave_grammar::label::label_name;
 use wave_lex::error::{ParserError, ParserErrorKind};
 
 impl Node {
@@ -37,47 +37,36 @@ impl Node {
         ensures values { IfOk result (AllOf (λ f. IsValueOf src.now f.1)) }
         ensures within { IfErr result (StandsIn self.now) }
     {
-        let (fields, _) = self.fields(alloc, src)?;
-        Ok(RecordFields::new(fields))
+        self.fields(alloc, src)?;
+        Ok(RecordFields::new(self.nodes(), src))
     }
 
-    /// The fields of a record as `as_record` answers them, and their values by their names.
+    /// The values of a record's fields by their names; refused as `as_record` says.
     pub(crate) fn fields<'this, 'src>(
         &'this self,
         alloc: Global,
         src: &'src str,
-    ) -> Result<
-        (
-            Vec<(&'src str, &'this Node)>,
-            BTreeMap<&'src str, &'this Node>,
-        ),
-        ParserError,
-    >
+    ) -> Result<BTreeMap<&'src str, &'this Node>, ParserError>
         requires { IsParsedFrom src.now self.now }
-        ensures given { IfOk result (λ r. IsFieldsOf src.now self.now (map shown_field r.0.items)) }
-        ensures held { IfOk result (λ r. HoldsFields r.1 (map shown_field r.0.items)) }
+        ensures given { IfOk result (λ _. IsFieldsOf src.now self.now (fields_at src.now (children_of self.now))) }
+        ensures held { IfOk result (λ by_name. HoldsFields by_name (fields_at src.now (children_of self.now))) }
         ensures refused { IfErr result (RefusesFields src.now self.now) }
         ensures within { IfErr result (StandsIn self.now) }
     {
         self.ensure_type(NodeType::TupleSet)?;
         let nodes = self.nodes();
-        let mut fields = Vec::new(alloc);
         let mut by_name = BTreeMap::new(alloc);
         for i in 0..nodes.len() / 2 {
             let key = &nodes[2 * i];
             let val = &nodes[2 * i + 1];
             let name = key.field_name(src)?;
-            if by_name.contains_key(name) {
-                return Err(key.repeated(alloc, name));
-            }
-            if fields.push((name, val)).is_err() {
-                return Err(self.out_of_memory());
-            }
-            if by_name.insert(name, val).is_err() {
-                return Err(self.out_of_memory());
+            match by_name.insert(name, val) {
+                Ok(None) => {}
+                Ok(Some(_)) => return Err(key.repeated(alloc, name)),
+                Err(_) => return Err(self.out_of_memory()),
             }
         }
-        Ok((fields, by_name))
+        Ok(by_name)
     }
 
     /// The name of a field, at its key.
@@ -114,31 +103,37 @@ impl Node {
 /// The names and the values of a record's fields, in the order of the source.
 #[derive(Drop)]
 pub struct RecordFields<'this, 'src> {
-    rest: IntoIter<(&'src str, &'this Node), Global>,
+    entries: MapEntries<'this>,
+    src: &'src str,
 }
 
 impl<'this, 'src> Model for RecordFields<'this, 'src> {
     ghost use Rattle.std.specs.Prelude.{List, ℕ, map};
     ghost use Rattle.std.specs.Coded.{codes};
-    ghost use Rattle.std.specs.Vec.Iter.{into_iter_items};
+    ghost use Rattle.wave_wasm.specs.Lists.{AllOf};
     ghost use Rattle.wave_node.specs.NodeTree.{NodeTree};
     ghost use Rattle.wave_node.specs.Private.NodeEncoding.{node_code};
-    ghost use Rattle.wave_node.specs.NodeFields.{shown_field};
+    ghost use Rattle.wave_node.specs.NodeAccessors.{IsEntryOf};
+    ghost use Rattle.wave_node.specs.NodeFields.{field_of};
 
     ghost Value = { List (List ℕ × NodeTree) };
 
     ghost coded = { Prim.hlevel (codes, node_code) };
 
-    ghost view = { λ f. map shown_field (into_iter_items f.rest) };
+    ghost view = { λ f. map (field_of f.src.now) f.entries };
+
+    ghost invariant = { λ f. AllOf (IsEntryOf f.src.now) f.entries };
 }
 
 impl<'this, 'src> RecordFields<'this, 'src> {
-    /// These fields.
-    fn new(fields: Vec<(&'src str, &'this Node)>) -> RecordFields<'this, 'src>
-        ensures { result ≡ map shown_field fields.entry.items }
+    /// The fields at these nodes, which are keys and values in turn.
+    fn new(nodes: &'this [Node], src: &'src str) -> RecordFields<'this, 'src>
+        requires { AllOf (IsEntryOf src.now) (node_pairs nodes.now) }
+        ensures { result ≡ fields_at src.now nodes.now }
     {
         RecordFields {
-            rest: fields.into_iter(),
+            entries: MapEntries::new(nodes),
+            src,
         }
     }
 }
@@ -157,7 +152,8 @@ impl<'this, 'src> Iterator for RecordFields<'this, 'src> {
 
     /// The next field's name and value.
     fn next(&mut self) -> Option<(&'src str, &'this Node)> {
-        self.rest.next()
+        let (key, val) = self.entries.next()?;
+        Some((label_name(key.slice(self.src)), val))
     }
 
     /// How many are left.
@@ -174,6 +170,6 @@ impl<'this, 'src> Iterator for RecordFields<'this, 'src> {
 impl<'this, 'src> ExactSizeIterator for RecordFields<'this, 'src> {
     /// How many fields are left.
     fn len(&self) -> usize {
-        self.rest.len()
+        self.entries.len()
     }
 }

@@ -11,7 +11,8 @@ ghost use Rattle.wave_node.specs.Private.NodeAccessors.{Among};
 ghost use Rattle.wave_node.specs.NodeAccessors.{shown_node};
 ghost use Rattle.std.specs.Cow.{cow_str_bytes};
 ghost use Rattle.wave_node.specs.TypedReading.{IsLeafMade, IsValueOf, IsKeyOf, AnswersKey, IsMade, Answers, ReadsAtType};
-ghost use Rattle.wave_node.specs.Private.TypedReading.{IsCaused, IsPayloadOf, GivesFlat, AnswersPayload};
+ghost use Rattle.wave_node.specs.Private.TypedReading.{IsCaused, AnswersWhole, IsPayloadOf, GivesFlat, AnswersPayload};
+ghost use Rattle.wave_node.specs.Nodes.{IsParsedFrom};
 ghost use Rattle.wave_lex.specs.Errors.{refusal_of};
 ghost use Rattle.std.specs.Prelude.{MatchResult};
 ghost use Rattle.wave_node.specs.ErrorSpans.{StandsIn, IsAtNode};
@@ -60,14 +61,6 @@ impl Node {
     {
         match ty.kind() {
             WasmTypeKind::Bool => self.read_bool(alloc, ty),
-            WasmTypeKind::S8 => self.or_error_here(V::make_s8(alloc, self.as_number(src)?)),
-            WasmTypeKind::S16 => self.or_error_here(V::make_s16(alloc, self.as_number(src)?)),
-            WasmTypeKind::S32 => self.or_error_here(V::make_s32(alloc, self.as_number(src)?)),
-            WasmTypeKind::S64 => self.or_error_here(V::make_s64(alloc, self.as_number(src)?)),
-            WasmTypeKind::U8 => self.or_error_here(V::make_u8(alloc, self.as_number(src)?)),
-            WasmTypeKind::U16 => self.or_error_here(V::make_u16(alloc, self.as_number(src)?)),
-            WasmTypeKind::U32 => self.or_error_here(V::make_u32(alloc, self.as_number(src)?)),
-            WasmTypeKind::U64 => self.or_error_here(V::make_u64(alloc, self.as_number(src)?)),
             WasmTypeKind::Char => self.read_char(alloc, ty, src),
             WasmTypeKind::String => self.read_string(alloc, ty, src),
             WasmTypeKind::List => self.read_list(alloc, ty, src),
@@ -79,7 +72,31 @@ impl Node {
             WasmTypeKind::Option => self.read_option(alloc, ty, src),
             WasmTypeKind::Result => self.read_result(alloc, ty, src),
             WasmTypeKind::Map => self.read_map(alloc, ty, src),
-            kind => Err(self.unsupported(alloc, kind)),
+            kind => self.read_whole(alloc, kind, src),
+        }
+    }
+
+    /// A whole number, of a type of this kind. A type of another kind is refused as one that can't be
+    /// read.
+    fn read_whole<V: WasmValue>(
+        &self,
+        alloc: Global,
+        kind: WasmTypeKind,
+        src: &str,
+    ) -> Result<V, ParserError>
+        requires { IsParsedFrom src.now self.now }
+        ensures { AnswersWhole V.tree V.is_of V.is_full kind src.now self.now result }
+    {
+        match kind {
+            WasmTypeKind::S8 => self.or_error_here(V::make_s8(alloc, self.as_number(src)?)),
+            WasmTypeKind::S16 => self.or_error_here(V::make_s16(alloc, self.as_number(src)?)),
+            WasmTypeKind::S32 => self.or_error_here(V::make_s32(alloc, self.as_number(src)?)),
+            WasmTypeKind::S64 => self.or_error_here(V::make_s64(alloc, self.as_number(src)?)),
+            WasmTypeKind::U8 => self.or_error_here(V::make_u8(alloc, self.as_number(src)?)),
+            WasmTypeKind::U16 => self.or_error_here(V::make_u16(alloc, self.as_number(src)?)),
+            WasmTypeKind::U32 => self.or_error_here(V::make_u32(alloc, self.as_number(src)?)),
+            WasmTypeKind::U64 => self.or_error_here(V::make_u64(alloc, self.as_number(src)?)),
+            _ => Err(self.unsupported(alloc, kind)),
         }
     }
 
@@ -123,7 +140,7 @@ impl Node {
             Ok(types) => types,
             Err(_) => return Err(self.out_of_memory()),
         };
-        let (_, mut nodes) = self.fields(alloc, src)?;
+        let mut nodes = self.fields(alloc, src)?;
         let mut fields = Vec::new(alloc);
         for i in 0..types.len() {
             let (name, field) = types[i];
@@ -282,17 +299,9 @@ impl Node {
     {
         match ty.kind() {
             WasmTypeKind::Bool => self.or_error_here(V::make_bool(alloc, self.as_bool_key(src)?)),
-            WasmTypeKind::S8 => self.or_error_here(V::make_s8(alloc, self.as_number(src)?)),
-            WasmTypeKind::S16 => self.or_error_here(V::make_s16(alloc, self.as_number(src)?)),
-            WasmTypeKind::S32 => self.or_error_here(V::make_s32(alloc, self.as_number(src)?)),
-            WasmTypeKind::S64 => self.or_error_here(V::make_s64(alloc, self.as_number(src)?)),
-            WasmTypeKind::U8 => self.or_error_here(V::make_u8(alloc, self.as_number(src)?)),
-            WasmTypeKind::U16 => self.or_error_here(V::make_u16(alloc, self.as_number(src)?)),
-            WasmTypeKind::U32 => self.or_error_here(V::make_u32(alloc, self.as_number(src)?)),
-            WasmTypeKind::U64 => self.or_error_here(V::make_u64(alloc, self.as_number(src)?)),
             WasmTypeKind::Char => self.or_error_here(V::make_char(alloc, self.as_char(src)?)),
             WasmTypeKind::String => self.read_string_key(alloc, ty, src),
-            kind => Err(self.unsupported(alloc, kind)),
+            kind => self.read_whole(alloc, kind, src),
         }
     }
 
@@ -487,8 +496,7 @@ impl Node {
             Ok(names) => names,
             Err(_) => return Err(self.out_of_memory()),
         };
-        let flags = self.flags_of(alloc, &names, src)?;
-        let picked = self.picked(alloc, &names, &flags)?;
+        let picked = self.picked(alloc, &names, src)?;
         self.or_error_here(V::make_flags(alloc, ty, picked.as_slice()))
     }
 

@@ -3,9 +3,7 @@ use Rattle.std.proofs.Common.{ℕ, ℤ, ◌≡◌, ◌≢◌, ◌⊎◌, inl, in
 use Rattle.std.specs.Result.{IsErrAnd}
 use Rattle.std.specs.declared.ops.Range.{Range}
 use Rattle.wave_wasm.specs.Types as type
-use Rattle.wave_wasm.specs.Types.{TypeTree, Simple, Whole, kind_of}
-use Rattle.wave_wasm.specs.declared.wasm.WasmTypeKind.{WasmTypeKind}
-use Rattle.wave_wasm.specs.declared.wasm.WasmTypeKind.TheVariants as kinds
+use Rattle.wave_wasm.specs.Types.{TypeTree, Simple, Whole}
 use Rattle.wave_wasm.specs.Values as value
 use Rattle.wave_wasm.specs.Values.{Value, Leaf, leaf_type}
 use Rattle.wave_wasm.specs.Text.{bool_text}
@@ -142,39 +140,7 @@ no_number_key which number source n p key e h (inl given) =
 no_number_key which number source n p key e h (inr given) =
     number_wrong which (type_of n) (node_text source n) p key (refusal_of e) e.span (key_token source n p key h) given.0 given.1 (at_key InvalidValue source n p key (refusal_of e) e.span h (said given.2))
 
--- the same number in another form
-pub number_key_kept : (which : Whole) (key : Token) (y z : ℤ) → y ≡ z → Spells (type.whole which) key (value.whole which z) → Spells (type.whole which) key (value.whole which y)
-number_key_kept which key y z e h = subst (λ (x : ℤ). Spells (type.whole which) key (value.whole which x)) (sym e) h
-
 -- ---- answers
-
--- none of the kinds of keys that are read
-pub record IsUnreadKey (k : WasmTypeKind) : Type 0 where
-  pub bool : k ≢ kinds.Bool
-  pub s8 : k ≢ kinds.S8
-  pub s16 : k ≢ kinds.S16
-  pub s32 : k ≢ kinds.S32
-  pub s64 : k ≢ kinds.S64
-  pub u8 : k ≢ kinds.U8
-  pub u16 : k ≢ kinds.U16
-  pub u32 : k ≢ kinds.U32
-  pub u64 : k ≢ kinds.U64
-  pub char : k ≢ kinds.Char
-  pub string : k ≢ kinds.String
-
--- a key is of one of them
-pub no_unread_key : {X : Type 0} (K : Simple) (k : WasmTypeKind) → k ≡ kind_of (type.simple K) → IsUnreadKey k → X
-no_unread_key type.bool k e unread = absurd (unread.bool e)
-no_unread_key (type.whole type.s8) k e unread = absurd (unread.s8 e)
-no_unread_key (type.whole type.s16) k e unread = absurd (unread.s16 e)
-no_unread_key (type.whole type.s32) k e unread = absurd (unread.s32 e)
-no_unread_key (type.whole type.s64) k e unread = absurd (unread.s64 e)
-no_unread_key (type.whole type.u8) k e unread = absurd (unread.u8 e)
-no_unread_key (type.whole type.u16) k e unread = absurd (unread.u16 e)
-no_unread_key (type.whole type.u32) k e unread = absurd (unread.u32 e)
-no_unread_key (type.whole type.u64) k e unread = absurd (unread.u64 e)
-no_unread_key type.char k e unread = absurd (unread.char e)
-no_unread_key type.string k e unread = absurd (unread.string e)
 
 -- a type is one simple type
 pub one_simple : (T : TypeTree) (K S : Simple) → T ≡ type.simple K → T ≡ type.simple S → S ≡ K

@@ -3,7 +3,7 @@ use Rattle.std.proofs.Common.{ℕ, ℤ, ◌≡◌, ◌≢◌, inl, inr, Bool, tr
 use Rattle.std.specs.declared.ops.Range.{Range}
 use Rattle.wave_wasm.specs.Names.{IsOneOf}
 use Rattle.wave_wasm.specs.Types as type
-use Rattle.wave_wasm.specs.Types.{TypeTree, Whole, Simple}
+use Rattle.wave_wasm.specs.Types.{Whole, Simple}
 use Rattle.wave_wasm.specs.Numbers.{is_signed}
 use Rattle.wave_wasm.specs.Values as value
 use Rattle.wave_wasm.specs.Values.{Leaf}
@@ -172,7 +172,3 @@ number_fault which source n t k q e apart refused =
 pub number_blame : {N : Type 0} (which : Whole) (number : N → ℤ) (source : List ℕ) (n : NodeTree) (t : Placed) (e : ParserError) → placed_of source n ≡ Some t → GivesNumber which number source n (Err e) → Fault (type.simple (type.whole which)) t (refusal_of e) e.span
 number_blame which number source n t e is (inl h) = number_fault which source n t (refusal_of e) e.span is h.0 (said h.1)
 number_blame which number source n t e is (inr h) = value_fault which source n t (refusal_of e) e.span is h.0 h.1 (said h.2)
-
--- the same number in another form
-pub number_kept : (which : Whole) (t : Placed) (y z : ℤ) → y ≡ z → SimpleTree (type.whole which) (tree_of t) (value.leaf (value.whole which z)) → SimpleTree (type.whole which) (tree_of t) (value.leaf (value.whole which y))
-number_kept which t y z e h = subst (λ (x : ℤ). SimpleTree (type.whole which) (tree_of t) (value.leaf (value.whole which x))) (sym e) h

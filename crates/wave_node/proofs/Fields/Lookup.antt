@@ -1,6 +1,6 @@
 -- The fields of records: what the loop over a node's entries keeps.
 use Rattle.std.proofs.Common.{rules, ℕ, zero, suc, ◌≡◌, ◌≢◌, ◌⊎◌, inl, inr, ◌<◌, ◌≤◌, ◌+◌, ◌*◌, ◌/◌, Bool, true, false, cond, if◌then◌else◌, List, [], ◌∷◌, ◌++◌, length, get_or, take, drop, map, Option, Some, None, option_map, Bor, refl, sym, ap, ◌∙◌, subst, add-one, arith}
-use Rattle.std.specs.Prelude.{is_some, IfErr, Result, Ok, Err}
+use Rattle.std.specs.Prelude.{IfErr, Result, Ok, Err}
 use Rattle.std.specs.Result.{IsErrAnd}
 use Rattle.std.specs.Str.{bytes_eq}
 use Rattle.std.specs.BTreeMap as tree
@@ -15,8 +15,8 @@ use Rattle.wave_grammar.specs.LeafTokens.{name_of}
 use Rattle.wave_grammar.specs.TypedGrammar.{look_up, names_of}
 use Rattle.wave_node.specs.NodeTree.{NodeTree, type_of, place_of, children_of}
 use Rattle.wave_node.specs.NodeAccessors.{node_text, node_pairs}
-use Rattle.wave_node.specs.NodeFields.{IsLabelled, field_of, shown_field, RefusesFields, IsFieldsOf}
-use Rattle.wave_node.specs.Private.NodeFields.{held_at, HoldsFields}
+use Rattle.wave_node.specs.NodeFields.{IsLabelled, field_of, RefusesFields, IsFieldsOf}
+use Rattle.wave_node.specs.Private.NodeFields.{held_at, HoldsFields, fields_at}
 use Rattle.std.specs.declared.ops.Range.{Range}
 use Rattle.wave_grammar.specs.Token.{Token}
 use Rattle.wave_grammar.specs.Token as token
@@ -74,7 +74,8 @@ not_found (f ∷ fs) name e = by (bytes_eq name f.0) refl (not_found fs name) e
     by true is more e = absurd (cc)
     by false is more e = ((λ same. cc (sym is ∙ (bytes_eq-Decides name f.0).1 same)), more e)
 
-eq_turn : (a b : List ℕ) → bytes_eq a b ≡ bytes_eq b a
+-- the same test, turned
+pub eq_turn : (a b : List ℕ) → bytes_eq a b ≡ bytes_eq b a
 eq_turn a b = search (rules, bytes_eq-Decides a b, bytes_eq-Decides b a)
 
 -- a look-up among fields and one of a new name
@@ -101,23 +102,13 @@ holds_field m n fs name x h none u = λ q.
     ∙ (map_cond (λ (y : Bor NodeTree). y.now) (bytes_eq name q) x (held_at m q)
     ∙ (ap (λ o. cond (bytes_eq name q) (Some x.now) o) (h q) ∙ sym (look_last fs name x.now q none)))
 
-none_mapped : {A B : Type 0} (f : A → B) (o : Option A) (p : Option B) → option_map f o ≡ p → is_some o ≡ false → p ≡ None
-none_mapped f None p e empty = sym e
-none_mapped f (Some x) p e empty = absurd (cc)
-
-some_mapped : {A B : Type 0} (f : A → B) (o : Option A) (p : Option B) → option_map f o ≡ p → is_some o ≡ true → (y : B) × (p ≡ Some y)
-some_mapped f None p e full = absurd (cc)
-some_mapped f (Some x) p e full = (f x, sym e)
-
 -- a name that the map doesn't hold is none of the names
-pub new_name : (m : BTreeMap (Bor (List ℕ)) (Bor NodeTree)) (fs : List (List ℕ × NodeTree)) (name : List ℕ) (b : Bool) → HoldsFields m fs → b ≡ is_some (held_at m name) → b ≡ false → IsNoneOf (names_of fs) name
-new_name m fs name b h is empty = not_found fs name (none_mapped (λ (y : Bor NodeTree). y.now) (held_at m name) (look_up fs name) (h name) (sym is ∙ empty))
+pub new_name : (m : BTreeMap (Bor (List ℕ)) (Bor NodeTree)) (fs : List (List ℕ × NodeTree)) (name : List ℕ) → HoldsFields m fs → None ≡ held_at m name → IsNoneOf (names_of fs) name
+new_name m fs name h absent = not_found fs name (sym (h name) ∙ ap (option_map (λ (y : Bor NodeTree). y.now)) (sym absent))
 
 -- a name that the map holds is one of the names
-pub old_name : (m : BTreeMap (Bor (List ℕ)) (Bor NodeTree)) (fs : List (List ℕ × NodeTree)) (name : List ℕ) (b : Bool) → HoldsFields m fs → b ≡ is_some (held_at m name) → b ≡ true → IsOneOf (names_of fs) name
-old_name m fs name b h is full =
-    let some = some_mapped (λ (y : Bor NodeTree). y.now) (held_at m name) (look_up fs name) (h name) (sym is ∙ full) in
-    is_found fs name some.0 some.1
+pub old_name : (m : BTreeMap (Bor (List ℕ)) (Bor NodeTree)) (fs : List (List ℕ × NodeTree)) (name : List ℕ) (x : Bor NodeTree) → HoldsFields m fs → Some x ≡ held_at m name → IsOneOf (names_of fs) name
+old_name m fs name x h there = is_found fs name x.now (sym (h name) ∙ ap (option_map (λ (y : Bor NodeTree). y.now)) (sym there))
 
 -- the key and the value at a place of the pairs
 pub pair_has : (ns : List NodeTree) (i : ℕ) (k v : NodeTree) → 2 * i + 1 < length ns → k ≡ get_or ns (2 * i) k → v ≡ get_or ns (2 * i + 1) v → HasAt (node_pairs ns) i (k, v)
@@ -129,21 +120,16 @@ pair_has (n ∷ m ∷ ns) (suc i) k v lt key val =
     let at_val : 2 * suc i + 1 ≡ suc (suc (2 * i + 1)) = omega arith in
     pair_has ns i k v (omega (arith, lt)) (subst (λ (j : ℕ). k ≡ get_or (n ∷ m ∷ ns) j k) at_key key) (subst (λ (j : ℕ). v ≡ get_or (n ∷ m ∷ ns) j v) at_val val)
 
--- what the loop keeps: the fields of the first entries, whose keys are labels of distinct names
-pub record FieldsSoFar (source : List ℕ) (entries : List (NodeTree × NodeTree)) (fields : List (List ℕ × NodeTree)) : Type 0 where
+-- what the loop keeps: the keys of the first entries are labels of distinct names
+pub record FieldsSoFar (source : List ℕ) (entries : List (NodeTree × NodeTree)) : Type 0 where
   pub labels : AllOf IsLabelled entries
-  pub given : fields ≡ map (field_of source) entries
-  pub distinct : AreDistinct (names_of fields)
+  pub distinct : AreDistinct (names_of (map (field_of source) entries))
 
--- one more entry, with a label of a new name
-pub one_more_field : (source : List ℕ) (entries more : List (NodeTree × NodeTree)) (fields new : List (List ℕ × NodeTree)) (k v : NodeTree) (name : List ℕ) → FieldsSoFar source entries fields → more ≡ entries ++ (k, v) ∷ [] → type_of k ≡ kind.Label → name ≡ name_of (node_text source k) → IsNoneOf (names_of fields) name → new ≡ fields ++ (name, v) ∷ [] → FieldsSoFar source more new
-one_more_field source entries more fields new k v name h is labelled named new_there kept =
-    let pair : (name, v) ≡ field_of source (k, v) = ap (λ (w : List ℕ). (w, v)) named in
-    rw (is, kept) (record {
-      labels = all_last IsLabelled entries (k, v) h.labels labelled;
-      given = ap (λ fs. fs ++ (name, v) ∷ []) h.given ∙ (ap (λ (f : List ℕ × NodeTree). map (field_of source) entries ++ f ∷ []) pair ∙ sym (map_last (field_of source) entries (k, v)));
-      distinct = subst AreDistinct (sym (map_last (λ f. f.0) fields (name, v))) (distinct_more (names_of fields) name h.distinct new_there);
-    })
+-- the fields of one more entry
+fields_next : (source : List ℕ) (ns : List NodeTree) (i : ℕ) (k v : NodeTree) (name : List ℕ) → HasAt (node_pairs ns) i (k, v) → name ≡ name_of (node_text source k) → map (field_of source) (take (i + 1) (node_pairs ns)) ≡ map (field_of source) (take i (node_pairs ns)) ++ (name, v) ∷ []
+fields_next source ns i k v name here named =
+    ap (map (field_of source)) (take_next (node_pairs ns) i (k, v) here)
+    ∙ (map_last (field_of source) (take i (node_pairs ns)) (k, v) ∙ ap (λ (w : List ℕ). map (field_of source) (take i (node_pairs ns)) ++ (w, v) ∷ []) (sym named))
 
 -- ---- keys
 
@@ -178,8 +164,8 @@ key_parsed source n ns i k v (inr t) set children here = absurd (not_key source 
 -- ---- the loop's answers
 
 -- the refusal of a key that is no label
-pub refused_label : (source : List ℕ) (n : NodeTree) (ns : List NodeTree) (i : ℕ) (k v : NodeTree) (fields : List (List ℕ × NodeTree)) (e : ParserError) → type_of n ≡ kind.TupleSet → ns ≡ children_of n → HasAt (node_pairs ns) i (k, v) → FieldsSoFar source (take i (node_pairs ns)) fields → (type_of k ≢ kind.Label) × Says e InvalidType (place_of k) (Some field_label_due) → RefusesFields source n e
-refused_label source n ns i k v fields e set children here h refused =
+pub refused_label : (source : List ℕ) (n : NodeTree) (ns : List NodeTree) (i : ℕ) (k v : NodeTree) (e : ParserError) → type_of n ≡ kind.TupleSet → ns ≡ children_of n → HasAt (node_pairs ns) i (k, v) → FieldsSoFar source (take i (node_pairs ns)) → (type_of k ≢ kind.Label) × Says e InvalidType (place_of k) (Some field_label_due) → RefusesFields source n e
+refused_label source n ns i k v e set children here h refused =
     inr (inr (record {
       is_set = set;
       before = take i (node_pairs ns);
@@ -187,14 +173,14 @@ refused_label source n ns i k v fields e set children here h refused =
       behind = drop (suc i) (node_pairs ns);
       entries = ap node_pairs (sym children) ∙ cut_at (node_pairs ns) i (k, v) here;
       labels = h.labels;
-      distinct = subst (λ (fs : List (List ℕ × NodeTree)). AreDistinct (names_of fs)) h.given h.distinct;
+      distinct = h.distinct;
       refused = inl refused;
     }))
 
 -- the refusal of a label whose name stands earlier
-pub refused_name : (source : List ℕ) (n : NodeTree) (ns : List NodeTree) (i : ℕ) (k v : NodeTree) (fields : List (List ℕ × NodeTree)) (name : List ℕ) (e : ParserError) → type_of n ≡ kind.TupleSet → ns ≡ children_of n → HasAt (node_pairs ns) i (k, v) → FieldsSoFar source (take i (node_pairs ns)) fields → type_of k ≡ kind.Label → name ≡ name_of (node_text source k) → IsOneOf (names_of fields) name → (e.kind ≡ OutOfMemory) ⊎ Says e DuplicateField (place_of k) (Some (repeated_name name)) → RefusesFields source n e
-refused_name source n ns i k v fields name e set children here h labelled named old (inl memory) = inl memory
-refused_name source n ns i k v fields name e set children here h labelled named old (inr says) =
+pub refused_name : (source : List ℕ) (n : NodeTree) (ns : List NodeTree) (i : ℕ) (k v : NodeTree) (name : List ℕ) (e : ParserError) → type_of n ≡ kind.TupleSet → ns ≡ children_of n → HasAt (node_pairs ns) i (k, v) → FieldsSoFar source (take i (node_pairs ns)) → type_of k ≡ kind.Label → name ≡ name_of (node_text source k) → IsOneOf (names_of (map (field_of source) (take i (node_pairs ns)))) name → (e.kind ≡ OutOfMemory) ⊎ Says e DuplicateField (place_of k) (Some (repeated_name name)) → RefusesFields source n e
+refused_name source n ns i k v name e set children here h labelled named old (inl memory) = inl memory
+refused_name source n ns i k v name e set children here h labelled named old (inr says) =
     inr (inr (record {
       is_set = set;
       before = take i (node_pairs ns);
@@ -202,27 +188,37 @@ refused_name source n ns i k v fields name e set children here h labelled named 
       behind = drop (suc i) (node_pairs ns);
       entries = ap node_pairs (sym children) ∙ cut_at (node_pairs ns) i (k, v) here;
       labels = h.labels;
-      distinct = subst (λ (fs : List (List ℕ × NodeTree)). AreDistinct (names_of fs)) h.given h.distinct;
-      refused = inr (labelled, subst (λ (fs : List (List ℕ × NodeTree)). IsOneOf (names_of fs) (name_of (node_text source k))) h.given (subst (IsOneOf (names_of fields)) named old), subst (λ (w : List ℕ). Says e DuplicateField (place_of k) (Some (repeated_name w))) named says);
+      distinct = h.distinct;
+      refused = inr (labelled, subst (IsOneOf (names_of (map (field_of source) (take i (node_pairs ns))))) named old, subst (λ (w : List ℕ). Says e DuplicateField (place_of k) (Some (repeated_name w))) named says);
     }))
 
+-- all entries, behind the last
+entries_whole : (n : NodeTree) (ns : List NodeTree) (i : ℕ) → ns ≡ children_of n → length ns / 2 ≤ i → take i (node_pairs ns) ≡ node_pairs (children_of n)
+entries_whole n ns i children le = take_whole (node_pairs ns) i (omega (arith, le, pairs_count ns)) ∙ ap node_pairs children
+
 -- all fields, behind the last entry
-pub fields_whole : (source : List ℕ) (n : NodeTree) (ns : List NodeTree) (i : ℕ) (fields : List (List ℕ × NodeTree)) → type_of n ≡ kind.TupleSet → ns ≡ children_of n → length ns / 2 ≤ i → FieldsSoFar source (take i (node_pairs ns)) fields → IsFieldsOf source n fields
-fields_whole source n ns i fields set children le h =
-    let whole : take i (node_pairs ns) ≡ node_pairs (children_of n) = take_whole (node_pairs ns) i (omega (arith, le, pairs_count ns)) ∙ ap node_pairs children in
-    record { is_set = set; labels = subst (AllOf IsLabelled) whole h.labels; given = h.given ∙ ap (map (field_of source)) whole; distinct = h.distinct }
+pub fields_whole : (source : List ℕ) (n : NodeTree) (ns : List NodeTree) (i : ℕ) → type_of n ≡ kind.TupleSet → ns ≡ children_of n → length ns / 2 ≤ i → FieldsSoFar source (take i (node_pairs ns)) → IsFieldsOf source n (fields_at source (children_of n))
+fields_whole source n ns i set children le h =
+    let whole = entries_whole n ns i children le in
+    record { is_set = set; labels = subst (AllOf IsLabelled) whole h.labels; given = refl; distinct = subst (λ (es : List (NodeTree × NodeTree)). AreDistinct (names_of (map (field_of source) es))) whole h.distinct }
+
+-- the map holds all fields, behind the last entry
+pub held_whole : (source : List ℕ) (n : NodeTree) (ns : List NodeTree) (i : ℕ) (m : BTreeMap (Bor (List ℕ)) (Bor NodeTree)) → ns ≡ children_of n → length ns / 2 ≤ i → HoldsFields m (map (field_of source) (take i (node_pairs ns))) → HoldsFields m (fields_at source (children_of n))
+held_whole source n ns i m children le h = subst (λ (es : List (NodeTree × NodeTree)). HoldsFields m (map (field_of source) es)) (entries_whole n ns i children le) h
 
 -- the loop goes on with one more entry
-pub fields_kept : (source : List ℕ) (ns : List NodeTree) (i : ℕ) (k v : NodeTree) (key : Bor (List ℕ)) (val : Bor NodeTree) (old new : List (Bor (List ℕ) × Bor NodeTree)) → v ≡ val.now → FieldsSoFar source (take i (node_pairs ns)) (map shown_field old) → HasAt (node_pairs ns) i (k, v) → type_of k ≡ kind.Label → key.now ≡ name_of (node_text source k) → IsNoneOf (names_of (map shown_field old)) key.now → new ≡ old ++ (key, val) ∷ [] → FieldsSoFar source (take (i + 1) (node_pairs ns)) (map shown_field new)
-fields_kept source ns i k v key val old new same h here labelled named new_there kept =
-    one_more_field source (take i (node_pairs ns)) (take (i + 1) (node_pairs ns)) (map shown_field old) (map shown_field new) k v key.now h (take_next (node_pairs ns) i (k, v) here) labelled named new_there
-    (ap (map shown_field) kept ∙ (map_last shown_field old (key, val) ∙ ap (λ w. map shown_field old ++ (key.now, w) ∷ []) (sym same)))
+pub fields_kept : (source : List ℕ) (ns : List NodeTree) (i : ℕ) (k v : NodeTree) (name : List ℕ) → FieldsSoFar source (take i (node_pairs ns)) → HasAt (node_pairs ns) i (k, v) → type_of k ≡ kind.Label → name ≡ name_of (node_text source k) → IsNoneOf (names_of (map (field_of source) (take i (node_pairs ns)))) name → FieldsSoFar source (take (i + 1) (node_pairs ns))
+fields_kept source ns i k v name h here labelled named apart =
+    record {
+      labels = subst (AllOf IsLabelled) (sym (take_next (node_pairs ns) i (k, v) here)) (all_last IsLabelled (take i (node_pairs ns)) (k, v) h.labels labelled);
+      distinct = subst (λ (fs : List (List ℕ × NodeTree)). AreDistinct (names_of fs)) (sym (fields_next source ns i k v name here named)) (subst AreDistinct (sym (map_last (λ f. f.0) (map (field_of source) (take i (node_pairs ns))) (name, v))) (distinct_more (names_of (map (field_of source) (take i (node_pairs ns)))) name h.distinct apart));
+    }
 
 -- the map goes on with one more field
-pub field_held : (m n : BTreeMap (Bor (List ℕ)) (Bor NodeTree)) (old new : List (Bor (List ℕ) × Bor NodeTree)) (key : Bor (List ℕ)) (val : Bor NodeTree) → HoldsFields m (map shown_field old) → IsNoneOf (names_of (map shown_field old)) key.now →
-    tree.UpdatesBy (λ a b. slice_cmp nat_cmp a.now b.now) (λ k. slice_cmp nat_cmp key.now k.now) m n (Some val) → new ≡ old ++ (key, val) ∷ [] → HoldsFields n (map shown_field new)
-field_held m n old new key val h none u kept =
-    subst (HoldsFields n) (sym (ap (map shown_field) kept ∙ map_last shown_field old (key, val))) (holds_field m n (map shown_field old) key.now val h none u)
+pub field_held : (m n : BTreeMap (Bor (List ℕ)) (Bor NodeTree)) (source : List ℕ) (ns : List NodeTree) (i : ℕ) (k v : NodeTree) (name : List ℕ) (x : Bor NodeTree) → v ≡ x.now → HoldsFields m (map (field_of source) (take i (node_pairs ns))) → HasAt (node_pairs ns) i (k, v) → name ≡ name_of (node_text source k) → IsNoneOf (names_of (map (field_of source) (take i (node_pairs ns)))) name →
+    tree.UpdatesBy (λ a b. slice_cmp nat_cmp a.now b.now) (λ q. slice_cmp nat_cmp name q.now) m n (Some x) → HoldsFields n (map (field_of source) (take (i + 1) (node_pairs ns)))
+field_held m n source ns i k v name x same h here named apart u =
+    subst (HoldsFields n) (ap (λ (w : NodeTree). map (field_of source) (take i (node_pairs ns)) ++ (name, w) ∷ []) (sym same) ∙ sym (fields_next source ns i k v name here named)) (holds_field m n (map (field_of source) (take i (node_pairs ns))) name x h apart u)
 
 -- a refusal, handed on
 pub err_handed : {A : Type 0} (P : ParserError → Type 0) (r : Result A ParserError) (e : ParserError) → IsErrAnd r (λ f. f ≡ e) → P e → IfErr r P

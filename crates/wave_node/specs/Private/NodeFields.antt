@@ -1,5 +1,5 @@
 -- What a node answers about the fields of a record.
-use Rattle.std.specs.Prelude.{ℕ, ◌≡◌, ◌≢◌, ◌⊎◌, ◌++◌, List, ◌∷◌, map, Option, Some, None, option_map, Result, Ok, Err, MatchResult}
+use Rattle.std.specs.Prelude.{ℕ, ◌≡◌, ◌≢◌, ◌⊎◌, List, map, Option, Some, None, option_map, Result, Ok, Err, MatchResult}
 use Rattle.std.specs.Borrow.{Bor}
 use Rattle.std.specs.BTreeMap.{BTreeMap, get_by}
 use Rattle.std.specs.Cmp.Lexicographic.{slice_cmp}
@@ -15,7 +15,8 @@ use Rattle.wave_grammar.specs.LeafTokens.{name_of}
 use Rattle.wave_grammar.specs.TypedGrammar.{IsOption, look_up}
 use Rattle.wave_grammar.specs.TypeErrors.{RefusesFor}
 use Rattle.wave_node.specs.NodeTree.{NodeTree, type_of, place_of}
-use Rattle.wave_node.specs.NodeAccessors.{node_text}
+use Rattle.wave_node.specs.NodeAccessors.{node_text, node_pairs}
+use Rattle.wave_node.specs.NodeFields.{field_of}
 use Rattle.wave_node.specs.TypedReading.{IsValueOf, Answers}
 use Rattle.wave_node.specs.declared.ast.NodeType.TheVariants as kind
 
@@ -23,6 +24,10 @@ use Rattle.wave_node.specs.declared.ast.NodeType.TheVariants as kind
 abbrev pub GivesName : List ℕ → NodeTree → Result (Bor (List ℕ)) ParserError → Type 0
 GivesName source key (Ok name) = (type_of key ≡ kind.Label) × (name.now ≡ name_of (node_text source key))
 GivesName source key (Err e) = (type_of key ≢ kind.Label) × Says e InvalidType (place_of key) (Some field_label_due)
+
+-- the names and the values of keys and values that stand in turn
+abbrev pub fields_at : List ℕ → List NodeTree → List (List ℕ × NodeTree)
+fields_at source ns = map (field_of source) (node_pairs ns)
 
 -- what the map holds at a name
 abbrev pub held_at : {X : Type 0} → BTreeMap (Bor (List ℕ)) X → List ℕ → Option X

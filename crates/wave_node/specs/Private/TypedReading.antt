@@ -1,10 +1,14 @@
 -- What reading a node at a type answers.
-use Rattle.std.specs.Prelude.{ℕ, ◌≡◌, ◌⊎◌, List, [], Option, Some, None, option_map, Result, MatchResult}
+use Rattle.std.specs.Prelude.{ℕ, ℤ, ◌≡◌, ◌≢◌, ◌⊎◌, List, [], Option, Some, None, option_map, Result, Ok, Err, MatchResult}
+use Rattle.std.specs.Result.{IsErrAnd}
 use Rattle.wave_wasm.specs.Lists.{AllOf}
 use Rattle.wave_wasm.specs.Names.{AreDistinct}
-use Rattle.wave_wasm.specs.Types.{TypeTree, MaybeType, type_option, maybe_type, EachNamesOfMaybe}
+use Rattle.wave_wasm.specs.Types.{TypeTree, MaybeType, Whole, whole_kind, type_option, maybe_type, EachNamesOfMaybe}
+use Rattle.wave_wasm.specs.declared.wasm.WasmTypeKind.{WasmTypeKind}
+use Rattle.wave_wasm.specs.Values as value
 use Rattle.wave_wasm.specs.Values.{Value, maybe_value}
-use Rattle.wave_wasm.specs.ValueErrors.{Cause}
+use Rattle.wave_wasm.specs.TypeText.{kind_word}
+use Rattle.wave_wasm.specs.ValueErrors.{Cause, unsupported_type}
 use Rattle.wave_wasm.specs.ConstructorContracts.{PayloadIsOf, payload_and}
 use Rattle.wave_lex.specs.Errors.{refusal_of}
 use Rattle.wave_lex.specs.declared.error.ParserError.{ParserError}
@@ -12,14 +16,28 @@ use Rattle.wave_lex.specs.declared.error.ParserErrorKind.TheVariants.{OutOfMemor
 use Rattle.wave_grammar.specs.SpannedTree.{MaybePlaced, no_placed, a_placed, maybe_of}
 use Rattle.wave_node.specs.NodeTree.{NodeTree, place_of}
 use Rattle.wave_node.specs.Nodes.{IsNodeOf}
+use Rattle.wave_node.specs.NodeAccessors.{GivesNumber}
 use Rattle.wave_grammar.specs.TypedGrammar.{IsFlat}
 use Rattle.wave_grammar.specs.Elaborates.{TreeReadsPayload}
 use Rattle.wave_grammar.specs.TypeErrors.{FaultOfPayload, RefusesFor}
-use Rattle.wave_node.specs.TypedReading.{IsBlamed}
+use Rattle.wave_node.specs.TypedReading.{IsBlamed, IsLeafMade}
 
 -- a refusal with this cause at the node, or for want of memory
 abbrev pub IsCaused : Cause → NodeTree → ParserError → Type 0
 IsCaused cause n e = (e.kind ≡ OutOfMemory) ⊎ RefusesFor cause (place_of n) (refusal_of e) e.span
+
+module _ {V : Type 0} (tree : V → Value) (of : V → TypeTree → Type 0) (Full : TypeTree → Type 0) where
+  -- what a maker answered for the node's number, which is one of this type; or the refusal of a node of none
+  abbrev pub IsWholeRead : Whole → List ℕ → NodeTree → Result V ParserError → Type 0
+  IsWholeRead which source n r =
+      ((z : ℤ) × GivesNumber which (λ (x : ℤ). x) source n (Ok z) × IsLeafMade tree of Full (value.whole which z) n r)
+      ⊎ ((e : ParserError) × GivesNumber which (λ (x : ℤ). x) source n (Err e) × IsErrAnd r (λ f. f ≡ e))
+
+  -- so at the whole type of the kind; at another kind a refusal because its values can't be read
+  abbrev pub AnswersWhole : WasmTypeKind → List ℕ → NodeTree → Result V ParserError → Type 0
+  AnswersWhole kind source n r =
+      ((which : Whole) → kind ≡ whole_kind which → IsWholeRead which source n r)
+      × (((which : Whole) → kind ≢ whole_kind which) → IsErrAnd r (λ e. IsCaused (unsupported_type (kind_word kind)) n e × (e.span ≡ place_of n)))
 
 -- the node of a payload, where there is one
 abbrev pub IsPayloadNodeOf : List ℕ → Option NodeTree → MaybePlaced → Type 0

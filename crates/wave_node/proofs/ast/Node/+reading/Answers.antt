@@ -1,11 +1,9 @@
-use Rattle.std.proofs.Common.{◌≡◌, pos, ℤ, ℕ, arith, w8, w16, w32, w64, to_z, of_z, FitsSigned, rules}
-use Rattle.std.proofs.lemmas.Int.{to_z-of_z}
+use Rattle.std.proofs.Common.{◌≡◌, ℕ, arith, rules}
 use Rattle.wave_wasm.specs.Types as type
 use Rattle.wave_wasm.specs.Values as value
-use Rattle.wave_node.proofs.MakerAnswers.{faulty, handed, leaf_made}
-use Rattle.wave_node.proofs.ByKind.Leaves.{said, number_read, number_kept, number_blame}
-use Rattle.wave_wasm.proofs.TypeKinds.{simple_is}
-use Rattle.wave_node.proofs.Unread.{unread_blame}
+use Rattle.wave_node.proofs.MakerAnswers.{faulty, handed}
+use Rattle.wave_node.proofs.ByKind.Leaves.{said}
+use Rattle.wave_node.proofs.ByKind.Wholes.{whole_answers, whole_at}
 use Rattle.wave_node.specs.TypedReading.{IsValueOf}
 use Rattle.wave_node.proofs.ByKind.Lists.{element_is, list_fault, list_deep, list_item, list_blame, list_kept, list_made, list_nodes, given_nodes, read_all, element_distinct}
 use Rattle.wave_node.proofs.ByKind.Options.{payload_is, option_deep, flat_true, not_flat, given_none, given_some, some_value, option_fault, some_blame, flat_blame, none_made, some_made, flat_made}
@@ -38,87 +36,19 @@ use Rattle.std.proofs.Common.{map, take, ap, ◌∙◌}
 use Rattle.wave_grammar.specs.SpannedTree.{entry_list}
 use Rattle.wave_node.specs.NodeAccessors.{shown_node}
 use Rattle.wave_grammar.specs.TypedGrammar.{names_of}
-use Rattle.wave_node.specs.NodeFields.{shown_field}
+use Rattle.wave_node.specs.Private.NodeFields.{fields_at}
 use Rattle.wave_node.proofs.Fields.Lookup.{take_whole}
 use Rattle.wave_node.proofs.Fields.Entries.{record_nodes}
 use Rattle.wave_node.proofs.Fields.Reading.{RecordType, record_is, part_at, as_parts, record_deep, fields_distinct, still_held, held_value, none_before, removed_next, given_fields, failed, nodes_blame, unknown_blame, field_blamed, field_read, fields_kept, record_done}
 use Rattle.wave_wasm.specs.Lists.{AllOf}
 use Rattle.wave_node.specs.ErrorSpans.{StandsIn}
 use Rattle.wave_node.proofs.Parameters.{error_handed}
-use Rattle.wave_node.proofs.ErrorSpans.Nodes.{PairBelongs, at_in, all_in, number_at, form_at, made_in, caused_at, memory_at, refused_at, deeper, deeper_at, part_in, first_belongs, some_belongs, case_belongs, next_belongs, held_belongs, entries_belong}
+use Rattle.wave_node.proofs.ErrorSpans.Nodes.{PairBelongs, at_in, all_in, form_at, made_in, caused_at, memory_at, refused_at, deeper, deeper_at, part_in, first_belongs, some_belongs, case_belongs, next_belongs, held_belongs, entries_belong}
 use Rattle.wave_node.proofs.ast.Node.+reading.Goals as goal
-
-pub read-returns-in_err-as_number-in-S8-clause-answer : goal.read-returns-in_err-as_number-in-S8-clause-answer
-read-returns-in_err-as_number-in-S8-clause-answer g m c = λ t is distinct.
-    faulty g.V.WasmValue.tree g.V.WasmValue.is_of g.V.WasmValue.is_full _ t _ c.in_err-as_number-in-S8.field-0.0 c.from_residual.result (simple_is (type.whole type.s8) _ c.in-S8.ensures) c.from_residual.ensures.1 (number_blame type.s8 (λ (z : ℤ). z) c.args.src.now c.args.self.now t c.in_err-as_number-in-S8.field-0.0 is.0 c.in_err-as_number-in-S8.ensures)
-
-pub read-returns-in_ok-as_number-in-S8-clause-answer : goal.read-returns-in_ok-as_number-in-S8-clause-answer
-read-returns-in_ok-as_number-in-S8-clause-answer g m c = λ t is distinct.
-    let fits : FitsSigned w8 c.in_ok-as_number-in-S8.field-0 = search rules in
-    leaf_made g.V.WasmValue.tree g.V.WasmValue.is_of g.V.WasmValue.is_full _ t c.args.self.now (value.whole type.s8 (to_z w8 (of_z w8 c.in_ok-as_number-in-S8.field-0))) c.make_s8.result c.or_error_here.result (simple_is (type.whole type.s8) _ c.in-S8.ensures) (number_kept type.s8 t (to_z w8 (of_z w8 c.in_ok-as_number-in-S8.field-0)) c.in_ok-as_number-in-S8.field-0 (to_z-of_z w8 c.in_ok-as_number-in-S8.field-0 fits) (number_read type.s8 c.args.src.now c.args.self.now t c.in_ok-as_number-in-S8.field-0 is.0 c.in_ok-as_number-in-S8.ensures.0 c.in_ok-as_number-in-S8.ensures.1)) c.make_s8.ensures.made c.make_s8.ensures.full c.or_error_here.ensures
-
-pub read-returns-in_err-as_number-in-S16-clause-answer : goal.read-returns-in_err-as_number-in-S16-clause-answer
-read-returns-in_err-as_number-in-S16-clause-answer g m c = λ t is distinct.
-    faulty g.V.WasmValue.tree g.V.WasmValue.is_of g.V.WasmValue.is_full _ t _ c.in_err-as_number-in-S16.field-0.0 c.from_residual-in_err-as_number-in-S16.result (simple_is (type.whole type.s16) _ c.in-S16.ensures) c.from_residual-in_err-as_number-in-S16.ensures.1 (number_blame type.s16 (λ (z : ℤ). z) c.args.src.now c.args.self.now t c.in_err-as_number-in-S16.field-0.0 is.0 c.in_err-as_number-in-S16.ensures)
-
-pub read-returns-in_ok-as_number-in-S16-clause-answer : goal.read-returns-in_ok-as_number-in-S16-clause-answer
-read-returns-in_ok-as_number-in-S16-clause-answer g m c = λ t is distinct.
-    let fits : FitsSigned w16 c.in_ok-as_number-in-S16.field-0 = search rules in
-    leaf_made g.V.WasmValue.tree g.V.WasmValue.is_of g.V.WasmValue.is_full _ t c.args.self.now (value.whole type.s16 (to_z w16 (of_z w16 c.in_ok-as_number-in-S16.field-0))) c.make_s16.result c.or_error_here-in-S16.result (simple_is (type.whole type.s16) _ c.in-S16.ensures) (number_kept type.s16 t (to_z w16 (of_z w16 c.in_ok-as_number-in-S16.field-0)) c.in_ok-as_number-in-S16.field-0 (to_z-of_z w16 c.in_ok-as_number-in-S16.field-0 fits) (number_read type.s16 c.args.src.now c.args.self.now t c.in_ok-as_number-in-S16.field-0 is.0 c.in_ok-as_number-in-S16.ensures.0 c.in_ok-as_number-in-S16.ensures.1)) c.make_s16.ensures.made c.make_s16.ensures.full c.or_error_here-in-S16.ensures
-
-pub read-returns-in_err-as_number-in-S32-clause-answer : goal.read-returns-in_err-as_number-in-S32-clause-answer
-read-returns-in_err-as_number-in-S32-clause-answer g m c = λ t is distinct.
-    faulty g.V.WasmValue.tree g.V.WasmValue.is_of g.V.WasmValue.is_full _ t _ c.in_err-as_number-in-S32.field-0.0 c.from_residual-in_err-as_number-in-S32.result (simple_is (type.whole type.s32) _ c.in-S32.ensures) c.from_residual-in_err-as_number-in-S32.ensures.1 (number_blame type.s32 (λ (z : ℤ). z) c.args.src.now c.args.self.now t c.in_err-as_number-in-S32.field-0.0 is.0 c.in_err-as_number-in-S32.ensures)
-
-pub read-returns-in_ok-as_number-in-S32-clause-answer : goal.read-returns-in_ok-as_number-in-S32-clause-answer
-read-returns-in_ok-as_number-in-S32-clause-answer g m c = λ t is distinct.
-    let fits : FitsSigned w32 c.in_ok-as_number-in-S32.field-0 = search rules in
-    leaf_made g.V.WasmValue.tree g.V.WasmValue.is_of g.V.WasmValue.is_full _ t c.args.self.now (value.whole type.s32 (to_z w32 (of_z w32 c.in_ok-as_number-in-S32.field-0))) c.make_s32.result c.or_error_here-in-S32.result (simple_is (type.whole type.s32) _ c.in-S32.ensures) (number_kept type.s32 t (to_z w32 (of_z w32 c.in_ok-as_number-in-S32.field-0)) c.in_ok-as_number-in-S32.field-0 (to_z-of_z w32 c.in_ok-as_number-in-S32.field-0 fits) (number_read type.s32 c.args.src.now c.args.self.now t c.in_ok-as_number-in-S32.field-0 is.0 c.in_ok-as_number-in-S32.ensures.0 c.in_ok-as_number-in-S32.ensures.1)) c.make_s32.ensures.made c.make_s32.ensures.full c.or_error_here-in-S32.ensures
-
-pub read-returns-in_err-as_number-in-S64-clause-answer : goal.read-returns-in_err-as_number-in-S64-clause-answer
-read-returns-in_err-as_number-in-S64-clause-answer g m c = λ t is distinct.
-    faulty g.V.WasmValue.tree g.V.WasmValue.is_of g.V.WasmValue.is_full _ t _ c.in_err-as_number-in-S64.field-0.0 c.from_residual-in_err-as_number-in-S64.result (simple_is (type.whole type.s64) _ c.in-S64.ensures) c.from_residual-in_err-as_number-in-S64.ensures.1 (number_blame type.s64 (λ (z : ℤ). z) c.args.src.now c.args.self.now t c.in_err-as_number-in-S64.field-0.0 is.0 c.in_err-as_number-in-S64.ensures)
-
-pub read-returns-in_ok-as_number-in-S64-clause-answer : goal.read-returns-in_ok-as_number-in-S64-clause-answer
-read-returns-in_ok-as_number-in-S64-clause-answer g m c = λ t is distinct.
-    let fits : FitsSigned w64 c.in_ok-as_number-in-S64.field-0 = search rules in
-    leaf_made g.V.WasmValue.tree g.V.WasmValue.is_of g.V.WasmValue.is_full _ t c.args.self.now (value.whole type.s64 (to_z w64 (of_z w64 c.in_ok-as_number-in-S64.field-0))) c.make_s64.result c.or_error_here-in-S64.result (simple_is (type.whole type.s64) _ c.in-S64.ensures) (number_kept type.s64 t (to_z w64 (of_z w64 c.in_ok-as_number-in-S64.field-0)) c.in_ok-as_number-in-S64.field-0 (to_z-of_z w64 c.in_ok-as_number-in-S64.field-0 fits) (number_read type.s64 c.args.src.now c.args.self.now t c.in_ok-as_number-in-S64.field-0 is.0 c.in_ok-as_number-in-S64.ensures.0 c.in_ok-as_number-in-S64.ensures.1)) c.make_s64.ensures.made c.make_s64.ensures.full c.or_error_here-in-S64.ensures
-
-pub read-returns-in_err-as_number-in-U8-clause-answer : goal.read-returns-in_err-as_number-in-U8-clause-answer
-read-returns-in_err-as_number-in-U8-clause-answer g m c = λ t is distinct.
-    faulty g.V.WasmValue.tree g.V.WasmValue.is_of g.V.WasmValue.is_full _ t _ c.in_err-as_number-in-U8.field-0.0 c.from_residual-in_err-as_number-in-U8.result (simple_is (type.whole type.u8) _ c.in-U8.ensures) c.from_residual-in_err-as_number-in-U8.ensures.1 (number_blame type.u8 pos c.args.src.now c.args.self.now t c.in_err-as_number-in-U8.field-0.0 is.0 c.in_err-as_number-in-U8.ensures)
-
-pub read-returns-in_ok-as_number-in-U8-clause-answer : goal.read-returns-in_ok-as_number-in-U8-clause-answer
-read-returns-in_ok-as_number-in-U8-clause-answer g m c = λ t is distinct.
-    leaf_made g.V.WasmValue.tree g.V.WasmValue.is_of g.V.WasmValue.is_full _ t c.args.self.now (value.whole type.u8 (pos c.in_ok-as_number-in-U8.field-0)) c.make_u8.result c.or_error_here-in-U8.result (simple_is (type.whole type.u8) _ c.in-U8.ensures) (number_read type.u8 c.args.src.now c.args.self.now t (pos c.in_ok-as_number-in-U8.field-0) is.0 c.in_ok-as_number-in-U8.ensures.0 c.in_ok-as_number-in-U8.ensures.1) c.make_u8.ensures.made c.make_u8.ensures.full c.or_error_here-in-U8.ensures
-
-pub read-returns-in_err-as_number-in-U16-clause-answer : goal.read-returns-in_err-as_number-in-U16-clause-answer
-read-returns-in_err-as_number-in-U16-clause-answer g m c = λ t is distinct.
-    faulty g.V.WasmValue.tree g.V.WasmValue.is_of g.V.WasmValue.is_full _ t _ c.in_err-as_number-in-U16.field-0.0 c.from_residual-in_err-as_number-in-U16.result (simple_is (type.whole type.u16) _ c.in-U16.ensures) c.from_residual-in_err-as_number-in-U16.ensures.1 (number_blame type.u16 pos c.args.src.now c.args.self.now t c.in_err-as_number-in-U16.field-0.0 is.0 c.in_err-as_number-in-U16.ensures)
-
-pub read-returns-in_ok-as_number-in-U16-clause-answer : goal.read-returns-in_ok-as_number-in-U16-clause-answer
-read-returns-in_ok-as_number-in-U16-clause-answer g m c = λ t is distinct.
-    leaf_made g.V.WasmValue.tree g.V.WasmValue.is_of g.V.WasmValue.is_full _ t c.args.self.now (value.whole type.u16 (pos c.in_ok-as_number-in-U16.field-0)) c.make_u16.result c.or_error_here-in-U16.result (simple_is (type.whole type.u16) _ c.in-U16.ensures) (number_read type.u16 c.args.src.now c.args.self.now t (pos c.in_ok-as_number-in-U16.field-0) is.0 c.in_ok-as_number-in-U16.ensures.0 c.in_ok-as_number-in-U16.ensures.1) c.make_u16.ensures.made c.make_u16.ensures.full c.or_error_here-in-U16.ensures
-
-pub read-returns-in_err-as_number-in-U32-clause-answer : goal.read-returns-in_err-as_number-in-U32-clause-answer
-read-returns-in_err-as_number-in-U32-clause-answer g m c = λ t is distinct.
-    faulty g.V.WasmValue.tree g.V.WasmValue.is_of g.V.WasmValue.is_full _ t _ c.in_err-as_number-in-U32.field-0.0 c.from_residual-in_err-as_number-in-U32.result (simple_is (type.whole type.u32) _ c.in-U32.ensures) c.from_residual-in_err-as_number-in-U32.ensures.1 (number_blame type.u32 pos c.args.src.now c.args.self.now t c.in_err-as_number-in-U32.field-0.0 is.0 c.in_err-as_number-in-U32.ensures)
-
-pub read-returns-in_ok-as_number-in-U32-clause-answer : goal.read-returns-in_ok-as_number-in-U32-clause-answer
-read-returns-in_ok-as_number-in-U32-clause-answer g m c = λ t is distinct.
-    leaf_made g.V.WasmValue.tree g.V.WasmValue.is_of g.V.WasmValue.is_full _ t c.args.self.now (value.whole type.u32 (pos c.in_ok-as_number-in-U32.field-0)) c.make_u32.result c.or_error_here-in-U32.result (simple_is (type.whole type.u32) _ c.in-U32.ensures) (number_read type.u32 c.args.src.now c.args.self.now t (pos c.in_ok-as_number-in-U32.field-0) is.0 c.in_ok-as_number-in-U32.ensures.0 c.in_ok-as_number-in-U32.ensures.1) c.make_u32.ensures.made c.make_u32.ensures.full c.or_error_here-in-U32.ensures
-
-pub read-returns-in_err-as_number-in-U64-clause-answer : goal.read-returns-in_err-as_number-in-U64-clause-answer
-read-returns-in_err-as_number-in-U64-clause-answer g m c = λ t is distinct.
-    faulty g.V.WasmValue.tree g.V.WasmValue.is_of g.V.WasmValue.is_full _ t _ c.in_err-as_number-in-U64.field-0.0 c.from_residual-in_err-as_number-in-U64.result (simple_is (type.whole type.u64) _ c.in-U64.ensures) c.from_residual-in_err-as_number-in-U64.ensures.1 (number_blame type.u64 pos c.args.src.now c.args.self.now t c.in_err-as_number-in-U64.field-0.0 is.0 c.in_err-as_number-in-U64.ensures)
-
-pub read-returns-in_ok-as_number-in-U64-clause-answer : goal.read-returns-in_ok-as_number-in-U64-clause-answer
-read-returns-in_ok-as_number-in-U64-clause-answer g m c = λ t is distinct.
-    leaf_made g.V.WasmValue.tree g.V.WasmValue.is_of g.V.WasmValue.is_full _ t c.args.self.now (value.whole type.u64 (pos c.in_ok-as_number-in-U64.field-0)) c.make_u64.result c.or_error_here-in-U64.result (simple_is (type.whole type.u64) _ c.in-U64.ensures) (number_read type.u64 c.args.src.now c.args.self.now t (pos c.in_ok-as_number-in-U64.field-0) is.0 c.in_ok-as_number-in-U64.ensures.0 c.in_ok-as_number-in-U64.ensures.1) c.make_u64.ensures.made c.make_u64.ensures.full c.or_error_here-in-U64.ensures
 
 pub read-returns-in_default-clause-answer : goal.read-returns-in_default-clause-answer
 read-returns-in_default-clause-answer g m c = λ t is distinct.
-    unread_blame g.V.WasmValue.is_full (g.V.Type.WasmType.tree c.args.ty.now) c.args.src.now c.args.self.now t c.kind.result c.unsupported.result is.0 c.kind.ensures (record { bool = c.in_default.not-Bool; s8 = c.in_default.not-S8; s16 = c.in_default.not-S16; s32 = c.in_default.not-S32; s64 = c.in_default.not-S64; u8 = c.in_default.not-U8; u16 = c.in_default.not-U16; u32 = c.in_default.not-U32; u64 = c.in_default.not-U64; char = c.in_default.not-Char; string = c.in_default.not-String; list = c.in_default.not-List; tuple = c.in_default.not-Tuple; record_kind = c.in_default.not-Record; option = c.in_default.not-Option; result = c.in_default.not-Result; variant = c.in_default.not-Variant; enum = c.in_default.not-Enum; flags = c.in_default.not-Flags; map = c.in_default.not-Map }) c.unsupported.ensures.cause
+    whole_answers g.V.WasmValue.tree g.V.WasmValue.is_of g.V.WasmValue.is_full (g.V.Type.WasmType.tree c.args.ty.now) c.kind.result c.args.src.now c.args.self.now t c.read_whole.result c.kind.ensures is.0 (record { bool = c.in_default.not-Bool; char = c.in_default.not-Char; string = c.in_default.not-String; list = c.in_default.not-List; tuple = c.in_default.not-Tuple; record_kind = c.in_default.not-Record; option = c.in_default.not-Option; result = c.in_default.not-Result; variant = c.in_default.not-Variant; enum = c.in_default.not-Enum; flags = c.in_default.not-Flags; map = c.in_default.not-Map }) c.read_whole.ensures
 
 pub read_list-returns-in_err-nodes-clause-answer : goal.read_list-returns-in_err-nodes-clause-answer
 read_list-returns-in_err-nodes-clause-answer g m c = λ t is distinct.
@@ -380,7 +310,7 @@ read_record-read_field-requires g m c κs within =
     let kind : kinds.Record ≡ kind_of (g.V.Type.WasmType.tree c.args.ty.now) = search rules in
     let is_record : RecordType (g.V.Type.WasmType.tree c.args.ty.now) (shown_fields g.V.Type.WasmType.tree c.in-Ok.types.items) = record_is (g.V.Type.WasmType.tree c.args.ty.now) (shown_fields g.V.Type.WasmType.tree c.in-Ok.types.items) kind c.in-Ok.ensures in
     let typed : HasAt (shown_fields g.V.Type.WasmType.tree c.in-Ok.types.items) c.loop-i.i (c.index.result.now.0.now, (g.V.Type.WasmType.tree c.index.result.now.1.now)) = part_at g.V.Type.WasmType.tree c.in-Ok.types.items c.loop-i.i c.index.result.now (omega arith) c.index.ensures in
-    (omega (arith, record_deep (g.V.Type.WasmType.tree c.args.ty.now) (shown_fields g.V.Type.WasmType.tree c.in-Ok.types.items) c.loop-i.i c.index.result.now.0.now (g.V.Type.WasmType.tree c.index.result.now.1.now) is_record typed), (within.0, (within.1, held_value c.args.src.now c.args.self.now value.0 (names_of (take c.loop-i.i (shown_fields g.V.Type.WasmType.tree c.in-Ok.types.items))) c.in_ok-nodes.nodes c.loop-i.nodes (map shown_field c.in_ok-nodes.field-0-0.items) c.index.result.now.0.now c.remove-node.result value.1 c.in_ok-nodes.ensures.given c.in_ok-nodes.ensures.held c.loop-i.invariant.removed c.remove-node.ensures.value)))
+    (omega (arith, record_deep (g.V.Type.WasmType.tree c.args.ty.now) (shown_fields g.V.Type.WasmType.tree c.in-Ok.types.items) c.loop-i.i c.index.result.now.0.now (g.V.Type.WasmType.tree c.index.result.now.1.now) is_record typed), (within.0, (within.1, held_value c.args.src.now c.args.self.now value.0 (names_of (take c.loop-i.i (shown_fields g.V.Type.WasmType.tree c.in-Ok.types.items))) c.in_ok-nodes.nodes c.loop-i.nodes (fields_at c.args.src.now (children_of c.args.self.now)) c.index.result.now.0.now c.remove-node.result value.1 c.in_ok-nodes.ensures.given c.in_ok-nodes.ensures.held c.loop-i.invariant.removed c.remove-node.ensures.value)))
 
 pub read_record-returns-in_err-val-clause-answer : goal.read_record-returns-in_err-val-clause-answer
 read_record-returns-in_err-val-clause-answer g m c = λ t is distinct.
@@ -388,9 +318,9 @@ read_record-returns-in_err-val-clause-answer g m c = λ t is distinct.
     let is_record : RecordType (g.V.Type.WasmType.tree c.args.ty.now) (shown_fields g.V.Type.WasmType.tree c.in-Ok.types.items) = record_is (g.V.Type.WasmType.tree c.args.ty.now) (shown_fields g.V.Type.WasmType.tree c.in-Ok.types.items) kind c.in-Ok.ensures in
     let typed : HasAt (shown_fields g.V.Type.WasmType.tree c.in-Ok.types.items) c.loop-i.i (c.index.result.now.0.now, (g.V.Type.WasmType.tree c.index.result.now.1.now)) = part_at g.V.Type.WasmType.tree c.in-Ok.types.items c.loop-i.i c.index.result.now (omega arith) c.index.ensures in
     let apart = fields_distinct (g.V.Type.WasmType.tree c.args.ty.now) (shown_fields g.V.Type.WasmType.tree c.in-Ok.types.items) is_record distinct in
-    let found = still_held (names_of (take c.loop-i.i (shown_fields g.V.Type.WasmType.tree c.in-Ok.types.items))) c.in_ok-nodes.nodes c.loop-i.nodes (map shown_field c.in_ok-nodes.field-0-0.items) c.index.result.now.0.now c.remove-node.result c.in_ok-nodes.ensures.held c.loop-i.invariant.removed (none_before (shown_fields g.V.Type.WasmType.tree c.in-Ok.types.items) c.loop-i.i c.index.result.now.0.now (g.V.Type.WasmType.tree c.index.result.now.1.now) apart.names typed) c.remove-node.ensures.value in
+    let found = still_held (names_of (take c.loop-i.i (shown_fields g.V.Type.WasmType.tree c.in-Ok.types.items))) c.in_ok-nodes.nodes c.loop-i.nodes (fields_at c.args.src.now (children_of c.args.self.now)) c.index.result.now.0.now c.remove-node.result c.in_ok-nodes.ensures.held c.loop-i.invariant.removed (none_before (shown_fields g.V.Type.WasmType.tree c.in-Ok.types.items) c.loop-i.i c.index.result.now.0.now (g.V.Type.WasmType.tree c.index.result.now.1.now) apart.names typed) c.remove-node.ensures.value in
     handed g.V.WasmValue.tree g.V.WasmValue.is_of g.V.WasmValue.is_full (g.V.Type.WasmType.tree c.args.ty.now) t c.in_err-val.field-0.0 c.from_residual-in_err-val.result c.from_residual-in_err-val.ensures.1
-    (field_blamed g.V.WasmValue.tree g.V.WasmValue.is_of g.V.WasmValue.is_full (g.V.Type.WasmType.tree c.args.ty.now) (g.V.Type.WasmType.tree c.index.result.now.1.now) (shown_fields g.V.Type.WasmType.tree c.in-Ok.types.items) c.args.src.now c.args.self.now t (map shown_field c.in_ok-nodes.field-0-0.items) c.loop-i.i c.index.result.now.0.now (shown_node c.remove-node.result) c.in_err-val.field-0.0 is_record is c.in_ok-nodes.ensures.given typed (all_has (λ p. HasDistinctNames p.1) (shown_fields g.V.Type.WasmType.tree c.in-Ok.types.items) c.loop-i.i (c.index.result.now.0.now, (g.V.Type.WasmType.tree c.index.result.now.1.now)) apart.within typed) g.met.V.WasmValue.full_parts found c.in_err-val.ensures.answer)
+    (field_blamed g.V.WasmValue.tree g.V.WasmValue.is_of g.V.WasmValue.is_full (g.V.Type.WasmType.tree c.args.ty.now) (g.V.Type.WasmType.tree c.index.result.now.1.now) (shown_fields g.V.Type.WasmType.tree c.in-Ok.types.items) c.args.src.now c.args.self.now t (fields_at c.args.src.now (children_of c.args.self.now)) c.loop-i.i c.index.result.now.0.now (shown_node c.remove-node.result) c.in_err-val.field-0.0 is_record is c.in_ok-nodes.ensures.given typed (all_has (λ p. HasDistinctNames p.1) (shown_fields g.V.Type.WasmType.tree c.in-Ok.types.items) c.loop-i.i (c.index.result.now.0.now, (g.V.Type.WasmType.tree c.index.result.now.1.now)) apart.within typed) g.met.V.WasmValue.full_parts found c.in_err-val.ensures.answer)
 
 pub read_record-loop-i-preserved : goal.read_record-loop-i-preserved
 read_record-loop-i-preserved g m c =
@@ -409,99 +339,19 @@ read_record-returns-then-not-is_empty-clause-answer g m c = λ t is distinct.
     let kind : kinds.Record ≡ kind_of (g.V.Type.WasmType.tree c.args.ty.now) = search rules in
     let is_record : RecordType (g.V.Type.WasmType.tree c.args.ty.now) (shown_fields g.V.Type.WasmType.tree c.in-Ok.types.items) = record_is (g.V.Type.WasmType.tree c.args.ty.now) (shown_fields g.V.Type.WasmType.tree c.in-Ok.types.items) kind c.in-Ok.ensures in
     let whole : take c.loop-i.i (shown_fields g.V.Type.WasmType.tree c.in-Ok.types.items) ≡ (shown_fields g.V.Type.WasmType.tree c.in-Ok.types.items) = take_whole (shown_fields g.V.Type.WasmType.tree c.in-Ok.types.items) c.loop-i.i (omega (arith, as_parts g.V.Type.WasmType.tree c.in-Ok.types.items)) in
-    unknown_blame g.V.WasmValue.is_full (g.V.Type.WasmType.tree c.args.ty.now) (shown_fields g.V.Type.WasmType.tree c.in-Ok.types.items) c.args.src.now c.args.self.now t (names_of (take c.loop-i.i (shown_fields g.V.Type.WasmType.tree c.in-Ok.types.items))) c.in_ok-nodes.nodes c.loop-i.nodes (map shown_field c.in_ok-nodes.field-0-0.items) c.error.result is_record is c.in_ok-nodes.ensures.given c.in_ok-nodes.ensures.held (ap names_of whole) c.loop-i.invariant.removed (failed c.is_empty.result c.if-not-is_empty.true c.is_empty.ensures.1) (said c.error.ensures)
+    unknown_blame g.V.WasmValue.is_full (g.V.Type.WasmType.tree c.args.ty.now) (shown_fields g.V.Type.WasmType.tree c.in-Ok.types.items) c.args.src.now c.args.self.now t (names_of (take c.loop-i.i (shown_fields g.V.Type.WasmType.tree c.in-Ok.types.items))) c.in_ok-nodes.nodes c.loop-i.nodes (fields_at c.args.src.now (children_of c.args.self.now)) c.error.result is_record is c.in_ok-nodes.ensures.given c.in_ok-nodes.ensures.held (ap names_of whole) c.loop-i.invariant.removed (failed c.is_empty.result c.if-not-is_empty.true c.is_empty.ensures.1) (said c.error.ensures)
 
 pub read_record-returns-clause-answer : goal.read_record-returns-clause-answer
 read_record-returns-clause-answer g m c = λ t is distinct.
     let kind : kinds.Record ≡ kind_of (g.V.Type.WasmType.tree c.args.ty.now) = search rules in
     let is_record : RecordType (g.V.Type.WasmType.tree c.args.ty.now) (shown_fields g.V.Type.WasmType.tree c.in-Ok.types.items) = record_is (g.V.Type.WasmType.tree c.args.ty.now) (shown_fields g.V.Type.WasmType.tree c.in-Ok.types.items) kind c.in-Ok.ensures in
-    let read = c.loop-i.invariant.read (map shown_field c.in_ok-nodes.field-0-0.items) c.in_ok-nodes.ensures.held (entry_list (record_nodes c.args.src.now c.args.self.now t is c.in_ok-nodes.ensures.given.is_set).given) (given_fields c.args.src.now c.args.self.now t (map shown_field c.in_ok-nodes.field-0-0.items) is c.in_ok-nodes.ensures.given) (fields_distinct (g.V.Type.WasmType.tree c.args.ty.now) (shown_fields g.V.Type.WasmType.tree c.in-Ok.types.items) is_record distinct) in
-    record_done g.V.WasmValue.tree g.V.WasmValue.is_of g.V.WasmValue.is_full (g.V.Type.WasmType.tree c.args.ty.now) (shown_fields g.V.Type.WasmType.tree c.in-Ok.types.items) c.args.src.now c.args.self.now t (map shown_field c.in_ok-nodes.field-0-0.items) c.loop-i.i c.in_ok-nodes.nodes c.loop-i.nodes c.loop-i.fields.items c.make_record.result c.or_error_here.result is_record distinct is c.in_ok-nodes.ensures.given c.in_ok-nodes.ensures.held (omega (arith, as_parts g.V.Type.WasmType.tree c.in-Ok.types.items)) c.loop-i.invariant.removed (c.is_empty.ensures.0 c.if-not-is_empty.false) read c.make_record.ensures.made c.make_record.ensures.full c.or_error_here.ensures
-
-pub read-returns-in_err-as_number-in-S8-clause-within : goal.read-returns-in_err-as_number-in-S8-clause-within
-read-returns-in_err-as_number-in-S8-clause-within g m c =
-    let value : IsValueOf c.args.src.now c.args.self.now = search rules in
-    error_handed (StandsIn c.args.self.now) c.from_residual.result c.in_err-as_number-in-S8.field-0.0 c.from_residual.ensures.1 (at_in c.args.src.now c.args.self.now c.in_err-as_number-in-S8.field-0.0 (inl value) (number_at type.s8 (λ (z : ℤ). z) c.args.src.now c.args.self.now c.in_err-as_number-in-S8.field-0.0 c.in_err-as_number-in-S8.ensures))
-
-pub read-returns-in_ok-as_number-in-S8-clause-within : goal.read-returns-in_ok-as_number-in-S8-clause-within
-read-returns-in_ok-as_number-in-S8-clause-within g m c =
-    let value : IsValueOf c.args.src.now c.args.self.now = search rules in
-    made_in c.args.src.now c.args.self.now c.make_s8.result c.or_error_here.result (inl value) c.or_error_here.ensures
-
-pub read-returns-in_err-as_number-in-S16-clause-within : goal.read-returns-in_err-as_number-in-S16-clause-within
-read-returns-in_err-as_number-in-S16-clause-within g m c =
-    let value : IsValueOf c.args.src.now c.args.self.now = search rules in
-    error_handed (StandsIn c.args.self.now) c.from_residual-in_err-as_number-in-S16.result c.in_err-as_number-in-S16.field-0.0 c.from_residual-in_err-as_number-in-S16.ensures.1 (at_in c.args.src.now c.args.self.now c.in_err-as_number-in-S16.field-0.0 (inl value) (number_at type.s16 (λ (z : ℤ). z) c.args.src.now c.args.self.now c.in_err-as_number-in-S16.field-0.0 c.in_err-as_number-in-S16.ensures))
-
-pub read-returns-in_ok-as_number-in-S16-clause-within : goal.read-returns-in_ok-as_number-in-S16-clause-within
-read-returns-in_ok-as_number-in-S16-clause-within g m c =
-    let value : IsValueOf c.args.src.now c.args.self.now = search rules in
-    made_in c.args.src.now c.args.self.now c.make_s16.result c.or_error_here-in-S16.result (inl value) c.or_error_here-in-S16.ensures
-
-pub read-returns-in_err-as_number-in-S32-clause-within : goal.read-returns-in_err-as_number-in-S32-clause-within
-read-returns-in_err-as_number-in-S32-clause-within g m c =
-    let value : IsValueOf c.args.src.now c.args.self.now = search rules in
-    error_handed (StandsIn c.args.self.now) c.from_residual-in_err-as_number-in-S32.result c.in_err-as_number-in-S32.field-0.0 c.from_residual-in_err-as_number-in-S32.ensures.1 (at_in c.args.src.now c.args.self.now c.in_err-as_number-in-S32.field-0.0 (inl value) (number_at type.s32 (λ (z : ℤ). z) c.args.src.now c.args.self.now c.in_err-as_number-in-S32.field-0.0 c.in_err-as_number-in-S32.ensures))
-
-pub read-returns-in_ok-as_number-in-S32-clause-within : goal.read-returns-in_ok-as_number-in-S32-clause-within
-read-returns-in_ok-as_number-in-S32-clause-within g m c =
-    let value : IsValueOf c.args.src.now c.args.self.now = search rules in
-    made_in c.args.src.now c.args.self.now c.make_s32.result c.or_error_here-in-S32.result (inl value) c.or_error_here-in-S32.ensures
-
-pub read-returns-in_err-as_number-in-S64-clause-within : goal.read-returns-in_err-as_number-in-S64-clause-within
-read-returns-in_err-as_number-in-S64-clause-within g m c =
-    let value : IsValueOf c.args.src.now c.args.self.now = search rules in
-    error_handed (StandsIn c.args.self.now) c.from_residual-in_err-as_number-in-S64.result c.in_err-as_number-in-S64.field-0.0 c.from_residual-in_err-as_number-in-S64.ensures.1 (at_in c.args.src.now c.args.self.now c.in_err-as_number-in-S64.field-0.0 (inl value) (number_at type.s64 (λ (z : ℤ). z) c.args.src.now c.args.self.now c.in_err-as_number-in-S64.field-0.0 c.in_err-as_number-in-S64.ensures))
-
-pub read-returns-in_ok-as_number-in-S64-clause-within : goal.read-returns-in_ok-as_number-in-S64-clause-within
-read-returns-in_ok-as_number-in-S64-clause-within g m c =
-    let value : IsValueOf c.args.src.now c.args.self.now = search rules in
-    made_in c.args.src.now c.args.self.now c.make_s64.result c.or_error_here-in-S64.result (inl value) c.or_error_here-in-S64.ensures
-
-pub read-returns-in_err-as_number-in-U8-clause-within : goal.read-returns-in_err-as_number-in-U8-clause-within
-read-returns-in_err-as_number-in-U8-clause-within g m c =
-    let value : IsValueOf c.args.src.now c.args.self.now = search rules in
-    error_handed (StandsIn c.args.self.now) c.from_residual-in_err-as_number-in-U8.result c.in_err-as_number-in-U8.field-0.0 c.from_residual-in_err-as_number-in-U8.ensures.1 (at_in c.args.src.now c.args.self.now c.in_err-as_number-in-U8.field-0.0 (inl value) (number_at type.u8 pos c.args.src.now c.args.self.now c.in_err-as_number-in-U8.field-0.0 c.in_err-as_number-in-U8.ensures))
-
-pub read-returns-in_ok-as_number-in-U8-clause-within : goal.read-returns-in_ok-as_number-in-U8-clause-within
-read-returns-in_ok-as_number-in-U8-clause-within g m c =
-    let value : IsValueOf c.args.src.now c.args.self.now = search rules in
-    made_in c.args.src.now c.args.self.now c.make_u8.result c.or_error_here-in-U8.result (inl value) c.or_error_here-in-U8.ensures
-
-pub read-returns-in_err-as_number-in-U16-clause-within : goal.read-returns-in_err-as_number-in-U16-clause-within
-read-returns-in_err-as_number-in-U16-clause-within g m c =
-    let value : IsValueOf c.args.src.now c.args.self.now = search rules in
-    error_handed (StandsIn c.args.self.now) c.from_residual-in_err-as_number-in-U16.result c.in_err-as_number-in-U16.field-0.0 c.from_residual-in_err-as_number-in-U16.ensures.1 (at_in c.args.src.now c.args.self.now c.in_err-as_number-in-U16.field-0.0 (inl value) (number_at type.u16 pos c.args.src.now c.args.self.now c.in_err-as_number-in-U16.field-0.0 c.in_err-as_number-in-U16.ensures))
-
-pub read-returns-in_ok-as_number-in-U16-clause-within : goal.read-returns-in_ok-as_number-in-U16-clause-within
-read-returns-in_ok-as_number-in-U16-clause-within g m c =
-    let value : IsValueOf c.args.src.now c.args.self.now = search rules in
-    made_in c.args.src.now c.args.self.now c.make_u16.result c.or_error_here-in-U16.result (inl value) c.or_error_here-in-U16.ensures
-
-pub read-returns-in_err-as_number-in-U32-clause-within : goal.read-returns-in_err-as_number-in-U32-clause-within
-read-returns-in_err-as_number-in-U32-clause-within g m c =
-    let value : IsValueOf c.args.src.now c.args.self.now = search rules in
-    error_handed (StandsIn c.args.self.now) c.from_residual-in_err-as_number-in-U32.result c.in_err-as_number-in-U32.field-0.0 c.from_residual-in_err-as_number-in-U32.ensures.1 (at_in c.args.src.now c.args.self.now c.in_err-as_number-in-U32.field-0.0 (inl value) (number_at type.u32 pos c.args.src.now c.args.self.now c.in_err-as_number-in-U32.field-0.0 c.in_err-as_number-in-U32.ensures))
-
-pub read-returns-in_ok-as_number-in-U32-clause-within : goal.read-returns-in_ok-as_number-in-U32-clause-within
-read-returns-in_ok-as_number-in-U32-clause-within g m c =
-    let value : IsValueOf c.args.src.now c.args.self.now = search rules in
-    made_in c.args.src.now c.args.self.now c.make_u32.result c.or_error_here-in-U32.result (inl value) c.or_error_here-in-U32.ensures
-
-pub read-returns-in_err-as_number-in-U64-clause-within : goal.read-returns-in_err-as_number-in-U64-clause-within
-read-returns-in_err-as_number-in-U64-clause-within g m c =
-    let value : IsValueOf c.args.src.now c.args.self.now = search rules in
-    error_handed (StandsIn c.args.self.now) c.from_residual-in_err-as_number-in-U64.result c.in_err-as_number-in-U64.field-0.0 c.from_residual-in_err-as_number-in-U64.ensures.1 (at_in c.args.src.now c.args.self.now c.in_err-as_number-in-U64.field-0.0 (inl value) (number_at type.u64 pos c.args.src.now c.args.self.now c.in_err-as_number-in-U64.field-0.0 c.in_err-as_number-in-U64.ensures))
-
-pub read-returns-in_ok-as_number-in-U64-clause-within : goal.read-returns-in_ok-as_number-in-U64-clause-within
-read-returns-in_ok-as_number-in-U64-clause-within g m c =
-    let value : IsValueOf c.args.src.now c.args.self.now = search rules in
-    made_in c.args.src.now c.args.self.now c.make_u64.result c.or_error_here-in-U64.result (inl value) c.or_error_here-in-U64.ensures
+    let read = c.loop-i.invariant.read (fields_at c.args.src.now (children_of c.args.self.now)) c.in_ok-nodes.ensures.held (entry_list (record_nodes c.args.src.now c.args.self.now t is c.in_ok-nodes.ensures.given.is_set).given) (given_fields c.args.src.now c.args.self.now t (fields_at c.args.src.now (children_of c.args.self.now)) is c.in_ok-nodes.ensures.given) (fields_distinct (g.V.Type.WasmType.tree c.args.ty.now) (shown_fields g.V.Type.WasmType.tree c.in-Ok.types.items) is_record distinct) in
+    record_done g.V.WasmValue.tree g.V.WasmValue.is_of g.V.WasmValue.is_full (g.V.Type.WasmType.tree c.args.ty.now) (shown_fields g.V.Type.WasmType.tree c.in-Ok.types.items) c.args.src.now c.args.self.now t (fields_at c.args.src.now (children_of c.args.self.now)) c.loop-i.i c.in_ok-nodes.nodes c.loop-i.nodes c.loop-i.fields.items c.make_record.result c.or_error_here.result is_record distinct is c.in_ok-nodes.ensures.given c.in_ok-nodes.ensures.held (omega (arith, as_parts g.V.Type.WasmType.tree c.in-Ok.types.items)) c.loop-i.invariant.removed (c.is_empty.ensures.0 c.if-not-is_empty.false) read c.make_record.ensures.made c.make_record.ensures.full c.or_error_here.ensures
 
 pub read-returns-in_default-clause-within : goal.read-returns-in_default-clause-within
 read-returns-in_default-clause-within g m c =
     let value : IsValueOf c.args.src.now c.args.self.now = search rules in
-    at_in c.args.src.now c.args.self.now c.unsupported.result (inl value) (caused_at _ c.args.self.now c.unsupported.result c.unsupported.ensures.cause c.unsupported.ensures.span)
+    all_in c.args.src.now c.args.self.now c.read_whole.result (inl value) (whole_at g.V.WasmValue.tree g.V.WasmValue.is_of g.V.WasmValue.is_full c.kind.result c.args.src.now c.args.self.now c.read_whole.result c.read_whole.ensures)
 
 pub read-returns-in-Bool-clause-within : goal.read-returns-in-Bool-clause-within
 read-returns-in-Bool-clause-within g m c =
@@ -690,7 +540,7 @@ read_record-returns-in_err-nodes-clause-within g m c =
 pub read_record-returns-in_err-val-clause-within : goal.read_record-returns-in_err-val-clause-within
 read_record-returns-in_err-val-clause-within g m c =
     let value : IsValueOf c.args.src.now c.args.self.now = search rules in
-    error_handed (StandsIn c.args.self.now) c.from_residual-in_err-val.result c.in_err-val.field-0.0 c.from_residual-in_err-val.ensures.1 (part_in c.args.src.now c.args.self.now (shown_node c.remove-node.result) c.in_err-val.field-0.0 (inl value) (held_belongs c.args.src.now c.args.self.now (names_of (take c.loop-i.i (shown_fields g.V.Type.WasmType.tree c.in-Ok.types.items))) c.in_ok-nodes.nodes c.loop-i.nodes (map shown_field c.in_ok-nodes.field-0-0.items) c.index.result.now.0.now c.remove-node.result value c.in_ok-nodes.ensures.given c.in_ok-nodes.ensures.held c.loop-i.invariant.removed c.remove-node.ensures.value) c.in_err-val.ensures.within)
+    error_handed (StandsIn c.args.self.now) c.from_residual-in_err-val.result c.in_err-val.field-0.0 c.from_residual-in_err-val.ensures.1 (part_in c.args.src.now c.args.self.now (shown_node c.remove-node.result) c.in_err-val.field-0.0 (inl value) (held_belongs c.args.src.now c.args.self.now (names_of (take c.loop-i.i (shown_fields g.V.Type.WasmType.tree c.in-Ok.types.items))) c.in_ok-nodes.nodes c.loop-i.nodes (fields_at c.args.src.now (children_of c.args.self.now)) c.index.result.now.0.now c.remove-node.result value c.in_ok-nodes.ensures.given c.in_ok-nodes.ensures.held c.loop-i.invariant.removed c.remove-node.ensures.value) c.in_err-val.ensures.within)
 
 pub read_record-returns-then-not-is_empty-clause-within : goal.read_record-returns-then-not-is_empty-clause-within
 read_record-returns-then-not-is_empty-clause-within g m c =

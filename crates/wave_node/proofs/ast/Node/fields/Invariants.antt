@@ -1,12 +1,12 @@
 use Rattle.std.proofs.Common.{take, map}
 use Rattle.wave_node.specs.NodeAccessors.{node_pairs}
-use Rattle.wave_node.specs.NodeFields.{shown_field}
+use Rattle.wave_node.specs.NodeFields.{field_of}
 use Rattle.wave_node.specs.Private.NodeFields.{HoldsFields}
 use Rattle.wave_node.proofs.Fields.Lookup.{FieldsSoFar}
 use Rattle.wave_node.proofs.ast.Node.fields.Given as goal
 
 abbrev pub invariant-loop-i : goal.invariant-loop-i
 invariant-loop-i l = record {
-  so_far : FieldsSoFar l.src (take l.i (node_pairs l.nodes)) (map shown_field l.fields.items);
-  holds : HoldsFields l.by_name (map shown_field l.fields.items);
+  so_far : FieldsSoFar l.src (take l.i (node_pairs l.nodes));
+  holds : HoldsFields l.by_name (map (field_of l.src) (take l.i (node_pairs l.nodes)));
 }

@@ -1,7 +1,0 @@
-use Rattle.std.proofs.Common.{take}
-use Rattle.wave_wasm.specs.Borrowed.{texts}
-use Rattle.wave_node.specs.Private.NodeFlags.{HoldsNames}
-use Rattle.wave_node.proofs.ast.Node.set_of.Given as goal
-
-abbrev pub invariant-loop-name : goal.invariant-loop-name
-invariant-loop-name l = HoldsNames l.set (texts (take l.name-index l.names.items))
