@@ -70,12 +70,6 @@ fn is_memory(k: ParserErrorKind) -> bool
     k == ParserErrorKind::OutOfMemory
 }
 
-fn same(a: Token, b: Token) -> bool
-    ensures { IsTrue result ↔ (a ≡ b) }
-{
-    a == b
-}
-
 /// Reads values from a source, one after the other, and looks at most one item ahead. The spans of
 /// its refusals are byte places of the source.
 #[derive(Drop)]
@@ -181,7 +175,7 @@ impl<'source> Parser<'source> {
         ensures asks { asked self.new ≡ self.old.place.taken + 1 }
     {
         let token = self.advance()?;
-        if same(token, class) {
+        if token == class {
             Ok(())
         } else {
             Err(self.unexpected(token))
@@ -492,12 +486,12 @@ impl<'source> Parser<'source> {
         let mut items = Vec::new(alloc);
         if self.next_is(close) {
             self.expect(close)?;
-            if same(close, Token::ParenClose) {
+            if close == Token::ParenClose {
                 return Err(ParserError::new(ParserErrorKind::EmptyTuple, start..self.span().end));
             }
             return Ok(self.node(NodeType::List, start, items));
         }
-        let ty = if same(close, Token::ParenClose) {
+        let ty = if close == Token::ParenClose {
             NodeType::Tuple
         } else {
             NodeType::List
@@ -508,10 +502,10 @@ impl<'source> Parser<'source> {
                 return Err(self.out_of_memory());
             }
             let token = self.advance()?;
-            if same(token, close) {
+            if token == close {
                 return Ok(self.node(ty, start, items));
             }
-            if !same(token, Token::Comma) {
+            if token != Token::Comma {
                 return Err(self.unexpected(token));
             }
             if self.next_is(close) {
@@ -530,14 +524,14 @@ impl<'source> Parser<'source> {
     {
         let start = self.span().start;
         let token = self.advance()?;
-        if same(token, Token::BraceClose) {
+        if token == Token::BraceClose {
             return Ok(self.node(NodeType::EmptySet, start, Vec::new(alloc)));
         }
-        if same(token, Token::Colon) {
+        if token == Token::Colon {
             self.expect(Token::BraceClose)?;
             return Ok(self.node(NodeType::TupleSet, start, Vec::new(alloc)));
         }
-        if same(token, Token::LabelOrKeyword) {
+        if token == Token::LabelOrKeyword {
             if self.next_is(Token::Colon) {
                 let key = self.leaf(alloc, NodeType::Label);
                 self.expect(Token::Colon)?;
@@ -576,14 +570,14 @@ impl<'source> Parser<'source> {
                 return Err(self.out_of_memory());
             }
             let token = self.advance()?;
-            if same(token, Token::BraceClose) {
+            if token == Token::BraceClose {
                 return Ok(self.node(NodeType::TupleSet, start, children));
             }
-            if !same(token, Token::Comma) {
+            if token != Token::Comma {
                 return Err(self.unexpected(token));
             }
             let next = self.advance()?;
-            if same(next, Token::BraceClose) {
+            if next == Token::BraceClose {
                 return Ok(self.node(NodeType::TupleSet, start, children));
             }
             let Some(ty) = key_type(next) else {
@@ -613,17 +607,17 @@ impl<'source> Parser<'source> {
         }
         'flags: loop {
             let token = self.advance()?;
-            if same(token, Token::BraceClose) {
+            if token == Token::BraceClose {
                 return self.flags_node(alloc, start, flags);
             }
-            if !same(token, Token::Comma) {
+            if token != Token::Comma {
                 return Err(self.unexpected(token));
             }
             let next = self.advance()?;
-            if same(next, Token::BraceClose) {
+            if next == Token::BraceClose {
                 return self.flags_node(alloc, start, flags);
             }
-            if !same(next, Token::LabelOrKeyword) {
+            if next != Token::LabelOrKeyword {
                 return Err(self.unexpected(next));
             }
             let name = label_name(self.slice());
