@@ -64,12 +64,6 @@ fn trailing(item: &Option<Result<Token, Span>>, behind: &Lexer) -> Result<(), Pa
     }
 }
 
-fn is_memory(k: ParserErrorKind) -> bool
-    ensures { IsTrue result ↔ (k ≡ kind.OutOfMemory) }
-{
-    k == ParserErrorKind::OutOfMemory
-}
-
 /// Reads values from a source, one after the other, and looks at most one item ahead. The spans of
 /// its refusals are byte places of the source.
 #[derive(Drop)]
@@ -265,7 +259,7 @@ impl<'source> Parser<'source> {
         ensures within { (error.kind ≢ kind.OutOfMemory → LiesInText start.entry.source error.span) → LiesInText start.entry.source result.span }
         ensures asks { asked self.new ≡ asked self.old }
     {
-        if !is_memory(error.kind()) {
+        if error.kind() != ParserErrorKind::OutOfMemory {
             return error;
         }
         self.lexer = start.lexer;
