@@ -3,6 +3,7 @@ pub mod LexerCallCount
 pub mod ErrorSpans
 pub mod ParserSound
 pub mod Lookahead
+pub mod ClassTests
 pub mod FlagsSorted
 pub mod FlagLoop
 pub mod TokenAlignment

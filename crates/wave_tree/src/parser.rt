@@ -11,7 +11,7 @@ ghost use Rattle.wave_grammar.specs.PrefixAutomaton as due;
 ghost use Rattle.wave_grammar.specs.SyntaxErrors.{Gives};
 ghost use Rattle.wave_grammar.specs.Private.SyntaxErrors.{GivesWithin, GivesAnywhere};
 ghost use Rattle.wave_lex.specs.Errors.{Says};
-ghost use Rattle.wave_lex.specs.Tokenization.{span, remainder_of};
+ghost use Rattle.wave_lex.specs.Tokenization.{span};
 ghost use Rattle.wave_tree.specs.Untyped.{IsUntypedTaken};
 ghost use Rattle.wave_tree.specs.UntypedCall.{AreParamsTaken, RefusesTuple};
 ghost use Rattle.wave_tree.specs.FromStr.{IsValueTaken, RefusesValue};
@@ -19,7 +19,7 @@ ghost use Rattle.wave_grammar.specs.Private.TokenRoles.{form_of, IsClose};
 ghost use Rattle.std.specs.BTreeMap.{values};
 ghost use Rattle.wave_node.specs.NodeTree.{node, no_nodes, node_trees};
 ghost use Rattle.wave_node.specs.declared.ast.NodeType.TheVariants as node_type;
-ghost use Rattle.wave_tree.specs.ParsedNodes.{IsNodeTaken, IsParsed};
+ghost use Rattle.wave_tree.specs.ParsedNodes.{IsNodeTaken, IsParsed, IsSound};
 ghost use Rattle.wave_tree.specs.Private.ParsedNodes.{IsParsedBehind, IsMaybe, IsPayload, IsOfItems, IsOfEntries, IsOfFlags, label_children};
 ghost use Rattle.wave_tree.specs.ParserState.{Parsing, asked, Asks, first_at, front_of, Finishes, StaysWithout};
 ghost use Rattle.wave_tree.specs.Private.ParserState.{ahead_count, IsAhead, Advances, Expects};
@@ -64,18 +64,6 @@ fn trailing(item: &Option<Result<Token, Span>>, behind: &Lexer) -> Result<(), Pa
     }
 }
 
-fn is_memory(k: ParserErrorKind) -> bool
-    ensures { IsTrue result ↔ (k ≡ kind.OutOfMemory) }
-{
-    k == ParserErrorKind::OutOfMemory
-}
-
-fn same(a: Token, b: Token) -> bool
-    ensures { IsTrue result ↔ (a ≡ b) }
-{
-    a == b
-}
-
 /// Reads values from a source, one after the other, and looks at most one item ahead. The spans of
 /// its refusals are byte places of the source.
 #[derive(Drop)]
@@ -91,6 +79,26 @@ impl<'source> Model for Parser<'source> {
     ghost view = { λ p. record { place = record { lexer = p.lexer; taken = p.asked.count - ahead_count p.ahead }; ahead = ahead_count p.ahead } };
 
     ghost invariant = { λ p. IsAhead p.lexer p.ahead × (ahead_count p.ahead ≤ p.asked.count) };
+}
+
+/// Where a call began: the lexer as it stood, with its source and the span of its last item.
+#[derive(Drop)]
+struct Start<'source> {
+    lexer: Lexer<'source>,
+    source: &'source str,
+    span: Span,
+}
+
+impl<'source> Model for Start<'source> {
+    ghost use Rattle.wave_lex.specs.Tokenization.{Lexed};
+
+    ghost Value = { Lexed };
+
+    ghost use Rattle.wave_tree.specs.Private.ParserState.{IsStart};
+
+    ghost view = { λ s. s.lexer };
+
+    ghost invariant = { λ s. IsStart s.lexer s.source.now s.span };
 }
 
 impl<'source> Parser<'source> {
@@ -181,7 +189,7 @@ impl<'source> Parser<'source> {
         ensures asks { asked self.new ≡ self.old.place.taken + 1 }
     {
         let token = self.advance()?;
-        if same(token, class) {
+        if token == class {
             Ok(())
         } else {
             Err(self.unexpected(token))
@@ -230,37 +238,33 @@ impl<'source> Parser<'source> {
         make::node(ty, start..self.span().end, children)
     }
 
-    /// A second lexer that stands where the parser's does.
-    fn lexer_here(&self) -> Lexer<'source>
+    /// Where the parser stands, in front of what a call is to read.
+    fn start_here(&self) -> Start<'source>
         ensures place { result ≡ self.now.place.lexer }
         ensures inside { LiesInSource self.now.place.lexer }
+        ensures sound { IsSound self.now.place }
     {
-        let _ = self.lexer.span();
-        self.lexer.clone()
-    }
-
-    /// What is left of the source.
-    fn remainder(&self) -> &'source str
-        ensures { result.now ≡ remainder_of self.now.place.lexer }
-    {
-        self.lexer.remainder()
+        Start {
+            lexer: self.lexer.clone(),
+            source: self.lexer.source(),
+            span: self.lexer.span(),
+        }
     }
 
     /// The refusal of what was read from `start` on: for want of memory the parser goes back to
     /// there, and refuses there; any other error stays, and so does the parser.
-    fn refuse(&mut self, error: ParserError, start: Lexer<'source>) -> ParserError
+    fn refuse(&mut self, error: ParserError, start: Start<'source>) -> ParserError
         ensures other { result.kind ≢ kind.OutOfMemory → (result ≡ error) × (self.new ≡ self.old) }
         ensures memory { result.kind ≡ kind.OutOfMemory → (self.new.place.lexer ≡ start.entry) × Says result kind.OutOfMemory (span start.entry.start start.entry.end) None }
         ensures within { (error.kind ≢ kind.OutOfMemory → LiesInText start.entry.source error.span) → LiesInText start.entry.source result.span }
         ensures asks { asked self.new ≡ asked self.old }
     {
-        if !is_memory(error.kind()) {
+        if error.kind() != ParserErrorKind::OutOfMemory {
             return error;
         }
-        let span = start.span();
-        self.lexer = start;
+        self.lexer = start.lexer;
         self.ahead = None;
-        ParserError::new(ParserErrorKind::OutOfMemory, span)
+        ParserError::new(ParserErrorKind::OutOfMemory, start.span)
     }
 
     /// Reads a value of at most 100 levels without a type. After a value the parser stands behind
@@ -278,11 +282,11 @@ impl<'source> Parser<'source> {
         ensures asks { Asks self.old self.new }
     {
         let (node, start) = self.parse_whole(alloc)?;
-        Ok(UntypedValue::new(start.source(), node))
+        Ok(UntypedValue::new(start.source, node))
     }
 
-    /// Reads the node of a value. The lexer stands in front of it.
-    fn parse_whole(&mut self, alloc: Global) -> Result<(Node, Lexer<'source>), ParserError>
+    /// Reads the node of a value, and answers where it began.
+    fn parse_whole(&mut self, alloc: Global) -> Result<(Node, Start<'source>), ParserError>
         ensures value { Gives result 100 due.value [] self.old.place self.new.place [] }
         ensures tree { IfOk result (λ read. IsNodeTaken self.old.place self.new.place read.0) }
         ensures start { IfOk result (λ read. read.1 ≡ self.old.place.lexer) }
@@ -291,8 +295,7 @@ impl<'source> Parser<'source> {
         ensures memory { IfErr result (λ e. StaysWithout e self.old.place self.new.place) }
         ensures asks { Asks self.old self.new }
     {
-        let start = self.lexer_here();
-        let _ = self.remainder();
+        let start = self.start_here();
         match self.parse_node(alloc, 100) {
             Ok(node) => Ok((node, start)),
             Err(error) => Err(self.refuse(error, start)),
@@ -315,7 +318,7 @@ impl<'source> Parser<'source> {
         ensures asks { Asks self.old self.new }
     {
         let (node, start) = self.parse_whole(alloc)?;
-        match node.to_wasm_value(alloc, ty, start.source()) {
+        match node.to_wasm_value(alloc, ty, start.source) {
             Ok(value) => Ok(value),
             Err(error) => Err(self.refuse(error, start)),
         }
@@ -343,8 +346,7 @@ impl<'source> Parser<'source> {
         ensures refused { IfErr result (λ e. e.kind ≢ kind.OutOfMemory → RefusesTuple e self.old.place self.new.place) }
         ensures within { IfErr result (λ e. LiesInText self.old.place.lexer.source e.span) }
     {
-        let start = self.lexer_here();
-        let _ = self.remainder();
+        let start = self.start_here();
         self.expect(Token::ParenOpen)?;
         if self.next_is(Token::ParenClose) {
             self.expect(Token::ParenClose)?;
@@ -492,12 +494,12 @@ impl<'source> Parser<'source> {
         let mut items = Vec::new(alloc);
         if self.next_is(close) {
             self.expect(close)?;
-            if same(close, Token::ParenClose) {
+            if close == Token::ParenClose {
                 return Err(ParserError::new(ParserErrorKind::EmptyTuple, start..self.span().end));
             }
             return Ok(self.node(NodeType::List, start, items));
         }
-        let ty = if same(close, Token::ParenClose) {
+        let ty = if close == Token::ParenClose {
             NodeType::Tuple
         } else {
             NodeType::List
@@ -508,10 +510,10 @@ impl<'source> Parser<'source> {
                 return Err(self.out_of_memory());
             }
             let token = self.advance()?;
-            if same(token, close) {
+            if token == close {
                 return Ok(self.node(ty, start, items));
             }
-            if !same(token, Token::Comma) {
+            if token != Token::Comma {
                 return Err(self.unexpected(token));
             }
             if self.next_is(close) {
@@ -530,14 +532,14 @@ impl<'source> Parser<'source> {
     {
         let start = self.span().start;
         let token = self.advance()?;
-        if same(token, Token::BraceClose) {
+        if token == Token::BraceClose {
             return Ok(self.node(NodeType::EmptySet, start, Vec::new(alloc)));
         }
-        if same(token, Token::Colon) {
+        if token == Token::Colon {
             self.expect(Token::BraceClose)?;
             return Ok(self.node(NodeType::TupleSet, start, Vec::new(alloc)));
         }
-        if same(token, Token::LabelOrKeyword) {
+        if token == Token::LabelOrKeyword {
             if self.next_is(Token::Colon) {
                 let key = self.leaf(alloc, NodeType::Label);
                 self.expect(Token::Colon)?;
@@ -576,14 +578,14 @@ impl<'source> Parser<'source> {
                 return Err(self.out_of_memory());
             }
             let token = self.advance()?;
-            if same(token, Token::BraceClose) {
+            if token == Token::BraceClose {
                 return Ok(self.node(NodeType::TupleSet, start, children));
             }
-            if !same(token, Token::Comma) {
+            if token != Token::Comma {
                 return Err(self.unexpected(token));
             }
             let next = self.advance()?;
-            if same(next, Token::BraceClose) {
+            if next == Token::BraceClose {
                 return Ok(self.node(NodeType::TupleSet, start, children));
             }
             let Some(ty) = key_type(next) else {
@@ -613,17 +615,17 @@ impl<'source> Parser<'source> {
         }
         'flags: loop {
             let token = self.advance()?;
-            if same(token, Token::BraceClose) {
+            if token == Token::BraceClose {
                 return self.flags_node(alloc, start, flags);
             }
-            if !same(token, Token::Comma) {
+            if token != Token::Comma {
                 return Err(self.unexpected(token));
             }
             let next = self.advance()?;
-            if same(next, Token::BraceClose) {
+            if next == Token::BraceClose {
                 return self.flags_node(alloc, start, flags);
             }
-            if !same(next, Token::LabelOrKeyword) {
+            if next != Token::LabelOrKeyword {
                 return Err(self.unexpected(next));
             }
             let name = label_name(self.slice());

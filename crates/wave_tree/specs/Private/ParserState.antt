@@ -1,9 +1,10 @@
 -- What a parser is in a contract.
 use Rattle.std.specs.Prelude.{ℕ, ◌≡◌, ◌⊎◌, ◌+◌, ◌≤◌, true, List, [], ◌∷◌, codes, Option, Some, None, Result, Ok, Err}
+use Rattle.std.specs.declared.ops.Range.{Range}
 use Rattle.wave_wasm.specs.Names.{is_one_of}
 use Rattle.wave_lex.specs.declared.lex.Token as lex
 use Rattle.wave_lex.specs.declared.error.ParserError.{ParserError}
-use Rattle.wave_lex.specs.Tokenization.{Lexed, NextIs}
+use Rattle.wave_lex.specs.Tokenization.{Lexed, NextIs, span}
 use Rattle.wave_grammar.specs.Tree.{Word, leaf_word, none_word, some_word, ok_word, err_word, case_word}
 use Rattle.wave_grammar.specs.ParserPosition.{Place, TakesItem}
 use Rattle.wave_tree.specs.declared.ahead.Ahead.{Ahead}
@@ -20,6 +21,10 @@ ahead_count (Some a) = 1
 abbrev pub IsAhead : Lexed → Option Ahead → Type 0
 IsAhead l None = Unit {0}
 IsAhead l (Some a) = NextIs l a.lexer a.item
+
+-- this is the source of the lexer, and this the span of its last item
+abbrev pub IsStart : Lexed → List ℕ → Range ℕ → Type 0
+IsStart l source last = (source ≡ l.source) × (last ≡ span l.start l.end)
 
 -- the next token was taken, or what stands next is no token
 abbrev pub Advances : Result lex.Token ParserError → Place → Place → Type 0

@@ -19,9 +19,10 @@ use Rattle.wave_node.specs.NodeTree.{node, no_nodes, node_trees}
 use Rattle.wave_node.specs.declared.ast.NodeType.TheVariants as kind_of_node
 use Rattle.wave_lex.specs.Tokenization.{span}
 use Rattle.wave_tree.proofs.NodeCorrectness.Items.{class_as, number_tied, char_tied, string_tied, multiline_tied, label_tied, items_tied, braces_tied, leaf_tied, number_word_tied, none_tied, some_tied, ok_tied, err_tied, case_tied, pushed, some_there, type_of_items, items_made, items_none, items_first, items_next, pairs_next, pairs_close, empty_tied, no_fields_tied, entries_tied, flags_tied, payload_tied}
+use Rattle.wave_tree.proofs.ClassTests.{is_class, is_other, differs, differs_not}
 use Rattle.wave_tree.proofs.LexerCallCount.{asks_once, asks_token, asks_looked, asks_read, asks_reached}
 use Rattle.wave_tree.proofs.parser.Parser.+parser.Goals as goal
-use Rattle.wave_tree.proofs.parser.Parser.+parser.Goals.{parse_items-then-same-2, parse_items-else-same-2}
+use Rattle.wave_tree.proofs.parser.Parser.+parser.Goals.{parse_items-then-eq-2, parse_items-else-eq-2}
 
 pub parse_node-returns-in_err-token-clause-led : goal.parse_node-returns-in_err-token-clause-led
 parse_node-returns-in_err-token-clause-led t c = λ n s e. handed s _ _ c.from_residual.ensures.1
@@ -95,18 +96,18 @@ pub parse_items-returns-in_err-expect-clause-led : goal.parse_items-returns-in_e
 parse_items-returns-in_err-expect-clause-led t c = λ n s e. handed s _ _ c.from_residual.ensures.1
     (expected c.args.self.now.place c.next_is.new.self.place c.expect.new.self.place c.args.close c.in_err-expect.field-0.0 c.next_is.ensures.stays (c.if-next_is.ensures.answer.0 refl) c.in_err-expect.ensures.takes)
 
-pub parse_items-returns-then-same-clause-led : goal.parse_items-returns-then-same-clause-led
-parse_items-returns-then-same-clause-led t c = λ n s e.
+pub parse_items-returns-then-eq-clause-led : goal.parse_items-returns-then-eq-clause-led
+parse_items-returns-then-eq-clause-led t c = λ n s e.
     let first = ap (λ (z : Range ℕ). z.start) c.span-start.ensures ∙ sym (ap (λ (z : Place). z.lexer.start) c.next_is.ensures.stays) in
     let last = ap (λ (z : Range ℕ). z.end) c.span.ensures in
     empty_there (inl tt) c.new.result c.args.close (here_is n due.first_item (form_of c.args.close ∷ s) _ _ c.next_is.ensures.stays) c.in_ok-expect.ensures.takes
-    (close_empty n c.args.close s (text_at c.expect.new.self.place) (c.same.ensures.0 c.if-same.true))
+    (close_empty n c.args.close s (text_at c.expect.new.self.place) (is_class _ _ c.eq.ensures c.if-eq.true))
     (record { is = c.new.ensures.refusal; stands = c.new.ensures.span ∙ range_path first last; tells = c.new.ensures.detail })
 
 pub parse_items-returns-then-next_is-clause-led : goal.parse_items-returns-then-next_is-clause-led
 parse_items-returns-then-next_is-clause-led t c = λ n s e.
     read_there (then_same c.args.close (here_is n due.first_item (form_of c.args.close ∷ s) _ _ c.next_is.ensures.stays) c.in_ok-expect.ensures.takes
-    (close_first n c.args.close s (text_at c.expect.new.self.place) c.requires (λ k. untrue _ c.if-same.false (c.same.ensures.1 k)))) (inl refl)
+    (close_first n c.args.close s (text_at c.expect.new.self.place) c.requires (is_other _ _ c.eq.ensures c.if-eq.false))) (inl refl)
 
 pub parse_items-items-init : goal.parse_items-items-init
 parse_items-items-init t c = record {
@@ -133,22 +134,22 @@ parse_items-returns-in_err-token-clause-led t c = λ n s e.
     let item = c.in_ok-item.ensures.led n (form_of c.args.close ∷ s) (omega arith) in
     handed s _ _ c.from_residual-in_err-token.ensures.1 (fails_behind item.due_there (λ _. Unit {0}) c.in_err-token.field-0.0 (behind_item c.args.close c.requires c.items.invariant.no_close i r item) item.is_behind (λ k text apart. absurd (apart tt)) c.in_err-token.ensures.takes)
 
-pub parse_items-returns-then-same-3-clause-led : goal.parse_items-returns-then-same-3-clause-led
-parse_items-returns-then-same-3-clause-led t c = λ n s e.
+pub parse_items-returns-then-eq-3-clause-led : goal.parse_items-returns-then-eq-3-clause-led
+parse_items-returns-then-eq-3-clause-led t c = λ n s e.
     let (d, i, r) = c.items.invariant.reached n s e in
     let item = c.in_ok-item.ensures.led n (form_of c.args.close ∷ s) (omega arith) in
     let behind = behind_item c.args.close c.requires c.items.invariant.no_close i r item in
     let step_there = close_behind c.args.close s (text_at c.advance.new.self.place) c.requires in
     read_there (then_behind item.due_there c.in_ok-token.token behind item.is_behind c.in_ok-token.ensures.takes
-    (subst (λ z. behind_step (form_of c.args.close ∷ s) (token_of z (text_at c.advance.new.self.place)) ≡ reads due.behind_value s) (sym (c.same-in-items.ensures.0 c.if-same-3.true)) step_there)) (inl refl)
+    (subst (λ z. behind_step (form_of c.args.close ∷ s) (token_of z (text_at c.advance.new.self.place)) ≡ reads due.behind_value s) (sym (is_class c.in_ok-token.token c.args.close c.eq-in-items.ensures c.if-eq-3.true)) step_there)) (inl refl)
 
-pub parse_items-returns-then-not-same-clause-led : goal.parse_items-returns-then-not-same-clause-led
-parse_items-returns-then-not-same-clause-led t c = λ n s e.
+pub parse_items-returns-then-ne-clause-led : goal.parse_items-returns-then-ne-clause-led
+parse_items-returns-then-ne-clause-led t c = λ n s e.
     let (d, i, r) = c.items.invariant.reached n s e in
     let item = c.in_ok-item.ensures.led n (form_of c.args.close ∷ s) (omega arith) in
     let behind = behind_item c.args.close c.requires c.items.invariant.no_close i r item in
     unexpected_behind item.due_there c.unexpected.result c.in_ok-token.token behind item.is_behind c.in_ok-token.ensures.takes
-    (other_behind c.args.close c.in_ok-token.token s (text_at c.advance.new.self.place) c.requires (λ k. untrue _ c.if-same-3.false (c.same-in-items.ensures.1 k)) (λ k. untrue _ c.if-not-same.true (c.same-in-items-2.ensures.1 k)))
+    (other_behind c.args.close c.in_ok-token.token s (text_at c.advance.new.self.place) c.requires (is_other _ _ c.eq-in-items.ensures c.if-eq-3.false) (differs _ _ c.ne.ensures c.if-ne.true))
     c.unexpected.ensures
 
 pub parse_items-returns-in_err-expect-2-clause-led : goal.parse_items-returns-in_err-expect-2-clause-led
@@ -160,7 +161,7 @@ parse_items-returns-then-next_is-2-clause-led t c = λ n s e.
     let (d, i, r) = c.items.invariant.reached n s e in
     let item = c.in_ok-item.ensures.led n (form_of c.args.close ∷ s) (omega arith) in
     let behind = behind_item c.args.close c.requires c.items.invariant.no_close i r item in
-    let comma_step = subst (λ z. behind_step (form_of c.args.close ∷ s) (token_of z (text_at c.advance.new.self.place)) ≡ reads due.next_item (form_of c.args.close ∷ s)) (sym (c.same-in-items-2.ensures.0 c.if-not-same.false)) (comma_behind c.args.close s (text_at c.advance.new.self.place) c.requires) in
+    let comma_step = subst (λ z. behind_step (form_of c.args.close ∷ s) (token_of z (text_at c.advance.new.self.place)) ≡ reads due.next_item (form_of c.args.close ∷ s)) (sym (differs_not c.in_ok-token.token Comma c.ne.ensures c.if-ne.false)) (comma_behind c.args.close s (text_at c.advance.new.self.place) c.requires) in
     let next = then_behind item.due_there c.in_ok-token.token behind item.is_behind c.in_ok-token.ensures.takes comma_step in
     read_there (then_same c.args.close (moved c.next_is-in-items.ensures.stays next) c.in_ok-expect-2.ensures.takes (close_next n c.args.close s (text_at c.expect-then-next_is-2.new.self.place) c.requires)) (inl refl)
 
@@ -182,27 +183,27 @@ parse_items-items-preserved t c = record {
       let (d, i, r) = c.items.invariant.reached n s e in
       let item = c.in_ok-item.ensures.led n (form_of c.args.close ∷ s) (omega arith) in
       let behind = behind_item c.args.close c.requires c.items.invariant.no_close i r item in
-      let comma_step = subst (λ z. behind_step (form_of c.args.close ∷ s) (token_of z (text_at c.advance.new.self.place)) ≡ reads due.next_item (form_of c.args.close ∷ s)) (sym (c.same-in-items-2.ensures.0 c.if-not-same.false)) (comma_behind c.args.close s (text_at c.advance.new.self.place) c.requires) in
+      let comma_step = subst (λ z. behind_step (form_of c.args.close ∷ s) (token_of z (text_at c.advance.new.self.place)) ≡ reads due.next_item (form_of c.args.close ∷ s)) (sym (differs_not c.in_ok-token.token Comma c.ne.ensures c.if-ne.false)) (comma_behind c.args.close s (text_at c.advance.new.self.place) c.requires) in
       let next = then_behind item.due_there c.in_ok-token.token behind item.is_behind c.in_ok-token.ensures.takes comma_step in
       (due.next_item, inr refl, moved c.next_is-in-items.ensures.stays next);
-  tree = items_next _ _ _ _ _ _ _ c.items.items.items _ c.in_ok-item.item c.items.invariant.tree c.in_ok-item.ensures.tree (class_as _ _ _ Comma c.in_ok-token.ensures.takes (c.same-in-items-2.ensures.0 c.if-not-same.false)) c.next_is-in-items.ensures.stays (pushed _ _ _ _ c.push.ensures.items c.if-is_err.ensures.negation);
+  tree = items_next _ _ _ _ _ _ _ c.items.items.items _ c.in_ok-item.item c.items.invariant.tree c.in_ok-item.ensures.tree (class_as _ _ _ Comma c.in_ok-token.ensures.takes (differs_not _ _ c.ne.ensures c.if-ne.false)) c.next_is-in-items.ensures.stays (pushed _ _ _ _ c.push.ensures.items c.if-is_err.ensures.negation);
 }
 
 pub parse_braces-returns-in_err-token-clause-led : goal.parse_braces-returns-in_err-token-clause-led
 parse_braces-returns-in_err-token-clause-led t c = λ n s e. handed s _ _ c.from_residual.ensures.1
     (fails (inl tt) (λ _. Unit {0}) c.in_err-token.field-0.0 (here n due.in_braces s _) (λ deep. deep.due) (any_token n due.in_braces s _ _) c.in_err-token.ensures.takes)
 
-pub parse_braces-returns-then-same-clause-led : goal.parse_braces-returns-then-same-clause-led
-parse_braces-returns-then-same-clause-led t c = λ n s e. read_there (then_class BraceClose (here n due.in_braces s _) c.in_ok-token.ensures.takes (c.same.ensures.0 c.if-same.true) refl) (inl refl)
+pub parse_braces-returns-then-eq-clause-led : goal.parse_braces-returns-then-eq-clause-led
+parse_braces-returns-then-eq-clause-led t c = λ n s e. read_there (then_class BraceClose (here n due.in_braces s _) c.in_ok-token.ensures.takes (is_class _ _ c.eq.ensures c.if-eq.true) refl) (inl refl)
 
 pub parse_braces-returns-in_err-expect-clause-led : goal.parse_braces-returns-in_err-expect-clause-led
 parse_braces-returns-in_err-expect-clause-led t c = λ n s e. handed s _ _ c.from_residual-in_err-expect.ensures.1
-    (fails (inl tt) (λ k. k ≡ BraceClose) c.in_err-expect.field-0.0 (then_class {f = due.no_fields} {v = s} Colon (here n due.in_braces s _) c.in_ok-token.ensures.takes (c.same-2.ensures.0 c.if-same-2.true) refl) (λ deep. deep.due)
+    (fails (inl tt) (λ k. k ≡ BraceClose) c.in_err-expect.field-0.0 (then_class {f = due.no_fields} {v = s} Colon (here n due.in_braces s _) c.in_ok-token.ensures.takes (is_class _ _ c.eq-2.ensures c.if-eq-2.true) refl) (λ deep. deep.due)
     (λ k h apart. no_brace n s k (text_at c.expect.new.self.place) apart) c.in_err-expect.ensures.takes)
 
-pub parse_braces-returns-then-same-2-clause-led : goal.parse_braces-returns-then-same-2-clause-led
-parse_braces-returns-then-same-2-clause-led t c = λ n s e.
-    read_there (then_same BraceClose (then_class {f = due.no_fields} {v = s} Colon (here n due.in_braces s _) c.in_ok-token.ensures.takes (c.same-2.ensures.0 c.if-same-2.true) refl) c.in_ok-expect.ensures.takes refl) (inl refl)
+pub parse_braces-returns-then-eq-2-clause-led : goal.parse_braces-returns-then-eq-2-clause-led
+parse_braces-returns-then-eq-2-clause-led t c = λ n s e.
+    read_there (then_same BraceClose (then_class {f = due.no_fields} {v = s} Colon (here n due.in_braces s _) c.in_ok-token.ensures.takes (is_class _ _ c.eq-2.ensures c.if-eq-2.true) refl) c.in_ok-expect.ensures.takes refl) (inl refl)
 
 pub parse_braces-returns-in_err-expect-2-clause-led : goal.parse_braces-returns-in_err-expect-2-clause-led
 parse_braces-returns-in_err-expect-2-clause-led t c = λ n s e. handed s _ _ c.from_residual-in_err-expect-2.ensures.1
@@ -210,30 +211,30 @@ parse_braces-returns-in_err-expect-2-clause-led t c = λ n s e. handed s _ _ c.f
 
 pub parse_braces-returns-then-next_is-clause-led : goal.parse_braces-returns-then-next_is-clause-led
 parse_braces-returns-then-next_is-clause-led t c = λ n s e.
-    let word = then_class {f = due.behind_word (text_at c.advance.new.self.place)} {v = s} LabelOrKeyword (here n due.in_braces s _) c.in_ok-token.ensures.takes (c.same-3.ensures.0 c.if-same-3.true) refl in
+    let word = then_class {f = due.behind_word (text_at c.advance.new.self.place)} {v = s} LabelOrKeyword (here n due.in_braces s _) c.in_ok-token.ensures.takes (is_class _ _ c.eq-3.ensures c.if-eq-3.true) refl in
     gives_then s _ c.parse_entries.result (then_same Colon (moved c.next_is.ensures.stays word) c.in_ok-expect-2.ensures.takes refl) (c.parse_entries.ensures.led n s e)
 
-pub parse_braces-returns-then-same-3-clause-led : goal.parse_braces-returns-then-same-3-clause-led
-parse_braces-returns-then-same-3-clause-led t c = λ n s e.
-    let word = then_class {f = due.behind_word (text_at c.advance.new.self.place)} {v = s} LabelOrKeyword (here n due.in_braces s _) c.in_ok-token.ensures.takes (c.same-3.ensures.0 c.if-same-3.true) refl in
+pub parse_braces-returns-then-eq-3-clause-led : goal.parse_braces-returns-then-eq-3-clause-led
+parse_braces-returns-then-eq-3-clause-led t c = λ n s e.
+    let word = then_class {f = due.behind_word (text_at c.advance.new.self.place)} {v = s} LabelOrKeyword (here n due.in_braces s _) c.in_ok-token.ensures.takes (is_class _ _ c.eq-3.ensures c.if-eq-3.true) refl in
     gives_then s _ c.parse_flags.result (moved c.next_is.ensures.stays word)
     (subst (λ z. Gives c.parse_flags.result n (due.behind_word (text_at z)) s c.next_is.new.self.place c.parse_flags.new.self.place s) c.next_is.ensures.stays (c.parse_flags.ensures.led n s))
 
 pub parse_braces-returns-in_default-clause-led : goal.parse_braces-returns-in_default-clause-led
 parse_braces-returns-in_default-clause-led t c = λ n s e. unexpected_there (inl tt) c.unexpected.result c.in_ok-token.token (here n due.in_braces s _) c.in_ok-token.ensures.takes
-    (brace_key c.in_ok-token.token s (text_at c.advance.new.self.place) (λ k. untrue _ c.if-same-3.false (c.same-3.ensures.1 k)) (λ k. untrue _ c.if-same-2.false (c.same-2.ensures.1 k)) ∙
-    no_key c.in_ok-token.token s (text_at c.advance.new.self.place) c.in_default.ensures (λ k. untrue _ c.if-same.false (c.same.ensures.1 k)))
+    (brace_key c.in_ok-token.token s (text_at c.advance.new.self.place) (is_other _ _ c.eq-3.ensures c.if-eq-3.false) (is_other _ _ c.eq-2.ensures c.if-eq-2.false) ∙
+    no_key c.in_ok-token.token s (text_at c.advance.new.self.place) c.in_default.ensures (is_other _ _ c.eq.ensures c.if-eq.false))
     c.unexpected.ensures
 
 pub parse_braces-returns-in_err-expect-3-clause-led : goal.parse_braces-returns-in_err-expect-3-clause-led
 parse_braces-returns-in_err-expect-3-clause-led t c = λ n s e.
-    let key_step_there = brace_key c.in_ok-token.token s (text_at c.advance.new.self.place) (λ k. untrue _ c.if-same-3.false (c.same-3.ensures.1 k)) (λ k. untrue _ c.if-same-2.false (c.same-2.ensures.1 k)) ∙ key_reads c.in_ok-token.token s (text_at c.advance.new.self.place) c.in-Some.ensures.0 in
+    let key_step_there = brace_key c.in_ok-token.token s (text_at c.advance.new.self.place) (is_other _ _ c.eq-3.ensures c.if-eq-3.false) (is_other _ _ c.eq-2.ensures c.if-eq-2.false) ∙ key_reads c.in_ok-token.token s (text_at c.advance.new.self.place) c.in-Some.ensures.0 in
     handed s _ _ c.from_residual-in_err-expect-3.ensures.1 (fails (inl tt) (λ k. k ≡ Colon) c.in_err-expect-3.field-0.0 (then_same c.in_ok-token.token (here n due.in_braces s _) c.in_ok-token.ensures.takes key_step_there) (λ deep. deep.due)
     (λ k h apart. no_colon n s k (text_at c.expect-2.new.self.place) apart) c.in_err-expect-3.ensures.takes)
 
 pub parse_braces-returns-clause-led : goal.parse_braces-returns-clause-led
 parse_braces-returns-clause-led t c = λ n s e.
-    let key_step_there = brace_key c.in_ok-token.token s (text_at c.advance.new.self.place) (λ k. untrue _ c.if-same-3.false (c.same-3.ensures.1 k)) (λ k. untrue _ c.if-same-2.false (c.same-2.ensures.1 k)) ∙ key_reads c.in_ok-token.token s (text_at c.advance.new.self.place) c.in-Some.ensures.0 in
+    let key_step_there = brace_key c.in_ok-token.token s (text_at c.advance.new.self.place) (is_other _ _ c.eq-3.ensures c.if-eq-3.false) (is_other _ _ c.eq-2.ensures c.if-eq-2.false) ∙ key_reads c.in_ok-token.token s (text_at c.advance.new.self.place) c.in-Some.ensures.0 in
     gives_then s _ c.parse_entries-2.result (then_same Colon (then_same c.in_ok-token.token (here n due.in_braces s _) c.in_ok-token.ensures.takes key_step_there) c.in_ok-expect-3.ensures.takes refl) (c.parse_entries-2.ensures.led n s e)
 
 pub parse_entries-returns-in_err-value-clause-led : goal.parse_entries-returns-in_err-value-clause-led
@@ -245,42 +246,42 @@ parse_entries-returns-in_err-token-clause-led t c = λ n s e.
     let item = c.in_ok-value.ensures.led n (due.entries ∷ s) (omega arith) in
     handed s _ _ c.from_residual-in_err-token.ensures.1 (fails_behind item.due_there (λ _. Unit {0}) c.in_err-token.field-0.0 (then_reached (c.entries.invariant.led n s e) (reached item)) item.is_behind (λ k text apart. absurd (apart tt)) c.in_err-token.ensures.takes)
 
-pub parse_entries-returns-then-same-clause-led : goal.parse_entries-returns-then-same-clause-led
-parse_entries-returns-then-same-clause-led t c = λ n s e.
+pub parse_entries-returns-then-eq-clause-led : goal.parse_entries-returns-then-eq-clause-led
+parse_entries-returns-then-eq-clause-led t c = λ n s e.
     let item = c.in_ok-value.ensures.led n (due.entries ∷ s) (omega arith) in
-    read_there (then_behind_class item.due_there BraceClose (then_reached (c.entries.invariant.led n s e) (reached item)) item.is_behind c.in_ok-token.ensures.takes (c.same.ensures.0 c.if-same.true) refl) (inl refl)
+    read_there (then_behind_class item.due_there BraceClose (then_reached (c.entries.invariant.led n s e) (reached item)) item.is_behind c.in_ok-token.ensures.takes (is_class _ _ c.eq.ensures c.if-eq.true) refl) (inl refl)
 
-pub parse_entries-returns-then-not-same-clause-led : goal.parse_entries-returns-then-not-same-clause-led
-parse_entries-returns-then-not-same-clause-led t c = λ n s e.
+pub parse_entries-returns-then-ne-clause-led : goal.parse_entries-returns-then-ne-clause-led
+parse_entries-returns-then-ne-clause-led t c = λ n s e.
     let item = c.in_ok-value.ensures.led n (due.entries ∷ s) (omega arith) in
     unexpected_behind item.due_there c.unexpected.result c.in_ok-token.token (then_reached (c.entries.invariant.led n s e) (reached item)) item.is_behind c.in_ok-token.ensures.takes
-    (entries_other c.in_ok-token.token s (text_at c.advance.new.self.place) (λ k. untrue _ c.if-same.false (c.same.ensures.1 k)) (λ k. untrue _ c.if-not-same.true (c.same-in-entries.ensures.1 k)))
+    (entries_other c.in_ok-token.token s (text_at c.advance.new.self.place) (is_other _ _ c.eq.ensures c.if-eq.false) (differs _ _ c.ne.ensures c.if-ne.true))
     c.unexpected.ensures
 
 pub parse_entries-returns-in_err-next-clause-led : goal.parse_entries-returns-in_err-next-clause-led
 parse_entries-returns-in_err-next-clause-led t c = λ n s e.
     let item = c.in_ok-value.ensures.led n (due.entries ∷ s) (omega arith) in
-    let due_key = then_behind_class {f = due.key} {b = s} item.due_there Comma (then_reached (c.entries.invariant.led n s e) (reached item)) item.is_behind c.in_ok-token.ensures.takes (c.same-in-entries.ensures.0 c.if-not-same.false) refl in
+    let due_key = then_behind_class {f = due.key} {b = s} item.due_there Comma (then_reached (c.entries.invariant.led n s e) (reached item)) item.is_behind c.in_ok-token.ensures.takes (differs_not _ _ c.ne.ensures c.if-ne.false) refl in
     handed s _ _ c.from_residual-in_err-next.ensures.1 (fails (inl tt) (λ _. Unit {0}) c.in_err-next.field-0.0 due_key (λ deep. deep.due) (any_token n due.key s _ _) c.in_err-next.ensures.takes)
 
-pub parse_entries-returns-then-same-2-clause-led : goal.parse_entries-returns-then-same-2-clause-led
-parse_entries-returns-then-same-2-clause-led t c = λ n s e.
+pub parse_entries-returns-then-eq-2-clause-led : goal.parse_entries-returns-then-eq-2-clause-led
+parse_entries-returns-then-eq-2-clause-led t c = λ n s e.
     let item = c.in_ok-value.ensures.led n (due.entries ∷ s) (omega arith) in
-    let due_key = then_behind_class {f = due.key} {b = s} item.due_there Comma (then_reached (c.entries.invariant.led n s e) (reached item)) item.is_behind c.in_ok-token.ensures.takes (c.same-in-entries.ensures.0 c.if-not-same.false) refl in
-    read_there (then_class BraceClose due_key c.in_ok-next.ensures.takes (c.same-in-entries-2.ensures.0 c.if-same-2.true) refl) (inl refl)
+    let due_key = then_behind_class {f = due.key} {b = s} item.due_there Comma (then_reached (c.entries.invariant.led n s e) (reached item)) item.is_behind c.in_ok-token.ensures.takes (differs_not _ _ c.ne.ensures c.if-ne.false) refl in
+    read_there (then_class BraceClose due_key c.in_ok-next.ensures.takes (is_class _ _ c.eq-in-entries.ensures c.if-eq-2.true) refl) (inl refl)
 
 pub parse_entries-returns-in_default-clause-led : goal.parse_entries-returns-in_default-clause-led
 parse_entries-returns-in_default-clause-led t c = λ n s e.
     let item = c.in_ok-value.ensures.led n (due.entries ∷ s) (omega arith) in
-    let due_key = then_behind_class {f = due.key} {b = s} item.due_there Comma (then_reached (c.entries.invariant.led n s e) (reached item)) item.is_behind c.in_ok-token.ensures.takes (c.same-in-entries.ensures.0 c.if-not-same.false) refl in
+    let due_key = then_behind_class {f = due.key} {b = s} item.due_there Comma (then_reached (c.entries.invariant.led n s e) (reached item)) item.is_behind c.in_ok-token.ensures.takes (differs_not _ _ c.ne.ensures c.if-ne.false) refl in
     unexpected_there (inl tt) c.unexpected-in_default.result c.in_ok-next.next due_key c.in_ok-next.ensures.takes
-    (no_key c.in_ok-next.next s (text_at c.advance-in-entries.new.self.place) c.in_default.ensures (λ k. untrue _ c.if-same-2.false (c.same-in-entries-2.ensures.1 k)))
+    (no_key c.in_ok-next.next s (text_at c.advance-in-entries.new.self.place) c.in_default.ensures (is_other _ _ c.eq-in-entries.ensures c.if-eq-2.false))
     c.unexpected-in_default.ensures
 
 pub parse_entries-returns-in_err-expect-clause-led : goal.parse_entries-returns-in_err-expect-clause-led
 parse_entries-returns-in_err-expect-clause-led t c = λ n s e.
     let item = c.in_ok-value.ensures.led n (due.entries ∷ s) (omega arith) in
-    let due_key = then_behind_class {f = due.key} {b = s} item.due_there Comma (then_reached (c.entries.invariant.led n s e) (reached item)) item.is_behind c.in_ok-token.ensures.takes (c.same-in-entries.ensures.0 c.if-not-same.false) refl in
+    let due_key = then_behind_class {f = due.key} {b = s} item.due_there Comma (then_reached (c.entries.invariant.led n s e) (reached item)) item.is_behind c.in_ok-token.ensures.takes (differs_not _ _ c.ne.ensures c.if-ne.false) refl in
     handed s _ _ c.from_residual-in_err-expect.ensures.1 (fails (inl tt) (λ k. k ≡ Colon) c.in_err-expect.field-0.0
     (then_same c.in_ok-next.next due_key c.in_ok-next.ensures.takes (key_reads c.in_ok-next.next s (text_at c.advance-in-entries.new.self.place) c.in-Some.ensures.0)) (λ deep. deep.due)
     (λ k h apart. no_colon n s k (text_at c.expect.new.self.place) apart) c.in_err-expect.ensures.takes)
@@ -297,12 +298,12 @@ parse_entries-entries-smaller t c =
 pub parse_entries-entries-preserved : goal.parse_entries-entries-preserved
 parse_entries-entries-preserved t c = record {
   asks = asks_reached (c.args.levels + 1) due.value due.value (due.entries ∷ []) (due.entries ∷ []) c.args.self.now c.entries.self c.expect.new.self (c.entries.invariant.led (c.args.levels + 1) [] (omega arith)) c.entries.invariant.asks (asks_read c.args.levels due.value [] [] c.entries.self c.parse_node.new.self c.expect.new.self (c.in_ok-value.ensures.led c.args.levels [] (omega arith)) c.parse_node.ensures.asks (asks_token c.parse_node.new.self c.advance.new.self c.expect.new.self c.in_ok-token.token c.in_ok-token.ensures.takes c.advance.ensures.asks (asks_token c.advance.new.self c.advance-in-entries.new.self c.expect.new.self c.in_ok-next.next c.in_ok-next.ensures.takes c.advance-in-entries.ensures.asks (asks_once c.advance-in-entries.new.self c.expect.new.self c.expect.ensures.asks))));
-  tree = pairs_next _ _ _ _ _ _ _ c.entries.children.items c.push-in-entries.new.self.items _ c.args.key c.in_ok-value.value c.leaf-key.result c.entries.invariant.tree c.in_ok-value.ensures.tree (class_as _ _ _ Comma c.in_ok-token.ensures.takes (c.same-in-entries.ensures.0 c.if-not-same.false))
+  tree = pairs_next _ _ _ _ _ _ _ c.entries.children.items c.push-in-entries.new.self.items _ c.args.key c.in_ok-value.value c.leaf-key.result c.entries.invariant.tree c.in_ok-value.ensures.tree (class_as _ _ _ Comma c.in_ok-token.ensures.takes (differs_not _ _ c.ne.ensures c.if-ne.false))
       (c.in_ok-next.next, c.in_ok-next.ensures.takes, c.in-Some.ensures.0, c.leaf-key.ensures ∙ ap (λ z. node z (span_at c.advance-in-entries.new.self.place) no_nodes) c.in-Some.ensures.1) c.in_ok-expect.ensures.takes
       (pushed _ _ _ _ c.push-in-entries.ensures.items c.if-is_err-2.ensures.negation) (pushed _ _ _ _ c.push-in-entries-2.ensures.items c.if-is_err-3.ensures.negation);
   led = λ n s e.
       let item = c.in_ok-value.ensures.led n (due.entries ∷ s) (omega arith) in
-      let due_key = then_behind_class {f = due.key} {b = s} item.due_there Comma (then_reached (c.entries.invariant.led n s e) (reached item)) item.is_behind c.in_ok-token.ensures.takes (c.same-in-entries.ensures.0 c.if-not-same.false) refl in
+      let due_key = then_behind_class {f = due.key} {b = s} item.due_there Comma (then_reached (c.entries.invariant.led n s e) (reached item)) item.is_behind c.in_ok-token.ensures.takes (differs_not _ _ c.ne.ensures c.if-ne.false) refl in
       then_same Colon (then_same c.in_ok-next.next due_key c.in_ok-next.ensures.takes (key_reads c.in_ok-next.next s (text_at c.advance-in-entries.new.self.place) c.in-Some.ensures.0)) c.in_ok-expect.ensures.takes refl;
 }
 
@@ -363,30 +364,30 @@ pub parse_label-returns-in-Case-clause-tree : goal.parse_label-returns-in-Case-c
 parse_label-returns-in-Case-clause-tree t c = case_tied _ _ _ c.parse_maybe-in-Case.result (ap word_of (sym c.slice.ensures) ∙ (sym c.role_of.ensures.word ∙ ap spec_word c.in-Case.is)) c.parse_maybe-in-Case.ensures.tree
 
 pub parse_items-returns-then-next_is-clause-tree : goal.parse_items-returns-then-next_is-clause-tree
-parse_items-returns-then-next_is-clause-tree t c = items_none _ _ _ c.next_is.new.self.place _ _ c.new-items.result.items c.node.result c.node.ensures c.new-items.ensures.items c.requires (λ k. untrue _ c.if-same.false (c.same.ensures.1 k)) (ap (λ (z : Range ℕ). z.start) c.span-start.ensures) c.next_is.ensures.stays c.in_ok-expect.ensures.takes
+parse_items-returns-then-next_is-clause-tree t c = items_none _ _ _ c.next_is.new.self.place _ _ c.new-items.result.items c.node.result c.node.ensures c.new-items.ensures.items c.requires (is_other _ _ c.eq.ensures c.if-eq.false) (ap (λ (z : Range ℕ). z.start) c.span-start.ensures) c.next_is.ensures.stays c.in_ok-expect.ensures.takes
 
-pub parse_items-returns-then-same-3-clause-tree : goal.parse_items-returns-then-same-3-clause-tree
-parse_items-returns-then-same-3-clause-tree t c =
+pub parse_items-returns-then-eq-3-clause-tree : goal.parse_items-returns-then-eq-3-clause-tree
+parse_items-returns-then-eq-3-clause-tree t c =
     let more = pushed _ _ _ _ c.push.ensures.items c.if-is_err.ensures.negation in
-    items_made _ _ _ _ c.if-same-2.ty _ _ c.node-then-same-3.result c.node-then-same-3.ensures (elim c.if-same-2.branch [
-      | parse_items-then-same-2 w ↦ w.ty-is ∙ sym (ap items_type (c.same-2.ensures.0 w.if-same-2.true))
-      | parse_items-else-same-2 w ↦ w.ty-is ∙ sym (type_of_items c.args.close c.requires (λ k. untrue _ w.if-same-2.false (c.same-2.ensures.1 k)))
+    items_made _ _ _ _ c.if-eq-2.ty _ _ c.node-then-eq-3.result c.node-then-eq-3.ensures (elim c.if-eq-2.branch [
+      | parse_items-then-eq-2 w ↦ w.ty-is ∙ sym (ap items_type (is_class c.args.close ParenClose c.eq-2.ensures w.if-eq-2.true))
+      | parse_items-else-eq-2 w ↦ w.ty-is ∙ sym (type_of_items c.args.close c.requires (is_other _ _ c.eq-2.ensures w.if-eq-2.false))
     ]) (ap (λ (z : Range ℕ). z.start) c.span-start.ensures)
     (subst (λ z. AreItems c.args.levels c.args.close c.args.self.now.place z c.advance.new.self.place) (sym more)
-    (c.items.invariant.tree c.in_ok-item.item _ _ [] c.in_ok-item.ensures.tree (inl (class_as _ _ _ c.args.close c.in_ok-token.ensures.takes (c.same-in-items.ensures.0 c.if-same-3.true)))))
+    (c.items.invariant.tree c.in_ok-item.item _ _ [] c.in_ok-item.ensures.tree (inl (class_as _ _ _ c.args.close c.in_ok-token.ensures.takes (is_class _ _ c.eq-in-items.ensures c.if-eq-3.true)))))
     (λ k. some_there _ _ _ more)
 
 pub parse_items-returns-then-next_is-2-clause-tree : goal.parse_items-returns-then-next_is-2-clause-tree
 parse_items-returns-then-next_is-2-clause-tree t c =
     let more = pushed _ _ _ _ c.push.ensures.items c.if-is_err.ensures.negation in
-    items_made _ _ _ _ c.if-same-2.ty _ _ c.node-then-next_is-2.result c.node-then-next_is-2.ensures (elim c.if-same-2.branch [
-      | parse_items-then-same-2 w ↦ w.ty-is ∙ sym (ap items_type (c.same-2.ensures.0 w.if-same-2.true))
-      | parse_items-else-same-2 w ↦ w.ty-is ∙ sym (type_of_items c.args.close c.requires (λ k. untrue _ w.if-same-2.false (c.same-2.ensures.1 k)))
+    items_made _ _ _ _ c.if-eq-2.ty _ _ c.node-then-next_is-2.result c.node-then-next_is-2.ensures (elim c.if-eq-2.branch [
+      | parse_items-then-eq-2 w ↦ w.ty-is ∙ sym (ap items_type (is_class c.args.close ParenClose c.eq-2.ensures w.if-eq-2.true))
+      | parse_items-else-eq-2 w ↦ w.ty-is ∙ sym (type_of_items c.args.close c.requires (is_other _ _ c.eq-2.ensures w.if-eq-2.false))
     ]) (ap (λ (z : Range ℕ). z.start) c.span-start.ensures)
     (subst (λ z. AreItems c.args.levels c.args.close c.args.self.now.place z c.expect-then-next_is-2.new.self.place) (sym more)
     (c.items.invariant.tree c.in_ok-item.item _ _ [] c.in_ok-item.ensures.tree (inr (
       c.advance.new.self.place,
-      class_as _ _ _ Comma c.in_ok-token.ensures.takes (c.same-in-items-2.ensures.0 c.if-not-same.false),
+      class_as _ _ _ Comma c.in_ok-token.ensures.takes (differs_not _ _ c.ne.ensures c.if-ne.false),
       subst (λ z. TakesClass c.args.close z c.expect-then-next_is-2.new.self.place) c.next_is-in-items.ensures.stays c.in_ok-expect-2.ensures.takes,
     ))))
     (λ k. some_there _ _ _ more)
@@ -401,26 +402,26 @@ pub parse_braces-returns-then-next_is-clause-tree : goal.parse_braces-returns-th
 parse_braces-returns-then-next_is-clause-tree t c =
     let stays = c.next_is.ensures.stays in
     entries_tied _ _ c.advance.new.self.place _ _ _ c.leaf-key.result c.parse_entries.result
-    (LabelOrKeyword, class_as _ _ _ LabelOrKeyword c.in_ok-token.ensures.takes (c.same-3.ensures.0 c.if-same-3.true), tt, c.leaf-key.ensures ∙ ap (λ z. node kind_of_node.Label (span_at z) no_nodes) stays)
+    (LabelOrKeyword, class_as _ _ _ LabelOrKeyword c.in_ok-token.ensures.takes (is_class _ _ c.eq-3.ensures c.if-eq-3.true), tt, c.leaf-key.ensures ∙ ap (λ z. node kind_of_node.Label (span_at z) no_nodes) stays)
     (subst (λ z. TakesClass Colon z c.expect-then-next_is.new.self.place) stays c.in_ok-expect-2.ensures.takes) (ap (λ (z : Range ℕ). z.start) c.span-start.ensures) c.parse_entries.ensures.tree
 
-pub parse_braces-returns-then-same-2-clause-tree : goal.parse_braces-returns-then-same-2-clause-tree
-parse_braces-returns-then-same-2-clause-tree t c = no_fields_tied _ _ _ _ _ c.new-then-same-2.result.items c.node-then-same-2.result (class_as _ _ _ Colon c.in_ok-token.ensures.takes (c.same-2.ensures.0 c.if-same-2.true)) c.in_ok-expect.ensures.takes (ap (λ (z : Range ℕ). z.start) c.span-start.ensures) c.new-then-same-2.ensures.items c.node-then-same-2.ensures
+pub parse_braces-returns-then-eq-2-clause-tree : goal.parse_braces-returns-then-eq-2-clause-tree
+parse_braces-returns-then-eq-2-clause-tree t c = no_fields_tied _ _ _ _ _ c.new-then-eq-2.result.items c.node-then-eq-2.result (class_as _ _ _ Colon c.in_ok-token.ensures.takes (is_class _ _ c.eq-2.ensures c.if-eq-2.true)) c.in_ok-expect.ensures.takes (ap (λ (z : Range ℕ). z.start) c.span-start.ensures) c.new-then-eq-2.ensures.items c.node-then-eq-2.ensures
 
-pub parse_braces-returns-then-same-3-clause-tree : goal.parse_braces-returns-then-same-3-clause-tree
-parse_braces-returns-then-same-3-clause-tree t c =
+pub parse_braces-returns-then-eq-3-clause-tree : goal.parse_braces-returns-then-eq-3-clause-tree
+parse_braces-returns-then-eq-3-clause-tree t c =
     let stays = c.next_is.ensures.stays in
-    flags_tied _ _ c.next_is.new.self.place _ _ c.parse_flags.result (subst (λ z. TakesClass LabelOrKeyword c.args.self.now.place z) (sym stays) (class_as _ _ _ LabelOrKeyword c.in_ok-token.ensures.takes (c.same-3.ensures.0 c.if-same-3.true)))
+    flags_tied _ _ c.next_is.new.self.place _ _ c.parse_flags.result (subst (λ z. TakesClass LabelOrKeyword c.args.self.now.place z) (sym stays) (class_as _ _ _ LabelOrKeyword c.in_ok-token.ensures.takes (is_class _ _ c.eq-3.ensures c.if-eq-3.true)))
     (ap (λ (z : Range ℕ). z.start) c.span-start.ensures) c.parse_flags.ensures.tree
 
-pub parse_braces-returns-then-same-clause-tree : goal.parse_braces-returns-then-same-clause-tree
-parse_braces-returns-then-same-clause-tree t c = empty_tied _ _ _ _ c.new.result.items c.node.result (class_as _ _ _ BraceClose c.in_ok-token.ensures.takes (c.same.ensures.0 c.if-same.true)) (ap (λ (z : Range ℕ). z.start) c.span-start.ensures) c.new.ensures.items c.node.ensures
+pub parse_braces-returns-then-eq-clause-tree : goal.parse_braces-returns-then-eq-clause-tree
+parse_braces-returns-then-eq-clause-tree t c = empty_tied _ _ _ _ c.new.result.items c.node.result (class_as _ _ _ BraceClose c.in_ok-token.ensures.takes (is_class _ _ c.eq.ensures c.if-eq.true)) (ap (λ (z : Range ℕ). z.start) c.span-start.ensures) c.new.ensures.items c.node.ensures
 
-pub parse_entries-returns-then-same-clause-tree : goal.parse_entries-returns-then-same-clause-tree
-parse_entries-returns-then-same-clause-tree t c = pairs_close _ _ _ _ _ _ c.entries.children.items _ c.args.key c.in_ok-value.value c.node.result c.entries.invariant.tree c.in_ok-value.ensures.tree (inl (class_as _ _ _ BraceClose c.in_ok-token.ensures.takes (c.same.ensures.0 c.if-same.true))) (pushed _ _ _ _ c.push-in-entries.ensures.items c.if-is_err-2.ensures.negation) c.node.ensures
+pub parse_entries-returns-then-eq-clause-tree : goal.parse_entries-returns-then-eq-clause-tree
+parse_entries-returns-then-eq-clause-tree t c = pairs_close _ _ _ _ _ _ c.entries.children.items _ c.args.key c.in_ok-value.value c.node.result c.entries.invariant.tree c.in_ok-value.ensures.tree (inl (class_as _ _ _ BraceClose c.in_ok-token.ensures.takes (is_class _ _ c.eq.ensures c.if-eq.true))) (pushed _ _ _ _ c.push-in-entries.ensures.items c.if-is_err-2.ensures.negation) c.node.ensures
 
-pub parse_entries-returns-then-same-2-clause-tree : goal.parse_entries-returns-then-same-2-clause-tree
-parse_entries-returns-then-same-2-clause-tree t c = pairs_close _ _ _ _ _ _ c.entries.children.items _ c.args.key c.in_ok-value.value c.node-then-same-2.result c.entries.invariant.tree c.in_ok-value.ensures.tree (inr (c.advance.new.self.place, class_as _ _ _ Comma c.in_ok-token.ensures.takes (c.same-in-entries.ensures.0 c.if-not-same.false), class_as _ _ _ BraceClose c.in_ok-next.ensures.takes (c.same-in-entries-2.ensures.0 c.if-same-2.true))) (pushed _ _ _ _ c.push-in-entries.ensures.items c.if-is_err-2.ensures.negation) c.node-then-same-2.ensures
+pub parse_entries-returns-then-eq-2-clause-tree : goal.parse_entries-returns-then-eq-2-clause-tree
+parse_entries-returns-then-eq-2-clause-tree t c = pairs_close _ _ _ _ _ _ c.entries.children.items _ c.args.key c.in_ok-value.value c.node-then-eq-2.result c.entries.invariant.tree c.in_ok-value.ensures.tree (inr (c.advance.new.self.place, class_as _ _ _ Comma c.in_ok-token.ensures.takes (differs_not _ _ c.ne.ensures c.if-ne.false), class_as _ _ _ BraceClose c.in_ok-next.ensures.takes (is_class _ _ c.eq-in-entries.ensures c.if-eq-2.true))) (pushed _ _ _ _ c.push-in-entries.ensures.items c.if-is_err-2.ensures.negation) c.node-then-eq-2.ensures
 
 pub parse_maybe-returns-then-not-next_is-clause-tree : goal.parse_maybe-returns-then-not-next_is-clause-tree
 parse_maybe-returns-then-not-next_is-clause-tree t c = inl (c.next_is.ensures.stays, c.leaf.ensures ∙ ap (λ z. node c.args.alone (span_at z) no_nodes) c.next_is.ensures.stays)
@@ -482,13 +483,13 @@ parse_items-returns-in_err-token-clause-asks t c =
     let (d, i, r) = c.items.invariant.reached (c.args.levels + 1) [] (omega arith) in
     asks_reached (c.args.levels + 1) due.first_item d (form_of c.args.close ∷ []) (form_of c.args.close ∷ []) c.args.self.now c.items.self c.advance.new.self r c.items.invariant.asks (asks_read c.args.levels due.value [] [] c.items.self c.parse_node.new.self c.advance.new.self (c.in_ok-item.ensures.led c.args.levels [] (omega arith)) c.parse_node.ensures.asks (asks_once c.parse_node.new.self c.advance.new.self c.advance.ensures.asks))
 
-pub parse_items-returns-then-same-3-clause-asks : goal.parse_items-returns-then-same-3-clause-asks
-parse_items-returns-then-same-3-clause-asks t c =
+pub parse_items-returns-then-eq-3-clause-asks : goal.parse_items-returns-then-eq-3-clause-asks
+parse_items-returns-then-eq-3-clause-asks t c =
     let (d, i, r) = c.items.invariant.reached (c.args.levels + 1) [] (omega arith) in
     asks_reached (c.args.levels + 1) due.first_item d (form_of c.args.close ∷ []) (form_of c.args.close ∷ []) c.args.self.now c.items.self c.advance.new.self r c.items.invariant.asks (asks_read c.args.levels due.value [] [] c.items.self c.parse_node.new.self c.advance.new.self (c.in_ok-item.ensures.led c.args.levels [] (omega arith)) c.parse_node.ensures.asks (asks_once c.parse_node.new.self c.advance.new.self c.advance.ensures.asks))
 
-pub parse_items-returns-then-not-same-clause-asks : goal.parse_items-returns-then-not-same-clause-asks
-parse_items-returns-then-not-same-clause-asks t c =
+pub parse_items-returns-then-ne-clause-asks : goal.parse_items-returns-then-ne-clause-asks
+parse_items-returns-then-ne-clause-asks t c =
     let (d, i, r) = c.items.invariant.reached (c.args.levels + 1) [] (omega arith) in
     asks_reached (c.args.levels + 1) due.first_item d (form_of c.args.close ∷ []) (form_of c.args.close ∷ []) c.args.self.now c.items.self c.advance.new.self r c.items.invariant.asks (asks_read c.args.levels due.value [] [] c.items.self c.parse_node.new.self c.advance.new.self (c.in_ok-item.ensures.led c.args.levels [] (omega arith)) c.parse_node.ensures.asks (asks_once c.parse_node.new.self c.advance.new.self c.advance.ensures.asks))
 
@@ -506,8 +507,8 @@ pub parse_braces-returns-in_err-expect-clause-asks : goal.parse_braces-returns-i
 parse_braces-returns-in_err-expect-clause-asks t c =
     asks_token c.args.self.now c.advance.new.self c.expect.new.self c.in_ok-token.token c.in_ok-token.ensures.takes c.advance.ensures.asks (asks_once c.advance.new.self c.expect.new.self c.expect.ensures.asks)
 
-pub parse_braces-returns-then-same-2-clause-asks : goal.parse_braces-returns-then-same-2-clause-asks
-parse_braces-returns-then-same-2-clause-asks t c =
+pub parse_braces-returns-then-eq-2-clause-asks : goal.parse_braces-returns-then-eq-2-clause-asks
+parse_braces-returns-then-eq-2-clause-asks t c =
     asks_token c.args.self.now c.advance.new.self c.expect.new.self c.in_ok-token.token c.in_ok-token.ensures.takes c.advance.ensures.asks (asks_once c.advance.new.self c.expect.new.self c.expect.ensures.asks)
 
 pub parse_braces-returns-in_err-expect-2-clause-asks : goal.parse_braces-returns-in_err-expect-2-clause-asks
@@ -518,8 +519,8 @@ pub parse_braces-returns-then-next_is-clause-asks : goal.parse_braces-returns-th
 parse_braces-returns-then-next_is-clause-asks t c =
     asks_token c.args.self.now c.advance.new.self c.parse_entries.new.self c.in_ok-token.token c.in_ok-token.ensures.takes c.advance.ensures.asks (asks_looked c.advance.new.self c.next_is.new.self c.parse_entries.new.self c.next_is.ensures.stays c.next_is.ensures.asks (asks_token c.next_is.new.self c.expect-then-next_is.new.self c.parse_entries.new.self Colon c.in_ok-expect-2.ensures.takes c.expect-then-next_is.ensures.asks (c.parse_entries.ensures.asks)))
 
-pub parse_braces-returns-then-same-3-clause-asks : goal.parse_braces-returns-then-same-3-clause-asks
-parse_braces-returns-then-same-3-clause-asks t c =
+pub parse_braces-returns-then-eq-3-clause-asks : goal.parse_braces-returns-then-eq-3-clause-asks
+parse_braces-returns-then-eq-3-clause-asks t c =
     asks_token c.args.self.now c.advance.new.self c.parse_flags.new.self c.in_ok-token.token c.in_ok-token.ensures.takes c.advance.ensures.asks (asks_looked c.advance.new.self c.next_is.new.self c.parse_flags.new.self c.next_is.ensures.stays c.next_is.ensures.asks (c.parse_flags.ensures.asks))
 
 pub parse_braces-returns-in_err-expect-3-clause-asks : goal.parse_braces-returns-in_err-expect-3-clause-asks
@@ -542,20 +543,20 @@ pub parse_entries-returns-in_err-token-clause-asks : goal.parse_entries-returns-
 parse_entries-returns-in_err-token-clause-asks t c =
     asks_reached (c.args.levels + 1) due.value due.value (due.entries ∷ []) (due.entries ∷ []) c.args.self.now c.entries.self c.advance.new.self (c.entries.invariant.led (c.args.levels + 1) [] (omega arith)) c.entries.invariant.asks (asks_read c.args.levels due.value [] [] c.entries.self c.parse_node.new.self c.advance.new.self (c.in_ok-value.ensures.led c.args.levels [] (omega arith)) c.parse_node.ensures.asks (asks_once c.parse_node.new.self c.advance.new.self c.advance.ensures.asks))
 
-pub parse_entries-returns-then-same-clause-asks : goal.parse_entries-returns-then-same-clause-asks
-parse_entries-returns-then-same-clause-asks t c =
+pub parse_entries-returns-then-eq-clause-asks : goal.parse_entries-returns-then-eq-clause-asks
+parse_entries-returns-then-eq-clause-asks t c =
     asks_reached (c.args.levels + 1) due.value due.value (due.entries ∷ []) (due.entries ∷ []) c.args.self.now c.entries.self c.advance.new.self (c.entries.invariant.led (c.args.levels + 1) [] (omega arith)) c.entries.invariant.asks (asks_read c.args.levels due.value [] [] c.entries.self c.parse_node.new.self c.advance.new.self (c.in_ok-value.ensures.led c.args.levels [] (omega arith)) c.parse_node.ensures.asks (asks_once c.parse_node.new.self c.advance.new.self c.advance.ensures.asks))
 
-pub parse_entries-returns-then-not-same-clause-asks : goal.parse_entries-returns-then-not-same-clause-asks
-parse_entries-returns-then-not-same-clause-asks t c =
+pub parse_entries-returns-then-ne-clause-asks : goal.parse_entries-returns-then-ne-clause-asks
+parse_entries-returns-then-ne-clause-asks t c =
     asks_reached (c.args.levels + 1) due.value due.value (due.entries ∷ []) (due.entries ∷ []) c.args.self.now c.entries.self c.advance.new.self (c.entries.invariant.led (c.args.levels + 1) [] (omega arith)) c.entries.invariant.asks (asks_read c.args.levels due.value [] [] c.entries.self c.parse_node.new.self c.advance.new.self (c.in_ok-value.ensures.led c.args.levels [] (omega arith)) c.parse_node.ensures.asks (asks_once c.parse_node.new.self c.advance.new.self c.advance.ensures.asks))
 
 pub parse_entries-returns-in_err-next-clause-asks : goal.parse_entries-returns-in_err-next-clause-asks
 parse_entries-returns-in_err-next-clause-asks t c =
     asks_reached (c.args.levels + 1) due.value due.value (due.entries ∷ []) (due.entries ∷ []) c.args.self.now c.entries.self c.advance-in-entries.new.self (c.entries.invariant.led (c.args.levels + 1) [] (omega arith)) c.entries.invariant.asks (asks_read c.args.levels due.value [] [] c.entries.self c.parse_node.new.self c.advance-in-entries.new.self (c.in_ok-value.ensures.led c.args.levels [] (omega arith)) c.parse_node.ensures.asks (asks_token c.parse_node.new.self c.advance.new.self c.advance-in-entries.new.self c.in_ok-token.token c.in_ok-token.ensures.takes c.advance.ensures.asks (asks_once c.advance.new.self c.advance-in-entries.new.self c.advance-in-entries.ensures.asks)))
 
-pub parse_entries-returns-then-same-2-clause-asks : goal.parse_entries-returns-then-same-2-clause-asks
-parse_entries-returns-then-same-2-clause-asks t c =
+pub parse_entries-returns-then-eq-2-clause-asks : goal.parse_entries-returns-then-eq-2-clause-asks
+parse_entries-returns-then-eq-2-clause-asks t c =
     asks_reached (c.args.levels + 1) due.value due.value (due.entries ∷ []) (due.entries ∷ []) c.args.self.now c.entries.self c.advance-in-entries.new.self (c.entries.invariant.led (c.args.levels + 1) [] (omega arith)) c.entries.invariant.asks (asks_read c.args.levels due.value [] [] c.entries.self c.parse_node.new.self c.advance-in-entries.new.self (c.in_ok-value.ensures.led c.args.levels [] (omega arith)) c.parse_node.ensures.asks (asks_token c.parse_node.new.self c.advance.new.self c.advance-in-entries.new.self c.in_ok-token.token c.in_ok-token.ensures.takes c.advance.ensures.asks (asks_once c.advance.new.self c.advance-in-entries.new.self c.advance-in-entries.ensures.asks)))
 
 pub parse_entries-returns-in_default-clause-asks : goal.parse_entries-returns-in_default-clause-asks

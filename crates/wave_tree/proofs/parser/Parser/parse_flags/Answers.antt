@@ -6,7 +6,7 @@ use Rattle.wave_grammar.specs.ParserPosition.{Place, TakesItem, span_at, text_at
 use Rattle.wave_grammar.specs.LeafTokens.{name_of}
 use Rattle.wave_grammar.specs.PrefixAutomaton.{Due, Form, due_behind, reads, behind_step, step, key_step, brace_step, behind_flag_step, flag_step}
 use Rattle.wave_grammar.specs.PrefixAutomaton as due
-use Rattle.wave_tree.proofs.ParserSteps.{here, handed, fails, any_token, read_there, unexpected_there, untrue, then_class, then_same, Reached, repeated_there, gives_read, flags_other, no_flag, IsFlagDue, flag_same, flag_not_deep, flag_within, token_less}
+use Rattle.wave_tree.proofs.ParserSteps.{here, handed, fails, any_token, read_there, unexpected_there, then_class, then_same, Reached, repeated_there, gives_read, flags_other, no_flag, IsFlagDue, flag_same, flag_not_deep, flag_within, token_less}
 use Rattle.std.specs.Prelude.{if◌then◌else◌}
 use Rattle.wave_wasm.specs.Names.{is_one_of}
 use Rattle.wave_lex.specs.Errors.{Says}
@@ -20,6 +20,7 @@ use Rattle.wave_grammar.specs.Private.FlagOrder.{flag_name}
 use Rattle.wave_tree.proofs.NodeCorrectness.Items.{class_as}
 use Rattle.wave_tree.proofs.FlagsSorted.{entry_of}
 use Rattle.wave_tree.proofs.FlagLoop.{flag_at, grown, ended}
+use Rattle.wave_tree.proofs.ClassTests.{is_class, is_other, differs, differs_not}
 use Rattle.wave_tree.proofs.LexerCallCount.{asks_none, asks_once, asks_token, asks_reached}
 use Rattle.wave_tree.proofs.parser.Parser.parse_flags.Goals as goal
 
@@ -51,48 +52,48 @@ returns-in_err-token-clause-led c = λ n s.
     let (d, i, r) = c.flags.invariant.0.led n s in
     handed s _ _ c.from_residual.ensures.1 (fails (inl (flag_within d _ _ i)) (λ _. Unit {0}) c.in_err-token.field-0.0 r (flag_not_deep n d _ s _ i) (any_token n d s _ _) c.in_err-token.ensures.takes)
 
-pub returns-then-same-clause-led : goal.returns-then-same-clause-led
-returns-then-same-clause-led c = λ n s.
+pub returns-then-eq-clause-led : goal.returns-then-eq-clause-led
+returns-then-eq-clause-led c = λ n s.
     let (d, i, r) = c.flags.invariant.0.led n s in
     gives_read s c.flags_node.result c.flags_node.ensures.memory (read_there (then_same {f = due.behind_value} {v = s} c.in_ok-token.token r c.in_ok-token.ensures.takes
-    (flag_same n d _ s _ _ c.in_ok-token.token i c.in_ok-token.ensures.takes ∙ ap (λ z. behind_flag_step (map flag_name (flag_at c.args.self.now.place ∷ c.flags.invariant.0.more)) s (token_of z (text_at c.advance.new.self.place))) (c.same.ensures.0 c.if-same.true))) (inl refl))
+    (flag_same n d _ s _ _ c.in_ok-token.token i c.in_ok-token.ensures.takes ∙ ap (λ z. behind_flag_step (map flag_name (flag_at c.args.self.now.place ∷ c.flags.invariant.0.more)) s (token_of z (text_at c.advance.new.self.place))) (is_class c.in_ok-token.token BraceClose c.eq.ensures c.if-eq.true))) (inl refl))
 
-pub returns-then-not-same-clause-led : goal.returns-then-not-same-clause-led
-returns-then-not-same-clause-led c = λ n s.
+pub returns-then-ne-clause-led : goal.returns-then-ne-clause-led
+returns-then-ne-clause-led c = λ n s.
     let (d, i, r) = c.flags.invariant.0.led n s in
     unexpected_there (inl (flag_within d _ _ i)) c.unexpected.result c.in_ok-token.token r c.in_ok-token.ensures.takes
     (flag_same n d _ s _ _ c.in_ok-token.token i c.in_ok-token.ensures.takes ∙
-    flags_other _ c.in_ok-token.token s (text_at c.advance.new.self.place) (λ k. untrue _ c.if-same.false (c.same.ensures.1 k)) (λ k. untrue _ c.if-not-same.true (c.same-in-flags.ensures.1 k)))
+    flags_other _ c.in_ok-token.token s (text_at c.advance.new.self.place) (is_other _ _ c.eq.ensures c.if-eq.false) (differs _ _ c.ne.ensures c.if-ne.true))
     c.unexpected.ensures
 
 pub returns-in_err-next-clause-led : goal.returns-in_err-next-clause-led
 returns-in_err-next-clause-led c = λ n s.
     let (d, i, r) = c.flags.invariant.0.led n s in
-    let comma = due_flag (map flag_name (flag_at c.args.self.now.place ∷ c.flags.invariant.0.more)) d c.in_ok-token.token i r c.in_ok-token.ensures.takes (c.same-in-flags.ensures.0 c.if-not-same.false) in
+    let comma = due_flag (map flag_name (flag_at c.args.self.now.place ∷ c.flags.invariant.0.more)) d c.in_ok-token.token i r c.in_ok-token.ensures.takes (differs_not _ _ c.ne.ensures c.if-ne.false) in
     handed s _ _ c.from_residual-in_err-next.ensures.1 (fails (inl tt) (λ _. Unit {0}) c.in_err-next.field-0.0 comma (λ deep. deep.due) (any_token n (due.flag (map flag_name (flag_at c.args.self.now.place ∷ c.flags.invariant.0.more))) s _ _) c.in_err-next.ensures.takes)
 
-pub returns-then-same-2-clause-led : goal.returns-then-same-2-clause-led
-returns-then-same-2-clause-led c = λ n s.
+pub returns-then-eq-2-clause-led : goal.returns-then-eq-2-clause-led
+returns-then-eq-2-clause-led c = λ n s.
     let (d, i, r) = c.flags.invariant.0.led n s in
-    let comma = due_flag (map flag_name (flag_at c.args.self.now.place ∷ c.flags.invariant.0.more)) d c.in_ok-token.token i r c.in_ok-token.ensures.takes (c.same-in-flags.ensures.0 c.if-not-same.false) in
-    gives_read s c.flags_node-then-same-2.result c.flags_node-then-same-2.ensures.memory (read_there (then_class BraceClose comma c.in_ok-next.ensures.takes (c.same-in-flags-2.ensures.0 c.if-same-2.true) refl) (inl refl))
+    let comma = due_flag (map flag_name (flag_at c.args.self.now.place ∷ c.flags.invariant.0.more)) d c.in_ok-token.token i r c.in_ok-token.ensures.takes (differs_not _ _ c.ne.ensures c.if-ne.false) in
+    gives_read s c.flags_node-then-eq-2.result c.flags_node-then-eq-2.ensures.memory (read_there (then_class BraceClose comma c.in_ok-next.ensures.takes (is_class _ _ c.eq-in-flags.ensures c.if-eq-2.true) refl) (inl refl))
 
-pub returns-then-not-same-2-clause-led : goal.returns-then-not-same-2-clause-led
-returns-then-not-same-2-clause-led c = λ n s.
+pub returns-then-ne-2-clause-led : goal.returns-then-ne-2-clause-led
+returns-then-ne-2-clause-led c = λ n s.
     let (d, i, r) = c.flags.invariant.0.led n s in
-    let comma = due_flag (map flag_name (flag_at c.args.self.now.place ∷ c.flags.invariant.0.more)) d c.in_ok-token.token i r c.in_ok-token.ensures.takes (c.same-in-flags.ensures.0 c.if-not-same.false) in
-    unexpected_there (inl tt) c.unexpected-then-not-same-2.result c.in_ok-next.next comma c.in_ok-next.ensures.takes
-    (no_flag (map flag_name (flag_at c.args.self.now.place ∷ c.flags.invariant.0.more)) c.in_ok-next.next s (text_at c.advance-in-flags.new.self.place) (λ k. untrue _ c.if-same-2.false (c.same-in-flags-2.ensures.1 k)) (λ k. untrue _ c.if-not-same-2.true (c.same-in-flags-3.ensures.1 k)))
-    c.unexpected-then-not-same-2.ensures
+    let comma = due_flag (map flag_name (flag_at c.args.self.now.place ∷ c.flags.invariant.0.more)) d c.in_ok-token.token i r c.in_ok-token.ensures.takes (differs_not _ _ c.ne.ensures c.if-ne.false) in
+    unexpected_there (inl tt) c.unexpected-then-ne-2.result c.in_ok-next.next comma c.in_ok-next.ensures.takes
+    (no_flag (map flag_name (flag_at c.args.self.now.place ∷ c.flags.invariant.0.more)) c.in_ok-next.next s (text_at c.advance-in-flags.new.self.place) (is_other _ _ c.eq-in-flags.ensures c.if-eq-2.false) (differs _ _ c.ne-in-flags.ensures c.if-ne-2.true))
+    c.unexpected-then-ne-2.ensures
 
 pub returns-then-contains_key-clause-led : goal.returns-then-contains_key-clause-led
 returns-then-contains_key-clause-led c = λ n s.
     let (d, i, r) = c.flags.invariant.0.led n s in
     let names = (map flag_name (flag_at c.args.self.now.place ∷ c.flags.invariant.0.more)) in
-    let comma = due_flag names d c.in_ok-token.token i r c.in_ok-token.ensures.takes (c.same-in-flags.ensures.0 c.if-not-same.false) in
+    let comma = due_flag names d c.in_ok-token.token i r c.in_ok-token.ensures.takes (differs_not _ _ c.ne.ensures c.if-ne.false) in
     let name_is = c.label_name-name.ensures ∙ ap name_of c.slice-in-flags.ensures in
     let found = subst (λ z. is_one_of names z ≡ true) name_is (sym (c.flags.invariant.0.holds c.label_name-name.result.now) ∙ (sym c.contains_key.ensures ∙ c.if-contains_key.true)) in
-    repeated_there (inl tt) c.repeated.result LabelOrKeyword comma (subst (λ z. TakesItem c.advance.new.self.place (Some (Ok z)) c.advance-in-flags.new.self.place) (c.same-in-flags-3.ensures.0 c.if-not-same-2.false) c.in_ok-next.ensures.takes)
+    repeated_there (inl tt) c.repeated.result LabelOrKeyword comma (subst (λ z. TakesItem c.advance.new.self.place (Some (Ok z)) c.advance-in-flags.new.self.place) (differs_not c.in_ok-next.next LabelOrKeyword c.ne-in-flags.ensures c.if-ne-2.false) c.in_ok-next.ensures.takes)
     (ap (λ b. if b then due.repeated_flag else reads (due.behind_flag (names ++ name_of (text_at c.advance-in-flags.new.self.place) ∷ [])) s) found)
     (subst (λ z. c.repeated.result.kind ≢ kind.OutOfMemory → Says c.repeated.result kind.DuplicateFlag (span_at c.advance-in-flags.new.self.place) (Some (repeated_name z))) name_is c.repeated.ensures)
 
@@ -109,14 +110,14 @@ flags-preserved c =
     let done = c.if-is_err-2.ensures.negation in
     let more = holds_more c.flags.flags c.insert-in-flags.new.self names _ _ c.flags.invariant.0.holds (on_ok c.insert-in-flags.result c.insert-in-flags.ensures.updates done) in
     let new_name = subst (λ z. is_one_of names z ≡ false) name_is (sym (c.flags.invariant.0.holds c.label_name-name.result.now) ∙ (sym c.contains_key.ensures ∙ c.if-contains_key.false)) in
-    let comma_there = class_as _ _ _ Comma c.in_ok-token.ensures.takes (c.same-in-flags.ensures.0 c.if-not-same.false) in
-    let label_there = class_as _ _ _ LabelOrKeyword c.in_ok-next.ensures.takes (c.same-in-flags-3.ensures.0 c.if-not-same-2.false) in (
+    let comma_there = class_as _ _ _ Comma c.in_ok-token.ensures.takes (differs_not _ _ c.ne.ensures c.if-ne.false) in
+    let label_there = class_as _ _ _ LabelOrKeyword c.in_ok-next.ensures.takes (differs_not _ _ c.ne-in-flags.ensures c.if-ne-2.false) in (
       grown c.flags.flags c.insert-in-flags.new.self c.args.self.now.place c.flags.self.place c.advance.new.self.place c.advance-in-flags.new.self.place c.label_name-name.result _ c.flags.invariant.0 comma_there label_there
           (on_ok c.insert-in-flags.result c.insert-in-flags.ensures.entries done) name_is c.leaf-in-flags.ensures new_name
           (subst (λ z. Holds c.insert-in-flags.new.self (names ++ z ∷ [])) name_is more)
           (λ n s.
           let (d, i, r) = c.flags.invariant.0.led n s in
-          let comma = due_flag names d c.in_ok-token.token i r c.in_ok-token.ensures.takes (c.same-in-flags.ensures.0 c.if-not-same.false) in (
+          let comma = due_flag names d c.in_ok-token.token i r c.in_ok-token.ensures.takes (differs_not _ _ c.ne.ensures c.if-ne.false) in (
             due.behind_flag (names ++ name_of (text_at c.advance-in-flags.new.self.place) ∷ []),
             inl refl,
             then_same LabelOrKeyword comma label_there (ap (λ b. if b then due.repeated_flag else reads (due.behind_flag (names ++ name_of (text_at c.advance-in-flags.new.self.place) ∷ [])) s) new_name),
@@ -125,24 +126,24 @@ flags-preserved c =
           asks_reached 0 (due.behind_word (text_at c.args.self.now.place)) d [] [] c.args.self.now c.flags.self c.advance-in-flags.new.self r c.flags.invariant.1 (asks_token c.flags.self c.advance.new.self c.advance-in-flags.new.self c.in_ok-token.token c.in_ok-token.ensures.takes c.advance.ensures.asks (asks_once c.advance.new.self c.advance-in-flags.new.self c.advance-in-flags.ensures.asks))),
     )
 
-pub returns-then-same-clause-tree : goal.returns-then-same-clause-tree
-returns-then-same-clause-tree c = ended c.flags.flags _ c.flags.self.place _ _ c.flags_node.result c.flags.invariant.0 (inl (class_as _ _ _ BraceClose c.in_ok-token.ensures.takes (c.same.ensures.0 c.if-same.true))) c.flags_node.ensures.node
+pub returns-then-eq-clause-tree : goal.returns-then-eq-clause-tree
+returns-then-eq-clause-tree c = ended c.flags.flags _ c.flags.self.place _ _ c.flags_node.result c.flags.invariant.0 (inl (class_as _ _ _ BraceClose c.in_ok-token.ensures.takes (is_class _ _ c.eq.ensures c.if-eq.true))) c.flags_node.ensures.node
 
-pub returns-then-same-2-clause-tree : goal.returns-then-same-2-clause-tree
-returns-then-same-2-clause-tree c = ended c.flags.flags _ c.flags.self.place _ _ c.flags_node-then-same-2.result c.flags.invariant.0 (inr (c.advance.new.self.place, class_as _ _ _ Comma c.in_ok-token.ensures.takes (c.same-in-flags.ensures.0 c.if-not-same.false), class_as _ _ _ BraceClose c.in_ok-next.ensures.takes (c.same-in-flags-2.ensures.0 c.if-same-2.true))) c.flags_node-then-same-2.ensures.node
+pub returns-then-eq-2-clause-tree : goal.returns-then-eq-2-clause-tree
+returns-then-eq-2-clause-tree c = ended c.flags.flags _ c.flags.self.place _ _ c.flags_node-then-eq-2.result c.flags.invariant.0 (inr (c.advance.new.self.place, class_as _ _ _ Comma c.in_ok-token.ensures.takes (differs_not _ _ c.ne.ensures c.if-ne.false), class_as _ _ _ BraceClose c.in_ok-next.ensures.takes (is_class _ _ c.eq-in-flags.ensures c.if-eq-2.true))) c.flags_node-then-eq-2.ensures.node
 
 pub returns-in_err-token-clause-asks : goal.returns-in_err-token-clause-asks
 returns-in_err-token-clause-asks c =
     let (d, i, r) = c.flags.invariant.0.led 0 [] in
     asks_reached 0 (due.behind_word (text_at c.args.self.now.place)) d [] [] c.args.self.now c.flags.self c.advance.new.self r c.flags.invariant.1 (asks_once c.flags.self c.advance.new.self c.advance.ensures.asks)
 
-pub returns-then-same-clause-asks : goal.returns-then-same-clause-asks
-returns-then-same-clause-asks c =
+pub returns-then-eq-clause-asks : goal.returns-then-eq-clause-asks
+returns-then-eq-clause-asks c =
     let (d, i, r) = c.flags.invariant.0.led 0 [] in
     asks_reached 0 (due.behind_word (text_at c.args.self.now.place)) d [] [] c.args.self.now c.flags.self c.advance.new.self r c.flags.invariant.1 (asks_once c.flags.self c.advance.new.self c.advance.ensures.asks)
 
-pub returns-then-not-same-clause-asks : goal.returns-then-not-same-clause-asks
-returns-then-not-same-clause-asks c =
+pub returns-then-ne-clause-asks : goal.returns-then-ne-clause-asks
+returns-then-ne-clause-asks c =
     let (d, i, r) = c.flags.invariant.0.led 0 [] in
     asks_reached 0 (due.behind_word (text_at c.args.self.now.place)) d [] [] c.args.self.now c.flags.self c.advance.new.self r c.flags.invariant.1 (asks_once c.flags.self c.advance.new.self c.advance.ensures.asks)
 
@@ -151,13 +152,13 @@ returns-in_err-next-clause-asks c =
     let (d, i, r) = c.flags.invariant.0.led 0 [] in
     asks_reached 0 (due.behind_word (text_at c.args.self.now.place)) d [] [] c.args.self.now c.flags.self c.advance-in-flags.new.self r c.flags.invariant.1 (asks_token c.flags.self c.advance.new.self c.advance-in-flags.new.self c.in_ok-token.token c.in_ok-token.ensures.takes c.advance.ensures.asks (asks_once c.advance.new.self c.advance-in-flags.new.self c.advance-in-flags.ensures.asks))
 
-pub returns-then-same-2-clause-asks : goal.returns-then-same-2-clause-asks
-returns-then-same-2-clause-asks c =
+pub returns-then-eq-2-clause-asks : goal.returns-then-eq-2-clause-asks
+returns-then-eq-2-clause-asks c =
     let (d, i, r) = c.flags.invariant.0.led 0 [] in
     asks_reached 0 (due.behind_word (text_at c.args.self.now.place)) d [] [] c.args.self.now c.flags.self c.advance-in-flags.new.self r c.flags.invariant.1 (asks_token c.flags.self c.advance.new.self c.advance-in-flags.new.self c.in_ok-token.token c.in_ok-token.ensures.takes c.advance.ensures.asks (asks_once c.advance.new.self c.advance-in-flags.new.self c.advance-in-flags.ensures.asks))
 
-pub returns-then-not-same-2-clause-asks : goal.returns-then-not-same-2-clause-asks
-returns-then-not-same-2-clause-asks c =
+pub returns-then-ne-2-clause-asks : goal.returns-then-ne-2-clause-asks
+returns-then-ne-2-clause-asks c =
     let (d, i, r) = c.flags.invariant.0.led 0 [] in
     asks_reached 0 (due.behind_word (text_at c.args.self.now.place)) d [] [] c.args.self.now c.flags.self c.advance-in-flags.new.self r c.flags.invariant.1 (asks_token c.flags.self c.advance.new.self c.advance-in-flags.new.self c.in_ok-token.token c.in_ok-token.ensures.takes c.advance.ensures.asks (asks_once c.advance.new.self c.advance-in-flags.new.self c.advance-in-flags.ensures.asks))
 

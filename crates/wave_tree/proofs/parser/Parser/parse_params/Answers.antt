@@ -1,5 +1,4 @@
 use Rattle.std.proofs.Common.{◌≡◌, ◌≢◌, inr, sym, ap, subst, ◌∙◌, refl, [], ◌∷◌}
-use Rattle.std.specs.Str.{IsUtf8}
 use Rattle.wave_lex.specs.declared.error.ParserError.{ParserError}
 use Rattle.wave_lex.specs.declared.error.ParserErrorKind.TheVariants as because
 use Rattle.wave_lex.specs.declared.lex.Token.TheVariants as class
@@ -35,14 +34,14 @@ returns-in-Err-clause-refused c = λ apart.
 
 pub returns-in-Err-clause-within : goal.returns-in-Err-clause-within
 returns-in-Err-clause-within c =
-    subst (λ (l : Lexed). LiesInText l.source c.refuse.result.span) c.lexer_here-start.ensures.place (c.refuse.ensures.within (λ apart.
-    subst (λ (l : Lexed). LiesInText l.source c.in-Err.error.span) (sym c.lexer_here-start.ensures.place)
-    (tuple_lies c.in-Err.error c.args.self.now.place c.parse_items.new.self.place (behind_open c.in-Err.error c.args.self.now.place c.expect.new.self.place c.next_is.new.self.place c.parse_items.new.self.place c.in_ok-expect.ensures.takes c.next_is.ensures.stays (λ q h. cc (sym c.if-next_is.false ∙ c.next_is.ensures.answer.1 (q, h))) (c.in-Err.ensures.led 101 [] refl apart)) c.lexer_here-start.ensures.inside)))
+    subst (λ (l : Lexed). LiesInText l.source c.refuse.result.span) c.start_here-start.ensures.place (c.refuse.ensures.within (λ apart.
+    subst (λ (l : Lexed). LiesInText l.source c.in-Err.error.span) (sym c.start_here-start.ensures.place)
+    (tuple_lies c.in-Err.error c.args.self.now.place c.parse_items.new.self.place (behind_open c.in-Err.error c.args.self.now.place c.expect.new.self.place c.next_is.new.self.place c.parse_items.new.self.place c.in_ok-expect.ensures.takes c.next_is.ensures.stays (λ q h. cc (sym c.if-next_is.false ∙ c.next_is.ensures.answer.1 (q, h))) (c.in-Err.ensures.led 101 [] refl apart)) c.start_here-start.ensures.inside)))
 
 pub returns-in_err-expect-clause-within : goal.returns-in_err-expect-clause-within
 returns-in_err-expect-clause-within c =
     error_handed (λ (e : ParserError). LiesInText c.args.self.now.place.lexer.source e.span) c.from_residual.result c.in_err-expect.field-0.0 c.from_residual.ensures.1
-    (fails_lie (λ t. t ≡ class.ParenOpen) c.in_err-expect.field-0.0 c.args.self.now.place c.expect.new.self.place c.in_err-expect.ensures.takes c.lexer_here-start.ensures.inside)
+    (fails_lie (λ t. t ≡ class.ParenOpen) c.in_err-expect.field-0.0 c.args.self.now.place c.expect.new.self.place c.in_err-expect.ensures.takes c.start_here-start.ensures.inside)
 
 pub returns-in_err-expect-2-clause-within : goal.returns-in_err-expect-2-clause-within
 returns-in_err-expect-2-clause-within c =
@@ -51,6 +50,6 @@ returns-in_err-expect-2-clause-within c =
 pub returns-in-Ok-clause-taken : goal.returns-in-Ok-clause-taken
 returns-in-Ok-clause-taken c =
     let new = c.parse_items.new.self.place in
-    tuple_taken c.args.self.now.place c.expect.new.self.place new c.in-Ok.tuple (subst IsUtf8 c.remainder.ensures c.remainder.utf8) c.in_ok-expect.ensures.takes
+    tuple_taken c.args.self.now.place c.expect.new.self.place new c.in-Ok.tuple c.start_here-start.ensures.sound c.in_ok-expect.ensures.takes
     (subst (λ (z : Place). LeadsBehindValue 101 due.first_item (due.tuple ∷ []) z new []) c.next_is.ensures.stays (c.in-Ok.ensures.led 101 [] refl))
     (subst (λ (z : Place). IsOfItems 100 class.ParenClose z new c.in-Ok.tuple) c.next_is.ensures.stays c.in-Ok.ensures.tree)

@@ -23,7 +23,7 @@ returns-clause-refused g c = λ apart.
     let back = c.refuse.ensures.other apart in
     let kind_is : c.refuse.result.kind ≡ c.in-Err.error.kind = ap (λ (e : ParserError). e.kind) back.0 in
     let T = g.V.Type.WasmType.tree c.args.ty.now in
-    let text : c.source.result.now ≡ c.args.self.now.place.lexer.source = c.source.ensures ∙ ap (λ (l : Lexed). l.source) c.in_ok-node.ensures.start in
+    let text : c.start.inside.source.now ≡ c.args.self.now.place.lexer.source = c.start.invariant.0 ∙ ap (λ (l : Lexed). l.source) (c.start.view_is ∙ c.in_ok-node.ensures.start) in
     let taken = c.in_ok-node.ensures.tree in
     let there : IsSyntaxError c.in-Err.error 100 value [] c.args.self.now.place c.parse_whole.new.self.place ⊎ IsTypeRefused g.V.WasmValue.is_full T c.in-Err.error c.args.self.now.place c.parse_whole.new.self.place = inr (record {
       read = c.in_ok-node.ensures.value;
@@ -42,7 +42,7 @@ returns-clause-refused g c = λ apart.
 pub returns-clause-within : goal.returns-clause-within
 returns-clause-within g c =
     subst (λ (l : Lexed). LiesInText l.source c.refuse.result.span) c.in_ok-node.ensures.start (c.refuse.ensures.within (λ apart.
-    subst (λ (s : List ℕ). LiesInText s c.in-Err.error.span) c.source.ensures c.in-Err.ensures.in_text))
+    subst (λ (s : List ℕ). LiesInText s c.in-Err.error.span) (c.start.invariant.0 ∙ ap (λ (l : Lexed). l.source) c.start.view_is) c.in-Err.ensures.in_text))
 
 pub returns-clause-caused : goal.returns-clause-caused
 returns-clause-caused g c = λ was.
