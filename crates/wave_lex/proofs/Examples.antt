@@ -29,75 +29,40 @@ apart : (a b : List ℕ) → bytes_eq a b ≡ false → a ≢ b
 apart a b t e = not_from_Decides (bytes_eq a b) (bytes_eq-Decides a b) t e
 
 -- each mark
-marks : IsLongestToken (codes "{") 1 class.BraceOpen
-    × IsLongestToken (codes "}") 1 class.BraceClose
-    × IsLongestToken (codes "(") 1 class.ParenOpen
-    × IsLongestToken (codes ")") 1 class.ParenClose
-    × IsLongestToken (codes "[") 1 class.BracketOpen
-    × IsLongestToken (codes "]") 1 class.BracketClose
-    × IsLongestToken (codes ":") 1 class.Colon
-    × IsLongestToken (codes ",") 1 class.Comma
-marks = (token_here _ 1 class.BraceOpen refl refl refl tt refl, token_here _ 1 class.BraceClose refl refl refl tt refl, token_here _ 1 class.ParenOpen refl refl refl tt refl, token_here _ 1 class.ParenClose refl refl refl tt refl, token_here _ 1 class.BracketOpen refl refl refl tt refl, token_here _ 1 class.BracketClose refl refl refl tt refl, token_here _ 1 class.Colon refl refl refl tt refl, token_here _ 1 class.Comma refl refl refl tt refl)
+marks : IsLongestToken (codes "{") 1 class.BraceOpen × IsLongestToken (codes "}") 1 class.BraceClose × IsLongestToken (codes "(") 1 class.ParenOpen × IsLongestToken (codes ")") 1 class.ParenClose
+    × IsLongestToken (codes "[") 1 class.BracketOpen × IsLongestToken (codes "]") 1 class.BracketClose × IsLongestToken (codes ":") 1 class.Colon × IsLongestToken (codes ",") 1 class.Comma
+marks = (
+  token_here _ 1 class.BraceOpen refl refl refl tt refl,
+  token_here _ 1 class.BraceClose refl refl refl tt refl,
+  token_here _ 1 class.ParenOpen refl refl refl tt refl,
+  token_here _ 1 class.ParenClose refl refl refl tt refl,
+  token_here _ 1 class.BracketOpen refl refl refl tt refl,
+  token_here _ 1 class.BracketClose refl refl refl tt refl,
+  token_here _ 1 class.Colon refl refl refl tt refl,
+  token_here _ 1 class.Comma refl refl refl tt refl,
+)
 
--- a label behind `%`, of words of either case and of digits
-label_token : IsLongestToken (codes "%ok-A-2 B") 7 class.LabelOrKeyword
-label_token = token_here _ 7 class.LabelOrKeyword refl refl refl tt refl
+-- a label behind `%`, of words of either case and of digits; a number and `-inf` end before a letter that is none of their own, and a leading zero is a number of its own
+words : IsLongestToken (codes "%ok-A-2 B") 7 class.LabelOrKeyword × IsLongestToken (codes "-10.25e+07e") 10 class.Number × IsLongestToken (codes "-info") 4 class.Number × IsLongestToken (codes "01") 1 class.Number
+words = (token_here _ 7 class.LabelOrKeyword refl refl refl tt refl, token_here _ 10 class.Number refl refl refl tt refl, token_here _ 4 class.Number refl refl refl tt refl, token_here _ 1 class.Number refl refl refl tt refl)
 
--- a number ends before a letter that is none of its own
-number_token : IsLongestToken (codes "-10.25e+07e") 10 class.Number
-number_token = token_here _ 10 class.Number refl refl refl tt refl
-
--- `-inf` ends before a letter
-infinity_token : IsLongestToken (codes "-info") 4 class.Number
-infinity_token = token_here _ 4 class.Number refl refl refl tt refl
-
--- a leading zero is a number of its own
-leading_zero : IsLongestToken (codes "01") 1 class.Number
-leading_zero = token_here _ 1 class.Number refl refl refl tt refl
-
--- a char of an escape
-escaped_char : IsLongestToken (codes "'\\u{1f44b}'") 11 class.Char
-escaped_char = token_here _ 11 class.Char refl refl refl tt refl
-
--- a string without text, where no third quote follows
-empty_string : IsLongestToken (codes "\"\" ") 2 class.String
-empty_string = token_here _ 2 class.String refl refl refl (λ e. apart (codes "\"\" ") three_quotes refl) refl
-
--- a multiline string ends at the first later three quotes
-lines_token : IsLongestToken (codes "\"\"\"a\"\"\"\"\"") 7 class.MultilineString
-lines_token = token_here _ 7 class.MultilineString refl refl refl tt refl
+-- a char of an escape; a string without text, where no third quote follows; a multiline string, which ends at the first later three quotes
+quoted : IsLongestToken (codes "'\\u{1f44b}'") 11 class.Char × IsLongestToken (codes "\"\" ") 2 class.String × IsLongestToken (codes "\"\"\"a\"\"\"\"\"") 7 class.MultilineString
+quoted = (token_here _ 11 class.Char refl refl refl tt refl, token_here _ 2 class.String refl refl refl (λ e. apart (codes "\"\" ") three_quotes refl) refl, token_here _ 7 class.MultilineString refl refl refl tt refl)
 
 -- a text is cut into its tokens with gaps before and behind them; the last comment goes on to the end
 text_cut : Cuts (codes " 'x'1// ") ((class.Char, codes "'x'") ∷ (class.Number, codes "1") ∷ [])
 text_cut = (codes "// ", (1, 3, longest_here gap _ _ refl refl refl refl, token_here _ 3 class.Char refl refl refl tt refl, refl, (0, 1, longest_here gap _ _ refl refl refl refl, token_here _ 1 class.Number refl refl refl tt refl, refl, refl)), longest_here gap _ _ refl refl refl refl)
 
--- ---- invalid tokens
-
--- three quotes with none behind them are refused together
-open_quotes : IsInvalid (codes "\"\"\"abc") 3
-open_quotes = (no_token_quoted _ (codes "abc") refl refl refl, longest_here invalid _ _ refl refl refl refl)
-
--- two scalars between single quotes are refused whole
-two_scalars : IsInvalid (codes "'ab'") 4
-two_scalars = (no_token_here _ refl refl, longest_here invalid _ _ refl refl refl refl)
-
--- five are refused at the first quote
-five_scalars : IsInvalid (codes "'abcde'") 1
-five_scalars = (no_token_here _ refl refl, longest_here invalid _ _ refl refl refl refl)
+-- three quotes with none behind them are refused together, two scalars between single quotes whole, five at the first quote
+invalid_tokens : IsInvalid (codes "\"\"\"abc") 3 × IsInvalid (codes "'ab'") 4 × IsInvalid (codes "'abcde'") 1
+invalid_tokens = ((no_token_quoted _ (codes "abc") refl refl refl, longest_here invalid _ _ refl refl refl refl), (no_token_here _ refl refl, longest_here invalid _ _ refl refl refl refl), (no_token_here _ refl refl, longest_here invalid _ _ refl refl refl refl))
 
 -- ---- names
 
--- a function's name with its package, interface, resource and version
-whole_name : IsName (codes "a:b/c.d@1.0.20()") 14
-whole_name = longest_here function_name _ _ refl refl refl refl
-
--- a version of two numbers is no part of the name, nor is a package without a function
-short_version : IsName (codes "a@1.0()") 1 × IsName (codes "a:b()") 1
-short_version = (longest_here function_name _ _ refl refl refl refl, longest_here function_name _ _ refl refl refl refl)
-
--- a label
-a_label : IsLabel (codes "must-HAVE-2")
-a_label = matches_from (codes "must-HAVE-2") label refl
+-- a function's name with its package, interface, resource and version; a version of two numbers is no part of it, nor is a package without a function; a label
+names : IsName (codes "a:b/c.d@1.0.20()") 14 × IsName (codes "a@1.0()") 1 × IsName (codes "a:b()") 1 × IsLabel (codes "must-HAVE-2")
+names = (longest_here function_name _ _ refl refl refl refl, longest_here function_name _ _ refl refl refl refl, longest_here function_name _ _ refl refl refl refl, matches_from _ label refl)
 
 -- ---- strings
 
