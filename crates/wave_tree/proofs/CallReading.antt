@@ -4,7 +4,7 @@ use Rattle.std.specs.Prelude.{◌⊎◌}
 use Rattle.std.specs.declared.ops.Range.{Range}
 use Rattle.std.proofs.lemmas.List.{append-nil}
 use Rattle.wave_lex.specs.declared.lex.Token as lex
-use Rattle.wave_lex.specs.declared.lex.Token.TheVariants.{BraceOpen, BraceClose, ParenOpen, ParenClose, BracketOpen, BracketClose, Colon, Comma, Number, LabelOrKeyword, Char, String, MultilineString}
+use Rattle.wave_lex.specs.declared.lex.Token.TheVariants.{ParenOpen, ParenClose}
 use Rattle.wave_lex.specs.declared.lex.FuncNameToken.{FuncNameToken}
 use Rattle.wave_lex.specs.declared.error.ParserError.{ParserError}
 use Rattle.wave_lex.specs.declared.error.ParserErrorKind.TheVariants as because
@@ -31,10 +31,10 @@ use Rattle.wave_tree.specs.Private.ParsedNodes.{IsOfItems}
 use Rattle.wave_tree.specs.ParserState.{IsTrailing}
 use Rattle.wave_tree.specs.UntypedCall.{IsTupleTaken, AreParamsTaken, RefusesTuple, IsCalledOf, IsNoCall, NameFault, RefusesCall, behind_name}
 use Rattle.wave_grammar.proofs.Unambiguity.Trees.{one_tree}
-use Rattle.wave_tree.proofs.ParserSound.{read_have_tree, refused_have_none}
+use Rattle.wave_tree.proofs.ParserSound.{read_have_tree, refused_have_none, token_one}
 use Rattle.wave_tree.proofs.ParserSteps.{expected}
 use Rattle.wave_grammar.proofs.Slices.{taken_is}
-use Rattle.wave_tree.proofs.TextReading.{AllOf, all_from, cut_from, all_are_next, all_taken, nothing_there, one_next}
+use Rattle.wave_tree.proofs.TextReading.{AllOf, all_from, cut_from, all_are_next, all_taken, nothing_there}
 use Rattle.wave_node.proofs.ByKind.Tuples.{tuple_nodes, no_word}
 use Rattle.wave_node.proofs.ByKind.Leaves.{tree_is}
 use Rattle.wave_tree.proofs.NodeCorrectness.Lists.{tuple_parsed}
@@ -110,33 +110,11 @@ one_name s j k h l = let a = h.1 k l.0 in let b = l.1 j h.0 in omega (arith, a, 
 
 paren_class : (c : lex.Token) (text : List ℕ) → paren_open ≡ token_of c text → c ≡ ParenOpen
 paren_class ParenOpen text e = refl
-paren_class BraceOpen text e = absurd (cc)
-paren_class BraceClose text e = absurd (cc)
-paren_class ParenClose text e = absurd (cc)
-paren_class BracketOpen text e = absurd (cc)
-paren_class BracketClose text e = absurd (cc)
-paren_class Colon text e = absurd (cc)
-paren_class Comma text e = absurd (cc)
-paren_class Number text e = absurd (cc)
-paren_class LabelOrKeyword text e = absurd (cc)
-paren_class Char text e = absurd (cc)
-paren_class String text e = absurd (cc)
-paren_class MultilineString text e = absurd (cc)
+paren_class _ text e = absurd (cc)
 
 close_class : (c : lex.Token) (text : List ℕ) → paren_close ≡ token_of c text → c ≡ ParenClose
 close_class ParenClose text e = refl
-close_class BraceOpen text e = absurd (cc)
-close_class BraceClose text e = absurd (cc)
-close_class ParenOpen text e = absurd (cc)
-close_class BracketOpen text e = absurd (cc)
-close_class BracketClose text e = absurd (cc)
-close_class Colon text e = absurd (cc)
-close_class Comma text e = absurd (cc)
-close_class Number text e = absurd (cc)
-close_class LabelOrKeyword text e = absurd (cc)
-close_class Char text e = absurd (cc)
-close_class String text e = absurd (cc)
-close_class MultilineString text e = absurd (cc)
+close_class _ text e = absurd (cc)
 
 -- the tokens of a call behind its name
 record CallTokens (s : List ℕ) (k : ℕ) : Type 0 where
@@ -180,7 +158,7 @@ no_call_refused s k p e named (inr (m, open_there, no_close, refused)) name para
     by : (it : CallTokens s k) → (it.tokens ≡ paren_open ∷ paren_close ∷ []) ⊎ ((t : Tree) × Takes 101 it.tokens t []) → ⊥
     by it (inl is) =
         let (m', (c, there, f), (q, (d, close_there, g), rest)) = subst (λ z. TakesTokens (behind_name s k) z it.all.last) is it.all.taken in
-        let same = (one_next (behind_name s k) m m' paren_open paren_open (ParenOpen, open_there, refl) (c, there, f)).1 in
+        let same = (token_one (behind_name s k) m m' paren_open paren_open (ParenOpen, open_there, refl) (c, there, f)).1 in
         no_close q (subst (λ z. place.TakesItem m (Some (Ok z)) q) (close_class d (text_at q) g) (subst (λ z. place.TakesItem z (Some (Ok d)) q) (sym same) close_there))
     by it (inr (t, takes)) = refused_have_none 101 e (behind_name s k) p it.tokens (refused_before e (behind_name s k) m p open_there refused) (all_are_next (behind_name s k) it.tokens it.all) t [] takes
 
@@ -194,16 +172,16 @@ taken_all s k p None (m, open_there, close_there) it = by (params_tokens 100 it.
     by : (it.tokens ≡ paren_open ∷ paren_close ∷ []) ⊎ ((t : Tree) × Takes 101 it.tokens t []) → p ≡ it.all.last
     by (inl is) =
         let (m', a, (q, b, rest)) = subst (λ z. TakesTokens (behind_name s k) z it.all.last) is it.all.taken in
-        let same = (one_next (behind_name s k) m m' paren_open paren_open first a).1 in
-        (one_next m p q paren_close paren_close (ParenClose, close_there, refl) (subst (λ z. TakesToken z paren_close q) (sym same) b)).1 ∙ rest
+        let same = (token_one (behind_name s k) m m' paren_open paren_open first a).1 in
+        (token_one m p q paren_close paren_close (ParenClose, close_there, refl) (subst (λ z. TakesToken z paren_close q) (sym same) b)).1 ∙ rest
     by (inr (t, takes)) = absurd (begins it.tokens it.all.taken takes)
       where
         begins : (ts : List Token) → TakesTokens (behind_name s k) ts it.all.last → Takes 101 ts t [] → ⊥
         begins [] a h = h
-        begins (u ∷ []) (m', a, rest) h = let (is, same) = one_next (behind_name s k) m' m u paren_open a first in no_alone 100 t [] (subst (λ z. Takes 101 (z ∷ []) t []) is h)
+        begins (u ∷ []) (m', a, rest) h = let (is, same) = token_one (behind_name s k) m' m u paren_open a first in no_alone 100 t [] (subst (λ z. Takes 101 (z ∷ []) t []) is h)
         begins (u ∷ v ∷ ts) (m', a, (q, b, rest)) h =
-            let (is, same) = one_next (behind_name s k) m' m u paren_open a first in
-            let (close_is, there) = one_next m q p v paren_close (subst (λ z. TakesToken z v q) same b) (ParenClose, close_there, refl) in
+            let (is, same) = token_one (behind_name s k) m' m u paren_open a first in
+            let (close_is, there) = token_one m q p v paren_close (subst (λ z. TakesToken z v q) same b) (ParenClose, close_there, refl) in
             no_empty 100 ts t [] (subst (λ z. Takes 101 (z ∷ paren_close ∷ ts) t []) is (subst (λ z. Takes 101 (u ∷ z ∷ ts) t []) close_is h))
 taken_all s k p (Some n) h it = by (params_tokens 100 it.tokens it.params it.spelled)
   where

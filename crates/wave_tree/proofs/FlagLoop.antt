@@ -17,7 +17,9 @@ use Rattle.wave_node.specs.declared.ast.NodeType.TheVariants as kind
 use Rattle.wave_grammar.specs.Private.FlagOrder.{Flag, flag_name, flags_in_order}
 use Rattle.wave_tree.specs.ParsedNodes.{TakesClass}
 use Rattle.wave_tree.specs.Private.ParsedNodes.{IsClosed, AreFurtherFlags, IsOfFlags}
+use Rattle.wave_tree.specs.ParserState.{Parsing, Asks}
 use Rattle.wave_tree.proofs.ParserSteps.{Reached, IsFlagDue}
+use Rattle.wave_tree.proofs.LexerCallCount.{asks_reached}
 use Rattle.wave_wasm.proofs.NameSets.{Holds}
 use Rattle.wave_grammar.proofs.FlagOrder.{order_last, none_in_order}
 use Rattle.wave_tree.proofs.FlagsSorted.{entry_of, named_node, insert_flag, nodes_of}
@@ -67,3 +69,9 @@ ended flags start at q from (Ok parsed) h close is = record {
   is = is ∙ ap (λ z. node kind.Flags (span from q.lexer.end) (node_trees z)) (nodes_of flags.entries (flags_in_order (flag_at start ∷ h.more)) h.ordered);
 }
 ended flags start at q from (Err x) h close is = tt
+
+-- behind the flags so far the lexer is asked for more
+pub asks_flags : (flags : BTreeMap (Bor (List ℕ)) NodeTree) (old at new : Parsing) → FlagsSoFar flags old.place at.place → Asks old at → Asks at new → Asks old new
+asks_flags flags old at new so_far first more =
+    let (d, i, r) = so_far.led 0 [] in
+    asks_reached 0 (due.behind_word (text_at old.place)) d [] [] old at new r first more

@@ -24,7 +24,7 @@ abbrev item : lex.Token → place.Item
 item x = Some (Ok x)
 
 -- one token is next
-token_one : (p q r : Place) (t u : Token) → TakesToken p t q → TakesToken p u r → (t ≡ u) × (q ≡ r)
+pub token_one : (p q r : Place) (t u : Token) → TakesToken p t q → TakesToken p u r → (t ≡ u) × (q ≡ r)
 token_one p q r t u (c, (h, a), e) (d, (k, b), f) =
     let one = next_one p.lexer q.lexer r.lexer (Some (Ok c)) (Some (Ok d)) h k in
     let there : q ≡ r = place_path q r one.0 (a ∙ sym b) in

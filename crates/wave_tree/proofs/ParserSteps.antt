@@ -10,7 +10,7 @@ use Rattle.wave_lex.specs.declared.error.ParserErrorKind.TheVariants as kind
 use Rattle.wave_lex.specs.Errors.{class_name, repeated_name, Says}
 use Rattle.wave_lex.specs.Tokenization.{NextIs, remainder_of, span}
 use Rattle.wave_lex.proofs.Next.{next_one, next_less}
-use Rattle.wave_grammar.specs.Token.{Token, brace_open, brace_close, paren_open, paren_close, bracket_open, bracket_close, colon, comma, number, label, char, string, multiline}
+use Rattle.wave_grammar.specs.Token.{Token, paren_open}
 use Rattle.wave_grammar.specs.ParserPosition.{Place, TakesItem, TakesToken, TakesTokens, token_of, text_at, span_at}
 use Rattle.wave_grammar.specs.PrefixAutomaton as due
 use Rattle.wave_grammar.specs.PrefixAutomaton.{Due, Form, value, first_item, next_item, behind_value, behind_label, reads, unexpected, empty_tuple, repeated_flag, too_deep, step, Leads, IsValueDue, closes, is_paren, is_colon, is_brace_close, behind_step, value_step, key_step, brace_step, behind_flag_step, flag_step}
@@ -110,19 +110,8 @@ not_deep (inl e) deep = subst IsValueDue e deep.due
 not_deep (inr (e, apart)) deep = subst IsValueDue e deep.due
 
 paren_is : (t : Token) → is_paren t ≡ true → t ≡ paren_open
-paren_is brace_open e = cc
-paren_is brace_close e = cc
 paren_is paren_open e = refl
-paren_is paren_close e = cc
-paren_is bracket_open e = cc
-paren_is bracket_close e = cc
-paren_is colon e = cc
-paren_is comma e = cc
-paren_is (number text) e = cc
-paren_is (label text) e = cc
-paren_is (char text) e = cc
-paren_is (string text) e = cc
-paren_is (multiline text) e = cc
+paren_is _ e = cc
 
 pub behind_same : (n : ℕ) (d : Due) (s : List Form) (p q : Place) (t : Token) → IsBehind d p → TakesToken p t q → step n d s t ≡ behind_step s t
 behind_same n d s p q t (inl e) h = ap (λ z. step n z s t) e
@@ -139,68 +128,26 @@ comma_behind c s text (inl e) = subst (λ z. behind_step (form_of z ∷ s) (toke
 comma_behind c s text (inr e) = subst (λ z. behind_step (form_of z ∷ s) (token_of Comma text) ≡ reads next_item (form_of z ∷ s)) (sym e) refl
 
 paren_other : (c : lex.Token) (s : List Form) (text : List ℕ) → c ≢ ParenClose → c ≢ Comma → behind_step (due.tuple ∷ s) (token_of c text) ≡ unexpected
-paren_other BraceOpen s text h k = refl
-paren_other BraceClose s text h k = refl
-paren_other ParenOpen s text h k = refl
 paren_other ParenClose s text h k = absurd (h refl)
-paren_other BracketOpen s text h k = refl
-paren_other BracketClose s text h k = refl
-paren_other Colon s text h k = refl
 paren_other Comma s text h k = absurd (k refl)
-paren_other Number s text h k = refl
-paren_other LabelOrKeyword s text h k = refl
-paren_other Char s text h k = refl
-paren_other String s text h k = refl
-paren_other MultilineString s text h k = refl
+paren_other _ s text h k = refl
 
 bracket_other : (c : lex.Token) (s : List Form) (text : List ℕ) → c ≢ BracketClose → c ≢ Comma → behind_step (due.list ∷ s) (token_of c text) ≡ unexpected
-bracket_other BraceOpen s text h k = refl
-bracket_other BraceClose s text h k = refl
-bracket_other ParenOpen s text h k = refl
-bracket_other ParenClose s text h k = refl
-bracket_other BracketOpen s text h k = refl
 bracket_other BracketClose s text h k = absurd (h refl)
-bracket_other Colon s text h k = refl
 bracket_other Comma s text h k = absurd (k refl)
-bracket_other Number s text h k = refl
-bracket_other LabelOrKeyword s text h k = refl
-bracket_other Char s text h k = refl
-bracket_other String s text h k = refl
-bracket_other MultilineString s text h k = refl
+bracket_other _ s text h k = refl
 
 pub other_behind : (close c : lex.Token) (s : List Form) (text : List ℕ) → IsClose close → c ≢ close → c ≢ Comma → behind_step (form_of close ∷ s) (token_of c text) ≡ unexpected
 other_behind close c s text (inl e) h k = subst (λ z. behind_step (form_of z ∷ s) (token_of c text) ≡ unexpected) (sym e) (paren_other c s text (λ x. h (x ∙ sym e)) k)
 other_behind close c s text (inr e) h k = subst (λ z. behind_step (form_of z ∷ s) (token_of c text) ≡ unexpected) (sym e) (bracket_other c s text (λ x. h (x ∙ sym e)) k)
 
 paren_closes : (c : lex.Token) (s : List Form) (text : List ℕ) → closes (due.tuple ∷ s) (token_of c text) ≡ true → c ≡ ParenClose
-paren_closes BraceOpen s text e = cc
-paren_closes BraceClose s text e = cc
-paren_closes ParenOpen s text e = cc
 paren_closes ParenClose s text e = refl
-paren_closes BracketOpen s text e = cc
-paren_closes BracketClose s text e = cc
-paren_closes Colon s text e = cc
-paren_closes Comma s text e = cc
-paren_closes Number s text e = cc
-paren_closes LabelOrKeyword s text e = cc
-paren_closes Char s text e = cc
-paren_closes String s text e = cc
-paren_closes MultilineString s text e = cc
+paren_closes _ s text e = cc
 
 bracket_closes : (c : lex.Token) (s : List Form) (text : List ℕ) → closes (due.list ∷ s) (token_of c text) ≡ true → c ≡ BracketClose
-bracket_closes BraceOpen s text e = cc
-bracket_closes BraceClose s text e = cc
-bracket_closes ParenOpen s text e = cc
-bracket_closes ParenClose s text e = cc
-bracket_closes BracketOpen s text e = cc
 bracket_closes BracketClose s text e = refl
-bracket_closes Colon s text e = cc
-bracket_closes Comma s text e = cc
-bracket_closes Number s text e = cc
-bracket_closes LabelOrKeyword s text e = cc
-bracket_closes Char s text e = cc
-bracket_closes String s text e = cc
-bracket_closes MultilineString s text e = cc
+bracket_closes _ s text e = cc
 
 pub only_close : (close c : lex.Token) (s : List Form) (text : List ℕ) → IsClose close → closes (form_of close ∷ s) (token_of c text) ≡ true → c ≡ close
 only_close close c s text (inl e) h = paren_closes c s text (subst (λ z. closes (form_of z ∷ s) (token_of c text) ≡ true) e h) ∙ sym e
@@ -331,63 +278,26 @@ value_read n d s v p q c e l h same x =
 
 pub no_value : (s : List Form) (c : lex.Token) (text : List ℕ) → c ≢ ParenOpen → c ≢ BracketOpen → c ≢ BraceOpen → c ≢ Number → c ≢ LabelOrKeyword → c ≢ Char → c ≢ String → c ≢ MultilineString → value_step s (token_of c text) ≡ unexpected
 no_value s BraceOpen text a b e f g h i j = absurd (e refl)
-no_value s BraceClose text a b e f g h i j = refl
 no_value s ParenOpen text a b e f g h i j = absurd (a refl)
-no_value s ParenClose text a b e f g h i j = refl
 no_value s BracketOpen text a b e f g h i j = absurd (b refl)
-no_value s BracketClose text a b e f g h i j = refl
-no_value s Colon text a b e f g h i j = refl
-no_value s Comma text a b e f g h i j = refl
 no_value s Number text a b e f g h i j = absurd (f refl)
 no_value s LabelOrKeyword text a b e f g h i j = absurd (g refl)
 no_value s Char text a b e f g h i j = absurd (h refl)
 no_value s String text a b e f g h i j = absurd (i refl)
 no_value s MultilineString text a b e f g h i j = absurd (j refl)
+no_value s _ text a b e f g h i j = refl
 
 pub paren_class : (c : lex.Token) (text : List ℕ) → is_paren (token_of c text) ≡ true → c ≡ ParenOpen
-paren_class BraceOpen text e = cc
-paren_class BraceClose text e = cc
 paren_class ParenOpen text e = refl
-paren_class ParenClose text e = cc
-paren_class BracketOpen text e = cc
-paren_class BracketClose text e = cc
-paren_class Colon text e = cc
-paren_class Comma text e = cc
-paren_class Number text e = cc
-paren_class LabelOrKeyword text e = cc
-paren_class Char text e = cc
-paren_class String text e = cc
-paren_class MultilineString text e = cc
+paren_class _ text e = cc
 
 pub colon_class : (c : lex.Token) (text : List ℕ) → is_colon (token_of c text) ≡ true → c ≡ Colon
-colon_class BraceOpen text e = cc
-colon_class BraceClose text e = cc
-colon_class ParenOpen text e = cc
-colon_class ParenClose text e = cc
-colon_class BracketOpen text e = cc
-colon_class BracketClose text e = cc
 colon_class Colon text e = refl
-colon_class Comma text e = cc
-colon_class Number text e = cc
-colon_class LabelOrKeyword text e = cc
-colon_class Char text e = cc
-colon_class String text e = cc
-colon_class MultilineString text e = cc
+colon_class _ text e = cc
 
 pub brace_class : (c : lex.Token) (text : List ℕ) → is_brace_close (token_of c text) ≡ true → c ≡ BraceClose
-brace_class BraceOpen text e = cc
 brace_class BraceClose text e = refl
-brace_class ParenOpen text e = cc
-brace_class ParenClose text e = cc
-brace_class BracketOpen text e = cc
-brace_class BracketClose text e = cc
-brace_class Colon text e = cc
-brace_class Comma text e = cc
-brace_class Number text e = cc
-brace_class LabelOrKeyword text e = cc
-brace_class Char text e = cc
-brace_class String text e = cc
-brace_class MultilineString text e = cc
+brace_class _ text e = cc
 
 pub no_paren : (n : ℕ) (s : List Form) (c : lex.Token) (text : List ℕ) → c ≢ ParenOpen → step n due.paren s (token_of c text) ≡ unexpected
 no_paren n s c text h = if_false (is_paren (token_of c text)) _ _ (λ k. h (paren_class c text k))
@@ -402,19 +312,8 @@ pub behind_bare : (p : Place) → ((next : Place) × TakesItem p (Some (Ok Paren
 behind_bare p none = inr (refl, λ new (c, h, e). none (new, subst (λ z. TakesItem p (Some (Ok z)) new) (paren_class c (text_at new) (ap is_paren (sym e))) h))
 
 pub payload_other : (c : lex.Token) (s : List Form) (text : List ℕ) → c ≢ ParenClose → behind_step (due.payload ∷ s) (token_of c text) ≡ unexpected
-payload_other BraceOpen s text h = refl
-payload_other BraceClose s text h = refl
-payload_other ParenOpen s text h = refl
 payload_other ParenClose s text h = absurd (h refl)
-payload_other BracketOpen s text h = refl
-payload_other BracketClose s text h = refl
-payload_other Colon s text h = refl
-payload_other Comma s text h = refl
-payload_other Number s text h = refl
-payload_other LabelOrKeyword s text h = refl
-payload_other Char s text h = refl
-payload_other String s text h = refl
-payload_other MultilineString s text h = refl
+payload_other _ s text h = refl
 
 -- a token behind a value
 pub then_behind : {n : ℕ} {d f : Due} {s v b : List Form} {p q w : Place} (e : Due) (c : lex.Token) → Reached n d s p e v q → IsBehind e q → TakesItem q (Some (Ok c)) w → behind_step v (token_of c (text_at w)) ≡ reads f b → Reached n d s p f b w
@@ -434,109 +333,45 @@ unexpected_behind {n} {d} {s} {v} {g} {p} {q} {w} e x c h is t f says =
 -- ---- braces
 
 pub key_reads : (c : lex.Token) (s : List Form) (text : List ℕ) → IsKeyClass c → key_step s (token_of c text) ≡ reads due.behind_key s
-key_reads BraceOpen s text h = absurd h
-key_reads BraceClose s text h = absurd h
-key_reads ParenOpen s text h = absurd h
-key_reads ParenClose s text h = absurd h
-key_reads BracketOpen s text h = absurd h
-key_reads BracketClose s text h = absurd h
-key_reads Colon s text h = absurd h
-key_reads Comma s text h = absurd h
 key_reads Number s text h = refl
 key_reads LabelOrKeyword s text h = refl
 key_reads Char s text h = refl
 key_reads String s text h = refl
 key_reads MultilineString s text h = refl
+key_reads _ s text h = absurd h
 
 pub no_key : (c : lex.Token) (s : List Form) (text : List ℕ) → (IsKeyClass c → ⊥) → c ≢ BraceClose → key_step s (token_of c text) ≡ unexpected
-no_key BraceOpen s text h k = refl
 no_key BraceClose s text h k = absurd (k refl)
-no_key ParenOpen s text h k = refl
-no_key ParenClose s text h k = refl
-no_key BracketOpen s text h k = refl
-no_key BracketClose s text h k = refl
-no_key Colon s text h k = refl
-no_key Comma s text h k = refl
 no_key Number s text h k = absurd (h tt)
 no_key LabelOrKeyword s text h k = absurd (h tt)
 no_key Char s text h k = absurd (h tt)
 no_key String s text h k = absurd (h tt)
 no_key MultilineString s text h k = absurd (h tt)
+no_key _ s text h k = refl
 
 pub brace_key : (c : lex.Token) (s : List Form) (text : List ℕ) → c ≢ LabelOrKeyword → c ≢ Colon → brace_step s (token_of c text) ≡ key_step s (token_of c text)
-brace_key BraceOpen s text h k = refl
-brace_key BraceClose s text h k = refl
-brace_key ParenOpen s text h k = refl
-brace_key ParenClose s text h k = refl
-brace_key BracketOpen s text h k = refl
-brace_key BracketClose s text h k = refl
 brace_key Colon s text h k = absurd (k refl)
-brace_key Comma s text h k = refl
-brace_key Number s text h k = refl
 brace_key LabelOrKeyword s text h k = absurd (h refl)
-brace_key Char s text h k = refl
-brace_key String s text h k = refl
-brace_key MultilineString s text h k = refl
+brace_key _ s text h k = refl
 
 pub entries_other : (c : lex.Token) (s : List Form) (text : List ℕ) → c ≢ BraceClose → c ≢ Comma → behind_step (due.entries ∷ s) (token_of c text) ≡ unexpected
-entries_other BraceOpen s text h k = refl
 entries_other BraceClose s text h k = absurd (h refl)
-entries_other ParenOpen s text h k = refl
-entries_other ParenClose s text h k = refl
-entries_other BracketOpen s text h k = refl
-entries_other BracketClose s text h k = refl
-entries_other Colon s text h k = refl
 entries_other Comma s text h k = absurd (k refl)
-entries_other Number s text h k = refl
-entries_other LabelOrKeyword s text h k = refl
-entries_other Char s text h k = refl
-entries_other String s text h k = refl
-entries_other MultilineString s text h k = refl
+entries_other _ s text h k = refl
 
 pub flags_other : (names : List (List ℕ)) (c : lex.Token) (s : List Form) (text : List ℕ) → c ≢ BraceClose → c ≢ Comma → behind_flag_step names s (token_of c text) ≡ unexpected
-flags_other names BraceOpen s text h k = refl
 flags_other names BraceClose s text h k = absurd (h refl)
-flags_other names ParenOpen s text h k = refl
-flags_other names ParenClose s text h k = refl
-flags_other names BracketOpen s text h k = refl
-flags_other names BracketClose s text h k = refl
-flags_other names Colon s text h k = refl
 flags_other names Comma s text h k = absurd (k refl)
-flags_other names Number s text h k = refl
-flags_other names LabelOrKeyword s text h k = refl
-flags_other names Char s text h k = refl
-flags_other names String s text h k = refl
-flags_other names MultilineString s text h k = refl
+flags_other names _ s text h k = refl
 
 pub no_flag : (names : List (List ℕ)) (c : lex.Token) (s : List Form) (text : List ℕ) → c ≢ BraceClose → c ≢ LabelOrKeyword → flag_step names s (token_of c text) ≡ unexpected
-no_flag names BraceOpen s text h k = refl
 no_flag names BraceClose s text h k = absurd (h refl)
-no_flag names ParenOpen s text h k = refl
-no_flag names ParenClose s text h k = refl
-no_flag names BracketOpen s text h k = refl
-no_flag names BracketClose s text h k = refl
-no_flag names Colon s text h k = refl
-no_flag names Comma s text h k = refl
-no_flag names Number s text h k = refl
 no_flag names LabelOrKeyword s text h k = absurd (k refl)
-no_flag names Char s text h k = refl
-no_flag names String s text h k = refl
-no_flag names MultilineString s text h k = refl
+no_flag names _ s text h k = refl
 
 word_flag : (text : List ℕ) (c : lex.Token) (s : List Form) (n : ℕ) (more : List ℕ) → c ≢ Colon → step n (due.behind_word text) s (token_of c more) ≡ behind_flag_step (name_of text ∷ []) s (token_of c more)
-word_flag text BraceOpen s n more h = refl
-word_flag text BraceClose s n more h = refl
-word_flag text ParenOpen s n more h = refl
-word_flag text ParenClose s n more h = refl
-word_flag text BracketOpen s n more h = refl
-word_flag text BracketClose s n more h = refl
 word_flag text Colon s n more h = absurd (h refl)
-word_flag text Comma s n more h = refl
-word_flag text Number s n more h = refl
-word_flag text LabelOrKeyword s n more h = refl
-word_flag text Char s n more h = refl
-word_flag text String s n more h = refl
-word_flag text MultilineString s n more h = refl
+word_flag text _ s n more h = refl
 
 -- behind a flag: behind the first one no colon stands
 abbrev pub IsFlagDue : Due → List (List ℕ) → Place → Type 0

@@ -29,11 +29,10 @@ use Rattle.wave_tree.specs.ParsedNodes.{IsSound, IsParsed, IsTaken, IsNodeTaken}
 use Rattle.wave_tree.specs.ParserState.{IsTrailing}
 use Rattle.wave_node.specs.TypedReading as typed
 use Rattle.wave_tree.specs.FromStr.{start_of, IsValueTaken, IsMeant, IsTypeRefused, RefusesValue, TextFault, RefusesText}
-use Rattle.wave_tree.proofs.ParserSteps.{place_path}
 use Rattle.wave_grammar.proofs.Elaboration.GrammarToTree.{through}
 use Rattle.wave_grammar.proofs.Elaboration.TreeToGrammar.{back}
 use Rattle.wave_grammar.proofs.Unambiguity.Trees.{one_tree}
-use Rattle.wave_tree.proofs.ParserSound.{read_have_tree, refused_have_none}
+use Rattle.wave_tree.proofs.ParserSound.{read_have_tree, refused_have_none, token_one}
 use Rattle.wave_grammar.proofs.Slices.{tokens_front, tokens_source}
 
 -- ---- nodes
@@ -129,17 +128,6 @@ nothing_there p behind q h (Some x, something, k) = apart x (next_one p.lexer q.
 pub all_are_next : (p : Place) (ts : List Token) → AllOf p ts → AreNext p ts
 all_are_next p ts h = (h.last, h.taken, no_token_there h.last h.ends.0 h.ends.1)
 
--- one token is next
-pub one_next : (p q r : Place) (t u : Token) → TakesToken p t q → TakesToken p u r → (t ≡ u) × (q ≡ r)
-one_next p q r t u (c, (h, a), e) (d, (k, b), f) =
-    let one = next_one p.lexer q.lexer r.lexer (Some (Ok c)) (Some (Ok d)) h k in
-    let there : q ≡ r = place_path q r one.0 (a ∙ sym b) in
-    let class : c ≡ d = same_class c d one.1 in
-    (e ∙ (ap (λ z. token_of z (text_at q)) class ∙ (ap (λ z. token_of d (text_at z)) there ∙ sym f)), there)
-  where
-    same_class : (c d : lex.Token) → item c ≡ item d → c ≡ d
-    same_class c d k = cc
-
 -- tokens behind which none is next are all
 pub all_taken : (p q : Place) (front ts : List Token) → TakesTokens p front q → AreNext q [] → (h : AllOf p ts) → (front ≡ ts) × (q ≡ h.last)
 all_taken p q [] [] e next h = (refl, sym e ∙ h.taken)
@@ -147,7 +135,7 @@ all_taken p q [] (u ∷ ts) e (last, same, none) h = let (k, one, others) = h.ta
 all_taken p q (t ∷ front) [] (m, one, more) next h = absurd (no_token_there h.last h.ends.0 h.ends.1 t m (subst (λ z. TakesToken z t m) h.taken one))
 all_taken p q (t ∷ front) (u ∷ ts) (m, one, more) next h =
     let (k, other, others) = h.taken in
-    let (tokens, there) = one_next p m k t u one other in
+    let (tokens, there) = token_one p m k t u one other in
     let rest : AllOf m ts = record { last = h.last; taken = subst (λ z. TakesTokens z ts h.last) (sym there) others; ends = h.ends } in
     let (a, b) = all_taken m q front ts more next rest in
     (ap (λ z. z ∷ front) tokens ∙ ap (λ z. u ∷ z) a, b)

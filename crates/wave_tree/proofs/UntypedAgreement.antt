@@ -1,5 +1,5 @@
 -- Reading a text, and reading its untyped value, agree.
-use Rattle.std.proofs.Common.{ℕ, ◌≡◌, List, [], sym, ◌∙◌, subst}
+use Rattle.std.proofs.Common.{ℕ, ◌≡◌, List, sym, ◌∙◌, subst}
 use Rattle.wave_wasm.specs.Types.{TypeTree}
 use Rattle.wave_wasm.specs.Values.{Value}
 use Rattle.wave_grammar.specs.SpannedTree.{Placed, tree_of}

@@ -1,8 +1,8 @@
 -- Where the refusal of a node stands.
-use Rattle.std.specs.Prelude.{ℕ, ◌≡◌, ◌⊎◌, ◌≤◌, ◌≢◌, List, []}
+use Rattle.std.specs.Prelude.{ℕ, ◌≡◌, ◌⊎◌, ◌≢◌, List, []}
 use Rattle.wave_lex.specs.declared.error.ParserError.{ParserError}
 use Rattle.wave_lex.specs.declared.error.ParserErrorKind.TheVariants.{WasmValueError, OutOfMemory}
-use Rattle.wave_node.specs.NodeTree.{NodeTree, node}
+use Rattle.wave_node.specs.NodeTree.{NodeTree}
 use Rattle.wave_grammar.specs.ParserPosition.{Place}
 use Rattle.wave_tree.specs.ParsedNodes.{IsNodeTaken, IsTaken, StandsBetween}
 use Rattle.wave_node.specs.ErrorSpans.{IsCausedIn}

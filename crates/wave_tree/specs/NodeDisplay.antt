@@ -1,5 +1,5 @@
 -- The text that shows a node beside its source.
-use Rattle.std.specs.Prelude.{ℕ, List, [], ◌∷◌, Option, Some, None}
+use Rattle.std.specs.Prelude.{ℕ, List, [], Option, Some, None}
 use Rattle.wave_grammar.specs.Tree.{shown}
 use Rattle.wave_grammar.specs.SpannedTree.{Placed, tree_of}
 use Rattle.wave_node.specs.NodeTree.{NodeTree}

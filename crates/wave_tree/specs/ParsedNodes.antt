@@ -1,12 +1,12 @@
 -- The nodes that a parser makes of the tokens that it takes.
-use Rattle.std.specs.Prelude.{ℕ, ◌≡◌, ◌≢◌, ◌⊎◌, if◌then◌else◌, List, [], ◌∷◌, ◌++◌, Some, Ok}
+use Rattle.std.specs.Prelude.{ℕ, ◌≡◌, List, [], ◌∷◌, ◌++◌, Some, Ok}
 use Rattle.std.specs.Str.{IsUtf8}
 use Rattle.wave_lex.specs.declared.lex.Token as lex
 use Rattle.wave_lex.specs.Tokenization.{remainder_of, span}
 use Rattle.wave_grammar.specs.Token.{Token}
 use Rattle.wave_grammar.specs.Tree as tree
 use Rattle.wave_grammar.specs.SpannedTree.{Placed, tree_of, span_of}
-use Rattle.wave_node.specs.NodeTree.{NodeTree, node}
+use Rattle.wave_node.specs.NodeTree.{NodeTree}
 use Rattle.wave_node.specs.Nodes.{IsNodeOf}
 use Rattle.wave_grammar.specs.ParserPosition.{Place, TakesItem, TakesToken, TakesTokens}
 use Rattle.wave_grammar.specs.Tree.{NoParen}

@@ -107,10 +107,6 @@ word_is kind.BoolTrue p text [] s w k e = sym (some_is _ _ k) ∙ some_is _ _ e
 word_is kind.BoolFalse p text [] s w k e = sym (some_is _ _ k) ∙ some_is _ _ e
 word_is kind.EmptySet p text [] s w k e = sym (some_is _ _ k) ∙ some_is _ _ e
 word_is kind.OptionNone p text [] s w k e = sym (some_is _ _ k) ∙ some_is _ _ e
-word_is kind.BoolTrue p text (c ∷ cs) s w k e = absurd (cc)
-word_is kind.BoolFalse p text (c ∷ cs) s w k e = absurd (cc)
-word_is kind.EmptySet p text (c ∷ cs) s w k e = absurd (cc)
-word_is kind.OptionNone p text (c ∷ cs) s w k e = absurd (cc)
 word_is _ p text cs s w k e = absurd (cc)
 
 -- bools, `{}` and `none`

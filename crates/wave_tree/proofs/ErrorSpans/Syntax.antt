@@ -10,7 +10,7 @@ use Rattle.wave_lex.specs.FunctionName.{IsName}
 use Rattle.wave_lex.specs.Errors.{Refusal, LiesInText}
 use Rattle.wave_lex.specs.Tokenization.{Lexed, Stands, Passes, NextIs, remainder_of, span}
 use Rattle.wave_grammar.specs.Token.{Token}
-use Rattle.wave_grammar.specs.ParserPosition.{Place, Item, TakesTokens, span_at}
+use Rattle.wave_grammar.specs.ParserPosition.{Place, Item, TakesTokens}
 use Rattle.wave_grammar.specs.PrefixAutomaton.{Due, Form, value, first_item, tuple}
 use Rattle.wave_grammar.specs.SyntaxErrors.{StandsAt, IsSyntaxError}
 use Rattle.wave_tree.specs.ParserState.{Fails, IsTrailing}

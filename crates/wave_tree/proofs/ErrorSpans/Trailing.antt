@@ -1,5 +1,5 @@
 -- What follows a value lies in the text.
-use Rattle.std.proofs.Common.{ℕ, ◌≡◌, ◌⊎◌, inr, ◌<◌, ◌≤◌, ◌+◌, ◌-◌, if◌then◌else◌, List, [], ◌∷◌, ◌++◌, subst, arith}
+use Rattle.std.proofs.Common.{ℕ, inr, List, subst, arith}
 use Rattle.wave_lex.specs.declared.error.ParserError.{ParserError}
 use Rattle.wave_grammar.specs.ParserPosition.{Place, TakesTokens}
 use Rattle.wave_tree.specs.ParserState.{IsTrailing}

@@ -4,7 +4,7 @@ use Rattle.std.specs.Prelude.{if◌then◌else◌}
 use Rattle.std.specs.declared.ops.Range.{Range}
 use Rattle.wave_wasm.specs.Lists.{AllOf}
 use Rattle.wave_lex.specs.declared.lex.Token as lex
-use Rattle.wave_lex.specs.declared.lex.Token.TheVariants.{BraceOpen, BraceClose, ParenOpen, ParenClose, BracketOpen, BracketClose, Colon, Comma, Number, LabelOrKeyword, Char, String, MultilineString}
+use Rattle.wave_lex.specs.declared.lex.Token.TheVariants.{BraceOpen, BraceClose, Colon, Comma, Number, LabelOrKeyword, Char, String, MultilineString}
 use Rattle.wave_lex.specs.Tokenization.{span}
 use Rattle.wave_grammar.specs.Token as token
 use Rattle.wave_grammar.specs.Token.{Token, brace_open, brace_close, colon, comma}
@@ -35,14 +35,7 @@ key_is LabelOrKeyword text h = tt
 key_is Char text h = tt
 key_is String text h = tt
 key_is MultilineString text h = tt
-key_is BraceOpen text h = absurd h
-key_is BraceClose text h = absurd h
-key_is ParenOpen text h = absurd h
-key_is ParenClose text h = absurd h
-key_is BracketOpen text h = absurd h
-key_is BracketClose text h = absurd h
-key_is Colon text h = absurd h
-key_is Comma text h = absurd h
+key_is _ text h = absurd h
 
 -- what a key's node means
 record KeyMeans (m k : Place) (c : lex.Token) : Type 0 where
@@ -62,14 +55,7 @@ key_means m k LabelOrKeyword h i = record { means = at (span_at k) (label (span_
 key_means m k Char h i = record { means = at (span_at k) (one (token.char (text_at k))); is = ap (λ z. Some (at (span_at k) (one (token.char z)))) (text_there m k Char h); key = refl }
 key_means m k String h i = record { means = at (span_at k) (one (token.string (text_at k))); is = ap (λ z. Some (at (span_at k) (one (token.string z)))) (text_there m k String h); key = refl }
 key_means m k MultilineString h i = record { means = at (span_at k) (one (token.multiline (text_at k))); is = ap (λ z. Some (at (span_at k) (one (token.multiline z)))) (text_there m k MultilineString h); key = refl }
-key_means m k BraceOpen h i = absurd i
-key_means m k BraceClose h i = absurd i
-key_means m k ParenOpen h i = absurd i
-key_means m k ParenClose h i = absurd i
-key_means m k BracketOpen h i = absurd i
-key_means m k BracketClose h i = absurd i
-key_means m k Colon h i = absurd i
-key_means m k Comma h i = absurd i
+key_means m k _ h i = absurd i
 
 -- ---- entries
 

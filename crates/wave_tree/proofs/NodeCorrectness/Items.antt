@@ -3,7 +3,7 @@ use Rattle.std.proofs.Common.{◌≡◌, ◌≢◌, ℕ, ◌<◌, ◌+◌, ◌-�
 use Rattle.std.specs.Prelude.{◌⊎◌, IfOk, codes, if◌then◌else◌}
 use Rattle.wave_wasm.specs.Names.{is_one_of}
 use Rattle.wave_lex.specs.declared.lex.Token as lex
-use Rattle.wave_lex.specs.declared.lex.Token.TheVariants.{BraceOpen, BraceClose, ParenOpen, ParenClose, BracketOpen, BracketClose, Colon, Comma, Number, LabelOrKeyword, Char, String, MultilineString}
+use Rattle.wave_lex.specs.declared.lex.Token.TheVariants.{BraceOpen, BraceClose, ParenOpen, ParenClose, BracketOpen, BracketClose, Colon, Comma, LabelOrKeyword}
 use Rattle.wave_grammar.specs.Token as token
 use Rattle.wave_grammar.specs.ParserPosition.{Place, TakesItem, text_at, span_at}
 use Rattle.wave_grammar.specs.Tree.{word_of, leaf_word, none_word, some_word, ok_word, err_word, case_word}
@@ -17,24 +17,17 @@ use Rattle.wave_grammar.specs.Private.TokenRoles.{IsClose}
 use Rattle.wave_lex.specs.Tokenization.{span}
 use Rattle.wave_tree.proofs.NodeCorrectness.Braces.{entries_parsed, empty_parsed, no_fields_parsed}
 use Rattle.wave_tree.proofs.NodeCorrectness.Flags.{flags_parsed}
-use Rattle.wave_tree.proofs.NodeCorrectness.Tokens.{number_parsed, char_parsed, string_parsed, multiline_parsed, word_parsed, none_parsed, some_parsed, ok_parsed, err_parsed, case_parsed}
+use Rattle.wave_tree.proofs.NodeCorrectness.Tokens.{word_parsed, none_parsed, some_parsed, ok_parsed, err_parsed, case_parsed}
 use Rattle.wave_tree.proofs.NodeCorrectness.Lists.{tuple_parsed, list_parsed}
 
 -- a token whose class is known
 pub class_as : (p q : Place) (c : lex.Token) (k : lex.Token) → TakesItem p (Some (Ok c)) q → c ≡ k → TakesItem p (Some (Ok k)) q
 class_as p q c k h e = subst (λ z. TakesItem p (Some (Ok z)) q) e h
 
-pub number_tied : (n : ℕ) (p q : Place) (c : lex.Token) (parsed : NodeTree) → 0 < n → TakesItem p (Some (Ok c)) q → c ≡ Number → parsed ≡ node kind.Number (span_at q) no_nodes → IsParsed n p q parsed
-number_tied n p q c parsed l h e is = subst (IsParsed n p q) (sym is) (number_parsed n p q l (class_as _ _ _ Number h e))
-
-pub char_tied : (n : ℕ) (p q : Place) (c : lex.Token) (parsed : NodeTree) → 0 < n → TakesItem p (Some (Ok c)) q → c ≡ Char → parsed ≡ node kind.Char (span_at q) no_nodes → IsParsed n p q parsed
-char_tied n p q c parsed l h e is = subst (IsParsed n p q) (sym is) (char_parsed n p q l (class_as _ _ _ Char h e))
-
-pub string_tied : (n : ℕ) (p q : Place) (c : lex.Token) (parsed : NodeTree) → 0 < n → TakesItem p (Some (Ok c)) q → c ≡ String → parsed ≡ node kind.String (span_at q) no_nodes → IsParsed n p q parsed
-string_tied n p q c parsed l h e is = subst (IsParsed n p q) (sym is) (string_parsed n p q l (class_as _ _ _ String h e))
-
-pub multiline_tied : (n : ℕ) (p q : Place) (c : lex.Token) (parsed : NodeTree) → 0 < n → TakesItem p (Some (Ok c)) q → c ≡ MultilineString → parsed ≡ node kind.MultilineString (span_at q) no_nodes → IsParsed n p q parsed
-multiline_tied n p q c parsed l h e is = subst (IsParsed n p q) (sym is) (multiline_parsed n p q l (class_as _ _ _ MultilineString h e))
+-- a node of one token, by what is known of its class
+pub one_tied : (ty : NodeType) (k : lex.Token) → ((n : ℕ) (p m : Place) → 0 < n → TakesItem p (Some (Ok k)) m → IsParsed n p m (node ty (span_at m) no_nodes)) →
+    (n : ℕ) (p q : Place) (c : lex.Token) (parsed : NodeTree) → 0 < n → TakesItem p (Some (Ok c)) q → c ≡ k → parsed ≡ node ty (span_at q) no_nodes → IsParsed n p q parsed
+one_tied ty k one_parsed n p q c parsed l h e is = subst (IsParsed n p q) (sym is) (one_parsed n p q l (class_as _ _ _ k h e))
 
 -- as many levels as there were
 same_level : (n : ℕ) (p q : Place) (parsed : NodeTree) → 0 < n → IsParsed (n - 1 + 1) p q parsed → IsParsed n p q parsed

@@ -288,21 +288,34 @@ in_parentheses n m w q ty start front parsed open_there h =
       inside = λ rest. (inner.token ∷ (inner.others ++ paren_close ∷ rest), ap (λ z. paren_open ∷ inner.token ∷ z) (append_assoc inner.others (paren_close ∷ []) rest), inner.takes (paren_close ∷ rest) (λ more e. cc));
     }
 
+-- a label and its payload, where its shape is that of `whole`
+payload_parsed : (n : ℕ) (p m w q : Place) (ty : NodeType) (word : tree.Word) (whole : Placed → Shape) (parsed : NodeTree) →
+    ((place : Range ℕ) (text : List ℕ) (t : Placed) → shape_from ty place text (t ∷ []) ≡ Some (whole t)) →
+    ((source : List ℕ) (place : Range ℕ) (t : Placed) → LiesIn (span_of t) (place.start + 1) place.end × SpellsEach source t → SpellsParts source place (whole t)) →
+    ((t : Placed) → part_places (whole t) ≡ span_of t ∷ []) →
+    ((text : List ℕ) (tokens : List Token) (t : Placed) (rest : List Token) → InParens (tree.Takes n) tokens (tree_of t) rest → BehindWord word text (tree.Takes n) tokens (tree_of_shape (whole t)) rest) →
+    TakesItem p (Some (Ok LabelOrKeyword)) m → word_of (text_at m) ≡ word → TakesItem m (Some (Ok ParenOpen)) w → IsPayload n ty m.lexer.start [] w q parsed → IsParsed (n + 1) p q parsed
+payload_parsed n p m w q ty word whole parsed shape spells places behind h word_is open_there k =
+    let inner = in_parentheses n m w q ty m.lexer.start [] parsed open_there k in
+    let it = taken_is p m LabelOrKeyword h in
+    let lies = inner.lies in
+    let place = span m.lexer.start q.lexer.end in
+    let text = slice p.lexer.source place in
+    made (n + 1) p m q (token.label (text_at m)) inner.others parsed (whole inner.means) (token_there p m LabelOrKeyword h) inner.taken
+    (λ sound. subst (λ z. placed_of p.lexer.source z ≡ Some (at place (whole inner.means))) (sym k.is)
+    (ap (λ o. option_map (at place) (and_then (with_both (λ t ts. t ∷ ts) o (Some [])) (shape_from ty place text)))
+    (subst (λ z. placed_of z k.payload ≡ Some inner.means) it.source (inner.means_it (sound_next p m LabelOrKeyword h sound)))
+    ∙ ap (option_map (at place)) (shape place text inner.means)))
+    (λ sound. spells p.lexer.source place inner.means
+    ((omega (arith, lies.0, not_empty p m LabelOrKeyword h), lies.1), subst (λ z. SpellsEach z inner.means) it.source (inner.spells (sound_next p m LabelOrKeyword h sound))))
+    (subst (AllOf (StandsAtTokens p.lexer.source place)) (sym (places inner.means))
+    (inner.there (start_of p m) (token.label (text_at m)) (at_start p m (token.label (text_at m)) (token_there p m LabelOrKeyword h)), tt))
+    (λ rest none_there. word_takes n word (text_at m) (inner.others ++ rest) (tree_of_shape (whole inner.means)) rest word_is (behind (text_at m) (inner.others ++ rest) inner.means rest (inner.inside rest)))
+
 -- `some` and its payload
 pub some_parsed : (n : ℕ) (p m w q : Place) (parsed : NodeTree) → TakesItem p (Some (Ok LabelOrKeyword)) m → word_of (text_at m) ≡ some_word → TakesItem m (Some (Ok ParenOpen)) w →
     IsPayload n kind.OptionSome m.lexer.start [] w q parsed → IsParsed (n + 1) p q parsed
-some_parsed n p m w q parsed h word_is open_there k =
-    let inner = in_parentheses n m w q kind.OptionSome m.lexer.start [] parsed open_there k in
-    let it = taken_is p m LabelOrKeyword h in
-    let a = it.end in
-    let lies = inner.lies in
-    made (n + 1) p m q (token.label (text_at m)) inner.others parsed (some inner.means) (token_there p m LabelOrKeyword h) inner.taken
-    (λ sound. subst (λ z. placed_of p.lexer.source z ≡ Some (at (span m.lexer.start q.lexer.end) (some inner.means))) (sym k.is)
-    (ap (λ o. option_map (at (span m.lexer.start q.lexer.end)) (and_then (with_both (λ t ts. t ∷ ts) o (Some [])) (shape_from kind.OptionSome (span m.lexer.start q.lexer.end) (slice p.lexer.source (span m.lexer.start q.lexer.end)))))
-    (subst (λ z. placed_of z k.payload ≡ Some inner.means) it.source (inner.means_it (sound_next p m LabelOrKeyword h sound)))))
-    (λ sound. ((omega (arith, lies.0, not_empty p m LabelOrKeyword h), lies.1), subst (λ z. SpellsEach z inner.means) it.source (inner.spells (sound_next p m LabelOrKeyword h sound))))
-    (inner.there (start_of p m) (token.label (text_at m)) (at_start p m (token.label (text_at m)) (token_there p m LabelOrKeyword h)), tt)
-    (λ rest none_there. word_takes n some_word (text_at m) (inner.others ++ rest) (tree.some (tree_of inner.means)) rest word_is (tree_of inner.means, inner.inside rest, refl))
+some_parsed n p m w q parsed = payload_parsed n p m w q kind.OptionSome some_word some parsed (λ place text t. refl) (λ source place t s. s) (λ t. refl) (λ text tokens t rest inside. (tree_of t, inside, refl))
 
 -- ---- labels with a payload, or without
 
@@ -316,17 +329,8 @@ ok_parsed n p m q parsed h word_is (inl (same, is)) = same_place (n + 1) p m q k
     (one_token (n + 1) p m LabelOrKeyword kind.ResultOk (ok no_placed) h refl (λ sound. tt) tt
     (λ rest k. word_takes n ok_word (text_at m) rest (tree.ok tree.no_tree) rest word_is (tree.no_tree, inl (refl, k, refl), refl)))
 ok_parsed n p m q parsed h word_is (inr (w, open_there, k)) =
-    let inner = in_parentheses n m w q kind.ResultOk m.lexer.start [] parsed open_there k in
-    let it = taken_is p m LabelOrKeyword h in
-    let lies = inner.lies in
-    made (n + 1) p m q (token.label (text_at m)) inner.others parsed (ok (a_placed inner.means)) (token_there p m LabelOrKeyword h) inner.taken
-    (λ sound. subst (λ z. placed_of p.lexer.source z ≡ Some (at (span m.lexer.start q.lexer.end) (ok (a_placed inner.means)))) (sym k.is)
-    (ap (λ o. option_map (at (span m.lexer.start q.lexer.end)) (and_then (with_both (λ t ts. t ∷ ts) o (Some [])) (shape_from kind.ResultOk (span m.lexer.start q.lexer.end) (slice p.lexer.source (span m.lexer.start q.lexer.end)))))
-    (subst (λ z. placed_of z k.payload ≡ Some inner.means) it.source (inner.means_it (sound_next p m LabelOrKeyword h sound)))))
-    (λ sound. ((omega (arith, lies.0, not_empty p m LabelOrKeyword h), lies.1), subst (λ z. SpellsEach z inner.means) it.source (inner.spells (sound_next p m LabelOrKeyword h sound))))
-    (inner.there (start_of p m) (token.label (text_at m)) (at_start p m (token.label (text_at m)) (token_there p m LabelOrKeyword h)), tt)
-    (λ rest none_there. word_takes n ok_word (text_at m) (inner.others ++ rest) (tree.ok (tree.a_tree (tree_of inner.means))) rest word_is
-    (tree.a_tree (tree_of inner.means), inr (tree_of inner.means, inner.inside rest, refl), refl))
+    payload_parsed n p m w q kind.ResultOk ok_word (λ t. ok (a_placed t)) parsed (λ place text t. refl) (λ source place t s. s) (λ t. refl)
+    (λ text tokens t rest inside. (tree.a_tree (tree_of t), inr (tree_of t, inside, refl), refl)) h word_is open_there k
 
 -- `err`, and its payload if it has one
 pub err_parsed : (n : ℕ) (p m q : Place) (parsed : NodeTree) → TakesItem p (Some (Ok LabelOrKeyword)) m → word_of (text_at m) ≡ err_word → IsMaybe n kind.ResultErr kind.ResultErr m q parsed → IsParsed (n + 1) p q parsed
@@ -334,17 +338,8 @@ err_parsed n p m q parsed h word_is (inl (same, is)) = same_place (n + 1) p m q 
     (one_token (n + 1) p m LabelOrKeyword kind.ResultErr (err no_placed) h refl (λ sound. tt) tt
     (λ rest k. word_takes n err_word (text_at m) rest (tree.err tree.no_tree) rest word_is (tree.no_tree, inl (refl, k, refl), refl)))
 err_parsed n p m q parsed h word_is (inr (w, open_there, k)) =
-    let inner = in_parentheses n m w q kind.ResultErr m.lexer.start [] parsed open_there k in
-    let it = taken_is p m LabelOrKeyword h in
-    let lies = inner.lies in
-    made (n + 1) p m q (token.label (text_at m)) inner.others parsed (err (a_placed inner.means)) (token_there p m LabelOrKeyword h) inner.taken
-    (λ sound. subst (λ z. placed_of p.lexer.source z ≡ Some (at (span m.lexer.start q.lexer.end) (err (a_placed inner.means)))) (sym k.is)
-    (ap (λ o. option_map (at (span m.lexer.start q.lexer.end)) (and_then (with_both (λ t ts. t ∷ ts) o (Some [])) (shape_from kind.ResultErr (span m.lexer.start q.lexer.end) (slice p.lexer.source (span m.lexer.start q.lexer.end)))))
-    (subst (λ z. placed_of z k.payload ≡ Some inner.means) it.source (inner.means_it (sound_next p m LabelOrKeyword h sound)))))
-    (λ sound. ((omega (arith, lies.0, not_empty p m LabelOrKeyword h), lies.1), subst (λ z. SpellsEach z inner.means) it.source (inner.spells (sound_next p m LabelOrKeyword h sound))))
-    (inner.there (start_of p m) (token.label (text_at m)) (at_start p m (token.label (text_at m)) (token_there p m LabelOrKeyword h)), tt)
-    (λ rest none_there. word_takes n err_word (text_at m) (inner.others ++ rest) (tree.err (tree.a_tree (tree_of inner.means))) rest word_is
-    (tree.a_tree (tree_of inner.means), inr (tree_of inner.means, inner.inside rest, refl), refl))
+    payload_parsed n p m w q kind.ResultErr err_word (λ t. err (a_placed t)) parsed (λ place text t. refl) (λ source place t s. s) (λ t. refl)
+    (λ text tokens t rest inside. (tree.a_tree (tree_of t), inr (tree_of t, inside, refl), refl)) h word_is open_there k
 
 -- the text of a token in the source before it
 pub text_there : (p m : Place) (c : lex.Token) → TakesItem p (Some (Ok c)) m → slice p.lexer.source (span_at m) ≡ text_at m

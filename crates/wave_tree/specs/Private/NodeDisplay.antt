@@ -2,7 +2,6 @@
 use Rattle.std.specs.Prelude.{ℕ, List, [], ◌∷◌, codes}
 use Rattle.wave_wasm.specs.Commas.{behind_name, joined, in_parens, in_braces}
 use Rattle.wave_grammar.specs.LeafTokens.{name_of}
-use Rattle.wave_grammar.specs.Tree.{shown}
 use Rattle.wave_node.specs.NodeTree.{NodeTree}
 use Rattle.wave_node.specs.Nodes.{IsParsedFrom}
 use Rattle.wave_node.specs.NodeAccessors.{node_text}

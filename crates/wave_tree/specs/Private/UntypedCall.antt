@@ -1,5 +1,5 @@
 -- What untyped calls are in a contract, and what reading one from a text answers.
-use Rattle.std.specs.Prelude.{ℕ, ◌+◌, ◌≡◌, ◌≢◌, ◌⊎◌, ◌++◌, List, [], ◌∷◌, Option}
+use Rattle.std.specs.Prelude.{ℕ, List, Option}
 use Rattle.std.specs.declared.ops.Range.{Range}
 use Rattle.wave_lex.specs.Tokenization.{Stands}
 use Rattle.wave_node.specs.NodeTree.{NodeTree}

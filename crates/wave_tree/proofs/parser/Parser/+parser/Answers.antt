@@ -1,6 +1,6 @@
 use Rattle.std.specs.Prelude.{codes}
 use Rattle.wave_wasm.specs.Names.{is_one_of}
-use Rattle.std.proofs.Common.{◌≡◌, ℕ, ◌+◌, Some, Ok, List, [], ◌∷◌, refl, sym, ap, subst, ◌∙◌, inl, inr, arith}
+use Rattle.std.proofs.Common.{◌≡◌, ℕ, ◌+◌, Some, Ok, List, [], ◌∷◌, refl, sym, ap, subst, ◌∙◌, inl, inr, arith, length}
 use Rattle.wave_lex.specs.declared.lex.Token as lex
 use Rattle.wave_lex.specs.declared.lex.Token.TheVariants.{BraceOpen, BraceClose, ParenOpen, ParenClose, BracketOpen, Colon, Comma, Number, LabelOrKeyword, Char, String, MultilineString}
 use Rattle.wave_grammar.specs.ParserPosition.{Place, TakesItem, span_at, text_at, token_of}
@@ -12,17 +12,35 @@ use Rattle.std.specs.declared.ops.Range.{Range}
 use Rattle.wave_grammar.specs.Private.TokenRoles.{form_of, IsClose}
 use Rattle.wave_tree.specs.Private.ParserState.{spec_word}
 use Rattle.wave_tree.proofs.ParserSteps.{here, here_is, handed, gives_then, fails, any_token, shallow, value_read, no_value, level_open, read_there, unexpected_there, no_paren, then_token, token_there, behind_bare, reached, fails_behind, then_behind, payload_other, unexpected_behind, expected, untrue, moved, then_class, then_behind_class, range_path, close_first, close_empty, close_next, then_same, then_refuses, item_refuses, item_read, then_reached, Reached, IsItemDue, no_close, empty_there, key_reads, no_key, brace_key, entries_other, close_behind, comma_behind, other_behind, token_less, tokens_less, left_at, no_colon, no_brace}
+use Rattle.wave_tree.specs.ParserState.{Parsing, Asks}
 use Rattle.wave_tree.specs.Private.ParserState.{HasText}
 use Rattle.wave_tree.specs.Private.ParsedNodes.{AreItems, items_type}
 use Rattle.wave_tree.specs.ParsedNodes.{TakesClass}
 use Rattle.wave_node.specs.NodeTree.{node, no_nodes, node_trees}
 use Rattle.wave_node.specs.declared.ast.NodeType.TheVariants as kind_of_node
 use Rattle.wave_lex.specs.Tokenization.{span}
-use Rattle.wave_tree.proofs.NodeCorrectness.Items.{class_as, number_tied, char_tied, string_tied, multiline_tied, label_tied, items_tied, braces_tied, leaf_tied, number_word_tied, none_tied, some_tied, ok_tied, err_tied, case_tied, pushed, some_there, type_of_items, items_made, items_none, items_first, items_next, pairs_next, pairs_close, empty_tied, no_fields_tied, entries_tied, flags_tied, payload_tied}
+use Rattle.wave_tree.proofs.NodeCorrectness.Items.{class_as, one_tied, label_tied, items_tied, braces_tied, leaf_tied, number_word_tied, none_tied, some_tied, ok_tied, err_tied, case_tied, pushed, some_there, type_of_items, items_made, items_none, items_first, items_next, pairs_next, pairs_close, empty_tied, no_fields_tied, entries_tied, flags_tied, payload_tied}
+use Rattle.wave_tree.proofs.NodeCorrectness.Tokens.{number_parsed, char_parsed, string_parsed, multiline_parsed}
 use Rattle.wave_tree.proofs.ClassTests.{is_class, is_other, differs, differs_not}
 use Rattle.wave_tree.proofs.LexerCallCount.{asks_once, asks_token, asks_looked, asks_read, asks_reached}
 use Rattle.wave_tree.proofs.parser.Parser.+parser.Goals as goal
 use Rattle.wave_tree.proofs.parser.Parser.+parser.Goals.{parse_items-then-eq-2, parse_items-else-eq-2}
+
+-- behind a value that was read
+asks_value : (levels : ℕ) (p q r : Parsing) → ((n : ℕ) (s : List Form) → n ≡ levels + length s → LeadsBehindValue n due.value s p.place q.place s) → Asks p q → Asks q r → Asks p r
+asks_value levels p q r read first more = asks_read levels due.value [] [] p q r (read levels [] (omega arith)) first more
+
+-- behind the items so far
+asks_items : (levels : ℕ) (close : lex.Token) (old at new : Parsing) →
+    ((n : ℕ) (s : List Form) → n ≡ levels + 1 + length s → (d : Due) × IsItemDue d × Reached n due.first_item (form_of close ∷ s) old.place d (form_of close ∷ s) at.place) → Asks old at → Asks at new → Asks old new
+asks_items levels close old at new led first more =
+    let (d, i, r) = led (levels + 1) [] (omega arith) in
+    asks_reached (levels + 1) due.first_item d (form_of close ∷ []) (form_of close ∷ []) old at new r first more
+
+-- behind the entries so far
+asks_entries : (levels : ℕ) (old at new : Parsing) → ((n : ℕ) (s : List Form) → n ≡ levels + 1 + length s → Reached n due.value (due.entries ∷ s) old.place due.value (due.entries ∷ s) at.place) →
+    Asks old at → Asks at new → Asks old new
+asks_entries levels old at new led first more = asks_reached (levels + 1) due.value due.value (due.entries ∷ []) (due.entries ∷ []) old at new (led (levels + 1) [] (omega arith)) first more
 
 pub parse_node-returns-in_err-token-clause-led : goal.parse_node-returns-in_err-token-clause-led
 parse_node-returns-in_err-token-clause-led t c = λ n s e. handed s _ _ c.from_residual.ensures.1
@@ -176,8 +194,7 @@ parse_items-items-smaller t c =
 pub parse_items-items-preserved : goal.parse_items-items-preserved
 parse_items-items-preserved t c = record {
   asks =
-      let (d, i, r) = c.items.invariant.reached (c.args.levels + 1) [] (omega arith) in
-      asks_reached (c.args.levels + 1) due.first_item d (form_of c.args.close ∷ []) (form_of c.args.close ∷ []) c.args.self.now c.items.self c.next_is-in-items.new.self r c.items.invariant.asks (asks_read c.args.levels due.value [] [] c.items.self c.parse_node.new.self c.next_is-in-items.new.self (c.in_ok-item.ensures.led c.args.levels [] (omega arith)) c.parse_node.ensures.asks (asks_token c.parse_node.new.self c.advance.new.self c.next_is-in-items.new.self c.in_ok-token.token c.in_ok-token.ensures.takes c.advance.ensures.asks (asks_once c.advance.new.self c.next_is-in-items.new.self c.next_is-in-items.ensures.asks)));
+      asks_items c.args.levels c.args.close c.args.self.now c.items.self c.next_is-in-items.new.self c.items.invariant.reached c.items.invariant.asks (asks_value c.args.levels c.items.self c.parse_node.new.self c.next_is-in-items.new.self c.in_ok-item.ensures.led c.parse_node.ensures.asks (asks_token c.parse_node.new.self c.advance.new.self c.next_is-in-items.new.self c.in_ok-token.token c.in_ok-token.ensures.takes c.advance.ensures.asks (asks_once c.advance.new.self c.next_is-in-items.new.self c.next_is-in-items.ensures.asks)));
   no_close = subst (λ z. (next : Place) × TakesItem z (Some (Ok c.args.close)) next → ⊥) (sym c.next_is-in-items.ensures.stays) (λ next. untrue _ c.if-next_is-2.false (c.next_is-in-items.ensures.answer.1 next));
   reached = λ n s e.
       let (d, i, r) = c.items.invariant.reached n s e in
@@ -297,7 +314,7 @@ parse_entries-entries-smaller t c =
 
 pub parse_entries-entries-preserved : goal.parse_entries-entries-preserved
 parse_entries-entries-preserved t c = record {
-  asks = asks_reached (c.args.levels + 1) due.value due.value (due.entries ∷ []) (due.entries ∷ []) c.args.self.now c.entries.self c.expect.new.self (c.entries.invariant.led (c.args.levels + 1) [] (omega arith)) c.entries.invariant.asks (asks_read c.args.levels due.value [] [] c.entries.self c.parse_node.new.self c.expect.new.self (c.in_ok-value.ensures.led c.args.levels [] (omega arith)) c.parse_node.ensures.asks (asks_token c.parse_node.new.self c.advance.new.self c.expect.new.self c.in_ok-token.token c.in_ok-token.ensures.takes c.advance.ensures.asks (asks_token c.advance.new.self c.advance-in-entries.new.self c.expect.new.self c.in_ok-next.next c.in_ok-next.ensures.takes c.advance-in-entries.ensures.asks (asks_once c.advance-in-entries.new.self c.expect.new.self c.expect.ensures.asks))));
+  asks = asks_entries c.args.levels c.args.self.now c.entries.self c.expect.new.self c.entries.invariant.led c.entries.invariant.asks (asks_value c.args.levels c.entries.self c.parse_node.new.self c.expect.new.self c.in_ok-value.ensures.led c.parse_node.ensures.asks (asks_token c.parse_node.new.self c.advance.new.self c.expect.new.self c.in_ok-token.token c.in_ok-token.ensures.takes c.advance.ensures.asks (asks_token c.advance.new.self c.advance-in-entries.new.self c.expect.new.self c.in_ok-next.next c.in_ok-next.ensures.takes c.advance-in-entries.ensures.asks (asks_once c.advance-in-entries.new.self c.expect.new.self c.expect.ensures.asks))));
   tree = pairs_next _ _ _ _ _ _ _ c.entries.children.items c.push-in-entries.new.self.items _ c.args.key c.in_ok-value.value c.leaf-key.result c.entries.invariant.tree c.in_ok-value.ensures.tree (class_as _ _ _ Comma c.in_ok-token.ensures.takes (differs_not _ _ c.ne.ensures c.if-ne.false))
       (c.in_ok-next.next, c.in_ok-next.ensures.takes, c.in-Some.ensures.0, c.leaf-key.ensures ∙ ap (λ z. node z (span_at c.advance-in-entries.new.self.place) no_nodes) c.in-Some.ensures.1) c.in_ok-expect.ensures.takes
       (pushed _ _ _ _ c.push-in-entries.ensures.items c.if-is_err-2.ensures.negation) (pushed _ _ _ _ c.push-in-entries-2.ensures.items c.if-is_err-3.ensures.negation);
@@ -308,16 +325,16 @@ parse_entries-entries-preserved t c = record {
 }
 
 pub parse_node-returns-in-Number-clause-tree : goal.parse_node-returns-in-Number-clause-tree
-parse_node-returns-in-Number-clause-tree t c = number_tied _ _ _ _ c.leaf.result (omega arith) c.in_ok-token.ensures.takes c.in-Number.is c.leaf.ensures
+parse_node-returns-in-Number-clause-tree t c = one_tied kind_of_node.Number Number number_parsed _ _ _ _ c.leaf.result (omega arith) c.in_ok-token.ensures.takes c.in-Number.is c.leaf.ensures
 
 pub parse_node-returns-in-Char-clause-tree : goal.parse_node-returns-in-Char-clause-tree
-parse_node-returns-in-Char-clause-tree t c = char_tied _ _ _ _ c.leaf-in-Char.result (omega arith) c.in_ok-token.ensures.takes c.in-Char.is c.leaf-in-Char.ensures
+parse_node-returns-in-Char-clause-tree t c = one_tied kind_of_node.Char Char char_parsed _ _ _ _ c.leaf-in-Char.result (omega arith) c.in_ok-token.ensures.takes c.in-Char.is c.leaf-in-Char.ensures
 
 pub parse_node-returns-in-String-clause-tree : goal.parse_node-returns-in-String-clause-tree
-parse_node-returns-in-String-clause-tree t c = string_tied _ _ _ _ c.leaf-in-String.result (omega arith) c.in_ok-token.ensures.takes c.in-String.is c.leaf-in-String.ensures
+parse_node-returns-in-String-clause-tree t c = one_tied kind_of_node.String String string_parsed _ _ _ _ c.leaf-in-String.result (omega arith) c.in_ok-token.ensures.takes c.in-String.is c.leaf-in-String.ensures
 
 pub parse_node-returns-in-MultilineString-clause-tree : goal.parse_node-returns-in-MultilineString-clause-tree
-parse_node-returns-in-MultilineString-clause-tree t c = multiline_tied _ _ _ _ c.leaf-in-MultilineString.result (omega arith) c.in_ok-token.ensures.takes c.in-MultilineString.is c.leaf-in-MultilineString.ensures
+parse_node-returns-in-MultilineString-clause-tree t c = one_tied kind_of_node.MultilineString MultilineString multiline_parsed _ _ _ _ c.leaf-in-MultilineString.result (omega arith) c.in_ok-token.ensures.takes c.in-MultilineString.is c.leaf-in-MultilineString.ensures
 
 pub parse_node-returns-in-LabelOrKeyword-clause-tree : goal.parse_node-returns-in-LabelOrKeyword-clause-tree
 parse_node-returns-in-LabelOrKeyword-clause-tree t c = label_tied _ _ _ _ _ c.parse_label.result (omega arith) c.in_ok-token.ensures.takes c.in-LabelOrKeyword.is c.parse_label.ensures.tree
@@ -458,50 +475,43 @@ parse_maybe-returns-clause-asks t c =
 
 pub parse_payload-returns-in_err-expect-clause-asks : goal.parse_payload-returns-in_err-expect-clause-asks
 parse_payload-returns-in_err-expect-clause-asks t c =
-    asks_read c.args.levels due.value [] [] c.args.self.now c.parse_node.new.self c.expect.new.self (c.in_ok-payload.ensures.led c.args.levels [] (omega arith)) c.parse_node.ensures.asks (asks_once c.parse_node.new.self c.expect.new.self c.expect.ensures.asks)
+    asks_value c.args.levels c.args.self.now c.parse_node.new.self c.expect.new.self c.in_ok-payload.ensures.led c.parse_node.ensures.asks (asks_once c.parse_node.new.self c.expect.new.self c.expect.ensures.asks)
 
 pub parse_payload-returns-in-Ok-clause-asks : goal.parse_payload-returns-in-Ok-clause-asks
 parse_payload-returns-in-Ok-clause-asks t c =
-    asks_read c.args.levels due.value [] [] c.args.self.now c.parse_node.new.self c.expect.new.self (c.in_ok-payload.ensures.led c.args.levels [] (omega arith)) c.parse_node.ensures.asks (asks_once c.parse_node.new.self c.expect.new.self c.expect.ensures.asks)
+    asks_value c.args.levels c.args.self.now c.parse_node.new.self c.expect.new.self c.in_ok-payload.ensures.led c.parse_node.ensures.asks (asks_once c.parse_node.new.self c.expect.new.self c.expect.ensures.asks)
 
 pub parse_payload-returns-in-Err-clause-asks : goal.parse_payload-returns-in-Err-clause-asks
 parse_payload-returns-in-Err-clause-asks t c =
-    asks_read c.args.levels due.value [] [] c.args.self.now c.parse_node.new.self c.expect.new.self (c.in_ok-payload.ensures.led c.args.levels [] (omega arith)) c.parse_node.ensures.asks (asks_once c.parse_node.new.self c.expect.new.self c.expect.ensures.asks)
+    asks_value c.args.levels c.args.self.now c.parse_node.new.self c.expect.new.self c.in_ok-payload.ensures.led c.parse_node.ensures.asks (asks_once c.parse_node.new.self c.expect.new.self c.expect.ensures.asks)
 
 pub parse_items-returns-in_err-item-clause-asks : goal.parse_items-returns-in_err-item-clause-asks
 parse_items-returns-in_err-item-clause-asks t c =
-    let (d, i, r) = c.items.invariant.reached (c.args.levels + 1) [] (omega arith) in
-    asks_reached (c.args.levels + 1) due.first_item d (form_of c.args.close ∷ []) (form_of c.args.close ∷ []) c.args.self.now c.items.self c.parse_node.new.self r c.items.invariant.asks (c.parse_node.ensures.asks)
+    asks_items c.args.levels c.args.close c.args.self.now c.items.self c.parse_node.new.self c.items.invariant.reached c.items.invariant.asks c.parse_node.ensures.asks
 
 pub parse_items-returns-then-is_err-clause-asks : goal.parse_items-returns-then-is_err-clause-asks
 parse_items-returns-then-is_err-clause-asks t c =
-    let (d, i, r) = c.items.invariant.reached (c.args.levels + 1) [] (omega arith) in
-    asks_reached (c.args.levels + 1) due.first_item d (form_of c.args.close ∷ []) (form_of c.args.close ∷ []) c.args.self.now c.items.self c.parse_node.new.self r c.items.invariant.asks (c.parse_node.ensures.asks)
+    asks_items c.args.levels c.args.close c.args.self.now c.items.self c.parse_node.new.self c.items.invariant.reached c.items.invariant.asks c.parse_node.ensures.asks
 
 pub parse_items-returns-in_err-token-clause-asks : goal.parse_items-returns-in_err-token-clause-asks
 parse_items-returns-in_err-token-clause-asks t c =
-    let (d, i, r) = c.items.invariant.reached (c.args.levels + 1) [] (omega arith) in
-    asks_reached (c.args.levels + 1) due.first_item d (form_of c.args.close ∷ []) (form_of c.args.close ∷ []) c.args.self.now c.items.self c.advance.new.self r c.items.invariant.asks (asks_read c.args.levels due.value [] [] c.items.self c.parse_node.new.self c.advance.new.self (c.in_ok-item.ensures.led c.args.levels [] (omega arith)) c.parse_node.ensures.asks (asks_once c.parse_node.new.self c.advance.new.self c.advance.ensures.asks))
+    asks_items c.args.levels c.args.close c.args.self.now c.items.self c.advance.new.self c.items.invariant.reached c.items.invariant.asks (asks_value c.args.levels c.items.self c.parse_node.new.self c.advance.new.self c.in_ok-item.ensures.led c.parse_node.ensures.asks (asks_once c.parse_node.new.self c.advance.new.self c.advance.ensures.asks))
 
 pub parse_items-returns-then-eq-3-clause-asks : goal.parse_items-returns-then-eq-3-clause-asks
 parse_items-returns-then-eq-3-clause-asks t c =
-    let (d, i, r) = c.items.invariant.reached (c.args.levels + 1) [] (omega arith) in
-    asks_reached (c.args.levels + 1) due.first_item d (form_of c.args.close ∷ []) (form_of c.args.close ∷ []) c.args.self.now c.items.self c.advance.new.self r c.items.invariant.asks (asks_read c.args.levels due.value [] [] c.items.self c.parse_node.new.self c.advance.new.self (c.in_ok-item.ensures.led c.args.levels [] (omega arith)) c.parse_node.ensures.asks (asks_once c.parse_node.new.self c.advance.new.self c.advance.ensures.asks))
+    asks_items c.args.levels c.args.close c.args.self.now c.items.self c.advance.new.self c.items.invariant.reached c.items.invariant.asks (asks_value c.args.levels c.items.self c.parse_node.new.self c.advance.new.self c.in_ok-item.ensures.led c.parse_node.ensures.asks (asks_once c.parse_node.new.self c.advance.new.self c.advance.ensures.asks))
 
 pub parse_items-returns-then-ne-clause-asks : goal.parse_items-returns-then-ne-clause-asks
 parse_items-returns-then-ne-clause-asks t c =
-    let (d, i, r) = c.items.invariant.reached (c.args.levels + 1) [] (omega arith) in
-    asks_reached (c.args.levels + 1) due.first_item d (form_of c.args.close ∷ []) (form_of c.args.close ∷ []) c.args.self.now c.items.self c.advance.new.self r c.items.invariant.asks (asks_read c.args.levels due.value [] [] c.items.self c.parse_node.new.self c.advance.new.self (c.in_ok-item.ensures.led c.args.levels [] (omega arith)) c.parse_node.ensures.asks (asks_once c.parse_node.new.self c.advance.new.self c.advance.ensures.asks))
+    asks_items c.args.levels c.args.close c.args.self.now c.items.self c.advance.new.self c.items.invariant.reached c.items.invariant.asks (asks_value c.args.levels c.items.self c.parse_node.new.self c.advance.new.self c.in_ok-item.ensures.led c.parse_node.ensures.asks (asks_once c.parse_node.new.self c.advance.new.self c.advance.ensures.asks))
 
 pub parse_items-returns-in_err-expect-2-clause-asks : goal.parse_items-returns-in_err-expect-2-clause-asks
 parse_items-returns-in_err-expect-2-clause-asks t c =
-    let (d, i, r) = c.items.invariant.reached (c.args.levels + 1) [] (omega arith) in
-    asks_reached (c.args.levels + 1) due.first_item d (form_of c.args.close ∷ []) (form_of c.args.close ∷ []) c.args.self.now c.items.self c.expect-then-next_is-2.new.self r c.items.invariant.asks (asks_read c.args.levels due.value [] [] c.items.self c.parse_node.new.self c.expect-then-next_is-2.new.self (c.in_ok-item.ensures.led c.args.levels [] (omega arith)) c.parse_node.ensures.asks (asks_token c.parse_node.new.self c.advance.new.self c.expect-then-next_is-2.new.self c.in_ok-token.token c.in_ok-token.ensures.takes c.advance.ensures.asks (asks_looked c.advance.new.self c.next_is-in-items.new.self c.expect-then-next_is-2.new.self c.next_is-in-items.ensures.stays c.next_is-in-items.ensures.asks (asks_once c.next_is-in-items.new.self c.expect-then-next_is-2.new.self c.expect-then-next_is-2.ensures.asks))))
+    asks_items c.args.levels c.args.close c.args.self.now c.items.self c.expect-then-next_is-2.new.self c.items.invariant.reached c.items.invariant.asks (asks_value c.args.levels c.items.self c.parse_node.new.self c.expect-then-next_is-2.new.self c.in_ok-item.ensures.led c.parse_node.ensures.asks (asks_token c.parse_node.new.self c.advance.new.self c.expect-then-next_is-2.new.self c.in_ok-token.token c.in_ok-token.ensures.takes c.advance.ensures.asks (asks_looked c.advance.new.self c.next_is-in-items.new.self c.expect-then-next_is-2.new.self c.next_is-in-items.ensures.stays c.next_is-in-items.ensures.asks (asks_once c.next_is-in-items.new.self c.expect-then-next_is-2.new.self c.expect-then-next_is-2.ensures.asks))))
 
 pub parse_items-returns-then-next_is-2-clause-asks : goal.parse_items-returns-then-next_is-2-clause-asks
 parse_items-returns-then-next_is-2-clause-asks t c =
-    let (d, i, r) = c.items.invariant.reached (c.args.levels + 1) [] (omega arith) in
-    asks_reached (c.args.levels + 1) due.first_item d (form_of c.args.close ∷ []) (form_of c.args.close ∷ []) c.args.self.now c.items.self c.expect-then-next_is-2.new.self r c.items.invariant.asks (asks_read c.args.levels due.value [] [] c.items.self c.parse_node.new.self c.expect-then-next_is-2.new.self (c.in_ok-item.ensures.led c.args.levels [] (omega arith)) c.parse_node.ensures.asks (asks_token c.parse_node.new.self c.advance.new.self c.expect-then-next_is-2.new.self c.in_ok-token.token c.in_ok-token.ensures.takes c.advance.ensures.asks (asks_looked c.advance.new.self c.next_is-in-items.new.self c.expect-then-next_is-2.new.self c.next_is-in-items.ensures.stays c.next_is-in-items.ensures.asks (asks_once c.next_is-in-items.new.self c.expect-then-next_is-2.new.self c.expect-then-next_is-2.ensures.asks))))
+    asks_items c.args.levels c.args.close c.args.self.now c.items.self c.expect-then-next_is-2.new.self c.items.invariant.reached c.items.invariant.asks (asks_value c.args.levels c.items.self c.parse_node.new.self c.expect-then-next_is-2.new.self c.in_ok-item.ensures.led c.parse_node.ensures.asks (asks_token c.parse_node.new.self c.advance.new.self c.expect-then-next_is-2.new.self c.in_ok-token.token c.in_ok-token.ensures.takes c.advance.ensures.asks (asks_looked c.advance.new.self c.next_is-in-items.new.self c.expect-then-next_is-2.new.self c.next_is-in-items.ensures.stays c.next_is-in-items.ensures.asks (asks_once c.next_is-in-items.new.self c.expect-then-next_is-2.new.self c.expect-then-next_is-2.ensures.asks))))
 
 pub parse_braces-returns-in_err-expect-clause-asks : goal.parse_braces-returns-in_err-expect-clause-asks
 parse_braces-returns-in_err-expect-clause-asks t c =
@@ -517,11 +527,11 @@ parse_braces-returns-in_err-expect-2-clause-asks t c =
 
 pub parse_braces-returns-then-next_is-clause-asks : goal.parse_braces-returns-then-next_is-clause-asks
 parse_braces-returns-then-next_is-clause-asks t c =
-    asks_token c.args.self.now c.advance.new.self c.parse_entries.new.self c.in_ok-token.token c.in_ok-token.ensures.takes c.advance.ensures.asks (asks_looked c.advance.new.self c.next_is.new.self c.parse_entries.new.self c.next_is.ensures.stays c.next_is.ensures.asks (asks_token c.next_is.new.self c.expect-then-next_is.new.self c.parse_entries.new.self Colon c.in_ok-expect-2.ensures.takes c.expect-then-next_is.ensures.asks (c.parse_entries.ensures.asks)))
+    asks_token c.args.self.now c.advance.new.self c.parse_entries.new.self c.in_ok-token.token c.in_ok-token.ensures.takes c.advance.ensures.asks (asks_looked c.advance.new.self c.next_is.new.self c.parse_entries.new.self c.next_is.ensures.stays c.next_is.ensures.asks (asks_token c.next_is.new.self c.expect-then-next_is.new.self c.parse_entries.new.self Colon c.in_ok-expect-2.ensures.takes c.expect-then-next_is.ensures.asks c.parse_entries.ensures.asks))
 
 pub parse_braces-returns-then-eq-3-clause-asks : goal.parse_braces-returns-then-eq-3-clause-asks
 parse_braces-returns-then-eq-3-clause-asks t c =
-    asks_token c.args.self.now c.advance.new.self c.parse_flags.new.self c.in_ok-token.token c.in_ok-token.ensures.takes c.advance.ensures.asks (asks_looked c.advance.new.self c.next_is.new.self c.parse_flags.new.self c.next_is.ensures.stays c.next_is.ensures.asks (c.parse_flags.ensures.asks))
+    asks_token c.args.self.now c.advance.new.self c.parse_flags.new.self c.in_ok-token.token c.in_ok-token.ensures.takes c.advance.ensures.asks (asks_looked c.advance.new.self c.next_is.new.self c.parse_flags.new.self c.next_is.ensures.stays c.next_is.ensures.asks c.parse_flags.ensures.asks)
 
 pub parse_braces-returns-in_err-expect-3-clause-asks : goal.parse_braces-returns-in_err-expect-3-clause-asks
 parse_braces-returns-in_err-expect-3-clause-asks t c =
@@ -529,44 +539,44 @@ parse_braces-returns-in_err-expect-3-clause-asks t c =
 
 pub parse_braces-returns-clause-asks : goal.parse_braces-returns-clause-asks
 parse_braces-returns-clause-asks t c =
-    asks_token c.args.self.now c.advance.new.self c.parse_entries-2.new.self c.in_ok-token.token c.in_ok-token.ensures.takes c.advance.ensures.asks (asks_token c.advance.new.self c.expect-2.new.self c.parse_entries-2.new.self Colon c.in_ok-expect-3.ensures.takes c.expect-2.ensures.asks (c.parse_entries-2.ensures.asks))
+    asks_token c.args.self.now c.advance.new.self c.parse_entries-2.new.self c.in_ok-token.token c.in_ok-token.ensures.takes c.advance.ensures.asks (asks_token c.advance.new.self c.expect-2.new.self c.parse_entries-2.new.self Colon c.in_ok-expect-3.ensures.takes c.expect-2.ensures.asks c.parse_entries-2.ensures.asks)
 
 pub parse_entries-returns-in_err-value-clause-asks : goal.parse_entries-returns-in_err-value-clause-asks
 parse_entries-returns-in_err-value-clause-asks t c =
-    asks_reached (c.args.levels + 1) due.value due.value (due.entries ∷ []) (due.entries ∷ []) c.args.self.now c.entries.self c.parse_node.new.self (c.entries.invariant.led (c.args.levels + 1) [] (omega arith)) c.entries.invariant.asks (c.parse_node.ensures.asks)
+    asks_entries c.args.levels c.args.self.now c.entries.self c.parse_node.new.self c.entries.invariant.led c.entries.invariant.asks c.parse_node.ensures.asks
 
 pub parse_entries-returns-then-is_err-2-clause-asks : goal.parse_entries-returns-then-is_err-2-clause-asks
 parse_entries-returns-then-is_err-2-clause-asks t c =
-    asks_reached (c.args.levels + 1) due.value due.value (due.entries ∷ []) (due.entries ∷ []) c.args.self.now c.entries.self c.parse_node.new.self (c.entries.invariant.led (c.args.levels + 1) [] (omega arith)) c.entries.invariant.asks (c.parse_node.ensures.asks)
+    asks_entries c.args.levels c.args.self.now c.entries.self c.parse_node.new.self c.entries.invariant.led c.entries.invariant.asks c.parse_node.ensures.asks
 
 pub parse_entries-returns-in_err-token-clause-asks : goal.parse_entries-returns-in_err-token-clause-asks
 parse_entries-returns-in_err-token-clause-asks t c =
-    asks_reached (c.args.levels + 1) due.value due.value (due.entries ∷ []) (due.entries ∷ []) c.args.self.now c.entries.self c.advance.new.self (c.entries.invariant.led (c.args.levels + 1) [] (omega arith)) c.entries.invariant.asks (asks_read c.args.levels due.value [] [] c.entries.self c.parse_node.new.self c.advance.new.self (c.in_ok-value.ensures.led c.args.levels [] (omega arith)) c.parse_node.ensures.asks (asks_once c.parse_node.new.self c.advance.new.self c.advance.ensures.asks))
+    asks_entries c.args.levels c.args.self.now c.entries.self c.advance.new.self c.entries.invariant.led c.entries.invariant.asks (asks_value c.args.levels c.entries.self c.parse_node.new.self c.advance.new.self c.in_ok-value.ensures.led c.parse_node.ensures.asks (asks_once c.parse_node.new.self c.advance.new.self c.advance.ensures.asks))
 
 pub parse_entries-returns-then-eq-clause-asks : goal.parse_entries-returns-then-eq-clause-asks
 parse_entries-returns-then-eq-clause-asks t c =
-    asks_reached (c.args.levels + 1) due.value due.value (due.entries ∷ []) (due.entries ∷ []) c.args.self.now c.entries.self c.advance.new.self (c.entries.invariant.led (c.args.levels + 1) [] (omega arith)) c.entries.invariant.asks (asks_read c.args.levels due.value [] [] c.entries.self c.parse_node.new.self c.advance.new.self (c.in_ok-value.ensures.led c.args.levels [] (omega arith)) c.parse_node.ensures.asks (asks_once c.parse_node.new.self c.advance.new.self c.advance.ensures.asks))
+    asks_entries c.args.levels c.args.self.now c.entries.self c.advance.new.self c.entries.invariant.led c.entries.invariant.asks (asks_value c.args.levels c.entries.self c.parse_node.new.self c.advance.new.self c.in_ok-value.ensures.led c.parse_node.ensures.asks (asks_once c.parse_node.new.self c.advance.new.self c.advance.ensures.asks))
 
 pub parse_entries-returns-then-ne-clause-asks : goal.parse_entries-returns-then-ne-clause-asks
 parse_entries-returns-then-ne-clause-asks t c =
-    asks_reached (c.args.levels + 1) due.value due.value (due.entries ∷ []) (due.entries ∷ []) c.args.self.now c.entries.self c.advance.new.self (c.entries.invariant.led (c.args.levels + 1) [] (omega arith)) c.entries.invariant.asks (asks_read c.args.levels due.value [] [] c.entries.self c.parse_node.new.self c.advance.new.self (c.in_ok-value.ensures.led c.args.levels [] (omega arith)) c.parse_node.ensures.asks (asks_once c.parse_node.new.self c.advance.new.self c.advance.ensures.asks))
+    asks_entries c.args.levels c.args.self.now c.entries.self c.advance.new.self c.entries.invariant.led c.entries.invariant.asks (asks_value c.args.levels c.entries.self c.parse_node.new.self c.advance.new.self c.in_ok-value.ensures.led c.parse_node.ensures.asks (asks_once c.parse_node.new.self c.advance.new.self c.advance.ensures.asks))
 
 pub parse_entries-returns-in_err-next-clause-asks : goal.parse_entries-returns-in_err-next-clause-asks
 parse_entries-returns-in_err-next-clause-asks t c =
-    asks_reached (c.args.levels + 1) due.value due.value (due.entries ∷ []) (due.entries ∷ []) c.args.self.now c.entries.self c.advance-in-entries.new.self (c.entries.invariant.led (c.args.levels + 1) [] (omega arith)) c.entries.invariant.asks (asks_read c.args.levels due.value [] [] c.entries.self c.parse_node.new.self c.advance-in-entries.new.self (c.in_ok-value.ensures.led c.args.levels [] (omega arith)) c.parse_node.ensures.asks (asks_token c.parse_node.new.self c.advance.new.self c.advance-in-entries.new.self c.in_ok-token.token c.in_ok-token.ensures.takes c.advance.ensures.asks (asks_once c.advance.new.self c.advance-in-entries.new.self c.advance-in-entries.ensures.asks)))
+    asks_entries c.args.levels c.args.self.now c.entries.self c.advance-in-entries.new.self c.entries.invariant.led c.entries.invariant.asks (asks_value c.args.levels c.entries.self c.parse_node.new.self c.advance-in-entries.new.self c.in_ok-value.ensures.led c.parse_node.ensures.asks (asks_token c.parse_node.new.self c.advance.new.self c.advance-in-entries.new.self c.in_ok-token.token c.in_ok-token.ensures.takes c.advance.ensures.asks (asks_once c.advance.new.self c.advance-in-entries.new.self c.advance-in-entries.ensures.asks)))
 
 pub parse_entries-returns-then-eq-2-clause-asks : goal.parse_entries-returns-then-eq-2-clause-asks
 parse_entries-returns-then-eq-2-clause-asks t c =
-    asks_reached (c.args.levels + 1) due.value due.value (due.entries ∷ []) (due.entries ∷ []) c.args.self.now c.entries.self c.advance-in-entries.new.self (c.entries.invariant.led (c.args.levels + 1) [] (omega arith)) c.entries.invariant.asks (asks_read c.args.levels due.value [] [] c.entries.self c.parse_node.new.self c.advance-in-entries.new.self (c.in_ok-value.ensures.led c.args.levels [] (omega arith)) c.parse_node.ensures.asks (asks_token c.parse_node.new.self c.advance.new.self c.advance-in-entries.new.self c.in_ok-token.token c.in_ok-token.ensures.takes c.advance.ensures.asks (asks_once c.advance.new.self c.advance-in-entries.new.self c.advance-in-entries.ensures.asks)))
+    asks_entries c.args.levels c.args.self.now c.entries.self c.advance-in-entries.new.self c.entries.invariant.led c.entries.invariant.asks (asks_value c.args.levels c.entries.self c.parse_node.new.self c.advance-in-entries.new.self c.in_ok-value.ensures.led c.parse_node.ensures.asks (asks_token c.parse_node.new.self c.advance.new.self c.advance-in-entries.new.self c.in_ok-token.token c.in_ok-token.ensures.takes c.advance.ensures.asks (asks_once c.advance.new.self c.advance-in-entries.new.self c.advance-in-entries.ensures.asks)))
 
 pub parse_entries-returns-in_default-clause-asks : goal.parse_entries-returns-in_default-clause-asks
 parse_entries-returns-in_default-clause-asks t c =
-    asks_reached (c.args.levels + 1) due.value due.value (due.entries ∷ []) (due.entries ∷ []) c.args.self.now c.entries.self c.advance-in-entries.new.self (c.entries.invariant.led (c.args.levels + 1) [] (omega arith)) c.entries.invariant.asks (asks_read c.args.levels due.value [] [] c.entries.self c.parse_node.new.self c.advance-in-entries.new.self (c.in_ok-value.ensures.led c.args.levels [] (omega arith)) c.parse_node.ensures.asks (asks_token c.parse_node.new.self c.advance.new.self c.advance-in-entries.new.self c.in_ok-token.token c.in_ok-token.ensures.takes c.advance.ensures.asks (asks_once c.advance.new.self c.advance-in-entries.new.self c.advance-in-entries.ensures.asks)))
+    asks_entries c.args.levels c.args.self.now c.entries.self c.advance-in-entries.new.self c.entries.invariant.led c.entries.invariant.asks (asks_value c.args.levels c.entries.self c.parse_node.new.self c.advance-in-entries.new.self c.in_ok-value.ensures.led c.parse_node.ensures.asks (asks_token c.parse_node.new.self c.advance.new.self c.advance-in-entries.new.self c.in_ok-token.token c.in_ok-token.ensures.takes c.advance.ensures.asks (asks_once c.advance.new.self c.advance-in-entries.new.self c.advance-in-entries.ensures.asks)))
 
 pub parse_entries-returns-in_err-expect-clause-asks : goal.parse_entries-returns-in_err-expect-clause-asks
 parse_entries-returns-in_err-expect-clause-asks t c =
-    asks_reached (c.args.levels + 1) due.value due.value (due.entries ∷ []) (due.entries ∷ []) c.args.self.now c.entries.self c.expect.new.self (c.entries.invariant.led (c.args.levels + 1) [] (omega arith)) c.entries.invariant.asks (asks_read c.args.levels due.value [] [] c.entries.self c.parse_node.new.self c.expect.new.self (c.in_ok-value.ensures.led c.args.levels [] (omega arith)) c.parse_node.ensures.asks (asks_token c.parse_node.new.self c.advance.new.self c.expect.new.self c.in_ok-token.token c.in_ok-token.ensures.takes c.advance.ensures.asks (asks_token c.advance.new.self c.advance-in-entries.new.self c.expect.new.self c.in_ok-next.next c.in_ok-next.ensures.takes c.advance-in-entries.ensures.asks (asks_once c.advance-in-entries.new.self c.expect.new.self c.expect.ensures.asks))))
+    asks_entries c.args.levels c.args.self.now c.entries.self c.expect.new.self c.entries.invariant.led c.entries.invariant.asks (asks_value c.args.levels c.entries.self c.parse_node.new.self c.expect.new.self c.in_ok-value.ensures.led c.parse_node.ensures.asks (asks_token c.parse_node.new.self c.advance.new.self c.expect.new.self c.in_ok-token.token c.in_ok-token.ensures.takes c.advance.ensures.asks (asks_token c.advance.new.self c.advance-in-entries.new.self c.expect.new.self c.in_ok-next.next c.in_ok-next.ensures.takes c.advance-in-entries.ensures.asks (asks_once c.advance-in-entries.new.self c.expect.new.self c.expect.ensures.asks))))
 
 pub parse_entries-returns-then-is_err-3-clause-asks : goal.parse_entries-returns-then-is_err-3-clause-asks
 parse_entries-returns-then-is_err-3-clause-asks t c =
-    asks_reached (c.args.levels + 1) due.value due.value (due.entries ∷ []) (due.entries ∷ []) c.args.self.now c.entries.self c.expect.new.self (c.entries.invariant.led (c.args.levels + 1) [] (omega arith)) c.entries.invariant.asks (asks_read c.args.levels due.value [] [] c.entries.self c.parse_node.new.self c.expect.new.self (c.in_ok-value.ensures.led c.args.levels [] (omega arith)) c.parse_node.ensures.asks (asks_token c.parse_node.new.self c.advance.new.self c.expect.new.self c.in_ok-token.token c.in_ok-token.ensures.takes c.advance.ensures.asks (asks_token c.advance.new.self c.advance-in-entries.new.self c.expect.new.self c.in_ok-next.next c.in_ok-next.ensures.takes c.advance-in-entries.ensures.asks (asks_once c.advance-in-entries.new.self c.expect.new.self c.expect.ensures.asks))))
+    asks_entries c.args.levels c.args.self.now c.entries.self c.expect.new.self c.entries.invariant.led c.entries.invariant.asks (asks_value c.args.levels c.entries.self c.parse_node.new.self c.expect.new.self c.in_ok-value.ensures.led c.parse_node.ensures.asks (asks_token c.parse_node.new.self c.advance.new.self c.expect.new.self c.in_ok-token.token c.in_ok-token.ensures.takes c.advance.ensures.asks (asks_token c.advance.new.self c.advance-in-entries.new.self c.expect.new.self c.in_ok-next.next c.in_ok-next.ensures.takes c.advance-in-entries.ensures.asks (asks_once c.advance-in-entries.new.self c.expect.new.self c.expect.ensures.asks))))

@@ -19,9 +19,9 @@ use Rattle.std.specs.Ordering.{nat_cmp}
 use Rattle.wave_grammar.specs.Private.FlagOrder.{flag_name}
 use Rattle.wave_tree.proofs.NodeCorrectness.Items.{class_as}
 use Rattle.wave_tree.proofs.FlagsSorted.{entry_of}
-use Rattle.wave_tree.proofs.FlagLoop.{flag_at, grown, ended}
+use Rattle.wave_tree.proofs.FlagLoop.{flag_at, grown, ended, asks_flags}
 use Rattle.wave_tree.proofs.ClassTests.{is_class, is_other, differs, differs_not}
-use Rattle.wave_tree.proofs.LexerCallCount.{asks_none, asks_once, asks_token, asks_reached}
+use Rattle.wave_tree.proofs.LexerCallCount.{asks_none, asks_once, asks_token}
 use Rattle.wave_tree.proofs.parser.Parser.parse_flags.Goals as goal
 
 -- behind a comma a further flag is due
@@ -122,8 +122,7 @@ flags-preserved c =
             inl refl,
             then_same LabelOrKeyword comma label_there (ap (λ b. if b then due.repeated_flag else reads (due.behind_flag (names ++ name_of (text_at c.advance-in-flags.new.self.place) ∷ [])) s) new_name),
           )),
-      (let (d, i, r) = c.flags.invariant.0.led 0 [] in
-          asks_reached 0 (due.behind_word (text_at c.args.self.now.place)) d [] [] c.args.self.now c.flags.self c.advance-in-flags.new.self r c.flags.invariant.1 (asks_token c.flags.self c.advance.new.self c.advance-in-flags.new.self c.in_ok-token.token c.in_ok-token.ensures.takes c.advance.ensures.asks (asks_once c.advance.new.self c.advance-in-flags.new.self c.advance-in-flags.ensures.asks))),
+      asks_flags c.flags.flags c.args.self.now c.flags.self c.advance-in-flags.new.self c.flags.invariant.0 c.flags.invariant.1 (asks_token c.flags.self c.advance.new.self c.advance-in-flags.new.self c.in_ok-token.token c.in_ok-token.ensures.takes c.advance.ensures.asks (asks_once c.advance.new.self c.advance-in-flags.new.self c.advance-in-flags.ensures.asks)),
     )
 
 pub returns-then-eq-clause-tree : goal.returns-then-eq-clause-tree
@@ -134,40 +133,32 @@ returns-then-eq-2-clause-tree c = ended c.flags.flags _ c.flags.self.place _ _ c
 
 pub returns-in_err-token-clause-asks : goal.returns-in_err-token-clause-asks
 returns-in_err-token-clause-asks c =
-    let (d, i, r) = c.flags.invariant.0.led 0 [] in
-    asks_reached 0 (due.behind_word (text_at c.args.self.now.place)) d [] [] c.args.self.now c.flags.self c.advance.new.self r c.flags.invariant.1 (asks_once c.flags.self c.advance.new.self c.advance.ensures.asks)
+    asks_flags c.flags.flags c.args.self.now c.flags.self c.advance.new.self c.flags.invariant.0 c.flags.invariant.1 (asks_once c.flags.self c.advance.new.self c.advance.ensures.asks)
 
 pub returns-then-eq-clause-asks : goal.returns-then-eq-clause-asks
 returns-then-eq-clause-asks c =
-    let (d, i, r) = c.flags.invariant.0.led 0 [] in
-    asks_reached 0 (due.behind_word (text_at c.args.self.now.place)) d [] [] c.args.self.now c.flags.self c.advance.new.self r c.flags.invariant.1 (asks_once c.flags.self c.advance.new.self c.advance.ensures.asks)
+    asks_flags c.flags.flags c.args.self.now c.flags.self c.advance.new.self c.flags.invariant.0 c.flags.invariant.1 (asks_once c.flags.self c.advance.new.self c.advance.ensures.asks)
 
 pub returns-then-ne-clause-asks : goal.returns-then-ne-clause-asks
 returns-then-ne-clause-asks c =
-    let (d, i, r) = c.flags.invariant.0.led 0 [] in
-    asks_reached 0 (due.behind_word (text_at c.args.self.now.place)) d [] [] c.args.self.now c.flags.self c.advance.new.self r c.flags.invariant.1 (asks_once c.flags.self c.advance.new.self c.advance.ensures.asks)
+    asks_flags c.flags.flags c.args.self.now c.flags.self c.advance.new.self c.flags.invariant.0 c.flags.invariant.1 (asks_once c.flags.self c.advance.new.self c.advance.ensures.asks)
 
 pub returns-in_err-next-clause-asks : goal.returns-in_err-next-clause-asks
 returns-in_err-next-clause-asks c =
-    let (d, i, r) = c.flags.invariant.0.led 0 [] in
-    asks_reached 0 (due.behind_word (text_at c.args.self.now.place)) d [] [] c.args.self.now c.flags.self c.advance-in-flags.new.self r c.flags.invariant.1 (asks_token c.flags.self c.advance.new.self c.advance-in-flags.new.self c.in_ok-token.token c.in_ok-token.ensures.takes c.advance.ensures.asks (asks_once c.advance.new.self c.advance-in-flags.new.self c.advance-in-flags.ensures.asks))
+    asks_flags c.flags.flags c.args.self.now c.flags.self c.advance-in-flags.new.self c.flags.invariant.0 c.flags.invariant.1 (asks_token c.flags.self c.advance.new.self c.advance-in-flags.new.self c.in_ok-token.token c.in_ok-token.ensures.takes c.advance.ensures.asks (asks_once c.advance.new.self c.advance-in-flags.new.self c.advance-in-flags.ensures.asks))
 
 pub returns-then-eq-2-clause-asks : goal.returns-then-eq-2-clause-asks
 returns-then-eq-2-clause-asks c =
-    let (d, i, r) = c.flags.invariant.0.led 0 [] in
-    asks_reached 0 (due.behind_word (text_at c.args.self.now.place)) d [] [] c.args.self.now c.flags.self c.advance-in-flags.new.self r c.flags.invariant.1 (asks_token c.flags.self c.advance.new.self c.advance-in-flags.new.self c.in_ok-token.token c.in_ok-token.ensures.takes c.advance.ensures.asks (asks_once c.advance.new.self c.advance-in-flags.new.self c.advance-in-flags.ensures.asks))
+    asks_flags c.flags.flags c.args.self.now c.flags.self c.advance-in-flags.new.self c.flags.invariant.0 c.flags.invariant.1 (asks_token c.flags.self c.advance.new.self c.advance-in-flags.new.self c.in_ok-token.token c.in_ok-token.ensures.takes c.advance.ensures.asks (asks_once c.advance.new.self c.advance-in-flags.new.self c.advance-in-flags.ensures.asks))
 
 pub returns-then-ne-2-clause-asks : goal.returns-then-ne-2-clause-asks
 returns-then-ne-2-clause-asks c =
-    let (d, i, r) = c.flags.invariant.0.led 0 [] in
-    asks_reached 0 (due.behind_word (text_at c.args.self.now.place)) d [] [] c.args.self.now c.flags.self c.advance-in-flags.new.self r c.flags.invariant.1 (asks_token c.flags.self c.advance.new.self c.advance-in-flags.new.self c.in_ok-token.token c.in_ok-token.ensures.takes c.advance.ensures.asks (asks_once c.advance.new.self c.advance-in-flags.new.self c.advance-in-flags.ensures.asks))
+    asks_flags c.flags.flags c.args.self.now c.flags.self c.advance-in-flags.new.self c.flags.invariant.0 c.flags.invariant.1 (asks_token c.flags.self c.advance.new.self c.advance-in-flags.new.self c.in_ok-token.token c.in_ok-token.ensures.takes c.advance.ensures.asks (asks_once c.advance.new.self c.advance-in-flags.new.self c.advance-in-flags.ensures.asks))
 
 pub returns-then-contains_key-clause-asks : goal.returns-then-contains_key-clause-asks
 returns-then-contains_key-clause-asks c =
-    let (d, i, r) = c.flags.invariant.0.led 0 [] in
-    asks_reached 0 (due.behind_word (text_at c.args.self.now.place)) d [] [] c.args.self.now c.flags.self c.advance-in-flags.new.self r c.flags.invariant.1 (asks_token c.flags.self c.advance.new.self c.advance-in-flags.new.self c.in_ok-token.token c.in_ok-token.ensures.takes c.advance.ensures.asks (asks_once c.advance.new.self c.advance-in-flags.new.self c.advance-in-flags.ensures.asks))
+    asks_flags c.flags.flags c.args.self.now c.flags.self c.advance-in-flags.new.self c.flags.invariant.0 c.flags.invariant.1 (asks_token c.flags.self c.advance.new.self c.advance-in-flags.new.self c.in_ok-token.token c.in_ok-token.ensures.takes c.advance.ensures.asks (asks_once c.advance.new.self c.advance-in-flags.new.self c.advance-in-flags.ensures.asks))
 
 pub returns-then-is_err-2-clause-asks : goal.returns-then-is_err-2-clause-asks
 returns-then-is_err-2-clause-asks c =
-    let (d, i, r) = c.flags.invariant.0.led 0 [] in
-    asks_reached 0 (due.behind_word (text_at c.args.self.now.place)) d [] [] c.args.self.now c.flags.self c.advance-in-flags.new.self r c.flags.invariant.1 (asks_token c.flags.self c.advance.new.self c.advance-in-flags.new.self c.in_ok-token.token c.in_ok-token.ensures.takes c.advance.ensures.asks (asks_once c.advance.new.self c.advance-in-flags.new.self c.advance-in-flags.ensures.asks))
+    asks_flags c.flags.flags c.args.self.now c.flags.self c.advance-in-flags.new.self c.flags.invariant.0 c.flags.invariant.1 (asks_token c.flags.self c.advance.new.self c.advance-in-flags.new.self c.in_ok-token.token c.in_ok-token.ensures.takes c.advance.ensures.asks (asks_once c.advance.new.self c.advance-in-flags.new.self c.advance-in-flags.ensures.asks))

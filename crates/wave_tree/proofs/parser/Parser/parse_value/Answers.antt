@@ -1,4 +1,4 @@
-use Rattle.std.proofs.Common.{List, ℕ, ◌≡◌, ◌≢◌, inl, inr, [], rules, sym, ap, subst, ◌∙◌}
+use Rattle.std.proofs.Common.{List, ℕ, ◌≡◌, ◌≢◌, inl, inr, [], sym, ap, subst, ◌∙◌}
 use Rattle.std.specs.Prelude.{◌⊎◌}
 use Rattle.wave_lex.specs.declared.error.ParserError.{ParserError}
 use Rattle.wave_lex.specs.declared.error.ParserErrorKind.TheVariants as because

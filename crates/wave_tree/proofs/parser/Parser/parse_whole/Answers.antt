@@ -1,4 +1,4 @@
-use Rattle.std.proofs.Common.{◌≢◌, [], refl, sym, subst, ◌∙◌}
+use Rattle.std.proofs.Common.{◌≢◌, [], refl, sym, subst}
 use Rattle.wave_lex.specs.declared.error.ParserErrorKind.TheVariants as because
 use Rattle.wave_lex.specs.Tokenization.{Lexed}
 use Rattle.wave_lex.specs.Errors.{LiesInText}
