@@ -1,10 +1,10 @@
 //! Writers that fail.
-use crate::types::type_of;
 use std::fmt;
 use std::test::Fail;
 use wasm_wave::from_str;
 use wasm_wave::value::{Type, Value};
 use wasm_wave::writer::{TextWrite, Writer, WriterError};
+use wave_vectors::types::type_of;
 
 /// A writer that passes so many texts and then fails, once or for good.
 #[derive(Drop)]
@@ -68,7 +68,11 @@ fn outcome(rt: HostRuntime, val: &Value, left: usize, once: bool) -> &'static st
 
 /// How the tuple `(1, "a")` is written, one letter for each number of texts that pass
 fn outcomes(rt: HostRuntime, once: bool) -> Result<bool, Fail> {
-    let val = from_str::<Value>(rt.alloc(), &type_of(rt, "tuple<u8, string>")?, "(1, \"a\")")?;
+    let val = from_str::<Value>(
+        rt.alloc(),
+        &type_of(rt.alloc(), "tuple<u8, string>")?,
+        "(1, \"a\")",
+    )?;
     let mut was_done = false;
     for left in 0..20 {
         match outcome(rt, &val, left, once) {
