@@ -1,12 +1,12 @@
 //! What texts answer at types.
 use crate::cuts::is_told_at_each_cut;
-use crate::types::type_of;
 use std::alloc::Global;
 use std::test::Fail;
 use wasm_wave::parser::ParserError;
 use wasm_wave::untyped::UntypedValue;
 use wasm_wave::value::{Type, Value};
 use wasm_wave::{from_str, to_string};
+use wave_vectors_types::reader::type_of;
 
 /// The value of the text, read without the type at first and then at it.
 fn read_late(alloc: Global, ty: &Type, text: &str) -> Result<Value, ParserError> {
@@ -25,10 +25,15 @@ pub fn is_read_alike(alloc: Global, ty: &Type, text: &str) -> bool {
     }
 }
 
-/// What the text prints at the type, or its refusal.
-fn answer(alloc: Global, ty: &Type, text: &str) -> Result<String, Fail> {
-    match from_str::<Value>(alloc, ty, text) {
-        Ok(val) => Ok(to_string(alloc, &val)?),
+/// The text of the value.
+fn text(alloc: Global, val: &Value) -> Result<String, Fail> {
+    Ok(to_string(alloc, val)?)
+}
+
+/// What a value prints, or a refusal.
+pub fn told(alloc: Global, answer: Result<Value, ParserError>) -> Result<String, Fail> {
+    match answer {
+        Ok(val) => text(alloc, &val),
         Err(error) => Ok(format!(in alloc; "{error}")?),
     }
 }
@@ -39,7 +44,7 @@ fn wrong_at(alloc: Global, ty: &str, rows: &[(&str, &str)]) -> Result<String, Fa
     let ty = type_of(alloc, ty)?;
     for row in rows {
         let (text, expected) = *row;
-        let answer = answer(alloc, &ty, text)?;
+        let answer = told(alloc, from_str::<Value>(alloc, &ty, text))?;
         let is_alike = is_read_alike(alloc, &ty, text) && is_told_at_each_cut(alloc, &ty, text);
         if answer.as_str() != expected || !is_alike {
             return Ok(format!(in alloc; "{text} gives {answer} at {ty}")?);

@@ -1,11 +1,11 @@
 //! Texts of many levels.
 use std::test::Fail;
+use wasm_wave::from_str;
 use wasm_wave::untyped::{UntypedFuncCall, UntypedValue};
 use wasm_wave::value::{Type, Value};
-use wasm_wave::{from_str, to_string};
 use wave_vectors::cuts::{is_told_at_each_cut, is_told_from};
-use wave_vectors::reading::is_read_alike;
-use wave_vectors::types::type_of;
+use wave_vectors::reading::{is_read_alike, told};
+use wave_vectors_types::reader::type_of;
 
 /// The part, so many times.
 fn repeated(rt: HostRuntime, part: &str, times: usize) -> Result<String, Fail> {
@@ -161,13 +161,9 @@ fn fronts_of_calls(rt: HostRuntime) -> Result<(), Fail> {
 /// the type first.
 fn answer(rt: HostRuntime, ty: &str, text: &str) -> Result<String, Fail> {
     let ty = type_of(rt.alloc(), ty)?;
-    match from_str::<Value>(rt.alloc(), &ty, text) {
-        _ if !is_read_alike(rt.alloc(), &ty, text) => Ok(String::from_str(
-            rt.alloc(),
-            "otherwise",
-        )?),
-        Ok(val) => Ok(to_string(rt.alloc(), &val)?),
-        Err(error) => Ok(format!(in rt.alloc(); "{error}")?),
+    match is_read_alike(rt.alloc(), &ty, text) {
+        true => told(rt.alloc(), from_str::<Value>(rt.alloc(), &ty, text)),
+        false => Ok(String::from_str(rt.alloc(), "otherwise")?),
     }
 }
 

@@ -1,6 +1,9 @@
 //! Texts at flags and enums.
 use std::test::Fail;
-use wave_vectors::reading::wrong;
+use wasm_wave::value::{Type, Value};
+use wasm_wave::{from_str, to_string};
+use wave_vectors::cuts::is_told_at_each_cut;
+use wave_vectors::reading::{is_read_alike, wrong};
 
 #[test]
 fn flags(rt: HostRuntime) -> Result<(), Fail> {
@@ -69,5 +72,44 @@ fn enums(rt: HostRuntime) -> Result<(), Fail> {
         ],
     )?;
     assert_eq!(rt; found.as_str(), "");
+    Ok(())
+}
+
+/// How the text is refused at the type; the text itself where it is read.
+fn refusal(rt: HostRuntime, ty: &Type, text: String) -> Result<String, Fail> {
+    match from_str::<Value>(rt.alloc(), ty, text.as_str()) {
+        Ok(_) => Ok(text),
+        Err(error) => Ok(format!(in rt.alloc(); "{text}: {error}, {}", ty.names_are_labels())?),
+    }
+}
+
+/// The text of the one value of the enum.
+fn written(rt: HostRuntime, ty: &Type, name: &str) -> Result<String, Fail> {
+    Ok(to_string(rt.alloc(), &Value::make_enum(rt.alloc(), ty, name)?)?)
+}
+
+/// The enum whose one name is no label: its value's text, and how that text is refused.
+fn odd_name(rt: HostRuntime) -> Result<String, Fail> {
+    match Type::enum_ty(rt.alloc(), &["A b"])? {
+        Some(ty) => refusal(rt, &ty, written(rt, &ty, "A b")?),
+        None => Ok(String::new(rt.alloc())),
+    }
+}
+
+/// Whether the name that is no label is read alike without its type first, and so each front of it.
+fn is_odd_name_told(rt: HostRuntime) -> Result<bool, Fail> {
+    match Type::enum_ty(rt.alloc(), &["A b"])? {
+        Some(ty) => Ok(
+            is_read_alike(rt.alloc(), &ty, "A b") && is_told_at_each_cut(rt.alloc(), &ty, "A b"),
+        ),
+        None => Ok(false),
+    }
+}
+
+#[test]
+fn a_name_that_is_no_label(rt: HostRuntime) -> Result<(), Fail> {
+    let expected = "A b: error converting Wasm value: unknown case \"A\" at 0..1, false";
+    assert_eq!(rt; odd_name(rt)?.as_str(), expected);
+    assert!(rt; is_odd_name_told(rt)?);
     Ok(())
 }

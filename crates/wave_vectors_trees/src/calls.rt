@@ -5,7 +5,7 @@ use wasm_wave::untyped::UntypedFuncCall;
 use wasm_wave::value::{Type, Value};
 use wasm_wave::wasm::DisplayFuncArgs;
 use wave_vectors::cuts::is_told_at_each_cut;
-use wave_vectors::types::types_of;
+use wave_vectors_types::reader::types_of;
 
 /// How the call is displayed, or why it is refused.
 fn shown(rt: HostRuntime, text: &str) -> Result<String, Fail> {

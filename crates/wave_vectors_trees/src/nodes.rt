@@ -7,7 +7,7 @@ use wasm_wave::to_string;
 use wasm_wave::untyped::{UntypedFuncCall, UntypedValue};
 use wasm_wave::value::{Type, Value};
 use wave_vectors::cuts::is_told_at_each_cut;
-use wave_vectors::types::type_of;
+use wave_vectors_types::reader::type_of;
 
 /// How many nodes there are.
 fn counted(rt: HostRuntime, nodes: &[Node]) -> Result<String, Fail> {
@@ -151,19 +151,36 @@ fn accessors(rt: HostRuntime) -> Result<(), Fail> {
     Ok(())
 }
 
+/// Whether two names are counted, and one behind the first, which is `a`.
+fn are_names_counted(value: &UntypedValue) -> Result<bool, ParserError> {
+    let mut names = value.node().as_flags(value.source())?;
+    Ok(names.size_hint() == (2, Some(2)) && names.next() == Some("a") && names.len() == 1)
+}
+
+/// Whether two fields are counted, and one behind the first.
+fn are_fields_counted(rt: HostRuntime, value: &UntypedValue) -> Result<bool, ParserError> {
+    let mut fields = value.node().as_record(rt.alloc(), value.source())?;
+    Ok(fields.size_hint() == (2, Some(2)) && fields.next().is_some() && fields.len() == 1)
+}
+
+/// Whether two entries are counted, and one behind the first.
+fn are_entries_counted(value: &UntypedValue) -> Result<bool, ParserError> {
+    let mut entries = value.node().as_map()?;
+    Ok(entries.size_hint() == (2, Some(2)) && entries.next().is_some() && entries.len() == 1)
+}
+
 #[test]
 fn lengths(rt: HostRuntime) -> Result<(), Fail> {
     let flags = UntypedValue::parse(rt.alloc(), "{b, a}")?;
-    let mut names = flags.node().as_flags(flags.source())?;
-    assert_eq!(rt; names.size_hint(), (2, Some(2)));
-    assert!(rt; names.next() == Some("a") && names.len() == 1);
+    assert!(rt; are_names_counted(&flags)?);
+    Ok(())
+}
+
+#[test]
+fn lengths_of_fields_and_entries(rt: HostRuntime) -> Result<(), Fail> {
     let record = UntypedValue::parse(rt.alloc(), "{%b: 1, a: 2}")?;
-    let mut fields = record.node().as_record(rt.alloc(), record.source())?;
-    assert_eq!(rt; fields.size_hint(), (2, Some(2)));
-    assert!(rt; fields.next().is_some() && fields.len() == 1);
-    let mut entries = record.node().as_map()?;
-    assert_eq!(rt; entries.size_hint(), (2, Some(2)));
-    assert!(rt; entries.next().is_some() && entries.len() == 1);
+    assert!(rt; are_fields_counted(rt, &record)?);
+    assert!(rt; are_entries_counted(&record)?);
     Ok(())
 }
 

@@ -2,18 +2,15 @@
 use std::test::Fail;
 use wasm_wave::lex::{Lexer, Token};
 use wasm_wave::parser::Parser;
-use wasm_wave::to_string;
 use wasm_wave::value::{Type, Value};
 use wave_vectors::cuts::is_told_at_each_cut;
-use wave_vectors::types::type_of;
+use wave_vectors::reading::told;
+use wave_vectors_types::reader::type_of;
 
 /// The value read next at the type, printed, or its refusal.
 fn at_type(rt: HostRuntime, parser: &mut Parser, ty: &str) -> Result<String, Fail> {
     let ty = type_of(rt.alloc(), ty)?;
-    match parser.parse_value::<Value>(rt.alloc(), &ty) {
-        Ok(val) => Ok(to_string(rt.alloc(), &val)?),
-        Err(error) => Ok(format!(in rt.alloc(); "{error}")?),
-    }
+    told(rt.alloc(), parser.parse_value::<Value>(rt.alloc(), &ty))
 }
 
 /// The display of the value read next without a type, or its refusal.

@@ -1,9 +1,10 @@
-//! Worked rows of values: what their makers make, what their views answer, and how they are written.
+//! Worked rows of types and of values: the texts of types, what the makers of values make, and writers
+//! that fail.
 #![tactic(auto)]
 
 #[cfg(test)]
 mod makers;
 #[cfg(test)]
-mod views;
+mod types;
 #[cfg(test)]
 mod writing;

@@ -1,9 +1,10 @@
 //! What the makers of values make of parts, and how they refuse them.
 use std::test::Fail;
-use wasm_wave::to_string;
-use wasm_wave::value::{Type, Value};
-use wasm_wave::wasm::WasmValueError;
-use wave_vectors::types::type_of;
+use wave_type::ty::Type;
+use wave_value::value::Value;
+use wave_vectors_types::reader::type_of;
+use wave_wasm::wasm::WasmValueError;
+use wave_wasm::writer::to_string;
 
 /// Numbers, from 0 on.
 fn numbers(rt: HostRuntime, count: u8) -> Result<Vec<Value>, WasmValueError> {
@@ -97,21 +98,37 @@ fn part(rt: HostRuntime, maker: &str, ty: &Type) -> Result<Value, WasmValueError
     }
 }
 
+/// The text of the value.
+fn text(rt: HostRuntime, val: &Value) -> Result<String, Fail> {
+    Ok(to_string(rt.alloc(), val)?)
+}
+
 /// The text of what was made, or the refusal's words.
 fn told(rt: HostRuntime, val: Result<Value, WasmValueError>) -> Result<String, Fail> {
     match val {
-        Ok(val) => Ok(to_string(rt.alloc(), &val)?),
+        Ok(val) => text(rt, &val),
         Err(error) => Ok(error.to_string(rt.alloc())?),
     }
+}
+
+/// Whether the value has this type as its own.
+fn is_of(rt: HostRuntime, val: &Value, name: &str) -> Result<bool, Fail> {
+    let ty = type_of(rt.alloc(), name)?;
+    Ok(val.ty()? == ty)
+}
+
+/// Whether a copy is the same value.
+fn is_copied(rt: HostRuntime, val: &Value) -> Result<bool, Fail> {
+    Ok(val.clone(rt.alloc())? == *val)
 }
 
 /// The text of the scalar, which has this type as its own; else nothing.
 fn scalar_text(rt: HostRuntime, name: &str) -> Result<String, Fail> {
     let val = scalar(rt, name)?;
-    if val.ty()? != type_of(rt.alloc(), name)? || val.clone(rt.alloc())? != val {
-        return Ok(String::new(rt.alloc()));
+    match is_of(rt, &val, name)? && is_copied(rt, &val)? {
+        true => text(rt, &val),
+        false => Ok(String::new(rt.alloc())),
     }
-    Ok(to_string(rt.alloc(), &val)?)
 }
 
 /// The first scalar of another text, with its text; nothing where there is none.

@@ -3,7 +3,7 @@ use std::test::Fail;
 use wasm_wave::value::{Type, Value};
 use wasm_wave::wasm::{DisplayFuncArgs, DisplayFuncResults, DisplayValue, WasmTypeKind};
 use wasm_wave::{from_str, to_string};
-use wave_vectors::types::type_of;
+use wave_vectors_types::reader::type_of;
 
 /// The values, one behind the other.
 fn joined(rt: HostRuntime, vals: &[&Value]) -> Result<String, Fail> {

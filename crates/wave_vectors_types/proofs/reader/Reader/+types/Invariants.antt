@@ -1,5 +1,5 @@
 use Rattle.std.proofs.Common.{◌+◌, ◌*◌}
-use Rattle.wave_vectors.proofs.types.Reader.+types.Given as goal
+use Rattle.wave_vectors_types.proofs.reader.Reader.+types.Given as goal
 
 abbrev pub decreases-ty : goal.decreases-ty
 decreases-ty l = 3 * l.levels

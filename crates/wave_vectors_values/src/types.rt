@@ -1,24 +1,26 @@
 //! Rows of types: their texts, their names, and parts of which there is no type.
-use crate::cuts::is_told_at_each_cut;
-use crate::reading::is_read_alike;
-use crate::types::{TypeError, type_of};
 use std::alloc::{AllocError, Global};
 use std::test::Fail;
-use wasm_wave::value::{Type, Value};
-use wasm_wave::wasm::{DisplayFunc, DisplayType, WasmFunc, WasmType, WasmTypeKind};
-use wasm_wave::{from_str, to_string};
+use wave_type::ty::Type;
+use wave_vectors_types::reader::{TypeError, type_of};
+use wave_wasm::wasm::{DisplayFunc, DisplayType, WasmFunc, WasmType, WasmTypeKind};
 
-/// The text of a copy of the type; nothing where the copy is another type, or is shown as another
-/// text among all lawful types.
-fn printed(rt: HostRuntime, text: &str) -> Result<String, Fail> {
-    let ty = type_of(rt.alloc(), text)?;
-    let copy = ty.clone()?;
-    let shown = format!(in rt.alloc(); "{}", DisplayType::new(rt.alloc(), &ty))?;
+/// The text of the copy; nothing where it is another type, or where the type is shown as another text
+/// among all lawful types.
+fn copy_text(rt: HostRuntime, ty: &Type, copy: &Type) -> Result<String, Fail> {
+    let shown = format!(in rt.alloc(); "{}", DisplayType::new(rt.alloc(), ty))?;
     let printed = copy.to_string(rt.alloc())?;
     match copy == ty && shown.as_str() == printed.as_str() {
         true => Ok(printed),
         false => Ok(String::new(rt.alloc())),
     }
+}
+
+/// The text of a copy of the type that the text names.
+fn printed(rt: HostRuntime, text: &str) -> Result<String, Fail> {
+    let ty = type_of(rt.alloc(), text)?;
+    let copy = ty.clone()?;
+    copy_text(rt, &ty, &copy)
 }
 
 /// The first text of a type that is printed otherwise, with what is printed; nothing where there is
@@ -274,15 +276,25 @@ fn keys_of_no_map(rt: HostRuntime) -> Result<(), Fail> {
     Ok(())
 }
 
-/// Whether there is no type of no parts.
-fn are_none_empty(rt: HostRuntime) -> Result<bool, AllocError> {
-    Ok(
-        Type::record(rt.alloc(), Vec::new(rt.alloc()))?.is_none()
-            && Type::tuple(rt.alloc(), Vec::new(rt.alloc()))?.is_none()
-            && Type::variant(rt.alloc(), Vec::new(rt.alloc()))?.is_none()
-            && Type::enum_ty(rt.alloc(), &[])?.is_none()
-            && Type::flags(rt.alloc(), &[])?.is_none(),
-    )
+/// The type of this kind that has no parts, where there is one.
+fn empty(rt: HostRuntime, kind: &str) -> Result<Option<Type>, AllocError> {
+    match kind {
+        "record" => Type::record(rt.alloc(), Vec::new(rt.alloc())),
+        "tuple" => Type::tuple(rt.alloc(), Vec::new(rt.alloc())),
+        "variant" => Type::variant(rt.alloc(), Vec::new(rt.alloc())),
+        "enum" => Type::enum_ty(rt.alloc(), &[]),
+        _ => Type::flags(rt.alloc(), &[]),
+    }
+}
+
+/// The first kind of which there is a type without parts; nothing where there is none.
+fn empty_kind(rt: HostRuntime) -> Result<&'static str, AllocError> {
+    for kind in ["record", "tuple", "variant", "enum", "flags"] {
+        if empty(rt, kind)?.is_some() {
+            return Ok(kind);
+        }
+    }
+    Ok("")
 }
 
 /// Whether a fixed-length list has its word as its text, and shows no element type.
@@ -294,48 +306,15 @@ fn is_fixed(rt: HostRuntime) -> Result<bool, Fail> {
 
 #[test]
 fn makers_of_types(rt: HostRuntime) -> Result<(), Fail> {
-    assert!(rt; are_none_empty(rt)? && is_fixed(rt)? && Type::simple(WasmTypeKind::List).is_none());
-    assert!(rt; Type::simple(WasmTypeKind::Char) == Some(Type::CHAR));
+    assert_eq!(rt; empty_kind(rt)?, "");
+    assert!(rt; is_fixed(rt)?);
     Ok(())
-}
-
-/// How the text is refused at the type; the text itself where it is read.
-fn refusal(rt: HostRuntime, ty: &Type, text: String) -> Result<String, Fail> {
-    match from_str::<Value>(rt.alloc(), ty, text.as_str()) {
-        Ok(_) => Ok(text),
-        Err(error) => Ok(format!(in rt.alloc(); "{text}: {error}, {}", ty.names_are_labels())?),
-    }
-}
-
-/// The text of the one value of the enum.
-fn written(rt: HostRuntime, ty: &Type, name: &str) -> Result<String, Fail> {
-    Ok(to_string(rt.alloc(), &Value::make_enum(rt.alloc(), ty, name)?)?)
-}
-
-/// The enum whose one name is no label: its value's text, and how that text is refused.
-fn odd_name(rt: HostRuntime) -> Result<String, Fail> {
-    match Type::enum_ty(rt.alloc(), &["A b"])? {
-        Some(ty) => refusal(rt, &ty, written(rt, &ty, "A b")?),
-        None => Ok(String::new(rt.alloc())),
-    }
-}
-
-/// Whether the name that is no label is read alike without its type first, and so each front of it.
-fn is_odd_name_told(rt: HostRuntime) -> Result<bool, Fail> {
-    match Type::enum_ty(rt.alloc(), &["A b"])? {
-        Some(ty) => Ok(
-            is_read_alike(rt.alloc(), &ty, "A b") && is_told_at_each_cut(rt.alloc(), &ty, "A b"),
-        ),
-        None => Ok(false),
-    }
 }
 
 #[test]
-fn a_name_that_is_no_label(rt: HostRuntime) -> Result<(), Fail> {
-    let expected = "A b: error converting Wasm value: unknown case \"A\" at 0..1, false";
-    assert_eq!(rt; odd_name(rt)?.as_str(), expected);
-    assert!(rt; is_odd_name_told(rt)?);
-    Ok(())
+fn simple_types(rt: HostRuntime) {
+    assert!(rt; Type::simple(WasmTypeKind::List).is_none());
+    assert!(rt; Type::simple(WasmTypeKind::Char) == Some(Type::CHAR));
 }
 
 /// A function of two named parameters and one result without a name.

@@ -1,6 +1,6 @@
 //! Types by their texts: the reader of types for the rows.
 use std::alloc::{AllocError, AllocFailed, Global};
-use wasm_wave::value::Type;
+use wave_type::ty::Type;
 
 /// Why a text gives no type.
 #[derive(Debug, Drop)]
