@@ -7,5 +7,3 @@ pub mod laws;
 pub mod lex;
 pub mod machine;
 pub mod strings;
-#[cfg(test)]
-mod tests;

@@ -3,7 +3,5 @@
 
 pub mod keyword;
 pub mod laws;
-#[cfg(test)]
-mod tests;
 pub mod wasm;
 pub mod writer;

@@ -1,9 +1,9 @@
 //! What the views of values answer, and the displays of values.
-use crate::types::type_of;
 use std::test::Fail;
 use wasm_wave::value::{Type, Value};
 use wasm_wave::wasm::{DisplayFuncArgs, DisplayFuncResults, DisplayValue, WasmTypeKind};
 use wasm_wave::{from_str, to_string};
+use wave_vectors_types::reader::type_of;
 
 /// The values, one behind the other.
 fn joined(rt: HostRuntime, vals: &[&Value]) -> Result<String, Fail> {
@@ -96,49 +96,75 @@ fn viewed(rt: HostRuntime, val: &Value) -> Result<String, Fail> {
 
 /// What the view answers of the text read at the type, or how it is refused.
 fn read(rt: HostRuntime, ty: &str, text: &str) -> Result<String, Fail> {
-    match from_str::<Value>(rt.alloc(), &type_of(rt, ty)?, text) {
+    match from_str::<Value>(rt.alloc(), &type_of(rt.alloc(), ty)?, text) {
         Ok(val) => viewed(rt, &val),
         Err(error) => Ok(format!(in rt.alloc(); "{error}")?),
     }
 }
 
-#[test]
-fn views(rt: HostRuntime) -> Result<(), Fail> {
-    for (ty, text, expected) in [
-        ("bool", "true", "true"),
-        ("s8", "-128", "-128"),
-        ("s16", "-32768", "-32768"),
-        ("s32", "-2147483648", "-2147483648"),
-        ("s64", "-9223372036854775808", "-9223372036854775808"),
-        ("u8", "255", "255"),
-        ("u16", "65535", "65535"),
-        ("u32", "4294967295", "4294967295"),
-        ("u64", "18446744073709551615", "18446744073709551615"),
-        ("char", "'\\u{1F44B}'", "👋"),
-        ("string", "\"it's \\u{61}\"", "it's a"),
-        ("list<u8>", "[1, 2]", "1;2;"),
-        ("tuple<u8, string>", "(1, \"a\")", "1;\"a\";"),
-        ("record { a: u8, b: option<u8> }", "{a: 1}", "a=1;b=none;"),
-        ("variant { off, on(u8) }", "on(1)", "on=1;"),
-        ("variant { off, on(u8) }", "off", "off;"),
-        ("enum { ok, not-found }", "%ok", "ok;"),
-        ("option<u8>", "7", "some=7;"),
-        ("option<u8>", "none", "some;"),
-        ("result<u8>", "7", "ok=7;"),
-        ("result<u8>", "err", "err;"),
-        (
-            "flags { read, write, exec }",
-            "{exec, %write}",
-            "write;exec;",
-        ),
-        (
-            "map<string, u32>",
-            "{\"a\": 1, \"b\": 2, \"a\": 3}",
-            "\"a\";3;\"b\";2;",
-        ),
-    ] {
-        assert_eq!(rt; read(rt, ty, text)?.as_str(), expected, "{text} at {ty}");
+/// The first text at a type whose value's view answers otherwise, with its answer; nothing where
+/// there is none.
+fn wrong(rt: HostRuntime, rows: &[(&str, &str, &str)]) -> Result<String, Fail> {
+    for row in rows {
+        let (ty, text, expected) = *row;
+        let answer = read(rt, ty, text)?;
+        if answer.as_str() != expected {
+            return Ok(format!(in rt.alloc(); "{text} at {ty} gives {answer}")?);
+        }
     }
+    Ok(String::new(rt.alloc()))
+}
+
+#[test]
+fn views_of_scalars(rt: HostRuntime) -> Result<(), Fail> {
+    let found = wrong(
+        rt,
+        &[
+            ("bool", "true", "true"),
+            ("s8", "-128", "-128"),
+            ("s16", "-32768", "-32768"),
+            ("s32", "-2147483648", "-2147483648"),
+            ("s64", "-9223372036854775808", "-9223372036854775808"),
+            ("u8", "255", "255"),
+            ("u16", "65535", "65535"),
+            ("u32", "4294967295", "4294967295"),
+            ("u64", "18446744073709551615", "18446744073709551615"),
+            ("char", "'\\u{1F44B}'", "👋"),
+            ("string", "\"it's \\u{61}\"", "it's a"),
+        ],
+    )?;
+    assert_eq!(rt; found.as_str(), "");
+    Ok(())
+}
+
+#[test]
+fn views_of_parts(rt: HostRuntime) -> Result<(), Fail> {
+    let found = wrong(
+        rt,
+        &[
+            ("list<u8>", "[1, 2]", "1;2;"),
+            ("tuple<u8, string>", "(1, \"a\")", "1;\"a\";"),
+            ("record { a: u8, b: option<u8> }", "{a: 1}", "a=1;b=none;"),
+            ("variant { off, on(u8) }", "on(1)", "on=1;"),
+            ("variant { off, on(u8) }", "off", "off;"),
+            ("enum { ok, not-found }", "%ok", "ok;"),
+            ("option<u8>", "7", "some=7;"),
+            ("option<u8>", "none", "some;"),
+            ("result<u8>", "7", "ok=7;"),
+            ("result<u8>", "err", "err;"),
+            (
+                "flags { read, write, exec }",
+                "{exec, %write}",
+                "write;exec;",
+            ),
+            (
+                "map<string, u32>",
+                "{\"a\": 1, \"b\": 2, \"a\": 3}",
+                "\"a\";3;\"b\";2;",
+            ),
+        ],
+    )?;
+    assert_eq!(rt; found.as_str(), "");
     Ok(())
 }
 
@@ -174,20 +200,34 @@ fn char_text(rt: HostRuntime, c: char) -> Result<String, Fail> {
     Ok(format!(in rt.alloc(); "{shown}{}", to_string(rt.alloc(), &val)?)?)
 }
 
+/// The first char that is written or displayed otherwise, with its texts; nothing where there is none.
+fn other_char(rt: HostRuntime, rows: &[(char, &str)]) -> Result<String, Fail> {
+    for row in rows {
+        let (c, expected) = *row;
+        let texts = char_text(rt, c)?;
+        if texts.as_str() != expected {
+            return Ok(format!(in rt.alloc(); "{expected} is {texts}")?);
+        }
+    }
+    Ok(String::new(rt.alloc()))
+}
+
 #[test]
 fn chars(rt: HostRuntime) -> Result<(), Fail> {
-    for (c, text) in [
-        ('\u{1f44b}', "'\u{1f44b}''\u{1f44b}'"),
-        ('\u{301}', "'\\u{301}''\\u{301}'"),
-        ('\u{a0}', "'\\u{a0}''\\u{a0}'"),
-        ('\u{ad}', "'\\u{ad}''\\u{ad}'"),
-        ('\0', "'\\u{0}''\\u{0}'"),
-        ('\t', "'\\t''\\t'"),
-        ('\'', "'\\'''\\''"),
-        ('\u{10ffff}', "'\\u{10ffff}''\\u{10ffff}'"),
-        (' ', "' '' '"),
-    ] {
-        assert_eq!(rt; char_text(rt, c)?.as_str(), text);
-    }
+    let found = other_char(
+        rt,
+        &[
+            ('\u{1f44b}', "'\u{1f44b}''\u{1f44b}'"),
+            ('\u{301}', "'\\u{301}''\\u{301}'"),
+            ('\u{a0}', "'\\u{a0}''\\u{a0}'"),
+            ('\u{ad}', "'\\u{ad}''\\u{ad}'"),
+            ('\0', "'\\u{0}''\\u{0}'"),
+            ('\t', "'\\t''\\t'"),
+            ('\'', "'\\'''\\''"),
+            ('\u{10ffff}', "'\\u{10ffff}''\\u{10ffff}'"),
+            (' ', "' '' '"),
+        ],
+    )?;
+    assert_eq!(rt; found.as_str(), "");
     Ok(())
 }

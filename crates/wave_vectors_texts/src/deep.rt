@@ -1,11 +1,11 @@
 //! Texts of many levels.
-use crate::cuts::{is_told_at_each_cut, is_told_from};
-use crate::typed::is_read_alike;
-use crate::types::type_of;
 use std::test::Fail;
+use wasm_wave::from_str;
 use wasm_wave::untyped::{UntypedFuncCall, UntypedValue};
 use wasm_wave::value::{Type, Value};
-use wasm_wave::{from_str, to_string};
+use wave_vectors::cuts::{is_told_at_each_cut, is_told_from};
+use wave_vectors::reading::{is_read_alike, told};
+use wave_vectors_types::reader::type_of;
 
 /// The part, so many times.
 fn repeated(rt: HostRuntime, part: &str, times: usize) -> Result<String, Fail> {
@@ -46,31 +46,61 @@ fn refused_call(rt: HostRuntime, text: &str) -> Result<String, Fail> {
     }
 }
 
+/// The first text of so many fronts and ends that is refused otherwise without a type, with how it is
+/// refused; nothing where there is none.
+fn wrong(rt: HostRuntime, rows: &[(&str, usize, &str, &str, &str)]) -> Result<String, Fail> {
+    for row in rows {
+        let (front, times, middle, end, expected) = *row;
+        let text = within(rt, front, times, middle, end)?;
+        let refusal = refused(rt, text.as_str())?;
+        if refusal.as_str() != expected {
+            return Ok(format!(in rt.alloc(); "{times} of {front} give {refusal}")?);
+        }
+    }
+    Ok(String::new(rt.alloc()))
+}
+
 #[test]
 fn levels(rt: HostRuntime) -> Result<(), Fail> {
-    for (front, times, middle, end, answer) in [
-        ("[", 100, "", "]", ""),
-        ("[", 101, "", "]", "value nesting too deep at 99..100"),
-        ("[", 99, "", "", "unexpected end of input at 99..99"),
-        ("[", 100, "", "", "value nesting too deep at 99..100"),
-        ("[", 101, "", "", "value nesting too deep at 99..100"),
-        ("[", 100, ")", "", "value nesting too deep at 99..100"),
-        ("(", 101, "0", ")", "value nesting too deep at 99..100"),
-        ("some(", 101, "0", ")", "value nesting too deep at 499..500"),
-        ("ok(", 101, "0", ")", "value nesting too deep at 299..300"),
-        ("v(", 101, "0", ")", "value nesting too deep at 199..200"),
-        ("{a:", 101, "0", "}", "value nesting too deep at 299..300"),
-        ("{1:", 101, "0", "}", "value nesting too deep at 299..300"),
-    ] {
-        let text = within(rt, front, times, middle, end)?;
-        assert_eq!(rt; refused(rt, text.as_str())?.as_str(), answer, "of {front}");
-    }
+    let found = wrong(
+        rt,
+        &[
+            ("[", 100, "", "]", ""),
+            ("[", 101, "", "]", "value nesting too deep at 99..100"),
+            ("[", 99, "", "", "unexpected end of input at 99..99"),
+            ("[", 100, "", "", "value nesting too deep at 99..100"),
+            ("[", 101, "", "", "value nesting too deep at 99..100"),
+            ("[", 100, ")", "", "value nesting too deep at 99..100"),
+            ("(", 101, "0", ")", "value nesting too deep at 99..100"),
+            ("some(", 101, "0", ")", "value nesting too deep at 499..500"),
+            ("ok(", 101, "0", ")", "value nesting too deep at 299..300"),
+            ("v(", 101, "0", ")", "value nesting too deep at 199..200"),
+            ("{a:", 101, "0", "}", "value nesting too deep at 299..300"),
+            ("{1:", 101, "0", "}", "value nesting too deep at 299..300"),
+        ],
+    )?;
+    assert_eq!(rt; found.as_str(), "");
     Ok(())
 }
 
 /// The type of the middle within so many layers.
 fn nest(rt: HostRuntime, front: &str, times: usize, middle: &str, end: &str) -> Result<Type, Fail> {
-    type_of(rt, within(rt, front, times, middle, end)?.as_str())
+    let text = within(rt, front, times, middle, end)?;
+    Ok(type_of(rt.alloc(), text.as_str())?)
+}
+
+/// The front of the first text that is not told at each cut, at its type of so many layers around
+/// `u8`; nothing where there is none.
+fn untold(rt: HostRuntime, rows: &[(&str, usize, &str, &str, &str, &str)]) -> Result<String, Fail> {
+    for row in rows {
+        let (front, times, middle, end, around, behind) = *row;
+        let ty = nest(rt, around, times, "u8", behind)?;
+        let text = within(rt, front, times, middle, end)?;
+        if !is_told_at_each_cut(rt.alloc(), &ty, text.as_str()) {
+            return Ok(String::from_str(rt.alloc(), front)?);
+        }
+    }
+    Ok(String::new(rt.alloc()))
 }
 
 /// The fronts of the texts of `levels` and of `read_at_each_level`: those of each text there that is
@@ -78,20 +108,20 @@ fn nest(rt: HostRuntime, front: &str, times: usize, middle: &str, end: &str) -> 
 /// well-typed at it.
 #[test]
 fn fronts(rt: HostRuntime) -> Result<(), Fail> {
-    for (front, times, middle, end, around, behind) in [
-        ("[", 100, "", "]", "list<", ">"),
-        ("[", 101, "", "]", "list<", ">"),
-        ("(", 101, "0", ")", "tuple<", ">"),
-        ("some(", 101, "0", ")", "option<", ">"),
-        ("ok(", 101, "0", ")", "result<", ">"),
-        ("v(", 101, "0", ")", "variant{v(", ")}"),
-        ("{a:", 101, "0", "}", "record{a:", "}"),
-        ("{1:", 101, "0", "}", "map<u8,", ">"),
-    ] {
-        let ty = nest(rt, around, times, "u8", behind)?;
-        let text = within(rt, front, times, middle, end)?;
-        assert!(rt; is_told_at_each_cut(rt, &ty, text.as_str()), "of {front}");
-    }
+    let found = untold(
+        rt,
+        &[
+            ("[", 100, "", "]", "list<", ">"),
+            ("[", 101, "", "]", "list<", ">"),
+            ("(", 101, "0", ")", "tuple<", ">"),
+            ("some(", 101, "0", ")", "option<", ">"),
+            ("ok(", 101, "0", ")", "result<", ">"),
+            ("v(", 101, "0", ")", "variant{v(", ")}"),
+            ("{a:", 101, "0", "}", "record{a:", "}"),
+            ("{1:", 101, "0", "}", "map<u8,", ">"),
+        ],
+    )?;
+    assert_eq!(rt; found.as_str(), "");
     Ok(())
 }
 
@@ -120,7 +150,7 @@ fn fronts_of_calls(rt: HostRuntime) -> Result<(), Fail> {
     for (payloads, first) in [(99, 0), (100, 497)] {
         let text = deep_call(rt, payloads)?;
         assert!(rt;
-            is_told_from(rt, &ty, text.as_str(), first),
+            is_told_from(rt.alloc(), &ty, text.as_str(), first),
             "{payloads} payloads"
         );
     }
@@ -130,11 +160,10 @@ fn fronts_of_calls(rt: HostRuntime) -> Result<(), Fail> {
 /// What the text prints at the type, or its refusal; `otherwise` where it is read otherwise without
 /// the type first.
 fn answer(rt: HostRuntime, ty: &str, text: &str) -> Result<String, Fail> {
-    let ty = type_of(rt, ty)?;
-    match from_str::<Value>(rt.alloc(), &ty, text) {
-        _ if !is_read_alike(rt, &ty, text) => Ok(String::from_str(rt.alloc(), "otherwise")?),
-        Ok(val) => Ok(to_string(rt.alloc(), &val)?),
-        Err(error) => Ok(format!(in rt.alloc(); "{error}")?),
+    let ty = type_of(rt.alloc(), ty)?;
+    match is_read_alike(rt.alloc(), &ty, text) {
+        true => told(rt.alloc(), from_str::<Value>(rt.alloc(), &ty, text)),
+        false => Ok(String::from_str(rt.alloc(), "otherwise")?),
     }
 }
 
@@ -176,7 +205,10 @@ fn fronts_of_lists_of_options(rt: HostRuntime) -> Result<(), Fail> {
     let ty = nest(rt, "list<option<", 59, "list<u8>", ">>")?;
     for (front, times, middle, end) in [("[", 60, "", "]"), ("[some(", 59, "[]", ")]")] {
         let text = within(rt, front, times, middle, end)?;
-        assert!(rt; is_told_at_each_cut(rt, &ty, text.as_str()), "of {front}");
+        assert!(rt;
+            is_told_at_each_cut(rt.alloc(), &ty, text.as_str()),
+            "of {front}"
+        );
     }
     Ok(())
 }

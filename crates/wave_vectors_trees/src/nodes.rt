@@ -1,6 +1,4 @@
 //! What the accessors of parsed nodes answer.
-use crate::cuts::is_told_at_each_cut;
-use crate::types::type_of;
 use std::test::Fail;
 use wasm_wave::ast::{CowStr, Node, NodeType};
 use wasm_wave::parser::{ParserError, ParserErrorKind};
@@ -8,6 +6,8 @@ use wasm_wave::strings::StringPart;
 use wasm_wave::to_string;
 use wasm_wave::untyped::{UntypedFuncCall, UntypedValue};
 use wasm_wave::value::{Type, Value};
+use wave_vectors::cuts::is_told_at_each_cut;
+use wave_vectors_types::reader::type_of;
 
 /// How many nodes there are.
 fn counted(rt: HostRuntime, nodes: &[Node]) -> Result<String, Fail> {
@@ -106,50 +106,81 @@ fn answered(rt: HostRuntime, text: &str) -> Result<String, Fail> {
     case(rt, &UntypedValue::parse(rt.alloc(), text)?)
 }
 
+/// The first text that is answered otherwise or not told at each cut, with its answer; nothing where
+/// there is none.
+fn wrong(rt: HostRuntime, rows: &[(&str, &str)]) -> Result<String, Fail> {
+    for row in rows {
+        let (text, expected) = *row;
+        let answer = answered(rt, text)?;
+        if answer.as_str() != expected || !is_told_at_each_cut(rt.alloc(), &Type::U8, text) {
+            return Ok(format!(in rt.alloc(); "{text} gives {answer}")?);
+        }
+    }
+    Ok(String::new(rt.alloc()))
+}
+
 #[test]
 fn accessors(rt: HostRuntime) -> Result<(), Fail> {
-    for (text, expected) in [
-        ("true", "true"),
-        ("false", "false"),
-        ("-9223372036854775808", "-9223372036854775808"),
-        ("'\\u{1F44B}'", "👋"),
-        ("\"\"", "borrowed "),
-        ("\"ab\"", "borrowed ab"),
-        ("\"a\\tb\"", "owned a\tb"),
-        ("\"\"\"\n  a\n  b\n  \"\"\"", "owned a\nb"),
-        ("(1, 2)", "2 items"),
-        ("[]", "0 items"),
-        ("{:}", "0 entries "),
-        ("{%b: 1, a: 2}", "2 entries b;a;"),
-        ("{}", ""),
-        ("{%b, a}", "a;b;"),
-        ("%some", "some"),
-        ("left( 1 )", "left of 6..7"),
-        ("some([1])", "some of 5..8"),
-        ("none", "none"),
-        ("ok", "ok"),
-        ("err(1)", "err of 4..5"),
-        ("ok(ok)", "ok of 3..5"),
-    ] {
-        assert_eq!(rt; answered(rt, text)?.as_str(), expected, "{text}");
-        assert!(rt; is_told_at_each_cut(rt, &Type::U8, text), "{text}");
-    }
+    let found = wrong(
+        rt,
+        &[
+            ("true", "true"),
+            ("false", "false"),
+            ("-9223372036854775808", "-9223372036854775808"),
+            ("'\\u{1F44B}'", "👋"),
+            ("\"\"", "borrowed "),
+            ("\"ab\"", "borrowed ab"),
+            ("\"a\\tb\"", "owned a\tb"),
+            ("\"\"\"\n  a\n  b\n  \"\"\"", "owned a\nb"),
+            ("(1, 2)", "2 items"),
+            ("[]", "0 items"),
+            ("{:}", "0 entries "),
+            ("{%b: 1, a: 2}", "2 entries b;a;"),
+            ("{}", ""),
+            ("{%b, a}", "a;b;"),
+            ("%some", "some"),
+            ("left( 1 )", "left of 6..7"),
+            ("some([1])", "some of 5..8"),
+            ("none", "none"),
+            ("ok", "ok"),
+            ("err(1)", "err of 4..5"),
+            ("ok(ok)", "ok of 3..5"),
+        ],
+    )?;
+    assert_eq!(rt; found.as_str(), "");
     Ok(())
+}
+
+/// Whether two names are counted, and one behind the first, which is `a`.
+fn are_names_counted(value: &UntypedValue) -> Result<bool, ParserError> {
+    let mut names = value.node().as_flags(value.source())?;
+    Ok(names.size_hint() == (2, Some(2)) && names.next() == Some("a") && names.len() == 1)
+}
+
+/// Whether two fields are counted, and one behind the first.
+fn are_fields_counted(rt: HostRuntime, value: &UntypedValue) -> Result<bool, ParserError> {
+    let mut fields = value.node().as_record(rt.alloc(), value.source())?;
+    Ok(fields.size_hint() == (2, Some(2)) && fields.next().is_some() && fields.len() == 1)
+}
+
+/// Whether two entries are counted, and one behind the first.
+fn are_entries_counted(value: &UntypedValue) -> Result<bool, ParserError> {
+    let mut entries = value.node().as_map()?;
+    Ok(entries.size_hint() == (2, Some(2)) && entries.next().is_some() && entries.len() == 1)
 }
 
 #[test]
 fn lengths(rt: HostRuntime) -> Result<(), Fail> {
     let flags = UntypedValue::parse(rt.alloc(), "{b, a}")?;
-    let mut names = flags.node().as_flags(flags.source())?;
-    assert_eq!(rt; names.size_hint(), (2, Some(2)));
-    assert!(rt; names.next() == Some("a") && names.len() == 1);
+    assert!(rt; are_names_counted(&flags)?);
+    Ok(())
+}
+
+#[test]
+fn lengths_of_fields_and_entries(rt: HostRuntime) -> Result<(), Fail> {
     let record = UntypedValue::parse(rt.alloc(), "{%b: 1, a: 2}")?;
-    let mut fields = record.node().as_record(rt.alloc(), record.source())?;
-    assert_eq!(rt; fields.size_hint(), (2, Some(2)));
-    assert!(rt; fields.next().is_some() && fields.len() == 1);
-    let mut entries = record.node().as_map()?;
-    assert_eq!(rt; entries.size_hint(), (2, Some(2)));
-    assert!(rt; entries.next().is_some() && entries.len() == 1);
+    assert!(rt; are_fields_counted(rt, &record)?);
+    assert!(rt; are_entries_counted(&record)?);
     Ok(())
 }
 
@@ -176,15 +207,29 @@ fn string_parts(rt: HostRuntime, text: &str) -> Result<String, Fail> {
     parts_of(rt, &UntypedValue::parse(rt.alloc(), text)?)
 }
 
+/// The first text whose string has other parts, with its parts; nothing where there is none.
+fn other_parts(rt: HostRuntime, rows: &[(&str, &str)]) -> Result<String, Fail> {
+    for row in rows {
+        let (text, expected) = *row;
+        let parts = string_parts(rt, text)?;
+        if parts.as_str() != expected {
+            return Ok(format!(in rt.alloc(); "{text} has {parts}")?);
+        }
+    }
+    Ok(String::new(rt.alloc()))
+}
+
 #[test]
 fn parts_of_strings(rt: HostRuntime) -> Result<(), Fail> {
-    for (text, expected) in [
-        ("\"a\\tb\"", "<a>\t<b>"),
-        ("\"\\u{D800}\"", "{invalid character escape at 1..2}"),
-        ("\"\"\"\n  a\n  b\n  \"\"\"", "<a>\n<b>"),
-    ] {
-        assert_eq!(rt; string_parts(rt, text)?.as_str(), expected, "{text}");
-    }
+    let found = other_parts(
+        rt,
+        &[
+            ("\"a\\tb\"", "<a>\t<b>"),
+            ("\"\\u{D800}\"", "{invalid character escape at 1..2}"),
+            ("\"\"\"\n  a\n  b\n  \"\"\"", "<a>\n<b>"),
+        ],
+    )?;
+    assert_eq!(rt; found.as_str(), "");
     Ok(())
 }
 
@@ -200,7 +245,7 @@ fn copied(rt: HostRuntime, ty: &Type, value: &UntypedValue) -> Result<Value, Par
 fn printed(rt: HostRuntime, ty: &str, text: &str) -> Result<String, Fail> {
     let val = copied(
         rt,
-        &type_of(rt, ty)?,
+        &type_of(rt.alloc(), ty)?,
         &UntypedValue::parse(rt.alloc(), text)?,
     )?;
     Ok(to_string(rt.alloc(), &val)?)

@@ -1,10 +1,10 @@
 //! Writers that fail.
-use crate::types::type_of;
 use std::fmt;
 use std::test::Fail;
-use wasm_wave::from_str;
-use wasm_wave::value::{Type, Value};
-use wasm_wave::writer::{TextWrite, Writer, WriterError};
+use wave_value::value::Value;
+use wave_vectors_types::reader::type_of;
+use wave_wasm::wasm::WasmValueError;
+use wave_wasm::writer::{TextWrite, Writer, WriterError};
 
 /// A writer that passes so many texts and then fails, once or for good.
 #[derive(Drop)]
@@ -66,9 +66,23 @@ fn outcome(rt: HostRuntime, val: &Value, left: usize, once: bool) -> &'static st
     }
 }
 
+/// The number 1 and the text `a`.
+fn vals(rt: HostRuntime) -> Result<Vec<Value>, WasmValueError> {
+    let mut vals = Vec::new(rt.alloc());
+    vals.push(Value::make_u8(rt.alloc(), 1)?)?;
+    vals.push(Value::make_string(rt.alloc(), "a")?)?;
+    Ok(vals)
+}
+
+/// The tuple `(1, "a")`.
+fn pair(rt: HostRuntime) -> Result<Value, Fail> {
+    let ty = type_of(rt.alloc(), "tuple<u8, string>")?;
+    Ok(Value::make_tuple(rt.alloc(), &ty, vals(rt)?)?)
+}
+
 /// How the tuple `(1, "a")` is written, one letter for each number of texts that pass
 fn outcomes(rt: HostRuntime, once: bool) -> Result<bool, Fail> {
-    let val = from_str::<Value>(rt.alloc(), &type_of(rt, "tuple<u8, string>")?, "(1, \"a\")")?;
+    let val = pair(rt)?;
     let mut was_done = false;
     for left in 0..20 {
         match outcome(rt, &val, left, once) {

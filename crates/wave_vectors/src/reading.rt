@@ -1,0 +1,67 @@
+//! What texts answer at types.
+use crate::cuts::is_told_at_each_cut;
+use std::alloc::Global;
+use std::test::Fail;
+use wasm_wave::parser::ParserError;
+use wasm_wave::untyped::UntypedValue;
+use wasm_wave::value::{Type, Value};
+use wasm_wave::{from_str, to_string};
+use wave_vectors_types::reader::type_of;
+
+/// The value of the text, read without the type at first and then at it.
+fn read_late(alloc: Global, ty: &Type, text: &str) -> Result<Value, ParserError> {
+    UntypedValue::parse(alloc, text)?.to_wasm_value(alloc, ty)
+}
+
+/// Whether the text means the same value, or none, where it is read without the type at first.
+pub fn is_read_alike(alloc: Global, ty: &Type, text: &str) -> bool {
+    match (
+        from_str::<Value>(alloc, ty, text),
+        read_late(alloc, ty, text),
+    ) {
+        (Ok(one), Ok(other)) => one == other,
+        (Err(_), Err(_)) => true,
+        _ => false,
+    }
+}
+
+/// The text of the value.
+fn text(alloc: Global, val: &Value) -> Result<String, Fail> {
+    Ok(to_string(alloc, val)?)
+}
+
+/// What a value prints, or a refusal.
+pub fn told(alloc: Global, answer: Result<Value, ParserError>) -> Result<String, Fail> {
+    match answer {
+        Ok(val) => text(alloc, &val),
+        Err(error) => Ok(format!(in alloc; "{error}")?),
+    }
+}
+
+/// The first text at the type that is answered otherwise, with its answer; nothing where there is none.
+/// Each text is also read alike without its type first, and each front of it is told.
+fn wrong_at(alloc: Global, ty: &str, rows: &[(&str, &str)]) -> Result<String, Fail> {
+    let ty = type_of(alloc, ty)?;
+    for row in rows {
+        let (text, expected) = *row;
+        let answer = told(alloc, from_str::<Value>(alloc, &ty, text))?;
+        let is_alike = is_read_alike(alloc, &ty, text) && is_told_at_each_cut(alloc, &ty, text);
+        if answer.as_str() != expected || !is_alike {
+            return Ok(format!(in alloc; "{text} gives {answer} at {ty}")?);
+        }
+    }
+    Ok(String::new(alloc))
+}
+
+/// The first text at one of the types that is answered otherwise, with its answer; nothing where there
+/// is none.
+pub fn wrong(alloc: Global, groups: &[(&str, &[(&str, &str)])]) -> Result<String, Fail> {
+    for group in groups {
+        let (ty, rows) = *group;
+        let found = wrong_at(alloc, ty, rows)?;
+        if !found.is_empty() {
+            return Ok(found);
+        }
+    }
+    Ok(String::new(alloc))
+}

@@ -1,0 +1,91 @@
+//! Texts at lists, tuples, options and results.
+use std::test::Fail;
+use wave_vectors::reading::wrong;
+
+#[test]
+fn lists_and_tuples(rt: HostRuntime) -> Result<(), Fail> {
+    let found = wrong(
+        rt.alloc(),
+        &[
+            (
+                "list<u8>",
+                &[
+                    ("", "unexpected end of input at 0..0"),
+                    ("[1, ", "unexpected end of input at 4..4"),
+                    ("[1 2]", "unexpected token: Number at 3..4"),
+                    ("[,]", "unexpected token: Comma at 1..2"),
+                    ("[1,,2]", "unexpected token: Comma at 3..4"),
+                    (
+                        "[[[[[[[[[[[[[[[[[[[[[[[[[[[[[[[[[[[[[[[[[[[[[[[[[[[[[[[[[[[[[[[[[[[[[[[[[[[[[[[[[[[[[[[[[[[[[[[[[[[[]]]]]]]]]]]]]]]]]]]]]]]]]]]]]]]]]]]]]]]]]]]]]]]]]]]]]]]]]]]]]]]]]]]]]]]]]]]]]]]]]]]]]]]]]]]]]]]]]]]]",
+                        "invalid value type at 1..199",
+                    ),
+                    (
+                        "[[[[[[[[[[[[[[[[[[[[[[[[[[[[[[[[[[[[[[[[[[[[[[[[[[[[[[[[[[[[[[[[[[[[[[[[[[[[[[[[[[[[[[[[[[[[[[[[[[[[[",
+                        "value nesting too deep at 99..100",
+                    ),
+                    ("[300, \"a\"", "unexpected end of input at 9..9"),
+                    ("[300] x", "invalid value at 1..4"),
+                    ("[[1], (2)]", "invalid value type at 1..4"),
+                ][..],
+            ),
+            ("tuple<u8, string>", &[("(1, \"a\",)", "(1, \"a\")")][..]),
+            (
+                "tuple<u8>",
+                &[
+                    (
+                        "(1, 2)",
+                        "error converting Wasm value: expected 1 tuple elements; got 2 at 0..6",
+                    ),
+                    (
+                        "(1, 2, 3)",
+                        "error converting Wasm value: expected 1 tuple elements; got 3 at 0..9",
+                    ),
+                ][..],
+            ),
+            (
+                "tuple<u8, u8>",
+                &[("(300, {a, a})", "duplicate flag: \"a\" at 10..11")][..],
+            ),
+        ],
+    )?;
+    assert_eq!(rt; found.as_str(), "");
+    Ok(())
+}
+
+#[test]
+fn options_and_results(rt: HostRuntime) -> Result<(), Fail> {
+    let found = wrong(
+        rt.alloc(),
+        &[
+            (
+                "result<option<u8>>",
+                &[("none", "invalid value type at 0..4")][..],
+            ),
+            (
+                "result<u8>",
+                &[
+                    ("7", "ok(7)"),
+                    (
+                        "ok",
+                        "error converting Wasm value: missing payload for \"ok\" case at 0..2",
+                    ),
+                ][..],
+            ),
+            (
+                "result<result<u8>>",
+                &[(
+                    "ok(ok)",
+                    "error converting Wasm value: missing payload for \"ok\" case at 3..5",
+                )][..],
+            ),
+            ("result<bool>", &[("false", "ok(false)")][..]),
+            (
+                "option<option<u8>>",
+                &[("none", "none"), ("1", "invalid value type at 0..1")][..],
+            ),
+            ("option<bool>", &[("true", "some(true)")][..]),
+        ],
+    )?;
+    assert_eq!(rt; found.as_str(), "");
+    Ok(())
+}

@@ -1,0 +1,4 @@
+//! Types by their texts, for the crates of rows.
+#![tactic(auto)]
+
+pub mod reader;
