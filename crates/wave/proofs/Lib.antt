@@ -1,4 +1,3 @@
-pub mod Pairs
 pub mod Moved
 pub mod Named
-pub mod Printed
+pub mod Untyped

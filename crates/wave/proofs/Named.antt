@@ -1,5 +1,9 @@
 -- What reading at the named types says of a request.
-use Rattle.std.proofs.Common.{ℕ, ◌≡◌, ◌≢◌, ◌⊎◌, List, inl, inr, subst, sym}
+use Rattle.std.proofs.Common.{ℕ, ◌≡◌, ◌≢◌, ◌⊎◌, List, false, inl, inr, refl, subst, sym, Result, Ok, Err, MatchResult}
+use Rattle.std.specs.Prelude.{IsErrAnd}
+use Rattle.std.specs.Str.{bytes_eq}
+use Rattle.std.proofs.lemmas.Slice.Eq.{bytes_eq-Decides}
+use Rattle.std.proofs.lemmas.Bool.Decides.{not_from_Decides}
 use Rattle.wave_lex.specs.declared.error.ParserError.{ParserError}
 use Rattle.wave_lex.specs.declared.error.ParserErrorKind.TheVariants as kind
 use Rattle.wave_tree.specs.FromStr.{IsMeant, TextFault, RefusesText}
@@ -7,16 +11,23 @@ use Rattle.wave_grammar.specs.Denotes.{MeansNone}
 use Rattle.wave_value.specs.FullTypes.{IsFull}
 use Rattle.wave_value.specs.TypedValue.{TypedValue, IsAt}
 use Rattle.wave_wasm.specs.Text.{text}
+use Rattle.wave_wasm.specs.WriterState.{IsForMemory, IsWantOfMemory}
+use Rattle.wave_wasm.specs.declared.writer.WriterError.{WriterError}
 use Rattle.wave.specs.declared.request.TypeName.{TypeName}
 use Rattle.wave.specs.declared.request.TypeName.TheVariants as name
+use Rattle.wave.specs.declared.request.Request.{Request}
 use Rattle.wave.specs.declared.request.Request.TheVariants.{Read}
-use Rattle.wave.specs.declared.program.Unanswered.{Unanswered}
-use Rattle.wave.specs.declared.program.Unanswered.TheVariants as why
+use Rattle.wave.specs.declared.answer.Unanswered.{Unanswered}
+use Rattle.wave.specs.declared.answer.Unanswered.TheVariants as why
 use Rattle.wave.specs.Requests.{type_of}
 use Rattle.wave.specs.Answers.{Answers, IsRefused}
 use Rattle.wave.specs.Private.Answers.{IsUnanswered, MatchesRefusal}
 
--- they have no names
+-- two names that the test tells apart
+apart : (m n : List ℕ) → bytes_eq m n ≡ false → m ≢ n
+apart m n e = not_from_Decides _ (bytes_eq-Decides m n) e
+
+-- no name stands twice in them
 full : (n : TypeName) → IsFull (type_of n)
 full name.Bool = tt
 full name.S8 = tt
@@ -27,20 +38,41 @@ full name.U8 = tt
 full name.U16 = tt
 full name.U32 = tt
 full name.U64 = tt
+full name.Char = tt
+full name.String = tt
+full name.Bytes = tt
+full name.Perms = ((apart _ _ refl, (apart _ _ refl, tt)), ((apart _ _ refl, tt), (tt, tt)))
+full name.Status = ((apart _ _ refl, tt), (tt, tt))
+full name.Response = (((apart _ _ refl, (apart _ _ refl, tt)), ((apart _ _ refl, tt), (tt, tt))), (tt, (tt, (tt, tt))))
+full name.Example = (((apart _ _ refl, tt), (tt, tt)), (tt, (tt, tt)))
+full name.Counts = tt
+
+-- what was read at a named type
+abbrev IsReadAt : TypeName → List ℕ → TypedValue → Type 0
+IsReadAt n s v = IsMeant (λ (v : TypedValue). v.tree) (λ v T. IsAt T v) (type_of n) s v
 
 -- the value that was read is the answer
-pub answered : (n : TypeName) (s : List ℕ) (v : TypedValue) (answer : List ℕ) → IsMeant (λ (v : TypedValue). v.tree) (λ v T. IsAt T v) (type_of n) s v → answer ≡ text v.tree → Answers (Read n) s answer
+pub answered : (n : TypeName) (s : List ℕ) (v : TypedValue) (answer : List ℕ) → IsReadAt n s v → answer ≡ text v.tree → Answers (Read n) s answer
 answered n s v answer read same = (v.tree, (read (full n)).0, same)
 
+-- it is refused for want of memory alone
+pub wants_memory : (n : TypeName) (s : List ℕ) (v : TypedValue) (e : WriterError) → IsReadAt n s v → IsForMemory v.tree e → IsWantOfMemory e
+wants_memory n s v e read memory = memory (type_of n) (read (full n)).1.fits
+
+-- what the program makes of an error that tells why there is no answer, unless it is want of memory
+unanswered : (request : Request) (s : List ℕ) (e : ParserError) (u : Unanswered) → (e.kind ≢ kind.OutOfMemory → IsRefused request s e) → MatchesRefusal e u → IsUnanswered request s u
+unanswered request s e (why.Refused refusal) told same = subst (IsRefused request s) (sym same.0) (told same.1)
+unanswered request s e why.OutOfMemory told same = tt
+
+-- so is an error that is handed on
+pub handed_on : {X : Type 0} (Answer : X → Type 0) (request : Request) (s : List ℕ) (r : Result X Unanswered) (e : ParserError) → IsErrAnd r (MatchesRefusal e) → (e.kind ≢ kind.OutOfMemory → IsRefused request s e) → MatchResult r Answer (IsUnanswered request s)
+handed_on Answer request s (Ok x) e same why = absurd same
+handed_on Answer request s (Err u) e same why = unanswered request s e u why same
+
 -- the refusal tells a fault of the text, which has no answer; or it is want of memory
-told : (n : TypeName) (s : List ℕ) (e : ParserError) → RefusesText IsFull (type_of n) s e → e.kind ≢ kind.OutOfMemory → IsRefused (Read n) s e
+pub told : (n : TypeName) (s : List ℕ) (e : ParserError) → RefusesText IsFull (type_of n) s e → e.kind ≢ kind.OutOfMemory → IsRefused (Read n) s e
 told n s e fault other = by (fault (full n)) where
   by : (e.kind ≡ kind.OutOfMemory) ⊎ TextFault (type_of n) s e × MeansNone (type_of n) s ⊎ (e.kind ≡ kind.WasmValueError) × (IsFull (type_of n) → ⊥) → IsRefused (Read n) s e
   by (inl memory) = absurd (other memory)
   by (inr (inl (wrong, none))) = (wrong, λ answer found. none found.0 found.1)
   by (inr (inr (is, partly))) = absurd (partly (full n))
-
--- so is what the program makes of it
-pub refused : (n : TypeName) (s : List ℕ) (e : ParserError) (u : Unanswered) → RefusesText IsFull (type_of n) s e → MatchesRefusal e u → IsUnanswered (Read n) s u
-refused n s e (why.Refused refusal) fault same = subst (IsRefused (Read n) s) (sym same.0) (told n s e fault same.1)
-refused n s e why.OutOfMemory fault same = tt

@@ -1,26 +1,34 @@
 -- What the program answers.
-use Rattle.std.specs.Prelude.{ℕ, List, [], ◌∷◌, ◌++◌, ◌≡◌, ◌≢◌, IfSome, IsUtf8, codes}
+use Rattle.std.specs.Prelude.{ℕ, List, [], ◌∷◌, ◌++◌, ◌≡◌, IfSome, IsUtf8, codes}
 use Rattle.std.specs.declared.option.Option.{Option}
 use Rattle.wave_wasm.specs.Values.{Value}
 use Rattle.wave_wasm.specs.Text.{text}
 use Rattle.wave_lex.specs.declared.error.ParserError.{ParserError}
-use Rattle.wave_grammar.specs.Denotes.{Means}
+use Rattle.wave_grammar.specs.Tree.{Tree, MaybeTree, shown}
+use Rattle.wave_grammar.specs.Calls.{IsCall, shown_call}
+use Rattle.wave_grammar.specs.Denotes.{Means, SpellsText}
 use Rattle.wave_tree.specs.FromStr.{TextFault}
+use Rattle.wave_tree.specs.Untyped.{SyntaxFault}
+use Rattle.wave_tree.specs.UntypedCall.{CallFault}
 use Rattle.wave.specs.declared.request.Request.{Request}
-use Rattle.wave.specs.declared.request.Request.TheVariants.{Read}
+use Rattle.wave.specs.declared.request.Request.TheVariants as request
 use Rattle.wave.specs.declared.input.Input.{Input}
 use Rattle.wave.specs.declared.input.Fault.{Fault}
 use Rattle.wave.specs.declared.input.Fault.TheVariants.{NotUtf8, InputFailed, OutOfMemory}
 use Rattle.wave.specs.Requests.{type_of}
-use Rattle.wave.specs.ReadFaults.{IsUnread}
+use Rattle.wave.specs.ReadFaults.{IsReadToEnd, IsUnread}
 
--- the request on the text has the answer: the canonical text of the value that the text means
+-- the request on the text has the answer: the display of the tree that the text spells, that of the call that it is, or the canonical text of the value that it means at the type
 abbrev pub Answers : Request → List ℕ → List ℕ → Type 0
-Answers (Read name) whole answer = (v : Value) × Means (type_of name) whole v × (answer ≡ text v)
+Answers request.Value whole answer = (t : Tree) × SpellsText whole t × (answer ≡ shown t)
+Answers request.Call whole answer = (name : List ℕ) × (params : MaybeTree) × IsCall whole name params × (answer ≡ shown_call name params)
+Answers (request.Read name) whole answer = (v : Value) × Means (type_of name) whole v × (answer ≡ text v)
 
 -- the refusal tells a fault of the text: its kind, its cause and its place
 abbrev pub TellsFaultOf : Request → List ℕ → ParserError → Type 0
-TellsFaultOf (Read name) whole e = TextFault (type_of name) whole e
+TellsFaultOf request.Value whole e = SyntaxFault whole e
+TellsFaultOf request.Call whole e = CallFault whole e
+TellsFaultOf (request.Read name) whole e = TextFault (type_of name) whole e
 
 -- the request on the text has no answer, and the refusal tells why
 abbrev pub IsRefused : Request → List ℕ → ParserError → Type 0
@@ -45,11 +53,11 @@ words_of_fault InputFailed = codes "input failed"
 words_of_fault OutOfMemory = codes "out of memory"
 
 module _ {R : Type 0} where
-  -- the fault is there: the input is no text, or was not read to its end; or memory was wanting
-  abbrev pub IsFaultOf : Option (List ℕ) → Input R → Fault → Type 0
-  IsFaultOf left input NotUtf8 = IsNoText left
-  IsFaultOf left input InputFailed = IsUnread input
-  IsFaultOf left input OutOfMemory = Unit {0}
+  -- the fault is there: the input was read to its end and is no text, or was not read to its end; or memory was wanting, and no read failed
+  abbrev pub IsFaultOf : Option (List ℕ) → Input R → Input R → Fault → Type 0
+  IsFaultOf left old new NotUtf8 = IsNoText left × IsReadToEnd old new
+  IsFaultOf left old new InputFailed = IsUnread old new
+  IsFaultOf left old new OutOfMemory = new.failures ≡ old.failures
 
 -- what is written for words that make no request
 abbrev pub usage : List ℕ

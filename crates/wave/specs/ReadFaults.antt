@@ -1,16 +1,27 @@
--- Why an input was not read to its end.
-use Rattle.std.specs.Prelude.{◌≡◌, ◌⊎◌, true}
+-- How far an input was read, and why not to its end.
+use Rattle.std.specs.Prelude.{ℕ, ◌≡◌, ◌⊎◌, ◌+◌, ◌-◌, ◌^◌, min, true, false}
 use Rattle.wave.specs.declared.input.Fault.{Fault}
 use Rattle.wave.specs.declared.input.Fault.TheVariants.{NotUtf8, InputFailed, OutOfMemory}
 use Rattle.wave.specs.declared.input.Input.{Input}
 
-module _ {R : Type 0} where
-  -- a read failed, or no call of the reader is left
-  abbrev pub IsUnread : Input R → Type 0
-  IsUnread input = (input.has_failed ≡ true) ⊎ (input.reads_left ≡ 0)
+-- one failure more was counted, unless the count stood at its end
+abbrev pub CountsOne : ℕ → ℕ → Type 0
+CountsOne old new = new ≡ min (old + 1) (2 ^ 64 - 1)
 
-  -- the input was not read to its end, or memory was wanting
-  abbrev pub IsReadFault : Input R → Fault → Type 0
-  IsReadFault input NotUtf8 = ⊥
-  IsReadFault input InputFailed = IsUnread input
-  IsReadFault input OutOfMemory = Unit {0}
+module _ {R : Type 0} where
+  -- the reader told its end, which it had not told before, and no read failed
+  abbrev pub IsReadToEnd : Input R → Input R → Type 0
+  IsReadToEnd old new = (old.has_ended ≡ false) × (new.has_ended ≡ true) × (new.failures ≡ old.failures)
+
+  -- the last read failed; or no call of the reader is left, which did not tell its end; or it had told its end before, and was not called
+  abbrev pub IsUnread : Input R → Input R → Type 0
+  IsUnread old new =
+      CountsOne old.failures new.failures × (new.has_ended ≡ false)
+      ⊎ (new.reads_left ≡ 0) × (new.has_ended ≡ false) × (new.failures ≡ old.failures)
+      ⊎ (old.has_ended ≡ true) × (new ≡ old)
+
+  -- the input was not read to its end; or memory was wanting, and no read failed
+  abbrev pub IsReadFault : Input R → Input R → Fault → Type 0
+  IsReadFault old new NotUtf8 = ⊥
+  IsReadFault old new InputFailed = IsUnread old new
+  IsReadFault old new OutOfMemory = new.failures ≡ old.failures

@@ -1,4 +1,4 @@
--- What is written at each status.
+-- Which line is due at which status.
 use Rattle.std.specs.Prelude.{ℕ, List, ◌≡◌, ◌⊎◌}
 use Rattle.std.specs.declared.option.Option.{Option}
 use Rattle.wave_lex.specs.Errors.{error_text}
@@ -6,34 +6,34 @@ use Rattle.wave_lex.specs.declared.error.ParserError.{ParserError}
 use Rattle.wave.specs.declared.request.Request.{Request}
 use Rattle.wave.specs.declared.input.Fault.{Fault}
 use Rattle.wave.specs.declared.input.Input.{Input}
-use Rattle.wave.specs.declared.output.Output.{Output}
 use Rattle.wave.specs.Requests.{words_of, AreUnknown}
 use Rattle.wave.specs.Answers.{Answers, IsRefused, IsInput, IsFaultOf, line, words_of_fault, usage}
-use Rattle.wave.specs.Written.{WritesWhole, WritesLess}
+use Rattle.wave.specs.ReadFaults.{IsReadToEnd}
 
--- the words make a request that has an answer on the whole input, and that is the line
-abbrev pub IsAnswer : List (List ℕ) → Option (List ℕ) → List ℕ → Type 0
-IsAnswer words left said = (request : Request) × (whole : List ℕ) × (answer : List ℕ)
-    × (words ≡ words_of request) × IsInput left whole × Answers request whole answer × (said ≡ line answer)
+-- the request has an answer on the whole input, and that is the line
+abbrev pub IsAnswer : Request → Option (List ℕ) → List ℕ → Type 0
+IsAnswer request left said = (whole : List ℕ) × (answer : List ℕ)
+    × IsInput left whole × Answers request whole answer × (said ≡ line answer)
 
--- the words make a request that has no answer on the whole input, and the text of a refusal that tells why is the line
-abbrev pub IsRefusal : List (List ℕ) → Option (List ℕ) → List ℕ → Type 0
-IsRefusal words left said = (request : Request) × (whole : List ℕ) × (refusal : ParserError)
-    × (words ≡ words_of request) × IsInput left whole × IsRefused request whole refusal × (said ≡ line (error_text refusal))
+-- the request has no answer on the whole input, and the text of a refusal that tells why is the line
+abbrev pub IsRefusal : Request → Option (List ℕ) → List ℕ → Type 0
+IsRefusal request left said = (whole : List ℕ) × (refusal : ParserError)
+    × IsInput left whole × IsRefused request whole refusal × (said ≡ line (error_text refusal))
 
 -- the words make no request, and the usage is the line
 abbrev pub IsUsage : List (List ℕ) → List ℕ → Type 0
 IsUsage words said = AreUnknown words × (said ≡ usage)
 
-module _ {W : Type 0} (contents : W → Option (List ℕ)) where
-  -- the fault's words were written, or a write failed before all of them were
-  abbrev pub TellsFault : Output W → Output W → Fault → Type 0
-  TellsFault old new fault = WritesWhole contents old new (line (words_of_fault fault)) ⊎ WritesLess contents old new (line (words_of_fault fault))
+module _ {R : Type 0} where
+  -- the line that the request is due on what the reader had left: its answer or its refusal where the input was read to its end, or else a fault's words
+  abbrev pub IsDueTo : Request → Option (List ℕ) → Input R → Input R → ℕ → List ℕ → Type 0
+  IsDueTo request left old new status said =
+      (status ≡ 0) × IsAnswer request left said × IsReadToEnd old new
+      ⊎ (status ≡ 1) × IsRefusal request left said × IsReadToEnd old new
+      ⊎ (status ≡ 3) × ((fault : Fault) × IsFaultOf left old new fault × (said ≡ line (words_of_fault fault)))
 
-  -- a write failed before all of the answer, the refusal's text or the usage was written
-  abbrev pub IsCutShort : List (List ℕ) → Option (List ℕ) → Output W → Output W → Type 0
-  IsCutShort words left old new = (said : List ℕ) × (IsAnswer words left said ⊎ IsRefusal words left said ⊎ IsUsage words said) × WritesLess contents old new said
-
-  -- the words make a request, a fault is there that leaves it without outcome, and the fault was told
-  abbrev pub IsFaulty : {R : Type 0} → List (List ℕ) → Option (List ℕ) → Input R → Output W → Output W → Type 0
-  IsFaulty words left input old new = (request : Request) × (fault : Fault) × (words ≡ words_of request) × IsFaultOf left input fault × TellsFault old new fault
+  -- the line that is due, and the status that goes with it: what the request is due that the words make, or the usage where they make none
+  abbrev pub IsDue : List (List ℕ) → Option (List ℕ) → Input R → Input R → ℕ → List ℕ → Type 0
+  IsDue words left old new status said =
+      (status ≡ 2) × IsUsage words said
+      ⊎ ((request : Request) × (words ≡ words_of request) × IsDueTo request left old new status said)

@@ -1,21 +1,18 @@
 // The program between a reader and a writer.
-ghost use Rattle.std.specs.Prelude.{ℕ, List, ◌≡◌, ◌≢◌, ◌≤◌, ◌⊎◌, true, false, map, MatchResult, IfOk, IfErr, OnOk, IfSome, string_bytes};
-ghost use Rattle.wave.specs.ReadFaults.{IsReadFault};
-ghost use Rattle.wave.specs.Written.{WritesWhole, WritesLess};
-ghost use Rattle.wave.specs.declared.request.Request.TheVariants as request;
-ghost use Rattle.wave.specs.Requests.{AreUnknown, type_of};
-ghost use Rattle.wave.specs.Answers.{Answers, IsFaultOf, line, words_of_fault};
-ghost use Rattle.wave.specs.Private.Answers.{IsOutcome, IsUnanswered, MatchesRefusal};
-ghost use Rattle.wave.specs.Statuses.{IsAnswer, IsRefusal, IsUsage, IsCutShort, IsFaulty, TellsFault};
+ghost use Rattle.std.specs.Prelude.{ℕ, List, ◌≡◌, ◌≤◌, true, false, map, MatchResult, IfOk, IfErr, IfSome, string_bytes};
+ghost use Rattle.wave.specs.ReadFaults.{IsReadToEnd, IsReadFault};
+ghost use Rattle.wave.specs.Written.{WritesWhole, WritesLess, Prints};
+ghost use Rattle.wave.specs.Requests.{AreUnknown};
+ghost use Rattle.wave.specs.Answers.{IsFaultOf, line, words_of_fault};
+ghost use Rattle.wave.specs.Private.Answers.{IsOutcome};
+ghost use Rattle.wave.specs.Statuses.{IsDue};
 
+use crate::answer::{Unanswered, answer};
 use crate::input::{Fault, Input};
 use crate::output::Output;
-use crate::request::{Request, TypeName, request_of};
+use crate::request::{Request, request_of};
 use std::alloc::{AllocError, Global};
 use std::io::{Read, Write};
-use wasm_wave::parser::{ParserError, ParserErrorKind};
-use wasm_wave::value::{Type, Value};
-use wasm_wave::{from_str, to_string};
 
 const CHUNK: usize = 65_536;
 
@@ -23,23 +20,20 @@ const USAGE: &str = "usage: wave value | wave call | wave read NAME\n";
 
 /// Answers the words on the input, and gives the status to end with: 0 where the request has an
 /// answer, 1 where it has none, 2 where the words make no request, and 3 where the input or the
-/// output failed, the input is no text, or memory ran out.
+/// output failed, the input is no text, or memory ran out. An input whose reader told its end
+/// before the call counts as one that failed.
 pub fn run<R: Read, W: Write>(
     alloc: Global,
     words: &[String],
     input: &mut Input<R>,
     output: &mut Output<W>,
 ) -> u8
-    ensures statuses { result ≤ 3 }
-    ensures answered { result ≡ 0 → (said : List ℕ) × IsAnswer (map string_bytes words.now) (R.remaining input.old.reader) said × WritesWhole W.contents output.old output.new said }
-    ensures refused { result ≡ 1 → (said : List ℕ) × IsRefusal (map string_bytes words.now) (R.remaining input.old.reader) said × WritesWhole W.contents output.old output.new said }
-    ensures unknown { result ≡ 2 → (said : List ℕ) × IsUsage (map string_bytes words.now) said × WritesWhole W.contents output.old output.new said }
-    ensures failed { result ≡ 3 →
-        IsCutShort W.contents (map string_bytes words.now) (R.remaining input.old.reader) output.old output.new
-        ⊎ IsFaulty W.contents (map string_bytes words.now) (R.remaining input.old.reader) input.new output.old output.new }
+    // One line was due, and the status with it; it was written, or a write failed.
+    ensures printed { (status : ℕ) × (said : List ℕ)
+        × IsDue (map string_bytes words.now) (R.remaining input.old.reader) input.old input.new status said
+        × Prints W.contents output.old output.new said status result }
     // The words are tested before anything is read.
     ensures tested_first { AreUnknown (map string_bytes words.now) → input.new ≡ input.old }
-    ensures went_well { result ≢ 3 → input.new.has_failed ≡ input.old.has_failed }
     ensures counted { input.new.reads_left ≤ input.old.reads_left }
 {
     let Some(request) = request_of(words) else {
@@ -54,8 +48,7 @@ pub fn run<R: Read, W: Write>(
 
 /// Says why there is no answer and no refusal.
 pub fn report<W: Write>(output: &mut Output<W>, fault: Fault) -> u8
-    ensures status { result ≡ 3 }
-    ensures told { TellsFault W.contents output.old output.new fault }
+    ensures { Prints W.contents output.old output.new (line (words_of_fault fault)) 3 result }
 {
     print(output, fault_line(fault), 3)
 }
@@ -73,8 +66,7 @@ fn fault_line(fault: Fault) -> &'static str
 
 /// The status, or 3 where a write failed before all of the line was written.
 fn print<W: Write>(output: &mut Output<W>, line: &str, status: u8) -> u8
-    ensures { ((result ≡ status) × WritesWhole W.contents output.old output.new line.now)
-        ⊎ ((result ≡ 3) × WritesLess W.contents output.old output.new line.now) }
+    ensures { Prints W.contents output.old output.new line.now status result }
 {
     if write_whole(output, line.as_bytes()) {
         status
@@ -106,18 +98,10 @@ enum Outcome {
     Refused(String),
 }
 
-/// Why a request has no answer on a text: the text is refused, or memory ran out.
-#[derive(Drop)]
-enum Unanswered {
-    Refused(ParserError),
-    OutOfMemory,
-}
-
 /// The outcome of the request on all of the input.
 fn respond<R: Read>(alloc: Global, request: Request, input: &mut Input<R>) -> Result<Outcome, Fault>
-    ensures outcome { IfOk result (IsOutcome request (R.remaining input.old.reader)) }
-    ensures went_well { OnOk result (input.new.has_failed ≡ input.old.has_failed) }
-    ensures fault { IfErr result (IsFaultOf (R.remaining input.old.reader) input.new) }
+    ensures outcome { IfOk result (λ outcome. IsOutcome request (R.remaining input.old.reader) outcome × IsReadToEnd input.old input.new) }
+    ensures fault { IfErr result (IsFaultOf (R.remaining input.old.reader) input.old input.new) }
     ensures counted { input.new.reads_left ≤ input.old.reads_left }
 {
     let bytes = read_whole(alloc, input)?;
@@ -133,13 +117,16 @@ fn respond<R: Read>(alloc: Global, request: Request, input: &mut Input<R>) -> Re
     }
 }
 
-/// The bytes up to the end of the input.
+/// The bytes up to the end of the input, which is read once.
 fn read_whole<R: Read>(alloc: Global, input: &mut Input<R>) -> Result<Vec<u8>, Fault>
     ensures whole { IfOk result (λ bytes. IfSome (R.remaining input.old.reader) (λ left. bytes.items ≡ left)) }
-    ensures went_well { OnOk result (input.new.has_failed ≡ input.old.has_failed) }
-    ensures fault { IfErr result (IsReadFault input.new) }
+    ensures ended { IfOk result (λ bytes. IsReadToEnd input.old input.new) }
+    ensures fault { IfErr result (IsReadFault input.old input.new) }
     ensures counted { input.new.reads_left ≤ input.old.reads_left }
 {
+    if input.has_ended() {
+        return Err(Fault::InputFailed);
+    }
     let mut bytes = Vec::new(alloc);
     let mut chunk = [0; CHUNK];
     while input.reads_left() > 0 {
@@ -159,59 +146,4 @@ fn line_of(text: String) -> Result<String, AllocError>
     let mut whole = text;
     whole.push('\n')?;
     Ok(whole)
-}
-
-/// The answer of the request on the text.
-fn answer(alloc: Global, request: Request, text: &str) -> Result<String, Unanswered>
-    ensures { MatchResult result
-        (λ answer. Answers request text.now (string_bytes answer))
-        (λ why. IsUnanswered request text.now why) }
-{
-    match request {
-        Request::Read(name) => read(alloc, name, text),
-    }
-}
-
-/// The canonical text of the value that the text means at the named type.
-fn read(alloc: Global, name: TypeName, text: &str) -> Result<String, Unanswered>
-    ensures { MatchResult result
-        (λ answer. Answers (request.Read name) text.now (string_bytes answer))
-        (λ why. IsUnanswered (request.Read name) text.now why) }
-{
-    let value = match from_str::<Value>(alloc, &type_of(name), text) {
-        Ok(value) => value,
-        Err(error) => return Err(why_refused(error)),
-    };
-    match to_string(alloc, &value) {
-        Ok(answer) => Ok(answer),
-        Err(_) => Err(Unanswered::OutOfMemory),
-    }
-}
-
-/// The refusal, unless it is want of memory.
-fn why_refused(error: ParserError) -> Unanswered
-    ensures { MatchesRefusal error result }
-{
-    if error.kind() == ParserErrorKind::OutOfMemory {
-        Unanswered::OutOfMemory
-    } else {
-        Unanswered::Refused(error)
-    }
-}
-
-/// The type that the name stands for.
-fn type_of(name: TypeName) -> Type
-    ensures { result ≡ type_of name }
-{
-    match name {
-        TypeName::Bool => Type::BOOL,
-        TypeName::S8 => Type::S8,
-        TypeName::S16 => Type::S16,
-        TypeName::S32 => Type::S32,
-        TypeName::S64 => Type::S64,
-        TypeName::U8 => Type::U8,
-        TypeName::U16 => Type::U16,
-        TypeName::U32 => Type::U32,
-        TypeName::U64 => Type::U64,
-    }
 }

@@ -77,7 +77,12 @@ impl Write for Narrow {
 
 /// What the program answers `read NAME` on the input, as its status and what it writes.
 fn read(alloc: Global, name: &str, input: &[u8]) -> Result<(u8, Vec<u8>), AllocError> {
-    let words = texts(alloc, &["read", name])?;
+    answers(alloc, &["read", name], input)
+}
+
+/// What the program answers the words on the input, as its status and what it writes.
+fn answers(alloc: Global, words: &[&str], input: &[u8]) -> Result<(u8, Vec<u8>), AllocError> {
+    let words = texts(alloc, words)?;
     let mut reader = input;
     let mut written = Vec::new(alloc);
     let status = run(
@@ -124,9 +129,57 @@ fn reads_and_prints(rt: HostRuntime) -> Result<(), Fail> {
         ("u64", &b"0"[..], &b"0\n"[..]),
         ("bool", &b"true"[..], &b"true\n"[..]),
         ("bool", &b" false // no\n"[..], &b"false\n"[..]),
+        ("char", &b"'\\u{e9}'"[..], &b"'\xc3\xa9'\n"[..]),
+        ("string", &b"\"it's\""[..], &b"\"it\\'s\"\n"[..]),
+        ("bytes", &b"[1, 255,]"[..], &b"[1, 255]\n"[..]),
+        ("perms", &b"{write, read,}"[..], &b"{read, write}\n"[..]),
+        ("status", &b"%ok"[..], &b"%ok\n"[..]),
+        ("status", &b"not-found"[..], &b"not-found\n"[..]),
+        ("response", &b"empty"[..], &b"empty\n"[..]),
+        ("response", &b"body( [7] )"[..], &b"body([7])\n"[..]),
+        ("response", &b"%err(\"oops\")"[..], &b"%err(\"oops\")\n"[..]),
+        (
+            "example",
+            &b"{optional: some(1), must-have: 123}"[..],
+            &b"{must-have: 123, optional: some(1)}\n"[..],
+        ),
+        (
+            "counts",
+            &b"{\"a\": 1, \"b\": 2, \"\\u{61}\": 3}"[..],
+            &b"{\"a\": 3, \"b\": 2}\n"[..],
+        ),
     ] {
         let (status, written) = read(rt.alloc(), name, input)?;
         assert_eq!(rt; status, 0);
+        assert_eq!(rt; written.as_slice(), output);
+    }
+    Ok(())
+}
+
+#[test]
+fn displays_what_has_no_type(rt: HostRuntime) -> Result<(), Fail> {
+    for (word, input, status, output) in [
+        ("value", &b"{%b, a,}"[..], 0, &b"{a, b}\n"[..]),
+        ("value", &b"\"\\u{d800}\""[..], 0, &b"\"\\u{d800}\"\n"[..]),
+        ("value", &b"()"[..], 1, &b"empty tuple at 0..2\n"[..]),
+        (
+            "value",
+            &b"{a, %a}"[..],
+            1,
+            &b"duplicate flag: \"a\" at 4..6\n"[..],
+        ),
+        ("call", &b"f (1 , )"[..], 0, &b"f(1)\n"[..]),
+        ("call", &b"f()"[..], 0, &b"f()\n"[..]),
+        ("call", &b"f(%ok(1))"[..], 0, &b"f(%ok(1))\n"[..]),
+        (
+            "call",
+            &b"f"[..],
+            1,
+            &b"unexpected end of input at 1..1\n"[..],
+        ),
+    ] {
+        let (ended, written) = answers(rt.alloc(), &[word], input)?;
+        assert_eq!(rt; ended, status);
         assert_eq!(rt; written.as_slice(), output);
     }
     Ok(())
@@ -179,6 +232,9 @@ fn words_come_before_input(rt: HostRuntime) -> Result<(), Fail> {
         &["read", "u9"][..],
         &["read"][..],
         &["write", "u8"][..],
+        &["help"][..],
+        &["value", "u8"][..],
+        &["call", "f"][..],
         &["read", "u8", "u8"][..],
         &[][..],
     ] {
@@ -226,6 +282,73 @@ fn counts_reads(rt: HostRuntime) -> Result<(), Fail> {
             status
         );
     }
+    Ok(())
+}
+
+/// Gives `1`, a space a call so often, and its end once; then it fails.
+#[derive(Drop)]
+struct Once {
+    left: u32,
+    has_ended: bool,
+}
+
+impl Read for Once {
+    fn read(&mut self, buf: &mut [u8]) -> io::Result<usize> {
+        if self.has_ended {
+            return Err(io::Error::from(ErrorKind::TimedOut));
+        }
+        if self.left == 0 || buf.is_empty() {
+            self.has_ended = true;
+            return Ok(0);
+        }
+        self.left -= 1;
+        buf[0] = if self.left == 0 { b'1' } else { b' ' };
+        Ok(1)
+    }
+}
+
+#[test]
+fn reads_to_the_end_once(rt: HostRuntime) -> Result<(), Fail> {
+    let alloc = rt.alloc();
+    let words = texts(alloc, &["value"])?;
+    let mut reader = Once {
+        left: 5_000,
+        has_ended: false,
+    };
+    let mut input = Input::new(&mut reader);
+    for (status, output) in [(0, &b"1\n"[..]), (3, &b"input failed\n"[..])] {
+        let mut written = Vec::new(alloc);
+        let ended = run(alloc, &words, &mut input, &mut Output::new(&mut written));
+        assert_eq!(rt; ended, status);
+        assert_eq!(rt; written.as_slice(), output);
+    }
+    Ok(())
+}
+
+#[test]
+fn a_long_line(rt: HostRuntime) -> Result<(), Fail> {
+    let alloc = rt.alloc();
+    let words = texts(alloc, &["value"])?;
+    let mut text = Vec::new(alloc);
+    text.resize(70_000, b'7')?;
+    let mut reader = text.as_slice();
+    let taken = Vec::new(alloc);
+    let mut writer = Narrow {
+        taken,
+        room: 100_000,
+        fails: true,
+    };
+    assert_eq!(rt;
+        run(
+            alloc,
+            &words,
+            &mut Input::new(&mut reader),
+            &mut Output::new(&mut writer)
+        ),
+        0
+    );
+    text.push(b'\n')?;
+    assert_eq!(rt; writer.taken.as_slice(), text.as_slice());
     Ok(())
 }
 

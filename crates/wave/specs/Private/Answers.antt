@@ -1,16 +1,15 @@
--- What the program answers.
-use Rattle.std.specs.Prelude.{ℕ, List, [], ◌∷◌, ◌++◌, ◌≡◌, ◌≢◌, string_bytes}
+-- What the parts of the program answer to each other.
+use Rattle.std.specs.Prelude.{ℕ, List, ◌≡◌, ◌≢◌, string_bytes}
 use Rattle.std.specs.declared.option.Option.{Option}
-use Rattle.wave_wasm.specs.Text.{text}
-use Rattle.wave_lex.specs.Errors.{error_text}
 use Rattle.wave_lex.specs.declared.error.ParserError.{ParserError}
 use Rattle.wave_lex.specs.declared.error.ParserErrorKind.TheVariants as kind
-use Rattle.wave.specs.declared.program.Unanswered.{Unanswered}
-use Rattle.wave.specs.declared.program.Unanswered.TheVariants as why
+use Rattle.wave.specs.declared.answer.Unanswered.{Unanswered}
+use Rattle.wave.specs.declared.answer.Unanswered.TheVariants as why
 use Rattle.wave.specs.declared.request.Request.{Request}
 use Rattle.wave.specs.declared.program.Outcome.{Outcome}
 use Rattle.wave.specs.declared.program.Outcome.TheVariants.{Answered, Refused}
-use Rattle.wave.specs.Answers.{Answers, IsInput, IsRefused, line}
+use Rattle.wave.specs.Answers.{IsRefused}
+use Rattle.wave.specs.Statuses.{IsAnswer, IsRefusal}
 
 -- what is said where a request has no answer: of a refused text, why it has none
 abbrev pub IsUnanswered : Request → List ℕ → Unanswered → Type 0
@@ -24,7 +23,5 @@ MatchesRefusal e why.OutOfMemory = e.kind ≡ kind.OutOfMemory
 
 -- the outcome is that of the request on the whole input: its answer, or its refusal's text, as a line
 abbrev pub IsOutcome : Request → Option (List ℕ) → Outcome → Type 0
-IsOutcome request left (Answered output) = (whole : List ℕ) × (answer : List ℕ)
-    × IsInput left whole × Answers request whole answer × (string_bytes output ≡ line answer)
-IsOutcome request left (Refused output) = (whole : List ℕ) × (refusal : ParserError)
-    × IsInput left whole × IsRefused request whole refusal × (string_bytes output ≡ line (error_text refusal))
+IsOutcome request left (Answered output) = IsAnswer request left (string_bytes output)
+IsOutcome request left (Refused output) = IsRefusal request left (string_bytes output)
