@@ -8,6 +8,7 @@ use Rattle.wave_grammar.specs.TypedGrammar.{InParens}
 use Rattle.wave_grammar.specs.Tree.{NoParen}
 use Rattle.wave_grammar.proofs.RoundTrip.Tokens.{Stops, stops}
 use Rattle.wave_grammar.proofs.RoundTrip.Injective.{IsOneToken, paren_open_cut, paren_close_cut, comma_cut}
+use Rattle.wave_grammar.proofs.RoundTrip.Items.{followed_stops, StopsFirst}
 
 -- before the end or a mark that is no `(`, behind which a cut is known, the text is cut into tokens that spell the item
 abbrev pub Shows : {A : Type 0} → Spelling A → List ℕ → A → Type 0
@@ -28,10 +29,6 @@ pub record IsClosing (b : ℕ) (close : Token) : Type 0 where
 
 first_token : (a b : Token) (more others : List Token) → a ∷ more ≡ b ∷ others → a ≡ b
 first_token a b more others e = cc
-
-followed_stops : (xs : List (List ℕ)) (b : ℕ) (r : List ℕ) → is_one_of b stops ≡ true → Stops (followed xs ++ b ∷ r)
-followed_stops [] b r e = e
-followed_stops (x ∷ xs) b r e = refl
 
 -- the texts behind a first, and the close
 further_show : {A : Type 0} (close : Token) (b : ℕ) (Item : Spelling A) → IsClosing b close → (xs : List (List ℕ)) (items : List A) → AllShow Item xs items → (r : List ℕ) (rest : List Token) → CutsInto r rest
@@ -79,10 +76,6 @@ parens_show Item x a p r rest cut =
       subst (λ (z : List ℕ). CutsInto (40 ∷ z) (paren_open ∷ tokens)) (sym (append_assoc x (41 ∷ []) r)) (paren_open_cut (x ++ 41 ∷ r) tokens c),
       (tokens, refl, i),
     )
-
--- what follows a label: nothing more, or a mark
-abbrev pub StopsFirst : List ℕ → Type 0
-StopsFirst x = (r : List ℕ) → Stops r → Stops (x ++ r)
 
 -- a label and what is shown behind it
 pub label_show : (text : List ℕ) → IsOneToken text (label text) → {A : Type 0} (Inner : Spelling A) (x : List ℕ) (a : A) → StopsFirst x → Shows Inner x a

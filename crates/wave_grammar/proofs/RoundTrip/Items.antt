@@ -34,7 +34,7 @@ all_print P Q takes (x ∷ xs) (a ∷ items) (p, h) =
     ((λ r rest s cut. let (tokens, c, i) = p r rest s cut in (tokens, c, takes tokens a rest i)), all_print P Q takes xs items h)
 
 -- behind an item a comma or the close stands
-followed_stops : (xs : List (List ℕ)) (b : ℕ) (r : List ℕ) → is_one_of b stops ≡ true → Stops (followed xs ++ b ∷ r)
+pub followed_stops : (xs : List (List ℕ)) (b : ℕ) (r : List ℕ) → is_one_of b stops ≡ true → Stops (followed xs ++ b ∷ r)
 followed_stops [] b r e = e
 followed_stops (x ∷ xs) b r e = refl
 
