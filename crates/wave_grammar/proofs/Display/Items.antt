@@ -34,8 +34,6 @@ first_token a b more others e = cc
 further_show : {A : Type 0} (close : Token) (b : ℕ) (Item : Spelling A) → IsClosing b close → (xs : List (List ℕ)) (items : List A) → AllShow Item xs items → (r : List ℕ) (rest : List Token) → CutsInto r rest
     → (tokens : List Token) × CutsInto (followed xs ++ b ∷ r) tokens × FurtherItems close Item tokens items rest × NoParen tokens
 further_show close b Item closing [] [] h r rest cut = (close ∷ rest, closing.cut r rest cut, inl refl, λ more e. closing.no_paren (first_token close paren_open rest more e))
-further_show close b Item closing [] (a ∷ items) h r rest cut = absurd h
-further_show close b Item closing (x ∷ xs) [] h r rest cut = absurd h
 further_show close b Item closing (x ∷ xs) (a ∷ items) (p, h) r rest cut =
     let (behind, c, i, bare) = further_show close b Item closing xs items h r rest cut in
     let (tokens, d, j) = p (followed xs ++ b ∷ r) behind (followed_stops xs b r closing.stops) c bare in (
@@ -44,13 +42,12 @@ further_show close b Item closing (x ∷ xs) (a ∷ items) (p, h) r rest cut =
       (tokens, behind, refl, j, i),
       λ more e. cc,
     )
+further_show close b Item closing _ _ h r rest cut = absurd h
 
 -- the texts with commas between, and the close
 items_show : {A : Type 0} (close : Token) (b : ℕ) (Item : Spelling A) → IsClosing b close → (xs : List (List ℕ)) (items : List A) → AllShow Item xs items → (r : List ℕ) (rest : List Token) → CutsInto r rest
     → (tokens : List Token) × CutsInto (joined xs ++ b ∷ r) tokens × Items close Item tokens items rest
 items_show close b Item closing [] [] h r rest cut = (close ∷ rest, closing.cut r rest cut, refl)
-items_show close b Item closing [] (a ∷ items) h r rest cut = absurd h
-items_show close b Item closing (x ∷ xs) [] h r rest cut = absurd h
 items_show close b Item closing (x ∷ xs) (a ∷ items) (p, h) r rest cut =
     let (behind, c, i, bare) = further_show close b Item closing xs items h r rest cut in
     let (tokens, d, j) = p (followed xs ++ b ∷ r) behind (followed_stops xs b r closing.stops) c bare in (
@@ -58,6 +55,7 @@ items_show close b Item closing (x ∷ xs) (a ∷ items) (p, h) r rest cut =
       subst (λ (z : List ℕ). CutsInto z tokens) (sym (append_assoc x (followed xs) (b ∷ r))) d,
       (behind, j, i),
     )
+items_show close b Item closing _ _ h r rest cut = absurd h
 
 -- the same behind the opening mark
 pub listed_show : {A : Type 0} (open_mark close : Token) (a b : ℕ) (Item : Spelling A) → ((r : List ℕ) (rest : List Token) → CutsInto r rest → CutsInto (a ∷ r) (open_mark ∷ rest)) → IsClosing b close
