@@ -22,8 +22,6 @@ use Rattle.wave_lex.proofs.Derive.{matches_from}
 use Rattle.wave_lex.proofs.LongestMatch.{longest_here, token_here, no_token_here}
 use Rattle.wave_lex.proofs.Cutting.{no_token_quoted}
 
--- ---- tokens
-
 -- texts that a test tells apart
 apart : (a b : List ℕ) → bytes_eq a b ≡ false → a ≢ b
 apart a b t e = not_from_Decides (bytes_eq a b) (bytes_eq-Decides a b) t e
@@ -58,13 +56,9 @@ text_cut = (codes "// ", (1, 3, longest_here gap _ _ refl refl refl refl, token_
 invalid_tokens : IsInvalid (codes "\"\"\"abc") 3 × IsInvalid (codes "'ab'") 4 × IsInvalid (codes "'abcde'") 1
 invalid_tokens = ((no_token_quoted _ (codes "abc") refl refl refl, longest_here invalid _ _ refl refl refl refl), (no_token_here _ refl refl, longest_here invalid _ _ refl refl refl refl), (no_token_here _ refl refl, longest_here invalid _ _ refl refl refl refl))
 
--- ---- names
-
 -- a function's name with its package, interface, resource and version; a version of two numbers is no part of it, nor is a package without a function; a label
 names : IsName (codes "a:b/c.d@1.0.20()") 14 × IsName (codes "a@1.0()") 1 × IsName (codes "a:b()") 1 × IsLabel (codes "must-HAVE-2")
 names = (longest_here function_name _ _ refl refl refl refl, longest_here function_name _ _ refl refl refl refl, longest_here function_name _ _ refl refl refl refl, matches_from _ label refl)
-
--- ---- strings
 
 -- each short escape and its scalar
 short_escapes : (short_escape 39 ≡ Some 39) × (short_escape 34 ≡ Some 34) × (short_escape 92 ≡ Some 92) × (short_escape 116 ≡ Some 9) × (short_escape 110 ≡ Some 10) × (short_escape 114 ≡ Some 13) × (short_escape 48 ≡ None)
@@ -101,8 +95,6 @@ surrogate = none_long (codes "\\u{D800}") (codes "D800}") 4 refl (record { digit
 surrogate_place : IsBadEscapeAt (codes "\\u{D800}") 0
 surrogate_place = ([], codes "u{D800}", [], refl, ([], (refl, refl)), surrogate, refl)
 
--- ---- multiline strings
-
 -- `"""` CR LF `a` CR LF `"""` means `a`
 return_lines : MultilineMeans (codes "\"\"\"" ++ 13 ∷ 10 ∷ 97 ∷ 13 ∷ 10 ∷ codes "\"\"\"") (codes "a")
 return_lines = (
@@ -135,8 +127,6 @@ opening_bad = (inr (inl ((0, refl), (λ no_second. no_second), refl)), refl)
 -- `"""` LF `a` LF `  """`: a fault of the line, told at its first byte
 line_bad : MultilineFault (10 ∷ 97 ∷ 10 ∷ 32 ∷ 32 ∷ []) (indentation 1) × (fault_span 3 5 (indentation 1) ≡ span 4 5)
 line_bad = (inr (inr (record { first = []; between = codes "a" ∷ []; indent = 2; cut = refl; opens = inl refl; bad = inl (inl ((λ x e. cc), refl)) })), refl)
-
--- ---- errors
 
 -- what is told of an error, with a detail and without
 error_shown : (word : Bor (List ℕ))

@@ -124,9 +124,8 @@ all_alike (t ∷ ts) sound = (alike_tidy t sound.0, all_alike ts sound.1)
 
 all_alike_back : (ts us : List Tree) → AllAlike ts us → AllAlike us ts
 all_alike_back [] [] h = tt
-all_alike_back [] (u ∷ us) h = absurd h
-all_alike_back (t ∷ ts) [] h = absurd h
 all_alike_back (t ∷ ts) (u ∷ us) h = (alike_back t u h.0, all_alike_back ts us h.1)
+all_alike_back _ _ h = absurd h
 
 as_many : (ts : List Tree) → 0 < length ts → 0 < length (tidied (trees ts))
 as_many [] l = l

@@ -8,6 +8,7 @@ use Rattle.wave_grammar.specs.TypedGrammar.{InParens}
 use Rattle.wave_grammar.specs.Tree.{NoParen}
 use Rattle.wave_grammar.proofs.RoundTrip.Tokens.{Stops, stops}
 use Rattle.wave_grammar.proofs.RoundTrip.Injective.{IsOneToken, paren_open_cut, paren_close_cut, comma_cut}
+use Rattle.wave_grammar.proofs.RoundTrip.Items.{followed_stops, StopsFirst}
 
 -- before the end or a mark that is no `(`, behind which a cut is known, the text is cut into tokens that spell the item
 abbrev pub Shows : {A : Type 0} → Spelling A → List ℕ → A → Type 0
@@ -29,16 +30,10 @@ pub record IsClosing (b : ℕ) (close : Token) : Type 0 where
 first_token : (a b : Token) (more others : List Token) → a ∷ more ≡ b ∷ others → a ≡ b
 first_token a b more others e = cc
 
-followed_stops : (xs : List (List ℕ)) (b : ℕ) (r : List ℕ) → is_one_of b stops ≡ true → Stops (followed xs ++ b ∷ r)
-followed_stops [] b r e = e
-followed_stops (x ∷ xs) b r e = refl
-
 -- the texts behind a first, and the close
 further_show : {A : Type 0} (close : Token) (b : ℕ) (Item : Spelling A) → IsClosing b close → (xs : List (List ℕ)) (items : List A) → AllShow Item xs items → (r : List ℕ) (rest : List Token) → CutsInto r rest
     → (tokens : List Token) × CutsInto (followed xs ++ b ∷ r) tokens × FurtherItems close Item tokens items rest × NoParen tokens
 further_show close b Item closing [] [] h r rest cut = (close ∷ rest, closing.cut r rest cut, inl refl, λ more e. closing.no_paren (first_token close paren_open rest more e))
-further_show close b Item closing [] (a ∷ items) h r rest cut = absurd h
-further_show close b Item closing (x ∷ xs) [] h r rest cut = absurd h
 further_show close b Item closing (x ∷ xs) (a ∷ items) (p, h) r rest cut =
     let (behind, c, i, bare) = further_show close b Item closing xs items h r rest cut in
     let (tokens, d, j) = p (followed xs ++ b ∷ r) behind (followed_stops xs b r closing.stops) c bare in (
@@ -47,13 +42,12 @@ further_show close b Item closing (x ∷ xs) (a ∷ items) (p, h) r rest cut =
       (tokens, behind, refl, j, i),
       λ more e. cc,
     )
+further_show close b Item closing _ _ h r rest cut = absurd h
 
 -- the texts with commas between, and the close
 items_show : {A : Type 0} (close : Token) (b : ℕ) (Item : Spelling A) → IsClosing b close → (xs : List (List ℕ)) (items : List A) → AllShow Item xs items → (r : List ℕ) (rest : List Token) → CutsInto r rest
     → (tokens : List Token) × CutsInto (joined xs ++ b ∷ r) tokens × Items close Item tokens items rest
 items_show close b Item closing [] [] h r rest cut = (close ∷ rest, closing.cut r rest cut, refl)
-items_show close b Item closing [] (a ∷ items) h r rest cut = absurd h
-items_show close b Item closing (x ∷ xs) [] h r rest cut = absurd h
 items_show close b Item closing (x ∷ xs) (a ∷ items) (p, h) r rest cut =
     let (behind, c, i, bare) = further_show close b Item closing xs items h r rest cut in
     let (tokens, d, j) = p (followed xs ++ b ∷ r) behind (followed_stops xs b r closing.stops) c bare in (
@@ -61,6 +55,7 @@ items_show close b Item closing (x ∷ xs) (a ∷ items) (p, h) r rest cut =
       subst (λ (z : List ℕ). CutsInto z tokens) (sym (append_assoc x (followed xs) (b ∷ r))) d,
       (behind, j, i),
     )
+items_show close b Item closing _ _ h r rest cut = absurd h
 
 -- the same behind the opening mark
 pub listed_show : {A : Type 0} (open_mark close : Token) (a b : ℕ) (Item : Spelling A) → ((r : List ℕ) (rest : List Token) → CutsInto r rest → CutsInto (a ∷ r) (open_mark ∷ rest)) → IsClosing b close
@@ -79,10 +74,6 @@ parens_show Item x a p r rest cut =
       subst (λ (z : List ℕ). CutsInto (40 ∷ z) (paren_open ∷ tokens)) (sym (append_assoc x (41 ∷ []) r)) (paren_open_cut (x ++ 41 ∷ r) tokens c),
       (tokens, refl, i),
     )
-
--- what follows a label: nothing more, or a mark
-abbrev pub StopsFirst : List ℕ → Type 0
-StopsFirst x = (r : List ℕ) → Stops r → Stops (x ++ r)
 
 -- a label and what is shown behind it
 pub label_show : (text : List ℕ) → IsOneToken text (label text) → {A : Type 0} (Inner : Spelling A) (x : List ℕ) (a : A) → StopsFirst x → Shows Inner x a

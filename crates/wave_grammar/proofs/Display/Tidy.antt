@@ -19,7 +19,8 @@ use Rattle.wave_grammar.proofs.RoundTrip.Names.{label_token, case_token}
 use Rattle.wave_grammar.proofs.Display.Tokens.{HasShape, alone, named, named_twice}
 use Rattle.wave_grammar.proofs.Display.Flags.{AreNames, names_ordered, names_stay, stays_ordered, ordered_distinct}
 use Rattle.wave_grammar.proofs.Display.Trees.{Sound, MaybeSound, AreSound, AreSoundEntries, IsLeafToken}
-use Rattle.wave_grammar.proofs.Display.Items.{Shows, AllShow, IsClosing, StopsFirst, listed_show, parens_show, label_show}
+use Rattle.wave_grammar.proofs.RoundTrip.Items.{StopsFirst}
+use Rattle.wave_grammar.proofs.Display.Items.{Shows, AllShow, IsClosing, listed_show, parens_show, label_show}
 
 -- a label as it is shown
 abbrev pub tidy_label : MaybeTree → List ℕ → List ℕ

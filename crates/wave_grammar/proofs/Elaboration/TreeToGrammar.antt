@@ -1,7 +1,6 @@
 -- A tree to which the type gives a value is read as that value.
-use Rattle.std.proofs.Common.{ℕ, zero, suc, ◌-◌, ◌<◌, ◌≡◌, ◌≢◌, ◌⊎◌, inl, inr, Bool, true, false, List, [], ◌∷◌, length, refl, sym, ap, ◌∙◌, subst, arith}
-use Rattle.std.specs.Prelude.{codes, map, bytes_eq, cond}
-use Rattle.std.proofs.lemmas.Slice.Eq.{bytes_eq-Decides}
+use Rattle.std.proofs.Common.{ℕ, zero, suc, ◌-◌, ◌<◌, ◌≡◌, inl, inr, Bool, true, false, List, [], ◌∷◌, length, refl, sym, ap, ◌∙◌, subst, arith}
+use Rattle.std.specs.Prelude.{codes, map, cond}
 use Rattle.wave_grammar.specs.Token.{Token, brace_open, brace_close, paren_open, paren_close, bracket_open, bracket_close, colon, number, label, char, string, multiline}
 use Rattle.wave_wasm.specs.Types as type
 use Rattle.wave_wasm.specs.Types.{TypeTree, MaybeType, Types, Fields, Cases, Simple, no_type, a_type, no_types, type_and, no_fields, field, no_cases, case_of}
@@ -11,6 +10,7 @@ use Rattle.wave_wasm.specs.Values.{Value, MaybeValue, FieldValues, Leaf, no_valu
 use Rattle.wave_grammar.specs.CommaSeparated.{Spelling, FurtherItems, Items}
 use Rattle.wave_wasm.specs.Keywords as kw
 use Rattle.wave_wasm.specs.Names as nm
+use Rattle.wave_wasm.proofs.NameTests.{is_one, none_of}
 use Rattle.wave_grammar.specs.TypedGrammar as r
 use Rattle.wave_grammar.specs.LeafTokens.{name_of}
 use Rattle.wave_grammar.specs.TypedGrammar.{Reads, ReadsPayload, ReadsFlat, ReadsTuple, ReadsFurther, ReadsField, ReadsCase, IsFlat}
@@ -46,54 +46,29 @@ WordIs ok_word text = text ≡ codes "ok"
 WordIs err_word text = text ≡ codes "err"
 WordIs case_word text = IsNoneOf kw.keywords text
 
--- two texts are one or they differ
-same_or_not : (a b : List ℕ) → (a ≡ b) ⊎ (a ≢ b)
-same_or_not a b = go (bytes_eq a b) refl
-  where
-    go : (t : Bool) → bytes_eq a b ≡ t → (a ≡ b) ⊎ (a ≢ b)
-    go true e = inl ((bytes_eq-Decides a b).0 e)
-    go false e = inr (λ f. let g = (bytes_eq-Decides a b).1 f in cc)
-
 -- the same for a text that is one of the words
 known : (text other : List ℕ) → text ≡ other → WordIs (word_of other) other → WordIs (word_of text) text
 known text other e h = subst (λ x. WordIs (word_of x) x) (sym e) h
 
+-- each keyword is what its text says
+keyword-is : (text : List ℕ) → IsOneOf kw.keywords text → WordIs (word_of text) text
+keyword-is text (inl e) = known text _ e tt
+keyword-is text (inr (inl e)) = known text _ e tt
+keyword-is text (inr (inr (inl e))) = known text _ e refl
+keyword-is text (inr (inr (inr (inl e)))) = known text _ e refl
+keyword-is text (inr (inr (inr (inr (inl e))))) = known text _ e refl
+keyword-is text (inr (inr (inr (inr (inr (inl e)))))) = known text _ e refl
+keyword-is text (inr (inr (inr (inr (inr (inr (inl e))))))) = known text _ e tt
+keyword-is text (inr (inr (inr (inr (inr (inr (inr (inl e)))))))) = known text _ e tt
+keyword-is text (inr (inr (inr (inr (inr (inr (inr (inr h)))))))) = absurd h
+
 -- each word is what its text says
 word-is : (text : List ℕ) → WordIs (word_of text) text
-word-is text =
-    elim (same_or_not text (codes "true")) [
-      | inl e ↦ known text _ e tt
-      | inr h1 ↦
-          elim (same_or_not text (codes "false")) [
-            | inl e ↦ known text _ e tt
-            | inr h2 ↦
-                elim (same_or_not text (codes "some")) [
-                  | inl e ↦ known text _ e refl
-                  | inr h3 ↦
-                      elim (same_or_not text (codes "none")) [
-                        | inl e ↦ known text _ e refl
-                        | inr h4 ↦
-                            elim (same_or_not text (codes "ok")) [
-                              | inl e ↦ known text _ e refl
-                              | inr h5 ↦
-                                  elim (same_or_not text (codes "err")) [
-                                    | inl e ↦ known text _ e refl
-                                    | inr h6 ↦
-                                        elim (same_or_not text (codes "inf")) [
-                                          | inl e ↦ known text _ e tt
-                                          | inr h7 ↦
-                                              elim (same_or_not text (codes "nan")) [
-                                                | inl e ↦ known text _ e tt
-                                                | inr h8 ↦
-                                                    (let h : IsNoneOf kw.keywords text = (h1, (h2, (h3, (h4, (h5, (h6, (h7, (h8, tt)))))))) in subst (λ w. WordIs w text) (sym (not-keyword text h)) h)
-                                              ]
-                                        ]
-                                  ]
-                            ]
-                      ]
-                ]
-          ]
-    ]
+word-is text = by_test (kw.is_keyword text) refl
+  where
+    by_test : (t : Bool) → kw.is_keyword text ≡ t → WordIs (word_of text) text
+    by_test true e = keyword-is text (is_one kw.keywords text e)
+    by_test false e = let none = none_of kw.keywords text e in subst (λ w. WordIs w text) (sym (not-keyword text none)) none
 
 -- what stands behind a label
 by-word : (Inner : Spelling Tree) (w : Word) (text : List ℕ) (behind : List Token) (t : Tree) (rest : List Token) → WordIs w text → BehindWord w text Inner behind t rest → ByTree Inner t (label text ∷ behind) rest

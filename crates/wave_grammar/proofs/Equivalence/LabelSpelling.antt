@@ -142,9 +142,8 @@ AllAlike _ _ = ⊥
 
 alike_trees : (ts : List Tree) (us : Trees) → AreAlike (trees ts) us → (ws : List Tree) × (us ≡ trees ws) × AllAlike ts ws
 alike_trees [] no_trees h = ([], refl, tt)
-alike_trees [] (tree_and u us) h = absurd h
-alike_trees (t ∷ ts) no_trees h = absurd h
 alike_trees (t ∷ ts) (tree_and u us) h = let (ws, e, k) = alike_trees ts us h.1 in (u ∷ ws, ap (tree_and u) e, (h.0, k))
+alike_trees _ _ h = absurd h
 
 -- entries of the same keys, whose values are alike
 abbrev pub AllEntriesAlike : List (Token × Tree) → List (Token × Tree) → Type 0
@@ -154,9 +153,8 @@ AllEntriesAlike _ _ = ⊥
 
 alike_tree_entries : (es : List (Token × Tree)) (fs : TreeEntries) → EntriesAlike (tree_entries es) fs → (ws : List (Token × Tree)) × (fs ≡ tree_entries ws) × AllEntriesAlike es ws
 alike_tree_entries [] no_entries h = ([], refl, tt)
-alike_tree_entries [] (entry k u fs) h = absurd h
-alike_tree_entries (e ∷ es) no_entries h = absurd h
 alike_tree_entries (e ∷ es) (entry k u fs) h = let (ws, g, l) = alike_tree_entries es fs h.2 in ((k, u) ∷ ws, ap (entry k u) g, (h.0, h.1, l))
+alike_tree_entries _ _ h = absurd h
 
 -- ---- what an alike tree means
 
@@ -172,21 +170,18 @@ CarriesAll Mean = (ts us : List Tree) (vs : List Value) → AllAlike ts us → M
 
 each_carried : (Inner : Meaning Tree Value) → Carries Inner → (ts us : List Tree) (vs : List Value) → AllAlike ts us → Each Inner ts vs → Each Inner us vs
 each_carried Inner carries [] [] vs h each = each
-each_carried Inner carries [] (u ∷ us) vs h each = absurd h
-each_carried Inner carries (t ∷ ts) [] vs h each = absurd h
 each_carried Inner carries (t ∷ ts) (u ∷ us) vs h (v, more, read, others, e) = (v, more, carries t u v h.0 read, each_carried Inner carries ts us more h.1 others, e)
+each_carried Inner carries _ _ vs h each = absurd h
 
 as_long : (ts us : List Tree) → AllAlike ts us → length ts ≡ length us
 as_long [] [] h = refl
-as_long [] (u ∷ us) h = absurd h
-as_long (t ∷ ts) [] h = absurd h
 as_long (t ∷ ts) (u ∷ us) h = ap (λ (n : ℕ). suc n) (as_long ts us h.1)
+as_long _ _ h = absurd h
 
 as_many_entries : (es fs : List (Token × Tree)) → AllEntriesAlike es fs → length es ≡ length fs
 as_many_entries [] [] h = refl
-as_many_entries [] (f ∷ fs) h = absurd h
-as_many_entries (e ∷ es) [] h = absurd h
 as_many_entries (e ∷ es) (f ∷ fs) h = ap (λ (n : ℕ). suc n) (as_many_entries es fs h.2)
+as_many_entries _ _ h = absurd h
 
 simple_carries : (S : Simple) → Carries (m.SimpleTree S)
 simple_carries S t u v h (token, leaf, e, spelled, f) = (token, leaf, alike_one token u (subst (λ (w : Tree). Alike w u) e h), spelled, f)
@@ -205,17 +200,15 @@ tuple_carries Inner carries t u v h (ts, vs, e, some_items, read, f) =
 
 named_carried : {A : Type 0} (Inner : List ℕ → Meaning Tree A) → ((name : List ℕ) → Carries (Inner name)) → (es fs : List (Token × Tree)) (found : List (List ℕ × A)) → AllEntriesAlike es fs → Each (m.NamedTree Inner) es found → Each (m.NamedTree Inner) fs found
 named_carried Inner carries [] [] found h each = each
-named_carried Inner carries [] (f ∷ fs) found h each = absurd h
-named_carried Inner carries (e ∷ es) [] found h each = absurd h
 named_carried Inner carries (e ∷ es) (f ∷ fs) found h (a, more, (text, is, name, read), others, g) =
     (a, more, (text, sym h.0 ∙ is, name, carries a.0 e.1 f.1 a.1 h.1 read), named_carried Inner carries es fs more h.2 others, g)
+named_carried Inner carries _ _ found h each = absurd h
 
 keyed_carried : {A : Type 0} (key : Simple) (Inner : Meaning Tree A) → Carries Inner → (es fs : List (Token × Tree)) (found : List (Leaf × A)) → AllEntriesAlike es fs → Each (m.KeyedTree key Inner) es found → Each (m.KeyedTree key Inner) fs found
 keyed_carried key Inner carries [] [] found h each = each
-keyed_carried key Inner carries [] (f ∷ fs) found h each = absurd h
-keyed_carried key Inner carries (e ∷ es) [] found h each = absurd h
 keyed_carried key Inner carries (e ∷ es) (f ∷ fs) found h (a, more, (spelled, read), others, g) =
     (a, more, (subst (λ (t : Token). Spells key t a.0) h.0 spelled, carries e.1 f.1 a.1 h.1 read), keyed_carried key Inner carries es fs more h.2 others, g)
+keyed_carried key Inner carries _ _ found h each = absurd h
 
 -- the entries of an alike tree
 entries_carried : (es : List (Token × Tree)) (t u : Tree) → Alike t u → t ≡ entries (tree_entries es) → (ws : List (Token × Tree)) × (u ≡ entries (tree_entries ws)) × AllEntriesAlike es ws

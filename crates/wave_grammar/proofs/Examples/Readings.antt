@@ -24,7 +24,7 @@ use Rattle.wave_grammar.specs.Tree.{Tree, Takes, word_of, leaf_word, none_word, 
 use Rattle.wave_grammar.specs.Elaborates.{TreeReads}
 use Rattle.wave_grammar.specs.Calls.{SpellsParams, IsCall, shown_call}
 use Rattle.wave_grammar.proofs.Unambiguity.Values.{apart}
-use Rattle.wave_grammar.proofs.RoundTrip.Names.{not_among}
+use Rattle.wave_wasm.proofs.NameTests.{none_of}
 
 abbrev marks : List Token
 marks = brace_open ∷ brace_close ∷ paren_open ∷ paren_close ∷ bracket_open ∷ bracket_close ∷ colon ∷ comma ∷ []
@@ -135,13 +135,13 @@ an_entry = ((lit< tt, (_ ∷ [], inr (_, refl, (_, (_, _, refl, one_spells, inne
 
 -- cases by their names, where a keyword has its `%`
 a_name : Row (type.enum (codes "ok" ∷ [])) "%ok" (tree.label (codes "%ok") tree.no_tree) (value.enum (codes "ok"))
-a_name = ((lit< tt, (_, (_, refl, refl, not_among keywords (codes "%ok") refl), inl refl, refl)), (_, inl (refl, (λ more e. cc), refl), refl), (codes "%ok", refl, inl refl, refl))
+a_name = ((lit< tt, (_, (_, refl, refl, none_of keywords (codes "%ok") refl), inl refl, refl)), (_, inl (refl, (λ more e. cc), refl), refl), (codes "%ok", refl, inl refl, refl))
 
 no_payload : Row (type.variant (type.case_of (codes "a") type.no_type type.no_cases)) "a" (tree.label (codes "a") tree.no_tree) (value.variant (codes "a") value.no_value)
-no_payload = ((lit< tt, (_, _, _, (_, refl, refl, not_among keywords (codes "a") refl), inl (refl, (refl, refl)), refl)), (_, inl (refl, (λ more e. cc), refl), refl), (_, _, _, refl, inl (refl, (refl, refl)), refl))
+no_payload = ((lit< tt, (_, _, _, (_, refl, refl, none_of keywords (codes "a") refl), inl (refl, (refl, refl)), refl)), (_, inl (refl, (λ more e. cc), refl), refl), (_, _, _, refl, inl (refl, (refl, refl)), refl))
 
 a_payload : Row (type.variant (type.case_of (codes "a") type.no_type (type.case_of (codes "ok") (type.a_type u8) type.no_cases))) "%ok(1)" (tree.label (codes "%ok") (tree.a_tree one_tree)) (value.variant (codes "ok") (value.a_value a_one))
-a_payload = ((lit< tt, (_, _, _, (_, refl, refl, not_among keywords (codes "%ok") refl), inr (inl (refl, (_, (_, refl, inner), refl))), refl)), (_, inr (one_tree, (_, refl, (refl, refl)), refl), refl), (codes "%ok", _, _, refl, inr (inl (refl, (one_tree, a_one, refl, given, refl))), refl))
+a_payload = ((lit< tt, (_, _, _, (_, refl, refl, none_of keywords (codes "%ok") refl), inr (inl (refl, (_, (_, refl, inner), refl))), refl)), (_, inr (one_tree, (_, refl, (refl, refl)), refl), refl), (codes "%ok", _, _, refl, inr (inl (refl, (one_tree, a_one, refl, given, refl))), refl))
 
 -- options and results, by a word and flat
 options : Row (type.option u8) "none" tree.none (value.option value.no_value) × Row (type.option u8) "some(1)" (tree.some one_tree) (value.option (value.a_value a_one))

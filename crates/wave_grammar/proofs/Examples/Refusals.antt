@@ -23,7 +23,7 @@ use Rattle.wave_grammar.specs.SpannedTree as placed
 use Rattle.wave_grammar.specs.SpannedTree.{Placed, MaybePlaced, PlacedTrees, at, no_placed, a_placed, tree_of, shape_of, part_places}
 use Rattle.wave_grammar.specs.TypeErrors.{Fault, Blame}
 use Rattle.wave_grammar.proofs.Unambiguity.Values.{apart}
-use Rattle.wave_grammar.proofs.RoundTrip.Names.{not_among}
+use Rattle.wave_wasm.proofs.NameTests.{none_of}
 use Rattle.wave_grammar.proofs.Examples.Readings.{tokens, one, above_u8, u8, u8_or_err}
 
 -- what the last of the tokens does behind the others, within three levels; a refusal stays
@@ -105,7 +105,7 @@ three_entries = at (span 0 21) (placed.entries (placed.entry (span 1 2) (token.l
     (placed.entry (span 7 8) (token.label (codes "a")) (leaf 10 13 big) (placed.entry (span 15 17) (token.label (codes "%a")) (leaf 19 20 one) placed.no_entries))))
 
 records : Fault a_type three_entries (plainly InvalidValue) (span 0 21) × Fault a_type three_entries (plainly DuplicateField) (span 15 17) × Fault a_type three_entries (plainly InvalidValue) (span 10 13)
-records = (inr (inl (inl (inl (not_among (codes "a" ∷ []) (codes "b") refl)), (refl, refl))), inr (inr (inl (inr (inr (inl (inl (inl refl), (refl, refl))))))), inr (inr (inr (inr (inl (inr (inl (refl, too_large))))))))
+records = (inr (inl (inl (inl (none_of (codes "a" ∷ []) (codes "b") refl)), (refl, refl))), inr (inr (inl (inr (inr (inl (inl (inl refl), (refl, refl))))))), inr (inr (inr (inr (inl (inr (inl (refl, too_large))))))))
 
 other_records : Fault a_type some_entry (plainly InvalidType) (span 1 2) × Fault a_type some_entry (caused (missing_field (codes "a"))) (span 0 7) × Fault a_type (at (span 0 2) placed.empty_braces) (plainly InvalidType) (span 0 2)
 other_records = (inl (inl (refl, (refl, refl))), inr (inr (inr (inl (inl ((λ option. option), (elim [ inl e ↦ cc | inr h ↦ h ]), (refl, refl)))))), (refl, refl))
@@ -116,7 +116,7 @@ names : Fault (type.flags (codes "a" ∷ [])) (at (span 0 6) (placed.flags ((spa
     × Fault (type.enum (codes "a" ∷ [])) (label 0 1 (codes "b") no_placed) (caused (unknown_case (codes "b"))) (span 0 1) × Fault (type.enum (codes "a" ∷ [])) (label 0 4 (codes "a") (a_placed (leaf 2 3 one))) (plainly InvalidType) (span 0 4)
     × Fault (type.variant (type.case_of (codes "b") (type.a_type u8) type.no_cases)) (label 0 1 (codes "c") no_placed) (caused (unknown_case (codes "c"))) (span 0 1)
     × Fault (type.variant (type.case_of (codes "b") (type.a_type u8) type.no_cases)) (label 0 6 (codes "b") (a_placed (leaf 2 5 big))) (plainly InvalidValue) (span 2 5)
-names = (inr (inl (not_among (codes "a" ∷ []) (codes "b") refl, (refl, refl))), inr (refl, not_among (codes "a" ∷ []) (codes "b") refl, (refl, refl)), inl ((λ e. cc), (refl, refl)), inr ((λ e. apart _ _ refl e), (refl, refl)), inl (refl, too_large))
+names = (inr (inl (none_of (codes "a" ∷ []) (codes "b") refl, (refl, refl))), inr (refl, none_of (codes "a" ∷ []) (codes "b") refl, (refl, refl)), inl ((λ e. cc), (refl, refl)), inr ((λ e. apart _ _ refl e), (refl, refl)), inl (refl, too_large))
 
 -- at map<u8, u8> `{inf: 256}`: `InvalidType` 1..4, at the key, and `InvalidValue` 6..9; `{256: 1}`: `InvalidValue` 1..4
 abbrev map_fault : Token → Token → Blame

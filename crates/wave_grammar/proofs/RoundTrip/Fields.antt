@@ -132,8 +132,6 @@ FieldsPrint fs all = ⊥
 
 pub fields_print : (fs : Fields) (n : ℕ) (all : FieldValues) → AllOf IsLabel (field_names fs) → FieldsPrint fs all → height_of_fields all ≤ n → AllPrint (Named (WritesField fs n)) (printed_fields all) (written_fields all)
 fields_print type.no_fields n no_fields labels h l = tt
-fields_print type.no_fields n (field other v others) labels h l = absurd h
-fields_print (type.field name T more) n no_fields labels h l = absurd h
 fields_print (type.field name T more) n (field other v others) labels (same, p, h) l =
     let rest : AllPrint (Named (WritesField more n)) (printed_fields others) (written_fields others) = fields_print more n others labels.1 h (omega arith) in
     let wider : AllPrint (Named (WritesField (type.field name T more) n)) (printed_fields others) (written_fields others) =
@@ -149,12 +147,12 @@ fields_print (type.field name T more) n (field other v others) labels (same, p, 
           (λ r behind s cut. let (tokens, c, i) = q (omega arith) r behind s cut in (tokens, c, inl (same, i))),
       w,
     )
+fields_print _ n _ labels h l = absurd h
 
 -- the braces of a record
 pub record_prints : {A : Type 0} (Item : Spelling A) (xs : List (List ℕ)) (items : List A) → AllPrint Item xs items
     → Prints (λ tokens all rest. EmptyBraces tokens all rest ⊎ Listed brace_open brace_close Item tokens all rest × (0 < length all)) (record_text xs) items
 record_prints Item [] [] h r rest s cut =
     (brace_open ∷ colon ∷ brace_close ∷ rest, brace_open_cut (58 ∷ 125 ∷ r) (colon ∷ brace_close ∷ rest) (bare_colon_cut (125 ∷ r) (brace_close ∷ rest) (brace_close_cut r rest cut)), inl (refl, refl))
-record_prints Item [] (a ∷ items) h r rest s cut = absurd h
-record_prints Item (x ∷ xs) [] h r rest s cut = absurd h
 record_prints Item (x ∷ xs) (a ∷ items) h r rest s cut = let (tokens, c, i) = braces_print Item (x ∷ xs) (a ∷ items) h r rest s cut in (tokens, c, inr (i, omega arith))
+record_prints Item _ _ h r rest s cut = absurd h

@@ -28,13 +28,12 @@ AllPrint Item (x ∷ xs) (a ∷ items) = Prints Item x a × AllPrint Item xs ite
 -- what prints at one spelling prints at another that takes what it takes
 pub all_print : {A : Type 0} (P Q : Spelling A) → ((tokens : List Token) (a : A) (rest : List Token) → P tokens a rest → Q tokens a rest) → (xs : List (List ℕ)) (items : List A) → AllPrint P xs items → AllPrint Q xs items
 all_print P Q takes [] [] h = tt
-all_print P Q takes [] (a ∷ items) h = absurd h
-all_print P Q takes (x ∷ xs) [] h = absurd h
 all_print P Q takes (x ∷ xs) (a ∷ items) (p, h) =
     ((λ r rest s cut. let (tokens, c, i) = p r rest s cut in (tokens, c, takes tokens a rest i)), all_print P Q takes xs items h)
+all_print P Q takes _ _ h = absurd h
 
 -- behind an item a comma or the close stands
-followed_stops : (xs : List (List ℕ)) (b : ℕ) (r : List ℕ) → is_one_of b stops ≡ true → Stops (followed xs ++ b ∷ r)
+pub followed_stops : (xs : List (List ℕ)) (b : ℕ) (r : List ℕ) → is_one_of b stops ≡ true → Stops (followed xs ++ b ∷ r)
 followed_stops [] b r e = e
 followed_stops (x ∷ xs) b r e = refl
 
@@ -46,8 +45,6 @@ IsCut b token = (r : List ℕ) (rest : List Token) → CutsInto r rest → CutsI
 further_print : {A : Type 0} (close : Token) (b : ℕ) (Item : Spelling A) → IsCut b close → is_one_of b stops ≡ true → (xs : List (List ℕ)) (items : List A) → AllPrint Item xs items
     → (r : List ℕ) (rest : List Token) → CutsInto r rest → (tokens : List Token) × CutsInto (followed xs ++ b ∷ r) tokens × FurtherItems close Item tokens items rest
 further_print close b Item close_cut stop [] [] h r rest cut = (close ∷ rest, close_cut r rest cut, inl refl)
-further_print close b Item close_cut stop [] (a ∷ items) h r rest cut = absurd h
-further_print close b Item close_cut stop (x ∷ xs) [] h r rest cut = absurd h
 further_print close b Item close_cut stop (x ∷ xs) (a ∷ items) (p, h) r rest cut =
     let (behind, c, i) = further_print close b Item close_cut stop xs items h r rest cut in
     let (tokens, d, j) = p (followed xs ++ b ∷ r) behind (followed_stops xs b r stop) c in (
@@ -55,13 +52,12 @@ further_print close b Item close_cut stop (x ∷ xs) (a ∷ items) (p, h) r rest
       subst (λ (z : List ℕ). CutsInto (44 ∷ 32 ∷ z) (comma ∷ tokens)) (sym (append_assoc x (followed xs) (b ∷ r))) (comma_cut (x ++ (followed xs ++ b ∷ r)) tokens d),
       (tokens, behind, refl, j, i),
     )
+further_print close b Item close_cut stop _ _ h r rest cut = absurd h
 
 -- the texts with commas between, and the close
 items_print : {A : Type 0} (close : Token) (b : ℕ) (Item : Spelling A) → IsCut b close → is_one_of b stops ≡ true → (xs : List (List ℕ)) (items : List A) → AllPrint Item xs items
     → (r : List ℕ) (rest : List Token) → CutsInto r rest → (tokens : List Token) × CutsInto (joined xs ++ b ∷ r) tokens × Items close Item tokens items rest
 items_print close b Item close_cut stop [] [] h r rest cut = (close ∷ rest, close_cut r rest cut, refl)
-items_print close b Item close_cut stop [] (a ∷ items) h r rest cut = absurd h
-items_print close b Item close_cut stop (x ∷ xs) [] h r rest cut = absurd h
 items_print close b Item close_cut stop (x ∷ xs) (a ∷ items) (p, h) r rest cut =
     let (behind, c, i) = further_print close b Item close_cut stop xs items h r rest cut in
     let (tokens, d, j) = p (followed xs ++ b ∷ r) behind (followed_stops xs b r stop) c in (
@@ -69,6 +65,7 @@ items_print close b Item close_cut stop (x ∷ xs) (a ∷ items) (p, h) r rest c
       subst (λ (z : List ℕ). CutsInto z tokens) (sym (append_assoc x (followed xs) (b ∷ r))) d,
       (behind, j, i),
     )
+items_print close b Item close_cut stop _ _ h r rest cut = absurd h
 
 -- the same behind the opening mark
 listed_print : {A : Type 0} (open_mark close : Token) (a b : ℕ) (Item : Spelling A) → IsCut a open_mark → IsCut b close → is_one_of b stops ≡ true → (xs : List (List ℕ)) (items : List A) → AllPrint Item xs items
@@ -170,10 +167,6 @@ TuplePrints types n xs vs = ⊥
 tuple_further : (types : Types) (n : ℕ) (xs : List (List ℕ)) (vs : List Value) → TuplePrints types n xs vs → (r : List ℕ) (rest : List Token) → CutsInto r rest
     → (tokens : List Token) × CutsInto (followed xs ++ 41 ∷ r) tokens × WritesFurther types n tokens vs rest
 tuple_further no_types n [] [] h r rest cut = (paren_close ∷ rest, paren_close_cut r rest cut, (inl refl, refl))
-tuple_further no_types n [] (v ∷ vs) h r rest cut = absurd h
-tuple_further no_types n (x ∷ xs) vs h r rest cut = absurd h
-tuple_further (type_and T more) n [] vs h r rest cut = absurd h
-tuple_further (type_and T more) n (x ∷ xs) [] h r rest cut = absurd h
 tuple_further (type_and T more) n (x ∷ xs) (v ∷ vs) (p, h) r rest cut =
     let (behind, c, i) = tuple_further more n xs vs h r rest cut in
     let (tokens, d, j) = p (followed xs ++ 41 ∷ r) behind (followed_stops xs 41 r refl) c in (
@@ -181,15 +174,12 @@ tuple_further (type_and T more) n (x ∷ xs) (v ∷ vs) (p, h) r rest cut =
       subst (λ (z : List ℕ). CutsInto (44 ∷ 32 ∷ z) (comma ∷ tokens)) (sym (append_assoc x (followed xs) (41 ∷ r))) (comma_cut (x ++ (followed xs ++ 41 ∷ r)) tokens d),
       (tokens, refl, (v, vs, behind, j, i, refl)),
     )
+tuple_further _ n _ _ h r rest cut = absurd h
 
 -- the values of a tuple in parentheses
 pub tuple_print : (Ts : Types) (n : ℕ) (xs : List (List ℕ)) (vs : List Value) → TuplePrints Ts n xs vs → (r : List ℕ) (rest : List Token) → CutsInto r rest
     → (front : List Token) × CutsInto (in_parens (joined xs) ++ r) (paren_open ∷ front) × WritesTuple Ts n front vs rest
 tuple_print no_types n [] [] h r rest cut = (paren_close ∷ rest, paren_open_cut (41 ∷ r) (paren_close ∷ rest) (paren_close_cut r rest cut), (refl, refl))
-tuple_print no_types n [] (v ∷ vs) h r rest cut = absurd h
-tuple_print no_types n (x ∷ xs) vs h r rest cut = absurd h
-tuple_print (type_and T more) n [] vs h r rest cut = absurd h
-tuple_print (type_and T more) n (x ∷ xs) [] h r rest cut = absurd h
 tuple_print (type_and T more) n (x ∷ xs) (v ∷ vs) (p, h) r rest cut =
     let (behind, c, i) = tuple_further more n xs vs h r rest cut in
     let (tokens, d, j) = p (followed xs ++ 41 ∷ r) behind (followed_stops xs 41 r refl) c in (
@@ -197,3 +187,4 @@ tuple_print (type_and T more) n (x ∷ xs) (v ∷ vs) (p, h) r rest cut =
       subst (λ (z : List ℕ). CutsInto (40 ∷ z) (paren_open ∷ tokens)) (sym (append_assoc (x ++ followed xs) (41 ∷ []) r ∙ append_assoc x (followed xs) (41 ∷ r))) (paren_open_cut (x ++ (followed xs ++ 41 ∷ r)) tokens d),
       (v, vs, behind, j, i, refl),
     )
+tuple_print _ n _ _ h r rest cut = absurd h

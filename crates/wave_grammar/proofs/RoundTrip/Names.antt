@@ -1,13 +1,13 @@
 -- Labels as tokens, names that are picked, and merged entries that are merged again.
 use Rattle.std.proofs.Common.{◌≡◌, ℕ, ◌≢◌, Bool, true, false, not, cond, nat_lt, List, [], ◌∷◌, ◌++◌, inl, inr, refl, ap, subst, ◌∙◌, arith}
-use Rattle.std.specs.Prelude.{◌&&◌, ◌||◌, ◌==◌, codes, if◌then◌else◌}
-use Rattle.std.specs.Str.{bytes_eq}
+use Rattle.std.specs.Prelude.{◌&&◌, ◌==◌, codes, if◌then◌else◌}
 use Rattle.std.proofs.lemmas.Bool.{eqb-true}
 use Rattle.std.proofs.lemmas.Bool.Decides.{nat_tests}
 use Rattle.wave_wasm.specs.Lists.{AllOf}
-use Rattle.wave_wasm.specs.Names.{IsNoneOf, is_one_of}
+use Rattle.wave_wasm.specs.Names.{IsNoneOf}
 use Rattle.wave_wasm.specs.Keywords.{keywords, is_keyword, case_label}
 use Rattle.wave_wasm.specs.Merge.{merge, last_value, without}
+use Rattle.wave_wasm.proofs.NameTests.{none_of}
 use Rattle.wave_lex.specs.Regex.{Regex, nothing, empty, within, other, both, either, many, Matches, Each, joined, is_within}
 use Rattle.wave_lex.specs.Tokens as shapes
 use Rattle.wave_lex.specs.Labels.{IsLabel}
@@ -16,7 +16,6 @@ use Rattle.wave_lex.proofs.Shapes.{and_true}
 use Rattle.wave_lex.proofs.LongestMatch.{is_ascii}
 use Rattle.wave_grammar.specs.Token.{label}
 use Rattle.wave_grammar.specs.LeafTokens.{name_of}
-use Rattle.wave_grammar.proofs.Unambiguity.Values.{apart}
 use Rattle.wave_grammar.proofs.RoundTrip.Injective.{IsOneToken, label_cut}
 
 -- ---- labels
@@ -71,17 +70,6 @@ label_name (b ∷ more) h = by_test (b == 37) refl
     by_test true e = let same : b ≡ 37 = eqb-true b 37 e in absurd (after_into 37 shapes.label more (subst (λ (z : ℕ). IsLabel (z ∷ more)) same h))
     by_test false e = refl
 
--- ---- tests of names
-
-pub not_among : (names : List (List ℕ)) (name : List ℕ) → is_one_of names name ≡ false → IsNoneOf names name
-not_among [] name h = tt
-not_among (first ∷ more) name h =
-    let p = both_false (bytes_eq name first) (is_one_of more name) h in ((λ e. apart name first p.0 e), not_among more name p.1)
-  where
-    both_false : (a b : Bool) → (a || b) ≡ false → (a ≡ false) × (b ≡ false)
-    both_false true b h = cc
-    both_false false b h = (refl, h)
-
 -- how a case is written: a token that stands for its name and is no keyword
 pub case_token : (name : List ℕ) → IsLabel name → IsOneToken (case_label name) (label (case_label name)) × (name_of (case_label name) ≡ name) × IsNoneOf keywords (case_label name)
 case_token name h = by_test (is_keyword name) refl
@@ -99,7 +87,7 @@ case_token name h = by_test (is_keyword name) refl
         (no_word _ _ (λ f. omega (arith, f)), (no_word _ _ (λ f. omega (arith, f)), (no_word _ _ (λ f. omega (arith, f)), (no_word _ _ (λ f. omega (arith, f)), (no_word _ _ (λ f. omega (arith, f)), (no_word _ _ (λ f. omega (arith, f)), (no_word _ _ (λ f. omega (arith, f)), tt))))))),
       ),
     )
-    by_test false e = (label_token name h, label_name name h, not_among keywords name e)
+    by_test false e = (label_token name h, label_name name h, none_of keywords name e)
 
 -- ---- merged entries
 

@@ -105,17 +105,7 @@ AreOfFields fs found = (name : List ℕ) (w : Value) → IsOneOf (field_names fs
 
 omitted : (T : TypeTree) → IsOption T → HasType T (value.option no_value)
 omitted (type.option P) h = inl refl
-omitted (type.simple S) h = absurd h
-omitted (type.unreadable kind) h = absurd h
-omitted (type.list E) h = absurd h
-omitted (type.fixed E count) h = absurd h
-omitted (type.record_type fs) h = absurd h
-omitted (type.tuple Ts) h = absurd h
-omitted (type.variant cs) h = absurd h
-omitted (type.enum names) h = absurd h
-omitted (type.result A B) h = absurd h
-omitted (type.flags names) h = absurd h
-omitted (type.map K V) h = absurd h
+omitted _ h = absurd h
 
 filled_typed : (fs : Fields) (found : List (List ℕ × Value)) (all : FieldValues) → AreDistinct (field_names fs) → AreOfFields fs found → Fills fs found all → HasFields fs all
 filled_typed type.no_fields found all d h e = e

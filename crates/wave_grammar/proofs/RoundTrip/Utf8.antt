@@ -195,9 +195,8 @@ line_utf8 k line t u (y, (x, e, drops), d) =
 
 lines_utf8 : (k : ℕ) (lines ts : List (List ℕ)) → AllOf IsUtf8 lines → LinesMean k lines ts → AllOf IsUtf8 ts
 lines_utf8 k [] [] u h = tt
-lines_utf8 k [] (t ∷ ts) u h = absurd h
-lines_utf8 k (p ∷ ps) [] u h = absurd h
 lines_utf8 k (p ∷ ps) (t ∷ ts) u h = (line_utf8 k p t u.0 h.0, lines_utf8 k ps ts u.1 h.1)
+lines_utf8 k _ _ u h = absurd h
 
 joined_utf8 : (ts : List (List ℕ)) → AllOf IsUtf8 ts → IsUtf8 (in_lines ts)
 joined_utf8 [] h = ([], (refl, refl))
