@@ -31,14 +31,6 @@ pub record IsParsed (n : ℕ) (old new : Place) (parsed : NodeTree) : Type 0 whe
 abbrev pub TakesClass : lex.Token → Place → Place → Type 0
 TakesClass c p q = TakesItem p (Some (Ok c)) q
 
--- ---- payloads
-
--- ---- items
-
--- ---- entries
-
--- ---- flags
-
 -- ---- whole values
 
 -- the parser took the tokens of this tree, within 100 levels

@@ -12,6 +12,7 @@ use Rattle.std.specs.declared.ops.Range.{Range}
 use Rattle.wave_grammar.specs.Private.TokenRoles.{form_of, IsClose}
 use Rattle.wave_tree.specs.Private.ParserState.{spec_word}
 use Rattle.wave_tree.proofs.ParserSteps.{here, here_is, handed, gives_then, fails, any_token, shallow, value_read, no_value, level_open, read_there, unexpected_there, no_paren, then_token, token_there, behind_bare, reached, fails_behind, then_behind, payload_other, unexpected_behind, expected, untrue, moved, then_class, then_behind_class, range_path, close_first, close_empty, close_next, then_same, then_refuses, item_refuses, item_read, then_reached, Reached, IsItemDue, no_close, empty_there, key_reads, no_key, brace_key, entries_other, close_behind, comma_behind, other_behind, token_less, tokens_less, left_at, no_colon, no_brace}
+use Rattle.wave_tree.specs.declared.role.LabelRole.{LabelRole}
 use Rattle.wave_tree.specs.ParserState.{Parsing, Asks}
 use Rattle.wave_tree.specs.Private.ParserState.{HasText}
 use Rattle.wave_tree.specs.Private.ParsedNodes.{AreItems, items_type}
@@ -25,6 +26,15 @@ use Rattle.wave_tree.proofs.ClassTests.{is_class, is_other, differs, differs_not
 use Rattle.wave_tree.proofs.LexerCallCount.{asks_once, asks_token, asks_looked, asks_read, asks_reached}
 use Rattle.wave_tree.proofs.parser.Parser.+parser.Goals as goal
 use Rattle.wave_tree.proofs.parser.Parser.+parser.Goals.{parse_items-then-eq-2, parse_items-else-eq-2}
+
+-- the word of a text, by its role
+word_here : {text shown : List ℕ} {role r : LabelRole} → shown ≡ text → spec_word role ≡ word_of shown → role ≡ r → word_of text ≡ spec_word r
+word_here text_is word_is role_is = ap word_of (sym text_is) ∙ (sym word_is ∙ ap spec_word role_is)
+
+-- behind a value and a comma a key is due
+key_due : {n : ℕ} {s : List Form} {p q m w : Place} {c : lex.Token} → Reached n due.value (due.entries ∷ s) p due.value (due.entries ∷ s) q → (item : LeadsBehindValue n due.value (due.entries ∷ s) q m (due.entries ∷ s)) →
+    TakesItem m (Some (Ok c)) w → c ≡ Comma → Reached n due.value (due.entries ∷ s) p due.key s w
+key_due {s = s} so_far item comma_there is_comma = then_behind_class {f = due.key} {b = s} item.due_there Comma (then_reached so_far (reached item)) item.is_behind comma_there is_comma refl
 
 -- behind a value that was read
 asks_value : (levels : ℕ) (p q r : Parsing) → ((n : ℕ) (s : List Form) → n ≡ levels + length s → LeadsBehindValue n due.value s p.place q.place s) → Asks p q → Asks q r → Asks p r
@@ -69,13 +79,13 @@ parse_node-returns-in-BracketOpen-clause-led t c = λ n s e. gives_then s _ c.pa
 
 pub parse_label-returns-in_err-expect-in-Some-clause-led : goal.parse_label-returns-in_err-expect-in-Some-clause-led
 parse_label-returns-in_err-expect-in-Some-clause-led t c = λ n s e.
-    let there : due_behind (word_of (text_at c.args.self.now.place)) ≡ due.paren = ap due_behind (ap word_of (sym c.slice.ensures) ∙ (sym c.role_of.ensures.word ∙ ap spec_word c.in-Some.is)) in
+    let there : due_behind (word_of (text_at c.args.self.now.place)) ≡ due.paren = ap due_behind (word_here c.slice.ensures c.role_of.ensures.word c.in-Some.is) in
     subst (λ z. Gives c.from_residual.result n z s c.args.self.now.place c.expect.new.self.place s) (sym there) (handed s _ _ c.from_residual.ensures.1
     (fails (inl tt) (λ k. k ≡ ParenOpen) c.in_err-expect-in-Some.field-0.0 (here n due.paren s _) (λ deep. deep.due) (λ k h apart. no_paren n s k (text_at c.expect.new.self.place) apart) c.in_err-expect-in-Some.ensures.takes))
 
 pub parse_label-returns-in_ok-expect-in-Some-clause-led : goal.parse_label-returns-in_ok-expect-in-Some-clause-led
 parse_label-returns-in_ok-expect-in-Some-clause-led t c = λ n s e.
-    let there : due_behind (word_of (text_at c.args.self.now.place)) ≡ due.paren = ap due_behind (ap word_of (sym c.slice.ensures) ∙ (sym c.role_of.ensures.word ∙ ap spec_word c.in-Some.is)) in
+    let there : due_behind (word_of (text_at c.args.self.now.place)) ≡ due.paren = ap due_behind (word_here c.slice.ensures c.role_of.ensures.word c.in-Some.is) in
     subst (λ z. Gives c.parse_payload.result n z s c.args.self.now.place c.parse_payload.new.self.place s) (sym there)
     (gives_then s _ c.parse_payload.result (then_token _ (here n due.paren s _) (token_there _ _ ParenOpen c.in_ok-expect-in-Some.ensures.takes) refl) (c.parse_payload.ensures.led n s (omega arith)))
 
@@ -278,19 +288,19 @@ parse_entries-returns-then-ne-clause-led t c = λ n s e.
 pub parse_entries-returns-in_err-next-clause-led : goal.parse_entries-returns-in_err-next-clause-led
 parse_entries-returns-in_err-next-clause-led t c = λ n s e.
     let item = c.in_ok-value.ensures.led n (due.entries ∷ s) (omega arith) in
-    let due_key = then_behind_class {f = due.key} {b = s} item.due_there Comma (then_reached (c.entries.invariant.led n s e) (reached item)) item.is_behind c.in_ok-token.ensures.takes (differs_not _ _ c.ne.ensures c.if-ne.false) refl in
+    let due_key = key_due (c.entries.invariant.led n s e) item c.in_ok-token.ensures.takes (differs_not _ _ c.ne.ensures c.if-ne.false) in
     handed s _ _ c.from_residual-in_err-next.ensures.1 (fails (inl tt) (λ _. Unit {0}) c.in_err-next.field-0.0 due_key (λ deep. deep.due) (any_token n due.key s _ _) c.in_err-next.ensures.takes)
 
 pub parse_entries-returns-then-eq-2-clause-led : goal.parse_entries-returns-then-eq-2-clause-led
 parse_entries-returns-then-eq-2-clause-led t c = λ n s e.
     let item = c.in_ok-value.ensures.led n (due.entries ∷ s) (omega arith) in
-    let due_key = then_behind_class {f = due.key} {b = s} item.due_there Comma (then_reached (c.entries.invariant.led n s e) (reached item)) item.is_behind c.in_ok-token.ensures.takes (differs_not _ _ c.ne.ensures c.if-ne.false) refl in
+    let due_key = key_due (c.entries.invariant.led n s e) item c.in_ok-token.ensures.takes (differs_not _ _ c.ne.ensures c.if-ne.false) in
     read_there (then_class BraceClose due_key c.in_ok-next.ensures.takes (is_class _ _ c.eq-in-entries.ensures c.if-eq-2.true) refl) (inl refl)
 
 pub parse_entries-returns-in_default-clause-led : goal.parse_entries-returns-in_default-clause-led
 parse_entries-returns-in_default-clause-led t c = λ n s e.
     let item = c.in_ok-value.ensures.led n (due.entries ∷ s) (omega arith) in
-    let due_key = then_behind_class {f = due.key} {b = s} item.due_there Comma (then_reached (c.entries.invariant.led n s e) (reached item)) item.is_behind c.in_ok-token.ensures.takes (differs_not _ _ c.ne.ensures c.if-ne.false) refl in
+    let due_key = key_due (c.entries.invariant.led n s e) item c.in_ok-token.ensures.takes (differs_not _ _ c.ne.ensures c.if-ne.false) in
     unexpected_there (inl tt) c.unexpected-in_default.result c.in_ok-next.next due_key c.in_ok-next.ensures.takes
     (no_key c.in_ok-next.next s (text_at c.advance-in-entries.new.self.place) c.in_default.ensures (is_other _ _ c.eq-in-entries.ensures c.if-eq-2.false))
     c.unexpected-in_default.ensures
@@ -298,7 +308,7 @@ parse_entries-returns-in_default-clause-led t c = λ n s e.
 pub parse_entries-returns-in_err-expect-clause-led : goal.parse_entries-returns-in_err-expect-clause-led
 parse_entries-returns-in_err-expect-clause-led t c = λ n s e.
     let item = c.in_ok-value.ensures.led n (due.entries ∷ s) (omega arith) in
-    let due_key = then_behind_class {f = due.key} {b = s} item.due_there Comma (then_reached (c.entries.invariant.led n s e) (reached item)) item.is_behind c.in_ok-token.ensures.takes (differs_not _ _ c.ne.ensures c.if-ne.false) refl in
+    let due_key = key_due (c.entries.invariant.led n s e) item c.in_ok-token.ensures.takes (differs_not _ _ c.ne.ensures c.if-ne.false) in
     handed s _ _ c.from_residual-in_err-expect.ensures.1 (fails (inl tt) (λ k. k ≡ Colon) c.in_err-expect.field-0.0
     (then_same c.in_ok-next.next due_key c.in_ok-next.ensures.takes (key_reads c.in_ok-next.next s (text_at c.advance-in-entries.new.self.place) c.in-Some.ensures.0)) (λ deep. deep.due)
     (λ k h apart. no_colon n s k (text_at c.expect.new.self.place) apart) c.in_err-expect.ensures.takes)
@@ -320,7 +330,7 @@ parse_entries-entries-preserved t c = record {
       (pushed _ _ _ _ c.push-in-entries.ensures.items c.if-is_err-2.ensures.negation) (pushed _ _ _ _ c.push-in-entries-2.ensures.items c.if-is_err-3.ensures.negation);
   led = λ n s e.
       let item = c.in_ok-value.ensures.led n (due.entries ∷ s) (omega arith) in
-      let due_key = then_behind_class {f = due.key} {b = s} item.due_there Comma (then_reached (c.entries.invariant.led n s e) (reached item)) item.is_behind c.in_ok-token.ensures.takes (differs_not _ _ c.ne.ensures c.if-ne.false) refl in
+      let due_key = key_due (c.entries.invariant.led n s e) item c.in_ok-token.ensures.takes (differs_not _ _ c.ne.ensures c.if-ne.false) in
       then_same Colon (then_same c.in_ok-next.next due_key c.in_ok-next.ensures.takes (key_reads c.in_ok-next.next s (text_at c.advance-in-entries.new.self.place) c.in-Some.ensures.0)) c.in_ok-expect.ensures.takes refl;
 }
 
@@ -351,34 +361,34 @@ parse_node-returns-in-BraceOpen-clause-tree t c = braces_tied _ _ _ _ _ c.parse_
 pub parse_label-returns-in-True-clause-tree : goal.parse_label-returns-in-True-clause-tree
 parse_label-returns-in-True-clause-tree t c =
     let text_is = sym c.slice.ensures ∙ subst (λ z. HasText z c.slice.result.now) c.in-True.is c.role_of.ensures.text in
-    leaf_tied _ _ _ c.leaf.result (ap word_of (sym c.slice.ensures) ∙ (sym c.role_of.ensures.word ∙ ap spec_word c.in-True.is)) (inl (refl, text_is)) c.leaf.ensures
+    leaf_tied _ _ _ c.leaf.result (word_here c.slice.ensures c.role_of.ensures.word c.in-True.is) (inl (refl, text_is)) c.leaf.ensures
 
 pub parse_label-returns-in-False-clause-tree : goal.parse_label-returns-in-False-clause-tree
 parse_label-returns-in-False-clause-tree t c =
     let text_is = sym c.slice.ensures ∙ subst (λ z. HasText z c.slice.result.now) c.in-False.is c.role_of.ensures.text in
-    leaf_tied _ _ _ c.leaf-in-False.result (ap word_of (sym c.slice.ensures) ∙ (sym c.role_of.ensures.word ∙ ap spec_word c.in-False.is)) (inr (refl, text_is)) c.leaf-in-False.ensures
+    leaf_tied _ _ _ c.leaf-in-False.result (word_here c.slice.ensures c.role_of.ensures.word c.in-False.is) (inr (refl, text_is)) c.leaf-in-False.ensures
 
 pub parse_label-returns-in-Number-clause-tree : goal.parse_label-returns-in-Number-clause-tree
 parse_label-returns-in-Number-clause-tree t c =
     let text_is = ap (is_one_of (codes "inf" ∷ codes "nan" ∷ [])) (sym c.slice.ensures) ∙ subst (λ z. HasText z c.slice.result.now) c.in-Number.is c.role_of.ensures.text in
-    number_word_tied _ _ c.leaf-in-Number.result (ap word_of (sym c.slice.ensures) ∙ (sym c.role_of.ensures.word ∙ ap spec_word c.in-Number.is)) text_is c.leaf-in-Number.ensures
+    number_word_tied _ _ c.leaf-in-Number.result (word_here c.slice.ensures c.role_of.ensures.word c.in-Number.is) text_is c.leaf-in-Number.ensures
 
 pub parse_label-returns-in-None-clause-tree : goal.parse_label-returns-in-None-clause-tree
 parse_label-returns-in-None-clause-tree t c =
-    none_tied _ _ c.leaf-in-None.result (ap word_of (sym c.slice.ensures) ∙ (sym c.role_of.ensures.word ∙ ap spec_word c.in-None.is)) c.leaf-in-None.ensures
+    none_tied _ _ c.leaf-in-None.result (word_here c.slice.ensures c.role_of.ensures.word c.in-None.is) c.leaf-in-None.ensures
 
 pub parse_label-returns-in_ok-expect-in-Some-clause-tree : goal.parse_label-returns-in_ok-expect-in-Some-clause-tree
 parse_label-returns-in_ok-expect-in-Some-clause-tree t c =
-    some_tied _ _ _ _ _ _ c.parse_payload.result (ap word_of (sym c.slice.ensures) ∙ (sym c.role_of.ensures.word ∙ ap spec_word c.in-Some.is)) (ap (λ (z : Range ℕ). z.start) c.span-start.ensures) c.new.ensures.items c.in_ok-expect-in-Some.ensures.takes c.parse_payload.ensures.tree
+    some_tied _ _ _ _ _ _ c.parse_payload.result (word_here c.slice.ensures c.role_of.ensures.word c.in-Some.is) (ap (λ (z : Range ℕ). z.start) c.span-start.ensures) c.new.ensures.items c.in_ok-expect-in-Some.ensures.takes c.parse_payload.ensures.tree
 
 pub parse_label-returns-in-Ok-clause-tree : goal.parse_label-returns-in-Ok-clause-tree
-parse_label-returns-in-Ok-clause-tree t c = ok_tied _ _ _ c.parse_maybe.result (ap word_of (sym c.slice.ensures) ∙ (sym c.role_of.ensures.word ∙ ap spec_word c.in-Ok.is)) c.parse_maybe.ensures.tree
+parse_label-returns-in-Ok-clause-tree t c = ok_tied _ _ _ c.parse_maybe.result (word_here c.slice.ensures c.role_of.ensures.word c.in-Ok.is) c.parse_maybe.ensures.tree
 
 pub parse_label-returns-in-Err-clause-tree : goal.parse_label-returns-in-Err-clause-tree
-parse_label-returns-in-Err-clause-tree t c = err_tied _ _ _ c.parse_maybe-in-Err.result (ap word_of (sym c.slice.ensures) ∙ (sym c.role_of.ensures.word ∙ ap spec_word c.in-Err.is)) c.parse_maybe-in-Err.ensures.tree
+parse_label-returns-in-Err-clause-tree t c = err_tied _ _ _ c.parse_maybe-in-Err.result (word_here c.slice.ensures c.role_of.ensures.word c.in-Err.is) c.parse_maybe-in-Err.ensures.tree
 
 pub parse_label-returns-in-Case-clause-tree : goal.parse_label-returns-in-Case-clause-tree
-parse_label-returns-in-Case-clause-tree t c = case_tied _ _ _ c.parse_maybe-in-Case.result (ap word_of (sym c.slice.ensures) ∙ (sym c.role_of.ensures.word ∙ ap spec_word c.in-Case.is)) c.parse_maybe-in-Case.ensures.tree
+parse_label-returns-in-Case-clause-tree t c = case_tied _ _ _ c.parse_maybe-in-Case.result (word_here c.slice.ensures c.role_of.ensures.word c.in-Case.is) c.parse_maybe-in-Case.ensures.tree
 
 pub parse_items-returns-then-next_is-clause-tree : goal.parse_items-returns-then-next_is-clause-tree
 parse_items-returns-then-next_is-clause-tree t c = items_none _ _ _ c.next_is.new.self.place _ _ c.new-items.result.items c.node.result c.node.ensures c.new-items.ensures.items c.requires (is_other _ _ c.eq.ensures c.if-eq.false) (ap (λ (z : Range ℕ). z.start) c.span-start.ensures) c.next_is.ensures.stays c.in_ok-expect.ensures.takes
