@@ -22,6 +22,7 @@ use denote.Known.{Says, Known, All, Says-some, Says-second, nothing_known}
 own_from : (T : TypeTree) (a : Inside) → the_shows.Known T a → IsOwn T
 own_from T a k = subst IsOwn k.0 k.1.own
 
+-- a `&` to a `Type` says so
 pub shared : (T : TypeTree) (b o : ℕ) (κ : Lft) → Says (own.the_row.shr_at T b o κ) (IsOwn T)
 shared T b o κ = record {
   go = λ M 𝓤 𝓛.
@@ -29,6 +30,7 @@ shared T b o κ = record {
       (ex_e 𝓤 (λ (a : (a : Inside) × the_shows.Known T a). sem 𝓛 (inside.the_row.shr_at a.0 b o κ)) (λ a. fact_i 𝓤 (IsOwn T) (sem 𝓛 (inside.the_row.shr_at a.0 b o κ)) (own_from T a.0 a.1)));
 }
 
+-- so does what a `Type` owns beside its fields
 rest_says : (T : TypeTree) (a : Inside) → Says (the_opens.rest T a) (IsOwn T)
 rest_says T a = record {
   go = λ M 𝓤 𝓛.
@@ -36,12 +38,14 @@ rest_says T a = record {
       (guard_e 𝓤 (the_opens.Known T a) (sem 𝓛 (the_opens.rest T a)) (λ k. fact_i 𝓤 (IsOwn T) (sem 𝓛 (the_opens.rest T a)) (own_from T a k)));
 }
 
+-- and so does a `Type` itself
 pub owned : (T : TypeTree) (vs : List Val) → Says (own.the_row.own_val T vs) (IsOwn T)
 owned T vs = record {
   go = λ M 𝓤 𝓛.
       via 𝓤 _ (the_opens.splits M 𝓤 𝓛 T vs) ((Says-some Inside _ (λ a. Says-second (inside.the_row.own_val a vs) (the_opens.rest T a) (rest_says T a))).go M 𝓤 𝓛);
 }
 
+-- both tell it
 abbrev type_known : Known own.the_row
 type_known = record { Fact = IsOwn; owned = owned; shared = shared }
 

@@ -1,25 +1,23 @@
 -- What the maker of flags makes and refuses.
-use Rattle.std.proofs.Common.{ℕ, ◌≡◌, ◌<◌, ◌≤◌, ◌+◌, Bool, true, false, List, [], ◌∷◌, ◌++◌, map, length, take, get_or, refl, sym, ap, subst, ◌∙◌, arith, Some, Bor}
+use Rattle.std.proofs.Common.{ℕ, ◌≡◌, ◌<◌, ◌≤◌, ◌+◌, Bool, true, false, List, [], ◌∷◌, ◌++◌, map, length, take, get_or, sym, ap, subst, ◌∙◌, arith, Some, Bor}
 use Rattle.std.specs.Prelude.{is_some, if◌then◌else◌}
 use Rattle.std.specs.BTreeMap as tree
 use Rattle.std.specs.BTreeMap.{BTreeMap}
 use Rattle.std.specs.Cmp.Lexicographic.{slice_cmp}
 use Rattle.std.specs.Ordering.{nat_cmp}
-use Rattle.std.proofs.lemmas.Bool.{false≢true}
 use Rattle.std.proofs.lemmas.List.{take_more, take_all, map-append, append-nil, length-map, get_or-map}
 use Rattle.std.proofs.lemmas.List.Elements.{filter-append}
 use Rattle.wave_wasm.specs.Names.{IsOneOf, IsNoneOf, AreAllOf, is_one_of, found_in}
 use Rattle.wave_wasm.specs.Borrowed.{texts}
-use Rattle.wave_wasm.specs.Types as type
-use Rattle.wave_wasm.specs.Types.{TypeTree, Simple, kind_of, simple_kind, flags_names}
+use Rattle.wave_wasm.specs.Types.{TypeTree, kind_of, flags_names}
 use Rattle.wave_wasm.specs.Values as value
 use Rattle.wave_wasm.specs.HasType.{HasType}
-use Rattle.wave_wasm.specs.declared.wasm.WasmTypeKind.{WasmTypeKind}
 use Rattle.wave_wasm.specs.declared.wasm.WasmTypeKind.TheVariants as kinds
 use Rattle.wave_wasm.specs.declared.wasm.WasmValueError.{WasmValueError}
 use Rattle.wave_wasm.specs.declared.wasm.WasmValueError.TheVariants as error
 use Rattle.wave_wasm.proofs.NameSets.{holds_more}
 use Rattle.wave_wasm.proofs.NameTests.{is_one, none_of}
+use Rattle.wave_wasm.proofs.TypeKinds.{formed_as}
 use Rattle.wave_value.specs.ValueModel.{name_at}
 use Rattle.wave_value.specs.Private.ValueModel.{Grows, FlagsFit}
 use Rattle.wave_value.specs.ConstructorRules.{Made}
@@ -103,31 +101,10 @@ places_end handed all i is below above h = (grows_wider 0 i (length all) is belo
 
 -- ---- flags
 
--- the kind of flags
-abbrev is_flags : WasmTypeKind → Bool
-is_flags kinds.Flags = true
-is_flags _ = false
-
-not_flags : (S : Simple) → is_flags (simple_kind S) ≡ false
-not_flags type.bool = refl
-not_flags (type.whole type.s8) = refl
-not_flags (type.whole type.s16) = refl
-not_flags (type.whole type.s32) = refl
-not_flags (type.whole type.s64) = refl
-not_flags (type.whole type.u8) = refl
-not_flags (type.whole type.u16) = refl
-not_flags (type.whole type.u32) = refl
-not_flags (type.whole type.u64) = refl
-not_flags type.char = refl
-not_flags type.string = refl
-
 places_fit : (T : TypeTree) (is : List ℕ) → kinds.Flags ≡ kind_of T → Grows 0 (length (flags_names T)) is → FlagsFit T is
-places_fit (type.flags names) is kind h = h
-places_fit (type.simple S) is kind h = absurd (false≢true (sym (not_flags S) ∙ sym (ap is_flags kind)))
-places_fit (type.unreadable type.f32) is kind h = absurd (cc)
-places_fit (type.unreadable type.f64) is kind h = absurd (cc)
-places_fit (type.unreadable type.unsupported) is kind h = absurd (cc)
-places_fit _ is kind h = absurd (cc)
+places_fit T is kind h =
+    let (names, form) = formed_as kinds.Flags T kind in
+    subst (λ U. Grows 0 (length (flags_names U)) is → FlagsFit U is) (sym form) (λ g. g) h
 
 -- the places of all names fit the type
 pub flags_fit : (T own : TypeTree) (xs ys : List (Bor (List ℕ))) (is : List ℕ) → kinds.Flags ≡ kind_of T → own ≡ T → xs ≡ ys → texts ys ≡ flags_names T → Grows 0 (length xs) is → FlagsFit own is
