@@ -13,7 +13,7 @@ use Rattle.wave_grammar.specs.Token.{Token}
 use Rattle.wave_grammar.specs.ParserPosition.{Place, Item, TakesTokens}
 use Rattle.wave_grammar.specs.PrefixAutomaton.{Due, Form, value, first_item, tuple}
 use Rattle.wave_grammar.specs.SyntaxErrors.{StandsAt, IsSyntaxError}
-use Rattle.wave_tree.specs.ParserState.{Fails, IsTrailing}
+use Rattle.wave_tree.specs.ParserState.{Parsing, Fails, IsTrailing}
 use Rattle.wave_node.specs.NodeTree.{NodeTree}
 use Rattle.wave_tree.specs.UntypedCall.{RefusesTuple, AreParamsTaken, NameFault, behind_name}
 use Rattle.wave_tree.specs.ParserLaws.{LiesInSource, RefusalsLieInText}
@@ -88,6 +88,17 @@ pub fails_lie : (Wanted : lex.Token → Type 0) (e : ParserError) (p q : Place) 
 fails_lie Wanted e p q (inl (bad, h, says)) i = item_lies p.lexer q.lexer e.span (next_inside p.lexer q.lexer (Some (Err bad)) h.0 i) (says.stands ∙ h.0.4)
 fails_lie Wanted e p q (inr (inl (h, says))) i = item_lies p.lexer q.lexer e.span (next_inside p.lexer q.lexer None h.0 i) says.stands
 fails_lie Wanted e p q (inr (inr (c, h, apart, says))) i = item_lies p.lexer q.lexer e.span (next_inside p.lexer q.lexer (Some (Ok c)) h.0 i) says.stands
+
+-- ---- going back
+
+-- where a refusal lies in the source, so does what is answered for it, also where the parser went back
+pub back_lies : (l m : Lexed) (e x : ParserError) → l ≡ m → ((e.kind ≢ kind.OutOfMemory → LiesInText l.source e.span) → LiesInText l.source x.span) → (e.kind ≢ kind.OutOfMemory → LiesInText m.source e.span) → LiesInText m.source x.span
+back_lies l m e x same within there =
+    subst (λ (z : Lexed). LiesInText z.source x.span) same (within (λ apart. subst (λ (z : Lexed). LiesInText z.source e.span) (sym same) (there apart)))
+
+-- what holds of a refusal other than want of memory holds of what is answered for it
+pub back_same : (R : ParserError → Parsing → Type 0) (e x : ParserError) (old new : Parsing) → (x ≡ e) × (new ≡ old) → R e old → R x new
+back_same R e x old new (same, stays) there = subst (λ (z : ParserError). R z new) (sym same) (subst (λ (z : Parsing). R e z) (sym stays) there)
 
 -- ---- calls
 

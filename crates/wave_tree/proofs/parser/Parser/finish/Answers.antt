@@ -1,8 +1,7 @@
-use Rattle.std.proofs.Common.{◌≡◌, ap, sym, ◌∙◌, arith}
+use Rattle.std.proofs.Common.{◌≡◌, ap, sym, ◌∙◌}
 use Rattle.wave_grammar.specs.ParserPosition.{Place}
 use Rattle.wave_tree.specs.ParserState.{Parsing}
-use Rattle.wave_tree.specs.Private.ParserState.{ahead_count}
-use Rattle.wave_tree.proofs.Lookahead.{finish_at, finish_within}
+use Rattle.wave_tree.proofs.Lookahead.{one_ahead, finish_at, finish_within}
 use Rattle.wave_tree.proofs.parser.Parser.finish.Goals as goal
 use Rattle.wave_tree.proofs.parser.Parser.finish.Goals.{in-Some, in-None}
 
@@ -11,8 +10,7 @@ returns-clause-answer c =
     let here : c.args.self.now.place.lexer ≡ c.self.inside.lexer = sym (ap (λ (z : Parsing). z.place.lexer) c.self.view_is ∙ ap (λ (z : Place). z.lexer) c.peek.ensures.stays) in
     elim c.match-self.branch [
       | in-Some w ↦ finish_at _ _ _ w.in-Some.ahead _ w.trailing.result here c.self.invariant.0 w.in-Some.is w.result-is w.trailing.ensures.end w.trailing.ensures.refused
-      | in-None w ↦ let one : ahead_count c.self.inside.ahead ≡ 1 = ap (λ (z : Parsing). z.ahead) c.self.view_is ∙ c.peek.ensures.looks in
-          let none : ahead_count c.self.inside.ahead ≡ 0 = ap ahead_count w.in-None.is in absurd (omega arith)
+      | in-None w ↦ one_ahead c.self.inside.ahead (ap (λ (z : Parsing). z.ahead) c.self.view_is ∙ c.peek.ensures.looks) w.in-None.is
     ]
 
 pub returns-clause-within : goal.returns-clause-within
@@ -20,6 +18,5 @@ returns-clause-within c =
     let here : c.args.self.now.place.lexer ≡ c.self.inside.lexer = sym (ap (λ (z : Parsing). z.place.lexer) c.self.view_is ∙ ap (λ (z : Place). z.lexer) c.peek.ensures.stays) in
     elim c.match-self.branch [
       | in-Some w ↦ finish_within _ c.args.self.now.place _ w.in-Some.ahead _ w.trailing.result here c.self.invariant.0 w.in-Some.is w.result-is w.trailing.ensures.within
-      | in-None w ↦ let one : ahead_count c.self.inside.ahead ≡ 1 = ap (λ (z : Parsing). z.ahead) c.self.view_is ∙ c.peek.ensures.looks in
-          let none : ahead_count c.self.inside.ahead ≡ 0 = ap ahead_count w.in-None.is in absurd (omega arith)
+      | in-None w ↦ one_ahead c.self.inside.ahead (ap (λ (z : Parsing). z.ahead) c.self.view_is ∙ c.peek.ensures.looks) w.in-None.is
     ]

@@ -11,9 +11,7 @@ use Rattle.wave_tree.specs.UntypedCall.{RefusesTuple}
 use Rattle.wave_tree.proofs.ParserSteps.{expected}
 use Rattle.wave_node.proofs.Parameters.{error_handed}
 use Rattle.wave_lex.specs.Errors.{LiesInText}
-use Rattle.wave_lex.specs.Tokenization.{Lexed}
-use Rattle.wave_tree.specs.ParserState.{Parsing}
-use Rattle.wave_tree.proofs.ErrorSpans.Syntax.{fails_lie, tuple_lies}
+use Rattle.wave_tree.proofs.ErrorSpans.Syntax.{back_lies, back_same, fails_lie, tuple_lies}
 use Rattle.wave_tree.proofs.CallReading.{tuple_taken}
 use Rattle.wave_tree.proofs.parser.Parser.parse_params.Goals as goal
 
@@ -30,13 +28,12 @@ pub returns-in-Err-clause-refused : goal.returns-in-Err-clause-refused
 returns-in-Err-clause-refused c = λ apart.
     let back = c.refuse.ensures.other apart in
     let tuple = behind_open c.in-Err.error c.args.self.now.place c.expect.new.self.place c.next_is.new.self.place c.parse_items.new.self.place c.in_ok-expect.ensures.takes c.next_is.ensures.stays (λ q h. cc (sym c.if-next_is.false ∙ c.next_is.ensures.answer.1 (q, h))) (c.in-Err.ensures.led 101 [] refl (λ m. apart (ap (λ (e : ParserError). e.kind) back.0 ∙ m))) in
-    subst (λ (e : ParserError). RefusesTuple e c.args.self.now.place c.refuse.new.self.place) (sym back.0) (subst (λ (p : Parsing). RefusesTuple c.in-Err.error c.args.self.now.place p.place) (sym back.1) tuple)
+    back_same (λ e p. RefusesTuple e c.args.self.now.place p.place) c.in-Err.error c.refuse.result c.parse_items.new.self c.refuse.new.self back tuple
 
 pub returns-in-Err-clause-within : goal.returns-in-Err-clause-within
 returns-in-Err-clause-within c =
-    subst (λ (l : Lexed). LiesInText l.source c.refuse.result.span) c.start_here-start.ensures.place (c.refuse.ensures.within (λ apart.
-    subst (λ (l : Lexed). LiesInText l.source c.in-Err.error.span) (sym c.start_here-start.ensures.place)
-    (tuple_lies c.in-Err.error c.args.self.now.place c.parse_items.new.self.place (behind_open c.in-Err.error c.args.self.now.place c.expect.new.self.place c.next_is.new.self.place c.parse_items.new.self.place c.in_ok-expect.ensures.takes c.next_is.ensures.stays (λ q h. cc (sym c.if-next_is.false ∙ c.next_is.ensures.answer.1 (q, h))) (c.in-Err.ensures.led 101 [] refl apart)) c.start_here-start.ensures.inside)))
+    back_lies _ c.args.self.now.place.lexer c.in-Err.error c.refuse.result c.start_here-start.ensures.place c.refuse.ensures.within (λ apart.
+    tuple_lies c.in-Err.error c.args.self.now.place c.parse_items.new.self.place (behind_open c.in-Err.error c.args.self.now.place c.expect.new.self.place c.next_is.new.self.place c.parse_items.new.self.place c.in_ok-expect.ensures.takes c.next_is.ensures.stays (λ q h. cc (sym c.if-next_is.false ∙ c.next_is.ensures.answer.1 (q, h))) (c.in-Err.ensures.led 101 [] refl apart)) c.start_here-start.ensures.inside)
 
 pub returns-in_err-expect-clause-within : goal.returns-in_err-expect-clause-within
 returns-in_err-expect-clause-within c =

@@ -12,6 +12,7 @@ use Rattle.wave_tree.specs.ParserState.{Parsing}
 use Rattle.wave_tree.specs.FromStr.{IsCausedBetween, IsTypeRefused}
 use Rattle.wave_tree.specs.ParsedNodes.{IsNodeTaken}
 use Rattle.wave_node.specs.ErrorSpans.{IsCausedIn}
+use Rattle.wave_tree.proofs.ErrorSpans.Syntax.{back_lies, back_same}
 use Rattle.wave_tree.proofs.parser.Parser.parse_value.Goals as goal
 
 pub returns-in_err-node-clause-caused : goal.returns-in_err-node-clause-caused
@@ -25,7 +26,7 @@ returns-clause-refused g c = λ apart.
     let T = g.V.Type.WasmType.tree c.args.ty.now in
     let text : c.start.inside.source.now ≡ c.args.self.now.place.lexer.source = c.start.invariant.0 ∙ ap (λ (l : Lexed). l.source) (c.start.view_is ∙ c.in_ok-node.ensures.start) in
     let taken = c.in_ok-node.ensures.tree in
-    let there : IsSyntaxError c.in-Err.error 100 value [] c.args.self.now.place c.parse_whole.new.self.place ⊎ IsTypeRefused g.V.WasmValue.is_full T c.in-Err.error c.args.self.now.place c.parse_whole.new.self.place = inr (record {
+    back_same (λ e p. IsSyntaxError e 100 value [] c.args.self.now.place p.place ⊎ IsTypeRefused g.V.WasmValue.is_full T e c.args.self.now.place p.place) c.in-Err.error c.refuse.result c.parse_whole.new.self c.refuse.new.self back (inr (record {
       read = c.in_ok-node.ensures.value;
       placed = taken.placed;
       taken = taken.taken;
@@ -35,14 +36,12 @@ returns-clause-refused g c = λ apart.
         | inl memory ↦ absurd (apart (kind_is ∙ memory))
         | inr other ↦ other
       ];
-    }) in
-    subst (λ (e : ParserError). IsSyntaxError e 100 value [] c.args.self.now.place c.refuse.new.self.place ⊎ IsTypeRefused g.V.WasmValue.is_full T e c.args.self.now.place c.refuse.new.self.place) (sym back.0)
-    (subst (λ (p : Parsing). IsSyntaxError c.in-Err.error 100 value [] c.args.self.now.place p.place ⊎ IsTypeRefused g.V.WasmValue.is_full T c.in-Err.error c.args.self.now.place p.place) (sym back.1) there)
+    }))
 
 pub returns-clause-within : goal.returns-clause-within
 returns-clause-within g c =
-    subst (λ (l : Lexed). LiesInText l.source c.refuse.result.span) c.in_ok-node.ensures.start (c.refuse.ensures.within (λ apart.
-    subst (λ (s : List ℕ). LiesInText s c.in-Err.error.span) (c.start.invariant.0 ∙ ap (λ (l : Lexed). l.source) c.start.view_is) c.in-Err.ensures.in_text))
+    back_lies _ c.args.self.now.place.lexer c.in-Err.error c.refuse.result c.in_ok-node.ensures.start c.refuse.ensures.within (λ apart.
+    subst (λ (s : List ℕ). LiesInText s c.in-Err.error.span) (c.start.invariant.0 ∙ ap (λ (l : Lexed). l.source) (c.start.view_is ∙ c.in_ok-node.ensures.start)) c.in-Err.ensures.in_text)
 
 pub returns-clause-caused : goal.returns-clause-caused
 returns-clause-caused g c = λ was.

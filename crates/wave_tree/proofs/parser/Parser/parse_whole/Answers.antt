@@ -1,10 +1,8 @@
-use Rattle.std.proofs.Common.{◌≢◌, [], refl, sym, subst}
+use Rattle.std.proofs.Common.{◌≢◌, [], refl}
 use Rattle.wave_lex.specs.declared.error.ParserErrorKind.TheVariants as because
-use Rattle.wave_lex.specs.Tokenization.{Lexed}
-use Rattle.wave_lex.specs.Errors.{LiesInText}
 use Rattle.wave_grammar.specs.PrefixAutomaton.{value}
 use Rattle.wave_tree.proofs.TextReading.{node_parsed}
-use Rattle.wave_tree.proofs.ErrorSpans.Syntax.{refused_lies, refused_kind}
+use Rattle.wave_tree.proofs.ErrorSpans.Syntax.{back_lies, refused_lies, refused_kind}
 use Rattle.wave_tree.proofs.parser.Parser.parse_whole.Goals as goal
 
 pub returns-in-Ok-clause-tree : goal.returns-in-Ok-clause-tree
@@ -12,9 +10,8 @@ returns-in-Ok-clause-tree c = node_parsed _ _ _ c.start_here-start.ensures.sound
 
 pub returns-in-Err-clause-within : goal.returns-in-Err-clause-within
 returns-in-Err-clause-within c =
-    subst (λ (l : Lexed). LiesInText l.source c.refuse.result.span) c.start_here-start.ensures.place (c.refuse.ensures.within (λ apart.
-    subst (λ (l : Lexed). LiesInText l.source c.in-Err.error.span) (sym c.start_here-start.ensures.place)
-    (refused_lies c.in-Err.error 100 value [] c.args.self.now.place c.parse_node.new.self.place (c.in-Err.ensures.led 100 [] refl apart) c.start_here-start.ensures.inside)))
+    back_lies _ c.args.self.now.place.lexer c.in-Err.error c.refuse.result c.start_here-start.ensures.place c.refuse.ensures.within (λ apart.
+    refused_lies c.in-Err.error 100 value [] c.args.self.now.place c.parse_node.new.self.place (c.in-Err.ensures.led 100 [] refl apart) c.start_here-start.ensures.inside)
 
 pub returns-in-Err-clause-uncaused : goal.returns-in-Err-clause-uncaused
 returns-in-Err-clause-uncaused c = λ was.
