@@ -1,12 +1,9 @@
 -- How far an input was read, and why not to its end.
-use Rattle.std.specs.Prelude.{ℕ, ◌≡◌, ◌⊎◌, ◌+◌, ◌-◌, ◌^◌, min, true, false}
+use Rattle.std.specs.Prelude.{◌≡◌, ◌⊎◌, true, false}
+use Rattle.wave.specs.Counts.{CountsOne}
 use Rattle.wave.specs.declared.input.Fault.{Fault}
 use Rattle.wave.specs.declared.input.Fault.TheVariants.{NotUtf8, InputFailed, OutOfMemory}
 use Rattle.wave.specs.declared.input.Input.{Input}
-
--- one failure more was counted, unless the count stood at its end
-abbrev pub CountsOne : ℕ → ℕ → Type 0
-CountsOne old new = new ≡ min (old + 1) (2 ^ 64 - 1)
 
 module _ {R : Type 0} where
   -- the reader told its end, which it had not told before, and no read failed

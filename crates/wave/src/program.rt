@@ -1,5 +1,5 @@
 // The program between a reader and a writer.
-ghost use Rattle.std.specs.Prelude.{ℕ, List, ◌≡◌, ◌≤◌, true, false, map, MatchResult, IfOk, IfErr, IfSome, string_bytes};
+ghost use Rattle.std.specs.Prelude.{ℕ, List, ◌≡◌, ◌≤◌, true, false, map, IfOk, IfErr, IfSome, string_bytes};
 ghost use Rattle.wave.specs.ReadFaults.{IsReadToEnd, IsReadFault};
 ghost use Rattle.wave.specs.Written.{WritesWhole, WritesLess, Prints};
 ghost use Rattle.wave.specs.Requests.{AreUnknown};
@@ -30,7 +30,8 @@ pub fn run<R: Read, W: Write>(
 ) -> u8
     // One line was due, and the status with it; it was written, or a write failed.
     ensures printed { (status : ℕ) × (said : List ℕ)
-        × IsDue (map string_bytes words.now) (R.remaining input.old.reader) input.old input.new status said
+        × IsDue (map string_bytes words.now) (R.remaining input.old.reader)
+        input.old input.new status said
         × Prints W.contents output.old output.new said status result }
     // The words are tested before anything is read.
     ensures tested_first { AreUnknown (map string_bytes words.now) → input.new ≡ input.old }
@@ -100,7 +101,8 @@ enum Outcome {
 
 /// The outcome of the request on all of the input.
 fn respond<R: Read>(alloc: Global, request: Request, input: &mut Input<R>) -> Result<Outcome, Fault>
-    ensures outcome { IfOk result (λ outcome. IsOutcome request (R.remaining input.old.reader) outcome × IsReadToEnd input.old input.new) }
+    ensures outcome { IfOk result (λ outcome.
+        IsOutcome request (R.remaining input.old.reader) outcome × IsReadToEnd input.old input.new) }
     ensures fault { IfErr result (IsFaultOf (R.remaining input.old.reader) input.old input.new) }
     ensures counted { input.new.reads_left ≤ input.old.reads_left }
 {
@@ -119,7 +121,8 @@ fn respond<R: Read>(alloc: Global, request: Request, input: &mut Input<R>) -> Re
 
 /// The bytes up to the end of the input, which is read once.
 fn read_whole<R: Read>(alloc: Global, input: &mut Input<R>) -> Result<Vec<u8>, Fault>
-    ensures whole { IfOk result (λ bytes. IfSome (R.remaining input.old.reader) (λ left. bytes.items ≡ left)) }
+    ensures whole { IfOk result (λ bytes.
+        IfSome (R.remaining input.old.reader) (λ left. bytes.items ≡ left)) }
     ensures ended { IfOk result (λ bytes. IsReadToEnd input.old input.new) }
     ensures fault { IfErr result (IsReadFault input.old input.new) }
     ensures counted { input.new.reads_left ≤ input.old.reads_left }

@@ -45,7 +45,9 @@ pub enum Request {
 
 /// The type that the word names.
 fn type_name(word: &str) -> Option<TypeName>
-    ensures { MatchOption result ((name : TypeName) → word.now ≢ word_of name) (λ name. word.now ≡ word_of name) }
+    ensures { MatchOption result
+        ((name : TypeName) → word.now ≢ word_of name)
+        (λ name. word.now ≡ word_of name) }
 {
     match word {
         "bool" => Some(TypeName::Bool),
@@ -71,7 +73,9 @@ fn type_name(word: &str) -> Option<TypeName>
 
 /// The request that one word makes.
 fn one_word(word: &str) -> Option<Request>
-    ensures { MatchOption result (AreUnknown (word.now ∷ [])) (λ request. word.now ∷ [] ≡ words_of request) }
+    ensures { MatchOption result
+        (AreUnknown (word.now ∷ []))
+        (λ request. word.now ∷ [] ≡ words_of request) }
 {
     match word {
         "value" => Some(Request::Value),
@@ -82,7 +86,9 @@ fn one_word(word: &str) -> Option<Request>
 
 /// The request that two words make.
 fn two_words(word: &str, name: &str) -> Option<Request>
-    ensures { MatchOption result (AreUnknown (word.now ∷ name.now ∷ [])) (λ request. word.now ∷ name.now ∷ [] ≡ words_of request) }
+    ensures { MatchOption result
+        (AreUnknown (word.now ∷ name.now ∷ []))
+        (λ request. word.now ∷ name.now ∷ [] ≡ words_of request) }
 {
     if word != "read" {
         return None;
@@ -92,7 +98,9 @@ fn two_words(word: &str, name: &str) -> Option<Request>
 
 /// The request that the words make.
 pub fn request_of(words: &[String]) -> Option<Request>
-    ensures { MatchOption result (AreUnknown (map string_bytes words.now)) (λ request. map string_bytes words.now ≡ words_of request) }
+    ensures { MatchOption result
+        (AreUnknown (map string_bytes words.now))
+        (λ request. map string_bytes words.now ≡ words_of request) }
 {
     match words {
         [word] => one_word(word.as_str()),
