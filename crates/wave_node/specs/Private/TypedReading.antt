@@ -20,7 +20,7 @@ use Rattle.wave_node.specs.NodeAccessors.{GivesNumber}
 use Rattle.wave_grammar.specs.TypedGrammar.{IsFlat}
 use Rattle.wave_grammar.specs.Elaborates.{TreeReadsPayload}
 use Rattle.wave_grammar.specs.TypeErrors.{FaultOfPayload, RefusesFor}
-use Rattle.wave_node.specs.TypedReading.{IsBlamed, IsLeafMade}
+use Rattle.wave_node.specs.TypedReading.{IsLeafMade}
 use Rattle.wave_node.specs.declared.typed.Amiss.{Amiss}
 use Rattle.wave_node.specs.declared.typed.Amiss.TheVariants as amiss
 

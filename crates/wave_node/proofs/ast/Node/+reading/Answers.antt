@@ -1,6 +1,5 @@
 use Rattle.std.proofs.Common.{◌≡◌, ℕ, arith, rules}
 use Rattle.wave_wasm.specs.Types as type
-use Rattle.wave_wasm.specs.Values as value
 use Rattle.wave_node.proofs.MakerAnswers.{faulty, handed}
 use Rattle.wave_node.proofs.ByKind.Leaves.{said}
 use Rattle.wave_node.proofs.ByKind.Wholes.{whole_answers, whole_at}
@@ -32,7 +31,7 @@ use Rattle.wave_node.specs.NodeAccessors.{node_pairs}
 use Rattle.wave_node.specs.NodeTree.{children_of}
 use Rattle.wave_node.proofs.ByKind.Maps.{map_is, map_deep, map_fault, none_read, next_read, key_ready, value_ready, key_refused, value_refused, map_answered, map_distinct}
 use Rattle.wave_wasm.specs.Borrowed.{shown_fields}
-use Rattle.std.proofs.Common.{map, take, ap, ◌∙◌}
+use Rattle.std.proofs.Common.{take, ap, ◌∙◌}
 use Rattle.wave_grammar.specs.SpannedTree.{entry_list}
 use Rattle.wave_node.specs.NodeAccessors.{shown_node}
 use Rattle.wave_grammar.specs.TypedGrammar.{names_of}
