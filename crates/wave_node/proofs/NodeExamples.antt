@@ -29,8 +29,8 @@ childless : map (λ ty. shape_from ty (span 0 2) (codes "") []) (kind.List ∷ k
 childless = refl
 
 -- of one child
-parents : map (λ ty. shape_from ty (span 0 4) (codes "") (one ∷ [])) (kind.Tuple ∷ kind.OptionSome ∷ kind.ResultOk ∷ kind.ResultErr ∷ kind.TupleSet ∷ kind.Flags ∷ kind.Number ∷ [])
-    ≡ Some (placed.tuple (placed.and_then one placed.no_more)) ∷ Some (placed.some one) ∷ Some (placed.ok (a_placed one)) ∷ Some (placed.err (a_placed one)) ∷ None ∷ None ∷ None ∷ []
+parents : map (λ ty. shape_from ty (span 0 4) (codes "") (one ∷ [])) (kind.Tuple ∷ kind.OptionSome ∷ kind.ResultOk ∷ kind.ResultErr ∷ kind.TupleSet ∷ kind.Number ∷ [])
+    ≡ Some (placed.tuple (placed.and_then one placed.no_more)) ∷ Some (placed.some one) ∷ Some (placed.ok (a_placed one)) ∷ Some (placed.err (a_placed one)) ∷ None ∷ None ∷ []
 parents = refl
 
 -- of a label and a value: `a(1)`, `{a: 1}`, and no flags; `{a}`

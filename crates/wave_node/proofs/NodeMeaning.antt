@@ -1,5 +1,5 @@
 -- A node means what its tokens spell.
-use Rattle.std.proofs.Common.{ℕ, ◌≡◌, List, [], sym, ◌∙◌, subst}
+use Rattle.std.proofs.Common.{ℕ, ◌≡◌, List, [], sym, subst}
 use Rattle.std.specs.Prelude.{length}
 use Rattle.wave_lex.specs.Tokenization.{IsGap}
 use Rattle.wave_grammar.specs.Token.{Token, CutsInto}

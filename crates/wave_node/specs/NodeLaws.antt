@@ -1,5 +1,5 @@
 -- What holds of nodes, and where faults of type stand.
-use Rattle.std.specs.Prelude.{ℕ, ◌≡◌, ◌⊎◌, ◌+◌, ◌≤◌, List, [], ◌↔◌, ◌∷◌}
+use Rattle.std.specs.Prelude.{ℕ, List, [], ◌↔◌}
 use Rattle.std.specs.declared.ops.Range.{Range}
 use Rattle.wave_lex.specs.Errors.{Refusal, LiesInText}
 use Rattle.wave_wasm.specs.Types.{TypeTree}

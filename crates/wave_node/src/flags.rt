@@ -11,6 +11,7 @@ ghost use Rattle.wave_node.specs.Private.NodeFlags.{AreAllParsed, GivesFlagNodes
 ghost use Rattle.wave_node.specs.NodeFlags.{AreFlags, AreInOrder, GivesFlags, names_at};
 
 use crate::ast::{Node, NodeType};
+use crate::typed::Amiss;
 use std::alloc::Global;
 use std::collections::BTreeMap;
 use std::iter::ExactSizeIterator;
@@ -84,9 +85,7 @@ impl Node {
     {
         let mut marks = BTreeMap::new(alloc);
         for node in nodes {
-            if marks.insert(label_name(node.slice(src)), false).is_err() {
-                return Err(self.out_of_memory());
-            }
+            self.or_out_of_memory(marks.insert(label_name(node.slice(src)), false))?;
         }
         Ok(marks)
     }
@@ -106,7 +105,7 @@ impl Node {
         for node in nodes {
             let name = label_name(node.slice(src));
             if !marks.get(name).copied().unwrap_or(false) {
-                return Err(self.unknown_case(alloc, name));
+                return Err(self.refused_for(alloc, Amiss::UnknownCase, name));
             }
         }
         Ok(())

@@ -5,13 +5,13 @@ ghost use Rattle.wave_wasm.specs.Types as type;
 ghost use Rattle.wave_wasm.specs.Values as value;
 ghost use Rattle.wave_wasm.specs.Borrowed.{texts, shown, shown_cases};
 ghost use Rattle.wave_wasm.specs.TypeText.{kind_word};
-ghost use Rattle.wave_wasm.specs.ValueErrors.{unsupported_type, unknown_case, missing_field, missing_payload, unexpected_payload, wrong_number};
+ghost use Rattle.wave_wasm.specs.ValueErrors.{unsupported_type, wrong_number};
 ghost use Rattle.wave_lex.specs.declared.error.ParserErrorKind.TheVariants.{OutOfMemory};
 ghost use Rattle.wave_node.specs.Private.NodeAccessors.{Among};
 ghost use Rattle.wave_node.specs.NodeAccessors.{shown_node};
 ghost use Rattle.std.specs.Cow.{cow_str_bytes};
 ghost use Rattle.wave_node.specs.TypedReading.{IsLeafMade, IsValueOf, IsKeyOf, AnswersKey, IsMade, Answers, ReadsAtType};
-ghost use Rattle.wave_node.specs.Private.TypedReading.{IsCaused, AnswersWhole, IsPayloadOf, GivesFlat, AnswersPayload};
+ghost use Rattle.wave_node.specs.Private.TypedReading.{IsCaused, named_cause, AnswersWhole, IsPayloadOf, GivesFlat, AnswersPayload};
 ghost use Rattle.wave_node.specs.Nodes.{IsParsedFrom};
 ghost use Rattle.wave_lex.specs.Errors.{refusal_of};
 ghost use Rattle.std.specs.Prelude.{MatchResult};
@@ -32,6 +32,19 @@ use std::alloc::Global;
 use wave_lex::error::{ParserError, ParserErrorKind};
 use wave_wasm::wasm::{DisplayType, WasmType, WasmTypeKind, WasmValue, WasmValueError};
 use wave_wasm::writer::{WriterError, merge_map_entries, to_string};
+
+/// What is amiss with the case, the flag or the field that a refusal names.
+#[derive(Clone, Copy)]
+pub(crate) enum Amiss {
+    /// The type has no case or flag of this name.
+    UnknownCase,
+    /// The field of this name is left out.
+    MissingField,
+    /// The payload of the case of this name is not there.
+    MissingPayload,
+    /// The case of this name has no payload, and one is there.
+    UnexpectedPayload,
+}
 
 impl Node {
     /// The value that the type gives the node, which was parsed from `src` as a value. Where the
@@ -189,7 +202,7 @@ impl Node {
     {
         match ty.kind() {
             WasmTypeKind::Option => self.or_error_here(V::make_option(alloc, ty, None)),
-            _ => Err(self.missing_field(alloc, name)),
+            _ => Err(self.refused_for(alloc, Amiss::MissingField, name)),
         }
     }
 
@@ -206,10 +219,7 @@ impl Node {
         ensures answer { Answers V.tree V.is_of V.is_full (V.Type.tree ty.now) src.now self.now result }
         ensures within { IfErr result (StandsIn self.now) }
     {
-        let types = match ty.tuple_element_types(alloc) {
-            Ok(types) => types,
-            Err(_) => return Err(self.out_of_memory()),
-        };
+        let types = self.or_out_of_memory(ty.tuple_element_types(alloc))?;
         let nodes = self.as_tuple()?;
         if nodes.len() != types.len() {
             return Err(self.wrong_number(types.len(), nodes.len()));
@@ -243,10 +253,8 @@ impl Node {
             let val = node.read(alloc, value_type, src)?;
             self.push(&mut entries, (key, val))?;
         }
-        match merged(alloc, entries) {
-            Ok(entries) => self.or_error_here(V::make_map(alloc, ty, entries)),
-            Err(_) => Err(self.out_of_memory()),
-        }
+        let entries = self.or_out_of_memory(merged(alloc, entries))?;
+        self.or_error_here(V::make_map(alloc, ty, entries))
     }
 
     /// A key of a map. Of a label that spells none the refusal says what it should be.
@@ -408,7 +416,7 @@ impl Node {
                 let val = self.read_payload(alloc, name, payload, node, src)?;
                 self.or_error_here(V::make_variant(alloc, ty, name, val))
             }
-            None => Err(self.unknown_case(alloc, name)),
+            None => Err(self.refused_for(alloc, Amiss::UnknownCase, name)),
         }
     }
 
@@ -432,10 +440,10 @@ impl Node {
                     let val = node.read(alloc, ty, src)?;
                     Ok(Some(val))
                 }
-                None => Err(self.missing_payload(alloc, name)),
+                None => Err(self.refused_for(alloc, Amiss::MissingPayload, name)),
             },
             None => match node {
-                Some(_) => Err(self.unexpected_payload(alloc, name)),
+                Some(_) => Err(self.refused_for(alloc, Amiss::UnexpectedPayload, name)),
                 None => Ok(None),
             },
         }
@@ -453,13 +461,10 @@ impl Node {
         ensures answer { Answers V.tree V.is_of V.is_full (V.Type.tree ty.now) src.now self.now result }
         ensures within { IfErr result (StandsIn self.now) }
     {
-        let cases = match ty.enum_cases(alloc) {
-            Ok(cases) => cases,
-            Err(_) => return Err(self.out_of_memory()),
-        };
+        let cases = self.or_out_of_memory(ty.enum_cases(alloc))?;
         let name = self.as_enum(src)?;
         if !is_among(&cases, name) {
-            return Err(self.unknown_case(alloc, name));
+            return Err(self.refused_for(alloc, Amiss::UnknownCase, name));
         }
         self.or_error_here(V::make_enum(alloc, ty, name))
     }
@@ -492,10 +497,7 @@ impl Node {
         ensures answer { Answers V.tree V.is_of V.is_full (V.Type.tree ty.now) src.now self.now result }
         ensures within { IfErr result (StandsIn self.now) }
     {
-        let names = match ty.flags_names(alloc) {
-            Ok(names) => names,
-            Err(_) => return Err(self.out_of_memory()),
-        };
+        let names = self.or_out_of_memory(ty.flags_names(alloc))?;
         let picked = self.picked(alloc, &names, src)?;
         self.or_error_here(V::make_flags(alloc, ty, picked.as_slice()))
     }
@@ -552,8 +554,17 @@ impl Node {
         ensures refused { IfErr result (λ e. e.kind ≡ OutOfMemory) }
         ensures place { IfErr result (λ e. e.span ≡ place_of self.now) }
     {
-        match items.push(item) {
-            Ok(()) => Ok(()),
+        self.or_out_of_memory(items.push(item))
+    }
+
+    /// What was made; want of memory is refused at the node.
+    pub(crate) fn or_out_of_memory<T, E: Drop>(&self, made: Result<T, E>) -> Result<T, ParserError>
+        ensures made { IfOk result (λ val. made ≡ Ok val) }
+        ensures refused { IfErr result (λ e. e.kind ≡ OutOfMemory) }
+        ensures place { IfErr result (λ e. e.span ≡ place_of self.now) }
+    {
+        match made {
+            Ok(val) => Ok(val),
             Err(_) => Err(self.out_of_memory()),
         }
     }
@@ -566,17 +577,6 @@ impl Node {
         ParserError::new(ParserErrorKind::OutOfMemory, self.span())
     }
 
-    /// A refusal because a field of this name is left out.
-    fn missing_field(&self, alloc: Global, name: &str) -> ParserError
-        ensures cause { IsCaused (missing_field name.now) self.now result }
-        ensures span { result.span ≡ place_of self.now }
-    {
-        match String::from_str(alloc, name) {
-            Ok(name) => self.refused(WasmValueError::MissingField(name)),
-            Err(error) => self.refused(WasmValueError::Memory(error)),
-        }
-    }
-
     /// A refusal because a tuple of so many types has another number of items.
     fn wrong_number(&self, want: usize, got: usize) -> ParserError
         ensures { RefusesFor (wrong_number want got) (place_of self.now) (refusal_of result) result.span }
@@ -584,37 +584,21 @@ impl Node {
         self.refused(WasmValueError::WrongNumberOfTupleValues { want, got })
     }
 
-    /// A refusal because the type has no case or flag of this name.
-    pub(crate) fn unknown_case(&self, alloc: Global, name: &str) -> ParserError
-        ensures cause { IsCaused (unknown_case name.now) self.now result }
+    /// A refusal because this is amiss with the case, the flag or the field of this name.
+    pub(crate) fn refused_for(&self, alloc: Global, amiss: Amiss, name: &str) -> ParserError
+        ensures cause { IsCaused (named_cause amiss name.now) self.now result }
         ensures span { result.span ≡ place_of self.now }
     {
-        match String::from_str(alloc, name) {
-            Ok(name) => self.refused(WasmValueError::UnknownCase(name)),
-            Err(error) => self.refused(WasmValueError::Memory(error)),
-        }
-    }
-
-    /// A refusal because the case of this name has a payload that is not there.
-    fn missing_payload(&self, alloc: Global, name: &str) -> ParserError
-        ensures cause { IsCaused (missing_payload name.now) self.now result }
-        ensures span { result.span ≡ place_of self.now }
-    {
-        match String::from_str(alloc, name) {
-            Ok(name) => self.refused(WasmValueError::MissingPayload(name)),
-            Err(error) => self.refused(WasmValueError::Memory(error)),
-        }
-    }
-
-    /// A refusal because the case of this name has no payload, and one is there.
-    fn unexpected_payload(&self, alloc: Global, name: &str) -> ParserError
-        ensures cause { IsCaused (unexpected_payload name.now) self.now result }
-        ensures span { result.span ≡ place_of self.now }
-    {
-        match String::from_str(alloc, name) {
-            Ok(name) => self.refused(WasmValueError::UnexpectedPayload(name)),
-            Err(error) => self.refused(WasmValueError::Memory(error)),
-        }
+        let name = match String::from_str(alloc, name) {
+            Ok(name) => name,
+            Err(error) => return self.refused(WasmValueError::Memory(error)),
+        };
+        self.refused(match amiss {
+            Amiss::UnknownCase => WasmValueError::UnknownCase(name),
+            Amiss::MissingField => WasmValueError::MissingField(name),
+            Amiss::MissingPayload => WasmValueError::MissingPayload(name),
+            Amiss::UnexpectedPayload => WasmValueError::UnexpectedPayload(name),
+        })
     }
 
     /// A refusal because values of this kind can't be read.

@@ -1,7 +1,7 @@
 -- Where the refusal of a node stands.
-use Rattle.std.specs.Prelude.{ℕ, ◌≡◌, ◌⊎◌, ◌≤◌, Option, Some}
+use Rattle.std.specs.Prelude.{◌≡◌, ◌⊎◌, Option, Some}
 use Rattle.wave_lex.specs.declared.error.ParserError.{ParserError}
-use Rattle.wave_node.specs.NodeTree.{NodeTree, node}
+use Rattle.wave_node.specs.NodeTree.{NodeTree}
 use Rattle.wave_node.specs.ErrorSpans.{IsAtNode, StandsIn}
 
 -- the refusal stands at the node, or in that of its part

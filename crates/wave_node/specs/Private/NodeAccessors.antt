@@ -1,5 +1,5 @@
 -- What a node answers about itself.
-use Rattle.std.specs.Prelude.{ℕ, ℤ, ◌≡◌, ◌≢◌, ◌⊎◌, ◌+◌, ◌++◌, Bool, true, false, List, [], ◌∷◌, Result, Ok, Err}
+use Rattle.std.specs.Prelude.{ℕ, ◌≡◌, ◌≢◌, Bool, true, false, List, Result, Ok, Err}
 use Rattle.wave_wasm.specs.Names.{IsOneOf, IsNoneOf}
 use Rattle.wave_wasm.specs.Text.{bool_text}
 use Rattle.wave_lex.specs.declared.error.ParserError.{ParserError}

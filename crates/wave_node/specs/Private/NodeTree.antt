@@ -1,5 +1,5 @@
 -- What a `Node` is: its type, its place in the source and its children.
-use Rattle.std.specs.Prelude.{ℕ, suc, max, [], ◌∷◌}
+use Rattle.std.specs.Prelude.{ℕ, suc, max}
 use Rattle.wave_node.specs.NodeTree.{NodeTree, NodeTrees, no_nodes, node, node_and}
 
 -- how deep nodes nest below a node

@@ -8,7 +8,7 @@ use Rattle.wave_wasm.specs.declared.wasm.WasmTypeKind.{WasmTypeKind}
 use Rattle.wave_wasm.specs.Values as value
 use Rattle.wave_wasm.specs.Values.{Value, maybe_value}
 use Rattle.wave_wasm.specs.TypeText.{kind_word}
-use Rattle.wave_wasm.specs.ValueErrors.{Cause, unsupported_type}
+use Rattle.wave_wasm.specs.ValueErrors.{Cause, unsupported_type, unknown_case, missing_field, missing_payload, unexpected_payload}
 use Rattle.wave_wasm.specs.ConstructorContracts.{PayloadIsOf, payload_and}
 use Rattle.wave_lex.specs.Errors.{refusal_of}
 use Rattle.wave_lex.specs.declared.error.ParserError.{ParserError}
@@ -20,11 +20,20 @@ use Rattle.wave_node.specs.NodeAccessors.{GivesNumber}
 use Rattle.wave_grammar.specs.TypedGrammar.{IsFlat}
 use Rattle.wave_grammar.specs.Elaborates.{TreeReadsPayload}
 use Rattle.wave_grammar.specs.TypeErrors.{FaultOfPayload, RefusesFor}
-use Rattle.wave_node.specs.TypedReading.{IsBlamed, IsLeafMade}
+use Rattle.wave_node.specs.TypedReading.{IsLeafMade}
+use Rattle.wave_node.specs.declared.typed.Amiss.{Amiss}
+use Rattle.wave_node.specs.declared.typed.Amiss.TheVariants as amiss
 
 -- a refusal with this cause at the node, or for want of memory
 abbrev pub IsCaused : Cause → NodeTree → ParserError → Type 0
 IsCaused cause n e = (e.kind ≡ OutOfMemory) ⊎ RefusesFor cause (place_of n) (refusal_of e) e.span
+
+-- the cause that says what is amiss with the name
+abbrev pub named_cause : Amiss → List ℕ → Cause
+named_cause amiss.UnknownCase name = unknown_case name
+named_cause amiss.MissingField name = missing_field name
+named_cause amiss.MissingPayload name = missing_payload name
+named_cause amiss.UnexpectedPayload name = unexpected_payload name
 
 module _ {V : Type 0} (tree : V → Value) (of : V → TypeTree → Type 0) (Full : TypeTree → Type 0) where
   -- what a maker answered for the node's number, which is one of this type; or the refusal of a node of none

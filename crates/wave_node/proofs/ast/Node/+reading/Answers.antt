@@ -1,6 +1,5 @@
 use Rattle.std.proofs.Common.{◌≡◌, ℕ, arith, rules}
 use Rattle.wave_wasm.specs.Types as type
-use Rattle.wave_wasm.specs.Values as value
 use Rattle.wave_node.proofs.MakerAnswers.{faulty, handed}
 use Rattle.wave_node.proofs.ByKind.Leaves.{said}
 use Rattle.wave_node.proofs.ByKind.Wholes.{whole_answers, whole_at}
@@ -32,7 +31,7 @@ use Rattle.wave_node.specs.NodeAccessors.{node_pairs}
 use Rattle.wave_node.specs.NodeTree.{children_of}
 use Rattle.wave_node.proofs.ByKind.Maps.{map_is, map_deep, map_fault, none_read, next_read, key_ready, value_ready, key_refused, value_refused, map_answered, map_distinct}
 use Rattle.wave_wasm.specs.Borrowed.{shown_fields}
-use Rattle.std.proofs.Common.{map, take, ap, ◌∙◌}
+use Rattle.std.proofs.Common.{take, ap, ◌∙◌}
 use Rattle.wave_grammar.specs.SpannedTree.{entry_list}
 use Rattle.wave_node.specs.NodeAccessors.{shown_node}
 use Rattle.wave_grammar.specs.TypedGrammar.{names_of}
@@ -177,46 +176,46 @@ read_result-returns-in_ok-flat-in-Err-clause-answer g m c = λ t is distinct.
 pub read_tuple-returns-in_err-nodes-clause-answer : goal.read_tuple-returns-in_err-nodes-clause-answer
 read_tuple-returns-in_err-nodes-clause-answer g m c = λ t is distinct.
     let kind : kinds.Tuple ≡ kind_of (g.V.Type.WasmType.tree c.args.ty.now) = search rules in
-    let tuple : TupleType (g.V.Type.WasmType.tree c.args.ty.now) (shown_all g.V.Type.WasmType.tree c.in-Ok.types.items) = tuple_is (g.V.Type.WasmType.tree c.args.ty.now) (shown_all g.V.Type.WasmType.tree c.in-Ok.types.items) kind c.in-Ok.ensures in
-    faulty g.V.WasmValue.tree g.V.WasmValue.is_of g.V.WasmValue.is_full (g.V.Type.WasmType.tree c.args.ty.now) t (type.tuple tuple.types) c.in_err-nodes.field-0.0 c.from_residual.result tuple.is c.from_residual.ensures.1
+    let tuple : TupleType (g.V.Type.WasmType.tree c.args.ty.now) (shown_all g.V.Type.WasmType.tree c.in_ok-types.types.items) = tuple_is (g.V.Type.WasmType.tree c.args.ty.now) (shown_all g.V.Type.WasmType.tree c.in_ok-types.types.items) kind (rw c.in_ok-types.ensures.made at c.tuple_element_types.ensures) in
+    faulty g.V.WasmValue.tree g.V.WasmValue.is_of g.V.WasmValue.is_full (g.V.Type.WasmType.tree c.args.ty.now) t (type.tuple tuple.types) c.in_err-nodes.field-0.0 c.from_residual-in_err-nodes.result tuple.is c.from_residual-in_err-nodes.ensures.1
     (tuple_fault tuple.types c.args.src.now c.args.self.now t _ _ is.0 c.in_err-nodes.ensures.0 (said c.in_err-nodes.ensures.1))
 
 pub read_tuple-returns-then-nodes-len-clause-answer : goal.read_tuple-returns-then-nodes-len-clause-answer
 read_tuple-returns-then-nodes-len-clause-answer g m c = λ t is distinct.
     let kind : kinds.Tuple ≡ kind_of (g.V.Type.WasmType.tree c.args.ty.now) = search rules in
-    let tuple : TupleType (g.V.Type.WasmType.tree c.args.ty.now) (shown_all g.V.Type.WasmType.tree c.in-Ok.types.items) = tuple_is (g.V.Type.WasmType.tree c.args.ty.now) (shown_all g.V.Type.WasmType.tree c.in-Ok.types.items) kind c.in-Ok.ensures in
-    let want : c.len-then-nodes-len.result ≡ length (shown_all g.V.Type.WasmType.tree c.in-Ok.types.items) = omega (arith, as_shown g.V.Type.WasmType.tree c.in-Ok.types.items) in
-    let apart : length c.in_ok-nodes.nodes.now ≢ length (shown_all g.V.Type.WasmType.tree c.in-Ok.types.items) = λ same. c.if-nodes-len.true (omega (arith, want, same)) in
-    count_blame g.V.WasmValue.tree g.V.WasmValue.is_of g.V.WasmValue.is_full (g.V.Type.WasmType.tree c.args.ty.now) (shown_all g.V.Type.WasmType.tree c.in-Ok.types.items) c.args.src.now c.args.self.now t c.in_ok-nodes.nodes.now c.wrong_number.result tuple is c.in_ok-nodes.ensures.0 c.in_ok-nodes.ensures.1 apart (subst (λ (k : ℕ). RefusesFor (wrong_number k (length c.in_ok-nodes.nodes.now)) (place_of c.args.self.now) (refusal_of c.wrong_number.result) c.wrong_number.result.span) want c.wrong_number.ensures)
+    let tuple : TupleType (g.V.Type.WasmType.tree c.args.ty.now) (shown_all g.V.Type.WasmType.tree c.in_ok-types.types.items) = tuple_is (g.V.Type.WasmType.tree c.args.ty.now) (shown_all g.V.Type.WasmType.tree c.in_ok-types.types.items) kind (rw c.in_ok-types.ensures.made at c.tuple_element_types.ensures) in
+    let want : c.len-then-nodes-len.result ≡ length (shown_all g.V.Type.WasmType.tree c.in_ok-types.types.items) = omega (arith, as_shown g.V.Type.WasmType.tree c.in_ok-types.types.items) in
+    let apart : length c.in_ok-nodes.nodes.now ≢ length (shown_all g.V.Type.WasmType.tree c.in_ok-types.types.items) = λ same. c.if-nodes-len.true (omega (arith, want, same)) in
+    count_blame g.V.WasmValue.tree g.V.WasmValue.is_of g.V.WasmValue.is_full (g.V.Type.WasmType.tree c.args.ty.now) (shown_all g.V.Type.WasmType.tree c.in_ok-types.types.items) c.args.src.now c.args.self.now t c.in_ok-nodes.nodes.now c.wrong_number.result tuple is c.in_ok-nodes.ensures.0 c.in_ok-nodes.ensures.1 apart (subst (λ (k : ℕ). RefusesFor (wrong_number k (length c.in_ok-nodes.nodes.now)) (place_of c.args.self.now) (refusal_of c.wrong_number.result) c.wrong_number.result.span) want c.wrong_number.ensures)
 
 pub read_tuple-read-requires : goal.read_tuple-read-requires
 read_tuple-read-requires g m c κs within =
     let value : IsValueOf c.args.src.now c.args.self.now = search rules in
     let kind : kinds.Tuple ≡ kind_of (g.V.Type.WasmType.tree c.args.ty.now) = search rules in
-    let tuple : TupleType (g.V.Type.WasmType.tree c.args.ty.now) (shown_all g.V.Type.WasmType.tree c.in-Ok.types.items) = tuple_is (g.V.Type.WasmType.tree c.args.ty.now) (shown_all g.V.Type.WasmType.tree c.in-Ok.types.items) kind c.in-Ok.ensures in
-    let typed : HasAt (shown_all g.V.Type.WasmType.tree c.in-Ok.types.items) c.loop-i.i (g.V.Type.WasmType.tree c.index.result.now.now) = type_at g.V.Type.WasmType.tree c.in-Ok.types.items c.loop-i.i c.index.result.now (omega arith) c.index.ensures in
-    (omega (arith, tuple_deep (g.V.Type.WasmType.tree c.args.ty.now) (shown_all g.V.Type.WasmType.tree c.in-Ok.types.items) c.loop-i.i (g.V.Type.WasmType.tree c.index.result.now.now) tuple typed), (within.0, (within.1, tuple_item c.args.src.now c.args.self.now c.in_ok-nodes.nodes.now c.loop-i.i c.index-nodes-i.result value c.in_ok-nodes.ensures.0 c.in_ok-nodes.ensures.1 c.loop-i-test.true c.index-nodes-i.is)))
+    let tuple : TupleType (g.V.Type.WasmType.tree c.args.ty.now) (shown_all g.V.Type.WasmType.tree c.in_ok-types.types.items) = tuple_is (g.V.Type.WasmType.tree c.args.ty.now) (shown_all g.V.Type.WasmType.tree c.in_ok-types.types.items) kind (rw c.in_ok-types.ensures.made at c.tuple_element_types.ensures) in
+    let typed : HasAt (shown_all g.V.Type.WasmType.tree c.in_ok-types.types.items) c.loop-i.i (g.V.Type.WasmType.tree c.index.result.now.now) = type_at g.V.Type.WasmType.tree c.in_ok-types.types.items c.loop-i.i c.index.result.now (omega arith) c.index.ensures in
+    (omega (arith, tuple_deep (g.V.Type.WasmType.tree c.args.ty.now) (shown_all g.V.Type.WasmType.tree c.in_ok-types.types.items) c.loop-i.i (g.V.Type.WasmType.tree c.index.result.now.now) tuple typed), (within.0, (within.1, tuple_item c.args.src.now c.args.self.now c.in_ok-nodes.nodes.now c.loop-i.i c.index-nodes-i.result value c.in_ok-nodes.ensures.0 c.in_ok-nodes.ensures.1 c.loop-i-test.true c.index-nodes-i.is)))
 
 pub read_tuple-returns-in_err-item-clause-answer : goal.read_tuple-returns-in_err-item-clause-answer
 read_tuple-returns-in_err-item-clause-answer g m c = λ t is distinct.
     let kind : kinds.Tuple ≡ kind_of (g.V.Type.WasmType.tree c.args.ty.now) = search rules in
-    let tuple : TupleType (g.V.Type.WasmType.tree c.args.ty.now) (shown_all g.V.Type.WasmType.tree c.in-Ok.types.items) = tuple_is (g.V.Type.WasmType.tree c.args.ty.now) (shown_all g.V.Type.WasmType.tree c.in-Ok.types.items) kind c.in-Ok.ensures in
-    let typed : HasAt (shown_all g.V.Type.WasmType.tree c.in-Ok.types.items) c.loop-i.i (g.V.Type.WasmType.tree c.index.result.now.now) = type_at g.V.Type.WasmType.tree c.in-Ok.types.items c.loop-i.i c.index.result.now (omega arith) c.index.ensures in
+    let tuple : TupleType (g.V.Type.WasmType.tree c.args.ty.now) (shown_all g.V.Type.WasmType.tree c.in_ok-types.types.items) = tuple_is (g.V.Type.WasmType.tree c.args.ty.now) (shown_all g.V.Type.WasmType.tree c.in_ok-types.types.items) kind (rw c.in_ok-types.ensures.made at c.tuple_element_types.ensures) in
+    let typed : HasAt (shown_all g.V.Type.WasmType.tree c.in_ok-types.types.items) c.loop-i.i (g.V.Type.WasmType.tree c.index.result.now.now) = type_at g.V.Type.WasmType.tree c.in_ok-types.types.items c.loop-i.i c.index.result.now (omega arith) c.index.ensures in
     handed g.V.WasmValue.tree g.V.WasmValue.is_of g.V.WasmValue.is_full (g.V.Type.WasmType.tree c.args.ty.now) t c.in_err-item.field-0.0 c.from_residual-in_err-item.result c.from_residual-in_err-item.ensures.1
-    (item_blamed g.V.WasmValue.tree g.V.WasmValue.is_of g.V.WasmValue.is_full c.args.src.now (g.V.Type.WasmType.tree c.args.ty.now) (shown_all g.V.Type.WasmType.tree c.in-Ok.types.items) c.args.self.now t c.in_ok-nodes.nodes.now c.loop-i.i c.index-nodes-i.result (g.V.Type.WasmType.tree c.index.result.now.now) c.in_err-item.field-0.0 tuple is c.in_ok-nodes.ensures.0 c.in_ok-nodes.ensures.1 c.loop-i-test.true c.index-nodes-i.is typed g.met.V.WasmValue.full_parts (λ u here. c.in_err-item.ensures.answer u here (all_has HasDistinctNames (shown_all g.V.Type.WasmType.tree c.in-Ok.types.items) c.loop-i.i (g.V.Type.WasmType.tree c.index.result.now.now) (parts_distinct (g.V.Type.WasmType.tree c.args.ty.now) (shown_all g.V.Type.WasmType.tree c.in-Ok.types.items) tuple distinct) typed)))
+    (item_blamed g.V.WasmValue.tree g.V.WasmValue.is_of g.V.WasmValue.is_full c.args.src.now (g.V.Type.WasmType.tree c.args.ty.now) (shown_all g.V.Type.WasmType.tree c.in_ok-types.types.items) c.args.self.now t c.in_ok-nodes.nodes.now c.loop-i.i c.index-nodes-i.result (g.V.Type.WasmType.tree c.index.result.now.now) c.in_err-item.field-0.0 tuple is c.in_ok-nodes.ensures.0 c.in_ok-nodes.ensures.1 c.loop-i-test.true c.index-nodes-i.is typed g.met.V.WasmValue.full_parts (λ u here. c.in_err-item.ensures.answer u here (all_has HasDistinctNames (shown_all g.V.Type.WasmType.tree c.in_ok-types.types.items) c.loop-i.i (g.V.Type.WasmType.tree c.index.result.now.now) (parts_distinct (g.V.Type.WasmType.tree c.args.ty.now) (shown_all g.V.Type.WasmType.tree c.in_ok-types.types.items) tuple distinct) typed)))
 
 pub read_tuple-loop-i-preserved : goal.read_tuple-loop-i-preserved
 read_tuple-loop-i-preserved g m c = λ ts nodes distinct.
-    let typed : HasAt (shown_all g.V.Type.WasmType.tree c.in-Ok.types.items) c.loop-i.i (g.V.Type.WasmType.tree c.index.result.now.now) = type_at g.V.Type.WasmType.tree c.in-Ok.types.items c.loop-i.i c.index.result.now (omega arith) c.index.ensures in
-    tuple_kept g.V.WasmValue.tree g.V.WasmValue.is_of g.V.WasmValue.is_full c.args.src.now (shown_all g.V.Type.WasmType.tree c.in-Ok.types.items) c.in_ok-nodes.nodes.now ts c.loop-i.items.items c.push.new.items.items c.loop-i.i c.index-nodes-i.result (g.V.Type.WasmType.tree c.index.result.now.now) c.in_ok-item.item nodes c.loop-i-test.true c.index-nodes-i.is typed (c.loop-i.invariant ts nodes distinct) (λ u here. c.in_ok-item.ensures.answer u here (all_has HasDistinctNames (shown_all g.V.Type.WasmType.tree c.in-Ok.types.items) c.loop-i.i (g.V.Type.WasmType.tree c.index.result.now.now) distinct typed)) c.in_ok-push.ensures.kept
+    let typed : HasAt (shown_all g.V.Type.WasmType.tree c.in_ok-types.types.items) c.loop-i.i (g.V.Type.WasmType.tree c.index.result.now.now) = type_at g.V.Type.WasmType.tree c.in_ok-types.types.items c.loop-i.i c.index.result.now (omega arith) c.index.ensures in
+    tuple_kept g.V.WasmValue.tree g.V.WasmValue.is_of g.V.WasmValue.is_full c.args.src.now (shown_all g.V.Type.WasmType.tree c.in_ok-types.types.items) c.in_ok-nodes.nodes.now ts c.loop-i.items.items c.push.new.items.items c.loop-i.i c.index-nodes-i.result (g.V.Type.WasmType.tree c.index.result.now.now) c.in_ok-item.item nodes c.loop-i-test.true c.index-nodes-i.is typed (c.loop-i.invariant ts nodes distinct) (λ u here. c.in_ok-item.ensures.answer u here (all_has HasDistinctNames (shown_all g.V.Type.WasmType.tree c.in_ok-types.types.items) c.loop-i.i (g.V.Type.WasmType.tree c.index.result.now.now) distinct typed)) c.in_ok-push.ensures.kept
 
 pub read_tuple-returns-clause-answer : goal.read_tuple-returns-clause-answer
 read_tuple-returns-clause-answer g m c = λ t is distinct.
     let kind : kinds.Tuple ≡ kind_of (g.V.Type.WasmType.tree c.args.ty.now) = search rules in
-    let tuple : TupleType (g.V.Type.WasmType.tree c.args.ty.now) (shown_all g.V.Type.WasmType.tree c.in-Ok.types.items) = tuple_is (g.V.Type.WasmType.tree c.args.ty.now) (shown_all g.V.Type.WasmType.tree c.in-Ok.types.items) kind c.in-Ok.ensures in
-    let many : length c.in_ok-nodes.nodes.now ≡ length (shown_all g.V.Type.WasmType.tree c.in-Ok.types.items) = omega (arith, as_shown g.V.Type.WasmType.tree c.in-Ok.types.items) in
+    let tuple : TupleType (g.V.Type.WasmType.tree c.args.ty.now) (shown_all g.V.Type.WasmType.tree c.in_ok-types.types.items) = tuple_is (g.V.Type.WasmType.tree c.args.ty.now) (shown_all g.V.Type.WasmType.tree c.in_ok-types.types.items) kind (rw c.in_ok-types.ensures.made at c.tuple_element_types.ensures) in
+    let many : length c.in_ok-nodes.nodes.now ≡ length (shown_all g.V.Type.WasmType.tree c.in_ok-types.types.items) = omega (arith, as_shown g.V.Type.WasmType.tree c.in_ok-types.types.items) in
     let inner = tuple_nodes c.args.src.now c.args.self.now t is c.in_ok-nodes.ensures.0 in
-    tuple_made g.V.WasmValue.tree g.V.WasmValue.is_of g.V.WasmValue.is_full c.args.src.now (g.V.Type.WasmType.tree c.args.ty.now) (shown_all g.V.Type.WasmType.tree c.in-Ok.types.items) c.args.self.now t c.in_ok-nodes.nodes.now c.loop-i.items.items c.loop-i.i c.make_tuple.result c.or_error_here.result tuple distinct is c.in_ok-nodes.ensures.0 c.in_ok-nodes.ensures.1 many c.loop-i-test.false (c.loop-i.invariant inner.items (given_items c.args.src.now c.args.self.now t c.in_ok-nodes.nodes.now is c.in_ok-nodes.ensures.0 c.in_ok-nodes.ensures.1) (parts_distinct (g.V.Type.WasmType.tree c.args.ty.now) (shown_all g.V.Type.WasmType.tree c.in-Ok.types.items) tuple distinct)) c.make_tuple.ensures.made c.make_tuple.ensures.full c.or_error_here.ensures
+    tuple_made g.V.WasmValue.tree g.V.WasmValue.is_of g.V.WasmValue.is_full c.args.src.now (g.V.Type.WasmType.tree c.args.ty.now) (shown_all g.V.Type.WasmType.tree c.in_ok-types.types.items) c.args.self.now t c.in_ok-nodes.nodes.now c.loop-i.items.items c.loop-i.i c.make_tuple.result c.or_error_here.result tuple distinct is c.in_ok-nodes.ensures.0 c.in_ok-nodes.ensures.1 many c.loop-i-test.false (c.loop-i.invariant inner.items (given_items c.args.src.now c.args.self.now t c.in_ok-nodes.nodes.now is c.in_ok-nodes.ensures.0 c.in_ok-nodes.ensures.1) (parts_distinct (g.V.Type.WasmType.tree c.args.ty.now) (shown_all g.V.Type.WasmType.tree c.in_ok-types.types.items) tuple distinct)) c.make_tuple.ensures.made c.make_tuple.ensures.full c.or_error_here.ensures
 
 pub read_variant-returns-in_err-name-clause-answer : goal.read_variant-returns-in_err-name-clause-answer
 read_variant-returns-in_err-name-clause-answer g m c = λ t is distinct.
@@ -254,7 +253,7 @@ read_variant-returns-clause-answer g m c = λ t is distinct.
     let kind : kinds.Variant ≡ kind_of (g.V.Type.WasmType.tree c.args.ty.now) = search rules in
     let variant : VariantType (g.V.Type.WasmType.tree c.args.ty.now) (shown_cases g.V.Type.WasmType.tree c.in-Ok.cases.items) = variant_is (g.V.Type.WasmType.tree c.args.ty.now) (shown_cases g.V.Type.WasmType.tree c.in-Ok.cases.items) kind c.in-Ok.ensures in
     let k = given_case c.args.src.now c.args.self.now t c.in_ok-name.name c.in_ok-name.node is c.in_ok-name.ensures in
-    no_case_blame g.V.WasmValue.tree g.V.WasmValue.is_of g.V.WasmValue.is_full (g.V.Type.WasmType.tree c.args.ty.now) variant.cases c.args.src.now c.args.self.now t c.in_ok-name.name.now (shown_node c.in_ok-name.node) k c.unknown_case.result variant.is is.0 (case_missing (g.V.Type.WasmType.tree c.args.ty.now) (shown_cases g.V.Type.WasmType.tree c.in-Ok.cases.items) variant c.in_ok-name.name.now c.in-None.ensures) c.unknown_case.ensures.cause
+    no_case_blame g.V.WasmValue.tree g.V.WasmValue.is_of g.V.WasmValue.is_full (g.V.Type.WasmType.tree c.args.ty.now) variant.cases c.args.src.now c.args.self.now t c.in_ok-name.name.now (shown_node c.in_ok-name.node) k c.refused_for.result variant.is is.0 (case_missing (g.V.Type.WasmType.tree c.args.ty.now) (shown_cases g.V.Type.WasmType.tree c.in-Ok.cases.items) variant c.in_ok-name.name.now c.in-None.ensures) c.refused_for.ensures.cause
 
 pub read_map-returns-in_err-nodes-clause-answer : goal.read_map-returns-in_err-nodes-clause-answer
 read_map-returns-in_err-nodes-clause-answer g m c = λ t is distinct.
@@ -293,9 +292,9 @@ pub read_map-entries-preserved : goal.read_map-entries-preserved
 read_map-entries-preserved g m c =
     (next_read g.V.WasmValue.tree g.V.WasmValue.is_of g.V.WasmValue.is_full c.args.src.now (g.V.Type.WasmType.tree c.unwrap.result.0.now) (g.V.Type.WasmType.tree c.unwrap.result.1.now) (node_pairs (children_of c.args.self.now)) c.entries.nodes c.next.new.self (c.in-Some.key.now, c.in-Some.node.now) c.entries.entries.items c.push.new.items.items c.in_ok-key.key c.in_ok-val.val c.entries.invariant.0 c.in-Some.ensures.steps c.in_ok-key.ensures.answer c.in_ok-val.ensures.answer c.in_ok-push.ensures.kept, (next_belongs c.args.self.now c.entries.nodes c.next.new.self (c.in-Some.key.now, c.in-Some.node.now) c.entries.invariant.1 c.in-Some.ensures.steps).1)
 
-pub read_map-returns-in-Ok-clause-answer : goal.read_map-returns-in-Ok-clause-answer
-read_map-returns-in-Ok-clause-answer g m c = λ t is distinct.
-    map_answered g.V.WasmValue.tree g.V.WasmValue.is_of g.V.WasmValue.is_full c.args.src.now (g.V.Type.WasmType.tree c.args.ty.now) (g.V.Type.WasmType.tree c.unwrap.result.0.now) (g.V.Type.WasmType.tree c.unwrap.result.1.now) c.args.self.now t c.in_ok-nodes.nodes c.entries.nodes c.entries.entries.items c.in-Ok.entries.items c.make_map.result c.or_error_here.result (map_is g.V.Type.WasmType.tree (g.V.Type.WasmType.tree c.args.ty.now) c.map_key_value_types.result c.unwrap.result c.unwrap.ensures c.map_key_value_types.ensures) is c.in_ok-nodes.ensures c.entries.invariant.0 c.in_default.ensures.steps.0 distinct g.met.V.WasmValue.of_fits c.in-Ok.ensures c.make_map.ensures.made c.make_map.ensures.full c.or_error_here.ensures
+pub read_map-returns-clause-answer : goal.read_map-returns-clause-answer
+read_map-returns-clause-answer g m c = λ t is distinct.
+    map_answered g.V.WasmValue.tree g.V.WasmValue.is_of g.V.WasmValue.is_full c.args.src.now (g.V.Type.WasmType.tree c.args.ty.now) (g.V.Type.WasmType.tree c.unwrap.result.0.now) (g.V.Type.WasmType.tree c.unwrap.result.1.now) c.args.self.now t c.in_ok-nodes.nodes c.entries.nodes c.entries.entries.items c.in_ok-entries.entries.items c.make_map.result c.or_error_here.result (map_is g.V.Type.WasmType.tree (g.V.Type.WasmType.tree c.args.ty.now) c.map_key_value_types.result c.unwrap.result c.unwrap.ensures c.map_key_value_types.ensures) is c.in_ok-nodes.ensures c.entries.invariant.0 c.in_default.ensures.steps.0 distinct g.met.V.WasmValue.of_fits (rw c.in_ok-entries.ensures.made at c.merged.ensures) c.make_map.ensures.made c.make_map.ensures.full c.or_error_here.ensures
 
 pub read_record-returns-in_err-nodes-clause-answer : goal.read_record-returns-in_err-nodes-clause-answer
 read_record-returns-in_err-nodes-clause-answer g m c = λ t is distinct.
@@ -446,7 +445,7 @@ read_result-returns-in_ok-flat-in-Err-clause-within g m c =
 pub read_tuple-returns-in_err-nodes-clause-within : goal.read_tuple-returns-in_err-nodes-clause-within
 read_tuple-returns-in_err-nodes-clause-within g m c =
     let value : IsValueOf c.args.src.now c.args.self.now = search rules in
-    error_handed (StandsIn c.args.self.now) c.from_residual.result c.in_err-nodes.field-0.0 c.from_residual.ensures.1 (at_in c.args.src.now c.args.self.now c.in_err-nodes.field-0.0 (inl value) (form_at c.args.self.now c.in_err-nodes.field-0.0 c.in_err-nodes.ensures.1))
+    error_handed (StandsIn c.args.self.now) c.from_residual-in_err-nodes.result c.in_err-nodes.field-0.0 c.from_residual-in_err-nodes.ensures.1 (at_in c.args.src.now c.args.self.now c.in_err-nodes.field-0.0 (inl value) (form_at c.args.self.now c.in_err-nodes.field-0.0 c.in_err-nodes.ensures.1))
 
 pub read_tuple-returns-then-nodes-len-clause-within : goal.read_tuple-returns-then-nodes-len-clause-within
 read_tuple-returns-then-nodes-len-clause-within g m c =
@@ -468,10 +467,10 @@ read_tuple-returns-clause-within g m c =
     let value : IsValueOf c.args.src.now c.args.self.now = search rules in
     made_in c.args.src.now c.args.self.now c.make_tuple.result c.or_error_here.result (inl value) c.or_error_here.ensures
 
-pub read_tuple-returns-in-Err-clause-within : goal.read_tuple-returns-in-Err-clause-within
-read_tuple-returns-in-Err-clause-within g m c =
+pub read_tuple-returns-in_err-types-clause-within : goal.read_tuple-returns-in_err-types-clause-within
+read_tuple-returns-in_err-types-clause-within g m c =
     let value : IsValueOf c.args.src.now c.args.self.now = search rules in
-    at_in c.args.src.now c.args.self.now c.out_of_memory.result (inl value) (memory_at (place_of c.args.self.now) c.out_of_memory.result c.out_of_memory.ensures.kind c.out_of_memory.ensures.span)
+    error_handed (StandsIn c.args.self.now) c.from_residual.result c.in_err-types.field-0.0 c.from_residual.ensures.1 (at_in c.args.src.now c.args.self.now c.in_err-types.field-0.0 (inl value) (memory_at (place_of c.args.self.now) c.in_err-types.field-0.0 c.in_err-types.ensures.refused c.in_err-types.ensures.place))
 
 pub read_variant-returns-in-Err-clause-within : goal.read_variant-returns-in-Err-clause-within
 read_variant-returns-in-Err-clause-within g m c =
@@ -496,7 +495,7 @@ read_variant-returns-in-Some-clause-within g m c =
 pub read_variant-returns-clause-within : goal.read_variant-returns-clause-within
 read_variant-returns-clause-within g m c =
     let value : IsValueOf c.args.src.now c.args.self.now = search rules in
-    at_in c.args.src.now c.args.self.now c.unknown_case.result (inl value) (caused_at _ c.args.self.now c.unknown_case.result c.unknown_case.ensures.cause c.unknown_case.ensures.span)
+    at_in c.args.src.now c.args.self.now c.refused_for.result (inl value) (caused_at _ c.args.self.now c.refused_for.result c.refused_for.ensures.cause c.refused_for.ensures.span)
 
 pub read_map-returns-in_err-nodes-clause-within : goal.read_map-returns-in_err-nodes-clause-within
 read_map-returns-in_err-nodes-clause-within g m c =
@@ -518,15 +517,15 @@ read_map-returns-in_err-push-clause-within g m c =
     let value : IsValueOf c.args.src.now c.args.self.now = search rules in
     error_handed (StandsIn c.args.self.now) c.from_residual-in_err-push.result c.in_err-push.field-0.0 c.from_residual-in_err-push.ensures.1 (at_in c.args.src.now c.args.self.now c.in_err-push.field-0.0 (inl value) (memory_at (place_of c.args.self.now) c.in_err-push.field-0.0 c.in_err-push.ensures.refused c.in_err-push.ensures.place))
 
-pub read_map-returns-in-Ok-clause-within : goal.read_map-returns-in-Ok-clause-within
-read_map-returns-in-Ok-clause-within g m c =
+pub read_map-returns-clause-within : goal.read_map-returns-clause-within
+read_map-returns-clause-within g m c =
     let value : IsValueOf c.args.src.now c.args.self.now = search rules in
     made_in c.args.src.now c.args.self.now c.make_map.result c.or_error_here.result (inl value) c.or_error_here.ensures
 
-pub read_map-returns-in-Err-clause-within : goal.read_map-returns-in-Err-clause-within
-read_map-returns-in-Err-clause-within g m c =
+pub read_map-returns-in_err-entries-clause-within : goal.read_map-returns-in_err-entries-clause-within
+read_map-returns-in_err-entries-clause-within g m c =
     let value : IsValueOf c.args.src.now c.args.self.now = search rules in
-    at_in c.args.src.now c.args.self.now c.out_of_memory.result (inl value) (memory_at (place_of c.args.self.now) c.out_of_memory.result c.out_of_memory.ensures.kind c.out_of_memory.ensures.span)
+    error_handed (StandsIn c.args.self.now) c.from_residual-in_err-entries.result c.in_err-entries.field-0.0 c.from_residual-in_err-entries.ensures.1 (at_in c.args.src.now c.args.self.now c.in_err-entries.field-0.0 (inl value) (memory_at (place_of c.args.self.now) c.in_err-entries.field-0.0 c.in_err-entries.ensures.refused c.in_err-entries.ensures.place))
 
 pub read_record-returns-in-Err-clause-within : goal.read_record-returns-in-Err-clause-within
 read_record-returns-in-Err-clause-within g m c =

@@ -23,8 +23,8 @@ returns-then-not-unwrap_or-clause-marked c = λ marked marks.
     let told = c.unwrap_or.ensures ∙ ap (λ (o : Option Bool). unwrap_or o false) (c.copied.ensures ∙ c.get.ensures.value) in
     let named = c.label_name-name.ensures ∙ ap name_of c.slice.ensures in
     let there = name_there c.args.src.now c.args.nodes.now c.loop-node.node-index c.node-item.result c.label_name-name.result.now c.loop-node-test.true c.node-item.is named in
-    flag_unknown marked c.args.src.now c.args.self.now c.args.nodes.now c.loop-node.node-index c.node-item.result c.label_name-name.result.now c.unknown_case.result c.loop-node-test.true c.node-item.is named
-    (not_marked c.args.marks.now (names_at c.args.src.now c.args.nodes.now) marked c.label_name-name.result.now c.unwrap_or.result marks there told c.if-not-unwrap_or.true) c.unknown_case.ensures.cause
+    flag_unknown marked c.args.src.now c.args.self.now c.args.nodes.now c.loop-node.node-index c.node-item.result c.label_name-name.result.now c.refused_for.result c.loop-node-test.true c.node-item.is named
+    (not_marked c.args.marks.now (names_at c.args.src.now c.args.nodes.now) marked c.label_name-name.result.now c.unwrap_or.result marks there told c.if-not-unwrap_or.true) c.refused_for.ensures.cause
 
 pub returns-clause-marked : goal.returns-clause-marked
 returns-clause-marked c = λ marked marks. subst (AreAllOf marked) (names_all c.args.src.now c.args.nodes.now c.loop-node.node-index c.loop-node-test.false) (c.loop-node.invariant marked marks)

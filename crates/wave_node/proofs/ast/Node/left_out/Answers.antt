@@ -7,4 +7,4 @@ returns-in-Option-clause-answer g c = λ distinct.
 
 pub returns-in_default-clause-answer : goal.returns-in_default-clause-answer
 returns-in_default-clause-answer g c = λ distinct.
-    missing g.V.WasmValue.is_full (g.V.Type.WasmType.tree c.args.ty.now) c.kind.result c.args.name.now c.args.self.now c.missing_field.result c.kind.ensures c.in_default.not-Option c.missing_field.ensures.cause
+    missing g.V.WasmValue.is_full (g.V.Type.WasmType.tree c.args.ty.now) c.kind.result c.args.name.now c.args.self.now c.refused_for.result c.kind.ensures c.in_default.not-Option c.refused_for.ensures.cause

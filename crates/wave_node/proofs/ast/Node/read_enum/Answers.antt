@@ -8,13 +8,13 @@ use Rattle.wave_node.proofs.ast.Node.read_enum.Goals as goal
 
 pub returns-in_err-name-clause-answer : goal.returns-in_err-name-clause-answer
 returns-in_err-name-clause-answer g c = λ t is distinct.
-    faulty g.V.WasmValue.tree g.V.WasmValue.is_of g.V.WasmValue.is_full (g.V.Type.WasmType.tree c.args.ty.now) t (type.enum (texts c.in-Ok.cases.items)) c.in_err-name.field-0.0 c.from_residual.result (enum_is (g.V.Type.WasmType.tree c.args.ty.now) (sym c.requires.kind) (texts c.in-Ok.cases.items) c.in-Ok.ensures) c.from_residual.ensures.1
-    (enum_fault (texts c.in-Ok.cases.items) c.args.src.now c.args.self.now t _ _ is.0 c.in_err-name.ensures.0 (said c.in_err-name.ensures.1))
+    faulty g.V.WasmValue.tree g.V.WasmValue.is_of g.V.WasmValue.is_full (g.V.Type.WasmType.tree c.args.ty.now) t (type.enum (texts c.in_ok-cases.cases.items)) c.in_err-name.field-0.0 c.from_residual-in_err-name.result (enum_is (g.V.Type.WasmType.tree c.args.ty.now) (sym c.requires.kind) (texts c.in_ok-cases.cases.items) (rw c.in_ok-cases.ensures.made at c.enum_cases.ensures)) c.from_residual-in_err-name.ensures.1
+    (enum_fault (texts c.in_ok-cases.cases.items) c.args.src.now c.args.self.now t _ _ is.0 c.in_err-name.ensures.0 (said c.in_err-name.ensures.1))
 
 pub returns-then-not-is_among-clause-answer : goal.returns-then-not-is_among-clause-answer
 returns-then-not-is_among-clause-answer g c = λ t is distinct.
-    unknown_blame g.V.WasmValue.tree g.V.WasmValue.is_of g.V.WasmValue.is_full (g.V.Type.WasmType.tree c.args.ty.now) (texts c.in-Ok.cases.items) c.args.src.now c.args.self.now t c.in_ok-name.name.now c.unknown_case.result (enum_is (g.V.Type.WasmType.tree c.args.ty.now) (sym c.requires.kind) (texts c.in-Ok.cases.items) c.in-Ok.ensures) is.0 c.in_ok-name.ensures.0 c.in_ok-name.ensures.1 c.if-not-is_among.ensures c.unknown_case.ensures.cause
+    unknown_blame g.V.WasmValue.tree g.V.WasmValue.is_of g.V.WasmValue.is_full (g.V.Type.WasmType.tree c.args.ty.now) (texts c.in_ok-cases.cases.items) c.args.src.now c.args.self.now t c.in_ok-name.name.now c.refused_for.result (enum_is (g.V.Type.WasmType.tree c.args.ty.now) (sym c.requires.kind) (texts c.in_ok-cases.cases.items) (rw c.in_ok-cases.ensures.made at c.enum_cases.ensures)) is.0 c.in_ok-name.ensures.0 c.in_ok-name.ensures.1 c.if-not-is_among.ensures c.refused_for.ensures.cause
 
 pub returns-clause-answer : goal.returns-clause-answer
 returns-clause-answer g c = λ t is distinct.
-    enum_made g.V.WasmValue.tree g.V.WasmValue.is_of g.V.WasmValue.is_full (g.V.Type.WasmType.tree c.args.ty.now) (texts c.in-Ok.cases.items) c.args.src.now c.args.self.now t c.in_ok-name.name.now c.make_enum.result c.or_error_here.result (enum_is (g.V.Type.WasmType.tree c.args.ty.now) (sym c.requires.kind) (texts c.in-Ok.cases.items) c.in-Ok.ensures) distinct is.0 c.in_ok-name.ensures.0 c.in_ok-name.ensures.1 c.if-not-is_among.ensures c.make_enum.ensures.made c.make_enum.ensures.full c.or_error_here.ensures
+    enum_made g.V.WasmValue.tree g.V.WasmValue.is_of g.V.WasmValue.is_full (g.V.Type.WasmType.tree c.args.ty.now) (texts c.in_ok-cases.cases.items) c.args.src.now c.args.self.now t c.in_ok-name.name.now c.make_enum.result c.or_error_here.result (enum_is (g.V.Type.WasmType.tree c.args.ty.now) (sym c.requires.kind) (texts c.in_ok-cases.cases.items) (rw c.in_ok-cases.ensures.made at c.enum_cases.ensures)) distinct is.0 c.in_ok-name.ensures.0 c.in_ok-name.ensures.1 c.if-not-is_among.ensures c.make_enum.ensures.made c.make_enum.ensures.full c.or_error_here.ensures

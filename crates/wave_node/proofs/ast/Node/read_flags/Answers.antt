@@ -9,15 +9,15 @@ use Rattle.wave_node.proofs.ast.Node.read_flags.Goals as goal
 
 pub returns-in_err-picked-clause-answer : goal.returns-in_err-picked-clause-answer
 returns-in_err-picked-clause-answer g c = λ t is distinct.
-    handed g.V.WasmValue.tree g.V.WasmValue.is_of g.V.WasmValue.is_full (g.V.Type.WasmType.tree c.args.ty.now) t c.in_err-picked.field-0.0 c.from_residual.result c.from_residual.ensures.1 (flags_blame g.V.WasmValue.tree g.V.WasmValue.is_of g.V.WasmValue.is_full (g.V.Type.WasmType.tree c.args.ty.now) (texts c.in-Ok.names.items) c.args.src.now c.args.self.now t c.in_err-picked.field-0.0 (flags_is (g.V.Type.WasmType.tree c.args.ty.now) (sym c.requires.kind) (texts c.in-Ok.names.items) c.in-Ok.ensures) is c.in_err-picked.ensures.refused)
+    handed g.V.WasmValue.tree g.V.WasmValue.is_of g.V.WasmValue.is_full (g.V.Type.WasmType.tree c.args.ty.now) t c.in_err-picked.field-0.0 c.from_residual-in_err-picked.result c.from_residual-in_err-picked.ensures.1 (flags_blame g.V.WasmValue.tree g.V.WasmValue.is_of g.V.WasmValue.is_full (g.V.Type.WasmType.tree c.args.ty.now) (texts c.in_ok-names.names.items) c.args.src.now c.args.self.now t c.in_err-picked.field-0.0 (flags_is (g.V.Type.WasmType.tree c.args.ty.now) (sym c.requires.kind) (texts c.in_ok-names.names.items) (rw c.in_ok-names.ensures.made at c.flags_names.ensures)) is c.in_err-picked.ensures.refused)
 
 pub returns-clause-answer : goal.returns-clause-answer
 returns-clause-answer g c = λ t is distinct.
-    flags_made g.V.WasmValue.tree g.V.WasmValue.is_of g.V.WasmValue.is_full (g.V.Type.WasmType.tree c.args.ty.now) (texts c.in-Ok.names.items) c.args.src.now c.args.self.now t c.as_slice.result.now c.make_flags.result c.or_error_here.result (flags_is (g.V.Type.WasmType.tree c.args.ty.now) (sym c.requires.kind) (texts c.in-Ok.names.items) c.in-Ok.ensures) distinct is c.in_ok-picked.ensures.form c.in_ok-picked.ensures.known (ap texts c.as_slice.ensures.value ∙ c.in_ok-picked.ensures.picked) c.make_flags.ensures.made c.make_flags.ensures.full c.or_error_here.ensures
+    flags_made g.V.WasmValue.tree g.V.WasmValue.is_of g.V.WasmValue.is_full (g.V.Type.WasmType.tree c.args.ty.now) (texts c.in_ok-names.names.items) c.args.src.now c.args.self.now t c.as_slice.result.now c.make_flags.result c.or_error_here.result (flags_is (g.V.Type.WasmType.tree c.args.ty.now) (sym c.requires.kind) (texts c.in_ok-names.names.items) (rw c.in_ok-names.ensures.made at c.flags_names.ensures)) distinct is c.in_ok-picked.ensures.form c.in_ok-picked.ensures.known (ap texts c.as_slice.ensures.value ∙ c.in_ok-picked.ensures.picked) c.make_flags.ensures.made c.make_flags.ensures.full c.or_error_here.ensures
 
 pub returns-in_err-picked-clause-within : goal.returns-in_err-picked-clause-within
 returns-in_err-picked-clause-within g c =
-    error_handed (StandsIn c.args.self.now) c.from_residual.result c.in_err-picked.field-0.0 c.from_residual.ensures.1 (at_in c.args.src.now c.args.self.now c.in_err-picked.field-0.0 (inl c.requires.node) c.in_err-picked.ensures.within)
+    error_handed (StandsIn c.args.self.now) c.from_residual-in_err-picked.result c.in_err-picked.field-0.0 c.from_residual-in_err-picked.ensures.1 (at_in c.args.src.now c.args.self.now c.in_err-picked.field-0.0 (inl c.requires.node) c.in_err-picked.ensures.within)
 
 pub returns-clause-within : goal.returns-clause-within
 returns-clause-within g c =
