@@ -298,17 +298,7 @@ no_stop_after r e b h = same_true _ _ (passes (λ z. same (after z r) nothing) s
 
 number_stops : (q : NumberState) → no_stop (number_rest q) ≡ true
 number_stops n.Start = refl
-number_stops n.Minus = refl
-number_stops n.MinusI = refl
-number_stops n.MinusIn = refl
-number_stops n.MinusInf = refl
-number_stops n.Zero = refl
-number_stops n.Whole = refl
-number_stops n.Point = refl
-number_stops n.Fraction = refl
-number_stops n.Exponent = refl
-number_stops n.Sign = refl
-number_stops n.Power = refl
+number_stops _ = refl
 
 -- no mark may follow a number
 pub number_ends : (cs : List ℕ) → Matches number cs → NoStopAfter Number cs
@@ -319,10 +309,7 @@ number_ends cs h b s =
 label_stops : (q : LabelTokenState) → no_stop (label_token_rest q) ≡ true
 label_stops token.Start = refl
 label_stops (token.Label l.Start) = refl
-label_stops (token.Label l.Lower) = refl
-label_stops (token.Label l.Upper) = refl
-label_stops (token.Label l.Hyphen) = refl
-label_stops (token.Label l.Digits) = refl
+label_stops _ = refl
 
 -- no mark may follow a label
 pub label_ends : (cs : List ℕ) → Matches label_or_keyword cs → NoStopAfter LabelOrKeyword cs
