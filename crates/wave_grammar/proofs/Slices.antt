@@ -1,16 +1,16 @@
 -- What a slice of a source cuts into: the tokens that stand there.
 use Rattle.std.proofs.Common.{◌≡◌, ℕ, ◌≤◌, ◌+◌, ◌-◌, inl, inr, true, false, List, [], ◌∷◌, ◌++◌, refl, sym, ap, subst, ◌∙◌, length, take, drop, arith, Some, None, Ok, append_assoc, map}
 use Rattle.std.specs.Prelude.{◌⊎◌, encode_utf8, encode_utf8_all, slice_range}
-use Rattle.std.proofs.lemmas.Bool.Decides.{nat_tests}
 use Rattle.std.proofs.lemmas.List.{take-append-drop, take-take, drop-drop, drop-take, length-take, length-take-le}
 use Rattle.wave_lex.specs.declared.lex.Token as lex
 use Rattle.wave_lex.specs.declared.lex.Token.TheVariants.{BraceOpen, BraceClose, ParenOpen, ParenClose, BracketOpen, BracketClose, Colon, Comma, Number, LabelOrKeyword, Char, String, MultilineString}
 use Rattle.wave_lex.specs.LongestMatch.{IsFront}
-use Rattle.wave_lex.specs.Regex.{Regex, either, both, empty, Matches, joined, Each, is_within}
+use Rattle.wave_lex.specs.Regex.{Regex, either, both, empty, Matches, joined, Each}
 use Rattle.wave_lex.specs.Tokens.{shape, gap, blank, comment_text, one}
 use Rattle.wave_lex.specs.Tokenization.{three_quotes, MayStandAt, IsToken, IsLongestToken, IsGap, Lexeme, Front, remainder_of}
 use Rattle.wave_lex.specs.Private.Reading.{class_of}
 use Rattle.wave_lex.proofs.Derive.{empty_from, empty_into}
+use Rattle.wave_lex.proofs.Shapes.{one_is}
 use Rattle.wave_lex.proofs.Classes.{no_string, token_shows}
 use Rattle.wave_lex.proofs.Cutting.{one_class}
 use Rattle.wave_grammar.specs.Token.{Token, lexeme_of}
@@ -84,17 +84,14 @@ no_class x (inr (inr (inl e))) = ap class_of e
 no_class x (inr (inr (inr (inl e)))) = ap class_of e
 no_class x (inr (inr (inr (inr e)))) = ap class_of e
 
-within_one : (c d : ℕ) → is_within c c d ≡ true → d ≡ c
-within_one c d e = sym (grind (arith, nat_tests))
-
 blank_begins : (x : ℕ) (cs : List ℕ) → Matches blank (x ∷ cs) → BeginsGap x
-blank_begins x cs (inl (c, e, w)) = let f : x ≡ c = cc in inl (f ∙ within_one 32 c w)
-blank_begins x cs (inr (inl (c, e, w))) = let f : x ≡ c = cc in inr (inl (f ∙ within_one 9 c w))
-blank_begins x cs (inr (inr (inl (c, e, w)))) = let f : x ≡ c = cc in inr (inr (inl (f ∙ within_one 10 c w)))
-blank_begins x cs (inr (inr (inr (c, e, w)))) = let f : x ≡ c = cc in inr (inr (inr (inl (f ∙ within_one 13 c w))))
+blank_begins x cs (inl (c, e, w)) = let f : x ≡ c = cc in inl (f ∙ one_is 32 c w)
+blank_begins x cs (inr (inl (c, e, w))) = let f : x ≡ c = cc in inr (inl (f ∙ one_is 9 c w))
+blank_begins x cs (inr (inr (inl (c, e, w)))) = let f : x ≡ c = cc in inr (inr (inl (f ∙ one_is 10 c w)))
+blank_begins x cs (inr (inr (inr (c, e, w)))) = let f : x ≡ c = cc in inr (inr (inr (inl (f ∙ one_is 13 c w))))
 
 comment_begins : (x : ℕ) (cs : List ℕ) → Matches comment_text (x ∷ cs) → BeginsGap x
-comment_begins x cs (a, b, e, (a1, a2, e1, (c, e2, w), more), rest) = let f : x ≡ c = cc in inr (inr (inr (inr (f ∙ within_one 47 c w))))
+comment_begins x cs (a, b, e, (a1, a2, e1, (c, e2, w), more), rest) = let f : x ≡ c = cc in inr (inr (inr (inr (f ∙ one_is 47 c w))))
 
 -- the parts of a gap
 abbrev part : Regex
@@ -136,7 +133,7 @@ gap_none r k c t = (record { scalars = []; fits = omega arith; spelled = refl; h
 mark_text : (m : ℕ) (r : List ℕ) (k : ℕ) → encode_utf8_all (m ∷ []) ≡ m ∷ [] → IsFront (one m) r k → m ∷ [] ≡ take k r
 mark_text m r k a f =
     let (c, e, w) = f.has in
-    let same : c ≡ m = within_one m c w in
+    let same : c ≡ m = one_is m c w in
     sym (ap encode_utf8_all (e ∙ ap (λ z. z ∷ []) same) ∙ a) ∙ f.spelled
 
 -- a token is its class and its text

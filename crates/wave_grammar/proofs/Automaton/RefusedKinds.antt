@@ -1,9 +1,7 @@
 -- What stands before a token that is refused for an empty tuple, a repeated flag or its depth.
-use Rattle.std.proofs.Common.{ℕ, ◌≡◌, ◌≤◌, inl, inr, List, [], ◌∷◌, ◌++◌, length, Bool, true, false, refl, sym, ap, subst, ◌∙◌, arith, append_assoc}
+use Rattle.std.proofs.Common.{ℕ, ◌≡◌, ◌≤◌, List, [], ◌∷◌, ◌++◌, length, Bool, true, false, refl, sym, ap, subst, ◌∙◌, arith, append_assoc}
 use Rattle.std.proofs.lemmas.List.{append-nil}
-use Rattle.std.proofs.lemmas.Slice.Eq.{bytes_eq-Decides}
-use Rattle.std.specs.Prelude.{◌⊎◌, ◌||◌, nat_lt, if◌then◌else◌, map}
-use Rattle.std.specs.Str.{bytes_eq}
+use Rattle.std.specs.Prelude.{nat_lt, if◌then◌else◌, map}
 use Rattle.wave_wasm.specs.Names.{IsOneOf, is_one_of}
 use Rattle.wave_grammar.specs.Token.{Token, brace_open, brace_close, paren_open, paren_close, bracket_open, bracket_close, colon, comma, number, label, char, string, multiline}
 use Rattle.wave_grammar.specs.LeafTokens.{name_of}
@@ -11,6 +9,7 @@ use Rattle.wave_grammar.specs.Tree.{Word, word_of, leaf_word, none_word, some_wo
 use Rattle.wave_grammar.specs.PrefixLaws.{flags_before, EmptyTuplesAreEmpty, RepeatedFlagsAreRepeated, DeepValuesAreDeep}
 use Rattle.wave_grammar.specs.PrefixAutomaton as due
 use Rattle.wave_grammar.specs.PrefixAutomaton.{Due, Form, value, first_item, next_item, behind_value, behind_label, Step, too_deep, empty_tuple, repeated_flag, unexpected, reads, step, Leads, closes, closed, closed_empty, level_step, value_step, behind_step, key_step, behind_flag_step, flag_step, IsValueDue}
+use Rattle.wave_wasm.proofs.NameTests.{is_one}
 use Rattle.wave_grammar.proofs.Automaton.Sound.{close_token}
 use Rattle.wave_grammar.proofs.Automaton.Prefixes.{Fits, leads_fit, level_there}
 
@@ -173,20 +172,6 @@ leads_behind n before d s (t ∷ ts) e r behind (d', s', x, more) =
 
 -- ---- the three refusals
 
--- where one or the other holds one does
-one_holds : (a b : Bool) → (a || b) ≡ true → (a ≡ true) ⊎ (b ≡ true)
-one_holds true b h = inl refl
-one_holds false b h = inr h
-
--- what a test finds among names is one of them
-found_is : (names : List (List ℕ)) (x : List ℕ) → is_one_of names x ≡ true → IsOneOf names x
-found_is [] x h = let w : false ≡ true = h in cc
-found_is (other ∷ names) x h = which (found_is names x) (one_holds (bytes_eq x other) (is_one_of names x) h)
-  where
-    which : (is_one_of names x ≡ true → IsOneOf names x) → (bytes_eq x other ≡ true) ⊎ (is_one_of names x ≡ true) → IsOneOf (other ∷ names) x
-    which further (inl k) = inl ((bytes_eq-Decides x other).0 k)
-    which further (inr k) = inr (further k)
-
 -- what is so where a token has this answer
 abbrev KindOf : ℕ → Due → List Form → Token → Step → Type 0
 KindOf n d s t empty_tuple = (r : List Form) × (d ≡ first_item) × (s ≡ due.tuple ∷ r) × (t ≡ paren_close)
@@ -309,7 +294,7 @@ pub repeated_there : RepeatedFlagsAreRepeated
 repeated_there n front d s t led h =
     let (names, text, dues, a_label, found) : KindOf n d s t repeated_flag = subst (KindOf n d s t) h (kind_there n d s t) in
     let (before, texts, same, all) = subst (λ z. Behind front z s) dues (leads_behind n [] value [] front d s tt led) in
-    (before, texts, text, same, a_label, subst (λ z. IsOneOf z (name_of text)) all (found_is names (name_of text) found))
+    (before, texts, text, same, a_label, subst (λ z. IsOneOf z (name_of text)) all (is_one names (name_of text) found))
 
 -- a value is refused for its depth where n forms are open
 pub deep_there : DeepValuesAreDeep

@@ -3,8 +3,6 @@ use Rattle.std.proofs.Common.{ℕ, zero, suc, ◌≡◌, ◌≢◌, ◌<◌, ◌
 use Rattle.std.specs.Prelude.{◌⊎◌, nat_lt, if◌then◌else◌, map, ◌||◌}
 use Rattle.std.specs.List.{list_any}
 use Rattle.std.specs.Str.{bytes_eq}
-use Rattle.std.proofs.lemmas.Slice.Eq.{bytes_eq-Decides}
-use Rattle.std.proofs.lemmas.Bool.{false_from_ne_true}
 use Rattle.wave_wasm.specs.Names.{AreDistinct, IsNoneOf, is_one_of}
 use Rattle.wave_grammar.specs.Token.{Token, brace_open, brace_close, paren_open, paren_close, bracket_open, bracket_close, colon, comma, number, label, char, string, multiline}
 use Rattle.wave_grammar.specs.CommaSeparated.{Spelling, FurtherItems, Items}
@@ -15,6 +13,7 @@ use Rattle.wave_grammar.specs.Tree.{Tree, ATree, Takes, KeyAnd, Label, MaybeInPa
 use Rattle.wave_grammar.specs.PrefixLaws.{EndsBefore, TreesAreLed}
 use Rattle.wave_grammar.specs.PrefixAutomaton as due
 use Rattle.wave_grammar.specs.PrefixAutomaton.{Due, Form, value, first_item, next_item, behind_value, behind_label, Step, too_deep, reads, step, Leads, closes, level_step, value_step, behind_step}
+use Rattle.wave_grammar.proofs.Elaboration.GrammarToTree.{differ}
 
 -- one run of tokens and then another
 pub leads_join : (n : ℕ) (d e f : Due) (s r q : List Form) (ts us : List Token) → Leads n d s ts e r → Leads n e r us f q → Leads n d s (ts ++ us) f q
@@ -234,10 +233,6 @@ abbrev pub AllNew : List (List ℕ) → List (List ℕ) → Type 0
 AllNew names [] = Unit {0}
 AllNew names (x ∷ more) = (is_one_of names x ≡ false) × AllNew (names ++ x ∷ []) more
 
--- texts that are apart
-eq_false : (a b : List ℕ) → a ≢ b → bytes_eq a b ≡ false
-eq_false a b h = false_from_ne_true (bytes_eq a b) (λ e. h ((bytes_eq-Decides a b).0 e))
-
 -- one more name that fails a test
 any_append : (test : List ℕ → Bool) (xs : List (List ℕ)) (y : List ℕ) → list_any test xs ≡ false → test y ≡ false → list_any test (xs ++ y ∷ []) ≡ false
 any_append test [] y e f = ap (λ b. b || false) f
@@ -255,7 +250,7 @@ NoneIn names (x ∷ more) = (is_one_of names x ≡ false) × NoneIn names more
 -- a name is added to the earlier ones
 none_in_more : (names more : List (List ℕ)) (x : List ℕ) → NoneIn names more → IsNoneOf more x → NoneIn (names ++ x ∷ []) more
 none_in_more names [] x h k = tt
-none_in_more names (y ∷ more) x (a, h) (b, k) = (any_append (bytes_eq y) names x a (eq_false y x (λ e. b (sym e))), none_in_more names more x h k)
+none_in_more names (y ∷ more) x (a, h) (b, k) = (any_append (bytes_eq y) names x a (differ y x (λ e. b (sym e))), none_in_more names more x h k)
 
 -- distinct names are new, each behind those before it
 all_new : (names more : List (List ℕ)) → NoneIn names more → AreDistinct more → AllNew names more

@@ -46,34 +46,13 @@ use Rattle.wave_grammar.proofs.Elaboration.Params.{params_to, params_from}
 -- no state of a name takes a `(`
 name_stops : (q : NameState) → after 40 (name_rest q) ≡ nothing
 name_stops (Label section.First word.Start) = refl
-name_stops (Label section.First word.Lower) = refl
-name_stops (Label section.First word.Upper) = refl
-name_stops (Label section.First word.Hyphen) = refl
-name_stops (Label section.First word.Digits) = refl
 name_stops (Label section.Namespace word.Start) = refl
-name_stops (Label section.Namespace word.Lower) = refl
-name_stops (Label section.Namespace word.Upper) = refl
-name_stops (Label section.Namespace word.Hyphen) = refl
-name_stops (Label section.Namespace word.Digits) = refl
 name_stops (Label section.Function word.Start) = refl
-name_stops (Label section.Function word.Lower) = refl
-name_stops (Label section.Function word.Upper) = refl
-name_stops (Label section.Function word.Hyphen) = refl
-name_stops (Label section.Function word.Digits) = refl
 name_stops (Label section.Member word.Start) = refl
-name_stops (Label section.Member word.Lower) = refl
-name_stops (Label section.Member word.Upper) = refl
-name_stops (Label section.Member word.Hyphen) = refl
-name_stops (Label section.Member word.Digits) = refl
 name_stops (Version component.Major number.Start) = refl
-name_stops (Version component.Major number.Zero) = refl
-name_stops (Version component.Major number.Whole) = refl
 name_stops (Version component.Minor number.Start) = refl
-name_stops (Version component.Minor number.Zero) = refl
-name_stops (Version component.Minor number.Whole) = refl
 name_stops (Version component.Patch number.Start) = refl
-name_stops (Version component.Patch number.Zero) = refl
-name_stops (Version component.Patch number.Whole) = refl
+name_stops _ = refl
 
 name_ends : (cs : List ℕ) → Matches function_name cs → after 40 (after_all cs function_name) ≡ nothing
 name_ends cs h = let (q, e) = reached NameState name_rest name_step name_steps (Label section.First word.Start) cs h in ap (after 40) e ∙ name_stops q

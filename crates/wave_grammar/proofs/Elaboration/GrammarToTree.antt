@@ -2,6 +2,7 @@
 use Rattle.std.proofs.Common.{ℕ, zero, suc, ◌-◌, ◌<◌, ◌≡◌, ◌≢◌, inl, inr, Bool, true, false, List, [], ◌∷◌, length, refl, sym, ap, ◌∙◌, subst, arith}
 use Rattle.std.specs.Prelude.{codes, map, bytes_eq, cond, filter, ◌||◌}
 use Rattle.std.specs.List.{list_any}
+use Rattle.std.proofs.lemmas.Bool.{false_from_ne_true}
 use Rattle.std.proofs.lemmas.Slice.Eq.{bytes_eq-Decides}
 use Rattle.wave_grammar.specs.Token.{Token, brace_close, paren_open, paren_close, bracket_close, label}
 use Rattle.wave_wasm.specs.Types as type
@@ -119,12 +120,8 @@ tuple-through P Q n through tokens v rest (l, (items, front, e, h, f)) no_paren 
 -- ---- labels
 
 -- a test tells texts apart
-differ : (a b : List ℕ) → a ≢ b → bytes_eq a b ≡ false
-differ a b h = go (bytes_eq a b) refl
-  where
-    go : (t : Bool) → bytes_eq a b ≡ t → bytes_eq a b ≡ false
-    go true e = absurd (h ((bytes_eq-Decides a b).0 e))
-    go false e = e
+pub differ : (a b : List ℕ) → a ≢ b → bytes_eq a b ≡ false
+differ a b h = false_from_ne_true (bytes_eq a b) (λ e. h ((bytes_eq-Decides a b).0 e))
 
 -- what is no keyword is the name of a case
 pub not-keyword : (text : List ℕ) → IsNoneOf kw.keywords text → tree.word_of text ≡ tree.case_word

@@ -18,6 +18,7 @@ use Rattle.wave_grammar.specs.Tree as tree
 use Rattle.wave_grammar.specs.Tree.{Tree, MaybeTree, Trees, TreeEntries, trees, tree_entries, no_tree, a_tree, in_order, ATree, Takes, KeyAnd, MaybeInParens, InBraces, BehindWord, IsKey, Word, word_of, leaf_word, none_word, some_word, ok_word, err_word, case_word}
 use Rattle.wave_grammar.specs.Elaborates as m
 use Rattle.wave_grammar.specs.Elaborates.{Meaning, Each, TreeReads, TreeReadsPayload, TreeReadsFlat, TreeReadsAll, TreeReadsField, TreeReadsCase}
+use Rattle.wave_grammar.proofs.Unambiguity.Values.{pair-path}
 use Rattle.wave_grammar.proofs.Elaboration.GrammarToTree.{not-keyword, found-order}
 
 -- what each tree's tokens are
@@ -116,10 +117,6 @@ trees-injective [] [] e = refl
 trees-injective [] (u ∷ us) e = cc
 trees-injective (t ∷ ts) [] e = cc
 trees-injective (t ∷ ts) (u ∷ us) e = let f : trees ts ≡ trees us = cc in let g = trees-injective ts us f in cc
-
--- two pairs are one where their parts are
-pair-path : {A B : Type 0} {a b : A × B} → a.0 ≡ b.0 → a.1 ≡ b.1 → a ≡ b
-pair-path e f = λ i. (e i, f i)
 
 -- lists of entries are told apart
 entries-injective : (es fs : List (Token × Tree)) → tree_entries es ≡ tree_entries fs → es ≡ fs

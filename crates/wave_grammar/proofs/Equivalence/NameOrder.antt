@@ -17,7 +17,7 @@ use Rattle.wave_grammar.specs.Elaborates.{Meaning, Each, NamedTree, RecordTree, 
 use Rattle.wave_grammar.specs.OrderLaws.{Labelled, label_entries, named, label_names, FieldsInAnyOrder, FlagsInAnyOrder}
 use Rattle.wave_wasm.proofs.NameTests.{is_one, passes}
 use Rattle.wave_grammar.proofs.FieldNames.{is_found, finds_none}
-use Rattle.wave_grammar.proofs.Unambiguity.Values.{pair-path}
+use Rattle.wave_grammar.proofs.Unambiguity.Values.{one-none, pair-path}
 use Rattle.wave_grammar.proofs.Equivalence.ByTree.{tree_means, spelled_means}
 
 -- ---- look-ups
@@ -25,11 +25,6 @@ use Rattle.wave_grammar.proofs.Equivalence.ByTree.{tree_means, spelled_means}
 -- a text is itself
 itself : (name : List ℕ) → bytes_eq name name ≡ true
 itself name = (bytes_eq-Decides name name).1 refl
-
-not_both : (names : List (List ℕ)) (name : List ℕ) → IsNoneOf names name → IsOneOf names name → ⊥
-not_both [] name none one = one
-not_both (other ∷ more) name none (inl e) = none.0 e
-not_both (other ∷ more) name none (inr one) = not_both more name none.1 one
 
 -- what holds of each that is found by its name holds of all, where the names are distinct
 looked : (Q : List ℕ → Tree → Type 0) (fields : Labelled) → AreDistinct (label_names fields) → ((name : List ℕ) (t : Tree) → look_up (named fields) name ≡ Some t → Q name t) → AllOf (λ f. Q (name_of f.0) f.1) fields
@@ -40,7 +35,7 @@ looked Q (f ∷ fields) distinct found = (
 )
   where
     by : (name : List ℕ) (t : Tree) (b : Bool) → bytes_eq name (name_of f.0) ≡ b → look_up (named fields) name ≡ Some t → (if b then Some f.1 else look_up (named fields) name) ≡ Some t
-    by name t true is e = absurd (not_both (label_names fields) (name_of f.0) distinct.0 (subst (IsOneOf (label_names fields)) ((bytes_eq-Decides name (name_of f.0)).0 is) (is_found (named fields) name t e)))
+    by name t true is e = absurd (one-none (label_names fields) (name_of f.0) (subst (IsOneOf (label_names fields)) ((bytes_eq-Decides name (name_of f.0)).0 is) (is_found (named fields) name t e)) distinct.0)
     by name t false is e = e
 
 -- ---- records

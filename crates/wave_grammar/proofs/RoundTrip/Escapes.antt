@@ -16,6 +16,7 @@ use Rattle.wave_lex.specs.Strings.{IsEscape}
 use Rattle.wave_lex.proofs.Parts.{AllPlain}
 use Rattle.wave_lex.proofs.Derive.{matches_from}
 use Rattle.wave_lex.proofs.LongestMatch.{is_ascii}
+use Rattle.wave_grammar.proofs.RoundTrip.Tokens.{or_either}
 
 -- ---- hexadecimal digits
 
@@ -47,10 +48,6 @@ is_hexadecimal d h = grind (arith, nat_tests)
 
 hexadecimal_small : (d : ℕ) → digit_value d < 16 → nat_lt d 128 ≡ true
 hexadecimal_small d h = grind (arith, nat_tests)
-
-or_either : (a b : Bool) → (a || b) ≡ true → (a ≡ true) ⊎ (b ≡ true)
-or_either true b e = inl refl
-or_either false b e = inr e
 
 one_hexadecimal : (d : ℕ) → digit_value d < 16 → Matches hexadecimal (d ∷ [])
 one_hexadecimal d h =

@@ -12,7 +12,7 @@ use Rattle.wave_lex.specs.declared.lex.Token.TheVariants as class
 use Rattle.wave_lex.specs.Tokens.{label_or_keyword}
 use Rattle.wave_lex.proofs.Derive.{matches_from}
 use Rattle.wave_lex.proofs.Cutting.{cuts_once}
-use Rattle.wave_grammar.specs.Token.{Token, CutsInto, lexeme_of, label, number, brace_open, brace_close, paren_open, paren_close, bracket_open, bracket_close, colon, comma, char, string, multiline}
+use Rattle.wave_grammar.specs.Token.{Token, CutsInto, lexeme_of, label, number, brace_open}
 use Rattle.wave_grammar.specs.ParserPosition.{token_of}
 use Rattle.wave_grammar.specs.LeafTokens.{Spells}
 use Rattle.wave_grammar.specs.TypedGrammar.{Reads}
@@ -24,18 +24,7 @@ use Rattle.wave_grammar.proofs.RoundTrip.Injective.{Prints, IsOneToken, label_cu
 
 same_token : (t : Token) → token_of (lexeme_of t).0 (lexeme_of t).1 ≡ t
 same_token brace_open = refl
-same_token brace_close = refl
-same_token paren_open = refl
-same_token paren_close = refl
-same_token bracket_open = refl
-same_token bracket_close = refl
-same_token colon = refl
-same_token comma = refl
-same_token (number text) = refl
-same_token (label text) = refl
-same_token (char text) = refl
-same_token (string text) = refl
-same_token (multiline text) = refl
+same_token _ = refl
 
 -- tokens are known by their classes and texts
 same_tokens : (ts : List Token) → map (λ l. token_of l.0 l.1) (map lexeme_of ts) ≡ ts

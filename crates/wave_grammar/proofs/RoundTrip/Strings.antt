@@ -40,19 +40,9 @@ use Rattle.wave_grammar.proofs.RoundTrip.Leaves.{IsWritten, bool_written, whole_
 -- ---- no mark goes on with a char or a string
 
 character_stops : (q : CharState) → may_be_empty (character_rest q) ≡ true → no_stop (character_rest q) ≡ true
-character_stops character.Start e = cc
-character_stops character.Open e = cc
-character_stops character.Filled e = cc
 character_stops character.Close e = refl
 character_stops (character.Escape escape.Backslash) e = cc
-character_stops (character.Escape escape.U) e = cc
-character_stops (character.Escape escape.Hex0) e = cc
-character_stops (character.Escape escape.Hex1) e = cc
-character_stops (character.Escape escape.Hex2) e = cc
-character_stops (character.Escape escape.Hex3) e = cc
-character_stops (character.Escape escape.Hex4) e = cc
-character_stops (character.Escape escape.Hex5) e = cc
-character_stops (character.Escape escape.Hex6) e = cc
+character_stops _ e = cc
 
 pub character_ends : (cs : List ℕ) → Matches shapes.character cs → NoStopAfter class.Char cs
 character_ends cs h b s =
@@ -61,18 +51,9 @@ character_ends cs h b s =
     ap (after b) e ∙ no_stop_after (character_rest q) (character_stops q last) b s
 
 string_stops : (q : StringState) → may_be_empty (string_rest q) ≡ true → no_stop (string_rest q) ≡ true
-string_stops string.Start e = cc
-string_stops string.Inside e = cc
 string_stops string.Close e = refl
 string_stops (string.Escape escape.Backslash) e = cc
-string_stops (string.Escape escape.U) e = cc
-string_stops (string.Escape escape.Hex0) e = cc
-string_stops (string.Escape escape.Hex1) e = cc
-string_stops (string.Escape escape.Hex2) e = cc
-string_stops (string.Escape escape.Hex3) e = cc
-string_stops (string.Escape escape.Hex4) e = cc
-string_stops (string.Escape escape.Hex5) e = cc
-string_stops (string.Escape escape.Hex6) e = cc
+string_stops _ e = cc
 
 pub string_ends : (cs : List ℕ) → Matches shapes.string cs → NoStopAfter class.String cs
 string_ends cs h b s =

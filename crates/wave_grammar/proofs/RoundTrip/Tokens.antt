@@ -6,7 +6,7 @@ use Rattle.std.proofs.lemmas.List.{take-append-drop}
 use Rattle.std.proofs.Math.Seq.{take-append_seam, drop-append_seam}
 use Rattle.std.proofs.lemmas.Str.{encode_same, encode_ascii, len_utf8_bounds, length-encode}
 use Rattle.wave_lex.specs.declared.lex.Token.{Token}
-use Rattle.wave_lex.specs.declared.lex.Token.TheVariants.{BraceOpen, BraceClose, ParenOpen, ParenClose, BracketOpen, BracketClose, Colon, Comma, Number, LabelOrKeyword, Char, String, MultilineString}
+use Rattle.wave_lex.specs.declared.lex.Token.TheVariants.{Number, LabelOrKeyword, String}
 use Rattle.wave_lex.specs.declared.machine.number.NumberState.{NumberState}
 use Rattle.wave_lex.specs.declared.machine.number.NumberState.TheVariants as n
 use Rattle.wave_lex.specs.declared.machine.label.LabelTokenState.{LabelTokenState}
@@ -106,7 +106,7 @@ abbrev is_none : Option Token → Bool
 is_none None = true
 is_none (Some c) = false
 
-or_either : (a b : Bool) → (a || b) ≡ true → (a ≡ true) ⊎ (b ≡ true)
+pub or_either : (a b : Bool) → (a || b) ≡ true → (a ≡ true) ⊎ (b ≡ true)
 or_either true b e = inl refl
 or_either false b e = inr e
 
@@ -244,17 +244,6 @@ ends_before c cs (b ∷ r) none s e rest there =
 
 -- before such a mark a string of no bytes may stand
 may_stand : (c : Token) (x r : List ℕ) → Stops r → MayStandAt (x ++ r) (length x) c
-may_stand BraceOpen x r s = tt
-may_stand BraceClose x r s = tt
-may_stand ParenOpen x r s = tt
-may_stand ParenClose x r s = tt
-may_stand BracketOpen x r s = tt
-may_stand BracketClose x r s = tt
-may_stand Colon x r s = tt
-may_stand Comma x r s = tt
-may_stand Number x r s = tt
-may_stand LabelOrKeyword x r s = tt
-may_stand Char x r s = tt
 may_stand String x r s = λ two quotes. no_third x r s two quotes
   where
     no_third : (x r : List ℕ) → Stops r → length x ≡ 2 → take 3 (x ++ r) ≢ three_quotes
@@ -265,7 +254,7 @@ may_stand String x r s = λ two quotes. no_third x r s two quotes
         let same : d ≡ 34 = cc in
         let wrong : is_one_of 34 stops ≡ true = subst (λ (z : ℕ). is_one_of z stops ≡ true) same s in cc
     no_third (a ∷ b ∷ d ∷ x) r s two e = let w : ⊥ = omega arith in w
-may_stand MultilineString x r s = tt
+may_stand _ x r s = tt
 
 -- a token before the end or such a mark
 pub stopped_cut : (c : Token) (cs x r : List ℕ) (ts : List Lexeme) → encode_utf8_all cs ≡ x → Matches (shape c) cs → NoStopAfter c cs → Stops r → Cuts r ts → Cuts (x ++ r) ((c, x) ∷ ts)
@@ -298,17 +287,7 @@ no_stop_after r e b h = same_true _ _ (passes (λ z. same (after z r) nothing) s
 
 number_stops : (q : NumberState) → no_stop (number_rest q) ≡ true
 number_stops n.Start = refl
-number_stops n.Minus = refl
-number_stops n.MinusI = refl
-number_stops n.MinusIn = refl
-number_stops n.MinusInf = refl
-number_stops n.Zero = refl
-number_stops n.Whole = refl
-number_stops n.Point = refl
-number_stops n.Fraction = refl
-number_stops n.Exponent = refl
-number_stops n.Sign = refl
-number_stops n.Power = refl
+number_stops _ = refl
 
 -- no mark may follow a number
 pub number_ends : (cs : List ℕ) → Matches number cs → NoStopAfter Number cs
@@ -319,10 +298,7 @@ number_ends cs h b s =
 label_stops : (q : LabelTokenState) → no_stop (label_token_rest q) ≡ true
 label_stops token.Start = refl
 label_stops (token.Label l.Start) = refl
-label_stops (token.Label l.Lower) = refl
-label_stops (token.Label l.Upper) = refl
-label_stops (token.Label l.Hyphen) = refl
-label_stops (token.Label l.Digits) = refl
+label_stops _ = refl
 
 -- no mark may follow a label
 pub label_ends : (cs : List ℕ) → Matches label_or_keyword cs → NoStopAfter LabelOrKeyword cs

@@ -6,7 +6,7 @@ use Rattle.std.proofs.lemmas.Slice.Eq.{bytes_eq-Decides}
 use Rattle.wave_wasm.specs.Lists.{AllOf}
 use Rattle.wave_wasm.specs.Types as type
 use Rattle.wave_wasm.specs.Types.{TypeTree, MaybeType, Types, Fields, Cases, Simple, field_names, HasDistinctNames, EachNamesOfMaybe, EachNamesOfTypes, EachNamesOfFields, EachNamesOfCases}
-use Rattle.wave_wasm.specs.Names.{IsOneOf, IsNoneOf, AreDistinct, ArePicked, is_one_of, found_in}
+use Rattle.wave_wasm.specs.Names.{IsOneOf, AreDistinct, ArePicked, is_one_of, found_in}
 use Rattle.wave_wasm.specs.Values as value
 use Rattle.wave_wasm.specs.Values.{Value, MaybeValue, FieldValues, Leaf, no_value, a_value, values, entries}
 use Rattle.wave_wasm.specs.HasType.{HasType, HasPayload, HasTypes, HasFields, HasCase, IsLeafOf}
@@ -15,6 +15,7 @@ use Rattle.wave_grammar.specs.Token.{Token, text_of, brace_open, brace_close, br
 use Rattle.wave_grammar.specs.CommaSeparated.{Spelling, FurtherItems, Items, Listed}
 use Rattle.wave_grammar.specs.TypedGrammar as r
 use Rattle.wave_grammar.specs.TypedGrammar.{Reads, ReadsPayload, ReadsFlat, ReadsTuple, ReadsFurther, ReadsField, ReadsCase, IsFlat, IsOption, FieldIs, Fills, look_up}
+use Rattle.wave_grammar.proofs.Unambiguity.Values.{one-none}
 use Rattle.wave_grammar.proofs.RoundTrip.Names.{merge_keeps}
 use Rattle.wave_grammar.proofs.RoundTrip.Utf8.{spelled_sound}
 
@@ -84,11 +85,6 @@ of_name type.no_fields name v h = absurd h
 of_name (type.field other T more) name v (inl h) = inl h.0
 of_name (type.field other T more) name v (inr h) = inr (of_name more name v h)
 
-none_of_them : (names : List (List ℕ)) (name : List ℕ) → IsNoneOf names name → IsOneOf names name → ⊥
-none_of_them [] name n h = h
-none_of_them (other ∷ more) name n (inl e) = n.0 e
-none_of_them (other ∷ more) name n (inr h) = none_of_them more name n.1 h
-
 found_of : (Q : List ℕ → Value → Type 0) (found : List (List ℕ × Value)) (name : List ℕ) (w : Value) → AllOf (λ e. Q e.0 e.1) found → look_up found name ≡ Some w → Q name w
 found_of Q [] name w h e = cc
 found_of Q (f ∷ found) name w h e = by_test (bytes_eq name f.0) refl (found_of Q found name w h.1) e
@@ -114,14 +110,14 @@ filled_typed (type.field name T more) found all d h (v, others, is, fills, e) =
   where
     first : (w : Value) → IsOfField (type.field name T more) name w → HasType T w
     first w (inl k) = k.1
-    first w (inr k) = absurd (none_of_them (field_names more) name d.0 (of_name more name w k))
+    first w (inr k) = absurd (one-none (field_names more) name (of_name more name w k) d.0)
 
     here : (o : Option Value) → look_up found name ≡ o → FieldIs T o v → HasType T v
     here None f k = subst (HasType T) (sym k.1) (omitted T k.0)
     here (Some w) f k = subst (HasType T) (sym k) (first w (h name w (inl refl) f))
 
     later : (other : List ℕ) (w : Value) → IsOneOf (field_names more) other → IsOfField (type.field name T more) other w → IsOfField more other w
-    later other w one (inl k) = absurd (none_of_them (field_names more) name d.0 (subst (IsOneOf (field_names more)) k.0 one))
+    later other w one (inl k) = absurd (one-none (field_names more) name (subst (IsOneOf (field_names more)) k.0 one) d.0)
     later other w one (inr k) = k
 
     past : AreOfFields more found

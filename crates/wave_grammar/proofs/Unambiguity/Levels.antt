@@ -138,17 +138,7 @@ tree-fits m P Q fits (token ∷ behind) t rest l h = absurd h
 -- each tree has a level
 pub some-level : (t : Tree) → 0 < levels t
 some-level (tree.one token) = omega arith
-some-level (tree.tuple ts) = omega arith
-some-level (tree.list ts) = omega arith
-some-level tree.empty_braces = omega arith
-some-level tree.no_fields = omega arith
-some-level (tree.entries es) = omega arith
-some-level (tree.flags texts) = omega arith
-some-level (tree.label text payload) = omega arith
-some-level tree.none = omega arith
-some-level (tree.some t) = omega arith
-some-level (tree.ok payload) = omega arith
-some-level (tree.err payload) = omega arith
+some-level _ = omega arith
 
 -- a tree is taken within any levels that are not fewer than its own
 pub takes-within : (n m : ℕ) → Fits m (Takes n) (Takes m)

@@ -370,16 +370,7 @@ start (type.result A B) n tokens v rest (inl (le, inl (w, (behind, e, h), f))) =
 start (type.result A B) n tokens v rest (inl (le, inr (w, (behind, e, h), f))) = subst (Begins IsStart) (sym e) tt
 start (type.result no_type B) n tokens v rest (inr (w, h, f)) = absurd h
 start (type.result (a_type T) B) n tokens v rest (inr (w, (flat, h), f)) = flat-start-any T n flat tokens w rest h
-start (type.simple S) n tokens v rest h = flat-start-any (type.simple S) n tt tokens v rest h
-start (type.unreadable kind) n tokens v rest h = absurd h
-start (type.list E) n tokens v rest h = flat-start-any (type.list E) n tt tokens v rest h
-start (type.fixed E count) n tokens v rest h = absurd h
-start (type.record_type fs) n tokens v rest h = flat-start-any (type.record_type fs) n tt tokens v rest h
-start (type.tuple types) n tokens v rest h = flat-start-any (type.tuple types) n tt tokens v rest h
-start (type.variant cases) n tokens v rest h = flat-start-any (type.variant cases) n tt tokens v rest h
-start (type.enum names) n tokens v rest h = flat-start-any (type.enum names) n tt tokens v rest h
-start (type.flags names) n tokens v rest h = flat-start-any (type.flags names) n tt tokens v rest h
-start (type.map K V) n tokens v rest h = flat-start-any (type.map K V) n tt tokens v rest h
+start T n tokens v rest h = flat-start-any T n tt tokens v rest h
 
 -- no value begins with a close
 pub never-begins : (T : TypeTree) (n : ℕ) → NeverBegins bracket_close (Reads T n)
