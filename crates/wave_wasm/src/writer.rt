@@ -5,6 +5,7 @@ use itoa::{Buffer, Integer};
 use std::alloc::{AllocError, AllocFailed, Global};
 use std::collections::BTreeMap;
 use std::fmt;
+use std::marker::Model;
 use thiserror::Error;
 use unicode::properties::GeneralCategory;
 
@@ -91,10 +92,16 @@ impl TextWrite for String {
     }
 }
 
-/// Writes the canonical text of values.
+/// Writes the canonical text of values. A clause sees what the text goes into.
 #[derive(Drop)]
 pub struct Writer<W: TextWrite> {
     out: W,
+}
+
+impl<W: TextWrite> Model for Writer<W> {
+    ghost Value = { W };
+
+    ghost view = { λ w. w.out };
 }
 
 impl<W: TextWrite> Writer<W> {
@@ -115,22 +122,22 @@ impl<W: TextWrite> Writer<W> {
 
     /// A writer into `out`.
     pub fn new(out: W) -> Writer<W>
-        ensures { result.out ≡ out }
+        ensures { result ≡ out }
     {
         Writer { out }
     }
 
     /// What the text goes into, as it is now; what is done to it is done to the writer's.
     pub fn as_mut(&mut self) -> &mut W
-        ensures now { result.now ≡ self.old.out }
-        ensures* lends { sem 𝓛 (Lends (the_row W.row) W.row self.entry result (λ w. record { out = w })) }
+        ensures now { result.now ≡ self.old }
+        ensures* lends { sem 𝓛 (Lends (the_row W.row W.TextWrite) W.row self.entry result (λ w. w)) }
     {
         &mut self.out
     }
 
     /// What the text went into.
     pub fn into_inner(self) -> W
-        ensures { result ≡ self.out }
+        ensures { result ≡ self }
     {
         self.out
     }
@@ -140,10 +147,10 @@ impl<W: TextWrite> Writer<W> {
     #[cycle(write)]
     pub fn write_value<V: WasmValue>(&mut self, alloc: Global, val: &V) -> Result<(), WriterError>
         ensures ok { OnOk result
-            (Appended (text (V.tree val.now)) (W.output self.old.out) (W.output self.new.out)) }
+            (Appended (text (V.tree val.now)) (W.output self.old) (W.output self.new)) }
         ensures writable { OnOk result (has_text (V.tree val.now) ≡ true) }
         ensures err { IfErr result
-            (λ e. Refused (text (V.tree val.now)) (has_text (V.tree val.now)) e (W.output self.old.out) (W.output self.new.out)) }
+            (λ e. Refused (text (V.tree val.now)) (has_text (V.tree val.now)) e (W.output self.old) (W.output self.new)) }
     {
         match val.kind() {
             WasmTypeKind::List | WasmTypeKind::FixedLengthList => self.write_list(alloc, val),
@@ -165,9 +172,9 @@ impl<W: TextWrite> Writer<W> {
     #[cycle(write)]
     fn write_list<V: WasmValue>(&mut self, alloc: Global, val: &V) -> Result<(), WriterError>
         requires { IsOfListKind (kind_of (V.tree val.now)) }
-        ensures ok { Writes (text (V.tree val.now)) result (W.output self.old.out) (W.output self.new.out) }
+        ensures ok { Writes (text (V.tree val.now)) result (W.output self.old) (W.output self.new) }
         ensures writable { OnOk result (has_text (V.tree val.now) ≡ true) }
-        ensures err { Refuses (text (V.tree val.now)) (has_text (V.tree val.now)) result (W.output self.old.out) (W.output self.new.out) }
+        ensures err { Refuses (text (V.tree val.now)) (has_text (V.tree val.now)) result (W.output self.old) (W.output self.new) }
     {
         let items = val.unwrap_list(alloc)?;
         self.write_items(alloc, "[", &items, "]")
@@ -176,9 +183,9 @@ impl<W: TextWrite> Writer<W> {
     #[cycle(write)]
     fn write_tuple<V: WasmValue>(&mut self, alloc: Global, val: &V) -> Result<(), WriterError>
         requires { kind_of (V.tree val.now) ≡ WasmTypeKind.Tuple }
-        ensures ok { Writes (text (V.tree val.now)) result (W.output self.old.out) (W.output self.new.out) }
+        ensures ok { Writes (text (V.tree val.now)) result (W.output self.old) (W.output self.new) }
         ensures writable { OnOk result (has_text (V.tree val.now) ≡ true) }
-        ensures err { Refuses (text (V.tree val.now)) (has_text (V.tree val.now)) result (W.output self.old.out) (W.output self.new.out) }
+        ensures err { Refuses (text (V.tree val.now)) (has_text (V.tree val.now)) result (W.output self.old) (W.output self.new) }
     {
         let items = val.unwrap_tuple(alloc)?;
         self.write_items(alloc, "(", &items, ")")
@@ -193,9 +200,9 @@ impl<W: TextWrite> Writer<W> {
         items: &Vec<&V>,
         closing: &str,
     ) -> Result<(), WriterError>
-        ensures ok { Writes (enclosed opening.now (map text (shown_all V.tree items.now.items)) closing.now) result (W.output self.old.out) (W.output self.new.out) }
+        ensures ok { Writes (enclosed opening.now (map text (shown_all V.tree items.now.items)) closing.now) result (W.output self.old) (W.output self.new) }
         ensures writable { OnOk result (list_all has_text (shown_all V.tree items.now.items) ≡ true) }
-        ensures err { Refuses (enclosed opening.now (map text (shown_all V.tree items.now.items)) closing.now) (list_all has_text (shown_all V.tree items.now.items)) result (W.output self.old.out) (W.output self.new.out) }
+        ensures err { Refuses (enclosed opening.now (map text (shown_all V.tree items.now.items)) closing.now) (list_all has_text (shown_all V.tree items.now.items)) result (W.output self.old) (W.output self.new) }
     {
         self.write_text(opening)?;
         let mut later = false;
@@ -210,9 +217,9 @@ impl<W: TextWrite> Writer<W> {
     #[cycle(write)]
     fn write_record<V: WasmValue>(&mut self, alloc: Global, val: &V) -> Result<(), WriterError>
         requires { kind_of (V.tree val.now) ≡ WasmTypeKind.Record }
-        ensures ok { Writes (text (V.tree val.now)) result (W.output self.old.out) (W.output self.new.out) }
+        ensures ok { Writes (text (V.tree val.now)) result (W.output self.old) (W.output self.new) }
         ensures writable { OnOk result (has_text (V.tree val.now) ≡ true) }
-        ensures err { Refuses (text (V.tree val.now)) (has_text (V.tree val.now)) result (W.output self.old.out) (W.output self.new.out) }
+        ensures err { Refuses (text (V.tree val.now)) (has_text (V.tree val.now)) result (W.output self.old) (W.output self.new) }
     {
         let fields = val.unwrap_record(alloc)?;
         let mut later = false;
@@ -233,9 +240,9 @@ impl<W: TextWrite> Writer<W> {
     #[cycle(write)]
     fn write_variant<V: WasmValue>(&mut self, alloc: Global, val: &V) -> Result<(), WriterError>
         requires { kind_of (V.tree val.now) ≡ WasmTypeKind.Variant }
-        ensures ok { Writes (text (V.tree val.now)) result (W.output self.old.out) (W.output self.new.out) }
+        ensures ok { Writes (text (V.tree val.now)) result (W.output self.old) (W.output self.new) }
         ensures writable { OnOk result (has_text (V.tree val.now) ≡ true) }
-        ensures err { Refuses (text (V.tree val.now)) (has_text (V.tree val.now)) result (W.output self.old.out) (W.output self.new.out) }
+        ensures err { Refuses (text (V.tree val.now)) (has_text (V.tree val.now)) result (W.output self.old) (W.output self.new) }
     {
         let (case, payload) = val.unwrap_variant();
         self.write_case(case)?;
@@ -245,9 +252,9 @@ impl<W: TextWrite> Writer<W> {
     #[cycle(write)]
     fn write_option<V: WasmValue>(&mut self, alloc: Global, val: &V) -> Result<(), WriterError>
         requires { kind_of (V.tree val.now) ≡ WasmTypeKind.Option }
-        ensures ok { Writes (text (V.tree val.now)) result (W.output self.old.out) (W.output self.new.out) }
+        ensures ok { Writes (text (V.tree val.now)) result (W.output self.old) (W.output self.new) }
         ensures writable { OnOk result (has_text (V.tree val.now) ≡ true) }
-        ensures err { Refuses (text (V.tree val.now)) (has_text (V.tree val.now)) result (W.output self.old.out) (W.output self.new.out) }
+        ensures err { Refuses (text (V.tree val.now)) (has_text (V.tree val.now)) result (W.output self.old) (W.output self.new) }
     {
         match val.unwrap_option() {
             None => self.write_text("none"),
@@ -261,9 +268,9 @@ impl<W: TextWrite> Writer<W> {
     #[cycle(write)]
     fn write_result<V: WasmValue>(&mut self, alloc: Global, val: &V) -> Result<(), WriterError>
         requires { kind_of (V.tree val.now) ≡ WasmTypeKind.Result }
-        ensures ok { Writes (text (V.tree val.now)) result (W.output self.old.out) (W.output self.new.out) }
+        ensures ok { Writes (text (V.tree val.now)) result (W.output self.old) (W.output self.new) }
         ensures writable { OnOk result (has_text (V.tree val.now) ≡ true) }
-        ensures err { Refuses (text (V.tree val.now)) (has_text (V.tree val.now)) result (W.output self.old.out) (W.output self.new.out) }
+        ensures err { Refuses (text (V.tree val.now)) (has_text (V.tree val.now)) result (W.output self.old) (W.output self.new) }
     {
         match val.unwrap_result() {
             Ok(payload) => {
@@ -284,9 +291,9 @@ impl<W: TextWrite> Writer<W> {
         alloc: Global,
         payload: Option<&V>,
     ) -> Result<(), WriterError>
-        ensures ok { Writes (payload_text (shown V.tree payload.entry)) result (W.output self.old.out) (W.output self.new.out) }
+        ensures ok { Writes (payload_text (shown V.tree payload.entry)) result (W.output self.old) (W.output self.new) }
         ensures writable { OnOk result (has_payload_text (shown V.tree payload.entry) ≡ true) }
-        ensures err { Refuses (payload_text (shown V.tree payload.entry)) (has_payload_text (shown V.tree payload.entry)) result (W.output self.old.out) (W.output self.new.out) }
+        ensures err { Refuses (payload_text (shown V.tree payload.entry)) (has_payload_text (shown V.tree payload.entry)) result (W.output self.old) (W.output self.new) }
     {
         match payload {
             None => Ok(()),
@@ -302,9 +309,9 @@ impl<W: TextWrite> Writer<W> {
     fn write_map<V: WasmValue>(&mut self, alloc: Global, val: &V) -> Result<(), WriterError>
         requires kind { kind_of (V.tree val.now) ≡ WasmTypeKind.Map }
         requires formed { IsWellFormed (V.tree val.now) }
-        ensures ok { Writes (text (V.tree val.now)) result (W.output self.old.out) (W.output self.new.out) }
+        ensures ok { Writes (text (V.tree val.now)) result (W.output self.old) (W.output self.new) }
         ensures writable { OnOk result (has_text (V.tree val.now) ≡ true) }
-        ensures err { Refuses (text (V.tree val.now)) (has_text (V.tree val.now)) result (W.output self.old.out) (W.output self.new.out) }
+        ensures err { Refuses (text (V.tree val.now)) (has_text (V.tree val.now)) result (W.output self.old) (W.output self.new) }
     {
         let entries = val.unwrap_map(alloc)?;
         let merged = merge_entries(alloc, &entries)?;
@@ -322,9 +329,9 @@ impl<W: TextWrite> Writer<W> {
 
     fn write_flags<V: WasmValue>(&mut self, alloc: Global, val: &V) -> Result<(), WriterError>
         requires { kind_of (V.tree val.now) ≡ WasmTypeKind.Flags }
-        ensures ok { Writes (text (V.tree val.now)) result (W.output self.old.out) (W.output self.new.out) }
+        ensures ok { Writes (text (V.tree val.now)) result (W.output self.old) (W.output self.new) }
         ensures writable { OnOk result (has_text (V.tree val.now) ≡ true) }
-        ensures err { Refuses (text (V.tree val.now)) (has_text (V.tree val.now)) result (W.output self.old.out) (W.output self.new.out) }
+        ensures err { Refuses (text (V.tree val.now)) (has_text (V.tree val.now)) result (W.output self.old) (W.output self.new) }
     {
         let names = val.unwrap_flags(alloc)?;
         self.write_text("{")?;
@@ -339,8 +346,8 @@ impl<W: TextWrite> Writer<W> {
 
     /// Writes the name of a case, behind a `%` where it is a keyword.
     fn write_case(&mut self, case: &str) -> Result<(), WriterError>
-        ensures ok { Writes (case_label case.now) result (W.output self.old.out) (W.output self.new.out) }
-        ensures err { Refuses (case_label case.now) true result (W.output self.old.out) (W.output self.new.out) }
+        ensures ok { Writes (case_label case.now) result (W.output self.old) (W.output self.new) }
+        ensures err { Refuses (case_label case.now) true result (W.output self.old) (W.output self.new) }
     {
         match Keyword::decode(case) {
             Some(_) => {
@@ -354,8 +361,8 @@ impl<W: TextWrite> Writer<W> {
     /// Writes a value of one token.
     fn write_leaf<V: WasmValue>(&mut self, val: &V) -> Result<(), WriterError>
         requires { IsLeaf (V.tree val.now) }
-        ensures ok { Writes (text (V.tree val.now)) result (W.output self.old.out) (W.output self.new.out) }
-        ensures err { Refuses (text (V.tree val.now)) true result (W.output self.old.out) (W.output self.new.out) }
+        ensures ok { Writes (text (V.tree val.now)) result (W.output self.old) (W.output self.new) }
+        ensures err { Refuses (text (V.tree val.now)) true result (W.output self.old) (W.output self.new) }
     {
         match val.kind() {
             WasmTypeKind::Bool => {
@@ -376,8 +383,8 @@ impl<W: TextWrite> Writer<W> {
     }
 
     fn write_number<N: Integer>(&mut self, number: N) -> Result<(), WriterError>
-        ensures ok { Writes (N.text number) result (W.output self.old.out) (W.output self.new.out) }
-        ensures err { Refuses (N.text number) true result (W.output self.old.out) (W.output self.new.out) }
+        ensures ok { Writes (N.text number) result (W.output self.old) (W.output self.new) }
+        ensures err { Refuses (N.text number) true result (W.output self.old) (W.output self.new) }
     {
         let mut buffer = Buffer::new();
         self.write_text(buffer.format(number))
@@ -385,8 +392,8 @@ impl<W: TextWrite> Writer<W> {
 
     /// Writes a scalar between single quotes.
     fn write_char(&mut self, c: char) -> Result<(), WriterError>
-        ensures ok { Writes (quoted_char c) result (W.output self.old.out) (W.output self.new.out) }
-        ensures err { Refuses (quoted_char c) true result (W.output self.old.out) (W.output self.new.out) }
+        ensures ok { Writes (quoted_char c) result (W.output self.old) (W.output self.new) }
+        ensures err { Refuses (quoted_char c) true result (W.output self.old) (W.output self.new) }
     {
         self.write_text("'")?;
         self.write_scalar(c)?;
@@ -395,8 +402,8 @@ impl<W: TextWrite> Writer<W> {
 
     /// Writes a text between double quotes. The scalars between two escapes are written as one run.
     fn write_string(&mut self, s: &str) -> Result<(), WriterError>
-        ensures ok { Writes (quoted s.now) result (W.output self.old.out) (W.output self.new.out) }
-        ensures err { Refuses (quoted s.now) true result (W.output self.old.out) (W.output self.new.out) }
+        ensures ok { Writes (quoted s.now) result (W.output self.old) (W.output self.new) }
+        ensures err { Refuses (quoted s.now) true result (W.output self.old) (W.output self.new) }
     {
         self.write_text("\"")?;
         let mut start = 0;
@@ -413,8 +420,8 @@ impl<W: TextWrite> Writer<W> {
 
     /// Writes a run, which may be empty.
     fn write_run(&mut self, run: &str) -> Result<(), WriterError>
-        ensures ok { Writes run.now result (W.output self.old.out) (W.output self.new.out) }
-        ensures err { Refuses run.now true result (W.output self.old.out) (W.output self.new.out) }
+        ensures ok { Writes run.now result (W.output self.old) (W.output self.new) }
+        ensures err { Refuses run.now true result (W.output self.old) (W.output self.new) }
     {
         if run.is_empty() {
             Ok(())
@@ -425,8 +432,8 @@ impl<W: TextWrite> Writer<W> {
 
     /// Writes a scalar as it stands between quotes.
     fn write_scalar(&mut self, c: char) -> Result<(), WriterError>
-        ensures ok { Writes (escaped c) result (W.output self.old.out) (W.output self.new.out) }
-        ensures err { Refuses (escaped c) true result (W.output self.old.out) (W.output self.new.out) }
+        ensures ok { Writes (escaped c) result (W.output self.old) (W.output self.new) }
+        ensures err { Refuses (escaped c) true result (W.output self.old) (W.output self.new) }
     {
         match short_escape(c) {
             Some(escape) => self.write_text(escape),
@@ -440,8 +447,8 @@ impl<W: TextWrite> Writer<W> {
 
     /// Writes a scalar by its number, as `\u{h}`.
     fn write_number_escape(&mut self, c: char) -> Result<(), WriterError>
-        ensures ok { Writes (number_escape c) result (W.output self.old.out) (W.output self.new.out) }
-        ensures err { Refuses (number_escape c) true result (W.output self.old.out) (W.output self.new.out) }
+        ensures ok { Writes (number_escape c) result (W.output self.old) (W.output self.new) }
+        ensures err { Refuses (number_escape c) true result (W.output self.old) (W.output self.new) }
     {
         for part in c.escape_unicode() {
             let mut bytes = [0u8; 4];
@@ -451,15 +458,15 @@ impl<W: TextWrite> Writer<W> {
     }
 
     fn write_separator(&mut self, later: bool) -> Result<(), WriterError>
-        ensures ok { Writes (comma_if later) result (W.output self.old.out) (W.output self.new.out) }
-        ensures err { Refuses (comma_if later) true result (W.output self.old.out) (W.output self.new.out) }
+        ensures ok { Writes (comma_if later) result (W.output self.old) (W.output self.new) }
+        ensures err { Refuses (comma_if later) true result (W.output self.old) (W.output self.new) }
     {
         if later { self.write_text(", ") } else { Ok(()) }
     }
 
     fn write_either(&mut self, first: bool, a: &str, b: &str) -> Result<(), WriterError>
-        ensures ok { Writes (if first then a.now else b.now) result (W.output self.old.out) (W.output self.new.out) }
-        ensures err { Refuses (if first then a.now else b.now) true result (W.output self.old.out) (W.output self.new.out) }
+        ensures ok { Writes (if first then a.now else b.now) result (W.output self.old) (W.output self.new) }
+        ensures err { Refuses (if first then a.now else b.now) true result (W.output self.old) (W.output self.new) }
     {
         if first {
             self.write_text(a)
@@ -469,8 +476,8 @@ impl<W: TextWrite> Writer<W> {
     }
 
     fn write_text(&mut self, s: &str) -> Result<(), WriterError>
-        ensures ok { Writes s.now result (W.output self.old.out) (W.output self.new.out) }
-        ensures err { Refuses s.now true result (W.output self.old.out) (W.output self.new.out) }
+        ensures ok { Writes s.now result (W.output self.old) (W.output self.new) }
+        ensures err { Refuses s.now true result (W.output self.old) (W.output self.new) }
     {
         self.out.write_str(s)
     }

@@ -15,25 +15,32 @@ use crate::wasm::{WasmFunc, WasmType, WasmTypeKind, WasmValue};
 use crate::writer::{arguments_to_string, results_to_string, to_string};
 use std::alloc::{AllocError, Global};
 use std::fmt;
+use std::marker::Model;
 
 /// Shows a type as its text. It fails where the formatter fails or memory is refused.
-#[derive(Clone, Copy)]
+#[derive(Clone, Drop)]
 pub struct DisplayType<'a, T: WasmType> {
     alloc: Global,
     ty: &'a T,
 }
 
+impl<'a, T: WasmType> Model for DisplayType<'a, T> {
+    ghost Value = { T };
+
+    ghost view = { λ d. d.ty.now };
+}
+
 impl<'a, T: WasmType> DisplayType<'a, T> {
     /// Shows `ty`.
     pub fn new(alloc: Global, ty: &'a T) -> DisplayType<'a, T>
-        ensures { result.ty.now ≡ ty.entry.now }
+        ensures { result ≡ ty.entry.now }
     {
         DisplayType { alloc, ty }
     }
 }
 
 impl<T: WasmType> fmt::Display for DisplayType<'_, T> {
-    ghost output = { λ d. Some (type_text (T.tree d.ty.now)) };
+    ghost output = { λ d. Some (type_text (T.tree d)) };
 
     fn fmt<W: fmt::Write>(&self, f: &mut fmt::Formatter<W>) -> fmt::Result {
         match type_to_string(self.alloc, self.ty) {
@@ -45,27 +52,33 @@ impl<T: WasmType> fmt::Display for DisplayType<'_, T> {
 
 /// Shows a value as its canonical text. It fails where the formatter fails, memory is refused or
 /// the value has no text.
-#[derive(Clone, Copy)]
+#[derive(Clone, Drop)]
 pub struct DisplayValue<'a, V: WasmValue> {
     alloc: Global,
     val: &'a V,
 }
 
+impl<'a, V: WasmValue> Model for DisplayValue<'a, V> {
+    ghost Value = { V };
+
+    ghost view = { λ d. d.val.now };
+}
+
 impl<'a, V: WasmValue> DisplayValue<'a, V> {
     /// Shows `val`.
     pub fn new(alloc: Global, val: &'a V) -> DisplayValue<'a, V>
-        ensures { result.val.now ≡ val.entry.now }
+        ensures { result ≡ val.entry.now }
     {
         DisplayValue { alloc, val }
     }
 }
 
 impl<V: WasmValue> fmt::Display for DisplayValue<'_, V> {
-    ghost output = { λ d. Some (text (V.tree d.val.now)) };
+    ghost output = { λ d. Some (text (V.tree d)) };
 
     fn fmt<W: fmt::Write>(&self, f: &mut fmt::Formatter<W>) -> fmt::Result
-        ensures writes { DisplaysOnOk W.write_str_gives f.old result (Some (text (V.tree self.now.val.now))) f.new }
-        ensures writable { OnOk result (has_text (V.tree self.now.val.now) ≡ true) }
+        ensures writes { DisplaysOnOk W.write_str_gives f.old result (Some (text (V.tree self.now))) f.new }
+        ensures writable { OnOk result (has_text (V.tree self.now) ≡ true) }
     {
         match to_string(self.alloc, self.val) {
             Ok(text) => f.write_str(text.as_str()),
@@ -81,10 +94,16 @@ pub struct DisplayFunc<F: WasmFunc> {
     func: F,
 }
 
+impl<F: WasmFunc> Model for DisplayFunc<F> {
+    ghost Value = { F };
+
+    ghost view = { λ d. d.func };
+}
+
 impl<F: WasmFunc> DisplayFunc<F> {
     /// Shows `func`.
     pub fn new(alloc: Global, func: F) -> DisplayFunc<F>
-        ensures { result.func ≡ func }
+        ensures { result ≡ func }
     {
         DisplayFunc { alloc, func }
     }
@@ -92,7 +111,7 @@ impl<F: WasmFunc> DisplayFunc<F> {
 
 impl<F: WasmFunc> fmt::Display for DisplayFunc<F> {
     fn fmt<W: fmt::Write>(&self, f: &mut fmt::Formatter<W>) -> fmt::Result
-        ensures { ShowsFunc W.write_str_gives (F.func self.now.func) f.old result f.new }
+        ensures { ShowsFunc W.write_str_gives (F.func self.now) f.old result f.new }
     {
         match func_to_string(self.alloc, &self.func) {
             Ok(text) => f.write_str(text.as_str()),
@@ -103,27 +122,33 @@ impl<F: WasmFunc> fmt::Display for DisplayFunc<F> {
 
 /// Shows the arguments of a call: `(v, w)`. It fails where the formatter fails, memory is refused
 /// or an argument has no text.
-#[derive(Clone, Copy)]
+#[derive(Clone, Drop)]
 pub struct DisplayFuncArgs<'a, V: WasmValue> {
     alloc: Global,
     vals: &'a [V],
 }
 
+impl<'a, V: WasmValue> Model for DisplayFuncArgs<'a, V> {
+    ghost Value = { List V };
+
+    ghost view = { λ d. d.vals.now };
+}
+
 impl<'a, V: WasmValue> DisplayFuncArgs<'a, V> {
     /// Shows `vals`.
     pub fn new(alloc: Global, vals: &'a [V]) -> DisplayFuncArgs<'a, V>
-        ensures { result.vals.now ≡ vals.entry.now }
+        ensures { result ≡ vals.entry.now }
     {
         DisplayFuncArgs { alloc, vals }
     }
 }
 
 impl<V: WasmValue> fmt::Display for DisplayFuncArgs<'_, V> {
-    ghost output = { λ d. Some (arguments_text (map V.tree d.vals.now)) };
+    ghost output = { λ d. Some (arguments_text (map V.tree d)) };
 
     fn fmt<W: fmt::Write>(&self, f: &mut fmt::Formatter<W>) -> fmt::Result
-        ensures writes { DisplaysOnOk W.write_str_gives f.old result (Some (arguments_text (map V.tree self.now.vals.now))) f.new }
-        ensures writable { OnOk result (list_all has_text (map V.tree self.now.vals.now) ≡ true) }
+        ensures writes { DisplaysOnOk W.write_str_gives f.old result (Some (arguments_text (map V.tree self.now))) f.new }
+        ensures writable { OnOk result (list_all has_text (map V.tree self.now) ≡ true) }
     {
         match arguments_to_string(self.alloc, self.vals) {
             Ok(text) => f.write_str(text.as_str()),
@@ -134,27 +159,33 @@ impl<V: WasmValue> fmt::Display for DisplayFuncArgs<'_, V> {
 
 /// Shows the results of a call: one as it is, else `(v, w)`. It fails where the formatter fails,
 /// memory is refused or a result has no text.
-#[derive(Clone, Copy)]
+#[derive(Clone, Drop)]
 pub struct DisplayFuncResults<'a, V: WasmValue> {
     alloc: Global,
     vals: &'a [V],
 }
 
+impl<'a, V: WasmValue> Model for DisplayFuncResults<'a, V> {
+    ghost Value = { List V };
+
+    ghost view = { λ d. d.vals.now };
+}
+
 impl<'a, V: WasmValue> DisplayFuncResults<'a, V> {
     /// Shows `vals`.
     pub fn new(alloc: Global, vals: &'a [V]) -> DisplayFuncResults<'a, V>
-        ensures { result.vals.now ≡ vals.entry.now }
+        ensures { result ≡ vals.entry.now }
     {
         DisplayFuncResults { alloc, vals }
     }
 }
 
 impl<V: WasmValue> fmt::Display for DisplayFuncResults<'_, V> {
-    ghost output = { λ d. Some (results_text (map V.tree d.vals.now)) };
+    ghost output = { λ d. Some (results_text (map V.tree d)) };
 
     fn fmt<W: fmt::Write>(&self, f: &mut fmt::Formatter<W>) -> fmt::Result
-        ensures writes { DisplaysOnOk W.write_str_gives f.old result (Some (results_text (map V.tree self.now.vals.now))) f.new }
-        ensures writable { OnOk result (list_all has_text (map V.tree self.now.vals.now) ≡ true) }
+        ensures writes { DisplaysOnOk W.write_str_gives f.old result (Some (results_text (map V.tree self.now))) f.new }
+        ensures writable { OnOk result (list_all has_text (map V.tree self.now) ≡ true) }
     {
         match results_to_string(self.alloc, self.vals) {
             Ok(text) => f.write_str(text.as_str()),

@@ -10,6 +10,6 @@ abbrev pub invariant-loop-val : goal.invariant-loop-val
 invariant-loop-val g l =
     let left = drop l.val-index l.vals in
     record {
-      adding : Adding (arguments_text (map g.V.WasmValue.tree l.vals)) (parted l.later (map (λ v. text (g.V.WasmValue.tree v)) left) ++ codes ")") [] (string_bytes l.writer.out);
+      adding : Adding (arguments_text (map g.V.WasmValue.tree l.vals)) (parted l.later (map (λ v. text (g.V.WasmValue.tree v)) left) ++ codes ")") [] (string_bytes l.writer);
       writable : list_all (λ v. has_text (g.V.WasmValue.tree v)) left ≡ list_all has_text (map g.V.WasmValue.tree l.vals);
     }

@@ -46,7 +46,7 @@ abbrev pub invariant-write_items-loop-item : goal.invariant-write_items-loop-ite
 invariant-write_items-loop-item g l =
     let left = drop l.item-index l.item-items in
     record {
-      writing : Writing (enclosed l.opening (map text (shown_all g.V.WasmValue.tree l.items.items)) l.closing) (parted l.later (map (λ v. text (g.V.WasmValue.tree v.now)) left) ++ l.closing) (g.W.TextWrite.output l.fn.self.out) (g.W.TextWrite.output l.self.out);
+      writing : Writing (enclosed l.opening (map text (shown_all g.V.WasmValue.tree l.items.items)) l.closing) (parted l.later (map (λ v. text (g.V.WasmValue.tree v.now)) left) ++ l.closing) (g.W.TextWrite.output l.fn.self) (g.W.TextWrite.output l.self);
       writable : list_all (λ v. has_text (g.V.WasmValue.tree v.now)) left ≡ list_all has_text (shown_all g.V.WasmValue.tree l.items.items);
     }
 
@@ -54,7 +54,7 @@ abbrev pub invariant-write_record-loop-field : goal.invariant-write_record-loop-
 invariant-write_record-loop-field g l =
     let left = drop l.field-index l.field-items in
     record {
-      writing : Writing (text (g.V.WasmValue.tree l.val)) (fields_left l.later (map {B = List ℕ × Value} (λ f. (f.0.now, g.V.WasmValue.tree f.1.now)) left)) (g.W.TextWrite.output l.fn.self.out) (g.W.TextWrite.output l.self.out);
+      writing : Writing (text (g.V.WasmValue.tree l.val)) (fields_left l.later (map {B = List ℕ × Value} (λ f. (f.0.now, g.V.WasmValue.tree f.1.now)) left)) (g.W.TextWrite.output l.fn.self) (g.W.TextWrite.output l.self);
       writable : list_all (λ f. has_text (g.V.WasmValue.tree f.1.now)) left ≡ has_text (g.V.WasmValue.tree l.val);
     }
 
@@ -62,6 +62,6 @@ abbrev pub invariant-write_map-loop-entry : goal.invariant-write_map-loop-entry
 invariant-write_map-loop-entry g l =
     let left = drop l.entry-index l.entry-items in
     record {
-      writing : Writing (text (g.V.WasmValue.tree l.val)) (parted l.later (map (λ e. behind_name (string_bytes e.0) (text (g.V.WasmValue.tree e.1.now))) left) ++ codes "}") (g.W.TextWrite.output l.fn.self.out) (g.W.TextWrite.output l.self.out);
+      writing : Writing (text (g.V.WasmValue.tree l.val)) (parted l.later (map (λ e. behind_name (string_bytes e.0) (text (g.V.WasmValue.tree e.1.now))) left) ++ codes "}") (g.W.TextWrite.output l.fn.self) (g.W.TextWrite.output l.self);
       writable : list_all (λ e. has_text (g.V.WasmValue.tree e.1.now)) left ≡ has_text (g.V.WasmValue.tree l.val);
     }

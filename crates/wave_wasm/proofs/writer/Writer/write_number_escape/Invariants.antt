@@ -9,5 +9,5 @@ abbrev pub invariant-loop-part : goal.invariant-loop-part
 invariant-loop-part g l =
     record {
       bound : escape_end l.part-iterator ≤ 10;
-      writing : Writing (number_escape l.fn.c) (encodes (escape_rest l.part-iterator)) (g.W.TextWrite.output l.fn.self.out) (g.W.TextWrite.output l.self.out);
+      writing : Writing (number_escape l.fn.c) (encodes (escape_rest l.part-iterator)) (g.W.TextWrite.output l.fn.self) (g.W.TextWrite.output l.self);
     }
