@@ -1,6 +1,5 @@
 -- What is left to write of a record, field by field.
-use Rattle.std.proofs.Common.{ℕ, ◌≡◌, ◌<◌, ◌≤◌, ◌+◌, List, [], ◌∷◌, ◌++◌, Bool, true, false, cond, refl, sym, ◌∙◌, length, get_or, drop, map, codes}
-use Rattle.std.proofs.lemmas.List.{append-nil}
+use Rattle.std.proofs.Common.{ℕ, ◌≡◌, ◌<◌, ◌≤◌, ◌+◌, List, ◌∷◌, ◌++◌, Bool, true, false, cond, refl, ◌∙◌, length, get_or, drop, map, codes}
 use Rattle.wave_wasm.specs.Values.{Value}
 use Rattle.wave_wasm.specs.Text.{text, is_no_option}
 use Rattle.wave_wasm.specs.WriterState.{Output}
@@ -16,5 +15,5 @@ pub writing_field : {X : Type 0} (f : X → List ℕ × Value) (xs : List X) (i 
 writing_field f xs i x later lt is some w = writing_as (at_item (λ l. fields_left later (map f l)) xs i x lt is ∙ field_here later (f x).0 (f x).1 (map f (drop (i + 1) xs)) some) w
 
 -- after the last field only the close is left
-pub writing_record_close : {X : Type 0} (f : X → List ℕ × Value) (xs : List X) (i : ℕ) {whole : List ℕ} (later : Bool) {old now : Output} → length xs ≤ i → Writing whole (fields_left later (map f (drop i xs))) old now → Writing whole (cond later (codes "}") (codes "{:}") ++ []) old now
-writing_record_close f xs i later le w = writing_as (at_end (λ l. fields_left later (map f l)) xs i le ∙ sym (append-nil (cond later (codes "}") (codes "{:}")))) w
+pub writing_record_close : {X : Type 0} (f : X → List ℕ × Value) (xs : List X) (i : ℕ) {whole : List ℕ} (later : Bool) {old now : Output} → length xs ≤ i → Writing whole (fields_left later (map f (drop i xs))) old now → Writing whole (cond later (codes "}") (codes "{:}")) old now
+writing_record_close f xs i later le w = writing_as (at_end (λ l. fields_left later (map f l)) xs i le) w

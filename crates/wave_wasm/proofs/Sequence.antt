@@ -72,6 +72,10 @@ item_blocks ok xs i x all lt is h blocked = sym h ∙ (at_item (list_all ok) xs 
 pub item_passes : {X : Type 0} (ok : X → Bool) (xs : List X) (i : ℕ) (x : X) (all : Bool) → i < length xs → x ≡ get_or xs i x → list_all ok (drop i xs) ≡ all → ok x ≡ true → list_all ok (drop (i + 1) xs) ≡ all
 item_passes ok xs i x all lt is h passes = sym (at_item (list_all ok) xs i x lt is ∙ ap (λ b. b && list_all ok (drop (i + 1) xs)) passes) ∙ h
 
+-- after the last item nothing is left that can't be written
+pub items_pass : {X : Type 0} (ok : X → Bool) (xs : List X) (i : ℕ) (all : Bool) → length xs ≤ i → list_all ok (drop i xs) ≡ all → all ≡ true
+items_pass ok xs i all le h = sym h ∙ at_end (list_all ok) xs i le
+
 -- ---- how deep they are
 
 -- the greatest depth

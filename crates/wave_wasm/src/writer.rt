@@ -110,7 +110,7 @@ impl<W: TextWrite> Writer<W> {
     ghost use Rattle.std.specs.Borrow.{Lends, sem};
     ghost use Rattle.wave_wasm.specs.contracts.writer.Writer.{the_row};
     ghost use Rattle.wave_wasm.specs.WriterState.{Appended, Refused};
-    ghost use Rattle.wave_wasm.specs.Private.WriterState.{Writes, Refuses};
+    ghost use Rattle.wave_wasm.specs.Private.WriterState.{Writes};
     ghost use Rattle.wave_wasm.specs.Values.{kind_of, IsWellFormed, flags_names};
     ghost use Rattle.wave_wasm.specs.Private.Values.{IsLeaf};
     ghost use Rattle.wave_wasm.specs.Keywords.{case_label};
@@ -172,9 +172,7 @@ impl<W: TextWrite> Writer<W> {
     #[cycle(write)]
     fn write_list<V: WasmValue>(&mut self, alloc: Global, val: &V) -> Result<(), WriterError>
         requires { IsOfListKind (kind_of (V.tree val.now)) }
-        ensures ok { Writes (text (V.tree val.now)) result (W.output self.old) (W.output self.new) }
-        ensures writable { OnOk result (has_text (V.tree val.now) ≡ true) }
-        ensures err { Refuses (text (V.tree val.now)) (has_text (V.tree val.now)) result (W.output self.old) (W.output self.new) }
+        ensures { Writes (text (V.tree val.now)) (has_text (V.tree val.now)) result (W.output self.old) (W.output self.new) }
     {
         let items = val.unwrap_list(alloc)?;
         self.write_items(alloc, "[", &items, "]")
@@ -183,9 +181,7 @@ impl<W: TextWrite> Writer<W> {
     #[cycle(write)]
     fn write_tuple<V: WasmValue>(&mut self, alloc: Global, val: &V) -> Result<(), WriterError>
         requires { kind_of (V.tree val.now) ≡ WasmTypeKind.Tuple }
-        ensures ok { Writes (text (V.tree val.now)) result (W.output self.old) (W.output self.new) }
-        ensures writable { OnOk result (has_text (V.tree val.now) ≡ true) }
-        ensures err { Refuses (text (V.tree val.now)) (has_text (V.tree val.now)) result (W.output self.old) (W.output self.new) }
+        ensures { Writes (text (V.tree val.now)) (has_text (V.tree val.now)) result (W.output self.old) (W.output self.new) }
     {
         let items = val.unwrap_tuple(alloc)?;
         self.write_items(alloc, "(", &items, ")")
@@ -200,9 +196,7 @@ impl<W: TextWrite> Writer<W> {
         items: &Vec<&V>,
         closing: &str,
     ) -> Result<(), WriterError>
-        ensures ok { Writes (enclosed opening.now (map text (shown_all V.tree items.now.items)) closing.now) result (W.output self.old) (W.output self.new) }
-        ensures writable { OnOk result (list_all has_text (shown_all V.tree items.now.items) ≡ true) }
-        ensures err { Refuses (enclosed opening.now (map text (shown_all V.tree items.now.items)) closing.now) (list_all has_text (shown_all V.tree items.now.items)) result (W.output self.old) (W.output self.new) }
+        ensures { Writes (enclosed opening.now (map text (shown_all V.tree items.now.items)) closing.now) (list_all has_text (shown_all V.tree items.now.items)) result (W.output self.old) (W.output self.new) }
     {
         self.write_text(opening)?;
         let mut later = false;
@@ -217,9 +211,7 @@ impl<W: TextWrite> Writer<W> {
     #[cycle(write)]
     fn write_record<V: WasmValue>(&mut self, alloc: Global, val: &V) -> Result<(), WriterError>
         requires { kind_of (V.tree val.now) ≡ WasmTypeKind.Record }
-        ensures ok { Writes (text (V.tree val.now)) result (W.output self.old) (W.output self.new) }
-        ensures writable { OnOk result (has_text (V.tree val.now) ≡ true) }
-        ensures err { Refuses (text (V.tree val.now)) (has_text (V.tree val.now)) result (W.output self.old) (W.output self.new) }
+        ensures { Writes (text (V.tree val.now)) (has_text (V.tree val.now)) result (W.output self.old) (W.output self.new) }
     {
         let fields = val.unwrap_record(alloc)?;
         let mut later = false;
@@ -240,9 +232,7 @@ impl<W: TextWrite> Writer<W> {
     #[cycle(write)]
     fn write_variant<V: WasmValue>(&mut self, alloc: Global, val: &V) -> Result<(), WriterError>
         requires { kind_of (V.tree val.now) ≡ WasmTypeKind.Variant }
-        ensures ok { Writes (text (V.tree val.now)) result (W.output self.old) (W.output self.new) }
-        ensures writable { OnOk result (has_text (V.tree val.now) ≡ true) }
-        ensures err { Refuses (text (V.tree val.now)) (has_text (V.tree val.now)) result (W.output self.old) (W.output self.new) }
+        ensures { Writes (text (V.tree val.now)) (has_text (V.tree val.now)) result (W.output self.old) (W.output self.new) }
     {
         let (case, payload) = val.unwrap_variant();
         self.write_case(case)?;
@@ -252,9 +242,7 @@ impl<W: TextWrite> Writer<W> {
     #[cycle(write)]
     fn write_option<V: WasmValue>(&mut self, alloc: Global, val: &V) -> Result<(), WriterError>
         requires { kind_of (V.tree val.now) ≡ WasmTypeKind.Option }
-        ensures ok { Writes (text (V.tree val.now)) result (W.output self.old) (W.output self.new) }
-        ensures writable { OnOk result (has_text (V.tree val.now) ≡ true) }
-        ensures err { Refuses (text (V.tree val.now)) (has_text (V.tree val.now)) result (W.output self.old) (W.output self.new) }
+        ensures { Writes (text (V.tree val.now)) (has_text (V.tree val.now)) result (W.output self.old) (W.output self.new) }
     {
         match val.unwrap_option() {
             None => self.write_text("none"),
@@ -268,9 +256,7 @@ impl<W: TextWrite> Writer<W> {
     #[cycle(write)]
     fn write_result<V: WasmValue>(&mut self, alloc: Global, val: &V) -> Result<(), WriterError>
         requires { kind_of (V.tree val.now) ≡ WasmTypeKind.Result }
-        ensures ok { Writes (text (V.tree val.now)) result (W.output self.old) (W.output self.new) }
-        ensures writable { OnOk result (has_text (V.tree val.now) ≡ true) }
-        ensures err { Refuses (text (V.tree val.now)) (has_text (V.tree val.now)) result (W.output self.old) (W.output self.new) }
+        ensures { Writes (text (V.tree val.now)) (has_text (V.tree val.now)) result (W.output self.old) (W.output self.new) }
     {
         match val.unwrap_result() {
             Ok(payload) => {
@@ -291,9 +277,7 @@ impl<W: TextWrite> Writer<W> {
         alloc: Global,
         payload: Option<&V>,
     ) -> Result<(), WriterError>
-        ensures ok { Writes (payload_text (shown V.tree payload.entry)) result (W.output self.old) (W.output self.new) }
-        ensures writable { OnOk result (has_payload_text (shown V.tree payload.entry) ≡ true) }
-        ensures err { Refuses (payload_text (shown V.tree payload.entry)) (has_payload_text (shown V.tree payload.entry)) result (W.output self.old) (W.output self.new) }
+        ensures { Writes (payload_text (shown V.tree payload.entry)) (has_payload_text (shown V.tree payload.entry)) result (W.output self.old) (W.output self.new) }
     {
         match payload {
             None => Ok(()),
@@ -309,9 +293,7 @@ impl<W: TextWrite> Writer<W> {
     fn write_map<V: WasmValue>(&mut self, alloc: Global, val: &V) -> Result<(), WriterError>
         requires kind { kind_of (V.tree val.now) ≡ WasmTypeKind.Map }
         requires formed { IsWellFormed (V.tree val.now) }
-        ensures ok { Writes (text (V.tree val.now)) result (W.output self.old) (W.output self.new) }
-        ensures writable { OnOk result (has_text (V.tree val.now) ≡ true) }
-        ensures err { Refuses (text (V.tree val.now)) (has_text (V.tree val.now)) result (W.output self.old) (W.output self.new) }
+        ensures { Writes (text (V.tree val.now)) (has_text (V.tree val.now)) result (W.output self.old) (W.output self.new) }
     {
         let entries = val.unwrap_map(alloc)?;
         let merged = merge_entries(alloc, &entries)?;
@@ -329,9 +311,7 @@ impl<W: TextWrite> Writer<W> {
 
     fn write_flags<V: WasmValue>(&mut self, alloc: Global, val: &V) -> Result<(), WriterError>
         requires { kind_of (V.tree val.now) ≡ WasmTypeKind.Flags }
-        ensures ok { Writes (text (V.tree val.now)) result (W.output self.old) (W.output self.new) }
-        ensures writable { OnOk result (has_text (V.tree val.now) ≡ true) }
-        ensures err { Refuses (text (V.tree val.now)) (has_text (V.tree val.now)) result (W.output self.old) (W.output self.new) }
+        ensures { Writes (text (V.tree val.now)) (has_text (V.tree val.now)) result (W.output self.old) (W.output self.new) }
     {
         let names = val.unwrap_flags(alloc)?;
         self.write_text("{")?;
@@ -346,8 +326,7 @@ impl<W: TextWrite> Writer<W> {
 
     /// Writes the name of a case, behind a `%` where it is a keyword.
     fn write_case(&mut self, case: &str) -> Result<(), WriterError>
-        ensures ok { Writes (case_label case.now) result (W.output self.old) (W.output self.new) }
-        ensures err { Refuses (case_label case.now) true result (W.output self.old) (W.output self.new) }
+        ensures { Writes (case_label case.now) true result (W.output self.old) (W.output self.new) }
     {
         match Keyword::decode(case) {
             Some(_) => {
@@ -361,8 +340,7 @@ impl<W: TextWrite> Writer<W> {
     /// Writes a value of one token.
     fn write_leaf<V: WasmValue>(&mut self, val: &V) -> Result<(), WriterError>
         requires { IsLeaf (V.tree val.now) }
-        ensures ok { Writes (text (V.tree val.now)) result (W.output self.old) (W.output self.new) }
-        ensures err { Refuses (text (V.tree val.now)) true result (W.output self.old) (W.output self.new) }
+        ensures { Writes (text (V.tree val.now)) true result (W.output self.old) (W.output self.new) }
     {
         match val.kind() {
             WasmTypeKind::Bool => {
@@ -383,8 +361,7 @@ impl<W: TextWrite> Writer<W> {
     }
 
     fn write_number<N: Integer>(&mut self, number: N) -> Result<(), WriterError>
-        ensures ok { Writes (N.text number) result (W.output self.old) (W.output self.new) }
-        ensures err { Refuses (N.text number) true result (W.output self.old) (W.output self.new) }
+        ensures { Writes (N.text number) true result (W.output self.old) (W.output self.new) }
     {
         let mut buffer = Buffer::new();
         self.write_text(buffer.format(number))
@@ -392,8 +369,7 @@ impl<W: TextWrite> Writer<W> {
 
     /// Writes a scalar between single quotes.
     fn write_char(&mut self, c: char) -> Result<(), WriterError>
-        ensures ok { Writes (quoted_char c) result (W.output self.old) (W.output self.new) }
-        ensures err { Refuses (quoted_char c) true result (W.output self.old) (W.output self.new) }
+        ensures { Writes (quoted_char c) true result (W.output self.old) (W.output self.new) }
     {
         self.write_text("'")?;
         self.write_scalar(c)?;
@@ -402,8 +378,7 @@ impl<W: TextWrite> Writer<W> {
 
     /// Writes a text between double quotes. The scalars between two escapes are written as one run.
     fn write_string(&mut self, s: &str) -> Result<(), WriterError>
-        ensures ok { Writes (quoted s.now) result (W.output self.old) (W.output self.new) }
-        ensures err { Refuses (quoted s.now) true result (W.output self.old) (W.output self.new) }
+        ensures { Writes (quoted s.now) true result (W.output self.old) (W.output self.new) }
     {
         self.write_text("\"")?;
         let mut start = 0;
@@ -420,8 +395,7 @@ impl<W: TextWrite> Writer<W> {
 
     /// Writes a run, which may be empty.
     fn write_run(&mut self, run: &str) -> Result<(), WriterError>
-        ensures ok { Writes run.now result (W.output self.old) (W.output self.new) }
-        ensures err { Refuses run.now true result (W.output self.old) (W.output self.new) }
+        ensures { Writes run.now true result (W.output self.old) (W.output self.new) }
     {
         if run.is_empty() {
             Ok(())
@@ -432,8 +406,7 @@ impl<W: TextWrite> Writer<W> {
 
     /// Writes a scalar as it stands between quotes.
     fn write_scalar(&mut self, c: char) -> Result<(), WriterError>
-        ensures ok { Writes (escaped c) result (W.output self.old) (W.output self.new) }
-        ensures err { Refuses (escaped c) true result (W.output self.old) (W.output self.new) }
+        ensures { Writes (escaped c) true result (W.output self.old) (W.output self.new) }
     {
         match short_escape(c) {
             Some(escape) => self.write_text(escape),
@@ -447,8 +420,7 @@ impl<W: TextWrite> Writer<W> {
 
     /// Writes a scalar by its number, as `\u{h}`.
     fn write_number_escape(&mut self, c: char) -> Result<(), WriterError>
-        ensures ok { Writes (number_escape c) result (W.output self.old) (W.output self.new) }
-        ensures err { Refuses (number_escape c) true result (W.output self.old) (W.output self.new) }
+        ensures { Writes (number_escape c) true result (W.output self.old) (W.output self.new) }
     {
         for part in c.escape_unicode() {
             let mut bytes = [0u8; 4];
@@ -458,15 +430,13 @@ impl<W: TextWrite> Writer<W> {
     }
 
     fn write_separator(&mut self, later: bool) -> Result<(), WriterError>
-        ensures ok { Writes (comma_if later) result (W.output self.old) (W.output self.new) }
-        ensures err { Refuses (comma_if later) true result (W.output self.old) (W.output self.new) }
+        ensures { Writes (comma_if later) true result (W.output self.old) (W.output self.new) }
     {
         if later { self.write_text(", ") } else { Ok(()) }
     }
 
     fn write_either(&mut self, first: bool, a: &str, b: &str) -> Result<(), WriterError>
-        ensures ok { Writes (if first then a.now else b.now) result (W.output self.old) (W.output self.new) }
-        ensures err { Refuses (if first then a.now else b.now) true result (W.output self.old) (W.output self.new) }
+        ensures { Writes (if first then a.now else b.now) true result (W.output self.old) (W.output self.new) }
     {
         if first {
             self.write_text(a)
@@ -476,8 +446,7 @@ impl<W: TextWrite> Writer<W> {
     }
 
     fn write_text(&mut self, s: &str) -> Result<(), WriterError>
-        ensures ok { Writes s.now result (W.output self.old) (W.output self.new) }
-        ensures err { Refuses s.now true result (W.output self.old) (W.output self.new) }
+        ensures { Writes s.now true result (W.output self.old) (W.output self.new) }
     {
         self.out.write_str(s)
     }

@@ -1,12 +1,10 @@
 -- What a writer of text took, and what its answers say.
-use Rattle.std.specs.Prelude.{Result, OnOk, IfErr, ℕ, List, Bool}
+use Rattle.std.specs.Prelude.{◌≡◌, Result, OnOk, IfErr, ℕ, List, Bool, true}
 use Rattle.wave_wasm.specs.declared.writer.WriterError.{WriterError}
 use Rattle.wave_wasm.specs.WriterState.{Appended, Output, Refused}
 
--- where the answer is `Ok`, the whole text was taken
-abbrev pub Writes : List ℕ → Result (Unit {0}) WriterError → Output → Output → Type 0
-Writes whole result old new = OnOk result (Appended whole old new)
-
--- where the answer is a refusal, it is one of such a text
-abbrev pub Refuses : List ℕ → Bool → Result (Unit {0}) WriterError → Output → Output → Type 0
-Refuses whole writable result old new = IfErr result (λ e. Refused whole writable e old new)
+-- the answer of a call that writes a text: `Ok` where it can be written and was taken whole, else a refusal of such a text
+pub record Writes (whole : List ℕ) (has_text : Bool) (result : Result (Unit {0}) WriterError) (old new : Output) : Type 0 where
+  pub ok : OnOk result (Appended whole old new)
+  pub writable : OnOk result (has_text ≡ true)
+  pub err : IfErr result (λ e. Refused whole has_text e old new)

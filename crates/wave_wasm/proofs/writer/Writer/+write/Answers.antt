@@ -1,5 +1,5 @@
-use Rattle.std.proofs.Common.{arith, ℕ, List, String, Global, [], ap, sym, ◌∙◌, refl, Bor, Bool, map}
-use Rattle.std.proofs.lemmas.Result.{err_from_is_err_and, IfErr-weaker}
+use Rattle.std.proofs.Common.{arith, ℕ, List, String, Global, ap, sym, ◌∙◌, refl, Bor, Bool, map}
+use Rattle.std.proofs.lemmas.Result.{err_from_is_err_and}
 use Rattle.std.specs.List.{list_all}
 use Rattle.std.specs.String.{string_bytes}
 use Rattle.wave_wasm.specs.Private.Merge.{with_key_texts}
@@ -7,11 +7,11 @@ use Rattle.wave_wasm.specs.Private.Commas.{enclosed}
 use Rattle.wave_wasm.specs.Commas.{behind_name}
 use Rattle.wave_wasm.specs.Borrowed.{shown}
 use Rattle.wave_wasm.specs.Text.{text, has_text}
-use Rattle.wave_wasm.specs.Private.Text.{payload_text}
+use Rattle.wave_wasm.specs.Private.Text.{payload_text, has_payload_text}
 use Rattle.wave_wasm.specs.Values.{Value}
 use Rattle.wave_wasm.specs.Private.Values.{depth}
-use Rattle.wave_wasm.proofs.Writing.{writing_more, writing_refused, writing_refused_text, start_refused, start_written, writing_as, writing_none, refused_before, refused_grounded, refused_unsupported, writing_last, writing_last_text}
-use Rattle.wave_wasm.proofs.Sequence.{writing_start, writing_item, writing_close, item_blocks, item_passes, part_depth, all_at}
+use Rattle.wave_wasm.proofs.Writing.{writing_more, writing_refused, writing_refused_text, start_refused, start_written, writing_as, writing_none, refused_before, refused_grounded, refused_unsupported, writing_last}
+use Rattle.wave_wasm.proofs.Sequence.{writing_start, writing_item, writing_close, item_blocks, item_passes, items_pass, part_depth, all_at}
 use Rattle.wave_wasm.proofs.Trees.{map_map, all_map, list_sequence, tuple_sequence, record_is, variant_text, variant_writable, ok_text, err_text, no_text_of_kind}
 use Rattle.wave_wasm.proofs.Records.{writing_field, writing_record_close}
 use Rattle.wave_wasm.proofs.Maps.{written_map, keys_are_leaves, writing_entry}
@@ -30,12 +30,12 @@ write_items-loop-item-init g t c =
       writable = ap (list_all ok) same ∙ sym (all_map has_text tree c.args.items.now.items);
     }
 
-pub write_items-returns-in_err-write_separator-clause-err : goal.write_items-returns-in_err-write_separator-clause-err
-write_items-returns-in_err-write_separator-clause-err g t c =
+pub write_items-returns-in_err-write_separator : goal.write_items-returns-in_err-write_separator
+write_items-returns-in_err-write_separator g t c =
     let f : Bor g.row.V.Denot → List ℕ = λ v. text (g.V.WasmValue.tree v.now) in
     let p = err_from_is_err_and c.from_residual-in_err-write_separator.result c.from_residual-in_err-write_separator.ensures.1 in
     let w = writing_item f c.deref-item-items.result.now c.loop-item.item-index c.item-item.result _ _ c.loop-item-test.true c.item-item.is c.loop-item.invariant.writing in
-    rw (p.1, p.2) (writing_refused_text _ w c.in_err-write_separator.ensures.err)
+    rw (p.1, p.2) (writing_refused_text _ w c.in_err-write_separator.ensures)
 
 pub write_items-write_value-requires : goal.write_items-write_value-requires
 write_items-write_value-requires g t c κs within =
@@ -43,19 +43,20 @@ write_items-write_value-requires g t c κs within =
     let h = part_depth depth tree c.deref-item-items.result.now _ c.loop-item.item-index c.item-item.result c.deref-item-items.ensures.value c.loop-item-test.true c.item-item.is in
     (omega (arith, h), within)
 
-pub write_items-returns-in_err-write_value-clause-err : goal.write_items-returns-in_err-write_value-clause-err
-write_items-returns-in_err-write_value-clause-err g t c =
+pub write_items-returns-in_err-write_value : goal.write_items-returns-in_err-write_value
+write_items-returns-in_err-write_value g t c =
     let f : Bor g.row.V.Denot → List ℕ = λ v. text (g.V.WasmValue.tree v.now) in
     let ok : Bor g.row.V.Denot → Bool = λ v. has_text (g.V.WasmValue.tree v.now) in
     let p = err_from_is_err_and c.from_residual-in_err-write_value.result c.from_residual-in_err-write_value.ensures.1 in
     let w = writing_item f c.deref-item-items.result.now c.loop-item.item-index c.item-item.result _ _ c.loop-item-test.true c.item-item.is c.loop-item.invariant.writing in
     rw (p.1, p.2) (writing_refused _ (writing_more w c.in_ok-write_separator.ensures.ok) (item_blocks ok c.deref-item-items.result.now c.loop-item.item-index c.item-item.result _ c.loop-item-test.true c.item-item.is c.loop-item.invariant.writable) c.in_err-write_value.ensures.err)
 
-pub write_items-returns-clause-err : goal.write_items-returns-clause-err
-write_items-returns-clause-err g t c =
+pub write_items-returns : goal.write_items-returns
+write_items-returns g t c =
     let f : Bor g.row.V.Denot → List ℕ = λ v. text (g.V.WasmValue.tree v.now) in
+    let ok : Bor g.row.V.Denot → Bool = λ v. has_text (g.V.WasmValue.tree v.now) in
     let w = writing_close f c.deref-item-items.result.now c.loop-item.item-index _ _ c.loop-item-test.false c.loop-item.invariant.writing in
-    IfErr-weaker _ _ _ (λ e r. writing_last_text w r) c.write_text-2.ensures.err
+    writing_last w (items_pass ok c.deref-item-items.result.now c.loop-item.item-index _ c.loop-item-test.false c.loop-item.invariant.writable) c.write_text-2.ensures
 
 -- a list
 
@@ -65,20 +66,10 @@ write_list-write_items-requires g t c κs within =
     let d = s.depth_is in
     (omega (arith, d), within)
 
-pub write_list-returns-clause-ok : goal.write_list-returns-clause-ok
-write_list-returns-clause-ok g t c =
+pub write_list-returns : goal.write_list-returns
+write_list-returns g t c =
     let s = list_sequence _ _ c.requires c.in_ok-items.ensures in
-    rw (s.text_is) c.write_items.ensures.ok
-
-pub write_list-returns-clause-writable : goal.write_list-returns-clause-writable
-write_list-returns-clause-writable g t c =
-    let s = list_sequence _ _ c.requires c.in_ok-items.ensures in
-    rw (s.writable_is) c.write_items.ensures.writable
-
-pub write_list-returns-clause-err : goal.write_list-returns-clause-err
-write_list-returns-clause-err g t c =
-    let s = list_sequence _ _ c.requires c.in_ok-items.ensures in
-    rw (s.text_is, s.writable_is) c.write_items.ensures.err
+    rw (s.text_is, s.writable_is) c.write_items.ensures
 
 -- a tuple
 
@@ -88,25 +79,15 @@ write_tuple-write_items-requires g t c κs within =
     let d = s.depth_is in
     (omega (arith, d), within)
 
-pub write_tuple-returns-clause-ok : goal.write_tuple-returns-clause-ok
-write_tuple-returns-clause-ok g t c =
+pub write_tuple-returns : goal.write_tuple-returns
+write_tuple-returns g t c =
     let s = tuple_sequence _ _ c.requires c.in_ok-items.ensures in
-    rw (s.text_is) c.write_items.ensures.ok
-
-pub write_tuple-returns-clause-writable : goal.write_tuple-returns-clause-writable
-write_tuple-returns-clause-writable g t c =
-    let s = tuple_sequence _ _ c.requires c.in_ok-items.ensures in
-    rw (s.writable_is) c.write_items.ensures.writable
-
-pub write_tuple-returns-clause-err : goal.write_tuple-returns-clause-err
-write_tuple-returns-clause-err g t c =
-    let s = tuple_sequence _ _ c.requires c.in_ok-items.ensures in
-    rw (s.text_is, s.writable_is) c.write_items.ensures.err
+    rw (s.text_is, s.writable_is) c.write_items.ensures
 
 -- a record
 
-pub write_record-returns-in_err-fields-clause-err : goal.write_record-returns-in_err-fields-clause-err
-write_record-returns-in_err-fields-clause-err g t c =
+pub write_record-returns-in_err-fields : goal.write_record-returns-in_err-fields
+write_record-returns-in_err-fields g t c =
     let p = err_from_is_err_and c.from_residual.result c.from_residual.ensures.1 in
     rw (p.1, p.2) (refused_before _ _ _ _)
 
@@ -119,29 +100,29 @@ write_record-loop-field-init g t c =
       writable = sym (s.writable_is ∙ all_map (λ (x : List ℕ × Value). has_text x.1) f c.deref-field-items.result.now);
     }
 
-pub write_record-returns-in_err-write_either-clause-err : goal.write_record-returns-in_err-write_either-clause-err
-write_record-returns-in_err-write_either-clause-err g t c =
+pub write_record-returns-in_err-write_either : goal.write_record-returns-in_err-write_either
+write_record-returns-in_err-write_either g t c =
     let f : Bor (List ℕ) × Bor g.row.V.Denot → List ℕ × Value = λ x. (x.0.now, g.V.WasmValue.tree x.1.now) in
     let some = sym c.is_none.ensures ∙ c.if-is_none.false in
     let w = writing_field f c.deref-field-items.result.now c.loop-field.field-index c.field-item.result _ c.loop-field-test.true c.field-item.is some c.loop-field.invariant.writing in
     let p = err_from_is_err_and c.from_residual-in_err-write_either.result c.from_residual-in_err-write_either.ensures.1 in
-    rw (p.1, p.2) (writing_refused_text _ w c.in_err-write_either.ensures.err)
+    rw (p.1, p.2) (writing_refused_text _ w c.in_err-write_either.ensures)
 
-pub write_record-returns-in_err-write_text-clause-err : goal.write_record-returns-in_err-write_text-clause-err
-write_record-returns-in_err-write_text-clause-err g t c =
+pub write_record-returns-in_err-write_text : goal.write_record-returns-in_err-write_text
+write_record-returns-in_err-write_text g t c =
     let f : Bor (List ℕ) × Bor g.row.V.Denot → List ℕ × Value = λ x. (x.0.now, g.V.WasmValue.tree x.1.now) in
     let some = sym c.is_none.ensures ∙ c.if-is_none.false in
     let w = writing_field f c.deref-field-items.result.now c.loop-field.field-index c.field-item.result _ c.loop-field-test.true c.field-item.is some c.loop-field.invariant.writing in
     let p = err_from_is_err_and c.from_residual-in_err-write_text.result c.from_residual-in_err-write_text.ensures.1 in
-    rw (p.1, p.2) (writing_refused_text _ (writing_more w c.in_ok-write_either.ensures.ok) c.in_err-write_text.ensures.err)
+    rw (p.1, p.2) (writing_refused_text _ (writing_more w c.in_ok-write_either.ensures.ok) c.in_err-write_text.ensures)
 
-pub write_record-returns-in_err-write_text-2-clause-err : goal.write_record-returns-in_err-write_text-2-clause-err
-write_record-returns-in_err-write_text-2-clause-err g t c =
+pub write_record-returns-in_err-write_text-2 : goal.write_record-returns-in_err-write_text-2
+write_record-returns-in_err-write_text-2 g t c =
     let f : Bor (List ℕ) × Bor g.row.V.Denot → List ℕ × Value = λ x. (x.0.now, g.V.WasmValue.tree x.1.now) in
     let some = sym c.is_none.ensures ∙ c.if-is_none.false in
     let w = writing_field f c.deref-field-items.result.now c.loop-field.field-index c.field-item.result _ c.loop-field-test.true c.field-item.is some c.loop-field.invariant.writing in
     let p = err_from_is_err_and c.from_residual-in_err-write_text-2.result c.from_residual-in_err-write_text-2.ensures.1 in
-    rw (p.1, p.2) (writing_refused_text _ (writing_more (writing_more w c.in_ok-write_either.ensures.ok) c.in_ok-write_text.ensures.ok) c.in_err-write_text-2.ensures.err)
+    rw (p.1, p.2) (writing_refused_text _ (writing_more (writing_more w c.in_ok-write_either.ensures.ok) c.in_ok-write_text.ensures.ok) c.in_err-write_text-2.ensures)
 
 pub write_record-write_value-requires : goal.write_record-write_value-requires
 write_record-write_value-requires g t c κs within =
@@ -151,19 +132,19 @@ write_record-write_value-requires g t c κs within =
     let h = part_depth (λ (x : List ℕ × Value). depth x.1) f c.deref-field-items.result.now _ c.loop-field.field-index c.field-item.result c.deref-field-items.ensures.value c.loop-field-test.true c.field-item.is in
     (omega (arith, h, d), within)
 
-pub write_record-returns-in_err-write_value-clause-err : goal.write_record-returns-in_err-write_value-clause-err
-write_record-returns-in_err-write_value-clause-err g t c =
+pub write_record-returns-in_err-write_value : goal.write_record-returns-in_err-write_value
+write_record-returns-in_err-write_value g t c =
     let f : Bor (List ℕ) × Bor g.row.V.Denot → List ℕ × Value = λ x. (x.0.now, g.V.WasmValue.tree x.1.now) in
     let some = sym c.is_none.ensures ∙ c.if-is_none.false in
     let w = writing_field f c.deref-field-items.result.now c.loop-field.field-index c.field-item.result _ c.loop-field-test.true c.field-item.is some c.loop-field.invariant.writing in
     let p = err_from_is_err_and c.from_residual-in_err-write_value.result c.from_residual-in_err-write_value.ensures.1 in
     rw (p.1, p.2) (writing_refused _ (writing_more (writing_more (writing_more w c.in_ok-write_either.ensures.ok) c.in_ok-write_text.ensures.ok) c.in_ok-write_text-2.ensures.ok) (item_blocks (λ (x : Bor (List ℕ) × Bor g.row.V.Denot). has_text (g.V.WasmValue.tree x.1.now)) c.deref-field-items.result.now c.loop-field.field-index c.field-item.result _ c.loop-field-test.true c.field-item.is c.loop-field.invariant.writable) c.in_err-write_value.ensures.err)
 
-pub write_record-returns-clause-err : goal.write_record-returns-clause-err
-write_record-returns-clause-err g t c =
+pub write_record-returns : goal.write_record-returns
+write_record-returns g t c =
     let f : Bor (List ℕ) × Bor g.row.V.Denot → List ℕ × Value = λ x. (x.0.now, g.V.WasmValue.tree x.1.now) in
     let w = writing_record_close f c.deref-field-items.result.now c.loop-field.field-index _ c.loop-field-test.false c.loop-field.invariant.writing in
-    IfErr-weaker _ _ _ (λ e r. writing_refused_text [] w r) c.write_either-2.ensures.err
+    writing_last w (items_pass (λ (x : Bor (List ℕ) × Bor g.row.V.Denot). has_text (g.V.WasmValue.tree x.1.now)) c.deref-field-items.result.now c.loop-field.field-index _ c.loop-field-test.false c.loop-field.invariant.writable) c.write_either-2.ensures
 
 pub write_record-loop-field-preserved : goal.write_record-loop-field-preserved
 write_record-loop-field-preserved g t c =
@@ -177,36 +158,36 @@ write_record-loop-field-preserved g t c =
 
 -- payloads
 
-pub write_variant-returns-clause-err : goal.write_variant-returns-clause-err
-write_variant-returns-clause-err g t c =
+pub write_variant-returns : goal.write_variant-returns
+write_variant-returns g t c =
     let w = start_written _ (ap text c.unwrap_variant.ensures ∙ variant_text c.unwrap_variant.result.0.now (shown g.V.WasmValue.tree c.unwrap_variant.result.1)) c.in_ok-write_case.ensures.ok in
     let ok = ap has_text c.unwrap_variant.ensures ∙ variant_writable c.unwrap_variant.result.0.now (shown g.V.WasmValue.tree c.unwrap_variant.result.1) in
-    IfErr-weaker _ _ _ (λ e r. writing_last w ok r) c.write_payload.ensures.err
+    writing_last w ok c.write_payload.ensures
 
-pub write_option-returns-in_err-write_text-in-Some-clause-err : goal.write_option-returns-in_err-write_text-in-Some-clause-err
-write_option-returns-in_err-write_text-in-Some-clause-err g t c =
+pub write_option-returns-in_err-write_text-in-Some : goal.write_option-returns-in_err-write_text-in-Some
+write_option-returns-in_err-write_text-in-Some g t c =
     let p = err_from_is_err_and c.from_residual.result c.from_residual.ensures.1 in
-    rw (p.1, p.2) (start_refused _ (ap text c.in-Some.ensures) c.in_err-write_text-in-Some.ensures.err)
+    rw (p.1, p.2) (start_refused _ (ap text c.in-Some.ensures) c.in_err-write_text-in-Some.ensures)
 
-pub write_result-returns-in_err-write_text-in-Ok-clause-err : goal.write_result-returns-in_err-write_text-in-Ok-clause-err
-write_result-returns-in_err-write_text-in-Ok-clause-err g t c =
+pub write_result-returns-in_err-write_text-in-Ok : goal.write_result-returns-in_err-write_text-in-Ok
+write_result-returns-in_err-write_text-in-Ok g t c =
     let p = err_from_is_err_and c.from_residual.result c.from_residual.ensures.1 in
-    rw (p.1, p.2) (start_refused _ (ap text c.in-Ok.ensures ∙ ok_text _) c.in_err-write_text-in-Ok.ensures.err)
+    rw (p.1, p.2) (start_refused _ (ap text c.in-Ok.ensures ∙ ok_text _) c.in_err-write_text-in-Ok.ensures)
 
-pub write_result-returns-in_err-write_text-in-Err-clause-err : goal.write_result-returns-in_err-write_text-in-Err-clause-err
-write_result-returns-in_err-write_text-in-Err-clause-err g t c =
+pub write_result-returns-in_err-write_text-in-Err : goal.write_result-returns-in_err-write_text-in-Err
+write_result-returns-in_err-write_text-in-Err g t c =
     let p = err_from_is_err_and c.from_residual-in_err-write_text-in-Err.result c.from_residual-in_err-write_text-in-Err.ensures.1 in
-    rw (p.1, p.2) (start_refused _ (ap text c.in-Err.ensures ∙ err_text _) c.in_err-write_text-in-Err.ensures.err)
+    rw (p.1, p.2) (start_refused _ (ap text c.in-Err.ensures ∙ err_text _) c.in_err-write_text-in-Err.ensures)
 
-pub write_payload-returns-in_err-write_text-in-Some-clause-err : goal.write_payload-returns-in_err-write_text-in-Some-clause-err
-write_payload-returns-in_err-write_text-in-Some-clause-err g t c =
+pub write_payload-returns-in_err-write_text-in-Some : goal.write_payload-returns-in_err-write_text-in-Some
+write_payload-returns-in_err-write_text-in-Some g t c =
     let p = err_from_is_err_and c.from_residual.result c.from_residual.ensures.1 in
-    rw (p.1, p.2) (start_refused _ (ap (λ o. payload_text (shown g.V.WasmValue.tree o)) c.in-Some.is) c.in_err-write_text-in-Some.ensures.err)
+    rw (p.1, p.2) (start_refused _ (ap (λ o. payload_text (shown g.V.WasmValue.tree o)) c.in-Some.is) c.in_err-write_text-in-Some.ensures)
 
-pub write_payload-returns-in_ok-write_value-in-Some-clause-err : goal.write_payload-returns-in_ok-write_value-in-Some-clause-err
-write_payload-returns-in_ok-write_value-in-Some-clause-err g t c =
+pub write_payload-returns-in_ok-write_value-in-Some : goal.write_payload-returns-in_ok-write_value-in-Some
+write_payload-returns-in_ok-write_value-in-Some g t c =
     let w = writing_more (start_written _ (ap (λ o. payload_text (shown g.V.WasmValue.tree o)) c.in-Some.is) c.in_ok-write_text-in-Some.ensures.ok) c.in_ok-write_value-in-Some.ensures.ok in
-    IfErr-weaker _ _ _ (λ e r. writing_refused_text [] w r) c.write_text-in-Some.ensures.err
+    writing_last w (ap (λ o. has_payload_text (shown g.V.WasmValue.tree o)) c.in-Some.is ∙ c.in_ok-write_value-in-Some.ensures.writable) c.write_text-in-Some.ensures
 
 pub write_value-returns-in-F32-clause-err : goal.write_value-returns-in-F32-clause-err
 write_value-returns-in-F32-clause-err g t c =
@@ -219,17 +200,17 @@ write_map-merge_entries-requires g t c =
     let f : Bor g.row.V.Denot → Value = λ v. g.V.WasmValue.tree v.now in
     keys_are_leaves f _ _ c.in_ok-entries.ensures
 
-pub write_map-returns-in_err-merged-clause-err : goal.write_map-returns-in_err-merged-clause-err
-write_map-returns-in_err-merged-clause-err g t c =
+pub write_map-returns-in_err-merged : goal.write_map-returns-in_err-merged
+write_map-returns-in_err-merged g t c =
     let p = err_from_is_err_and c.from_residual-in_err-merged.result c.from_residual-in_err-merged.ensures.1 in
     rw (p.1, p.2) (refused_grounded _ _ _ _ c.in_err-merged.ensures.err)
 
-pub write_map-returns-in_err-write_text-clause-err : goal.write_map-returns-in_err-write_text-clause-err
-write_map-returns-in_err-write_text-clause-err g t c =
+pub write_map-returns-in_err-write_text : goal.write_map-returns-in_err-write_text
+write_map-returns-in_err-write_text g t c =
     let f : Bor g.row.V.Denot → Value = λ v. g.V.WasmValue.tree v.now in
     let s = written_map f string_bytes _ c.in_ok-entries.entries.items c.requires.kind c.requires.formed c.in_ok-entries.ensures c.in_ok-merged.merged.items c.in_ok-merged.ensures.ok in
     let p = err_from_is_err_and c.from_residual-in_err-write_text.result c.from_residual-in_err-write_text.ensures.1 in
-    rw (p.1, p.2) (start_refused _ s.text_is c.in_err-write_text.ensures.err)
+    rw (p.1, p.2) (start_refused _ s.text_is c.in_err-write_text.ensures)
 
 pub write_map-loop-entry-init : goal.write_map-loop-entry-init
 write_map-loop-entry-init g t c =
@@ -242,29 +223,29 @@ write_map-loop-entry-init g t c =
       writable = sym s.writable_is;
     }
 
-pub write_map-returns-in_err-write_separator-clause-err : goal.write_map-returns-in_err-write_separator-clause-err
-write_map-returns-in_err-write_separator-clause-err g t c =
+pub write_map-returns-in_err-write_separator : goal.write_map-returns-in_err-write_separator
+write_map-returns-in_err-write_separator g t c =
     let key : String Global × Bor g.row.V.Denot → List ℕ = λ e. string_bytes e.0 in
     let value : String Global × Bor g.row.V.Denot → List ℕ = λ e. text (g.V.WasmValue.tree e.1.now) in
     let p = err_from_is_err_and c.from_residual-in_err-write_separator.result c.from_residual-in_err-write_separator.ensures.1 in
     let w = writing_entry key value c.deref-entry-items.result.now c.loop-entry.entry-index c.entry-item.result _ _ _ c.loop-entry-test.true c.entry-item.is refl c.loop-entry.invariant.writing in
-    rw (p.1, p.2) (writing_refused_text _ w c.in_err-write_separator.ensures.err)
+    rw (p.1, p.2) (writing_refused_text _ w c.in_err-write_separator.ensures)
 
-pub write_map-returns-in_err-write_text-2-clause-err : goal.write_map-returns-in_err-write_text-2-clause-err
-write_map-returns-in_err-write_text-2-clause-err g t c =
+pub write_map-returns-in_err-write_text-2 : goal.write_map-returns-in_err-write_text-2
+write_map-returns-in_err-write_text-2 g t c =
     let key : String Global × Bor g.row.V.Denot → List ℕ = λ e. string_bytes e.0 in
     let value : String Global × Bor g.row.V.Denot → List ℕ = λ e. text (g.V.WasmValue.tree e.1.now) in
     let p = err_from_is_err_and c.from_residual-in_err-write_text-2.result c.from_residual-in_err-write_text-2.ensures.1 in
     let w = writing_entry key value c.deref-entry-items.result.now c.loop-entry.entry-index c.entry-item.result _ _ _ c.loop-entry-test.true c.entry-item.is c.as_str.ensures.value c.loop-entry.invariant.writing in
-    rw (p.1, p.2) (writing_refused_text _ (writing_more w c.in_ok-write_separator.ensures.ok) c.in_err-write_text-2.ensures.err)
+    rw (p.1, p.2) (writing_refused_text _ (writing_more w c.in_ok-write_separator.ensures.ok) c.in_err-write_text-2.ensures)
 
-pub write_map-returns-in_err-write_text-3-clause-err : goal.write_map-returns-in_err-write_text-3-clause-err
-write_map-returns-in_err-write_text-3-clause-err g t c =
+pub write_map-returns-in_err-write_text-3 : goal.write_map-returns-in_err-write_text-3
+write_map-returns-in_err-write_text-3 g t c =
     let key : String Global × Bor g.row.V.Denot → List ℕ = λ e. string_bytes e.0 in
     let value : String Global × Bor g.row.V.Denot → List ℕ = λ e. text (g.V.WasmValue.tree e.1.now) in
     let p = err_from_is_err_and c.from_residual-in_err-write_text-3.result c.from_residual-in_err-write_text-3.ensures.1 in
     let w = writing_entry key value c.deref-entry-items.result.now c.loop-entry.entry-index c.entry-item.result _ _ _ c.loop-entry-test.true c.entry-item.is c.as_str.ensures.value c.loop-entry.invariant.writing in
-    rw (p.1, p.2) (writing_refused_text _ (writing_more (writing_more w c.in_ok-write_separator.ensures.ok) c.in_ok-write_text-2.ensures.ok) c.in_err-write_text-3.ensures.err)
+    rw (p.1, p.2) (writing_refused_text _ (writing_more (writing_more w c.in_ok-write_separator.ensures.ok) c.in_ok-write_text-2.ensures.ok) c.in_err-write_text-3.ensures)
 
 pub write_map-write_value-requires : goal.write_map-write_value-requires
 write_map-write_value-requires g t c κs within =
@@ -273,8 +254,8 @@ write_map-write_value-requires g t c κs within =
     let d = all_at _ c.deref-entry-items.result.now c.deref-entry-items.result.now c.loop-entry.entry-index c.entry-item.result refl c.loop-entry-test.true c.entry-item.is s.depths_are in
     (omega (arith, d), within)
 
-pub write_map-returns-in_err-write_value-clause-err : goal.write_map-returns-in_err-write_value-clause-err
-write_map-returns-in_err-write_value-clause-err g t c =
+pub write_map-returns-in_err-write_value : goal.write_map-returns-in_err-write_value
+write_map-returns-in_err-write_value g t c =
     let key : String Global × Bor g.row.V.Denot → List ℕ = λ e. string_bytes e.0 in
     let value : String Global × Bor g.row.V.Denot → List ℕ = λ e. text (g.V.WasmValue.tree e.1.now) in
     let ok : String Global × Bor g.row.V.Denot → Bool = λ e. has_text (g.V.WasmValue.tree e.1.now) in
@@ -293,9 +274,10 @@ write_map-loop-entry-preserved g t c =
       writable = item_passes ok c.deref-entry-items.result.now c.loop-entry.entry-index c.entry-item.result _ c.loop-entry-test.true c.entry-item.is c.loop-entry.invariant.writable c.in_ok-write_value.ensures.writable;
     }
 
-pub write_map-returns-clause-err : goal.write_map-returns-clause-err
-write_map-returns-clause-err g t c =
+pub write_map-returns : goal.write_map-returns
+write_map-returns g t c =
     let key : String Global × Bor g.row.V.Denot → List ℕ = λ e. string_bytes e.0 in
     let value : String Global × Bor g.row.V.Denot → List ℕ = λ e. text (g.V.WasmValue.tree e.1.now) in
+    let ok : String Global × Bor g.row.V.Denot → Bool = λ e. has_text (g.V.WasmValue.tree e.1.now) in
     let w = writing_close (λ e. behind_name (key e) (value e)) c.deref-entry-items.result.now c.loop-entry.entry-index _ _ c.loop-entry-test.false c.loop-entry.invariant.writing in
-    IfErr-weaker _ _ _ (λ e r. writing_refused_text [] w r) c.write_text-2.ensures.err
+    writing_last w (items_pass ok c.deref-entry-items.result.now c.loop-entry.entry-index _ c.loop-entry-test.false c.loop-entry.invariant.writable) c.write_text-2.ensures

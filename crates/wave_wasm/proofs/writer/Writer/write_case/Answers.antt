@@ -3,13 +3,10 @@ use Rattle.wave_wasm.proofs.Labels.{keyword_labelled, name_labelled}
 use Rattle.wave_wasm.proofs.Writing.{start_refused}
 use Rattle.wave_wasm.proofs.writer.Writer.write_case.Goals as goal
 
-pub returns-in_err-write_text-in-Some-clause-err : goal.returns-in_err-write_text-in-Some-clause-err
-returns-in_err-write_text-in-Some-clause-err g c =
+pub returns-in_err-write_text-in-Some : goal.returns-in_err-write_text-in-Some
+returns-in_err-write_text-in-Some g c =
     let p = err_from_is_err_and c.from_residual.result c.from_residual.ensures.1 in
-    rw (p.1, p.2) (start_refused _ (keyword_labelled _ _ _ c.decode.ensures c.in-Some.is) c.in_err-write_text-in-Some.ensures.err)
+    rw (p.1, p.2) (start_refused _ (keyword_labelled _ _ _ c.decode.ensures c.in-Some.is) c.in_err-write_text-in-Some.ensures)
 
-pub returns-in-None-clause-ok : goal.returns-in-None-clause-ok
-returns-in-None-clause-ok g c = rw (name_labelled _ _ c.decode.ensures c.in-None.is) c.write_text-in-None.ensures.ok
-
-pub returns-in-None-clause-err : goal.returns-in-None-clause-err
-returns-in-None-clause-err g c = rw (name_labelled _ _ c.decode.ensures c.in-None.is) c.write_text-in-None.ensures.err
+pub returns-in-None : goal.returns-in-None
+returns-in-None g c = rw (name_labelled _ _ c.decode.ensures c.in-None.is) c.write_text-in-None.ensures

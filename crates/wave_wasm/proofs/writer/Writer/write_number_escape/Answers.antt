@@ -11,8 +11,8 @@ loop-part-init g c =
     let escape = c.escape_unicode-part-items.ensures in
     rw e (record { bound = escape.bound; writing = escape_start c.args.c _ _ small escape.rest })
 
-pub returns-in_err-write_text-clause-err : goal.returns-in_err-write_text-clause-err
-returns-in_err-write_text-clause-err g c =
+pub returns-in_err-write_text : goal.returns-in_err-write_text
+returns-in_err-write_text g c =
     let p = err_from_is_err_and c.from_residual.result c.from_residual.ensures.1 in
     let step = c.in-Some.ensures.steps in
-    rw (p.1, p.2) (writing_refused_text _ (escape_next _ _ _ c.in-Some.part step.1.0 c.encode_utf8.ensures.value c.loop-part.invariant.writing) c.in_err-write_text.ensures.err)
+    rw (p.1, p.2) (writing_refused_text _ (escape_next _ _ _ c.in-Some.part step.1.0 c.encode_utf8.ensures.value c.loop-part.invariant.writing) c.in_err-write_text.ensures)
