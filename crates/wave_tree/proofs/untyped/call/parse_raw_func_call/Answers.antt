@@ -42,7 +42,7 @@ returns-clause-value c =
     let params = c.in_ok-params.params in
     let (k, named, is) = c.in_ok-names.ensures.named in
     let place : c.with_lexer-parser.result.place ≡ behind_name s k = ap (λ (z : Parsing). z.place) (c.with_lexer-parser.ensures ∙ ap first_at (c.into_lexer.ensures ∙ is)) in
-    let name : c.span-name.result ≡ span 0 k = c.span-name.ensures ∙ ap (λ (z : Lexed). span z.start z.end) is in
+    let name : c.span-name.result ≡ span 0 k = c.span-name.ensures.span ∙ ap (λ (z : Lexed). span z.start z.end) is in
     let call : c.new.result ≡ record { source = s; name = span 0 k; params = params } = c.new.ensures ∙ (λ i. record { source = s; name = name i; params = params }) in
     subst (IsCalledOf s) (sym call) (called_of s k new params named (subst (λ (z : Place). AreParamsTaken z new params) place c.in_ok-params.ensures.taken) c.in_ok-finish.ensures.answer)
 
