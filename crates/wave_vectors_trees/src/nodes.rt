@@ -3,10 +3,10 @@ use std::test::Fail;
 use wasm_wave::ast::{CowStr, Node, NodeType};
 use wasm_wave::parser::{ParserError, ParserErrorKind};
 use wasm_wave::strings::StringPart;
-use wasm_wave::to_string;
 use wasm_wave::untyped::{UntypedFuncCall, UntypedValue};
 use wasm_wave::value::{Type, Value};
 use wave_vectors::cuts::is_told_at_each_cut;
+use wave_vectors::reading::told;
 use wave_vectors_types::reader::type_of;
 
 /// How many nodes there are.
@@ -241,14 +241,11 @@ fn copied(rt: HostRuntime, ty: &Type, value: &UntypedValue) -> Result<Value, Par
     }
 }
 
-/// What the text reads as by a copy of its node, printed.
+/// What the text reads as by a copy of its node, printed, or its refusal.
 fn printed(rt: HostRuntime, ty: &str, text: &str) -> Result<String, Fail> {
-    let val = copied(
-        rt,
-        &type_of(rt.alloc(), ty)?,
-        &UntypedValue::parse(rt.alloc(), text)?,
-    )?;
-    Ok(to_string(rt.alloc(), &val)?)
+    let ty = type_of(rt.alloc(), ty)?;
+    let value = UntypedValue::parse(rt.alloc(), text)?;
+    told(rt.alloc(), copied(rt, &ty, &value))
 }
 
 /// How many parameters the call's node has; nothing where it has no node.

@@ -1,5 +1,6 @@
 //! What the views of values answer, and the displays of values.
 use std::test::Fail;
+use wasm_wave::parser::ParserError;
 use wasm_wave::value::{Type, Value};
 use wasm_wave::wasm::{DisplayFuncArgs, DisplayFuncResults, DisplayValue, WasmTypeKind};
 use wasm_wave::{from_str, to_string};
@@ -94,12 +95,18 @@ fn viewed(rt: HostRuntime, val: &Value) -> Result<String, Fail> {
     }
 }
 
-/// What the view answers of the text read at the type, or how it is refused.
-fn read(rt: HostRuntime, ty: &str, text: &str) -> Result<String, Fail> {
-    match from_str::<Value>(rt.alloc(), &type_of(rt.alloc(), ty)?, text) {
+/// What the view of a value answers, or a refusal.
+fn told(rt: HostRuntime, answer: Result<Value, ParserError>) -> Result<String, Fail> {
+    match answer {
         Ok(val) => viewed(rt, &val),
         Err(error) => Ok(format!(in rt.alloc(); "{error}")?),
     }
+}
+
+/// What the view answers of the text read at the type, or how it is refused.
+fn read(rt: HostRuntime, ty: &str, text: &str) -> Result<String, Fail> {
+    let ty = type_of(rt.alloc(), ty)?;
+    told(rt, from_str::<Value>(rt.alloc(), &ty, text))
 }
 
 /// The first text at a type whose value's view answers otherwise, with its answer; nothing where
@@ -193,11 +200,18 @@ fn arguments_and_results(rt: HostRuntime) -> Result<(), Fail> {
     Ok(())
 }
 
+/// The value, written and displayed.
+fn texts(rt: HostRuntime, val: &Value) -> Result<String, Fail> {
+    let mut texts = to_string(rt.alloc(), val)?;
+    let shown = format!(in rt.alloc(); "{}", DisplayValue::new(rt.alloc(), val))?;
+    texts.push_str(shown.as_str())?;
+    Ok(texts)
+}
+
 /// The char, written and displayed.
 fn char_text(rt: HostRuntime, c: char) -> Result<String, Fail> {
     let val = Value::make_char(rt.alloc(), c)?;
-    let shown = DisplayValue::new(rt.alloc(), &val);
-    Ok(format!(in rt.alloc(); "{shown}{}", to_string(rt.alloc(), &val)?)?)
+    texts(rt, &val)
 }
 
 /// The first char that is written or displayed otherwise, with its texts; nothing where there is none.
