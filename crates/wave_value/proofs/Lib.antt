@@ -14,3 +14,4 @@ pub mod MadeResult
 pub mod MadeRecord
 pub mod LawfulRecord
 pub mod Refusals
+pub mod Views

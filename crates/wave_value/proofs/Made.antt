@@ -58,7 +58,7 @@ tells_so words kind T stated U v _ is one other says = absurd says
 
 -- ---- lists
 
-all_own : (E : TypeTree) (vs : List TypedValue) → AllAt E vs → AllOwn E vs
+pub all_own : (E : TypeTree) (vs : List TypedValue) → AllAt E vs → AllOwn E vs
 all_own E [] h = tt
 all_own E (v ∷ vs) h = (h.0.own, all_own E vs h.1)
 

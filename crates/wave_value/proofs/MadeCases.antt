@@ -80,7 +80,7 @@ variant_made T own name i p q same e given h =
     λ j. value.variant (called j) (maybe_value (payload_tree (given j))) in
     record { own = same; tree = means; fits = subst (λ U. HasType U (value.variant name (maybe_value (payload_tree q)))) same (subst (HasType own) means (variant_value own i p h)) }
 
-own_payload : (P : Option TypeTree) (p : Option TypedValue) → PayloadAt P p → PayloadOwn P p
+pub own_payload : (P : Option TypeTree) (p : Option TypedValue) → PayloadAt P p → PayloadOwn P p
 own_payload None None at = tt
 own_payload None (Some v) at = absurd at
 own_payload (Some T) None at = absurd at

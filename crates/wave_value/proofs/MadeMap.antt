@@ -30,7 +30,7 @@ map_fits T own A B es same e h =
     let (K, key, is) = map_is T A B e in
     subst (λ U. MapFits U es) (sym (same ∙ is)) (subst (λ Z. EntriesAt Z B es) key h)
 
-entries_own : (A B : TypeTree) (es : List (TypedValue × TypedValue)) → EntriesAt A B es → EntriesOwn A B es
+pub entries_own : (A B : TypeTree) (es : List (TypedValue × TypedValue)) → EntriesAt A B es → EntriesOwn A B es
 entries_own A B [] h = tt
 entries_own A B (e ∷ es) h = (h.0.0.own, h.0.1.own, entries_own A B es h.1)
 

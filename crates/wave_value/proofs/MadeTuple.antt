@@ -27,7 +27,7 @@ pub tuple_is : (T : TypeTree) (Us : List TypeTree) → Some (types_of Us) ≡ tu
 tuple_is (type.tuple Ts) Us e = ap type.tuple (same_Some (types_of Us) Ts e)
 tuple_is _ Us e = absurd (cc)
 
-each_own : (Ts : List TypeTree) (vs : List TypedValue) → EachAt Ts vs → EachOwn Ts vs
+pub each_own : (Ts : List TypeTree) (vs : List TypedValue) → EachAt Ts vs → EachOwn Ts vs
 each_own [] [] h = tt
 each_own [] (v ∷ vs) h = absurd h
 each_own (T ∷ Ts) [] h = absurd h

@@ -6,6 +6,8 @@ ghost use Rattle.wave_wasm.specs.Values.{kind_of, maybe_value, list_items, tuple
 ghost use Rattle.wave_wasm.specs.Borrowed.{texts, shown, shown_all, shown_fields, shown_pairs, shown_either};
 ghost use Rattle.wave_wasm.specs.ConstructorContracts.{IsOfListKind, result_value, leaf_entries};
 ghost use Rattle.wave_value.specs.ValueModel.{trees, name_at, first_names, beside};
+ghost use Rattle.wave_value.specs.ConstructorRules.{TakesList, TakesTuple, TakesOption, TakesResult};
+ghost use Rattle.wave_value.specs.CaseRules.{TakesVariant, TakesMap};
 
 use super::{Content, Type, Value};
 use std::alloc::{AllocError, Global};
@@ -17,7 +19,8 @@ impl Value {
     /// The items. It asks for a list. The only error is want of memory.
     pub fn unwrap_list(&self, alloc: Global) -> Result<Vec<&Value>, AllocError>
         requires { IsOfListKind (kind_of self.now.tree) }
-        ensures { IfOk result (λ v. shown_all (λ w. w.tree) v.items ≡ list_items self.now.tree) }
+        ensures trees { IfOk result (λ v. shown_all (λ w. w.tree) v.items ≡ list_items self.now.tree) }
+        ensures own { IfOk result (λ v. TakesList self.now.own (shown_all (λ w. w) v.items)) }
     {
         match &self.content {
             Content::List(vals) => borrowed_values(alloc, vals),
@@ -28,7 +31,8 @@ impl Value {
     /// The items. It asks for a tuple. The only error is want of memory.
     pub fn unwrap_tuple(&self, alloc: Global) -> Result<Vec<&Value>, AllocError>
         requires { kind_of self.now.tree ≡ WasmTypeKind.Tuple }
-        ensures { IfOk result (λ v. shown_all (λ w. w.tree) v.items ≡ tuple_items self.now.tree) }
+        ensures trees { IfOk result (λ v. shown_all (λ w. w.tree) v.items ≡ tuple_items self.now.tree) }
+        ensures own { IfOk result (λ v. TakesTuple self.now.own (shown_all (λ w. w) v.items)) }
     {
         match &self.content {
             Content::Tuple(vals) => borrowed_values(alloc, vals),
@@ -51,8 +55,9 @@ impl Value {
     /// The entries in their order. It asks for a map. The only error is want of memory.
     pub fn unwrap_map(&self, alloc: Global) -> Result<Vec<(&Value, &Value)>, AllocError>
         requires { kind_of self.now.tree ≡ WasmTypeKind.Map }
-        ensures { IfOk result
+        ensures trees { IfOk result
             (λ v. shown_pairs (λ w. w.tree) v.items ≡ leaf_entries (map_entries self.now.tree)) }
+        ensures own { IfOk result (λ v. TakesMap self.now.own (shown_pairs (λ w. w) v.items)) }
     {
         match &self.content {
             Content::Map(entries) => {
@@ -66,7 +71,8 @@ impl Value {
     /// The case and its payload. It asks for a variant.
     pub fn unwrap_variant(&self) -> (&str, Option<&Value>)
         requires { kind_of self.now.tree ≡ WasmTypeKind.Variant }
-        ensures { self.now.tree ≡ value.variant result.0.now (maybe_value (shown (λ w. w.tree) result.1)) }
+        ensures tree { self.now.tree ≡ value.variant result.0.now (maybe_value (shown (λ w. w.tree) result.1)) }
+        ensures own { TakesVariant self.now.own result.0.now (shown (λ w. w) result.1) }
     {
         match &self.content {
             Content::Variant(place, Some(val)) => (variant_name(&self.own, *place), Some(&**val)),
@@ -89,7 +95,8 @@ impl Value {
     /// The payload of `some`, or none. It asks for an option.
     pub fn unwrap_option(&self) -> Option<&Value>
         requires { kind_of self.now.tree ≡ WasmTypeKind.Option }
-        ensures { self.now.tree ≡ value.option (maybe_value (shown (λ w. w.tree) result)) }
+        ensures tree { self.now.tree ≡ value.option (maybe_value (shown (λ w. w.tree) result)) }
+        ensures own { TakesOption self.now.own (shown (λ w. w) result) }
     {
         match &self.content {
             Content::Option(Some(val)) => Some(&**val),
@@ -101,7 +108,8 @@ impl Value {
     /// The payload of `ok` or of `err`. It asks for a result.
     pub fn unwrap_result(&self) -> Result<Option<&Value>, Option<&Value>>
         requires { kind_of self.now.tree ≡ WasmTypeKind.Result }
-        ensures { self.now.tree ≡ result_value (shown_either (λ w. w.tree) result) }
+        ensures tree { self.now.tree ≡ result_value (shown_either (λ w. w.tree) result) }
+        ensures own { TakesResult self.now.own (shown_either (λ w. w) result) }
     {
         match &self.content {
             Content::Ok(Some(val)) => Ok(Some(&**val)),
@@ -127,7 +135,8 @@ impl Value {
 
 // The values, in their order.
 fn borrowed_values(alloc: Global, values: &Vec<Value>) -> Result<Vec<&Value>, AllocError>
-    ensures { IfOk result (λ v. shown_all (λ w. w.tree) v.items ≡ trees values.now.items) }
+    ensures trees { IfOk result (λ v. shown_all (λ w. w.tree) v.items ≡ trees values.now.items) }
+    ensures values { IfOk result (λ v. shown_all (λ w. w) v.items ≡ values.now.items) }
 {
     let mut answer = Vec::new(alloc);
     for value in values {
@@ -172,8 +181,9 @@ fn borrowed_entries(
     alloc: Global,
     entries: &Vec<(Value, Value)>,
 ) -> Result<Vec<(&Value, &Value)>, AllocError>
-    ensures { IfOk result
+    ensures trees { IfOk result
         (λ v. shown_pairs (λ w. w.tree) v.items ≡ map (λ e. (e.0.tree, e.1.tree)) entries.now.items) }
+    ensures entries { IfOk result (λ v. shown_pairs (λ w. w) v.items ≡ entries.now.items) }
 {
     let mut answer = Vec::new(alloc);
     for entry in entries {

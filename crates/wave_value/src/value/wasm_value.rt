@@ -13,9 +13,9 @@ impl WasmValue for Value {
     ghost use Rattle.wave_wasm.specs.Types as type;
     ghost use Rattle.wave_wasm.specs.Types.{flags_names};
     ghost use Rattle.wave_wasm.specs.Values as value;
-    ghost use Rattle.wave_wasm.specs.Values.{values, maybe_value, IsSound};
-    ghost use Rattle.wave_wasm.specs.Borrowed.{texts, named};
-    ghost use Rattle.wave_wasm.specs.ConstructorContracts.{IsMemory, result_value, either_tree, MakesList, MakesTuple, MakesRecord, MakesVariant, MakesEnum, MakesOption, MakesResult, MakesFlags, MakesMap, FullList, FullTuple, FullRecord, FullVariant, FullEnum, FullOption, FullResult, FullFlags, FullMap};
+    ghost use Rattle.wave_wasm.specs.Values.{kind_of, values, maybe_value, list_items, tuple_items, map_entries, IsSound};
+    ghost use Rattle.wave_wasm.specs.Borrowed.{texts, named, shown, shown_all, shown_pairs, shown_either};
+    ghost use Rattle.wave_wasm.specs.ConstructorContracts.{IsMemory, IsOfListKind, leaf_entries, result_value, either_tree, MakesList, MakesTuple, MakesRecord, MakesVariant, MakesEnum, MakesOption, MakesResult, MakesFlags, MakesMap, FullList, FullTuple, FullRecord, FullVariant, FullEnum, FullOption, FullResult, FullFlags, FullMap};
     ghost use Rattle.wave_value.specs.ValueModel.{trees, payload_tree};
     ghost use Rattle.wave_value.specs.TypedValue.{IsAt, MakesOnly, typed_leaf};
     ghost use Rattle.wave_value.specs.ConstructorRules.{Made, TakesList, TakesTuple, TakesOption, TakesResult, TakesEnum, own_text, list_stated, option_stated, RefusesParts, RefusesTuple, RefusesResult, RefusesEnum};
@@ -258,11 +258,19 @@ impl WasmValue for Value {
         Value::unwrap_string(self)
     }
 
-    fn unwrap_list(&self, alloc: Global) -> Result<Vec<&Value>, AllocError> {
+    fn unwrap_list(&self, alloc: Global) -> Result<Vec<&Value>, AllocError>
+        requires { IsOfListKind (kind_of self.now.tree) }
+        ensures trees { IfOk result (λ v. shown_all (λ w. w.tree) v.items ≡ list_items self.now.tree) }
+        ensures own { IfOk result (λ v. TakesList self.now.own (shown_all (λ w. w) v.items)) }
+    {
         Value::unwrap_list(self, alloc)
     }
 
-    fn unwrap_tuple(&self, alloc: Global) -> Result<Vec<&Value>, AllocError> {
+    fn unwrap_tuple(&self, alloc: Global) -> Result<Vec<&Value>, AllocError>
+        requires { kind_of self.now.tree ≡ WasmTypeKind.Tuple }
+        ensures trees { IfOk result (λ v. shown_all (λ w. w.tree) v.items ≡ tuple_items self.now.tree) }
+        ensures own { IfOk result (λ v. TakesTuple self.now.own (shown_all (λ w. w) v.items)) }
+    {
         Value::unwrap_tuple(self, alloc)
     }
 
@@ -270,7 +278,11 @@ impl WasmValue for Value {
         Value::unwrap_record(self, alloc)
     }
 
-    fn unwrap_variant(&self) -> (&str, Option<&Value>) {
+    fn unwrap_variant(&self) -> (&str, Option<&Value>)
+        requires { kind_of self.now.tree ≡ WasmTypeKind.Variant }
+        ensures tree { self.now.tree ≡ value.variant result.0.now (maybe_value (shown (λ w. w.tree) result.1)) }
+        ensures own { TakesVariant self.now.own result.0.now (shown (λ w. w) result.1) }
+    {
         Value::unwrap_variant(self)
     }
 
@@ -278,11 +290,19 @@ impl WasmValue for Value {
         Value::unwrap_enum(self)
     }
 
-    fn unwrap_option(&self) -> Option<&Value> {
+    fn unwrap_option(&self) -> Option<&Value>
+        requires { kind_of self.now.tree ≡ WasmTypeKind.Option }
+        ensures tree { self.now.tree ≡ value.option (maybe_value (shown (λ w. w.tree) result)) }
+        ensures own { TakesOption self.now.own (shown (λ w. w) result) }
+    {
         Value::unwrap_option(self)
     }
 
-    fn unwrap_result(&self) -> Result<Option<&Value>, Option<&Value>> {
+    fn unwrap_result(&self) -> Result<Option<&Value>, Option<&Value>>
+        requires { kind_of self.now.tree ≡ WasmTypeKind.Result }
+        ensures tree { self.now.tree ≡ result_value (shown_either (λ w. w.tree) result) }
+        ensures own { TakesResult self.now.own (shown_either (λ w. w) result) }
+    {
         Value::unwrap_result(self)
     }
 
@@ -290,7 +310,12 @@ impl WasmValue for Value {
         Value::unwrap_flags(self, alloc)
     }
 
-    fn unwrap_map(&self, alloc: Global) -> Result<Vec<(&Value, &Value)>, AllocError> {
+    fn unwrap_map(&self, alloc: Global) -> Result<Vec<(&Value, &Value)>, AllocError>
+        requires { kind_of self.now.tree ≡ WasmTypeKind.Map }
+        ensures trees { IfOk result
+            (λ v. shown_pairs (λ w. w.tree) v.items ≡ leaf_entries (map_entries self.now.tree)) }
+        ensures own { IfOk result (λ v. TakesMap self.now.own (shown_pairs (λ w. w) v.items)) }
+    {
         Value::unwrap_map(self, alloc)
     }
 }
