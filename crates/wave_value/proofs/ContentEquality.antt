@@ -110,7 +110,7 @@ tuple_same _ vs ws h k = absurd h
 
 record_same : (T : TypeTree) (vs ws : List TypedValue) → RecordFits T vs → RecordFits T ws
     → same_all vs ws ≡ same_stored (stored_fields (field_values (beside (first_names (type.record_parts T)) (trees vs)))) (stored_fields (field_values (beside (first_names (type.record_parts T)) (trees ws))))
-record_same (type.record_type fs) vs ws h k = fields_same (field_list fs) vs ws h k
+record_same (type.record_type fs) vs ws h k = fields_same (field_list fs) vs ws h.1 k.1
 record_same _ vs ws h k = absurd h
 
 option_same : (T : TypeTree) (p q : Option TypedValue) → OptionFits T p → OptionFits T q → same_option p q ≡ same_stored (stored_maybe (maybe_value (payload_tree p))) (stored_maybe (maybe_value (payload_tree q)))

@@ -15,3 +15,4 @@ pub mod MadeRecord
 pub mod LawfulRecord
 pub mod Refusals
 pub mod Views
+pub mod RecordViews

@@ -217,7 +217,7 @@ fields_at under (f ∷ fs) (v ∷ vs) h = (h.1, fields_at under fs vs h.2)
 -- the values are at the fields of the type
 pub record_fits : (T : TypeTree) (parts : List (List ℕ × TypeTree)) (under : List ℕ → Option TypedValue) (vs : List TypedValue) → Some (fields_of parts) ≡ record_part T → InOrder parts under vs → RecordFits T vs
 record_fits T parts under vs is o =
-    subst (λ U. RecordFits U vs) (record_is T parts is) (subst (λ fs. FieldsAt fs vs) (sym (field_list-fields_of parts)) (fields_at under parts vs o.held))
+    subst (λ U. RecordFits U vs) (record_is T parts is) (subst (λ fs. AreDistinct (first_names fs) × FieldsAt fs vs) (sym (field_list-fields_of parts)) (o.distinct, fields_at under parts vs o.held))
 
 are_held : (under : List ℕ → Option TypedValue) (fs : List (List ℕ × TypeTree)) (vs : List TypedValue) → FieldsHeld under fs vs → map (λ f. under f.0) fs ≡ map Some vs
 are_held under [] [] h = refl
@@ -259,7 +259,7 @@ found (f ∷ fs) n (inl e) = some_stays (last_under fs n) (if bytes_eq f.0 n the
     yes false e some = absurd (false≢true e)
 found (f ∷ fs) n (inr h) = first_stays (last_under fs n) (if bytes_eq f.0 n then Some f.1 else None) (found fs n h)
 
-all_of : (names ms : List (List ℕ)) → ((n : List ℕ) → IsOneOf ms n → IsOneOf names n) → AreAllOf names ms
+pub all_of : (names ms : List (List ℕ)) → ((n : List ℕ) → IsOneOf ms n → IsOneOf names n) → AreAllOf names ms
 all_of names [] h = tt
 all_of names (m ∷ ms) h = (h m (inl refl), all_of names ms (λ n one. h n (inr one)))
 

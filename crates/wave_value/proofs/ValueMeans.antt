@@ -39,7 +39,7 @@ fields_mean (type.field n T fs) [] h = absurd h
 fields_mean (type.field n T fs) (v ∷ vs) h = (v.tree, field_values (beside (first_names (field_list fs)) (trees vs)), h.0.fits, fields_mean fs vs h.1, refl)
 
 pub record_value : (T : TypeTree) (vs : List TypedValue) → RecordFits T vs → HasType T (value.record_value (field_values (beside (first_names (type.record_parts T)) (trees vs))))
-record_value (type.record_type fs) vs h = (field_values (beside (first_names (field_list fs)) (trees vs)), fields_mean fs vs h, refl)
+record_value (type.record_type fs) vs h = (field_values (beside (first_names (field_list fs)) (trees vs)), fields_mean fs vs h.1, refl)
 record_value _ vs h = absurd h
 
 payload_means : (P : MaybeType) (p : Option TypedValue) → PayloadAt (type_option P) p → HasPayload P (maybe_value (payload_tree p))

@@ -1,6 +1,7 @@
 -- What a value's content means at its type, and what holds of it.
 use Rattle.std.specs.Prelude.{ℕ, zero, suc, ◌+◌, ◌≤◌, ◌<◌, ◌≡◌, ◌≢◌, List, [], ◌∷◌, map, length, Option, Some, None}
 use Rattle.wave_wasm.specs.Lists.{AllOf}
+use Rattle.wave_wasm.specs.Names.{AreDistinct}
 use Rattle.wave_wasm.specs.Types as type
 use Rattle.wave_wasm.specs.Types.{TypeTree, record_parts, variant_parts, enum_names, flags_names}
 use Rattle.wave_wasm.specs.Values as value
@@ -79,9 +80,9 @@ abbrev pub ListFits : TypeTree → List TypedValue → Type 0
 ListFits (type.list E) vs = AllAt E vs
 ListFits _ vs = ⊥
 
--- a record's fields
+-- a record's fields, whose names are distinct
 abbrev pub RecordFits : TypeTree → List TypedValue → Type 0
-RecordFits (type.record_type fs) vs = FieldsAt (type.field_list fs) vs
+RecordFits (type.record_type fs) vs = AreDistinct (first_names (type.field_list fs)) × FieldsAt (type.field_list fs) vs
 RecordFits _ vs = ⊥
 
 -- a tuple's items

@@ -1,4 +1,5 @@
-//! The parts of values.
+//! The parts of values. What is answered is also what the maker of that kind takes at the value's
+//! own type, so each part has the own type that is stated there.
 ghost use Rattle.std.specs.Prelude.{◌≡◌, IfOk, map};
 ghost use Rattle.wave_wasm.specs.Types.{flags_names, record_parts};
 ghost use Rattle.wave_wasm.specs.Values as value;
@@ -8,6 +9,7 @@ ghost use Rattle.wave_wasm.specs.ConstructorContracts.{IsOfListKind, result_valu
 ghost use Rattle.wave_value.specs.ValueModel.{trees, name_at, first_names, beside};
 ghost use Rattle.wave_value.specs.ConstructorRules.{TakesList, TakesTuple, TakesOption, TakesResult};
 ghost use Rattle.wave_value.specs.CaseRules.{TakesVariant, TakesMap};
+ghost use Rattle.wave_value.specs.RecordConstructor.{TakesRecord};
 
 use super::{Content, Type, Value};
 use std::alloc::{AllocError, Global};
@@ -44,7 +46,8 @@ impl Value {
     /// is want of memory.
     pub fn unwrap_record(&self, alloc: Global) -> Result<Vec<(&str, &Value)>, AllocError>
         requires { kind_of self.now.tree ≡ WasmTypeKind.Record }
-        ensures { IfOk result (λ v. shown_fields (λ w. w.tree) v.items ≡ record_fields self.now.tree) }
+        ensures trees { IfOk result (λ v. shown_fields (λ w. w.tree) v.items ≡ record_fields self.now.tree) }
+        ensures own { IfOk result (λ v. TakesRecord self.now.own (shown_fields (λ w. w) v.items)) }
     {
         match &self.content {
             Content::Record(vals) => borrowed_fields(alloc, &self.own, vals),
@@ -166,8 +169,9 @@ fn borrowed_fields<'a>(
     own: &'a Type,
     values: &'a Vec<Value>,
 ) -> Result<Vec<(&'a str, &'a Value)>, AllocError>
-    ensures { IfOk result
+    ensures trees { IfOk result
         (λ v. shown_fields (λ w. w.tree) v.items ≡ beside (first_names (record_parts own.now)) (trees values.now.items)) }
+    ensures values { IfOk result (λ v. map (λ f. f.1.now) v.items ≡ values.now.items) }
 {
     let mut answer = Vec::new(alloc);
     for i in 0..values.len() {

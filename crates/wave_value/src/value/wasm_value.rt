@@ -1,6 +1,6 @@
 //! A value is lawful: it is of its own type, and a type is full where its names are distinct. Beside
-//! the trait's clauses each maker has those of the maker of `Value` of the same name; a refusal
-//! shows a value by the text of its own type.
+//! the trait's clauses each maker and each view of values has those of the one of `Value` of the
+//! same name; a refusal shows a value by the text of its own type.
 use super::refusals::ByType;
 use super::{Type, Value};
 use std::alloc::{AllocError, Global};
@@ -13,8 +13,8 @@ impl WasmValue for Value {
     ghost use Rattle.wave_wasm.specs.Types as type;
     ghost use Rattle.wave_wasm.specs.Types.{flags_names};
     ghost use Rattle.wave_wasm.specs.Values as value;
-    ghost use Rattle.wave_wasm.specs.Values.{kind_of, values, maybe_value, list_items, tuple_items, map_entries, IsSound};
-    ghost use Rattle.wave_wasm.specs.Borrowed.{texts, named, shown, shown_all, shown_pairs, shown_either};
+    ghost use Rattle.wave_wasm.specs.Values.{kind_of, values, maybe_value, list_items, tuple_items, record_fields, map_entries, IsSound};
+    ghost use Rattle.wave_wasm.specs.Borrowed.{texts, named, shown, shown_all, shown_fields, shown_pairs, shown_either};
     ghost use Rattle.wave_wasm.specs.ConstructorContracts.{IsMemory, IsOfListKind, leaf_entries, result_value, either_tree, MakesList, MakesTuple, MakesRecord, MakesVariant, MakesEnum, MakesOption, MakesResult, MakesFlags, MakesMap, FullList, FullTuple, FullRecord, FullVariant, FullEnum, FullOption, FullResult, FullFlags, FullMap};
     ghost use Rattle.wave_value.specs.ValueModel.{trees, payload_tree};
     ghost use Rattle.wave_value.specs.TypedValue.{IsAt, MakesOnly, typed_leaf};
@@ -274,7 +274,11 @@ impl WasmValue for Value {
         Value::unwrap_tuple(self, alloc)
     }
 
-    fn unwrap_record(&self, alloc: Global) -> Result<Vec<(&str, &Value)>, AllocError> {
+    fn unwrap_record(&self, alloc: Global) -> Result<Vec<(&str, &Value)>, AllocError>
+        requires { kind_of self.now.tree ≡ WasmTypeKind.Record }
+        ensures trees { IfOk result (λ v. shown_fields (λ w. w.tree) v.items ≡ record_fields self.now.tree) }
+        ensures own { IfOk result (λ v. TakesRecord self.now.own (shown_fields (λ w. w) v.items)) }
+    {
         Value::unwrap_record(self, alloc)
     }
 
