@@ -1,22 +1,16 @@
 -- What the views of a value answer is what its maker takes at the value's own type.
-use Rattle.std.proofs.Common.{ℕ, zero, suc, ◌≡◌, List, [], ◌∷◌, Option, Some, None, Ok, Err, refl, inl, inr, subst, sym}
+use Rattle.std.proofs.Common.{ℕ, zero, suc, ◌≡◌, List, [], ◌∷◌, Option, refl, inl, inr, subst, sym}
 use Rattle.wave_wasm.specs.Types as type
 use Rattle.wave_wasm.specs.Types.{TypeTree, variant_parts}
 use Rattle.wave_value.specs.TypedValue.{TypedValue}
 use Rattle.wave_value.specs.ValueModel.{name_at, first_names}
-use Rattle.wave_value.specs.Private.ValueModel.{CaseAt, ListFits, TupleFits, VariantFits, OptionFits, OkFits, ErrFits, MapFits}
-use Rattle.wave_value.specs.ConstructorRules.{PayloadOwn, TakesList, TakesTuple, TakesOption, TakesResult}
+use Rattle.wave_value.specs.Private.ValueModel.{CaseAt, ListFits, TupleFits, VariantFits, MapFits}
+use Rattle.wave_value.specs.ConstructorRules.{PayloadOwn, TakesList, TakesTuple}
 use Rattle.wave_value.specs.CaseRules.{IsFirstCase, TakesVariant, TakesMap}
 use Rattle.wave_value.proofs.Made.{all_own}
 use Rattle.wave_value.proofs.MadeTuple.{each_own}
 use Rattle.wave_value.proofs.MadeMap.{entries_own}
 use Rattle.wave_value.proofs.MadeCases.{own_payload}
-
--- an option's payload
-pub option_taken : (T : TypeTree) (p : Option TypedValue) → OptionFits T p → TakesOption T p
-option_taken (type.option P) None h = tt
-option_taken (type.option P) (Some v) h = h.own
-option_taken _ p h = absurd h
 
 -- a list's items
 pub items_taken : (T : TypeTree) (vs ws : List TypedValue) → ListFits T vs → ws ≡ vs → TakesList T ws
@@ -32,16 +26,6 @@ places_taken _ vs ws h same = absurd h
 pub entries_taken : (T : TypeTree) (es ds : List (TypedValue × TypedValue)) → MapFits T es → ds ≡ es → TakesMap T ds
 entries_taken (type.map K V) es ds h same = subst (λ cs. TakesMap (type.map K V) cs) (sym same) (entries_own (type.simple K) V es h)
 entries_taken _ es ds h same = absurd h
-
--- the payload of `ok`
-pub ok_taken : (T : TypeTree) (p : Option TypedValue) → OkFits T p → TakesResult T (Ok p)
-ok_taken (type.result A B) p h = own_payload (type.type_option A) p h
-ok_taken _ p h = absurd h
-
--- the payload of `err`
-pub err_taken : (T : TypeTree) (p : Option TypedValue) → ErrFits T p → TakesResult T (Err p)
-err_taken (type.result A B) p h = own_payload (type.type_option B) p h
-err_taken _ p h = absurd h
 
 -- the case at a place, where it is the first of its name
 case_taken : (cs : List (List ℕ × Option TypeTree)) (i : ℕ) (p : Option TypedValue) → CaseAt cs i p → (P : Option TypeTree) × IsFirstCase cs (name_at (first_names cs) i) P × PayloadOwn P p
