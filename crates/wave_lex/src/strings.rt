@@ -43,7 +43,7 @@ impl<'a> Model for StringParts<'a> {
 
 impl<'a> StringParts<'a> {
     /// The parts of `src`, which stands at the byte `pos` of the source.
-    pub fn new(src: &'a str, pos: usize) -> StringParts<'a>
+    fn new(src: &'a str, pos: usize) -> StringParts<'a>
         requires { pos + length src.now + 3 < 2 ^ 64 }
         ensures { result ≡ record { rest = src.now; pos = pos } }
     {

@@ -15,6 +15,7 @@ fn flags(rt: HostRuntime) -> Result<(), Fail> {
                 &[
                     ("", "unexpected end of input at 0..0"),
                     ("{:}", "invalid value type at 0..3"),
+                    ("{}", "{}"),
                     ("{write, read,}", "{read, write}"),
                     (
                         "{read, nope}",

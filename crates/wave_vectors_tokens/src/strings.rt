@@ -1,7 +1,7 @@
 //! Rows of strings: their parts and escapes.
 use std::test::Fail;
 use wave_lex::error::ParserError;
-use wave_lex::strings::{StringPart, StringParts, StringPartsIter, unescape};
+use wave_lex::strings::{StringPart, StringPartsIter, unescape};
 
 /// The text of a part, and of a refusal in angle brackets.
 fn part_text(rt: HostRuntime, part: Result<StringPart, ParserError>) -> Result<String, Fail> {
@@ -38,7 +38,7 @@ fn told(rt: HostRuntime, part: Result<StringPart, ParserError>) -> Result<String
 #[test]
 fn one_part_after_the_other(rt: HostRuntime) -> Result<(), Fail> {
     let mut out = String::new(rt.alloc());
-    for part in StringParts::new("a\\tb", 1) {
+    for part in StringPartsIter::new("a\\tb", 1) {
         out.push_str(told(rt, part)?.as_str())?;
     }
     assert_eq!(rt; out.as_str(), "run a;char \t;run b;");

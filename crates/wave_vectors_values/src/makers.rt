@@ -74,6 +74,7 @@ fn parts(rt: HostRuntime, maker: &str, ty: &Type) -> Result<Value, WasmValueErro
             fields(rt, &[("b", 1), ("a", 2), ("b", 3)][..])?,
         ),
         "flags" => Value::make_flags(rt.alloc(), ty, &["run", "read", "run"]),
+        "no flags" => Value::make_flags(rt.alloc(), ty, &[]),
         _ => Value::make_map(
             rt.alloc(),
             ty,
@@ -103,31 +104,34 @@ fn text(rt: HostRuntime, val: &Value) -> Result<String, Fail> {
     Ok(to_string(rt.alloc(), val)?)
 }
 
-/// The text of what was made, or the refusal's words.
-fn told(rt: HostRuntime, val: Result<Value, WasmValueError>) -> Result<String, Fail> {
-    match val {
-        Ok(val) => text(rt, &val),
-        Err(error) => Ok(error.to_string(rt.alloc())?),
-    }
-}
-
 /// Whether the value has this type as its own.
 fn is_of(rt: HostRuntime, val: &Value, name: &str) -> Result<bool, Fail> {
     let ty = type_of(rt.alloc(), name)?;
     Ok(val.ty()? == ty)
 }
 
-/// Whether a copy is the same value.
-fn is_copied(rt: HostRuntime, val: &Value) -> Result<bool, Fail> {
-    Ok(val.clone(rt.alloc())? == *val)
+/// The text of the value, where a copy is the same value; else nothing.
+fn copied_text(rt: HostRuntime, val: &Value) -> Result<String, Fail> {
+    match val.clone(rt.alloc())? == *val {
+        true => text(rt, val),
+        false => Ok(String::new(rt.alloc())),
+    }
 }
 
 /// The text of the scalar, which has this type as its own; else nothing.
 fn scalar_text(rt: HostRuntime, name: &str) -> Result<String, Fail> {
     let val = scalar(rt, name)?;
-    match is_of(rt, &val, name)? && is_copied(rt, &val)? {
-        true => text(rt, &val),
+    match is_of(rt, &val, name)? {
+        true => copied_text(rt, &val),
         false => Ok(String::new(rt.alloc())),
+    }
+}
+
+/// The text of what was made and copied, or the refusal's words.
+fn told(rt: HostRuntime, val: Result<Value, WasmValueError>) -> Result<String, Fail> {
+    match val {
+        Ok(val) => copied_text(rt, &val),
+        Err(error) => Ok(error.to_string(rt.alloc())?),
     }
 }
 
@@ -282,6 +286,7 @@ fn flags_and_maps(rt: HostRuntime) -> Result<(), Fail> {
         rt,
         &[
             ("flags", "flags { read, write, run }", "{read, run}"),
+            ("no flags", "flags { read, write }", "{}"),
             ("flags", "flags { read, read }", "unknown case \"run\""),
             ("flags", "u8", "expected a flags; got u8"),
             ("map", "map<string, u8>", "{\"a\": 3, \"b\": 2}"),
