@@ -2,14 +2,14 @@
 use Rattle.std.proofs.Common.{◌≡◌, ℕ, zero, suc, ◌≤◌, ◌+◌, ◌-◌, inl, inr, true, List, [], ◌∷◌, ◌++◌, length, slice_range, take, drop, Option, Some, refl, sym, ap, subst, ◌∙◌, arith, append_assoc, length-append}
 use Rattle.std.specs.Prelude.{encode_utf8_all}
 use Rattle.std.specs.Str.{IsUtf8, IsCharBoundary}
-use Rattle.std.proofs.lemmas.Bool.Decides.{nat_tests}
 use Rattle.std.proofs.Math.Seq.{take-append_seam, drop-append_seam}
 use Rattle.std.proofs.lemmas.List.{append-nil}
 use Rattle.std.proofs.lemmas.Str.{encodes-append, IsCharBoundary-at_seam}
 use Rattle.std.specs.declared.ops.Range.{Range}
-use Rattle.wave_lex.specs.Regex.{Regex, other, many, Matches, is_within}
+use Rattle.wave_lex.specs.Regex.{Regex, other, many, Matches}
 use Rattle.wave_lex.specs.Tokens as shapes
 use Rattle.wave_lex.specs.Tokens.{shape, plain, escape, ◌then◌, ◌or◌}
+use Rattle.wave_lex.proofs.Shapes.{one_is}
 use Rattle.wave_lex.proofs.LongestMatch.{is_ascii}
 use Rattle.wave_lex.specs.Tokenization.{three_quotes}
 use Rattle.wave_lex.proofs.Quotes.{through_first_quotes}
@@ -114,9 +114,6 @@ key_is (at q s) _ p key quoted e is = absurd quoted
 -- the text of a token in quotes has the shape of its class
 pub has_shape : (source : List ℕ) (p : Range ℕ) (tok : Token) → HoldsTokens source p (tok ∷ []) → (cs : List ℕ) × (encode_utf8_all cs ≡ text_of tok) × Matches (shape (lexeme_of tok).0) cs
 has_shape source p tok (stands, gap, (g, k, first, long, text, end)) = (long.is.0.scalars, long.is.0.spelled ∙ sym text, long.is.0.has)
-
-one_is : (c d : ℕ) → is_within c c d ≡ true → d ≡ c
-one_is c d e = grind (arith, nat_tests)
 
 -- between two equal scalars
 between : (q : ℕ) (p : Regex) (cs : List ℕ) → Matches (shapes.one q then p then shapes.one q) cs → (x : List ℕ) × (cs ≡ q ∷ (x ++ q ∷ []))
