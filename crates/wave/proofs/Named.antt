@@ -6,7 +6,7 @@ use Rattle.std.proofs.lemmas.Slice.Eq.{bytes_eq-Decides}
 use Rattle.std.proofs.lemmas.Bool.Decides.{not_from_Decides}
 use Rattle.wave_lex.specs.declared.error.ParserError.{ParserError}
 use Rattle.wave_lex.specs.declared.error.ParserErrorKind.TheVariants as kind
-use Rattle.wave_tree.specs.FromStr.{IsMeant, TextFault, RefusesText}
+use Rattle.wave_tree.specs.FromStr.{IsRead, TextFault, RefusesText}
 use Rattle.wave_grammar.specs.Denotes.{MeansNone}
 use Rattle.wave_value.specs.FullTypes.{IsFull}
 use Rattle.wave_value.specs.TypedValue.{TypedValue, IsAt}
@@ -49,15 +49,15 @@ full name.Counts = tt
 
 -- what was read at a named type
 abbrev IsReadAt : TypeName → List ℕ → TypedValue → Type 0
-IsReadAt n s v = IsMeant (λ (v : TypedValue). v.tree) (λ v T. IsAt T v) (type_of n) s v
+IsReadAt n s v = IsRead (λ (v : TypedValue). v.tree) (λ v T. IsAt T v) (type_of n) s v
 
 -- the value that was read is the answer
 pub answered : (n : TypeName) (s : List ℕ) (v : TypedValue) (answer : List ℕ) → IsReadAt n s v → answer ≡ text v.tree → Answers (Read n) s answer
-answered n s v answer read same = (v.tree, (read (full n)).0, same)
+answered n s v answer read same = (v.tree, (read.meant (full n)).0, same)
 
 -- it is refused for want of memory alone
 pub wants_memory : (n : TypeName) (s : List ℕ) (v : TypedValue) (e : WriterError) → IsReadAt n s v → IsForMemory v.tree e → IsWantOfMemory e
-wants_memory n s v e read memory = memory (type_of n) (read (full n)).1.fits
+wants_memory n s v e read memory = memory (type_of n) (read.meant (full n)).1.fits
 
 -- what the program makes of an error that tells why there is no answer, unless it is want of memory
 unanswered : (request : Request) (s : List ℕ) (e : ParserError) (u : Unanswered) → (e.kind ≢ kind.OutOfMemory → IsRefused request s e) → MatchesRefusal e u → IsUnanswered request s u
@@ -71,7 +71,7 @@ handed_on Answer request s (Err u) e same why = unanswered request s e u why sam
 
 -- the refusal tells a fault of the text, which has no answer; or it is want of memory
 pub told : (n : TypeName) (s : List ℕ) (e : ParserError) → RefusesText IsFull (type_of n) s e → e.kind ≢ kind.OutOfMemory → IsRefused (Read n) s e
-told n s e fault other = by (fault (full n)) where
+told n s e fault other = by (fault.blames (full n)) where
   by : (e.kind ≡ kind.OutOfMemory) ⊎ TextFault (type_of n) s e × MeansNone (type_of n) s ⊎ (e.kind ≡ kind.WasmValueError) × (IsFull (type_of n) → ⊥) → IsRefused (Read n) s e
   by (inl memory) = absurd (other memory)
   by (inr (inl (wrong, none))) = (wrong, λ answer found. none found.0 found.1)

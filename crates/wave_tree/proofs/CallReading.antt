@@ -1,6 +1,6 @@
 -- What call a text is, by what a parser takes of it.
 use Rattle.std.proofs.Common.{◌≡◌, ◌≢◌, ℕ, zero, suc, ◌+◌, inl, inr, List, [], ◌∷◌, refl, sym, ap, subst, ◌∙◌, length, take, drop, arith, Option, Some, None, Ok, Err, length-drop}
-use Rattle.std.specs.Prelude.{◌⊎◌}
+use Rattle.std.specs.Prelude.{◌⊎◌, IfErr, Result}
 use Rattle.std.specs.declared.ops.Range.{Range}
 use Rattle.std.proofs.lemmas.List.{append-nil}
 use Rattle.wave_lex.specs.declared.lex.Token as lex
@@ -23,7 +23,10 @@ use Rattle.wave_node.specs.NodeTree.{NodeTree, type_of}
 use Rattle.wave_grammar.specs.ParserPosition as place
 use Rattle.wave_grammar.specs.ParserPosition.{Place, TakesToken, TakesTokens, token_of, text_at}
 use Rattle.wave_grammar.specs.PrefixAutomaton as due
-use Rattle.wave_lex.specs.Errors.{Says}
+use Rattle.wave_lex.specs.Errors.{Says, Refusal}
+use Rattle.wave_wasm.specs.Types.{TypeTree}
+use Rattle.wave_node.specs.NodeParams.{RefusesNone}
+use Rattle.wave_node.specs.ErrorSpans.{IsTypeKind, HasParamsKind}
 use Rattle.wave_grammar.specs.SyntaxErrors.{LeadsBehindValue, IsSyntaxError}
 use Rattle.wave_tree.specs.ParserLaws.{AreNext}
 use Rattle.wave_tree.specs.ParsedNodes.{IsSound, TakesClass}
@@ -221,7 +224,7 @@ called_of s k p (Some n) named h ends =
       means = (h.placed, h.is_node, refl);
       call = record { bytes = k; tokens = h.tokens; named = named; is = ap (λ (z : ℕ). take z s) (omega arith); cut = cut_from (behind_name s k) p h.tokens h.taken ends; spelled = subst (λ z. SpellsParams 100 h.tokens (a_tree z)) (sym is) (tuple_tokens h.tokens 100 (trees_of (placed_trees inner.items)) (subst (λ z. Takes 101 h.tokens z []) is h.takes)) };
       name = refl;
-      stands = (h.placed, p, ends.0, h.is_node, h.stands, ends.1);
+      stands = (h.placed, h.tokens, p, ends.0, h.is_node, h.taken, h.stands, ends.1);
     }
 
 -- ---- the name
@@ -249,3 +252,15 @@ params_refused s k p e named h apart = (inr (inl (k, p, named, h apart)), no_cal
 
 pub rest_refused : (s : List ℕ) (k : ℕ) (p : Place) (params : Option NodeTree) (e : ParserError) → IsName s k → AreParamsTaken (behind_name s k) p params → IsTrailing e p → RefusesCall s e
 rest_refused s k p params e named taken trails apart = (inr (inr (k, p, params, named, taken, trails)), no_call_trailing s k p params e named taken trails)
+
+-- ---- the parameters at types
+
+-- a refusal of a call without parameters is of a kind that reading parameters answers
+none_kind : (Full : TypeTree → Type 0) (Ts : List TypeTree) (at : Range ℕ) (e : ParserError) → RefusesNone Full Ts at e → HasParamsKind e
+none_kind Full Ts at e (inl memory) = inl (subst IsTypeKind (sym memory) tt)
+none_kind Full Ts at e (inr (inl (some, says))) = inr (ap (λ (r : Refusal). r.kind) says.is)
+none_kind Full Ts at e (inr (inr refused)) = inl (subst IsTypeKind (sym refused.0) tt)
+
+pub all_kind : {X : Type 0} (Full : TypeTree → Type 0) (Ts : List TypeTree) (at : Range ℕ) (r : Result X ParserError) → IfErr r (RefusesNone Full Ts at) → IfErr r HasParamsKind
+all_kind Full Ts at (Ok x) h = tt
+all_kind Full Ts at (Err e) h = none_kind Full Ts at e h

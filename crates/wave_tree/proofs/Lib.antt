@@ -10,6 +10,7 @@ pub mod TokenAlignment
 pub mod NodeCorrectness
 pub mod TextReading
 pub mod UntypedReading
+pub mod ValueReading
 pub mod CallReading
 pub mod Displays
 pub mod UntypedAgreement

@@ -1,6 +1,6 @@
 -- What a text means, by what a parser takes of it.
 use Rattle.std.proofs.Common.{◌≡◌, ◌≢◌, ℕ, ◌+◌, ◌-◌, inl, inr, List, [], ◌∷◌, refl, sym, ap, subst, ◌∙◌, length, take, drop, arith, Some, None, Result, Ok, Err, map, length-drop}
-use Rattle.std.specs.Prelude.{◌⊎◌, IfErr, IsErrAnd}
+use Rattle.std.specs.Prelude.{◌⊎◌}
 use Rattle.std.specs.declared.ops.Range.{Range}
 use Rattle.std.proofs.lemmas.List.{append-nil, take_all, drop-drop}
 use Rattle.wave_wasm.specs.Types.{TypeTree}
@@ -9,7 +9,6 @@ use Rattle.wave_lex.specs.declared.lex.Token as lex
 use Rattle.wave_lex.specs.declared.error.ParserError.{ParserError}
 use Rattle.wave_lex.specs.declared.error.ParserErrorKind.{ParserErrorKind}
 use Rattle.wave_lex.specs.declared.error.ParserErrorKind.TheVariants as kind
-use Rattle.wave_lex.specs.Errors.{refusal_of}
 use Rattle.wave_lex.specs.Tokenization.{IsGap, Front, remainder_of}
 use Rattle.wave_lex.proofs.Next.{next_one}
 use Rattle.wave_grammar.specs.Token as token
@@ -20,15 +19,12 @@ use Rattle.wave_grammar.specs.Tree.{Tree}
 use Rattle.wave_grammar.specs.Elaborates.{TreeReads}
 use Rattle.wave_grammar.specs.SpannedTree.{tree_of}
 use Rattle.wave_node.specs.NodeTree.{NodeTree}
-use Rattle.wave_grammar.specs.TypeErrors.{Fault}
 use Rattle.wave_grammar.specs.ParserPosition.{Place, Item, TakesItem, TakesToken, TakesTokens, TakesAny, token_of, text_at}
 use Rattle.wave_grammar.specs.PrefixAutomaton.{value}
 use Rattle.wave_grammar.specs.SyntaxErrors.{LeadsBehindValue, IsSyntaxError}
 use Rattle.wave_tree.specs.ParserLaws.{AreNext}
 use Rattle.wave_tree.specs.ParsedNodes.{IsSound, IsParsed, IsTaken, IsNodeTaken}
-use Rattle.wave_tree.specs.ParserState.{IsTrailing}
-use Rattle.wave_node.specs.TypedReading as typed
-use Rattle.wave_tree.specs.FromStr.{start_of, IsValueTaken, IsMeant, IsTypeRefused, RefusesValue, TextFault, RefusesText}
+use Rattle.wave_tree.specs.ParserState.{start_of}
 use Rattle.wave_grammar.proofs.Elaboration.GrammarToTree.{through}
 use Rattle.wave_grammar.proofs.Elaboration.TreeToGrammar.{back}
 use Rattle.wave_grammar.proofs.Unambiguity.Trees.{one_tree}
@@ -166,11 +162,11 @@ pub means_of : (T : TypeTree) (s : List ℕ) (p : Place) (t : Tree) (v : Value) 
 means_of T s p t v h ends reads = (h.tokens, all_cut s p h.tokens h.taken ends, back T 100 h.tokens t v [] h.takes reads)
 
 -- what the parser read of a text that means something is its whole tree
-record IsWhole (T : TypeTree) (t : Tree) (p : Place) (v : Value) : Type 0 where
+pub record IsWhole (T : TypeTree) (t : Tree) (p : Place) (v : Value) : Type 0 where
   pub reads : TreeReads T t v
   pub ends : (behind : Place) × TakesItem p None behind
 
-whole_read : (T : TypeTree) (s : List ℕ) (p : Place) (t : Tree) (v : Value) → LeadsBehindValue 100 value [] (start_of s) p [] → IsTaken (start_of s) p t → Means T s v → IsWhole T t p v
+pub whole_read : (T : TypeTree) (s : List ℕ) (p : Place) (t : Tree) (v : Value) → LeadsBehindValue 100 value [] (start_of s) p [] → IsTaken (start_of s) p t → Means T s v → IsWhole T t p v
 whole_read T s p t v read h (tokens, cut, reads) =
     let all = all_of s tokens cut in
     let (u, takes, tree_reads) = through T 100 tokens v [] reads (λ more e. cc) in
@@ -196,40 +192,3 @@ refused_means_none T s e p h v (tokens, cut, reads) =
 pub memory_or : (k : ParserErrorKind) → (k ≡ kind.OutOfMemory) ⊎ (k ≢ kind.OutOfMemory)
 memory_or kind.OutOfMemory = inl refl
 memory_or k = inr (λ e. cc)
-
--- what a value that could not be read says of the text
-pub value_refused : (Full : TypeTree → Type 0) (T : TypeTree) (s : List ℕ) (p : Place) (e : ParserError) → RefusesValue Full T e (start_of s) p → RefusesText Full T s e
-value_refused Full T s p e h distinct = by (memory_or e.kind)
-  where
-    by_blame : (k : IsTypeRefused Full T e (start_of s) p) → Fault T k.placed (refusal_of e) e.span × typed.ReadsNone T k.placed ⊎ (e.kind ≡ kind.WasmValueError) × (Full T → ⊥) →
-        (e.kind ≡ kind.OutOfMemory) ⊎ TextFault T s e × MeansNone T s ⊎ (e.kind ≡ kind.WasmValueError) × (Full T → ⊥)
-    by_blame k (inl (fault, none)) = inr (inl (inr (inl (p, k.placed, k.read, k.taken, k.stands, k.spelled, fault)), λ v means. none v (whole_read T s p (tree_of k.placed) v k.read k.taken means).reads))
-    by_blame k (inr other) = inr (inr other)
-
-    by_kind : IsSyntaxError e 100 value [] (start_of s) p ⊎ IsTypeRefused Full T e (start_of s) p → (e.kind ≡ kind.OutOfMemory) ⊎ TextFault T s e × MeansNone T s ⊎ (e.kind ≡ kind.WasmValueError) × (Full T → ⊥)
-    by_kind (inl k) = inr (inl (inl (p, k), refused_means_none T s e p k))
-    by_kind (inr k) = by_blame k (k.blames distinct)
-
-    by : (e.kind ≡ kind.OutOfMemory) ⊎ (e.kind ≢ kind.OutOfMemory) → (e.kind ≡ kind.OutOfMemory) ⊎ TextFault T s e × MeansNone T s ⊎ (e.kind ≡ kind.WasmValueError) × (Full T → ⊥)
-    by (inl memory) = inl memory
-    by (inr apart) = by_kind (h apart)
-
--- what follows a value is refused
-pub trailing_refused : {V : Type 0} (tree_of_value : V → Value) (of : V → TypeTree → Type 0) (Full : TypeTree → Type 0) (T : TypeTree) (s : List ℕ) (p : Place) (v : V) (e : ParserError) → IsValueTaken tree_of_value of T (start_of s) p v → IsTrailing e p → RefusesText Full T s e
-trailing_refused tree_of_value of Full T s p v e h trails distinct =
-    let (behind, any, says) = trails in
-    inr (inl (
-      inr (inr (p, h.placed, tree_of_value v, h.read, h.taken, (h.means distinct).reads, trails)),
-      λ w means. let ends = (whole_read T s p (tree_of h.placed) w h.read h.taken means).ends in nothing_there p ends.0 behind ends.1 any,
-    ))
-
--- a value behind which nothing follows is meant
-pub value_meant : {V : Type 0} (tree_of_value : V → Value) (of : V → TypeTree → Type 0) (T : TypeTree) (s : List ℕ) (p : Place) (v : V) → IsValueTaken tree_of_value of T (start_of s) p v → ((behind : Place) × TakesItem p None behind) → IsMeant tree_of_value of T s v
-value_meant tree_of_value of T s p v h ends distinct =
-    let it = h.means distinct in
-    (means_of T s p (tree_of h.placed) (tree_of_value v) h.taken ends it.reads, it.is_of)
-
--- a refusal that is handed on
-pub refusal_handed : {X : Type 0} (Full : TypeTree → Type 0) (T : TypeTree) (s : List ℕ) (r : Result X ParserError) (e : ParserError) → IsErrAnd r (λ f. f ≡ e) → RefusesText Full T s e → IfErr r (RefusesText Full T s)
-refusal_handed Full T s (Ok x) e k h = tt
-refusal_handed Full T s (Err f) e k h = subst (RefusesText Full T s) (sym k) h

@@ -3,14 +3,12 @@ use Rattle.std.proofs.Common.{◌≡◌, ℕ, inl, inr, List, [], sym, subst, Re
 use Rattle.std.specs.Prelude.{IfErr, IsErrAnd}
 use Rattle.wave_lex.specs.declared.error.ParserError.{ParserError}
 use Rattle.wave_grammar.specs.Tree.{Tree}
-use Rattle.wave_grammar.specs.SpannedTree.{tree_of}
 use Rattle.wave_grammar.specs.ParserPosition.{Place, TakesItem}
 use Rattle.wave_grammar.specs.PrefixAutomaton.{value}
 use Rattle.wave_grammar.specs.SyntaxErrors.{LeadsBehindValue, FailsBySyntax}
 use Rattle.wave_tree.specs.ParserLaws.{AreNext}
 use Rattle.wave_tree.specs.ParsedNodes.{IsTaken}
-use Rattle.wave_tree.specs.ParserState.{IsTrailing}
-use Rattle.wave_tree.specs.FromStr.{start_of}
+use Rattle.wave_tree.specs.ParserState.{IsTrailing, start_of}
 use Rattle.wave_tree.specs.Untyped.{Untyped, IsUntypedTaken, IsUntypedOf, RefusesTree}
 use Rattle.wave_grammar.specs.Denotes.{SpellsText}
 use Rattle.wave_grammar.proofs.Unambiguity.Trees.{one_tree}
@@ -34,6 +32,7 @@ untyped_of s p u (same, h) ends = record {
   is_node = h.is_node;
   spelled = (h.taken.tokens, all_cut s p h.taken.tokens h.taken.taken ends, h.taken.takes);
   last = p;
+  taken = h.taken;
   stands = h.stands;
   ends = ends;
 }
@@ -47,11 +46,11 @@ refused_spells_none s e p h apart =
     )
 
 -- nor does one where something follows the tree
-pub trailing_spells_none : (s : List ℕ) (e : ParserError) (p : Place) (u : Untyped) → LeadsBehindValue 100 value [] (start_of s) p [] → IsUntypedTaken (start_of s) p u → IsTrailing e p → RefusesTree s e
-trailing_spells_none s e p u read (same, h) trails apart =
+pub trailing_spells_none : (s : List ℕ) (e : ParserError) (p : Place) (t : Tree) → LeadsBehindValue 100 value [] (start_of s) p [] → IsTaken (start_of s) p t → IsTrailing e p → RefusesTree s e
+trailing_spells_none s e p t read taken trails apart =
     let (behind, any, says) = trails in (
-      inr (p, tree_of h.placed, read, h.taken, trails),
-      λ t spelled. let ends = ends_there s p (tree_of h.placed) t read h.taken spelled in nothing_there p ends.0 behind ends.1 any,
+      inr (p, t, read, taken, trails),
+      λ u spelled. let ends = ends_there s p t u read taken spelled in nothing_there p ends.0 behind ends.1 any,
     )
 
 -- a refusal that is handed on

@@ -1,66 +1,90 @@
--- Where the refusal of a node stands.
-use Rattle.std.specs.Prelude.{ℕ, ◌≡◌, ◌⊎◌, ◌≢◌, List, []}
+-- What reading a value at a type answers, from a place and from a whole text.
+use Rattle.std.specs.Prelude.{ℕ, ◌≡◌, ◌⊎◌, ◌≢◌, List, [], None}
 use Rattle.wave_lex.specs.declared.error.ParserError.{ParserError}
 use Rattle.wave_lex.specs.declared.error.ParserErrorKind.TheVariants.{WasmValueError, OutOfMemory}
+use Rattle.wave_lex.specs.Errors.{Says, LiesInText, refusal_of}
+use Rattle.wave_lex.specs.Tokenization.{span}
 use Rattle.wave_node.specs.NodeTree.{NodeTree}
 use Rattle.wave_grammar.specs.ParserPosition.{Place}
 use Rattle.wave_tree.specs.ParsedNodes.{IsNodeTaken, IsTaken, StandsBetween}
-use Rattle.wave_node.specs.ErrorSpans.{IsCausedIn}
+use Rattle.wave_node.specs.ErrorSpans.{IsCausedIn, HasTypeKind}
 use Rattle.wave_wasm.specs.Types.{TypeTree, HasDistinctNames}
 use Rattle.wave_wasm.specs.Values.{Value}
-use Rattle.wave_lex.specs.Errors.{refusal_of}
+use Rattle.wave_wasm.specs.Merge.{merged}
 use Rattle.wave_grammar.specs.PrefixAutomaton.{value}
 use Rattle.wave_grammar.specs.SyntaxErrors.{LeadsBehindValue, IsSyntaxError}
 use Rattle.wave_grammar.specs.SpannedTree.{Placed, tree_of, SpellsEach}
 use Rattle.wave_grammar.specs.Elaborates.{TreeReads}
 use Rattle.wave_grammar.specs.TypeErrors.{Fault}
 use Rattle.wave_grammar.specs.Denotes.{Means, MeansNone}
-use Rattle.wave_tree.specs.ParserState.{IsTrailing, front_of}
+use Rattle.wave_tree.specs.ParserState.{IsTrailing, start_of}
+use Rattle.wave_tree.specs.Untyped.{SpellsTree, RefusesTree}
 use Rattle.wave_node.specs.TypedReading as typed
 
--- in front of the text
-abbrev pub start_of : List ℕ → Place
-start_of s = record { lexer = front_of s; taken = 0 }
+-- a tree within 100 levels was read; it stands there, and each part of it spells its slice of the source
+pub record IsTreeRead (old new : Place) (t : Placed) : Type 0 where
+  pub read : LeadsBehindValue 100 value [] old new []
+  pub taken : IsTaken old new (tree_of t)
+  pub stands : StandsBetween old new t
+  pub spelled : SpellsEach old.lexer.source t
+
+-- ---- values
 
 module _ {V : Type 0} (tree : V → Value) (of : V → TypeTree → Type 0) where
-  -- a value was read: its tree's tokens were taken, and the type gives the tree the value
+  -- a tree was read; where the type's names are distinct it gives the tree the value
   pub record IsValueTaken (T : TypeTree) (old new : Place) (v : V) : Type 0 where
-    pub read : LeadsBehindValue 100 value [] old new []
     pub placed : Placed
-    pub taken : IsTaken old new (tree_of placed)
+    pub read : IsTreeRead old new placed
     pub means : HasDistinctNames T → typed.IsTypedValue tree of T placed v
 
-  -- the text means the value, which is of the type
+  -- the text means the value, which is of the type and merged
   abbrev pub IsMeant : TypeTree → List ℕ → V → Type 0
-  IsMeant T s v = HasDistinctNames T → Means T s (tree v) × of v T
+  IsMeant T s v = Means T s (tree v) × of v T × (merged (tree v) ≡ tree v)
+
+  -- the whole text spells a tree within 100 levels; where the type's names are distinct it means the value
+  pub record IsRead (T : TypeTree) (s : List ℕ) (v : V) : Type 0 where
+    pub spelled : SpellsTree s
+    pub meant : HasDistinctNames T → IsMeant T s v
+
+-- ---- refusals
 
 module _ (Full : TypeTree → Type 0) where
-  -- a tree was read, each part of which spells its slice of the source; the type gives it no value, or a maker refused its value
+  -- a tree was read, and the refusal is of a kind that reading one at a type answers; where the type's names are distinct it gives the tree no value, or a maker refused its value
   pub record IsTypeRefused (T : TypeTree) (e : ParserError) (old new : Place) : Type 0 where
-    pub read : LeadsBehindValue 100 value [] old new []
     pub placed : Placed
-    pub taken : IsTaken old new (tree_of placed)
-    pub stands : StandsBetween old new placed
-    pub spelled : SpellsEach old.lexer.source placed
+    pub read : IsTreeRead old new placed
+    pub kind : HasTypeKind e
     pub blames : HasDistinctNames T → Fault T placed (refusal_of e) e.span × typed.ReadsNone T placed ⊎ (e.kind ≡ WasmValueError) × (Full T → ⊥)
 
-  -- no value was read: for want of memory, or no tree stands there, or one to which the type gives no value
+  -- no value was read: for want of memory, or no tree stands there, or one that is refused at the type
   abbrev pub RefusesValue : TypeTree → ParserError → Place → Place → Type 0
   RefusesValue T e old new = (e.kind ≢ OutOfMemory) → IsSyntaxError e 100 value [] old new ⊎ IsTypeRefused T e old new
-
--- what is wrong with the text: no tree begins it; or the type gives the tree that was read, from its first token to its last and each part of which spells its slice of the text, no value; or something follows the tree
-abbrev pub TextFault : TypeTree → List ℕ → ParserError → Type 0
-TextFault T s e =
-    ((p : Place) × IsSyntaxError e 100 value [] (start_of s) p)
-    ⊎ ((p : Place) × (t : Placed) × LeadsBehindValue 100 value [] (start_of s) p [] × IsTaken (start_of s) p (tree_of t) × StandsBetween (start_of s) p t × SpellsEach s t × Fault T t (refusal_of e) e.span)
-    ⊎ ((p : Place) × (t : Placed) × (v : Value) × LeadsBehindValue 100 value [] (start_of s) p [] × IsTaken (start_of s) p (tree_of t) × TreeReads T (tree_of t) v × IsTrailing e p)
-
--- want of memory; or a fault of the text, which means no value of the type; or, where makers do not serve all values of the type, the refusal of one
-abbrev pub RefusesText : (TypeTree → Type 0) → TypeTree → List ℕ → ParserError → Type 0
-RefusesText Full T s e =
-    HasDistinctNames T →
-    (e.kind ≡ OutOfMemory) ⊎ TextFault T s e × MeansNone T s ⊎ (e.kind ≡ WasmValueError) × (Full T → ⊥)
 
 -- a `WasmValueError` stands, with a cause, at a node of the tree whose tokens the parser took
 abbrev pub IsCausedBetween : Place → Place → ParserError → Type 0
 IsCausedBetween old new e = e.kind ≡ WasmValueError → (n : NodeTree) × IsNodeTaken old new n × IsCausedIn n e
+
+-- at any type: the text spells no tree, or memory is wanting; or a tree begins the text, and the refusal is of a kind that reading one at a type answers
+abbrev pub RefusesFront : List ℕ → ParserError → Type 0
+RefusesFront s e =
+    RefusesTree s e ⊎ ((p : Place) × (t : Placed) × IsTreeRead (start_of s) p t × HasTypeKind e)
+
+-- what is wrong with the text: no tree begins it; or the type gives the tree that does no value; or something follows that tree, which has one
+abbrev pub TextFault : TypeTree → List ℕ → ParserError → Type 0
+TextFault T s e =
+    ((p : Place) × IsSyntaxError e 100 value [] (start_of s) p)
+    ⊎ ((p : Place) × (t : Placed) × IsTreeRead (start_of s) p t × Fault T t (refusal_of e) e.span)
+    ⊎ ((p : Place) × (t : Placed) × (v : Value) × IsTreeRead (start_of s) p t × TreeReads T (tree_of t) v × IsTrailing e p)
+
+-- want of memory; or a fault of the text, which means no value of the type; or, where makers do not serve all values of the type, the refusal of one
+abbrev pub BlamesText : (TypeTree → Type 0) → TypeTree → List ℕ → ParserError → Type 0
+BlamesText Full T s e =
+    (e.kind ≡ OutOfMemory) ⊎ TextFault T s e × MeansNone T s ⊎ (e.kind ≡ WasmValueError) × (Full T → ⊥)
+
+-- what the refusal of a text says: at any type of its tree, where the type's names are distinct of its meaning; its span lies in the text; a `WasmValueError` has a cause, and stands at a node of what was read; want of memory is told at 0..0
+pub record RefusesText (Full : TypeTree → Type 0) (T : TypeTree) (s : List ℕ) (e : ParserError) : Type 0 where
+  pub front : RefusesFront s e
+  pub blames : HasDistinctNames T → BlamesText Full T s e
+  pub within : LiesInText s e.span
+  pub caused : (p : Place) × IsCausedBetween (start_of s) p e
+  pub memory : e.kind ≡ OutOfMemory → Says e OutOfMemory (span 0 0) None

@@ -22,6 +22,10 @@ first_at l = record { place = record { lexer = l; taken = 0 }; ahead = 0 }
 abbrev pub front_of : List ℕ → Lexed
 front_of source = record { source = source; start = 0; end = 0 }
 
+-- in front of the text
+abbrev pub start_of : List ℕ → Place
+start_of s = record { lexer = front_of s; taken = 0 }
+
 -- how often the lexer was asked
 abbrev pub asked : Parsing → ℕ
 asked p = p.place.taken + p.ahead

@@ -10,8 +10,7 @@ use Rattle.wave_grammar.specs.SpannedTree.{Placed, tree_of}
 use Rattle.wave_node.specs.NodeTree.{NodeTree}
 use Rattle.wave_node.specs.Nodes.{IsNodeOf}
 use Rattle.wave_tree.specs.ParsedNodes.{IsTaken, IsNodeTaken, StandsBetween}
-use Rattle.wave_tree.specs.ParserState.{IsTrailing}
-use Rattle.wave_tree.specs.FromStr.{start_of}
+use Rattle.wave_tree.specs.ParserState.{IsTrailing, start_of}
 use Rattle.wave_grammar.specs.Denotes.{SpellsNoTree, SpellsText}
 
 -- an untyped value: its source, and the node of its tree
@@ -23,13 +22,18 @@ pub record Untyped : Type 0 where
 abbrev pub IsUntypedTaken : Place → Place → Untyped → Type 0
 IsUntypedTaken old new u = (u.source ≡ old.lexer.source) × IsNodeTaken old new u.node
 
--- the value keeps the text, and its node means the tree that the whole text spells
+-- the whole text spells a tree within 100 levels
+abbrev pub SpellsTree : List ℕ → Type 0
+SpellsTree s = (t : Tree) × SpellsText s t
+
+-- the value keeps the text, and its node means the tree that the whole text spells, from its first token to its last
 pub record IsUntypedOf (s : List ℕ) (u : Untyped) : Type 0 where
   pub source : u.source ≡ s
   pub placed : Placed
   pub is_node : IsNodeOf s u.node placed
   pub spelled : SpellsText s (tree_of placed)
   pub last : Place
+  pub taken : IsTaken (start_of s) last (tree_of placed)
   pub stands : StandsBetween (start_of s) last placed
   pub ends : (behind : Place) × TakesItem last None behind
 

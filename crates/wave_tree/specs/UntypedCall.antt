@@ -52,8 +52,9 @@ behind_name s k = record { lexer = record { source = s; start = 0; end = k }; ta
 abbrev pub ParamsStand : List ℕ → ℕ → Option NodeTree → Type 0
 ParamsStand s k None = Unit {0}
 ParamsStand s k (Some n) =
-    (t : Placed) × (last : Place) × (behind : Place)
-    × IsNodeOf s n t × StandsBetween (behind_name s k) last t × place.TakesItem last None behind
+    (t : Placed) × (tokens : List Token) × (last : Place) × (behind : Place)
+    × IsNodeOf s n t × TakesTokens (behind_name s k) tokens last
+    × StandsBetween (behind_name s k) last t × place.TakesItem last None behind
 
 -- the call keeps the text, which is a call of its name, at its front, with the parameters that its node means
 pub record IsCalledOf (s : List ℕ) (u : Called) : Type 0 where

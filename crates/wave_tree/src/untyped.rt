@@ -3,7 +3,7 @@ ghost use Rattle.std.specs.Prelude.{◌≡◌, IfOk, IfErr};
 ghost use Rattle.wave_node.specs.TypedReading.{IsValueOf};
 ghost use Rattle.wave_node.specs.TypedReading as typed;
 ghost use Rattle.wave_tree.specs.Untyped.{IsUntypedOf, RefusesTree};
-ghost use Rattle.wave_node.specs.ErrorSpans.{StandsIn};
+ghost use Rattle.wave_node.specs.ErrorSpans.{HasTypeKind, StandsIn};
 ghost use Rattle.wave_lex.specs.Errors.{LiesInText};
 
 pub use self::call::{UntypedFuncCall, parse_raw_func_call};
@@ -110,6 +110,7 @@ impl<'source> UntypedValue<'source> {
     /// stands at the node that has the fault, in byte places of the source.
     pub fn to_wasm_value<V: WasmValue>(&self, alloc: Global, ty: &V::Type) -> Result<V, ParserError>
         ensures answer { typed.ReadsAtType V.tree V.is_of V.is_full (V.Type.tree ty.now) self.now.source self.now.node result }
+        ensures kind { IfErr result HasTypeKind }
         ensures within { IfErr result (StandsIn self.now.node) }
         ensures in_text { IfErr result (λ e. LiesInText self.now.source e.span) }
     {

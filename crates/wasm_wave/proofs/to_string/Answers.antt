@@ -1,9 +1,14 @@
 use Rattle.wave_grammar.proofs.RoundTrip.ReadsBack.{equal_texts, reads_back, reads_back_within_twice, text_means}
+use Rattle.std.proofs.Common.{string_bytes}
 use Rattle.wave_wasm.proofs.Writable.{refused_so}
+use Rattle.wasm_wave.proofs.MainTheorem.{text_written, writing_refused}
 use Rattle.wasm_wave.proofs.to_string.Goals as goal
 
-pub returns-clause-memory : goal.returns-clause-memory
-returns-clause-memory g c = refused_so _ _ c.to_string.ensures.err
+pub returns-clause-text : goal.returns-clause-text
+returns-clause-text g c = text_written string_bytes _ _ c.to_string.ensures.ok c.to_string.ensures.writable
+
+pub returns-clause-refused : goal.returns-clause-refused
+returns-clause-refused g c = writing_refused _ _ c.to_string.ensures.err (refused_so _ _ c.to_string.ensures.err)
 
 pub returns-clause-equal : goal.returns-clause-equal
 returns-clause-equal g c = λ T good of other also. equal_texts T good _ other of also

@@ -2,8 +2,7 @@
 use Rattle.std.proofs.Common.{ℕ, inr, List, subst, arith}
 use Rattle.wave_lex.specs.declared.error.ParserError.{ParserError}
 use Rattle.wave_grammar.specs.ParserPosition.{Place, TakesTokens}
-use Rattle.wave_tree.specs.ParserState.{IsTrailing}
-use Rattle.wave_tree.specs.FromStr.{start_of}
+use Rattle.wave_tree.specs.ParserState.{IsTrailing, start_of}
 use Rattle.wave_tree.proofs.ErrorSpans.Syntax.{tokens_inside, refusals_lie}
 use Rattle.wave_grammar.specs.Token.{Token}
 use Rattle.wave_lex.specs.Errors.{LiesInText}

@@ -2,7 +2,7 @@
 ghost use Rattle.std.specs.Prelude.{◌≡◌, ℕ, Some, IfOk, IfErr, option_map, map};
 ghost use Rattle.std.specs.Fmt.{DisplaysOnOk};
 ghost use Rattle.wave_grammar.specs.SpannedTree.{slice};
-ghost use Rattle.wave_node.specs.ErrorSpans.{IsCausedInParams};
+ghost use Rattle.wave_node.specs.ErrorSpans.{HasParamsKind, IsCausedInParams};
 ghost use Rattle.wave_lex.specs.declared.error.ParserErrorKind.TheVariants.{WasmValueError};
 ghost use Rattle.wave_lex.specs.Errors.{LiesInText};
 ghost use Rattle.wave_lex.specs.FunctionName.{IsName};
@@ -165,6 +165,7 @@ impl<'source> UntypedFuncCall<'source> {
     ) -> Result<Vec<V>, ParserError>
         ensures values { AllOf HasDistinctNames (map V.Type.tree types.now) → IfOk result (λ vs. GivesParamsAt V.tree V.is_of (map V.Type.tree types.now) self.now.source self.now.params vs.items) }
         ensures refused { AllOf HasDistinctNames (map V.Type.tree types.now) → IfErr result (RefusesParamsAt V.is_full (map V.Type.tree types.now) self.now.source self.now.name self.now.params) }
+        ensures kind { IfErr result HasParamsKind }
         ensures within { IfErr result (λ e. LiesInText self.now.source e.span) }
         ensures caused { IfErr result (λ e. e.kind ≡ WasmValueError → IsCausedInParams self.now.name self.now.params e) }
     {

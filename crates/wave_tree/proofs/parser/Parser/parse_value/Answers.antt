@@ -27,11 +27,9 @@ returns-clause-refused g c = λ apart.
     let text : c.start.inside.source.now ≡ c.args.self.now.place.lexer.source = c.start.invariant.0 ∙ ap (λ (l : Lexed). l.source) (c.start.view_is ∙ c.in_ok-node.ensures.start) in
     let taken = c.in_ok-node.ensures.tree in
     back_same (λ e p. IsSyntaxError e 100 value [] c.args.self.now.place p.place ⊎ IsTypeRefused g.V.WasmValue.is_full T e c.args.self.now.place p.place) c.in-Err.error c.refuse.result c.parse_whole.new.self c.refuse.new.self back (inr (record {
-      read = c.in_ok-node.ensures.value;
       placed = taken.placed;
-      taken = taken.taken;
-      stands = taken.stands;
-      spelled = taken.is_node.1;
+      read = record { read = c.in_ok-node.ensures.value; taken = taken.taken; stands = taken.stands; spelled = taken.is_node.1 };
+      kind = c.in-Err.ensures.kind;
       blames = λ distinct. elim (c.in-Err.ensures.answer taken.placed (subst (λ (s : List ℕ). IsNodeOf s c.in_ok-node.node taken.placed) (sym text) taken.is_node) distinct) [
         | inl memory ↦ absurd (apart (kind_is ∙ memory))
         | inr other ↦ other

@@ -2,6 +2,8 @@ use Rattle.std.proofs.Common.{subst, []}
 use Rattle.wave_grammar.specs.PrefixAutomaton.{value}
 use Rattle.wave_grammar.specs.SyntaxErrors.{LeadsBehindValue, FailsBySyntax}
 use Rattle.wave_tree.specs.ParserState.{Parsing}
+use Rattle.wave_grammar.specs.SpannedTree.{tree_of}
+use Rattle.wave_tree.specs.ParsedNodes.{IsTaken}
 use Rattle.wave_tree.specs.Untyped.{IsUntypedTaken}
 use Rattle.wave_tree.proofs.UntypedReading.{untyped_of, refused_spells_none, trailing_spells_none, tree_refusal_handed}
 use Rattle.wave_lex.specs.declared.error.ParserError.{ParserError}
@@ -18,9 +20,9 @@ returns-in_err-value-clause-refused c =
 pub returns-in_err-finish-clause-refused : goal.returns-in_err-finish-clause-refused
 returns-in_err-finish-clause-refused c =
     tree_refusal_handed c.args.source.now c.from_residual-in_err-finish.result c.in_err-finish.field-0.0 c.from_residual-in_err-finish.ensures.1
-    (trailing_spells_none c.args.source.now c.in_err-finish.field-0.0 c.parse_raw_value.new.self.place c.in_ok-value.value
+    (trailing_spells_none c.args.source.now c.in_err-finish.field-0.0 c.parse_raw_value.new.self.place (tree_of c.in_ok-value.ensures.tree.1.placed)
     (subst (λ (z : Parsing). LeadsBehindValue 100 value [] z.place c.parse_raw_value.new.self.place []) c.new-parser.ensures c.in_ok-value.ensures.value)
-    (subst (λ (z : Parsing). IsUntypedTaken z.place c.parse_raw_value.new.self.place c.in_ok-value.value) c.new-parser.ensures c.in_ok-value.ensures.tree)
+    (subst (λ (z : Parsing). IsTaken z.place c.parse_raw_value.new.self.place (tree_of c.in_ok-value.ensures.tree.1.placed)) c.new-parser.ensures c.in_ok-value.ensures.tree.1.taken)
     c.in_err-finish.ensures.answer)
 
 pub returns-clause-value : goal.returns-clause-value

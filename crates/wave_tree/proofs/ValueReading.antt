@@ -1,0 +1,94 @@
+-- What reading a text at a type says of the text.
+use Rattle.std.proofs.Common.{◌≡◌, ◌≢◌, ℕ, inl, inr, List, [], sym, ap, subst, ◌∙◌, None}
+use Rattle.std.specs.Prelude.{◌⊎◌}
+use Rattle.wave_wasm.specs.Types.{TypeTree, HasDistinctNames}
+use Rattle.wave_wasm.specs.Values.{Value}
+use Rattle.wave_lex.specs.declared.error.ParserError.{ParserError}
+use Rattle.wave_lex.specs.declared.error.ParserErrorKind.TheVariants as kind
+use Rattle.wave_lex.specs.Errors.{Refusal, LiesInText, refusal_of}
+use Rattle.wave_grammar.specs.SpannedTree.{tree_of}
+use Rattle.wave_grammar.specs.TypeErrors.{Fault}
+use Rattle.wave_grammar.specs.ParserPosition.{Place, TakesItem}
+use Rattle.wave_grammar.specs.PrefixAutomaton.{value}
+use Rattle.wave_grammar.specs.SyntaxErrors.{IsSyntaxError}
+use Rattle.wave_node.specs.TypedReading as typed
+use Rattle.wave_tree.specs.ParserState.{Parsing, IsTrailing, StaysWithout, first_at, front_of, start_of}
+use Rattle.wave_tree.specs.FromStr.{IsValueTaken, IsRead, IsTypeRefused, RefusesValue, IsCausedBetween, RefusesFront, BlamesText, RefusesText}
+use Rattle.wave_tree.proofs.TextReading.{all_cut, means_of, whole_read, refused_means_none, nothing_there, memory_or}
+use Rattle.wave_tree.proofs.UntypedReading.{refused_spells_none, trailing_spells_none}
+use Rattle.wave_tree.proofs.ErrorSpans.Syntax.{trailing_kind}
+use Rattle.wave_tree.proofs.ErrorSpans.Trailing.{trailing_lies}
+use Rattle.wave_grammar.proofs.RoundTrip.ReadsBack.{reads_merged}
+
+-- ---- refused values
+
+-- a value that could not be read: of what begins the text
+front_refused : (Full : TypeTree → Type 0) (T : TypeTree) (s : List ℕ) (p : Place) (e : ParserError) → RefusesValue Full T e (start_of s) p → RefusesFront s e
+front_refused Full T s p e h = by (memory_or e.kind)
+  where
+    by_kind : IsSyntaxError e 100 value [] (start_of s) p ⊎ IsTypeRefused Full T e (start_of s) p → RefusesFront s e
+    by_kind (inl k) = inl (refused_spells_none s e p (λ apart. k))
+    by_kind (inr k) = inr (p, k.placed, k.read, k.kind)
+
+    by : (e.kind ≡ kind.OutOfMemory) ⊎ (e.kind ≢ kind.OutOfMemory) → RefusesFront s e
+    by (inl memory) = inl (λ apart. absurd (apart memory))
+    by (inr apart) = by_kind (h apart)
+
+-- of what the text means
+text_blamed : (Full : TypeTree → Type 0) (T : TypeTree) (s : List ℕ) (p : Place) (e : ParserError) → RefusesValue Full T e (start_of s) p → HasDistinctNames T → BlamesText Full T s e
+text_blamed Full T s p e h distinct = by (memory_or e.kind)
+  where
+    by_blame : (k : IsTypeRefused Full T e (start_of s) p) → Fault T k.placed (refusal_of e) e.span × typed.ReadsNone T k.placed ⊎ (e.kind ≡ kind.WasmValueError) × (Full T → ⊥) → BlamesText Full T s e
+    by_blame k (inl (fault, none)) = inr (inl (inr (inl (p, k.placed, k.read, fault)), λ v means. none v (whole_read T s p (tree_of k.placed) v k.read.read k.read.taken means).reads))
+    by_blame k (inr other) = inr (inr other)
+
+    by_kind : IsSyntaxError e 100 value [] (start_of s) p ⊎ IsTypeRefused Full T e (start_of s) p → BlamesText Full T s e
+    by_kind (inl k) = inr (inl (inl (p, k), refused_means_none T s e p k))
+    by_kind (inr k) = by_blame k (k.blames distinct)
+
+    by : (e.kind ≡ kind.OutOfMemory) ⊎ (e.kind ≢ kind.OutOfMemory) → BlamesText Full T s e
+    by (inl memory) = inl memory
+    by (inr apart) = by_kind (h apart)
+
+-- what a value that could not be read says of the text
+pub value_refused : (Full : TypeTree → Type 0) (T : TypeTree) (s : List ℕ) (old new : Parsing) (e : ParserError) → old ≡ first_at (front_of s) → RefusesValue Full T e old.place new.place → LiesInText old.place.lexer.source e.span → IsCausedBetween old.place new.place e → StaysWithout e old.place new.place → RefusesText Full T s e
+value_refused Full T s old new e first refused within caused memory =
+    let here = subst (λ (z : Parsing). RefusesValue Full T e z.place new.place) first refused in record {
+      front = front_refused Full T s new.place e here;
+      blames = text_blamed Full T s new.place e here;
+      within = subst (λ (z : Parsing). LiesInText z.place.lexer.source e.span) first within;
+      caused = (new.place, subst (λ (z : Parsing). IsCausedBetween z.place new.place e) first caused);
+      memory = λ is. (subst (λ (z : Parsing). StaysWithout e z.place new.place) first memory is).1;
+    }
+
+-- ---- what follows
+
+-- what follows a value is no want of memory
+trailing_memory : (e : ParserError) (p : Place) → IsTrailing e p → e.kind ≢ kind.OutOfMemory
+trailing_memory e p (behind, item, says) is = cc (sym (ap (λ (r : Refusal). r.kind) says.is) ∙ is)
+
+-- what follows a value is refused
+pub trailing_refused : {V : Type 0} (tree_of_value : V → Value) (of : V → TypeTree → Type 0) (Full : TypeTree → Type 0) (T : TypeTree) (s : List ℕ) (p : Place) (v : V) (e : ParserError) → IsValueTaken tree_of_value of T (start_of s) p v → IsTrailing e p → RefusesText Full T s e
+trailing_refused tree_of_value of Full T s p v e h trails =
+    let t = tree_of h.placed in
+    let (behind, any, says) = trails in record {
+      front = inl (trailing_spells_none s e p t h.read.read h.read.taken trails);
+      blames = λ distinct. inr (inl (
+        inr (inr (p, h.placed, tree_of_value v, h.read, (h.means distinct).reads, trails)),
+        λ w means. let ends = (whole_read T s p t w h.read.read h.read.taken means).ends in nothing_there p ends.0 behind ends.1 any,
+      ));
+      within = trailing_lies s p h.read.taken.tokens e h.read.taken.taken trails;
+      caused = (p, λ is. absurd (trailing_kind e p trails is));
+      memory = λ is. absurd (trailing_memory e p trails is);
+    }
+
+-- a value behind which nothing follows is read
+pub value_read : {V : Type 0} (tree_of_value : V → Value) (of : V → TypeTree → Type 0) (T : TypeTree) (s : List ℕ) (p : Place) (v : V) → IsValueTaken tree_of_value of T (start_of s) p v → ((behind : Place) × TakesItem p None behind) → IsRead tree_of_value of T s v
+value_read tree_of_value of T s p v h ends =
+    let taken = h.read.taken in record {
+      spelled = (tree_of h.placed, (taken.tokens, all_cut s p taken.tokens taken.taken ends, taken.takes));
+      meant = λ distinct.
+          let it = h.means distinct in
+          let means = means_of T s p (tree_of h.placed) (tree_of_value v) taken ends it.reads in
+          (means, it.is_of, reads_merged T 100 means.0 [] (tree_of_value v) means.2);
+    }
