@@ -9,7 +9,7 @@ ghost use Rattle.wave_grammar.specs.TypedGrammar.{IsOption};
 ghost use Rattle.wave_grammar.specs.Params.{Omitted};
 ghost use Rattle.wave_node.specs.NodeTree.{place_of};
 ghost use Rattle.wave_lex.specs.Errors.{Says};
-ghost use Rattle.wave_node.specs.ErrorSpans.{IsCausedIn, IsAtPlace};
+ghost use Rattle.wave_node.specs.ErrorSpans.{IsCausedIn, IsAtPlace, HasParamsKind};
 ghost use Rattle.wave_lex.specs.Errors.{LiesInText};
 ghost use Rattle.wave_node.specs.Nodes.{IsNodeOf};
 ghost use Rattle.wave_grammar.specs.SpannedTree.{Placed};
@@ -40,6 +40,7 @@ impl Node {
             → IfOk result (λ vs. GivesParams V.tree V.is_of (map V.Type.tree types.now) self.now t vs.items) }
         ensures refused { AllOf HasDistinctNames (map V.Type.tree types.now) → (t : Placed) → IsNodeOf src.now self.now t
             → IfErr result (RefusesParams V.is_full (map V.Type.tree types.now) self.now t) }
+        ensures kind { IfErr result HasParamsKind }
         ensures within { IfErr result (λ e. LiesInText src.now e.span) }
         ensures caused { IfErr result (λ e. e.kind ≡ WasmValueError → IsCausedIn self.now e) }
     {
