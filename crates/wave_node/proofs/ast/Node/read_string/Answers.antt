@@ -3,7 +3,7 @@ use Rattle.std.specs.Cow.{cow_str_bytes}
 use Rattle.wave_node.proofs.MakerAnswers.{handed, leaf_made}
 use Rattle.wave_node.proofs.ByKind.TextLeaves.{string_read, string_blame}
 use Rattle.std.proofs.Common.{inl}
-use Rattle.wave_node.specs.ErrorSpans.{StandsIn}
+use Rattle.wave_node.specs.Private.ErrorSpans.{RefusesIn}
 use Rattle.wave_node.proofs.Parameters.{error_handed}
 use Rattle.wave_node.proofs.ErrorSpans.Nodes.{string_in}
 use Rattle.wave_node.proofs.ast.Node.read_string.Goals as goal
@@ -19,4 +19,4 @@ returns-clause-answer g c = λ t is distinct.
 
 pub returns-in_err-text-clause-within : goal.returns-in_err-text-clause-within
 returns-in_err-text-clause-within g c =
-    error_handed (StandsIn c.args.self.now) c.from_residual.result c.in_err-text.field-0.0 c.from_residual.ensures.1 (string_in c.args.src.now c.args.self.now c.in_err-text.field-0.0 (inl c.requires.node) c.in_err-text.ensures)
+    error_handed (RefusesIn c.args.self.now) c.from_residual.result c.in_err-text.field-0.0 c.from_residual.ensures.1 (string_in c.args.src.now c.args.self.now c.in_err-text.field-0.0 (inl c.requires.node) c.in_err-text.ensures)

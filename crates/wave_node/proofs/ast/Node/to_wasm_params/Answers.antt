@@ -12,8 +12,8 @@ use Rattle.wave_lex.specs.declared.error.ParserError.{ParserError}
 use Rattle.wave_lex.specs.declared.error.ParserErrorKind.TheVariants as because
 use Rattle.wave_node.specs.NodeTree.{place_of}
 use Rattle.wave_lex.specs.Errors.{LiesInText}
-use Rattle.wave_node.specs.ErrorSpans.{IsAtPlace, IsCausedIn}
-use Rattle.wave_node.proofs.ErrorSpans.Nodes.{at_in, at_in_text, form_at, memory_at, node_in_text, deeper_at, close_lies}
+use Rattle.wave_node.specs.ErrorSpans.{IsAtPlace, IsCausedIn, IsTypeKind, HasParamsKind}
+use Rattle.wave_node.proofs.ErrorSpans.Nodes.{at_in, at_in_text, form_at, memory_at, memory_here, node_in_text, deeper_at, close_lies, said_params_kind, omitted_kind}
 use Rattle.wave_node.proofs.ast.Node.to_wasm_params.Goals as goal
 
 pub returns-then-i-types-clause-refused : goal.returns-then-i-types-clause-refused
@@ -122,11 +122,11 @@ returns-clause-values g c = λ distinct t is.
 
 pub returns-in_err-nodes-clause-within : goal.returns-in_err-nodes-clause-within
 returns-in_err-nodes-clause-within g c =
-    error_handed (λ (x : ParserError). LiesInText c.args.src.now x.span) c.from_residual.result c.in_err-nodes.field-0.0 c.from_residual.ensures.1 (at_in_text c.args.src.now c.args.self.now c.in_err-nodes.field-0.0 (inl c.requires) (form_at c.args.self.now c.in_err-nodes.field-0.0 c.in_err-nodes.ensures.1))
+    error_handed (λ (x : ParserError). LiesInText c.args.src.now x.span) c.from_residual.result c.in_err-nodes.field-0.0 c.from_residual.ensures.1 (at_in_text c.args.src.now c.args.self.now c.in_err-nodes.field-0.0 (inl c.requires) (form_at c.args.self.now c.in_err-nodes.field-0.0 c.in_err-nodes.ensures.1).0)
 
 pub returns-in_err-nodes-clause-caused : goal.returns-in_err-nodes-clause-caused
 returns-in_err-nodes-clause-caused g c =
-    error_handed (λ (x : ParserError). x.kind ≡ because.WasmValueError → IsCausedIn c.args.self.now x) c.from_residual.result c.in_err-nodes.field-0.0 c.from_residual.ensures.1 ((at_in c.args.src.now c.args.self.now c.in_err-nodes.field-0.0 (inl c.requires) (form_at c.args.self.now c.in_err-nodes.field-0.0 c.in_err-nodes.ensures.1)).caused)
+    error_handed (λ (x : ParserError). x.kind ≡ because.WasmValueError → IsCausedIn c.args.self.now x) c.from_residual.result c.in_err-nodes.field-0.0 c.from_residual.ensures.1 ((at_in c.args.src.now c.args.self.now c.in_err-nodes.field-0.0 (inl c.requires) (form_at c.args.self.now c.in_err-nodes.field-0.0 c.in_err-nodes.ensures.1)).0.caused)
 
 pub returns-then-i-types-clause-within : goal.returns-then-i-types-clause-within
 returns-then-i-types-clause-within g c =
@@ -142,7 +142,7 @@ returns-in_err-val-clause-within g c =
 
 pub returns-in_err-val-clause-caused : goal.returns-in_err-val-clause-caused
 returns-in_err-val-clause-caused g c =
-    error_handed (λ (x : ParserError). x.kind ≡ because.WasmValueError → IsCausedIn c.args.self.now x) c.from_residual-in_err-val.result c.in_err-val.field-0.0 c.from_residual-in_err-val.ensures.1 ((deeper_at c.args.src.now c.args.self.now c.in_ok-nodes.nodes.now c.loop-i.i c.index-nodes-i-in-loop-i.result c.in_err-val.field-0.0 c.requires c.in_ok-nodes.ensures.1 c.loop-i-test.true c.index-nodes-i-in-loop-i.is c.in_err-val.ensures.within).caused)
+    error_handed (λ (x : ParserError). x.kind ≡ because.WasmValueError → IsCausedIn c.args.self.now x) c.from_residual-in_err-val.result c.in_err-val.field-0.0 c.from_residual-in_err-val.ensures.1 ((deeper_at c.args.src.now c.args.self.now c.in_ok-nodes.nodes.now c.loop-i.i c.index-nodes-i-in-loop-i.result c.in_err-val.field-0.0 c.requires c.in_ok-nodes.ensures.1 c.loop-i-test.true c.index-nodes-i-in-loop-i.is (c.in_err-val.ensures.within, c.in_err-val.ensures.kind)).0.caused)
 
 pub returns-in_err-push-clause-within : goal.returns-in_err-push-clause-within
 returns-in_err-push-clause-within g c =
@@ -150,7 +150,7 @@ returns-in_err-push-clause-within g c =
 
 pub returns-in_err-push-clause-caused : goal.returns-in_err-push-clause-caused
 returns-in_err-push-clause-caused g c =
-    error_handed (λ (x : ParserError). x.kind ≡ because.WasmValueError → IsCausedIn c.args.self.now x) c.from_residual-in_err-push.result c.in_err-push.field-0.0 c.from_residual-in_err-push.ensures.1 ((at_in c.args.src.now c.args.self.now c.in_err-push.field-0.0 (inl c.requires) (memory_at (place_of c.args.self.now) c.in_err-push.field-0.0 c.in_err-push.ensures.refused c.in_err-push.ensures.place)).caused)
+    error_handed (λ (x : ParserError). x.kind ≡ because.WasmValueError → IsCausedIn c.args.self.now x) c.from_residual-in_err-push.result c.in_err-push.field-0.0 c.from_residual-in_err-push.ensures.1 ((at_in c.args.src.now c.args.self.now c.in_err-push.field-0.0 (inl c.requires) (memory_here c.args.self.now c.in_err-push.field-0.0 c.in_err-push.ensures.refused c.in_err-push.ensures.place)).0.caused)
 
 pub returns-then-not-are_options-clause-within : goal.returns-then-not-are_options-clause-within
 returns-then-not-are_options-clause-within g c =
@@ -166,4 +166,26 @@ returns-in_err-push_omitted-clause-within g c =
 
 pub returns-in_err-push_omitted-clause-caused : goal.returns-in_err-push_omitted-clause-caused
 returns-in_err-push_omitted-clause-caused g c =
-    error_handed (λ (x : ParserError). x.kind ≡ because.WasmValueError → IsCausedIn c.args.self.now x) c.from_residual-in_err-push_omitted.result c.in_err-push_omitted.field-0.0 c.from_residual-in_err-push_omitted.ensures.1 ((at_in c.args.src.now c.args.self.now c.in_err-push_omitted.field-0.0 (inl c.requires) (subst (λ (p : Range ℕ). IsAtPlace p c.in_err-push_omitted.field-0.0) c.span.ensures c.in_err-push_omitted.ensures.within)).caused)
+    error_handed (λ (x : ParserError). x.kind ≡ because.WasmValueError → IsCausedIn c.args.self.now x) c.from_residual-in_err-push_omitted.result c.in_err-push_omitted.field-0.0 c.from_residual-in_err-push_omitted.ensures.1 ((at_in c.args.src.now c.args.self.now c.in_err-push_omitted.field-0.0 (inl c.requires) (subst (λ (p : Range ℕ). IsAtPlace p c.in_err-push_omitted.field-0.0) c.span.ensures c.in_err-push_omitted.ensures.within, omitted_kind g.V.WasmValue.is_full _ _ c.in_err-push_omitted.field-0.0 c.in_err-push_omitted.ensures.refused)).0.caused)
+
+pub returns-in_err-nodes-clause-kind : goal.returns-in_err-nodes-clause-kind
+returns-in_err-nodes-clause-kind g c =
+    error_handed HasParamsKind c.from_residual.result c.in_err-nodes.field-0.0 c.from_residual.ensures.1 (inl (form_at c.args.self.now c.in_err-nodes.field-0.0 c.in_err-nodes.ensures.1).1)
+
+pub returns-then-i-types-clause-kind : goal.returns-then-i-types-clause-kind
+returns-then-i-types-clause-kind g c = said_params_kind c.too_many.result _ _ c.too_many.ensures
+
+pub returns-in_err-val-clause-kind : goal.returns-in_err-val-clause-kind
+returns-in_err-val-clause-kind g c =
+    error_handed HasParamsKind c.from_residual-in_err-val.result c.in_err-val.field-0.0 c.from_residual-in_err-val.ensures.1 (inl c.in_err-val.ensures.kind)
+
+pub returns-in_err-push-clause-kind : goal.returns-in_err-push-clause-kind
+returns-in_err-push-clause-kind g c =
+    error_handed HasParamsKind c.from_residual-in_err-push.result c.in_err-push.field-0.0 c.from_residual-in_err-push.ensures.1 (inl (subst IsTypeKind (sym c.in_err-push.ensures.refused) tt))
+
+pub returns-then-not-are_options-clause-kind : goal.returns-then-not-are_options-clause-kind
+returns-then-not-are_options-clause-kind g c = said_params_kind c.missing.result _ _ c.missing.ensures
+
+pub returns-in_err-push_omitted-clause-kind : goal.returns-in_err-push_omitted-clause-kind
+returns-in_err-push_omitted-clause-kind g c =
+    error_handed HasParamsKind c.from_residual-in_err-push_omitted.result c.in_err-push_omitted.field-0.0 c.from_residual-in_err-push_omitted.ensures.1 (inl (omitted_kind g.V.WasmValue.is_full _ _ c.in_err-push_omitted.field-0.0 c.in_err-push_omitted.ensures.refused))
