@@ -11,9 +11,8 @@ ghost use Rattle.wave_node.specs.NodeTree.{place_of};
 ghost use Rattle.wave_lex.specs.Errors.{Says};
 ghost use Rattle.wave_node.specs.ErrorSpans.{IsCausedIn, IsAtPlace, HasParamsKind};
 ghost use Rattle.wave_lex.specs.Errors.{LiesInText};
-ghost use Rattle.wave_node.specs.Nodes.{IsNodeOf};
+ghost use Rattle.wave_node.specs.Nodes.{IsNodeOf, IsParsedFrom};
 ghost use Rattle.wave_grammar.specs.SpannedTree.{Placed};
-ghost use Rattle.wave_node.specs.TypedReading.{IsValueOf};
 ghost use Rattle.wave_node.specs.NodeParams.{AreOmitted, RefusesNone};
 ghost use Rattle.wave_node.specs.NodeParams.{GivesParams, RefusesParams, IsNoOption, close_of};
 ghost use Rattle.wave_node.specs.Private.NodeParams.{RefusesOmitted};
@@ -35,7 +34,7 @@ impl Node {
         types: &[V::Type],
         src: &str,
     ) -> Result<Vec<V>, ParserError>
-        requires { IsValueOf src.now self.now }
+        requires { IsParsedFrom src.now self.now }
         ensures values { AllOf HasDistinctNames (map V.Type.tree types.now) → (t : Placed) → IsNodeOf src.now self.now t
             → IfOk result (λ vs. GivesParams V.tree V.is_of (map V.Type.tree types.now) self.now t vs.items) }
         ensures refused { AllOf HasDistinctNames (map V.Type.tree types.now) → (t : Placed) → IsNodeOf src.now self.now t

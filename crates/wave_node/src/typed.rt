@@ -6,15 +6,16 @@ ghost use Rattle.wave_wasm.specs.Values as value;
 ghost use Rattle.wave_wasm.specs.Borrowed.{texts, shown, shown_cases};
 ghost use Rattle.wave_wasm.specs.TypeText.{kind_word};
 ghost use Rattle.wave_wasm.specs.ValueErrors.{unsupported_type, wrong_number};
-ghost use Rattle.wave_lex.specs.declared.error.ParserErrorKind.TheVariants.{OutOfMemory};
+ghost use Rattle.wave_lex.specs.declared.error.ParserErrorKind.TheVariants.{InvalidType, OutOfMemory};
 ghost use Rattle.wave_node.specs.Private.NodeAccessors.{Among};
-ghost use Rattle.wave_node.specs.NodeAccessors.{shown_node};
+ghost use Rattle.wave_node.specs.NodeAccessors.{RefusedAs, shown_node};
 ghost use Rattle.std.specs.Cow.{cow_str_bytes};
-ghost use Rattle.wave_node.specs.TypedReading.{IsLeafMade, IsValueOf, IsKeyOf, AnswersKey, IsMade, Answers, ReadsAtType};
+ghost use Rattle.wave_node.specs.TypedReading.{IsLeafMade, IsValueOf, IsKeyOf, IsKeywordOf, AnswersKey, IsMade, Answers, ReadsAtType, ReadsKey};
+ghost use Rattle.std.specs.Result.{IsErrAnd};
 ghost use Rattle.wave_node.specs.Private.TypedReading.{IsCaused, named_cause, AnswersWhole, IsPayloadOf, GivesFlat, AnswersPayload};
 ghost use Rattle.wave_node.specs.Nodes.{IsParsedFrom};
 ghost use Rattle.wave_lex.specs.Errors.{refusal_of};
-ghost use Rattle.std.specs.Prelude.{MatchResult};
+ghost use Rattle.std.specs.Prelude.{MatchBool, MatchResult};
 ghost use Rattle.wave_node.specs.ErrorSpans.{HasTypeKind, StandsIn};
 ghost use Rattle.wave_node.specs.Private.ErrorSpans.{RefusesAt, RefusesIn, RefusesInPart};
 ghost use Rattle.wave_lex.specs.Errors.{LiesInText};
@@ -30,6 +31,7 @@ ghost use Rattle.wave_wasm.specs.Text.{text};
 use crate::ast::{CowStr, Node, NodeType};
 use std::alloc::Global;
 use wave_lex::error::{ParserError, ParserErrorKind};
+use wave_wasm::keyword::Keyword;
 use wave_wasm::wasm::{DisplayType, WasmType, WasmTypeKind, WasmValue, WasmValueError};
 use wave_wasm::writer::{WriterError, merge_map_entries, to_string};
 
@@ -47,23 +49,62 @@ pub(crate) enum Amiss {
 }
 
 impl Node {
-    /// The value that the type gives the node, which was parsed from `src` as a value. Where the
-    /// type gives it none the refusal is a fault of the node or of a part of it, at its span. A
-    /// maker of `V` that refuses is the cause of a refusal at the node that was read; `Value`
-    /// refuses so for want of memory alone, where the names of the type are distinct.
+    /// The value that the type gives the node, which was parsed from `src`. Where the type gives it
+    /// none the refusal is a fault of the node or of a part of it, at its span. A maker of `V` that
+    /// refuses is the cause of a refusal at the node that was read; `Value` refuses so for want of
+    /// memory alone, where the names of the type are distinct. A key is read as a key of a map of
+    /// such keys is; one that is a keyword is `InvalidType` at each type but bool.
     pub fn to_wasm_value<V: WasmValue>(
         &self,
         alloc: Global,
         ty: &V::Type,
         src: &str,
     ) -> Result<V, ParserError>
-        requires { IsValueOf src.now self.now }
+        requires { IsParsedFrom src.now self.now }
         ensures answer { ReadsAtType V.tree V.is_of V.is_full (V.Type.tree ty.now) src.now self.now result }
+        ensures key { ReadsKey V.tree V.is_of V.is_full (V.Type.tree ty.now) src.now self.now result }
+        ensures keyword { IsKeywordOf src.now self.now → V.Type.tree ty.now ≢ type.simple type.bool → IsErrAnd result (RefusedAs InvalidType self.now) }
         ensures kind { IfErr result HasTypeKind }
         ensures within { IfErr result (StandsIn self.now) }
         ensures in_text { IfErr result (λ e. LiesInText src.now e.span) }
     {
+        if self.is_keyword(src) {
+            return self.read_keyword(alloc, ty, src);
+        }
         self.read(alloc, ty, src)
+    }
+
+    /// Whether the node is a key that is a keyword, as no value is.
+    fn is_keyword(&self, src: &str) -> bool
+        requires { IsParsedFrom src.now self.now }
+        ensures { MatchBool result (IsKeywordOf src.now self.now) (IsKeywordOf src.now self.now → ⊥) }
+    {
+        if !self.is_of(NodeType::Label) {
+            return false;
+        }
+        match Keyword::decode(self.slice(src)) {
+            Some(_) => true,
+            None => false,
+        }
+    }
+
+    /// A key that is a keyword: `true` or `false`, or none of any type.
+    fn read_keyword<V: WasmValue>(
+        &self,
+        alloc: Global,
+        ty: &V::Type,
+        src: &str,
+    ) -> Result<V, ParserError>
+        requires key { IsKeyOf src.now self.now }
+        requires keyword { IsKeywordOf src.now self.now }
+        ensures answer { AnswersKey V.tree V.is_of V.is_full (V.Type.tree ty.now) src.now self.now result }
+        ensures other { V.Type.tree ty.now ≢ type.simple type.bool → IsErrAnd result (RefusedAs InvalidType self.now) }
+        ensures within { IfErr result (RefusesIn self.now) }
+    {
+        match ty.kind() {
+            WasmTypeKind::Bool => self.read_plain_key(alloc, ty, src),
+            _ => Err(self.error(ParserErrorKind::InvalidType)),
+        }
     }
 
     /// The value of the node at the type.

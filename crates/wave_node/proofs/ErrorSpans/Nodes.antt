@@ -395,6 +395,14 @@ pub memory_or_said : (n : NodeTree) (e : ParserError) (k : ParserErrorKind) (det
 memory_or_said n e k detail apart known (inl memory) place = memory_here n e memory place
 memory_or_said n e k detail apart known (inr says) place = said_here n e k detail apart known says
 
+-- what stands in a node lies in the source
+pub all_in_text : {X : Type 0} (source : List ℕ) (n : NodeTree) (r : Result X ParserError) → IsParsedFrom source n → IfErr r (RefusesIn n) → IfErr r (λ e. LiesInText source e.span)
+all_in_text source n (Ok x) h told = tt
+all_in_text source n (Err e) h told =
+    let own = node_in_text source n h in
+    let last = told.0.lies.2 in
+    (told.0.lies.1, omega (arith, own.1, last))
+
 -- what stands at a place of the source lies in it
 pub all_at_text : {X : Type 0} (source : List ℕ) (p : Range ℕ) (r : Result X ParserError) → Stands source p.start p.end → IfErr r (IsAtPlace p) → IfErr r (λ e. LiesInText source e.span)
 all_at_text source p (Ok x) h told = tt
