@@ -1,11 +1,10 @@
 -- A key that is no keyword is a value's node too; a keyword is none.
-use Rattle.std.proofs.Common.{ℕ, ◌≡◌, ◌≢◌, ◌≤◌, ◌+◌, ◌-◌, ◌⊎◌, inl, inr, zero, suc, Bool, true, false, List, [], ◌∷◌, length, drop, length-take, Some, None, Option, Result, Ok, Err, IfOk, IfErr, MatchResult, codes, refl, sym, ap, ◌∙◌, subst, arith}
+use Rattle.std.specs.Prelude.{◌↔◌}
+use Rattle.std.proofs.Common.{ℕ, ◌≡◌, ◌≢◌, ◌-◌, inl, inr, zero, suc, Bool, true, false, List, [], ◌∷◌, drop, length-take, Some, None, Result, Ok, Err, MatchResult, refl, sym, ap, ◌∙◌, subst, arith}
 use Rattle.std.proofs.lemmas.List.{drop_all}
 use Rattle.std.specs.declared.ops.Range.{Range}
-use Rattle.std.specs.Result.{IsErrAnd}
-use Rattle.wave_wasm.specs.Lists.{AllOf}
 use Rattle.wave_wasm.specs.Names.{IsNoneOf}
-use Rattle.wave_wasm.specs.Keywords.{keyword_text, keywords, DecodesTo}
+use Rattle.wave_wasm.specs.Keywords.{keyword_text, keywords}
 use Rattle.wave_wasm.specs.declared.keyword.Keyword.{Keyword}
 use Rattle.wave_wasm.specs.declared.keyword.Keyword.TheVariants as keyword
 use Rattle.wave_wasm.specs.Text.{bool_text}
@@ -23,12 +22,12 @@ use Rattle.wave_grammar.specs.LeafTokens.{Spells}
 use Rattle.wave_grammar.specs.CommaSeparated.{Spelling}
 use Rattle.wave_grammar.specs.Tree as tree
 use Rattle.wave_grammar.specs.Tree.{Tree, MaybeTree, Word, word_of, leaf_word, none_word, some_word, ok_word, err_word, case_word, ATree, BehindWord, Takes}
-use Rattle.wave_grammar.specs.Elaborates.{SimpleTree, TreeReads}
-use Rattle.wave_grammar.specs.SpannedTree.{Placed, at, one, label, no_placed, slice, span_of, shape_of, tree_of, HoldsTokens, SpellsAt, SpellsEach, StandsAtTokens, EndsToken, BeginsToken}
+use Rattle.wave_grammar.specs.Elaborates.{SimpleTree}
+use Rattle.wave_grammar.specs.SpannedTree.{Placed, at, one, label, no_placed, slice, span_of, shape_of, tree_of, HoldsTokens, SpellsAt, SpellsEach, StandsAtTokens}
 use Rattle.wave_grammar.specs.TypeErrors.{IsRefusalOf, SpellsNoLeaf, LeafFault, MapKeyFault, Fault}
 use Rattle.wave_grammar.proofs.Elaboration.GrammarToTree.{not-keyword}
 use Rattle.wave_node.specs.NodeTree.{NodeTree, type_of, place_of}
-use Rattle.wave_node.specs.Nodes.{placed_of, key_of, IsNodeOf, IsTokenOf, IsParsedFrom}
+use Rattle.wave_node.specs.Nodes.{key_of, IsNodeOf, IsTokenOf, IsParsedFrom}
 use Rattle.wave_node.specs.NodeAccessors.{node_text, RefusedAs}
 use Rattle.wave_node.specs.TypedReading.{IsValueOf, IsKeyOf, IsKeywordOf, IsTypedValue, IsBlamed, IsKeyRead, IsKeyBlamed, IsKeyError}
 use Rattle.wave_node.proofs.ChildNodes.Inside.{Inside, inside, some_is}
@@ -37,7 +36,6 @@ use Rattle.wave_node.proofs.ByKind.Leaves.{said}
 use Rattle.wave_node.proofs.ByKind.TextKeys.{no_spelling}
 use Rattle.wave_node.proofs.ByKind.Enums.{label_node}
 use Rattle.wave_node.proofs.Faultless.{leaf_none}
-use Rattle.wave_node.specs.declared.ast.NodeType.{NodeType}
 use Rattle.wave_node.specs.declared.ast.NodeType.TheVariants as kind
 
 -- ---- labels that are values
@@ -145,6 +143,10 @@ key_node source n p key apart h = (h.0.1, key_spells source n h.0.0 p key (insid
 pub value_node : (source : List ℕ) (n : NodeTree) → (IsKeywordOf source n → ⊥) → IsParsedFrom source n → IsValueOf source n
 value_node source n apart (inl v) = v
 value_node source n apart (inr k) = (k.2.0.0, key_node source n k.0 k.1 apart k.2)
+
+-- a key is a value where it is no keyword, and only there
+pub keys_as_values : (source : List ℕ) (n : NodeTree) → IsKeyOf source n → IsValueOf source n ↔ (IsKeywordOf source n → ⊥)
+keys_as_values source n k = (λ v word. keyword_no_value source n v.0 word v.1, λ apart. value_node source n apart (inr k))
 
 -- so is a node of another type than those of labels
 pub other_value : (source : List ℕ) (n : NodeTree) → type_of n ≢ kind.Label → IsParsedFrom source n → IsValueOf source n

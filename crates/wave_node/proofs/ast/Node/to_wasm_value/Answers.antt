@@ -1,4 +1,3 @@
-use Rattle.std.proofs.Common.{inl, inr}
 use Rattle.wave_node.proofs.Faultless.{refused}
 use Rattle.wave_node.proofs.KeyNodes.{keyword_key, keyword_no_value, value_node, key_node, key_read, key_told_none, simple_distinct}
 use Rattle.wave_node.proofs.ErrorSpans.Nodes.{all_stand, all_kinds, all_in_text}
