@@ -1,6 +1,6 @@
 -- A key that is no keyword is a value's node too; a keyword is none.
 use Rattle.std.specs.Prelude.{◌↔◌}
-use Rattle.std.proofs.Common.{ℕ, ◌≡◌, ◌≢◌, ◌-◌, inl, inr, zero, suc, Bool, true, false, List, [], ◌∷◌, drop, length-take, Some, None, Result, Ok, Err, MatchResult, refl, sym, ap, ◌∙◌, subst, arith}
+use Rattle.std.proofs.Common.{ℕ, ◌≡◌, ◌≢◌, ◌-◌, inl, inr, zero, suc, Bool, true, false, List, [], ◌∷◌, drop, length-take, Some, Result, Ok, Err, MatchResult, refl, sym, ap, ◌∙◌, subst, arith}
 use Rattle.std.proofs.lemmas.List.{drop_all}
 use Rattle.std.specs.declared.ops.Range.{Range}
 use Rattle.wave_wasm.specs.Names.{IsNoneOf}

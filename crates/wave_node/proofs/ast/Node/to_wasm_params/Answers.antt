@@ -4,13 +4,14 @@ use Rattle.wave_wasm.specs.Types.{HasDistinctNames}
 use Rattle.wave_node.specs.NodeParams.{RefusesParams}
 use Rattle.wave_node.specs.Private.NodeParams.{RefusesOmitted}
 use Rattle.wave_node.proofs.ByKind.Tuples.{tuple_nodes, given_items, tuple_item, tuple_kept, place_has, map_has, all_has}
-use Rattle.wave_node.proofs.Parameters.{mapped_count, rest_mapped, error_handed, all_drop, too_many_refused, item_refused, missing_refused, params_read, omitted_refused}
+use Rattle.wave_node.proofs.Parameters.{mapped_count, rest_mapped, error_handed, handed_is, all_drop, too_many_refused, item_refused, missing_refused, params_read, omitted_refused}
 use Rattle.std.proofs.Common.{ℕ, ap, ◌∙◌}
 use Rattle.std.specs.declared.ops.Range.{Range}
 use Rattle.wave_lex.specs.Errors.{Refusal}
 use Rattle.wave_lex.specs.declared.error.ParserError.{ParserError}
 use Rattle.wave_lex.specs.declared.error.ParserErrorKind.TheVariants as because
 use Rattle.wave_node.specs.NodeTree.{place_of}
+use Rattle.wave_node.specs.NodeAccessors.{RefusedAs}
 use Rattle.wave_lex.specs.Errors.{LiesInText}
 use Rattle.wave_node.specs.ErrorSpans.{IsAtPlace, IsCausedIn, IsTypeKind, HasParamsKind}
 use Rattle.wave_node.proofs.ErrorSpans.Nodes.{at_in, at_in_text, form_at, memory_at, memory_here, node_in_text, deeper_at, close_lies, said_params_kind, omitted_kind}
@@ -190,3 +191,24 @@ returns-then-not-are_options-clause-kind g c = said_params_kind c.missing.result
 pub returns-in_err-push_omitted-clause-kind : goal.returns-in_err-push_omitted-clause-kind
 returns-in_err-push_omitted-clause-kind g c =
     error_handed HasParamsKind c.from_residual-in_err-push_omitted.result c.in_err-push_omitted.field-0.0 c.from_residual-in_err-push_omitted.ensures.1 (inl (omitted_kind g.V.WasmValue.is_full _ _ c.in_err-push_omitted.field-0.0 c.in_err-push_omitted.ensures.refused))
+
+pub returns-in_err-nodes-clause-form : goal.returns-in_err-nodes-clause-form
+returns-in_err-nodes-clause-form g c = λ apart. handed_is (RefusedAs because.InvalidType c.args.self.now) c.from_residual.result c.in_err-nodes.field-0.0 c.from_residual.ensures.1 c.in_err-nodes.ensures.1
+
+pub returns-then-i-types-clause-form : goal.returns-then-i-types-clause-form
+returns-then-i-types-clause-form g c = λ apart. absurd (apart c.in_ok-nodes.ensures.0)
+
+pub returns-in_err-val-clause-form : goal.returns-in_err-val-clause-form
+returns-in_err-val-clause-form g c = λ apart. absurd (apart c.in_ok-nodes.ensures.0)
+
+pub returns-in_err-push-clause-form : goal.returns-in_err-push-clause-form
+returns-in_err-push-clause-form g c = λ apart. absurd (apart c.in_ok-nodes.ensures.0)
+
+pub returns-then-not-are_options-clause-form : goal.returns-then-not-are_options-clause-form
+returns-then-not-are_options-clause-form g c = λ apart. absurd (apart c.in_ok-nodes.ensures.0)
+
+pub returns-in_err-push_omitted-clause-form : goal.returns-in_err-push_omitted-clause-form
+returns-in_err-push_omitted-clause-form g c = λ apart. absurd (apart c.in_ok-nodes.ensures.0)
+
+pub returns-clause-form : goal.returns-clause-form
+returns-clause-form g c = λ apart. absurd (apart c.in_ok-nodes.ensures.0)
