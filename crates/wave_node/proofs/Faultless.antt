@@ -43,7 +43,7 @@ form_of type.char t l h = (h.0, h.2)
 form_of type.string t l (text, s, inl h, e) = (text, inl h.0)
 form_of type.string t l (text, s, inr h, e) = (text, inr h.0)
 
-leaf_none : (S : Simple) (p : Range ℕ) (t : Token) (k : Refusal) (q : Range ℕ) (one_leaf : Leaf) → LeafFault S p t k q → Spells S t one_leaf → ⊥
+pub leaf_none : (S : Simple) (p : Range ℕ) (t : Token) (k : Refusal) (q : Range ℕ) (one_leaf : Leaf) → LeafFault S p t k q → Spells S t one_leaf → ⊥
 leaf_none S p t k q l (inl h) spelled = h.0 (form_of S t l spelled)
 leaf_none type.bool p t k q l (inr h) spelled = h.1
 leaf_none (type.whole which) p t k q l (inr h) spelled = h.1.0 l spelled

@@ -6,6 +6,7 @@ pub mod MakerAnswers
 pub mod ByKind
 pub mod Unread
 pub mod Faultless
+pub mod KeyNodes
 pub mod Fields
 pub mod Strings
 pub mod NodeMeaning

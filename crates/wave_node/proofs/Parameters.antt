@@ -102,6 +102,11 @@ pub error_handed : {X : Type 0} (P : ParserError → Type 0) (r : Result X Parse
 error_handed P (Ok x) e same h = tt
 error_handed P (Err f) e same h = subst P (sym same) h
 
+-- a refusal that is handed on is one
+pub handed_is : {X : Type 0} (P : ParserError → Type 0) (r : Result X ParserError) (e : ParserError) → IsErrAnd r (λ f. f ≡ e) → P e → IsErrAnd r P
+handed_is P (Ok x) e same h = absurd same
+handed_is P (Err f) e same h = subst P (sym same) h
+
 -- ---- no values
 
 no_omitted : (Ts : List TypeTree) (vs : List Value) → SomeOf IsNoOption Ts → Omitted Ts vs → ⊥

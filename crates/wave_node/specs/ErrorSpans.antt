@@ -1,11 +1,32 @@
--- Where the refusal of a node stands.
+-- Where the refusal of a node stands, and of which kind it is.
 use Rattle.std.specs.Prelude.{ℕ, ◌≡◌, ◌⊎◌, ◌≤◌, Option, Some, None}
 use Rattle.std.specs.declared.ops.Range.{Range}
 use Rattle.wave_wasm.specs.ValueErrors.{Cause}
 use Rattle.wave_lex.specs.Errors.{refusal_of, caused}
 use Rattle.wave_lex.specs.declared.error.ParserError.{ParserError}
+use Rattle.wave_lex.specs.declared.error.ParserErrorKind.{ParserErrorKind}
+use Rattle.wave_lex.specs.declared.error.ParserErrorKind.TheVariants as kind
 use Rattle.wave_lex.specs.declared.error.ParserErrorKind.TheVariants.{WasmValueError}
 use Rattle.wave_node.specs.NodeTree.{NodeTree, NodeTrees, node, no_nodes, node_and, place_of}
+
+-- the kinds that reading a node at a type refuses with: none of syntax, and none of the parameters of a call
+abbrev pub IsTypeKind : ParserErrorKind → Type 0
+IsTypeKind kind.InvalidType = Unit {0}
+IsTypeKind kind.InvalidValue = Unit {0}
+IsTypeKind kind.InvalidEscape = Unit {0}
+IsTypeKind kind.InvalidMultilineString = Unit {0}
+IsTypeKind kind.DuplicateField = Unit {0}
+IsTypeKind kind.WasmValueError = Unit {0}
+IsTypeKind kind.OutOfMemory = Unit {0}
+IsTypeKind _ = ⊥
+
+-- the refusal is of such a kind
+abbrev pub HasTypeKind : ParserError → Type 0
+HasTypeKind e = IsTypeKind e.kind
+
+-- so it is, or a refusal of the parameters of a call
+abbrev pub HasParamsKind : ParserError → Type 0
+HasParamsKind e = HasTypeKind e ⊎ (e.kind ≡ kind.InvalidParams)
 
 -- a refusal of the kind `WasmValueError` has a cause
 abbrev pub HasCause : ParserError → Type 0

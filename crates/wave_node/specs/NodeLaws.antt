@@ -11,10 +11,15 @@ use Rattle.wave_grammar.specs.TypedGrammar.{Reads}
 use Rattle.wave_grammar.specs.Elaborates.{TreeReads}
 use Rattle.wave_node.specs.NodeTree.{NodeTree, place_of}
 use Rattle.wave_node.specs.Nodes.{IsNodeOf}
+use Rattle.wave_node.specs.TypedReading.{IsValueOf, IsKeyOf, IsKeywordOf}
 
 -- so does the span of a fault of type, of a tree whose parts spell their slices of the source
 abbrev pub FaultsLieInText : Type 0
 FaultsLieInText = (source : List ℕ) (T : TypeTree) (t : Placed) (k : Refusal) (q : Range ℕ) → SpellsEach source t → Fault T t k q → LiesInText source q
+
+-- a key was parsed as a value would be exactly where it is no keyword
+abbrev pub KeysAreValues : Type 0
+KeysAreValues = (source : List ℕ) (n : NodeTree) → IsKeyOf source n → IsValueOf source n ↔ (IsKeywordOf source n → ⊥)
 
 -- the type gives the tree of a node the values that the tokens spell which stand at the node
 abbrev pub NodesReadAsTokens : Type 0

@@ -3,6 +3,8 @@ use Rattle.std.specs.Prelude.{ℕ, ◌≡◌, ◌⊎◌, List, Result, Ok, Err, 
 use Rattle.std.specs.declared.ops.Range.{Range}
 use Rattle.wave_wasm.specs.Types as type
 use Rattle.wave_wasm.specs.Types.{TypeTree, Simple, HasDistinctNames}
+use Rattle.wave_wasm.specs.Keywords.{keyword_text}
+use Rattle.wave_wasm.specs.declared.keyword.Keyword.{Keyword}
 use Rattle.wave_wasm.specs.Values as value
 use Rattle.wave_wasm.specs.Values.{Value, Leaf}
 use Rattle.wave_wasm.specs.ValueErrors.{cause_of}
@@ -11,13 +13,14 @@ use Rattle.wave_wasm.specs.declared.wasm.WasmValueError as causes
 use Rattle.wave_lex.specs.Errors.{refusal_of, refused_by}
 use Rattle.wave_lex.specs.declared.error.ParserError.{ParserError}
 use Rattle.wave_lex.specs.declared.error.ParserErrorKind.TheVariants.{OutOfMemory, WasmValueError}
-use Rattle.wave_grammar.specs.SpannedTree.{Placed, tree_of}
-use Rattle.wave_node.specs.NodeTree.{NodeTree, place_of}
+use Rattle.wave_grammar.specs.SpannedTree.{Placed, tree_of, slice}
+use Rattle.wave_node.specs.NodeTree.{NodeTree, type_of, place_of}
+use Rattle.wave_node.specs.declared.ast.NodeType.TheVariants as node_kind
 use Rattle.wave_node.specs.Nodes.{IsNodeOf, IsTokenOf}
 use Rattle.wave_grammar.specs.Token.{Token}
 use Rattle.wave_grammar.specs.LeafTokens.{Spells}
 use Rattle.wave_grammar.specs.Elaborates.{TreeReads}
-use Rattle.wave_grammar.specs.TypeErrors.{Fault, MapKeyFault}
+use Rattle.wave_grammar.specs.TypeErrors.{Fault, MapKeyFault, SpellsNoLeaf}
 
 -- the type gives the tree the value, which is of the type; V is a stranger's value, `tree` says what it means, `of` when it is of a type
 pub record IsTypedValue {V : Type 0} (tree : V → Value) (of : V → TypeTree → Type 0) (T : TypeTree) (t : Placed) (v : V) : Type 0 where
@@ -46,6 +49,10 @@ IsValueOf source n = (t : Placed) × IsNodeOf source n t
 abbrev pub IsKeyOf : List ℕ → NodeTree → Type 0
 IsKeyOf source n = (p : Range ℕ) × (key : Token) × IsTokenOf source n p key
 
+-- the node is a label that is a keyword's word, as a key may be and no value is
+abbrev pub IsKeywordOf : List ℕ → NodeTree → Type 0
+IsKeywordOf source n = (type_of n ≡ node_kind.Label) × (k : Keyword) × (slice source (place_of n) ≡ keyword_text k)
+
 -- the key spells the value, which is of the simple type
 pub record IsKeyRead {V : Type 0} (tree : V → Value) (of : V → TypeTree → Type 0) (K : Simple) (key : Token) (v : V) : Type 0 where
   pub leaf : Leaf
@@ -57,6 +64,11 @@ pub record IsKeyRead {V : Type 0} (tree : V → Value) (of : V → TypeTree → 
 abbrev pub IsKeyBlamed : (TypeTree → Type 0) → Simple → Range ℕ → Token → ParserError → Type 0
 IsKeyBlamed Full K p key e =
     (e.kind ≡ OutOfMemory) ⊎ MapKeyFault K p key (refusal_of e) e.span ⊎ (e.kind ≡ WasmValueError) × (Full (type.simple K) → ⊥)
+
+-- so, and a fault stands only where the key spells no value of the type
+abbrev pub IsKeyError : (TypeTree → Type 0) → Simple → Range ℕ → Token → ParserError → Type 0
+IsKeyError Full K p key e =
+    (e.kind ≡ OutOfMemory) ⊎ MapKeyFault K p key (refusal_of e) e.span × SpellsNoLeaf K key ⊎ (e.kind ≡ WasmValueError) × (Full (type.simple K) → ⊥)
 
 -- the value that was made; or the refusal of its maker, at the node
 abbrev pub IsMade : {V : Type 0} → NodeTree → Result V causes.WasmValueError → Result V ParserError → Type 0
@@ -80,5 +92,9 @@ module _ {V : Type 0} (tree : V → Value) (of : V → TypeTree → Type 0) (Ful
   -- so, and a fault stands only where the type gives the tree no value
   abbrev pub ReadsAtType : TypeTree → List ℕ → NodeTree → Result V ParserError → Type 0
   ReadsAtType T source n r = (t : Placed) → IsNodeOf source n t → HasDistinctNames T → MatchResult r (IsTypedValue tree of T t) (IsTypeError Full T t)
+
+  -- so of the node's key at the simple type
+  abbrev pub ReadsKey : TypeTree → List ℕ → NodeTree → Result V ParserError → Type 0
+  ReadsKey T source n r = (K : Simple) (p : Range ℕ) (key : Token) → T ≡ type.simple K → IsTokenOf source n p key → MatchResult r (IsKeyRead tree of K key) (IsKeyError Full K p key)
 
 -- ---- payloads

@@ -4,7 +4,7 @@ ghost use Rattle.wave_wasm.specs.Names.{AreAllOf, found_in};
 ghost use Rattle.wave_wasm.specs.Borrowed.{texts};
 ghost use Rattle.wave_lex.specs.declared.error.ParserErrorKind.TheVariants.{OutOfMemory};
 ghost use Rattle.wave_node.specs.NodeTree.{children_of, place_of};
-ghost use Rattle.wave_node.specs.ErrorSpans.{IsAtNode};
+ghost use Rattle.wave_node.specs.Private.ErrorSpans.{RefusesAt};
 ghost use Rattle.wave_node.specs.Nodes.{IsParsedFrom};
 ghost use Rattle.wave_node.specs.TypedReading.{IsValueOf};
 ghost use Rattle.wave_node.specs.Private.NodeFlags.{AreAllParsed, GivesFlagNodes, MarksNames, MarksOneMore, TellsUnmarked, RefusesFlags};
@@ -57,7 +57,7 @@ impl Node {
         ensures known { IfOk result (λ _. AreAllOf (texts names.now.items) (names_at src.now (children_of self.now))) }
         ensures picked { IfOk result (λ picked. texts picked.items ≡ found_in (names_at src.now (children_of self.now)) (texts names.now.items)) }
         ensures refused { IfErr result (RefusesFlags (texts names.now.items) src.now self.now) }
-        ensures within { IfErr result (IsAtNode self.now) }
+        ensures within { IfErr result (RefusesAt self.now) }
     {
         let nodes = self.flag_nodes()?;
         let mut marks = self.unmarked(alloc, nodes, src)?;
@@ -100,7 +100,7 @@ impl Node {
     ) -> Result<(), ParserError>
         requires { AreAllParsed src.now nodes.now }
         ensures marked { TellsUnmarked marks.now (names_at src.now nodes.now) self.now result }
-        ensures place { IfErr result (IsAtNode self.now) }
+        ensures place { IfErr result (RefusesAt self.now) }
     {
         for node in nodes {
             let name = label_name(node.slice(src));

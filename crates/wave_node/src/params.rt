@@ -1,19 +1,21 @@
 //! Reading the parameters of a call.
-ghost use Rattle.std.specs.Prelude.{◌≡◌, ◌⊎◌, ◌↔◌, ◌++◌, List, [], ◌∷◌, map, Some, IsTrue, OnOk, IfOk, IfErr, MatchBool};
+ghost use Rattle.std.specs.Prelude.{◌≡◌, ◌≢◌, ◌⊎◌, ◌↔◌, ◌++◌, List, [], ◌∷◌, map, Some, IsTrue, OnOk, IfOk, IfErr, MatchBool};
 ghost use Rattle.wave_wasm.specs.Lists.{AllOf, SomeOf};
 ghost use Rattle.wave_wasm.specs.Types.{HasDistinctNames};
 ghost use Rattle.wave_wasm.specs.ConstructorContracts.{AreOf};
 ghost use Rattle.wave_lex.specs.Errors.{too_many_params, too_few_params, no_params};
-ghost use Rattle.wave_lex.specs.declared.error.ParserErrorKind.TheVariants.{InvalidParams, OutOfMemory, WasmValueError};
+ghost use Rattle.wave_lex.specs.declared.error.ParserErrorKind.TheVariants.{InvalidParams, InvalidType, OutOfMemory, WasmValueError};
 ghost use Rattle.wave_grammar.specs.TypedGrammar.{IsOption};
 ghost use Rattle.wave_grammar.specs.Params.{Omitted};
-ghost use Rattle.wave_node.specs.NodeTree.{place_of};
+ghost use Rattle.wave_node.specs.NodeTree.{type_of, place_of};
+ghost use Rattle.wave_node.specs.NodeAccessors.{RefusedAs};
+ghost use Rattle.wave_node.specs.declared.ast.NodeType.TheVariants.{Tuple};
+ghost use Rattle.std.specs.Result.{IsErrAnd};
 ghost use Rattle.wave_lex.specs.Errors.{Says};
-ghost use Rattle.wave_node.specs.ErrorSpans.{IsCausedIn, IsAtPlace};
+ghost use Rattle.wave_node.specs.ErrorSpans.{IsCausedIn, IsAtPlace, HasParamsKind};
 ghost use Rattle.wave_lex.specs.Errors.{LiesInText};
-ghost use Rattle.wave_node.specs.Nodes.{IsNodeOf};
+ghost use Rattle.wave_node.specs.Nodes.{IsNodeOf, IsParsedFrom};
 ghost use Rattle.wave_grammar.specs.SpannedTree.{Placed};
-ghost use Rattle.wave_node.specs.TypedReading.{IsValueOf};
 ghost use Rattle.wave_node.specs.NodeParams.{AreOmitted, RefusesNone};
 ghost use Rattle.wave_node.specs.NodeParams.{GivesParams, RefusesParams, IsNoOption, close_of};
 ghost use Rattle.wave_node.specs.Private.NodeParams.{RefusesOmitted};
@@ -35,11 +37,13 @@ impl Node {
         types: &[V::Type],
         src: &str,
     ) -> Result<Vec<V>, ParserError>
-        requires { IsValueOf src.now self.now }
+        requires { IsParsedFrom src.now self.now }
         ensures values { AllOf HasDistinctNames (map V.Type.tree types.now) → (t : Placed) → IsNodeOf src.now self.now t
             → IfOk result (λ vs. GivesParams V.tree V.is_of (map V.Type.tree types.now) self.now t vs.items) }
         ensures refused { AllOf HasDistinctNames (map V.Type.tree types.now) → (t : Placed) → IsNodeOf src.now self.now t
             → IfErr result (RefusesParams V.is_full (map V.Type.tree types.now) self.now t) }
+        ensures form { type_of self.now ≢ Tuple → IsErrAnd result (RefusedAs InvalidType self.now) }
+        ensures kind { IfErr result HasParamsKind }
         ensures within { IfErr result (λ e. LiesInText src.now e.span) }
         ensures caused { IfErr result (λ e. e.kind ≡ WasmValueError → IsCausedIn self.now e) }
     {

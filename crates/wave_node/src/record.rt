@@ -10,6 +10,7 @@ ghost use Rattle.wave_node.specs.NodeAccessors.{node_text, node_pairs, IsEntryOf
 ghost use Rattle.wave_node.specs.TypedReading.{IsValueOf};
 ghost use Rattle.wave_lex.specs.Errors.{Says};
 ghost use Rattle.wave_node.specs.ErrorSpans.{StandsIn};
+ghost use Rattle.wave_node.specs.Private.ErrorSpans.{RefusesIn};
 ghost use Rattle.wave_node.specs.NodeFields.{IsFieldsOf, RefusesFields, GivesRecord};
 ghost use Rattle.wave_node.specs.Private.NodeFields.{GivesName, HoldsFields, fields_at};
 
@@ -51,7 +52,7 @@ impl Node {
         ensures given { IfOk result (λ _. IsFieldsOf src.now self.now (fields_at src.now (children_of self.now))) }
         ensures held { IfOk result (λ by_name. HoldsFields by_name (fields_at src.now (children_of self.now))) }
         ensures refused { IfErr result (RefusesFields src.now self.now) }
-        ensures within { IfErr result (StandsIn self.now) }
+        ensures within { IfErr result (RefusesIn self.now) }
     {
         self.ensure_type(NodeType::TupleSet)?;
         let nodes = self.nodes();

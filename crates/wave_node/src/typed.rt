@@ -6,17 +6,18 @@ ghost use Rattle.wave_wasm.specs.Values as value;
 ghost use Rattle.wave_wasm.specs.Borrowed.{texts, shown, shown_cases};
 ghost use Rattle.wave_wasm.specs.TypeText.{kind_word};
 ghost use Rattle.wave_wasm.specs.ValueErrors.{unsupported_type, wrong_number};
-ghost use Rattle.wave_lex.specs.declared.error.ParserErrorKind.TheVariants.{OutOfMemory};
+ghost use Rattle.wave_lex.specs.declared.error.ParserErrorKind.TheVariants.{InvalidType, OutOfMemory};
 ghost use Rattle.wave_node.specs.Private.NodeAccessors.{Among};
-ghost use Rattle.wave_node.specs.NodeAccessors.{shown_node};
+ghost use Rattle.wave_node.specs.NodeAccessors.{RefusedAs, shown_node};
 ghost use Rattle.std.specs.Cow.{cow_str_bytes};
-ghost use Rattle.wave_node.specs.TypedReading.{IsLeafMade, IsValueOf, IsKeyOf, AnswersKey, IsMade, Answers, ReadsAtType};
+ghost use Rattle.wave_node.specs.TypedReading.{IsLeafMade, IsValueOf, IsKeyOf, IsKeywordOf, AnswersKey, IsMade, Answers, ReadsAtType, ReadsKey};
+ghost use Rattle.std.specs.Result.{IsErrAnd};
 ghost use Rattle.wave_node.specs.Private.TypedReading.{IsCaused, named_cause, AnswersWhole, IsPayloadOf, GivesFlat, AnswersPayload};
 ghost use Rattle.wave_node.specs.Nodes.{IsParsedFrom};
 ghost use Rattle.wave_lex.specs.Errors.{refusal_of};
-ghost use Rattle.std.specs.Prelude.{MatchResult};
-ghost use Rattle.wave_node.specs.ErrorSpans.{StandsIn, IsAtNode};
-ghost use Rattle.wave_node.specs.Private.ErrorSpans.{StandsInPart};
+ghost use Rattle.std.specs.Prelude.{MatchBool, MatchResult};
+ghost use Rattle.wave_node.specs.ErrorSpans.{HasTypeKind, StandsIn};
+ghost use Rattle.wave_node.specs.Private.ErrorSpans.{RefusesAt, RefusesIn, RefusesInPart};
 ghost use Rattle.wave_lex.specs.Errors.{LiesInText};
 ghost use Rattle.wave_wasm.specs.Types.{HasDistinctNames};
 ghost use Rattle.wave_node.specs.Private.NodeFields.{IsFieldNode, AnswersField, IsLeftOut, IsMissing};
@@ -30,6 +31,7 @@ ghost use Rattle.wave_wasm.specs.Text.{text};
 use crate::ast::{CowStr, Node, NodeType};
 use std::alloc::Global;
 use wave_lex::error::{ParserError, ParserErrorKind};
+use wave_wasm::keyword::Keyword;
 use wave_wasm::wasm::{DisplayType, WasmType, WasmTypeKind, WasmValue, WasmValueError};
 use wave_wasm::writer::{WriterError, merge_map_entries, to_string};
 
@@ -47,22 +49,62 @@ pub(crate) enum Amiss {
 }
 
 impl Node {
-    /// The value that the type gives the node, which was parsed from `src` as a value. Where the
-    /// type gives it none the refusal is a fault of the node or of a part of it, at its span. A
-    /// maker of `V` that refuses is the cause of a refusal at the node that was read; `Value`
-    /// refuses so for want of memory alone, where the names of the type are distinct.
+    /// The value that the type gives the node, which was parsed from `src`. Where the type gives it
+    /// none the refusal is a fault of the node or of a part of it, at its span. A maker of `V` that
+    /// refuses is the cause of a refusal at the node that was read; `Value` refuses so for want of
+    /// memory alone, where the names of the type are distinct. A key is read as a key of a map of
+    /// such keys is; one that is a keyword is `InvalidType` at each type but bool.
     pub fn to_wasm_value<V: WasmValue>(
         &self,
         alloc: Global,
         ty: &V::Type,
         src: &str,
     ) -> Result<V, ParserError>
-        requires { IsValueOf src.now self.now }
+        requires { IsParsedFrom src.now self.now }
         ensures answer { ReadsAtType V.tree V.is_of V.is_full (V.Type.tree ty.now) src.now self.now result }
+        ensures key { ReadsKey V.tree V.is_of V.is_full (V.Type.tree ty.now) src.now self.now result }
+        ensures keyword { IsKeywordOf src.now self.now → V.Type.tree ty.now ≢ type.simple type.bool → IsErrAnd result (RefusedAs InvalidType self.now) }
+        ensures kind { IfErr result HasTypeKind }
         ensures within { IfErr result (StandsIn self.now) }
         ensures in_text { IfErr result (λ e. LiesInText src.now e.span) }
     {
+        if self.is_keyword(src) {
+            return self.read_keyword(alloc, ty, src);
+        }
         self.read(alloc, ty, src)
+    }
+
+    /// Whether the node is a key that is a keyword, as no value is.
+    fn is_keyword(&self, src: &str) -> bool
+        requires { IsParsedFrom src.now self.now }
+        ensures { MatchBool result (IsKeywordOf src.now self.now) (IsKeywordOf src.now self.now → ⊥) }
+    {
+        if !self.is_of(NodeType::Label) {
+            return false;
+        }
+        match Keyword::decode(self.slice(src)) {
+            Some(_) => true,
+            None => false,
+        }
+    }
+
+    /// A key that is a keyword: `true` or `false`, or none of any type.
+    fn read_keyword<V: WasmValue>(
+        &self,
+        alloc: Global,
+        ty: &V::Type,
+        src: &str,
+    ) -> Result<V, ParserError>
+        requires key { IsKeyOf src.now self.now }
+        requires keyword { IsKeywordOf src.now self.now }
+        ensures answer { AnswersKey V.tree V.is_of V.is_full (V.Type.tree ty.now) src.now self.now result }
+        ensures other { V.Type.tree ty.now ≢ type.simple type.bool → IsErrAnd result (RefusedAs InvalidType self.now) }
+        ensures within { IfErr result (RefusesIn self.now) }
+    {
+        match ty.kind() {
+            WasmTypeKind::Bool => self.read_plain_key(alloc, ty, src),
+            _ => Err(self.error(ParserErrorKind::InvalidType)),
+        }
     }
 
     /// The value of the node at the type.
@@ -70,7 +112,7 @@ impl Node {
     fn read<V: WasmValue>(&self, alloc: Global, ty: &V::Type, src: &str) -> Result<V, ParserError>
         requires { IsValueOf src.now self.now }
         ensures answer { Answers V.tree V.is_of V.is_full (V.Type.tree ty.now) src.now self.now result }
-        ensures within { IfErr result (StandsIn self.now) }
+        ensures within { IfErr result (RefusesIn self.now) }
     {
         match ty.kind() {
             WasmTypeKind::Bool => self.read_bool(alloc, ty),
@@ -124,7 +166,7 @@ impl Node {
         requires node { IsValueOf src.now self.now }
         requires kind { kind_of (V.Type.tree ty.now) ≡ WasmTypeKind.List }
         ensures answer { Answers V.tree V.is_of V.is_full (V.Type.tree ty.now) src.now self.now result }
-        ensures within { IfErr result (StandsIn self.now) }
+        ensures within { IfErr result (RefusesIn self.now) }
     {
         let element = ty.list_element_type().unwrap();
         let nodes = self.as_list()?;
@@ -147,7 +189,7 @@ impl Node {
         requires node { IsValueOf src.now self.now }
         requires kind { kind_of (V.Type.tree ty.now) ≡ WasmTypeKind.Record }
         ensures answer { Answers V.tree V.is_of V.is_full (V.Type.tree ty.now) src.now self.now result }
-        ensures within { IfErr result (StandsIn self.now) }
+        ensures within { IfErr result (RefusesIn self.now) }
     {
         let types = match ty.record_fields(alloc) {
             Ok(types) => types,
@@ -182,7 +224,7 @@ impl Node {
     ) -> Result<V, ParserError>
         requires { IsFieldNode src.now (shown_node node) }
         ensures answer { AnswersField V.tree V.is_of V.is_full (V.Type.tree ty.now) src.now name.now self.now (shown_node node.entry) result }
-        ensures within { IfErr result (StandsInPart self.now (shown_node node.entry)) }
+        ensures within { IfErr result (RefusesInPart self.now (shown_node node.entry)) }
     {
         match node {
             Some(node) => node.read(alloc, ty, src),
@@ -198,7 +240,7 @@ impl Node {
         ty: &V::Type,
     ) -> Result<V, ParserError>
         ensures answer { HasDistinctNames (V.Type.tree ty.now) → MatchResult result (IsLeftOut V.tree V.is_of (V.Type.tree ty.now)) (IsMissing V.is_full (V.Type.tree ty.now) name.now self.now) }
-        ensures within { IfErr result (IsAtNode self.now) }
+        ensures within { IfErr result (RefusesAt self.now) }
     {
         match ty.kind() {
             WasmTypeKind::Option => self.or_error_here(V::make_option(alloc, ty, None)),
@@ -217,7 +259,7 @@ impl Node {
         requires node { IsValueOf src.now self.now }
         requires kind { kind_of (V.Type.tree ty.now) ≡ WasmTypeKind.Tuple }
         ensures answer { Answers V.tree V.is_of V.is_full (V.Type.tree ty.now) src.now self.now result }
-        ensures within { IfErr result (StandsIn self.now) }
+        ensures within { IfErr result (RefusesIn self.now) }
     {
         let types = self.or_out_of_memory(ty.tuple_element_types(alloc))?;
         let nodes = self.as_tuple()?;
@@ -243,7 +285,7 @@ impl Node {
         requires node { IsValueOf src.now self.now }
         requires kind { kind_of (V.Type.tree ty.now) ≡ WasmTypeKind.Map }
         ensures answer { Answers V.tree V.is_of V.is_full (V.Type.tree ty.now) src.now self.now result }
-        ensures within { IfErr result (StandsIn self.now) }
+        ensures within { IfErr result (RefusesIn self.now) }
     {
         let (key_type, value_type) = ty.map_key_value_types().unwrap();
         let mut nodes = self.as_map()?;
@@ -266,7 +308,7 @@ impl Node {
     ) -> Result<V, ParserError>
         requires { IsKeyOf src.now self.now }
         ensures answer { AnswersKey V.tree V.is_of V.is_full (V.Type.tree ty.now) src.now self.now result }
-        ensures within { IfErr result (StandsIn self.now) }
+        ensures within { IfErr result (RefusesIn self.now) }
     {
         match self.read_plain_key(alloc, ty, src) {
             Ok(key) => Ok(key),
@@ -303,7 +345,7 @@ impl Node {
     ) -> Result<V, ParserError>
         requires { IsKeyOf src.now self.now }
         ensures answer { AnswersKey V.tree V.is_of V.is_full (V.Type.tree ty.now) src.now self.now result }
-        ensures within { IfErr result (StandsIn self.now) }
+        ensures within { IfErr result (RefusesIn self.now) }
     {
         match ty.kind() {
             WasmTypeKind::Bool => self.or_error_here(V::make_bool(alloc, self.as_bool_key(src)?)),
@@ -323,7 +365,7 @@ impl Node {
         requires key { IsKeyOf src.now self.now }
         requires kind { V.Type.tree ty.now ≡ type.simple type.string }
         ensures answer { AnswersKey V.tree V.is_of V.is_full (V.Type.tree ty.now) src.now self.now result }
-        ensures within { IfErr result (StandsIn self.now) }
+        ensures within { IfErr result (RefusesIn self.now) }
     {
         let text = self.as_str(alloc, src)?;
         self.made_string(alloc, text)
@@ -340,7 +382,7 @@ impl Node {
         requires node { IsValueOf src.now self.now }
         requires kind { kind_of (V.Type.tree ty.now) ≡ WasmTypeKind.Option }
         ensures answer { Answers V.tree V.is_of V.is_full (V.Type.tree ty.now) src.now self.now result }
-        ensures within { IfErr result (StandsIn self.now) }
+        ensures within { IfErr result (RefusesIn self.now) }
     {
         let payload = ty.option_some_type().unwrap();
         match self.as_option() {
@@ -370,7 +412,7 @@ impl Node {
         requires node { IsValueOf src.now self.now }
         requires kind { kind_of (V.Type.tree ty.now) ≡ WasmTypeKind.Result }
         ensures answer { Answers V.tree V.is_of V.is_full (V.Type.tree ty.now) src.now self.now result }
-        ensures within { IfErr result (StandsIn self.now) }
+        ensures within { IfErr result (RefusesIn self.now) }
     {
         let (ok, err) = ty.result_types().unwrap();
         match self.as_result() {
@@ -404,7 +446,7 @@ impl Node {
         requires node { IsValueOf src.now self.now }
         requires kind { kind_of (V.Type.tree ty.now) ≡ WasmTypeKind.Variant }
         ensures answer { Answers V.tree V.is_of V.is_full (V.Type.tree ty.now) src.now self.now result }
-        ensures within { IfErr result (StandsIn self.now) }
+        ensures within { IfErr result (RefusesIn self.now) }
     {
         let cases = match ty.variant_cases(alloc) {
             Ok(cases) => cases,
@@ -432,7 +474,7 @@ impl Node {
     ) -> Result<Option<V>, ParserError>
         requires { IsPayloadOf src.now (shown_node node) }
         ensures answer { AnswersPayload V.tree V.is_of V.is_full name.now (shown V.Type.tree ty.entry) src.now self.now (shown_node node.entry) result }
-        ensures within { IfErr result (StandsInPart self.now (shown_node node.entry)) }
+        ensures within { IfErr result (RefusesInPart self.now (shown_node node.entry)) }
     {
         match ty {
             Some(ty) => match node {
@@ -459,7 +501,7 @@ impl Node {
         requires node { IsValueOf src.now self.now }
         requires kind { kind_of (V.Type.tree ty.now) ≡ WasmTypeKind.Enum }
         ensures answer { Answers V.tree V.is_of V.is_full (V.Type.tree ty.now) src.now self.now result }
-        ensures within { IfErr result (StandsIn self.now) }
+        ensures within { IfErr result (RefusesIn self.now) }
     {
         let cases = self.or_out_of_memory(ty.enum_cases(alloc))?;
         let name = self.as_enum(src)?;
@@ -479,7 +521,7 @@ impl Node {
         requires node { IsValueOf src.now self.now }
         requires kind { V.Type.tree ty.now ≡ type.simple type.char }
         ensures answer { Answers V.tree V.is_of V.is_full (V.Type.tree ty.now) src.now self.now result }
-        ensures within { IfErr result (StandsIn self.now) }
+        ensures within { IfErr result (RefusesIn self.now) }
     {
         let val = self.as_char(src)?;
         self.or_error_here(V::make_char(alloc, val))
@@ -495,7 +537,7 @@ impl Node {
         requires node { IsValueOf src.now self.now }
         requires kind { kind_of (V.Type.tree ty.now) ≡ WasmTypeKind.Flags }
         ensures answer { Answers V.tree V.is_of V.is_full (V.Type.tree ty.now) src.now self.now result }
-        ensures within { IfErr result (StandsIn self.now) }
+        ensures within { IfErr result (RefusesIn self.now) }
     {
         let names = self.or_out_of_memory(ty.flags_names(alloc))?;
         let picked = self.picked(alloc, &names, src)?;
@@ -512,7 +554,7 @@ impl Node {
         requires node { IsValueOf src.now self.now }
         requires kind { V.Type.tree ty.now ≡ type.simple type.string }
         ensures answer { Answers V.tree V.is_of V.is_full (V.Type.tree ty.now) src.now self.now result }
-        ensures within { IfErr result (StandsIn self.now) }
+        ensures within { IfErr result (RefusesIn self.now) }
     {
         let text = self.as_str(alloc, src)?;
         self.made_string(alloc, text)
@@ -522,7 +564,7 @@ impl Node {
     fn read_bool<V: WasmValue>(&self, alloc: Global, ty: &V::Type) -> Result<V, ParserError>
         requires { V.Type.tree ty.now ≡ type.simple type.bool }
         ensures answer { (source : List ℕ) → Answers V.tree V.is_of V.is_full (V.Type.tree ty.now) source self.now result }
-        ensures within { IfErr result (IsAtNode self.now) }
+        ensures within { IfErr result (RefusesAt self.now) }
     {
         let val = self.as_bool()?;
         self.or_error_here(V::make_bool(alloc, val))

@@ -11,7 +11,7 @@ pub use wave_grammar::laws::{
     same_tokens_mean_the_same, shown_call_keeps_meaning, shown_keeps_meaning, trees_are_led,
     unexpected_tokens_begin_none,
 };
-pub use wave_node::laws::nodes_read_as_their_tokens;
+pub use wave_node::laws::{keys_are_values, nodes_read_as_their_tokens};
 use wave_wasm::wasm::WasmValue;
 
 /// Where a parser has read a value stands a tree, and its tokens are taken.

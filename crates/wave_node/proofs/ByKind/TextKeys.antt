@@ -75,7 +75,7 @@ not_form : (t : Token) → ((w : List ℕ) → t ≢ token.string w) → ((w : L
 not_form t strings lines (w, inl e) = strings w e
 not_form t strings lines (w, inr e) = lines w e
 
-no_spelling : (w : List ℕ) → SpellsNoLeaf type.string (token.label w)
+pub no_spelling : (w : List ℕ) → SpellsNoLeaf type.string (token.label w)
 no_spelling w l (text, s, inl h, f) = cc (h.0)
 no_spelling w l (text, s, inr h, f) = cc (h.0)
 

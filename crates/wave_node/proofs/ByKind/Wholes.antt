@@ -18,7 +18,7 @@ use Rattle.wave_grammar.specs.SpannedTree.{Placed}
 use Rattle.wave_node.specs.NodeTree.{NodeTree, place_of}
 use Rattle.wave_node.specs.Nodes.{placed_of, IsTokenOf}
 use Rattle.wave_node.specs.NodeAccessors.{GivesNumber}
-use Rattle.wave_node.specs.ErrorSpans.{IsAtNode}
+use Rattle.wave_node.specs.Private.ErrorSpans.{RefusesAt}
 use Rattle.wave_node.specs.TypedReading.{IsTypedValue, IsBlamed, IsKeyRead, IsKeyBlamed, IsMade}
 use Rattle.wave_node.specs.Private.TypedReading.{IsCaused, IsWholeRead, AnswersWhole}
 use Rattle.wave_node.proofs.MakerAnswers.{faulty, leaf_made}
@@ -147,19 +147,19 @@ module _ {V : Type 0} (tree : V → Value) (of : V → TypeTree → Type 0) (Ful
 
   -- ---- where refusals stand
 
-  read_at : (which : Whole) (source : List ℕ) (n : NodeTree) (r : Result V ParserError) → IsWholeRead tree of Full which source n r → IfErr r (IsAtNode n)
+  read_at : (which : Whole) (source : List ℕ) (n : NodeTree) (r : Result V ParserError) → IsWholeRead tree of Full which source n r → IfErr r (RefusesAt n)
   read_at which source n r (inl (z, given, made)) = leaf_at tree of Full (value.whole which z) n r made
   read_at which source n (Ok v) (inr (e, given, same)) = tt
-  read_at which source n (Err f) (inr (e, given, same)) = subst (IsAtNode n) (sym same) (number_at which (λ (x : ℤ). x) source n e given)
+  read_at which source n (Err f) (inr (e, given, same)) = subst (RefusesAt n) (sym same) (number_at which (λ (x : ℤ). x) source n e given)
 
-  unread_at : (k : WasmTypeKind) (n : NodeTree) (r : Result V ParserError) → IsErrAnd r (λ e. IsCaused (unsupported_type (kind_word k)) n e × (e.span ≡ place_of n)) → IfErr r (IsAtNode n)
+  unread_at : (k : WasmTypeKind) (n : NodeTree) (r : Result V ParserError) → IsErrAnd r (λ e. IsCaused (unsupported_type (kind_word k)) n e × (e.span ≡ place_of n)) → IfErr r (RefusesAt n)
   unread_at k n (Ok v) h = tt
   unread_at k n (Err e) h = caused_at (unsupported_type (kind_word k)) n e h.0 h.1
 
   -- a refusal stands at the node
-  pub whole_at : (k : WasmTypeKind) (source : List ℕ) (n : NodeTree) (r : Result V ParserError) → AnswersWhole tree of Full k source n r → IfErr r (IsAtNode n)
+  pub whole_at : (k : WasmTypeKind) (source : List ℕ) (n : NodeTree) (r : Result V ParserError) → AnswersWhole tree of Full k source n r → IfErr r (RefusesAt n)
   whole_at k source n r h = by (whole_of k)
     where
-      by : ((which : Whole) × (k ≡ whole_kind which)) ⊎ ((which : Whole) → k ≢ whole_kind which) → IfErr r (IsAtNode n)
+      by : ((which : Whole) × (k ≡ whole_kind which)) ⊎ ((which : Whole) → k ≢ whole_kind which) → IfErr r (RefusesAt n)
       by (inl (which, same)) = read_at which source n r (h.0 which same)
       by (inr none) = unread_at k n r (h.1 none)

@@ -1,9 +1,17 @@
--- Where the refusal of a node stands.
+-- Where the refusal of a node stands, and of which kind it is.
 use Rattle.std.specs.Prelude.{◌≡◌, ◌⊎◌, Option, Some}
 use Rattle.wave_lex.specs.declared.error.ParserError.{ParserError}
 use Rattle.wave_node.specs.NodeTree.{NodeTree}
-use Rattle.wave_node.specs.ErrorSpans.{IsAtNode, StandsIn}
+use Rattle.wave_node.specs.ErrorSpans.{IsAtNode, StandsIn, HasTypeKind}
 
--- the refusal stands at the node, or in that of its part
-abbrev pub StandsInPart : NodeTree → Option NodeTree → ParserError → Type 0
-StandsInPart n part e = IsAtNode n e ⊎ ((m : NodeTree) × (part ≡ Some m) × StandsIn m e)
+-- the refusal stands at the node, and is of a kind of reading at types
+abbrev pub RefusesAt : NodeTree → ParserError → Type 0
+RefusesAt n e = IsAtNode n e × HasTypeKind e
+
+-- so it stands in the node
+abbrev pub RefusesIn : NodeTree → ParserError → Type 0
+RefusesIn n e = StandsIn n e × HasTypeKind e
+
+-- so at the node, or in that of its part
+abbrev pub RefusesInPart : NodeTree → Option NodeTree → ParserError → Type 0
+RefusesInPart n part e = RefusesAt n e ⊎ ((m : NodeTree) × (part ≡ Some m) × RefusesIn m e)

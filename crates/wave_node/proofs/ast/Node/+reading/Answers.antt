@@ -40,9 +40,9 @@ use Rattle.wave_node.proofs.Fields.Lookup.{take_whole}
 use Rattle.wave_node.proofs.Fields.Entries.{record_nodes}
 use Rattle.wave_node.proofs.Fields.Reading.{RecordType, record_is, part_at, as_parts, record_deep, fields_distinct, still_held, held_value, none_before, removed_next, given_fields, failed, nodes_blame, unknown_blame, field_blamed, field_read, fields_kept, record_done}
 use Rattle.wave_wasm.specs.Lists.{AllOf}
-use Rattle.wave_node.specs.ErrorSpans.{StandsIn}
+use Rattle.wave_node.specs.Private.ErrorSpans.{RefusesIn}
 use Rattle.wave_node.proofs.Parameters.{error_handed}
-use Rattle.wave_node.proofs.ErrorSpans.Nodes.{PairBelongs, at_in, all_in, form_at, made_in, caused_at, memory_at, refused_at, deeper, deeper_at, part_in, first_belongs, some_belongs, case_belongs, next_belongs, held_belongs, entries_belong}
+use Rattle.wave_node.proofs.ErrorSpans.Nodes.{PairBelongs, at_in, all_in, form_at, made_in, caused_at, memory_here, refused_at, deeper, deeper_at, part_in, first_belongs, some_belongs, case_belongs, next_belongs, held_belongs, entries_belong}
 use Rattle.wave_node.proofs.ast.Node.+reading.Goals as goal
 
 pub read-returns-in_default-clause-answer : goal.read-returns-in_default-clause-answer
@@ -360,17 +360,17 @@ read-returns-in-Bool-clause-within g m c =
 pub read_list-returns-in_err-nodes-clause-within : goal.read_list-returns-in_err-nodes-clause-within
 read_list-returns-in_err-nodes-clause-within g m c =
     let value : IsValueOf c.args.src.now c.args.self.now = search rules in
-    error_handed (StandsIn c.args.self.now) c.from_residual.result c.in_err-nodes.field-0.0 c.from_residual.ensures.1 (at_in c.args.src.now c.args.self.now c.in_err-nodes.field-0.0 (inl value) (form_at c.args.self.now c.in_err-nodes.field-0.0 c.in_err-nodes.ensures.1))
+    error_handed (RefusesIn c.args.self.now) c.from_residual.result c.in_err-nodes.field-0.0 c.from_residual.ensures.1 (at_in c.args.src.now c.args.self.now c.in_err-nodes.field-0.0 (inl value) (form_at c.args.self.now c.in_err-nodes.field-0.0 c.in_err-nodes.ensures.1))
 
 pub read_list-returns-in_err-item-clause-within : goal.read_list-returns-in_err-item-clause-within
 read_list-returns-in_err-item-clause-within g m c =
     let value : IsValueOf c.args.src.now c.args.self.now = search rules in
-    error_handed (StandsIn c.args.self.now) c.from_residual-in_err-item.result c.in_err-item.field-0.0 c.from_residual-in_err-item.ensures.1 (deeper_at c.args.src.now c.args.self.now c.in_ok-nodes.nodes.now c.loop-node.node-index c.node-item.result c.in_err-item.field-0.0 value c.in_ok-nodes.ensures.1 c.loop-node-test.true c.node-item.is c.in_err-item.ensures.within)
+    error_handed (RefusesIn c.args.self.now) c.from_residual-in_err-item.result c.in_err-item.field-0.0 c.from_residual-in_err-item.ensures.1 (deeper_at c.args.src.now c.args.self.now c.in_ok-nodes.nodes.now c.loop-node.node-index c.node-item.result c.in_err-item.field-0.0 value c.in_ok-nodes.ensures.1 c.loop-node-test.true c.node-item.is c.in_err-item.ensures.within)
 
 pub read_list-returns-in_err-push-clause-within : goal.read_list-returns-in_err-push-clause-within
 read_list-returns-in_err-push-clause-within g m c =
     let value : IsValueOf c.args.src.now c.args.self.now = search rules in
-    error_handed (StandsIn c.args.self.now) c.from_residual-in_err-push.result c.in_err-push.field-0.0 c.from_residual-in_err-push.ensures.1 (at_in c.args.src.now c.args.self.now c.in_err-push.field-0.0 (inl value) (memory_at (place_of c.args.self.now) c.in_err-push.field-0.0 c.in_err-push.ensures.refused c.in_err-push.ensures.place))
+    error_handed (RefusesIn c.args.self.now) c.from_residual-in_err-push.result c.in_err-push.field-0.0 c.from_residual-in_err-push.ensures.1 (at_in c.args.src.now c.args.self.now c.in_err-push.field-0.0 (inl value) (memory_here c.args.self.now c.in_err-push.field-0.0 c.in_err-push.ensures.refused c.in_err-push.ensures.place))
 
 pub read_list-returns-clause-within : goal.read_list-returns-clause-within
 read_list-returns-clause-within g m c =
@@ -385,7 +385,7 @@ read_option-returns-in-Ok-None-clause-within g m c =
 pub read_option-returns-in_err-val-in-Ok-Some-clause-within : goal.read_option-returns-in_err-val-in-Ok-Some-clause-within
 read_option-returns-in_err-val-in-Ok-Some-clause-within g m c =
     let value : IsValueOf c.args.src.now c.args.self.now = search rules in
-    error_handed (StandsIn c.args.self.now) c.from_residual.result c.in_err-val-in-Ok-Some.field-0.0 c.from_residual.ensures.1 (deeper c.args.self.now c.in-Ok-Some.node.now c.in_err-val-in-Ok-Some.field-0.0 (some_belongs c.args.src.now c.args.self.now c.in-Ok-Some.node value (rw c.in-Ok-Some.field-0-is at c.in-Ok-Some.ensures)) c.in_err-val-in-Ok-Some.ensures.within)
+    error_handed (RefusesIn c.args.self.now) c.from_residual.result c.in_err-val-in-Ok-Some.field-0.0 c.from_residual.ensures.1 (deeper c.args.self.now c.in-Ok-Some.node.now c.in_err-val-in-Ok-Some.field-0.0 (some_belongs c.args.src.now c.args.self.now c.in-Ok-Some.node value (rw c.in-Ok-Some.field-0-is at c.in-Ok-Some.ensures)) c.in_err-val-in-Ok-Some.ensures.within)
 
 pub read_option-returns-in_ok-val-in-Ok-Some-clause-within : goal.read_option-returns-in_ok-val-in-Ok-Some-clause-within
 read_option-returns-in_ok-val-in-Ok-Some-clause-within g m c =
@@ -399,7 +399,7 @@ read_option-returns-then-not-is_flat-clause-within g m c =
 
 pub read_option-returns-in_err-flat-in-Err-clause-within : goal.read_option-returns-in_err-flat-in-Err-clause-within
 read_option-returns-in_err-flat-in-Err-clause-within g m c =
-    error_handed (StandsIn c.args.self.now) c.from_residual-in_err-flat-in-Err.result c.in_err-flat-in-Err.field-0.0 c.from_residual-in_err-flat-in-Err.ensures.1 (c.in_err-flat-in-Err.ensures.within)
+    error_handed (RefusesIn c.args.self.now) c.from_residual-in_err-flat-in-Err.result c.in_err-flat-in-Err.field-0.0 c.from_residual-in_err-flat-in-Err.ensures.1 (c.in_err-flat-in-Err.ensures.within)
 
 pub read_option-returns-in_ok-flat-in-Err-clause-within : goal.read_option-returns-in_ok-flat-in-Err-clause-within
 read_option-returns-in_ok-flat-in-Err-clause-within g m c =
@@ -410,13 +410,13 @@ pub read_result-returns-in_err-val-in-Ok-Ok-clause-within : goal.read_result-ret
 read_result-returns-in_err-val-in-Ok-Ok-clause-within g m c =
     let value : IsValueOf c.args.src.now c.args.self.now = search rules in
     let given = rw c.in-Ok-Ok.field-0-is at c.in-Ok-Ok.ensures in
-    error_handed (StandsIn c.args.self.now) c.from_residual.result c.in_err-val-in-Ok-Ok.field-0.0 c.from_residual.ensures.1 (part_in c.args.src.now c.args.self.now (shown_node c.in-Ok-Ok.node) c.in_err-val-in-Ok-Ok.field-0.0 (inl value) (first_belongs c.args.src.now c.args.self.now (shown_node c.in-Ok-Ok.node) value given.1) c.in_err-val-in-Ok-Ok.ensures.within)
+    error_handed (RefusesIn c.args.self.now) c.from_residual.result c.in_err-val-in-Ok-Ok.field-0.0 c.from_residual.ensures.1 (part_in c.args.src.now c.args.self.now (shown_node c.in-Ok-Ok.node) c.in_err-val-in-Ok-Ok.field-0.0 (inl value) (first_belongs c.args.src.now c.args.self.now (shown_node c.in-Ok-Ok.node) value given.1) c.in_err-val-in-Ok-Ok.ensures.within)
 
 pub read_result-returns-in_err-val-in-Ok-Err-clause-within : goal.read_result-returns-in_err-val-in-Ok-Err-clause-within
 read_result-returns-in_err-val-in-Ok-Err-clause-within g m c =
     let value : IsValueOf c.args.src.now c.args.self.now = search rules in
     let given = rw c.in-Ok-Err.field-0-is at c.in-Ok-Err.ensures in
-    error_handed (StandsIn c.args.self.now) c.from_residual-in_err-val-in-Ok-Err.result c.in_err-val-in-Ok-Err.field-0.0 c.from_residual-in_err-val-in-Ok-Err.ensures.1 (part_in c.args.src.now c.args.self.now (shown_node c.in-Ok-Err.node) c.in_err-val-in-Ok-Err.field-0.0 (inl value) (first_belongs c.args.src.now c.args.self.now (shown_node c.in-Ok-Err.node) value given.1) c.in_err-val-in-Ok-Err.ensures.within)
+    error_handed (RefusesIn c.args.self.now) c.from_residual-in_err-val-in-Ok-Err.result c.in_err-val-in-Ok-Err.field-0.0 c.from_residual-in_err-val-in-Ok-Err.ensures.1 (part_in c.args.src.now c.args.self.now (shown_node c.in-Ok-Err.node) c.in_err-val-in-Ok-Err.field-0.0 (inl value) (first_belongs c.args.src.now c.args.self.now (shown_node c.in-Ok-Err.node) value given.1) c.in_err-val-in-Ok-Err.ensures.within)
 
 pub read_result-returns-in_ok-val-in-Ok-Ok-clause-within : goal.read_result-returns-in_ok-val-in-Ok-Ok-clause-within
 read_result-returns-in_ok-val-in-Ok-Ok-clause-within g m c =
@@ -435,7 +435,7 @@ read_result-returns-in-None-clause-within g m c =
 
 pub read_result-returns-in_err-flat-in-Err-clause-within : goal.read_result-returns-in_err-flat-in-Err-clause-within
 read_result-returns-in_err-flat-in-Err-clause-within g m c =
-    error_handed (StandsIn c.args.self.now) c.from_residual-in_err-flat-in-Err.result c.in_err-flat-in-Err.field-0.0 c.from_residual-in_err-flat-in-Err.ensures.1 (c.in_err-flat-in-Err.ensures.within)
+    error_handed (RefusesIn c.args.self.now) c.from_residual-in_err-flat-in-Err.result c.in_err-flat-in-Err.field-0.0 c.from_residual-in_err-flat-in-Err.ensures.1 (c.in_err-flat-in-Err.ensures.within)
 
 pub read_result-returns-in_ok-flat-in-Err-clause-within : goal.read_result-returns-in_ok-flat-in-Err-clause-within
 read_result-returns-in_ok-flat-in-Err-clause-within g m c =
@@ -445,22 +445,22 @@ read_result-returns-in_ok-flat-in-Err-clause-within g m c =
 pub read_tuple-returns-in_err-nodes-clause-within : goal.read_tuple-returns-in_err-nodes-clause-within
 read_tuple-returns-in_err-nodes-clause-within g m c =
     let value : IsValueOf c.args.src.now c.args.self.now = search rules in
-    error_handed (StandsIn c.args.self.now) c.from_residual-in_err-nodes.result c.in_err-nodes.field-0.0 c.from_residual-in_err-nodes.ensures.1 (at_in c.args.src.now c.args.self.now c.in_err-nodes.field-0.0 (inl value) (form_at c.args.self.now c.in_err-nodes.field-0.0 c.in_err-nodes.ensures.1))
+    error_handed (RefusesIn c.args.self.now) c.from_residual-in_err-nodes.result c.in_err-nodes.field-0.0 c.from_residual-in_err-nodes.ensures.1 (at_in c.args.src.now c.args.self.now c.in_err-nodes.field-0.0 (inl value) (form_at c.args.self.now c.in_err-nodes.field-0.0 c.in_err-nodes.ensures.1))
 
 pub read_tuple-returns-then-nodes-len-clause-within : goal.read_tuple-returns-then-nodes-len-clause-within
 read_tuple-returns-then-nodes-len-clause-within g m c =
     let value : IsValueOf c.args.src.now c.args.self.now = search rules in
-    at_in c.args.src.now c.args.self.now c.wrong_number.result (inl value) ((c.wrong_number.ensures.1, λ was. (_, c.wrong_number.ensures.0)))
+    at_in c.args.src.now c.args.self.now c.wrong_number.result (inl value) (caused_at _ c.args.self.now c.wrong_number.result (inr c.wrong_number.ensures) c.wrong_number.ensures.1)
 
 pub read_tuple-returns-in_err-item-clause-within : goal.read_tuple-returns-in_err-item-clause-within
 read_tuple-returns-in_err-item-clause-within g m c =
     let value : IsValueOf c.args.src.now c.args.self.now = search rules in
-    error_handed (StandsIn c.args.self.now) c.from_residual-in_err-item.result c.in_err-item.field-0.0 c.from_residual-in_err-item.ensures.1 (deeper_at c.args.src.now c.args.self.now c.in_ok-nodes.nodes.now c.loop-i.i c.index-nodes-i.result c.in_err-item.field-0.0 value c.in_ok-nodes.ensures.1 c.loop-i-test.true c.index-nodes-i.is c.in_err-item.ensures.within)
+    error_handed (RefusesIn c.args.self.now) c.from_residual-in_err-item.result c.in_err-item.field-0.0 c.from_residual-in_err-item.ensures.1 (deeper_at c.args.src.now c.args.self.now c.in_ok-nodes.nodes.now c.loop-i.i c.index-nodes-i.result c.in_err-item.field-0.0 value c.in_ok-nodes.ensures.1 c.loop-i-test.true c.index-nodes-i.is c.in_err-item.ensures.within)
 
 pub read_tuple-returns-in_err-push-clause-within : goal.read_tuple-returns-in_err-push-clause-within
 read_tuple-returns-in_err-push-clause-within g m c =
     let value : IsValueOf c.args.src.now c.args.self.now = search rules in
-    error_handed (StandsIn c.args.self.now) c.from_residual-in_err-push.result c.in_err-push.field-0.0 c.from_residual-in_err-push.ensures.1 (at_in c.args.src.now c.args.self.now c.in_err-push.field-0.0 (inl value) (memory_at (place_of c.args.self.now) c.in_err-push.field-0.0 c.in_err-push.ensures.refused c.in_err-push.ensures.place))
+    error_handed (RefusesIn c.args.self.now) c.from_residual-in_err-push.result c.in_err-push.field-0.0 c.from_residual-in_err-push.ensures.1 (at_in c.args.src.now c.args.self.now c.in_err-push.field-0.0 (inl value) (memory_here c.args.self.now c.in_err-push.field-0.0 c.in_err-push.ensures.refused c.in_err-push.ensures.place))
 
 pub read_tuple-returns-clause-within : goal.read_tuple-returns-clause-within
 read_tuple-returns-clause-within g m c =
@@ -470,22 +470,22 @@ read_tuple-returns-clause-within g m c =
 pub read_tuple-returns-in_err-types-clause-within : goal.read_tuple-returns-in_err-types-clause-within
 read_tuple-returns-in_err-types-clause-within g m c =
     let value : IsValueOf c.args.src.now c.args.self.now = search rules in
-    error_handed (StandsIn c.args.self.now) c.from_residual.result c.in_err-types.field-0.0 c.from_residual.ensures.1 (at_in c.args.src.now c.args.self.now c.in_err-types.field-0.0 (inl value) (memory_at (place_of c.args.self.now) c.in_err-types.field-0.0 c.in_err-types.ensures.refused c.in_err-types.ensures.place))
+    error_handed (RefusesIn c.args.self.now) c.from_residual.result c.in_err-types.field-0.0 c.from_residual.ensures.1 (at_in c.args.src.now c.args.self.now c.in_err-types.field-0.0 (inl value) (memory_here c.args.self.now c.in_err-types.field-0.0 c.in_err-types.ensures.refused c.in_err-types.ensures.place))
 
 pub read_variant-returns-in-Err-clause-within : goal.read_variant-returns-in-Err-clause-within
 read_variant-returns-in-Err-clause-within g m c =
     let value : IsValueOf c.args.src.now c.args.self.now = search rules in
-    at_in c.args.src.now c.args.self.now c.out_of_memory.result (inl value) (memory_at (place_of c.args.self.now) c.out_of_memory.result c.out_of_memory.ensures.kind c.out_of_memory.ensures.span)
+    at_in c.args.src.now c.args.self.now c.out_of_memory.result (inl value) (memory_here c.args.self.now c.out_of_memory.result c.out_of_memory.ensures.kind c.out_of_memory.ensures.span)
 
 pub read_variant-returns-in_err-name-clause-within : goal.read_variant-returns-in_err-name-clause-within
 read_variant-returns-in_err-name-clause-within g m c =
     let value : IsValueOf c.args.src.now c.args.self.now = search rules in
-    error_handed (StandsIn c.args.self.now) c.from_residual.result c.in_err-name.field-0.0 c.from_residual.ensures.1 (at_in c.args.src.now c.args.self.now c.in_err-name.field-0.0 (inl value) (form_at c.args.self.now c.in_err-name.field-0.0 c.in_err-name.ensures.2))
+    error_handed (RefusesIn c.args.self.now) c.from_residual.result c.in_err-name.field-0.0 c.from_residual.ensures.1 (at_in c.args.src.now c.args.self.now c.in_err-name.field-0.0 (inl value) (form_at c.args.self.now c.in_err-name.field-0.0 c.in_err-name.ensures.2))
 
 pub read_variant-returns-in_err-val-in-Some-clause-within : goal.read_variant-returns-in_err-val-in-Some-clause-within
 read_variant-returns-in_err-val-in-Some-clause-within g m c =
     let value : IsValueOf c.args.src.now c.args.self.now = search rules in
-    error_handed (StandsIn c.args.self.now) c.from_residual-in_err-val-in-Some.result c.in_err-val-in-Some.field-0.0 c.from_residual-in_err-val-in-Some.ensures.1 (part_in c.args.src.now c.args.self.now (shown_node c.in_ok-name.node) c.in_err-val-in-Some.field-0.0 (inl value) (case_belongs c.args.src.now c.args.self.now c.in_ok-name.name c.in_ok-name.node value c.in_ok-name.ensures) c.in_err-val-in-Some.ensures.within)
+    error_handed (RefusesIn c.args.self.now) c.from_residual-in_err-val-in-Some.result c.in_err-val-in-Some.field-0.0 c.from_residual-in_err-val-in-Some.ensures.1 (part_in c.args.src.now c.args.self.now (shown_node c.in_ok-name.node) c.in_err-val-in-Some.field-0.0 (inl value) (case_belongs c.args.src.now c.args.self.now c.in_ok-name.name c.in_ok-name.node value c.in_ok-name.ensures) c.in_err-val-in-Some.ensures.within)
 
 pub read_variant-returns-in-Some-clause-within : goal.read_variant-returns-in-Some-clause-within
 read_variant-returns-in-Some-clause-within g m c =
@@ -500,22 +500,22 @@ read_variant-returns-clause-within g m c =
 pub read_map-returns-in_err-nodes-clause-within : goal.read_map-returns-in_err-nodes-clause-within
 read_map-returns-in_err-nodes-clause-within g m c =
     let value : IsValueOf c.args.src.now c.args.self.now = search rules in
-    error_handed (StandsIn c.args.self.now) c.from_residual.result c.in_err-nodes.field-0.0 c.from_residual.ensures.1 (at_in c.args.src.now c.args.self.now c.in_err-nodes.field-0.0 (inl value) (form_at c.args.self.now c.in_err-nodes.field-0.0 c.in_err-nodes.ensures.2))
+    error_handed (RefusesIn c.args.self.now) c.from_residual.result c.in_err-nodes.field-0.0 c.from_residual.ensures.1 (at_in c.args.src.now c.args.self.now c.in_err-nodes.field-0.0 (inl value) (form_at c.args.self.now c.in_err-nodes.field-0.0 c.in_err-nodes.ensures.2))
 
 pub read_map-returns-in_err-key-clause-within : goal.read_map-returns-in_err-key-clause-within
 read_map-returns-in_err-key-clause-within g m c =
     let next = next_belongs c.args.self.now c.entries.nodes c.next.new.self (c.in-Some.key.now, c.in-Some.node.now) c.entries.invariant.1 c.in-Some.ensures.steps in
-    error_handed (StandsIn c.args.self.now) c.from_residual-in_err-key.result c.in_err-key.field-0.0 c.from_residual-in_err-key.ensures.1 (deeper c.args.self.now c.in-Some.key.now c.in_err-key.field-0.0 next.0.0 c.in_err-key.ensures.within)
+    error_handed (RefusesIn c.args.self.now) c.from_residual-in_err-key.result c.in_err-key.field-0.0 c.from_residual-in_err-key.ensures.1 (deeper c.args.self.now c.in-Some.key.now c.in_err-key.field-0.0 next.0.0 c.in_err-key.ensures.within)
 
 pub read_map-returns-in_err-val-clause-within : goal.read_map-returns-in_err-val-clause-within
 read_map-returns-in_err-val-clause-within g m c =
     let next = next_belongs c.args.self.now c.entries.nodes c.next.new.self (c.in-Some.key.now, c.in-Some.node.now) c.entries.invariant.1 c.in-Some.ensures.steps in
-    error_handed (StandsIn c.args.self.now) c.from_residual-in_err-val.result c.in_err-val.field-0.0 c.from_residual-in_err-val.ensures.1 (deeper c.args.self.now c.in-Some.node.now c.in_err-val.field-0.0 next.0.1 c.in_err-val.ensures.within)
+    error_handed (RefusesIn c.args.self.now) c.from_residual-in_err-val.result c.in_err-val.field-0.0 c.from_residual-in_err-val.ensures.1 (deeper c.args.self.now c.in-Some.node.now c.in_err-val.field-0.0 next.0.1 c.in_err-val.ensures.within)
 
 pub read_map-returns-in_err-push-clause-within : goal.read_map-returns-in_err-push-clause-within
 read_map-returns-in_err-push-clause-within g m c =
     let value : IsValueOf c.args.src.now c.args.self.now = search rules in
-    error_handed (StandsIn c.args.self.now) c.from_residual-in_err-push.result c.in_err-push.field-0.0 c.from_residual-in_err-push.ensures.1 (at_in c.args.src.now c.args.self.now c.in_err-push.field-0.0 (inl value) (memory_at (place_of c.args.self.now) c.in_err-push.field-0.0 c.in_err-push.ensures.refused c.in_err-push.ensures.place))
+    error_handed (RefusesIn c.args.self.now) c.from_residual-in_err-push.result c.in_err-push.field-0.0 c.from_residual-in_err-push.ensures.1 (at_in c.args.src.now c.args.self.now c.in_err-push.field-0.0 (inl value) (memory_here c.args.self.now c.in_err-push.field-0.0 c.in_err-push.ensures.refused c.in_err-push.ensures.place))
 
 pub read_map-returns-clause-within : goal.read_map-returns-clause-within
 read_map-returns-clause-within g m c =
@@ -525,26 +525,26 @@ read_map-returns-clause-within g m c =
 pub read_map-returns-in_err-entries-clause-within : goal.read_map-returns-in_err-entries-clause-within
 read_map-returns-in_err-entries-clause-within g m c =
     let value : IsValueOf c.args.src.now c.args.self.now = search rules in
-    error_handed (StandsIn c.args.self.now) c.from_residual-in_err-entries.result c.in_err-entries.field-0.0 c.from_residual-in_err-entries.ensures.1 (at_in c.args.src.now c.args.self.now c.in_err-entries.field-0.0 (inl value) (memory_at (place_of c.args.self.now) c.in_err-entries.field-0.0 c.in_err-entries.ensures.refused c.in_err-entries.ensures.place))
+    error_handed (RefusesIn c.args.self.now) c.from_residual-in_err-entries.result c.in_err-entries.field-0.0 c.from_residual-in_err-entries.ensures.1 (at_in c.args.src.now c.args.self.now c.in_err-entries.field-0.0 (inl value) (memory_here c.args.self.now c.in_err-entries.field-0.0 c.in_err-entries.ensures.refused c.in_err-entries.ensures.place))
 
 pub read_record-returns-in-Err-clause-within : goal.read_record-returns-in-Err-clause-within
 read_record-returns-in-Err-clause-within g m c =
     let value : IsValueOf c.args.src.now c.args.self.now = search rules in
-    at_in c.args.src.now c.args.self.now c.out_of_memory.result (inl value) (memory_at (place_of c.args.self.now) c.out_of_memory.result c.out_of_memory.ensures.kind c.out_of_memory.ensures.span)
+    at_in c.args.src.now c.args.self.now c.out_of_memory.result (inl value) (memory_here c.args.self.now c.out_of_memory.result c.out_of_memory.ensures.kind c.out_of_memory.ensures.span)
 
 pub read_record-returns-in_err-nodes-clause-within : goal.read_record-returns-in_err-nodes-clause-within
 read_record-returns-in_err-nodes-clause-within g m c =
-    error_handed (StandsIn c.args.self.now) c.from_residual.result c.in_err-nodes.field-0.0 c.from_residual.ensures.1 (c.in_err-nodes.ensures.within)
+    error_handed (RefusesIn c.args.self.now) c.from_residual.result c.in_err-nodes.field-0.0 c.from_residual.ensures.1 (c.in_err-nodes.ensures.within)
 
 pub read_record-returns-in_err-val-clause-within : goal.read_record-returns-in_err-val-clause-within
 read_record-returns-in_err-val-clause-within g m c =
     let value : IsValueOf c.args.src.now c.args.self.now = search rules in
-    error_handed (StandsIn c.args.self.now) c.from_residual-in_err-val.result c.in_err-val.field-0.0 c.from_residual-in_err-val.ensures.1 (part_in c.args.src.now c.args.self.now (shown_node c.remove-node.result) c.in_err-val.field-0.0 (inl value) (held_belongs c.args.src.now c.args.self.now (names_of (take c.loop-i.i (shown_fields g.V.Type.WasmType.tree c.in-Ok.types.items))) c.in_ok-nodes.nodes c.loop-i.nodes (fields_at c.args.src.now (children_of c.args.self.now)) c.index.result.now.0.now c.remove-node.result value c.in_ok-nodes.ensures.given c.in_ok-nodes.ensures.held c.loop-i.invariant.removed c.remove-node.ensures.value) c.in_err-val.ensures.within)
+    error_handed (RefusesIn c.args.self.now) c.from_residual-in_err-val.result c.in_err-val.field-0.0 c.from_residual-in_err-val.ensures.1 (part_in c.args.src.now c.args.self.now (shown_node c.remove-node.result) c.in_err-val.field-0.0 (inl value) (held_belongs c.args.src.now c.args.self.now (names_of (take c.loop-i.i (shown_fields g.V.Type.WasmType.tree c.in-Ok.types.items))) c.in_ok-nodes.nodes c.loop-i.nodes (fields_at c.args.src.now (children_of c.args.self.now)) c.index.result.now.0.now c.remove-node.result value c.in_ok-nodes.ensures.given c.in_ok-nodes.ensures.held c.loop-i.invariant.removed c.remove-node.ensures.value) c.in_err-val.ensures.within)
 
 pub read_record-returns-then-not-is_empty-clause-within : goal.read_record-returns-then-not-is_empty-clause-within
 read_record-returns-then-not-is_empty-clause-within g m c =
     let value : IsValueOf c.args.src.now c.args.self.now = search rules in
-    at_in c.args.src.now c.args.self.now c.error.result (inl value) (refused_at _ c.args.self.now c.error.result (λ was. cc) c.error.ensures)
+    at_in c.args.src.now c.args.self.now c.error.result (inl value) (refused_at _ c.args.self.now c.error.result (λ was. cc) tt c.error.ensures)
 
 pub read_record-returns-clause-within : goal.read_record-returns-clause-within
 read_record-returns-clause-within g m c =
@@ -554,4 +554,4 @@ read_record-returns-clause-within g m c =
 pub read_record-returns-then-is_err-clause-within : goal.read_record-returns-then-is_err-clause-within
 read_record-returns-then-is_err-clause-within g m c =
     let value : IsValueOf c.args.src.now c.args.self.now = search rules in
-    at_in c.args.src.now c.args.self.now c.out_of_memory-then-is_err.result (inl value) (memory_at (place_of c.args.self.now) c.out_of_memory-then-is_err.result c.out_of_memory-then-is_err.ensures.kind c.out_of_memory-then-is_err.ensures.span)
+    at_in c.args.src.now c.args.self.now c.out_of_memory-then-is_err.result (inl value) (memory_here c.args.self.now c.out_of_memory-then-is_err.result c.out_of_memory-then-is_err.ensures.kind c.out_of_memory-then-is_err.ensures.span)

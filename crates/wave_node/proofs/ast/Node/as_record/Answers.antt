@@ -6,6 +6,8 @@ use Rattle.wave_node.specs.TypedReading.{IsValueOf}
 use Rattle.wave_node.specs.Private.NodeFields.{fields_at}
 use Rattle.wave_node.proofs.ChildNodes.Parts.{fields_values, entries_within}
 use Rattle.wave_node.proofs.Fields.Lookup.{set_value}
+use Rattle.wave_node.specs.ErrorSpans.{StandsIn}
+use Rattle.wave_node.proofs.Parameters.{error_handed}
 use Rattle.wave_node.proofs.ast.Node.as_record.Goals as goal
 
 pub new-requires : goal.new-requires
@@ -15,3 +17,6 @@ new-requires c =
 
 pub returns-clause-values : goal.returns-clause-values
 returns-clause-values c = subst (AllOf (λ f. IsValueOf c.args.src.now f.1)) (sym (c.new.ensures ∙ ap (fields_at c.args.src.now) c.nodes.ensures)) (fields_values c.args.src.now c.args.self.now _ c.requires c.in_ok-fields.ensures.given)
+
+pub returns-in_err-fields-clause-within : goal.returns-in_err-fields-clause-within
+returns-in_err-fields-clause-within c = error_handed (StandsIn c.args.self.now) c.from_residual.result c.in_err-fields.field-0.0 c.from_residual.ensures.1 (c.in_err-fields.ensures.within.0)

@@ -3,11 +3,10 @@ use Rattle.wave_node.specs.NodeAccessors.{node_pairs}
 use Rattle.wave_node.specs.NodeFields.{field_of, RefusesFields}
 use Rattle.wave_node.proofs.ByKind.Lists.{HasAt}
 use Rattle.wave_node.proofs.Fields.Lookup.{pair_has, key_parsed, new_name, old_name, refused_label, refused_name, fields_whole, held_whole, fields_kept, field_held, err_handed}
-use Rattle.wave_node.specs.ErrorSpans.{StandsIn}
+use Rattle.wave_node.specs.Private.ErrorSpans.{RefusesIn}
 use Rattle.wave_node.proofs.Parameters.{error_handed}
 use Rattle.wave_lex.specs.declared.error.ParserErrorKind.TheVariants as because
-use Rattle.wave_node.specs.NodeTree.{place_of}
-use Rattle.wave_node.proofs.ErrorSpans.Nodes.{deeper, key_belongs, at_in, form_at, said_plain, memory_at, memory_or_plain}
+use Rattle.wave_node.proofs.ErrorSpans.Nodes.{deeper, key_belongs, at_in, form_at, said_here, memory_here, memory_or_said}
 use Rattle.wave_node.proofs.ast.Node.fields.Goals as goal
 
 pub field_name-requires : goal.field_name-requires
@@ -46,17 +45,17 @@ returns-clause-held c = held_whole c.args.src.now c.args.self.now c.nodes-nodes.
 
 pub returns-in_err-ensure_type-clause-within : goal.returns-in_err-ensure_type-clause-within
 returns-in_err-ensure_type-clause-within c =
-    error_handed (StandsIn c.args.self.now) c.from_residual.result c.in_err-ensure_type.field-0.0 c.from_residual.ensures.1 (at_in c.args.src.now c.args.self.now c.in_err-ensure_type.field-0.0 c.requires (form_at c.args.self.now c.in_err-ensure_type.field-0.0 c.in_err-ensure_type.ensures.1))
+    error_handed (RefusesIn c.args.self.now) c.from_residual.result c.in_err-ensure_type.field-0.0 c.from_residual.ensures.1 (at_in c.args.src.now c.args.self.now c.in_err-ensure_type.field-0.0 c.requires (form_at c.args.self.now c.in_err-ensure_type.field-0.0 c.in_err-ensure_type.ensures.1))
 
 pub returns-in_err-name-clause-within : goal.returns-in_err-name-clause-within
 returns-in_err-name-clause-within c =
     let here : HasAt (node_pairs c.nodes-nodes.result.now) c.loop-i.i (c.index-nodes-i.result, c.index-nodes-i-in-loop-i.result) = pair_has c.nodes-nodes.result.now c.loop-i.i c.index-nodes-i.result c.index-nodes-i-in-loop-i.result (omega arith) c.index-nodes-i.is c.index-nodes-i-in-loop-i.is in
-    error_handed (StandsIn c.args.self.now) c.from_residual-in_err-name.result c.in_err-name.field-0.0 c.from_residual-in_err-name.ensures.1 (deeper c.args.self.now c.index-nodes-i.result c.in_err-name.field-0.0 (key_belongs c.args.src.now c.args.self.now c.nodes-nodes.result.now c.loop-i.i c.index-nodes-i.result c.index-nodes-i-in-loop-i.result c.requires c.in_ok-ensure_type.ensures c.nodes-nodes.ensures here) (at_in c.args.src.now c.index-nodes-i.result c.in_err-name.field-0.0 (key_parsed c.args.src.now c.args.self.now c.nodes-nodes.result.now c.loop-i.i c.index-nodes-i.result c.index-nodes-i-in-loop-i.result c.requires c.in_ok-ensure_type.ensures c.nodes-nodes.ensures here) (said_plain c.in_err-name.field-0.0 because.InvalidType (place_of c.index-nodes-i.result) _ (λ was. cc) c.in_err-name.ensures.1)))
+    error_handed (RefusesIn c.args.self.now) c.from_residual-in_err-name.result c.in_err-name.field-0.0 c.from_residual-in_err-name.ensures.1 (deeper c.args.self.now c.index-nodes-i.result c.in_err-name.field-0.0 (key_belongs c.args.src.now c.args.self.now c.nodes-nodes.result.now c.loop-i.i c.index-nodes-i.result c.index-nodes-i-in-loop-i.result c.requires c.in_ok-ensure_type.ensures c.nodes-nodes.ensures here) (at_in c.args.src.now c.index-nodes-i.result c.in_err-name.field-0.0 (key_parsed c.args.src.now c.args.self.now c.nodes-nodes.result.now c.loop-i.i c.index-nodes-i.result c.index-nodes-i-in-loop-i.result c.requires c.in_ok-ensure_type.ensures c.nodes-nodes.ensures here) (said_here c.index-nodes-i.result c.in_err-name.field-0.0 because.InvalidType _ (λ was. cc) tt c.in_err-name.ensures.1)))
 
 pub returns-in-Ok-Some-clause-within : goal.returns-in-Ok-Some-clause-within
 returns-in-Ok-Some-clause-within c =
     let here : HasAt (node_pairs c.nodes-nodes.result.now) c.loop-i.i (c.index-nodes-i.result, c.index-nodes-i-in-loop-i.result) = pair_has c.nodes-nodes.result.now c.loop-i.i c.index-nodes-i.result c.index-nodes-i-in-loop-i.result (omega arith) c.index-nodes-i.is c.index-nodes-i-in-loop-i.is in
-    deeper c.args.self.now c.index-nodes-i.result c.repeated.result (key_belongs c.args.src.now c.args.self.now c.nodes-nodes.result.now c.loop-i.i c.index-nodes-i.result c.index-nodes-i-in-loop-i.result c.requires c.in_ok-ensure_type.ensures c.nodes-nodes.ensures here) (at_in c.args.src.now c.index-nodes-i.result c.repeated.result (key_parsed c.args.src.now c.args.self.now c.nodes-nodes.result.now c.loop-i.i c.index-nodes-i.result c.index-nodes-i-in-loop-i.result c.requires c.in_ok-ensure_type.ensures c.nodes-nodes.ensures here) (memory_or_plain c.repeated.result because.DuplicateField (place_of c.index-nodes-i.result) _ (λ was. cc) c.repeated.ensures.refusal c.repeated.ensures.span))
+    deeper c.args.self.now c.index-nodes-i.result c.repeated.result (key_belongs c.args.src.now c.args.self.now c.nodes-nodes.result.now c.loop-i.i c.index-nodes-i.result c.index-nodes-i-in-loop-i.result c.requires c.in_ok-ensure_type.ensures c.nodes-nodes.ensures here) (at_in c.args.src.now c.index-nodes-i.result c.repeated.result (key_parsed c.args.src.now c.args.self.now c.nodes-nodes.result.now c.loop-i.i c.index-nodes-i.result c.index-nodes-i-in-loop-i.result c.requires c.in_ok-ensure_type.ensures c.nodes-nodes.ensures here) (memory_or_said c.index-nodes-i.result c.repeated.result because.DuplicateField _ (λ was. cc) tt c.repeated.ensures.refusal c.repeated.ensures.span))
 
 pub returns-in-Err-clause-within : goal.returns-in-Err-clause-within
-returns-in-Err-clause-within c = at_in c.args.src.now c.args.self.now c.out_of_memory.result c.requires (memory_at (place_of c.args.self.now) c.out_of_memory.result c.out_of_memory.ensures.kind c.out_of_memory.ensures.span)
+returns-in-Err-clause-within c = at_in c.args.src.now c.args.self.now c.out_of_memory.result c.requires (memory_here c.args.self.now c.out_of_memory.result c.out_of_memory.ensures.kind c.out_of_memory.ensures.span)

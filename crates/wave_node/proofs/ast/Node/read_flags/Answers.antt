@@ -2,7 +2,7 @@ use Rattle.std.proofs.Common.{sym, ap, ◌∙◌, inl}
 use Rattle.wave_wasm.specs.Borrowed.{texts}
 use Rattle.wave_node.proofs.MakerAnswers.{handed}
 use Rattle.wave_node.proofs.ByKind.Flags.{flags_is, flags_blame, flags_made}
-use Rattle.wave_node.specs.ErrorSpans.{StandsIn}
+use Rattle.wave_node.specs.Private.ErrorSpans.{RefusesIn}
 use Rattle.wave_node.proofs.Parameters.{error_handed}
 use Rattle.wave_node.proofs.ErrorSpans.Nodes.{at_in, made_in}
 use Rattle.wave_node.proofs.ast.Node.read_flags.Goals as goal
@@ -17,7 +17,7 @@ returns-clause-answer g c = λ t is distinct.
 
 pub returns-in_err-picked-clause-within : goal.returns-in_err-picked-clause-within
 returns-in_err-picked-clause-within g c =
-    error_handed (StandsIn c.args.self.now) c.from_residual-in_err-picked.result c.in_err-picked.field-0.0 c.from_residual-in_err-picked.ensures.1 (at_in c.args.src.now c.args.self.now c.in_err-picked.field-0.0 (inl c.requires.node) c.in_err-picked.ensures.within)
+    error_handed (RefusesIn c.args.self.now) c.from_residual-in_err-picked.result c.in_err-picked.field-0.0 c.from_residual-in_err-picked.ensures.1 (at_in c.args.src.now c.args.self.now c.in_err-picked.field-0.0 (inl c.requires.node) c.in_err-picked.ensures.within)
 
 pub returns-clause-within : goal.returns-clause-within
 returns-clause-within g c =

@@ -7,7 +7,7 @@ use Rattle.wave_node.proofs.ByKind.Keys.{bool_key, no_bool_key, key_made, key_fa
 use Rattle.wave_node.proofs.ByKind.Wholes.{whole_answers_key, whole_at}
 use Rattle.wave_node.proofs.ByKind.TextKeys.{char_key, no_char_key}
 use Rattle.std.proofs.Common.{inr}
-use Rattle.wave_node.specs.ErrorSpans.{StandsIn}
+use Rattle.wave_node.specs.Private.ErrorSpans.{RefusesIn}
 use Rattle.wave_node.proofs.Parameters.{error_handed}
 use Rattle.wave_node.proofs.ErrorSpans.Nodes.{all_in, at_in, made_in, form_at, char_at}
 use Rattle.wave_node.proofs.ast.Node.read_plain_key.Goals as goal
@@ -34,11 +34,11 @@ returns-in_ok-as_char-in-Char-clause-answer g c = λ K p key is token.
 
 pub returns-in_err-as_bool_key-in-Bool-clause-within : goal.returns-in_err-as_bool_key-in-Bool-clause-within
 returns-in_err-as_bool_key-in-Bool-clause-within g c =
-    error_handed (StandsIn c.args.self.now) c.from_residual.result c.in_err-as_bool_key-in-Bool.field-0.0 c.from_residual.ensures.1 (at_in c.args.src.now c.args.self.now c.in_err-as_bool_key-in-Bool.field-0.0 (inr c.requires) (form_at c.args.self.now c.in_err-as_bool_key-in-Bool.field-0.0 c.in_err-as_bool_key-in-Bool.ensures.1))
+    error_handed (RefusesIn c.args.self.now) c.from_residual.result c.in_err-as_bool_key-in-Bool.field-0.0 c.from_residual.ensures.1 (at_in c.args.src.now c.args.self.now c.in_err-as_bool_key-in-Bool.field-0.0 (inr c.requires) (form_at c.args.self.now c.in_err-as_bool_key-in-Bool.field-0.0 c.in_err-as_bool_key-in-Bool.ensures.1))
 
 pub returns-in_err-as_char-in-Char-clause-within : goal.returns-in_err-as_char-in-Char-clause-within
 returns-in_err-as_char-in-Char-clause-within g c =
-    error_handed (StandsIn c.args.self.now) c.from_residual-in_err-as_char-in-Char.result c.in_err-as_char-in-Char.field-0.0 c.from_residual-in_err-as_char-in-Char.ensures.1 (at_in c.args.src.now c.args.self.now c.in_err-as_char-in-Char.field-0.0 (inr c.requires) (char_at c.args.src.now c.args.self.now c.in_err-as_char-in-Char.field-0.0 c.in_err-as_char-in-Char.ensures))
+    error_handed (RefusesIn c.args.self.now) c.from_residual-in_err-as_char-in-Char.result c.in_err-as_char-in-Char.field-0.0 c.from_residual-in_err-as_char-in-Char.ensures.1 (at_in c.args.src.now c.args.self.now c.in_err-as_char-in-Char.field-0.0 (inr c.requires) (char_at c.args.src.now c.args.self.now c.in_err-as_char-in-Char.field-0.0 c.in_err-as_char-in-Char.ensures))
 
 pub returns-in_ok-as_bool_key-in-Bool-clause-within : goal.returns-in_ok-as_bool_key-in-Bool-clause-within
 returns-in_ok-as_bool_key-in-Bool-clause-within g c =

@@ -3,9 +3,9 @@ use Rattle.std.specs.Cow.{cow_str_bytes}
 use Rattle.wave_node.proofs.MakerAnswers.{handed, leaf_made}
 use Rattle.wave_node.proofs.ByKind.TextLeaves.{string_read, string_blame}
 use Rattle.std.proofs.Common.{inl}
-use Rattle.wave_node.specs.ErrorSpans.{StandsIn}
+use Rattle.wave_node.specs.Private.ErrorSpans.{RefusesIn}
 use Rattle.wave_node.proofs.Parameters.{error_handed}
-use Rattle.wave_node.proofs.ErrorSpans.Nodes.{string_in}
+use Rattle.wave_node.proofs.ErrorSpans.Nodes.{string_in, all_in, leaf_at}
 use Rattle.wave_node.proofs.ast.Node.read_string.Goals as goal
 
 pub returns-in_err-text-clause-answer : goal.returns-in_err-text-clause-answer
@@ -19,4 +19,8 @@ returns-clause-answer g c = λ t is distinct.
 
 pub returns-in_err-text-clause-within : goal.returns-in_err-text-clause-within
 returns-in_err-text-clause-within g c =
-    error_handed (StandsIn c.args.self.now) c.from_residual.result c.in_err-text.field-0.0 c.from_residual.ensures.1 (string_in c.args.src.now c.args.self.now c.in_err-text.field-0.0 (inl c.requires.node) c.in_err-text.ensures)
+    error_handed (RefusesIn c.args.self.now) c.from_residual.result c.in_err-text.field-0.0 c.from_residual.ensures.1 (string_in c.args.src.now c.args.self.now c.in_err-text.field-0.0 (inl c.requires.node) c.in_err-text.ensures)
+
+pub returns-clause-within : goal.returns-clause-within
+returns-clause-within g c =
+    all_in c.args.src.now c.args.self.now c.made_string.result (inl c.requires.node) (leaf_at g.V.WasmValue.tree g.V.WasmValue.is_of g.V.WasmValue.is_full _ c.args.self.now c.made_string.result c.made_string.ensures)

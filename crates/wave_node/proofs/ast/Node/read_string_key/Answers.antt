@@ -5,7 +5,7 @@ use Rattle.std.specs.Cow.{cow_str_bytes}
 use Rattle.wave_node.proofs.ByKind.Keys.{key_made}
 use Rattle.wave_node.proofs.ByKind.TextKeys.{string_key, string_key_refused}
 use Rattle.std.proofs.Common.{inr}
-use Rattle.wave_node.specs.ErrorSpans.{StandsIn}
+use Rattle.wave_node.specs.Private.ErrorSpans.{RefusesIn}
 use Rattle.wave_node.proofs.Parameters.{error_handed}
 use Rattle.wave_node.proofs.ErrorSpans.Nodes.{string_in, all_in, leaf_at}
 use Rattle.wave_node.proofs.ast.Node.read_string_key.Goals as goal
@@ -20,7 +20,7 @@ returns-clause-answer g c = λ K p key is token.
 
 pub returns-in_err-text-clause-within : goal.returns-in_err-text-clause-within
 returns-in_err-text-clause-within g c =
-    error_handed (StandsIn c.args.self.now) c.from_residual.result c.in_err-text.field-0.0 c.from_residual.ensures.1 (string_in c.args.src.now c.args.self.now c.in_err-text.field-0.0 (inr c.requires.key) c.in_err-text.ensures)
+    error_handed (RefusesIn c.args.self.now) c.from_residual.result c.in_err-text.field-0.0 c.from_residual.ensures.1 (string_in c.args.src.now c.args.self.now c.in_err-text.field-0.0 (inr c.requires.key) c.in_err-text.ensures)
 
 pub returns-clause-within : goal.returns-clause-within
 returns-clause-within g c =

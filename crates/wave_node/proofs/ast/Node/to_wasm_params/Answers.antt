@@ -4,16 +4,18 @@ use Rattle.wave_wasm.specs.Types.{HasDistinctNames}
 use Rattle.wave_node.specs.NodeParams.{RefusesParams}
 use Rattle.wave_node.specs.Private.NodeParams.{RefusesOmitted}
 use Rattle.wave_node.proofs.ByKind.Tuples.{tuple_nodes, given_items, tuple_item, tuple_kept, place_has, map_has, all_has}
-use Rattle.wave_node.proofs.Parameters.{mapped_count, rest_mapped, error_handed, all_drop, too_many_refused, item_refused, missing_refused, params_read, omitted_refused}
+use Rattle.wave_node.proofs.Parameters.{mapped_count, rest_mapped, error_handed, handed_is, all_drop, too_many_refused, item_refused, missing_refused, params_read, omitted_refused}
 use Rattle.std.proofs.Common.{ℕ, ap, ◌∙◌}
 use Rattle.std.specs.declared.ops.Range.{Range}
 use Rattle.wave_lex.specs.Errors.{Refusal}
 use Rattle.wave_lex.specs.declared.error.ParserError.{ParserError}
 use Rattle.wave_lex.specs.declared.error.ParserErrorKind.TheVariants as because
 use Rattle.wave_node.specs.NodeTree.{place_of}
+use Rattle.wave_node.specs.NodeAccessors.{RefusedAs}
 use Rattle.wave_lex.specs.Errors.{LiesInText}
-use Rattle.wave_node.specs.ErrorSpans.{IsAtPlace, IsCausedIn}
-use Rattle.wave_node.proofs.ErrorSpans.Nodes.{at_in, at_in_text, form_at, memory_at, node_in_text, deeper_at, close_lies}
+use Rattle.wave_node.specs.ErrorSpans.{IsAtPlace, IsCausedIn, IsTypeKind, HasParamsKind}
+use Rattle.wave_node.proofs.ErrorSpans.Nodes.{at_in, at_in_text, form_at, memory_at, memory_here, node_in_text, deeper_at, close_lies, said_params_kind, omitted_kind}
+use Rattle.wave_node.proofs.KeyNodes.{other_value}
 use Rattle.wave_node.proofs.ast.Node.to_wasm_params.Goals as goal
 
 pub returns-then-i-types-clause-refused : goal.returns-then-i-types-clause-refused
@@ -29,7 +31,7 @@ returns-then-i-types-clause-refused g c = λ distinct t is.
     inr (inner.items, inner.shape, too_many_refused g.V.WasmValue.tree g.V.WasmValue.is_of g.V.WasmValue.is_full src Ts ns inner.items c.loop-i.vals.items c.loop-i.i c.index-nodes-i.result c.args.self.now c.too_many.result nodes c.loop-i-test.true c.index-nodes-i.is fits (omega (arith, c.if-i-types.true, many)) before c.too_many.ensures)
 
 pub to_wasm_value-requires : goal.to_wasm_value-requires
-to_wasm_value-requires g c = tuple_item c.args.src.now c.args.self.now c.in_ok-nodes.nodes.now c.loop-i.i c.index-nodes-i-in-loop-i.result c.requires c.in_ok-nodes.ensures.0 c.in_ok-nodes.ensures.1 c.loop-i-test.true c.index-nodes-i-in-loop-i.is
+to_wasm_value-requires g c = inl (tuple_item c.args.src.now c.args.self.now c.in_ok-nodes.nodes.now c.loop-i.i c.index-nodes-i-in-loop-i.result (other_value c.args.src.now c.args.self.now (λ label. cc (sym c.in_ok-nodes.ensures.0 ∙ label)) c.requires) c.in_ok-nodes.ensures.0 c.in_ok-nodes.ensures.1 c.loop-i-test.true c.index-nodes-i-in-loop-i.is)
 
 pub returns-in_err-val-clause-refused : goal.returns-in_err-val-clause-refused
 returns-in_err-val-clause-refused g c = λ distinct t is.
@@ -122,15 +124,15 @@ returns-clause-values g c = λ distinct t is.
 
 pub returns-in_err-nodes-clause-within : goal.returns-in_err-nodes-clause-within
 returns-in_err-nodes-clause-within g c =
-    error_handed (λ (x : ParserError). LiesInText c.args.src.now x.span) c.from_residual.result c.in_err-nodes.field-0.0 c.from_residual.ensures.1 (at_in_text c.args.src.now c.args.self.now c.in_err-nodes.field-0.0 (inl c.requires) (form_at c.args.self.now c.in_err-nodes.field-0.0 c.in_err-nodes.ensures.1))
+    error_handed (λ (x : ParserError). LiesInText c.args.src.now x.span) c.from_residual.result c.in_err-nodes.field-0.0 c.from_residual.ensures.1 (at_in_text c.args.src.now c.args.self.now c.in_err-nodes.field-0.0 c.requires (form_at c.args.self.now c.in_err-nodes.field-0.0 c.in_err-nodes.ensures.1).0)
 
 pub returns-in_err-nodes-clause-caused : goal.returns-in_err-nodes-clause-caused
 returns-in_err-nodes-clause-caused g c =
-    error_handed (λ (x : ParserError). x.kind ≡ because.WasmValueError → IsCausedIn c.args.self.now x) c.from_residual.result c.in_err-nodes.field-0.0 c.from_residual.ensures.1 ((at_in c.args.src.now c.args.self.now c.in_err-nodes.field-0.0 (inl c.requires) (form_at c.args.self.now c.in_err-nodes.field-0.0 c.in_err-nodes.ensures.1)).caused)
+    error_handed (λ (x : ParserError). x.kind ≡ because.WasmValueError → IsCausedIn c.args.self.now x) c.from_residual.result c.in_err-nodes.field-0.0 c.from_residual.ensures.1 ((at_in c.args.src.now c.args.self.now c.in_err-nodes.field-0.0 c.requires (form_at c.args.self.now c.in_err-nodes.field-0.0 c.in_err-nodes.ensures.1)).0.caused)
 
 pub returns-then-i-types-clause-within : goal.returns-then-i-types-clause-within
 returns-then-i-types-clause-within g c =
-    subst (LiesInText c.args.src.now) (sym c.too_many.ensures.stands) (node_in_text c.args.src.now c.index-nodes-i.result (inl (tuple_item c.args.src.now c.args.self.now c.in_ok-nodes.nodes.now c.loop-i.i c.index-nodes-i.result c.requires c.in_ok-nodes.ensures.0 c.in_ok-nodes.ensures.1 c.loop-i-test.true c.index-nodes-i.is)))
+    subst (LiesInText c.args.src.now) (sym c.too_many.ensures.stands) (node_in_text c.args.src.now c.index-nodes-i.result (inl (tuple_item c.args.src.now c.args.self.now c.in_ok-nodes.nodes.now c.loop-i.i c.index-nodes-i.result (other_value c.args.src.now c.args.self.now (λ label. cc (sym c.in_ok-nodes.ensures.0 ∙ label)) c.requires) c.in_ok-nodes.ensures.0 c.in_ok-nodes.ensures.1 c.loop-i-test.true c.index-nodes-i.is)))
 
 pub returns-then-i-types-clause-caused : goal.returns-then-i-types-clause-caused
 returns-then-i-types-clause-caused g c =
@@ -142,19 +144,19 @@ returns-in_err-val-clause-within g c =
 
 pub returns-in_err-val-clause-caused : goal.returns-in_err-val-clause-caused
 returns-in_err-val-clause-caused g c =
-    error_handed (λ (x : ParserError). x.kind ≡ because.WasmValueError → IsCausedIn c.args.self.now x) c.from_residual-in_err-val.result c.in_err-val.field-0.0 c.from_residual-in_err-val.ensures.1 ((deeper_at c.args.src.now c.args.self.now c.in_ok-nodes.nodes.now c.loop-i.i c.index-nodes-i-in-loop-i.result c.in_err-val.field-0.0 c.requires c.in_ok-nodes.ensures.1 c.loop-i-test.true c.index-nodes-i-in-loop-i.is c.in_err-val.ensures.within).caused)
+    error_handed (λ (x : ParserError). x.kind ≡ because.WasmValueError → IsCausedIn c.args.self.now x) c.from_residual-in_err-val.result c.in_err-val.field-0.0 c.from_residual-in_err-val.ensures.1 ((deeper_at c.args.src.now c.args.self.now c.in_ok-nodes.nodes.now c.loop-i.i c.index-nodes-i-in-loop-i.result c.in_err-val.field-0.0 (other_value c.args.src.now c.args.self.now (λ label. cc (sym c.in_ok-nodes.ensures.0 ∙ label)) c.requires) c.in_ok-nodes.ensures.1 c.loop-i-test.true c.index-nodes-i-in-loop-i.is (c.in_err-val.ensures.within, c.in_err-val.ensures.kind)).0.caused)
 
 pub returns-in_err-push-clause-within : goal.returns-in_err-push-clause-within
 returns-in_err-push-clause-within g c =
-    error_handed (λ (x : ParserError). LiesInText c.args.src.now x.span) c.from_residual-in_err-push.result c.in_err-push.field-0.0 c.from_residual-in_err-push.ensures.1 (at_in_text c.args.src.now c.args.self.now c.in_err-push.field-0.0 (inl c.requires) (memory_at (place_of c.args.self.now) c.in_err-push.field-0.0 c.in_err-push.ensures.refused c.in_err-push.ensures.place))
+    error_handed (λ (x : ParserError). LiesInText c.args.src.now x.span) c.from_residual-in_err-push.result c.in_err-push.field-0.0 c.from_residual-in_err-push.ensures.1 (at_in_text c.args.src.now c.args.self.now c.in_err-push.field-0.0 c.requires (memory_at (place_of c.args.self.now) c.in_err-push.field-0.0 c.in_err-push.ensures.refused c.in_err-push.ensures.place))
 
 pub returns-in_err-push-clause-caused : goal.returns-in_err-push-clause-caused
 returns-in_err-push-clause-caused g c =
-    error_handed (λ (x : ParserError). x.kind ≡ because.WasmValueError → IsCausedIn c.args.self.now x) c.from_residual-in_err-push.result c.in_err-push.field-0.0 c.from_residual-in_err-push.ensures.1 ((at_in c.args.src.now c.args.self.now c.in_err-push.field-0.0 (inl c.requires) (memory_at (place_of c.args.self.now) c.in_err-push.field-0.0 c.in_err-push.ensures.refused c.in_err-push.ensures.place)).caused)
+    error_handed (λ (x : ParserError). x.kind ≡ because.WasmValueError → IsCausedIn c.args.self.now x) c.from_residual-in_err-push.result c.in_err-push.field-0.0 c.from_residual-in_err-push.ensures.1 ((at_in c.args.src.now c.args.self.now c.in_err-push.field-0.0 c.requires (memory_here c.args.self.now c.in_err-push.field-0.0 c.in_err-push.ensures.refused c.in_err-push.ensures.place)).0.caused)
 
 pub returns-then-not-are_options-clause-within : goal.returns-then-not-are_options-clause-within
 returns-then-not-are_options-clause-within g c =
-    subst (LiesInText c.args.src.now) (sym c.missing.ensures.stands) (close_lies c.args.src.now c.args.self.now (inl c.requires))
+    subst (LiesInText c.args.src.now) (sym c.missing.ensures.stands) (close_lies c.args.src.now c.args.self.now c.requires)
 
 pub returns-then-not-are_options-clause-caused : goal.returns-then-not-are_options-clause-caused
 returns-then-not-are_options-clause-caused g c =
@@ -162,8 +164,51 @@ returns-then-not-are_options-clause-caused g c =
 
 pub returns-in_err-push_omitted-clause-within : goal.returns-in_err-push_omitted-clause-within
 returns-in_err-push_omitted-clause-within g c =
-    error_handed (λ (x : ParserError). LiesInText c.args.src.now x.span) c.from_residual-in_err-push_omitted.result c.in_err-push_omitted.field-0.0 c.from_residual-in_err-push_omitted.ensures.1 (at_in_text c.args.src.now c.args.self.now c.in_err-push_omitted.field-0.0 (inl c.requires) (subst (λ (p : Range ℕ). IsAtPlace p c.in_err-push_omitted.field-0.0) c.span.ensures c.in_err-push_omitted.ensures.within))
+    error_handed (λ (x : ParserError). LiesInText c.args.src.now x.span) c.from_residual-in_err-push_omitted.result c.in_err-push_omitted.field-0.0 c.from_residual-in_err-push_omitted.ensures.1 (at_in_text c.args.src.now c.args.self.now c.in_err-push_omitted.field-0.0 c.requires (subst (λ (p : Range ℕ). IsAtPlace p c.in_err-push_omitted.field-0.0) c.span.ensures c.in_err-push_omitted.ensures.within))
 
 pub returns-in_err-push_omitted-clause-caused : goal.returns-in_err-push_omitted-clause-caused
 returns-in_err-push_omitted-clause-caused g c =
-    error_handed (λ (x : ParserError). x.kind ≡ because.WasmValueError → IsCausedIn c.args.self.now x) c.from_residual-in_err-push_omitted.result c.in_err-push_omitted.field-0.0 c.from_residual-in_err-push_omitted.ensures.1 ((at_in c.args.src.now c.args.self.now c.in_err-push_omitted.field-0.0 (inl c.requires) (subst (λ (p : Range ℕ). IsAtPlace p c.in_err-push_omitted.field-0.0) c.span.ensures c.in_err-push_omitted.ensures.within)).caused)
+    error_handed (λ (x : ParserError). x.kind ≡ because.WasmValueError → IsCausedIn c.args.self.now x) c.from_residual-in_err-push_omitted.result c.in_err-push_omitted.field-0.0 c.from_residual-in_err-push_omitted.ensures.1 ((at_in c.args.src.now c.args.self.now c.in_err-push_omitted.field-0.0 c.requires (subst (λ (p : Range ℕ). IsAtPlace p c.in_err-push_omitted.field-0.0) c.span.ensures c.in_err-push_omitted.ensures.within, omitted_kind g.V.WasmValue.is_full _ _ c.in_err-push_omitted.field-0.0 c.in_err-push_omitted.ensures.refused)).0.caused)
+
+pub returns-in_err-nodes-clause-kind : goal.returns-in_err-nodes-clause-kind
+returns-in_err-nodes-clause-kind g c =
+    error_handed HasParamsKind c.from_residual.result c.in_err-nodes.field-0.0 c.from_residual.ensures.1 (inl (form_at c.args.self.now c.in_err-nodes.field-0.0 c.in_err-nodes.ensures.1).1)
+
+pub returns-then-i-types-clause-kind : goal.returns-then-i-types-clause-kind
+returns-then-i-types-clause-kind g c = said_params_kind c.too_many.result _ _ c.too_many.ensures
+
+pub returns-in_err-val-clause-kind : goal.returns-in_err-val-clause-kind
+returns-in_err-val-clause-kind g c =
+    error_handed HasParamsKind c.from_residual-in_err-val.result c.in_err-val.field-0.0 c.from_residual-in_err-val.ensures.1 (inl c.in_err-val.ensures.kind)
+
+pub returns-in_err-push-clause-kind : goal.returns-in_err-push-clause-kind
+returns-in_err-push-clause-kind g c =
+    error_handed HasParamsKind c.from_residual-in_err-push.result c.in_err-push.field-0.0 c.from_residual-in_err-push.ensures.1 (inl (subst IsTypeKind (sym c.in_err-push.ensures.refused) tt))
+
+pub returns-then-not-are_options-clause-kind : goal.returns-then-not-are_options-clause-kind
+returns-then-not-are_options-clause-kind g c = said_params_kind c.missing.result _ _ c.missing.ensures
+
+pub returns-in_err-push_omitted-clause-kind : goal.returns-in_err-push_omitted-clause-kind
+returns-in_err-push_omitted-clause-kind g c =
+    error_handed HasParamsKind c.from_residual-in_err-push_omitted.result c.in_err-push_omitted.field-0.0 c.from_residual-in_err-push_omitted.ensures.1 (inl (omitted_kind g.V.WasmValue.is_full _ _ c.in_err-push_omitted.field-0.0 c.in_err-push_omitted.ensures.refused))
+
+pub returns-in_err-nodes-clause-form : goal.returns-in_err-nodes-clause-form
+returns-in_err-nodes-clause-form g c = λ apart. handed_is (RefusedAs because.InvalidType c.args.self.now) c.from_residual.result c.in_err-nodes.field-0.0 c.from_residual.ensures.1 c.in_err-nodes.ensures.1
+
+pub returns-then-i-types-clause-form : goal.returns-then-i-types-clause-form
+returns-then-i-types-clause-form g c = λ apart. absurd (apart c.in_ok-nodes.ensures.0)
+
+pub returns-in_err-val-clause-form : goal.returns-in_err-val-clause-form
+returns-in_err-val-clause-form g c = λ apart. absurd (apart c.in_ok-nodes.ensures.0)
+
+pub returns-in_err-push-clause-form : goal.returns-in_err-push-clause-form
+returns-in_err-push-clause-form g c = λ apart. absurd (apart c.in_ok-nodes.ensures.0)
+
+pub returns-then-not-are_options-clause-form : goal.returns-then-not-are_options-clause-form
+returns-then-not-are_options-clause-form g c = λ apart. absurd (apart c.in_ok-nodes.ensures.0)
+
+pub returns-in_err-push_omitted-clause-form : goal.returns-in_err-push_omitted-clause-form
+returns-in_err-push_omitted-clause-form g c = λ apart. absurd (apart c.in_ok-nodes.ensures.0)
+
+pub returns-clause-form : goal.returns-clause-form
+returns-clause-form g c = λ apart. absurd (apart c.in_ok-nodes.ensures.0)
