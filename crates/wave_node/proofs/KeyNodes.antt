@@ -13,8 +13,7 @@ use Rattle.wave_wasm.specs.Types.{TypeTree, Simple, HasDistinctNames}
 use Rattle.wave_wasm.specs.Values.{Value, Leaf}
 use Rattle.wave_wasm.specs.Values as value
 use Rattle.wave_lex.specs.Tokenization.{Front}
-use Rattle.wave_lex.specs.Errors.{Refusal, refusal_of}
-use Rattle.wave_lex.specs.declared.error.ParserError.{ParserError}
+use Rattle.wave_lex.specs.Errors.{Diagnostic, Refusal, refusal_of}
 use Rattle.wave_lex.specs.declared.error.ParserErrorKind.TheVariants.{InvalidType}
 use Rattle.wave_grammar.specs.Token.{Token, lexeme_of}
 use Rattle.wave_grammar.specs.Token as token
@@ -208,7 +207,7 @@ no_bool_text source n p key h apart w b is same =
 
 module _ {V : Type 0} (tree_value : V → Value) (of : V → TypeTree → Type 0) (Full : TypeTree → Type 0) where
   -- what the tree of a key that is no keyword is given is what the key spells
-  pub key_read : (T : TypeTree) (K : Simple) (source : List ℕ) (n : NodeTree) (p : Range ℕ) (key : Token) (r : Result V ParserError) → T ≡ type.simple K → (IsKeywordOf source n → ⊥) → (h : IsTokenOf source n p key) → MatchResult r (IsTypedValue tree_value of T h.0.0) (IsBlamed Full T h.0.0) → MatchResult r (IsKeyRead tree_value of K key) (IsKeyBlamed Full K p key)
+  pub key_read : (T : TypeTree) (K : Simple) (source : List ℕ) (n : NodeTree) (p : Range ℕ) (key : Token) (r : Result V Diagnostic) → T ≡ type.simple K → (IsKeywordOf source n → ⊥) → (h : IsTokenOf source n p key) → MatchResult r (IsTypedValue tree_value of T h.0.0) (IsBlamed Full T h.0.0) → MatchResult r (IsKeyRead tree_value of K key) (IsKeyBlamed Full K p key)
   key_read T K source n p key (Ok v) is apart h read =
       let typed : IsTypedValue tree_value of (type.simple K) h.0.0 v = subst (λ (U : TypeTree). IsTypedValue tree_value of U h.0.0 v) is read in
       let k = key_spelled K h.0.0 p key (tree_value v) h.0.2 typed.reads in
@@ -225,14 +224,14 @@ module _ {V : Type 0} (tree_value : V → Value) (of : V → TypeTree → Type 0
   fault_spells_none K p key k q (inr h) = λ l spelled. leaf_none K p key k q l h.1 spelled
 
   -- where a fault is the answer the key spells no value
-  pub key_told_none : (K : Simple) (p : Range ℕ) (key : Token) (r : Result V ParserError) → MatchResult r (IsKeyRead tree_value of K key) (IsKeyBlamed Full K p key) → MatchResult r (IsKeyRead tree_value of K key) (IsKeyError Full K p key)
+  pub key_told_none : (K : Simple) (p : Range ℕ) (key : Token) (r : Result V Diagnostic) → MatchResult r (IsKeyRead tree_value of K key) (IsKeyBlamed Full K p key) → MatchResult r (IsKeyRead tree_value of K key) (IsKeyError Full K p key)
   key_told_none K p key (Ok v) h = h
   key_told_none K p key (Err e) (inl memory) = inl memory
   key_told_none K p key (Err e) (inr (inl fault)) = inr (inl (fault, fault_spells_none K p key (refusal_of e) e.span fault))
   key_told_none K p key (Err e) (inr (inr full)) = inr (inr full)
 
 -- a keyword at another simple type than bool
-pub keyword_fault : (K : Simple) (source : List ℕ) (n : NodeTree) (p : Range ℕ) (key : Token) (e : ParserError) → K ≢ type.bool → IsTokenOf source n p key → type_of n ≡ kind.Label → RefusedAs InvalidType n e → MapKeyFault K p key (refusal_of e) e.span
+pub keyword_fault : (K : Simple) (source : List ℕ) (n : NodeTree) (p : Range ℕ) (key : Token) (e : Diagnostic) → K ≢ type.bool → IsTokenOf source n p key → type_of n ≡ kind.Label → RefusedAs InvalidType n e → MapKeyFault K p key (refusal_of e) e.span
 keyword_fault K source n p key e apart h labelled refused =
     by K key apart (key_token source n p key h) (at_key InvalidType source n p key (refusal_of e) e.span h (said refused))
   where

@@ -6,7 +6,7 @@ use Rattle.std.proofs.lemmas.List.{append-nil, take_all, drop-drop}
 use Rattle.wave_wasm.specs.Types.{TypeTree}
 use Rattle.wave_wasm.specs.Values.{Value}
 use Rattle.wave_lex.specs.declared.lex.Token as lex
-use Rattle.wave_lex.specs.declared.error.ParserError.{ParserError}
+use Rattle.wave_lex.specs.Errors.{Diagnostic}
 use Rattle.wave_lex.specs.declared.error.ParserErrorKind.{ParserErrorKind}
 use Rattle.wave_lex.specs.declared.error.ParserErrorKind.TheVariants as kind
 use Rattle.wave_lex.specs.Tokenization.{IsGap, Front, remainder_of}
@@ -181,7 +181,7 @@ whole_read T s p t v read h (tokens, cut, reads) =
     }
 
 -- where no tree stands a text means nothing
-pub refused_means_none : (T : TypeTree) (s : List ℕ) (e : ParserError) (p : Place) → IsSyntaxError e 100 value [] (start_of s) p → MeansNone T s
+pub refused_means_none : (T : TypeTree) (s : List ℕ) (e : Diagnostic) (p : Place) → IsSyntaxError e 100 value [] (start_of s) p → MeansNone T s
 refused_means_none T s e p h v (tokens, cut, reads) =
     let all = all_of s tokens cut in
     let (u, takes, tree_reads) = through T 100 tokens v [] reads (λ more e. cc) in

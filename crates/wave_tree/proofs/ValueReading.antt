@@ -3,9 +3,8 @@ use Rattle.std.proofs.Common.{◌≡◌, ◌≢◌, ℕ, inl, inr, List, [], sym
 use Rattle.std.specs.Prelude.{◌⊎◌}
 use Rattle.wave_wasm.specs.Types.{TypeTree, HasDistinctNames}
 use Rattle.wave_wasm.specs.Values.{Value}
-use Rattle.wave_lex.specs.declared.error.ParserError.{ParserError}
 use Rattle.wave_lex.specs.declared.error.ParserErrorKind.TheVariants as kind
-use Rattle.wave_lex.specs.Errors.{Refusal, LiesInText, refusal_of}
+use Rattle.wave_lex.specs.Errors.{Diagnostic, Refusal, LiesInText, refusal_of}
 use Rattle.wave_grammar.specs.SpannedTree.{tree_of}
 use Rattle.wave_grammar.specs.TypeErrors.{Fault}
 use Rattle.wave_grammar.specs.ParserPosition.{Place, TakesItem}
@@ -23,7 +22,7 @@ use Rattle.wave_grammar.proofs.RoundTrip.ReadsBack.{reads_merged}
 -- ---- refused values
 
 -- a value that could not be read: of what begins the text
-front_refused : (Full : TypeTree → Type 0) (T : TypeTree) (s : List ℕ) (p : Place) (e : ParserError) → RefusesValue Full T e (start_of s) p → RefusesFront s e
+front_refused : (Full : TypeTree → Type 0) (T : TypeTree) (s : List ℕ) (p : Place) (e : Diagnostic) → RefusesValue Full T e (start_of s) p → RefusesFront s e
 front_refused Full T s p e h = by (memory_or e.kind)
   where
     by_kind : IsSyntaxError e 100 value [] (start_of s) p ⊎ IsTypeRefused Full T e (start_of s) p → RefusesFront s e
@@ -35,7 +34,7 @@ front_refused Full T s p e h = by (memory_or e.kind)
     by (inr apart) = by_kind (h apart)
 
 -- of what the text means
-text_blamed : (Full : TypeTree → Type 0) (T : TypeTree) (s : List ℕ) (p : Place) (e : ParserError) → RefusesValue Full T e (start_of s) p → HasDistinctNames T → BlamesText Full T s e
+text_blamed : (Full : TypeTree → Type 0) (T : TypeTree) (s : List ℕ) (p : Place) (e : Diagnostic) → RefusesValue Full T e (start_of s) p → HasDistinctNames T → BlamesText Full T s e
 text_blamed Full T s p e h distinct = by (memory_or e.kind)
   where
     by_blame : (k : IsTypeRefused Full T e (start_of s) p) → Fault T k.placed (refusal_of e) e.span × typed.ReadsNone T k.placed ⊎ (e.kind ≡ kind.WasmValueError) × (Full T → ⊥) → BlamesText Full T s e
@@ -51,7 +50,7 @@ text_blamed Full T s p e h distinct = by (memory_or e.kind)
     by (inr apart) = by_kind (h apart)
 
 -- what a value that could not be read says of the text
-pub value_refused : (Full : TypeTree → Type 0) (T : TypeTree) (s : List ℕ) (old new : Parsing) (e : ParserError) → old ≡ first_at (front_of s) → RefusesValue Full T e old.place new.place → LiesInText old.place.lexer.source e.span → IsCausedBetween old.place new.place e → StaysWithout e old.place new.place → RefusesText Full T s e
+pub value_refused : (Full : TypeTree → Type 0) (T : TypeTree) (s : List ℕ) (old new : Parsing) (e : Diagnostic) → old ≡ first_at (front_of s) → RefusesValue Full T e old.place new.place → LiesInText old.place.lexer.source e.span → IsCausedBetween old.place new.place e → StaysWithout e old.place new.place → RefusesText Full T s e
 value_refused Full T s old new e first refused within caused memory =
     let here = subst (λ (z : Parsing). RefusesValue Full T e z.place new.place) first refused in record {
       front = front_refused Full T s new.place e here;
@@ -64,11 +63,11 @@ value_refused Full T s old new e first refused within caused memory =
 -- ---- what follows
 
 -- what follows a value is no want of memory
-trailing_memory : (e : ParserError) (p : Place) → IsTrailing e p → e.kind ≢ kind.OutOfMemory
+trailing_memory : (e : Diagnostic) (p : Place) → IsTrailing e p → e.kind ≢ kind.OutOfMemory
 trailing_memory e p (behind, item, says) is = cc (sym (ap (λ (r : Refusal). r.kind) says.is) ∙ is)
 
 -- what follows a value is refused
-pub trailing_refused : {V : Type 0} (tree_of_value : V → Value) (of : V → TypeTree → Type 0) (Full : TypeTree → Type 0) (T : TypeTree) (s : List ℕ) (p : Place) (v : V) (e : ParserError) → IsValueTaken tree_of_value of T (start_of s) p v → IsTrailing e p → RefusesText Full T s e
+pub trailing_refused : {V : Type 0} (tree_of_value : V → Value) (of : V → TypeTree → Type 0) (Full : TypeTree → Type 0) (T : TypeTree) (s : List ℕ) (p : Place) (v : V) (e : Diagnostic) → IsValueTaken tree_of_value of T (start_of s) p v → IsTrailing e p → RefusesText Full T s e
 trailing_refused tree_of_value of Full T s p v e h trails =
     let t = tree_of h.placed in
     let (behind, any, says) = trails in record {

@@ -1,8 +1,7 @@
 -- What reading a value at a type answers, from a place and from a whole text.
 use Rattle.std.specs.Prelude.{ℕ, ◌≡◌, ◌⊎◌, ◌≢◌, List, [], None}
-use Rattle.wave_lex.specs.declared.error.ParserError.{ParserError}
 use Rattle.wave_lex.specs.declared.error.ParserErrorKind.TheVariants.{WasmValueError, OutOfMemory}
-use Rattle.wave_lex.specs.Errors.{Says, LiesInText, refusal_of}
+use Rattle.wave_lex.specs.Errors.{Diagnostic, Says, LiesInText, refusal_of}
 use Rattle.wave_lex.specs.Tokenization.{span}
 use Rattle.wave_node.specs.NodeTree.{NodeTree}
 use Rattle.wave_grammar.specs.ParserPosition.{Place}
@@ -50,39 +49,39 @@ module _ {V : Type 0} (tree : V → Value) (of : V → TypeTree → Type 0) wher
 
 module _ (Full : TypeTree → Type 0) where
   -- a tree was read, and the refusal is of a kind that reading one at a type answers; where the type's names are distinct it gives the tree no value, or a maker refused its value
-  pub record IsTypeRefused (T : TypeTree) (e : ParserError) (old new : Place) : Type 0 where
+  pub record IsTypeRefused (T : TypeTree) (e : Diagnostic) (old new : Place) : Type 0 where
     pub placed : Placed
     pub read : IsTreeRead old new placed
     pub kind : HasTypeKind e
     pub blames : HasDistinctNames T → Fault T placed (refusal_of e) e.span × typed.ReadsNone T placed ⊎ (e.kind ≡ WasmValueError) × (Full T → ⊥)
 
   -- no value was read: for want of memory, or no tree stands there, or one that is refused at the type
-  abbrev pub RefusesValue : TypeTree → ParserError → Place → Place → Type 0
+  abbrev pub RefusesValue : TypeTree → Diagnostic → Place → Place → Type 0
   RefusesValue T e old new = (e.kind ≢ OutOfMemory) → IsSyntaxError e 100 value [] old new ⊎ IsTypeRefused T e old new
 
 -- a `WasmValueError` stands, with a cause, at a node of the tree whose tokens the parser took
-abbrev pub IsCausedBetween : Place → Place → ParserError → Type 0
+abbrev pub IsCausedBetween : Place → Place → Diagnostic → Type 0
 IsCausedBetween old new e = e.kind ≡ WasmValueError → (n : NodeTree) × IsNodeTaken old new n × IsCausedIn n e
 
 -- at any type: the text spells no tree, or memory is wanting; or a tree begins the text, and the refusal is of a kind that reading one at a type answers
-abbrev pub RefusesFront : List ℕ → ParserError → Type 0
+abbrev pub RefusesFront : List ℕ → Diagnostic → Type 0
 RefusesFront s e =
     RefusesTree s e ⊎ ((p : Place) × (t : Placed) × IsTreeRead (start_of s) p t × HasTypeKind e)
 
 -- what is wrong with the text: no tree begins it; or the type gives the tree that does no value; or something follows that tree, which has one
-abbrev pub TextFault : TypeTree → List ℕ → ParserError → Type 0
+abbrev pub TextFault : TypeTree → List ℕ → Diagnostic → Type 0
 TextFault T s e =
     ((p : Place) × IsSyntaxError e 100 value [] (start_of s) p)
     ⊎ ((p : Place) × (t : Placed) × IsTreeRead (start_of s) p t × Fault T t (refusal_of e) e.span)
     ⊎ ((p : Place) × (t : Placed) × (v : Value) × IsTreeRead (start_of s) p t × TreeReads T (tree_of t) v × IsTrailing e p)
 
 -- want of memory; or a fault of the text, which means no value of the type; or, where makers do not serve all values of the type, the refusal of one
-abbrev pub BlamesText : (TypeTree → Type 0) → TypeTree → List ℕ → ParserError → Type 0
+abbrev pub BlamesText : (TypeTree → Type 0) → TypeTree → List ℕ → Diagnostic → Type 0
 BlamesText Full T s e =
     (e.kind ≡ OutOfMemory) ⊎ TextFault T s e × MeansNone T s ⊎ (e.kind ≡ WasmValueError) × (Full T → ⊥)
 
 -- what the refusal of a text says: at any type of its tree, where the type's names are distinct of its meaning; its span lies in the text; a `WasmValueError` has a cause, and stands at a node of what was read; want of memory is told at 0..0
-pub record RefusesText (Full : TypeTree → Type 0) (T : TypeTree) (s : List ℕ) (e : ParserError) : Type 0 where
+pub record RefusesText (Full : TypeTree → Type 0) (T : TypeTree) (s : List ℕ) (e : Diagnostic) : Type 0 where
   pub front : RefusesFront s e
   pub blames : HasDistinctNames T → BlamesText Full T s e
   pub within : LiesInText s e.span

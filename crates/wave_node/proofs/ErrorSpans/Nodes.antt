@@ -5,8 +5,7 @@ use Rattle.wave_wasm.specs.Lists.{AllOf}
 use Rattle.wave_wasm.specs.ValueErrors.{Cause, cause_of}
 use Rattle.wave_wasm.specs.declared.wasm.WasmValueError.{WasmValueError}
 use Rattle.wave_wasm.specs.declared.wasm.WasmValueError.TheVariants as error
-use Rattle.wave_lex.specs.Errors.{Refusal, refusal_of, refused_by, plainly, caused, LiesInText, Says}
-use Rattle.wave_lex.specs.declared.error.ParserError.{ParserError}
+use Rattle.wave_lex.specs.Errors.{Diagnostic, Refusal, refusal_of, refused_by, plainly, caused, LiesInText, Says}
 use Rattle.wave_lex.specs.declared.error.ParserErrorKind.{ParserErrorKind}
 use Rattle.wave_lex.specs.declared.error.ParserErrorKind.TheVariants as why
 use Rattle.wave_lex.specs.Tokenization.{Stands}
@@ -174,12 +173,12 @@ entries_belong source n v = pairs_belong n (children_of n) (children_belong sour
 -- ---- refusals at a node
 
 -- what stands in a node, of a kind of reading at types, stands in it
-pub all_stand : {V : Type 0} (n : NodeTree) (r : Result V ParserError) → IfErr r (RefusesIn n) → IfErr r (StandsIn n)
+pub all_stand : {V : Type 0} (n : NodeTree) (r : Result V Diagnostic) → IfErr r (RefusesIn n) → IfErr r (StandsIn n)
 all_stand n (Ok w) told = tt
 all_stand n (Err e) told = told.0
 
 -- and is of such a kind
-pub all_kinds : {V : Type 0} (n : NodeTree) (r : Result V ParserError) → IfErr r (RefusesIn n) → IfErr r HasTypeKind
+pub all_kinds : {V : Type 0} (n : NodeTree) (r : Result V Diagnostic) → IfErr r (RefusesIn n) → IfErr r HasTypeKind
 all_kinds n (Ok w) told = tt
 all_kinds n (Err e) told = told.1
 
@@ -187,63 +186,63 @@ node_ordered : (source : List ℕ) (n : NodeTree) → IsParsedFrom source n → 
 node_ordered source n h = (stands source n h).ordered
 
 -- what stands at a node stands in it
-pub at_in : (source : List ℕ) (n : NodeTree) (e : ParserError) → IsParsedFrom source n → RefusesAt n e → RefusesIn n e
+pub at_in : (source : List ℕ) (n : NodeTree) (e : Diagnostic) → IsParsedFrom source n → RefusesAt n e → RefusesIn n e
 at_in source n e h told =
     let o = node_ordered source n h in
     (record { lies = subst (LiesInNode n) (sym told.0.0) (omega arith, o, omega arith); caused = λ was. (n, whole_part n, told.0) }, told.1)
 
 -- a refusal that says the kind alone, or its cause, is of this kind
-said_kind : (e : ParserError) (r : Refusal) → refusal_of e ≡ r → IsTypeKind r.kind → HasTypeKind e
+said_kind : (e : Diagnostic) (r : Refusal) → refusal_of e ≡ r → IsTypeKind r.kind → HasTypeKind e
 said_kind e r is known = subst IsTypeKind (sym (ap (λ (x : Refusal). x.kind) is)) known
 
 -- a refusal of another kind has no cause to tell
-pub plain_kind : (k : ParserErrorKind) (e : ParserError) → k ≢ why.WasmValueError → refusal_of e ≡ plainly k → HasCause e
+pub plain_kind : (k : ParserErrorKind) (e : Diagnostic) → k ≢ why.WasmValueError → refusal_of e ≡ plainly k → HasCause e
 plain_kind k e apart is = λ was. absurd (apart (sym (ap (λ (r : Refusal). r.kind) is) ∙ was))
 
 -- a refusal for want of memory
-pub memory_at : (p : Range ℕ) (e : ParserError) → e.kind ≡ why.OutOfMemory → e.span ≡ p → IsAtPlace p e
+pub memory_at : (p : Range ℕ) (e : Diagnostic) → e.kind ≡ why.OutOfMemory → e.span ≡ p → IsAtPlace p e
 memory_at p e is place = (place, λ was. absurd (cc (sym is ∙ was)))
 
 -- so at a node
-pub memory_here : (n : NodeTree) (e : ParserError) → e.kind ≡ why.OutOfMemory → e.span ≡ place_of n → RefusesAt n e
+pub memory_here : (n : NodeTree) (e : Diagnostic) → e.kind ≡ why.OutOfMemory → e.span ≡ place_of n → RefusesAt n e
 memory_here n e is place = (memory_at (place_of n) e is place, subst IsTypeKind (sym is) tt)
 
 -- a maker's refusal has its cause
-pub made_cause : (c : WasmValueError) (e : ParserError) → refusal_of e ≡ refused_by (cause_of c) → HasCause e
+pub made_cause : (c : WasmValueError) (e : Diagnostic) → refusal_of e ≡ refused_by (cause_of c) → HasCause e
 made_cause (error.Memory a) e is = λ was. absurd (cc (sym (ap (λ (r : Refusal). r.kind) is) ∙ was))
 made_cause c e is = λ was. (cause_of c, is)
 
 -- and its kind
-made_kind : (c : WasmValueError) (e : ParserError) → refusal_of e ≡ refused_by (cause_of c) → HasTypeKind e
+made_kind : (c : WasmValueError) (e : Diagnostic) → refusal_of e ≡ refused_by (cause_of c) → HasTypeKind e
 made_kind (error.Memory a) e is = said_kind e (plainly why.OutOfMemory) is tt
 made_kind c e is = said_kind e (caused (cause_of c)) is tt
 
 -- a refusal with this cause
-pub caused_at : (c : Cause) (n : NodeTree) (e : ParserError) → IsCaused c n e → e.span ≡ place_of n → RefusesAt n e
+pub caused_at : (c : Cause) (n : NodeTree) (e : Diagnostic) → IsCaused c n e → e.span ≡ place_of n → RefusesAt n e
 caused_at c n e (inl memory) place = memory_here n e memory place
 caused_at c n e (inr h) place = ((place, λ was. (c, h.0)), said_kind e (caused c) h.0 tt)
 
 -- a refusal of the kind at the node
-pub refused_at : (k : ParserErrorKind) (n : NodeTree) (e : ParserError) → k ≢ why.WasmValueError → IsTypeKind k → RefusedAs k n e → RefusesAt n e
+pub refused_at : (k : ParserErrorKind) (n : NodeTree) (e : Diagnostic) → k ≢ why.WasmValueError → IsTypeKind k → RefusedAs k n e → RefusesAt n e
 refused_at k n e apart known h = ((h.stands, plain_kind k e apart h.is), said_kind e (plainly k) h.is known)
 
 -- what a maker refused, at the node
-pub made_at : {V : Type 0} (n : NodeTree) (m : Result V WasmValueError) (r : Result V ParserError) → IsMade n m r → IfErr r (RefusesAt n)
+pub made_at : {V : Type 0} (n : NodeTree) (m : Result V WasmValueError) (r : Result V Diagnostic) → IsMade n m r → IfErr r (RefusesAt n)
 made_at n m (Ok w) is = tt
 made_at n (Ok v) (Err e) is = absurd is
 made_at n (Err c) (Err e) is = ((is.1, made_cause c e is.0), made_kind c e is.0)
 
 -- what stands at the node stands in it
-pub all_in : {V : Type 0} (source : List ℕ) (n : NodeTree) (r : Result V ParserError) → IsParsedFrom source n → IfErr r (RefusesAt n) → IfErr r (RefusesIn n)
+pub all_in : {V : Type 0} (source : List ℕ) (n : NodeTree) (r : Result V Diagnostic) → IsParsedFrom source n → IfErr r (RefusesAt n) → IfErr r (RefusesIn n)
 all_in source n (Ok w) h told = tt
 all_in source n (Err e) h told = at_in source n e h told
 
 -- so it stands in the node
-pub made_in : {V : Type 0} (source : List ℕ) (n : NodeTree) (m : Result V WasmValueError) (r : Result V ParserError) → IsParsedFrom source n → IsMade n m r → IfErr r (RefusesIn n)
+pub made_in : {V : Type 0} (source : List ℕ) (n : NodeTree) (m : Result V WasmValueError) (r : Result V Diagnostic) → IsParsedFrom source n → IsMade n m r → IfErr r (RefusesIn n)
 made_in source n m r h is = all_in source n r h (made_at n m r is)
 
 -- a refusal that stands in a node of the node
-pub deeper : (n m : NodeTree) (e : ParserError) → BelongsTo n m → RefusesIn m e → RefusesIn n e
+pub deeper : (n m : NodeTree) (e : Diagnostic) → BelongsTo n m → RefusesIn m e → RefusesIn n e
 deeper n m e b h =
     let from = b.lies.0 in
     let to = b.lies.1 in
@@ -252,11 +251,11 @@ deeper n m e b h =
     (record { lies = (omega arith, h.0.lies.1, omega arith); caused = λ was. let (k, part, told) = h.0.caused was in (k, b.parts k part, told) }, h.1)
 
 -- so of the node at a place
-pub deeper_at : (source : List ℕ) (n : NodeTree) (ns : List NodeTree) (i : ℕ) (m : NodeTree) (e : ParserError) → IsValueOf source n → ns ≡ children_of n → i < length ns → m ≡ get_or ns i m → RefusesIn m e → RefusesIn n e
+pub deeper_at : (source : List ℕ) (n : NodeTree) (ns : List NodeTree) (i : ℕ) (m : NodeTree) (e : Diagnostic) → IsValueOf source n → ns ≡ children_of n → i < length ns → m ≡ get_or ns i m → RefusesIn m e → RefusesIn n e
 deeper_at source n ns i m e v is lt here h = deeper n m e (all_has (BelongsTo n) ns i m (subst (AllOf (BelongsTo n)) (sym is) (children_belong source n v)) (place_has ns i m lt here)) h
 
 -- so of a part
-pub part_in : (source : List ℕ) (n : NodeTree) (o : Option NodeTree) (e : ParserError) → IsParsedFrom source n → ((m : NodeTree) → o ≡ Some m → BelongsTo n m) → RefusesInPart n o e → RefusesIn n e
+pub part_in : (source : List ℕ) (n : NodeTree) (o : Option NodeTree) (e : Diagnostic) → IsParsedFrom source n → ((m : NodeTree) → o ≡ Some m → BelongsTo n m) → RefusesInPart n o e → RefusesIn n e
 part_in source n o e parsed belongs (inl told) = at_in source n e parsed told
 part_in source n o e parsed belongs (inr h) = deeper n h.0 e (belongs h.0 h.1) h.2
 
@@ -273,26 +272,26 @@ pub node_in_text : (source : List ℕ) (n : NodeTree) → IsParsedFrom source n 
 node_in_text source n h = let s = stands source n h in (s.ordered, s.last.0)
 
 -- so does what stands at it
-pub at_in_text : (source : List ℕ) (n : NodeTree) (e : ParserError) → IsParsedFrom source n → IsAtNode n e → LiesInText source e.span
+pub at_in_text : (source : List ℕ) (n : NodeTree) (e : Diagnostic) → IsParsedFrom source n → IsAtNode n e → LiesInText source e.span
 at_in_text source n e parsed told = subst (LiesInText source) (sym told.0) (node_in_text source n parsed)
 
 -- ---- what accessors refuse
 
-pub number_at : {N : Type 0} (which : Whole) (number : N → ℤ) (source : List ℕ) (n : NodeTree) (e : ParserError) → GivesNumber which number source n (Err e) → RefusesAt n e
+pub number_at : {N : Type 0} (which : Whole) (number : N → ℤ) (source : List ℕ) (n : NodeTree) (e : Diagnostic) → GivesNumber which number source n (Err e) → RefusesAt n e
 number_at which number source n e (inl h) = refused_at why.InvalidType n e (λ k. cc) tt h.1
 number_at which number source n e (inr h) = refused_at why.InvalidValue n e (λ k. cc) tt h.2
 
-pub char_at : (source : List ℕ) (n : NodeTree) (e : ParserError) → GivesChar source n (Err e) → RefusesAt n e
+pub char_at : (source : List ℕ) (n : NodeTree) (e : Diagnostic) → GivesChar source n (Err e) → RefusesAt n e
 char_at source n e (inl h) = refused_at why.InvalidType n e (λ k. cc) tt h.1
 char_at source n e (inr h) = refused_at why.InvalidEscape n e (λ k. cc) tt h.2
 
-pub form_at : (n : NodeTree) (e : ParserError) → RefusedAs why.InvalidType n e → RefusesAt n e
+pub form_at : (n : NodeTree) (e : Diagnostic) → RefusedAs why.InvalidType n e → RefusesAt n e
 form_at n e h = refused_at why.InvalidType n e (λ k. cc) tt h
 
 text_fits : (source : List ℕ) (p : Range ℕ) → p.start ≤ p.end → p.start + length (slice source p) ≤ p.end
 text_fits source p o = let a = length-take (p.end - p.start) (drop p.start source) in omega arith
 
-fault_plain : (f : LineFault) (e : ParserError) → refusal_of e ≡ plainly (fault_kind f) → e.kind ≢ why.WasmValueError
+fault_plain : (f : LineFault) (e : Diagnostic) → refusal_of e ≡ plainly (fault_kind f) → e.kind ≢ why.WasmValueError
 fault_plain closing e is was = cc (sym (ap (λ (r : Refusal). r.kind) is) ∙ was)
 fault_plain opening e is was = cc (sym (ap (λ (r : Refusal). r.kind) is) ∙ was)
 fault_plain (indentation i) e is was = cc (sym (ap (λ (r : Refusal). r.kind) is) ∙ was)
@@ -304,7 +303,7 @@ fault_type_kind opening = tt
 fault_type_kind (indentation i) = tt
 fault_type_kind (escape i) = tt
 
-string_fault_in : (source : List ℕ) (n : NodeTree) (e : ParserError) → IsParsedFrom source n → TellsStringFault source n e → RefusesIn n e
+string_fault_in : (source : List ℕ) (n : NodeTree) (e : Diagnostic) → IsParsedFrom source n → TellsStringFault source n e → RefusesIn n e
 string_fault_in source n e h (inl (ty, x, i, own, bad, tells)) =
     let fits = text_fits source (place_of n) (node_ordered source n h) in
     let bytes = ap length own in
@@ -326,7 +325,7 @@ string_fault_in source n e h (inr (ty, x, f, own, bad, tells)) =
       caused = λ was. absurd (fault_plain f e tells.refusal was);
     }, said_kind e (plainly (fault_kind f)) tells.refusal (fault_type_kind f))
 
-pub string_in : (source : List ℕ) (n : NodeTree) (e : ParserError) → IsParsedFrom source n → RefusesString source n e → RefusesIn n e
+pub string_in : (source : List ℕ) (n : NodeTree) (e : Diagnostic) → IsParsedFrom source n → RefusesString source n e → RefusesIn n e
 string_in source n e h (inl told) = at_in source n e h (form_at n e told.2)
 string_in source n e h (inr (inl told)) = string_fault_in source n e h told
 string_in source n e h (inr (inr told)) = at_in source n e h (refused_at why.OutOfMemory n e (λ k. cc) tt told.0)
@@ -378,25 +377,25 @@ pub close_lies : (source : List ℕ) (n : NodeTree) → IsParsedFrom source n �
 close_lies source n h = let l = node_in_text source n h in (omega arith, l.1)
 
 -- a refusal without a cause
-pub said_plain : (e : ParserError) (k : ParserErrorKind) (p : Range ℕ) (detail : Option (List ℕ)) → k ≢ why.WasmValueError → Says e k p detail → IsAtPlace p e
+pub said_plain : (e : Diagnostic) (k : ParserErrorKind) (p : Range ℕ) (detail : Option (List ℕ)) → k ≢ why.WasmValueError → Says e k p detail → IsAtPlace p e
 said_plain e k p detail apart says = (says.stands, plain_kind k e apart says.is)
 
 -- want of memory, or a refusal without a cause
-pub memory_or_plain : (e : ParserError) (k : ParserErrorKind) (p : Range ℕ) (detail : Option (List ℕ)) → k ≢ why.WasmValueError → (e.kind ≡ why.OutOfMemory) ⊎ Says e k p detail → e.span ≡ p → IsAtPlace p e
+pub memory_or_plain : (e : Diagnostic) (k : ParserErrorKind) (p : Range ℕ) (detail : Option (List ℕ)) → k ≢ why.WasmValueError → (e.kind ≡ why.OutOfMemory) ⊎ Says e k p detail → e.span ≡ p → IsAtPlace p e
 memory_or_plain e k p detail apart (inl memory) place = memory_at p e memory place
 memory_or_plain e k p detail apart (inr says) place = said_plain e k p detail apart says
 
 -- so at a node, of a kind of reading at types
-pub said_here : (n : NodeTree) (e : ParserError) (k : ParserErrorKind) (detail : Option (List ℕ)) → k ≢ why.WasmValueError → IsTypeKind k → Says e k (place_of n) detail → RefusesAt n e
+pub said_here : (n : NodeTree) (e : Diagnostic) (k : ParserErrorKind) (detail : Option (List ℕ)) → k ≢ why.WasmValueError → IsTypeKind k → Says e k (place_of n) detail → RefusesAt n e
 said_here n e k detail apart known says = (said_plain e k (place_of n) detail apart says, said_kind e (plainly k) says.is known)
 
 -- or want of memory
-pub memory_or_said : (n : NodeTree) (e : ParserError) (k : ParserErrorKind) (detail : Option (List ℕ)) → k ≢ why.WasmValueError → IsTypeKind k → (e.kind ≡ why.OutOfMemory) ⊎ Says e k (place_of n) detail → e.span ≡ place_of n → RefusesAt n e
+pub memory_or_said : (n : NodeTree) (e : Diagnostic) (k : ParserErrorKind) (detail : Option (List ℕ)) → k ≢ why.WasmValueError → IsTypeKind k → (e.kind ≡ why.OutOfMemory) ⊎ Says e k (place_of n) detail → e.span ≡ place_of n → RefusesAt n e
 memory_or_said n e k detail apart known (inl memory) place = memory_here n e memory place
 memory_or_said n e k detail apart known (inr says) place = said_here n e k detail apart known says
 
 -- what stands in a node lies in the source
-pub all_in_text : {X : Type 0} (source : List ℕ) (n : NodeTree) (r : Result X ParserError) → IsParsedFrom source n → IfErr r (RefusesIn n) → IfErr r (λ e. LiesInText source e.span)
+pub all_in_text : {X : Type 0} (source : List ℕ) (n : NodeTree) (r : Result X Diagnostic) → IsParsedFrom source n → IfErr r (RefusesIn n) → IfErr r (λ e. LiesInText source e.span)
 all_in_text source n (Ok x) h told = tt
 all_in_text source n (Err e) h told =
     let own = node_in_text source n h in
@@ -404,26 +403,26 @@ all_in_text source n (Err e) h told =
     (told.0.lies.1, omega (arith, own.1, last))
 
 -- what stands at a place of the source lies in it
-pub all_at_text : {X : Type 0} (source : List ℕ) (p : Range ℕ) (r : Result X ParserError) → Stands source p.start p.end → IfErr r (IsAtPlace p) → IfErr r (λ e. LiesInText source e.span)
+pub all_at_text : {X : Type 0} (source : List ℕ) (p : Range ℕ) (r : Result X Diagnostic) → Stands source p.start p.end → IfErr r (IsAtPlace p) → IfErr r (λ e. LiesInText source e.span)
 all_at_text source p (Ok x) h told = tt
 all_at_text source p (Err e) h told = subst (LiesInText source) (sym told.0) (h.ordered, h.last.0)
 
 -- a refusal at a place is one with a cause there, where it is a `WasmValueError`
-pub all_at_cause : {X : Type 0} (p : Range ℕ) (r : Result X ParserError) → IfErr r (IsAtPlace p) → IfErr r (λ e. e.kind ≡ why.WasmValueError → IsAtPlace p e)
+pub all_at_cause : {X : Type 0} (p : Range ℕ) (r : Result X Diagnostic) → IfErr r (IsAtPlace p) → IfErr r (λ e. e.kind ≡ why.WasmValueError → IsAtPlace p e)
 all_at_cause p (Ok x) told = tt
 all_at_cause p (Err e) told = λ was. told
 
 -- ---- leaves and keys
 
 -- what was answered for a leaf stands at the node
-pub leaf_at : {V : Type 0} (tree : V → Value) (of : V → TypeTree → Type 0) (Full : TypeTree → Type 0) (leaf : Leaf) (n : NodeTree) (r : Result V ParserError) → IsLeafMade tree of Full leaf n r → IfErr r (RefusesAt n)
+pub leaf_at : {V : Type 0} (tree : V → Value) (of : V → TypeTree → Type 0) (Full : TypeTree → Type 0) (leaf : Leaf) (n : NodeTree) (r : Result V Diagnostic) → IsLeafMade tree of Full leaf n r → IfErr r (RefusesAt n)
 leaf_at tree of Full leaf n r h = made_at n h.0 r h.3
 
 -- a refusal that says the same of a key, or want of memory
-pub told_in : {V : Type 0} (source : List ℕ) (n : NodeTree) (r : Result V ParserError) (e f : ParserError) → IsParsedFrom source n → r ≡ Err e → IfErr r (RefusesIn n) → (f.kind ≡ why.OutOfMemory) × (f.span ≡ place_of n) ⊎ (refusal_of f ≡ refusal_of e) × (f.span ≡ e.span) → RefusesIn n f
+pub told_in : {V : Type 0} (source : List ℕ) (n : NodeTree) (r : Result V Diagnostic) (e f : Diagnostic) → IsParsedFrom source n → r ≡ Err e → IfErr r (RefusesIn n) → (f.kind ≡ why.OutOfMemory) × (f.span ≡ place_of n) ⊎ (refusal_of f ≡ refusal_of e) × (f.span ≡ e.span) → RefusesIn n f
 told_in source n r e f parsed is h (inl memory) = at_in source n f parsed (memory_here n f memory.0 memory.1)
 told_in {V} source n r e f parsed is h (inr (same, place)) =
-    let before : RefusesIn n e = subst (λ (s : Result V ParserError). IfErr s (RefusesIn n)) is h in
+    let before : RefusesIn n e = subst (λ (s : Result V Diagnostic). IfErr s (RefusesIn n)) is h in
     let kinds : e.kind ≡ f.kind = sym (ap (λ (x : Refusal). x.kind) same) in
     (record {
       lies = subst (LiesInNode n) (sym place) before.0.lies;
@@ -435,10 +434,10 @@ told_in {V} source n r e f parsed is h (inr (same, place)) =
 -- ---- kinds of the refusals of parameters
 
 -- a refusal without a cause
-pub said_params_kind : (e : ParserError) (p : Range ℕ) (detail : Option (List ℕ)) → Says e why.InvalidParams p detail → HasParamsKind e
+pub said_params_kind : (e : Diagnostic) (p : Range ℕ) (detail : Option (List ℕ)) → Says e why.InvalidParams p detail → HasParamsKind e
 said_params_kind e p detail says = inr (ap (λ (r : Refusal). r.kind) says.is)
 
 -- a refusal of an omitted parameter
-pub omitted_kind : (Full : TypeTree → Type 0) (Ts : List TypeTree) (p : Range ℕ) (e : ParserError) → RefusesOmitted Full Ts p e → HasTypeKind e
+pub omitted_kind : (Full : TypeTree → Type 0) (Ts : List TypeTree) (p : Range ℕ) (e : Diagnostic) → RefusesOmitted Full Ts p e → HasTypeKind e
 omitted_kind Full Ts p e (inl memory) = subst IsTypeKind (sym memory) tt
 omitted_kind Full Ts p e (inr h) = subst IsTypeKind (sym h.0) tt
