@@ -5,7 +5,7 @@ use Rattle.wave_wasm.specs.Values.{Value}
 use Rattle.wave_wasm.specs.HasType.{HasType}
 use Rattle.wave_wasm.specs.Merge.{merged}
 use Rattle.wave_wasm.specs.Text.{text}
-use Rattle.wave_lex.specs.declared.error.ParserError.{ParserError}
+use Rattle.wave_lex.specs.Errors.{Diagnostic}
 use Rattle.wave_lex.specs.declared.error.ParserErrorKind.TheVariants.{OutOfMemory}
 use Rattle.wave_grammar.specs.Tree.{levels}
 use Rattle.wave_grammar.specs.Denotes.{Means, MeansNone}
@@ -28,5 +28,5 @@ abbrev pub IsMergedAt : TypeTree → Value → Type 0
 IsMergedAt T v = HasDistinctNames T → merged v ≡ v
 
 -- at a full type whose names are distinct the refusal is want of memory, or the text means no value
-abbrev pub RefusesOnly : (TypeTree → Type 0) → TypeTree → List ℕ → ParserError → Type 0
+abbrev pub RefusesOnly : (TypeTree → Type 0) → TypeTree → List ℕ → Diagnostic → Type 0
 RefusesOnly Full T s e = HasDistinctNames T → Full T → (e.kind ≢ OutOfMemory) → MeansNone T s

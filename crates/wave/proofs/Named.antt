@@ -4,7 +4,7 @@ use Rattle.std.specs.Prelude.{IsErrAnd}
 use Rattle.std.specs.Str.{bytes_eq}
 use Rattle.std.proofs.lemmas.Slice.Eq.{bytes_eq-Decides}
 use Rattle.std.proofs.lemmas.Bool.Decides.{not_from_Decides}
-use Rattle.wave_lex.specs.declared.error.ParserError.{ParserError}
+use Rattle.wave_lex.specs.Errors.{Diagnostic}
 use Rattle.wave_lex.specs.declared.error.ParserErrorKind.TheVariants as kind
 use Rattle.wave_tree.specs.FromStr.{IsMeant, TextFault, RefusesText}
 use Rattle.wave_grammar.specs.Denotes.{MeansNone}
@@ -60,17 +60,17 @@ pub wants_memory : (n : TypeName) (s : List ℕ) (v : TypedValue) (e : WriterErr
 wants_memory n s v e read memory = memory (type_of n) (read (full n)).1.fits
 
 -- what the program makes of an error that tells why there is no answer, unless it is want of memory
-unanswered : (request : Request) (s : List ℕ) (e : ParserError) (u : Unanswered) → (e.kind ≢ kind.OutOfMemory → IsRefused request s e) → MatchesRefusal e u → IsUnanswered request s u
+unanswered : (request : Request) (s : List ℕ) (e : Diagnostic) (u : Unanswered) → (e.kind ≢ kind.OutOfMemory → IsRefused request s e) → MatchesRefusal e u → IsUnanswered request s u
 unanswered request s e (why.Refused refusal) told same = subst (IsRefused request s) (sym same.0) (told same.1)
 unanswered request s e why.OutOfMemory told same = tt
 
 -- so is an error that is handed on
-pub handed_on : {X : Type 0} (Answer : X → Type 0) (request : Request) (s : List ℕ) (r : Result X Unanswered) (e : ParserError) → IsErrAnd r (MatchesRefusal e) → (e.kind ≢ kind.OutOfMemory → IsRefused request s e) → MatchResult r Answer (IsUnanswered request s)
+pub handed_on : {X : Type 0} (Answer : X → Type 0) (request : Request) (s : List ℕ) (r : Result X Unanswered) (e : Diagnostic) → IsErrAnd r (MatchesRefusal e) → (e.kind ≢ kind.OutOfMemory → IsRefused request s e) → MatchResult r Answer (IsUnanswered request s)
 handed_on Answer request s (Ok x) e same why = absurd same
 handed_on Answer request s (Err u) e same why = unanswered request s e u why same
 
 -- the refusal tells a fault of the text, which has no answer; or it is want of memory
-pub told : (n : TypeName) (s : List ℕ) (e : ParserError) → RefusesText IsFull (type_of n) s e → e.kind ≢ kind.OutOfMemory → IsRefused (Read n) s e
+pub told : (n : TypeName) (s : List ℕ) (e : Diagnostic) → RefusesText IsFull (type_of n) s e → e.kind ≢ kind.OutOfMemory → IsRefused (Read n) s e
 told n s e fault other = by (fault (full n)) where
   by : (e.kind ≡ kind.OutOfMemory) ⊎ TextFault (type_of n) s e × MeansNone (type_of n) s ⊎ (e.kind ≡ kind.WasmValueError) × (IsFull (type_of n) → ⊥) → IsRefused (Read n) s e
   by (inl memory) = absurd (other memory)

@@ -1,6 +1,6 @@
 -- What reading without a type says of a request.
 use Rattle.std.proofs.Common.{ℕ, ◌≡◌, ◌≢◌, ◌++◌, List, Option, Some, None, ap, sym, ◌∙◌}
-use Rattle.wave_lex.specs.declared.error.ParserError.{ParserError}
+use Rattle.wave_lex.specs.Errors.{Diagnostic}
 use Rattle.wave_lex.specs.declared.error.ParserErrorKind.TheVariants as kind
 use Rattle.wave_grammar.specs.Tree.{MaybeTree, shown}
 use Rattle.wave_grammar.specs.Calls.{shown_call}
@@ -38,9 +38,9 @@ call_displayed s u answer of same = (
 )
 
 -- a refusal tells a fault of the text, which spells no tree; or it is want of memory
-pub spells_none : (s : List ℕ) (e : ParserError) → RefusesTree s e → e.kind ≢ kind.OutOfMemory → IsRefused Value s e
+pub spells_none : (s : List ℕ) (e : Diagnostic) → RefusesTree s e → e.kind ≢ kind.OutOfMemory → IsRefused Value s e
 spells_none s e fault other = ((fault other).0, λ answer found. (fault other).1 found.0 found.1)
 
 -- a refusal tells a fault of the text, which is no call; or it is want of memory
-pub is_no_call : (s : List ℕ) (e : ParserError) → RefusesCall s e → e.kind ≢ kind.OutOfMemory → IsRefused Call s e
+pub is_no_call : (s : List ℕ) (e : Diagnostic) → RefusesCall s e → e.kind ≢ kind.OutOfMemory → IsRefused Call s e
 is_no_call s e fault other = ((fault other).0, λ answer found. (fault other).1 found.0 found.1 found.2)

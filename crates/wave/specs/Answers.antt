@@ -3,7 +3,7 @@ use Rattle.std.specs.Prelude.{ℕ, List, [], ◌∷◌, ◌++◌, ◌≡◌, IfS
 use Rattle.std.specs.declared.option.Option.{Option}
 use Rattle.wave_wasm.specs.Values.{Value}
 use Rattle.wave_wasm.specs.Text.{text}
-use Rattle.wave_lex.specs.declared.error.ParserError.{ParserError}
+use Rattle.wave_lex.specs.Errors.{Diagnostic}
 use Rattle.wave_grammar.specs.Tree.{Tree, MaybeTree, shown}
 use Rattle.wave_grammar.specs.Calls.{IsCall, shown_call}
 use Rattle.wave_grammar.specs.Denotes.{Means, SpellsText}
@@ -25,13 +25,13 @@ Answers request.Call whole answer = (name : List ℕ) × (params : MaybeTree) ×
 Answers (request.Read name) whole answer = (v : Value) × Means (type_of name) whole v × (answer ≡ text v)
 
 -- the refusal tells a fault of the text: its kind, its cause and its place
-abbrev pub TellsFaultOf : Request → List ℕ → ParserError → Type 0
+abbrev pub TellsFaultOf : Request → List ℕ → Diagnostic → Type 0
 TellsFaultOf request.Value whole e = SyntaxFault whole e
 TellsFaultOf request.Call whole e = CallFault whole e
 TellsFaultOf (request.Read name) whole e = TextFault (type_of name) whole e
 
 -- the request on the text has no answer, and the refusal tells why
-abbrev pub IsRefused : Request → List ℕ → ParserError → Type 0
+abbrev pub IsRefused : Request → List ℕ → Diagnostic → Type 0
 IsRefused request whole e = TellsFaultOf request whole e × ((answer : List ℕ) → Answers request whole answer → ⊥)
 
 -- the text and a line feed

@@ -1,8 +1,7 @@
 -- Which line is due at which status.
 use Rattle.std.specs.Prelude.{ℕ, List, ◌≡◌, ◌⊎◌}
 use Rattle.std.specs.declared.option.Option.{Option}
-use Rattle.wave_lex.specs.Errors.{error_text}
-use Rattle.wave_lex.specs.declared.error.ParserError.{ParserError}
+use Rattle.wave_lex.specs.Errors.{Diagnostic, error_text}
 use Rattle.wave.specs.declared.request.Request.{Request}
 use Rattle.wave.specs.declared.input.Fault.{Fault}
 use Rattle.wave.specs.declared.input.Input.{Input}
@@ -17,7 +16,7 @@ IsAnswer request left said = (whole : List ℕ) × (answer : List ℕ)
 
 -- the request has no answer on the whole input, and the text of a refusal that tells why is the line
 abbrev pub IsRefusal : Request → Option (List ℕ) → List ℕ → Type 0
-IsRefusal request left said = (whole : List ℕ) × (refusal : ParserError)
+IsRefusal request left said = (whole : List ℕ) × (refusal : Diagnostic)
     × IsInput left whole × IsRefused request whole refusal × (said ≡ line (error_text refusal))
 
 -- the words make no request, and the usage is the line

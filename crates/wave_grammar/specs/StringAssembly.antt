@@ -5,12 +5,11 @@ use Rattle.wave_lex.specs.Tokens.{backslash}
 use Rattle.wave_lex.specs.Strings.{IsEscape}
 use Rattle.std.specs.declared.ops.Range.{Range}
 use Rattle.wave_wasm.specs.Lists.{AllOf}
-use Rattle.wave_lex.specs.declared.error.ParserError.{ParserError}
 use Rattle.wave_lex.specs.declared.error.ParserErrorKind.TheVariants.{OutOfMemory}
 use Rattle.wave_lex.specs.declared.strings.StringPart.{StringPart}
 use Rattle.wave_lex.specs.Remaining.{LinesLeft}
 use Rattle.wave_lex.specs.Parts.{part_texts, HasBadLine, LinesRunTo}
-use Rattle.wave_lex.specs.Errors.{Says}
+use Rattle.wave_lex.specs.Errors.{Diagnostic, Says}
 use Rattle.std.specs.Cow.{cow_str_bytes}
 use Rattle.std.specs.declared.borrow.CowStr.{CowStr}
 use Rattle.std.specs.declared.borrow.CowStr.TheVariants.{Borrowed, Owned}
@@ -30,7 +29,7 @@ BorrowedWhere P (Borrowed s) = P
 BorrowedWhere P (Owned s) = P → ⊥
 
 -- a refusal for want of memory, at the place
-abbrev pub WantsMemory : Range ℕ → ParserError → Type 0
+abbrev pub WantsMemory : Range ℕ → Diagnostic → Type 0
 WantsMemory place e = Says e OutOfMemory place None
 
 -- one run is left, or nothing: no `\`, and no line behind
@@ -46,7 +45,7 @@ abbrev pub IsUncopied : LinesLeft → Type 0
 IsUncopied l = IsOneRun l ⊎ IsRefusedFirst l
 
 -- the text so far and the parts that are left, borrowed where P holds; or a refusal among the parts; or want of memory, where P doesn't hold
-abbrev pub PutTogether : {A : Type 0} → Type 0 → List ℕ → LinesLeft → Range ℕ → Result (CowStr A) ParserError → Type 0
+abbrev pub PutTogether : {A : Type 0} → Type 0 → List ℕ → LinesLeft → Range ℕ → Result (CowStr A) Diagnostic → Type 0
 PutTogether P front l place (Ok c) =
     ((parts : List StringPart) × LinesRunTo l parts None × (cow_str_bytes c ≡ front ++ part_texts parts)) × BorrowedWhere P c
 PutTogether P front l place (Err e) = ((parts : List StringPart) × LinesRunTo l parts (Some e)) ⊎ WantsMemory place e × (P → ⊥)

@@ -2,10 +2,9 @@
 use Rattle.std.specs.Prelude.{ℕ, ◌≡◌, ◌≢◌, ◌⊎◌, ◌≤◌, ◌<◌, ◌+◌, List, ◌++◌, Some, None, Result, Ok, Err, length}
 use Rattle.std.specs.declared.ops.Range.{Range}
 use Rattle.wave_lex.specs.declared.lex.Token as lex
-use Rattle.wave_lex.specs.declared.error.ParserError.{ParserError}
 use Rattle.wave_lex.specs.declared.error.ParserErrorKind.{ParserErrorKind}
 use Rattle.wave_lex.specs.declared.error.ParserErrorKind.TheVariants.{EmptyTuple, InvalidToken, UnexpectedEnd, UnexpectedToken, DuplicateFlag, NestingTooDeep, OutOfMemory}
-use Rattle.wave_lex.specs.Errors.{class_name, repeated_name, Says}
+use Rattle.wave_lex.specs.Errors.{Diagnostic, class_name, repeated_name, Says}
 use Rattle.wave_lex.specs.Tokenization.{span}
 use Rattle.wave_grammar.specs.Token.{Token, paren_open}
 use Rattle.wave_grammar.specs.LeafTokens.{name_of}
@@ -23,7 +22,7 @@ abbrev pub Steps : ℕ → Due → List Form → Place → lex.Token → Place �
 Steps n d open_forms at c new s = TakesItem at (Some (Ok c)) new × (step n d open_forms (token_of c (text_at new)) ≡ s)
 
 -- the refusal of this kind stands at the place `at`, where d is due; the parser is left at the place `new`
-abbrev pub StandsAt : ParserErrorKind → ParserError → ℕ → Due → List Form → Place → Place → Type 0
+abbrev pub StandsAt : ParserErrorKind → Diagnostic → ℕ → Due → List Form → Place → Place → Type 0
 StandsAt EmptyTuple e n d open_forms at new =
     (c : lex.Token) × Steps n d open_forms at c new empty_tuple × Says e EmptyTuple (span at.lexer.start new.lexer.end) None
 StandsAt InvalidToken e n d open_forms at new =
@@ -49,7 +48,7 @@ abbrev pub IsUnfinished : Due → List Form → Type 0
 IsUnfinished d open_forms = IsWithin d ⊎ (0 < length open_forms)
 
 -- from the place old, where d is due, tokens lead to the refusal; the parser is left at the place new
-pub record IsSyntaxError (e : ParserError) (n : ℕ) (d : Due) (open_forms : List Form) (old new : Place) : Type 0 where
+pub record IsSyntaxError (e : Diagnostic) (n : ℕ) (d : Due) (open_forms : List Form) (old new : Place) : Type 0 where
   pub tokens : List Token
   pub at : Place
   pub due_there : Due
@@ -60,7 +59,7 @@ pub record IsSyntaxError (e : ParserError) (n : ℕ) (d : Due) (open_forms : Lis
   pub stands : StandsAt e.kind e n due_there open_there at new
 
 -- the error is want of memory, or that refusal
-abbrev pub FailsBySyntax : ParserError → ℕ → Due → List Form → Place → Place → Type 0
+abbrev pub FailsBySyntax : Diagnostic → ℕ → Due → List Form → Place → Place → Type 0
 FailsBySyntax e n d open_forms old new = (e.kind ≢ OutOfMemory) → IsSyntaxError e n d open_forms old new
 
 -- a value was read and no more is due of it
@@ -76,6 +75,6 @@ pub record LeadsBehindValue (n : ℕ) (d : Due) (open_forms : List Form) (old ne
   pub leads : Leads n d open_forms tokens due_there behind
 
 -- the answer of a call that reads from where d is due
-abbrev pub Gives : {X : Type 0} → Result X ParserError → ℕ → Due → List Form → Place → Place → List Form → Type 0
+abbrev pub Gives : {X : Type 0} → Result X Diagnostic → ℕ → Due → List Form → Place → Place → List Form → Type 0
 Gives (Ok x) n d open_forms old new behind = LeadsBehindValue n d open_forms old new behind
 Gives (Err e) n d open_forms old new behind = FailsBySyntax e n d open_forms old new

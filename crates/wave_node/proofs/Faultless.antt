@@ -5,8 +5,7 @@ use Rattle.wave_wasm.specs.Names.{AreDistinct, IsOneOf}
 use Rattle.wave_wasm.specs.Types as type
 use Rattle.wave_wasm.specs.Types.{HasDistinctNames, EachNamesOfMaybe, EachNamesOfTypes, TypeTree, MaybeType, no_type, a_type, Simple, Whole, Cases, case_names, EachNamesOfCases, Types, Fields, EachNamesOfFields}
 use Rattle.wave_wasm.specs.Values.{Value, MaybeValue, Leaf}
-use Rattle.wave_lex.specs.Errors.{Refusal, refusal_of}
-use Rattle.wave_lex.specs.declared.error.ParserError.{ParserError}
+use Rattle.wave_lex.specs.Errors.{Diagnostic, Refusal, refusal_of}
 use Rattle.wave_grammar.specs.Token.{Token}
 use Rattle.wave_grammar.specs.Tree as tree
 use Rattle.wave_grammar.specs.Tree.{Tree, Trees, trees}
@@ -128,7 +127,7 @@ mutual
 
 module _ {V : Type 0} (tree : V → Value) (of : V → TypeTree → Type 0) (Full : TypeTree → Type 0) where
   -- where a fault is the answer there is no value
-  pub refused : (T : TypeTree) (t : Placed) (r : Result V ParserError) → HasDistinctNames T → MatchResult r (IsTypedValue tree of T t) (IsBlamed Full T t) → MatchResult r (IsTypedValue tree of T t) (IsTypeError Full T t)
+  pub refused : (T : TypeTree) (t : Placed) (r : Result V Diagnostic) → HasDistinctNames T → MatchResult r (IsTypedValue tree of T t) (IsBlamed Full T t) → MatchResult r (IsTypedValue tree of T t) (IsTypeError Full T t)
   refused T t (Ok v) distinct h = h
   refused T t (Err e) distinct (inl memory) = inl memory
   refused T t (Err e) distinct (inr (inl fault)) = inr (inl (fault, no_value T t (refusal_of e) e.span distinct fault))

@@ -16,8 +16,7 @@ use Rattle.wave_wasm.specs.Names.{IsOneOf, IsNoneOf, AreAllOf, is_one_of, found_
 use Rattle.wave_wasm.specs.Borrowed.{texts}
 use Rattle.wave_grammar.specs.LeafTokens.{name_of}
 use Rattle.wave_wasm.specs.ValueErrors.{unknown_case}
-use Rattle.wave_lex.specs.Errors.{refusal_of}
-use Rattle.wave_lex.specs.declared.error.ParserError.{ParserError}
+use Rattle.wave_lex.specs.Errors.{Diagnostic, refusal_of}
 use Rattle.wave_node.specs.NodeTree.{NodeTree, place_of, children_of}
 use Rattle.wave_grammar.specs.TypeErrors.{RefusesFor}
 use Rattle.wave_node.specs.Private.TypedReading.{IsCaused}
@@ -171,13 +170,13 @@ name_there source (n ∷ ns) zero m name lt is named = inl (named ∙ ap (λ (k 
 name_there source (n ∷ ns) (suc i) m name lt is named = inr (name_there source ns i m name (omega (arith, lt)) is named)
 
 -- the refusal of a flag that is none of the names
-pub flag_unknown : (names : List (List ℕ)) (source : List ℕ) (n : NodeTree) (ns : List NodeTree) (i : ℕ) (m : NodeTree) (name : List ℕ) (e : ParserError) → i < length ns → m ≡ get_or ns i m → name ≡ name_of (node_text source m) → IsNoneOf names name → IsCaused (unknown_case name) n e → RefusesUnknown names (names_at source ns) n e
+pub flag_unknown : (names : List (List ℕ)) (source : List ℕ) (n : NodeTree) (ns : List NodeTree) (i : ℕ) (m : NodeTree) (name : List ℕ) (e : Diagnostic) → i < length ns → m ≡ get_or ns i m → name ≡ name_of (node_text source m) → IsNoneOf names name → IsCaused (unknown_case name) n e → RefusesUnknown names (names_at source ns) n e
 flag_unknown names source n ns i m name e lt is named none (inl memory) = inl memory
 flag_unknown names source n ns i m name e lt is named none (inr refused) =
     inr (some_name (λ w. IsNoneOf names w × RefusesFor (unknown_case w) (place_of n) (refusal_of e) e.span) source ns ns i m name refl lt is named (none, refused))
 
 -- so of the node's flags
-pub flags_unknown : (names all : List (List ℕ)) (source : List ℕ) (n : NodeTree) (ns : List NodeTree) (e : ParserError) → AreFlags n → ns ≡ children_of n → names ≡ all → RefusesUnknown names (names_at source ns) n e → RefusesFlags all source n e
+pub flags_unknown : (names all : List (List ℕ)) (source : List ℕ) (n : NodeTree) (ns : List NodeTree) (e : Diagnostic) → AreFlags n → ns ≡ children_of n → names ≡ all → RefusesUnknown names (names_at source ns) n e → RefusesFlags all source n e
 flags_unknown names all source n ns e ok is same (inl memory) = inl memory
 flags_unknown names all source n ns e ok is same (inr some) =
     inr (inr (

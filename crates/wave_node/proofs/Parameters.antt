@@ -13,8 +13,7 @@ use Rattle.wave_wasm.specs.ValueErrors.{cause_of}
 use Rattle.wave_wasm.specs.declared.wasm.WasmTypeKind.TheVariants as kinds
 use Rattle.wave_wasm.specs.declared.wasm.WasmValueError.{WasmValueError}
 use Rattle.wave_wasm.specs.declared.wasm.WasmValueError.TheVariants as error
-use Rattle.wave_lex.specs.Errors.{Refusal, refusal_of, refused_by, too_many_params, too_few_params, Says}
-use Rattle.wave_lex.specs.declared.error.ParserError.{ParserError}
+use Rattle.wave_lex.specs.Errors.{Diagnostic, Refusal, refusal_of, refused_by, too_many_params, too_few_params, Says}
 use Rattle.wave_lex.specs.declared.error.ParserErrorKind.TheVariants as because
 use Rattle.wave_grammar.specs.TypedGrammar.{IsOption}
 use Rattle.wave_grammar.specs.Params.{Omitted}
@@ -98,7 +97,7 @@ node_count source (n ∷ ns) [] h = absurd h
 node_count source (n ∷ ns) (t ∷ ts) h = ap suc (node_count source ns ts h.1)
 
 -- a refusal that is handed on
-pub error_handed : {X : Type 0} (P : ParserError → Type 0) (r : Result X ParserError) (e : ParserError) → IsErrAnd r (λ f. f ≡ e) → P e → IfErr r P
+pub error_handed : {X : Type 0} (P : Diagnostic → Type 0) (r : Result X Diagnostic) (e : Diagnostic) → IsErrAnd r (λ f. f ≡ e) → P e → IfErr r P
 error_handed P (Ok x) e same h = tt
 error_handed P (Err f) e same h = subst P (sym same) h
 
@@ -110,7 +109,7 @@ no_omitted (T ∷ Ts) vs (inl apart) (others, is, rest, e) = apart is
 no_omitted (T ∷ Ts) vs (inr more) (others, is, rest, e) = no_omitted Ts others more rest
 
 -- where there is a fault there are no values
-pub fault_none : (Ts : List TypeTree) (ts : List Placed) (close : Range ℕ) (e : ParserError) → ParamsFault Ts ts close e → NoParams Ts ts
+pub fault_none : (Ts : List TypeTree) (ts : List Placed) (close : Range ℕ) (e : Diagnostic) → ParamsFault Ts ts close e → NoParams Ts ts
 fault_none Ts [] close e h vs k = no_omitted Ts vs h.0 k
 fault_none [] (t ∷ ts) close e h vs k = k
 fault_none (T ∷ Ts) (t ∷ ts) close e (inl h) vs (v, others, reads, rest, is) = h.1 v reads
@@ -127,17 +126,17 @@ module _ {V : Type 0} (tree : V → Value) (of : V → TypeTree → Type 0) (Ful
   behind P more (T ∷ Ts) (t ∷ ts) (v ∷ vs) (suc i) l m before left = more T Ts t ts (tree v) before.0.reads (behind P more Ts ts vs i (omega (arith, l)) (omega (arith, m)) before.1 left)
 
   -- a fault behind items that have values
-  fault_refused : (Ts : List TypeTree) (ts : List Placed) (vs : List V) (i : ℕ) (whole : NodeTree) (e : ParserError) → i ≤ length Ts → i ≤ length ts → ReadAt tree of Full (take i Ts) (take i ts) vs → ParamsFault (drop i Ts) (drop i ts) (close_of whole) e → RefusesItems Full Ts ts whole e
+  fault_refused : (Ts : List TypeTree) (ts : List Placed) (vs : List V) (i : ℕ) (whole : NodeTree) (e : Diagnostic) → i ≤ length Ts → i ≤ length ts → ReadAt tree of Full (take i Ts) (take i ts) vs → ParamsFault (drop i Ts) (drop i ts) (close_of whole) e → RefusesItems Full Ts ts whole e
   fault_refused Ts ts vs i whole e l m before fault =
       let h = behind (λ Us us. ParamsFault Us us (close_of whole) e) (λ U Us u us v reads rest. inr (v, reads, rest)) Ts ts vs i l m before fault in
       inr (inl (h, fault_none Ts ts (close_of whole) e h))
 
   -- a maker's refusal behind them
-  maker_refused : (Ts : List TypeTree) (ts : List Placed) (vs : List V) (i : ℕ) (whole : NodeTree) (e : ParserError) → i ≤ length Ts → i ≤ length ts → ReadAt tree of Full (take i Ts) (take i ts) vs → e.kind ≡ because.WasmValueError → MakerRefuses Full (drop i Ts) (drop i ts) whole e → RefusesItems Full Ts ts whole e
+  maker_refused : (Ts : List TypeTree) (ts : List Placed) (vs : List V) (i : ℕ) (whole : NodeTree) (e : Diagnostic) → i ≤ length Ts → i ≤ length ts → ReadAt tree of Full (take i Ts) (take i ts) vs → e.kind ≡ because.WasmValueError → MakerRefuses Full (drop i Ts) (drop i ts) whole e → RefusesItems Full Ts ts whole e
   maker_refused Ts ts vs i whole e l m before kind refuses = inr (inr (kind, behind (λ Us us. MakerRefuses Full Us us whole e) (λ U Us u us v reads rest. inr (v, reads, rest)) Ts ts vs i l m before refuses))
 
   -- a refusal of the next item
-  next_refused : (Ts : List TypeTree) (ts : List Placed) (vs : List V) (i : ℕ) (whole : NodeTree) (e : ParserError) (T : TypeTree) (t : Placed) → i < length Ts → i < length ts → ReadAt tree of Full (take i Ts) (take i ts) vs → HasAt Ts i T → HasAt ts i t → IsTypeError Full T t e → LiesIn e.span (span_of t).start (span_of t).end → RefusesItems Full Ts ts whole e
+  next_refused : (Ts : List TypeTree) (ts : List Placed) (vs : List V) (i : ℕ) (whole : NodeTree) (e : Diagnostic) (T : TypeTree) (t : Placed) → i < length Ts → i < length ts → ReadAt tree of Full (take i Ts) (take i ts) vs → HasAt Ts i T → HasAt ts i t → IsTypeError Full T t e → LiesIn e.span (span_of t).start (span_of t).end → RefusesItems Full Ts ts whole e
   next_refused Ts ts vs i whole e T t l m before typed here (inl memory) lies = inl memory
   next_refused Ts ts vs i whole e T t l m before typed here (inr (inl fault)) lies =
       fault_refused Ts ts vs i whole e (omega (arith, l)) (omega (arith, m)) before
@@ -160,7 +159,7 @@ module _ {V : Type 0} (tree : V → Value) (of : V → TypeTree → Type 0) (Ful
       record { reads = (tree v, map tree (vs ++ others), before.0.reads, it.reads, refl); are_of = (before.0.is_of, it.are_of) }
 
   -- an item that is too many
-  pub too_many_refused : (source : List ℕ) (Ts : List TypeTree) (ns : List NodeTree) (ts : List Placed) (vs : List V) (i : ℕ) (n whole : NodeTree) (e : ParserError) → AreNodesOf source ns ts → i < length ns → n ≡ get_or ns i n → i ≤ length Ts → length Ts ≤ i → ReadAt tree of Full (take i Ts) (take i ts) vs →
+  pub too_many_refused : (source : List ℕ) (Ts : List TypeTree) (ns : List NodeTree) (ts : List Placed) (vs : List V) (i : ℕ) (n whole : NodeTree) (e : Diagnostic) → AreNodesOf source ns ts → i < length ns → n ≡ get_or ns i n → i ≤ length Ts → length Ts ≤ i → ReadAt tree of Full (take i Ts) (take i ts) vs →
       Says e because.InvalidParams (place_of n) (Some too_many_params) → RefusesItems Full Ts ts whole e
   too_many_refused source Ts ns ts vs i n whole e nodes lt at_i l m before says =
       let (u, here, means) = node_at source ns ts i n nodes lt at_i in
@@ -171,7 +170,7 @@ module _ {V : Type 0} (tree : V → Value) (of : V → TypeTree → Type 0) (Ful
       (subst (λ (z : List TypeTree). ParamsFault z (drop i ts) (close_of whole) e) (sym (drop_end Ts i m)) (subst (λ (z : List Placed). ParamsFault [] z (close_of whole) e) (sym (has_drop ts i u here)) fault))
 
   -- a refusal of an item
-  pub item_refused : (source : List ℕ) (Ts : List TypeTree) (ns : List NodeTree) (ts : List Placed) (vs : List V) (i : ℕ) (n : NodeTree) (T : TypeTree) (whole : NodeTree) (e : ParserError) → AreNodesOf source ns ts → i < length ns → n ≡ get_or ns i n → i < length Ts → HasAt Ts i T → ReadAt tree of Full (take i Ts) (take i ts) vs →
+  pub item_refused : (source : List ℕ) (Ts : List TypeTree) (ns : List NodeTree) (ts : List Placed) (vs : List V) (i : ℕ) (n : NodeTree) (T : TypeTree) (whole : NodeTree) (e : Diagnostic) → AreNodesOf source ns ts → i < length ns → n ≡ get_or ns i n → i < length Ts → HasAt Ts i T → ReadAt tree of Full (take i Ts) (take i ts) vs →
       ((u : Placed) → IsNodeOf source n u → IsTypeError Full T u e) → StandsIn n e → RefusesItems Full Ts ts whole e
   item_refused source Ts ns ts vs i n T whole e nodes lt at_i l typed before blamed within =
       let (u, here, means) = node_at source ns ts i n nodes lt at_i in
@@ -179,7 +178,7 @@ module _ {V : Type 0} (tree : V → Value) (of : V → TypeTree → Type 0) (Ful
       next_refused Ts ts vs i whole e T u l (omega (arith, lt, node_count source ns ts nodes)) before typed here (blamed u means) lies
 
   -- a type that is left and is no option
-  pub missing_refused : (source : List ℕ) (Ts Left : List TypeTree) (ns : List NodeTree) (ts : List Placed) (vs : List V) (i : ℕ) (whole : NodeTree) (e : ParserError) → AreNodesOf source ns ts → i ≤ length ns → length ns ≤ i → i ≤ length Ts → ReadAt tree of Full (take i Ts) (take i ts) vs → Left ≡ drop (length ns) Ts → SomeOf IsNoOption Left →
+  pub missing_refused : (source : List ℕ) (Ts Left : List TypeTree) (ns : List NodeTree) (ts : List Placed) (vs : List V) (i : ℕ) (whole : NodeTree) (e : Diagnostic) → AreNodesOf source ns ts → i ≤ length ns → length ns ≤ i → i ≤ length Ts → ReadAt tree of Full (take i Ts) (take i ts) vs → Left ≡ drop (length ns) Ts → SomeOf IsNoOption Left →
       Says e because.InvalidParams (close_of whole) (Some too_few_params) → RefusesItems Full Ts ts whole e
   missing_refused source Ts Left ns ts vs i whole e nodes le ge l before left some says =
       let many = node_count source ns ts nodes in
@@ -198,7 +197,7 @@ module _ {V : Type 0} (tree : V → Value) (of : V → TypeTree → Type 0) (Ful
       (read_and_omitted Ts ts vs others i l (omega (arith, ge, many)) (omega (arith, le, many)) before (subst (λ (z : List TypeTree). Omitted z (map tree others)) there omitted) (subst (λ (z : List TypeTree). AreOf of z others) there are))
 
   -- a refusal to make one that is left
-  pub omitted_refused : (source : List ℕ) (Ts Left : List TypeTree) (ns : List NodeTree) (ts : List Placed) (vs : List V) (i : ℕ) (whole : NodeTree) (e : ParserError) → AreNodesOf source ns ts → i ≤ length ns → length ns ≤ i → i ≤ length Ts → ReadAt tree of Full (take i Ts) (take i ts) vs → Left ≡ drop (length ns) Ts →
+  pub omitted_refused : (source : List ℕ) (Ts Left : List TypeTree) (ns : List NodeTree) (ts : List Placed) (vs : List V) (i : ℕ) (whole : NodeTree) (e : Diagnostic) → AreNodesOf source ns ts → i ≤ length ns → length ns ≤ i → i ≤ length Ts → ReadAt tree of Full (take i Ts) (take i ts) vs → Left ≡ drop (length ns) Ts →
       RefusesOmitted Full Left (place_of whole) e → RefusesItems Full Ts ts whole e
   omitted_refused source Ts Left ns ts vs i whole e nodes le ge l before left (inl memory) = inl memory
   omitted_refused source Ts Left ns ts vs i whole e nodes le ge l before left (inr (kind, place, options, apart)) =
@@ -236,12 +235,12 @@ module _ {V : Type 0} (tree : V → Value) (of : V → TypeTree → Type 0) (Ful
   omitted_more Ts vs ws i T v before after here is makes e f omitted are =
       (ws ++ v ∷ [], f ∙ (ap (λ (z : List V). z ++ v ∷ []) e ∙ append_assoc vs ws (v ∷ [])), rw add-one (omitted_push Ts ws i T v here is makes.means omitted), rw add-one (are_push Ts ws i T v here makes.is_of are))
 
-  refused_by_cause : (Ts : List TypeTree) (at : Range ℕ) (cause : WasmValueError) (e : ParserError) → refusal_of e ≡ refused_by (cause_of cause) → e.span ≡ at → AllOf IsOption Ts → (AllOf Full Ts → IsMemory cause) → RefusesOmitted Full Ts at e
+  refused_by_cause : (Ts : List TypeTree) (at : Range ℕ) (cause : WasmValueError) (e : Diagnostic) → refusal_of e ≡ refused_by (cause_of cause) → e.span ≡ at → AllOf IsOption Ts → (AllOf Full Ts → IsMemory cause) → RefusesOmitted Full Ts at e
   refused_by_cause Ts at (error.Memory a) e is place options full = inl (ap (λ (r : Refusal). r.kind) is)
   refused_by_cause Ts at _ e is place options full = inr (ap (λ (r : Refusal). r.kind) is, place, options, full)
 
   -- a maker that refuses `none`
-  pub omission_refused : (Ts : List TypeTree) (at : Range ℕ) (i : ℕ) (T : TypeTree) (cause : WasmValueError) (e : ParserError) → HasAt Ts i T → AllOf IsOption Ts → FullOption of Full T None cause → refusal_of e ≡ refused_by (cause_of cause) → e.span ≡ at → RefusesOmitted Full Ts at e
+  pub omission_refused : (Ts : List TypeTree) (at : Range ℕ) (i : ℕ) (T : TypeTree) (cause : WasmValueError) (e : Diagnostic) → HasAt Ts i T → AllOf IsOption Ts → FullOption of Full T None cause → refusal_of e ≡ refused_by (cause_of cause) → e.span ≡ at → RefusesOmitted Full Ts at e
   omission_refused Ts at i T cause e here options full is place =
       let (P, option) = option_of T (all_has IsOption Ts i T options here) in
       refused_by_cause Ts at cause e is place options (λ all. full (all_has Full Ts i T all here) P option tt)

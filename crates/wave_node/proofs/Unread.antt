@@ -5,8 +5,7 @@ use Rattle.wave_wasm.specs.Types as type
 use Rattle.wave_wasm.specs.Types.{TypeTree, Whole, whole_kind, kind_of}
 use Rattle.wave_wasm.specs.TypeText.{kind_word}
 use Rattle.wave_wasm.specs.ValueErrors.{Cause, unsupported_type}
-use Rattle.wave_lex.specs.Errors.{Refusal, refusal_of}
-use Rattle.wave_lex.specs.declared.error.ParserError.{ParserError}
+use Rattle.wave_lex.specs.Errors.{Diagnostic, Refusal, refusal_of}
 use Rattle.wave_grammar.specs.SpannedTree.{Placed, span_of}
 use Rattle.wave_node.specs.NodeTree.{NodeTree}
 use Rattle.wave_node.specs.Nodes.{placed_of}
@@ -18,7 +17,7 @@ use Rattle.wave_wasm.specs.declared.wasm.WasmTypeKind.{WasmTypeKind}
 use Rattle.wave_wasm.specs.declared.wasm.WasmTypeKind.TheVariants as kind
 
 -- a refusal with a cause at the node, where its tree has that fault
-pub caused_blame : (Full : TypeTree → Type 0) (T : TypeTree) (source : List ℕ) (n : NodeTree) (t : Placed) (cause : Cause) (e : ParserError) → placed_of source n ≡ Some t → IsCaused cause n e → (RefusesFor cause (span_of t) (refusal_of e) e.span → Fault T t (refusal_of e) e.span) → IsBlamed Full T t e
+pub caused_blame : (Full : TypeTree → Type 0) (T : TypeTree) (source : List ℕ) (n : NodeTree) (t : Placed) (cause : Cause) (e : Diagnostic) → placed_of source n ≡ Some t → IsCaused cause n e → (RefusesFor cause (span_of t) (refusal_of e) e.span → Fault T t (refusal_of e) e.span) → IsBlamed Full T t e
 caused_blame Full T source n t cause e is (inl memory) fault = inl memory
 caused_blame Full T source n t cause e is (inr refused) fault = inr (inl (fault (refused.0, refused.1 ∙ sym (inside source n t is).place)))
 
@@ -56,6 +55,6 @@ unread_fault (type.flags names) t k r q e unread none refused = absurd (unread.f
 unread_fault (type.map K V) t k r q e unread none refused = absurd (unread.map e)
 
 -- so a refusal for want of values is a fault
-pub unread_blame : (Full : TypeTree → Type 0) (T : TypeTree) (source : List ℕ) (n : NodeTree) (t : Placed) (k : WasmTypeKind) (e : ParserError) → placed_of source n ≡ Some t → k ≡ kind_of T → IsUnread k → ((which : Whole) → k ≢ whole_kind which) → IsCaused (unsupported_type (kind_word k)) n e → IsBlamed Full T t e
+pub unread_blame : (Full : TypeTree → Type 0) (T : TypeTree) (source : List ℕ) (n : NodeTree) (t : Placed) (k : WasmTypeKind) (e : Diagnostic) → placed_of source n ≡ Some t → k ≡ kind_of T → IsUnread k → ((which : Whole) → k ≢ whole_kind which) → IsCaused (unsupported_type (kind_word k)) n e → IsBlamed Full T t e
 unread_blame Full T source n t k e is same unread none caused =
     caused_blame Full T source n t (unsupported_type (kind_word k)) e is caused (unread_fault T t k (refusal_of e) e.span same unread none)

@@ -2,21 +2,20 @@
 use Rattle.std.specs.Prelude.{ℕ, ◌≡◌, ◌⊎◌, ◌≤◌, Option, Some, None}
 use Rattle.std.specs.declared.ops.Range.{Range}
 use Rattle.wave_wasm.specs.ValueErrors.{Cause}
-use Rattle.wave_lex.specs.Errors.{refusal_of, caused}
-use Rattle.wave_lex.specs.declared.error.ParserError.{ParserError}
+use Rattle.wave_lex.specs.Errors.{Diagnostic, refusal_of, caused}
 use Rattle.wave_lex.specs.declared.error.ParserErrorKind.TheVariants.{WasmValueError}
 use Rattle.wave_node.specs.NodeTree.{NodeTree, NodeTrees, node, no_nodes, node_and, place_of}
 
 -- a refusal of the kind `WasmValueError` has a cause
-abbrev pub HasCause : ParserError → Type 0
+abbrev pub HasCause : Diagnostic → Type 0
 HasCause e = e.kind ≡ WasmValueError → (c : Cause) × (refusal_of e ≡ caused c)
 
 -- the refusal stands at this place, with a cause where it is a `WasmValueError`
-abbrev pub IsAtPlace : Range ℕ → ParserError → Type 0
+abbrev pub IsAtPlace : Range ℕ → Diagnostic → Type 0
 IsAtPlace p e = (e.span ≡ p) × HasCause e
 
 -- so at the node
-abbrev pub IsAtNode : NodeTree → ParserError → Type 0
+abbrev pub IsAtNode : NodeTree → Diagnostic → Type 0
 IsAtNode n e = IsAtPlace (place_of n) e
 
 abbrev mutual
@@ -34,15 +33,15 @@ abbrev pub LiesInNode : NodeTree → Range ℕ → Type 0
 LiesInNode n q = ((place_of n).start ≤ q.start) × (q.start ≤ q.end) × (q.end ≤ (place_of n).end)
 
 -- the refusal stands, with a cause, at the node or at one within it
-abbrev pub IsCausedIn : NodeTree → ParserError → Type 0
+abbrev pub IsCausedIn : NodeTree → Diagnostic → Type 0
 IsCausedIn n e = (m : NodeTree) × IsPartOf m n × IsAtNode m e
 
 -- the refusal's span lies in the node; a `WasmValueError` stands at the node or at one within it, with a cause
-pub record StandsIn (n : NodeTree) (e : ParserError) : Type 0 where
+pub record StandsIn (n : NodeTree) (e : Diagnostic) : Type 0 where
   pub lies : LiesInNode n e.span
   pub caused : e.kind ≡ WasmValueError → IsCausedIn n e
 
 -- so among the parameters of a call; at its name where it gives none
-abbrev pub IsCausedInParams : Range ℕ → Option NodeTree → ParserError → Type 0
+abbrev pub IsCausedInParams : Range ℕ → Option NodeTree → Diagnostic → Type 0
 IsCausedInParams name None e = IsAtPlace name e
 IsCausedInParams name (Some n) e = IsCausedIn n e

@@ -3,8 +3,7 @@ use Rattle.std.specs.Prelude.{ℕ, ◌≡◌, ◌≢◌, ◌⊎◌, ◌++◌, Li
 use Rattle.std.specs.Borrow.{Bor}
 use Rattle.wave_wasm.specs.Lists.{AllOf}
 use Rattle.wave_wasm.specs.Names.{IsOneOf, AreDistinct}
-use Rattle.wave_lex.specs.Errors.{field_label_due, repeated_name, Says}
-use Rattle.wave_lex.specs.declared.error.ParserError.{ParserError}
+use Rattle.wave_lex.specs.Errors.{Diagnostic, field_label_due, repeated_name, Says}
 use Rattle.wave_lex.specs.declared.error.ParserErrorKind.TheVariants.{InvalidType, DuplicateField, OutOfMemory}
 use Rattle.wave_grammar.specs.LeafTokens.{name_of}
 use Rattle.wave_grammar.specs.TypedGrammar.{names_of}
@@ -28,13 +27,13 @@ pub record IsFieldsOf (source : List ℕ) (n : NodeTree) (fields : List (List �
   pub distinct : AreDistinct (names_of fields)
 
 -- a refusal of a key behind these names: no label, or a label of one of them
-abbrev pub RefusesKey : List ℕ → List (List ℕ) → NodeTree → ParserError → Type 0
+abbrev pub RefusesKey : List ℕ → List (List ℕ) → NodeTree → Diagnostic → Type 0
 RefusesKey source names key e =
     (type_of key ≢ kind.Label) × Says e InvalidType (place_of key) (Some field_label_due)
     ⊎ (type_of key ≡ kind.Label) × IsOneOf names (name_of (node_text source key)) × Says e DuplicateField (place_of key) (Some (repeated_name (name_of (node_text source key))))
 
 -- the refusal of the first key that is no label or has the name of an earlier one
-pub record RefusesEntry (source : List ℕ) (n : NodeTree) (e : ParserError) : Type 0 where
+pub record RefusesEntry (source : List ℕ) (n : NodeTree) (e : Diagnostic) : Type 0 where
   pub is_set : type_of n ≡ kind.TupleSet
   pub before : List (NodeTree × NodeTree)
   pub entry : NodeTree × NodeTree
@@ -45,11 +44,11 @@ pub record RefusesEntry (source : List ℕ) (n : NodeTree) (e : ParserError) : T
   pub refused : RefusesKey source (names_of (map (field_of source) before)) entry.0 e
 
 -- want of memory; or `InvalidType` at another node than that of entries or of `{:}`; or a refusal of a key
-abbrev pub RefusesFields : List ℕ → NodeTree → ParserError → Type 0
+abbrev pub RefusesFields : List ℕ → NodeTree → Diagnostic → Type 0
 RefusesFields source n e = (e.kind ≡ OutOfMemory) ⊎ (type_of n ≢ kind.TupleSet) × RefusedAs InvalidType n e ⊎ RefusesEntry source n e
 
 -- the fields of a record's node; or a refusal
-abbrev pub GivesRecord : List ℕ → NodeTree → Result (List (List ℕ × NodeTree)) ParserError → Type 0
+abbrev pub GivesRecord : List ℕ → NodeTree → Result (List (List ℕ × NodeTree)) Diagnostic → Type 0
 GivesRecord source n r = MatchResult r (IsFieldsOf source n) (RefusesFields source n)
 
 -- a name and a node, behind two references

@@ -1,6 +1,6 @@
 -- What a node answers about its flags.
 use Rattle.std.specs.Prelude.{ℕ, ◌≡◌, ◌≢◌, ◌⊎◌, true, List, [], ◌∷◌, map, Result, Ok, Err}
-use Rattle.wave_lex.specs.declared.error.ParserError.{ParserError}
+use Rattle.wave_lex.specs.Errors.{Diagnostic}
 use Rattle.wave_lex.specs.declared.error.ParserErrorKind.TheVariants.{InvalidType}
 use Rattle.wave_grammar.specs.LeafTokens.{name_of}
 use Rattle.wave_grammar.specs.Tree.{is_before}
@@ -17,11 +17,11 @@ abbrev pub AreFlags : NodeTree → Type 0
 AreFlags n = (type_of n ≡ kind.Flags) ⊎ (type_of n ≡ kind.EmptySet)
 
 -- a refusal of a node that is neither
-abbrev pub IsNoFlags : NodeTree → ParserError → Type 0
+abbrev pub IsNoFlags : NodeTree → Diagnostic → Type 0
 IsNoFlags n e = (type_of n ≢ kind.Flags) × (type_of n ≢ kind.EmptySet) × RefusedAs InvalidType n e
 
 -- the names of the flags, in the order of the nodes; or `InvalidType` at another node
-abbrev pub GivesFlags : List ℕ → NodeTree → Result (List (List ℕ)) ParserError → Type 0
+abbrev pub GivesFlags : List ℕ → NodeTree → Result (List (List ℕ)) Diagnostic → Type 0
 GivesFlags source n (Ok names) = AreFlags n × (names ≡ names_at source (children_of n))
 GivesFlags source n (Err e) = IsNoFlags n e
 

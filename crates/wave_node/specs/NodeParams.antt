@@ -5,8 +5,7 @@ use Rattle.wave_wasm.specs.Types.{TypeTree}
 use Rattle.wave_wasm.specs.Values.{Value}
 use Rattle.wave_wasm.specs.ConstructorContracts.{AreOf}
 use Rattle.std.specs.declared.ops.Range.{Range}
-use Rattle.wave_lex.specs.Errors.{no_params, Says, refusal_of, too_many_params, too_few_params}
-use Rattle.wave_lex.specs.declared.error.ParserError.{ParserError}
+use Rattle.wave_lex.specs.Errors.{Diagnostic, no_params, Says, refusal_of, too_many_params, too_few_params}
 use Rattle.wave_lex.specs.declared.error.ParserErrorKind.TheVariants.{InvalidParams, OutOfMemory, WasmValueError, InvalidType}
 use Rattle.wave_grammar.specs.TypedGrammar.{IsOption}
 use Rattle.wave_grammar.specs.Params.{Omitted}
@@ -28,7 +27,7 @@ abbrev pub IsNoOption : TypeTree → Type 0
 IsNoOption T = IsOption T → ⊥
 
 -- what is wrong with the items, read in turn: a fault of one at its type; the first that is too many; or a type that is left and is no option
-abbrev pub ParamsFault : List TypeTree → List Placed → Range ℕ → ParserError → Type 0
+abbrev pub ParamsFault : List TypeTree → List Placed → Range ℕ → Diagnostic → Type 0
 ParamsFault Ts [] close e = SomeOf IsNoOption Ts × Says e InvalidParams close (Some too_few_params)
 ParamsFault [] (t ∷ ts) close e = Says e InvalidParams (span_of t) (Some too_many_params)
 ParamsFault (T ∷ Ts) (t ∷ ts) close e =
@@ -50,7 +49,7 @@ module _ {V : Type 0} (tree : V → Value) (of : V → TypeTree → Type 0) wher
   GivesParams Ts n t vs = (items : List Placed) × (shape_of t ≡ tuple (placed_trees items)) × AreRead Ts items vs
 
 -- the refusal of a maker that does not serve all values of its type, behind items that have theirs: it lies in the next item; or, for a type that is left, where all that are left are options, it stands at the node
-abbrev pub MakerRefuses : (TypeTree → Type 0) → List TypeTree → List Placed → NodeTree → ParserError → Type 0
+abbrev pub MakerRefuses : (TypeTree → Type 0) → List TypeTree → List Placed → NodeTree → Diagnostic → Type 0
 MakerRefuses Full Ts [] n e = AllOf IsOption Ts × (AllOf Full Ts → ⊥) × (e.span ≡ place_of n)
 MakerRefuses Full [] (t ∷ ts) n e = ⊥
 MakerRefuses Full (T ∷ Ts) (t ∷ ts) n e =
@@ -58,18 +57,18 @@ MakerRefuses Full (T ∷ Ts) (t ∷ ts) n e =
     ⊎ ((v : Value) × TreeReads T (tree_of t) v × MakerRefuses Full Ts ts n e)
 
 -- want of memory; or a fault of the items of the node, which have no values; or the refusal of a maker
-abbrev pub RefusesItems : (TypeTree → Type 0) → List TypeTree → List Placed → NodeTree → ParserError → Type 0
+abbrev pub RefusesItems : (TypeTree → Type 0) → List TypeTree → List Placed → NodeTree → Diagnostic → Type 0
 RefusesItems Full Ts items n e =
     (e.kind ≡ OutOfMemory) ⊎ ParamsFault Ts items (close_of n) e × NoParams Ts items ⊎ (e.kind ≡ WasmValueError) × MakerRefuses Full Ts items n e
 
 -- so of the items of a tuple, or `InvalidType` at another node
-abbrev pub RefusesParams : (TypeTree → Type 0) → List TypeTree → NodeTree → Placed → ParserError → Type 0
+abbrev pub RefusesParams : (TypeTree → Type 0) → List TypeTree → NodeTree → Placed → Diagnostic → Type 0
 RefusesParams Full Ts n t e =
     (type_of n ≢ kind.Tuple) × RefusedAs InvalidType n e
     ⊎ ((items : List Placed) × (shape_of t ≡ tuple (placed_trees items)) × RefusesItems Full Ts items n e)
 
 -- want of memory; or a type is no option; or, where all are and makers do not serve all their values, the refusal of one, at the name
-abbrev pub RefusesNone : (TypeTree → Type 0) → List TypeTree → Range ℕ → ParserError → Type 0
+abbrev pub RefusesNone : (TypeTree → Type 0) → List TypeTree → Range ℕ → Diagnostic → Type 0
 RefusesNone Full Ts at e =
     (e.kind ≡ OutOfMemory)
     ⊎ SomeOf IsNoOption Ts × Says e InvalidParams at (Some (no_params (length Ts)))

@@ -2,7 +2,7 @@
 use Rattle.std.specs.Prelude.{ℕ, ◌≡◌, ◌≢◌, ◌≤◌, ◌⊎◌, ◌+◌, List, length, Result, Ok, Err}
 use Rattle.wave_wasm.specs.Lists.{AllOf}
 use Rattle.wave_lex.specs.Tokens.{backslash}
-use Rattle.wave_lex.specs.declared.error.ParserError.{ParserError}
+use Rattle.wave_lex.specs.Errors.{Diagnostic}
 use Rattle.wave_lex.specs.declared.error.ParserErrorKind.TheVariants.{InvalidType}
 use Rattle.wave_lex.specs.Parts.{TellsBadEscape, TellsFault}
 use Rattle.wave_lex.specs.Strings.{StringMeans, IsInQuotes, IsBadEscapeAt}
@@ -22,7 +22,7 @@ StandsFor source n t =
     (type_of n ≡ kind.String) × StringMeans (node_text source n) t ⊎ (type_of n ≡ kind.MultilineString) × MultilineMeans (node_text source n) t
 
 -- the refusal tells the first bad escape of a string, or what is wrong with a multiline string
-abbrev pub TellsStringFault : List ℕ → NodeTree → ParserError → Type 0
+abbrev pub TellsStringFault : List ℕ → NodeTree → Diagnostic → Type 0
 TellsStringFault source n e =
     ((type_of n ≡ kind.String) × (inside : List ℕ) × (i : ℕ) × IsInQuotes (node_text source n) inside × IsBadEscapeAt inside i
     × TellsBadEscape e ((place_of n).start + 1 + i))
@@ -35,13 +35,13 @@ IsRunAt source n =
     (inside : List ℕ) × IsInside source n inside × AllOf (λ b. b ≢ backslash) inside × (type_of n ≡ kind.MultilineString → length (pieces inside) ≤ 3)
 
 -- a refusal of the text of a node; or want of memory, where it had to be copied; or `InvalidType` at another node than a string
-abbrev pub RefusesString : List ℕ → NodeTree → ParserError → Type 0
+abbrev pub RefusesString : List ℕ → NodeTree → Diagnostic → Type 0
 RefusesString source n e =
     (type_of n ≢ kind.String) × (type_of n ≢ kind.MultilineString) × RefusedAs InvalidType n e
     ⊎ TellsStringFault source n e
     ⊎ WantsMemory (place_of n) e × (IsRunAt source n → ⊥)
 
 -- the text of a string, borrowed where it is one run; or a refusal of its text; or want of memory, where it had to be copied; or `InvalidType` at another node
-abbrev pub GivesString : {A : Type 0} → List ℕ → NodeTree → Result (CowStr A) ParserError → Type 0
+abbrev pub GivesString : {A : Type 0} → List ℕ → NodeTree → Result (CowStr A) Diagnostic → Type 0
 GivesString source n (Ok c) = StandsFor source n (cow_str_bytes c) × BorrowedWhere (IsRunAt source n) c
 GivesString source n (Err e) = RefusesString source n e

@@ -8,8 +8,7 @@ use Rattle.wave_wasm.specs.Values.{Value, Leaf}
 use Rattle.wave_wasm.specs.ValueErrors.{cause_of}
 use Rattle.wave_wasm.specs.ConstructorContracts.{MakesLeaf, FullLeaf}
 use Rattle.wave_wasm.specs.declared.wasm.WasmValueError as causes
-use Rattle.wave_lex.specs.Errors.{refusal_of, refused_by}
-use Rattle.wave_lex.specs.declared.error.ParserError.{ParserError}
+use Rattle.wave_lex.specs.Errors.{Diagnostic, refusal_of, refused_by}
 use Rattle.wave_lex.specs.declared.error.ParserErrorKind.TheVariants.{OutOfMemory, WasmValueError}
 use Rattle.wave_grammar.specs.SpannedTree.{Placed, tree_of}
 use Rattle.wave_node.specs.NodeTree.{NodeTree, place_of}
@@ -25,7 +24,7 @@ pub record IsTypedValue {V : Type 0} (tree : V → Value) (of : V → TypeTree �
   pub is_of : of v T
 
 -- want of memory; or a fault of the tree; or, where makers do not serve all values of the type, the refusal of one
-abbrev pub IsBlamed : (TypeTree → Type 0) → TypeTree → Placed → ParserError → Type 0
+abbrev pub IsBlamed : (TypeTree → Type 0) → TypeTree → Placed → Diagnostic → Type 0
 IsBlamed Full T t e =
     (e.kind ≡ OutOfMemory) ⊎ Fault T t (refusal_of e) e.span ⊎ (e.kind ≡ WasmValueError) × (Full T → ⊥)
 
@@ -34,7 +33,7 @@ abbrev pub ReadsNone : TypeTree → Placed → Type 0
 ReadsNone T t = (v : Value) → TreeReads T (tree_of t) v → ⊥
 
 -- so, and a fault stands only where the type gives the tree no value
-abbrev pub IsTypeError : (TypeTree → Type 0) → TypeTree → Placed → ParserError → Type 0
+abbrev pub IsTypeError : (TypeTree → Type 0) → TypeTree → Placed → Diagnostic → Type 0
 IsTypeError Full T t e =
     (e.kind ≡ OutOfMemory) ⊎ Fault T t (refusal_of e) e.span × ReadsNone T t ⊎ (e.kind ≡ WasmValueError) × (Full T → ⊥)
 
@@ -54,31 +53,31 @@ pub record IsKeyRead {V : Type 0} (tree : V → Value) (of : V → TypeTree → 
   pub is_of : of v (type.simple K)
 
 -- want of memory; or a fault of the key, which stands there; or, where makers do not serve all values of the type, the refusal of one
-abbrev pub IsKeyBlamed : (TypeTree → Type 0) → Simple → Range ℕ → Token → ParserError → Type 0
+abbrev pub IsKeyBlamed : (TypeTree → Type 0) → Simple → Range ℕ → Token → Diagnostic → Type 0
 IsKeyBlamed Full K p key e =
     (e.kind ≡ OutOfMemory) ⊎ MapKeyFault K p key (refusal_of e) e.span ⊎ (e.kind ≡ WasmValueError) × (Full (type.simple K) → ⊥)
 
 -- the value that was made; or the refusal of its maker, at the node
-abbrev pub IsMade : {V : Type 0} → NodeTree → Result V causes.WasmValueError → Result V ParserError → Type 0
+abbrev pub IsMade : {V : Type 0} → NodeTree → Result V causes.WasmValueError → Result V Diagnostic → Type 0
 IsMade n (Ok v) (Ok w) = w ≡ v
 IsMade n (Err cause) (Err e) = (refusal_of e ≡ refused_by (cause_of cause)) × (e.span ≡ place_of n)
 IsMade n _ _ = ⊥
 
 module _ {V : Type 0} (tree : V → Value) (of : V → TypeTree → Type 0) (Full : TypeTree → Type 0) where
   -- what a maker answered for the leaf: the value, or a refusal at the node
-  abbrev pub IsLeafMade : Leaf → NodeTree → Result V ParserError → Type 0
+  abbrev pub IsLeafMade : Leaf → NodeTree → Result V Diagnostic → Type 0
   IsLeafMade one n r = (made : Result V causes.WasmValueError) × IfOk made (MakesLeaf tree of one) × IfErr made (FullLeaf Full one) × IsMade n made r
 
   -- the value of the node's tree at the type, or a refusal of it
-  abbrev pub Answers : TypeTree → List ℕ → NodeTree → Result V ParserError → Type 0
+  abbrev pub Answers : TypeTree → List ℕ → NodeTree → Result V Diagnostic → Type 0
   Answers T source n r = (t : Placed) → IsNodeOf source n t → HasDistinctNames T → MatchResult r (IsTypedValue tree of T t) (IsBlamed Full T t)
 
   -- the value of the node's key at the simple type, or a refusal of it
-  abbrev pub AnswersKey : TypeTree → List ℕ → NodeTree → Result V ParserError → Type 0
+  abbrev pub AnswersKey : TypeTree → List ℕ → NodeTree → Result V Diagnostic → Type 0
   AnswersKey T source n r = (K : Simple) (p : Range ℕ) (key : Token) → T ≡ type.simple K → IsTokenOf source n p key → MatchResult r (IsKeyRead tree of K key) (IsKeyBlamed Full K p key)
 
   -- so, and a fault stands only where the type gives the tree no value
-  abbrev pub ReadsAtType : TypeTree → List ℕ → NodeTree → Result V ParserError → Type 0
+  abbrev pub ReadsAtType : TypeTree → List ℕ → NodeTree → Result V Diagnostic → Type 0
   ReadsAtType T source n r = (t : Placed) → IsNodeOf source n t → HasDistinctNames T → MatchResult r (IsTypedValue tree of T t) (IsTypeError Full T t)
 
 -- ---- payloads

@@ -6,7 +6,6 @@ use Rattle.std.proofs.lemmas.List.{append-nil}
 use Rattle.wave_lex.specs.declared.lex.Token as lex
 use Rattle.wave_lex.specs.declared.lex.Token.TheVariants.{ParenOpen, ParenClose}
 use Rattle.wave_lex.specs.declared.lex.FuncNameToken.{FuncNameToken}
-use Rattle.wave_lex.specs.declared.error.ParserError.{ParserError}
 use Rattle.wave_lex.specs.declared.error.ParserErrorKind.TheVariants as because
 use Rattle.wave_lex.specs.Tokens.{shape}
 use Rattle.wave_lex.specs.FunctionName.{IsName, NoName, NameIs}
@@ -23,7 +22,7 @@ use Rattle.wave_node.specs.NodeTree.{NodeTree, type_of}
 use Rattle.wave_grammar.specs.ParserPosition as place
 use Rattle.wave_grammar.specs.ParserPosition.{Place, TakesToken, TakesTokens, token_of, text_at}
 use Rattle.wave_grammar.specs.PrefixAutomaton as due
-use Rattle.wave_lex.specs.Errors.{Says}
+use Rattle.wave_lex.specs.Errors.{Diagnostic, Says}
 use Rattle.wave_grammar.specs.SyntaxErrors.{LeadsBehindValue, IsSyntaxError}
 use Rattle.wave_tree.specs.ParserLaws.{AreNext}
 use Rattle.wave_tree.specs.ParsedNodes.{IsSound, TakesClass}
@@ -45,7 +44,7 @@ use Rattle.wave_tree.proofs.NodeCorrectness.Lists.{tuple_parsed}
 read_before : (old m new : Place) → TakesClass ParenOpen old m → LeadsBehindValue 101 due.first_item (due.tuple ∷ []) m new [] → LeadsBehindValue 101 due.value [] old new []
 read_before old m new open_there h = record { tokens = paren_open ∷ h.tokens; taken = (m, (ParenOpen, open_there, refl), h.taken); due_there = h.due_there; is_behind = h.is_behind; leads = (due.first_item, due.tuple ∷ [], refl, h.leads) }
 
-refused_before : (e : ParserError) (old m new : Place) → TakesClass ParenOpen old m → IsSyntaxError e 101 due.first_item (due.tuple ∷ []) m new → IsSyntaxError e 101 due.value [] old new
+refused_before : (e : Diagnostic) (old m new : Place) → TakesClass ParenOpen old m → IsSyntaxError e 101 due.first_item (due.tuple ∷ []) m new → IsSyntaxError e 101 due.value [] old new
 refused_before e old m new open_there h = record { tokens = paren_open ∷ h.tokens; at = h.at; due_there = h.due_there; open_there = h.open_there; taken = (m, (ParenOpen, open_there, refl), h.taken); leads = (due.first_item, due.tuple ∷ [], refl, h.leads); unfinished = h.unfinished; stands = h.stands }
 
 -- the tuple of the parameters
@@ -148,7 +147,7 @@ no_call_empty s e name params h =
     let fits = it.token_is.is.0.fits in
     omega (arith, some, fits, length-drop it.g (drop h.bytes s), length-drop h.bytes s, ap length e)
 
-no_call_refused : (s : List ℕ) (k : ℕ) (p : Place) (e : ParserError) → IsName s k → RefusesTuple e (behind_name s k) p → IsNoCall s
+no_call_refused : (s : List ℕ) (k : ℕ) (p : Place) (e : Diagnostic) → IsName s k → RefusesTuple e (behind_name s k) p → IsNoCall s
 no_call_refused s k p e named (inl fails) name params h =
     let (m, open_there) = first_open s k (call_tokens s k name params named h) in
     expected (behind_name s k) (behind_name s k) p ParenOpen e refl (m, open_there) fails
@@ -197,7 +196,7 @@ taken_all s k p (Some n) h it = by (params_tokens 100 it.tokens it.params it.spe
         let same = one_tree 101 101 it.tokens t w [] rest takes others in
         (all_taken (behind_name s k) p h.tokens it.tokens h.taken (subst (AreNext p) (sym same.1) behind) it.all).1
 
-no_call_trailing : (s : List ℕ) (k : ℕ) (p : Place) (params : Option NodeTree) (e : ParserError) → IsName s k → AreParamsTaken (behind_name s k) p params → IsTrailing e p → IsNoCall s
+no_call_trailing : (s : List ℕ) (k : ℕ) (p : Place) (params : Option NodeTree) (e : Diagnostic) → IsName s k → AreParamsTaken (behind_name s k) p params → IsTrailing e p → IsNoCall s
 no_call_trailing s k p params e named taken (behind, any_there, says) name others h =
     let it = call_tokens s k name others named h in
     let same = taken_all s k p params taken it in
@@ -234,18 +233,18 @@ named_at s l name (k, it, named) = (k, named, λ i. record { source = it.source 
     zero_plus = omega arith
 
 -- the place of a refused name
-pub unnamed_at : (s : List ℕ) (l : Lexed) (bad : Range ℕ) (e : ParserError) → NameIs (record { source = s; start = 0; end = 0 }) l (Some (Err bad)) → Says e because.InvalidToken (span l.start l.end) None → NameFault s e
+pub unnamed_at : (s : List ℕ) (l : Lexed) (bad : Range ℕ) (e : Diagnostic) → NameIs (record { source = s; start = 0; end = 0 }) l (Some (Err bad)) → Says e because.InvalidToken (span l.start l.end) None → NameFault s e
 unnamed_at s l bad e (k, it, none, front, place) says = inr (k, none, front, subst (λ (p : Range ℕ). Says e because.InvalidToken p None) (λ i. span (it.start i) ((it.end ∙ zero_plus) i)) says)
   where
     zero_plus : 0 + k ≡ k
     zero_plus = omega arith
 
-pub name_refused : (s : List ℕ) (e : ParserError) → NameFault s e → RefusesCall s e
+pub name_refused : (s : List ℕ) (e : Diagnostic) → NameFault s e → RefusesCall s e
 name_refused s e (inl h) apart = (inl (inl h), no_call_empty s h.0)
 name_refused s e (inr h) apart = (inl (inr h), no_call_unnamed s h.1)
 
-pub params_refused : (s : List ℕ) (k : ℕ) (p : Place) (e : ParserError) → IsName s k → (e.kind ≢ because.OutOfMemory → RefusesTuple e (behind_name s k) p) → RefusesCall s e
+pub params_refused : (s : List ℕ) (k : ℕ) (p : Place) (e : Diagnostic) → IsName s k → (e.kind ≢ because.OutOfMemory → RefusesTuple e (behind_name s k) p) → RefusesCall s e
 params_refused s k p e named h apart = (inr (inl (k, p, named, h apart)), no_call_refused s k p e named (h apart))
 
-pub rest_refused : (s : List ℕ) (k : ℕ) (p : Place) (params : Option NodeTree) (e : ParserError) → IsName s k → AreParamsTaken (behind_name s k) p params → IsTrailing e p → RefusesCall s e
+pub rest_refused : (s : List ℕ) (k : ℕ) (p : Place) (params : Option NodeTree) (e : Diagnostic) → IsName s k → AreParamsTaken (behind_name s k) p params → IsTrailing e p → RefusesCall s e
 rest_refused s k p params e named taken trails apart = (inr (inr (k, p, params, named, taken, trails)), no_call_trailing s k p params e named taken trails)

@@ -1,14 +1,13 @@
 -- What is at hand is what stands next.
 use Rattle.std.proofs.Common.{ℕ, List, ◌≡◌, ◌↔◌, ◌+◌, Option, Some, None, Result, Ok, Err, refl, sym, ap, subst, Bool, arith}
 use Rattle.std.specs.Prelude.{IsTrue, IfOk, IfErr}
-use Rattle.wave_lex.specs.declared.error.ParserError.{ParserError}
 use Rattle.wave_lex.specs.declared.error.ParserErrorKind.TheVariants as kind
 use Rattle.wave_lex.specs.declared.lex.Token.{Token}
 use Rattle.wave_lex.specs.Tokenization.{Lexed, NextIs, span}
 use Rattle.wave_lex.proofs.Next.{next_one}
 use Rattle.wave_tree.specs.declared.ahead.Ahead.{Ahead}
 use Rattle.wave_grammar.specs.ParserPosition.{Place, Item, TakesItem, IsSomething}
-use Rattle.wave_lex.specs.Errors.{Says, LiesInText}
+use Rattle.wave_lex.specs.Errors.{Diagnostic, Says, LiesInText}
 use Rattle.wave_tree.specs.Private.ParserState.{IsAhead, ahead_count}
 use Rattle.wave_tree.specs.ParserState.{Finishes}
 
@@ -30,7 +29,7 @@ at_hand l p o a c b r e h f k g =
     )
 
 -- whether something stands next, by the item at hand
-pub finish_at : (l : Lexed) (p : Place) (o : Option Ahead) (a : Ahead) (r q : Result (Unit {0}) ParserError) → p.lexer ≡ l → IsAhead l o → o ≡ Some a → r ≡ q →
+pub finish_at : (l : Lexed) (p : Place) (o : Option Ahead) (a : Ahead) (r q : Result (Unit {0}) Diagnostic) → p.lexer ≡ l → IsAhead l o → o ≡ Some a → r ≡ q →
     IfOk q (λ _. a.item ≡ None) → IfErr q (λ e. Says e kind.TrailingCharacters (span a.lexer.start a.lexer.end) None × IsSomething a.item) → Finishes r p
 finish_at l p o a r (Ok u) e h f g k m =
     let there : NextIs p.lexer a.lexer a.item = next_there l p o a e h f in
@@ -45,7 +44,7 @@ next_source l m (Some (Ok c)) (g, k, p, t) = p.source
 next_source l m (Some (Err bad)) (g, k, p, u, e) = p.source
 
 -- the refusal of the item at hand lies in the source
-pub finish_within : (l : Lexed) (p : Place) (o : Option Ahead) (a : Ahead) (r q : Result (Unit {0}) ParserError) → p.lexer ≡ l → IsAhead l o → o ≡ Some a → r ≡ q →
+pub finish_within : (l : Lexed) (p : Place) (o : Option Ahead) (a : Ahead) (r q : Result (Unit {0}) Diagnostic) → p.lexer ≡ l → IsAhead l o → o ≡ Some a → r ≡ q →
     IfErr q (λ e. LiesInText a.lexer.source e.span) → IfErr r (λ e. LiesInText p.lexer.source e.span)
 finish_within l p o a r q e h f g k =
     let there : NextIs p.lexer a.lexer a.item = next_there l p o a e h f in

@@ -2,7 +2,7 @@
 use Rattle.std.proofs.Common.{ℕ, ◌≡◌, ◌≢◌, inl, inr, List, [], ◌∷◌, ◌++◌, length, Some, None, Ok, Err, refl, sym, ap, subst, ◌∙◌, arith}
 use Rattle.std.specs.declared.ops.Range.{Range}
 use Rattle.wave_lex.specs.declared.lex.Token as lex
-use Rattle.wave_lex.specs.declared.error.ParserError.{ParserError}
+use Rattle.wave_lex.specs.Errors.{Diagnostic}
 use Rattle.wave_lex.specs.declared.error.ParserErrorKind.{ParserErrorKind}
 use Rattle.wave_lex.specs.declared.error.ParserErrorKind.TheVariants as kind
 use Rattle.wave_lex.proofs.Next.{next_one}
@@ -72,7 +72,7 @@ one_step n d e s r p q m c t x h f k g =
     sym f ∙ (ap (step n d s) (sym tokens) ∙ g)
 
 -- a token that is read there stands for no refusal
-read_stands : (k : ParserErrorKind) (x : ParserError) (n : ℕ) (d e : Due) (s r : List Form) (p q m : Place) (t : Token) → StandsAt k x n d s p q → TakesToken p t m → step n d s t ≡ reads e r → ⊥
+read_stands : (k : ParserErrorKind) (x : Diagnostic) (n : ℕ) (d e : Due) (s r : List Form) (p q m : Place) (t : Token) → StandsAt k x n d s p q → TakesToken p t m → step n d s t ≡ reads e r → ⊥
 read_stands kind.EmptyTuple x n d e s r p q m t (c, (h, f), says) k g = let w : empty_tuple ≡ reads e r = one_step n d e s r p q m c t empty_tuple h f k g in cc
 read_stands kind.UnexpectedToken x n d e s r p q m t (c, (h, f), says) k g = let w : unexpected ≡ reads e r = one_step n d e s r p q m c t unexpected h f k g in cc
 read_stands kind.DuplicateFlag x n d e s r p q m t (c, (h, f), says) k g = let w : repeated_flag ≡ reads e r = one_step n d e s r p q m c t repeated_flag h f k g in cc
@@ -111,7 +111,7 @@ next_rest m q t [] (last, e, none) h apart = none t q (subst (λ z. TakesToken z
 next_rest m q t (u ∷ rest) (last, (k, one, more), none) h apart = apart rest (ap (λ z. z ∷ rest) (token_one m k q u t one h).0)
 
 -- where tokens lead to a refusal within a value, none of their fronts is a whole value
-clash : (k : ParserErrorKind) (x : ParserError) (n : ℕ) (d0 : Due) (s0 : List Form) (p q at m : Place) (tokens front rest : List Token) (d e : Due) (r : List Form) →
+clash : (k : ParserErrorKind) (x : Diagnostic) (n : ℕ) (d0 : Due) (s0 : List Form) (p q at m : Place) (tokens front rest : List Token) (d e : Due) (r : List Form) →
     TakesTokens p tokens at → Leads n d0 s0 tokens e r → IsUnfinished e r → StandsAt k x n e r at q → TakesTokens p front m → Leads n d0 s0 front d [] → IsEnd d rest → AreNext m rest → ⊥
 clash k x n d0 s0 p q at m [] [] rest d e r a (v, w) (inl u) stands b (v', w') end next = within_not_end d rest end (subst IsWithin (sym v ∙ v') u)
 clash k x n d0 s0 p q at m [] [] rest d e r a (v, w) (inr u) stands b (v', w') end next = let z = ap length (sym w ∙ w') in omega arith

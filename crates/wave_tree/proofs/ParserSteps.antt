@@ -4,10 +4,9 @@ use Rattle.std.specs.Prelude.{◌⊎◌, nat_lt, if◌then◌else◌, IsErrAnd, 
 use Rattle.std.specs.declared.ops.Range.{Range}
 use Rattle.wave_lex.specs.declared.lex.Token as lex
 use Rattle.wave_lex.specs.declared.lex.Token.TheVariants.{BraceOpen, BraceClose, ParenOpen, ParenClose, BracketOpen, BracketClose, Colon, Comma, Number, LabelOrKeyword, Char, String, MultilineString}
-use Rattle.wave_lex.specs.declared.error.ParserError.{ParserError}
 use Rattle.wave_lex.specs.declared.error.ParserErrorKind.{ParserErrorKind}
 use Rattle.wave_lex.specs.declared.error.ParserErrorKind.TheVariants as kind
-use Rattle.wave_lex.specs.Errors.{class_name, repeated_name, Says}
+use Rattle.wave_lex.specs.Errors.{Diagnostic, class_name, repeated_name, Says}
 use Rattle.wave_lex.specs.Tokenization.{NextIs, remainder_of, span}
 use Rattle.wave_lex.proofs.Next.{next_one, next_less}
 use Rattle.wave_grammar.specs.Token.{Token, paren_open}
@@ -57,11 +56,11 @@ pub read_there : {n : ℕ} {d e : Due} {s v : List Form} {p q : Place} → Reach
 read_there {e = e} h b = record { tokens = h.tokens; taken = h.taken; due_there = e; is_behind = b; leads = h.leads }
 
 -- a refusal that stands where tokens lead
-pub refused_there : {n : ℕ} {d e : Due} {s v : List Form} {p q w : Place} (u : IsUnfinished e v) (x : ParserError) → Reached n d s p e v q → StandsAt x.kind x n e v q w → IsSyntaxError x n d s p w
+pub refused_there : {n : ℕ} {d e : Due} {s v : List Form} {p q w : Place} (u : IsUnfinished e v) (x : Diagnostic) → Reached n d s p e v q → StandsAt x.kind x n e v q w → IsSyntaxError x n d s p w
 refused_there {e = e} {v = v} {q = q} u x h b = record { unfinished = u; tokens = h.tokens; at = q; due_there = e; open_there = v; taken = h.taken; leads = h.leads; stands = b }
 
 -- tokens, and then a refusal
-pub then_refused : {n : ℕ} {d e : Due} {s v : List Form} {p q w : Place} (x : ParserError) → Reached n d s p e v q → IsSyntaxError x n e v q w → IsSyntaxError x n d s p w
+pub then_refused : {n : ℕ} {d e : Due} {s v : List Form} {p q w : Place} (x : Diagnostic) → Reached n d s p e v q → IsSyntaxError x n e v q w → IsSyntaxError x n d s p w
 then_refused {n} {d} {e} {s} {v} {p} {q} x h b = record {
   unfinished = b.unfinished;
   tokens = h.tokens ++ b.tokens;
@@ -74,15 +73,15 @@ then_refused {n} {d} {e} {s} {v} {p} {q} x h b = record {
 }
 
 -- tokens, and then a refusal or want of memory
-pub then_refuses : {n : ℕ} {d e : Due} {s v : List Form} {p q w : Place} (x : ParserError) → Reached n d s p e v q → FailsBySyntax x n e v q w → FailsBySyntax x n d s p w
+pub then_refuses : {n : ℕ} {d e : Due} {s v : List Form} {p q w : Place} (x : Diagnostic) → Reached n d s p e v q → FailsBySyntax x n e v q w → FailsBySyntax x n d s p w
 then_refuses x h b = λ apart. then_refused x h (b apart)
 
 -- the kind of an error that says this
-pub kind_is : {x : ParserError} {k : ParserErrorKind} {at : Range ℕ} {tells : Option (List ℕ)} → Says x k at tells → x.kind ≡ k
+pub kind_is : {x : Diagnostic} {k : ParserErrorKind} {at : Range ℕ} {tells : Option (List ℕ)} → Says x k at tells → x.kind ≡ k
 kind_is says = ap (λ r. r.kind) says.is
 
 -- none of the wanted tokens stands there, and all others are unexpected
-fails_stands : (n : ℕ) (d : Due) (s : List Form) (p q : Place) (Wanted : lex.Token → Type 0) (x : ParserError) → (IsTooDeep n d s p → ⊥) →
+fails_stands : (n : ℕ) (d : Due) (s : List Form) (p q : Place) (Wanted : lex.Token → Type 0) (x : Diagnostic) → (IsTooDeep n d s p → ⊥) →
     ((c : lex.Token) → TakesItem p (Some (Ok c)) q → (Wanted c → ⊥) → step n d s (token_of c (text_at q)) ≡ unexpected) → Fails Wanted x p q → StandsAt x.kind x n d s p q
 fails_stands n d s p q Wanted x shallow others (inl (bad, h, says)) = subst (λ k. StandsAt k x n d s p q) (sym (kind_is says)) (bad, h, shallow, says)
 fails_stands n d s p q Wanted x shallow others (inr (inl (h, says))) = subst (λ k. StandsAt k x n d s p q) (sym (kind_is says)) (h, shallow, says)
@@ -90,7 +89,7 @@ fails_stands n d s p q Wanted x shallow others (inr (inr (c, h, no_such, says)))
     subst (λ k. StandsAt k x n d s p q) (sym (kind_is says)) (c, (h, others c h no_such), says)
 
 -- no wanted token stands where tokens lead
-pub fails : {n : ℕ} {d e : Due} {s v : List Form} {p q w : Place} (u : IsUnfinished e v) (Wanted : lex.Token → Type 0) (x : ParserError) → Reached n d s p e v q → (IsTooDeep n e v q → ⊥) →
+pub fails : {n : ℕ} {d e : Due} {s v : List Form} {p q w : Place} (u : IsUnfinished e v) (Wanted : lex.Token → Type 0) (x : Diagnostic) → Reached n d s p e v q → (IsTooDeep n e v q → ⊥) →
     ((c : lex.Token) → TakesItem q (Some (Ok c)) w → (Wanted c → ⊥) → step n e v (token_of c (text_at w)) ≡ unexpected) → Fails Wanted x q w → FailsBySyntax x n d s p w
 fails {n} {d} {e} {s} {v} {p} {q} {w} u Wanted x h shallow others f = λ apart. refused_there u x h (fails_stands n e v q w Wanted x shallow others f)
 
@@ -98,7 +97,7 @@ pub any_token : (n : ℕ) (d : Due) (s : List Form) (p q : Place) → (c : lex.T
 any_token n d s p q c h no_such = absurd (no_such tt)
 
 -- an unexpected token that was taken
-pub unexpected_there : {n : ℕ} {d e : Due} {s v : List Form} {p q w : Place} (u : IsUnfinished e v) (x : ParserError) (c : lex.Token) → Reached n d s p e v q → TakesItem q (Some (Ok c)) w → step n e v (token_of c (text_at w)) ≡ unexpected →
+pub unexpected_there : {n : ℕ} {d e : Due} {s v : List Form} {p q w : Place} (u : IsUnfinished e v) (x : Diagnostic) (c : lex.Token) → Reached n d s p e v q → TakesItem q (Some (Ok c)) w → step n e v (token_of c (text_at w)) ≡ unexpected →
     Says x kind.UnexpectedToken (span_at w) (Some (class_name c)) → FailsBySyntax x n d s p w
 unexpected_there {n} {d} {e} {s} {v} {p} {q} {w} u x c h t f says = λ apart. refused_there u x h
     (subst (λ z. StandsAt z x n e v q w) (sym (kind_is says)) (c, (t, f), says))
@@ -187,7 +186,7 @@ value_deep n d s p deep = record { full = deep.full; due = tt; no_close = λ t q
 item_deep : (n : ℕ) (d : Due) (s : List Form) (p : Place) → IsItemDue d → NoClose s p → IsTooDeep n value s p → IsTooDeep n d s p
 item_deep n d s p i apart deep = record { full = deep.full; due = item_due d i; no_close = λ t q h. sym (item_step n d s t i (apart t q h)) ∙ level_deep n s t deep.full }
 
-item_stands : (k : ParserErrorKind) (x : ParserError) (n : ℕ) (d : Due) (s : List Form) (p q : Place) → IsItemDue d → NoClose s p → StandsAt k x n value s p q → StandsAt k x n d s p q
+item_stands : (k : ParserErrorKind) (x : Diagnostic) (n : ℕ) (d : Due) (s : List Form) (p q : Place) → IsItemDue d → NoClose s p → StandsAt k x n value s p q → StandsAt k x n d s p q
 item_stands kind.EmptyTuple x n d s p q i apart (c, (h, e), f) = (c, (h, sym (item_step n d s (token_of c (text_at q)) i (apart _ q (token_there p q c h))) ∙ e), f)
 item_stands kind.InvalidToken x n d s p q i apart (bad, h, shallow, f) = (bad, h, (λ deep. shallow (value_deep n d s p deep)), f)
 item_stands kind.UnexpectedEnd x n d s p q i apart (h, shallow, f) = (h, (λ deep. shallow (value_deep n d s p deep)), f)
@@ -200,7 +199,7 @@ item_within : (d : Due) → IsItemDue d → IsWithin d
 item_within d (inl e) = subst IsWithin (sym e) tt
 item_within d (inr e) = subst IsWithin (sym e) tt
 
-item_refused : (x : ParserError) (n : ℕ) (d : Due) (s : List Form) (p q : Place) → IsItemDue d → NoClose s p → (ts : List Token) (at : Place) (e : Due) (v : List Form) →
+item_refused : (x : Diagnostic) (n : ℕ) (d : Due) (s : List Form) (p q : Place) → IsItemDue d → NoClose s p → (ts : List Token) (at : Place) (e : Due) (v : List Form) →
     TakesTokens p ts at → Leads n value s ts e v → IsUnfinished e v → StandsAt x.kind x n e v at q → IsSyntaxError x n d s p q
 item_refused x n d s p q i apart [] at e v taken (a, b) u stands = record {
   unfinished = inl (item_within d i);
@@ -223,7 +222,7 @@ item_refused x n d s p q i apart (t ∷ ts) at e v (m, one, more) (d', s', a, le
   stands = stands;
 }
 
-pub item_refuses : {n : ℕ} {s : List Form} {p q : Place} (d : Due) (x : ParserError) → IsItemDue d → NoClose s p → FailsBySyntax x n value s p q → FailsBySyntax x n d s p q
+pub item_refuses : {n : ℕ} {s : List Form} {p q : Place} (d : Due) (x : Diagnostic) → IsItemDue d → NoClose s p → FailsBySyntax x n value s p q → FailsBySyntax x n d s p q
 item_refuses {n} {s} {p} {q} d x i apart h = λ known. let r = h known in item_refused x n d s p q i apart r.tokens r.at r.due_there r.open_there r.taken r.leads r.unfinished r.stands
 
 value_not_behind : (p : Place) → IsBehind value p → ⊥
@@ -251,11 +250,11 @@ tokens_less p q (t ∷ ts) (m, (c, h, e), more) = let one = token_less p m c h i
 
 -- ---- the answers of calls
 
-pub handed : {X : Type 0} {n : ℕ} {d : Due} {s : List Form} {p q : Place} (v : List Form) (r : Result X ParserError) (e : ParserError) → IsErrAnd r (λ f. f ≡ e) → FailsBySyntax e n d s p q → Gives r n d s p q v
+pub handed : {X : Type 0} {n : ℕ} {d : Due} {s : List Form} {p q : Place} (v : List Form) (r : Result X Diagnostic) (e : Diagnostic) → IsErrAnd r (λ f. f ≡ e) → FailsBySyntax e n d s p q → Gives r n d s p q v
 handed v (Ok x) e k h = absurd k
 handed {n = n} {d = d} {s = s} {p = p} {q = q} v (Err f) e k h = subst (λ z. FailsBySyntax z n d s p q) (sym k) h
 
-pub gives_then : {X : Type 0} {n : ℕ} {d e : Due} {s v : List Form} {p q : Place} (b : List Form) (w : Place) (r : Result X ParserError) → Reached n d s p e v q → Gives r n e v q w b → Gives r n d s p w b
+pub gives_then : {X : Type 0} {n : ℕ} {d e : Due} {s v : List Form} {p q : Place} (b : List Form) (w : Place) (r : Result X Diagnostic) → Reached n d s p e v q → Gives r n e v q w b → Gives r n d s p w b
 gives_then b w (Ok x) h k = read_there (then_reached h (reached k)) k.is_behind
 gives_then b w (Err f) h k = then_refuses f h k
 
@@ -320,12 +319,12 @@ pub then_behind : {n : ℕ} {d f : Due} {s v b : List Form} {p q w : Place} (e :
 then_behind {n} {d} {f} {s} {v} {b} {p} {q} {w} e c h is h' x =
     let t = token_there q w c h' in then_token (token_of c (text_at w)) h t (behind_same n e v q w (token_of c (text_at w)) is t ∙ x)
 
-pub fails_behind : {n : ℕ} {d : Due} {s v : List Form} {g : Form} {p q w : Place} (e : Due) (Wanted : lex.Token → Type 0) (x : ParserError) → Reached n d s p e (g ∷ v) q → IsBehind e q →
+pub fails_behind : {n : ℕ} {d : Due} {s v : List Form} {g : Form} {p q w : Place} (e : Due) (Wanted : lex.Token → Type 0) (x : Diagnostic) → Reached n d s p e (g ∷ v) q → IsBehind e q →
     ((c : lex.Token) (text : List ℕ) → (Wanted c → ⊥) → behind_step (g ∷ v) (token_of c text) ≡ unexpected) → Fails Wanted x q w → FailsBySyntax x n d s p w
 fails_behind {n} {d} {s} {v} {g} {p} {q} {w} e Wanted x h is others f =
     fails (inr (omega arith)) Wanted x h (not_deep is) (λ c t apart. behind_same n e (g ∷ v) q w (token_of c (text_at w)) is (token_there q w c t) ∙ others c (text_at w) apart) f
 
-pub unexpected_behind : {n : ℕ} {d : Due} {s v : List Form} {g : Form} {p q w : Place} (e : Due) (x : ParserError) (c : lex.Token) → Reached n d s p e (g ∷ v) q → IsBehind e q → TakesItem q (Some (Ok c)) w → behind_step (g ∷ v) (token_of c (text_at w)) ≡ unexpected →
+pub unexpected_behind : {n : ℕ} {d : Due} {s v : List Form} {g : Form} {p q w : Place} (e : Due) (x : Diagnostic) (c : lex.Token) → Reached n d s p e (g ∷ v) q → IsBehind e q → TakesItem q (Some (Ok c)) w → behind_step (g ∷ v) (token_of c (text_at w)) ≡ unexpected →
     Says x kind.UnexpectedToken (span_at w) (Some (class_name c)) → FailsBySyntax x n d s p w
 unexpected_behind {n} {d} {s} {v} {g} {p} {q} {w} e x c h is t f says =
     unexpected_there (inr (omega arith)) x c h t (behind_same n e (g ∷ v) q w (token_of c (text_at w)) is (token_there q w c t) ∙ f) says
@@ -391,13 +390,13 @@ pub then_same : {n : ℕ} {d e f : Due} {s r v : List Form} {p q w : Place} (c :
 then_same {w = w} c h k x = then_token (token_of c (text_at w)) h (token_there _ w c k) x
 
 -- a repeated flag
-pub repeated_there : {n : ℕ} {d e : Due} {s v : List Form} {p q w : Place} (u : IsUnfinished e v) (x : ParserError) (c : lex.Token) → Reached n d s p e v q → TakesItem q (Some (Ok c)) w → step n e v (token_of c (text_at w)) ≡ repeated_flag →
+pub repeated_there : {n : ℕ} {d e : Due} {s v : List Form} {p q w : Place} (u : IsUnfinished e v) (x : Diagnostic) (c : lex.Token) → Reached n d s p e v q → TakesItem q (Some (Ok c)) w → step n e v (token_of c (text_at w)) ≡ repeated_flag →
     (x.kind ≢ kind.OutOfMemory → Says x kind.DuplicateFlag (span_at w) (Some (repeated_name (name_of (text_at w))))) → FailsBySyntax x n d s p w
 repeated_there {n} {e = e} {v = v} {q = q} {w = w} u x c h t f says = λ apart. refused_there u x h
     (subst (λ z. StandsAt z x n e v q w) (sym (kind_is (says apart))) (c, (t, f), says apart))
 
 -- an empty tuple
-pub empty_there : {n : ℕ} {d e : Due} {s v : List Form} {p q w : Place} (u : IsUnfinished e v) (x : ParserError) (c : lex.Token) → Reached n d s p e v q → TakesItem q (Some (Ok c)) w → step n e v (token_of c (text_at w)) ≡ empty_tuple →
+pub empty_there : {n : ℕ} {d e : Due} {s v : List Form} {p q w : Place} (u : IsUnfinished e v) (x : Diagnostic) (c : lex.Token) → Reached n d s p e v q → TakesItem q (Some (Ok c)) w → step n e v (token_of c (text_at w)) ≡ empty_tuple →
     Says x kind.EmptyTuple (span q.lexer.start w.lexer.end) None → FailsBySyntax x n d s p w
 empty_there {n} {e = e} {v = v} {q = q} {w = w} u x c h t f says = λ apart. refused_there u x h
     (subst (λ z. StandsAt z x n e v q w) (sym (kind_is says)) (c, (t, f), says))
@@ -420,7 +419,7 @@ abbrev item_of : lex.Token → Option (Result lex.Token (Range ℕ))
 item_of c = Some (Ok c)
 
 -- what stands next is an item of this class, and it was asked for
-pub expected : {X : Type 0} (p q w : Place) (class : lex.Token) (x : ParserError) → q ≡ p → (next : Place) × TakesItem p (Some (Ok class)) next → Fails (λ k. k ≡ class) x q w → X
+pub expected : {X : Type 0} (p q w : Place) (class : lex.Token) (x : Diagnostic) → q ≡ p → (next : Place) × TakesItem p (Some (Ok class)) next → Fails (λ k. k ≡ class) x q w → X
 expected p q w class x e (next, h) f = absurd (not_there f)
   where
     not_error : (span : Range ℕ) → item_of class ≡ Some (Err span) → ⊥
@@ -469,6 +468,6 @@ flag_within d names p (inl e) = subst IsWithin (sym e) tt
 flag_within d names p (inr (text, e, f, apart)) = subst IsWithin (sym e) tt
 
 -- the answer of a call that can refuse for want of memory alone, behind a value
-pub gives_read : {X : Type 0} {n : ℕ} {d : Due} {s : List Form} {p q : Place} (v : List Form) (r : Result X ParserError) → IfErr r (λ e. e.kind ≡ kind.OutOfMemory) → LeadsBehindValue n d s p q v → Gives r n d s p q v
+pub gives_read : {X : Type 0} {n : ℕ} {d : Due} {s : List Form} {p q : Place} (v : List Form) (r : Result X Diagnostic) → IfErr r (λ e. e.kind ≡ kind.OutOfMemory) → LeadsBehindValue n d s p q v → Gives r n d s p q v
 gives_read v (Ok x) h read = read
 gives_read v (Err e) h read = λ apart. absurd (apart h)

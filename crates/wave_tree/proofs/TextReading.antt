@@ -6,10 +6,9 @@ use Rattle.std.proofs.lemmas.List.{append-nil, take_all, drop-drop}
 use Rattle.wave_wasm.specs.Types.{TypeTree}
 use Rattle.wave_wasm.specs.Values.{Value}
 use Rattle.wave_lex.specs.declared.lex.Token as lex
-use Rattle.wave_lex.specs.declared.error.ParserError.{ParserError}
 use Rattle.wave_lex.specs.declared.error.ParserErrorKind.{ParserErrorKind}
 use Rattle.wave_lex.specs.declared.error.ParserErrorKind.TheVariants as kind
-use Rattle.wave_lex.specs.Errors.{refusal_of}
+use Rattle.wave_lex.specs.Errors.{Diagnostic, refusal_of}
 use Rattle.wave_lex.specs.Tokenization.{IsGap, Front, remainder_of}
 use Rattle.wave_lex.proofs.Next.{next_one}
 use Rattle.wave_grammar.specs.Token as token
@@ -185,7 +184,7 @@ whole_read T s p t v read h (tokens, cut, reads) =
     }
 
 -- where no tree stands a text means nothing
-pub refused_means_none : (T : TypeTree) (s : List ℕ) (e : ParserError) (p : Place) → IsSyntaxError e 100 value [] (start_of s) p → MeansNone T s
+pub refused_means_none : (T : TypeTree) (s : List ℕ) (e : Diagnostic) (p : Place) → IsSyntaxError e 100 value [] (start_of s) p → MeansNone T s
 refused_means_none T s e p h v (tokens, cut, reads) =
     let all = all_of s tokens cut in
     let (u, takes, tree_reads) = through T 100 tokens v [] reads (λ more e. cc) in
@@ -198,7 +197,7 @@ memory_or kind.OutOfMemory = inl refl
 memory_or k = inr (λ e. cc)
 
 -- what a value that could not be read says of the text
-pub value_refused : (Full : TypeTree → Type 0) (T : TypeTree) (s : List ℕ) (p : Place) (e : ParserError) → RefusesValue Full T e (start_of s) p → RefusesText Full T s e
+pub value_refused : (Full : TypeTree → Type 0) (T : TypeTree) (s : List ℕ) (p : Place) (e : Diagnostic) → RefusesValue Full T e (start_of s) p → RefusesText Full T s e
 value_refused Full T s p e h distinct = by (memory_or e.kind)
   where
     by_blame : (k : IsTypeRefused Full T e (start_of s) p) → Fault T k.placed (refusal_of e) e.span × typed.ReadsNone T k.placed ⊎ (e.kind ≡ kind.WasmValueError) × (Full T → ⊥) →
@@ -215,7 +214,7 @@ value_refused Full T s p e h distinct = by (memory_or e.kind)
     by (inr apart) = by_kind (h apart)
 
 -- what follows a value is refused
-pub trailing_refused : {V : Type 0} (tree_of_value : V → Value) (of : V → TypeTree → Type 0) (Full : TypeTree → Type 0) (T : TypeTree) (s : List ℕ) (p : Place) (v : V) (e : ParserError) → IsValueTaken tree_of_value of T (start_of s) p v → IsTrailing e p → RefusesText Full T s e
+pub trailing_refused : {V : Type 0} (tree_of_value : V → Value) (of : V → TypeTree → Type 0) (Full : TypeTree → Type 0) (T : TypeTree) (s : List ℕ) (p : Place) (v : V) (e : Diagnostic) → IsValueTaken tree_of_value of T (start_of s) p v → IsTrailing e p → RefusesText Full T s e
 trailing_refused tree_of_value of Full T s p v e h trails distinct =
     let (behind, any, says) = trails in
     inr (inl (
@@ -230,6 +229,6 @@ value_meant tree_of_value of T s p v h ends distinct =
     (means_of T s p (tree_of h.placed) (tree_of_value v) h.taken ends it.reads, it.is_of)
 
 -- a refusal that is handed on
-pub refusal_handed : {X : Type 0} (Full : TypeTree → Type 0) (T : TypeTree) (s : List ℕ) (r : Result X ParserError) (e : ParserError) → IsErrAnd r (λ f. f ≡ e) → RefusesText Full T s e → IfErr r (RefusesText Full T s)
+pub refusal_handed : {X : Type 0} (Full : TypeTree → Type 0) (T : TypeTree) (s : List ℕ) (r : Result X Diagnostic) (e : Diagnostic) → IsErrAnd r (λ f. f ≡ e) → RefusesText Full T s e → IfErr r (RefusesText Full T s)
 refusal_handed Full T s (Ok x) e k h = tt
 refusal_handed Full T s (Err f) e k h = subst (RefusesText Full T s) (sym k) h

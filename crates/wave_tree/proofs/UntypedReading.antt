@@ -1,7 +1,7 @@
 -- What tree a text spells, by what a parser takes of it.
 use Rattle.std.proofs.Common.{◌≡◌, ℕ, inl, inr, List, [], sym, subst, Result, Ok, Err, None}
 use Rattle.std.specs.Prelude.{IfErr, IsErrAnd}
-use Rattle.wave_lex.specs.declared.error.ParserError.{ParserError}
+use Rattle.wave_lex.specs.Errors.{Diagnostic}
 use Rattle.wave_grammar.specs.Tree.{Tree}
 use Rattle.wave_grammar.specs.SpannedTree.{tree_of}
 use Rattle.wave_grammar.specs.ParserPosition.{Place, TakesItem}
@@ -39,7 +39,7 @@ untyped_of s p u (same, h) ends = record {
 }
 
 -- where no tree stands a text spells none
-pub refused_spells_none : (s : List ℕ) (e : ParserError) (p : Place) → FailsBySyntax e 100 value [] (start_of s) p → RefusesTree s e
+pub refused_spells_none : (s : List ℕ) (e : Diagnostic) (p : Place) → FailsBySyntax e 100 value [] (start_of s) p → RefusesTree s e
 refused_spells_none s e p h apart =
     let k = h apart in (
       inl (p, k),
@@ -47,7 +47,7 @@ refused_spells_none s e p h apart =
     )
 
 -- nor does one where something follows the tree
-pub trailing_spells_none : (s : List ℕ) (e : ParserError) (p : Place) (u : Untyped) → LeadsBehindValue 100 value [] (start_of s) p [] → IsUntypedTaken (start_of s) p u → IsTrailing e p → RefusesTree s e
+pub trailing_spells_none : (s : List ℕ) (e : Diagnostic) (p : Place) (u : Untyped) → LeadsBehindValue 100 value [] (start_of s) p [] → IsUntypedTaken (start_of s) p u → IsTrailing e p → RefusesTree s e
 trailing_spells_none s e p u read (same, h) trails apart =
     let (behind, any, says) = trails in (
       inr (p, tree_of h.placed, read, h.taken, trails),
@@ -55,6 +55,6 @@ trailing_spells_none s e p u read (same, h) trails apart =
     )
 
 -- a refusal that is handed on
-pub tree_refusal_handed : {X : Type 0} (s : List ℕ) (r : Result X ParserError) (e : ParserError) → IsErrAnd r (λ f. f ≡ e) → RefusesTree s e → IfErr r (RefusesTree s)
+pub tree_refusal_handed : {X : Type 0} (s : List ℕ) (r : Result X Diagnostic) (e : Diagnostic) → IsErrAnd r (λ f. f ≡ e) → RefusesTree s e → IfErr r (RefusesTree s)
 tree_refusal_handed s (Ok x) e k h = tt
 tree_refusal_handed s (Err f) e k h = subst (RefusesTree s) (sym k) h

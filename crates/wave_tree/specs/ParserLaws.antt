@@ -1,7 +1,6 @@
 -- What the answers to reading a value say of the tokens that stand there.
 use Rattle.std.specs.Prelude.{ℕ, ◌≡◌, ◌⊎◌, ◌+◌, ◌≤◌, List, [], length}
 use Rattle.wave_lex.specs.Tokenization.{Lexed}
-use Rattle.wave_lex.specs.declared.error.ParserError.{ParserError}
 use Rattle.wave_grammar.specs.Token.{Token}
 use Rattle.wave_grammar.specs.Tree as tree
 use Rattle.wave_grammar.specs.Tree.{Tree}
@@ -9,7 +8,7 @@ use Rattle.wave_grammar.specs.ParserPosition.{Place, TakesToken, TakesTokens}
 use Rattle.wave_grammar.specs.PrefixAutomaton.{value}
 use Rattle.wave_grammar.specs.SyntaxErrors.{LeadsBehindValue, IsSyntaxError}
 use Rattle.wave_tree.specs.ParserState.{Parsing, asked, HasTokens, Asks, IsTrailing}
-use Rattle.wave_lex.specs.Errors.{LiesInText}
+use Rattle.wave_lex.specs.Errors.{Diagnostic, LiesInText}
 
 -- the tokens from the place on, up to the end or to what is no token
 abbrev pub AreNext : Place → List Token → Type 0
@@ -23,7 +22,7 @@ ReadHaveATree =
 -- where a value was refused, no tree stood within n levels
 abbrev pub RefusedHaveNone : Type 0
 RefusedHaveNone =
-    (n : ℕ) (e : ParserError) (p q : Place) (ts : List Token) → IsSyntaxError e n value [] p q → AreNext p ts → (t : Tree) (rest : List Token) → tree.Takes n ts t rest → ⊥
+    (n : ℕ) (e : Diagnostic) (p q : Place) (ts : List Token) → IsSyntaxError e n value [] p q → AreNext p ts → (t : Tree) (rest : List Token) → tree.Takes n ts t rest → ⊥
 
 -- in front of n tokens a new parser asks n + 1 times at most to read a value, and, where it has read one, to look whether something follows
 abbrev pub AskingsAreFew : Type 0
@@ -38,4 +37,4 @@ LiesInSource l = (l.start ≤ l.end) × (l.end ≤ length l.source)
 -- the span of a syntax refusal, and of what follows a value, lies in the source
 abbrev pub RefusalsLieInText : Type 0
 RefusalsLieInText =
-    (e : ParserError) (p : Place) → LiesInSource p.lexer → ((n : ℕ) × (q : Place) × IsSyntaxError e n value [] p q) ⊎ IsTrailing e p → LiesInText p.lexer.source e.span
+    (e : Diagnostic) (p : Place) → LiesInSource p.lexer → ((n : ℕ) × (q : Place) × IsSyntaxError e n value [] p q) ⊎ IsTrailing e p → LiesInText p.lexer.source e.span

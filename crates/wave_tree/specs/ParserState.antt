@@ -2,9 +2,8 @@
 use Rattle.std.specs.Prelude.{ℕ, ◌≡◌, ◌⊎◌, ◌+◌, ◌≤◌, max, length, List, Some, None, Result, Ok, Err}
 use Rattle.std.specs.declared.ops.Range.{Range}
 use Rattle.wave_lex.specs.declared.lex.Token as lex
-use Rattle.wave_lex.specs.declared.error.ParserError.{ParserError}
 use Rattle.wave_lex.specs.declared.error.ParserErrorKind.TheVariants.{InvalidToken, UnexpectedEnd, UnexpectedToken, TrailingCharacters, OutOfMemory}
-use Rattle.wave_lex.specs.Errors.{class_name, Says}
+use Rattle.wave_lex.specs.Errors.{Diagnostic, class_name, Says}
 use Rattle.wave_lex.specs.Tokenization.{Lexed}
 use Rattle.wave_grammar.specs.Token.{Token}
 use Rattle.wave_grammar.specs.ParserPosition.{Place, TakesItem, TakesAny, TakesTokens, span_at}
@@ -35,21 +34,21 @@ abbrev pub Asks : Parsing → Parsing → Type 0
 Asks old new = (n : ℕ) → HasTokens old.place n → asked new ≤ max (asked old) (old.place.taken + n + 1)
 
 -- no token of the wanted classes stands next
-abbrev pub Fails : (lex.Token → Type 0) → ParserError → Place → Place → Type 0
+abbrev pub Fails : (lex.Token → Type 0) → Diagnostic → Place → Place → Type 0
 Fails Wanted e old new =
     ((bad : Range ℕ) × TakesItem old (Some (Err bad)) new × Says e InvalidToken bad None)
     ⊎ (TakesItem old None new × Says e UnexpectedEnd (span_at new) None)
     ⊎ ((c : lex.Token) × TakesItem old (Some (Ok c)) new × (Wanted c → ⊥) × Says e UnexpectedToken (span_at new) (Some (class_name c)))
 
 -- `TrailingCharacters`, at what stands next
-abbrev pub IsTrailing : ParserError → Place → Type 0
+abbrev pub IsTrailing : Diagnostic → Place → Type 0
 IsTrailing e p = (behind : Place) × TakesAny p behind × Says e TrailingCharacters (span_at behind) None
 
 -- nothing is left but a gap, or what stands next is refused
-abbrev pub Finishes : Result (Unit {0}) ParserError → Place → Type 0
+abbrev pub Finishes : Result (Unit {0}) Diagnostic → Place → Type 0
 Finishes (Ok u) p = (behind : Place) × TakesItem p None behind
 Finishes (Err e) p = IsTrailing e p
 
 -- want of memory leaves the place as it was, and names the last item before it
-abbrev pub StaysWithout : ParserError → Place → Place → Type 0
+abbrev pub StaysWithout : Diagnostic → Place → Place → Type 0
 StaysWithout e old new = e.kind ≡ OutOfMemory → (new.lexer ≡ old.lexer) × Says e OutOfMemory (span_at old) None

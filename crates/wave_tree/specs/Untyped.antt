@@ -1,6 +1,6 @@
 -- What untyped values are in a contract, and what reading one from a text answers.
 use Rattle.std.specs.Prelude.{ℕ, ◌≡◌, ◌≢◌, ◌⊎◌, List, [], None}
-use Rattle.wave_lex.specs.declared.error.ParserError.{ParserError}
+use Rattle.wave_lex.specs.Errors.{Diagnostic}
 use Rattle.wave_lex.specs.declared.error.ParserErrorKind.TheVariants.{OutOfMemory}
 use Rattle.wave_grammar.specs.Tree.{Tree}
 use Rattle.wave_grammar.specs.ParserPosition.{Place, TakesItem}
@@ -34,11 +34,11 @@ pub record IsUntypedOf (s : List ℕ) (u : Untyped) : Type 0 where
   pub ends : (behind : Place) × TakesItem last None behind
 
 -- what is wrong with the text: no tree begins it, or something follows the tree
-abbrev pub SyntaxFault : List ℕ → ParserError → Type 0
+abbrev pub SyntaxFault : List ℕ → Diagnostic → Type 0
 SyntaxFault s e =
     ((p : Place) × IsSyntaxError e 100 value [] (start_of s) p)
     ⊎ ((p : Place) × (t : Tree) × LeadsBehindValue 100 value [] (start_of s) p [] × IsTaken (start_of s) p t × IsTrailing e p)
 
 -- want of memory; or a fault of the text, which spells no tree
-abbrev pub RefusesTree : List ℕ → ParserError → Type 0
+abbrev pub RefusesTree : List ℕ → Diagnostic → Type 0
 RefusesTree s e = (e.kind ≢ OutOfMemory) → SyntaxFault s e × SpellsNoTree s

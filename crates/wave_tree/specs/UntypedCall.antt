@@ -4,7 +4,6 @@ use Rattle.wave_wasm.specs.Types.{TypeTree}
 use Rattle.wave_wasm.specs.Values.{Value}
 use Rattle.std.specs.declared.ops.Range.{Range}
 use Rattle.wave_lex.specs.declared.lex.Token.TheVariants.{ParenOpen, ParenClose}
-use Rattle.wave_lex.specs.declared.error.ParserError.{ParserError}
 use Rattle.wave_lex.specs.declared.error.ParserErrorKind.TheVariants.{InvalidToken, UnexpectedEnd, OutOfMemory}
 use Rattle.wave_lex.specs.LongestMatch.{IsFront}
 use Rattle.wave_lex.specs.Tokens.{any}
@@ -16,7 +15,7 @@ use Rattle.wave_grammar.specs.Calls.{IsCall}
 use Rattle.wave_grammar.specs.ParserPosition as place
 use Rattle.wave_grammar.specs.ParserPosition.{Place, TakesTokens}
 use Rattle.wave_grammar.specs.PrefixAutomaton.{value, first_item, tuple}
-use Rattle.wave_lex.specs.Errors.{Says}
+use Rattle.wave_lex.specs.Errors.{Diagnostic, Says}
 use Rattle.wave_grammar.specs.SyntaxErrors.{LeadsBehindValue, IsSyntaxError}
 use Rattle.wave_grammar.specs.SpannedTree.{Placed, tree_of, slice}
 use Rattle.wave_node.specs.NodeTree.{NodeTree, type_of}
@@ -80,19 +79,19 @@ AreParamsTaken old new None = (m : Place) × TakesClass ParenOpen old m × Takes
 AreParamsTaken old new (Some n) = IsTupleTaken 100 old new n
 
 -- no `(` stands there; or what is behind it is no `)`, and is refused where items of a tuple are due, each within 100 levels
-abbrev pub RefusesTuple : ParserError → Place → Place → Type 0
+abbrev pub RefusesTuple : Diagnostic → Place → Place → Type 0
 RefusesTuple e old new =
     Fails (λ c. c ≡ ParenOpen) e old new
     ⊎ ((m : Place) × TakesClass ParenOpen old m × ((q : Place) → TakesClass ParenClose m q → ⊥) × IsSyntaxError e 101 first_item (tuple ∷ []) m new)
 
 -- the text is empty, or begins with no function name
-abbrev pub NameFault : List ℕ → ParserError → Type 0
+abbrev pub NameFault : List ℕ → Diagnostic → Type 0
 NameFault s e =
     (s ≡ []) × Says e UnexpectedEnd (span 0 0) None
     ⊎ ((k : ℕ) × NoName s × IsFront any s k × Says e InvalidToken (span 0 k) None)
 
 -- what is wrong with the text: it begins with no name; or no parameters follow the name; or something follows them
-abbrev pub CallFault : List ℕ → ParserError → Type 0
+abbrev pub CallFault : List ℕ → Diagnostic → Type 0
 CallFault s e =
     NameFault s e
     ⊎ ((k : ℕ) × (p : Place) × IsName s k × RefusesTuple e (behind_name s k) p)
@@ -103,7 +102,7 @@ abbrev pub IsNoCall : List ℕ → Type 0
 IsNoCall s = (name : List ℕ) (params : MaybeTree) → IsCall s name params → ⊥
 
 -- want of memory; or a fault of the text, which is no call
-abbrev pub RefusesCall : List ℕ → ParserError → Type 0
+abbrev pub RefusesCall : List ℕ → Diagnostic → Type 0
 RefusesCall s e = (e.kind ≢ OutOfMemory) → CallFault s e × IsNoCall s
 
 -- the text that shows the parameters
@@ -116,7 +115,7 @@ abbrev pub call_shown : Called → List ℕ
 call_shown u = slice u.source u.name ++ params_at u.source u.params
 
 -- a refusal of the parameters at the types
-abbrev pub RefusesParamsAt : (TypeTree → Type 0) → List TypeTree → List ℕ → Range ℕ → Option NodeTree → ParserError → Type 0
+abbrev pub RefusesParamsAt : (TypeTree → Type 0) → List TypeTree → List ℕ → Range ℕ → Option NodeTree → Diagnostic → Type 0
 RefusesParamsAt Full Ts source name None e = RefusesNone Full Ts name e
 RefusesParamsAt Full Ts source name (Some n) e = (t : Placed) → IsNodeOf source n t → RefusesParams Full Ts n t e
 

@@ -76,9 +76,9 @@ pub struct Parser<'source> {
 impl<'source> Model for Parser<'source> {
     ghost Value = { Parsing };
 
-    ghost view = { λ p. record { place = record { lexer = p.lexer; taken = p.asked.count - ahead_count p.ahead }; ahead = ahead_count p.ahead } };
+    ghost view = { λ p. record { place = record { lexer = p.lexer; taken = p.asked - ahead_count p.ahead }; ahead = ahead_count p.ahead } };
 
-    ghost invariant = { λ p. IsAhead p.lexer p.ahead × (ahead_count p.ahead ≤ p.asked.count) };
+    ghost invariant = { λ p. IsAhead p.lexer p.ahead × (ahead_count p.ahead ≤ p.asked) };
 }
 
 /// Where a call began: the lexer as it stood, with its source and the span of its last item.

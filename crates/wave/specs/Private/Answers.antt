@@ -1,7 +1,7 @@
 -- What the parts of the program answer to each other.
 use Rattle.std.specs.Prelude.{ℕ, List, ◌≡◌, ◌≢◌, string_bytes}
 use Rattle.std.specs.declared.option.Option.{Option}
-use Rattle.wave_lex.specs.declared.error.ParserError.{ParserError}
+use Rattle.wave_lex.specs.Errors.{Diagnostic}
 use Rattle.wave_lex.specs.declared.error.ParserErrorKind.TheVariants as kind
 use Rattle.wave.specs.declared.answer.Unanswered.{Unanswered}
 use Rattle.wave.specs.declared.answer.Unanswered.TheVariants as why
@@ -17,7 +17,7 @@ IsUnanswered request whole (why.Refused e) = IsRefused request whole e
 IsUnanswered request whole why.OutOfMemory = Unit {0}
 
 -- the error is that refusal, or else want of memory
-abbrev pub MatchesRefusal : ParserError → Unanswered → Type 0
+abbrev pub MatchesRefusal : Diagnostic → Unanswered → Type 0
 MatchesRefusal e (why.Refused refusal) = (refusal ≡ e) × (e.kind ≢ kind.OutOfMemory)
 MatchesRefusal e why.OutOfMemory = e.kind ≡ kind.OutOfMemory
 

@@ -1,7 +1,6 @@
 -- Worked examples of refusals: tokens that begin no tree, and placed trees that a type does not take.
 use Rattle.std.proofs.Common.{ℕ, ◌≡◌, ◌+◌, inl, inr, List, [], ◌∷◌, map, codes, refl, arith, None}
 use Prim.Native.String.{String}
-use Rattle.wave_lex.specs.declared.error.ParserError.{ParserError}
 use Rattle.wave_lex.specs.declared.error.ParserErrorKind.TheVariants.{UnexpectedEnd, NestingTooDeep, InvalidType, InvalidValue, InvalidMultilineString, DuplicateField}
 use Rattle.wave_lex.specs.Tokenization.{span}
 use Rattle.wave_lex.specs.Tokens.{gap}
@@ -10,7 +9,7 @@ use Rattle.wave_grammar.specs.Token.{Token, number, multiline}
 use Rattle.wave_grammar.specs.Tree as tree
 use Rattle.wave_grammar.specs.LenientTree.{TakesLoosely}
 use Rattle.wave_grammar.specs.ParserPosition.{Place}
-use Rattle.wave_lex.specs.Errors.{Says, Refusal, plainly, caused}
+use Rattle.wave_lex.specs.Errors.{Diagnostic, Says, Refusal, plainly, caused}
 use Rattle.wave_grammar.specs.SyntaxErrors.{StandsAt}
 use Rattle.wave_grammar.specs.PrefixAutomaton as due
 use Rattle.wave_grammar.specs.PrefixAutomaton.{Step, step, Leads, reads, unexpected, empty_tuple, repeated_flag, too_deep, value, first_item, next_item, behind_value}
@@ -53,11 +52,11 @@ led : Leads 100 value [] (tokens "{a, %b") (due.behind_flag (codes "a" ∷ codes
 led = ((_, _, refl, (_, _, refl, (_, _, refl, (_, _, refl, (refl, refl))))), inl (_ ∷ [], (_, inr (inl (refl, refl)), inl refl), refl), inr (inr (_, codes "a" ∷ codes "a" ∷ [], omega arith, refl, (_, refl, (_, _, refl, refl, inl refl)), refl)))
 
 -- `[` ends, and what stands there is refused at 1..1; where no level is left, whatever stands there
-end_refused : (e : ParserError) → Says e UnexpectedEnd (span 1 1) None
+end_refused : (e : Diagnostic) → Says e UnexpectedEnd (span 1 1) None
     → StandsAt UnexpectedEnd e 100 first_item (due.list ∷ []) (record { lexer = record { source = codes "["; start = 0; end = 1 }; taken = 1 }) (record { lexer = record { source = codes "["; start = 1; end = 1 }; taken = 2 })
 end_refused e says = ((record { source = refl; skipped = longest_here gap _ _ refl refl refl refl; start = refl; end = refl }, refl), (λ deep. omega (arith, deep.full)), says)
 
-level_refused : (e : ParserError) (p : Place) → Says e NestingTooDeep (span p.lexer.start p.lexer.end) None → StandsAt NestingTooDeep e 0 value [] p p
+level_refused : (e : Diagnostic) (p : Place) → Says e NestingTooDeep (span p.lexer.start p.lexer.end) None → StandsAt NestingTooDeep e 0 value [] p p
 level_refused e p says = (record { full = omega arith; due = tt; no_close = λ t new h. refl }, refl, says)
 
 -- a leaf, a label of one byte with or without payload, and the fault of `256` at u8

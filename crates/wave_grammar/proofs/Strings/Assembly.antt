@@ -6,7 +6,7 @@ use Rattle.std.proofs.lemmas.List.{append-nil}
 use Rattle.std.specs.declared.ops.Range.{Range}
 use Rattle.wave_lex.specs.declared.strings.StringPart.{StringPart}
 use Rattle.wave_lex.specs.declared.strings.StringPart.TheVariants.{Run, Char}
-use Rattle.wave_lex.specs.declared.error.ParserError.{ParserError}
+use Rattle.wave_lex.specs.Errors.{Diagnostic}
 use Rattle.wave_lex.specs.Remaining.{Undecoded, LinesLeft}
 use Rattle.wave_lex.specs.Parts.{part_text, part_texts, PartIs, LinePartIs, LinesRunTo}
 use Rattle.wave_lex.proofs.LineParts.{LinesRun, run_more, run_ended, run_refused, texts_more}
@@ -34,7 +34,7 @@ pub all_came : (first left next : LinesLeft) (front text : List ℕ) → CameSoF
 all_came first left next front text (parts, run, e) step = (parts, run_ended first left next parts run step, e)
 
 -- a refusal
-pub refused_behind : (first left next : LinesLeft) (front text : List ℕ) (e : ParserError) → CameSoFar first left front text → LinePartIs left (Some (Err e)) next → (parts : List StringPart) × LinesRunTo first parts (Some e)
+pub refused_behind : (first left next : LinesLeft) (front text : List ℕ) (e : Diagnostic) → CameSoFar first left front text → LinePartIs left (Some (Err e)) next → (parts : List StringPart) × LinesRunTo first parts (Some e)
 refused_behind first left next front text e (parts, run, same) step = (parts, run_refused first left next parts e run step)
 
 -- the text in front, and the first part behind it
@@ -46,9 +46,9 @@ pub all_behind : (first : LinesLeft) (front same text : List ℕ) → front ≡ 
 all_behind first front same text e h = subst (λ (z : List ℕ). (parts : List StringPart) × LinesRunTo first parts None × (text ≡ z ++ part_texts parts)) e h
 
 -- a refusal of a part is handed on
-pub handed_on : {A : Type 0} (P : Type 0) (front : List ℕ) (l : LinesLeft) (place : Range ℕ) (e : ParserError) (r : Result (CowStr A) ParserError) → IsErrAnd r (λ f. f ≡ e) → (parts : List StringPart) × LinesRunTo l parts (Some e) → PutTogether P front l place r
+pub handed_on : {A : Type 0} (P : Type 0) (front : List ℕ) (l : LinesLeft) (place : Range ℕ) (e : Diagnostic) (r : Result (CowStr A) Diagnostic) → IsErrAnd r (λ f. f ≡ e) → (parts : List StringPart) × LinesRunTo l parts (Some e) → PutTogether P front l place r
 handed_on P front l place e (Ok c) same h = absurd same
-handed_on P front l place e (Err f) same h = inl (subst (λ (z : ParserError). (parts : List StringPart) × LinesRunTo l parts (Some z)) (sym same) h)
+handed_on P front l place e (Err f) same h = inl (subst (λ (z : Diagnostic). (parts : List StringPart) × LinesRunTo l parts (Some z)) (sym same) h)
 
 -- ---- a part in front of the others
 
@@ -58,7 +58,7 @@ borrowed_so P Q (Borrowed s) to from h = from h
 borrowed_so P Q (Owned s) to from h = λ p. h (to p)
 
 -- a part in front of what is put together
-pub one_in_front : {A : Type 0} (P Q : Type 0) (front longer : List ℕ) (l m : LinesLeft) (p : StringPart) (place : Range ℕ) (r : Result (CowStr A) ParserError) → LinePartIs l (Some (Ok p)) m → longer ≡ front ++ part_text p → (P → Q) → (Q → P) → PutTogether Q longer m place r → PutTogether P front l place r
+pub one_in_front : {A : Type 0} (P Q : Type 0) (front longer : List ℕ) (l m : LinesLeft) (p : StringPart) (place : Range ℕ) (r : Result (CowStr A) Diagnostic) → LinePartIs l (Some (Ok p)) m → longer ≡ front ++ part_text p → (P → Q) → (Q → P) → PutTogether Q longer m place r → PutTogether P front l place r
 one_in_front P Q front longer l m p place (Ok c) step e to from ((parts, run, text), borrowed) =
     ((p ∷ parts, (m, step, run), text ∙ (ap (λ (z : List ℕ). z ++ part_texts parts) e ∙ append_assoc front (part_text p) (part_texts parts))), borrowed_so P Q c to from borrowed)
 one_in_front P Q front longer l m p place (Err e) step same to from (inl (parts, run)) = inl (p ∷ parts, (m, step, run))

@@ -1,15 +1,15 @@
 -- The syntax refusals of a parser: which stands where, and at which span.
 use Rattle.std.specs.Prelude.{ℕ, ◌≡◌, ◌≢◌, ◌⊎◌, ◌≤◌, ◌<◌, ◌+◌, List, ◌++◌, Result, length}
-use Rattle.wave_lex.specs.declared.error.ParserError.{ParserError}
+use Rattle.wave_lex.specs.Errors.{Diagnostic}
 use Rattle.wave_grammar.specs.ParserPosition.{Place}
 use Rattle.wave_grammar.specs.PrefixAutomaton.{Due, Form}
 use Rattle.wave_grammar.specs.SyntaxErrors.{Gives}
 
 -- so within all open forms, where this many levels are left, behind forms that the call itself is to close
-abbrev pub GivesWithin : {X : Type 0} → Result X ParserError → ℕ → Due → List Form → Place → Place → Type 0
+abbrev pub GivesWithin : {X : Type 0} → Result X Diagnostic → ℕ → Due → List Form → Place → Place → Type 0
 GivesWithin result levels d opened old new =
     (n : ℕ) (s : List Form) → n ≡ levels + length s → Gives result n d (opened ++ s) old new s
 
 -- the answer where no level is needed
-abbrev pub GivesAnywhere : {X : Type 0} → Result X ParserError → Due → Place → Place → Type 0
+abbrev pub GivesAnywhere : {X : Type 0} → Result X Diagnostic → Due → Place → Place → Type 0
 GivesAnywhere result d old new = (n : ℕ) (s : List Form) → Gives result n d s old new s

@@ -10,8 +10,7 @@ use Rattle.wave_wasm.specs.ValueErrors.{unknown_case}
 use Rattle.wave_wasm.specs.ConstructorContracts.{IsMemory, MakesEnum, FullEnum}
 use Rattle.wave_wasm.specs.declared.wasm.WasmTypeKind.TheVariants as kinds
 use Rattle.wave_wasm.specs.declared.wasm.WasmValueError.{WasmValueError}
-use Rattle.wave_lex.specs.Errors.{Refusal, refusal_of}
-use Rattle.wave_lex.specs.declared.error.ParserError.{ParserError}
+use Rattle.wave_lex.specs.Errors.{Diagnostic, Refusal, refusal_of}
 use Rattle.wave_lex.specs.declared.error.ParserErrorKind.TheVariants.{InvalidType}
 use Rattle.wave_grammar.specs.Tree as form
 use Rattle.wave_grammar.specs.LeafTokens.{name_of}
@@ -68,7 +67,7 @@ unknown_fault names t p text k q shape none refused =
 
 module _ {V : Type 0} (tree : V → Value) (of : V → TypeTree → Type 0) (Full : TypeTree → Type 0) where
   -- the refusal of a label that is no case
-  pub unknown_blame : (T : TypeTree) (names : List (List ℕ)) (source : List ℕ) (n : NodeTree) (t : Placed) (name : List ℕ) (e : ParserError) → T ≡ type.enum names → placed_of source n ≡ Some t → type_of n ≡ kind.Label → name ≡ name_of (node_text source n) → IsNoneOf names name → IsCaused (unknown_case name) n e → IsBlamed Full T t e
+  pub unknown_blame : (T : TypeTree) (names : List (List ℕ)) (source : List ℕ) (n : NodeTree) (t : Placed) (name : List ℕ) (e : Diagnostic) → T ≡ type.enum names → placed_of source n ≡ Some t → type_of n ≡ kind.Label → name ≡ name_of (node_text source n) → IsNoneOf names name → IsCaused (unknown_case name) n e → IsBlamed Full T t e
   unknown_blame T names source n t name e is node ty named none caused =
       caused_blame Full T source n t (unknown_case name) e node caused (λ refused.
       let fault : Fault (type.enum names) t (refusal_of e) e.span = unknown_fault names t (place_of n) (node_text source n) (refusal_of e) e.span (label_node source n t node ty) (subst (IsNoneOf names) named none) (subst (λ (w : List ℕ). RefusesFor (unknown_case w) (span_of t) (refusal_of e) e.span) named refused) in
@@ -85,7 +84,7 @@ module _ {V : Type 0} (tree : V → Value) (of : V → TypeTree → Type 0) (Ful
   enum_full T names name (Err cause) is h f = λ full. f full names is h
 
   -- the case was made, or its maker refused
-  pub enum_made : (T : TypeTree) (names : List (List ℕ)) (source : List ℕ) (n : NodeTree) (t : Placed) (name : List ℕ) (m : Result V WasmValueError) (r : Result V ParserError) → T ≡ type.enum names → HasDistinctNames T → placed_of source n ≡ Some t → type_of n ≡ kind.Label → name ≡ name_of (node_text source n) → IsOneOf names name → IfOk m (MakesEnum tree of T name) → IfErr m (FullEnum of Full T name) → IsMade n m r → MatchResult r (IsTypedValue tree of T t) (IsBlamed Full T t)
+  pub enum_made : (T : TypeTree) (names : List (List ℕ)) (source : List ℕ) (n : NodeTree) (t : Placed) (name : List ℕ) (m : Result V WasmValueError) (r : Result V Diagnostic) → T ≡ type.enum names → HasDistinctNames T → placed_of source n ≡ Some t → type_of n ≡ kind.Label → name ≡ name_of (node_text source n) → IsOneOf names name → IfOk m (MakesEnum tree of T name) → IfErr m (FullEnum of Full T name) → IsMade n m r → MatchResult r (IsTypedValue tree of T t) (IsBlamed Full T t)
   enum_made T names source n t name m r is distinct node ty named known ok full done =
       let shape = label_node source n t node ty in
       let read : TreeReads (type.enum names) (tree_of t) (value.enum name) = (node_text source n, tree_is t (label (place_of n) (node_text source n) no_placed) shape, subst (IsOneOf names) named known, ap value.enum named) in

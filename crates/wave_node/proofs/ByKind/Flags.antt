@@ -12,8 +12,7 @@ use Rattle.wave_wasm.specs.ValueErrors.{unknown_case}
 use Rattle.wave_wasm.specs.ConstructorContracts.{IsMemory, MakesFlags, FullFlags}
 use Rattle.wave_wasm.specs.declared.wasm.WasmTypeKind.TheVariants as kinds
 use Rattle.wave_wasm.specs.declared.wasm.WasmValueError.{WasmValueError}
-use Rattle.wave_lex.specs.Errors.{Refusal, refusal_of}
-use Rattle.wave_lex.specs.declared.error.ParserError.{ParserError}
+use Rattle.wave_lex.specs.Errors.{Diagnostic, Refusal, refusal_of}
 use Rattle.wave_lex.specs.declared.error.ParserErrorKind.TheVariants.{InvalidType}
 use Rattle.wave_grammar.specs.Tree as form
 use Rattle.wave_grammar.specs.LeafTokens.{name_of}
@@ -74,7 +73,7 @@ label_fault names source n t k q g some = in_form g.form
 
 module _ {V : Type 0} (tree : V → Value) (of : V → TypeTree → Type 0) (Full : TypeTree → Type 0) where
   -- a refusal of the node's flags
-  pub flags_blame : (T : TypeTree) (names : List (List ℕ)) (source : List ℕ) (n : NodeTree) (t : Placed) (e : ParserError) → T ≡ type.flags names → IsNodeOf source n t → RefusesFlags names source n e → IsBlamed Full T t e
+  pub flags_blame : (T : TypeTree) (names : List (List ℕ)) (source : List ℕ) (n : NodeTree) (t : Placed) (e : Diagnostic) → T ≡ type.flags names → IsNodeOf source n t → RefusesFlags names source n e → IsBlamed Full T t e
   flags_blame T names source n t e is node (inl memory) = inl memory
   flags_blame T names source n t e is node (inr (inl h)) =
       let i = inside source n t node.0 in
@@ -99,7 +98,7 @@ module _ {V : Type 0} (tree : V → Value) (of : V → TypeTree → Type 0) (Ful
   all_pass names (one ∷ more) h = let here : is_one_of names one ≡ true = passes names one h.0 in rw here (ap (λ (l : List (List ℕ)). one ∷ l) (all_pass names more h.1))
 
   -- the flags were made, or their maker refused
-  pub flags_made : (T : TypeTree) (names : List (List ℕ)) (source : List ℕ) (n : NodeTree) (t : Placed) (picked : List (Bor (List ℕ))) (m : Result V WasmValueError) (r : Result V ParserError) → T ≡ type.flags names → HasDistinctNames T → IsNodeOf source n t → AreFlags n → AreAllOf names (names_at source (children_of n)) → texts picked ≡ found_in (names_at source (children_of n)) names → IfOk m (MakesFlags tree of T picked) → IfErr m (FullFlags of Full T picked) → IsMade n m r → MatchResult r (IsTypedValue tree of T t) (IsBlamed Full T t)
+  pub flags_made : (T : TypeTree) (names : List (List ℕ)) (source : List ℕ) (n : NodeTree) (t : Placed) (picked : List (Bor (List ℕ))) (m : Result V WasmValueError) (r : Result V Diagnostic) → T ≡ type.flags names → HasDistinctNames T → IsNodeOf source n t → AreFlags n → AreAllOf names (names_at source (children_of n)) → texts picked ≡ found_in (names_at source (children_of n)) names → IfOk m (MakesFlags tree of T picked) → IfErr m (FullFlags of Full T picked) → IsMade n m r → MatchResult r (IsTypedValue tree of T t) (IsBlamed Full T t)
   flags_made T names source n t picked m r is distinct node ok known found makes full done =
       let g = flags_given source n t node ok in
       let words = map (λ (f : Range ℕ × List ℕ). f.1) g.labels in

@@ -11,8 +11,7 @@ use Rattle.wave_wasm.specs.ValueErrors.{cause_of}
 use Rattle.wave_wasm.specs.ConstructorContracts.{IsMemory, MakesLeaf, FullLeaf}
 use Rattle.wave_wasm.specs.declared.wasm.WasmValueError.{WasmValueError}
 use Rattle.wave_wasm.specs.declared.wasm.WasmValueError.TheVariants as error
-use Rattle.wave_lex.specs.Errors.{Refusal, refusal_of, refused_by}
-use Rattle.wave_lex.specs.declared.error.ParserError.{ParserError}
+use Rattle.wave_lex.specs.Errors.{Diagnostic, Refusal, refusal_of, refused_by}
 use Rattle.wave_lex.specs.declared.error.ParserErrorKind.TheVariants.{InvalidType, InvalidValue, OutOfMemory}
 use Rattle.wave_grammar.specs.Token.{Token}
 use Rattle.wave_grammar.specs.Token as token
@@ -91,7 +90,7 @@ pub bool_key : (source : List ℕ) (n : NodeTree) (p : Range ℕ) (key : Token) 
 bool_key source n p key b h given = bool_spelled b (type_of n) (node_text source n) key (key_token source n p key h) given.0 given.1
 
 -- a key of no bool
-pub no_bool_key : (source : List ℕ) (n : NodeTree) (p : Range ℕ) (key : Token) (e : ParserError) → IsTokenOf source n p key → GivesBoolKey source n (Err e) → MapKeyFault type.bool p key (refusal_of e) e.span
+pub no_bool_key : (source : List ℕ) (n : NodeTree) (p : Range ℕ) (key : Token) (e : Diagnostic) → IsTokenOf source n p key → GivesBoolKey source n (Err e) → MapKeyFault type.bool p key (refusal_of e) e.span
 no_bool_key source n p key e h given =
     bool_unspelled (type_of n) (node_text source n) p key (refusal_of e) e.span (key_token source n p key h) given.0 (at_key InvalidType source n p key (refusal_of e) e.span h (said given.1))
 
@@ -134,7 +133,7 @@ pub number_key : {N : Type 0} (which : Whole) (number : N → ℤ) (source : Lis
 number_key which number source n p key x h given = number_spelled which (number x) (type_of n) (node_text source n) key (key_token source n p key h) given.0 given.1
 
 -- a key of no number
-pub no_number_key : {N : Type 0} (which : Whole) (number : N → ℤ) (source : List ℕ) (n : NodeTree) (p : Range ℕ) (key : Token) (e : ParserError) → IsTokenOf source n p key → GivesNumber which number source n (Err e) → MapKeyFault (type.whole which) p key (refusal_of e) e.span
+pub no_number_key : {N : Type 0} (which : Whole) (number : N → ℤ) (source : List ℕ) (n : NodeTree) (p : Range ℕ) (key : Token) (e : Diagnostic) → IsTokenOf source n p key → GivesNumber which number source n (Err e) → MapKeyFault (type.whole which) p key (refusal_of e) e.span
 no_number_key which number source n p key e h (inl given) =
     number_unspelled which (type_of n) (node_text source n) p key (refusal_of e) e.span (key_token source n p key h) given.0 (at_key InvalidType source n p key (refusal_of e) e.span h (said given.1))
 no_number_key which number source n p key e h (inr given) =
@@ -146,12 +145,12 @@ no_number_key which number source n p key e h (inr given) =
 pub one_simple : (T : TypeTree) (K S : Simple) → T ≡ type.simple K → T ≡ type.simple S → S ≡ K
 one_simple T K S e f = let same : type.simple S ≡ type.simple K = sym f ∙ e in cc
 
-refused : (Full : TypeTree → Type 0) (K : Simple) (p : Range ℕ) (key : Token) (cause : WasmValueError) (e : ParserError) → refusal_of e ≡ refused_by (cause_of cause) → (Full (type.simple K) → IsMemory cause) → IsKeyBlamed Full K p key e
+refused : (Full : TypeTree → Type 0) (K : Simple) (p : Range ℕ) (key : Token) (cause : WasmValueError) (e : Diagnostic) → refusal_of e ≡ refused_by (cause_of cause) → (Full (type.simple K) → IsMemory cause) → IsKeyBlamed Full K p key e
 refused Full K p key (error.Memory a) e is full = inl (ap (λ (r : Refusal). r.kind) is)
 refused Full K p key _ e is full = inr (inr (ap (λ (r : Refusal). r.kind) is, full))
 
 module _ {V : Type 0} (tree : V → Value) (of : V → TypeTree → Type 0) (Full : TypeTree → Type 0) where
-  made_at : (K : Simple) (p : Range ℕ) (key : Token) (n : NodeTree) (one_leaf : Leaf) (m : Result V WasmValueError) (r : Result V ParserError) → leaf_type one_leaf ≡ K → Spells K key one_leaf → IfOk m (MakesLeaf tree of one_leaf) → IfErr m (FullLeaf Full one_leaf) → IsMade n m r → MatchResult r (IsKeyRead tree of K key) (IsKeyBlamed Full K p key)
+  made_at : (K : Simple) (p : Range ℕ) (key : Token) (n : NodeTree) (one_leaf : Leaf) (m : Result V WasmValueError) (r : Result V Diagnostic) → leaf_type one_leaf ≡ K → Spells K key one_leaf → IfOk m (MakesLeaf tree of one_leaf) → IfErr m (FullLeaf Full one_leaf) → IsMade n m r → MatchResult r (IsKeyRead tree of K key) (IsKeyBlamed Full K p key)
   made_at K p key n l (Ok v) (Ok w) is spelled ok full done =
       subst (IsKeyRead tree of K key) (sym done) (record { leaf = l; spells = spelled; means = ok.means; is_of = subst (λ (S : Simple). of v (type.simple S)) is ok.is_of })
   made_at K p key n l (Ok v) (Err e) is spelled ok full done = absurd done
@@ -159,22 +158,22 @@ module _ {V : Type 0} (tree : V → Value) (of : V → TypeTree → Type 0) (Ful
   made_at K p key n l (Err cause) (Err e) is spelled ok full done = refused Full K p key cause e done.0 (λ f. full (subst (λ (S : Simple). Full (type.simple S)) (sym is) f))
 
   -- the key's value was made, or its maker refused
-  pub key_made : (T : TypeTree) (K S : Simple) (p : Range ℕ) (key : Token) (n : NodeTree) (one_leaf : Leaf) (m : Result V WasmValueError) (r : Result V ParserError) → T ≡ type.simple K → T ≡ type.simple S → leaf_type one_leaf ≡ S → Spells S key one_leaf → IfOk m (MakesLeaf tree of one_leaf) → IfErr m (FullLeaf Full one_leaf) → IsMade n m r → MatchResult r (IsKeyRead tree of K key) (IsKeyBlamed Full K p key)
+  pub key_made : (T : TypeTree) (K S : Simple) (p : Range ℕ) (key : Token) (n : NodeTree) (one_leaf : Leaf) (m : Result V WasmValueError) (r : Result V Diagnostic) → T ≡ type.simple K → T ≡ type.simple S → leaf_type one_leaf ≡ S → Spells S key one_leaf → IfOk m (MakesLeaf tree of one_leaf) → IfErr m (FullLeaf Full one_leaf) → IsMade n m r → MatchResult r (IsKeyRead tree of K key) (IsKeyBlamed Full K p key)
   key_made T K S p key n l m r e f is spelled ok full done =
       subst (λ (R : Simple). MatchResult r (IsKeyRead tree of R key) (IsKeyBlamed Full R p key)) (one_simple T K S e f) (made_at S p key n l m r is spelled ok full done)
 
   -- a refusal of the key, handed on
-  pub key_handed : (K : Simple) (p : Range ℕ) (key : Token) (e : ParserError) (r : Result V ParserError) → IsErrAnd r (λ f. f ≡ e) → IsKeyBlamed Full K p key e → MatchResult r (IsKeyRead tree of K key) (IsKeyBlamed Full K p key)
+  pub key_handed : (K : Simple) (p : Range ℕ) (key : Token) (e : Diagnostic) (r : Result V Diagnostic) → IsErrAnd r (λ f. f ≡ e) → IsKeyBlamed Full K p key e → MatchResult r (IsKeyRead tree of K key) (IsKeyBlamed Full K p key)
   key_handed K p key e (Ok v) same blamed = absurd same
   key_handed K p key e (Err f) same blamed = subst (IsKeyBlamed Full K p key) (sym same) blamed
 
   -- a fault of the key, handed on
-  pub key_faulty : (T : TypeTree) (K S : Simple) (p : Range ℕ) (key : Token) (e : ParserError) (r : Result V ParserError) → T ≡ type.simple K → T ≡ type.simple S → IsErrAnd r (λ f. f ≡ e) → MapKeyFault S p key (refusal_of e) e.span → MatchResult r (IsKeyRead tree of K key) (IsKeyBlamed Full K p key)
+  pub key_faulty : (T : TypeTree) (K S : Simple) (p : Range ℕ) (key : Token) (e : Diagnostic) (r : Result V Diagnostic) → T ≡ type.simple K → T ≡ type.simple S → IsErrAnd r (λ f. f ≡ e) → MapKeyFault S p key (refusal_of e) e.span → MatchResult r (IsKeyRead tree of K key) (IsKeyBlamed Full K p key)
   key_faulty T K S p key e r is same handed_on fault =
       key_handed K p key e r handed_on (inr (inl (subst (λ (R : Simple). MapKeyFault R p key (refusal_of e) e.span) (one_simple T K S is same) fault)))
 
 -- a refusal that says the same blames the same
-blamed_again : (Full : TypeTree → Type 0) (K : Simple) (p q : Range ℕ) (key : Token) (e f : ParserError) → (f.kind ≡ OutOfMemory) × (f.span ≡ q) ⊎ (refusal_of f ≡ refusal_of e) × (f.span ≡ e.span) → IsKeyBlamed Full K p key e → IsKeyBlamed Full K p key f
+blamed_again : (Full : TypeTree → Type 0) (K : Simple) (p q : Range ℕ) (key : Token) (e f : Diagnostic) → (f.kind ≡ OutOfMemory) × (f.span ≡ q) ⊎ (refusal_of f ≡ refusal_of e) × (f.span ≡ e.span) → IsKeyBlamed Full K p key e → IsKeyBlamed Full K p key f
 blamed_again Full K p q key e f (inl memory) h = inl memory.0
 blamed_again Full K p q key e f (inr (same, place)) (inl memory) = inl (ap (λ (r : Refusal). r.kind) same ∙ memory)
 blamed_again Full K p q key e f (inr (same, place)) (inr (inl fault)) =
@@ -182,5 +181,5 @@ blamed_again Full K p q key e f (inr (same, place)) (inr (inl fault)) =
 blamed_again Full K p q key e f (inr (same, place)) (inr (inr (kind, full))) = inr (inr (ap (λ (r : Refusal). r.kind) same ∙ kind, full))
 
 -- so of a key that was not read
-pub key_told : {V : Type 0} (tree : V → Value) (of : V → TypeTree → Type 0) (Full : TypeTree → Type 0) (K : Simple) (p q : Range ℕ) (key : Token) (r : Result V ParserError) (e f : ParserError) → r ≡ Err e → (f.kind ≡ OutOfMemory) × (f.span ≡ q) ⊎ (refusal_of f ≡ refusal_of e) × (f.span ≡ e.span) → MatchResult r (IsKeyRead tree of K key) (IsKeyBlamed Full K p key) → IsKeyBlamed Full K p key f
-key_told {V} tree of Full K p q key r e f is told h = blamed_again Full K p q key e f told (subst (λ (s : Result V ParserError). MatchResult s (IsKeyRead tree of K key) (IsKeyBlamed Full K p key)) is h)
+pub key_told : {V : Type 0} (tree : V → Value) (of : V → TypeTree → Type 0) (Full : TypeTree → Type 0) (K : Simple) (p q : Range ℕ) (key : Token) (r : Result V Diagnostic) (e f : Diagnostic) → r ≡ Err e → (f.kind ≡ OutOfMemory) × (f.span ≡ q) ⊎ (refusal_of f ≡ refusal_of e) × (f.span ≡ e.span) → MatchResult r (IsKeyRead tree of K key) (IsKeyBlamed Full K p key) → IsKeyBlamed Full K p key f
+key_told {V} tree of Full K p q key r e f is told h = blamed_again Full K p q key e f told (subst (λ (s : Result V Diagnostic). MatchResult s (IsKeyRead tree of K key) (IsKeyBlamed Full K p key)) is h)

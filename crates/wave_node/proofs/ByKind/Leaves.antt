@@ -8,8 +8,7 @@ use Rattle.wave_wasm.specs.Numbers.{is_signed}
 use Rattle.wave_wasm.specs.Values as value
 use Rattle.wave_wasm.specs.Values.{Leaf}
 use Rattle.wave_wasm.specs.Text.{bool_text}
-use Rattle.wave_lex.specs.Errors.{Refusal, refusal_of, Says}
-use Rattle.wave_lex.specs.declared.error.ParserError.{ParserError}
+use Rattle.wave_lex.specs.Errors.{Diagnostic, Refusal, refusal_of, Says}
 use Rattle.wave_lex.specs.declared.error.ParserErrorKind.{ParserErrorKind}
 use Rattle.wave_lex.specs.declared.error.ParserErrorKind.TheVariants.{InvalidType, InvalidValue}
 use Rattle.wave_grammar.specs.Token.{Token}
@@ -41,7 +40,7 @@ pub at_tree : (why : _) (p q : Range ℕ) (k : Refusal) (r : Range ℕ) → q �
 at_tree why p q k r e refused = (refused.0, refused.1 ∙ sym e)
 
 -- the kind and the span of a refusal that says no more
-pub said : {e : ParserError} {why : ParserErrorKind} {p : Range ℕ} {tells : Option (List ℕ)} → Says e why p tells → IsRefusalOf why p (refusal_of e) e.span
+pub said : {e : Diagnostic} {why : ParserErrorKind} {p : Range ℕ} {tells : Option (List ℕ)} → Says e why p tells → IsRefusalOf why p (refusal_of e) e.span
 said says = (says.is, says.stands)
 
 -- a tree of another form than the simple type takes
@@ -169,6 +168,6 @@ number_fault which source n t k q e apart refused =
     wrong_form (type.whole which) (one_in (shape_of t)) (span_of t) k q (not_number which (type_of n) (place_of n) (slice source (place_of n)) i.children (shape_of t) i.from apart) (at_tree InvalidType (place_of n) (span_of t) k q i.place refused)
 
 -- the refusal of a number is a fault
-pub number_blame : {N : Type 0} (which : Whole) (number : N → ℤ) (source : List ℕ) (n : NodeTree) (t : Placed) (e : ParserError) → placed_of source n ≡ Some t → GivesNumber which number source n (Err e) → Fault (type.simple (type.whole which)) t (refusal_of e) e.span
+pub number_blame : {N : Type 0} (which : Whole) (number : N → ℤ) (source : List ℕ) (n : NodeTree) (t : Placed) (e : Diagnostic) → placed_of source n ≡ Some t → GivesNumber which number source n (Err e) → Fault (type.simple (type.whole which)) t (refusal_of e) e.span
 number_blame which number source n t e is (inl h) = number_fault which source n t (refusal_of e) e.span is h.0 (said h.1)
 number_blame which number source n t e is (inr h) = value_fault which source n t (refusal_of e) e.span is h.0 h.1 (said h.2)

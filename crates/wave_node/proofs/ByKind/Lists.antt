@@ -9,8 +9,7 @@ use Rattle.wave_wasm.specs.Values as value
 use Rattle.wave_wasm.specs.Values.{Value, values}
 use Rattle.wave_wasm.specs.ConstructorContracts.{IsMemory, MakesList, FullList, HasFullParts}
 use Rattle.wave_wasm.specs.declared.wasm.WasmValueError.{WasmValueError}
-use Rattle.wave_lex.specs.Errors.{Refusal, refusal_of}
-use Rattle.wave_lex.specs.declared.error.ParserError.{ParserError}
+use Rattle.wave_lex.specs.Errors.{Diagnostic, Refusal, refusal_of}
 use Rattle.wave_lex.specs.declared.error.ParserErrorKind.TheVariants.{InvalidType}
 use Rattle.wave_grammar.specs.Tree as form
 use Rattle.wave_grammar.specs.Tree.{Tree}
@@ -114,7 +113,7 @@ item_fault E t items i u k q shape here fault =
 
 module _ {V : Type 0} (tree : V → Value) (of : V → TypeTree → Type 0) (Full : TypeTree → Type 0) where
   -- a refusal of an item is one of the list
-  pub item_blame : (T E : TypeTree) (t : Placed) (items : List Placed) (i : ℕ) (u : Placed) (e : ParserError) → T ≡ type.list E → shape_of t ≡ list (placed_trees items) → HasAt items i u → HasFullParts Full → IsBlamed Full E u e → IsBlamed Full T t e
+  pub item_blame : (T E : TypeTree) (t : Placed) (items : List Placed) (i : ℕ) (u : Placed) (e : Diagnostic) → T ≡ type.list E → shape_of t ≡ list (placed_trees items) → HasAt items i u → HasFullParts Full → IsBlamed Full E u e → IsBlamed Full T t e
   item_blame T E t items i u e is shape here parts (inl memory) = inl memory
   item_blame T E t items i u e is shape here parts (inr (inl fault)) = inr (inl (subst (λ (U : TypeTree). Fault U t (refusal_of e) e.span) (sym is) (item_fault E t items i u (refusal_of e) e.span shape here fault)))
   item_blame T E t items i u e is shape here parts (inr (inr h)) = inr (inr (h.0, λ full. h.1 (parts (type.list E) (subst Full is full)).0))
@@ -171,7 +170,7 @@ module _ {V : Type 0} (tree : V → Value) (of : V → TypeTree → Type 0) (Ful
   list_full T E ts vs (Err cause) is all h = λ full. h full E is (each_of E ts vs all)
 
   -- the list was made, or its maker refused
-  pub list_made : (T E : TypeTree) (t : Placed) (ts : List Placed) (vs : List V) (n : NodeTree) (m : Result V WasmValueError) (r : Result V ParserError) → T ≡ type.list E → HasDistinctNames T → shape_of t ≡ list (placed_trees ts) → AllRead E ts vs → IfOk m (MakesList tree of T vs) → IfErr m (FullList of Full T vs) → IsMade n m r → MatchResult r (IsTypedValue tree of T t) (IsBlamed Full T t)
+  pub list_made : (T E : TypeTree) (t : Placed) (ts : List Placed) (vs : List V) (n : NodeTree) (m : Result V WasmValueError) (r : Result V Diagnostic) → T ≡ type.list E → HasDistinctNames T → shape_of t ≡ list (placed_trees ts) → AllRead E ts vs → IfOk m (MakesList tree of T vs) → IfErr m (FullList of Full T vs) → IsMade n m r → MatchResult r (IsTypedValue tree of T t) (IsBlamed Full T t)
   list_made T E t ts vs n m r is distinct shape all ok full done = made tree of Full T t n m r done (list_reads T E t ts vs m is distinct shape all ok) (list_full T E ts vs m is all full)
 
   -- the invariant of the loop holds behind the next item
@@ -181,7 +180,7 @@ module _ {V : Type 0} (tree : V → Value) (of : V → TypeTree → Type 0) (Ful
       read_more E ts vs ws i here.0 v here.1 before (now here.0 here.2) kept
 
   -- a refusal of the next item is one of the list
-  pub list_blame : (source : List ℕ) (T E : TypeTree) (m : NodeTree) (t : Placed) (ns : List NodeTree) (i : ℕ) (n : NodeTree) (e : ParserError) → T ≡ type.list E → IsNodeOf source m t → type_of m ≡ kind.List → ns ≡ children_of m → i < length ns → n ≡ get_or ns i n → HasFullParts Full → ((u : Placed) → IsNodeOf source n u → IsBlamed Full E u e) → IsBlamed Full T t e
+  pub list_blame : (source : List ℕ) (T E : TypeTree) (m : NodeTree) (t : Placed) (ns : List NodeTree) (i : ℕ) (n : NodeTree) (e : Diagnostic) → T ≡ type.list E → IsNodeOf source m t → type_of m ≡ kind.List → ns ≡ children_of m → i < length ns → n ≡ get_or ns i n → HasFullParts Full → ((u : Placed) → IsNodeOf source n u → IsBlamed Full E u e) → IsBlamed Full T t e
   list_blame source T E m t ns i n e is node ty children lt at_i parts blamed =
       let inner = list_nodes source m t node ty in
       let here = node_at source ns inner.items i n (subst (λ (l : List NodeTree). AreNodesOf source l inner.items) (sym children) inner.nodes) lt at_i in

@@ -15,8 +15,7 @@ use Rattle.wave_wasm.specs.ConstructorContracts.{IsMemory, MakesMap, FullMap, Ha
 use Rattle.wave_wasm.specs.declared.wasm.WasmValueError.{WasmValueError}
 use Rattle.wave_wasm.proofs.Keys.{leaf_tests}
 use Rattle.wave_wasm.proofs.MergeCongruence.{merge_paired, keys_keep, values_keep}
-use Rattle.wave_lex.specs.Errors.{Refusal, refusal_of}
-use Rattle.wave_lex.specs.declared.error.ParserError.{ParserError}
+use Rattle.wave_lex.specs.Errors.{Diagnostic, Refusal, refusal_of}
 use Rattle.wave_lex.specs.declared.error.ParserErrorKind.TheVariants.{InvalidType}
 use Rattle.wave_grammar.specs.Token.{Token}
 use Rattle.wave_grammar.specs.LeafTokens.{Spells}
@@ -107,7 +106,7 @@ some_in P [] ys x h = inl h
 some_in P (y ∷ xs) ys x h = inr (some_in P xs ys x h)
 
 -- a node that gives no entries
-pub map_fault : (K : Simple) (V : TypeTree) (source : List ℕ) (n : NodeTree) (t : Placed) (e : ParserError) → placed_of source n ≡ Some t → GivesEntries n (Err e) → Fault (type.map K V) t (refusal_of e) e.span
+pub map_fault : (K : Simple) (V : TypeTree) (source : List ℕ) (n : NodeTree) (t : Placed) (e : Diagnostic) → placed_of source n ≡ Some t → GivesEntries n (Err e) → Fault (type.map K V) t (refusal_of e) e.span
 map_fault K V source n t e is given =
     subst (λ (o : Option (List PlacedEntry)). OfForm o (span_of t) (λ es l r. SomeOf (λ x. MapKeyFault K x.place x.key l r ⊎ Fault V x.value l r) es) (refusal_of e) e.span) (sym (no_map source n t is given.0 given.1)) (at_tree InvalidType (place_of n) (span_of t) (refusal_of e) e.span (inside source n t is).place (said given.2))
 
@@ -117,14 +116,14 @@ entry_fault K V t es done rest x k q shape is fault =
 
 module _ {V : Type 0} (tree : V → Value) (of : V → TypeTree → Type 0) (Full : TypeTree → Type 0) where
   -- a refusal of the next key is one of the map
-  pub key_blame : (source : List ℕ) (T S U : TypeTree) (t : Placed) (es : PlacedEntries) (done : List PlacedEntry) (n : NodeTree × NodeTree) (left : List (NodeTree × NodeTree)) (e : ParserError) (m : IsMapOf T S U) (x : NextEntry source (entry_list es) done n left) → IsOfMap (shape_of t) es → HasFullParts Full → IsKeyBlamed Full m.key x.here.place x.here.key e → IsBlamed Full T t e
+  pub key_blame : (source : List ℕ) (T S U : TypeTree) (t : Placed) (es : PlacedEntries) (done : List PlacedEntry) (n : NodeTree × NodeTree) (left : List (NodeTree × NodeTree)) (e : Diagnostic) (m : IsMapOf T S U) (x : NextEntry source (entry_list es) done n left) → IsOfMap (shape_of t) es → HasFullParts Full → IsKeyBlamed Full m.key x.here.place x.here.key e → IsBlamed Full T t e
   key_blame source T S U t es done n left e m x shape parts (inl memory) = inl memory
   key_blame source T S U t es done n left e m x shape parts (inr (inl fault)) =
       inr (inl (subst (λ (W : TypeTree). Fault W t (refusal_of e) e.span) (sym m.is) (entry_fault m.key U t es done x.rest x.here (refusal_of e) e.span shape x.is (inl fault))))
   key_blame source T S U t es done n left e m x shape parts (inr (inr h)) = inr (inr (h.0, λ full. h.1 (parts (type.map m.key U) (subst Full m.is full)).0))
 
   -- a refusal of the next value is one of the map
-  pub value_blame : (source : List ℕ) (T S U : TypeTree) (t : Placed) (es : PlacedEntries) (done : List PlacedEntry) (n : NodeTree × NodeTree) (left : List (NodeTree × NodeTree)) (e : ParserError) (m : IsMapOf T S U) (x : NextEntry source (entry_list es) done n left) → IsOfMap (shape_of t) es → HasFullParts Full → IsBlamed Full U x.here.value e → IsBlamed Full T t e
+  pub value_blame : (source : List ℕ) (T S U : TypeTree) (t : Placed) (es : PlacedEntries) (done : List PlacedEntry) (n : NodeTree × NodeTree) (left : List (NodeTree × NodeTree)) (e : Diagnostic) (m : IsMapOf T S U) (x : NextEntry source (entry_list es) done n left) → IsOfMap (shape_of t) es → HasFullParts Full → IsBlamed Full U x.here.value e → IsBlamed Full T t e
   value_blame source T S U t es done n left e m x shape parts (inl memory) = inl memory
   value_blame source T S U t es done n left e m x shape parts (inr (inl fault)) =
       inr (inl (subst (λ (W : TypeTree). Fault W t (refusal_of e) e.span) (sym m.is) (entry_fault m.key U t es done x.rest x.here (refusal_of e) e.span shape x.is (inr fault))))
@@ -180,7 +179,7 @@ module _ {V : Type 0} (tree : V → Value) (of : V → TypeTree → Type 0) (Ful
       (x.here.value, x.node)
 
   -- the next key was refused
-  pub key_refused : (source : List ℕ) (T S U : TypeTree) (m : NodeTree) (t : Placed) (ns now left : List (NodeTree × NodeTree)) (n : NodeTree × NodeTree) (xs : List (V × V)) (e : ParserError) → IsMapOf T S U → IsNodeOf source m t → GivesEntries m (Ok ns) → SoFar source S U (node_pairs (children_of m)) now xs → now ≡ n ∷ left → HasFullParts Full → ((K : Simple) (p : Range ℕ) (key : Token) → S ≡ type.simple K → IsTokenOf source n.0 p key → IsKeyBlamed Full K p key e) → IsBlamed Full T t e
+  pub key_refused : (source : List ℕ) (T S U : TypeTree) (m : NodeTree) (t : Placed) (ns now left : List (NodeTree × NodeTree)) (n : NodeTree × NodeTree) (xs : List (V × V)) (e : Diagnostic) → IsMapOf T S U → IsNodeOf source m t → GivesEntries m (Ok ns) → SoFar source S U (node_pairs (children_of m)) now xs → now ≡ n ∷ left → HasFullParts Full → ((K : Simple) (p : Range ℕ) (key : Token) → S ≡ type.simple K → IsTokenOf source n.0 p key → IsKeyBlamed Full K p key e) → IsBlamed Full T t e
   key_refused source T S U m t ns now left n xs e map node given so is parts blamed =
       let nodes = map_nodes source m t node given.0 in
       let h = (so (entry_list nodes.given) nodes.nodes).0 in
@@ -188,7 +187,7 @@ module _ {V : Type 0} (tree : V → Value) (of : V → TypeTree → Type 0) (Ful
       key_blame source T S U t nodes.given h.done n left e map x nodes.shape parts (blamed map.key x.here.place x.here.key map.key_is x.key)
 
   -- the next value was refused
-  pub value_refused : (source : List ℕ) (T S U : TypeTree) (m : NodeTree) (t : Placed) (ns now left : List (NodeTree × NodeTree)) (n : NodeTree × NodeTree) (xs : List (V × V)) (e : ParserError) → IsMapOf T S U → IsNodeOf source m t → GivesEntries m (Ok ns) → SoFar source S U (node_pairs (children_of m)) now xs → now ≡ n ∷ left → HasFullParts Full → ((u : Placed) → IsNodeOf source n.1 u → IsBlamed Full U u e) → IsBlamed Full T t e
+  pub value_refused : (source : List ℕ) (T S U : TypeTree) (m : NodeTree) (t : Placed) (ns now left : List (NodeTree × NodeTree)) (n : NodeTree × NodeTree) (xs : List (V × V)) (e : Diagnostic) → IsMapOf T S U → IsNodeOf source m t → GivesEntries m (Ok ns) → SoFar source S U (node_pairs (children_of m)) now xs → now ≡ n ∷ left → HasFullParts Full → ((u : Placed) → IsNodeOf source n.1 u → IsBlamed Full U u e) → IsBlamed Full T t e
   value_refused source T S U m t ns now left n xs e map node given so is parts blamed =
       let nodes = map_nodes source m t node given.0 in
       let h = (so (entry_list nodes.given) nodes.nodes).0 in
@@ -297,13 +296,13 @@ module _ {V : Type 0} (tree : V → Value) (of : V → TypeTree → Type 0) (Ful
       h full m.key U m.is (subst (AllOf (λ x. of x.0 (type.simple m.key) × of x.1 U)) (sym merged) (merged_of tree of Full m.key U xs read.keys_of read.values_of))
 
   -- the map was made of the merged entries, or its maker refused
-  pub map_made : (T S U : TypeTree) (t : Placed) (es : PlacedEntries) (xs handed : List (V × V)) (n : NodeTree) (made_map : Result V WasmValueError) (r : Result V ParserError) (m : IsMapOf T S U) → HasDistinctNames T → IsOfMap (shape_of t) es → ((v : V) (T : TypeTree) → of v T → HasType T (tree v)) → EntriesRead tree of Full m.key U (entry_list es) xs → handed ≡ merge (same_texts tree of Full) xs → IfOk made_map (MakesMap tree of T handed) → IfErr made_map (FullMap of Full T handed) → IsMade n made_map r → MatchResult r (IsTypedValue tree of T t) (IsBlamed Full T t)
+  pub map_made : (T S U : TypeTree) (t : Placed) (es : PlacedEntries) (xs handed : List (V × V)) (n : NodeTree) (made_map : Result V WasmValueError) (r : Result V Diagnostic) (m : IsMapOf T S U) → HasDistinctNames T → IsOfMap (shape_of t) es → ((v : V) (T : TypeTree) → of v T → HasType T (tree v)) → EntriesRead tree of Full m.key U (entry_list es) xs → handed ≡ merge (same_texts tree of Full) xs → IfOk made_map (MakesMap tree of T handed) → IfErr made_map (FullMap of Full T handed) → IsMade n made_map r → MatchResult r (IsTypedValue tree of T t) (IsBlamed Full T t)
   map_made T S U t es xs handed n made_map r m distinct shape fits all merged ok full done =
       let read = pairs_read tree of Full fits m.key U (entry_list es) xs all in
       made tree of Full T t n made_map r done (map_means T S U t es xs handed made_map m distinct shape read merged ok) (map_full T S U (entry_list es) xs handed made_map m read merged full)
 
   -- so it was where all entries of the node were read
-  pub map_answered : (source : List ℕ) (T S U : TypeTree) (m : NodeTree) (t : Placed) (ns now : List (NodeTree × NodeTree)) (xs handed : List (V × V)) (made_map : Result V WasmValueError) (r : Result V ParserError) → IsMapOf T S U → IsNodeOf source m t → GivesEntries m (Ok ns) → SoFar tree of Full source S U (node_pairs (children_of m)) now xs → now ≡ [] → HasDistinctNames T → ((v : V) (T : TypeTree) → of v T → HasType T (tree v)) → handed ≡ merge (same_texts tree of Full) xs → IfOk made_map (MakesMap tree of T handed) → IfErr made_map (FullMap of Full T handed) → IsMade m made_map r → MatchResult r (IsTypedValue tree of T t) (IsBlamed Full T t)
+  pub map_answered : (source : List ℕ) (T S U : TypeTree) (m : NodeTree) (t : Placed) (ns now : List (NodeTree × NodeTree)) (xs handed : List (V × V)) (made_map : Result V WasmValueError) (r : Result V Diagnostic) → IsMapOf T S U → IsNodeOf source m t → GivesEntries m (Ok ns) → SoFar tree of Full source S U (node_pairs (children_of m)) now xs → now ≡ [] → HasDistinctNames T → ((v : V) (T : TypeTree) → of v T → HasType T (tree v)) → handed ≡ merge (same_texts tree of Full) xs → IfOk made_map (MakesMap tree of T handed) → IfErr made_map (FullMap of Full T handed) → IsMade m made_map r → MatchResult r (IsTypedValue tree of T t) (IsBlamed Full T t)
   map_answered source T S U m t ns now xs handed made_map r map node given so none distinct fits merged ok full done =
       let nodes = map_nodes source m t node given.0 in
       let h = so (entry_list nodes.given) nodes.nodes in

@@ -10,8 +10,7 @@ use Rattle.wave_wasm.specs.Values.{Value}
 use Rattle.wave_wasm.specs.Borrowed.{shown, shown_result}
 use Rattle.wave_wasm.specs.ConstructorContracts.{IsMemory, MakesResult, FullResult, EitherIsOf, result_value, either_tree, payload_and, HasFullParts}
 use Rattle.wave_wasm.specs.declared.wasm.WasmValueError.{WasmValueError}
-use Rattle.wave_lex.specs.Errors.{Refusal, refusal_of}
-use Rattle.wave_lex.specs.declared.error.ParserError.{ParserError}
+use Rattle.wave_lex.specs.Errors.{Diagnostic, Refusal, refusal_of}
 use Rattle.wave_lex.specs.declared.error.ParserErrorKind.TheVariants.{InvalidType}
 use Rattle.wave_grammar.specs.Tree as form
 use Rattle.wave_grammar.specs.Elaborates.{TreeReads, TreeReadsPayload}
@@ -144,7 +143,7 @@ err_fault : (A B : MaybeType) (t : Placed) (payload : MaybePlaced) (k : Refusal)
 err_fault A B t payload k q shape fault =
     subst (λ (s : Shape). OfResult s (OkFault A (span_of t)) (ErrFault B (span_of t)) (FaultOfFlat A t) k q) (sym shape) fault
 
-flat_fault : (A B : MaybeType) (source : List ℕ) (n : NodeTree) (t : Placed) (g : ParserError) (k : Refusal) (q : Range ℕ) → placed_of source n ≡ Some t → GivesResult n (Err g) → FaultOfFlat A t k q → Fault (type.result A B) t k q
+flat_fault : (A B : MaybeType) (source : List ℕ) (n : NodeTree) (t : Placed) (g : Diagnostic) (k : Refusal) (q : Range ℕ) → placed_of source n ≡ Some t → GivesResult n (Err g) → FaultOfFlat A t k q → Fault (type.result A B) t k q
 flat_fault A B source n t g k q is given fault =
     let i = inside source n t is in
     other_form (type_of n) (place_of n) (slice source (place_of n)) i.children (shape_of t) (OkFault A (span_of t)) (ErrFault B (span_of t)) (FaultOfFlat A t) k q i.from given.0 given.1 fault
@@ -154,7 +153,7 @@ refused_flat None t k q apart refused = refused
 refused_flat (Some U) t k q apart refused = inl (apart U refl, refused)
 
 -- a node of another form where `ok` has no flat payload
-pub result_fault : (T : TypeTree) (P : Option TypeTree) (B : MaybeType) (source : List ℕ) (n : NodeTree) (t : Placed) (e : ParserError) → T ≡ type.result (maybe_type P) B → placed_of source n ≡ Some t → GivesResult n (Err e) → ((U : TypeTree) → P ≡ Some U → IsFlat U → ⊥) → Fault T t (refusal_of e) e.span
+pub result_fault : (T : TypeTree) (P : Option TypeTree) (B : MaybeType) (source : List ℕ) (n : NodeTree) (t : Placed) (e : Diagnostic) → T ≡ type.result (maybe_type P) B → placed_of source n ≡ Some t → GivesResult n (Err e) → ((U : TypeTree) → P ≡ Some U → IsFlat U → ⊥) → Fault T t (refusal_of e) e.span
 result_fault T P B source n t e is node given apart =
     let i = inside source n t node in
     subst (λ (U : TypeTree). Fault U t (refusal_of e) e.span) (sym is) (flat_fault (maybe_type P) B source n t e (refusal_of e) e.span node given (refused_flat P t (refusal_of e) e.span apart (at_tree InvalidType (place_of n) (span_of t) (refusal_of e) e.span i.place (said given.2))))
@@ -169,21 +168,21 @@ module _ {V : Type 0} (tree : V → Value) (of : V → TypeTree → Type 0) (Ful
   err_full (type.a_type U) B h = h.1
 
   -- a refusal of the payload of `ok`
-  pub ok_blame : (T : TypeTree) (A B : MaybeType) (source : List ℕ) (n : NodeTree) (t : Placed) (payload : MaybePlaced) (e : ParserError) → T ≡ type.result A B → placed_of source n ≡ Some t → shape_of t ≡ ok payload → HasFullParts Full → IsPayloadBlamed Full (codes "ok") A n payload e → IsBlamed Full T t e
+  pub ok_blame : (T : TypeTree) (A B : MaybeType) (source : List ℕ) (n : NodeTree) (t : Placed) (payload : MaybePlaced) (e : Diagnostic) → T ≡ type.result A B → placed_of source n ≡ Some t → shape_of t ≡ ok payload → HasFullParts Full → IsPayloadBlamed Full (codes "ok") A n payload e → IsBlamed Full T t e
   ok_blame T A B source n t payload e is node shape parts (inl memory) = inl memory
   ok_blame T A B source n t payload e is node shape parts (inr (inl fault)) =
       inr (inl (subst (λ (U : TypeTree). Fault U t (refusal_of e) e.span) (sym is) (ok_fault A B t payload (refusal_of e) e.span shape (subst (λ (p : Range ℕ). OkFault A p payload (refusal_of e) e.span) (sym (inside source n t node).place) fault))))
   ok_blame T A B source n t payload e is node shape parts (inr (inr h)) = inr (inr (h.0, λ full. h.1 (ok_full A B (parts (type.result A B) (subst Full is full)))))
 
   -- a refusal of the payload of `err`
-  pub err_blame : (T : TypeTree) (A B : MaybeType) (source : List ℕ) (n : NodeTree) (t : Placed) (payload : MaybePlaced) (e : ParserError) → T ≡ type.result A B → placed_of source n ≡ Some t → shape_of t ≡ err payload → HasFullParts Full → IsPayloadBlamed Full (codes "err") B n payload e → IsBlamed Full T t e
+  pub err_blame : (T : TypeTree) (A B : MaybeType) (source : List ℕ) (n : NodeTree) (t : Placed) (payload : MaybePlaced) (e : Diagnostic) → T ≡ type.result A B → placed_of source n ≡ Some t → shape_of t ≡ err payload → HasFullParts Full → IsPayloadBlamed Full (codes "err") B n payload e → IsBlamed Full T t e
   err_blame T A B source n t payload e is node shape parts (inl memory) = inl memory
   err_blame T A B source n t payload e is node shape parts (inr (inl fault)) =
       inr (inl (subst (λ (U : TypeTree). Fault U t (refusal_of e) e.span) (sym is) (err_fault A B t payload (refusal_of e) e.span shape (subst (λ (p : Range ℕ). ErrFault B p payload (refusal_of e) e.span) (sym (inside source n t node).place) fault))))
   err_blame T A B source n t payload e is node shape parts (inr (inr h)) = inr (inr (h.0, λ full. h.1 (err_full A B (parts (type.result A B) (subst Full is full)))))
 
   -- a refusal of the node itself at a flat payload type
-  pub result_flat_blame : (T U : TypeTree) (B : MaybeType) (source : List ℕ) (n : NodeTree) (t : Placed) (g e : ParserError) → T ≡ type.result (type.a_type U) B → placed_of source n ≡ Some t → GivesResult n (Err g) → IsFlat U → HasFullParts Full → IsBlamed Full U t e → IsBlamed Full T t e
+  pub result_flat_blame : (T U : TypeTree) (B : MaybeType) (source : List ℕ) (n : NodeTree) (t : Placed) (g e : Diagnostic) → T ≡ type.result (type.a_type U) B → placed_of source n ≡ Some t → GivesResult n (Err g) → IsFlat U → HasFullParts Full → IsBlamed Full U t e → IsBlamed Full T t e
   result_flat_blame T U B source n t g e is node given flat parts (inl memory) = inl memory
   result_flat_blame T U B source n t g e is node given flat parts (inr (inl fault)) =
       inr (inl (subst (λ (W : TypeTree). Fault W t (refusal_of e) e.span) (sym is) (flat_fault (type.a_type U) B source n t g (refusal_of e) e.span node given (inr (flat, fault)))))
@@ -199,21 +198,21 @@ module _ {V : Type 0} (tree : V → Value) (of : V → TypeTree → Type 0) (Ful
   result_full T A B payload (Ok v) is h f = tt
   result_full T A B payload (Err cause) is h f = λ full. f full A B is h
 
-  result_made : (T : TypeTree) (A B : MaybeType) (t : Placed) (n : NodeTree) (payload : Result (Option V) (Option V)) (m : Result V WasmValueError) (r : Result V ParserError) → T ≡ type.result A B → HasDistinctNames T → TreeReads (type.result A B) (tree_of t) (result_value (either_tree tree payload)) → EitherIsOf of (type_option A) (type_option B) payload → IfOk m (MakesResult tree of T payload) → IfErr m (FullResult of Full T payload) → IsMade n m r → MatchResult r (IsTypedValue tree of T t) (IsBlamed Full T t)
+  result_made : (T : TypeTree) (A B : MaybeType) (t : Placed) (n : NodeTree) (payload : Result (Option V) (Option V)) (m : Result V WasmValueError) (r : Result V Diagnostic) → T ≡ type.result A B → HasDistinctNames T → TreeReads (type.result A B) (tree_of t) (result_value (either_tree tree payload)) → EitherIsOf of (type_option A) (type_option B) payload → IfOk m (MakesResult tree of T payload) → IfErr m (FullResult of Full T payload) → IsMade n m r → MatchResult r (IsTypedValue tree of T t) (IsBlamed Full T t)
   result_made T A B t n payload m r is distinct read h makes full done = made tree of Full T t n m r done (result_reads T A B t payload m is distinct read makes) (result_full T A B payload m is h full)
 
   -- `ok` with its payload
-  pub ok_made : (T : TypeTree) (A B : MaybeType) (t : Placed) (n : NodeTree) (payload : MaybePlaced) (v : Option V) (m : Result V WasmValueError) (r : Result V ParserError) → T ≡ type.result A B → HasDistinctNames T → shape_of t ≡ ok payload → IsPayloadRead tree of A payload v → IfOk m (MakesResult tree of T (Ok v)) → IfErr m (FullResult of Full T (Ok v)) → IsMade n m r → MatchResult r (IsTypedValue tree of T t) (IsBlamed Full T t)
+  pub ok_made : (T : TypeTree) (A B : MaybeType) (t : Placed) (n : NodeTree) (payload : MaybePlaced) (v : Option V) (m : Result V WasmValueError) (r : Result V Diagnostic) → T ≡ type.result A B → HasDistinctNames T → shape_of t ≡ ok payload → IsPayloadRead tree of A payload v → IfOk m (MakesResult tree of T (Ok v)) → IfErr m (FullResult of Full T (Ok v)) → IsMade n m r → MatchResult r (IsTypedValue tree of T t) (IsBlamed Full T t)
   ok_made T A B t n payload v m r is distinct shape read makes full done =
       result_made T A B t n (Ok v) m r is distinct (inl (inl (maybe_of payload, value.maybe_value (option_map tree v), tree_is t (ok payload) shape, read.reads, refl))) read.is_of makes full done
 
   -- `err` with its payload
-  pub err_made : (T : TypeTree) (A B : MaybeType) (t : Placed) (n : NodeTree) (payload : MaybePlaced) (v : Option V) (m : Result V WasmValueError) (r : Result V ParserError) → T ≡ type.result A B → HasDistinctNames T → shape_of t ≡ err payload → IsPayloadRead tree of B payload v → IfOk m (MakesResult tree of T (Err v)) → IfErr m (FullResult of Full T (Err v)) → IsMade n m r → MatchResult r (IsTypedValue tree of T t) (IsBlamed Full T t)
+  pub err_made : (T : TypeTree) (A B : MaybeType) (t : Placed) (n : NodeTree) (payload : MaybePlaced) (v : Option V) (m : Result V WasmValueError) (r : Result V Diagnostic) → T ≡ type.result A B → HasDistinctNames T → shape_of t ≡ err payload → IsPayloadRead tree of B payload v → IfOk m (MakesResult tree of T (Err v)) → IfErr m (FullResult of Full T (Err v)) → IsMade n m r → MatchResult r (IsTypedValue tree of T t) (IsBlamed Full T t)
   err_made T A B t n payload v m r is distinct shape read makes full done =
       result_made T A B t n (Err v) m r is distinct (inl (inr (maybe_of payload, value.maybe_value (option_map tree v), tree_is t (err payload) shape, read.reads, refl))) read.is_of makes full done
 
   -- a flat payload of `ok`
-  pub result_flat_made : (T U : TypeTree) (B : MaybeType) (t : Placed) (n : NodeTree) (v : V) (m : Result V WasmValueError) (r : Result V ParserError) → T ≡ type.result (type.a_type U) B → HasDistinctNames T → IsFlat U → IsTypedValue tree of U t v → IfOk m (MakesResult tree of T (Ok (Some v))) → IfErr m (FullResult of Full T (Ok (Some v))) → IsMade n m r → MatchResult r (IsTypedValue tree of T t) (IsBlamed Full T t)
+  pub result_flat_made : (T U : TypeTree) (B : MaybeType) (t : Placed) (n : NodeTree) (v : V) (m : Result V WasmValueError) (r : Result V Diagnostic) → T ≡ type.result (type.a_type U) B → HasDistinctNames T → IsFlat U → IsTypedValue tree of U t v → IfOk m (MakesResult tree of T (Ok (Some v))) → IfErr m (FullResult of Full T (Ok (Some v))) → IsMade n m r → MatchResult r (IsTypedValue tree of T t) (IsBlamed Full T t)
   result_flat_made T U B t n v m r is distinct flat read makes full done =
       result_made T (type.a_type U) B t n (Ok (Some v)) m r is distinct (inr (tree v, (flat, read.reads), refl)) read.is_of makes full done
 

@@ -6,8 +6,7 @@ use Rattle.wave_wasm.specs.Types as type
 use Rattle.wave_wasm.specs.Types.{TypeTree, Simple}
 use Rattle.wave_wasm.specs.Values as value
 use Rattle.wave_wasm.specs.Values.{Value}
-use Rattle.wave_lex.specs.Errors.{Refusal, refusal_of}
-use Rattle.wave_lex.specs.declared.error.ParserError.{ParserError}
+use Rattle.wave_lex.specs.Errors.{Diagnostic, Refusal, refusal_of}
 use Rattle.wave_lex.specs.declared.error.ParserErrorKind.TheVariants.{InvalidType, InvalidEscape}
 use Rattle.wave_grammar.specs.Token.{Token}
 use Rattle.wave_grammar.specs.Token as token
@@ -55,7 +54,7 @@ char_unspelled ty text p (token.multiline w) k q h apart refused = inr (refl, in
 char_unspelled ty text p _ k q h apart refused = absurd h
 
 -- a key of no char
-pub no_char_key : (source : List ℕ) (n : NodeTree) (p : Range ℕ) (key : Token) (e : ParserError) → IsTokenOf source n p key → GivesChar source n (Err e) → MapKeyFault type.char p key (refusal_of e) e.span
+pub no_char_key : (source : List ℕ) (n : NodeTree) (p : Range ℕ) (key : Token) (e : Diagnostic) → IsTokenOf source n p key → GivesChar source n (Err e) → MapKeyFault type.char p key (refusal_of e) e.span
 no_char_key source n p key e h (inl given) =
     char_unspelled (type_of n) (node_text source n) p key (refusal_of e) e.span (key_token source n p key h) given.0 (at_key InvalidType source n p key (refusal_of e) e.span h (said given.1))
 no_char_key source n p key e h (inr given) =
@@ -95,7 +94,7 @@ of_text (token.label w) (v, inr e) wrong = absurd (cc)
 of_text _ form wrong = inr (refl, inr (form, wrong))
 
 -- the refusal of a string is a fault of the key, or want of memory
-pub string_key_blame : (Full : TypeTree → Type 0) (source : List ℕ) (n : NodeTree) (p : Range ℕ) (key : Token) (e : ParserError) → IsTokenOf source n p key → RefusesString source n e → IsKeyBlamed Full type.string p key e
+pub string_key_blame : (Full : TypeTree → Type 0) (source : List ℕ) (n : NodeTree) (p : Range ℕ) (key : Token) (e : Diagnostic) → IsTokenOf source n p key → RefusesString source n e → IsKeyBlamed Full type.string p key e
 string_key_blame Full source n p key e h (inl (apart, other, refused)) =
     inr (inl (string_unspelled (type_of n) (node_text source n) p key (refusal_of e) e.span (key_token source n p key h) apart other (at_key InvalidType source n p key (refusal_of e) e.span h (said refused))))
 string_key_blame Full source n p key e h (inr (inl fault)) =
@@ -106,7 +105,7 @@ string_key_blame Full source n p key e h (inr (inr (wants, copied))) = inl (ap (
 
 module _ {V : Type 0} (tree : V → Value) (of : V → TypeTree → Type 0) (Full : TypeTree → Type 0) where
   -- so it is handed on
-  pub string_key_refused : (T : TypeTree) (K : Simple) (source : List ℕ) (n : NodeTree) (p : Range ℕ) (key : Token) (e : ParserError) (r : Result V ParserError) → T ≡ type.simple K → T ≡ type.simple type.string → IsErrAnd r (λ f. f ≡ e) → IsTokenOf source n p key → RefusesString source n e → MatchResult r (IsKeyRead tree of K key) (IsKeyBlamed Full K p key)
+  pub string_key_refused : (T : TypeTree) (K : Simple) (source : List ℕ) (n : NodeTree) (p : Range ℕ) (key : Token) (e : Diagnostic) (r : Result V Diagnostic) → T ≡ type.simple K → T ≡ type.simple type.string → IsErrAnd r (λ f. f ≡ e) → IsTokenOf source n p key → RefusesString source n e → MatchResult r (IsKeyRead tree of K key) (IsKeyBlamed Full K p key)
   string_key_refused T K source n p key e r is same handed_on h given =
       let string_is : type.string ≡ K = one_simple T K type.string is same in
       key_handed tree of Full K p key e r handed_on (subst (λ (S : Simple). IsKeyBlamed Full S p key e) string_is (string_key_blame Full source n p key e h given))

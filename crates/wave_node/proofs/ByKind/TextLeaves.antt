@@ -6,8 +6,7 @@ use Rattle.wave_wasm.specs.Types as type
 use Rattle.wave_wasm.specs.Types.{TypeTree}
 use Rattle.wave_wasm.specs.Values as value
 use Rattle.wave_wasm.specs.Values.{Leaf}
-use Rattle.wave_lex.specs.Errors.{Refusal, refusal_of}
-use Rattle.wave_lex.specs.declared.error.ParserError.{ParserError}
+use Rattle.wave_lex.specs.Errors.{Diagnostic, Refusal, refusal_of}
 use Rattle.wave_lex.specs.declared.error.ParserErrorKind.TheVariants.{InvalidType, InvalidEscape}
 use Rattle.wave_lex.specs.Tokenization.{span, three_quotes}
 use Rattle.wave_lex.specs.Strings.{CharMeans, Decodes}
@@ -59,7 +58,7 @@ no_char text none l (w, c, e, means, f) = none c (subst (λ (z : List ℕ). Char
     text_is a b e = cc
 
 -- the refusal of a char is a fault
-pub char_blame : (source : List ℕ) (n : NodeTree) (t : Placed) (e : ParserError) → placed_of source n ≡ Some t → GivesChar source n (Err e) → Fault (type.simple type.char) t (refusal_of e) e.span
+pub char_blame : (source : List ℕ) (n : NodeTree) (t : Placed) (e : Diagnostic) → placed_of source n ≡ Some t → GivesChar source n (Err e) → Fault (type.simple type.char) t (refusal_of e) e.span
 char_blame source n t e is (inl h) =
     let i = inside source n t is in
     wrong_form type.char (one_in (shape_of t)) (span_of t) (refusal_of e) e.span (not_char (type_of n) (place_of n) (slice source (place_of n)) i.children (shape_of t) i.from h.0) (at_tree InvalidType (place_of n) (span_of t) (refusal_of e) e.span i.place (said h.1))
@@ -105,7 +104,7 @@ text_fault t tok k q e form fault =
     subst (λ (o : Option Token). OfForm o (span_of t) (LeafFault type.string (span_of t)) k q) (ap one_in (sym e)) (inr (form, fault))
 
 -- what is wrong with the text of a string's token at the node
-pub record ToldFault (source : List ℕ) (n : NodeTree) (e : ParserError) : Type 0 where
+pub record ToldFault (source : List ℕ) (n : NodeTree) (e : Diagnostic) : Type 0 where
   pub tok : Token
   pub own : IsQuotedToken (type_of n) (node_text source n) tok
   pub form : IsForm type.string tok
@@ -114,7 +113,7 @@ pub record ToldFault (source : List ℕ) (n : NodeTree) (e : ParserError) : Type
 own_token : (ty : NodeType) (source : List ℕ) (n : NodeTree) (t : Token) → type_of n ≡ ty → IsQuotedToken ty (node_text source n) t → IsQuotedToken (type_of n) (node_text source n) t
 own_token ty source n t e h = subst (λ (k : NodeType). IsQuotedToken k (node_text source n) t) (sym e) h
 
-pub told_fault : (source : List ℕ) (n : NodeTree) (e : ParserError) → TellsStringFault source n e → ToldFault source n e
+pub told_fault : (source : List ℕ) (n : NodeTree) (e : Diagnostic) → TellsStringFault source n e → ToldFault source n e
 told_fault source n e (inl (ty, x, k, own, bad, told)) =
     let last : (place_of n).start + 1 + k + 1 ≡ (place_of n).start + 2 + k = omega arith in
     let there : e.span ≡ span ((place_of n).start + 1 + k) ((place_of n).start + 2 + k) = told.at ∙ ap (λ (z : ℕ). span ((place_of n).start + 1 + k) z) last in
@@ -123,7 +122,7 @@ told_fault source n e (inr (ty, x, f, own, fault, told)) =
     record { tok = token.multiline (node_text source n); own = own_token kind.MultilineString source n (token.multiline (node_text source n)) ty refl; form = (node_text source n, inr refl); wrong = inr (node_text source n, x, f, refl, own, fault, (told.refusal, told.at)) }
 
 -- the refusal of a string is a fault, or want of memory
-pub string_blame : (Full : TypeTree → Type 0) (T : TypeTree) (source : List ℕ) (n : NodeTree) (t : Placed) (e : ParserError) → T ≡ type.simple type.string → placed_of source n ≡ Some t → RefusesString source n e → IsBlamed Full T t e
+pub string_blame : (Full : TypeTree → Type 0) (T : TypeTree) (source : List ℕ) (n : NodeTree) (t : Placed) (e : Diagnostic) → T ≡ type.simple type.string → placed_of source n ≡ Some t → RefusesString source n e → IsBlamed Full T t e
 string_blame Full T source n t e same is h = subst (λ (U : TypeTree). IsBlamed Full U t e) (sym same) (blamed h)
   where
     i : Inside source n t

@@ -13,8 +13,7 @@ use Rattle.wave_wasm.specs.ValueErrors.{wrong_number}
 use Rattle.wave_wasm.specs.ConstructorContracts.{IsMemory, MakesTuple, FullTuple, AreOf, HasFullParts}
 use Rattle.wave_wasm.specs.declared.wasm.WasmValueError.{WasmValueError}
 use Rattle.wave_wasm.specs.declared.wasm.WasmTypeKind.TheVariants as kinds
-use Rattle.wave_lex.specs.Errors.{Refusal, refusal_of}
-use Rattle.wave_lex.specs.declared.error.ParserError.{ParserError}
+use Rattle.wave_lex.specs.Errors.{Diagnostic, Refusal, refusal_of}
 use Rattle.wave_lex.specs.declared.error.ParserErrorKind.TheVariants.{InvalidType}
 use Rattle.wave_grammar.specs.Token.{Token}
 use Rattle.wave_grammar.specs.Token as token
@@ -184,7 +183,7 @@ within_fault Ts t items k q shape fault =
     subst (λ (s : Shape). OfForm (tuple_in s) (span_of t) (TupleFault Ts (span_of t)) k q) (sym shape) (subst (λ (us : List Placed). TupleFault Ts (span_of t) us k q) (sym (trees_back items)) fault)
 
 -- another number of items than of types
-pub count_fault : (T : TypeTree) (parts : List TypeTree) (source : List ℕ) (m : NodeTree) (t : Placed) (ns : List NodeTree) (e : ParserError) → (is : TupleType T parts) → IsNodeOf source m t → type_of m ≡ kind.Tuple → ns ≡ children_of m → length ns ≢ length parts → RefusesFor (wrong_number (length parts) (length ns)) (place_of m) (refusal_of e) e.span → Fault (type.tuple is.types) t (refusal_of e) e.span
+pub count_fault : (T : TypeTree) (parts : List TypeTree) (source : List ℕ) (m : NodeTree) (t : Placed) (ns : List NodeTree) (e : Diagnostic) → (is : TupleType T parts) → IsNodeOf source m t → type_of m ≡ kind.Tuple → ns ≡ children_of m → length ns ≢ length parts → RefusesFor (wrong_number (length parts) (length ns)) (place_of m) (refusal_of e) e.span → Fault (type.tuple is.types) t (refusal_of e) e.span
 count_fault T parts source m t ns e is node ty children apart refused =
     let inner = tuple_nodes source m t node ty in
     let many : length ns ≡ length inner.items = as_many source ns inner.items (given_items source m t ns node ty children) in
@@ -199,7 +198,7 @@ fault_at (type.type_and T more) (t ∷ ts) zero E u k q h here fault = inl (subs
 fault_at (type.type_and T more) (t ∷ ts) (suc i) E u k q h here fault = inr (fault_at more ts i E u k q h here fault)
 
 module _ {V : Type 0} (tree : V → Value) (of : V → TypeTree → Type 0) (Full : TypeTree → Type 0) where
-  at_type : (T : TypeTree) (parts : List TypeTree) (t : Placed) (items : List Placed) (i : ℕ) (E : TypeTree) (u : Placed) (e : ParserError) → TupleType T parts → shape_of t ≡ tuple (placed_trees items) → HasAt parts i E → HasAt items i u → HasFullParts Full → IsBlamed Full E u e → IsBlamed Full T t e
+  at_type : (T : TypeTree) (parts : List TypeTree) (t : Placed) (items : List Placed) (i : ℕ) (E : TypeTree) (u : Placed) (e : Diagnostic) → TupleType T parts → shape_of t ≡ tuple (placed_trees items) → HasAt parts i E → HasAt items i u → HasFullParts Full → IsBlamed Full E u e → IsBlamed Full T t e
   at_type T parts t items i E u e is shape typed here full (inl memory) = inl memory
   at_type T parts t items i E u e is shape typed here full (inr (inl fault)) =
       inr (inl (subst (λ (U : TypeTree). Fault U t (refusal_of e) e.span) (sym is.is) (within_fault is.types t items (refusal_of e) e.span shape (inr (fault_at is.types items i E u (refusal_of e) e.span (subst (λ (l : List TypeTree). HasAt l i E) is.parts_are typed) here fault)))))
@@ -207,14 +206,14 @@ module _ {V : Type 0} (tree : V → Value) (of : V → TypeTree → Type 0) (Ful
       inr (inr (h.0, λ whole. h.1 (all_has Full (type_list is.types) i E (full (type.tuple is.types) (subst Full is.is whole)) (subst (λ (l : List TypeTree). HasAt l i E) is.parts_are typed))))
 
   -- a refusal of an item is one of the tuple
-  pub item_blamed : (source : List ℕ) (T : TypeTree) (parts : List TypeTree) (m : NodeTree) (t : Placed) (ns : List NodeTree) (i : ℕ) (n : NodeTree) (E : TypeTree) (e : ParserError) → TupleType T parts → IsNodeOf source m t → type_of m ≡ kind.Tuple → ns ≡ children_of m → i < length ns → n ≡ get_or ns i n → HasAt parts i E → HasFullParts Full → ((u : Placed) → IsNodeOf source n u → IsBlamed Full E u e) → IsBlamed Full T t e
+  pub item_blamed : (source : List ℕ) (T : TypeTree) (parts : List TypeTree) (m : NodeTree) (t : Placed) (ns : List NodeTree) (i : ℕ) (n : NodeTree) (E : TypeTree) (e : Diagnostic) → TupleType T parts → IsNodeOf source m t → type_of m ≡ kind.Tuple → ns ≡ children_of m → i < length ns → n ≡ get_or ns i n → HasAt parts i E → HasFullParts Full → ((u : Placed) → IsNodeOf source n u → IsBlamed Full E u e) → IsBlamed Full T t e
   item_blamed source T parts m t ns i n E e is node ty children lt at_i typed full blamed =
       let inner = tuple_nodes source m t node ty in
       let here = node_at source ns inner.items i n (given_items source m t ns node ty children) lt at_i in
       at_type T parts t inner.items i E here.0 e is inner.shape typed here.1 full (blamed here.0 here.2)
 
   -- a refusal because of the number of items
-  pub count_blame : (T : TypeTree) (parts : List TypeTree) (source : List ℕ) (m : NodeTree) (t : Placed) (ns : List NodeTree) (e : ParserError) → TupleType T parts → IsNodeOf source m t → type_of m ≡ kind.Tuple → ns ≡ children_of m → length ns ≢ length parts → RefusesFor (wrong_number (length parts) (length ns)) (place_of m) (refusal_of e) e.span → IsBlamed Full T t e
+  pub count_blame : (T : TypeTree) (parts : List TypeTree) (source : List ℕ) (m : NodeTree) (t : Placed) (ns : List NodeTree) (e : Diagnostic) → TupleType T parts → IsNodeOf source m t → type_of m ≡ kind.Tuple → ns ≡ children_of m → length ns ≢ length parts → RefusesFor (wrong_number (length parts) (length ns)) (place_of m) (refusal_of e) e.span → IsBlamed Full T t e
   count_blame T parts source m t ns e is node ty children apart refused =
       inr (inl (subst (λ (U : TypeTree). Fault U t (refusal_of e) e.span) (sym is.is) (count_fault T parts source m t ns e is node ty children apart refused)))
 
@@ -280,7 +279,7 @@ module _ {V : Type 0} (tree : V → Value) (of : V → TypeTree → Type 0) (Ful
   tuple_full T Ts ts vs (Err cause) is all h = λ full. h full Ts is (each_is (type_list Ts) ts vs all)
 
   -- the tuple was made, or its maker refused
-  pub tuple_made : (source : List ℕ) (T : TypeTree) (parts : List TypeTree) (n : NodeTree) (t : Placed) (ns : List NodeTree) (vs : List V) (i : ℕ) (m : Result V WasmValueError) (r : Result V ParserError) → TupleType T parts → HasDistinctNames T → (node : IsNodeOf source n t) → (ty : type_of n ≡ kind.Tuple) → ns ≡ children_of n → length ns ≡ length parts → length ns ≤ i → ReadAt (take i parts) (take i (tuple_nodes source n t node ty).items) vs → IfOk m (MakesTuple tree of T vs) → IfErr m (FullTuple of Full T vs) → IsMade n m r → MatchResult r (IsTypedValue tree of T t) (IsBlamed Full T t)
+  pub tuple_made : (source : List ℕ) (T : TypeTree) (parts : List TypeTree) (n : NodeTree) (t : Placed) (ns : List NodeTree) (vs : List V) (i : ℕ) (m : Result V WasmValueError) (r : Result V Diagnostic) → TupleType T parts → HasDistinctNames T → (node : IsNodeOf source n t) → (ty : type_of n ≡ kind.Tuple) → ns ≡ children_of n → length ns ≡ length parts → length ns ≤ i → ReadAt (take i parts) (take i (tuple_nodes source n t node ty).items) vs → IfOk m (MakesTuple tree of T vs) → IfErr m (FullTuple of Full T vs) → IsMade n m r → MatchResult r (IsTypedValue tree of T t) (IsBlamed Full T t)
   tuple_made source T parts n t ns vs i m r is distinct node ty children same le before ok full done =
       let inner = tuple_nodes source n t node ty in
       let many : length ns ≡ length inner.items = as_many source ns inner.items (given_items source n t ns node ty children) in

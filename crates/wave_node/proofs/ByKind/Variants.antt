@@ -14,8 +14,7 @@ use Rattle.wave_wasm.specs.ValueErrors.{unknown_case}
 use Rattle.wave_wasm.specs.ConstructorContracts.{IsMemory, MakesVariant, FullVariant, PayloadIsOf, payload_and, payload_types, HasFullParts}
 use Rattle.wave_wasm.specs.declared.wasm.WasmTypeKind.TheVariants as kinds
 use Rattle.wave_wasm.specs.declared.wasm.WasmValueError.{WasmValueError}
-use Rattle.wave_lex.specs.Errors.{Refusal, refusal_of}
-use Rattle.wave_lex.specs.declared.error.ParserError.{ParserError}
+use Rattle.wave_lex.specs.Errors.{Diagnostic, Refusal, refusal_of}
 use Rattle.wave_lex.specs.declared.error.ParserErrorKind.TheVariants.{InvalidType}
 use Rattle.wave_grammar.specs.Tree as form
 use Rattle.wave_grammar.specs.LeafTokens.{name_of}
@@ -162,7 +161,7 @@ no_label cs ty p r text children (label w v (a_placed u)) k q f x y refused = ab
 no_label cs ty p r text children _ k q f x y refused = refused
 
 -- a node that is no label
-pub variant_fault : (cs : Cases) (source : List ℕ) (n : NodeTree) (t : Placed) (e : ParserError) → placed_of source n ≡ Some t → GivesVariant source n (Err e) → Fault (type.variant cs) t (refusal_of e) e.span
+pub variant_fault : (cs : Cases) (source : List ℕ) (n : NodeTree) (t : Placed) (e : Diagnostic) → placed_of source n ≡ Some t → GivesVariant source n (Err e) → Fault (type.variant cs) t (refusal_of e) e.span
 variant_fault cs source n t e is given =
     let i = inside source n t is in
     no_label cs (type_of n) (place_of n) (span_of t) (slice source (place_of n)) i.children (shape_of t) (refusal_of e) e.span i.from given.0 given.1 (at_tree InvalidType (place_of n) (span_of t) (refusal_of e) e.span i.place (said given.2))
@@ -186,7 +185,7 @@ module _ {V : Type 0} (tree : V → Value) (of : V → TypeTree → Type 0) (Ful
   case_full (type.case_of other A more) name P (inr h) full = case_full more name P h.1 (others_full A (payload_types more) full)
 
   -- a refusal of the payload of a case
-  pub case_blame : (T : TypeTree) (cs : Cases) (source : List ℕ) (n : NodeTree) (t : Placed) (name : List ℕ) (o : Option NodeTree) (c : CaseNode source t name o) (P : MaybeType) (e : ParserError) → T ≡ type.variant cs → placed_of source n ≡ Some t → HasCase cs name P → HasFullParts Full → IsPayloadBlamed Full name P n c.payload e → IsBlamed Full T t e
+  pub case_blame : (T : TypeTree) (cs : Cases) (source : List ℕ) (n : NodeTree) (t : Placed) (name : List ℕ) (o : Option NodeTree) (c : CaseNode source t name o) (P : MaybeType) (e : Diagnostic) → T ≡ type.variant cs → placed_of source n ≡ Some t → HasCase cs name P → HasFullParts Full → IsPayloadBlamed Full name P n c.payload e → IsBlamed Full T t e
   case_blame T cs source n t name o c P e is node found parts (inl memory) = inl memory
   case_blame T cs source n t name o c P e is node found parts (inr (inl fault)) =
       let placed = subst (λ (p : Range ℕ). FaultOfPayload name P c.payload p (refusal_of e) e.span) (sym (inside source n t node).place) fault in
@@ -194,7 +193,7 @@ module _ {V : Type 0} (tree : V → Value) (of : V → TypeTree → Type 0) (Ful
   case_blame T cs source n t name o c P e is node found parts (inr (inr h)) = inr (inr (h.0, λ full. h.1 (case_full cs name P found (parts (type.variant cs) (subst Full is full)))))
 
   -- the refusal of a label that is no case
-  pub no_case_blame : (T : TypeTree) (cs : Cases) (source : List ℕ) (n : NodeTree) (t : Placed) (name : List ℕ) (o : Option NodeTree) (c : CaseNode source t name o) (e : ParserError) → T ≡ type.variant cs → placed_of source n ≡ Some t → IsNoneOf (case_names cs) name → IsCaused (unknown_case name) n e → IsBlamed Full T t e
+  pub no_case_blame : (T : TypeTree) (cs : Cases) (source : List ℕ) (n : NodeTree) (t : Placed) (name : List ℕ) (o : Option NodeTree) (c : CaseNode source t name o) (e : Diagnostic) → T ≡ type.variant cs → placed_of source n ≡ Some t → IsNoneOf (case_names cs) name → IsCaused (unknown_case name) n e → IsBlamed Full T t e
   no_case_blame T cs source n t name o c e is node none caused =
       caused_blame Full T source n t (unknown_case name) e node caused (λ refused.
       subst (λ (U : TypeTree). Fault U t (refusal_of e) e.span) (sym is) (label_fault cs t c.place c.text c.payload name (refusal_of e) e.span c.shape c.named (missing_fault cs name c.payload (span_of t) (refusal_of e) e.span none refused)))
@@ -210,7 +209,7 @@ module _ {V : Type 0} (tree : V → Value) (of : V → TypeTree → Type 0) (Ful
   variant_full T cs name P payload (Err cause) is found h f = λ full. f full cs is (type_option P) (case_listed cs name P found) h
 
   -- the case was made, or its maker refused
-  pub variant_made : (T : TypeTree) (cs : Cases) (source : List ℕ) (t : Placed) (n : NodeTree) (name : List ℕ) (o : Option NodeTree) (c : CaseNode source t name o) (P : MaybeType) (payload : Option V) (m : Result V WasmValueError) (r : Result V ParserError) → T ≡ type.variant cs → HasDistinctNames T → HasCase cs name P → IsPayloadRead tree of P c.payload payload → IfOk m (MakesVariant tree of T name payload) → IfErr m (FullVariant of Full T name payload) → IsMade n m r → MatchResult r (IsTypedValue tree of T t) (IsBlamed Full T t)
+  pub variant_made : (T : TypeTree) (cs : Cases) (source : List ℕ) (t : Placed) (n : NodeTree) (name : List ℕ) (o : Option NodeTree) (c : CaseNode source t name o) (P : MaybeType) (payload : Option V) (m : Result V WasmValueError) (r : Result V Diagnostic) → T ≡ type.variant cs → HasDistinctNames T → HasCase cs name P → IsPayloadRead tree of P c.payload payload → IfOk m (MakesVariant tree of T name payload) → IfErr m (FullVariant of Full T name payload) → IsMade n m r → MatchResult r (IsTypedValue tree of T t) (IsBlamed Full T t)
   variant_made T cs source t n name o c P payload m r is distinct found read ok full done =
       let w = maybe_value (option_map tree payload) in
       let read_case = subst (λ (x : List ℕ). TreeReadsCase cs x (maybe_of c.payload) w) c.named (case_reads cs name P (maybe_of c.payload) w found read.reads) in

@@ -12,7 +12,7 @@ use Rattle.wave_wasm.specs.ConstructorContracts.{MakesLeaf, FullLeaf}
 use Rattle.wave_wasm.specs.declared.wasm.WasmTypeKind.{WasmTypeKind}
 use Rattle.wave_wasm.specs.declared.wasm.WasmTypeKind.TheVariants as kinds
 use Rattle.wave_wasm.specs.declared.wasm.WasmValueError.{WasmValueError}
-use Rattle.wave_lex.specs.declared.error.ParserError.{ParserError}
+use Rattle.wave_lex.specs.Errors.{Diagnostic}
 use Rattle.wave_grammar.specs.Token.{Token}
 use Rattle.wave_grammar.specs.SpannedTree.{Placed}
 use Rattle.wave_node.specs.NodeTree.{NodeTree, place_of}
@@ -95,35 +95,35 @@ of_none k apart type.u64 = apart.u64
 module _ {V : Type 0} (tree : V → Value) (of : V → TypeTree → Type 0) (Full : TypeTree → Type 0) where
   -- ---- what is answered at a kind
 
-  answered : (k : WasmTypeKind) (which : Whole) (source : List ℕ) (n : NodeTree) (r : Result V ParserError) → k ≡ whole_kind which → IsWholeRead tree of Full which source n r → AnswersWhole tree of Full k source n r
+  answered : (k : WasmTypeKind) (which : Whole) (source : List ℕ) (n : NodeTree) (r : Result V Diagnostic) → k ≡ whole_kind which → IsWholeRead tree of Full which source n r → AnswersWhole tree of Full k source n r
   answered k which source n r is read =
       (λ other same. subst (λ (w : Whole). IsWholeRead tree of Full w source n r) (whole_once which other (sym is ∙ same)) read, λ none. absurd (none which is))
 
   -- what a maker answered for the number
-  pub whole_made : (k : WasmTypeKind) (which : Whole) (source : List ℕ) (n : NodeTree) (y z : ℤ) (m : Result V WasmValueError) (r : Result V ParserError) → k ≡ whole_kind which → y ≡ z → GivesNumber which (λ (x : ℤ). x) source n (Ok z) → IfOk m (MakesLeaf tree of (value.whole which y)) → IfErr m (FullLeaf Full (value.whole which y)) → IsMade n m r → AnswersWhole tree of Full k source n r
+  pub whole_made : (k : WasmTypeKind) (which : Whole) (source : List ℕ) (n : NodeTree) (y z : ℤ) (m : Result V WasmValueError) (r : Result V Diagnostic) → k ≡ whole_kind which → y ≡ z → GivesNumber which (λ (x : ℤ). x) source n (Ok z) → IfOk m (MakesLeaf tree of (value.whole which y)) → IfErr m (FullLeaf Full (value.whole which y)) → IsMade n m r → AnswersWhole tree of Full k source n r
   whole_made k which source n y z m r is same given made full done =
       answered k which source n r is (inl (y, subst (λ (x : ℤ). GivesNumber which (λ (w : ℤ). w) source n (Ok x)) (sym same) given, (m, made, full, done)))
 
   -- the refusal of a node of no number
-  pub whole_refused : (k : WasmTypeKind) (which : Whole) (source : List ℕ) (n : NodeTree) (e : ParserError) (r : Result V ParserError) → k ≡ whole_kind which → GivesNumber which (λ (x : ℤ). x) source n (Err e) → IsErrAnd r (λ f. f ≡ e) → AnswersWhole tree of Full k source n r
+  pub whole_refused : (k : WasmTypeKind) (which : Whole) (source : List ℕ) (n : NodeTree) (e : Diagnostic) (r : Result V Diagnostic) → k ≡ whole_kind which → GivesNumber which (λ (x : ℤ). x) source n (Err e) → IsErrAnd r (λ f. f ≡ e) → AnswersWhole tree of Full k source n r
   whole_refused k which source n e r is given same = answered k which source n r is (inr (e, given, same))
 
   -- the refusal of another kind
-  pub none_whole : (k : WasmTypeKind) (source : List ℕ) (n : NodeTree) (e : ParserError) → IsNoWhole k → IsCaused (unsupported_type (kind_word k)) n e → e.span ≡ place_of n → AnswersWhole tree of Full k source n (Err e)
+  pub none_whole : (k : WasmTypeKind) (source : List ℕ) (n : NodeTree) (e : Diagnostic) → IsNoWhole k → IsCaused (unsupported_type (kind_word k)) n e → e.span ≡ place_of n → AnswersWhole tree of Full k source n (Err e)
   none_whole k source n e apart caused place = (λ which is. absurd (of_none k apart which is), λ none. (caused, place))
 
   -- ---- values
 
-  whole_value : (T : TypeTree) (which : Whole) (source : List ℕ) (n : NodeTree) (t : Placed) (r : Result V ParserError) → T ≡ type.simple (type.whole which) → placed_of source n ≡ Some t → IsWholeRead tree of Full which source n r → MatchResult r (IsTypedValue tree of T t) (IsBlamed Full T t)
+  whole_value : (T : TypeTree) (which : Whole) (source : List ℕ) (n : NodeTree) (t : Placed) (r : Result V Diagnostic) → T ≡ type.simple (type.whole which) → placed_of source n ≡ Some t → IsWholeRead tree of Full which source n r → MatchResult r (IsTypedValue tree of T t) (IsBlamed Full T t)
   whole_value T which source n t r is node (inl (z, given, made)) = leaf_made tree of Full T t n (value.whole which z) made.0 r is (number_read which source n t z node given.0 given.1) made.1 made.2 made.3
   whole_value T which source n t r is node (inr (e, given, same)) = faulty tree of Full T t (type.simple (type.whole which)) e r is same (number_blame which (λ (x : ℤ). x) source n t e node given)
 
-  unread_value : (T : TypeTree) (k : WasmTypeKind) (source : List ℕ) (n : NodeTree) (t : Placed) (r : Result V ParserError) → k ≡ kind_of T → placed_of source n ≡ Some t → IsUnread k → ((which : Whole) → k ≢ whole_kind which) → IsErrAnd r (λ e. IsCaused (unsupported_type (kind_word k)) n e × (e.span ≡ place_of n)) → MatchResult r (IsTypedValue tree of T t) (IsBlamed Full T t)
+  unread_value : (T : TypeTree) (k : WasmTypeKind) (source : List ℕ) (n : NodeTree) (t : Placed) (r : Result V Diagnostic) → k ≡ kind_of T → placed_of source n ≡ Some t → IsUnread k → ((which : Whole) → k ≢ whole_kind which) → IsErrAnd r (λ e. IsCaused (unsupported_type (kind_word k)) n e × (e.span ≡ place_of n)) → MatchResult r (IsTypedValue tree of T t) (IsBlamed Full T t)
   unread_value T k source n t (Ok v) is node unread none h = absurd h
   unread_value T k source n t (Err e) is node unread none h = unread_blame Full T source n t k e node is unread none h.0
 
   -- what is answered at a type of a kind that is read nowhere else
-  pub whole_answers : (T : TypeTree) (k : WasmTypeKind) (source : List ℕ) (n : NodeTree) (t : Placed) (r : Result V ParserError) → k ≡ kind_of T → placed_of source n ≡ Some t → IsUnread k → AnswersWhole tree of Full k source n r → MatchResult r (IsTypedValue tree of T t) (IsBlamed Full T t)
+  pub whole_answers : (T : TypeTree) (k : WasmTypeKind) (source : List ℕ) (n : NodeTree) (t : Placed) (r : Result V Diagnostic) → k ≡ kind_of T → placed_of source n ≡ Some t → IsUnread k → AnswersWhole tree of Full k source n r → MatchResult r (IsTypedValue tree of T t) (IsBlamed Full T t)
   whole_answers T k source n t r is node unread h = by (whole_of k)
     where
       by : ((which : Whole) × (k ≡ whole_kind which)) ⊎ ((which : Whole) → k ≢ whole_kind which) → MatchResult r (IsTypedValue tree of T t) (IsBlamed Full T t)
@@ -132,14 +132,14 @@ module _ {V : Type 0} (tree : V → Value) (of : V → TypeTree → Type 0) (Ful
 
   -- ---- keys
 
-  whole_key : (which : Whole) (source : List ℕ) (n : NodeTree) (p : Range ℕ) (key : Token) (r : Result V ParserError) → IsTokenOf source n p key → IsWholeRead tree of Full which source n r → MatchResult r (IsKeyRead tree of (type.whole which) key) (IsKeyBlamed Full (type.whole which) p key)
+  whole_key : (which : Whole) (source : List ℕ) (n : NodeTree) (p : Range ℕ) (key : Token) (r : Result V Diagnostic) → IsTokenOf source n p key → IsWholeRead tree of Full which source n r → MatchResult r (IsKeyRead tree of (type.whole which) key) (IsKeyBlamed Full (type.whole which) p key)
   whole_key which source n p key r token (inl (z, given, made)) =
       key_made tree of Full (type.simple (type.whole which)) (type.whole which) (type.whole which) p key n (value.whole which z) made.0 r refl refl refl (number_key which (λ (x : ℤ). x) source n p key z token given) made.1 made.2 made.3
   whole_key which source n p key r token (inr (e, given, same)) =
       key_faulty tree of Full (type.simple (type.whole which)) (type.whole which) (type.whole which) p key e r refl refl same (no_number_key which (λ (x : ℤ). x) source n p key e token given)
 
   -- what is answered for a key of a kind that is read nowhere else
-  pub whole_answers_key : (K : Simple) (k : WasmTypeKind) (source : List ℕ) (n : NodeTree) (p : Range ℕ) (key : Token) (r : Result V ParserError) → k ≡ kind_of (type.simple K) → k ≢ kinds.Bool → k ≢ kinds.Char → k ≢ kinds.String → IsTokenOf source n p key → AnswersWhole tree of Full k source n r → MatchResult r (IsKeyRead tree of K key) (IsKeyBlamed Full K p key)
+  pub whole_answers_key : (K : Simple) (k : WasmTypeKind) (source : List ℕ) (n : NodeTree) (p : Range ℕ) (key : Token) (r : Result V Diagnostic) → k ≡ kind_of (type.simple K) → k ≢ kinds.Bool → k ≢ kinds.Char → k ≢ kinds.String → IsTokenOf source n p key → AnswersWhole tree of Full k source n r → MatchResult r (IsKeyRead tree of K key) (IsKeyBlamed Full K p key)
   whole_answers_key type.bool k source n p key r is bool char string token h = absurd (bool is)
   whole_answers_key (type.whole which) k source n p key r is bool char string token h = whole_key which source n p key r token (h.0 which is)
   whole_answers_key type.char k source n p key r is bool char string token h = absurd (char is)
@@ -147,17 +147,17 @@ module _ {V : Type 0} (tree : V → Value) (of : V → TypeTree → Type 0) (Ful
 
   -- ---- where refusals stand
 
-  read_at : (which : Whole) (source : List ℕ) (n : NodeTree) (r : Result V ParserError) → IsWholeRead tree of Full which source n r → IfErr r (IsAtNode n)
+  read_at : (which : Whole) (source : List ℕ) (n : NodeTree) (r : Result V Diagnostic) → IsWholeRead tree of Full which source n r → IfErr r (IsAtNode n)
   read_at which source n r (inl (z, given, made)) = leaf_at tree of Full (value.whole which z) n r made
   read_at which source n (Ok v) (inr (e, given, same)) = tt
   read_at which source n (Err f) (inr (e, given, same)) = subst (IsAtNode n) (sym same) (number_at which (λ (x : ℤ). x) source n e given)
 
-  unread_at : (k : WasmTypeKind) (n : NodeTree) (r : Result V ParserError) → IsErrAnd r (λ e. IsCaused (unsupported_type (kind_word k)) n e × (e.span ≡ place_of n)) → IfErr r (IsAtNode n)
+  unread_at : (k : WasmTypeKind) (n : NodeTree) (r : Result V Diagnostic) → IsErrAnd r (λ e. IsCaused (unsupported_type (kind_word k)) n e × (e.span ≡ place_of n)) → IfErr r (IsAtNode n)
   unread_at k n (Ok v) h = tt
   unread_at k n (Err e) h = caused_at (unsupported_type (kind_word k)) n e h.0 h.1
 
   -- a refusal stands at the node
-  pub whole_at : (k : WasmTypeKind) (source : List ℕ) (n : NodeTree) (r : Result V ParserError) → AnswersWhole tree of Full k source n r → IfErr r (IsAtNode n)
+  pub whole_at : (k : WasmTypeKind) (source : List ℕ) (n : NodeTree) (r : Result V Diagnostic) → AnswersWhole tree of Full k source n r → IfErr r (IsAtNode n)
   whole_at k source n r h = by (whole_of k)
     where
       by : ((which : Whole) × (k ≡ whole_kind which)) ⊎ ((which : Whole) → k ≢ whole_kind which) → IfErr r (IsAtNode n)

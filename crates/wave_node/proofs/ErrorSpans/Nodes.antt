@@ -5,8 +5,7 @@ use Rattle.wave_wasm.specs.Lists.{AllOf}
 use Rattle.wave_wasm.specs.ValueErrors.{Cause, cause_of}
 use Rattle.wave_wasm.specs.declared.wasm.WasmValueError.{WasmValueError}
 use Rattle.wave_wasm.specs.declared.wasm.WasmValueError.TheVariants as error
-use Rattle.wave_lex.specs.Errors.{Refusal, refusal_of, refused_by, plainly, LiesInText, Says}
-use Rattle.wave_lex.specs.declared.error.ParserError.{ParserError}
+use Rattle.wave_lex.specs.Errors.{Diagnostic, Refusal, refusal_of, refused_by, plainly, LiesInText, Says}
 use Rattle.wave_lex.specs.declared.error.ParserErrorKind.{ParserErrorKind}
 use Rattle.wave_lex.specs.declared.error.ParserErrorKind.TheVariants as why
 use Rattle.wave_lex.specs.Tokenization.{Stands}
@@ -176,50 +175,50 @@ node_ordered : (source : List ℕ) (n : NodeTree) → IsParsedFrom source n → 
 node_ordered source n h = (stands source n h).ordered
 
 -- what stands at a node stands in it
-pub at_in : (source : List ℕ) (n : NodeTree) (e : ParserError) → IsParsedFrom source n → IsAtNode n e → StandsIn n e
+pub at_in : (source : List ℕ) (n : NodeTree) (e : Diagnostic) → IsParsedFrom source n → IsAtNode n e → StandsIn n e
 at_in source n e h told =
     let o = node_ordered source n h in
     record { lies = subst (LiesInNode n) (sym told.0) (omega arith, o, omega arith); caused = λ was. (n, whole_part n, told) }
 
 -- a refusal of another kind has no cause to tell
-pub plain_kind : (k : ParserErrorKind) (e : ParserError) → k ≢ why.WasmValueError → refusal_of e ≡ plainly k → HasCause e
+pub plain_kind : (k : ParserErrorKind) (e : Diagnostic) → k ≢ why.WasmValueError → refusal_of e ≡ plainly k → HasCause e
 plain_kind k e apart is = λ was. absurd (apart (sym (ap (λ (r : Refusal). r.kind) is) ∙ was))
 
 -- a refusal for want of memory
-pub memory_at : (p : Range ℕ) (e : ParserError) → e.kind ≡ why.OutOfMemory → e.span ≡ p → IsAtPlace p e
+pub memory_at : (p : Range ℕ) (e : Diagnostic) → e.kind ≡ why.OutOfMemory → e.span ≡ p → IsAtPlace p e
 memory_at p e is place = (place, λ was. absurd (cc (sym is ∙ was)))
 
 -- a maker's refusal has its cause
-pub made_cause : (c : WasmValueError) (e : ParserError) → refusal_of e ≡ refused_by (cause_of c) → HasCause e
+pub made_cause : (c : WasmValueError) (e : Diagnostic) → refusal_of e ≡ refused_by (cause_of c) → HasCause e
 made_cause (error.Memory a) e is = λ was. absurd (cc (sym (ap (λ (r : Refusal). r.kind) is) ∙ was))
 made_cause c e is = λ was. (cause_of c, is)
 
 -- a refusal with this cause
-pub caused_at : (c : Cause) (n : NodeTree) (e : ParserError) → IsCaused c n e → e.span ≡ place_of n → IsAtNode n e
+pub caused_at : (c : Cause) (n : NodeTree) (e : Diagnostic) → IsCaused c n e → e.span ≡ place_of n → IsAtNode n e
 caused_at c n e (inl memory) place = memory_at (place_of n) e memory place
 caused_at c n e (inr h) place = (place, λ was. (c, h.0))
 
 -- a refusal of the kind at the node
-pub refused_at : (k : ParserErrorKind) (n : NodeTree) (e : ParserError) → k ≢ why.WasmValueError → RefusedAs k n e → IsAtNode n e
+pub refused_at : (k : ParserErrorKind) (n : NodeTree) (e : Diagnostic) → k ≢ why.WasmValueError → RefusedAs k n e → IsAtNode n e
 refused_at k n e apart h = (h.stands, plain_kind k e apart h.is)
 
 -- what a maker refused, at the node
-pub made_at : {V : Type 0} (n : NodeTree) (m : Result V WasmValueError) (r : Result V ParserError) → IsMade n m r → IfErr r (IsAtNode n)
+pub made_at : {V : Type 0} (n : NodeTree) (m : Result V WasmValueError) (r : Result V Diagnostic) → IsMade n m r → IfErr r (IsAtNode n)
 made_at n m (Ok w) is = tt
 made_at n (Ok v) (Err e) is = absurd is
 made_at n (Err c) (Err e) is = (is.1, made_cause c e is.0)
 
 -- what stands at the node stands in it
-pub all_in : {V : Type 0} (source : List ℕ) (n : NodeTree) (r : Result V ParserError) → IsParsedFrom source n → IfErr r (IsAtNode n) → IfErr r (StandsIn n)
+pub all_in : {V : Type 0} (source : List ℕ) (n : NodeTree) (r : Result V Diagnostic) → IsParsedFrom source n → IfErr r (IsAtNode n) → IfErr r (StandsIn n)
 all_in source n (Ok w) h told = tt
 all_in source n (Err e) h told = at_in source n e h told
 
 -- so it stands in the node
-pub made_in : {V : Type 0} (source : List ℕ) (n : NodeTree) (m : Result V WasmValueError) (r : Result V ParserError) → IsParsedFrom source n → IsMade n m r → IfErr r (StandsIn n)
+pub made_in : {V : Type 0} (source : List ℕ) (n : NodeTree) (m : Result V WasmValueError) (r : Result V Diagnostic) → IsParsedFrom source n → IsMade n m r → IfErr r (StandsIn n)
 made_in source n m r h is = all_in source n r h (made_at n m r is)
 
 -- a refusal that stands in a node of the node
-pub deeper : (n m : NodeTree) (e : ParserError) → BelongsTo n m → StandsIn m e → StandsIn n e
+pub deeper : (n m : NodeTree) (e : Diagnostic) → BelongsTo n m → StandsIn m e → StandsIn n e
 deeper n m e b h =
     let from = b.lies.0 in
     let to = b.lies.1 in
@@ -228,11 +227,11 @@ deeper n m e b h =
     record { lies = (omega arith, h.lies.1, omega arith); caused = λ was. let (k, part, told) = h.caused was in (k, b.parts k part, told) }
 
 -- so of the node at a place
-pub deeper_at : (source : List ℕ) (n : NodeTree) (ns : List NodeTree) (i : ℕ) (m : NodeTree) (e : ParserError) → IsValueOf source n → ns ≡ children_of n → i < length ns → m ≡ get_or ns i m → StandsIn m e → StandsIn n e
+pub deeper_at : (source : List ℕ) (n : NodeTree) (ns : List NodeTree) (i : ℕ) (m : NodeTree) (e : Diagnostic) → IsValueOf source n → ns ≡ children_of n → i < length ns → m ≡ get_or ns i m → StandsIn m e → StandsIn n e
 deeper_at source n ns i m e v is lt here h = deeper n m e (all_has (BelongsTo n) ns i m (subst (AllOf (BelongsTo n)) (sym is) (children_belong source n v)) (place_has ns i m lt here)) h
 
 -- so of a part
-pub part_in : (source : List ℕ) (n : NodeTree) (o : Option NodeTree) (e : ParserError) → IsParsedFrom source n → ((m : NodeTree) → o ≡ Some m → BelongsTo n m) → StandsInPart n o e → StandsIn n e
+pub part_in : (source : List ℕ) (n : NodeTree) (o : Option NodeTree) (e : Diagnostic) → IsParsedFrom source n → ((m : NodeTree) → o ≡ Some m → BelongsTo n m) → StandsInPart n o e → StandsIn n e
 part_in source n o e parsed belongs (inl told) = at_in source n e parsed told
 part_in source n o e parsed belongs (inr h) = deeper n h.0 e (belongs h.0 h.1) h.2
 
@@ -249,32 +248,32 @@ pub node_in_text : (source : List ℕ) (n : NodeTree) → IsParsedFrom source n 
 node_in_text source n h = let s = stands source n h in (s.ordered, s.last.0)
 
 -- so does what stands at it
-pub at_in_text : (source : List ℕ) (n : NodeTree) (e : ParserError) → IsParsedFrom source n → IsAtNode n e → LiesInText source e.span
+pub at_in_text : (source : List ℕ) (n : NodeTree) (e : Diagnostic) → IsParsedFrom source n → IsAtNode n e → LiesInText source e.span
 at_in_text source n e parsed told = subst (LiesInText source) (sym told.0) (node_in_text source n parsed)
 
 -- ---- what accessors refuse
 
-pub number_at : {N : Type 0} (which : Whole) (number : N → ℤ) (source : List ℕ) (n : NodeTree) (e : ParserError) → GivesNumber which number source n (Err e) → IsAtNode n e
+pub number_at : {N : Type 0} (which : Whole) (number : N → ℤ) (source : List ℕ) (n : NodeTree) (e : Diagnostic) → GivesNumber which number source n (Err e) → IsAtNode n e
 number_at which number source n e (inl h) = refused_at why.InvalidType n e (λ k. cc) h.1
 number_at which number source n e (inr h) = refused_at why.InvalidValue n e (λ k. cc) h.2
 
-pub char_at : (source : List ℕ) (n : NodeTree) (e : ParserError) → GivesChar source n (Err e) → IsAtNode n e
+pub char_at : (source : List ℕ) (n : NodeTree) (e : Diagnostic) → GivesChar source n (Err e) → IsAtNode n e
 char_at source n e (inl h) = refused_at why.InvalidType n e (λ k. cc) h.1
 char_at source n e (inr h) = refused_at why.InvalidEscape n e (λ k. cc) h.2
 
-pub form_at : (n : NodeTree) (e : ParserError) → RefusedAs why.InvalidType n e → IsAtNode n e
+pub form_at : (n : NodeTree) (e : Diagnostic) → RefusedAs why.InvalidType n e → IsAtNode n e
 form_at n e h = refused_at why.InvalidType n e (λ k. cc) h
 
 text_fits : (source : List ℕ) (p : Range ℕ) → p.start ≤ p.end → p.start + length (slice source p) ≤ p.end
 text_fits source p o = let a = length-take (p.end - p.start) (drop p.start source) in omega arith
 
-fault_plain : (f : LineFault) (e : ParserError) → refusal_of e ≡ plainly (fault_kind f) → e.kind ≢ why.WasmValueError
+fault_plain : (f : LineFault) (e : Diagnostic) → refusal_of e ≡ plainly (fault_kind f) → e.kind ≢ why.WasmValueError
 fault_plain closing e is was = cc (sym (ap (λ (r : Refusal). r.kind) is) ∙ was)
 fault_plain opening e is was = cc (sym (ap (λ (r : Refusal). r.kind) is) ∙ was)
 fault_plain (indentation i) e is was = cc (sym (ap (λ (r : Refusal). r.kind) is) ∙ was)
 fault_plain (escape i) e is was = cc (sym (ap (λ (r : Refusal). r.kind) is) ∙ was)
 
-string_fault_in : (source : List ℕ) (n : NodeTree) (e : ParserError) → IsParsedFrom source n → TellsStringFault source n e → StandsIn n e
+string_fault_in : (source : List ℕ) (n : NodeTree) (e : Diagnostic) → IsParsedFrom source n → TellsStringFault source n e → StandsIn n e
 string_fault_in source n e h (inl (ty, x, i, own, bad, tells)) =
     let fits = text_fits source (place_of n) (node_ordered source n h) in
     let bytes = ap length own in
@@ -296,7 +295,7 @@ string_fault_in source n e h (inr (ty, x, f, own, bad, tells)) =
       caused = λ was. absurd (fault_plain f e tells.refusal was);
     }
 
-pub string_in : (source : List ℕ) (n : NodeTree) (e : ParserError) → IsParsedFrom source n → RefusesString source n e → StandsIn n e
+pub string_in : (source : List ℕ) (n : NodeTree) (e : Diagnostic) → IsParsedFrom source n → RefusesString source n e → StandsIn n e
 string_in source n e h (inl told) = at_in source n e h (form_at n e told.2)
 string_in source n e h (inr (inl told)) = string_fault_in source n e h told
 string_in source n e h (inr (inr told)) = at_in source n e h (refused_at why.OutOfMemory n e (λ k. cc) told.0)
@@ -348,35 +347,35 @@ pub close_lies : (source : List ℕ) (n : NodeTree) → IsParsedFrom source n �
 close_lies source n h = let l = node_in_text source n h in (omega arith, l.1)
 
 -- a refusal without a cause
-pub said_plain : (e : ParserError) (k : ParserErrorKind) (p : Range ℕ) (detail : Option (List ℕ)) → k ≢ why.WasmValueError → Says e k p detail → IsAtPlace p e
+pub said_plain : (e : Diagnostic) (k : ParserErrorKind) (p : Range ℕ) (detail : Option (List ℕ)) → k ≢ why.WasmValueError → Says e k p detail → IsAtPlace p e
 said_plain e k p detail apart says = (says.stands, plain_kind k e apart says.is)
 
 -- want of memory, or a refusal without a cause
-pub memory_or_plain : (e : ParserError) (k : ParserErrorKind) (p : Range ℕ) (detail : Option (List ℕ)) → k ≢ why.WasmValueError → (e.kind ≡ why.OutOfMemory) ⊎ Says e k p detail → e.span ≡ p → IsAtPlace p e
+pub memory_or_plain : (e : Diagnostic) (k : ParserErrorKind) (p : Range ℕ) (detail : Option (List ℕ)) → k ≢ why.WasmValueError → (e.kind ≡ why.OutOfMemory) ⊎ Says e k p detail → e.span ≡ p → IsAtPlace p e
 memory_or_plain e k p detail apart (inl memory) place = memory_at p e memory place
 memory_or_plain e k p detail apart (inr says) place = said_plain e k p detail apart says
 
 -- what stands at a place of the source lies in it
-pub all_at_text : {X : Type 0} (source : List ℕ) (p : Range ℕ) (r : Result X ParserError) → Stands source p.start p.end → IfErr r (IsAtPlace p) → IfErr r (λ e. LiesInText source e.span)
+pub all_at_text : {X : Type 0} (source : List ℕ) (p : Range ℕ) (r : Result X Diagnostic) → Stands source p.start p.end → IfErr r (IsAtPlace p) → IfErr r (λ e. LiesInText source e.span)
 all_at_text source p (Ok x) h told = tt
 all_at_text source p (Err e) h told = subst (LiesInText source) (sym told.0) (h.ordered, h.last.0)
 
 -- a refusal at a place is one with a cause there, where it is a `WasmValueError`
-pub all_at_cause : {X : Type 0} (p : Range ℕ) (r : Result X ParserError) → IfErr r (IsAtPlace p) → IfErr r (λ e. e.kind ≡ why.WasmValueError → IsAtPlace p e)
+pub all_at_cause : {X : Type 0} (p : Range ℕ) (r : Result X Diagnostic) → IfErr r (IsAtPlace p) → IfErr r (λ e. e.kind ≡ why.WasmValueError → IsAtPlace p e)
 all_at_cause p (Ok x) told = tt
 all_at_cause p (Err e) told = λ was. told
 
 -- ---- leaves and keys
 
 -- what was answered for a leaf stands at the node
-pub leaf_at : {V : Type 0} (tree : V → Value) (of : V → TypeTree → Type 0) (Full : TypeTree → Type 0) (leaf : Leaf) (n : NodeTree) (r : Result V ParserError) → IsLeafMade tree of Full leaf n r → IfErr r (IsAtNode n)
+pub leaf_at : {V : Type 0} (tree : V → Value) (of : V → TypeTree → Type 0) (Full : TypeTree → Type 0) (leaf : Leaf) (n : NodeTree) (r : Result V Diagnostic) → IsLeafMade tree of Full leaf n r → IfErr r (IsAtNode n)
 leaf_at tree of Full leaf n r h = made_at n h.0 r h.3
 
 -- a refusal that says the same of a key, or want of memory
-pub told_in : {V : Type 0} (source : List ℕ) (n : NodeTree) (r : Result V ParserError) (e f : ParserError) → IsParsedFrom source n → r ≡ Err e → IfErr r (StandsIn n) → (f.kind ≡ why.OutOfMemory) × (f.span ≡ place_of n) ⊎ (refusal_of f ≡ refusal_of e) × (f.span ≡ e.span) → StandsIn n f
+pub told_in : {V : Type 0} (source : List ℕ) (n : NodeTree) (r : Result V Diagnostic) (e f : Diagnostic) → IsParsedFrom source n → r ≡ Err e → IfErr r (StandsIn n) → (f.kind ≡ why.OutOfMemory) × (f.span ≡ place_of n) ⊎ (refusal_of f ≡ refusal_of e) × (f.span ≡ e.span) → StandsIn n f
 told_in source n r e f parsed is h (inl memory) = at_in source n f parsed (memory_at (place_of n) f memory.0 memory.1)
 told_in {V} source n r e f parsed is h (inr (same, place)) =
-    let before : StandsIn n e = subst (λ (s : Result V ParserError). IfErr s (StandsIn n)) is h in
+    let before : StandsIn n e = subst (λ (s : Result V Diagnostic). IfErr s (StandsIn n)) is h in
     let kinds : e.kind ≡ f.kind = sym (ap (λ (x : Refusal). x.kind) same) in
     record {
       lies = subst (LiesInNode n) (sym place) before.lies;

@@ -7,8 +7,7 @@ use Rattle.wave_wasm.specs.Lists.{AllOf, SomeOf}
 use Rattle.wave_wasm.specs.Names.{IsOneOf, IsNoneOf}
 use Rattle.wave_wasm.specs.Types as type
 use Rattle.wave_wasm.specs.Types.{Fields, field_names}
-use Rattle.wave_lex.specs.Errors.{Refusal, refusal_of}
-use Rattle.wave_lex.specs.declared.error.ParserError.{ParserError}
+use Rattle.wave_lex.specs.Errors.{Diagnostic, Refusal, refusal_of}
 use Rattle.wave_lex.specs.declared.error.ParserErrorKind.TheVariants.{InvalidType, DuplicateField, OutOfMemory}
 use Rattle.wave_grammar.specs.Token.{Token}
 use Rattle.wave_grammar.specs.Token as token
@@ -184,12 +183,12 @@ repeated_fault source (p ∷ before) entry behind (e ∷ es) earlier k q h label
     later (inl (inr old)) = inl old
     later (inr old) = inr (inr old)
 
-refused_key : (fs : Fields) (source : List ℕ) (t : Placed) (before : List (NodeTree × NodeTree)) (entry : NodeTree × NodeTree) (behind : List (NodeTree × NodeTree)) (es : List PlacedEntry) (e : ParserError) → record_in (shape_of t) ≡ Some es → AreEntriesOf source (before ++ entry ∷ behind) es → AllOf IsLabelled before → RefusesKey source (names_of (map (field_of source) before)) entry.0 e → Fault (type.record_type fs) t (refusal_of e) e.span
+refused_key : (fs : Fields) (source : List ℕ) (t : Placed) (before : List (NodeTree × NodeTree)) (entry : NodeTree × NodeTree) (behind : List (NodeTree × NodeTree)) (es : List PlacedEntry) (e : Diagnostic) → record_in (shape_of t) ≡ Some es → AreEntriesOf source (before ++ entry ∷ behind) es → AllOf IsLabelled before → RefusesKey source (names_of (map (field_of source) before)) entry.0 e → Fault (type.record_type fs) t (refusal_of e) e.span
 refused_key fs source t before entry behind es e taken h labels (inl (apart, says)) = within_record fs t es (refusal_of e) e.span taken (inl (key_fault source before entry behind es (refusal_of e) e.span h apart (says.is, says.stands)))
 refused_key fs source t before entry behind es e taken h labels (inr (labelled, old, says)) = within_record fs t es (refusal_of e) e.span taken (inr (inr (inl (repeated_fault source before entry behind es [] (refusal_of e) e.span h labels labelled (inl old) (says.is, says.stands)))))
 
 -- a refusal of a record's node or of its keys is want of memory or a fault
-pub fields_blame : (fs : Fields) (source : List ℕ) (n : NodeTree) (t : Placed) (e : ParserError) → IsNodeOf source n t → RefusesFields source n e → (e.kind ≡ OutOfMemory) ⊎ Fault (type.record_type fs) t (refusal_of e) e.span
+pub fields_blame : (fs : Fields) (source : List ℕ) (n : NodeTree) (t : Placed) (e : Diagnostic) → IsNodeOf source n t → RefusesFields source n e → (e.kind ≡ OutOfMemory) ⊎ Fault (type.record_type fs) t (refusal_of e) e.span
 fields_blame fs source n t e h (inl memory) = inl memory
 fields_blame fs source n t e h (inr (inl other)) = inr (other_fault fs source n t (refusal_of e) e.span h.0 other.0 (said other.1))
 fields_blame fs source n t e h (inr (inr r)) =

@@ -9,8 +9,7 @@ use Rattle.wave_wasm.specs.declared.wasm.WasmTypeKind.{WasmTypeKind}
 use Rattle.wave_wasm.specs.declared.wasm.WasmTypeKind.TheVariants as kinds
 use Rattle.wave_wasm.specs.declared.wasm.WasmValueError.{WasmValueError}
 use Rattle.wave_wasm.specs.declared.wasm.WasmValueError.TheVariants as causes
-use Rattle.wave_lex.specs.Errors.{Refusal, refusal_of, refused_by}
-use Rattle.wave_lex.specs.declared.error.ParserError.{ParserError}
+use Rattle.wave_lex.specs.Errors.{Diagnostic, Refusal, refusal_of, refused_by}
 use Rattle.wave_grammar.specs.TypedGrammar.{IsOption}
 use Rattle.wave_node.specs.NodeTree.{NodeTree}
 use Rattle.wave_node.specs.TypedReading.{IsMade}
@@ -23,17 +22,17 @@ not_option (type.option P) k e apart o = apart e
 not_option _ k e apart o = o
 
 -- a field that is missing
-pub missing : (Full : TypeTree → Type 0) (T : TypeTree) (k : WasmTypeKind) (name : List ℕ) (n : NodeTree) (e : ParserError) → k ≡ kind_of T → k ≢ kinds.Option → IsCaused (missing_field name) n e → IsMissing Full T name n e
+pub missing : (Full : TypeTree → Type 0) (T : TypeTree) (k : WasmTypeKind) (name : List ℕ) (n : NodeTree) (e : Diagnostic) → k ≡ kind_of T → k ≢ kinds.Option → IsCaused (missing_field name) n e → IsMissing Full T name n e
 missing Full T k name n e is apart (inl memory) = inl memory
 missing Full T k name n e is apart (inr refused) = inr (inl (not_option T k is apart, refused))
 
-not_made : (Full : TypeTree → Type 0) (T : TypeTree) (name : List ℕ) (n : NodeTree) (cause : WasmValueError) (e : ParserError) → refusal_of e ≡ refused_by (cause_of cause) → (Full T → IsMemory cause) → IsMissing Full T name n e
+not_made : (Full : TypeTree → Type 0) (T : TypeTree) (name : List ℕ) (n : NodeTree) (cause : WasmValueError) (e : Diagnostic) → refusal_of e ≡ refused_by (cause_of cause) → (Full T → IsMemory cause) → IsMissing Full T name n e
 not_made Full T name n (causes.Memory a) e is full = inl (ap (λ (r : Refusal). r.kind) is)
 not_made Full T name n _ e is full = inr (inr (ap (λ (r : Refusal). r.kind) is, full))
 
 module _ {V : Type 0} (tree : V → Value) (of : V → TypeTree → Type 0) (Full : TypeTree → Type 0) where
   -- `none` was made, or its maker refused
-  pub left_made : (T : TypeTree) (name : List ℕ) (n : NodeTree) (m : Result V WasmValueError) (r : Result V ParserError) → kinds.Option ≡ kind_of T → HasDistinctNames T → IfOk m (MakesOption tree of T None) → IfErr m (FullOption of Full T None) → IsMade n m r → MatchResult r (IsLeftOut tree of T) (IsMissing Full T name n)
+  pub left_made : (T : TypeTree) (name : List ℕ) (n : NodeTree) (m : Result V WasmValueError) (r : Result V Diagnostic) → kinds.Option ≡ kind_of T → HasDistinctNames T → IfOk m (MakesOption tree of T None) → IfErr m (FullOption of Full T None) → IsMade n m r → MatchResult r (IsLeftOut tree of T) (IsMissing Full T name n)
   left_made T name n (Ok v) (Ok w) is distinct ok full done =
       let makes = ok distinct in
       subst (IsLeftOut tree of T) (sym done) (record { option = subst IsOption (sym (formed_as kinds.Option T is).1) tt; means = makes.means; is_of = makes.is_of })

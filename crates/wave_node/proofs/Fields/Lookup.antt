@@ -24,8 +24,7 @@ use Rattle.wave_grammar.specs.SpannedTree.{Placed, at, one, label, no_placed, Pl
 use Rattle.wave_node.specs.Nodes.{key_of, IsNodeOf, IsTokenOf, IsParsedFrom}
 use Rattle.wave_node.proofs.ChildNodes.Inside.{Inside, inside}
 use Rattle.wave_node.proofs.ChildNodes.Entries.{AreEntriesOf, map_nodes, pairs_count}
-use Rattle.wave_lex.specs.Errors.{Says, field_label_due, repeated_name}
-use Rattle.wave_lex.specs.declared.error.ParserError.{ParserError}
+use Rattle.wave_lex.specs.Errors.{Diagnostic, Says, field_label_due, repeated_name}
 use Rattle.wave_lex.specs.declared.error.ParserErrorKind.TheVariants.{InvalidType, DuplicateField, OutOfMemory}
 use Rattle.wave_node.specs.declared.ast.NodeType.TheVariants as kind
 use Rattle.wave_node.proofs.ByKind.Lists.{HasAt}
@@ -164,7 +163,7 @@ key_parsed source n ns i k v (inr t) set children here = absurd (not_key source 
 -- ---- the loop's answers
 
 -- the refusal of a key that is no label
-pub refused_label : (source : List ℕ) (n : NodeTree) (ns : List NodeTree) (i : ℕ) (k v : NodeTree) (e : ParserError) → type_of n ≡ kind.TupleSet → ns ≡ children_of n → HasAt (node_pairs ns) i (k, v) → FieldsSoFar source (take i (node_pairs ns)) → (type_of k ≢ kind.Label) × Says e InvalidType (place_of k) (Some field_label_due) → RefusesFields source n e
+pub refused_label : (source : List ℕ) (n : NodeTree) (ns : List NodeTree) (i : ℕ) (k v : NodeTree) (e : Diagnostic) → type_of n ≡ kind.TupleSet → ns ≡ children_of n → HasAt (node_pairs ns) i (k, v) → FieldsSoFar source (take i (node_pairs ns)) → (type_of k ≢ kind.Label) × Says e InvalidType (place_of k) (Some field_label_due) → RefusesFields source n e
 refused_label source n ns i k v e set children here h refused =
     inr (inr (record {
       is_set = set;
@@ -178,7 +177,7 @@ refused_label source n ns i k v e set children here h refused =
     }))
 
 -- the refusal of a label whose name stands earlier
-pub refused_name : (source : List ℕ) (n : NodeTree) (ns : List NodeTree) (i : ℕ) (k v : NodeTree) (name : List ℕ) (e : ParserError) → type_of n ≡ kind.TupleSet → ns ≡ children_of n → HasAt (node_pairs ns) i (k, v) → FieldsSoFar source (take i (node_pairs ns)) → type_of k ≡ kind.Label → name ≡ name_of (node_text source k) → IsOneOf (names_of (map (field_of source) (take i (node_pairs ns)))) name → (e.kind ≡ OutOfMemory) ⊎ Says e DuplicateField (place_of k) (Some (repeated_name name)) → RefusesFields source n e
+pub refused_name : (source : List ℕ) (n : NodeTree) (ns : List NodeTree) (i : ℕ) (k v : NodeTree) (name : List ℕ) (e : Diagnostic) → type_of n ≡ kind.TupleSet → ns ≡ children_of n → HasAt (node_pairs ns) i (k, v) → FieldsSoFar source (take i (node_pairs ns)) → type_of k ≡ kind.Label → name ≡ name_of (node_text source k) → IsOneOf (names_of (map (field_of source) (take i (node_pairs ns)))) name → (e.kind ≡ OutOfMemory) ⊎ Says e DuplicateField (place_of k) (Some (repeated_name name)) → RefusesFields source n e
 refused_name source n ns i k v name e set children here h labelled named old (inl memory) = inl memory
 refused_name source n ns i k v name e set children here h labelled named old (inr says) =
     inr (inr (record {
@@ -221,6 +220,6 @@ field_held m n source ns i k v name x same h here named apart u =
     subst (HoldsFields n) (ap (λ (w : NodeTree). map (field_of source) (take i (node_pairs ns)) ++ (name, w) ∷ []) (sym same) ∙ sym (fields_next source ns i k v name here named)) (holds_field m n (map (field_of source) (take i (node_pairs ns))) name x h apart u)
 
 -- a refusal, handed on
-pub err_handed : {A : Type 0} (P : ParserError → Type 0) (r : Result A ParserError) (e : ParserError) → IsErrAnd r (λ f. f ≡ e) → P e → IfErr r P
+pub err_handed : {A : Type 0} (P : Diagnostic → Type 0) (r : Result A Diagnostic) (e : Diagnostic) → IsErrAnd r (λ f. f ≡ e) → P e → IfErr r P
 err_handed P (Ok x) e same p = tt
 err_handed P (Err f) e same p = subst P (sym same) p

@@ -24,8 +24,7 @@ use Rattle.wave_wasm.specs.ValueErrors.{missing_field}
 use Rattle.wave_wasm.specs.ConstructorContracts.{IsMemory, MakesRecord, FullRecord, FieldsAreOf, HasFullParts, field_trees}
 use Rattle.wave_wasm.specs.declared.wasm.WasmValueError.{WasmValueError}
 use Rattle.wave_wasm.specs.declared.wasm.WasmTypeKind.TheVariants as kinds
-use Rattle.wave_lex.specs.Errors.{Refusal, refusal_of}
-use Rattle.wave_lex.specs.declared.error.ParserError.{ParserError}
+use Rattle.wave_lex.specs.Errors.{Diagnostic, Refusal, refusal_of}
 use Rattle.wave_lex.specs.declared.error.ParserErrorKind.TheVariants as error
 use Rattle.wave_grammar.specs.Token.{Token}
 use Rattle.wave_grammar.specs.Token as token
@@ -285,7 +284,7 @@ failed b is passes x = cc (sym is ∙ passes x)
 -- ---- faults
 
 -- a refusal of the node or of its keys
-pub nodes_blame : (Full : TypeTree → Type 0) (T : TypeTree) (parts : List (List ℕ × TypeTree)) (source : List ℕ) (n : NodeTree) (t : Placed) (e : ParserError) → RecordType T parts → IsNodeOf source n t → RefusesFields source n e → IsBlamed Full T t e
+pub nodes_blame : (Full : TypeTree → Type 0) (T : TypeTree) (parts : List (List ℕ × TypeTree)) (source : List ℕ) (n : NodeTree) (t : Placed) (e : Diagnostic) → RecordType T parts → IsNodeOf source n t → RefusesFields source n e → IsBlamed Full T t e
 nodes_blame Full T parts source n t e is node refused = so (fields_blame is.fields source n t e node refused)
   where
     so : (e.kind ≡ error.OutOfMemory) ⊎ Fault (type.record_type is.fields) t (refusal_of e) e.span → IsBlamed Full T t e
@@ -304,7 +303,7 @@ fault_at (type.field other U more) zero name E es k q h fault = inl (subst (λ (
 fault_at (type.field other U more) (suc i) name E es k q h fault = inr (fault_at more i name E es k q h fault)
 
 -- an entry whose name is no field
-pub unknown_blame : (Full : TypeTree → Type 0) (T : TypeTree) (parts : List (List ℕ × TypeTree)) (source : List ℕ) (n : NodeTree) (t : Placed) (names : List (List ℕ)) (old m : BTreeMap (Bor (List ℕ)) (Bor NodeTree)) (fs : List (List ℕ × NodeTree)) (e : ParserError) → RecordType T parts → IsNodeOf source n t → IsFieldsOf source n fs → HoldsFields old fs → names ≡ names_of parts → Removed names old m → (btree_map_len m ≡ 0 → ⊥) → IsRefusalOf error.InvalidValue (place_of n) (refusal_of e) e.span → IsBlamed Full T t e
+pub unknown_blame : (Full : TypeTree → Type 0) (T : TypeTree) (parts : List (List ℕ × TypeTree)) (source : List ℕ) (n : NodeTree) (t : Placed) (names : List (List ℕ)) (old m : BTreeMap (Bor (List ℕ)) (Bor NodeTree)) (fs : List (List ℕ × NodeTree)) (e : Diagnostic) → RecordType T parts → IsNodeOf source n t → IsFieldsOf source n fs → HoldsFields old fs → names ≡ names_of parts → Removed names old m → (btree_map_len m ≡ 0 → ⊥) → IsRefusalOf error.InvalidValue (place_of n) (refusal_of e) e.span → IsBlamed Full T t e
 unknown_blame Full T parts source n t names old m fs e is node given held same h some refused =
     let inner = record_nodes source n t node given.is_set in
     let over = some_held m some in
@@ -316,7 +315,7 @@ unknown_blame Full T parts source n t names old m fs e is node given held same h
     inr (inl (subst (λ (U : TypeTree). Fault U t (refusal_of e) e.span) (sym is.is) (within_record is.fields t (entry_list inner.given) (refusal_of e) e.span inner.taken (inr (inl unknown)))))
 
 module _ {V : Type 0} (tree : V → Value) (of : V → TypeTree → Type 0) (Full : TypeTree → Type 0) where
-  some_blamed : (E : TypeTree) (name : List ℕ) (es : List PlacedEntry) (e : ParserError) → SomeOf (λ x. IsFor name x × IsBlamed Full E x.value e) es → (e.kind ≡ error.OutOfMemory) ⊎ SomeOf (λ x. IsFor name x × Fault E x.value (refusal_of e) e.span) es ⊎ (e.kind ≡ error.WasmValueError) × (Full E → ⊥)
+  some_blamed : (E : TypeTree) (name : List ℕ) (es : List PlacedEntry) (e : Diagnostic) → SomeOf (λ x. IsFor name x × IsBlamed Full E x.value e) es → (e.kind ≡ error.OutOfMemory) ⊎ SomeOf (λ x. IsFor name x × Fault E x.value (refusal_of e) e.span) es ⊎ (e.kind ≡ error.WasmValueError) × (Full E → ⊥)
   some_blamed E name [] e h = absurd h
   some_blamed E name (x ∷ es) e (inl (is, inl memory)) = inl memory
   some_blamed E name (x ∷ es) e (inl (is, inr (inl fault))) = inr (inl (inl (is, fault)))
@@ -332,20 +331,20 @@ module _ {V : Type 0} (tree : V → Value) (of : V → TypeTree → Type 0) (Ful
   full_at T parts i name E is typed parts_full full =
       all_has Full (map (λ f. f.1) (type.field_list is.fields)) i E (parts_full (type.record_type is.fields) (subst Full is.is full)) (map_has (λ f. f.1) (type.field_list is.fields) i (name, E) (subst (λ (l : List (List ℕ × TypeTree)). HasAt l i (name, E)) is.parts_are typed))
 
-  blamed_so : (T E : TypeTree) (parts : List (List ℕ × TypeTree)) (t : Placed) (es : List PlacedEntry) (i : ℕ) (name : List ℕ) (e : ParserError) → RecordType T parts → record_in (shape_of t) ≡ Some es → HasAt parts i (name, E) → HasFullParts Full → (e.kind ≡ error.OutOfMemory) ⊎ SomeOf (λ x. IsFor name x × Fault E x.value (refusal_of e) e.span) es ⊎ (e.kind ≡ error.WasmValueError) × (Full E → ⊥) → IsBlamed Full T t e
+  blamed_so : (T E : TypeTree) (parts : List (List ℕ × TypeTree)) (t : Placed) (es : List PlacedEntry) (i : ℕ) (name : List ℕ) (e : Diagnostic) → RecordType T parts → record_in (shape_of t) ≡ Some es → HasAt parts i (name, E) → HasFullParts Full → (e.kind ≡ error.OutOfMemory) ⊎ SomeOf (λ x. IsFor name x × Fault E x.value (refusal_of e) e.span) es ⊎ (e.kind ≡ error.WasmValueError) × (Full E → ⊥) → IsBlamed Full T t e
   blamed_so T E parts t es i name e is taken typed full (inl memory) = inl memory
   blamed_so T E parts t es i name e is taken typed full (inr (inl fault)) =
       inr (inl (subst (λ (U : TypeTree). Fault U t (refusal_of e) e.span) (sym is.is) (within_record is.fields t es (refusal_of e) e.span taken (inr (inr (inr (inr (fault_at is.fields i name E es (refusal_of e) e.span (subst (λ (l : List (List ℕ × TypeTree)). HasAt l i (name, E)) is.parts_are typed) fault))))))))
   blamed_so T E parts t es i name e is taken typed full (inr (inr h)) = inr (inr (h.0, λ whole. h.1 (full_at T parts i name E is typed full whole)))
 
-  missing_so : (T E : TypeTree) (parts : List (List ℕ × TypeTree)) (n : NodeTree) (t : Placed) (es : List PlacedEntry) (i : ℕ) (name : List ℕ) (e : ParserError) → RecordType T parts → record_in (shape_of t) ≡ Some es → span_of t ≡ place_of n → HasAt parts i (name, E) → HasFullParts Full → (SomeOf (IsFor name) es → ⊥) → IsMissing Full E name n e → IsBlamed Full T t e
+  missing_so : (T E : TypeTree) (parts : List (List ℕ × TypeTree)) (n : NodeTree) (t : Placed) (es : List PlacedEntry) (i : ℕ) (name : List ℕ) (e : Diagnostic) → RecordType T parts → record_in (shape_of t) ≡ Some es → span_of t ≡ place_of n → HasAt parts i (name, E) → HasFullParts Full → (SomeOf (IsFor name) es → ⊥) → IsMissing Full E name n e → IsBlamed Full T t e
   missing_so T E parts n t es i name e is taken place typed full none (inl memory) = inl memory
   missing_so T E parts n t es i name e is taken place typed full none (inr (inl h)) =
       inr (inl (subst (λ (U : TypeTree). Fault U t (refusal_of e) e.span) (sym is.is) (within_record is.fields t es (refusal_of e) e.span taken (inr (inr (inr (inl (missing_at is.fields i name E es (span_of t) (refusal_of e) e.span (subst (λ (l : List (List ℕ × TypeTree)). HasAt l i (name, E)) is.parts_are typed) h.0 none (h.1.0, h.1.1 ∙ sym place)))))))))
   missing_so T E parts n t es i name e is taken place typed full none (inr (inr h)) = inr (inr (h.0, λ whole. h.1 (full_at T parts i name E is typed full whole)))
 
   -- a refusal of a field is one of the record
-  pub field_blamed : (T E : TypeTree) (parts : List (List ℕ × TypeTree)) (source : List ℕ) (n : NodeTree) (t : Placed) (fs : List (List ℕ × NodeTree)) (i : ℕ) (name : List ℕ) (o : Option NodeTree) (e : ParserError) → RecordType T parts → IsNodeOf source n t → IsFieldsOf source n fs → HasAt parts i (name, E) → HasDistinctNames E → HasFullParts Full → o ≡ look_up fs name → AnswersField tree of Full E source name n o (Err e) → IsBlamed Full T t e
+  pub field_blamed : (T E : TypeTree) (parts : List (List ℕ × TypeTree)) (source : List ℕ) (n : NodeTree) (t : Placed) (fs : List (List ℕ × NodeTree)) (i : ℕ) (name : List ℕ) (o : Option NodeTree) (e : Diagnostic) → RecordType T parts → IsNodeOf source n t → IsFieldsOf source n fs → HasAt parts i (name, E) → HasDistinctNames E → HasFullParts Full → o ≡ look_up fs name → AnswersField tree of Full E source name n o (Err e) → IsBlamed Full T t e
   field_blamed T E parts source n t fs i name None e is node given typed distinct full found answer =
       let inner = record_nodes source n t node given.is_set in
       let all : AreFieldsOf source fs (entry_list inner.given) = subst (λ (l : List (List ℕ × NodeTree)). AreFieldsOf source l (entry_list inner.given)) (sym given.given) (fields_of_entries source (node_pairs (children_of n)) (entry_list inner.given) given.labels inner.nodes) in
@@ -555,7 +554,7 @@ module _ {V : Type 0} (tree : V → Value) (of : V → TypeTree → Type 0) (Ful
   record_full T fs es hs (Err cause) is names h f = λ full. f full fs is (subst AreDistinct (sym (names_same (type.field_list fs) es hs h)) names) hs (IsPermutation-refl hs) (fields_are_of (type.field_list fs) es hs h)
 
   -- the record was made, or its maker refused
-  pub record_made : (T : TypeTree) (parts : List (List ℕ × TypeTree)) (source : List ℕ) (n : NodeTree) (t : Placed) (given : List (List ℕ × NodeTree)) (names : List (List ℕ)) (old left : BTreeMap (Bor (List ℕ)) (Bor NodeTree)) (hs : List (Bor (List ℕ) × V)) (m : Result V WasmValueError) (r : Result V ParserError) → (is : RecordType T parts) → HasDistinctNames T → (node : IsNodeOf source n t) → (fields : IsFieldsOf source n given) → HoldsFields old given → names ≡ names_of parts → Removed names old left → btree_map_len left ≡ 0 → FieldsRead parts (entry_list (record_nodes source n t node fields.is_set).given) hs → IfOk m (MakesRecord tree of T hs) → IfErr m (FullRecord of Full T hs) → IsMade n m r → MatchResult r (IsTypedValue tree of T t) (IsBlamed Full T t)
+  pub record_made : (T : TypeTree) (parts : List (List ℕ × TypeTree)) (source : List ℕ) (n : NodeTree) (t : Placed) (given : List (List ℕ × NodeTree)) (names : List (List ℕ)) (old left : BTreeMap (Bor (List ℕ)) (Bor NodeTree)) (hs : List (Bor (List ℕ) × V)) (m : Result V WasmValueError) (r : Result V Diagnostic) → (is : RecordType T parts) → HasDistinctNames T → (node : IsNodeOf source n t) → (fields : IsFieldsOf source n given) → HoldsFields old given → names ≡ names_of parts → Removed names old left → btree_map_len left ≡ 0 → FieldsRead parts (entry_list (record_nodes source n t node fields.is_set).given) hs → IfOk m (MakesRecord tree of T hs) → IfErr m (FullRecord of Full T hs) → IsMade n m r → MatchResult r (IsTypedValue tree of T t) (IsBlamed Full T t)
   record_made T parts source n t given names old left hs m r is distinct node fields held same removed empty h ok full done =
       let inner = record_nodes source n t node fields.is_set in
       let all : AreFieldsOf source given (entry_list inner.given) = subst (λ (l : List (List ℕ × NodeTree)). AreFieldsOf source l (entry_list inner.given)) (sym fields.given) (fields_of_entries source (node_pairs (children_of n)) (entry_list inner.given) fields.labels inner.nodes) in
@@ -566,7 +565,7 @@ module _ {V : Type 0} (tree : V → Value) (of : V → TypeTree → Type 0) (Ful
       (record_full T is.fields (entry_list inner.given) hs m is.is apart read full)
 
   -- so behind the last of the parts
-  pub record_done : (T : TypeTree) (parts : List (List ℕ × TypeTree)) (source : List ℕ) (n : NodeTree) (t : Placed) (given : List (List ℕ × NodeTree)) (i : ℕ) (old left : BTreeMap (Bor (List ℕ)) (Bor NodeTree)) (hs : List (Bor (List ℕ) × V)) (m : Result V WasmValueError) (r : Result V ParserError) → (is : RecordType T parts) → HasDistinctNames T → (node : IsNodeOf source n t) → (fields : IsFieldsOf source n given) → HoldsFields old given → length parts ≤ i → Removed (names_of (take i parts)) old left → btree_map_len left ≡ 0 → FieldsRead (take i parts) (entry_list (record_nodes source n t node fields.is_set).given) hs → IfOk m (MakesRecord tree of T hs) → IfErr m (FullRecord of Full T hs) → IsMade n m r → MatchResult r (IsTypedValue tree of T t) (IsBlamed Full T t)
+  pub record_done : (T : TypeTree) (parts : List (List ℕ × TypeTree)) (source : List ℕ) (n : NodeTree) (t : Placed) (given : List (List ℕ × NodeTree)) (i : ℕ) (old left : BTreeMap (Bor (List ℕ)) (Bor NodeTree)) (hs : List (Bor (List ℕ) × V)) (m : Result V WasmValueError) (r : Result V Diagnostic) → (is : RecordType T parts) → HasDistinctNames T → (node : IsNodeOf source n t) → (fields : IsFieldsOf source n given) → HoldsFields old given → length parts ≤ i → Removed (names_of (take i parts)) old left → btree_map_len left ≡ 0 → FieldsRead (take i parts) (entry_list (record_nodes source n t node fields.is_set).given) hs → IfOk m (MakesRecord tree of T hs) → IfErr m (FullRecord of Full T hs) → IsMade n m r → MatchResult r (IsTypedValue tree of T t) (IsBlamed Full T t)
   record_done T parts source n t given i old left hs m r is distinct node fields held le removed empty h ok full done =
       let whole : take i parts ≡ parts = take_whole parts i le in
       record_made T parts source n t given (names_of (take i parts)) old left hs m r is distinct node fields held (ap names_of whole) removed empty (subst (λ (ps : List (List ℕ × TypeTree)). FieldsRead ps (entry_list (record_nodes source n t node fields.is_set).given) hs) whole h) ok full done

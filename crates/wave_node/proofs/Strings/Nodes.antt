@@ -2,7 +2,7 @@
 use Rattle.std.proofs.Common.{ℕ, ◌≡◌, ◌+◌, inl, inr, List, [], ◌∷◌, ◌++◌, None, Result, Ok, Err, refl, sym, subst, ◌∙◌}
 use Rattle.std.proofs.lemmas.List.{append_cancel_left, append_cancel_right}
 use Rattle.std.specs.Result.{IsErrAnd}
-use Rattle.wave_lex.specs.declared.error.ParserError.{ParserError}
+use Rattle.wave_lex.specs.Errors.{Diagnostic}
 use Rattle.wave_lex.specs.Remaining.{Undecoded, LinesLeft, one_line}
 use Rattle.wave_lex.specs.Strings.{Decodes}
 use Rattle.wave_lex.specs.Multiline.{DecodesLines}
@@ -33,7 +33,7 @@ not_multiline : (n : NodeTree) → type_of n ≡ kind.String → type_of n ≡ k
 not_multiline n e f = let w : kind.String ≡ kind.MultilineString = sym e ∙ f in cc
 
 -- what is put together of a string
-pub string_given : {A : Type 0} (source : List ℕ) (n : NodeTree) (x : List ℕ) (l : LinesLeft) (r : Result (CowStr A) ParserError) → type_of n ≡ kind.String → IsInside source n x → l ≡ one_line (record { rest = x; pos = (place_of n).start + 1 }) → PutTogether (IsUncopied l) [] l (place_of n) r → GivesString source n r
+pub string_given : {A : Type 0} (source : List ℕ) (n : NodeTree) (x : List ℕ) (l : LinesLeft) (r : Result (CowStr A) Diagnostic) → type_of n ≡ kind.String → IsInside source n x → l ≡ one_line (record { rest = x; pos = (place_of n).start + 1 }) → PutTogether (IsUncopied l) [] l (place_of n) r → GivesString source n r
 string_given source n x l r e own is h = by_result r (subst (λ (z : LinesLeft). PutTogether (IsUncopied z) [] z (place_of n) r) is h)
   where
     s : Undecoded
@@ -46,7 +46,7 @@ string_given source n x l r e own is h = by_result r (subst (λ (z : LinesLeft).
     from_run (inl run) = (x, own, run.0, λ f. absurd (not_multiline n e f))
     from_run (inr (read, bad)) = let none : [] ≡ bad.line ∷ bad.more = bad.there in absurd (cc)
 
-    by_result : {A : Type 0} (r : Result (CowStr A) ParserError) → PutTogether (IsUncopied (one_line s)) [] (one_line s) (place_of n) r → GivesString source n r
+    by_result : {A : Type 0} (r : Result (CowStr A) Diagnostic) → PutTogether (IsUncopied (one_line s)) [] (one_line s) (place_of n) r → GivesString source n r
     by_result (Ok c) ((parts, run, text), borrowed) = (
       inl (e, (x, inside_of kind.String source n x e own, subst (Decodes x) (sym text) ((one_line_joins s parts).0 run))),
       borrowed_so (IsRunAt source n) (IsUncopied (one_line s)) c to_run from_run borrowed,
@@ -57,7 +57,7 @@ string_given source n x l r e own is h = by_result r (subst (λ (z : LinesLeft).
     by_result (Err error) (inr (wants, never)) = inr (inr (wants, λ run. never (to_run run)))
 
 -- what is put together of a multiline string
-pub multiline_given : {A : Type 0} (source : List ℕ) (n : NodeTree) (x : List ℕ) (l : LinesLeft) (r : Result (CowStr A) ParserError) → type_of n ≡ kind.MultilineString → IsInside source n x → OpensTo x ((place_of n).start + 3) l → PutTogether (IsUncopied l) [] l (place_of n) r → GivesString source n r
+pub multiline_given : {A : Type 0} (source : List ℕ) (n : NodeTree) (x : List ℕ) (l : LinesLeft) (r : Result (CowStr A) Diagnostic) → type_of n ≡ kind.MultilineString → IsInside source n x → OpensTo x ((place_of n).start + 3) l → PutTogether (IsUncopied l) [] l (place_of n) r → GivesString source n r
 multiline_given source n x l r e own opens h = by_result r h
   where
     to_run : IsRunAt source n → IsUncopied l
@@ -69,7 +69,7 @@ multiline_given source n x l r e own opens h = by_result r h
     from_run parts ended (inr refused) = absurd (refused_ends_not l parts ended refused)
     from_run parts ended (inl run) = let short = run_is_short x ((place_of n).start + 3) l opens run in (x, own, short.0, λ f. short.1)
 
-    by_result : {A : Type 0} (r : Result (CowStr A) ParserError) → PutTogether (IsUncopied l) [] l (place_of n) r → GivesString source n r
+    by_result : {A : Type 0} (r : Result (CowStr A) Diagnostic) → PutTogether (IsUncopied l) [] l (place_of n) r → GivesString source n r
     by_result (Ok c) ((parts, run, text), borrowed) = (
       inr (e, (x, inside_of kind.MultilineString source n x e own, subst (DecodesLines x) (sym text) (((lines_join x ((place_of n).start + 3)).0 l parts opens).0 run))),
       borrowed_so (IsRunAt source n) (IsUncopied l) c to_run (from_run parts run) borrowed,
@@ -80,18 +80,18 @@ multiline_given source n x l r e own opens h = by_result r h
     by_result (Err error) (inr (wants, never)) = inr (inr (wants, λ run. never (to_run run)))
 
 -- what is put together of the parts of a node
-pub parts_given : {A : Type 0} (source : List ℕ) (n : NodeTree) (parts : StringPartsIter) (r : Result (CowStr A) ParserError) → GivesParts source n (Ok parts) → PutTogether (IsUncopied (left_of parts)) [] (left_of parts) (place_of n) r → GivesString source n r
+pub parts_given : {A : Type 0} (source : List ℕ) (n : NodeTree) (parts : StringPartsIter) (r : Result (CowStr A) Diagnostic) → GivesParts source n (Ok parts) → PutTogether (IsUncopied (left_of parts)) [] (left_of parts) (place_of n) r → GivesString source n r
 parts_given source n parts r (x, own, inl (e, is)) h = string_given source n x (left_of parts) r e own is h
 parts_given source n parts r (x, own, inr (e, opens)) h = multiline_given source n x (left_of parts) r e own opens h
 
 -- a node without parts
-parts_refused : (source : List ℕ) (n : NodeTree) (e : ParserError) → GivesParts source n (Err e) → RefusesString source n e
+parts_refused : (source : List ℕ) (n : NodeTree) (e : Diagnostic) → GivesParts source n (Err e) → RefusesString source n e
 parts_refused source n e (inl other) = inl other
 parts_refused source n e (inr (is, x, own, refused)) =
     let (f, bad, told) = (lines_join x ((place_of n).start + 3)).1 e refused in
     inr (inl (inr (is, x, f, inside_of kind.MultilineString source n x is own, bad, told)))
 
 -- its refusal is handed on
-pub parts_refused_on : {A : Type 0} (source : List ℕ) (n : NodeTree) (e : ParserError) (r : Result (CowStr A) ParserError) → IsErrAnd r (λ f. f ≡ e) → GivesParts source n (Err e) → GivesString source n r
+pub parts_refused_on : {A : Type 0} (source : List ℕ) (n : NodeTree) (e : Diagnostic) (r : Result (CowStr A) Diagnostic) → IsErrAnd r (λ f. f ≡ e) → GivesParts source n (Err e) → GivesString source n r
 parts_refused_on source n e (Ok c) same h = absurd same
-parts_refused_on source n e (Err f) same h = subst (λ (z : ParserError). RefusesString source n z) (sym same) (parts_refused source n e h)
+parts_refused_on source n e (Err f) same h = subst (λ (z : Diagnostic). RefusesString source n z) (sym same) (parts_refused source n e h)

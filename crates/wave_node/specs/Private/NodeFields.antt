@@ -8,8 +8,7 @@ use Rattle.wave_wasm.specs.Types.{TypeTree, HasDistinctNames}
 use Rattle.wave_wasm.specs.Values as value
 use Rattle.wave_wasm.specs.Values.{Value, no_value}
 use Rattle.wave_wasm.specs.ValueErrors.{missing_field}
-use Rattle.wave_lex.specs.Errors.{refusal_of, field_label_due, Says}
-use Rattle.wave_lex.specs.declared.error.ParserError.{ParserError}
+use Rattle.wave_lex.specs.Errors.{Diagnostic, refusal_of, field_label_due, Says}
 use Rattle.wave_lex.specs.declared.error.ParserErrorKind.TheVariants.{InvalidType, OutOfMemory, WasmValueError}
 use Rattle.wave_grammar.specs.LeafTokens.{name_of}
 use Rattle.wave_grammar.specs.TypedGrammar.{IsOption, look_up}
@@ -21,7 +20,7 @@ use Rattle.wave_node.specs.TypedReading.{IsValueOf, Answers}
 use Rattle.wave_node.specs.declared.ast.NodeType.TheVariants as kind
 
 -- the name of a key that is a label; or its refusal
-abbrev pub GivesName : List ℕ → NodeTree → Result (Bor (List ℕ)) ParserError → Type 0
+abbrev pub GivesName : List ℕ → NodeTree → Result (Bor (List ℕ)) Diagnostic → Type 0
 GivesName source key (Ok name) = (type_of key ≡ kind.Label) × (name.now ≡ name_of (node_text source key))
 GivesName source key (Err e) = (type_of key ≢ kind.Label) × Says e InvalidType (place_of key) (Some field_label_due)
 
@@ -49,12 +48,12 @@ pub record IsLeftOut {V : Type 0} (tree : V → Value) (of : V → TypeTree → 
   pub is_of : of v T
 
 -- want of memory; or `MissingField` at the record, for a type that is no option; or, where makers do not serve all values of the type, the refusal of one
-abbrev pub IsMissing : (TypeTree → Type 0) → TypeTree → List ℕ → NodeTree → ParserError → Type 0
+abbrev pub IsMissing : (TypeTree → Type 0) → TypeTree → List ℕ → NodeTree → Diagnostic → Type 0
 IsMissing Full T name n e =
     (e.kind ≡ OutOfMemory) ⊎ (IsOption T → ⊥) × RefusesFor (missing_field name) (place_of n) (refusal_of e) e.span ⊎ (e.kind ≡ WasmValueError) × (Full T → ⊥)
 
 module _ {V : Type 0} (tree : V → Value) (of : V → TypeTree → Type 0) (Full : TypeTree → Type 0) where
   -- the value of the field of this name of the record's node, which has this node or none; or a refusal of it
-  abbrev pub AnswersField : TypeTree → List ℕ → List ℕ → NodeTree → Option NodeTree → Result V ParserError → Type 0
+  abbrev pub AnswersField : TypeTree → List ℕ → List ℕ → NodeTree → Option NodeTree → Result V Diagnostic → Type 0
   AnswersField T source name n None r = HasDistinctNames T → MatchResult r (IsLeftOut tree of T) (IsMissing Full T name n)
   AnswersField T source name n (Some m) r = Answers tree of Full T source m r

@@ -5,8 +5,7 @@ use Rattle.std.specs.BTreeMap.{BTreeMap}
 use Rattle.wave_wasm.specs.Lists.{AllOf, SomeOf}
 use Rattle.wave_wasm.specs.Names.{IsNoneOf, AreAllOf, is_one_of}
 use Rattle.wave_wasm.specs.ValueErrors.{unknown_case}
-use Rattle.wave_lex.specs.Errors.{refusal_of}
-use Rattle.wave_lex.specs.declared.error.ParserError.{ParserError}
+use Rattle.wave_lex.specs.Errors.{Diagnostic, refusal_of}
 use Rattle.wave_lex.specs.declared.error.ParserErrorKind.TheVariants.{OutOfMemory}
 use Rattle.wave_node.specs.NodeTree.{NodeTree, place_of, children_of}
 use Rattle.wave_node.specs.Nodes.{IsParsedFrom}
@@ -19,7 +18,7 @@ abbrev pub AreAllParsed : List ℕ → List NodeTree → Type 0
 AreAllParsed source ns = AllOf (IsParsedFrom source) ns
 
 -- the nodes of the flags; or `InvalidType` at another node
-abbrev pub GivesFlagNodes : NodeTree → Result (Bor (List NodeTree)) ParserError → Type 0
+abbrev pub GivesFlagNodes : NodeTree → Result (Bor (List NodeTree)) Diagnostic → Type 0
 GivesFlagNodes n (Ok nodes) = AreFlags n × (nodes.now ≡ children_of n)
 GivesFlagNodes n (Err e) = IsNoFlags n e
 
@@ -32,15 +31,15 @@ abbrev pub MarksOneMore : BTreeMap (Bor (List ℕ)) Bool → BTreeMap (Bor (List
 MarksOneMore old new name found = (names marked : List (List ℕ)) → MarksNames old names marked → MarksNames new names (marked ++ name ∷ []) × (found ≡ is_one_of names name)
 
 -- want of memory; or one of these flags of the node is none of the names
-abbrev pub RefusesUnknown : List (List ℕ) → List (List ℕ) → NodeTree → ParserError → Type 0
+abbrev pub RefusesUnknown : List (List ℕ) → List (List ℕ) → NodeTree → Diagnostic → Type 0
 RefusesUnknown names flags n e = (e.kind ≡ OutOfMemory) ⊎ SomeOf (λ name. IsNoneOf names name × RefusesFor (unknown_case name) (place_of n) (refusal_of e) e.span) flags
 
 -- where the map holds these flags of the node, each is marked; or one that isn't is refused
-abbrev pub TellsUnmarked : BTreeMap (Bor (List ℕ)) Bool → List (List ℕ) → NodeTree → Result Unit ParserError → Type 0
+abbrev pub TellsUnmarked : BTreeMap (Bor (List ℕ)) Bool → List (List ℕ) → NodeTree → Result Unit Diagnostic → Type 0
 TellsUnmarked m flags n r = (marked : List (List ℕ)) → MarksNames m flags marked → MatchResult r (λ _. AreAllOf marked flags) (RefusesUnknown marked flags n)
 
 -- want of memory; or the node is neither flags nor `{}`; or one of its flags is none of the names
-abbrev pub RefusesFlags : List (List ℕ) → List ℕ → NodeTree → ParserError → Type 0
+abbrev pub RefusesFlags : List (List ℕ) → List ℕ → NodeTree → Diagnostic → Type 0
 RefusesFlags names source n e =
     (e.kind ≡ OutOfMemory) ⊎ IsNoFlags n e
     ⊎ AreFlags n × SomeOf (λ name. IsNoneOf names name × RefusesFor (unknown_case name) (place_of n) (refusal_of e) e.span) (names_at source (children_of n))

@@ -10,8 +10,7 @@ use Rattle.wave_wasm.specs.Values.{Value, maybe_value}
 use Rattle.wave_wasm.specs.TypeText.{kind_word}
 use Rattle.wave_wasm.specs.ValueErrors.{Cause, unsupported_type, unknown_case, missing_field, missing_payload, unexpected_payload}
 use Rattle.wave_wasm.specs.ConstructorContracts.{PayloadIsOf, payload_and}
-use Rattle.wave_lex.specs.Errors.{refusal_of}
-use Rattle.wave_lex.specs.declared.error.ParserError.{ParserError}
+use Rattle.wave_lex.specs.Errors.{Diagnostic, refusal_of}
 use Rattle.wave_lex.specs.declared.error.ParserErrorKind.TheVariants.{OutOfMemory, WasmValueError}
 use Rattle.wave_grammar.specs.SpannedTree.{MaybePlaced, no_placed, a_placed, maybe_of}
 use Rattle.wave_node.specs.NodeTree.{NodeTree, place_of}
@@ -25,7 +24,7 @@ use Rattle.wave_node.specs.declared.typed.Amiss.{Amiss}
 use Rattle.wave_node.specs.declared.typed.Amiss.TheVariants as amiss
 
 -- a refusal with this cause at the node, or for want of memory
-abbrev pub IsCaused : Cause → NodeTree → ParserError → Type 0
+abbrev pub IsCaused : Cause → NodeTree → Diagnostic → Type 0
 IsCaused cause n e = (e.kind ≡ OutOfMemory) ⊎ RefusesFor cause (place_of n) (refusal_of e) e.span
 
 -- the cause that says what is amiss with the name
@@ -37,13 +36,13 @@ named_cause amiss.UnexpectedPayload name = unexpected_payload name
 
 module _ {V : Type 0} (tree : V → Value) (of : V → TypeTree → Type 0) (Full : TypeTree → Type 0) where
   -- what a maker answered for the node's number, which is one of this type; or the refusal of a node of none
-  abbrev pub IsWholeRead : Whole → List ℕ → NodeTree → Result V ParserError → Type 0
+  abbrev pub IsWholeRead : Whole → List ℕ → NodeTree → Result V Diagnostic → Type 0
   IsWholeRead which source n r =
       ((z : ℤ) × GivesNumber which (λ (x : ℤ). x) source n (Ok z) × IsLeafMade tree of Full (value.whole which z) n r)
-      ⊎ ((e : ParserError) × GivesNumber which (λ (x : ℤ). x) source n (Err e) × IsErrAnd r (λ f. f ≡ e))
+      ⊎ ((e : Diagnostic) × GivesNumber which (λ (x : ℤ). x) source n (Err e) × IsErrAnd r (λ f. f ≡ e))
 
   -- so at the whole type of the kind; at another kind a refusal because its values can't be read
-  abbrev pub AnswersWhole : WasmTypeKind → List ℕ → NodeTree → Result V ParserError → Type 0
+  abbrev pub AnswersWhole : WasmTypeKind → List ℕ → NodeTree → Result V Diagnostic → Type 0
   AnswersWhole kind source n r =
       ((which : Whole) → kind ≡ whole_kind which → IsWholeRead which source n r)
       × (((which : Whole) → kind ≢ whole_kind which) → IsErrAnd r (λ e. IsCaused (unsupported_type (kind_word kind)) n e × (e.span ≡ place_of n)))
@@ -69,13 +68,13 @@ pub record IsPayloadRead {V : Type 0} (tree : V → Value) (of : V → TypeTree 
   pub is_of : PayloadIsOf of (type_option T) v
 
 -- as `IsBlamed`, of the payload of the case of this name at the node
-abbrev pub IsPayloadBlamed : (TypeTree → Type 0) → List ℕ → MaybeType → NodeTree → MaybePlaced → ParserError → Type 0
+abbrev pub IsPayloadBlamed : (TypeTree → Type 0) → List ℕ → MaybeType → NodeTree → MaybePlaced → Diagnostic → Type 0
 IsPayloadBlamed Full name T n payload e =
     (e.kind ≡ OutOfMemory) ⊎ FaultOfPayload name T payload (place_of n) (refusal_of e) e.span ⊎ (e.kind ≡ WasmValueError) × (AllOf Full (payload_and T []) → ⊥)
 
 module _ {V : Type 0} (tree : V → Value) (of : V → TypeTree → Type 0) (Full : TypeTree → Type 0) where
   -- the payload of the case of this name at its type, or a refusal of it
-  abbrev pub AnswersPayload : List ℕ → Option TypeTree → List ℕ → NodeTree → Option NodeTree → Result (Option V) ParserError → Type 0
+  abbrev pub AnswersPayload : List ℕ → Option TypeTree → List ℕ → NodeTree → Option NodeTree → Result (Option V) Diagnostic → Type 0
   AnswersPayload name T source n inner r =
       (payload : MaybePlaced) → IsPayloadNodeOf source inner payload → EachNamesOfMaybe AreDistinct (maybe_type T)
       → MatchResult r (IsPayloadRead tree of (maybe_type T) payload) (IsPayloadBlamed Full name (maybe_type T) n payload)

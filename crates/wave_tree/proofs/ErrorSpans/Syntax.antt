@@ -1,13 +1,12 @@
 -- The spans of refusals lie in the text.
 use Rattle.std.proofs.Common.{ℕ, ◌≡◌, ◌≢◌, Option, inl, inr, ◌≤◌, List, [], ◌∷◌, length, drop, length-drop, Some, None, Ok, Err, sym, ap, ◌∙◌, subst, arith}
 use Rattle.std.specs.declared.ops.Range.{Range}
-use Rattle.wave_lex.specs.declared.error.ParserError.{ParserError}
 use Rattle.wave_lex.specs.declared.error.ParserErrorKind.{ParserErrorKind}
 use Rattle.wave_lex.specs.declared.error.ParserErrorKind.TheVariants as kind
 use Rattle.wave_lex.specs.declared.lex.Token as lex
 use Rattle.wave_lex.specs.declared.lex.Token.TheVariants.{ParenOpen, ParenClose}
 use Rattle.wave_lex.specs.FunctionName.{IsName}
-use Rattle.wave_lex.specs.Errors.{Refusal, LiesInText}
+use Rattle.wave_lex.specs.Errors.{Diagnostic, Refusal, LiesInText}
 use Rattle.wave_lex.specs.Tokenization.{Lexed, Stands, Passes, NextIs, remainder_of, span}
 use Rattle.wave_grammar.specs.Token.{Token}
 use Rattle.wave_grammar.specs.ParserPosition.{Place, Item, TakesTokens}
@@ -50,7 +49,7 @@ tokens_inside p q (t ∷ ts) (m, (c, k, e), more) h =
 item_lies : (l m : Lexed) (s : Range ℕ) → Behind l m → s ≡ span m.start m.end → LiesInText l.source s
 item_lies l m s b e = subst (LiesInText l.source) (sym e) (b.inside.0, let same : length m.source ≡ length l.source = ap length b.source in let last = b.inside.1 in omega arith)
 
-stands_inside : (k : ParserErrorKind) (x : ParserError) (n : ℕ) (d : Due) (s : List Form) (p q : Place) → StandsAt k x n d s p q → LiesInSource p.lexer → LiesInText p.lexer.source x.span
+stands_inside : (k : ParserErrorKind) (x : Diagnostic) (n : ℕ) (d : Due) (s : List Form) (p q : Place) → StandsAt k x n d s p q → LiesInSource p.lexer → LiesInText p.lexer.source x.span
 stands_inside kind.EmptyTuple x n d s p q (c, (h, e), says) i =
     let b = next_inside p.lexer q.lexer (Some (Ok c)) h.0 i in
     let same : length q.lexer.source ≡ length p.lexer.source = ap length b.source in
@@ -65,13 +64,13 @@ stands_inside kind.NestingTooDeep x n d s p q (deep, e, says) i = subst (LiesInT
 stands_inside k x n d s p q h i = absurd h
 
 -- a refusal of what was due lies in the source
-pub refused_lies : (e : ParserError) (n : ℕ) (d : Due) (s : List Form) (p q : Place) → IsSyntaxError e n d s p q → LiesInSource p.lexer → LiesInText p.lexer.source e.span
+pub refused_lies : (e : Diagnostic) (n : ℕ) (d : Due) (s : List Form) (p q : Place) → IsSyntaxError e n d s p q → LiesInSource p.lexer → LiesInText p.lexer.source e.span
 refused_lies e n d s p q h i =
     let at = tokens_inside p h.at h.tokens h.taken i in
     subst (λ (t : List ℕ). LiesInText t e.span) at.1 (stands_inside e.kind e n h.due_there h.open_there h.at q h.stands at.0)
 
 -- it is no `WasmValueError`
-pub refused_kind : (e : ParserError) (n : ℕ) (d : Due) (s : List Form) (p q : Place) → IsSyntaxError e n d s p q → e.kind ≢ kind.WasmValueError
+pub refused_kind : (e : Diagnostic) (n : ℕ) (d : Due) (s : List Form) (p q : Place) → IsSyntaxError e n d s p q → e.kind ≢ kind.WasmValueError
 refused_kind e n d s p q h is = subst (λ (k : ParserErrorKind). StandsAt k e n h.due_there h.open_there h.at q) is h.stands
 
 -- a syntax refusal lies in the source, and so does what follows a value
@@ -80,11 +79,11 @@ refusals_lie e p i (inl (n, q, h)) = refused_lies e n value [] p q h i
 refusals_lie e p i (inr (behind, (item, some, h), says)) = item_lies p.lexer behind.lexer e.span (next_inside p.lexer behind.lexer item h.0 i) says.stands
 
 -- nor is what follows a value
-pub trailing_kind : (e : ParserError) (p : Place) → IsTrailing e p → e.kind ≢ kind.WasmValueError
+pub trailing_kind : (e : Diagnostic) (p : Place) → IsTrailing e p → e.kind ≢ kind.WasmValueError
 trailing_kind e p (behind, item, says) is = cc (sym (ap (λ (r : Refusal). r.kind) says.is) ∙ is)
 
 -- what is no token of the wanted classes lies in the source
-pub fails_lie : (Wanted : lex.Token → Type 0) (e : ParserError) (p q : Place) → Fails Wanted e p q → LiesInSource p.lexer → LiesInText p.lexer.source e.span
+pub fails_lie : (Wanted : lex.Token → Type 0) (e : Diagnostic) (p q : Place) → Fails Wanted e p q → LiesInSource p.lexer → LiesInText p.lexer.source e.span
 fails_lie Wanted e p q (inl (bad, h, says)) i = item_lies p.lexer q.lexer e.span (next_inside p.lexer q.lexer (Some (Err bad)) h.0 i) (says.stands ∙ h.0.4)
 fails_lie Wanted e p q (inr (inl (h, says))) i = item_lies p.lexer q.lexer e.span (next_inside p.lexer q.lexer None h.0 i) says.stands
 fails_lie Wanted e p q (inr (inr (c, h, apart, says))) i = item_lies p.lexer q.lexer e.span (next_inside p.lexer q.lexer (Some (Ok c)) h.0 i) says.stands
@@ -92,18 +91,18 @@ fails_lie Wanted e p q (inr (inr (c, h, apart, says))) i = item_lies p.lexer q.l
 -- ---- going back
 
 -- where a refusal lies in the source, so does what is answered for it, also where the parser went back
-pub back_lies : (l m : Lexed) (e x : ParserError) → l ≡ m → ((e.kind ≢ kind.OutOfMemory → LiesInText l.source e.span) → LiesInText l.source x.span) → (e.kind ≢ kind.OutOfMemory → LiesInText m.source e.span) → LiesInText m.source x.span
+pub back_lies : (l m : Lexed) (e x : Diagnostic) → l ≡ m → ((e.kind ≢ kind.OutOfMemory → LiesInText l.source e.span) → LiesInText l.source x.span) → (e.kind ≢ kind.OutOfMemory → LiesInText m.source e.span) → LiesInText m.source x.span
 back_lies l m e x same within there =
     subst (λ (z : Lexed). LiesInText z.source x.span) same (within (λ apart. subst (λ (z : Lexed). LiesInText z.source e.span) (sym same) (there apart)))
 
 -- what holds of a refusal other than want of memory holds of what is answered for it
-pub back_same : (R : ParserError → Parsing → Type 0) (e x : ParserError) (old new : Parsing) → (x ≡ e) × (new ≡ old) → R e old → R x new
-back_same R e x old new (same, stays) there = subst (λ (z : ParserError). R z new) (sym same) (subst (λ (z : Parsing). R e z) (sym stays) there)
+pub back_same : (R : Diagnostic → Parsing → Type 0) (e x : Diagnostic) (old new : Parsing) → (x ≡ e) × (new ≡ old) → R e old → R x new
+back_same R e x old new (same, stays) there = subst (λ (z : Diagnostic). R z new) (sym same) (subst (λ (z : Parsing). R e z) (sym stays) there)
 
 -- ---- calls
 
 -- a refusal of parameters lies in the source
-pub tuple_lies : (e : ParserError) (p q : Place) → RefusesTuple e p q → LiesInSource p.lexer → LiesInText p.lexer.source e.span
+pub tuple_lies : (e : Diagnostic) (p q : Place) → RefusesTuple e p q → LiesInSource p.lexer → LiesInText p.lexer.source e.span
 tuple_lies e p q (inl f) i = fails_lie (λ c. c ≡ ParenOpen) e p q f i
 tuple_lies e p q (inr (m, opens, none, refused)) i =
     let b = next_inside p.lexer m.lexer (Some (Ok ParenOpen)) opens.0 i in
@@ -122,12 +121,12 @@ pub name_inside : (s : List ℕ) (k : ℕ) → IsName s k → LiesInSource (behi
 name_inside s k named = (omega arith, named.0.fits)
 
 -- a refusal of a function name lies in the text
-pub name_lies : (s : List ℕ) (e : ParserError) → NameFault s e → LiesInText s e.span
+pub name_lies : (s : List ℕ) (e : Diagnostic) → NameFault s e → LiesInText s e.span
 name_lies s e (inl (none, says)) = subst (LiesInText s) (sym says.stands) (omega arith, omega arith)
 name_lies s e (inr (k, none, front, says)) = subst (LiesInText s) (sym says.stands) (omega arith, front.fits)
 
 -- what follows the parameters lies in the text
-pub behind_params_lies : (s : List ℕ) (k : ℕ) (q : Place) (o : Option NodeTree) (e : ParserError) → IsName s k → AreParamsTaken (behind_name s k) q o → IsTrailing e q → LiesInText s e.span
+pub behind_params_lies : (s : List ℕ) (k : ℕ) (q : Place) (o : Option NodeTree) (e : Diagnostic) → IsName s k → AreParamsTaken (behind_name s k) q o → IsTrailing e q → LiesInText s e.span
 behind_params_lies s k q o e named taken trails =
     let there = params_inside (behind_name s k) q o taken (name_inside s k named) in
     subst (λ (z : List ℕ). LiesInText z e.span) there.1 (refusals_lie e q there.0 (inr trails))

@@ -2,10 +2,9 @@ use Rattle.std.proofs.Common.{subst}
 use Rattle.wave_tree.specs.ParserState.{Parsing}
 use Rattle.wave_tree.specs.FromStr.{IsValueTaken, RefusesValue}
 use Rattle.wave_tree.proofs.TextReading.{value_refused, trailing_refused, value_meant, refusal_handed}
-use Rattle.wave_lex.specs.declared.error.ParserError.{ParserError}
 use Rattle.wave_grammar.specs.ParserPosition.{Place}
 use Rattle.wave_tree.specs.FromStr.{start_of}
-use Rattle.wave_lex.specs.Errors.{LiesInText}
+use Rattle.wave_lex.specs.Errors.{Diagnostic, LiesInText}
 use Rattle.wave_tree.specs.FromStr.{IsCausedBetween}
 use Rattle.wave_node.proofs.Parameters.{error_handed}
 use Rattle.wave_tree.proofs.ErrorSpans.Syntax.{trailing_kind}
@@ -33,21 +32,21 @@ returns-clause-value g c =
 pub returns-in_err-value-clause-within : goal.returns-in_err-value-clause-within
 returns-in_err-value-clause-within g c =
     let e = c.in_err-value.field-0.0 in
-    error_handed (λ (f : ParserError). LiesInText c.args.s.now f.span) c.from_residual.result e c.from_residual.ensures.1 (subst (λ (z : Parsing). LiesInText z.place.lexer.source e.span) c.new-parser.ensures c.in_err-value.ensures.within)
+    error_handed (λ (f : Diagnostic). LiesInText c.args.s.now f.span) c.from_residual.result e c.from_residual.ensures.1 (subst (λ (z : Parsing). LiesInText z.place.lexer.source e.span) c.new-parser.ensures c.in_err-value.ensures.within)
 
 pub returns-in_err-finish-clause-within : goal.returns-in_err-finish-clause-within
 returns-in_err-finish-clause-within g c =
     let e = c.in_err-finish.field-0.0 in
     let taken = subst (λ (z : Parsing). IsValueTaken g.V.WasmValue.tree g.V.WasmValue.is_of (g.V.Type.WasmType.tree c.args.ty.now) z.place c.parse_value.new.self.place c.in_ok-value.value) c.new-parser.ensures c.in_ok-value.ensures.value in
-    error_handed (λ (f : ParserError). LiesInText c.args.s.now f.span) c.from_residual-in_err-finish.result e c.from_residual-in_err-finish.ensures.1 (trailing_lies c.args.s.now c.parse_value.new.self.place taken.taken.tokens e taken.taken.taken c.in_err-finish.ensures.answer)
+    error_handed (λ (f : Diagnostic). LiesInText c.args.s.now f.span) c.from_residual-in_err-finish.result e c.from_residual-in_err-finish.ensures.1 (trailing_lies c.args.s.now c.parse_value.new.self.place taken.taken.tokens e taken.taken.taken c.in_err-finish.ensures.answer)
 
 pub returns-in_err-value-clause-caused : goal.returns-in_err-value-clause-caused
 returns-in_err-value-clause-caused g c =
     let e = c.in_err-value.field-0.0 in
     let last = c.parse_value.new.self.place in
-    error_handed (λ (f : ParserError). (p : Place) × IsCausedBetween (start_of c.args.s.now) p f) c.from_residual.result e c.from_residual.ensures.1 (last, subst (λ (z : Parsing). IsCausedBetween z.place last e) c.new-parser.ensures c.in_err-value.ensures.caused)
+    error_handed (λ (f : Diagnostic). (p : Place) × IsCausedBetween (start_of c.args.s.now) p f) c.from_residual.result e c.from_residual.ensures.1 (last, subst (λ (z : Parsing). IsCausedBetween z.place last e) c.new-parser.ensures c.in_err-value.ensures.caused)
 
 pub returns-in_err-finish-clause-caused : goal.returns-in_err-finish-clause-caused
 returns-in_err-finish-clause-caused g c =
     let e = c.in_err-finish.field-0.0 in
-    error_handed (λ (f : ParserError). (p : Place) × IsCausedBetween (start_of c.args.s.now) p f) c.from_residual-in_err-finish.result e c.from_residual-in_err-finish.ensures.1 (c.parse_value.new.self.place, λ is. absurd (trailing_kind e c.parse_value.new.self.place c.in_err-finish.ensures.answer is))
+    error_handed (λ (f : Diagnostic). (p : Place) × IsCausedBetween (start_of c.args.s.now) p f) c.from_residual-in_err-finish.result e c.from_residual-in_err-finish.ensures.1 (c.parse_value.new.self.place, λ is. absurd (trailing_kind e c.parse_value.new.self.place c.in_err-finish.ensures.answer is))

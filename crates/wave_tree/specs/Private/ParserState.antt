@@ -3,7 +3,7 @@ use Rattle.std.specs.Prelude.{ℕ, ◌≡◌, true, List, [], ◌∷◌, codes, 
 use Rattle.std.specs.declared.ops.Range.{Range}
 use Rattle.wave_wasm.specs.Names.{is_one_of}
 use Rattle.wave_lex.specs.declared.lex.Token as lex
-use Rattle.wave_lex.specs.declared.error.ParserError.{ParserError}
+use Rattle.wave_lex.specs.Errors.{Diagnostic}
 use Rattle.wave_lex.specs.Tokenization.{Lexed, NextIs, span}
 use Rattle.wave_grammar.specs.Tree.{Word, leaf_word, none_word, some_word, ok_word, err_word, case_word}
 use Rattle.wave_grammar.specs.ParserPosition.{Place, TakesItem}
@@ -27,12 +27,12 @@ abbrev pub IsStart : Lexed → List ℕ → Range ℕ → Type 0
 IsStart l source last = (source ≡ l.source) × (last ≡ span l.start l.end)
 
 -- the next token was taken, or what stands next is no token
-abbrev pub Advances : Result lex.Token ParserError → Place → Place → Type 0
+abbrev pub Advances : Result lex.Token Diagnostic → Place → Place → Type 0
 Advances (Ok c) old new = TakesItem old (Some (Ok c)) new
 Advances (Err e) old new = Fails (λ _. Unit {0}) e old new
 
 -- the next token was taken, and is of this class; or what stands next is none of this class
-abbrev pub Expects : lex.Token → Result (Unit {0}) ParserError → Place → Place → Type 0
+abbrev pub Expects : lex.Token → Result (Unit {0}) Diagnostic → Place → Place → Type 0
 Expects class (Ok u) old new = TakesItem old (Some (Ok class)) new
 Expects class (Err e) old new = Fails (λ c. c ≡ class) e old new
 

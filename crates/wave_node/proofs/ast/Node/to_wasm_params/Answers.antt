@@ -7,8 +7,7 @@ use Rattle.wave_node.proofs.ByKind.Tuples.{tuple_nodes, given_items, tuple_item,
 use Rattle.wave_node.proofs.Parameters.{mapped_count, rest_mapped, error_handed, all_drop, too_many_refused, item_refused, missing_refused, params_read, omitted_refused}
 use Rattle.std.proofs.Common.{ℕ, ap, ◌∙◌}
 use Rattle.std.specs.declared.ops.Range.{Range}
-use Rattle.wave_lex.specs.Errors.{Refusal}
-use Rattle.wave_lex.specs.declared.error.ParserError.{ParserError}
+use Rattle.wave_lex.specs.Errors.{Diagnostic, Refusal}
 use Rattle.wave_lex.specs.declared.error.ParserErrorKind.TheVariants as because
 use Rattle.wave_node.specs.NodeTree.{place_of}
 use Rattle.wave_lex.specs.Errors.{LiesInText}
@@ -122,11 +121,11 @@ returns-clause-values g c = λ distinct t is.
 
 pub returns-in_err-nodes-clause-within : goal.returns-in_err-nodes-clause-within
 returns-in_err-nodes-clause-within g c =
-    error_handed (λ (x : ParserError). LiesInText c.args.src.now x.span) c.from_residual.result c.in_err-nodes.field-0.0 c.from_residual.ensures.1 (at_in_text c.args.src.now c.args.self.now c.in_err-nodes.field-0.0 (inl c.requires) (form_at c.args.self.now c.in_err-nodes.field-0.0 c.in_err-nodes.ensures.1))
+    error_handed (λ (x : Diagnostic). LiesInText c.args.src.now x.span) c.from_residual.result c.in_err-nodes.field-0.0 c.from_residual.ensures.1 (at_in_text c.args.src.now c.args.self.now c.in_err-nodes.field-0.0 (inl c.requires) (form_at c.args.self.now c.in_err-nodes.field-0.0 c.in_err-nodes.ensures.1))
 
 pub returns-in_err-nodes-clause-caused : goal.returns-in_err-nodes-clause-caused
 returns-in_err-nodes-clause-caused g c =
-    error_handed (λ (x : ParserError). x.kind ≡ because.WasmValueError → IsCausedIn c.args.self.now x) c.from_residual.result c.in_err-nodes.field-0.0 c.from_residual.ensures.1 ((at_in c.args.src.now c.args.self.now c.in_err-nodes.field-0.0 (inl c.requires) (form_at c.args.self.now c.in_err-nodes.field-0.0 c.in_err-nodes.ensures.1)).caused)
+    error_handed (λ (x : Diagnostic). x.kind ≡ because.WasmValueError → IsCausedIn c.args.self.now x) c.from_residual.result c.in_err-nodes.field-0.0 c.from_residual.ensures.1 ((at_in c.args.src.now c.args.self.now c.in_err-nodes.field-0.0 (inl c.requires) (form_at c.args.self.now c.in_err-nodes.field-0.0 c.in_err-nodes.ensures.1)).caused)
 
 pub returns-then-i-types-clause-within : goal.returns-then-i-types-clause-within
 returns-then-i-types-clause-within g c =
@@ -138,19 +137,19 @@ returns-then-i-types-clause-caused g c =
 
 pub returns-in_err-val-clause-within : goal.returns-in_err-val-clause-within
 returns-in_err-val-clause-within g c =
-    error_handed (λ (x : ParserError). LiesInText c.args.src.now x.span) c.from_residual-in_err-val.result c.in_err-val.field-0.0 c.from_residual-in_err-val.ensures.1 (c.in_err-val.ensures.in_text)
+    error_handed (λ (x : Diagnostic). LiesInText c.args.src.now x.span) c.from_residual-in_err-val.result c.in_err-val.field-0.0 c.from_residual-in_err-val.ensures.1 (c.in_err-val.ensures.in_text)
 
 pub returns-in_err-val-clause-caused : goal.returns-in_err-val-clause-caused
 returns-in_err-val-clause-caused g c =
-    error_handed (λ (x : ParserError). x.kind ≡ because.WasmValueError → IsCausedIn c.args.self.now x) c.from_residual-in_err-val.result c.in_err-val.field-0.0 c.from_residual-in_err-val.ensures.1 ((deeper_at c.args.src.now c.args.self.now c.in_ok-nodes.nodes.now c.loop-i.i c.index-nodes-i-in-loop-i.result c.in_err-val.field-0.0 c.requires c.in_ok-nodes.ensures.1 c.loop-i-test.true c.index-nodes-i-in-loop-i.is c.in_err-val.ensures.within).caused)
+    error_handed (λ (x : Diagnostic). x.kind ≡ because.WasmValueError → IsCausedIn c.args.self.now x) c.from_residual-in_err-val.result c.in_err-val.field-0.0 c.from_residual-in_err-val.ensures.1 ((deeper_at c.args.src.now c.args.self.now c.in_ok-nodes.nodes.now c.loop-i.i c.index-nodes-i-in-loop-i.result c.in_err-val.field-0.0 c.requires c.in_ok-nodes.ensures.1 c.loop-i-test.true c.index-nodes-i-in-loop-i.is c.in_err-val.ensures.within).caused)
 
 pub returns-in_err-push-clause-within : goal.returns-in_err-push-clause-within
 returns-in_err-push-clause-within g c =
-    error_handed (λ (x : ParserError). LiesInText c.args.src.now x.span) c.from_residual-in_err-push.result c.in_err-push.field-0.0 c.from_residual-in_err-push.ensures.1 (at_in_text c.args.src.now c.args.self.now c.in_err-push.field-0.0 (inl c.requires) (memory_at (place_of c.args.self.now) c.in_err-push.field-0.0 c.in_err-push.ensures.refused c.in_err-push.ensures.place))
+    error_handed (λ (x : Diagnostic). LiesInText c.args.src.now x.span) c.from_residual-in_err-push.result c.in_err-push.field-0.0 c.from_residual-in_err-push.ensures.1 (at_in_text c.args.src.now c.args.self.now c.in_err-push.field-0.0 (inl c.requires) (memory_at (place_of c.args.self.now) c.in_err-push.field-0.0 c.in_err-push.ensures.refused c.in_err-push.ensures.place))
 
 pub returns-in_err-push-clause-caused : goal.returns-in_err-push-clause-caused
 returns-in_err-push-clause-caused g c =
-    error_handed (λ (x : ParserError). x.kind ≡ because.WasmValueError → IsCausedIn c.args.self.now x) c.from_residual-in_err-push.result c.in_err-push.field-0.0 c.from_residual-in_err-push.ensures.1 ((at_in c.args.src.now c.args.self.now c.in_err-push.field-0.0 (inl c.requires) (memory_at (place_of c.args.self.now) c.in_err-push.field-0.0 c.in_err-push.ensures.refused c.in_err-push.ensures.place)).caused)
+    error_handed (λ (x : Diagnostic). x.kind ≡ because.WasmValueError → IsCausedIn c.args.self.now x) c.from_residual-in_err-push.result c.in_err-push.field-0.0 c.from_residual-in_err-push.ensures.1 ((at_in c.args.src.now c.args.self.now c.in_err-push.field-0.0 (inl c.requires) (memory_at (place_of c.args.self.now) c.in_err-push.field-0.0 c.in_err-push.ensures.refused c.in_err-push.ensures.place)).caused)
 
 pub returns-then-not-are_options-clause-within : goal.returns-then-not-are_options-clause-within
 returns-then-not-are_options-clause-within g c =
@@ -162,8 +161,8 @@ returns-then-not-are_options-clause-caused g c =
 
 pub returns-in_err-push_omitted-clause-within : goal.returns-in_err-push_omitted-clause-within
 returns-in_err-push_omitted-clause-within g c =
-    error_handed (λ (x : ParserError). LiesInText c.args.src.now x.span) c.from_residual-in_err-push_omitted.result c.in_err-push_omitted.field-0.0 c.from_residual-in_err-push_omitted.ensures.1 (at_in_text c.args.src.now c.args.self.now c.in_err-push_omitted.field-0.0 (inl c.requires) (subst (λ (p : Range ℕ). IsAtPlace p c.in_err-push_omitted.field-0.0) c.span.ensures c.in_err-push_omitted.ensures.within))
+    error_handed (λ (x : Diagnostic). LiesInText c.args.src.now x.span) c.from_residual-in_err-push_omitted.result c.in_err-push_omitted.field-0.0 c.from_residual-in_err-push_omitted.ensures.1 (at_in_text c.args.src.now c.args.self.now c.in_err-push_omitted.field-0.0 (inl c.requires) (subst (λ (p : Range ℕ). IsAtPlace p c.in_err-push_omitted.field-0.0) c.span.ensures c.in_err-push_omitted.ensures.within))
 
 pub returns-in_err-push_omitted-clause-caused : goal.returns-in_err-push_omitted-clause-caused
 returns-in_err-push_omitted-clause-caused g c =
-    error_handed (λ (x : ParserError). x.kind ≡ because.WasmValueError → IsCausedIn c.args.self.now x) c.from_residual-in_err-push_omitted.result c.in_err-push_omitted.field-0.0 c.from_residual-in_err-push_omitted.ensures.1 ((at_in c.args.src.now c.args.self.now c.in_err-push_omitted.field-0.0 (inl c.requires) (subst (λ (p : Range ℕ). IsAtPlace p c.in_err-push_omitted.field-0.0) c.span.ensures c.in_err-push_omitted.ensures.within)).caused)
+    error_handed (λ (x : Diagnostic). x.kind ≡ because.WasmValueError → IsCausedIn c.args.self.now x) c.from_residual-in_err-push_omitted.result c.in_err-push_omitted.field-0.0 c.from_residual-in_err-push_omitted.ensures.1 ((at_in c.args.src.now c.args.self.now c.in_err-push_omitted.field-0.0 (inl c.requires) (subst (λ (p : Range ℕ). IsAtPlace p c.in_err-push_omitted.field-0.0) c.span.ensures c.in_err-push_omitted.ensures.within)).caused)

@@ -1,5 +1,4 @@
 use Rattle.std.proofs.Common.{◌≡◌, ◌≢◌, inr, sym, ap, subst, ◌∙◌, refl, [], ◌∷◌}
-use Rattle.wave_lex.specs.declared.error.ParserError.{ParserError}
 use Rattle.wave_lex.specs.declared.error.ParserErrorKind.TheVariants as because
 use Rattle.wave_lex.specs.declared.lex.Token.TheVariants as class
 use Rattle.wave_grammar.specs.ParserPosition.{Place}
@@ -10,24 +9,24 @@ use Rattle.wave_tree.specs.ParsedNodes.{TakesClass}
 use Rattle.wave_tree.specs.UntypedCall.{RefusesTuple}
 use Rattle.wave_tree.proofs.ParserSteps.{expected}
 use Rattle.wave_node.proofs.Parameters.{error_handed}
-use Rattle.wave_lex.specs.Errors.{LiesInText}
+use Rattle.wave_lex.specs.Errors.{Diagnostic, LiesInText}
 use Rattle.wave_tree.proofs.ErrorSpans.Syntax.{back_lies, back_same, fails_lie, tuple_lies}
 use Rattle.wave_tree.proofs.CallReading.{tuple_taken}
 use Rattle.wave_tree.proofs.parser.Parser.parse_params.Goals as goal
 
 pub returns-in_err-expect-2-clause-refused : goal.returns-in_err-expect-2-clause-refused
 returns-in_err-expect-2-clause-refused c =
-    error_handed (λ (e : ParserError). e.kind ≢ because.OutOfMemory → RefusesTuple e c.args.self.now.place c.expect-then-next_is.new.self.place) c.from_residual-in_err-expect-2.result c.in_err-expect-2.field-0.0 c.from_residual-in_err-expect-2.ensures.1
+    error_handed (λ (e : Diagnostic). e.kind ≢ because.OutOfMemory → RefusesTuple e c.args.self.now.place c.expect-then-next_is.new.self.place) c.from_residual-in_err-expect-2.result c.in_err-expect-2.field-0.0 c.from_residual-in_err-expect-2.ensures.1
     (λ apart. expected c.expect.new.self.place c.next_is.new.self.place c.expect-then-next_is.new.self.place class.ParenClose c.in_err-expect-2.field-0.0 c.next_is.ensures.stays (c.next_is.ensures.answer.0 c.if-next_is.true) c.in_err-expect-2.ensures.takes)
 
 -- what is refused behind a `(`, where no `)` stands
-behind_open : (e : ParserError) (old m looked new : Place) → TakesClass class.ParenOpen old m → looked ≡ m → ((q : Place) → TakesClass class.ParenClose m q → ⊥) → IsSyntaxError e 101 due.first_item (due.tuple ∷ []) looked new → RefusesTuple e old new
+behind_open : (e : Diagnostic) (old m looked new : Place) → TakesClass class.ParenOpen old m → looked ≡ m → ((q : Place) → TakesClass class.ParenClose m q → ⊥) → IsSyntaxError e 101 due.first_item (due.tuple ∷ []) looked new → RefusesTuple e old new
 behind_open e old m looked new opens stays none h = inr (m, opens, none, subst (λ (z : Place). IsSyntaxError e 101 due.first_item (due.tuple ∷ []) z new) stays h)
 
 pub returns-in-Err-clause-refused : goal.returns-in-Err-clause-refused
 returns-in-Err-clause-refused c = λ apart.
     let back = c.refuse.ensures.other apart in
-    let tuple = behind_open c.in-Err.error c.args.self.now.place c.expect.new.self.place c.next_is.new.self.place c.parse_items.new.self.place c.in_ok-expect.ensures.takes c.next_is.ensures.stays (λ q h. cc (sym c.if-next_is.false ∙ c.next_is.ensures.answer.1 (q, h))) (c.in-Err.ensures.led 101 [] refl (λ m. apart (ap (λ (e : ParserError). e.kind) back.0 ∙ m))) in
+    let tuple = behind_open c.in-Err.error c.args.self.now.place c.expect.new.self.place c.next_is.new.self.place c.parse_items.new.self.place c.in_ok-expect.ensures.takes c.next_is.ensures.stays (λ q h. cc (sym c.if-next_is.false ∙ c.next_is.ensures.answer.1 (q, h))) (c.in-Err.ensures.led 101 [] refl (λ m. apart (ap (λ (e : Diagnostic). e.kind) back.0 ∙ m))) in
     back_same (λ e p. RefusesTuple e c.args.self.now.place p.place) c.in-Err.error c.refuse.result c.parse_items.new.self c.refuse.new.self back tuple
 
 pub returns-in-Err-clause-within : goal.returns-in-Err-clause-within
@@ -37,7 +36,7 @@ returns-in-Err-clause-within c =
 
 pub returns-in_err-expect-clause-within : goal.returns-in_err-expect-clause-within
 returns-in_err-expect-clause-within c =
-    error_handed (λ (e : ParserError). LiesInText c.args.self.now.place.lexer.source e.span) c.from_residual.result c.in_err-expect.field-0.0 c.from_residual.ensures.1
+    error_handed (λ (e : Diagnostic). LiesInText c.args.self.now.place.lexer.source e.span) c.from_residual.result c.in_err-expect.field-0.0 c.from_residual.ensures.1
     (fails_lie (λ t. t ≡ class.ParenOpen) c.in_err-expect.field-0.0 c.args.self.now.place c.expect.new.self.place c.in_err-expect.ensures.takes c.start_here-start.ensures.inside)
 
 pub returns-in_err-expect-2-clause-within : goal.returns-in_err-expect-2-clause-within

@@ -1,8 +1,7 @@
 use Rattle.std.proofs.Common.{List, ℕ, ◌≡◌, ◌≢◌, inl, inr, [], sym, ap, subst, ◌∙◌}
 use Rattle.std.specs.Prelude.{◌⊎◌}
-use Rattle.wave_lex.specs.declared.error.ParserError.{ParserError}
 use Rattle.wave_lex.specs.declared.error.ParserErrorKind.TheVariants as because
-use Rattle.wave_lex.specs.Errors.{LiesInText}
+use Rattle.wave_lex.specs.Errors.{Diagnostic, LiesInText}
 use Rattle.wave_lex.specs.Tokenization.{Lexed}
 use Rattle.wave_grammar.specs.PrefixAutomaton.{value}
 use Rattle.wave_grammar.specs.SyntaxErrors.{IsSyntaxError}
@@ -22,7 +21,7 @@ returns-in_err-node-clause-caused g c =
 pub returns-clause-refused : goal.returns-clause-refused
 returns-clause-refused g c = λ apart.
     let back = c.refuse.ensures.other apart in
-    let kind_is : c.refuse.result.kind ≡ c.in-Err.error.kind = ap (λ (e : ParserError). e.kind) back.0 in
+    let kind_is : c.refuse.result.kind ≡ c.in-Err.error.kind = ap (λ (e : Diagnostic). e.kind) back.0 in
     let T = g.V.Type.WasmType.tree c.args.ty.now in
     let text : c.start.inside.source.now ≡ c.args.self.now.place.lexer.source = c.start.invariant.0 ∙ ap (λ (l : Lexed). l.source) (c.start.view_is ∙ c.in_ok-node.ensures.start) in
     let taken = c.in_ok-node.ensures.tree in
@@ -49,5 +48,5 @@ returns-clause-caused g c = λ was.
     let back = c.refuse.ensures.other apart in (
       c.in_ok-node.node,
       subst (λ (p : Parsing). IsNodeTaken c.args.self.now.place p.place c.in_ok-node.node) (sym back.1) c.in_ok-node.ensures.tree,
-      subst (λ (e : ParserError). IsCausedIn c.in_ok-node.node e) (sym back.0) (c.in-Err.ensures.within.caused (ap (λ (e : ParserError). e.kind) (sym back.0) ∙ was)),
+      subst (λ (e : Diagnostic). IsCausedIn c.in_ok-node.node e) (sym back.0) (c.in-Err.ensures.within.caused (ap (λ (e : Diagnostic). e.kind) (sym back.0) ∙ was)),
     )

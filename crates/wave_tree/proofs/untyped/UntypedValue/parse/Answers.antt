@@ -4,8 +4,7 @@ use Rattle.wave_grammar.specs.SyntaxErrors.{LeadsBehindValue, FailsBySyntax}
 use Rattle.wave_tree.specs.ParserState.{Parsing}
 use Rattle.wave_tree.specs.Untyped.{IsUntypedTaken}
 use Rattle.wave_tree.proofs.UntypedReading.{untyped_of, refused_spells_none, trailing_spells_none, tree_refusal_handed}
-use Rattle.wave_lex.specs.declared.error.ParserError.{ParserError}
-use Rattle.wave_lex.specs.Errors.{LiesInText}
+use Rattle.wave_lex.specs.Errors.{Diagnostic, LiesInText}
 use Rattle.wave_node.proofs.Parameters.{error_handed}
 use Rattle.wave_tree.proofs.ErrorSpans.Trailing.{trailing_lies}
 use Rattle.wave_tree.proofs.untyped.UntypedValue.parse.Goals as goal
@@ -32,10 +31,10 @@ returns-clause-value c =
 pub returns-in_err-value-clause-within : goal.returns-in_err-value-clause-within
 returns-in_err-value-clause-within c =
     let e = c.in_err-value.field-0.0 in
-    error_handed (λ (f : ParserError). LiesInText c.args.source.now f.span) c.from_residual.result e c.from_residual.ensures.1 (subst (λ (z : Parsing). LiesInText z.place.lexer.source e.span) c.new-parser.ensures c.in_err-value.ensures.within)
+    error_handed (λ (f : Diagnostic). LiesInText c.args.source.now f.span) c.from_residual.result e c.from_residual.ensures.1 (subst (λ (z : Parsing). LiesInText z.place.lexer.source e.span) c.new-parser.ensures c.in_err-value.ensures.within)
 
 pub returns-in_err-finish-clause-within : goal.returns-in_err-finish-clause-within
 returns-in_err-finish-clause-within c =
     let e = c.in_err-finish.field-0.0 in
     let read = subst (λ (z : Parsing). LeadsBehindValue 100 value [] z.place c.parse_raw_value.new.self.place []) c.new-parser.ensures c.in_ok-value.ensures.value in
-    error_handed (λ (f : ParserError). LiesInText c.args.source.now f.span) c.from_residual-in_err-finish.result e c.from_residual-in_err-finish.ensures.1 (trailing_lies c.args.source.now c.parse_raw_value.new.self.place read.tokens e read.taken c.in_err-finish.ensures.answer)
+    error_handed (λ (f : Diagnostic). LiesInText c.args.source.now f.span) c.from_residual-in_err-finish.result e c.from_residual-in_err-finish.ensures.1 (trailing_lies c.args.source.now c.parse_raw_value.new.self.place read.tokens e read.taken c.in_err-finish.ensures.answer)

@@ -6,8 +6,7 @@ use Rattle.wave_tree.specs.ParserState.{Parsing, first_at}
 use Rattle.wave_tree.specs.UntypedCall.{AreParamsTaken, RefusesTuple, IsCalledOf, RefusesCall, behind_name}
 use Rattle.wave_node.proofs.Parameters.{error_handed}
 use Rattle.wave_tree.proofs.CallReading.{name_refused, params_refused, rest_refused, called_of}
-use Rattle.wave_lex.specs.declared.error.ParserError.{ParserError}
-use Rattle.wave_lex.specs.Errors.{LiesInText}
+use Rattle.wave_lex.specs.Errors.{Diagnostic, LiesInText}
 use Rattle.wave_tree.proofs.ErrorSpans.Syntax.{name_lies, behind_params_lies}
 use Rattle.wave_tree.proofs.untyped.call.parse_raw_func_call.Goals as goal
 
@@ -48,7 +47,7 @@ returns-clause-value c =
 
 pub returns-in_err-names-clause-within : goal.returns-in_err-names-clause-within
 returns-in_err-names-clause-within c =
-    error_handed (λ (f : ParserError). LiesInText c.args.source.now f.span) c.from_residual.result c.in_err-names.field-0.0 c.from_residual.ensures.1 (name_lies c.args.source.now c.in_err-names.field-0.0 c.in_err-names.ensures.refused)
+    error_handed (λ (f : Diagnostic). LiesInText c.args.source.now f.span) c.from_residual.result c.in_err-names.field-0.0 c.from_residual.ensures.1 (name_lies c.args.source.now c.in_err-names.field-0.0 c.in_err-names.ensures.refused)
 
 pub returns-in_err-params-clause-within : goal.returns-in_err-params-clause-within
 returns-in_err-params-clause-within c =
@@ -56,7 +55,7 @@ returns-in_err-params-clause-within c =
     let e = c.in_err-params.field-0.0 in
     let (k, named, is) = c.in_ok-names.ensures.named in
     let place : c.with_lexer-parser.result.place ≡ behind_name s k = ap (λ (z : Parsing). z.place) (c.with_lexer-parser.ensures ∙ ap first_at (c.into_lexer.ensures ∙ is)) in
-    error_handed (λ (f : ParserError). LiesInText s f.span) c.from_residual-in_err-params.result e c.from_residual-in_err-params.ensures.1
+    error_handed (λ (f : Diagnostic). LiesInText s f.span) c.from_residual-in_err-params.result e c.from_residual-in_err-params.ensures.1
     (subst (λ (z : Place). LiesInText z.lexer.source e.span) place c.in_err-params.ensures.within)
 
 pub returns-in_err-finish-clause-within : goal.returns-in_err-finish-clause-within
@@ -66,5 +65,5 @@ returns-in_err-finish-clause-within c =
     let new = c.parse_params.new.self.place in
     let (k, named, is) = c.in_ok-names.ensures.named in
     let place : c.with_lexer-parser.result.place ≡ behind_name s k = ap (λ (z : Parsing). z.place) (c.with_lexer-parser.ensures ∙ ap first_at (c.into_lexer.ensures ∙ is)) in
-    error_handed (λ (f : ParserError). LiesInText s f.span) c.from_residual-in_err-finish.result e c.from_residual-in_err-finish.ensures.1
+    error_handed (λ (f : Diagnostic). LiesInText s f.span) c.from_residual-in_err-finish.result e c.from_residual-in_err-finish.ensures.1
     (behind_params_lies s k new c.in_ok-params.params e named (subst (λ (z : Place). AreParamsTaken z new c.in_ok-params.params) place c.in_ok-params.ensures.taken) c.in_err-finish.ensures.answer)
