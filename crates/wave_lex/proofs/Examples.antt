@@ -1,7 +1,6 @@
 -- Worked texts: their tokens, their invalid tokens, their names, what they stand for, and what is told of an error.
 use Rattle.std.proofs.Common.{◌≡◌, ℕ, List, [], ◌∷◌, false, true, refl, inl, inr, lit<, zero, suc, ◌++◌, ◌≢◌, ◌<◌, arith, Some, None, get_or}
 use Rattle.std.specs.Prelude.{codes}
-use denote.Ref.{Bor}
 use Rattle.std.specs.Char.{digit_value}
 use Rattle.std.specs.Fmt.{decimal}
 use Rattle.std.specs.Str.{bytes_eq}
@@ -9,7 +8,6 @@ use Rattle.std.proofs.lemmas.Bool.Decides.{not_from_Decides}
 use Rattle.std.proofs.lemmas.Slice.Eq.{bytes_eq-Decides}
 use Rattle.wave_lex.specs.declared.lex.Token.TheVariants as class
 use Rattle.wave_lex.specs.declared.error.ParserErrorKind.TheVariants as kind
-use Rattle.wave_lex.specs.declared.error.Detail.TheVariants as detail
 use Rattle.wave_lex.specs.Tokens.{gap, invalid, function_name, label}
 use Rattle.wave_lex.specs.Tokenization.{IsInvalid, IsLongestToken, Cuts, three_quotes, span}
 use Rattle.wave_lex.specs.FunctionName.{IsName}
@@ -129,7 +127,7 @@ line_bad : MultilineFault (10 ∷ 97 ∷ 10 ∷ 32 ∷ 32 ∷ []) (indentation 1
 line_bad = (inr (inr (record { first = []; between = codes "a" ∷ []; indent = 2; cut = refl; opens = inl refl; bad = inl (inl ((λ x e. cc), refl)) })), refl)
 
 -- what is told of an error, with a detail and without
-error_shown : (word : Bor (List ℕ))
-    → (error_text (record { kind = kind.UnexpectedToken; span = span 4 7; detail = detail.Static word; cause = None }) ≡ codes "unexpected token: " ++ (word.now ++ (codes " at " ++ (decimal 4 ++ (codes ".." ++ decimal 7)))))
-    × (error_text (record { kind = kind.EmptyTuple; span = span 0 12; detail = detail.None; cause = None }) ≡ codes "empty tuple at " ++ (decimal 0 ++ (codes ".." ++ decimal 12)))
+error_shown : (word : List ℕ)
+    → (error_text (record { kind = kind.UnexpectedToken; span = span 4 7; detail = Some word; cause = None }) ≡ codes "unexpected token: " ++ (word ++ (codes " at " ++ (decimal 4 ++ (codes ".." ++ decimal 7)))))
+    × (error_text (record { kind = kind.EmptyTuple; span = span 0 12; detail = None; cause = None }) ≡ codes "empty tuple at " ++ (decimal 0 ++ (codes ".." ++ decimal 12)))
 error_shown word = (refl, refl)

@@ -3,9 +3,9 @@ use Rattle.std.proofs.Common.{◌≡◌, ℕ, ◌+◌, List, [], ◌∷◌, ◌+
 use Rattle.std.specs.Prelude.{encode_utf8}
 use Rattle.std.proofs.lemmas.Str.{encode_ascii}
 use Rattle.std.proofs.lemmas.List.{append-nil}
+use Rattle.wave_lex.specs.Errors.{Diagnostic}
 use Rattle.wave_lex.specs.declared.strings.StringPart.{StringPart}
 use Rattle.wave_lex.specs.declared.strings.StringPart.TheVariants.{Char}
-use Rattle.wave_lex.specs.declared.error.ParserError.{ParserError}
 use Rattle.wave_lex.specs.Tokenization.{span}
 use Rattle.wave_lex.specs.Strings.{Decodes, IsBadEscapeAt}
 use Rattle.wave_lex.specs.Multiline.{LinesMean, in_lines, DecodesLines, LineFault, closing, opening, indentation, escape, BadLines, MultilineFault, fault_span}
@@ -66,13 +66,13 @@ run_means l (p ∷ ps) (t, inr (e, f, h), r) = means_next_line l t p (part_texts
 -- ---- a refusal
 
 -- a refusal of the rest of the line, or of a line behind it
-abbrev LeftFault : ℕ → ℕ → ℕ → LinesLeft → ParserError → Type 0
+abbrev LeftFault : ℕ → ℕ → ℕ → LinesLeft → Diagnostic → Type 0
 LeftFault pos n at l e =
     ((i : ℕ) × IsBadEscapeAt l.line.rest i × TellsBadEscape e (l.line.pos + i))
     ⊎ ((u : List ℕ) × (f : LineFault) × Decodes l.line.rest u × BadLines l.indent at l.later f × TellsFault e f (fault_span pos n f))
 
 -- in the line
-fault_in_line : (pos n at : ℕ) (old new : LinesLeft) (p : StringPart) (e : ParserError) → StaysInLine old new p → LeftFault pos n at new e → LeftFault pos n at old e
+fault_in_line : (pos n at : ℕ) (old new : LinesLeft) (p : StringPart) (e : Diagnostic) → StaysInLine old new p → LeftFault pos n at new e → LeftFault pos n at old e
 fault_in_line pos n at old new p e h (inl (i, bad, told)) =
     let k = takes old.line new.line p h.item in
     let m : new.line.pos ≡ old.line.pos + length k.source = k.moved in
@@ -88,7 +88,7 @@ fault_in_line pos n at old new p e h (inr (u, f, decodes, bad, told)) =
     )
 
 -- in the line that is entered, or behind it
-fault_entered : (pos n at : ℕ) (old new : LinesLeft) (e : ParserError) → old.next ≡ pos + at → (h : EntersLine old new) → LeftFault pos n (at + length h.line + 1) new e
+fault_entered : (pos n at : ℕ) (old new : LinesLeft) (e : Diagnostic) → old.next ≡ pos + at → (h : EntersLine old new) → LeftFault pos n (at + length h.line + 1) new e
     → (f : LineFault) × BadLines old.indent at old.later f × TellsFault e f (fault_span pos n f)
 fault_entered pos n at old new e there h (inl (i, bad, told)) =
     let place : new.line.pos ≡ old.next + old.indent = h.place in
@@ -104,7 +104,7 @@ fault_entered pos n at old new e there h (inr (u, f, decodes, bad, told)) =
     (f, subst (λ (z : List (List ℕ)). BadLines old.indent at z f) (sym h.there) (inr (u, (new.line.rest, h.indented, decodes), more)), told)
 
 -- a line with too few spaces
-fault_here : (pos n at : ℕ) (old new : LinesLeft) (e : ParserError) → old.next ≡ pos + at → MeetsBadLine old new e
+fault_here : (pos n at : ℕ) (old new : LinesLeft) (e : Diagnostic) → old.next ≡ pos + at → MeetsBadLine old new e
     → (f : LineFault) × BadLines old.indent at old.later f × TellsFault e f (fault_span pos n f)
 fault_here pos n at old new e there h = (
   indentation at,
@@ -113,7 +113,7 @@ fault_here pos n at old new e there h = (
 )
 
 -- parts up to a refusal tell what is wrong
-run_fault : (pos n at : ℕ) (l : LinesLeft) (ps : List StringPart) (e : ParserError) → l.next ≡ pos + at → LinesRunTo l ps (Some e) → LeftFault pos n at l e
+run_fault : (pos n at : ℕ) (l : LinesLeft) (ps : List StringPart) (e : Diagnostic) → l.next ≡ pos + at → LinesRunTo l ps (Some e) → LeftFault pos n at l e
 run_fault pos n at l [] e there (t, inl (h, ended)) = inl (0, bad_here l.line t.line e h, subst (λ (z : ℕ). TellsBadEscape e z) (omega arith) h.told)
 run_fault pos n at l [] e there (t, inr (none, h)) =
     let f = fault_here pos n at l t e there h in
@@ -162,12 +162,12 @@ opened_means s pos l new t b (inr (inr h)) (u, us, decodes, lines, joined) =
     subst (λ (z : List ℕ). DecodesLines s z) (sym joined) (inside_means s pos l (u ∷ us) b (entered_means l new u us h decodes lines))
 
 -- a fault of the lines is one of the inside
-inside_fault : (s : List ℕ) (pos n : ℕ) (l : LinesLeft) (e : ParserError) → (b : Begins s pos l) → (f : LineFault) × BadLines l.indent (length b.first + 1) l.later f × TellsFault e f (fault_span pos n f)
+inside_fault : (s : List ℕ) (pos n : ℕ) (l : LinesLeft) (e : Diagnostic) → (b : Begins s pos l) → (f : LineFault) × BadLines l.indent (length b.first + 1) l.later f × TellsFault e f (fault_span pos n f)
     → (f : LineFault) × MultilineFault s f × TellsFault e f (fault_span pos n f)
 inside_fault s pos n l e b (f, bad, told) = (f, inr (inr (record { first = b.first; between = l.later; indent = l.indent; cut = b.cut; opens = b.opens; bad = bad })), told)
 
 -- what is wrong with the rest is wrong with the inside
-opened_fault : (s : List ℕ) (pos n : ℕ) (l new : LinesLeft) (e : ParserError) → (b : Begins s pos l) → ((l.later ≡ []) × (new ≡ l) ⊎ HasBadLine l × (new ≡ l) ⊎ EntersLine l new)
+opened_fault : (s : List ℕ) (pos n : ℕ) (l new : LinesLeft) (e : Diagnostic) → (b : Begins s pos l) → ((l.later ≡ []) × (new ≡ l) ⊎ HasBadLine l × (new ≡ l) ⊎ EntersLine l new)
     → ((at : ℕ) → new.next ≡ pos + at → LeftFault pos n at new e) → (f : LineFault) × MultilineFault s f × TellsFault e f (fault_span pos n f)
 opened_fault s pos n l new e b (inl (none, same)) fault =
     no_fault (fault (length b.first + 1) (ap (λ (z : LinesLeft). z.next) same ∙ b.next))
@@ -188,7 +188,7 @@ opened_fault s pos n l new e b (inr (inr h)) fault =
     inside_fault s pos n l e b (fault_entered pos n (length b.first + 1) l new e next h (fault (length b.first + 1 + length h.line + 1) later))
 
 -- what is refused at the beginning is wrong with the inside
-opening_fault : (s : List ℕ) (pos : ℕ) (e : ParserError) → OpeningRefused s pos e → (f : LineFault) × MultilineFault s f × TellsFault e f (fault_span pos (length s) f)
+opening_fault : (s : List ℕ) (pos : ℕ) (e : Diagnostic) → OpeningRefused s pos e → (f : LineFault) × MultilineFault s f × TellsFault e f (fault_span pos (length s) f)
 opening_fault s pos e (inl (bad, told)) = (closing, inl (bad, refl), told)
 opening_fault s pos e (inr (good, bad, told)) = (opening, inr (inl (good, bad, refl)), told)
 
@@ -211,7 +211,7 @@ one_line_means s t (u, us, decodes, lines, joined) =
     subst (λ (z : List ℕ). Decodes s.rest z) (sym (joined ∙ ap (λ (z : List (List ℕ)). in_lines (u ∷ z)) none)) decodes
 
 -- what is wrong with one line is a bad escape
-one_line_fault : (s : Undecoded) (e : ParserError) (pos n at : ℕ) → LeftFault pos n at (one_line s) e → (i : ℕ) × IsBadEscapeAt s.rest i × TellsBadEscape e (s.pos + i)
+one_line_fault : (s : Undecoded) (e : Diagnostic) (pos n at : ℕ) → LeftFault pos n at (one_line s) e → (i : ℕ) × IsBadEscapeAt s.rest i × TellsBadEscape e (s.pos + i)
 one_line_fault s e pos n at (inl bad) = bad
 one_line_fault s e pos n at (inr (u, f, decodes, bad, told)) = absurd bad
 
@@ -237,7 +237,7 @@ run_ended l m n [] r h = (n, subst (λ (z : LinesLeft). LinePartIs z None n) (sy
 run_ended l m n (q ∷ ps) (t, g, r) h = (t, g, run_ended t m n ps r h)
 
 -- a refusal
-pub run_refused : (l m n : LinesLeft) (ps : List StringPart) (e : ParserError) → LinesRun l ps m → LinePartIs m (Some (Err e)) n → LinesRunTo l ps (Some e)
+pub run_refused : (l m n : LinesLeft) (ps : List StringPart) (e : Diagnostic) → LinesRun l ps m → LinePartIs m (Some (Err e)) n → LinesRunTo l ps (Some e)
 run_refused l m n [] e r h = (n, subst (λ (z : LinesLeft). LinePartIs z (Some (Err e)) n) (sym r) h)
 run_refused l m n (q ∷ ps) e (t, g, r) h = (t, g, run_refused t m n ps e r h)
 

@@ -7,10 +7,10 @@ use Rattle.std.proofs.lemmas.Bool.Decides.{nat_tests}
 use Rattle.std.specs.Str.{IsUtf8, IsCharBoundary}
 use Rattle.std.proofs.lemmas.Str.{IsCharBoundary-start, IsCharBoundary-after_ascii}
 use Rattle.std.proofs.lemmas.List.{append-nil, take-append-drop}
+use Rattle.wave_lex.specs.Errors.{Diagnostic}
 use Rattle.wave_lex.proofs.Decoding.{length_spaces}
 use Rattle.wave_lex.specs.Multiline.{put_first, pieces, spaces, DropsReturn, IsIndented, Opens, IsSpaces, without_return, last_of, closing_piece, OpensWell}
 use Rattle.wave_lex.specs.Remaining.{Undecoded, LinesLeft, but_last, ended_lines}
-use Rattle.wave_lex.specs.declared.error.ParserError.{ParserError}
 use Rattle.wave_lex.specs.Parts.{Begins, EntersLine, HasBadLine}
 use Rattle.wave_lex.specs.Private.Lines.{BehindLastFeed, SplitsLine, OpeningIs, LineIs}
 
@@ -342,7 +342,7 @@ begins_here s closing body first start pos k line h o e l m sp b r =
     }
 
 -- what reading the first line leaves
-pub opened : (old new : LinesLeft) (r : Option (Result (Unit {0}) ParserError)) → LineIs old r new → (old.later ≡ []) × (new ≡ old) ⊎ HasBadLine old × (new ≡ old) ⊎ EntersLine old new
+pub opened : (old new : LinesLeft) (r : Option (Result (Unit {0}) Diagnostic)) → LineIs old r new → (old.later ≡ []) × (new ≡ old) ⊎ HasBadLine old × (new ≡ old) ⊎ EntersLine old new
 opened old new None h = inl h
 opened old new (Some (Ok u)) h = inr (inr h)
 opened old new (Some (Err e)) (bad, told, same) = inr (inl (bad, same))

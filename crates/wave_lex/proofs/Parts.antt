@@ -10,9 +10,9 @@ use Rattle.std.proofs.Math.Seq.{drop-append_seam}
 use Rattle.std.proofs.lemmas.Bool.Decides.{nat_tests}
 use Rattle.std.proofs.lemmas.Str.{IsUtf8-past_char, encode_ascii, IsCharBoundary-at_seam}
 use Rattle.wave_wasm.specs.Lists.{AllOf}
+use Rattle.wave_lex.specs.Errors.{Diagnostic}
 use Rattle.wave_lex.specs.declared.strings.StringPart.{StringPart}
 use Rattle.wave_lex.specs.declared.strings.StringPart.TheVariants.{Run, Char}
-use Rattle.wave_lex.specs.declared.error.ParserError.{ParserError}
 use Rattle.wave_lex.specs.Strings.{short_escape, IsEscape, Decodes, UnescapesTo, IsBadEscapeAt}
 use Rattle.wave_lex.specs.Parts.{part_text, part_texts, TakesRun, TakesEscape, TellsBadEscape, MeetsBadEscape, PartIs, RunsTo, PartsJoin}
 use Rattle.wave_lex.specs.Remaining.{Undecoded}
@@ -165,11 +165,11 @@ join_decodes s (p ∷ ps) r =
     subst (λ (z : List ℕ). Decodes z (part_texts (p ∷ ps))) (sym h.taken) (h.means r.0.rest (part_texts ps) (join_decodes r.0 ps r.2))
 
 -- at once: the `\` is the first byte
-pub bad_here : (s t : Undecoded) (e : ParserError) → MeetsBadEscape s t e → IsBadEscapeAt s.rest 0
+pub bad_here : (s t : Undecoded) (e : Diagnostic) → MeetsBadEscape s t e → IsBadEscapeAt s.rest 0
 bad_here s t e h = ([], h.begins.0, [], h.begins.1, ([], (refl, refl)), subst (λ (z : List ℕ). UnescapesTo z None) h.begins.1 h.none, refl)
 
 -- parts up to a refusal tell the first bad escape
-join_fails : (s : Undecoded) (ps : List StringPart) (e : ParserError) → RunsTo s ps (Some e) → (i : ℕ) × IsBadEscapeAt s.rest i × TellsBadEscape e (s.pos + i)
+join_fails : (s : Undecoded) (ps : List StringPart) (e : Diagnostic) → RunsTo s ps (Some e) → (i : ℕ) × IsBadEscapeAt s.rest i × TellsBadEscape e (s.pos + i)
 join_fails s [] e r = (0, bad_here s r.0 e r.1, subst (λ (z : ℕ). TellsBadEscape e z) (omega arith) r.1.told)
 join_fails s (p ∷ ps) e r =
     let h = takes s r.0 p r.1 in

@@ -1,16 +1,12 @@
 -- What a refusal says: kind, cause, detail, and the text of it.
 use Rattle.std.specs.Prelude.{◌≡◌, ℕ, ◌≤◌, ◌++◌, List, [], length, Option, Some, None, option_map, codes}
 use Rattle.std.specs.Fmt.{decimal}
-use Rattle.std.specs.String.{string_bytes}
 use Rattle.std.specs.declared.ops.Range.{Range}
 use Rattle.wave_wasm.specs.ValueErrors.{Cause, memory, cause_of, cause_text, quoted_name}
 use Rattle.wave_wasm.specs.declared.wasm.WasmValueError.{WasmValueError}
 use Rattle.wave_wasm.specs.declared.wasm.WasmValueError.TheVariants as error
 use Rattle.wave_lex.specs.declared.error.ParserErrorKind.{ParserErrorKind}
 use Rattle.wave_lex.specs.declared.error.ParserErrorKind.TheVariants as kind
-use Rattle.wave_lex.specs.declared.error.Detail.{Detail}
-use Rattle.wave_lex.specs.declared.error.Detail.TheVariants as detail
-use Rattle.wave_lex.specs.declared.error.ParserError.{ParserError}
 use Rattle.wave_lex.specs.declared.lex.Token.{Token}
 use Rattle.wave_lex.specs.declared.lex.Token.TheVariants as class
 use Rattle.wave_lex.specs.declared.lex.FuncNameToken.{FuncNameToken}
@@ -40,21 +36,22 @@ abbrev pub kept : WasmValueError → Option WasmValueError
 kept (error.Memory e) = None
 kept e = Some e
 
--- the kind and the cause of a `ParserError`
-abbrev pub refusal_of : ParserError → Refusal
+-- what a `ParserError` tells: its kind, the bytes of the source where it arose, the words of its detail and the error of the value that could not be made, where it has them
+pub record Diagnostic : Type 0 where
+  pub kind : ParserErrorKind
+  pub span : Range ℕ
+  pub detail : Option (List ℕ)
+  pub cause : Option WasmValueError
+
+-- the kind and the cause of an error
+abbrev pub refusal_of : Diagnostic → Refusal
 refusal_of e = record { kind = e.kind; cause = option_map cause_of e.cause }
 
--- the detail of a `ParserError`, where it has one
-abbrev pub detail_text : Detail → Option (List ℕ)
-detail_text detail.None = None
-detail_text (detail.Static s) = Some s.now
-detail_text (detail.Owned s) = Some (string_bytes s)
-
 -- the error is of this kind, at this span, with this detail and without a cause
-pub record Says (e : ParserError) (kind : ParserErrorKind) (at : Range ℕ) (detail : Option (List ℕ)) : Type 0 where
+pub record Says (e : Diagnostic) (kind : ParserErrorKind) (at : Range ℕ) (detail : Option (List ℕ)) : Type 0 where
   pub is : refusal_of e ≡ plainly kind
   pub stands : e.span ≡ at
-  pub tells : detail_text e.detail ≡ detail
+  pub tells : e.detail ≡ detail
 
 -- the span lies in the text
 abbrev pub LiesInText : List ℕ → Range ℕ → Type 0
@@ -96,8 +93,8 @@ abbrev pub place_words : Range ℕ → List ℕ
 place_words p = codes " at " ++ (decimal p.start ++ (codes ".." ++ decimal p.end))
 
 -- the text of a `ParserError`
-abbrev pub error_text : ParserError → List ℕ
-error_text e = kind_words e.kind ++ (behind_colon (cause_or_detail (option_map cause_of e.cause) (detail_text e.detail)) ++ place_words e.span)
+abbrev pub error_text : Diagnostic → List ℕ
+error_text e = kind_words e.kind ++ (behind_colon (cause_or_detail (option_map cause_of e.cause) e.detail) ++ place_words e.span)
 
 -- ---- details
 

@@ -3,7 +3,6 @@ use Rattle.std.specs.Prelude.{◌≡◌, ℕ, ◌+◌, ◌≢◌, ◌⊎◌, Lis
 use Rattle.wave_wasm.specs.Lists.{AllOf}
 use Rattle.wave_lex.specs.declared.strings.StringPart.{StringPart}
 use Rattle.wave_lex.specs.declared.strings.StringPart.TheVariants.{Run, Char}
-use Rattle.wave_lex.specs.declared.error.ParserError.{ParserError}
 use Rattle.wave_lex.specs.declared.error.ParserErrorKind.TheVariants.{InvalidEscape, InvalidMultilineString}
 use Rattle.wave_lex.specs.declared.strings.StringPartsIter.{StringPartsIter}
 use Rattle.wave_lex.specs.declared.strings.StringPartsIter.TheVariants.{Normal, Multiline}
@@ -13,7 +12,7 @@ use Rattle.wave_lex.specs.Remaining.{Undecoded, LinesLeft, one_line}
 use Rattle.wave_lex.specs.Tokenization.{span}
 use Rattle.wave_lex.specs.Strings.{IsEscape, UnescapesTo, Decodes, IsBadEscapeAt}
 use Rattle.wave_lex.specs.Multiline.{pieces, spaces, IsIndented, Opens, DecodesLines, LineFault, closing, opening, IsSpaces, closing_piece, OpensWell, MultilineFault, fault_kind, fault_span}
-use Rattle.wave_lex.specs.Errors.{refusal_of, plainly, detail_text, fault_detail, badly_indented}
+use Rattle.wave_lex.specs.Errors.{Diagnostic, refusal_of, plainly, fault_detail, badly_indented}
 
 -- the text of a part
 abbrev pub part_text : StringPart → List ℕ
@@ -43,27 +42,27 @@ pub record TakesEscape (old new : Undecoded) (c : ℕ) : Type 0 where
   pub moved : new.pos ≡ old.pos + length escape
 
 -- the refusal of an escape at this place
-pub record TellsBadEscape (e : ParserError) (pos : ℕ) : Type 0 where
+pub record TellsBadEscape (e : Diagnostic) (pos : ℕ) : Type 0 where
   pub refusal : refusal_of e ≡ plainly InvalidEscape
-  pub detail : detail_text e.detail ≡ None
+  pub detail : e.detail ≡ None
   pub at : e.span ≡ span pos (pos + 1)
 
 -- a `\` stands there that begins no escape; it is refused, and nothing is left
-pub record MeetsBadEscape (old new : Undecoded) (e : ParserError) : Type 0 where
+pub record MeetsBadEscape (old new : Undecoded) (e : Diagnostic) : Type 0 where
   pub begins : (t : List ℕ) × (old.rest ≡ backslash ∷ t)
   pub none : UnescapesTo old.rest None
   pub ended : new.rest ≡ []
   pub told : TellsBadEscape e old.pos
 
 -- what `StringParts::next` answers
-abbrev pub PartIs : Undecoded → Option (Result StringPart ParserError) → Undecoded → Type 0
+abbrev pub PartIs : Undecoded → Option (Result StringPart Diagnostic) → Undecoded → Type 0
 PartIs old None new = (old.rest ≡ []) × (new ≡ old)
 PartIs old (Some (Ok (Run s))) new = TakesRun old new s.now
 PartIs old (Some (Ok (Char c))) new = TakesEscape old new c
 PartIs old (Some (Err e)) new = MeetsBadEscape old new e
 
 -- the parts that came, up to None or up to an error
-abbrev pub RunsTo : Undecoded → List StringPart → Option ParserError → Type 0
+abbrev pub RunsTo : Undecoded → List StringPart → Option Diagnostic → Type 0
 RunsTo s [] None = (t : Undecoded) × PartIs s None t
 RunsTo s [] (Some e) = (t : Undecoded) × PartIs s (Some (Err e)) t
 RunsTo s (p ∷ ps) end = (t : Undecoded) × PartIs s (Some (Ok p)) t × RunsTo t ps end
@@ -72,20 +71,20 @@ RunsTo s (p ∷ ps) end = (t : Undecoded) × PartIs s (Some (Ok p)) t × RunsTo 
 abbrev pub PartsJoin : Type 0
 PartsJoin = (s : Undecoded) (ps : List StringPart)
     → (RunsTo s ps None → Decodes s.rest (part_texts ps))
-    × ((e : ParserError) → RunsTo s ps (Some e) → (i : ℕ) × IsBadEscapeAt s.rest i × TellsBadEscape e (s.pos + i))
+    × ((e : Diagnostic) → RunsTo s ps (Some e) → (i : ℕ) × IsBadEscapeAt s.rest i × TellsBadEscape e (s.pos + i))
 
 -- ---- a multiline string
 
 -- the refusal of a fault at these bytes
-pub record TellsFault (e : ParserError) (f : LineFault) (place : Range ℕ) : Type 0 where
+pub record TellsFault (e : Diagnostic) (f : LineFault) (place : Range ℕ) : Type 0 where
   pub refusal : refusal_of e ≡ plainly (fault_kind f)
-  pub detail : detail_text e.detail ≡ fault_detail f
+  pub detail : e.detail ≡ fault_detail f
   pub at : e.span ≡ place
 
 -- the refusal of a line with too few spaces at this place
-pub record TellsBadLine (e : ParserError) (pos : ℕ) : Type 0 where
+pub record TellsBadLine (e : Diagnostic) (pos : ℕ) : Type 0 where
   pub refusal : refusal_of e ≡ plainly InvalidMultilineString
-  pub detail : detail_text e.detail ≡ Some badly_indented
+  pub detail : e.detail ≡ Some badly_indented
   pub at : e.span ≡ span pos (pos + 1)
 
 -- the next line is read: its spaces and its final carriage return are dropped
@@ -107,7 +106,7 @@ pub record HasBadLine (l : LinesLeft) : Type 0 where
   pub bad : (x : List ℕ) → line ≢ spaces l.indent ++ x
 
 -- the next line has too few spaces; it is refused at its first byte, and no line is left
-pub record MeetsBadLine (old new : LinesLeft) (e : ParserError) : Type 0 where
+pub record MeetsBadLine (old new : LinesLeft) (e : Diagnostic) : Type 0 where
   pub met : HasBadLine old
   pub stays : new.line ≡ old.line
   pub ended : new.later ≡ []
@@ -121,7 +120,7 @@ pub record StaysInLine (old new : LinesLeft) (part : StringPart) : Type 0 where
   pub indent : new.indent ≡ old.indent
 
 -- what `MultilineStringParts::next` answers: a part of the line; a line feed where the next one is read; a refusal; None at the end of the last
-abbrev pub LinePartIs : LinesLeft → Option (Result StringPart ParserError) → LinesLeft → Type 0
+abbrev pub LinePartIs : LinesLeft → Option (Result StringPart Diagnostic) → LinesLeft → Type 0
 LinePartIs old None new = (old.line.rest ≡ []) × (old.later ≡ []) × (new ≡ old)
 LinePartIs old (Some (Ok part)) new = StaysInLine old new part ⊎ (old.line.rest ≡ []) × (part ≡ Char line_feed) × EntersLine old new
 LinePartIs old (Some (Err e)) new = MeetsBadEscape old.line new.line e × (new.later ≡ []) ⊎ (old.line.rest ≡ []) × MeetsBadLine old new e
@@ -139,13 +138,13 @@ abbrev pub OpensTo : List ℕ → ℕ → LinesLeft → Type 0
 OpensTo s pos new = (l : LinesLeft) × Begins s pos l × ((l.later ≡ []) × (new ≡ l) ⊎ HasBadLine l × (new ≡ l) ⊎ EntersLine l new)
 
 -- why there is no iterator: the last piece, or the first
-abbrev pub OpeningRefused : List ℕ → ℕ → ParserError → Type 0
+abbrev pub OpeningRefused : List ℕ → ℕ → Diagnostic → Type 0
 OpeningRefused s pos e =
     ((IsSpaces (closing_piece (pieces s)) → ⊥) × TellsFault e closing (fault_span pos (length s) closing))
     ⊎ (IsSpaces (closing_piece (pieces s)) × (OpensWell (pieces s) → ⊥) × TellsFault e opening (fault_span pos (length s) opening))
 
 -- the parts that came, up to None or up to an error
-abbrev pub LinesRunTo : LinesLeft → List StringPart → Option ParserError → Type 0
+abbrev pub LinesRunTo : LinesLeft → List StringPart → Option Diagnostic → Type 0
 LinesRunTo s [] None = (t : LinesLeft) × LinePartIs s None t
 LinesRunTo s [] (Some e) = (t : LinesLeft) × LinePartIs s (Some (Err e)) t
 LinesRunTo s (p ∷ ps) end = (t : LinesLeft) × LinePartIs s (Some (Ok p)) t × LinesRunTo t ps end
@@ -155,8 +154,8 @@ abbrev pub LinesJoin : Type 0
 LinesJoin = (s : List ℕ) (pos : ℕ)
     → ((l : LinesLeft) (ps : List StringPart) → OpensTo s pos l
     → (LinesRunTo l ps None → DecodesLines s (part_texts ps))
-    × ((e : ParserError) → LinesRunTo l ps (Some e) → (f : LineFault) × MultilineFault s f × TellsFault e f (fault_span pos (length s) f)))
-    × ((e : ParserError) → OpeningRefused s pos e → (f : LineFault) × MultilineFault s f × TellsFault e f (fault_span pos (length s) f))
+    × ((e : Diagnostic) → LinesRunTo l ps (Some e) → (f : LineFault) × MultilineFault s f × TellsFault e f (fault_span pos (length s) f)))
+    × ((e : Diagnostic) → OpeningRefused s pos e → (f : LineFault) × MultilineFault s f × TellsFault e f (fault_span pos (length s) f))
 
 -- ---- both kinds of strings
 
@@ -169,4 +168,4 @@ left_of (Multiline parts) = parts
 abbrev pub OneLineJoins : Type 0
 OneLineJoins = (s : Undecoded) (ps : List StringPart)
     → (LinesRunTo (one_line s) ps None → Decodes s.rest (part_texts ps))
-    × ((e : ParserError) → LinesRunTo (one_line s) ps (Some e) → (i : ℕ) × IsBadEscapeAt s.rest i × TellsBadEscape e (s.pos + i))
+    × ((e : Diagnostic) → LinesRunTo (one_line s) ps (Some e) → (i : ℕ) × IsBadEscapeAt s.rest i × TellsBadEscape e (s.pos + i))

@@ -4,36 +4,60 @@ ghost use Rattle.std.specs.Borrow.{ftrue};
 
 use std::marker::Model;
 
-/// A count of questions. It takes no bytes: only clauses see it, as the number `count`. `new` makes
-/// one that is zero, and only `Lexer::next_ticked` changes one, by one more.
+/// A number that takes no bytes: only clauses see it. A struct of ghost fields alone can be written
+/// down wherever its name is known, so this name is private.
+#[derive(Drop)]
+struct Count {
+    ghost number: { ℕ },
+}
+
+impl Model for Count {
+    ghost also_owns = { λ _. ftrue };
+}
+
+impl Count {
+    /// Zero.
+    fn zero() -> Count
+        ensures { result.number ≡ 0 }
+    {
+        Count {}
+    }
+
+    /// One more.
+    fn and_one(&self) -> Count
+        ensures { result.number ≡ self.now.number + 1 }
+    {
+        Count {}
+    }
+}
+
+/// A count of questions. It takes no bytes: only clauses see it, as a number. `new` makes one that
+/// is zero, and only `Lexer::next_ticked` changes one, by one more.
 #[derive(Drop)]
 pub struct Asked {
-    pub ghost count: { ℕ },
+    count: Count,
 }
 
 impl Model for Asked {
-    ghost also_owns = { λ _. ftrue };
+    ghost Value = { ℕ };
+
+    ghost view = { λ a. a.count.number };
 }
 
 impl Asked {
     /// No question yet.
     pub fn new() -> Asked
-        ensures { result.count ≡ 0 }
+        ensures { result ≡ 0 }
     {
-        Asked {}
-    }
-
-    /// One question more than there were.
-    fn and_one(&self) -> Asked
-        ensures { result.count ≡ self.now.count + 1 }
-    {
-        Asked {}
+        Asked {
+            count: Count::zero(),
+        }
     }
 
     /// One more question.
     pub(crate) fn tick(&mut self)
-        ensures { self.new.count ≡ self.old.count + 1 }
+        ensures { self.new ≡ self.old + 1 }
     {
-        *self = self.and_one();
+        self.count = self.count.and_one();
     }
 }

@@ -2,10 +2,12 @@
 ghost use Rattle.std.specs.Prelude.{◌≡◌, None, Some, option_map};
 ghost use Rattle.std.specs.String.{string_bytes};
 ghost use Rattle.wave_wasm.specs.ValueErrors.{cause_of};
-ghost use Rattle.wave_lex.specs.Errors.{plainly, refused_by, kept, refusal_of, detail_text, kind_words, error_text};
+ghost use Rattle.wave_lex.specs.Errors.{plainly, refused_by, kept, refusal_of, kind_words, error_text};
+ghost use Rattle.wave_lex.specs.Private.Errors.{detail_text};
 
 use crate::lex::Span;
 use std::fmt;
+use std::marker::Model;
 use thiserror::Error;
 use wave_wasm::wasm::WasmValueError;
 
@@ -82,7 +84,7 @@ impl fmt::Display for ParserErrorKind {
 
 /// A word more on a refusal.
 #[derive(Debug, Drop)]
-pub enum Detail {
+enum Detail {
     /// No word more.
     None,
     /// Words that are written in the program.
@@ -92,7 +94,7 @@ pub enum Detail {
 }
 
 /// A refusal of a text: its kind, the bytes of the source where it arose, and perhaps a detail or
-/// the error of the value that could not be made.
+/// the error of the value that could not be made. A clause sees these four, the detail as a text.
 #[derive(Debug, Drop, Error)]
 pub struct ParserError {
     kind: ParserErrorKind,
@@ -101,12 +103,23 @@ pub struct ParserError {
     cause: Option<WasmValueError>,
 }
 
+impl Model for ParserError {
+    ghost use Rattle.wave_lex.specs.Errors.{Diagnostic};
+
+    ghost Value = { Diagnostic };
+
+    ghost use Rattle.wave_lex.specs.Private.Errors.{detail_text};
+
+    ghost view = { λ e.
+        record { kind = e.kind; span = e.span; detail = detail_text e.detail; cause = e.cause } };
+}
+
 impl ParserError {
     /// A refusal without detail and cause.
     pub fn new(kind: ParserErrorKind, span: Span) -> ParserError
         ensures refusal { refusal_of result ≡ plainly kind }
         ensures span { result.span ≡ span }
-        ensures detail { detail_text result.detail ≡ None }
+        ensures detail { result.detail ≡ None }
     {
         ParserError::with_parts(kind, span, Detail::None)
     }
@@ -115,7 +128,7 @@ impl ParserError {
     pub fn with_static(kind: ParserErrorKind, span: Span, detail: &'static str) -> ParserError
         ensures refusal { refusal_of result ≡ plainly kind }
         ensures span { result.span ≡ span }
-        ensures detail { detail_text result.detail ≡ Some detail.now }
+        ensures detail { result.detail ≡ Some detail.now }
     {
         ParserError::with_parts(kind, span, Detail::Static(detail))
     }
@@ -124,7 +137,7 @@ impl ParserError {
     pub fn with_detail(kind: ParserErrorKind, span: Span, detail: String) -> ParserError
         ensures refusal { refusal_of result ≡ plainly kind }
         ensures span { result.span ≡ span }
-        ensures detail { detail_text result.detail ≡ Some (string_bytes detail) }
+        ensures detail { result.detail ≡ Some (string_bytes detail) }
     {
         ParserError::with_parts(kind, span, Detail::Owned(detail))
     }
@@ -134,7 +147,7 @@ impl ParserError {
     pub fn with_cause(span: Span, cause: WasmValueError) -> ParserError
         ensures refusal { refusal_of result ≡ refused_by (cause_of cause) }
         ensures span { result.span ≡ span }
-        ensures detail { detail_text result.detail ≡ None }
+        ensures detail { result.detail ≡ None }
         ensures cause { result.cause ≡ kept cause }
     {
         match cause {
@@ -150,7 +163,7 @@ impl ParserError {
 
     /// A refusal without a cause.
     fn with_parts(kind: ParserErrorKind, span: Span, detail: Detail) -> ParserError
-        ensures { result ≡ record { kind = kind; span = span; detail = detail; cause = None } }
+        ensures { result ≡ record { kind = kind; span = span; detail = detail_text detail; cause = None } }
     {
         ParserError {
             kind,
@@ -162,7 +175,7 @@ impl ParserError {
 
     /// The kind of the refusal.
     pub fn kind(&self) -> ParserErrorKind
-        ensures { result ≡ (refusal_of self.now).kind }
+        ensures { result ≡ self.now.kind }
     {
         self.kind
     }
@@ -176,7 +189,7 @@ impl ParserError {
 
     /// The detail, where there is one.
     pub fn detail(&self) -> Option<&str>
-        ensures { option_map (λ text. text.now) result ≡ detail_text self.now.detail }
+        ensures { option_map (λ text. text.now) result ≡ self.now.detail }
     {
         match &self.detail {
             Detail::None => None,

@@ -248,7 +248,7 @@ impl<'source> Lexer<'source> {
     /// Answers as `next`, and counts the question.
     pub fn next_ticked(&mut self, asked: &mut Asked) -> Option<Result<Token, Span>>
         ensures item { NextIs self.old self.new result }
-        ensures counted { asked.new.count ≡ asked.old.count + 1 }
+        ensures counted { asked.new ≡ asked.old + 1 }
     {
         asked.tick();
         self.next()

@@ -1,13 +1,13 @@
 -- How the code keeps the lines of a multiline string. No public contract needs it.
 use Rattle.std.specs.Prelude.{◌≡◌, ◌≢◌, ℕ, ◌+◌, ◌-◌, ◌<◌, ◌≤◌, List, [], ◌∷◌, ◌++◌, take, drop, length, Option, Some, None, Result, Ok, Err, slice_index}
-use Rattle.wave_lex.specs.declared.error.ParserError.{ParserError}
+use Rattle.wave_lex.specs.Errors.{Diagnostic}
 use Rattle.wave_lex.specs.Tokens.{line_feed}
 use Rattle.wave_lex.specs.Multiline.{pieces, Opens, OpensWell}
 use Rattle.wave_lex.specs.Remaining.{LinesLeft, ended_lines}
 use Rattle.wave_lex.specs.Parts.{TellsBadLine, EntersLine, HasBadLine}
 
 -- the next line is read; or it has too few spaces, is refused and stays; or there is none
-abbrev pub LineIs : LinesLeft → Option (Result (Unit {0}) ParserError) → LinesLeft → Type 0
+abbrev pub LineIs : LinesLeft → Option (Result (Unit {0}) Diagnostic) → LinesLeft → Type 0
 LineIs old None new = (old.later ≡ []) × (new ≡ old)
 LineIs old (Some (Ok done)) new = EntersLine old new
 LineIs old (Some (Err e)) new = HasBadLine old × TellsBadLine e old.next × (new ≡ old)

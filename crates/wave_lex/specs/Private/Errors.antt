@@ -1,0 +1,11 @@
+-- How the code keeps the detail of an error. No public contract needs it.
+use Rattle.std.specs.Prelude.{ℕ, List, Option, Some, None}
+use Rattle.std.specs.String.{string_bytes}
+use Rattle.wave_lex.specs.declared.error.Detail.{Detail}
+use Rattle.wave_lex.specs.declared.error.Detail.TheVariants as detail
+
+-- the words of a detail, where it has them
+abbrev pub detail_text : Detail → Option (List ℕ)
+detail_text detail.None = None
+detail_text (detail.Static s) = Some s.now
+detail_text (detail.Owned s) = Some (string_bytes s)
