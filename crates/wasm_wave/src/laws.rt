@@ -19,7 +19,7 @@ pub use wave_tree::laws::{
     same_tokens_mean_the_same, shown_call_keeps_meaning, shown_keeps_meaning, trees_are_led,
     unexpected_tokens_begin_none, untyped_reading_agrees,
 };
-pub use wave_type::laws::{equal_types, type_text_injective};
+pub use wave_type::laws::{equal_types, type_text_injective, types_convert_to_themselves};
 pub use wave_value::laws::equal_values;
 pub use wave_wasm::laws::{key_text_injective, merging_keeps_last_values};
 

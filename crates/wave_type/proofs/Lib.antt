@@ -6,3 +6,4 @@ pub mod TypeOwn
 pub mod LabelTest
 pub mod TextFronts
 pub mod TypeTexts
+pub mod TypeConversion

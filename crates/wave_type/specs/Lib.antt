@@ -5,3 +5,4 @@ pub mod TypeEquality
 pub mod TypeEqualityLaws
 pub mod LabelTest
 pub mod TypeTexts
+pub mod TypeConversion

@@ -1,2 +1,3 @@
 pub mod TypeModel
 pub mod TypeDepth
+pub mod TypeConversion

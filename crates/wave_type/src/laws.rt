@@ -1,6 +1,7 @@
 //! Laws of types, over the definitions alone.
 ghost use Rattle.std.specs.Prelude.{◌≡◌, ◌↔◌, true};
 ghost use Rattle.wave_wasm.specs.Types.{TypeTree, IsOwn};
+ghost use Rattle.wave_type.specs.TypeConversion.{ConvertsToItself};
 ghost use Rattle.wave_type.specs.TypeEquality.{same_tree};
 ghost use Rattle.wave_type.specs.TypeTexts.{IsShownWhole, TypeTextTells};
 
@@ -13,4 +14,10 @@ pub fn type_text_injective()
 /// What `==` answers of two types is true exactly where their trees are one.
 pub fn equal_types()
     ensures { (T U : TypeTree) → (same_tree T U ≡ true) ↔ (T ≡ U) }
+{}
+
+/// `from_wasm_type` answers a type that `Type` has as itself exactly where no part of it is a
+/// fixed-length list, and none exactly where one is.
+pub fn types_convert_to_themselves()
+    ensures { (T : TypeTree) → IsOwn T → ConvertsToItself T }
 {}

@@ -12,6 +12,7 @@ use std::marker::Model;
 use std::rc::Rc;
 use wave_wasm::wasm::WasmTypeKind;
 
+mod conversion;
 mod display;
 mod equality;
 mod labels;
