@@ -1,5 +1,5 @@
 -- A `Bare` means what the laws of values ask.
-use Rattle.std.proofs.Common.{◌≡◌, ℕ, zero, suc, ◌<◌, ◌≤◌, ◌+◌, length, take, get_or, List, [], ◌∷◌, map, Option, Some, refl, sym, ap, subst, ◌∙◌, rules, Vec, Global, arith}
+use Rattle.std.proofs.Common.{◌≡◌, ℕ, zero, suc, ◌<◌, ◌≤◌, ◌+◌, length, take, get_or, List, [], ◌∷◌, map, Some, refl, sym, ap, subst, ◌∙◌, rules, Vec, Global, arith}
 use Rattle.std.proofs.Math.Numerals.{add-one}
 use Rattle.std.proofs.lemmas.List.{take_all}
 use Rattle.wave_wasm.specs.Lists.{AllOf}
@@ -9,7 +9,6 @@ use Rattle.wave_wasm.specs.Values as value
 use Rattle.wave_wasm.specs.Values.{Value, values, value_list, list_items, IsWellFormed, AreWellFormed}
 use Rattle.wave_wasm.specs.HasType.{HasType}
 use Rattle.wave_wasm.specs.declared.wasm.WasmTypeKind.{WasmTypeKind}
-use Rattle.wave_wasm.specs.declared.wasm.WasmTypeKind.TheVariants as kinds
 use Rattle.wave_vectors_bare.specs.BareTree.{least, tree, one_level}
 use Rattle.wave_vectors_bare.specs.declared.bare.Bare.{Bare, List as list_of, Fixed as fixed_of, the_lemmas}
 use Rattle.wave_vectors_bare.specs.declared.bare.Bare.TheOpen.{Bare-F}

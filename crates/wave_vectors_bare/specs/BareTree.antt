@@ -1,5 +1,5 @@
 -- What a `Bare` means.
-use Rattle.std.specs.Prelude.{ℤ, pos, false, [], List}
+use Rattle.std.specs.Prelude.{pos, false, []}
 use Rattle.wave_wasm.specs.Types as type
 use Rattle.wave_wasm.specs.Values as value
 use Rattle.wave_wasm.specs.Values.{Value, values, no_value, no_values, no_fields, no_entries}

@@ -4,7 +4,7 @@ ghost use Rattle.wave_wasm.specs.Lists.{AllOf};
 ghost use Rattle.wave_wasm.specs.HasType.{HasType};
 ghost use Rattle.wave_wasm.specs.Borrowed.{shown_all};
 ghost use Rattle.wave_vectors_bare.specs.BareTree.{tree};
-ghost use Rattle.wave_vectors_bare.specs.Refusals.{RefusesKind};
+ghost use Rattle.wave_vectors_bare.specs.Refusals.{MakesNone};
 
 use std::alloc::{AllocError, Global};
 use wave_type::ty::Type;
@@ -26,13 +26,11 @@ pub enum Bare {
 }
 
 impl WasmValue for Bare {
-    ghost use Rattle.std.specs.Prelude.{◌≡◌, IfOk, IfErr};
-    ghost use Rattle.wave_wasm.specs.Values.{kind_of, list_items};
+    ghost use Rattle.std.specs.Prelude.{IfOk, IfErr};
     ghost use Rattle.wave_wasm.specs.HasType.{HasType};
-    ghost use Rattle.wave_wasm.specs.Borrowed.{shown_all};
     ghost use Rattle.wave_wasm.specs.ConstructorContracts.{MakesList, FullList};
     ghost use Rattle.wave_vectors_bare.specs.BareTree.{tree as tree_of};
-    ghost use Rattle.wave_vectors_bare.specs.Refusals.{RefusesKind};
+    ghost use Rattle.wave_vectors_bare.specs.Refusals.{MakesNone, RefusesKind};
 
     type Type = Type;
 
@@ -58,67 +56,67 @@ impl WasmValue for Bare {
     }
 
     fn make_bool(alloc: Global, _val: bool) -> Result<Bare, WasmValueError>
-        ensures { RefusesKind WasmTypeKind.Bool result }
+        ensures { MakesNone WasmTypeKind.Bool result }
     {
         unsupported(alloc, WasmTypeKind::Bool)
     }
 
     fn make_s8(alloc: Global, _val: i8) -> Result<Bare, WasmValueError>
-        ensures { RefusesKind WasmTypeKind.S8 result }
+        ensures { MakesNone WasmTypeKind.S8 result }
     {
         unsupported(alloc, WasmTypeKind::S8)
     }
 
     fn make_s16(alloc: Global, _val: i16) -> Result<Bare, WasmValueError>
-        ensures { RefusesKind WasmTypeKind.S16 result }
+        ensures { MakesNone WasmTypeKind.S16 result }
     {
         unsupported(alloc, WasmTypeKind::S16)
     }
 
     fn make_s32(alloc: Global, _val: i32) -> Result<Bare, WasmValueError>
-        ensures { RefusesKind WasmTypeKind.S32 result }
+        ensures { MakesNone WasmTypeKind.S32 result }
     {
         unsupported(alloc, WasmTypeKind::S32)
     }
 
     fn make_s64(alloc: Global, _val: i64) -> Result<Bare, WasmValueError>
-        ensures { RefusesKind WasmTypeKind.S64 result }
+        ensures { MakesNone WasmTypeKind.S64 result }
     {
         unsupported(alloc, WasmTypeKind::S64)
     }
 
     fn make_u8(alloc: Global, _val: u8) -> Result<Bare, WasmValueError>
-        ensures { RefusesKind WasmTypeKind.U8 result }
+        ensures { MakesNone WasmTypeKind.U8 result }
     {
         unsupported(alloc, WasmTypeKind::U8)
     }
 
     fn make_u16(alloc: Global, _val: u16) -> Result<Bare, WasmValueError>
-        ensures { RefusesKind WasmTypeKind.U16 result }
+        ensures { MakesNone WasmTypeKind.U16 result }
     {
         unsupported(alloc, WasmTypeKind::U16)
     }
 
     fn make_u32(alloc: Global, _val: u32) -> Result<Bare, WasmValueError>
-        ensures { RefusesKind WasmTypeKind.U32 result }
+        ensures { MakesNone WasmTypeKind.U32 result }
     {
         unsupported(alloc, WasmTypeKind::U32)
     }
 
     fn make_u64(alloc: Global, _val: u64) -> Result<Bare, WasmValueError>
-        ensures { RefusesKind WasmTypeKind.U64 result }
+        ensures { MakesNone WasmTypeKind.U64 result }
     {
         unsupported(alloc, WasmTypeKind::U64)
     }
 
     fn make_char(alloc: Global, _val: char) -> Result<Bare, WasmValueError>
-        ensures { RefusesKind WasmTypeKind.Char result }
+        ensures { MakesNone WasmTypeKind.Char result }
     {
         unsupported(alloc, WasmTypeKind::Char)
     }
 
     fn make_string(alloc: Global, _val: &str) -> Result<Bare, WasmValueError>
-        ensures { RefusesKind WasmTypeKind.String result }
+        ensures { MakesNone WasmTypeKind.String result }
     {
         unsupported(alloc, WasmTypeKind::String)
     }
@@ -126,6 +124,7 @@ impl WasmValue for Bare {
     fn make_list(alloc: Global, ty: &Type, vals: Vec<Bare>) -> Result<Bare, WasmValueError>
         ensures made { IfOk result (MakesList tree_of (λ v T. HasType T (tree_of v)) ty.now vals.items) }
         ensures full { IfErr result (FullList (λ v T. HasType T (tree_of v)) (λ T. ⊥) ty.now vals.items) }
+        ensures refused { IfErr result (RefusesKind WasmTypeKind.List) }
     {
         if let Some(element) = ty.list_element_type()
             && are_at(&vals, element)
@@ -136,7 +135,7 @@ impl WasmValue for Bare {
     }
 
     fn make_tuple(alloc: Global, _ty: &Type, _vals: Vec<Bare>) -> Result<Bare, WasmValueError>
-        ensures { RefusesKind WasmTypeKind.Tuple result }
+        ensures { MakesNone WasmTypeKind.Tuple result }
     {
         unsupported(alloc, WasmTypeKind::Tuple)
     }
@@ -146,7 +145,7 @@ impl WasmValue for Bare {
         _ty: &Type,
         _fields: Vec<(&str, Bare)>,
     ) -> Result<Bare, WasmValueError>
-        ensures { RefusesKind WasmTypeKind.Record result }
+        ensures { MakesNone WasmTypeKind.Record result }
     {
         unsupported(alloc, WasmTypeKind::Record)
     }
@@ -157,19 +156,19 @@ impl WasmValue for Bare {
         _case: &str,
         _val: Option<Bare>,
     ) -> Result<Bare, WasmValueError>
-        ensures { RefusesKind WasmTypeKind.Variant result }
+        ensures { MakesNone WasmTypeKind.Variant result }
     {
         unsupported(alloc, WasmTypeKind::Variant)
     }
 
     fn make_enum(alloc: Global, _ty: &Type, _case: &str) -> Result<Bare, WasmValueError>
-        ensures { RefusesKind WasmTypeKind.Enum result }
+        ensures { MakesNone WasmTypeKind.Enum result }
     {
         unsupported(alloc, WasmTypeKind::Enum)
     }
 
     fn make_option(alloc: Global, _ty: &Type, _val: Option<Bare>) -> Result<Bare, WasmValueError>
-        ensures { RefusesKind WasmTypeKind.Option result }
+        ensures { MakesNone WasmTypeKind.Option result }
     {
         unsupported(alloc, WasmTypeKind::Option)
     }
@@ -179,13 +178,13 @@ impl WasmValue for Bare {
         _ty: &Type,
         _val: Result<Option<Bare>, Option<Bare>>,
     ) -> Result<Bare, WasmValueError>
-        ensures { RefusesKind WasmTypeKind.Result result }
+        ensures { MakesNone WasmTypeKind.Result result }
     {
         unsupported(alloc, WasmTypeKind::Result)
     }
 
     fn make_flags(alloc: Global, _ty: &Type, _names: &[&str]) -> Result<Bare, WasmValueError>
-        ensures { RefusesKind WasmTypeKind.Flags result }
+        ensures { MakesNone WasmTypeKind.Flags result }
     {
         unsupported(alloc, WasmTypeKind::Flags)
     }
@@ -195,7 +194,7 @@ impl WasmValue for Bare {
         _ty: &Type,
         _entries: Vec<(Bare, Bare)>,
     ) -> Result<Bare, WasmValueError>
-        ensures { RefusesKind WasmTypeKind.Map result }
+        ensures { MakesNone WasmTypeKind.Map result }
     {
         unsupported(alloc, WasmTypeKind::Map)
     }
@@ -323,9 +322,9 @@ fn borrowed(alloc: Global, items: &Vec<Bare>) -> Result<Vec<&Bare>, AllocError>
     Ok(answer)
 }
 
-// The refusal of a kind whose values aren't made.
+// The refusal of a kind, by its word; `Memory` where there is none for that word.
 fn unsupported(alloc: Global, kind: WasmTypeKind) -> Result<Bare, WasmValueError>
-    ensures { RefusesKind kind result }
+    ensures { MakesNone kind result }
 {
     Err(WasmValueError::UnsupportedType(format!(in alloc; "{kind}")?))
 }
