@@ -1,0 +1,2 @@
+pub mod BareTree
+pub mod Refusals
