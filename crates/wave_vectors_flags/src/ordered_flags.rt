@@ -10,7 +10,9 @@ use std::alloc::{AllocError, Global};
 use std::marker::Model;
 use wave_wasm::wasm::{WasmTypeKind, WasmValue, WasmValueError};
 
-/// Flags that keep the order in which their names were handed in. Clauses see them as these names.
+/// Flags that keep the order in which their names are handed in. They are made of names of the
+/// `NameSet`, none of them twice: any other name is refused as `UnknownCase`, a repeated one as
+/// `Other`. Clauses see them as these names.
 #[derive(Drop)]
 pub struct OrderedFlags {
     names: Vec<String>,
@@ -34,8 +36,8 @@ fn unsupported(alloc: Global, kind: WasmTypeKind) -> WasmValueError
     }
 }
 
-// Flags are of one kind: the makers of the others refuse, and their views, which are asked at values
-// of their own kinds alone, answer as if there were nothing.
+// The makers of other kinds refuse. The views of other kinds can't be asked: each says that flags are
+// not of its kind, which is all that the trait's clause needs, and what it answers nobody reads.
 impl WasmValue for OrderedFlags {
     ghost use Rattle.wave_wasm.specs.Types as type;
     ghost use Rattle.wave_wasm.specs.ConstructorContracts.{MakesFlags, FullFlags};
