@@ -1,5 +1,6 @@
-//! Worked rows of foreign types of values, as those who embed the crates write them.
+//! Worked rows of foreign types and values, as those who embed the crates write them.
 #![tactic(auto)]
 
 #[cfg(test)]
 mod bare;
+pub mod flags;
