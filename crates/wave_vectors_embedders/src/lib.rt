@@ -4,3 +4,5 @@
 #[cfg(test)]
 mod bare;
 pub mod flags;
+#[cfg(test)]
+mod readme;

@@ -1,0 +1,27 @@
+//! The calls from code that the README shows.
+use std::test::Fail;
+use wasm_wave::value::{Type, Value};
+use wasm_wave::{from_str, to_string};
+
+#[test]
+fn a_list_from_code(rt: HostRuntime) -> Result<(), Fail> {
+    let alloc = rt.alloc();
+    let ty = Type::list(alloc, Type::U8)?;
+    let value = from_str::<Value>(alloc, &ty, "[1, 2, // two\n 3,]")?;
+    assert_eq!(to_string(alloc, &value)?.as_str(), "[1, 2, 3]");
+    Ok(())
+}
+
+#[test]
+fn a_refusal_from_code(rt: HostRuntime) -> Result<(), Fail> {
+    let alloc = rt.alloc();
+    let ty = Type::list(alloc, Type::U8)?;
+    match from_str::<Value>(alloc, &ty, "[1, 300]") {
+        Ok(_) => Err(Fail::new("taken")),
+        Err(error) => {
+            assert_eq!(error.span().start, 4);
+            assert_eq!(error.to_string(alloc)?.as_str(), "invalid value at 4..7");
+            Ok(())
+        }
+    }
+}
