@@ -49,8 +49,10 @@ impl FuncType {
         params: Vec<(String, Type)>,
         results: Vec<(String, Type)>,
     ) -> Result<FuncType, WasmValueError>
-        ensures made { IfOk result (λ f. (f ≡ function_of params.items results.items) × (naming_fault f ≡ None)) }
-        ensures refused { IfErr result (λ e. RefusesNames (function_of params.items results.items) (cause_of e)) }
+        ensures made { let f = function_of params.items results.items in
+            IfOk result (λ t. (t ≡ f) × (naming_fault f ≡ None)) }
+        ensures refused { let f = function_of params.items results.items in
+            IfErr result (λ e. RefusesNames f (cause_of e)) }
     {
         if has_unnamed(&params) {
             let message = "func params must be named";

@@ -7,7 +7,7 @@ ghost use Rattle.wave_type.specs.TypeModel.{by_bytes};
 ghost use Rattle.wave_func.specs.FunctionType.{names_of, types_of, result_names};
 
 use super::{FuncType, is_one_unnamed};
-use std::fmt::{self, Display};
+use std::fmt;
 use wave_type::ty::Type;
 
 impl fmt::Display for FuncType {

@@ -25,7 +25,8 @@ impl WasmFunc for FuncType {
     }
 
     fn param_names(&self, alloc: Global) -> Result<Vec<&str>, AllocError>
-        ensures given { IfOk result (λ v. AreNamesGiven (func_of self.now).params (func_of self.now).param_names (texts v.items)) }
+        ensures given { let f = func_of self.now in
+            IfOk result (λ v. AreNamesGiven f.params f.param_names (texts v.items)) }
         ensures exact { IfOk result (λ v. texts v.items ≡ (func_of self.now).param_names) }
     {
         borrowed_names(alloc, &self.params)
@@ -36,7 +37,8 @@ impl WasmFunc for FuncType {
     }
 
     fn result_names(&self, alloc: Global) -> Result<Vec<&str>, AllocError>
-        ensures given { IfOk result (λ v. AreNamesGiven (func_of self.now).results (func_of self.now).result_names (texts v.items)) }
+        ensures given { let f = func_of self.now in
+            IfOk result (λ v. AreNamesGiven f.results f.result_names (texts v.items)) }
         ensures exact { IfOk result (λ v. texts v.items ≡ (func_of self.now).result_names) }
     {
         if is_one_unnamed(&self.results) {
