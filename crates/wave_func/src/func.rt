@@ -42,8 +42,8 @@ impl FuncType {
     /// The type of a function with these parameters and results, by their names and types. Any name
     /// is taken that isn't empty; an empty name means that there is none. An unnamed parameter is
     /// refused, which is tested first, and so is an unnamed result among two or more, both as
-    /// `Other`. Memory is taken for the text of such a refusal alone, which may be refused as
-    /// `Memory` in its place.
+    /// `Other`. Memory is taken for the text of such a refusal alone, and where it is wanting
+    /// `Memory` is answered in its place.
     pub fn new(
         alloc: Global,
         params: Vec<(String, Type)>,
