@@ -1,7 +1,9 @@
-//! Worked rows of types and of values: the texts of types, what the makers of values make, and writers
-//! that fail.
+//! Worked rows of types and of values: the texts of types, also of those of functions, what the makers
+//! of values make, and writers that fail.
 #![tactic(auto)]
 
+#[cfg(test)]
+mod functions;
 #[cfg(test)]
 mod makers;
 #[cfg(test)]

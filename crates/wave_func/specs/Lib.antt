@@ -1,0 +1,5 @@
+pub mod FunctionType
+pub mod NamingRule
+pub mod FunctionEquality
+pub mod FunctionEqualityLaws
+pub mod Private

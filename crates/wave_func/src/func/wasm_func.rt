@@ -1,0 +1,71 @@
+//! What the type of a function answers about itself: beside the trait's clauses, all its names, where
+//! the trait allows that none is told.
+ghost use Rattle.std.specs.Prelude.{◌≡◌, IfOk, map};
+ghost use Rattle.wave_wasm.specs.Borrowed.{texts, shown_all};
+ghost use Rattle.wave_type.specs.TypeModel.{by_bytes};
+ghost use Rattle.wave_func.specs.FunctionType.{names_of, types_of};
+
+use super::{FuncType, is_one_unnamed};
+use std::alloc::{AllocError, Global};
+use wave_type::ty::Type;
+use wave_wasm::wasm::WasmFunc;
+
+impl WasmFunc for FuncType {
+    ghost use Rattle.std.specs.Prelude.{◌≡◌, IfOk};
+    ghost use Rattle.wave_wasm.specs.Borrowed.{texts};
+    ghost use Rattle.wave_wasm.specs.TypeText.{AreNamesGiven};
+    ghost use Rattle.wave_func.specs.FunctionType.{func_of};
+
+    type Type = Type;
+
+    ghost func = { func_of };
+
+    fn params(&self, alloc: Global) -> Result<Vec<&Type>, AllocError> {
+        borrowed_types(alloc, &self.params)
+    }
+
+    fn param_names(&self, alloc: Global) -> Result<Vec<&str>, AllocError>
+        ensures given { let f = func_of self.now in
+            IfOk result (λ v. AreNamesGiven f.params f.param_names (texts v.items)) }
+        ensures exact { IfOk result (λ v. texts v.items ≡ (func_of self.now).param_names) }
+    {
+        borrowed_names(alloc, &self.params)
+    }
+
+    fn results(&self, alloc: Global) -> Result<Vec<&Type>, AllocError> {
+        borrowed_types(alloc, &self.results)
+    }
+
+    fn result_names(&self, alloc: Global) -> Result<Vec<&str>, AllocError>
+        ensures given { let f = func_of self.now in
+            IfOk result (λ v. AreNamesGiven f.results f.result_names (texts v.items)) }
+        ensures exact { IfOk result (λ v. texts v.items ≡ (func_of self.now).result_names) }
+    {
+        if is_one_unnamed(&self.results) {
+            return Ok(Vec::new(alloc));
+        }
+        borrowed_names(alloc, &self.results)
+    }
+}
+
+// The types, in their order.
+fn borrowed_types(alloc: Global, parts: &Vec<(String, Type)>) -> Result<Vec<&Type>, AllocError>
+    ensures { IfOk result (λ v. shown_all (λ t. t) v.items ≡ types_of (map by_bytes parts.now.items)) }
+{
+    let mut types = Vec::new(alloc);
+    for part in parts {
+        types.push(&part.1)?;
+    }
+    Ok(types)
+}
+
+// The names, in their order.
+fn borrowed_names(alloc: Global, parts: &Vec<(String, Type)>) -> Result<Vec<&str>, AllocError>
+    ensures { IfOk result (λ v. texts v.items ≡ names_of (map by_bytes parts.now.items)) }
+{
+    let mut names = Vec::new(alloc);
+    for part in parts {
+        names.push(part.0.as_str())?;
+    }
+    Ok(names)
+}

@@ -1,0 +1,5 @@
+//! The types of functions.
+#![tactic(auto)]
+
+pub mod func;
+pub mod laws;
