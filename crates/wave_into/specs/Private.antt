@@ -1,1 +1,2 @@
 pub mod OwnTypes
+pub mod TupleParts

@@ -74,11 +74,7 @@ pub(crate) fn tuple_of(alloc: Global, ty: &Type, vals: Vec<Value>) -> Result<Val
 
 // `some` of the payload, which is of the payload type, or `none`.
 #[tactic(auto, using(crate::proofs::Taken::option_memory))]
-pub(crate) fn option_of(
-    alloc: Global,
-    ty: &Type,
-    val: Option<Value>,
-) -> Result<Value, AllocError>
+pub(crate) fn option_of(alloc: Global, ty: &Type, val: Option<Value>) -> Result<Value, AllocError>
     requires { TakesOption ty.now val }
     ensures { IfOk result (Made (value.option (maybe_value (payload_tree val))) ty.now) }
 {
