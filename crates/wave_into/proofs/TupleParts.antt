@@ -18,6 +18,9 @@ made_is asked T v m =
 pub parts_more : (asked : Value) (T : TypeTree) (v : TypedValue) (old others : List TypedValue) → Made asked T v → (old ++ v ∷ []) ++ others ≡ old ++ typed_as T asked ∷ others
 parts_more asked T v old others m = append_assoc old (v ∷ []) others ∙ ap (λ w. old ++ w ∷ others) (made_is asked T v m)
 
--- parts of the types at their places are taken
-pub parts_taken : (Ts : List TypeTree) (T : TypeTree) (vs : List TypedValue) → T ≡ type.tuple (types_of Ts) → EachOwn Ts vs → TakesTuple T vs
-parts_taken Ts T vs is h = subst (λ U. TakesTuple U vs) (sym is) (subst (λ Us. EachOwn Us vs) (sym (type_list-types_of Ts)) h)
+-- parts of the types at their places are taken, once they stand in an empty list
+pub parts_taken : (Ts : List TypeTree) (T : TypeTree) (vs old new : List TypedValue) → T ≡ type.tuple (types_of Ts) → old ≡ [] → new ≡ old ++ vs → EachOwn Ts vs → TakesTuple T new
+parts_taken Ts T vs old new is none added h =
+    let stated : EachOwn (type_list (types_of Ts)) vs = subst (λ Us. EachOwn Us vs) (sym (type_list-types_of Ts)) h in
+    let taken : TakesTuple T vs = subst (λ U. TakesTuple U vs) (sym is) stated in
+    subst (λ us. TakesTuple T us) (sym (added ∙ ap (λ us. us ++ vs) none)) taken

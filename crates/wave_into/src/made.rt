@@ -27,7 +27,6 @@ pub(crate) fn tuple_type(alloc: Global, types: Vec<Type>) -> Result<Type, AllocE
 }
 
 // What the items stand for.
-#[tactic(auto, using(crate::proofs::Items::one_more))]
 pub(crate) fn values_of<T: IntoValue>(
     alloc: Global,
     items: Vec<T>,

@@ -87,7 +87,6 @@ fn type_of<A: IntoValue, P: Parts>(alloc: Global) -> Result<Type, AllocError>
 }
 
 // The tuple of what the parts stand for.
-#[tactic(auto, using(crate::proofs::TupleParts::parts_taken))]
 fn value_of<A: IntoValue, P: Parts>(alloc: Global, parts: (A, P)) -> Result<Value, AllocError>
     ensures { IfOk result (Made
         (tuple_value (A.tree parts.0 ∷ map (λ v. v.tree) (P.typed parts.1)))
