@@ -72,7 +72,7 @@ made_where asked T v m = λ distinct. lawful asked T v m
 abbrev pub IsAsStated : TypeTree × TypedValue → Type 0
 IsAsStated p = p.1.own ≡ p.0
 
-none_other : (words : TypedValue → List ℕ) (t s : List ℕ) (stated : List (TypeTree × TypedValue)) → AllOf IsAsStated stated → TellsOne words t s stated → ⊥
+pub none_other : (words : TypedValue → List ℕ) (t s : List ℕ) (stated : List (TypeTree × TypedValue)) → AllOf IsAsStated stated → TellsOne words t s stated → ⊥
 none_other words t s [] h one = one
 none_other words t s (p ∷ ps) h (inl other) = other.0 h.0
 none_other words t s (p ∷ ps) h (inr one) = none_other words t s ps h.1 one

@@ -16,6 +16,7 @@ use wave_type::ty::Type;
 use wave_type::ty::places::is_own;
 use wave_wasm::wasm::{WasmTypeKind, WasmValueError};
 
+mod conversions;
 mod equality;
 mod made;
 mod makers;

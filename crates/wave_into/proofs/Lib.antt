@@ -1,0 +1,3 @@
+mod Taken
+mod Items
+mod TupleParts

@@ -1,0 +1,2 @@
+pub mod RustValues
+pub mod Private

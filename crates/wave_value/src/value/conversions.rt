@@ -1,0 +1,176 @@
+//! Rust values as values of component types. Nothing is refused, and no memory is taken: a text is
+//! moved.
+use super::{Content, Scalar, Type, Value};
+
+impl From<bool> for Value {
+    ghost use Rattle.std.specs.Prelude.{◌≡◌};
+    ghost use Rattle.wave_wasm.specs.Values as value;
+    ghost use Rattle.wave_value.specs.TypedValue.{typed_leaf};
+
+    ghost from_gives = { λ val made. made ≡ typed_leaf (value.bool val) };
+
+    fn from(val: bool) -> Value {
+        Value {
+            own: Type::BOOL,
+            content: Content::Scalar(Scalar::Bool(val)),
+        }
+    }
+}
+
+impl From<i8> for Value {
+    ghost use Rattle.std.specs.Prelude.{◌≡◌};
+    ghost use Rattle.wave_wasm.specs.Types as type;
+    ghost use Rattle.wave_wasm.specs.Values as value;
+    ghost use Rattle.wave_value.specs.TypedValue.{typed_leaf};
+
+    ghost from_gives = { λ val made. made ≡ typed_leaf (value.whole type.s8 val) };
+
+    fn from(val: i8) -> Value {
+        Value {
+            own: Type::S8,
+            content: Content::Scalar(Scalar::S8(val)),
+        }
+    }
+}
+
+impl From<i16> for Value {
+    ghost use Rattle.std.specs.Prelude.{◌≡◌};
+    ghost use Rattle.wave_wasm.specs.Types as type;
+    ghost use Rattle.wave_wasm.specs.Values as value;
+    ghost use Rattle.wave_value.specs.TypedValue.{typed_leaf};
+
+    ghost from_gives = { λ val made. made ≡ typed_leaf (value.whole type.s16 val) };
+
+    fn from(val: i16) -> Value {
+        Value {
+            own: Type::S16,
+            content: Content::Scalar(Scalar::S16(val)),
+        }
+    }
+}
+
+impl From<i32> for Value {
+    ghost use Rattle.std.specs.Prelude.{◌≡◌};
+    ghost use Rattle.wave_wasm.specs.Types as type;
+    ghost use Rattle.wave_wasm.specs.Values as value;
+    ghost use Rattle.wave_value.specs.TypedValue.{typed_leaf};
+
+    ghost from_gives = { λ val made. made ≡ typed_leaf (value.whole type.s32 val) };
+
+    fn from(val: i32) -> Value {
+        Value {
+            own: Type::S32,
+            content: Content::Scalar(Scalar::S32(val)),
+        }
+    }
+}
+
+impl From<i64> for Value {
+    ghost use Rattle.std.specs.Prelude.{◌≡◌};
+    ghost use Rattle.wave_wasm.specs.Types as type;
+    ghost use Rattle.wave_wasm.specs.Values as value;
+    ghost use Rattle.wave_value.specs.TypedValue.{typed_leaf};
+
+    ghost from_gives = { λ val made. made ≡ typed_leaf (value.whole type.s64 val) };
+
+    fn from(val: i64) -> Value {
+        Value {
+            own: Type::S64,
+            content: Content::Scalar(Scalar::S64(val)),
+        }
+    }
+}
+
+impl From<u8> for Value {
+    ghost use Rattle.std.specs.Prelude.{◌≡◌, pos};
+    ghost use Rattle.wave_wasm.specs.Types as type;
+    ghost use Rattle.wave_wasm.specs.Values as value;
+    ghost use Rattle.wave_value.specs.TypedValue.{typed_leaf};
+
+    ghost from_gives = { λ val made. made ≡ typed_leaf (value.whole type.u8 (pos val)) };
+
+    fn from(val: u8) -> Value {
+        Value {
+            own: Type::U8,
+            content: Content::Scalar(Scalar::U8(val)),
+        }
+    }
+}
+
+impl From<u16> for Value {
+    ghost use Rattle.std.specs.Prelude.{◌≡◌, pos};
+    ghost use Rattle.wave_wasm.specs.Types as type;
+    ghost use Rattle.wave_wasm.specs.Values as value;
+    ghost use Rattle.wave_value.specs.TypedValue.{typed_leaf};
+
+    ghost from_gives = { λ val made. made ≡ typed_leaf (value.whole type.u16 (pos val)) };
+
+    fn from(val: u16) -> Value {
+        Value {
+            own: Type::U16,
+            content: Content::Scalar(Scalar::U16(val)),
+        }
+    }
+}
+
+impl From<u32> for Value {
+    ghost use Rattle.std.specs.Prelude.{◌≡◌, pos};
+    ghost use Rattle.wave_wasm.specs.Types as type;
+    ghost use Rattle.wave_wasm.specs.Values as value;
+    ghost use Rattle.wave_value.specs.TypedValue.{typed_leaf};
+
+    ghost from_gives = { λ val made. made ≡ typed_leaf (value.whole type.u32 (pos val)) };
+
+    fn from(val: u32) -> Value {
+        Value {
+            own: Type::U32,
+            content: Content::Scalar(Scalar::U32(val)),
+        }
+    }
+}
+
+impl From<u64> for Value {
+    ghost use Rattle.std.specs.Prelude.{◌≡◌, pos};
+    ghost use Rattle.wave_wasm.specs.Types as type;
+    ghost use Rattle.wave_wasm.specs.Values as value;
+    ghost use Rattle.wave_value.specs.TypedValue.{typed_leaf};
+
+    ghost from_gives = { λ val made. made ≡ typed_leaf (value.whole type.u64 (pos val)) };
+
+    fn from(val: u64) -> Value {
+        Value {
+            own: Type::U64,
+            content: Content::Scalar(Scalar::U64(val)),
+        }
+    }
+}
+
+impl From<char> for Value {
+    ghost use Rattle.std.specs.Prelude.{◌≡◌};
+    ghost use Rattle.wave_wasm.specs.Values as value;
+    ghost use Rattle.wave_value.specs.TypedValue.{typed_leaf};
+
+    ghost from_gives = { λ val made. made ≡ typed_leaf (value.char val) };
+
+    fn from(val: char) -> Value {
+        Value {
+            own: Type::CHAR,
+            content: Content::Scalar(Scalar::Char(val)),
+        }
+    }
+}
+
+impl From<String> for Value {
+    ghost use Rattle.std.specs.Prelude.{◌≡◌, string_bytes};
+    ghost use Rattle.wave_wasm.specs.Values as value;
+    ghost use Rattle.wave_value.specs.TypedValue.{typed_leaf};
+
+    ghost from_gives = { λ val made. made ≡ typed_leaf (value.string (string_bytes val)) };
+
+    fn from(val: String) -> Value {
+        Value {
+            own: Type::STRING,
+            content: Content::Scalar(Scalar::String(val)),
+        }
+    }
+}
