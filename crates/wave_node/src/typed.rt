@@ -63,7 +63,8 @@ impl Node {
         requires { IsParsedFrom src.now self.now }
         ensures answer { ReadsAtType V.tree V.is_of V.is_full (V.Type.tree ty.now) src.now self.now result }
         ensures key { ReadsKey V.tree V.is_of V.is_full (V.Type.tree ty.now) src.now self.now result }
-        ensures keyword { IsKeywordOf src.now self.now → V.Type.tree ty.now ≢ type.simple type.bool → IsErrAnd result (RefusedAs InvalidType self.now) }
+        ensures keyword { IsKeywordOf src.now self.now → V.Type.tree ty.now ≢ type.simple type.bool
+            → IsErrAnd result (RefusedAs InvalidType self.now) }
         ensures kind { IfErr result HasTypeKind }
         ensures within { IfErr result (StandsIn self.now) }
         ensures in_text { IfErr result (λ e. LiesInText src.now e.span) }
@@ -98,7 +99,8 @@ impl Node {
         requires key { IsKeyOf src.now self.now }
         requires keyword { IsKeywordOf src.now self.now }
         ensures answer { AnswersKey V.tree V.is_of V.is_full (V.Type.tree ty.now) src.now self.now result }
-        ensures other { V.Type.tree ty.now ≢ type.simple type.bool → IsErrAnd result (RefusedAs InvalidType self.now) }
+        ensures other { V.Type.tree ty.now ≢ type.simple type.bool
+            → IsErrAnd result (RefusedAs InvalidType self.now) }
         ensures within { IfErr result (RefusesIn self.now) }
     {
         match ty.kind() {
