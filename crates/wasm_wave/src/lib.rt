@@ -28,13 +28,13 @@ pub use wave_wasm::{wasm, writer};
 
 /// The value that the whole text means at the type, which is of that type; a text that means none
 /// is refused, and so is any text for want of memory, at 0..0. A refusal's span lies in the text; a
-/// `WasmValueError` has a cause and stands at a node of what was read. At any type what is read is the
-/// text of one value within 100 levels, a syntax refusal stands where the text has none, and a fault of
-/// type has no kind of syntax. All the rest where the names of the type are distinct and, for a refusal,
-/// makers serve every value of the type, as those of `Value` do there: what is read is merged, and no
-/// tokens spell two values nor begin the spelling of another; where the names are labels too and the
-/// type's tree is one that `Type` has, what is read within some levels has a canonical text of at most
-/// twice as many.
+/// `WasmValueError` has a cause and stands at a node of what was read. At any type what is read is
+/// the text of one value within 100 levels, a syntax refusal stands where the text has none, and a
+/// fault of type has no kind of syntax. All the rest where the names of the type are distinct and,
+/// for a refusal, makers serve every value of the type, as those of `Value` do there: what is read
+/// is merged, and no tokens spell two values nor begin the spelling of another; where the names are
+/// labels too and the type's tree is one that `Type` has, what is read within some levels has a
+/// canonical text of at most twice as many.
 pub fn from_str<V: WasmValue>(alloc: Global, ty: &V::Type, s: &str) -> Result<V, ParserError>
     ensures read { IfOk result (IsRead V.tree V.is_of (V.Type.tree ty.now) s.now) }
     ensures refused { IfErr result (RefusesText V.is_full (V.Type.tree ty.now) s.now) }
@@ -46,11 +46,12 @@ pub fn from_str<V: WasmValue>(alloc: Global, ty: &V::Type, s: &str) -> Result<V,
 }
 
 /// The canonical text of the value, which then has one; `UnsupportedType` is answered only where it
-/// has none, `Io` never, and a value of a type is refused for want of memory alone: every `Value` is one of its own
-/// type (`Value::ty`). Of a type whose names are distinct labels, another value has the same text
-/// exactly where the two are equal, merged. Where the type's tree is also one that `Type` has, the
-/// text is read back as the value, merged, within its own levels, so by `from_str` where these are at
-/// most 100; and it has at most twice the levels of any text that is read as the value.
+/// has none, `Io` never, and a value of a type is refused for want of memory alone: every `Value`
+/// is one of its own type (`Value::ty`). Of a type whose names are distinct labels, another value
+/// has the same text exactly where the two are equal, merged. Where the type's tree is also one
+/// that `Type` has, the text is read back as the value, merged, within its own levels, so by
+/// `from_str` where these are at most 100; and it has at most twice the levels of any text that is
+/// read as the value.
 pub fn to_string<V: WasmValue>(alloc: Global, val: &V) -> Result<String, WriterError>
     ensures text { IfOk result (λ s. IsTextOf (V.tree val.now) (string_bytes s)) }
     ensures refused { IfErr result (RefusesWriting (V.tree val.now)) }

@@ -5,10 +5,13 @@ use Rattle.wasm_wave.proofs.MainTheorem.{text_written, writing_refused}
 use Rattle.wasm_wave.proofs.to_string.Goals as goal
 
 pub returns-clause-text : goal.returns-clause-text
-returns-clause-text g c = text_written string_bytes _ _ c.to_string.ensures.ok c.to_string.ensures.writable
+returns-clause-text g c = text_written string_bytes (g.V.WasmValue.tree c.args.val.now) c.to_string.result c.to_string.ensures.ok c.to_string.ensures.writable
 
 pub returns-clause-refused : goal.returns-clause-refused
-returns-clause-refused g c = writing_refused _ _ c.to_string.ensures.err (refused_so _ _ c.to_string.ensures.err)
+returns-clause-refused g c =
+    let v = g.V.WasmValue.tree c.args.val.now in
+    let r = c.to_string.result in
+    writing_refused v r c.to_string.ensures.err (refused_so v r c.to_string.ensures.err)
 
 pub returns-clause-equal : goal.returns-clause-equal
 returns-clause-equal g c = λ T good of other also. equal_texts T good _ other of also
