@@ -311,54 +311,6 @@ fn makers_of_types(rt: HostRuntime) -> Result<(), Fail> {
     Ok(())
 }
 
-/// The first text of a type that is made otherwise from the type, or isn't made where it is to be, or is
-/// made where it isn't to be; nothing where there is none.
-fn wrong_conversion(rt: HostRuntime, texts: &[&str], is_converted: bool) -> Result<String, Fail> {
-    for text in texts {
-        let ty = type_of(rt.alloc(), text)?;
-        let is_right = match Type::from_wasm_type(rt.alloc(), &ty)? {
-            Some(copy) => is_converted && copy_text(rt, &ty, &copy)?.as_str() == *text,
-            None => !is_converted,
-        };
-        if !is_right {
-            return Ok(String::from_str(rt.alloc(), text)?);
-        }
-    }
-    Ok(String::new(rt.alloc()))
-}
-
-#[test]
-fn types_that_are_converted(rt: HostRuntime) -> Result<(), Fail> {
-    let found = wrong_conversion(
-        rt,
-        &[
-            "f64",
-            "tuple<result, result<u8>, result<_, string>, result<bool, f32>>",
-            "record { pair: tuple<s8, list<char>>, maybe: option<f32>, of: map<char, bool> }",
-            "variant { off, on(variant { a(flags { read, write }), b }), of(enum { x }) }",
-        ],
-        true,
-    )?;
-    assert_eq!(rt; found.as_str(), "");
-    Ok(())
-}
-
-#[test]
-fn types_that_are_not_converted(rt: HostRuntime) -> Result<(), Fail> {
-    let found = wrong_conversion(
-        rt,
-        &[
-            "list<u8, 4>",
-            "list<list<u8, 0>>",
-            "record { a: u8, b: tuple<option<list<u8, 4>>> }",
-            "variant { a, b(result<u8, map<u8, list<u8, 4>>>) }",
-        ],
-        false,
-    )?;
-    assert_eq!(rt; found.as_str(), "");
-    Ok(())
-}
-
 #[test]
 fn simple_types(rt: HostRuntime) {
     assert!(rt; Type::simple(WasmTypeKind::List).is_none());
