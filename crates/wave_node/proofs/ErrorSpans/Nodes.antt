@@ -308,22 +308,26 @@ string_fault_in source n e h (inl (ty, x, i, own, bad, tells)) =
     let fits = text_fits source (place_of n) (node_ordered source n h) in
     let bytes = ap length own in
     let parts = length-append x (34 ∷ []) in
-    let before = escape_inside x i bad in
-    (record {
-      lies = subst (LiesInNode n) (sym tells.at) (omega arith, omega arith, omega arith);
-      caused = λ was. absurd (cc (sym (ap (λ (r : Refusal). r.kind) tells.refusal) ∙ was));
-    }, said_kind e (plainly why.InvalidEscape) tells.refusal tt)
+    let before = escape_inside x i bad in (
+      record {
+        lies = subst (LiesInNode n) (sym tells.at) (omega arith, omega arith, omega arith);
+        caused = λ was. absurd (cc (sym (ap (λ (r : Refusal). r.kind) tells.refusal) ∙ was));
+      },
+      said_kind e (plainly why.InvalidEscape) tells.refusal tt,
+    )
 string_fault_in source n e h (inr (ty, x, f, own, bad, tells)) =
     let fits = text_fits source (place_of n) (node_ordered source n h) in
     let bytes = ap length own in
     let parts = length-append x (34 ∷ 34 ∷ 34 ∷ []) in
     let place = fault_place ((place_of n).start + 3) (length x) f (multiline_offset x f bad) in
     let from = place.0 in
-    let to = place.2 in
-    (record {
-      lies = subst (LiesInNode n) (sym tells.at) (omega arith, place.1, omega arith);
-      caused = λ was. absurd (fault_plain f e tells.refusal was);
-    }, said_kind e (plainly (fault_kind f)) tells.refusal (fault_type_kind f))
+    let to = place.2 in (
+      record {
+        lies = subst (LiesInNode n) (sym tells.at) (omega arith, place.1, omega arith);
+        caused = λ was. absurd (fault_plain f e tells.refusal was);
+      },
+      said_kind e (plainly (fault_kind f)) tells.refusal (fault_type_kind f),
+    )
 
 pub string_in : (source : List ℕ) (n : NodeTree) (e : Diagnostic) → IsParsedFrom source n → RefusesString source n e → RefusesIn n e
 string_in source n e h (inl told) = at_in source n e h (form_at n e told.2)
@@ -423,13 +427,15 @@ pub told_in : {V : Type 0} (source : List ℕ) (n : NodeTree) (r : Result V Diag
 told_in source n r e f parsed is h (inl memory) = at_in source n f parsed (memory_here n f memory.0 memory.1)
 told_in {V} source n r e f parsed is h (inr (same, place)) =
     let before : RefusesIn n e = subst (λ (s : Result V Diagnostic). IfErr s (RefusesIn n)) is h in
-    let kinds : e.kind ≡ f.kind = sym (ap (λ (x : Refusal). x.kind) same) in
-    (record {
-      lies = subst (LiesInNode n) (sym place) before.0.lies;
-      caused = λ was.
-          let (k, part, told) = before.0.caused (kinds ∙ was) in
-          (k, part, (place ∙ told.0, λ now. let (c, tells) = told.1 (kinds ∙ now) in (c, same ∙ tells)));
-    }, subst IsTypeKind kinds before.1)
+    let kinds : e.kind ≡ f.kind = sym (ap (λ (x : Refusal). x.kind) same) in (
+      record {
+        lies = subst (LiesInNode n) (sym place) before.0.lies;
+        caused = λ was.
+            let (k, part, told) = before.0.caused (kinds ∙ was) in
+            (k, part, (place ∙ told.0, λ now. let (c, tells) = told.1 (kinds ∙ now) in (c, same ∙ tells)));
+      },
+      subst IsTypeKind kinds before.1,
+    )
 
 -- ---- kinds of the refusals of parameters
 
