@@ -3,6 +3,8 @@
 
 #[cfg(test)]
 mod bare;
+#[cfg(test)]
+mod conversions;
 pub mod flags;
 #[cfg(test)]
 mod readme;

@@ -8,7 +8,7 @@ fn a_list_from_code(rt: HostRuntime) -> Result<(), Fail> {
     let alloc = rt.alloc();
     let ty = Type::list(alloc, Type::U8)?;
     let value = from_str::<Value>(alloc, &ty, "[1, 2, // two\n 3,]")?;
-    assert_eq!(to_string(alloc, &value)?.as_str(), "[1, 2, 3]");
+    assert_eq!(rt; to_string(alloc, &value)?.as_str(), "[1, 2, 3]");
     Ok(())
 }
 
@@ -19,8 +19,8 @@ fn a_refusal_from_code(rt: HostRuntime) -> Result<(), Fail> {
     match from_str::<Value>(alloc, &ty, "[1, 300]") {
         Ok(_) => Err(Fail::new("taken")),
         Err(error) => {
-            assert_eq!(error.span().start, 4);
-            assert_eq!(error.to_string(alloc)?.as_str(), "invalid value at 4..7");
+            assert_eq!(rt; error.span().start, 4);
+            assert_eq!(rt; error.to_string(alloc)?.as_str(), "invalid value at 4..7");
             Ok(())
         }
     }
