@@ -1,5 +1,5 @@
 -- Worked examples: each row of a definition is met once. The words of kinds and causes, and `merge_map_entries`, are in the tests.
-use Rattle.std.proofs.Common.{◌≡◌, ℕ, List, [], ◌∷◌, true, false, refl, Some, None, pos, negsuc, map, inl, inr}
+use Rattle.std.proofs.Common.{◌≡◌, ℕ, List, [], ◌∷◌, true, false, refl, sym, ◌∙◌, length, Some, None, pos, negsuc, map, inl, inr}
 use Rattle.std.specs.Prelude.{codes}
 use Rattle.std.specs.Fmt.{digits}
 use Rattle.std.specs.Str.{chars}
@@ -73,7 +73,8 @@ maps = refl
 abbrev bool : TypeTree
 bool = type.simple type.bool
 
-types : map type_text (type.unreadable type.f64 ∷ type.list bool ∷ type.fixed bool 4 ∷ type.tuple (type.types_of (bool ∷ bool ∷ [])) ∷ type.enum (codes "ok" ∷ codes "no" ∷ []) ∷ type.flags (codes "a" ∷ []) ∷ type.map type.char (type.option bool) ∷ []) ≡ codes "f64" ∷ codes "list<bool>" ∷ codes "list<_,N>" ∷ codes "tuple<bool, bool>" ∷ codes "enum { ok, no }" ∷ codes "flags { a }" ∷ codes "map<char, option<bool>>" ∷ []
+types : map type_text (type.unreadable type.f64 ∷ type.list bool ∷ type.fixed bool 4 ∷ type.tuple (type.types_of (bool ∷ bool ∷ [])) ∷ type.enum (codes "ok" ∷ codes "no" ∷ []) ∷ type.flags (codes "a" ∷ []) ∷ type.map type.char (type.option bool) ∷ []) ≡ codes "f64" ∷ codes "list<bool>" ∷ codes "list<bool, 4>" ∷ codes "tuple<bool, bool>" ∷ codes "enum { ok, no }" ∷ codes "flags { a }" ∷ codes "map<char, option<bool>>" ∷ []
+unfolding digits
 types = refl
 
 types_of_parts : map type_text (type.result type.no_type type.no_type ∷ type.result (type.a_type bool) type.no_type ∷ type.result type.no_type (type.a_type bool) ∷ type.result (type.a_type bool) (type.a_type bool) ∷ type.record_type (type.fields_of ((codes "a", bool) ∷ (codes "b", bool) ∷ [])) ∷ type.variant (type.cases_of ((codes "off", None) ∷ (codes "on", Some bool) ∷ [])) ∷ []) ≡ codes "result" ∷ codes "result<bool>" ∷ codes "result<_, bool>" ∷ codes "result<bool, bool>" ∷ codes "record { a: bool, b: bool }" ∷ codes "variant { off, on(bool) }" ∷ []
@@ -96,5 +97,12 @@ has_names = ((codes "b", inr (inl refl), refl), (codes "b" ∷ [], inl (inr ([],
 has_payloads : HasType (type.option bool) (value.option no_value) × HasType (type.option bool) (value.option (a_value yes)) × HasType (type.result type.no_type type.no_type) (value.ok no_value) × HasType (type.result type.no_type (type.a_type bool)) (value.err (a_value yes))
 has_payloads = (inl refl, inr (yes, has_yes, refl), inl (no_value, refl, refl), inr (a_value yes, (yes, has_yes, refl), refl))
 
-has_none : (v : Value) → (HasType (type.unreadable type.f32) v → ⊥) × (HasType (type.fixed bool 4) v → ⊥)
-has_none v = (λ h. h, λ h. h)
+has_none : (v : Value) → HasType (type.unreadable type.f32) v → ⊥
+has_none v h = h
+
+has_fixed : HasType (type.fixed bool 2) (value.fixed (values (yes ∷ yes ∷ []))) × HasType (type.fixed bool 0) (value.fixed (values []))
+has_fixed = ((yes ∷ yes ∷ [], (has_yes, (has_yes, tt)), refl, refl), ([], tt, refl, refl))
+
+-- one item is not two, and a list is no fixed-length list
+fixed_refused : (vs : List Value) → (length vs ≡ 2 → length vs ≡ 1 → ⊥) × (HasType (type.fixed bool 1) (value.list (values (yes ∷ []))) → ⊥)
+fixed_refused vs = (λ two one. absurd (cc (sym two ∙ one)), λ h. absurd (cc h.3))

@@ -71,7 +71,7 @@ mutual
   writes (type.simple S) v (one, h, e) = subst Writes (sym e) refl
   writes (type.unreadable kind) v h = absurd h
   writes (type.list E) v (vs, h, e) = subst Writes (sym e) (items_write (HasType E) (writes E) vs h)
-  writes (type.fixed E n) v h = absurd h
+  writes (type.fixed E n) v (vs, h, counted, e) = subst Writes (sym e) (items_write (HasType E) (writes E) vs h)
   writes (type.record_type fs) v (all, h, e) = subst Writes (sym e) (fields_write fs all h)
   writes (type.tuple Ts) v (vs, h, e) = subst Writes (sym e) (types_write Ts vs h)
   writes (type.variant cs) v (name, payload, h, e) = subst Writes (sym e) (case_writes cs name payload h)

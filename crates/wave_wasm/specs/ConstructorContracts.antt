@@ -1,5 +1,5 @@
 -- What the makers of a stranger's values owe. S is the stranger's value, `tree` says what it means, `of` when it is of a type.
-use Rattle.std.specs.Prelude.{ℕ, ◌≡◌, List, [], ◌∷◌, map, filter, Option, Some, None, option_map, Result, Ok, Err, IsPermutation}
+use Rattle.std.specs.Prelude.{ℕ, ◌≡◌, ◌⊎◌, length, List, [], ◌∷◌, map, filter, Option, Some, None, option_map, Result, Ok, Err, IsPermutation}
 use Rattle.std.specs.Borrow.{Bor}
 use Rattle.wave_wasm.specs.Lists.{AllOf, SomeOf}
 use Rattle.wave_wasm.specs.Names.{IsOneOf, AreDistinct, ArePicked, is_one_of}
@@ -53,7 +53,16 @@ type_parts _ = []
 abbrev pub HasFullParts : (TypeTree → Type 0) → Type 0
 HasFullParts Full = (T : TypeTree) → Full T → AllOf Full (type_parts T)
 
+-- a list of these elements, or the fixed-length list of so many
+abbrev pub IsListOf : TypeTree → ℕ → TypeTree → Type 0
+IsListOf E count T = (T ≡ type.list E) ⊎ (T ≡ type.fixed E count)
+
 -- ---- what is asked for
+
+-- the list of these items that a type asks for: of fixed length at such a type
+abbrev pub list_value : TypeTree → List Value → Value
+list_value (type.fixed E n) vs = value.fixed (values vs)
+list_value _ vs = value.list (values vs)
 
 -- `ok` or `err` with this payload
 abbrev pub result_value : Result (Option Value) (Option Value) → Value
@@ -92,7 +101,7 @@ module _ {S : Type 0} (tree : S → Value) (of : S → TypeTree → Type 0) wher
   MakesLeaf one made = Makes (value.leaf one) (type.simple (leaf_type one)) made
 
   abbrev pub MakesList : TypeTree → List S → S → Type 0
-  MakesList T items made = HasDistinctNames T → Makes (value.list (values (map tree items))) T made
+  MakesList T items made = HasDistinctNames T → Makes (list_value T (map tree items)) T made
 
   abbrev pub MakesTuple : TypeTree → List S → S → Type 0
   MakesTuple T items made = HasDistinctNames T → Makes (value.tuple (values (map tree items))) T made
@@ -166,7 +175,7 @@ FullLeaf Full one e = Full (type.simple (leaf_type one)) → IsMemory e
 
 module _ {S : Type 0} (of : S → TypeTree → Type 0) (Full : TypeTree → Type 0) where
   abbrev pub FullList : TypeTree → List S → WasmValueError → Type 0
-  FullList T items e = Full T → (E : TypeTree) → T ≡ type.list E → AllOf (λ v. of v E) items → IsMemory e
+  FullList T items e = Full T → (E : TypeTree) → IsListOf E (length items) T → AllOf (λ v. of v E) items → IsMemory e
 
   abbrev pub FullTuple : TypeTree → List S → WasmValueError → Type 0
   FullTuple T items e = Full T → (Ts : type.Types) → T ≡ type.tuple Ts → AreOf of (type_list Ts) items → IsMemory e

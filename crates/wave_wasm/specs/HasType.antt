@@ -1,5 +1,5 @@
--- Which values a type has, v : T. At f32, f64, unsupported and fixed-length lists it has none.
-use Rattle.std.specs.Prelude.{ℕ, ◌≡◌, ◌⊎◌, List, [], ◌∷◌}
+-- Which values a type has, v : T. At f32, f64 and unsupported it has none.
+use Rattle.std.specs.Prelude.{ℕ, ◌≡◌, ◌⊎◌, length, List, [], ◌∷◌}
 use Rattle.wave_wasm.specs.Lists.{AllOf}
 use Rattle.wave_wasm.specs.Names.{IsOneOf, ArePicked}
 use Rattle.wave_wasm.specs.Types as type
@@ -17,7 +17,7 @@ abbrev mutual
   HasType (type.simple S) v = (one : Leaf) × IsLeafOf S one × (v ≡ value.leaf one)
   HasType (type.unreadable kind) v = ⊥
   HasType (type.list E) v = (vs : List Value) × AllOf (HasType E) vs × (v ≡ value.list (values vs))
-  HasType (type.fixed E n) v = ⊥
+  HasType (type.fixed E n) v = (vs : List Value) × AllOf (HasType E) vs × (length vs ≡ n) × (v ≡ value.fixed (values vs))
   HasType (type.record_type fs) v = (all : FieldValues) × HasFields fs all × (v ≡ value.record_value all)
   HasType (type.tuple Ts) v = (vs : List Value) × HasTypes Ts vs × (v ≡ value.tuple (values vs))
   HasType (type.variant cs) v = (name : List ℕ) × (payload : MaybeValue) × HasCase cs name payload × (v ≡ value.variant name payload)

@@ -1,7 +1,7 @@
 -- The text of a type and of a function.
 use Rattle.std.specs.declared.fmt.Formatter.{Formatter}
 use Rattle.std.specs.declared.fmt.Error.{Error}
-use Rattle.std.specs.Fmt.{IsPlainFormatter, HasWritten}
+use Rattle.std.specs.Fmt.{IsPlainFormatter, HasWritten, decimal}
 use Rattle.std.specs.Prelude.{ℕ, ◌≡◌, ◌⊎◌, length, List, [], ◌∷◌, ◌++◌, Option, Some, None, codes, Result, IsOk}
 use Rattle.wave_wasm.specs.Types.{TypeTree, simple, unreadable, list, fixed, record_type, tuple, variant, enum, option, result, flags, map, MaybeType, no_type, a_type, Types, no_types, type_and, Fields, no_fields, field, Cases, no_cases, case_of, simple_kind, unreadable_kind}
 use Rattle.wave_wasm.specs.Commas.{joined, behind_name, in_parens}
@@ -50,13 +50,13 @@ result_text (Some t) None = angled (codes "result") t
 result_text None (Some e) = angled (codes "result") (codes "_, " ++ e)
 result_text (Some t) (Some e) = angled (codes "result") (t ++ (codes ", " ++ e))
 
--- the text of a type; a fixed-length list prints its kind's word
+-- the text of a type
 abbrev mutual
   pub type_text : TypeTree → List ℕ
   type_text (simple S) = kind_word (simple_kind S)
   type_text (unreadable kind) = kind_word (unreadable_kind kind)
   type_text (list E) = angled (codes "list") (type_text E)
-  type_text (fixed E n) = codes "list<_,N>"
+  type_text (fixed E n) = angled (codes "list") (type_text E ++ (codes ", " ++ decimal n))
   type_text (record_type fs) = braced (codes "record") (field_texts fs)
   type_text (tuple Ts) = angled (codes "tuple") (joined (type_texts Ts))
   type_text (variant cs) = braced (codes "variant") (case_texts cs)

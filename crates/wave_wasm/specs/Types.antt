@@ -114,10 +114,16 @@ count_of (type_and T more) = suc (count_of more)
 
 -- ---- the parts of a type; none for a type of another kind
 
--- the element type of a list
+-- the element type of a list or fixed-length list
 abbrev pub list_part : TypeTree → Option TypeTree
 list_part (list E) = Some E
+list_part (fixed E n) = Some E
 list_part _ = None
+
+-- the length of a fixed-length list
+abbrev pub list_length : TypeTree → Option ℕ
+list_length (fixed E n) = Some n
+list_length _ = None
 
 -- the fields of a record
 abbrev pub record_parts : TypeTree → List (List ℕ × TypeTree)
@@ -302,12 +308,3 @@ is_own T = every can_be_made T
 -- T is a tree of `Type`
 abbrev pub IsOwn : TypeTree → Type 0
 IsOwn T = is_own T ≡ true
-
--- not a fixed-length list
-abbrev pub is_not_fixed : TypeTree → Bool
-is_not_fixed (fixed E n) = false
-is_not_fixed _ = true
-
--- no part of the type is a fixed-length list
-abbrev pub HasNoFixed : TypeTree → Type 0
-HasNoFixed T = every is_not_fixed T ≡ true

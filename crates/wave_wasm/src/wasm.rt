@@ -124,6 +124,8 @@ pub enum WasmValueError {
     UnknownField(String),
     /// A type of this word has no values here.
     UnsupportedType(String),
+    /// A fixed-length list of so many elements was wanted, and so many were given.
+    WrongNumberOfElements { want: u32, got: usize },
     /// So many items were wanted, and so many given.
     WrongNumberOfTupleValues { want: usize, got: usize },
     /// A type of this kind was wanted; the type given has the text `ty`.
@@ -154,6 +156,9 @@ impl fmt::Display for WasmValueError {
             WasmValueError::UnknownCase(name) => write!(f, "unknown case \"{name}\""),
             WasmValueError::UnknownField(name) => write!(f, "unknown field \"{name}\""),
             WasmValueError::UnsupportedType(ty) => write!(f, "unsupported type {ty}"),
+            WasmValueError::WrongNumberOfElements { want, got } => {
+                write!(f, "expected {want} list elements; got {got}")
+            }
             WasmValueError::WrongNumberOfTupleValues { want, got } => {
                 write!(f, "expected {want} tuple elements; got {got}")
             }
@@ -193,7 +198,7 @@ impl<T: Drop> From<AllocFailed<T>> for WasmValueError {
 /// that tree in their order, and none for a tree of another kind.
 pub trait WasmType: Sized {
     ghost use Rattle.std.specs.Prelude.{◌≡◌, IfOk};
-    ghost use Rattle.wave_wasm.specs.Types.{TypeTree, kind_of, list_part, record_parts, tuple_parts, variant_parts, enum_names, option_part, result_parts, flags_names, map_parts};
+    ghost use Rattle.wave_wasm.specs.Types.{TypeTree, kind_of, list_part, list_length, record_parts, tuple_parts, variant_parts, enum_names, option_part, result_parts, flags_names, map_parts};
     ghost use Rattle.wave_wasm.specs.Borrowed.{texts, shown, shown_all, shown_fields, shown_cases, shown_result, shown_pair};
 
     /// The tree that the type means.
@@ -203,9 +208,13 @@ pub trait WasmType: Sized {
     fn kind(&self) -> WasmTypeKind
         ensures { result ≡ kind_of (tree self.now) };
 
-    /// The element type of a list.
+    /// The element type of a list or fixed-length list.
     fn list_element_type(&self) -> Option<&Self>
         ensures { shown tree result ≡ list_part (tree self.now) };
+
+    /// The number of elements of a fixed-length list.
+    fn list_length(&self) -> Option<u32>
+        ensures { result ≡ list_length (tree self.now) };
 
     /// The names and types of a record's fields.
     fn record_fields(&self, alloc: Global) -> Result<Vec<(&str, &Self)>, AllocError>
@@ -324,7 +333,7 @@ pub trait WasmValue: Sized + Drop {
         ensures made { IfOk result (MakesLeaf tree is_of (value.string val.now)) }
         ensures full { IfErr result (FullLeaf is_full (value.string val.now)) };
 
-    /// The list of these items.
+    /// The list or fixed-length list of these items.
     fn make_list(alloc: Global, ty: &Self::Type, vals: Vec<Self>) -> Result<Self, WasmValueError>
         ensures made { IfOk result (MakesList tree is_of (Self.Type.tree ty.now) vals.items) }
         ensures full { IfErr result (FullList is_of is_full (Self.Type.tree ty.now) vals.items) };

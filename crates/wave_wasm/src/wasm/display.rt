@@ -13,6 +13,7 @@ ghost use Rattle.wave_wasm.specs.Private.TypeText.{name_part};
 
 use crate::wasm::{WasmFunc, WasmType, WasmTypeKind, WasmValue};
 use crate::writer::{arguments_to_string, results_to_string, to_string};
+use itoa::Buffer;
 use std::alloc::{AllocError, Global};
 use std::fmt;
 use std::marker::Model;
@@ -279,6 +280,7 @@ fn push_type<T: WasmType>(alloc: Global, ty: &T, text: &mut String) -> Result<()
     let kind = ty.kind();
     match kind {
         WasmTypeKind::List => push_list(alloc, ty, text),
+        WasmTypeKind::FixedLengthList => push_fixed_length_list(alloc, ty, text),
         WasmTypeKind::Record => push_record(alloc, ty, text),
         WasmTypeKind::Tuple => push_tuple(alloc, ty, text),
         WasmTypeKind::Variant => push_variant(alloc, ty, text),
@@ -303,6 +305,27 @@ fn push_list<T: WasmType>(alloc: Global, ty: &T, text: &mut String) -> Result<()
             text.push_str(">")
         }
         None => unreachable!(),
+    }
+}
+
+#[cycle(types)]
+fn push_fixed_length_list<T: WasmType>(
+    alloc: Global,
+    ty: &T,
+    text: &mut String,
+) -> Result<(), AllocError>
+    requires { kind_of (T.tree ty.now) ≡ WasmTypeKind.FixedLengthList }
+    ensures { OnOk result (string_bytes text.new ≡ string_bytes text.old ++ type_text (T.tree ty.now)) }
+{
+    match (ty.list_element_type(), ty.list_length()) {
+        (Some(element), Some(length)) => {
+            text.push_str("list<")?;
+            push_type(alloc, element, text)?;
+            text.push_str(", ")?;
+            text.push_str(Buffer::new().format(length))?;
+            text.push_str(">")
+        }
+        _ => unreachable!(),
     }
 }
 

@@ -15,6 +15,9 @@ decreases-push_type g l = 3 * depth (g.T.WasmType.tree l.ty.now) + 2
 abbrev pub decreases-push_list : goal.decreases-push_list
 decreases-push_list g l = 3 * depth (g.T.WasmType.tree l.ty.now) + 1
 
+abbrev pub decreases-push_fixed_length_list : goal.decreases-push_fixed_length_list
+decreases-push_fixed_length_list g l = 3 * depth (g.T.WasmType.tree l.ty.now) + 1
+
 abbrev pub decreases-push_option : goal.decreases-push_option
 decreases-push_option g l = 3 * depth (g.T.WasmType.tree l.ty.now) + 1
 
