@@ -1,6 +1,8 @@
 -- Where the words and names in the text of a type end.
 use Rattle.std.proofs.Common.{◌≡◌, ℕ, Bool, true, false, not, List, [], ◌∷◌, ◌++◌, inl, inr, Option, Some, None, refl, sym, ap, ◌∙◌, arith, get_or, drop, append_assoc}
-use Rattle.std.specs.Prelude.{◌&&◌, ◌||◌, nat_lt, find}
+use Rattle.std.specs.Prelude.{◌&&◌, ◌||◌, ◌+◌, ◌%◌, ◌^◌, ◌<◌, ◌≤◌, nat_lt, find}
+use Rattle.std.specs.Fmt.{decimal}
+use Rattle.std.proofs.lemmas.Fmt.{decimal_by_steps}
 use Rattle.std.specs.List.{list_all}
 use Rattle.std.specs.Str.{bytes_eq}
 use Rattle.std.proofs.lemmas.Bool.{false≢true, and_parts, and_from}
@@ -87,6 +89,21 @@ text_goes_on (many p) s a (parts, e, h) = ap has_no_stop e ∙ joined_goes_on p 
 -- no byte of a label stops it
 pub label_goes_on : (name : List ℕ) → IsLabel name → has_no_stop name ≡ true
 label_goes_on name h = text_goes_on label name refl h
+
+-- ---- numbers
+
+digit_goes_on : (d : ℕ) → d < 10 → not (is_stop (48 + d)) ≡ true
+digit_goes_on d h = grind (arith, nat_tests)
+
+one_digit : (d : ℕ) → d < 10 → has_no_stop ((48 + d) ∷ []) ≡ true
+one_digit d h = and_from _ _ (digit_goes_on d h) refl
+
+more_digits : (n : ℕ) (ds : List ℕ) → 10 ≤ n → has_no_stop ds ≡ true → has_no_stop (ds ++ ((48 + n % 10) ∷ [])) ≡ true
+more_digits n ds l h = append_goes_on ds _ h (one_digit (n % 10) (omega arith))
+
+-- no byte of a number stops it
+pub number_goes_on : (n : ℕ) → n < 2 ^ 64 → has_no_stop (decimal n) ≡ true
+number_goes_on n h = decimal_by_steps (λ m ds. has_no_stop ds ≡ true) one_digit more_digits n h
 
 -- ---- the words of kinds
 

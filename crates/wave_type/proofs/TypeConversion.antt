@@ -1,38 +1,32 @@
 -- What converting the parts of a type tells of the whole.
-use Rattle.std.proofs.Common.{ℕ, ◌≡◌, ◌↔◌, Bool, true, false, ◌&&◌, if◌then◌else◌, Option, Some, None, List, [], ◌∷◌, ◌++◌, refl, sym, ap, ◌∙◌}
+use Rattle.std.proofs.Common.{ℕ, ◌≡◌, Bool, ◌&&◌, if◌then◌else◌, Option, Some, None, List, [], ◌∷◌, ◌++◌, refl, sym, ap, ◌∙◌}
 use Rattle.std.specs.List.{list_all}
 use Rattle.wave_wasm.specs.Types as type
-use Rattle.wave_wasm.specs.Types.{TypeTree, Types, Fields, Cases, MaybeType, types_of, type_list, fields_of, field_list, cases_of, case_list, maybe_type, type_option, kind_of, tuple_parts, record_parts, variant_parts, IsOwn, is_own, every, every_type, every_field, every_case, every_maybe, can_be_made, is_not_fixed}
+use Rattle.wave_wasm.specs.Types.{TypeTree, Types, Fields, Cases, MaybeType, types_of, type_list, fields_of, field_list, cases_of, case_list, maybe_type, type_option, kind_of, tuple_parts, record_parts, variant_parts, is_own, every_type, every_field, every_case, every_maybe, can_be_made}
 use Rattle.wave_wasm.specs.declared.wasm.WasmTypeKind.TheVariants as kinds
 use Rattle.wave_wasm.proofs.TypeKinds.{formed_as}
 use Rattle.wave_type.specs.TypeMade.{tuple_type, record_type, variant_type}
-use Rattle.wave_type.specs.TypeConversion.{can_be_converted, converted_type, ConvertsToItself}
+use Rattle.wave_type.specs.TypeConversion.{converted_type}
 
--- the payload's type, where there is one, can be converted
-abbrev pub can_convert_payload : Option TypeTree → Bool
-can_convert_payload p = every_maybe can_be_made (maybe_type p) && every_maybe is_not_fixed (maybe_type p)
+-- the payload's type, where there is one, is a tree of `Type`
+abbrev pub can_be_payload : List ℕ × Option TypeTree → Bool
+can_be_payload c = every_maybe can_be_made (maybe_type c.1)
 
 -- what is made of the parts that are done and of those that are left, none where one of these can't be converted
 abbrev pub remaining : {X : Type 0} → (X → Bool) → (List X → Option TypeTree) → List X → List X → Option TypeTree
 remaining ok make done left = if list_all ok left then make (done ++ left) else None
 
-swapped : (a b c d : Bool) → ((a && b) && (c && d)) ≡ ((a && c) && (b && d))
-swapped true true c d = refl
-swapped true false true d = refl
-swapped true false false d = refl
-swapped false b c d = refl
-
-types_convert : (Ts : List TypeTree) → (every_type can_be_made (types_of Ts) && every_type is_not_fixed (types_of Ts)) ≡ list_all can_be_converted Ts
+types_convert : (Ts : List TypeTree) → every_type can_be_made (types_of Ts) ≡ list_all is_own Ts
 types_convert [] = refl
-types_convert (T ∷ Ts) = swapped (is_own T) (every_type can_be_made (types_of Ts)) (every is_not_fixed T) (every_type is_not_fixed (types_of Ts)) ∙ ap (λ b. can_be_converted T && b) (types_convert Ts)
+types_convert (T ∷ Ts) = ap (λ b. is_own T && b) (types_convert Ts)
 
-fields_convert : (fs : List (List ℕ × TypeTree)) → (every_field can_be_made (fields_of fs) && every_field is_not_fixed (fields_of fs)) ≡ list_all (λ f. can_be_converted f.1) fs
+fields_convert : (fs : List (List ℕ × TypeTree)) → every_field can_be_made (fields_of fs) ≡ list_all (λ f. is_own f.1) fs
 fields_convert [] = refl
-fields_convert (f ∷ fs) = swapped (is_own f.1) (every_field can_be_made (fields_of fs)) (every is_not_fixed f.1) (every_field is_not_fixed (fields_of fs)) ∙ ap (λ b. can_be_converted f.1 && b) (fields_convert fs)
+fields_convert (f ∷ fs) = ap (λ b. is_own f.1 && b) (fields_convert fs)
 
-cases_convert : (cs : List (List ℕ × Option TypeTree)) → (every_case can_be_made (cases_of cs) && every_case is_not_fixed (cases_of cs)) ≡ list_all (λ c. can_convert_payload c.1) cs
+cases_convert : (cs : List (List ℕ × Option TypeTree)) → every_case can_be_made (cases_of cs) ≡ list_all can_be_payload cs
 cases_convert [] = refl
-cases_convert (c ∷ cs) = swapped (every_maybe can_be_made (maybe_type c.1)) (every_case can_be_made (cases_of cs)) (every_maybe is_not_fixed (maybe_type c.1)) (every_case is_not_fixed (cases_of cs)) ∙ ap (λ b. can_convert_payload c.1 && b) (cases_convert cs)
+cases_convert (c ∷ cs) = ap (λ b. can_be_payload c && b) (cases_convert cs)
 
 types_back : (Ts : Types) → types_of (type_list Ts) ≡ Ts
 types_back type.no_types = refl
@@ -50,46 +44,35 @@ cases_back : (cs : Cases) → cases_of (case_list cs) ≡ cs
 cases_back type.no_cases = refl
 cases_back (type.case_of name payload more) = λ i. type.case_of name (payload_back payload i) (cases_back more i)
 
-tuple_from : (Ts : List TypeTree) → converted_type (type.tuple (types_of Ts)) ≡ remaining can_be_converted tuple_type [] Ts
+tuple_from : (Ts : List TypeTree) → converted_type (type.tuple (types_of Ts)) ≡ remaining is_own tuple_type [] Ts
 tuple_from [] = refl
 tuple_from (T ∷ Ts) = ap (λ b. if b then Some (type.tuple (types_of (T ∷ Ts))) else None) (types_convert (T ∷ Ts))
 
-record_from : (fs : List (List ℕ × TypeTree)) → converted_type (type.record_type (fields_of fs)) ≡ remaining (λ f. can_be_converted f.1) record_type [] fs
+record_from : (fs : List (List ℕ × TypeTree)) → converted_type (type.record_type (fields_of fs)) ≡ remaining (λ f. is_own f.1) record_type [] fs
 record_from [] = refl
 record_from (f ∷ fs) = ap (λ b. if b then Some (type.record_type (fields_of (f ∷ fs))) else None) (fields_convert (f ∷ fs))
 
-variant_from : (cs : List (List ℕ × Option TypeTree)) → converted_type (type.variant (cases_of cs)) ≡ remaining (λ c. can_convert_payload c.1) variant_type [] cs
+variant_from : (cs : List (List ℕ × Option TypeTree)) → converted_type (type.variant (cases_of cs)) ≡ remaining can_be_payload variant_type [] cs
 variant_from [] = refl
 variant_from (c ∷ cs) = ap (λ b. if b then Some (type.variant (cases_of (c ∷ cs))) else None) (cases_convert (c ∷ cs))
 
 -- a tuple type, of which all parts are left
-pub tuple_start : (T : TypeTree) (parts done : List TypeTree) → kind_of T ≡ kinds.Tuple → parts ≡ tuple_parts T → done ≡ [] → converted_type T ≡ remaining can_be_converted tuple_type done parts
+pub tuple_start : (T : TypeTree) (parts done : List TypeTree) → kind_of T ≡ kinds.Tuple → parts ≡ tuple_parts T → done ≡ [] → converted_type T ≡ remaining is_own tuple_type done parts
 tuple_start T parts done k e none =
     let f = formed_as kinds.Tuple T (sym k) in
     let made : T ≡ type.tuple (types_of parts) = f.1 ∙ ap type.tuple (sym (types_back f.0) ∙ ap types_of (sym (e ∙ ap tuple_parts f.1))) in
-    ap converted_type made ∙ (tuple_from parts ∙ ap (λ ds. remaining can_be_converted tuple_type ds parts) (sym none))
+    ap converted_type made ∙ (tuple_from parts ∙ ap (λ ds. remaining is_own tuple_type ds parts) (sym none))
 
 -- a record type
-pub record_start : (T : TypeTree) (parts done : List (List ℕ × TypeTree)) → kind_of T ≡ kinds.Record → parts ≡ record_parts T → done ≡ [] → converted_type T ≡ remaining (λ f. can_be_converted f.1) record_type done parts
+pub record_start : (T : TypeTree) (parts done : List (List ℕ × TypeTree)) → kind_of T ≡ kinds.Record → parts ≡ record_parts T → done ≡ [] → converted_type T ≡ remaining (λ f. is_own f.1) record_type done parts
 record_start T parts done k e none =
     let f = formed_as kinds.Record T (sym k) in
     let made : T ≡ type.record_type (fields_of parts) = f.1 ∙ ap type.record_type (sym (fields_back f.0) ∙ ap fields_of (sym (e ∙ ap record_parts f.1))) in
-    ap converted_type made ∙ (record_from parts ∙ ap (λ ds. remaining (λ f. can_be_converted f.1) record_type ds parts) (sym none))
+    ap converted_type made ∙ (record_from parts ∙ ap (λ ds. remaining (λ f. is_own f.1) record_type ds parts) (sym none))
 
 -- a variant type
-pub variant_start : (T : TypeTree) (parts done : List (List ℕ × Option TypeTree)) → kind_of T ≡ kinds.Variant → parts ≡ variant_parts T → done ≡ [] → converted_type T ≡ remaining (λ c. can_convert_payload c.1) variant_type done parts
+pub variant_start : (T : TypeTree) (parts done : List (List ℕ × Option TypeTree)) → kind_of T ≡ kinds.Variant → parts ≡ variant_parts T → done ≡ [] → converted_type T ≡ remaining can_be_payload variant_type done parts
 variant_start T parts done k e none =
     let f = formed_as kinds.Variant T (sym k) in
     let made : T ≡ type.variant (cases_of parts) = f.1 ∙ ap type.variant (sym (cases_back f.0) ∙ ap cases_of (sym (e ∙ ap variant_parts f.1))) in
-    ap converted_type made ∙ (variant_from parts ∙ ap (λ ds. remaining (λ c. can_convert_payload c.1) variant_type ds parts) (sym none))
-
--- ---- the law
-
-itself_where : (own shown : Bool) (T : TypeTree) → own ≡ true → (((if own && shown then Some T else None) ≡ Some T) ↔ (shown ≡ true)) × (((if own && shown then Some T else None) ≡ None) ↔ (shown ≡ true → ⊥))
-itself_where true true T o = ((λ e. refl, λ s. refl), (λ e. absurd (cc), λ n. absurd (n refl)))
-itself_where true false T o = ((λ e. absurd (cc), λ s. absurd (cc)), (λ e s. absurd (cc), λ n. refl))
-itself_where false shown T o = absurd (cc)
-
--- a type that `Type` has is converted to itself exactly where no part of it is a fixed-length list
-pub own_converts : (T : TypeTree) → IsOwn T → ConvertsToItself T
-own_converts T o = itself_where (is_own T) (every is_not_fixed T) T o
+    ap converted_type made ∙ (variant_from parts ∙ ap (λ ds. remaining can_be_payload variant_type ds parts) (sym none))

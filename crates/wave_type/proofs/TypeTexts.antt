@@ -1,56 +1,55 @@
 -- The text of a type tells the type.
 use Rattle.std.proofs.Common.{◌≡◌, ℕ, Bool, true, false, List, [], ◌∷◌, ◌++◌, refl, sym, ap, subst, ◌∙◌, arith, drop, codes, append_assoc}
-use Rattle.std.specs.Prelude.{◌&&◌, ◌||◌, ◌==◌, nat_lt}
-use Rattle.std.proofs.lemmas.Bool.{false≢true, and_parts, eq-eqb}
+use Rattle.std.specs.Prelude.{◌&&◌, ◌||◌, ◌==◌, ◌^◌, ◌<◌, nat_lt}
+use Rattle.std.specs.Fmt.{decimal}
+use Rattle.std.proofs.lemmas.Bool.{false≢true, and_parts, eq-eqb, ltb-true}
 use Rattle.std.proofs.lemmas.Bool.Decides.{nat_tests}
 use Rattle.std.proofs.lemmas.List.{append_cancel_left}
+use Rattle.std.proofs.lemmas.Fmt.{decimal_injective}
 use Rattle.wave_wasm.specs.Lists.{AllOf}
 use Rattle.wave_wasm.specs.declared.wasm.WasmTypeKind.{WasmTypeKind}
 use Rattle.wave_wasm.specs.declared.wasm.WasmTypeKind.TheVariants as kinds
 use Rattle.wave_wasm.specs.Types as type
-use Rattle.wave_wasm.specs.Types.{Simple, Unreadable, TypeTree, MaybeType, Types, Fields, Cases, no_type, a_type, no_types, type_and, no_fields, field, no_cases, case_of, simple_kind, unreadable_kind, kind_of, field_names, case_names, EachNamesOfMaybe, EachNamesOfTypes, EachNamesOfFields, EachNamesOfCases, every_maybe, every_type, every_field, every_case, can_be_made, is_not_fixed, has_names, IsOwn}
+use Rattle.wave_wasm.specs.Types.{Simple, Unreadable, TypeTree, MaybeType, Types, Fields, Cases, no_type, a_type, no_types, type_and, no_fields, field, no_cases, case_of, simple_kind, unreadable_kind, kind_of, field_names, case_names, EachNamesOfMaybe, EachNamesOfTypes, EachNamesOfFields, EachNamesOfCases, every_maybe, every_type, every_field, every_case, can_be_made, has_names, IsOwn}
 use Rattle.wave_wasm.specs.Commas.{joined, followed}
 use Rattle.wave_wasm.specs.TypeText.{kind_word, type_text, type_texts, field_texts, case_texts, payload_text}
-use Rattle.wave_lex.specs.Labels.{IsLabel}
+use Rattle.wave_lex.specs.Labels.{IsLabel, HasLabels}
 use Rattle.wave_wasm.proofs.TypeKinds.{simple_is}
-use Rattle.wave_type.specs.TypeTexts.{IsShownWhole, TypeTextTells}
-use Rattle.wave_type.proofs.TextFronts.{is_stop, has_no_stop, StopsFirst, first_of, one_front, regroup, label_goes_on, one_kind, has_word}
+use Rattle.wave_type.specs.TypeTexts.{TypeTextTells}
+use Rattle.wave_type.proofs.TextFronts.{is_stop, has_no_stop, StopsFirst, first_of, one_front, regroup, label_goes_on, number_goes_on, one_kind, has_word}
 
 -- ---- what is asked of a type and of its parts
 
--- a type of `Type` that is shown whole
+short : (n : ℕ) → nat_lt n (2 ^ 32) ≡ true → n < 2 ^ 64
+short n h = omega (arith, ltb-true n (2 ^ 32) h)
+
+-- a type of `Type` whose names are labels
 abbrev IsTold : TypeTree → Type 0
-IsTold T = IsOwn T × IsShownWhole T
+IsTold T = IsOwn T × HasLabels T
 
 abbrev IsToldMaybe : MaybeType → Type 0
-IsToldMaybe P = (every_maybe can_be_made P ≡ true) × ((every_maybe is_not_fixed P ≡ true) × EachNamesOfMaybe (AllOf IsLabel) P)
+IsToldMaybe P = (every_maybe can_be_made P ≡ true) × EachNamesOfMaybe (AllOf IsLabel) P
 
 abbrev AreToldTypes : Types → Type 0
-AreToldTypes Ts = (every_type can_be_made Ts ≡ true) × ((every_type is_not_fixed Ts ≡ true) × EachNamesOfTypes (AllOf IsLabel) Ts)
+AreToldTypes Ts = (every_type can_be_made Ts ≡ true) × EachNamesOfTypes (AllOf IsLabel) Ts
 
 abbrev AreToldFields : Fields → Type 0
-AreToldFields fs = (every_field can_be_made fs ≡ true) × ((every_field is_not_fixed fs ≡ true) × (AllOf IsLabel (field_names fs) × EachNamesOfFields (AllOf IsLabel) fs))
+AreToldFields fs = (every_field can_be_made fs ≡ true) × (AllOf IsLabel (field_names fs) × EachNamesOfFields (AllOf IsLabel) fs)
 
 abbrev AreToldCases : Cases → Type 0
-AreToldCases cs = (every_case can_be_made cs ≡ true) × ((every_case is_not_fixed cs ≡ true) × (AllOf IsLabel (case_names cs) × EachNamesOfCases (AllOf IsLabel) cs))
+AreToldCases cs = (every_case can_be_made cs ≡ true) × (AllOf IsLabel (case_names cs) × EachNamesOfCases (AllOf IsLabel) cs)
 
 first_type : (T : TypeTree) (more : Types) → AreToldTypes (type_and T more) → IsTold T × AreToldTypes more
-first_type T more h =
-    let p = and_parts _ _ h.0 in
-    let q = and_parts _ _ h.1.0 in
-    ((p.0, (q.0, h.1.1.0)), (p.1, (q.1, h.1.1.1)))
+first_type T more h = let p = and_parts _ _ h.0 in ((p.0, h.1.0), (p.1, h.1.1))
 
 first_field : (name : List ℕ) (T : TypeTree) (more : Fields) → AreToldFields (field name T more) → IsLabel name × (IsTold T × AreToldFields more)
-first_field name T more h =
-    let p = and_parts _ _ h.0 in
-    let q = and_parts _ _ h.1.0 in
-    (h.1.1.0.0, ((p.0, (q.0, h.1.1.1.0)), (p.1, (q.1, (h.1.1.0.1, h.1.1.1.1)))))
+first_field name T more h = let p = and_parts _ _ h.0 in (h.1.0.0, ((p.0, h.1.1.0), (p.1, (h.1.0.1, h.1.1.1))))
 
 first_case : (name : List ℕ) (P : MaybeType) (more : Cases) → AreToldCases (case_of name P more) → IsLabel name × (IsToldMaybe P × AreToldCases more)
-first_case name P more h =
-    let p = and_parts _ _ h.0 in
-    let q = and_parts _ _ h.1.0 in
-    (h.1.1.0.0, ((p.0, (q.0, h.1.1.1.0)), (p.1, (q.1, (h.1.1.0.1, h.1.1.1.1)))))
+first_case name P more h = let p = and_parts _ _ h.0 in (h.1.0.0, ((p.0, h.1.1.0), (p.1, (h.1.0.1, h.1.1.1))))
+
+element_of_fixed : (E : TypeTree) (n : ℕ) → IsTold (type.fixed E n) → IsTold E × (n < 2 ^ 64)
+element_of_fixed E n h = let p = and_parts _ _ h.0 in ((p.1, h.1), short n p.0)
 
 types_of_tuple : (Ts : Types) → IsTold (type.tuple Ts) → AreToldTypes Ts × (has_names (type_texts Ts) ≡ true)
 types_of_tuple no_types h = absurd (false≢true h.0)
@@ -67,8 +66,7 @@ cases_of_variant (case_of name P more) h = (h, refl)
 payloads_of_result : (A B : MaybeType) → IsTold (type.result A B) → IsToldMaybe A × IsToldMaybe B
 payloads_of_result A B h =
     let p = and_parts _ _ h.0 in
-    let q = and_parts _ _ h.1.0 in
-    ((p.0, (q.0, h.1.1.0)), (p.1, (q.1, h.1.1.1)))
+    ((p.0, h.1.0), (p.1, h.1.1))
 
 -- ---- what follows a type
 
@@ -95,7 +93,12 @@ ends_row (text ∷ more) c r h = refl
 not_end : (c : ℕ) (r x : List ℕ) → is_end c ≡ false → Ends r → r ≡ c ∷ x → ⊥
 not_end c r x other h e = false≢true (sym other ∙ subst Ends e h)
 
--- ---- the first word of a type's text is its kind's
+-- ---- the first word of a type's text
+
+-- the kind whose word the text begins with: its own, but for a fixed-length list
+abbrev front_kind : TypeTree → WasmTypeKind
+front_kind (type.fixed E n) = kinds.List
+front_kind T = kind_of T
 
 simple_word : (S : Simple) → has_no_stop (kind_word (simple_kind S)) ≡ true
 simple_word type.bool = refl
@@ -110,11 +113,11 @@ simple_word (type.whole type.u64) = refl
 simple_word type.char = refl
 simple_word type.string = refl
 
--- the text of the type, with what follows it, as the word of its kind and what follows that
+-- the text of the type, with what follows it, as its first word and what follows that
 record Fronted (T : TypeTree) (whole : List ℕ) : Type 0 where
   rest : List ℕ
-  is : whole ≡ kind_word (kind_of T) ++ rest
-  word : has_no_stop (kind_word (kind_of T)) ≡ true
+  is : whole ≡ kind_word (front_kind T) ++ rest
+  word : has_no_stop (kind_word (front_kind T)) ≡ true
   stops : StopsFirst rest
 
 fronted : (T : TypeTree) (r : List ℕ) → IsTold T → Ends r → Fronted T (type_text T ++ r)
@@ -123,7 +126,7 @@ fronted (type.unreadable type.f32) r h ends = record { rest = r; is = refl; word
 fronted (type.unreadable type.f64) r h ends = record { rest = r; is = refl; word = refl; stops = ends_stop r ends }
 fronted (type.unreadable type.unsupported) r h ends = absurd (false≢true h.0)
 fronted (type.list E) r h ends = record { rest = drop 4 (type_text (type.list E) ++ r); is = refl; word = refl; stops = refl }
-fronted (type.fixed E n) r h ends = absurd (false≢true h.1.0)
+fronted (type.fixed E n) r h ends = record { rest = drop 4 (type_text (type.fixed E n) ++ r); is = refl; word = refl; stops = refl }
 fronted (type.record_type fs) r h ends = record { rest = drop 6 (type_text (type.record_type fs) ++ r); is = refl; word = refl; stops = refl }
 fronted (type.tuple Ts) r h ends = record { rest = drop 5 (type_text (type.tuple Ts) ++ r); is = refl; word = refl; stops = refl }
 fronted (type.variant cs) r h ends = record { rest = drop 7 (type_text (type.variant cs) ++ r); is = refl; word = refl; stops = refl }
@@ -136,49 +139,48 @@ fronted (type.result (a_type A) (a_type B)) r h ends = record { rest = drop 6 (t
 fronted (type.flags names) r h ends = record { rest = drop 5 (type_text (type.flags names) ++ r); is = refl; word = refl; stops = refl }
 fronted (type.map K V) r h ends = record { rest = drop 3 (type_text (type.map K V) ++ r); is = refl; word = refl; stops = refl }
 
--- types with one text are of one kind
-same_kind : (T U : TypeTree) (r s : List ℕ) → IsTold T → IsTold U → Ends r → Ends s → type_text T ++ r ≡ type_text U ++ s → kind_of T ≡ kind_of U
-same_kind T U r s h k a b e =
+-- types with one text begin with the word of one kind
+same_front : (T U : TypeTree) (r s : List ℕ) → IsTold T → IsTold U → Ends r → Ends s → type_text T ++ r ≡ type_text U ++ s → front_kind T ≡ front_kind U
+same_front T U r s h k a b e =
     let f = fronted T r h a in
     let g = fronted U s k b in
-    one_kind _ _ (one_front (kind_word (kind_of T)) (kind_word (kind_of U)) f.rest g.rest f.word g.word f.stops g.stops (sym f.is ∙ (e ∙ g.is))).0
+    one_kind _ _ (one_front (kind_word (front_kind T)) (kind_word (front_kind U)) f.rest g.rest f.word g.word f.stops g.stops (sym f.is ∙ (e ∙ g.is))).0
 
 -- no type's text begins with `_`
 no_underscore : (T : TypeTree) (r x : List ℕ) → IsTold T → Ends r → 95 ∷ x ≡ type_text T ++ r → ⊥
 no_underscore T r x h ends e =
     let f = fronted T r h ends in
-    has_word (kind_of T) (one_front [] (kind_word (kind_of T)) (95 ∷ x) f.rest refl f.word refl f.stops (e ∙ f.is)).0
+    has_word (front_kind T) (one_front [] (kind_word (front_kind T)) (95 ∷ x) f.rest refl f.word refl f.stops (e ∙ f.is)).0
 
--- ---- which of the twelve forms a type has
+-- ---- which of eleven forms a type has, by its first word
 
 abbrev form : TypeTree → ℕ
 form (type.simple S) = 0
 form (type.unreadable kind) = 1
 form (type.list E) = 2
-form (type.fixed E n) = 3
-form (type.record_type fs) = 4
-form (type.tuple Ts) = 5
-form (type.variant cs) = 6
-form (type.enum names) = 7
-form (type.option P) = 8
-form (type.result A B) = 9
-form (type.flags names) = 10
-form (type.map K V) = 11
+form (type.fixed E n) = 2
+form (type.record_type fs) = 3
+form (type.tuple Ts) = 4
+form (type.variant cs) = 5
+form (type.enum names) = 6
+form (type.option P) = 7
+form (type.result A B) = 8
+form (type.flags names) = 9
+form (type.map K V) = 10
 
 abbrev form_of_kind : WasmTypeKind → ℕ
 form_of_kind kinds.F32 = 1
 form_of_kind kinds.F64 = 1
 form_of_kind kinds.Unsupported = 1
 form_of_kind kinds.List = 2
-form_of_kind kinds.FixedLengthList = 3
-form_of_kind kinds.Record = 4
-form_of_kind kinds.Tuple = 5
-form_of_kind kinds.Variant = 6
-form_of_kind kinds.Enum = 7
-form_of_kind kinds.Option = 8
-form_of_kind kinds.Result = 9
-form_of_kind kinds.Flags = 10
-form_of_kind kinds.Map = 11
+form_of_kind kinds.Record = 3
+form_of_kind kinds.Tuple = 4
+form_of_kind kinds.Variant = 5
+form_of_kind kinds.Enum = 6
+form_of_kind kinds.Option = 7
+form_of_kind kinds.Result = 8
+form_of_kind kinds.Flags = 9
+form_of_kind kinds.Map = 10
 form_of_kind _ = 0
 
 simple_form : (S : Simple) → 0 ≡ form_of_kind (simple_kind S)
@@ -194,7 +196,7 @@ simple_form (type.whole type.u64) = refl
 simple_form type.char = refl
 simple_form type.string = refl
 
-form_is : (T : TypeTree) → form T ≡ form_of_kind (kind_of T)
+form_is : (T : TypeTree) → form T ≡ form_of_kind (front_kind T)
 form_is (type.simple S) = simple_form S
 form_is (type.unreadable type.f32) = refl
 form_is (type.unreadable type.f64) = refl
@@ -212,7 +214,7 @@ form_is (type.map K V) = refl
 
 -- types with one text have one form
 same_form : (T U : TypeTree) (r s : List ℕ) → IsTold T → IsTold U → Ends r → Ends s → type_text T ++ r ≡ type_text U ++ s → (form T == form U) ≡ true
-same_form T U r s h k a b e = eq-eqb _ _ (form_is T ∙ (ap form_of_kind (same_kind T U r s h k a b e) ∙ sym (form_is U)))
+same_form T U r s h k a b e = eq-eqb _ _ (form_is T ∙ (ap form_of_kind (same_front T U r s h k a b e) ∙ sym (form_is U)))
 
 one_simple : (S R : Simple) → simple_kind S ≡ simple_kind R → S ≡ R
 one_simple S R e = let same : type.simple R ≡ type.simple S = simple_is S (type.simple R) e in cc
@@ -324,12 +326,26 @@ mutual
       let p = one_front (kind_word (simple_kind S)) (kind_word (simple_kind R)) r s (simple_word S) (simple_word R) (ends_stop r a) (ends_stop s b) e in
       (ap type.simple (one_simple S R (one_kind _ _ p.0)), p.1)
   tells (type.unreadable u) (type.unreadable v) r s h k a b e =
-      let p = one_unreadable u v (same_kind (type.unreadable u) (type.unreadable v) r s h k a b e) in
+      let p = one_unreadable u v (same_front (type.unreadable u) (type.unreadable v) r s h k a b e) in
       (ap type.unreadable p, append_cancel_left (kind_word (unreadable_kind u)) r s (e ∙ ap (λ z. kind_word (unreadable_kind z) ++ s) (sym p)))
   tells (type.list E) (type.list F) r s h k a b e =
       let p = tells E F (62 ∷ r) (62 ∷ s) h k refl refl (in_angles (type_text E) (type_text F) r s (ap (drop 5) e)) in
       (ap type.list p.0, ap (drop 1) p.1)
-  tells (type.fixed E n) (type.fixed F m) r s h k a b e = absurd (false≢true h.1.0)
+  tells (type.list E) (type.fixed F m) r s h k a b e =
+      let apart = in_angles (type_text E) (type_text F ++ (codes ", " ++ decimal m)) r s (ap (drop 5) e) ∙ append_assoc (type_text F) (codes ", " ++ decimal m) (62 ∷ s) in
+      absurd (omega (arith, first_of (tells E F (62 ∷ r) ((codes ", " ++ decimal m) ++ (62 ∷ s)) h (element_of_fixed F m k).0 refl refl apart).1))
+  tells (type.fixed E n) (type.list F) r s h k a b e =
+      let apart = sym (append_assoc (type_text E) (codes ", " ++ decimal n) (62 ∷ r)) ∙ in_angles (type_text E ++ (codes ", " ++ decimal n)) (type_text F) r s (ap (drop 5) e) in
+      absurd (omega (arith, first_of (tells E F ((codes ", " ++ decimal n) ++ (62 ∷ r)) (62 ∷ s) (element_of_fixed E n h).0 k refl refl apart).1))
+  tells (type.fixed E n) (type.fixed F m) r s h k a b e =
+      let x = codes ", " ++ decimal n in
+      let y = codes ", " ++ decimal m in
+      let f = element_of_fixed E n h in
+      let g = element_of_fixed F m k in
+      let apart = regroup (type_text E) x (62 ∷ r) (type_text F) y (62 ∷ s) (in_angles (type_text E ++ x) (type_text F ++ y) r s (ap (drop 5) e)) in
+      let p = tells E F (x ++ (62 ∷ r)) (y ++ (62 ∷ s)) f.0 g.0 refl refl apart in
+      let q = one_front (decimal n) (decimal m) (62 ∷ r) (62 ∷ s) (number_goes_on n f.1) (number_goes_on m g.1) refl refl (ap (drop 2) p.1) in
+      ((λ i. type.fixed (p.0 i) (decimal_injective n m f.1 g.1 q.0 i)), ap (drop 1) q.1)
   tells (type.record_type fs) (type.record_type gs) r s h k a b e =
       let f = fields_of_record fs h in
       let g = fields_of_record gs k in
@@ -349,7 +365,7 @@ mutual
       let p = cases_tell cs ds (125 ∷ r) (125 ∷ s) f.0 g.0 row in
       (ap type.variant p.0, ap (drop 1) p.1)
   tells (type.enum ms) (type.enum ns) r s h k a b e =
-      let p = braced_tell ms ns r s h.0 k.0 h.1.1 k.1.1 (ap (drop 7) e) in
+      let p = braced_tell ms ns r s h.0 k.0 h.1 k.1 (ap (drop 7) e) in
       (ap type.enum p.0, p.1)
   tells (type.option P) (type.option Q) r s h k a b e =
       let p = tells P Q (62 ∷ r) (62 ∷ s) h k refl refl (in_angles (type_text P) (type_text Q) r s (ap (drop 7) e)) in
@@ -360,7 +376,7 @@ mutual
       let p = behind_tells A B C D r s (maybe_tells A) (maybe_tells B) f.0 f.1 g.0 g.1 a b (ap (drop 6) (sym (behind_is A B r) ∙ (e ∙ behind_is C D s))) in
       ((λ i. type.result (p.0.0 i) (p.0.1 i)), p.1)
   tells (type.flags ms) (type.flags ns) r s h k a b e =
-      let p = braced_tell ms ns r s h.0 k.0 h.1.1 k.1.1 (ap (drop 8) e) in
+      let p = braced_tell ms ns r s h.0 k.0 h.1 k.1 (ap (drop 8) e) in
       (ap type.flags p.0, p.1)
   tells (type.map K V) (type.map L W) r s h k a b e =
       let key = kind_word (simple_kind K) in
@@ -434,5 +450,5 @@ mutual
       ((λ i. case_of (o.0 i) (p.0 i) (q.0 i)), q.1)
 
 -- the text of a type tells the type
-pub text_tells : (T : TypeTree) → IsOwn T → IsShownWhole T → TypeTextTells T
-text_tells T own whole U other_own other_whole e = (tells T U [] [] (own, whole) (other_own, other_whole) tt tt (ap (λ z. z ++ []) e)).0
+pub text_tells : (T : TypeTree) → IsOwn T → HasLabels T → TypeTextTells T
+text_tells T own labels U other_own other_labels e = (tells T U [] [] (own, labels) (other_own, other_labels) tt tt (ap (λ z. z ++ []) e)).0

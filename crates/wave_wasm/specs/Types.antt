@@ -1,5 +1,5 @@
 -- The types of values, and their parts.
-use Rattle.std.specs.Prelude.{ℕ, suc, ◌≡◌, Bool, true, false, ◌&&◌, List, [], ◌∷◌, Option, Some, None}
+use Rattle.std.specs.Prelude.{ℕ, suc, ◌≡◌, ◌^◌, nat_lt, Bool, true, false, ◌&&◌, List, [], ◌∷◌, Option, Some, None}
 use Rattle.wave_wasm.specs.Names.{AreDistinct}
 use Rattle.wave_wasm.specs.declared.wasm.WasmTypeKind.{WasmTypeKind}
 use Rattle.wave_wasm.specs.declared.wasm.WasmTypeKind.TheVariants as kinds
@@ -291,9 +291,10 @@ abbrev pub has_names : List (List ℕ) → Bool
 has_names [] = false
 has_names (name ∷ more) = true
 
--- neither unsupported, nor a record, tuple, variant, enum or flags without parts
+-- neither unsupported, nor a record, tuple, variant, enum or flags without parts, nor longer than a u32 tells
 abbrev pub can_be_made : TypeTree → Bool
 can_be_made (unreadable unsupported) = false
+can_be_made (fixed E n) = nat_lt n (2 ^ 32)
 can_be_made (record_type no_fields) = false
 can_be_made (tuple no_types) = false
 can_be_made (variant no_cases) = false

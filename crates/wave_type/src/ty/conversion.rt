@@ -10,9 +10,9 @@ use std::alloc::{AllocError, Global};
 use wave_wasm::wasm::{WasmType, WasmTypeKind};
 
 impl Type {
-    /// The `Type` of the same tree. None exactly where the type holds, at any depth, a fixed-length
-    /// list, an unsupported kind, or a record, tuple, variant, enum or flags without parts. The only
-    /// error is want of memory.
+    /// The `Type` of the same tree. None exactly where the type holds, at any depth, an unsupported
+    /// kind, or a record, tuple, variant, enum or flags without parts. The only error is want of
+    /// memory.
     #[cycle(conversion)]
     pub fn from_wasm_type<T: WasmType>(alloc: Global, ty: &T) -> Result<Option<Type>, AllocError>
         ensures { IfOk result (λ r. r ≡ converted_type (T.tree ty.now)) }
@@ -20,6 +20,7 @@ impl Type {
         let kind = ty.kind();
         match kind {
             WasmTypeKind::List => convert_list(alloc, ty),
+            WasmTypeKind::FixedLengthList => convert_fixed_length_list(alloc, ty),
             WasmTypeKind::Record => convert_record(alloc, ty),
             WasmTypeKind::Tuple => convert_tuple(alloc, ty),
             WasmTypeKind::Variant => convert_variant(alloc, ty),
@@ -45,6 +46,20 @@ fn convert_list<T: WasmType>(alloc: Global, ty: &T) -> Result<Option<Type>, Allo
         return Ok(None);
     };
     Ok(Some(Type::list(alloc, element)?))
+}
+
+#[cycle(conversion)]
+fn convert_fixed_length_list<T: WasmType>(alloc: Global, ty: &T) -> Result<Option<Type>, AllocError>
+    requires { kind_of (T.tree ty.now) ≡ WasmTypeKind.FixedLengthList }
+    ensures { IfOk result (λ r. r ≡ converted_type (T.tree ty.now)) }
+{
+    let (Some(element), Some(length)) = (ty.list_element_type(), ty.list_length()) else {
+        unreachable!()
+    };
+    let Some(element) = Type::from_wasm_type(alloc, element)? else {
+        return Ok(None);
+    };
+    Ok(Some(Type::fixed_length_list(alloc, element, length)?))
 }
 
 #[cycle(conversion)]

@@ -5,7 +5,8 @@ ghost use Rattle.wave_wasm.specs.Types.{types_of, fields_of, cases_of, maybe_typ
 ghost use Rattle.wave_wasm.specs.Commas.{joined, behind_name};
 ghost use Rattle.wave_wasm.specs.TypeText.{kind_word, type_text, type_texts, field_texts, case_texts, payload_text, maybe_text, result_text};
 ghost use Rattle.wave_type.specs.TypeModel.{by_bytes, simple_of};
-ghost use Rattle.wave_type.specs.TypeTexts.{IsShownWhole, TypeTextTells};
+ghost use Rattle.wave_lex.specs.Labels.{HasLabels};
+ghost use Rattle.wave_type.specs.TypeTexts.{TypeTextTells};
 
 use super::{Shape, SimpleType, Type};
 use std::fmt::{self, Display};
@@ -44,7 +45,7 @@ impl fmt::Display for Type {
 
     fn fmt<W: fmt::Write>(&self, f: &mut fmt::Formatter<W>) -> fmt::Result
         ensures writes { DisplaysOnOk W.write_str_gives f.old result (Some (type_text self.now)) f.new }
-        ensures apart { IsShownWhole self.now → TypeTextTells self.now }
+        ensures apart { HasLabels self.now → TypeTextTells self.now }
     {
         let _ = &self.shape;
         write_type(f, self)
@@ -65,7 +66,11 @@ fn write_type<W: fmt::Write>(f: &mut fmt::Formatter<W>, ty: &Type) -> fmt::Resul
             write_type(f, element)?;
             write!(f, ">")
         }
-        Shape::FixedLengthList(_, _) => write!(f, "list<_,N>"),
+        Shape::FixedLengthList(element, count) => {
+            write!(f, "list<")?;
+            write_type(f, element)?;
+            write!(f, ", {count}>")
+        }
         Shape::Record(fields) => {
             write!(f, "record {{ ")?;
             write_fields(f, fields)?;

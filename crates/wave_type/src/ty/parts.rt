@@ -41,7 +41,14 @@ impl WasmType for Type {
 
     fn list_element_type(&self) -> Option<&Type> {
         match &self.shape {
-            Shape::List(element) => Some(&**element),
+            Shape::List(element) | Shape::FixedLengthList(element, _) => Some(&**element),
+            _ => None,
+        }
+    }
+
+    fn list_length(&self) -> Option<u32> {
+        match &self.shape {
+            Shape::FixedLengthList(_, count) => Some(*count),
             _ => None,
         }
     }

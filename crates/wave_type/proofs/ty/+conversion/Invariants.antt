@@ -1,10 +1,10 @@
 use Rattle.std.proofs.Common.{◌≡◌, ◌+◌, ◌*◌, map, drop}
 use Rattle.wave_wasm.specs.Borrowed.{shown, named}
 use Rattle.wave_wasm.specs.Private.Types.{depth, depth_of_maybe}
-use Rattle.wave_wasm.specs.Types.{maybe_type}
+use Rattle.wave_wasm.specs.Types.{maybe_type, is_own}
 use Rattle.wave_type.specs.TypeMade.{tuple_type, record_type, variant_type}
-use Rattle.wave_type.specs.TypeConversion.{can_be_converted, converted_type}
-use Rattle.wave_type.proofs.TypeConversion.{can_convert_payload, remaining}
+use Rattle.wave_type.specs.TypeConversion.{converted_type}
+use Rattle.wave_type.proofs.TypeConversion.{can_be_payload, remaining}
 use Rattle.wave_type.proofs.ty.+conversion.Given as goal
 
 abbrev pub decreases-Type::from_wasm_type : goal.decreases-Type::from_wasm_type
@@ -12,6 +12,9 @@ decreases-Type::from_wasm_type g l = 3 * depth (g.T.WasmType.tree l.ty.now) + 2
 
 abbrev pub decreases-conversion::convert_list : goal.decreases-conversion::convert_list
 decreases-conversion::convert_list g l = 3 * depth (g.T.WasmType.tree l.ty.now) + 1
+
+abbrev pub decreases-conversion::convert_fixed_length_list : goal.decreases-conversion::convert_fixed_length_list
+decreases-conversion::convert_fixed_length_list g l = 3 * depth (g.T.WasmType.tree l.ty.now) + 1
 
 abbrev pub decreases-conversion::convert_option : goal.decreases-conversion::convert_option
 decreases-conversion::convert_option g l = 3 * depth (g.T.WasmType.tree l.ty.now) + 1
@@ -36,12 +39,12 @@ decreases-conversion::convert_payload g l = 3 * depth_of_maybe (maybe_type (show
 
 abbrev pub invariant-conversion::convert_record-loop-field : goal.invariant-conversion::convert_record-loop-field
 invariant-conversion::convert_record-loop-field g l =
-    converted_type (g.T.WasmType.tree l.ty) ≡ remaining (λ f. can_be_converted f.1) record_type (named l.converted.items) (map (λ f. (f.0.now, g.T.WasmType.tree f.1.now)) (drop l.field-index l.field-items))
+    converted_type (g.T.WasmType.tree l.ty) ≡ remaining (λ f. is_own f.1) record_type (named l.converted.items) (map (λ f. (f.0.now, g.T.WasmType.tree f.1.now)) (drop l.field-index l.field-items))
 
 abbrev pub invariant-conversion::convert_tuple-loop-item : goal.invariant-conversion::convert_tuple-loop-item
 invariant-conversion::convert_tuple-loop-item g l =
-    converted_type (g.T.WasmType.tree l.ty) ≡ remaining can_be_converted tuple_type l.converted.items (map (λ t. g.T.WasmType.tree t.now) (drop l.item-index l.item-items))
+    converted_type (g.T.WasmType.tree l.ty) ≡ remaining is_own tuple_type l.converted.items (map (λ t. g.T.WasmType.tree t.now) (drop l.item-index l.item-items))
 
 abbrev pub invariant-conversion::convert_variant-loop-case : goal.invariant-conversion::convert_variant-loop-case
 invariant-conversion::convert_variant-loop-case g l =
-    converted_type (g.T.WasmType.tree l.ty) ≡ remaining (λ c. can_convert_payload c.1) variant_type (named l.converted.items) (map (λ c. (c.0.now, shown g.T.WasmType.tree c.1)) (drop l.case-index l.case-items))
+    converted_type (g.T.WasmType.tree l.ty) ≡ remaining can_be_payload variant_type (named l.converted.items) (map (λ c. (c.0.now, shown g.T.WasmType.tree c.1)) (drop l.case-index l.case-items))
