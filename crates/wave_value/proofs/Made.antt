@@ -14,7 +14,6 @@ use Rattle.wave_wasm.specs.Types as type
 use Rattle.wave_wasm.specs.Types.{TypeTree, list_part, option_part, kind_of, enum_names}
 use Rattle.wave_wasm.specs.Values as value
 use Rattle.wave_wasm.specs.Values.{Value}
-use Rattle.wave_wasm.proofs.TypeKinds.{formed_as}
 use Rattle.wave_wasm.specs.HasType.{HasType}
 use Rattle.wave_wasm.specs.ConstructorContracts.{IsOfListKind, list_value}
 use Rattle.wave_wasm.specs.declared.wasm.WasmTypeKind.{WasmTypeKind}
@@ -28,7 +27,7 @@ use Rattle.wave_value.specs.TypedValue.{TypedValue, IsAt}
 use Rattle.wave_value.specs.ValueModel.{name_at, trees}
 use Rattle.wave_value.specs.Private.ValueModel.{content_tree, AllAt, ListFits, Fits}
 use Rattle.wave_value.specs.ConstructorRules.{Made, AllOwn, HasLength, TakesList, TakesEnum, TellsOther, TellsOne, list_stated, RefusesList, RefusesParts, RefusesEnum}
-use Rattle.wave_value.specs.Private.ConstructorRules.{Tells, SaysKind, SaysLength, SaysType, SaysCase}
+use Rattle.wave_value.specs.Private.ConstructorRules.{Tells, SaysLength, SaysType, SaysCase}
 use Rattle.wave_value.proofs.ValueLists.{some_mapped}
 use Rattle.wave_value.proofs.ValueMeans.{means, list_means, one_of}
 
@@ -81,13 +80,6 @@ list_made T own vs same h = record {
   tree = ap (λ U. list_value U (trees vs)) same;
   fits = subst (λ U. HasType U (list_value U (trees vs))) same (list_means own vs h);
 }
-
--- a type without an element type is no list
-pub no_list : (words : TypedValue → List ℕ) (T : TypeTree) (vs : List TypedValue) (e : WasmValueError) → None ≡ list_part T → SaysKind kinds.List T e → RefusesList words T vs e
-no_list words T vs (error.WrongTypeKind k t) none says =
-    (λ is. none-some _ (none ∙ ap list_part (formed_as kinds.FixedLengthList T (sym is)).1), λ is. none-some _ (none ∙ ap list_part (formed_as kinds.List T (sym is)).1), says.0, says.1)
-no_list words T vs (error.Memory e) none says = tt
-no_list words T vs _ none says = absurd says
 
 -- another count
 pub length_refused : (words : TypedValue → List ℕ) (T : TypeTree) (vs : List TypedValue) (e : WasmValueError) → SaysLength T (length vs) e → RefusesList words T vs e

@@ -122,70 +122,70 @@ impl Value {
     pub fn make_bool(_alloc: Global, val: bool) -> Result<Value, WasmValueError>
         ensures { MakesOnly (value.bool val) result }
     {
-        Ok(scalar(Type::BOOL, Scalar::Bool(val)))
+        Ok(scalar_value(Type::BOOL, Scalar::Bool(val)))
     }
 
     /// The value of `s8`. It is never refused.
     pub fn make_s8(_alloc: Global, val: i8) -> Result<Value, WasmValueError>
         ensures { MakesOnly (value.whole type.s8 val) result }
     {
-        Ok(scalar(Type::S8, Scalar::S8(val)))
+        Ok(scalar_value(Type::S8, Scalar::S8(val)))
     }
 
     /// The value of `s16`. It is never refused.
     pub fn make_s16(_alloc: Global, val: i16) -> Result<Value, WasmValueError>
         ensures { MakesOnly (value.whole type.s16 val) result }
     {
-        Ok(scalar(Type::S16, Scalar::S16(val)))
+        Ok(scalar_value(Type::S16, Scalar::S16(val)))
     }
 
     /// The value of `s32`. It is never refused.
     pub fn make_s32(_alloc: Global, val: i32) -> Result<Value, WasmValueError>
         ensures { MakesOnly (value.whole type.s32 val) result }
     {
-        Ok(scalar(Type::S32, Scalar::S32(val)))
+        Ok(scalar_value(Type::S32, Scalar::S32(val)))
     }
 
     /// The value of `s64`. It is never refused.
     pub fn make_s64(_alloc: Global, val: i64) -> Result<Value, WasmValueError>
         ensures { MakesOnly (value.whole type.s64 val) result }
     {
-        Ok(scalar(Type::S64, Scalar::S64(val)))
+        Ok(scalar_value(Type::S64, Scalar::S64(val)))
     }
 
     /// The value of `u8`. It is never refused.
     pub fn make_u8(_alloc: Global, val: u8) -> Result<Value, WasmValueError>
         ensures { MakesOnly (value.whole type.u8 (pos val)) result }
     {
-        Ok(scalar(Type::U8, Scalar::U8(val)))
+        Ok(scalar_value(Type::U8, Scalar::U8(val)))
     }
 
     /// The value of `u16`. It is never refused.
     pub fn make_u16(_alloc: Global, val: u16) -> Result<Value, WasmValueError>
         ensures { MakesOnly (value.whole type.u16 (pos val)) result }
     {
-        Ok(scalar(Type::U16, Scalar::U16(val)))
+        Ok(scalar_value(Type::U16, Scalar::U16(val)))
     }
 
     /// The value of `u32`. It is never refused.
     pub fn make_u32(_alloc: Global, val: u32) -> Result<Value, WasmValueError>
         ensures { MakesOnly (value.whole type.u32 (pos val)) result }
     {
-        Ok(scalar(Type::U32, Scalar::U32(val)))
+        Ok(scalar_value(Type::U32, Scalar::U32(val)))
     }
 
     /// The value of `u64`. It is never refused.
     pub fn make_u64(_alloc: Global, val: u64) -> Result<Value, WasmValueError>
         ensures { MakesOnly (value.whole type.u64 (pos val)) result }
     {
-        Ok(scalar(Type::U64, Scalar::U64(val)))
+        Ok(scalar_value(Type::U64, Scalar::U64(val)))
     }
 
     /// The value of `char`. It is never refused.
     pub fn make_char(_alloc: Global, val: char) -> Result<Value, WasmValueError>
         ensures { MakesOnly (value.char val) result }
     {
-        Ok(scalar(Type::CHAR, Scalar::Char(val)))
+        Ok(scalar_value(Type::CHAR, Scalar::Char(val)))
     }
 
     /// The value of `string`, a copy of this text. It is refused only for want of memory.
@@ -193,7 +193,7 @@ impl Value {
         ensures made { IfOk result (λ v. (v ≡ typed_leaf (value.string val.now)) × IsSound (value.string val.now)) }
         ensures refused { IfErr result IsMemory }
     {
-        Ok(scalar(Type::STRING, Scalar::String(String::from_str(alloc, val)?)))
+        Ok(scalar_value(Type::STRING, Scalar::String(String::from_str(alloc, val)?)))
     }
 
     /// The bool that the value is. It asks for a value of `bool`.
@@ -319,7 +319,7 @@ impl Value {
 }
 
 // The value of one token, of its simple type.
-fn scalar(own: Type, one: Scalar) -> Value
+fn scalar_value(own: Type, one: Scalar) -> Value
     requires { ScalarFits own (scalar_leaf one) }
     ensures { result ≡ typed_leaf (scalar_leaf one) }
 {

@@ -1,15 +1,15 @@
 use Rattle.std.proofs.Common.{subst, sym}
-use Rattle.wave_value.specs.TypedValue.{TypedValue, IsAt}
+use Rattle.std.proofs.lemmas.Result.{err_from_is_err_and}
+use Rattle.wave_value.specs.TypedValue.{IsAt}
 use Rattle.wave_value.specs.Private.ValueModel.{ListFits}
 use Rattle.wave_value.proofs.ValueLists.{all_more, all_items}
-use Rattle.wave_value.proofs.Made.{is_at, not_at, no_list, length_refused, list_fits, list_taken, list_made, list_refused}
+use Rattle.wave_value.proofs.Made.{is_at, not_at, length_refused, list_fits, list_taken, list_made, list_refused}
 use Rattle.wave_value.proofs.value.Value.list_of.Goals as goal
 
-pub returns-in_default-clause-refused : goal.returns-in_default-clause-refused
-returns-in_default-clause-refused g c = no_list g.S.ShowsValue.words _ _ _ c.in_default.ensures c.wrong_kind.ensures
-
 pub returns-in_err-check_length-clause-refused : goal.returns-in_err-check_length-clause-refused
-returns-in_err-check_length-clause-refused g c = length_refused g.S.ShowsValue.words _ _ _ c.in_err-check_length.ensures.refused
+returns-in_err-check_length-clause-refused g c =
+    let p = err_from_is_err_and c.from_residual.result c.from_residual.ensures.1 in
+    rw (p.1, p.2) (length_refused g.S.ShowsValue.words c.args.ty.now c.args.vals.items _ c.in_err-check_length.ensures.refused)
 
 pub returns-then-not-is_at-clause-refused : goal.returns-then-not-is_at-clause-refused
 returns-then-not-is_at-clause-refused g c =
