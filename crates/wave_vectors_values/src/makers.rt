@@ -264,7 +264,8 @@ fn the_length_is_of_the_type(rt: HostRuntime) -> Result<(), Fail> {
     assert!(rt; is_of(rt, &fixed, "list<u8, 3>")?);
     assert!(rt; fixed.kind() == WasmTypeKind::FixedLengthList);
     assert!(rt; fixed != list);
-    assert!(rt; fixed.unwrap_list(rt.alloc())? == list.unwrap_list(rt.alloc())?);
+    let items = fixed.unwrap_list(rt.alloc())?;
+    assert_eq!(rt; items.len(), 3);
     Ok(())
 }
 
