@@ -297,11 +297,12 @@ fn empty_kind(rt: HostRuntime) -> Result<&'static str, AllocError> {
     Ok("")
 }
 
-/// Whether a fixed-length list has its word as its text, and shows no element type.
+/// Whether a fixed-length list shows its element type and its length.
 fn is_fixed(rt: HostRuntime) -> Result<bool, Fail> {
     let ty = Type::fixed_length_list(rt.alloc(), Type::must_simple(WasmTypeKind::U8), 4)?;
     let text = ty.to_string(rt.alloc())?;
-    Ok(text.as_str() == "list<_,N>" && ty.list_element_type().is_none())
+    let element = ty.list_element_type() == Some(&Type::U8);
+    Ok(element && ty.list_length() == Some(4) && text.as_str() == "list<u8, 4>")
 }
 
 #[test]
