@@ -46,6 +46,7 @@ full name.Status = ((apart _ _ refl, tt), (tt, tt))
 full name.Response = (((apart _ _ refl, (apart _ _ refl, tt)), ((apart _ _ refl, tt), (tt, tt))), (tt, (tt, (tt, tt))))
 full name.Example = (((apart _ _ refl, tt), (tt, tt)), (tt, (tt, tt)))
 full name.Counts = tt
+full name.Quad = tt
 
 -- what was read at a named type
 abbrev IsReadAt : TypeName → List ℕ → TypedValue → Type 0

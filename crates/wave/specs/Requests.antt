@@ -26,6 +26,7 @@ word_of name.Status = codes "status"
 word_of name.Response = codes "response"
 word_of name.Example = codes "example"
 word_of name.Counts = codes "counts"
+word_of name.Quad = codes "quad"
 
 -- the words that make the request
 abbrev pub words_of : Request → List (List ℕ)
@@ -64,6 +65,10 @@ example_type = type.record_type (fields_of (
 abbrev pub counts_type : TypeTree
 counts_type = type.map type.string (type.simple (type.whole type.u32))
 
+-- `list<u8, 4>`
+abbrev pub quad_type : TypeTree
+quad_type = type.fixed (type.simple (type.whole type.u8)) 4
+
 -- the type that the name stands for
 abbrev pub type_of : TypeName → TypeTree
 type_of name.Bool = type.simple type.bool
@@ -83,6 +88,7 @@ type_of name.Status = status_type
 type_of name.Response = response_type
 type_of name.Example = example_type
 type_of name.Counts = counts_type
+type_of name.Quad = quad_type
 
 -- the words make no request
 abbrev pub AreUnknown : List (List ℕ) → Type 0

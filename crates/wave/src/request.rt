@@ -30,6 +30,8 @@ pub enum TypeName {
     Example,
     /// `map<string, u32>`.
     Counts,
+    /// `list<u8, 4>`.
+    Quad,
 }
 
 /// What the program is to do.
@@ -67,6 +69,7 @@ fn type_name(word: &str) -> Option<TypeName>
         "response" => Some(TypeName::Response),
         "example" => Some(TypeName::Example),
         "counts" => Some(TypeName::Counts),
+        "quad" => Some(TypeName::Quad),
         _ => None,
     }
 }

@@ -1,6 +1,6 @@
 // The types that the program reads at.
 ghost use Rattle.std.specs.Prelude.{◌≡◌, IfOk};
-ghost use Rattle.wave.specs.Requests.{type_of, bytes_type, perms_type, status_type, response_type, example_type, counts_type};
+ghost use Rattle.wave.specs.Requests.{type_of, bytes_type, perms_type, status_type, response_type, example_type, counts_type, quad_type};
 
 use crate::request::TypeName;
 use std::alloc::{AllocError, Global};
@@ -28,6 +28,7 @@ pub fn type_of(alloc: Global, name: TypeName) -> Result<Type, AllocError>
         TypeName::Response => response_type(alloc),
         TypeName::Example => example_type(alloc),
         TypeName::Counts => counts_type(alloc),
+        TypeName::Quad => quad_type(alloc),
     }
 }
 
@@ -78,4 +79,11 @@ fn counts_type(alloc: Global) -> Result<Type, AllocError>
     ensures { IfOk result (λ t. t ≡ counts_type) }
 {
     Ok(Type::map(alloc, Type::STRING, Type::U32)?.unwrap())
+}
+
+/// `list<u8, 4>`.
+fn quad_type(alloc: Global) -> Result<Type, AllocError>
+    ensures { IfOk result (λ t. t ≡ quad_type) }
+{
+    Type::fixed_length_list(alloc, Type::U8, 4)
 }

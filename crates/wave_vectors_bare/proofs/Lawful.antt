@@ -1,15 +1,17 @@
 -- A `Bare` means what the laws of values ask.
-use Rattle.std.proofs.Common.{◌≡◌, ℕ, zero, suc, ◌<◌, ◌≤◌, ◌+◌, length, take, get_or, List, [], ◌∷◌, map, Some, refl, sym, ap, subst, ◌∙◌, rules, Vec, Global, arith}
+use Rattle.std.proofs.Common.{◌≡◌, ℕ, zero, suc, ◌<◌, ◌≤◌, ◌+◌, length, take, get_or, List, [], ◌∷◌, map, Some, None, refl, sym, ap, subst, ◌∙◌, rules, Vec, Global, arith}
 use Rattle.std.proofs.Math.Numerals.{add-one}
-use Rattle.std.proofs.lemmas.List.{take_all}
+use Rattle.std.proofs.lemmas.List.{take_all, length-map}
 use Rattle.wave_wasm.specs.Lists.{AllOf}
 use Rattle.wave_wasm.specs.Types as type
-use Rattle.wave_wasm.specs.Types.{TypeTree, list_part}
+use Rattle.wave_wasm.specs.Types.{TypeTree, list_part, list_length}
 use Rattle.wave_wasm.specs.Values as value
 use Rattle.wave_wasm.specs.Values.{Value, values, value_list, list_items, IsWellFormed, AreWellFormed}
 use Rattle.wave_wasm.specs.HasType.{HasType}
+use Rattle.wave_wasm.specs.ConstructorContracts.{MakesList, list_value}
 use Rattle.wave_wasm.specs.declared.wasm.WasmTypeKind.{WasmTypeKind}
 use Rattle.wave_vectors_bare.specs.BareTree.{least, tree, one_level}
+use Rattle.wave_vectors_bare.specs.Refusals.{AreElements}
 use Rattle.wave_vectors_bare.specs.declared.bare.Bare.{Bare, List as list_of, Fixed as fixed_of, the_lemmas}
 use Rattle.wave_vectors_bare.specs.declared.bare.Bare.TheOpen.{Bare-F}
 use Rattle.wave_vectors_bare.specs.declared.bare.Bare.TheViews.{roll-Bare}
@@ -71,14 +73,34 @@ module _ {A : Type 0} (P : A → Type 0) where
   all_items xs ys i same le h = subst (AllOf P) (take_all i xs le ∙ same) h
 
 -- the trees of items that are values at a type
-trees_at : (E : TypeTree) (bs : List Bare) → AllOf (λ b. HasType E (tree b)) bs → AllOf (HasType E) (map tree bs)
+pub trees_at : (E : TypeTree) (bs : List Bare) → AllOf (λ b. HasType E (tree b)) bs → AllOf (HasType E) (map tree bs)
 trees_at E [] h = tt
 trees_at E (b ∷ bs) h = (h.0, trees_at E bs h.1)
 
--- a list of values at the element type is a value at the type
-pub list_at : (T E : TypeTree) (bs : List Bare) → Some E ≡ list_part T → AllOf (λ b. HasType E (tree b)) bs → HasType T (value.list (values (map tree bs)))
-list_at (type.list D) E bs e h = let same : E ≡ D = cc e in (map tree bs, trees_at D bs (subst (λ F. AllOf (λ b. HasType F (tree b)) bs) same h), refl)
-list_at _ E bs e h = absurd (cc e)
+-- elements of a type without a length are a list at it, and the list that it asks for
+pub list_at : (T : TypeTree) (vs : List Value) → None ≡ list_length T → AreElements T vs → HasType T (value.list (values vs)) × (value.list (values vs) ≡ list_value T vs)
+list_at (type.list D) vs none (E, e, h) = let same : E ≡ D = cc e in ((vs, subst (λ F. AllOf (HasType F) vs) same h, refl), refl)
+list_at (type.fixed D n) vs none h = absurd (cc none)
+list_at _ vs none (E, e, h) = absurd (cc e)
 
-pub is_at_list : (T E : TypeTree) (v : Vec Bare Global) → Some E ≡ list_part T → AllOf (λ b. HasType E (tree b)) v.items → HasType T (tree (list_of v))
-is_at_list T E v e h = subst (HasType T) (sym (tree_list v)) (list_at T E v.items e h)
+-- as many elements as a type asks for are a fixed-length list at it, and the list that it asks for
+pub fixed_at : (T : TypeTree) (vs : List Value) (n : ℕ) → Some n ≡ list_length T → length vs ≡ n → AreElements T vs → HasType T (value.fixed (values vs)) × (value.fixed (values vs) ≡ list_value T vs)
+fixed_at (type.fixed D m) vs n some count (E, e, h) = let same : E ≡ D = cc e in let as_many : n ≡ m = cc some in ((vs, subst (λ F. AllOf (HasType F) vs) same h, count ∙ as_many, refl), refl)
+fixed_at _ vs n some count h = absurd (cc some)
+
+pub is_list_at : (T : TypeTree) (v : Vec Bare Global) → None ≡ list_length T → AreElements T (map tree v.items) → HasType T (tree (list_of v))
+is_list_at T v none h = subst (HasType T) (sym (tree_list v)) (list_at T _ none h).0
+
+pub is_fixed_at : (T : TypeTree) (v : Vec Bare Global) (n : ℕ) → Some n ≡ list_length T → length v.items ≡ n → AreElements T (map tree v.items) → HasType T (tree (fixed_of v))
+is_fixed_at T v n some count h = subst (HasType T) (sym (tree_fixed v)) (fixed_at T _ n some (length-map v.items tree ∙ count) h).0
+
+-- what `make_list` makes
+pub makes_list : (T : TypeTree) (v : Vec Bare Global) → None ≡ list_length T → AreElements T (map tree v.items) → MakesList tree (λ b U. HasType U (tree b)) T v.items (list_of v)
+makes_list T v none h =
+    let at = list_at T _ none h in
+    λ distinct. record { means = tree_list v ∙ at.1; fits = subst (HasType T) at.1 at.0; is_of = is_list_at T v none h }
+
+pub makes_fixed : (T : TypeTree) (v : Vec Bare Global) (n : ℕ) → Some n ≡ list_length T → length v.items ≡ n → AreElements T (map tree v.items) → MakesList tree (λ b U. HasType U (tree b)) T v.items (fixed_of v)
+makes_fixed T v n some count h =
+    let at = fixed_at T _ n some (length-map v.items tree ∙ count) h in
+    λ distinct. record { means = tree_fixed v ∙ at.1; fits = subst (HasType T) at.1 at.0; is_of = is_fixed_at T v n some count h }

@@ -4,7 +4,7 @@ ghost use Rattle.wave_wasm.specs.Lists.{AllOf};
 ghost use Rattle.wave_wasm.specs.HasType.{HasType};
 ghost use Rattle.wave_wasm.specs.Borrowed.{shown_all};
 ghost use Rattle.wave_vectors_bare.specs.BareTree.{tree};
-ghost use Rattle.wave_vectors_bare.specs.Refusals.{MakesNone};
+ghost use Rattle.wave_vectors_bare.specs.Refusals.{AreElements, MakesNone};
 
 use std::alloc::{AllocError, Global};
 use wave_type::ty::Type;
@@ -15,7 +15,7 @@ use wave_wasm::wasm::{WasmType, WasmTypeKind, WasmValue, WasmValueError};
 pub enum Bare {
     /// A list of these items.
     List(Vec<Bare>),
-    /// A fixed-length list of these items. No maker makes one.
+    /// A fixed-length list of these items.
     Fixed(Vec<Bare>),
     /// A value of a kind that has no text. No maker makes one.
     Unsupported,
@@ -26,11 +26,11 @@ pub enum Bare {
 }
 
 impl WasmValue for Bare {
-    ghost use Rattle.std.specs.Prelude.{IfOk, IfErr};
+    ghost use Rattle.std.specs.Prelude.{IfOk, IfErr, length};
     ghost use Rattle.wave_wasm.specs.HasType.{HasType};
     ghost use Rattle.wave_wasm.specs.ConstructorContracts.{MakesList, FullList};
     ghost use Rattle.wave_vectors_bare.specs.BareTree.{tree as tree_of};
-    ghost use Rattle.wave_vectors_bare.specs.Refusals.{MakesNone, RefusesKind};
+    ghost use Rattle.wave_vectors_bare.specs.Refusals.{MakesNone, RefusesList};
 
     type Type = Type;
 
@@ -124,14 +124,19 @@ impl WasmValue for Bare {
     fn make_list(alloc: Global, ty: &Type, vals: Vec<Bare>) -> Result<Bare, WasmValueError>
         ensures made { IfOk result (MakesList tree_of (λ v T. HasType T (tree_of v)) ty.now vals.items) }
         ensures full { IfErr result (FullList (λ v T. HasType T (tree_of v)) (λ T. ⊥) ty.now vals.items) }
-        ensures refused { IfErr result (RefusesKind WasmTypeKind.List) }
+        ensures refused { IfErr result (RefusesList ty.now (length vals.items)) }
     {
-        if let Some(element) = ty.list_element_type()
-            && are_at(&vals, element)
-        {
-            return Ok(Bare::List(vals));
+        if !are_elements(&vals, ty) {
+            return unsupported(alloc, WasmTypeKind::List);
         }
-        unsupported(alloc, WasmTypeKind::List)
+        let Some(want) = ty.list_length() else {
+            return Ok(Bare::List(vals));
+        };
+        let got = vals.len();
+        if got != want as usize {
+            return Err(WasmValueError::WrongNumberOfElements { want, got });
+        }
+        Ok(Bare::Fixed(vals))
     }
 
     fn make_tuple(alloc: Global, _ty: &Type, _vals: Vec<Bare>) -> Result<Bare, WasmValueError>
@@ -284,17 +289,29 @@ impl WasmValue for Bare {
     }
 }
 
-// Whether the value is a list at the type, of lists that are so at its element type.
+// Whether the value is a list or fixed-length list at the type, of items that are so at its element
+// type.
 #[cycle(at)]
 fn is_at(value: &Bare, ty: &Type) -> bool
     ensures { IsTrue result → HasType ty.now (tree value.now) }
 {
-    match value {
-        Bare::List(items) => match ty.list_element_type() {
-            Some(element) => are_at(items, element),
-            None => false,
-        },
+    match (value, ty.list_length()) {
+        (Bare::List(items), None) => are_elements(items, ty),
+        (Bare::Fixed(items), Some(count)) => {
+            items.len() == count as usize && are_elements(items, ty)
+        }
         _ => false,
+    }
+}
+
+// Whether the type has an element type, and each of the items is at it.
+#[cycle(at)]
+fn are_elements(items: &Vec<Bare>, ty: &Type) -> bool
+    ensures { IsTrue result → AreElements ty.now (map tree items.now.items) }
+{
+    match ty.list_element_type() {
+        Some(element) => are_at(items, element),
+        None => false,
     }
 }
 

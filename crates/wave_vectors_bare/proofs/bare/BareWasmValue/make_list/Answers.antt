@@ -1,7 +1,10 @@
-use Rattle.std.proofs.Common.{refl}
-use Rattle.wave_vectors_bare.proofs.Lawful.{list_at, is_at_list, tree_list}
+use Rattle.std.proofs.Common.{refl, sym, ◌∙◌}
+use Rattle.wave_vectors_bare.proofs.Lawful.{makes_list, makes_fixed}
 use Rattle.wave_vectors_bare.proofs.bare.BareWasmValue.make_list.Goals as goal
+
+pub returns-in_default-clause-made : goal.returns-in_default-clause-made
+returns-in_default-clause-made c = makes_list c.args.ty.now c.args.vals c.in_default.ensures (c.if-not-are_elements.ensures refl)
 
 pub returns-clause-made : goal.returns-clause-made
 returns-clause-made c =
-    λ distinct. record { means = tree_list c.args.vals; fits = list_at _ _ c.args.vals.items c.in-Some.ensures (c.if-are_at.ensures refl); is_of = is_at_list _ _ c.args.vals c.in-Some.ensures (c.if-are_at.ensures refl) }
+    makes_fixed c.args.ty.now c.args.vals c.in-Some.want c.in-Some.ensures (sym c.args.vals.ok.0 ∙ (sym c.len-got.ensures ∙ c.if-got-want.false)) (c.if-not-are_elements.ensures refl)
