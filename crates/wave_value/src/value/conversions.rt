@@ -1,12 +1,13 @@
 //! Rust values as values of component types. Nothing is refused, and no memory is taken: a text is
 //! moved.
+ghost use Rattle.std.specs.Prelude.{◌≡◌, pos, string_bytes};
+ghost use Rattle.wave_wasm.specs.Types as type;
+ghost use Rattle.wave_wasm.specs.Values as value;
+ghost use Rattle.wave_value.specs.TypedValue.{typed_leaf};
+
 use super::{Scalar, Type, Value, scalar_value};
 
 impl From<bool> for Value {
-    ghost use Rattle.std.specs.Prelude.{◌≡◌};
-    ghost use Rattle.wave_wasm.specs.Values as value;
-    ghost use Rattle.wave_value.specs.TypedValue.{typed_leaf};
-
     ghost from_gives = { λ val made. made ≡ typed_leaf (value.bool val) };
 
     fn from(val: bool) -> Value {
@@ -15,11 +16,6 @@ impl From<bool> for Value {
 }
 
 impl From<i8> for Value {
-    ghost use Rattle.std.specs.Prelude.{◌≡◌};
-    ghost use Rattle.wave_wasm.specs.Types as type;
-    ghost use Rattle.wave_wasm.specs.Values as value;
-    ghost use Rattle.wave_value.specs.TypedValue.{typed_leaf};
-
     ghost from_gives = { λ val made. made ≡ typed_leaf (value.whole type.s8 val) };
 
     fn from(val: i8) -> Value {
@@ -28,11 +24,6 @@ impl From<i8> for Value {
 }
 
 impl From<i16> for Value {
-    ghost use Rattle.std.specs.Prelude.{◌≡◌};
-    ghost use Rattle.wave_wasm.specs.Types as type;
-    ghost use Rattle.wave_wasm.specs.Values as value;
-    ghost use Rattle.wave_value.specs.TypedValue.{typed_leaf};
-
     ghost from_gives = { λ val made. made ≡ typed_leaf (value.whole type.s16 val) };
 
     fn from(val: i16) -> Value {
@@ -41,11 +32,6 @@ impl From<i16> for Value {
 }
 
 impl From<i32> for Value {
-    ghost use Rattle.std.specs.Prelude.{◌≡◌};
-    ghost use Rattle.wave_wasm.specs.Types as type;
-    ghost use Rattle.wave_wasm.specs.Values as value;
-    ghost use Rattle.wave_value.specs.TypedValue.{typed_leaf};
-
     ghost from_gives = { λ val made. made ≡ typed_leaf (value.whole type.s32 val) };
 
     fn from(val: i32) -> Value {
@@ -54,11 +40,6 @@ impl From<i32> for Value {
 }
 
 impl From<i64> for Value {
-    ghost use Rattle.std.specs.Prelude.{◌≡◌};
-    ghost use Rattle.wave_wasm.specs.Types as type;
-    ghost use Rattle.wave_wasm.specs.Values as value;
-    ghost use Rattle.wave_value.specs.TypedValue.{typed_leaf};
-
     ghost from_gives = { λ val made. made ≡ typed_leaf (value.whole type.s64 val) };
 
     fn from(val: i64) -> Value {
@@ -67,11 +48,6 @@ impl From<i64> for Value {
 }
 
 impl From<u8> for Value {
-    ghost use Rattle.std.specs.Prelude.{◌≡◌, pos};
-    ghost use Rattle.wave_wasm.specs.Types as type;
-    ghost use Rattle.wave_wasm.specs.Values as value;
-    ghost use Rattle.wave_value.specs.TypedValue.{typed_leaf};
-
     ghost from_gives = { λ val made. made ≡ typed_leaf (value.whole type.u8 (pos val)) };
 
     fn from(val: u8) -> Value {
@@ -80,11 +56,6 @@ impl From<u8> for Value {
 }
 
 impl From<u16> for Value {
-    ghost use Rattle.std.specs.Prelude.{◌≡◌, pos};
-    ghost use Rattle.wave_wasm.specs.Types as type;
-    ghost use Rattle.wave_wasm.specs.Values as value;
-    ghost use Rattle.wave_value.specs.TypedValue.{typed_leaf};
-
     ghost from_gives = { λ val made. made ≡ typed_leaf (value.whole type.u16 (pos val)) };
 
     fn from(val: u16) -> Value {
@@ -93,11 +64,6 @@ impl From<u16> for Value {
 }
 
 impl From<u32> for Value {
-    ghost use Rattle.std.specs.Prelude.{◌≡◌, pos};
-    ghost use Rattle.wave_wasm.specs.Types as type;
-    ghost use Rattle.wave_wasm.specs.Values as value;
-    ghost use Rattle.wave_value.specs.TypedValue.{typed_leaf};
-
     ghost from_gives = { λ val made. made ≡ typed_leaf (value.whole type.u32 (pos val)) };
 
     fn from(val: u32) -> Value {
@@ -106,11 +72,6 @@ impl From<u32> for Value {
 }
 
 impl From<u64> for Value {
-    ghost use Rattle.std.specs.Prelude.{◌≡◌, pos};
-    ghost use Rattle.wave_wasm.specs.Types as type;
-    ghost use Rattle.wave_wasm.specs.Values as value;
-    ghost use Rattle.wave_value.specs.TypedValue.{typed_leaf};
-
     ghost from_gives = { λ val made. made ≡ typed_leaf (value.whole type.u64 (pos val)) };
 
     fn from(val: u64) -> Value {
@@ -119,10 +80,6 @@ impl From<u64> for Value {
 }
 
 impl From<char> for Value {
-    ghost use Rattle.std.specs.Prelude.{◌≡◌};
-    ghost use Rattle.wave_wasm.specs.Values as value;
-    ghost use Rattle.wave_value.specs.TypedValue.{typed_leaf};
-
     ghost from_gives = { λ val made. made ≡ typed_leaf (value.char val) };
 
     fn from(val: char) -> Value {
@@ -131,10 +88,6 @@ impl From<char> for Value {
 }
 
 impl From<String> for Value {
-    ghost use Rattle.std.specs.Prelude.{◌≡◌, string_bytes};
-    ghost use Rattle.wave_wasm.specs.Values as value;
-    ghost use Rattle.wave_value.specs.TypedValue.{typed_leaf};
-
     ghost from_gives = { λ val made. made ≡ typed_leaf (value.string (string_bytes val)) };
 
     fn from(val: String) -> Value {
