@@ -25,7 +25,7 @@ mod views;
 mod wasm_value;
 
 // A value of one token.
-#[derive(Debug, Drop)]
+#[derive(Clone, PartialEq, Debug, Drop)]
 enum Scalar {
     Bool(bool),
     S8(i8),
@@ -329,32 +329,13 @@ fn scalar_value(own: Type, one: Scalar) -> Value
     }
 }
 
-// A copy of a value of one token.
-fn clone_scalar(alloc: Global, one: &Scalar) -> Result<Scalar, AllocError>
-    ensures { IfOk result (λ c. scalar_leaf c ≡ scalar_leaf one.now) }
-{
-    match one {
-        Scalar::Bool(val) => Ok(Scalar::Bool(*val)),
-        Scalar::S8(val) => Ok(Scalar::S8(*val)),
-        Scalar::S16(val) => Ok(Scalar::S16(*val)),
-        Scalar::S32(val) => Ok(Scalar::S32(*val)),
-        Scalar::S64(val) => Ok(Scalar::S64(*val)),
-        Scalar::U8(val) => Ok(Scalar::U8(*val)),
-        Scalar::U16(val) => Ok(Scalar::U16(*val)),
-        Scalar::U32(val) => Ok(Scalar::U32(*val)),
-        Scalar::U64(val) => Ok(Scalar::U64(*val)),
-        Scalar::Char(val) => Ok(Scalar::Char(*val)),
-        Scalar::String(val) => Ok(Scalar::String(String::from_str(alloc, val.as_str())?)),
-    }
-}
-
 // A copy of the content.
 #[cycle(clone)]
 fn clone_content(alloc: Global, content: &Content) -> Result<Content, AllocError>
     ensures { IfOk result (λ c. IsAsGood c content.now) }
 {
     match content {
-        Content::Scalar(one) => Ok(Content::Scalar(clone_scalar(alloc, one)?)),
+        Content::Scalar(one) => Ok(Content::Scalar(one.clone()?)),
         Content::List(vals) => Ok(Content::List(clone_values(alloc, vals)?)),
         Content::Record(vals) => Ok(Content::Record(clone_values(alloc, vals)?)),
         Content::Tuple(vals) => Ok(Content::Tuple(clone_values(alloc, vals)?)),

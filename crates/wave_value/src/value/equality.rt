@@ -3,11 +3,10 @@ ghost use Rattle.std.specs.Prelude.{◌≡◌, map};
 ghost use Rattle.std.specs.Str.{bytes_eq};
 ghost use Rattle.std.specs.Cmp.Lexicographic.{pointwise};
 ghost use Rattle.wave_wasm.specs.Types.{flags_names};
-ghost use Rattle.wave_wasm.specs.Merge.{leaf_eq};
-ghost use Rattle.wave_value.specs.ValueModel.{scalar_leaf, name_at, boxed};
+ghost use Rattle.wave_value.specs.ValueModel.{name_at, boxed};
 ghost use Rattle.wave_value.specs.ContentEquality.{same_all, same_pairs, same_option, same_content};
 
-use super::{Content, Scalar, Type, Value};
+use super::{Content, Type, Value};
 use std::boxed::Box;
 use wave_type::ty::places::{enum_name, flag_name, variant_name};
 
@@ -36,7 +35,7 @@ fn same_content(own: &Type, a: &Content, b: &Content) -> bool
     ensures { result ≡ same_content own.now a.now b.now }
 {
     match (a, b) {
-        (Content::Scalar(a), Content::Scalar(b)) => same_scalar(a, b),
+        (Content::Scalar(a), Content::Scalar(b)) => *a == *b,
         (Content::List(a), Content::List(b)) => same_values(a, b),
         (Content::Record(a), Content::Record(b)) => same_values(a, b),
         (Content::Tuple(a), Content::Tuple(b)) => same_values(a, b),
@@ -49,26 +48,6 @@ fn same_content(own: &Type, a: &Content, b: &Content) -> bool
         (Content::Err(a), Content::Err(b)) => same_payload(a, b),
         (Content::Flags(a), Content::Flags(b)) => same_flags(own, a, b),
         (Content::Map(a), Content::Map(b)) => same_entries(a, b),
-        _ => false,
-    }
-}
-
-// Whether the values of one token are equal.
-fn same_scalar(a: &Scalar, b: &Scalar) -> bool
-    ensures { result ≡ leaf_eq (scalar_leaf a.now) (scalar_leaf b.now) }
-{
-    match (a, b) {
-        (Scalar::Bool(a), Scalar::Bool(b)) => *a == *b,
-        (Scalar::S8(a), Scalar::S8(b)) => *a == *b,
-        (Scalar::S16(a), Scalar::S16(b)) => *a == *b,
-        (Scalar::S32(a), Scalar::S32(b)) => *a == *b,
-        (Scalar::S64(a), Scalar::S64(b)) => *a == *b,
-        (Scalar::U8(a), Scalar::U8(b)) => *a == *b,
-        (Scalar::U16(a), Scalar::U16(b)) => *a == *b,
-        (Scalar::U32(a), Scalar::U32(b)) => *a == *b,
-        (Scalar::U64(a), Scalar::U64(b)) => *a == *b,
-        (Scalar::Char(a), Scalar::Char(b)) => *a == *b,
-        (Scalar::String(a), Scalar::String(b)) => a.as_str() == b.as_str(),
         _ => false,
     }
 }
