@@ -8,19 +8,8 @@ use Rattle.wave_wasm.specs.declared.wasm.WasmTypeKind.TheVariants as kinds
 use Rattle.wave_wasm.specs.declared.wasm.WasmValueError.{WasmValueError}
 use Rattle.wave_wasm.specs.declared.wasm.WasmValueError.TheVariants as error
 use Rattle.wave_value.specs.TypedValue.{TypedValue}
-use Rattle.wave_value.specs.ConstructorRules.{AllOwn, EachOwn, PayloadOwn, TakesList, TakesTuple, TakesOption, TakesResult, value_text, list_stated, option_stated, each_stated, RefusesParts, RefusesTuple, RefusesPayload, RefusesResult}
+use Rattle.wave_value.specs.ConstructorRules.{EachOwn, PayloadOwn, TakesTuple, TakesOption, TakesResult, value_text, option_stated, each_stated, RefusesParts, RefusesTuple, RefusesPayload, RefusesResult}
 use Rattle.wave_value.proofs.Lawful.{IsAsStated, none_other, no_refusal}
-
--- ---- lists
-
--- items of the element type are as they are stated
-own_items : (E : TypeTree) (vs : List TypedValue) → AllOwn E vs → AllOf IsAsStated (list_stated (type.list E) vs)
-own_items E [] h = tt
-own_items E (v ∷ vs) h = (h.0, own_items E vs h.1)
-
-pub list_memory : (T : TypeTree) (vs : List TypedValue) (e : WasmValueError) → TakesList T vs → RefusesParts value_text kinds.List T (list_stated T vs) e → IsMemory e
-list_memory (type.list E) vs e h r = no_refusal value_text kinds.List (type.list E) (list_stated (type.list E) vs) e refl (own_items E vs h) r
-list_memory _ vs e h r = absurd h
 
 -- ---- options
 

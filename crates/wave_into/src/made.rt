@@ -53,11 +53,11 @@ fn unless_memory(made: Result<Value, WasmValueError>) -> Result<Value, AllocErro
     }
 }
 
-// The list of these items, each of the element type.
-#[tactic(auto, using(crate::proofs::Taken::list_memory))]
+// The list of these items, each of the element type, or the fixed-length list of as many as its length.
+#[tactic(auto, using(wave_value::proofs::Lawful::list_memory))]
 pub(crate) fn list_of(alloc: Global, ty: &Type, vals: Vec<Value>) -> Result<Value, AllocError>
     requires { TakesList ty.now vals.items }
-    ensures { IfOk result (Made (value.list (values (trees vals.items))) ty.now) }
+    ensures { IfOk result (Made (constructor.list_value ty.now (trees vals.items)) ty.now) }
 {
     unless_memory(Value::make_list(alloc, ty, vals))
 }

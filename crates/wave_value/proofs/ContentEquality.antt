@@ -2,6 +2,8 @@
 use Rattle.std.proofs.Common.{◌≡◌, ℕ, zero, suc, Bool, true, false, refl, sym, ap, subst, ◌∙◌, List, [], ◌∷◌, map, length, Option, Some, None}
 use Rattle.std.specs.Prelude.{◌&&◌}
 use Rattle.std.specs.Cmp.{both_ways}
+use Rattle.std.specs.declared.alloc.Global.{Global}
+use Rattle.std.specs.declared.vec.Vec.{Vec}
 use Rattle.std.specs.Cmp.Lexicographic.{pointwise}
 use Rattle.std.specs.Str.{bytes_eq}
 use Rattle.std.proofs.lemmas.Slice.Eq.{bytes_eq-Decides}
@@ -10,6 +12,7 @@ use Rattle.wave_wasm.specs.Types.{TypeTree, Simple, type_list, field_list, case_
 use Rattle.wave_wasm.specs.TypeTreeEncoding.{stored_name, stored_names}
 use Rattle.wave_wasm.specs.Values as value
 use Rattle.wave_wasm.specs.Values.{Leaf, Value, values, field_values, entries, maybe_value}
+use Rattle.wave_wasm.specs.ConstructorContracts.{list_value}
 use Rattle.wave_type.specs.TypeEquality.{same_tree}
 use Rattle.wave_type.proofs.TypeEqual.{and_false}
 use Rattle.wave_type.specs.TypeEqualityLaws.{same_itself}
@@ -27,6 +30,9 @@ use Rattle.wave_value.proofs.ValueEquality.{same_leaf}
 and_true : (b : Bool) → b ≡ (b && true)
 and_true true = refl
 and_true false = refl
+
+wrapped : {a b : Bool} → a ≡ b → a ≡ (b && true)
+wrapped e = e ∙ and_true _
 
 -- names stored are compared as their bytes
 names_same : (m n : List ℕ) → bytes_eq m n ≡ same_stored (stored_name m) (stored_name n)
@@ -100,9 +106,23 @@ variant_same (type.variant cs) i j p q h k =
     (λ e. cases_same (case_list cs) i j p q h k ((bytes_eq-Decides (name_at (first_names (case_list cs)) i) (name_at (first_names (case_list cs)) j)).0 e))
 variant_same _ i j p q h k = absurd h
 
-list_same : (T : TypeTree) (vs ws : List TypedValue) → ListFits T vs → ListFits T ws → same_all vs ws ≡ same_stored (stored_values (values (trees vs))) (stored_values (values (trees ws)))
-list_same (type.list E) vs ws h k = all_same E vs ws h k
+list_same : (T : TypeTree) (vs ws : List TypedValue) → ListFits T vs → ListFits T ws → same_all vs ws ≡ same_value (list_value T (trees vs)) (list_value T (trees ws))
+list_same (type.list E) vs ws h k = wrapped (all_same E vs ws h k)
+list_same (type.fixed E n) vs ws h k = wrapped (all_same E vs ws h.1 k.1)
 list_same _ vs ws h k = absurd h
+
+-- a list beside another content, in either order
+list_first : (T : TypeTree) (vs : Vec TypedValue Global) (b : Content) → Fits T (contents.List vs) → Fits T b → same_content T (contents.List vs) b ≡ same_value (content_tree T (contents.List vs)) (content_tree T b)
+list_first T vs (contents.List ws) h k = list_same T vs.items ws.items h k
+list_first (type.list E) vs _ h k = refl
+list_first (type.fixed E n) vs _ h k = refl
+list_first _ vs b h k = absurd h
+
+list_second : (T : TypeTree) (a : Content) (ws : Vec TypedValue Global) → Fits T a → Fits T (contents.List ws) → same_content T a (contents.List ws) ≡ same_value (content_tree T a) (content_tree T (contents.List ws))
+list_second T (contents.List vs) ws h k = list_same T vs.items ws.items h k
+list_second (type.list E) _ ws h k = refl
+list_second (type.fixed E n) _ ws h k = refl
+list_second _ a ws h k = absurd k
 
 tuple_same : (T : TypeTree) (vs ws : List TypedValue) → TupleFits T vs → TupleFits T ws → same_all vs ws ≡ same_stored (stored_values (values (trees vs))) (stored_values (values (trees ws)))
 tuple_same (type.tuple Ts) vs ws h k = each_same (type_list Ts) vs ws h k
@@ -149,13 +169,11 @@ map_same : (T : TypeTree) (ds es : List (TypedValue × TypedValue)) → MapFits 
 map_same (type.map K V) ds es h k = pairs_same K V ds es h k
 map_same _ ds es h k = absurd h
 
-wrapped : {a b : Bool} → a ≡ b → a ≡ (b && true)
-wrapped e = e ∙ and_true _
-
 -- the code's comparison says whether the values are one
 pub content_same : (T : TypeTree) (a b : Content) → Fits T a → Fits T b → same_content T a b ≡ same_value (content_tree T a) (content_tree T b)
+content_same T (contents.List vs) b h k = list_first T vs b h k
+content_same T a (contents.List ws) h k = list_second T a ws h k
 content_same T (contents.Scalar a) (contents.Scalar b) h k = sym (same_leaf (scalar_leaf a) (scalar_leaf b))
-content_same T (contents.List vs) (contents.List ws) h k = wrapped (list_same T vs.items ws.items h k)
 content_same T (contents.Record vs) (contents.Record ws) h k = wrapped (record_same T vs.items ws.items h k)
 content_same T (contents.Tuple vs) (contents.Tuple ws) h k = wrapped (tuple_same T vs.items ws.items h k)
 content_same T (contents.Variant i p) (contents.Variant j q) h k = variant_same T i j (boxed p) (boxed q) h k

@@ -1,17 +1,19 @@
 -- From what `Value` makes and refuses to the laws of values.
-use Rattle.std.proofs.Common.{◌≡◌, ℕ, suc, List, [], ◌∷◌, inl, inr, length, codes, sym, ap, subst, ◌∙◌, refl, Option, Some, None, Result, Ok, Err}
+use Rattle.std.proofs.Common.{◌≡◌, ℕ, suc, List, [], ◌∷◌, inl, inr, map, length, codes, sym, ap, subst, ◌∙◌, refl, Option, Some, None, Result, Ok, Err}
 use Rattle.std.specs.Prelude.{IfOk, IfErr}
+use Rattle.std.proofs.lemmas.Option.{same_Some}
 use Rattle.wave_wasm.specs.Types as type
 use Rattle.wave_wasm.specs.Types.{TypeTree, Types, MaybeType, type_list, type_option, kind_of}
 use Rattle.wave_wasm.specs.Values as value
 use Rattle.wave_wasm.specs.Values.{Value, Leaf, leaf_type, IsSound, IsWellFormed, values, maybe_value}
 use Rattle.wave_wasm.specs.HasType.{HasType}
-use Rattle.wave_wasm.specs.ConstructorContracts.{IsMemory, Makes, MakesLeaf, AreOf, OptionIsOf, PayloadIsOf, EitherIsOf, FullLeaf, FullList, FullTuple, FullEnum, FullOption, FullResult}
+use Rattle.wave_wasm.specs.ConstructorContracts.{IsMemory, IsListOf, Makes, MakesLeaf, AreOf, OptionIsOf, PayloadIsOf, EitherIsOf, FullLeaf, FullList, FullTuple, FullEnum, FullOption, FullResult}
 use Rattle.wave_wasm.specs.declared.wasm.WasmValueError.{WasmValueError}
 use Rattle.wave_wasm.proofs.Formed.{formed}
 use Rattle.wave_value.specs.TypedValue.{TypedValue, IsAt, IsTyped, MakesOnly, typed_leaf}
 use Rattle.wave_value.specs.FullTypes.{IsFull}
-use Rattle.wave_value.specs.ConstructorRules.{Made, TellsOne, list_stated, option_stated, each_stated, RefusesParts, RefusesTuple, RefusesPayload, RefusesResult, RefusesEnum}
+use Rattle.wave_value.specs.ConstructorRules.{Made, AllOwn, TakesList, TellsOne, option_stated, each_stated, RefusesList, RefusesParts, RefusesTuple, RefusesPayload, RefusesResult, RefusesEnum}
+use Rattle.wave_value.proofs.Made.{all_own}
 use Rattle.wave_wasm.specs.Lists.{AllOf}
 use Rattle.wave_wasm.specs.Names.{IsOneOf, IsNoneOf, AreAllOf}
 use Rattle.wave_wasm.specs.declared.wasm.WasmTypeKind.{WasmTypeKind}
@@ -83,12 +85,31 @@ no_refusal words kind T stated (error.WrongValueType t s) is h r = absurd (none_
 no_refusal words kind T stated (error.Memory e) is h r = tt
 no_refusal words kind T stated _ is h r = absurd r
 
-own_of : (E : TypeTree) (vs : List TypedValue) → AllOf (λ v. IsAt E v) vs → AllOf IsAsStated (list_stated (type.list E) vs)
-own_of E [] h = tt
-own_of E (v ∷ vs) h = (h.0.own, own_of E vs h.1)
+own_stated : (E : TypeTree) (vs : List TypedValue) → AllOwn E vs → AllOf IsAsStated (map (λ v. (E, v)) vs)
+own_stated E [] h = tt
+own_stated E (v ∷ vs) h = (h.0, own_stated E vs h.1)
 
-pub full_list : (words : TypedValue → List ℕ) (T : TypeTree) (vs : List TypedValue) (e : WasmValueError) → RefusesParts words kinds.List T (list_stated T vs) e → FullList (λ v T. IsAt T v) IsFull T vs e
-full_list words T vs e r = λ full E is h. no_refusal words kinds.List (type.list E) (list_stated (type.list E) vs) e refl (own_of E vs h) (subst (λ U. RefusesParts words kinds.List U (list_stated U vs) e) is r)
+-- items that are taken are refused for want of memory alone
+pub list_memory : (words : TypedValue → List ℕ) (T : TypeTree) (vs : List TypedValue) (e : WasmValueError) → TakesList T vs → RefusesList words T vs e → IsMemory e
+list_memory words (type.list E) vs (error.WrongTypeKind k t) h r = absurd (r.1.0 refl)
+list_memory words (type.list E) vs (error.WrongNumberOfElements want got) h r = absurd (cc r.0)
+list_memory words (type.list E) vs (error.WrongValueType t s) h r = absurd (none_other words _ _ _ (own_stated E vs h) r.2)
+list_memory words (type.list E) vs (error.Memory e) h r = tt
+list_memory words (type.list E) vs _ h r = absurd r
+list_memory words (type.fixed E n) vs (error.WrongTypeKind k t) h r = absurd (r.0 refl)
+list_memory words (type.fixed E n) vs (error.WrongNumberOfElements want got) h r = absurd (r.2 (sym (same_Some n want r.0) ∙ (sym h.0 ∙ sym r.1)))
+list_memory words (type.fixed E n) vs (error.WrongValueType t s) h r = absurd (none_other words _ _ _ (own_stated E vs h.1) r.2)
+list_memory words (type.fixed E n) vs (error.Memory e) h r = tt
+list_memory words (type.fixed E n) vs _ h r = absurd r
+list_memory words _ vs e h r = absurd h
+
+-- items of the element type, as many as the type says, are taken
+list_of : (T E : TypeTree) (vs : List TypedValue) → IsListOf E (length vs) T → AllOf (λ v. IsAt E v) vs → TakesList T vs
+list_of T E vs (inl is) h = subst (λ U. TakesList U vs) (sym is) (all_own E vs h)
+list_of T E vs (inr is) h = subst (λ U. TakesList U vs) (sym is) (refl, all_own E vs h)
+
+pub full_list : (words : TypedValue → List ℕ) (T : TypeTree) (vs : List TypedValue) (e : WasmValueError) → RefusesList words T vs e → FullList (λ v T. IsAt T v) IsFull T vs e
+full_list words T vs e r = λ full E is h. list_memory words T vs e (list_of T E vs is h) r
 
 takes_of : (P : TypeTree) (o : Option TypedValue) → OptionIsOf (λ v T. IsAt T v) P o → AllOf IsAsStated (option_stated (type.option P) o)
 takes_of P None h = tt

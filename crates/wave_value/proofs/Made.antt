@@ -1,5 +1,5 @@
 -- What the makers of values with parts make and refuse.
-use Rattle.std.proofs.Common.{ℕ, suc, ◌≡◌, ◌<◌, ◌≤◌, ◌+◌, Bool, true, false, List, [], ◌∷◌, length, get_or, refl, sym, ap, subst, ◌∙◌, arith, inl, inr, Some, None, cond, nat_lt}
+use Rattle.std.proofs.Common.{ℕ, suc, ◌≡◌, ◌<◌, ◌≤◌, ◌+◌, Bool, true, false, List, [], ◌∷◌, map, length, get_or, refl, sym, ap, subst, ◌∙◌, arith, inl, inr, Some, None, cond, nat_lt}
 use Rattle.std.proofs.lemmas.Bool.Decides.{nat_tests}
 use Rattle.std.specs.List.{position, position_or_len}
 use Rattle.std.specs.Prelude.{not, string_bytes}
@@ -13,8 +13,9 @@ use Rattle.wave_wasm.specs.Names.{IsOneOf}
 use Rattle.wave_wasm.specs.Types as type
 use Rattle.wave_wasm.specs.Types.{TypeTree, list_part, option_part, kind_of, enum_names}
 use Rattle.wave_wasm.specs.Values as value
-use Rattle.wave_wasm.specs.Values.{Value, values}
+use Rattle.wave_wasm.specs.Values.{Value}
 use Rattle.wave_wasm.specs.HasType.{HasType}
+use Rattle.wave_wasm.specs.ConstructorContracts.{IsOfListKind, list_value}
 use Rattle.wave_wasm.specs.declared.wasm.WasmTypeKind.{WasmTypeKind}
 use Rattle.wave_wasm.specs.declared.wasm.WasmTypeKind.TheVariants as kinds
 use Rattle.wave_wasm.specs.declared.wasm.WasmValueError.{WasmValueError}
@@ -24,11 +25,11 @@ use Rattle.wave_type.specs.TypeEqualityLaws.{one_tree, same_itself}
 use Rattle.wave_value.specs.declared.value.Content.{Content}
 use Rattle.wave_value.specs.TypedValue.{TypedValue, IsAt}
 use Rattle.wave_value.specs.ValueModel.{name_at, trees}
-use Rattle.wave_value.specs.Private.ValueModel.{content_tree, AllAt, Fits}
-use Rattle.wave_value.specs.ConstructorRules.{Made, AllOwn, TakesList, TakesEnum, TellsOther, list_stated, RefusesParts, RefusesEnum}
-use Rattle.wave_value.specs.Private.ConstructorRules.{Tells, SaysType, SaysCase}
+use Rattle.wave_value.specs.Private.ValueModel.{content_tree, AllAt, ListFits, Fits}
+use Rattle.wave_value.specs.ConstructorRules.{Made, AllOwn, HasLength, TakesList, TakesEnum, TellsOther, TellsOne, list_stated, RefusesList, RefusesParts, RefusesEnum}
+use Rattle.wave_value.specs.Private.ConstructorRules.{Tells, SaysLength, SaysType, SaysCase}
 use Rattle.wave_value.proofs.ValueLists.{some_mapped}
-use Rattle.wave_value.proofs.ValueMeans.{means, list_value, one_of}
+use Rattle.wave_value.proofs.ValueMeans.{means, list_means, one_of}
 
 -- a test of the own type
 pub tells : (b : Bool) (own T : TypeTree) (c : Content) → b ≡ same_tree own T → Fits own c → Tells b T (record { own = own; tree = content_tree own c })
@@ -62,21 +63,47 @@ pub all_own : (E : TypeTree) (vs : List TypedValue) → AllAt E vs → AllOwn E 
 all_own E [] h = tt
 all_own E (v ∷ vs) h = (h.0.own, all_own E vs h.1)
 
--- a type with an element type is a list's
-pub list_is : (T E : TypeTree) → Some E ≡ list_part T → T ≡ type.list E
-list_is (type.list U) E e = ap type.list (sym (same_Some E U e))
-list_is _ E e = absurd (cc)
+-- items of the element type, as many as the type says
+pub list_fits : (T E : TypeTree) (vs : List TypedValue) → Some E ≡ list_part T → HasLength T vs → AllAt E vs → ListFits T vs
+list_fits (type.list F) E vs is counted h = subst (λ U. AllAt U vs) (same_Some E F is) h
+list_fits (type.fixed F n) E vs is counted h = (counted, subst (λ U. AllAt U vs) (same_Some E F is) h)
+list_fits _ E vs is counted h = absurd (cc)
 
-pub list_taken : (T E : TypeTree) (vs : List TypedValue) → T ≡ type.list E → AllAt E vs → TakesList T vs
-list_taken T E vs is h = subst (λ U. TakesList U vs) (sym is) (all_own E vs h)
+pub list_taken : (T : TypeTree) (vs : List TypedValue) → ListFits T vs → TakesList T vs
+list_taken (type.list E) vs h = all_own E vs h
+list_taken (type.fixed E n) vs h = (h.0, all_own E vs h.1)
+list_taken _ vs h = absurd h
 
-pub list_made : (T E : TypeTree) (vs : List TypedValue) → T ≡ type.list E → AllAt E vs → HasType T (value.list (values (trees vs)))
-list_made T E vs is h = subst (λ U. HasType U (value.list (values (trees vs)))) (sym is) (list_value (type.list E) vs h)
+pub list_made : (T own : TypeTree) (vs : List TypedValue) → own ≡ T → ListFits own vs → Made (list_value T (trees vs)) T (record { own = own; tree = list_value own (trees vs) })
+list_made T own vs same h = record {
+  own = same;
+  tree = ap (λ U. list_value U (trees vs)) same;
+  fits = subst (λ U. HasType U (list_value U (trees vs))) same (list_means own vs h);
+}
 
-pub list_refused : (words : TypedValue → List ℕ) (T E : TypeTree) (xs vs : List TypedValue) (i : ℕ) (v : TypedValue) (e : WasmValueError) → T ≡ type.list E → xs ≡ vs → i < length xs → v ≡ get_or xs i v → (v.own ≡ E → ⊥) → SaysType words E v e → RefusesParts words kinds.List T (list_stated T vs) e
-list_refused words T E xs vs i v e is same lt at other says =
-    let one = subst (λ zs. SomeOf (λ p. (E, v) ≡ p) (list_stated (type.list E) zs)) same (some_mapped (λ w. (E, w)) (λ p. (E, v) ≡ p) xs i v lt at refl) in
-    subst (λ U. RefusesParts words kinds.List U (list_stated U vs) e) (sym is) (tells_so words kinds.List (type.list E) (list_stated (type.list E) vs) E v e refl one other says)
+-- another count
+pub length_refused : (words : TypedValue → List ℕ) (T : TypeTree) (vs : List TypedValue) (e : WasmValueError) → SaysLength T (length vs) e → RefusesList words T vs e
+length_refused words T vs (error.WrongNumberOfElements want got) says = says
+length_refused words T vs _ says = absurd says
+
+list_kind : (T E : TypeTree) → Some E ≡ list_part T → IsOfListKind (kind_of T)
+list_kind (type.list F) E is = tt
+list_kind (type.fixed F n) E is = tt
+list_kind _ E is = absurd (cc)
+
+items_stated : (T E : TypeTree) (vs : List TypedValue) → Some E ≡ list_part T → map (λ v. (E, v)) vs ≡ list_stated T vs
+items_stated (type.list F) E vs is = ap (λ U. map (λ v. (U, v)) vs) (same_Some E F is)
+items_stated (type.fixed F n) E vs is = ap (λ U. map (λ v. (U, v)) vs) (same_Some E F is)
+items_stated _ E vs is = absurd (cc)
+
+-- an item of another type
+pub list_refused : (words : TypedValue → List ℕ) (T E : TypeTree) (xs vs : List TypedValue) (i : ℕ) (v : TypedValue) (e : WasmValueError) → Some E ≡ list_part T → HasLength T vs → xs ≡ vs → i < length xs → v ≡ get_or xs i v → (v.own ≡ E → ⊥) → SaysType words E v e → RefusesList words T vs e
+list_refused words T E xs vs i v (error.WrongValueType t s) is counted same lt at other says =
+    let told : TellsOne words (string_bytes t) (string_bytes s) (map (λ w. (E, w)) xs) =
+    some_mapped (λ w. (E, w)) (λ p. TellsOther words (string_bytes t) (string_bytes s) p.0 p.1) xs i v lt at (other, says.0, says.1) in
+    (list_kind T E is, counted, subst (TellsOne words (string_bytes t) (string_bytes s)) (ap (map (λ w. (E, w))) same ∙ items_stated T E vs is) told)
+list_refused words T E xs vs i v (error.Memory r) is counted same lt at other says = tt
+list_refused words T E xs vs i v _ is counted same lt at other says = absurd says
 
 -- ---- enums
 

@@ -4,6 +4,7 @@ use Rattle.wave_wasm.specs.Types as type
 use Rattle.wave_wasm.specs.Types.{TypeTree, Simple}
 use Rattle.wave_wasm.specs.Private.Values.{depth, depth_of_values, depth_of_fields, depth_of_entries, depth_of_maybe}
 use Rattle.wave_wasm.specs.Values.{values, field_values, entries, maybe_value}
+use Rattle.wave_wasm.specs.ConstructorContracts.{list_value}
 use Rattle.wave_value.specs.declared.value.Content.{Content}
 use Rattle.wave_value.specs.declared.value.Content.TheVariants as contents
 use Rattle.wave_value.specs.TypedValue.{TypedValue}
@@ -41,6 +42,10 @@ items_deep : (vs : List TypedValue) → values_depth vs ≤ depth_of_values (val
 items_deep [] = omega arith
 items_deep (v ∷ vs) = omega (arith, items_deep vs)
 
+list_deep : (T : TypeTree) (vs : List TypedValue) → suc (values_depth vs) ≤ depth (list_value T (trees vs))
+list_deep (type.fixed E n) vs = omega (arith, items_deep vs)
+list_deep _ vs = omega (arith, items_deep vs)
+
 fields_deep : (ns : List (List ℕ)) (vs : List TypedValue) → values_depth vs ≤ depth_of_fields (field_values (beside ns (trees vs)))
 fields_deep ns [] = omega arith
 fields_deep [] (v ∷ vs) = omega (arith, fields_deep [] vs)
@@ -56,7 +61,7 @@ map_deep _ es h = absurd h
 
 -- a content nests no deeper than its value
 pub content_deep : (T : TypeTree) (c : Content) → Fits T c → content_depth c ≤ depth (content_tree T c)
-content_deep T (contents.List vs) h = omega (arith, items_deep vs.items)
+content_deep T (contents.List vs) h = list_deep T vs.items
 content_deep T (contents.Tuple vs) h = omega (arith, items_deep vs.items)
 content_deep T (contents.Record vs) h = omega (arith, fields_deep (first_names (type.record_parts T)) vs.items)
 content_deep T (contents.Variant i p) h = omega arith

@@ -8,6 +8,7 @@ use Rattle.wave_wasm.specs.Types.{TypeTree, MaybeType, Types, Fields, Cases, Sim
 use Rattle.wave_wasm.specs.Values as value
 use Rattle.wave_wasm.specs.Values.{Value, Leaf, MaybeValue, FieldValues, values, field_values, entries, maybe_value, leaf_type}
 use Rattle.wave_wasm.specs.HasType.{IsLeafOf, HasType, HasPayload, HasTypes, HasFields, HasCase}
+use Rattle.wave_wasm.specs.ConstructorContracts.{list_value}
 use Rattle.wave_value.specs.declared.value.Content.{Content}
 use Rattle.wave_value.specs.declared.value.Content.TheVariants as contents
 use Rattle.wave_value.specs.TypedValue.{TypedValue, IsAt}
@@ -18,9 +19,14 @@ all_mean : (E : TypeTree) (vs : List TypedValue) → AllAt E vs → AllOf (HasTy
 all_mean E [] h = tt
 all_mean E (v ∷ vs) h = (h.0.fits, all_mean E vs h.1)
 
-pub list_value : (T : TypeTree) (vs : List TypedValue) → ListFits T vs → HasType T (value.list (values (trees vs)))
-list_value (type.list E) vs h = (trees vs, all_mean E vs h, refl)
-list_value _ vs h = absurd h
+trees_length : (vs : List TypedValue) → length (trees vs) ≡ length vs
+trees_length [] = refl
+trees_length (v ∷ vs) = ap suc (trees_length vs)
+
+pub list_means : (T : TypeTree) (vs : List TypedValue) → ListFits T vs → HasType T (list_value T (trees vs))
+list_means (type.list E) vs h = (trees vs, all_mean E vs h, refl)
+list_means (type.fixed E n) vs h = (trees vs, all_mean E vs h.1, trees_length vs ∙ h.0, refl)
+list_means _ vs h = absurd h
 
 each_means : (Ts : Types) (vs : List TypedValue) → EachAt (type_list Ts) vs → HasTypes Ts (trees vs)
 each_means no_types [] h = refl
@@ -117,7 +123,7 @@ scalar_value T one h = subst (λ T. HasType T (value.leaf one)) (sym h.0) (one, 
 -- content that fits means a value of the type
 pub means : (T : TypeTree) (c : Content) → Fits T c → HasType T (content_tree T c)
 means T (contents.Scalar one) h = scalar_value T (scalar_leaf one) h
-means T (contents.List vs) h = list_value T vs.items h
+means T (contents.List vs) h = list_means T vs.items h
 means T (contents.Record vs) h = record_value T vs.items h
 means T (contents.Tuple vs) h = tuple_value T vs.items h
 means T (contents.Variant i p) h = variant_value T i (boxed p) h
@@ -127,3 +133,20 @@ means T (contents.Ok p) h = ok_value T (boxed p) h
 means T (contents.Err p) h = err_value T (boxed p) h
 means T (contents.Flags is) h = flags_value T is.items h
 means T (contents.Map es) h = map_value T es.items h
+
+-- a value is of the kind of its type
+pub same_kind : (T : TypeTree) (v : Value) → HasType T v → type.kind_of T ≡ value.kind_of v
+same_kind (type.simple S) v (one, h, e) = sym (ap value.kind_of e ∙ ap type.simple_kind h.0)
+same_kind (type.unreadable kind) v h = absurd h
+same_kind (type.list E) v (vs, h, e) = sym (ap value.kind_of e)
+same_kind (type.fixed E n) v (vs, h, counted, e) = sym (ap value.kind_of e)
+same_kind (type.record_type fs) v (all, h, e) = sym (ap value.kind_of e)
+same_kind (type.tuple Ts) v (vs, h, e) = sym (ap value.kind_of e)
+same_kind (type.variant cs) v (name, payload, h, e) = sym (ap value.kind_of e)
+same_kind (type.enum names) v (name, h, e) = sym (ap value.kind_of e)
+same_kind (type.option P) v (inl e) = sym (ap value.kind_of e)
+same_kind (type.option P) v (inr (some, h, e)) = sym (ap value.kind_of e)
+same_kind (type.result A B) v (inl (payload, h, e)) = sym (ap value.kind_of e)
+same_kind (type.result A B) v (inr (payload, h, e)) = sym (ap value.kind_of e)
+same_kind (type.flags names) v (held, h, e) = sym (ap value.kind_of e)
+same_kind (type.map K V) v (es, h, e) = sym (ap value.kind_of e)

@@ -2,20 +2,27 @@
 use Rattle.std.proofs.Common.{ℕ, zero, suc, ◌≡◌, List, [], ◌∷◌, Option, refl, inl, inr, subst, sym}
 use Rattle.wave_wasm.specs.Types as type
 use Rattle.wave_wasm.specs.Types.{TypeTree, variant_parts}
+use Rattle.wave_wasm.specs.Values.{list_items}
+use Rattle.wave_wasm.specs.ConstructorContracts.{list_value}
 use Rattle.wave_value.specs.TypedValue.{TypedValue}
-use Rattle.wave_value.specs.ValueModel.{name_at, first_names}
+use Rattle.wave_value.specs.ValueModel.{name_at, first_names, trees}
 use Rattle.wave_value.specs.Private.ValueModel.{CaseAt, ListFits, TupleFits, VariantFits, MapFits}
 use Rattle.wave_value.specs.ConstructorRules.{PayloadOwn, TakesList, TakesTuple}
 use Rattle.wave_value.specs.CaseRules.{IsFirstCase, TakesVariant, TakesMap}
-use Rattle.wave_value.proofs.Made.{all_own}
+use Rattle.wave_value.proofs.Made.{list_taken}
+use Rattle.wave_value.proofs.ValueLists.{value_list-values}
 use Rattle.wave_value.proofs.MadeTuple.{each_own}
 use Rattle.wave_value.proofs.MadeMap.{entries_own}
 use Rattle.wave_value.proofs.MadeCases.{own_payload}
 
 -- a list's items
 pub items_taken : (T : TypeTree) (vs ws : List TypedValue) → ListFits T vs → ws ≡ vs → TakesList T ws
-items_taken (type.list E) vs ws h same = subst (λ us. TakesList (type.list E) us) (sym same) (all_own E vs h)
-items_taken _ vs ws h same = absurd h
+items_taken T vs ws h same = subst (TakesList T) (sym same) (list_taken T vs h)
+
+-- they are the items of the list that they mean
+pub items_shown : (T : TypeTree) (vs : List TypedValue) → trees vs ≡ list_items (list_value T (trees vs))
+items_shown (type.fixed E n) vs = sym (value_list-values (trees vs))
+items_shown _ vs = sym (value_list-values (trees vs))
 
 -- a tuple's items
 pub places_taken : (T : TypeTree) (vs ws : List TypedValue) → TupleFits T vs → ws ≡ vs → TakesTuple T ws

@@ -5,9 +5,10 @@ use Rattle.wave_wasm.specs.Names.{IsOneOf}
 use Rattle.wave_wasm.specs.Text.{text}
 use Rattle.wave_wasm.specs.TypeText.{type_text}
 use Rattle.wave_wasm.specs.Types as type
-use Rattle.wave_wasm.specs.Types.{TypeTree, kind_of, type_option, type_list, tuple_parts}
+use Rattle.wave_wasm.specs.Types.{TypeTree, kind_of, list_length, type_option, type_list, tuple_parts}
 use Rattle.wave_wasm.specs.Values.{Value}
 use Rattle.wave_wasm.specs.HasType.{HasType}
+use Rattle.wave_wasm.specs.ConstructorContracts.{IsOfListKind}
 use Rattle.wave_wasm.specs.declared.wasm.WasmTypeKind.{WasmTypeKind}
 use Rattle.wave_wasm.specs.declared.wasm.WasmTypeKind.TheVariants as kinds
 use Rattle.wave_wasm.specs.declared.wasm.WasmValueError.{WasmValueError}
@@ -37,9 +38,15 @@ PayloadOwn None None = Unit {0}
 PayloadOwn (Some T) (Some v) = v.own ≡ T
 PayloadOwn _ _ = ⊥
 
--- a list of values of the element type
+-- as many values as a fixed-length list has, any number at a type without a length
+abbrev pub HasLength : TypeTree → List TypedValue → Type 0
+HasLength (type.fixed E n) vs = length vs ≡ n
+HasLength _ vs = Unit {0}
+
+-- a list of values of the element type, or a fixed-length list of as many as its length
 abbrev pub TakesList : TypeTree → List TypedValue → Type 0
 TakesList (type.list E) vs = AllOwn E vs
+TakesList (type.fixed E n) vs = (length vs ≡ n) × AllOwn E vs
 TakesList _ vs = ⊥
 
 -- a tuple of as many values as types, each of its type
@@ -87,6 +94,7 @@ TellsOne words t s stated = SomeOf (λ p. TellsOther words t s p.0 p.1) stated
 -- each item beside the element type
 abbrev pub list_stated : TypeTree → List TypedValue → List (TypeTree × TypedValue)
 list_stated (type.list E) vs = map (λ v. (E, v)) vs
+list_stated (type.fixed E n) vs = map (λ v. (E, v)) vs
 list_stated _ vs = []
 
 -- each item beside the type at its place
@@ -106,7 +114,16 @@ RefusesParts words kind T stated (error.WrongValueType t s) = (kind_of T ≡ kin
 RefusesParts words kind T stated (error.Memory e) = Unit {0}
 RefusesParts words kind T stated _ = ⊥
 
--- so, or another count, which goes first
+-- a type that is no list of either kind, another count than a fixed-length list's, which goes first, an item of another type than the element type, or want of memory
+abbrev pub RefusesList : (TypedValue → List ℕ) → TypeTree → List TypedValue → WasmValueError → Type 0
+RefusesList words T vs (error.WrongTypeKind k t) = (kind_of T ≢ kinds.FixedLengthList) × TellsKind kinds.List T k (string_bytes t)
+RefusesList words T vs (error.WrongNumberOfElements want got) = (list_length T ≡ Some want) × (got ≡ length vs) × (want ≢ got)
+RefusesList words T vs (error.WrongValueType t s) =
+    IsOfListKind (kind_of T) × HasLength T vs × TellsOne words (string_bytes t) (string_bytes s) (list_stated T vs)
+RefusesList words T vs (error.Memory e) = Unit {0}
+RefusesList words T vs _ = ⊥
+
+-- a type of another kind, another count than the tuple's, which goes first, an item of another type than the one at its place, or want of memory
 abbrev pub RefusesTuple : (TypedValue → List ℕ) → TypeTree → List TypedValue → WasmValueError → Type 0
 RefusesTuple words T vs (error.WrongTypeKind k t) = TellsKind kinds.Tuple T k (string_bytes t)
 RefusesTuple words T vs (error.WrongNumberOfTupleValues want got) =

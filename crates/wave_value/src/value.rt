@@ -1,12 +1,12 @@
 //! Values of component types.
 ghost use Rattle.std.specs.Prelude.{◌≡◌, IfOk, IfErr, pos};
 ghost use Rattle.wave_wasm.specs.Types as type;
-ghost use Rattle.wave_wasm.specs.Types.{IsOwn, simple_kind};
+ghost use Rattle.wave_wasm.specs.Types.{IsOwn};
 ghost use Rattle.wave_wasm.specs.Values as value;
-ghost use Rattle.wave_wasm.specs.Values.{kind_of, leaf_type, IsSound};
+ghost use Rattle.wave_wasm.specs.Values.{kind_of, IsSound};
 ghost use Rattle.wave_wasm.specs.ConstructorContracts.{IsMemory};
 ghost use Rattle.wave_value.specs.ValueModel.{scalar_leaf, boxed};
-ghost use Rattle.wave_value.specs.Private.ValueModel.{IsAsGood};
+ghost use Rattle.wave_value.specs.Private.ValueModel.{ScalarFits, IsAsGood};
 ghost use Rattle.wave_value.specs.TypedValue.{MakesOnly, IsTyped, typed_leaf};
 
 use std::alloc::{AllocError, Global};
@@ -14,7 +14,7 @@ use std::boxed::Box;
 use std::marker::Model;
 use wave_type::ty::Type;
 use wave_type::ty::places::is_own;
-use wave_wasm::wasm::{WasmTypeKind, WasmValueError};
+use wave_wasm::wasm::{WasmType, WasmTypeKind, WasmValueError};
 
 mod conversions;
 mod equality;
@@ -92,19 +92,7 @@ impl Value {
     pub fn kind(&self) -> WasmTypeKind
         ensures { result ≡ kind_of self.now.tree }
     {
-        match &self.content {
-            Content::Scalar(one) => scalar_kind(one),
-            Content::List(_) => WasmTypeKind::List,
-            Content::Record(_) => WasmTypeKind::Record,
-            Content::Tuple(_) => WasmTypeKind::Tuple,
-            Content::Variant(_, _) => WasmTypeKind::Variant,
-            Content::Enum(_) => WasmTypeKind::Enum,
-            Content::Option(_) => WasmTypeKind::Option,
-            Content::Ok(_) => WasmTypeKind::Result,
-            Content::Err(_) => WasmTypeKind::Result,
-            Content::Flags(_) => WasmTypeKind::Flags,
-            Content::Map(_) => WasmTypeKind::Map,
-        }
+        self.own.kind()
     }
 
     /// The value's own type. The value is one of it, and it has a tree of a type. The only error
@@ -134,100 +122,70 @@ impl Value {
     pub fn make_bool(_alloc: Global, val: bool) -> Result<Value, WasmValueError>
         ensures { MakesOnly (value.bool val) result }
     {
-        Ok(Value {
-            own: Type::BOOL,
-            content: Content::Scalar(Scalar::Bool(val)),
-        })
+        Ok(scalar_value(Type::BOOL, Scalar::Bool(val)))
     }
 
     /// The value of `s8`. It is never refused.
     pub fn make_s8(_alloc: Global, val: i8) -> Result<Value, WasmValueError>
         ensures { MakesOnly (value.whole type.s8 val) result }
     {
-        Ok(Value {
-            own: Type::S8,
-            content: Content::Scalar(Scalar::S8(val)),
-        })
+        Ok(scalar_value(Type::S8, Scalar::S8(val)))
     }
 
     /// The value of `s16`. It is never refused.
     pub fn make_s16(_alloc: Global, val: i16) -> Result<Value, WasmValueError>
         ensures { MakesOnly (value.whole type.s16 val) result }
     {
-        Ok(Value {
-            own: Type::S16,
-            content: Content::Scalar(Scalar::S16(val)),
-        })
+        Ok(scalar_value(Type::S16, Scalar::S16(val)))
     }
 
     /// The value of `s32`. It is never refused.
     pub fn make_s32(_alloc: Global, val: i32) -> Result<Value, WasmValueError>
         ensures { MakesOnly (value.whole type.s32 val) result }
     {
-        Ok(Value {
-            own: Type::S32,
-            content: Content::Scalar(Scalar::S32(val)),
-        })
+        Ok(scalar_value(Type::S32, Scalar::S32(val)))
     }
 
     /// The value of `s64`. It is never refused.
     pub fn make_s64(_alloc: Global, val: i64) -> Result<Value, WasmValueError>
         ensures { MakesOnly (value.whole type.s64 val) result }
     {
-        Ok(Value {
-            own: Type::S64,
-            content: Content::Scalar(Scalar::S64(val)),
-        })
+        Ok(scalar_value(Type::S64, Scalar::S64(val)))
     }
 
     /// The value of `u8`. It is never refused.
     pub fn make_u8(_alloc: Global, val: u8) -> Result<Value, WasmValueError>
         ensures { MakesOnly (value.whole type.u8 (pos val)) result }
     {
-        Ok(Value {
-            own: Type::U8,
-            content: Content::Scalar(Scalar::U8(val)),
-        })
+        Ok(scalar_value(Type::U8, Scalar::U8(val)))
     }
 
     /// The value of `u16`. It is never refused.
     pub fn make_u16(_alloc: Global, val: u16) -> Result<Value, WasmValueError>
         ensures { MakesOnly (value.whole type.u16 (pos val)) result }
     {
-        Ok(Value {
-            own: Type::U16,
-            content: Content::Scalar(Scalar::U16(val)),
-        })
+        Ok(scalar_value(Type::U16, Scalar::U16(val)))
     }
 
     /// The value of `u32`. It is never refused.
     pub fn make_u32(_alloc: Global, val: u32) -> Result<Value, WasmValueError>
         ensures { MakesOnly (value.whole type.u32 (pos val)) result }
     {
-        Ok(Value {
-            own: Type::U32,
-            content: Content::Scalar(Scalar::U32(val)),
-        })
+        Ok(scalar_value(Type::U32, Scalar::U32(val)))
     }
 
     /// The value of `u64`. It is never refused.
     pub fn make_u64(_alloc: Global, val: u64) -> Result<Value, WasmValueError>
         ensures { MakesOnly (value.whole type.u64 (pos val)) result }
     {
-        Ok(Value {
-            own: Type::U64,
-            content: Content::Scalar(Scalar::U64(val)),
-        })
+        Ok(scalar_value(Type::U64, Scalar::U64(val)))
     }
 
     /// The value of `char`. It is never refused.
     pub fn make_char(_alloc: Global, val: char) -> Result<Value, WasmValueError>
         ensures { MakesOnly (value.char val) result }
     {
-        Ok(Value {
-            own: Type::CHAR,
-            content: Content::Scalar(Scalar::Char(val)),
-        })
+        Ok(scalar_value(Type::CHAR, Scalar::Char(val)))
     }
 
     /// The value of `string`, a copy of this text. It is refused only for want of memory.
@@ -235,10 +193,7 @@ impl Value {
         ensures made { IfOk result (λ v. (v ≡ typed_leaf (value.string val.now)) × IsSound (value.string val.now)) }
         ensures refused { IfErr result IsMemory }
     {
-        Ok(Value {
-            own: Type::STRING,
-            content: Content::Scalar(Scalar::String(String::from_str(alloc, val)?)),
-        })
+        Ok(scalar_value(Type::STRING, Scalar::String(String::from_str(alloc, val)?)))
     }
 
     /// The bool that the value is. It asks for a value of `bool`.
@@ -363,22 +318,14 @@ impl Value {
     }
 }
 
-// The kind of a value of one token.
-fn scalar_kind(one: &Scalar) -> WasmTypeKind
-    ensures { result ≡ simple_kind (leaf_type (scalar_leaf one.now)) }
+// The value of one token, of its simple type.
+fn scalar_value(own: Type, one: Scalar) -> Value
+    requires { ScalarFits own (scalar_leaf one) }
+    ensures { result ≡ typed_leaf (scalar_leaf one) }
 {
-    match one {
-        Scalar::Bool(_) => WasmTypeKind::Bool,
-        Scalar::S8(_) => WasmTypeKind::S8,
-        Scalar::S16(_) => WasmTypeKind::S16,
-        Scalar::S32(_) => WasmTypeKind::S32,
-        Scalar::S64(_) => WasmTypeKind::S64,
-        Scalar::U8(_) => WasmTypeKind::U8,
-        Scalar::U16(_) => WasmTypeKind::U16,
-        Scalar::U32(_) => WasmTypeKind::U32,
-        Scalar::U64(_) => WasmTypeKind::U64,
-        Scalar::Char(_) => WasmTypeKind::Char,
-        Scalar::String(_) => WasmTypeKind::String,
+    Value {
+        own,
+        content: Content::Scalar(one),
     }
 }
 

@@ -3,7 +3,7 @@ use std::test::Fail;
 use wave_type::ty::Type;
 use wave_value::value::Value;
 use wave_vectors_types::reader::type_of;
-use wave_wasm::wasm::WasmValueError;
+use wave_wasm::wasm::{WasmTypeKind, WasmValueError};
 use wave_wasm::writer::to_string;
 
 /// Numbers, from 0 on.
@@ -221,6 +221,51 @@ fn lists_tuples_and_records(rt: HostRuntime) -> Result<(), Fail> {
         ],
     )?;
     assert_eq!(rt; found.as_str(), "");
+    Ok(())
+}
+
+#[test]
+fn fixed_length_lists(rt: HostRuntime) -> Result<(), Fail> {
+    let found = wrong(
+        rt,
+        &[
+            ("list", "list<u8, 3>", "[0, 1, 2]"),
+            ("list", "list<u8, 4>", "expected 4 list elements; got 3"),
+            ("list", "list<s8, 2>", "expected 2 list elements; got 3"),
+            ("list", "list<s8, 3>", "expected a s8; got 0"),
+            ("list of lists", "list<list<u16>, 1>", "[[]]"),
+            (
+                "list of lists",
+                "list<list<u16, 0>, 1>",
+                "expected a list<u16, 0>; got []",
+            ),
+            (
+                "list of lists",
+                "list<u8, 0>",
+                "expected 0 list elements; got 1",
+            ),
+            ("tuple", "list<u8, 2>", "expected a tuple; got list<u8, 2>"),
+        ],
+    )?;
+    assert_eq!(rt; found.as_str(), "");
+    Ok(())
+}
+
+/// The list of the numbers from 0 to 2 at the type.
+fn three(rt: HostRuntime, ty: &str) -> Result<Value, Fail> {
+    let ty = type_of(rt.alloc(), ty)?;
+    Ok(Value::make_list(rt.alloc(), &ty, numbers(rt, 3)?)?)
+}
+
+#[test]
+fn the_length_is_of_the_type(rt: HostRuntime) -> Result<(), Fail> {
+    let list = three(rt, "list<u8>")?;
+    let fixed = three(rt, "list<u8, 3>")?;
+    assert!(rt; is_of(rt, &fixed, "list<u8, 3>")?);
+    assert!(rt; fixed.kind() == WasmTypeKind::FixedLengthList);
+    assert!(rt; fixed != list);
+    let items = fixed.unwrap_list(rt.alloc())?;
+    assert_eq!(rt; items.len(), 3);
     Ok(())
 }
 

@@ -114,10 +114,10 @@ fn texts_that_are_printed_otherwise(rt: HostRuntime) -> Result<(), Fail> {
             ("map<u8,map<u8,u8>>", "map<u8, map<u8, u8>>"),
             (" result < _ , u8 >", "result<_, u8>"),
             ("flags {  A b  }", "flags { A b }"),
-            ("list<u8, 4>", "list<_,N>"),
+            ("list<u8,0>", "list<u8, 0>"),
             (
                 "tuple<list<list<u8>,4294967295>, u8>",
-                "tuple<list<_,N>, u8>",
+                "tuple<list<list<u8>, 4294967295>, u8>",
             ),
         ],
     )?;

@@ -1,7 +1,7 @@
 -- What each maker of values accepts, what it makes, and what its refusals say.
-use Rattle.std.specs.Prelude.{ℕ, ◌≡◌, Bool, true, false, List, string_bytes}
+use Rattle.std.specs.Prelude.{ℕ, ◌≡◌, ◌≢◌, Bool, true, false, List, Some, string_bytes}
 use Rattle.wave_wasm.specs.TypeText.{type_text}
-use Rattle.wave_wasm.specs.Types.{TypeTree}
+use Rattle.wave_wasm.specs.Types.{TypeTree, list_length}
 use Rattle.wave_wasm.specs.declared.wasm.WasmTypeKind.{WasmTypeKind}
 use Rattle.wave_wasm.specs.declared.wasm.WasmValueError.{WasmValueError}
 use Rattle.wave_wasm.specs.declared.wasm.WasmValueError.TheVariants as error
@@ -17,6 +17,11 @@ abbrev pub SaysKind : WasmTypeKind → TypeTree → WasmValueError → Type 0
 SaysKind kind T (error.WrongTypeKind k t) = (k ≡ kind) × (string_bytes t ≡ type_text T)
 SaysKind kind T (error.Memory e) = Unit {0}
 SaysKind kind T _ = ⊥
+
+-- the type is a fixed-length list of another length than this count
+abbrev pub SaysLength : TypeTree → ℕ → WasmValueError → Type 0
+SaysLength T count (error.WrongNumberOfElements want got) = (list_length T ≡ Some want) × (got ≡ count) × (want ≢ got)
+SaysLength T count _ = ⊥
 
 -- the value is of another type than this one
 abbrev pub SaysType : (TypedValue → List ℕ) → TypeTree → TypedValue → WasmValueError → Type 0

@@ -8,6 +8,7 @@ use Rattle.wave_wasm.specs.Types as type
 use Rattle.wave_wasm.specs.Types.{TypeTree, Simple}
 use Rattle.wave_wasm.specs.Private.Values.{depth, depth_of_values, depth_of_fields, depth_of_entries}
 use Rattle.wave_wasm.specs.Values.{values, field_values, entries}
+use Rattle.wave_wasm.specs.ConstructorContracts.{list_value}
 use Rattle.wave_value.specs.declared.value.Content.{Content}
 use Rattle.wave_value.specs.declared.value.Content.TheVariants as contents
 use Rattle.wave_value.specs.declared.value.Value.TheDeep.{deep-Content}
@@ -18,6 +19,10 @@ use Rattle.wave_value.specs.Private.ValueModel.{entry_trees, content_tree, Fits,
 items_most : (vs : List TypedValue) → most (λ v. depth v.tree + 1) vs ≤ suc (depth_of_values (values (trees vs)))
 items_most [] = omega arith
 items_most (v ∷ vs) = omega (arith, items_most vs)
+
+list_falls : (T : TypeTree) (vs : List TypedValue) → most (λ v. depth v.tree + 1) vs ≤ depth (list_value T (trees vs))
+list_falls (type.fixed E n) vs = items_most vs
+list_falls _ vs = items_most vs
 
 fields_most : (ns : List (List ℕ)) (vs : List TypedValue) → most (λ v. depth v.tree + 1) vs ≤ suc (depth_of_fields (field_values (beside ns (trees vs))))
 fields_most ns [] = omega arith
@@ -56,7 +61,7 @@ map_falls (type.map K V) es h = entries_most K V es h
 map_falls _ es h = absurd h
 
 pub deep_le-depth : (T : TypeTree) (c : Content) → Fits T c → max (deep-Content c) 0 ≤ depth (content_tree T c)
-deep_le-depth T (contents.List vs) h = two_max (items_most vs.items)
+deep_le-depth T (contents.List vs) h = two_max (list_falls T vs.items)
 deep_le-depth T (contents.Tuple vs) h = two_max (items_most vs.items)
 deep_le-depth T (contents.Record vs) h = two_max (fields_most _ vs.items)
 deep_le-depth T (contents.Variant i p) h = variant_falls T i p

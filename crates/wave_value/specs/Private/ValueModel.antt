@@ -6,6 +6,7 @@ use Rattle.wave_wasm.specs.Types as type
 use Rattle.wave_wasm.specs.Types.{TypeTree, record_parts, variant_parts, enum_names, flags_names}
 use Rattle.wave_wasm.specs.Values as value
 use Rattle.wave_wasm.specs.Values.{Leaf, Value, leaf_type, IsSound, values, field_values, entries, maybe_value}
+use Rattle.wave_wasm.specs.ConstructorContracts.{list_value}
 use Rattle.wave_value.specs.declared.value.Content.{Content}
 use Rattle.wave_value.specs.declared.value.Content.TheVariants as contents
 use Rattle.wave_value.specs.TypedValue.{TypedValue, IsAt}
@@ -23,7 +24,7 @@ entry_trees es = map (λ e. (key_of e.0.tree, e.1.tree)) es
 -- the value that the content is at this type
 abbrev pub content_tree : TypeTree → Content → Value
 content_tree T (contents.Scalar one) = value.leaf (scalar_leaf one)
-content_tree T (contents.List vs) = value.list (values (trees vs.items))
+content_tree T (contents.List vs) = list_value T (trees vs.items)
 content_tree T (contents.Record vs) = value.record_value (field_values (beside (first_names (record_parts T)) (trees vs.items)))
 content_tree T (contents.Tuple vs) = value.tuple (values (trees vs.items))
 content_tree T (contents.Variant i p) = value.variant (name_at (first_names (variant_parts T)) i) (maybe_value (payload_tree (boxed p)))
@@ -75,9 +76,10 @@ EntryAt K V e = IsAt K e.0 × IsAt V e.1
 abbrev pub EntriesAt : TypeTree → TypeTree → List (TypedValue × TypedValue) → Type 0
 EntriesAt K V es = AllOf (EntryAt K V) es
 
--- a list's items
+-- a list's items, as many as a fixed-length list has
 abbrev pub ListFits : TypeTree → List TypedValue → Type 0
 ListFits (type.list E) vs = AllAt E vs
+ListFits (type.fixed E n) vs = (length vs ≡ n) × AllAt E vs
 ListFits _ vs = ⊥
 
 -- a record's fields, whose names are distinct

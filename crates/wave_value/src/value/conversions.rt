@@ -1,6 +1,6 @@
 //! Rust values as values of component types. Nothing is refused, and no memory is taken: a text is
 //! moved.
-use super::{Content, Scalar, Type, Value};
+use super::{Scalar, Type, Value, scalar_value};
 
 impl From<bool> for Value {
     ghost use Rattle.std.specs.Prelude.{◌≡◌};
@@ -10,10 +10,7 @@ impl From<bool> for Value {
     ghost from_gives = { λ val made. made ≡ typed_leaf (value.bool val) };
 
     fn from(val: bool) -> Value {
-        Value {
-            own: Type::BOOL,
-            content: Content::Scalar(Scalar::Bool(val)),
-        }
+        scalar_value(Type::BOOL, Scalar::Bool(val))
     }
 }
 
@@ -26,10 +23,7 @@ impl From<i8> for Value {
     ghost from_gives = { λ val made. made ≡ typed_leaf (value.whole type.s8 val) };
 
     fn from(val: i8) -> Value {
-        Value {
-            own: Type::S8,
-            content: Content::Scalar(Scalar::S8(val)),
-        }
+        scalar_value(Type::S8, Scalar::S8(val))
     }
 }
 
@@ -42,10 +36,7 @@ impl From<i16> for Value {
     ghost from_gives = { λ val made. made ≡ typed_leaf (value.whole type.s16 val) };
 
     fn from(val: i16) -> Value {
-        Value {
-            own: Type::S16,
-            content: Content::Scalar(Scalar::S16(val)),
-        }
+        scalar_value(Type::S16, Scalar::S16(val))
     }
 }
 
@@ -58,10 +49,7 @@ impl From<i32> for Value {
     ghost from_gives = { λ val made. made ≡ typed_leaf (value.whole type.s32 val) };
 
     fn from(val: i32) -> Value {
-        Value {
-            own: Type::S32,
-            content: Content::Scalar(Scalar::S32(val)),
-        }
+        scalar_value(Type::S32, Scalar::S32(val))
     }
 }
 
@@ -74,10 +62,7 @@ impl From<i64> for Value {
     ghost from_gives = { λ val made. made ≡ typed_leaf (value.whole type.s64 val) };
 
     fn from(val: i64) -> Value {
-        Value {
-            own: Type::S64,
-            content: Content::Scalar(Scalar::S64(val)),
-        }
+        scalar_value(Type::S64, Scalar::S64(val))
     }
 }
 
@@ -90,10 +75,7 @@ impl From<u8> for Value {
     ghost from_gives = { λ val made. made ≡ typed_leaf (value.whole type.u8 (pos val)) };
 
     fn from(val: u8) -> Value {
-        Value {
-            own: Type::U8,
-            content: Content::Scalar(Scalar::U8(val)),
-        }
+        scalar_value(Type::U8, Scalar::U8(val))
     }
 }
 
@@ -106,10 +88,7 @@ impl From<u16> for Value {
     ghost from_gives = { λ val made. made ≡ typed_leaf (value.whole type.u16 (pos val)) };
 
     fn from(val: u16) -> Value {
-        Value {
-            own: Type::U16,
-            content: Content::Scalar(Scalar::U16(val)),
-        }
+        scalar_value(Type::U16, Scalar::U16(val))
     }
 }
 
@@ -122,10 +101,7 @@ impl From<u32> for Value {
     ghost from_gives = { λ val made. made ≡ typed_leaf (value.whole type.u32 (pos val)) };
 
     fn from(val: u32) -> Value {
-        Value {
-            own: Type::U32,
-            content: Content::Scalar(Scalar::U32(val)),
-        }
+        scalar_value(Type::U32, Scalar::U32(val))
     }
 }
 
@@ -138,10 +114,7 @@ impl From<u64> for Value {
     ghost from_gives = { λ val made. made ≡ typed_leaf (value.whole type.u64 (pos val)) };
 
     fn from(val: u64) -> Value {
-        Value {
-            own: Type::U64,
-            content: Content::Scalar(Scalar::U64(val)),
-        }
+        scalar_value(Type::U64, Scalar::U64(val))
     }
 }
 
@@ -153,10 +126,7 @@ impl From<char> for Value {
     ghost from_gives = { λ val made. made ≡ typed_leaf (value.char val) };
 
     fn from(val: char) -> Value {
-        Value {
-            own: Type::CHAR,
-            content: Content::Scalar(Scalar::Char(val)),
-        }
+        scalar_value(Type::CHAR, Scalar::Char(val))
     }
 }
 
@@ -168,9 +138,6 @@ impl From<String> for Value {
     ghost from_gives = { λ val made. made ≡ typed_leaf (value.string (string_bytes val)) };
 
     fn from(val: String) -> Value {
-        Value {
-            own: Type::STRING,
-            content: Content::Scalar(Scalar::String(val)),
-        }
+        scalar_value(Type::STRING, Scalar::String(val))
     }
 }

@@ -1,13 +1,13 @@
 //! Makers of values that have parts.
-ghost use Rattle.std.specs.Prelude.{◌≡◌, ℕ, List, map, IfOk, IfErr, OnOk};
+ghost use Rattle.std.specs.Prelude.{◌≡◌, ℕ, List, map, length, IfOk, IfErr, OnOk};
 ghost use Rattle.wave_wasm.specs.Values as value;
 ghost use Rattle.wave_wasm.specs.Values.{values, maybe_value};
-ghost use Rattle.wave_wasm.specs.ConstructorContracts.{result_value, either_tree};
+ghost use Rattle.wave_wasm.specs.ConstructorContracts.{list_value, result_value, either_tree};
 ghost use Rattle.wave_value.specs.ValueModel.{trees, payload_tree, boxed};
 ghost use Rattle.wave_value.specs.Private.ValueModel.{PayloadAt};
-ghost use Rattle.wave_value.specs.ConstructorRules.{Made, TakesList, TakesTuple, TakesOption, TakesResult, TakesEnum, list_stated, option_stated, RefusesParts, RefusesTuple, RefusesPayload, RefusesResult, RefusesEnum};
+ghost use Rattle.wave_value.specs.ConstructorRules.{Made, HasLength, TakesList, TakesTuple, TakesOption, TakesResult, TakesEnum, option_stated, RefusesList, RefusesParts, RefusesTuple, RefusesPayload, RefusesResult, RefusesEnum};
 ghost use Rattle.wave_value.specs.CaseRules.{MadeMap, TakesMap, map_stated};
-ghost use Rattle.wave_value.specs.Private.ConstructorRules.{Tells};
+ghost use Rattle.wave_value.specs.Private.ConstructorRules.{Tells, SaysLength};
 ghost use Rattle.wave_wasm.specs.Borrowed.{shown, named};
 ghost use Rattle.wave_type.specs.TypeModel.{by_bytes};
 ghost use Rattle.wave_value.specs.Private.RecordConstructor.{held, InOrder};
@@ -37,13 +37,14 @@ impl Value {
         ty: &Type,
         vals: Vec<Value>,
     ) -> Result<Value, WasmValueError>
-        ensures made { IfOk result (Made (value.list (values (trees vals.items))) ty.now) }
+        ensures made { IfOk result (Made (list_value ty.now (trees vals.items)) ty.now) }
         ensures taken { OnOk result (TakesList ty.now vals.items) }
-        ensures refused { IfErr result (RefusesParts S.words WasmTypeKind.List ty.now (list_stated ty.now vals.items)) }
+        ensures refused { IfErr result (RefusesList S.words ty.now vals.items) }
     {
         let Some(element) = ty.list_element_type() else {
             return Err(wrong_kind(alloc, WasmTypeKind::List, ty));
         };
+        check_length(ty, &vals)?;
         for val in &vals {
             if !val.is_at(element) {
                 return Err(wrong_type::<S>(alloc, element, val));
@@ -214,6 +215,21 @@ impl Value {
             _ => Err(wrong_kind(alloc, WasmTypeKind::Enum, ty)),
         }
     }
+}
+
+// Refuses another count than a fixed-length list's.
+fn check_length(ty: &Type, vals: &Vec<Value>) -> Result<(), WasmValueError>
+    ensures counted { OnOk result (HasLength ty.now vals.now.items) }
+    ensures refused { IfErr result (SaysLength ty.now (length vals.now.items)) }
+{
+    let Some(want) = ty.list_length() else {
+        return Ok(());
+    };
+    let got = vals.len();
+    if want as usize != got {
+        return Err(WasmValueError::WrongNumberOfElements { want, got });
+    }
+    Ok(())
 }
 
 // The payload of this case in its box. One that is missing or unexpected is refused, and one whose

@@ -3,10 +3,10 @@
 ghost use Rattle.std.specs.Prelude.{IfOk, IfErr, OnOk};
 ghost use Rattle.wave_wasm.specs.Values as value;
 ghost use Rattle.wave_wasm.specs.Values.{values, maybe_value};
-ghost use Rattle.wave_wasm.specs.ConstructorContracts.{result_value, either_tree};
+ghost use Rattle.wave_wasm.specs.ConstructorContracts.{list_value, result_value, either_tree};
 ghost use Rattle.wave_wasm.specs.Borrowed.{named};
 ghost use Rattle.wave_value.specs.ValueModel.{trees, payload_tree};
-ghost use Rattle.wave_value.specs.ConstructorRules.{Made, TakesList, TakesTuple, TakesOption, TakesResult, value_text, list_stated, option_stated, RefusesParts, RefusesTuple, RefusesResult};
+ghost use Rattle.wave_value.specs.ConstructorRules.{Made, TakesList, TakesTuple, TakesOption, TakesResult, value_text, option_stated, RefusesList, RefusesParts, RefusesTuple, RefusesResult};
 ghost use Rattle.wave_value.specs.CaseRules.{TakesVariant, RefusesVariant, MadeMap, TakesMap, map_stated};
 ghost use Rattle.wave_value.specs.RecordConstructor.{TakesRecord, MadeRecord, RefusesRecord};
 
@@ -16,12 +16,13 @@ use std::alloc::Global;
 use wave_wasm::wasm::{WasmTypeKind, WasmValueError};
 
 impl Value {
-    /// The list of these items, whose own type is this one. A type of another kind is refused,
-    /// and an item whose own type isn't the element type.
+    /// The list or fixed-length list of these items, whose own type is this one. A type of another
+    /// kind is refused, and another count than a fixed-length list's, and an item whose own type
+    /// isn't the element type.
     pub fn make_list(alloc: Global, ty: &Type, vals: Vec<Value>) -> Result<Value, WasmValueError>
-        ensures made { IfOk result (Made (value.list (values (trees vals.items))) ty.now) }
+        ensures made { IfOk result (Made (list_value ty.now (trees vals.items)) ty.now) }
         ensures taken { OnOk result (TakesList ty.now vals.items) }
-        ensures refused { IfErr result (RefusesParts value_text WasmTypeKind.List ty.now (list_stated ty.now vals.items)) }
+        ensures refused { IfErr result (RefusesList value_text ty.now vals.items) }
     {
         Value::list_of::<ByText>(alloc, ty, vals)
     }

@@ -15,10 +15,10 @@ impl WasmValue for Value {
     ghost use Rattle.wave_wasm.specs.Values as value;
     ghost use Rattle.wave_wasm.specs.Values.{kind_of, values, maybe_value, list_items, tuple_items, record_fields, map_entries, IsSound};
     ghost use Rattle.wave_wasm.specs.Borrowed.{texts, named, shown, shown_all, shown_fields, shown_pairs, shown_either};
-    ghost use Rattle.wave_wasm.specs.ConstructorContracts.{IsMemory, IsOfListKind, leaf_entries, result_value, either_tree, MakesList, MakesTuple, MakesRecord, MakesVariant, MakesEnum, MakesOption, MakesResult, MakesFlags, MakesMap, FullList, FullTuple, FullRecord, FullVariant, FullEnum, FullOption, FullResult, FullFlags, FullMap};
+    ghost use Rattle.wave_wasm.specs.ConstructorContracts.{IsMemory, IsOfListKind, leaf_entries, list_value, result_value, either_tree, MakesList, MakesTuple, MakesRecord, MakesVariant, MakesEnum, MakesOption, MakesResult, MakesFlags, MakesMap, FullList, FullTuple, FullRecord, FullVariant, FullEnum, FullOption, FullResult, FullFlags, FullMap};
     ghost use Rattle.wave_value.specs.ValueModel.{trees, payload_tree};
     ghost use Rattle.wave_value.specs.TypedValue.{IsAt, MakesOnly, typed_leaf};
-    ghost use Rattle.wave_value.specs.ConstructorRules.{Made, TakesList, TakesTuple, TakesOption, TakesResult, TakesEnum, own_text, list_stated, option_stated, RefusesParts, RefusesTuple, RefusesResult, RefusesEnum};
+    ghost use Rattle.wave_value.specs.ConstructorRules.{Made, TakesList, TakesTuple, TakesOption, TakesResult, TakesEnum, own_text, option_stated, RefusesList, RefusesParts, RefusesTuple, RefusesResult, RefusesEnum};
     ghost use Rattle.wave_value.specs.CaseRules.{TakesVariant, RefusesVariant, TakesFlags, RefusesFlags, MadeMap, TakesMap, map_stated};
     ghost use Rattle.wave_value.specs.RecordConstructor.{TakesRecord, MadeRecord, RefusesRecord};
     ghost use Rattle.wave_value.specs.FullTypes.{IsFull, full_parts};
@@ -110,9 +110,9 @@ impl WasmValue for Value {
     fn make_list(alloc: Global, ty: &Type, vals: Vec<Value>) -> Result<Value, WasmValueError>
         ensures made { IfOk result (MakesList (λ v. v.tree) (λ v T. IsAt T v) ty.now vals.items) }
         ensures full { IfErr result (FullList (λ v T. IsAt T v) IsFull ty.now vals.items) }
-        ensures exact { IfOk result (Made (value.list (values (trees vals.items))) ty.now) }
+        ensures exact { IfOk result (Made (list_value ty.now (trees vals.items)) ty.now) }
         ensures taken { OnOk result (TakesList ty.now vals.items) }
-        ensures refused { IfErr result (RefusesParts own_text WasmTypeKind.List ty.now (list_stated ty.now vals.items)) }
+        ensures refused { IfErr result (RefusesList own_text ty.now vals.items) }
     {
         Value::list_of::<ByType>(alloc, ty, vals)
     }
