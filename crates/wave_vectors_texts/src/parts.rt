@@ -69,6 +69,10 @@ fn fixed_length_lists(rt: HostRuntime) -> Result<(), Fail> {
                         "[1, 2, 3, 4, 5]",
                         "error converting Wasm value: expected 4 list elements; got 5 at 0..15",
                     ),
+                    (
+                        "[256]",
+                        "error converting Wasm value: expected 4 list elements; got 1 at 0..5",
+                    ),
                     ("(1, 2, 3, 4)", "invalid value type at 0..12"),
                     ("[1, 2, 3, 256]", "invalid value at 10..13"),
                 ][..],
