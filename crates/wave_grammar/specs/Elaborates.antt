@@ -38,6 +38,11 @@ SimpleTree S t v = (token : Token) × (one : Leaf) × (t ≡ tree.one token) × 
 abbrev pub ListTree : Meaning Tree Value → Meaning Tree Value
 ListTree Inner t v = (ts : List Tree) × (vs : List Value) × (t ≡ tree.list (trees ts)) × Each Inner ts vs × (v ≡ value.list (values vs))
 
+-- a list of exactly so many items
+abbrev pub FixedListTree : ℕ → Meaning Tree Value → Meaning Tree Value
+FixedListTree count Inner t v =
+    (ts : List Tree) × (vs : List Value) × (t ≡ tree.list (trees ts)) × (length ts ≡ count) × Each Inner ts vs × (v ≡ value.fixed (values vs))
+
 -- a tuple that is not empty
 abbrev pub TupleTree : Meaning (List Tree) (List Value) → Meaning Tree Value
 TupleTree Inner t v = (ts : List Tree) × (vs : List Value) × (t ≡ tree.tuple (trees ts)) × (0 < length ts) × Inner ts vs × (v ≡ value.tuple (values vs))
@@ -121,7 +126,7 @@ abbrev mutual
   TreeReads (type.simple S) = SimpleTree S
   TreeReads (type.unreadable kind) = NeverTree
   TreeReads (type.list E) = ListTree (TreeReads E)
-  TreeReads (type.fixed E count) = NeverTree
+  TreeReads (type.fixed E count) = FixedListTree count (TreeReads E)
   TreeReads (type.record_type fs) = RecordTree fs (TreeReadsField fs)
   TreeReads (type.tuple types) = TupleTree (TreeReadsAll types)
   TreeReads (type.variant cases) = VariantTree (TreeReadsCase cases)

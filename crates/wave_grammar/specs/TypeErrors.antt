@@ -4,11 +4,11 @@ use Rattle.std.specs.declared.ops.Range.{Range}
 use Rattle.wave_wasm.specs.Lists.{SomeOf}
 use Rattle.wave_wasm.specs.Names.{IsOneOf, IsNoneOf}
 use Rattle.wave_wasm.specs.Types as type
-use Rattle.wave_wasm.specs.Types.{TypeTree, MaybeType, Types, Fields, Cases, Simple, no_type, a_type, no_types, type_and, field, no_cases, case_of, field_names, count_of, kind_of}
+use Rattle.wave_wasm.specs.Types.{TypeTree, MaybeType, Types, Fields, Cases, Simple, no_type, a_type, no_types, type_and, field, no_cases, case_of, field_names, count_of}
 use Rattle.wave_wasm.specs.Values.{Leaf}
 use Rattle.wave_wasm.specs.Text.{bool_text}
 use Rattle.wave_wasm.specs.TypeText.{kind_word}
-use Rattle.wave_wasm.specs.ValueErrors.{Cause, missing_field, missing_payload, unexpected_payload, unknown_case, wrong_number, unsupported_type}
+use Rattle.wave_wasm.specs.ValueErrors.{Cause, missing_field, missing_payload, unexpected_payload, unknown_case, wrong_number, wrong_length, unsupported_type}
 use Rattle.wave_lex.specs.declared.error.ParserErrorKind.{ParserErrorKind}
 use Rattle.wave_lex.specs.declared.error.ParserErrorKind.TheVariants.{InvalidType, InvalidValue, InvalidEscape, DuplicateField}
 use Rattle.wave_lex.specs.Errors.{Refusal, plainly, caused}
@@ -178,7 +178,9 @@ abbrev mutual
   Fault (type.simple S) t k q = OfForm (one_in (shape_of t)) (span_of t) (LeafFault S (span_of t)) k q
   Fault (type.unreadable kind) t k q = RefusesFor (unsupported_type (kind_word (type.unreadable_kind kind))) (span_of t) k q
   Fault (type.list E) t k q = OfForm (list_in (shape_of t)) (span_of t) (λ items k q. SomeOf (λ item. Fault E item k q) items) k q
-  Fault (type.fixed E n) t k q = RefusesFor (unsupported_type (kind_word (kind_of (type.fixed E n)))) (span_of t) k q
+  Fault (type.fixed E n) t k q =
+      OfForm (list_in (shape_of t)) (span_of t)
+      (λ items k q. (length items ≢ n) × RefusesFor (wrong_length n (length items)) (span_of t) k q ⊎ (length items ≡ n) × SomeOf (λ item. Fault E item k q) items) k q
   Fault (type.record_type fs) t k q =
       OfForm (record_in (shape_of t)) (span_of t)
       (λ es k q. KeyFault es k q ⊎ UnknownField (field_names fs) es (span_of t) k q ⊎ RepeatedField [] es k q ⊎ MissingField fs es (span_of t) k q ⊎ FaultOfField fs es k q) k q

@@ -78,6 +78,11 @@ ASimple S tokens v rest = (token : Token) × (one : Leaf) × (tokens ≡ token �
 abbrev pub AList : Spelling Value → Spelling Value
 AList Inner tokens v rest = (items : List Value) × Listed bracket_open bracket_close Inner tokens items rest × (v ≡ value.list (values items))
 
+-- `[` items `]`, exactly so many
+abbrev pub AFixedList : ℕ → Spelling Value → Spelling Value
+AFixedList count Inner tokens v rest =
+    (items : List Value) × Listed bracket_open bracket_close Inner tokens items rest × (length items ≡ count) × (v ≡ value.fixed (values items))
+
 -- `(` and the values of a tuple, which come with their close
 abbrev pub ATuple : Spelling (List Value) → Spelling Value
 ATuple Inner tokens v rest = (items : List Value) × (front : List Token) × (tokens ≡ paren_open ∷ front) × Inner front items rest × (v ≡ value.tuple (values items))
@@ -163,7 +168,7 @@ abbrev mutual
   Reads (type.simple S) n = Provided (0 < n) (ASimple S)
   Reads (type.unreadable kind) n = Never
   Reads (type.list E) n = Provided (0 < n) (AList (Reads E (n - 1)))
-  Reads (type.fixed E count) n = Never
+  Reads (type.fixed E count) n = Provided (0 < n) (AFixedList count (Reads E (n - 1)))
   Reads (type.record_type fields) n = Provided (0 < n) (ARecord fields (ReadsField fields (n - 1)))
   Reads (type.tuple types) n = Provided (0 < n) (ATuple (ReadsTuple types (n - 1)))
   Reads (type.variant cases) n = Provided (0 < n) (AVariant (ReadsCase cases (n - 1)))

@@ -1,5 +1,5 @@
 -- A tree with a fault has no value.
-use Rattle.std.proofs.Common.{ℕ, ◌≡◌, inl, inr, List, [], ◌∷◌, Result, Ok, Err, MatchResult, codes, sym, subst}
+use Rattle.std.proofs.Common.{ℕ, suc, ◌≡◌, inl, inr, List, [], ◌∷◌, length, Result, Ok, Err, MatchResult, codes, refl, sym, ap, ◌∙◌, subst}
 use Rattle.std.specs.declared.ops.Range.{Range}
 use Rattle.wave_wasm.specs.Names.{AreDistinct, IsOneOf}
 use Rattle.wave_wasm.specs.Types as type
@@ -63,14 +63,23 @@ list_none E (and_then t more) k q [] vs apart h e each = cc
 list_none E (and_then t more) k q (u ∷ us) vs apart (inl fault) e (v, ws, read, others, f) = apart t fault v (subst (λ (w : Tree). TreeReads E w v) (sym (first_tree (tree_of t) u (trees_of more) (trees us) e)) read)
 list_none E (and_then t more) k q (u ∷ us) vs apart (inr h) e (v, ws, read, others, f) = list_none E more k q us ws apart h (cc) others
 
+-- as many trees as placed trees
+list_length : (ts : PlacedTrees) (us : List Tree) → trees_of ts ≡ trees us → length (placed_list ts) ≡ length us
+list_length no_more [] e = refl
+list_length no_more (u ∷ us) e = absurd (cc)
+list_length (and_then t more) [] e = absurd (cc)
+list_length (and_then t more) (u ∷ us) e = ap suc (list_length more us (cc))
+
 mutual
   -- a tree with a fault at a type is given no value by it
   pub no_value : (T : TypeTree) (t : Placed) (k : Refusal) (q : Range ℕ) → HasDistinctNames T → Fault T t k q → ReadsNone T t
   no_value (type.simple S) t k q names fault = λ v read. simple_none S t k q v fault read
   no_value (type.unreadable u) t k q names fault = λ v read. read
-  no_value (type.fixed E n) t k q names fault = λ v read. read
   no_value (type.list E) (at p (list ts)) k q names fault = λ v read. list_none E ts k q read.0 read.1 (λ u h. no_value E u k q names h) fault (inner_trees (trees_of ts) (trees read.0) read.2) read.3
   no_value (type.list E) (at p _) k q names fault = λ v read. absurd (cc)
+  no_value (type.fixed E n) (at p (list ts)) k q names (inl h) = λ v read. h.0 (list_length ts read.0 (inner_trees (trees_of ts) (trees read.0) read.2) ∙ read.3)
+  no_value (type.fixed E n) (at p (list ts)) k q names (inr h) = λ v read. list_none E ts k q read.0 read.1 (λ u g. no_value E u k q names g) h.1 (inner_trees (trees_of ts) (trees read.0) read.2) read.4
+  no_value (type.fixed E n) (at p _) k q names fault = λ v read. absurd (cc)
   no_value (type.record_type fs) t k q names fault = λ v read. record_none fs t k q v names.0 (λ es h. no_field fs es k q names.1 h) fault read
   no_value (type.tuple Ts) (at p (tuple ts)) k q names (inl h) = λ v read. h.0 (as_types Ts ts read.0 read.1 (tuple_items ts read.0 read.2) read.4)
   no_value (type.tuple Ts) (at p (tuple ts)) k q names (inr h) = λ v read. no_item Ts ts k q read.0 read.1 names h (tuple_items ts read.0 read.2) read.4

@@ -27,6 +27,7 @@ pub record IsUnread (k : WasmTypeKind) : Type 0 where
   pub char : k ≢ kind.Char
   pub string : k ≢ kind.String
   pub list : k ≢ kind.List
+  pub fixed : k ≢ kind.FixedLengthList
   pub tuple : k ≢ kind.Tuple
   pub record_kind : k ≢ kind.Record
   pub option : k ≢ kind.Option
@@ -43,7 +44,7 @@ unread_fault (type.simple (type.whole which)) t k r q e unread none refused = ab
 unread_fault (type.simple type.char) t k r q e unread none refused = absurd (unread.char e)
 unread_fault (type.simple type.string) t k r q e unread none refused = absurd (unread.string e)
 unread_fault (type.unreadable u) t k r q e unread none refused = subst (λ (w : WasmTypeKind). RefusesFor (unsupported_type (kind_word w)) (span_of t) r q) e refused
-unread_fault (type.fixed E n) t k r q e unread none refused = subst (λ (w : WasmTypeKind). RefusesFor (unsupported_type (kind_word w)) (span_of t) r q) e refused
+unread_fault (type.fixed E n) t k r q e unread none refused = absurd (unread.fixed e)
 unread_fault (type.list E) t k r q e unread none refused = absurd (unread.list e)
 unread_fault (type.record_type fs) t k r q e unread none refused = absurd (unread.record_kind e)
 unread_fault (type.tuple Ts) t k r q e unread none refused = absurd (unread.tuple e)

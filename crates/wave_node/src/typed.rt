@@ -4,6 +4,7 @@ ghost use Rattle.wave_wasm.specs.Types.{kind_of, whole_kind, Whole};
 ghost use Rattle.wave_wasm.specs.Types as type;
 ghost use Rattle.wave_wasm.specs.Values as value;
 ghost use Rattle.wave_wasm.specs.Borrowed.{texts, shown, shown_cases};
+ghost use Rattle.wave_wasm.specs.ConstructorContracts.{IsOfListKind};
 ghost use Rattle.wave_wasm.specs.TypeText.{kind_word};
 ghost use Rattle.wave_wasm.specs.ValueErrors.{unsupported_type, wrong_number};
 ghost use Rattle.wave_lex.specs.declared.error.ParserErrorKind.TheVariants.{InvalidType, OutOfMemory};
@@ -12,7 +13,7 @@ ghost use Rattle.wave_node.specs.NodeAccessors.{RefusedAs, shown_node};
 ghost use Rattle.std.specs.Cow.{cow_str_bytes};
 ghost use Rattle.wave_node.specs.TypedReading.{IsLeafMade, IsValueOf, IsKeyOf, IsKeywordOf, AnswersKey, IsMade, Answers, ReadsAtType, ReadsKey};
 ghost use Rattle.std.specs.Result.{IsErrAnd};
-ghost use Rattle.wave_node.specs.Private.TypedReading.{IsCaused, named_cause, AnswersWhole, IsPayloadOf, GivesFlat, AnswersPayload};
+ghost use Rattle.wave_node.specs.Private.TypedReading.{IsCaused, named_cause, IsOfLength, IsOtherLength, AnswersWhole, IsPayloadOf, GivesFlat, AnswersPayload};
 ghost use Rattle.wave_node.specs.Nodes.{IsParsedFrom};
 ghost use Rattle.wave_lex.specs.Errors.{refusal_of};
 ghost use Rattle.std.specs.Prelude.{MatchBool, MatchResult};
@@ -120,7 +121,7 @@ impl Node {
             WasmTypeKind::Bool => self.read_bool(alloc, ty),
             WasmTypeKind::Char => self.read_char(alloc, ty, src),
             WasmTypeKind::String => self.read_string(alloc, ty, src),
-            WasmTypeKind::List => self.read_list(alloc, ty, src),
+            WasmTypeKind::List | WasmTypeKind::FixedLengthList => self.read_list(alloc, ty, src),
             WasmTypeKind::Record => self.read_record(alloc, ty, src),
             WasmTypeKind::Tuple => self.read_tuple(alloc, ty, src),
             WasmTypeKind::Variant => self.read_variant(alloc, ty, src),
@@ -157,7 +158,7 @@ impl Node {
         }
     }
 
-    /// A list.
+    /// A list or a fixed-length list, which has exactly as many items as its type says.
     #[cycle(reading)]
     fn read_list<V: WasmValue>(
         &self,
@@ -166,18 +167,34 @@ impl Node {
         src: &str,
     ) -> Result<V, ParserError>
         requires node { IsValueOf src.now self.now }
-        requires kind { kind_of (V.Type.tree ty.now) ≡ WasmTypeKind.List }
+        requires kind { IsOfListKind (kind_of (V.Type.tree ty.now)) }
         ensures answer { Answers V.tree V.is_of V.is_full (V.Type.tree ty.now) src.now self.now result }
         ensures within { IfErr result (RefusesIn self.now) }
     {
         let element = ty.list_element_type().unwrap();
         let nodes = self.as_list()?;
+        self.check_length(ty, nodes.len())?;
         let mut items = Vec::new(alloc);
         for node in nodes {
             let item = node.read(alloc, element, src)?;
             self.push(&mut items, item)?;
         }
         self.or_error_here(V::make_list(alloc, ty, items))
+    }
+
+    /// Nothing, where a list of so many items may be of the type.
+    fn check_length<T: WasmType>(&self, ty: &T, got: usize) -> Result<(), ParserError>
+        ensures fits { IfOk result (λ done. IsOfLength (T.tree ty.now) got) }
+        ensures other { IfErr result (IsOtherLength (T.tree ty.now) got self.now) }
+    {
+        let want = match ty.list_length() {
+            Some(want) => want,
+            None => return Ok(()),
+        };
+        if got != want as usize {
+            return Err(self.refused(WasmValueError::WrongNumberOfElements { want, got }));
+        }
+        Ok(())
     }
 
     /// A record: each field of the type, in the type's order, read from the entry of its name.

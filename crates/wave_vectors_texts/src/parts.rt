@@ -53,6 +53,87 @@ fn lists_and_tuples(rt: HostRuntime) -> Result<(), Fail> {
 }
 
 #[test]
+fn fixed_length_lists(rt: HostRuntime) -> Result<(), Fail> {
+    let found = wrong(
+        rt.alloc(),
+        &[
+            (
+                "list<u8, 4>",
+                &[
+                    ("[1, 2, 3, 4,]", "[1, 2, 3, 4]"),
+                    (
+                        "[1, 2, 3]",
+                        "error converting Wasm value: expected 4 list elements; got 3 at 0..9",
+                    ),
+                    (
+                        "[1, 2, 3, 4, 5]",
+                        "error converting Wasm value: expected 4 list elements; got 5 at 0..15",
+                    ),
+                    (
+                        "[256]",
+                        "error converting Wasm value: expected 4 list elements; got 1 at 0..5",
+                    ),
+                    ("(1, 2, 3, 4)", "invalid value type at 0..12"),
+                    ("[1, 2, 3, 256]", "invalid value at 10..13"),
+                ][..],
+            ),
+            (
+                "list<u8, 0>",
+                &[
+                    ("[]", "[]"),
+                    (
+                        "[1]",
+                        "error converting Wasm value: expected 0 list elements; got 1 at 0..3",
+                    ),
+                ][..],
+            ),
+            (
+                "list<u8, 1>",
+                &[(
+                    "[]",
+                    "error converting Wasm value: expected 1 list elements; got 0 at 0..2",
+                )][..],
+            ),
+        ],
+    )?;
+    assert_eq!(rt; found.as_str(), "");
+    Ok(())
+}
+
+#[test]
+fn fixed_length_lists_as_parts(rt: HostRuntime) -> Result<(), Fail> {
+    let found = wrong(
+        rt.alloc(),
+        &[
+            (
+                "option<list<u8, 1>>",
+                &[("[7]", "some([7])"), ("none", "none")][..],
+            ),
+            (
+                "variant { of(list<bool, 2>) }",
+                &[("of([true, false])", "of([true, false])")][..],
+            ),
+            (
+                "map<u8, list<u8, 1>>",
+                &[
+                    ("{1: [2], 1: [3]}", "{1: [3]}"),
+                    (
+                        "{1: [2], 1: []}",
+                        "error converting Wasm value: expected 1 list elements; got 0 at 12..14",
+                    ),
+                ][..],
+            ),
+            (
+                "tuple<list<u8, 0>, list<list<u8>, 2>>",
+                &[("([], [[], [1]])", "([], [[], [1]])")][..],
+            ),
+        ],
+    )?;
+    assert_eq!(rt; found.as_str(), "");
+    Ok(())
+}
+
+#[test]
 fn options_and_results(rt: HostRuntime) -> Result<(), Fail> {
     let found = wrong(
         rt.alloc(),

@@ -79,6 +79,18 @@ list-through P Q n through tokens v rest (l, (items, (inside, e, h), f)) no_pare
     let t = tree.list (trees ts) in
     (t, takes-row n l tokens t rest (subst (λ x. ATree (Takes (n - 1)) x t rest) (sym e) (ts, i, refl)), (ts, items, refl, q, f))
 
+-- as many trees as values
+pub each-long : {T A : Type 0} (Q : Meaning T A) (ts : List T) (items : List A) → Each Q ts items → length ts ≡ length items
+each-long Q [] items e = sym (ap length e)
+each-long Q (t ∷ ts) items (a, more, q, each, e) = ap suc (each-long Q ts more each) ∙ sym (ap length e)
+
+-- a fixed-length list
+fixed-through : (count : ℕ) (P : Spelling Value) (Q : Meaning Tree Value) (n : ℕ) → Through P (Takes (n - 1)) Q → Through (r.Provided (0 < n) (r.AFixedList count P)) (Takes n) (m.FixedListTree count Q)
+fixed-through count P Q n through tokens v rest (l, (items, (inside, e, h), long, f)) no_paren =
+    let (ts, i, q) = items-through bracket_close P (Takes (n - 1)) Q (λ x. cc) through inside items rest h in
+    let t = tree.list (trees ts) in
+    (t, takes-row n l tokens t rest (subst (λ x. ATree (Takes (n - 1)) x t rest) (sym e) (ts, i, refl)), (ts, items, refl, each-long Q ts items q ∙ long, q, f))
+
 -- as many trees as values, so some
 each-some : {T A : Type 0} (Q : Meaning T A) (ts : List T) (items : List A) → Each Q ts items → 0 < length items → 0 < length ts
 each-some Q [] items e l = let f : length items ≡ 0 = ap length e in omega arith
@@ -333,7 +345,7 @@ mutual
   through (type.simple S) n = simple-through S n
   through (type.unreadable kind) n = never-through _ _
   through (type.list E) n = list-through _ _ n (through E (n - 1))
-  through (type.fixed E count) n = never-through _ _
+  through (type.fixed E count) n = fixed-through count _ _ n (through E (n - 1))
   through (type.record_type fs) n = record-through fs _ _ n (λ name. through-field fs (n - 1) name)
   through (type.tuple types) n = tuple-through _ _ n (through-tuple types (n - 1))
   through (type.variant cases) n = variant-through _ _ n (λ name. through-case cases (n - 1) name)

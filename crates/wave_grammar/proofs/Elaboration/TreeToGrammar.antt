@@ -19,7 +19,7 @@ use Rattle.wave_grammar.specs.Tree.{Tree, MaybeTree, Trees, TreeEntries, trees, 
 use Rattle.wave_grammar.specs.Elaborates as m
 use Rattle.wave_grammar.specs.Elaborates.{Meaning, Each, TreeReads, TreeReadsPayload, TreeReadsFlat, TreeReadsAll, TreeReadsField, TreeReadsCase}
 use Rattle.wave_grammar.proofs.Unambiguity.Values.{pair-path}
-use Rattle.wave_grammar.proofs.Elaboration.GrammarToTree.{not-keyword, found-order}
+use Rattle.wave_grammar.proofs.Elaboration.GrammarToTree.{not-keyword, found-order, each-long}
 
 -- what each tree's tokens are
 abbrev pub ByTree : Spelling Tree → Tree → List Token → List Token → Type 0
@@ -112,7 +112,7 @@ abbrev pub Back : {T A : Type 0} → Spelling T → Meaning T A → Spelling A �
 Back {T} {A} I Q P = (tokens : List Token) (t : T) (a : A) (rest : List Token) → I tokens t rest → Q t a → P tokens a rest
 
 -- lists of trees are told apart
-trees-injective : (ts us : List Tree) → trees ts ≡ trees us → ts ≡ us
+pub trees-injective : (ts us : List Tree) → trees ts ≡ trees us → ts ≡ us
 trees-injective [] [] e = refl
 trees-injective [] (u ∷ us) e = cc
 trees-injective (t ∷ ts) [] e = cc
@@ -153,6 +153,19 @@ list-back : (Q : Meaning Tree Value) (P : Spelling Value) (n : ℕ) → Back (Ta
 list-back Q P n back tokens t v rest h (ts, vs, e, each, f) =
     let (l, (front, items, g, i, k)) = takes-as n tokens t (tree.list (trees ts)) rest h e in
     (l, (vs, (front, g, items-back bracket_close (Takes (n - 1)) Q P back front ts vs rest (subst (λ x. Items bracket_close (Takes (n - 1)) front x rest) (sym (trees-injective ts items k)) i) each), f))
+
+-- a fixed-length list
+fixed-back : (count : ℕ) (Q : Meaning Tree Value) (P : Spelling Value) (n : ℕ) → Back (Takes (n - 1)) Q P → Back (Takes n) (m.FixedListTree count Q) (r.Provided (0 < n) (r.AFixedList count P))
+fixed-back count Q P n back tokens t v rest h (ts, vs, e, long, each, f) =
+    let (l, (front, items, g, i, k)) = takes-as n tokens t (tree.list (trees ts)) rest h e in (
+      l,
+      (
+        vs,
+        (front, g, items-back bracket_close (Takes (n - 1)) Q P back front ts vs rest (subst (λ x. Items bracket_close (Takes (n - 1)) front x rest) (sym (trees-injective ts items k)) i) each),
+        sym (each-long Q ts vs each) ∙ long,
+        f,
+      ),
+    )
 
 -- a tuple
 tuple-back : (Q : Meaning (List Tree) (List Value)) (P : Spelling (List Value)) (n : ℕ) →
@@ -341,7 +354,7 @@ mutual
   back (type.simple S) n = simple-back S n
   back (type.unreadable kind) n = never-back _
   back (type.list E) n = list-back _ _ n (back E (n - 1))
-  back (type.fixed E count) n = never-back _
+  back (type.fixed E count) n = fixed-back count _ _ n (back E (n - 1))
   back (type.record_type fs) n = record-back fs _ _ n (λ name. back-field fs (n - 1) name)
   back (type.tuple types) n = tuple-back _ _ n (back-tuple types (n - 1))
   back (type.variant cases) n = variant-back _ _ n (λ name. back-case cases (n - 1) name)

@@ -192,6 +192,12 @@ list_carries Inner carries t u v h (ts, vs, e, each, f) =
     let (ws, are, l) = alike_trees ts us k in
     (ws, vs, is ∙ ap list are, each_carried Inner carries ts ws vs l each, f)
 
+fixed_carries : (count : ℕ) (Inner : Meaning Tree Value) → Carries Inner → Carries (m.FixedListTree count Inner)
+fixed_carries count Inner carries t u v h (ts, vs, e, long, each, f) =
+    let (us, is, k) = alike_list (trees ts) u (subst (λ (w : Tree). Alike w u) e h) in
+    let (ws, are, l) = alike_trees ts us k in
+    (ws, vs, is ∙ ap list are, sym (as_long ts ws l) ∙ long, each_carried Inner carries ts ws vs l each, f)
+
 tuple_carries : (Inner : Meaning (List Tree) (List Value)) → CarriesAll Inner → Carries (m.TupleTree Inner)
 tuple_carries Inner carries t u v h (ts, vs, e, some_items, read, f) =
     let (us, is, k) = alike_tuple (trees ts) u (subst (λ (w : Tree). Alike w u) e h) in
@@ -298,7 +304,7 @@ mutual
   carries (type.simple S) = simple_carries S
   carries (type.unreadable kind) = λ t u v h read. read
   carries (type.list E) = list_carries (TreeReads E) (carries E)
-  carries (type.fixed E count) = λ t u v h read. read
+  carries (type.fixed E count) = fixed_carries count (TreeReads E) (carries E)
   carries (type.record_type fs) = record_carries fs (TreeReadsField fs) (carries_field fs)
   carries (type.tuple types) = tuple_carries (TreeReadsAll types) (carries_all types)
   carries (type.variant cases) = variant_carries (TreeReadsCase cases) (carries_case cases)

@@ -1,5 +1,5 @@
 -- Worked examples: tokens and what they are, what a text spells at each kind of type and as a tree, what the type gives the tree, displays, parameters, calls.
-use Rattle.std.proofs.Common.{ℕ, ◌≡◌, ◌<◌, ◌==◌, nat_le, ◌&&◌, if◌then◌else◌, List, [], ◌∷◌, ◌++◌, map, take, codes, bytes_eq, inl, inr, refl, ap, subst, ◌∙◌, true, lit<, Some, None, pos, negsuc}
+use Rattle.std.proofs.Common.{ℕ, ◌≡◌, ◌≢◌, ◌<◌, ◌==◌, nat_le, length, ◌&&◌, if◌then◌else◌, List, [], ◌∷◌, ◌++◌, map, take, codes, bytes_eq, inl, inr, refl, ap, subst, ◌∙◌, true, lit<, Some, None, pos, negsuc}
 use Prim.Native.String.{String}
 use Rattle.wave_wasm.specs.Types as type
 use Rattle.wave_wasm.specs.Numbers.{IsInRange}
@@ -24,6 +24,7 @@ use Rattle.wave_grammar.specs.Tree.{Tree, Takes, word_of, leaf_word, none_word, 
 use Rattle.wave_grammar.specs.Elaborates.{TreeReads}
 use Rattle.wave_grammar.specs.Calls.{SpellsParams, IsCall, shown_call}
 use Rattle.wave_grammar.proofs.Unambiguity.Values.{apart}
+use Rattle.wave_grammar.proofs.Elaboration.TreeToGrammar.{trees-injective}
 use Rattle.wave_wasm.proofs.NameTests.{none_of}
 
 abbrev marks : List Token
@@ -104,6 +105,26 @@ Row T text t v = Reads T 2 (tokens text) v [] × Takes 2 (tokens text) t [] × T
 a_list : Row (type.list u8) "[1, 1,]" (tree.list (trees (one_tree ∷ one_tree ∷ []))) (value.list (values (a_one ∷ a_one ∷ [])))
 a_list = ((lit< tt, (_ ∷ _ ∷ [], (_, refl, (_, inner, (_, _, refl, inner, inr refl))), refl)), (_ ∷ _ ∷ [], (_, (refl, refl), (_, _, refl, (refl, refl), inr refl)), refl), (_ ∷ _ ∷ [], _ ∷ _ ∷ [], refl, (_, _, given, (_, _, given, refl, refl), refl), refl))
 
+-- as many items as the type says
+fixed_lists : Row (type.fixed u8 2) "[1, 1,]" (tree.list (trees (one_tree ∷ one_tree ∷ []))) (value.fixed (values (a_one ∷ a_one ∷ []))) × Row (type.fixed u8 0) "[]" (tree.list tree.no_trees) (value.fixed value.no_values)
+    × Row (type.option (type.fixed u8 1)) "[1]" (tree.list (trees (one_tree ∷ []))) (value.option (value.a_value (value.fixed (values (a_one ∷ [])))))
+fixed_lists = (
+  ((lit< tt, (_ ∷ _ ∷ [], (_, refl, (_, inner, (_, _, refl, inner, inr refl))), refl, refl)), (_ ∷ _ ∷ [], (_, (refl, refl), (_, _, refl, (refl, refl), inr refl)), refl), (_ ∷ _ ∷ [], _ ∷ _ ∷ [], refl, refl, (_, _, given, (_, _, given, refl, refl), refl), refl)),
+  ((lit< tt, ([], (_, refl, refl), refl, refl)), ([], refl, refl), ([], [], refl, refl, refl, refl)),
+  (
+    inr (_, (tt, (lit< tt, (_ ∷ [], (_, refl, (_, inner, inl refl)), refl, refl))), refl),
+    (_ ∷ [], (_, (refl, refl), inl refl), refl),
+    inr (_, (tt, (_ ∷ [], _ ∷ [], refl, refl, (_, _, given, refl, refl), refl)), refl),
+  ),
+)
+
+-- no list of fewer or more items is one of so many
+other_lengths : (count : ℕ) (ts : List Tree) (v : Value) → length ts ≢ count → TreeReads (type.fixed u8 count) (tree.list (trees ts)) v → ⊥
+other_lengths count ts v other (us, vs, e, long, each, f) = other (ap length (trees-injective ts us (list_parts e)) ∙ long)
+  where
+    list_parts : {xs ys : tree.Trees} → tree.list xs ≡ tree.list ys → xs ≡ ys
+    list_parts e = cc
+
 a_pair : Row (type.tuple (type.type_and u8 (type.type_and u8 type.no_types))) "(1, 1)" (tree.tuple (trees (one_tree ∷ one_tree ∷ []))) (value.tuple (values (a_one ∷ a_one ∷ [])))
 a_pair = ((lit< tt, (_, _, refl, (_, _, _, inner, (_, refl, (_, [], _, inner, (inl refl, refl), refl)), refl), refl)), (_ ∷ _ ∷ [], lit< tt, (_, (refl, refl), (_, _, refl, (refl, refl), inl refl)), refl), (_ ∷ _ ∷ [], _ ∷ _ ∷ [], refl, lit< tt, (_, _, _, _, refl, given, (_, _, _, _, refl, given, (refl, refl), refl), refl), refl))
 
@@ -153,9 +174,9 @@ results = ((inl (lit< tt, inl (_, (_, refl, (a_one, (_, refl, inner), refl)), re
 flat : Row (type.option u8) "1" one_tree (value.option (value.a_value a_one)) × Row u8_or_err "1" one_tree (value.ok (value.a_value a_one))
 flat = ((inr (a_one, (tt, one_reads 2 _ (lit< tt)), refl), (refl, refl), inr (a_one, (tt, given), refl)), (inr (a_one, (tt, one_reads 2 _ (lit< tt)), refl), (refl, refl), inr (a_one, (tt, given), refl)))
 
--- no tokens are a tuple of no types, a fixed-length list, or of a type that is not read
-none : (n : ℕ) (tokens rest : List Token) (v : Value) → (Reads (type.tuple type.no_types) n tokens v rest → ⊥) × (Reads (type.fixed u8 1) n tokens v rest → ⊥) × (Reads (type.unreadable type.f64) n tokens v rest → ⊥)
-none n tokens rest v = ((λ h. h.1.3), (λ h. h), (λ h. h))
+-- no tokens are a tuple of no types, or of a type that is not read
+none : (n : ℕ) (tokens rest : List Token) (v : Value) → (Reads (type.tuple type.no_types) n tokens v rest → ⊥) × (Reads (type.unreadable type.f64) n tokens v rest → ⊥)
+none n tokens rest v = ((λ h. h.1.3), (λ h. h))
 
 -- other leaves, before a `(`
 leaves : (rest : List Token) → Takes 1 (char (codes "'x'") ∷ rest) (tree.one (char (codes "'x'"))) rest × Takes 1 (string (codes "\"x\"") ∷ rest) (tree.one (string (codes "\"x\""))) rest

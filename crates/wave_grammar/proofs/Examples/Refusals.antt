@@ -15,7 +15,7 @@ use Rattle.wave_grammar.specs.PrefixAutomaton as due
 use Rattle.wave_grammar.specs.PrefixAutomaton.{Step, step, Leads, reads, unexpected, empty_tuple, repeated_flag, too_deep, value, first_item, next_item, behind_value}
 use Rattle.std.specs.declared.ops.Range.{Range}
 use Rattle.wave_wasm.specs.Types as type
-use Rattle.wave_wasm.specs.ValueErrors.{missing_field, missing_payload, unexpected_payload, unknown_case, wrong_number, unsupported_type}
+use Rattle.wave_wasm.specs.ValueErrors.{missing_field, missing_payload, unexpected_payload, unknown_case, wrong_number, wrong_length, unsupported_type}
 use Rattle.wave_lex.specs.Multiline.{opening}
 use Rattle.wave_grammar.specs.Token as token
 use Rattle.wave_grammar.specs.SpannedTree as placed
@@ -80,11 +80,11 @@ parts : (tree_of some_entry ≡ tree.entries (tree.entry one (tree.ok tree.no_tr
     × (part_places (shape_of (label 0 4 (codes "a") (a_placed (leaf 2 3 one)))) ≡ span 0 1 ∷ span 2 3 ∷ [])
 parts = (refl, refl, refl)
 
--- `a` at u8 and `1` at char: `InvalidType` 0..1; `1` at f64 and at a fixed-length list: the cause `UnsupportedType`; six quotes at string: `InvalidMultilineString` 3..4
+-- `a` at u8 and `1` at char: `InvalidType` 0..1; `1` at f64: the cause `UnsupportedType`; six quotes at string: `InvalidMultilineString` 3..4
 leaves : Fault u8 (label 0 1 (codes "a") no_placed) (plainly InvalidType) (span 0 1) × Fault (type.simple type.char) (leaf 0 1 one) (plainly InvalidType) (span 0 1)
-    × Fault (type.unreadable type.f64) (leaf 0 1 one) (caused (unsupported_type (codes "f64"))) (span 0 1) × Fault (type.fixed u8 4) (leaf 0 1 one) (caused (unsupported_type (codes "list<_,N>"))) (span 0 1)
+    × Fault (type.unreadable type.f64) (leaf 0 1 one) (caused (unsupported_type (codes "f64"))) (span 0 1)
     × Fault (type.simple type.string) (leaf 0 6 (multiline (codes "\"\"\"\"\"\""))) (plainly InvalidMultilineString) (span 3 4)
-leaves = ((refl, refl), inl ((λ h. let e = h.1 in cc), (refl, refl)), (refl, refl), (refl, refl), inr ((_, inr refl), inr (_, [], opening, refl, refl, inr (inl ((0, refl), (λ no_second. no_second), refl)), (refl, refl))))
+leaves = ((refl, refl), inl ((λ h. let e = h.1 in cc), (refl, refl)), (refl, refl), inr ((_, inr refl), inr (_, [], opening, refl, refl, inr (inl ((0, refl), (λ no_second. no_second), refl)), (refl, refl))))
 
 -- `[1, 256]` at list<u8>: `InvalidValue` 4..7; `(1, 256)` at tuple<u8> the cause `WrongNumberOfTupleValues` 0..8, and at tuple<u8, u8> `InvalidValue` 4..7
 abbrev two : PlacedTrees
@@ -93,6 +93,14 @@ two = placed.placed_trees (leaf 1 2 one ∷ leaf 4 7 big ∷ [])
 items : Fault (type.list u8) (at (span 0 8) (placed.list two)) (plainly InvalidValue) (span 4 7) × Fault (type.tuple (type.type_and u8 type.no_types)) (at (span 0 8) (placed.tuple two)) (caused (wrong_number 1 2)) (span 0 8)
     × Fault (type.tuple (type.type_and u8 (type.type_and u8 type.no_types))) (at (span 0 8) (placed.tuple two)) (plainly InvalidValue) (span 4 7)
 items = (inr (inl too_large), inl ((λ e. omega arith), (refl, refl)), inr (inr (inl too_large)))
+
+-- `[1, 256]` at list<u8, 3>: the cause `WrongNumberOfElements` 0..8, and nothing else; at list<u8, 2> `InvalidValue` 4..7; `[]` at list<u8, 1>: that cause 0..2; `1` at list<u8, 4>: `InvalidType` 0..1
+fixed_lists : Fault (type.fixed u8 3) (at (span 0 8) (placed.list two)) (caused (wrong_length 3 2)) (span 0 8)
+    × ((k : Refusal) (p : Range ℕ) → Fault (type.fixed u8 3) (at (span 0 8) (placed.list two)) k p → k ≡ caused (wrong_length 3 2))
+    × Fault (type.fixed u8 2) (at (span 0 8) (placed.list two)) (plainly InvalidValue) (span 4 7)
+    × Fault (type.fixed u8 1) (at (span 0 2) (placed.list placed.no_more)) (caused (wrong_length 1 0)) (span 0 2)
+    × Fault (type.fixed u8 4) (leaf 0 1 one) (plainly InvalidType) (span 0 1)
+fixed_lists = (inl ((λ e. omega arith), (refl, refl)), (λ k p. elim [ inl h ↦ h.1.0 | inr h ↦ let e : 2 ≡ 3 = h.0 in absurd (omega arith) ]), inr (refl, inr (inl too_large)), inl ((λ e. omega arith), (refl, refl)), (refl, refl))
 
 -- at `record { a: u8 }` `{b: 1, a: 256, %a: 1}`: `InvalidValue` 0..21, `DuplicateField` 15..17, `InvalidValue` 10..13;
 -- `{1: ok}`: `InvalidType` 1..2, at the key, and the cause `MissingField("a")` 0..7; `{}`: `InvalidType` 0..2

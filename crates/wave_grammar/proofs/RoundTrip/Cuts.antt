@@ -20,7 +20,7 @@ abbrev mutual
   Writes (type.simple S) n = r.Provided (0 < n) (r.ASimple S)
   Writes (type.unreadable kind) n = r.Never
   Writes (type.list E) n = r.Provided (0 < n) (r.AList (Writes E (n - 1)))
-  Writes (type.fixed E count) n = r.Never
+  Writes (type.fixed E count) n = r.Provided (0 < n) (r.AFixedList count (Writes E (n - 1)))
   Writes (type.record_type fields) n = r.Provided (0 < n) (r.ARecord fields (WritesField fields (n - 1)))
   Writes (type.tuple types) n = r.Provided (0 < n) (r.ATuple (WritesTuple types (n - 1)))
   Writes (type.variant cases) n = r.Provided (0 < n) (r.AVariant (WritesCase cases (n - 1)))
@@ -79,6 +79,9 @@ either_moves P Q P' Q' one two tokens a rest (inr p) = inr (two tokens a rest p)
 list_moves : (P Q : Spelling Value) → Moves P Q → Moves (r.AList P) (r.AList Q)
 list_moves P Q moves tokens v rest (items, h, e) = (items, listed_moves bracket_open bracket_close P Q moves tokens items rest h, e)
 
+fixed_moves : (count : ℕ) (P Q : Spelling Value) → Moves P Q → Moves (r.AFixedList count P) (r.AFixedList count Q)
+fixed_moves count P Q moves tokens v rest (items, h, long, e) = (items, listed_moves bracket_open bracket_close P Q moves tokens items rest h, long, e)
+
 tuple_moves : (P Q : Spelling (List Value)) → Moves P Q → Moves (r.ATuple P) (r.ATuple Q)
 tuple_moves P Q moves tokens v rest (items, front, e, h, f) = (items, front, e, moves front items rest h, f)
 
@@ -134,7 +137,9 @@ mutual
   moves (type.list E) own n =
       let w : (can_be_made (type.list E) ≡ true) × (every can_be_made E ≡ true) = and_true _ _ own in
       provided_moves (0 < n) _ _ (list_moves (Writes E (n - 1)) (Reads E (n - 1)) (moves E w.1 (n - 1)))
-  moves (type.fixed E count) own n = stays (Writes (type.fixed E count) n)
+  moves (type.fixed E count) own n =
+      let w : (can_be_made (type.fixed E count) ≡ true) × (every can_be_made E ≡ true) = and_true _ _ own in
+      provided_moves (0 < n) _ _ (fixed_moves count (Writes E (n - 1)) (Reads E (n - 1)) (moves E w.1 (n - 1)))
   moves (type.record_type fs) own n =
       let w : (can_be_made (type.record_type fs) ≡ true) × (every_field can_be_made fs ≡ true) = and_true _ _ own in
       provided_moves (0 < n) _ _ (record_moves fs (WritesField fs (n - 1)) (ReadsField fs (n - 1)) (λ name. moves_field fs w.1 (n - 1) name))

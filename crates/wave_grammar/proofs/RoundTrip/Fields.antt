@@ -89,7 +89,7 @@ pub none_at_option : (T : TypeTree) (v : Value) → HasType T v → is_no_option
 none_at_option (type.simple S) v (one, of, e) h = let wrong : false ≡ true = ap (λ (z : Value). is_no_option (merged z)) (sym e) ∙ h in cc
 none_at_option (type.unreadable kind) v t h = absurd t
 none_at_option (type.list E) v (vs, all, e) h = let wrong : false ≡ true = ap (λ (z : Value). is_no_option (merged z)) (sym e) ∙ h in cc
-none_at_option (type.fixed E n) v t h = absurd t
+none_at_option (type.fixed E n) v (vs, all, long, e) h = let wrong : false ≡ true = ap (λ (z : Value). is_no_option (merged z)) (sym e) ∙ h in cc
 none_at_option (type.record_type fs) v (all, of, e) h = let wrong : false ≡ true = ap (λ (z : Value). is_no_option (merged z)) (sym e) ∙ h in cc
 none_at_option (type.tuple Ts) v (vs, all, e) h = let wrong : false ≡ true = ap (λ (z : Value). is_no_option (merged z)) (sym e) ∙ h in cc
 none_at_option (type.variant cs) v (name, payload, of, e) h = let wrong : false ≡ true = ap (λ (z : Value). is_no_option (merged z)) (sym e) ∙ h in cc

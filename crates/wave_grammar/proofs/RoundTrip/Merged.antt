@@ -7,7 +7,7 @@ use Rattle.wave_wasm.specs.Values.{Value, MaybeValue}
 use Rattle.wave_grammar.specs.Token.{Token, bracket_close}
 use Rattle.wave_grammar.specs.CommaSeparated.{Spelling}
 use Rattle.wave_grammar.specs.TypedGrammar as r
-use Rattle.wave_grammar.proofs.Unambiguity.Values.{Agree, NeverBegins, Begins, IsStart, IsFlatStart, never-agree, provided-agree, list-agree, tuple-agree, first-agree, then-agree, end-agree, payload-agree, bare-agree, simple-agree, enum-agree, variant-agree, record-agree, flags-agree, map-agree, option-agree, result-agree, one-none, spells-start, case_name-start, flat_is-start}
+use Rattle.wave_grammar.proofs.Unambiguity.Values.{Agree, NeverBegins, Begins, IsStart, IsFlatStart, never-agree, provided-agree, list-agree, fixed-agree, tuple-agree, first-agree, then-agree, end-agree, payload-agree, bare-agree, simple-agree, enum-agree, variant-agree, record-agree, flags-agree, map-agree, option-agree, result-agree, one-none, spells-start, case_name-start, flat_is-start}
 use Rattle.wave_grammar.proofs.RoundTrip.Cuts.{EmptyTuple, Writes, WritesPayload, WritesTuple, WritesFurther, WritesField, WritesCase}
 
 -- ---- which token comes first
@@ -17,7 +17,7 @@ start : (T : TypeTree) (n : ℕ) (tokens : List Token) (v : Value) (rest : List 
 start (type.simple S) n tokens v rest (l, (token, x, e, k, f)) = flat_is-start tokens (subst (Begins IsFlatStart) (sym e) (spells-start S token x k))
 start (type.unreadable kind) n tokens v rest h = absurd h
 start (type.list E) n tokens v rest (l, (items, (inside, e, h), f)) = subst (Begins IsStart) (sym e) tt
-start (type.fixed E count) n tokens v rest h = absurd h
+start (type.fixed E count) n tokens v rest (l, (items, (inside, e, h), long, f)) = subst (Begins IsStart) (sym e) tt
 start (type.record_type fs) n tokens v rest (l, (found, all, inl (e, f), d, k, g)) = subst (Begins IsStart) (sym e) tt
 start (type.record_type fs) n tokens v rest (l, (found, all, inr ((inside, e, h), m), d, k, g)) = subst (Begins IsStart) (sym e) tt
 start (type.tuple types) n tokens v rest (l, (items, front, e, h, f)) = subst (Begins IsStart) (sym e) tt
@@ -67,7 +67,7 @@ mutual
   once (type.simple S) d n m = provided-agree (0 < n) (0 < m) _ _ (simple-agree S)
   once (type.unreadable kind) d n m = never-agree
   once (type.list E) d n m = provided-agree (0 < n) (0 < m) _ _ (list-agree (Writes E (n - 1)) (Writes E (m - 1)) (no_close E (n - 1)) (no_close E (m - 1)) (once E d (n - 1) (m - 1)))
-  once (type.fixed E count) d n m = never-agree
+  once (type.fixed E count) d n m = provided-agree (0 < n) (0 < m) _ _ (fixed-agree count (Writes E (n - 1)) (Writes E (m - 1)) (no_close E (n - 1)) (no_close E (m - 1)) (once E d (n - 1) (m - 1)))
   once (type.record_type fs) d n m = provided-agree (0 < n) (0 < m) _ _ (record-agree fs (WritesField fs (n - 1)) (WritesField fs (m - 1)) (λ name. once_field fs d.0 d.1 (n - 1) (m - 1) name))
   once (type.tuple types) d n m = provided-agree (0 < n) (0 < m) _ _ (tuple-agree (WritesTuple types (n - 1)) (WritesTuple types (m - 1)) (once_tuple types d (n - 1) (m - 1)))
   once (type.variant cs) d n m = provided-agree (0 < n) (0 < m) _ _ (variant-agree (WritesCase cs (n - 1)) (WritesCase cs (m - 1)) (λ name. once_case cs d.0 d.1 (n - 1) (m - 1) name))

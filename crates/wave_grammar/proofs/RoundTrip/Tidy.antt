@@ -70,6 +70,11 @@ list_tidy E n P gives tokens v rest (some, (items, h, e)) =
     let (f, l) = tidy_items (2 * (n - 1)) items (listed_all bracket_open bracket_close P (IsTidy (2 * (n - 1))) gives tokens items rest h) in
     moved (type.list E) n v (value.list (values items)) e (strictly (type.list E) n (value.list (values items)) (ap value.list f) (omega arith))
 
+fixed_tidy : (E : TypeTree) (count n : ℕ) (P : Spelling Value) → Gives P (IsTidy (2 * (n - 1))) → Gives (r.Provided (0 < n) (r.AFixedList count P)) (IsTidyAt (type.fixed E count) n)
+fixed_tidy E count n P gives tokens v rest (some, (items, h, long, e)) =
+    let (f, l) = tidy_items (2 * (n - 1)) items (listed_all bracket_open bracket_close P (IsTidy (2 * (n - 1))) gives tokens items rest h) in
+    moved (type.fixed E count) n v (value.fixed (values items)) e (strictly (type.fixed E count) n (value.fixed (values items)) (ap value.fixed f) (omega arith))
+
 tuple_tidy : (Ts : Types) (n : ℕ) (P : Spelling (List Value)) → Gives P (AllOf (IsTidy (2 * (n - 1)))) → Gives (r.Provided (0 < n) (r.ATuple P)) (IsTidyAt (type.tuple Ts) n)
 tuple_tidy Ts n P gives tokens v rest (some, (items, front, e, h, f)) =
     let (g, l) = tidy_items (2 * (n - 1)) items (gives front items rest h) in
@@ -214,7 +219,7 @@ mutual
   tidy (type.simple S) n = simple_tidy S n
   tidy (type.unreadable kind) n = never_gives (IsTidyAt (type.unreadable kind) n)
   tidy (type.list E) n = list_tidy E n (Reads E (n - 1)) (tidy_of E (n - 1) (tidy E (n - 1)))
-  tidy (type.fixed E count) n = never_gives (IsTidyAt (type.fixed E count) n)
+  tidy (type.fixed E count) n = fixed_tidy E count n (Reads E (n - 1)) (tidy_of E (n - 1) (tidy E (n - 1)))
   tidy (type.record_type fs) n = record_tidy fs n (ReadsField fs (n - 1)) (λ name. tidy_field fs (n - 1) name)
   tidy (type.tuple Ts) n = tuple_tidy Ts n (ReadsTuple Ts (n - 1)) (tidy_tuple Ts (n - 1))
   tidy (type.variant cs) n = variant_tidy cs n (ReadsCase cs (n - 1)) (λ name. tidy_case cs (n - 1) name)

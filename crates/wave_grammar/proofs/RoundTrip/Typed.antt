@@ -57,6 +57,10 @@ list_typed : (E : TypeTree) (n : ℕ) (P : Spelling Value) → Reading P (HasTyp
 list_typed E n P reading tokens v rest u (some, (items, h, e)) =
     let (all, w) = listed_typed bracket_open bracket_close P (HasType E) reading tokens items rest u h in ((items, all, e), w)
 
+fixed_typed : (E : TypeTree) (count n : ℕ) (P : Spelling Value) → Reading P (HasType E) → Reading (r.Provided (0 < n) (r.AFixedList count P)) (HasType (type.fixed E count))
+fixed_typed E count n P reading tokens v rest u (some, (items, h, long, e)) =
+    let (all, w) = listed_typed bracket_open bracket_close P (HasType E) reading tokens items rest u h in ((items, all, long, e), w)
+
 tuple_typed : (Ts : Types) (n : ℕ) (P : Spelling (List Value)) → Reading P (HasTypes Ts) → Reading (r.Provided (0 < n) (r.ATuple P)) (HasType (type.tuple Ts))
 tuple_typed Ts n P reading tokens v rest u (some, (items, front, e, h, f)) =
     let (all, w) = reading front items rest (subst AreUtf8 e u).1 h in ((items, all, f), w)
@@ -217,7 +221,7 @@ mutual
   typed (type.simple S) d n = simple_typed S n
   typed (type.unreadable kind) d n = never_typed (HasType (type.unreadable kind))
   typed (type.list E) d n = list_typed E n (Reads E (n - 1)) (typed E d (n - 1))
-  typed (type.fixed E count) d n = never_typed (HasType (type.fixed E count))
+  typed (type.fixed E count) d n = fixed_typed E count n (Reads E (n - 1)) (typed E d (n - 1))
   typed (type.record_type fs) d n = record_typed fs n (ReadsField fs (n - 1)) d.0 (λ name. typed_field fs d.1 (n - 1) name)
   typed (type.tuple Ts) d n = tuple_typed Ts n (ReadsTuple Ts (n - 1)) (typed_tuple Ts d (n - 1))
   typed (type.variant cs) d n = variant_typed cs n (ReadsCase cs (n - 1)) (λ name. typed_case cs d.1 (n - 1) name)

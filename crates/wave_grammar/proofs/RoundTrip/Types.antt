@@ -1,6 +1,7 @@
 -- The canonical text of each value of a type prints the value, merged.
-use Rattle.std.proofs.Common.{◌≡◌, ℕ, ◌≤◌, ◌-◌, List, [], ◌∷◌, inl, inr, map, refl, sym, ap, subst, arith}
+use Rattle.std.proofs.Common.{◌≡◌, ℕ, ◌≤◌, ◌-◌, List, [], ◌∷◌, length, inl, inr, map, refl, sym, ap, subst, arith}
 use Rattle.std.specs.Prelude.{codes}
+use Rattle.std.proofs.lemmas.List.{length-map}
 use Rattle.wave_wasm.specs.Lists.{AllOf}
 use Rattle.wave_wasm.specs.Types as type
 use Rattle.wave_wasm.specs.Types.{TypeTree, MaybeType, Types, Fields, Cases, Simple, field_names, case_names, EachNames, EachNamesOfMaybe, EachNamesOfTypes, EachNamesOfFields, EachNamesOfCases, HasDistinctNames}
@@ -54,6 +55,11 @@ list_row : (E : TypeTree) (vs : List Value) → AllOf (λ v. IsPrinted E (merged
 list_row E vs h n l r rest s cut =
     let (tokens, c, i) = brackets_print (Writes E (n - 1)) _ (map merged vs) (list_items E (n - 1) vs h (omega arith)) r rest s cut in
     (tokens, c, (omega arith, (map merged vs, i, ap value.list (merged_map vs))))
+
+fixed_row : (E : TypeTree) (vs : List Value) → AllOf (λ v. IsPrinted E (merged v)) vs → IsPrinted (type.fixed E (length vs)) (merged (value.fixed (values vs)))
+fixed_row E vs h n l r rest s cut =
+    let (tokens, c, i) = brackets_print (Writes E (n - 1)) _ (map merged vs) (list_items E (n - 1) vs h (omega arith)) r rest s cut in
+    (tokens, c, (omega arith, (map merged vs, i, length-map vs merged, ap value.fixed (merged_map vs))))
 
 tuple_row : (Ts : Types) (vs : List Value) → ((n : ℕ) → height_of_values (merged_values (values vs)) ≤ n → TuplePrints Ts n (printed_items (merged_values (values vs))) (map merged vs))
     → IsPrinted (type.tuple Ts) (merged (value.tuple (values vs)))
@@ -144,7 +150,9 @@ mutual
   prints (type.unreadable kind) labels distinct v of = absurd of
   prints (type.list E) labels distinct v (vs, all, e) =
       subst (λ (z : Value). IsPrinted (type.list E) (merged z)) (sym e) (list_row E vs (all_of (HasType E) (λ x. IsPrinted E (merged x)) (prints E labels distinct) vs all))
-  prints (type.fixed E count) labels distinct v of = absurd of
+  prints (type.fixed E count) labels distinct v (vs, all, long, e) =
+      subst (λ (z : Value). IsPrinted (type.fixed E count) (merged z)) (sym e)
+      (subst (λ (n : ℕ). IsPrinted (type.fixed E n) (merged (value.fixed (values vs)))) long (fixed_row E vs (all_of (HasType E) (λ x. IsPrinted E (merged x)) (prints E labels distinct) vs all)))
   prints (type.record_type fs) labels distinct v (all, of, e) =
       subst (λ (z : Value). IsPrinted (type.record_type fs) (merged z)) (sym e) (record_row fs all labels.0 distinct.0 of (prints_fields fs labels.1 distinct.1 all of))
   prints (type.tuple Ts) labels distinct v (vs, of, e) =

@@ -5,7 +5,7 @@ use Rattle.wave_wasm.specs.Types as type
 use Rattle.wave_wasm.specs.Types.{TypeTree, MaybeType, Types, Fields, Cases, Simple, no_type, a_type, no_types, type_and, no_fields, field, no_cases, case_of}
 use Rattle.wave_wasm.specs.Values.{Value, MaybeValue}
 use Rattle.wave_grammar.specs.CommaSeparated.{Spelling, Closes, FurtherItems, Items, Listed}
-use Rattle.wave_grammar.specs.TypedGrammar.{Behind, InParens, Named, Keyed, Name, CaseName, EmptyBraces, ASimple, AList, ATuple, ARecord, Flags, AMap, AVariant, AnEnum, AnOption, AResult, Stands, Bare, Payload, First, Then, End, Provided, Either, Never, Reads, ReadsPayload, ReadsFlat, ReadsTuple, ReadsFurther, ReadsField, ReadsCase}
+use Rattle.wave_grammar.specs.TypedGrammar.{Behind, InParens, Named, Keyed, Name, CaseName, EmptyBraces, ASimple, AList, AFixedList, ATuple, ARecord, Flags, AMap, AVariant, AnEnum, AnOption, AResult, Stands, Bare, Payload, First, Then, End, Provided, Either, Never, Reads, ReadsPayload, ReadsFlat, ReadsTuple, ReadsFurther, ReadsField, ReadsCase}
 
 -- the tokens that it takes, and that it takes them before any rest
 abbrev pub Fronts : {A : Type 0} → Spelling A → List Token → A → List Token → Type 0
@@ -92,6 +92,10 @@ simple-framed S tokens v rest (token, one, e, s, f) = (token ∷ [], e, λ x. (t
 list-framed : (P : Spelling Value) → Framed P → Framed (AList P)
 list-framed P framed tokens v rest (items, h, e) = let (f, k, q) = listed-framed bracket_open bracket_close P framed tokens items rest h in (f, k, λ x. (items, q x, e))
 
+-- a fixed-length list
+fixed-framed : (count : ℕ) (P : Spelling Value) → Framed P → Framed (AFixedList count P)
+fixed-framed count P framed tokens v rest (items, h, long, e) = let (f, k, q) = listed-framed bracket_open bracket_close P framed tokens items rest h in (f, k, λ x. (items, q x, long, e))
+
 -- a tuple
 tuple-framed : (P : Spelling (List Value)) → Framed P → Framed (ATuple P)
 tuple-framed P framed tokens v rest (items, front, e, h, g) =
@@ -177,7 +181,7 @@ mutual
   framed (type.simple S) n = provided-framed _ _ (simple-framed S)
   framed (type.unreadable kind) n = never-framed
   framed (type.list E) n = provided-framed _ _ (list-framed _ (framed E (n - 1)))
-  framed (type.fixed E count) n = never-framed
+  framed (type.fixed E count) n = provided-framed _ _ (fixed-framed count _ (framed E (n - 1)))
   framed (type.record_type fs) n = provided-framed _ _ (record-framed fs _ (λ name. framed-field fs (n - 1) name))
   framed (type.tuple types) n = provided-framed _ _ (tuple-framed _ (framed-tuple types (n - 1)))
   framed (type.variant cases) n = provided-framed _ _ (variant-framed _ (λ name. framed-case cases (n - 1) name))

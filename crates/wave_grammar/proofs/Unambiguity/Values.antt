@@ -15,7 +15,7 @@ use Rattle.wave_lex.specs.Strings.{CharMeans, StringMeans}
 use Rattle.wave_lex.specs.Multiline.{MultilineMeans}
 use Rattle.wave_lex.proofs.Decoding.{char_once, string_once, multiline_once}
 use Rattle.wave_grammar.specs.LeafTokens.{name_of, Spells}
-use Rattle.wave_grammar.specs.TypedGrammar.{InParens, Named, Keyed, Name, CaseName, EmptyBraces, look_up, IsFlat, FieldIs, Fills, ASimple, AList, ATuple, ARecord, Flags, AMap, AVariant, AnEnum, AnOption, AResult, Stands, Bare, Payload, First, Then, End, Provided, Either, Never, Reads, ReadsPayload, ReadsFlat, ReadsTuple, ReadsFurther, ReadsField, ReadsCase}
+use Rattle.wave_grammar.specs.TypedGrammar.{InParens, Named, Keyed, Name, CaseName, EmptyBraces, look_up, IsFlat, FieldIs, Fills, ASimple, AList, AFixedList, ATuple, ARecord, Flags, AMap, AVariant, AnEnum, AnOption, AResult, Stands, Bare, Payload, First, Then, End, Provided, Either, Never, Reads, ReadsPayload, ReadsFlat, ReadsTuple, ReadsFurther, ReadsField, ReadsCase}
 use Rattle.wave_wasm.specs.Merge.{merge, leaf_eq}
 
 -- texts that a test tells apart
@@ -97,6 +97,12 @@ pub list-agree : (P Q : Spelling Value) → NeverBegins bracket_close P → Neve
 list-agree P Q np nq agree tokens a b r s (items, h, e) (items', k, f) =
     let one = listed-agree bracket_open bracket_close P Q (λ x. cc) np nq agree tokens items items' r s h k in
     (e ∙ ap (λ x. value.list (values x)) one.0 ∙ sym f, one.1)
+
+-- a fixed-length list
+pub fixed-agree : (count : ℕ) (P Q : Spelling Value) → NeverBegins bracket_close P → NeverBegins bracket_close Q → Agree P Q → Agree (AFixedList count P) (AFixedList count Q)
+fixed-agree count P Q np nq agree tokens a b r s (items, h, long, e) (items', k, long', f) =
+    let one = listed-agree bracket_open bracket_close P Q (λ x. cc) np nq agree tokens items items' r s h k in
+    (e ∙ ap (λ x. value.fixed (values x)) one.0 ∙ sym f, one.1)
 
 -- the end of a tuple
 pub end-agree : Agree End End
@@ -251,7 +257,7 @@ flat-start : (T : TypeTree) (n : ℕ) → IsFlat T → (tokens : List Token) (v 
 flat-start (type.simple S) n flat tokens v rest (le, (token, x, e, k, f)) = subst (Begins IsFlatStart) (sym e) (spells-start S token x k)
 flat-start (type.unreadable kind) n flat tokens v rest h = absurd h
 flat-start (type.list E) n flat tokens v rest (le, (items, (inside, e, h), f)) = subst (Begins IsFlatStart) (sym e) tt
-flat-start (type.fixed E count) n flat tokens v rest h = absurd h
+flat-start (type.fixed E count) n flat tokens v rest (le, (items, (inside, e, h), long, f)) = subst (Begins IsFlatStart) (sym e) tt
 flat-start (type.record_type fs) n flat tokens v rest (le, (found, all, inl (e, f), d, k, g)) = subst (Begins IsFlatStart) (sym e) tt
 flat-start (type.record_type fs) n flat tokens v rest (le, (found, all, inr ((inside, e, h), l), d, k, g)) = subst (Begins IsFlatStart) (sym e) tt
 flat-start (type.tuple types) n flat tokens v rest (le, (items, front, e, h, f)) = subst (Begins IsFlatStart) (sym e) tt
@@ -461,7 +467,7 @@ mutual
   unique (type.simple S) good n m = provided-agree _ _ _ _ (simple-agree S)
   unique (type.unreadable kind) good n m = never-agree
   unique (type.list E) good n m = provided-agree _ _ _ _ (list-agree _ _ (never-begins E _) (never-begins E _) (unique E good (n - 1) (m - 1)))
-  unique (type.fixed E count) good n m = never-agree
+  unique (type.fixed E count) good n m = provided-agree _ _ _ _ (fixed-agree count _ _ (never-begins E _) (never-begins E _) (unique E good (n - 1) (m - 1)))
   unique (type.record_type fs) good n m = provided-agree _ _ _ _ (record-agree fs _ _ (λ name. unique-field fs good.0 good.1 (n - 1) (m - 1) name))
   unique (type.tuple types) good n m = provided-agree _ _ _ _ (tuple-agree _ _ (unique-tuple types good (n - 1) (m - 1)))
   unique (type.variant cases) good n m = provided-agree _ _ _ _ (variant-agree _ _ (λ name. unique-case cases good.0 good.1 (n - 1) (m - 1) name))

@@ -208,7 +208,7 @@ flat_some : (P : TypeTree) (u : form.Tree) (w : Value) → IsFlat P → TreeRead
 flat_some (type.simple S) u w f h = absurd (cc h.2)
 flat_some (type.unreadable k) u w f h = h
 flat_some (type.list E) u w f h = absurd (cc h.2)
-flat_some (type.fixed E n) u w f h = h
+flat_some (type.fixed E n) u w f h = absurd (cc h.2)
 flat_some (type.record_type fs) u w f (es, found, all, inl a, b, c, d, e) = absurd (cc a.0)
 flat_some (type.record_type fs) u w f (es, found, all, inr a, b, c, d, e) = absurd (cc a.0)
 flat_some (type.tuple Ts) u w f h = absurd (cc h.2)

@@ -223,7 +223,7 @@ pub flat_ok : (P : TypeTree) (u : form.MaybeTree) (w : Value) → IsFlat P → T
 flat_ok (type.simple S) u w f h = absurd (cc h.2)
 flat_ok (type.unreadable k) u w f h = h
 flat_ok (type.list E) u w f h = absurd (cc h.2)
-flat_ok (type.fixed E n) u w f h = h
+flat_ok (type.fixed E n) u w f h = absurd (cc h.2)
 flat_ok (type.record_type fs) u w f (es, found, all, inl a, b, c, d, e) = absurd (cc a.0)
 flat_ok (type.record_type fs) u w f (es, found, all, inr a, b, c, d, e) = absurd (cc a.0)
 flat_ok (type.tuple Ts) u w f h = absurd (cc h.2)
@@ -241,7 +241,7 @@ pub flat_err : (P : TypeTree) (u : form.MaybeTree) (w : Value) → IsFlat P → 
 flat_err (type.simple S) u w f h = absurd (cc h.2)
 flat_err (type.unreadable k) u w f h = h
 flat_err (type.list E) u w f h = absurd (cc h.2)
-flat_err (type.fixed E n) u w f h = h
+flat_err (type.fixed E n) u w f h = absurd (cc h.2)
 flat_err (type.record_type fs) u w f (es, found, all, inl a, b, c, d, e) = absurd (cc a.0)
 flat_err (type.record_type fs) u w f (es, found, all, inr a, b, c, d, e) = absurd (cc a.0)
 flat_err (type.tuple Ts) u w f h = absurd (cc h.2)

@@ -29,7 +29,7 @@ use Rattle.wave_node.proofs.ChildNodes.Inside.{From, inside, some_is, AreParsed,
 use Rattle.wave_node.proofs.ChildNodes.Cases.{shape_at}
 use Rattle.wave_node.proofs.ByKind.Leaves.{tree_is, at_tree}
 use Rattle.wave_node.proofs.MakerAnswers.{made}
-use Rattle.wave_node.proofs.ByKind.Lists.{AreNodesOf, HasAt, node_at, spelled_nodes, trees_back, trees_are}
+use Rattle.wave_node.proofs.ByKind.Lists.{AreNodesOf, HasAt, as_many, node_at, spelled_nodes, trees_back, trees_are}
 use Rattle.wave_node.specs.declared.ast.NodeType.{NodeType}
 use Rattle.wave_node.specs.declared.ast.NodeType.TheVariants as kind
 use Rattle.wave_wasm.proofs.TypeKinds.{formed_as}
@@ -155,12 +155,6 @@ pub tuple_item : (source : List ℕ) (m : NodeTree) (ns : List NodeTree) (i : �
 tuple_item source m ns i n v ty children lt at_i =
     let here = node_at source ns (tuple_nodes source m v.0 v.1 ty).items i n (given_items source m v.0 ns v.1 ty children) lt at_i in
     (here.0, here.2)
-
-as_many : (source : List ℕ) (ns : List NodeTree) (ts : List Placed) → AreNodesOf source ns ts → length ns ≡ length ts
-as_many source [] [] h = refl
-as_many source [] (t ∷ ts) h = absurd h
-as_many source (n ∷ ns) [] h = absurd h
-as_many source (n ∷ ns) (t ∷ ts) h = ap suc (as_many source ns ts h.1)
 
 -- ---- faults
 

@@ -187,7 +187,9 @@ module _ (source : List ℕ) (k : Refusal) (q : Range ℕ) where
     fault_lies (type.simple S) (at p (one tok)) h f = leaf_lies S p tok h.0.1.0.ordered (λ quoted. one_holds source (at p (one tok)) tok quoted refl h) f
     fault_lies (type.simple S) (at p _) h f = whole p q f.1 h.0.1.0.ordered
     fault_lies (type.unreadable u) (at p s) h f = whole p q f.1 h.0.1.0.ordered
-    fault_lies (type.fixed E n) (at p s) h f = whole p q f.1 h.0.1.0.ordered
+    fault_lies (type.fixed E n) (at p (list ts)) h (inl f) = whole p q f.1.1 h.0.1.0.ordered
+    fault_lies (type.fixed E n) (at p (list ts)) h (inr f) = items_lie E ts p.start p.end (λ u g e. fault_lies E u g e) h.1 f.1
+    fault_lies (type.fixed E n) (at p _) h f = whole p q f.1 h.0.1.0.ordered
     fault_lies (type.list E) (at p (list ts)) h f = items_lie E ts p.start p.end (λ u g e. fault_lies E u g e) h.1 f
     fault_lies (type.list E) (at p _) h f = whole p q f.1 h.0.1.0.ordered
     fault_lies (type.tuple Ts) (at p (tuple ts)) h (inl f) = whole p q f.1.1 h.0.1.0.ordered

@@ -3,12 +3,12 @@ use Rattle.std.specs.Prelude.{ℕ, ℤ, ◌≡◌, ◌≢◌, ◌⊎◌, List, [
 use Rattle.std.specs.Result.{IsErrAnd}
 use Rattle.wave_wasm.specs.Lists.{AllOf}
 use Rattle.wave_wasm.specs.Names.{AreDistinct}
-use Rattle.wave_wasm.specs.Types.{TypeTree, MaybeType, Whole, whole_kind, type_option, maybe_type, EachNamesOfMaybe}
+use Rattle.wave_wasm.specs.Types.{TypeTree, MaybeType, Whole, whole_kind, list_length, type_option, maybe_type, EachNamesOfMaybe}
 use Rattle.wave_wasm.specs.declared.wasm.WasmTypeKind.{WasmTypeKind}
 use Rattle.wave_wasm.specs.Values as value
 use Rattle.wave_wasm.specs.Values.{Value, maybe_value}
 use Rattle.wave_wasm.specs.TypeText.{kind_word}
-use Rattle.wave_wasm.specs.ValueErrors.{Cause, unsupported_type, unknown_case, missing_field, missing_payload, unexpected_payload}
+use Rattle.wave_wasm.specs.ValueErrors.{Cause, unsupported_type, unknown_case, missing_field, missing_payload, unexpected_payload, wrong_length}
 use Rattle.wave_wasm.specs.ConstructorContracts.{PayloadIsOf, payload_and}
 use Rattle.wave_lex.specs.Errors.{Diagnostic, refusal_of}
 use Rattle.wave_lex.specs.declared.error.ParserErrorKind.TheVariants.{OutOfMemory, WasmValueError}
@@ -26,6 +26,15 @@ use Rattle.wave_node.specs.declared.typed.Amiss.TheVariants as amiss
 -- a refusal with this cause at the node, or for want of memory
 abbrev pub IsCaused : Cause → NodeTree → Diagnostic → Type 0
 IsCaused cause n e = (e.kind ≡ OutOfMemory) ⊎ RefusesFor cause (place_of n) (refusal_of e) e.span
+
+-- where the type is a fixed-length list, it has so many elements
+abbrev pub IsOfLength : TypeTree → ℕ → Type 0
+IsOfLength T got = (want : ℕ) → list_length T ≡ Some want → got ≡ want
+
+-- the type is a fixed-length list of another number of elements, and the refusal says so at the node
+abbrev pub IsOtherLength : TypeTree → ℕ → NodeTree → Diagnostic → Type 0
+IsOtherLength T got n e =
+    (want : ℕ) × (list_length T ≡ Some want) × (got ≢ want) × RefusesFor (wrong_length want got) (place_of n) (refusal_of e) e.span
 
 -- the cause that says what is amiss with the name
 abbrev pub named_cause : Amiss → List ℕ → Cause

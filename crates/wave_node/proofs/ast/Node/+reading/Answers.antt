@@ -4,7 +4,8 @@ use Rattle.wave_node.proofs.MakerAnswers.{faulty, handed}
 use Rattle.wave_node.proofs.ByKind.Leaves.{said}
 use Rattle.wave_node.proofs.ByKind.Wholes.{whole_answers, whole_at}
 use Rattle.wave_node.specs.TypedReading.{IsValueOf}
-use Rattle.wave_node.proofs.ByKind.Lists.{element_is, list_fault, list_deep, list_item, list_blame, list_kept, list_made, list_nodes, given_nodes, read_all, element_distinct}
+use Rattle.wave_node.proofs.ByKind.Lists.{element_is, list_is, list_fault, list_deep, list_item, list_blame, length_blame, list_kept, list_made, list_nodes, given_nodes, read_all, as_many, element_distinct}
+use Rattle.wave_node.specs.Private.TypedReading.{IsOfLength}
 use Rattle.wave_node.proofs.ByKind.Options.{payload_is, option_deep, flat_true, not_flat, given_none, given_some, some_value, option_fault, some_blame, flat_blame, none_made, some_made, flat_made}
 use Rattle.wave_node.proofs.ByKind.Results.{result_type, ok_deep, err_deep, given_ok, given_err, ok_payload, err_payload, result_fault, ok_blame, err_blame, result_flat_blame, ok_made, err_made, result_flat_made}
 use Rattle.wave_wasm.specs.Types.{maybe_type}
@@ -47,12 +48,17 @@ use Rattle.wave_node.proofs.ast.Node.+reading.Goals as goal
 
 pub read-returns-in_default-clause-answer : goal.read-returns-in_default-clause-answer
 read-returns-in_default-clause-answer g m c = λ t is distinct.
-    whole_answers g.V.WasmValue.tree g.V.WasmValue.is_of g.V.WasmValue.is_full (g.V.Type.WasmType.tree c.args.ty.now) c.kind.result c.args.src.now c.args.self.now t c.read_whole.result c.kind.ensures is.0 (record { bool = c.in_default.not-Bool; char = c.in_default.not-Char; string = c.in_default.not-String; list = c.in_default.not-List; tuple = c.in_default.not-Tuple; record_kind = c.in_default.not-Record; option = c.in_default.not-Option; result = c.in_default.not-Result; variant = c.in_default.not-Variant; enum = c.in_default.not-Enum; flags = c.in_default.not-Flags; map = c.in_default.not-Map }) c.read_whole.ensures
+    whole_answers g.V.WasmValue.tree g.V.WasmValue.is_of g.V.WasmValue.is_full (g.V.Type.WasmType.tree c.args.ty.now) c.kind.result c.args.src.now c.args.self.now t c.read_whole.result c.kind.ensures is.0 (record { bool = c.in_default.not-Bool; char = c.in_default.not-Char; string = c.in_default.not-String; list = c.in_default.not-List; fixed = c.in_default.not-FixedLengthList; tuple = c.in_default.not-Tuple; record_kind = c.in_default.not-Record; option = c.in_default.not-Option; result = c.in_default.not-Result; variant = c.in_default.not-Variant; enum = c.in_default.not-Enum; flags = c.in_default.not-Flags; map = c.in_default.not-Map }) c.read_whole.ensures
 
 pub read_list-returns-in_err-nodes-clause-answer : goal.read_list-returns-in_err-nodes-clause-answer
 read_list-returns-in_err-nodes-clause-answer g m c = λ t is distinct.
-    faulty g.V.WasmValue.tree g.V.WasmValue.is_of g.V.WasmValue.is_full (g.V.Type.WasmType.tree c.args.ty.now) t (type.list (g.V.Type.WasmType.tree c.unwrap-element.result.now)) c.in_err-nodes.field-0.0 c.from_residual.result (element_is g.V.Type.WasmType.tree (g.V.Type.WasmType.tree c.args.ty.now) c.list_element_type.result c.unwrap-element.result c.unwrap-element.ensures c.list_element_type.ensures) c.from_residual.ensures.1
-    (list_fault (g.V.Type.WasmType.tree c.args.ty.now) (g.V.Type.WasmType.tree c.unwrap-element.result.now) c.args.src.now c.args.self.now t _ _ is.0 c.in_err-nodes.ensures.0 (said c.in_err-nodes.ensures.1))
+    faulty g.V.WasmValue.tree g.V.WasmValue.is_of g.V.WasmValue.is_full (g.V.Type.WasmType.tree c.args.ty.now) t (g.V.Type.WasmType.tree c.args.ty.now) c.in_err-nodes.field-0.0 c.from_residual.result refl c.from_residual.ensures.1
+    (list_fault (g.V.Type.WasmType.tree c.args.ty.now) (g.V.Type.WasmType.tree c.unwrap-element.result.now) c.args.src.now c.args.self.now t _ _ (element_is g.V.Type.WasmType.tree (g.V.Type.WasmType.tree c.args.ty.now) c.list_element_type.result c.unwrap-element.result c.unwrap-element.ensures c.list_element_type.ensures) is.0 c.in_err-nodes.ensures.0 (said c.in_err-nodes.ensures.1))
+
+pub read_list-returns-in_err-check_length-clause-answer : goal.read_list-returns-in_err-check_length-clause-answer
+read_list-returns-in_err-check_length-clause-answer g m c = λ t is distinct.
+    handed g.V.WasmValue.tree g.V.WasmValue.is_of g.V.WasmValue.is_full (g.V.Type.WasmType.tree c.args.ty.now) t c.in_err-check_length.field-0.0 c.from_residual-in_err-check_length.result c.from_residual-in_err-check_length.ensures.1
+    (length_blame g.V.WasmValue.tree g.V.WasmValue.is_of g.V.WasmValue.is_full (g.V.Type.WasmType.tree c.args.ty.now) c.args.src.now c.args.self.now t c.in_ok-nodes.nodes.now c.in_err-check_length.field-0.0 is c.in_ok-nodes.ensures.0 c.in_ok-nodes.ensures.1 c.in_err-check_length.ensures.other)
 
 pub read_list-read-requires : goal.read_list-read-requires
 read_list-read-requires g m c κs within =
@@ -61,9 +67,9 @@ read_list-read-requires g m c κs within =
 
 pub read_list-returns-in_err-item-clause-answer : goal.read_list-returns-in_err-item-clause-answer
 read_list-returns-in_err-item-clause-answer g m c = λ t is distinct.
-    let list : (g.V.Type.WasmType.tree c.args.ty.now) ≡ type.list (g.V.Type.WasmType.tree c.unwrap-element.result.now) = (element_is g.V.Type.WasmType.tree (g.V.Type.WasmType.tree c.args.ty.now) c.list_element_type.result c.unwrap-element.result c.unwrap-element.ensures c.list_element_type.ensures) in
+    let long : IsOfLength (g.V.Type.WasmType.tree c.args.ty.now) (length c.in_ok-nodes.nodes.now) = c.in_ok-check_length.ensures.fits in
     handed g.V.WasmValue.tree g.V.WasmValue.is_of g.V.WasmValue.is_full (g.V.Type.WasmType.tree c.args.ty.now) t c.in_err-item.field-0.0 c.from_residual-in_err-item.result c.from_residual-in_err-item.ensures.1
-    (list_blame g.V.WasmValue.tree g.V.WasmValue.is_of g.V.WasmValue.is_full c.args.src.now (g.V.Type.WasmType.tree c.args.ty.now) (g.V.Type.WasmType.tree c.unwrap-element.result.now) c.args.self.now t c.in_ok-nodes.nodes.now c.loop-node.node-index c.node-item.result c.in_err-item.field-0.0 list is c.in_ok-nodes.ensures.0 c.in_ok-nodes.ensures.1 c.loop-node-test.true c.node-item.is g.met.V.WasmValue.full_parts (λ u here. c.in_err-item.ensures.answer u here (element_distinct (g.V.Type.WasmType.tree c.args.ty.now) (g.V.Type.WasmType.tree c.unwrap-element.result.now) list distinct)))
+    (list_blame g.V.WasmValue.tree g.V.WasmValue.is_of g.V.WasmValue.is_full c.args.src.now (g.V.Type.WasmType.tree c.args.ty.now) (g.V.Type.WasmType.tree c.unwrap-element.result.now) c.args.self.now t c.in_ok-nodes.nodes.now c.loop-node.node-index c.node-item.result c.in_err-item.field-0.0 (list_is (g.V.Type.WasmType.tree c.args.ty.now) (g.V.Type.WasmType.tree c.unwrap-element.result.now) (length c.in_ok-nodes.nodes.now) (element_is g.V.Type.WasmType.tree (g.V.Type.WasmType.tree c.args.ty.now) c.list_element_type.result c.unwrap-element.result c.unwrap-element.ensures c.list_element_type.ensures) long) is c.in_ok-nodes.ensures.0 c.in_ok-nodes.ensures.1 c.loop-node-test.true c.node-item.is g.met.V.WasmValue.full_parts (λ u here. c.in_err-item.ensures.answer u here (element_distinct (g.V.Type.WasmType.tree c.args.ty.now) (g.V.Type.WasmType.tree c.unwrap-element.result.now) (element_is g.V.Type.WasmType.tree (g.V.Type.WasmType.tree c.args.ty.now) c.list_element_type.result c.unwrap-element.result c.unwrap-element.ensures c.list_element_type.ensures) distinct)))
 
 pub read_list-loop-node-preserved : goal.read_list-loop-node-preserved
 read_list-loop-node-preserved g m c = λ ts nodes distinct.
@@ -71,11 +77,11 @@ read_list-loop-node-preserved g m c = λ ts nodes distinct.
 
 pub read_list-returns-clause-answer : goal.read_list-returns-clause-answer
 read_list-returns-clause-answer g m c = λ t is distinct.
-    let list : (g.V.Type.WasmType.tree c.args.ty.now) ≡ type.list (g.V.Type.WasmType.tree c.unwrap-element.result.now) = (element_is g.V.Type.WasmType.tree (g.V.Type.WasmType.tree c.args.ty.now) c.list_element_type.result c.unwrap-element.result c.unwrap-element.ensures c.list_element_type.ensures) in
+    let long : IsOfLength (g.V.Type.WasmType.tree c.args.ty.now) (length c.in_ok-nodes.nodes.now) = c.in_ok-check_length.ensures.fits in
     let inner = list_nodes c.args.src.now c.args.self.now t is c.in_ok-nodes.ensures.0 in
     let nodes = given_nodes c.args.src.now c.args.self.now t c.in_ok-nodes.nodes.now is c.in_ok-nodes.ensures.0 c.in_ok-nodes.ensures.1 in
-    list_made g.V.WasmValue.tree g.V.WasmValue.is_of g.V.WasmValue.is_full (g.V.Type.WasmType.tree c.args.ty.now) (g.V.Type.WasmType.tree c.unwrap-element.result.now) t inner.items c.loop-node.items.items c.args.self.now c.make_list.result c.or_error_here.result list distinct inner.shape
-    (read_all g.V.WasmValue.tree g.V.WasmValue.is_of g.V.WasmValue.is_full c.args.src.now (g.V.Type.WasmType.tree c.unwrap-element.result.now) c.in_ok-nodes.nodes.now inner.items c.loop-node.items.items c.loop-node.node-index nodes c.loop-node-test.false (c.loop-node.invariant inner.items nodes (element_distinct (g.V.Type.WasmType.tree c.args.ty.now) (g.V.Type.WasmType.tree c.unwrap-element.result.now) list distinct))) c.make_list.ensures.made c.make_list.ensures.full c.or_error_here.ensures
+    list_made g.V.WasmValue.tree g.V.WasmValue.is_of g.V.WasmValue.is_full (g.V.Type.WasmType.tree c.args.ty.now) (g.V.Type.WasmType.tree c.unwrap-element.result.now) t inner.items c.loop-node.items.items c.args.self.now c.make_list.result c.or_error_here.result (list_is (g.V.Type.WasmType.tree c.args.ty.now) (g.V.Type.WasmType.tree c.unwrap-element.result.now) (length inner.items) (element_is g.V.Type.WasmType.tree (g.V.Type.WasmType.tree c.args.ty.now) c.list_element_type.result c.unwrap-element.result c.unwrap-element.ensures c.list_element_type.ensures) (subst (IsOfLength (g.V.Type.WasmType.tree c.args.ty.now)) (as_many c.args.src.now c.in_ok-nodes.nodes.now inner.items nodes) long)) distinct inner.shape
+    (read_all g.V.WasmValue.tree g.V.WasmValue.is_of g.V.WasmValue.is_full c.args.src.now (g.V.Type.WasmType.tree c.unwrap-element.result.now) c.in_ok-nodes.nodes.now inner.items c.loop-node.items.items c.loop-node.node-index nodes c.loop-node-test.false (c.loop-node.invariant inner.items nodes (element_distinct (g.V.Type.WasmType.tree c.args.ty.now) (g.V.Type.WasmType.tree c.unwrap-element.result.now) (element_is g.V.Type.WasmType.tree (g.V.Type.WasmType.tree c.args.ty.now) c.list_element_type.result c.unwrap-element.result c.unwrap-element.ensures c.list_element_type.ensures) distinct))) c.make_list.ensures.made c.make_list.ensures.full c.or_error_here.ensures
 
 pub read_option-read-requires : goal.read_option-read-requires
 read_option-read-requires g m c κs within =
@@ -361,6 +367,12 @@ pub read_list-returns-in_err-nodes-clause-within : goal.read_list-returns-in_err
 read_list-returns-in_err-nodes-clause-within g m c =
     let value : IsValueOf c.args.src.now c.args.self.now = search rules in
     error_handed (RefusesIn c.args.self.now) c.from_residual.result c.in_err-nodes.field-0.0 c.from_residual.ensures.1 (at_in c.args.src.now c.args.self.now c.in_err-nodes.field-0.0 (inl value) (form_at c.args.self.now c.in_err-nodes.field-0.0 c.in_err-nodes.ensures.1))
+
+pub read_list-returns-in_err-check_length-clause-within : goal.read_list-returns-in_err-check_length-clause-within
+read_list-returns-in_err-check_length-clause-within g m c =
+    let value : IsValueOf c.args.src.now c.args.self.now = search rules in
+    let other = c.in_err-check_length.ensures.other in
+    error_handed (RefusesIn c.args.self.now) c.from_residual-in_err-check_length.result c.in_err-check_length.field-0.0 c.from_residual-in_err-check_length.ensures.1 (at_in c.args.src.now c.args.self.now c.in_err-check_length.field-0.0 (inl value) (caused_at _ c.args.self.now c.in_err-check_length.field-0.0 (inr other.3) other.3.1))
 
 pub read_list-returns-in_err-item-clause-within : goal.read_list-returns-in_err-item-clause-within
 read_list-returns-in_err-item-clause-within g m c =
