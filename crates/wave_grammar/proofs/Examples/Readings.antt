@@ -13,7 +13,7 @@ use Rattle.wave_grammar.specs.TypedGrammar.{look_up, Reads}
 use Rattle.wave_grammar.specs.ParserPosition.{token_of}
 use Rattle.wave_grammar.specs.TypeErrors.{SpellsNoLeaf}
 use Rattle.wave_wasm.specs.Keywords.{keywords}
-use Rattle.wave_wasm.specs.Values.{Value, values, entries, field_values}
+use Rattle.wave_wasm.specs.Values.{Value, Leaf, values, entries, field_values}
 use Rattle.wave_lex.specs.declared.lex.Token.TheVariants as class
 use Rattle.wave_lex.specs.Tokens.{gap, function_name}
 use Rattle.wave_lex.proofs.LongestMatch.{longest_here, token_here}
@@ -105,17 +105,37 @@ Row T text t v = Reads T 2 (tokens text) v [] × Takes 2 (tokens text) t [] × T
 a_list : Row (type.list u8) "[1, 1,]" (tree.list (trees (one_tree ∷ one_tree ∷ []))) (value.list (values (a_one ∷ a_one ∷ [])))
 a_list = ((lit< tt, (_ ∷ _ ∷ [], (_, refl, (_, inner, (_, _, refl, inner, inr refl))), refl)), (_ ∷ _ ∷ [], (_, (refl, refl), (_, _, refl, (refl, refl), inr refl)), refl), (_ ∷ _ ∷ [], _ ∷ _ ∷ [], refl, (_, _, given, (_, _, given, refl, refl), refl), refl))
 
--- as many items as the type says
-fixed_lists : Row (type.fixed u8 2) "[1, 1,]" (tree.list (trees (one_tree ∷ one_tree ∷ []))) (value.fixed (values (a_one ∷ a_one ∷ []))) × Row (type.fixed u8 0) "[]" (tree.list tree.no_trees) (value.fixed value.no_values)
-    × Row (type.option (type.fixed u8 1)) "[1]" (tree.list (trees (one_tree ∷ []))) (value.option (value.a_value (value.fixed (values (a_one ∷ [])))))
-fixed_lists = (
-  ((lit< tt, (_ ∷ _ ∷ [], (_, refl, (_, inner, (_, _, refl, inner, inr refl))), refl, refl)), (_ ∷ _ ∷ [], (_, (refl, refl), (_, _, refl, (refl, refl), inr refl)), refl), (_ ∷ _ ∷ [], _ ∷ _ ∷ [], refl, refl, (_, _, given, (_, _, given, refl, refl), refl), refl)),
-  ((lit< tt, ([], (_, refl, refl), refl, refl)), ([], refl, refl), ([], [], refl, refl, refl, refl)),
-  (
-    inr (_, (tt, (lit< tt, (_ ∷ [], (_, refl, (_, inner, inl refl)), refl, refl))), refl),
-    (_ ∷ [], (_, (refl, refl), inl refl), refl),
-    inr (_, (tt, (_ ∷ [], _ ∷ [], refl, refl, (_, _, given, refl, refl), refl)), refl),
-  ),
+-- four numbers in brackets, with a comma behind the last
+abbrev in_brackets : List ℕ → List ℕ → List ℕ → List ℕ → List Token
+in_brackets a b c d = bracket_open ∷ number a ∷ comma ∷ number b ∷ comma ∷ number c ∷ comma ∷ number d ∷ comma ∷ bracket_close ∷ []
+
+abbrev IsU8 : List ℕ → Leaf → Type 0
+IsU8 text leaf = Spells (type.whole type.u8) (number text) leaf
+
+number_reads : (text : List ℕ) (leaf : Leaf) (rest : List Token) → IsU8 text leaf → Reads u8 1 (number text ∷ rest) (value.leaf leaf) rest
+number_reads text leaf rest h = (lit< tt, (number text, leaf, refl, h, refl))
+
+four_read : (a b c d : List ℕ) (x y z w : Leaf) → IsU8 a x → IsU8 b y → IsU8 c z → IsU8 d w → Reads (type.fixed u8 4) 2 (in_brackets a b c d) (value.fixed (values (map value.leaf (x ∷ y ∷ z ∷ w ∷ [])))) []
+four_read a b c d x y z w h i j k =
+    (lit< tt, (map value.leaf (x ∷ y ∷ z ∷ w ∷ []), (_, refl, (_, number_reads a x _ h, (_, _, refl, number_reads b y _ i, (_, _, refl, number_reads c z _ j, (_, _, refl, number_reads d w _ k, inr refl))))), refl, refl))
+
+-- as many items as the type says: four, none, and one that stands for `some` of itself
+four : (tokens "[1, 2, 3, 4,]" ≡ in_brackets (codes "1") (codes "2") (codes "3") (codes "4"))
+    × Reads (type.fixed u8 4) 2 (in_brackets (codes "1") (codes "2") (codes "3") (codes "4")) (value.fixed (values (map value.leaf (map (λ k. value.whole type.u8 (pos k)) (1 ∷ 2 ∷ 3 ∷ 4 ∷ []))))) []
+four = (
+  refl,
+  four_read (codes "1") (codes "2") (codes "3") (codes "4") _ _ _ _ one_spells (codes "2", pos 2, refl, refl, (record { le = tt }, record { lt = tt }), refl)
+      (codes "3", pos 3, refl, refl, (record { le = tt }, record { lt = tt }), refl) (codes "4", pos 4, refl, refl, (record { le = tt }, record { lt = tt }), refl),
+)
+
+no_items : Row (type.fixed u8 0) "[]" (tree.list tree.no_trees) (value.fixed value.no_values)
+no_items = ((lit< tt, ([], (_, refl, refl), refl, refl)), ([], refl, refl), ([], [], refl, refl, refl, refl))
+
+flat_list : Row (type.option (type.fixed u8 1)) "[1]" (tree.list (trees (one_tree ∷ []))) (value.option (value.a_value (value.fixed (values (a_one ∷ [])))))
+flat_list = (
+  inr (_, (tt, (lit< tt, (_ ∷ [], (_, refl, (_, inner, inl refl)), refl, refl))), refl),
+  (_ ∷ [], (_, (refl, refl), inl refl), refl),
+  inr (_, (tt, (_ ∷ [], _ ∷ [], refl, refl, (_, _, given, refl, refl), refl)), refl),
 )
 
 -- no list of fewer or more items is one of so many

@@ -94,13 +94,17 @@ items : Fault (type.list u8) (at (span 0 8) (placed.list two)) (plainly InvalidV
     × Fault (type.tuple (type.type_and u8 (type.type_and u8 type.no_types))) (at (span 0 8) (placed.tuple two)) (plainly InvalidValue) (span 4 7)
 items = (inr (inl too_large), inl ((λ e. omega arith), (refl, refl)), inr (inr (inl too_large)))
 
--- `[1, 256]` at list<u8, 3>: the cause `WrongNumberOfElements` 0..8, and nothing else; at list<u8, 2> `InvalidValue` 4..7; `[]` at list<u8, 1>: that cause 0..2; `1` at list<u8, 4>: `InvalidType` 0..1
-fixed_lists : Fault (type.fixed u8 3) (at (span 0 8) (placed.list two)) (caused (wrong_length 3 2)) (span 0 8)
+-- `[1, 2, 3]` at list<u8, 4>: the cause `WrongNumberOfElements` 0..9; `[1, 256]` at list<u8, 3>: that cause 0..8, and nothing else; at list<u8, 2> `InvalidValue` 4..7; `[]` at list<u8, 1>: that cause 0..2; `1` at list<u8, 4>: `InvalidType` 0..1
+abbrev three : PlacedTrees
+three = placed.placed_trees (leaf 1 2 one ∷ leaf 4 5 (number (codes "2")) ∷ leaf 7 8 (number (codes "3")) ∷ [])
+
+fixed_lists : Fault (type.fixed u8 4) (at (span 0 9) (placed.list three)) (caused (wrong_length 4 3)) (span 0 9)
+    × Fault (type.fixed u8 3) (at (span 0 8) (placed.list two)) (caused (wrong_length 3 2)) (span 0 8)
     × ((k : Refusal) (p : Range ℕ) → Fault (type.fixed u8 3) (at (span 0 8) (placed.list two)) k p → k ≡ caused (wrong_length 3 2))
     × Fault (type.fixed u8 2) (at (span 0 8) (placed.list two)) (plainly InvalidValue) (span 4 7)
     × Fault (type.fixed u8 1) (at (span 0 2) (placed.list placed.no_more)) (caused (wrong_length 1 0)) (span 0 2)
     × Fault (type.fixed u8 4) (leaf 0 1 one) (plainly InvalidType) (span 0 1)
-fixed_lists = (inl ((λ e. omega arith), (refl, refl)), (λ k p. elim [ inl h ↦ h.1.0 | inr h ↦ let e : 2 ≡ 3 = h.0 in absurd (omega arith) ]), inr (refl, inr (inl too_large)), inl ((λ e. omega arith), (refl, refl)), (refl, refl))
+fixed_lists = (inl ((λ e. omega arith), (refl, refl)), inl ((λ e. omega arith), (refl, refl)), (λ k p. elim [ inl h ↦ h.1.0 | inr h ↦ let e : 2 ≡ 3 = h.0 in absurd (omega arith) ]), inr (refl, inr (inl too_large)), inl ((λ e. omega arith), (refl, refl)), (refl, refl))
 
 -- at `record { a: u8 }` `{b: 1, a: 256, %a: 1}`: `InvalidValue` 0..21, `DuplicateField` 15..17, `InvalidValue` 10..13;
 -- `{1: ok}`: `InvalidType` 1..2, at the key, and the cause `MissingField("a")` 0..7; `{}`: `InvalidType` 0..2
