@@ -23,10 +23,10 @@ returns-clause-refused g c =
     let in_source : c.source.result.now ≡ c.self.inside.tokens.place.lexer.source = c.source.ensures ∙ ap (λ (l : Lexed). l.source) c.in_ok-node.ensures.start in
     let refused : RefusesValue full T c.self.inside.limit c.refuse.result c.self.inside.tokens.place c.refuse.new.self.place =
     λ apart.
-        let back = c.refuse.ensures.other apart in
-        let kind_is : c.refuse.result.kind ≡ c.in-Err.error.kind = ap (λ (e : Diagnostic). e.kind) back.0 in
-        inr (back_same (λ e (q : Stream). IsTypeRefused full T c.self.inside.limit e c.self.inside.tokens.place q.place) c.in-Err.error c.refuse.result c.parse_whole.new.self c.refuse.new.self back
-        (node_refused full T _ _ _ _ c.in_ok-node.node c.in-Err.error in_source c.in_ok-node.ensures.value c.in_ok-node.ensures.tree c.in-Err.ensures.kind c.in-Err.ensures.answer (λ m. apart (kind_is ∙ m)))) in
+    let back = c.refuse.ensures.other apart in
+    let kind_is : c.refuse.result.kind ≡ c.in-Err.error.kind = ap (λ (e : Diagnostic). e.kind) back.0 in
+    inr (back_same (λ e (q : Stream). IsTypeRefused full T c.self.inside.limit e c.self.inside.tokens.place q.place) c.in-Err.error c.refuse.result c.parse_whole.new.self c.refuse.new.self back
+    (node_refused full T _ _ _ _ c.in_ok-node.node c.in-Err.error in_source c.in_ok-node.ensures.value c.in_ok-node.ensures.tree c.in-Err.ensures.kind c.in-Err.ensures.answer (λ m. apart (kind_is ∙ m)))) in
     subst (λ (z : Parsing). RefusesValue full T z.limit c.refuse.result z.place c.refuse.new.self.place) c.self.view_is refused
 
 pub returns-clause-within : goal.returns-clause-within
@@ -42,7 +42,7 @@ returns-clause-caused g c = λ was.
     let back = c.refuse.ensures.other apart in (
       c.in_ok-node.node,
       subst (λ (z : Parsing). IsNodeTaken z.limit z.place c.refuse.new.self.place c.in_ok-node.node) c.self.view_is
-      (subst (λ (q : Stream). IsNodeTaken c.self.inside.limit c.self.inside.tokens.place q.place c.in_ok-node.node) (sym back.1) c.in_ok-node.ensures.tree),
+          (subst (λ (q : Stream). IsNodeTaken c.self.inside.limit c.self.inside.tokens.place q.place c.in_ok-node.node) (sym back.1) c.in_ok-node.ensures.tree),
       subst (λ (e : Diagnostic). IsCausedIn c.in_ok-node.node e) (sym back.0) (c.in-Err.ensures.within.caused (ap (λ (e : Diagnostic). e.kind) (sym back.0) ∙ was)),
     )
 
