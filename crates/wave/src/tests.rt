@@ -226,7 +226,7 @@ fn refuses_with_a_place(rt: HostRuntime) -> Result<(), Fail> {
 
 #[test]
 fn words_come_before_input(rt: HostRuntime) -> Result<(), Fail> {
-    let usage = &b"usage: wave value | wave call | wave read NAME\n"[..];
+    let usage = &b"usage: wave value [N] | wave call | wave read NAME [N]\n"[..];
     for words in [
         &["read", "f64"][..],
         &["read", "u9"][..],
