@@ -8,7 +8,7 @@ use Rattle.wave_grammar.specs.SpannedTree.{Placed, tree_of, slice}
 use Rattle.wave_node.specs.NodeTree.{NodeTree}
 use Rattle.wave_node.specs.Nodes.{placed_of}
 use Rattle.wave_tree.specs.NodeDisplay.{shown_placed, shown_at}
-use Rattle.wave_tree.specs.ParserState.{Parsing, Finishes, first_at, limited, front_of, start_of}
+use Rattle.wave_tree.specs.ParserState.{Parsing, Finishes, first_at, limited, front_of}
 use Rattle.wave_tree.specs.Untyped.{Untyped, IsUntypedTaken, IsUntypedOf, RefusesTree}
 use Rattle.wave_tree.proofs.ValueReading.{whole_tree}
 use Rattle.wave_grammar.specs.ParserPosition.{Place}
