@@ -1,25 +1,24 @@
 -- The value that a text means at a type.
-use Rattle.std.specs.Prelude.{ℕ, List, [], ◌≡◌, ◌≢◌, ◌⊎◌}
+use Rattle.std.specs.Prelude.{ℕ, List, []}
 use Rattle.wave_wasm.specs.Types.{TypeTree}
 use Rattle.wave_wasm.specs.Values.{Value}
 use Rattle.wave_grammar.specs.Token.{Token, CutsInto}
 use Rattle.wave_grammar.specs.TypedGrammar.{Reads}
-use Rattle.wave_grammar.specs.PrefixAutomaton.{value}
 use Rattle.wave_grammar.specs.Tree as tree
 use Rattle.wave_grammar.specs.Tree.{Tree}
 
--- the text cuts into tokens that spell the value within 100 levels
-abbrev pub Means : TypeTree → List ℕ → Value → Type 0
-Means T s v = (tokens : List Token) × CutsInto s tokens × Reads T 100 tokens v []
+-- the text cuts into tokens that spell the value within n levels
+abbrev pub Means : TypeTree → ℕ → List ℕ → Value → Type 0
+Means T n s v = (tokens : List Token) × CutsInto s tokens × Reads T n tokens v []
 
--- the text means no value of the type
-abbrev pub MeansNone : TypeTree → List ℕ → Type 0
-MeansNone T s = (v : Value) → Means T s v → ⊥
+-- within n levels the text means no value of the type
+abbrev pub MeansNone : TypeTree → ℕ → List ℕ → Type 0
+MeansNone T n s = (v : Value) → Means T n s v → ⊥
 
--- the whole text spells the tree within 100 levels
-abbrev pub SpellsText : List ℕ → Tree → Type 0
-SpellsText s t = (tokens : List Token) × CutsInto s tokens × tree.Takes 100 tokens t []
+-- the whole text spells the tree within n levels
+abbrev pub SpellsText : ℕ → List ℕ → Tree → Type 0
+SpellsText n s t = (tokens : List Token) × CutsInto s tokens × tree.Takes n tokens t []
 
--- the whole text spells no tree
-abbrev pub SpellsNoTree : List ℕ → Type 0
-SpellsNoTree s = (t : Tree) → SpellsText s t → ⊥
+-- the whole text spells no tree within n levels
+abbrev pub SpellsNoTree : ℕ → List ℕ → Type 0
+SpellsNoTree n s = (t : Tree) → SpellsText n s t → ⊥

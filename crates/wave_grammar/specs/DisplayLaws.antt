@@ -19,9 +19,9 @@ pub record ShowsAgain (t : Tree) : Type 0 where
   pub levels : levels tree ≡ levels t
   pub shown : shown tree ≡ shown t
 
--- the texts mean the same values, at every type
+-- the texts mean the same values, at every type and within any levels
 abbrev pub MeanTheSame : List ℕ → List ℕ → Type 0
-MeanTheSame s d = (T : TypeTree) (v : Value) → Means T s v ↔ Means T d v
+MeanTheSame s d = (T : TypeTree) (n : ℕ) (v : Value) → Means T n s v ↔ Means T n d v
 
 -- the display of a parsed tree spells such a tree, and means what the text means that was parsed
 abbrev pub ShownKeepsMeaning : Type 0

@@ -6,11 +6,11 @@ use Rattle.wave_grammar.specs.Token.{Token, CutsInto, comma, brace_close, paren_
 use Rattle.wave_grammar.specs.Tree.{Tree, Takes, SpellsTree}
 use Rattle.wave_grammar.specs.Elaborates.{TreeReads}
 use Rattle.wave_grammar.specs.Denotes.{Means, SpellsText}
-use Rattle.wave_grammar.specs.DisplayLaws.{MeanTheSame}
+use Rattle.wave_grammar.specs.DisplayLaws.{IsTextOf, MeanTheSame}
 
--- a text means at a type what the type gives the tree that the text spells
+-- a text means at a type, within n levels, what the type gives the tree that the text spells within n levels
 abbrev pub MeansByTree : Type 0
-MeansByTree = (T : TypeTree) (s : List ℕ) (v : Value) → Means T s v ↔ ((t : Tree) × SpellsText s t × TreeReads T t v)
+MeansByTree = (T : TypeTree) (n : ℕ) (s : List ℕ) (v : Value) → Means T n s v ↔ ((t : Tree) × SpellsText n s t × TreeReads T t v)
 
 -- texts of the same tokens mean the same
 abbrev pub SameTokensMeanTheSame : Type 0
@@ -18,7 +18,7 @@ SameTokensMeanTheSame = (s d : List ℕ) (tokens : List Token) → CutsInto s to
 
 -- texts of one tree mean the same
 abbrev pub SameTreeMeansTheSame : Type 0
-SameTreeMeansTheSame = (s d : List ℕ) (t : Tree) → SpellsText s t → SpellsText d t → MeanTheSame s d
+SameTreeMeansTheSame = (s d : List ℕ) (t : Tree) → IsTextOf s t → IsTextOf d t → MeanTheSame s d
 
 -- the token in front of the others, but for a comma before a close
 abbrev pub put_token : Token → List Token → List Token

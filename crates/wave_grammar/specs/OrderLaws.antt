@@ -33,18 +33,18 @@ pub record HaveSameFields (fields others : Labelled) : Type 0 where
   pub second_distinct : AreDistinct (label_names others)
   pub same : (name : List ℕ) → look_up (named fields) name ≡ look_up (named others) name
 
--- texts of the same fields, in any order and with `%` or without, mean the same at a record type
+-- texts of the same fields within n levels, in any order and with `%` or without, mean the same at a record type
 abbrev pub FieldsInAnyOrder : Type 0
 FieldsInAnyOrder =
-    (s d : List ℕ) (fields others : Labelled) → SpellsText s (entries (tree_entries (label_entries fields))) → SpellsText d (entries (tree_entries (label_entries others))) → HaveSameFields fields others →
-    (fs : Fields) (v : Value) → Means (type.record_type fs) s v ↔ Means (type.record_type fs) d v
+    (n : ℕ) (s d : List ℕ) (fields others : Labelled) → SpellsText n s (entries (tree_entries (label_entries fields))) → SpellsText n d (entries (tree_entries (label_entries others))) → HaveSameFields fields others →
+    (fs : Fields) (v : Value) → Means (type.record_type fs) n s v ↔ Means (type.record_type fs) n d v
 
 -- each name of the labels is one of the others
 abbrev pub HaveSameNames : List (List ℕ) → List (List ℕ) → Type 0
 HaveSameNames texts others = AreAllOf (map name_of texts) (map name_of others) × AreAllOf (map name_of others) (map name_of texts)
 
--- texts of flags of the same names, with `%` or without, mean the same at a type of flags
+-- texts of flags of the same names within n levels, with `%` or without, mean the same at a type of flags
 abbrev pub FlagsInAnyOrder : Type 0
 FlagsInAnyOrder =
-    (s d : List ℕ) (texts others : List (List ℕ)) → SpellsText s (flags texts) → SpellsText d (flags others) → HaveSameNames texts others →
-    (names : List (List ℕ)) (v : Value) → Means (type.flags names) s v ↔ Means (type.flags names) d v
+    (n : ℕ) (s d : List ℕ) (texts others : List (List ℕ)) → SpellsText n s (flags texts) → SpellsText n d (flags others) → HaveSameNames texts others →
+    (names : List (List ℕ)) (v : Value) → Means (type.flags names) n s v ↔ Means (type.flags names) n d v

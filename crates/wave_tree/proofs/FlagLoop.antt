@@ -17,7 +17,7 @@ use Rattle.wave_node.specs.declared.ast.NodeType.TheVariants as kind
 use Rattle.wave_grammar.specs.Private.FlagOrder.{Flag, flag_name, flags_in_order}
 use Rattle.wave_tree.specs.ParsedNodes.{TakesClass}
 use Rattle.wave_tree.specs.Private.ParsedNodes.{IsClosed, AreFurtherFlags, IsOfFlags}
-use Rattle.wave_tree.specs.ParserState.{Parsing, Asks}
+use Rattle.wave_tree.specs.Private.ParserState.{Stream, AsksFor}
 use Rattle.wave_tree.proofs.ParserSteps.{Reached, IsFlagDue}
 use Rattle.wave_tree.proofs.LexerCallCount.{asks_reached}
 use Rattle.wave_wasm.proofs.NameSets.{Holds}
@@ -71,7 +71,7 @@ ended flags start at q from (Ok parsed) h close is = record {
 ended flags start at q from (Err x) h close is = tt
 
 -- behind the flags so far the lexer is asked for more
-pub asks_flags : (flags : BTreeMap (Bor (List ℕ)) NodeTree) (old at new : Parsing) → FlagsSoFar flags old.place at.place → Asks old at → Asks at new → Asks old new
+pub asks_flags : (flags : BTreeMap (Bor (List ℕ)) NodeTree) (old at new : Stream) → FlagsSoFar flags old.place at.place → AsksFor old at → AsksFor at new → AsksFor old new
 asks_flags flags old at new so_far first more =
     let (d, i, r) = so_far.led 0 [] in
     asks_reached 0 (due.behind_word (text_at old.place)) d [] [] old at new r first more

@@ -34,11 +34,11 @@ use Rattle.wave_grammar.proofs.Slices.{tokens_front, tokens_source}
 -- ---- nodes
 
 -- the node of a value that was parsed at a sound place
-pub node_parsed : (old new : Place) (parsed : NodeTree) → IsSound old → IsParsed 100 old new parsed → IsNodeTaken old new parsed
-node_parsed old new parsed sound h = record {
+pub node_parsed : (n : ℕ) (old new : Place) (parsed : NodeTree) → IsSound old → IsParsed n old new parsed → IsNodeTaken n old new parsed
+node_parsed n old new parsed sound h = record {
   placed = h.placed;
   is_node = h.is_node sound;
-  taken = record { tokens = h.token ∷ h.others; taken = (h.first, h.begins, h.taken); takes = subst (λ z. tree.Takes 100 (h.token ∷ z) (tree_of h.placed) []) (append-nil h.others) (h.takes [] (λ more e. cc)) };
+  taken = record { tokens = h.token ∷ h.others; taken = (h.first, h.begins, h.taken); takes = subst (λ z. tree.Takes n (h.token ∷ z) (tree_of h.placed) []) (append-nil h.others) (h.takes [] (λ more e. cc)) };
   stands = (h.first, h.token, h.begins, h.spans);
 }
 
@@ -158,34 +158,34 @@ pub all_cut : (s : List ℕ) (p : Place) (tokens : List Token) → TakesTokens (
 all_cut s p tokens taken ends = cut_from (start_of s) p tokens taken ends
 
 -- a text whose tokens are those of the tree means its value
-pub means_of : (T : TypeTree) (s : List ℕ) (p : Place) (t : Tree) (v : Value) → IsTaken (start_of s) p t → ((behind : Place) × TakesItem p None behind) → TreeReads T t v → Means T s v
-means_of T s p t v h ends reads = (h.tokens, all_cut s p h.tokens h.taken ends, back T 100 h.tokens t v [] h.takes reads)
+pub means_of : (T : TypeTree) (n : ℕ) (s : List ℕ) (p : Place) (t : Tree) (v : Value) → IsTaken n (start_of s) p t → ((behind : Place) × TakesItem p None behind) → TreeReads T t v → Means T n s v
+means_of T n s p t v h ends reads = (h.tokens, all_cut s p h.tokens h.taken ends, back T n h.tokens t v [] h.takes reads)
 
 -- what the parser read of a text that means something is its whole tree
 pub record IsWhole (T : TypeTree) (t : Tree) (p : Place) (v : Value) : Type 0 where
   pub reads : TreeReads T t v
   pub ends : (behind : Place) × TakesItem p None behind
 
-pub whole_read : (T : TypeTree) (s : List ℕ) (p : Place) (t : Tree) (v : Value) → LeadsBehindValue 100 value [] (start_of s) p [] → IsTaken (start_of s) p t → Means T s v → IsWhole T t p v
-whole_read T s p t v read h (tokens, cut, reads) =
+pub whole_read : (T : TypeTree) (n : ℕ) (s : List ℕ) (p : Place) (t : Tree) (v : Value) → LeadsBehindValue n value [] (start_of s) p [] → IsTaken n (start_of s) p t → Means T n s v → IsWhole T t p v
+whole_read T n s p t v read h (tokens, cut, reads) =
     let all = all_of s tokens cut in
-    let (u, takes, tree_reads) = through T 100 tokens v [] reads (λ more e. cc) in
-    let (w, rest, others, next) = read_have_tree 100 (start_of s) p tokens read (all_are_next (start_of s) tokens all) in
-    let same = one_tree 100 100 tokens u w [] rest takes others in
+    let (u, takes, tree_reads) = through T n tokens v [] reads (λ more e. cc) in
+    let (w, rest, others, next) = read_have_tree n (start_of s) p tokens read (all_are_next (start_of s) tokens all) in
+    let same = one_tree n n tokens u w [] rest takes others in
     let ends = subst (AreNext p) (sym same.1) next in
     let (tokens_are, place_is) = all_taken (start_of s) p h.tokens tokens h.taken ends all in
-    let trees = one_tree 100 100 tokens u t [] [] takes (subst (λ z. tree.Takes 100 z t []) tokens_are h.takes) in
+    let trees = one_tree n n tokens u t [] [] takes (subst (λ z. tree.Takes n z t []) tokens_are h.takes) in
     record {
       reads = subst (λ z. TreeReads T z v) trees.0 tree_reads;
       ends = subst (λ z. (behind : Place) × TakesItem z None behind) (sym place_is) all.ends;
     }
 
 -- where no tree stands a text means nothing
-pub refused_means_none : (T : TypeTree) (s : List ℕ) (e : Diagnostic) (p : Place) → IsSyntaxError e 100 value [] (start_of s) p → MeansNone T s
-refused_means_none T s e p h v (tokens, cut, reads) =
+pub refused_means_none : (T : TypeTree) (n : ℕ) (s : List ℕ) (e : Diagnostic) (p : Place) → IsSyntaxError e n value [] (start_of s) p → MeansNone T n s
+refused_means_none T n s e p h v (tokens, cut, reads) =
     let all = all_of s tokens cut in
-    let (u, takes, tree_reads) = through T 100 tokens v [] reads (λ more e. cc) in
-    refused_have_none 100 e (start_of s) p tokens h (all_are_next (start_of s) tokens all) u [] takes
+    let (u, takes, tree_reads) = through T n tokens v [] reads (λ more e. cc) in
+    refused_have_none n e (start_of s) p tokens h (all_are_next (start_of s) tokens all) u [] takes
 
 -- ---- the answers
 

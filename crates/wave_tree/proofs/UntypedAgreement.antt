@@ -10,25 +10,25 @@ use Rattle.wave_node.proofs.ChildNodes.Inside.{some_is}
 use Rattle.wave_grammar.proofs.Equivalence.ByTree.{means_tree, spelled_means, tree_means}
 
 -- the tree of a text's untyped value is the one that the text spells
-text_spells : (s : List ℕ) (t : Placed) → IsTreeOfText s t → SpellsText s (tree_of t)
-text_spells s t (u, h, node) =
+text_spells : (n : ℕ) (s : List ℕ) (t : Placed) → IsTreeOfText n s t → SpellsText n s (tree_of t)
+text_spells n s t (u, h, node) =
     let here : IsNodeOf s u.node t = subst (λ (z : List ℕ). IsNodeOf z u.node t) h.source node in
     let same : h.placed ≡ t = some_is _ _ (sym h.is_node.0 ∙ here.0) in
-    subst (λ (p : Placed). SpellsText s (tree_of p)) same h.spelled
+    subst (λ (p : Placed). SpellsText n s (tree_of p)) same h.spelled
 
 pub read_alike : {V : Type 0} (tree : V → Value) (of : V → TypeTree → Type 0) → ReadAlike tree of
-read_alike tree of s t text T v =
-    let spelled : SpellsText s (tree_of t) = text_spells s t text in (
-      λ h. record { reads = spelled_means T s (tree v) (tree_of t) spelled h.0; is_of = h.1 },
-      λ h. (tree_means T s (tree v) (tree_of t) spelled h.reads, h.is_of),
+read_alike tree of n s t text T v =
+    let spelled : SpellsText n s (tree_of t) = text_spells n s t text in (
+      λ h. record { reads = spelled_means T n s (tree v) (tree_of t) spelled h.0; is_of = h.1 },
+      λ h. (tree_means T n s (tree v) (tree_of t) spelled h.reads, h.is_of),
     )
 
 pub refused_alike : RefusedAlike
-refused_alike s T = (
-  λ none v means. let (t, spelled, read) = means_tree T s v means in none t spelled,
+refused_alike n s T = (
+  λ none v means. let (t, spelled, read) = means_tree T n s v means in none t spelled,
   λ t text.
-      let spelled : SpellsText s (tree_of t) = text_spells s t text in (
-        λ none v read. none v (tree_means T s v (tree_of t) spelled read),
-        λ none v means. none v (spelled_means T s v (tree_of t) spelled means),
+      let spelled : SpellsText n s (tree_of t) = text_spells n s t text in (
+        λ none v read. none v (tree_means T n s v (tree_of t) spelled read),
+        λ none v means. none v (spelled_means T n s v (tree_of t) spelled means),
       ),
 )

@@ -16,17 +16,17 @@ use Rattle.wave_tree.proofs.ParserSound.{read_have_tree, refused_have_none}
 use Rattle.wave_tree.proofs.TextReading.{all_of, all_cut, all_are_next, all_taken, nothing_there}
 
 -- what the parser read of a text that spells a tree is all of it
-pub ends_there : (s : List ℕ) (p : Place) (t u : Tree) → LeadsBehindValue 100 value [] (start_of s) p [] → IsTaken (start_of s) p t → SpellsText s u → (behind : Place) × TakesItem p None behind
-ends_there s p t u read h (tokens, cut, takes) =
+pub ends_there : (n : ℕ) (s : List ℕ) (p : Place) (t u : Tree) → LeadsBehindValue n value [] (start_of s) p [] → IsTaken n (start_of s) p t → SpellsText n s u → (behind : Place) × TakesItem p None behind
+ends_there n s p t u read h (tokens, cut, takes) =
     let all = all_of s tokens cut in
-    let (w, rest, others, next) = read_have_tree 100 (start_of s) p tokens read (all_are_next (start_of s) tokens all) in
-    let same = one_tree 100 100 tokens u w [] rest takes others in
+    let (w, rest, others, next) = read_have_tree n (start_of s) p tokens read (all_are_next (start_of s) tokens all) in
+    let same = one_tree n n tokens u w [] rest takes others in
     let (tokens_are, place_is) = all_taken (start_of s) p h.tokens tokens h.taken (subst (AreNext p) (sym same.1) next) all in
     subst (λ z. (behind : Place) × TakesItem z None behind) (sym place_is) all.ends
 
 -- a value behind which nothing follows is that of the text
-pub untyped_of : (s : List ℕ) (p : Place) (u : Untyped) → IsUntypedTaken (start_of s) p u → ((behind : Place) × TakesItem p None behind) → IsUntypedOf s u
-untyped_of s p u (same, h) ends = record {
+pub untyped_of : (n : ℕ) (s : List ℕ) (p : Place) (u : Untyped) → IsUntypedTaken n (start_of s) p u → ((behind : Place) × TakesItem p None behind) → IsUntypedOf n s u
+untyped_of n s p u (same, h) ends = record {
   source = same;
   placed = h.placed;
   is_node = h.is_node;
@@ -38,22 +38,22 @@ untyped_of s p u (same, h) ends = record {
 }
 
 -- where no tree stands a text spells none
-pub refused_spells_none : (s : List ℕ) (e : Diagnostic) (p : Place) → FailsBySyntax e 100 value [] (start_of s) p → RefusesTree s e
-refused_spells_none s e p h apart =
+pub refused_spells_none : (n : ℕ) (s : List ℕ) (e : Diagnostic) (p : Place) → FailsBySyntax e n value [] (start_of s) p → RefusesTree n s e
+refused_spells_none n s e p h apart =
     let k = h apart in (
       inl (p, k),
-      λ u (tokens, cut, takes). refused_have_none 100 e (start_of s) p tokens k (all_are_next (start_of s) tokens (all_of s tokens cut)) u [] takes,
+      λ u (tokens, cut, takes). refused_have_none n e (start_of s) p tokens k (all_are_next (start_of s) tokens (all_of s tokens cut)) u [] takes,
     )
 
 -- nor does one where something follows the tree
-pub trailing_spells_none : (s : List ℕ) (e : Diagnostic) (p : Place) (t : Tree) → LeadsBehindValue 100 value [] (start_of s) p [] → IsTaken (start_of s) p t → IsTrailing e p → RefusesTree s e
-trailing_spells_none s e p t read taken trails apart =
+pub trailing_spells_none : (n : ℕ) (s : List ℕ) (e : Diagnostic) (p : Place) (t : Tree) → LeadsBehindValue n value [] (start_of s) p [] → IsTaken n (start_of s) p t → IsTrailing e p → RefusesTree n s e
+trailing_spells_none n s e p t read taken trails apart =
     let (behind, any, says) = trails in (
       inr (p, t, read, taken, trails),
-      λ u spelled. let ends = ends_there s p t u read taken spelled in nothing_there p ends.0 behind ends.1 any,
+      λ u spelled. let ends = ends_there n s p t u read taken spelled in nothing_there p ends.0 behind ends.1 any,
     )
 
 -- a refusal that is handed on
-pub tree_refusal_handed : {X : Type 0} (s : List ℕ) (r : Result X Diagnostic) (e : Diagnostic) → IsErrAnd r (λ f. f ≡ e) → RefusesTree s e → IfErr r (RefusesTree s)
-tree_refusal_handed s (Ok x) e k h = tt
-tree_refusal_handed s (Err f) e k h = subst (RefusesTree s) (sym k) h
+pub tree_refusal_handed : {X : Type 0} (n : ℕ) (s : List ℕ) (r : Result X Diagnostic) (e : Diagnostic) → IsErrAnd r (λ f. f ≡ e) → RefusesTree n s e → IfErr r (RefusesTree n s)
+tree_refusal_handed n s (Ok x) e k h = tt
+tree_refusal_handed n s (Err f) e k h = subst (RefusesTree n s) (sym k) h

@@ -33,19 +33,19 @@ TakesClass c p q = TakesItem p (Some (Ok c)) q
 
 -- ---- whole values
 
--- the parser took the tokens of this tree, within 100 levels
-pub record IsTaken (old new : Place) (t : tree.Tree) : Type 0 where
+-- the parser took the tokens of this tree, within n levels
+pub record IsTaken (n : ℕ) (old new : Place) (t : tree.Tree) : Type 0 where
   pub tokens : List Token
   pub taken : TakesTokens old tokens new
-  pub takes : tree.Takes 100 tokens t []
+  pub takes : tree.Takes n tokens t []
 
 -- the tree stands between the places, from its first token to its last
 abbrev pub StandsBetween : Place → Place → Placed → Type 0
 StandsBetween old new t = (first : Place) × (token : Token) × TakesToken old token first × (span_of t ≡ span first.lexer.start new.lexer.end)
 
--- the parser took the tokens of the tree that the node means, and there it stands
-pub record IsNodeTaken (old new : Place) (parsed : NodeTree) : Type 0 where
+-- the parser took the tokens of the tree that the node means, within n levels, and there it stands
+pub record IsNodeTaken (n : ℕ) (old new : Place) (parsed : NodeTree) : Type 0 where
   pub placed : Placed
   pub is_node : IsNodeOf old.lexer.source parsed placed
-  pub taken : IsTaken old new (tree_of placed)
+  pub taken : IsTaken n old new (tree_of placed)
   pub stands : StandsBetween old new placed

@@ -28,7 +28,7 @@ RefusedHaveNone =
 abbrev pub AskingsAreFew : Type 0
 AskingsAreFew =
     (n : ℕ) (p q r : Parsing) → HasTokens p.place n → asked p ≡ 0 → Asks p q →
-    (asked q ≤ n + 1) × (LeadsBehindValue 100 value [] p.place q.place [] → asked r ≡ q.place.taken + 1 → asked r ≤ n + 1)
+    (asked q ≤ n + 1) × (LeadsBehindValue p.limit value [] p.place q.place [] → asked r ≡ q.place.taken + 1 → asked r ≤ n + 1)
 
 -- the last item of a lexer lies in its source
 abbrev pub LiesInSource : Lexed → Type 0

@@ -8,14 +8,23 @@ use Rattle.wave_lex.specs.Tokenization.{Lexed}
 use Rattle.wave_grammar.specs.Token.{Token}
 use Rattle.wave_grammar.specs.ParserPosition.{Place, TakesItem, TakesAny, TakesTokens, span_at}
 
--- a parser: its place, and how many items it has at hand
+-- a parser: its place, how many items it has at hand, and how many levels a value may have
 pub record Parsing : Type 0 where
   pub place : Place
   pub ahead : ℕ
+  pub limit : ℕ
 
--- a parser that took nothing yet, in front of what the lexer has left
+-- what a parser may be handed as its limit
+abbrev pub IsLimit : ℕ → Type 0
+IsLimit n = (1 ≤ n) × (n ≤ 1000)
+
+-- a parser that took nothing yet, in front of what the lexer has left, with the limit that is kept where none is handed in
 abbrev pub first_at : Lexed → Parsing
-first_at l = record { place = record { lexer = l; taken = 0 }; ahead = 0 }
+first_at l = record { place = record { lexer = l; taken = 0 }; ahead = 0; limit = 100 }
+
+-- the same parser with another limit
+abbrev pub limited : Parsing → ℕ → Parsing
+limited p n = record { place = p.place; ahead = p.ahead; limit = n }
 
 -- a lexer in front of the source
 abbrev pub front_of : List ℕ → Lexed

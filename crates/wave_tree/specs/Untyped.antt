@@ -18,31 +18,31 @@ pub record Untyped : Type 0 where
   pub source : List ℕ
   pub node : NodeTree
 
--- the value keeps the parser's source, and the parser took the tokens of the tree that its node means
-abbrev pub IsUntypedTaken : Place → Place → Untyped → Type 0
-IsUntypedTaken old new u = (u.source ≡ old.lexer.source) × IsNodeTaken old new u.node
+-- the value keeps the parser's source, and the parser took the tokens of the tree that its node means, within n levels
+abbrev pub IsUntypedTaken : ℕ → Place → Place → Untyped → Type 0
+IsUntypedTaken n old new u = (u.source ≡ old.lexer.source) × IsNodeTaken n old new u.node
 
--- the whole text spells a tree within 100 levels
-abbrev pub SpellsTree : List ℕ → Type 0
-SpellsTree s = (t : Tree) × SpellsText s t
+-- the whole text spells a tree within n levels
+abbrev pub SpellsTree : ℕ → List ℕ → Type 0
+SpellsTree n s = (t : Tree) × SpellsText n s t
 
--- the value keeps the text, and its node means the tree that the whole text spells, from its first token to its last
-pub record IsUntypedOf (s : List ℕ) (u : Untyped) : Type 0 where
+-- the value keeps the text, and its node means the tree that the whole text spells within n levels, from its first token to its last
+pub record IsUntypedOf (n : ℕ) (s : List ℕ) (u : Untyped) : Type 0 where
   pub source : u.source ≡ s
   pub placed : Placed
   pub is_node : IsNodeOf s u.node placed
-  pub spelled : SpellsText s (tree_of placed)
+  pub spelled : SpellsText n s (tree_of placed)
   pub last : Place
-  pub taken : IsTaken (start_of s) last (tree_of placed)
+  pub taken : IsTaken n (start_of s) last (tree_of placed)
   pub stands : StandsBetween (start_of s) last placed
   pub ends : (behind : Place) × TakesItem last None behind
 
--- what is wrong with the text: no tree begins it, or something follows the tree
-abbrev pub SyntaxFault : List ℕ → Diagnostic → Type 0
-SyntaxFault s e =
-    ((p : Place) × IsSyntaxError e 100 value [] (start_of s) p)
-    ⊎ ((p : Place) × (t : Tree) × LeadsBehindValue 100 value [] (start_of s) p [] × IsTaken (start_of s) p t × IsTrailing e p)
+-- what is wrong with the text: no tree within n levels begins it, or something follows the tree
+abbrev pub SyntaxFault : ℕ → List ℕ → Diagnostic → Type 0
+SyntaxFault n s e =
+    ((p : Place) × IsSyntaxError e n value [] (start_of s) p)
+    ⊎ ((p : Place) × (t : Tree) × LeadsBehindValue n value [] (start_of s) p [] × IsTaken n (start_of s) p t × IsTrailing e p)
 
--- want of memory; or a fault of the text, which spells no tree
-abbrev pub RefusesTree : List ℕ → Diagnostic → Type 0
-RefusesTree s e = (e.kind ≢ OutOfMemory) → SyntaxFault s e × SpellsNoTree s
+-- want of memory; or a fault of the text, which spells no tree within n levels
+abbrev pub RefusesTree : ℕ → List ℕ → Diagnostic → Type 0
+RefusesTree n s e = (e.kind ≢ OutOfMemory) → SyntaxFault n s e × SpellsNoTree n s

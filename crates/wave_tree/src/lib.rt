@@ -14,6 +14,7 @@ pub mod ast;
 pub mod laws;
 pub mod parser;
 mod role;
+mod tokens;
 pub mod untyped;
 
 /// The value of the type that the whole text means. A syntax fault of the value is answered before
@@ -22,8 +23,8 @@ pub mod untyped;
 /// of one value, and is else refused as by `UntypedValue::parse`; what such a text means, and which
 /// fault of type it has, is said where the names of the type are distinct.
 pub fn from_str<V: WasmValue>(alloc: Global, ty: &V::Type, s: &str) -> Result<V, ParserError>
-    ensures read { IfOk result (IsRead V.tree V.is_of (V.Type.tree ty.now) s.now) }
-    ensures refused { IfErr result (RefusesText V.is_full (V.Type.tree ty.now) s.now) }
+    ensures read { IfOk result (IsRead V.tree V.is_of (V.Type.tree ty.now) 100 s.now) }
+    ensures refused { IfErr result (RefusesText V.is_full (V.Type.tree ty.now) 100 s.now) }
 {
     let mut parser = Parser::new(s);
     let value = parser.parse_value::<V>(alloc, ty)?;

@@ -52,12 +52,12 @@ impl<'source> UntypedValue<'source> {
         }
     }
 
-    /// The value that the whole text spells. What is no value is refused as by
+    /// The value of at most 100 levels that the whole text spells. What is no value is refused as by
     /// `Parser::parse_raw_value`, and what follows a value as `TrailingCharacters` at the span of the
     /// next token. Spans are byte places of the text.
     pub fn parse(alloc: Global, source: &'source str) -> Result<UntypedValue<'source>, ParserError>
-        ensures value { IfOk result (IsUntypedOf source.now) }
-        ensures refused { IfErr result (RefusesTree source.now) }
+        ensures value { IfOk result (IsUntypedOf 100 source.now) }
+        ensures refused { IfErr result (RefusesTree 100 source.now) }
         ensures within { IfErr result (λ e. LiesInText source.now e.span) }
     {
         let mut parser = Parser::new(source);

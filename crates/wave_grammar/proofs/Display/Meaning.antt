@@ -53,16 +53,16 @@ mutual
   alike_tidied_entries (entry key t more) sound = (refl, alike_tidy t sound.2, alike_tidied_entries more sound.3)
 
 -- what a text means whose tokens spell the tree, each text means whose tokens spell an alike tree of as many levels
-carried : (T : TypeTree) (s d : List ℕ) (n m : ℕ) (ts us : List Token) (t u : Tree) (v : Value) → CutsInto s ts → Takes n ts t [] → CutsInto d us → Takes m us u [] → levels u ≡ levels t → Alike t u → Means T s v → Means T d v
-carried T s d n m ts us t u v cut takes other_cut other_takes as_deep alike (tokens, c, read) =
-    let (w, j, q) = through T 100 tokens v [] read (λ more e. cc) in
+carried : (T : TypeTree) (limit : ℕ) (s d : List ℕ) (n m : ℕ) (ts us : List Token) (t u : Tree) (v : Value) → CutsInto s ts → Takes n ts t [] → CutsInto d us → Takes m us u [] → levels u ≡ levels t → Alike t u → Means T limit s v → Means T limit d v
+carried T limit s d n m ts us t u v cut takes other_cut other_takes as_deep alike (tokens, c, read) =
+    let (w, j, q) = through T limit tokens v [] read (λ more e. cc) in
     let same : tokens ≡ ts = one_cut_into s tokens ts c cut in
-    let k : Takes 100 ts w [] = subst (λ (z : List Token). Takes 100 z w []) same j in
-    let is : t ≡ w = (one_tree n 100 ts t w [] [] takes k).0 in
-    let low : levels w ≤ 100 = takes-levels 100 ts w [] k in
-    let high : levels u ≤ 100 = subst (λ (z : ℕ). z ≤ 100) (sym (as_deep ∙ ap levels is)) low in
-    let stands : Takes 100 us u [] = takes-within m 100 us u [] high other_takes in
-    (us, other_cut, back T 100 us u v [] stands (carries T t u v alike (subst (λ (z : Tree). TreeReads T z v) (sym is) q)))
+    let k : Takes limit ts w [] = subst (λ (z : List Token). Takes limit z w []) same j in
+    let is : t ≡ w = (one_tree n limit ts t w [] [] takes k).0 in
+    let low : levels w ≤ limit = takes-levels limit ts w [] k in
+    let high : levels u ≤ limit = subst (λ (z : ℕ). z ≤ limit) (sym (as_deep ∙ ap levels is)) low in
+    let stands : Takes limit us u [] = takes-within m limit us u [] high other_takes in
+    (us, other_cut, back T limit us u v [] stands (carries T t u v alike (subst (λ (z : Tree). TreeReads T z v) (sym is) q)))
 
 -- the display of a parsed tree
 pub shown_keeps : ShownKeepsMeaning
@@ -73,8 +73,8 @@ shown_keeps s t (tokens, cut, (n, takes)) =
     let deep : levels (tidy t) ≡ levels t = levels_tidy t in
     let alike : Alike t (tidy t) = alike_tidy t sound in (
       record { tree = tidy t; text = (others, again, (n, other_takes)); levels = deep; shown = shown_tidy t sound },
-      λ T v. (
-        carried T s (shown t) n n tokens others t (tidy t) v cut takes again other_takes deep alike,
-        carried T (shown t) s n n others tokens (tidy t) t v again other_takes cut takes (sym deep) (alike_back t (tidy t) alike),
+      λ T limit v. (
+        carried T limit s (shown t) n n tokens others t (tidy t) v cut takes again other_takes deep alike,
+        carried T limit (shown t) s n n others tokens (tidy t) t v again other_takes cut takes (sym deep) (alike_back t (tidy t) alike),
       ),
     )

@@ -1,18 +1,12 @@
 -- The commas before a close mean nothing.
-use Rattle.std.proofs.Common.{ℕ, zero, suc, ◌≡◌, ◌≢◌, ◌≤◌, inl, inr, List, [], ◌∷◌, refl, sym, ap, ◌∙◌, subst}
-use Rattle.wave_wasm.specs.Types.{TypeTree}
-use Rattle.wave_wasm.specs.Values.{Value}
-use Rattle.wave_grammar.specs.Token.{Token, CutsInto, comma, colon, number, label, char, string, multiline, brace_open, brace_close, paren_open, paren_close, bracket_open, bracket_close}
+use Rattle.std.proofs.Common.{ℕ, zero, suc, ◌≡◌, ◌≢◌, inl, inr, List, [], ◌∷◌, refl, sym, ap, ◌∙◌, subst}
+use Rattle.wave_grammar.specs.Token.{Token, comma, colon, number, label, char, string, multiline, brace_open, brace_close, paren_open, paren_close, bracket_open, bracket_close}
 use Rattle.wave_grammar.specs.CommaSeparated.{Spelling, Items, FurtherItems}
 use Rattle.wave_grammar.specs.TypedGrammar.{InParens}
-use Rattle.wave_grammar.specs.Tree.{Tree, Takes, ATree, InBraces, BehindWord, MaybeInParens, KeyAnd, Label, IsKey, Word, word_of, leaf_word, none_word, some_word, ok_word, err_word, case_word, levels}
-use Rattle.wave_grammar.specs.Elaborates.{TreeReads}
-use Rattle.wave_grammar.specs.Denotes.{Means}
+use Rattle.wave_grammar.specs.Tree.{Tree, Takes, ATree, InBraces, BehindWord, MaybeInParens, KeyAnd, Label, IsKey, Word, word_of, leaf_word, none_word, some_word, ok_word, err_word, case_word}
 use Rattle.wave_grammar.specs.EquivalenceLaws.{put_token, without_last_commas, LastCommasMayGo, LastCommasMeanNothing}
-use Rattle.wave_grammar.proofs.Unambiguity.Levels.{takes-within, takes-levels}
 use Rattle.wave_grammar.proofs.Unambiguity.Trees.{one_tree}
-use Rattle.wave_grammar.proofs.RoundTrip.Leaves.{one_cut_into}
-use Rattle.wave_grammar.proofs.Equivalence.ByTree.{means_tree, tree_means}
+use Rattle.wave_grammar.proofs.Equivalence.ByTree.{carried_over}
 
 -- what is spelled is spelled without the commas too
 abbrev Drops : {A : Type 0} → Spelling A → Type 0
@@ -145,21 +139,11 @@ last_commas_go n tokens t h = takes_drop n tokens t [] h
 
 -- ---- meaning
 
--- a text that spells a tree, of at most 100 levels where another text means something
-across : (T : TypeTree) (s d : List ℕ) (n m : ℕ) (tokens others : List Token) (t : Tree) (v : Value) → CutsInto s tokens → CutsInto d others → Takes n tokens t [] → Takes m others t [] → Means T s v → Means T d v
-across T s d n m tokens others t v cut other_cut takes other_takes means =
-    let (w, (us, c, here), read) = means_tree T s v means in
-    let same : us ≡ tokens = one_cut_into s us tokens c cut in
-    let fits : Takes 100 tokens w [] = subst (λ (z : List Token). Takes 100 z w []) same here in
-    let is : w ≡ t = (one_tree 100 n tokens w t [] [] fits takes).0 in
-    let low : levels t ≤ 100 = subst (λ (z : Tree). levels z ≤ 100) is (takes-levels 100 tokens w [] fits) in
-    tree_means T d v t (others, other_cut, takes-within m 100 others t [] low other_takes) (subst (λ (z : Tree). TreeReads T z v) is read)
-
 pub last_commas_mean_nothing : LastCommasMeanNothing
 last_commas_mean_nothing s d tokens others t u cut other_cut (n, takes) (m, other_takes) same =
     let here : Takes n (without_last_commas others) t [] = subst (λ (z : List Token). Takes n z t []) same (takes_drop n tokens t [] takes) in
     let is : t ≡ u = (one_tree n m (without_last_commas others) t u [] [] here (takes_drop m others u [] other_takes)).0 in
     let other : Takes m others t [] = subst (λ (z : Tree). Takes m others z []) (sym is) other_takes in (
       is,
-      λ T v. (across T s d n m tokens others t v cut other_cut takes other, across T d s m n others tokens t v other_cut cut other takes),
+      λ T limit v. (carried_over T limit s d n m tokens others t v cut other_cut takes other, carried_over T limit d s m n others tokens t v other_cut cut other takes),
     )

@@ -139,9 +139,9 @@ reordered fs Inner fields others v distinct same (es, found, all, inr (e, some),
     (label_entries others, r.again, all, inr (refl, some_fields fields others same many), r.each, subst AreDistinct (sym r.names) distinct, fills_again fs found r.again all found_again fills, f)
 
 pub fields_in_any_order : FieldsInAnyOrder
-fields_in_any_order s d fields others one other h fs v = (
-  λ means. tree_means (type.record_type fs) d v (entries (tree_entries (label_entries others))) other (reordered fs _ fields others v h.second_distinct h.same (spelled_means (type.record_type fs) s v (entries (tree_entries (label_entries fields))) one means)),
-  λ means. tree_means (type.record_type fs) s v (entries (tree_entries (label_entries fields))) one (reordered fs _ others fields v h.first_distinct (λ name. sym (h.same name)) (spelled_means (type.record_type fs) d v (entries (tree_entries (label_entries others))) other means)),
+fields_in_any_order n s d fields others one other h fs v = (
+  λ means. tree_means (type.record_type fs) n d v (entries (tree_entries (label_entries others))) other (reordered fs _ fields others v h.second_distinct h.same (spelled_means (type.record_type fs) n s v (entries (tree_entries (label_entries fields))) one means)),
+  λ means. tree_means (type.record_type fs) n s v (entries (tree_entries (label_entries fields))) one (reordered fs _ others fields v h.first_distinct (λ name. sym (h.same name)) (spelled_means (type.record_type fs) n d v (entries (tree_entries (label_entries others))) other means)),
 )
 
 -- ---- flags
@@ -183,7 +183,7 @@ other_flags names texts others v first second (words, inr e, all, f) =
     (others, inr refl, all_all names (map name_of texts) (map name_of others) known first, is ∙ ap value.flags (found_alike (map name_of texts) (map name_of others) names first second))
 
 pub flags_in_any_order : FlagsInAnyOrder
-flags_in_any_order s d texts others one other h names v = (
-  λ means. tree_means (type.flags names) d v (flags others) other (other_flags names texts others v h.0 h.1 (spelled_means (type.flags names) s v (flags texts) one means)),
-  λ means. tree_means (type.flags names) s v (flags texts) one (other_flags names others texts v h.1 h.0 (spelled_means (type.flags names) d v (flags others) other means)),
+flags_in_any_order n s d texts others one other h names v = (
+  λ means. tree_means (type.flags names) n d v (flags others) other (other_flags names texts others v h.0 h.1 (spelled_means (type.flags names) n s v (flags texts) one means)),
+  λ means. tree_means (type.flags names) n s v (flags texts) one (other_flags names others texts v h.1 h.0 (spelled_means (type.flags names) n d v (flags others) other means)),
 )

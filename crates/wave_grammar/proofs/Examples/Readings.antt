@@ -224,7 +224,7 @@ params : SpellsParams 100 (tokens "(1,)") (tree.a_tree (tree.tuple (trees (one_t
 params = (inr (_, one_tree ∷ [], refl, lit< tt, (_, (refl, refl), inr refl), refl), (refl, refl), inl (refl, (_, tt, refl, refl)), inr (1, _, _, _, _, refl, inner, inl (inl refl, (_, tt, refl, refl)), refl), inr (1, _, _, _, _, refl, inner, inr (1, _, _, _, _, refl, inner, (inr refl, refl), refl), refl))
 
 -- spaces and a comment without text are gaps
-a_text : Means u8 (codes " 1//") a_one
+a_text : Means u8 100 (codes " 1//") a_one
 a_text = (one ∷ [], (codes "//", (1, 1, longest_here gap _ _ refl refl refl refl, token_here _ 1 class.Number refl refl refl tt refl, refl, refl), longest_here gap _ _ refl refl refl refl), one_reads 100 [] (lit< tt))
 
 -- a call with no value

@@ -56,9 +56,9 @@ within_more T n m tokens v l h =
     let low : levels t ≤ n = takes-levels n tokens t [] i in
     back T m tokens t v [] (takes-within n m tokens t [] (omega arith) i) q
 
--- a canonical text of at most 100 levels means the value, merged
-pub text_means : (T : TypeTree) (v : Value) (b : ReadBack T v) → levels b.tree ≤ 100 → Means T (text v) (merged v)
-text_means T v b l = (b.tokens, b.cut, within_more T (levels b.tree) 100 b.tokens (merged v) l b.read)
+-- a canonical text of at most n levels means the value, merged, within n levels
+pub text_means : (T : TypeTree) (n : ℕ) (v : Value) (b : ReadBack T v) → levels b.tree ≤ n → Means T n (text v) (merged v)
+text_means T n v b l = (b.tokens, b.cut, within_more T (levels b.tree) n b.tokens (merged v) l b.read)
 
 -- what is read is merged
 pub reads_merged : (T : TypeTree) → ReadsMerged T

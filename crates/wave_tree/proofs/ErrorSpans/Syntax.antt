@@ -12,7 +12,7 @@ use Rattle.wave_grammar.specs.Token.{Token}
 use Rattle.wave_grammar.specs.ParserPosition.{Place, Item, TakesTokens}
 use Rattle.wave_grammar.specs.PrefixAutomaton.{Due, Form, value, first_item, tuple}
 use Rattle.wave_grammar.specs.SyntaxErrors.{StandsAt, IsSyntaxError}
-use Rattle.wave_tree.specs.ParserState.{Parsing, Fails, IsTrailing}
+use Rattle.wave_tree.specs.ParserState.{Fails, IsTrailing}
 use Rattle.wave_node.specs.NodeTree.{NodeTree}
 use Rattle.wave_tree.specs.UntypedCall.{RefusesTuple, AreParamsTaken, NameFault, behind_name}
 use Rattle.wave_tree.specs.ParserLaws.{LiesInSource, RefusalsLieInText}
@@ -96,8 +96,8 @@ back_lies l m e x same within there =
     subst (λ (z : Lexed). LiesInText z.source x.span) same (within (λ apart. subst (λ (z : Lexed). LiesInText z.source e.span) (sym same) (there apart)))
 
 -- what holds of a refusal other than want of memory holds of what is answered for it
-pub back_same : (R : Diagnostic → Parsing → Type 0) (e x : Diagnostic) (old new : Parsing) → (x ≡ e) × (new ≡ old) → R e old → R x new
-back_same R e x old new (same, stays) there = subst (λ (z : Diagnostic). R z new) (sym same) (subst (λ (z : Parsing). R e z) (sym stays) there)
+pub back_same : {A : Type 0} (R : Diagnostic → A → Type 0) (e x : Diagnostic) (old new : A) → (x ≡ e) × (new ≡ old) → R e old → R x new
+back_same R e x old new (same, stays) there = subst (λ (z : Diagnostic). R z new) (sym same) (subst (R e) (sym stays) there)
 
 -- ---- calls
 

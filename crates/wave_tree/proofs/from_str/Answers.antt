@@ -12,8 +12,8 @@ returns-in_err-value-clause-refused g c =
     let s = c.args.s.now in
     let e = c.in_err-value.field-0.0 in
     let was = c.in_err-value.ensures in
-    error_handed (RefusesText full T s) c.from_residual.result e c.from_residual.ensures.1
-    (value_refused full T s c.new-parser.result c.parse_value.new.self e c.new-parser.ensures was.refused was.within was.caused was.memory)
+    error_handed (RefusesText full T 100 s) c.from_residual.result e c.from_residual.ensures.1
+    (value_refused full T 100 s c.new-parser.result c.parse_value.new.self e c.new-parser.ensures was.refused was.within was.caused was.memory)
 
 pub returns-in_err-finish-clause-refused : goal.returns-in_err-finish-clause-refused
 returns-in_err-finish-clause-refused g c =
@@ -25,8 +25,8 @@ returns-in_err-finish-clause-refused g c =
     let e = c.in_err-finish.field-0.0 in
     let new = c.parse_value.new.self.place in
     let v = c.in_ok-value.value in
-    error_handed (RefusesText full T s) c.from_residual-in_err-finish.result e c.from_residual-in_err-finish.ensures.1
-    (trailing_refused tree of full T s new v e (subst (λ (z : Parsing). IsValueTaken tree of T z.place new v) c.new-parser.ensures c.in_ok-value.ensures.value) c.in_err-finish.ensures.answer)
+    error_handed (RefusesText full T 100 s) c.from_residual-in_err-finish.result e c.from_residual-in_err-finish.ensures.1
+    (trailing_refused tree of full T 100 s new v e (subst (λ (z : Parsing). IsValueTaken tree of T z.limit z.place new v) c.new-parser.ensures c.in_ok-value.ensures.value) c.in_err-finish.ensures.answer)
 
 pub returns-clause-read : goal.returns-clause-read
 returns-clause-read g c =
@@ -35,4 +35,4 @@ returns-clause-read g c =
     let T = g.V.Type.WasmType.tree c.args.ty.now in
     let new = c.parse_value.new.self.place in
     let v = c.in_ok-value.value in
-    value_read tree of T c.args.s.now new v (subst (λ (z : Parsing). IsValueTaken tree of T z.place new v) c.new-parser.ensures c.in_ok-value.ensures.value) c.in_ok-finish.ensures.answer
+    value_read tree of T 100 c.args.s.now new v (subst (λ (z : Parsing). IsValueTaken tree of T z.limit z.place new v) c.new-parser.ensures c.in_ok-value.ensures.value) c.in_ok-finish.ensures.answer

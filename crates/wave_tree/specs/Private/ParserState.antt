@@ -1,5 +1,5 @@
 -- What a parser is in a contract.
-use Rattle.std.specs.Prelude.{ℕ, ◌≡◌, true, List, [], ◌∷◌, codes, Option, Some, None, Result, Ok, Err}
+use Rattle.std.specs.Prelude.{ℕ, ◌≡◌, ◌+◌, ◌≤◌, max, true, List, [], ◌∷◌, codes, Option, Some, None, Result, Ok, Err}
 use Rattle.std.specs.declared.ops.Range.{Range}
 use Rattle.wave_wasm.specs.Names.{is_one_of}
 use Rattle.wave_lex.specs.declared.lex.Token as lex
@@ -10,7 +10,24 @@ use Rattle.wave_grammar.specs.ParserPosition.{Place, TakesItem}
 use Rattle.wave_tree.specs.declared.ahead.Ahead.{Ahead}
 use Rattle.wave_tree.specs.declared.role.LabelRole as code
 use Rattle.wave_tree.specs.declared.role.LabelRole.TheVariants as word
-use Rattle.wave_tree.specs.ParserState.{Fails}
+use Rattle.wave_tree.specs.ParserState.{HasTokens, Fails}
+
+-- tokens that are taken one by one: the place, and how many items are at hand
+pub record Stream : Type 0 where
+  pub place : Place
+  pub ahead : ℕ
+
+-- the tokens that the lexer has left
+abbrev pub stream_of : Lexed → Stream
+stream_of l = record { place = record { lexer = l; taken = 0 }; ahead = 0 }
+
+-- how often the lexer was asked
+abbrev pub asked_of : Stream → ℕ
+asked_of s = s.place.taken + s.ahead
+
+-- where n tokens stand, the lexer is asked for them and for one item more at most
+abbrev pub AsksFor : Stream → Stream → Type 0
+AsksFor old new = (n : ℕ) → HasTokens old.place n → asked_of new ≤ max (asked_of old) (old.place.taken + n + 1)
 
 -- how many items are at hand
 abbrev pub ahead_count : Option Ahead → ℕ

@@ -13,7 +13,8 @@ ghost use Rattle.wave_tree.specs.Private.UntypedCall.{CallStandsIn};
 ghost use Rattle.wave_tree.specs.DisplayKeeps.{IsCallKeptByDisplay};
 
 use crate::ast::Node;
-use crate::parser::{Parser, ParserError, ParserErrorKind};
+use crate::parser::{ParserError, ParserErrorKind};
+use crate::tokens::Tokens;
 use crate::untyped::display::write_node;
 use std::alloc::Global;
 use std::borrow::CowStr;
@@ -38,9 +39,9 @@ pub fn parse_raw_func_call<'source>(
 {
     let names = name_at(source)?;
     let name = names.span();
-    let mut parser = Parser::with_lexer(names.into_lexer());
-    let params = parser.parse_params(alloc)?;
-    parser.finish()?;
+    let mut tokens = Tokens::from_lexer(names.into_lexer());
+    let params = tokens.parse_params(alloc)?;
+    tokens.finish()?;
     Ok(UntypedFuncCall::new(source, name, params))
 }
 

@@ -2,7 +2,7 @@ use Rattle.std.proofs.Common.{◌≡◌, ◌≢◌, ap, sym, subst, ◌∙◌}
 use Rattle.wave_lex.specs.declared.error.ParserErrorKind.TheVariants as because
 use Rattle.wave_lex.specs.Tokenization.{Lexed, span}
 use Rattle.wave_grammar.specs.ParserPosition.{Place}
-use Rattle.wave_tree.specs.ParserState.{Parsing, first_at}
+use Rattle.wave_tree.specs.Private.ParserState.{Stream, stream_of}
 use Rattle.wave_tree.specs.UntypedCall.{AreParamsTaken, RefusesTuple, IsCalledOf, RefusesCall, behind_name}
 use Rattle.wave_node.proofs.Parameters.{error_handed}
 use Rattle.wave_tree.proofs.CallReading.{name_refused, params_refused, rest_refused, called_of}
@@ -20,7 +20,7 @@ returns-in_err-params-clause-refused c =
     let e = c.in_err-params.field-0.0 in
     let new = c.parse_params.new.self.place in
     let (k, named, is) = c.in_ok-names.ensures.named in
-    let place : c.with_lexer-parser.result.place ≡ behind_name s k = ap (λ (z : Parsing). z.place) (c.with_lexer-parser.ensures ∙ ap first_at (c.into_lexer.ensures ∙ is)) in
+    let place : c.from_lexer-tokens.result.place ≡ behind_name s k = ap (λ (z : Stream). z.place) (c.from_lexer-tokens.ensures ∙ ap stream_of (c.into_lexer.ensures ∙ is)) in
     error_handed (RefusesCall s) c.from_residual-in_err-params.result e c.from_residual-in_err-params.ensures.1
     (params_refused s k new e named (subst (λ (z : Place). e.kind ≢ because.OutOfMemory → RefusesTuple e z new) place c.in_err-params.ensures.refused))
 
@@ -30,7 +30,7 @@ returns-in_err-finish-clause-refused c =
     let e = c.in_err-finish.field-0.0 in
     let new = c.parse_params.new.self.place in
     let (k, named, is) = c.in_ok-names.ensures.named in
-    let place : c.with_lexer-parser.result.place ≡ behind_name s k = ap (λ (z : Parsing). z.place) (c.with_lexer-parser.ensures ∙ ap first_at (c.into_lexer.ensures ∙ is)) in
+    let place : c.from_lexer-tokens.result.place ≡ behind_name s k = ap (λ (z : Stream). z.place) (c.from_lexer-tokens.ensures ∙ ap stream_of (c.into_lexer.ensures ∙ is)) in
     error_handed (RefusesCall s) c.from_residual-in_err-finish.result e c.from_residual-in_err-finish.ensures.1
     (rest_refused s k new c.in_ok-params.params e named (subst (λ (z : Place). AreParamsTaken z new c.in_ok-params.params) place c.in_ok-params.ensures.taken) c.in_err-finish.ensures.answer)
 
@@ -40,7 +40,7 @@ returns-clause-value c =
     let new = c.parse_params.new.self.place in
     let params = c.in_ok-params.params in
     let (k, named, is) = c.in_ok-names.ensures.named in
-    let place : c.with_lexer-parser.result.place ≡ behind_name s k = ap (λ (z : Parsing). z.place) (c.with_lexer-parser.ensures ∙ ap first_at (c.into_lexer.ensures ∙ is)) in
+    let place : c.from_lexer-tokens.result.place ≡ behind_name s k = ap (λ (z : Stream). z.place) (c.from_lexer-tokens.ensures ∙ ap stream_of (c.into_lexer.ensures ∙ is)) in
     let name : c.span-name.result ≡ span 0 k = c.span-name.ensures.span ∙ ap (λ (z : Lexed). span z.start z.end) is in
     let call : c.new.result ≡ record { source = s; name = span 0 k; params = params } = c.new.ensures ∙ (λ i. record { source = s; name = name i; params = params }) in
     subst (IsCalledOf s) (sym call) (called_of s k new params named (subst (λ (z : Place). AreParamsTaken z new params) place c.in_ok-params.ensures.taken) c.in_ok-finish.ensures.answer)
@@ -54,7 +54,7 @@ returns-in_err-params-clause-within c =
     let s = c.args.source.now in
     let e = c.in_err-params.field-0.0 in
     let (k, named, is) = c.in_ok-names.ensures.named in
-    let place : c.with_lexer-parser.result.place ≡ behind_name s k = ap (λ (z : Parsing). z.place) (c.with_lexer-parser.ensures ∙ ap first_at (c.into_lexer.ensures ∙ is)) in
+    let place : c.from_lexer-tokens.result.place ≡ behind_name s k = ap (λ (z : Stream). z.place) (c.from_lexer-tokens.ensures ∙ ap stream_of (c.into_lexer.ensures ∙ is)) in
     error_handed (λ (f : Diagnostic). LiesInText s f.span) c.from_residual-in_err-params.result e c.from_residual-in_err-params.ensures.1
     (subst (λ (z : Place). LiesInText z.lexer.source e.span) place c.in_err-params.ensures.within)
 
@@ -64,6 +64,6 @@ returns-in_err-finish-clause-within c =
     let e = c.in_err-finish.field-0.0 in
     let new = c.parse_params.new.self.place in
     let (k, named, is) = c.in_ok-names.ensures.named in
-    let place : c.with_lexer-parser.result.place ≡ behind_name s k = ap (λ (z : Parsing). z.place) (c.with_lexer-parser.ensures ∙ ap first_at (c.into_lexer.ensures ∙ is)) in
+    let place : c.from_lexer-tokens.result.place ≡ behind_name s k = ap (λ (z : Stream). z.place) (c.from_lexer-tokens.ensures ∙ ap stream_of (c.into_lexer.ensures ∙ is)) in
     error_handed (λ (f : Diagnostic). LiesInText s f.span) c.from_residual-in_err-finish.result e c.from_residual-in_err-finish.ensures.1
     (behind_params_lies s k new c.in_ok-params.params e named (subst (λ (z : Place). AreParamsTaken z new c.in_ok-params.params) place c.in_ok-params.ensures.taken) c.in_err-finish.ensures.answer)

@@ -7,8 +7,8 @@ use Rattle.wave_node.specs.NodeTree.{NodeTree}
 use Rattle.wave_tree.specs.ParsedNodes.{IsParsed}
 use Rattle.wave_tree.specs.Private.ParsedNodes.{AreFurther, AreItems, ArePairs}
 use Rattle.wave_tree.proofs.ParserSteps.{Reached, IsItemDue, left_at}
-use Rattle.wave_tree.specs.ParserState.{Asks}
-use Rattle.wave_tree.proofs.parser.Parser.+parser.Given as goal
+use Rattle.wave_tree.specs.Private.ParserState.{AsksFor}
+use Rattle.wave_tree.proofs.tokens.Tokens.+parser.Given as goal
 
 abbrev pub decreases-parse_node : goal.decreases-parse_node
 decreases-parse_node l = 4 * l.levels
@@ -27,7 +27,7 @@ decreases-parse_label l = 4 * l.levels + 3
 
 abbrev pub invariant-parse_items-items : goal.invariant-parse_items-items
 invariant-parse_items-items l = record {
-  asks : Asks l.fn.self l.self;
+  asks : AsksFor l.fn.self l.self;
   no_close : (next : Place) × TakesItem l.self.place (Some (Ok l.close)) next → ⊥;
   reached : (n : ℕ) (s : List Form) → n ≡ l.levels + 1 + length s →
       (d : Due) × IsItemDue d × Reached n first_item (form_of l.close ∷ s) l.fn.self.place d (form_of l.close ∷ s) l.self.place;
@@ -45,7 +45,7 @@ decreases-parse_braces l = 4 * l.levels + 2
 
 abbrev pub invariant-parse_entries-entries : goal.invariant-parse_entries-entries
 invariant-parse_entries-entries l = record {
-  asks : Asks l.fn.self l.self;
+  asks : AsksFor l.fn.self l.self;
   led : (n : ℕ) (s : List Form) → n ≡ l.levels + 1 + length s → Reached n due.value (due.entries ∷ s) l.fn.self.place due.value (due.entries ∷ s) l.self.place;
   tree : (ys : List NodeTree) × (l.children.items ≡ l.fn.key ∷ ys) × ((cs : List NodeTree) (r : Place) → ArePairs l.levels l.self.place cs r → ArePairs l.levels l.fn.self.place (ys ++ cs) r);
 }

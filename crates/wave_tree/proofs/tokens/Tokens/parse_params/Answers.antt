@@ -12,7 +12,7 @@ use Rattle.wave_node.proofs.Parameters.{error_handed}
 use Rattle.wave_lex.specs.Errors.{Diagnostic, LiesInText}
 use Rattle.wave_tree.proofs.ErrorSpans.Syntax.{back_lies, back_same, fails_lie, tuple_lies}
 use Rattle.wave_tree.proofs.CallReading.{tuple_taken}
-use Rattle.wave_tree.proofs.parser.Parser.parse_params.Goals as goal
+use Rattle.wave_tree.proofs.tokens.Tokens.parse_params.Goals as goal
 
 pub returns-in_err-expect-2-clause-refused : goal.returns-in_err-expect-2-clause-refused
 returns-in_err-expect-2-clause-refused c =

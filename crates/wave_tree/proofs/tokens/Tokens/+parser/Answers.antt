@@ -13,8 +13,7 @@ use Rattle.wave_grammar.specs.Private.TokenRoles.{form_of, IsClose}
 use Rattle.wave_tree.specs.Private.ParserState.{spec_word}
 use Rattle.wave_tree.proofs.ParserSteps.{here, here_is, handed, gives_then, fails, any_token, shallow, value_read, no_value, level_open, read_there, unexpected_there, no_paren, then_token, token_there, behind_bare, reached, fails_behind, then_behind, payload_other, unexpected_behind, expected, untrue, moved, then_class, then_behind_class, range_path, close_first, close_empty, close_next, then_same, then_refuses, item_refuses, item_read, then_reached, Reached, IsItemDue, no_close, empty_there, key_reads, no_key, brace_key, entries_other, close_behind, comma_behind, other_behind, token_less, tokens_less, left_at, no_colon, no_brace}
 use Rattle.wave_tree.specs.declared.role.LabelRole.{LabelRole}
-use Rattle.wave_tree.specs.ParserState.{Parsing, Asks}
-use Rattle.wave_tree.specs.Private.ParserState.{HasText}
+use Rattle.wave_tree.specs.Private.ParserState.{Stream, AsksFor, HasText}
 use Rattle.wave_tree.specs.Private.ParsedNodes.{AreItems, items_type}
 use Rattle.wave_tree.specs.ParsedNodes.{TakesClass}
 use Rattle.wave_node.specs.NodeTree.{node, no_nodes, node_trees}
@@ -24,8 +23,8 @@ use Rattle.wave_tree.proofs.NodeCorrectness.Items.{class_as, one_tied, label_tie
 use Rattle.wave_tree.proofs.NodeCorrectness.Tokens.{number_parsed, char_parsed, string_parsed, multiline_parsed}
 use Rattle.wave_tree.proofs.ClassTests.{is_class, is_other, differs, differs_not}
 use Rattle.wave_tree.proofs.LexerCallCount.{asks_once, asks_token, asks_looked, asks_read, asks_reached}
-use Rattle.wave_tree.proofs.parser.Parser.+parser.Goals as goal
-use Rattle.wave_tree.proofs.parser.Parser.+parser.Goals.{parse_items-then-eq-2, parse_items-else-eq-2}
+use Rattle.wave_tree.proofs.tokens.Tokens.+parser.Goals as goal
+use Rattle.wave_tree.proofs.tokens.Tokens.+parser.Goals.{parse_items-then-eq-2, parse_items-else-eq-2}
 
 -- the word of a text, by its role
 word_here : {text shown : List ℕ} {role r : LabelRole} → shown ≡ text → spec_word role ≡ word_of shown → role ≡ r → word_of text ≡ spec_word r
@@ -37,19 +36,19 @@ key_due : {n : ℕ} {s : List Form} {p q m w : Place} {c : lex.Token} → Reache
 key_due {s = s} so_far item comma_there is_comma = then_behind_class {f = due.key} {b = s} item.due_there Comma (then_reached so_far (reached item)) item.is_behind comma_there is_comma refl
 
 -- behind a value that was read
-asks_value : (levels : ℕ) (p q r : Parsing) → ((n : ℕ) (s : List Form) → n ≡ levels + length s → LeadsBehindValue n due.value s p.place q.place s) → Asks p q → Asks q r → Asks p r
+asks_value : (levels : ℕ) (p q r : Stream) → ((n : ℕ) (s : List Form) → n ≡ levels + length s → LeadsBehindValue n due.value s p.place q.place s) → AsksFor p q → AsksFor q r → AsksFor p r
 asks_value levels p q r read first more = asks_read levels due.value [] [] p q r (read levels [] (omega arith)) first more
 
 -- behind the items so far
-asks_items : (levels : ℕ) (close : lex.Token) (old at new : Parsing) →
-    ((n : ℕ) (s : List Form) → n ≡ levels + 1 + length s → (d : Due) × IsItemDue d × Reached n due.first_item (form_of close ∷ s) old.place d (form_of close ∷ s) at.place) → Asks old at → Asks at new → Asks old new
+asks_items : (levels : ℕ) (close : lex.Token) (old at new : Stream) →
+    ((n : ℕ) (s : List Form) → n ≡ levels + 1 + length s → (d : Due) × IsItemDue d × Reached n due.first_item (form_of close ∷ s) old.place d (form_of close ∷ s) at.place) → AsksFor old at → AsksFor at new → AsksFor old new
 asks_items levels close old at new led first more =
     let (d, i, r) = led (levels + 1) [] (omega arith) in
     asks_reached (levels + 1) due.first_item d (form_of close ∷ []) (form_of close ∷ []) old at new r first more
 
 -- behind the entries so far
-asks_entries : (levels : ℕ) (old at new : Parsing) → ((n : ℕ) (s : List Form) → n ≡ levels + 1 + length s → Reached n due.value (due.entries ∷ s) old.place due.value (due.entries ∷ s) at.place) →
-    Asks old at → Asks at new → Asks old new
+asks_entries : (levels : ℕ) (old at new : Stream) → ((n : ℕ) (s : List Form) → n ≡ levels + 1 + length s → Reached n due.value (due.entries ∷ s) old.place due.value (due.entries ∷ s) at.place) →
+    AsksFor old at → AsksFor at new → AsksFor old new
 asks_entries levels old at new led first more = asks_reached (levels + 1) due.value due.value (due.entries ∷ []) (due.entries ∷ []) old at new (led (levels + 1) [] (omega arith)) first more
 
 pub parse_node-returns-in_err-token-clause-led : goal.parse_node-returns-in_err-token-clause-led

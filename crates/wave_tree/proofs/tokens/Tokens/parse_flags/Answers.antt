@@ -22,7 +22,7 @@ use Rattle.wave_tree.proofs.FlagsSorted.{entry_of}
 use Rattle.wave_tree.proofs.FlagLoop.{flag_at, grown, ended, asks_flags}
 use Rattle.wave_tree.proofs.ClassTests.{is_class, is_other, differs, differs_not}
 use Rattle.wave_tree.proofs.LexerCallCount.{asks_none, asks_once, asks_token}
-use Rattle.wave_tree.proofs.parser.Parser.parse_flags.Goals as goal
+use Rattle.wave_tree.proofs.tokens.Tokens.parse_flags.Goals as goal
 
 -- behind a comma a further flag is due
 due_flag : (names : List (List ℕ)) {n : ℕ} {s : List Form} {p q w : Place} {text : List ℕ} (d : Due) (c : lex.Token) → IsFlagDue d names q → Reached n (due.behind_word text) s p d s q → TakesItem q (Some (Ok c)) w → c ≡ Comma →

@@ -1,0 +1,618 @@
+//! The tokens of a source, and the nodes that they spell.
+ghost use Rattle.std.specs.Prelude.{◌≡◌, ◌≢◌, ◌↔◌, ◌+◌, ◌-◌, ◌≤◌, Some, None, Ok, Err, IfOk, IfErr, IsTrue, List, [], ◌∷◌};
+ghost use Rattle.wave_lex.specs.declared.lex.Token.TheVariants as lex_class;
+ghost use Rattle.wave_lex.specs.declared.error.ParserErrorKind.TheVariants as kind;
+ghost use Rattle.wave_lex.specs.Errors.{class_name, repeated_name};
+ghost use Rattle.wave_grammar.specs.ParserPosition.{Place, TakesItem, IsSomething, span_at, text_at};
+ghost use Rattle.wave_grammar.specs.Tree.{word_of};
+ghost use Rattle.wave_grammar.specs.PrefixAutomaton.{due_behind};
+ghost use Rattle.wave_grammar.specs.PrefixAutomaton as due;
+ghost use Rattle.wave_grammar.specs.SyntaxErrors.{Gives};
+ghost use Rattle.wave_grammar.specs.Private.SyntaxErrors.{GivesWithin, GivesAnywhere};
+ghost use Rattle.wave_lex.specs.Errors.{Says};
+ghost use Rattle.wave_lex.specs.Tokenization.{span};
+ghost use Rattle.wave_tree.specs.UntypedCall.{AreParamsTaken, RefusesTuple};
+ghost use Rattle.wave_grammar.specs.Private.TokenRoles.{form_of, IsClose};
+ghost use Rattle.std.specs.BTreeMap.{values};
+ghost use Rattle.wave_node.specs.NodeTree.{node, no_nodes, node_trees};
+ghost use Rattle.wave_node.specs.declared.ast.NodeType.TheVariants as node_type;
+ghost use Rattle.wave_tree.specs.ParsedNodes.{IsNodeTaken, IsParsed, IsSound};
+ghost use Rattle.wave_tree.specs.Private.ParsedNodes.{IsParsedBehind, IsMaybe, IsPayload, IsOfItems, IsOfEntries, IsOfFlags, label_children};
+ghost use Rattle.wave_tree.specs.ParserState.{Finishes, StaysWithout};
+ghost use Rattle.wave_tree.specs.Private.ParserState.{Stream, stream_of, asked_of, AsksFor, ahead_count, IsAhead, Advances, Expects};
+ghost use Rattle.wave_lex.specs.Errors.{LiesInText};
+ghost use Rattle.wave_tree.specs.ParserLaws.{LiesInSource};
+
+use crate::ahead::Ahead;
+use crate::ast::{Node, NodeType};
+use crate::parser::DEFAULT_LEVELS;
+use crate::role::{LabelRole, key_type, role_of};
+use std::alloc::Global;
+use std::collections::BTreeMap;
+use std::marker::Model;
+use wave_grammar::label::label_name;
+use wave_lex::asked::Asked;
+use wave_lex::error::{ParserError, ParserErrorKind};
+use wave_lex::lex::{Lexer, Span, Token};
+use wave_node::ast::make;
+
+/// Whether the item is a token of this class.
+fn is_token(item: &Option<Result<Token, Span>>, class: Token) -> bool
+    ensures { IsTrue result ↔ (item.now ≡ Some (Ok class)) }
+{
+    match item {
+        Some(Ok(token)) => *token == class,
+        _ => false,
+    }
+}
+
+/// The refusal of an item that is no end, at its span.
+fn trailing(item: &Option<Result<Token, Span>>, behind: &Lexer) -> Result<(), ParserError>
+    ensures end { IfOk result (λ _. item.now ≡ None) }
+    ensures refused { IfErr result (λ e. Says e kind.TrailingCharacters (span behind.now.start behind.now.end) None × IsSomething item.now) }
+    ensures within { IfErr result (λ e. LiesInText behind.now.source e.span) }
+{
+    match item {
+        None => Ok(()),
+        Some(_) => Err(ParserError::new(ParserErrorKind::TrailingCharacters, behind.span())),
+    }
+}
+
+/// Takes tokens from a source one by one, and looks at most one item ahead. The spans of its
+/// refusals are byte places of the source.
+#[derive(Drop)]
+pub(crate) struct Tokens<'source> {
+    lexer: Lexer<'source>,
+    ahead: Option<Ahead<'source>>,
+    asked: Asked,
+}
+
+impl<'source> Model for Tokens<'source> {
+    ghost Value = { Stream };
+
+    ghost view = { λ t. record { place = record { lexer = t.lexer; taken = t.asked - ahead_count t.ahead }; ahead = ahead_count t.ahead } };
+
+    ghost invariant = { λ t. IsAhead t.lexer t.ahead × (ahead_count t.ahead ≤ t.asked) };
+}
+
+/// Where a call began: the lexer as it stood, with its source and the span of its last item.
+#[derive(Drop)]
+pub(crate) struct Start<'source> {
+    lexer: Lexer<'source>,
+    source: &'source str,
+    span: Span,
+}
+
+impl<'source> Model for Start<'source> {
+    ghost use Rattle.wave_lex.specs.Tokenization.{Lexed};
+
+    ghost Value = { Lexed };
+
+    ghost use Rattle.wave_tree.specs.Private.ParserState.{IsStart};
+
+    ghost view = { λ s. s.lexer };
+
+    ghost invariant = { λ s. IsStart s.lexer s.source.now s.span };
+}
+
+impl<'source> Start<'source> {
+    /// The source.
+    pub(crate) fn source(&self) -> &'source str
+        ensures { result.now ≡ self.now.source }
+    {
+        self.source
+    }
+}
+
+impl<'source> Tokens<'source> {
+    /// The tokens that the lexer has left.
+    pub(crate) fn from_lexer(lexer: Lexer<'source>) -> Self
+        ensures { result ≡ stream_of lexer.entry }
+    {
+        Tokens {
+            lexer,
+            ahead: None,
+            asked: Asked::new(),
+        }
+    }
+
+    fn span(&self) -> Span
+        ensures { result ≡ span_at self.now.place }
+    {
+        self.lexer.span()
+    }
+
+    fn slice(&self) -> &'source str
+        ensures { result.now ≡ text_at self.now.place }
+    {
+        self.lexer.slice()
+    }
+
+    /// Takes the next item.
+    fn take(&mut self) -> Option<Result<Token, Span>>
+        ensures takes { TakesItem self.old.place result self.new.place }
+        ensures asks { asked_of self.new ≡ self.old.place.taken + 1 }
+    {
+        match self.ahead.take() {
+            Some(ahead) => {
+                self.lexer = ahead.lexer;
+                ahead.item
+            }
+            None => self.lexer.next_ticked(&mut self.asked),
+        }
+    }
+
+    /// Looks at the next item, which stays.
+    fn peek(&mut self)
+        ensures stays { self.new.place ≡ self.old.place }
+        ensures looks { self.new.ahead ≡ 1 }
+    {
+        if self.ahead.is_none() {
+            let mut lexer = self.lexer.clone();
+            let item = lexer.next_ticked(&mut self.asked);
+            self.ahead = Some(Ahead { item, lexer });
+        }
+    }
+
+    /// Whether a token of this class stands next.
+    fn next_is(&mut self, class: Token) -> bool
+        ensures stays { self.new.place ≡ self.old.place }
+        ensures answer { IsTrue result ↔ ((next : Place) × TakesItem self.old.place (Some (Ok class)) next) }
+        ensures asks { asked_of self.new ≡ self.old.place.taken + 1 }
+    {
+        self.peek();
+        match &self.ahead {
+            Some(ahead) => is_token(&ahead.item, class),
+            None => false,
+        }
+    }
+
+    /// Takes the next token.
+    fn advance(&mut self) -> Result<Token, ParserError>
+        ensures takes { Advances result self.old.place self.new.place }
+        ensures asks { asked_of self.new ≡ self.old.place.taken + 1 }
+    {
+        match self.take() {
+            Some(Ok(token)) => Ok(token),
+            Some(Err(span)) => Err(ParserError::new(ParserErrorKind::InvalidToken, span)),
+            None => Err(ParserError::new(ParserErrorKind::UnexpectedEnd, self.span())),
+        }
+    }
+
+    /// Takes the next token, which has to be of this class.
+    fn expect(&mut self, class: Token) -> Result<(), ParserError>
+        ensures takes { Expects class result self.old.place self.new.place }
+        ensures asks { asked_of self.new ≡ self.old.place.taken + 1 }
+    {
+        let token = self.advance()?;
+        if token == class {
+            Ok(())
+        } else {
+            Err(self.unexpected(token))
+        }
+    }
+
+    /// The refusal of the token of this class, which was taken last.
+    fn unexpected(&self, token: Token) -> ParserError
+        ensures { Says result kind.UnexpectedToken (span_at self.now.place) (Some (class_name token)) }
+    {
+        ParserError::with_static(ParserErrorKind::UnexpectedToken, self.span(), token.name())
+    }
+
+    /// The refusal of the label of this name, which was taken last.
+    fn repeated(&self, alloc: Global, name: &str) -> ParserError
+        ensures { let detail = Some (repeated_name name.now) in
+            result.kind ≢ kind.OutOfMemory → Says result kind.DuplicateFlag (span_at self.now.place) detail }
+    {
+        match format!(in alloc; "\"{name}\"") {
+            Ok(detail) => ParserError::with_detail(
+                ParserErrorKind::DuplicateFlag,
+                self.span(),
+                detail,
+            ),
+            Err(_) => self.out_of_memory(),
+        }
+    }
+
+    fn out_of_memory(&self) -> ParserError
+        ensures { Says result kind.OutOfMemory (span_at self.now.place) None }
+    {
+        ParserError::new(ParserErrorKind::OutOfMemory, self.span())
+    }
+
+    /// A node of the last token.
+    fn leaf(&self, alloc: Global, ty: NodeType) -> Node
+        ensures { result ≡ node ty (span_at self.now.place) no_nodes }
+    {
+        make::leaf(alloc, ty, self.span())
+    }
+
+    /// A node from `start` to the last token.
+    fn node(&self, ty: NodeType, start: usize, children: Vec<Node>) -> Node
+        ensures { result ≡ node ty (span start self.now.place.lexer.end) (node_trees children.items) }
+    {
+        make::node(ty, start..self.span().end, children)
+    }
+
+    /// The place, in front of what a call is to read.
+    fn start_here(&self) -> Start<'source>
+        ensures place { result ≡ self.now.place.lexer }
+        ensures inside { LiesInSource self.now.place.lexer }
+        ensures sound { IsSound self.now.place }
+    {
+        Start {
+            lexer: self.lexer.clone(),
+            source: self.lexer.source(),
+            span: self.lexer.span(),
+        }
+    }
+
+    /// The refusal of what was read from `start` on: for want of memory the tokens go back to
+    /// there, and the refusal stands there; any other error stays, and so does the place.
+    pub(crate) fn refuse(&mut self, error: ParserError, start: Start<'source>) -> ParserError
+        ensures other { result.kind ≢ kind.OutOfMemory → (result ≡ error) × (self.new ≡ self.old) }
+        ensures memory { result.kind ≡ kind.OutOfMemory → (self.new.place.lexer ≡ start.entry) × Says result kind.OutOfMemory (span start.entry.start start.entry.end) None }
+        ensures within { (error.kind ≢ kind.OutOfMemory → LiesInText start.entry.source error.span) → LiesInText start.entry.source result.span }
+        ensures asks { asked_of self.new ≡ asked_of self.old }
+    {
+        if error.kind() != ParserErrorKind::OutOfMemory {
+            return error;
+        }
+        self.lexer = start.lexer;
+        self.ahead = None;
+        ParserError::new(ParserErrorKind::OutOfMemory, start.span)
+    }
+
+    /// Reads the node of a value of at most so many levels, and answers where it began.
+    pub(crate) fn parse_whole(
+        &mut self,
+        alloc: Global,
+        levels: u32,
+    ) -> Result<(Node, Start<'source>), ParserError>
+        ensures value { Gives result levels due.value [] self.old.place self.new.place [] }
+        ensures tree { IfOk result (λ read. IsNodeTaken levels self.old.place self.new.place read.0) }
+        ensures start { IfOk result (λ read. read.1 ≡ self.old.place.lexer) }
+        ensures within { IfErr result (λ e. LiesInText self.old.place.lexer.source e.span) }
+        ensures uncaused { IfErr result (λ e. e.kind ≢ kind.WasmValueError) }
+        ensures memory { IfErr result (λ e. StaysWithout e self.old.place self.new.place) }
+        ensures asks { AsksFor self.old self.new }
+    {
+        let start = self.start_here();
+        match self.parse_node(alloc, levels) {
+            Ok(node) => Ok((node, start)),
+            Err(error) => Err(self.refuse(error, start)),
+        }
+    }
+
+    /// Whether only a gap is left. The place stays; what stands next is refused.
+    pub(crate) fn finish(&mut self) -> Result<(), ParserError>
+        ensures stays { self.new.place ≡ self.old.place }
+        ensures answer { Finishes result self.old.place }
+        ensures within { IfErr result (λ e. LiesInText self.old.place.lexer.source e.span) }
+        ensures asks { asked_of self.new ≡ self.old.place.taken + 1 }
+    {
+        self.peek();
+        match &self.ahead {
+            Some(ahead) => trailing(&ahead.item, &ahead.lexer),
+            None => Ok(()),
+        }
+    }
+
+    /// Reads the parameters of a call, each of at most 100 levels: None for `()`, else the node of a
+    /// tuple. Want of memory is refused where the call began.
+    pub(crate) fn parse_params(&mut self, alloc: Global) -> Result<Option<Node>, ParserError>
+        ensures taken { IfOk result (AreParamsTaken self.old.place self.new.place) }
+        ensures refused { IfErr result (λ e. e.kind ≢ kind.OutOfMemory → RefusesTuple e self.old.place self.new.place) }
+        ensures within { IfErr result (λ e. LiesInText self.old.place.lexer.source e.span) }
+    {
+        let start = self.start_here();
+        self.expect(Token::ParenOpen)?;
+        if self.next_is(Token::ParenClose) {
+            self.expect(Token::ParenClose)?;
+            return Ok(None);
+        }
+        match self.parse_items(alloc, DEFAULT_LEVELS, Token::ParenClose) {
+            Ok(tuple) => Ok(Some(tuple)),
+            Err(error) => Err(self.refuse(error, start)),
+        }
+    }
+
+    /// Reads a value.
+    #[cycle(parser)]
+    fn parse_node(&mut self, alloc: Global, levels: u32) -> Result<Node, ParserError>
+        ensures led { GivesWithin result levels due.value [] self.old.place self.new.place }
+        ensures tree { IfOk result (IsParsed levels self.old.place self.new.place) }
+        ensures asks { AsksFor self.old self.new }
+    {
+        if levels == 0 {
+            return Err(ParserError::new(ParserErrorKind::NestingTooDeep, self.span()));
+        }
+        let token = self.advance()?;
+        match token {
+            Token::Number => Ok(self.leaf(alloc, NodeType::Number)),
+            Token::Char => Ok(self.leaf(alloc, NodeType::Char)),
+            Token::String => Ok(self.leaf(alloc, NodeType::String)),
+            Token::MultilineString => Ok(self.leaf(alloc, NodeType::MultilineString)),
+            Token::LabelOrKeyword => self.parse_label(alloc, levels - 1),
+            Token::ParenOpen => self.parse_items(alloc, levels - 1, Token::ParenClose),
+            Token::BracketOpen => self.parse_items(alloc, levels - 1, Token::BracketClose),
+            Token::BraceOpen => self.parse_braces(alloc, levels - 1),
+            _ => Err(self.unexpected(token)),
+        }
+    }
+
+    /// Reads what stands behind a label that is due to be a value.
+    #[cycle(parser)]
+    fn parse_label(&mut self, alloc: Global, levels: u32) -> Result<Node, ParserError>
+        ensures led { let d = due_behind (word_of (text_at self.old.place)) in
+            GivesWithin result (levels + 1) d [] self.old.place self.new.place }
+        ensures tree { IfOk result (IsParsedBehind lex_class.LabelOrKeyword (levels + 1) self.old.place self.new.place) }
+        ensures asks { AsksFor self.old self.new }
+    {
+        match role_of(self.slice()) {
+            LabelRole::True => Ok(self.leaf(alloc, NodeType::BoolTrue)),
+            LabelRole::False => Ok(self.leaf(alloc, NodeType::BoolFalse)),
+            LabelRole::Number => Ok(self.leaf(alloc, NodeType::Number)),
+            LabelRole::None => Ok(self.leaf(alloc, NodeType::OptionNone)),
+            LabelRole::Some => {
+                let start = self.span().start;
+                self.expect(Token::ParenOpen)?;
+                self.parse_payload(alloc, levels, NodeType::OptionSome, start, Vec::new(alloc))
+            }
+            LabelRole::Ok => self.parse_maybe(
+                alloc,
+                levels,
+                NodeType::ResultOk,
+                NodeType::ResultOk,
+            ),
+            LabelRole::Err => self.parse_maybe(
+                alloc,
+                levels,
+                NodeType::ResultErr,
+                NodeType::ResultErr,
+            ),
+            LabelRole::Case => self.parse_maybe(
+                alloc,
+                levels,
+                NodeType::Label,
+                NodeType::VariantWithPayload,
+            ),
+        }
+    }
+
+    /// Reads the payload behind a label, where an open parenthesis stands there.
+    #[cycle(parser)]
+    fn parse_maybe(
+        &mut self,
+        alloc: Global,
+        levels: u32,
+        alone: NodeType,
+        with: NodeType,
+    ) -> Result<Node, ParserError>
+        ensures led { GivesWithin result (levels + 1) due.behind_label [] self.old.place self.new.place }
+        ensures tree { IfOk result (IsMaybe levels alone with self.old.place self.new.place) }
+        ensures asks { AsksFor self.old self.new }
+    {
+        let start = self.span().start;
+        if !self.next_is(Token::ParenOpen) {
+            return Ok(self.leaf(alloc, alone));
+        }
+        let front = self.label_children(alloc, with)?;
+        self.expect(Token::ParenOpen)?;
+        self.parse_payload(alloc, levels, with, start, front)
+    }
+
+    /// The label of a case, which was taken last, as the first child of its node; none for other
+    /// nodes.
+    fn label_children(&self, alloc: Global, ty: NodeType) -> Result<Vec<Node>, ParserError>
+        ensures made { IfOk result (λ v. v.items ≡ label_children ty (span_at self.now.place)) }
+        ensures memory { IfErr result (λ e. e.kind ≡ kind.OutOfMemory) }
+    {
+        let mut children = Vec::new(alloc);
+        if let NodeType::VariantWithPayload = ty {
+            let label = self.leaf(alloc, NodeType::Label);
+            if children.push(label).is_err() {
+                return Err(self.out_of_memory());
+            }
+        }
+        Ok(children)
+    }
+
+    /// Reads a value and the close parenthesis behind it, in a node behind these children.
+    #[cycle(parser)]
+    fn parse_payload(
+        &mut self,
+        alloc: Global,
+        levels: u32,
+        ty: NodeType,
+        start: usize,
+        front: Vec<Node>,
+    ) -> Result<Node, ParserError>
+        ensures led { GivesWithin result (levels + 1) due.value (due.payload ∷ []) self.old.place self.new.place }
+        ensures tree { IfOk result (IsPayload levels ty start front.items self.old.place self.new.place) }
+        ensures asks { AsksFor self.old self.new }
+    {
+        let payload = self.parse_node(alloc, levels)?;
+        self.expect(Token::ParenClose)?;
+        let mut children = front;
+        match children.push(payload) {
+            Ok(()) => Ok(self.node(ty, start, children)),
+            Err(_) => Err(self.out_of_memory()),
+        }
+    }
+
+    /// Reads the items of a tuple or a list, and its close.
+    #[cycle(parser)]
+    fn parse_items(&mut self, alloc: Global, levels: u32, close: Token) -> Result<Node, ParserError>
+        requires { IsClose close }
+        ensures led { GivesWithin result (levels + 1) due.first_item (form_of close ∷ []) self.old.place self.new.place }
+        ensures tree { IfOk result (IsOfItems levels close self.old.place self.new.place) }
+        ensures asks { AsksFor self.old self.new }
+    {
+        let start = self.span().start;
+        let mut items = Vec::new(alloc);
+        if self.next_is(close) {
+            self.expect(close)?;
+            if close == Token::ParenClose {
+                return Err(ParserError::new(ParserErrorKind::EmptyTuple, start..self.span().end));
+            }
+            return Ok(self.node(NodeType::List, start, items));
+        }
+        let ty = if close == Token::ParenClose {
+            NodeType::Tuple
+        } else {
+            NodeType::List
+        };
+        'items: loop {
+            let item = self.parse_node(alloc, levels)?;
+            if items.push(item).is_err() {
+                return Err(self.out_of_memory());
+            }
+            let token = self.advance()?;
+            if token == close {
+                return Ok(self.node(ty, start, items));
+            }
+            if token != Token::Comma {
+                return Err(self.unexpected(token));
+            }
+            if self.next_is(close) {
+                self.expect(close)?;
+                return Ok(self.node(ty, start, items));
+            }
+        }
+    }
+
+    /// Reads what stands behind an open brace.
+    #[cycle(parser)]
+    fn parse_braces(&mut self, alloc: Global, levels: u32) -> Result<Node, ParserError>
+        ensures led { GivesWithin result (levels + 1) due.in_braces [] self.old.place self.new.place }
+        ensures tree { IfOk result (IsParsedBehind lex_class.BraceOpen (levels + 1) self.old.place self.new.place) }
+        ensures asks { AsksFor self.old self.new }
+    {
+        let start = self.span().start;
+        let token = self.advance()?;
+        if token == Token::BraceClose {
+            return Ok(self.node(NodeType::EmptySet, start, Vec::new(alloc)));
+        }
+        if token == Token::Colon {
+            self.expect(Token::BraceClose)?;
+            return Ok(self.node(NodeType::TupleSet, start, Vec::new(alloc)));
+        }
+        if token == Token::LabelOrKeyword {
+            if self.next_is(Token::Colon) {
+                let key = self.leaf(alloc, NodeType::Label);
+                self.expect(Token::Colon)?;
+                return self.parse_entries(alloc, levels, start, key);
+            }
+            return self.parse_flags(alloc, start);
+        }
+        let Some(ty) = key_type(token) else {
+            return Err(self.unexpected(token));
+        };
+        let key = self.leaf(alloc, ty);
+        self.expect(Token::Colon)?;
+        self.parse_entries(alloc, levels, start, key)
+    }
+
+    /// Reads the value behind the first key, the further entries and the close.
+    #[cycle(parser)]
+    fn parse_entries(
+        &mut self,
+        alloc: Global,
+        levels: u32,
+        start: usize,
+        key: Node,
+    ) -> Result<Node, ParserError>
+        ensures led { GivesWithin result (levels + 1) due.value (due.entries ∷ []) self.old.place self.new.place }
+        ensures tree { IfOk result (IsOfEntries levels start key self.old.place self.new.place) }
+        ensures asks { AsksFor self.old self.new }
+    {
+        let mut children = Vec::new(alloc);
+        if children.push(key).is_err() {
+            return Err(self.out_of_memory());
+        }
+        'entries: loop {
+            let value = self.parse_node(alloc, levels)?;
+            if children.push(value).is_err() {
+                return Err(self.out_of_memory());
+            }
+            let token = self.advance()?;
+            if token == Token::BraceClose {
+                return Ok(self.node(NodeType::TupleSet, start, children));
+            }
+            if token != Token::Comma {
+                return Err(self.unexpected(token));
+            }
+            let next = self.advance()?;
+            if next == Token::BraceClose {
+                return Ok(self.node(NodeType::TupleSet, start, children));
+            }
+            let Some(ty) = key_type(next) else {
+                return Err(self.unexpected(next));
+            };
+            let key = self.leaf(alloc, ty);
+            self.expect(Token::Colon)?;
+            if children.push(key).is_err() {
+                return Err(self.out_of_memory());
+            }
+        }
+    }
+
+    /// Reads the flags behind the first, which was read, and the close.
+    fn parse_flags(&mut self, alloc: Global, start: usize) -> Result<Node, ParserError>
+        requires { (next : Place) → TakesItem self.old.place (Some (Ok lex_class.Colon)) next → ⊥ }
+        ensures led { GivesAnywhere result (due.behind_word (text_at self.old.place)) self.old.place self.new.place }
+        ensures tree { IfOk result (IsOfFlags start self.old.place self.new.place) }
+        ensures asks { AsksFor self.old self.new }
+    {
+        let mut flags = BTreeMap::new(alloc);
+        if flags
+            .insert(label_name(self.slice()), self.leaf(alloc, NodeType::Label))
+            .is_err()
+        {
+            return Err(self.out_of_memory());
+        }
+        'flags: loop {
+            let token = self.advance()?;
+            if token == Token::BraceClose {
+                return self.flags_node(alloc, start, flags);
+            }
+            if token != Token::Comma {
+                return Err(self.unexpected(token));
+            }
+            let next = self.advance()?;
+            if next == Token::BraceClose {
+                return self.flags_node(alloc, start, flags);
+            }
+            if next != Token::LabelOrKeyword {
+                return Err(self.unexpected(next));
+            }
+            let name = label_name(self.slice());
+            if flags.contains_key(name) {
+                return Err(self.repeated(alloc, name));
+            }
+            if flags
+                .insert(name, self.leaf(alloc, NodeType::Label))
+                .is_err()
+            {
+                return Err(self.out_of_memory());
+            }
+        }
+    }
+
+    /// The node of the flags, in the order of their names.
+    fn flags_node(
+        &self,
+        alloc: Global,
+        start: usize,
+        flags: BTreeMap<&'source str, Node>,
+    ) -> Result<Node, ParserError>
+        ensures node { IfOk result (λ n. n ≡ node node_type.Flags (span start self.now.place.lexer.end) (node_trees (values flags.entry))) }
+        ensures memory { IfErr result (λ e. e.kind ≡ kind.OutOfMemory) }
+    {
+        match flags.into_values().collect(alloc) {
+            Ok(children) => Ok(self.node(NodeType::Flags, start, children)),
+            Err(_) => Err(self.out_of_memory()),
+        }
+    }
+}
