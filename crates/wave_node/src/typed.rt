@@ -182,7 +182,7 @@ impl Node {
         self.or_error_here(V::make_list(alloc, ty, items))
     }
 
-    /// Nothing, where a list of so many items may be of the type.
+    /// Refuses a list of so many items where the type is a fixed-length list of another number.
     fn check_length<T: WasmType>(&self, ty: &T, got: usize) -> Result<(), ParserError>
         ensures fits { IfOk result (λ done. IsOfLength (T.tree ty.now) got) }
         ensures other { IfErr result (IsOtherLength (T.tree ty.now) got self.now) }
