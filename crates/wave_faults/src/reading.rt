@@ -1,0 +1,238 @@
+//! Calls that read.
+use crate::due::{exactly, of_read, of_refusal, of_untyped, shown};
+use crate::found::{Found, again, due_if};
+use crate::words::{read, type_at, word};
+use std::alloc::Global;
+use wasm_wave::parser::{Parser, ParserError, ParserErrorKind, parse_raw_func_call};
+use wasm_wave::untyped::{UntypedFuncCall, UntypedValue};
+use wasm_wave::value::{Type, Value};
+use wasm_wave::wasm::{DisplayFuncArgs, DisplayFuncResults};
+
+/// `from_str`, on a type and a text; then what is due.
+pub fn from_text(alloc: Global, words: &[String]) -> Result<Found, Found> {
+    let ty = type_at(alloc, words, 0)?;
+    let answer = read(alloc, &ty, word(words, 1));
+    Ok(of_read(alloc, &answer, word(words, 2)))
+}
+
+/// Whether memory was wanting.
+fn is_want<T>(answer: &Result<T, ParserError>) -> bool {
+    match answer {
+        Ok(_) => false,
+        Err(error) => error.kind() == ParserErrorKind::OutOfMemory,
+    }
+}
+
+/// The value that the parser reads next at the type.
+fn parsed(alloc: Global, ty: &Type, parser: &mut Parser<'_>) -> Result<Value, ParserError> {
+    parser.parse_value::<Value>(alloc, ty)
+}
+
+/// What the parser reads next at the type, asked again where it wants memory.
+fn next(alloc: Global, ty: &Type, parser: &mut Parser<'_>, due: &str) -> Found {
+    let first = parsed(alloc, ty, parser);
+    match is_want(&first) {
+        true => again(of_read(alloc, &parsed(alloc, ty, parser), due)),
+        false => of_read(alloc, &first, due),
+    }
+}
+
+/// Whether nothing is left for the parser, or what is left is refused with these words.
+fn finished(parser: &mut Parser<'_>, due: &str) -> Found {
+    match parser.finish() {
+        Ok(()) => due_if(due.is_empty()),
+        Err(error) => exactly(&error, due),
+    }
+}
+
+/// What two answers are together, the first of which is as due.
+fn both(first: Found, second: Found) -> Found {
+    match (first, second) {
+        (Found::DueAgain, Found::Due) => Found::DueAgain,
+        (_, second) => second,
+    }
+}
+
+/// `parse_value` of one parser, on a type and a text; then what is due of one value after the other,
+/// and what `finish` answers behind each.
+pub fn values(alloc: Global, words: &[String]) -> Result<Found, Found> {
+    let ty = type_at(alloc, words, 0)?;
+    let mut parser = Parser::new(word(words, 1));
+    let mut found = Found::Due;
+    for at in 1..words.len() / 2 {
+        let value = next(alloc, &ty, &mut parser, word(words, 2 * at));
+        if value != Found::Due && value != Found::DueAgain {
+            return Ok(value);
+        }
+        found = both(found, value);
+        if finished(&mut parser, word(words, 2 * at + 1)) != Found::Due {
+            return Ok(Found::Other);
+        }
+    }
+    Ok(found)
+}
+
+/// What the parser reads next without a type, asked again where it wants memory.
+fn next_untyped(alloc: Global, parser: &mut Parser<'_>, due: &str) -> Found {
+    let first = parser.parse_raw_value(alloc);
+    match is_want(&first) {
+        true => again(of_untyped(&parser.parse_raw_value(alloc), due)),
+        false => of_untyped(&first, due),
+    }
+}
+
+/// `parse_raw_value` of one parser, on a text; then what is due of one value after the other, and what
+/// `finish` answers behind the last.
+pub fn untyped_values(alloc: Global, words: &[String]) -> Result<Found, Found> {
+    let mut parser = Parser::new(word(words, 0));
+    let mut found = Found::Due;
+    for at in 2..words.len() {
+        let value = next_untyped(alloc, &mut parser, word(words, at - 1));
+        if value != Found::Due && value != Found::DueAgain {
+            return Ok(value);
+        }
+        found = both(found, value);
+    }
+    Ok(both(
+        found,
+        finished(&mut parser, word(words, words.len().saturating_sub(1))),
+    ))
+}
+
+/// `UntypedValue::parse`, on a text; then the display or the refusal.
+pub fn untyped(alloc: Global, words: &[String]) -> Result<Found, Found> {
+    let answer = UntypedValue::parse(alloc, word(words, 0));
+    Ok(of_untyped(&answer, word(words, 1)))
+}
+
+/// Whether a call with the display was read, or refused with these words.
+fn of_call(answer: &Result<UntypedFuncCall<'_>, ParserError>, text: &str) -> Found {
+    match answer {
+        Ok(call) => exactly(call, text),
+        Err(error) => of_refusal(error, text),
+    }
+}
+
+/// `parse_raw_func_call`, on a text; then the display or the refusal.
+pub fn raw_call(alloc: Global, words: &[String]) -> Result<Found, Found> {
+    Ok(of_call(&parse_raw_func_call(alloc, word(words, 0)), word(words, 1)))
+}
+
+/// `UntypedFuncCall::parse`, on a text; then the display or the refusal.
+pub fn call(alloc: Global, words: &[String]) -> Result<Found, Found> {
+    Ok(of_call(
+        &UntypedFuncCall::parse(alloc, word(words, 0)),
+        word(words, 1),
+    ))
+}
+
+/// `to_wasm_value` of an untyped value, on a type and a text; then what is due.
+pub fn late(alloc: Global, words: &[String]) -> Result<Found, Found> {
+    let ty = type_at(alloc, words, 0)?;
+    let value = UntypedValue::parse(alloc, word(words, 1))?;
+    Ok(of_read(alloc, &value.to_wasm_value(alloc, &ty), word(words, 2)))
+}
+
+/// `to_wasm_value` of a copy of a node, on a type and a text; then what is due.
+pub fn of_copy(alloc: Global, words: &[String]) -> Result<Found, Found> {
+    let ty = type_at(alloc, words, 0)?;
+    let value = UntypedValue::parse(alloc, word(words, 1))?;
+    let Ok(node) = value.node().clone(alloc) else {
+        return Ok(Found::Want);
+    };
+    let answer = node.to_wasm_value::<Value>(alloc, &ty, value.source());
+    Ok(of_read(alloc, &answer, word(words, 2)))
+}
+
+/// The types that are the words from this place on.
+fn types_from(alloc: Global, words: &[String], first: usize) -> Result<Vec<Type>, Found> {
+    let mut types = Vec::new(alloc);
+    for at in first..words.len() {
+        types.push(type_at(alloc, words, at)?)?;
+    }
+    Ok(types)
+}
+
+/// The values that the call's parameters are at the types.
+fn params_at(
+    alloc: Global,
+    text: &str,
+    types: &[Type],
+) -> Result<Result<Vec<Value>, ParserError>, Found> {
+    let call = UntypedFuncCall::parse(alloc, text)?;
+    Ok(call.to_wasm_params(alloc, types))
+}
+
+/// `to_wasm_params`, on a call's text; then the display of the arguments or the refusal, and the types.
+pub fn params(alloc: Global, words: &[String]) -> Result<Found, Found> {
+    let types = types_from(alloc, words, 2)?;
+    Ok(match params_at(alloc, word(words, 0), types.as_slice())? {
+        Ok(vals) => shown(
+            &DisplayFuncArgs::new(alloc, vals.as_slice()),
+            word(words, 1),
+        ),
+        Err(error) => of_refusal(&error, word(words, 1)),
+    })
+}
+
+/// The display of results, which are a call's parameters; then that display, and the types.
+pub fn results(alloc: Global, words: &[String]) -> Result<Found, Found> {
+    let types = types_from(alloc, words, 2)?;
+    let vals = params_at(alloc, word(words, 0), types.as_slice())??;
+    Ok(shown(
+        &DisplayFuncResults::new(alloc, vals.as_slice()),
+        word(words, 1),
+    ))
+}
+
+/// Whether the value is that of the text, with the display.
+fn is_value(value: &UntypedValue<'_>, words: &[String]) -> bool {
+    value.source() == word(words, 0) && exactly(value, word(words, 1)) == Found::Due
+}
+
+/// What a value that was handed back for want of memory is, and what it answers once more.
+fn owned_again(alloc: Global, value: UntypedValue<'_>, words: &[String]) -> Found {
+    if !is_value(&value, words) {
+        return Found::Other;
+    }
+    match value.into_owned(alloc) {
+        Ok(value) => again(due_if(is_value(&value, words))),
+        Err(value) if is_value(&value, words) => Found::WantAgain,
+        Err(_) => Found::Other,
+    }
+}
+
+/// `into_owned` of an untyped value, on a text; then its display.
+pub fn owned(alloc: Global, words: &[String]) -> Result<Found, Found> {
+    let value = UntypedValue::parse(alloc, word(words, 0))?;
+    Ok(match value.into_owned(alloc) {
+        Ok(value) => due_if(is_value(&value, words)),
+        Err(value) => owned_again(alloc, value, words),
+    })
+}
+
+/// Whether the call is that of the text, with the display.
+fn is_call(call: &UntypedFuncCall<'_>, words: &[String]) -> bool {
+    call.source() == word(words, 0) && exactly(call, word(words, 1)) == Found::Due
+}
+
+/// What a call that was handed back for want of memory is, and what it answers once more.
+fn owned_call_again(alloc: Global, call: UntypedFuncCall<'_>, words: &[String]) -> Found {
+    if !is_call(&call, words) {
+        return Found::Other;
+    }
+    match call.into_owned(alloc) {
+        Ok(call) => again(due_if(is_call(&call, words))),
+        Err(call) if is_call(&call, words) => Found::WantAgain,
+        Err(_) => Found::Other,
+    }
+}
+
+/// `into_owned` of a call, on a text; then its display.
+pub fn owned_call(alloc: Global, words: &[String]) -> Result<Found, Found> {
+    let call = UntypedFuncCall::parse(alloc, word(words, 0))?;
+    Ok(match call.into_owned(alloc) {
+        Ok(call) => due_if(is_call(&call, words)),
+        Err(call) => owned_call_again(alloc, call, words),
+    })
+}
