@@ -9,7 +9,7 @@ use wasm_wave::value::{IntoValue, Type, Value};
 fn scalar(alloc: Global, name: &str) -> Result<Value, AllocError> {
     match name {
         "str" => "str".into_value(alloc),
-        "string" => String::from_str(alloc, "oops")?.into_value(alloc),
+        "string" => string(alloc),
         "none" => None::<u8>.into_value(alloc),
         "some" => Some("a").into_value(alloc),
         "ok" => Ok::<u8, char>(1).into_value(alloc),
@@ -18,19 +18,36 @@ fn scalar(alloc: Global, name: &str) -> Result<Value, AllocError> {
     }
 }
 
+/// The value of a list.
+fn list(alloc: Global) -> Result<Value, AllocError> {
+    let numbers = Vec::from_array(alloc, [1i32, 2, 3])?;
+    numbers.into_value(alloc)
+}
+
+/// The value of a text.
+fn string(alloc: Global) -> Result<Value, AllocError> {
+    let text = String::from_str(alloc, "oops")?;
+    text.into_value(alloc)
+}
+
+/// The value of a tuple.
+fn triple(alloc: Global) -> Result<Value, AllocError> {
+    (1i32, "str", [9i32; 2]).into_value(alloc)
+}
+
 /// The value that has this name.
 fn converted(alloc: Global, name: &str) -> Result<Value, AllocError> {
     match name {
-        "vec" => Vec::from_array(alloc, [1i32, 2, 3])?.into_value(alloc),
+        "vec" => list(alloc),
         "array" => ['a'; 3].into_value(alloc),
         "single" => (1i32,).into_value(alloc),
-        "triple" => (1i32, "str", [9i32; 2]).into_value(alloc),
+        "triple" => triple(alloc),
         _ => scalar(alloc, name),
     }
 }
 
 /// `into_value` of the value that has this name; then its text.
-pub fn into_value(alloc: Global, words: &[String]) -> Result<Found, Found> {
+pub fn stands_for(alloc: Global, words: &[String]) -> Result<Found, Found> {
     Ok(match converted(alloc, word(words, 0)) {
         Ok(val) => of_value(alloc, &val, word(words, 1)),
         Err(_) => Found::Want,

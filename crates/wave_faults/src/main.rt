@@ -22,10 +22,10 @@ use std::process::ExitCode;
 use std::{env, io};
 
 fn main(rt: HostRuntime) -> ExitCode {
-    let first = attempt(&rt);
+    let first = attempt(rt);
     let said = match first {
         Found::Want | Found::NotCalled => {
-            let second = attempt(&rt);
+            let second = attempt(rt);
             println!(rt; "{first}, then {second}")
         }
         _ => println!(rt; "{first}"),
@@ -37,7 +37,7 @@ fn main(rt: HostRuntime) -> ExitCode {
 }
 
 /// What the call that the words name is found to answer.
-fn attempt<R: env::Env + AllocGlobal>(rt: &R) -> Found {
+fn attempt(rt: HostRuntime) -> Found {
     match arguments(rt) {
         Ok(words) => called(rt.alloc(), words.as_slice()),
         Err(found) => found,
@@ -45,8 +45,8 @@ fn attempt<R: env::Env + AllocGlobal>(rt: &R) -> Found {
 }
 
 /// The words behind the program's name.
-fn arguments<R: env::Env + AllocGlobal>(rt: &R) -> Result<Vec<String>, Found> {
-    match env::args(rt) {
+fn arguments(rt: HostRuntime) -> Result<Vec<String>, Found> {
+    match env::args(&rt) {
         Ok(arguments) => Ok(arguments.skip(1).collect(rt.alloc())?),
         Err(error) if error.kind() == io::ErrorKind::OutOfMemory => Err(Found::NotCalled),
         Err(_) => Err(Found::Unknown),
@@ -96,7 +96,7 @@ fn value_call(alloc: Global, name: &str, words: &[String]) -> Result<Found, Foun
         "make_string" => conversions::make_string(alloc, words),
         "Value::clone" => making::cloned(alloc, words),
         "Value::ty" => making::own_type(alloc, words),
-        "into_value" => conversions::into_value(alloc, words),
+        "into_value" => conversions::stands_for(alloc, words),
         "value_type" => conversions::value_type(alloc, words),
         _ => type_call(alloc, name, words),
     }
@@ -132,6 +132,7 @@ fn call_without_memory(alloc: Global, name: &str, words: &[String]) -> Result<Fo
         "view" => views::view(alloc, words),
         "equality" => views::equality(alloc, words),
         "Type::kind" => types::views(alloc, words),
+        "equality of types" => views::type_equality(alloc, words),
         "scalar" => conversions::scalars(alloc, words),
         "From<String>" => conversions::from_text(alloc, words),
         _ => row(alloc, name, words),

@@ -1,6 +1,7 @@
 //! Makers of values, and views that allocate.
-use crate::due::{of_made, of_value};
-use crate::found::{Found, due_if};
+use crate::due::{exactly, of_made, of_value};
+use crate::found::Found;
+use crate::views::are_equal;
 use crate::words::{type_at, value_at, word};
 use std::alloc::{AllocError, Global};
 use wasm_wave::value::{Type, Value};
@@ -28,6 +29,12 @@ fn named_copies<'name>(
     Ok(items)
 }
 
+/// Copies of the key and the value.
+fn entry_copy(alloc: Global, key: &Value, val: &Value) -> Result<(Value, Value), AllocError> {
+    let key = key.clone(alloc)?;
+    Ok((key, val.clone(alloc)?))
+}
+
 /// Copies of the keys and values.
 fn entry_copies(
     alloc: Global,
@@ -35,7 +42,7 @@ fn entry_copies(
 ) -> Result<Vec<(Value, Value)>, AllocError> {
     let mut items = Vec::new(alloc);
     for entry in entries {
-        items.push((entry.0.clone(alloc)?, entry.1.clone(alloc)?))?;
+        items.push(entry_copy(alloc, entry.0, entry.1)?)?;
     }
     Ok(items)
 }
@@ -123,40 +130,62 @@ fn of_part(alloc: Global, ty: &Type, val: &Value) -> Result<Value, WasmValueErro
     }
 }
 
+/// What the maker of the value's kind makes at the third word's type; the fourth is due.
+fn made_of(alloc: Global, words: &[String], val: &Value) -> Result<Found, Found> {
+    let ty = type_at(alloc, words, 2)?;
+    Ok(of_made(alloc, &of_parts(alloc, &ty, val), word(words, 3)))
+}
+
 /// The maker of a value's kind, on the value's type and text, and the type that it is made at; then
 /// its text or the refusal.
 pub fn made(alloc: Global, words: &[String]) -> Result<Found, Found> {
     let val = value_at(alloc, words, 0)?;
+    made_of(alloc, words, &val)
+}
+
+/// The list of the value that is made at the third word's type; the fourth is due.
+fn list_of(alloc: Global, words: &[String], val: &Value) -> Result<Found, Found> {
     let ty = type_at(alloc, words, 2)?;
-    Ok(of_made(alloc, &of_parts(alloc, &ty, &val), word(words, 3)))
+    Ok(of_made(alloc, &list(alloc, &ty, &[val]), word(words, 3)))
 }
 
 /// The maker of lists, on the item's type and text, and the type that it is made at; then its text or
 /// the refusal.
 pub fn made_list(alloc: Global, words: &[String]) -> Result<Found, Found> {
     let val = value_at(alloc, words, 0)?;
-    let ty = type_at(alloc, words, 2)?;
-    Ok(of_made(alloc, &list(alloc, &ty, &[&val]), word(words, 3)))
+    list_of(alloc, words, &val)
+}
+
+/// A copy of the value.
+fn value_copy(alloc: Global, val: &Value) -> Result<Value, AllocError> {
+    val.clone(alloc)
+}
+
+/// Whether a copy of the value is equal and has the text.
+fn of_copy(alloc: Global, val: &Value, text: &str) -> Found {
+    match value_copy(alloc, val) {
+        Ok(copy) if are_equal(&copy, val) => of_value(alloc, &copy, text),
+        Ok(_) => Found::Other,
+        Err(_) => Found::Want,
+    }
 }
 
 /// `clone` of a value, on its type and text; then its text.
 pub fn cloned(alloc: Global, words: &[String]) -> Result<Found, Found> {
     let val = value_at(alloc, words, 0)?;
-    let Ok(copy) = val.clone(alloc) else {
-        return Ok(Found::Want);
-    };
-    match copy == val {
-        true => Ok(of_value(alloc, &copy, word(words, 2))),
-        false => Ok(Found::Other),
-    }
+    Ok(of_copy(alloc, &val, word(words, 2)))
+}
+
+/// The value's own type.
+fn own_type_of(val: &Value) -> Result<Type, AllocError> {
+    val.ty()
 }
 
 /// `ty` of a value, on its type and text.
 pub fn own_type(alloc: Global, words: &[String]) -> Result<Found, Found> {
-    let ty = type_at(alloc, words, 0)?;
     let val = value_at(alloc, words, 0)?;
-    match val.ty() {
-        Ok(own) => Ok(due_if(own == ty)),
+    match own_type_of(&val) {
+        Ok(own) => Ok(exactly(&own, word(words, 0))),
         Err(_) => Ok(Found::Want),
     }
 }

@@ -1,9 +1,9 @@
 //! Calls that read.
-use crate::due::{exactly, of_read, of_refusal, of_untyped, shown};
+use crate::due::{exactly, of_read, of_refusal, of_untyped, of_value, shown};
 use crate::found::{Found, again, due_if};
 use crate::words::{read, type_at, word};
 use std::alloc::Global;
-use wasm_wave::parser::{Parser, ParserError, ParserErrorKind, parse_raw_func_call};
+use wasm_wave::parser::{Parser, ParserError, parse_raw_func_call};
 use wasm_wave::untyped::{UntypedFuncCall, UntypedValue};
 use wasm_wave::value::{Type, Value};
 use wasm_wave::wasm::{DisplayFuncArgs, DisplayFuncResults};
@@ -15,33 +15,42 @@ pub fn from_text(alloc: Global, words: &[String]) -> Result<Found, Found> {
     Ok(of_read(alloc, &answer, word(words, 2)))
 }
 
-/// Whether memory was wanting.
-fn is_want<T>(answer: &Result<T, ParserError>) -> bool {
-    match answer {
-        Ok(_) => false,
-        Err(error) => error.kind() == ParserErrorKind::OutOfMemory,
-    }
-}
-
 /// The value that the parser reads next at the type.
 fn parsed(alloc: Global, ty: &Type, parser: &mut Parser<'_>) -> Result<Value, ParserError> {
     parser.parse_value::<Value>(alloc, ty)
 }
 
-/// What the parser reads next at the type, asked again where it wants memory.
-fn next(alloc: Global, ty: &Type, parser: &mut Parser<'_>, due: &str) -> Found {
-    let first = parsed(alloc, ty, parser);
-    match is_want(&first) {
-        true => again(of_read(alloc, &parsed(alloc, ty, parser), due)),
-        false => of_read(alloc, &first, due),
+/// What a value that was read is found to be: where memory is wanting to compare it, no call is
+/// judged.
+fn compared(alloc: Global, val: &Value, due: &str) -> Found {
+    match of_value(alloc, val, due) {
+        Found::Want => Found::NotCalled,
+        found => found,
     }
 }
 
-/// Whether nothing is left for the parser, or what is left is refused with these words.
+/// What the parser reads next at the type.
+fn next_once(alloc: Global, ty: &Type, parser: &mut Parser<'_>, due: &str) -> Found {
+    match parsed(alloc, ty, parser) {
+        Ok(val) => compared(alloc, &val, due),
+        Err(error) => of_refusal(&error, due),
+    }
+}
+
+/// What the parser reads next at the type, asked again where it wants memory.
+fn next(alloc: Global, ty: &Type, parser: &mut Parser<'_>, due: &str) -> Found {
+    match next_once(alloc, ty, parser, due) {
+        Found::Want => again(next_once(alloc, ty, parser, due)),
+        found => found,
+    }
+}
+
+/// Whether nothing is left for the parser, or what is left is refused with these words; `?` stands
+/// for any answer.
 fn finished(parser: &mut Parser<'_>, due: &str) -> Found {
     match parser.finish() {
-        Ok(()) => due_if(due.is_empty()),
-        Err(error) => exactly(&error, due),
+        Ok(()) => due_if(due.is_empty() || due == "?"),
+        Err(error) => due_if(due == "?" || exactly(&error, due) == Found::Due),
     }
 }
 
@@ -72,12 +81,16 @@ pub fn values(alloc: Global, words: &[String]) -> Result<Found, Found> {
     Ok(found)
 }
 
+/// What the parser reads next without a type.
+fn next_untyped_once(alloc: Global, parser: &mut Parser<'_>, due: &str) -> Found {
+    of_untyped(&parser.parse_raw_value(alloc), due)
+}
+
 /// What the parser reads next without a type, asked again where it wants memory.
 fn next_untyped(alloc: Global, parser: &mut Parser<'_>, due: &str) -> Found {
-    let first = parser.parse_raw_value(alloc);
-    match is_want(&first) {
-        true => again(of_untyped(&parser.parse_raw_value(alloc), due)),
-        false => of_untyped(&first, due),
+    match next_untyped_once(alloc, parser, due) {
+        Found::Want => again(next_untyped_once(alloc, parser, due)),
+        found => found,
     }
 }
 
@@ -126,22 +139,45 @@ pub fn call(alloc: Global, words: &[String]) -> Result<Found, Found> {
     ))
 }
 
+/// The value that an untyped value is at the type.
+fn late_value(alloc: Global, ty: &Type, value: &UntypedValue<'_>) -> Result<Value, ParserError> {
+    value.to_wasm_value(alloc, ty)
+}
+
+/// What the second word is at the type, read without it first; the third is due.
+fn late_at(alloc: Global, ty: &Type, words: &[String]) -> Result<Found, Found> {
+    let value = UntypedValue::parse(alloc, word(words, 1))?;
+    Ok(of_read(alloc, &late_value(alloc, ty, &value), word(words, 2)))
+}
+
 /// `to_wasm_value` of an untyped value, on a type and a text; then what is due.
 pub fn late(alloc: Global, words: &[String]) -> Result<Found, Found> {
     let ty = type_at(alloc, words, 0)?;
+    late_at(alloc, &ty, words)
+}
+
+/// What a copy of the value's node is at the type.
+fn copy_at(alloc: Global, ty: &Type, value: &UntypedValue<'_>, text: &str) -> Found {
+    match value.node().clone(alloc) {
+        Ok(node) => of_read(
+            alloc,
+            &node.to_wasm_value::<Value>(alloc, ty, value.source()),
+            text,
+        ),
+        Err(_) => Found::Want,
+    }
+}
+
+/// What a copy of the second word's node is at the type; the third is due.
+fn copy_of_word(alloc: Global, ty: &Type, words: &[String]) -> Result<Found, Found> {
     let value = UntypedValue::parse(alloc, word(words, 1))?;
-    Ok(of_read(alloc, &value.to_wasm_value(alloc, &ty), word(words, 2)))
+    Ok(copy_at(alloc, ty, &value, word(words, 2)))
 }
 
 /// `to_wasm_value` of a copy of a node, on a type and a text; then what is due.
 pub fn of_copy(alloc: Global, words: &[String]) -> Result<Found, Found> {
     let ty = type_at(alloc, words, 0)?;
-    let value = UntypedValue::parse(alloc, word(words, 1))?;
-    let Ok(node) = value.node().clone(alloc) else {
-        return Ok(Found::Want);
-    };
-    let answer = node.to_wasm_value::<Value>(alloc, &ty, value.source());
-    Ok(of_read(alloc, &answer, word(words, 2)))
+    copy_of_word(alloc, &ty, words)
 }
 
 /// The types that are the words from this place on.

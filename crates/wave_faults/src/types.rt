@@ -24,7 +24,7 @@ pub fn made(alloc: Global, words: &[String]) -> Result<Found, Found> {
 pub fn cloned(alloc: Global, words: &[String]) -> Result<Found, Found> {
     let ty = type_at(alloc, words, 0)?;
     Ok(match ty.clone() {
-        Ok(copy) => due_if(copy == ty),
+        Ok(copy) => exactly(&copy, word(words, 0)),
         Err(_) => Found::Want,
     })
 }
@@ -55,16 +55,15 @@ pub fn is_list(alloc: Global, words: &[String]) -> Result<Found, Found> {
     })
 }
 
-/// What is told of a type without memory, on its text: its kind, whether its names are labels, whether
-/// its kind has a simple type, and that it equals itself.
+/// What is told of a type without memory, on its text: its kind, whether its names are labels, and
+/// whether its kind has a simple type.
 pub fn views(alloc: Global, words: &[String]) -> Result<Found, Found> {
     let ty = type_at(alloc, words, 0)?;
     let mut due = Due::new(word(words, 1));
     let kind = ty.kind();
     let are_labels = ty.names_are_labels();
     let is_simple = Type::simple(kind).is_some();
-    let is_equal = ty == ty;
-    let _ = write!(due, "{kind} {are_labels} {is_simple} {is_equal}");
+    let _ = write!(due, "{kind} {are_labels} {is_simple}");
     Ok(due.found())
 }
 
@@ -125,22 +124,28 @@ pub fn function_display(alloc: Global, words: &[String]) -> Result<Found, Found>
 }
 
 /// How many parameters, names of parameters, results and names of results there are.
-fn counts(alloc: Global, func: &FuncType) -> Result<[usize; 4], AllocError> {
+fn counts(alloc: Global, func: &FuncType) -> Result<(usize, usize, usize, usize), AllocError> {
     let params = func.params(alloc)?.len();
     let names = func.param_names(alloc)?.len();
     let results = func.results(alloc)?.len();
-    Ok([params, names, results, func.result_names(alloc)?.len()])
+    Ok((params, names, results, func.result_names(alloc)?.len()))
+}
+
+/// Whether the counts are the text.
+fn of_counts(counts: (usize, usize, usize, usize), text: &str) -> Found {
+    let (params, names, results, result_names) = counts;
+    let mut due = Due::new(text);
+    let _ = write!(due, "{params} {names} {results} {result_names}");
+    due.found()
 }
 
 /// The views of the type of a function, by the same words; the first has their lengths.
 pub fn function_views(alloc: Global, words: &[String]) -> Result<Found, Found> {
     let func = function(alloc, words)??;
-    let Ok([params, names, results, result_names]) = counts(alloc, &func) else {
-        return Ok(Found::Want);
-    };
-    let mut due = Due::new(word(words, 0));
-    let _ = write!(due, "{params} {names} {results} {result_names}");
-    Ok(due.found())
+    Ok(match counts(alloc, &func) {
+        Ok(counts) => of_counts(counts, word(words, 0)),
+        Err(_) => Found::Want,
+    })
 }
 
 /// Entries of the words: each is its text, and has its place and its length.

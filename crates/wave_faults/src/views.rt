@@ -4,7 +4,7 @@ use crate::found::{Found, due_if};
 use crate::words::{type_at, value_at, word};
 use std::alloc::Global;
 use std::fmt::Write;
-use wasm_wave::value::Value;
+use wasm_wave::value::{Type, Value};
 use wasm_wave::wasm::WasmTypeKind;
 
 /// Whether the view of a number is the text.
@@ -56,13 +56,36 @@ pub fn view(alloc: Global, words: &[String]) -> Result<Found, Found> {
     Ok(viewed(&val, word(words, 2)))
 }
 
-/// Equality of two types and their values, each a type and a text; then both answers.
+/// Whether the values are equal.
+pub fn are_equal(one: &Value, other: &Value) -> bool {
+    *one == *other
+}
+
+/// Whether the value equals that of the third and the fourth word, which the fifth says.
+fn equality_to(alloc: Global, words: &[String], val: &Value) -> Result<Found, Found> {
+    let other = value_at(alloc, words, 2)?;
+    Ok(exactly(&are_equal(val, &other), word(words, 4)))
+}
+
+/// Equality of two values, each a type and a text; then the answer.
 pub fn equality(alloc: Global, words: &[String]) -> Result<Found, Found> {
-    let types = (type_at(alloc, words, 0)?, type_at(alloc, words, 2)?);
-    let vals = (value_at(alloc, words, 0)?, value_at(alloc, words, 2)?);
-    let mut due = Due::new(word(words, 4));
-    let are_equal = types.0 == types.1;
-    let are_vals_equal = vals.0 == vals.1;
-    let _ = write!(due, "{are_equal} {are_vals_equal}");
-    Ok(due.found())
+    let val = value_at(alloc, words, 0)?;
+    equality_to(alloc, words, &val)
+}
+
+/// Whether the types are equal.
+fn are_types_equal(one: &Type, other: &Type) -> bool {
+    *one == *other
+}
+
+/// Whether the type equals that of the second word, which the third says.
+fn type_equality_to(alloc: Global, words: &[String], ty: &Type) -> Result<Found, Found> {
+    let other = type_at(alloc, words, 1)?;
+    Ok(exactly(&are_types_equal(ty, &other), word(words, 2)))
+}
+
+/// Equality of two types; then the answer.
+pub fn type_equality(alloc: Global, words: &[String]) -> Result<Found, Found> {
+    let ty = type_at(alloc, words, 0)?;
+    type_equality_to(alloc, words, &ty)
 }

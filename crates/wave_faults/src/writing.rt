@@ -27,18 +27,23 @@ pub fn display(alloc: Global, words: &[String]) -> Result<Found, Found> {
 /// What a writer holds before it writes.
 const EARLIER: &str = "earlier ";
 
-/// `write_value` of a writer that holds an earlier text, on a type and a text; then the canonical text.
-pub fn behind(alloc: Global, words: &[String]) -> Result<Found, Found> {
-    let val = value_at(alloc, words, 0)?;
-    let mut writer = Writer::new(String::from_str(alloc, EARLIER)?);
-    let answer = writer.write_value(alloc, &val);
+/// What a writer that holds the earlier text takes of the value.
+fn behind_earlier(alloc: Global, val: &Value, earlier: String, due: &str) -> Found {
+    let mut writer = Writer::new(earlier);
+    let answer = writer.write_value(alloc, val);
     let out = writer.into_inner();
-    let due = word(words, 2);
-    Ok(match (out.as_str().strip_prefix(EARLIER), answer) {
+    match (out.as_str().strip_prefix(EARLIER), answer) {
         (Some(taken), Ok(())) => due_if(taken == due),
         (Some(taken), Err(WriterError::Memory(_))) if due.starts_with(taken) => Found::Want,
         _ => Found::Other,
-    })
+    }
+}
+
+/// `write_value` of a writer that holds an earlier text, on a type and a text; then the canonical text.
+pub fn behind(alloc: Global, words: &[String]) -> Result<Found, Found> {
+    let val = value_at(alloc, words, 0)?;
+    let earlier = String::from_str(alloc, EARLIER)?;
+    Ok(behind_earlier(alloc, &val, earlier, word(words, 2)))
 }
 
 /// A writer that passes so many texts and then fails, once or for good.
