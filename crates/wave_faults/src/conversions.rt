@@ -1,6 +1,7 @@
 //! Rust values as values.
 use crate::due::{exactly, of_made, of_value};
 use crate::found::Found;
+use crate::views::viewed;
 use crate::words::word;
 use std::alloc::{AllocError, Global};
 use wasm_wave::value::{IntoValue, Type, Value};
@@ -94,18 +95,18 @@ fn plain(alloc: Global, name: &str) -> Option<Value> {
     }
 }
 
-/// The makers of scalars; then the text.
+/// The makers of scalars, and `From`; then what the value's view answers.
 pub fn scalars(alloc: Global, words: &[String]) -> Result<Found, Found> {
     Ok(match plain(alloc, word(words, 0)) {
-        Some(val) => of_value(alloc, &val, word(words, 1)),
+        Some(val) => viewed(&val, word(words, 1)),
         None => Found::Other,
     })
 }
 
-/// `From` of a text; then its text as a value.
+/// `From` of a text; then what the value's view answers.
 pub fn from_text(alloc: Global, words: &[String]) -> Result<Found, Found> {
     let text = String::from_str(alloc, word(words, 0))?;
-    Ok(of_value(alloc, &Value::from(text), word(words, 1)))
+    Ok(viewed(&Value::from(text), word(words, 1)))
 }
 
 /// `make_string`; then its text as a value.

@@ -1,7 +1,7 @@
 //! Calls that read.
 use crate::due::{exactly, of_read, of_refusal, of_untyped, of_value, shown};
 use crate::found::{Found, again, due_if};
-use crate::words::{read, type_at, word};
+use crate::words::{read, type_at, value_at, word};
 use std::alloc::Global;
 use wasm_wave::parser::{Parser, ParserError, parse_raw_func_call};
 use wasm_wave::untyped::{UntypedFuncCall, UntypedValue};
@@ -190,19 +190,19 @@ fn types_from(alloc: Global, words: &[String], first: usize) -> Result<Vec<Type>
 }
 
 /// The values that the call's parameters are at the types.
-fn params_at(
+fn params_of(
     alloc: Global,
-    text: &str,
+    call: &UntypedFuncCall<'_>,
     types: &[Type],
-) -> Result<Result<Vec<Value>, ParserError>, Found> {
-    let call = UntypedFuncCall::parse(alloc, text)?;
-    Ok(call.to_wasm_params(alloc, types))
+) -> Result<Vec<Value>, ParserError> {
+    call.to_wasm_params(alloc, types)
 }
 
-/// `to_wasm_params`, on a call's text; then the display of the arguments or the refusal, and the types.
-pub fn params(alloc: Global, words: &[String]) -> Result<Found, Found> {
-    let types = types_from(alloc, words, 2)?;
-    Ok(match params_at(alloc, word(words, 0), types.as_slice())? {
+/// The parameters at the types of the call that is the first word; the second is due, their display
+/// as arguments or the refusal.
+fn params_at(alloc: Global, types: &[Type], words: &[String]) -> Result<Found, Found> {
+    let call = UntypedFuncCall::parse(alloc, word(words, 0))?;
+    Ok(match params_of(alloc, &call, types) {
         Ok(vals) => shown(
             &DisplayFuncArgs::new(alloc, vals.as_slice()),
             word(words, 1),
@@ -211,14 +211,26 @@ pub fn params(alloc: Global, words: &[String]) -> Result<Found, Found> {
     })
 }
 
-/// The display of results, which are a call's parameters; then that display, and the types.
-pub fn results(alloc: Global, words: &[String]) -> Result<Found, Found> {
+/// `to_wasm_params`, on a call's text; then the display of the arguments or the refusal, and the types.
+pub fn params(alloc: Global, words: &[String]) -> Result<Found, Found> {
     let types = types_from(alloc, words, 2)?;
-    let vals = params_at(alloc, word(words, 0), types.as_slice())??;
-    Ok(shown(
-        &DisplayFuncResults::new(alloc, vals.as_slice()),
-        word(words, 1),
-    ))
+    params_at(alloc, types.as_slice(), words)
+}
+
+/// The display as results of the values.
+fn results_of(alloc: Global, vals: &[Value], due: &str) -> Found {
+    shown(&DisplayFuncResults::new(alloc, vals), due)
+}
+
+/// The display of results; then that display, and types and texts of the results.
+pub fn results(alloc: Global, words: &[String]) -> Result<Found, Found> {
+    let mut vals = Vec::new(alloc);
+    for at in 1..words.len() {
+        if at % 2 == 1 {
+            vals.push(value_at(alloc, words, at)?)?;
+        }
+    }
+    Ok(results_of(alloc, vals.as_slice(), word(words, 0)))
 }
 
 /// Whether the value is that of the text, with the display.

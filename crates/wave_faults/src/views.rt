@@ -31,7 +31,7 @@ fn case(name: &str, payload: Option<&Value>, text: &str) -> Found {
 }
 
 /// Whether the view of the value is the text.
-fn viewed(val: &Value, text: &str) -> Found {
+pub fn viewed(val: &Value, text: &str) -> Found {
     match val.kind() {
         WasmTypeKind::Bool => exactly(&val.unwrap_bool(), text),
         WasmTypeKind::Char => exactly(&val.unwrap_char(), text),
