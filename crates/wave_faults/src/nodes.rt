@@ -1,0 +1,103 @@
+//! Accessors of nodes.
+use crate::due::{Due, exactly, of_refusal};
+use crate::found::{Found, due_if};
+use crate::words::word;
+use std::alloc::Global;
+use std::fmt::Write;
+use wasm_wave::ast::{CowStr, Node, NodeType};
+use wasm_wave::untyped::UntypedValue;
+
+/// `as_str`, on a text; then whether it is borrowed or owned, and what it is.
+pub fn text(alloc: Global, words: &[String]) -> Result<Found, Found> {
+    let value = UntypedValue::parse(alloc, word(words, 0))?;
+    let mut due = Due::new(word(words, 1));
+    match value.node().as_str(alloc, value.source()) {
+        Ok(CowStr::Borrowed(text)) => {
+            let _ = write!(due, "borrowed {text}");
+            Ok(due.found())
+        }
+        Ok(CowStr::Owned(text)) => {
+            let _ = write!(due, "owned {text}");
+            Ok(due.found())
+        }
+        Err(error) => Ok(of_refusal(&error, word(words, 1))),
+    }
+}
+
+/// `as_record`, on a text; then its names.
+pub fn record(alloc: Global, words: &[String]) -> Result<Found, Found> {
+    let value = UntypedValue::parse(alloc, word(words, 0))?;
+    match value.node().as_record(alloc, value.source()) {
+        Ok(fields) => {
+            let mut due = Due::new(word(words, 1));
+            for (name, _) in fields {
+                let _ = write!(due, "{name};");
+            }
+            Ok(due.found())
+        }
+        Err(error) => Ok(of_refusal(&error, word(words, 1))),
+    }
+}
+
+/// Whether the word and the span of the payload are the text.
+fn payload(name: &str, node: Option<&Node>, text: &str) -> Found {
+    let mut due = Due::new(text);
+    let _ = match node {
+        Some(node) => {
+            let span = node.span();
+            let (start, end) = (span.start, span.end);
+            write!(due, "{name} of {start}..{end}")
+        }
+        None => write!(due, "{name}"),
+    };
+    due.found()
+}
+
+/// Whether the accessor of a scalar's node answers the text; none where it refuses.
+fn scalar(value: &UntypedValue<'_>, text: &str) -> Option<Found> {
+    let node = value.node();
+    match node.ty() {
+        NodeType::BoolTrue | NodeType::BoolFalse => Some(exactly(&node.as_bool().ok()?, text)),
+        NodeType::Number => Some(exactly(&node.as_number::<i64>(value.source()).ok()?, text)),
+        NodeType::Char => Some(exactly(&node.as_char(value.source()).ok()?, text)),
+        NodeType::Tuple => Some(exactly(&node.as_tuple().ok()?.len(), text)),
+        NodeType::List => Some(exactly(&node.as_list().ok()?.len(), text)),
+        NodeType::TupleSet => Some(exactly(&node.as_map().ok()?.len(), text)),
+        _ => None,
+    }
+}
+
+/// Whether the accessor of flags, or of a string, answers the text; none where it refuses.
+fn names(value: &UntypedValue<'_>, text: &str) -> Option<Found> {
+    let mut due = Due::new(text);
+    for name in value.node().as_flags(value.source()).ok()? {
+        let _ = write!(due, "{name};");
+    }
+    Some(due.found())
+}
+
+/// Whether a node's accessor that takes no memory answers the text; none where it refuses.
+fn accessed(value: &UntypedValue<'_>, text: &str) -> Option<Found> {
+    let node = value.node();
+    match node.ty() {
+        NodeType::Label => Some(due_if(node.as_enum(value.source()).ok()? == text)),
+        NodeType::VariantWithPayload => {
+            let (name, val) = node.as_variant(value.source()).ok()?;
+            Some(payload(name, val, text))
+        }
+        NodeType::OptionSome => Some(payload("some", node.as_option().ok()?, text)),
+        NodeType::OptionNone => Some(payload("none", node.as_option().ok()?, text)),
+        NodeType::ResultOk | NodeType::ResultErr => match node.as_result().ok()? {
+            Ok(val) => Some(payload("ok", val, text)),
+            Err(val) => Some(payload("err", val, text)),
+        },
+        NodeType::Flags | NodeType::EmptySet => names(value, text),
+        _ => scalar(value, text),
+    }
+}
+
+/// The accessor of a node that takes no memory, on a text; then what it answers.
+pub fn access(alloc: Global, words: &[String]) -> Result<Found, Found> {
+    let value = UntypedValue::parse(alloc, word(words, 0))?;
+    Ok(accessed(&value, word(words, 1)).unwrap_or(Found::Other))
+}
