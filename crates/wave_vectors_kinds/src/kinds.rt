@@ -20,6 +20,10 @@ impl WasmType for CharType {
         None
     }
 
+    fn list_length(&self) -> Option<u32> {
+        None
+    }
+
     fn record_fields(&self, alloc: Global) -> Result<Vec<(&str, &CharType)>, AllocError> {
         Ok(Vec::new(alloc))
     }
