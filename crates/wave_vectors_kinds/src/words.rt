@@ -89,6 +89,7 @@ fn cause(rt: HostRuntime, word: &str) -> Result<WasmValueError, AllocError> {
         "memory" => Ok(WasmValueError::from(AllocError)),
         "memory for a value" => Ok(WasmValueError::from(AllocFailed { value: 1 })),
         "tuple" => Ok(WasmValueError::WrongNumberOfTupleValues { want: 2, got: 3 }),
+        "length" => Ok(WasmValueError::WrongNumberOfElements { want: 4, got: 3 }),
         "kind" => Ok(WasmValueError::WrongTypeKind {
             kind: WasmTypeKind::List,
             ty: String::from_str(rt.alloc(), "a")?,
@@ -128,6 +129,7 @@ fn causes(rt: HostRuntime) -> Result<(), Fail> {
             ("memory", "out of memory"),
             ("memory for a value", "out of memory"),
             ("tuple", "expected 2 tuple elements; got 3"),
+            ("length", "expected 4 list elements; got 3"),
             ("kind", "expected a list; got a"),
             ("value", "expected a a; got a"),
         ],
