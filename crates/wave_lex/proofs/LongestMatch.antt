@@ -42,7 +42,7 @@ ascii_take (suc k) (b ∷ s) h = let p : (nat_lt b 128 ≡ true) × (is_ascii s 
     let q : is_ascii (take k s) ≡ true = ascii_take k s p.1 in cc
 
 -- ASCII stands for itself
-ascii_spelled : (s : List ℕ) → is_ascii s ≡ true → encode_utf8_all s ≡ s
+pub ascii_spelled : (s : List ℕ) → is_ascii s ≡ true → encode_utf8_all s ≡ s
 ascii_spelled [] h = refl
 ascii_spelled (b ∷ s) h = let p : (nat_lt b 128 ≡ true) × (is_ascii s ≡ true) = and_true _ _ h in
     let q : encode_utf8 b ≡ b ∷ [] = encode_ascii b (ltb-true b 128 p.0) in
