@@ -7,16 +7,17 @@ use Rattle.std.proofs.lemmas.Bool.Decides.{nat_tests}
 use Rattle.std.proofs.lemmas.List.{append_cancel_left, take-append-drop, get_or_append_left}
 use Rattle.std.proofs.Math.Seq.{take-append-add, get_or-append_right}
 use Rattle.std.proofs.lemmas.Str.{encodes-append, encode_ascii, cons_from_encodes, IsCharBoundary-start, IsCharBoundary-end, IsCharBoundary-after_ascii, IsCharBoundary-before_ascii}
-use Rattle.wave_lex.specs.Regex.{Regex, nothing, empty, Matches}
+use Rattle.wave_lex.specs.Tokens.{any}
+use Rattle.wave_lex.specs.Regex.{many, Regex, nothing, empty, Matches}
 use Rattle.wave_lex.specs.Derive.{may_be_empty, after, after_all, after_next}
 use Rattle.wave_lex.specs.LongestMatch.{Greatest, IsFront}
 use Rattle.wave_lex.specs.Private.Reading.{LeadsTo}
 use Rattle.wave_lex.proofs.Derive.{matches_from, matches_into, empty_from}
-use Rattle.wave_lex.proofs.Scanning.{after_all_append, after_all_nothing, begins}
+use Rattle.wave_lex.proofs.Scanning.{front_boundary, after_all_append, after_all_nothing, begins}
 use Rattle.wave_lex.proofs.LongestMatch.{is_ascii, ascii_spelled}
 
 -- one part and the next
-take_plus : (s : List ℕ) (p k : ℕ) → p ≤ length s → take (p + k) s ≡ take p s ++ take k (drop p s)
+pub take_plus : (s : List ℕ) (p k : ℕ) → p ≤ length s → take (p + k) s ≡ take p s ++ take k (drop p s)
 take_plus s p k h =
     let l : length (take p s) ≡ p = length-take-le p s h in
     ap (λ (z : ℕ). take (z + k) s) (sym l) ∙ (ap (λ (z : List ℕ). take (length (take p s) + k) z) (sym (take-append-drop p s)) ∙ take-append-add (take p s) (drop p s) k)
@@ -33,7 +34,7 @@ front_joined r q s t p k e h f =
       spelled = encodes-append h.scalars f.scalars ∙ (ap (λ (z : List ℕ). z ++ encode_utf8_all f.scalars) h.spelled
           ∙ (ap (λ (z : List ℕ). take p s ++ z) (f.spelled ∙ ap (λ (z : List ℕ). take k z) e) ∙ sym (take_plus s p k fits)));
       has = matches_from (h.scalars ++ f.scalars) r
-      (ap may_be_empty (after_all_append h.scalars f.scalars r ∙ ap (λ (z : Regex). after_all f.scalars z) h.has) ∙ matches_into f.scalars q f.has);
+          (ap may_be_empty (after_all_append h.scalars f.scalars r ∙ ap (λ (z : Regex). after_all f.scalars z) h.has) ∙ matches_into f.scalars q f.has);
     }
 
 -- a longer front is a front of the rest
@@ -55,8 +56,8 @@ front_left r q s t p k e h f =
       fits = omega (arith, length-drop p s);
       spelled = append_cancel_left (encode_utf8_all h.scalars) _ _ there ∙ ap (λ (z : List ℕ). take k z) (sym e);
       has = matches_from (drop (length h.scalars) f.scalars) q
-      (ap may_be_empty (sym (ap (λ (z : List ℕ). after_all z r) whole ∙ (after_all_append h.scalars (drop (length h.scalars) f.scalars) r ∙ ap (λ (z : Regex). after_all (drop (length h.scalars) f.scalars) z) h.has)))
-      ∙ matches_into f.scalars r f.has);
+          (ap may_be_empty (sym (ap (λ (z : List ℕ). after_all z r) whole ∙ (after_all_append h.scalars (drop (length h.scalars) f.scalars) r ∙ ap (λ (z : Regex). after_all (drop (length h.scalars) f.scalars) z) h.has)))
+          ∙ matches_into f.scalars r f.has);
     }
 
 -- the longest front of the rest, with what was read, is the longest
@@ -140,3 +141,12 @@ cut_here s n l h = elim (cases_lt n (length s)) as (λ _. IsCharBoundary s n) [
   | inl k ↦ IsCharBoundary-before_ascii s n k (h k)
   | inr k ↦ let same : n ≡ length s = omega arith in subst (λ (z : ℕ). IsCharBoundary s z) (sym same) (IsCharBoundary-end s)
 ]
+
+-- any text has the shape of any scalars
+any_text : (cs : List ℕ) → may_be_empty (after_all cs (many any)) ≡ true
+any_text [] = refl
+any_text (c ∷ cs) = any_text cs
+
+-- a text may be cut behind what leads to a shape
+pub lead_boundary : (r q : Regex) (s : List ℕ) (k : ℕ) → IsUtf8 s → LeadsTo r q s k → IsCharBoundary s k
+lead_boundary r q s k u h = front_boundary (many any) s k u (record { scalars = h.scalars; fits = h.fits; spelled = h.spelled; has = matches_from h.scalars (many any) (any_text h.scalars) })

@@ -18,6 +18,7 @@ pub mod Lines
 pub mod Faults
 pub mod Fronts
 pub mod Runs
+pub mod EscapeRuns
 pub mod Quotes
 pub mod LabelWords
 pub mod LineParts

@@ -84,7 +84,7 @@ pub front_here : (r : Regex) (s : List ℕ) (k : ℕ) → is_ascii s ≡ true �
 front_here r s k h fits e = record { scalars = take k s; fits = leb-true k (length s) fits; spelled = ascii_spelled (take k s) (ascii_take k s h); has = matches_from (take k s) r e }
 
 -- one of two holds where the other fails
-or_not : (a b : Bool) → (a || not b) ≡ true → b ≡ true → a ≡ true
+pub or_not : (a b : Bool) → (a || not b) ≡ true → b ≡ true → a ≡ true
 or_not true b e f = refl
 or_not false true e f = cc
 or_not false false e f = cc

@@ -112,7 +112,7 @@ plain_behind x t h = λ i l.
     sym (ap is_plain (get_or-append_right x t (length x + i) 0 past ∙ ap (λ (z : ℕ). get_or t z 0) back)) ∙ h (length x + i) less
 
 -- plain bytes leave a string as it is
-plains_stay : (ds : List ℕ) → ArePlain (encode_utf8_all ds) → after_all ds (string_rest string.Inside) ≡ string_rest string.Inside
+pub plains_stay : (ds : List ℕ) → ArePlain (encode_utf8_all ds) → after_all ds (string_rest string.Inside) ≡ string_rest string.Inside
 plains_stay [] h = refl
 plains_stay (d ∷ ds) h =
     ap (λ (z : Regex). after_all ds z) (plain_scalar d (encode_utf8_all ds) h) ∙ plains_stay ds (plain_behind (encode_utf8 d) (encode_utf8_all ds) h)
@@ -121,21 +121,6 @@ plains_stay (d ∷ ds) h =
 first_and_others : (s : List ℕ) (n b : ℕ) → 0 < length s → get_or s 0 0 ≡ b → take (suc n) s ≡ b ∷ take n (drop 1 s)
 first_and_others [] n b l e = let w : ⊥ = omega arith in absurd w
 first_and_others (a ∷ s) n b l e = ap (λ (z : ℕ). z ∷ take n s) e
-
--- a quote and plain bytes lead into a string
-pub plains_lead : (s : List ℕ) (n m : ℕ) → IsUtf8 s → m ≡ n + 1 → m ≤ length s → get_or s 0 0 ≡ 34 → ArePlain (take n (drop 1 s)) → IsCharBoundary s m → LeadsTo string (string_rest string.Inside) s m
-unfolding lib.Utf8.encode
-plains_lead s n m u q l e h b =
-    let bytes : encode_utf8_all (chars (take m s)) ≡ take m s = encodes-chars (take m s) (IsUtf8-take s m u b) in
-    let next : m ≡ suc n = omega arith in
-    let begins : take m s ≡ 34 ∷ take n (drop 1 s) = ap (λ (z : ℕ). take z s) next ∙ first_and_others s n 34 (omega arith) e in
-    let w : (es : List ℕ) × (chars (take m s) ≡ 34 ∷ es) × (encode_utf8_all es ≡ take n (drop 1 s)) = cons_from_encodes (chars (take m s)) (take n (drop 1 s)) 34 (bytes ∙ begins) in
-    record {
-      scalars = chars (take m s);
-      fits = l;
-      spelled = bytes;
-      has = ap (λ (z : List ℕ). after_all z string) w.1 ∙ plains_stay w.0 (subst ArePlain (sym w.2) h);
-    }
 
 -- the first of a list and the next ones are plain
 plain_cons : (b : ℕ) (s : List ℕ) → is_plain b ≡ true → ArePlain s → ArePlain (b ∷ s)
@@ -206,11 +191,14 @@ inside_none x y t e = elim (string_goes x string.Start) as (λ _. ⊥) [
 
 -- the shape of no scalar has the front of no byte alone
 empty_front : (t : List ℕ) → Greatest (IsFront empty t) (Some 0)
-empty_front t = (record { scalars = []; fits = omega arith; spelled = refl; has = refl }, λ j f.
-    let fits : j ≤ length t = f.fits in
-    let none : encode_utf8_all f.scalars ≡ [] = ap encode_utf8_all f.has in
-    let long : length (take j t) ≡ 0 = ap length (sym f.spelled ∙ none) in
-    omega (arith, length-take-le j t fits))
+empty_front t = (
+  record { scalars = []; fits = omega arith; spelled = refl; has = refl },
+  λ j f.
+      let fits : j ≤ length t = f.fits in
+      let none : encode_utf8_all f.scalars ≡ [] = ap encode_utf8_all f.has in
+      let long : length (take j t) ≡ 0 = ap length (sym f.spelled ∙ none) in
+      omega (arith, length-take-le j t fits),
+)
 
 mark_taken : (m : ℕ) → is_within m m m ≡ true
 mark_taken m = grind (arith, nat_tests)
@@ -257,25 +245,3 @@ pub lowers_lead : (s b : List ℕ) (n : ℕ) → b ≡ s → 0 < n → n ≤ len
     → LeadsTo label_or_keyword (label_token_rest (token.Label l.Lower)) s n
 lowers_lead s b n e p fits h f = subst (λ (z : List ℕ). LeadsTo label_or_keyword (label_token_rest (token.Label l.Lower)) z n) e
     (run_leads label_or_keyword (label_token_rest (token.Label l.Lower)) b n p fits (λ i k. lower_ascii (get_or b i 0) (h i k)) (lower_first (get_or b 0 0) (h 0 p) f) (λ i k. lower_stays (get_or b i 0) (h i k)))
-
--- the text behind the first byte
-behind_first : (b : List ℕ) → take (length b - 1) (drop 1 b) ≡ drop 1 b
-behind_first b = ap (λ (z : ℕ). take z (drop 1 b)) (sym (length-drop 1 b)) ∙ take-length (drop 1 b)
-
--- a quote and what the code counts as plain lead into a string
-quote_lead : (b x : List ℕ) (n : ℕ) → x ≡ drop 1 b → IsUtf8 b → 0 < length b → get_or b 0 0 ≡ 34 → n ≤ length x → ((i : ℕ) → i < n → is_plain (get_or x i 0) ≡ true) → (n < length x → get_or x n 0 < 128)
-    → LeadsTo string (string_rest string.Inside) b (n + 1)
-quote_lead b x n e u p q l h stops =
-    let long : length x ≡ length b - 1 = ap length e ∙ length-drop 1 b in
-    let fits : n + 1 ≤ length b = omega arith in
-    let plain : ArePlain (take n (drop 1 b)) = subst (λ (z : List ℕ). ArePlain (take n z)) e (plain_taken x n l h) in
-    let next : get_or x n 0 ≡ get_or b (n + 1) 0 =
-    ap (λ (z : List ℕ). get_or z n 0) e ∙ (get_or_after_one b n 0 ∙ ap (λ (z : ℕ). get_or b z 0) (omega arith)) in
-    let cut : IsCharBoundary b (n + 1) = cut_here b (n + 1) fits (λ k. let small : get_or x n 0 < 128 = stops (omega arith) in omega arith) in
-    plains_lead b n (n + 1) u refl fits q plain cut
-
-pub plains_lead_here : (s b : List ℕ) (n : ℕ) → b ≡ s → IsUtf8 s → 0 < length b → get_or b 0 0 ≡ 34 → n ≤ length (take (length b - 1) (drop 1 b))
-    → ((i : ℕ) → i < n → is_plain (get_or (take (length b - 1) (drop 1 b)) i 0) ≡ true) → (n < length (take (length b - 1) (drop 1 b)) → get_or (take (length b - 1) (drop 1 b)) n 0 < 128)
-    → LeadsTo string (string_rest string.Inside) s (n + 1)
-plains_lead_here s b n e u p q l h stops = subst (λ (z : List ℕ). LeadsTo string (string_rest string.Inside) z (n + 1)) e
-    (quote_lead b (take (length b - 1) (drop 1 b)) n (behind_first b) (subst IsUtf8 (sym e) u) p q l h stops)

@@ -7,8 +7,8 @@ ghost use Rattle.wave_lex.specs.Tokens.{shape, invalid};
 ghost use Rattle.wave_lex.specs.Tokenization.{Lexed, Stands, NextIs, remainder_of, span};
 ghost use Rattle.wave_lex.specs.Private.Reading.{class_of, ClassAt, TokenAt};
 
-pub use self::func_name::FuncNameLexer;
 use self::front::{gap_at, label_at, mark_at, number_at, string_at};
+pub use self::func_name::FuncNameLexer;
 use crate::asked::Asked;
 use crate::machine::character::CharState;
 use crate::machine::invalid::InvalidState;

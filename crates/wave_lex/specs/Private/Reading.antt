@@ -1,5 +1,5 @@
 -- What the lexer's own functions answer. Only private contracts and proofs cite it.
-use Rattle.std.specs.Prelude.{◌≡◌, ℕ, ◌||◌, nat_eq, if◌then◌else◌, List, Option, Some, None}
+use Rattle.std.specs.Prelude.{◌≡◌, ℕ, ◌<◌, ◌||◌, nat_eq, if◌then◌else◌, List, Option, Some, None}
 use Rattle.wave_lex.specs.declared.lex.Token.{Token}
 use Rattle.wave_lex.specs.declared.lex.Token.TheVariants.{BraceOpen, BraceClose, ParenOpen, ParenClose, BracketOpen, BracketClose, Colon, Comma, Number, LabelOrKeyword, Char, String}
 use Rattle.wave_lex.specs.Regex.{Regex, is_within}
@@ -37,3 +37,8 @@ ClassAt r (Some c) = ((k : ℕ) (d : Token) → IsToken r k d → d ≡ c) × ((
 -- behind the first k bytes of s, what may follow in the shape is the shape q
 abbrev pub LeadsTo : Regex → Regex → List ℕ → ℕ → Type 0
 LeadsTo shape q s k = FrontHas (λ scalars. after_all scalars shape ≡ q) s k
+
+-- the first k bytes of s, where some are told, leave the shape q as it is
+abbrev pub IsStep : Regex → List ℕ → Option ℕ → Type 0
+IsStep q s None = Unit {0}
+IsStep q s (Some k) = (0 < k) × LeadsTo q q s k

@@ -2,7 +2,9 @@
 //! in its state are counted at once; the machine reads what stands behind them.
 ghost use Rattle.std.specs.Prelude.{◌≡◌, ℕ, ◌<◌, ◌≤◌, true, length, slice_index};
 ghost use Rattle.wave_lex.specs.LongestMatch.{Greatest, IsFront};
-ghost use Rattle.wave_lex.specs.Machines.{is_blank, is_digit, is_lower, is_plain};
+ghost use Rattle.wave_lex.specs.Machines.{is_blank, is_digit, is_lower, is_plain, string_rest};
+ghost use Rattle.wave_lex.specs.Private.Reading.{LeadsTo, IsStep};
+ghost use Rattle.wave_lex.specs.declared.machine.string.StringState.TheVariants.{Inside};
 ghost use Rattle.wave_lex.specs.Tokenization.{IsGap};
 ghost use Rattle.wave_lex.specs.Tokens.{label_or_keyword, number, one, string};
 
@@ -11,6 +13,7 @@ use crate::machine::label::{LabelState, LabelTokenState};
 use crate::machine::longest_front;
 use crate::machine::number::NumberState;
 use crate::machine::string::StringState;
+use crate::strings::unescape;
 
 /// How many bytes the gap at the front takes.
 pub fn gap_at(text: &str) -> usize
@@ -86,11 +89,39 @@ pub fn string_at(text: &str) -> Option<usize>
     if bytes[0] != b'"' {
         return longest_front(StringState::Start, text);
     }
-    let run = plains(&bytes[1..]);
-    let Some(more) = longest_front(StringState::Inside, &text[run + 1..]) else {
+    let inside = inside_end(text);
+    let Some(more) = longest_front(StringState::Inside, &text[inside..]) else {
         return None;
     };
-    Some(run + 1 + more)
+    Some(inside + more)
+}
+
+/// Where the plain bytes and the escapes end that stand behind the quote at the front.
+fn inside_end(text: &str) -> usize
+    requires some { 0 < length text.now }
+    requires quote { slice_index text.now 0 ≡ 34 }
+    ensures { LeadsTo string (string_rest Inside) text.now result }
+{
+    let _length = text.len();
+    let mut place = 1;
+    while let Some(count) = piece_at(&text[place..]) {
+        place += count;
+    }
+    place
+}
+
+/// How many bytes the plain bytes or the escape take that stand at the front.
+fn piece_at(text: &str) -> Option<usize>
+    ensures { IsStep (string_rest Inside) text.now result }
+{
+    let run = plains(text.as_bytes());
+    if run > 0 {
+        return Some(run);
+    }
+    let Some((_, count)) = unescape(text) else {
+        return None;
+    };
+    Some(count)
 }
 
 /// The byte is a space, a tab, a line feed or a carriage return.
