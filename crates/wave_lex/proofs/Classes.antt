@@ -206,6 +206,13 @@ pub class_here : (r rest : List ℕ) (x : ℕ) (o : Option Token) → r ≡ enco
 class_here r rest x None b q e = λ k d t. let wrong : None ≡ Some (group d) = e ∙ token_shows r rest k x d b t in cc
 class_here r rest x (Some c) b q e = (λ k d t. grouped d c r k q t (sym (token_shows r rest k x d b t) ∙ sym e), may_stand c r q)
 
+-- no three quotes stand where another scalar does
+pub not_quoted : (r rest : List ℕ) (x : ℕ) → r ≡ encode_utf8 x ++ rest → x ≢ 34 → (more : List ℕ) → r ≢ three_quotes ++ more
+unfolding lib.Utf8.encode
+not_quoted r rest x b n more e =
+    let same : encode_utf8 x ++ rest ≡ encode_utf8 34 ++ (34 ∷ 34 ∷ more) = sym b ∙ e in
+    n (encode_same x 34 rest (34 ∷ 34 ∷ more) same).0
+
 -- at three quotes the class shown is that of strings
 quoted : (d : Token) (r rest : List ℕ) (k : ℕ) → r ≡ three_quotes ++ rest → IsToken r k d → Some String ≡ Some (group d) → d ≡ MultilineString
 quoted BraceOpen r rest k b t e = cc

@@ -16,6 +16,9 @@ pub mod Unescape
 pub mod Parts
 pub mod Lines
 pub mod Faults
+pub mod Fronts
+pub mod Runs
+pub mod EscapeRuns
 pub mod Quotes
 pub mod LabelWords
 pub mod LineParts

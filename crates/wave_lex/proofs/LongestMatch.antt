@@ -42,7 +42,7 @@ ascii_take (suc k) (b ∷ s) h = let p : (nat_lt b 128 ≡ true) × (is_ascii s 
     let q : is_ascii (take k s) ≡ true = ascii_take k s p.1 in cc
 
 -- ASCII stands for itself
-ascii_spelled : (s : List ℕ) → is_ascii s ≡ true → encode_utf8_all s ≡ s
+pub ascii_spelled : (s : List ℕ) → is_ascii s ≡ true → encode_utf8_all s ≡ s
 ascii_spelled [] h = refl
 ascii_spelled (b ∷ s) h = let p : (nat_lt b 128 ≡ true) × (is_ascii s ≡ true) = and_true _ _ h in
     let q : encode_utf8 b ≡ b ∷ [] = encode_ascii b (ltb-true b 128 p.0) in
@@ -84,7 +84,7 @@ pub front_here : (r : Regex) (s : List ℕ) (k : ℕ) → is_ascii s ≡ true �
 front_here r s k h fits e = record { scalars = take k s; fits = leb-true k (length s) fits; spelled = ascii_spelled (take k s) (ascii_take k s h); has = matches_from (take k s) r e }
 
 -- one of two holds where the other fails
-or_not : (a b : Bool) → (a || not b) ≡ true → b ≡ true → a ≡ true
+pub or_not : (a b : Bool) → (a || not b) ≡ true → b ≡ true → a ≡ true
 or_not true b e f = refl
 or_not false true e f = cc
 or_not false false e f = cc

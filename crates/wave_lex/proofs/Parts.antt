@@ -83,7 +83,7 @@ begins_with (a ∷ s) b l e = (s, ap (λ (z : ℕ). z ∷ s) e)
 -- ---- escapes are ASCII
 
 -- each byte is ASCII
-abbrev AllAscii : List ℕ → Type 0
+abbrev pub AllAscii : List ℕ → Type 0
 AllAscii s = AllOf (λ b. b < 128) s
 
 -- two texts of ASCII join to one
@@ -92,7 +92,7 @@ ascii_append [] y a b = b
 ascii_append (c ∷ x) y a b = (a.0, ascii_append x y a.1 b)
 
 -- a digit is ASCII
-digit_ascii : (d : ℕ) → digit_value d < 16 → d < 128
+pub digit_ascii : (d : ℕ) → digit_value d < 16 → d < 128
 digit_ascii d h = grind (arith, nat_tests)
 
 -- digits are ASCII
@@ -105,7 +105,7 @@ short_ascii : (b c : ℕ) → short_escape b ≡ Some c → b < 128
 short_ascii b c e = grind (arith, nat_tests)
 
 -- an escape is ASCII
-escape_ascii : (e : List ℕ) (c : ℕ) → IsEscape e c → AllAscii e
+pub escape_ascii : (e : List ℕ) (c : ℕ) → IsEscape e c → AllAscii e
 escape_ascii e c (inl a) = let f : 92 < 128 = omega arith in
     subst (λ (z : List ℕ). AllAscii z) (sym a.1) (f, (short_ascii a.0 c a.2, tt))
 escape_ascii e c (inr a) =

@@ -83,7 +83,7 @@ place_fits s i u l =
     omega (arith, place_step (chars s) i l, place_all s u)
 
 -- a text that begins in bytes begins in scalars
-begins : (xs cs t : List ℕ) → encode_utf8_all cs ≡ encode_utf8_all xs ++ t → (length xs ≤ length cs) × (xs ≡ take (length xs) cs)
+pub begins : (xs cs t : List ℕ) → encode_utf8_all cs ≡ encode_utf8_all xs ++ t → (length xs ≤ length cs) × (xs ≡ take (length xs) cs)
 begins [] cs t e = (omega arith, refl)
 begins (x ∷ xs) cs t e =
     let w = cons_from_encodes cs (encode_utf8_all xs ++ t) x (e ∙ append_assoc (encode_utf8 x) (encode_utf8_all xs) t) in

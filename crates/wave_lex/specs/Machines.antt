@@ -1,9 +1,9 @@
 -- What each state of a machine reads next, and what may still follow it. Only private contracts cite it.
-use Rattle.std.specs.Prelude.{ℕ, ◌||◌, Bool, true, false, if◌then◌else◌, nat_eq, List, [], ◌∷◌, ◌++◌, Option, Some, None, codes}
-use Rattle.wave_lex.specs.Regex.{Regex, empty, is_within}
+use Rattle.std.specs.Prelude.{ℕ, ◌||◌, Bool, true, false, not, if◌then◌else◌, nat_eq, List, [], ◌∷◌, ◌++◌, Option, Some, None, codes}
+use Rattle.wave_lex.specs.Regex.{Regex, is_within}
 use Rattle.wave_lex.specs.Derive.{after_all}
 use Rattle.wave_lex.specs.Strings.{short_escape}
-use Rattle.wave_lex.specs.Tokens.{number, label, label_or_keyword, gap, string, character, multiline_string, invalid, one}
+use Rattle.wave_lex.specs.Tokens.{number, label, label_or_keyword, gap, string, character, multiline_string, invalid}
 use Rattle.wave_lex.specs.declared.machine.character.CharState.TheVariants as character
 use Rattle.wave_lex.specs.declared.machine.character.CharState.{CharState}
 use Rattle.wave_lex.specs.declared.machine.escape.EscapeState.TheVariants as escape
@@ -18,8 +18,6 @@ use Rattle.wave_lex.specs.declared.machine.label.LabelState.TheVariants as l
 use Rattle.wave_lex.specs.declared.machine.label.LabelState.{LabelState}
 use Rattle.wave_lex.specs.declared.machine.label.LabelTokenState.TheVariants as token
 use Rattle.wave_lex.specs.declared.machine.label.LabelTokenState.{LabelTokenState}
-use Rattle.wave_lex.specs.declared.machine.mark.MarkState.TheVariants.{Start, Close}
-use Rattle.wave_lex.specs.declared.machine.mark.MarkState.{MarkState}
 use Rattle.wave_lex.specs.declared.machine.multiline.MultilineState.TheVariants as multiline
 use Rattle.wave_lex.specs.declared.machine.multiline.MultilineState.{MultilineState}
 use Rattle.wave_lex.specs.declared.machine.number.NumberState.TheVariants as n
@@ -81,10 +79,14 @@ label_rest q = after_all (label_read q) label
 abbrev pub first_letter : ℕ → Option LabelState
 first_letter b = if is_within 97 122 b then Some l.Lower else (if is_within 65 90 b then Some l.Upper else None)
 
+-- a lower-case letter or a digit
+abbrev pub is_lower : ℕ → Bool
+is_lower b = is_within 97 122 b || is_digit b
+
 -- what a label reads next
 abbrev pub label_step : LabelState → ℕ → Option LabelState
 label_step l.Start b = first_letter b
-label_step l.Lower b = if is_within 97 122 b || is_digit b then Some l.Lower else (if nat_eq b 45 then Some l.Hyphen else None)
+label_step l.Lower b = if is_lower b then Some l.Lower else (if nat_eq b 45 then Some l.Hyphen else None)
 label_step l.Upper b = if is_within 65 90 b || is_digit b then Some l.Upper else (if nat_eq b 45 then Some l.Hyphen else None)
 label_step l.Hyphen b = if is_digit b then Some l.Digits else first_letter b
 label_step l.Digits b = if is_digit b then Some l.Digits else (if nat_eq b 45 then Some l.Hyphen else first_letter b)
@@ -116,9 +118,13 @@ gap_rest gap.Start = after_all ([]) gap
 gap_rest gap.Slash = after_all (47 ∷ []) gap
 gap_rest gap.Comment = after_all (47 ∷ 47 ∷ []) gap
 
+-- a space, a tab, a line feed or a carriage return
+abbrev pub is_blank : ℕ → Bool
+is_blank c = nat_eq c 32 || nat_eq c 9 || nat_eq c 10 || nat_eq c 13
+
 -- what a gap reads next
 abbrev pub gap_step : GapState → ℕ → Option GapState
-gap_step gap.Start c = (if nat_eq c 32 || nat_eq c 9 || nat_eq c 10 || nat_eq c 13 then Some gap.Start else (if nat_eq c 47 then Some gap.Slash else None))
+gap_step gap.Start c = (if is_blank c then Some gap.Start else (if nat_eq c 47 then Some gap.Slash else None))
 gap_step gap.Slash c = (if nat_eq c 47 then Some gap.Comment else None)
 gap_step gap.Comment c = (if nat_eq c 10 then Some gap.Start else Some gap.Comment)
 
@@ -161,6 +167,10 @@ string_rest string.Start = string
 string_rest string.Inside = after_all (codes "\"") string
 string_rest (string.Escape e) = after_all (codes "\"\\" ++ escape_read e) string
 string_rest string.Close = after_all (codes "\"\"") string
+
+-- not `"`, a backslash or a line feed
+abbrev pub is_plain : ℕ → Bool
+is_plain c = not (nat_eq c 34 || nat_eq c 92 || nat_eq c 10)
 
 -- the string goes on, in the escape or behind it
 abbrev pub in_string : Option EscapeStep → Option StringState
@@ -240,8 +250,3 @@ invalid_step invalid.Quote4 c = (if nat_eq c 39 then Some invalid.Close else Non
 invalid_step invalid.Double1 c = (if nat_eq c 34 then Some invalid.Double2 else None)
 invalid_step invalid.Double2 c = (if nat_eq c 34 then Some invalid.Close else None)
 invalid_step invalid.Close c = None
-
--- what may still follow in a mark
-abbrev pub mark_rest : MarkState → Regex
-mark_rest (Start c) = one c
-mark_rest Close = empty

@@ -3,26 +3,23 @@ ghost use Rattle.std.specs.Prelude.{◌≡◌, ℕ, ◌+◌, Some, slice_range, 
 ghost use Rattle.std.specs.Iterator.{at_most};
 ghost use Rattle.wave_lex.specs.Errors.{class_name, name_class_name};
 ghost use Rattle.wave_lex.specs.LongestMatch.{Greatest, IsFront};
-ghost use Rattle.wave_lex.specs.Tokens.{shape, gap, invalid};
-ghost use Rattle.wave_lex.specs.Tokenization.{IsGap, Lexed, Stands, NextIs, remainder_of, span};
+ghost use Rattle.wave_lex.specs.Tokens.{shape, invalid};
+ghost use Rattle.wave_lex.specs.Tokenization.{Lexed, Stands, NextIs, remainder_of, span};
 ghost use Rattle.wave_lex.specs.Private.Reading.{class_of, ClassAt, TokenAt};
 
+use self::front::{gap_at, label_at, mark_at, number_at, string_at};
 pub use self::func_name::FuncNameLexer;
 use crate::asked::Asked;
 use crate::machine::character::CharState;
-use crate::machine::gap::GapState;
 use crate::machine::invalid::InvalidState;
-use crate::machine::label::LabelTokenState;
 use crate::machine::longest_front;
-use crate::machine::mark::MarkState;
 use crate::machine::multiline::MultilineState;
-use crate::machine::number::NumberState;
-use crate::machine::string::StringState;
 use std::fmt;
 use std::marker::Model;
 use std::ops::Range;
 pub use wave_wasm::keyword::Keyword;
 
+mod front;
 mod func_name;
 
 /// Byte positions in the source.
@@ -133,18 +130,18 @@ fn longest_in(class: Token, text: &str) -> Option<usize>
     ensures { Greatest (IsFront (shape class) text.now) result }
 {
     match class {
-        Token::BraceOpen => longest_front(MarkState::Start('{'), text),
-        Token::BraceClose => longest_front(MarkState::Start('}'), text),
-        Token::ParenOpen => longest_front(MarkState::Start('('), text),
-        Token::ParenClose => longest_front(MarkState::Start(')'), text),
-        Token::BracketOpen => longest_front(MarkState::Start('['), text),
-        Token::BracketClose => longest_front(MarkState::Start(']'), text),
-        Token::Colon => longest_front(MarkState::Start(':'), text),
-        Token::Comma => longest_front(MarkState::Start(','), text),
-        Token::Number => longest_front(NumberState::Start, text),
-        Token::LabelOrKeyword => longest_front(LabelTokenState::Start, text),
+        Token::BraceOpen => mark_at(b'{', text),
+        Token::BraceClose => mark_at(b'}', text),
+        Token::ParenOpen => mark_at(b'(', text),
+        Token::ParenClose => mark_at(b')', text),
+        Token::BracketOpen => mark_at(b'[', text),
+        Token::BracketClose => mark_at(b']', text),
+        Token::Colon => mark_at(b':', text),
+        Token::Comma => mark_at(b',', text),
+        Token::Number => number_at(text),
+        Token::LabelOrKeyword => label_at(text),
         Token::Char => longest_front(CharState::Start, text),
-        Token::String => longest_front(StringState::Start, text),
+        Token::String => string_at(text),
         Token::MultilineString => longest_front(MultilineState::Start, text),
     }
 }
@@ -154,10 +151,13 @@ fn class_at(text: &str) -> Option<Token>
     ensures { ClassAt text.now result }
 {
     let first = text.chars().next()?;
+    if first != '"' {
+        return class_of(first);
+    }
     if text.starts_with("\"\"\"") {
         return Some(Token::MultilineString);
     }
-    class_of(first)
+    Some(Token::String)
 }
 
 /// The longest token at the front, and how many bytes it takes.
@@ -167,13 +167,6 @@ fn token_at(text: &str) -> Option<(Token, usize)>
     let class = class_at(text)?;
     let length = longest_in(class, text)?;
     Some((class, length))
-}
-
-/// How many bytes the gap at the front takes.
-fn gap_at(text: &str) -> usize
-    ensures { IsGap text.now result }
-{
-    longest_front(GapState::Start, text).unwrap()
 }
 
 /// Cuts a source into its tokens, one by one. Places are counted in bytes.

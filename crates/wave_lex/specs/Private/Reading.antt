@@ -1,8 +1,10 @@
 -- What the lexer's own functions answer. Only private contracts and proofs cite it.
-use Rattle.std.specs.Prelude.{◌≡◌, ℕ, ◌||◌, nat_eq, if◌then◌else◌, List, Option, Some, None}
+use Rattle.std.specs.Prelude.{◌≡◌, ℕ, ◌<◌, ◌||◌, nat_eq, if◌then◌else◌, List, Option, Some, None}
 use Rattle.wave_lex.specs.declared.lex.Token.{Token}
 use Rattle.wave_lex.specs.declared.lex.Token.TheVariants.{BraceOpen, BraceClose, ParenOpen, ParenClose, BracketOpen, BracketClose, Colon, Comma, Number, LabelOrKeyword, Char, String}
-use Rattle.wave_lex.specs.Regex.{is_within}
+use Rattle.wave_lex.specs.Regex.{Regex, is_within}
+use Rattle.wave_lex.specs.Derive.{after_all}
+use Rattle.wave_lex.specs.LongestMatch.{FrontHas}
 use Rattle.wave_lex.specs.Tokenization.{MayStandAt, IsToken, IsLongestToken, NoToken}
 
 -- which class the first scalar of a token shows; the two kinds of strings begin alike
@@ -31,3 +33,12 @@ TokenAt r (Some t) = IsLongestToken r t.1 t.0
 abbrev pub ClassAt : List ℕ → Option Token → Type 0
 ClassAt r None = NoToken r
 ClassAt r (Some c) = ((k : ℕ) (d : Token) → IsToken r k d → d ≡ c) × ((k : ℕ) → MayStandAt r k c)
+
+-- behind the first k bytes of s, what may follow in the shape is the shape q
+abbrev pub LeadsTo : Regex → Regex → List ℕ → ℕ → Type 0
+LeadsTo shape q s k = FrontHas (λ scalars. after_all scalars shape ≡ q) s k
+
+-- the first k bytes of s, where some are told, leave the shape q as it is
+abbrev pub IsStep : Regex → List ℕ → Option ℕ → Type 0
+IsStep q s None = Unit {0}
+IsStep q s (Some k) = (0 < k) × LeadsTo q q s k

@@ -1,0 +1,164 @@
+-- Plain bytes and escapes lead a string back to where it stood.
+use Rattle.std.proofs.Common.{◌≡◌, ℕ, ◌≤◌, ◌<◌, ◌+◌, Bool, true, false, nat_eq, zero, suc, List, [], ◌∷◌, ◌++◌, inl, inr, refl, sym, ap, subst, ◌∙◌, length, take, drop, arith, get_or, Option, Some, None, length-append, length-drop}
+use Rattle.std.specs.Prelude.{◌||◌, not, nat_lt, if◌then◌else◌, encode_utf8_all}
+use Rattle.std.specs.Char.{digit_value}
+use Rattle.std.specs.Str.{IsUtf8, chars, IsCharBoundary}
+use Rattle.std.specs.Str.Parse.{AllDigits}
+use Rattle.std.proofs.lemmas.Bool.Decides.{nat_tests}
+use Rattle.std.proofs.lemmas.Str.{IsUtf8-take, encodes-chars, encodes-append}
+use Rattle.std.proofs.Math.Seq.{take-append_seam}
+use Rattle.wave_lex.specs.Regex.{Regex}
+use Rattle.wave_lex.specs.Derive.{after, after_all, after_next}
+use Rattle.wave_lex.specs.Strings.{short_escape, IsEscape}
+use Rattle.wave_lex.specs.Tokens.{string}
+use Rattle.wave_lex.specs.Private.Reading.{LeadsTo}
+use Rattle.wave_lex.specs.Machines.{is_hexadecimal, is_plain, escape_step, ends_short, in_string, string_rest}
+use Rattle.wave_lex.specs.declared.machine.escape.EscapeState.{EscapeState}
+use Rattle.wave_lex.specs.declared.machine.escape.EscapeState.TheVariants as escape
+use Rattle.wave_lex.specs.declared.machine.escape.EscapeStep.{EscapeStep}
+use Rattle.wave_lex.specs.declared.machine.escape.EscapeStep.TheVariants.{Within, Last}
+use Rattle.wave_lex.specs.declared.machine.string.StringState.{StringState}
+use Rattle.wave_lex.specs.declared.machine.string.StringState.TheVariants as string
+use Rattle.wave_lex.proofs.Decoding.{escape_head}
+use Rattle.wave_lex.proofs.Shapes.{each_below, each_below_at}
+use Rattle.wave_lex.proofs.LongestMatch.{is_ascii, ascii_spelled, or_not}
+use Rattle.wave_lex.proofs.Scanning.{after_all_append}
+use Rattle.wave_lex.proofs.Machines.{string_steps}
+use Rattle.wave_lex.proofs.Parts.{AllAscii, digit_ascii, escape_ascii}
+use Rattle.wave_lex.proofs.Fronts.{take_plus, ascii_leads, cut_here}
+use Rattle.wave_lex.proofs.Runs.{ArePlain, plains_stay, plain_taken}
+
+-- what leads on from where something leads
+pub leads_on : (r q w : Regex) (s t : List ℕ) (p k : ℕ) → t ≡ drop p s → LeadsTo r q s p → LeadsTo q w t k → LeadsTo r w s (p + k)
+leads_on r q w s t p k e h f =
+    let long : length t ≡ length (drop p s) = ap length e in
+    let fits : p ≤ length s = h.fits in
+    let inside : k ≤ length t = f.fits in
+    record {
+      scalars = h.scalars ++ f.scalars;
+      fits = omega (arith, length-drop p s);
+      spelled = encodes-append h.scalars f.scalars ∙ (ap (λ (z : List ℕ). z ++ encode_utf8_all f.scalars) h.spelled
+          ∙ (ap (λ (z : List ℕ). take p s ++ z) (f.spelled ∙ ap (λ (z : List ℕ). take k z) e) ∙ sym (take_plus s p k fits)));
+      has = after_all_append h.scalars f.scalars r ∙ (ap (λ (z : Regex). after_all f.scalars z) h.has ∙ f.has);
+    }
+
+-- ---- escapes
+
+abbrev hex_right : ℕ → Bool
+hex_right c = is_hexadecimal c || not (nat_lt (digit_value c) 16)
+
+hex_computed : each_below 128 hex_right ≡ true
+hex_computed = refl
+
+-- a digit below 16 is hexadecimal
+hex_of_digit : (d : ℕ) → digit_value d < 16 → is_hexadecimal d ≡ true
+hex_of_digit d l =
+    let small : nat_lt (digit_value d) 16 ≡ true = grind (arith, nat_tests) in
+    or_not (is_hexadecimal d) (nat_lt (digit_value d) 16) (each_below_at 128 d hex_right hex_computed (digit_ascii d l)) small
+
+-- behind n digits
+abbrev hex_state : ℕ → EscapeState
+hex_state zero = escape.Hex0
+hex_state (suc zero) = escape.Hex1
+hex_state (suc (suc zero)) = escape.Hex2
+hex_state (suc (suc (suc zero))) = escape.Hex3
+hex_state (suc (suc (suc (suc zero)))) = escape.Hex4
+hex_state (suc (suc (suc (suc (suc zero))))) = escape.Hex5
+hex_state (suc (suc (suc (suc (suc (suc n)))))) = escape.Hex6
+
+-- one digit more
+hex_within : (k d : ℕ) → k < 6 → is_hexadecimal d ≡ true → escape_step (hex_state k) d ≡ Some (Within (hex_state (suc k)))
+hex_within zero d l e = ap (λ (z : Bool). if z then Some (Within escape.Hex1) else None) e
+hex_within (suc zero) d l e = ap (λ (z : Bool). if z then Some (Within escape.Hex2) else (if nat_eq d 125 then Some Last else None)) e
+hex_within (suc (suc zero)) d l e = ap (λ (z : Bool). if z then Some (Within escape.Hex3) else (if nat_eq d 125 then Some Last else None)) e
+hex_within (suc (suc (suc zero))) d l e = ap (λ (z : Bool). if z then Some (Within escape.Hex4) else (if nat_eq d 125 then Some Last else None)) e
+hex_within (suc (suc (suc (suc zero)))) d l e = ap (λ (z : Bool). if z then Some (Within escape.Hex5) else (if nat_eq d 125 then Some Last else None)) e
+hex_within (suc (suc (suc (suc (suc zero))))) d l e = ap (λ (z : Bool). if z then Some (Within escape.Hex6) else (if nat_eq d 125 then Some Last else None)) e
+hex_within (suc (suc (suc (suc (suc (suc k)))))) d l e = let w : ⊥ = omega arith in absurd w
+
+-- within an escape
+goes_within : (q p : EscapeState) (c : ℕ) → escape_step q c ≡ Some (Within p) → after c (string_rest (string.Escape q)) ≡ string_rest (string.Escape p)
+goes_within q p c e = string_steps (string.Escape q) c ∙ ap (λ (z : Option EscapeStep). after_next StringState string_rest (in_string z)) e
+
+-- the digits of an escape
+digits_go : (ds : List ℕ) (k : ℕ) → k + length ds ≤ 6 → AllDigits 16 ds → after_all ds (string_rest (string.Escape (hex_state k))) ≡ string_rest (string.Escape (hex_state (k + length ds)))
+digits_go [] k l a = let same : k ≡ k + 0 = omega arith in ap (λ (z : ℕ). string_rest (string.Escape (hex_state z))) same
+digits_go (d ∷ ds) k l a =
+    let next : suc k + length ds ≡ k + length (d ∷ ds) = omega arith in
+    ap (λ (z : Regex). after_all ds z) (goes_within (hex_state k) (hex_state (suc k)) d (hex_within k d (omega arith) (hex_of_digit d a.0)))
+    ∙ (digits_go ds (suc k) (omega arith) a.1 ∙ ap (λ (z : ℕ). string_rest (string.Escape (hex_state z))) next)
+
+-- the last brace of an escape
+closes : (n : ℕ) → 1 ≤ n → n ≤ 6 → after 125 (string_rest (string.Escape (hex_state n))) ≡ string_rest string.Inside
+closes zero l m = let w : ⊥ = omega arith in absurd w
+closes (suc zero) l m = string_steps (string.Escape escape.Hex1) 125
+closes (suc (suc zero)) l m = string_steps (string.Escape escape.Hex2) 125
+closes (suc (suc (suc zero))) l m = string_steps (string.Escape escape.Hex3) 125
+closes (suc (suc (suc (suc zero)))) l m = string_steps (string.Escape escape.Hex4) 125
+closes (suc (suc (suc (suc (suc zero))))) l m = string_steps (string.Escape escape.Hex5) 125
+closes (suc (suc (suc (suc (suc (suc n)))))) l m = string_steps (string.Escape escape.Hex6) 125
+
+-- no short escape is a long one
+not_u : (b c : ℕ) → short_escape b ≡ Some c → nat_eq b 117 ≡ false
+not_u b c e = grind (arith, nat_tests)
+
+short_last : (b c : ℕ) → short_escape b ≡ Some c → escape_step escape.Backslash b ≡ Some Last
+short_last b c e = ap (λ (z : Bool). if z then Some (Within escape.U) else ends_short (short_escape b)) (not_u b c e) ∙ ap ends_short e
+
+-- an escape leads back to where it began
+escape_stays : (e : List ℕ) (c : ℕ) → IsEscape e c → after_all e (string_rest string.Inside) ≡ string_rest string.Inside
+escape_stays e c (inl a) =
+    ap (λ (z : List ℕ). after_all z (string_rest string.Inside)) a.1
+    ∙ (string_steps (string.Escape escape.Backslash) a.0 ∙ ap (λ (z : Option EscapeStep). after_next StringState string_rest (in_string z)) (short_last a.0 c a.2))
+escape_stays e c (inr a) =
+    let few : 0 + length a.digits ≤ 6 = let h : length a.digits ≤ 6 = a.few in omega arith in
+    let none : 0 + length a.digits ≡ length a.digits = omega arith in
+    ap (λ (z : List ℕ). after_all z (string_rest string.Inside)) a.spelled
+    ∙ (after_all_append a.digits (125 ∷ []) (string_rest (string.Escape escape.Hex0))
+    ∙ (ap (λ (z : Regex). after 125 z) (digits_go a.digits 0 few a.hexadecimal ∙ ap (λ (z : ℕ). string_rest (string.Escape (hex_state z))) none) ∙ closes (length a.digits) a.some a.few))
+
+all_is : (e : List ℕ) → AllAscii e → is_ascii e ≡ true
+all_is [] a = refl
+all_is (b ∷ e) a =
+    let small : nat_lt b 128 ≡ true = let l : b < 128 = a.0 in grind (arith, nat_tests) in
+    rw (small, all_is e a.1) refl
+
+-- an escape at the front
+pub escape_leads : (s e t : List ℕ) (c k : ℕ) → IsEscape e c → s ≡ e ++ t → k ≡ length e → LeadsTo (string_rest string.Inside) (string_rest string.Inside) s k
+escape_leads s e t c k h w l =
+    let cut : take k s ≡ e = ap (λ (z : ℕ). take z s) l ∙ (ap (λ (z : List ℕ). take (length e) z) w ∙ take-append_seam e t) in
+    let long : length s ≡ length e + length t = ap length w ∙ length-append e t in
+    record { scalars = e; fits = omega arith; spelled = ascii_spelled e (all_is e (escape_ascii e c h)) ∙ sym cut; has = escape_stays e c h }
+
+-- an escape has a byte
+pub escape_some : (e : List ℕ) (c k : ℕ) → IsEscape e c → k ≡ length e → 0 < k
+escape_some e c k h l = let w = escape_head e c h in
+    let long : length e ≡ suc (length w.0) = ap length w.1 in omega arith
+
+-- ---- plain bytes
+
+-- plain bytes at the front
+plains_go : (s : List ℕ) (n : ℕ) → IsUtf8 s → n ≤ length s → ((i : ℕ) → i < n → is_plain (get_or s i 0) ≡ true) → IsCharBoundary s n → LeadsTo (string_rest string.Inside) (string_rest string.Inside) s n
+plains_go s n u l h cut =
+    let bytes : encode_utf8_all (chars (take n s)) ≡ take n s = encodes-chars (take n s) (IsUtf8-take s n u cut) in
+    record {
+      scalars = chars (take n s);
+      fits = l;
+      spelled = bytes;
+      has = plains_stay (chars (take n s)) (subst ArePlain (sym bytes) (plain_taken s n l h));
+    }
+
+-- what the code counts as plain
+pub plains_here : (s b : List ℕ) (n : ℕ) → b ≡ s → IsUtf8 s → n ≤ length b → ((i : ℕ) → i < n → is_plain (get_or b i 0) ≡ true) → (n < length b → get_or b n 0 < 128)
+    → LeadsTo (string_rest string.Inside) (string_rest string.Inside) s n
+plains_here s b n e u l h stops = subst (λ (z : List ℕ). LeadsTo (string_rest string.Inside) (string_rest string.Inside) z n) e
+    (plains_go b n (subst IsUtf8 (sym e) u) l h (cut_here b n l stops))
+
+-- a quote leads into a string
+pub quote_leads : (s : List ℕ) → 0 < length s → get_or s 0 0 ≡ 34 → LeadsTo string (string_rest string.Inside) s 1
+quote_leads [] l e = let w : ⊥ = omega arith in absurd w
+quote_leads (b ∷ s) l e = ascii_leads string (string_rest string.Inside) (b ∷ s) 1 (omega arith) (λ i k. first i k) (ap (λ (z : ℕ). after z string) e)
+  where
+    first : (i : ℕ) → i < 1 → get_or (b ∷ s) i 0 < 128
+    first zero k = omega arith
+    first (suc i) k = let w : ⊥ = omega arith in absurd w

@@ -1,0 +1,15 @@
+use Rattle.std.proofs.Common.{refl}
+use Rattle.wave_lex.specs.Tokens.{gap}
+use Rattle.wave_lex.proofs.Fronts.{front_there, front_behind}
+use Rattle.wave_lex.proofs.Runs.{blanks_cut, blanks_lead}
+use Rattle.wave_lex.proofs.lex.front.gap_at.Goals as goal
+
+pub range_from-requires : goal.range_from-requires
+range_from-requires c = λ _. blanks_cut _ _ _ c.as_bytes-bytes.ensures.value c.utf8.text c.blanks-run.ensures.within c.blanks-run.ensures.all
+
+pub returns-in_default : goal.returns-in_default
+returns-in_default c = absurd (front_there gap _ refl c.in_default.ensures)
+
+pub returns : goal.returns
+returns c = front_behind gap gap _ _ _ _ c.range_from.ensures.value
+    (blanks_lead _ _ _ c.as_bytes-bytes.ensures.value c.blanks-run.ensures.within c.blanks-run.ensures.all) c.in-Some.ensures

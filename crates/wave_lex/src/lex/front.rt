@@ -1,0 +1,206 @@
+//! How many bytes a gap or a token takes at the front of a text. Runs of bytes that leave a machine
+//! in its state are counted at once; the machine reads what stands behind them.
+ghost use Rattle.std.specs.Prelude.{◌≡◌, ℕ, ◌<◌, ◌≤◌, true, length, slice_index};
+ghost use Rattle.wave_lex.specs.LongestMatch.{Greatest, IsFront};
+ghost use Rattle.wave_lex.specs.Machines.{is_blank, is_digit, is_lower, is_plain, string_rest};
+ghost use Rattle.wave_lex.specs.Private.Reading.{LeadsTo, IsStep};
+ghost use Rattle.wave_lex.specs.declared.machine.string.StringState.TheVariants.{Inside};
+ghost use Rattle.wave_lex.specs.Tokenization.{IsGap};
+ghost use Rattle.wave_lex.specs.Tokens.{label_or_keyword, number, one, string};
+
+use crate::machine::gap::GapState;
+use crate::machine::label::{LabelState, LabelTokenState};
+use crate::machine::longest_front;
+use crate::machine::number::NumberState;
+use crate::machine::string::StringState;
+use crate::strings::unescape;
+
+/// How many bytes the gap at the front takes.
+pub fn gap_at(text: &str) -> usize
+    ensures { IsGap text.now result }
+{
+    let bytes = text.as_bytes();
+    let run = blanks(bytes);
+    let Some(more) = longest_front(GapState::Start, &text[run..]) else {
+        return run;
+    };
+    run + more
+}
+
+/// How many bytes the mark takes, where it stands at the front.
+pub fn mark_at(mark: u8, text: &str) -> Option<usize>
+    requires { mark < 128 }
+    ensures { Greatest (IsFront (one mark) text.now) result }
+{
+    let bytes = text.as_bytes();
+    if bytes.len() == 0 {
+        return None;
+    }
+    if bytes[0] != mark {
+        return None;
+    }
+    Some(1)
+}
+
+/// How many bytes the longest number at the front takes.
+pub fn number_at(text: &str) -> Option<usize>
+    ensures { Greatest (IsFront number text.now) result }
+{
+    let bytes = text.as_bytes();
+    let run = digits(bytes);
+    if run == 0 {
+        return longest_front(NumberState::Start, text);
+    }
+    if bytes[0] == b'0' {
+        return longest_front(NumberState::Start, text);
+    }
+    let Some(more) = longest_front(NumberState::Whole, &text[run..]) else {
+        return None;
+    };
+    Some(run + more)
+}
+
+/// How many bytes the longest label or keyword at the front takes.
+pub fn label_at(text: &str) -> Option<usize>
+    ensures { Greatest (IsFront label_or_keyword text.now) result }
+{
+    let bytes = text.as_bytes();
+    let run = lowers(bytes);
+    if run == 0 {
+        return longest_front(LabelTokenState::Start, text);
+    }
+    if is_digit(bytes[0]) {
+        return longest_front(LabelTokenState::Start, text);
+    }
+    let Some(more) = longest_front(LabelTokenState::Label(LabelState::Lower), &text[run..]) else {
+        return None;
+    };
+    Some(run + more)
+}
+
+/// How many bytes the string in one line at the front takes.
+pub fn string_at(text: &str) -> Option<usize>
+    ensures { Greatest (IsFront string text.now) result }
+{
+    let bytes = text.as_bytes();
+    if bytes.len() == 0 {
+        return None;
+    }
+    if bytes[0] != b'"' {
+        return longest_front(StringState::Start, text);
+    }
+    let inside = inside_end(text);
+    let Some(more) = longest_front(StringState::Inside, &text[inside..]) else {
+        return None;
+    };
+    Some(inside + more)
+}
+
+/// Where the plain bytes and the escapes end that stand behind the quote at the front.
+fn inside_end(text: &str) -> usize
+    requires some { 0 < length text.now }
+    requires quote { slice_index text.now 0 ≡ 34 }
+    ensures { LeadsTo string (string_rest Inside) text.now result }
+{
+    let _length = text.len();
+    let mut place = 1;
+    while let Some(count) = piece_at(&text[place..]) {
+        place += count;
+    }
+    place
+}
+
+/// How many bytes the plain bytes or the escape take that stand at the front.
+fn piece_at(text: &str) -> Option<usize>
+    ensures { IsStep (string_rest Inside) text.now result }
+{
+    let run = plains(text.as_bytes());
+    if run > 0 {
+        return Some(run);
+    }
+    let Some((_, count)) = unescape(text) else {
+        return None;
+    };
+    Some(count)
+}
+
+/// The byte is a space, a tab, a line feed or a carriage return.
+fn is_blank(byte: u8) -> bool
+    ensures { result ≡ is_blank byte }
+{
+    matches!(byte, b' ' | b'\t' | b'\n' | b'\r')
+}
+
+/// The byte is a digit.
+fn is_digit(byte: u8) -> bool
+    ensures { result ≡ is_digit byte }
+{
+    matches!(byte, b'0'..=b'9')
+}
+
+/// The byte is a lower-case letter or a digit.
+fn is_lower(byte: u8) -> bool
+    ensures { result ≡ is_lower byte }
+{
+    matches!(byte, b'a'..=b'z' | b'0'..=b'9')
+}
+
+/// The byte stands for itself within a string in one line.
+fn is_plain(byte: u8) -> bool
+    ensures { result ≡ is_plain byte }
+{
+    !matches!(byte, b'"' | b'\\' | b'\n')
+}
+
+/// How many blanks stand at the front.
+fn blanks(bytes: &[u8]) -> usize
+    ensures within { result ≤ length bytes.now }
+    ensures all { (i : ℕ) → i < result → is_blank (slice_index bytes.now i) ≡ true }
+{
+    for (i, byte) in bytes.iter().enumerate() {
+        if !is_blank(*byte) {
+            return i;
+        }
+    }
+    bytes.len()
+}
+
+/// How many digits stand at the front.
+fn digits(bytes: &[u8]) -> usize
+    ensures within { result ≤ length bytes.now }
+    ensures all { (i : ℕ) → i < result → is_digit (slice_index bytes.now i) ≡ true }
+{
+    for (i, byte) in bytes.iter().enumerate() {
+        if !is_digit(*byte) {
+            return i;
+        }
+    }
+    bytes.len()
+}
+
+/// How many lower-case letters and digits stand at the front.
+fn lowers(bytes: &[u8]) -> usize
+    ensures within { result ≤ length bytes.now }
+    ensures all { (i : ℕ) → i < result → is_lower (slice_index bytes.now i) ≡ true }
+{
+    for (i, byte) in bytes.iter().enumerate() {
+        if !is_lower(*byte) {
+            return i;
+        }
+    }
+    bytes.len()
+}
+
+/// How many bytes at the front stand for themselves within a string in one line.
+fn plains(bytes: &[u8]) -> usize
+    ensures within { result ≤ length bytes.now }
+    ensures all { (i : ℕ) → i < result → is_plain (slice_index bytes.now i) ≡ true }
+    ensures stops { result < length bytes.now → slice_index bytes.now result < 128 }
+{
+    for (i, byte) in bytes.iter().enumerate() {
+        if !is_plain(*byte) {
+            return i;
+        }
+    }
+    bytes.len()
+}
