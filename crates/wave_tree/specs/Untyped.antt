@@ -1,6 +1,7 @@
 -- What untyped values are in a contract, and what reading one from a text answers.
 use Rattle.std.specs.Prelude.{ℕ, ◌≡◌, ◌≢◌, ◌⊎◌, List, [], None}
-use Rattle.wave_lex.specs.Errors.{Diagnostic}
+use Rattle.wave_lex.specs.Errors.{Diagnostic, Says}
+use Rattle.wave_lex.specs.Tokenization.{span}
 use Rattle.wave_lex.specs.declared.error.ParserErrorKind.TheVariants.{OutOfMemory}
 use Rattle.wave_grammar.specs.Tree.{Tree}
 use Rattle.wave_grammar.specs.ParserPosition.{Place, TakesItem}
@@ -46,3 +47,7 @@ SyntaxFault n s e =
 -- want of memory; or a fault of the text, which spells no tree within n levels
 abbrev pub RefusesTree : ℕ → List ℕ → Diagnostic → Type 0
 RefusesTree n s e = (e.kind ≢ OutOfMemory) → SyntaxFault n s e × SpellsNoTree n s
+
+-- want of memory is told at 0..0
+abbrev pub MemoryAtFront : Diagnostic → Type 0
+MemoryAtFront e = e.kind ≡ OutOfMemory → Says e OutOfMemory (span 0 0) None

@@ -106,6 +106,10 @@ IsNoCall s = (name : List ℕ) (params : MaybeTree) → IsCall s name params →
 abbrev pub RefusesCall : List ℕ → Diagnostic → Type 0
 RefusesCall s e = (e.kind ≢ OutOfMemory) → CallFault s e × IsNoCall s
 
+-- want of memory is told at the name
+abbrev pub MemoryAtName : List ℕ → Diagnostic → Type 0
+MemoryAtName s e = e.kind ≡ OutOfMemory → (k : ℕ) × IsName s k × Says e OutOfMemory (span 0 k) None
+
 -- the text that shows the parameters
 abbrev pub params_at : List ℕ → Option NodeTree → List ℕ
 params_at source None = codes "()"

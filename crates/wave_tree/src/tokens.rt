@@ -303,6 +303,7 @@ impl<'source> Tokens<'source> {
     pub(crate) fn parse_params(&mut self, alloc: Global) -> Result<Option<Node>, ParserError>
         ensures taken { IfOk result (AreParamsTaken self.old.place self.new.place) }
         ensures refused { IfErr result (λ e. e.kind ≢ kind.OutOfMemory → RefusesTuple e self.old.place self.new.place) }
+        ensures memory { IfErr result (λ e. StaysWithout e self.old.place self.new.place) }
         ensures within { IfErr result (λ e. LiesInText self.old.place.lexer.source e.span) }
     {
         let start = self.start_here();

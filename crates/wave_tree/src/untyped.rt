@@ -2,7 +2,7 @@
 ghost use Rattle.std.specs.Prelude.{◌≡◌, IfOk, IfErr};
 ghost use Rattle.wave_node.specs.TypedReading.{IsValueOf};
 ghost use Rattle.wave_node.specs.TypedReading as typed;
-ghost use Rattle.wave_tree.specs.Untyped.{IsUntypedOf, RefusesTree};
+ghost use Rattle.wave_tree.specs.Untyped.{IsUntypedOf, RefusesTree, MemoryAtFront};
 ghost use Rattle.wave_node.specs.ErrorSpans.{HasTypeKind, StandsIn};
 ghost use Rattle.wave_lex.specs.Errors.{LiesInText};
 
@@ -54,10 +54,11 @@ impl<'source> UntypedValue<'source> {
 
     /// The value of at most 100 levels that the whole text spells. What is no value is refused as by
     /// `Parser::parse_raw_value`, and what follows a value as `TrailingCharacters` at the span of the
-    /// next token. Spans are byte places of the text.
+    /// next token. Spans are byte places of the text; `OutOfMemory` is told at 0..0.
     pub fn parse(alloc: Global, source: &'source str) -> Result<UntypedValue<'source>, ParserError>
         ensures value { IfOk result (IsUntypedOf 100 source.now) }
         ensures refused { IfErr result (RefusesTree 100 source.now) }
+        ensures memory { IfErr result MemoryAtFront }
         ensures within { IfErr result (λ e. LiesInText source.now e.span) }
     {
         let mut parser = Parser::new(source);

@@ -8,7 +8,7 @@ ghost use Rattle.wave_lex.specs.Errors.{LiesInText};
 ghost use Rattle.wave_lex.specs.FunctionName.{IsName};
 ghost use Rattle.wave_wasm.specs.Lists.{AllOf};
 ghost use Rattle.wave_wasm.specs.Types.{HasDistinctNames};
-ghost use Rattle.wave_tree.specs.UntypedCall.{IsParamsOf, IsCalledOf, NameFault, RefusesCall, GivesParamsAt, RefusesParamsAt, call_shown};
+ghost use Rattle.wave_tree.specs.UntypedCall.{IsParamsOf, IsCalledOf, NameFault, RefusesCall, MemoryAtName, GivesParamsAt, RefusesParamsAt, call_shown};
 ghost use Rattle.wave_tree.specs.Private.UntypedCall.{CallStandsIn};
 ghost use Rattle.wave_tree.specs.DisplayKeeps.{IsCallKeptByDisplay};
 
@@ -28,13 +28,14 @@ use wave_wasm::wasm::WasmValue;
 /// of at most 100 levels. The empty text is `UnexpectedEnd` at 0..0, and one that begins with no name
 /// `InvalidToken` at its first scalar; what is no parameters is refused as by
 /// `Parser::parse_raw_value`, and what follows them as `TrailingCharacters` at the span of the next
-/// token. Spans are byte places of the text.
+/// token. Spans are byte places of the text; `OutOfMemory` is told at the name.
 pub fn parse_raw_func_call<'source>(
     alloc: Global,
     source: &'source str,
 ) -> Result<UntypedFuncCall<'source>, ParserError>
     ensures value { IfOk result (IsCalledOf source.now) }
     ensures refused { IfErr result (RefusesCall source.now) }
+    ensures memory { IfErr result (MemoryAtName source.now) }
     ensures within { IfErr result (λ e. LiesInText source.now e.span) }
 {
     let names = name_at(source)?;
@@ -101,6 +102,7 @@ impl<'source> UntypedFuncCall<'source> {
     ) -> Result<UntypedFuncCall<'source>, ParserError>
         ensures value { IfOk result (IsCalledOf source.now) }
         ensures refused { IfErr result (RefusesCall source.now) }
+        ensures memory { IfErr result (MemoryAtName source.now) }
         ensures within { IfErr result (λ e. LiesInText source.now e.span) }
     {
         parse_raw_func_call(alloc, source)
