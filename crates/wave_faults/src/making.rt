@@ -106,7 +106,9 @@ fn result(
 /// What the maker of the value's kind makes at the type of what the view of the value answers.
 fn of_parts(alloc: Global, ty: &Type, val: &Value) -> Result<Value, WasmValueError> {
     match val.kind() {
-        WasmTypeKind::List => list(alloc, ty, val.unwrap_list(alloc)?.as_slice()),
+        WasmTypeKind::List | WasmTypeKind::FixedLengthList => {
+            list(alloc, ty, val.unwrap_list(alloc)?.as_slice())
+        }
         WasmTypeKind::Tuple => tuple(alloc, ty, val.unwrap_tuple(alloc)?.as_slice()),
         WasmTypeKind::Record => record(alloc, ty, val.unwrap_record(alloc)?.as_slice()),
         WasmTypeKind::Map => map(alloc, ty, val.unwrap_map(alloc)?.as_slice()),
