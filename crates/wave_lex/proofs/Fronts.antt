@@ -1,5 +1,5 @@
 -- The longest front of a text whose first bytes are read without a machine.
-use Rattle.std.proofs.Common.{◌≡◌, ℕ, ◌≤◌, ◌<◌, ◌+◌, ◌-◌, Bool, true, false, nat_eq, zero, suc, List, [], ◌∷◌, ◌++◌, ◌⊎◌, inl, inr, refl, sym, ap, subst, ◌∙◌, length, take, drop, arith, get_or, Some, None, length-drop, length-take-le, length-append}
+use Rattle.std.proofs.Common.{◌≡◌, ℕ, ◌≤◌, ◌<◌, ◌+◌, ◌-◌, Bool, true, false, nat_eq, zero, suc, List, [], ◌∷◌, ◌++◌, ◌⊎◌, inl, inr, refl, sym, ap, subst, ◌∙◌, length, take, drop, arith, get_or, Some, None, length-drop, length-take-le, length-append, append_assoc}
 use Rattle.std.specs.Prelude.{◌≢◌, ◌&&◌, nat_lt, encode_utf8, encode_utf8_all}
 use Rattle.std.specs.Str.{IsUtf8, IsCharBoundary}
 use Rattle.std.proofs.lemmas.Bool.{cases_lt}
@@ -150,3 +150,35 @@ any_text (c ∷ cs) = any_text cs
 -- a text may be cut behind what leads to a shape
 pub lead_boundary : (r q : Regex) (s : List ℕ) (k : ℕ) → IsUtf8 s → LeadsTo r q s k → IsCharBoundary s k
 lead_boundary r q s k u h = front_boundary (many any) s k u (record { scalars = h.scalars; fits = h.fits; spelled = h.spelled; has = matches_from h.scalars (many any) (any_text h.scalars) })
+
+-- a front of which no scalar may be the first is empty
+no_more : (q : Regex) (t : List ℕ) (j : ℕ) (cs : List ℕ) → j ≤ length t → encode_utf8_all cs ≡ take j t → Matches q cs → ((c : ℕ) (rest : List ℕ) → t ≡ encode_utf8 c ++ rest → after c q ≡ nothing) → j ≤ 0
+no_more q t j [] l e m h = let long : length (take j t) ≡ 0 = ap length (sym e) in omega (arith, length-take-le j t l)
+no_more q t j (c ∷ cs) l e m h =
+    let whole : t ≡ encode_utf8 c ++ (encode_utf8_all cs ++ drop j t) =
+    sym (take-append-drop j t) ∙ (ap (λ (z : List ℕ). z ++ drop j t) (sym e) ∙ append_assoc (encode_utf8 c) (encode_utf8_all cs) (drop j t)) in
+    let dead : after_all cs (after c q) ≡ nothing = ap (λ (z : Regex). after_all cs z) (h c (encode_utf8_all cs ++ drop j t) whole) ∙ after_all_nothing cs in
+    let wrong : false ≡ true = sym (ap may_be_empty dead) ∙ matches_into (c ∷ cs) q m in cc
+
+-- where no scalar may follow, the longest front is empty
+front_ends : (q : Regex) (t : List ℕ) → may_be_empty q ≡ true → ((c : ℕ) (rest : List ℕ) → t ≡ encode_utf8 c ++ rest → after c q ≡ nothing) → Greatest (IsFront q t) (Some 0)
+front_ends q t e h = (record { scalars = []; fits = omega arith; spelled = refl; has = empty_from q e }, λ j f. no_more q t j f.scalars f.fits f.spelled f.has h)
+
+-- the first of the rest
+drop_first : (s : List ℕ) (n c : ℕ) (rest : List ℕ) → drop n s ≡ c ∷ rest → (n < length s) × (get_or s n 0 ≡ c)
+drop_first [] zero c rest e = cc
+drop_first [] (suc n) c rest e = cc
+drop_first (b ∷ s) zero c rest e = let same : b ≡ c = cc in (omega arith, same)
+drop_first (b ∷ s) (suc n) c rest e = let h = drop_first s n c rest e in
+    let l : n < length s = h.0 in (omega arith, h.1)
+
+-- the longest front ends with a run, where the next byte may not follow
+pub run_ends : (r q : Regex) (s : List ℕ) (n : ℕ) → LeadsTo r q s n → may_be_empty q ≡ true → ((c : ℕ) → 128 ≤ c → after c q ≡ nothing) → (n < length s → after (get_or s n 0) q ≡ nothing) → Greatest (IsFront r s) (Some n)
+run_ends r q s n h e past dead =
+    let same : n + 0 ≡ n = omega arith in
+    let P : ℕ → Type 0 = λ z. Greatest (IsFront r s) (Some z) in
+    subst P same (front_behind r q s (drop n s) n 0 refl h (front_ends q (drop n s) e (λ c rest w. elim (cases_lt c 128) as (λ _. after c q ≡ nothing) [
+      | inr l ↦ past c (omega arith)
+      | inl l ↦ let first = drop_first s n c rest (w ∙ ap (λ (z : List ℕ). z ++ rest) (encode_ascii c l)) in
+          ap (λ (z : ℕ). after z q) (sym first.1) ∙ dead first.0
+    ])))

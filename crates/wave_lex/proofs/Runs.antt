@@ -15,9 +15,10 @@ use Rattle.wave_lex.specs.Derive.{may_be_empty, after, after_all, after_next}
 use Rattle.wave_lex.specs.LongestMatch.{Greatest, IsFront}
 use Rattle.wave_lex.specs.Tokens.{one, string, gap, number, label_or_keyword}
 use Rattle.wave_lex.specs.Private.Reading.{LeadsTo}
-use Rattle.wave_lex.specs.Machines.{is_blank, is_digit, is_lower, is_plain, gap_rest, number_step, number_rest, label_token_step, label_token_rest, in_token, string_step, string_rest}
+use Rattle.wave_lex.specs.Machines.{is_blank, is_digit, is_lower, is_plain, ends_whole, gap_step, gap_rest, number_step, number_rest, label_step, label_token_step, label_token_rest, in_token, string_step, string_rest}
 use Rattle.wave_lex.specs.declared.machine.number.NumberState.{NumberState}
 use Rattle.wave_lex.specs.declared.machine.number.NumberState.TheVariants as n
+use Rattle.wave_lex.specs.declared.machine.label.LabelState.{LabelState}
 use Rattle.wave_lex.specs.declared.machine.label.LabelState.TheVariants as l
 use Rattle.wave_lex.specs.declared.machine.label.LabelTokenState.{LabelTokenState}
 use Rattle.wave_lex.specs.declared.machine.label.LabelTokenState.TheVariants as token
@@ -29,7 +30,7 @@ use Rattle.wave_lex.specs.declared.machine.string.StringState.{StringState}
 use Rattle.wave_lex.specs.declared.machine.string.StringState.TheVariants as string
 use Rattle.wave_lex.proofs.Scanning.{after_all_append, after_all_nothing}
 use Rattle.wave_lex.proofs.Machines.{gap_steps, number_steps, label_token_steps, string_steps}
-use Rattle.wave_lex.proofs.Fronts.{front_behind, PassesNone, behind_run, ascii_leads, run_stays, run_leads, cut_here}
+use Rattle.wave_lex.proofs.Fronts.{front_behind, PassesNone, behind_run, ascii_leads, run_stays, run_leads, run_ends}
 
 -- ---- blanks
 
@@ -245,3 +246,54 @@ pub lowers_lead : (s b : List ℕ) (n : ℕ) → b ≡ s → 0 < n → n ≤ len
     → LeadsTo label_or_keyword (label_token_rest (token.Label l.Lower)) s n
 lowers_lead s b n e p fits h f = subst (λ (z : List ℕ). LeadsTo label_or_keyword (label_token_rest (token.Label l.Lower)) z n) e
     (run_leads label_or_keyword (label_token_rest (token.Label l.Lower)) b n p fits (λ i k. lower_ascii (get_or b i 0) (h i k)) (lower_first (get_or b 0 0) (h 0 p) f) (λ i k. lower_stays (get_or b i 0) (h i k)))
+
+-- ---- where a run ends
+
+gap_none : (c : ℕ) → is_blank c ≡ false → c ≢ 47 → gap_step gap.Start c ≡ None
+gap_none c e f = grind (arith, nat_tests)
+
+gap_dead : (c : ℕ) → is_blank c ≡ false → c ≢ 47 → after c gap ≡ nothing
+gap_dead c e f = gap_steps gap.Start c ∙ ap (after_next GapState gap_rest) (gap_none c e f)
+
+blank_past : (c : ℕ) → 128 ≤ c → is_blank c ≡ false
+blank_past c l = grind (arith, nat_tests)
+
+-- blanks are the gap, where no slash follows
+pub blanks_end : (s b : List ℕ) (n : ℕ) → b ≡ s → n ≤ length b → ((i : ℕ) → i < n → is_blank (get_or b i 0) ≡ true) → (n < length b → is_blank (get_or b n 0) ≡ false)
+    → (n < length b → get_or b n 0 ≢ 47) → Greatest (IsFront gap s) (Some n)
+blanks_end s b n e l h stops other = subst (λ (z : List ℕ). Greatest (IsFront gap z) (Some n)) e
+    (run_ends gap gap b n (blanks_lead b b n refl l h) refl (λ c k. gap_dead c (blank_past c k) (λ w. let x : c ≡ 47 = w in omega arith)) (λ k. gap_dead (get_or b n 0) (stops k) (other k)))
+
+number_none : (c : ℕ) → is_digit c ≡ false → ends_whole c ≡ true → number_step n.Whole c ≡ None
+number_none c e f = grind (arith, nat_tests)
+
+number_dead : (c : ℕ) → is_digit c ≡ false → ends_whole c ≡ true → after c (number_rest n.Whole) ≡ nothing
+number_dead c e f = number_steps n.Whole c ∙ ap (after_next NumberState number_rest) (number_none c e f)
+
+digit_past : (c : ℕ) → 128 ≤ c → is_digit c ≡ false
+digit_past c l = grind (arith, nat_tests)
+
+whole_past : (c : ℕ) → 128 ≤ c → ends_whole c ≡ true
+whole_past c l = grind (arith, nat_tests)
+
+-- digits are the number, where no fraction or exponent follows
+pub digits_end : (s b : List ℕ) (k : ℕ) → b ≡ s → 0 < k → k ≤ length b → ((i : ℕ) → i < k → is_digit (get_or b i 0) ≡ true) → get_or b 0 0 ≢ 48 → (k < length b → is_digit (get_or b k 0) ≡ false)
+    → (k < length b → ends_whole (get_or b k 0) ≡ true) → Greatest (IsFront number s) (Some k)
+digits_end s b k e p fits h f stops other = subst (λ (z : List ℕ). Greatest (IsFront number z) (Some k)) e
+    (run_ends number (number_rest n.Whole) b k (digits_lead b b k refl p fits h f) refl (λ c m. number_dead c (digit_past c m) (whole_past c m)) (λ m. number_dead (get_or b k 0) (stops m) (other m)))
+
+label_none : (c : ℕ) → is_lower c ≡ false → c ≢ 45 → label_step l.Lower c ≡ None
+label_none c e f = grind (arith, nat_tests)
+
+label_dead : (c : ℕ) → is_lower c ≡ false → c ≢ 45 → after c (label_token_rest (token.Label l.Lower)) ≡ nothing
+label_dead c e f = label_token_steps (token.Label l.Lower) c ∙ ap (λ (z : Option LabelState). after_next LabelTokenState label_token_rest (in_token z)) (label_none c e f)
+
+lower_past : (c : ℕ) → 128 ≤ c → is_lower c ≡ false
+lower_past c l = grind (arith, nat_tests)
+
+-- lower-case letters and digits are the label, where no hyphen follows
+pub lowers_end : (s b : List ℕ) (n : ℕ) → b ≡ s → 0 < n → n ≤ length b → ((i : ℕ) → i < n → is_lower (get_or b i 0) ≡ true) → is_digit (get_or b 0 0) ≡ false → (n < length b → is_lower (get_or b n 0) ≡ false)
+    → (n < length b → get_or b n 0 ≢ 45) → Greatest (IsFront label_or_keyword s) (Some n)
+lowers_end s b n e p fits h f stops other = subst (λ (z : List ℕ). Greatest (IsFront label_or_keyword z) (Some n)) e
+    (run_ends label_or_keyword (label_token_rest (token.Label l.Lower)) b n (lowers_lead b b n refl p fits h f) refl
+    (λ c k. label_dead c (lower_past c k) (λ w. let x : c ≡ 45 = w in omega arith)) (λ k. label_dead (get_or b n 0) (stops k) (other k)))

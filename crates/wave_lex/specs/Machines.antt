@@ -44,6 +44,10 @@ number_rest n.Power = after_all (codes "0e0") number
 abbrev pub is_digit : ℕ → Bool
 is_digit b = is_within 48 57 b
 
+-- not `.`, `e` or `E`
+abbrev pub ends_whole : ℕ → Bool
+ends_whole b = not (nat_eq b 46 || nat_eq b 101 || nat_eq b 69)
+
 -- what follows the whole part of a number
 abbrev pub after_whole : ℕ → Option NumberState
 after_whole b = if nat_eq b 46 then Some n.Point else (if nat_eq b 101 || nat_eq b 69 then Some n.Exponent else None)

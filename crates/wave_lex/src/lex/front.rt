@@ -1,8 +1,8 @@
 //! How many bytes a gap or a token takes at the front of a text. Runs of bytes that leave a machine
 //! in its state are counted at once; the machine reads what stands behind them.
-ghost use Rattle.std.specs.Prelude.{◌≡◌, ℕ, ◌<◌, ◌≤◌, true, length, slice_index};
+ghost use Rattle.std.specs.Prelude.{◌≡◌, ℕ, ◌<◌, ◌≤◌, true, false, length, slice_index};
 ghost use Rattle.wave_lex.specs.LongestMatch.{Greatest, IsFront};
-ghost use Rattle.wave_lex.specs.Machines.{is_blank, is_digit, is_lower, is_plain, string_rest};
+ghost use Rattle.wave_lex.specs.Machines.{ends_whole, is_blank, is_digit, is_lower, is_plain, string_rest};
 ghost use Rattle.wave_lex.specs.Private.Reading.{LeadsTo, IsStep};
 ghost use Rattle.wave_lex.specs.declared.machine.string.StringState.TheVariants.{Inside};
 ghost use Rattle.wave_lex.specs.Tokenization.{IsGap};
@@ -21,6 +21,12 @@ pub fn gap_at(text: &str) -> usize
 {
     let bytes = text.as_bytes();
     let run = blanks(bytes);
+    if run == bytes.len() {
+        return run;
+    }
+    if bytes[run] != b'/' {
+        return run;
+    }
     let Some(more) = longest_front(GapState::Start, &text[run..]) else {
         return run;
     };
@@ -54,6 +60,12 @@ pub fn number_at(text: &str) -> Option<usize>
     if bytes[0] == b'0' {
         return longest_front(NumberState::Start, text);
     }
+    if run == bytes.len() {
+        return Some(run);
+    }
+    if ends_whole(bytes[run]) {
+        return Some(run);
+    }
     let Some(more) = longest_front(NumberState::Whole, &text[run..]) else {
         return None;
     };
@@ -71,6 +83,12 @@ pub fn label_at(text: &str) -> Option<usize>
     }
     if is_digit(bytes[0]) {
         return longest_front(LabelTokenState::Start, text);
+    }
+    if run == bytes.len() {
+        return Some(run);
+    }
+    if bytes[run] != b'-' {
+        return Some(run);
     }
     let Some(more) = longest_front(LabelTokenState::Label(LabelState::Lower), &text[run..]) else {
         return None;
@@ -138,6 +156,13 @@ fn is_digit(byte: u8) -> bool
     matches!(byte, b'0'..=b'9')
 }
 
+/// The byte is neither a point nor the letter of an exponent.
+fn ends_whole(byte: u8) -> bool
+    ensures { result ≡ ends_whole byte }
+{
+    !matches!(byte, b'.' | b'e' | b'E')
+}
+
 /// The byte is a lower-case letter or a digit.
 fn is_lower(byte: u8) -> bool
     ensures { result ≡ is_lower byte }
@@ -156,6 +181,7 @@ fn is_plain(byte: u8) -> bool
 fn blanks(bytes: &[u8]) -> usize
     ensures within { result ≤ length bytes.now }
     ensures all { (i : ℕ) → i < result → is_blank (slice_index bytes.now i) ≡ true }
+    ensures stops { result < length bytes.now → is_blank (slice_index bytes.now result) ≡ false }
 {
     for (i, byte) in bytes.iter().enumerate() {
         if !is_blank(*byte) {
@@ -169,6 +195,7 @@ fn blanks(bytes: &[u8]) -> usize
 fn digits(bytes: &[u8]) -> usize
     ensures within { result ≤ length bytes.now }
     ensures all { (i : ℕ) → i < result → is_digit (slice_index bytes.now i) ≡ true }
+    ensures stops { result < length bytes.now → is_digit (slice_index bytes.now result) ≡ false }
 {
     for (i, byte) in bytes.iter().enumerate() {
         if !is_digit(*byte) {
@@ -182,6 +209,7 @@ fn digits(bytes: &[u8]) -> usize
 fn lowers(bytes: &[u8]) -> usize
     ensures within { result ≤ length bytes.now }
     ensures all { (i : ℕ) → i < result → is_lower (slice_index bytes.now i) ≡ true }
+    ensures stops { result < length bytes.now → is_lower (slice_index bytes.now result) ≡ false }
 {
     for (i, byte) in bytes.iter().enumerate() {
         if !is_lower(*byte) {

@@ -4,7 +4,7 @@ use Rattle.wave_lex.specs.Machines.{label_token_rest}
 use Rattle.wave_lex.specs.declared.machine.label.LabelState.TheVariants.{Lower}
 use Rattle.wave_lex.specs.declared.machine.label.LabelTokenState.TheVariants.{Label}
 use Rattle.wave_lex.proofs.Fronts.{front_there, front_behind}
-use Rattle.wave_lex.proofs.Runs.{lowers_cut, lowers_lead}
+use Rattle.wave_lex.proofs.Runs.{lowers_end, lowers_cut, lowers_lead}
 use Rattle.wave_lex.proofs.lex.front.label_at.Goals as goal
 
 pub range_from-requires : goal.range_from-requires
@@ -16,3 +16,9 @@ returns-in_default c = absurd (front_there (label_token_rest (Label Lower)) _ re
 pub returns : goal.returns
 returns c = front_behind label_or_keyword (label_token_rest (Label Lower)) _ _ _ _ c.range_from.ensures.value
     (lowers_lead _ _ _ c.as_bytes-bytes.ensures.value (omega arith) c.lowers-run.ensures.within c.lowers-run.ensures.all (sym c.is_digit.ensures ∙ c.if-is_digit.false)) c.in-Some.ensures
+
+pub returns-then-run-bytes : goal.returns-then-run-bytes
+returns-then-run-bytes c = lowers_end _ _ _ c.as_bytes-bytes.ensures.value (omega arith) c.lowers-run.ensures.within c.lowers-run.ensures.all (sym c.is_digit.ensures ∙ c.if-is_digit.false) c.lowers-run.ensures.stops (λ k. let w : ⊥ = omega arith in absurd w)
+
+pub returns-then-bytes-run-ne45 : goal.returns-then-bytes-run-ne45
+returns-then-bytes-run-ne45 c = lowers_end _ _ _ c.as_bytes-bytes.ensures.value (omega arith) c.lowers-run.ensures.within c.lowers-run.ensures.all (sym c.is_digit.ensures ∙ c.if-is_digit.false) c.lowers-run.ensures.stops (λ k. c.if-bytes-run-ne45.true)
