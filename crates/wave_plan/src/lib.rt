@@ -1,0 +1,5 @@
+//! What is made of values that are parsed: nodes, or values of a type.
+#![tactic(auto)]
+
+pub mod nodes;
+pub mod plan;
