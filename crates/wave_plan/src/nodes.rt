@@ -1,6 +1,7 @@
 //! The plan that makes nodes.
 use crate::plan::Plan;
 use std::alloc::{AllocError, Global};
+use std::collections::BTreeMap;
 use wave_lex::lex::Span;
 use wave_node::ast::make;
 use wave_node::ast::{Node, NodeType};
@@ -62,5 +63,18 @@ impl Plan for Nodes {
 
     fn whole(self, alloc: Global, ty: NodeType, span: Span, parts: Vec<Node>) -> Node {
         make::node(ty, span, parts)
+    }
+
+    fn flags(
+        self,
+        alloc: Global,
+        span: Span,
+        flags: BTreeMap<&str, Span>,
+    ) -> Result<Node, AllocError> {
+        let mut nodes = Vec::new(alloc);
+        for at in flags.into_values() {
+            nodes.push(make::leaf(alloc, NodeType::Label, at))?;
+        }
+        Ok(make::node(NodeType::Flags, span, nodes))
     }
 }

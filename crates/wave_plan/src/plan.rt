@@ -13,7 +13,7 @@ pub trait Plan: Sized + Copy {
     type Parts: Drop;
 
     ghost use Rattle.std.specs.Prelude.{ℕ, ◌≡◌, ◌++◌, List, [], ◌∷◌, IfOk, IfErr};
-    ghost use Rattle.std.specs.BTreeMap.{values};
+    ghost use Rattle.wave_plan.specs.FlagParts.{AreFlagsOf, flag_nodes};
     ghost use Rattle.wave_grammar.specs.SpannedTree.{slice};
     ghost use Rattle.wave_node.specs.NodeTree.{NodeTree, node, no_nodes, node_trees};
     ghost use Rattle.wave_node.specs.declared.ast.NodeType.{NodeType};
@@ -68,4 +68,13 @@ pub trait Plan: Sized + Copy {
     /// What is made of a node of the type with these parts.
     fn whole(self, alloc: Global, ty: NodeType, span: Span, parts: Self::Parts) -> Self::Made
         ensures { (source : List ℕ) (children : List NodeTree) → are_parts self source ty children parts → is_made self source (node ty span (node_trees children)) result };
+
+    /// What is made of a node of these flags, which stand at these places.
+    fn flags(
+        self,
+        alloc: Global,
+        span: Span,
+        flags: BTreeMap<&str, Span>,
+    ) -> Result<Self::Made, AllocError>
+        ensures { IfOk result (λ made. (source : List ℕ) → AreFlagsOf source flags.entry → is_made self source (node node_type.Flags span (flag_nodes flags.entry)) made) };
 }
