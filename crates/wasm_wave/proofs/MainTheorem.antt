@@ -13,9 +13,9 @@ use Rattle.wasm_wave.specs.MainTheorem.{OneValue, IsTextOf, RefusesWriting}
 
 -- a text means one value at most
 pub one_value_of : (T : TypeTree) → HasDistinctNames T → OneValue T
-one_value_of T distinct s v w (ts, cut, reads) (us, cut2, reads2) =
+one_value_of T distinct n m s v w (ts, cut, reads) (us, cut2, reads2) =
     let same : us ≡ ts = one_cut_into s us ts cut2 cut in
-    (one_reading T distinct 100 100 ts us [] v w reads reads2 (same ∙ sym (append-nil ts))).1
+    (one_reading T distinct n m ts us [] v w reads reads2 (same ∙ sym (append-nil ts))).1
 
 -- ---- writing
 

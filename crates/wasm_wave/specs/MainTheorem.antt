@@ -11,9 +11,9 @@ use Rattle.wave_grammar.specs.Tree.{levels}
 use Rattle.wave_grammar.specs.Denotes.{Means}
 use Rattle.wave_grammar.specs.RoundTripLaws.{ReadBack}
 
--- no text means two values of the type
+-- no text means two values of the type, whatever the levels
 abbrev pub OneValue : TypeTree → Type 0
-OneValue T = (s : List ℕ) (v w : Value) → Means T s v → Means T s w → v ≡ w
+OneValue T = (n m : ℕ) (s : List ℕ) (v w : Value) → Means T n s v → Means T m s w → v ≡ w
 
 -- these are the bytes of the value's canonical text, which it has
 abbrev pub IsTextOf : Value → List ℕ → Type 0
@@ -27,6 +27,6 @@ RefusesWriting v e = IsGrounded e (has_text v) 0 0 × IsForMemory v e
 abbrev pub IsToldByText : TypeTree → Value → Type 0
 IsToldByText T v = (w : Value) → HasType T w → (text v ≡ text w) ↔ (merged v ≡ merged w)
 
--- where its canonical text holds at most 100 levels, that text means the value, merged
+-- where its canonical text holds at most n levels, that text means the value, merged, within n levels
 abbrev pub IsReadAgain : TypeTree → Value → Type 0
-IsReadAgain T v = (back : ReadBack T v) → levels back.tree ≤ 100 → Means T (text v) (merged v)
+IsReadAgain T v = (n : ℕ) (back : ReadBack T v) → levels back.tree ≤ n → Means T n (text v) (merged v)

@@ -18,14 +18,14 @@ pub use wave_tree::laws::{
     reading_is_by_tree, refusals_are_of_their_kind, refusals_lie_in_the_text,
     refused_tokens_begin_none, refused_values_have_none, same_tokens_mean_the_same,
     shown_call_keeps_meaning, shown_keeps_meaning, trees_are_led, unexpected_tokens_begin_none,
-    untyped_reading_agrees,
+    untyped_reading_agrees, whole_texts_are_read,
 };
 pub use wave_type::laws::{equal_types, type_text_injective, types_convert_to_themselves};
 pub use wave_value::laws::equal_values;
 pub use wave_wasm::laws::{key_text_injective, merging_keeps_last_values};
 
 /// The grammar gives no text two values: where one spelling begins another, both are one and spell
-/// one value; so a text means one value at most.
+/// one value; so a text means one value at most, whatever the levels.
 pub fn one_value()
     ensures reading { (T : TypeTree) → HasDistinctNames T → OneReading T }
     ensures value { (T : TypeTree) → HasDistinctNames T → OneValue T }

@@ -36,8 +36,8 @@ pub use wave_wasm::{wasm, writer};
 /// labels too and the type's tree is one that `Type` has, what is read within some levels has a
 /// canonical text of at most twice as many.
 pub fn from_str<V: WasmValue>(alloc: Global, ty: &V::Type, s: &str) -> Result<V, ParserError>
-    ensures read { IfOk result (IsRead V.tree V.is_of (V.Type.tree ty.now) s.now) }
-    ensures refused { IfErr result (RefusesText V.is_full (V.Type.tree ty.now) s.now) }
+    ensures read { IfOk result (IsRead V.tree V.is_of (V.Type.tree ty.now) 100 s.now) }
+    ensures refused { IfErr result (RefusesText V.is_full (V.Type.tree ty.now) 100 s.now) }
     ensures one { let T = V.Type.tree ty.now in HasDistinctNames T → OneValue T }
     ensures reading { let T = V.Type.tree ty.now in HasDistinctNames T → OneReading T }
     ensures twice { let T = V.Type.tree ty.now in Good T → IsOwn T → ReadsBackWithinTwice T }
@@ -50,8 +50,8 @@ pub fn from_str<V: WasmValue>(alloc: Global, ty: &V::Type, s: &str) -> Result<V,
 /// is one of its own type (`Value::ty`). Of a type whose names are distinct labels, another value
 /// has the same text exactly where the two are equal, merged. Where the type's tree is also one
 /// that `Type` has, the text is read back as the value, merged, within its own levels, so by
-/// `from_str` where these are at most 100; and it has at most twice the levels of any text that is
-/// read as the value.
+/// `from_str` where these are at most 100, and by a parser whose limit they don't pass; and it has at
+/// most twice the levels of any text that is read as the value.
 pub fn to_string<V: WasmValue>(alloc: Global, val: &V) -> Result<String, WriterError>
     ensures text { IfOk result (λ s. IsTextOf (V.tree val.now) (string_bytes s)) }
     ensures refused { IfErr result (RefusesWriting (V.tree val.now)) }

@@ -1,13 +1,16 @@
 -- What reading at the named types says of a request.
-use Rattle.std.proofs.Common.{ℕ, ◌≡◌, ◌≢◌, ◌⊎◌, List, false, inl, inr, refl, subst, sym, Result, Ok, Err, MatchResult}
+use Rattle.std.proofs.Common.{ℕ, ◌≡◌, ◌≢◌, List, false, inl, inr, refl, subst, sym, Result, Ok, Err, MatchResult}
 use Rattle.std.specs.Prelude.{IsErrAnd}
 use Rattle.std.specs.Str.{bytes_eq}
 use Rattle.std.proofs.lemmas.Slice.Eq.{bytes_eq-Decides}
 use Rattle.std.proofs.lemmas.Bool.Decides.{not_from_Decides}
 use Rattle.wave_lex.specs.Errors.{Diagnostic}
 use Rattle.wave_lex.specs.declared.error.ParserErrorKind.TheVariants as kind
-use Rattle.wave_tree.specs.FromStr.{IsRead, TextFault, RefusesText}
-use Rattle.wave_grammar.specs.Denotes.{MeansNone}
+use Rattle.wave_tree.specs.FromStr.{IsValueTaken, RefusesValue, IsRead, BlamesText}
+use Rattle.wave_tree.specs.ParserState.{Parsing, Finishes, first_at, limited, front_of, start_of}
+use Rattle.wave_tree.proofs.ValueReading.{whole_text}
+use Rattle.wave_grammar.specs.ParserPosition.{Place}
+use Rattle.wave_wasm.specs.Types.{TypeTree, HasDistinctNames}
 use Rattle.wave_value.specs.FullTypes.{IsFull}
 use Rattle.wave_value.specs.TypedValue.{TypedValue, IsAt}
 use Rattle.wave_wasm.specs.Text.{text}
@@ -48,16 +51,16 @@ full name.Example = (((apart _ _ refl, tt), (tt, tt)), (tt, (tt, tt)))
 full name.Counts = tt
 
 -- what was read at a named type
-abbrev IsReadAt : TypeName → List ℕ → TypedValue → Type 0
-IsReadAt n s v = IsRead (λ (v : TypedValue). v.tree) (λ v T. IsAt T v) (type_of n) s v
+abbrev pub IsReadAt : TypeName → ℕ → List ℕ → TypedValue → Type 0
+IsReadAt name n s v = IsRead (λ (v : TypedValue). v.tree) (λ v T. IsAt T v) (type_of name) n s v
 
 -- the value that was read is the answer
-pub answered : (n : TypeName) (s : List ℕ) (v : TypedValue) (answer : List ℕ) → IsReadAt n s v → answer ≡ text v.tree → Answers (Read n) s answer
-answered n s v answer read same = (v.tree, (read.meant (full n)).0, same)
+pub answered : (name : TypeName) (n : ℕ) (s : List ℕ) (v : TypedValue) (answer : List ℕ) → IsReadAt name n s v → answer ≡ text v.tree → Answers (Read name n) s answer
+answered name n s v answer read same = (v.tree, (read.meant (full name)).0, same)
 
 -- it is refused for want of memory alone
-pub wants_memory : (n : TypeName) (s : List ℕ) (v : TypedValue) (e : WriterError) → IsReadAt n s v → IsForMemory v.tree e → IsWantOfMemory e
-wants_memory n s v e read memory = memory (type_of n) (read.meant (full n)).1.fits
+pub wants_memory : (name : TypeName) (n : ℕ) (s : List ℕ) (v : TypedValue) (e : WriterError) → IsReadAt name n s v → IsForMemory v.tree e → IsWantOfMemory e
+wants_memory name n s v e read memory = memory (type_of name) (read.meant (full name)).1.fits
 
 -- what the program makes of an error that tells why there is no answer, unless it is want of memory
 unanswered : (request : Request) (s : List ℕ) (e : Diagnostic) (u : Unanswered) → (e.kind ≢ kind.OutOfMemory → IsRefused request s e) → MatchesRefusal e u → IsUnanswered request s u
@@ -70,9 +73,35 @@ handed_on Answer request s (Ok x) e same why = absurd same
 handed_on Answer request s (Err u) e same why = unanswered request s e u why same
 
 -- the refusal tells a fault of the text, which has no answer; or it is want of memory
-pub told : (n : TypeName) (s : List ℕ) (e : Diagnostic) → RefusesText IsFull (type_of n) s e → e.kind ≢ kind.OutOfMemory → IsRefused (Read n) s e
-told n s e fault other = by (fault.blames (full n)) where
-  by : (e.kind ≡ kind.OutOfMemory) ⊎ TextFault (type_of n) s e × MeansNone (type_of n) s ⊎ (e.kind ≡ kind.WasmValueError) × (IsFull (type_of n) → ⊥) → IsRefused (Read n) s e
+pub told : (name : TypeName) (n : ℕ) (s : List ℕ) (e : Diagnostic) → (HasDistinctNames (type_of name) → BlamesText IsFull (type_of name) n s e) → e.kind ≢ kind.OutOfMemory → IsRefused (Read name n) s e
+told name n s e blames other = by (blames (full name)) where
+  by : BlamesText IsFull (type_of name) n s e → IsRefused (Read name n) s e
   by (inl memory) = absurd (other memory)
   by (inr (inl (wrong, none))) = (wrong, λ answer found. none found.0 found.1)
-  by (inr (inr (is, partly))) = absurd (partly (full n))
+  by (inr (inr (is, partly))) = absurd (partly (full name))
+
+-- ---- a parser in front of the text
+
+-- a value that was read there, with nothing behind it
+pub read_whole : (name : TypeName) (n : ℕ) (s : List ℕ) (T : TypeTree) (old : Parsing) (p : Place) (v : TypedValue) → T ≡ type_of name → old ≡ limited (first_at (front_of s)) n →
+    IsValueTaken (λ (v : TypedValue). v.tree) (λ v T. IsAt T v) T old.limit old.place p v → Finishes (Ok tt) p → IsReadAt name n s v
+read_whole name n s T old p v named first taken ends =
+    (whole_text (λ (v : TypedValue). v.tree) (λ v T. IsAt T v) IsFull (type_of name) n s).ends p v
+    (subst (λ (z : TypeTree). IsValueTaken (λ (v : TypedValue). v.tree) (λ v T. IsAt T v) z n (start_of s) p v) named
+    (subst (λ (z : Parsing). IsValueTaken (λ (v : TypedValue). v.tree) (λ v T. IsAt T v) T z.limit z.place p v) first taken)) ends
+
+-- a value with something behind it
+pub trails : (name : TypeName) (n : ℕ) (s : List ℕ) (T : TypeTree) (old : Parsing) (p : Place) (v : TypedValue) (e : Diagnostic) → T ≡ type_of name → old ≡ limited (first_at (front_of s)) n →
+    IsValueTaken (λ (v : TypedValue). v.tree) (λ v T. IsAt T v) T old.limit old.place p v → Finishes (Err e) p → e.kind ≢ kind.OutOfMemory → IsRefused (Read name n) s e
+trails name n s T old p v e named first taken ends =
+    told name n s e ((whole_text (λ (v : TypedValue). v.tree) (λ v T. IsAt T v) IsFull (type_of name) n s).trails p v e
+    (subst (λ (z : TypeTree). IsValueTaken (λ (v : TypedValue). v.tree) (λ v T. IsAt T v) z n (start_of s) p v) named
+    (subst (λ (z : Parsing). IsValueTaken (λ (v : TypedValue). v.tree) (λ v T. IsAt T v) T z.limit z.place p v) first taken)) ends).blames
+
+-- a value that was refused
+pub refused_there : (name : TypeName) (n : ℕ) (s : List ℕ) (T : TypeTree) (old : Parsing) (p : Place) (e : Diagnostic) → T ≡ type_of name → old ≡ limited (first_at (front_of s)) n →
+    RefusesValue IsFull T old.limit e old.place p → e.kind ≢ kind.OutOfMemory → IsRefused (Read name n) s e
+refused_there name n s T old p e named first refused =
+    told name n s e ((whole_text (λ (v : TypedValue). v.tree) (λ v T. IsAt T v) IsFull (type_of name) n s).refused p e
+    (subst (λ (z : TypeTree). RefusesValue IsFull z n e (start_of s) p) named
+    (subst (λ (z : Parsing). RefusesValue IsFull T z.limit e z.place p) first refused))).1

@@ -1,5 +1,5 @@
 -- What reading without a type says of a request.
-use Rattle.std.proofs.Common.{ℕ, ◌≡◌, ◌≢◌, ◌++◌, List, Option, Some, None, ap, sym, ◌∙◌}
+use Rattle.std.proofs.Common.{ℕ, ◌≡◌, ◌≢◌, ◌++◌, List, [], Option, Some, None, Ok, Err, ap, sym, subst, ◌∙◌}
 use Rattle.wave_lex.specs.Errors.{Diagnostic}
 use Rattle.wave_lex.specs.declared.error.ParserErrorKind.TheVariants as kind
 use Rattle.wave_grammar.specs.Tree.{MaybeTree, shown}
@@ -8,7 +8,12 @@ use Rattle.wave_grammar.specs.SpannedTree.{Placed, tree_of, slice}
 use Rattle.wave_node.specs.NodeTree.{NodeTree}
 use Rattle.wave_node.specs.Nodes.{placed_of}
 use Rattle.wave_tree.specs.NodeDisplay.{shown_placed, shown_at}
-use Rattle.wave_tree.specs.Untyped.{Untyped, IsUntypedOf, RefusesTree}
+use Rattle.wave_tree.specs.ParserState.{Parsing, Finishes, first_at, limited, front_of}
+use Rattle.wave_tree.specs.Untyped.{Untyped, IsUntypedTaken, IsUntypedOf, RefusesTree}
+use Rattle.wave_tree.proofs.ValueReading.{whole_tree}
+use Rattle.wave_grammar.specs.ParserPosition.{Place}
+use Rattle.wave_grammar.specs.PrefixAutomaton.{value}
+use Rattle.wave_grammar.specs.SyntaxErrors.{LeadsBehindValue, FailsBySyntax}
 use Rattle.wave_tree.specs.UntypedCall.{Called, IsCalledOf, RefusesCall, MeansParams, params_at, call_shown}
 use Rattle.wave.specs.declared.request.Request.TheVariants.{Value, Call}
 use Rattle.wave.specs.Answers.{Answers, IsRefused}
@@ -24,8 +29,8 @@ params_shown source name None params is = sym (ap (shown_call name) is)
 params_shown source name (Some n) params (t, node, is) = ap (λ (z : List ℕ). name ++ z) (shown_known source n t node.0) ∙ sym (ap (shown_call name) is)
 
 -- the display of the tree is the answer
-pub displayed : (s : List ℕ) (u : Untyped) (answer : List ℕ) → IsUntypedOf s u → answer ≡ shown_at u.source u.node → Answers Value s answer
-displayed s u answer of same =
+pub displayed : (n : ℕ) (s : List ℕ) (u : Untyped) (answer : List ℕ) → IsUntypedOf n s u → answer ≡ shown_at u.source u.node → Answers (Value n) s answer
+displayed n s u answer of same =
     (tree_of of.placed, of.spelled, same ∙ (ap (λ source. shown_at source u.node) of.source ∙ shown_known s u.node of.placed of.is_node.0))
 
 -- the display of the call is the answer
@@ -38,9 +43,25 @@ call_displayed s u answer of same = (
 )
 
 -- a refusal tells a fault of the text, which spells no tree; or it is want of memory
-pub spells_none : (s : List ℕ) (e : Diagnostic) → RefusesTree s e → e.kind ≢ kind.OutOfMemory → IsRefused Value s e
-spells_none s e fault other = ((fault other).0, λ answer found. (fault other).1 found.0 found.1)
+pub spells_none : (n : ℕ) (s : List ℕ) (e : Diagnostic) → RefusesTree n s e → e.kind ≢ kind.OutOfMemory → IsRefused (Value n) s e
+spells_none n s e fault other = ((fault other).0, λ answer found. (fault other).1 found.0 found.1)
 
 -- a refusal tells a fault of the text, which is no call; or it is want of memory
 pub is_no_call : (s : List ℕ) (e : Diagnostic) → RefusesCall s e → e.kind ≢ kind.OutOfMemory → IsRefused Call s e
 is_no_call s e fault other = ((fault other).0, λ answer found. (fault other).1 found.0 found.1 found.2)
+
+-- ---- a parser in front of the text
+
+-- a tree that was read there, with nothing behind it
+pub tree_whole : (n : ℕ) (s : List ℕ) (old : Parsing) (p : Place) (u : Untyped) → old ≡ limited (first_at (front_of s)) n → IsUntypedTaken old.limit old.place p u → Finishes (Ok tt) p → IsUntypedOf n s u
+tree_whole n s old p u first taken ends = (whole_tree n s).ends p u (subst (λ (z : Parsing). IsUntypedTaken z.limit z.place p u) first taken) ends
+
+-- a tree with something behind it
+pub tree_trails : (n : ℕ) (s : List ℕ) (old : Parsing) (p : Place) (u : Untyped) (e : Diagnostic) → old ≡ limited (first_at (front_of s)) n →
+    LeadsBehindValue old.limit value [] old.place p [] → IsUntypedTaken old.limit old.place p u → Finishes (Err e) p → RefusesTree n s e
+tree_trails n s old p u e first read taken ends =
+    (whole_tree n s).trails p u e (subst (λ (z : Parsing). LeadsBehindValue z.limit value [] z.place p []) first read) (subst (λ (z : Parsing). IsUntypedTaken z.limit z.place p u) first taken) ends
+
+-- a tree that was refused
+pub tree_refused : (n : ℕ) (s : List ℕ) (old : Parsing) (p : Place) (e : Diagnostic) → old ≡ limited (first_at (front_of s)) n → FailsBySyntax e old.limit value [] old.place p → RefusesTree n s e
+tree_refused n s old p e first refused = (whole_tree n s).refused p e (subst (λ (z : Parsing). FailsBySyntax e z.limit value [] z.place p) first refused)

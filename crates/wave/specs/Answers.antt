@@ -18,17 +18,17 @@ use Rattle.wave.specs.declared.input.Fault.TheVariants.{NotUtf8, InputFailed, Ou
 use Rattle.wave.specs.Requests.{type_of}
 use Rattle.wave.specs.ReadFaults.{IsReadToEnd, IsUnread}
 
--- the request on the text has the answer: the display of the tree that the text spells, that of the call that it is, or the canonical text of the value that it means at the type
+-- the request on the text has the answer: the display of the tree that the text spells within n levels, that of the call that it is, or the canonical text of the value that it means at the type within n levels
 abbrev pub Answers : Request → List ℕ → List ℕ → Type 0
-Answers request.Value whole answer = (t : Tree) × SpellsText whole t × (answer ≡ shown t)
+Answers (request.Value n) whole answer = (t : Tree) × SpellsText n whole t × (answer ≡ shown t)
 Answers request.Call whole answer = (name : List ℕ) × (params : MaybeTree) × IsCall whole name params × (answer ≡ shown_call name params)
-Answers (request.Read name) whole answer = (v : Value) × Means (type_of name) whole v × (answer ≡ text v)
+Answers (request.Read name n) whole answer = (v : Value) × Means (type_of name) n whole v × (answer ≡ text v)
 
 -- the refusal tells a fault of the text: its kind, its cause and its place
 abbrev pub TellsFaultOf : Request → List ℕ → Diagnostic → Type 0
-TellsFaultOf request.Value whole e = SyntaxFault whole e
+TellsFaultOf (request.Value n) whole e = SyntaxFault n whole e
 TellsFaultOf request.Call whole e = CallFault whole e
-TellsFaultOf (request.Read name) whole e = TextFault (type_of name) whole e
+TellsFaultOf (request.Read name n) whole e = TextFault (type_of name) n whole e
 
 -- the request on the text has no answer, and the refusal tells why
 abbrev pub IsRefused : Request → List ℕ → Diagnostic → Type 0
@@ -61,4 +61,4 @@ module _ {R : Type 0} where
 
 -- what is written for words that make no request
 abbrev pub usage : List ℕ
-usage = line (codes "usage: wave value | wave call | wave read NAME")
+usage = line (codes "usage: wave value [N] | wave call | wave read NAME [N]")

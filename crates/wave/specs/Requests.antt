@@ -1,7 +1,9 @@
 -- What the words after the program's name ask for.
-use Rattle.std.specs.Prelude.{ℕ, List, [], ◌∷◌, ◌≡◌, Some, None, codes}
+use Rattle.std.specs.Prelude.{ℕ, List, [], ◌∷◌, ◌++◌, ◌≡◌, ◌≢◌, ◌⊎◌, Some, None, codes}
 use Rattle.wave_wasm.specs.Types as type
 use Rattle.wave_wasm.specs.Types.{TypeTree, fields_of, cases_of}
+use Rattle.wave_grammar.specs.NumberText.{all_digits}
+use Rattle.wave_tree.specs.ParserState.{IsLimit}
 use Rattle.wave.specs.declared.request.TypeName.{TypeName}
 use Rattle.wave.specs.declared.request.TypeName.TheVariants as name
 use Rattle.wave.specs.declared.request.Request.{Request}
@@ -27,11 +29,30 @@ word_of name.Response = codes "response"
 word_of name.Example = codes "example"
 word_of name.Counts = codes "counts"
 
--- the words that make the request
-abbrev pub words_of : Request → List (List ℕ)
-words_of Value = codes "value" ∷ []
-words_of Call = codes "call" ∷ []
-words_of (Read name) = codes "read" ∷ word_of name ∷ []
+-- the word has no leading zero
+abbrev pub HasNoLeadingZero : List ℕ → Type 0
+HasNoLeadingZero [] = Unit {0}
+HasNoLeadingZero (digit ∷ digits) = digit ≢ 48
+
+-- the word is n in decimal digits, a limit of levels, without a leading zero
+abbrev pub IsLimitWord : List ℕ → ℕ → Type 0
+IsLimitWord word n = (all_digits word ≡ Some n) × HasNoLeadingZero word × IsLimit n
+
+-- these words stand alone, and n is 100; or behind them stands a word that is n
+abbrev pub TellLimit : List (List ℕ) → List (List ℕ) → ℕ → Type 0
+TellLimit words front n = (words ≡ front) × (n ≡ 100) ⊎ ((word : List ℕ) × (words ≡ front ++ word ∷ []) × IsLimitWord word n)
+
+-- the words make the request
+abbrev pub AreWordsOf : Request → List (List ℕ) → Type 0
+AreWordsOf (Value n) words = TellLimit words (codes "value" ∷ []) n
+AreWordsOf Call words = words ≡ codes "call" ∷ []
+AreWordsOf (Read name n) words = TellLimit words (codes "read" ∷ word_of name ∷ []) n
+
+-- the limit of the request is one that a parser may be handed
+abbrev pub HasLimit : Request → Type 0
+HasLimit (Value n) = IsLimit n
+HasLimit Call = Unit {0}
+HasLimit (Read name n) = IsLimit n
 
 -- `list<u8>`
 abbrev pub bytes_type : TypeTree
@@ -86,4 +107,4 @@ type_of name.Counts = counts_type
 
 -- the words make no request
 abbrev pub AreUnknown : List (List ℕ) → Type 0
-AreUnknown words = (request : Request) → words ≡ words_of request → ⊥
+AreUnknown words = (request : Request) → AreWordsOf request words → ⊥

@@ -5,7 +5,7 @@ use Rattle.wave_lex.specs.Errors.{Diagnostic, error_text}
 use Rattle.wave.specs.declared.request.Request.{Request}
 use Rattle.wave.specs.declared.input.Fault.{Fault}
 use Rattle.wave.specs.declared.input.Input.{Input}
-use Rattle.wave.specs.Requests.{words_of, AreUnknown}
+use Rattle.wave.specs.Requests.{AreWordsOf, AreUnknown}
 use Rattle.wave.specs.Answers.{Answers, IsRefused, IsInput, IsFaultOf, line, words_of_fault, usage}
 use Rattle.wave.specs.ReadFaults.{IsReadToEnd}
 
@@ -35,4 +35,4 @@ module _ {R : Type 0} where
   abbrev pub IsDue : List (List ℕ) → Option (List ℕ) → Input R → Input R → ℕ → List ℕ → Type 0
   IsDue words left old new status said =
       (status ≡ 2) × IsUsage words said
-      ⊎ ((request : Request) × (words ≡ words_of request) × IsDueTo request left old new status said)
+      ⊎ ((request : Request) × AreWordsOf request words × IsDueTo request left old new status said)

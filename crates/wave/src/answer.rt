@@ -3,17 +3,19 @@ ghost use Rattle.std.specs.Prelude.{◌≡◌, MatchResult, string_bytes};
 ghost use Rattle.wave_wasm.specs.WriterState.{IsWantOfMemory};
 ghost use Rattle.wave.specs.declared.answer.Unanswered.TheVariants as why;
 ghost use Rattle.wave.specs.declared.request.Request.TheVariants as request;
+ghost use Rattle.wave_tree.specs.ParserState.{IsLimit};
+ghost use Rattle.wave.specs.Requests.{HasLimit};
 ghost use Rattle.wave.specs.Answers.{Answers};
 ghost use Rattle.wave.specs.Private.Answers.{IsUnanswered, MatchesRefusal};
 
 use crate::request::{Request, TypeName};
 use crate::types::type_of;
 use std::alloc::{AllocError, Global};
-use wasm_wave::parser::{ParserError, ParserErrorKind};
-use wasm_wave::untyped::{UntypedFuncCall, UntypedValue};
+use wasm_wave::parser::{Parser, ParserError, ParserErrorKind};
+use wasm_wave::to_string;
+use wasm_wave::untyped::UntypedFuncCall;
 use wasm_wave::value::Value;
 use wasm_wave::writer::WriterError;
-use wasm_wave::{from_str, to_string};
 
 /// Why a request has no answer on a text: the text is refused, or memory ran out.
 #[derive(Drop)]
@@ -44,24 +46,28 @@ impl From<ParserError> for Unanswered {
 
 /// The answer of the request on the text.
 pub fn answer(alloc: Global, request: Request, text: &str) -> Result<String, Unanswered>
+    requires { HasLimit request }
     ensures { MatchResult result
         (λ answer. Answers request text.now (string_bytes answer))
         (IsUnanswered request text.now) }
 {
     match request {
-        Request::Value => value(alloc, text),
+        Request::Value(levels) => value(alloc, levels, text),
         Request::Call => call(alloc, text),
-        Request::Read(name) => read(alloc, name, text),
+        Request::Read(name, levels) => read(alloc, name, levels, text),
     }
 }
 
-/// The display of the tree that the text spells.
-fn value(alloc: Global, text: &str) -> Result<String, Unanswered>
+/// The display of the tree that the text spells within so many levels.
+fn value(alloc: Global, levels: u32, text: &str) -> Result<String, Unanswered>
+    requires { IsLimit levels }
     ensures { MatchResult result
-        (λ answer. Answers request.Value text.now (string_bytes answer))
-        (IsUnanswered request.Value text.now) }
+        (λ answer. Answers (request.Value levels) text.now (string_bytes answer))
+        (IsUnanswered (request.Value levels) text.now) }
 {
-    let value = UntypedValue::parse(alloc, text)?;
+    let mut parser = Parser::new(text).with_limit(levels);
+    let value = parser.parse_raw_value(alloc)?;
+    parser.finish()?;
     Ok(value.to_string(alloc)?)
 }
 
@@ -75,14 +81,17 @@ fn call(alloc: Global, text: &str) -> Result<String, Unanswered>
     Ok(call.to_string(alloc)?)
 }
 
-/// The canonical text of the value that the text means at the named type.
-fn read(alloc: Global, name: TypeName, text: &str) -> Result<String, Unanswered>
+/// The canonical text of the value that the text means at the named type within so many levels.
+fn read(alloc: Global, name: TypeName, levels: u32, text: &str) -> Result<String, Unanswered>
+    requires { IsLimit levels }
     ensures { MatchResult result
-        (λ answer. Answers (request.Read name) text.now (string_bytes answer))
-        (IsUnanswered (request.Read name) text.now) }
+        (λ answer. Answers (request.Read name levels) text.now (string_bytes answer))
+        (IsUnanswered (request.Read name levels) text.now) }
 {
     let ty = type_of(alloc, name)?;
-    let value = from_str::<Value>(alloc, &ty, text)?;
+    let mut parser = Parser::new(text).with_limit(levels);
+    let value = parser.parse_value::<Value>(alloc, &ty)?;
+    parser.finish()?;
     match to_string(alloc, &value) {
         Ok(answer) => Ok(answer),
         Err(error) => Err(for_memory(error)),

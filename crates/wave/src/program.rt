@@ -2,7 +2,7 @@
 ghost use Rattle.std.specs.Prelude.{ℕ, List, ◌≡◌, ◌≤◌, true, false, map, IfOk, IfErr, IfSome, string_bytes};
 ghost use Rattle.wave.specs.ReadFaults.{IsReadToEnd, IsReadFault};
 ghost use Rattle.wave.specs.Written.{WritesWhole, WritesLess, Prints};
-ghost use Rattle.wave.specs.Requests.{AreUnknown};
+ghost use Rattle.wave.specs.Requests.{AreUnknown, HasLimit};
 ghost use Rattle.wave.specs.Answers.{IsFaultOf, line, words_of_fault};
 ghost use Rattle.wave.specs.Private.Answers.{IsOutcome};
 ghost use Rattle.wave.specs.Statuses.{IsDue};
@@ -16,7 +16,7 @@ use std::io::{Read, Write};
 
 const CHUNK: usize = 65_536;
 
-const USAGE: &str = "usage: wave value | wave call | wave read NAME\n";
+const USAGE: &str = "usage: wave value [N] | wave call | wave read NAME [N]\n";
 
 /// Answers the words on the input, and gives the status to end with: 0 where the request has an
 /// answer, 1 where it has none, 2 where the words make no request, and 3 where the input or the
@@ -101,6 +101,7 @@ enum Outcome {
 
 /// The outcome of the request on all of the input.
 fn respond<R: Read>(alloc: Global, request: Request, input: &mut Input<R>) -> Result<Outcome, Fault>
+    requires { HasLimit request }
     ensures outcome { IfOk result (λ outcome.
         IsOutcome request (R.remaining input.old.reader) outcome × IsReadToEnd input.old input.new) }
     ensures fault { IfErr result (IsFaultOf (R.remaining input.old.reader) input.old input.new) }

@@ -1,8 +1,11 @@
 // What the words after the program's name ask for.
-ghost use Rattle.std.specs.Prelude.{[], ◌∷◌, ◌≡◌, ◌≢◌, MatchOption, map, string_bytes};
+ghost use Rattle.std.specs.Prelude.{ℕ, [], ◌∷◌, ◌≡◌, ◌≢◌, MatchOption, map, string_bytes};
 ghost use Rattle.wave.specs.declared.request.TypeName.{TypeName};
 ghost use Rattle.wave.specs.declared.request.Request.{Request};
-ghost use Rattle.wave.specs.Requests.{word_of, words_of, AreUnknown};
+ghost use Rattle.wave.specs.Requests.{word_of, IsLimitWord, AreWordsOf, AreUnknown};
+
+use wasm_wave::WholeNumber;
+use wasm_wave::parser::{DEFAULT_LEVELS, MAX_LEVELS};
 
 /// A type that the program reads.
 #[derive(Clone, Copy, Debug, PartialEq, Eq)]
@@ -35,12 +38,12 @@ pub enum TypeName {
 /// What the program is to do.
 #[derive(Clone, Copy, Debug, PartialEq, Eq)]
 pub enum Request {
-    /// A text is read without a type, and displayed.
-    Value,
+    /// A text is read without a type, within so many levels, and displayed.
+    Value(u32),
     /// A call is read without types, and displayed.
     Call,
-    /// A text is read at the type, and the canonical text of its value printed.
-    Read(TypeName),
+    /// A text is read at the type, within so many levels, and the canonical text of its value printed.
+    Read(TypeName, u32),
 }
 
 /// The type that the word names.
@@ -71,40 +74,71 @@ fn type_name(word: &str) -> Option<TypeName>
     }
 }
 
+/// The limit that the word writes: a decimal number from 1 to `MAX_LEVELS` without a leading zero.
+fn limit_of(word: &str) -> Option<u32>
+    ensures { MatchOption result
+        ((n : ℕ) → IsLimitWord word.now n → ⊥)
+        (IsLimitWord word.now) }
+{
+    if let [b'0', ..] = word.as_bytes() {
+        return None;
+    }
+    let levels = u32::from_text(word)?;
+    if 1 <= levels && levels <= MAX_LEVELS {
+        Some(levels)
+    } else {
+        None
+    }
+}
+
 /// The request that one word makes.
 fn one_word(word: &str) -> Option<Request>
     ensures { MatchOption result
         (AreUnknown (word.now ∷ []))
-        (λ request. word.now ∷ [] ≡ words_of request) }
+        (λ request. AreWordsOf request (word.now ∷ [])) }
 {
     match word {
-        "value" => Some(Request::Value),
+        "value" => Some(Request::Value(DEFAULT_LEVELS)),
         "call" => Some(Request::Call),
         _ => None,
     }
 }
 
 /// The request that two words make.
-fn two_words(word: &str, name: &str) -> Option<Request>
+fn two_words(first: &str, second: &str) -> Option<Request>
     ensures { MatchOption result
-        (AreUnknown (word.now ∷ name.now ∷ []))
-        (λ request. word.now ∷ name.now ∷ [] ≡ words_of request) }
+        (AreUnknown (first.now ∷ second.now ∷ []))
+        (λ request. AreWordsOf request (first.now ∷ second.now ∷ [])) }
 {
-    if word != "read" {
+    match first {
+        "value" => Some(Request::Value(limit_of(second)?)),
+        "read" => Some(Request::Read(type_name(second)?, DEFAULT_LEVELS)),
+        _ => None,
+    }
+}
+
+/// The request that three words make.
+fn three_words(first: &str, second: &str, third: &str) -> Option<Request>
+    ensures { MatchOption result
+        (AreUnknown (first.now ∷ second.now ∷ third.now ∷ []))
+        (λ request. AreWordsOf request (first.now ∷ second.now ∷ third.now ∷ [])) }
+{
+    if first != "read" {
         return None;
     }
-    Some(Request::Read(type_name(name)?))
+    Some(Request::Read(type_name(second)?, limit_of(third)?))
 }
 
 /// The request that the words make.
 pub fn request_of(words: &[String]) -> Option<Request>
     ensures { MatchOption result
         (AreUnknown (map string_bytes words.now))
-        (λ request. map string_bytes words.now ≡ words_of request) }
+        (λ request. AreWordsOf request (map string_bytes words.now)) }
 {
     match words {
         [word] => one_word(word.as_str()),
-        [word, name] => two_words(word.as_str(), name.as_str()),
+        [first, second] => two_words(first.as_str(), second.as_str()),
+        [first, second, third] => three_words(first.as_str(), second.as_str(), third.as_str()),
         _ => None,
     }
 }

@@ -226,7 +226,7 @@ fn refuses_with_a_place(rt: HostRuntime) -> Result<(), Fail> {
 
 #[test]
 fn words_come_before_input(rt: HostRuntime) -> Result<(), Fail> {
-    let usage = &b"usage: wave value | wave call | wave read NAME\n"[..];
+    let usage = &b"usage: wave value [N] | wave call | wave read NAME [N]\n"[..];
     for words in [
         &["read", "f64"][..],
         &["read", "u9"][..],
@@ -234,8 +234,16 @@ fn words_come_before_input(rt: HostRuntime) -> Result<(), Fail> {
         &["write", "u8"][..],
         &["help"][..],
         &["value", "u8"][..],
+        &["value", "0"][..],
+        &["value", "1001"][..],
+        &["value", "010"][..],
+        &["value", "1", "1"][..],
         &["call", "f"][..],
+        &["call", "1"][..],
         &["read", "u8", "u8"][..],
+        &["read", "u8", "0"][..],
+        &["read", "u8", "1001"][..],
+        &["read", "u8", "1", "1"][..],
         &[][..],
     ] {
         let alloc = rt.alloc();
@@ -253,6 +261,44 @@ fn words_come_before_input(rt: HostRuntime) -> Result<(), Fail> {
         );
         assert_eq!(rt; written.as_slice(), usage);
         assert_eq!(rt; reader.len(), 3);
+    }
+    Ok(())
+}
+
+#[test]
+fn reads_within_a_limit(rt: HostRuntime) -> Result<(), Fail> {
+    for (words, input, status, output) in [
+        (&["value", "1"][..], &b"[]"[..], 0, &b"[]\n"[..]),
+        (
+            &["value", "1"][..],
+            &b"[1]"[..],
+            1,
+            &b"value nesting too deep at 0..1\n"[..],
+        ),
+        (&["value", "2"][..], &b"[1]"[..], 0, &b"[1]\n"[..]),
+        (&["read", "bytes", "1"][..], &b"[]"[..], 0, &b"[]\n"[..]),
+        (
+            &["read", "bytes", "1"][..],
+            &b"[1]"[..],
+            1,
+            &b"value nesting too deep at 0..1\n"[..],
+        ),
+        (
+            &["read", "example", "2"][..],
+            &b"{must-have: 1, optional: 7}"[..],
+            0,
+            &b"{must-have: 1, optional: some(7)}\n"[..],
+        ),
+        (
+            &["read", "example", "2"][..],
+            &b"{must-have: 1, optional: some(7)}"[..],
+            1,
+            &b"value nesting too deep at 29..30\n"[..],
+        ),
+    ] {
+        let (ended, written) = answers(rt.alloc(), words, input)?;
+        assert_eq!(rt; ended, status);
+        assert_eq!(rt; written.as_slice(), output);
     }
     Ok(())
 }

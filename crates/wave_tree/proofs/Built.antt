@@ -48,3 +48,7 @@ pub whole_built : {M Q : Type 0} (Of : List ℕ → NodeTree → M → Type 0) (
 whole_built Of Are p q ty start made parts children B e are of b =
     let n = node ty (span start q.lexer.end) (node_trees children) in
     (n, b, subst (λ (s : List ℕ). Of s n made) e (of children (subst (λ (s : List ℕ). Are s children parts) (sym e) are)))
+
+-- a node that was made of itself
+pub as_node : (Is : NodeTree → Type 0) (made : NodeTree) → (n : NodeTree) × Is n × (made ≡ n) → Is made
+as_node Is made (n, is, e) = subst Is (sym e) is

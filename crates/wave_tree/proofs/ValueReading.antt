@@ -1,23 +1,65 @@
 -- What reading a text at a type says of the text.
 use Rattle.std.proofs.Common.{◌≡◌, ◌≢◌, ℕ, inl, inr, List, [], sym, ap, subst, ◌∙◌, None}
 use Rattle.std.specs.Prelude.{◌⊎◌}
-use Rattle.wave_wasm.specs.Types.{TypeTree, HasDistinctNames}
+use Rattle.wave_wasm.specs.Types.{TypeTree, HasDistinctNames, IsOwn}
 use Rattle.wave_wasm.specs.Values.{Value}
+use Rattle.wave_wasm.specs.HasType.{HasType}
+use Rattle.wave_lex.specs.Labels.{Good}
 use Rattle.wave_lex.specs.declared.error.ParserErrorKind.TheVariants as kind
 use Rattle.wave_lex.specs.Errors.{Diagnostic, Refusal, LiesInText, refusal_of}
-use Rattle.wave_grammar.specs.SpannedTree.{tree_of}
+use Rattle.wave_grammar.specs.SpannedTree.{Placed, tree_of}
 use Rattle.wave_grammar.specs.TypeErrors.{Fault}
 use Rattle.wave_grammar.specs.ParserPosition.{Place, TakesItem}
 use Rattle.wave_grammar.specs.PrefixAutomaton.{value}
-use Rattle.wave_grammar.specs.SyntaxErrors.{IsSyntaxError}
+use Rattle.wave_grammar.specs.SyntaxErrors.{LeadsBehindValue, IsSyntaxError}
+use Rattle.wave_node.specs.NodeTree.{NodeTree}
+use Rattle.wave_node.specs.Nodes.{IsNodeOf}
+use Rattle.wave_node.specs.ErrorSpans.{HasTypeKind}
 use Rattle.wave_node.specs.TypedReading as typed
 use Rattle.wave_tree.specs.ParserState.{Parsing, IsTrailing, StaysWithout, first_at, limited, front_of, start_of}
-use Rattle.wave_tree.specs.FromStr.{IsValueTaken, IsRead, IsTypeRefused, RefusesValue, IsCausedBetween, RefusesFront, BlamesText, RefusesText}
+use Rattle.wave_tree.specs.ParsedNodes.{IsNodeTaken}
+use Rattle.wave_tree.specs.FromStr.{PrintsWithinTwice, IsValueTaken, IsRead, IsTypeRefused, RefusesValue, IsCausedBetween, RefusesFront, BlamesText, RefusesText}
 use Rattle.wave_tree.proofs.TextReading.{all_cut, means_of, whole_read, refused_means_none, nothing_there, memory_or}
-use Rattle.wave_tree.proofs.UntypedReading.{refused_spells_none, trailing_spells_none}
+use Rattle.wave_tree.specs.WholeTextLaws.{ReadsWholeText, ReadsWholeTree}
+use Rattle.wave_tree.proofs.UntypedReading.{untyped_of, refused_spells_none, trailing_spells_none}
 use Rattle.wave_tree.proofs.ErrorSpans.Syntax.{trailing_kind}
 use Rattle.wave_tree.proofs.ErrorSpans.Trailing.{trailing_lies}
-use Rattle.wave_grammar.proofs.RoundTrip.ReadsBack.{reads_merged}
+use Rattle.wave_grammar.proofs.Elaboration.TreeToGrammar.{back}
+use Rattle.wave_grammar.proofs.RoundTrip.ReadsBack.{reads_merged, twice}
+
+-- ---- nodes at a type
+
+-- what the type gives a node that was taken
+pub node_read : {V : Type 0} (tree_of_value : V → Value) (of : V → TypeTree → Type 0) (T : TypeTree) (n : ℕ) (source : List ℕ) (old new : Place) (parsed : NodeTree) (v : V) →
+    source ≡ old.lexer.source → LeadsBehindValue n value [] old new [] → IsNodeTaken n old new parsed →
+    ((t : Placed) → IsNodeOf source parsed t → HasDistinctNames T → typed.IsTypedValue tree_of_value of T t v) → IsValueTaken tree_of_value of T n old new v
+node_read tree_of_value of T n source old new parsed v same read h answer = record {
+  placed = h.placed;
+  read = record { read = read; taken = h.taken; stands = h.stands; spelled = h.is_node.1 };
+  means = λ distinct. answer h.placed (subst (λ (s : List ℕ). IsNodeOf s parsed h.placed) (sym same) h.is_node) distinct;
+}
+
+-- why it gives it no value
+pub node_refused : (Full : TypeTree → Type 0) (T : TypeTree) (n : ℕ) (source : List ℕ) (old new : Place) (parsed : NodeTree) (e : Diagnostic) →
+    source ≡ old.lexer.source → LeadsBehindValue n value [] old new [] → IsNodeTaken n old new parsed → HasTypeKind e →
+    ((t : Placed) → IsNodeOf source parsed t → HasDistinctNames T → typed.IsTypeError Full T t e) → e.kind ≢ kind.OutOfMemory → IsTypeRefused Full T n e old new
+node_refused Full T n source old new parsed e same read h of_type answer apart = record {
+  placed = h.placed;
+  read = record { read = read; taken = h.taken; stands = h.stands; spelled = h.is_node.1 };
+  kind = of_type;
+  blames = λ distinct. elim (answer h.placed (subst (λ (s : List ℕ). IsNodeOf s parsed h.placed) (sym same) h.is_node) distinct) [
+    | inl memory ↦ absurd (apart memory)
+    | inr other ↦ other
+  ];
+}
+
+-- a value that was read within n levels prints within twice as many
+pub value_prints : {V : Type 0} (tree_of_value : V → Value) (of : V → TypeTree → Type 0) → ((v : V) (T : TypeTree) → of v T → HasType T (tree_of_value v)) →
+    (T : TypeTree) (n : ℕ) (old new : Place) (v : V) → IsValueTaken tree_of_value of T n old new v → Good T → IsOwn T → PrintsWithinTwice T n (tree_of_value v)
+value_prints tree_of_value of fits T n old new v h good own =
+    let taken = h.read.taken in
+    let it = h.means good.1 in
+    twice T good own n taken.tokens (tree_of_value v) (fits v T it.is_of) (back T n taken.tokens (tree_of h.placed) (tree_of_value v) [] taken.takes it.reads)
 
 -- ---- refused values
 
@@ -91,3 +133,21 @@ value_read tree_of_value of T n s p v h ends =
           let means = means_of T n s p (tree_of h.placed) (tree_of_value v) taken ends it.reads in
           (means, it.is_of, reads_merged T n means.0 [] (tree_of_value v) means.2);
     }
+
+-- ---- whole texts
+
+-- a value at the front of a text, and what follows it
+pub whole_text : {V : Type 0} (tree_of_value : V → Value) (of : V → TypeTree → Type 0) (Full : TypeTree → Type 0) (T : TypeTree) (n : ℕ) (s : List ℕ) → ReadsWholeText tree_of_value of Full T n s
+whole_text tree_of_value of Full T n s = record {
+  ends = λ p v taken ends. value_read tree_of_value of T n s p v taken ends;
+  trails = λ p v e taken trails. trailing_refused tree_of_value of Full T n s p v e taken trails;
+  refused = λ p e refused. (front_refused Full T n s p e refused, text_blamed Full T n s p e refused);
+}
+
+-- an untyped value there
+pub whole_tree : (n : ℕ) (s : List ℕ) → ReadsWholeTree n s
+whole_tree n s = record {
+  ends = λ p u taken ends. untyped_of n s p u taken ends;
+  trails = λ p u e read taken trails. trailing_spells_none n s e p (tree_of taken.1.placed) read taken.1.taken trails;
+  refused = λ p e refused. refused_spells_none n s e p refused;
+}

@@ -8,3 +8,4 @@ pub mod Untyped
 pub mod ParserLaws
 pub mod DisplayKeeps
 pub mod UntypedLaws
+pub mod WholeTextLaws

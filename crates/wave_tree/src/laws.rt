@@ -1,7 +1,10 @@
 //! Laws of what a parser answers; those of the grammar and of nodes under the same names.
+ghost use Rattle.std.specs.Prelude.{ℕ, List};
+ghost use Rattle.wave_wasm.specs.Types.{TypeTree};
 ghost use Rattle.wave_grammar.specs.EquivalenceLaws.{MeansByTree};
 ghost use Rattle.wave_tree.specs.UntypedLaws.{ReadAlike, RefusedAlike};
 ghost use Rattle.wave_tree.specs.ParserLaws.{ReadHaveATree, RefusedHaveNone, AskingsAreFew, RefusalsLieInText};
+ghost use Rattle.wave_tree.specs.WholeTextLaws.{ReadsWholeText, ReadsWholeTree};
 ghost use Rattle.wave_node.specs.NodeLaws.{FaultsLieInText};
 
 pub use wave_grammar::laws::{
@@ -31,6 +34,14 @@ pub fn untyped_reading_agrees<V: WasmValue>()
     ensures tree { MeansByTree }
     ensures read { ReadAlike V.tree V.is_of }
     ensures refused { RefusedAlike }
+{}
+
+/// On a new parser with any limit, `parse_value` and then `finish` give a value exactly where the text
+/// means it within that many levels, as `from_str` does within its hundred; `parse_raw_value` and then
+/// `finish` give exactly the tree that the text spells within them.
+pub fn whole_texts_are_read<V: WasmValue>()
+    ensures typed { (T : TypeTree) (n : ℕ) (s : List ℕ) → ReadsWholeText V.tree V.is_of V.is_full T n s }
+    ensures untyped { (n : ℕ) (s : List ℕ) → ReadsWholeTree n s }
 {}
 
 /// A new parser in front of n tokens, which end or go on with what is no token, asks its lexer n + 1 times

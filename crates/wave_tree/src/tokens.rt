@@ -1,12 +1,11 @@
 //! The tokens of a source, and the nodes that they spell.
-ghost use Rattle.std.specs.Prelude.{◌≡◌, ◌≢◌, ◌↔◌, ℕ, ◌+◌, ◌-◌, ◌++◌, ◌≤◌, Some, None, Ok, Err, IfOk, IfErr, MatchResult, IsTrue, length, List, [], ◌∷◌};
-ghost use Rattle.wave_lex.specs.declared.lex.Token as lex;
+ghost use Rattle.std.specs.Prelude.{◌≡◌, ◌≢◌, ◌↔◌, ℕ, ◌+◌, ◌-◌, ◌++◌, ◌≤◌, Some, None, Ok, Err, IfOk, IfErr, IsTrue, List, [], ◌∷◌};
 ghost use Rattle.wave_lex.specs.declared.lex.Token.TheVariants as lex_class;
 ghost use Rattle.wave_lex.specs.declared.error.ParserErrorKind.TheVariants as kind;
 ghost use Rattle.wave_lex.specs.Errors.{class_name, repeated_name};
-ghost use Rattle.wave_grammar.specs.ParserPosition.{Place, TakesItem, TakesAny, IsSomething, span_at, text_at};
+ghost use Rattle.wave_grammar.specs.ParserPosition.{Place, TakesItem, IsSomething, span_at, text_at};
 ghost use Rattle.wave_grammar.specs.Tree.{word_of};
-ghost use Rattle.wave_grammar.specs.PrefixAutomaton.{Form, due_behind};
+ghost use Rattle.wave_grammar.specs.PrefixAutomaton.{due_behind};
 ghost use Rattle.wave_grammar.specs.PrefixAutomaton as due;
 ghost use Rattle.wave_grammar.specs.SyntaxErrors.{Gives};
 ghost use Rattle.wave_grammar.specs.Private.SyntaxErrors.{GivesWithin, GivesAnywhere};

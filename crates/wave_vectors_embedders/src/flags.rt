@@ -20,11 +20,11 @@ mod tests;
 /// but for want of memory only a text is refused that means no flags of it.
 pub fn read_flags(alloc: Global, ty: &NameSet, text: &str) -> Result<OrderedFlags, ParserError>
     ensures read { IfOk result
-        (λ names. AreDistinct ty.now → Means (type.flags ty.now) text.now (value.flags names)) }
+        (λ names. AreDistinct ty.now → Means (type.flags ty.now) 100 text.now (value.flags names)) }
     ensures of_type { IfOk result
         (λ names. AreDistinct ty.now → AreFlagsOf names (type.flags ty.now)) }
     ensures refused { IfErr result
-        (λ e. AreDistinct ty.now → e.kind ≢ OutOfMemory → MeansNone (type.flags ty.now) text.now) }
+        (λ e. AreDistinct ty.now → e.kind ≢ OutOfMemory → MeansNone (type.flags ty.now) 100 text.now) }
 {
     from_str::<OrderedFlags>(alloc, ty, text)
 }

@@ -1,6 +1,7 @@
 //! Texts of many levels.
 use std::test::Fail;
 use wasm_wave::from_str;
+use wasm_wave::parser::{DEFAULT_LEVELS, MAX_LEVELS, Parser};
 use wasm_wave::untyped::{UntypedFuncCall, UntypedValue};
 use wasm_wave::value::{Type, Value};
 use wave_vectors::cuts::{is_told_at_each_cut, is_told_from};
@@ -196,6 +197,59 @@ fn written_deeper_than_read(rt: HostRuntime) -> Result<(), Fail> {
     );
     let refusal = lists_of_options(rt, written.as_str())?;
     assert_eq!(rt; refusal.as_str(), "value nesting too deep at 299..300");
+    Ok(())
+}
+
+/// What a parser with the limit reads of the whole text at the type, printed, or its refusal.
+fn answer_within(rt: HostRuntime, ty: &str, text: &str, levels: u32) -> Result<String, Fail> {
+    let ty = type_of(rt.alloc(), ty)?;
+    let mut parser = Parser::new(text).with_limit(levels);
+    let read = match parser.parse_value::<Value>(rt.alloc(), &ty) {
+        Ok(value) => parser.finish().map(|_| value),
+        Err(error) => Err(error),
+    };
+    told(rt.alloc(), read)
+}
+
+#[test]
+fn limits_at_types(rt: HostRuntime) -> Result<(), Fail> {
+    let ty = within(rt, "list<option<", 59, "list<u8>", ">>")?;
+    let written = within(rt, "[some(", 59, "[]", ")]")?;
+    for (levels, expected) in [
+        (119, written.as_str()),
+        (118, "value nesting too deep at 353..354"),
+        (100, "value nesting too deep at 299..300"),
+    ] {
+        let answer = answer_within(rt, ty.as_str(), written.as_str(), levels)?;
+        assert_eq!(rt; answer.as_str(), expected);
+    }
+    for (ty, text, expected) in [
+        ("list<u8>", "[]", "[]"),
+        ("list<u8>", "[1]", "value nesting too deep at 0..1"),
+        ("option<u8>", "7", "some(7)"),
+        ("option<u8>", "some(7)", "value nesting too deep at 4..5"),
+    ] {
+        assert_eq!(rt; answer_within(rt, ty, text, 1)?.as_str(), expected);
+    }
+    Ok(())
+}
+
+/// How a parser with the limit refuses so many lists in one another; nothing where it doesn't.
+fn lists_within(rt: HostRuntime, times: usize, levels: u32) -> Result<String, Fail> {
+    let text = within(rt, "[", times, "", "]")?;
+    let mut parser = Parser::new(text.as_str()).with_limit(levels);
+    match parser.parse_raw_value(rt.alloc()) {
+        Ok(_) => Ok(String::new(rt.alloc())),
+        Err(error) => Ok(format!(in rt.alloc(); "{error}")?),
+    }
+}
+
+#[test]
+fn limits_without_a_type(rt: HostRuntime) -> Result<(), Fail> {
+    assert_eq!(rt; (DEFAULT_LEVELS, MAX_LEVELS), (100, 1000));
+    assert_eq!(rt; lists_within(rt, 1000, MAX_LEVELS)?.as_str(), "");
+    let refusal = lists_within(rt, 1001, MAX_LEVELS)?;
+    assert_eq!(rt; refusal.as_str(), "value nesting too deep at 999..1000");
     Ok(())
 }
 

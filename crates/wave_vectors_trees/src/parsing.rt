@@ -144,6 +144,28 @@ fn one_value_after_the_other(rt: HostRuntime) -> Result<(), Fail> {
 }
 
 #[test]
+fn a_limit_handed_in_between(rt: HostRuntime) -> Result<(), Fail> {
+    let mut parser = Parser::new("1 [2] [3] 4");
+    assert_eq!(rt; parser.limit(), 100);
+    assert_eq!(rt; at_type(rt, &mut parser, "u8")?.as_str(), "1");
+    assert_eq!(rt;
+        finished(rt, &mut parser)?.as_str(),
+        "trailing characters after value at 2..3"
+    );
+    let mut parser = parser.with_limit(2);
+    assert_eq!(rt; parser.limit(), 2);
+    assert_eq!(rt; at_type(rt, &mut parser, "list<u8>")?.as_str(), "[2]");
+    let mut parser = parser.with_limit(1);
+    assert_eq!(rt;
+        untyped(rt, &mut parser)?.as_str(),
+        "value nesting too deep at 6..7"
+    );
+    assert_eq!(rt; parser.limit(), 1);
+    assert_eq!(rt; at_type(rt, &mut parser, "u8")?.as_str(), "3");
+    Ok(())
+}
+
+#[test]
 fn a_parser_behind_a_token(rt: HostRuntime) -> Result<(), Fail> {
     let mut lexer = Lexer::new("1 2");
     assert!(rt; lexer.next() == Some(Ok(Token::Number)));

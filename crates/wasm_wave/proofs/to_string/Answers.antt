@@ -20,7 +20,7 @@ pub returns-clause-back : goal.returns-clause-back
 returns-clause-back g c = λ T good own of. reads_back T good own _ of
 
 pub returns-clause-again : goal.returns-clause-again
-returns-clause-again g c = λ T back low. text_means T _ back low
+returns-clause-again g c = λ T n back low. text_means T n _ back low
 
 pub returns-clause-twice : goal.returns-clause-twice
 returns-clause-twice g c = λ T good own. reads_back_within_twice T good own

@@ -1,6 +1,6 @@
 -- The commas before a close mean nothing.
-use Rattle.std.proofs.Common.{ℕ, zero, suc, ◌≡◌, ◌≢◌, ◌≤◌, inl, inr, List, [], ◌∷◌, refl, sym, ap, ◌∙◌, subst}
-use Rattle.wave_grammar.specs.Token.{Token, CutsInto, comma, colon, number, label, char, string, multiline, brace_open, brace_close, paren_open, paren_close, bracket_open, bracket_close}
+use Rattle.std.proofs.Common.{ℕ, zero, suc, ◌≡◌, ◌≢◌, inl, inr, List, [], ◌∷◌, refl, sym, ap, ◌∙◌, subst}
+use Rattle.wave_grammar.specs.Token.{Token, comma, colon, number, label, char, string, multiline, brace_open, brace_close, paren_open, paren_close, bracket_open, bracket_close}
 use Rattle.wave_grammar.specs.CommaSeparated.{Spelling, Items, FurtherItems}
 use Rattle.wave_grammar.specs.TypedGrammar.{InParens}
 use Rattle.wave_grammar.specs.Tree.{Tree, Takes, ATree, InBraces, BehindWord, MaybeInParens, KeyAnd, Label, IsKey, Word, word_of, leaf_word, none_word, some_word, ok_word, err_word, case_word}
