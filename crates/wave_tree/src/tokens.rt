@@ -19,7 +19,7 @@ ghost use Rattle.wave_node.specs.declared.ast.NodeType.TheVariants as node_type;
 ghost use Rattle.wave_tree.specs.ParsedNodes.{IsNodeTaken, IsParsed, IsSound, IsBuilt};
 ghost use Rattle.wave_tree.specs.Private.ParsedNodes.{IsParsedBehind, IsMaybe, IsPayload, IsOfItems, IsOfEntries, IsOfFlags, label_children};
 ghost use Rattle.wave_tree.specs.ParserState.{Finishes, StaysWithout};
-ghost use Rattle.wave_tree.specs.Private.ParserState.{Stream, stream_of, asked_of, AsksFor, ahead_count, IsAhead, Advances, Expects};
+ghost use Rattle.wave_tree.specs.Private.ParserState.{Stream, stream_of, asked_of, AsksFor, WantsOnly, ahead_count, IsAhead, Advances, Expects};
 ghost use Rattle.wave_lex.specs.Errors.{LiesInText};
 ghost use Rattle.wave_tree.specs.ParserLaws.{LiesInSource};
 
@@ -374,6 +374,7 @@ impl<'source> Tokens<'source> {
     ) -> Result<P::Made, ParserError>
         ensures led { GivesWithin result levels due.value [] self.old.place self.new.place }
         ensures tree { IfOk result (IsBuilt (P.is_made plan) self.old.place (IsParsed levels self.old.place self.new.place)) }
+        ensures memory { IfErr result (WantsOnly P.takes_memory self.old.place) }
         ensures asks { AsksFor self.old self.new }
     {
         if levels == 0 {
@@ -404,6 +405,7 @@ impl<'source> Tokens<'source> {
         ensures led { let d = due_behind (word_of (text_at self.old.place)) in
             GivesWithin result (levels + 1) d [] self.old.place self.new.place }
         ensures tree { IfOk result (IsBuilt (P.is_made plan) self.old.place (IsParsedBehind lex_class.LabelOrKeyword (levels + 1) self.old.place self.new.place)) }
+        ensures memory { IfErr result (WantsOnly P.takes_memory self.old.place) }
         ensures asks { AsksFor self.old self.new }
     {
         match role_of(self.slice()) {
@@ -453,6 +455,7 @@ impl<'source> Tokens<'source> {
     ) -> Result<P::Made, ParserError>
         ensures led { GivesWithin result (levels + 1) due.behind_label [] self.old.place self.new.place }
         ensures tree { IfOk result (IsBuilt (P.is_made plan) self.old.place (IsMaybe levels alone with self.old.place self.new.place)) }
+        ensures memory { IfErr result (WantsOnly P.takes_memory self.old.place) }
         ensures asks { AsksFor self.old self.new }
     {
         let start = self.span().start;
@@ -498,6 +501,7 @@ impl<'source> Tokens<'source> {
         ensures led { GivesWithin result (levels + 1) due.value (due.payload ∷ []) self.old.place self.new.place }
         ensures tree { IfOk result (λ made. (front : List NodeTree) → P.are_parts plan self.old.place.lexer.source ty front parts
             → IsBuilt (P.is_made plan) self.old.place (IsPayload levels ty start front self.old.place self.new.place) made) }
+        ensures memory { IfErr result (WantsOnly P.takes_memory self.old.place) }
         ensures asks { AsksFor self.old self.new }
     {
         let part = plan.part(&parts);
@@ -519,6 +523,7 @@ impl<'source> Tokens<'source> {
         requires { IsClose close }
         ensures led { GivesWithin result (levels + 1) due.first_item (form_of close ∷ []) self.old.place self.new.place }
         ensures tree { IfOk result (IsBuilt (P.is_made plan) self.old.place (IsOfItems levels close self.old.place self.new.place)) }
+        ensures memory { IfErr result (WantsOnly P.takes_memory self.old.place) }
         ensures asks { AsksFor self.old self.new }
     {
         let start = self.span().start;

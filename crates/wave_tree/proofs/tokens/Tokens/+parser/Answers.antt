@@ -13,7 +13,7 @@ use Rattle.wave_grammar.specs.Private.TokenRoles.{form_of, IsClose}
 use Rattle.wave_tree.specs.Private.ParserState.{spec_word}
 use Rattle.wave_lex.specs.declared.error.ParserErrorKind.TheVariants as because
 use Rattle.wave_lex.specs.Errors.{Says}
-use Rattle.wave_tree.proofs.ParserSteps.{no_level, here, here_is, handed, gives_then, fails, any_token, shallow, value_read, no_value, level_open, read_there, unexpected_there, no_paren, then_token, token_there, behind_bare, reached, fails_behind, then_behind, payload_other, unexpected_behind, expected, untrue, moved, then_class, then_behind_class, range_path, close_first, close_empty, close_next, then_same, then_refuses, item_refuses, item_read, then_reached, Reached, IsItemDue, no_close, empty_there, key_reads, no_key, brace_key, entries_other, close_behind, comma_behind, other_behind, token_less, tokens_less, left_at, no_colon, no_brace}
+use Rattle.wave_tree.proofs.ParserSteps.{no_level, kind_is, here, here_is, handed, gives_then, fails, any_token, shallow, value_read, no_value, level_open, read_there, unexpected_there, no_paren, then_token, token_there, behind_bare, reached, fails_behind, then_behind, payload_other, unexpected_behind, expected, untrue, moved, then_class, then_behind_class, range_path, close_first, close_empty, close_next, then_same, then_refuses, item_refuses, item_read, then_reached, Reached, IsItemDue, no_close, empty_there, key_reads, no_key, brace_key, entries_other, close_behind, comma_behind, other_behind, token_less, tokens_less, left_at, no_colon, no_brace}
 use Rattle.wave_tree.specs.declared.role.LabelRole.{LabelRole}
 use Rattle.wave_tree.specs.Private.ParserState.{Stream, AsksFor, HasText}
 use Rattle.wave_tree.specs.Private.ParsedNodes.{IsParsedBehind, IsMaybe, IsPayload, IsOfItems, IsOfEntries, IsOfFlags, items_type, label_children}
@@ -23,6 +23,9 @@ use Rattle.wave_node.specs.declared.ast.NodeType.TheVariants as kind_of_node
 use Rattle.wave_lex.specs.Tokenization.{span}
 use Rattle.wave_tree.proofs.NodeCorrectness.Items.{class_as, one_tied, label_tied, items_tied, braces_tied, leaf_tied, number_word_tied, none_tied, some_tied, ok_tied, err_tied, case_tied, pushed, some_there, type_of_items, items_made, items_none, items_first, items_next, pairs_next, pairs_close, empty_tied, no_fields_tied, entries_tied, flags_tied, payload_tied}
 use Rattle.wave_tree.proofs.NodeCorrectness.Tokens.{number_parsed, char_parsed, string_parsed, multiline_parsed}
+use Rattle.wave_node.proofs.Parameters.{error_handed}
+use Rattle.wave_tree.specs.Private.ParserState.{WantsOnly}
+use Rattle.wave_tree.proofs.Wanting.{wants_reached, answer_token, answer_brace, wants_other, wants_fails, wants_taken}
 use Rattle.wave_tree.proofs.Built.{built, leaf_built, whole_built, as_ok, of_front, source_item, source_parsed, source_reached}
 use Rattle.wave_tree.specs.ParsedNodes.{IsBuilt, IsParsed}
 use Rattle.wave_tree.proofs.ClassTests.{is_class, is_other, differs, differs_not}
@@ -692,3 +695,69 @@ parse_braces-returns-in_err-key-clause-asks g t c =
 
 pub parse_node-returns-then-levels-eq0-clause-led : goal.parse_node-returns-then-levels-eq0-clause-led
 parse_node-returns-then-levels-eq0-clause-led g t c = λ n s e. no_level n s c.args.self.now.place c.new.result (omega arith) (record { is = c.new.ensures.refusal; stands = c.new.ensures.span ∙ c.span.ensures; tells = c.new.ensures.detail })
+
+pub parse_node-returns-then-levels-eq0-clause-memory : goal.parse_node-returns-then-levels-eq0-clause-memory
+parse_node-returns-then-levels-eq0-clause-memory g t c = wants_other g.P.Plan.takes_memory c.args.self.now.place c.new.result because.NestingTooDeep (ap (λ r. r.kind) c.new.ensures.refusal) (λ z. cc)
+
+pub parse_node-returns-in_err-token-clause-memory : goal.parse_node-returns-in_err-token-clause-memory
+parse_node-returns-in_err-token-clause-memory g t c = error_handed (WantsOnly g.P.Plan.takes_memory c.args.self.now.place) c.from_residual.result c.in_err-token.field-0.0 c.from_residual.ensures.1 (wants_fails g.P.Plan.takes_memory c.args.self.now.place c.args.self.now.place c.advance.new.self.place (λ _. Unit {0}) c.in_err-token.field-0.0 c.in_err-token.ensures.takes)
+
+pub parse_node-returns-in-LabelOrKeyword-clause-memory : goal.parse_node-returns-in-LabelOrKeyword-clause-memory
+parse_node-returns-in-LabelOrKeyword-clause-memory g t c = answer_token g.P.Plan.takes_memory c.args.self.now.place c.advance.new.self.place c.in_ok-token.token c.parse_label.result c.in_ok-token.ensures.takes c.parse_label.ensures.memory
+
+pub parse_node-returns-in-ParenOpen-clause-memory : goal.parse_node-returns-in-ParenOpen-clause-memory
+parse_node-returns-in-ParenOpen-clause-memory g t c = answer_token g.P.Plan.takes_memory c.args.self.now.place c.advance.new.self.place c.in_ok-token.token c.parse_items.result c.in_ok-token.ensures.takes c.parse_items.ensures.memory
+
+pub parse_node-returns-in-BracketOpen-clause-memory : goal.parse_node-returns-in-BracketOpen-clause-memory
+parse_node-returns-in-BracketOpen-clause-memory g t c = answer_token g.P.Plan.takes_memory c.args.self.now.place c.advance.new.self.place c.in_ok-token.token c.parse_items-in-BracketOpen.result c.in_ok-token.ensures.takes c.parse_items-in-BracketOpen.ensures.memory
+
+pub parse_node-returns-in-BraceOpen-clause-memory : goal.parse_node-returns-in-BraceOpen-clause-memory
+parse_node-returns-in-BraceOpen-clause-memory g t c = answer_brace g.P.Plan.takes_memory c.args.self.now.place c.advance.new.self.place c.parse_braces.result (class_as c.args.self.now.place c.advance.new.self.place c.in_ok-token.token BraceOpen c.in_ok-token.ensures.takes c.in-BraceOpen.is)
+
+pub parse_node-returns-in_default-clause-memory : goal.parse_node-returns-in_default-clause-memory
+parse_node-returns-in_default-clause-memory g t c = wants_other g.P.Plan.takes_memory c.args.self.now.place c.unexpected.result because.UnexpectedToken (kind_is c.unexpected.ensures) (λ z. cc)
+
+pub parse_label-returns-in_err-expect-in-Some-clause-memory : goal.parse_label-returns-in_err-expect-in-Some-clause-memory
+parse_label-returns-in_err-expect-in-Some-clause-memory g t c = error_handed (WantsOnly g.P.Plan.takes_memory c.args.self.now.place) c.from_residual.result c.in_err-expect-in-Some.field-0.0 c.from_residual.ensures.1 (wants_fails g.P.Plan.takes_memory c.args.self.now.place c.args.self.now.place c.expect.new.self.place (λ k. k ≡ ParenOpen) c.in_err-expect-in-Some.field-0.0 c.in_err-expect-in-Some.ensures.takes)
+
+pub parse_label-returns-in_ok-expect-in-Some-clause-memory : goal.parse_label-returns-in_ok-expect-in-Some-clause-memory
+parse_label-returns-in_ok-expect-in-Some-clause-memory g t c = answer_token g.P.Plan.takes_memory c.args.self.now.place c.expect.new.self.place ParenOpen c.parse_payload.result c.in_ok-expect-in-Some.ensures.takes c.parse_payload.ensures.memory
+
+pub parse_maybe-returns-in_err-front-clause-memory : goal.parse_maybe-returns-in_err-front-clause-memory
+parse_maybe-returns-in_err-front-clause-memory g t c = error_handed (WantsOnly g.P.Plan.takes_memory c.args.self.now.place) c.from_residual.result c.in_err-front.field-0.0 c.from_residual.ensures.1 (wants_taken g.P.Plan.takes_memory c.args.self.now.place c.in_err-front.field-0.0 c.in_err-front.ensures.takes)
+
+pub parse_maybe-returns-in_err-expect-clause-memory : goal.parse_maybe-returns-in_err-expect-clause-memory
+parse_maybe-returns-in_err-expect-clause-memory g t c = error_handed (WantsOnly g.P.Plan.takes_memory c.args.self.now.place) c.from_residual-in_err-expect.result c.in_err-expect.field-0.0 c.from_residual-in_err-expect.ensures.1 (wants_fails g.P.Plan.takes_memory c.args.self.now.place c.next_is.new.self.place c.expect.new.self.place (λ k. k ≡ ParenOpen) c.in_err-expect.field-0.0 c.in_err-expect.ensures.takes)
+
+pub parse_maybe-returns-clause-memory : goal.parse_maybe-returns-clause-memory
+parse_maybe-returns-clause-memory g t c = answer_token g.P.Plan.takes_memory c.args.self.now.place c.expect.new.self.place ParenOpen c.parse_payload.result (subst (λ z. TakesItem z (Some (Ok ParenOpen)) c.expect.new.self.place) c.next_is.ensures.stays c.in_ok-expect.ensures.takes) c.parse_payload.ensures.memory
+
+pub parse_payload-returns-in_err-payload-clause-memory : goal.parse_payload-returns-in_err-payload-clause-memory
+parse_payload-returns-in_err-payload-clause-memory g t c = error_handed (WantsOnly g.P.Plan.takes_memory c.args.self.now.place) c.from_residual.result c.in_err-payload.field-0.0 c.from_residual.ensures.1 (c.in_err-payload.ensures.memory)
+
+pub parse_payload-returns-in_err-expect-clause-memory : goal.parse_payload-returns-in_err-expect-clause-memory
+parse_payload-returns-in_err-expect-clause-memory g t c = error_handed (WantsOnly g.P.Plan.takes_memory c.args.self.now.place) c.from_residual-in_err-expect.result c.in_err-expect.field-0.0 c.from_residual-in_err-expect.ensures.1 (wants_fails g.P.Plan.takes_memory c.args.self.now.place c.parse_node.new.self.place c.expect.new.self.place (λ k. k ≡ ParenClose) c.in_err-expect.field-0.0 c.in_err-expect.ensures.takes)
+
+pub parse_payload-returns-in_err-parts-clause-memory : goal.parse_payload-returns-in_err-parts-clause-memory
+parse_payload-returns-in_err-parts-clause-memory g t c = error_handed (WantsOnly g.P.Plan.takes_memory c.args.self.now.place) c.from_residual-in_err-parts.result c.in_err-parts.field-0.0 c.from_residual-in_err-parts.ensures.1 (wants_taken g.P.Plan.takes_memory c.args.self.now.place c.in_err-parts.field-0.0 c.in_err-parts.ensures.takes)
+
+pub parse_items-returns-in_err-expect-clause-memory : goal.parse_items-returns-in_err-expect-clause-memory
+parse_items-returns-in_err-expect-clause-memory g t c = error_handed (WantsOnly g.P.Plan.takes_memory c.args.self.now.place) c.from_residual.result c.in_err-expect.field-0.0 c.from_residual.ensures.1 (wants_fails g.P.Plan.takes_memory c.args.self.now.place c.next_is.new.self.place c.expect.new.self.place (λ k. k ≡ c.args.close) c.in_err-expect.field-0.0 c.in_err-expect.ensures.takes)
+
+pub parse_items-returns-then-eq-clause-memory : goal.parse_items-returns-then-eq-clause-memory
+parse_items-returns-then-eq-clause-memory g t c = wants_other g.P.Plan.takes_memory c.args.self.now.place c.new.result because.EmptyTuple (ap (λ r. r.kind) c.new.ensures.refusal) (λ z. cc)
+
+pub parse_items-returns-in_err-item-clause-memory : goal.parse_items-returns-in_err-item-clause-memory
+parse_items-returns-in_err-item-clause-memory g t c = error_handed (WantsOnly g.P.Plan.takes_memory c.args.self.now.place) c.from_residual-in_err-item.result c.in_err-item.field-0.0 c.from_residual-in_err-item.ensures.1 (let (d, i, r) = c.items.invariant.reached (c.args.levels + 1) [] (omega arith) in wants_reached g.P.Plan.takes_memory c.in_err-item.field-0.0 r c.in_err-item.ensures.memory)
+
+pub parse_items-returns-in_err-parts-clause-memory : goal.parse_items-returns-in_err-parts-clause-memory
+parse_items-returns-in_err-parts-clause-memory g t c = error_handed (WantsOnly g.P.Plan.takes_memory c.args.self.now.place) c.from_residual-in_err-parts.result c.in_err-parts.field-0.0 c.from_residual-in_err-parts.ensures.1 (wants_taken g.P.Plan.takes_memory c.args.self.now.place c.in_err-parts.field-0.0 c.in_err-parts.ensures.takes)
+
+pub parse_items-returns-in_err-token-clause-memory : goal.parse_items-returns-in_err-token-clause-memory
+parse_items-returns-in_err-token-clause-memory g t c = error_handed (WantsOnly g.P.Plan.takes_memory c.args.self.now.place) c.from_residual-in_err-token.result c.in_err-token.field-0.0 c.from_residual-in_err-token.ensures.1 (wants_fails g.P.Plan.takes_memory c.args.self.now.place c.parse_node.new.self.place c.advance.new.self.place (λ _. Unit {0}) c.in_err-token.field-0.0 c.in_err-token.ensures.takes)
+
+pub parse_items-returns-then-ne-clause-memory : goal.parse_items-returns-then-ne-clause-memory
+parse_items-returns-then-ne-clause-memory g t c = wants_other g.P.Plan.takes_memory c.args.self.now.place c.unexpected.result because.UnexpectedToken (kind_is c.unexpected.ensures) (λ z. cc)
+
+pub parse_items-returns-in_err-expect-2-clause-memory : goal.parse_items-returns-in_err-expect-2-clause-memory
+parse_items-returns-in_err-expect-2-clause-memory g t c = error_handed (WantsOnly g.P.Plan.takes_memory c.args.self.now.place) c.from_residual-in_err-expect-2.result c.in_err-expect-2.field-0.0 c.from_residual-in_err-expect-2.ensures.1 (wants_fails g.P.Plan.takes_memory c.args.self.now.place c.next_is-in-items.new.self.place c.expect-then-next_is-2.new.self.place (λ k. k ≡ c.args.close) c.in_err-expect-2.field-0.0 c.in_err-expect-2.ensures.takes)
