@@ -1,1 +1,2 @@
 pub mod FlagParts
+pub mod Leaves
