@@ -4,3 +4,4 @@
 mod leaf;
 pub mod nodes;
 pub mod plan;
+pub mod values;

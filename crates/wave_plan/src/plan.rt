@@ -14,6 +14,7 @@ pub trait Plan: Sized + Copy {
 
     ghost use Rattle.std.specs.Prelude.{ℕ, ◌≡◌, ◌++◌, List, [], ◌∷◌, IfOk, IfErr};
     ghost use Rattle.wave_plan.specs.FlagParts.{AreFlagsOf, flag_nodes};
+    ghost use Rattle.wave_plan.specs.NodeParts.{IsOfParts};
     ghost use Rattle.wave_grammar.specs.SpannedTree.{slice};
     ghost use Rattle.wave_node.specs.NodeTree.{NodeTree, node, no_nodes, node_trees};
     ghost use Rattle.wave_node.specs.declared.ast.NodeType.{NodeType};
@@ -35,9 +36,9 @@ pub trait Plan: Sized + Copy {
     fn leaf(self, alloc: Global, ty: NodeType, span: Span, text: &str) -> Self::Made
         ensures { (source : List ℕ) → text.now ≡ slice source span → is_made self source (node ty span no_nodes) result };
 
-    /// No parts, of a node of the type.
+    /// No parts, of a node of the type, which is one that has parts.
     fn parts(self, alloc: Global, ty: NodeType) -> Self::Parts
-        ensures { (source : List ℕ) → are_parts self source ty [] result };
+        ensures { (source : List ℕ) → IsOfParts ty → are_parts self source ty [] result };
 
     /// The plan of the part that comes next.
     fn part(self, parts: &Self::Parts) -> Self

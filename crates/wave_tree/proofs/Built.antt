@@ -52,3 +52,12 @@ whole_built Of Are p q ty start made parts children B e are of b =
 -- a node that was made of itself
 pub as_node : (Is : NodeTree → Type 0) (made : NodeTree) → (n : NodeTree) × Is n × (made ≡ n) → Is made
 as_node Is made (n, is, e) = subst Is (sym e) is
+
+-- what holds of an answer under a condition
+pub when_given : {M E : Type 0} (When : Type 0) (Is : M → Type 0) (r : Result M E) → (When → IfOk r Is) → IfOk r (λ made. When → Is made)
+when_given When Is (Ok made) h = h
+when_given When Is (Err x) h = tt
+
+pub as_given : {M E : Type 0} (When : Type 0) (Is : M → Type 0) (r : Result M E) → IfOk r (λ made. When → Is made) → When → IfOk r Is
+as_given When Is (Ok made) h given = h given
+as_given When Is (Err x) h given = tt

@@ -14,6 +14,7 @@ ghost use Rattle.wave_lex.specs.Tokenization.{span};
 ghost use Rattle.wave_tree.specs.UntypedCall.{AreParamsTaken, RefusesTuple};
 ghost use Rattle.wave_grammar.specs.Private.TokenRoles.{form_of, IsClose};
 ghost use Rattle.wave_plan.specs.FlagParts.{AreFlagsOf, flag_nodes};
+ghost use Rattle.wave_plan.specs.NodeParts.{IsOfParts};
 ghost use Rattle.wave_node.specs.NodeTree.{NodeTree, node, no_nodes, node_trees};
 ghost use Rattle.wave_node.specs.declared.ast.NodeType.TheVariants as node_type;
 ghost use Rattle.wave_tree.specs.ParsedNodes.{IsNodeTaken, IsParsed, IsSound, IsBuilt};
@@ -454,7 +455,7 @@ impl<'source> Tokens<'source> {
         with: NodeType,
     ) -> Result<P::Made, ParserError>
         ensures led { GivesWithin result (levels + 1) due.behind_label [] self.old.place self.new.place }
-        ensures tree { IfOk result (IsBuilt (P.is_made plan) self.old.place (IsMaybe levels alone with self.old.place self.new.place)) }
+        ensures tree { IfOk result (λ made. IsOfParts with → IsBuilt (P.is_made plan) self.old.place (IsMaybe levels alone with self.old.place self.new.place) made) }
         ensures memory { IfErr result (WantsOnly P.takes_memory self.old.place) }
         ensures asks { AsksFor self.old self.new }
     {
@@ -476,7 +477,7 @@ impl<'source> Tokens<'source> {
         ty: NodeType,
     ) -> Result<P::Parts, ParserError>
         ensures made { let source = self.now.place.lexer.source in
-            IfOk result (P.are_parts plan source ty (label_children ty (span_at self.now.place))) }
+            IfOk result (λ made. IsOfParts ty → P.are_parts plan source ty (label_children ty (span_at self.now.place)) made) }
         ensures memory { IfErr result (λ e. e.kind ≡ kind.OutOfMemory) }
         ensures takes { IfErr result (λ _. P.takes_memory) }
     {

@@ -26,7 +26,8 @@ use Rattle.wave_tree.proofs.NodeCorrectness.Tokens.{number_parsed, char_parsed, 
 use Rattle.wave_node.proofs.Parameters.{error_handed}
 use Rattle.wave_tree.specs.Private.ParserState.{WantsOnly}
 use Rattle.wave_tree.proofs.Wanting.{wants_reached, answer_token, answer_brace, wants_other, wants_fails, wants_taken}
-use Rattle.wave_tree.proofs.Built.{built, leaf_built, whole_built, as_ok, of_front, source_item, source_parsed, source_reached}
+use Rattle.wave_tree.proofs.Built.{built, leaf_built, whole_built, as_ok, as_given, when_given, of_front, source_item, source_parsed, source_reached}
+use Rattle.wave_plan.specs.NodeParts.{IsOfParts}
 use Rattle.wave_tree.specs.ParsedNodes.{IsBuilt, IsParsed}
 use Rattle.wave_tree.proofs.ClassTests.{is_class, is_other, differs, differs_not}
 use Rattle.wave_tree.proofs.LexerCallCount.{asks_none, asks_once, asks_token, asks_looked, asks_read, asks_reached}
@@ -148,7 +149,10 @@ parse_items-items-init g t c = record {
   asks = asks_once c.args.self.now c.next_is.new.self c.next_is.ensures.asks;
   no_close = subst (λ z. (next : Place) × TakesItem z (Some (Ok c.args.close)) next → ⊥) (sym c.next_is.ensures.stays) (λ next. untrue _ c.if-next_is.false (c.next_is.ensures.answer.1 next));
   reached = λ n s e. (due.first_item, inl refl, here_is n due.first_item (form_of c.args.close ∷ s) _ _ c.next_is.ensures.stays);
-  tree = ([], c.parts-parts.ensures _, items_first _ _ _ _ [] refl c.next_is.ensures.stays);
+  tree = ([], c.parts-parts.ensures _ (elim c.if-eq-2.branch [
+    | parse_items-then-eq-2 w ↦ subst IsOfParts (sym w.ty-is) tt
+    | parse_items-else-eq-2 w ↦ subst IsOfParts (sym w.ty-is) tt
+  ]), items_first _ _ _ _ [] refl c.next_is.ensures.stays);
 }
 
 pub parse_items-returns-in_err-item-clause-led : goal.parse_items-returns-in_err-item-clause-led
@@ -499,25 +503,25 @@ pub parse_label-returns-in_ok-expect-in-Some-clause-tree : goal.parse_label-retu
 parse_label-returns-in_ok-expect-in-Some-clause-tree g t c = 
     built (g.P.Plan.is_made c.args.plan) c.args.self.now.place c.expect.new.self.place (IsPayload c.args.levels kind_of_node.OptionSome c.span-start.result.start [] c.expect.new.self.place c.parse_payload.new.self.place) (IsParsedBehind LabelOrKeyword (c.args.levels + 1) c.args.self.now.place c.parse_payload.new.self.place) c.parse_payload.result (source_item c.args.self.now.place c.expect.new.self.place ParenOpen c.in_ok-expect-in-Some.ensures.takes)
     (λ n. some_tied c.args.levels c.args.self.now.place c.expect.new.self.place c.parse_payload.new.self.place c.span-start.result.start [] (as_ok n) (word_here c.slice.ensures c.role_of.ensures.word c.in-Some.is) (ap (λ (z : Range ℕ). z.start) c.span-start.ensures) refl c.in_ok-expect-in-Some.ensures.takes)
-    (of_front (λ front. g.P.Plan.are_parts c.args.plan c.expect.new.self.place.lexer.source kind_of_node.OptionSome front c.parts-parts.result) c.parse_payload.result (λ front. IsBuilt (g.P.Plan.is_made c.args.plan) c.expect.new.self.place (IsPayload c.args.levels kind_of_node.OptionSome c.span-start.result.start front c.expect.new.self.place c.parse_payload.new.self.place)) c.parse_payload.ensures.tree [] (c.parts-parts.ensures c.expect.new.self.place.lexer.source))
+    (of_front (λ front. g.P.Plan.are_parts c.args.plan c.expect.new.self.place.lexer.source kind_of_node.OptionSome front c.parts-parts.result) c.parse_payload.result (λ front. IsBuilt (g.P.Plan.is_made c.args.plan) c.expect.new.self.place (IsPayload c.args.levels kind_of_node.OptionSome c.span-start.result.start front c.expect.new.self.place c.parse_payload.new.self.place)) c.parse_payload.ensures.tree [] (c.parts-parts.ensures c.expect.new.self.place.lexer.source tt))
 
 pub parse_label-returns-in-Ok-clause-tree : goal.parse_label-returns-in-Ok-clause-tree
 parse_label-returns-in-Ok-clause-tree g t c = 
     built (g.P.Plan.is_made c.args.plan) c.args.self.now.place c.args.self.now.place (IsMaybe c.args.levels kind_of_node.ResultOk kind_of_node.ResultOk c.args.self.now.place c.parse_maybe.new.self.place) (IsParsedBehind LabelOrKeyword (c.args.levels + 1) c.args.self.now.place c.parse_maybe.new.self.place) c.parse_maybe.result refl
-    (λ n. ok_tied c.args.levels c.args.self.now.place c.parse_maybe.new.self.place (as_ok n) (word_here c.slice.ensures c.role_of.ensures.word c.in-Ok.is)) c.parse_maybe.ensures.tree
+    (λ n. ok_tied c.args.levels c.args.self.now.place c.parse_maybe.new.self.place (as_ok n) (word_here c.slice.ensures c.role_of.ensures.word c.in-Ok.is)) (as_given (IsOfParts kind_of_node.ResultOk) (IsBuilt (g.P.Plan.is_made c.args.plan) c.args.self.now.place (IsMaybe c.args.levels kind_of_node.ResultOk kind_of_node.ResultOk c.args.self.now.place c.parse_maybe.new.self.place)) c.parse_maybe.result c.parse_maybe.ensures.tree tt)
 
 pub parse_label-returns-in-Err-clause-tree : goal.parse_label-returns-in-Err-clause-tree
 parse_label-returns-in-Err-clause-tree g t c = 
     built (g.P.Plan.is_made c.args.plan) c.args.self.now.place c.args.self.now.place (IsMaybe c.args.levels kind_of_node.ResultErr kind_of_node.ResultErr c.args.self.now.place c.parse_maybe-in-Err.new.self.place) (IsParsedBehind LabelOrKeyword (c.args.levels + 1) c.args.self.now.place c.parse_maybe-in-Err.new.self.place) c.parse_maybe-in-Err.result refl
-    (λ n. err_tied c.args.levels c.args.self.now.place c.parse_maybe-in-Err.new.self.place (as_ok n) (word_here c.slice.ensures c.role_of.ensures.word c.in-Err.is)) c.parse_maybe-in-Err.ensures.tree
+    (λ n. err_tied c.args.levels c.args.self.now.place c.parse_maybe-in-Err.new.self.place (as_ok n) (word_here c.slice.ensures c.role_of.ensures.word c.in-Err.is)) (as_given (IsOfParts kind_of_node.ResultErr) (IsBuilt (g.P.Plan.is_made c.args.plan) c.args.self.now.place (IsMaybe c.args.levels kind_of_node.ResultErr kind_of_node.ResultErr c.args.self.now.place c.parse_maybe-in-Err.new.self.place)) c.parse_maybe-in-Err.result c.parse_maybe-in-Err.ensures.tree tt)
 
 pub parse_label-returns-in-Case-clause-tree : goal.parse_label-returns-in-Case-clause-tree
 parse_label-returns-in-Case-clause-tree g t c = 
     built (g.P.Plan.is_made c.args.plan) c.args.self.now.place c.args.self.now.place (IsMaybe c.args.levels kind_of_node.Label kind_of_node.VariantWithPayload c.args.self.now.place c.parse_maybe-in-Case.new.self.place) (IsParsedBehind LabelOrKeyword (c.args.levels + 1) c.args.self.now.place c.parse_maybe-in-Case.new.self.place) c.parse_maybe-in-Case.result refl
-    (λ n. case_tied c.args.levels c.args.self.now.place c.parse_maybe-in-Case.new.self.place (as_ok n) (word_here c.slice.ensures c.role_of.ensures.word c.in-Case.is)) c.parse_maybe-in-Case.ensures.tree
+    (λ n. case_tied c.args.levels c.args.self.now.place c.parse_maybe-in-Case.new.self.place (as_ok n) (word_here c.slice.ensures c.role_of.ensures.word c.in-Case.is)) (as_given (IsOfParts kind_of_node.VariantWithPayload) (IsBuilt (g.P.Plan.is_made c.args.plan) c.args.self.now.place (IsMaybe c.args.levels kind_of_node.Label kind_of_node.VariantWithPayload c.args.self.now.place c.parse_maybe-in-Case.new.self.place)) c.parse_maybe-in-Case.result c.parse_maybe-in-Case.ensures.tree tt)
 
 pub parse_maybe-returns-then-not-next_is-clause-tree : goal.parse_maybe-returns-then-not-next_is-clause-tree
-parse_maybe-returns-then-not-next_is-clause-tree g t c = 
+parse_maybe-returns-then-not-next_is-clause-tree g t c = λ given.
     let stays = c.next_is.ensures.stays in
     (node c.args.alone (span_at c.args.self.now.place) no_nodes, inl (stays, refl), subst (λ (z : Place). g.P.Plan.is_made c.args.plan z.lexer.source (node c.args.alone (span_at z) no_nodes) c.leaf.result) stays c.leaf.ensures)
 
@@ -526,10 +530,11 @@ parse_maybe-returns-clause-tree g t c =
     let stays = c.next_is.ensures.stays in
     let label = label_children c.args.with (span_at c.next_is.new.self.place) in
     let behind : c.expect.new.self.place.lexer.source ≡ c.next_is.new.self.place.lexer.source = source_item c.next_is.new.self.place c.expect.new.self.place ParenOpen c.in_ok-expect.ensures.takes in
+    when_given (IsOfParts c.args.with) (IsBuilt (g.P.Plan.is_made c.args.plan) c.args.self.now.place (IsMaybe c.args.levels c.args.alone c.args.with c.args.self.now.place c.parse_payload.new.self.place)) c.parse_payload.result (λ given.
     built (g.P.Plan.is_made c.args.plan) c.args.self.now.place c.expect.new.self.place (IsPayload c.args.levels c.args.with c.span-start.result.start label c.expect.new.self.place c.parse_payload.new.self.place) (IsMaybe c.args.levels c.args.alone c.args.with c.args.self.now.place c.parse_payload.new.self.place) c.parse_payload.result (behind ∙ ap (λ (z : Place). z.lexer.source) stays)
     (λ n. payload_tied c.args.levels c.args.alone c.args.with c.args.self.now.place c.expect.new.self.place c.next_is.new.self.place c.parse_payload.new.self.place c.span-start.result.start label (as_ok n) stays c.in_ok-expect.ensures.takes (ap (λ (z : Range ℕ). z.start) c.span-start.ensures) refl)
     (of_front (λ front. g.P.Plan.are_parts c.args.plan c.expect.new.self.place.lexer.source c.args.with front c.in_ok-front.front) c.parse_payload.result (λ front. IsBuilt (g.P.Plan.is_made c.args.plan) c.expect.new.self.place (IsPayload c.args.levels c.args.with c.span-start.result.start front c.expect.new.self.place c.parse_payload.new.self.place)) c.parse_payload.ensures.tree label
-    (subst (λ (s : List ℕ). g.P.Plan.are_parts c.args.plan s c.args.with label c.in_ok-front.front) (sym behind) c.in_ok-front.ensures.made))
+    (subst (λ (s : List ℕ). g.P.Plan.are_parts c.args.plan s c.args.with label c.in_ok-front.front) (sym behind) (c.in_ok-front.ensures.made given))))
 
 pub parse_payload-returns-clause-tree : goal.parse_payload-returns-clause-tree
 parse_payload-returns-clause-tree g t c = λ front first.
@@ -543,7 +548,7 @@ pub parse_items-returns-then-next_is-clause-tree : goal.parse_items-returns-then
 parse_items-returns-then-next_is-clause-tree g t c = 
     let stays = c.next_is.ensures.stays in
     let source : c.expect.new.self.place.lexer.source ≡ c.args.self.now.place.lexer.source = source_item c.next_is.new.self.place c.expect.new.self.place c.args.close c.in_ok-expect.ensures.takes ∙ ap (λ (z : Place). z.lexer.source) stays in
-    whole_built (g.P.Plan.is_made c.args.plan) (λ (s : List ℕ) cs ps. g.P.Plan.are_parts c.args.plan s kind_of_node.List cs ps) c.args.self.now.place c.expect.new.self.place kind_of_node.List c.span-start.result.start c.whole.result c.parts-none.result [] (IsOfItems c.args.levels c.args.close c.args.self.now.place c.expect.new.self.place) source (c.parts-none.ensures c.args.self.now.place.lexer.source) c.whole.ensures
+    whole_built (g.P.Plan.is_made c.args.plan) (λ (s : List ℕ) cs ps. g.P.Plan.are_parts c.args.plan s kind_of_node.List cs ps) c.args.self.now.place c.expect.new.self.place kind_of_node.List c.span-start.result.start c.whole.result c.parts-none.result [] (IsOfItems c.args.levels c.args.close c.args.self.now.place c.expect.new.self.place) source (c.parts-none.ensures c.args.self.now.place.lexer.source tt) c.whole.ensures
     (items_none c.args.levels c.args.close c.args.self.now.place c.next_is.new.self.place c.expect.new.self.place c.span-start.result.start [] _ refl refl c.requires (is_other _ _ c.eq.ensures c.if-eq.false) (ap (λ (z : Range ℕ). z.start) c.span-start.ensures) stays c.in_ok-expect.ensures.takes)
 
 pub parse_items-returns-then-eq-3-clause-tree : goal.parse_items-returns-then-eq-3-clause-tree
@@ -630,12 +635,12 @@ parse_braces-returns-clause-tree g t c =
 
 pub parse_braces-returns-then-eq-clause-tree : goal.parse_braces-returns-then-eq-clause-tree
 parse_braces-returns-then-eq-clause-tree g t c = 
-    whole_built (g.P.Plan.is_made c.args.plan) (λ (s : List ℕ) cs ps. g.P.Plan.are_parts c.args.plan s kind_of_node.EmptySet cs ps) c.args.self.now.place c.advance.new.self.place kind_of_node.EmptySet c.span-start.result.start c.whole.result c.parts-none.result [] (IsParsedBehind BraceOpen (c.args.levels + 1) c.args.self.now.place c.advance.new.self.place) (source_item c.args.self.now.place c.advance.new.self.place c.in_ok-token.token c.in_ok-token.ensures.takes) (c.parts-none.ensures c.args.self.now.place.lexer.source) c.whole.ensures
+    whole_built (g.P.Plan.is_made c.args.plan) (λ (s : List ℕ) cs ps. g.P.Plan.are_parts c.args.plan s kind_of_node.EmptySet cs ps) c.args.self.now.place c.advance.new.self.place kind_of_node.EmptySet c.span-start.result.start c.whole.result c.parts-none.result [] (IsParsedBehind BraceOpen (c.args.levels + 1) c.args.self.now.place c.advance.new.self.place) (source_item c.args.self.now.place c.advance.new.self.place c.in_ok-token.token c.in_ok-token.ensures.takes) (c.parts-none.ensures c.args.self.now.place.lexer.source tt) c.whole.ensures
     (empty_tied c.args.levels c.args.self.now.place c.advance.new.self.place c.span-start.result.start [] _ (class_as _ _ _ BraceClose c.in_ok-token.ensures.takes (is_class _ _ c.eq.ensures c.if-eq.true)) (ap (λ (z : Range ℕ). z.start) c.span-start.ensures) refl refl)
 
 pub parse_braces-returns-then-eq-2-clause-tree : goal.parse_braces-returns-then-eq-2-clause-tree
 parse_braces-returns-then-eq-2-clause-tree g t c = 
-    whole_built (g.P.Plan.is_made c.args.plan) (λ (s : List ℕ) cs ps. g.P.Plan.are_parts c.args.plan s kind_of_node.TupleSet cs ps) c.args.self.now.place c.expect.new.self.place kind_of_node.TupleSet c.span-start.result.start c.whole-then-eq-2.result c.parts-none-then-eq-2.result [] (IsParsedBehind BraceOpen (c.args.levels + 1) c.args.self.now.place c.expect.new.self.place) (source_item c.advance.new.self.place c.expect.new.self.place BraceClose c.in_ok-expect.ensures.takes ∙ (source_item c.args.self.now.place c.advance.new.self.place c.in_ok-token.token c.in_ok-token.ensures.takes)) (c.parts-none-then-eq-2.ensures c.args.self.now.place.lexer.source) c.whole-then-eq-2.ensures
+    whole_built (g.P.Plan.is_made c.args.plan) (λ (s : List ℕ) cs ps. g.P.Plan.are_parts c.args.plan s kind_of_node.TupleSet cs ps) c.args.self.now.place c.expect.new.self.place kind_of_node.TupleSet c.span-start.result.start c.whole-then-eq-2.result c.parts-none-then-eq-2.result [] (IsParsedBehind BraceOpen (c.args.levels + 1) c.args.self.now.place c.expect.new.self.place) (source_item c.advance.new.self.place c.expect.new.self.place BraceClose c.in_ok-expect.ensures.takes ∙ (source_item c.args.self.now.place c.advance.new.self.place c.in_ok-token.token c.in_ok-token.ensures.takes)) (c.parts-none-then-eq-2.ensures c.args.self.now.place.lexer.source tt) c.whole-then-eq-2.ensures
     (no_fields_tied c.args.levels c.args.self.now.place c.advance.new.self.place c.expect.new.self.place c.span-start.result.start [] _ (class_as _ _ _ Colon c.in_ok-token.ensures.takes (is_class _ _ c.eq-2.ensures c.if-eq-2.true)) c.in_ok-expect.ensures.takes (ap (λ (z : Range ℕ). z.start) c.span-start.ensures) refl refl)
 
 pub parse_braces-returns-then-eq-3-clause-tree : goal.parse_braces-returns-then-eq-3-clause-tree

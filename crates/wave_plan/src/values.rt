@@ -1,0 +1,97 @@
+//! The plan that reads values of a type.
+use crate::leaf::Leaf;
+use crate::plan::Plan;
+use std::alloc::{AllocError, Global};
+use std::collections::BTreeMap;
+use wave_lex::error::{ParserError, ParserErrorKind};
+use wave_lex::lex::Span;
+use wave_node::ast::NodeType;
+use wave_wasm::wasm::{WasmType, WasmTypeKind, WasmValue};
+
+/// The plan that reads a value of the type that is due. Where none is due, the answer is worth
+/// nothing, and takes no memory.
+#[derive_where(Clone, Copy)]
+pub struct Values<'ty, V: WasmValue> {
+    pub due: Option<&'ty V::Type>,
+}
+
+impl<'ty, V: WasmValue> Values<'ty, V> {
+    ghost use Rattle.std.specs.Prelude.{◌≡◌, Some};
+    ghost use Rattle.wave_wasm.specs.Borrowed.{shown};
+
+    /// The plan that reads a value of the type.
+    pub fn new(ty: &'ty V::Type) -> Self
+        ensures { shown V.Type.tree result.due ≡ Some (V.Type.tree ty.now) }
+    {
+        Values { due: Some(ty) }
+    }
+}
+
+impl<'ty, V: WasmValue> Plan for Values<'ty, V> {
+    type Made = Result<V, ParserError>;
+
+    type Parts = ();
+
+    ghost use Rattle.std.specs.Prelude.{None};
+    ghost use Rattle.wave_wasm.specs.Borrowed.{shown};
+    ghost use Rattle.wave_plan.specs.PlainReading.{ReadsDue};
+    ghost use Rattle.wave_plan.specs.NodeParts.{IsOfParts};
+
+    ghost is_made = { λ plan source n made. ReadsDue V.tree V.is_of V.is_full (shown V.Type.tree plan.due) source n made };
+
+    ghost are_parts = { λ plan source ty children parts. IsOfParts ty };
+
+    ghost next = { λ plan parts. record { due = None } };
+
+    ghost takes_memory = { ⊥ };
+
+    fn leaf(self, alloc: Global, ty: NodeType, span: Span, text: &str) -> Result<V, ParserError> {
+        let leaf = Leaf { ty, span, text };
+        match self.due {
+            None => Err(leaf.error(ParserErrorKind::InvalidType)),
+            Some(due) => match due.kind() {
+                WasmTypeKind::Bool => leaf.read_bool(alloc),
+                kind => leaf.read_whole(alloc, kind),
+            },
+        }
+    }
+
+    fn parts(self, alloc: Global, ty: NodeType) {}
+
+    fn part(self, parts: &()) -> Self {
+        Values { due: None }
+    }
+
+    fn with_key(
+        self,
+        alloc: Global,
+        parts: (),
+        ty: NodeType,
+        span: Span,
+        text: &str,
+    ) -> Result<(), AllocError> {
+        Ok(parts)
+    }
+
+    fn with_part(
+        self,
+        alloc: Global,
+        parts: (),
+        made: Result<V, ParserError>,
+    ) -> Result<(), AllocError> {
+        Ok(parts)
+    }
+
+    fn whole(self, alloc: Global, ty: NodeType, span: Span, parts: ()) -> Result<V, ParserError> {
+        Err(ParserError::new(ParserErrorKind::InvalidType, span))
+    }
+
+    fn flags(
+        self,
+        alloc: Global,
+        span: Span,
+        flags: BTreeMap<&str, Span>,
+    ) -> Result<Result<V, ParserError>, AllocError> {
+        Ok(Err(ParserError::new(ParserErrorKind::InvalidType, span)))
+    }
+}
