@@ -3,7 +3,7 @@ use Rattle.std.proofs.Common.{ℕ, ℤ, ◌≡◌, ◌≢◌, ◌⊎◌, inl, in
 use Rattle.std.specs.Prelude.{IfErr}
 use Rattle.std.specs.declared.ops.Range.{Range}
 use Rattle.wave_wasm.specs.Types as type
-use Rattle.wave_wasm.specs.Types.{TypeTree, Whole, whole_kind, kind_of}
+use Rattle.wave_wasm.specs.Types.{TypeTree, Simple, Whole, whole_kind, simple_kind, kind_of}
 use Rattle.wave_wasm.specs.Values.{Value}
 use Rattle.wave_wasm.specs.declared.wasm.WasmTypeKind.{WasmTypeKind}
 use Rattle.wave_wasm.specs.declared.wasm.WasmTypeKind.TheVariants as kinds
@@ -99,3 +99,32 @@ module _ {V : Type 0} (tree : V → Value) (of : V → TypeTree → Type 0) (Ful
   pub whole_due : (o : Option TypeTree) (T : TypeTree) (k : WasmTypeKind) (source : List ℕ) (n : NodeTree) (r : Result V Diagnostic) → o ≡ Some T → k ≡ kind_of T → k ≢ kinds.Bool → AnswersWhole tree of Full k source n r → ReadsDue tree of Full o source n r
   whole_due o T k source n r e is apart h =
       subst (λ (p : Option TypeTree). ReadsDue tree of Full p source n r) (sym e) (λ plain. whole_read T k source n r plain is apart h)
+
+-- none of the kinds of these types
+pub record IsNoPlain (k : WasmTypeKind) : Type 0 where
+  pub bool : k ≢ kinds.Bool
+  pub s8 : k ≢ kinds.S8
+  pub s16 : k ≢ kinds.S16
+  pub s32 : k ≢ kinds.S32
+  pub s64 : k ≢ kinds.S64
+  pub u8 : k ≢ kinds.U8
+  pub u16 : k ≢ kinds.U16
+  pub u32 : k ≢ kinds.U32
+  pub u64 : k ≢ kinds.U64
+
+-- a type of none of these kinds is none of them
+pub none_plain : (T : TypeTree) (k : WasmTypeKind) → k ≡ kind_of T → IsNoPlain k → IsPlain T → ⊥
+none_plain (type.simple type.bool) k is apart plain = apart.bool is
+none_plain (type.simple (type.whole type.s8)) k is apart plain = apart.s8 is
+none_plain (type.simple (type.whole type.s16)) k is apart plain = apart.s16 is
+none_plain (type.simple (type.whole type.s32)) k is apart plain = apart.s32 is
+none_plain (type.simple (type.whole type.s64)) k is apart plain = apart.s64 is
+none_plain (type.simple (type.whole type.u8)) k is apart plain = apart.u8 is
+none_plain (type.simple (type.whole type.u16)) k is apart plain = apart.u16 is
+none_plain (type.simple (type.whole type.u32)) k is apart plain = apart.u32 is
+none_plain (type.simple (type.whole type.u64)) k is apart plain = apart.u64 is
+none_plain _ k is apart plain = plain
+
+-- a type of one of these kinds is one of them
+pub plain_is : (S : Simple) (T : TypeTree) (k : WasmTypeKind) → k ≡ kind_of T → k ≡ simple_kind S → IsPlain (type.simple S) → IsPlain T
+plain_is S T k is same plain = subst IsPlain (sym (simple_is S T (sym same ∙ is))) plain

@@ -1,4 +1,7 @@
 //! The plan that reads values of a type.
+ghost use Rattle.std.specs.Prelude.{MatchBool};
+ghost use Rattle.wave_plan.specs.PlainReading.{IsPlain};
+
 use crate::leaf::Leaf;
 use crate::plan::Plan;
 use std::alloc::{AllocError, Global};
@@ -93,5 +96,23 @@ impl<'ty, V: WasmValue> Plan for Values<'ty, V> {
         flags: BTreeMap<&str, Span>,
     ) -> Result<Result<V, ParserError>, AllocError> {
         Ok(Err(ParserError::new(ParserErrorKind::InvalidType, span)))
+    }
+}
+
+/// Whether the type is bool or a whole-number type.
+pub fn is_plain<T: WasmType>(ty: &T) -> bool
+    ensures { MatchBool result (IsPlain (T.tree ty.now)) (IsPlain (T.tree ty.now) → ⊥) }
+{
+    match ty.kind() {
+        WasmTypeKind::Bool => true,
+        WasmTypeKind::S8 => true,
+        WasmTypeKind::S16 => true,
+        WasmTypeKind::S32 => true,
+        WasmTypeKind::S64 => true,
+        WasmTypeKind::U8 => true,
+        WasmTypeKind::U16 => true,
+        WasmTypeKind::U32 => true,
+        WasmTypeKind::U64 => true,
+        _ => false,
     }
 }
