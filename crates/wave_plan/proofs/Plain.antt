@@ -33,6 +33,11 @@ no_bool ty h false e = subst IsOfParts e h
 pub no_number : (ty : NodeType) → IsOfParts ty → ty ≢ kind.Number
 no_number ty h e = subst IsOfParts e h
 
+-- nor are flags
+pub flags_no_bool : (b : Bool) → kind.Flags ≢ bool_type b
+flags_no_bool true e = cc
+flags_no_bool false e = cc
+
 -- the kinds of whole types are read nowhere else
 unread : (which : Whole) → IsUnread (whole_kind which)
 unread type.s8 = record { bool = λ e. cc; char = λ e. cc; string = λ e. cc; list = λ e. cc; tuple = λ e. cc; record_kind = λ e. cc; option = λ e. cc; result = λ e. cc; variant = λ e. cc; enum = λ e. cc; flags = λ e. cc; map = λ e. cc }
@@ -63,19 +68,19 @@ module _ {V : Type 0} (tree : V → Value) (of : V → TypeTree → Type 0) (Ful
   refused_form (type.simple (type.whole which)) source n e plain apart other refused = λ t is distinct. inr (inl (number_fault which source n t (refusal_of e) e.span is.0 other (said refused)))
   refused_form _ source n e plain apart other refused = absurd plain
 
-  pub form_refused : (o : Option TypeTree) (source : List ℕ) (n : NodeTree) (e : Diagnostic) → ((b : Bool) → type_of n ≢ bool_type b) → type_of n ≢ kind.Number → RefusedAs why.InvalidType n e → ReadsDue tree of Full o source n (Err e)
+  pub form_refused : (o : Option WasmTypeKind) (source : List ℕ) (n : NodeTree) (e : Diagnostic) → ((b : Bool) → type_of n ≢ bool_type b) → type_of n ≢ kind.Number → RefusedAs why.InvalidType n e → ReadsDue tree of Full o source n (Err e)
   form_refused None source n e apart other refused = tt
-  form_refused (Some T) source n e apart other refused = λ plain. record {
+  form_refused (Some k) source n e apart other refused = λ T is plain. record {
     answer = refused_form T source n e plain apart other refused;
     within = λ value. at_in source n e (inl value) (form_at n e refused);
     spares = λ row. no_memory e n refused;
   }
 
   -- what is read where a bool is due
-  pub bool_due : (o : Option TypeTree) (T : TypeTree) (source : List ℕ) (n : NodeTree) (r : Result V Diagnostic) → o ≡ Some T → kinds.Bool ≡ kind_of T → Answers tree of Full (type.simple type.bool) source n r → IfErr r (RefusesAt n) → SparesRows n r → ReadsDue tree of Full o source n r
-  bool_due o T source n r e is answer told spares =
-      subst (λ (p : Option TypeTree). ReadsDue tree of Full p source n r) (sym e) (λ plain. record {
-        answer = subst (λ (U : TypeTree). Answers tree of Full U source n r) (sym (simple_is type.bool T is)) answer;
+  pub bool_due : (o : Option WasmTypeKind) (k : WasmTypeKind) (source : List ℕ) (n : NodeTree) (r : Result V Diagnostic) → o ≡ Some k → k ≡ kinds.Bool → Answers tree of Full (type.simple type.bool) source n r → IfErr r (RefusesAt n) → SparesRows n r → ReadsDue tree of Full o source n r
+  bool_due o k source n r e bool answer told spares =
+      subst (λ (p : Option WasmTypeKind). ReadsDue tree of Full p source n r) (sym e) (λ T is plain. record {
+        answer = subst (λ (U : TypeTree). Answers tree of Full U source n r) (sym (simple_is type.bool T (sym bool ∙ is))) answer;
         within = λ value. all_in source n r (inl value) told;
         spares = spares;
       })
@@ -96,9 +101,9 @@ module _ {V : Type 0} (tree : V → Value) (of : V → TypeTree → Type 0) (Ful
   whole_read _ k source n r plain is apart h = absurd plain
 
   -- what is read where a value of another kind is due
-  pub whole_due : (o : Option TypeTree) (T : TypeTree) (k : WasmTypeKind) (source : List ℕ) (n : NodeTree) (r : Result V Diagnostic) → o ≡ Some T → k ≡ kind_of T → k ≢ kinds.Bool → AnswersWhole tree of Full k source n r → ReadsDue tree of Full o source n r
-  whole_due o T k source n r e is apart h =
-      subst (λ (p : Option TypeTree). ReadsDue tree of Full p source n r) (sym e) (λ plain. whole_read T k source n r plain is apart h)
+  pub whole_due : (o : Option WasmTypeKind) (k : WasmTypeKind) (source : List ℕ) (n : NodeTree) (r : Result V Diagnostic) → o ≡ Some k → k ≢ kinds.Bool → AnswersWhole tree of Full k source n r → ReadsDue tree of Full o source n r
+  whole_due o k source n r e apart h =
+      subst (λ (p : Option WasmTypeKind). ReadsDue tree of Full p source n r) (sym e) (λ T is plain. whole_read T k source n r plain is apart h)
 
 -- none of the kinds of these types
 pub record IsNoPlain (k : WasmTypeKind) : Type 0 where

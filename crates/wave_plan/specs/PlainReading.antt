@@ -1,7 +1,8 @@
 -- What is read at types whose values are one token and hold no text.
-use Rattle.std.specs.Prelude.{ℕ, List, Option, Some, None, Result, IfErr}
+use Rattle.std.specs.Prelude.{ℕ, ◌≡◌, List, Option, Some, None, Result, IfErr}
 use Rattle.wave_wasm.specs.Types as type
-use Rattle.wave_wasm.specs.Types.{TypeTree}
+use Rattle.wave_wasm.specs.Types.{TypeTree, kind_of}
+use Rattle.wave_wasm.specs.declared.wasm.WasmTypeKind.{WasmTypeKind}
 use Rattle.wave_wasm.specs.Values.{Value}
 use Rattle.wave_lex.specs.Errors.{Diagnostic}
 use Rattle.wave_node.specs.NodeTree.{NodeTree}
@@ -22,7 +23,7 @@ module _ {V : Type 0} (tree : V → Value) (of : V → TypeTree → Type 0) (Ful
     pub within : IsValueOf source n → IfErr r (RefusesIn n)
     pub spares : SparesRows n r
 
-  -- so at the type that is due, where it is such a type
-  abbrev pub ReadsDue : Option TypeTree → List ℕ → NodeTree → Result V Diagnostic → Type 0
+  -- so at each such type of the kind that is due
+  abbrev pub ReadsDue : Option WasmTypeKind → List ℕ → NodeTree → Result V Diagnostic → Type 0
   ReadsDue None source n r = Unit {0}
-  ReadsDue (Some T) source n r = IsPlain T → IsReadAs T source n r
+  ReadsDue (Some k) source n r = (T : TypeTree) → k ≡ kind_of T → IsPlain T → IsReadAs T source n r

@@ -6,45 +6,48 @@ use crate::leaf::Leaf;
 use crate::plan::Plan;
 use std::alloc::{AllocError, Global};
 use std::collections::BTreeMap;
+use std::marker::PhantomData;
 use wave_lex::error::{ParserError, ParserErrorKind};
 use wave_lex::lex::Span;
 use wave_node::ast::NodeType;
 use wave_wasm::wasm::{WasmType, WasmTypeKind, WasmValue};
 
-/// The plan that reads a value of the type that is due. Where none is due, the answer is worth
-/// nothing, and takes no memory.
+/// The plan that reads a bool or a whole number, of the kind that is due. Where none is due, the
+/// answer is worth nothing, and takes no memory.
 #[derive_where(Clone, Copy)]
-pub struct Values<'ty, V: WasmValue> {
-    pub due: Option<&'ty V::Type>,
+pub struct Values<V> {
+    due: Option<WasmTypeKind>,
+    values: PhantomData<V>,
 }
 
-impl<'ty, V: WasmValue> Values<'ty, V> {
+impl<V> Values<V> {
     ghost use Rattle.std.specs.Prelude.{◌≡◌, Some};
-    ghost use Rattle.wave_wasm.specs.Borrowed.{shown};
 
-    /// The plan that reads a value of the type.
-    pub fn new(ty: &'ty V::Type) -> Self
-        ensures { shown V.Type.tree result.due ≡ Some (V.Type.tree ty.now) }
+    /// The plan that reads a value of the kind.
+    pub fn new(kind: WasmTypeKind) -> Self
+        ensures { result.due ≡ Some kind }
     {
-        Values { due: Some(ty) }
+        Values {
+            due: Some(kind),
+            values: PhantomData,
+        }
     }
 }
 
-impl<'ty, V: WasmValue> Plan for Values<'ty, V> {
+impl<V: WasmValue> Plan for Values<V> {
     type Made = Result<V, ParserError>;
 
     type Parts = ();
 
     ghost use Rattle.std.specs.Prelude.{None};
-    ghost use Rattle.wave_wasm.specs.Borrowed.{shown};
     ghost use Rattle.wave_plan.specs.PlainReading.{ReadsDue};
     ghost use Rattle.wave_plan.specs.NodeParts.{IsOfParts};
 
-    ghost is_made = { λ plan source n made. ReadsDue V.tree V.is_of V.is_full (shown V.Type.tree plan.due) source n made };
+    ghost is_made = { λ plan source n made. ReadsDue V.tree V.is_of V.is_full plan.due source n made };
 
     ghost are_parts = { λ plan source ty children parts. IsOfParts ty };
 
-    ghost next = { λ plan parts. record { due = None } };
+    ghost next = { λ plan parts. record plan { due = None } };
 
     ghost takes_memory = { ⊥ };
 
@@ -52,7 +55,7 @@ impl<'ty, V: WasmValue> Plan for Values<'ty, V> {
         let leaf = Leaf { ty, span, text };
         match self.due {
             None => Err(leaf.error(ParserErrorKind::InvalidType)),
-            Some(due) => match due.kind() {
+            Some(kind) => match kind {
                 WasmTypeKind::Bool => leaf.read_bool(alloc),
                 kind => leaf.read_whole(alloc, kind),
             },
@@ -62,7 +65,10 @@ impl<'ty, V: WasmValue> Plan for Values<'ty, V> {
     fn parts(self, alloc: Global, ty: NodeType) {}
 
     fn part(self, parts: &()) -> Self {
-        Values { due: None }
+        Values {
+            due: None,
+            values: PhantomData,
+        }
     }
 
     fn with_key(

@@ -40,7 +40,7 @@ use wave_lex::lex::{Lexer, Span, Token};
 use wave_plan::nodes::Nodes;
 use wave_plan::plan::Plan;
 use wave_plan::values::Values;
-use wave_wasm::wasm::WasmValue;
+use wave_wasm::wasm::{WasmType, WasmValue};
 
 /// Whether the item is a token of this class.
 fn is_token(item: &Option<Result<Token, Span>>, class: Token) -> bool
@@ -353,7 +353,7 @@ impl<'source> Tokens<'source> {
         ensures asks { AsksFor self.old self.new }
     {
         let start = self.start_here();
-        let made = match self.parse_node(alloc, Values::<V>::new(ty), levels) {
+        let made = match self.parse_node(alloc, Values::<V>::new(ty.kind()), levels) {
             Ok(made) => made,
             Err(error) => return Err(self.refuse(error, start)),
         };
