@@ -51,10 +51,6 @@ Asks old new = (n : ℕ) → HasTokens old.place n → asked new ≤ max (asked 
 abbrev pub HoldsNoBrace : Place → Type 0
 HoldsNoBrace p = (ts : List Token) (q r : Place) → TakesTokens p ts q → TakesItem q (Some (Ok lex_class.BraceOpen)) r → ⊥
 
--- an open parenthesis or an open bracket stands next
-abbrev pub BeginsRow : Place → Type 0
-BeginsRow p = (q : Place) × (TakesItem p (Some (Ok lex_class.ParenOpen)) q ⊎ TakesItem p (Some (Ok lex_class.BracketOpen)) q)
-
 -- no token of the wanted classes stands next
 abbrev pub Fails : (lex.Token → Type 0) → Diagnostic → Place → Place → Type 0
 Fails Wanted e old new =

@@ -15,13 +15,11 @@ ghost use Rattle.wave_tree.specs.UntypedCall.{AreParamsTaken, RefusesTuple};
 ghost use Rattle.wave_grammar.specs.Private.TokenRoles.{form_of, IsClose};
 ghost use Rattle.wave_plan.specs.FlagParts.{AreFlagsOf, flag_nodes};
 ghost use Rattle.wave_plan.specs.NodeParts.{IsOfParts};
-ghost use Rattle.wave_plan.specs.PlainReading.{IsPlain};
-ghost use Rattle.wave_tree.specs.FromStr.{IsValueTaken, RefusesValue, IsCausedBetween};
 ghost use Rattle.wave_node.specs.NodeTree.{NodeTree, node, no_nodes, node_trees};
 ghost use Rattle.wave_node.specs.declared.ast.NodeType.TheVariants as node_type;
 ghost use Rattle.wave_tree.specs.ParsedNodes.{IsNodeTaken, IsParsed, IsSound, IsBuilt};
 ghost use Rattle.wave_tree.specs.Private.ParsedNodes.{IsParsedBehind, IsMaybe, IsPayload, IsOfItems, IsOfEntries, IsOfFlags, label_children};
-ghost use Rattle.wave_tree.specs.ParserState.{Finishes, StaysWithout, BeginsRow, HoldsNoBrace};
+ghost use Rattle.wave_tree.specs.ParserState.{Finishes, StaysWithout};
 ghost use Rattle.wave_tree.specs.Private.ParserState.{Stream, stream_of, asked_of, AsksFor, WantsOnly, ahead_count, IsAhead, Advances, Expects};
 ghost use Rattle.wave_lex.specs.Errors.{LiesInText};
 ghost use Rattle.wave_tree.specs.ParserLaws.{LiesInSource};
@@ -39,8 +37,6 @@ use wave_lex::error::{ParserError, ParserErrorKind};
 use wave_lex::lex::{Lexer, Span, Token};
 use wave_plan::nodes::Nodes;
 use wave_plan::plan::Plan;
-use wave_plan::values::Values;
-use wave_wasm::wasm::{WasmType, WasmValue};
 
 /// Whether the item is a token of this class.
 fn is_token(item: &Option<Result<Token, Span>>, class: Token) -> bool
@@ -332,33 +328,6 @@ impl<'source> Tokens<'source> {
         let start = self.start_here();
         match self.parse_node(alloc, Nodes, levels) {
             Ok(node) => Ok((node, start)),
-            Err(error) => Err(self.refuse(error, start)),
-        }
-    }
-
-    /// Reads a value of the type, which is bool or a whole-number type, of at most so many levels.
-    pub(crate) fn parse_plain<V: WasmValue>(
-        &mut self,
-        alloc: Global,
-        ty: &V::Type,
-        levels: u32,
-    ) -> Result<V, ParserError>
-        requires { IsPlain (V.Type.tree ty.now) }
-        ensures value { IfOk result (IsValueTaken V.tree V.is_of (V.Type.tree ty.now) levels self.old.place self.new.place) }
-        ensures refused { IfErr result (λ e. RefusesValue V.is_full (V.Type.tree ty.now) levels e self.old.place self.new.place) }
-        ensures within { IfErr result (λ e. LiesInText self.old.place.lexer.source e.span) }
-        ensures caused { IfErr result (IsCausedBetween levels self.old.place self.new.place) }
-        ensures memory { IfErr result (λ e. StaysWithout e self.old.place self.new.place) }
-        ensures spares { BeginsRow self.old.place → HoldsNoBrace self.old.place → IfErr result (λ e. e.kind ≢ kind.OutOfMemory) }
-        ensures asks { AsksFor self.old self.new }
-    {
-        let start = self.start_here();
-        let made = match self.parse_node(alloc, Values::<V>::new(ty.kind()), levels) {
-            Ok(made) => made,
-            Err(error) => return Err(self.refuse(error, start)),
-        };
-        match made {
-            Ok(value) => Ok(value),
             Err(error) => Err(self.refuse(error, start)),
         }
     }
