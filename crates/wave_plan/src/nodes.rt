@@ -3,8 +3,7 @@ use crate::plan::Plan;
 use std::alloc::{AllocError, Global};
 use std::collections::BTreeMap;
 use wave_lex::lex::Span;
-use wave_node::ast::make;
-use wave_node::ast::{Node, NodeType};
+use wave_node::ast::{Node, NodeType, make};
 
 /// The plan that makes of each value its node.
 #[derive(Clone, Copy)]

@@ -13,7 +13,7 @@ use Rattle.wave_grammar.specs.ParserPosition.{Place, text_at, span_at}
 use Rattle.wave_grammar.specs.LeafTokens.{name_of}
 use Rattle.wave_grammar.specs.PrefixAutomaton.{Due, Form}
 use Rattle.wave_grammar.specs.PrefixAutomaton as due
-use Rattle.wave_node.specs.NodeTree.{NodeTree, node, no_nodes, node_trees}
+use Rattle.wave_node.specs.NodeTree.{NodeTree, node, node_trees}
 use Rattle.wave_node.specs.declared.ast.NodeType.TheVariants as kind
 use Rattle.wave_grammar.specs.Private.FlagOrder.{Flag, flag_name, flags_in_order}
 use Rattle.wave_tree.specs.ParsedNodes.{TakesClass, IsBuilt}

@@ -1,17 +1,16 @@
 -- Where memory may be wanting.
-use Rattle.std.proofs.Common.{ℕ, ◌≡◌, ◌≢◌, List, [], ◌∷◌, ◌++◌, Some, Result, Ok, Err, refl, sym, ap, ◌∙◌, inl, inr}
+use Rattle.std.proofs.Common.{ℕ, ◌≡◌, ◌≢◌, List, [], ◌∷◌, ◌++◌, Some, Result, Ok, Err, refl, sym, ◌∙◌, inl, inr}
 use Rattle.std.specs.Prelude.{IfErr}
 use Rattle.wave_lex.specs.declared.lex.Token as lex
 use Rattle.wave_lex.specs.declared.lex.Token.TheVariants.{BraceOpen}
 use Rattle.wave_lex.specs.declared.error.ParserErrorKind.{ParserErrorKind}
 use Rattle.wave_lex.specs.declared.error.ParserErrorKind.TheVariants as kind
-use Rattle.wave_lex.specs.Errors.{Diagnostic, Refusal}
+use Rattle.wave_lex.specs.Errors.{Diagnostic}
 use Rattle.wave_grammar.specs.Token.{Token}
 use Rattle.wave_grammar.specs.ParserPosition.{Place, TakesItem, TakesTokens, text_at, token_of}
 use Rattle.wave_grammar.specs.PrefixAutomaton.{Due, Form}
 use Rattle.wave_tree.specs.ParserState.{HoldsNoBrace, Fails}
 use Rattle.wave_tree.specs.Private.ParserState.{WantsOnly}
-use Rattle.wave_tree.specs.ParsedNodes.{IsParsed}
 use Rattle.wave_tree.proofs.ParserSteps.{Reached, tokens_join, kind_is}
 
 -- no brace stands behind tokens before which none stands

@@ -1,6 +1,6 @@
 use Rattle.std.specs.Prelude.{codes}
 use Rattle.wave_wasm.specs.Names.{is_one_of}
-use Rattle.std.proofs.Common.{◌≡◌, ℕ, ◌+◌, ◌-◌, Some, None, Ok, List, [], ◌∷◌, ◌++◌, refl, sym, ap, subst, ◌∙◌, inl, inr, arith, length}
+use Rattle.std.proofs.Common.{◌≡◌, ℕ, ◌+◌, ◌-◌, Some, Ok, List, [], ◌∷◌, ◌++◌, refl, sym, ap, subst, ◌∙◌, inl, inr, arith, length}
 use Rattle.wave_lex.specs.declared.lex.Token as lex
 use Rattle.wave_lex.specs.declared.lex.Token.TheVariants.{BraceOpen, BraceClose, ParenOpen, ParenClose, BracketOpen, BracketClose, Colon, Comma, Number, LabelOrKeyword, Char, String, MultilineString}
 use Rattle.wave_grammar.specs.ParserPosition.{Place, TakesItem, span_at, text_at, token_of}
@@ -12,7 +12,6 @@ use Rattle.std.specs.declared.ops.Range.{Range}
 use Rattle.wave_grammar.specs.Private.TokenRoles.{form_of, IsClose}
 use Rattle.wave_tree.specs.Private.ParserState.{spec_word}
 use Rattle.wave_lex.specs.declared.error.ParserErrorKind.TheVariants as because
-use Rattle.wave_lex.specs.Errors.{Says}
 use Rattle.wave_tree.proofs.ParserSteps.{no_level, kind_is, here, here_is, handed, gives_then, fails, any_token, shallow, value_read, no_value, level_open, read_there, unexpected_there, no_paren, then_token, token_there, behind_bare, reached, fails_behind, then_behind, payload_other, unexpected_behind, expected, untrue, moved, then_class, then_behind_class, range_path, close_first, close_empty, close_next, then_same, then_refuses, item_refuses, item_read, then_reached, Reached, IsItemDue, no_close, empty_there, key_reads, no_key, brace_key, entries_other, close_behind, comma_behind, other_behind, token_less, tokens_less, left_at, no_colon, no_brace}
 use Rattle.wave_tree.specs.declared.role.LabelRole.{LabelRole}
 use Rattle.wave_tree.specs.Private.ParserState.{Stream, AsksFor, HasText}
@@ -20,8 +19,7 @@ use Rattle.wave_tree.specs.Private.ParsedNodes.{IsParsedBehind, IsMaybe, IsPaylo
 use Rattle.wave_tree.specs.ParsedNodes.{TakesClass}
 use Rattle.wave_node.specs.NodeTree.{NodeTree, node, no_nodes}
 use Rattle.wave_node.specs.declared.ast.NodeType.TheVariants as kind_of_node
-use Rattle.wave_lex.specs.Tokenization.{span}
-use Rattle.wave_tree.proofs.NodeCorrectness.Items.{class_as, one_tied, label_tied, items_tied, braces_tied, leaf_tied, number_word_tied, none_tied, some_tied, ok_tied, err_tied, case_tied, pushed, some_there, type_of_items, items_made, items_none, items_first, items_next, pairs_next, pairs_close, empty_tied, no_fields_tied, entries_tied, flags_tied, payload_tied}
+use Rattle.wave_tree.proofs.NodeCorrectness.Items.{class_as, one_tied, label_tied, items_tied, braces_tied, leaf_tied, number_word_tied, none_tied, some_tied, ok_tied, err_tied, case_tied, some_there, type_of_items, items_made, items_none, items_first, items_next, pairs_next, pairs_close, empty_tied, no_fields_tied, entries_tied, flags_tied, payload_tied}
 use Rattle.wave_tree.proofs.NodeCorrectness.Tokens.{number_parsed, char_parsed, string_parsed, multiline_parsed}
 use Rattle.wave_node.proofs.Parameters.{error_handed}
 use Rattle.wave_tree.specs.Private.ParserState.{WantsOnly}
@@ -149,10 +147,14 @@ parse_items-items-init g t c = record {
   asks = asks_once c.args.self.now c.next_is.new.self c.next_is.ensures.asks;
   no_close = subst (λ z. (next : Place) × TakesItem z (Some (Ok c.args.close)) next → ⊥) (sym c.next_is.ensures.stays) (λ next. untrue _ c.if-next_is.false (c.next_is.ensures.answer.1 next));
   reached = λ n s e. (due.first_item, inl refl, here_is n due.first_item (form_of c.args.close ∷ s) _ _ c.next_is.ensures.stays);
-  tree = ([], c.parts-parts.ensures _ (elim c.if-eq-2.branch [
-    | parse_items-then-eq-2 w ↦ subst IsOfParts (sym w.ty-is) tt
-    | parse_items-else-eq-2 w ↦ subst IsOfParts (sym w.ty-is) tt
-  ]), items_first _ _ _ _ [] refl c.next_is.ensures.stays);
+  tree = (
+    [],
+    c.parts-parts.ensures _ (elim c.if-eq-2.branch [
+      | parse_items-then-eq-2 w ↦ subst IsOfParts (sym w.ty-is) tt
+      | parse_items-else-eq-2 w ↦ subst IsOfParts (sym w.ty-is) tt
+    ]),
+    items_first _ _ _ _ [] refl c.next_is.ensures.stays,
+  );
 }
 
 pub parse_items-returns-in_err-item-clause-led : goal.parse_items-returns-in_err-item-clause-led
@@ -462,37 +464,37 @@ pub parse_node-returns-in-MultilineString-clause-tree : goal.parse_node-returns-
 parse_node-returns-in-MultilineString-clause-tree g t c = leaf_built (g.P.Plan.is_made c.args.plan) c.args.self.now.place c.advance.new.self.place c.in_ok-token.token kind_of_node.MultilineString c.leaf-in-MultilineString.result (IsParsed c.args.levels c.args.self.now.place c.advance.new.self.place) c.in_ok-token.ensures.takes (one_tied kind_of_node.MultilineString MultilineString multiline_parsed c.args.levels c.args.self.now.place c.advance.new.self.place c.in_ok-token.token _ (omega arith) c.in_ok-token.ensures.takes c.in-MultilineString.is refl) c.leaf-in-MultilineString.ensures
 
 pub parse_node-returns-in-LabelOrKeyword-clause-tree : goal.parse_node-returns-in-LabelOrKeyword-clause-tree
-parse_node-returns-in-LabelOrKeyword-clause-tree g t c = 
+parse_node-returns-in-LabelOrKeyword-clause-tree g t c =
     built (g.P.Plan.is_made c.args.plan) c.args.self.now.place c.advance.new.self.place (IsParsedBehind LabelOrKeyword (c.args.levels - 1 + 1) c.advance.new.self.place c.parse_label.new.self.place) (IsParsed c.args.levels c.args.self.now.place c.parse_label.new.self.place) c.parse_label.result (source_item c.args.self.now.place c.advance.new.self.place c.in_ok-token.token c.in_ok-token.ensures.takes)
     (λ n. label_tied c.args.levels c.args.self.now.place c.advance.new.self.place c.parse_label.new.self.place c.in_ok-token.token (as_ok n) (omega arith) c.in_ok-token.ensures.takes c.in-LabelOrKeyword.is) c.parse_label.ensures.tree
 
 pub parse_node-returns-in-ParenOpen-clause-tree : goal.parse_node-returns-in-ParenOpen-clause-tree
-parse_node-returns-in-ParenOpen-clause-tree g t c = 
+parse_node-returns-in-ParenOpen-clause-tree g t c =
     built (g.P.Plan.is_made c.args.plan) c.args.self.now.place c.advance.new.self.place (IsOfItems (c.args.levels - 1) ParenClose c.advance.new.self.place c.parse_items.new.self.place) (IsParsed c.args.levels c.args.self.now.place c.parse_items.new.self.place) c.parse_items.result (source_item c.args.self.now.place c.advance.new.self.place c.in_ok-token.token c.in_ok-token.ensures.takes)
     (λ n. items_tied c.args.levels c.args.self.now.place c.advance.new.self.place c.parse_items.new.self.place c.in_ok-token.token ParenOpen ParenClose (inl (refl, refl)) (as_ok n) (omega arith) c.in_ok-token.ensures.takes c.in-ParenOpen.is) c.parse_items.ensures.tree
 
 pub parse_node-returns-in-BracketOpen-clause-tree : goal.parse_node-returns-in-BracketOpen-clause-tree
-parse_node-returns-in-BracketOpen-clause-tree g t c = 
+parse_node-returns-in-BracketOpen-clause-tree g t c =
     built (g.P.Plan.is_made c.args.plan) c.args.self.now.place c.advance.new.self.place (IsOfItems (c.args.levels - 1) BracketClose c.advance.new.self.place c.parse_items-in-BracketOpen.new.self.place) (IsParsed c.args.levels c.args.self.now.place c.parse_items-in-BracketOpen.new.self.place) c.parse_items-in-BracketOpen.result (source_item c.args.self.now.place c.advance.new.self.place c.in_ok-token.token c.in_ok-token.ensures.takes)
     (λ n. items_tied c.args.levels c.args.self.now.place c.advance.new.self.place c.parse_items-in-BracketOpen.new.self.place c.in_ok-token.token BracketOpen BracketClose (inr (refl, refl)) (as_ok n) (omega arith) c.in_ok-token.ensures.takes c.in-BracketOpen.is) c.parse_items-in-BracketOpen.ensures.tree
 
 pub parse_node-returns-in-BraceOpen-clause-tree : goal.parse_node-returns-in-BraceOpen-clause-tree
-parse_node-returns-in-BraceOpen-clause-tree g t c = 
+parse_node-returns-in-BraceOpen-clause-tree g t c =
     built (g.P.Plan.is_made c.args.plan) c.args.self.now.place c.advance.new.self.place (IsParsedBehind BraceOpen (c.args.levels - 1 + 1) c.advance.new.self.place c.parse_braces.new.self.place) (IsParsed c.args.levels c.args.self.now.place c.parse_braces.new.self.place) c.parse_braces.result (source_item c.args.self.now.place c.advance.new.self.place c.in_ok-token.token c.in_ok-token.ensures.takes)
     (λ n. braces_tied c.args.levels c.args.self.now.place c.advance.new.self.place c.parse_braces.new.self.place c.in_ok-token.token (as_ok n) (omega arith) c.in_ok-token.ensures.takes c.in-BraceOpen.is) c.parse_braces.ensures.tree
 
 pub parse_label-returns-in-True-clause-tree : goal.parse_label-returns-in-True-clause-tree
-parse_label-returns-in-True-clause-tree g t c = 
+parse_label-returns-in-True-clause-tree g t c =
     let text_is = sym c.slice.ensures ∙ subst (λ z. HasText z c.slice.result.now) c.in-True.is c.role_of.ensures.text in
     (node kind_of_node.BoolTrue (span_at c.args.self.now.place) no_nodes, leaf_tied c.args.levels c.args.self.now.place kind_of_node.BoolTrue _ (word_here c.slice.ensures c.role_of.ensures.word c.in-True.is) (inl (refl, text_is)) refl, c.leaf.ensures)
 
 pub parse_label-returns-in-False-clause-tree : goal.parse_label-returns-in-False-clause-tree
-parse_label-returns-in-False-clause-tree g t c = 
+parse_label-returns-in-False-clause-tree g t c =
     let text_is = sym c.slice.ensures ∙ subst (λ z. HasText z c.slice.result.now) c.in-False.is c.role_of.ensures.text in
     (node kind_of_node.BoolFalse (span_at c.args.self.now.place) no_nodes, leaf_tied c.args.levels c.args.self.now.place kind_of_node.BoolFalse _ (word_here c.slice.ensures c.role_of.ensures.word c.in-False.is) (inr (refl, text_is)) refl, c.leaf-in-False.ensures)
 
 pub parse_label-returns-in-Number-clause-tree : goal.parse_label-returns-in-Number-clause-tree
-parse_label-returns-in-Number-clause-tree g t c = 
+parse_label-returns-in-Number-clause-tree g t c =
     let text_is = ap (is_one_of (codes "inf" ∷ codes "nan" ∷ [])) (sym c.slice.ensures) ∙ subst (λ z. HasText z c.slice.result.now) c.in-Number.is c.role_of.ensures.text in
     (node kind_of_node.Number (span_at c.args.self.now.place) no_nodes, number_word_tied c.args.levels c.args.self.now.place _ (word_here c.slice.ensures c.role_of.ensures.word c.in-Number.is) text_is refl, c.leaf-in-Number.ensures)
 
@@ -500,23 +502,23 @@ pub parse_label-returns-in-None-clause-tree : goal.parse_label-returns-in-None-c
 parse_label-returns-in-None-clause-tree g t c = (node kind_of_node.OptionNone (span_at c.args.self.now.place) no_nodes, none_tied c.args.levels c.args.self.now.place _ (word_here c.slice.ensures c.role_of.ensures.word c.in-None.is) refl, c.leaf-in-None.ensures)
 
 pub parse_label-returns-in_ok-expect-in-Some-clause-tree : goal.parse_label-returns-in_ok-expect-in-Some-clause-tree
-parse_label-returns-in_ok-expect-in-Some-clause-tree g t c = 
+parse_label-returns-in_ok-expect-in-Some-clause-tree g t c =
     built (g.P.Plan.is_made c.args.plan) c.args.self.now.place c.expect.new.self.place (IsPayload c.args.levels kind_of_node.OptionSome c.span-start.result.start [] c.expect.new.self.place c.parse_payload.new.self.place) (IsParsedBehind LabelOrKeyword (c.args.levels + 1) c.args.self.now.place c.parse_payload.new.self.place) c.parse_payload.result (source_item c.args.self.now.place c.expect.new.self.place ParenOpen c.in_ok-expect-in-Some.ensures.takes)
     (λ n. some_tied c.args.levels c.args.self.now.place c.expect.new.self.place c.parse_payload.new.self.place c.span-start.result.start [] (as_ok n) (word_here c.slice.ensures c.role_of.ensures.word c.in-Some.is) (ap (λ (z : Range ℕ). z.start) c.span-start.ensures) refl c.in_ok-expect-in-Some.ensures.takes)
     (of_front (λ front. g.P.Plan.are_parts c.args.plan c.expect.new.self.place.lexer.source kind_of_node.OptionSome front c.parts-parts.result) c.parse_payload.result (λ front. IsBuilt (g.P.Plan.is_made c.args.plan) c.expect.new.self.place (IsPayload c.args.levels kind_of_node.OptionSome c.span-start.result.start front c.expect.new.self.place c.parse_payload.new.self.place)) c.parse_payload.ensures.tree [] (c.parts-parts.ensures c.expect.new.self.place.lexer.source tt))
 
 pub parse_label-returns-in-Ok-clause-tree : goal.parse_label-returns-in-Ok-clause-tree
-parse_label-returns-in-Ok-clause-tree g t c = 
+parse_label-returns-in-Ok-clause-tree g t c =
     built (g.P.Plan.is_made c.args.plan) c.args.self.now.place c.args.self.now.place (IsMaybe c.args.levels kind_of_node.ResultOk kind_of_node.ResultOk c.args.self.now.place c.parse_maybe.new.self.place) (IsParsedBehind LabelOrKeyword (c.args.levels + 1) c.args.self.now.place c.parse_maybe.new.self.place) c.parse_maybe.result refl
     (λ n. ok_tied c.args.levels c.args.self.now.place c.parse_maybe.new.self.place (as_ok n) (word_here c.slice.ensures c.role_of.ensures.word c.in-Ok.is)) (as_given (IsOfParts kind_of_node.ResultOk) (IsBuilt (g.P.Plan.is_made c.args.plan) c.args.self.now.place (IsMaybe c.args.levels kind_of_node.ResultOk kind_of_node.ResultOk c.args.self.now.place c.parse_maybe.new.self.place)) c.parse_maybe.result c.parse_maybe.ensures.tree tt)
 
 pub parse_label-returns-in-Err-clause-tree : goal.parse_label-returns-in-Err-clause-tree
-parse_label-returns-in-Err-clause-tree g t c = 
+parse_label-returns-in-Err-clause-tree g t c =
     built (g.P.Plan.is_made c.args.plan) c.args.self.now.place c.args.self.now.place (IsMaybe c.args.levels kind_of_node.ResultErr kind_of_node.ResultErr c.args.self.now.place c.parse_maybe-in-Err.new.self.place) (IsParsedBehind LabelOrKeyword (c.args.levels + 1) c.args.self.now.place c.parse_maybe-in-Err.new.self.place) c.parse_maybe-in-Err.result refl
     (λ n. err_tied c.args.levels c.args.self.now.place c.parse_maybe-in-Err.new.self.place (as_ok n) (word_here c.slice.ensures c.role_of.ensures.word c.in-Err.is)) (as_given (IsOfParts kind_of_node.ResultErr) (IsBuilt (g.P.Plan.is_made c.args.plan) c.args.self.now.place (IsMaybe c.args.levels kind_of_node.ResultErr kind_of_node.ResultErr c.args.self.now.place c.parse_maybe-in-Err.new.self.place)) c.parse_maybe-in-Err.result c.parse_maybe-in-Err.ensures.tree tt)
 
 pub parse_label-returns-in-Case-clause-tree : goal.parse_label-returns-in-Case-clause-tree
-parse_label-returns-in-Case-clause-tree g t c = 
+parse_label-returns-in-Case-clause-tree g t c =
     built (g.P.Plan.is_made c.args.plan) c.args.self.now.place c.args.self.now.place (IsMaybe c.args.levels kind_of_node.Label kind_of_node.VariantWithPayload c.args.self.now.place c.parse_maybe-in-Case.new.self.place) (IsParsedBehind LabelOrKeyword (c.args.levels + 1) c.args.self.now.place c.parse_maybe-in-Case.new.self.place) c.parse_maybe-in-Case.result refl
     (λ n. case_tied c.args.levels c.args.self.now.place c.parse_maybe-in-Case.new.self.place (as_ok n) (word_here c.slice.ensures c.role_of.ensures.word c.in-Case.is)) (as_given (IsOfParts kind_of_node.VariantWithPayload) (IsBuilt (g.P.Plan.is_made c.args.plan) c.args.self.now.place (IsMaybe c.args.levels kind_of_node.Label kind_of_node.VariantWithPayload c.args.self.now.place c.parse_maybe-in-Case.new.self.place)) c.parse_maybe-in-Case.result c.parse_maybe-in-Case.ensures.tree tt)
 
@@ -526,7 +528,7 @@ parse_maybe-returns-then-not-next_is-clause-tree g t c = λ given.
     (node c.args.alone (span_at c.args.self.now.place) no_nodes, inl (stays, refl), subst (λ (z : Place). g.P.Plan.is_made c.args.plan z.lexer.source (node c.args.alone (span_at z) no_nodes) c.leaf.result) stays c.leaf.ensures)
 
 pub parse_maybe-returns-clause-tree : goal.parse_maybe-returns-clause-tree
-parse_maybe-returns-clause-tree g t c = 
+parse_maybe-returns-clause-tree g t c =
     let stays = c.next_is.ensures.stays in
     let label = label_children c.args.with (span_at c.next_is.new.self.place) in
     let behind : c.expect.new.self.place.lexer.source ≡ c.next_is.new.self.place.lexer.source = source_item c.next_is.new.self.place c.expect.new.self.place ParenOpen c.in_ok-expect.ensures.takes in
@@ -545,14 +547,14 @@ parse_payload-returns-clause-tree g t c = λ front first.
     (record { payload = n; behind = c.parse_node.new.self.place; inner = is; close = c.in_ok-expect.ensures.takes; is = refl })
 
 pub parse_items-returns-then-next_is-clause-tree : goal.parse_items-returns-then-next_is-clause-tree
-parse_items-returns-then-next_is-clause-tree g t c = 
+parse_items-returns-then-next_is-clause-tree g t c =
     let stays = c.next_is.ensures.stays in
     let source : c.expect.new.self.place.lexer.source ≡ c.args.self.now.place.lexer.source = source_item c.next_is.new.self.place c.expect.new.self.place c.args.close c.in_ok-expect.ensures.takes ∙ ap (λ (z : Place). z.lexer.source) stays in
     whole_built (g.P.Plan.is_made c.args.plan) (λ (s : List ℕ) cs ps. g.P.Plan.are_parts c.args.plan s kind_of_node.List cs ps) c.args.self.now.place c.expect.new.self.place kind_of_node.List c.span-start.result.start c.whole.result c.parts-none.result [] (IsOfItems c.args.levels c.args.close c.args.self.now.place c.expect.new.self.place) source (c.parts-none.ensures c.args.self.now.place.lexer.source tt) c.whole.ensures
     (items_none c.args.levels c.args.close c.args.self.now.place c.next_is.new.self.place c.expect.new.self.place c.span-start.result.start [] _ refl refl c.requires (is_other _ _ c.eq.ensures c.if-eq.false) (ap (λ (z : Range ℕ). z.start) c.span-start.ensures) stays c.in_ok-expect.ensures.takes)
 
 pub parse_items-returns-then-eq-3-clause-tree : goal.parse_items-returns-then-eq-3-clause-tree
-parse_items-returns-then-eq-3-clause-tree g t c = 
+parse_items-returns-then-eq-3-clause-tree g t c =
     let (n, is, of) = c.in_ok-item.ensures.tree in
     let (children, first, go) = c.items.invariant.tree in
     let (d, i, r) = c.items.invariant.reached (c.args.levels + 1) [] (omega arith) in
@@ -567,7 +569,7 @@ parse_items-returns-then-eq-3-clause-tree g t c =
     ]) (ap (λ (z : Range ℕ). z.start) c.span-start.ensures) (go n c.parse_node.new.self.place c.advance.new.self.place [] is (inl (class_as _ _ _ c.args.close c.in_ok-token.ensures.takes (is_class _ _ c.eq-in-items.ensures c.if-eq-3.true)))) (λ k. some_there children _ n refl))
 
 pub parse_items-returns-then-next_is-2-clause-tree : goal.parse_items-returns-then-next_is-2-clause-tree
-parse_items-returns-then-next_is-2-clause-tree g t c = 
+parse_items-returns-then-next_is-2-clause-tree g t c =
     let (n, is, of) = c.in_ok-item.ensures.tree in
     let (children, first, go) = c.items.invariant.tree in
     let (d, i, r) = c.items.invariant.reached (c.args.levels + 1) [] (omega arith) in
@@ -611,7 +613,7 @@ parse_items-items-preserved g t c = record {
 }
 
 pub parse_braces-returns-then-next_is-clause-tree : goal.parse_braces-returns-then-next_is-clause-tree
-parse_braces-returns-then-next_is-clause-tree g t c = 
+parse_braces-returns-then-next_is-clause-tree g t c =
     let stays = c.next_is.ensures.stays in
     let key = node kind_of_node.Label (span_at c.next_is.new.self.place) no_nodes in
     let behind : c.expect-then-next_is.new.self.place.lexer.source ≡ c.next_is.new.self.place.lexer.source = source_item c.next_is.new.self.place c.expect-then-next_is.new.self.place Colon c.in_ok-expect-2.ensures.takes in
@@ -623,7 +625,7 @@ parse_braces-returns-then-next_is-clause-tree g t c =
     (subst (λ (s : List ℕ). g.P.Plan.are_parts c.args.plan s kind_of_node.TupleSet (key ∷ []) c.in_ok-key.key) (sym behind) c.in_ok-key.ensures.made))
 
 pub parse_braces-returns-clause-tree : goal.parse_braces-returns-clause-tree
-parse_braces-returns-clause-tree g t c = 
+parse_braces-returns-clause-tree g t c =
     let key = node c.in-Some.ty (span_at c.advance.new.self.place) no_nodes in
     let behind : c.expect-2.new.self.place.lexer.source ≡ c.advance.new.self.place.lexer.source = source_item c.advance.new.self.place c.expect-2.new.self.place Colon c.in_ok-expect-3.ensures.takes in
     built (g.P.Plan.is_made c.args.plan) c.args.self.now.place c.expect-2.new.self.place (IsOfEntries c.args.levels c.span-start.result.start key c.expect-2.new.self.place c.parse_entries-2.new.self.place) (IsParsedBehind BraceOpen (c.args.levels + 1) c.args.self.now.place c.parse_entries-2.new.self.place) c.parse_entries-2.result (behind ∙ (source_item c.args.self.now.place c.advance.new.self.place c.in_ok-token.token c.in_ok-token.ensures.takes))
@@ -634,17 +636,17 @@ parse_braces-returns-clause-tree g t c =
     (subst (λ (s : List ℕ). g.P.Plan.are_parts c.args.plan s kind_of_node.TupleSet (key ∷ []) c.in_ok-key-2.key) (sym behind) c.in_ok-key-2.ensures.made))
 
 pub parse_braces-returns-then-eq-clause-tree : goal.parse_braces-returns-then-eq-clause-tree
-parse_braces-returns-then-eq-clause-tree g t c = 
+parse_braces-returns-then-eq-clause-tree g t c =
     whole_built (g.P.Plan.is_made c.args.plan) (λ (s : List ℕ) cs ps. g.P.Plan.are_parts c.args.plan s kind_of_node.EmptySet cs ps) c.args.self.now.place c.advance.new.self.place kind_of_node.EmptySet c.span-start.result.start c.whole.result c.parts-none.result [] (IsParsedBehind BraceOpen (c.args.levels + 1) c.args.self.now.place c.advance.new.self.place) (source_item c.args.self.now.place c.advance.new.self.place c.in_ok-token.token c.in_ok-token.ensures.takes) (c.parts-none.ensures c.args.self.now.place.lexer.source tt) c.whole.ensures
     (empty_tied c.args.levels c.args.self.now.place c.advance.new.self.place c.span-start.result.start [] _ (class_as _ _ _ BraceClose c.in_ok-token.ensures.takes (is_class _ _ c.eq.ensures c.if-eq.true)) (ap (λ (z : Range ℕ). z.start) c.span-start.ensures) refl refl)
 
 pub parse_braces-returns-then-eq-2-clause-tree : goal.parse_braces-returns-then-eq-2-clause-tree
-parse_braces-returns-then-eq-2-clause-tree g t c = 
+parse_braces-returns-then-eq-2-clause-tree g t c =
     whole_built (g.P.Plan.is_made c.args.plan) (λ (s : List ℕ) cs ps. g.P.Plan.are_parts c.args.plan s kind_of_node.TupleSet cs ps) c.args.self.now.place c.expect.new.self.place kind_of_node.TupleSet c.span-start.result.start c.whole-then-eq-2.result c.parts-none-then-eq-2.result [] (IsParsedBehind BraceOpen (c.args.levels + 1) c.args.self.now.place c.expect.new.self.place) (source_item c.advance.new.self.place c.expect.new.self.place BraceClose c.in_ok-expect.ensures.takes ∙ (source_item c.args.self.now.place c.advance.new.self.place c.in_ok-token.token c.in_ok-token.ensures.takes)) (c.parts-none-then-eq-2.ensures c.args.self.now.place.lexer.source tt) c.whole-then-eq-2.ensures
     (no_fields_tied c.args.levels c.args.self.now.place c.advance.new.self.place c.expect.new.self.place c.span-start.result.start [] _ (class_as _ _ _ Colon c.in_ok-token.ensures.takes (is_class _ _ c.eq-2.ensures c.if-eq-2.true)) c.in_ok-expect.ensures.takes (ap (λ (z : Range ℕ). z.start) c.span-start.ensures) refl refl)
 
 pub parse_braces-returns-then-eq-3-clause-tree : goal.parse_braces-returns-then-eq-3-clause-tree
-parse_braces-returns-then-eq-3-clause-tree g t c = 
+parse_braces-returns-then-eq-3-clause-tree g t c =
     let stays = c.next_is.ensures.stays in
     built (g.P.Plan.is_made c.args.plan) c.args.self.now.place c.next_is.new.self.place (IsOfFlags c.span-start.result.start c.next_is.new.self.place c.parse_flags.new.self.place) (IsParsedBehind BraceOpen (c.args.levels + 1) c.args.self.now.place c.parse_flags.new.self.place) c.parse_flags.result (ap (λ (z : Place). z.lexer.source) stays ∙ (source_item c.args.self.now.place c.advance.new.self.place c.in_ok-token.token c.in_ok-token.ensures.takes))
     (λ n. flags_tied c.args.levels c.args.self.now.place c.next_is.new.self.place c.parse_flags.new.self.place c.span-start.result.start (as_ok n) (subst (λ z. TakesClass LabelOrKeyword c.args.self.now.place z) (sym stays) (class_as _ _ _ LabelOrKeyword c.in_ok-token.ensures.takes (is_class _ _ c.eq-3.ensures c.if-eq-3.true))) (ap (λ (z : Range ℕ). z.start) c.span-start.ensures)) c.parse_flags.ensures.tree
@@ -686,7 +688,7 @@ parse_entries-entries-preserved g t c = record {
       let at_key : c.advance-in-entries.new.self.place.lexer.source ≡ c.args.self.now.place.lexer.source = source_item c.advance.new.self.place c.advance-in-entries.new.self.place c.in_ok-next.next c.in_ok-next.ensures.takes ∙ token in
       let keyed = c.in_ok-parts-2.ensures.kept kind_of_node.TupleSet (first ∷ (hs ++ n ∷ [])) (subst (λ (s : List ℕ). g.P.Plan.are_parts c.args.plan s kind_of_node.TupleSet (first ∷ (hs ++ n ∷ [])) c.in_ok-parts.parts) (sym at_key) grown) in
       let (more, same, further) = pairs_next c.args.levels c.args.self.now.place c.entries.self.place c.parse_node.new.self.place c.advance.new.self.place c.advance-in-entries.new.self.place c.expect.new.self.place (first ∷ hs) (first ∷ (hs ++ n ∷ [])) ((first ∷ (hs ++ n ∷ [])) ++ key ∷ []) first n key (hs, refl, go) is (class_as _ _ _ Comma c.in_ok-token.ensures.takes (differs_not _ _ c.ne.ensures c.if-ne.false))
-          (c.in_ok-next.next, c.in_ok-next.ensures.takes, c.in-Some.ensures.0, ap (λ z. node z (span_at c.advance-in-entries.new.self.place) no_nodes) c.in-Some.ensures.1) c.in_ok-expect.ensures.takes refl refl in
+      (c.in_ok-next.next, c.in_ok-next.ensures.takes, c.in-Some.ensures.0, ap (λ z. node z (span_at c.advance-in-entries.new.self.place) no_nodes) c.in-Some.ensures.1) c.in_ok-expect.ensures.takes refl refl in
       (more, subst (λ (ns : List NodeTree). g.P.Plan.are_parts c.args.plan c.args.self.now.place.lexer.source kind_of_node.TupleSet ns c.in_ok-parts-2.parts) same (subst (λ (s : List ℕ). g.P.Plan.are_parts c.args.plan s kind_of_node.TupleSet ((first ∷ (hs ++ n ∷ [])) ++ key ∷ []) c.in_ok-parts-2.parts) at_key keyed), further);
   led = λ n s e.
       let item = c.in_ok-value.ensures.led n (due.entries ∷ s) (omega arith) in
