@@ -200,44 +200,51 @@ fn written_deeper_than_read(rt: HostRuntime) -> Result<(), Fail> {
     Ok(())
 }
 
-/// What a parser with the limit reads of the whole text at the type, printed, or its refusal.
-fn answer_within(rt: HostRuntime, ty: &str, text: &str, levels: u32) -> Result<String, Fail> {
+/// What the parser reads of the whole of its text at the type, printed, or its refusal.
+fn read_whole(rt: HostRuntime, ty: &str, parser: Parser) -> Result<String, Fail> {
     let ty = type_of(rt.alloc(), ty)?;
-    let mut parser = Parser::new(text).with_limit(levels);
-    let read = match parser.parse_value::<Value>(rt.alloc(), &ty) {
-        Ok(value) => parser.finish().map(|_| value),
-        Err(error) => Err(error),
+    let mut parser = parser;
+    let value = match parser.parse_value::<Value>(rt.alloc(), &ty) {
+        Ok(value) => value,
+        Err(error) => return Ok(format!(in rt.alloc(); "{error}")?),
     };
-    told(rt.alloc(), read)
+    match parser.finish() {
+        Ok(()) => told(rt.alloc(), Ok(value)),
+        Err(error) => Ok(format!(in rt.alloc(); "{error}")?),
+    }
 }
 
 #[test]
-fn limits_at_types(rt: HostRuntime) -> Result<(), Fail> {
+fn written_deeper_read_within_its_levels(rt: HostRuntime) -> Result<(), Fail> {
     let ty = within(rt, "list<option<", 59, "list<u8>", ">>")?;
     let written = within(rt, "[some(", 59, "[]", ")]")?;
-    for (levels, expected) in [
-        (119, written.as_str()),
-        (118, "value nesting too deep at 353..354"),
-        (100, "value nesting too deep at 299..300"),
-    ] {
-        let answer = answer_within(rt, ty.as_str(), written.as_str(), levels)?;
-        assert_eq!(rt; answer.as_str(), expected);
-    }
-    for (ty, text, expected) in [
-        ("list<u8>", "[]", "[]"),
-        ("list<u8>", "[1]", "value nesting too deep at 0..1"),
-        ("option<u8>", "7", "some(7)"),
-        ("option<u8>", "some(7)", "value nesting too deep at 4..5"),
-    ] {
-        assert_eq!(rt; answer_within(rt, ty, text, 1)?.as_str(), expected);
-    }
+    let (ty, text) = (ty.as_str(), written.as_str());
+    let read = read_whole(rt, ty, Parser::new(text).with_limit(119))?;
+    assert_eq!(rt; read.as_str(), text);
+    let refusal = read_whole(rt, ty, Parser::new(text).with_limit(118))?;
+    assert_eq!(rt; refusal.as_str(), "value nesting too deep at 353..354");
+    let refusal = read_whole(rt, ty, Parser::new(text).with_limit(DEFAULT_LEVELS))?;
+    assert_eq!(rt; refusal.as_str(), "value nesting too deep at 299..300");
     Ok(())
 }
 
-/// How a parser with the limit refuses so many lists in one another; nothing where it doesn't.
-fn lists_within(rt: HostRuntime, times: usize, levels: u32) -> Result<String, Fail> {
+#[test]
+fn within_one_level(rt: HostRuntime) -> Result<(), Fail> {
+    let read = read_whole(rt, "list<u8>", Parser::new("[]").with_limit(1))?;
+    assert_eq!(rt; read.as_str(), "[]");
+    let refusal = read_whole(rt, "list<u8>", Parser::new("[1]").with_limit(1))?;
+    assert_eq!(rt; refusal.as_str(), "value nesting too deep at 0..1");
+    let read = read_whole(rt, "option<u8>", Parser::new("7").with_limit(1))?;
+    assert_eq!(rt; read.as_str(), "some(7)");
+    let refusal = read_whole(rt, "option<u8>", Parser::new("some(7)").with_limit(1))?;
+    assert_eq!(rt; refusal.as_str(), "value nesting too deep at 4..5");
+    Ok(())
+}
+
+/// How so many lists in one another are refused within a thousand levels; nothing where they aren't.
+fn thousand_lists(rt: HostRuntime, times: usize) -> Result<String, Fail> {
     let text = within(rt, "[", times, "", "]")?;
-    let mut parser = Parser::new(text.as_str()).with_limit(levels);
+    let mut parser = Parser::new(text.as_str()).with_limit(MAX_LEVELS);
     match parser.parse_raw_value(rt.alloc()) {
         Ok(_) => Ok(String::new(rt.alloc())),
         Err(error) => Ok(format!(in rt.alloc(); "{error}")?),
@@ -245,11 +252,13 @@ fn lists_within(rt: HostRuntime, times: usize, levels: u32) -> Result<String, Fa
 }
 
 #[test]
-fn limits_without_a_type(rt: HostRuntime) -> Result<(), Fail> {
+fn within_a_thousand_levels(rt: HostRuntime) -> Result<(), Fail> {
     assert_eq!(rt; (DEFAULT_LEVELS, MAX_LEVELS), (100, 1000));
-    assert_eq!(rt; lists_within(rt, 1000, MAX_LEVELS)?.as_str(), "");
-    let refusal = lists_within(rt, 1001, MAX_LEVELS)?;
-    assert_eq!(rt; refusal.as_str(), "value nesting too deep at 999..1000");
+    assert_eq!(rt; thousand_lists(rt, 1000)?.as_str(), "");
+    assert_eq!(rt;
+        thousand_lists(rt, 1001)?.as_str(),
+        "value nesting too deep at 999..1000"
+    );
     Ok(())
 }
 
