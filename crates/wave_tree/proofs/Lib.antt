@@ -5,6 +5,8 @@ pub mod ParserSound
 pub mod Lookahead
 pub mod ClassTests
 pub mod FlagsSorted
+pub mod Built
+pub mod Wanting
 pub mod FlagLoop
 pub mod TokenAlignment
 pub mod NodeCorrectness

@@ -180,6 +180,11 @@ nat_lt_false m n h = grind arith
 level_deep : (n : ℕ) (s : List Form) (t : Token) → n ≤ length s → step n value s t ≡ too_deep
 level_deep n s t h = ap (λ b. if b then value_step s t else too_deep) (nat_lt_false (length s) n h)
 
+-- no level is left for a value
+pub no_level : (n : ℕ) (s : List Form) (p : Place) (x : Diagnostic) → n ≤ length s → Says x kind.NestingTooDeep (span_at p) None → FailsBySyntax x n value s p p
+no_level n s p x h says = λ apart. refused_there (inl tt) x (here n value s p)
+    (subst (λ k. StandsAt k x n value s p p) (sym (kind_is says)) (record { full = h; due = tt; no_close = λ t q there. level_deep n s t h }, refl, says))
+
 value_deep : (n : ℕ) (d : Due) (s : List Form) (p : Place) → IsTooDeep n d s p → IsTooDeep n value s p
 value_deep n d s p deep = record { full = deep.full; due = tt; no_close = λ t q h. level_deep n s t deep.full }
 

@@ -2,6 +2,7 @@
 use Rattle.std.specs.Prelude.{ℕ, ◌≡◌, ◌⊎◌, ◌+◌, ◌≤◌, max, length, List, Some, None, Result, Ok, Err}
 use Rattle.std.specs.declared.ops.Range.{Range}
 use Rattle.wave_lex.specs.declared.lex.Token as lex
+use Rattle.wave_lex.specs.declared.lex.Token.TheVariants as lex_class
 use Rattle.wave_lex.specs.declared.error.ParserErrorKind.TheVariants.{InvalidToken, UnexpectedEnd, UnexpectedToken, TrailingCharacters, OutOfMemory}
 use Rattle.wave_lex.specs.Errors.{Diagnostic, class_name, Says}
 use Rattle.wave_lex.specs.Tokenization.{Lexed}
@@ -45,6 +46,10 @@ HasTokens p n = (ts : List Token) (q : Place) → TakesTokens p ts q → length 
 -- where n tokens stand, the lexer is asked for them and for one item more at most
 abbrev pub Asks : Parsing → Parsing → Type 0
 Asks old new = (n : ℕ) → HasTokens old.place n → asked new ≤ max (asked old) (old.place.taken + n + 1)
+
+-- no `{` stands among the tokens from the place on
+abbrev pub HoldsNoBrace : Place → Type 0
+HoldsNoBrace p = (ts : List Token) (q r : Place) → TakesTokens p ts q → TakesItem q (Some (Ok lex_class.BraceOpen)) r → ⊥
 
 -- no token of the wanted classes stands next
 abbrev pub Fails : (lex.Token → Type 0) → Diagnostic → Place → Place → Type 0

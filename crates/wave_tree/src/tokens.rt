@@ -1,5 +1,5 @@
 //! The tokens of a source, and the nodes that they spell.
-ghost use Rattle.std.specs.Prelude.{◌≡◌, ◌≢◌, ◌↔◌, ◌+◌, ◌-◌, ◌≤◌, Some, None, Ok, Err, IfOk, IfErr, IsTrue, List, [], ◌∷◌};
+ghost use Rattle.std.specs.Prelude.{◌≡◌, ◌≢◌, ◌↔◌, ℕ, ◌+◌, ◌-◌, ◌++◌, ◌≤◌, Some, None, Ok, Err, IfOk, IfErr, IsTrue, List, [], ◌∷◌};
 ghost use Rattle.wave_lex.specs.declared.lex.Token.TheVariants as lex_class;
 ghost use Rattle.wave_lex.specs.declared.error.ParserErrorKind.TheVariants as kind;
 ghost use Rattle.wave_lex.specs.Errors.{class_name, repeated_name};
@@ -13,13 +13,14 @@ ghost use Rattle.wave_lex.specs.Errors.{Says};
 ghost use Rattle.wave_lex.specs.Tokenization.{span};
 ghost use Rattle.wave_tree.specs.UntypedCall.{AreParamsTaken, RefusesTuple};
 ghost use Rattle.wave_grammar.specs.Private.TokenRoles.{form_of, IsClose};
-ghost use Rattle.std.specs.BTreeMap.{values};
-ghost use Rattle.wave_node.specs.NodeTree.{node, no_nodes, node_trees};
+ghost use Rattle.wave_plan.specs.FlagParts.{AreFlagsOf, flag_nodes};
+ghost use Rattle.wave_plan.specs.NodeParts.{IsOfParts};
+ghost use Rattle.wave_node.specs.NodeTree.{NodeTree, node, no_nodes, node_trees};
 ghost use Rattle.wave_node.specs.declared.ast.NodeType.TheVariants as node_type;
-ghost use Rattle.wave_tree.specs.ParsedNodes.{IsNodeTaken, IsParsed, IsSound};
+ghost use Rattle.wave_tree.specs.ParsedNodes.{IsNodeTaken, IsParsed, IsSound, IsBuilt};
 ghost use Rattle.wave_tree.specs.Private.ParsedNodes.{IsParsedBehind, IsMaybe, IsPayload, IsOfItems, IsOfEntries, IsOfFlags, label_children};
 ghost use Rattle.wave_tree.specs.ParserState.{Finishes, StaysWithout};
-ghost use Rattle.wave_tree.specs.Private.ParserState.{Stream, stream_of, asked_of, AsksFor, ahead_count, IsAhead, Advances, Expects};
+ghost use Rattle.wave_tree.specs.Private.ParserState.{Stream, stream_of, asked_of, AsksFor, WantsOnly, ahead_count, IsAhead, Advances, Expects};
 ghost use Rattle.wave_lex.specs.Errors.{LiesInText};
 ghost use Rattle.wave_tree.specs.ParserLaws.{LiesInSource};
 
@@ -34,7 +35,8 @@ use wave_grammar::label::label_name;
 use wave_lex::asked::Asked;
 use wave_lex::error::{ParserError, ParserErrorKind};
 use wave_lex::lex::{Lexer, Span, Token};
-use wave_node::ast::make;
+use wave_plan::nodes::Nodes;
+use wave_plan::plan::Plan;
 
 /// Whether the item is a token of this class.
 fn is_token(item: &Option<Result<Token, Span>>, class: Token) -> bool
@@ -220,18 +222,64 @@ impl<'source> Tokens<'source> {
         ParserError::new(ParserErrorKind::OutOfMemory, self.span())
     }
 
-    /// A node of the last token.
-    fn leaf(&self, alloc: Global, ty: NodeType) -> Node
-        ensures { result ≡ node ty (span_at self.now.place) no_nodes }
+    /// What is made of the last token.
+    fn leaf<P: Plan>(&self, alloc: Global, plan: P, ty: NodeType) -> P::Made
+        ensures { P.is_made plan self.now.place.lexer.source (node ty (span_at self.now.place) no_nodes) result }
     {
-        make::leaf(alloc, ty, self.span())
+        plan.leaf(alloc, ty, self.span(), self.slice())
     }
 
-    /// A node from `start` to the last token.
-    fn node(&self, ty: NodeType, start: usize, children: Vec<Node>) -> Node
-        ensures { result ≡ node ty (span start self.now.place.lexer.end) (node_trees children.items) }
+    /// What is made of a node from `start` to the last token, of these parts.
+    fn whole<P: Plan>(
+        &self,
+        alloc: Global,
+        plan: P,
+        ty: NodeType,
+        start: usize,
+        parts: P::Parts,
+    ) -> P::Made
+        ensures { (children : List NodeTree) → P.are_parts plan self.now.place.lexer.source ty children parts
+            → P.is_made plan self.now.place.lexer.source (node ty (span start self.now.place.lexer.end) (node_trees children)) result }
     {
-        make::node(ty, start..self.span().end, children)
+        plan.whole(alloc, ty, start..self.span().end, parts)
+    }
+
+    /// The parts, with the last token behind them: a key, or the label of a case.
+    fn with_key<P: Plan>(
+        &self,
+        alloc: Global,
+        plan: P,
+        parts: P::Parts,
+        ty: NodeType,
+    ) -> Result<P::Parts, ParserError>
+        ensures kept { let source = self.now.place.lexer.source in
+            let key = node ty (span_at self.now.place) no_nodes in
+            IfOk result (λ new. (of : NodeType) (children : List NodeTree) → P.are_parts plan source of children parts → P.are_parts plan source of (children ++ key ∷ []) new) }
+        ensures memory { IfErr result (λ e. e.kind ≡ kind.OutOfMemory) }
+        ensures takes { IfErr result (λ _. P.takes_memory) }
+    {
+        match plan.with_key(alloc, parts, ty, self.span(), self.slice()) {
+            Ok(parts) => Ok(parts),
+            Err(_) => Err(self.out_of_memory()),
+        }
+    }
+
+    /// The parts, with the next one behind them.
+    fn with_part<P: Plan>(
+        &self,
+        alloc: Global,
+        plan: P,
+        parts: P::Parts,
+        made: P::Made,
+    ) -> Result<P::Parts, ParserError>
+        ensures kept { IfOk result (λ new. (source : List ℕ) (of : NodeType) (children : List NodeTree) (n : NodeTree) → P.are_parts plan source of children parts → P.is_made (P.next plan parts) source n made → P.are_parts plan source of (children ++ n ∷ []) new) }
+        ensures memory { IfErr result (λ e. e.kind ≡ kind.OutOfMemory) }
+        ensures takes { IfErr result (λ _. P.takes_memory) }
+    {
+        match plan.with_part(alloc, parts, made) {
+            Ok(parts) => Ok(parts),
+            Err(_) => Err(self.out_of_memory()),
+        }
     }
 
     /// The place, in front of what a call is to read.
@@ -278,7 +326,7 @@ impl<'source> Tokens<'source> {
         ensures asks { AsksFor self.old self.new }
     {
         let start = self.start_here();
-        match self.parse_node(alloc, levels) {
+        match self.parse_node(alloc, Nodes, levels) {
             Ok(node) => Ok((node, start)),
             Err(error) => Err(self.refuse(error, start)),
         }
@@ -312,7 +360,7 @@ impl<'source> Tokens<'source> {
             self.expect(Token::ParenClose)?;
             return Ok(None);
         }
-        match self.parse_items(alloc, DEFAULT_LEVELS, Token::ParenClose) {
+        match self.parse_items(alloc, Nodes, DEFAULT_LEVELS, Token::ParenClose) {
             Ok(tuple) => Ok(Some(tuple)),
             Err(error) => Err(self.refuse(error, start)),
         }
@@ -320,9 +368,15 @@ impl<'source> Tokens<'source> {
 
     /// Reads a value.
     #[cycle(parser)]
-    fn parse_node(&mut self, alloc: Global, levels: u32) -> Result<Node, ParserError>
+    fn parse_node<P: Plan>(
+        &mut self,
+        alloc: Global,
+        plan: P,
+        levels: u32,
+    ) -> Result<P::Made, ParserError>
         ensures led { GivesWithin result levels due.value [] self.old.place self.new.place }
-        ensures tree { IfOk result (IsParsed levels self.old.place self.new.place) }
+        ensures tree { IfOk result (IsBuilt (P.is_made plan) self.old.place (IsParsed levels self.old.place self.new.place)) }
+        ensures memory { IfErr result (WantsOnly P.takes_memory self.old.place) }
         ensures asks { AsksFor self.old self.new }
     {
         if levels == 0 {
@@ -330,50 +384,60 @@ impl<'source> Tokens<'source> {
         }
         let token = self.advance()?;
         match token {
-            Token::Number => Ok(self.leaf(alloc, NodeType::Number)),
-            Token::Char => Ok(self.leaf(alloc, NodeType::Char)),
-            Token::String => Ok(self.leaf(alloc, NodeType::String)),
-            Token::MultilineString => Ok(self.leaf(alloc, NodeType::MultilineString)),
-            Token::LabelOrKeyword => self.parse_label(alloc, levels - 1),
-            Token::ParenOpen => self.parse_items(alloc, levels - 1, Token::ParenClose),
-            Token::BracketOpen => self.parse_items(alloc, levels - 1, Token::BracketClose),
-            Token::BraceOpen => self.parse_braces(alloc, levels - 1),
+            Token::Number => Ok(self.leaf(alloc, plan, NodeType::Number)),
+            Token::Char => Ok(self.leaf(alloc, plan, NodeType::Char)),
+            Token::String => Ok(self.leaf(alloc, plan, NodeType::String)),
+            Token::MultilineString => Ok(self.leaf(alloc, plan, NodeType::MultilineString)),
+            Token::LabelOrKeyword => self.parse_label(alloc, plan, levels - 1),
+            Token::ParenOpen => self.parse_items(alloc, plan, levels - 1, Token::ParenClose),
+            Token::BracketOpen => self.parse_items(alloc, plan, levels - 1, Token::BracketClose),
+            Token::BraceOpen => self.parse_braces(alloc, plan, levels - 1),
             _ => Err(self.unexpected(token)),
         }
     }
 
     /// Reads what stands behind a label that is due to be a value.
     #[cycle(parser)]
-    fn parse_label(&mut self, alloc: Global, levels: u32) -> Result<Node, ParserError>
+    fn parse_label<P: Plan>(
+        &mut self,
+        alloc: Global,
+        plan: P,
+        levels: u32,
+    ) -> Result<P::Made, ParserError>
         ensures led { let d = due_behind (word_of (text_at self.old.place)) in
             GivesWithin result (levels + 1) d [] self.old.place self.new.place }
-        ensures tree { IfOk result (IsParsedBehind lex_class.LabelOrKeyword (levels + 1) self.old.place self.new.place) }
+        ensures tree { IfOk result (IsBuilt (P.is_made plan) self.old.place (IsParsedBehind lex_class.LabelOrKeyword (levels + 1) self.old.place self.new.place)) }
+        ensures memory { IfErr result (WantsOnly P.takes_memory self.old.place) }
         ensures asks { AsksFor self.old self.new }
     {
         match role_of(self.slice()) {
-            LabelRole::True => Ok(self.leaf(alloc, NodeType::BoolTrue)),
-            LabelRole::False => Ok(self.leaf(alloc, NodeType::BoolFalse)),
-            LabelRole::Number => Ok(self.leaf(alloc, NodeType::Number)),
-            LabelRole::None => Ok(self.leaf(alloc, NodeType::OptionNone)),
+            LabelRole::True => Ok(self.leaf(alloc, plan, NodeType::BoolTrue)),
+            LabelRole::False => Ok(self.leaf(alloc, plan, NodeType::BoolFalse)),
+            LabelRole::Number => Ok(self.leaf(alloc, plan, NodeType::Number)),
+            LabelRole::None => Ok(self.leaf(alloc, plan, NodeType::OptionNone)),
             LabelRole::Some => {
                 let start = self.span().start;
                 self.expect(Token::ParenOpen)?;
-                self.parse_payload(alloc, levels, NodeType::OptionSome, start, Vec::new(alloc))
+                let parts = plan.parts(alloc, NodeType::OptionSome);
+                self.parse_payload(alloc, plan, levels, NodeType::OptionSome, start, parts)
             }
             LabelRole::Ok => self.parse_maybe(
                 alloc,
+                plan,
                 levels,
                 NodeType::ResultOk,
                 NodeType::ResultOk,
             ),
             LabelRole::Err => self.parse_maybe(
                 alloc,
+                plan,
                 levels,
                 NodeType::ResultErr,
                 NodeType::ResultErr,
             ),
             LabelRole::Case => self.parse_maybe(
                 alloc,
+                plan,
                 levels,
                 NodeType::Label,
                 NodeType::VariantWithPayload,
@@ -383,207 +447,241 @@ impl<'source> Tokens<'source> {
 
     /// Reads the payload behind a label, where an open parenthesis stands there.
     #[cycle(parser)]
-    fn parse_maybe(
+    fn parse_maybe<P: Plan>(
         &mut self,
         alloc: Global,
+        plan: P,
         levels: u32,
         alone: NodeType,
         with: NodeType,
-    ) -> Result<Node, ParserError>
+    ) -> Result<P::Made, ParserError>
         ensures led { GivesWithin result (levels + 1) due.behind_label [] self.old.place self.new.place }
-        ensures tree { IfOk result (IsMaybe levels alone with self.old.place self.new.place) }
+        ensures tree { IfOk result (λ made. IsOfParts with → IsBuilt (P.is_made plan) self.old.place (IsMaybe levels alone with self.old.place self.new.place) made) }
+        ensures memory { IfErr result (WantsOnly P.takes_memory self.old.place) }
         ensures asks { AsksFor self.old self.new }
     {
         let start = self.span().start;
         if !self.next_is(Token::ParenOpen) {
-            return Ok(self.leaf(alloc, alone));
+            return Ok(self.leaf(alloc, plan, alone));
         }
-        let front = self.label_children(alloc, with)?;
+        let front = self.label_parts(alloc, plan, with)?;
         self.expect(Token::ParenOpen)?;
-        self.parse_payload(alloc, levels, with, start, front)
+        self.parse_payload(alloc, plan, levels, with, start, front)
     }
 
-    /// The label of a case, which was taken last, as the first child of its node; none for other
+    /// The label of a case, which was taken last, as the first part of its node; no part of other
     /// nodes.
-    fn label_children(&self, alloc: Global, ty: NodeType) -> Result<Vec<Node>, ParserError>
-        ensures made { IfOk result (λ v. v.items ≡ label_children ty (span_at self.now.place)) }
+    fn label_parts<P: Plan>(
+        &self,
+        alloc: Global,
+        plan: P,
+        ty: NodeType,
+    ) -> Result<P::Parts, ParserError>
+        ensures made { let source = self.now.place.lexer.source in
+            IfOk result (λ made. IsOfParts ty → P.are_parts plan source ty (label_children ty (span_at self.now.place)) made) }
         ensures memory { IfErr result (λ e. e.kind ≡ kind.OutOfMemory) }
+        ensures takes { IfErr result (λ _. P.takes_memory) }
     {
-        let mut children = Vec::new(alloc);
+        let parts = plan.parts(alloc, ty);
         if let NodeType::VariantWithPayload = ty {
-            let label = self.leaf(alloc, NodeType::Label);
-            if children.push(label).is_err() {
-                return Err(self.out_of_memory());
-            }
+            return self.with_key(alloc, plan, parts, NodeType::Label);
         }
-        Ok(children)
+        Ok(parts)
     }
 
-    /// Reads a value and the close parenthesis behind it, in a node behind these children.
+    /// Reads a value and the close parenthesis behind it, in a node behind these parts.
     #[cycle(parser)]
-    fn parse_payload(
+    fn parse_payload<P: Plan>(
         &mut self,
         alloc: Global,
+        plan: P,
         levels: u32,
         ty: NodeType,
         start: usize,
-        front: Vec<Node>,
-    ) -> Result<Node, ParserError>
+        parts: P::Parts,
+    ) -> Result<P::Made, ParserError>
         ensures led { GivesWithin result (levels + 1) due.value (due.payload ∷ []) self.old.place self.new.place }
-        ensures tree { IfOk result (IsPayload levels ty start front.items self.old.place self.new.place) }
+        ensures tree { IfOk result (λ made. (front : List NodeTree) → P.are_parts plan self.old.place.lexer.source ty front parts
+            → IsBuilt (P.is_made plan) self.old.place (IsPayload levels ty start front self.old.place self.new.place) made) }
+        ensures memory { IfErr result (WantsOnly P.takes_memory self.old.place) }
         ensures asks { AsksFor self.old self.new }
     {
-        let payload = self.parse_node(alloc, levels)?;
+        let part = plan.part(&parts);
+        let payload = self.parse_node(alloc, part, levels)?;
         self.expect(Token::ParenClose)?;
-        let mut children = front;
-        match children.push(payload) {
-            Ok(()) => Ok(self.node(ty, start, children)),
-            Err(_) => Err(self.out_of_memory()),
-        }
+        let parts = self.with_part(alloc, plan, parts, payload)?;
+        Ok(self.whole(alloc, plan, ty, start, parts))
     }
 
     /// Reads the items of a tuple or a list, and its close.
     #[cycle(parser)]
-    fn parse_items(&mut self, alloc: Global, levels: u32, close: Token) -> Result<Node, ParserError>
+    fn parse_items<P: Plan>(
+        &mut self,
+        alloc: Global,
+        plan: P,
+        levels: u32,
+        close: Token,
+    ) -> Result<P::Made, ParserError>
         requires { IsClose close }
         ensures led { GivesWithin result (levels + 1) due.first_item (form_of close ∷ []) self.old.place self.new.place }
-        ensures tree { IfOk result (IsOfItems levels close self.old.place self.new.place) }
+        ensures tree { IfOk result (IsBuilt (P.is_made plan) self.old.place (IsOfItems levels close self.old.place self.new.place)) }
+        ensures memory { IfErr result (WantsOnly P.takes_memory self.old.place) }
         ensures asks { AsksFor self.old self.new }
     {
         let start = self.span().start;
-        let mut items = Vec::new(alloc);
         if self.next_is(close) {
             self.expect(close)?;
             if close == Token::ParenClose {
                 return Err(ParserError::new(ParserErrorKind::EmptyTuple, start..self.span().end));
             }
-            return Ok(self.node(NodeType::List, start, items));
+            let none = plan.parts(alloc, NodeType::List);
+            return Ok(self.whole(alloc, plan, NodeType::List, start, none));
         }
         let ty = if close == Token::ParenClose {
             NodeType::Tuple
         } else {
             NodeType::List
         };
+        let mut parts = plan.parts(alloc, ty);
         'items: loop {
-            let item = self.parse_node(alloc, levels)?;
-            if items.push(item).is_err() {
-                return Err(self.out_of_memory());
-            }
+            let part = plan.part(&parts);
+            let item = self.parse_node(alloc, part, levels)?;
+            parts = self.with_part(alloc, plan, parts, item)?;
             let token = self.advance()?;
             if token == close {
-                return Ok(self.node(ty, start, items));
+                return Ok(self.whole(alloc, plan, ty, start, parts));
             }
             if token != Token::Comma {
                 return Err(self.unexpected(token));
             }
             if self.next_is(close) {
                 self.expect(close)?;
-                return Ok(self.node(ty, start, items));
+                return Ok(self.whole(alloc, plan, ty, start, parts));
             }
         }
     }
 
     /// Reads what stands behind an open brace.
     #[cycle(parser)]
-    fn parse_braces(&mut self, alloc: Global, levels: u32) -> Result<Node, ParserError>
+    fn parse_braces<P: Plan>(
+        &mut self,
+        alloc: Global,
+        plan: P,
+        levels: u32,
+    ) -> Result<P::Made, ParserError>
         ensures led { GivesWithin result (levels + 1) due.in_braces [] self.old.place self.new.place }
-        ensures tree { IfOk result (IsParsedBehind lex_class.BraceOpen (levels + 1) self.old.place self.new.place) }
+        ensures tree { IfOk result (IsBuilt (P.is_made plan) self.old.place (IsParsedBehind lex_class.BraceOpen (levels + 1) self.old.place self.new.place)) }
         ensures asks { AsksFor self.old self.new }
     {
         let start = self.span().start;
         let token = self.advance()?;
         if token == Token::BraceClose {
-            return Ok(self.node(NodeType::EmptySet, start, Vec::new(alloc)));
+            let none = plan.parts(alloc, NodeType::EmptySet);
+            return Ok(self.whole(alloc, plan, NodeType::EmptySet, start, none));
         }
         if token == Token::Colon {
             self.expect(Token::BraceClose)?;
-            return Ok(self.node(NodeType::TupleSet, start, Vec::new(alloc)));
+            let none = plan.parts(alloc, NodeType::TupleSet);
+            return Ok(self.whole(alloc, plan, NodeType::TupleSet, start, none));
         }
         if token == Token::LabelOrKeyword {
             if self.next_is(Token::Colon) {
-                let key = self.leaf(alloc, NodeType::Label);
+                let key = self.first_key(alloc, plan, NodeType::Label)?;
                 self.expect(Token::Colon)?;
-                return self.parse_entries(alloc, levels, start, key);
+                return self.parse_entries(alloc, plan, levels, start, key);
             }
-            return self.parse_flags(alloc, start);
+            return self.parse_flags(alloc, plan, start);
         }
         let Some(ty) = key_type(token) else {
             return Err(self.unexpected(token));
         };
-        let key = self.leaf(alloc, ty);
+        let key = self.first_key(alloc, plan, ty)?;
         self.expect(Token::Colon)?;
-        self.parse_entries(alloc, levels, start, key)
+        self.parse_entries(alloc, plan, levels, start, key)
+    }
+
+    /// The first part of entries: their first key, which was taken last.
+    fn first_key<P: Plan>(
+        &self,
+        alloc: Global,
+        plan: P,
+        ty: NodeType,
+    ) -> Result<P::Parts, ParserError>
+        ensures made { let source = self.now.place.lexer.source in
+            IfOk result (P.are_parts plan source node_type.TupleSet (node ty (span_at self.now.place) no_nodes ∷ [])) }
+        ensures memory { IfErr result (λ e. e.kind ≡ kind.OutOfMemory) }
+        ensures takes { IfErr result (λ _. P.takes_memory) }
+    {
+        let none = plan.parts(alloc, NodeType::TupleSet);
+        self.with_key(alloc, plan, none, ty)
     }
 
     /// Reads the value behind the first key, the further entries and the close.
     #[cycle(parser)]
-    fn parse_entries(
+    fn parse_entries<P: Plan>(
         &mut self,
         alloc: Global,
+        plan: P,
         levels: u32,
         start: usize,
-        key: Node,
-    ) -> Result<Node, ParserError>
+        key: P::Parts,
+    ) -> Result<P::Made, ParserError>
         ensures led { GivesWithin result (levels + 1) due.value (due.entries ∷ []) self.old.place self.new.place }
-        ensures tree { IfOk result (IsOfEntries levels start key self.old.place self.new.place) }
+        ensures tree { IfOk result (λ made. (first : NodeTree) → P.are_parts plan self.old.place.lexer.source node_type.TupleSet (first ∷ []) key
+            → IsBuilt (P.is_made plan) self.old.place (IsOfEntries levels start first self.old.place self.new.place) made) }
         ensures asks { AsksFor self.old self.new }
     {
-        let mut children = Vec::new(alloc);
-        if children.push(key).is_err() {
-            return Err(self.out_of_memory());
-        }
+        let mut parts = key;
         'entries: loop {
-            let value = self.parse_node(alloc, levels)?;
-            if children.push(value).is_err() {
-                return Err(self.out_of_memory());
-            }
+            let part = plan.part(&parts);
+            let value = self.parse_node(alloc, part, levels)?;
+            parts = self.with_part(alloc, plan, parts, value)?;
             let token = self.advance()?;
             if token == Token::BraceClose {
-                return Ok(self.node(NodeType::TupleSet, start, children));
+                return Ok(self.whole(alloc, plan, NodeType::TupleSet, start, parts));
             }
             if token != Token::Comma {
                 return Err(self.unexpected(token));
             }
             let next = self.advance()?;
             if next == Token::BraceClose {
-                return Ok(self.node(NodeType::TupleSet, start, children));
+                return Ok(self.whole(alloc, plan, NodeType::TupleSet, start, parts));
             }
             let Some(ty) = key_type(next) else {
                 return Err(self.unexpected(next));
             };
-            let key = self.leaf(alloc, ty);
+            parts = self.with_key(alloc, plan, parts, ty)?;
             self.expect(Token::Colon)?;
-            if children.push(key).is_err() {
-                return Err(self.out_of_memory());
-            }
         }
     }
 
     /// Reads the flags behind the first, which was read, and the close.
-    fn parse_flags(&mut self, alloc: Global, start: usize) -> Result<Node, ParserError>
+    fn parse_flags<P: Plan>(
+        &mut self,
+        alloc: Global,
+        plan: P,
+        start: usize,
+    ) -> Result<P::Made, ParserError>
         requires { (next : Place) → TakesItem self.old.place (Some (Ok lex_class.Colon)) next → ⊥ }
         ensures led { GivesAnywhere result (due.behind_word (text_at self.old.place)) self.old.place self.new.place }
-        ensures tree { IfOk result (IsOfFlags start self.old.place self.new.place) }
+        ensures tree { IfOk result (IsBuilt (P.is_made plan) self.old.place (IsOfFlags start self.old.place self.new.place)) }
         ensures asks { AsksFor self.old self.new }
     {
         let mut flags = BTreeMap::new(alloc);
-        if flags
-            .insert(label_name(self.slice()), self.leaf(alloc, NodeType::Label))
-            .is_err()
-        {
+        if flags.insert(label_name(self.slice()), self.span()).is_err() {
             return Err(self.out_of_memory());
         }
         'flags: loop {
             let token = self.advance()?;
             if token == Token::BraceClose {
-                return self.flags_node(alloc, start, flags);
+                return self.whole_flags(alloc, plan, start, flags);
             }
             if token != Token::Comma {
                 return Err(self.unexpected(token));
             }
             let next = self.advance()?;
             if next == Token::BraceClose {
-                return self.flags_node(alloc, start, flags);
+                return self.whole_flags(alloc, plan, start, flags);
             }
             if next != Token::LabelOrKeyword {
                 return Err(self.unexpected(next));
@@ -592,27 +690,26 @@ impl<'source> Tokens<'source> {
             if flags.contains_key(name) {
                 return Err(self.repeated(alloc, name));
             }
-            if flags
-                .insert(name, self.leaf(alloc, NodeType::Label))
-                .is_err()
-            {
+            if flags.insert(name, self.span()).is_err() {
                 return Err(self.out_of_memory());
             }
         }
     }
 
-    /// The node of the flags, in the order of their names.
-    fn flags_node(
+    /// What is made of these flags, by their names, up to the last token.
+    fn whole_flags<P: Plan>(
         &self,
         alloc: Global,
+        plan: P,
         start: usize,
-        flags: BTreeMap<&'source str, Node>,
-    ) -> Result<Node, ParserError>
-        ensures node { IfOk result (λ n. n ≡ node node_type.Flags (span start self.now.place.lexer.end) (node_trees (values flags.entry))) }
+        flags: BTreeMap<&'source str, Span>,
+    ) -> Result<P::Made, ParserError>
+        ensures made { let source = self.now.place.lexer.source in
+            IfOk result (λ made. AreFlagsOf source flags.entry → P.is_made plan source (node node_type.Flags (span start self.now.place.lexer.end) (flag_nodes flags.entry)) made) }
         ensures memory { IfErr result (λ e. e.kind ≡ kind.OutOfMemory) }
     {
-        match flags.into_values().collect(alloc) {
-            Ok(children) => Ok(self.node(NodeType::Flags, start, children)),
+        match plan.flags(alloc, start..self.span().end, flags) {
+            Ok(made) => Ok(made),
             Err(_) => Err(self.out_of_memory()),
         }
     }

@@ -3,6 +3,7 @@ use Rattle.std.specs.Prelude.{ℕ, ◌≡◌, ◌+◌, ◌≤◌, max, true, Lis
 use Rattle.std.specs.declared.ops.Range.{Range}
 use Rattle.wave_wasm.specs.Names.{is_one_of}
 use Rattle.wave_lex.specs.declared.lex.Token as lex
+use Rattle.wave_lex.specs.declared.error.ParserErrorKind.TheVariants.{OutOfMemory}
 use Rattle.wave_lex.specs.Errors.{Diagnostic}
 use Rattle.wave_lex.specs.Tokenization.{Lexed, NextIs, span}
 use Rattle.wave_grammar.specs.Tree.{Word, leaf_word, none_word, some_word, ok_word, err_word, case_word}
@@ -10,7 +11,7 @@ use Rattle.wave_grammar.specs.ParserPosition.{Place, TakesItem}
 use Rattle.wave_tree.specs.declared.ahead.Ahead.{Ahead}
 use Rattle.wave_tree.specs.declared.role.LabelRole as code
 use Rattle.wave_tree.specs.declared.role.LabelRole.TheVariants as word
-use Rattle.wave_tree.specs.ParserState.{HasTokens, Fails}
+use Rattle.wave_tree.specs.ParserState.{HasTokens, HoldsNoBrace, Fails}
 
 -- tokens that are taken one by one: the place, and how many items are at hand
 pub record Stream : Type 0 where
@@ -28,6 +29,10 @@ asked_of s = s.place.taken + s.ahead
 -- where n tokens stand, the lexer is asked for them and for one item more at most
 abbrev pub AsksFor : Stream → Stream → Type 0
 AsksFor old new = (n : ℕ) → HasTokens old.place n → asked_of new ≤ max (asked_of old) (old.place.taken + n + 1)
+
+-- memory is wanting only where this holds, or a `{` stands among the tokens from the place on
+abbrev pub WantsOnly : Type 0 → Place → Diagnostic → Type 0
+WantsOnly Takes p e = e.kind ≡ OutOfMemory → HoldsNoBrace p → Takes
 
 -- how many items are at hand
 abbrev pub ahead_count : Option Ahead → ℕ

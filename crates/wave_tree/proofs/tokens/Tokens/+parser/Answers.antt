@@ -1,8 +1,8 @@
 use Rattle.std.specs.Prelude.{codes}
 use Rattle.wave_wasm.specs.Names.{is_one_of}
-use Rattle.std.proofs.Common.{◌≡◌, ℕ, ◌+◌, Some, Ok, List, [], ◌∷◌, refl, sym, ap, subst, ◌∙◌, inl, inr, arith, length}
+use Rattle.std.proofs.Common.{◌≡◌, ℕ, ◌+◌, ◌-◌, Some, Ok, List, [], ◌∷◌, ◌++◌, refl, sym, ap, subst, ◌∙◌, inl, inr, arith, length}
 use Rattle.wave_lex.specs.declared.lex.Token as lex
-use Rattle.wave_lex.specs.declared.lex.Token.TheVariants.{BraceOpen, BraceClose, ParenOpen, ParenClose, BracketOpen, Colon, Comma, Number, LabelOrKeyword, Char, String, MultilineString}
+use Rattle.wave_lex.specs.declared.lex.Token.TheVariants.{BraceOpen, BraceClose, ParenOpen, ParenClose, BracketOpen, BracketClose, Colon, Comma, Number, LabelOrKeyword, Char, String, MultilineString}
 use Rattle.wave_grammar.specs.ParserPosition.{Place, TakesItem, span_at, text_at, token_of}
 use Rattle.wave_grammar.specs.Tree.{word_of}
 use Rattle.wave_grammar.specs.PrefixAutomaton.{Due, Form, due_behind, reads, behind_step, step, key_step, brace_step, behind_flag_step, flag_step}
@@ -11,18 +11,24 @@ use Rattle.wave_grammar.specs.SyntaxErrors.{Gives, IsBehind, LeadsBehindValue}
 use Rattle.std.specs.declared.ops.Range.{Range}
 use Rattle.wave_grammar.specs.Private.TokenRoles.{form_of, IsClose}
 use Rattle.wave_tree.specs.Private.ParserState.{spec_word}
-use Rattle.wave_tree.proofs.ParserSteps.{here, here_is, handed, gives_then, fails, any_token, shallow, value_read, no_value, level_open, read_there, unexpected_there, no_paren, then_token, token_there, behind_bare, reached, fails_behind, then_behind, payload_other, unexpected_behind, expected, untrue, moved, then_class, then_behind_class, range_path, close_first, close_empty, close_next, then_same, then_refuses, item_refuses, item_read, then_reached, Reached, IsItemDue, no_close, empty_there, key_reads, no_key, brace_key, entries_other, close_behind, comma_behind, other_behind, token_less, tokens_less, left_at, no_colon, no_brace}
+use Rattle.wave_lex.specs.declared.error.ParserErrorKind.TheVariants as because
+use Rattle.wave_tree.proofs.ParserSteps.{no_level, kind_is, here, here_is, handed, gives_then, fails, any_token, shallow, value_read, no_value, level_open, read_there, unexpected_there, no_paren, then_token, token_there, behind_bare, reached, fails_behind, then_behind, payload_other, unexpected_behind, expected, untrue, moved, then_class, then_behind_class, range_path, close_first, close_empty, close_next, then_same, then_refuses, item_refuses, item_read, then_reached, Reached, IsItemDue, no_close, empty_there, key_reads, no_key, brace_key, entries_other, close_behind, comma_behind, other_behind, token_less, tokens_less, left_at, no_colon, no_brace}
 use Rattle.wave_tree.specs.declared.role.LabelRole.{LabelRole}
 use Rattle.wave_tree.specs.Private.ParserState.{Stream, AsksFor, HasText}
-use Rattle.wave_tree.specs.Private.ParsedNodes.{AreItems, items_type}
+use Rattle.wave_tree.specs.Private.ParsedNodes.{IsParsedBehind, IsMaybe, IsPayload, IsOfItems, IsOfEntries, IsOfFlags, items_type, label_children}
 use Rattle.wave_tree.specs.ParsedNodes.{TakesClass}
-use Rattle.wave_node.specs.NodeTree.{node, no_nodes, node_trees}
+use Rattle.wave_node.specs.NodeTree.{NodeTree, node, no_nodes}
 use Rattle.wave_node.specs.declared.ast.NodeType.TheVariants as kind_of_node
-use Rattle.wave_lex.specs.Tokenization.{span}
-use Rattle.wave_tree.proofs.NodeCorrectness.Items.{class_as, one_tied, label_tied, items_tied, braces_tied, leaf_tied, number_word_tied, none_tied, some_tied, ok_tied, err_tied, case_tied, pushed, some_there, type_of_items, items_made, items_none, items_first, items_next, pairs_next, pairs_close, empty_tied, no_fields_tied, entries_tied, flags_tied, payload_tied}
+use Rattle.wave_tree.proofs.NodeCorrectness.Items.{class_as, one_tied, label_tied, items_tied, braces_tied, leaf_tied, number_word_tied, none_tied, some_tied, ok_tied, err_tied, case_tied, some_there, type_of_items, items_made, items_none, items_first, items_next, pairs_next, pairs_close, empty_tied, no_fields_tied, entries_tied, flags_tied, payload_tied}
 use Rattle.wave_tree.proofs.NodeCorrectness.Tokens.{number_parsed, char_parsed, string_parsed, multiline_parsed}
+use Rattle.wave_node.proofs.Parameters.{error_handed}
+use Rattle.wave_tree.specs.Private.ParserState.{WantsOnly}
+use Rattle.wave_tree.proofs.Wanting.{wants_reached, answer_token, answer_brace, wants_other, wants_fails, wants_taken}
+use Rattle.wave_tree.proofs.Built.{built, leaf_built, whole_built, as_ok, as_given, when_given, of_front, source_item, source_parsed, source_reached}
+use Rattle.wave_plan.specs.NodeParts.{IsOfParts}
+use Rattle.wave_tree.specs.ParsedNodes.{IsBuilt, IsParsed}
 use Rattle.wave_tree.proofs.ClassTests.{is_class, is_other, differs, differs_not}
-use Rattle.wave_tree.proofs.LexerCallCount.{asks_once, asks_token, asks_looked, asks_read, asks_reached}
+use Rattle.wave_tree.proofs.LexerCallCount.{asks_none, asks_once, asks_token, asks_looked, asks_read, asks_reached}
 use Rattle.wave_tree.proofs.tokens.Tokens.+parser.Goals as goal
 use Rattle.wave_tree.proofs.tokens.Tokens.+parser.Goals.{parse_items-then-eq-2, parse_items-else-eq-2}
 
@@ -52,79 +58,79 @@ asks_entries : (levels : ℕ) (old at new : Stream) → ((n : ℕ) (s : List For
 asks_entries levels old at new led first more = asks_reached (levels + 1) due.value due.value (due.entries ∷ []) (due.entries ∷ []) old at new (led (levels + 1) [] (omega arith)) first more
 
 pub parse_node-returns-in_err-token-clause-led : goal.parse_node-returns-in_err-token-clause-led
-parse_node-returns-in_err-token-clause-led t c = λ n s e. handed s _ _ c.from_residual.ensures.1
+parse_node-returns-in_err-token-clause-led g t c = λ n s e. handed s _ _ c.from_residual.ensures.1
     (fails (inl tt) (λ _. Unit {0}) c.in_err-token.field-0.0 (here n due.value s _) (shallow n due.value s _ (omega arith)) (any_token n due.value s _ _) c.in_err-token.ensures.takes)
 
 pub parse_node-returns-in-Number-clause-led : goal.parse_node-returns-in-Number-clause-led
-parse_node-returns-in-Number-clause-led t c = λ n s e. read_there (value_read n due.behind_value s s _ _ _ Number (omega arith) c.in_ok-token.ensures.takes c.in-Number.is refl) (inl refl)
+parse_node-returns-in-Number-clause-led g t c = λ n s e. read_there (value_read n due.behind_value s s _ _ _ Number (omega arith) c.in_ok-token.ensures.takes c.in-Number.is refl) (inl refl)
 
 pub parse_node-returns-in-Char-clause-led : goal.parse_node-returns-in-Char-clause-led
-parse_node-returns-in-Char-clause-led t c = λ n s e. read_there (value_read n due.behind_value s s _ _ _ Char (omega arith) c.in_ok-token.ensures.takes c.in-Char.is refl) (inl refl)
+parse_node-returns-in-Char-clause-led g t c = λ n s e. read_there (value_read n due.behind_value s s _ _ _ Char (omega arith) c.in_ok-token.ensures.takes c.in-Char.is refl) (inl refl)
 
 pub parse_node-returns-in-String-clause-led : goal.parse_node-returns-in-String-clause-led
-parse_node-returns-in-String-clause-led t c = λ n s e. read_there (value_read n due.behind_value s s _ _ _ String (omega arith) c.in_ok-token.ensures.takes c.in-String.is refl) (inl refl)
+parse_node-returns-in-String-clause-led g t c = λ n s e. read_there (value_read n due.behind_value s s _ _ _ String (omega arith) c.in_ok-token.ensures.takes c.in-String.is refl) (inl refl)
 
 pub parse_node-returns-in-MultilineString-clause-led : goal.parse_node-returns-in-MultilineString-clause-led
-parse_node-returns-in-MultilineString-clause-led t c = λ n s e. read_there (value_read n due.behind_value s s _ _ _ MultilineString (omega arith) c.in_ok-token.ensures.takes c.in-MultilineString.is refl) (inl refl)
+parse_node-returns-in-MultilineString-clause-led g t c = λ n s e. read_there (value_read n due.behind_value s s _ _ _ MultilineString (omega arith) c.in_ok-token.ensures.takes c.in-MultilineString.is refl) (inl refl)
 
 pub parse_node-returns-in-LabelOrKeyword-clause-led : goal.parse_node-returns-in-LabelOrKeyword-clause-led
-parse_node-returns-in-LabelOrKeyword-clause-led t c = λ n s e. gives_then s _ c.parse_label.result (value_read n _ s s _ _ _ LabelOrKeyword (omega arith) c.in_ok-token.ensures.takes c.in-LabelOrKeyword.is refl) (c.parse_label.ensures.led n s (omega arith))
+parse_node-returns-in-LabelOrKeyword-clause-led g t c = λ n s e. gives_then s _ c.parse_label.result (value_read n _ s s _ _ _ LabelOrKeyword (omega arith) c.in_ok-token.ensures.takes c.in-LabelOrKeyword.is refl) (c.parse_label.ensures.led n s (omega arith))
 
 pub parse_node-returns-in-ParenOpen-clause-led : goal.parse_node-returns-in-ParenOpen-clause-led
-parse_node-returns-in-ParenOpen-clause-led t c = λ n s e. gives_then s _ c.parse_items.result (value_read n due.first_item s (due.tuple ∷ s) _ _ _ ParenOpen (omega arith) c.in_ok-token.ensures.takes c.in-ParenOpen.is refl) (c.parse_items.ensures.led n s (omega arith))
+parse_node-returns-in-ParenOpen-clause-led g t c = λ n s e. gives_then s _ c.parse_items.result (value_read n due.first_item s (due.tuple ∷ s) _ _ _ ParenOpen (omega arith) c.in_ok-token.ensures.takes c.in-ParenOpen.is refl) (c.parse_items.ensures.led n s (omega arith))
 
 pub parse_node-returns-in-BracketOpen-clause-led : goal.parse_node-returns-in-BracketOpen-clause-led
-parse_node-returns-in-BracketOpen-clause-led t c = λ n s e. gives_then s _ c.parse_items-in-BracketOpen.result (value_read n due.first_item s (due.list ∷ s) _ _ _ BracketOpen (omega arith) c.in_ok-token.ensures.takes c.in-BracketOpen.is refl) (c.parse_items-in-BracketOpen.ensures.led n s (omega arith))
+parse_node-returns-in-BracketOpen-clause-led g t c = λ n s e. gives_then s _ c.parse_items-in-BracketOpen.result (value_read n due.first_item s (due.list ∷ s) _ _ _ BracketOpen (omega arith) c.in_ok-token.ensures.takes c.in-BracketOpen.is refl) (c.parse_items-in-BracketOpen.ensures.led n s (omega arith))
 
 pub parse_label-returns-in_err-expect-in-Some-clause-led : goal.parse_label-returns-in_err-expect-in-Some-clause-led
-parse_label-returns-in_err-expect-in-Some-clause-led t c = λ n s e.
+parse_label-returns-in_err-expect-in-Some-clause-led g t c = λ n s e.
     let there : due_behind (word_of (text_at c.args.self.now.place)) ≡ due.paren = ap due_behind (word_here c.slice.ensures c.role_of.ensures.word c.in-Some.is) in
     subst (λ z. Gives c.from_residual.result n z s c.args.self.now.place c.expect.new.self.place s) (sym there) (handed s _ _ c.from_residual.ensures.1
     (fails (inl tt) (λ k. k ≡ ParenOpen) c.in_err-expect-in-Some.field-0.0 (here n due.paren s _) (λ deep. deep.due) (λ k h apart. no_paren n s k (text_at c.expect.new.self.place) apart) c.in_err-expect-in-Some.ensures.takes))
 
 pub parse_label-returns-in_ok-expect-in-Some-clause-led : goal.parse_label-returns-in_ok-expect-in-Some-clause-led
-parse_label-returns-in_ok-expect-in-Some-clause-led t c = λ n s e.
+parse_label-returns-in_ok-expect-in-Some-clause-led g t c = λ n s e.
     let there : due_behind (word_of (text_at c.args.self.now.place)) ≡ due.paren = ap due_behind (word_here c.slice.ensures c.role_of.ensures.word c.in-Some.is) in
     subst (λ z. Gives c.parse_payload.result n z s c.args.self.now.place c.parse_payload.new.self.place s) (sym there)
     (gives_then s _ c.parse_payload.result (then_token _ (here n due.paren s _) (token_there _ _ ParenOpen c.in_ok-expect-in-Some.ensures.takes) refl) (c.parse_payload.ensures.led n s (omega arith)))
 
 pub parse_maybe-returns-then-not-next_is-clause-led : goal.parse_maybe-returns-then-not-next_is-clause-led
-parse_maybe-returns-then-not-next_is-clause-led t c = λ n s e.
+parse_maybe-returns-then-not-next_is-clause-led g t c = λ n s e.
     read_there (here_is n due.behind_label s _ _ c.next_is.ensures.stays) (subst (λ z. IsBehind due.behind_label z) (sym c.next_is.ensures.stays)
     (behind_bare c.args.self.now.place (λ next. untrue _ c.if-not-next_is.true (c.next_is.ensures.answer.1 next))))
 
 pub parse_maybe-returns-in_err-expect-clause-led : goal.parse_maybe-returns-in_err-expect-clause-led
-parse_maybe-returns-in_err-expect-clause-led t c = λ n s e. handed s _ _ c.from_residual-in_err-expect.ensures.1
+parse_maybe-returns-in_err-expect-clause-led g t c = λ n s e. handed s _ _ c.from_residual-in_err-expect.ensures.1
     (expected c.args.self.now.place c.next_is.new.self.place c.expect.new.self.place ParenOpen c.in_err-expect.field-0.0 c.next_is.ensures.stays (c.if-not-next_is.ensures.answer.0 refl) c.in_err-expect.ensures.takes)
 
 pub parse_maybe-returns-clause-led : goal.parse_maybe-returns-clause-led
-parse_maybe-returns-clause-led t c = λ n s e. gives_then s _ c.parse_payload.result (then_same ParenOpen (here_is n due.behind_label s _ _ c.next_is.ensures.stays) c.in_ok-expect.ensures.takes refl) (c.parse_payload.ensures.led n s (omega arith))
+parse_maybe-returns-clause-led g t c = λ n s e. gives_then s _ c.parse_payload.result (then_same ParenOpen (here_is n due.behind_label s _ _ c.next_is.ensures.stays) c.in_ok-expect.ensures.takes refl) (c.parse_payload.ensures.led n s (omega arith))
 
 pub parse_payload-returns-in_err-expect-clause-led : goal.parse_payload-returns-in_err-expect-clause-led
-parse_payload-returns-in_err-expect-clause-led t c = λ n s e.
+parse_payload-returns-in_err-expect-clause-led g t c = λ n s e.
     let item = c.in_ok-payload.ensures.led n (due.payload ∷ s) (omega arith) in
     handed s _ _ c.from_residual-in_err-expect.ensures.1 (fails_behind item.due_there (λ k. k ≡ ParenClose) c.in_err-expect.field-0.0 (reached item) item.is_behind (λ k text apart. payload_other k s text apart) c.in_err-expect.ensures.takes)
 
-pub parse_payload-returns-in-Ok-clause-led : goal.parse_payload-returns-in-Ok-clause-led
-parse_payload-returns-in-Ok-clause-led t c = λ n s e.
+pub parse_payload-returns-clause-led : goal.parse_payload-returns-clause-led
+parse_payload-returns-clause-led g t c = λ n s e.
     let item = c.in_ok-payload.ensures.led n (due.payload ∷ s) (omega arith) in
     read_there (then_behind item.due_there ParenClose (reached item) item.is_behind c.in_ok-expect.ensures.takes refl) (inl refl)
 
 pub parse_node-returns-in_default-clause-led : goal.parse_node-returns-in_default-clause-led
-parse_node-returns-in_default-clause-led t c = λ n s e. unexpected_there (inl tt) c.unexpected.result c.in_ok-token.token (here n due.value s _) c.in_ok-token.ensures.takes
+parse_node-returns-in_default-clause-led g t c = λ n s e. unexpected_there (inl tt) c.unexpected.result c.in_ok-token.token (here n due.value s _) c.in_ok-token.ensures.takes
     (level_open n s (token_of c.in_ok-token.token (text_at c.advance.new.self.place)) (omega arith) ∙
     no_value s c.in_ok-token.token (text_at c.advance.new.self.place) c.in_default.not-ParenOpen c.in_default.not-BracketOpen c.in_default.not-BraceOpen c.in_default.not-Number c.in_default.not-LabelOrKeyword c.in_default.not-Char c.in_default.not-String c.in_default.not-MultilineString)
     c.unexpected.ensures
 
 pub parse_node-returns-in-BraceOpen-clause-led : goal.parse_node-returns-in-BraceOpen-clause-led
-parse_node-returns-in-BraceOpen-clause-led t c = λ n s e. gives_then s _ c.parse_braces.result (value_read n due.in_braces s s _ _ _ BraceOpen (omega arith) c.in_ok-token.ensures.takes c.in-BraceOpen.is refl) (c.parse_braces.ensures.led n s (omega arith))
+parse_node-returns-in-BraceOpen-clause-led g t c = λ n s e. gives_then s _ c.parse_braces.result (value_read n due.in_braces s s _ _ _ BraceOpen (omega arith) c.in_ok-token.ensures.takes c.in-BraceOpen.is refl) (c.parse_braces.ensures.led n s (omega arith))
 
 pub parse_items-returns-in_err-expect-clause-led : goal.parse_items-returns-in_err-expect-clause-led
-parse_items-returns-in_err-expect-clause-led t c = λ n s e. handed s _ _ c.from_residual.ensures.1
+parse_items-returns-in_err-expect-clause-led g t c = λ n s e. handed s _ _ c.from_residual.ensures.1
     (expected c.args.self.now.place c.next_is.new.self.place c.expect.new.self.place c.args.close c.in_err-expect.field-0.0 c.next_is.ensures.stays (c.if-next_is.ensures.answer.0 refl) c.in_err-expect.ensures.takes)
 
 pub parse_items-returns-then-eq-clause-led : goal.parse_items-returns-then-eq-clause-led
-parse_items-returns-then-eq-clause-led t c = λ n s e.
+parse_items-returns-then-eq-clause-led g t c = λ n s e.
     let first = ap (λ (z : Range ℕ). z.start) c.span-start.ensures ∙ sym (ap (λ (z : Place). z.lexer.start) c.next_is.ensures.stays) in
     let last = ap (λ (z : Range ℕ). z.end) c.span.ensures in
     empty_there (inl tt) c.new.result c.args.close (here_is n due.first_item (form_of c.args.close ∷ s) _ _ c.next_is.ensures.stays) c.in_ok-expect.ensures.takes
@@ -132,20 +138,27 @@ parse_items-returns-then-eq-clause-led t c = λ n s e.
     (record { is = c.new.ensures.refusal; stands = c.new.ensures.span ∙ range_path first last; tells = c.new.ensures.detail })
 
 pub parse_items-returns-then-next_is-clause-led : goal.parse_items-returns-then-next_is-clause-led
-parse_items-returns-then-next_is-clause-led t c = λ n s e.
+parse_items-returns-then-next_is-clause-led g t c = λ n s e.
     read_there (then_same c.args.close (here_is n due.first_item (form_of c.args.close ∷ s) _ _ c.next_is.ensures.stays) c.in_ok-expect.ensures.takes
     (close_first n c.args.close s (text_at c.expect.new.self.place) c.requires (is_other _ _ c.eq.ensures c.if-eq.false))) (inl refl)
 
 pub parse_items-items-init : goal.parse_items-items-init
-parse_items-items-init t c = record {
+parse_items-items-init g t c = record {
   asks = asks_once c.args.self.now c.next_is.new.self c.next_is.ensures.asks;
   no_close = subst (λ z. (next : Place) × TakesItem z (Some (Ok c.args.close)) next → ⊥) (sym c.next_is.ensures.stays) (λ next. untrue _ c.if-next_is.false (c.next_is.ensures.answer.1 next));
   reached = λ n s e. (due.first_item, inl refl, here_is n due.first_item (form_of c.args.close ∷ s) _ _ c.next_is.ensures.stays);
-  tree = items_first _ _ _ _ _ c.new-items.ensures.items c.next_is.ensures.stays;
+  tree = (
+    [],
+    c.parts-parts.ensures _ (elim c.if-eq-2.branch [
+      | parse_items-then-eq-2 w ↦ subst IsOfParts (sym w.ty-is) tt
+      | parse_items-else-eq-2 w ↦ subst IsOfParts (sym w.ty-is) tt
+    ]),
+    items_first _ _ _ _ [] refl c.next_is.ensures.stays,
+  );
 }
 
 pub parse_items-returns-in_err-item-clause-led : goal.parse_items-returns-in_err-item-clause-led
-parse_items-returns-in_err-item-clause-led t c = λ n s e.
+parse_items-returns-in_err-item-clause-led g t c = λ n s e.
     let (d, i, r) = c.items.invariant.reached n s e in
     handed s _ _ c.from_residual-in_err-item.ensures.1 (then_refuses c.in_err-item.field-0.0 r
     (item_refuses d c.in_err-item.field-0.0 i (no_close c.args.close s _ c.requires c.items.invariant.no_close) (c.in_err-item.ensures.led n (form_of c.args.close ∷ s) (omega arith))))
@@ -156,13 +169,13 @@ behind_item : {n : ℕ} {d e : Due} {s : List Form} {p q w : Place} (close : lex
 behind_item {e = e} {s = s} {q = q} close is_close none i r h = then_reached r (item_read e i (no_close close s q is_close none) h)
 
 pub parse_items-returns-in_err-token-clause-led : goal.parse_items-returns-in_err-token-clause-led
-parse_items-returns-in_err-token-clause-led t c = λ n s e.
+parse_items-returns-in_err-token-clause-led g t c = λ n s e.
     let (d, i, r) = c.items.invariant.reached n s e in
     let item = c.in_ok-item.ensures.led n (form_of c.args.close ∷ s) (omega arith) in
     handed s _ _ c.from_residual-in_err-token.ensures.1 (fails_behind item.due_there (λ _. Unit {0}) c.in_err-token.field-0.0 (behind_item c.args.close c.requires c.items.invariant.no_close i r item) item.is_behind (λ k text apart. absurd (apart tt)) c.in_err-token.ensures.takes)
 
 pub parse_items-returns-then-eq-3-clause-led : goal.parse_items-returns-then-eq-3-clause-led
-parse_items-returns-then-eq-3-clause-led t c = λ n s e.
+parse_items-returns-then-eq-3-clause-led g t c = λ n s e.
     let (d, i, r) = c.items.invariant.reached n s e in
     let item = c.in_ok-item.ensures.led n (form_of c.args.close ∷ s) (omega arith) in
     let behind = behind_item c.args.close c.requires c.items.invariant.no_close i r item in
@@ -171,7 +184,7 @@ parse_items-returns-then-eq-3-clause-led t c = λ n s e.
     (subst (λ z. behind_step (form_of c.args.close ∷ s) (token_of z (text_at c.advance.new.self.place)) ≡ reads due.behind_value s) (sym (is_class c.in_ok-token.token c.args.close c.eq-in-items.ensures c.if-eq-3.true)) step_there)) (inl refl)
 
 pub parse_items-returns-then-ne-clause-led : goal.parse_items-returns-then-ne-clause-led
-parse_items-returns-then-ne-clause-led t c = λ n s e.
+parse_items-returns-then-ne-clause-led g t c = λ n s e.
     let (d, i, r) = c.items.invariant.reached n s e in
     let item = c.in_ok-item.ensures.led n (form_of c.args.close ∷ s) (omega arith) in
     let behind = behind_item c.args.close c.requires c.items.invariant.no_close i r item in
@@ -180,11 +193,11 @@ parse_items-returns-then-ne-clause-led t c = λ n s e.
     c.unexpected.ensures
 
 pub parse_items-returns-in_err-expect-2-clause-led : goal.parse_items-returns-in_err-expect-2-clause-led
-parse_items-returns-in_err-expect-2-clause-led t c = λ n s e. handed s _ _ c.from_residual-in_err-expect-2.ensures.1
+parse_items-returns-in_err-expect-2-clause-led g t c = λ n s e. handed s _ _ c.from_residual-in_err-expect-2.ensures.1
     (expected c.advance.new.self.place c.next_is-in-items.new.self.place c.expect-then-next_is-2.new.self.place c.args.close c.in_err-expect-2.field-0.0 c.next_is-in-items.ensures.stays (c.if-next_is-2.ensures.answer.0 refl) c.in_err-expect-2.ensures.takes)
 
 pub parse_items-returns-then-next_is-2-clause-led : goal.parse_items-returns-then-next_is-2-clause-led
-parse_items-returns-then-next_is-2-clause-led t c = λ n s e.
+parse_items-returns-then-next_is-2-clause-led g t c = λ n s e.
     let (d, i, r) = c.items.invariant.reached n s e in
     let item = c.in_ok-item.ensures.led n (form_of c.args.close ∷ s) (omega arith) in
     let behind = behind_item c.args.close c.requires c.items.invariant.no_close i r item in
@@ -193,15 +206,391 @@ parse_items-returns-then-next_is-2-clause-led t c = λ n s e.
     read_there (then_same c.args.close (moved c.next_is-in-items.ensures.stays next) c.in_ok-expect-2.ensures.takes (close_next n c.args.close s (text_at c.expect-then-next_is-2.new.self.place) c.requires)) (inl refl)
 
 pub parse_items-items-smaller : goal.parse_items-items-smaller
-parse_items-items-smaller t c =
+parse_items-items-smaller g t c =
     let item = c.in_ok-item.ensures.led (c.args.levels + 1 + 0) (form_of c.args.close ∷ []) (omega arith) in
     let one = tokens_less _ _ item.tokens item.taken in
     let two = token_less _ _ c.in_ok-token.token c.in_ok-token.ensures.takes in
     let three = ap left_at c.next_is-in-items.ensures.stays in
     omega arith
 
+pub parse_braces-returns-in_err-token-clause-led : goal.parse_braces-returns-in_err-token-clause-led
+parse_braces-returns-in_err-token-clause-led g t c = λ n s e. handed s _ _ c.from_residual.ensures.1
+    (fails (inl tt) (λ _. Unit {0}) c.in_err-token.field-0.0 (here n due.in_braces s _) (λ deep. deep.due) (any_token n due.in_braces s _ _) c.in_err-token.ensures.takes)
+
+pub parse_braces-returns-then-eq-clause-led : goal.parse_braces-returns-then-eq-clause-led
+parse_braces-returns-then-eq-clause-led g t c = λ n s e. read_there (then_class BraceClose (here n due.in_braces s _) c.in_ok-token.ensures.takes (is_class _ _ c.eq.ensures c.if-eq.true) refl) (inl refl)
+
+pub parse_braces-returns-in_err-expect-clause-led : goal.parse_braces-returns-in_err-expect-clause-led
+parse_braces-returns-in_err-expect-clause-led g t c = λ n s e. handed s _ _ c.from_residual-in_err-expect.ensures.1
+    (fails (inl tt) (λ k. k ≡ BraceClose) c.in_err-expect.field-0.0 (then_class {f = due.no_fields} {v = s} Colon (here n due.in_braces s _) c.in_ok-token.ensures.takes (is_class _ _ c.eq-2.ensures c.if-eq-2.true) refl) (λ deep. deep.due)
+    (λ k h apart. no_brace n s k (text_at c.expect.new.self.place) apart) c.in_err-expect.ensures.takes)
+
+pub parse_braces-returns-then-eq-2-clause-led : goal.parse_braces-returns-then-eq-2-clause-led
+parse_braces-returns-then-eq-2-clause-led g t c = λ n s e.
+    read_there (then_same BraceClose (then_class {f = due.no_fields} {v = s} Colon (here n due.in_braces s _) c.in_ok-token.ensures.takes (is_class _ _ c.eq-2.ensures c.if-eq-2.true) refl) c.in_ok-expect.ensures.takes refl) (inl refl)
+
+pub parse_braces-returns-in_err-expect-2-clause-led : goal.parse_braces-returns-in_err-expect-2-clause-led
+parse_braces-returns-in_err-expect-2-clause-led g t c = λ n s e. handed s _ _ c.from_residual-in_err-expect-2.ensures.1
+    (expected c.advance.new.self.place c.next_is.new.self.place c.expect-then-next_is.new.self.place Colon c.in_err-expect-2.field-0.0 c.next_is.ensures.stays (c.if-next_is.ensures.answer.0 refl) c.in_err-expect-2.ensures.takes)
+
+pub parse_braces-returns-then-next_is-clause-led : goal.parse_braces-returns-then-next_is-clause-led
+parse_braces-returns-then-next_is-clause-led g t c = λ n s e.
+    let word = then_class {f = due.behind_word (text_at c.advance.new.self.place)} {v = s} LabelOrKeyword (here n due.in_braces s _) c.in_ok-token.ensures.takes (is_class _ _ c.eq-3.ensures c.if-eq-3.true) refl in
+    gives_then s _ c.parse_entries.result (then_same Colon (moved c.next_is.ensures.stays word) c.in_ok-expect-2.ensures.takes refl) (c.parse_entries.ensures.led n s e)
+
+pub parse_braces-returns-then-eq-3-clause-led : goal.parse_braces-returns-then-eq-3-clause-led
+parse_braces-returns-then-eq-3-clause-led g t c = λ n s e.
+    let word = then_class {f = due.behind_word (text_at c.advance.new.self.place)} {v = s} LabelOrKeyword (here n due.in_braces s _) c.in_ok-token.ensures.takes (is_class _ _ c.eq-3.ensures c.if-eq-3.true) refl in
+    gives_then s _ c.parse_flags.result (moved c.next_is.ensures.stays word)
+    (subst (λ z. Gives c.parse_flags.result n (due.behind_word (text_at z)) s c.next_is.new.self.place c.parse_flags.new.self.place s) c.next_is.ensures.stays (c.parse_flags.ensures.led n s))
+
+pub parse_braces-returns-in_default-clause-led : goal.parse_braces-returns-in_default-clause-led
+parse_braces-returns-in_default-clause-led g t c = λ n s e. unexpected_there (inl tt) c.unexpected.result c.in_ok-token.token (here n due.in_braces s _) c.in_ok-token.ensures.takes
+    (brace_key c.in_ok-token.token s (text_at c.advance.new.self.place) (is_other _ _ c.eq-3.ensures c.if-eq-3.false) (is_other _ _ c.eq-2.ensures c.if-eq-2.false) ∙
+    no_key c.in_ok-token.token s (text_at c.advance.new.self.place) c.in_default.ensures (is_other _ _ c.eq.ensures c.if-eq.false))
+    c.unexpected.ensures
+
+pub parse_braces-returns-in_err-expect-3-clause-led : goal.parse_braces-returns-in_err-expect-3-clause-led
+parse_braces-returns-in_err-expect-3-clause-led g t c = λ n s e.
+    let key_step_there = brace_key c.in_ok-token.token s (text_at c.advance.new.self.place) (is_other _ _ c.eq-3.ensures c.if-eq-3.false) (is_other _ _ c.eq-2.ensures c.if-eq-2.false) ∙ key_reads c.in_ok-token.token s (text_at c.advance.new.self.place) c.in-Some.ensures.0 in
+    handed s _ _ c.from_residual-in_err-expect-3.ensures.1 (fails (inl tt) (λ k. k ≡ Colon) c.in_err-expect-3.field-0.0 (then_same c.in_ok-token.token (here n due.in_braces s _) c.in_ok-token.ensures.takes key_step_there) (λ deep. deep.due)
+    (λ k h apart. no_colon n s k (text_at c.expect-2.new.self.place) apart) c.in_err-expect-3.ensures.takes)
+
+pub parse_braces-returns-clause-led : goal.parse_braces-returns-clause-led
+parse_braces-returns-clause-led g t c = λ n s e.
+    let key_step_there = brace_key c.in_ok-token.token s (text_at c.advance.new.self.place) (is_other _ _ c.eq-3.ensures c.if-eq-3.false) (is_other _ _ c.eq-2.ensures c.if-eq-2.false) ∙ key_reads c.in_ok-token.token s (text_at c.advance.new.self.place) c.in-Some.ensures.0 in
+    gives_then s _ c.parse_entries-2.result (then_same Colon (then_same c.in_ok-token.token (here n due.in_braces s _) c.in_ok-token.ensures.takes key_step_there) c.in_ok-expect-3.ensures.takes refl) (c.parse_entries-2.ensures.led n s e)
+
+pub parse_entries-returns-in_err-value-clause-led : goal.parse_entries-returns-in_err-value-clause-led
+parse_entries-returns-in_err-value-clause-led g t c = λ n s e. handed s _ _ c.from_residual.ensures.1
+    (then_refuses c.in_err-value.field-0.0 (c.entries.invariant.led n s e) (c.in_err-value.ensures.led n (due.entries ∷ s) (omega arith)))
+
+pub parse_entries-returns-in_err-token-clause-led : goal.parse_entries-returns-in_err-token-clause-led
+parse_entries-returns-in_err-token-clause-led g t c = λ n s e.
+    let item = c.in_ok-value.ensures.led n (due.entries ∷ s) (omega arith) in
+    handed s _ _ c.from_residual-in_err-token.ensures.1 (fails_behind item.due_there (λ _. Unit {0}) c.in_err-token.field-0.0 (then_reached (c.entries.invariant.led n s e) (reached item)) item.is_behind (λ k text apart. absurd (apart tt)) c.in_err-token.ensures.takes)
+
+pub parse_entries-returns-then-eq-clause-led : goal.parse_entries-returns-then-eq-clause-led
+parse_entries-returns-then-eq-clause-led g t c = λ n s e.
+    let item = c.in_ok-value.ensures.led n (due.entries ∷ s) (omega arith) in
+    read_there (then_behind_class item.due_there BraceClose (then_reached (c.entries.invariant.led n s e) (reached item)) item.is_behind c.in_ok-token.ensures.takes (is_class _ _ c.eq.ensures c.if-eq.true) refl) (inl refl)
+
+pub parse_entries-returns-then-ne-clause-led : goal.parse_entries-returns-then-ne-clause-led
+parse_entries-returns-then-ne-clause-led g t c = λ n s e.
+    let item = c.in_ok-value.ensures.led n (due.entries ∷ s) (omega arith) in
+    unexpected_behind item.due_there c.unexpected.result c.in_ok-token.token (then_reached (c.entries.invariant.led n s e) (reached item)) item.is_behind c.in_ok-token.ensures.takes
+    (entries_other c.in_ok-token.token s (text_at c.advance.new.self.place) (is_other _ _ c.eq.ensures c.if-eq.false) (differs _ _ c.ne.ensures c.if-ne.true))
+    c.unexpected.ensures
+
+pub parse_entries-returns-in_err-next-clause-led : goal.parse_entries-returns-in_err-next-clause-led
+parse_entries-returns-in_err-next-clause-led g t c = λ n s e.
+    let item = c.in_ok-value.ensures.led n (due.entries ∷ s) (omega arith) in
+    let due_key = key_due (c.entries.invariant.led n s e) item c.in_ok-token.ensures.takes (differs_not _ _ c.ne.ensures c.if-ne.false) in
+    handed s _ _ c.from_residual-in_err-next.ensures.1 (fails (inl tt) (λ _. Unit {0}) c.in_err-next.field-0.0 due_key (λ deep. deep.due) (any_token n due.key s _ _) c.in_err-next.ensures.takes)
+
+pub parse_entries-returns-then-eq-2-clause-led : goal.parse_entries-returns-then-eq-2-clause-led
+parse_entries-returns-then-eq-2-clause-led g t c = λ n s e.
+    let item = c.in_ok-value.ensures.led n (due.entries ∷ s) (omega arith) in
+    let due_key = key_due (c.entries.invariant.led n s e) item c.in_ok-token.ensures.takes (differs_not _ _ c.ne.ensures c.if-ne.false) in
+    read_there (then_class BraceClose due_key c.in_ok-next.ensures.takes (is_class _ _ c.eq-in-entries.ensures c.if-eq-2.true) refl) (inl refl)
+
+pub parse_entries-returns-in_default-clause-led : goal.parse_entries-returns-in_default-clause-led
+parse_entries-returns-in_default-clause-led g t c = λ n s e.
+    let item = c.in_ok-value.ensures.led n (due.entries ∷ s) (omega arith) in
+    let due_key = key_due (c.entries.invariant.led n s e) item c.in_ok-token.ensures.takes (differs_not _ _ c.ne.ensures c.if-ne.false) in
+    unexpected_there (inl tt) c.unexpected-in_default.result c.in_ok-next.next due_key c.in_ok-next.ensures.takes
+    (no_key c.in_ok-next.next s (text_at c.advance-in-entries.new.self.place) c.in_default.ensures (is_other _ _ c.eq-in-entries.ensures c.if-eq-2.false))
+    c.unexpected-in_default.ensures
+
+pub parse_entries-returns-in_err-expect-clause-led : goal.parse_entries-returns-in_err-expect-clause-led
+parse_entries-returns-in_err-expect-clause-led g t c = λ n s e.
+    let item = c.in_ok-value.ensures.led n (due.entries ∷ s) (omega arith) in
+    let due_key = key_due (c.entries.invariant.led n s e) item c.in_ok-token.ensures.takes (differs_not _ _ c.ne.ensures c.if-ne.false) in
+    handed s _ _ c.from_residual-in_err-expect.ensures.1 (fails (inl tt) (λ k. k ≡ Colon) c.in_err-expect.field-0.0
+    (then_same c.in_ok-next.next due_key c.in_ok-next.ensures.takes (key_reads c.in_ok-next.next s (text_at c.advance-in-entries.new.self.place) c.in-Some.ensures.0)) (λ deep. deep.due)
+    (λ k h apart. no_colon n s k (text_at c.expect.new.self.place) apart) c.in_err-expect.ensures.takes)
+
+pub parse_entries-entries-smaller : goal.parse_entries-entries-smaller
+parse_entries-entries-smaller g t c =
+    let item = c.in_ok-value.ensures.led (c.args.levels + 1 + 0) (due.entries ∷ []) (omega arith) in
+    let one = tokens_less _ _ item.tokens item.taken in
+    let two = token_less _ _ c.in_ok-token.token c.in_ok-token.ensures.takes in
+    let three = token_less _ _ c.in_ok-next.next c.in_ok-next.ensures.takes in
+    let four = token_less _ _ Colon c.in_ok-expect.ensures.takes in
+    omega arith
+
+pub parse_node-returns-in-LabelOrKeyword-clause-asks : goal.parse_node-returns-in-LabelOrKeyword-clause-asks
+parse_node-returns-in-LabelOrKeyword-clause-asks g t c =
+    asks_token c.args.self.now c.advance.new.self c.parse_label.new.self c.in_ok-token.token c.in_ok-token.ensures.takes c.advance.ensures.asks c.parse_label.ensures.asks
+
+pub parse_node-returns-in-ParenOpen-clause-asks : goal.parse_node-returns-in-ParenOpen-clause-asks
+parse_node-returns-in-ParenOpen-clause-asks g t c =
+    asks_token c.args.self.now c.advance.new.self c.parse_items.new.self c.in_ok-token.token c.in_ok-token.ensures.takes c.advance.ensures.asks c.parse_items.ensures.asks
+
+pub parse_node-returns-in-BracketOpen-clause-asks : goal.parse_node-returns-in-BracketOpen-clause-asks
+parse_node-returns-in-BracketOpen-clause-asks g t c =
+    asks_token c.args.self.now c.advance.new.self c.parse_items-in-BracketOpen.new.self c.in_ok-token.token c.in_ok-token.ensures.takes c.advance.ensures.asks c.parse_items-in-BracketOpen.ensures.asks
+
+pub parse_node-returns-in-BraceOpen-clause-asks : goal.parse_node-returns-in-BraceOpen-clause-asks
+parse_node-returns-in-BraceOpen-clause-asks g t c =
+    asks_token c.args.self.now c.advance.new.self c.parse_braces.new.self c.in_ok-token.token c.in_ok-token.ensures.takes c.advance.ensures.asks c.parse_braces.ensures.asks
+
+pub parse_label-returns-in_ok-expect-in-Some-clause-asks : goal.parse_label-returns-in_ok-expect-in-Some-clause-asks
+parse_label-returns-in_ok-expect-in-Some-clause-asks g t c =
+    asks_token c.args.self.now c.expect.new.self c.parse_payload.new.self ParenOpen c.in_ok-expect-in-Some.ensures.takes c.expect.ensures.asks c.parse_payload.ensures.asks
+
+pub parse_maybe-returns-clause-asks : goal.parse_maybe-returns-clause-asks
+parse_maybe-returns-clause-asks g t c =
+    asks_looked c.args.self.now c.next_is.new.self c.parse_payload.new.self c.next_is.ensures.stays c.next_is.ensures.asks (asks_token c.next_is.new.self c.expect.new.self c.parse_payload.new.self ParenOpen c.in_ok-expect.ensures.takes c.expect.ensures.asks c.parse_payload.ensures.asks)
+
+pub parse_payload-returns-in_err-expect-clause-asks : goal.parse_payload-returns-in_err-expect-clause-asks
+parse_payload-returns-in_err-expect-clause-asks g t c =
+    asks_value c.args.levels c.args.self.now c.parse_node.new.self c.expect.new.self c.in_ok-payload.ensures.led c.parse_node.ensures.asks (asks_once c.parse_node.new.self c.expect.new.self c.expect.ensures.asks)
+
+pub parse_payload-returns-clause-asks : goal.parse_payload-returns-clause-asks
+parse_payload-returns-clause-asks g t c =
+    asks_value c.args.levels c.args.self.now c.parse_node.new.self c.expect.new.self c.in_ok-payload.ensures.led c.parse_node.ensures.asks (asks_once c.parse_node.new.self c.expect.new.self c.expect.ensures.asks)
+
+pub parse_payload-returns-in_err-parts-clause-asks : goal.parse_payload-returns-in_err-parts-clause-asks
+parse_payload-returns-in_err-parts-clause-asks g t c =
+    asks_value c.args.levels c.args.self.now c.parse_node.new.self c.expect.new.self c.in_ok-payload.ensures.led c.parse_node.ensures.asks (asks_once c.parse_node.new.self c.expect.new.self c.expect.ensures.asks)
+
+pub parse_items-returns-in_err-item-clause-asks : goal.parse_items-returns-in_err-item-clause-asks
+parse_items-returns-in_err-item-clause-asks g t c =
+    asks_items c.args.levels c.args.close c.args.self.now c.items.self c.parse_node.new.self c.items.invariant.reached c.items.invariant.asks c.parse_node.ensures.asks
+
+pub parse_items-returns-in_err-parts-clause-asks : goal.parse_items-returns-in_err-parts-clause-asks
+parse_items-returns-in_err-parts-clause-asks g t c =
+    asks_items c.args.levels c.args.close c.args.self.now c.items.self c.parse_node.new.self c.items.invariant.reached c.items.invariant.asks c.parse_node.ensures.asks
+
+pub parse_items-returns-in_err-token-clause-asks : goal.parse_items-returns-in_err-token-clause-asks
+parse_items-returns-in_err-token-clause-asks g t c =
+    asks_items c.args.levels c.args.close c.args.self.now c.items.self c.advance.new.self c.items.invariant.reached c.items.invariant.asks (asks_value c.args.levels c.items.self c.parse_node.new.self c.advance.new.self c.in_ok-item.ensures.led c.parse_node.ensures.asks (asks_once c.parse_node.new.self c.advance.new.self c.advance.ensures.asks))
+
+pub parse_items-returns-then-eq-3-clause-asks : goal.parse_items-returns-then-eq-3-clause-asks
+parse_items-returns-then-eq-3-clause-asks g t c =
+    asks_items c.args.levels c.args.close c.args.self.now c.items.self c.advance.new.self c.items.invariant.reached c.items.invariant.asks (asks_value c.args.levels c.items.self c.parse_node.new.self c.advance.new.self c.in_ok-item.ensures.led c.parse_node.ensures.asks (asks_once c.parse_node.new.self c.advance.new.self c.advance.ensures.asks))
+
+pub parse_items-returns-then-ne-clause-asks : goal.parse_items-returns-then-ne-clause-asks
+parse_items-returns-then-ne-clause-asks g t c =
+    asks_items c.args.levels c.args.close c.args.self.now c.items.self c.advance.new.self c.items.invariant.reached c.items.invariant.asks (asks_value c.args.levels c.items.self c.parse_node.new.self c.advance.new.self c.in_ok-item.ensures.led c.parse_node.ensures.asks (asks_once c.parse_node.new.self c.advance.new.self c.advance.ensures.asks))
+
+pub parse_items-returns-in_err-expect-2-clause-asks : goal.parse_items-returns-in_err-expect-2-clause-asks
+parse_items-returns-in_err-expect-2-clause-asks g t c =
+    asks_items c.args.levels c.args.close c.args.self.now c.items.self c.expect-then-next_is-2.new.self c.items.invariant.reached c.items.invariant.asks (asks_value c.args.levels c.items.self c.parse_node.new.self c.expect-then-next_is-2.new.self c.in_ok-item.ensures.led c.parse_node.ensures.asks (asks_token c.parse_node.new.self c.advance.new.self c.expect-then-next_is-2.new.self c.in_ok-token.token c.in_ok-token.ensures.takes c.advance.ensures.asks (asks_looked c.advance.new.self c.next_is-in-items.new.self c.expect-then-next_is-2.new.self c.next_is-in-items.ensures.stays c.next_is-in-items.ensures.asks (asks_once c.next_is-in-items.new.self c.expect-then-next_is-2.new.self c.expect-then-next_is-2.ensures.asks))))
+
+pub parse_items-returns-then-next_is-2-clause-asks : goal.parse_items-returns-then-next_is-2-clause-asks
+parse_items-returns-then-next_is-2-clause-asks g t c =
+    asks_items c.args.levels c.args.close c.args.self.now c.items.self c.expect-then-next_is-2.new.self c.items.invariant.reached c.items.invariant.asks (asks_value c.args.levels c.items.self c.parse_node.new.self c.expect-then-next_is-2.new.self c.in_ok-item.ensures.led c.parse_node.ensures.asks (asks_token c.parse_node.new.self c.advance.new.self c.expect-then-next_is-2.new.self c.in_ok-token.token c.in_ok-token.ensures.takes c.advance.ensures.asks (asks_looked c.advance.new.self c.next_is-in-items.new.self c.expect-then-next_is-2.new.self c.next_is-in-items.ensures.stays c.next_is-in-items.ensures.asks (asks_once c.next_is-in-items.new.self c.expect-then-next_is-2.new.self c.expect-then-next_is-2.ensures.asks))))
+
+pub parse_braces-returns-in_err-expect-clause-asks : goal.parse_braces-returns-in_err-expect-clause-asks
+parse_braces-returns-in_err-expect-clause-asks g t c =
+    asks_token c.args.self.now c.advance.new.self c.expect.new.self c.in_ok-token.token c.in_ok-token.ensures.takes c.advance.ensures.asks (asks_once c.advance.new.self c.expect.new.self c.expect.ensures.asks)
+
+pub parse_braces-returns-then-eq-2-clause-asks : goal.parse_braces-returns-then-eq-2-clause-asks
+parse_braces-returns-then-eq-2-clause-asks g t c =
+    asks_token c.args.self.now c.advance.new.self c.expect.new.self c.in_ok-token.token c.in_ok-token.ensures.takes c.advance.ensures.asks (asks_once c.advance.new.self c.expect.new.self c.expect.ensures.asks)
+
+pub parse_braces-returns-in_err-expect-2-clause-asks : goal.parse_braces-returns-in_err-expect-2-clause-asks
+parse_braces-returns-in_err-expect-2-clause-asks g t c =
+    asks_token c.args.self.now c.advance.new.self c.expect-then-next_is.new.self c.in_ok-token.token c.in_ok-token.ensures.takes c.advance.ensures.asks (asks_looked c.advance.new.self c.next_is.new.self c.expect-then-next_is.new.self c.next_is.ensures.stays c.next_is.ensures.asks (asks_once c.next_is.new.self c.expect-then-next_is.new.self c.expect-then-next_is.ensures.asks))
+
+pub parse_braces-returns-then-next_is-clause-asks : goal.parse_braces-returns-then-next_is-clause-asks
+parse_braces-returns-then-next_is-clause-asks g t c =
+    asks_token c.args.self.now c.advance.new.self c.parse_entries.new.self c.in_ok-token.token c.in_ok-token.ensures.takes c.advance.ensures.asks (asks_looked c.advance.new.self c.next_is.new.self c.parse_entries.new.self c.next_is.ensures.stays c.next_is.ensures.asks (asks_token c.next_is.new.self c.expect-then-next_is.new.self c.parse_entries.new.self Colon c.in_ok-expect-2.ensures.takes c.expect-then-next_is.ensures.asks c.parse_entries.ensures.asks))
+
+pub parse_braces-returns-then-eq-3-clause-asks : goal.parse_braces-returns-then-eq-3-clause-asks
+parse_braces-returns-then-eq-3-clause-asks g t c =
+    asks_token c.args.self.now c.advance.new.self c.parse_flags.new.self c.in_ok-token.token c.in_ok-token.ensures.takes c.advance.ensures.asks (asks_looked c.advance.new.self c.next_is.new.self c.parse_flags.new.self c.next_is.ensures.stays c.next_is.ensures.asks c.parse_flags.ensures.asks)
+
+pub parse_braces-returns-in_err-expect-3-clause-asks : goal.parse_braces-returns-in_err-expect-3-clause-asks
+parse_braces-returns-in_err-expect-3-clause-asks g t c =
+    asks_token c.args.self.now c.advance.new.self c.expect-2.new.self c.in_ok-token.token c.in_ok-token.ensures.takes c.advance.ensures.asks (asks_once c.advance.new.self c.expect-2.new.self c.expect-2.ensures.asks)
+
+pub parse_braces-returns-clause-asks : goal.parse_braces-returns-clause-asks
+parse_braces-returns-clause-asks g t c =
+    asks_token c.args.self.now c.advance.new.self c.parse_entries-2.new.self c.in_ok-token.token c.in_ok-token.ensures.takes c.advance.ensures.asks (asks_token c.advance.new.self c.expect-2.new.self c.parse_entries-2.new.self Colon c.in_ok-expect-3.ensures.takes c.expect-2.ensures.asks c.parse_entries-2.ensures.asks)
+
+pub parse_entries-returns-in_err-value-clause-asks : goal.parse_entries-returns-in_err-value-clause-asks
+parse_entries-returns-in_err-value-clause-asks g t c =
+    asks_entries c.args.levels c.args.self.now c.entries.self c.parse_node.new.self c.entries.invariant.led c.entries.invariant.asks c.parse_node.ensures.asks
+
+pub parse_entries-returns-in_err-parts-clause-asks : goal.parse_entries-returns-in_err-parts-clause-asks
+parse_entries-returns-in_err-parts-clause-asks g t c =
+    asks_entries c.args.levels c.args.self.now c.entries.self c.parse_node.new.self c.entries.invariant.led c.entries.invariant.asks c.parse_node.ensures.asks
+
+pub parse_entries-returns-in_err-token-clause-asks : goal.parse_entries-returns-in_err-token-clause-asks
+parse_entries-returns-in_err-token-clause-asks g t c =
+    asks_entries c.args.levels c.args.self.now c.entries.self c.advance.new.self c.entries.invariant.led c.entries.invariant.asks (asks_value c.args.levels c.entries.self c.parse_node.new.self c.advance.new.self c.in_ok-value.ensures.led c.parse_node.ensures.asks (asks_once c.parse_node.new.self c.advance.new.self c.advance.ensures.asks))
+
+pub parse_entries-returns-then-eq-clause-asks : goal.parse_entries-returns-then-eq-clause-asks
+parse_entries-returns-then-eq-clause-asks g t c =
+    asks_entries c.args.levels c.args.self.now c.entries.self c.advance.new.self c.entries.invariant.led c.entries.invariant.asks (asks_value c.args.levels c.entries.self c.parse_node.new.self c.advance.new.self c.in_ok-value.ensures.led c.parse_node.ensures.asks (asks_once c.parse_node.new.self c.advance.new.self c.advance.ensures.asks))
+
+pub parse_entries-returns-then-ne-clause-asks : goal.parse_entries-returns-then-ne-clause-asks
+parse_entries-returns-then-ne-clause-asks g t c =
+    asks_entries c.args.levels c.args.self.now c.entries.self c.advance.new.self c.entries.invariant.led c.entries.invariant.asks (asks_value c.args.levels c.entries.self c.parse_node.new.self c.advance.new.self c.in_ok-value.ensures.led c.parse_node.ensures.asks (asks_once c.parse_node.new.self c.advance.new.self c.advance.ensures.asks))
+
+pub parse_entries-returns-in_err-next-clause-asks : goal.parse_entries-returns-in_err-next-clause-asks
+parse_entries-returns-in_err-next-clause-asks g t c =
+    asks_entries c.args.levels c.args.self.now c.entries.self c.advance-in-entries.new.self c.entries.invariant.led c.entries.invariant.asks (asks_value c.args.levels c.entries.self c.parse_node.new.self c.advance-in-entries.new.self c.in_ok-value.ensures.led c.parse_node.ensures.asks (asks_token c.parse_node.new.self c.advance.new.self c.advance-in-entries.new.self c.in_ok-token.token c.in_ok-token.ensures.takes c.advance.ensures.asks (asks_once c.advance.new.self c.advance-in-entries.new.self c.advance-in-entries.ensures.asks)))
+
+pub parse_entries-returns-then-eq-2-clause-asks : goal.parse_entries-returns-then-eq-2-clause-asks
+parse_entries-returns-then-eq-2-clause-asks g t c =
+    asks_entries c.args.levels c.args.self.now c.entries.self c.advance-in-entries.new.self c.entries.invariant.led c.entries.invariant.asks (asks_value c.args.levels c.entries.self c.parse_node.new.self c.advance-in-entries.new.self c.in_ok-value.ensures.led c.parse_node.ensures.asks (asks_token c.parse_node.new.self c.advance.new.self c.advance-in-entries.new.self c.in_ok-token.token c.in_ok-token.ensures.takes c.advance.ensures.asks (asks_once c.advance.new.self c.advance-in-entries.new.self c.advance-in-entries.ensures.asks)))
+
+pub parse_entries-returns-in_default-clause-asks : goal.parse_entries-returns-in_default-clause-asks
+parse_entries-returns-in_default-clause-asks g t c =
+    asks_entries c.args.levels c.args.self.now c.entries.self c.advance-in-entries.new.self c.entries.invariant.led c.entries.invariant.asks (asks_value c.args.levels c.entries.self c.parse_node.new.self c.advance-in-entries.new.self c.in_ok-value.ensures.led c.parse_node.ensures.asks (asks_token c.parse_node.new.self c.advance.new.self c.advance-in-entries.new.self c.in_ok-token.token c.in_ok-token.ensures.takes c.advance.ensures.asks (asks_once c.advance.new.self c.advance-in-entries.new.self c.advance-in-entries.ensures.asks)))
+
+pub parse_entries-returns-in_err-expect-clause-asks : goal.parse_entries-returns-in_err-expect-clause-asks
+parse_entries-returns-in_err-expect-clause-asks g t c =
+    asks_entries c.args.levels c.args.self.now c.entries.self c.expect.new.self c.entries.invariant.led c.entries.invariant.asks (asks_value c.args.levels c.entries.self c.parse_node.new.self c.expect.new.self c.in_ok-value.ensures.led c.parse_node.ensures.asks (asks_token c.parse_node.new.self c.advance.new.self c.expect.new.self c.in_ok-token.token c.in_ok-token.ensures.takes c.advance.ensures.asks (asks_token c.advance.new.self c.advance-in-entries.new.self c.expect.new.self c.in_ok-next.next c.in_ok-next.ensures.takes c.advance-in-entries.ensures.asks (asks_once c.advance-in-entries.new.self c.expect.new.self c.expect.ensures.asks))))
+
+pub parse_entries-returns-in_err-parts-2-clause-asks : goal.parse_entries-returns-in_err-parts-2-clause-asks
+parse_entries-returns-in_err-parts-2-clause-asks g t c =
+    asks_entries c.args.levels c.args.self.now c.entries.self c.advance-in-entries.new.self c.entries.invariant.led c.entries.invariant.asks (asks_value c.args.levels c.entries.self c.parse_node.new.self c.advance-in-entries.new.self c.in_ok-value.ensures.led c.parse_node.ensures.asks (asks_token c.parse_node.new.self c.advance.new.self c.advance-in-entries.new.self c.in_ok-token.token c.in_ok-token.ensures.takes c.advance.ensures.asks (asks_once c.advance.new.self c.advance-in-entries.new.self c.advance-in-entries.ensures.asks)))
+
+pub parse_node-returns-in-Number-clause-tree : goal.parse_node-returns-in-Number-clause-tree
+parse_node-returns-in-Number-clause-tree g t c = leaf_built (g.P.Plan.is_made c.args.plan) c.args.self.now.place c.advance.new.self.place c.in_ok-token.token kind_of_node.Number c.leaf.result (IsParsed c.args.levels c.args.self.now.place c.advance.new.self.place) c.in_ok-token.ensures.takes (one_tied kind_of_node.Number Number number_parsed c.args.levels c.args.self.now.place c.advance.new.self.place c.in_ok-token.token _ (omega arith) c.in_ok-token.ensures.takes c.in-Number.is refl) c.leaf.ensures
+
+pub parse_node-returns-in-Char-clause-tree : goal.parse_node-returns-in-Char-clause-tree
+parse_node-returns-in-Char-clause-tree g t c = leaf_built (g.P.Plan.is_made c.args.plan) c.args.self.now.place c.advance.new.self.place c.in_ok-token.token kind_of_node.Char c.leaf-in-Char.result (IsParsed c.args.levels c.args.self.now.place c.advance.new.self.place) c.in_ok-token.ensures.takes (one_tied kind_of_node.Char Char char_parsed c.args.levels c.args.self.now.place c.advance.new.self.place c.in_ok-token.token _ (omega arith) c.in_ok-token.ensures.takes c.in-Char.is refl) c.leaf-in-Char.ensures
+
+pub parse_node-returns-in-String-clause-tree : goal.parse_node-returns-in-String-clause-tree
+parse_node-returns-in-String-clause-tree g t c = leaf_built (g.P.Plan.is_made c.args.plan) c.args.self.now.place c.advance.new.self.place c.in_ok-token.token kind_of_node.String c.leaf-in-String.result (IsParsed c.args.levels c.args.self.now.place c.advance.new.self.place) c.in_ok-token.ensures.takes (one_tied kind_of_node.String String string_parsed c.args.levels c.args.self.now.place c.advance.new.self.place c.in_ok-token.token _ (omega arith) c.in_ok-token.ensures.takes c.in-String.is refl) c.leaf-in-String.ensures
+
+pub parse_node-returns-in-MultilineString-clause-tree : goal.parse_node-returns-in-MultilineString-clause-tree
+parse_node-returns-in-MultilineString-clause-tree g t c = leaf_built (g.P.Plan.is_made c.args.plan) c.args.self.now.place c.advance.new.self.place c.in_ok-token.token kind_of_node.MultilineString c.leaf-in-MultilineString.result (IsParsed c.args.levels c.args.self.now.place c.advance.new.self.place) c.in_ok-token.ensures.takes (one_tied kind_of_node.MultilineString MultilineString multiline_parsed c.args.levels c.args.self.now.place c.advance.new.self.place c.in_ok-token.token _ (omega arith) c.in_ok-token.ensures.takes c.in-MultilineString.is refl) c.leaf-in-MultilineString.ensures
+
+pub parse_node-returns-in-LabelOrKeyword-clause-tree : goal.parse_node-returns-in-LabelOrKeyword-clause-tree
+parse_node-returns-in-LabelOrKeyword-clause-tree g t c =
+    built (g.P.Plan.is_made c.args.plan) c.args.self.now.place c.advance.new.self.place (IsParsedBehind LabelOrKeyword (c.args.levels - 1 + 1) c.advance.new.self.place c.parse_label.new.self.place) (IsParsed c.args.levels c.args.self.now.place c.parse_label.new.self.place) c.parse_label.result (source_item c.args.self.now.place c.advance.new.self.place c.in_ok-token.token c.in_ok-token.ensures.takes)
+    (λ n. label_tied c.args.levels c.args.self.now.place c.advance.new.self.place c.parse_label.new.self.place c.in_ok-token.token (as_ok n) (omega arith) c.in_ok-token.ensures.takes c.in-LabelOrKeyword.is) c.parse_label.ensures.tree
+
+pub parse_node-returns-in-ParenOpen-clause-tree : goal.parse_node-returns-in-ParenOpen-clause-tree
+parse_node-returns-in-ParenOpen-clause-tree g t c =
+    built (g.P.Plan.is_made c.args.plan) c.args.self.now.place c.advance.new.self.place (IsOfItems (c.args.levels - 1) ParenClose c.advance.new.self.place c.parse_items.new.self.place) (IsParsed c.args.levels c.args.self.now.place c.parse_items.new.self.place) c.parse_items.result (source_item c.args.self.now.place c.advance.new.self.place c.in_ok-token.token c.in_ok-token.ensures.takes)
+    (λ n. items_tied c.args.levels c.args.self.now.place c.advance.new.self.place c.parse_items.new.self.place c.in_ok-token.token ParenOpen ParenClose (inl (refl, refl)) (as_ok n) (omega arith) c.in_ok-token.ensures.takes c.in-ParenOpen.is) c.parse_items.ensures.tree
+
+pub parse_node-returns-in-BracketOpen-clause-tree : goal.parse_node-returns-in-BracketOpen-clause-tree
+parse_node-returns-in-BracketOpen-clause-tree g t c =
+    built (g.P.Plan.is_made c.args.plan) c.args.self.now.place c.advance.new.self.place (IsOfItems (c.args.levels - 1) BracketClose c.advance.new.self.place c.parse_items-in-BracketOpen.new.self.place) (IsParsed c.args.levels c.args.self.now.place c.parse_items-in-BracketOpen.new.self.place) c.parse_items-in-BracketOpen.result (source_item c.args.self.now.place c.advance.new.self.place c.in_ok-token.token c.in_ok-token.ensures.takes)
+    (λ n. items_tied c.args.levels c.args.self.now.place c.advance.new.self.place c.parse_items-in-BracketOpen.new.self.place c.in_ok-token.token BracketOpen BracketClose (inr (refl, refl)) (as_ok n) (omega arith) c.in_ok-token.ensures.takes c.in-BracketOpen.is) c.parse_items-in-BracketOpen.ensures.tree
+
+pub parse_node-returns-in-BraceOpen-clause-tree : goal.parse_node-returns-in-BraceOpen-clause-tree
+parse_node-returns-in-BraceOpen-clause-tree g t c =
+    built (g.P.Plan.is_made c.args.plan) c.args.self.now.place c.advance.new.self.place (IsParsedBehind BraceOpen (c.args.levels - 1 + 1) c.advance.new.self.place c.parse_braces.new.self.place) (IsParsed c.args.levels c.args.self.now.place c.parse_braces.new.self.place) c.parse_braces.result (source_item c.args.self.now.place c.advance.new.self.place c.in_ok-token.token c.in_ok-token.ensures.takes)
+    (λ n. braces_tied c.args.levels c.args.self.now.place c.advance.new.self.place c.parse_braces.new.self.place c.in_ok-token.token (as_ok n) (omega arith) c.in_ok-token.ensures.takes c.in-BraceOpen.is) c.parse_braces.ensures.tree
+
+pub parse_label-returns-in-True-clause-tree : goal.parse_label-returns-in-True-clause-tree
+parse_label-returns-in-True-clause-tree g t c =
+    let text_is = sym c.slice.ensures ∙ subst (λ z. HasText z c.slice.result.now) c.in-True.is c.role_of.ensures.text in
+    (node kind_of_node.BoolTrue (span_at c.args.self.now.place) no_nodes, leaf_tied c.args.levels c.args.self.now.place kind_of_node.BoolTrue _ (word_here c.slice.ensures c.role_of.ensures.word c.in-True.is) (inl (refl, text_is)) refl, c.leaf.ensures)
+
+pub parse_label-returns-in-False-clause-tree : goal.parse_label-returns-in-False-clause-tree
+parse_label-returns-in-False-clause-tree g t c =
+    let text_is = sym c.slice.ensures ∙ subst (λ z. HasText z c.slice.result.now) c.in-False.is c.role_of.ensures.text in
+    (node kind_of_node.BoolFalse (span_at c.args.self.now.place) no_nodes, leaf_tied c.args.levels c.args.self.now.place kind_of_node.BoolFalse _ (word_here c.slice.ensures c.role_of.ensures.word c.in-False.is) (inr (refl, text_is)) refl, c.leaf-in-False.ensures)
+
+pub parse_label-returns-in-Number-clause-tree : goal.parse_label-returns-in-Number-clause-tree
+parse_label-returns-in-Number-clause-tree g t c =
+    let text_is = ap (is_one_of (codes "inf" ∷ codes "nan" ∷ [])) (sym c.slice.ensures) ∙ subst (λ z. HasText z c.slice.result.now) c.in-Number.is c.role_of.ensures.text in
+    (node kind_of_node.Number (span_at c.args.self.now.place) no_nodes, number_word_tied c.args.levels c.args.self.now.place _ (word_here c.slice.ensures c.role_of.ensures.word c.in-Number.is) text_is refl, c.leaf-in-Number.ensures)
+
+pub parse_label-returns-in-None-clause-tree : goal.parse_label-returns-in-None-clause-tree
+parse_label-returns-in-None-clause-tree g t c = (node kind_of_node.OptionNone (span_at c.args.self.now.place) no_nodes, none_tied c.args.levels c.args.self.now.place _ (word_here c.slice.ensures c.role_of.ensures.word c.in-None.is) refl, c.leaf-in-None.ensures)
+
+pub parse_label-returns-in_ok-expect-in-Some-clause-tree : goal.parse_label-returns-in_ok-expect-in-Some-clause-tree
+parse_label-returns-in_ok-expect-in-Some-clause-tree g t c =
+    built (g.P.Plan.is_made c.args.plan) c.args.self.now.place c.expect.new.self.place (IsPayload c.args.levels kind_of_node.OptionSome c.span-start.result.start [] c.expect.new.self.place c.parse_payload.new.self.place) (IsParsedBehind LabelOrKeyword (c.args.levels + 1) c.args.self.now.place c.parse_payload.new.self.place) c.parse_payload.result (source_item c.args.self.now.place c.expect.new.self.place ParenOpen c.in_ok-expect-in-Some.ensures.takes)
+    (λ n. some_tied c.args.levels c.args.self.now.place c.expect.new.self.place c.parse_payload.new.self.place c.span-start.result.start [] (as_ok n) (word_here c.slice.ensures c.role_of.ensures.word c.in-Some.is) (ap (λ (z : Range ℕ). z.start) c.span-start.ensures) refl c.in_ok-expect-in-Some.ensures.takes)
+    (of_front (λ front. g.P.Plan.are_parts c.args.plan c.expect.new.self.place.lexer.source kind_of_node.OptionSome front c.parts-parts.result) c.parse_payload.result (λ front. IsBuilt (g.P.Plan.is_made c.args.plan) c.expect.new.self.place (IsPayload c.args.levels kind_of_node.OptionSome c.span-start.result.start front c.expect.new.self.place c.parse_payload.new.self.place)) c.parse_payload.ensures.tree [] (c.parts-parts.ensures c.expect.new.self.place.lexer.source tt))
+
+pub parse_label-returns-in-Ok-clause-tree : goal.parse_label-returns-in-Ok-clause-tree
+parse_label-returns-in-Ok-clause-tree g t c =
+    built (g.P.Plan.is_made c.args.plan) c.args.self.now.place c.args.self.now.place (IsMaybe c.args.levels kind_of_node.ResultOk kind_of_node.ResultOk c.args.self.now.place c.parse_maybe.new.self.place) (IsParsedBehind LabelOrKeyword (c.args.levels + 1) c.args.self.now.place c.parse_maybe.new.self.place) c.parse_maybe.result refl
+    (λ n. ok_tied c.args.levels c.args.self.now.place c.parse_maybe.new.self.place (as_ok n) (word_here c.slice.ensures c.role_of.ensures.word c.in-Ok.is)) (as_given (IsOfParts kind_of_node.ResultOk) (IsBuilt (g.P.Plan.is_made c.args.plan) c.args.self.now.place (IsMaybe c.args.levels kind_of_node.ResultOk kind_of_node.ResultOk c.args.self.now.place c.parse_maybe.new.self.place)) c.parse_maybe.result c.parse_maybe.ensures.tree tt)
+
+pub parse_label-returns-in-Err-clause-tree : goal.parse_label-returns-in-Err-clause-tree
+parse_label-returns-in-Err-clause-tree g t c =
+    built (g.P.Plan.is_made c.args.plan) c.args.self.now.place c.args.self.now.place (IsMaybe c.args.levels kind_of_node.ResultErr kind_of_node.ResultErr c.args.self.now.place c.parse_maybe-in-Err.new.self.place) (IsParsedBehind LabelOrKeyword (c.args.levels + 1) c.args.self.now.place c.parse_maybe-in-Err.new.self.place) c.parse_maybe-in-Err.result refl
+    (λ n. err_tied c.args.levels c.args.self.now.place c.parse_maybe-in-Err.new.self.place (as_ok n) (word_here c.slice.ensures c.role_of.ensures.word c.in-Err.is)) (as_given (IsOfParts kind_of_node.ResultErr) (IsBuilt (g.P.Plan.is_made c.args.plan) c.args.self.now.place (IsMaybe c.args.levels kind_of_node.ResultErr kind_of_node.ResultErr c.args.self.now.place c.parse_maybe-in-Err.new.self.place)) c.parse_maybe-in-Err.result c.parse_maybe-in-Err.ensures.tree tt)
+
+pub parse_label-returns-in-Case-clause-tree : goal.parse_label-returns-in-Case-clause-tree
+parse_label-returns-in-Case-clause-tree g t c =
+    built (g.P.Plan.is_made c.args.plan) c.args.self.now.place c.args.self.now.place (IsMaybe c.args.levels kind_of_node.Label kind_of_node.VariantWithPayload c.args.self.now.place c.parse_maybe-in-Case.new.self.place) (IsParsedBehind LabelOrKeyword (c.args.levels + 1) c.args.self.now.place c.parse_maybe-in-Case.new.self.place) c.parse_maybe-in-Case.result refl
+    (λ n. case_tied c.args.levels c.args.self.now.place c.parse_maybe-in-Case.new.self.place (as_ok n) (word_here c.slice.ensures c.role_of.ensures.word c.in-Case.is)) (as_given (IsOfParts kind_of_node.VariantWithPayload) (IsBuilt (g.P.Plan.is_made c.args.plan) c.args.self.now.place (IsMaybe c.args.levels kind_of_node.Label kind_of_node.VariantWithPayload c.args.self.now.place c.parse_maybe-in-Case.new.self.place)) c.parse_maybe-in-Case.result c.parse_maybe-in-Case.ensures.tree tt)
+
+pub parse_maybe-returns-then-not-next_is-clause-tree : goal.parse_maybe-returns-then-not-next_is-clause-tree
+parse_maybe-returns-then-not-next_is-clause-tree g t c = λ given.
+    let stays = c.next_is.ensures.stays in
+    (node c.args.alone (span_at c.args.self.now.place) no_nodes, inl (stays, refl), subst (λ (z : Place). g.P.Plan.is_made c.args.plan z.lexer.source (node c.args.alone (span_at z) no_nodes) c.leaf.result) stays c.leaf.ensures)
+
+pub parse_maybe-returns-clause-tree : goal.parse_maybe-returns-clause-tree
+parse_maybe-returns-clause-tree g t c =
+    let stays = c.next_is.ensures.stays in
+    let label = label_children c.args.with (span_at c.next_is.new.self.place) in
+    let behind : c.expect.new.self.place.lexer.source ≡ c.next_is.new.self.place.lexer.source = source_item c.next_is.new.self.place c.expect.new.self.place ParenOpen c.in_ok-expect.ensures.takes in
+    when_given (IsOfParts c.args.with) (IsBuilt (g.P.Plan.is_made c.args.plan) c.args.self.now.place (IsMaybe c.args.levels c.args.alone c.args.with c.args.self.now.place c.parse_payload.new.self.place)) c.parse_payload.result (λ given.
+    built (g.P.Plan.is_made c.args.plan) c.args.self.now.place c.expect.new.self.place (IsPayload c.args.levels c.args.with c.span-start.result.start label c.expect.new.self.place c.parse_payload.new.self.place) (IsMaybe c.args.levels c.args.alone c.args.with c.args.self.now.place c.parse_payload.new.self.place) c.parse_payload.result (behind ∙ ap (λ (z : Place). z.lexer.source) stays)
+    (λ n. payload_tied c.args.levels c.args.alone c.args.with c.args.self.now.place c.expect.new.self.place c.next_is.new.self.place c.parse_payload.new.self.place c.span-start.result.start label (as_ok n) stays c.in_ok-expect.ensures.takes (ap (λ (z : Range ℕ). z.start) c.span-start.ensures) refl)
+    (of_front (λ front. g.P.Plan.are_parts c.args.plan c.expect.new.self.place.lexer.source c.args.with front c.in_ok-front.front) c.parse_payload.result (λ front. IsBuilt (g.P.Plan.is_made c.args.plan) c.expect.new.self.place (IsPayload c.args.levels c.args.with c.span-start.result.start front c.expect.new.self.place c.parse_payload.new.self.place)) c.parse_payload.ensures.tree label
+    (subst (λ (s : List ℕ). g.P.Plan.are_parts c.args.plan s c.args.with label c.in_ok-front.front) (sym behind) (c.in_ok-front.ensures.made given))))
+
+pub parse_payload-returns-clause-tree : goal.parse_payload-returns-clause-tree
+parse_payload-returns-clause-tree g t c = λ front first.
+    let (n, is, of) = c.in_ok-payload.ensures.tree in
+    let source : c.expect.new.self.place.lexer.source ≡ c.args.self.now.place.lexer.source = source_item c.parse_node.new.self.place c.expect.new.self.place ParenClose c.in_ok-expect.ensures.takes ∙ source_parsed c.args.levels c.args.self.now.place c.parse_node.new.self.place n is in
+    let grown = c.in_ok-parts.ensures.kept c.args.self.now.place.lexer.source c.args.ty front n first (subst (λ z. g.P.Plan.is_made z c.args.self.now.place.lexer.source n c.in_ok-payload.payload) c.part-part.ensures of) in
+    whole_built (g.P.Plan.is_made c.args.plan) (λ (s : List ℕ) cs ps. g.P.Plan.are_parts c.args.plan s c.args.ty cs ps) c.args.self.now.place c.expect.new.self.place c.args.ty c.args.start c.whole.result c.in_ok-parts.parts (front ++ n ∷ []) (IsPayload c.args.levels c.args.ty c.args.start front c.args.self.now.place c.expect.new.self.place) source grown c.whole.ensures
+    (record { payload = n; behind = c.parse_node.new.self.place; inner = is; close = c.in_ok-expect.ensures.takes; is = refl })
+
+pub parse_items-returns-then-next_is-clause-tree : goal.parse_items-returns-then-next_is-clause-tree
+parse_items-returns-then-next_is-clause-tree g t c =
+    let stays = c.next_is.ensures.stays in
+    let source : c.expect.new.self.place.lexer.source ≡ c.args.self.now.place.lexer.source = source_item c.next_is.new.self.place c.expect.new.self.place c.args.close c.in_ok-expect.ensures.takes ∙ ap (λ (z : Place). z.lexer.source) stays in
+    whole_built (g.P.Plan.is_made c.args.plan) (λ (s : List ℕ) cs ps. g.P.Plan.are_parts c.args.plan s kind_of_node.List cs ps) c.args.self.now.place c.expect.new.self.place kind_of_node.List c.span-start.result.start c.whole.result c.parts-none.result [] (IsOfItems c.args.levels c.args.close c.args.self.now.place c.expect.new.self.place) source (c.parts-none.ensures c.args.self.now.place.lexer.source tt) c.whole.ensures
+    (items_none c.args.levels c.args.close c.args.self.now.place c.next_is.new.self.place c.expect.new.self.place c.span-start.result.start [] _ refl refl c.requires (is_other _ _ c.eq.ensures c.if-eq.false) (ap (λ (z : Range ℕ). z.start) c.span-start.ensures) stays c.in_ok-expect.ensures.takes)
+
+pub parse_items-returns-then-eq-3-clause-tree : goal.parse_items-returns-then-eq-3-clause-tree
+parse_items-returns-then-eq-3-clause-tree g t c =
+    let (n, is, of) = c.in_ok-item.ensures.tree in
+    let (children, first, go) = c.items.invariant.tree in
+    let (d, i, r) = c.items.invariant.reached (c.args.levels + 1) [] (omega arith) in
+    let here : c.items.self.place.lexer.source ≡ c.args.self.now.place.lexer.source = source_reached r in
+    let grown = c.in_ok-parts.ensures.kept c.args.self.now.place.lexer.source c.if-eq-2.ty children n first (subst (λ z. g.P.Plan.is_made z c.args.self.now.place.lexer.source n c.in_ok-item.item) c.part-part.ensures (subst (λ (s : List ℕ). g.P.Plan.is_made c.part-part.result s n c.in_ok-item.item) here of)) in
+    let behind : c.parse_node.new.self.place.lexer.source ≡ c.args.self.now.place.lexer.source = source_parsed c.args.levels c.items.self.place c.parse_node.new.self.place n is ∙ here in
+    let token : c.advance.new.self.place.lexer.source ≡ c.args.self.now.place.lexer.source = source_item c.parse_node.new.self.place c.advance.new.self.place c.in_ok-token.token c.in_ok-token.ensures.takes ∙ behind in
+    whole_built (g.P.Plan.is_made c.args.plan) (λ (s : List ℕ) cs ps. g.P.Plan.are_parts c.args.plan s c.if-eq-2.ty cs ps) c.args.self.now.place c.advance.new.self.place c.if-eq-2.ty c.span-start.result.start c.whole-then-eq-3.result c.in_ok-parts.parts (children ++ n ∷ []) (IsOfItems c.args.levels c.args.close c.args.self.now.place c.advance.new.self.place) token grown c.whole-then-eq-3.ensures
+    (items_made c.args.levels c.args.close c.args.self.now.place c.advance.new.self.place c.if-eq-2.ty c.span-start.result.start (children ++ n ∷ []) _ refl (elim c.if-eq-2.branch [
+      | parse_items-then-eq-2 w ↦ w.ty-is ∙ sym (ap items_type (is_class c.args.close ParenClose c.eq-2.ensures w.if-eq-2.true))
+      | parse_items-else-eq-2 w ↦ w.ty-is ∙ sym (type_of_items c.args.close c.requires (is_other _ _ c.eq-2.ensures w.if-eq-2.false))
+    ]) (ap (λ (z : Range ℕ). z.start) c.span-start.ensures) (go n c.parse_node.new.self.place c.advance.new.self.place [] is (inl (class_as _ _ _ c.args.close c.in_ok-token.ensures.takes (is_class _ _ c.eq-in-items.ensures c.if-eq-3.true)))) (λ k. some_there children _ n refl))
+
+pub parse_items-returns-then-next_is-2-clause-tree : goal.parse_items-returns-then-next_is-2-clause-tree
+parse_items-returns-then-next_is-2-clause-tree g t c =
+    let (n, is, of) = c.in_ok-item.ensures.tree in
+    let (children, first, go) = c.items.invariant.tree in
+    let (d, i, r) = c.items.invariant.reached (c.args.levels + 1) [] (omega arith) in
+    let here : c.items.self.place.lexer.source ≡ c.args.self.now.place.lexer.source = source_reached r in
+    let grown = c.in_ok-parts.ensures.kept c.args.self.now.place.lexer.source c.if-eq-2.ty children n first (subst (λ z. g.P.Plan.is_made z c.args.self.now.place.lexer.source n c.in_ok-item.item) c.part-part.ensures (subst (λ (s : List ℕ). g.P.Plan.is_made c.part-part.result s n c.in_ok-item.item) here of)) in
+    let behind : c.parse_node.new.self.place.lexer.source ≡ c.args.self.now.place.lexer.source = source_parsed c.args.levels c.items.self.place c.parse_node.new.self.place n is ∙ here in
+    let token : c.advance.new.self.place.lexer.source ≡ c.args.self.now.place.lexer.source = source_item c.parse_node.new.self.place c.advance.new.self.place c.in_ok-token.token c.in_ok-token.ensures.takes ∙ behind in
+    let stays = c.next_is-in-items.ensures.stays in
+    let close : c.expect-then-next_is-2.new.self.place.lexer.source ≡ c.args.self.now.place.lexer.source = source_item c.next_is-in-items.new.self.place c.expect-then-next_is-2.new.self.place c.args.close c.in_ok-expect-2.ensures.takes ∙ (ap (λ (z : Place). z.lexer.source) stays ∙ token) in
+    whole_built (g.P.Plan.is_made c.args.plan) (λ (s : List ℕ) cs ps. g.P.Plan.are_parts c.args.plan s c.if-eq-2.ty cs ps) c.args.self.now.place c.expect-then-next_is-2.new.self.place c.if-eq-2.ty c.span-start.result.start c.whole-then-next_is-2.result c.in_ok-parts.parts (children ++ n ∷ []) (IsOfItems c.args.levels c.args.close c.args.self.now.place c.expect-then-next_is-2.new.self.place) close grown c.whole-then-next_is-2.ensures
+    (items_made c.args.levels c.args.close c.args.self.now.place c.expect-then-next_is-2.new.self.place c.if-eq-2.ty c.span-start.result.start (children ++ n ∷ []) _ refl (elim c.if-eq-2.branch [
+      | parse_items-then-eq-2 w ↦ w.ty-is ∙ sym (ap items_type (is_class c.args.close ParenClose c.eq-2.ensures w.if-eq-2.true))
+      | parse_items-else-eq-2 w ↦ w.ty-is ∙ sym (type_of_items c.args.close c.requires (is_other _ _ c.eq-2.ensures w.if-eq-2.false))
+    ]) (ap (λ (z : Range ℕ). z.start) c.span-start.ensures) (go n c.parse_node.new.self.place c.expect-then-next_is-2.new.self.place [] is (inr (
+      c.advance.new.self.place,
+      class_as _ _ _ Comma c.in_ok-token.ensures.takes (differs_not _ _ c.ne.ensures c.if-ne.false),
+      subst (λ z. TakesClass c.args.close z c.expect-then-next_is-2.new.self.place) stays c.in_ok-expect-2.ensures.takes,
+    ))) (λ k. some_there children _ n refl))
+
 pub parse_items-items-preserved : goal.parse_items-items-preserved
-parse_items-items-preserved t c = record {
+parse_items-items-preserved g t c = record {
   asks =
       asks_items c.args.levels c.args.close c.args.self.now c.items.self c.next_is-in-items.new.self c.items.invariant.reached c.items.invariant.asks (asks_value c.args.levels c.items.self c.parse_node.new.self c.next_is-in-items.new.self c.in_ok-item.ensures.led c.parse_node.ensures.asks (asks_token c.parse_node.new.self c.advance.new.self c.next_is-in-items.new.self c.in_ok-token.token c.in_ok-token.ensures.takes c.advance.ensures.asks (asks_once c.advance.new.self c.next_is-in-items.new.self c.next_is-in-items.ensures.asks)));
   no_close = subst (λ z. (next : Place) × TakesItem z (Some (Ok c.args.close)) next → ⊥) (sym c.next_is-in-items.ensures.stays) (λ next. untrue _ c.if-next_is-2.false (c.next_is-in-items.ensures.answer.1 next));
@@ -212,380 +601,170 @@ parse_items-items-preserved t c = record {
       let comma_step = subst (λ z. behind_step (form_of c.args.close ∷ s) (token_of z (text_at c.advance.new.self.place)) ≡ reads due.next_item (form_of c.args.close ∷ s)) (sym (differs_not c.in_ok-token.token Comma c.ne.ensures c.if-ne.false)) (comma_behind c.args.close s (text_at c.advance.new.self.place) c.requires) in
       let next = then_behind item.due_there c.in_ok-token.token behind item.is_behind c.in_ok-token.ensures.takes comma_step in
       (due.next_item, inr refl, moved c.next_is-in-items.ensures.stays next);
-  tree = items_next _ _ _ _ _ _ _ c.items.items.items _ c.in_ok-item.item c.items.invariant.tree c.in_ok-item.ensures.tree (class_as _ _ _ Comma c.in_ok-token.ensures.takes (differs_not _ _ c.ne.ensures c.if-ne.false)) c.next_is-in-items.ensures.stays (pushed _ _ _ _ c.push.ensures.items c.if-is_err.ensures.negation);
+  tree =
+      let (n, is, of) = c.in_ok-item.ensures.tree in
+      let (children, first, go) = c.items.invariant.tree in
+      let (d, i, r) = c.items.invariant.reached (c.args.levels + 1) [] (omega arith) in
+      let here : c.items.self.place.lexer.source ≡ c.args.self.now.place.lexer.source = source_reached r in
+      let grown = c.in_ok-parts.ensures.kept c.args.self.now.place.lexer.source c.if-eq-2.ty children n first (subst (λ z. g.P.Plan.is_made z c.args.self.now.place.lexer.source n c.in_ok-item.item) c.part-part.ensures (subst (λ (s : List ℕ). g.P.Plan.is_made c.part-part.result s n c.in_ok-item.item) here of)) in
+      let behind : c.parse_node.new.self.place.lexer.source ≡ c.args.self.now.place.lexer.source = source_parsed c.args.levels c.items.self.place c.parse_node.new.self.place n is ∙ here in
+      let token : c.advance.new.self.place.lexer.source ≡ c.args.self.now.place.lexer.source = source_item c.parse_node.new.self.place c.advance.new.self.place c.in_ok-token.token c.in_ok-token.ensures.takes ∙ behind in
+      (children ++ n ∷ [], grown, items_next c.args.levels c.args.close c.args.self.now.place c.items.self.place c.parse_node.new.self.place c.advance.new.self.place c.next_is-in-items.new.self.place children (children ++ n ∷ []) n go is (class_as _ _ _ Comma c.in_ok-token.ensures.takes (differs_not _ _ c.ne.ensures c.if-ne.false)) c.next_is-in-items.ensures.stays refl);
 }
 
-pub parse_braces-returns-in_err-token-clause-led : goal.parse_braces-returns-in_err-token-clause-led
-parse_braces-returns-in_err-token-clause-led t c = λ n s e. handed s _ _ c.from_residual.ensures.1
-    (fails (inl tt) (λ _. Unit {0}) c.in_err-token.field-0.0 (here n due.in_braces s _) (λ deep. deep.due) (any_token n due.in_braces s _ _) c.in_err-token.ensures.takes)
+pub parse_braces-returns-then-next_is-clause-tree : goal.parse_braces-returns-then-next_is-clause-tree
+parse_braces-returns-then-next_is-clause-tree g t c =
+    let stays = c.next_is.ensures.stays in
+    let key = node kind_of_node.Label (span_at c.next_is.new.self.place) no_nodes in
+    let behind : c.expect-then-next_is.new.self.place.lexer.source ≡ c.next_is.new.self.place.lexer.source = source_item c.next_is.new.self.place c.expect-then-next_is.new.self.place Colon c.in_ok-expect-2.ensures.takes in
+    built (g.P.Plan.is_made c.args.plan) c.args.self.now.place c.expect-then-next_is.new.self.place (IsOfEntries c.args.levels c.span-start.result.start key c.expect-then-next_is.new.self.place c.parse_entries.new.self.place) (IsParsedBehind BraceOpen (c.args.levels + 1) c.args.self.now.place c.parse_entries.new.self.place) c.parse_entries.result (behind ∙ (ap (λ (z : Place). z.lexer.source) stays ∙ (source_item c.args.self.now.place c.advance.new.self.place c.in_ok-token.token c.in_ok-token.ensures.takes)))
+    (λ n. entries_tied c.args.levels c.args.self.now.place c.advance.new.self.place c.expect-then-next_is.new.self.place c.parse_entries.new.self.place c.span-start.result.start key (as_ok n)
+    (LabelOrKeyword, class_as _ _ _ LabelOrKeyword c.in_ok-token.ensures.takes (is_class _ _ c.eq-3.ensures c.if-eq-3.true), tt, ap (λ z. node kind_of_node.Label (span_at z) no_nodes) stays)
+    (subst (λ z. TakesClass Colon z c.expect-then-next_is.new.self.place) stays c.in_ok-expect-2.ensures.takes) (ap (λ (z : Range ℕ). z.start) c.span-start.ensures))
+    (of_front (λ first. g.P.Plan.are_parts c.args.plan c.expect-then-next_is.new.self.place.lexer.source kind_of_node.TupleSet (first ∷ []) c.in_ok-key.key) c.parse_entries.result (λ first. IsBuilt (g.P.Plan.is_made c.args.plan) c.expect-then-next_is.new.self.place (IsOfEntries c.args.levels c.span-start.result.start first c.expect-then-next_is.new.self.place c.parse_entries.new.self.place)) c.parse_entries.ensures.tree key
+    (subst (λ (s : List ℕ). g.P.Plan.are_parts c.args.plan s kind_of_node.TupleSet (key ∷ []) c.in_ok-key.key) (sym behind) c.in_ok-key.ensures.made))
 
-pub parse_braces-returns-then-eq-clause-led : goal.parse_braces-returns-then-eq-clause-led
-parse_braces-returns-then-eq-clause-led t c = λ n s e. read_there (then_class BraceClose (here n due.in_braces s _) c.in_ok-token.ensures.takes (is_class _ _ c.eq.ensures c.if-eq.true) refl) (inl refl)
+pub parse_braces-returns-clause-tree : goal.parse_braces-returns-clause-tree
+parse_braces-returns-clause-tree g t c =
+    let key = node c.in-Some.ty (span_at c.advance.new.self.place) no_nodes in
+    let behind : c.expect-2.new.self.place.lexer.source ≡ c.advance.new.self.place.lexer.source = source_item c.advance.new.self.place c.expect-2.new.self.place Colon c.in_ok-expect-3.ensures.takes in
+    built (g.P.Plan.is_made c.args.plan) c.args.self.now.place c.expect-2.new.self.place (IsOfEntries c.args.levels c.span-start.result.start key c.expect-2.new.self.place c.parse_entries-2.new.self.place) (IsParsedBehind BraceOpen (c.args.levels + 1) c.args.self.now.place c.parse_entries-2.new.self.place) c.parse_entries-2.result (behind ∙ (source_item c.args.self.now.place c.advance.new.self.place c.in_ok-token.token c.in_ok-token.ensures.takes))
+    (λ n. entries_tied c.args.levels c.args.self.now.place c.advance.new.self.place c.expect-2.new.self.place c.parse_entries-2.new.self.place c.span-start.result.start key (as_ok n)
+    (c.in_ok-token.token, c.in_ok-token.ensures.takes, c.in-Some.ensures.0, ap (λ z. node z (span_at c.advance.new.self.place) no_nodes) c.in-Some.ensures.1)
+    c.in_ok-expect-3.ensures.takes (ap (λ (z : Range ℕ). z.start) c.span-start.ensures))
+    (of_front (λ first. g.P.Plan.are_parts c.args.plan c.expect-2.new.self.place.lexer.source kind_of_node.TupleSet (first ∷ []) c.in_ok-key-2.key) c.parse_entries-2.result (λ first. IsBuilt (g.P.Plan.is_made c.args.plan) c.expect-2.new.self.place (IsOfEntries c.args.levels c.span-start.result.start first c.expect-2.new.self.place c.parse_entries-2.new.self.place)) c.parse_entries-2.ensures.tree key
+    (subst (λ (s : List ℕ). g.P.Plan.are_parts c.args.plan s kind_of_node.TupleSet (key ∷ []) c.in_ok-key-2.key) (sym behind) c.in_ok-key-2.ensures.made))
 
-pub parse_braces-returns-in_err-expect-clause-led : goal.parse_braces-returns-in_err-expect-clause-led
-parse_braces-returns-in_err-expect-clause-led t c = λ n s e. handed s _ _ c.from_residual-in_err-expect.ensures.1
-    (fails (inl tt) (λ k. k ≡ BraceClose) c.in_err-expect.field-0.0 (then_class {f = due.no_fields} {v = s} Colon (here n due.in_braces s _) c.in_ok-token.ensures.takes (is_class _ _ c.eq-2.ensures c.if-eq-2.true) refl) (λ deep. deep.due)
-    (λ k h apart. no_brace n s k (text_at c.expect.new.self.place) apart) c.in_err-expect.ensures.takes)
+pub parse_braces-returns-then-eq-clause-tree : goal.parse_braces-returns-then-eq-clause-tree
+parse_braces-returns-then-eq-clause-tree g t c =
+    whole_built (g.P.Plan.is_made c.args.plan) (λ (s : List ℕ) cs ps. g.P.Plan.are_parts c.args.plan s kind_of_node.EmptySet cs ps) c.args.self.now.place c.advance.new.self.place kind_of_node.EmptySet c.span-start.result.start c.whole.result c.parts-none.result [] (IsParsedBehind BraceOpen (c.args.levels + 1) c.args.self.now.place c.advance.new.self.place) (source_item c.args.self.now.place c.advance.new.self.place c.in_ok-token.token c.in_ok-token.ensures.takes) (c.parts-none.ensures c.args.self.now.place.lexer.source tt) c.whole.ensures
+    (empty_tied c.args.levels c.args.self.now.place c.advance.new.self.place c.span-start.result.start [] _ (class_as _ _ _ BraceClose c.in_ok-token.ensures.takes (is_class _ _ c.eq.ensures c.if-eq.true)) (ap (λ (z : Range ℕ). z.start) c.span-start.ensures) refl refl)
 
-pub parse_braces-returns-then-eq-2-clause-led : goal.parse_braces-returns-then-eq-2-clause-led
-parse_braces-returns-then-eq-2-clause-led t c = λ n s e.
-    read_there (then_same BraceClose (then_class {f = due.no_fields} {v = s} Colon (here n due.in_braces s _) c.in_ok-token.ensures.takes (is_class _ _ c.eq-2.ensures c.if-eq-2.true) refl) c.in_ok-expect.ensures.takes refl) (inl refl)
+pub parse_braces-returns-then-eq-2-clause-tree : goal.parse_braces-returns-then-eq-2-clause-tree
+parse_braces-returns-then-eq-2-clause-tree g t c =
+    whole_built (g.P.Plan.is_made c.args.plan) (λ (s : List ℕ) cs ps. g.P.Plan.are_parts c.args.plan s kind_of_node.TupleSet cs ps) c.args.self.now.place c.expect.new.self.place kind_of_node.TupleSet c.span-start.result.start c.whole-then-eq-2.result c.parts-none-then-eq-2.result [] (IsParsedBehind BraceOpen (c.args.levels + 1) c.args.self.now.place c.expect.new.self.place) (source_item c.advance.new.self.place c.expect.new.self.place BraceClose c.in_ok-expect.ensures.takes ∙ (source_item c.args.self.now.place c.advance.new.self.place c.in_ok-token.token c.in_ok-token.ensures.takes)) (c.parts-none-then-eq-2.ensures c.args.self.now.place.lexer.source tt) c.whole-then-eq-2.ensures
+    (no_fields_tied c.args.levels c.args.self.now.place c.advance.new.self.place c.expect.new.self.place c.span-start.result.start [] _ (class_as _ _ _ Colon c.in_ok-token.ensures.takes (is_class _ _ c.eq-2.ensures c.if-eq-2.true)) c.in_ok-expect.ensures.takes (ap (λ (z : Range ℕ). z.start) c.span-start.ensures) refl refl)
 
-pub parse_braces-returns-in_err-expect-2-clause-led : goal.parse_braces-returns-in_err-expect-2-clause-led
-parse_braces-returns-in_err-expect-2-clause-led t c = λ n s e. handed s _ _ c.from_residual-in_err-expect-2.ensures.1
-    (expected c.advance.new.self.place c.next_is.new.self.place c.expect-then-next_is.new.self.place Colon c.in_err-expect-2.field-0.0 c.next_is.ensures.stays (c.if-next_is.ensures.answer.0 refl) c.in_err-expect-2.ensures.takes)
+pub parse_braces-returns-then-eq-3-clause-tree : goal.parse_braces-returns-then-eq-3-clause-tree
+parse_braces-returns-then-eq-3-clause-tree g t c =
+    let stays = c.next_is.ensures.stays in
+    built (g.P.Plan.is_made c.args.plan) c.args.self.now.place c.next_is.new.self.place (IsOfFlags c.span-start.result.start c.next_is.new.self.place c.parse_flags.new.self.place) (IsParsedBehind BraceOpen (c.args.levels + 1) c.args.self.now.place c.parse_flags.new.self.place) c.parse_flags.result (ap (λ (z : Place). z.lexer.source) stays ∙ (source_item c.args.self.now.place c.advance.new.self.place c.in_ok-token.token c.in_ok-token.ensures.takes))
+    (λ n. flags_tied c.args.levels c.args.self.now.place c.next_is.new.self.place c.parse_flags.new.self.place c.span-start.result.start (as_ok n) (subst (λ z. TakesClass LabelOrKeyword c.args.self.now.place z) (sym stays) (class_as _ _ _ LabelOrKeyword c.in_ok-token.ensures.takes (is_class _ _ c.eq-3.ensures c.if-eq-3.true))) (ap (λ (z : Range ℕ). z.start) c.span-start.ensures)) c.parse_flags.ensures.tree
 
-pub parse_braces-returns-then-next_is-clause-led : goal.parse_braces-returns-then-next_is-clause-led
-parse_braces-returns-then-next_is-clause-led t c = λ n s e.
-    let word = then_class {f = due.behind_word (text_at c.advance.new.self.place)} {v = s} LabelOrKeyword (here n due.in_braces s _) c.in_ok-token.ensures.takes (is_class _ _ c.eq-3.ensures c.if-eq-3.true) refl in
-    gives_then s _ c.parse_entries.result (then_same Colon (moved c.next_is.ensures.stays word) c.in_ok-expect-2.ensures.takes refl) (c.parse_entries.ensures.led n s e)
+pub parse_entries-returns-then-eq-clause-tree : goal.parse_entries-returns-then-eq-clause-tree
+parse_entries-returns-then-eq-clause-tree g t c = λ first given.
+    let (n, is, of) = c.in_ok-value.ensures.tree in
+    let (hs, so_far, go) = c.entries.invariant.tree first given in
+    let here : c.entries.self.place.lexer.source ≡ c.args.self.now.place.lexer.source = source_reached (c.entries.invariant.led (c.args.levels + 1) [] (omega arith)) in
+    let grown = c.in_ok-parts.ensures.kept c.args.self.now.place.lexer.source kind_of_node.TupleSet (first ∷ hs) n so_far (subst (λ z. g.P.Plan.is_made z c.args.self.now.place.lexer.source n c.in_ok-value.value) c.part-part.ensures (subst (λ (s : List ℕ). g.P.Plan.is_made c.part-part.result s n c.in_ok-value.value) here of)) in
+    let token : c.advance.new.self.place.lexer.source ≡ c.args.self.now.place.lexer.source = source_item c.parse_node.new.self.place c.advance.new.self.place c.in_ok-token.token c.in_ok-token.ensures.takes ∙ (source_parsed c.args.levels c.entries.self.place c.parse_node.new.self.place n is ∙ here) in
+    whole_built (g.P.Plan.is_made c.args.plan) (λ (s : List ℕ) cs ps. g.P.Plan.are_parts c.args.plan s kind_of_node.TupleSet cs ps) c.args.self.now.place c.advance.new.self.place kind_of_node.TupleSet c.args.start c.whole.result c.in_ok-parts.parts (first ∷ (hs ++ n ∷ [])) (IsOfEntries c.args.levels c.args.start first c.args.self.now.place c.advance.new.self.place) token grown c.whole.ensures
+    (pairs_close c.args.levels c.args.start c.args.self.now.place c.entries.self.place c.parse_node.new.self.place c.advance.new.self.place (first ∷ hs) (first ∷ (hs ++ n ∷ [])) first n _ (hs, refl, go) is (inl (class_as _ _ _ BraceClose c.in_ok-token.ensures.takes (is_class _ _ c.eq.ensures c.if-eq.true))) refl refl)
 
-pub parse_braces-returns-then-eq-3-clause-led : goal.parse_braces-returns-then-eq-3-clause-led
-parse_braces-returns-then-eq-3-clause-led t c = λ n s e.
-    let word = then_class {f = due.behind_word (text_at c.advance.new.self.place)} {v = s} LabelOrKeyword (here n due.in_braces s _) c.in_ok-token.ensures.takes (is_class _ _ c.eq-3.ensures c.if-eq-3.true) refl in
-    gives_then s _ c.parse_flags.result (moved c.next_is.ensures.stays word)
-    (subst (λ z. Gives c.parse_flags.result n (due.behind_word (text_at z)) s c.next_is.new.self.place c.parse_flags.new.self.place s) c.next_is.ensures.stays (c.parse_flags.ensures.led n s))
+pub parse_entries-returns-then-eq-2-clause-tree : goal.parse_entries-returns-then-eq-2-clause-tree
+parse_entries-returns-then-eq-2-clause-tree g t c = λ first given.
+    let (n, is, of) = c.in_ok-value.ensures.tree in
+    let (hs, so_far, go) = c.entries.invariant.tree first given in
+    let here : c.entries.self.place.lexer.source ≡ c.args.self.now.place.lexer.source = source_reached (c.entries.invariant.led (c.args.levels + 1) [] (omega arith)) in
+    let grown = c.in_ok-parts.ensures.kept c.args.self.now.place.lexer.source kind_of_node.TupleSet (first ∷ hs) n so_far (subst (λ z. g.P.Plan.is_made z c.args.self.now.place.lexer.source n c.in_ok-value.value) c.part-part.ensures (subst (λ (s : List ℕ). g.P.Plan.is_made c.part-part.result s n c.in_ok-value.value) here of)) in
+    let token : c.advance.new.self.place.lexer.source ≡ c.args.self.now.place.lexer.source = source_item c.parse_node.new.self.place c.advance.new.self.place c.in_ok-token.token c.in_ok-token.ensures.takes ∙ (source_parsed c.args.levels c.entries.self.place c.parse_node.new.self.place n is ∙ here) in
+    let close : c.advance-in-entries.new.self.place.lexer.source ≡ c.args.self.now.place.lexer.source = source_item c.advance.new.self.place c.advance-in-entries.new.self.place c.in_ok-next.next c.in_ok-next.ensures.takes ∙ token in
+    whole_built (g.P.Plan.is_made c.args.plan) (λ (s : List ℕ) cs ps. g.P.Plan.are_parts c.args.plan s kind_of_node.TupleSet cs ps) c.args.self.now.place c.advance-in-entries.new.self.place kind_of_node.TupleSet c.args.start c.whole-then-eq-2.result c.in_ok-parts.parts (first ∷ (hs ++ n ∷ [])) (IsOfEntries c.args.levels c.args.start first c.args.self.now.place c.advance-in-entries.new.self.place) close grown c.whole-then-eq-2.ensures
+    (pairs_close c.args.levels c.args.start c.args.self.now.place c.entries.self.place c.parse_node.new.self.place c.advance-in-entries.new.self.place (first ∷ hs) (first ∷ (hs ++ n ∷ [])) first n _ (hs, refl, go) is (inr (c.advance.new.self.place, class_as _ _ _ Comma c.in_ok-token.ensures.takes (differs_not _ _ c.ne.ensures c.if-ne.false), class_as _ _ _ BraceClose c.in_ok-next.ensures.takes (is_class _ _ c.eq-in-entries.ensures c.if-eq-2.true))) refl refl)
 
-pub parse_braces-returns-in_default-clause-led : goal.parse_braces-returns-in_default-clause-led
-parse_braces-returns-in_default-clause-led t c = λ n s e. unexpected_there (inl tt) c.unexpected.result c.in_ok-token.token (here n due.in_braces s _) c.in_ok-token.ensures.takes
-    (brace_key c.in_ok-token.token s (text_at c.advance.new.self.place) (is_other _ _ c.eq-3.ensures c.if-eq-3.false) (is_other _ _ c.eq-2.ensures c.if-eq-2.false) ∙
-    no_key c.in_ok-token.token s (text_at c.advance.new.self.place) c.in_default.ensures (is_other _ _ c.eq.ensures c.if-eq.false))
-    c.unexpected.ensures
-
-pub parse_braces-returns-in_err-expect-3-clause-led : goal.parse_braces-returns-in_err-expect-3-clause-led
-parse_braces-returns-in_err-expect-3-clause-led t c = λ n s e.
-    let key_step_there = brace_key c.in_ok-token.token s (text_at c.advance.new.self.place) (is_other _ _ c.eq-3.ensures c.if-eq-3.false) (is_other _ _ c.eq-2.ensures c.if-eq-2.false) ∙ key_reads c.in_ok-token.token s (text_at c.advance.new.self.place) c.in-Some.ensures.0 in
-    handed s _ _ c.from_residual-in_err-expect-3.ensures.1 (fails (inl tt) (λ k. k ≡ Colon) c.in_err-expect-3.field-0.0 (then_same c.in_ok-token.token (here n due.in_braces s _) c.in_ok-token.ensures.takes key_step_there) (λ deep. deep.due)
-    (λ k h apart. no_colon n s k (text_at c.expect-2.new.self.place) apart) c.in_err-expect-3.ensures.takes)
-
-pub parse_braces-returns-clause-led : goal.parse_braces-returns-clause-led
-parse_braces-returns-clause-led t c = λ n s e.
-    let key_step_there = brace_key c.in_ok-token.token s (text_at c.advance.new.self.place) (is_other _ _ c.eq-3.ensures c.if-eq-3.false) (is_other _ _ c.eq-2.ensures c.if-eq-2.false) ∙ key_reads c.in_ok-token.token s (text_at c.advance.new.self.place) c.in-Some.ensures.0 in
-    gives_then s _ c.parse_entries-2.result (then_same Colon (then_same c.in_ok-token.token (here n due.in_braces s _) c.in_ok-token.ensures.takes key_step_there) c.in_ok-expect-3.ensures.takes refl) (c.parse_entries-2.ensures.led n s e)
-
-pub parse_entries-returns-in_err-value-clause-led : goal.parse_entries-returns-in_err-value-clause-led
-parse_entries-returns-in_err-value-clause-led t c = λ n s e. handed s _ _ c.from_residual.ensures.1
-    (then_refuses c.in_err-value.field-0.0 (c.entries.invariant.led n s e) (c.in_err-value.ensures.led n (due.entries ∷ s) (omega arith)))
-
-pub parse_entries-returns-in_err-token-clause-led : goal.parse_entries-returns-in_err-token-clause-led
-parse_entries-returns-in_err-token-clause-led t c = λ n s e.
-    let item = c.in_ok-value.ensures.led n (due.entries ∷ s) (omega arith) in
-    handed s _ _ c.from_residual-in_err-token.ensures.1 (fails_behind item.due_there (λ _. Unit {0}) c.in_err-token.field-0.0 (then_reached (c.entries.invariant.led n s e) (reached item)) item.is_behind (λ k text apart. absurd (apart tt)) c.in_err-token.ensures.takes)
-
-pub parse_entries-returns-then-eq-clause-led : goal.parse_entries-returns-then-eq-clause-led
-parse_entries-returns-then-eq-clause-led t c = λ n s e.
-    let item = c.in_ok-value.ensures.led n (due.entries ∷ s) (omega arith) in
-    read_there (then_behind_class item.due_there BraceClose (then_reached (c.entries.invariant.led n s e) (reached item)) item.is_behind c.in_ok-token.ensures.takes (is_class _ _ c.eq.ensures c.if-eq.true) refl) (inl refl)
-
-pub parse_entries-returns-then-ne-clause-led : goal.parse_entries-returns-then-ne-clause-led
-parse_entries-returns-then-ne-clause-led t c = λ n s e.
-    let item = c.in_ok-value.ensures.led n (due.entries ∷ s) (omega arith) in
-    unexpected_behind item.due_there c.unexpected.result c.in_ok-token.token (then_reached (c.entries.invariant.led n s e) (reached item)) item.is_behind c.in_ok-token.ensures.takes
-    (entries_other c.in_ok-token.token s (text_at c.advance.new.self.place) (is_other _ _ c.eq.ensures c.if-eq.false) (differs _ _ c.ne.ensures c.if-ne.true))
-    c.unexpected.ensures
-
-pub parse_entries-returns-in_err-next-clause-led : goal.parse_entries-returns-in_err-next-clause-led
-parse_entries-returns-in_err-next-clause-led t c = λ n s e.
-    let item = c.in_ok-value.ensures.led n (due.entries ∷ s) (omega arith) in
-    let due_key = key_due (c.entries.invariant.led n s e) item c.in_ok-token.ensures.takes (differs_not _ _ c.ne.ensures c.if-ne.false) in
-    handed s _ _ c.from_residual-in_err-next.ensures.1 (fails (inl tt) (λ _. Unit {0}) c.in_err-next.field-0.0 due_key (λ deep. deep.due) (any_token n due.key s _ _) c.in_err-next.ensures.takes)
-
-pub parse_entries-returns-then-eq-2-clause-led : goal.parse_entries-returns-then-eq-2-clause-led
-parse_entries-returns-then-eq-2-clause-led t c = λ n s e.
-    let item = c.in_ok-value.ensures.led n (due.entries ∷ s) (omega arith) in
-    let due_key = key_due (c.entries.invariant.led n s e) item c.in_ok-token.ensures.takes (differs_not _ _ c.ne.ensures c.if-ne.false) in
-    read_there (then_class BraceClose due_key c.in_ok-next.ensures.takes (is_class _ _ c.eq-in-entries.ensures c.if-eq-2.true) refl) (inl refl)
-
-pub parse_entries-returns-in_default-clause-led : goal.parse_entries-returns-in_default-clause-led
-parse_entries-returns-in_default-clause-led t c = λ n s e.
-    let item = c.in_ok-value.ensures.led n (due.entries ∷ s) (omega arith) in
-    let due_key = key_due (c.entries.invariant.led n s e) item c.in_ok-token.ensures.takes (differs_not _ _ c.ne.ensures c.if-ne.false) in
-    unexpected_there (inl tt) c.unexpected-in_default.result c.in_ok-next.next due_key c.in_ok-next.ensures.takes
-    (no_key c.in_ok-next.next s (text_at c.advance-in-entries.new.self.place) c.in_default.ensures (is_other _ _ c.eq-in-entries.ensures c.if-eq-2.false))
-    c.unexpected-in_default.ensures
-
-pub parse_entries-returns-in_err-expect-clause-led : goal.parse_entries-returns-in_err-expect-clause-led
-parse_entries-returns-in_err-expect-clause-led t c = λ n s e.
-    let item = c.in_ok-value.ensures.led n (due.entries ∷ s) (omega arith) in
-    let due_key = key_due (c.entries.invariant.led n s e) item c.in_ok-token.ensures.takes (differs_not _ _ c.ne.ensures c.if-ne.false) in
-    handed s _ _ c.from_residual-in_err-expect.ensures.1 (fails (inl tt) (λ k. k ≡ Colon) c.in_err-expect.field-0.0
-    (then_same c.in_ok-next.next due_key c.in_ok-next.ensures.takes (key_reads c.in_ok-next.next s (text_at c.advance-in-entries.new.self.place) c.in-Some.ensures.0)) (λ deep. deep.due)
-    (λ k h apart. no_colon n s k (text_at c.expect.new.self.place) apart) c.in_err-expect.ensures.takes)
-
-pub parse_entries-entries-smaller : goal.parse_entries-entries-smaller
-parse_entries-entries-smaller t c =
-    let item = c.in_ok-value.ensures.led (c.args.levels + 1 + 0) (due.entries ∷ []) (omega arith) in
-    let one = tokens_less _ _ item.tokens item.taken in
-    let two = token_less _ _ c.in_ok-token.token c.in_ok-token.ensures.takes in
-    let three = token_less _ _ c.in_ok-next.next c.in_ok-next.ensures.takes in
-    let four = token_less _ _ Colon c.in_ok-expect.ensures.takes in
-    omega arith
+pub parse_entries-entries-init : goal.parse_entries-entries-init
+parse_entries-entries-init g t c = record { asks = asks_none c.args.self.now c.args.self.now refl; led = λ n s e. here n due.value (due.entries ∷ s) c.args.self.now.place; tree = λ first given. ([], given, λ cs r pairs. pairs) }
 
 pub parse_entries-entries-preserved : goal.parse_entries-entries-preserved
-parse_entries-entries-preserved t c = record {
+parse_entries-entries-preserved g t c = record {
   asks = asks_entries c.args.levels c.args.self.now c.entries.self c.expect.new.self c.entries.invariant.led c.entries.invariant.asks (asks_value c.args.levels c.entries.self c.parse_node.new.self c.expect.new.self c.in_ok-value.ensures.led c.parse_node.ensures.asks (asks_token c.parse_node.new.self c.advance.new.self c.expect.new.self c.in_ok-token.token c.in_ok-token.ensures.takes c.advance.ensures.asks (asks_token c.advance.new.self c.advance-in-entries.new.self c.expect.new.self c.in_ok-next.next c.in_ok-next.ensures.takes c.advance-in-entries.ensures.asks (asks_once c.advance-in-entries.new.self c.expect.new.self c.expect.ensures.asks))));
-  tree = pairs_next _ _ _ _ _ _ _ c.entries.children.items c.push-in-entries.new.self.items _ c.args.key c.in_ok-value.value c.leaf-key.result c.entries.invariant.tree c.in_ok-value.ensures.tree (class_as _ _ _ Comma c.in_ok-token.ensures.takes (differs_not _ _ c.ne.ensures c.if-ne.false))
-      (c.in_ok-next.next, c.in_ok-next.ensures.takes, c.in-Some.ensures.0, c.leaf-key.ensures ∙ ap (λ z. node z (span_at c.advance-in-entries.new.self.place) no_nodes) c.in-Some.ensures.1) c.in_ok-expect.ensures.takes
-      (pushed _ _ _ _ c.push-in-entries.ensures.items c.if-is_err-2.ensures.negation) (pushed _ _ _ _ c.push-in-entries-2.ensures.items c.if-is_err-3.ensures.negation);
+  tree = λ first given.
+      let (n, is, of) = c.in_ok-value.ensures.tree in
+      let (hs, so_far, go) = c.entries.invariant.tree first given in
+      let here : c.entries.self.place.lexer.source ≡ c.args.self.now.place.lexer.source = source_reached (c.entries.invariant.led (c.args.levels + 1) [] (omega arith)) in
+      let grown = c.in_ok-parts.ensures.kept c.args.self.now.place.lexer.source kind_of_node.TupleSet (first ∷ hs) n so_far (subst (λ z. g.P.Plan.is_made z c.args.self.now.place.lexer.source n c.in_ok-value.value) c.part-part.ensures (subst (λ (s : List ℕ). g.P.Plan.is_made c.part-part.result s n c.in_ok-value.value) here of)) in
+      let token : c.advance.new.self.place.lexer.source ≡ c.args.self.now.place.lexer.source = source_item c.parse_node.new.self.place c.advance.new.self.place c.in_ok-token.token c.in_ok-token.ensures.takes ∙ (source_parsed c.args.levels c.entries.self.place c.parse_node.new.self.place n is ∙ here) in
+      let key = node c.in-Some.ty (span_at c.advance-in-entries.new.self.place) no_nodes in
+      let at_key : c.advance-in-entries.new.self.place.lexer.source ≡ c.args.self.now.place.lexer.source = source_item c.advance.new.self.place c.advance-in-entries.new.self.place c.in_ok-next.next c.in_ok-next.ensures.takes ∙ token in
+      let keyed = c.in_ok-parts-2.ensures.kept kind_of_node.TupleSet (first ∷ (hs ++ n ∷ [])) (subst (λ (s : List ℕ). g.P.Plan.are_parts c.args.plan s kind_of_node.TupleSet (first ∷ (hs ++ n ∷ [])) c.in_ok-parts.parts) (sym at_key) grown) in
+      let (more, same, further) = pairs_next c.args.levels c.args.self.now.place c.entries.self.place c.parse_node.new.self.place c.advance.new.self.place c.advance-in-entries.new.self.place c.expect.new.self.place (first ∷ hs) (first ∷ (hs ++ n ∷ [])) ((first ∷ (hs ++ n ∷ [])) ++ key ∷ []) first n key (hs, refl, go) is (class_as _ _ _ Comma c.in_ok-token.ensures.takes (differs_not _ _ c.ne.ensures c.if-ne.false))
+      (c.in_ok-next.next, c.in_ok-next.ensures.takes, c.in-Some.ensures.0, ap (λ z. node z (span_at c.advance-in-entries.new.self.place) no_nodes) c.in-Some.ensures.1) c.in_ok-expect.ensures.takes refl refl in
+      (more, subst (λ (ns : List NodeTree). g.P.Plan.are_parts c.args.plan c.args.self.now.place.lexer.source kind_of_node.TupleSet ns c.in_ok-parts-2.parts) same (subst (λ (s : List ℕ). g.P.Plan.are_parts c.args.plan s kind_of_node.TupleSet ((first ∷ (hs ++ n ∷ [])) ++ key ∷ []) c.in_ok-parts-2.parts) at_key keyed), further);
   led = λ n s e.
       let item = c.in_ok-value.ensures.led n (due.entries ∷ s) (omega arith) in
       let due_key = key_due (c.entries.invariant.led n s e) item c.in_ok-token.ensures.takes (differs_not _ _ c.ne.ensures c.if-ne.false) in
       then_same Colon (then_same c.in_ok-next.next due_key c.in_ok-next.ensures.takes (key_reads c.in_ok-next.next s (text_at c.advance-in-entries.new.self.place) c.in-Some.ensures.0)) c.in_ok-expect.ensures.takes refl;
 }
 
-pub parse_node-returns-in-Number-clause-tree : goal.parse_node-returns-in-Number-clause-tree
-parse_node-returns-in-Number-clause-tree t c = one_tied kind_of_node.Number Number number_parsed _ _ _ _ c.leaf.result (omega arith) c.in_ok-token.ensures.takes c.in-Number.is c.leaf.ensures
+pub parse_braces-returns-in_err-key-clause-asks : goal.parse_braces-returns-in_err-key-clause-asks
+parse_braces-returns-in_err-key-clause-asks g t c =
+    asks_token c.args.self.now c.advance.new.self c.next_is.new.self c.in_ok-token.token c.in_ok-token.ensures.takes c.advance.ensures.asks (asks_once c.advance.new.self c.next_is.new.self c.next_is.ensures.asks)
 
-pub parse_node-returns-in-Char-clause-tree : goal.parse_node-returns-in-Char-clause-tree
-parse_node-returns-in-Char-clause-tree t c = one_tied kind_of_node.Char Char char_parsed _ _ _ _ c.leaf-in-Char.result (omega arith) c.in_ok-token.ensures.takes c.in-Char.is c.leaf-in-Char.ensures
+pub parse_node-returns-then-levels-eq0-clause-led : goal.parse_node-returns-then-levels-eq0-clause-led
+parse_node-returns-then-levels-eq0-clause-led g t c = λ n s e. no_level n s c.args.self.now.place c.new.result (omega arith) (record { is = c.new.ensures.refusal; stands = c.new.ensures.span ∙ c.span.ensures; tells = c.new.ensures.detail })
 
-pub parse_node-returns-in-String-clause-tree : goal.parse_node-returns-in-String-clause-tree
-parse_node-returns-in-String-clause-tree t c = one_tied kind_of_node.String String string_parsed _ _ _ _ c.leaf-in-String.result (omega arith) c.in_ok-token.ensures.takes c.in-String.is c.leaf-in-String.ensures
+pub parse_node-returns-then-levels-eq0-clause-memory : goal.parse_node-returns-then-levels-eq0-clause-memory
+parse_node-returns-then-levels-eq0-clause-memory g t c = wants_other g.P.Plan.takes_memory c.args.self.now.place c.new.result because.NestingTooDeep (ap (λ r. r.kind) c.new.ensures.refusal) (λ z. cc)
 
-pub parse_node-returns-in-MultilineString-clause-tree : goal.parse_node-returns-in-MultilineString-clause-tree
-parse_node-returns-in-MultilineString-clause-tree t c = one_tied kind_of_node.MultilineString MultilineString multiline_parsed _ _ _ _ c.leaf-in-MultilineString.result (omega arith) c.in_ok-token.ensures.takes c.in-MultilineString.is c.leaf-in-MultilineString.ensures
+pub parse_node-returns-in_err-token-clause-memory : goal.parse_node-returns-in_err-token-clause-memory
+parse_node-returns-in_err-token-clause-memory g t c = error_handed (WantsOnly g.P.Plan.takes_memory c.args.self.now.place) c.from_residual.result c.in_err-token.field-0.0 c.from_residual.ensures.1 (wants_fails g.P.Plan.takes_memory c.args.self.now.place c.args.self.now.place c.advance.new.self.place (λ _. Unit {0}) c.in_err-token.field-0.0 c.in_err-token.ensures.takes)
 
-pub parse_node-returns-in-LabelOrKeyword-clause-tree : goal.parse_node-returns-in-LabelOrKeyword-clause-tree
-parse_node-returns-in-LabelOrKeyword-clause-tree t c = label_tied _ _ _ _ _ c.parse_label.result (omega arith) c.in_ok-token.ensures.takes c.in-LabelOrKeyword.is c.parse_label.ensures.tree
+pub parse_node-returns-in-LabelOrKeyword-clause-memory : goal.parse_node-returns-in-LabelOrKeyword-clause-memory
+parse_node-returns-in-LabelOrKeyword-clause-memory g t c = answer_token g.P.Plan.takes_memory c.args.self.now.place c.advance.new.self.place c.in_ok-token.token c.parse_label.result c.in_ok-token.ensures.takes c.parse_label.ensures.memory
 
-pub parse_node-returns-in-ParenOpen-clause-tree : goal.parse_node-returns-in-ParenOpen-clause-tree
-parse_node-returns-in-ParenOpen-clause-tree t c = items_tied _ _ _ _ _ _ _ (inl (refl, refl)) c.parse_items.result (omega arith) c.in_ok-token.ensures.takes c.in-ParenOpen.is c.parse_items.ensures.tree
+pub parse_node-returns-in-ParenOpen-clause-memory : goal.parse_node-returns-in-ParenOpen-clause-memory
+parse_node-returns-in-ParenOpen-clause-memory g t c = answer_token g.P.Plan.takes_memory c.args.self.now.place c.advance.new.self.place c.in_ok-token.token c.parse_items.result c.in_ok-token.ensures.takes c.parse_items.ensures.memory
 
-pub parse_node-returns-in-BracketOpen-clause-tree : goal.parse_node-returns-in-BracketOpen-clause-tree
-parse_node-returns-in-BracketOpen-clause-tree t c = items_tied _ _ _ _ _ _ _ (inr (refl, refl)) c.parse_items-in-BracketOpen.result (omega arith) c.in_ok-token.ensures.takes c.in-BracketOpen.is c.parse_items-in-BracketOpen.ensures.tree
+pub parse_node-returns-in-BracketOpen-clause-memory : goal.parse_node-returns-in-BracketOpen-clause-memory
+parse_node-returns-in-BracketOpen-clause-memory g t c = answer_token g.P.Plan.takes_memory c.args.self.now.place c.advance.new.self.place c.in_ok-token.token c.parse_items-in-BracketOpen.result c.in_ok-token.ensures.takes c.parse_items-in-BracketOpen.ensures.memory
 
-pub parse_node-returns-in-BraceOpen-clause-tree : goal.parse_node-returns-in-BraceOpen-clause-tree
-parse_node-returns-in-BraceOpen-clause-tree t c = braces_tied _ _ _ _ _ c.parse_braces.result (omega arith) c.in_ok-token.ensures.takes c.in-BraceOpen.is c.parse_braces.ensures.tree
+pub parse_node-returns-in-BraceOpen-clause-memory : goal.parse_node-returns-in-BraceOpen-clause-memory
+parse_node-returns-in-BraceOpen-clause-memory g t c = answer_brace g.P.Plan.takes_memory c.args.self.now.place c.advance.new.self.place c.parse_braces.result (class_as c.args.self.now.place c.advance.new.self.place c.in_ok-token.token BraceOpen c.in_ok-token.ensures.takes c.in-BraceOpen.is)
 
-pub parse_label-returns-in-True-clause-tree : goal.parse_label-returns-in-True-clause-tree
-parse_label-returns-in-True-clause-tree t c =
-    let text_is = sym c.slice.ensures ∙ subst (λ z. HasText z c.slice.result.now) c.in-True.is c.role_of.ensures.text in
-    leaf_tied _ _ _ c.leaf.result (word_here c.slice.ensures c.role_of.ensures.word c.in-True.is) (inl (refl, text_is)) c.leaf.ensures
+pub parse_node-returns-in_default-clause-memory : goal.parse_node-returns-in_default-clause-memory
+parse_node-returns-in_default-clause-memory g t c = wants_other g.P.Plan.takes_memory c.args.self.now.place c.unexpected.result because.UnexpectedToken (kind_is c.unexpected.ensures) (λ z. cc)
 
-pub parse_label-returns-in-False-clause-tree : goal.parse_label-returns-in-False-clause-tree
-parse_label-returns-in-False-clause-tree t c =
-    let text_is = sym c.slice.ensures ∙ subst (λ z. HasText z c.slice.result.now) c.in-False.is c.role_of.ensures.text in
-    leaf_tied _ _ _ c.leaf-in-False.result (word_here c.slice.ensures c.role_of.ensures.word c.in-False.is) (inr (refl, text_is)) c.leaf-in-False.ensures
+pub parse_label-returns-in_err-expect-in-Some-clause-memory : goal.parse_label-returns-in_err-expect-in-Some-clause-memory
+parse_label-returns-in_err-expect-in-Some-clause-memory g t c = error_handed (WantsOnly g.P.Plan.takes_memory c.args.self.now.place) c.from_residual.result c.in_err-expect-in-Some.field-0.0 c.from_residual.ensures.1 (wants_fails g.P.Plan.takes_memory c.args.self.now.place c.args.self.now.place c.expect.new.self.place (λ k. k ≡ ParenOpen) c.in_err-expect-in-Some.field-0.0 c.in_err-expect-in-Some.ensures.takes)
 
-pub parse_label-returns-in-Number-clause-tree : goal.parse_label-returns-in-Number-clause-tree
-parse_label-returns-in-Number-clause-tree t c =
-    let text_is = ap (is_one_of (codes "inf" ∷ codes "nan" ∷ [])) (sym c.slice.ensures) ∙ subst (λ z. HasText z c.slice.result.now) c.in-Number.is c.role_of.ensures.text in
-    number_word_tied _ _ c.leaf-in-Number.result (word_here c.slice.ensures c.role_of.ensures.word c.in-Number.is) text_is c.leaf-in-Number.ensures
+pub parse_label-returns-in_ok-expect-in-Some-clause-memory : goal.parse_label-returns-in_ok-expect-in-Some-clause-memory
+parse_label-returns-in_ok-expect-in-Some-clause-memory g t c = answer_token g.P.Plan.takes_memory c.args.self.now.place c.expect.new.self.place ParenOpen c.parse_payload.result c.in_ok-expect-in-Some.ensures.takes c.parse_payload.ensures.memory
 
-pub parse_label-returns-in-None-clause-tree : goal.parse_label-returns-in-None-clause-tree
-parse_label-returns-in-None-clause-tree t c =
-    none_tied _ _ c.leaf-in-None.result (word_here c.slice.ensures c.role_of.ensures.word c.in-None.is) c.leaf-in-None.ensures
+pub parse_maybe-returns-in_err-front-clause-memory : goal.parse_maybe-returns-in_err-front-clause-memory
+parse_maybe-returns-in_err-front-clause-memory g t c = error_handed (WantsOnly g.P.Plan.takes_memory c.args.self.now.place) c.from_residual.result c.in_err-front.field-0.0 c.from_residual.ensures.1 (wants_taken g.P.Plan.takes_memory c.args.self.now.place c.in_err-front.field-0.0 c.in_err-front.ensures.takes)
 
-pub parse_label-returns-in_ok-expect-in-Some-clause-tree : goal.parse_label-returns-in_ok-expect-in-Some-clause-tree
-parse_label-returns-in_ok-expect-in-Some-clause-tree t c =
-    some_tied _ _ _ _ _ _ c.parse_payload.result (word_here c.slice.ensures c.role_of.ensures.word c.in-Some.is) (ap (λ (z : Range ℕ). z.start) c.span-start.ensures) c.new.ensures.items c.in_ok-expect-in-Some.ensures.takes c.parse_payload.ensures.tree
+pub parse_maybe-returns-in_err-expect-clause-memory : goal.parse_maybe-returns-in_err-expect-clause-memory
+parse_maybe-returns-in_err-expect-clause-memory g t c = error_handed (WantsOnly g.P.Plan.takes_memory c.args.self.now.place) c.from_residual-in_err-expect.result c.in_err-expect.field-0.0 c.from_residual-in_err-expect.ensures.1 (wants_fails g.P.Plan.takes_memory c.args.self.now.place c.next_is.new.self.place c.expect.new.self.place (λ k. k ≡ ParenOpen) c.in_err-expect.field-0.0 c.in_err-expect.ensures.takes)
 
-pub parse_label-returns-in-Ok-clause-tree : goal.parse_label-returns-in-Ok-clause-tree
-parse_label-returns-in-Ok-clause-tree t c = ok_tied _ _ _ c.parse_maybe.result (word_here c.slice.ensures c.role_of.ensures.word c.in-Ok.is) c.parse_maybe.ensures.tree
+pub parse_maybe-returns-clause-memory : goal.parse_maybe-returns-clause-memory
+parse_maybe-returns-clause-memory g t c = answer_token g.P.Plan.takes_memory c.args.self.now.place c.expect.new.self.place ParenOpen c.parse_payload.result (subst (λ z. TakesItem z (Some (Ok ParenOpen)) c.expect.new.self.place) c.next_is.ensures.stays c.in_ok-expect.ensures.takes) c.parse_payload.ensures.memory
 
-pub parse_label-returns-in-Err-clause-tree : goal.parse_label-returns-in-Err-clause-tree
-parse_label-returns-in-Err-clause-tree t c = err_tied _ _ _ c.parse_maybe-in-Err.result (word_here c.slice.ensures c.role_of.ensures.word c.in-Err.is) c.parse_maybe-in-Err.ensures.tree
+pub parse_payload-returns-in_err-payload-clause-memory : goal.parse_payload-returns-in_err-payload-clause-memory
+parse_payload-returns-in_err-payload-clause-memory g t c = error_handed (WantsOnly g.P.Plan.takes_memory c.args.self.now.place) c.from_residual.result c.in_err-payload.field-0.0 c.from_residual.ensures.1 (c.in_err-payload.ensures.memory)
 
-pub parse_label-returns-in-Case-clause-tree : goal.parse_label-returns-in-Case-clause-tree
-parse_label-returns-in-Case-clause-tree t c = case_tied _ _ _ c.parse_maybe-in-Case.result (word_here c.slice.ensures c.role_of.ensures.word c.in-Case.is) c.parse_maybe-in-Case.ensures.tree
+pub parse_payload-returns-in_err-expect-clause-memory : goal.parse_payload-returns-in_err-expect-clause-memory
+parse_payload-returns-in_err-expect-clause-memory g t c = error_handed (WantsOnly g.P.Plan.takes_memory c.args.self.now.place) c.from_residual-in_err-expect.result c.in_err-expect.field-0.0 c.from_residual-in_err-expect.ensures.1 (wants_fails g.P.Plan.takes_memory c.args.self.now.place c.parse_node.new.self.place c.expect.new.self.place (λ k. k ≡ ParenClose) c.in_err-expect.field-0.0 c.in_err-expect.ensures.takes)
 
-pub parse_items-returns-then-next_is-clause-tree : goal.parse_items-returns-then-next_is-clause-tree
-parse_items-returns-then-next_is-clause-tree t c = items_none _ _ _ c.next_is.new.self.place _ _ c.new-items.result.items c.node.result c.node.ensures c.new-items.ensures.items c.requires (is_other _ _ c.eq.ensures c.if-eq.false) (ap (λ (z : Range ℕ). z.start) c.span-start.ensures) c.next_is.ensures.stays c.in_ok-expect.ensures.takes
+pub parse_payload-returns-in_err-parts-clause-memory : goal.parse_payload-returns-in_err-parts-clause-memory
+parse_payload-returns-in_err-parts-clause-memory g t c = error_handed (WantsOnly g.P.Plan.takes_memory c.args.self.now.place) c.from_residual-in_err-parts.result c.in_err-parts.field-0.0 c.from_residual-in_err-parts.ensures.1 (wants_taken g.P.Plan.takes_memory c.args.self.now.place c.in_err-parts.field-0.0 c.in_err-parts.ensures.takes)
 
-pub parse_items-returns-then-eq-3-clause-tree : goal.parse_items-returns-then-eq-3-clause-tree
-parse_items-returns-then-eq-3-clause-tree t c =
-    let more = pushed _ _ _ _ c.push.ensures.items c.if-is_err.ensures.negation in
-    items_made _ _ _ _ c.if-eq-2.ty _ _ c.node-then-eq-3.result c.node-then-eq-3.ensures (elim c.if-eq-2.branch [
-      | parse_items-then-eq-2 w ↦ w.ty-is ∙ sym (ap items_type (is_class c.args.close ParenClose c.eq-2.ensures w.if-eq-2.true))
-      | parse_items-else-eq-2 w ↦ w.ty-is ∙ sym (type_of_items c.args.close c.requires (is_other _ _ c.eq-2.ensures w.if-eq-2.false))
-    ]) (ap (λ (z : Range ℕ). z.start) c.span-start.ensures)
-    (subst (λ z. AreItems c.args.levels c.args.close c.args.self.now.place z c.advance.new.self.place) (sym more)
-    (c.items.invariant.tree c.in_ok-item.item _ _ [] c.in_ok-item.ensures.tree (inl (class_as _ _ _ c.args.close c.in_ok-token.ensures.takes (is_class _ _ c.eq-in-items.ensures c.if-eq-3.true)))))
-    (λ k. some_there _ _ _ more)
+pub parse_items-returns-in_err-expect-clause-memory : goal.parse_items-returns-in_err-expect-clause-memory
+parse_items-returns-in_err-expect-clause-memory g t c = error_handed (WantsOnly g.P.Plan.takes_memory c.args.self.now.place) c.from_residual.result c.in_err-expect.field-0.0 c.from_residual.ensures.1 (wants_fails g.P.Plan.takes_memory c.args.self.now.place c.next_is.new.self.place c.expect.new.self.place (λ k. k ≡ c.args.close) c.in_err-expect.field-0.0 c.in_err-expect.ensures.takes)
 
-pub parse_items-returns-then-next_is-2-clause-tree : goal.parse_items-returns-then-next_is-2-clause-tree
-parse_items-returns-then-next_is-2-clause-tree t c =
-    let more = pushed _ _ _ _ c.push.ensures.items c.if-is_err.ensures.negation in
-    items_made _ _ _ _ c.if-eq-2.ty _ _ c.node-then-next_is-2.result c.node-then-next_is-2.ensures (elim c.if-eq-2.branch [
-      | parse_items-then-eq-2 w ↦ w.ty-is ∙ sym (ap items_type (is_class c.args.close ParenClose c.eq-2.ensures w.if-eq-2.true))
-      | parse_items-else-eq-2 w ↦ w.ty-is ∙ sym (type_of_items c.args.close c.requires (is_other _ _ c.eq-2.ensures w.if-eq-2.false))
-    ]) (ap (λ (z : Range ℕ). z.start) c.span-start.ensures)
-    (subst (λ z. AreItems c.args.levels c.args.close c.args.self.now.place z c.expect-then-next_is-2.new.self.place) (sym more)
-    (c.items.invariant.tree c.in_ok-item.item _ _ [] c.in_ok-item.ensures.tree (inr (
-      c.advance.new.self.place,
-      class_as _ _ _ Comma c.in_ok-token.ensures.takes (differs_not _ _ c.ne.ensures c.if-ne.false),
-      subst (λ z. TakesClass c.args.close z c.expect-then-next_is-2.new.self.place) c.next_is-in-items.ensures.stays c.in_ok-expect-2.ensures.takes,
-    ))))
-    (λ k. some_there _ _ _ more)
+pub parse_items-returns-then-eq-clause-memory : goal.parse_items-returns-then-eq-clause-memory
+parse_items-returns-then-eq-clause-memory g t c = wants_other g.P.Plan.takes_memory c.args.self.now.place c.new.result because.EmptyTuple (ap (λ r. r.kind) c.new.ensures.refusal) (λ z. cc)
 
-pub parse_braces-returns-clause-tree : goal.parse_braces-returns-clause-tree
-parse_braces-returns-clause-tree t c =
-    entries_tied _ _ c.advance.new.self.place _ _ _ c.leaf-key-2.result c.parse_entries-2.result
-    (c.in_ok-token.token, c.in_ok-token.ensures.takes, c.in-Some.ensures.0, c.leaf-key-2.ensures ∙ ap (λ z. node z (span_at c.advance.new.self.place) no_nodes) c.in-Some.ensures.1)
-    c.in_ok-expect-3.ensures.takes (ap (λ (z : Range ℕ). z.start) c.span-start.ensures) c.parse_entries-2.ensures.tree
+pub parse_items-returns-in_err-item-clause-memory : goal.parse_items-returns-in_err-item-clause-memory
+parse_items-returns-in_err-item-clause-memory g t c = error_handed (WantsOnly g.P.Plan.takes_memory c.args.self.now.place) c.from_residual-in_err-item.result c.in_err-item.field-0.0 c.from_residual-in_err-item.ensures.1 (let (d, i, r) = c.items.invariant.reached (c.args.levels + 1) [] (omega arith) in wants_reached g.P.Plan.takes_memory c.in_err-item.field-0.0 r c.in_err-item.ensures.memory)
 
-pub parse_braces-returns-then-next_is-clause-tree : goal.parse_braces-returns-then-next_is-clause-tree
-parse_braces-returns-then-next_is-clause-tree t c =
-    let stays = c.next_is.ensures.stays in
-    entries_tied _ _ c.advance.new.self.place _ _ _ c.leaf-key.result c.parse_entries.result
-    (LabelOrKeyword, class_as _ _ _ LabelOrKeyword c.in_ok-token.ensures.takes (is_class _ _ c.eq-3.ensures c.if-eq-3.true), tt, c.leaf-key.ensures ∙ ap (λ z. node kind_of_node.Label (span_at z) no_nodes) stays)
-    (subst (λ z. TakesClass Colon z c.expect-then-next_is.new.self.place) stays c.in_ok-expect-2.ensures.takes) (ap (λ (z : Range ℕ). z.start) c.span-start.ensures) c.parse_entries.ensures.tree
+pub parse_items-returns-in_err-parts-clause-memory : goal.parse_items-returns-in_err-parts-clause-memory
+parse_items-returns-in_err-parts-clause-memory g t c = error_handed (WantsOnly g.P.Plan.takes_memory c.args.self.now.place) c.from_residual-in_err-parts.result c.in_err-parts.field-0.0 c.from_residual-in_err-parts.ensures.1 (wants_taken g.P.Plan.takes_memory c.args.self.now.place c.in_err-parts.field-0.0 c.in_err-parts.ensures.takes)
 
-pub parse_braces-returns-then-eq-2-clause-tree : goal.parse_braces-returns-then-eq-2-clause-tree
-parse_braces-returns-then-eq-2-clause-tree t c = no_fields_tied _ _ _ _ _ c.new-then-eq-2.result.items c.node-then-eq-2.result (class_as _ _ _ Colon c.in_ok-token.ensures.takes (is_class _ _ c.eq-2.ensures c.if-eq-2.true)) c.in_ok-expect.ensures.takes (ap (λ (z : Range ℕ). z.start) c.span-start.ensures) c.new-then-eq-2.ensures.items c.node-then-eq-2.ensures
+pub parse_items-returns-in_err-token-clause-memory : goal.parse_items-returns-in_err-token-clause-memory
+parse_items-returns-in_err-token-clause-memory g t c = error_handed (WantsOnly g.P.Plan.takes_memory c.args.self.now.place) c.from_residual-in_err-token.result c.in_err-token.field-0.0 c.from_residual-in_err-token.ensures.1 (wants_fails g.P.Plan.takes_memory c.args.self.now.place c.parse_node.new.self.place c.advance.new.self.place (λ _. Unit {0}) c.in_err-token.field-0.0 c.in_err-token.ensures.takes)
 
-pub parse_braces-returns-then-eq-3-clause-tree : goal.parse_braces-returns-then-eq-3-clause-tree
-parse_braces-returns-then-eq-3-clause-tree t c =
-    let stays = c.next_is.ensures.stays in
-    flags_tied _ _ c.next_is.new.self.place _ _ c.parse_flags.result (subst (λ z. TakesClass LabelOrKeyword c.args.self.now.place z) (sym stays) (class_as _ _ _ LabelOrKeyword c.in_ok-token.ensures.takes (is_class _ _ c.eq-3.ensures c.if-eq-3.true)))
-    (ap (λ (z : Range ℕ). z.start) c.span-start.ensures) c.parse_flags.ensures.tree
+pub parse_items-returns-then-ne-clause-memory : goal.parse_items-returns-then-ne-clause-memory
+parse_items-returns-then-ne-clause-memory g t c = wants_other g.P.Plan.takes_memory c.args.self.now.place c.unexpected.result because.UnexpectedToken (kind_is c.unexpected.ensures) (λ z. cc)
 
-pub parse_braces-returns-then-eq-clause-tree : goal.parse_braces-returns-then-eq-clause-tree
-parse_braces-returns-then-eq-clause-tree t c = empty_tied _ _ _ _ c.new.result.items c.node.result (class_as _ _ _ BraceClose c.in_ok-token.ensures.takes (is_class _ _ c.eq.ensures c.if-eq.true)) (ap (λ (z : Range ℕ). z.start) c.span-start.ensures) c.new.ensures.items c.node.ensures
-
-pub parse_entries-returns-then-eq-clause-tree : goal.parse_entries-returns-then-eq-clause-tree
-parse_entries-returns-then-eq-clause-tree t c = pairs_close _ _ _ _ _ _ c.entries.children.items _ c.args.key c.in_ok-value.value c.node.result c.entries.invariant.tree c.in_ok-value.ensures.tree (inl (class_as _ _ _ BraceClose c.in_ok-token.ensures.takes (is_class _ _ c.eq.ensures c.if-eq.true))) (pushed _ _ _ _ c.push-in-entries.ensures.items c.if-is_err-2.ensures.negation) c.node.ensures
-
-pub parse_entries-returns-then-eq-2-clause-tree : goal.parse_entries-returns-then-eq-2-clause-tree
-parse_entries-returns-then-eq-2-clause-tree t c = pairs_close _ _ _ _ _ _ c.entries.children.items _ c.args.key c.in_ok-value.value c.node-then-eq-2.result c.entries.invariant.tree c.in_ok-value.ensures.tree (inr (c.advance.new.self.place, class_as _ _ _ Comma c.in_ok-token.ensures.takes (differs_not _ _ c.ne.ensures c.if-ne.false), class_as _ _ _ BraceClose c.in_ok-next.ensures.takes (is_class _ _ c.eq-in-entries.ensures c.if-eq-2.true))) (pushed _ _ _ _ c.push-in-entries.ensures.items c.if-is_err-2.ensures.negation) c.node-then-eq-2.ensures
-
-pub parse_maybe-returns-then-not-next_is-clause-tree : goal.parse_maybe-returns-then-not-next_is-clause-tree
-parse_maybe-returns-then-not-next_is-clause-tree t c = inl (c.next_is.ensures.stays, c.leaf.ensures ∙ ap (λ z. node c.args.alone (span_at z) no_nodes) c.next_is.ensures.stays)
-
-pub parse_maybe-returns-clause-tree : goal.parse_maybe-returns-clause-tree
-parse_maybe-returns-clause-tree t c = payload_tied _ _ _ _ _ c.next_is.new.self.place _ _ _ c.parse_payload.result c.next_is.ensures.stays c.in_ok-expect.ensures.takes (ap (λ (z : Range ℕ). z.start) c.span-start.ensures) c.in_ok-front.ensures.made c.parse_payload.ensures.tree
-
-pub parse_payload-returns-in-Ok-clause-tree : goal.parse_payload-returns-in-Ok-clause-tree
-parse_payload-returns-in-Ok-clause-tree t c = record { payload = c.in_ok-payload.payload; behind = c.parse_node.new.self.place; inner = c.in_ok-payload.ensures.tree; close = c.in_ok-expect.ensures.takes; is = c.node.ensures ∙ ap (λ z. node c.args.ty (span c.args.start c.expect.new.self.place.lexer.end) (node_trees z)) c.in-Ok.ensures.items }
-
-pub parse_node-returns-in-LabelOrKeyword-clause-asks : goal.parse_node-returns-in-LabelOrKeyword-clause-asks
-parse_node-returns-in-LabelOrKeyword-clause-asks t c =
-    asks_token c.args.self.now c.advance.new.self c.parse_label.new.self c.in_ok-token.token c.in_ok-token.ensures.takes c.advance.ensures.asks c.parse_label.ensures.asks
-
-pub parse_node-returns-in-ParenOpen-clause-asks : goal.parse_node-returns-in-ParenOpen-clause-asks
-parse_node-returns-in-ParenOpen-clause-asks t c =
-    asks_token c.args.self.now c.advance.new.self c.parse_items.new.self c.in_ok-token.token c.in_ok-token.ensures.takes c.advance.ensures.asks c.parse_items.ensures.asks
-
-pub parse_node-returns-in-BracketOpen-clause-asks : goal.parse_node-returns-in-BracketOpen-clause-asks
-parse_node-returns-in-BracketOpen-clause-asks t c =
-    asks_token c.args.self.now c.advance.new.self c.parse_items-in-BracketOpen.new.self c.in_ok-token.token c.in_ok-token.ensures.takes c.advance.ensures.asks c.parse_items-in-BracketOpen.ensures.asks
-
-pub parse_node-returns-in-BraceOpen-clause-asks : goal.parse_node-returns-in-BraceOpen-clause-asks
-parse_node-returns-in-BraceOpen-clause-asks t c =
-    asks_token c.args.self.now c.advance.new.self c.parse_braces.new.self c.in_ok-token.token c.in_ok-token.ensures.takes c.advance.ensures.asks c.parse_braces.ensures.asks
-
-pub parse_label-returns-in_ok-expect-in-Some-clause-asks : goal.parse_label-returns-in_ok-expect-in-Some-clause-asks
-parse_label-returns-in_ok-expect-in-Some-clause-asks t c =
-    asks_token c.args.self.now c.expect.new.self c.parse_payload.new.self ParenOpen c.in_ok-expect-in-Some.ensures.takes c.expect.ensures.asks c.parse_payload.ensures.asks
-
-pub parse_maybe-returns-clause-asks : goal.parse_maybe-returns-clause-asks
-parse_maybe-returns-clause-asks t c =
-    asks_looked c.args.self.now c.next_is.new.self c.parse_payload.new.self c.next_is.ensures.stays c.next_is.ensures.asks (asks_token c.next_is.new.self c.expect.new.self c.parse_payload.new.self ParenOpen c.in_ok-expect.ensures.takes c.expect.ensures.asks c.parse_payload.ensures.asks)
-
-pub parse_payload-returns-in_err-expect-clause-asks : goal.parse_payload-returns-in_err-expect-clause-asks
-parse_payload-returns-in_err-expect-clause-asks t c =
-    asks_value c.args.levels c.args.self.now c.parse_node.new.self c.expect.new.self c.in_ok-payload.ensures.led c.parse_node.ensures.asks (asks_once c.parse_node.new.self c.expect.new.self c.expect.ensures.asks)
-
-pub parse_payload-returns-in-Ok-clause-asks : goal.parse_payload-returns-in-Ok-clause-asks
-parse_payload-returns-in-Ok-clause-asks t c =
-    asks_value c.args.levels c.args.self.now c.parse_node.new.self c.expect.new.self c.in_ok-payload.ensures.led c.parse_node.ensures.asks (asks_once c.parse_node.new.self c.expect.new.self c.expect.ensures.asks)
-
-pub parse_payload-returns-in-Err-clause-asks : goal.parse_payload-returns-in-Err-clause-asks
-parse_payload-returns-in-Err-clause-asks t c =
-    asks_value c.args.levels c.args.self.now c.parse_node.new.self c.expect.new.self c.in_ok-payload.ensures.led c.parse_node.ensures.asks (asks_once c.parse_node.new.self c.expect.new.self c.expect.ensures.asks)
-
-pub parse_items-returns-in_err-item-clause-asks : goal.parse_items-returns-in_err-item-clause-asks
-parse_items-returns-in_err-item-clause-asks t c =
-    asks_items c.args.levels c.args.close c.args.self.now c.items.self c.parse_node.new.self c.items.invariant.reached c.items.invariant.asks c.parse_node.ensures.asks
-
-pub parse_items-returns-then-is_err-clause-asks : goal.parse_items-returns-then-is_err-clause-asks
-parse_items-returns-then-is_err-clause-asks t c =
-    asks_items c.args.levels c.args.close c.args.self.now c.items.self c.parse_node.new.self c.items.invariant.reached c.items.invariant.asks c.parse_node.ensures.asks
-
-pub parse_items-returns-in_err-token-clause-asks : goal.parse_items-returns-in_err-token-clause-asks
-parse_items-returns-in_err-token-clause-asks t c =
-    asks_items c.args.levels c.args.close c.args.self.now c.items.self c.advance.new.self c.items.invariant.reached c.items.invariant.asks (asks_value c.args.levels c.items.self c.parse_node.new.self c.advance.new.self c.in_ok-item.ensures.led c.parse_node.ensures.asks (asks_once c.parse_node.new.self c.advance.new.self c.advance.ensures.asks))
-
-pub parse_items-returns-then-eq-3-clause-asks : goal.parse_items-returns-then-eq-3-clause-asks
-parse_items-returns-then-eq-3-clause-asks t c =
-    asks_items c.args.levels c.args.close c.args.self.now c.items.self c.advance.new.self c.items.invariant.reached c.items.invariant.asks (asks_value c.args.levels c.items.self c.parse_node.new.self c.advance.new.self c.in_ok-item.ensures.led c.parse_node.ensures.asks (asks_once c.parse_node.new.self c.advance.new.self c.advance.ensures.asks))
-
-pub parse_items-returns-then-ne-clause-asks : goal.parse_items-returns-then-ne-clause-asks
-parse_items-returns-then-ne-clause-asks t c =
-    asks_items c.args.levels c.args.close c.args.self.now c.items.self c.advance.new.self c.items.invariant.reached c.items.invariant.asks (asks_value c.args.levels c.items.self c.parse_node.new.self c.advance.new.self c.in_ok-item.ensures.led c.parse_node.ensures.asks (asks_once c.parse_node.new.self c.advance.new.self c.advance.ensures.asks))
-
-pub parse_items-returns-in_err-expect-2-clause-asks : goal.parse_items-returns-in_err-expect-2-clause-asks
-parse_items-returns-in_err-expect-2-clause-asks t c =
-    asks_items c.args.levels c.args.close c.args.self.now c.items.self c.expect-then-next_is-2.new.self c.items.invariant.reached c.items.invariant.asks (asks_value c.args.levels c.items.self c.parse_node.new.self c.expect-then-next_is-2.new.self c.in_ok-item.ensures.led c.parse_node.ensures.asks (asks_token c.parse_node.new.self c.advance.new.self c.expect-then-next_is-2.new.self c.in_ok-token.token c.in_ok-token.ensures.takes c.advance.ensures.asks (asks_looked c.advance.new.self c.next_is-in-items.new.self c.expect-then-next_is-2.new.self c.next_is-in-items.ensures.stays c.next_is-in-items.ensures.asks (asks_once c.next_is-in-items.new.self c.expect-then-next_is-2.new.self c.expect-then-next_is-2.ensures.asks))))
-
-pub parse_items-returns-then-next_is-2-clause-asks : goal.parse_items-returns-then-next_is-2-clause-asks
-parse_items-returns-then-next_is-2-clause-asks t c =
-    asks_items c.args.levels c.args.close c.args.self.now c.items.self c.expect-then-next_is-2.new.self c.items.invariant.reached c.items.invariant.asks (asks_value c.args.levels c.items.self c.parse_node.new.self c.expect-then-next_is-2.new.self c.in_ok-item.ensures.led c.parse_node.ensures.asks (asks_token c.parse_node.new.self c.advance.new.self c.expect-then-next_is-2.new.self c.in_ok-token.token c.in_ok-token.ensures.takes c.advance.ensures.asks (asks_looked c.advance.new.self c.next_is-in-items.new.self c.expect-then-next_is-2.new.self c.next_is-in-items.ensures.stays c.next_is-in-items.ensures.asks (asks_once c.next_is-in-items.new.self c.expect-then-next_is-2.new.self c.expect-then-next_is-2.ensures.asks))))
-
-pub parse_braces-returns-in_err-expect-clause-asks : goal.parse_braces-returns-in_err-expect-clause-asks
-parse_braces-returns-in_err-expect-clause-asks t c =
-    asks_token c.args.self.now c.advance.new.self c.expect.new.self c.in_ok-token.token c.in_ok-token.ensures.takes c.advance.ensures.asks (asks_once c.advance.new.self c.expect.new.self c.expect.ensures.asks)
-
-pub parse_braces-returns-then-eq-2-clause-asks : goal.parse_braces-returns-then-eq-2-clause-asks
-parse_braces-returns-then-eq-2-clause-asks t c =
-    asks_token c.args.self.now c.advance.new.self c.expect.new.self c.in_ok-token.token c.in_ok-token.ensures.takes c.advance.ensures.asks (asks_once c.advance.new.self c.expect.new.self c.expect.ensures.asks)
-
-pub parse_braces-returns-in_err-expect-2-clause-asks : goal.parse_braces-returns-in_err-expect-2-clause-asks
-parse_braces-returns-in_err-expect-2-clause-asks t c =
-    asks_token c.args.self.now c.advance.new.self c.expect-then-next_is.new.self c.in_ok-token.token c.in_ok-token.ensures.takes c.advance.ensures.asks (asks_looked c.advance.new.self c.next_is.new.self c.expect-then-next_is.new.self c.next_is.ensures.stays c.next_is.ensures.asks (asks_once c.next_is.new.self c.expect-then-next_is.new.self c.expect-then-next_is.ensures.asks))
-
-pub parse_braces-returns-then-next_is-clause-asks : goal.parse_braces-returns-then-next_is-clause-asks
-parse_braces-returns-then-next_is-clause-asks t c =
-    asks_token c.args.self.now c.advance.new.self c.parse_entries.new.self c.in_ok-token.token c.in_ok-token.ensures.takes c.advance.ensures.asks (asks_looked c.advance.new.self c.next_is.new.self c.parse_entries.new.self c.next_is.ensures.stays c.next_is.ensures.asks (asks_token c.next_is.new.self c.expect-then-next_is.new.self c.parse_entries.new.self Colon c.in_ok-expect-2.ensures.takes c.expect-then-next_is.ensures.asks c.parse_entries.ensures.asks))
-
-pub parse_braces-returns-then-eq-3-clause-asks : goal.parse_braces-returns-then-eq-3-clause-asks
-parse_braces-returns-then-eq-3-clause-asks t c =
-    asks_token c.args.self.now c.advance.new.self c.parse_flags.new.self c.in_ok-token.token c.in_ok-token.ensures.takes c.advance.ensures.asks (asks_looked c.advance.new.self c.next_is.new.self c.parse_flags.new.self c.next_is.ensures.stays c.next_is.ensures.asks c.parse_flags.ensures.asks)
-
-pub parse_braces-returns-in_err-expect-3-clause-asks : goal.parse_braces-returns-in_err-expect-3-clause-asks
-parse_braces-returns-in_err-expect-3-clause-asks t c =
-    asks_token c.args.self.now c.advance.new.self c.expect-2.new.self c.in_ok-token.token c.in_ok-token.ensures.takes c.advance.ensures.asks (asks_once c.advance.new.self c.expect-2.new.self c.expect-2.ensures.asks)
-
-pub parse_braces-returns-clause-asks : goal.parse_braces-returns-clause-asks
-parse_braces-returns-clause-asks t c =
-    asks_token c.args.self.now c.advance.new.self c.parse_entries-2.new.self c.in_ok-token.token c.in_ok-token.ensures.takes c.advance.ensures.asks (asks_token c.advance.new.self c.expect-2.new.self c.parse_entries-2.new.self Colon c.in_ok-expect-3.ensures.takes c.expect-2.ensures.asks c.parse_entries-2.ensures.asks)
-
-pub parse_entries-returns-in_err-value-clause-asks : goal.parse_entries-returns-in_err-value-clause-asks
-parse_entries-returns-in_err-value-clause-asks t c =
-    asks_entries c.args.levels c.args.self.now c.entries.self c.parse_node.new.self c.entries.invariant.led c.entries.invariant.asks c.parse_node.ensures.asks
-
-pub parse_entries-returns-then-is_err-2-clause-asks : goal.parse_entries-returns-then-is_err-2-clause-asks
-parse_entries-returns-then-is_err-2-clause-asks t c =
-    asks_entries c.args.levels c.args.self.now c.entries.self c.parse_node.new.self c.entries.invariant.led c.entries.invariant.asks c.parse_node.ensures.asks
-
-pub parse_entries-returns-in_err-token-clause-asks : goal.parse_entries-returns-in_err-token-clause-asks
-parse_entries-returns-in_err-token-clause-asks t c =
-    asks_entries c.args.levels c.args.self.now c.entries.self c.advance.new.self c.entries.invariant.led c.entries.invariant.asks (asks_value c.args.levels c.entries.self c.parse_node.new.self c.advance.new.self c.in_ok-value.ensures.led c.parse_node.ensures.asks (asks_once c.parse_node.new.self c.advance.new.self c.advance.ensures.asks))
-
-pub parse_entries-returns-then-eq-clause-asks : goal.parse_entries-returns-then-eq-clause-asks
-parse_entries-returns-then-eq-clause-asks t c =
-    asks_entries c.args.levels c.args.self.now c.entries.self c.advance.new.self c.entries.invariant.led c.entries.invariant.asks (asks_value c.args.levels c.entries.self c.parse_node.new.self c.advance.new.self c.in_ok-value.ensures.led c.parse_node.ensures.asks (asks_once c.parse_node.new.self c.advance.new.self c.advance.ensures.asks))
-
-pub parse_entries-returns-then-ne-clause-asks : goal.parse_entries-returns-then-ne-clause-asks
-parse_entries-returns-then-ne-clause-asks t c =
-    asks_entries c.args.levels c.args.self.now c.entries.self c.advance.new.self c.entries.invariant.led c.entries.invariant.asks (asks_value c.args.levels c.entries.self c.parse_node.new.self c.advance.new.self c.in_ok-value.ensures.led c.parse_node.ensures.asks (asks_once c.parse_node.new.self c.advance.new.self c.advance.ensures.asks))
-
-pub parse_entries-returns-in_err-next-clause-asks : goal.parse_entries-returns-in_err-next-clause-asks
-parse_entries-returns-in_err-next-clause-asks t c =
-    asks_entries c.args.levels c.args.self.now c.entries.self c.advance-in-entries.new.self c.entries.invariant.led c.entries.invariant.asks (asks_value c.args.levels c.entries.self c.parse_node.new.self c.advance-in-entries.new.self c.in_ok-value.ensures.led c.parse_node.ensures.asks (asks_token c.parse_node.new.self c.advance.new.self c.advance-in-entries.new.self c.in_ok-token.token c.in_ok-token.ensures.takes c.advance.ensures.asks (asks_once c.advance.new.self c.advance-in-entries.new.self c.advance-in-entries.ensures.asks)))
-
-pub parse_entries-returns-then-eq-2-clause-asks : goal.parse_entries-returns-then-eq-2-clause-asks
-parse_entries-returns-then-eq-2-clause-asks t c =
-    asks_entries c.args.levels c.args.self.now c.entries.self c.advance-in-entries.new.self c.entries.invariant.led c.entries.invariant.asks (asks_value c.args.levels c.entries.self c.parse_node.new.self c.advance-in-entries.new.self c.in_ok-value.ensures.led c.parse_node.ensures.asks (asks_token c.parse_node.new.self c.advance.new.self c.advance-in-entries.new.self c.in_ok-token.token c.in_ok-token.ensures.takes c.advance.ensures.asks (asks_once c.advance.new.self c.advance-in-entries.new.self c.advance-in-entries.ensures.asks)))
-
-pub parse_entries-returns-in_default-clause-asks : goal.parse_entries-returns-in_default-clause-asks
-parse_entries-returns-in_default-clause-asks t c =
-    asks_entries c.args.levels c.args.self.now c.entries.self c.advance-in-entries.new.self c.entries.invariant.led c.entries.invariant.asks (asks_value c.args.levels c.entries.self c.parse_node.new.self c.advance-in-entries.new.self c.in_ok-value.ensures.led c.parse_node.ensures.asks (asks_token c.parse_node.new.self c.advance.new.self c.advance-in-entries.new.self c.in_ok-token.token c.in_ok-token.ensures.takes c.advance.ensures.asks (asks_once c.advance.new.self c.advance-in-entries.new.self c.advance-in-entries.ensures.asks)))
-
-pub parse_entries-returns-in_err-expect-clause-asks : goal.parse_entries-returns-in_err-expect-clause-asks
-parse_entries-returns-in_err-expect-clause-asks t c =
-    asks_entries c.args.levels c.args.self.now c.entries.self c.expect.new.self c.entries.invariant.led c.entries.invariant.asks (asks_value c.args.levels c.entries.self c.parse_node.new.self c.expect.new.self c.in_ok-value.ensures.led c.parse_node.ensures.asks (asks_token c.parse_node.new.self c.advance.new.self c.expect.new.self c.in_ok-token.token c.in_ok-token.ensures.takes c.advance.ensures.asks (asks_token c.advance.new.self c.advance-in-entries.new.self c.expect.new.self c.in_ok-next.next c.in_ok-next.ensures.takes c.advance-in-entries.ensures.asks (asks_once c.advance-in-entries.new.self c.expect.new.self c.expect.ensures.asks))))
-
-pub parse_entries-returns-then-is_err-3-clause-asks : goal.parse_entries-returns-then-is_err-3-clause-asks
-parse_entries-returns-then-is_err-3-clause-asks t c =
-    asks_entries c.args.levels c.args.self.now c.entries.self c.expect.new.self c.entries.invariant.led c.entries.invariant.asks (asks_value c.args.levels c.entries.self c.parse_node.new.self c.expect.new.self c.in_ok-value.ensures.led c.parse_node.ensures.asks (asks_token c.parse_node.new.self c.advance.new.self c.expect.new.self c.in_ok-token.token c.in_ok-token.ensures.takes c.advance.ensures.asks (asks_token c.advance.new.self c.advance-in-entries.new.self c.expect.new.self c.in_ok-next.next c.in_ok-next.ensures.takes c.advance-in-entries.ensures.asks (asks_once c.advance-in-entries.new.self c.expect.new.self c.expect.ensures.asks))))
+pub parse_items-returns-in_err-expect-2-clause-memory : goal.parse_items-returns-in_err-expect-2-clause-memory
+parse_items-returns-in_err-expect-2-clause-memory g t c = error_handed (WantsOnly g.P.Plan.takes_memory c.args.self.now.place) c.from_residual-in_err-expect-2.result c.in_err-expect-2.field-0.0 c.from_residual-in_err-expect-2.ensures.1 (wants_fails g.P.Plan.takes_memory c.args.self.now.place c.next_is-in-items.new.self.place c.expect-then-next_is-2.new.self.place (λ k. k ≡ c.args.close) c.in_err-expect-2.field-0.0 c.in_err-expect-2.ensures.takes)

@@ -30,7 +30,7 @@ due_flag : (names : List (List ℕ)) {n : ℕ} {s : List Form} {p q w : Place} {
 due_flag names {n} {s} {p} {q} {w} d c i r h e = then_same c r h (flag_same n d names s q w c i h ∙ ap (λ z. behind_flag_step names s (token_of z (text_at w))) e)
 
 pub flags-init : goal.flags-init
-flags-init c =
+flags-init g c =
     let name_is = c.label_name.ensures ∙ ap name_of c.slice.ensures in
     let done = c.if-is_err.ensures.negation in
     let one = holds_more c.new-flags.result c.insert.new.self [] _ _ (holds_none c.new-flags.result c.new-flags.ensures.empty) (on_ok c.insert.result c.insert.ensures.updates done) in
@@ -39,8 +39,9 @@ flags-init c =
         more = [];
         holds = subst (λ z. Holds c.insert.new.self (z ∷ [])) name_is one;
         distinct = (tt, tt);
-        ordered = ap (map entry_of) (on_ok c.insert.result c.insert.ensures.entries done ∙ ap (λ z. insert_entry (λ a b. slice_cmp nat_cmp a.now b.now) z c.label_name.result c.leaf.result) c.new-flags.ensures.empty)
-            ∙ (λ i. (name_is i, c.leaf.ensures i) ∷ []);
+        written = (refl, tt);
+        ordered = ap (map entry_of) (on_ok c.insert.result c.insert.ensures.entries done ∙ ap (λ z. insert_entry (λ a b. slice_cmp nat_cmp a.now b.now) z c.label_name.result c.span.result) c.new-flags.ensures.empty)
+            ∙ (λ i. (name_is i, c.span.ensures i) ∷ []);
         tree = λ rest r further. further;
         led = λ n s. (due.behind_word (text_at place), inr (text_at place, refl, refl, c.requires), here n (due.behind_word (text_at place)) s place);
       },
@@ -48,18 +49,18 @@ flags-init c =
     )
 
 pub returns-in_err-token-clause-led : goal.returns-in_err-token-clause-led
-returns-in_err-token-clause-led c = λ n s.
+returns-in_err-token-clause-led g c = λ n s.
     let (d, i, r) = c.flags.invariant.0.led n s in
     handed s _ _ c.from_residual.ensures.1 (fails (inl (flag_within d _ _ i)) (λ _. Unit {0}) c.in_err-token.field-0.0 r (flag_not_deep n d _ s _ i) (any_token n d s _ _) c.in_err-token.ensures.takes)
 
 pub returns-then-eq-clause-led : goal.returns-then-eq-clause-led
-returns-then-eq-clause-led c = λ n s.
+returns-then-eq-clause-led g c = λ n s.
     let (d, i, r) = c.flags.invariant.0.led n s in
-    gives_read s c.flags_node.result c.flags_node.ensures.memory (read_there (then_same {f = due.behind_value} {v = s} c.in_ok-token.token r c.in_ok-token.ensures.takes
+    gives_read s c.whole_flags.result c.whole_flags.ensures.memory (read_there (then_same {f = due.behind_value} {v = s} c.in_ok-token.token r c.in_ok-token.ensures.takes
     (flag_same n d _ s _ _ c.in_ok-token.token i c.in_ok-token.ensures.takes ∙ ap (λ z. behind_flag_step (map flag_name (flag_at c.args.self.now.place ∷ c.flags.invariant.0.more)) s (token_of z (text_at c.advance.new.self.place))) (is_class c.in_ok-token.token BraceClose c.eq.ensures c.if-eq.true))) (inl refl))
 
 pub returns-then-ne-clause-led : goal.returns-then-ne-clause-led
-returns-then-ne-clause-led c = λ n s.
+returns-then-ne-clause-led g c = λ n s.
     let (d, i, r) = c.flags.invariant.0.led n s in
     unexpected_there (inl (flag_within d _ _ i)) c.unexpected.result c.in_ok-token.token r c.in_ok-token.ensures.takes
     (flag_same n d _ s _ _ c.in_ok-token.token i c.in_ok-token.ensures.takes ∙
@@ -67,19 +68,19 @@ returns-then-ne-clause-led c = λ n s.
     c.unexpected.ensures
 
 pub returns-in_err-next-clause-led : goal.returns-in_err-next-clause-led
-returns-in_err-next-clause-led c = λ n s.
+returns-in_err-next-clause-led g c = λ n s.
     let (d, i, r) = c.flags.invariant.0.led n s in
     let comma = due_flag (map flag_name (flag_at c.args.self.now.place ∷ c.flags.invariant.0.more)) d c.in_ok-token.token i r c.in_ok-token.ensures.takes (differs_not _ _ c.ne.ensures c.if-ne.false) in
     handed s _ _ c.from_residual-in_err-next.ensures.1 (fails (inl tt) (λ _. Unit {0}) c.in_err-next.field-0.0 comma (λ deep. deep.due) (any_token n (due.flag (map flag_name (flag_at c.args.self.now.place ∷ c.flags.invariant.0.more))) s _ _) c.in_err-next.ensures.takes)
 
 pub returns-then-eq-2-clause-led : goal.returns-then-eq-2-clause-led
-returns-then-eq-2-clause-led c = λ n s.
+returns-then-eq-2-clause-led g c = λ n s.
     let (d, i, r) = c.flags.invariant.0.led n s in
     let comma = due_flag (map flag_name (flag_at c.args.self.now.place ∷ c.flags.invariant.0.more)) d c.in_ok-token.token i r c.in_ok-token.ensures.takes (differs_not _ _ c.ne.ensures c.if-ne.false) in
-    gives_read s c.flags_node-then-eq-2.result c.flags_node-then-eq-2.ensures.memory (read_there (then_class BraceClose comma c.in_ok-next.ensures.takes (is_class _ _ c.eq-in-flags.ensures c.if-eq-2.true) refl) (inl refl))
+    gives_read s c.whole_flags-then-eq-2.result c.whole_flags-then-eq-2.ensures.memory (read_there (then_class BraceClose comma c.in_ok-next.ensures.takes (is_class _ _ c.eq-in-flags.ensures c.if-eq-2.true) refl) (inl refl))
 
 pub returns-then-ne-2-clause-led : goal.returns-then-ne-2-clause-led
-returns-then-ne-2-clause-led c = λ n s.
+returns-then-ne-2-clause-led g c = λ n s.
     let (d, i, r) = c.flags.invariant.0.led n s in
     let comma = due_flag (map flag_name (flag_at c.args.self.now.place ∷ c.flags.invariant.0.more)) d c.in_ok-token.token i r c.in_ok-token.ensures.takes (differs_not _ _ c.ne.ensures c.if-ne.false) in
     unexpected_there (inl tt) c.unexpected-then-ne-2.result c.in_ok-next.next comma c.in_ok-next.ensures.takes
@@ -87,7 +88,7 @@ returns-then-ne-2-clause-led c = λ n s.
     c.unexpected-then-ne-2.ensures
 
 pub returns-then-contains_key-clause-led : goal.returns-then-contains_key-clause-led
-returns-then-contains_key-clause-led c = λ n s.
+returns-then-contains_key-clause-led g c = λ n s.
     let (d, i, r) = c.flags.invariant.0.led n s in
     let names = (map flag_name (flag_at c.args.self.now.place ∷ c.flags.invariant.0.more)) in
     let comma = due_flag names d c.in_ok-token.token i r c.in_ok-token.ensures.takes (differs_not _ _ c.ne.ensures c.if-ne.false) in
@@ -98,13 +99,13 @@ returns-then-contains_key-clause-led c = λ n s.
     (subst (λ z. c.repeated.result.kind ≢ kind.OutOfMemory → Says c.repeated.result kind.DuplicateFlag (span_at c.advance-in-flags.new.self.place) (Some (repeated_name z))) name_is c.repeated.ensures)
 
 pub flags-smaller : goal.flags-smaller
-flags-smaller c =
+flags-smaller g c =
     let two = token_less _ _ c.in_ok-token.token c.in_ok-token.ensures.takes in
     let three = token_less _ _ c.in_ok-next.next c.in_ok-next.ensures.takes in
     omega arith
 
 pub flags-preserved : goal.flags-preserved
-flags-preserved c =
+flags-preserved g c =
     let names = map flag_name (flag_at c.args.self.now.place ∷ c.flags.invariant.0.more) in
     let name_is = c.label_name-name.ensures ∙ ap name_of c.slice-in-flags.ensures in
     let done = c.if-is_err-2.ensures.negation in
@@ -113,7 +114,7 @@ flags-preserved c =
     let comma_there = class_as _ _ _ Comma c.in_ok-token.ensures.takes (differs_not _ _ c.ne.ensures c.if-ne.false) in
     let label_there = class_as _ _ _ LabelOrKeyword c.in_ok-next.ensures.takes (differs_not _ _ c.ne-in-flags.ensures c.if-ne-2.false) in (
       grown c.flags.flags c.insert-in-flags.new.self c.args.self.now.place c.flags.self.place c.advance.new.self.place c.advance-in-flags.new.self.place c.label_name-name.result _ c.flags.invariant.0 comma_there label_there
-          (on_ok c.insert-in-flags.result c.insert-in-flags.ensures.entries done) name_is c.leaf-in-flags.ensures new_name
+          (on_ok c.insert-in-flags.result c.insert-in-flags.ensures.entries done) name_is c.span-in-flags.ensures new_name
           (subst (λ z. Holds c.insert-in-flags.new.self (names ++ z ∷ [])) name_is more)
           (λ n s.
           let (d, i, r) = c.flags.invariant.0.led n s in
@@ -126,39 +127,39 @@ flags-preserved c =
     )
 
 pub returns-then-eq-clause-tree : goal.returns-then-eq-clause-tree
-returns-then-eq-clause-tree c = ended c.flags.flags _ c.flags.self.place _ _ c.flags_node.result c.flags.invariant.0 (inl (class_as _ _ _ BraceClose c.in_ok-token.ensures.takes (is_class _ _ c.eq.ensures c.if-eq.true))) c.flags_node.ensures.node
+returns-then-eq-clause-tree g c = ended (g.P.Plan.is_made c.args.plan) c.flags.flags _ c.flags.self.place _ _ c.whole_flags.result c.flags.invariant.0 (inl (class_as _ _ _ BraceClose c.in_ok-token.ensures.takes (is_class _ _ c.eq.ensures c.if-eq.true))) c.whole_flags.ensures.made
 
 pub returns-then-eq-2-clause-tree : goal.returns-then-eq-2-clause-tree
-returns-then-eq-2-clause-tree c = ended c.flags.flags _ c.flags.self.place _ _ c.flags_node-then-eq-2.result c.flags.invariant.0 (inr (c.advance.new.self.place, class_as _ _ _ Comma c.in_ok-token.ensures.takes (differs_not _ _ c.ne.ensures c.if-ne.false), class_as _ _ _ BraceClose c.in_ok-next.ensures.takes (is_class _ _ c.eq-in-flags.ensures c.if-eq-2.true))) c.flags_node-then-eq-2.ensures.node
+returns-then-eq-2-clause-tree g c = ended (g.P.Plan.is_made c.args.plan) c.flags.flags _ c.flags.self.place _ _ c.whole_flags-then-eq-2.result c.flags.invariant.0 (inr (c.advance.new.self.place, class_as _ _ _ Comma c.in_ok-token.ensures.takes (differs_not _ _ c.ne.ensures c.if-ne.false), class_as _ _ _ BraceClose c.in_ok-next.ensures.takes (is_class _ _ c.eq-in-flags.ensures c.if-eq-2.true))) c.whole_flags-then-eq-2.ensures.made
 
 pub returns-in_err-token-clause-asks : goal.returns-in_err-token-clause-asks
-returns-in_err-token-clause-asks c =
+returns-in_err-token-clause-asks g c =
     asks_flags c.flags.flags c.args.self.now c.flags.self c.advance.new.self c.flags.invariant.0 c.flags.invariant.1 (asks_once c.flags.self c.advance.new.self c.advance.ensures.asks)
 
 pub returns-then-eq-clause-asks : goal.returns-then-eq-clause-asks
-returns-then-eq-clause-asks c =
+returns-then-eq-clause-asks g c =
     asks_flags c.flags.flags c.args.self.now c.flags.self c.advance.new.self c.flags.invariant.0 c.flags.invariant.1 (asks_once c.flags.self c.advance.new.self c.advance.ensures.asks)
 
 pub returns-then-ne-clause-asks : goal.returns-then-ne-clause-asks
-returns-then-ne-clause-asks c =
+returns-then-ne-clause-asks g c =
     asks_flags c.flags.flags c.args.self.now c.flags.self c.advance.new.self c.flags.invariant.0 c.flags.invariant.1 (asks_once c.flags.self c.advance.new.self c.advance.ensures.asks)
 
 pub returns-in_err-next-clause-asks : goal.returns-in_err-next-clause-asks
-returns-in_err-next-clause-asks c =
+returns-in_err-next-clause-asks g c =
     asks_flags c.flags.flags c.args.self.now c.flags.self c.advance-in-flags.new.self c.flags.invariant.0 c.flags.invariant.1 (asks_token c.flags.self c.advance.new.self c.advance-in-flags.new.self c.in_ok-token.token c.in_ok-token.ensures.takes c.advance.ensures.asks (asks_once c.advance.new.self c.advance-in-flags.new.self c.advance-in-flags.ensures.asks))
 
 pub returns-then-eq-2-clause-asks : goal.returns-then-eq-2-clause-asks
-returns-then-eq-2-clause-asks c =
+returns-then-eq-2-clause-asks g c =
     asks_flags c.flags.flags c.args.self.now c.flags.self c.advance-in-flags.new.self c.flags.invariant.0 c.flags.invariant.1 (asks_token c.flags.self c.advance.new.self c.advance-in-flags.new.self c.in_ok-token.token c.in_ok-token.ensures.takes c.advance.ensures.asks (asks_once c.advance.new.self c.advance-in-flags.new.self c.advance-in-flags.ensures.asks))
 
 pub returns-then-ne-2-clause-asks : goal.returns-then-ne-2-clause-asks
-returns-then-ne-2-clause-asks c =
+returns-then-ne-2-clause-asks g c =
     asks_flags c.flags.flags c.args.self.now c.flags.self c.advance-in-flags.new.self c.flags.invariant.0 c.flags.invariant.1 (asks_token c.flags.self c.advance.new.self c.advance-in-flags.new.self c.in_ok-token.token c.in_ok-token.ensures.takes c.advance.ensures.asks (asks_once c.advance.new.self c.advance-in-flags.new.self c.advance-in-flags.ensures.asks))
 
 pub returns-then-contains_key-clause-asks : goal.returns-then-contains_key-clause-asks
-returns-then-contains_key-clause-asks c =
+returns-then-contains_key-clause-asks g c =
     asks_flags c.flags.flags c.args.self.now c.flags.self c.advance-in-flags.new.self c.flags.invariant.0 c.flags.invariant.1 (asks_token c.flags.self c.advance.new.self c.advance-in-flags.new.self c.in_ok-token.token c.in_ok-token.ensures.takes c.advance.ensures.asks (asks_once c.advance.new.self c.advance-in-flags.new.self c.advance-in-flags.ensures.asks))
 
 pub returns-then-is_err-2-clause-asks : goal.returns-then-is_err-2-clause-asks
-returns-then-is_err-2-clause-asks c =
+returns-then-is_err-2-clause-asks g c =
     asks_flags c.flags.flags c.args.self.now c.flags.self c.advance-in-flags.new.self c.flags.invariant.0 c.flags.invariant.1 (asks_token c.flags.self c.advance.new.self c.advance-in-flags.new.self c.in_ok-token.token c.in_ok-token.ensures.takes c.advance.ensures.asks (asks_once c.advance.new.self c.advance-in-flags.new.self c.advance-in-flags.ensures.asks))

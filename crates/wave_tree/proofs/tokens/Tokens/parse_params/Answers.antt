@@ -7,6 +7,7 @@ use Rattle.wave_grammar.specs.SyntaxErrors.{LeadsBehindValue, IsSyntaxError}
 use Rattle.wave_tree.specs.Private.ParsedNodes.{IsOfItems}
 use Rattle.wave_tree.specs.ParsedNodes.{TakesClass}
 use Rattle.wave_tree.specs.UntypedCall.{RefusesTuple}
+use Rattle.wave_tree.proofs.Built.{as_node}
 use Rattle.wave_tree.proofs.ParserSteps.{expected}
 use Rattle.wave_node.proofs.Parameters.{error_handed}
 use Rattle.wave_lex.specs.Errors.{Diagnostic, LiesInText}
@@ -48,4 +49,4 @@ returns-in-Ok-clause-taken c =
     let new = c.parse_items.new.self.place in
     tuple_taken c.args.self.now.place c.expect.new.self.place new c.in-Ok.tuple c.start_here-start.ensures.sound c.in_ok-expect.ensures.takes
     (subst (λ (z : Place). LeadsBehindValue 101 due.first_item (due.tuple ∷ []) z new []) c.next_is.ensures.stays (c.in-Ok.ensures.led 101 [] refl))
-    (subst (λ (z : Place). IsOfItems 100 class.ParenClose z new c.in-Ok.tuple) c.next_is.ensures.stays c.in-Ok.ensures.tree)
+    (subst (λ (z : Place). IsOfItems 100 class.ParenClose z new c.in-Ok.tuple) c.next_is.ensures.stays (as_node (IsOfItems 100 class.ParenClose c.next_is.new.self.place new) c.in-Ok.tuple c.in-Ok.ensures.tree))

@@ -2,11 +2,13 @@ use Rattle.std.proofs.Common.{◌≢◌, [], arith}
 use Rattle.wave_lex.specs.declared.error.ParserErrorKind.TheVariants as because
 use Rattle.wave_grammar.specs.PrefixAutomaton.{value}
 use Rattle.wave_tree.proofs.TextReading.{node_parsed}
+use Rattle.wave_tree.specs.ParsedNodes.{IsParsed}
+use Rattle.wave_tree.proofs.Built.{as_node}
 use Rattle.wave_tree.proofs.ErrorSpans.Syntax.{back_lies, refused_lies, refused_kind}
 use Rattle.wave_tree.proofs.tokens.Tokens.parse_whole.Goals as goal
 
 pub returns-in-Ok-clause-tree : goal.returns-in-Ok-clause-tree
-returns-in-Ok-clause-tree c = node_parsed _ _ _ _ c.start_here-start.ensures.sound c.in-Ok.ensures.tree
+returns-in-Ok-clause-tree c = node_parsed _ _ _ _ c.start_here-start.ensures.sound (as_node (IsParsed c.args.levels c.args.self.now.place c.parse_node.new.self.place) c.in-Ok.node c.in-Ok.ensures.tree)
 
 pub returns-in-Err-clause-within : goal.returns-in-Err-clause-within
 returns-in-Err-clause-within c =

@@ -1,0 +1,4 @@
+pub mod FlagParts
+pub mod Leaves
+pub mod NodeParts
+pub mod PlainReading

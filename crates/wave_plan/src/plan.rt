@@ -1,0 +1,81 @@
+//! Plans of what is made of a value while its tokens are taken.
+use std::alloc::{AllocError, Global};
+use std::collections::BTreeMap;
+use wave_lex::lex::Span;
+use wave_node::ast::NodeType;
+
+/// What is to be made of a value, from the parts of its node, one behind the other.
+pub trait Plan: Sized + Copy {
+    /// What is made of a value.
+    type Made: Drop;
+
+    /// What is made of the parts of a value so far.
+    type Parts: Drop;
+
+    ghost use Rattle.std.specs.Prelude.{ℕ, ◌≡◌, ◌++◌, List, [], ◌∷◌, IfOk, IfErr};
+    ghost use Rattle.wave_plan.specs.FlagParts.{AreFlagsOf, flag_nodes};
+    ghost use Rattle.wave_plan.specs.NodeParts.{IsOfParts};
+    ghost use Rattle.wave_grammar.specs.SpannedTree.{slice};
+    ghost use Rattle.wave_node.specs.NodeTree.{NodeTree, node, no_nodes, node_trees};
+    ghost use Rattle.wave_node.specs.declared.ast.NodeType.{NodeType};
+    ghost use Rattle.wave_node.specs.declared.ast.NodeType.TheVariants as node_type;
+
+    /// This was made of the node, which was parsed from the source.
+    ghost is_made: { Self → List ℕ → NodeTree → Self.Made → Type 0 };
+
+    /// These parts were made of the first children of a node of the type.
+    ghost are_parts: { Self → List ℕ → NodeType → List NodeTree → Self.Parts → Type 0 };
+
+    /// The plan of the part that comes next.
+    ghost next: { Self → Self.Parts → Self };
+
+    /// Parts take memory.
+    ghost takes_memory: { Type 0 };
+
+    /// What is made of a node of one token, of this text.
+    fn leaf(self, alloc: Global, ty: NodeType, span: Span, text: &str) -> Self::Made
+        ensures { (source : List ℕ) → text.now ≡ slice source span → is_made self source (node ty span no_nodes) result };
+
+    /// No parts, of a node of the type, which is one that has parts.
+    fn parts(self, alloc: Global, ty: NodeType) -> Self::Parts
+        ensures { (source : List ℕ) → IsOfParts ty → are_parts self source ty [] result };
+
+    /// The plan of the part that comes next.
+    fn part(self, parts: &Self::Parts) -> Self
+        ensures { result ≡ next self parts.now };
+
+    /// The parts, with a key or the label of a case behind them.
+    fn with_key(
+        self,
+        alloc: Global,
+        parts: Self::Parts,
+        ty: NodeType,
+        span: Span,
+        text: &str,
+    ) -> Result<Self::Parts, AllocError>
+        ensures kept { IfOk result (λ new. (source : List ℕ) (whole : NodeType) (children : List NodeTree) → text.now ≡ slice source span → are_parts self source whole children parts → are_parts self source whole (children ++ node ty span no_nodes ∷ []) new) }
+        ensures memory { IfErr result (λ _. takes_memory) };
+
+    /// The parts, with one behind them that was made by the plan of the next part.
+    fn with_part(
+        self,
+        alloc: Global,
+        parts: Self::Parts,
+        made: Self::Made,
+    ) -> Result<Self::Parts, AllocError>
+        ensures kept { IfOk result (λ new. (source : List ℕ) (whole : NodeType) (children : List NodeTree) (n : NodeTree) → are_parts self source whole children parts → is_made (next self parts) source n made → are_parts self source whole (children ++ n ∷ []) new) }
+        ensures memory { IfErr result (λ _. takes_memory) };
+
+    /// What is made of a node of the type with these parts.
+    fn whole(self, alloc: Global, ty: NodeType, span: Span, parts: Self::Parts) -> Self::Made
+        ensures { (source : List ℕ) (children : List NodeTree) → are_parts self source ty children parts → is_made self source (node ty span (node_trees children)) result };
+
+    /// What is made of a node of these flags, which stand at these places.
+    fn flags(
+        self,
+        alloc: Global,
+        span: Span,
+        flags: BTreeMap<&str, Span>,
+    ) -> Result<Self::Made, AllocError>
+        ensures { IfOk result (λ made. (source : List ℕ) → AreFlagsOf source flags.entry → is_made self source (node node_type.Flags span (flag_nodes flags.entry)) made) };
+}

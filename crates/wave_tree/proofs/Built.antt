@@ -1,0 +1,63 @@
+-- What is made of nodes while their tokens are taken.
+use Rattle.std.proofs.Common.{◌≡◌, ℕ, List, Some, Result, Ok, Err, sym, subst, ◌∙◌}
+use Rattle.std.specs.Prelude.{IfOk}
+use Rattle.wave_lex.specs.declared.lex.Token as lex
+use Rattle.wave_lex.specs.Tokenization.{span}
+use Rattle.wave_grammar.specs.ParserPosition.{Place, TakesItem, span_at}
+use Rattle.wave_grammar.specs.PrefixAutomaton.{Due, Form}
+use Rattle.wave_grammar.proofs.Slices.{tokens_source}
+use Rattle.wave_node.specs.NodeTree.{NodeTree, node, no_nodes, node_trees}
+use Rattle.wave_node.specs.declared.ast.NodeType.{NodeType}
+use Rattle.wave_tree.specs.ParsedNodes.{IsParsed, IsBuilt}
+use Rattle.wave_tree.proofs.ParserSteps.{Reached}
+
+-- the source stays behind a token
+pub source_item : (p q : Place) (c : lex.Token) → TakesItem p (Some (Ok c)) q → q.lexer.source ≡ p.lexer.source
+source_item p q c ((g, k, h, t), e) = h.source
+
+-- so it does behind a tree
+pub source_parsed : (n : ℕ) (p q : Place) (parsed : NodeTree) → IsParsed n p q parsed → q.lexer.source ≡ p.lexer.source
+source_parsed n p q parsed h = let (c, one, e) = h.begins in tokens_source h.first q h.others h.taken ∙ source_item p h.first c one
+
+-- so it does behind tokens that lead there
+pub source_reached : {n : ℕ} {d e : Due} {s r : List Form} {p q : Place} → Reached n d s p e r q → q.lexer.source ≡ p.lexer.source
+source_reached {p = p} {q = q} h = tokens_source p q h.tokens h.taken
+
+-- what is made of a node is made of what the node is
+pub built : {M E : Type 0} (Of : List ℕ → NodeTree → M → Type 0) (p q : Place) (A B : NodeTree → Type 0) (r : Result M E) → q.lexer.source ≡ p.lexer.source → ((n : NodeTree) → A n → B n) → IfOk r (IsBuilt Of q A) → IfOk r (IsBuilt Of p B)
+built Of p q A B (Ok made) e f (n, a, of) = (n, f n a, subst (λ (s : List ℕ). Of s n made) e of)
+built Of p q A B (Err x) e f h = tt
+
+-- what is made of a node of the token that was taken
+pub leaf_built : {M : Type 0} (Of : List ℕ → NodeTree → M → Type 0) (p m : Place) (c : lex.Token) (ty : NodeType) (made : M) (B : NodeTree → Type 0) → TakesItem p (Some (Ok c)) m → B (node ty (span_at m) no_nodes) → Of m.lexer.source (node ty (span_at m) no_nodes) made → IsBuilt Of p B made
+leaf_built Of p m c ty made B h b of = (node ty (span_at m) no_nodes, b, subst (λ (s : List ℕ). Of s (node ty (span_at m) no_nodes) made) (source_item p m c h) of)
+
+-- a node, as an answer
+abbrev pub as_ok : NodeTree → Result NodeTree (Unit {0})
+as_ok n = Ok n
+
+-- what holds of an answer behind any first parts holds of it behind these
+pub of_front : {M E A : Type 0} (Holds : A → Type 0) (r : Result M E) (Is : A → M → Type 0) → IfOk r (λ made. (front : A) → Holds front → Is front made) → (front : A) → Holds front → IfOk r (Is front)
+of_front Holds (Ok made) Is h front k = h front k
+of_front Holds (Err x) Is h front k = tt
+
+-- what is made of a node of these children
+pub whole_built : {M Q : Type 0} (Of : List ℕ → NodeTree → M → Type 0) (Are : List ℕ → List NodeTree → Q → Type 0) (p q : Place) (ty : NodeType) (start : ℕ) (made : M) (parts : Q) (children : List NodeTree) (B : NodeTree → Type 0) →
+    q.lexer.source ≡ p.lexer.source → Are p.lexer.source children parts → ((cs : List NodeTree) → Are q.lexer.source cs parts → Of q.lexer.source (node ty (span start q.lexer.end) (node_trees cs)) made) →
+    B (node ty (span start q.lexer.end) (node_trees children)) → IsBuilt Of p B made
+whole_built Of Are p q ty start made parts children B e are of b =
+    let n = node ty (span start q.lexer.end) (node_trees children) in
+    (n, b, subst (λ (s : List ℕ). Of s n made) e (of children (subst (λ (s : List ℕ). Are s children parts) (sym e) are)))
+
+-- a node that was made of itself
+pub as_node : (Is : NodeTree → Type 0) (made : NodeTree) → (n : NodeTree) × Is n × (made ≡ n) → Is made
+as_node Is made (n, is, e) = subst Is (sym e) is
+
+-- what holds of an answer under a condition
+pub when_given : {M E : Type 0} (When : Type 0) (Is : M → Type 0) (r : Result M E) → (When → IfOk r Is) → IfOk r (λ made. When → Is made)
+when_given When Is (Ok made) h = h
+when_given When Is (Err x) h = tt
+
+pub as_given : {M E : Type 0} (When : Type 0) (Is : M → Type 0) (r : Result M E) → IfOk r (λ made. When → Is made) → When → IfOk r Is
+as_given When Is (Ok made) h given = h given
+as_given When Is (Err x) h given = tt
