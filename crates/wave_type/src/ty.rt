@@ -54,9 +54,17 @@ enum Shape {
 
 /// A type of component values. Its parts are shared by its clones.
 #[cycle(types)]
-#[derive(Debug, Drop)]
+#[derive(Debug)]
 pub struct Type {
     shape: Shape,
+}
+
+// One function, so that whoever drops a type has one call for it.
+impl Drop for Type {
+    #[cycle(types)]
+    fn drop(self) {
+        let Type { shape: _ } = self;
+    }
 }
 
 impl Model for Type {
