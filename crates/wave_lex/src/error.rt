@@ -95,12 +95,24 @@ enum Detail {
 
 /// A refusal of a text: its kind, the bytes of the source where it arose, and perhaps a detail or
 /// the error of the value that could not be made. A clause sees these four, the detail as a text.
-#[derive(Debug, Drop, Error)]
+#[derive(Debug, Error)]
 pub struct ParserError {
     kind: ParserErrorKind,
     span: Span,
     detail: Detail,
     cause: Option<WasmValueError>,
+}
+
+// One function, so that whoever drops a refusal has one call for it.
+impl Drop for ParserError {
+    fn drop(self) {
+        let ParserError {
+            kind: _,
+            span: _,
+            detail: _,
+            cause: _,
+        } = self;
+    }
 }
 
 impl Model for ParserError {

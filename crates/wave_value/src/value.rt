@@ -59,10 +59,18 @@ enum Content {
 
 /// A value of a component type. It has a type as its own, whose parts it shares.
 #[cycle(values)]
-#[derive(Debug, Drop)]
+#[derive(Debug)]
 pub struct Value {
     own: Type,
     content: Content,
+}
+
+// One function, so that whoever drops a value has one call for it.
+impl Drop for Value {
+    #[cycle(values)]
+    fn drop(self) {
+        let Value { own: _, content: _ } = self;
+    }
 }
 
 impl Model for Value {

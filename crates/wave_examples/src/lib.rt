@@ -1,0 +1,6 @@
+//! Examples to copy. `settings` reads a record, views its fields, changes one and writes it again.
+#![tactic(auto)]
+
+pub mod settings;
+#[cfg(test)]
+mod settings_tests;
