@@ -56,9 +56,9 @@ pub fn join(
 }
 
 /// The results of a function, as they are written.
-fn results_text(alloc: Global, result: OrderedFlags) -> Result<String, AllocError> {
+fn results_text(alloc: Global, joined: OrderedFlags) -> Result<String, AllocError> {
     let mut results = Vec::new(alloc);
-    results.push(result)?;
+    results.push(joined)?;
     format!(in alloc; "{}", DisplayFuncResults::new(alloc, results.as_slice()))
 }
 
@@ -66,7 +66,7 @@ fn results_text(alloc: Global, result: OrderedFlags) -> Result<String, AllocErro
 pub fn answer(
     alloc: Global,
     types: &[NameSet],
-    result: &NameSet,
+    joined_type: &NameSet,
     text: &str,
 ) -> Result<String, CallRefusal> {
     let call = UntypedFuncCall::parse(alloc, text)?;
@@ -74,6 +74,6 @@ pub fn answer(
         return Err(CallRefusal::UnknownFunction);
     }
     let values = parameters(alloc, &call, types)?;
-    let joined = join(alloc, result, values.as_slice())?;
+    let joined = join(alloc, joined_type, values.as_slice())?;
     Ok(results_text(alloc, joined)?)
 }

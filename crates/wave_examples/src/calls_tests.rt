@@ -25,7 +25,10 @@ fn told(rt: HostRuntime, text: &str) -> Result<String, Fail> {
 
 #[test]
 fn calls_are_answered(rt: HostRuntime) -> Result<(), Fail> {
-    assert_eq!(rt; told(rt, "join({exec, read}, {write, exec})")?.as_str(), "{exec, read, write}");
+    assert_eq!(rt;
+        told(rt, "join({exec, read}, {write, exec})")?.as_str(),
+        "{read, exec, write}"
+    );
     assert_eq!(rt; told(rt, "meet({}, {})")?.as_str(), "no such function");
     Ok(())
 }
@@ -33,6 +36,9 @@ fn calls_are_answered(rt: HostRuntime) -> Result<(), Fail> {
 #[test]
 fn calls_are_refused(rt: HostRuntime) -> Result<(), Fail> {
     let refusal = told(rt, "join({exec}, {run})")?;
-    assert_eq!(rt; refusal.as_str(), "error converting Wasm value: unknown case \"run\" at 14..17");
+    assert_eq!(rt;
+        refusal.as_str(),
+        "error converting Wasm value: unknown case \"run\" at 13..18"
+    );
     Ok(())
 }
