@@ -40,14 +40,14 @@ flags_no_bool false e = cc
 
 -- the kinds of whole types are read nowhere else
 unread : (which : Whole) → IsUnread (whole_kind which)
-unread type.s8 = record { bool = λ e. cc; char = λ e. cc; string = λ e. cc; list = λ e. cc; tuple = λ e. cc; record_kind = λ e. cc; option = λ e. cc; result = λ e. cc; variant = λ e. cc; enum = λ e. cc; flags = λ e. cc; map = λ e. cc }
-unread type.s16 = record { bool = λ e. cc; char = λ e. cc; string = λ e. cc; list = λ e. cc; tuple = λ e. cc; record_kind = λ e. cc; option = λ e. cc; result = λ e. cc; variant = λ e. cc; enum = λ e. cc; flags = λ e. cc; map = λ e. cc }
-unread type.s32 = record { bool = λ e. cc; char = λ e. cc; string = λ e. cc; list = λ e. cc; tuple = λ e. cc; record_kind = λ e. cc; option = λ e. cc; result = λ e. cc; variant = λ e. cc; enum = λ e. cc; flags = λ e. cc; map = λ e. cc }
-unread type.s64 = record { bool = λ e. cc; char = λ e. cc; string = λ e. cc; list = λ e. cc; tuple = λ e. cc; record_kind = λ e. cc; option = λ e. cc; result = λ e. cc; variant = λ e. cc; enum = λ e. cc; flags = λ e. cc; map = λ e. cc }
-unread type.u8 = record { bool = λ e. cc; char = λ e. cc; string = λ e. cc; list = λ e. cc; tuple = λ e. cc; record_kind = λ e. cc; option = λ e. cc; result = λ e. cc; variant = λ e. cc; enum = λ e. cc; flags = λ e. cc; map = λ e. cc }
-unread type.u16 = record { bool = λ e. cc; char = λ e. cc; string = λ e. cc; list = λ e. cc; tuple = λ e. cc; record_kind = λ e. cc; option = λ e. cc; result = λ e. cc; variant = λ e. cc; enum = λ e. cc; flags = λ e. cc; map = λ e. cc }
-unread type.u32 = record { bool = λ e. cc; char = λ e. cc; string = λ e. cc; list = λ e. cc; tuple = λ e. cc; record_kind = λ e. cc; option = λ e. cc; result = λ e. cc; variant = λ e. cc; enum = λ e. cc; flags = λ e. cc; map = λ e. cc }
-unread type.u64 = record { bool = λ e. cc; char = λ e. cc; string = λ e. cc; list = λ e. cc; tuple = λ e. cc; record_kind = λ e. cc; option = λ e. cc; result = λ e. cc; variant = λ e. cc; enum = λ e. cc; flags = λ e. cc; map = λ e. cc }
+unread type.s8 = record { bool = λ e. cc; char = λ e. cc; string = λ e. cc; list = λ e. cc; fixed = λ e. cc; tuple = λ e. cc; record_kind = λ e. cc; option = λ e. cc; result = λ e. cc; variant = λ e. cc; enum = λ e. cc; flags = λ e. cc; map = λ e. cc }
+unread type.s16 = record { bool = λ e. cc; char = λ e. cc; string = λ e. cc; list = λ e. cc; fixed = λ e. cc; tuple = λ e. cc; record_kind = λ e. cc; option = λ e. cc; result = λ e. cc; variant = λ e. cc; enum = λ e. cc; flags = λ e. cc; map = λ e. cc }
+unread type.s32 = record { bool = λ e. cc; char = λ e. cc; string = λ e. cc; list = λ e. cc; fixed = λ e. cc; tuple = λ e. cc; record_kind = λ e. cc; option = λ e. cc; result = λ e. cc; variant = λ e. cc; enum = λ e. cc; flags = λ e. cc; map = λ e. cc }
+unread type.s64 = record { bool = λ e. cc; char = λ e. cc; string = λ e. cc; list = λ e. cc; fixed = λ e. cc; tuple = λ e. cc; record_kind = λ e. cc; option = λ e. cc; result = λ e. cc; variant = λ e. cc; enum = λ e. cc; flags = λ e. cc; map = λ e. cc }
+unread type.u8 = record { bool = λ e. cc; char = λ e. cc; string = λ e. cc; list = λ e. cc; fixed = λ e. cc; tuple = λ e. cc; record_kind = λ e. cc; option = λ e. cc; result = λ e. cc; variant = λ e. cc; enum = λ e. cc; flags = λ e. cc; map = λ e. cc }
+unread type.u16 = record { bool = λ e. cc; char = λ e. cc; string = λ e. cc; list = λ e. cc; fixed = λ e. cc; tuple = λ e. cc; record_kind = λ e. cc; option = λ e. cc; result = λ e. cc; variant = λ e. cc; enum = λ e. cc; flags = λ e. cc; map = λ e. cc }
+unread type.u32 = record { bool = λ e. cc; char = λ e. cc; string = λ e. cc; list = λ e. cc; fixed = λ e. cc; tuple = λ e. cc; record_kind = λ e. cc; option = λ e. cc; result = λ e. cc; variant = λ e. cc; enum = λ e. cc; flags = λ e. cc; map = λ e. cc }
+unread type.u64 = record { bool = λ e. cc; char = λ e. cc; string = λ e. cc; list = λ e. cc; fixed = λ e. cc; tuple = λ e. cc; record_kind = λ e. cc; option = λ e. cc; result = λ e. cc; variant = λ e. cc; enum = λ e. cc; flags = λ e. cc; map = λ e. cc }
 
 -- a refusal of a kind is no want of memory
 no_memory : (e : Diagnostic) (n : NodeTree) → RefusedAs why.InvalidType n e → e.kind ≢ why.OutOfMemory
