@@ -35,6 +35,7 @@ pub use wave_wasm::{wasm, writer};
 /// is merged, and no tokens spell two values nor begin the spelling of another; where the names are
 /// labels too and the type's tree is one that `Type` has, what is read within some levels has a
 /// canonical text of at most twice as many.
+/// Example: `from_str::<Value>(alloc, &Type::CHAR, "'\\u{1F44B}'")?` is the char '👋'.
 pub fn from_str<V: WasmValue>(alloc: Global, ty: &V::Type, s: &str) -> Result<V, ParserError>
     ensures read { IfOk result (IsRead V.tree V.is_of (V.Type.tree ty.now) 100 s.now) }
     ensures refused { IfErr result (RefusesText V.is_full (V.Type.tree ty.now) 100 s.now) }
@@ -52,6 +53,7 @@ pub fn from_str<V: WasmValue>(alloc: Global, ty: &V::Type, s: &str) -> Result<V,
 /// that `Type` has, the text is read back as the value, merged, within its own levels, so by
 /// `from_str` where these are at most 100, and by a parser whose limit they don't pass; and it has at
 /// most twice the levels of any text that is read as the value.
+/// Example: `to_string(alloc, &Value::from('\u{1F44B}'))?` is the text `'👋'`.
 pub fn to_string<V: WasmValue>(alloc: Global, val: &V) -> Result<String, WriterError>
     ensures text { IfOk result (λ s. IsTextOf (V.tree val.now) (string_bytes s)) }
     ensures refused { IfErr result (RefusesWriting (V.tree val.now)) }

@@ -6,4 +6,4 @@ mod flags;
 pub mod laws;
 pub mod params;
 mod record;
-mod typed;
+pub mod typed;

@@ -675,7 +675,7 @@ impl Node {
 }
 
 /// The entries with each key once, merged by the texts of their keys.
-fn merged<V: WasmValue>(alloc: Global, entries: Vec<(V, V)>) -> Result<Vec<(V, V)>, WriterError>
+pub fn merged<V: WasmValue>(alloc: Global, entries: Vec<(V, V)>) -> Result<Vec<(V, V)>, WriterError>
     ensures { IfOk result (λ m. m.items ≡ merge (λ a b. bytes_eq (text (V.tree a)) (text (V.tree b))) entries.items) }
 {
     let mut with_texts = Vec::new(alloc);
@@ -687,7 +687,7 @@ fn merged<V: WasmValue>(alloc: Global, entries: Vec<(V, V)>) -> Result<Vec<(V, V
 }
 
 /// Whether an option or a result may be left out around a value of this kind.
-fn is_flat(kind: WasmTypeKind) -> bool
+pub fn is_flat(kind: WasmTypeKind) -> bool
     ensures { IsTrue result ↔ ((kind ≢ WasmTypeKind.Option) × (kind ≢ WasmTypeKind.Result)) }
 {
     match kind {
@@ -697,7 +697,7 @@ fn is_flat(kind: WasmTypeKind) -> bool
 }
 
 /// The type of a payload that may stand alone for `ok` of itself.
-fn flat_type<T: WasmType>(payload: Option<&T>) -> Option<&T>
+pub fn flat_type<T: WasmType>(payload: Option<&T>) -> Option<&T>
     ensures { GivesFlat (shown T.tree payload.entry) (shown T.tree result) }
 {
     match payload {
@@ -707,7 +707,7 @@ fn flat_type<T: WasmType>(payload: Option<&T>) -> Option<&T>
 }
 
 /// What the case of this name has for the type of its payload, where there is such a case.
-fn case_payload<'ty, T: WasmType>(
+pub fn case_payload<'ty, T: WasmType>(
     cases: &Vec<(&str, Option<&'ty T>)>,
     name: &str,
 ) -> Option<Option<&'ty T>>
@@ -723,7 +723,7 @@ fn case_payload<'ty, T: WasmType>(
 }
 
 /// Whether the name is one of these.
-fn is_among(names: &Vec<&str>, name: &str) -> bool
+pub fn is_among(names: &Vec<&str>, name: &str) -> bool
     ensures { Among (texts names.now.items) name.now result }
 {
     for other in names {

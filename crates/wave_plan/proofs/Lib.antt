@@ -1,1 +1,4 @@
-pub mod Plain
+mod Inside
+mod Strings
+pub mod PlainDue
+pub mod SimpleTypes

@@ -1,5 +1,7 @@
 -- Values of one token, without a node.
 use Rattle.std.specs.Prelude.{ℕ, ◌≡◌, ◌≢◌, ◌⊎◌, List, Result, IfErr}
+use Rattle.wave_wasm.specs.Types as type
+use Rattle.wave_wasm.specs.Types.{TypeTree}
 use Rattle.wave_lex.specs.Errors.{Diagnostic}
 use Rattle.wave_lex.specs.declared.error.ParserErrorKind.TheVariants.{OutOfMemory}
 use Rattle.wave_grammar.specs.SpannedTree.{slice}
@@ -18,3 +20,9 @@ IsLeafIn source l = l.text.now ≡ slice source l.span
 -- at a node of a tuple or a list memory isn't wanting
 abbrev pub SparesRows : {V : Type 0} → NodeTree → Result V Diagnostic → Type 0
 SparesRows n r = (type_of n ≡ kind.Tuple) ⊎ (type_of n ≡ kind.List) → IfErr r (λ e. e.kind ≢ OutOfMemory)
+
+-- a simple type, or a type that has no values
+abbrev pub IsSimpleOrUnreadable : TypeTree → Type 0
+IsSimpleOrUnreadable (type.simple S) = Unit {0}
+IsSimpleOrUnreadable (type.unreadable u) = Unit {0}
+IsSimpleOrUnreadable _ = ⊥

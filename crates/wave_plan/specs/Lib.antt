@@ -2,3 +2,4 @@ pub mod FlagParts
 pub mod Leaves
 pub mod NodeParts
 pub mod PlainReading
+pub mod Reading

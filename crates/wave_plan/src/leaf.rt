@@ -1,18 +1,21 @@
 //! Values of one token, read at types.
-ghost use Rattle.std.specs.Prelude.{ℕ, List, ◌≡◌, IfErr};
+ghost use Rattle.std.specs.Prelude.{ℕ, List, ◌≡◌, ◌≢◌, ◌++◌, IfOk, IfErr, MatchOption};
 ghost use Rattle.wave_wasm.specs.Types as type;
 ghost use Rattle.wave_wasm.specs.TypeText.{kind_word};
 ghost use Rattle.wave_wasm.specs.ValueErrors.{unsupported_type, cause_of};
 ghost use Rattle.wave_lex.specs.Errors.{refusal_of, refused_by};
 ghost use Rattle.wave_node.specs.NodeTree.{place_of};
-ghost use Rattle.wave_node.specs.NodeAccessors.{RefusedAs, GivesBool, GivesNumber};
+ghost use Rattle.wave_node.specs.NodeAccessors.{RefusedAs, GivesBool, GivesNumber, GivesChar};
 ghost use Rattle.wave_node.specs.TypedReading.{Answers, IsMade};
 ghost use Rattle.wave_node.specs.Private.TypedReading.{IsCaused, AnswersWhole};
 ghost use Rattle.wave_node.specs.Private.ErrorSpans.{RefusesAt};
 ghost use Rattle.wave_plan.specs.Leaves.{leaf_node, IsLeafIn, SparesRows};
+ghost use Rattle.wave_plan.specs.NodeParts.{IsOneToken};
+ghost use Rattle.wave_plan.specs.Reading.{IsReadAs};
 
 use std::alloc::Global;
 use wave_grammar::number::WholeNumber;
+use wave_grammar::text::char_in;
 use wave_lex::error::{ParserError, ParserErrorKind};
 use wave_lex::lex::Span;
 use wave_node::ast::NodeType;
@@ -20,7 +23,7 @@ use wave_wasm::wasm::{WasmTypeKind, WasmValue, WasmValueError};
 
 /// What would be a node of one token: its type, where it stands, and its text.
 #[derive(Drop)]
-pub(crate) struct Leaf<'src> {
+pub struct Leaf<'src> {
     pub ty: NodeType,
     pub span: Span,
     pub text: &'src str,
@@ -59,8 +62,17 @@ impl<'src> Leaf<'src> {
         self.or_error_here(V::make_bool(alloc, val))
     }
 
+    /// A char.
+    pub(crate) fn read_char<V: WasmValue>(&self, alloc: Global) -> Result<V, ParserError>
+        ensures answer { (source : List ℕ) → IsOneToken self.now.ty → IsLeafIn source self.now → IsReadAs V.tree V.is_of V.is_full (type.simple type.char) source (leaf_node self.now) result }
+        ensures spares { SparesRows (leaf_node self.now) result }
+    {
+        let val = self.as_char()?;
+        self.or_error_here(V::make_char(alloc, val))
+    }
+
     /// The bool, at one of the two types of bools; else `InvalidType`.
-    fn as_bool(&self) -> Result<bool, ParserError>
+    pub(crate) fn as_bool(&self) -> Result<bool, ParserError>
         ensures { GivesBool (leaf_node self.now) result }
     {
         match self.ty {
@@ -72,7 +84,7 @@ impl<'src> Leaf<'src> {
 
     /// The number, at a number; else `InvalidType`. A number that is none of the type is
     /// `InvalidValue`.
-    fn as_number<T: WholeNumber>(&self) -> Result<T, ParserError>
+    pub(crate) fn as_number<T: WholeNumber>(&self) -> Result<T, ParserError>
         ensures { (source : List ℕ) → IsLeafIn source self.now → GivesNumber T.kind T.number source (leaf_node self.now) result }
     {
         if self.ty != NodeType::Number {
@@ -84,8 +96,35 @@ impl<'src> Leaf<'src> {
         }
     }
 
+    /// The char, at a char; else `InvalidType`. An escape of no scalar value is `InvalidEscape`.
+    pub(crate) fn as_char(&self) -> Result<char, ParserError>
+        ensures gives { (source : List ℕ) → IsLeafIn source self.now → GivesChar source (leaf_node self.now) result }
+        ensures ty { IfOk result (λ c. self.now.ty ≡ NodeType.Char) }
+        ensures spares { SparesRows (leaf_node self.now) result }
+    {
+        if self.ty != NodeType::Char {
+            return Err(self.error(ParserErrorKind::InvalidType));
+        }
+        let inside = match self.inside("'") {
+            Some(inside) => inside,
+            None => return Err(self.error(ParserErrorKind::InvalidEscape)),
+        };
+        match char_in(inside) {
+            Some(c) => Ok(c),
+            None => Err(self.error(ParserErrorKind::InvalidEscape)),
+        }
+    }
+
+    /// The text between these quotes, where they stand at both ends.
+    pub(crate) fn inside(&self, quotes: &str) -> Option<&'src str>
+        ensures { MatchOption result ((inside : List ℕ) → self.now.text.now ≢ quotes.now ++ (inside ++ quotes.now)) (λ inside. self.now.text.now ≡ quotes.now ++ (inside.now ++ quotes.now)) }
+    {
+        let behind = self.text.strip_prefix(quotes)?;
+        behind.strip_suffix(quotes)
+    }
+
     /// The value that was made, or its maker's refusal as an error at the leaf.
-    fn or_error_here<V>(&self, made: Result<V, WasmValueError>) -> Result<V, ParserError>
+    pub fn or_error_here<V>(&self, made: Result<V, WasmValueError>) -> Result<V, ParserError>
         ensures { IsMade (leaf_node self.now) made result }
     {
         match made {
@@ -95,14 +134,14 @@ impl<'src> Leaf<'src> {
     }
 
     /// A refusal of this kind at the leaf.
-    pub(crate) fn error(&self, kind: ParserErrorKind) -> ParserError
+    pub fn error(&self, kind: ParserErrorKind) -> ParserError
         ensures { RefusedAs kind (leaf_node self.now) result }
     {
         ParserError::new(kind, self.span.start..self.span.end)
     }
 
     /// The refusal of a value's maker at the leaf.
-    fn refused(&self, cause: WasmValueError) -> ParserError
+    pub fn refused(&self, cause: WasmValueError) -> ParserError
         ensures refusal { refusal_of result ≡ refused_by (cause_of cause) }
         ensures span { result.span ≡ place_of (leaf_node self.now) }
     {
@@ -110,7 +149,7 @@ impl<'src> Leaf<'src> {
     }
 
     /// A refusal because values of this kind can't be read.
-    fn unsupported(&self, alloc: Global, kind: WasmTypeKind) -> ParserError
+    pub(crate) fn unsupported(&self, alloc: Global, kind: WasmTypeKind) -> ParserError
         ensures cause { IsCaused (unsupported_type (kind_word kind)) (leaf_node self.now) result }
         ensures span { result.span ≡ place_of (leaf_node self.now) }
     {

@@ -1,7 +1,10 @@
 //! What is made of values that are parsed: nodes, or values of a type.
 #![tactic(auto)]
 
-mod leaf;
+mod keys;
+pub mod leaf;
 pub mod nodes;
+pub mod plain;
 pub mod plan;
-pub mod values;
+mod simple;
+mod texts;

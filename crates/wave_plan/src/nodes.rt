@@ -39,25 +39,23 @@ impl Plan for Nodes {
     fn with_key(
         self,
         alloc: Global,
-        parts: Vec<Node>,
+        parts: &mut Vec<Node>,
         ty: NodeType,
         span: Span,
         text: &str,
-    ) -> Result<Vec<Node>, AllocError> {
-        let mut parts = parts;
+    ) -> Result<(), AllocError> {
         parts.push(make::leaf(alloc, ty, span))?;
-        Ok(parts)
+        Ok(())
     }
 
     fn with_part(
         self,
         alloc: Global,
-        parts: Vec<Node>,
+        parts: &mut Vec<Node>,
         made: Node,
-    ) -> Result<Vec<Node>, AllocError> {
-        let mut parts = parts;
+    ) -> Result<(), AllocError> {
         parts.push(made)?;
-        Ok(parts)
+        Ok(())
     }
 
     fn whole(self, alloc: Global, ty: NodeType, span: Span, parts: Vec<Node>) -> Node {

@@ -14,7 +14,7 @@ pub trait Plan: Sized + Copy {
 
     ghost use Rattle.std.specs.Prelude.{ℕ, ◌≡◌, ◌++◌, List, [], ◌∷◌, IfOk, IfErr};
     ghost use Rattle.wave_plan.specs.FlagParts.{AreFlagsOf, flag_nodes};
-    ghost use Rattle.wave_plan.specs.NodeParts.{IsOfParts};
+    ghost use Rattle.wave_plan.specs.NodeParts.{IsOfParts, IsOneToken, TakesKey, TakesPart};
     ghost use Rattle.wave_grammar.specs.SpannedTree.{slice};
     ghost use Rattle.wave_node.specs.NodeTree.{NodeTree, node, no_nodes, node_trees};
     ghost use Rattle.wave_node.specs.declared.ast.NodeType.{NodeType};
@@ -34,7 +34,7 @@ pub trait Plan: Sized + Copy {
 
     /// What is made of a node of one token, of this text.
     fn leaf(self, alloc: Global, ty: NodeType, span: Span, text: &str) -> Self::Made
-        ensures { (source : List ℕ) → text.now ≡ slice source span → is_made self source (node ty span no_nodes) result };
+        ensures { (source : List ℕ) → IsOneToken ty → text.now ≡ slice source span → is_made self source (node ty span no_nodes) result };
 
     /// No parts, of a node of the type, which is one that has parts.
     fn parts(self, alloc: Global, ty: NodeType) -> Self::Parts
@@ -44,26 +44,26 @@ pub trait Plan: Sized + Copy {
     fn part(self, parts: &Self::Parts) -> Self
         ensures { result ≡ next self parts.now };
 
-    /// The parts, with a key or the label of a case behind them.
+    /// Adds a key or the label of a case to the parts.
     fn with_key(
         self,
         alloc: Global,
-        parts: Self::Parts,
+        parts: &mut Self::Parts,
         ty: NodeType,
         span: Span,
         text: &str,
-    ) -> Result<Self::Parts, AllocError>
-        ensures kept { IfOk result (λ new. (source : List ℕ) (whole : NodeType) (children : List NodeTree) → text.now ≡ slice source span → are_parts self source whole children parts → are_parts self source whole (children ++ node ty span no_nodes ∷ []) new) }
+    ) -> Result<(), AllocError>
+        ensures kept { IfOk result (λ _. (source : List ℕ) (whole : NodeType) (children : List NodeTree) → text.now ≡ slice source span → TakesKey whole children → are_parts self source whole children parts.old → are_parts self source whole (children ++ node ty span no_nodes ∷ []) parts.new) }
         ensures memory { IfErr result (λ _. takes_memory) };
 
-    /// The parts, with one behind them that was made by the plan of the next part.
+    /// Adds to the parts one that was made by the plan of the next part.
     fn with_part(
         self,
         alloc: Global,
-        parts: Self::Parts,
+        parts: &mut Self::Parts,
         made: Self::Made,
-    ) -> Result<Self::Parts, AllocError>
-        ensures kept { IfOk result (λ new. (source : List ℕ) (whole : NodeType) (children : List NodeTree) (n : NodeTree) → are_parts self source whole children parts → is_made (next self parts) source n made → are_parts self source whole (children ++ n ∷ []) new) }
+    ) -> Result<(), AllocError>
+        ensures kept { IfOk result (λ _. (source : List ℕ) (whole : NodeType) (children : List NodeTree) (n : NodeTree) → TakesPart whole children → are_parts self source whole children parts.old → is_made (next self parts.old) source n made → are_parts self source whole (children ++ n ∷ []) parts.new) }
         ensures memory { IfErr result (λ _. takes_memory) };
 
     /// What is made of a node of the type with these parts.

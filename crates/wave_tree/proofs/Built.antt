@@ -41,6 +41,11 @@ pub of_front : {M E A : Type 0} (Holds : A → Type 0) (r : Result M E) (Is : A 
 of_front Holds (Ok made) Is h front k = h front k
 of_front Holds (Err x) Is h front k = tt
 
+-- so where a part stands next behind them
+pub of_part : {M E A : Type 0} (Next Holds : A → Type 0) (r : Result M E) (Is : A → M → Type 0) → IfOk r (λ made. (front : A) → Next front → Holds front → Is front made) → (front : A) → Next front → Holds front → IfOk r (Is front)
+of_part Next Holds (Ok made) Is h front next k = h front next k
+of_part Next Holds (Err x) Is h front next k = tt
+
 -- what is made of a node of these children
 pub whole_built : {M Q : Type 0} (Of : List ℕ → NodeTree → M → Type 0) (Are : List ℕ → List NodeTree → Q → Type 0) (p q : Place) (ty : NodeType) (start : ℕ) (made : M) (parts : Q) (children : List NodeTree) (B : NodeTree → Type 0) →
     q.lexer.source ≡ p.lexer.source → Are p.lexer.source children parts → ((cs : List NodeTree) → Are q.lexer.source cs parts → Of q.lexer.source (node ty (span start q.lexer.end) (node_trees cs)) made) →
@@ -52,12 +57,3 @@ whole_built Of Are p q ty start made parts children B e are of b =
 -- a node that was made of itself
 pub as_node : (Is : NodeTree → Type 0) (made : NodeTree) → (n : NodeTree) × Is n × (made ≡ n) → Is made
 as_node Is made (n, is, e) = subst Is (sym e) is
-
--- what holds of an answer under a condition
-pub when_given : {M E : Type 0} (When : Type 0) (Is : M → Type 0) (r : Result M E) → (When → IfOk r Is) → IfOk r (λ made. When → Is made)
-when_given When Is (Ok made) h = h
-when_given When Is (Err x) h = tt
-
-pub as_given : {M E : Type 0} (When : Type 0) (Is : M → Type 0) (r : Result M E) → IfOk r (λ made. When → Is made) → When → IfOk r Is
-as_given When Is (Ok made) h given = h given
-as_given When Is (Err x) h given = tt

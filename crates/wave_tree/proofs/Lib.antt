@@ -6,6 +6,7 @@ pub mod Lookahead
 pub mod ClassTests
 pub mod FlagsSorted
 pub mod Built
+pub mod PartsDue
 pub mod Wanting
 pub mod FlagLoop
 pub mod TokenAlignment
@@ -13,6 +14,7 @@ pub mod NodeCorrectness
 pub mod TextReading
 pub mod UntypedReading
 pub mod ValueReading
+pub mod ReadTokens
 pub mod CallReading
 pub mod Displays
 pub mod UntypedAgreement

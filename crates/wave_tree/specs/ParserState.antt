@@ -51,6 +51,10 @@ Asks old new = (n : ℕ) → HasTokens old.place n → asked new ≤ max (asked 
 abbrev pub HoldsNoBrace : Place → Type 0
 HoldsNoBrace p = (ts : List Token) (q r : Place) → TakesTokens p ts q → TakesItem q (Some (Ok lex_class.BraceOpen)) r → ⊥
 
+-- the mark of a tuple or of a list stands next
+abbrev pub BeginsRow : Place → Type 0
+BeginsRow p = (q : Place) × (TakesItem p (Some (Ok lex_class.ParenOpen)) q ⊎ TakesItem p (Some (Ok lex_class.BracketOpen)) q)
+
 -- no token of the wanted classes stands next
 abbrev pub Fails : (lex.Token → Type 0) → Diagnostic → Place → Place → Type 0
 Fails Wanted e old new =

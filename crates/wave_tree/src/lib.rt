@@ -13,6 +13,7 @@ mod ahead;
 pub mod ast;
 pub mod laws;
 pub mod parser;
+mod refusal;
 mod role;
 mod tokens;
 pub mod untyped;

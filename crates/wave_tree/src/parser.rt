@@ -1,11 +1,13 @@
 //! The parser of values.
-ghost use Rattle.std.specs.Prelude.{◌≡◌, ◌+◌, IfOk, IfErr, []};
+ghost use Rattle.std.specs.Prelude.{◌≡◌, ◌≢◌, ◌+◌, IfOk, IfErr, []};
 ghost use Rattle.wave_wasm.specs.Types.{IsOwn};
+ghost use Rattle.wave_lex.specs.declared.error.ParserErrorKind.TheVariants as kind;
 ghost use Rattle.wave_lex.specs.Errors.{LiesInText};
 ghost use Rattle.wave_lex.specs.Labels.{Good};
 ghost use Rattle.wave_grammar.specs.PrefixAutomaton as due;
 ghost use Rattle.wave_grammar.specs.SyntaxErrors.{Gives};
-ghost use Rattle.wave_tree.specs.ParserState.{Parsing, IsLimit, asked, Asks, first_at, front_of, limited, Finishes, StaysWithout};
+ghost use Rattle.wave_plan.specs.PlainReading.{IsPlain};
+ghost use Rattle.wave_tree.specs.ParserState.{BeginsRow, HoldsNoBrace, Parsing, IsLimit, asked, Asks, first_at, front_of, limited, Finishes, StaysWithout};
 ghost use Rattle.wave_tree.specs.Untyped.{IsUntypedTaken};
 ghost use Rattle.wave_tree.specs.FromStr.{IsValueTaken, RefusesValue, IsCausedBetween, PrintsWithinTwice};
 
@@ -16,6 +18,7 @@ use std::alloc::Global;
 use std::marker::Model;
 pub use wave_lex::error::{ParserError, ParserErrorKind};
 use wave_lex::lex::Lexer;
+use wave_plan::plain::is_plain;
 use wave_wasm::wasm::WasmValue;
 
 /// How many levels a value may have for a parser that was handed no limit.
@@ -102,7 +105,8 @@ impl<'source> Parser<'source> {
     /// the type gives what was read no value, which is refused at the node that has the fault; all
     /// other refusals are those of `parse_raw_value`. Where the type's names are distinct labels and
     /// its tree is one that `Type` has, the value's canonical text has at most twice as many levels
-    /// as the limit.
+    /// as the limit. At bool, whole-number types and char a tuple or a list is refused without
+    /// memory where no `{` stands from its first mark on.
     pub fn parse_value<V: WasmValue>(
         &mut self,
         alloc: Global,
@@ -115,14 +119,14 @@ impl<'source> Parser<'source> {
         ensures memory { IfErr result (λ e. StaysWithout e self.old.place self.new.place) }
         ensures twice { let T = V.Type.tree ty.now in
             Good T → IsOwn T → IfOk result (λ v. PrintsWithinTwice T self.old.limit (V.tree v)) }
+        ensures spares { IsPlain (V.Type.tree ty.now) → BeginsRow self.old.place → HoldsNoBrace self.old.place → IfErr result (λ e. e.kind ≢ kind.OutOfMemory) }
         ensures asks { Asks self.old self.new }
         ensures keeps { self.new.limit ≡ self.old.limit }
     {
-        let (node, start) = self.tokens.parse_whole(alloc, self.limit)?;
-        match node.to_wasm_value(alloc, ty, start.source()) {
-            Ok(value) => Ok(value),
-            Err(error) => Err(self.tokens.refuse(error, start)),
+        if is_plain(ty) {
+            return self.tokens.parse_plain(alloc, ty, self.limit);
         }
+        self.tokens.parse_typed(alloc, ty, self.limit)
     }
 
     /// Whether only a gap is left. The parser stays where it is; what stands next is refused as

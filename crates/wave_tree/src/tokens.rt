@@ -14,12 +14,14 @@ ghost use Rattle.wave_lex.specs.Tokenization.{span};
 ghost use Rattle.wave_tree.specs.UntypedCall.{AreParamsTaken, RefusesTuple};
 ghost use Rattle.wave_grammar.specs.Private.TokenRoles.{form_of, IsClose};
 ghost use Rattle.wave_plan.specs.FlagParts.{AreFlagsOf, flag_nodes};
-ghost use Rattle.wave_plan.specs.NodeParts.{IsOfParts};
+ghost use Rattle.wave_plan.specs.PlainReading.{IsPlain};
+ghost use Rattle.wave_plan.specs.NodeParts.{IsOfParts, IsOneToken, TakesKey, TakesPart};
 ghost use Rattle.wave_node.specs.NodeTree.{NodeTree, node, no_nodes, node_trees};
 ghost use Rattle.wave_node.specs.declared.ast.NodeType.TheVariants as node_type;
 ghost use Rattle.wave_tree.specs.ParsedNodes.{IsNodeTaken, IsParsed, IsSound, IsBuilt};
-ghost use Rattle.wave_tree.specs.Private.ParsedNodes.{IsParsedBehind, IsMaybe, IsPayload, IsOfItems, IsOfEntries, IsOfFlags, label_children};
-ghost use Rattle.wave_tree.specs.ParserState.{Finishes, StaysWithout};
+ghost use Rattle.wave_tree.specs.Private.ParsedNodes.{IsParsedBehind, IsOfPayload, IsMaybe, IsPayload, IsOfItems, IsOfEntries, IsOfFlags, label_children};
+ghost use Rattle.wave_tree.specs.FromStr.{IsValueTaken, RefusesValue, IsCausedBetween};
+ghost use Rattle.wave_tree.specs.ParserState.{BeginsRow, HoldsNoBrace, Finishes, StaysWithout};
 ghost use Rattle.wave_tree.specs.Private.ParserState.{Stream, stream_of, asked_of, AsksFor, WantsOnly, ahead_count, IsAhead, Advances, Expects};
 ghost use Rattle.wave_lex.specs.Errors.{LiesInText};
 ghost use Rattle.wave_tree.specs.ParserLaws.{LiesInSource};
@@ -27,6 +29,7 @@ ghost use Rattle.wave_tree.specs.ParserLaws.{LiesInSource};
 use crate::ahead::Ahead;
 use crate::ast::{Node, NodeType};
 use crate::parser::DEFAULT_LEVELS;
+use crate::refusal::Refusal;
 use crate::role::{LabelRole, key_type, role_of};
 use std::alloc::Global;
 use std::collections::BTreeMap;
@@ -36,7 +39,10 @@ use wave_lex::asked::Asked;
 use wave_lex::error::{ParserError, ParserErrorKind};
 use wave_lex::lex::{Lexer, Span, Token};
 use wave_plan::nodes::Nodes;
+use wave_plan::plain::Plain;
 use wave_plan::plan::Plan;
+use wave_read::values::Values;
+use wave_wasm::wasm::{WasmType, WasmValue};
 
 /// Whether the item is a token of this class.
 fn is_token(item: &Option<Result<Token, Span>>, class: Token) -> bool
@@ -170,19 +176,19 @@ impl<'source> Tokens<'source> {
     }
 
     /// Takes the next token.
-    fn advance(&mut self) -> Result<Token, ParserError>
+    fn advance(&mut self) -> Result<Token, Refusal>
         ensures takes { Advances result self.old.place self.new.place }
         ensures asks { asked_of self.new ≡ self.old.place.taken + 1 }
     {
         match self.take() {
             Some(Ok(token)) => Ok(token),
-            Some(Err(span)) => Err(ParserError::new(ParserErrorKind::InvalidToken, span)),
-            None => Err(ParserError::new(ParserErrorKind::UnexpectedEnd, self.span())),
+            Some(Err(span)) => Err(Refusal::new(ParserErrorKind::InvalidToken, span)),
+            None => Err(Refusal::new(ParserErrorKind::UnexpectedEnd, self.span())),
         }
     }
 
     /// Takes the next token, which has to be of this class.
-    fn expect(&mut self, class: Token) -> Result<(), ParserError>
+    fn expect(&mut self, class: Token) -> Result<(), Refusal>
         ensures takes { Expects class result self.old.place self.new.place }
         ensures asks { asked_of self.new ≡ self.old.place.taken + 1 }
     {
@@ -195,35 +201,32 @@ impl<'source> Tokens<'source> {
     }
 
     /// The refusal of the token of this class, which was taken last.
-    fn unexpected(&self, token: Token) -> ParserError
+    fn unexpected(&self, token: Token) -> Refusal
         ensures { Says result kind.UnexpectedToken (span_at self.now.place) (Some (class_name token)) }
     {
-        ParserError::with_static(ParserErrorKind::UnexpectedToken, self.span(), token.name())
+        Refusal::with_class(ParserErrorKind::UnexpectedToken, self.span(), token)
     }
 
     /// The refusal of the label of this name, which was taken last.
-    fn repeated(&self, alloc: Global, name: &str) -> ParserError
+    fn repeated(&self, alloc: Global, name: &str) -> Refusal
         ensures { let detail = Some (repeated_name name.now) in
             result.kind ≢ kind.OutOfMemory → Says result kind.DuplicateFlag (span_at self.now.place) detail }
     {
         match format!(in alloc; "\"{name}\"") {
-            Ok(detail) => ParserError::with_detail(
-                ParserErrorKind::DuplicateFlag,
-                self.span(),
-                detail,
-            ),
+            Ok(words) => Refusal::with_words(ParserErrorKind::DuplicateFlag, self.span(), words),
             Err(_) => self.out_of_memory(),
         }
     }
 
-    fn out_of_memory(&self) -> ParserError
+    fn out_of_memory(&self) -> Refusal
         ensures { Says result kind.OutOfMemory (span_at self.now.place) None }
     {
-        ParserError::new(ParserErrorKind::OutOfMemory, self.span())
+        Refusal::new(ParserErrorKind::OutOfMemory, self.span())
     }
 
     /// What is made of the last token.
     fn leaf<P: Plan>(&self, alloc: Global, plan: P, ty: NodeType) -> P::Made
+        requires { IsOneToken ty }
         ensures { P.is_made plan self.now.place.lexer.source (node ty (span_at self.now.place) no_nodes) result }
     {
         plan.leaf(alloc, ty, self.span(), self.slice())
@@ -244,40 +247,40 @@ impl<'source> Tokens<'source> {
         plan.whole(alloc, ty, start..self.span().end, parts)
     }
 
-    /// The parts, with the last token behind them: a key, or the label of a case.
+    /// Adds the last token to the parts: a key, or the label of a case.
     fn with_key<P: Plan>(
         &self,
         alloc: Global,
         plan: P,
-        parts: P::Parts,
+        parts: &mut P::Parts,
         ty: NodeType,
-    ) -> Result<P::Parts, ParserError>
+    ) -> Result<(), Refusal>
         ensures kept { let source = self.now.place.lexer.source in
             let key = node ty (span_at self.now.place) no_nodes in
-            IfOk result (λ new. (of : NodeType) (children : List NodeTree) → P.are_parts plan source of children parts → P.are_parts plan source of (children ++ key ∷ []) new) }
+            IfOk result (λ _. (of : NodeType) (children : List NodeTree) → TakesKey of children → P.are_parts plan source of children parts.old → P.are_parts plan source of (children ++ key ∷ []) parts.new) }
         ensures memory { IfErr result (λ e. e.kind ≡ kind.OutOfMemory) }
         ensures takes { IfErr result (λ _. P.takes_memory) }
     {
         match plan.with_key(alloc, parts, ty, self.span(), self.slice()) {
-            Ok(parts) => Ok(parts),
+            Ok(()) => Ok(()),
             Err(_) => Err(self.out_of_memory()),
         }
     }
 
-    /// The parts, with the next one behind them.
+    /// Adds the next part.
     fn with_part<P: Plan>(
         &self,
         alloc: Global,
         plan: P,
-        parts: P::Parts,
+        parts: &mut P::Parts,
         made: P::Made,
-    ) -> Result<P::Parts, ParserError>
-        ensures kept { IfOk result (λ new. (source : List ℕ) (of : NodeType) (children : List NodeTree) (n : NodeTree) → P.are_parts plan source of children parts → P.is_made (P.next plan parts) source n made → P.are_parts plan source of (children ++ n ∷ []) new) }
+    ) -> Result<(), Refusal>
+        ensures kept { IfOk result (λ _. (source : List ℕ) (of : NodeType) (children : List NodeTree) (n : NodeTree) → TakesPart of children → P.are_parts plan source of children parts.old → P.is_made (P.next plan parts.old) source n made → P.are_parts plan source of (children ++ n ∷ []) parts.new) }
         ensures memory { IfErr result (λ e. e.kind ≡ kind.OutOfMemory) }
         ensures takes { IfErr result (λ _. P.takes_memory) }
     {
         match plan.with_part(alloc, parts, made) {
-            Ok(parts) => Ok(parts),
+            Ok(()) => Ok(()),
             Err(_) => Err(self.out_of_memory()),
         }
     }
@@ -297,9 +300,10 @@ impl<'source> Tokens<'source> {
 
     /// The refusal of what was read from `start` on: for want of memory the tokens go back to
     /// there, and the refusal stands there; any other error stays, and so does the place.
-    pub(crate) fn refuse(&mut self, error: ParserError, start: Start<'source>) -> ParserError
+    fn refuse(&mut self, error: ParserError, start: Start<'source>) -> ParserError
         ensures other { result.kind ≢ kind.OutOfMemory → (result ≡ error) × (self.new ≡ self.old) }
         ensures memory { result.kind ≡ kind.OutOfMemory → (self.new.place.lexer ≡ start.entry) × Says result kind.OutOfMemory (span start.entry.start start.entry.end) None }
+        ensures kind { result.kind ≡ error.kind }
         ensures within { (error.kind ≢ kind.OutOfMemory → LiesInText start.entry.source error.span) → LiesInText start.entry.source result.span }
         ensures asks { asked_of self.new ≡ asked_of self.old }
     {
@@ -321,14 +325,62 @@ impl<'source> Tokens<'source> {
         ensures tree { IfOk result (λ read. IsNodeTaken levels self.old.place self.new.place read.0) }
         ensures start { IfOk result (λ read. read.1 ≡ self.old.place.lexer) }
         ensures within { IfErr result (λ e. LiesInText self.old.place.lexer.source e.span) }
-        ensures uncaused { IfErr result (λ e. e.kind ≢ kind.WasmValueError) }
         ensures memory { IfErr result (λ e. StaysWithout e self.old.place self.new.place) }
         ensures asks { AsksFor self.old self.new }
     {
         let start = self.start_here();
         match self.parse_node(alloc, Nodes, levels) {
             Ok(node) => Ok((node, start)),
-            Err(error) => Err(self.refuse(error, start)),
+            Err(refusal) => Err(self.refuse(refusal.into_error(), start)),
+        }
+    }
+
+    /// Reads a value of the type, which is bool, a whole-number type or char, of at most so many
+    /// levels.
+    pub(crate) fn parse_plain<V: WasmValue>(
+        &mut self,
+        alloc: Global,
+        ty: &V::Type,
+        levels: u32,
+    ) -> Result<V, ParserError>
+        requires { IsPlain (V.Type.tree ty.now) }
+        ensures value { IfOk result (IsValueTaken V.tree V.is_of (V.Type.tree ty.now) levels self.old.place self.new.place) }
+        ensures refused { IfErr result (λ e. RefusesValue V.is_full (V.Type.tree ty.now) levels e self.old.place self.new.place) }
+        ensures within { IfErr result (λ e. LiesInText self.old.place.lexer.source e.span) }
+        ensures caused { IfErr result (IsCausedBetween levels self.old.place self.new.place) }
+        ensures memory { IfErr result (λ e. StaysWithout e self.old.place self.new.place) }
+        ensures spares { BeginsRow self.old.place → HoldsNoBrace self.old.place → IfErr result (λ e. e.kind ≢ kind.OutOfMemory) }
+        ensures asks { AsksFor self.old self.new }
+    {
+        let start = self.start_here();
+        let plan: Plain<V> = Plain::new(ty.kind());
+        match self.parse_node(alloc, plan, levels) {
+            Ok(Ok(value)) => Ok(value),
+            Ok(Err(error)) => Err(self.refuse(error, start)),
+            Err(refusal) => Err(self.refuse(refusal.into_error(), start)),
+        }
+    }
+
+    /// Reads a value of the type, of at most so many levels.
+    pub(crate) fn parse_typed<V: WasmValue>(
+        &mut self,
+        alloc: Global,
+        ty: &V::Type,
+        levels: u32,
+    ) -> Result<V, ParserError>
+        ensures value { IfOk result (IsValueTaken V.tree V.is_of (V.Type.tree ty.now) levels self.old.place self.new.place) }
+        ensures refused { IfErr result (λ e. RefusesValue V.is_full (V.Type.tree ty.now) levels e self.old.place self.new.place) }
+        ensures within { IfErr result (λ e. LiesInText self.old.place.lexer.source e.span) }
+        ensures caused { IfErr result (IsCausedBetween levels self.old.place self.new.place) }
+        ensures memory { IfErr result (λ e. StaysWithout e self.old.place self.new.place) }
+        ensures asks { AsksFor self.old self.new }
+    {
+        let start = self.start_here();
+        let plan: Values<V> = Values::new(ty);
+        match self.parse_node(alloc, plan, levels) {
+            Ok(Ok(value)) => Ok(value),
+            Ok(Err(error)) => Err(self.refuse(error, start)),
+            Err(refusal) => Err(self.refuse(refusal.into_error(), start)),
         }
     }
 
@@ -355,14 +407,18 @@ impl<'source> Tokens<'source> {
         ensures within { IfErr result (λ e. LiesInText self.old.place.lexer.source e.span) }
     {
         let start = self.start_here();
-        self.expect(Token::ParenOpen)?;
+        if let Err(refusal) = self.expect(Token::ParenOpen) {
+            return Err(refusal.into_error());
+        }
         if self.next_is(Token::ParenClose) {
-            self.expect(Token::ParenClose)?;
-            return Ok(None);
+            return match self.expect(Token::ParenClose) {
+                Ok(()) => Ok(None),
+                Err(refusal) => Err(refusal.into_error()),
+            };
         }
         match self.parse_items(alloc, Nodes, DEFAULT_LEVELS, Token::ParenClose) {
             Ok(tuple) => Ok(Some(tuple)),
-            Err(error) => Err(self.refuse(error, start)),
+            Err(refusal) => Err(self.refuse(refusal.into_error(), start)),
         }
     }
 
@@ -373,14 +429,14 @@ impl<'source> Tokens<'source> {
         alloc: Global,
         plan: P,
         levels: u32,
-    ) -> Result<P::Made, ParserError>
+    ) -> Result<P::Made, Refusal>
         ensures led { GivesWithin result levels due.value [] self.old.place self.new.place }
         ensures tree { IfOk result (IsBuilt (P.is_made plan) self.old.place (IsParsed levels self.old.place self.new.place)) }
         ensures memory { IfErr result (WantsOnly P.takes_memory self.old.place) }
         ensures asks { AsksFor self.old self.new }
     {
         if levels == 0 {
-            return Err(ParserError::new(ParserErrorKind::NestingTooDeep, self.span()));
+            return Err(Refusal::new(ParserErrorKind::NestingTooDeep, self.span()));
         }
         let token = self.advance()?;
         match token {
@@ -403,7 +459,7 @@ impl<'source> Tokens<'source> {
         alloc: Global,
         plan: P,
         levels: u32,
-    ) -> Result<P::Made, ParserError>
+    ) -> Result<P::Made, Refusal>
         ensures led { let d = due_behind (word_of (text_at self.old.place)) in
             GivesWithin result (levels + 1) d [] self.old.place self.new.place }
         ensures tree { IfOk result (IsBuilt (P.is_made plan) self.old.place (IsParsedBehind lex_class.LabelOrKeyword (levels + 1) self.old.place self.new.place)) }
@@ -454,9 +510,10 @@ impl<'source> Tokens<'source> {
         levels: u32,
         alone: NodeType,
         with: NodeType,
-    ) -> Result<P::Made, ParserError>
+    ) -> Result<P::Made, Refusal>
+        requires { IsOneToken alone × IsOfPayload with }
         ensures led { GivesWithin result (levels + 1) due.behind_label [] self.old.place self.new.place }
-        ensures tree { IfOk result (λ made. IsOfParts with → IsBuilt (P.is_made plan) self.old.place (IsMaybe levels alone with self.old.place self.new.place) made) }
+        ensures tree { IfOk result (IsBuilt (P.is_made plan) self.old.place (IsMaybe levels alone with self.old.place self.new.place)) }
         ensures memory { IfErr result (WantsOnly P.takes_memory self.old.place) }
         ensures asks { AsksFor self.old self.new }
     {
@@ -476,15 +533,15 @@ impl<'source> Tokens<'source> {
         alloc: Global,
         plan: P,
         ty: NodeType,
-    ) -> Result<P::Parts, ParserError>
+    ) -> Result<P::Parts, Refusal>
         ensures made { let source = self.now.place.lexer.source in
             IfOk result (λ made. IsOfParts ty → P.are_parts plan source ty (label_children ty (span_at self.now.place)) made) }
         ensures memory { IfErr result (λ e. e.kind ≡ kind.OutOfMemory) }
         ensures takes { IfErr result (λ _. P.takes_memory) }
     {
-        let parts = plan.parts(alloc, ty);
+        let mut parts = plan.parts(alloc, ty);
         if let NodeType::VariantWithPayload = ty {
-            return self.with_key(alloc, plan, parts, NodeType::Label);
+            self.with_key(alloc, plan, &mut parts, NodeType::Label)?;
         }
         Ok(parts)
     }
@@ -499,17 +556,18 @@ impl<'source> Tokens<'source> {
         ty: NodeType,
         start: usize,
         parts: P::Parts,
-    ) -> Result<P::Made, ParserError>
+    ) -> Result<P::Made, Refusal>
         ensures led { GivesWithin result (levels + 1) due.value (due.payload ∷ []) self.old.place self.new.place }
-        ensures tree { IfOk result (λ made. (front : List NodeTree) → P.are_parts plan self.old.place.lexer.source ty front parts
+        ensures tree { IfOk result (λ made. (front : List NodeTree) → TakesPart ty front → P.are_parts plan self.old.place.lexer.source ty front parts
             → IsBuilt (P.is_made plan) self.old.place (IsPayload levels ty start front self.old.place self.new.place) made) }
         ensures memory { IfErr result (WantsOnly P.takes_memory self.old.place) }
         ensures asks { AsksFor self.old self.new }
     {
+        let mut parts = parts;
         let part = plan.part(&parts);
         let payload = self.parse_node(alloc, part, levels)?;
         self.expect(Token::ParenClose)?;
-        let parts = self.with_part(alloc, plan, parts, payload)?;
+        self.with_part(alloc, plan, &mut parts, payload)?;
         Ok(self.whole(alloc, plan, ty, start, parts))
     }
 
@@ -521,7 +579,7 @@ impl<'source> Tokens<'source> {
         plan: P,
         levels: u32,
         close: Token,
-    ) -> Result<P::Made, ParserError>
+    ) -> Result<P::Made, Refusal>
         requires { IsClose close }
         ensures led { GivesWithin result (levels + 1) due.first_item (form_of close ∷ []) self.old.place self.new.place }
         ensures tree { IfOk result (IsBuilt (P.is_made plan) self.old.place (IsOfItems levels close self.old.place self.new.place)) }
@@ -532,7 +590,7 @@ impl<'source> Tokens<'source> {
         if self.next_is(close) {
             self.expect(close)?;
             if close == Token::ParenClose {
-                return Err(ParserError::new(ParserErrorKind::EmptyTuple, start..self.span().end));
+                return Err(Refusal::new(ParserErrorKind::EmptyTuple, start..self.span().end));
             }
             let none = plan.parts(alloc, NodeType::List);
             return Ok(self.whole(alloc, plan, NodeType::List, start, none));
@@ -546,7 +604,7 @@ impl<'source> Tokens<'source> {
         'items: loop {
             let part = plan.part(&parts);
             let item = self.parse_node(alloc, part, levels)?;
-            parts = self.with_part(alloc, plan, parts, item)?;
+            self.with_part(alloc, plan, &mut parts, item)?;
             let token = self.advance()?;
             if token == close {
                 return Ok(self.whole(alloc, plan, ty, start, parts));
@@ -568,7 +626,7 @@ impl<'source> Tokens<'source> {
         alloc: Global,
         plan: P,
         levels: u32,
-    ) -> Result<P::Made, ParserError>
+    ) -> Result<P::Made, Refusal>
         ensures led { GivesWithin result (levels + 1) due.in_braces [] self.old.place self.new.place }
         ensures tree { IfOk result (IsBuilt (P.is_made plan) self.old.place (IsParsedBehind lex_class.BraceOpen (levels + 1) self.old.place self.new.place)) }
         ensures asks { AsksFor self.old self.new }
@@ -601,19 +659,15 @@ impl<'source> Tokens<'source> {
     }
 
     /// The first part of entries: their first key, which was taken last.
-    fn first_key<P: Plan>(
-        &self,
-        alloc: Global,
-        plan: P,
-        ty: NodeType,
-    ) -> Result<P::Parts, ParserError>
+    fn first_key<P: Plan>(&self, alloc: Global, plan: P, ty: NodeType) -> Result<P::Parts, Refusal>
         ensures made { let source = self.now.place.lexer.source in
             IfOk result (P.are_parts plan source node_type.TupleSet (node ty (span_at self.now.place) no_nodes ∷ [])) }
         ensures memory { IfErr result (λ e. e.kind ≡ kind.OutOfMemory) }
         ensures takes { IfErr result (λ _. P.takes_memory) }
     {
-        let none = plan.parts(alloc, NodeType::TupleSet);
-        self.with_key(alloc, plan, none, ty)
+        let mut parts = plan.parts(alloc, NodeType::TupleSet);
+        self.with_key(alloc, plan, &mut parts, ty)?;
+        Ok(parts)
     }
 
     /// Reads the value behind the first key, the further entries and the close.
@@ -625,7 +679,7 @@ impl<'source> Tokens<'source> {
         levels: u32,
         start: usize,
         key: P::Parts,
-    ) -> Result<P::Made, ParserError>
+    ) -> Result<P::Made, Refusal>
         ensures led { GivesWithin result (levels + 1) due.value (due.entries ∷ []) self.old.place self.new.place }
         ensures tree { IfOk result (λ made. (first : NodeTree) → P.are_parts plan self.old.place.lexer.source node_type.TupleSet (first ∷ []) key
             → IsBuilt (P.is_made plan) self.old.place (IsOfEntries levels start first self.old.place self.new.place) made) }
@@ -635,7 +689,7 @@ impl<'source> Tokens<'source> {
         'entries: loop {
             let part = plan.part(&parts);
             let value = self.parse_node(alloc, part, levels)?;
-            parts = self.with_part(alloc, plan, parts, value)?;
+            self.with_part(alloc, plan, &mut parts, value)?;
             let token = self.advance()?;
             if token == Token::BraceClose {
                 return Ok(self.whole(alloc, plan, NodeType::TupleSet, start, parts));
@@ -650,7 +704,7 @@ impl<'source> Tokens<'source> {
             let Some(ty) = key_type(next) else {
                 return Err(self.unexpected(next));
             };
-            parts = self.with_key(alloc, plan, parts, ty)?;
+            self.with_key(alloc, plan, &mut parts, ty)?;
             self.expect(Token::Colon)?;
         }
     }
@@ -661,7 +715,7 @@ impl<'source> Tokens<'source> {
         alloc: Global,
         plan: P,
         start: usize,
-    ) -> Result<P::Made, ParserError>
+    ) -> Result<P::Made, Refusal>
         requires { (next : Place) → TakesItem self.old.place (Some (Ok lex_class.Colon)) next → ⊥ }
         ensures led { GivesAnywhere result (due.behind_word (text_at self.old.place)) self.old.place self.new.place }
         ensures tree { IfOk result (IsBuilt (P.is_made plan) self.old.place (IsOfFlags start self.old.place self.new.place)) }
@@ -703,7 +757,7 @@ impl<'source> Tokens<'source> {
         plan: P,
         start: usize,
         flags: BTreeMap<&'source str, Span>,
-    ) -> Result<P::Made, ParserError>
+    ) -> Result<P::Made, Refusal>
         ensures made { let source = self.now.place.lexer.source in
             IfOk result (λ made. AreFlagsOf source flags.entry → P.is_made plan source (node node_type.Flags (span start self.now.place.lexer.end) (flag_nodes flags.entry)) made) }
         ensures memory { IfErr result (λ e. e.kind ≡ kind.OutOfMemory) }

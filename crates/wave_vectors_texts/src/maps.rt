@@ -17,6 +17,10 @@ fn keys_of_strings(rt: HostRuntime) -> Result<(), Fail> {
                     "{\"a\": 3, \"b\": 2}",
                 ),
                 ("{\"a\": \"x\", \"a\": 1}", "invalid value type at 6..9"),
+                (
+                    "{1: \"x\", \"a\": [}",
+                    "unexpected token: BraceClose at 15..16",
+                ),
                 ("{\"a\": 1, \"b\": 2, \"a\": 3}", "{\"a\": 3, \"b\": 2}"),
                 ("{a, \"b\": 1}", "unexpected token: String at 4..7"),
                 ("{\"\"\"\na\n\"\"\": 1}", "{\"a\": 1}"),

@@ -26,6 +26,8 @@ fn lists_and_tuples(rt: HostRuntime) -> Result<(), Fail> {
                     ("[300, \"a\"", "unexpected end of input at 9..9"),
                     ("[300] x", "invalid value at 1..4"),
                     ("[[1], (2)]", "invalid value type at 1..4"),
+                    ("[true, 1 2]", "unexpected token: Number at 9..10"),
+                    ("[{x: 1}, {a, a}]", "duplicate flag: \"a\" at 13..14"),
                 ][..],
             ),
             ("tuple<u8, string>", &[("(1, \"a\",)", "(1, \"a\")")][..]),
@@ -44,7 +46,14 @@ fn lists_and_tuples(rt: HostRuntime) -> Result<(), Fail> {
             ),
             (
                 "tuple<u8, u8>",
-                &[("(300, {a, a})", "duplicate flag: \"a\" at 10..11")][..],
+                &[
+                    ("(300, {a, a})", "duplicate flag: \"a\" at 10..11"),
+                    (
+                        "(1, 2, 3)",
+                        "error converting Wasm value: expected 2 tuple elements; got 3 at 0..9",
+                    ),
+                    ("(1, [2], 3)", "invalid value type at 4..7"),
+                ][..],
             ),
         ],
     )?;

@@ -20,7 +20,16 @@ fn fields(rt: HostRuntime) -> Result<(), Fail> {
             ),
             (
                 "record { a: u8 }",
-                &[("{a: 1, %a: 2}", "duplicate field: \"a\" at 7..9")][..],
+                &[
+                    ("{a: 1, %a: 2}", "duplicate field: \"a\" at 7..9"),
+                    ("{x: [)}", "unexpected token: ParenClose at 5..6"),
+                    (
+                        "{a: true, x: (1, ]}",
+                        "unexpected token: BracketClose at 17..18",
+                    ),
+                    ("{x: {b, b}, a: 1}", "duplicate flag: \"b\" at 8..9"),
+                    ("{x: 1}", "invalid value at 0..6"),
+                ][..],
             ),
             ("record { true: u32 }", &[("{true: 1}", "{true: 1}")][..]),
             (

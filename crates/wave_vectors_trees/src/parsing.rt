@@ -124,6 +124,19 @@ fn one_value_after_the_other(rt: HostRuntime) -> Result<(), Fail> {
                 ][..],
             ),
             (
+                "{x: [1, {b}], a: 1} (1, 2, 3) [[1], some((2, 3))] 4",
+                &[
+                    ("record { a: u8 }", "invalid value at 0..19"),
+                    (
+                        "tuple<u8, u8>",
+                        "error converting Wasm value: expected 2 tuple elements; got 3 at 20..29",
+                    ),
+                    ("list<u8>", "invalid value type at 31..34"),
+                    ("u8", "4"),
+                    ("finish", "done"),
+                ][..],
+            ),
+            (
                 BRACKETS,
                 &[
                     ("u8", "value nesting too deep at 99..100"),

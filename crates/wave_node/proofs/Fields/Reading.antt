@@ -315,7 +315,8 @@ unknown_blame Full T parts source n t names old m fs e is node given held same h
     inr (inl (subst (λ (U : TypeTree). Fault U t (refusal_of e) e.span) (sym is.is) (within_record is.fields t (entry_list inner.given) (refusal_of e) e.span inner.taken (inr (inl unknown)))))
 
 module _ {V : Type 0} (tree : V → Value) (of : V → TypeTree → Type 0) (Full : TypeTree → Type 0) where
-  some_blamed : (E : TypeTree) (name : List ℕ) (es : List PlacedEntry) (e : Diagnostic) → SomeOf (λ x. IsFor name x × IsBlamed Full E x.value e) es → (e.kind ≡ error.OutOfMemory) ⊎ SomeOf (λ x. IsFor name x × Fault E x.value (refusal_of e) e.span) es ⊎ (e.kind ≡ error.WasmValueError) × (Full E → ⊥)
+  -- a refusal of an entry of the name is want of memory, a fault or that of a maker
+  pub some_blamed : (E : TypeTree) (name : List ℕ) (es : List PlacedEntry) (e : Diagnostic) → SomeOf (λ x. IsFor name x × IsBlamed Full E x.value e) es → (e.kind ≡ error.OutOfMemory) ⊎ SomeOf (λ x. IsFor name x × Fault E x.value (refusal_of e) e.span) es ⊎ (e.kind ≡ error.WasmValueError) × (Full E → ⊥)
   some_blamed E name [] e h = absurd h
   some_blamed E name (x ∷ es) e (inl (is, inl memory)) = inl memory
   some_blamed E name (x ∷ es) e (inl (is, inr (inl fault))) = inr (inl (inl (is, fault)))
@@ -331,7 +332,8 @@ module _ {V : Type 0} (tree : V → Value) (of : V → TypeTree → Type 0) (Ful
   full_at T parts i name E is typed parts_full full =
       all_has Full (map (λ f. f.1) (type.field_list is.fields)) i E (parts_full (type.record_type is.fields) (subst Full is.is full)) (map_has (λ f. f.1) (type.field_list is.fields) i (name, E) (subst (λ (l : List (List ℕ × TypeTree)). HasAt l i (name, E)) is.parts_are typed))
 
-  blamed_so : (T E : TypeTree) (parts : List (List ℕ × TypeTree)) (t : Placed) (es : List PlacedEntry) (i : ℕ) (name : List ℕ) (e : Diagnostic) → RecordType T parts → record_in (shape_of t) ≡ Some es → HasAt parts i (name, E) → HasFullParts Full → (e.kind ≡ error.OutOfMemory) ⊎ SomeOf (λ x. IsFor name x × Fault E x.value (refusal_of e) e.span) es ⊎ (e.kind ≡ error.WasmValueError) × (Full E → ⊥) → IsBlamed Full T t e
+  -- so it is one of the record
+  pub blamed_so : (T E : TypeTree) (parts : List (List ℕ × TypeTree)) (t : Placed) (es : List PlacedEntry) (i : ℕ) (name : List ℕ) (e : Diagnostic) → RecordType T parts → record_in (shape_of t) ≡ Some es → HasAt parts i (name, E) → HasFullParts Full → (e.kind ≡ error.OutOfMemory) ⊎ SomeOf (λ x. IsFor name x × Fault E x.value (refusal_of e) e.span) es ⊎ (e.kind ≡ error.WasmValueError) × (Full E → ⊥) → IsBlamed Full T t e
   blamed_so T E parts t es i name e is taken typed full (inl memory) = inl memory
   blamed_so T E parts t es i name e is taken typed full (inr (inl fault)) =
       inr (inl (subst (λ (U : TypeTree). Fault U t (refusal_of e) e.span) (sym is.is) (within_record is.fields t es (refusal_of e) e.span taken (inr (inr (inr (inr (fault_at is.fields i name E es (refusal_of e) e.span (subst (λ (l : List (List ℕ × TypeTree)). HasAt l i (name, E)) is.parts_are typed) fault))))))))
@@ -518,7 +520,8 @@ module _ {V : Type 0} (tree : V → Value) (of : V → TypeTree → Type 0) (Ful
   tree_shape t es (inl h) = inl (tree_is t no_fields h.0, ap (λ (x : PlacedEntries). entry_trees (entry_list x)) h.1)
   tree_shape t es (inr h) = inr (tree_is t (entries es) h.0 ∙ ap form.entries (trees_of_entries es), some_trees (entry_list es) h.1)
 
-  record_reads : (T : TypeTree) (fs : Fields) (source : List ℕ) (n : NodeTree) (t : Placed) (given : List (List ℕ × NodeTree)) (hs : List (Bor (List ℕ) × V)) (inner : RecordNodes source n t) (m : Result V WasmValueError) → T ≡ type.record_type fs → HasDistinctNames T → AreFieldsOf source given (entry_list inner.given) → AreDistinct (names_of given) → ((name : List ℕ) → IsOneOf (names_of given) name → IsOneOf (names_of (type.field_list fs)) name) → AreDistinct (names_of (type.field_list fs)) → FieldsRead (type.field_list fs) (entry_list inner.given) hs → IfOk m (MakesRecord tree of T hs) → IfOk m (IsTypedValue tree of T t)
+  -- the type gives the record its value
+  pub record_reads : (T : TypeTree) (fs : Fields) (source : List ℕ) (n : NodeTree) (t : Placed) (given : List (List ℕ × NodeTree)) (hs : List (Bor (List ℕ) × V)) (inner : RecordNodes source n t) (m : Result V WasmValueError) → T ≡ type.record_type fs → HasDistinctNames T → AreFieldsOf source given (entry_list inner.given) → AreDistinct (names_of given) → ((name : List ℕ) → IsOneOf (names_of given) name → IsOneOf (names_of (type.field_list fs)) name) → AreDistinct (names_of (type.field_list fs)) → FieldsRead (type.field_list fs) (entry_list inner.given) hs → IfOk m (MakesRecord tree of T hs) → IfOk m (IsTypedValue tree of T t)
   record_reads T fs source n t given hs inner (Ok v) is distinct all apart known names h makes_it =
       let es : List PlacedEntry = entry_list inner.given in
       let handed : AreDistinct (map (λ f. f.0.now) hs) = subst AreDistinct (sym (names_same (type.field_list fs) es hs h)) names in
@@ -549,7 +552,8 @@ module _ {V : Type 0} (tree : V → Value) (of : V → TypeTree → Type 0) (Ful
   fields_are_of (p ∷ ps) es [] h = absurd h
   fields_are_of (p ∷ ps) es (f ∷ hs) h = (h.0, is_of_read p.1 p.0 es f.1 h.1, fields_are_of ps es hs h.2)
 
-  record_full : (T : TypeTree) (fs : Fields) (es : List PlacedEntry) (hs : List (Bor (List ℕ) × V)) (m : Result V WasmValueError) → T ≡ type.record_type fs → AreDistinct (names_of (type.field_list fs)) → FieldsRead (type.field_list fs) es hs → IfErr m (FullRecord of Full T hs) → IfErr m (λ cause. Full T → IsMemory cause)
+  -- a maker at a full type refuses for want of memory alone
+  pub record_full : (T : TypeTree) (fs : Fields) (es : List PlacedEntry) (hs : List (Bor (List ℕ) × V)) (m : Result V WasmValueError) → T ≡ type.record_type fs → AreDistinct (names_of (type.field_list fs)) → FieldsRead (type.field_list fs) es hs → IfErr m (FullRecord of Full T hs) → IfErr m (λ cause. Full T → IsMemory cause)
   record_full T fs es hs (Ok v) is names h f = tt
   record_full T fs es hs (Err cause) is names h f = λ full. f full fs is (subst AreDistinct (sym (names_same (type.field_list fs) es hs h)) names) hs (IsPermutation-refl hs) (fields_are_of (type.field_list fs) es hs h)
 

@@ -17,6 +17,13 @@ use Rattle.wave_tree.specs.ParsedNodes.{IsParsed, TakesClass}
 abbrev pub IsParsedBehind : lex.Token → ℕ → Place → Place → NodeTree → Type 0
 IsParsedBehind c n first new parsed = (old : Place) → TakesClass c old first → IsParsed n old new parsed
 
+-- the type of a node of a label and its payload
+abbrev pub IsOfPayload : NodeType → Type 0
+IsOfPayload kind.VariantWithPayload = Unit {0}
+IsOfPayload kind.ResultOk = Unit {0}
+IsOfPayload kind.ResultErr = Unit {0}
+IsOfPayload _ = ⊥
+
 -- the children in front of a payload: the label of a case, at this place
 abbrev pub label_children : NodeType → Range ℕ → List NodeTree
 label_children kind.VariantWithPayload p = node kind.Label p no_nodes ∷ []

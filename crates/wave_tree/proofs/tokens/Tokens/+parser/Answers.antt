@@ -24,8 +24,9 @@ use Rattle.wave_tree.proofs.NodeCorrectness.Tokens.{number_parsed, char_parsed, 
 use Rattle.wave_node.proofs.Parameters.{error_handed}
 use Rattle.wave_tree.specs.Private.ParserState.{WantsOnly}
 use Rattle.wave_tree.proofs.Wanting.{wants_reached, answer_token, answer_brace, wants_other, wants_fails, wants_taken}
-use Rattle.wave_tree.proofs.Built.{built, leaf_built, whole_built, as_ok, as_given, when_given, of_front, source_item, source_parsed, source_reached}
-use Rattle.wave_plan.specs.NodeParts.{IsOfParts}
+use Rattle.wave_tree.proofs.PartsDue.{key_next, value_next, payload_due, payload_parts}
+use Rattle.wave_tree.proofs.Built.{built, leaf_built, whole_built, as_ok, of_front, of_part, source_item, source_parsed, source_reached}
+use Rattle.wave_plan.specs.NodeParts.{IsOfParts, TakesPart}
 use Rattle.wave_tree.specs.ParsedNodes.{IsBuilt, IsParsed}
 use Rattle.wave_tree.proofs.ClassTests.{is_class, is_other, differs, differs_not}
 use Rattle.wave_tree.proofs.LexerCallCount.{asks_none, asks_once, asks_token, asks_looked, asks_read, asks_reached}
@@ -135,7 +136,7 @@ parse_items-returns-then-eq-clause-led g t c = λ n s e.
     let last = ap (λ (z : Range ℕ). z.end) c.span.ensures in
     empty_there (inl tt) c.new.result c.args.close (here_is n due.first_item (form_of c.args.close ∷ s) _ _ c.next_is.ensures.stays) c.in_ok-expect.ensures.takes
     (close_empty n c.args.close s (text_at c.expect.new.self.place) (is_class _ _ c.eq.ensures c.if-eq.true))
-    (record { is = c.new.ensures.refusal; stands = c.new.ensures.span ∙ range_path first last; tells = c.new.ensures.detail })
+    (record { is = c.new.ensures.is; stands = c.new.ensures.stands ∙ range_path first last; tells = c.new.ensures.tells })
 
 pub parse_items-returns-then-next_is-clause-led : goal.parse_items-returns-then-next_is-clause-led
 parse_items-returns-then-next_is-clause-led g t c = λ n s e.
@@ -351,16 +352,16 @@ pub parse_payload-returns-clause-asks : goal.parse_payload-returns-clause-asks
 parse_payload-returns-clause-asks g t c =
     asks_value c.args.levels c.args.self.now c.parse_node.new.self c.expect.new.self c.in_ok-payload.ensures.led c.parse_node.ensures.asks (asks_once c.parse_node.new.self c.expect.new.self c.expect.ensures.asks)
 
-pub parse_payload-returns-in_err-parts-clause-asks : goal.parse_payload-returns-in_err-parts-clause-asks
-parse_payload-returns-in_err-parts-clause-asks g t c =
+pub parse_payload-returns-in_err-with_part-clause-asks : goal.parse_payload-returns-in_err-with_part-clause-asks
+parse_payload-returns-in_err-with_part-clause-asks g t c =
     asks_value c.args.levels c.args.self.now c.parse_node.new.self c.expect.new.self c.in_ok-payload.ensures.led c.parse_node.ensures.asks (asks_once c.parse_node.new.self c.expect.new.self c.expect.ensures.asks)
 
 pub parse_items-returns-in_err-item-clause-asks : goal.parse_items-returns-in_err-item-clause-asks
 parse_items-returns-in_err-item-clause-asks g t c =
     asks_items c.args.levels c.args.close c.args.self.now c.items.self c.parse_node.new.self c.items.invariant.reached c.items.invariant.asks c.parse_node.ensures.asks
 
-pub parse_items-returns-in_err-parts-clause-asks : goal.parse_items-returns-in_err-parts-clause-asks
-parse_items-returns-in_err-parts-clause-asks g t c =
+pub parse_items-returns-in_err-with_part-clause-asks : goal.parse_items-returns-in_err-with_part-clause-asks
+parse_items-returns-in_err-with_part-clause-asks g t c =
     asks_items c.args.levels c.args.close c.args.self.now c.items.self c.parse_node.new.self c.items.invariant.reached c.items.invariant.asks c.parse_node.ensures.asks
 
 pub parse_items-returns-in_err-token-clause-asks : goal.parse_items-returns-in_err-token-clause-asks
@@ -415,8 +416,8 @@ pub parse_entries-returns-in_err-value-clause-asks : goal.parse_entries-returns-
 parse_entries-returns-in_err-value-clause-asks g t c =
     asks_entries c.args.levels c.args.self.now c.entries.self c.parse_node.new.self c.entries.invariant.led c.entries.invariant.asks c.parse_node.ensures.asks
 
-pub parse_entries-returns-in_err-parts-clause-asks : goal.parse_entries-returns-in_err-parts-clause-asks
-parse_entries-returns-in_err-parts-clause-asks g t c =
+pub parse_entries-returns-in_err-with_part-clause-asks : goal.parse_entries-returns-in_err-with_part-clause-asks
+parse_entries-returns-in_err-with_part-clause-asks g t c =
     asks_entries c.args.levels c.args.self.now c.entries.self c.parse_node.new.self c.entries.invariant.led c.entries.invariant.asks c.parse_node.ensures.asks
 
 pub parse_entries-returns-in_err-token-clause-asks : goal.parse_entries-returns-in_err-token-clause-asks
@@ -447,8 +448,8 @@ pub parse_entries-returns-in_err-expect-clause-asks : goal.parse_entries-returns
 parse_entries-returns-in_err-expect-clause-asks g t c =
     asks_entries c.args.levels c.args.self.now c.entries.self c.expect.new.self c.entries.invariant.led c.entries.invariant.asks (asks_value c.args.levels c.entries.self c.parse_node.new.self c.expect.new.self c.in_ok-value.ensures.led c.parse_node.ensures.asks (asks_token c.parse_node.new.self c.advance.new.self c.expect.new.self c.in_ok-token.token c.in_ok-token.ensures.takes c.advance.ensures.asks (asks_token c.advance.new.self c.advance-in-entries.new.self c.expect.new.self c.in_ok-next.next c.in_ok-next.ensures.takes c.advance-in-entries.ensures.asks (asks_once c.advance-in-entries.new.self c.expect.new.self c.expect.ensures.asks))))
 
-pub parse_entries-returns-in_err-parts-2-clause-asks : goal.parse_entries-returns-in_err-parts-2-clause-asks
-parse_entries-returns-in_err-parts-2-clause-asks g t c =
+pub parse_entries-returns-in_err-with_key-clause-asks : goal.parse_entries-returns-in_err-with_key-clause-asks
+parse_entries-returns-in_err-with_key-clause-asks g t c =
     asks_entries c.args.levels c.args.self.now c.entries.self c.advance-in-entries.new.self c.entries.invariant.led c.entries.invariant.asks (asks_value c.args.levels c.entries.self c.parse_node.new.self c.advance-in-entries.new.self c.in_ok-value.ensures.led c.parse_node.ensures.asks (asks_token c.parse_node.new.self c.advance.new.self c.advance-in-entries.new.self c.in_ok-token.token c.in_ok-token.ensures.takes c.advance.ensures.asks (asks_once c.advance.new.self c.advance-in-entries.new.self c.advance-in-entries.ensures.asks)))
 
 pub parse_node-returns-in-Number-clause-tree : goal.parse_node-returns-in-Number-clause-tree
@@ -505,25 +506,25 @@ pub parse_label-returns-in_ok-expect-in-Some-clause-tree : goal.parse_label-retu
 parse_label-returns-in_ok-expect-in-Some-clause-tree g t c =
     built (g.P.Plan.is_made c.args.plan) c.args.self.now.place c.expect.new.self.place (IsPayload c.args.levels kind_of_node.OptionSome c.span-start.result.start [] c.expect.new.self.place c.parse_payload.new.self.place) (IsParsedBehind LabelOrKeyword (c.args.levels + 1) c.args.self.now.place c.parse_payload.new.self.place) c.parse_payload.result (source_item c.args.self.now.place c.expect.new.self.place ParenOpen c.in_ok-expect-in-Some.ensures.takes)
     (λ n. some_tied c.args.levels c.args.self.now.place c.expect.new.self.place c.parse_payload.new.self.place c.span-start.result.start [] (as_ok n) (word_here c.slice.ensures c.role_of.ensures.word c.in-Some.is) (ap (λ (z : Range ℕ). z.start) c.span-start.ensures) refl c.in_ok-expect-in-Some.ensures.takes)
-    (of_front (λ front. g.P.Plan.are_parts c.args.plan c.expect.new.self.place.lexer.source kind_of_node.OptionSome front c.parts-parts.result) c.parse_payload.result (λ front. IsBuilt (g.P.Plan.is_made c.args.plan) c.expect.new.self.place (IsPayload c.args.levels kind_of_node.OptionSome c.span-start.result.start front c.expect.new.self.place c.parse_payload.new.self.place)) c.parse_payload.ensures.tree [] (c.parts-parts.ensures c.expect.new.self.place.lexer.source tt))
+    (of_part (TakesPart kind_of_node.OptionSome) (λ front. g.P.Plan.are_parts c.args.plan c.expect.new.self.place.lexer.source kind_of_node.OptionSome front c.parts-parts.result) c.parse_payload.result (λ front. IsBuilt (g.P.Plan.is_made c.args.plan) c.expect.new.self.place (IsPayload c.args.levels kind_of_node.OptionSome c.span-start.result.start front c.expect.new.self.place c.parse_payload.new.self.place)) c.parse_payload.ensures.tree [] refl (c.parts-parts.ensures c.expect.new.self.place.lexer.source tt))
 
 pub parse_label-returns-in-Ok-clause-tree : goal.parse_label-returns-in-Ok-clause-tree
 parse_label-returns-in-Ok-clause-tree g t c =
     built (g.P.Plan.is_made c.args.plan) c.args.self.now.place c.args.self.now.place (IsMaybe c.args.levels kind_of_node.ResultOk kind_of_node.ResultOk c.args.self.now.place c.parse_maybe.new.self.place) (IsParsedBehind LabelOrKeyword (c.args.levels + 1) c.args.self.now.place c.parse_maybe.new.self.place) c.parse_maybe.result refl
-    (λ n. ok_tied c.args.levels c.args.self.now.place c.parse_maybe.new.self.place (as_ok n) (word_here c.slice.ensures c.role_of.ensures.word c.in-Ok.is)) (as_given (IsOfParts kind_of_node.ResultOk) (IsBuilt (g.P.Plan.is_made c.args.plan) c.args.self.now.place (IsMaybe c.args.levels kind_of_node.ResultOk kind_of_node.ResultOk c.args.self.now.place c.parse_maybe.new.self.place)) c.parse_maybe.result c.parse_maybe.ensures.tree tt)
+    (λ n. ok_tied c.args.levels c.args.self.now.place c.parse_maybe.new.self.place (as_ok n) (word_here c.slice.ensures c.role_of.ensures.word c.in-Ok.is)) c.parse_maybe.ensures.tree
 
 pub parse_label-returns-in-Err-clause-tree : goal.parse_label-returns-in-Err-clause-tree
 parse_label-returns-in-Err-clause-tree g t c =
     built (g.P.Plan.is_made c.args.plan) c.args.self.now.place c.args.self.now.place (IsMaybe c.args.levels kind_of_node.ResultErr kind_of_node.ResultErr c.args.self.now.place c.parse_maybe-in-Err.new.self.place) (IsParsedBehind LabelOrKeyword (c.args.levels + 1) c.args.self.now.place c.parse_maybe-in-Err.new.self.place) c.parse_maybe-in-Err.result refl
-    (λ n. err_tied c.args.levels c.args.self.now.place c.parse_maybe-in-Err.new.self.place (as_ok n) (word_here c.slice.ensures c.role_of.ensures.word c.in-Err.is)) (as_given (IsOfParts kind_of_node.ResultErr) (IsBuilt (g.P.Plan.is_made c.args.plan) c.args.self.now.place (IsMaybe c.args.levels kind_of_node.ResultErr kind_of_node.ResultErr c.args.self.now.place c.parse_maybe-in-Err.new.self.place)) c.parse_maybe-in-Err.result c.parse_maybe-in-Err.ensures.tree tt)
+    (λ n. err_tied c.args.levels c.args.self.now.place c.parse_maybe-in-Err.new.self.place (as_ok n) (word_here c.slice.ensures c.role_of.ensures.word c.in-Err.is)) c.parse_maybe-in-Err.ensures.tree
 
 pub parse_label-returns-in-Case-clause-tree : goal.parse_label-returns-in-Case-clause-tree
 parse_label-returns-in-Case-clause-tree g t c =
     built (g.P.Plan.is_made c.args.plan) c.args.self.now.place c.args.self.now.place (IsMaybe c.args.levels kind_of_node.Label kind_of_node.VariantWithPayload c.args.self.now.place c.parse_maybe-in-Case.new.self.place) (IsParsedBehind LabelOrKeyword (c.args.levels + 1) c.args.self.now.place c.parse_maybe-in-Case.new.self.place) c.parse_maybe-in-Case.result refl
-    (λ n. case_tied c.args.levels c.args.self.now.place c.parse_maybe-in-Case.new.self.place (as_ok n) (word_here c.slice.ensures c.role_of.ensures.word c.in-Case.is)) (as_given (IsOfParts kind_of_node.VariantWithPayload) (IsBuilt (g.P.Plan.is_made c.args.plan) c.args.self.now.place (IsMaybe c.args.levels kind_of_node.Label kind_of_node.VariantWithPayload c.args.self.now.place c.parse_maybe-in-Case.new.self.place)) c.parse_maybe-in-Case.result c.parse_maybe-in-Case.ensures.tree tt)
+    (λ n. case_tied c.args.levels c.args.self.now.place c.parse_maybe-in-Case.new.self.place (as_ok n) (word_here c.slice.ensures c.role_of.ensures.word c.in-Case.is)) c.parse_maybe-in-Case.ensures.tree
 
 pub parse_maybe-returns-then-not-next_is-clause-tree : goal.parse_maybe-returns-then-not-next_is-clause-tree
-parse_maybe-returns-then-not-next_is-clause-tree g t c = λ given.
+parse_maybe-returns-then-not-next_is-clause-tree g t c =
     let stays = c.next_is.ensures.stays in
     (node c.args.alone (span_at c.args.self.now.place) no_nodes, inl (stays, refl), subst (λ (z : Place). g.P.Plan.is_made c.args.plan z.lexer.source (node c.args.alone (span_at z) no_nodes) c.leaf.result) stays c.leaf.ensures)
 
@@ -532,18 +533,17 @@ parse_maybe-returns-clause-tree g t c =
     let stays = c.next_is.ensures.stays in
     let label = label_children c.args.with (span_at c.next_is.new.self.place) in
     let behind : c.expect.new.self.place.lexer.source ≡ c.next_is.new.self.place.lexer.source = source_item c.next_is.new.self.place c.expect.new.self.place ParenOpen c.in_ok-expect.ensures.takes in
-    when_given (IsOfParts c.args.with) (IsBuilt (g.P.Plan.is_made c.args.plan) c.args.self.now.place (IsMaybe c.args.levels c.args.alone c.args.with c.args.self.now.place c.parse_payload.new.self.place)) c.parse_payload.result (λ given.
     built (g.P.Plan.is_made c.args.plan) c.args.self.now.place c.expect.new.self.place (IsPayload c.args.levels c.args.with c.span-start.result.start label c.expect.new.self.place c.parse_payload.new.self.place) (IsMaybe c.args.levels c.args.alone c.args.with c.args.self.now.place c.parse_payload.new.self.place) c.parse_payload.result (behind ∙ ap (λ (z : Place). z.lexer.source) stays)
     (λ n. payload_tied c.args.levels c.args.alone c.args.with c.args.self.now.place c.expect.new.self.place c.next_is.new.self.place c.parse_payload.new.self.place c.span-start.result.start label (as_ok n) stays c.in_ok-expect.ensures.takes (ap (λ (z : Range ℕ). z.start) c.span-start.ensures) refl)
-    (of_front (λ front. g.P.Plan.are_parts c.args.plan c.expect.new.self.place.lexer.source c.args.with front c.in_ok-front.front) c.parse_payload.result (λ front. IsBuilt (g.P.Plan.is_made c.args.plan) c.expect.new.self.place (IsPayload c.args.levels c.args.with c.span-start.result.start front c.expect.new.self.place c.parse_payload.new.self.place)) c.parse_payload.ensures.tree label
-    (subst (λ (s : List ℕ). g.P.Plan.are_parts c.args.plan s c.args.with label c.in_ok-front.front) (sym behind) (c.in_ok-front.ensures.made given))))
+    (of_part (TakesPart c.args.with) (λ front. g.P.Plan.are_parts c.args.plan c.expect.new.self.place.lexer.source c.args.with front c.in_ok-front.front) c.parse_payload.result (λ front. IsBuilt (g.P.Plan.is_made c.args.plan) c.expect.new.self.place (IsPayload c.args.levels c.args.with c.span-start.result.start front c.expect.new.self.place c.parse_payload.new.self.place)) c.parse_payload.ensures.tree label (payload_due c.args.with (span_at c.next_is.new.self.place) c.requires.1)
+    (subst (λ (s : List ℕ). g.P.Plan.are_parts c.args.plan s c.args.with label c.in_ok-front.front) (sym behind) (c.in_ok-front.ensures.made (payload_parts c.args.with c.requires.1))))
 
 pub parse_payload-returns-clause-tree : goal.parse_payload-returns-clause-tree
-parse_payload-returns-clause-tree g t c = λ front first.
+parse_payload-returns-clause-tree g t c = λ front part_due first.
     let (n, is, of) = c.in_ok-payload.ensures.tree in
     let source : c.expect.new.self.place.lexer.source ≡ c.args.self.now.place.lexer.source = source_item c.parse_node.new.self.place c.expect.new.self.place ParenClose c.in_ok-expect.ensures.takes ∙ source_parsed c.args.levels c.args.self.now.place c.parse_node.new.self.place n is in
-    let grown = c.in_ok-parts.ensures.kept c.args.self.now.place.lexer.source c.args.ty front n first (subst (λ z. g.P.Plan.is_made z c.args.self.now.place.lexer.source n c.in_ok-payload.payload) c.part-part.ensures of) in
-    whole_built (g.P.Plan.is_made c.args.plan) (λ (s : List ℕ) cs ps. g.P.Plan.are_parts c.args.plan s c.args.ty cs ps) c.args.self.now.place c.expect.new.self.place c.args.ty c.args.start c.whole.result c.in_ok-parts.parts (front ++ n ∷ []) (IsPayload c.args.levels c.args.ty c.args.start front c.args.self.now.place c.expect.new.self.place) source grown c.whole.ensures
+    let grown = c.in_ok-with_part.ensures.kept c.args.self.now.place.lexer.source c.args.ty front n part_due first (subst (λ z. g.P.Plan.is_made z c.args.self.now.place.lexer.source n c.in_ok-payload.payload) c.part-part.ensures of) in
+    whole_built (g.P.Plan.is_made c.args.plan) (λ (s : List ℕ) cs ps. g.P.Plan.are_parts c.args.plan s c.args.ty cs ps) c.args.self.now.place c.expect.new.self.place c.args.ty c.args.start c.whole.result c.with_part.new.parts (front ++ n ∷ []) (IsPayload c.args.levels c.args.ty c.args.start front c.args.self.now.place c.expect.new.self.place) source grown c.whole.ensures
     (record { payload = n; behind = c.parse_node.new.self.place; inner = is; close = c.in_ok-expect.ensures.takes; is = refl })
 
 pub parse_items-returns-then-next_is-clause-tree : goal.parse_items-returns-then-next_is-clause-tree
@@ -559,10 +559,14 @@ parse_items-returns-then-eq-3-clause-tree g t c =
     let (children, first, go) = c.items.invariant.tree in
     let (d, i, r) = c.items.invariant.reached (c.args.levels + 1) [] (omega arith) in
     let here : c.items.self.place.lexer.source ≡ c.args.self.now.place.lexer.source = source_reached r in
-    let grown = c.in_ok-parts.ensures.kept c.args.self.now.place.lexer.source c.if-eq-2.ty children n first (subst (λ z. g.P.Plan.is_made z c.args.self.now.place.lexer.source n c.in_ok-item.item) c.part-part.ensures (subst (λ (s : List ℕ). g.P.Plan.is_made c.part-part.result s n c.in_ok-item.item) here of)) in
+    let part_due : TakesPart c.if-eq-2.ty children = elim c.if-eq-2.branch [
+      | parse_items-then-eq-2 w ↦ subst (λ z. TakesPart z children) (sym w.ty-is) tt
+      | parse_items-else-eq-2 w ↦ subst (λ z. TakesPart z children) (sym w.ty-is) tt
+    ] in
+    let grown = c.in_ok-with_part.ensures.kept c.args.self.now.place.lexer.source c.if-eq-2.ty children n part_due first (subst (λ z. g.P.Plan.is_made z c.args.self.now.place.lexer.source n c.in_ok-item.item) c.part-part.ensures (subst (λ (s : List ℕ). g.P.Plan.is_made c.part-part.result s n c.in_ok-item.item) here of)) in
     let behind : c.parse_node.new.self.place.lexer.source ≡ c.args.self.now.place.lexer.source = source_parsed c.args.levels c.items.self.place c.parse_node.new.self.place n is ∙ here in
     let token : c.advance.new.self.place.lexer.source ≡ c.args.self.now.place.lexer.source = source_item c.parse_node.new.self.place c.advance.new.self.place c.in_ok-token.token c.in_ok-token.ensures.takes ∙ behind in
-    whole_built (g.P.Plan.is_made c.args.plan) (λ (s : List ℕ) cs ps. g.P.Plan.are_parts c.args.plan s c.if-eq-2.ty cs ps) c.args.self.now.place c.advance.new.self.place c.if-eq-2.ty c.span-start.result.start c.whole-then-eq-3.result c.in_ok-parts.parts (children ++ n ∷ []) (IsOfItems c.args.levels c.args.close c.args.self.now.place c.advance.new.self.place) token grown c.whole-then-eq-3.ensures
+    whole_built (g.P.Plan.is_made c.args.plan) (λ (s : List ℕ) cs ps. g.P.Plan.are_parts c.args.plan s c.if-eq-2.ty cs ps) c.args.self.now.place c.advance.new.self.place c.if-eq-2.ty c.span-start.result.start c.whole-then-eq-3.result c.with_part.new.parts (children ++ n ∷ []) (IsOfItems c.args.levels c.args.close c.args.self.now.place c.advance.new.self.place) token grown c.whole-then-eq-3.ensures
     (items_made c.args.levels c.args.close c.args.self.now.place c.advance.new.self.place c.if-eq-2.ty c.span-start.result.start (children ++ n ∷ []) _ refl (elim c.if-eq-2.branch [
       | parse_items-then-eq-2 w ↦ w.ty-is ∙ sym (ap items_type (is_class c.args.close ParenClose c.eq-2.ensures w.if-eq-2.true))
       | parse_items-else-eq-2 w ↦ w.ty-is ∙ sym (type_of_items c.args.close c.requires (is_other _ _ c.eq-2.ensures w.if-eq-2.false))
@@ -574,12 +578,16 @@ parse_items-returns-then-next_is-2-clause-tree g t c =
     let (children, first, go) = c.items.invariant.tree in
     let (d, i, r) = c.items.invariant.reached (c.args.levels + 1) [] (omega arith) in
     let here : c.items.self.place.lexer.source ≡ c.args.self.now.place.lexer.source = source_reached r in
-    let grown = c.in_ok-parts.ensures.kept c.args.self.now.place.lexer.source c.if-eq-2.ty children n first (subst (λ z. g.P.Plan.is_made z c.args.self.now.place.lexer.source n c.in_ok-item.item) c.part-part.ensures (subst (λ (s : List ℕ). g.P.Plan.is_made c.part-part.result s n c.in_ok-item.item) here of)) in
+    let part_due : TakesPart c.if-eq-2.ty children = elim c.if-eq-2.branch [
+      | parse_items-then-eq-2 w ↦ subst (λ z. TakesPart z children) (sym w.ty-is) tt
+      | parse_items-else-eq-2 w ↦ subst (λ z. TakesPart z children) (sym w.ty-is) tt
+    ] in
+    let grown = c.in_ok-with_part.ensures.kept c.args.self.now.place.lexer.source c.if-eq-2.ty children n part_due first (subst (λ z. g.P.Plan.is_made z c.args.self.now.place.lexer.source n c.in_ok-item.item) c.part-part.ensures (subst (λ (s : List ℕ). g.P.Plan.is_made c.part-part.result s n c.in_ok-item.item) here of)) in
     let behind : c.parse_node.new.self.place.lexer.source ≡ c.args.self.now.place.lexer.source = source_parsed c.args.levels c.items.self.place c.parse_node.new.self.place n is ∙ here in
     let token : c.advance.new.self.place.lexer.source ≡ c.args.self.now.place.lexer.source = source_item c.parse_node.new.self.place c.advance.new.self.place c.in_ok-token.token c.in_ok-token.ensures.takes ∙ behind in
     let stays = c.next_is-in-items.ensures.stays in
     let close : c.expect-then-next_is-2.new.self.place.lexer.source ≡ c.args.self.now.place.lexer.source = source_item c.next_is-in-items.new.self.place c.expect-then-next_is-2.new.self.place c.args.close c.in_ok-expect-2.ensures.takes ∙ (ap (λ (z : Place). z.lexer.source) stays ∙ token) in
-    whole_built (g.P.Plan.is_made c.args.plan) (λ (s : List ℕ) cs ps. g.P.Plan.are_parts c.args.plan s c.if-eq-2.ty cs ps) c.args.self.now.place c.expect-then-next_is-2.new.self.place c.if-eq-2.ty c.span-start.result.start c.whole-then-next_is-2.result c.in_ok-parts.parts (children ++ n ∷ []) (IsOfItems c.args.levels c.args.close c.args.self.now.place c.expect-then-next_is-2.new.self.place) close grown c.whole-then-next_is-2.ensures
+    whole_built (g.P.Plan.is_made c.args.plan) (λ (s : List ℕ) cs ps. g.P.Plan.are_parts c.args.plan s c.if-eq-2.ty cs ps) c.args.self.now.place c.expect-then-next_is-2.new.self.place c.if-eq-2.ty c.span-start.result.start c.whole-then-next_is-2.result c.with_part.new.parts (children ++ n ∷ []) (IsOfItems c.args.levels c.args.close c.args.self.now.place c.expect-then-next_is-2.new.self.place) close grown c.whole-then-next_is-2.ensures
     (items_made c.args.levels c.args.close c.args.self.now.place c.expect-then-next_is-2.new.self.place c.if-eq-2.ty c.span-start.result.start (children ++ n ∷ []) _ refl (elim c.if-eq-2.branch [
       | parse_items-then-eq-2 w ↦ w.ty-is ∙ sym (ap items_type (is_class c.args.close ParenClose c.eq-2.ensures w.if-eq-2.true))
       | parse_items-else-eq-2 w ↦ w.ty-is ∙ sym (type_of_items c.args.close c.requires (is_other _ _ c.eq-2.ensures w.if-eq-2.false))
@@ -606,7 +614,11 @@ parse_items-items-preserved g t c = record {
       let (children, first, go) = c.items.invariant.tree in
       let (d, i, r) = c.items.invariant.reached (c.args.levels + 1) [] (omega arith) in
       let here : c.items.self.place.lexer.source ≡ c.args.self.now.place.lexer.source = source_reached r in
-      let grown = c.in_ok-parts.ensures.kept c.args.self.now.place.lexer.source c.if-eq-2.ty children n first (subst (λ z. g.P.Plan.is_made z c.args.self.now.place.lexer.source n c.in_ok-item.item) c.part-part.ensures (subst (λ (s : List ℕ). g.P.Plan.is_made c.part-part.result s n c.in_ok-item.item) here of)) in
+      let part_due : TakesPart c.if-eq-2.ty children = elim c.if-eq-2.branch [
+        | parse_items-then-eq-2 w ↦ subst (λ z. TakesPart z children) (sym w.ty-is) tt
+        | parse_items-else-eq-2 w ↦ subst (λ z. TakesPart z children) (sym w.ty-is) tt
+      ] in
+      let grown = c.in_ok-with_part.ensures.kept c.args.self.now.place.lexer.source c.if-eq-2.ty children n part_due first (subst (λ z. g.P.Plan.is_made z c.args.self.now.place.lexer.source n c.in_ok-item.item) c.part-part.ensures (subst (λ (s : List ℕ). g.P.Plan.is_made c.part-part.result s n c.in_ok-item.item) here of)) in
       let behind : c.parse_node.new.self.place.lexer.source ≡ c.args.self.now.place.lexer.source = source_parsed c.args.levels c.items.self.place c.parse_node.new.self.place n is ∙ here in
       let token : c.advance.new.self.place.lexer.source ≡ c.args.self.now.place.lexer.source = source_item c.parse_node.new.self.place c.advance.new.self.place c.in_ok-token.token c.in_ok-token.ensures.takes ∙ behind in
       (children ++ n ∷ [], grown, items_next c.args.levels c.args.close c.args.self.now.place c.items.self.place c.parse_node.new.self.place c.advance.new.self.place c.next_is-in-items.new.self.place children (children ++ n ∷ []) n go is (class_as _ _ _ Comma c.in_ok-token.ensures.takes (differs_not _ _ c.ne.ensures c.if-ne.false)) c.next_is-in-items.ensures.stays refl);
@@ -654,42 +666,42 @@ parse_braces-returns-then-eq-3-clause-tree g t c =
 pub parse_entries-returns-then-eq-clause-tree : goal.parse_entries-returns-then-eq-clause-tree
 parse_entries-returns-then-eq-clause-tree g t c = λ first given.
     let (n, is, of) = c.in_ok-value.ensures.tree in
-    let (hs, so_far, go) = c.entries.invariant.tree first given in
+    let (hs, so_far, part_due, go) = c.entries.invariant.tree first given in
     let here : c.entries.self.place.lexer.source ≡ c.args.self.now.place.lexer.source = source_reached (c.entries.invariant.led (c.args.levels + 1) [] (omega arith)) in
-    let grown = c.in_ok-parts.ensures.kept c.args.self.now.place.lexer.source kind_of_node.TupleSet (first ∷ hs) n so_far (subst (λ z. g.P.Plan.is_made z c.args.self.now.place.lexer.source n c.in_ok-value.value) c.part-part.ensures (subst (λ (s : List ℕ). g.P.Plan.is_made c.part-part.result s n c.in_ok-value.value) here of)) in
+    let grown = c.in_ok-with_part.ensures.kept c.args.self.now.place.lexer.source kind_of_node.TupleSet (first ∷ hs) n part_due so_far (subst (λ z. g.P.Plan.is_made z c.args.self.now.place.lexer.source n c.in_ok-value.value) c.part-part.ensures (subst (λ (s : List ℕ). g.P.Plan.is_made c.part-part.result s n c.in_ok-value.value) here of)) in
     let token : c.advance.new.self.place.lexer.source ≡ c.args.self.now.place.lexer.source = source_item c.parse_node.new.self.place c.advance.new.self.place c.in_ok-token.token c.in_ok-token.ensures.takes ∙ (source_parsed c.args.levels c.entries.self.place c.parse_node.new.self.place n is ∙ here) in
-    whole_built (g.P.Plan.is_made c.args.plan) (λ (s : List ℕ) cs ps. g.P.Plan.are_parts c.args.plan s kind_of_node.TupleSet cs ps) c.args.self.now.place c.advance.new.self.place kind_of_node.TupleSet c.args.start c.whole.result c.in_ok-parts.parts (first ∷ (hs ++ n ∷ [])) (IsOfEntries c.args.levels c.args.start first c.args.self.now.place c.advance.new.self.place) token grown c.whole.ensures
+    whole_built (g.P.Plan.is_made c.args.plan) (λ (s : List ℕ) cs ps. g.P.Plan.are_parts c.args.plan s kind_of_node.TupleSet cs ps) c.args.self.now.place c.advance.new.self.place kind_of_node.TupleSet c.args.start c.whole.result c.with_part.new.parts (first ∷ (hs ++ n ∷ [])) (IsOfEntries c.args.levels c.args.start first c.args.self.now.place c.advance.new.self.place) token grown c.whole.ensures
     (pairs_close c.args.levels c.args.start c.args.self.now.place c.entries.self.place c.parse_node.new.self.place c.advance.new.self.place (first ∷ hs) (first ∷ (hs ++ n ∷ [])) first n _ (hs, refl, go) is (inl (class_as _ _ _ BraceClose c.in_ok-token.ensures.takes (is_class _ _ c.eq.ensures c.if-eq.true))) refl refl)
 
 pub parse_entries-returns-then-eq-2-clause-tree : goal.parse_entries-returns-then-eq-2-clause-tree
 parse_entries-returns-then-eq-2-clause-tree g t c = λ first given.
     let (n, is, of) = c.in_ok-value.ensures.tree in
-    let (hs, so_far, go) = c.entries.invariant.tree first given in
+    let (hs, so_far, part_due, go) = c.entries.invariant.tree first given in
     let here : c.entries.self.place.lexer.source ≡ c.args.self.now.place.lexer.source = source_reached (c.entries.invariant.led (c.args.levels + 1) [] (omega arith)) in
-    let grown = c.in_ok-parts.ensures.kept c.args.self.now.place.lexer.source kind_of_node.TupleSet (first ∷ hs) n so_far (subst (λ z. g.P.Plan.is_made z c.args.self.now.place.lexer.source n c.in_ok-value.value) c.part-part.ensures (subst (λ (s : List ℕ). g.P.Plan.is_made c.part-part.result s n c.in_ok-value.value) here of)) in
+    let grown = c.in_ok-with_part.ensures.kept c.args.self.now.place.lexer.source kind_of_node.TupleSet (first ∷ hs) n part_due so_far (subst (λ z. g.P.Plan.is_made z c.args.self.now.place.lexer.source n c.in_ok-value.value) c.part-part.ensures (subst (λ (s : List ℕ). g.P.Plan.is_made c.part-part.result s n c.in_ok-value.value) here of)) in
     let token : c.advance.new.self.place.lexer.source ≡ c.args.self.now.place.lexer.source = source_item c.parse_node.new.self.place c.advance.new.self.place c.in_ok-token.token c.in_ok-token.ensures.takes ∙ (source_parsed c.args.levels c.entries.self.place c.parse_node.new.self.place n is ∙ here) in
     let close : c.advance-in-entries.new.self.place.lexer.source ≡ c.args.self.now.place.lexer.source = source_item c.advance.new.self.place c.advance-in-entries.new.self.place c.in_ok-next.next c.in_ok-next.ensures.takes ∙ token in
-    whole_built (g.P.Plan.is_made c.args.plan) (λ (s : List ℕ) cs ps. g.P.Plan.are_parts c.args.plan s kind_of_node.TupleSet cs ps) c.args.self.now.place c.advance-in-entries.new.self.place kind_of_node.TupleSet c.args.start c.whole-then-eq-2.result c.in_ok-parts.parts (first ∷ (hs ++ n ∷ [])) (IsOfEntries c.args.levels c.args.start first c.args.self.now.place c.advance-in-entries.new.self.place) close grown c.whole-then-eq-2.ensures
+    whole_built (g.P.Plan.is_made c.args.plan) (λ (s : List ℕ) cs ps. g.P.Plan.are_parts c.args.plan s kind_of_node.TupleSet cs ps) c.args.self.now.place c.advance-in-entries.new.self.place kind_of_node.TupleSet c.args.start c.whole-then-eq-2.result c.with_part.new.parts (first ∷ (hs ++ n ∷ [])) (IsOfEntries c.args.levels c.args.start first c.args.self.now.place c.advance-in-entries.new.self.place) close grown c.whole-then-eq-2.ensures
     (pairs_close c.args.levels c.args.start c.args.self.now.place c.entries.self.place c.parse_node.new.self.place c.advance-in-entries.new.self.place (first ∷ hs) (first ∷ (hs ++ n ∷ [])) first n _ (hs, refl, go) is (inr (c.advance.new.self.place, class_as _ _ _ Comma c.in_ok-token.ensures.takes (differs_not _ _ c.ne.ensures c.if-ne.false), class_as _ _ _ BraceClose c.in_ok-next.ensures.takes (is_class _ _ c.eq-in-entries.ensures c.if-eq-2.true))) refl refl)
 
 pub parse_entries-entries-init : goal.parse_entries-entries-init
-parse_entries-entries-init g t c = record { asks = asks_none c.args.self.now c.args.self.now refl; led = λ n s e. here n due.value (due.entries ∷ s) c.args.self.now.place; tree = λ first given. ([], given, λ cs r pairs. pairs) }
+parse_entries-entries-init g t c = record { asks = asks_none c.args.self.now c.args.self.now refl; led = λ n s e. here n due.value (due.entries ∷ s) c.args.self.now.place; tree = λ first given. ([], given, (0, refl), λ cs r pairs. pairs) }
 
 pub parse_entries-entries-preserved : goal.parse_entries-entries-preserved
 parse_entries-entries-preserved g t c = record {
   asks = asks_entries c.args.levels c.args.self.now c.entries.self c.expect.new.self c.entries.invariant.led c.entries.invariant.asks (asks_value c.args.levels c.entries.self c.parse_node.new.self c.expect.new.self c.in_ok-value.ensures.led c.parse_node.ensures.asks (asks_token c.parse_node.new.self c.advance.new.self c.expect.new.self c.in_ok-token.token c.in_ok-token.ensures.takes c.advance.ensures.asks (asks_token c.advance.new.self c.advance-in-entries.new.self c.expect.new.self c.in_ok-next.next c.in_ok-next.ensures.takes c.advance-in-entries.ensures.asks (asks_once c.advance-in-entries.new.self c.expect.new.self c.expect.ensures.asks))));
   tree = λ first given.
       let (n, is, of) = c.in_ok-value.ensures.tree in
-      let (hs, so_far, go) = c.entries.invariant.tree first given in
+      let (hs, so_far, part_due, go) = c.entries.invariant.tree first given in
       let here : c.entries.self.place.lexer.source ≡ c.args.self.now.place.lexer.source = source_reached (c.entries.invariant.led (c.args.levels + 1) [] (omega arith)) in
-      let grown = c.in_ok-parts.ensures.kept c.args.self.now.place.lexer.source kind_of_node.TupleSet (first ∷ hs) n so_far (subst (λ z. g.P.Plan.is_made z c.args.self.now.place.lexer.source n c.in_ok-value.value) c.part-part.ensures (subst (λ (s : List ℕ). g.P.Plan.is_made c.part-part.result s n c.in_ok-value.value) here of)) in
+      let grown = c.in_ok-with_part.ensures.kept c.args.self.now.place.lexer.source kind_of_node.TupleSet (first ∷ hs) n part_due so_far (subst (λ z. g.P.Plan.is_made z c.args.self.now.place.lexer.source n c.in_ok-value.value) c.part-part.ensures (subst (λ (s : List ℕ). g.P.Plan.is_made c.part-part.result s n c.in_ok-value.value) here of)) in
       let token : c.advance.new.self.place.lexer.source ≡ c.args.self.now.place.lexer.source = source_item c.parse_node.new.self.place c.advance.new.self.place c.in_ok-token.token c.in_ok-token.ensures.takes ∙ (source_parsed c.args.levels c.entries.self.place c.parse_node.new.self.place n is ∙ here) in
       let key = node c.in-Some.ty (span_at c.advance-in-entries.new.self.place) no_nodes in
       let at_key : c.advance-in-entries.new.self.place.lexer.source ≡ c.args.self.now.place.lexer.source = source_item c.advance.new.self.place c.advance-in-entries.new.self.place c.in_ok-next.next c.in_ok-next.ensures.takes ∙ token in
-      let keyed = c.in_ok-parts-2.ensures.kept kind_of_node.TupleSet (first ∷ (hs ++ n ∷ [])) (subst (λ (s : List ℕ). g.P.Plan.are_parts c.args.plan s kind_of_node.TupleSet (first ∷ (hs ++ n ∷ [])) c.in_ok-parts.parts) (sym at_key) grown) in
+      let keyed = c.in_ok-with_key.ensures.kept kind_of_node.TupleSet (first ∷ (hs ++ n ∷ [])) (key_next (first ∷ hs) n part_due) (subst (λ (s : List ℕ). g.P.Plan.are_parts c.args.plan s kind_of_node.TupleSet (first ∷ (hs ++ n ∷ [])) c.with_part.new.parts) (sym at_key) grown) in
       let (more, same, further) = pairs_next c.args.levels c.args.self.now.place c.entries.self.place c.parse_node.new.self.place c.advance.new.self.place c.advance-in-entries.new.self.place c.expect.new.self.place (first ∷ hs) (first ∷ (hs ++ n ∷ [])) ((first ∷ (hs ++ n ∷ [])) ++ key ∷ []) first n key (hs, refl, go) is (class_as _ _ _ Comma c.in_ok-token.ensures.takes (differs_not _ _ c.ne.ensures c.if-ne.false))
       (c.in_ok-next.next, c.in_ok-next.ensures.takes, c.in-Some.ensures.0, ap (λ z. node z (span_at c.advance-in-entries.new.self.place) no_nodes) c.in-Some.ensures.1) c.in_ok-expect.ensures.takes refl refl in
-      (more, subst (λ (ns : List NodeTree). g.P.Plan.are_parts c.args.plan c.args.self.now.place.lexer.source kind_of_node.TupleSet ns c.in_ok-parts-2.parts) same (subst (λ (s : List ℕ). g.P.Plan.are_parts c.args.plan s kind_of_node.TupleSet ((first ∷ (hs ++ n ∷ [])) ++ key ∷ []) c.in_ok-parts-2.parts) at_key keyed), further);
+      (more, subst (λ (ns : List NodeTree). g.P.Plan.are_parts c.args.plan c.args.self.now.place.lexer.source kind_of_node.TupleSet ns c.with_key.new.parts) same (subst (λ (s : List ℕ). g.P.Plan.are_parts c.args.plan s kind_of_node.TupleSet ((first ∷ (hs ++ n ∷ [])) ++ key ∷ []) c.with_key.new.parts) at_key keyed), subst (TakesPart kind_of_node.TupleSet) same (value_next (first ∷ (hs ++ n ∷ [])) key (key_next (first ∷ hs) n part_due)), further);
   led = λ n s e.
       let item = c.in_ok-value.ensures.led n (due.entries ∷ s) (omega arith) in
       let due_key = key_due (c.entries.invariant.led n s e) item c.in_ok-token.ensures.takes (differs_not _ _ c.ne.ensures c.if-ne.false) in
@@ -701,10 +713,10 @@ parse_braces-returns-in_err-key-clause-asks g t c =
     asks_token c.args.self.now c.advance.new.self c.next_is.new.self c.in_ok-token.token c.in_ok-token.ensures.takes c.advance.ensures.asks (asks_once c.advance.new.self c.next_is.new.self c.next_is.ensures.asks)
 
 pub parse_node-returns-then-levels-eq0-clause-led : goal.parse_node-returns-then-levels-eq0-clause-led
-parse_node-returns-then-levels-eq0-clause-led g t c = λ n s e. no_level n s c.args.self.now.place c.new.result (omega arith) (record { is = c.new.ensures.refusal; stands = c.new.ensures.span ∙ c.span.ensures; tells = c.new.ensures.detail })
+parse_node-returns-then-levels-eq0-clause-led g t c = λ n s e. no_level n s c.args.self.now.place c.new.result (omega arith) (record { is = c.new.ensures.is; stands = c.new.ensures.stands ∙ c.span.ensures; tells = c.new.ensures.tells })
 
 pub parse_node-returns-then-levels-eq0-clause-memory : goal.parse_node-returns-then-levels-eq0-clause-memory
-parse_node-returns-then-levels-eq0-clause-memory g t c = wants_other g.P.Plan.takes_memory c.args.self.now.place c.new.result because.NestingTooDeep (ap (λ r. r.kind) c.new.ensures.refusal) (λ z. cc)
+parse_node-returns-then-levels-eq0-clause-memory g t c = wants_other g.P.Plan.takes_memory c.args.self.now.place c.new.result because.NestingTooDeep (kind_is c.new.ensures) (λ z. cc)
 
 pub parse_node-returns-in_err-token-clause-memory : goal.parse_node-returns-in_err-token-clause-memory
 parse_node-returns-in_err-token-clause-memory g t c = error_handed (WantsOnly g.P.Plan.takes_memory c.args.self.now.place) c.from_residual.result c.in_err-token.field-0.0 c.from_residual.ensures.1 (wants_fails g.P.Plan.takes_memory c.args.self.now.place c.args.self.now.place c.advance.new.self.place (λ _. Unit {0}) c.in_err-token.field-0.0 c.in_err-token.ensures.takes)
@@ -745,20 +757,20 @@ parse_payload-returns-in_err-payload-clause-memory g t c = error_handed (WantsOn
 pub parse_payload-returns-in_err-expect-clause-memory : goal.parse_payload-returns-in_err-expect-clause-memory
 parse_payload-returns-in_err-expect-clause-memory g t c = error_handed (WantsOnly g.P.Plan.takes_memory c.args.self.now.place) c.from_residual-in_err-expect.result c.in_err-expect.field-0.0 c.from_residual-in_err-expect.ensures.1 (wants_fails g.P.Plan.takes_memory c.args.self.now.place c.parse_node.new.self.place c.expect.new.self.place (λ k. k ≡ ParenClose) c.in_err-expect.field-0.0 c.in_err-expect.ensures.takes)
 
-pub parse_payload-returns-in_err-parts-clause-memory : goal.parse_payload-returns-in_err-parts-clause-memory
-parse_payload-returns-in_err-parts-clause-memory g t c = error_handed (WantsOnly g.P.Plan.takes_memory c.args.self.now.place) c.from_residual-in_err-parts.result c.in_err-parts.field-0.0 c.from_residual-in_err-parts.ensures.1 (wants_taken g.P.Plan.takes_memory c.args.self.now.place c.in_err-parts.field-0.0 c.in_err-parts.ensures.takes)
+pub parse_payload-returns-in_err-with_part-clause-memory : goal.parse_payload-returns-in_err-with_part-clause-memory
+parse_payload-returns-in_err-with_part-clause-memory g t c = error_handed (WantsOnly g.P.Plan.takes_memory c.args.self.now.place) c.from_residual-in_err-with_part.result c.in_err-with_part.field-0.0 c.from_residual-in_err-with_part.ensures.1 (wants_taken g.P.Plan.takes_memory c.args.self.now.place c.in_err-with_part.field-0.0 c.in_err-with_part.ensures.takes)
 
 pub parse_items-returns-in_err-expect-clause-memory : goal.parse_items-returns-in_err-expect-clause-memory
 parse_items-returns-in_err-expect-clause-memory g t c = error_handed (WantsOnly g.P.Plan.takes_memory c.args.self.now.place) c.from_residual.result c.in_err-expect.field-0.0 c.from_residual.ensures.1 (wants_fails g.P.Plan.takes_memory c.args.self.now.place c.next_is.new.self.place c.expect.new.self.place (λ k. k ≡ c.args.close) c.in_err-expect.field-0.0 c.in_err-expect.ensures.takes)
 
 pub parse_items-returns-then-eq-clause-memory : goal.parse_items-returns-then-eq-clause-memory
-parse_items-returns-then-eq-clause-memory g t c = wants_other g.P.Plan.takes_memory c.args.self.now.place c.new.result because.EmptyTuple (ap (λ r. r.kind) c.new.ensures.refusal) (λ z. cc)
+parse_items-returns-then-eq-clause-memory g t c = wants_other g.P.Plan.takes_memory c.args.self.now.place c.new.result because.EmptyTuple (kind_is c.new.ensures) (λ z. cc)
 
 pub parse_items-returns-in_err-item-clause-memory : goal.parse_items-returns-in_err-item-clause-memory
 parse_items-returns-in_err-item-clause-memory g t c = error_handed (WantsOnly g.P.Plan.takes_memory c.args.self.now.place) c.from_residual-in_err-item.result c.in_err-item.field-0.0 c.from_residual-in_err-item.ensures.1 (let (d, i, r) = c.items.invariant.reached (c.args.levels + 1) [] (omega arith) in wants_reached g.P.Plan.takes_memory c.in_err-item.field-0.0 r c.in_err-item.ensures.memory)
 
-pub parse_items-returns-in_err-parts-clause-memory : goal.parse_items-returns-in_err-parts-clause-memory
-parse_items-returns-in_err-parts-clause-memory g t c = error_handed (WantsOnly g.P.Plan.takes_memory c.args.self.now.place) c.from_residual-in_err-parts.result c.in_err-parts.field-0.0 c.from_residual-in_err-parts.ensures.1 (wants_taken g.P.Plan.takes_memory c.args.self.now.place c.in_err-parts.field-0.0 c.in_err-parts.ensures.takes)
+pub parse_items-returns-in_err-with_part-clause-memory : goal.parse_items-returns-in_err-with_part-clause-memory
+parse_items-returns-in_err-with_part-clause-memory g t c = error_handed (WantsOnly g.P.Plan.takes_memory c.args.self.now.place) c.from_residual-in_err-with_part.result c.in_err-with_part.field-0.0 c.from_residual-in_err-with_part.ensures.1 (wants_taken g.P.Plan.takes_memory c.args.self.now.place c.in_err-with_part.field-0.0 c.in_err-with_part.ensures.takes)
 
 pub parse_items-returns-in_err-token-clause-memory : goal.parse_items-returns-in_err-token-clause-memory
 parse_items-returns-in_err-token-clause-memory g t c = error_handed (WantsOnly g.P.Plan.takes_memory c.args.self.now.place) c.from_residual-in_err-token.result c.in_err-token.field-0.0 c.from_residual-in_err-token.ensures.1 (wants_fails g.P.Plan.takes_memory c.args.self.now.place c.parse_node.new.self.place c.advance.new.self.place (λ _. Unit {0}) c.in_err-token.field-0.0 c.in_err-token.ensures.takes)

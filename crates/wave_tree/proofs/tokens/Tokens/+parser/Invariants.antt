@@ -4,6 +4,7 @@ use Rattle.wave_grammar.specs.PrefixAutomaton.{Due, Form, first_item}
 use Rattle.wave_grammar.specs.PrefixAutomaton as due
 use Rattle.wave_grammar.specs.Private.TokenRoles.{form_of}
 use Rattle.wave_node.specs.NodeTree.{NodeTree}
+use Rattle.wave_plan.specs.NodeParts.{TakesPart}
 use Rattle.wave_node.specs.declared.ast.NodeType.TheVariants as kind
 use Rattle.wave_tree.specs.ParsedNodes.{IsParsed}
 use Rattle.wave_tree.specs.Private.ParsedNodes.{AreFurther, AreItems, ArePairs}
@@ -50,7 +51,7 @@ invariant-parse_entries-entries g l = record {
   asks : AsksFor l.fn.self l.self;
   led : (n : ℕ) (s : List Form) → n ≡ l.levels + 1 + length s → Reached n due.value (due.entries ∷ s) l.fn.self.place due.value (due.entries ∷ s) l.self.place;
   tree : (first : NodeTree) → g.P.Plan.are_parts l.plan l.fn.self.place.lexer.source kind.TupleSet (first ∷ []) l.fn.key
-      → (ys : List NodeTree) × g.P.Plan.are_parts l.plan l.fn.self.place.lexer.source kind.TupleSet (first ∷ ys) l.parts × ((cs : List NodeTree) (r : Place) → ArePairs l.levels l.self.place cs r → ArePairs l.levels l.fn.self.place (ys ++ cs) r);
+      → (ys : List NodeTree) × g.P.Plan.are_parts l.plan l.fn.self.place.lexer.source kind.TupleSet (first ∷ ys) l.parts × TakesPart kind.TupleSet (first ∷ ys) × ((cs : List NodeTree) (r : Place) → ArePairs l.levels l.self.place cs r → ArePairs l.levels l.fn.self.place (ys ++ cs) r);
 }
 
 abbrev pub decreases-parse_entries-entries : goal.decreases-parse_entries-entries

@@ -1,0 +1,22 @@
+mod CaseAnswers
+mod CaseNodes
+mod Doomed
+mod EnumCases
+mod FlagReading
+mod FlatReading
+mod KeyedChildren
+mod MapEntries
+mod MapSteps
+mod OptionReading
+mod PickedNames
+mod RecordFaults
+mod RecordFields
+mod RecordSteps
+mod RecordWholes
+mod ResultReading
+pub mod ListItems
+pub mod TupleItems
+mod PartsBegun
+mod PartsKept
+mod KeptSteps
+mod LeafForms

@@ -1,0 +1,56 @@
+-- Parts that stay what they are behind one more.
+use Rattle.std.proofs.Common.{ℕ, ◌≡◌, ◌++◌, Bool, true, false, List, [], ◌∷◌, Result, Ok, Err, IfOk, refl, subst}
+use Rattle.wave_wasm.specs.Types.{TypeTree}
+use Rattle.wave_wasm.specs.Values.{Value}
+use Rattle.wave_node.specs.NodeTree.{NodeTree}
+use Rattle.wave_node.specs.declared.ast.NodeType.{NodeType}
+use Rattle.wave_plan.specs.NodeParts.{TakesKey, TakesPart}
+use Rattle.wave_read.specs.Payloads.{result_node}
+use Rattle.wave_read.specs.PartsOfKinds.{AreParts}
+use Rattle.wave_read.specs.declared.lists.Items.{Items}
+use Rattle.wave_read.specs.declared.maps.Entries.{Entries}
+use Rattle.wave_read.specs.declared.options.SomePayload.{SomePayload}
+use Rattle.wave_read.specs.declared.parts.Parts.{Parts}
+use Rattle.wave_read.specs.declared.parts.Parts.TheVariants as parts
+use Rattle.wave_read.specs.declared.records.Fields.{Fields}
+use Rattle.wave_read.specs.declared.results.ResultPayload.{ResultPayload}
+use Rattle.wave_read.specs.declared.tuples.Row.{Row}
+use Rattle.wave_read.specs.declared.variants.CasePayload.{CasePayload}
+use Rattle.wave_read.proofs.Doomed.{still_doomed}
+
+-- what follows from an answer follows where there is one
+pub where_ok : {A E : Type 0} (P Q : A → Type 0) (r : Result A E) → ((a : A) → P a → Q a) → IfOk r P → IfOk r Q
+where_ok P Q (Ok a) follows h = follows a h
+where_ok P Q (Err e) follows h = tt
+
+-- no key stands in a node of `ok` or `err`
+no_result_key : (b : Bool) (children : List NodeTree) → TakesKey (result_node b) children → ⊥
+no_result_key true children h = h
+no_result_key false children h = h
+
+module _ {S V : Type 0} (type_tree : S → TypeTree) (tree : V → Value) (of : V → TypeTree → Type 0) (Full : TypeTree → Type 0) (T : TypeTree) (source : List ℕ) (ty : NodeType) (children : List NodeTree) (n : NodeTree) where
+  -- behind a key, but for those that take one
+  pub behind_key : (x : Parts S V) → ((y : CasePayload S V) → x ≡ parts.OfCase y → ⊥) → ((y : Fields S V) → x ≡ parts.Fields y → ⊥) → ((y : Entries S V) → x ≡ parts.Entries y → ⊥) → TakesKey ty children → AreParts type_tree tree of Full T source ty children x → AreParts type_tree tree of Full T source ty (children ++ n ∷ []) x
+  behind_key (parts.Faulty f) case fields entries takes h = still_doomed tree of Full T source ty children n f h
+  behind_key (parts.Simple x) case fields entries takes h = h
+  behind_key (parts.Empty x) case fields entries takes h = absurd (subst (λ (k : NodeType). TakesKey k children) h.0 takes)
+  behind_key (parts.Items x) case fields entries takes h = absurd (subst (λ (k : NodeType). TakesKey k children) h.0 takes)
+  behind_key (parts.Row x) case fields entries takes h = absurd (subst (λ (k : NodeType). TakesKey k children) h.0 takes)
+  behind_key (parts.OfSome x) case fields entries takes h = absurd (subst (λ (k : NodeType). TakesKey k children) h.0 takes)
+  behind_key (parts.OfResult x) case fields entries takes h = absurd (no_result_key x.is_ok children (subst (λ (k : NodeType). TakesKey k children) h.0 takes))
+  behind_key (parts.OfCase x) case fields entries takes h = absurd (case x refl)
+  behind_key (parts.Fields x) case fields entries takes h = absurd (fields x refl)
+  behind_key (parts.Entries x) case fields entries takes h = absurd (entries x refl)
+
+  -- behind a value, of which nothing is kept
+  pub behind_part : (x : Parts S V) → ((y : Items S V) → x ≡ parts.Items y → ⊥) → ((y : Row S V) → x ≡ parts.Row y → ⊥) → ((y : SomePayload S V) → x ≡ parts.OfSome y → ⊥) → ((y : ResultPayload S V) → x ≡ parts.OfResult y → ⊥) → ((y : CasePayload S V) → x ≡ parts.OfCase y → ⊥) → ((y : Fields S V) → x ≡ parts.Fields y → ⊥) → ((y : Entries S V) → x ≡ parts.Entries y → ⊥) → TakesPart ty children → AreParts type_tree tree of Full T source ty children x → AreParts type_tree tree of Full T source ty (children ++ n ∷ []) x
+  behind_part (parts.Faulty f) items row some result case fields entries takes h = still_doomed tree of Full T source ty children n f h
+  behind_part (parts.Simple x) items row some result case fields entries takes h = h
+  behind_part (parts.Empty x) items row some result case fields entries takes h = absurd (subst (λ (k : NodeType). TakesPart k children) h.0 takes)
+  behind_part (parts.Items x) items row some result case fields entries takes h = absurd (items x refl)
+  behind_part (parts.Row x) items row some result case fields entries takes h = absurd (row x refl)
+  behind_part (parts.OfSome x) items row some result case fields entries takes h = absurd (some x refl)
+  behind_part (parts.OfResult x) items row some result case fields entries takes h = absurd (result x refl)
+  behind_part (parts.OfCase x) items row some result case fields entries takes h = absurd (case x refl)
+  behind_part (parts.Fields x) items row some result case fields entries takes h = absurd (fields x refl)
+  behind_part (parts.Entries x) items row some result case fields entries takes h = absurd (entries x refl)

@@ -1,0 +1,11 @@
+use Rattle.std.proofs.Common.{[], sym, ◌∙◌, ap, subst}
+use Rattle.wave_node.specs.NodeTree.{node, no_nodes}
+use Rattle.wave_node.specs.declared.ast.NodeType.{NodeType}
+use Rattle.wave_plan.specs.Reading.{IsReadAs}
+use Rattle.wave_read.specs.Payloads.{result_node}
+use Rattle.wave_read.proofs.results.read_alone.Goals as goal
+
+pub returns : goal.returns
+returns g c = λ source.
+    subst (λ (ty : NodeType). IsReadAs g.V.WasmValue.tree g.V.WasmValue.is_of g.V.WasmValue.is_full (g.V.Type.WasmType.tree c.args.ty.now) source (node ty c.args.leaf.now.span no_nodes) c.whole.result) (ap result_node c.new-payload.ensures.case ∙ sym c.requires.form)
+    (c.whole.ensures (g.V.Type.WasmType.tree c.args.ty.now) source [] (c.new-payload.ensures.parts source))

@@ -1,0 +1,31 @@
+-- What is wrong with a value before its end is seen.
+use Rattle.std.specs.Prelude.{ℕ, ◌≡◌, ◌++◌, List, Result, Err}
+use Rattle.std.specs.declared.ops.Range.{Range}
+use Rattle.wave_wasm.specs.Types.{TypeTree}
+use Rattle.wave_wasm.specs.Values.{Value}
+use Rattle.wave_wasm.specs.ValueErrors.{cause_of}
+use Rattle.wave_wasm.specs.declared.wasm.WasmValueError.{WasmValueError}
+use Rattle.wave_lex.specs.Errors.{Diagnostic, Says, refusal_of, refused_by}
+use Rattle.std.specs.Prelude.{None}
+use Rattle.wave_node.specs.NodeTree.{NodeTree, node, node_trees, place_of}
+use Rattle.wave_node.specs.TypedReading.{IsMade}
+use Rattle.wave_node.specs.declared.ast.NodeType.{NodeType}
+use Rattle.wave_plan.specs.Reading.{IsReadAs}
+use Rattle.wave_read.specs.declared.fault.Fault.{Fault}
+use Rattle.wave_read.specs.declared.fault.Fault.TheVariants as fault
+
+-- what the fault says of a value that stands there
+abbrev pub Tells : Fault → Range ℕ → Diagnostic → Type 0
+Tells (fault.Told e) p f = f ≡ e
+Tells (fault.Kind k) p f = Says f k p None
+Tells (fault.Cause c) p f = (refusal_of f ≡ refused_by (cause_of c)) × (f.span ≡ p)
+
+-- at each node that stands there: the value that was made, or the refusal of its maker
+abbrev pub IsMadeAt : {V : Type 0} → Range ℕ → Result V WasmValueError → Result V Diagnostic → Type 0
+IsMadeAt p made r = (n : NodeTree) → place_of n ≡ p → IsMade n made r
+
+module _ {V : Type 0} (tree : V → Value) (of : V → TypeTree → Type 0) (Full : TypeTree → Type 0) where
+  -- whatever follows these children of a node of this type, at the type it is refused for the fault
+  abbrev pub IsDoomed : TypeTree → List ℕ → NodeType → List NodeTree → Fault → Type 0
+  IsDoomed T source ty children f =
+      (more : List NodeTree) (p : Range ℕ) (e : Diagnostic) → Tells f p e → IsReadAs tree of Full T source (node ty p (node_trees (children ++ more))) (Err e)

@@ -1,0 +1,11 @@
+pub mod CaseParts
+pub mod Faults
+pub mod Flat
+pub mod KeptParts
+pub mod ListParts
+pub mod MapParts
+pub mod NamedFlags
+pub mod PartsOfKinds
+pub mod Payloads
+pub mod RecordParts
+pub mod TupleParts

@@ -1,0 +1,40 @@
+//! What is wrong with a value, before its end is seen.
+ghost use Rattle.wave_read.specs.Faults.{Tells, IsMadeAt};
+
+use wave_lex::error::{ParserError, ParserErrorKind};
+use wave_lex::lex::Span;
+use wave_wasm::wasm::WasmValueError;
+
+/// What is wrong with a value that has parts.
+#[derive(Drop)]
+pub enum Fault {
+    /// This refusal of a part.
+    Told(ParserError),
+    /// A refusal of this kind, of the whole value.
+    Kind(ParserErrorKind),
+    /// A refusal with this cause, of the whole value.
+    Cause(WasmValueError),
+}
+
+impl Fault {
+    /// The refusal, where the whole value stands here.
+    pub(crate) fn tell(self, span: Span) -> ParserError
+        ensures { Tells self span result }
+    {
+        match self {
+            Fault::Told(error) => error,
+            Fault::Kind(kind) => ParserError::new(kind, span),
+            Fault::Cause(cause) => ParserError::with_cause(span, cause),
+        }
+    }
+}
+
+/// The value that was made, or its maker's refusal as an error that stands there.
+pub(crate) fn or_error_at<V>(span: Span, made: Result<V, WasmValueError>) -> Result<V, ParserError>
+    ensures { IsMadeAt span made result }
+{
+    match made {
+        Ok(val) => Ok(val),
+        Err(cause) => Err(ParserError::with_cause(span, cause)),
+    }
+}

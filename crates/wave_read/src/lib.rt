@@ -1,0 +1,17 @@
+//! Values that are read at their types while their tokens are taken.
+#![tactic(auto)]
+
+mod enums;
+mod fault;
+mod flags;
+mod flat;
+mod leaves;
+mod lists;
+mod maps;
+mod options;
+mod parts;
+mod records;
+mod results;
+mod tuples;
+pub mod values;
+mod variants;

@@ -1,0 +1,147 @@
+//! Maps, whose keys and values are read in turn.
+ghost use Rattle.std.specs.Prelude.{ℕ, List, [], ◌∷◌, ◌++◌, ◌≡◌, IfOk};
+ghost use Rattle.wave_wasm.specs.Types.{TypeTree, kind_of};
+ghost use Rattle.wave_wasm.specs.Borrowed.{shown};
+ghost use Rattle.wave_grammar.specs.SpannedTree.{slice};
+ghost use Rattle.wave_node.specs.NodeTree.{NodeTree, node, no_nodes, node_trees};
+ghost use Rattle.wave_plan.specs.NodeParts.{TakesKey, TakesPart};
+ghost use Rattle.wave_plan.specs.Reading.{IsReadAs, IsReadWhereDue};
+ghost use Rattle.wave_read.specs.MapParts.{AreEntries, value_type_due};
+
+use crate::fault::Fault;
+use std::alloc::{AllocError, Global};
+use wave_lex::error::{ParserError, ParserErrorKind};
+use wave_lex::lex::Span;
+use wave_node::ast::NodeType;
+use wave_node::typed::merged;
+use wave_plan::leaf::Leaf;
+use wave_wasm::wasm::{WasmType, WasmTypeKind, WasmValue};
+
+/// The entries of a map so far, and the key of the next one where it was read.
+#[derive(Drop)]
+pub struct Entries<'ty, T, V> {
+    ty: &'ty T,
+    key_type: &'ty T,
+    value_type: &'ty T,
+    entries: Vec<(V, V)>,
+    key: Option<V>,
+    fault: Option<Fault>,
+}
+
+impl<'ty, V: WasmValue> Entries<'ty, V::Type, V> {
+    /// No entries of a map of the type.
+    pub(crate) fn new(alloc: Global, ty: &'ty V::Type) -> Self
+        requires { kind_of (V.Type.tree ty.now) ≡ WasmTypeKind.Map }
+        ensures { (source : List ℕ) → AreEntries V.tree V.is_of V.is_full V.Type.tree (V.Type.tree ty.now) source [] result }
+    {
+        let (key_type, value_type) = ty.map_key_value_types().unwrap();
+        Entries {
+            ty,
+            key_type,
+            value_type,
+            entries: Vec::new(alloc),
+            key: None,
+            fault: None,
+        }
+    }
+
+    /// The type of the value that comes next: behind a key, where no fault was found.
+    pub(crate) fn next(&self) -> Option<&'ty V::Type>
+        ensures { result ≡ value_type_due self.now }
+    {
+        if self.fault.is_some() || self.key.is_none() {
+            return None;
+        }
+        Some(self.value_type)
+    }
+
+    /// Adds a key, which is of this type and text.
+    pub(crate) fn with_key(
+        &mut self,
+        alloc: Global,
+        ty: NodeType,
+        span: Span,
+        text: &str,
+    ) -> Result<(), AllocError>
+        ensures { IfOk result (λ _. (T : TypeTree) (source : List ℕ) (children : List NodeTree) → text.now ≡ slice source span → TakesKey NodeType.TupleSet children → AreEntries V.tree V.is_of V.is_full V.Type.tree T source children self.old → AreEntries V.tree V.is_of V.is_full V.Type.tree T source (children ++ node ty span no_nodes ∷ []) self.new) }
+    {
+        if self.fault.is_some() {
+            return Ok(());
+        }
+        let leaf = Leaf { ty, span, text };
+        match leaf.read_key::<V>(alloc, self.key_type) {
+            Ok(key) => {
+                drop(self.key.replace(key));
+                Ok(())
+            }
+            Err(error) => {
+                drop(self.fault.replace(Fault::Told(error)));
+                Ok(())
+            }
+        }
+    }
+
+    /// Adds the value behind the last key, which was read at the type that is due.
+    pub(crate) fn with_part(
+        &mut self,
+        alloc: Global,
+        made: Result<V, ParserError>,
+    ) -> Result<(), AllocError>
+        ensures { IfOk result (λ _. (T : TypeTree) (source : List ℕ) (children : List NodeTree) (n : NodeTree) → TakesPart NodeType.TupleSet children → AreEntries V.tree V.is_of V.is_full V.Type.tree T source children self.old → IsReadWhereDue V.tree V.is_of V.is_full (shown V.Type.tree (value_type_due self.old)) source n made → AreEntries V.tree V.is_of V.is_full V.Type.tree T source (children ++ n ∷ []) self.new) }
+    {
+        if self.fault.is_some() {
+            return Ok(());
+        }
+        match made {
+            Ok(val) => match self.key.take() {
+                Some(key) => {
+                    self.entries.push((key, val))?;
+                    Ok(())
+                }
+                None => Ok(()),
+            },
+            Err(error) => {
+                drop(self.fault.replace(Fault::Told(error)));
+                Ok(())
+            }
+        }
+    }
+
+    /// The map of the entries, which stands here, each key once.
+    pub(crate) fn whole(self, alloc: Global, span: Span) -> Result<V, ParserError>
+        ensures { (T : TypeTree) (source : List ℕ) (children : List NodeTree) → AreEntries V.tree V.is_of V.is_full V.Type.tree T source children self.entry → IsReadAs V.tree V.is_of V.is_full T source (node NodeType.TupleSet span (node_trees children)) result }
+    {
+        let Entries {
+            ty,
+            entries,
+            fault,
+            ..
+        } = self;
+        if let Some(fault) = fault {
+            return Err(fault.tell(span));
+        }
+        let entries = match merged(alloc, entries) {
+            Ok(entries) => entries,
+            Err(_) => return Err(ParserError::new(ParserErrorKind::OutOfMemory, span)),
+        };
+        match V::make_map(alloc, ty, entries) {
+            Ok(val) => Ok(val),
+            Err(cause) => Err(ParserError::with_cause(span, cause)),
+        }
+    }
+}
+
+/// The map of `{}`, which stands here.
+pub(crate) fn read_no_entries<V: WasmValue>(
+    alloc: Global,
+    ty: &V::Type,
+    span: Span,
+) -> Result<V, ParserError>
+    requires { kind_of (V.Type.tree ty.now) ≡ WasmTypeKind.Map }
+    ensures { (source : List ℕ) → IsReadAs V.tree V.is_of V.is_full (V.Type.tree ty.now) source (node NodeType.EmptySet span no_nodes) result }
+{
+    match V::make_map(alloc, ty, Vec::new(alloc)) {
+        Ok(val) => Ok(val),
+        Err(cause) => Err(ParserError::with_cause(span, cause)),
+    }
+}

@@ -1,0 +1,149 @@
+//! The plan that reads values of a type.
+ghost use Rattle.std.specs.Prelude.{ℕ, ◌≡◌, List, [], Some};
+ghost use Rattle.wave_plan.specs.NodeParts.{IsOfParts};
+ghost use Rattle.wave_read.specs.KeptParts.{AreKept};
+
+use crate::fault::Fault;
+use crate::flat::{around, flat_payload};
+use crate::leaves::{flags_at, read_leaf};
+use crate::parts::Parts;
+use std::alloc::{AllocError, Global};
+use std::collections::BTreeMap;
+use wave_lex::error::{ParserError, ParserErrorKind};
+use wave_lex::lex::Span;
+use wave_node::ast::NodeType;
+use wave_plan::leaf::Leaf;
+use wave_plan::plan::Plan;
+use wave_wasm::wasm::WasmValue;
+
+/// The plan that reads a value of the type that is due. Where none is due nothing is kept, and the
+/// answer is worth nothing.
+#[derive_where(Clone, Copy)]
+pub struct Values<'ty, V: WasmValue> {
+    due: Option<&'ty V::Type>,
+}
+
+impl<'ty, V: WasmValue> Values<'ty, V> {
+    /// The plan that reads a value of the type.
+    pub fn new(ty: &'ty V::Type) -> Self
+        ensures { result.due ≡ Some ty.entry }
+    {
+        Values { due: Some(ty) }
+    }
+}
+
+/// What has been read of the parts of a value, or of the flat payload that stands for the value.
+#[derive(Drop)]
+pub struct Kept<'ty, T, V> {
+    around: Option<&'ty T>,
+    parts: Parts<'ty, T, V>,
+}
+
+impl<'ty, V: WasmValue> Kept<'ty, V::Type, V> {
+    /// No parts yet, of a value of the type at a node of this one.
+    fn new(alloc: Global, ty: &'ty V::Type, of: NodeType) -> Self
+        ensures { (source : List ℕ) → IsOfParts of → AreKept V.Type.tree V.tree V.is_of V.is_full (V.Type.tree ty.now) source of [] result }
+    {
+        match flat_payload(ty, of) {
+            Some(payload) => Kept {
+                around: Some(ty),
+                parts: Parts::new(alloc, payload, of),
+            },
+            None => Kept {
+                around: None,
+                parts: Parts::new(alloc, ty, of),
+            },
+        }
+    }
+}
+
+impl<'ty, V: WasmValue> Plan for Values<'ty, V> {
+    type Made = Result<V, ParserError>;
+
+    type Parts = Kept<'ty, V::Type, V>;
+
+    ghost use Rattle.wave_wasm.specs.Borrowed.{shown};
+    ghost use Rattle.wave_plan.specs.Reading.{IsReadWhereDue};
+    ghost use Rattle.wave_read.specs.KeptParts.{AreKeptWhereDue};
+    ghost use Rattle.wave_read.specs.PartsOfKinds.{next_due};
+
+    ghost is_made = { λ plan source n made. IsReadWhereDue V.tree V.is_of V.is_full (shown V.Type.tree plan.due) source n made };
+
+    ghost are_parts = { λ plan source ty children kept. AreKeptWhereDue V.Type.tree V.tree V.is_of V.is_full (shown V.Type.tree plan.due) source ty children kept };
+
+    ghost next = { λ plan kept. record plan { due = next_due kept.parts } };
+
+    ghost takes_memory = { Unit {0} };
+
+    fn leaf(self, alloc: Global, ty: NodeType, span: Span, text: &str) -> Result<V, ParserError> {
+        let leaf = Leaf { ty, span, text };
+        match self.due {
+            Some(due) => read_leaf(&leaf, alloc, due),
+            None => Err(leaf.error(ParserErrorKind::InvalidType)),
+        }
+    }
+
+    fn parts(self, alloc: Global, ty: NodeType) -> Kept<'ty, V::Type, V> {
+        match self.due {
+            Some(due) => Kept::new(alloc, due, ty),
+            None => Kept {
+                around: None,
+                parts: Parts::Faulty(Fault::Kind(ParserErrorKind::InvalidType)),
+            },
+        }
+    }
+
+    fn part(self, parts: &Kept<'ty, V::Type, V>) -> Self {
+        Values {
+            due: parts.parts.next(),
+        }
+    }
+
+    fn with_key(
+        self,
+        alloc: Global,
+        parts: &mut Kept<'ty, V::Type, V>,
+        ty: NodeType,
+        span: Span,
+        text: &str,
+    ) -> Result<(), AllocError> {
+        parts.parts.with_key(alloc, ty, span, text)
+    }
+
+    fn with_part(
+        self,
+        alloc: Global,
+        parts: &mut Kept<'ty, V::Type, V>,
+        made: Result<V, ParserError>,
+    ) -> Result<(), AllocError> {
+        parts.parts.with_part(alloc, made)
+    }
+
+    fn whole(
+        self,
+        alloc: Global,
+        ty: NodeType,
+        span: Span,
+        parts: Kept<'ty, V::Type, V>,
+    ) -> Result<V, ParserError> {
+        let place = span.start..span.end;
+        let Kept { around: ty, parts } = parts;
+        let made = parts.whole(alloc, span);
+        match ty {
+            Some(ty) => around(alloc, ty, place, made),
+            None => made,
+        }
+    }
+
+    fn flags(
+        self,
+        alloc: Global,
+        span: Span,
+        flags: BTreeMap<&str, Span>,
+    ) -> Result<Result<V, ParserError>, AllocError> {
+        match self.due {
+            Some(due) => Ok(flags_at(alloc, due, span, flags)),
+            None => Ok(Err(ParserError::new(ParserErrorKind::InvalidType, span))),
+        }
+    }
+}

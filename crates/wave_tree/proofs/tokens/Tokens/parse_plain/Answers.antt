@@ -1,0 +1,79 @@
+use Rattle.std.proofs.Common.{◌≢◌, inr, Err, [], arith, sym, subst, ◌∙◌}
+use Rattle.std.specs.Prelude.{IfErr}
+use Rattle.wave_lex.specs.declared.error.ParserErrorKind.TheVariants as because
+use Rattle.wave_lex.specs.Errors.{Diagnostic}
+use Rattle.wave_grammar.specs.PrefixAutomaton.{value}
+use Rattle.wave_grammar.specs.SyntaxErrors.{FailsBySyntax}
+use Rattle.wave_tree.specs.Private.ParserState.{Stream}
+use Rattle.wave_tree.specs.FromStr.{IsTypeRefused, IsCausedBetween}
+use Rattle.wave_tree.proofs.ErrorSpans.Syntax.{back_lies, back_same, refused_lies, refused_kind}
+use Rattle.wave_tree.proofs.ReadTokens.{IsAnswered, plain_answered, answered_value, answered_refused, answered_within, answered_caused}
+use Rattle.wave_tree.proofs.tokens.Tokens.parse_plain.Goals as goal
+
+pub returns-in-Ok-Ok-clause-value : goal.returns-in-Ok-Ok-clause-value
+returns-in-Ok-Ok-clause-value g c =
+    let tree = g.V.WasmValue.tree in
+    let of = g.V.WasmValue.is_of in
+    let full = g.V.WasmValue.is_full in
+    let T = g.V.Type.WasmType.tree c.args.ty.now in
+    let old = c.args.self.now.place in
+    let made = plain_answered tree of full T c.args.levels old c.parse_node.new.self.place c.in-Ok-Ok.field-0 c.new-plan.result.due c.kind.result c.new-plan.ensures c.kind.ensures c.requires c.start_here-start.ensures.sound (c.in-Ok-Ok.ensures.led c.args.levels [] (omega arith)) c.in-Ok-Ok.ensures.tree in
+    answered_value tree of full T c.args.levels old c.parse_node.new.self.place c.in-Ok-Ok.value (subst (IsAnswered tree of full T c.args.levels old c.parse_node.new.self.place) c.in-Ok-Ok.field-0-is made.0)
+
+pub returns-in-Ok-Err-clause-refused : goal.returns-in-Ok-Err-clause-refused
+returns-in-Ok-Err-clause-refused g c = λ apart.
+    let tree = g.V.WasmValue.tree in
+    let of = g.V.WasmValue.is_of in
+    let full = g.V.WasmValue.is_full in
+    let T = g.V.Type.WasmType.tree c.args.ty.now in
+    let old = c.args.self.now.place in
+    let made = plain_answered tree of full T c.args.levels old c.parse_node.new.self.place c.in-Ok-Err.field-0 c.new-plan.result.due c.kind.result c.new-plan.ensures c.kind.ensures c.requires c.start_here-start.ensures.sound (c.in-Ok-Err.ensures.led c.args.levels [] (omega arith)) c.in-Ok-Err.ensures.tree in
+    let told = subst (IsAnswered tree of full T c.args.levels old c.parse_node.new.self.place) c.in-Ok-Err.field-0-is made.0 in
+    let back = c.refuse.ensures.other apart in
+    inr (back_same (λ e (q : Stream). IsTypeRefused full T c.args.levels e old q.place) c.in-Ok-Err.error c.refuse.result c.parse_node.new.self c.refuse.new.self back
+    (answered_refused tree of full T c.args.levels old c.parse_node.new.self.place c.in-Ok-Err.error told (λ m. apart (c.refuse.ensures.kind ∙ m))))
+
+pub returns-in-Ok-Err-clause-within : goal.returns-in-Ok-Err-clause-within
+returns-in-Ok-Err-clause-within g c =
+    let tree = g.V.WasmValue.tree in
+    let of = g.V.WasmValue.is_of in
+    let full = g.V.WasmValue.is_full in
+    let T = g.V.Type.WasmType.tree c.args.ty.now in
+    let old = c.args.self.now.place in
+    let made = plain_answered tree of full T c.args.levels old c.parse_node.new.self.place c.in-Ok-Err.field-0 c.new-plan.result.due c.kind.result c.new-plan.ensures c.kind.ensures c.requires c.start_here-start.ensures.sound (c.in-Ok-Err.ensures.led c.args.levels [] (omega arith)) c.in-Ok-Err.ensures.tree in
+    let told = subst (IsAnswered tree of full T c.args.levels old c.parse_node.new.self.place) c.in-Ok-Err.field-0-is made.0 in
+    back_lies _ old.lexer c.in-Ok-Err.error c.refuse.result c.start_here-start.ensures.place c.refuse.ensures.within (λ apart. answered_within tree of full T c.args.levels old c.parse_node.new.self.place (Err c.in-Ok-Err.error) told)
+
+pub returns-in-Ok-Err-clause-caused : goal.returns-in-Ok-Err-clause-caused
+returns-in-Ok-Err-clause-caused g c = λ was.
+    let tree = g.V.WasmValue.tree in
+    let of = g.V.WasmValue.is_of in
+    let full = g.V.WasmValue.is_full in
+    let T = g.V.Type.WasmType.tree c.args.ty.now in
+    let old = c.args.self.now.place in
+    let made = plain_answered tree of full T c.args.levels old c.parse_node.new.self.place c.in-Ok-Err.field-0 c.new-plan.result.due c.kind.result c.new-plan.ensures c.kind.ensures c.requires c.start_here-start.ensures.sound (c.in-Ok-Err.ensures.led c.args.levels [] (omega arith)) c.in-Ok-Err.ensures.tree in
+    let told = subst (IsAnswered tree of full T c.args.levels old c.parse_node.new.self.place) c.in-Ok-Err.field-0-is made.0 in
+    let apart : c.refuse.result.kind ≢ because.OutOfMemory = λ m. cc in
+    back_same (λ e (q : Stream). IsCausedBetween c.args.levels old q.place e) c.in-Ok-Err.error c.refuse.result c.parse_node.new.self c.refuse.new.self (c.refuse.ensures.other apart)
+    (answered_caused tree of full T c.args.levels old c.parse_node.new.self.place c.in-Ok-Err.error told) was
+
+pub returns-in-Ok-Err-clause-spares : goal.returns-in-Ok-Err-clause-spares
+returns-in-Ok-Err-clause-spares g c = λ row none memory.
+    let tree = g.V.WasmValue.tree in
+    let of = g.V.WasmValue.is_of in
+    let full = g.V.WasmValue.is_full in
+    let T = g.V.Type.WasmType.tree c.args.ty.now in
+    let old = c.args.self.now.place in
+    let made = plain_answered tree of full T c.args.levels old c.parse_node.new.self.place c.in-Ok-Err.field-0 c.new-plan.result.due c.kind.result c.new-plan.ensures c.kind.ensures c.requires c.start_here-start.ensures.sound (c.in-Ok-Err.ensures.led c.args.levels [] (omega arith)) c.in-Ok-Err.ensures.tree in
+    subst (λ r. IfErr r (λ e. e.kind ≢ because.OutOfMemory)) c.in-Ok-Err.field-0-is (made.1 row) (sym c.refuse.ensures.kind ∙ memory)
+
+pub returns-in-Err-clause-within : goal.returns-in-Err-clause-within
+returns-in-Err-clause-within g c =
+    let led = subst (λ (e : Diagnostic). FailsBySyntax e c.args.levels value [] c.args.self.now.place c.parse_node.new.self.place) (sym c.into_error.ensures) (c.in-Err.ensures.led c.args.levels [] (omega arith)) in
+    back_lies _ c.args.self.now.place.lexer c.into_error.result c.refuse-in-Err.result c.start_here-start.ensures.place c.refuse-in-Err.ensures.within (λ apart.
+    refused_lies c.into_error.result c.args.levels value [] c.args.self.now.place c.parse_node.new.self.place (led apart) c.start_here-start.ensures.inside)
+
+pub returns-in-Err-clause-caused : goal.returns-in-Err-clause-caused
+returns-in-Err-clause-caused g c = λ was.
+    let led = subst (λ (e : Diagnostic). FailsBySyntax e c.args.levels value [] c.args.self.now.place c.parse_node.new.self.place) (sym c.into_error.ensures) (c.in-Err.ensures.led c.args.levels [] (omega arith)) in
+    absurd (refused_kind c.into_error.result c.args.levels value [] c.args.self.now.place c.parse_node.new.self.place (led (λ m. cc)) (sym c.refuse-in-Err.ensures.kind ∙ was))

@@ -1,0 +1,85 @@
+//! The refusals of tokens.
+ghost use Rattle.std.specs.Prelude.{◌≡◌, None, Some};
+ghost use Rattle.std.specs.String.{string_bytes};
+ghost use Rattle.wave_lex.specs.Errors.{Says, class_name};
+
+use std::marker::Model;
+use wave_lex::error::{ParserError, ParserErrorKind};
+use wave_lex::lex::{Span, Token};
+
+/// What is told beside the kind of a refusal.
+#[derive(Drop)]
+enum Beside {
+    /// Nothing.
+    Nothing,
+    /// The name of a class of tokens.
+    Class(Token),
+    /// Words that were made for this refusal.
+    Words(String),
+}
+
+/// Why the tokens are refused: the kind, where, and what is told beside. A clause sees the error
+/// that it is to become.
+#[derive(Drop)]
+pub(crate) struct Refusal {
+    kind: ParserErrorKind,
+    span: Span,
+    beside: Beside,
+}
+
+impl Model for Refusal {
+    ghost use Rattle.std.specs.Prelude.{None};
+    ghost use Rattle.wave_lex.specs.Errors.{Diagnostic};
+    ghost use Rattle.wave_tree.specs.Private.Refusals.{told};
+
+    ghost Value = { Diagnostic };
+
+    ghost view = { λ r. record { kind = r.kind; span = r.span; detail = told r.beside; cause = None } };
+}
+
+impl Refusal {
+    /// A refusal of this kind.
+    pub(crate) fn new(kind: ParserErrorKind, span: Span) -> Refusal
+        ensures { Says result kind span None }
+    {
+        Refusal {
+            kind,
+            span,
+            beside: Beside::Nothing,
+        }
+    }
+
+    /// A refusal that tells the class of a token.
+    pub(crate) fn with_class(kind: ParserErrorKind, span: Span, class: Token) -> Refusal
+        ensures { Says result kind span (Some (class_name class)) }
+    {
+        Refusal {
+            kind,
+            span,
+            beside: Beside::Class(class),
+        }
+    }
+
+    /// A refusal that tells these words.
+    pub(crate) fn with_words(kind: ParserErrorKind, span: Span, words: String) -> Refusal
+        ensures { Says result kind span (Some (string_bytes words)) }
+    {
+        Refusal {
+            kind,
+            span,
+            beside: Beside::Words(words),
+        }
+    }
+
+    /// The error that tells it.
+    pub(crate) fn into_error(self) -> ParserError
+        ensures { result ≡ self }
+    {
+        let Refusal { kind, span, beside } = self;
+        match beside {
+            Beside::Nothing => ParserError::new(kind, span),
+            Beside::Class(class) => ParserError::with_static(kind, span, class.name()),
+            Beside::Words(words) => ParserError::with_detail(kind, span, words),
+        }
+    }
+}
