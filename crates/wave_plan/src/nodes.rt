@@ -48,12 +48,7 @@ impl Plan for Nodes {
         Ok(())
     }
 
-    fn with_part(
-        self,
-        alloc: Global,
-        parts: &mut Vec<Node>,
-        made: Node,
-    ) -> Result<(), AllocError> {
+    fn with_part(self, alloc: Global, parts: &mut Vec<Node>, made: Node) -> Result<(), AllocError> {
         parts.push(made)?;
         Ok(())
     }
