@@ -11,7 +11,7 @@ use Rattle.wave_lex.specs.Regex.{Regex}
 use Rattle.wave_lex.specs.Derive.{after, after_all, after_next}
 use Rattle.wave_lex.specs.Strings.{short_escape, IsEscape}
 use Rattle.wave_lex.specs.Tokens.{string}
-use Rattle.wave_lex.specs.Private.Reading.{LeadsTo}
+use Rattle.wave_lex.specs.Private.Reading.{LeadsTo, IsPlainRun}
 use Rattle.wave_lex.specs.Machines.{is_hexadecimal, is_plain, escape_step, ends_short, in_string, string_rest}
 use Rattle.wave_lex.specs.declared.machine.escape.EscapeState.{EscapeState}
 use Rattle.wave_lex.specs.declared.machine.escape.EscapeState.TheVariants as escape
@@ -26,7 +26,7 @@ use Rattle.wave_lex.proofs.Scanning.{after_all_append}
 use Rattle.wave_lex.proofs.Machines.{string_steps}
 use Rattle.wave_lex.proofs.Parts.{AllAscii, digit_ascii, escape_ascii}
 use Rattle.wave_lex.proofs.Fronts.{take_plus, ascii_leads, cut_here}
-use Rattle.wave_lex.proofs.Runs.{ArePlain, plains_stay, plain_taken}
+use Rattle.wave_lex.proofs.Runs.{ArePlain, plains_stay, plain_taken, not_plain_ascii}
 
 -- what leads on from where something leads
 pub leads_on : (r q w : Regex) (s t : List ℕ) (p k : ℕ) → t ≡ drop p s → LeadsTo r q s p → LeadsTo q w t k → LeadsTo r w s (p + k)
@@ -149,10 +149,9 @@ plains_go s n u l h cut =
     }
 
 -- what the code counts as plain
-pub plains_here : (s b : List ℕ) (n : ℕ) → b ≡ s → IsUtf8 s → n ≤ length b → ((i : ℕ) → i < n → is_plain (get_or b i 0) ≡ true) → (n < length b → get_or b n 0 < 128)
-    → LeadsTo (string_rest string.Inside) (string_rest string.Inside) s n
-plains_here s b n e u l h stops = subst (λ (z : List ℕ). LeadsTo (string_rest string.Inside) (string_rest string.Inside) z n) e
-    (plains_go b n (subst IsUtf8 (sym e) u) l h (cut_here b n l stops))
+pub plains_here : (s b : List ℕ) (n : ℕ) → b ≡ s → IsUtf8 s → IsPlainRun b n → LeadsTo (string_rest string.Inside) (string_rest string.Inside) s n
+plains_here s b n e u run = subst (λ (z : List ℕ). LeadsTo (string_rest string.Inside) (string_rest string.Inside) z n) e
+    (plains_go b n (subst IsUtf8 (sym e) u) run.within run.all (cut_here b n run.within (λ l. not_plain_ascii (get_or b n 0) (run.stops l))))
 
 -- a quote leads into a string
 pub quote_leads : (s : List ℕ) → 0 < length s → get_or s 0 0 ≡ 34 → LeadsTo string (string_rest string.Inside) s 1

@@ -1,15 +1,15 @@
 -- The longest front of a text whose first bytes are read without a machine.
-use Rattle.std.proofs.Common.{◌≡◌, ℕ, ◌≤◌, ◌<◌, ◌+◌, ◌-◌, Bool, true, false, nat_eq, zero, suc, List, [], ◌∷◌, ◌++◌, ◌⊎◌, inl, inr, refl, sym, ap, subst, ◌∙◌, length, take, drop, arith, get_or, Some, None, length-drop, length-take-le, length-append, append_assoc}
-use Rattle.std.specs.Prelude.{◌≢◌, ◌&&◌, nat_lt, encode_utf8, encode_utf8_all}
+use Rattle.std.proofs.Common.{◌≡◌, ℕ, ◌≤◌, ◌<◌, ◌+◌, ◌-◌, true, false, zero, suc, List, [], ◌∷◌, ◌++◌, inl, inr, refl, sym, ap, subst, ◌∙◌, length, take, drop, arith, get_or, Some, None, length-drop, length-take-le, append_assoc}
+use Rattle.std.specs.Prelude.{nat_lt, encode_utf8, encode_utf8_all}
 use Rattle.std.specs.Str.{IsUtf8, IsCharBoundary}
 use Rattle.std.proofs.lemmas.Bool.{cases_lt}
 use Rattle.std.proofs.lemmas.Bool.Decides.{nat_tests}
-use Rattle.std.proofs.lemmas.List.{append_cancel_left, take-append-drop, get_or_append_left}
-use Rattle.std.proofs.Math.Seq.{take-append-add, get_or-append_right}
-use Rattle.std.proofs.lemmas.Str.{encodes-append, encode_ascii, cons_from_encodes, IsCharBoundary-start, IsCharBoundary-end, IsCharBoundary-after_ascii, IsCharBoundary-before_ascii}
+use Rattle.std.proofs.lemmas.List.{append_cancel_left, take-append-drop}
+use Rattle.std.proofs.Math.Seq.{take-append-add}
+use Rattle.std.proofs.lemmas.Str.{encodes-append, encode_ascii, IsCharBoundary-start, IsCharBoundary-end, IsCharBoundary-after_ascii, IsCharBoundary-before_ascii}
 use Rattle.wave_lex.specs.Tokens.{any}
-use Rattle.wave_lex.specs.Regex.{many, Regex, nothing, empty, Matches}
-use Rattle.wave_lex.specs.Derive.{may_be_empty, after, after_all, after_next}
+use Rattle.wave_lex.specs.Regex.{many, Regex, nothing, Matches}
+use Rattle.wave_lex.specs.Derive.{may_be_empty, after, after_all}
 use Rattle.wave_lex.specs.LongestMatch.{Greatest, IsFront}
 use Rattle.wave_lex.specs.Private.Reading.{LeadsTo}
 use Rattle.wave_lex.proofs.Derive.{matches_from, matches_into, empty_from}

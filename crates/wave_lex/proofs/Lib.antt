@@ -2,6 +2,7 @@ pub mod Derive
 pub mod Shapes
 pub mod LongestMatch
 pub mod Machines
+pub mod MultilineMachine
 pub mod NameMachine
 pub mod Seen
 pub mod Scanning
@@ -20,6 +21,7 @@ pub mod Fronts
 pub mod Runs
 pub mod EscapeRuns
 pub mod Quotes
+pub mod FirstQuotes
 pub mod LabelWords
 pub mod LineParts
 pub mod Examples

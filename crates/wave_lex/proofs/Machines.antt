@@ -7,7 +7,7 @@ use Rattle.wave_lex.specs.Regex.{Regex}
 use Rattle.wave_lex.specs.Strings.{short_escape}
 use Rattle.wave_lex.specs.Derive.{after, after_next}
 use Rattle.wave_lex.proofs.Shapes.{same, same_true, each_below, each_below_at, is_ascii_shape, after_past}
-use Rattle.wave_lex.specs.Machines.{number_rest, number_step, label_rest, label_step, label_token_rest, in_token, label_token_step, ends_short, escape_step, in_string, in_char, gap_rest, gap_step, string_rest, string_step, character_rest, character_step, multiline_rest, multiline_step, invalid_rest, invalid_step}
+use Rattle.wave_lex.specs.Machines.{number_rest, number_step, label_rest, label_step, label_token_rest, in_token, label_token_step, ends_short, escape_step, in_string, in_char, gap_rest, gap_step, string_rest, string_step, character_rest, character_step, invalid_rest, invalid_step}
 use Rattle.wave_lex.specs.declared.machine.number.NumberState.{NumberState}
 use Rattle.wave_lex.specs.declared.machine.number.NumberState.TheVariants as n
 use Rattle.wave_lex.specs.declared.machine.label.LabelState.{LabelState}
@@ -23,8 +23,6 @@ use Rattle.wave_lex.specs.declared.machine.string.StringState.{StringState}
 use Rattle.wave_lex.specs.declared.machine.string.StringState.TheVariants as string
 use Rattle.wave_lex.specs.declared.machine.character.CharState.{CharState}
 use Rattle.wave_lex.specs.declared.machine.character.CharState.TheVariants as character
-use Rattle.wave_lex.specs.declared.machine.multiline.MultilineState.{MultilineState}
-use Rattle.wave_lex.specs.declared.machine.multiline.MultilineState.TheVariants as multiline
 use Rattle.wave_lex.specs.declared.machine.invalid.InvalidState.{InvalidState}
 use Rattle.wave_lex.specs.declared.machine.invalid.InvalidState.TheVariants as invalid
 
@@ -205,30 +203,6 @@ character_past (character.Escape e) c k = ap in_char (escape_past e c k)
 -- the machine of a char keeps to its shape
 pub character_steps : (q : CharState) (c : ℕ) → after c (character_rest q) ≡ after_next CharState character_rest (character_step q c)
 character_steps q c = let h = character_computed q in steps_agree CharState character_rest character_step q c h.0 h.1 (character_past q c)
-
--- each state of a multiline string is right at each scalar up to 128, by computing
-multiline_computed : (q : MultilineState) → (each_below 129 (agrees MultilineState multiline_rest multiline_step q) ≡ true) × (is_ascii_shape (multiline_rest q) ≡ true)
-multiline_computed multiline.Start = (refl, refl)
-multiline_computed multiline.Open1 = (refl, refl)
-multiline_computed multiline.Open2 = (refl, refl)
-multiline_computed multiline.Inside = (refl, refl)
-multiline_computed multiline.Quote1 = (refl, refl)
-multiline_computed multiline.Quote2 = (refl, refl)
-multiline_computed multiline.Close = (refl, refl)
-
--- no state of a multiline string tells scalars past ASCII apart
-multiline_past : (q : MultilineState) (c : ℕ) → 128 ≤ c → multiline_step q c ≡ multiline_step q 128
-multiline_past multiline.Start c k = grind (arith, nat_tests)
-multiline_past multiline.Open1 c k = grind (arith, nat_tests)
-multiline_past multiline.Open2 c k = grind (arith, nat_tests)
-multiline_past multiline.Inside c k = grind (arith, nat_tests)
-multiline_past multiline.Quote1 c k = grind (arith, nat_tests)
-multiline_past multiline.Quote2 c k = grind (arith, nat_tests)
-multiline_past multiline.Close c k = refl
-
--- the machine of a multiline string keeps to its shape
-pub multiline_steps : (q : MultilineState) (c : ℕ) → after c (multiline_rest q) ≡ after_next MultilineState multiline_rest (multiline_step q c)
-multiline_steps q c = let h = multiline_computed q in steps_agree MultilineState multiline_rest multiline_step q c h.0 h.1 (multiline_past q c)
 
 -- each state of an invalid token is right at each scalar up to 128, by computing
 invalid_computed : (q : InvalidState) → (each_below 129 (agrees InvalidState invalid_rest invalid_step q) ≡ true) × (is_ascii_shape (invalid_rest q) ≡ true)

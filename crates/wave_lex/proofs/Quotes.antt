@@ -156,7 +156,7 @@ cut (a ∷ b ∷ d ∷ s) h =
 -- ---- the law
 
 -- a multiline token ends at the first later three quotes
-through_into : (s : List ℕ) → Matches multiline_string s → (inside : List ℕ) × (s ≡ three_quotes ++ (inside ++ three_quotes)) × HasNoThreeQuotes (inside ++ codes "\"\"")
+pub through_into : (s : List ℕ) → Matches multiline_string s → (inside : List ℕ) × (s ≡ three_quotes ++ (inside ++ three_quotes)) × HasNoThreeQuotes (inside ++ codes "\"\"")
 through_into s (x, y, e, front, (u, v, f, (ps, g, each), back)) =
     let first : x ≡ three_quotes = word_into three_quotes x front in
     let last : v ≡ three_quotes = word_into three_quotes v back in (
@@ -166,7 +166,7 @@ through_into s (x, y, e, front, (u, v, f, (ps, g, each), back)) =
     )
 
 -- what ends at the first later three quotes is a multiline token
-through_from : (s : List ℕ) → (inside : List ℕ) × (s ≡ three_quotes ++ (inside ++ three_quotes)) × HasNoThreeQuotes (inside ++ codes "\"\"") → Matches multiline_string s
+pub through_from : (s : List ℕ) → (inside : List ℕ) × (s ≡ three_quotes ++ (inside ++ three_quotes)) × HasNoThreeQuotes (inside ++ codes "\"\"") → Matches multiline_string s
 through_from s (inside, e, h) = (three_quotes, inside ++ three_quotes, e, word_from three_quotes, (inside, three_quotes, refl, cut inside h, word_from three_quotes))
 
 -- the law

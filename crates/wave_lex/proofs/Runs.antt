@@ -1,20 +1,19 @@
 -- The bytes that leave a machine in its state, and marks.
-use Rattle.std.proofs.Common.{◌≡◌, ℕ, ◌≤◌, ◌<◌, ◌+◌, ◌-◌, Bool, true, false, nat_eq, zero, suc, List, [], ◌∷◌, ◌++◌, ◌⊎◌, inl, inr, refl, sym, ap, subst, ◌∙◌, length, take, drop, arith, get_or, Option, Some, None, length-take-le}
-use Rattle.std.specs.Prelude.{◌≢◌, if◌then◌else◌, encode_utf8, encode_utf8_all}
+use Rattle.std.proofs.Common.{◌≡◌, ℕ, ◌≤◌, ◌<◌, ◌+◌, ◌-◌, Bool, true, false, nat_eq, zero, suc, List, [], ◌∷◌, ◌++◌, ◌⊎◌, inl, inr, refl, sym, ap, subst, ◌∙◌, length, take, drop, arith, get_or, Option, Some, None, unwrap_or, length-take-le, get_or-take, get_or-drop}
+use Rattle.std.specs.Prelude.{◌≢◌, not, if◌then◌else◌, encode_utf8, encode_utf8_all}
 use Rattle.std.specs.Str.{IsUtf8}
 use Rattle.std.proofs.lemmas.Bool.{cases_lt}
 use Rattle.std.proofs.lemmas.Bool.Decides.{nat_tests}
-use Rattle.std.proofs.Math.Seq.{get_or-append_right, take-length}
-use Rattle.std.proofs.lemmas.Grind.{get_or_after_one}
-use Rattle.std.proofs.lemmas.Str.{encode_ascii, cons_from_encodes}
-use Rattle.std.specs.Str.{chars, IsCharBoundary}
-use Rattle.std.proofs.lemmas.Str.{IsUtf8-take, encodes-chars}
+use Rattle.std.proofs.Math.Seq.{get_or-append_right}
+use Rattle.std.proofs.lemmas.Str.{encode_ascii}
+use Rattle.std.specs.Str.{IsCharBoundary}
 use Rattle.std.proofs.Common.{length-append, length-drop}
+use Rattle.memchr.specs.Find.{IsFirstByte, is_byte3}
 use Rattle.wave_lex.specs.Regex.{Regex, nothing, empty, is_within}
 use Rattle.wave_lex.specs.Derive.{may_be_empty, after, after_all, after_next}
 use Rattle.wave_lex.specs.LongestMatch.{Greatest, IsFront}
 use Rattle.wave_lex.specs.Tokens.{one, string, gap, number, label_or_keyword}
-use Rattle.wave_lex.specs.Private.Reading.{LeadsTo}
+use Rattle.wave_lex.specs.Private.Reading.{LeadsTo, IsPlainRun}
 use Rattle.wave_lex.specs.Machines.{is_blank, is_digit, is_lower, is_plain, ends_whole, gap_step, gap_rest, number_step, number_rest, label_step, label_token_step, label_token_rest, in_token, string_step, string_rest}
 use Rattle.wave_lex.specs.declared.machine.number.NumberState.{NumberState}
 use Rattle.wave_lex.specs.declared.machine.number.NumberState.TheVariants as n
@@ -24,7 +23,6 @@ use Rattle.wave_lex.specs.declared.machine.label.LabelTokenState.{LabelTokenStat
 use Rattle.wave_lex.specs.declared.machine.label.LabelTokenState.TheVariants as token
 use Rattle.wave_lex.specs.declared.machine.gap.GapState.{GapState}
 use Rattle.wave_lex.specs.declared.machine.gap.GapState.TheVariants as gap
-use Rattle.wave_lex.specs.declared.machine.escape.EscapeState.{EscapeState}
 use Rattle.wave_lex.specs.declared.machine.escape.EscapeState.TheVariants as escape
 use Rattle.wave_lex.specs.declared.machine.string.StringState.{StringState}
 use Rattle.wave_lex.specs.declared.machine.string.StringState.TheVariants as string
@@ -133,6 +131,55 @@ pub plain_taken : (s : List ℕ) (n : ℕ) → n ≤ length s → ((i : ℕ) →
 plain_taken s zero l h = λ i k. let w : ⊥ = omega arith in absurd w
 plain_taken [] (suc n) l h = λ i k. let w : ⊥ = omega arith in absurd w
 plain_taken (b ∷ s) (suc n) l h = plain_cons b (take n s) (h 0 (omega arith)) (plain_taken s n (omega arith) (λ j m. h (suc j) (omega arith)))
+
+-- what is not plain is ASCII
+pub not_plain_ascii : (c : ℕ) → is_plain c ≡ false → c < 128
+not_plain_ascii c e = grind (arith, nat_tests)
+
+-- what a search for the three others passes is plain
+passed_plain : (c : ℕ) → ¬ (is_byte3 34 92 10 c ≡ true) → is_plain c ≡ true
+passed_plain c h = by_test (is_byte3 34 92 10 c) refl
+  where
+    by_test : (t : Bool) → is_byte3 34 92 10 c ≡ t → is_plain c ≡ true
+    by_test true e = absurd (h e)
+    by_test false e = ap not e
+
+-- the run that a search for the three others ends
+pub plain_found : (s : List ℕ) (o : Option ℕ) → IsFirstByte (is_byte3 34 92 10) s o → IsPlainRun s (unwrap_or o (length s))
+plain_found s None h = record { within = omega arith; all = λ i l. passed_plain (get_or s i 0) (h i (omega arith) l); stops = λ l. let w : ⊥ = omega arith in absurd w }
+plain_found s (Some k) (first, there) = record {
+  within = omega (arith, first.high);
+  all = λ i l. passed_plain (get_or s i 0) (first.before i (omega arith) l);
+  stops = λ l. ap not there;
+}
+
+-- the run that ends within the first k bytes
+pub plain_first : (s t : List ℕ) (k n : ℕ) → k ≤ length s → t ≡ take k s → n < k → IsPlainRun t n → IsPlainRun s n
+plain_first s t k n fits e less run =
+    let long : length t ≡ k = ap length e ∙ length-take-le k s fits in
+    let same : (i : ℕ) → i < k → get_or t i 0 ≡ get_or s i 0 = λ i l. ap (λ (z : List ℕ). get_or z i 0) e ∙ get_or-take k s i 0 l in
+    record {
+      within = omega arith;
+      all = λ i l. sym (ap is_plain (same i (omega arith))) ∙ run.all i l;
+      stops = λ l. sym (ap is_plain (same n less)) ∙ run.stops (omega arith);
+    }
+
+-- the run that goes on behind the first k bytes
+pub plain_joined : (s t u : List ℕ) (k n m : ℕ) → k ≤ length s → t ≡ take k s → u ≡ drop k s → k ≤ n → IsPlainRun t n → IsPlainRun u m → IsPlainRun s (k + m)
+plain_joined s t u k n m fits e f all run rest =
+    let long : length u ≡ length s - k = ap length f ∙ length-drop k s in
+    let inside : m ≤ length u = rest.within in
+    let front : (i : ℕ) → i < k → get_or t i 0 ≡ get_or s i 0 = λ i l. ap (λ (z : List ℕ). get_or z i 0) e ∙ get_or-take k s i 0 l in
+    let behind : (i : ℕ) → get_or u i 0 ≡ get_or s (k + i) 0 = λ i. ap (λ (z : List ℕ). get_or z i 0) f ∙ get_or-drop k s i 0 in
+    record {
+      within = omega arith;
+      all = λ i l. elim (cases_lt i k) as (λ _. is_plain (get_or s i 0) ≡ true) [
+        | inl less ↦ sym (ap is_plain (front i less)) ∙ run.all i (omega arith)
+        | inr more ↦ let same : k + (i - k) ≡ i = omega arith in
+            sym (ap is_plain (behind (i - k) ∙ ap (λ (z : ℕ). get_or s z 0) same)) ∙ rest.all (i - k) (omega arith)
+      ];
+      stops = λ l. sym (ap is_plain (behind m)) ∙ rest.stops (omega arith);
+    }
 
 -- ---- behind a string
 

@@ -3,7 +3,7 @@ use Rattle.std.specs.Prelude.{ℕ, ◌||◌, Bool, true, false, not, if◌then�
 use Rattle.wave_lex.specs.Regex.{Regex, is_within}
 use Rattle.wave_lex.specs.Derive.{after_all}
 use Rattle.wave_lex.specs.Strings.{short_escape}
-use Rattle.wave_lex.specs.Tokens.{number, label, label_or_keyword, gap, string, character, multiline_string, invalid}
+use Rattle.wave_lex.specs.Tokens.{number, label, label_or_keyword, gap, string, character, invalid}
 use Rattle.wave_lex.specs.declared.machine.character.CharState.TheVariants as character
 use Rattle.wave_lex.specs.declared.machine.character.CharState.{CharState}
 use Rattle.wave_lex.specs.declared.machine.escape.EscapeState.TheVariants as escape
@@ -18,8 +18,6 @@ use Rattle.wave_lex.specs.declared.machine.label.LabelState.TheVariants as l
 use Rattle.wave_lex.specs.declared.machine.label.LabelState.{LabelState}
 use Rattle.wave_lex.specs.declared.machine.label.LabelTokenState.TheVariants as token
 use Rattle.wave_lex.specs.declared.machine.label.LabelTokenState.{LabelTokenState}
-use Rattle.wave_lex.specs.declared.machine.multiline.MultilineState.TheVariants as multiline
-use Rattle.wave_lex.specs.declared.machine.multiline.MultilineState.{MultilineState}
 use Rattle.wave_lex.specs.declared.machine.number.NumberState.TheVariants as n
 use Rattle.wave_lex.specs.declared.machine.number.NumberState.{NumberState}
 use Rattle.wave_lex.specs.declared.machine.string.StringState.TheVariants as string
@@ -210,26 +208,6 @@ character_step character.Open c = if nat_eq c 92 then Some (character.Escape esc
 character_step (character.Escape e) c = in_char (escape_step e c)
 character_step character.Filled c = if nat_eq c 39 then Some character.Close else None
 character_step character.Close c = None
-
--- what may still follow in a multiline string
-abbrev pub multiline_rest : MultilineState → Regex
-multiline_rest multiline.Start = after_all ([]) multiline_string
-multiline_rest multiline.Open1 = after_all (34 ∷ []) multiline_string
-multiline_rest multiline.Open2 = after_all (34 ∷ 34 ∷ []) multiline_string
-multiline_rest multiline.Inside = after_all (34 ∷ 34 ∷ 34 ∷ []) multiline_string
-multiline_rest multiline.Quote1 = after_all (34 ∷ 34 ∷ 34 ∷ 34 ∷ []) multiline_string
-multiline_rest multiline.Quote2 = after_all (34 ∷ 34 ∷ 34 ∷ 34 ∷ 34 ∷ []) multiline_string
-multiline_rest multiline.Close = after_all (34 ∷ 34 ∷ 34 ∷ 34 ∷ 34 ∷ 34 ∷ []) multiline_string
-
--- what a multiline string reads next
-abbrev pub multiline_step : MultilineState → ℕ → Option MultilineState
-multiline_step multiline.Start c = (if nat_eq c 34 then Some multiline.Open1 else None)
-multiline_step multiline.Open1 c = (if nat_eq c 34 then Some multiline.Open2 else None)
-multiline_step multiline.Open2 c = (if nat_eq c 34 then Some multiline.Inside else None)
-multiline_step multiline.Inside c = (if nat_eq c 34 then Some multiline.Quote1 else Some multiline.Inside)
-multiline_step multiline.Quote1 c = (if nat_eq c 34 then Some multiline.Quote2 else Some multiline.Inside)
-multiline_step multiline.Quote2 c = (if nat_eq c 34 then Some multiline.Close else Some multiline.Inside)
-multiline_step multiline.Close c = None
 
 -- what may still follow in an invalid token
 abbrev pub invalid_rest : InvalidState → Regex

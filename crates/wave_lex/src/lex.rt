@@ -7,13 +7,12 @@ ghost use Rattle.wave_lex.specs.Tokens.{shape, invalid};
 ghost use Rattle.wave_lex.specs.Tokenization.{Lexed, Stands, NextIs, remainder_of, span};
 ghost use Rattle.wave_lex.specs.Private.Reading.{class_of, ClassAt, TokenAt};
 
-use self::front::{gap_at, label_at, mark_at, number_at, string_at};
+use self::front::{gap_at, label_at, mark_at, multiline_at, number_at, string_at};
 pub use self::func_name::FuncNameLexer;
 use crate::asked::Asked;
 use crate::machine::character::CharState;
 use crate::machine::invalid::InvalidState;
 use crate::machine::longest_front;
-use crate::machine::multiline::MultilineState;
 use std::fmt;
 use std::marker::Model;
 use std::ops::Range;
@@ -142,7 +141,7 @@ fn longest_in(class: Token, text: &str) -> Option<usize>
         Token::LabelOrKeyword => label_at(text),
         Token::Char => longest_front(CharState::Start, text),
         Token::String => string_at(text),
-        Token::MultilineString => longest_front(MultilineState::Start, text),
+        Token::MultilineString => multiline_at(text),
     }
 }
 

@@ -9,7 +9,6 @@ pub(crate) mod escape;
 pub(crate) mod gap;
 pub(crate) mod invalid;
 pub mod label;
-pub(crate) mod multiline;
 pub(crate) mod name;
 pub(crate) mod number;
 pub(crate) mod string;

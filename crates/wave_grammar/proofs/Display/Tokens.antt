@@ -4,9 +4,6 @@ use Rattle.std.specs.Prelude.{encode_utf8_all}
 use Rattle.std.proofs.lemmas.Bool.Decides.{nat_tests}
 use Rattle.wave_wasm.specs.Lists.{AllOf}
 use Rattle.wave_lex.specs.declared.lex.Token.TheVariants as class
-use Rattle.wave_lex.specs.declared.machine.multiline.MultilineState.{MultilineState}
-use Rattle.wave_lex.specs.declared.machine.multiline.MultilineState.TheVariants as multiline_state
-use Rattle.wave_lex.specs.Machines.{multiline_rest, multiline_step}
 use Rattle.wave_lex.specs.Regex.{Matches, is_within}
 use Rattle.wave_lex.specs.Derive.{may_be_empty, after}
 use Rattle.wave_lex.specs.Tokens as shapes
@@ -14,7 +11,8 @@ use Rattle.wave_lex.specs.Tokens.{shape}
 use Rattle.wave_lex.specs.Labels.{IsLabel}
 use Rattle.wave_lex.specs.Tokenization.{Front}
 use Rattle.wave_lex.proofs.Derive.{matches_into}
-use Rattle.wave_lex.proofs.Machines.{multiline_steps}
+use Rattle.wave_lex.proofs.MultilineMachine as multiline_state
+use Rattle.wave_lex.proofs.MultilineMachine.{MultilineState, multiline_rest, multiline_step, multiline_steps}
 use Rattle.wave_grammar.specs.Token.{Token, CutsInto, lexeme_of, text_of, number, label, char, string, multiline}
 use Rattle.wave_grammar.specs.LeafTokens.{name_of}
 use Rattle.wave_grammar.specs.Tree.{IsKey}

@@ -1,10 +1,11 @@
 -- What the lexer's own functions answer. Only private contracts and proofs cite it.
-use Rattle.std.specs.Prelude.{◌≡◌, ℕ, ◌<◌, ◌||◌, nat_eq, if◌then◌else◌, List, Option, Some, None}
+use Rattle.std.specs.Prelude.{◌≡◌, ℕ, ◌<◌, ◌≤◌, ◌||◌, true, false, nat_eq, if◌then◌else◌, List, Option, Some, None, length, slice_index}
 use Rattle.wave_lex.specs.declared.lex.Token.{Token}
 use Rattle.wave_lex.specs.declared.lex.Token.TheVariants.{BraceOpen, BraceClose, ParenOpen, ParenClose, BracketOpen, BracketClose, Colon, Comma, Number, LabelOrKeyword, Char, String}
 use Rattle.wave_lex.specs.Regex.{Regex, is_within}
 use Rattle.wave_lex.specs.Derive.{after_all}
 use Rattle.wave_lex.specs.LongestMatch.{FrontHas}
+use Rattle.wave_lex.specs.Machines.{is_plain}
 use Rattle.wave_lex.specs.Tokenization.{MayStandAt, IsToken, IsLongestToken, NoToken}
 
 -- which class the first scalar of a token shows; the two kinds of strings begin alike
@@ -42,3 +43,9 @@ LeadsTo shape q s k = FrontHas (λ scalars. after_all scalars shape ≡ q) s k
 abbrev pub IsStep : Regex → List ℕ → Option ℕ → Type 0
 IsStep q s None = Unit {0}
 IsStep q s (Some k) = (0 < k) × LeadsTo q q s k
+
+-- the plain bytes at the front of s are n
+pub record IsPlainRun (s : List ℕ) (n : ℕ) : Type 0 where
+  pub within : n ≤ length s
+  pub all : (i : ℕ) → i < n → is_plain (slice_index s i) ≡ true
+  pub stops : n < length s → is_plain (slice_index s n) ≡ false

@@ -1,12 +1,13 @@
 //! How many bytes a gap or a token takes at the front of a text. Runs of bytes that leave a machine
-//! in its state are counted at once; the machine reads what stands behind them.
+//! in its state are counted at once; the machine reads what stands behind them. The end of a multiline
+//! string is searched.
 ghost use Rattle.std.specs.Prelude.{◌≡◌, ℕ, ◌<◌, ◌≤◌, true, false, length, slice_index};
 ghost use Rattle.wave_lex.specs.LongestMatch.{Greatest, IsFront};
 ghost use Rattle.wave_lex.specs.Machines.{ends_whole, is_blank, is_digit, is_lower, is_plain, string_rest};
-ghost use Rattle.wave_lex.specs.Private.Reading.{LeadsTo, IsStep};
+ghost use Rattle.wave_lex.specs.Private.Reading.{LeadsTo, IsPlainRun, IsStep};
 ghost use Rattle.wave_lex.specs.declared.machine.string.StringState.TheVariants.{Inside};
 ghost use Rattle.wave_lex.specs.Tokenization.{IsGap};
-ghost use Rattle.wave_lex.specs.Tokens.{label_or_keyword, number, one, string};
+ghost use Rattle.wave_lex.specs.Tokens.{label_or_keyword, multiline_string, number, one, string};
 
 use crate::machine::gap::GapState;
 use crate::machine::label::{LabelState, LabelTokenState};
@@ -14,6 +15,10 @@ use crate::machine::longest_front;
 use crate::machine::number::NumberState;
 use crate::machine::string::StringState;
 use crate::strings::unescape;
+use memchr::{memchr3, memmem};
+
+/// How many bytes of a run are looked at in turn before the others are searched at once.
+const FEW: usize = 16;
 
 /// How many bytes the gap at the front takes.
 pub fn gap_at(text: &str) -> usize
@@ -112,6 +117,15 @@ pub fn string_at(text: &str) -> Option<usize>
         return None;
     };
     Some(inside + more)
+}
+
+/// How many bytes the multiline string at the front takes.
+pub fn multiline_at(text: &str) -> Option<usize>
+    ensures { Greatest (IsFront multiline_string text.now) result }
+{
+    let inside = text.strip_prefix("\"\"\"")?;
+    let count = memmem::find(inside.as_bytes(), b"\"\"\"")?;
+    Some(count + 6)
 }
 
 /// Where the plain bytes and the escapes end that stand behind the quote at the front.
@@ -221,9 +235,21 @@ fn lowers(bytes: &[u8]) -> usize
 
 /// How many bytes at the front stand for themselves within a string in one line.
 fn plains(bytes: &[u8]) -> usize
-    ensures within { result ≤ length bytes.now }
-    ensures all { (i : ℕ) → i < result → is_plain (slice_index bytes.now i) ≡ true }
-    ensures stops { result < length bytes.now → slice_index bytes.now result < 128 }
+    ensures { IsPlainRun bytes.now result }
+{
+    if bytes.len() <= FEW {
+        return plains_in_turn(bytes);
+    }
+    let run = plains_in_turn(&bytes[..FEW]);
+    if run < FEW {
+        return run;
+    }
+    FEW + plains_at_once(&bytes[FEW..])
+}
+
+/// The same, by looking at each.
+fn plains_in_turn(bytes: &[u8]) -> usize
+    ensures { IsPlainRun bytes.now result }
 {
     for (i, byte) in bytes.iter().enumerate() {
         if !is_plain(*byte) {
@@ -231,4 +257,11 @@ fn plains(bytes: &[u8]) -> usize
         }
     }
     bytes.len()
+}
+
+/// The same, by a search for the bytes that are not plain.
+fn plains_at_once(bytes: &[u8]) -> usize
+    ensures { IsPlainRun bytes.now result }
+{
+    memchr3(b'"', b'\\', b'\n', bytes).unwrap_or(bytes.len())
 }

@@ -1,4 +1,4 @@
-use Rattle.std.proofs.Common.{sym, ◌∙◌, ap, Some, ℕ, arith, ◌≡◌}
+use Rattle.std.proofs.Common.{sym, ◌∙◌, ap, arith, ◌≡◌}
 use Rattle.wave_lex.specs.Private.Reading.{class_of}
 use Rattle.wave_lex.proofs.Classes.{class_here, class_quoted, not_quoted}
 use Rattle.wave_lex.proofs.lex.class_at.Goals as goal

@@ -37,4 +37,4 @@ pub returns-in-String : goal.returns-in-String
 returns-in-String c = rw c.in-String.is c.string_at.ensures
 
 pub returns-in-MultilineString : goal.returns-in-MultilineString
-returns-in-MultilineString c = rw c.in-MultilineString.is c.longest_front-in-MultilineString.ensures
+returns-in-MultilineString c = rw c.in-MultilineString.is c.multiline_at.ensures

@@ -1,4 +1,4 @@
-use Rattle.std.proofs.Common.{ℕ, length, ◌-◌}
+use Rattle.std.proofs.Common.{length, ◌-◌}
 use Rattle.wave_lex.specs.Private.Reading.{LeadsTo}
 use Rattle.wave_lex.specs.Tokens.{string}
 use Rattle.wave_lex.specs.Machines.{string_rest}
