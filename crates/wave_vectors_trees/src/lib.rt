@@ -1,11 +1,7 @@
-//! Worked rows of texts without types and of calls, and of the parser and the nodes that it makes.
+//! Worked rows of the parser and of the nodes that it makes.
 #![tactic(auto)]
 
-#[cfg(test)]
-mod calls;
 #[cfg(test)]
 mod nodes;
 #[cfg(test)]
 mod parsing;
-#[cfg(test)]
-mod untyped;
