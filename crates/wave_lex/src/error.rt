@@ -3,7 +3,7 @@ ghost use Rattle.std.specs.Prelude.{◌≡◌, None, Some, option_map};
 ghost use Rattle.std.specs.String.{string_bytes};
 ghost use Rattle.wave_wasm.specs.ValueErrors.{cause_of};
 ghost use Rattle.wave_lex.specs.Errors.{plainly, refused_by, kept, refusal_of, kind_words, error_text};
-ghost use Rattle.wave_lex.specs.Private.Errors.{detail_text};
+ghost use Rattle.wave_lex.specs.Private.Errors.{detail_cause, detail_text};
 
 use crate::lex::Span;
 use std::fmt;
@@ -91,16 +91,27 @@ enum Detail {
     Static(&'static str),
     /// Words that were made for this refusal.
     Owned(String),
+    /// The error of the value that could not be made.
+    Cause(WasmValueError),
 }
 
 /// A refusal of a text: its kind, the bytes of the source where it arose, and perhaps a detail or
 /// the error of the value that could not be made. A clause sees these four, the detail as a text.
-#[derive(Debug, Drop, Error)]
+#[derive(Debug, Error)]
 pub struct ParserError {
     kind: ParserErrorKind,
     span: Span,
     detail: Detail,
-    cause: Option<WasmValueError>,
+}
+
+impl Drop for ParserError {
+    fn drop(self) {
+        let ParserError {
+            kind: _,
+            span: _,
+            detail: _,
+        } = self;
+    }
 }
 
 impl Model for ParserError {
@@ -108,10 +119,10 @@ impl Model for ParserError {
 
     ghost Value = { Diagnostic };
 
-    ghost use Rattle.wave_lex.specs.Private.Errors.{detail_text};
+    ghost use Rattle.wave_lex.specs.Private.Errors.{detail_cause, detail_text};
 
     ghost view = { λ e.
-        record { kind = e.kind; span = e.span; detail = detail_text e.detail; cause = e.cause } };
+        record { kind = e.kind; span = e.span; detail = detail_text e.detail; cause = detail_cause e.detail } };
 }
 
 impl ParserError {
@@ -152,25 +163,22 @@ impl ParserError {
     {
         match cause {
             WasmValueError::Memory(_) => ParserError::new(ParserErrorKind::OutOfMemory, span),
-            cause => ParserError {
-                kind: ParserErrorKind::WasmValueError,
+            cause => ParserError::with_parts(
+                ParserErrorKind::WasmValueError,
                 span,
-                detail: Detail::None,
-                cause: Some(cause),
-            },
+                Detail::Cause(cause),
+            ),
         }
     }
 
-    /// A refusal without a cause.
+    /// A refusal of these parts.
     fn with_parts(kind: ParserErrorKind, span: Span, detail: Detail) -> ParserError
-        ensures { result ≡ record { kind = kind; span = span; detail = detail_text detail; cause = None } }
+        ensures kind { result.kind ≡ kind }
+        ensures span { result.span ≡ span }
+        ensures detail { result.detail ≡ detail_text detail }
+        ensures cause { result.cause ≡ detail_cause detail }
     {
-        ParserError {
-            kind,
-            span,
-            detail,
-            cause: None,
-        }
+        ParserError { kind, span, detail }
     }
 
     /// The kind of the refusal.
@@ -195,6 +203,7 @@ impl ParserError {
             Detail::None => None,
             Detail::Static(text) => Some(text),
             Detail::Owned(text) => Some(text.as_str()),
+            Detail::Cause(_) => None,
         }
     }
 
@@ -202,7 +211,10 @@ impl ParserError {
     pub fn cause(&self) -> Option<&WasmValueError>
         ensures { option_map (λ cause. cause.now) result ≡ self.now.cause }
     {
-        self.cause.as_ref()
+        match &self.detail {
+            Detail::Cause(cause) => Some(cause),
+            _ => None,
+        }
     }
 }
 
@@ -213,7 +225,7 @@ impl fmt::Display for ParserError {
         let kind = self.kind;
         let start = self.span.start;
         let end = self.span.end;
-        match &self.cause {
+        match self.cause() {
             Some(cause) => write!(f, "{kind}: {cause} at {start}..{end}"),
             None => match self.detail() {
                 Some(detail) => write!(f, "{kind}: {detail} at {start}..{end}"),

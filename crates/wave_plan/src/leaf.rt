@@ -32,6 +32,7 @@ pub struct Leaf<'src> {
 impl<'src> Leaf<'src> {
     /// A whole number, of a type of this kind. A type of another kind is refused as one that can't be
     /// read.
+    #[inline(always)]
     pub(crate) fn read_whole<V: WasmValue>(
         &self,
         alloc: Global,
@@ -124,6 +125,7 @@ impl<'src> Leaf<'src> {
     }
 
     /// The value that was made, or its maker's refusal as an error at the leaf.
+    #[inline(always)]
     pub fn or_error_here<V>(&self, made: Result<V, WasmValueError>) -> Result<V, ParserError>
         ensures { IsMade (leaf_node self.now) made result }
     {

@@ -13,6 +13,7 @@ use wave_wasm::wasm::{WasmType, WasmTypeKind, WasmValue};
 
 impl<'src> Leaf<'src> {
     /// A bool, a whole number, a char or a string. A type that has no values is refused.
+    #[inline(always)]
     pub fn read_simple<V: WasmValue>(&self, alloc: Global, ty: &V::Type) -> Result<V, ParserError>
         ensures { (source : List ℕ) → IsOneToken self.now.ty → IsLeafIn source self.now → IsSimpleOrUnreadable (V.Type.tree ty.now) → IsReadAs V.tree V.is_of V.is_full (V.Type.tree ty.now) source (leaf_node self.now) result }
     {

@@ -25,6 +25,7 @@ use wave_plan::leaf::Leaf;
 use wave_wasm::wasm::{WasmType, WasmTypeKind, WasmValue};
 
 /// The value of one token at the type.
+#[inline(always)]
 pub(crate) fn read_leaf<V: WasmValue>(
     leaf: &Leaf<'_>,
     alloc: Global,
@@ -42,6 +43,7 @@ pub(crate) fn read_leaf<V: WasmValue>(
 }
 
 /// The value of one token at the type, which is none of a flat payload.
+#[inline(always)]
 fn read_directly<V: WasmValue>(
     leaf: &Leaf<'_>,
     alloc: Global,
