@@ -1,12 +1,12 @@
-use Rattle.std.proofs.Common.{◌≡◌, ◌≢◌, ap, sym, subst, ◌∙◌}
+use Rattle.std.proofs.Common.{◌≡◌, ◌≢◌, None, ap, sym, subst, ◌∙◌}
 use Rattle.wave_lex.specs.declared.error.ParserErrorKind.TheVariants as because
 use Rattle.wave_lex.specs.Tokenization.{Lexed, span}
-use Rattle.wave_grammar.specs.ParserPosition.{Place}
+use Rattle.wave_grammar.specs.ParserPosition.{Place, span_at}
 use Rattle.wave_tree.specs.Private.ParserState.{Stream, stream_of}
-use Rattle.wave_tree.specs.UntypedCall.{AreParamsTaken, RefusesTuple, IsCalledOf, RefusesCall, behind_name}
+use Rattle.wave_tree.specs.UntypedCall.{AreParamsTaken, RefusesTuple, IsCalledOf, RefusesCall, MemoryAtName, behind_name}
 use Rattle.wave_node.proofs.Parameters.{error_handed}
 use Rattle.wave_tree.proofs.CallReading.{name_refused, params_refused, rest_refused, called_of}
-use Rattle.wave_lex.specs.Errors.{Diagnostic, LiesInText}
+use Rattle.wave_lex.specs.Errors.{Diagnostic, LiesInText, Says}
 use Rattle.wave_tree.proofs.ErrorSpans.Syntax.{name_lies, behind_params_lies}
 use Rattle.wave_tree.proofs.untyped.call.parse_raw_func_call.Goals as goal
 
@@ -57,6 +57,15 @@ returns-in_err-params-clause-within c =
     let place : c.from_lexer-tokens.result.place ≡ behind_name s k = ap (λ (z : Stream). z.place) (c.from_lexer-tokens.ensures ∙ ap stream_of (c.into_lexer.ensures ∙ is)) in
     error_handed (λ (f : Diagnostic). LiesInText s f.span) c.from_residual-in_err-params.result e c.from_residual-in_err-params.ensures.1
     (subst (λ (z : Place). LiesInText z.lexer.source e.span) place c.in_err-params.ensures.within)
+
+pub returns-in_err-params-clause-memory : goal.returns-in_err-params-clause-memory
+returns-in_err-params-clause-memory c =
+    let s = c.args.source.now in
+    let e = c.in_err-params.field-0.0 in
+    let (k, named, is) = c.in_ok-names.ensures.named in
+    let place : c.from_lexer-tokens.result.place ≡ behind_name s k = ap (λ (z : Stream). z.place) (c.from_lexer-tokens.ensures ∙ ap stream_of (c.into_lexer.ensures ∙ is)) in
+    error_handed (MemoryAtName s) c.from_residual-in_err-params.result e c.from_residual-in_err-params.ensures.1
+    (λ no. (k, named, subst (λ (z : Place). Says e because.OutOfMemory (span_at z) None) place (c.in_err-params.ensures.memory no).1))
 
 pub returns-in_err-finish-clause-within : goal.returns-in_err-finish-clause-within
 returns-in_err-finish-clause-within c =
