@@ -1,9 +1,1 @@
-pub mod NodeTree
-pub mod NodeEncoding
-pub mod NodeDepth
-pub mod NodeAccessors
-pub mod TypedReading
-pub mod NodeFlags
-pub mod NodeFields
-pub mod NodeParams
-pub mod ErrorSpans
+pub mod Amiss

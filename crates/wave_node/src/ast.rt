@@ -3,11 +3,11 @@ ghost use Rattle.std.specs.Prelude.{◌≡◌, [], length, IfOk, IsTrue, ◌↔�
 ghost use Rattle.wave_wasm.specs.ValueErrors.{cause_of};
 ghost use Rattle.wave_lex.specs.Tokenization.{Stands};
 ghost use Rattle.wave_lex.specs.Errors.{refusal_of, refused_by};
-ghost use Rattle.wave_node.specs.NodeTree.{node, node_trees, type_of, place_of, children_of};
-ghost use Rattle.wave_node.specs.Nodes.{IsParsedFrom};
-ghost use Rattle.wave_node.specs.NodeStrings.{GivesString};
-ghost use Rattle.wave_node.specs.NodeAccessors.{node_text, quotes_of, IsInside, RefusedAs, GivesBool, GivesNumber, GivesChar, GivesParts, GivesNodes, GivesOption, GivesResult, GivesLabel, GivesVariant, GivesEntries, node_pairs};
-ghost use Rattle.wave_node.specs.Private.NodeAccessors.{OfType, GivesBoolKey};
+ghost use Rattle.wave_forms.specs.NodeTree.{node, node_trees, type_of, place_of, children_of};
+ghost use Rattle.wave_forms.specs.Nodes.{IsParsedFrom};
+ghost use Rattle.wave_forms.specs.NodeStrings.{GivesString};
+ghost use Rattle.wave_forms.specs.NodeAccessors.{node_text, quotes_of, IsInside, RefusedAs, GivesBool, GivesNumber, GivesChar, GivesParts, GivesNodes, GivesOption, GivesResult, GivesLabel, GivesVariant, GivesEntries, node_pairs};
+ghost use Rattle.wave_forms.specs.Private.NodeAccessors.{OfType, GivesBoolKey};
 
 pub use crate::flags::FlagLabels;
 pub use crate::record::RecordFields;
@@ -15,6 +15,7 @@ use std::alloc::{AllocError, Global};
 pub use std::borrow::CowStr;
 use std::iter::ExactSizeIterator;
 use std::marker::Model;
+pub use wave_forms::form::NodeType;
 use wave_grammar::label::label_name;
 use wave_grammar::number::WholeNumber;
 use wave_grammar::text::{char_in, joined};
@@ -24,52 +25,6 @@ use wave_lex::strings::StringPartsIter;
 use wave_wasm::wasm::WasmValueError;
 
 pub mod make;
-
-/// What a node spells.
-#[derive(Clone, Copy, Debug, PartialEq, Eq)]
-pub enum NodeType {
-    /// `true`. No children.
-    BoolTrue,
-    /// `false`. No children.
-    BoolFalse,
-    /// A number, as `-1.5e3`, and `inf` and `nan` but as keys. No children.
-    Number,
-    /// A char, as `'a'`. No children.
-    Char,
-    /// A string on one line, as `"text"`. No children.
-    String,
-    /// A multiline string: `"""`, the lines of the text and `"""`. No children.
-    MultilineString,
-    /// A tuple, as `(a, b)`, and the parameters of a call. The children are its items, in the order
-    /// of the source.
-    Tuple,
-    /// A list, as `[a, b]`. The children are its items, in the order of the source.
-    List,
-    /// The fields of a record or the entries of a map, as `{a: 1, b: 2}`, and `{:}`. The children
-    /// are the first key, its value, the second key, its value and so on, in the order of the
-    /// source. A key is a `Label`, `Number`, `Char`, `String` or `MultilineString`.
-    TupleSet,
-    /// `{}`: no flags, or a map without entries. No children.
-    EmptySet,
-    /// A name alone, as `name` or `%name`: a case, a key or a flag, and the name of a case with a
-    /// payload. No children. `true` and the other keywords are labels only behind a `%` and as keys
-    /// and flags.
-    Label,
-    /// A case with a payload, as `name(value)`. The children are the name, a `Label`, and the
-    /// payload.
-    VariantWithPayload,
-    /// `some(value)`. The only child is the payload.
-    OptionSome,
-    /// `none`. No children.
-    OptionNone,
-    /// `ok` or `ok(value)`. The only child is the payload, where there is one.
-    ResultOk,
-    /// `err` or `err(value)`. The only child is the payload, where there is one.
-    ResultErr,
-    /// Flags, as `{a, b}`; none are `{}`. The children are their names, each a `Label`, in the byte
-    /// order of the names without their `%`.
-    Flags,
-}
 
 /// A part of a parsed text: its type, the bytes of the source where it stands, and the nodes
 /// within it.
@@ -81,9 +36,9 @@ pub struct Node {
 }
 
 impl Model for Node {
-    ghost use Rattle.wave_node.specs.NodeTree.{NodeTree, node, node_trees};
-    ghost use Rattle.wave_node.specs.Private.NodeTree.{depth};
-    ghost use Rattle.wave_node.specs.Private.NodeEncoding.{node_code};
+    ghost use Rattle.wave_forms.specs.NodeTree.{NodeTree, node, node_trees};
+    ghost use Rattle.wave_forms.specs.Private.NodeTree.{depth};
+    ghost use Rattle.wave_forms.specs.Private.NodeEncoding.{node_code};
 
     ghost Value = { NodeTree };
 
@@ -94,7 +49,7 @@ impl Model for Node {
     ghost size = { depth };
 
     ghost use Rattle.std.proofs.Common.{arith};
-    ghost use Rattle.wave_node.specs.Private.NodeDepth.{most_le-nodes_depth};
+    ghost use Rattle.wave_forms.specs.Private.NodeDepth.{most_le-nodes_depth};
 
     ghost size_decreases = { λ a h. omega (arith, most_le-nodes_depth a.children.items) };
 }
@@ -356,9 +311,9 @@ pub struct MapEntries<'this> {
 impl<'this> Model for MapEntries<'this> {
     ghost use Rattle.std.specs.Prelude.{List};
     ghost use Rattle.std.specs.Coded.{codes};
-    ghost use Rattle.wave_node.specs.NodeTree.{NodeTree};
-    ghost use Rattle.wave_node.specs.Private.NodeEncoding.{node_code};
-    ghost use Rattle.wave_node.specs.NodeAccessors.{node_pairs};
+    ghost use Rattle.wave_forms.specs.NodeTree.{NodeTree};
+    ghost use Rattle.wave_forms.specs.Private.NodeEncoding.{node_code};
+    ghost use Rattle.wave_forms.specs.NodeAccessors.{node_pairs};
 
     ghost Value = { List (NodeTree × NodeTree) };
 
@@ -380,7 +335,7 @@ impl<'this> Iterator for MapEntries<'this> {
     ghost use Rattle.std.specs.Prelude.{◌≡◌, Some, IfSome, length};
     ghost use Rattle.std.specs.Iterator.{YieldsFirstBy, UpTo, item_count};
     ghost use Rattle.std.specs.Iterator.SizeHint.{IsWithinCount};
-    ghost use Rattle.wave_node.specs.NodeAccessors.{shown_nodes};
+    ghost use Rattle.wave_forms.specs.NodeAccessors.{shown_nodes};
 
     type Item = (&'this Node, &'this Node);
 

@@ -3,12 +3,12 @@ ghost use Rattle.std.specs.Prelude.{◌≡◌, [], IfOk, IfErr};
 ghost use Rattle.wave_wasm.specs.Names.{AreAllOf, found_in};
 ghost use Rattle.wave_wasm.specs.Borrowed.{texts};
 ghost use Rattle.wave_lex.specs.declared.error.ParserErrorKind.TheVariants.{OutOfMemory};
-ghost use Rattle.wave_node.specs.NodeTree.{children_of, place_of};
-ghost use Rattle.wave_node.specs.Private.ErrorSpans.{RefusesAt};
-ghost use Rattle.wave_node.specs.Nodes.{IsParsedFrom};
-ghost use Rattle.wave_node.specs.TypedReading.{IsValueOf};
-ghost use Rattle.wave_node.specs.Private.NodeFlags.{AreAllParsed, GivesFlagNodes, MarksNames, MarksOneMore, TellsUnmarked, RefusesFlags};
-ghost use Rattle.wave_node.specs.NodeFlags.{AreFlags, AreInOrder, GivesFlags, names_at};
+ghost use Rattle.wave_forms.specs.NodeTree.{children_of, place_of};
+ghost use Rattle.wave_forms.specs.Private.ErrorSpans.{RefusesAt};
+ghost use Rattle.wave_forms.specs.Nodes.{IsParsedFrom};
+ghost use Rattle.wave_forms.specs.TypedReading.{IsValueOf};
+ghost use Rattle.wave_forms.specs.Private.NodeFlags.{AreAllParsed, GivesFlagNodes, MarksNames, MarksOneMore, TellsUnmarked, RefusesFlags};
+ghost use Rattle.wave_forms.specs.NodeFlags.{AreFlags, AreInOrder, GivesFlags, names_at};
 
 use crate::ast::{Node, NodeType};
 use crate::typed::Amiss;
@@ -135,8 +135,8 @@ pub struct FlagLabels<'this, 'src> {
 impl<'this, 'src> Model for FlagLabels<'this, 'src> {
     ghost use Rattle.std.specs.Prelude.{List, ℕ};
     ghost use Rattle.std.specs.Coded.{codes};
-    ghost use Rattle.wave_node.specs.Private.NodeFlags.{AreAllParsed};
-    ghost use Rattle.wave_node.specs.NodeFlags.{names_at};
+    ghost use Rattle.wave_forms.specs.Private.NodeFlags.{AreAllParsed};
+    ghost use Rattle.wave_forms.specs.NodeFlags.{names_at};
 
     ghost Value = { List (List ℕ) };
 

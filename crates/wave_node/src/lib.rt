@@ -3,7 +3,7 @@
 
 pub mod ast;
 mod flags;
-pub mod laws;
+pub mod nodes;
 pub mod params;
 mod record;
 pub mod typed;

@@ -8,21 +8,21 @@ ghost use Rattle.wave_wasm.specs.ConstructorContracts.{IsOfListKind};
 ghost use Rattle.wave_wasm.specs.TypeText.{kind_word};
 ghost use Rattle.wave_wasm.specs.ValueErrors.{unsupported_type, wrong_number};
 ghost use Rattle.wave_lex.specs.declared.error.ParserErrorKind.TheVariants.{InvalidType, OutOfMemory};
-ghost use Rattle.wave_node.specs.Private.NodeAccessors.{Among};
-ghost use Rattle.wave_node.specs.NodeAccessors.{RefusedAs, shown_node};
+ghost use Rattle.wave_forms.specs.NodeAccessors.{RefusedAs, shown_node};
 ghost use Rattle.std.specs.Cow.{cow_str_bytes};
-ghost use Rattle.wave_node.specs.TypedReading.{IsLeafMade, IsValueOf, IsKeyOf, IsKeywordOf, AnswersKey, IsMade, Answers, ReadsAtType, ReadsKey};
+ghost use Rattle.wave_forms.specs.TypedReading.{IsLeafMade, IsValueOf, IsKeyOf, IsKeywordOf, AnswersKey, IsMade, Answers, ReadsAtType, ReadsKey};
 ghost use Rattle.std.specs.Result.{IsErrAnd};
-ghost use Rattle.wave_node.specs.Private.TypedReading.{IsCaused, named_cause, IsOfLength, IsOtherLength, AnswersWhole, IsPayloadOf, GivesFlat, AnswersPayload};
-ghost use Rattle.wave_node.specs.Nodes.{IsParsedFrom};
+ghost use Rattle.wave_forms.specs.Private.TypedReading.{IsCaused, IsOfLength, IsOtherLength, AnswersWhole, IsPayloadOf, GivesFlat, AnswersPayload};
+ghost use Rattle.wave_node.specs.Private.Amiss.{named_cause};
+ghost use Rattle.wave_forms.specs.Nodes.{IsParsedFrom};
 ghost use Rattle.wave_lex.specs.Errors.{refusal_of};
 ghost use Rattle.std.specs.Prelude.{MatchBool, MatchResult};
-ghost use Rattle.wave_node.specs.ErrorSpans.{HasTypeKind, StandsIn};
-ghost use Rattle.wave_node.specs.Private.ErrorSpans.{RefusesAt, RefusesIn, RefusesInPart};
+ghost use Rattle.wave_forms.specs.ErrorSpans.{HasTypeKind, StandsIn};
+ghost use Rattle.wave_forms.specs.Private.ErrorSpans.{RefusesAt, RefusesIn, RefusesInPart};
 ghost use Rattle.wave_lex.specs.Errors.{LiesInText};
 ghost use Rattle.wave_wasm.specs.Types.{HasDistinctNames};
-ghost use Rattle.wave_node.specs.Private.NodeFields.{IsFieldNode, AnswersField, IsLeftOut, IsMissing};
-ghost use Rattle.wave_node.specs.NodeTree.{place_of};
+ghost use Rattle.wave_forms.specs.Private.NodeFields.{IsFieldNode, AnswersField, IsLeftOut, IsMissing};
+ghost use Rattle.wave_forms.specs.NodeTree.{place_of};
 ghost use Rattle.wave_grammar.specs.TypedGrammar.{look_up};
 ghost use Rattle.wave_grammar.specs.TypeErrors.{RefusesFor};
 ghost use Rattle.std.specs.Str.{bytes_eq};
@@ -31,10 +31,10 @@ ghost use Rattle.wave_wasm.specs.Text.{text};
 
 use crate::ast::{CowStr, Node, NodeType};
 use std::alloc::Global;
+use wave_forms::typed::{case_payload, flat_type, is_among, is_flat, merged};
 use wave_lex::error::{ParserError, ParserErrorKind};
 use wave_wasm::keyword::Keyword;
 use wave_wasm::wasm::{DisplayType, WasmType, WasmTypeKind, WasmValue, WasmValueError};
-use wave_wasm::writer::{WriterError, merge_map_entries, to_string};
 
 /// What is amiss with the case, the flag or the field that a refusal names.
 #[derive(Clone, Copy)]
@@ -672,64 +672,4 @@ impl Node {
             Err(error) => self.refused(WasmValueError::Memory(error)),
         }
     }
-}
-
-/// The entries with each key once, merged by the texts of their keys.
-pub fn merged<V: WasmValue>(alloc: Global, entries: Vec<(V, V)>) -> Result<Vec<(V, V)>, WriterError>
-    ensures { IfOk result (λ m. m.items ≡ merge (λ a b. bytes_eq (text (V.tree a)) (text (V.tree b))) entries.items) }
-{
-    let mut with_texts = Vec::new(alloc);
-    for (key, val) in entries {
-        let text = to_string(alloc, &key)?;
-        with_texts.push((text, key, val))?;
-    }
-    Ok(merge_map_entries(alloc, with_texts)?)
-}
-
-/// Whether an option or a result may be left out around a value of this kind.
-pub fn is_flat(kind: WasmTypeKind) -> bool
-    ensures { IsTrue result ↔ ((kind ≢ WasmTypeKind.Option) × (kind ≢ WasmTypeKind.Result)) }
-{
-    match kind {
-        WasmTypeKind::Option | WasmTypeKind::Result => false,
-        _ => true,
-    }
-}
-
-/// The type of a payload that may stand alone for `ok` of itself.
-pub fn flat_type<T: WasmType>(payload: Option<&T>) -> Option<&T>
-    ensures { GivesFlat (shown T.tree payload.entry) (shown T.tree result) }
-{
-    match payload {
-        Some(ty) if is_flat(ty.kind()) => Some(ty),
-        _ => None,
-    }
-}
-
-/// What the case of this name has for the type of its payload, where there is such a case.
-pub fn case_payload<'ty, T: WasmType>(
-    cases: &Vec<(&str, Option<&'ty T>)>,
-    name: &str,
-) -> Option<Option<&'ty T>>
-    ensures { option_map (shown T.tree) result ≡ look_up (shown_cases T.tree cases.now.items) name.now }
-{
-    for case in cases {
-        let (other, payload) = *case;
-        if name == other {
-            return Some(payload);
-        }
-    }
-    None
-}
-
-/// Whether the name is one of these.
-pub fn is_among(names: &Vec<&str>, name: &str) -> bool
-    ensures { Among (texts names.now.items) name.now result }
-{
-    for other in names {
-        if name == *other {
-            return true;
-        }
-    }
-    false
 }

@@ -3,11 +3,11 @@ use Rattle.std.proofs.Common.{ℕ, ◌≡◌, ◌≢◌, ◌+◌, inr, List, ◌
 use Rattle.wave_lex.specs.Errors.{Diagnostic}
 use Rattle.wave_lex.specs.Parts.{left_of, OpensTo, OpeningRefused}
 use Rattle.wave_lex.specs.declared.strings.StringPartsIter.{StringPartsIter}
-use Rattle.wave_node.specs.Nodes.{IsParsedFrom}
-use Rattle.wave_node.specs.NodeAccessors.{node_text, quotes_of, IsInside, GivesParts}
-use Rattle.wave_node.specs.declared.ast.NodeType.{NodeType}
-use Rattle.wave_node.specs.declared.ast.NodeType.TheVariants as kind
-use Rattle.wave_node.proofs.Strings.Quoted.{node_inside}
+use Rattle.wave_forms.specs.Nodes.{IsParsedFrom}
+use Rattle.wave_forms.specs.NodeAccessors.{node_text, quotes_of, IsInside, GivesParts}
+use Rattle.wave_forms.specs.declared.form.NodeType.{NodeType}
+use Rattle.wave_forms.specs.declared.form.NodeType.TheVariants as kind
+use Rattle.wave_forms.proofs.Strings.Quoted.{node_inside}
 use Rattle.wave_plan.specs.Leaves.{leaf_node, IsLeafIn}
 use Rattle.wave_plan.specs.declared.leaf.Leaf.{Leaf}
 

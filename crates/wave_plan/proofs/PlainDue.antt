@@ -9,18 +9,18 @@ use Rattle.wave_wasm.specs.declared.wasm.WasmTypeKind.TheVariants as kinds
 use Rattle.wave_wasm.proofs.TypeKinds.{simple_is}
 use Rattle.wave_lex.specs.Errors.{Diagnostic, Refusal, refusal_of}
 use Rattle.wave_lex.specs.declared.error.ParserErrorKind.TheVariants as why
-use Rattle.wave_node.specs.NodeTree.{NodeTree, type_of}
-use Rattle.wave_node.specs.NodeAccessors.{RefusedAs, bool_type}
-use Rattle.wave_node.specs.TypedReading.{Answers}
-use Rattle.wave_node.specs.Private.TypedReading.{IsWholeRead, AnswersWhole}
-use Rattle.wave_node.specs.Private.ErrorSpans.{RefusesAt}
-use Rattle.wave_node.specs.declared.ast.NodeType.{NodeType}
-use Rattle.wave_node.specs.declared.ast.NodeType.TheVariants as kind
-use Rattle.wave_node.proofs.ByKind.Leaves.{said, bool_fault, number_fault}
-use Rattle.wave_node.proofs.ByKind.TextLeaves.{char_blame}
-use Rattle.wave_node.proofs.ByKind.Wholes.{whole_answers, whole_at}
-use Rattle.wave_node.proofs.Unread.{IsUnread}
-use Rattle.wave_node.proofs.ErrorSpans.Nodes.{at_in, all_in, form_at}
+use Rattle.wave_forms.specs.NodeTree.{NodeTree, type_of}
+use Rattle.wave_forms.specs.NodeAccessors.{RefusedAs, bool_type}
+use Rattle.wave_forms.specs.TypedReading.{Answers}
+use Rattle.wave_forms.specs.Private.TypedReading.{IsWholeRead, AnswersWhole}
+use Rattle.wave_forms.specs.Private.ErrorSpans.{RefusesAt}
+use Rattle.wave_forms.specs.declared.form.NodeType.{NodeType}
+use Rattle.wave_forms.specs.declared.form.NodeType.TheVariants as kind
+use Rattle.wave_forms.proofs.ByKind.Leaves.{said, bool_fault, number_fault}
+use Rattle.wave_forms.proofs.ByKind.TextLeaves.{char_blame}
+use Rattle.wave_forms.proofs.ByKind.Wholes.{whole_answers, whole_at}
+use Rattle.wave_forms.proofs.Unread.{IsUnread}
+use Rattle.wave_forms.proofs.ErrorSpans.Nodes.{at_in, all_in, form_at}
 use Rattle.wave_plan.specs.Leaves.{SparesRows}
 use Rattle.wave_plan.specs.NodeParts.{IsOfParts}
 use Rattle.wave_plan.specs.PlainReading.{IsPlain, ReadsDue}

@@ -13,18 +13,18 @@ use Rattle.wave_wasm.proofs.TypeKinds.{simple_is}
 use Rattle.wave_lex.specs.Errors.{Diagnostic, refusal_of}
 use Rattle.wave_lex.specs.declared.error.ParserErrorKind.TheVariants as why
 use Rattle.wave_grammar.specs.TypeErrors.{RefusesFor}
-use Rattle.wave_node.specs.NodeTree.{NodeTree, type_of, place_of}
-use Rattle.wave_node.specs.NodeAccessors.{RefusedAs, bool_type}
-use Rattle.wave_node.specs.TypedReading.{Answers}
-use Rattle.wave_node.specs.Private.TypedReading.{IsCaused, AnswersWhole}
-use Rattle.wave_node.specs.Private.ErrorSpans.{RefusesAt}
-use Rattle.wave_node.specs.declared.ast.NodeType.{NodeType}
-use Rattle.wave_node.specs.declared.ast.NodeType.TheVariants as kind
-use Rattle.wave_node.proofs.ByKind.Leaves.{said, bool_fault, number_fault}
-use Rattle.wave_node.proofs.ByKind.TextLeaves.{char_blame, string_blame}
-use Rattle.wave_node.proofs.ByKind.Wholes.{whole_answers, whole_at}
-use Rattle.wave_node.proofs.Unread.{IsUnread, unread_blame}
-use Rattle.wave_node.proofs.ErrorSpans.Nodes.{at_in, all_in, form_at, caused_at}
+use Rattle.wave_forms.specs.NodeTree.{NodeTree, type_of, place_of}
+use Rattle.wave_forms.specs.NodeAccessors.{RefusedAs, bool_type}
+use Rattle.wave_forms.specs.TypedReading.{Answers}
+use Rattle.wave_forms.specs.Private.TypedReading.{IsCaused, AnswersWhole}
+use Rattle.wave_forms.specs.Private.ErrorSpans.{RefusesAt}
+use Rattle.wave_forms.specs.declared.form.NodeType.{NodeType}
+use Rattle.wave_forms.specs.declared.form.NodeType.TheVariants as kind
+use Rattle.wave_forms.proofs.ByKind.Leaves.{said, bool_fault, number_fault}
+use Rattle.wave_forms.proofs.ByKind.TextLeaves.{char_blame, string_blame}
+use Rattle.wave_forms.proofs.ByKind.Wholes.{whole_answers, whole_at}
+use Rattle.wave_forms.proofs.Unread.{IsUnread, unread_blame}
+use Rattle.wave_forms.proofs.ErrorSpans.Nodes.{at_in, all_in, form_at, caused_at}
 use Rattle.wave_plan.specs.Leaves.{IsSimpleOrUnreadable}
 use Rattle.wave_plan.specs.NodeParts.{IsOfParts}
 use Rattle.wave_plan.specs.Reading.{IsReadAs}

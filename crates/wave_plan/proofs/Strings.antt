@@ -10,15 +10,15 @@ use Rattle.wave_lex.specs.declared.error.ParserErrorKind.TheVariants.{OutOfMemor
 use Rattle.wave_grammar.specs.Token.{Token}
 use Rattle.wave_grammar.specs.SpannedTree.{Placed}
 use Rattle.wave_grammar.specs.StringAssembly.{WantsMemory}
-use Rattle.wave_node.specs.NodeTree.{NodeTree, place_of}
-use Rattle.wave_node.specs.Nodes.{placed_of, IsParsedFrom, IsTokenOf}
-use Rattle.wave_node.specs.NodeStrings.{RefusesString}
-use Rattle.wave_node.specs.TypedReading.{IsBlamed, IsKeyRead, IsKeyBlamed}
-use Rattle.wave_node.specs.Private.ErrorSpans.{RefusesIn}
-use Rattle.wave_node.proofs.ByKind.Keys.{one_simple, key_handed}
-use Rattle.wave_node.proofs.ByKind.TextLeaves.{string_blame}
-use Rattle.wave_node.proofs.ByKind.TextKeys.{string_key_blame}
-use Rattle.wave_node.proofs.ErrorSpans.Nodes.{string_in, at_in, memory_here}
+use Rattle.wave_forms.specs.NodeTree.{NodeTree, place_of}
+use Rattle.wave_forms.specs.Nodes.{placed_of, IsParsedFrom, IsTokenOf}
+use Rattle.wave_forms.specs.NodeStrings.{RefusesString}
+use Rattle.wave_forms.specs.TypedReading.{IsBlamed, IsKeyRead, IsKeyBlamed}
+use Rattle.wave_forms.specs.Private.ErrorSpans.{RefusesIn}
+use Rattle.wave_forms.proofs.ByKind.Keys.{one_simple, key_handed}
+use Rattle.wave_forms.proofs.ByKind.TextLeaves.{string_blame}
+use Rattle.wave_forms.proofs.ByKind.TextKeys.{string_key_blame}
+use Rattle.wave_forms.proofs.ErrorSpans.Nodes.{string_in, at_in, memory_here}
 
 memory_kind : (p : Range ℕ) (e : Diagnostic) → WantsMemory p e → e.kind ≡ OutOfMemory
 memory_kind p e wants = ap (λ (r : Refusal). r.kind) wants.is

@@ -6,8 +6,8 @@ use Rattle.std.specs.declared.ops.Range.{Range}
 use Rattle.wave_wasm.specs.Lists.{AllOf}
 use Rattle.wave_grammar.specs.LeafTokens.{name_of}
 use Rattle.wave_grammar.specs.SpannedTree.{slice}
-use Rattle.wave_node.specs.NodeTree.{NodeTree, NodeTrees, node, no_nodes, node_trees}
-use Rattle.wave_node.specs.declared.ast.NodeType.TheVariants as kind
+use Rattle.wave_forms.specs.NodeTree.{NodeTree, NodeTrees, node, no_nodes, node_trees}
+use Rattle.wave_forms.specs.declared.form.NodeType.TheVariants as kind
 
 -- the node of the label at this place
 abbrev pub label_at : Range ℕ → NodeTree

@@ -5,8 +5,8 @@ use Rattle.wave_wasm.specs.Types.{TypeTree}
 use Rattle.wave_lex.specs.Errors.{Diagnostic}
 use Rattle.wave_lex.specs.declared.error.ParserErrorKind.TheVariants.{OutOfMemory}
 use Rattle.wave_grammar.specs.SpannedTree.{slice}
-use Rattle.wave_node.specs.NodeTree.{NodeTree, node, no_nodes, type_of}
-use Rattle.wave_node.specs.declared.ast.NodeType.TheVariants as kind
+use Rattle.wave_forms.specs.NodeTree.{NodeTree, node, no_nodes, type_of}
+use Rattle.wave_forms.specs.declared.form.NodeType.TheVariants as kind
 use Rattle.wave_plan.specs.declared.leaf.Leaf.{Leaf}
 
 -- the node that it would be

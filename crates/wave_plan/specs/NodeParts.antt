@@ -1,8 +1,8 @@
 -- Which nodes have parts, and which part stands next.
 use Rattle.std.specs.Prelude.{ℕ, ◌≡◌, ◌+◌, List, [], length}
-use Rattle.wave_node.specs.NodeTree.{NodeTree}
-use Rattle.wave_node.specs.declared.ast.NodeType.{NodeType}
-use Rattle.wave_node.specs.declared.ast.NodeType.TheVariants as kind
+use Rattle.wave_forms.specs.NodeTree.{NodeTree}
+use Rattle.wave_forms.specs.declared.form.NodeType.{NodeType}
+use Rattle.wave_forms.specs.declared.form.NodeType.TheVariants as kind
 
 -- the type of a node that is more than one token, and no flags
 abbrev pub IsOfParts : NodeType → Type 0

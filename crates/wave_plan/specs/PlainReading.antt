@@ -5,7 +5,7 @@ use Rattle.wave_wasm.specs.Types.{TypeTree, kind_of}
 use Rattle.wave_wasm.specs.declared.wasm.WasmTypeKind.{WasmTypeKind}
 use Rattle.wave_wasm.specs.Values.{Value}
 use Rattle.wave_lex.specs.Errors.{Diagnostic}
-use Rattle.wave_node.specs.NodeTree.{NodeTree}
+use Rattle.wave_forms.specs.NodeTree.{NodeTree}
 use Rattle.wave_plan.specs.Leaves.{SparesRows}
 use Rattle.wave_plan.specs.Reading.{IsReadAs}
 

@@ -3,9 +3,9 @@ use Rattle.std.specs.Prelude.{ℕ, List, Option, Some, None, Result, IfErr}
 use Rattle.wave_wasm.specs.Types.{TypeTree}
 use Rattle.wave_wasm.specs.Values.{Value}
 use Rattle.wave_lex.specs.Errors.{Diagnostic}
-use Rattle.wave_node.specs.NodeTree.{NodeTree}
-use Rattle.wave_node.specs.TypedReading.{Answers, IsValueOf}
-use Rattle.wave_node.specs.Private.ErrorSpans.{RefusesIn}
+use Rattle.wave_forms.specs.NodeTree.{NodeTree}
+use Rattle.wave_forms.specs.TypedReading.{Answers, IsValueOf}
+use Rattle.wave_forms.specs.Private.ErrorSpans.{RefusesIn}
 
 module _ {V : Type 0} (tree : V → Value) (of : V → TypeTree → Type 0) (Full : TypeTree → Type 0) where
   -- the value of the node's tree at the type, or a refusal of it, which stands in the node

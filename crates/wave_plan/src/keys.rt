@@ -3,16 +3,16 @@ ghost use Rattle.std.specs.Prelude.{ℕ, List, ◌≡◌, ◌⊎◌, IfErr};
 ghost use Rattle.wave_wasm.specs.Types as type;
 ghost use Rattle.wave_lex.specs.Errors.{refusal_of};
 ghost use Rattle.wave_lex.specs.declared.error.ParserErrorKind.TheVariants.{OutOfMemory};
-ghost use Rattle.wave_node.specs.NodeTree.{place_of};
-ghost use Rattle.wave_node.specs.TypedReading.{IsKeyOf, AnswersKey};
-ghost use Rattle.wave_node.specs.Private.NodeAccessors.{GivesBoolKey};
-ghost use Rattle.wave_node.specs.Private.ErrorSpans.{RefusesIn};
+ghost use Rattle.wave_forms.specs.NodeTree.{place_of};
+ghost use Rattle.wave_forms.specs.TypedReading.{IsKeyOf, AnswersKey};
+ghost use Rattle.wave_forms.specs.Private.NodeAccessors.{GivesBoolKey};
+ghost use Rattle.wave_forms.specs.Private.ErrorSpans.{RefusesIn};
 ghost use Rattle.wave_plan.specs.Leaves.{leaf_node, IsLeafIn};
 
 use crate::leaf::Leaf;
 use std::alloc::Global;
 use wave_lex::error::{ParserError, ParserErrorKind};
-use wave_node::ast::NodeType;
+use wave_forms::form::NodeType;
 use wave_wasm::wasm::{DisplayType, WasmType, WasmTypeKind, WasmValue};
 
 impl<'src> Leaf<'src> {

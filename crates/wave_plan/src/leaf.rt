@@ -4,11 +4,11 @@ ghost use Rattle.wave_wasm.specs.Types as type;
 ghost use Rattle.wave_wasm.specs.TypeText.{kind_word};
 ghost use Rattle.wave_wasm.specs.ValueErrors.{unsupported_type, cause_of};
 ghost use Rattle.wave_lex.specs.Errors.{refusal_of, refused_by};
-ghost use Rattle.wave_node.specs.NodeTree.{place_of};
-ghost use Rattle.wave_node.specs.NodeAccessors.{RefusedAs, GivesBool, GivesNumber, GivesChar};
-ghost use Rattle.wave_node.specs.TypedReading.{Answers, IsMade};
-ghost use Rattle.wave_node.specs.Private.TypedReading.{IsCaused, AnswersWhole};
-ghost use Rattle.wave_node.specs.Private.ErrorSpans.{RefusesAt};
+ghost use Rattle.wave_forms.specs.NodeTree.{place_of};
+ghost use Rattle.wave_forms.specs.NodeAccessors.{RefusedAs, GivesBool, GivesNumber, GivesChar};
+ghost use Rattle.wave_forms.specs.TypedReading.{Answers, IsMade};
+ghost use Rattle.wave_forms.specs.Private.TypedReading.{IsCaused, AnswersWhole};
+ghost use Rattle.wave_forms.specs.Private.ErrorSpans.{RefusesAt};
 ghost use Rattle.wave_plan.specs.Leaves.{leaf_node, IsLeafIn, SparesRows};
 ghost use Rattle.wave_plan.specs.NodeParts.{IsOneToken};
 ghost use Rattle.wave_plan.specs.Reading.{IsReadAs};
@@ -18,7 +18,7 @@ use wave_grammar::number::WholeNumber;
 use wave_grammar::text::char_in;
 use wave_lex::error::{ParserError, ParserErrorKind};
 use wave_lex::lex::Span;
-use wave_node::ast::NodeType;
+use wave_forms::form::NodeType;
 use wave_wasm::wasm::{WasmTypeKind, WasmValue, WasmValueError};
 
 /// What would be a node of one token: its type, where it stands, and its text.

@@ -3,7 +3,6 @@
 
 mod keys;
 pub mod leaf;
-pub mod nodes;
 pub mod plain;
 pub mod plan;
 mod simple;

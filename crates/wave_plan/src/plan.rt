@@ -2,7 +2,7 @@
 use std::alloc::{AllocError, Global};
 use std::collections::BTreeMap;
 use wave_lex::lex::Span;
-use wave_node::ast::NodeType;
+use wave_forms::form::NodeType;
 
 /// What is to be made of a value, from the parts of its node, one behind the other.
 pub trait Plan: Sized + Copy {
@@ -16,9 +16,9 @@ pub trait Plan: Sized + Copy {
     ghost use Rattle.wave_plan.specs.FlagParts.{AreFlagsOf, flag_nodes};
     ghost use Rattle.wave_plan.specs.NodeParts.{IsOfParts, IsOneToken, TakesKey, TakesPart};
     ghost use Rattle.wave_grammar.specs.SpannedTree.{slice};
-    ghost use Rattle.wave_node.specs.NodeTree.{NodeTree, node, no_nodes, node_trees};
-    ghost use Rattle.wave_node.specs.declared.ast.NodeType.{NodeType};
-    ghost use Rattle.wave_node.specs.declared.ast.NodeType.TheVariants as node_type;
+    ghost use Rattle.wave_forms.specs.NodeTree.{NodeTree, node, no_nodes, node_trees};
+    ghost use Rattle.wave_forms.specs.declared.form.NodeType.{NodeType};
+    ghost use Rattle.wave_forms.specs.declared.form.NodeType.TheVariants as node_type;
 
     /// This was made of the node, which was parsed from the source.
     ghost is_made: { Self → List ℕ → NodeTree → Self.Made → Type 0 };

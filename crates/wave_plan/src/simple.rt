@@ -1,6 +1,6 @@
 //! Values of simple types, and of types that have none.
 ghost use Rattle.std.specs.Prelude.{ℕ, List, ◌≡◌, ◌⊎◌, Err};
-ghost use Rattle.wave_node.specs.NodeTree.{NodeTree, type_of, place_of};
+ghost use Rattle.wave_forms.specs.NodeTree.{NodeTree, type_of, place_of};
 ghost use Rattle.wave_plan.specs.Leaves.{leaf_node, IsLeafIn, IsSimpleOrUnreadable};
 ghost use Rattle.wave_plan.specs.NodeParts.{IsOneToken, IsOfParts};
 ghost use Rattle.wave_plan.specs.Reading.{IsReadAs};
@@ -8,7 +8,7 @@ ghost use Rattle.wave_plan.specs.Reading.{IsReadAs};
 use crate::leaf::Leaf;
 use std::alloc::Global;
 use wave_lex::error::{ParserError, ParserErrorKind};
-use wave_node::ast::NodeType;
+use wave_forms::form::NodeType;
 use wave_wasm::wasm::{WasmType, WasmTypeKind, WasmValue};
 
 impl<'src> Leaf<'src> {

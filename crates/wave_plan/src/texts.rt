@@ -5,10 +5,10 @@ ghost use Rattle.std.specs.Result.{IsErrAnd};
 ghost use Rattle.wave_wasm.specs.Types as type;
 ghost use Rattle.wave_wasm.specs.Values as value;
 ghost use Rattle.wave_grammar.specs.StringAssembly.{WantsMemory};
-ghost use Rattle.wave_node.specs.NodeAccessors.{GivesParts};
-ghost use Rattle.wave_node.specs.NodeStrings.{GivesString};
-ghost use Rattle.wave_node.specs.Nodes.{IsParsedFrom};
-ghost use Rattle.wave_node.specs.TypedReading.{IsLeafMade};
+ghost use Rattle.wave_forms.specs.NodeAccessors.{GivesParts};
+ghost use Rattle.wave_forms.specs.NodeStrings.{GivesString};
+ghost use Rattle.wave_forms.specs.Nodes.{IsParsedFrom};
+ghost use Rattle.wave_forms.specs.TypedReading.{IsLeafMade};
 ghost use Rattle.wave_plan.specs.Leaves.{leaf_node, IsLeafIn, SparesRows};
 ghost use Rattle.wave_plan.specs.NodeParts.{IsOneToken};
 ghost use Rattle.wave_plan.specs.Reading.{IsReadAs};
@@ -19,7 +19,7 @@ use std::borrow::CowStr;
 use wave_grammar::text::joined;
 use wave_lex::error::{ParserError, ParserErrorKind};
 use wave_lex::strings::StringPartsIter;
-use wave_node::ast::NodeType;
+use wave_forms::form::NodeType;
 use wave_wasm::wasm::WasmValue;
 
 impl<'src> Leaf<'src> {

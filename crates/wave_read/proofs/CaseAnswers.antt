@@ -14,13 +14,13 @@ use Rattle.wave_lex.specs.Errors.{Diagnostic, refused_by}
 use Rattle.wave_grammar.specs.LeafTokens.{name_of}
 use Rattle.wave_grammar.specs.TypedGrammar.{look_up}
 use Rattle.wave_grammar.specs.SpannedTree.{MaybePlaced, no_placed, a_placed}
-use Rattle.wave_node.specs.NodeTree.{NodeTree, node, node_trees}
-use Rattle.wave_node.specs.NodeAccessors.{node_text}
-use Rattle.wave_node.specs.TypedReading.{IsMade, IsValueOf}
-use Rattle.wave_node.specs.Private.TypedReading.{IsCaused, IsPayloadNodeOf}
-use Rattle.wave_node.specs.declared.ast.NodeType.TheVariants as kind
-use Rattle.wave_node.proofs.ByKind.Variants.{HasCase, case_found, case_missing, case_distinct, case_blame, no_case_blame, variant_made}
-use Rattle.wave_node.proofs.ErrorSpans.Nodes.{at_in, caused_at, made_in, deeper}
+use Rattle.wave_forms.specs.NodeTree.{NodeTree, node, node_trees}
+use Rattle.wave_forms.specs.NodeAccessors.{node_text}
+use Rattle.wave_forms.specs.TypedReading.{IsMade, IsValueOf}
+use Rattle.wave_forms.specs.Private.TypedReading.{IsCaused, IsPayloadNodeOf}
+use Rattle.wave_forms.specs.declared.form.NodeType.TheVariants as kind
+use Rattle.wave_forms.proofs.ByKind.Variants.{HasCase, case_found, case_missing, case_distinct, case_blame, no_case_blame, variant_made}
+use Rattle.wave_forms.proofs.ErrorSpans.Nodes.{at_in, caused_at, made_in, deeper}
 use Rattle.wave_plan.specs.Reading.{IsReadAs, IsReadWhereDue}
 use Rattle.wave_read.specs.CaseParts.{due_of, IsLabelOf, AreRead, AreReadOrDoomed, AreCaseParts}
 use Rattle.wave_read.specs.Faults.{Tells, IsDoomed}

@@ -14,18 +14,18 @@ use Rattle.wave_grammar.specs.LeafTokens.{name_of}
 use Rattle.wave_grammar.specs.TypedGrammar.{look_up}
 use Rattle.wave_grammar.specs.TypeErrors.{RefusesFor, Fault}
 use Rattle.wave_grammar.specs.SpannedTree.{Placed, Shape, MaybePlaced, at, label, no_placed, a_placed, slice, tree_of, SpellsEach}
-use Rattle.wave_node.specs.NodeTree.{NodeTree, node, node_trees, type_of, place_of, node_list}
-use Rattle.wave_node.specs.Nodes.{placed_of, IsNodeOf}
-use Rattle.wave_node.specs.NodeAccessors.{RefusedAs, node_text}
-use Rattle.wave_node.specs.TypedReading.{IsTypedValue, IsBlamed, IsMade, IsValueOf}
-use Rattle.wave_node.specs.Private.TypedReading.{IsCaused, IsPayloadNodeOf, IsPayloadRead, IsPayloadBlamed}
-use Rattle.wave_node.specs.declared.ast.NodeType.TheVariants as kind
-use Rattle.wave_node.proofs.ChildNodes.Inside.{inside, AreParsed, parsed, nodes_in}
-use Rattle.wave_node.proofs.ChildNodes.Cases.{shape_at, case_shape}
-use Rattle.wave_node.proofs.ChildNodes.Trees.{list_of_trees}
-use Rattle.wave_node.proofs.ByKind.Enums.{label_node}
-use Rattle.wave_node.proofs.ByKind.Variants.{VariantType, HasCase, CaseNode, variant_is, variant_fault, flag_text, case_found, case_missing, case_blame, no_case_blame, variant_made}
-use Rattle.wave_node.proofs.ErrorSpans.Nodes.{BelongsTo, children_belong, at_in, form_at, caused_at, made_in}
+use Rattle.wave_forms.specs.NodeTree.{NodeTree, node, node_trees, type_of, place_of, node_list}
+use Rattle.wave_forms.specs.Nodes.{placed_of, IsNodeOf}
+use Rattle.wave_forms.specs.NodeAccessors.{RefusedAs, node_text}
+use Rattle.wave_forms.specs.TypedReading.{IsTypedValue, IsBlamed, IsMade, IsValueOf}
+use Rattle.wave_forms.specs.Private.TypedReading.{IsCaused, IsPayloadNodeOf, IsPayloadRead, IsPayloadBlamed}
+use Rattle.wave_forms.specs.declared.form.NodeType.TheVariants as kind
+use Rattle.wave_forms.proofs.ChildNodes.Inside.{inside, AreParsed, parsed, nodes_in}
+use Rattle.wave_forms.proofs.ChildNodes.Cases.{shape_at, case_shape}
+use Rattle.wave_forms.proofs.ChildNodes.Trees.{list_of_trees}
+use Rattle.wave_forms.proofs.ByKind.Enums.{label_node}
+use Rattle.wave_forms.proofs.ByKind.Variants.{VariantType, HasCase, CaseNode, variant_is, variant_fault, flag_text, case_found, case_missing, case_blame, no_case_blame, variant_made}
+use Rattle.wave_forms.proofs.ErrorSpans.Nodes.{BelongsTo, children_belong, at_in, form_at, caused_at, made_in}
 use Rattle.wave_plan.specs.Reading.{IsReadAs}
 
 -- the type of a variant, by its kind

@@ -12,14 +12,14 @@ use Rattle.wave_lex.specs.Errors.{Diagnostic, Refusal, refusal_of}
 use Rattle.wave_lex.specs.declared.error.ParserErrorKind.TheVariants.{InvalidType, OutOfMemory}
 use Rattle.wave_grammar.specs.LeafTokens.{name_of}
 use Rattle.wave_grammar.specs.TypeErrors.{Fault}
-use Rattle.wave_node.specs.NodeTree.{NodeTree, type_of, place_of}
-use Rattle.wave_node.specs.NodeAccessors.{RefusedAs, node_text}
-use Rattle.wave_node.specs.TypedReading.{IsMade}
-use Rattle.wave_node.specs.Private.TypedReading.{IsCaused}
-use Rattle.wave_node.specs.declared.ast.NodeType.TheVariants as kind
-use Rattle.wave_node.proofs.ByKind.Leaves.{said}
-use Rattle.wave_node.proofs.ByKind.Enums.{enum_is, enum_fault, unknown_blame, enum_made}
-use Rattle.wave_node.proofs.ErrorSpans.Nodes.{at_in, form_at, caused_at, made_in, refused_at}
+use Rattle.wave_forms.specs.NodeTree.{NodeTree, type_of, place_of}
+use Rattle.wave_forms.specs.NodeAccessors.{RefusedAs, node_text}
+use Rattle.wave_forms.specs.TypedReading.{IsMade}
+use Rattle.wave_forms.specs.Private.TypedReading.{IsCaused}
+use Rattle.wave_forms.specs.declared.form.NodeType.TheVariants as kind
+use Rattle.wave_forms.proofs.ByKind.Leaves.{said}
+use Rattle.wave_forms.proofs.ByKind.Enums.{enum_is, enum_fault, unknown_blame, enum_made}
+use Rattle.wave_forms.proofs.ErrorSpans.Nodes.{at_in, form_at, caused_at, made_in, refused_at}
 use Rattle.wave_plan.specs.Reading.{IsReadAs}
 
 module _ {V : Type 0} (tree : V → Value) (of : V → TypeTree → Type 0) (Full : TypeTree → Type 0) where

@@ -18,14 +18,14 @@ use Rattle.wave_lex.specs.declared.error.ParserErrorKind.TheVariants.{InvalidTyp
 use Rattle.wave_grammar.specs.LeafTokens.{name_of}
 use Rattle.wave_grammar.specs.SpannedTree.{slice}
 use Rattle.wave_grammar.specs.TypeErrors.{RefusesFor}
-use Rattle.wave_node.specs.NodeTree.{NodeTree, node_list, node_trees, type_of, place_of, children_of}
-use Rattle.wave_node.specs.declared.ast.NodeType.TheVariants as kind
-use Rattle.wave_node.specs.NodeAccessors.{RefusedAs}
-use Rattle.wave_node.specs.NodeFlags.{AreFlags, names_at}
-use Rattle.wave_node.specs.Private.NodeFlags.{RefusesUnknown, RefusesFlags}
-use Rattle.wave_node.specs.TypedReading.{IsMade}
-use Rattle.wave_node.proofs.ByKind.Flags.{flags_is, flags_blame, flags_made}
-use Rattle.wave_node.proofs.ErrorSpans.Nodes.{at_in, form_at, made_in}
+use Rattle.wave_forms.specs.NodeTree.{NodeTree, node_list, node_trees, type_of, place_of, children_of}
+use Rattle.wave_forms.specs.declared.form.NodeType.TheVariants as kind
+use Rattle.wave_forms.specs.NodeAccessors.{RefusedAs}
+use Rattle.wave_forms.specs.NodeFlags.{AreFlags, names_at}
+use Rattle.wave_forms.specs.Private.NodeFlags.{RefusesUnknown, RefusesFlags}
+use Rattle.wave_forms.specs.TypedReading.{IsMade}
+use Rattle.wave_forms.proofs.ByKind.Flags.{flags_is, flags_blame, flags_made}
+use Rattle.wave_forms.proofs.ErrorSpans.Nodes.{at_in, form_at, made_in}
 use Rattle.wave_plan.specs.FlagParts.{AreFlagsOf, label_at, flag_nodes}
 use Rattle.wave_plan.specs.Reading.{IsReadAs}
 use Rattle.wave_read.specs.declared.fault.Fault.{Fault}

@@ -8,12 +8,12 @@ use Rattle.wave_wasm.specs.declared.wasm.WasmTypeKind.TheVariants as kinds
 use Rattle.wave_wasm.specs.declared.wasm.WasmValueError.{WasmValueError}
 use Rattle.wave_lex.specs.Errors.{Diagnostic}
 use Rattle.wave_lex.specs.declared.error.ParserErrorKind.TheVariants.{InvalidType}
-use Rattle.wave_node.specs.NodeTree.{NodeTree, type_of, place_of}
-use Rattle.wave_node.specs.NodeAccessors.{RefusedAs}
-use Rattle.wave_node.specs.TypedReading.{IsMade}
-use Rattle.wave_node.proofs.ByKind.Options.{flat_made, flat_blame}
-use Rattle.wave_node.proofs.ByKind.Results.{result_flat_made, result_flat_blame}
-use Rattle.wave_node.proofs.ErrorSpans.Nodes.{made_in}
+use Rattle.wave_forms.specs.NodeTree.{NodeTree, type_of, place_of}
+use Rattle.wave_forms.specs.NodeAccessors.{RefusedAs}
+use Rattle.wave_forms.specs.TypedReading.{IsMade}
+use Rattle.wave_forms.proofs.ByKind.Options.{flat_made, flat_blame}
+use Rattle.wave_forms.proofs.ByKind.Results.{result_flat_made, result_flat_blame}
+use Rattle.wave_forms.proofs.ErrorSpans.Nodes.{made_in}
 use Rattle.wave_plan.specs.Reading.{IsReadAs}
 use Rattle.wave_read.specs.Flat.{IsFlatAt}
 

@@ -5,8 +5,8 @@ use Rattle.std.specs.declared.ops.Range.{Range}
 use Rattle.wave_wasm.specs.Types.{TypeTree}
 use Rattle.wave_wasm.specs.Values.{Value}
 use Rattle.wave_lex.specs.Errors.{Diagnostic}
-use Rattle.wave_node.specs.NodeTree.{NodeTree, node, node_trees}
-use Rattle.wave_node.specs.declared.ast.NodeType.{NodeType}
+use Rattle.wave_forms.specs.NodeTree.{NodeTree, node, node_trees}
+use Rattle.wave_forms.specs.declared.form.NodeType.{NodeType}
 use Rattle.wave_plan.specs.Reading.{IsReadAs, IsReadWhereDue}
 use Rattle.wave_read.specs.Flat.{IsFlatAt}
 use Rattle.wave_read.specs.KeptParts.{AreOfType, AreKeptWhereDue}

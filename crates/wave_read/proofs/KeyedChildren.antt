@@ -5,19 +5,19 @@ use Rattle.std.proofs.lemmas.List.{append-nil}
 use Rattle.wave_wasm.specs.Lists.{AllOf}
 use Rattle.wave_grammar.specs.Token.{Token}
 use Rattle.wave_grammar.specs.SpannedTree.{Placed, Shape, PlacedEntries, entry, entries, PlacedEntry, entry_list, slice, shape_of}
-use Rattle.wave_node.specs.NodeTree.{NodeTree, node, node_trees, type_of, children_of}
-use Rattle.wave_node.specs.Nodes.{pairs_of, key_of, shape_from, IsNodeOf, IsTokenOf}
-use Rattle.wave_node.specs.NodeAccessors.{node_pairs}
-use Rattle.wave_node.specs.TypedReading.{IsValueOf}
-use Rattle.wave_node.specs.declared.ast.NodeType.TheVariants as kind
-use Rattle.wave_node.proofs.ByKind.Lists.{HasAt}
-use Rattle.wave_node.proofs.ChildNodes.Inside.{inside, AreParsed, parsed, nodes_in}
-use Rattle.wave_node.proofs.ChildNodes.Trees.{list_of_trees}
-use Rattle.wave_node.proofs.ChildNodes.Cases.{shape_at}
-use Rattle.wave_node.proofs.ChildNodes.Entries.{AreEntriesOf, both_some}
-use Rattle.wave_node.proofs.Fields.Entries.{record_nodes}
-use Rattle.wave_node.proofs.Fields.Lookup.{entry_has}
-use Rattle.wave_node.proofs.ErrorSpans.Nodes.{PairBelongs, entries_belong}
+use Rattle.wave_forms.specs.NodeTree.{NodeTree, node, node_trees, type_of, children_of}
+use Rattle.wave_forms.specs.Nodes.{pairs_of, key_of, shape_from, IsNodeOf, IsTokenOf}
+use Rattle.wave_forms.specs.NodeAccessors.{node_pairs}
+use Rattle.wave_forms.specs.TypedReading.{IsValueOf}
+use Rattle.wave_forms.specs.declared.form.NodeType.TheVariants as kind
+use Rattle.wave_forms.proofs.ByKind.Lists.{HasAt}
+use Rattle.wave_forms.proofs.ChildNodes.Inside.{inside, AreParsed, parsed, nodes_in}
+use Rattle.wave_forms.proofs.ChildNodes.Trees.{list_of_trees}
+use Rattle.wave_forms.proofs.ChildNodes.Cases.{shape_at}
+use Rattle.wave_forms.proofs.ChildNodes.Entries.{AreEntriesOf, both_some}
+use Rattle.wave_forms.proofs.Fields.Entries.{record_nodes}
+use Rattle.wave_forms.proofs.Fields.Lookup.{entry_has}
+use Rattle.wave_forms.proofs.ErrorSpans.Nodes.{PairBelongs, entries_belong}
 use Rattle.wave_read.specs.RecordParts.{last_key}
 use Rattle.wave_read.proofs.RecordFields.{has_behind, holds_at}
 

@@ -8,10 +8,10 @@ use Rattle.wave_wasm.specs.declared.wasm.WasmTypeKind.{WasmTypeKind}
 use Rattle.wave_wasm.specs.declared.wasm.WasmTypeKind.TheVariants as kinds
 use Rattle.wave_lex.specs.Errors.{Diagnostic}
 use Rattle.wave_lex.specs.declared.error.ParserErrorKind.TheVariants as why
-use Rattle.wave_node.specs.NodeTree.{NodeTree, type_of}
-use Rattle.wave_node.specs.NodeAccessors.{RefusedAs}
-use Rattle.wave_node.specs.declared.ast.NodeType.{NodeType}
-use Rattle.wave_node.specs.declared.ast.NodeType.TheVariants as kind
+use Rattle.wave_forms.specs.NodeTree.{NodeTree, type_of}
+use Rattle.wave_forms.specs.NodeAccessors.{RefusedAs}
+use Rattle.wave_forms.specs.declared.form.NodeType.{NodeType}
+use Rattle.wave_forms.specs.declared.form.NodeType.TheVariants as kind
 use Rattle.wave_plan.specs.Leaves.{IsSimpleOrUnreadable}
 use Rattle.wave_plan.specs.NodeParts.{IsOneToken}
 use Rattle.wave_plan.specs.Reading.{IsReadAs}

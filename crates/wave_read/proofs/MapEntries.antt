@@ -16,18 +16,18 @@ use Rattle.wave_lex.specs.declared.error.ParserErrorKind.TheVariants as why
 use Rattle.wave_grammar.specs.Token.{Token}
 use Rattle.wave_grammar.specs.SpannedTree.{Placed, Shape, PlacedEntries, entry, entries, PlacedEntry, entry_list, slice, shape_of}
 use Rattle.wave_grammar.specs.TypeErrors.{Fault}
-use Rattle.wave_node.specs.NodeTree.{NodeTree, node, no_nodes, node_trees, type_of}
-use Rattle.wave_node.specs.Nodes.{pairs_of, key_of, shape_from, IsNodeOf, IsTokenOf}
-use Rattle.wave_node.specs.NodeAccessors.{RefusedAs, node_pairs}
-use Rattle.wave_node.specs.TypedReading.{IsMade, IsValueOf, IsKeyOf, AnswersKey}
-use Rattle.wave_node.specs.Private.ErrorSpans.{RefusesIn}
-use Rattle.wave_node.specs.declared.ast.NodeType.TheVariants as kind
-use Rattle.wave_node.proofs.ChildNodes.Inside.{inside, AreParsed, parsed, nodes_in}
-use Rattle.wave_node.proofs.ChildNodes.Trees.{list_of_trees}
-use Rattle.wave_node.proofs.ChildNodes.Cases.{shape_at}
-use Rattle.wave_node.proofs.ChildNodes.Entries.{AreEntriesOf, IsOfMap, map_nodes, both_some}
-use Rattle.wave_node.proofs.ByKind.Maps.{IsMapOf, map_distinct, NextEntry, map_fault, key_blame, value_blame, EntriesRead, map_made, same_texts}
-use Rattle.wave_node.proofs.ErrorSpans.Nodes.{BelongsTo, children_belong, deeper, at_in, form_at, made_in}
+use Rattle.wave_forms.specs.NodeTree.{NodeTree, node, no_nodes, node_trees, type_of}
+use Rattle.wave_forms.specs.Nodes.{pairs_of, key_of, shape_from, IsNodeOf, IsTokenOf}
+use Rattle.wave_forms.specs.NodeAccessors.{RefusedAs, node_pairs}
+use Rattle.wave_forms.specs.TypedReading.{IsMade, IsValueOf, IsKeyOf, AnswersKey}
+use Rattle.wave_forms.specs.Private.ErrorSpans.{RefusesIn}
+use Rattle.wave_forms.specs.declared.form.NodeType.TheVariants as kind
+use Rattle.wave_forms.proofs.ChildNodes.Inside.{inside, AreParsed, parsed, nodes_in}
+use Rattle.wave_forms.proofs.ChildNodes.Trees.{list_of_trees}
+use Rattle.wave_forms.proofs.ChildNodes.Cases.{shape_at}
+use Rattle.wave_forms.proofs.ChildNodes.Entries.{AreEntriesOf, IsOfMap, map_nodes, both_some}
+use Rattle.wave_forms.proofs.ByKind.Maps.{IsMapOf, map_distinct, NextEntry, map_fault, key_blame, value_blame, EntriesRead, map_made, same_texts}
+use Rattle.wave_forms.proofs.ErrorSpans.Nodes.{BelongsTo, children_belong, deeper, at_in, form_at, made_in}
 use Rattle.wave_plan.specs.Reading.{IsReadAs}
 use Rattle.wave_read.proofs.KeyedChildren.{ArePaired, paired_from}
 use Rattle.wave_read.specs.MapParts.{AreReadInTurn}

@@ -9,11 +9,11 @@ use Rattle.wave_wasm.specs.Borrowed.{shown}
 use Rattle.wave_wasm.specs.ConstructorContracts.{MakesMap, FullMap, HasFullParts}
 use Rattle.wave_wasm.specs.declared.wasm.WasmValueError.{WasmValueError}
 use Rattle.wave_lex.specs.Errors.{Diagnostic}
-use Rattle.wave_node.specs.NodeTree.{NodeTree, node, node_trees}
-use Rattle.wave_node.specs.TypedReading.{IsMade, IsKeyOf, AnswersKey}
-use Rattle.wave_node.specs.Private.ErrorSpans.{RefusesIn}
-use Rattle.wave_node.specs.declared.ast.NodeType.TheVariants as kind
-use Rattle.wave_node.proofs.ByKind.Maps.{IsMapOf, map_is, same_texts}
+use Rattle.wave_forms.specs.NodeTree.{NodeTree, node, node_trees}
+use Rattle.wave_forms.specs.TypedReading.{IsMade, IsKeyOf, AnswersKey}
+use Rattle.wave_forms.specs.Private.ErrorSpans.{RefusesIn}
+use Rattle.wave_forms.specs.declared.form.NodeType.TheVariants as kind
+use Rattle.wave_forms.proofs.ByKind.Maps.{IsMapOf, map_is, same_texts}
 use Rattle.wave_plan.specs.NodeParts.{TakesKey, TakesPart}
 use Rattle.wave_plan.specs.Reading.{IsReadAs, IsReadWhereDue}
 use Rattle.wave_read.specs.Faults.{Tells, IsDoomed}

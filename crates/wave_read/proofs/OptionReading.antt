@@ -10,13 +10,13 @@ use Rattle.wave_wasm.specs.declared.wasm.WasmValueError.{WasmValueError}
 use Rattle.wave_lex.specs.Errors.{Diagnostic}
 use Rattle.wave_lex.specs.declared.error.ParserErrorKind.TheVariants.{InvalidType}
 use Rattle.wave_grammar.specs.SpannedTree.{Placed}
-use Rattle.wave_node.specs.NodeTree.{NodeTree, node, node_trees, type_of}
-use Rattle.wave_node.specs.Nodes.{IsNodeOf}
-use Rattle.wave_node.specs.NodeAccessors.{RefusedAs}
-use Rattle.wave_node.specs.TypedReading.{IsMade}
-use Rattle.wave_node.specs.declared.ast.NodeType.TheVariants as node_type
-use Rattle.wave_node.proofs.ByKind.Options.{SomeNode, some_node, given_none, some_made, some_blame, none_made, option_fault}
-use Rattle.wave_node.proofs.ErrorSpans.Nodes.{made_in, deeper, first_belongs, at_in, form_at}
+use Rattle.wave_forms.specs.NodeTree.{NodeTree, node, node_trees, type_of}
+use Rattle.wave_forms.specs.Nodes.{IsNodeOf}
+use Rattle.wave_forms.specs.NodeAccessors.{RefusedAs}
+use Rattle.wave_forms.specs.TypedReading.{IsMade}
+use Rattle.wave_forms.specs.declared.form.NodeType.TheVariants as node_type
+use Rattle.wave_forms.proofs.ByKind.Options.{SomeNode, some_node, given_none, some_made, some_blame, none_made, option_fault}
+use Rattle.wave_forms.proofs.ErrorSpans.Nodes.{made_in, deeper, first_belongs, at_in, form_at}
 use Rattle.wave_plan.specs.Reading.{IsReadAs}
 use Rattle.wave_read.specs.Flat.{IsFlatAt}
 use Rattle.wave_wasm.proofs.TypeKinds.{formed_as}

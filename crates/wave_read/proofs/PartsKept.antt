@@ -2,8 +2,8 @@
 use Rattle.std.proofs.Common.{ℕ, ◌≡◌, ◌++◌, Bool, true, false, List, [], ◌∷◌, Result, Ok, Err, IfOk, refl, subst}
 use Rattle.wave_wasm.specs.Types.{TypeTree}
 use Rattle.wave_wasm.specs.Values.{Value}
-use Rattle.wave_node.specs.NodeTree.{NodeTree}
-use Rattle.wave_node.specs.declared.ast.NodeType.{NodeType}
+use Rattle.wave_forms.specs.NodeTree.{NodeTree}
+use Rattle.wave_forms.specs.declared.form.NodeType.{NodeType}
 use Rattle.wave_plan.specs.NodeParts.{TakesKey, TakesPart}
 use Rattle.wave_read.specs.Payloads.{result_node}
 use Rattle.wave_read.specs.PartsOfKinds.{AreParts}

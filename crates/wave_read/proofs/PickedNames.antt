@@ -18,13 +18,13 @@ use Rattle.wave_wasm.proofs.NameSets.{held, Holds}
 use Rattle.wave_wasm.proofs.NameTests.{is_one, passes, none_of}
 use Rattle.wave_lex.specs.Errors.{Diagnostic, refusal_of}
 use Rattle.wave_grammar.specs.TypeErrors.{RefusesFor}
-use Rattle.wave_node.specs.NodeTree.{NodeTree, place_of}
-use Rattle.wave_node.specs.Private.NodeFlags.{RefusesUnknown}
-use Rattle.wave_node.specs.Private.TypedReading.{IsCaused}
-use Rattle.wave_node.proofs.FlagSets.{texts_next, picks_more, picks_same}
-use Rattle.wave_node.proofs.ChildNodes.Inside.{some_is}
-use Rattle.wave_node.proofs.ErrorSpans.Nodes.{caused_at}
-use Rattle.wave_node.proofs.Fields.Lookup.{eq_turn}
+use Rattle.wave_forms.specs.NodeTree.{NodeTree, place_of}
+use Rattle.wave_forms.specs.Private.NodeFlags.{RefusesUnknown}
+use Rattle.wave_forms.specs.Private.TypedReading.{IsCaused}
+use Rattle.wave_forms.proofs.FlagSets.{texts_next, picks_more, picks_same}
+use Rattle.wave_forms.proofs.ChildNodes.Inside.{some_is}
+use Rattle.wave_forms.proofs.ErrorSpans.Nodes.{caused_at}
+use Rattle.wave_forms.proofs.Fields.Lookup.{eq_turn}
 use Rattle.wave_read.specs.declared.fault.Fault.{Fault}
 use Rattle.wave_read.specs.NamedFlags.{TellsCause, TellsUnknown}
 

@@ -13,19 +13,19 @@ use Rattle.wave_grammar.specs.LeafTokens.{name_of}
 use Rattle.wave_grammar.specs.TypedGrammar.{names_of}
 use Rattle.wave_grammar.specs.SpannedTree.{Placed, entry_list, span_of}
 use Rattle.wave_grammar.specs.TypeErrors.{Fault, names_in, IsFor, UnknownField}
-use Rattle.wave_node.specs.NodeTree.{NodeTree, node, node_trees, type_of}
-use Rattle.wave_node.specs.Nodes.{IsNodeOf}
-use Rattle.wave_node.specs.NodeAccessors.{node_text, node_pairs, RefusedAs}
-use Rattle.wave_node.specs.NodeFields.{IsLabelled, RefusesKey}
-use Rattle.wave_node.specs.TypedReading.{IsBlamed}
-use Rattle.wave_node.specs.Private.ErrorSpans.{RefusesAt}
-use Rattle.wave_node.specs.Private.NodeFields.{fields_at}
-use Rattle.wave_node.specs.declared.ast.NodeType.TheVariants as kind
-use Rattle.wave_node.proofs.ByKind.Lists.{HasAt, some_at}
-use Rattle.wave_node.proofs.ChildNodes.Inside.{inside}
-use Rattle.wave_node.proofs.Fields.Entries.{record_nodes, fields_of_entries, within_record}
-use Rattle.wave_node.proofs.Fields.Reading.{RecordType, record_is, names_are, fields_distinct, nodes_blame, some_blamed, blamed_so}
-use Rattle.wave_node.proofs.ErrorSpans.Nodes.{deeper, at_in, form_at, refused_at}
+use Rattle.wave_forms.specs.NodeTree.{NodeTree, node, node_trees, type_of}
+use Rattle.wave_forms.specs.Nodes.{IsNodeOf}
+use Rattle.wave_forms.specs.NodeAccessors.{node_text, node_pairs, RefusedAs}
+use Rattle.wave_forms.specs.NodeFields.{IsLabelled, RefusesKey}
+use Rattle.wave_forms.specs.TypedReading.{IsBlamed}
+use Rattle.wave_forms.specs.Private.ErrorSpans.{RefusesAt}
+use Rattle.wave_forms.specs.Private.NodeFields.{fields_at}
+use Rattle.wave_forms.specs.declared.form.NodeType.TheVariants as kind
+use Rattle.wave_forms.proofs.ByKind.Lists.{HasAt, some_at}
+use Rattle.wave_forms.proofs.ChildNodes.Inside.{inside}
+use Rattle.wave_forms.proofs.Fields.Entries.{record_nodes, fields_of_entries, within_record}
+use Rattle.wave_forms.proofs.Fields.Reading.{RecordType, record_is, names_are, fields_distinct, nodes_blame, some_blamed, blamed_so}
+use Rattle.wave_forms.proofs.ErrorSpans.Nodes.{deeper, at_in, form_at, refused_at}
 use Rattle.wave_plan.specs.Reading.{IsReadAs}
 use Rattle.wave_read.specs.RecordParts.{last_key}
 use Rattle.wave_read.proofs.KeyedChildren.{StandsBehind, key_stands, value_stands, entry_stands, pair_belongs}

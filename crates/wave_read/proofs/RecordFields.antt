@@ -13,11 +13,11 @@ use Rattle.wave_wasm.specs.Types.{TypeTree, HasDistinctNames}
 use Rattle.wave_wasm.specs.Values.{Value}
 use Rattle.wave_wasm.specs.Borrowed.{shown_fields}
 use Rattle.wave_grammar.specs.TypedGrammar.{look_up, names_of}
-use Rattle.wave_node.specs.NodeTree.{NodeTree}
-use Rattle.wave_node.specs.Private.NodeFields.{IsLeftOut}
-use Rattle.wave_node.proofs.ByKind.Lists.{HasAt}
-use Rattle.wave_node.proofs.Fields.Lookup.{take_next, map_last}
-use Rattle.wave_node.proofs.Fields.Entries.{not_both}
+use Rattle.wave_forms.specs.NodeTree.{NodeTree}
+use Rattle.wave_forms.specs.Private.NodeFields.{IsLeftOut}
+use Rattle.wave_forms.proofs.ByKind.Lists.{HasAt}
+use Rattle.wave_forms.proofs.Fields.Lookup.{take_next, map_last}
+use Rattle.wave_forms.proofs.Fields.Entries.{not_both}
 use Rattle.wave_plan.specs.Reading.{IsReadAs}
 use Rattle.wave_read.specs.declared.records.Field.{Field}
 use Rattle.wave_read.specs.RecordParts.{part_of, field_name, with_value, IsKeptAs, AreKept, IsFull, AreFull}

@@ -13,15 +13,15 @@ use Rattle.wave_lex.specs.declared.error.ParserErrorKind.TheVariants as why
 use Rattle.wave_grammar.specs.LeafTokens.{name_of}
 use Rattle.wave_grammar.specs.TypedGrammar.{look_up, names_of}
 use Rattle.wave_grammar.proofs.FieldNames.{is_found}
-use Rattle.wave_node.specs.NodeTree.{NodeTree, node, node_trees, type_of, place_of}
-use Rattle.wave_node.specs.NodeAccessors.{node_text, node_pairs}
-use Rattle.wave_node.specs.NodeFields.{IsLabelled, field_of}
-use Rattle.wave_node.specs.Private.NodeFields.{fields_at}
-use Rattle.wave_node.specs.declared.ast.NodeType.TheVariants as kind
-use Rattle.wave_node.proofs.ByKind.Lists.{HasAt}
-use Rattle.wave_node.proofs.Fields.Lookup.{all_last, map_last, not_found}
-use Rattle.wave_node.proofs.Fields.Reading.{RecordType, record_is, fields_distinct}
-use Rattle.wave_node.proofs.ErrorSpans.Nodes.{said_here}
+use Rattle.wave_forms.specs.NodeTree.{NodeTree, node, node_trees, type_of, place_of}
+use Rattle.wave_forms.specs.NodeAccessors.{node_text, node_pairs}
+use Rattle.wave_forms.specs.NodeFields.{IsLabelled, field_of}
+use Rattle.wave_forms.specs.Private.NodeFields.{fields_at}
+use Rattle.wave_forms.specs.declared.form.NodeType.TheVariants as kind
+use Rattle.wave_forms.proofs.ByKind.Lists.{HasAt}
+use Rattle.wave_forms.proofs.Fields.Lookup.{all_last, map_last, not_found}
+use Rattle.wave_forms.proofs.Fields.Reading.{RecordType, record_is, fields_distinct}
+use Rattle.wave_forms.proofs.ErrorSpans.Nodes.{said_here}
 use Rattle.wave_plan.specs.NodeParts.{TakesKey, TakesPart}
 use Rattle.wave_plan.specs.Reading.{IsReadAs, IsReadWhereDue}
 use Rattle.wave_read.specs.Faults.{IsDoomed}

@@ -12,20 +12,20 @@ use Rattle.wave_wasm.specs.declared.wasm.WasmValueError.{WasmValueError}
 use Rattle.wave_lex.specs.Errors.{Diagnostic}
 use Rattle.wave_grammar.specs.TypedGrammar.{look_up, names_of}
 use Rattle.wave_grammar.specs.SpannedTree.{Placed, PlacedEntry, entry_list}
-use Rattle.wave_node.specs.NodeTree.{NodeTree, node, node_trees}
-use Rattle.wave_node.specs.NodeAccessors.{node_pairs}
-use Rattle.wave_node.specs.NodeFields.{IsLabelled, IsFieldsOf}
-use Rattle.wave_node.specs.TypedReading.{IsMade, IsBlamed}
-use Rattle.wave_node.specs.Nodes.{IsNodeOf}
-use Rattle.wave_node.specs.Private.ErrorSpans.{RefusesAt}
-use Rattle.wave_node.specs.Private.NodeFields.{fields_at}
-use Rattle.wave_node.specs.declared.ast.NodeType.TheVariants as kind
-use Rattle.wave_node.proofs.ByKind.Lists.{HasAt}
-use Rattle.wave_node.proofs.ChildNodes.Trees.{list_of_trees}
-use Rattle.wave_node.proofs.MakerAnswers.{made}
-use Rattle.wave_node.proofs.Fields.Entries.{AreFieldsOf, record_nodes}
-use Rattle.wave_node.proofs.Fields.Reading.{RecordType, fields_distinct, given_fields, FieldIsRead, FieldsRead, field_read, field_blamed, record_reads, record_full}
-use Rattle.wave_node.proofs.ErrorSpans.Nodes.{at_in, made_in}
+use Rattle.wave_forms.specs.NodeTree.{NodeTree, node, node_trees}
+use Rattle.wave_forms.specs.NodeAccessors.{node_pairs}
+use Rattle.wave_forms.specs.NodeFields.{IsLabelled, IsFieldsOf}
+use Rattle.wave_forms.specs.TypedReading.{IsMade, IsBlamed}
+use Rattle.wave_forms.specs.Nodes.{IsNodeOf}
+use Rattle.wave_forms.specs.Private.ErrorSpans.{RefusesAt}
+use Rattle.wave_forms.specs.Private.NodeFields.{fields_at}
+use Rattle.wave_forms.specs.declared.form.NodeType.TheVariants as kind
+use Rattle.wave_forms.proofs.ByKind.Lists.{HasAt}
+use Rattle.wave_forms.proofs.ChildNodes.Trees.{list_of_trees}
+use Rattle.wave_forms.proofs.MakerAnswers.{made}
+use Rattle.wave_forms.proofs.Fields.Entries.{AreFieldsOf, record_nodes}
+use Rattle.wave_forms.proofs.Fields.Reading.{RecordType, fields_distinct, given_fields, FieldIsRead, FieldsRead, field_read, field_blamed, record_reads, record_full}
+use Rattle.wave_forms.proofs.ErrorSpans.Nodes.{at_in, made_in}
 use Rattle.wave_plan.specs.Reading.{IsReadAs}
 use Rattle.wave_read.specs.Faults.{Tells, IsDoomed}
 use Rattle.wave_read.specs.RecordParts.{AreFields, AreBegun, AreKept, IsKeptAs, IsFull, AreFull, IsLeftUnfilled, field_name, part_of}

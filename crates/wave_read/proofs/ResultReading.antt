@@ -10,17 +10,17 @@ use Rattle.wave_wasm.specs.declared.wasm.WasmValueError.{WasmValueError}
 use Rattle.wave_lex.specs.Errors.{Diagnostic}
 use Rattle.wave_lex.specs.declared.error.ParserErrorKind.TheVariants.{InvalidType}
 use Rattle.wave_grammar.specs.TypedGrammar.{IsFlat}
-use Rattle.wave_node.specs.NodeTree.{NodeTree, node, node_trees, type_of, children_of}
-use Rattle.wave_node.specs.NodeAccessors.{RefusedAs, first_of}
-use Rattle.wave_node.specs.TypedReading.{IsValueOf}
-use Rattle.wave_node.specs.Private.TypedReading.{IsPayloadOf, AnswersPayload}
-use Rattle.wave_node.specs.Private.ErrorSpans.{RefusesIn, RefusesInPart}
-use Rattle.wave_node.specs.declared.ast.NodeType.TheVariants as node_type
-use Rattle.wave_node.proofs.ByKind.Results.{maybe_back, ok_node, err_node, ok_made, err_made, ok_blame, err_blame, result_fault}
+use Rattle.wave_forms.specs.NodeTree.{NodeTree, node, node_trees, type_of, children_of}
+use Rattle.wave_forms.specs.NodeAccessors.{RefusedAs, first_of}
+use Rattle.wave_forms.specs.TypedReading.{IsValueOf}
+use Rattle.wave_forms.specs.Private.TypedReading.{IsPayloadOf, AnswersPayload}
+use Rattle.wave_forms.specs.Private.ErrorSpans.{RefusesIn, RefusesInPart}
+use Rattle.wave_forms.specs.declared.form.NodeType.TheVariants as node_type
+use Rattle.wave_forms.proofs.ByKind.Results.{maybe_back, ok_node, err_node, ok_made, err_made, ok_blame, err_blame, result_fault}
 use Rattle.wave_wasm.proofs.TypeKinds.{simple_is}
-use Rattle.wave_node.proofs.ChildNodes.Inside.{some_is}
-use Rattle.wave_node.proofs.ChildNodes.Trees.{list_of_trees}
-use Rattle.wave_node.proofs.ErrorSpans.Nodes.{made_in, part_in, first_belongs, at_in, form_at}
+use Rattle.wave_forms.proofs.ChildNodes.Inside.{some_is}
+use Rattle.wave_forms.proofs.ChildNodes.Trees.{list_of_trees}
+use Rattle.wave_forms.proofs.ErrorSpans.Nodes.{made_in, part_in, first_belongs, at_in, form_at}
 use Rattle.wave_plan.specs.Reading.{IsReadAs}
 use Rattle.wave_read.specs.Flat.{IsFlatAt}
 use Rattle.wave_read.specs.Faults.{IsMadeAt}

@@ -13,16 +13,16 @@ use Rattle.wave_wasm.specs.declared.wasm.WasmValueError.{WasmValueError}
 use Rattle.wave_lex.specs.Errors.{Diagnostic, Refusal, refusal_of, caused}
 use Rattle.wave_lex.specs.declared.error.ParserErrorKind.TheVariants.{InvalidType, OutOfMemory}
 use Rattle.wave_grammar.specs.SpannedTree.{Placed}
-use Rattle.wave_node.specs.NodeTree.{NodeTree, node, node_trees, type_of, children_of}
-use Rattle.wave_node.specs.NodeAccessors.{RefusedAs}
-use Rattle.wave_node.specs.TypedReading.{IsMade, IsBlamed}
-use Rattle.wave_node.specs.declared.ast.NodeType.{NodeType}
-use Rattle.wave_node.specs.declared.ast.NodeType.TheVariants as kind
-use Rattle.wave_node.proofs.ByKind.Leaves.{said}
-use Rattle.wave_node.proofs.ByKind.Lists.{AreNodesOf, HasAt}
-use Rattle.wave_node.proofs.ByKind.Tuples.{TupleType, tuple_is, all_has, parts_distinct, tuple_nodes, given_items, tuple_item, tuple_fault, item_blamed, count_blame, ReadAt, tuple_made}
-use Rattle.wave_node.proofs.ChildNodes.Trees.{list_of_trees}
-use Rattle.wave_node.proofs.ErrorSpans.Nodes.{at_in, form_at, memory_here, caused_at, deeper_at, made_in}
+use Rattle.wave_forms.specs.NodeTree.{NodeTree, node, node_trees, type_of, children_of}
+use Rattle.wave_forms.specs.NodeAccessors.{RefusedAs}
+use Rattle.wave_forms.specs.TypedReading.{IsMade, IsBlamed}
+use Rattle.wave_forms.specs.declared.form.NodeType.{NodeType}
+use Rattle.wave_forms.specs.declared.form.NodeType.TheVariants as kind
+use Rattle.wave_forms.proofs.ByKind.Leaves.{said}
+use Rattle.wave_forms.proofs.ByKind.Lists.{AreNodesOf, HasAt}
+use Rattle.wave_forms.proofs.ByKind.Tuples.{TupleType, tuple_is, all_has, parts_distinct, tuple_nodes, given_items, tuple_item, tuple_fault, item_blamed, count_blame, ReadAt, tuple_made}
+use Rattle.wave_forms.proofs.ChildNodes.Trees.{list_of_trees}
+use Rattle.wave_forms.proofs.ErrorSpans.Nodes.{at_in, form_at, memory_here, caused_at, deeper_at, made_in}
 use Rattle.wave_plan.specs.NodeParts.{IsOneToken}
 use Rattle.wave_plan.specs.Reading.{IsReadAs, IsReadWhereDue}
 use Rattle.wave_read.specs.Faults.{IsDoomed}

@@ -7,9 +7,9 @@ use Rattle.wave_wasm.specs.ValueErrors.{cause_of}
 use Rattle.wave_wasm.specs.declared.wasm.WasmValueError.{WasmValueError}
 use Rattle.wave_lex.specs.Errors.{Diagnostic, Says, refusal_of, refused_by}
 use Rattle.std.specs.Prelude.{None}
-use Rattle.wave_node.specs.NodeTree.{NodeTree, node, node_trees, place_of}
-use Rattle.wave_node.specs.TypedReading.{IsMade}
-use Rattle.wave_node.specs.declared.ast.NodeType.{NodeType}
+use Rattle.wave_forms.specs.NodeTree.{NodeTree, node, node_trees, place_of}
+use Rattle.wave_forms.specs.TypedReading.{IsMade}
+use Rattle.wave_forms.specs.declared.form.NodeType.{NodeType}
 use Rattle.wave_plan.specs.Reading.{IsReadAs}
 use Rattle.wave_read.specs.declared.fault.Fault.{Fault}
 use Rattle.wave_read.specs.declared.fault.Fault.TheVariants as fault

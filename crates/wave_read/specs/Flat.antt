@@ -3,8 +3,8 @@ use Rattle.std.specs.Prelude.{◌≡◌, ◌≢◌, Option, Some, None}
 use Rattle.wave_wasm.specs.Types as type
 use Rattle.wave_wasm.specs.Types.{TypeTree}
 use Rattle.wave_grammar.specs.TypedGrammar.{IsFlat}
-use Rattle.wave_node.specs.declared.ast.NodeType.{NodeType}
-use Rattle.wave_node.specs.declared.ast.NodeType.TheVariants as node_type
+use Rattle.wave_forms.specs.declared.form.NodeType.{NodeType}
+use Rattle.wave_forms.specs.declared.form.NodeType.TheVariants as node_type
 
 -- at a node of this type, a value of the option or the result is written as its flat payload alone
 abbrev pub IsFlatAt : TypeTree → NodeType → TypeTree → Type 0

@@ -5,7 +5,7 @@ use Rattle.wave_wasm.specs.Lists.{SomeOf}
 use Rattle.wave_wasm.specs.Types.{TypeTree, list_part}
 use Rattle.wave_wasm.specs.Values.{Value}
 use Rattle.wave_lex.specs.Errors.{Diagnostic}
-use Rattle.wave_node.specs.NodeTree.{NodeTree}
+use Rattle.wave_forms.specs.NodeTree.{NodeTree}
 use Rattle.wave_plan.specs.Reading.{IsReadAs}
 use Rattle.wave_read.specs.declared.lists.Items.{Items}
 

@@ -8,10 +8,10 @@ use Rattle.wave_wasm.specs.Types.{TypeTree}
 use Rattle.wave_wasm.specs.Values.{Value}
 use Rattle.wave_wasm.specs.ValueErrors.{Cause}
 use Rattle.wave_lex.specs.Errors.{Diagnostic}
-use Rattle.wave_node.specs.NodeTree.{NodeTree, place_of}
-use Rattle.wave_node.specs.Private.ErrorSpans.{RefusesAt}
-use Rattle.wave_node.specs.Private.NodeFlags.{RefusesUnknown}
-use Rattle.wave_node.specs.Private.TypedReading.{IsCaused}
+use Rattle.wave_forms.specs.NodeTree.{NodeTree, place_of}
+use Rattle.wave_forms.specs.Private.ErrorSpans.{RefusesAt}
+use Rattle.wave_forms.specs.Private.NodeFlags.{RefusesUnknown}
+use Rattle.wave_forms.specs.Private.TypedReading.{IsCaused}
 use Rattle.wave_plan.specs.Reading.{IsReadAs}
 use Rattle.wave_read.specs.declared.fault.Fault.{Fault}
 use Rattle.wave_read.specs.Faults.{Tells}

@@ -15,12 +15,12 @@ use Rattle.wave_lex.specs.declared.error.ParserErrorKind.{ParserErrorKind}
 use Rattle.wave_lex.specs.declared.error.ParserErrorKind.TheVariants.{InvalidType, InvalidValue, DuplicateField, OutOfMemory}
 use Rattle.wave_grammar.specs.LeafTokens.{name_of}
 use Rattle.wave_grammar.specs.TypedGrammar.{look_up, names_of}
-use Rattle.wave_node.specs.NodeTree.{NodeTree, type_of}
-use Rattle.wave_node.specs.NodeAccessors.{node_text, node_pairs}
-use Rattle.wave_node.specs.NodeFields.{IsLabelled}
-use Rattle.wave_node.specs.Private.NodeFields.{IsLeftOut, IsMissing, fields_at}
-use Rattle.wave_node.specs.declared.ast.NodeType.{NodeType}
-use Rattle.wave_node.specs.declared.ast.NodeType.TheVariants as kind
+use Rattle.wave_forms.specs.NodeTree.{NodeTree, type_of}
+use Rattle.wave_forms.specs.NodeAccessors.{node_text, node_pairs}
+use Rattle.wave_forms.specs.NodeFields.{IsLabelled}
+use Rattle.wave_forms.specs.Private.NodeFields.{IsLeftOut, IsMissing, fields_at}
+use Rattle.wave_forms.specs.declared.form.NodeType.{NodeType}
+use Rattle.wave_forms.specs.declared.form.NodeType.TheVariants as kind
 use Rattle.wave_plan.specs.Reading.{IsReadAs}
 use Rattle.wave_read.specs.Faults.{IsDoomed}
 use Rattle.wave_read.specs.declared.fault.Fault.{Fault}

@@ -2,8 +2,8 @@
 ghost use Rattle.std.specs.Prelude.{ℕ, List, ◌≡◌};
 ghost use Rattle.wave_wasm.specs.Types.{kind_of};
 ghost use Rattle.wave_wasm.specs.ValueErrors.{unknown_case};
-ghost use Rattle.wave_node.specs.NodeTree.{place_of};
-ghost use Rattle.wave_node.specs.Private.TypedReading.{IsCaused};
+ghost use Rattle.wave_forms.specs.NodeTree.{place_of};
+ghost use Rattle.wave_forms.specs.Private.TypedReading.{IsCaused};
 ghost use Rattle.wave_plan.specs.Leaves.{leaf_node, IsLeafIn};
 ghost use Rattle.wave_plan.specs.NodeParts.{IsOneToken};
 ghost use Rattle.wave_plan.specs.Reading.{IsReadAs};
@@ -11,8 +11,8 @@ ghost use Rattle.wave_plan.specs.Reading.{IsReadAs};
 use std::alloc::Global;
 use wave_grammar::label::label_name;
 use wave_lex::error::{ParserError, ParserErrorKind};
-use wave_node::ast::NodeType;
-use wave_node::typed::is_among;
+use wave_forms::form::NodeType;
+use wave_forms::typed::is_among;
 use wave_plan::leaf::Leaf;
 use wave_wasm::wasm::{WasmType, WasmTypeKind, WasmValue, WasmValueError};
 

@@ -2,7 +2,7 @@
 ghost use Rattle.std.specs.Prelude.{ℕ, List, ◌≡◌};
 ghost use Rattle.wave_wasm.specs.Types.{TypeTree};
 ghost use Rattle.wave_wasm.specs.Borrowed.{shown};
-ghost use Rattle.wave_node.specs.NodeTree.{NodeTree, type_of, place_of};
+ghost use Rattle.wave_forms.specs.NodeTree.{NodeTree, type_of, place_of};
 ghost use Rattle.wave_plan.specs.Reading.{IsReadAs};
 ghost use Rattle.wave_read.specs.Flat.{IsFlatAt, GivesFlatAt};
 
@@ -10,8 +10,8 @@ use crate::fault::or_error_at;
 use std::alloc::Global;
 use wave_lex::error::ParserError;
 use wave_lex::lex::Span;
-use wave_node::ast::NodeType;
-use wave_node::typed::flat_type;
+use wave_forms::form::NodeType;
+use wave_forms::typed::flat_type;
 use wave_wasm::wasm::{WasmType, WasmTypeKind, WasmValue};
 
 /// The type of the payload that a node of this type stands for alone, where the type is an option or

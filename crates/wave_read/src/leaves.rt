@@ -1,8 +1,8 @@
 //! Values without parts: of one token, or flags.
 ghost use Rattle.std.specs.Prelude.{ℕ, ◌≡◌, List};
 ghost use Rattle.wave_wasm.specs.Types.{TypeTree};
-ghost use Rattle.wave_node.specs.NodeTree.{node};
-ghost use Rattle.wave_node.specs.declared.ast.NodeType.TheVariants as node_type;
+ghost use Rattle.wave_forms.specs.NodeTree.{node};
+ghost use Rattle.wave_forms.specs.declared.form.NodeType.TheVariants as node_type;
 ghost use Rattle.wave_plan.specs.FlagParts.{AreFlagsOf, flag_nodes};
 ghost use Rattle.wave_plan.specs.Leaves.{leaf_node, IsLeafIn};
 ghost use Rattle.wave_plan.specs.NodeParts.{IsOneToken};
@@ -20,7 +20,7 @@ use std::alloc::Global;
 use std::collections::BTreeMap;
 use wave_lex::error::{ParserError, ParserErrorKind};
 use wave_lex::lex::Span;
-use wave_node::ast::NodeType;
+use wave_forms::form::NodeType;
 use wave_plan::leaf::Leaf;
 use wave_wasm::wasm::{WasmType, WasmTypeKind, WasmValue};
 

@@ -3,8 +3,8 @@ ghost use Rattle.std.specs.Prelude.{ℕ, List, [], ◌∷◌, ◌++◌, ◌≡�
 ghost use Rattle.wave_wasm.specs.Types.{TypeTree, kind_of};
 ghost use Rattle.wave_wasm.specs.Borrowed.{shown};
 ghost use Rattle.wave_wasm.specs.ConstructorContracts.{IsOfListKind};
-ghost use Rattle.wave_node.specs.NodeTree.{NodeTree, NodeTrees, node, node_trees};
-ghost use Rattle.wave_node.specs.Private.TypedReading.{IsOfLength, IsOtherLength};
+ghost use Rattle.wave_forms.specs.NodeTree.{NodeTree, NodeTrees, node, node_trees};
+ghost use Rattle.wave_forms.specs.Private.TypedReading.{IsOfLength, IsOtherLength};
 ghost use Rattle.wave_plan.specs.Reading.{IsReadAs, IsReadWhereDue};
 ghost use Rattle.wave_read.specs.ListParts.{AreItems, element_due};
 
@@ -12,7 +12,7 @@ use crate::fault::or_error_at;
 use std::alloc::{AllocError, Global};
 use wave_lex::error::ParserError;
 use wave_lex::lex::Span;
-use wave_node::ast::NodeType;
+use wave_forms::form::NodeType;
 use wave_wasm::wasm::{WasmType, WasmValue, WasmValueError};
 
 /// The items of a list so far. A fixed-length list of another number of items is refused for the

@@ -3,7 +3,7 @@ ghost use Rattle.std.specs.Prelude.{ℕ, List, [], ◌∷◌, ◌++◌, ◌≡�
 ghost use Rattle.wave_wasm.specs.Types.{TypeTree, kind_of};
 ghost use Rattle.wave_wasm.specs.Borrowed.{shown};
 ghost use Rattle.wave_grammar.specs.SpannedTree.{slice};
-ghost use Rattle.wave_node.specs.NodeTree.{NodeTree, node, no_nodes, node_trees};
+ghost use Rattle.wave_forms.specs.NodeTree.{NodeTree, node, no_nodes, node_trees};
 ghost use Rattle.wave_plan.specs.NodeParts.{TakesKey, TakesPart};
 ghost use Rattle.wave_plan.specs.Reading.{IsReadAs, IsReadWhereDue};
 ghost use Rattle.wave_read.specs.MapParts.{AreEntries, value_type_due};
@@ -12,8 +12,8 @@ use crate::fault::Fault;
 use std::alloc::{AllocError, Global};
 use wave_lex::error::{ParserError, ParserErrorKind};
 use wave_lex::lex::Span;
-use wave_node::ast::NodeType;
-use wave_node::typed::merged;
+use wave_forms::form::NodeType;
+use wave_forms::typed::merged;
 use wave_plan::leaf::Leaf;
 use wave_wasm::wasm::{WasmType, WasmTypeKind, WasmValue};
 

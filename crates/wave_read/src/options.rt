@@ -1,8 +1,8 @@
 //! Options, read at their types.
 ghost use Rattle.std.specs.Prelude.{ℕ, List, [], ◌∷◌, ◌++◌, ◌≡◌, Some, IfOk};
 ghost use Rattle.wave_wasm.specs.Types.{TypeTree, kind_of};
-ghost use Rattle.wave_node.specs.NodeTree.{NodeTree, node, node_trees};
-ghost use Rattle.wave_node.specs.declared.ast.NodeType.TheVariants as node_type;
+ghost use Rattle.wave_forms.specs.NodeTree.{NodeTree, node, node_trees};
+ghost use Rattle.wave_forms.specs.declared.form.NodeType.TheVariants as node_type;
 ghost use Rattle.wave_plan.specs.Leaves.{leaf_node};
 ghost use Rattle.wave_plan.specs.NodeParts.{TakesPart};
 ghost use Rattle.wave_plan.specs.Reading.{IsReadAs, IsReadWhereDue};

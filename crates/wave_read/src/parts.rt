@@ -4,7 +4,7 @@ ghost use Rattle.wave_wasm.specs.Types.{TypeTree, kind_of};
 ghost use Rattle.wave_wasm.specs.ConstructorContracts.{IsOfListKind};
 ghost use Rattle.wave_wasm.specs.Borrowed.{shown};
 ghost use Rattle.wave_grammar.specs.SpannedTree.{slice};
-ghost use Rattle.wave_node.specs.NodeTree.{NodeTree, node, no_nodes, node_trees, type_of, place_of};
+ghost use Rattle.wave_forms.specs.NodeTree.{NodeTree, node, no_nodes, node_trees, type_of, place_of};
 ghost use Rattle.wave_plan.specs.NodeParts.{IsOfParts, TakesKey, TakesPart};
 ghost use Rattle.wave_plan.specs.Leaves.{IsSimpleOrUnreadable};
 ghost use Rattle.wave_plan.specs.Reading.{IsReadAs, IsReadWhereDue};
@@ -13,7 +13,7 @@ ghost use Rattle.wave_read.specs.PartsOfKinds.{AreParts, TakesEmptySet, next_due
 ghost use Rattle.wave_read.specs.declared.parts.Parts.TheVariants as parts;
 ghost use Rattle.wave_read.specs.declared.fault.Fault.TheVariants as fault;
 ghost use Rattle.wave_lex.specs.declared.error.ParserErrorKind.TheVariants as why;
-ghost use Rattle.wave_node.specs.declared.ast.NodeType.TheVariants as node_type;
+ghost use Rattle.wave_forms.specs.declared.form.NodeType.TheVariants as node_type;
 
 use crate::fault::Fault;
 use crate::flags::read_no_flags;
@@ -27,7 +27,7 @@ use crate::variants::CasePayload;
 use std::alloc::{AllocError, Global};
 use wave_lex::error::{ParserError, ParserErrorKind};
 use wave_lex::lex::Span;
-use wave_node::ast::NodeType;
+use wave_forms::form::NodeType;
 use wave_plan::leaf::Leaf;
 use wave_wasm::wasm::{WasmType, WasmTypeKind, WasmValue};
 

@@ -5,9 +5,9 @@ ghost use Rattle.wave_wasm.specs.Types.{TypeTree, HasDistinctNames, kind_of};
 ghost use Rattle.wave_wasm.specs.Borrowed.{shown};
 ghost use Rattle.wave_grammar.specs.LeafTokens.{name_of};
 ghost use Rattle.wave_grammar.specs.SpannedTree.{slice};
-ghost use Rattle.wave_node.specs.NodeTree.{NodeTree, node, no_nodes, node_trees, place_of};
-ghost use Rattle.wave_node.specs.Private.ErrorSpans.{RefusesAt};
-ghost use Rattle.wave_node.specs.Private.NodeFields.{IsLeftOut, IsMissing};
+ghost use Rattle.wave_forms.specs.NodeTree.{NodeTree, node, no_nodes, node_trees, place_of};
+ghost use Rattle.wave_forms.specs.Private.ErrorSpans.{RefusesAt};
+ghost use Rattle.wave_forms.specs.Private.NodeFields.{IsLeftOut, IsMissing};
 ghost use Rattle.wave_plan.specs.NodeParts.{TakesKey, TakesPart};
 ghost use Rattle.wave_plan.specs.Reading.{IsReadAs, IsReadWhereDue};
 ghost use Rattle.wave_lex.specs.Errors.{field_label_due, repeated_name};
@@ -20,7 +20,7 @@ use std::alloc::{AllocError, Global};
 use wave_grammar::label::label_name;
 use wave_lex::error::{ParserError, ParserErrorKind};
 use wave_lex::lex::Span;
-use wave_node::ast::NodeType;
+use wave_forms::form::NodeType;
 use wave_wasm::wasm::{WasmType, WasmTypeKind, WasmValue, WasmValueError};
 
 /// A field of a record type, and its value where it was read.

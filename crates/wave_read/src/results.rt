@@ -2,10 +2,10 @@
 ghost use Rattle.std.specs.Prelude.{ℕ, List, [], ◌∷◌, ◌++◌, ◌≡◌, IfOk, IfErr};
 ghost use Rattle.wave_wasm.specs.Types.{TypeTree, kind_of};
 ghost use Rattle.wave_wasm.specs.Borrowed.{shown};
-ghost use Rattle.wave_node.specs.NodeTree.{NodeTree, node, node_trees, place_of};
-ghost use Rattle.wave_node.specs.NodeAccessors.{first_of};
-ghost use Rattle.wave_node.specs.Private.TypedReading.{IsCaused, IsPayloadOf, AnswersPayload};
-ghost use Rattle.wave_node.specs.Private.ErrorSpans.{RefusesInPart};
+ghost use Rattle.wave_forms.specs.NodeTree.{NodeTree, node, node_trees, place_of};
+ghost use Rattle.wave_forms.specs.NodeAccessors.{first_of};
+ghost use Rattle.wave_forms.specs.Private.TypedReading.{IsCaused, IsPayloadOf, AnswersPayload};
+ghost use Rattle.wave_forms.specs.Private.ErrorSpans.{RefusesInPart};
 ghost use Rattle.wave_plan.specs.Leaves.{leaf_node};
 ghost use Rattle.wave_plan.specs.NodeParts.{TakesPart};
 ghost use Rattle.wave_plan.specs.Reading.{IsReadAs, IsReadWhereDue};

@@ -2,7 +2,7 @@
 ghost use Rattle.std.specs.Prelude.{ℕ, List, [], ◌∷◌, ◌++◌, ◌≡◌, IfOk, IfErr};
 ghost use Rattle.wave_wasm.specs.Types.{TypeTree, kind_of};
 ghost use Rattle.wave_wasm.specs.Borrowed.{shown};
-ghost use Rattle.wave_node.specs.NodeTree.{NodeTree, node, node_trees};
+ghost use Rattle.wave_forms.specs.NodeTree.{NodeTree, node, node_trees};
 ghost use Rattle.wave_plan.specs.Reading.{IsReadAs, IsReadWhereDue};
 ghost use Rattle.wave_read.specs.TupleParts.{IsRow, item_due};
 
@@ -10,7 +10,7 @@ use crate::fault::{Fault, or_error_at};
 use std::alloc::{AllocError, Global};
 use wave_lex::error::ParserError;
 use wave_lex::lex::Span;
-use wave_node::ast::NodeType;
+use wave_forms::form::NodeType;
 use wave_wasm::wasm::{WasmType, WasmTypeKind, WasmValue, WasmValueError};
 
 /// The items of a tuple so far. Items beyond those that the type has are counted and not kept.

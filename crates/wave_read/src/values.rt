@@ -11,7 +11,7 @@ use std::alloc::{AllocError, Global};
 use std::collections::BTreeMap;
 use wave_lex::error::{ParserError, ParserErrorKind};
 use wave_lex::lex::Span;
-use wave_node::ast::NodeType;
+use wave_forms::form::NodeType;
 use wave_plan::leaf::Leaf;
 use wave_plan::plan::Plan;
 use wave_wasm::wasm::WasmValue;

@@ -13,8 +13,8 @@ use Rattle.wave_grammar.specs.ParserPosition.{Place, text_at, span_at}
 use Rattle.wave_grammar.specs.LeafTokens.{name_of}
 use Rattle.wave_grammar.specs.PrefixAutomaton.{Due, Form}
 use Rattle.wave_grammar.specs.PrefixAutomaton as due
-use Rattle.wave_node.specs.NodeTree.{NodeTree, node, node_trees}
-use Rattle.wave_node.specs.declared.ast.NodeType.TheVariants as kind
+use Rattle.wave_forms.specs.NodeTree.{NodeTree, node, node_trees}
+use Rattle.wave_forms.specs.declared.form.NodeType.TheVariants as kind
 use Rattle.wave_grammar.specs.Private.FlagOrder.{Flag, flag_name, flags_in_order}
 use Rattle.wave_tree.specs.ParsedNodes.{TakesClass, IsBuilt}
 use Rattle.wave_tree.proofs.Built.{source_item}

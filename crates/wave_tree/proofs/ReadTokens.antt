@@ -21,15 +21,15 @@ use Rattle.wave_grammar.specs.SpannedTree.{Placed, Shape, tuple, list, shape_of,
 use Rattle.wave_grammar.specs.ParserPosition.{Place, TakesItem, text_at, token_of}
 use Rattle.wave_grammar.specs.PrefixAutomaton.{value}
 use Rattle.wave_grammar.specs.SyntaxErrors.{LeadsBehindValue}
-use Rattle.wave_node.specs.NodeTree.{NodeTree, type_of}
-use Rattle.wave_node.specs.Nodes.{placed_of}
-use Rattle.wave_node.specs.TypedReading.{IsValueOf}
-use Rattle.wave_node.specs.declared.ast.NodeType.{NodeType}
-use Rattle.wave_node.specs.declared.ast.NodeType.TheVariants as kind
-use Rattle.wave_node.proofs.ByKind.Leaves.{tree_is}
-use Rattle.wave_node.proofs.ChildNodes.Inside.{From, inside}
-use Rattle.wave_node.proofs.ErrorSpans.Nodes.{all_in_text}
-use Rattle.wave_node.proofs.Faultless.{refused}
+use Rattle.wave_forms.specs.NodeTree.{NodeTree, type_of}
+use Rattle.wave_forms.specs.Nodes.{placed_of}
+use Rattle.wave_forms.specs.TypedReading.{IsValueOf}
+use Rattle.wave_forms.specs.declared.form.NodeType.{NodeType}
+use Rattle.wave_forms.specs.declared.form.NodeType.TheVariants as kind
+use Rattle.wave_forms.proofs.ByKind.Leaves.{tree_is}
+use Rattle.wave_forms.proofs.ChildNodes.Inside.{From, inside}
+use Rattle.wave_forms.proofs.ErrorSpans.Nodes.{all_in_text}
+use Rattle.wave_forms.proofs.Faultless.{refused}
 use Rattle.wave_plan.specs.PlainReading.{IsPlain, ReadsDue}
 use Rattle.wave_plan.specs.Reading.{IsReadAs, IsReadWhereDue}
 use Rattle.wave_tree.specs.ParserState.{BeginsRow}

@@ -1,5 +1,5 @@
 use Rattle.std.proofs.Common.{rules, true}
-use Rattle.wave_node.proofs.FlagSets.{marks_there, marks_absent}
+use Rattle.wave_forms.proofs.FlagSets.{marks_there, marks_absent}
 use Rattle.wave_node.proofs.flags.mark.Goals as goal
 
 pub returns-in-Some : goal.returns-in-Some

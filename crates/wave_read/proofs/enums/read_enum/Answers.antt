@@ -1,7 +1,7 @@
 use Rattle.std.proofs.Common.{◌≡◌, ap, ◌∙◌, rules}
 use Rattle.wave_wasm.specs.Borrowed.{texts}
 use Rattle.wave_grammar.specs.LeafTokens.{name_of}
-use Rattle.wave_node.specs.declared.ast.NodeType.TheVariants as kind
+use Rattle.wave_forms.specs.declared.form.NodeType.TheVariants as kind
 use Rattle.wave_plan.specs.Leaves.{leaf_node}
 use Rattle.wave_read.proofs.EnumCases.{unknown_read, enum_read}
 use Rattle.wave_read.proofs.enums.read_enum.Goals as goal

@@ -3,7 +3,7 @@ use Rattle.std.proofs.Common.{inl, inr, ◌∙◌, sym, ap}
 use Rattle.std.proofs.lemmas.List.{map-append}
 use Rattle.wave_wasm.specs.Borrowed.{texts}
 use Rattle.wave_read.specs.NamedFlags.{flag_names}
-use Rattle.wave_node.proofs.FlagSets.{texts_all}
+use Rattle.wave_forms.proofs.FlagSets.{texts_all}
 use Rattle.wave_read.proofs.PickedNames.{holds_names, left_next, picks_next, all_named, first_left, none_left, tells_unknown}
 use Rattle.wave_read.proofs.flags.picked.Goals.{then-is_some+else-is_err, else-is_some}
 use Rattle.wave_read.proofs.flags.picked.Goals as goal

@@ -1,6 +1,6 @@
 use Rattle.std.proofs.Common.{inl, refl}
-use Rattle.wave_node.specs.NodeTree.{node}
-use Rattle.wave_node.specs.declared.ast.NodeType.TheVariants as node_type
+use Rattle.wave_forms.specs.NodeTree.{node}
+use Rattle.wave_forms.specs.declared.form.NodeType.TheVariants as node_type
 use Rattle.wave_plan.specs.FlagParts.{flag_nodes}
 use Rattle.wave_read.proofs.FlagReading.{names_are}
 use Rattle.wave_read.proofs.flags.read_flags.Goals as goal

@@ -1,8 +1,8 @@
 use Rattle.std.proofs.Common.{inr, refl, sym, ap}
 use Rattle.std.specs.Map.{keys_of}
 use Rattle.wave_wasm.specs.Borrowed.{texts}
-use Rattle.wave_node.specs.NodeTree.{node, no_nodes}
-use Rattle.wave_node.specs.declared.ast.NodeType.TheVariants as node_type
+use Rattle.wave_forms.specs.NodeTree.{node, no_nodes}
+use Rattle.wave_forms.specs.declared.form.NodeType.TheVariants as node_type
 use Rattle.wave_read.proofs.flags.read_no_flags.Goals as goal
 
 pub returns : goal.returns

@@ -1,6 +1,6 @@
 use Rattle.std.proofs.Common.{refl}
-use Rattle.wave_node.specs.NodeTree.{node}
-use Rattle.wave_node.specs.declared.ast.NodeType.TheVariants as kind
+use Rattle.wave_forms.specs.NodeTree.{node}
+use Rattle.wave_forms.specs.declared.form.NodeType.TheVariants as kind
 use Rattle.wave_plan.specs.FlagParts.{flag_nodes}
 use Rattle.wave_read.proofs.leaves.flags_at.Goals as goal
 

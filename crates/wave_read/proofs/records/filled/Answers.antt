@@ -1,10 +1,10 @@
 use Rattle.std.proofs.Common.{◌≡◌, None, ◌++◌, refl, sym, ap, ◌∙◌, subst, inr}
 use Rattle.wave_wasm.specs.Lists.{SomeOf}
 use Rattle.wave_wasm.specs.Types.{HasDistinctNames}
-use Rattle.wave_node.specs.NodeTree.{NodeTree, node, no_nodes, place_of}
-use Rattle.wave_node.specs.Private.NodeFields.{IsMissing}
-use Rattle.wave_node.specs.declared.ast.NodeType.TheVariants as kind
-use Rattle.wave_node.proofs.Parameters.{error_handed}
+use Rattle.wave_forms.specs.NodeTree.{NodeTree, node, no_nodes, place_of}
+use Rattle.wave_forms.specs.Private.NodeFields.{IsMissing}
+use Rattle.wave_forms.specs.declared.form.NodeType.TheVariants as kind
+use Rattle.wave_forms.proofs.Parameters.{error_handed}
 use Rattle.wave_read.specs.declared.records.Field.{Field}
 use Rattle.wave_read.specs.RecordParts.{IsFull, IsLeftUnfilled}
 use Rattle.wave_read.proofs.RecordFields.{given_front, some_behind, full_more, full_read, full_left}

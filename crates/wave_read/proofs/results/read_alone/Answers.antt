@@ -1,6 +1,6 @@
 use Rattle.std.proofs.Common.{[], sym, ◌∙◌, ap, subst}
-use Rattle.wave_node.specs.NodeTree.{node, no_nodes}
-use Rattle.wave_node.specs.declared.ast.NodeType.{NodeType}
+use Rattle.wave_forms.specs.NodeTree.{node, no_nodes}
+use Rattle.wave_forms.specs.declared.form.NodeType.{NodeType}
 use Rattle.wave_plan.specs.Reading.{IsReadAs}
 use Rattle.wave_read.specs.Payloads.{result_node}
 use Rattle.wave_read.proofs.results.read_alone.Goals as goal

@@ -2,7 +2,7 @@ use Rattle.std.proofs.Common.{◌≡◌, ap, ◌∙◌, rules}
 use Rattle.wave_wasm.specs.Borrowed.{shown_cases}
 use Rattle.wave_wasm.specs.Types.{variant_parts}
 use Rattle.wave_grammar.specs.LeafTokens.{name_of}
-use Rattle.wave_node.specs.declared.ast.NodeType.TheVariants as kind
+use Rattle.wave_forms.specs.declared.form.NodeType.TheVariants as kind
 use Rattle.wave_plan.specs.Leaves.{leaf_node}
 use Rattle.wave_read.proofs.CaseNodes.{no_case_read, no_payload_read, label_read, looked_up}
 use Rattle.wave_read.proofs.variants.read_case.Goals as goal

@@ -1,18 +1,18 @@
 use Rattle.std.proofs.Common.{◌≡◌, ℕ, arith, rules}
 use Rattle.wave_wasm.specs.Types as type
-use Rattle.wave_node.proofs.MakerAnswers.{faulty, handed}
-use Rattle.wave_node.proofs.ByKind.Leaves.{said}
-use Rattle.wave_node.proofs.ByKind.Wholes.{whole_answers, whole_at}
-use Rattle.wave_node.specs.TypedReading.{IsValueOf}
-use Rattle.wave_node.proofs.ByKind.Lists.{element_is, list_is, list_fault, list_deep, list_item, list_blame, length_blame, list_kept, list_made, list_nodes, given_nodes, read_all, as_many, element_distinct}
-use Rattle.wave_node.specs.Private.TypedReading.{IsOfLength}
-use Rattle.wave_node.proofs.ByKind.Options.{payload_is, option_deep, flat_true, not_flat, given_none, given_some, some_value, option_fault, some_blame, flat_blame, none_made, some_made, flat_made}
-use Rattle.wave_node.proofs.ByKind.Results.{result_type, ok_deep, err_deep, given_ok, given_err, ok_payload, err_payload, result_fault, ok_blame, err_blame, result_flat_blame, ok_made, err_made, result_flat_made}
+use Rattle.wave_forms.proofs.MakerAnswers.{faulty, handed}
+use Rattle.wave_forms.proofs.ByKind.Leaves.{said}
+use Rattle.wave_forms.proofs.ByKind.Wholes.{whole_answers, whole_at}
+use Rattle.wave_forms.specs.TypedReading.{IsValueOf}
+use Rattle.wave_forms.proofs.ByKind.Lists.{element_is, list_is, list_fault, list_deep, list_item, list_blame, length_blame, list_kept, list_made, list_nodes, given_nodes, read_all, as_many, element_distinct}
+use Rattle.wave_forms.specs.Private.TypedReading.{IsOfLength}
+use Rattle.wave_forms.proofs.ByKind.Options.{payload_is, option_deep, flat_true, not_flat, given_none, given_some, some_value, option_fault, some_blame, flat_blame, none_made, some_made, flat_made}
+use Rattle.wave_forms.proofs.ByKind.Results.{result_type, ok_deep, err_deep, given_ok, given_err, ok_payload, err_payload, result_fault, ok_blame, err_blame, result_flat_blame, ok_made, err_made, result_flat_made}
 use Rattle.wave_wasm.specs.Types.{maybe_type}
 use Rattle.wave_wasm.specs.Borrowed.{shown}
-use Rattle.wave_node.proofs.ByKind.Variants.{VariantType, HasCase, variant_is, variant_fault, case_found, case_missing, case_deep, case_distinct, given_case, case_payload_is, case_blame, no_case_blame, variant_made}
+use Rattle.wave_forms.proofs.ByKind.Variants.{VariantType, HasCase, variant_is, variant_fault, case_found, case_missing, case_deep, case_distinct, given_case, case_payload_is, case_blame, no_case_blame, variant_made}
 use Rattle.wave_wasm.specs.Borrowed.{shown_cases}
-use Rattle.wave_node.specs.NodeAccessors.{shown_node}
+use Rattle.wave_forms.specs.NodeAccessors.{shown_node}
 use Rattle.wave_grammar.specs.TypedGrammar.{IsFlat}
 use Rattle.std.proofs.Common.{Option, inr, inl, ap, ◌∙◌, refl}
 use Rattle.wave_wasm.specs.Types.{TypeTree, HasDistinctNames}
@@ -20,30 +20,30 @@ use Rattle.wave_lex.specs.Errors.{refusal_of}
 use Rattle.wave_grammar.specs.TypeErrors.{Fault}
 use Rattle.std.proofs.Common.{subst, sym}
 use Rattle.wave_wasm.specs.Borrowed.{shown_all}
-use Rattle.wave_node.proofs.ByKind.Tuples.{TupleType, tuple_is, tuple_fault, count_blame, as_shown, type_at, tuple_deep, tuple_item, item_blamed, all_has, parts_distinct, tuple_kept, given_items, tuple_nodes, tuple_made}
-use Rattle.wave_node.proofs.ByKind.Lists.{HasAt}
+use Rattle.wave_forms.proofs.ByKind.Tuples.{TupleType, tuple_is, tuple_fault, count_blame, as_shown, type_at, tuple_deep, tuple_item, item_blamed, all_has, parts_distinct, tuple_kept, given_items, tuple_nodes, tuple_made}
+use Rattle.wave_forms.proofs.ByKind.Lists.{HasAt}
 use Rattle.wave_wasm.specs.Types.{kind_of}
 use Rattle.wave_wasm.specs.declared.wasm.WasmTypeKind.TheVariants as kinds
 use Rattle.wave_wasm.specs.ValueErrors.{wrong_number}
 use Rattle.wave_grammar.specs.TypeErrors.{RefusesFor}
-use Rattle.wave_node.specs.NodeTree.{place_of}
+use Rattle.wave_forms.specs.NodeTree.{place_of}
 use Rattle.std.proofs.Common.{length, ◌≢◌}
-use Rattle.wave_node.specs.NodeAccessors.{node_pairs}
-use Rattle.wave_node.specs.NodeTree.{children_of}
-use Rattle.wave_node.proofs.ByKind.Maps.{map_is, map_deep, map_fault, none_read, next_read, key_ready, value_ready, key_refused, value_refused, map_answered, map_distinct}
+use Rattle.wave_forms.specs.NodeAccessors.{node_pairs}
+use Rattle.wave_forms.specs.NodeTree.{children_of}
+use Rattle.wave_forms.proofs.ByKind.Maps.{map_is, map_deep, map_fault, none_read, next_read, key_ready, value_ready, key_refused, value_refused, map_answered, map_distinct}
 use Rattle.wave_wasm.specs.Borrowed.{shown_fields}
 use Rattle.std.proofs.Common.{take, ap, ◌∙◌}
 use Rattle.wave_grammar.specs.SpannedTree.{entry_list}
-use Rattle.wave_node.specs.NodeAccessors.{shown_node}
+use Rattle.wave_forms.specs.NodeAccessors.{shown_node}
 use Rattle.wave_grammar.specs.TypedGrammar.{names_of}
-use Rattle.wave_node.specs.Private.NodeFields.{fields_at}
-use Rattle.wave_node.proofs.Fields.Lookup.{take_whole}
-use Rattle.wave_node.proofs.Fields.Entries.{record_nodes}
-use Rattle.wave_node.proofs.Fields.Reading.{RecordType, record_is, part_at, as_parts, record_deep, fields_distinct, still_held, held_value, none_before, removed_next, given_fields, failed, nodes_blame, unknown_blame, field_blamed, field_read, fields_kept, record_done}
+use Rattle.wave_forms.specs.Private.NodeFields.{fields_at}
+use Rattle.wave_forms.proofs.Fields.Lookup.{take_whole}
+use Rattle.wave_forms.proofs.Fields.Entries.{record_nodes}
+use Rattle.wave_forms.proofs.Fields.Reading.{RecordType, record_is, part_at, as_parts, record_deep, fields_distinct, still_held, held_value, none_before, removed_next, given_fields, failed, nodes_blame, unknown_blame, field_blamed, field_read, fields_kept, record_done}
 use Rattle.wave_wasm.specs.Lists.{AllOf}
-use Rattle.wave_node.specs.Private.ErrorSpans.{RefusesIn}
-use Rattle.wave_node.proofs.Parameters.{error_handed}
-use Rattle.wave_node.proofs.ErrorSpans.Nodes.{PairBelongs, at_in, all_in, form_at, made_in, caused_at, memory_here, refused_at, deeper, deeper_at, part_in, first_belongs, some_belongs, case_belongs, next_belongs, held_belongs, entries_belong}
+use Rattle.wave_forms.specs.Private.ErrorSpans.{RefusesIn}
+use Rattle.wave_forms.proofs.Parameters.{error_handed}
+use Rattle.wave_forms.proofs.ErrorSpans.Nodes.{PairBelongs, at_in, all_in, form_at, made_in, caused_at, memory_here, refused_at, deeper, deeper_at, part_in, first_belongs, some_belongs, case_belongs, next_belongs, held_belongs, entries_belong}
 use Rattle.wave_node.proofs.ast.Node.+reading.Goals as goal
 
 pub read-returns-in_default-clause-answer : goal.read-returns-in_default-clause-answer

@@ -3,22 +3,22 @@ use Rattle.wave_wasm.specs.Types.{HasDistinctNames, maybe_type}
 use Rattle.wave_wasm.specs.Private.Types.{depth, depth_of_maybe}
 use Rattle.wave_wasm.specs.Borrowed.{shown}
 use Rattle.wave_grammar.specs.SpannedTree.{Placed}
-use Rattle.wave_node.proofs.ByKind.Lists.{AreNodesOf, AllRead}
+use Rattle.wave_forms.proofs.ByKind.Lists.{AreNodesOf, AllRead}
 use Rattle.wave_wasm.specs.Lists.{AllOf}
 use Rattle.wave_wasm.specs.Borrowed.{shown_all}
-use Rattle.wave_node.proofs.ByKind.Tuples.{ReadAt}
+use Rattle.wave_forms.proofs.ByKind.Tuples.{ReadAt}
 use Rattle.std.proofs.Common.{length}
-use Rattle.wave_node.specs.NodeAccessors.{node_pairs}
-use Rattle.wave_node.specs.NodeTree.{children_of}
-use Rattle.wave_node.proofs.ByKind.Maps.{SoFar}
+use Rattle.wave_forms.specs.NodeAccessors.{node_pairs}
+use Rattle.wave_forms.specs.NodeTree.{children_of}
+use Rattle.wave_forms.proofs.ByKind.Maps.{SoFar}
 use Rattle.wave_wasm.specs.Borrowed.{shown_fields}
-use Rattle.wave_node.specs.NodeTree.{NodeTree}
+use Rattle.wave_forms.specs.NodeTree.{NodeTree}
 use Rattle.wave_grammar.specs.SpannedTree.{PlacedEntry}
 use Rattle.wave_grammar.specs.TypedGrammar.{names_of}
-use Rattle.wave_node.specs.Private.NodeFields.{HoldsFields}
-use Rattle.wave_node.proofs.Fields.Entries.{AreFieldsOf}
-use Rattle.wave_node.proofs.Fields.Reading.{Removed, PartsDistinct, FieldsRead}
-use Rattle.wave_node.proofs.ErrorSpans.Nodes.{PairBelongs}
+use Rattle.wave_forms.specs.Private.NodeFields.{HoldsFields}
+use Rattle.wave_forms.proofs.Fields.Entries.{AreFieldsOf}
+use Rattle.wave_forms.proofs.Fields.Reading.{Removed, PartsDistinct, FieldsRead}
+use Rattle.wave_forms.proofs.ErrorSpans.Nodes.{PairBelongs}
 use Rattle.wave_node.proofs.ast.Node.+reading.Given as goal
 
 abbrev pub decreases-read : goal.decreases-read

@@ -3,9 +3,9 @@ use Rattle.std.specs.Prelude.{unwrap_or}
 use Rattle.wave_wasm.specs.Names.{AreAllOf}
 use Rattle.wave_wasm.proofs.Sequence.{all_at}
 use Rattle.wave_grammar.specs.LeafTokens.{name_of}
-use Rattle.wave_node.specs.Nodes.{IsParsedFrom}
-use Rattle.wave_node.specs.NodeFlags.{names_at}
-use Rattle.wave_node.proofs.FlagSets.{is_marked, not_marked, all_more, name_there, names_next, names_all, flag_unknown}
+use Rattle.wave_forms.specs.Nodes.{IsParsedFrom}
+use Rattle.wave_forms.specs.NodeFlags.{names_at}
+use Rattle.wave_forms.proofs.FlagSets.{is_marked, not_marked, all_more, name_there, names_next, names_all, flag_unknown}
 use Rattle.wave_node.proofs.ast.Node.ensure_marked.Goals as goal
 
 pub slice-requires : goal.slice-requires

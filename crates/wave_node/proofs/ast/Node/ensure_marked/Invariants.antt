@@ -1,7 +1,7 @@
 use Rattle.std.proofs.Common.{ℕ, List, take}
 use Rattle.wave_wasm.specs.Names.{AreAllOf}
-use Rattle.wave_node.specs.NodeFlags.{names_at}
-use Rattle.wave_node.specs.Private.NodeFlags.{MarksNames}
+use Rattle.wave_forms.specs.NodeFlags.{names_at}
+use Rattle.wave_forms.specs.Private.NodeFlags.{MarksNames}
 use Rattle.wave_node.proofs.ast.Node.ensure_marked.Given as goal
 
 abbrev pub invariant-loop-node : goal.invariant-loop-node

@@ -1,4 +1,4 @@
-use Rattle.wave_node.proofs.Fields.LeftOut.{missing, left_made}
+use Rattle.wave_forms.proofs.Fields.LeftOut.{missing, left_made}
 use Rattle.wave_node.proofs.ast.Node.left_out.Goals as goal
 
 pub returns-in-Option-clause-answer : goal.returns-in-Option-clause-answer

@@ -2,12 +2,12 @@ use Rattle.std.proofs.Common.{ℕ, List, take, inl, sym, ap, ◌∙◌, subst}
 use Rattle.std.proofs.lemmas.List.{map-append}
 use Rattle.wave_wasm.specs.Borrowed.{texts}
 use Rattle.wave_wasm.specs.Names.{AreAllOf, found_in}
-use Rattle.wave_node.specs.NodeTree.{NodeTree, children_of}
-use Rattle.wave_node.specs.NodeFlags.{names_at}
-use Rattle.wave_node.specs.Private.NodeFlags.{AreAllParsed, MarksNames, RefusesFlags}
-use Rattle.wave_node.proofs.Fields.Lookup.{err_handed}
-use Rattle.wave_node.proofs.FlagNodes.{labels_of}
-use Rattle.wave_node.proofs.FlagSets.{texts_next, texts_all, picks_more, picks_same, flags_unknown}
+use Rattle.wave_forms.specs.NodeTree.{NodeTree, children_of}
+use Rattle.wave_forms.specs.NodeFlags.{names_at}
+use Rattle.wave_forms.specs.Private.NodeFlags.{AreAllParsed, MarksNames, RefusesFlags}
+use Rattle.wave_forms.proofs.Fields.Lookup.{err_handed}
+use Rattle.wave_forms.proofs.FlagNodes.{labels_of}
+use Rattle.wave_forms.proofs.FlagSets.{texts_next, texts_all, picks_more, picks_same, flags_unknown}
 use Rattle.wave_node.proofs.ast.Node.picked.Goals.{then-mark+in_ok-push, else-mark}
 use Rattle.wave_node.proofs.ast.Node.picked.Goals as goal
 

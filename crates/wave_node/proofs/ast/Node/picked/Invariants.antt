@@ -1,8 +1,8 @@
 use Rattle.std.proofs.Common.{◌≡◌, take}
 use Rattle.wave_wasm.specs.Names.{found_in}
 use Rattle.wave_wasm.specs.Borrowed.{texts}
-use Rattle.wave_node.specs.NodeFlags.{names_at}
-use Rattle.wave_node.specs.Private.NodeFlags.{MarksNames}
+use Rattle.wave_forms.specs.NodeFlags.{names_at}
+use Rattle.wave_forms.specs.Private.NodeFlags.{MarksNames}
 use Rattle.wave_node.proofs.ast.Node.picked.Given as goal
 
 abbrev pub invariant-loop-name : goal.invariant-loop-name

@@ -1,6 +1,6 @@
-use Rattle.wave_node.proofs.MakerAnswers.{faulty, leaf_made}
+use Rattle.wave_forms.proofs.MakerAnswers.{faulty, leaf_made}
 use Rattle.wave_wasm.specs.Values.{bool}
-use Rattle.wave_node.proofs.ByKind.Leaves.{said, bool_read, bool_fault}
+use Rattle.wave_forms.proofs.ByKind.Leaves.{said, bool_read, bool_fault}
 use Rattle.wave_node.proofs.ast.Node.read_bool.Goals as goal
 
 pub returns-in_err-val-clause-answer : goal.returns-in_err-val-clause-answer

@@ -1,6 +1,6 @@
 use Rattle.wave_wasm.specs.Values.{char}
-use Rattle.wave_node.proofs.MakerAnswers.{faulty, leaf_made}
-use Rattle.wave_node.proofs.ByKind.TextLeaves.{char_read, char_blame}
+use Rattle.wave_forms.proofs.MakerAnswers.{faulty, leaf_made}
+use Rattle.wave_forms.proofs.ByKind.TextLeaves.{char_read, char_blame}
 use Rattle.wave_node.proofs.ast.Node.read_char.Goals as goal
 
 pub returns-in_err-val-clause-answer : goal.returns-in_err-val-clause-answer

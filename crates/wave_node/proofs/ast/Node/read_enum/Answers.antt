@@ -1,9 +1,9 @@
 use Rattle.std.proofs.Common.{sym}
 use Rattle.wave_wasm.specs.Types as type
 use Rattle.wave_wasm.specs.Borrowed.{texts}
-use Rattle.wave_node.proofs.MakerAnswers.{faulty}
-use Rattle.wave_node.proofs.ByKind.Leaves.{said}
-use Rattle.wave_node.proofs.ByKind.Enums.{enum_is, enum_fault, unknown_blame, enum_made}
+use Rattle.wave_forms.proofs.MakerAnswers.{faulty}
+use Rattle.wave_forms.proofs.ByKind.Leaves.{said}
+use Rattle.wave_forms.proofs.ByKind.Enums.{enum_is, enum_fault, unknown_blame, enum_made}
 use Rattle.wave_node.proofs.ast.Node.read_enum.Goals as goal
 
 pub returns-in_err-name-clause-answer : goal.returns-in_err-name-clause-answer

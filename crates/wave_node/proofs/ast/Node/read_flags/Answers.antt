@@ -1,10 +1,10 @@
 use Rattle.std.proofs.Common.{sym, ap, ◌∙◌, inl}
 use Rattle.wave_wasm.specs.Borrowed.{texts}
-use Rattle.wave_node.proofs.MakerAnswers.{handed}
-use Rattle.wave_node.proofs.ByKind.Flags.{flags_is, flags_blame, flags_made}
-use Rattle.wave_node.specs.Private.ErrorSpans.{RefusesIn}
-use Rattle.wave_node.proofs.Parameters.{error_handed}
-use Rattle.wave_node.proofs.ErrorSpans.Nodes.{at_in, made_in}
+use Rattle.wave_forms.proofs.MakerAnswers.{handed}
+use Rattle.wave_forms.proofs.ByKind.Flags.{flags_is, flags_blame, flags_made}
+use Rattle.wave_forms.specs.Private.ErrorSpans.{RefusesIn}
+use Rattle.wave_forms.proofs.Parameters.{error_handed}
+use Rattle.wave_forms.proofs.ErrorSpans.Nodes.{at_in, made_in}
 use Rattle.wave_node.proofs.ast.Node.read_flags.Goals as goal
 
 pub returns-in_err-picked-clause-answer : goal.returns-in_err-picked-clause-answer

@@ -2,8 +2,8 @@ use Rattle.std.proofs.Common.{inl, inr, ap, ◌∙◌}
 use Rattle.wave_wasm.specs.Types as type
 use Rattle.wave_wasm.specs.Types.{kind_of}
 use Rattle.wave_wasm.proofs.TypeKinds.{simple_is}
-use Rattle.wave_node.proofs.KeyNodes.{keyword_fault}
-use Rattle.wave_node.proofs.ErrorSpans.Nodes.{at_in, form_at}
+use Rattle.wave_forms.proofs.KeyNodes.{keyword_fault}
+use Rattle.wave_forms.proofs.ErrorSpans.Nodes.{at_in, form_at}
 use Rattle.wave_node.proofs.ast.Node.read_keyword.Goals as goal
 
 pub returns-in-Bool-clause-other : goal.returns-in-Bool-clause-other

@@ -3,13 +3,13 @@ use Rattle.wave_wasm.specs.Types as type
 use Rattle.wave_wasm.specs.Types.{kind_of}
 use Rattle.wave_wasm.specs.Values as value
 use Rattle.wave_wasm.proofs.TypeKinds.{simple_is}
-use Rattle.wave_node.proofs.ByKind.Keys.{bool_key, no_bool_key, key_made, key_faulty}
-use Rattle.wave_node.proofs.ByKind.Wholes.{whole_answers_key, whole_at}
-use Rattle.wave_node.proofs.ByKind.TextKeys.{char_key, no_char_key}
+use Rattle.wave_forms.proofs.ByKind.Keys.{bool_key, no_bool_key, key_made, key_faulty}
+use Rattle.wave_forms.proofs.ByKind.Wholes.{whole_answers_key, whole_at}
+use Rattle.wave_forms.proofs.ByKind.TextKeys.{char_key, no_char_key}
 use Rattle.std.proofs.Common.{inr}
-use Rattle.wave_node.specs.Private.ErrorSpans.{RefusesIn}
-use Rattle.wave_node.proofs.Parameters.{error_handed}
-use Rattle.wave_node.proofs.ErrorSpans.Nodes.{all_in, at_in, made_in, form_at, char_at}
+use Rattle.wave_forms.specs.Private.ErrorSpans.{RefusesIn}
+use Rattle.wave_forms.proofs.Parameters.{error_handed}
+use Rattle.wave_forms.proofs.ErrorSpans.Nodes.{all_in, at_in, made_in, form_at, char_at}
 use Rattle.wave_node.proofs.ast.Node.read_plain_key.Goals as goal
 
 pub returns-in_err-as_bool_key-in-Bool-clause-answer : goal.returns-in_err-as_bool_key-in-Bool-clause-answer

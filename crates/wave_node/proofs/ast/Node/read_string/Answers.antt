@@ -1,11 +1,11 @@
 use Rattle.wave_wasm.specs.Values.{string}
 use Rattle.std.specs.Cow.{cow_str_bytes}
-use Rattle.wave_node.proofs.MakerAnswers.{handed, leaf_made}
-use Rattle.wave_node.proofs.ByKind.TextLeaves.{string_read, string_blame}
+use Rattle.wave_forms.proofs.MakerAnswers.{handed, leaf_made}
+use Rattle.wave_forms.proofs.ByKind.TextLeaves.{string_read, string_blame}
 use Rattle.std.proofs.Common.{inl}
-use Rattle.wave_node.specs.Private.ErrorSpans.{RefusesIn}
-use Rattle.wave_node.proofs.Parameters.{error_handed}
-use Rattle.wave_node.proofs.ErrorSpans.Nodes.{string_in, all_in, leaf_at}
+use Rattle.wave_forms.specs.Private.ErrorSpans.{RefusesIn}
+use Rattle.wave_forms.proofs.Parameters.{error_handed}
+use Rattle.wave_forms.proofs.ErrorSpans.Nodes.{string_in, all_in, leaf_at}
 use Rattle.wave_node.proofs.ast.Node.read_string.Goals as goal
 
 pub returns-in_err-text-clause-answer : goal.returns-in_err-text-clause-answer

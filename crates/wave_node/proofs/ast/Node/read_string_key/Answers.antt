@@ -2,12 +2,12 @@ use Rattle.std.proofs.Common.{refl}
 use Rattle.wave_wasm.specs.Types as type
 use Rattle.wave_wasm.specs.Values.{string}
 use Rattle.std.specs.Cow.{cow_str_bytes}
-use Rattle.wave_node.proofs.ByKind.Keys.{key_made}
-use Rattle.wave_node.proofs.ByKind.TextKeys.{string_key, string_key_refused}
+use Rattle.wave_forms.proofs.ByKind.Keys.{key_made}
+use Rattle.wave_forms.proofs.ByKind.TextKeys.{string_key, string_key_refused}
 use Rattle.std.proofs.Common.{inr}
-use Rattle.wave_node.specs.Private.ErrorSpans.{RefusesIn}
-use Rattle.wave_node.proofs.Parameters.{error_handed}
-use Rattle.wave_node.proofs.ErrorSpans.Nodes.{string_in, all_in, leaf_at}
+use Rattle.wave_forms.specs.Private.ErrorSpans.{RefusesIn}
+use Rattle.wave_forms.proofs.Parameters.{error_handed}
+use Rattle.wave_forms.proofs.ErrorSpans.Nodes.{string_in, all_in, leaf_at}
 use Rattle.wave_node.proofs.ast.Node.read_string_key.Goals as goal
 
 pub returns-in_err-text-clause-answer : goal.returns-in_err-text-clause-answer

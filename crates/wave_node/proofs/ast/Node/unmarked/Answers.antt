@@ -1,9 +1,9 @@
 use Rattle.std.proofs.Common.{List, ℕ, [], refl, ap, ◌∙◌, subst}
 use Rattle.wave_wasm.proofs.Sequence.{all_at}
 use Rattle.wave_grammar.specs.LeafTokens.{name_of}
-use Rattle.wave_node.specs.Nodes.{IsParsedFrom}
-use Rattle.wave_node.specs.Private.NodeFlags.{MarksNames}
-use Rattle.wave_node.proofs.FlagSets.{marks_next, names_next, names_all}
+use Rattle.wave_forms.specs.Nodes.{IsParsedFrom}
+use Rattle.wave_forms.specs.Private.NodeFlags.{MarksNames}
+use Rattle.wave_forms.proofs.FlagSets.{marks_next, names_next, names_all}
 use Rattle.wave_node.proofs.ast.Node.unmarked.Goals as goal
 
 pub slice-requires : goal.slice-requires

@@ -1,6 +1,6 @@
 use Rattle.std.proofs.Common.{◌≡◌, inr, rules}
-use Rattle.wave_node.specs.declared.ast.NodeType.TheVariants as kind
-use Rattle.wave_node.proofs.Strings.Chars.{char_none}
+use Rattle.wave_forms.specs.declared.form.NodeType.TheVariants as kind
+use Rattle.wave_forms.proofs.Strings.Chars.{char_none}
 use Rattle.wave_plan.specs.Leaves.{leaf_node}
 use Rattle.wave_plan.proofs.Inside.{leaf_inside}
 use Rattle.wave_plan.proofs.leaf.Leaf.as_char.Goals as goal

@@ -1,5 +1,5 @@
 use Rattle.std.proofs.Common.{inl}
-use Rattle.wave_node.proofs.Strings.Nodes.{parts_given, parts_refused_on}
+use Rattle.wave_forms.proofs.Strings.Nodes.{parts_given, parts_refused_on}
 use Rattle.wave_plan.specs.Leaves.{leaf_node}
 use Rattle.wave_plan.proofs.leaf.Leaf.as_str.Goals as goal
 

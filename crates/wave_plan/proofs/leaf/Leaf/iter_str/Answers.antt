@@ -1,6 +1,6 @@
 use Rattle.std.proofs.Common.{inl, ap}
 use Rattle.wave_lex.specs.Parts.{left_of}
-use Rattle.wave_node.specs.declared.ast.NodeType.TheVariants as kind
+use Rattle.wave_forms.specs.declared.form.NodeType.TheVariants as kind
 use Rattle.wave_plan.proofs.Inside.{leaf_inside, leaf_quoted, opened}
 use Rattle.wave_plan.proofs.leaf.Leaf.iter_str.Goals as goal
 

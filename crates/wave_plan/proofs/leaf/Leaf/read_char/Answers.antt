@@ -1,10 +1,10 @@
 use Rattle.std.proofs.Common.{inl, refl}
 use Rattle.wave_wasm.specs.Values.{char}
-use Rattle.wave_node.specs.Private.ErrorSpans.{RefusesAt}
-use Rattle.wave_node.proofs.MakerAnswers.{faulty, leaf_made}
-use Rattle.wave_node.proofs.Parameters.{error_handed}
-use Rattle.wave_node.proofs.ByKind.TextLeaves.{char_read, char_blame}
-use Rattle.wave_node.proofs.ErrorSpans.Nodes.{all_in, made_at, char_at}
+use Rattle.wave_forms.specs.Private.ErrorSpans.{RefusesAt}
+use Rattle.wave_forms.proofs.MakerAnswers.{faulty, leaf_made}
+use Rattle.wave_forms.proofs.Parameters.{error_handed}
+use Rattle.wave_forms.proofs.ByKind.TextLeaves.{char_read, char_blame}
+use Rattle.wave_forms.proofs.ErrorSpans.Nodes.{all_in, made_at, char_at}
 use Rattle.wave_plan.specs.Leaves.{leaf_node}
 use Rattle.wave_plan.proofs.leaf.Leaf.read_char.Goals as goal
 

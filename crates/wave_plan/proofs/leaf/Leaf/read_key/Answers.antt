@@ -1,6 +1,6 @@
 use Rattle.std.proofs.Common.{inr}
-use Rattle.wave_node.proofs.ByKind.Keys.{key_told}
-use Rattle.wave_node.proofs.ErrorSpans.Nodes.{told_in}
+use Rattle.wave_forms.proofs.ByKind.Keys.{key_told}
+use Rattle.wave_forms.proofs.ErrorSpans.Nodes.{told_in}
 use Rattle.wave_plan.specs.Leaves.{leaf_node}
 use Rattle.wave_plan.proofs.leaf.Leaf.read_key.Goals as goal
 

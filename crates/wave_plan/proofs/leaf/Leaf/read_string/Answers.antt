@@ -1,11 +1,11 @@
 use Rattle.std.proofs.Common.{inl, refl}
 use Rattle.std.specs.Cow.{cow_str_bytes}
 use Rattle.wave_wasm.specs.Values.{string}
-use Rattle.wave_node.specs.Private.ErrorSpans.{RefusesIn}
-use Rattle.wave_node.proofs.MakerAnswers.{handed, leaf_made}
-use Rattle.wave_node.proofs.Parameters.{error_handed}
-use Rattle.wave_node.proofs.ByKind.TextLeaves.{string_read}
-use Rattle.wave_node.proofs.ErrorSpans.Nodes.{all_in, leaf_at}
+use Rattle.wave_forms.specs.Private.ErrorSpans.{RefusesIn}
+use Rattle.wave_forms.proofs.MakerAnswers.{handed, leaf_made}
+use Rattle.wave_forms.proofs.Parameters.{error_handed}
+use Rattle.wave_forms.proofs.ByKind.TextLeaves.{string_read}
+use Rattle.wave_forms.proofs.ErrorSpans.Nodes.{all_in, leaf_at}
 use Rattle.wave_plan.specs.Leaves.{leaf_node}
 use Rattle.wave_plan.proofs.Strings.{told_blame, told_string_in, given_one}
 use Rattle.wave_plan.proofs.leaf.Leaf.read_string.Goals as goal

@@ -2,11 +2,11 @@ use Rattle.std.proofs.Common.{inr, refl}
 use Rattle.std.specs.Cow.{cow_str_bytes}
 use Rattle.wave_wasm.specs.Types as type
 use Rattle.wave_wasm.specs.Values.{string}
-use Rattle.wave_node.specs.Private.ErrorSpans.{RefusesIn}
-use Rattle.wave_node.proofs.Parameters.{error_handed}
-use Rattle.wave_node.proofs.ByKind.Keys.{key_made}
-use Rattle.wave_node.proofs.ByKind.TextKeys.{string_key}
-use Rattle.wave_node.proofs.ErrorSpans.Nodes.{all_in, leaf_at}
+use Rattle.wave_forms.specs.Private.ErrorSpans.{RefusesIn}
+use Rattle.wave_forms.proofs.Parameters.{error_handed}
+use Rattle.wave_forms.proofs.ByKind.Keys.{key_made}
+use Rattle.wave_forms.proofs.ByKind.TextKeys.{string_key}
+use Rattle.wave_forms.proofs.ErrorSpans.Nodes.{all_in, leaf_at}
 use Rattle.wave_plan.specs.Leaves.{leaf_node}
 use Rattle.wave_plan.proofs.Strings.{string_key_handed, told_string_in, given_one}
 use Rattle.wave_plan.proofs.leaf.Leaf.read_string_key.Goals as goal

@@ -1,7 +1,7 @@
 use Rattle.std.proofs.Common.{pos, w8, w16, w32, w64, to_z, of_z, FitsSigned, rules, refl}
 use Rattle.std.proofs.lemmas.Int.{to_z-of_z}
 use Rattle.wave_wasm.specs.Types as type
-use Rattle.wave_node.proofs.ByKind.Wholes.{whole_made, whole_refused, none_whole}
+use Rattle.wave_forms.proofs.ByKind.Wholes.{whole_made, whole_refused, none_whole}
 use Rattle.wave_plan.specs.Leaves.{leaf_node}
 use Rattle.wave_plan.proofs.leaf.Leaf.read_whole.Goals as goal
 

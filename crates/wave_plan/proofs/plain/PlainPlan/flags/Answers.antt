@@ -1,5 +1,5 @@
-use Rattle.wave_node.specs.NodeTree.{node}
-use Rattle.wave_node.specs.declared.ast.NodeType.TheVariants as node_type
+use Rattle.wave_forms.specs.NodeTree.{node}
+use Rattle.wave_forms.specs.declared.form.NodeType.TheVariants as node_type
 use Rattle.wave_plan.specs.FlagParts.{flag_nodes}
 use Rattle.wave_plan.proofs.PlainDue.{form_refused, flags_no_bool}
 use Rattle.wave_plan.proofs.plain.PlainPlan.flags.Goals as goal

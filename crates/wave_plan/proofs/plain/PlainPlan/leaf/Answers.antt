@@ -1,5 +1,5 @@
 use Rattle.wave_wasm.specs.Types as type
-use Rattle.wave_node.specs.NodeTree.{node, no_nodes}
+use Rattle.wave_forms.specs.NodeTree.{node, no_nodes}
 use Rattle.wave_plan.proofs.PlainDue.{simple_due, bool_read, whole_due}
 use Rattle.wave_plan.proofs.plain.PlainPlan.leaf.Goals as goal
 

@@ -1,4 +1,4 @@
-use Rattle.wave_node.specs.NodeTree.{node, node_trees}
+use Rattle.wave_forms.specs.NodeTree.{node, node_trees}
 use Rattle.wave_plan.proofs.PlainDue.{form_refused, no_bool, no_number, no_char}
 use Rattle.wave_plan.proofs.plain.PlainPlan.whole.Goals as goal
 

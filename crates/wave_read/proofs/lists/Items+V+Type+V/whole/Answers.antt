@@ -2,9 +2,9 @@ use Rattle.std.proofs.Common.{refl, subst}
 use Rattle.std.specs.Prelude.{IfOk, IfErr}
 use Rattle.wave_wasm.specs.Types.{TypeTree}
 use Rattle.wave_wasm.specs.ConstructorContracts.{MakesList, FullList}
-use Rattle.wave_node.specs.NodeTree.{node, node_trees}
-use Rattle.wave_node.specs.Private.TypedReading.{IsOfLength, IsOtherLength}
-use Rattle.wave_node.specs.declared.ast.NodeType.TheVariants as kind
+use Rattle.wave_forms.specs.NodeTree.{node, node_trees}
+use Rattle.wave_forms.specs.Private.TypedReading.{IsOfLength, IsOtherLength}
+use Rattle.wave_forms.specs.declared.form.NodeType.TheVariants as kind
 use Rattle.wave_plan.specs.Reading.{IsReadAs}
 use Rattle.wave_read.specs.ListParts.{ReadOrHeld}
 use Rattle.wave_read.proofs.ListItems.{refusal_handed, length_refused, item_refused, list_read}

@@ -1,5 +1,5 @@
 use Rattle.std.proofs.Common.{sym, ◌∙◌}
-use Rattle.wave_node.specs.NodeTree.{node, no_nodes}
+use Rattle.wave_forms.specs.NodeTree.{node, no_nodes}
 use Rattle.wave_read.proofs.MapSteps.{still_faulty, key_taken, key_refused}
 use Rattle.wave_read.proofs.maps.Entries+V+Type+V.with_key.Goals as goal
 

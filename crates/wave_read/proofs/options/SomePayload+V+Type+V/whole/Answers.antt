@@ -1,8 +1,8 @@
 use Rattle.std.proofs.Common.{sym, ◌∙◌, ap, subst, Option, Some, Result}
 use Rattle.wave_wasm.specs.Types.{TypeTree}
 use Rattle.wave_lex.specs.Errors.{Diagnostic}
-use Rattle.wave_node.specs.NodeTree.{node, node_trees}
-use Rattle.wave_node.specs.declared.ast.NodeType.TheVariants as node_type
+use Rattle.wave_forms.specs.NodeTree.{node, node_trees}
+use Rattle.wave_forms.specs.declared.form.NodeType.TheVariants as node_type
 use Rattle.wave_plan.specs.Reading.{IsReadAs}
 use Rattle.wave_read.specs.Payloads.{IsReadPayload}
 use Rattle.wave_read.proofs.OptionReading.{some_read, some_refused}

@@ -1,5 +1,5 @@
 use Rattle.std.proofs.Common.{◌∙◌, sym, subst}
-use Rattle.wave_node.specs.declared.ast.NodeType.{NodeType}
+use Rattle.wave_forms.specs.declared.form.NodeType.{NodeType}
 use Rattle.wave_read.specs.Flat.{IsFlatAt}
 use Rattle.wave_read.proofs.OptionReading.{other_option}
 use Rattle.wave_read.proofs.PartsBegun.{wrong, no_none}

@@ -1,7 +1,7 @@
 use Rattle.std.proofs.Common.{inl, [], refl, sym, subst}
-use Rattle.wave_node.specs.NodeTree.{node, node_trees}
-use Rattle.wave_node.specs.declared.ast.NodeType.{NodeType}
-use Rattle.wave_node.specs.declared.ast.NodeType.TheVariants as kind
+use Rattle.wave_forms.specs.NodeTree.{node, node_trees}
+use Rattle.wave_forms.specs.declared.form.NodeType.{NodeType}
+use Rattle.wave_forms.specs.declared.form.NodeType.TheVariants as kind
 use Rattle.wave_wasm.specs.Types.{TypeTree}
 use Rattle.wave_plan.specs.Reading.{IsReadAs}
 use Rattle.wave_read.specs.PartsOfKinds.{AreParts}

@@ -1,4 +1,4 @@
-use Rattle.wave_node.specs.NodeTree.{node, no_nodes}
+use Rattle.wave_forms.specs.NodeTree.{node, no_nodes}
 use Rattle.wave_read.proofs.PartsKept.{behind_key}
 use Rattle.wave_read.proofs.parts.Parts+V+Type+V.with_key.Goals as goal
 

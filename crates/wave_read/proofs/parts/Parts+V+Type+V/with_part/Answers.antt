@@ -1,5 +1,5 @@
 use Rattle.std.proofs.Common.{◌≡◌, Bool, sym, subst}
-use Rattle.wave_node.specs.declared.ast.NodeType.{NodeType}
+use Rattle.wave_forms.specs.declared.form.NodeType.{NodeType}
 use Rattle.wave_plan.specs.NodeParts.{TakesPart}
 use Rattle.wave_plan.specs.Reading.{IsReadWhereDue}
 use Rattle.wave_wasm.specs.Borrowed.{shown}

@@ -1,5 +1,5 @@
 use Rattle.std.proofs.Common.{ℕ, List, sym, ◌∙◌, subst}
-use Rattle.wave_node.specs.NodeTree.{node, no_nodes}
+use Rattle.wave_forms.specs.NodeTree.{node, no_nodes}
 use Rattle.wave_read.specs.RecordParts.{IsFieldKey, IsKeyFault}
 use Rattle.wave_read.proofs.RecordSteps.{still_faulty, key_taken, key_faulty}
 use Rattle.wave_read.proofs.records.Fields+V+Type+V.with_key.Goals as goal

@@ -1,7 +1,7 @@
 use Rattle.std.proofs.Common.{ℕ, ◌≡◌, List, rules, inr, sym, ap, ◌∙◌, subst}
 use Rattle.wave_lex.specs.Errors.{repeated_name}
 use Rattle.wave_lex.specs.declared.error.ParserErrorKind.TheVariants.{DuplicateField}
-use Rattle.wave_node.specs.declared.ast.NodeType.TheVariants as kind
+use Rattle.wave_forms.specs.declared.form.NodeType.TheVariants as kind
 use Rattle.wave_read.specs.RecordParts.{IsToldAs}
 use Rattle.wave_read.proofs.RecordFields.{got_same, none_there, some_there}
 use Rattle.wave_read.proofs.records.Fields.named.Goals as goal

@@ -1,8 +1,8 @@
 use Rattle.std.proofs.Common.{ℕ, sym, subst, Ok, Err, List, refl}
 use Rattle.wave_wasm.specs.Borrowed.{shown}
-use Rattle.wave_node.specs.NodeTree.{node, node_trees}
-use Rattle.wave_node.specs.NodeAccessors.{first_of}
-use Rattle.wave_node.specs.Private.TypedReading.{AnswersPayload}
+use Rattle.wave_forms.specs.NodeTree.{node, node_trees}
+use Rattle.wave_forms.specs.NodeAccessors.{first_of}
+use Rattle.wave_forms.specs.Private.TypedReading.{AnswersPayload}
 use Rattle.wave_read.specs.Payloads.{result_node}
 use Rattle.wave_read.proofs.ResultReading.{result_read, result_refused}
 use Rattle.wave_read.proofs.results.ResultPayload+V+Type+V.whole.Goals as goal

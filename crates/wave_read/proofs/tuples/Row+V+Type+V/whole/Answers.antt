@@ -3,9 +3,9 @@ use Rattle.std.specs.Prelude.{IfOk, IfErr}
 use Rattle.wave_wasm.specs.Types.{TypeTree}
 use Rattle.wave_wasm.specs.Borrowed.{shown_all}
 use Rattle.wave_wasm.specs.ConstructorContracts.{MakesTuple, FullTuple}
-use Rattle.wave_node.specs.NodeTree.{node, node_trees}
-use Rattle.wave_node.specs.declared.ast.NodeType.TheVariants as kind
-use Rattle.wave_node.proofs.ByKind.Tuples.{as_shown}
+use Rattle.wave_forms.specs.NodeTree.{node, node_trees}
+use Rattle.wave_forms.specs.declared.form.NodeType.TheVariants as kind
+use Rattle.wave_forms.proofs.ByKind.Tuples.{as_shown}
 use Rattle.wave_read.specs.TupleParts.{ReadOrFaulty}
 use Rattle.wave_read.proofs.Doomed.{told}
 use Rattle.wave_read.proofs.TupleItems.{count_refused, tuple_read}

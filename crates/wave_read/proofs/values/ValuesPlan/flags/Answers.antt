@@ -1,6 +1,6 @@
 use Rattle.std.proofs.Common.{sym, subst, Option, Bor}
-use Rattle.wave_node.specs.NodeTree.{node}
-use Rattle.wave_node.specs.declared.ast.NodeType.TheVariants as kind
+use Rattle.wave_forms.specs.NodeTree.{node}
+use Rattle.wave_forms.specs.declared.form.NodeType.TheVariants as kind
 use Rattle.wave_wasm.specs.Borrowed.{shown}
 use Rattle.wave_plan.specs.FlagParts.{flag_nodes}
 use Rattle.wave_plan.specs.Reading.{IsReadWhereDue}

@@ -1,5 +1,5 @@
 use Rattle.std.proofs.Common.{refl}
-use Rattle.wave_node.specs.NodeTree.{node, node_trees}
+use Rattle.wave_forms.specs.NodeTree.{node, node_trees}
 use Rattle.wave_wasm.specs.Borrowed.{shown}
 use Rattle.wave_read.proofs.KeptSteps.{whole_alone, whole_around}
 use Rattle.wave_read.proofs.values.ValuesPlan.whole.Goals as goal

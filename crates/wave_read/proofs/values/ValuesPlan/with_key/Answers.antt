@@ -1,4 +1,4 @@
-use Rattle.wave_node.specs.NodeTree.{node, no_nodes}
+use Rattle.wave_forms.specs.NodeTree.{node, no_nodes}
 use Rattle.wave_wasm.specs.Borrowed.{shown}
 use Rattle.wave_read.proofs.KeptSteps.{one_more}
 use Rattle.wave_read.proofs.PartsKept.{where_ok}

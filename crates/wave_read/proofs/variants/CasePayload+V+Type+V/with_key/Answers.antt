@@ -4,7 +4,7 @@ use Rattle.wave_wasm.specs.Borrowed.{shown_cases}
 use Rattle.wave_wasm.specs.ValueErrors.{unknown_case, unexpected_payload}
 use Rattle.wave_wasm.specs.declared.wasm.WasmValueError.TheVariants as error
 use Rattle.wave_grammar.specs.LeafTokens.{name_of}
-use Rattle.wave_node.specs.NodeTree.{node, no_nodes}
+use Rattle.wave_forms.specs.NodeTree.{node, no_nodes}
 use Rattle.wave_read.specs.declared.fault.Fault.TheVariants as fault
 use Rattle.wave_read.proofs.CaseNodes.{looked_up}
 use Rattle.wave_read.proofs.CaseAnswers.{unknown_doomed, unexpected_doomed, key_doomed}

@@ -17,11 +17,11 @@ use Rattle.wave_tree.specs.declared.role.LabelRole.{LabelRole}
 use Rattle.wave_tree.specs.Private.ParserState.{Stream, AsksFor, HasText}
 use Rattle.wave_tree.specs.Private.ParsedNodes.{IsParsedBehind, IsMaybe, IsPayload, IsOfItems, IsOfEntries, IsOfFlags, items_type, label_children}
 use Rattle.wave_tree.specs.ParsedNodes.{TakesClass}
-use Rattle.wave_node.specs.NodeTree.{NodeTree, node, no_nodes}
-use Rattle.wave_node.specs.declared.ast.NodeType.TheVariants as kind_of_node
+use Rattle.wave_forms.specs.NodeTree.{NodeTree, node, no_nodes}
+use Rattle.wave_forms.specs.declared.form.NodeType.TheVariants as kind_of_node
 use Rattle.wave_tree.proofs.NodeCorrectness.Items.{class_as, one_tied, label_tied, items_tied, braces_tied, leaf_tied, number_word_tied, none_tied, some_tied, ok_tied, err_tied, case_tied, some_there, type_of_items, items_made, items_none, items_first, items_next, pairs_next, pairs_close, empty_tied, no_fields_tied, entries_tied, flags_tied, payload_tied}
 use Rattle.wave_tree.proofs.NodeCorrectness.Tokens.{number_parsed, char_parsed, string_parsed, multiline_parsed}
-use Rattle.wave_node.proofs.Parameters.{error_handed}
+use Rattle.wave_forms.proofs.Parameters.{error_handed}
 use Rattle.wave_tree.specs.Private.ParserState.{WantsOnly}
 use Rattle.wave_tree.proofs.Wanting.{wants_reached, answer_token, answer_brace, wants_other, wants_fails, wants_taken}
 use Rattle.wave_tree.proofs.PartsDue.{key_next, value_next, payload_due, payload_parts}

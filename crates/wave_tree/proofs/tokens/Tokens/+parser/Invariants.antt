@@ -3,9 +3,9 @@ use Rattle.wave_grammar.specs.ParserPosition.{Place, TakesItem}
 use Rattle.wave_grammar.specs.PrefixAutomaton.{Due, Form, first_item}
 use Rattle.wave_grammar.specs.PrefixAutomaton as due
 use Rattle.wave_grammar.specs.Private.TokenRoles.{form_of}
-use Rattle.wave_node.specs.NodeTree.{NodeTree}
+use Rattle.wave_forms.specs.NodeTree.{NodeTree}
 use Rattle.wave_plan.specs.NodeParts.{TakesPart}
-use Rattle.wave_node.specs.declared.ast.NodeType.TheVariants as kind
+use Rattle.wave_forms.specs.declared.form.NodeType.TheVariants as kind
 use Rattle.wave_tree.specs.ParsedNodes.{IsParsed}
 use Rattle.wave_tree.specs.Private.ParsedNodes.{AreFurther, AreItems, ArePairs}
 use Rattle.wave_tree.proofs.ParserSteps.{Reached, IsItemDue, left_at}

@@ -1,0 +1,14 @@
+pub mod NodeExamples
+pub mod ErrorSpans
+pub mod Parameters
+pub mod ChildNodes
+pub mod MakerAnswers
+pub mod ByKind
+pub mod Unread
+pub mod Faultless
+pub mod KeyNodes
+pub mod Fields
+pub mod Strings
+pub mod NodeMeaning
+pub mod FlagNodes
+pub mod FlagSets

@@ -1,0 +1,72 @@
+//! The plan that makes nodes.
+use crate::ast::{Node, NodeType, make};
+use std::alloc::{AllocError, Global};
+use std::collections::BTreeMap;
+use wave_lex::lex::Span;
+use wave_plan::plan::Plan;
+
+/// The plan that makes of each value its node.
+#[derive(Clone, Copy)]
+pub struct Nodes;
+
+impl Plan for Nodes {
+    type Made = Node;
+
+    type Parts = Vec<Node>;
+
+    ghost use Rattle.std.specs.Prelude.{◌≡◌};
+
+    ghost is_made = { λ plan source n made. made ≡ n };
+
+    ghost are_parts = { λ plan source ty children parts. parts.items ≡ children };
+
+    ghost next = { λ plan parts. plan };
+
+    ghost takes_memory = { Unit {0} };
+
+    fn leaf(self, alloc: Global, ty: NodeType, span: Span, text: &str) -> Node {
+        make::leaf(alloc, ty, span)
+    }
+
+    fn parts(self, alloc: Global, ty: NodeType) -> Vec<Node> {
+        Vec::new(alloc)
+    }
+
+    fn part(self, parts: &Vec<Node>) -> Nodes {
+        self
+    }
+
+    fn with_key(
+        self,
+        alloc: Global,
+        parts: &mut Vec<Node>,
+        ty: NodeType,
+        span: Span,
+        text: &str,
+    ) -> Result<(), AllocError> {
+        parts.push(make::leaf(alloc, ty, span))?;
+        Ok(())
+    }
+
+    fn with_part(self, alloc: Global, parts: &mut Vec<Node>, made: Node) -> Result<(), AllocError> {
+        parts.push(made)?;
+        Ok(())
+    }
+
+    fn whole(self, alloc: Global, ty: NodeType, span: Span, parts: Vec<Node>) -> Node {
+        make::node(ty, span, parts)
+    }
+
+    fn flags(
+        self,
+        alloc: Global,
+        span: Span,
+        flags: BTreeMap<&str, Span>,
+    ) -> Result<Node, AllocError> {
+        let mut nodes = Vec::new(alloc);
+        for at in flags.into_values() {
+            nodes.push(make::leaf(alloc, NodeType::Label, at))?;
+        }
+        Ok(make::node(NodeType::Flags, span, nodes))
+    }
+}
