@@ -11,8 +11,8 @@ ghost use Rattle.wave_plan.specs.Leaves.{leaf_node, IsLeafIn};
 
 use crate::leaf::Leaf;
 use std::alloc::Global;
-use wave_lex::error::{ParserError, ParserErrorKind};
 use wave_forms::form::NodeType;
+use wave_lex::error::{ParserError, ParserErrorKind};
 use wave_wasm::wasm::{DisplayType, WasmType, WasmTypeKind, WasmValue};
 
 impl<'src> Leaf<'src> {

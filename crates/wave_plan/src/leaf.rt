@@ -14,11 +14,11 @@ ghost use Rattle.wave_plan.specs.NodeParts.{IsOneToken};
 ghost use Rattle.wave_plan.specs.Reading.{IsReadAs};
 
 use std::alloc::Global;
+use wave_forms::form::NodeType;
 use wave_grammar::number::WholeNumber;
 use wave_grammar::text::char_in;
 use wave_lex::error::{ParserError, ParserErrorKind};
 use wave_lex::lex::Span;
-use wave_forms::form::NodeType;
 use wave_wasm::wasm::{WasmTypeKind, WasmValue, WasmValueError};
 
 /// What would be a node of one token: its type, where it stands, and its text.

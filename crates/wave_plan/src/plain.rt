@@ -7,9 +7,9 @@ use crate::plan::Plan;
 use std::alloc::{AllocError, Global};
 use std::collections::BTreeMap;
 use std::marker::PhantomData;
+use wave_forms::form::NodeType;
 use wave_lex::error::{ParserError, ParserErrorKind};
 use wave_lex::lex::Span;
-use wave_forms::form::NodeType;
 use wave_wasm::wasm::{WasmType, WasmTypeKind, WasmValue};
 
 /// The plan that reads a bool, a whole number or a char, of the kind that is due. Where none is due, the

@@ -1,8 +1,8 @@
 //! Plans of what is made of a value while its tokens are taken.
 use std::alloc::{AllocError, Global};
 use std::collections::BTreeMap;
-use wave_lex::lex::Span;
 use wave_forms::form::NodeType;
+use wave_lex::lex::Span;
 
 /// What is to be made of a value, from the parts of its node, one behind the other.
 pub trait Plan: Sized + Copy {

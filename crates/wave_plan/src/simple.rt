@@ -7,8 +7,8 @@ ghost use Rattle.wave_plan.specs.Reading.{IsReadAs};
 
 use crate::leaf::Leaf;
 use std::alloc::Global;
-use wave_lex::error::{ParserError, ParserErrorKind};
 use wave_forms::form::NodeType;
+use wave_lex::error::{ParserError, ParserErrorKind};
 use wave_wasm::wasm::{WasmType, WasmTypeKind, WasmValue};
 
 impl<'src> Leaf<'src> {

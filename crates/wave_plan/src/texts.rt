@@ -16,10 +16,10 @@ ghost use Rattle.wave_plan.specs.Reading.{IsReadAs};
 use crate::leaf::Leaf;
 use std::alloc::Global;
 use std::borrow::CowStr;
+use wave_forms::form::NodeType;
 use wave_grammar::text::joined;
 use wave_lex::error::{ParserError, ParserErrorKind};
 use wave_lex::strings::StringPartsIter;
-use wave_forms::form::NodeType;
 use wave_wasm::wasm::WasmValue;
 
 impl<'src> Leaf<'src> {

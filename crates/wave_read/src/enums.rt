@@ -9,10 +9,10 @@ ghost use Rattle.wave_plan.specs.NodeParts.{IsOneToken};
 ghost use Rattle.wave_plan.specs.Reading.{IsReadAs};
 
 use std::alloc::Global;
-use wave_grammar::label::label_name;
-use wave_lex::error::{ParserError, ParserErrorKind};
 use wave_forms::form::NodeType;
 use wave_forms::typed::is_among;
+use wave_grammar::label::label_name;
+use wave_lex::error::{ParserError, ParserErrorKind};
 use wave_plan::leaf::Leaf;
 use wave_wasm::wasm::{WasmType, WasmTypeKind, WasmValue, WasmValueError};
 

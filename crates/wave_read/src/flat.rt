@@ -8,10 +8,10 @@ ghost use Rattle.wave_read.specs.Flat.{IsFlatAt, GivesFlatAt};
 
 use crate::fault::or_error_at;
 use std::alloc::Global;
-use wave_lex::error::ParserError;
-use wave_lex::lex::Span;
 use wave_forms::form::NodeType;
 use wave_forms::typed::flat_type;
+use wave_lex::error::ParserError;
+use wave_lex::lex::Span;
 use wave_wasm::wasm::{WasmType, WasmTypeKind, WasmValue};
 
 /// The type of the payload that a node of this type stands for alone, where the type is an option or

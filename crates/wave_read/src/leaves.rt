@@ -18,9 +18,9 @@ use crate::results::read_alone;
 use crate::variants::read_case;
 use std::alloc::Global;
 use std::collections::BTreeMap;
+use wave_forms::form::NodeType;
 use wave_lex::error::{ParserError, ParserErrorKind};
 use wave_lex::lex::Span;
-use wave_forms::form::NodeType;
 use wave_plan::leaf::Leaf;
 use wave_wasm::wasm::{WasmType, WasmTypeKind, WasmValue};
 

@@ -10,9 +10,9 @@ ghost use Rattle.wave_read.specs.ListParts.{AreItems, element_due};
 
 use crate::fault::or_error_at;
 use std::alloc::{AllocError, Global};
+use wave_forms::form::NodeType;
 use wave_lex::error::ParserError;
 use wave_lex::lex::Span;
-use wave_forms::form::NodeType;
 use wave_wasm::wasm::{WasmType, WasmValue, WasmValueError};
 
 /// The items of a list so far. A fixed-length list of another number of items is refused for the

@@ -10,10 +10,10 @@ ghost use Rattle.wave_read.specs.MapParts.{AreEntries, value_type_due};
 
 use crate::fault::Fault;
 use std::alloc::{AllocError, Global};
-use wave_lex::error::{ParserError, ParserErrorKind};
-use wave_lex::lex::Span;
 use wave_forms::form::NodeType;
 use wave_forms::typed::merged;
+use wave_lex::error::{ParserError, ParserErrorKind};
+use wave_lex::lex::Span;
 use wave_plan::leaf::Leaf;
 use wave_wasm::wasm::{WasmType, WasmTypeKind, WasmValue};
 

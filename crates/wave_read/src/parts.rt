@@ -25,9 +25,9 @@ use crate::results::ResultPayload;
 use crate::tuples::Row;
 use crate::variants::CasePayload;
 use std::alloc::{AllocError, Global};
+use wave_forms::form::NodeType;
 use wave_lex::error::{ParserError, ParserErrorKind};
 use wave_lex::lex::Span;
-use wave_forms::form::NodeType;
 use wave_plan::leaf::Leaf;
 use wave_wasm::wasm::{WasmType, WasmTypeKind, WasmValue};
 

@@ -17,10 +17,10 @@ ghost use Rattle.wave_read.specs.declared.records.Field.{Field};
 
 use crate::fault::Fault;
 use std::alloc::{AllocError, Global};
+use wave_forms::form::NodeType;
 use wave_grammar::label::label_name;
 use wave_lex::error::{ParserError, ParserErrorKind};
 use wave_lex::lex::Span;
-use wave_forms::form::NodeType;
 use wave_wasm::wasm::{WasmType, WasmTypeKind, WasmValue, WasmValueError};
 
 /// A field of a record type, and its value where it was read.

@@ -8,9 +8,9 @@ ghost use Rattle.wave_read.specs.TupleParts.{IsRow, item_due};
 
 use crate::fault::{Fault, or_error_at};
 use std::alloc::{AllocError, Global};
+use wave_forms::form::NodeType;
 use wave_lex::error::ParserError;
 use wave_lex::lex::Span;
-use wave_forms::form::NodeType;
 use wave_wasm::wasm::{WasmType, WasmTypeKind, WasmValue, WasmValueError};
 
 /// The items of a tuple so far. Items beyond those that the type has are counted and not kept.

@@ -16,11 +16,11 @@ ghost use Rattle.wave_read.specs.CaseParts.{AreCaseParts, payload_due};
 use crate::enums::no_case;
 use crate::fault::Fault;
 use std::alloc::{AllocError, Global};
+use wave_forms::form::NodeType;
+use wave_forms::typed::case_payload;
 use wave_grammar::label::label_name;
 use wave_lex::error::{ParserError, ParserErrorKind};
 use wave_lex::lex::Span;
-use wave_forms::form::NodeType;
-use wave_forms::typed::case_payload;
 use wave_plan::leaf::Leaf;
 use wave_wasm::wasm::{WasmType, WasmTypeKind, WasmValue, WasmValueError};
 
