@@ -16,7 +16,7 @@ use wave_wasm::writer::{WriterError, merge_map_entries, to_string};
 pub fn merged<V: WasmValue>(alloc: Global, entries: Vec<(V, V)>) -> Result<Vec<(V, V)>, WriterError>
     ensures { IfOk result (λ m. m.items ≡ merge (λ a b. bytes_eq (text (V.tree a)) (text (V.tree b))) entries.items) }
 {
-    let mut with_texts = Vec::new(alloc);
+    let mut with_texts = Vec::with_capacity(alloc, entries.len())?;
     for (key, val) in entries {
         let text = to_string(alloc, &key)?;
         with_texts.push((text, key, val))?;

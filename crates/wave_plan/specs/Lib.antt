@@ -1,3 +1,4 @@
+pub mod Failures
 pub mod FlagParts
 pub mod Leaves
 pub mod NodeParts

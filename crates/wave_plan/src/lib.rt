@@ -1,9 +1,11 @@
-//! What is made of values that are parsed: nodes, or values of a type.
+//! What is made of values while they are parsed.
 #![tactic(auto)]
 
+pub mod failure;
 mod keys;
 pub mod leaf;
 pub mod plain;
 pub mod plan;
 mod simple;
+mod soon;
 mod texts;

@@ -3,13 +3,14 @@ ghost use Rattle.wave_read.specs.Faults.{Tells, IsMadeAt};
 
 use wave_lex::error::{ParserError, ParserErrorKind};
 use wave_lex::lex::Span;
+use wave_plan::failure::Failure;
 use wave_wasm::wasm::WasmValueError;
 
 /// What is wrong with a value that has parts.
 #[derive(Drop)]
 pub enum Fault {
     /// This refusal of a part.
-    Told(ParserError),
+    Told(Failure),
     /// A refusal of this kind, of the whole value.
     Kind(ParserErrorKind),
     /// A refusal with this cause, of the whole value.
@@ -22,7 +23,7 @@ impl Fault {
         ensures { Tells self span result }
     {
         match self {
-            Fault::Told(error) => error,
+            Fault::Told(failure) => failure.into_error(),
             Fault::Kind(kind) => ParserError::new(kind, span),
             Fault::Cause(cause) => ParserError::with_cause(span, cause),
         }

@@ -13,6 +13,7 @@ use std::alloc::{AllocError, Global};
 use wave_forms::form::NodeType;
 use wave_lex::error::ParserError;
 use wave_lex::lex::Span;
+use wave_plan::failure::Failure;
 use wave_wasm::wasm::{WasmType, WasmValue, WasmValueError};
 
 /// The items of a list so far. A fixed-length list of another number of items is refused for the
@@ -27,7 +28,7 @@ pub struct Items<'ty, T, V> {
     /// The items that were read.
     items: Vec<V>,
     /// The refusal of the first item that was refused.
-    held: Option<ParserError>,
+    held: Option<Failure>,
     /// The number of all items so far.
     count: usize,
 }
@@ -62,7 +63,7 @@ impl<'ty, V: WasmValue> Items<'ty, V::Type, V> {
     pub(crate) fn with_part(
         &mut self,
         alloc: Global,
-        made: Result<V, ParserError>,
+        made: Result<V, Failure>,
     ) -> Result<(), AllocError>
         ensures { IfOk result (λ _. (T : TypeTree) (source : List ℕ) (children : List NodeTree) (n : NodeTree) → AreItems V.Type.tree V.tree V.is_of V.is_full T source children self.old → IsReadWhereDue V.tree V.is_of V.is_full (shown V.Type.tree (element_due self.old)) source n made → AreItems V.Type.tree V.tree V.is_of V.is_full T source (children ++ n ∷ []) self.new) }
     {
@@ -78,8 +79,8 @@ impl<'ty, V: WasmValue> Items<'ty, V::Type, V> {
                 self.items.push(item)?;
                 Ok(())
             }
-            Err(error) => {
-                self.held = Some(error);
+            Err(failure) => {
+                self.held = Some(failure);
                 Ok(())
             }
         }
@@ -97,8 +98,8 @@ impl<'ty, V: WasmValue> Items<'ty, V::Type, V> {
             ..
         } = self;
         check_length(ty, count, &span)?;
-        if let Some(error) = held {
-            return Err(error);
+        if let Some(failure) = held {
+            return Err(failure.into_error());
         }
         or_error_at(span, V::make_list(alloc, ty, items))
     }

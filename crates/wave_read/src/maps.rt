@@ -14,6 +14,7 @@ use wave_forms::form::NodeType;
 use wave_forms::typed::merged;
 use wave_lex::error::{ParserError, ParserErrorKind};
 use wave_lex::lex::Span;
+use wave_plan::failure::Failure;
 use wave_plan::leaf::Leaf;
 use wave_wasm::wasm::{WasmType, WasmTypeKind, WasmValue};
 
@@ -75,7 +76,8 @@ impl<'ty, V: WasmValue> Entries<'ty, V::Type, V> {
                 Ok(())
             }
             Err(error) => {
-                drop(self.fault.replace(Fault::Told(error)));
+                let failure = Failure::told(alloc, error)?;
+                drop(self.fault.replace(Fault::Told(failure)));
                 Ok(())
             }
         }
@@ -85,7 +87,7 @@ impl<'ty, V: WasmValue> Entries<'ty, V::Type, V> {
     pub(crate) fn with_part(
         &mut self,
         alloc: Global,
-        made: Result<V, ParserError>,
+        made: Result<V, Failure>,
     ) -> Result<(), AllocError>
         ensures { IfOk result (λ _. (T : TypeTree) (source : List ℕ) (children : List NodeTree) (n : NodeTree) → TakesPart NodeType.TupleSet children → AreEntries V.tree V.is_of V.is_full V.Type.tree T source children self.old → IsReadWhereDue V.tree V.is_of V.is_full (shown V.Type.tree (value_type_due self.old)) source n made → AreEntries V.tree V.is_of V.is_full V.Type.tree T source (children ++ n ∷ []) self.new) }
     {
@@ -100,8 +102,8 @@ impl<'ty, V: WasmValue> Entries<'ty, V::Type, V> {
                 }
                 None => Ok(()),
             },
-            Err(error) => {
-                drop(self.fault.replace(Fault::Told(error)));
+            Err(failure) => {
+                drop(self.fault.replace(Fault::Told(failure)));
                 Ok(())
             }
         }

@@ -12,6 +12,7 @@ use crate::fault::or_error_at;
 use std::alloc::{AllocError, Global};
 use wave_lex::error::{ParserError, ParserErrorKind};
 use wave_lex::lex::Span;
+use wave_plan::failure::Failure;
 use wave_plan::leaf::Leaf;
 use wave_wasm::wasm::{WasmType, WasmTypeKind, WasmValue};
 
@@ -23,7 +24,7 @@ pub struct SomePayload<'ty, T, V> {
     /// The type of the payload.
     due: &'ty T,
     /// The payload or its refusal, once it was read.
-    made: Option<Result<V, ParserError>>,
+    made: Option<Result<V, Failure>>,
 }
 
 impl<'ty, V: WasmValue> SomePayload<'ty, V::Type, V> {
@@ -50,7 +51,7 @@ impl<'ty, V: WasmValue> SomePayload<'ty, V::Type, V> {
     pub(crate) fn with_part(
         &mut self,
         alloc: Global,
-        made: Result<V, ParserError>,
+        made: Result<V, Failure>,
     ) -> Result<(), AllocError>
         ensures { IfOk result (λ _. (T : TypeTree) (source : List ℕ) (children : List NodeTree) (n : NodeTree) → TakesPart node_type.OptionSome children → AreOfSome V.Type.tree V.tree V.is_of V.is_full T source children self.old → IsReadWhereDue V.tree V.is_of V.is_full (Some (V.Type.tree self.old.due.now)) source n made → AreOfSome V.Type.tree V.tree V.is_of V.is_full T source (children ++ n ∷ []) self.new) }
     {
@@ -65,7 +66,7 @@ impl<'ty, V: WasmValue> SomePayload<'ty, V::Type, V> {
         let SomePayload { ty, due: _, made } = self;
         match made {
             Some(Ok(val)) => or_error_at(span, V::make_option(alloc, ty, Some(val))),
-            Some(Err(error)) => Err(error),
+            Some(Err(failure)) => Err(failure.into_error()),
             None => Err(ParserError::new(ParserErrorKind::InvalidType, span)),
         }
     }

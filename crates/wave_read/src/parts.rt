@@ -28,6 +28,7 @@ use std::alloc::{AllocError, Global};
 use wave_forms::form::NodeType;
 use wave_lex::error::{ParserError, ParserErrorKind};
 use wave_lex::lex::Span;
+use wave_plan::failure::Failure;
 use wave_plan::leaf::Leaf;
 use wave_wasm::wasm::{WasmType, WasmTypeKind, WasmValue};
 
@@ -58,6 +59,7 @@ pub enum Parts<'ty, T, V> {
 
 impl<'ty, V: WasmValue> Parts<'ty, V::Type, V> {
     /// No parts yet, of a value of the type at a node of this one.
+    #[inline(always)]
     pub(crate) fn new(alloc: Global, ty: &'ty V::Type, of: NodeType) -> Self
         requires { (U : TypeTree) → IsFlatAt (V.Type.tree ty.now) of U → ⊥ }
         ensures { (source : List ℕ) → IsOfParts of → AreParts V.Type.tree V.tree V.is_of V.is_full (V.Type.tree ty.now) source of [] result }
@@ -227,7 +229,7 @@ impl<'ty, V: WasmValue> Parts<'ty, V::Type, V> {
     pub(crate) fn with_part(
         &mut self,
         alloc: Global,
-        made: Result<V, ParserError>,
+        made: Result<V, Failure>,
     ) -> Result<(), AllocError>
         ensures { IfOk result (λ _. (T : TypeTree) (source : List ℕ) (of : NodeType) (children : List NodeTree) (n : NodeTree) → TakesPart of children
             → AreParts V.Type.tree V.tree V.is_of V.is_full T source of children self.old → IsReadWhereDue V.tree V.is_of V.is_full (shown V.Type.tree (next_due self.old)) source n made

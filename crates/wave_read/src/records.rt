@@ -21,6 +21,7 @@ use wave_forms::form::NodeType;
 use wave_grammar::label::label_name;
 use wave_lex::error::{ParserError, ParserErrorKind};
 use wave_lex::lex::Span;
+use wave_plan::failure::Failure;
 use wave_wasm::wasm::{WasmType, WasmTypeKind, WasmValue, WasmValueError};
 
 /// A field of a record type, and its value where it was read.
@@ -81,7 +82,7 @@ impl<'ty, T, V> Fields<'ty, T, V> {
         ensures { IfOk result (λ found. MatchResult found (IsFieldKey self.now.fields.items ty text.now) (IsKeyFault self.now.fields.items ty span text.now)) }
     {
         if ty != NodeType::Label {
-            return Ok(Err(no_label(span)));
+            return Ok(Err(no_label(alloc, span)?));
         }
         let name = label_name(text);
         let Some(i) = self.place(name) else {
@@ -161,7 +162,7 @@ impl<'ty, V: WasmValue> Fields<'ty, V::Type, V> {
     pub(crate) fn with_part(
         &mut self,
         alloc: Global,
-        made: Result<V, ParserError>,
+        made: Result<V, Failure>,
     ) -> Result<(), AllocError>
         ensures { IfOk result (λ _. (T : TypeTree) (source : List ℕ) (children : List NodeTree) (n : NodeTree) → TakesPart NodeType.TupleSet children → AreFields V.tree V.is_of V.is_full V.Type.tree T source children self.old → IsReadWhereDue V.tree V.is_of V.is_full (shown V.Type.tree (type_due self.old)) source n made → AreFields V.tree V.is_of V.is_full V.Type.tree T source (children ++ n ∷ []) self.new) }
     {
@@ -177,8 +178,8 @@ impl<'ty, V: WasmValue> Fields<'ty, V::Type, V> {
                 self.behind = i.saturating_add(1);
                 Ok(())
             }
-            Err(error) => {
-                drop(self.fault.replace(Fault::Told(error)));
+            Err(failure) => {
+                drop(self.fault.replace(Fault::Told(failure)));
                 Ok(())
             }
         }
@@ -281,14 +282,15 @@ fn missing(alloc: Global, name: &str) -> WasmValueError
 }
 
 /// What is wrong with a key that is no label, which stands here.
-fn no_label(span: Span) -> Fault
-    ensures { IsToldAs InvalidType span field_label_due result }
+fn no_label(alloc: Global, span: Span) -> Result<Fault, AllocError>
+    ensures { IfOk result (IsToldAs InvalidType span field_label_due) }
 {
-    Fault::Told(ParserError::with_static(
+    let error = ParserError::with_static(
         ParserErrorKind::InvalidType,
         span,
         "expected a record field label",
-    ))
+    );
+    Ok(Fault::Told(Failure::told(alloc, error)?))
 }
 
 /// What is wrong with a key that stands here, whose name an earlier one has.
@@ -296,5 +298,6 @@ fn repeated(alloc: Global, span: Span, name: &str) -> Result<Fault, AllocError>
     ensures { IfOk result (IsToldAs DuplicateField span (repeated_name name.now)) }
 {
     let detail = format!(in alloc; "\"{name}\"")?;
-    Ok(Fault::Told(ParserError::with_detail(ParserErrorKind::DuplicateField, span, detail)))
+    let error = ParserError::with_detail(ParserErrorKind::DuplicateField, span, detail);
+    Ok(Fault::Told(Failure::told(alloc, error)?))
 }

@@ -15,6 +15,7 @@ use crate::fault::or_error_at;
 use std::alloc::{AllocError, Global};
 use wave_lex::error::ParserError;
 use wave_lex::lex::Span;
+use wave_plan::failure::Failure;
 use wave_plan::leaf::Leaf;
 use wave_wasm::wasm::{WasmType, WasmTypeKind, WasmValue, WasmValueError};
 
@@ -28,7 +29,7 @@ pub struct ResultPayload<'ty, T, V> {
     /// The type of the payload, where one is due.
     due: Option<&'ty T>,
     /// The payload or its refusal, once it was read; where none is due, whatever was made of it.
-    made: Option<Result<V, ParserError>>,
+    made: Option<Result<V, Failure>>,
 }
 
 impl<'ty, V: WasmValue> ResultPayload<'ty, V::Type, V> {
@@ -58,7 +59,7 @@ impl<'ty, V: WasmValue> ResultPayload<'ty, V::Type, V> {
     pub(crate) fn with_part(
         &mut self,
         alloc: Global,
-        made: Result<V, ParserError>,
+        made: Result<V, Failure>,
     ) -> Result<(), AllocError>
         ensures parts { IfOk result (λ _. (T : TypeTree) (source : List ℕ) (children : List NodeTree) (n : NodeTree) → TakesPart (result_node self.old.is_ok) children → AreOfResult V.Type.tree V.tree V.is_of V.is_full T source children self.old → IsReadWhereDue V.tree V.is_of V.is_full (shown V.Type.tree self.old.due) source n made → AreOfResult V.Type.tree V.tree V.is_of V.is_full T source (children ++ n ∷ []) self.new) }
         ensures case { self.new.is_ok ≡ self.old.is_ok }
@@ -118,7 +119,7 @@ fn read_payload<V: WasmValue>(
     alloc: Global,
     name: &str,
     due: Option<&V::Type>,
-    made: Option<Result<V, ParserError>>,
+    made: Option<Result<V, Failure>>,
     span: Span,
 ) -> Result<Option<V>, ParserError>
     ensures answer { (source : List ℕ) (children : List NodeTree) (n : NodeTree) → place_of n ≡ span
@@ -131,7 +132,7 @@ fn read_payload<V: WasmValue>(
     match due {
         Some(_) => match made {
             Some(Ok(val)) => Ok(Some(val)),
-            Some(Err(error)) => Err(error),
+            Some(Err(failure)) => Err(failure.into_error()),
             None => Err(refused_payload(alloc, name, true, span)),
         },
         None => match made {

@@ -11,6 +11,7 @@ use std::alloc::{AllocError, Global};
 use wave_forms::form::NodeType;
 use wave_lex::error::ParserError;
 use wave_lex::lex::Span;
+use wave_plan::failure::Failure;
 use wave_wasm::wasm::{WasmType, WasmTypeKind, WasmValue, WasmValueError};
 
 /// The items of a tuple so far. Items beyond those that the type has are counted and not kept.
@@ -35,10 +36,11 @@ impl<'ty, V: WasmValue> Row<'ty, V::Type, V> {
         ensures { IfOk result (λ new. (source : List ℕ) → IsRow V.Type.tree V.tree V.is_of V.is_full (V.Type.tree ty.now) source [] new) }
     {
         let types = ty.tuple_element_types(alloc)?;
+        let items = Vec::with_capacity(alloc, types.len())?;
         Ok(Row {
             ty,
             types,
-            items: Vec::new(alloc),
+            items,
             fault: None,
             count: 0,
         })
@@ -61,7 +63,7 @@ impl<'ty, V: WasmValue> Row<'ty, V::Type, V> {
     pub(crate) fn with_part(
         &mut self,
         alloc: Global,
-        made: Result<V, ParserError>,
+        made: Result<V, Failure>,
     ) -> Result<(), AllocError>
         ensures { IfOk result (λ _. (T : TypeTree) (source : List ℕ) (children : List NodeTree) (n : NodeTree) → IsRow V.Type.tree V.tree V.is_of V.is_full T source children self.old → IsReadWhereDue V.tree V.is_of V.is_full (shown V.Type.tree (item_due self.old)) source n made → IsRow V.Type.tree V.tree V.is_of V.is_full T source (children ++ n ∷ []) self.new) }
     {
@@ -77,8 +79,8 @@ impl<'ty, V: WasmValue> Row<'ty, V::Type, V> {
                 self.items.push(item)?;
                 Ok(())
             }
-            Err(error) => {
-                self.fault = Some(Fault::Told(error));
+            Err(failure) => {
+                self.fault = Some(Fault::Told(failure));
                 Ok(())
             }
         }

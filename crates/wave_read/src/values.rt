@@ -10,8 +10,9 @@ use crate::parts::Parts;
 use std::alloc::{AllocError, Global};
 use std::collections::BTreeMap;
 use wave_forms::form::NodeType;
-use wave_lex::error::{ParserError, ParserErrorKind};
+use wave_lex::error::ParserErrorKind;
 use wave_lex::lex::Span;
+use wave_plan::failure::{Failure, kept};
 use wave_plan::leaf::Leaf;
 use wave_plan::plan::Plan;
 use wave_wasm::wasm::WasmValue;
@@ -41,6 +42,7 @@ pub struct Kept<'ty, T, V> {
 
 impl<'ty, V: WasmValue> Kept<'ty, V::Type, V> {
     /// No parts yet, of a value of the type at a node of this one.
+    #[inline(always)]
     fn new(alloc: Global, ty: &'ty V::Type, of: NodeType) -> Self
         ensures { (source : List ℕ) → IsOfParts of → AreKept V.Type.tree V.tree V.is_of V.is_full (V.Type.tree ty.now) source of [] result }
     {
@@ -58,7 +60,7 @@ impl<'ty, V: WasmValue> Kept<'ty, V::Type, V> {
 }
 
 impl<'ty, V: WasmValue> Plan for Values<'ty, V> {
-    type Made = Result<V, ParserError>;
+    type Made = Result<V, Failure>;
 
     type Parts = Kept<'ty, V::Type, V>;
 
@@ -75,11 +77,14 @@ impl<'ty, V: WasmValue> Plan for Values<'ty, V> {
 
     ghost takes_memory = { Unit {0} };
 
-    fn leaf(self, alloc: Global, ty: NodeType, span: Span, text: &str) -> Result<V, ParserError> {
+    fn leaf(self, alloc: Global, ty: NodeType, span: Span, text: &str) -> Result<V, Failure> {
         let leaf = Leaf { ty, span, text };
         match self.due {
-            Some(due) => read_leaf(&leaf, alloc, due),
-            None => Err(leaf.error(ParserErrorKind::InvalidType)),
+            Some(due) => match leaf.read_soon(alloc, due) {
+                Some(val) => Ok(val),
+                None => kept(alloc, read_leaf(&leaf, alloc, due)),
+            },
+            None => Err(Failure::plain(ParserErrorKind::InvalidType, leaf.span)),
         }
     }
 
@@ -114,7 +119,7 @@ impl<'ty, V: WasmValue> Plan for Values<'ty, V> {
         self,
         alloc: Global,
         parts: &mut Kept<'ty, V::Type, V>,
-        made: Result<V, ParserError>,
+        made: Result<V, Failure>,
     ) -> Result<(), AllocError> {
         parts.parts.with_part(alloc, made)
     }
@@ -125,13 +130,13 @@ impl<'ty, V: WasmValue> Plan for Values<'ty, V> {
         ty: NodeType,
         span: Span,
         parts: Kept<'ty, V::Type, V>,
-    ) -> Result<V, ParserError> {
+    ) -> Result<V, Failure> {
         let place = span.start..span.end;
         let Kept { around: ty, parts } = parts;
         let made = parts.whole(alloc, span);
         match ty {
-            Some(ty) => around(alloc, ty, place, made),
-            None => made,
+            Some(ty) => kept(alloc, around(alloc, ty, place, made)),
+            None => kept(alloc, made),
         }
     }
 
@@ -140,10 +145,10 @@ impl<'ty, V: WasmValue> Plan for Values<'ty, V> {
         alloc: Global,
         span: Span,
         flags: BTreeMap<&str, Span>,
-    ) -> Result<Result<V, ParserError>, AllocError> {
+    ) -> Result<Result<V, Failure>, AllocError> {
         match self.due {
-            Some(due) => Ok(flags_at(alloc, due, span, flags)),
-            None => Ok(Err(ParserError::new(ParserErrorKind::InvalidType, span))),
+            Some(due) => Ok(kept(alloc, flags_at(alloc, due, span, flags))),
+            None => Ok(Err(Failure::plain(ParserErrorKind::InvalidType, span))),
         }
     }
 }

@@ -21,6 +21,7 @@ use wave_forms::typed::case_payload;
 use wave_grammar::label::label_name;
 use wave_lex::error::{ParserError, ParserErrorKind};
 use wave_lex::lex::Span;
+use wave_plan::failure::Failure;
 use wave_plan::leaf::Leaf;
 use wave_wasm::wasm::{WasmType, WasmTypeKind, WasmValue, WasmValueError};
 
@@ -99,7 +100,7 @@ impl<'ty, V: WasmValue> CasePayload<'ty, V::Type, V> {
     pub(crate) fn with_part(
         &mut self,
         alloc: Global,
-        made: Result<V, ParserError>,
+        made: Result<V, Failure>,
     ) -> Result<(), AllocError>
         ensures { IfOk result (λ _. (T : TypeTree) (source : List ℕ) (children : List NodeTree) (n : NodeTree) → TakesPart node_type.VariantWithPayload children → AreCaseParts V.Type.tree V.tree V.is_of V.is_full T source children self.old → IsReadWhereDue V.tree V.is_of V.is_full (shown V.Type.tree (payload_due self.old)) source n made → AreCaseParts V.Type.tree V.tree V.is_of V.is_full T source (children ++ n ∷ []) self.new) }
     {
@@ -111,8 +112,8 @@ impl<'ty, V: WasmValue> CasePayload<'ty, V::Type, V> {
                 drop(self.payload.replace(val));
                 Ok(())
             }
-            Err(error) => {
-                self.wrong(Fault::Told(error));
+            Err(failure) => {
+                self.wrong(Fault::Told(failure));
                 Ok(())
             }
         }

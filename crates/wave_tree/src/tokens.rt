@@ -268,6 +268,7 @@ impl<'source> Tokens<'source> {
     }
 
     /// Adds the next part.
+    #[inline(always)]
     fn with_part<P: Plan>(
         &self,
         alloc: Global,
@@ -379,7 +380,7 @@ impl<'source> Tokens<'source> {
         let plan: Values<V> = Values::new(ty);
         match self.parse_node(alloc, plan, levels) {
             Ok(Ok(value)) => Ok(value),
-            Ok(Err(error)) => Err(self.refuse(error, start)),
+            Ok(Err(failure)) => Err(self.refuse(failure.into_error(), start)),
             Err(refusal) => Err(self.refuse(refusal.into_error(), start)),
         }
     }

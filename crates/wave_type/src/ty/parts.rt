@@ -114,7 +114,7 @@ impl WasmType for Type {
 fn borrowed_names(alloc: Global, names: &Vec<String>) -> Result<Vec<&str>, AllocError>
     ensures { IfOk result (λ v. texts v.items ≡ map string_bytes names.now.items) }
 {
-    let mut answer = Vec::new(alloc);
+    let mut answer = Vec::with_capacity(alloc, names.len())?;
     for name in names {
         answer.push(name.as_str())?;
     }
@@ -128,7 +128,7 @@ fn borrowed_fields(
 ) -> Result<Vec<(&str, &Type)>, AllocError>
     ensures { IfOk result (λ v. shown_fields (λ t. t) v.items ≡ map by_bytes fields.now.items) }
 {
-    let mut answer = Vec::new(alloc);
+    let mut answer = Vec::with_capacity(alloc, fields.len())?;
     for field in fields {
         answer.push((field.0.as_str(), &field.1))?;
     }
@@ -139,7 +139,7 @@ fn borrowed_fields(
 fn borrowed_types(alloc: Global, types: &Vec<Type>) -> Result<Vec<&Type>, AllocError>
     ensures { IfOk result (λ v. shown_all (λ t. t) v.items ≡ types.now.items) }
 {
-    let mut answer = Vec::new(alloc);
+    let mut answer = Vec::with_capacity(alloc, types.len())?;
     for ty in types {
         answer.push(ty)?;
     }
@@ -153,7 +153,7 @@ fn borrowed_cases(
 ) -> Result<Vec<(&str, Option<&Type>)>, AllocError>
     ensures { IfOk result (λ v. shown_cases (λ t. t) v.items ≡ map by_bytes cases.now.items) }
 {
-    let mut answer = Vec::new(alloc);
+    let mut answer = Vec::with_capacity(alloc, cases.len())?;
     for case in cases {
         answer.push((case.0.as_str(), case.1.as_ref()))?;
     }

@@ -285,7 +285,7 @@ fn in_order<S: ShowsValue>(
     ensures given { IfOk result (λ v. InOrder (map by_bytes stated.now.items) (held given.entry) v.items) }
     ensures refused { IfErr result (RefusesFields S.words (map by_bytes stated.now.items) (held given.entry)) }
 {
-    let mut vals = Vec::new(alloc);
+    let mut vals = Vec::with_capacity(alloc, stated.len())?;
     for field in stated {
         let name = field.0.as_str();
         let Some(val) = given.remove(name) else {

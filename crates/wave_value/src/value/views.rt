@@ -141,7 +141,7 @@ fn borrowed_values(alloc: Global, values: &Vec<Value>) -> Result<Vec<&Value>, Al
     ensures trees { IfOk result (λ v. shown_all (λ w. w.tree) v.items ≡ trees values.now.items) }
     ensures values { IfOk result (λ v. shown_all (λ w. w) v.items ≡ values.now.items) }
 {
-    let mut answer = Vec::new(alloc);
+    let mut answer = Vec::with_capacity(alloc, values.len())?;
     for value in values {
         answer.push(value)?;
     }
@@ -156,7 +156,7 @@ fn borrowed_flags<'a>(
 ) -> Result<Vec<&'a str>, AllocError>
     ensures { IfOk result (λ v. texts v.items ≡ map (name_at (flags_names own.now)) places.now.items) }
 {
-    let mut answer = Vec::new(alloc);
+    let mut answer = Vec::with_capacity(alloc, places.len())?;
     for place in places {
         answer.push(flag_name(own, *place))?;
     }
@@ -173,7 +173,7 @@ fn borrowed_fields<'a>(
         (λ v. shown_fields (λ w. w.tree) v.items ≡ beside (first_names (record_parts own.now)) (trees values.now.items)) }
     ensures values { IfOk result (λ v. map (λ f. f.1.now) v.items ≡ values.now.items) }
 {
-    let mut answer = Vec::new(alloc);
+    let mut answer = Vec::with_capacity(alloc, values.len())?;
     for i in 0..values.len() {
         answer.push((field_name(own, i), &values[i]))?;
     }
@@ -189,7 +189,7 @@ fn borrowed_entries(
         (λ v. shown_pairs (λ w. w.tree) v.items ≡ map (λ e. (e.0.tree, e.1.tree)) entries.now.items) }
     ensures entries { IfOk result (λ v. shown_pairs (λ w. w) v.items ≡ entries.now.items) }
 {
-    let mut answer = Vec::new(alloc);
+    let mut answer = Vec::with_capacity(alloc, entries.len())?;
     for entry in entries {
         answer.push((&entry.0, &entry.1))?;
     }

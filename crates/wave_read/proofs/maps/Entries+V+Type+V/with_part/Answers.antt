@@ -16,4 +16,4 @@ returns-in-None g c = λ T source children n due h read.
 
 pub returns-in-Err : goal.returns-in-Err
 returns-in-Err g c = λ T source children n due h read.
-    value_refused g.V.WasmValue.tree g.V.WasmValue.is_of g.V.WasmValue.is_full g.V.Type.WasmType.tree T source children c.args.self.now h n c.args.made c.in-Err.error c.replace.new.self g.met.V.WasmValue.full_parts (sym c.is_some.ensures ∙ c.if-is_some.false) due c.in-Err.is read c.replace.ensures.after
+    value_refused g.V.WasmValue.tree g.V.WasmValue.is_of g.V.WasmValue.is_full g.V.Type.WasmType.tree T source children c.args.self.now h n c.args.made c.in-Err.failure c.replace.new.self g.met.V.WasmValue.full_parts (sym c.is_some.ensures ∙ c.if-is_some.false) due c.in-Err.is read c.replace.ensures.after

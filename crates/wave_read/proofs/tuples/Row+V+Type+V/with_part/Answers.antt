@@ -33,6 +33,6 @@ returns-in-Err g c = λ T source children n a due. record {
   kind = a.kind;
   parts = a.parts;
   count = one_more children n c.args.self.now.count c.in-Some.count a.count c.in-Some.ensures.1;
-  read = item_refused g.V.WasmValue.tree g.V.WasmValue.is_of g.V.WasmValue.is_full g.V.Type.WasmType.tree source T c.args.self.now.types.items children c.args.self.now.items.items c.args.self.now.items.items c.args.self.now.fault n c.in-Err.error g.met.V.WasmValue.full_parts a.kind a.parts (ap is_some (sym c.next.ensures) ∙ c.if-is_none.ensures) a.read
+  read = item_refused g.V.WasmValue.tree g.V.WasmValue.is_of g.V.WasmValue.is_full g.V.Type.WasmType.tree source T c.args.self.now.types.items children c.args.self.now.items.items c.args.self.now.items.items c.args.self.now.fault n c.in-Err.failure g.met.V.WasmValue.full_parts a.kind a.parts (ap is_some (sym c.next.ensures) ∙ c.if-is_none.ensures) a.read
       (subst (IsReadWhereDue g.V.WasmValue.tree g.V.WasmValue.is_of g.V.WasmValue.is_full (shown g.V.Type.WasmType.tree (item_due c.args.self.now)) source n) c.in-Err.is due);
 }

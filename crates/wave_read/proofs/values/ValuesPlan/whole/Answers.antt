@@ -1,16 +1,19 @@
 use Rattle.std.proofs.Common.{refl}
 use Rattle.wave_forms.specs.NodeTree.{node, node_trees}
 use Rattle.wave_wasm.specs.Borrowed.{shown}
+use Rattle.wave_plan.proofs.Kept.{kept_where_due}
 use Rattle.wave_read.proofs.KeptSteps.{whole_alone, whole_around}
 use Rattle.wave_read.proofs.values.ValuesPlan.whole.Goals as goal
 
 pub returns-in-Some : goal.returns-in-Some
 returns-in-Some g c = λ source children kept.
-    whole_around g.V.Type.WasmType.tree g.V.WasmValue.tree g.V.WasmValue.is_of g.V.WasmValue.is_full source c.args.ty children c.args.span (shown g.V.Type.WasmType.tree c.args.self.due) c.args.parts c.in-Some.ty c.whole-made.result c.around.result c.in-Some.is
+    kept_where_due g.V.WasmValue.tree g.V.WasmValue.is_of g.V.WasmValue.is_full source (node c.args.ty c.args.span (node_trees children)) (shown g.V.Type.WasmType.tree c.args.self.due) c.around.result c.kept.result
+    (whole_around g.V.Type.WasmType.tree g.V.WasmValue.tree g.V.WasmValue.is_of g.V.WasmValue.is_full source c.args.ty children c.args.span (shown g.V.Type.WasmType.tree c.args.self.due) c.args.parts c.in-Some.ty c.whole-made.result c.around.result c.in-Some.is
     (λ U parts. c.whole-made.ensures U source c.args.ty children parts)
-    (λ U flat read. c.around.ensures source (node c.args.ty c.args.span (node_trees children)) U flat refl read) kept
+    (λ U flat read. c.around.ensures source (node c.args.ty c.args.span (node_trees children)) U flat refl read) kept) c.kept.ensures
 
 pub returns-in-None : goal.returns-in-None
 returns-in-None g c = λ source children kept.
-    whole_alone g.V.Type.WasmType.tree g.V.WasmValue.tree g.V.WasmValue.is_of g.V.WasmValue.is_full source c.args.ty children c.args.span (shown g.V.Type.WasmType.tree c.args.self.due) c.args.parts c.whole-made.result c.in-None.is
-    (λ U parts. c.whole-made.ensures U source c.args.ty children parts) kept
+    kept_where_due g.V.WasmValue.tree g.V.WasmValue.is_of g.V.WasmValue.is_full source (node c.args.ty c.args.span (node_trees children)) (shown g.V.Type.WasmType.tree c.args.self.due) c.whole-made.result c.kept-in-None.result
+    (whole_alone g.V.Type.WasmType.tree g.V.WasmValue.tree g.V.WasmValue.is_of g.V.WasmValue.is_full source c.args.ty children c.args.span (shown g.V.Type.WasmType.tree c.args.self.due) c.args.parts c.whole-made.result c.in-None.is
+    (λ U parts. c.whole-made.ensures U source c.args.ty children parts) kept) c.kept-in-None.ensures

@@ -7,5 +7,5 @@ returns-then-is_some g c = λ T source children n count h read.
 
 pub returns-in-Err : goal.returns-in-Err
 returns-in-Err g c = λ T source children n count h read.
-    part_refused g.V.Type.WasmType.tree g.V.WasmValue.tree g.V.WasmValue.is_of g.V.WasmValue.is_full T source children n c.args.self.now c.wrong.new.self c.args.made c.in-Err.error g.met.V.WasmValue.full_parts
+    part_refused g.V.Type.WasmType.tree g.V.WasmValue.tree g.V.WasmValue.is_of g.V.WasmValue.is_full T source children n c.args.self.now c.wrong.new.self c.args.made c.in-Err.failure g.met.V.WasmValue.full_parts
     count c.if-is_some.ensures c.in-Err.is c.wrong.ensures.ty c.wrong.ensures.fault h read

@@ -27,10 +27,10 @@ returns-in-Ok-Err-clause-refused g c = λ apart.
     let T = g.V.Type.WasmType.tree c.args.ty.now in
     let old = c.args.self.now.place in
     let made = typed_answered tree of full g.V.Type.WasmType.tree c.args.levels old c.parse_node.new.self.place c.in-Ok-Err.field-0 c.new-plan.result.due _ c.new-plan.ensures c.start_here-start.ensures.sound (c.in-Ok-Err.ensures.led c.args.levels [] (omega arith)) c.in-Ok-Err.ensures.tree in
-    let told = subst (IsAnswered tree of full T c.args.levels old c.parse_node.new.self.place) c.in-Ok-Err.field-0-is made in
+    let told = subst (λ (e : Diagnostic). IsAnswered tree of full T c.args.levels old c.parse_node.new.self.place (Err e)) (sym c.into_error.ensures) (subst (IsAnswered tree of full T c.args.levels old c.parse_node.new.self.place) c.in-Ok-Err.field-0-is made) in
     let back = c.refuse.ensures.other apart in
-    inr (back_same (λ e (q : Stream). IsTypeRefused full T c.args.levels e old q.place) c.in-Ok-Err.error c.refuse.result c.parse_node.new.self c.refuse.new.self back
-    (answered_refused tree of full T c.args.levels old c.parse_node.new.self.place c.in-Ok-Err.error told (λ m. apart (c.refuse.ensures.kind ∙ m))))
+    inr (back_same (λ e (q : Stream). IsTypeRefused full T c.args.levels e old q.place) c.into_error.result c.refuse.result c.parse_node.new.self c.refuse.new.self back
+    (answered_refused tree of full T c.args.levels old c.parse_node.new.self.place c.into_error.result told (λ m. apart (c.refuse.ensures.kind ∙ m))))
 
 pub returns-in-Ok-Err-clause-within : goal.returns-in-Ok-Err-clause-within
 returns-in-Ok-Err-clause-within g c =
@@ -40,8 +40,8 @@ returns-in-Ok-Err-clause-within g c =
     let T = g.V.Type.WasmType.tree c.args.ty.now in
     let old = c.args.self.now.place in
     let made = typed_answered tree of full g.V.Type.WasmType.tree c.args.levels old c.parse_node.new.self.place c.in-Ok-Err.field-0 c.new-plan.result.due _ c.new-plan.ensures c.start_here-start.ensures.sound (c.in-Ok-Err.ensures.led c.args.levels [] (omega arith)) c.in-Ok-Err.ensures.tree in
-    let told = subst (IsAnswered tree of full T c.args.levels old c.parse_node.new.self.place) c.in-Ok-Err.field-0-is made in
-    back_lies _ old.lexer c.in-Ok-Err.error c.refuse.result c.start_here-start.ensures.place c.refuse.ensures.within (λ apart. answered_within tree of full T c.args.levels old c.parse_node.new.self.place (Err c.in-Ok-Err.error) told)
+    let told = subst (λ (e : Diagnostic). IsAnswered tree of full T c.args.levels old c.parse_node.new.self.place (Err e)) (sym c.into_error.ensures) (subst (IsAnswered tree of full T c.args.levels old c.parse_node.new.self.place) c.in-Ok-Err.field-0-is made) in
+    back_lies _ old.lexer c.into_error.result c.refuse.result c.start_here-start.ensures.place c.refuse.ensures.within (λ apart. answered_within tree of full T c.args.levels old c.parse_node.new.self.place (Err c.into_error.result) told)
 
 pub returns-in-Ok-Err-clause-caused : goal.returns-in-Ok-Err-clause-caused
 returns-in-Ok-Err-clause-caused g c = λ was.
@@ -51,18 +51,18 @@ returns-in-Ok-Err-clause-caused g c = λ was.
     let T = g.V.Type.WasmType.tree c.args.ty.now in
     let old = c.args.self.now.place in
     let made = typed_answered tree of full g.V.Type.WasmType.tree c.args.levels old c.parse_node.new.self.place c.in-Ok-Err.field-0 c.new-plan.result.due _ c.new-plan.ensures c.start_here-start.ensures.sound (c.in-Ok-Err.ensures.led c.args.levels [] (omega arith)) c.in-Ok-Err.ensures.tree in
-    let told = subst (IsAnswered tree of full T c.args.levels old c.parse_node.new.self.place) c.in-Ok-Err.field-0-is made in
+    let told = subst (λ (e : Diagnostic). IsAnswered tree of full T c.args.levels old c.parse_node.new.self.place (Err e)) (sym c.into_error.ensures) (subst (IsAnswered tree of full T c.args.levels old c.parse_node.new.self.place) c.in-Ok-Err.field-0-is made) in
     let apart : c.refuse.result.kind ≢ because.OutOfMemory = λ m. cc in
-    back_same (λ e (q : Stream). IsCausedBetween c.args.levels old q.place e) c.in-Ok-Err.error c.refuse.result c.parse_node.new.self c.refuse.new.self (c.refuse.ensures.other apart)
-    (answered_caused tree of full T c.args.levels old c.parse_node.new.self.place c.in-Ok-Err.error told) was
+    back_same (λ e (q : Stream). IsCausedBetween c.args.levels old q.place e) c.into_error.result c.refuse.result c.parse_node.new.self c.refuse.new.self (c.refuse.ensures.other apart)
+    (answered_caused tree of full T c.args.levels old c.parse_node.new.self.place c.into_error.result told) was
 
 pub returns-in-Err-clause-within : goal.returns-in-Err-clause-within
 returns-in-Err-clause-within g c =
-    let led = subst (λ (e : Diagnostic). FailsBySyntax e c.args.levels value [] c.args.self.now.place c.parse_node.new.self.place) (sym c.into_error.ensures) (c.in-Err.ensures.led c.args.levels [] (omega arith)) in
-    back_lies _ c.args.self.now.place.lexer c.into_error.result c.refuse-in-Err.result c.start_here-start.ensures.place c.refuse-in-Err.ensures.within (λ apart.
-    refused_lies c.into_error.result c.args.levels value [] c.args.self.now.place c.parse_node.new.self.place (led apart) c.start_here-start.ensures.inside)
+    let led = subst (λ (e : Diagnostic). FailsBySyntax e c.args.levels value [] c.args.self.now.place c.parse_node.new.self.place) (sym c.into_error-in-Err.ensures) (c.in-Err.ensures.led c.args.levels [] (omega arith)) in
+    back_lies _ c.args.self.now.place.lexer c.into_error-in-Err.result c.refuse-in-Err.result c.start_here-start.ensures.place c.refuse-in-Err.ensures.within (λ apart.
+    refused_lies c.into_error-in-Err.result c.args.levels value [] c.args.self.now.place c.parse_node.new.self.place (led apart) c.start_here-start.ensures.inside)
 
 pub returns-in-Err-clause-caused : goal.returns-in-Err-clause-caused
 returns-in-Err-clause-caused g c = λ was.
-    let led = subst (λ (e : Diagnostic). FailsBySyntax e c.args.levels value [] c.args.self.now.place c.parse_node.new.self.place) (sym c.into_error.ensures) (c.in-Err.ensures.led c.args.levels [] (omega arith)) in
-    absurd (refused_kind c.into_error.result c.args.levels value [] c.args.self.now.place c.parse_node.new.self.place (led (λ m. cc)) (sym c.refuse-in-Err.ensures.kind ∙ was))
+    let led = subst (λ (e : Diagnostic). FailsBySyntax e c.args.levels value [] c.args.self.now.place c.parse_node.new.self.place) (sym c.into_error-in-Err.ensures) (c.in-Err.ensures.led c.args.levels [] (omega arith)) in
+    absurd (refused_kind c.into_error-in-Err.result c.args.levels value [] c.args.self.now.place c.parse_node.new.self.place (led (λ m. cc)) (sym c.refuse-in-Err.ensures.kind ∙ was))
