@@ -41,7 +41,7 @@ enum Shape {
     F32,
     F64,
     List(Rc<Type>),
-    FixedLengthList(Rc<Type>, u32),
+    FixedLengthList(Rc<(Type, u32)>),
     Record(Rc<Vec<(String, Type)>>),
     Tuple(Rc<Vec<Type>>),
     Variant(Rc<Vec<(String, Option<Type>)>>),
@@ -202,7 +202,7 @@ impl Type {
     {
         let _ = &element.shape;
         Ok(Type {
-            shape: Shape::FixedLengthList(Rc::new(alloc, element)?, count),
+            shape: Shape::FixedLengthList(Rc::new(alloc, (element, count))?),
         })
     }
 
@@ -369,10 +369,7 @@ impl Clone for Type {
             Shape::F32 => Shape::F32,
             Shape::F64 => Shape::F64,
             Shape::List(element) => Shape::List(element.clone()?),
-            Shape::FixedLengthList(element, count) => Shape::FixedLengthList(
-                element.clone()?,
-                *count,
-            ),
+            Shape::FixedLengthList(parts) => Shape::FixedLengthList(parts.clone()?),
             Shape::Record(fields) => Shape::Record(fields.clone()?),
             Shape::Tuple(types) => Shape::Tuple(types.clone()?),
             Shape::Variant(cases) => Shape::Variant(cases.clone()?),

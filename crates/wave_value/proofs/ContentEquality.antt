@@ -1,6 +1,6 @@
 -- Equality of contents at one type is equality of the values.
 use Rattle.std.proofs.Common.{◌≡◌, ℕ, zero, suc, Bool, true, false, refl, sym, ap, subst, ◌∙◌, List, [], ◌∷◌, map, length, Option, Some, None}
-use Rattle.std.specs.Prelude.{◌&&◌}
+use Rattle.std.specs.Prelude.{◌&&◌, string_bytes}
 use Rattle.std.specs.Cmp.{both_ways}
 use Rattle.std.specs.declared.alloc.Global.{Global}
 use Rattle.std.specs.declared.vec.Vec.{Vec}
@@ -13,6 +13,7 @@ use Rattle.wave_wasm.specs.TypeTreeEncoding.{stored_name, stored_names}
 use Rattle.wave_wasm.specs.Values as value
 use Rattle.wave_wasm.specs.Values.{Leaf, Value, values, field_values, entries, maybe_value}
 use Rattle.wave_wasm.specs.ConstructorContracts.{list_value}
+use Rattle.wave_wasm.specs.Merge.{leaf_eq}
 use Rattle.wave_type.specs.TypeEquality.{same_tree}
 use Rattle.wave_type.proofs.TypeEqual.{and_false}
 use Rattle.wave_type.specs.TypeEqualityLaws.{same_itself}
@@ -23,6 +24,8 @@ use Rattle.wave_value.specs.ValueEquality.{same_stored, same_value, same_typed, 
 use Rattle.wave_value.specs.ContentEquality.{same_all, same_pairs, same_option, same_content}
 use Rattle.wave_value.specs.declared.value.Content.{Content}
 use Rattle.wave_value.specs.declared.value.Content.TheVariants as contents
+use Rattle.wave_value.specs.declared.value.Scalar.{Scalar}
+use Rattle.wave_value.specs.declared.value.Scalar.TheVariants as scalars
 use Rattle.wave_value.specs.ValueModel.{scalar_leaf, name_at, first_names, trees, beside, boxed, payload_tree}
 use Rattle.wave_value.specs.Private.ValueModel.{key_of, entry_trees, content_tree, AllAt, EachAt, FieldsAt, PayloadAt, CaseAt, EntriesAt, ListFits, RecordFits, TupleFits, VariantFits, OptionFits, OkFits, ErrFits, MapFits, Fits}
 use Rattle.wave_value.proofs.ValueEquality.{same_leaf}
@@ -169,11 +172,23 @@ map_same : (T : TypeTree) (ds es : List (TypedValue × TypedValue)) → MapFits 
 map_same (type.map K V) ds es h k = pairs_same K V ds es h k
 map_same _ ds es h k = absurd h
 
+-- a string beside another value of one token, in either order
+string_second : (a : Scalar) (s : List ℕ) → false ≡ leaf_eq (scalar_leaf a) (value.string s)
+string_second (scalars.Bool b) s = refl
+string_second _ s = refl
+
+string_first : (s : List ℕ) (a : Scalar) → false ≡ leaf_eq (value.string s) (scalar_leaf a)
+string_first s (scalars.Bool b) = refl
+string_first s _ = refl
+
 -- the code's comparison says whether the values are one
 pub content_same : (T : TypeTree) (a b : Content) → Fits T a → Fits T b → same_content T a b ≡ same_value (content_tree T a) (content_tree T b)
 content_same T (contents.List vs) b h k = list_first T vs b h k
 content_same T a (contents.List ws) h k = list_second T a ws h k
 content_same T (contents.Scalar a) (contents.Scalar b) h k = sym (same_leaf (scalar_leaf a) (scalar_leaf b))
+content_same T (contents.String s) (contents.String t) h k = sym (same_leaf (value.string (string_bytes s)) (value.string (string_bytes t)))
+content_same T (contents.Scalar a) (contents.String t) h k = string_second a (string_bytes t) ∙ sym (same_leaf (scalar_leaf a) (value.string (string_bytes t)))
+content_same T (contents.String s) (contents.Scalar b) h k = string_first (string_bytes s) b ∙ sym (same_leaf (value.string (string_bytes s)) (scalar_leaf b))
 content_same T (contents.Record vs) (contents.Record ws) h k = wrapped (record_same T vs.items ws.items h k)
 content_same T (contents.Tuple vs) (contents.Tuple ws) h k = wrapped (tuple_same T vs.items ws.items h k)
 content_same T (contents.Variant i p) (contents.Variant j q) h k = variant_same T i j (boxed p) (boxed q) h k

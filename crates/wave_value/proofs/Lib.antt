@@ -12,6 +12,7 @@ pub mod MadeMap
 pub mod MadeTuple
 pub mod MadeResult
 pub mod MadeRecord
+pub mod RecordInTurn
 pub mod LawfulRecord
 pub mod Refusals
 pub mod Views

@@ -139,7 +139,7 @@ missing_refused words xs ys i f n under now vs e same lt is called t none says =
 was_under : (fs : List (List ℕ × TypeTree)) (under now : List ℕ → Option TypedValue) (vs : List TypedValue) (n : List ℕ) (v : TypedValue) → Taking fs under now vs → now n ≡ Some v → under n ≡ Some v
 was_under fs under now vs n v t e = (none_left (is_one_of (first_names fs) n) (under n) v (sym (t.left n) ∙ e)).1
 
-other_is : (words : TypedValue → List ℕ) (ys : List (List ℕ × TypeTree)) (under : List ℕ → Option TypedValue) (T : TypeTree) (v : TypedValue) (e : WasmValueError) → ((t s : List ℕ) → TellsOther words t s T v → SomeOf (λ g. HasOther words t s g.1 (under g.0)) ys) → v.own ≢ T → SaysType words T v e → RefusesFields words ys under e
+pub other_is : (words : TypedValue → List ℕ) (ys : List (List ℕ × TypeTree)) (under : List ℕ → Option TypedValue) (T : TypeTree) (v : TypedValue) (e : WasmValueError) → ((t s : List ℕ) → TellsOther words t s T v → SomeOf (λ g. HasOther words t s g.1 (under g.0)) ys) → v.own ≢ T → SaysType words T v e → RefusesFields words ys under e
 other_is words ys under T v (error.WrongValueType t s) one other says = one (string_bytes t) (string_bytes s) (other, says.0, says.1)
 other_is words ys under T v (error.Memory r) one other says = tt
 other_is words ys under T v _ one other says = absurd says
@@ -229,15 +229,15 @@ parts_of : (T : TypeTree) (parts : List (List ℕ × TypeTree)) → Some (fields
 parts_of T parts is = sym (field_list-fields_of parts) ∙ ap record_parts (record_is T parts is)
 
 -- one record is made of the last values
-pub record_made : (T own : TypeTree) (parts : List (List ℕ × TypeTree)) (under : List ℕ → Option TypedValue) (given : List (List ℕ × TypedValue)) (vs : List TypedValue) → own ≡ T → Some (fields_of parts) ≡ record_part T → ((n : List ℕ) → under n ≡ last_under given n) → InOrder parts under vs
+pub record_made : (T own : TypeTree) (parts : List (List ℕ × TypeTree)) (given : List (List ℕ × TypedValue)) (vs : List TypedValue) → own ≡ T → Some (fields_of parts) ≡ record_part T → InOrder parts (last_under given) vs
     → MadeRecord given T (record { own = own; tree = value.record_value (field_values (beside (first_names (record_parts own)) (trees vs))) })
-record_made T own parts under given vs same is agree o = record {
+record_made T own parts given vs same is o = record {
   last = vs;
-  are_last = subst (λ fs. map (λ f. last_under given f.0) fs ≡ map Some vs) (parts_of T parts is) (ap (λ (u : List ℕ → Option TypedValue). map (λ f. u f.0) parts) (λ i n. sym (agree n) i) ∙ are_held under parts vs o.held);
+  are_last = subst (λ fs. map (λ f. last_under given f.0) fs ≡ map Some vs) (parts_of T parts is) (are_held (last_under given) parts vs o.held);
   made = record {
     own = same;
     tree = ap (λ U. value.record_value (field_values (beside (first_names (record_parts U)) (trees vs)))) same;
-    fits = record_value T vs (record_fits T parts under vs is o);
+    fits = record_value T vs (record_fits T parts (last_under given) vs is o);
   };
 }
 
@@ -269,11 +269,11 @@ each_own under (f ∷ fs) [] h = absurd h
 each_own under (f ∷ fs) (v ∷ vs) h = (subst (HasOwn f.1) (sym h.0) h.1.own, each_own under fs vs h.2)
 
 -- the fields are taken
-pub record_taken : (T : TypeTree) (parts : List (List ℕ × TypeTree)) (under : List ℕ → Option TypedValue) (given : List (List ℕ × TypedValue)) (vs : List TypedValue) → Some (fields_of parts) ≡ record_part T → ((n : List ℕ) → under n ≡ last_under given n) → InOrder parts under vs → TakesRecord T given
-record_taken T parts under given vs is agree o =
+pub record_taken : (T : TypeTree) (parts : List (List ℕ × TypeTree)) (given : List (List ℕ × TypedValue)) (vs : List TypedValue) → Some (fields_of parts) ≡ record_part T → InOrder parts (last_under given) vs → TakesRecord T given
+record_taken T parts given vs is o =
     let names = first_names parts in
-    let known : AreAllOf names (first_names given) = all_of names (first_names given) (λ n one. o.known n (λ none. found given n one (sym (agree n) ∙ none))) in
-    let own : AllOf (λ f. HasOwn f.1 (last_under given f.0)) parts = subst (λ (u : List ℕ → Option TypedValue). AllOf (λ f. HasOwn f.1 (u f.0)) parts) (λ i n. agree n i) (each_own under parts vs o.held) in
+    let known : AreAllOf names (first_names given) = all_of names (first_names given) (λ n one. o.known n (found given n one)) in
+    let own : AllOf (λ f. HasOwn f.1 (last_under given f.0)) parts = each_own (last_under given) parts vs o.held in
     subst (λ U. TakesRecord U given) (record_is T parts is)
     (subst (λ fs. AreDistinct (first_names fs) × AreAllOf (first_names fs) (first_names given) × AllOf (λ f. HasOwn f.1 (last_under given f.0)) fs) (sym (field_list-fields_of parts)) (o.distinct, known, own))
 
@@ -285,7 +285,7 @@ fields_refused words parts given (error.Memory m) r = tt
 fields_refused words parts given _ r = absurd r
 
 -- the fields are refused
-pub record_refused : (words : TypedValue → List ℕ) (T : TypeTree) (parts : List (List ℕ × TypeTree)) (under : List ℕ → Option TypedValue) (given : List (List ℕ × TypedValue)) (e : WasmValueError) → Some (fields_of parts) ≡ record_part T → ((n : List ℕ) → under n ≡ last_under given n) → RefusesFields words parts under e → RefusesRecord words T given e
-record_refused words T parts under given e is agree r =
+pub record_refused : (words : TypedValue → List ℕ) (T : TypeTree) (parts : List (List ℕ × TypeTree)) (given : List (List ℕ × TypedValue)) (e : WasmValueError) → Some (fields_of parts) ≡ record_part T → RefusesFields words parts (last_under given) e → RefusesRecord words T given e
+record_refused words T parts given e is r =
     subst (λ U. RefusesRecord words U given e) (record_is T parts is)
-    (fields_refused words parts given e (subst (λ fs. RefusesFields words fs (last_under given) e) (sym (field_list-fields_of parts)) (subst (λ (u : List ℕ → Option TypedValue). RefusesFields words parts u e) (λ i n. agree n i) r)))
+    (fields_refused words parts given e (subst (λ fs. RefusesFields words fs (last_under given) e) (sym (field_list-fields_of parts)) r))

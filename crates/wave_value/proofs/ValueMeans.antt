@@ -1,5 +1,5 @@
 -- Content that fits a type means a value of it.
-use Rattle.std.proofs.Common.{ℕ, zero, suc, ◌≡◌, ◌<◌, ◌+◌, inl, inr, List, [], ◌∷◌, map, length, refl, sym, ap, subst, ◌∙◌, arith, Option, Some, None}
+use Rattle.std.proofs.Common.{ℕ, zero, suc, ◌≡◌, ◌<◌, ◌+◌, inl, inr, List, [], ◌∷◌, map, length, refl, sym, ap, subst, ◌∙◌, arith, Option, Some, None, string_bytes}
 use Rattle.std.proofs.lemmas.Bool.{cases_lt}
 use Rattle.wave_wasm.specs.Lists.{AllOf}
 use Rattle.wave_wasm.specs.Names.{IsOneOf, ArePicked}
@@ -123,6 +123,7 @@ scalar_value T one h = subst (λ T. HasType T (value.leaf one)) (sym h.0) (one, 
 -- content that fits means a value of the type
 pub means : (T : TypeTree) (c : Content) → Fits T c → HasType T (content_tree T c)
 means T (contents.Scalar one) h = scalar_value T (scalar_leaf one) h
+means T (contents.String s) h = scalar_value T (value.string (string_bytes s)) h
 means T (contents.List vs) h = list_means T vs.items h
 means T (contents.Record vs) h = record_value T vs.items h
 means T (contents.Tuple vs) h = tuple_value T vs.items h

@@ -1,5 +1,5 @@
 -- Whether two contents are one at their type, as the code compares them. Only private contracts cite it.
-use Rattle.std.specs.Prelude.{Bool, true, false, ◌&&◌, List, [], ◌∷◌, map, Option, Some, None}
+use Rattle.std.specs.Prelude.{Bool, true, false, ◌&&◌, List, [], ◌∷◌, map, Option, Some, None, string_bytes}
 use Rattle.std.specs.Str.{bytes_eq}
 use Rattle.std.specs.Cmp.Lexicographic.{pointwise}
 use Rattle.wave_wasm.specs.Types.{TypeTree, variant_parts, enum_names, flags_names}
@@ -31,6 +31,7 @@ same_option _ _ = false
 -- the contents are equal at the type
 abbrev pub same_content : TypeTree → Content → Content → Bool
 same_content T (contents.Scalar a) (contents.Scalar b) = leaf_eq (scalar_leaf a) (scalar_leaf b)
+same_content T (contents.String s) (contents.String t) = bytes_eq (string_bytes s) (string_bytes t)
 same_content T (contents.List vs) (contents.List ws) = same_all vs.items ws.items
 same_content T (contents.Record vs) (contents.Record ws) = same_all vs.items ws.items
 same_content T (contents.Tuple vs) (contents.Tuple ws) = same_all vs.items ws.items

@@ -1,5 +1,5 @@
 -- What a value's content means at its type, and what holds of it.
-use Rattle.std.specs.Prelude.{ℕ, pos, List, [], ◌∷◌, map, get_or, Option, option_map, string_bytes}
+use Rattle.std.specs.Prelude.{ℕ, pos, List, [], ◌∷◌, map, get_or, Option, option_map}
 use Rattle.std.specs.declared.alloc.Global.{Global}
 use Rattle.std.specs.declared.boxed.Box.{Box}
 use Rattle.wave_wasm.specs.Types as type
@@ -9,7 +9,7 @@ use Rattle.wave_value.specs.declared.value.Scalar.{Scalar}
 use Rattle.wave_value.specs.declared.value.Scalar.TheVariants as scalars
 use Rattle.wave_value.specs.TypedValue.{TypedValue}
 
--- the value of one token
+-- the value of one token but a string
 abbrev pub scalar_leaf : Scalar → Leaf
 scalar_leaf (scalars.Bool b) = value.bool b
 scalar_leaf (scalars.S8 z) = value.whole type.s8 z
@@ -21,7 +21,6 @@ scalar_leaf (scalars.U16 n) = value.whole type.u16 (pos n)
 scalar_leaf (scalars.U32 n) = value.whole type.u32 (pos n)
 scalar_leaf (scalars.U64 n) = value.whole type.u64 (pos n)
 scalar_leaf (scalars.Char c) = value.char c
-scalar_leaf (scalars.String s) = value.string (string_bytes s)
 
 -- the name at a place
 abbrev pub name_at : List (List ℕ) → ℕ → List ℕ

@@ -1,5 +1,5 @@
 //! Values of component types.
-ghost use Rattle.std.specs.Prelude.{◌≡◌, IfOk, IfErr, pos};
+ghost use Rattle.std.specs.Prelude.{◌≡◌, IfOk, IfErr, pos, string_bytes};
 ghost use Rattle.wave_wasm.specs.Types as type;
 ghost use Rattle.wave_wasm.specs.Types.{IsOwn};
 ghost use Rattle.wave_wasm.specs.Values as value;
@@ -24,8 +24,8 @@ mod refusals;
 mod views;
 mod wasm_value;
 
-// A value of one token.
-#[derive(Clone, PartialEq, Debug, Drop)]
+// A value of one token but a string.
+#[derive(Clone, Copy, PartialEq, Debug)]
 enum Scalar {
     Bool(bool),
     S8(i8),
@@ -37,7 +37,6 @@ enum Scalar {
     U32(u32),
     U64(u64),
     Char(char),
-    String(String),
 }
 
 // What a value is made of, beside its type: cases and flags are places in the type.
@@ -45,6 +44,7 @@ enum Scalar {
 #[derive(Debug, Drop)]
 enum Content {
     Scalar(Scalar),
+    String(String),
     List(Vec<Value>),
     Record(Vec<Value>),
     Tuple(Vec<Value>),
@@ -201,7 +201,7 @@ impl Value {
         ensures made { IfOk result (λ v. (v ≡ typed_leaf (value.string val.now)) × IsSound (value.string val.now)) }
         ensures refused { IfErr result IsMemory }
     {
-        Ok(scalar_value(Type::STRING, Scalar::String(String::from_str(alloc, val)?)))
+        Ok(string_value(String::from_str(alloc, val)?))
     }
 
     /// The bool that the value is. It asks for a value of `bool`.
@@ -320,13 +320,13 @@ impl Value {
         ensures { self.now.tree ≡ value.leaf (value.string result.now) }
     {
         match &self.content {
-            Content::Scalar(Scalar::String(val)) => val.as_str(),
+            Content::String(val) => val.as_str(),
             _ => unreachable!(),
         }
     }
 }
 
-// The value of one token, of its simple type.
+// The value of one token but a string, of its simple type.
 fn scalar_value(own: Type, one: Scalar) -> Value
     requires { ScalarFits own (scalar_leaf one) }
     ensures { result ≡ typed_leaf (scalar_leaf one) }
@@ -337,13 +337,24 @@ fn scalar_value(own: Type, one: Scalar) -> Value
     }
 }
 
+// The value of `string`, this text.
+fn string_value(text: String) -> Value
+    ensures { result ≡ typed_leaf (value.string (string_bytes text)) }
+{
+    Value {
+        own: Type::STRING,
+        content: Content::String(text),
+    }
+}
+
 // A copy of the content.
 #[cycle(clone)]
 fn clone_content(alloc: Global, content: &Content) -> Result<Content, AllocError>
     ensures { IfOk result (λ c. IsAsGood c content.now) }
 {
     match content {
-        Content::Scalar(one) => Ok(Content::Scalar(one.clone()?)),
+        Content::Scalar(one) => Ok(Content::Scalar(*one)),
+        Content::String(text) => Ok(Content::String(text.clone()?)),
         Content::List(vals) => Ok(Content::List(clone_values(alloc, vals)?)),
         Content::Record(vals) => Ok(Content::Record(clone_values(alloc, vals)?)),
         Content::Tuple(vals) => Ok(Content::Tuple(clone_values(alloc, vals)?)),

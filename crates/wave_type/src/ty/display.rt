@@ -66,10 +66,10 @@ fn write_type<W: fmt::Write>(f: &mut fmt::Formatter<W>, ty: &Type) -> fmt::Resul
             write_type(f, element)?;
             write!(f, ">")
         }
-        Shape::FixedLengthList(element, count) => {
+        Shape::FixedLengthList(parts) => {
             write!(f, "list<")?;
-            write_type(f, element)?;
-            write!(f, ", {count}>")
+            write_type(f, &parts.0)?;
+            write!(f, ", {}>", parts.1)
         }
         Shape::Record(fields) => {
             write!(f, "record {{ ")?;

@@ -19,7 +19,7 @@ impl PartialEq for Type {
             (Shape::F32, Shape::F32) => true,
             (Shape::F64, Shape::F64) => true,
             (Shape::List(a), Shape::List(b)) => **a == **b,
-            (Shape::FixedLengthList(a, n), Shape::FixedLengthList(b, m)) => *n == *m && **a == **b,
+            (Shape::FixedLengthList(a), Shape::FixedLengthList(b)) => a.1 == b.1 && a.0 == b.0,
             (Shape::Record(a), Shape::Record(b)) => same_fields(a, b),
             (Shape::Tuple(a), Shape::Tuple(b)) => same_types(a, b),
             (Shape::Variant(a), Shape::Variant(b)) => same_cases(a, b),

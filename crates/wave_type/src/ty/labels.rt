@@ -60,7 +60,7 @@ fn names_pass(ty: &Type) -> bool
     match &ty.shape {
         Shape::Simple(_) | Shape::F32 | Shape::F64 => true,
         Shape::List(element) => names_pass(&**element),
-        Shape::FixedLengthList(element, _) => names_pass(&**element),
+        Shape::FixedLengthList(parts) => names_pass(&parts.0),
         Shape::Record(fields) => are_label_names(&**fields) && fields_pass(&**fields),
         Shape::Tuple(types) => types_pass(&**types),
         Shape::Variant(cases) => are_label_names(&**cases) && cases_pass(&**cases),

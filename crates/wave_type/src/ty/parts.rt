@@ -27,7 +27,7 @@ impl WasmType for Type {
             Shape::F32 => WasmTypeKind::F32,
             Shape::F64 => WasmTypeKind::F64,
             Shape::List(_) => WasmTypeKind::List,
-            Shape::FixedLengthList(_, _) => WasmTypeKind::FixedLengthList,
+            Shape::FixedLengthList(_) => WasmTypeKind::FixedLengthList,
             Shape::Record(_) => WasmTypeKind::Record,
             Shape::Tuple(_) => WasmTypeKind::Tuple,
             Shape::Variant(_) => WasmTypeKind::Variant,
@@ -41,14 +41,15 @@ impl WasmType for Type {
 
     fn list_element_type(&self) -> Option<&Type> {
         match &self.shape {
-            Shape::List(element) | Shape::FixedLengthList(element, _) => Some(&**element),
+            Shape::List(element) => Some(&**element),
+            Shape::FixedLengthList(parts) => Some(&parts.0),
             _ => None,
         }
     }
 
     fn list_length(&self) -> Option<u32> {
         match &self.shape {
-            Shape::FixedLengthList(_, count) => Some(*count),
+            Shape::FixedLengthList(parts) => Some(parts.1),
             _ => None,
         }
     }

@@ -18,6 +18,11 @@ use Rattle.wave_value.specs.Private.ConstructorRules.{SaysCase, SaysMissing, Say
 abbrev pub held : {A : Type 0} → BTreeMap (Bor (List ℕ)) A → List ℕ → Option A
 held m name = get_by (λ k. slice_cmp nat_cmp name k.now) m
 
+-- what is handed in has the names of the fields in their order, and they are distinct
+pub record IsInTurn {A B : Type 0} (fs : List (List ℕ × A)) (given : List (List ℕ × B)) : Type 0 where
+  pub same : first_names given ≡ first_names fs
+  pub distinct : AreDistinct (first_names fs)
+
 -- each value is at its field's type, and the one under the field's name
 abbrev pub FieldsHeld : (List ℕ → Option TypedValue) → List (List ℕ × TypeTree) → List TypedValue → Type 0
 FieldsHeld under [] [] = Unit {0}

@@ -1,5 +1,5 @@
 -- What a value's content means at its type, and what holds of it.
-use Rattle.std.specs.Prelude.{ℕ, zero, suc, ◌+◌, ◌≤◌, ◌<◌, ◌≡◌, ◌≢◌, List, [], ◌∷◌, map, length, Option, Some, None}
+use Rattle.std.specs.Prelude.{ℕ, zero, suc, ◌+◌, ◌≤◌, ◌<◌, ◌≡◌, ◌≢◌, List, [], ◌∷◌, map, length, Option, Some, None, string_bytes}
 use Rattle.wave_wasm.specs.Lists.{AllOf}
 use Rattle.wave_wasm.specs.Names.{AreDistinct}
 use Rattle.wave_wasm.specs.Types as type
@@ -24,6 +24,7 @@ entry_trees es = map (λ e. (key_of e.0.tree, e.1.tree)) es
 -- the value that the content is at this type
 abbrev pub content_tree : TypeTree → Content → Value
 content_tree T (contents.Scalar one) = value.leaf (scalar_leaf one)
+content_tree T (contents.String s) = value.leaf (value.string (string_bytes s))
 content_tree T (contents.List vs) = list_value T (trees vs.items)
 content_tree T (contents.Record vs) = value.record_value (field_values (beside (first_names (record_parts T)) (trees vs.items)))
 content_tree T (contents.Tuple vs) = value.tuple (values (trees vs.items))
@@ -135,6 +136,7 @@ ScalarFits T one = (T ≡ type.simple (leaf_type one)) × IsSound one
 -- the content is one of the type: each component is at its stated type, each place below its count
 abbrev pub Fits : TypeTree → Content → Type 0
 Fits T (contents.Scalar one) = ScalarFits T (scalar_leaf one)
+Fits T (contents.String s) = ScalarFits T (value.string (string_bytes s))
 Fits T (contents.List vs) = ListFits T vs.items
 Fits T (contents.Record vs) = RecordFits T vs.items
 Fits T (contents.Tuple vs) = TupleFits T vs.items

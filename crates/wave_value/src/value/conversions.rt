@@ -5,7 +5,7 @@ ghost use Rattle.wave_wasm.specs.Types as type;
 ghost use Rattle.wave_wasm.specs.Values as value;
 ghost use Rattle.wave_value.specs.TypedValue.{typed_leaf};
 
-use super::{Scalar, Type, Value, scalar_value};
+use super::{Scalar, Type, Value, scalar_value, string_value};
 
 impl From<bool> for Value {
     ghost from_gives = { λ val made. made ≡ typed_leaf (value.bool val) };
@@ -91,6 +91,6 @@ impl From<String> for Value {
     ghost from_gives = { λ val made. made ≡ typed_leaf (value.string (string_bytes val)) };
 
     fn from(val: String) -> Value {
-        scalar_value(Type::STRING, Scalar::String(val))
+        string_value(val)
     }
 }

@@ -36,6 +36,7 @@ fn same_content(own: &Type, a: &Content, b: &Content) -> bool
 {
     match (a, b) {
         (Content::Scalar(a), Content::Scalar(b)) => *a == *b,
+        (Content::String(a), Content::String(b)) => *a == *b,
         (Content::List(a), Content::List(b)) => same_values(a, b),
         (Content::Record(a), Content::Record(b)) => same_values(a, b),
         (Content::Tuple(a), Content::Tuple(b)) => same_values(a, b),

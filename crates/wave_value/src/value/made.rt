@@ -1,16 +1,18 @@
 //! Makers of values that have parts.
-ghost use Rattle.std.specs.Prelude.{◌≡◌, ℕ, List, map, length, IfOk, IfErr, OnOk};
+ghost use Rattle.std.specs.Prelude.{◌≡◌, ◌≤◌, ℕ, List, map, length, take, vec_len, IfOk, IfErr, OnOk};
+ghost use Rattle.std.specs.Bool.{OnTrue, OnFalse};
 ghost use Rattle.wave_wasm.specs.Values as value;
 ghost use Rattle.wave_wasm.specs.Values.{values, maybe_value};
 ghost use Rattle.wave_wasm.specs.ConstructorContracts.{list_value, result_value, either_tree};
-ghost use Rattle.wave_value.specs.ValueModel.{trees, payload_tree, boxed};
-ghost use Rattle.wave_value.specs.Private.ValueModel.{PayloadAt};
+ghost use Rattle.wave_value.specs.ValueModel.{trees, payload_tree, boxed, first_names};
+ghost use Rattle.wave_value.specs.Private.ValueModel.{PayloadAt, FieldsAt};
 ghost use Rattle.wave_value.specs.ConstructorRules.{Made, HasLength, TakesList, TakesTuple, TakesOption, TakesResult, TakesEnum, option_stated, RefusesList, RefusesParts, RefusesTuple, RefusesPayload, RefusesResult, RefusesEnum};
 ghost use Rattle.wave_value.specs.CaseRules.{MadeMap, TakesMap, map_stated};
 ghost use Rattle.wave_value.specs.Private.ConstructorRules.{Tells, SaysLength};
 ghost use Rattle.wave_wasm.specs.Borrowed.{shown, named};
+ghost use Rattle.wave_wasm.specs.Names.{IsNoneOf};
 ghost use Rattle.wave_type.specs.TypeModel.{by_bytes};
-ghost use Rattle.wave_value.specs.Private.RecordConstructor.{held, InOrder};
+ghost use Rattle.wave_value.specs.Private.RecordConstructor.{held, InOrder, IsInTurn};
 ghost use Rattle.wave_value.specs.RecordConstructor.{last_under, TakesRecord, MadeRecord, RefusesRecord, RefusesFields};
 
 use super::refusals::{Amiss, ShowsValue, named, wrong_kind, wrong_type};
@@ -22,6 +24,10 @@ use wave_type::ty::places::{enum_place, named_types, tuple_types};
 use wave_wasm::wasm::{WasmType, WasmTypeKind, WasmValueError};
 
 mod cases;
+
+// Up to so many fields each name is compared with each that stands before it. Past that, looking
+// names up in a map costs less.
+const MOST_COMPARED: usize = 16;
 
 impl Value {
     // Whether the value's own type is this one.
@@ -100,8 +106,7 @@ impl Value {
         let Some(stated) = named_types(ty) else {
             return Err(wrong_kind(alloc, WasmTypeKind::Record, ty));
         };
-        let given = last_values(alloc, fields)?;
-        let vals = in_order::<S>(alloc, stated, given)?;
+        let vals = ordered::<S>(alloc, stated, fields)?;
         Ok(Value {
             own: ty.clone()?,
             content: Content::Record(vals),
@@ -259,6 +264,106 @@ fn boxed_payload<S: ShowsValue>(
             }
         },
     }
+}
+
+// The values in the fields' order. Fields that are handed in as the type has them need no look-up.
+fn ordered<S: ShowsValue>(
+    alloc: Global,
+    stated: &Vec<(String, Type)>,
+    fields: Vec<(&str, Value)>,
+) -> Result<Vec<Value>, WasmValueError>
+    ensures given { IfOk result
+        (λ v. InOrder (map by_bytes stated.now.items) (last_under (named fields.entry.items)) v.items) }
+    ensures refused { IfErr result
+        (RefusesFields S.words (map by_bytes stated.now.items) (last_under (named fields.entry.items))) }
+{
+    if stand_in_order(stated, &fields) {
+        return in_turn::<S>(alloc, stated, fields);
+    }
+    let given = last_values(alloc, fields)?;
+    in_order::<S>(alloc, stated, given)
+}
+
+// Whether the fields are few, have the type's names in its order, and no name stands twice.
+fn stand_in_order<V>(stated: &Vec<(String, Type)>, fields: &Vec<(&str, V)>) -> bool
+    ensures { OnTrue result (IsInTurn (map by_bytes stated.now.items) (named fields.now.items)) }
+{
+    let count = stated.len();
+    if count != fields.len() || count > MOST_COMPARED {
+        return false;
+    }
+    for i in 0..count {
+        let name = stated[i].0.as_str();
+        if fields[i].0 != name {
+            return false;
+        }
+        if stands_before(stated, i, name) {
+            return false;
+        }
+    }
+    true
+}
+
+// Whether one of the first so many fields has this name.
+fn stands_before(stated: &Vec<(String, Type)>, count: usize, name: &str) -> bool
+    requires { count ≤ vec_len stated.now }
+    ensures { OnFalse result (IsNoneOf (first_names (map by_bytes (take count stated.now.items))) name.now) }
+{
+    for i in 0..count {
+        if stated[i].0.as_str() == name {
+            return true;
+        }
+    }
+    false
+}
+
+// The values of fields that stand in the type's order. One of another type is refused.
+fn in_turn<S: ShowsValue>(
+    alloc: Global,
+    stated: &Vec<(String, Type)>,
+    fields: Vec<(&str, Value)>,
+) -> Result<Vec<Value>, WasmValueError>
+    requires { IsInTurn (map by_bytes stated.now.items) (named fields.items) }
+    ensures given { IfOk result
+        (λ v. InOrder (map by_bytes stated.now.items) (last_under (named fields.entry.items)) v.items) }
+    ensures refused { IfErr result
+        (RefusesFields S.words (map by_bytes stated.now.items) (last_under (named fields.entry.items))) }
+{
+    check_types::<S>(alloc, stated, &fields)?;
+    Ok(values_of(alloc, fields)?)
+}
+
+// Refuses a value of another type than the field at its place.
+fn check_types<S: ShowsValue>(
+    alloc: Global,
+    stated: &Vec<(String, Type)>,
+    fields: &Vec<(&str, Value)>,
+) -> Result<(), WasmValueError>
+    requires { IsInTurn (map by_bytes stated.now.items) (named fields.now.items) }
+    ensures taken { OnOk result
+        (FieldsAt (map by_bytes stated.now.items) (map (λ f. f.1) fields.now.items)) }
+    ensures refused { IfErr result
+        (RefusesFields S.words (map by_bytes stated.now.items) (last_under (named fields.now.items))) }
+{
+    for i in 0..stated.len() {
+        let field = &stated[i];
+        let val = &fields[i].1;
+        if !val.is_at(&field.1) {
+            return Err(wrong_type::<S>(alloc, &field.1, val));
+        }
+    }
+    Ok(())
+}
+
+// The values of the fields.
+fn values_of<V: Drop>(alloc: Global, fields: Vec<(&str, V)>) -> Result<Vec<V>, AllocError>
+    ensures { IfOk result (λ v. v.items ≡ map (λ f. f.1) fields.entry.items) }
+{
+    let mut vals = Vec::with_capacity(alloc, fields.len())?;
+    for (_, val) in fields {
+        vals.push(val)?;
+    }
+    Ok(vals)
 }
 
 // The last value under each name.

@@ -1,5 +1,5 @@
 //! Makers of variants and flags, whose parts are found by name.
-ghost use Rattle.std.specs.Prelude.{◌≡◌, IfOk, IfErr, OnOk, length, map};
+ghost use Rattle.std.specs.Prelude.{◌≡◌, [], IfOk, IfErr, OnOk, length, map};
 ghost use Rattle.wave_wasm.specs.Names.{AreAllOf, found_in};
 ghost use Rattle.wave_wasm.specs.Types.{flags_names};
 ghost use Rattle.wave_wasm.specs.Borrowed.{texts};
@@ -8,7 +8,7 @@ ghost use Rattle.wave_wasm.specs.Values.{maybe_value};
 ghost use Rattle.wave_value.specs.Private.ValueModel.{Grows};
 ghost use Rattle.wave_value.specs.ValueModel.{name_at, payload_tree};
 ghost use Rattle.wave_value.specs.ConstructorRules.{Made};
-ghost use Rattle.wave_value.specs.Private.CaseRules.{HasKeys};
+ghost use Rattle.wave_value.specs.Private.CaseRules.{MarksNames, MarksOneMore, TellsUnmarked};
 ghost use Rattle.wave_value.specs.CaseRules.{TakesVariant, TakesFlags, RefusesVariant, RefusesNames, RefusesFlags};
 
 use super::super::refusals::{Amiss, ShowsValue, named, wrong_kind};
@@ -58,7 +58,6 @@ impl Value {
         match ty.kind() {
             WasmTypeKind::Flags => {
                 let all = ty.flags_names(alloc)?;
-                check_names(alloc, &all, names)?;
                 let places = places_of(alloc, &all, names)?;
                 Ok(Value {
                     own: ty.clone()?,
@@ -70,43 +69,62 @@ impl Value {
     }
 }
 
-// The names as keys.
-fn keys_of<'a>(alloc: Global, names: &'a [&'a str]) -> Result<BTreeMap<&'a str, ()>, AllocError>
-    ensures { IfOk result (λ m. HasKeys m (texts names.now)) }
-{
-    let mut keys = BTreeMap::new(alloc);
-    for name in names {
-        keys.insert(*name, ())?;
-    }
-    Ok(keys)
-}
-
-// Refuses a name that is none of the first ones.
-fn check_names(alloc: Global, all: &[&str], names: &[&str]) -> Result<(), WasmValueError>
+// The places of those of the first names that stand among the others. One of the others that is
+// none of the first is refused.
+fn places_of(alloc: Global, all: &[&str], names: &[&str]) -> Result<Vec<usize>, WasmValueError>
     ensures known { OnOk result (AreAllOf (texts all.now) (texts names.now)) }
-    ensures refused { IfErr result (RefusesNames (texts all.now) (texts names.now)) }
-{
-    let known = keys_of(alloc, all)?;
-    for name in names {
-        if !known.contains_key(*name) {
-            return Err(named(alloc, Amiss::UnknownCase, *name));
-        }
-    }
-    Ok(())
-}
-
-// The places of those of the first names that stand among the others.
-fn places_of(alloc: Global, all: &[&str], names: &[&str]) -> Result<Vec<usize>, AllocError>
     ensures grow { IfOk result (λ is. Grows 0 (length all.now) is.items) }
     ensures found { IfOk result (λ is. map (name_at (texts all.now)) is.items ≡ found_in (texts names.now) (texts all.now)) }
+    ensures refused { IfErr result (RefusesNames (texts all.now) (texts names.now)) }
 {
-    let keys = keys_of(alloc, names)?;
-    let mut places = Vec::new(alloc);
+    let mut marks = unmarked(alloc, names)?;
+    let mut places = Vec::with_capacity(alloc, names.len().min(all.len()))?;
     for i in 0..all.len() {
-        if !keys.contains_key(all[i]) {
+        if !mark(&mut marks, all[i]) {
             continue;
         }
         places.push(i)?;
     }
+    check_marked(alloc, names, &marks)?;
     Ok(places)
+}
+
+// The names as keys, none of them marked.
+fn unmarked<'a>(alloc: Global, names: &'a [&'a str]) -> Result<BTreeMap<&'a str, bool>, AllocError>
+    ensures { IfOk result (λ m. MarksNames m (texts names.now) []) }
+{
+    let mut marks = BTreeMap::new(alloc);
+    for name in names {
+        marks.insert(*name, false)?;
+    }
+    Ok(marks)
+}
+
+// Marks the name; answers whether it is one of the keys.
+fn mark(marks: &mut BTreeMap<&str, bool>, name: &str) -> bool
+    ensures { MarksOneMore marks.old marks.new name.now result }
+{
+    match marks.get_mut(name) {
+        Some(is_marked) => {
+            *is_marked = true;
+            true
+        }
+        None => false,
+    }
+}
+
+// Refuses the first of the names that isn't marked.
+fn check_marked(
+    alloc: Global,
+    names: &[&str],
+    marks: &BTreeMap<&str, bool>,
+) -> Result<(), WasmValueError>
+    ensures { TellsUnmarked marks.now (texts names.now) result }
+{
+    for name in names {
+        if !marks.get(*name).copied().unwrap_or(false) {
+            return Err(named(alloc, Amiss::UnknownCase, *name));
+        }
+    }
+    Ok(())
 }
