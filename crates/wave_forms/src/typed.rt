@@ -8,20 +8,23 @@ ghost use Rattle.wave_grammar.specs.TypedGrammar.{look_up};
 ghost use Rattle.wave_forms.specs.Private.NodeAccessors.{Among};
 ghost use Rattle.wave_forms.specs.Private.TypedReading.{GivesFlat};
 
-use std::alloc::Global;
+use std::alloc::{AllocError, Global};
 use wave_wasm::wasm::{WasmType, WasmTypeKind, WasmValue};
-use wave_wasm::writer::{WriterError, merge_map_entries, to_string};
+use wave_wasm::writer::{merge_map_entries, to_string};
 
-/// The entries with each key once, merged by the texts of their keys.
-pub fn merged<V: WasmValue>(alloc: Global, entries: Vec<(V, V)>) -> Result<Vec<(V, V)>, WriterError>
+/// The entries with each key once, merged by the texts of their keys. The only error is want of
+/// memory, which also stands for a key that has no text.
+pub fn merged<V: WasmValue>(alloc: Global, entries: Vec<(V, V)>) -> Result<Vec<(V, V)>, AllocError>
     ensures { IfOk result (λ m. m.items ≡ merge (λ a b. bytes_eq (text (V.tree a)) (text (V.tree b))) entries.items) }
 {
     let mut with_texts = Vec::with_capacity(alloc, entries.len())?;
     for (key, val) in entries {
-        let text = to_string(alloc, &key)?;
+        let Ok(text) = to_string(alloc, &key) else {
+            return Err(AllocError);
+        };
         with_texts.push((text, key, val))?;
     }
-    Ok(merge_map_entries(alloc, with_texts)?)
+    merge_map_entries(alloc, with_texts)
 }
 
 /// Whether an option or a result may be left out around a value of this kind.

@@ -9,11 +9,11 @@ use Rattle.wave_wasm.specs.Names.{IsNoneOf, AreAllOf, AreDistinct, found_in}
 use Rattle.wave_wasm.specs.Types.{TypeTree, HasDistinctNames, flags_names, kind_of}
 use Rattle.wave_wasm.specs.Values.{Value}
 use Rattle.wave_wasm.specs.Borrowed.{texts}
-use Rattle.wave_wasm.specs.ValueErrors.{unknown_case}
+use Rattle.wave_wasm.specs.ValueErrors.{unknown_case, cause_of}
 use Rattle.wave_wasm.specs.ConstructorContracts.{MakesFlags, FullFlags}
 use Rattle.wave_wasm.specs.declared.wasm.WasmTypeKind.TheVariants as kinds
 use Rattle.wave_wasm.specs.declared.wasm.WasmValueError.{WasmValueError}
-use Rattle.wave_lex.specs.Errors.{Diagnostic, refusal_of}
+use Rattle.wave_lex.specs.Errors.{Diagnostic, refusal_of, refused_by}
 use Rattle.wave_lex.specs.declared.error.ParserErrorKind.TheVariants.{InvalidType}
 use Rattle.wave_grammar.specs.LeafTokens.{name_of}
 use Rattle.wave_grammar.specs.SpannedTree.{slice}
@@ -30,8 +30,9 @@ use Rattle.wave_plan.specs.FlagParts.{AreFlagsOf, label_at, flag_nodes}
 use Rattle.wave_plan.specs.Reading.{IsReadAs}
 use Rattle.wave_read.specs.declared.fault.Fault.{Fault}
 use Rattle.wave_read.specs.declared.fault.Fault.TheVariants as fault
-use Rattle.wave_read.specs.Faults.{Tells}
+use Rattle.wave_read.specs.Faults.{Tells, IsFaultOf}
 use Rattle.wave_read.specs.NamedFlags.{flag_names, IsTold, TellsUnknown}
+use Rattle.wave_read.proofs.EnumCases.{no_memory}
 
 names_from : (source : List ℕ) (es : List (Bor (List ℕ) × Range ℕ)) → AllOf (λ e. e.0.now ≡ name_of (slice source e.1)) es → names_at source (node_list (node_trees (map label_at (values_of es)))) ≡ texts (keys_of es)
 names_from source [] h = refl
@@ -74,10 +75,14 @@ module _ {V : Type 0} (tree : V → Value) (of : V → TypeTree → Type 0) (Ful
   flags_read T names flags source n picked v (Err e) kind is known found makes ok named told = absurd told
 
   -- their maker refused
-  pub flags_refused : (T : TypeTree) (names flags : List (List ℕ)) (source : List ℕ) (n : NodeTree) (picked : List (Bor (List ℕ))) (cause : WasmValueError) (r : Result V Diagnostic) → kinds.Flags ≡ kind_of T → names ≡ flags_names T → AreAllOf names flags → (AreDistinct names → texts picked ≡ found_in flags names) →
-      FullFlags of Full T picked cause → AreFlags n → names_at source (children_of n) ≡ flags → IsTold (Err (fault.Cause cause)) (place_of n) r → IsReadAs tree of Full T source n r
-  flags_refused T names flags source n picked cause (Ok w) kind is known found full ok named told = absurd told
-  flags_refused T names flags source n picked cause (Err e) kind is known found full ok named told = made_read T names flags source n picked (Err cause) (Err e) kind is known found tt full ok named told
+  pub flags_refused : (T : TypeTree) (names flags : List (List ℕ)) (source : List ℕ) (n : NodeTree) (picked : List (Bor (List ℕ))) (cause : WasmValueError) (f : Fault) (r : Result V Diagnostic) → IsFaultOf cause f → kinds.Flags ≡ kind_of T → names ≡ flags_names T → AreAllOf names flags → (AreDistinct names → texts picked ≡ found_in flags names) →
+      FullFlags of Full T picked cause → AreFlags n → names_at source (children_of n) ≡ flags → IsTold (Err f) (place_of n) r → IsReadAs tree of Full T source n r
+  flags_refused T names flags source n picked cause f (Ok w) caused kind is known found full ok named told = absurd told
+  flags_refused T names flags source n picked cause (fault.Cause c) (Err e) caused kind is known found full ok named told =
+      made_read T names flags source n picked (Err cause) (Err e) kind is known found tt full ok named (told.0 ∙ ap (λ (x : WasmValueError). refused_by (cause_of x)) caused, told.1)
+  flags_refused T names flags source n picked cause (fault.Kind k) (Err e) caused kind is known found full ok named told =
+      no_memory tree of Full T source n e (subst (λ k. RefusedAs k n e) caused told)
+  flags_refused T names flags source n picked cause (fault.Told d) (Err e) caused kind is known found full ok named told = absurd caused
 
   -- a node that is neither flags nor `{}`
   pub other_form : (T : TypeTree) (source : List ℕ) (n : NodeTree) (e : Diagnostic) → kinds.Flags ≡ kind_of T → type_of n ≢ kind.Flags → type_of n ≢ kind.EmptySet → RefusedAs InvalidType n e → IsReadAs tree of Full T source n (Err e)

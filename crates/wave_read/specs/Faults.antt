@@ -7,6 +7,7 @@ use Rattle.wave_wasm.specs.ValueErrors.{cause_of}
 use Rattle.wave_wasm.specs.declared.wasm.WasmValueError.{WasmValueError}
 use Rattle.wave_lex.specs.Errors.{Diagnostic, Says, refusal_of, refused_by}
 use Rattle.std.specs.Prelude.{None}
+use Rattle.wave_lex.specs.declared.error.ParserErrorKind.TheVariants.{OutOfMemory}
 use Rattle.wave_forms.specs.NodeTree.{NodeTree, node, node_trees, place_of}
 use Rattle.wave_forms.specs.TypedReading.{IsMade}
 use Rattle.wave_forms.specs.declared.form.NodeType.{NodeType}
@@ -18,7 +19,13 @@ use Rattle.wave_read.specs.declared.fault.Fault.TheVariants as fault
 abbrev pub Tells : Fault → Range ℕ → Diagnostic → Type 0
 Tells (fault.Told e) p f = f ≡ e
 Tells (fault.Kind k) p f = Says f k p None
-Tells (fault.Cause c) p f = (refusal_of f ≡ refused_by (cause_of c)) × (f.span ≡ p)
+Tells (fault.Cause c) p f = (refusal_of f ≡ refused_by (cause_of c.value)) × (f.span ≡ p)
+
+-- the fault with this cause, or for want of memory
+abbrev pub IsFaultOf : WasmValueError → Fault → Type 0
+IsFaultOf cause (fault.Cause c) = c.value ≡ cause
+IsFaultOf cause (fault.Kind k) = k ≡ OutOfMemory
+IsFaultOf cause (fault.Told e) = ⊥
 
 -- at each node that stands there: the value that was made, or the refusal of its maker
 abbrev pub IsMadeAt : {V : Type 0} → Range ℕ → Result V WasmValueError → Result V Diagnostic → Type 0

@@ -1,12 +1,15 @@
 //! What is wrong with a value, before its end is seen.
-ghost use Rattle.wave_read.specs.Faults.{Tells, IsMadeAt};
+ghost use Rattle.wave_read.specs.Faults.{Tells, IsFaultOf, IsMadeAt};
 
+use std::alloc::Global;
+use std::boxed::Box;
 use wave_lex::error::{ParserError, ParserErrorKind};
 use wave_lex::lex::Span;
 use wave_plan::failure::Failure;
 use wave_wasm::wasm::WasmValueError;
 
-/// What is wrong with a value that has parts.
+/// What is wrong with a value that has parts. A cause stands on the heap, so that what is kept of the
+/// parts is small.
 #[derive(Drop)]
 pub enum Fault {
     /// This refusal of a part.
@@ -14,7 +17,7 @@ pub enum Fault {
     /// A refusal of this kind, of the whole value.
     Kind(ParserErrorKind),
     /// A refusal with this cause, of the whole value.
-    Cause(WasmValueError),
+    Cause(Box<WasmValueError>),
 }
 
 impl Fault {
@@ -25,8 +28,18 @@ impl Fault {
         match self {
             Fault::Told(failure) => failure.into_error(),
             Fault::Kind(kind) => ParserError::new(kind, span),
-            Fault::Cause(cause) => ParserError::with_cause(span, cause),
+            Fault::Cause(cause) => ParserError::with_cause(span, Box::into_inner(cause)),
         }
+    }
+}
+
+/// The fault with this cause; where there is no memory to keep it, want of memory.
+pub(crate) fn caused(alloc: Global, cause: WasmValueError) -> Fault
+    ensures { IsFaultOf cause result }
+{
+    match Box::new(alloc, cause) {
+        Ok(cause) => Fault::Cause(cause),
+        Err(_) => Fault::Kind(ParserErrorKind::OutOfMemory),
     }
 }
 

@@ -11,7 +11,7 @@ ghost use Rattle.wave_plan.specs.FlagParts.{AreFlagsOf, flag_nodes};
 ghost use Rattle.wave_plan.specs.Reading.{IsReadAs};
 ghost use Rattle.wave_read.specs.NamedFlags.{flag_names, IsReadOrTold, IsTold, TellsCause, TellsUnknown};
 
-use crate::fault::Fault;
+use crate::fault::{Fault, caused};
 use std::alloc::Global;
 use std::collections::BTreeMap;
 use wave_lex::error::{ParserError, ParserErrorKind};
@@ -59,7 +59,7 @@ fn read_names<V: WasmValue>(
     let picked = picked(alloc, &names, flags)?;
     match V::make_flags(alloc, ty, picked.as_slice()) {
         Ok(val) => Ok(val),
-        Err(cause) => Err(Fault::Cause(cause)),
+        Err(cause) => Err(caused(alloc, cause)),
     }
 }
 
@@ -93,8 +93,8 @@ fn unknown(alloc: Global, name: &str) -> Fault
     ensures { TellsCause (unknown_case name.now) result }
 {
     match String::from_str(alloc, name) {
-        Ok(name) => Fault::Cause(WasmValueError::UnknownCase(name)),
-        Err(error) => Fault::Cause(WasmValueError::Memory(error)),
+        Ok(name) => caused(alloc, WasmValueError::UnknownCase(name)),
+        Err(_) => Fault::Kind(ParserErrorKind::OutOfMemory),
     }
 }
 

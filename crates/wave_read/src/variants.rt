@@ -16,6 +16,7 @@ ghost use Rattle.wave_read.specs.CaseParts.{AreCaseParts, payload_due};
 use crate::enums::no_case;
 use crate::fault::Fault;
 use std::alloc::{AllocError, Global};
+use std::boxed::Box;
 use wave_forms::form::NodeType;
 use wave_forms::typed::case_payload;
 use wave_grammar::label::label_name;
@@ -85,12 +86,14 @@ impl<'ty, V: WasmValue> CasePayload<'ty, V::Type, V> {
             }
             Some((_, None)) => {
                 let name = String::from_str(alloc, name)?;
-                self.wrong(Fault::Cause(WasmValueError::UnexpectedPayload(name)));
+                let cause = Box::new(alloc, WasmValueError::UnexpectedPayload(name))?;
+                self.wrong(Fault::Cause(cause));
                 Ok(())
             }
             None => {
                 let name = String::from_str(alloc, name)?;
-                self.wrong(Fault::Cause(WasmValueError::UnknownCase(name)));
+                let cause = Box::new(alloc, WasmValueError::UnknownCase(name))?;
+                self.wrong(Fault::Cause(cause));
                 Ok(())
             }
         }

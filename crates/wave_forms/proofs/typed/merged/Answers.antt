@@ -1,4 +1,5 @@
-use Rattle.std.proofs.Common.{ℕ, List, map, ap, sym, ◌∙◌}
+use Rattle.std.proofs.Common.{ℕ, ◌≡◌, List, map, ap, sym, subst, ◌∙◌}
+use Rattle.std.specs.Result.{IfOk}
 use Rattle.std.proofs.lemmas.List.{map-id}
 use Rattle.std.proofs.lemmas.Iterator.Adapters.{YieldsList-from_vec}
 use Rattle.std.proofs.lemmas.Iterator.Consumers.{YieldsList-end}
@@ -13,4 +14,5 @@ returns g c =
     let f : g.row.V.Denot × g.row.V.Denot → (List ℕ × g.row.V.Denot) × g.row.V.Denot = λ e. ((t e.0, e.0), e.1) in
     let from = c.into_iter-key-iterator.ensures.into_iter_gives in
     let end = YieldsList-end (YieldsList-from_vec {s = c.into_iter-key-iterator.result} c.args.entries.items from.0 (from.1 ∙ c.args.entries.ok.0)) c.loop-key.yielded c.loop-key.key-iterator c.loop-key.yielded_by _ c.next.new.self c.in-None.is c.next.ensures.steps in
-    c.in_ok-merge_map_entries.ensures ∙ (ap merge_by_text (c.loop-key.invariant ∙ ap (map f) (sym (map-id c.loop-key.yielded) ∙ end.0)) ∙ merge_keyed t c.args.entries.items)
+    let all = ap merge_by_text (c.loop-key.invariant ∙ ap (map f) (sym (map-id c.loop-key.yielded) ∙ end.0)) ∙ merge_keyed t c.args.entries.items in
+    subst (λ items. IfOk c.merge_map_entries.result (λ m. m.items ≡ items)) all c.merge_map_entries.ensures

@@ -14,4 +14,4 @@ returns-in-Ok-make_flags g c = λ source n ok named r told.
 
 pub returns : goal.returns
 returns g c = λ source n ok named r told.
-    flags_refused g.V.WasmValue.tree g.V.WasmValue.is_of g.V.WasmValue.is_full (g.V.Type.WasmType.tree c.args.ty.now) (texts c.in-Ok.names.items) (flag_names c.args.flags) source n c.as_slice.result.now c.in-Err-make_flags.cause r (sym c.requires) c.in-Ok.ensures c.in_ok-picked.ensures.known (rw c.as_slice.ensures.value c.in_ok-picked.ensures.picked) c.in-Err-make_flags.ensures.full ok named told
+    flags_refused g.V.WasmValue.tree g.V.WasmValue.is_of g.V.WasmValue.is_full (g.V.Type.WasmType.tree c.args.ty.now) (texts c.in-Ok.names.items) (flag_names c.args.flags) source n c.as_slice.result.now c.in-Err-make_flags.cause c.caused.result r c.caused.ensures (sym c.requires) c.in-Ok.ensures c.in_ok-picked.ensures.known (rw c.as_slice.ensures.value c.in_ok-picked.ensures.picked) c.in-Err-make_flags.ensures.full ok named told
