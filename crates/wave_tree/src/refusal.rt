@@ -3,6 +3,7 @@ ghost use Rattle.std.specs.Prelude.{◌≡◌, None, Some};
 ghost use Rattle.std.specs.String.{string_bytes};
 ghost use Rattle.wave_lex.specs.Errors.{Says, class_name};
 
+use std::boxed::Box;
 use std::marker::Model;
 use wave_lex::error::{ParserError, ParserErrorKind};
 use wave_lex::lex::{Span, Token};
@@ -14,8 +15,9 @@ enum Beside {
     Nothing,
     /// The name of a class of tokens.
     Class(Token),
-    /// Words that were made for this refusal.
-    Words(String),
+    /// Words that were made for this refusal, on the heap: a refusal is small, since each answer of the
+    /// parser's functions has room for one.
+    Words(Box<String>),
 }
 
 /// Why the tokens are refused: the kind, where, and what is told beside. A clause sees the error
@@ -61,8 +63,8 @@ impl Refusal {
     }
 
     /// A refusal that tells these words.
-    pub(crate) fn with_words(kind: ParserErrorKind, span: Span, words: String) -> Refusal
-        ensures { Says result kind span (Some (string_bytes words)) }
+    pub(crate) fn with_words(kind: ParserErrorKind, span: Span, words: Box<String>) -> Refusal
+        ensures { Says result kind span (Some (string_bytes words.value)) }
     {
         Refusal {
             kind,
@@ -79,7 +81,7 @@ impl Refusal {
         match beside {
             Beside::Nothing => ParserError::new(kind, span),
             Beside::Class(class) => ParserError::with_static(kind, span, class.name()),
-            Beside::Words(words) => ParserError::with_detail(kind, span, words),
+            Beside::Words(words) => ParserError::with_detail(kind, span, Box::into_inner(words)),
         }
     }
 }

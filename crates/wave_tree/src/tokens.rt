@@ -2,6 +2,7 @@
 ghost use Rattle.std.specs.Prelude.{◌≡◌, ◌≢◌, ◌↔◌, ℕ, ◌+◌, ◌-◌, ◌++◌, ◌≤◌, Some, None, Ok, Err, IfOk, IfErr, IsTrue, List, [], ◌∷◌};
 ghost use Rattle.wave_lex.specs.declared.lex.Token.TheVariants as lex_class;
 ghost use Rattle.wave_lex.specs.declared.error.ParserErrorKind.TheVariants as kind;
+ghost use Rattle.std.specs.String.{string_bytes};
 ghost use Rattle.wave_lex.specs.Errors.{class_name, repeated_name};
 ghost use Rattle.wave_grammar.specs.ParserPosition.{Place, TakesItem, IsSomething, span_at, text_at};
 ghost use Rattle.wave_grammar.specs.Tree.{word_of};
@@ -31,7 +32,8 @@ use crate::ast::{Node, NodeType};
 use crate::parser::DEFAULT_LEVELS;
 use crate::refusal::Refusal;
 use crate::role::{LabelRole, key_type, role_of};
-use std::alloc::Global;
+use std::alloc::{AllocError, Global};
+use std::boxed::Box;
 use std::collections::BTreeMap;
 use std::marker::Model;
 use wave_grammar::label::label_name;
@@ -52,6 +54,14 @@ fn is_token(item: &Option<Result<Token, Span>>, class: Token) -> bool
         Some(Ok(token)) => *token == class,
         _ => false,
     }
+}
+
+/// The words on a name that stands twice.
+fn repeated_words(alloc: Global, name: &str) -> Result<Box<String>, AllocError>
+    ensures { IfOk result (λ words. string_bytes words.value ≡ repeated_name name.now) }
+{
+    let words = format!(in alloc; "\"{name}\"")?;
+    Ok(Box::new(alloc, words)?)
 }
 
 /// The refusal of an item that is no end, at its span.
@@ -212,7 +222,7 @@ impl<'source> Tokens<'source> {
         ensures { let detail = Some (repeated_name name.now) in
             result.kind ≢ kind.OutOfMemory → Says result kind.DuplicateFlag (span_at self.now.place) detail }
     {
-        match format!(in alloc; "\"{name}\"") {
+        match repeated_words(alloc, name) {
             Ok(words) => Refusal::with_words(ParserErrorKind::DuplicateFlag, self.span(), words),
             Err(_) => self.out_of_memory(),
         }
@@ -742,11 +752,10 @@ impl<'source> Tokens<'source> {
                 return Err(self.unexpected(next));
             }
             let name = label_name(self.slice());
-            if flags.contains_key(name) {
-                return Err(self.repeated(alloc, name));
-            }
-            if flags.insert(name, self.span()).is_err() {
-                return Err(self.out_of_memory());
+            match flags.insert(name, self.span()) {
+                Ok(None) => {}
+                Ok(Some(_)) => return Err(self.repeated(alloc, name)),
+                Err(_) => return Err(self.out_of_memory()),
             }
         }
     }

@@ -9,4 +9,4 @@ use Rattle.wave_tree.specs.declared.refusal.Beside.TheVariants as beside
 abbrev pub told : Beside → Option (List ℕ)
 told beside.Nothing = None
 told (beside.Class c) = Some (class_name c)
-told (beside.Words s) = Some (string_bytes s)
+told (beside.Words s) = Some (string_bytes s.value)

@@ -8,6 +8,7 @@ use Rattle.wave_grammar.specs.PrefixAutomaton.{Due, Form, due_behind, reads, beh
 use Rattle.wave_grammar.specs.PrefixAutomaton as due
 use Rattle.wave_tree.proofs.ParserSteps.{here, handed, fails, any_token, read_there, unexpected_there, then_class, then_same, Reached, repeated_there, gives_read, flags_other, no_flag, IsFlagDue, flag_same, flag_not_deep, flag_within, token_less}
 use Rattle.std.specs.Prelude.{if◌then◌else◌}
+use Rattle.std.specs.Option.{is_some}
 use Rattle.wave_wasm.specs.Names.{is_one_of}
 use Rattle.wave_lex.specs.Errors.{Says}
 use Rattle.wave_lex.specs.Errors.{repeated_name}
@@ -87,13 +88,13 @@ returns-then-ne-2-clause-led g c = λ n s.
     (no_flag (map flag_name (flag_at c.args.self.now.place ∷ c.flags.invariant.0.more)) c.in_ok-next.next s (text_at c.advance-in-flags.new.self.place) (is_other _ _ c.eq-in-flags.ensures c.if-eq-2.false) (differs _ _ c.ne-in-flags.ensures c.if-ne-2.true))
     c.unexpected-then-ne-2.ensures
 
-pub returns-then-contains_key-clause-led : goal.returns-then-contains_key-clause-led
-returns-then-contains_key-clause-led g c = λ n s.
+pub returns-in-Ok-Some-clause-led : goal.returns-in-Ok-Some-clause-led
+returns-in-Ok-Some-clause-led g c = λ n s.
     let (d, i, r) = c.flags.invariant.0.led n s in
     let names = (map flag_name (flag_at c.args.self.now.place ∷ c.flags.invariant.0.more)) in
     let comma = due_flag names d c.in_ok-token.token i r c.in_ok-token.ensures.takes (differs_not _ _ c.ne.ensures c.if-ne.false) in
     let name_is = c.label_name-name.ensures ∙ ap name_of c.slice-in-flags.ensures in
-    let found = subst (λ z. is_one_of names z ≡ true) name_is (sym (c.flags.invariant.0.holds c.label_name-name.result.now) ∙ (sym c.contains_key.ensures ∙ c.if-contains_key.true)) in
+    let found = subst (λ z. is_one_of names z ≡ true) name_is (sym (c.flags.invariant.0.holds c.label_name-name.result.now) ∙ ap is_some (sym c.in-Ok-Some.ensures.old ∙ c.in-Ok-Some.field-0-is)) in
     repeated_there (inl tt) c.repeated.result LabelOrKeyword comma (subst (λ z. TakesItem c.advance.new.self.place (Some (Ok z)) c.advance-in-flags.new.self.place) (differs_not c.in_ok-next.next LabelOrKeyword c.ne-in-flags.ensures c.if-ne-2.false) c.in_ok-next.ensures.takes)
     (ap (λ b. if b then due.repeated_flag else reads (due.behind_flag (names ++ name_of (text_at c.advance-in-flags.new.self.place) ∷ [])) s) found)
     (subst (λ z. c.repeated.result.kind ≢ kind.OutOfMemory → Says c.repeated.result kind.DuplicateFlag (span_at c.advance-in-flags.new.self.place) (Some (repeated_name z))) name_is c.repeated.ensures)
@@ -108,13 +109,12 @@ pub flags-preserved : goal.flags-preserved
 flags-preserved g c =
     let names = map flag_name (flag_at c.args.self.now.place ∷ c.flags.invariant.0.more) in
     let name_is = c.label_name-name.ensures ∙ ap name_of c.slice-in-flags.ensures in
-    let done = c.if-is_err-2.ensures.negation in
-    let more = holds_more c.flags.flags c.insert-in-flags.new.self names _ _ c.flags.invariant.0.holds (on_ok c.insert-in-flags.result c.insert-in-flags.ensures.updates done) in
-    let new_name = subst (λ z. is_one_of names z ≡ false) name_is (sym (c.flags.invariant.0.holds c.label_name-name.result.now) ∙ (sym c.contains_key.ensures ∙ c.if-contains_key.false)) in
+    let more = holds_more c.flags.flags c.insert-in-flags.new.self names _ _ c.flags.invariant.0.holds c.in-Ok-None.ensures.updates in
+    let new_name = subst (λ z. is_one_of names z ≡ false) name_is (sym (c.flags.invariant.0.holds c.label_name-name.result.now) ∙ ap is_some (sym c.in-Ok-None.ensures.old ∙ c.in-Ok-None.field-0-is)) in
     let comma_there = class_as _ _ _ Comma c.in_ok-token.ensures.takes (differs_not _ _ c.ne.ensures c.if-ne.false) in
     let label_there = class_as _ _ _ LabelOrKeyword c.in_ok-next.ensures.takes (differs_not _ _ c.ne-in-flags.ensures c.if-ne-2.false) in (
       grown c.flags.flags c.insert-in-flags.new.self c.args.self.now.place c.flags.self.place c.advance.new.self.place c.advance-in-flags.new.self.place c.label_name-name.result _ c.flags.invariant.0 comma_there label_there
-          (on_ok c.insert-in-flags.result c.insert-in-flags.ensures.entries done) name_is c.span-in-flags.ensures new_name
+          c.in-Ok-None.ensures.entries name_is c.span-in-flags.ensures new_name
           (subst (λ z. Holds c.insert-in-flags.new.self (names ++ z ∷ [])) name_is more)
           (λ n s.
           let (d, i, r) = c.flags.invariant.0.led n s in
@@ -156,10 +156,10 @@ pub returns-then-ne-2-clause-asks : goal.returns-then-ne-2-clause-asks
 returns-then-ne-2-clause-asks g c =
     asks_flags c.flags.flags c.args.self.now c.flags.self c.advance-in-flags.new.self c.flags.invariant.0 c.flags.invariant.1 (asks_token c.flags.self c.advance.new.self c.advance-in-flags.new.self c.in_ok-token.token c.in_ok-token.ensures.takes c.advance.ensures.asks (asks_once c.advance.new.self c.advance-in-flags.new.self c.advance-in-flags.ensures.asks))
 
-pub returns-then-contains_key-clause-asks : goal.returns-then-contains_key-clause-asks
-returns-then-contains_key-clause-asks g c =
+pub returns-in-Ok-Some-clause-asks : goal.returns-in-Ok-Some-clause-asks
+returns-in-Ok-Some-clause-asks g c =
     asks_flags c.flags.flags c.args.self.now c.flags.self c.advance-in-flags.new.self c.flags.invariant.0 c.flags.invariant.1 (asks_token c.flags.self c.advance.new.self c.advance-in-flags.new.self c.in_ok-token.token c.in_ok-token.ensures.takes c.advance.ensures.asks (asks_once c.advance.new.self c.advance-in-flags.new.self c.advance-in-flags.ensures.asks))
 
-pub returns-then-is_err-2-clause-asks : goal.returns-then-is_err-2-clause-asks
-returns-then-is_err-2-clause-asks g c =
+pub returns-in-Err-clause-asks : goal.returns-in-Err-clause-asks
+returns-in-Err-clause-asks g c =
     asks_flags c.flags.flags c.args.self.now c.flags.self c.advance-in-flags.new.self c.flags.invariant.0 c.flags.invariant.1 (asks_token c.flags.self c.advance.new.self c.advance-in-flags.new.self c.in_ok-token.token c.in_ok-token.ensures.takes c.advance.ensures.asks (asks_once c.advance.new.self c.advance-in-flags.new.self c.advance-in-flags.ensures.asks))
