@@ -89,6 +89,7 @@ fn copied<'a>(
 }
 
 /// One part more.
+#[inline(always)]
 fn push_part(text: &mut String, part: StringPart<'_>, place: &Span) -> Result<(), ParserError>
     ensures pushed { OnOk result (string_bytes text.new ≡ string_bytes text.old ++ part_text part.entry) }
     ensures refused { IfErr result (WantsMemory place.now) }

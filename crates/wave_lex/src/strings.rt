@@ -60,6 +60,7 @@ impl<'a> Iterator for StringParts<'a> {
 
     /// The next run or escape. An escape that is none is refused at its backslash, and nothing
     /// comes behind it.
+    #[inline(always)]
     fn next(&mut self) -> Option<Result<StringPart<'a>, ParserError>> {
         if self.src.is_empty() {
             return None;
@@ -228,6 +229,7 @@ impl<'a> Iterator for StringPartsIter<'a> {
     ghost next_gives = { λ old r new. LinePartIs (left_of old) r (left_of new) };
 
     /// The next part; after a refusal nothing comes.
+    #[inline(always)]
     fn next(&mut self) -> Option<Result<StringPart<'a>, ParserError>> {
         match self {
             StringPartsIter::Normal(parts) => parts.next(),
