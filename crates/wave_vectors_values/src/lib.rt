@@ -1,7 +1,9 @@
 //! Worked rows of types and of values: the texts of types, also of those of functions, what the makers
-//! of values make, and writers that fail.
+//! of values make, Rust values as values, and writers that fail.
 #![tactic(auto)]
 
+#[cfg(test)]
+mod conversions;
 #[cfg(test)]
 mod functions;
 #[cfg(test)]
