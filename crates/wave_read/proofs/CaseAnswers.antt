@@ -1,9 +1,8 @@
 -- What is read of a case and its payload.
-use Rattle.std.proofs.Common.{ℕ, ◌≡◌, inl, inr, true, false, List, [], ◌∷◌, ◌++◌, length, Option, Some, None, Bor, Result, Err, IfOk, IfErr, refl, sym, ap, ◌∙◌, subst, arith}
+use Rattle.std.proofs.Common.{ℕ, ◌≡◌, inl, inr, List, [], ◌∷◌, ◌++◌, length, Option, Some, None, option_map, Bor, Result, Err, IfOk, IfErr, refl, sym, ap, ◌∙◌, subst, arith}
 use Rattle.std.specs.declared.alloc.Global.{Global}
 use Rattle.std.specs.declared.boxed.Box.{Box}
 use Rattle.std.specs.declared.ops.Range.{Range}
-use Rattle.std.specs.Option.{is_some}
 use Rattle.wave_wasm.specs.Types as type
 use Rattle.wave_wasm.specs.Types.{TypeTree, HasDistinctNames, kind_of, variant_parts}
 use Rattle.wave_wasm.specs.Values.{Value}
@@ -24,13 +23,12 @@ use Rattle.wave_forms.specs.declared.form.NodeType.TheVariants as kind
 use Rattle.wave_forms.proofs.ByKind.Variants.{HasCase, case_found, case_missing, case_distinct, case_blame, no_case_blame, variant_made}
 use Rattle.wave_forms.proofs.ErrorSpans.Nodes.{at_in, caused_at, made_in, deeper}
 use Rattle.wave_plan.specs.Reading.{IsReadAs, IsReadWhereDue}
-use Rattle.wave_read.specs.CaseParts.{due_of, IsLabelOf, AreRead, AreReadOrDoomed, AreCaseParts}
-use Rattle.wave_read.specs.Faults.{Tells, IsDoomed}
-use Rattle.wave_read.specs.declared.fault.Fault.{Fault}
+use Rattle.wave_read.specs.CaseParts.{payload_due, IsLabelOf, AreRead, AreCaseParts}
+use Rattle.wave_read.specs.Faults.{IsDoomed}
 use Rattle.wave_read.specs.declared.fault.Fault.TheVariants as fault
 use Rattle.wave_read.specs.declared.variants.CasePayload.{CasePayload}
 use Rattle.wave_read.proofs.CaseNodes.{variant_type, case_node, no_label_alone, no_case_of_none, payload_belongs, unexpected_blame, payload_blame, payload_read}
-use Rattle.wave_read.proofs.Doomed.{still_doomed, told}
+use Rattle.wave_read.proofs.Doomed.{told_dooms}
 
 first_same : (n u : NodeTree) (more : List NodeTree) → n ∷ more ≡ u ∷ [] → u ≡ n
 first_same n u more e = cc
@@ -74,35 +72,17 @@ module _ {S V : Type 0} (type_tree : S → TypeTree) (tree : V → Value) (of : 
         within = λ v. at_in source n e (inl v) (caused_at (unexpected_payload name) n e (inr (tells.0 ∙ ap refused_by caused, tells.1)) tells.1);
       }
 
-  -- a fault of the label
-  pub key_doomed : (T : TypeTree) (source : List ℕ) (children : List NodeTree) (c : NodeTree) (x y : CasePayload S V) (f : Fault) → children ≡ [] → y.ty ≡ x.ty → y.fault ≡ Some f → IsDoomed tree of Full T source kind.VariantWithPayload (c ∷ []) f → AreCaseParts type_tree tree of Full T source children x → AreCaseParts type_tree tree of Full T source (children ++ c ∷ []) y
-  key_doomed T source children c x y f none same is doomed h =
-      record {
-        ty = h.ty ∙ ap (λ (b : Bor S). type_tree b.now) (sym same);
-        kind = h.kind;
-        read = subst (λ (o : Option Fault). AreReadOrDoomed type_tree tree of Full T source (children ++ c ∷ []) o y.case y.payload) (sym is) (subst (λ (ns : List NodeTree). IsDoomed tree of Full T source kind.VariantWithPayload (ns ++ c ∷ []) f) (sym none) doomed);
-      }
-
   -- ---- the payload
-
-  -- a fault that was found stays
-  still : (T : TypeTree) (source : List ℕ) (children : List NodeTree) (n : NodeTree) (o : Option Fault) (case : Option (Bor (List ℕ) × Bor S)) (payload : Option V) → true ≡ is_some o → AreReadOrDoomed type_tree tree of Full T source children o case payload → AreReadOrDoomed type_tree tree of Full T source (children ++ n ∷ []) o case payload
-  still T source children n None case payload found h = absurd (cc)
-  still T source children n (Some f) case payload found h = still_doomed tree of Full T source kind.VariantWithPayload children n f h
-
-  pub still_read : (T : TypeTree) (source : List ℕ) (children : List NodeTree) (n : NodeTree) (x : CasePayload S V) → true ≡ is_some x.fault → AreCaseParts type_tree tree of Full T source children x → AreCaseParts type_tree tree of Full T source (children ++ n ∷ []) x
-  still_read T source children n x found h =
-      record { ty = h.ty; kind = h.kind; read = still T source children n x.fault x.case x.payload found h.read }
 
   -- the refusal of the payload of this case
   told_of_payload : (T : TypeTree) (source : List ℕ) (c n : NodeTree) (case : Bor (List ℕ) × Bor S) (error : Diagnostic) → HasFullParts Full → kind_of T ≡ kinds.Variant → IsLabelOf type_tree tree of Full T source c case → IsReadAs tree of Full (type_tree case.1.now) source n (Err error) → IsDoomed tree of Full T source kind.VariantWithPayload (c ∷ n ∷ []) (fault.Told error)
-  told_of_payload T source c n case error parts is label read = λ more p e tells.
+  told_of_payload T source c n case error parts is label read = told_dooms tree of Full T source kind.VariantWithPayload (c ∷ n ∷ []) error (λ more p.
       let variant = variant_type T is in
       let name = case.0.now in
       let U = type_tree case.1.now in
       let whole = node kind.VariantWithPayload p (node_trees (c ∷ n ∷ more)) in
       let found : HasCase variant.cases name (type.a_type U) = case_found T (variant_parts T) variant name (Some U) (sym label.1) in
-      subst (λ (d : Diagnostic). IsReadAs tree of Full T source whole (Err d)) (sym tells) (record {
+      record {
         answer = λ t node distinct.
             let k = case_node source p c (n ∷ more) t name node label.0 in
             let inner = subst (λ (u : NodeTree). IsPayloadNodeOf source (Some u) k.2.payload) (first_same n k.0 more k.1) k.2.node in
@@ -111,29 +91,18 @@ module _ {S V : Type 0} (type_tree : S → TypeTree) (tree : V → Value) (of : 
         within = λ v. deeper whole n error (payload_belongs source p c n more v) (read.within (payload_value source p c n more v));
       })
 
-  refused : (T : TypeTree) (source : List ℕ) (children : List NodeTree) (n : NodeTree) (o : Option Fault) (case : Option (Bor (List ℕ) × Bor S)) (payload : Option V) (error : Diagnostic) → HasFullParts Full → kind_of T ≡ kinds.Variant → length children ≡ 1 → false ≡ is_some o → AreReadOrDoomed type_tree tree of Full T source children o case payload → IsReadWhereDue tree of Full (shown type_tree (due_of o case)) source n (Err error) → IsDoomed tree of Full T source kind.VariantWithPayload (children ++ n ∷ []) (fault.Told error)
-  refused T source children n (Some f) case payload error parts is count none h read = absurd (cc)
-  refused T source [] n None case payload error parts is count none h read = absurd (omega (arith, count))
-  refused T source (c ∷ []) n None None payload error parts is count none h read = absurd h
-  refused T source (c ∷ []) n None (Some case) payload error parts is count none h read = told_of_payload T source c n case error parts is h read
-  refused T source (c ∷ d ∷ more) n None case payload error parts is count none h read = absurd (omega (arith, count))
+  refused : (T : TypeTree) (source : List ℕ) (children : List NodeTree) (n : NodeTree) (case : Option (Bor (List ℕ) × Bor S)) (payload : Option V) (error : Diagnostic) → HasFullParts Full → kind_of T ≡ kinds.Variant → length children ≡ 1 → AreRead type_tree tree of Full T source children case payload → IsReadWhereDue tree of Full (shown type_tree (option_map (λ c. c.1) case)) source n (Err error) → IsDoomed tree of Full T source kind.VariantWithPayload (children ++ n ∷ []) (fault.Told error)
+  refused T source [] n case payload error parts is count h read = absurd (omega (arith, count))
+  refused T source (c ∷ []) n None payload error parts is count h read = absurd h
+  refused T source (c ∷ []) n (Some case) payload error parts is count h read = told_of_payload T source c n case error parts is h read
+  refused T source (c ∷ d ∷ more) n case payload error parts is count h read = absurd (omega (arith, count))
 
   -- the payload was refused
-  pub part_refused : (T : TypeTree) (source : List ℕ) (children : List NodeTree) (n : NodeTree) (x y : CasePayload S V) (made : Result V Diagnostic) (error : Diagnostic) → HasFullParts Full → length children ≡ 1 → false ≡ is_some x.fault → made ≡ Err error → y.ty ≡ x.ty → y.fault ≡ Some (fault.Told error) → AreCaseParts type_tree tree of Full T source children x → IsReadWhereDue tree of Full (shown type_tree (due_of x.fault x.case)) source n made → AreCaseParts type_tree tree of Full T source (children ++ n ∷ []) y
-  part_refused T source children n x y made error parts count none failed same is h read =
-      let doomed = refused T source children n x.fault x.case x.payload error parts h.kind count none h.read (subst (IsReadWhereDue tree of Full (shown type_tree (due_of x.fault x.case)) source n) failed read) in
-      record {
-        ty = h.ty ∙ ap (λ (b : Bor S). type_tree b.now) (sym same);
-        kind = h.kind;
-        read = subst (λ (o : Option Fault). AreReadOrDoomed type_tree tree of Full T source (children ++ n ∷ []) o y.case y.payload) (sym is) doomed;
-      }
+  pub part_refused : (T : TypeTree) (source : List ℕ) (children : List NodeTree) (n : NodeTree) (x : CasePayload S V) (made : Result V Diagnostic) (error : Diagnostic) → HasFullParts Full → length children ≡ 1 → made ≡ Err error → AreCaseParts type_tree tree of Full T source children x → IsReadWhereDue tree of Full (shown type_tree (payload_due x)) source n made → IsDoomed tree of Full T source kind.VariantWithPayload (children ++ n ∷ []) (fault.Told error)
+  part_refused T source children n x made error parts count failed h read =
+      refused T source children n x.case x.payload error parts h.kind count h.read (subst (IsReadWhereDue tree of Full (shown type_tree (payload_due x)) source n) failed read)
 
   -- ---- the whole
-
-  -- the fault that was found is told
-  pub whole_refused : (T : TypeTree) (source : List ℕ) (children : List NodeTree) (x : CasePayload S V) (f : Fault) (p : Range ℕ) (e : Diagnostic) → x.fault ≡ Some f → AreCaseParts type_tree tree of Full T source children x → Tells f p e → IsReadAs tree of Full T source (node kind.VariantWithPayload p (node_trees children)) (Err e)
-  whole_refused T source children x f p e is h tells =
-      told tree of Full T source kind.VariantWithPayload children f p e (subst (λ (o : Option Fault). AreReadOrDoomed type_tree tree of Full T source children o x.case x.payload) is h.read) tells
 
   -- the case and the payload that were read
   read_whole : (T : TypeTree) (source : List ℕ) (children : List NodeTree) (p : Range ℕ) (case : Bor (List ℕ) × Bor S) (v : V) (m : Result V WasmValueError) (r : Result V Diagnostic) → kind_of T ≡ kinds.Variant → AreRead type_tree tree of Full T source children (Some case) (Some v) → IfOk m (MakesVariant tree of T case.0.now (Some v)) → IfErr m (FullVariant of Full T case.0.now (Some v)) → IsMade (node kind.VariantWithPayload p (node_trees children)) m r → IsReadAs tree of Full T source (node kind.VariantWithPayload p (node_trees children)) r
@@ -158,9 +127,8 @@ module _ {S V : Type 0} (type_tree : S → TypeTree) (tree : V → Value) (of : 
   read_whole T source (c ∷ n ∷ d ∷ more) p case v m r is read ok full done = absurd read
 
   -- the variant was made, or its maker refused
-  pub whole_made : (T : TypeTree) (source : List ℕ) (children : List NodeTree) (x : CasePayload S V) (p : Range ℕ) (case : Bor (List ℕ) × Bor S) (v : V) (m : Result V WasmValueError) (r : Result V Diagnostic) → x.fault ≡ None → x.case ≡ Some case → x.payload ≡ Some v → AreCaseParts type_tree tree of Full T source children x → IfOk m (MakesVariant tree of (type_tree x.ty.now) case.0.now (Some v)) → IfErr m (FullVariant of Full (type_tree x.ty.now) case.0.now (Some v)) → IsMade (node kind.VariantWithPayload p (node_trees children)) m r → IsReadAs tree of Full T source (node kind.VariantWithPayload p (node_trees children)) r
-  whole_made T source children x p case v m r none named valued h ok full done =
-      let sound = subst (λ (o : Option Fault). AreReadOrDoomed type_tree tree of Full T source children o x.case x.payload) none h.read in
-      let cased = subst (λ (o : Option (Bor (List ℕ) × Bor S)). AreRead type_tree tree of Full T source children o x.payload) named sound in
+  pub whole_made : (T : TypeTree) (source : List ℕ) (children : List NodeTree) (x : CasePayload S V) (p : Range ℕ) (case : Bor (List ℕ) × Bor S) (v : V) (m : Result V WasmValueError) (r : Result V Diagnostic) → x.case ≡ Some case → x.payload ≡ Some v → AreCaseParts type_tree tree of Full T source children x → IfOk m (MakesVariant tree of (type_tree x.ty.now) case.0.now (Some v)) → IfErr m (FullVariant of Full (type_tree x.ty.now) case.0.now (Some v)) → IsMade (node kind.VariantWithPayload p (node_trees children)) m r → IsReadAs tree of Full T source (node kind.VariantWithPayload p (node_trees children)) r
+  whole_made T source children x p case v m r named valued h ok full done =
+      let cased = subst (λ (o : Option (Bor (List ℕ) × Bor S)). AreRead type_tree tree of Full T source children o x.payload) named h.read in
       read_whole T source children p case v m r h.kind (subst (AreRead type_tree tree of Full T source children (Some case)) valued cased)
       (subst (λ (U : TypeTree). IfOk m (MakesVariant tree of U case.0.now (Some v))) (sym h.ty) ok) (subst (λ (U : TypeTree). IfErr m (FullVariant of Full U case.0.now (Some v))) (sym h.ty) full) done

@@ -1,4 +1,4 @@
--- A fault that was found stays.
+-- What a fault says of a value, whatever follows.
 use Rattle.std.proofs.Common.{ℕ, List, [], ◌∷◌, ◌++◌, Err, sym, subst}
 use Rattle.std.proofs.lemmas.List.{append_assoc, append-nil}
 use Rattle.std.specs.declared.ops.Range.{Range}
@@ -9,9 +9,15 @@ use Rattle.wave_forms.specs.NodeTree.{NodeTree, node, node_trees}
 use Rattle.wave_forms.specs.declared.form.NodeType.{NodeType}
 use Rattle.wave_plan.specs.Reading.{IsReadAs}
 use Rattle.wave_read.specs.declared.fault.Fault.{Fault}
+use Rattle.wave_read.specs.declared.fault.Fault.TheVariants as fault
 use Rattle.wave_read.specs.Faults.{Tells, IsDoomed}
 
 module _ {V : Type 0} (tree : V → Value) (of : V → TypeTree → Type 0) (Full : TypeTree → Type 0) where
+  -- the refusal of a part is told of the whole
+  pub told_dooms : (T : TypeTree) (source : List ℕ) (ty : NodeType) (children : List NodeTree) (e : Diagnostic) → ((more : List NodeTree) (p : Range ℕ) → IsReadAs tree of Full T source (node ty p (node_trees (children ++ more))) (Err e)) → IsDoomed tree of Full T source ty children (fault.Told e)
+  told_dooms T source ty children e refused more p f same =
+      subst (λ (g : Diagnostic). IsReadAs tree of Full T source (node ty p (node_trees (children ++ more))) (Err g)) (sym same) (refused more p)
+
   -- behind one child more
   pub still_doomed : (T : TypeTree) (source : List ℕ) (ty : NodeType) (children : List NodeTree) (n : NodeTree) (f : Fault) → IsDoomed tree of Full T source ty children f → IsDoomed tree of Full T source ty (children ++ n ∷ []) f
   still_doomed T source ty children n f doomed more p e tells =

@@ -1,5 +1,5 @@
 -- Maps, whose keys and values are read in turn.
-use Rattle.std.proofs.Common.{ℕ, zero, suc, ◌≡◌, ◌≢◌, inl, inr, ◌+◌, List, [], ◌∷◌, ◌++◌, length, Option, Some, None, option_map, Result, Ok, Err, IfOk, IfErr, refl, sym, ap, ◌∙◌, subst, append_assoc, arith}
+use Rattle.std.proofs.Common.{ℕ, zero, suc, ◌≡◌, ◌≢◌, inl, inr, ◌+◌, List, [], ◌∷◌, ◌++◌, length, Option, Some, None, Result, Ok, Err, IfOk, IfErr, refl, sym, ap, ◌∙◌, subst, append_assoc, arith}
 use Rattle.std.specs.declared.ops.Range.{Range}
 use Rattle.std.proofs.lemmas.List.{append-nil}
 use Rattle.wave_wasm.specs.Lists.{AllOf}
@@ -13,11 +13,10 @@ use Rattle.wave_wasm.specs.ConstructorContracts.{MakesMap, FullMap, HasFullParts
 use Rattle.wave_wasm.specs.declared.wasm.WasmValueError.{WasmValueError}
 use Rattle.wave_lex.specs.Errors.{Diagnostic, refusal_of}
 use Rattle.wave_lex.specs.declared.error.ParserErrorKind.TheVariants as why
-use Rattle.wave_grammar.specs.Token.{Token}
-use Rattle.wave_grammar.specs.SpannedTree.{Placed, Shape, PlacedEntries, entry, entries, PlacedEntry, entry_list, slice, shape_of}
+use Rattle.wave_grammar.specs.SpannedTree.{Placed, PlacedEntries, PlacedEntry, entry_list, slice, shape_of}
 use Rattle.wave_grammar.specs.TypeErrors.{Fault}
 use Rattle.wave_forms.specs.NodeTree.{NodeTree, node, no_nodes, node_trees, type_of}
-use Rattle.wave_forms.specs.Nodes.{pairs_of, key_of, shape_from, IsNodeOf, IsTokenOf}
+use Rattle.wave_forms.specs.Nodes.{IsNodeOf, IsTokenOf}
 use Rattle.wave_forms.specs.NodeAccessors.{RefusedAs, node_pairs}
 use Rattle.wave_forms.specs.TypedReading.{IsMade, IsValueOf, IsKeyOf, AnswersKey}
 use Rattle.wave_forms.specs.Private.ErrorSpans.{RefusesIn}
@@ -25,7 +24,7 @@ use Rattle.wave_forms.specs.declared.form.NodeType.TheVariants as kind
 use Rattle.wave_forms.proofs.ChildNodes.Inside.{inside, AreParsed, parsed, nodes_in}
 use Rattle.wave_forms.proofs.ChildNodes.Trees.{list_of_trees}
 use Rattle.wave_forms.proofs.ChildNodes.Cases.{shape_at}
-use Rattle.wave_forms.proofs.ChildNodes.Entries.{AreEntriesOf, IsOfMap, map_nodes, both_some}
+use Rattle.wave_forms.proofs.ChildNodes.Entries.{AreEntriesOf, IsOfMap, map_nodes}
 use Rattle.wave_forms.proofs.ByKind.Maps.{IsMapOf, map_distinct, NextEntry, map_fault, key_blame, value_blame, EntriesRead, map_made, same_texts}
 use Rattle.wave_forms.proofs.ErrorSpans.Nodes.{BelongsTo, children_belong, deeper, at_in, form_at, made_in}
 use Rattle.wave_plan.specs.Reading.{IsReadAs}

@@ -1,12 +1,14 @@
--- Parts that stay what they are behind one more.
-use Rattle.std.proofs.Common.{ℕ, ◌≡◌, ◌++◌, Bool, true, false, List, [], ◌∷◌, Result, Ok, Err, IfOk, refl, subst}
+-- Parts behind one more.
+use Rattle.std.proofs.Common.{ℕ, ◌≡◌, ◌++◌, Bool, true, false, List, [], ◌∷◌, Option, Some, None, MatchOption, Result, Ok, Err, IfOk, refl, subst}
 use Rattle.wave_wasm.specs.Types.{TypeTree}
 use Rattle.wave_wasm.specs.Values.{Value}
 use Rattle.wave_forms.specs.NodeTree.{NodeTree}
 use Rattle.wave_forms.specs.declared.form.NodeType.{NodeType}
 use Rattle.wave_plan.specs.NodeParts.{TakesKey, TakesPart}
 use Rattle.wave_read.specs.Payloads.{result_node}
+use Rattle.wave_read.specs.Faults.{IsDoomed}
 use Rattle.wave_read.specs.PartsOfKinds.{AreParts}
+use Rattle.wave_read.specs.declared.fault.Fault.{Fault}
 use Rattle.wave_read.specs.declared.lists.Items.{Items}
 use Rattle.wave_read.specs.declared.maps.Entries.{Entries}
 use Rattle.wave_read.specs.declared.options.SomePayload.{SomePayload}
@@ -27,6 +29,16 @@ where_ok P Q (Err e) follows h = tt
 no_result_key : (b : Bool) (children : List NodeTree) → TakesKey (result_node b) children → ⊥
 no_result_key true children h = h
 no_result_key false children h = h
+
+-- parts of a node of this type; or the fault that was found
+pub found_at : {V : Type 0} (tree : V → Value) (of : V → TypeTree → Type 0) (Full : TypeTree → Type 0) (T : TypeTree) (source : List ℕ) (ty at : NodeType) (children : List NodeTree) (A : Type 0) (found : Option Fault) → ty ≡ at → MatchOption found A (IsDoomed tree of Full T source at children) → MatchOption found ((ty ≡ at) × A) (IsDoomed tree of Full T source ty children)
+found_at tree of Full T source ty at children A None is h = (is, h)
+found_at tree of Full T source ty at children A (Some f) is h = rw is h
+
+-- a fault that was found stands in the place of the parts
+pub fault_placed : {S V : Type 0} (type_tree : S → TypeTree) (tree : V → Value) (of : V → TypeTree → Type 0) (Full : TypeTree → Type 0) (T : TypeTree) (source : List ℕ) (ty : NodeType) (children : List NodeTree) (x y : Parts S V) (found : Option Fault) → MatchOption found (y ≡ x) (λ f. y ≡ parts.Faulty f) → MatchOption found (AreParts type_tree tree of Full T source ty children x) (IsDoomed tree of Full T source ty children) → AreParts type_tree tree of Full T source ty children y
+fault_placed type_tree tree of Full T source ty children x y None is h = rw is h
+fault_placed type_tree tree of Full T source ty children x y (Some f) is h = rw is h
 
 module _ {S V : Type 0} (type_tree : S → TypeTree) (tree : V → Value) (of : V → TypeTree → Type 0) (Full : TypeTree → Type 0) (T : TypeTree) (source : List ℕ) (ty : NodeType) (children : List NodeTree) (n : NodeTree) where
   -- behind a key, but for those that take one

@@ -1,5 +1,5 @@
 -- What is known of the fields of a record behind one part more.
-use Rattle.std.proofs.Common.{ℕ, ◌≡◌, inl, inr, true, false, List, [], ◌∷◌, ◌++◌, map, set, Option, Some, None, is_some, Result, Ok, Err, IfSome, IfNone, Vec, Global, Bor, refl, sym, ap, ◌∙◌, subst}
+use Rattle.std.proofs.Common.{ℕ, ◌≡◌, inl, inr, List, [], ◌∷◌, ◌++◌, map, set, Option, Some, None, option_map, Result, Ok, Err, Vec, Global, Bor, refl, sym, ap, ◌∙◌, subst}
 use Rattle.std.specs.Prelude.{slice_get}
 use Rattle.wave_wasm.specs.Lists.{AllOf}
 use Rattle.wave_wasm.specs.Names.{IsOneOf, IsNoneOf, AreDistinct}
@@ -13,7 +13,7 @@ use Rattle.wave_lex.specs.declared.error.ParserErrorKind.TheVariants as why
 use Rattle.wave_grammar.specs.LeafTokens.{name_of}
 use Rattle.wave_grammar.specs.TypedGrammar.{look_up, names_of}
 use Rattle.wave_grammar.proofs.FieldNames.{is_found}
-use Rattle.wave_forms.specs.NodeTree.{NodeTree, node, node_trees, type_of, place_of}
+use Rattle.wave_forms.specs.NodeTree.{NodeTree, type_of, place_of}
 use Rattle.wave_forms.specs.NodeAccessors.{node_text, node_pairs}
 use Rattle.wave_forms.specs.NodeFields.{IsLabelled, field_of}
 use Rattle.wave_forms.specs.Private.NodeFields.{fields_at}
@@ -25,12 +25,12 @@ use Rattle.wave_forms.proofs.ErrorSpans.Nodes.{said_here}
 use Rattle.wave_plan.specs.NodeParts.{TakesKey, TakesPart}
 use Rattle.wave_plan.specs.Reading.{IsReadAs, IsReadWhereDue}
 use Rattle.wave_read.specs.Faults.{IsDoomed}
-use Rattle.wave_read.specs.RecordParts.{AreFields, AreBegun, AreKept, IsKeptAs, IsFieldKey, IsUnread, IsReadBefore, IsKeyFault, IsKeyDue, last_key, due_behind, type_due, field_name, with_value, part_of}
+use Rattle.wave_read.specs.RecordParts.{AreFields, AreBegun, AreKept, IsKeptAs, IsFieldKey, IsUnread, IsReadBefore, IsKeyFault, IsKeyDue, last_key, type_due, field_name, with_value, part_of}
 use Rattle.wave_read.specs.declared.fault.Fault.{Fault}
 use Rattle.wave_read.specs.declared.fault.Fault.TheVariants as fault
 use Rattle.wave_read.specs.declared.records.Field.{Field}
 use Rattle.wave_read.specs.declared.records.Fields.{Fields}
-use Rattle.wave_read.proofs.Doomed.{still_doomed}
+use Rattle.wave_read.proofs.Doomed.{told_dooms}
 use Rattle.wave_read.proofs.KeyedChildren.{pairs_with_key, key_waits, pairs_with_value, none_waits, odd_waits}
 use Rattle.wave_read.proofs.RecordFaults.{key_dooms, unknown_dooms, value_dooms}
 use Rattle.wave_read.proofs.RecordFields.{has_got, has_mapped, holds_at, one_of_fields, part_names, same_parts, same_names, kept_more}
@@ -45,63 +45,24 @@ module _ {V : Type 0} (tree : V → Value) (of : V → TypeTree → Type 0) (Ful
     apart_names : HasDistinctNames T → AreDistinct (map field_name x.fields.items)
     apart_names distinct = subst AreDistinct (part_names type_tree x.fields.items) (fields_distinct T (map (part_of type_tree) x.fields.items) is_record distinct).names
 
-    -- a fault stays
-    pub still_faulty : (n : NodeTree) → is_some x.fault ≡ true → AreFields tree of Full type_tree T source (children ++ n ∷ []) x
-    still_faulty n some = record {
-      type_is = h.type_is;
-      of_kind = h.of_kind;
-      parts = h.parts;
-      begun = nothing x.fault _ some;
-      doomed = doomed_more x.fault h.doomed;
-    }
-      where
-        nothing : (o : Option Fault) (P : Type 0) → is_some o ≡ true → IfNone o P
-        nothing None P e = absurd (cc)
-        nothing (Some f) P e = tt
-
-        doomed_more : (o : Option Fault) → IfSome o (IsDoomed tree of Full T source kind.TupleSet children) → IfSome o (IsDoomed tree of Full T source kind.TupleSet (children ++ n ∷ []))
-        doomed_more None d = tt
-        doomed_more (Some f) d = still_doomed tree of Full T source kind.TupleSet children n f d
-
-    none_is : (o : Option Fault) → is_some o ≡ false → o ≡ None
-    none_is None e = refl
-    none_is (Some f) e = absurd (cc)
-
-    -- what was read, where no fault was found
-    pub begun_of : x.fault ≡ None → AreBegun tree of Full type_tree T source children x
-    begun_of none = subst (λ (o : Option Fault). IfNone o (AreBegun tree of Full type_tree T source children x)) none h.begun
-
-    -- a fault is kept
-    faulty_fields : (n : NodeTree) (f : Fault) (dues : Option (ℕ × Bor S)) (faults : Option Fault) → faults ≡ Some f → IsDoomed tree of Full T source kind.TupleSet (children ++ n ∷ []) f → AreFields tree of Full type_tree T source (children ++ n ∷ []) (record x { due = dues; fault = faults })
-    faulty_fields n f dues faults is doomed = record {
-      type_is = h.type_is;
-      of_kind = h.of_kind;
-      parts = h.parts;
-      begun = subst (λ (o : Option Fault). IfNone o (AreBegun tree of Full type_tree T source (children ++ n ∷ []) (record x { due = dues; fault = faults }))) (sym is) tt;
-      doomed = subst (λ (o : Option Fault). IfSome o (IsDoomed tree of Full T source kind.TupleSet (children ++ n ∷ []))) (sym is) doomed;
-    }
-
     -- ---- keys
 
     -- the key of a field was taken
-    pub key_taken : (k : NodeTree) (due : ℕ × Bor S) → is_some x.fault ≡ false → TakesKey kind.TupleSet children → IsFieldKey x.fields.items (type_of k) (node_text source k) due → AreFields tree of Full type_tree T source (children ++ k ∷ []) (record x { due = Some due })
-    key_taken k due none even key =
-        let no_fault : x.fault ≡ None = none_is x.fault none in
-        let b = begun_of no_fault in
+    pub key_taken : (k : NodeTree) (due : ℕ × Bor S) → TakesKey kind.TupleSet children → IsFieldKey x.fields.items (type_of k) (node_text source k) due → AreFields tree of Full type_tree T source (children ++ k ∷ []) (record x { due = Some due })
+    key_taken k due even key =
+        let b = h.begun in
         let pairs : node_pairs children ≡ node_pairs (children ++ k ∷ []) = sym (pairs_with_key children k even.0 even.1) in
-        let more : AreBegun tree of Full type_tree T source (children ++ k ∷ []) (record x { due = Some due }) = record {
-          labels = subst (AllOf IsLabelled) pairs b.labels;
-          known = subst (λ (ps : List (NodeTree × NodeTree)). AllOf (IsOneOf (map field_name x.fields.items)) (names_of (map (field_of source) ps))) pairs b.known;
-          due = subst (λ (o : Option NodeTree). IsKeyDue source x.fields.items o (Some due)) (sym (key_waits children k even.0 even.1)) key;
-          distinct = λ distinct. subst (λ (ps : List (NodeTree × NodeTree)). AreDistinct (names_of (map (field_of source) ps))) pairs (b.distinct distinct);
-          kept = λ distinct. subst (λ (ps : List (NodeTree × NodeTree)). AreKept tree of Full type_tree source (map (field_of source) ps) x.fields.items) pairs (b.kept distinct);
-        } in
         record {
           type_is = h.type_is;
           of_kind = h.of_kind;
           parts = h.parts;
-          begun = subst (λ (o : Option Fault). IfNone o (AreBegun tree of Full type_tree T source (children ++ k ∷ []) (record x { due = Some due }))) (sym no_fault) more;
-          doomed = subst (λ (o : Option Fault). IfSome o (IsDoomed tree of Full T source kind.TupleSet (children ++ k ∷ []))) (sym no_fault) tt;
+          begun = record {
+            labels = subst (AllOf IsLabelled) pairs b.labels;
+            known = subst (λ (ps : List (NodeTree × NodeTree)). AllOf (IsOneOf (map field_name x.fields.items)) (names_of (map (field_of source) ps))) pairs b.known;
+            due = subst (λ (o : Option NodeTree). IsKeyDue source x.fields.items o (Some due)) (sym (key_waits children k even.0 even.1)) key;
+            distinct = λ distinct. subst (λ (ps : List (NodeTree × NodeTree)). AreDistinct (names_of (map (field_of source) ps))) pairs (b.distinct distinct);
+            kept = λ distinct. subst (λ (ps : List (NodeTree × NodeTree)). AreKept tree of Full type_tree source (map (field_of source) ps) x.fields.items) pairs (b.kept distinct);
+          };
         }
 
     -- a name that was read is one of those of the entries
@@ -111,51 +72,45 @@ module _ {V : Type 0} (tree : V → Value) (of : V → TypeTree → Type 0) (Ful
         subst (IsOneOf (names_of (fields_at source children))) named (is_found (fields_at source children) f.name.now own.0 own.1)
 
     -- a key with a fault dooms the record
-    key_doomed : (k : NodeTree) (f : Fault) → AreBegun tree of Full type_tree T source children x → TakesKey kind.TupleSet children → IsKeyFault x.fields.items (type_of k) (place_of k) (node_text source k) f → IsDoomed tree of Full T source kind.TupleSet (children ++ k ∷ []) f
-    key_doomed k (fault.Told e) b even (inl (apart, says)) = λ more p d same.
-        subst (λ (g : Diagnostic). IsReadAs tree of Full T source (node kind.TupleSet p (node_trees ((children ++ k ∷ []) ++ more))) (Err g)) (sym same)
-        (key_dooms tree of Full T (map (part_of type_tree) x.fields.items) is_record source children more p e k even.0 even.1 b.labels b.distinct (λ distinct. inl (apart, says)) (said_here k e why.InvalidType _ (λ was. cc) tt says))
-    key_doomed k (fault.Kind w) b even (inl (apart, told)) = absurd told
-    key_doomed k (fault.Cause c) b even (inl (apart, told)) = absurd told
-    key_doomed k (fault.Told e) b even (inr (inr (label, before, says))) = λ more p d same.
-        subst (λ (g : Diagnostic). IsReadAs tree of Full T source (node kind.TupleSet p (node_trees ((children ++ k ∷ []) ++ more))) (Err g)) (sym same)
-        (key_dooms tree of Full T (map (part_of type_tree) x.fields.items) is_record source children more p e k even.0 even.1 b.labels b.distinct (λ distinct. inr (label, read_name (name_of (node_text source k)) (b.kept distinct) before, says)) (said_here k e why.DuplicateField _ (λ was. cc) tt says))
-    key_doomed k (fault.Kind w) b even (inr (inr (label, before, told))) = absurd told
-    key_doomed k (fault.Cause c) b even (inr (inr (label, before, told))) = absurd told
-    key_doomed k f b even (inr (inl (label, none, is))) =
+    pub key_doomed : (k : NodeTree) (f : Fault) → TakesKey kind.TupleSet children → IsKeyFault x.fields.items (type_of k) (place_of k) (node_text source k) f → IsDoomed tree of Full T source kind.TupleSet (children ++ k ∷ []) f
+    key_doomed k (fault.Told e) even (inl (apart, says)) =
+        told_dooms tree of Full T source kind.TupleSet (children ++ k ∷ []) e (λ more p. key_dooms tree of Full T (map (part_of type_tree) x.fields.items) is_record source children more p e k even.0 even.1 h.begun.labels h.begun.distinct (λ distinct. inl (apart, says)) (said_here k e why.InvalidType _ (λ was. cc) tt says))
+    key_doomed k (fault.Kind w) even (inl (apart, told)) = absurd told
+    key_doomed k (fault.Cause c) even (inl (apart, told)) = absurd told
+    key_doomed k (fault.Told e) even (inr (inr (label, before, says))) =
+        told_dooms tree of Full T source kind.TupleSet (children ++ k ∷ []) e (λ more p. key_dooms tree of Full T (map (part_of type_tree) x.fields.items) is_record source children more p e k even.0 even.1 h.begun.labels h.begun.distinct (λ distinct. inr (label, read_name (name_of (node_text source k)) (h.begun.kept distinct) before, says)) (said_here k e why.DuplicateField _ (λ was. cc) tt says))
+    key_doomed k (fault.Kind w) even (inr (inr (label, before, told))) = absurd told
+    key_doomed k (fault.Cause c) even (inr (inr (label, before, told))) = absurd told
+    key_doomed k f even (inr (inl (label, none, is))) =
         subst (IsDoomed tree of Full T source kind.TupleSet (children ++ k ∷ [])) (sym is)
         (λ more p e says. unknown_dooms tree of Full T (map (part_of type_tree) x.fields.items) is_record source children more p e k even.0 even.1 label (subst (λ (names : List (List ℕ)). IsNoneOf names (name_of (node_text source k))) (sym (part_names type_tree x.fields.items)) none) says)
-
-    -- so it is kept
-    pub key_faulty : (k : NodeTree) (f : Fault) (faults : Option Fault) → is_some x.fault ≡ false → TakesKey kind.TupleSet children → IsKeyFault x.fields.items (type_of k) (place_of k) (node_text source k) f → faults ≡ Some f → AreFields tree of Full type_tree T source (children ++ k ∷ []) (record x { fault = faults })
-    key_faulty k f faults none even wrong is = faulty_fields k f x.due faults is (key_doomed k f (begun_of (none_is x.fault none)) even wrong)
 
     -- ---- values
 
     -- the key that waits, where a value is due
-    waiting : (due : ℕ × Bor S) → AreBegun tree of Full type_tree T source children x → x.due ≡ Some due → (k : NodeTree) × (last_key children ≡ Some k) × (type_of k ≡ kind.Label) × IsUnread x.fields.items (name_of (node_text source k)) due
-    waiting due b is = by (last_key children) refl (subst (IsKeyDue source x.fields.items (last_key children)) is b.due)
+    waiting : (due : ℕ × Bor S) → x.due ≡ Some due → (k : NodeTree) × (last_key children ≡ Some k) × (type_of k ≡ kind.Label) × IsUnread x.fields.items (name_of (node_text source k)) due
+    waiting due is = by (last_key children) refl (subst (IsKeyDue source x.fields.items (last_key children)) is h.begun.due)
       where
         by : (o : Option NodeTree) → last_key children ≡ o → IsKeyDue source x.fields.items o (Some due) → (k : NodeTree) × (last_key children ≡ Some k) × (type_of k ≡ kind.Label) × IsUnread x.fields.items (name_of (node_text source k)) due
         by None e d = absurd d
         by (Some k) e d = (k, e, d.0, d.1)
 
     -- the value was read at the type of the field
-    due_type : (due : ℕ × Bor S) (n : NodeTree) (r : Result V Diagnostic) → x.fault ≡ None → x.due ≡ Some due → IsReadWhereDue tree of Full (shown type_tree (type_due x)) source n r → IsReadAs tree of Full (type_tree due.1.now) source n r
-    due_type due n r none is read =
-        subst (λ (o : Option (ℕ × Bor S)). IsReadWhereDue tree of Full (shown type_tree (due_behind None o)) source n r) is (subst (λ (o : Option Fault). IsReadWhereDue tree of Full (shown type_tree (due_behind o x.due)) source n r) none read)
+    due_type : (due : ℕ × Bor S) (n : NodeTree) (r : Result V Diagnostic) → x.due ≡ Some due → IsReadWhereDue tree of Full (shown type_tree (type_due x)) source n r → IsReadAs tree of Full (type_tree due.1.now) source n r
+    due_type due n r is read = subst (λ (o : Option (ℕ × Bor S)). IsReadWhereDue tree of Full (shown type_tree (option_map (λ d. d.1) o)) source n r) is read
 
     -- where no key waits no value is due
-    pub no_value_alone : {A : Type 0} → is_some x.fault ≡ false → TakesPart kind.TupleSet children → x.due ≡ None → A
-    no_value_alone none odd is = absurd (by (last_key children) refl (subst (IsKeyDue source x.fields.items (last_key children)) is (begun_of (none_is x.fault none)).due))
+    pub no_value_alone : {A : Type 0} → TakesPart kind.TupleSet children → x.due ≡ None → A
+    no_value_alone odd is = absurd (by (last_key children) refl (subst (IsKeyDue source x.fields.items (last_key children)) is h.begun.due))
       where
         by : (o : Option NodeTree) → last_key children ≡ o → IsKeyDue source x.fields.items o None → ⊥
         by None e d = odd_waits children odd.0 odd.1 e
         by (Some k) e d = d
 
     -- one more field was read
-    begun_more : (n k : NodeTree) (v : V) (due : ℕ × Bor S) (f : Field S V) (y : Fields S V) → AreBegun tree of Full type_tree T source children x → last_key children ≡ Some k → type_of k ≡ kind.Label → slice_get x.fields.items due.0 ≡ Some f → f.name.now ≡ name_of (node_text source k) → f.value ≡ None → IsReadAs tree of Full (type_tree f.ty.now) source n (Ok v) → y.fields.items ≡ set x.fields.items due.0 (with_value f v) → y.due ≡ None → AreBegun tree of Full type_tree T source (children ++ n ∷ []) y
-    begun_more n k v due f y b waits label there named unread read is none =
+    begun_more : (n k : NodeTree) (v : V) (due : ℕ × Bor S) (f : Field S V) (y : Fields S V) → last_key children ≡ Some k → type_of k ≡ kind.Label → slice_get x.fields.items due.0 ≡ Some f → f.name.now ≡ name_of (node_text source k) → f.value ≡ None → IsReadAs tree of Full (type_tree f.ty.now) source n (Ok v) → y.fields.items ≡ set x.fields.items due.0 (with_value f v) → y.due ≡ None → AreBegun tree of Full type_tree T source (children ++ n ∷ []) y
+    begun_more n k v due f y waits label there named unread read is none =
+        let b = h.begun in
         let here : HasAt x.fields.items due.0 f = has_got x.fields.items due.0 f there in
         let given : List (List ℕ × NodeTree) = fields_at source children in
         let pairs : node_pairs (children ++ n ∷ []) ≡ node_pairs children ++ (k, n) ∷ [] = pairs_with_value children k n waits in
@@ -172,28 +127,21 @@ module _ {V : Type 0} (tree : V → Value) (of : V → TypeTree → Type 0) (Ful
         }
 
     -- a value was read
-    pub value_taken : (n : NodeTree) (r : Result V Diagnostic) (v : V) (due : ℕ × Bor S) (dues : Option (ℕ × Bor S)) (fields : Vec (Field S V) Global) (behind : ℕ) → is_some x.fault ≡ false → x.due ≡ Some due → r ≡ Ok v → IsReadWhereDue tree of Full (shown type_tree (type_due x)) source n r → dues ≡ None → ((f : Field S V) → slice_get x.fields.items due.0 ≡ Some f → fields.items ≡ set x.fields.items due.0 (with_value f v)) → AreFields tree of Full type_tree T source (children ++ n ∷ []) (record x { fields = fields; behind = behind; due = dues })
-    value_taken n r v due dues fields behind none is made read no_due keeps =
-        let no_fault : x.fault ≡ None = none_is x.fault none in
-        let b = begun_of no_fault in
-        let (k, waits, label, (f, there, named, typed, unread)) = waiting due b is in
-        let own : IsReadAs tree of Full (type_tree f.ty.now) source n (Ok v) = subst (λ (t : Bor S). IsReadAs tree of Full (type_tree t.now) source n (Ok v)) (sym typed) (subst (IsReadAs tree of Full (type_tree due.1.now) source n) made (due_type due n r no_fault is read)) in
-        let more = begun_more n k v due f (record x { fields = fields; behind = behind; due = dues }) b waits label there named unread own (keeps f there) no_due in
+    pub value_taken : (n : NodeTree) (r : Result V Diagnostic) (v : V) (due : ℕ × Bor S) (dues : Option (ℕ × Bor S)) (fields : Vec (Field S V) Global) (behind : ℕ) → x.due ≡ Some due → r ≡ Ok v → IsReadWhereDue tree of Full (shown type_tree (type_due x)) source n r → dues ≡ None → ((f : Field S V) → slice_get x.fields.items due.0 ≡ Some f → fields.items ≡ set x.fields.items due.0 (with_value f v)) → AreFields tree of Full type_tree T source (children ++ n ∷ []) (record x { fields = fields; behind = behind; due = dues })
+    value_taken n r v due dues fields behind is made read no_due keeps =
+        let (k, waits, label, (f, there, named, typed, unread)) = waiting due is in
+        let own : IsReadAs tree of Full (type_tree f.ty.now) source n (Ok v) = subst (λ (t : Bor S). IsReadAs tree of Full (type_tree t.now) source n (Ok v)) (sym typed) (subst (IsReadAs tree of Full (type_tree due.1.now) source n) made (due_type due n r is read)) in
         record {
           type_is = h.type_is;
           of_kind = h.of_kind;
           parts = ap (map (part_of type_tree)) (keeps f there) ∙ (same_parts type_tree x.fields.items due.0 f v (has_got x.fields.items due.0 f there) ∙ h.parts);
-          begun = subst (λ (o : Option Fault). IfNone o (AreBegun tree of Full type_tree T source (children ++ n ∷ []) (record x { fields = fields; behind = behind; due = dues }))) (sym no_fault) more;
-          doomed = subst (λ (o : Option Fault). IfSome o (IsDoomed tree of Full T source kind.TupleSet (children ++ n ∷ []))) (sym no_fault) tt;
+          begun = begun_more n k v due f (record x { fields = fields; behind = behind; due = dues }) waits label there named unread own (keeps f there) no_due;
         }
 
     -- a value was refused
-    pub value_refused : (n : NodeTree) (r : Result V Diagnostic) (e : Diagnostic) (due : ℕ × Bor S) (dues : Option (ℕ × Bor S)) (faults : Option Fault) → HasFullParts Full → is_some x.fault ≡ false → x.due ≡ Some due → r ≡ Err e → IsReadWhereDue tree of Full (shown type_tree (type_due x)) source n r → faults ≡ Some (fault.Told e) → AreFields tree of Full type_tree T source (children ++ n ∷ []) (record x { due = dues; fault = faults })
-    value_refused n r e due dues faults full none is made read told =
-        let no_fault : x.fault ≡ None = none_is x.fault none in
-        let (k, waits, label, (f, there, named, typed, unread)) = waiting due (begun_of no_fault) is in
-        let own : IsReadAs tree of Full (type_tree f.ty.now) source n (Err e) = subst (λ (t : Bor S). IsReadAs tree of Full (type_tree t.now) source n (Err e)) (sym typed) (subst (IsReadAs tree of Full (type_tree due.1.now) source n) made (due_type due n r no_fault is read)) in
+    pub value_refused : (n : NodeTree) (r : Result V Diagnostic) (e : Diagnostic) (due : ℕ × Bor S) → HasFullParts Full → x.due ≡ Some due → r ≡ Err e → IsReadWhereDue tree of Full (shown type_tree (type_due x)) source n r → IsDoomed tree of Full T source kind.TupleSet (children ++ n ∷ []) (fault.Told e)
+    value_refused n r e due full is made read =
+        let (k, waits, label, (f, there, named, typed, unread)) = waiting due is in
+        let own : IsReadAs tree of Full (type_tree f.ty.now) source n (Err e) = subst (λ (t : Bor S). IsReadAs tree of Full (type_tree t.now) source n (Err e)) (sym typed) (subst (IsReadAs tree of Full (type_tree due.1.now) source n) made (due_type due n r is read)) in
         let part : HasAt (map (part_of type_tree) x.fields.items) due.0 (name_of (node_text source k), type_tree f.ty.now) = subst (λ (w : List ℕ). HasAt (map (part_of type_tree) x.fields.items) due.0 (w, type_tree f.ty.now)) named (has_mapped (part_of type_tree) x.fields.items due.0 f (has_got x.fields.items due.0 f there)) in
-        faulty_fields n (fault.Told e) dues faults told (λ more p d same.
-        subst (λ (g : Diagnostic). IsReadAs tree of Full T source (node kind.TupleSet p (node_trees ((children ++ n ∷ []) ++ more))) (Err g)) (sym same)
-        (value_dooms tree of Full T (map (part_of type_tree) x.fields.items) is_record source children more p e k n due.0 (type_tree f.ty.now) full waits label part own))
+        told_dooms tree of Full T source kind.TupleSet (children ++ n ∷ []) e (λ more p. value_dooms tree of Full T (map (part_of type_tree) x.fields.items) is_record source children more p e k n due.0 (type_tree f.ty.now) full waits label part own)

@@ -1,5 +1,5 @@
 -- What is known of a record at its end.
-use Rattle.std.proofs.Common.{ℕ, ◌≡◌, inl, inr, List, [], ◌∷◌, map, Option, Some, None, Result, Ok, Err, IfOk, IfErr, IfSome, Bor, refl, sym, ap, ◌∙◌, subst}
+use Rattle.std.proofs.Common.{ℕ, ◌≡◌, inl, inr, List, [], ◌∷◌, map, Option, Some, None, Result, Ok, Err, IfOk, IfErr, Bor, refl, sym, ap, ◌∙◌, subst}
 use Rattle.std.specs.Result.{IsErrAnd}
 use Rattle.std.specs.declared.ops.Range.{Range}
 use Rattle.wave_wasm.specs.Lists.{AllOf}
@@ -27,14 +27,11 @@ use Rattle.wave_forms.proofs.Fields.Entries.{AreFieldsOf, record_nodes}
 use Rattle.wave_forms.proofs.Fields.Reading.{RecordType, fields_distinct, given_fields, FieldIsRead, FieldsRead, field_read, field_blamed, record_reads, record_full}
 use Rattle.wave_forms.proofs.ErrorSpans.Nodes.{at_in, made_in}
 use Rattle.wave_plan.specs.Reading.{IsReadAs}
-use Rattle.wave_read.specs.Faults.{Tells, IsDoomed}
-use Rattle.wave_read.specs.RecordParts.{AreFields, AreBegun, AreKept, IsKeptAs, IsFull, AreFull, IsLeftUnfilled, field_name, part_of}
-use Rattle.wave_read.specs.declared.fault.Fault.{Fault}
+use Rattle.wave_read.specs.RecordParts.{AreFields, AreKept, IsKeptAs, IsFull, AreFull, IsLeftUnfilled, field_name, part_of}
 use Rattle.wave_read.specs.declared.records.Field.{Field}
 use Rattle.wave_read.specs.declared.records.Fields.{Fields}
-use Rattle.wave_read.proofs.Doomed as Doomed
 use Rattle.wave_read.proofs.RecordFields.{has_mapped, holds_at, some_place, of_one, part_names}
-use Rattle.wave_read.proofs.RecordSteps.{is_record, begun_of}
+use Rattle.wave_read.proofs.RecordSteps.{is_record}
 
 module _ {V : Type 0} (tree : V → Value) (of : V → TypeTree → Type 0) (Full : TypeTree → Type 0) {S : Type 0} (type_tree : S → TypeTree) (T : TypeTree) (source : List ℕ) where
   -- a refusal is handed on
@@ -59,40 +56,29 @@ module _ {V : Type 0} (tree : V → Value) (of : V → TypeTree → Type 0) (Ful
     own : RecordType T (map (part_of type_tree) x.fields.items)
     own = is_record tree of Full type_tree T source children x h
 
-    -- where it is none of the faults there is none
-    no_fault_is : (o : Option Fault) → ((f : Fault) → o ≡ Some f → ⊥) → o ≡ None
-    no_fault_is None apart = refl
-    no_fault_is (Some f) apart = absurd (apart f refl)
-
-    -- a fault is told of the whole
-    pub whole_refused : (f : Fault) (p : Range ℕ) (e : Diagnostic) → x.fault ≡ Some f → Tells f p e → IsReadAs tree of Full T source (node kind.TupleSet p (node_trees children)) (Err e)
-    whole_refused f p e is tells =
-        Doomed.told tree of Full T source kind.TupleSet children f p e (subst (λ (o : Option Fault). IfSome o (IsDoomed tree of Full T source kind.TupleSet children)) is h.doomed) tells
-
     -- the fields of the whole
-    fields_of : (p : Range ℕ) → AreBegun tree of Full type_tree T source children x → HasDistinctNames T → IsFieldsOf source (node kind.TupleSet p (node_trees children)) (fields_at source children)
-    fields_of p b distinct = record {
+    fields_of : (p : Range ℕ) → HasDistinctNames T → IsFieldsOf source (node kind.TupleSet p (node_trees children)) (fields_at source children)
+    fields_of p distinct = record {
       is_set = refl;
-      labels = subst (λ (ns : List NodeTree). AllOf IsLabelled (node_pairs ns)) (sym (list_of_trees children)) b.labels;
+      labels = subst (λ (ns : List NodeTree). AllOf IsLabelled (node_pairs ns)) (sym (list_of_trees children)) h.begun.labels;
       given = ap (fields_at source) (sym (list_of_trees children));
-      distinct = b.distinct distinct;
+      distinct = h.begun.distinct distinct;
     }
 
     -- the record was made of all its values, or its maker refused
-    pub whole_made : (p : Range ℕ) (vals : List (Bor (List ℕ) × V)) (made_record : Result V WasmValueError) (r : Result V Diagnostic) → ((f : Fault) → x.fault ≡ Some f → ⊥) → AreFull tree of type_tree x.fields.items vals → IfOk made_record (MakesRecord tree of (type_tree x.ty.now) vals) → IfErr made_record (FullRecord of Full (type_tree x.ty.now) vals) → IsMade (node kind.TupleSet p (node_trees children)) made_record r → IsReadAs tree of Full T source (node kind.TupleSet p (node_trees children)) r
-    whole_made p vals made_record r none filled ok full done =
+    pub whole_made : (p : Range ℕ) (vals : List (Bor (List ℕ) × V)) (made_record : Result V WasmValueError) (r : Result V Diagnostic) → AreFull tree of type_tree x.fields.items vals → IfOk made_record (MakesRecord tree of (type_tree x.ty.now) vals) → IfErr made_record (FullRecord of Full (type_tree x.ty.now) vals) → IsMade (node kind.TupleSet p (node_trees children)) made_record r → IsReadAs tree of Full T source (node kind.TupleSet p (node_trees children)) r
+    whole_made p vals made_record r filled ok full done =
         let n : NodeTree = node kind.TupleSet p (node_trees children) in
-        let b : AreBegun tree of Full type_tree T source children x = begun_of tree of Full type_tree T source children x h (no_fault_is x.fault none) in
         record {
           answer = λ t is distinct.
-              let fields = fields_of p b distinct in
+              let fields = fields_of p distinct in
               let given : List (List ℕ × NodeTree) = fields_at source children in
               let inner = record_nodes source n t is fields.is_set in
               let all : AreFieldsOf source given (entry_list inner.given) = given_fields source n t given is fields in
               let apart = fields_distinct T (map (part_of type_tree) x.fields.items) own distinct in
-              let read : FieldsRead tree of Full (type.field_list own.fields) (entry_list inner.given) vals = subst (λ (ps : List (List ℕ × TypeTree)). FieldsRead tree of Full ps (entry_list inner.given) vals) own.parts_are (fields_read given (entry_list inner.given) x.fields.items vals n all apart.within (b.kept distinct) filled) in
+              let read : FieldsRead tree of Full (type.field_list own.fields) (entry_list inner.given) vals = subst (λ (ps : List (List ℕ × TypeTree)). FieldsRead tree of Full ps (entry_list inner.given) vals) own.parts_are (fields_read given (entry_list inner.given) x.fields.items vals n all apart.within (h.begun.kept distinct) filled) in
               let names : AreDistinct (names_of (type.field_list own.fields)) = subst (λ (ps : List (List ℕ × TypeTree)). AreDistinct (names_of ps)) own.parts_are apart.names in
-              let known : (name : List ℕ) → IsOneOf (names_of given) name → IsOneOf (names_of (type.field_list own.fields)) name = λ name one. subst (λ (ns : List (List ℕ)). IsOneOf ns name) (sym (part_names type_tree x.fields.items) ∙ ap names_of own.parts_are) (of_one (IsOneOf (map field_name x.fields.items)) (names_of given) name b.known one) in
+              let known : (name : List ℕ) → IsOneOf (names_of given) name → IsOneOf (names_of (type.field_list own.fields)) name = λ name one. subst (λ (ns : List (List ℕ)). IsOneOf ns name) (sym (part_names type_tree x.fields.items) ∙ ap names_of own.parts_are) (of_one (IsOneOf (map field_name x.fields.items)) (names_of given) name h.begun.known one) in
               made tree of Full T t n made_record r done
               (record_reads tree of Full T own.fields source n t given vals inner made_record own.is distinct all fields.distinct known names read (subst (λ (U : TypeTree). IfOk made_record (MakesRecord tree of U vals)) h.type_is ok))
               (record_full tree of Full T own.fields (entry_list inner.given) vals made_record own.is names read (subst (λ (U : TypeTree). IfErr made_record (FullRecord of Full U vals)) h.type_is full));
@@ -100,21 +86,20 @@ module _ {V : Type 0} (tree : V → Value) (of : V → TypeTree → Type 0) (Ful
         }
 
     -- a field was left out, or memory was wanting
-    pub whole_unfilled : (p : Range ℕ) (e : Diagnostic) (r : Result V Diagnostic) → IsErrAnd r (λ f. f ≡ e) → HasFullParts Full → ((f : Fault) → x.fault ≡ Some f → ⊥) → IsLeftUnfilled Full type_tree x.fields.items (node kind.TupleSet p (node_trees children)) e → RefusesAt (node kind.TupleSet p (node_trees children)) e → IsReadAs tree of Full T source (node kind.TupleSet p (node_trees children)) r
-    whole_unfilled p e r same full none left told =
+    pub whole_unfilled : (p : Range ℕ) (e : Diagnostic) (r : Result V Diagnostic) → IsErrAnd r (λ f. f ≡ e) → HasFullParts Full → IsLeftUnfilled Full type_tree x.fields.items (node kind.TupleSet p (node_trees children)) e → RefusesAt (node kind.TupleSet p (node_trees children)) e → IsReadAs tree of Full T source (node kind.TupleSet p (node_trees children)) r
+    whole_unfilled p e r same full left told =
         let n : NodeTree = node kind.TupleSet p (node_trees children) in
-        let b : AreBegun tree of Full type_tree T source children x = begun_of tree of Full type_tree T source children x h (no_fault_is x.fault none) in
         handed_on n e r same (record {
-          answer = λ t is distinct. blamed b t is distinct left;
+          answer = λ t is distinct. blamed t is distinct left;
           within = λ value. at_in source n e (inl value) told;
         })
       where
-        blamed : AreBegun tree of Full type_tree T source children x → (t : Placed) → IsNodeOf source (node kind.TupleSet p (node_trees children)) t → HasDistinctNames T → IsLeftUnfilled Full type_tree x.fields.items (node kind.TupleSet p (node_trees children)) e → IsBlamed Full T t e
-        blamed b t is distinct (inl memory) = inl memory
-        blamed b t is distinct (inr some) =
+        blamed : (t : Placed) → IsNodeOf source (node kind.TupleSet p (node_trees children)) t → HasDistinctNames T → IsLeftUnfilled Full type_tree x.fields.items (node kind.TupleSet p (node_trees children)) e → IsBlamed Full T t e
+        blamed t is distinct (inl memory) = inl memory
+        blamed t is distinct (inr some) =
             let given : List (List ℕ × NodeTree) = fields_at source children in
             let (i, f, here, (out, missing)) = some_place _ x.fields.items some in
             let typed : HasAt (map (part_of type_tree) x.fields.items) i (f.name.now, type_tree f.ty.now) = has_mapped (part_of type_tree) x.fields.items i f here in
             let apart = fields_distinct T (map (part_of type_tree) x.fields.items) own distinct in
-            let absent : look_up given f.name.now ≡ None = subst (IsKeptAs tree of Full (type_tree f.ty.now) source (look_up given f.name.now)) out (holds_at (λ (g : Field S V). IsKeptAs tree of Full (type_tree g.ty.now) source (look_up given g.name.now) g.value) x.fields.items i f (b.kept distinct) here) in
-            field_blamed tree of Full T (type_tree f.ty.now) (map (part_of type_tree) x.fields.items) source (node kind.TupleSet p (node_trees children)) t given i f.name.now None e own is (fields_of p b distinct) typed (holds_at (λ q. HasDistinctNames q.1) (map (part_of type_tree) x.fields.items) i (f.name.now, type_tree f.ty.now) apart.within typed) full (sym absent) missing
+            let absent : look_up given f.name.now ≡ None = subst (IsKeptAs tree of Full (type_tree f.ty.now) source (look_up given f.name.now)) out (holds_at (λ (g : Field S V). IsKeptAs tree of Full (type_tree g.ty.now) source (look_up given g.name.now) g.value) x.fields.items i f (h.begun.kept distinct) here) in
+            field_blamed tree of Full T (type_tree f.ty.now) (map (part_of type_tree) x.fields.items) source (node kind.TupleSet p (node_trees children)) t given i f.name.now None e own is (fields_of p distinct) typed (holds_at (λ q. HasDistinctNames q.1) (map (part_of type_tree) x.fields.items) i (f.name.now, type_tree f.ty.now) apart.within typed) full (sym absent) missing

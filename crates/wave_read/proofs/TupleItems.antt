@@ -1,5 +1,5 @@
 -- Tuples, whose items were read one behind the other.
-use Rattle.std.proofs.Common.{ℕ, ◌≡◌, ◌≢◌, inl, inr, ◌<◌, true, false, List, [], ◌∷◌, ◌++◌, length, get_or, take, Option, Some, None, Bor, Result, Ok, Err, IfOk, IfErr, refl, sym, ap, ◌∙◌, subst, is_some, length-append, arith}
+use Rattle.std.proofs.Common.{ℕ, ◌≡◌, ◌≢◌, inl, inr, ◌<◌, true, false, List, [], ◌∷◌, ◌++◌, length, get_or, take, Bor, Result, Ok, Err, IfOk, IfErr, refl, sym, ap, ◌∙◌, subst, is_some, length-append, arith}
 use Rattle.std.specs.List.{slice_get}
 use Rattle.std.specs.declared.ops.Range.{Range}
 use Rattle.wave_wasm.specs.Lists.{AllOf}
@@ -26,10 +26,9 @@ use Rattle.wave_forms.proofs.ErrorSpans.Nodes.{at_in, form_at, memory_here, caus
 use Rattle.wave_plan.specs.NodeParts.{IsOneToken}
 use Rattle.wave_plan.specs.Reading.{IsReadAs, IsReadWhereDue}
 use Rattle.wave_read.specs.Faults.{IsDoomed}
-use Rattle.wave_read.specs.TupleParts.{unless_faulty, AreReadEach, ReadOrFaulty}
-use Rattle.wave_read.specs.declared.fault.Fault.{Fault}
+use Rattle.wave_read.specs.TupleParts.{AreReadEach}
 use Rattle.wave_read.specs.declared.fault.Fault.TheVariants as fault
-use Rattle.wave_read.proofs.Doomed.{still_doomed}
+use Rattle.wave_read.proofs.Doomed.{told_dooms}
 
 -- no node of one token is a tuple
 pub no_tuple : (ty : NodeType) → IsOneToken ty → ty ≢ kind.Tuple
@@ -65,7 +64,8 @@ module _ {V : Type 0} (tree : V → Value) (of : V → TypeTree → Type 0) (Ful
   -- ---- item by item
 
   module _ {S : Type 0} (type_tree : S → TypeTree) (source : List ℕ) where
-    each_beyond : (types : List (Bor S)) (ns : List NodeTree) (vs : List V) (n : NodeTree) → is_some (slice_get types (length vs)) ≡ false → AreReadEach tree of Full (shown_all type_tree types) source ns vs → AreReadEach tree of Full (shown_all type_tree types) source (ns ++ n ∷ []) vs
+    -- an item where none is due
+    pub each_beyond : (types : List (Bor S)) (ns : List NodeTree) (vs : List V) (n : NodeTree) → is_some (slice_get types (length vs)) ≡ false → AreReadEach tree of Full (shown_all type_tree types) source ns vs → AreReadEach tree of Full (shown_all type_tree types) source (ns ++ n ∷ []) vs
     each_beyond [] [] [] n none h = tt
     each_beyond [] [] (v ∷ vs) n none h = absurd h
     each_beyond [] (m ∷ ns) [] n none h = tt
@@ -75,7 +75,8 @@ module _ {V : Type 0} (tree : V → Value) (of : V → TypeTree → Type 0) (Ful
     each_beyond (x ∷ xs) (m ∷ ns) [] n none h = absurd h
     each_beyond (x ∷ xs) (m ∷ ns) (v ∷ vs) n none h = (h.0, each_beyond xs ns vs n none h.1)
 
-    each_next : (types : List (Bor S)) (ns : List NodeTree) (vs : List V) (n : NodeTree) (v : V) → is_some (slice_get types (length vs)) ≡ true → AreReadEach tree of Full (shown_all type_tree types) source ns vs → IsReadWhereDue tree of Full (shown type_tree (slice_get types (length vs))) source n (Ok v) → AreReadEach tree of Full (shown_all type_tree types) source (ns ++ n ∷ []) (vs ++ v ∷ [])
+    -- an item that was read
+    pub each_next : (types : List (Bor S)) (ns : List NodeTree) (vs : List V) (n : NodeTree) (v : V) → is_some (slice_get types (length vs)) ≡ true → AreReadEach tree of Full (shown_all type_tree types) source ns vs → IsReadWhereDue tree of Full (shown type_tree (slice_get types (length vs))) source n (Ok v) → AreReadEach tree of Full (shown_all type_tree types) source (ns ++ n ∷ []) (vs ++ v ∷ [])
     each_next [] ns vs n v some h now = absurd (cc)
     each_next (x ∷ xs) [] [] n v some h now = (now, tt)
     each_next (x ∷ xs) [] (w ∷ vs) n v some h now = absurd h
@@ -98,31 +99,20 @@ module _ {V : Type 0} (tree : V → Value) (of : V → TypeTree → Type 0) (Ful
         record { part = due.part; here = due.here; refused = due.refused }
 
     item_dooms : (T E : TypeTree) (parts : List TypeTree) (ns : List NodeTree) (n : NodeTree) (e : Diagnostic) → HasFullParts Full → TupleType T parts → HasAt parts (length ns) E → IsReadAs tree of Full E source n (Err e) → IsDoomed tree of Full T source kind.Tuple (ns ++ n ∷ []) (fault.Told e)
-    item_dooms T E parts ns n e full is here refused more p f same =
+    item_dooms T E parts ns n e full is here refused = told_dooms tree of Full T source kind.Tuple (ns ++ n ∷ []) e (λ more p.
         let all : List NodeTree = (ns ++ n ∷ []) ++ more in
         let m : NodeTree = node kind.Tuple p (node_trees all) in
         let children : all ≡ children_of m = sym (list_of_trees all) in
-        subst (λ (g : Diagnostic). IsReadAs tree of Full T source m (Err g)) (sym same) (record {
+        record {
           answer = λ t node distinct. item_blamed tree of Full source T parts m t all (length ns) n E e is node refl children (last_before ns more n) (at_last ns more n) here full (λ u there. refused.answer u there (all_has HasDistinctNames parts (length ns) E (parts_distinct T parts is distinct) here));
           within = λ value. deeper_at source m all (length ns) n e value children (last_before ns more n) (at_last ns more n) (refused.within (tuple_item source m all (length ns) n value refl children (last_before ns more n) (at_last ns more n)));
         })
 
-    -- an item where none is due
-    pub nothing_due : (T : TypeTree) (types : List (Bor S)) (ns : List NodeTree) (vs : List V) (o : Option Fault) (n : NodeTree) → is_some (unless_faulty o types (length vs)) ≡ false → ReadOrFaulty tree of Full T (shown_all type_tree types) source ns vs o → ReadOrFaulty tree of Full T (shown_all type_tree types) source (ns ++ n ∷ []) vs o
-    nothing_due T types ns vs None n none h = each_beyond types ns vs n none h
-    nothing_due T types ns vs (Some f) n none h = still_doomed tree of Full T source kind.Tuple ns n f h
-
-    -- an item that was read
-    pub item_kept : (T : TypeTree) (types : List (Bor S)) (ns : List NodeTree) (vs ws : List V) (o : Option Fault) (n : NodeTree) (v : V) → is_some (unless_faulty o types (length vs)) ≡ true → ReadOrFaulty tree of Full T (shown_all type_tree types) source ns vs o → IsReadWhereDue tree of Full (shown type_tree (unless_faulty o types (length vs))) source n (Ok v) → ws ≡ vs ++ v ∷ [] → ReadOrFaulty tree of Full T (shown_all type_tree types) source (ns ++ n ∷ []) ws o
-    item_kept T types ns vs ws None n v some h now is = rw is (each_next types ns vs n v some h now)
-    item_kept T types ns vs ws (Some f) n v some h now is = absurd (cc)
-
     -- an item that was refused
-    pub item_refused : (T : TypeTree) (types : List (Bor S)) (ns : List NodeTree) (vs ws : List V) (o : Option Fault) (n : NodeTree) (e : Diagnostic) → HasFullParts Full → kind_of T ≡ kinds.Tuple → shown_all type_tree types ≡ tuple_parts T → is_some (unless_faulty o types (length vs)) ≡ true → ReadOrFaulty tree of Full T (shown_all type_tree types) source ns vs o → IsReadWhereDue tree of Full (shown type_tree (unless_faulty o types (length vs))) source n (Err e) → ReadOrFaulty tree of Full T (shown_all type_tree types) source (ns ++ n ∷ []) ws (Some (fault.Told e))
-    item_refused T types ns vs ws None n e full tuples parts some h now =
+    pub item_refused : (T : TypeTree) (types : List (Bor S)) (ns : List NodeTree) (vs : List V) (n : NodeTree) (e : Diagnostic) → HasFullParts Full → kind_of T ≡ kinds.Tuple → shown_all type_tree types ≡ tuple_parts T → is_some (slice_get types (length vs)) ≡ true → AreReadEach tree of Full (shown_all type_tree types) source ns vs → IsReadWhereDue tree of Full (shown type_tree (slice_get types (length vs))) source n (Err e) → IsDoomed tree of Full T source kind.Tuple (ns ++ n ∷ []) (fault.Told e)
+    item_refused T types ns vs n e full tuples parts some h now =
         let due = type_due types ns vs n e some h now in
         item_dooms T due.part (shown_all type_tree types) ns n e full (tuple_is T (shown_all type_tree types) (sym tuples) parts) due.here due.refused
-    item_refused T types ns vs ws (Some f) n e full tuples parts some h now = absurd (cc)
 
   -- ---- the whole
 

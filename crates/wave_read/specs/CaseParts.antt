@@ -1,5 +1,5 @@
 -- What has been read of a case and its payload.
-use Rattle.std.specs.Prelude.{ℕ, ◌≡◌, List, [], ◌∷◌, Option, Some, None, Ok, option_map}
+use Rattle.std.specs.Prelude.{ℕ, ◌≡◌, List, [], ◌∷◌, Option, Some, Ok, option_map}
 use Rattle.std.specs.Borrow.{Bor}
 use Rattle.wave_wasm.specs.Types.{TypeTree, kind_of, variant_parts}
 use Rattle.wave_wasm.specs.Values.{Value}
@@ -8,20 +8,12 @@ use Rattle.wave_grammar.specs.LeafTokens.{name_of}
 use Rattle.wave_grammar.specs.TypedGrammar.{look_up}
 use Rattle.wave_forms.specs.NodeTree.{NodeTree}
 use Rattle.wave_forms.specs.NodeAccessors.{node_text}
-use Rattle.wave_forms.specs.declared.form.NodeType.TheVariants as node_type
 use Rattle.wave_plan.specs.Reading.{IsReadAs}
-use Rattle.wave_read.specs.Faults.{IsDoomed}
-use Rattle.wave_read.specs.declared.fault.Fault.{Fault}
 use Rattle.wave_read.specs.declared.variants.CasePayload.{CasePayload}
-
--- where no fault was found, the type of the case's payload
-abbrev pub due_of : {S : Type 0} → Option Fault → Option (Bor (List ℕ) × Bor S) → Option (Bor S)
-due_of (Some f) case = None
-due_of None case = option_map (λ c. c.1) case
 
 -- the type of the payload that is due
 abbrev pub payload_due : {S V : Type 0} → CasePayload S V → Option (Bor S)
-payload_due x = due_of x.fault x.case
+payload_due x = option_map (λ c. c.1) x.case
 
 module _ {S V : Type 0} (type_tree : S → TypeTree) (tree : V → Value) (of : V → TypeTree → Type 0) (Full : TypeTree → Type 0) where
   -- the label names this case, which the type has, with a payload of this type
@@ -36,13 +28,8 @@ module _ {S V : Type 0} (type_tree : S → TypeTree) (tree : V → Value) (of : 
   AreRead T source (label ∷ inner ∷ []) (Some case) (Some v) = IsLabelOf T source label case × IsReadAs tree of Full (type_tree case.1.now) source inner (Ok v)
   AreRead T source _ case payload = ⊥
 
-  -- so; or a fault was found, for which the value is refused whatever follows
-  abbrev pub AreReadOrDoomed : TypeTree → List ℕ → List NodeTree → Option Fault → Option (Bor (List ℕ) × Bor S) → Option V → Type 0
-  AreReadOrDoomed T source children None case payload = AreRead T source children case payload
-  AreReadOrDoomed T source children (Some f) case payload = IsDoomed tree of Full T source node_type.VariantWithPayload children f
-
   -- the children of a node of a case and its payload, at a variant type
   pub record AreCaseParts (T : TypeTree) (source : List ℕ) (children : List NodeTree) (x : CasePayload S V) : Type 0 where
     pub ty : T ≡ type_tree x.ty.now
     pub kind : kind_of T ≡ kinds.Variant
-    pub read : AreReadOrDoomed T source children x.fault x.case x.payload
+    pub read : AreRead T source children x.case x.payload

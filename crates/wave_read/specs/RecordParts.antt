@@ -1,5 +1,5 @@
 -- The fields of a record, whose keys and values are read in turn.
-use Rattle.std.specs.Prelude.{ℕ, ◌≡◌, ◌≢◌, ◌⊎◌, List, [], ◌∷◌, map, Option, Some, None, option_map, Ok, IfSome, IfNone, slice_get}
+use Rattle.std.specs.Prelude.{ℕ, ◌≡◌, ◌≢◌, ◌⊎◌, List, [], ◌∷◌, map, Option, Some, None, option_map, Ok, slice_get}
 use Rattle.std.specs.Borrow.{Bor}
 use Rattle.std.specs.declared.ops.Range.{Range}
 use Rattle.wave_wasm.specs.Lists.{AllOf, SomeOf}
@@ -22,7 +22,6 @@ use Rattle.wave_forms.specs.Private.NodeFields.{IsLeftOut, IsMissing, fields_at}
 use Rattle.wave_forms.specs.declared.form.NodeType.{NodeType}
 use Rattle.wave_forms.specs.declared.form.NodeType.TheVariants as kind
 use Rattle.wave_plan.specs.Reading.{IsReadAs}
-use Rattle.wave_read.specs.Faults.{IsDoomed}
 use Rattle.wave_read.specs.declared.fault.Fault.{Fault}
 use Rattle.wave_read.specs.declared.fault.Fault.TheVariants as fault
 use Rattle.wave_read.specs.declared.records.Field.{Field}
@@ -72,14 +71,9 @@ last_key [] = None
 last_key (key ∷ []) = Some key
 last_key (key ∷ val ∷ more) = last_key more
 
--- the type, where no fault was found
-abbrev pub due_behind : {S : Type 0} → Option Fault → Option (ℕ × S) → Option S
-due_behind None due = option_map (λ d. d.1) due
-due_behind (Some f) due = None
-
 -- the type of the value that comes next
 abbrev pub type_due : {S V : Type 0} → Fields S V → Option (Bor S)
-type_due x = due_behind x.fault x.due
+type_due x = option_map (λ d. d.1) x.due
 
 -- the key that waits for its value is the label of the field that is due
 abbrev pub IsKeyDue : {S V : Type 0} → List ℕ → List (Field S V) → Option NodeTree → Option (ℕ × Bor S) → Type 0
@@ -136,10 +130,9 @@ module _ {V : Type 0} (tree : V → Value) (of : V → TypeTree → Type 0) (Ful
     pub distinct : HasDistinctNames T → AreDistinct (names_of (fields_at source children))
     pub kept : HasDistinctNames T → AreKept source (fields_at source children) x.fields.items
 
-  -- these are the fields of a record of the type; a fault dooms whatever follows these nodes
+  -- these are the fields of a record of the type
   pub record AreFields (T : TypeTree) (source : List ℕ) (children : List NodeTree) (x : Fields S V) : Type 0 where
     pub type_is : type_tree x.ty.now ≡ T
     pub of_kind : kinds.Record ≡ kind_of T
     pub parts : map (part_of type_tree) x.fields.items ≡ record_parts T
-    pub begun : IfNone x.fault (AreBegun T source children x)
-    pub doomed : IfSome x.fault (IsDoomed tree of Full T source kind.TupleSet children)
+    pub begun : AreBegun T source children x

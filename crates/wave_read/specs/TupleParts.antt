@@ -1,5 +1,5 @@
 -- What has been read of a tuple.
-use Rattle.std.specs.Prelude.{ℕ, ◌≡◌, List, [], ◌∷◌, length, Option, Some, None, Ok}
+use Rattle.std.specs.Prelude.{ℕ, ◌≡◌, List, [], ◌∷◌, length, Option, Ok}
 use Rattle.std.specs.List.{slice_get}
 use Rattle.std.specs.Borrow.{Bor}
 use Rattle.wave_wasm.specs.Types.{TypeTree, tuple_parts, kind_of}
@@ -7,20 +7,12 @@ use Rattle.wave_wasm.specs.declared.wasm.WasmTypeKind.TheVariants as kinds
 use Rattle.wave_wasm.specs.Values.{Value}
 use Rattle.wave_wasm.specs.Borrowed.{shown_all}
 use Rattle.wave_forms.specs.NodeTree.{NodeTree}
-use Rattle.wave_forms.specs.declared.form.NodeType.TheVariants as kind
 use Rattle.wave_plan.specs.Reading.{IsReadAs}
-use Rattle.wave_read.specs.Faults.{IsDoomed}
-use Rattle.wave_read.specs.declared.fault.Fault.{Fault}
 use Rattle.wave_read.specs.declared.tuples.Row.{Row}
-
--- the type at this place, where no fault was found
-abbrev pub unless_faulty : {S : Type 0} → Option Fault → List (Bor S) → ℕ → Option (Bor S)
-unless_faulty None types i = slice_get types i
-unless_faulty (Some f) types i = None
 
 -- the type of the item that comes next
 abbrev pub item_due : {S V : Type 0} → Row S V → Option (Bor S)
-item_due x = unless_faulty x.fault x.types.items (length x.items.items)
+item_due x = slice_get x.types.items (length x.items.items)
 
 module _ {V : Type 0} (tree : V → Value) (of : V → TypeTree → Type 0) (Full : TypeTree → Type 0) where
   -- each of the nodes was read at its own type, and those beyond the types at none
@@ -30,11 +22,6 @@ module _ {V : Type 0} (tree : V → Value) (of : V → TypeTree → Type 0) (Ful
   AreReadEach (T ∷ Ts) source (n ∷ ns) (v ∷ vs) = IsReadAs tree of Full T source n (Ok v) × AreReadEach Ts source ns vs
   AreReadEach _ source _ _ = ⊥
 
-  -- so it was; or a fault was found
-  abbrev pub ReadOrFaulty : TypeTree → List TypeTree → List ℕ → List NodeTree → List V → Option Fault → Type 0
-  ReadOrFaulty T Ts source ns vs None = AreReadEach Ts source ns vs
-  ReadOrFaulty T Ts source ns vs (Some f) = IsDoomed tree of Full T source kind.Tuple ns f
-
 module _ {S V : Type 0} (type_tree : S → TypeTree) (tree : V → Value) (of : V → TypeTree → Type 0) (Full : TypeTree → Type 0) where
   -- what was read of these nodes, at a type of tuples
   pub record IsRow (T : TypeTree) (source : List ℕ) (children : List NodeTree) (x : Row S V) : Type 0 where
@@ -42,4 +29,4 @@ module _ {S V : Type 0} (type_tree : S → TypeTree) (tree : V → Value) (of : 
     pub kind : kind_of T ≡ kinds.Tuple
     pub parts : shown_all type_tree x.types.items ≡ tuple_parts T
     pub count : x.count ≡ length children
-    pub read : ReadOrFaulty tree of Full T (shown_all type_tree x.types.items) source children x.items.items x.fault
+    pub read : AreReadEach tree of Full (shown_all type_tree x.types.items) source children x.items.items

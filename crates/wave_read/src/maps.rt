@@ -1,11 +1,12 @@
 //! Maps, whose keys and values are read in turn.
-ghost use Rattle.std.specs.Prelude.{ℕ, List, [], ◌∷◌, ◌++◌, ◌≡◌, IfOk};
+ghost use Rattle.std.specs.Prelude.{ℕ, List, [], ◌∷◌, ◌++◌, ◌≡◌, IfOk, MatchOption};
 ghost use Rattle.wave_wasm.specs.Types.{TypeTree, kind_of};
 ghost use Rattle.wave_wasm.specs.Borrowed.{shown};
 ghost use Rattle.wave_grammar.specs.SpannedTree.{slice};
 ghost use Rattle.wave_forms.specs.NodeTree.{NodeTree, node, no_nodes, node_trees};
 ghost use Rattle.wave_plan.specs.NodeParts.{TakesKey, TakesPart};
 ghost use Rattle.wave_plan.specs.Reading.{IsReadAs, IsReadWhereDue};
+ghost use Rattle.wave_read.specs.Faults.{IsDoomed};
 ghost use Rattle.wave_read.specs.MapParts.{AreEntries, value_type_due};
 
 use crate::fault::Fault;
@@ -26,7 +27,6 @@ pub struct Entries<'ty, T, V> {
     value_type: &'ty T,
     entries: Vec<(V, V)>,
     key: Option<V>,
-    fault: Option<Fault>,
 }
 
 impl<'ty, V: WasmValue> Entries<'ty, V::Type, V> {
@@ -42,70 +42,62 @@ impl<'ty, V: WasmValue> Entries<'ty, V::Type, V> {
             value_type,
             entries: Vec::new(alloc),
             key: None,
-            fault: None,
         }
     }
 
-    /// The type of the value that comes next: behind a key, where no fault was found.
+    /// The type of the value that comes next, behind a key.
     pub(crate) fn next(&self) -> Option<&'ty V::Type>
         ensures { result ≡ value_type_due self.now }
     {
-        if self.fault.is_some() || self.key.is_none() {
+        if self.key.is_none() {
             return None;
         }
         Some(self.value_type)
     }
 
-    /// Adds a key, which is of this type and text.
+    /// Adds a key, which is of this type and text; or what is wrong with the map.
     pub(crate) fn with_key(
         &mut self,
         alloc: Global,
         ty: NodeType,
         span: Span,
         text: &str,
-    ) -> Result<(), AllocError>
-        ensures { IfOk result (λ _. (T : TypeTree) (source : List ℕ) (children : List NodeTree) → text.now ≡ slice source span → TakesKey NodeType.TupleSet children → AreEntries V.tree V.is_of V.is_full V.Type.tree T source children self.old → AreEntries V.tree V.is_of V.is_full V.Type.tree T source (children ++ node ty span no_nodes ∷ []) self.new) }
+    ) -> Result<Option<Fault>, AllocError>
+        ensures { IfOk result (λ found. (T : TypeTree) (source : List ℕ) (children : List NodeTree) → text.now ≡ slice source span → TakesKey NodeType.TupleSet children → AreEntries V.tree V.is_of V.is_full V.Type.tree T source children self.old
+            → MatchOption found (AreEntries V.tree V.is_of V.is_full V.Type.tree T source (children ++ node ty span no_nodes ∷ []) self.new) (IsDoomed V.tree V.is_of V.is_full T source NodeType.TupleSet (children ++ node ty span no_nodes ∷ []))) }
     {
-        if self.fault.is_some() {
-            return Ok(());
-        }
         let leaf = Leaf { ty, span, text };
         match leaf.read_key::<V>(alloc, self.key_type) {
             Ok(key) => {
                 drop(self.key.replace(key));
-                Ok(())
+                Ok(None)
             }
             Err(error) => {
                 let failure = Failure::told(alloc, error)?;
-                drop(self.fault.replace(Fault::Told(failure)));
-                Ok(())
+                Ok(Some(Fault::Told(failure)))
             }
         }
     }
 
-    /// Adds the value behind the last key, which was read at the type that is due.
+    /// Adds the value behind the last key, which was read at the type that is due; or what is wrong
+    /// with the map.
     pub(crate) fn with_part(
         &mut self,
         alloc: Global,
         made: Result<V, Failure>,
-    ) -> Result<(), AllocError>
-        ensures { IfOk result (λ _. (T : TypeTree) (source : List ℕ) (children : List NodeTree) (n : NodeTree) → TakesPart NodeType.TupleSet children → AreEntries V.tree V.is_of V.is_full V.Type.tree T source children self.old → IsReadWhereDue V.tree V.is_of V.is_full (shown V.Type.tree (value_type_due self.old)) source n made → AreEntries V.tree V.is_of V.is_full V.Type.tree T source (children ++ n ∷ []) self.new) }
+    ) -> Result<Option<Fault>, AllocError>
+        ensures { IfOk result (λ found. (T : TypeTree) (source : List ℕ) (children : List NodeTree) (n : NodeTree) → TakesPart NodeType.TupleSet children → AreEntries V.tree V.is_of V.is_full V.Type.tree T source children self.old → IsReadWhereDue V.tree V.is_of V.is_full (shown V.Type.tree (value_type_due self.old)) source n made
+            → MatchOption found (AreEntries V.tree V.is_of V.is_full V.Type.tree T source (children ++ n ∷ []) self.new) (IsDoomed V.tree V.is_of V.is_full T source NodeType.TupleSet (children ++ n ∷ []))) }
     {
-        if self.fault.is_some() {
-            return Ok(());
-        }
         match made {
             Ok(val) => match self.key.take() {
                 Some(key) => {
                     self.entries.push((key, val))?;
-                    Ok(())
+                    Ok(None)
                 }
-                None => Ok(()),
+                None => Ok(None),
             },
-            Err(failure) => {
-                drop(self.fault.replace(Fault::Told(failure)));
-                Ok(())
-            }
+            Err(failure) => Ok(Some(Fault::Told(failure))),
         }
     }
 
@@ -113,15 +105,7 @@ impl<'ty, V: WasmValue> Entries<'ty, V::Type, V> {
     pub(crate) fn whole(self, alloc: Global, span: Span) -> Result<V, ParserError>
         ensures { (T : TypeTree) (source : List ℕ) (children : List NodeTree) → AreEntries V.tree V.is_of V.is_full V.Type.tree T source children self.entry → IsReadAs V.tree V.is_of V.is_full T source (node NodeType.TupleSet span (node_trees children)) result }
     {
-        let Entries {
-            ty,
-            entries,
-            fault,
-            ..
-        } = self;
-        if let Some(fault) = fault {
-            return Err(fault.tell(span));
-        }
+        let Entries { ty, entries, .. } = self;
         let entries = match merged(alloc, entries) {
             Ok(entries) => entries,
             Err(_) => return Err(ParserError::new(ParserErrorKind::OutOfMemory, span)),

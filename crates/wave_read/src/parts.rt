@@ -1,5 +1,5 @@
 //! The parts of a value of any type.
-ghost use Rattle.std.specs.Prelude.{ℕ, ◌≡◌, ◌⊎◌, ◌++◌, List, [], ◌∷◌, IfOk};
+ghost use Rattle.std.specs.Prelude.{ℕ, ◌≡◌, ◌⊎◌, ◌++◌, List, [], ◌∷◌, IfOk, MatchOption};
 ghost use Rattle.wave_wasm.specs.Types.{TypeTree, kind_of};
 ghost use Rattle.wave_wasm.specs.ConstructorContracts.{IsOfListKind};
 ghost use Rattle.wave_wasm.specs.Borrowed.{shown};
@@ -217,12 +217,14 @@ impl<'ty, V: WasmValue> Parts<'ty, V::Type, V> {
         ensures { IfOk result (λ _. (T : TypeTree) (source : List ℕ) (of : NodeType) (children : List NodeTree) → text.now ≡ slice source span → TakesKey of children
             → AreParts V.Type.tree V.tree V.is_of V.is_full T source of children self.old → AreParts V.Type.tree V.tree V.is_of V.is_full T source of (children ++ node ty span no_nodes ∷ []) self.new) }
     {
-        match self {
-            Parts::OfCase(payload) => payload.with_key(alloc, ty, span, text),
-            Parts::Fields(fields) => fields.with_key(alloc, ty, span, text),
-            Parts::Entries(entries) => entries.with_key(alloc, ty, span, text),
-            _ => Ok(()),
-        }
+        let found = match self {
+            Parts::OfCase(payload) => payload.with_key(alloc, ty, span, text)?,
+            Parts::Fields(fields) => fields.with_key(alloc, ty, span, text)?,
+            Parts::Entries(entries) => entries.with_key(alloc, ty, span, text)?,
+            _ => None,
+        };
+        self.wrong(found);
+        Ok(())
     }
 
     /// Adds the next value, which was read at the type that was due.
@@ -235,15 +237,26 @@ impl<'ty, V: WasmValue> Parts<'ty, V::Type, V> {
             → AreParts V.Type.tree V.tree V.is_of V.is_full T source of children self.old → IsReadWhereDue V.tree V.is_of V.is_full (shown V.Type.tree (next_due self.old)) source n made
             → AreParts V.Type.tree V.tree V.is_of V.is_full T source of (children ++ n ∷ []) self.new) }
     {
-        match self {
-            Parts::Items(items) => items.with_part(alloc, made),
-            Parts::Row(row) => row.with_part(alloc, made),
-            Parts::OfSome(payload) => payload.with_part(alloc, made),
-            Parts::OfResult(payload) => payload.with_part(alloc, made),
-            Parts::OfCase(payload) => payload.with_part(alloc, made),
-            Parts::Fields(fields) => fields.with_part(alloc, made),
-            Parts::Entries(entries) => entries.with_part(alloc, made),
-            _ => Ok(()),
+        let found = match self {
+            Parts::Items(items) => return items.with_part(alloc, made),
+            Parts::Row(row) => row.with_part(alloc, made)?,
+            Parts::OfSome(payload) => return payload.with_part(alloc, made),
+            Parts::OfResult(payload) => return payload.with_part(alloc, made),
+            Parts::OfCase(payload) => payload.with_part(alloc, made)?,
+            Parts::Fields(fields) => fields.with_part(alloc, made)?,
+            Parts::Entries(entries) => entries.with_part(alloc, made)?,
+            _ => None,
+        };
+        self.wrong(found);
+        Ok(())
+    }
+
+    /// A fault that was found takes the place of the parts.
+    fn wrong(&mut self, found: Option<Fault>)
+        ensures { MatchOption found (self.new ≡ self.old) (λ f. self.new ≡ parts.Faulty f) }
+    {
+        if let Some(fault) = found {
+            *self = Parts::Faulty(fault);
         }
     }
 

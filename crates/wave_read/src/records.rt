@@ -12,6 +12,7 @@ ghost use Rattle.wave_plan.specs.NodeParts.{TakesKey, TakesPart};
 ghost use Rattle.wave_plan.specs.Reading.{IsReadAs, IsReadWhereDue};
 ghost use Rattle.wave_lex.specs.Errors.{field_label_due, repeated_name};
 ghost use Rattle.wave_lex.specs.declared.error.ParserErrorKind.TheVariants.{InvalidType, DuplicateField, OutOfMemory};
+ghost use Rattle.wave_read.specs.Faults.{IsDoomed};
 ghost use Rattle.wave_read.specs.RecordParts.{AreFields, IsFieldKey, IsKeyFault, IsNamedAt, AreFull, IsLeftUnfilled, IsMissingOrMemory, IsToldAs, type_due, field_name, with_value};
 ghost use Rattle.wave_read.specs.declared.records.Field.{Field};
 
@@ -43,8 +44,6 @@ pub struct Fields<'ty, T, V> {
     behind: usize,
     /// The place and the type of the field whose key was taken.
     due: Option<(usize, &'ty T)>,
-    /// What is wrong with the record.
-    fault: Option<Fault>,
 }
 
 impl<'ty, T, V> Fields<'ty, T, V> {
@@ -116,72 +115,59 @@ impl<'ty, V: WasmValue> Fields<'ty, V::Type, V> {
             fields,
             behind: 0,
             due: None,
-            fault: None,
         })
     }
 
-    /// The type of the value that comes next: behind a key, where no fault was found.
+    /// The type of the value that comes next, behind a key.
     pub(crate) fn next(&self) -> Option<&'ty V::Type>
         ensures { result ≡ type_due self.now }
     {
-        if self.fault.is_some() {
-            return None;
-        }
         match self.due {
             Some((_, ty)) => Some(ty),
             None => None,
         }
     }
 
-    /// Adds a key, which is of this type and text.
+    /// Adds a key, which is of this type and text; or what is wrong with the record.
     pub(crate) fn with_key(
         &mut self,
         alloc: Global,
         ty: NodeType,
         span: Span,
         text: &str,
-    ) -> Result<(), AllocError>
-        ensures { IfOk result (λ _. (T : TypeTree) (source : List ℕ) (children : List NodeTree) → text.now ≡ slice source span → TakesKey NodeType.TupleSet children → AreFields V.tree V.is_of V.is_full V.Type.tree T source children self.old → AreFields V.tree V.is_of V.is_full V.Type.tree T source (children ++ node ty span no_nodes ∷ []) self.new) }
+    ) -> Result<Option<Fault>, AllocError>
+        ensures { IfOk result (λ found. (T : TypeTree) (source : List ℕ) (children : List NodeTree) → text.now ≡ slice source span → TakesKey NodeType.TupleSet children → AreFields V.tree V.is_of V.is_full V.Type.tree T source children self.old
+            → MatchOption found (AreFields V.tree V.is_of V.is_full V.Type.tree T source (children ++ node ty span no_nodes ∷ []) self.new) (IsDoomed V.tree V.is_of V.is_full T source NodeType.TupleSet (children ++ node ty span no_nodes ∷ []))) }
     {
-        if self.fault.is_some() {
-            return Ok(());
-        }
         match self.named(alloc, ty, span, text)? {
             Ok(due) => {
                 self.due = Some(due);
-                Ok(())
+                Ok(None)
             }
-            Err(fault) => {
-                drop(self.fault.replace(fault));
-                Ok(())
-            }
+            Err(fault) => Ok(Some(fault)),
         }
     }
 
-    /// Adds the value behind the last key, which was read at the type that is due.
+    /// Adds the value behind the last key, which was read at the type that is due; or what is wrong
+    /// with the record.
     pub(crate) fn with_part(
         &mut self,
         alloc: Global,
         made: Result<V, Failure>,
-    ) -> Result<(), AllocError>
-        ensures { IfOk result (λ _. (T : TypeTree) (source : List ℕ) (children : List NodeTree) (n : NodeTree) → TakesPart NodeType.TupleSet children → AreFields V.tree V.is_of V.is_full V.Type.tree T source children self.old → IsReadWhereDue V.tree V.is_of V.is_full (shown V.Type.tree (type_due self.old)) source n made → AreFields V.tree V.is_of V.is_full V.Type.tree T source (children ++ n ∷ []) self.new) }
+    ) -> Result<Option<Fault>, AllocError>
+        ensures { IfOk result (λ found. (T : TypeTree) (source : List ℕ) (children : List NodeTree) (n : NodeTree) → TakesPart NodeType.TupleSet children → AreFields V.tree V.is_of V.is_full V.Type.tree T source children self.old → IsReadWhereDue V.tree V.is_of V.is_full (shown V.Type.tree (type_due self.old)) source n made
+            → MatchOption found (AreFields V.tree V.is_of V.is_full V.Type.tree T source (children ++ n ∷ []) self.new) (IsDoomed V.tree V.is_of V.is_full T source NodeType.TupleSet (children ++ n ∷ []))) }
     {
-        if self.fault.is_some() {
-            return Ok(());
-        }
         let Some((i, _)) = self.due.take() else {
-            return Ok(());
+            return Ok(None);
         };
         match made {
             Ok(val) => {
                 keep(&mut self.fields, i, val);
                 self.behind = i.saturating_add(1);
-                Ok(())
+                Ok(None)
             }
-            Err(failure) => {
-                drop(self.fault.replace(Fault::Told(failure)));
-                Ok(())
-            }
+            Err(failure) => Ok(Some(Fault::Told(failure))),
         }
     }
 
@@ -189,15 +175,7 @@ impl<'ty, V: WasmValue> Fields<'ty, V::Type, V> {
     pub(crate) fn whole(self, alloc: Global, span: Span) -> Result<V, ParserError>
         ensures { (T : TypeTree) (source : List ℕ) (children : List NodeTree) → AreFields V.tree V.is_of V.is_full V.Type.tree T source children self.entry → IsReadAs V.tree V.is_of V.is_full T source (node NodeType.TupleSet span (node_trees children)) result }
     {
-        let Fields {
-            ty,
-            fields,
-            fault,
-            ..
-        } = self;
-        if let Some(fault) = fault {
-            return Err(fault.tell(span));
-        }
+        let Fields { ty, fields, .. } = self;
         let fields = filled(alloc, fields, &span)?;
         match V::make_record(alloc, ty, fields) {
             Ok(val) => Ok(val),

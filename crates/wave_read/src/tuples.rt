@@ -1,9 +1,10 @@
 //! Tuples, read at their types.
-ghost use Rattle.std.specs.Prelude.{ℕ, List, [], ◌∷◌, ◌++◌, ◌≡◌, IfOk, IfErr};
+ghost use Rattle.std.specs.Prelude.{ℕ, List, [], ◌∷◌, ◌++◌, ◌≡◌, IfOk, IfErr, MatchOption};
 ghost use Rattle.wave_wasm.specs.Types.{TypeTree, kind_of};
 ghost use Rattle.wave_wasm.specs.Borrowed.{shown};
 ghost use Rattle.wave_forms.specs.NodeTree.{NodeTree, node, node_trees};
 ghost use Rattle.wave_plan.specs.Reading.{IsReadAs, IsReadWhereDue};
+ghost use Rattle.wave_read.specs.Faults.{IsDoomed};
 ghost use Rattle.wave_read.specs.TupleParts.{IsRow, item_due};
 
 use crate::fault::{Fault, or_error_at};
@@ -23,8 +24,6 @@ pub struct Row<'ty, T, V> {
     types: Vec<&'ty T>,
     /// The items that were read.
     items: Vec<V>,
-    /// What is wrong with the tuple, once that was found.
-    fault: Option<Fault>,
     /// The number of all items so far.
     count: usize,
 }
@@ -41,48 +40,42 @@ impl<'ty, V: WasmValue> Row<'ty, V::Type, V> {
             ty,
             types,
             items,
-            fault: None,
             count: 0,
         })
     }
 
-    /// The type of the item that comes next, where there is one and no fault was found.
+    /// The type of the item that comes next, where there is one.
     pub(crate) fn next(&self) -> Option<&'ty V::Type>
         ensures { result ≡ item_due self.now }
     {
-        if self.fault.is_some() {
-            return None;
-        }
         match self.types.get(self.items.len()) {
             Some(ty) => Some(*ty),
             None => None,
         }
     }
 
-    /// Adds an item, which was read at the type that is due.
+    /// Adds an item, which was read at the type that is due; or what is wrong with the tuple.
     pub(crate) fn with_part(
         &mut self,
         alloc: Global,
         made: Result<V, Failure>,
-    ) -> Result<(), AllocError>
-        ensures { IfOk result (λ _. (T : TypeTree) (source : List ℕ) (children : List NodeTree) (n : NodeTree) → IsRow V.Type.tree V.tree V.is_of V.is_full T source children self.old → IsReadWhereDue V.tree V.is_of V.is_full (shown V.Type.tree (item_due self.old)) source n made → IsRow V.Type.tree V.tree V.is_of V.is_full T source (children ++ n ∷ []) self.new) }
+    ) -> Result<Option<Fault>, AllocError>
+        ensures { IfOk result (λ found. (T : TypeTree) (source : List ℕ) (children : List NodeTree) (n : NodeTree) → IsRow V.Type.tree V.tree V.is_of V.is_full T source children self.old → IsReadWhereDue V.tree V.is_of V.is_full (shown V.Type.tree (item_due self.old)) source n made
+            → MatchOption found (IsRow V.Type.tree V.tree V.is_of V.is_full T source (children ++ n ∷ []) self.new) (IsDoomed V.tree V.is_of V.is_full T source NodeType.Tuple (children ++ n ∷ []))) }
     {
         match self.count.checked_add(1) {
             Some(count) => self.count = count,
             None => return Err(AllocError),
         }
         if self.next().is_none() {
-            return Ok(());
+            return Ok(None);
         }
         match made {
             Ok(item) => {
                 self.items.push(item)?;
-                Ok(())
+                Ok(None)
             }
-            Err(failure) => {
-                self.fault = Some(Fault::Told(failure));
-                Ok(())
-            }
+            Err(failure) => Ok(Some(Fault::Told(failure))),
         }
     }
 
@@ -94,12 +87,8 @@ impl<'ty, V: WasmValue> Row<'ty, V::Type, V> {
             ty,
             types,
             items,
-            fault,
             count,
         } = self;
-        if let Some(fault) = fault {
-            return Err(fault.tell(span));
-        }
         let want = types.len();
         if count != want {
             let cause = WasmValueError::WrongNumberOfTupleValues { want, got: count };

@@ -1,5 +1,5 @@
 //! Variants, read at their types.
-ghost use Rattle.std.specs.Prelude.{ℕ, ◌≡◌, ◌++◌, List, [], ◌∷◌, IfOk, IfSome, option_map};
+ghost use Rattle.std.specs.Prelude.{ℕ, ◌≡◌, ◌++◌, List, [], ◌∷◌, IfOk, IfSome, MatchOption, option_map};
 ghost use Rattle.wave_wasm.specs.Types.{TypeTree, kind_of};
 ghost use Rattle.wave_wasm.specs.Borrowed.{shown, shown_cases};
 ghost use Rattle.wave_wasm.specs.ValueErrors.{missing_payload};
@@ -12,6 +12,7 @@ ghost use Rattle.wave_plan.specs.Leaves.{leaf_node, IsLeafIn};
 ghost use Rattle.wave_plan.specs.NodeParts.{IsOneToken, TakesKey, TakesPart};
 ghost use Rattle.wave_plan.specs.Reading.{IsReadAs, IsReadWhereDue};
 ghost use Rattle.wave_read.specs.CaseParts.{AreCaseParts, payload_due};
+ghost use Rattle.wave_read.specs.Faults.{IsDoomed};
 
 use crate::enums::no_case;
 use crate::fault::Fault;
@@ -35,8 +36,6 @@ pub struct CasePayload<'ty, T, V> {
     case: Option<(&'ty str, &'ty T)>,
     /// The payload, once it was read.
     payload: Option<V>,
-    /// What is wrong with the value, once that was found.
-    fault: Option<Fault>,
 }
 
 impl<'ty, V: WasmValue> CasePayload<'ty, V::Type, V> {
@@ -49,76 +48,66 @@ impl<'ty, V: WasmValue> CasePayload<'ty, V::Type, V> {
             ty,
             case: None,
             payload: None,
-            fault: None,
         }
     }
 
-    /// The type of the payload, where the case has one and no fault was found.
+    /// The type of the payload, once the label was read.
     pub(crate) fn next(&self) -> Option<&'ty V::Type>
         ensures { result ≡ payload_due self.now }
     {
-        if self.fault.is_some() {
-            return None;
-        }
         match self.case {
             Some((_, payload)) => Some(payload),
             None => None,
         }
     }
 
-    /// The label of the case is read: the type has such a case, and the case has a payload.
+    /// The label of the case is read: the type has such a case, and the case has a payload; or that is
+    /// wrong.
     pub(crate) fn with_key(
         &mut self,
         alloc: Global,
         ty: NodeType,
         span: Span,
         text: &str,
-    ) -> Result<(), AllocError>
-        ensures { IfOk result (λ _. (T : TypeTree) (source : List ℕ) (children : List NodeTree) → text.now ≡ slice source span → TakesKey node_type.VariantWithPayload children → AreCaseParts V.Type.tree V.tree V.is_of V.is_full T source children self.old → AreCaseParts V.Type.tree V.tree V.is_of V.is_full T source (children ++ node ty span no_nodes ∷ []) self.new) }
+    ) -> Result<Option<Fault>, AllocError>
+        ensures { IfOk result (λ found. (T : TypeTree) (source : List ℕ) (children : List NodeTree) → text.now ≡ slice source span → TakesKey node_type.VariantWithPayload children → AreCaseParts V.Type.tree V.tree V.is_of V.is_full T source children self.old
+            → MatchOption found (AreCaseParts V.Type.tree V.tree V.is_of V.is_full T source (children ++ node ty span no_nodes ∷ []) self.new) (IsDoomed V.tree V.is_of V.is_full T source node_type.VariantWithPayload (children ++ node ty span no_nodes ∷ []))) }
     {
         let cases = self.ty.variant_cases(alloc)?;
         let name = label_name(text);
         match named_case(&cases, name) {
             Some((case, Some(payload))) => {
                 self.case = Some((case, payload));
-                self.fault = None;
-                Ok(())
+                Ok(None)
             }
             Some((_, None)) => {
                 let name = String::from_str(alloc, name)?;
                 let cause = Box::new(alloc, WasmValueError::UnexpectedPayload(name))?;
-                self.wrong(Fault::Cause(cause));
-                Ok(())
+                Ok(Some(Fault::Cause(cause)))
             }
             None => {
                 let name = String::from_str(alloc, name)?;
                 let cause = Box::new(alloc, WasmValueError::UnknownCase(name))?;
-                self.wrong(Fault::Cause(cause));
-                Ok(())
+                Ok(Some(Fault::Cause(cause)))
             }
         }
     }
 
-    /// The payload is read, or its refusal kept.
+    /// The payload is read, or was refused.
     pub(crate) fn with_part(
         &mut self,
         alloc: Global,
         made: Result<V, Failure>,
-    ) -> Result<(), AllocError>
-        ensures { IfOk result (λ _. (T : TypeTree) (source : List ℕ) (children : List NodeTree) (n : NodeTree) → TakesPart node_type.VariantWithPayload children → AreCaseParts V.Type.tree V.tree V.is_of V.is_full T source children self.old → IsReadWhereDue V.tree V.is_of V.is_full (shown V.Type.tree (payload_due self.old)) source n made → AreCaseParts V.Type.tree V.tree V.is_of V.is_full T source (children ++ n ∷ []) self.new) }
+    ) -> Result<Option<Fault>, AllocError>
+        ensures { IfOk result (λ found. (T : TypeTree) (source : List ℕ) (children : List NodeTree) (n : NodeTree) → TakesPart node_type.VariantWithPayload children → AreCaseParts V.Type.tree V.tree V.is_of V.is_full T source children self.old → IsReadWhereDue V.tree V.is_of V.is_full (shown V.Type.tree (payload_due self.old)) source n made
+            → MatchOption found (AreCaseParts V.Type.tree V.tree V.is_of V.is_full T source (children ++ n ∷ []) self.new) (IsDoomed V.tree V.is_of V.is_full T source node_type.VariantWithPayload (children ++ n ∷ []))) }
     {
-        if self.fault.is_some() {
-            return Ok(());
-        }
         match made {
             Ok(val) => {
                 drop(self.payload.replace(val));
-                Ok(())
+                Ok(None)
             }
-            Err(failure) => {
-                self.wrong(Fault::Told(failure));
-                Ok(())
-            }
+            Err(failure) => Ok(Some(Fault::Told(failure))),
         }
     }
 
@@ -126,15 +115,7 @@ impl<'ty, V: WasmValue> CasePayload<'ty, V::Type, V> {
     pub(crate) fn whole(self, alloc: Global, span: Span) -> Result<V, ParserError>
         ensures { (T : TypeTree) (source : List ℕ) (children : List NodeTree) → AreCaseParts V.Type.tree V.tree V.is_of V.is_full T source children self.entry → IsReadAs V.tree V.is_of V.is_full T source (node node_type.VariantWithPayload span (node_trees children)) result }
     {
-        let CasePayload {
-            ty,
-            case,
-            payload,
-            fault,
-        } = self;
-        if let Some(fault) = fault {
-            return Err(fault.tell(span));
-        }
+        let CasePayload { ty, case, payload } = self;
         let (name, val) = match (case, payload) {
             (Some((name, _)), Some(val)) => (name, val),
             _ => return Err(ParserError::new(ParserErrorKind::InvalidType, span)),
@@ -143,14 +124,6 @@ impl<'ty, V: WasmValue> CasePayload<'ty, V::Type, V> {
             Ok(val) => Ok(val),
             Err(cause) => Err(ParserError::with_cause(span, cause)),
         }
-    }
-
-    /// This is wrong with the value.
-    fn wrong(&mut self, fault: Fault)
-        ensures ty { self.new.ty ≡ self.old.ty }
-        ensures fault { self.new.fault ≡ Some fault }
-    {
-        drop(self.fault.replace(fault));
     }
 }
 

@@ -1,15 +1,11 @@
 use Rattle.std.proofs.Common.{Ok, Err, refl}
-use Rattle.wave_read.proofs.MapSteps.{whole_refused, whole_made}
+use Rattle.wave_read.proofs.MapSteps.{whole_made}
 use Rattle.wave_read.proofs.maps.Entries+V+Type+V.whole.Goals as goal
-
-pub returns-in-Some : goal.returns-in-Some
-returns-in-Some g c = λ T source children h.
-    whole_refused g.V.WasmValue.tree g.V.WasmValue.is_of g.V.WasmValue.is_full g.V.Type.WasmType.tree T source children c.args.self h c.in-Some.fault c.args.span c.tell.result c.in-Some.is c.tell.ensures
 
 pub returns-in-Ok-make_map : goal.returns-in-Ok-make_map
 returns-in-Ok-make_map g c = λ T source children h.
-    whole_made g.V.WasmValue.tree g.V.WasmValue.is_of g.V.WasmValue.is_full g.V.Type.WasmType.tree T source children c.args.self h c.args.span c.in-Ok.entries.items (Ok c.in-Ok-make_map.val) (Ok c.in-Ok-make_map.val) (λ f is. c.in_default.not-Some f is) g.met.V.WasmValue.of_fits c.in-Ok.ensures c.in-Ok-make_map.ensures.made c.in-Ok-make_map.ensures.full refl
+    whole_made g.V.WasmValue.tree g.V.WasmValue.is_of g.V.WasmValue.is_full g.V.Type.WasmType.tree T source children c.args.self h c.args.span c.in-Ok.entries.items (Ok c.in-Ok-make_map.val) (Ok c.in-Ok-make_map.val) g.met.V.WasmValue.of_fits c.in-Ok.ensures c.in-Ok-make_map.ensures.made c.in-Ok-make_map.ensures.full refl
 
 pub returns : goal.returns
 returns g c = λ T source children h.
-    whole_made g.V.WasmValue.tree g.V.WasmValue.is_of g.V.WasmValue.is_full g.V.Type.WasmType.tree T source children c.args.self h c.args.span c.in-Ok.entries.items (Err c.in-Err-make_map.cause) (Err c.with_cause.result) (λ f is. c.in_default.not-Some f is) g.met.V.WasmValue.of_fits c.in-Ok.ensures c.in-Err-make_map.ensures.made c.in-Err-make_map.ensures.full (c.with_cause.ensures.refusal, c.with_cause.ensures.span)
+    whole_made g.V.WasmValue.tree g.V.WasmValue.is_of g.V.WasmValue.is_full g.V.Type.WasmType.tree T source children c.args.self h c.args.span c.in-Ok.entries.items (Err c.in-Err-make_map.cause) (Err c.with_cause.result) g.met.V.WasmValue.of_fits c.in-Ok.ensures c.in-Err-make_map.ensures.made c.in-Err-make_map.ensures.full (c.with_cause.ensures.refusal, c.with_cause.ensures.span)

@@ -18,5 +18,4 @@ returns g c = λ source.
         distinct = λ apart. tt;
         kept = λ apart. subst (AreKept g.V.WasmValue.tree g.V.WasmValue.is_of g.V.WasmValue.is_full g.V.Type.WasmType.tree source []) (sym empty) (none_kept g.V.WasmValue.tree g.V.WasmValue.is_of g.V.WasmValue.is_full g.V.Type.WasmType.tree source c.in_ok-types.types.items);
       };
-      doomed = tt;
     }

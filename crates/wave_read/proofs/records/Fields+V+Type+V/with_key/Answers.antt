@@ -1,17 +1,13 @@
-use Rattle.std.proofs.Common.{ℕ, List, sym, ◌∙◌, subst}
+use Rattle.std.proofs.Common.{ℕ, List, subst}
 use Rattle.wave_forms.specs.NodeTree.{node, no_nodes}
 use Rattle.wave_read.specs.RecordParts.{IsFieldKey, IsKeyFault}
-use Rattle.wave_read.proofs.RecordSteps.{still_faulty, key_taken, key_faulty}
+use Rattle.wave_read.proofs.RecordSteps.{key_taken, key_doomed}
 use Rattle.wave_read.proofs.records.Fields+V+Type+V.with_key.Goals as goal
-
-pub returns-then-is_some : goal.returns-then-is_some
-returns-then-is_some g c = λ T source children is due h.
-    still_faulty g.V.WasmValue.tree g.V.WasmValue.is_of g.V.WasmValue.is_full g.V.Type.WasmType.tree T source children c.args.self.now h (node c.args.ty c.args.span no_nodes) (sym c.is_some.ensures ∙ c.if-is_some.true)
 
 pub returns-in-Ok : goal.returns-in-Ok
 returns-in-Ok g c = λ T source children is due h.
-    key_taken g.V.WasmValue.tree g.V.WasmValue.is_of g.V.WasmValue.is_full g.V.Type.WasmType.tree T source children c.args.self.now h (node c.args.ty c.args.span no_nodes) c.in-Ok.due (sym c.is_some.ensures ∙ c.if-is_some.false) due (subst (λ (w : List ℕ). IsFieldKey c.args.self.now.fields.items c.args.ty w c.in-Ok.due) is (rw c.in-Ok.is at c.in_ok-due.ensures))
+    key_taken g.V.WasmValue.tree g.V.WasmValue.is_of g.V.WasmValue.is_full g.V.Type.WasmType.tree T source children c.args.self.now h (node c.args.ty c.args.span no_nodes) c.in-Ok.due due (subst (λ (w : List ℕ). IsFieldKey c.args.self.now.fields.items c.args.ty w c.in-Ok.due) is (rw c.in-Ok.is at c.in_ok-due.ensures))
 
 pub returns-in-Err : goal.returns-in-Err
 returns-in-Err g c = λ T source children is due h.
-    key_faulty g.V.WasmValue.tree g.V.WasmValue.is_of g.V.WasmValue.is_full g.V.Type.WasmType.tree T source children c.args.self.now h (node c.args.ty c.args.span no_nodes) c.in-Err.fault c.replace.new.self (sym c.is_some.ensures ∙ c.if-is_some.false) due (subst (λ (w : List ℕ). IsKeyFault c.args.self.now.fields.items c.args.ty c.args.span w c.in-Err.fault) is (rw c.in-Err.is at c.in_ok-due.ensures)) c.replace.ensures.after
+    key_doomed g.V.WasmValue.tree g.V.WasmValue.is_of g.V.WasmValue.is_full g.V.Type.WasmType.tree T source children c.args.self.now h (node c.args.ty c.args.span no_nodes) c.in-Err.fault due (subst (λ (w : List ℕ). IsKeyFault c.args.self.now.fields.items c.args.ty c.args.span w c.in-Err.fault) is (rw c.in-Err.is at c.in_ok-due.ensures))

@@ -6,15 +6,8 @@ use Rattle.wave_wasm.specs.ConstructorContracts.{MakesTuple, FullTuple}
 use Rattle.wave_forms.specs.NodeTree.{node, node_trees}
 use Rattle.wave_forms.specs.declared.form.NodeType.TheVariants as kind
 use Rattle.wave_forms.proofs.ByKind.Tuples.{as_shown}
-use Rattle.wave_read.specs.TupleParts.{ReadOrFaulty}
-use Rattle.wave_read.proofs.Doomed.{told}
 use Rattle.wave_read.proofs.TupleItems.{count_refused, tuple_read}
 use Rattle.wave_read.proofs.tuples.Row+V+Type+V.whole.Goals as goal
-
-pub returns-in-Some : goal.returns-in-Some
-returns-in-Some g c = λ T source children a.
-    told g.V.WasmValue.tree g.V.WasmValue.is_of g.V.WasmValue.is_full T source kind.Tuple children c.in-Some.fault c.args.span c.tell.result
-    (subst (ReadOrFaulty g.V.WasmValue.tree g.V.WasmValue.is_of g.V.WasmValue.is_full T (shown_all g.V.Type.WasmType.tree c.args.self.types.items) source children c.args.self.items.items) c.in-Some.is a.read) c.tell.ensures
 
 pub returns-then-count-want : goal.returns-then-count-want
 returns-then-count-want g c = λ T source children a.
@@ -24,8 +17,7 @@ returns-then-count-want g c = λ T source children a.
 pub returns : goal.returns
 returns g c = λ T source children a.
     let wanted : c.len-want.result ≡ length (shown_all g.V.Type.WasmType.tree c.args.self.types.items) = omega (arith, as_shown g.V.Type.WasmType.tree c.args.self.types.items) in
-    tuple_read g.V.WasmValue.tree g.V.WasmValue.is_of g.V.WasmValue.is_full T (shown_all g.V.Type.WasmType.tree c.args.self.types.items) source c.args.span children c.args.self.items.items c.len-want.result c.args.self.count c.make_tuple.result c.or_error_at.result a.kind a.parts wanted a.count c.if-count-want.false
-    (subst (ReadOrFaulty g.V.WasmValue.tree g.V.WasmValue.is_of g.V.WasmValue.is_full T (shown_all g.V.Type.WasmType.tree c.args.self.types.items) source children c.args.self.items.items) c.in_default.is a.read)
+    tuple_read g.V.WasmValue.tree g.V.WasmValue.is_of g.V.WasmValue.is_full T (shown_all g.V.Type.WasmType.tree c.args.self.types.items) source c.args.span children c.args.self.items.items c.len-want.result c.args.self.count c.make_tuple.result c.or_error_at.result a.kind a.parts wanted a.count c.if-count-want.false a.read
     (subst (λ (U : TypeTree). IfOk c.make_tuple.result (MakesTuple g.V.WasmValue.tree g.V.WasmValue.is_of U c.args.self.items.items)) a.is c.make_tuple.ensures.made)
     (subst (λ (U : TypeTree). IfErr c.make_tuple.result (FullTuple g.V.WasmValue.is_of g.V.WasmValue.is_full U c.args.self.items.items)) a.is c.make_tuple.ensures.full)
     (c.or_error_at.ensures (node kind.Tuple c.args.span (node_trees children)) refl)

@@ -1,21 +1,19 @@
-use Rattle.std.proofs.Common.{◌≡◌, false, is_some, sym, ap, ◌∙◌, subst}
+use Rattle.std.proofs.Common.{is_some, sym, ap, ◌∙◌, subst}
 use Rattle.wave_wasm.specs.Borrowed.{shown}
 use Rattle.wave_plan.specs.Reading.{IsReadWhereDue}
 use Rattle.wave_read.specs.TupleParts.{item_due}
 use Rattle.wave_read.proofs.ListItems.{one_more}
-use Rattle.wave_read.proofs.TupleItems.{nothing_due, item_kept, item_refused}
+use Rattle.wave_read.proofs.TupleItems.{each_beyond, each_next, item_refused}
 use Rattle.wave_read.proofs.tuples.Row+V+Type+V.with_part.Goals as goal
 
 pub returns-then-is_none : goal.returns-then-is_none
-returns-then-is_none g c = λ T source children n a due.
-    let none : is_some (item_due c.args.self.now) ≡ false = ap is_some (sym c.next.ensures) ∙ c.if-is_none.ensures in
-    record {
-      is = a.is;
-      kind = a.kind;
-      parts = a.parts;
-      count = one_more children n c.args.self.now.count c.in-Some.count a.count c.in-Some.ensures.1;
-      read = nothing_due g.V.WasmValue.tree g.V.WasmValue.is_of g.V.WasmValue.is_full g.V.Type.WasmType.tree source T c.args.self.now.types.items children c.args.self.now.items.items c.args.self.now.fault n none a.read;
-    }
+returns-then-is_none g c = λ T source children n a due. record {
+  is = a.is;
+  kind = a.kind;
+  parts = a.parts;
+  count = one_more children n c.args.self.now.count c.in-Some.count a.count c.in-Some.ensures.1;
+  read = each_beyond g.V.WasmValue.tree g.V.WasmValue.is_of g.V.WasmValue.is_full g.V.Type.WasmType.tree source c.args.self.now.types.items children c.args.self.now.items.items n (ap is_some (sym c.next.ensures) ∙ c.if-is_none.ensures) a.read;
+}
 
 pub returns-in_ok-push-in-Ok : goal.returns-in_ok-push-in-Ok
 returns-in_ok-push-in-Ok g c = λ T source children n a due. record {
@@ -23,16 +21,11 @@ returns-in_ok-push-in-Ok g c = λ T source children n a due. record {
   kind = a.kind;
   parts = a.parts;
   count = one_more children n c.args.self.now.count c.in-Some.count a.count c.in-Some.ensures.1;
-  read = item_kept g.V.WasmValue.tree g.V.WasmValue.is_of g.V.WasmValue.is_full g.V.Type.WasmType.tree source T c.args.self.now.types.items children c.args.self.now.items.items c.push.new.self.items c.args.self.now.fault n c.in-Ok.item (ap is_some (sym c.next.ensures) ∙ c.if-is_none.ensures) a.read
-      (subst (IsReadWhereDue g.V.WasmValue.tree g.V.WasmValue.is_of g.V.WasmValue.is_full (shown g.V.Type.WasmType.tree (item_due c.args.self.now)) source n) c.in-Ok.is due) c.in_ok-push-in-Ok.ensures.items;
+  read = rw c.in_ok-push-in-Ok.ensures.items (each_next g.V.WasmValue.tree g.V.WasmValue.is_of g.V.WasmValue.is_full g.V.Type.WasmType.tree source c.args.self.now.types.items children c.args.self.now.items.items n c.in-Ok.item (ap is_some (sym c.next.ensures) ∙ c.if-is_none.ensures) a.read
+      (subst (IsReadWhereDue g.V.WasmValue.tree g.V.WasmValue.is_of g.V.WasmValue.is_full (shown g.V.Type.WasmType.tree (item_due c.args.self.now)) source n) c.in-Ok.is due));
 }
 
 pub returns-in-Err : goal.returns-in-Err
-returns-in-Err g c = λ T source children n a due. record {
-  is = a.is;
-  kind = a.kind;
-  parts = a.parts;
-  count = one_more children n c.args.self.now.count c.in-Some.count a.count c.in-Some.ensures.1;
-  read = item_refused g.V.WasmValue.tree g.V.WasmValue.is_of g.V.WasmValue.is_full g.V.Type.WasmType.tree source T c.args.self.now.types.items children c.args.self.now.items.items c.args.self.now.items.items c.args.self.now.fault n c.in-Err.failure g.met.V.WasmValue.full_parts a.kind a.parts (ap is_some (sym c.next.ensures) ∙ c.if-is_none.ensures) a.read
-      (subst (IsReadWhereDue g.V.WasmValue.tree g.V.WasmValue.is_of g.V.WasmValue.is_full (shown g.V.Type.WasmType.tree (item_due c.args.self.now)) source n) c.in-Err.is due);
-}
+returns-in-Err g c = λ T source children n a due.
+    item_refused g.V.WasmValue.tree g.V.WasmValue.is_of g.V.WasmValue.is_full g.V.Type.WasmType.tree source T c.args.self.now.types.items children c.args.self.now.items.items n c.in-Err.failure g.met.V.WasmValue.full_parts a.kind a.parts (ap is_some (sym c.next.ensures) ∙ c.if-is_none.ensures) a.read
+    (subst (IsReadWhereDue g.V.WasmValue.tree g.V.WasmValue.is_of g.V.WasmValue.is_full (shown g.V.Type.WasmType.tree (item_due c.args.self.now)) source n) c.in-Err.is due)
