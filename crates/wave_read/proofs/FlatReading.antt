@@ -1,5 +1,5 @@
 -- Values that stand for an option or a result of themselves, around what was read.
-use Rattle.std.proofs.Common.{ℕ, ◌≡◌, ◌≢◌, inl, List, Some, None, Result, Ok, Err, IfOk, IfErr, refl, subst}
+use Rattle.std.proofs.Common.{ℕ, ◌≡◌, ◌≢◌, inl, List, [], Option, Some, None, Bor, Result, Ok, Err, IfOk, IfErr, refl, sym, subst}
 use Rattle.wave_wasm.specs.Types as type
 use Rattle.wave_wasm.specs.Types.{TypeTree, kind_of}
 use Rattle.wave_wasm.specs.Values.{Value}
@@ -8,14 +8,19 @@ use Rattle.wave_wasm.specs.declared.wasm.WasmTypeKind.TheVariants as kinds
 use Rattle.wave_wasm.specs.declared.wasm.WasmValueError.{WasmValueError}
 use Rattle.wave_lex.specs.Errors.{Diagnostic}
 use Rattle.wave_lex.specs.declared.error.ParserErrorKind.TheVariants.{InvalidType}
+use Rattle.wave_grammar.specs.TypedGrammar.{IsFlat}
 use Rattle.wave_forms.specs.NodeTree.{NodeTree, type_of, place_of}
+use Rattle.wave_forms.specs.declared.form.NodeType.{NodeType}
 use Rattle.wave_forms.specs.NodeAccessors.{RefusedAs}
 use Rattle.wave_forms.specs.TypedReading.{IsMade}
 use Rattle.wave_forms.proofs.ByKind.Options.{flat_made, flat_blame}
 use Rattle.wave_forms.proofs.ByKind.Results.{result_flat_made, result_flat_blame}
 use Rattle.wave_forms.proofs.ErrorSpans.Nodes.{made_in}
 use Rattle.wave_plan.specs.Reading.{IsReadAs}
-use Rattle.wave_read.specs.Flat.{IsFlatAt}
+use Rattle.wave_read.specs.Flat.{IsFlatAt, IsAround}
+use Rattle.wave_read.specs.KeptParts.{AreOfType}
+use Rattle.wave_read.specs.PartsOfKinds.{AreParts}
+use Rattle.wave_read.specs.declared.values.Kept.{Kept}
 
 -- what a node of another form would be refused for
 abbrev other_form : NodeTree → Diagnostic
@@ -50,3 +55,25 @@ module _ {V : Type 0} (tree : V → Value) (of : V → TypeTree → Type 0) (Ful
       record { answer = λ t is distinct. result_flat_made tree of Full (type.result (type.a_type A) B) A B t n v m r refl distinct h.1 (inner.answer t is distinct.0) makes full done; within = λ value. made_in source n m r (inl value) done }
   result_around (type.option P) U source n v m r kind h read makes full done = absurd (kind refl)
   result_around _ U source n v m r kind h read makes full done = absurd h
+
+-- a flat payload is flat itself, so none stands for it
+payload_flat : (T P : TypeTree) (ty : NodeType) → IsFlatAt T ty P → IsFlat P
+payload_flat (type.option Q) P ty h = subst IsFlat (sym h.0) h.1
+payload_flat (type.result (type.a_type A) B) P ty h = subst IsFlat (sym h.0) h.1
+payload_flat _ P ty h = absurd h
+
+none_in_flat : (P U : TypeTree) (ty : NodeType) → IsFlat P → IsFlatAt P ty U → ⊥
+none_in_flat (type.option P) U ty flat h = flat
+none_in_flat (type.result A B) U ty flat h = flat
+none_in_flat _ U ty flat h = h
+
+module _ {S : Type 0} (type_tree : S → TypeTree) (T : TypeTree) (ty : NodeType) where
+  -- the type whose parts are read is no option or result of a flat payload
+  pub none_flat_within : (around : Option (Bor S)) (x : Bor S) → IsAround type_tree T ty around x → (U : TypeTree) → IsFlatAt (type_tree x.now) ty U → ⊥
+  none_flat_within None x h U flat = h.1 U (subst (λ (W : TypeTree). IsFlatAt W ty U) h.0 flat)
+  none_flat_within (Some whole) x h U flat = none_in_flat (type_tree x.now) U ty (payload_flat T (type_tree x.now) ty h.1) flat
+
+  -- no parts of that type are no parts of the whole
+  pub begun_around : {V : Type 0} (tree : V → Value) (of : V → TypeTree → Type 0) (Full : TypeTree → Type 0) (source : List ℕ) (around : Option (Bor S)) (x : Bor S) (kept : Kept S V) → IsAround type_tree T ty around x → AreParts type_tree tree of Full (type_tree x.now) source ty [] kept.parts → AreOfType type_tree tree of Full T source ty [] around kept
+  begun_around tree of Full source None x kept h parts = subst (λ (W : TypeTree). AreParts type_tree tree of Full W source ty [] kept.parts) h.0 parts
+  begun_around tree of Full source (Some whole) x kept h parts = (h.0, (type_tree x.now, h.1, parts))

@@ -1,5 +1,6 @@
 -- Values that stand for an option or a result of themselves.
 use Rattle.std.specs.Prelude.{◌≡◌, ◌≢◌, Option, Some, None}
+use Rattle.std.specs.Borrow.{Bor}
 use Rattle.wave_wasm.specs.Types as type
 use Rattle.wave_wasm.specs.Types.{TypeTree}
 use Rattle.wave_grammar.specs.TypedGrammar.{IsFlat}
@@ -16,3 +17,9 @@ IsFlatAt _ ty U = ⊥
 abbrev pub GivesFlatAt : TypeTree → NodeType → Option TypeTree → Type 0
 GivesFlatAt T ty (Some U) = IsFlatAt T ty U
 GivesFlatAt T ty None = (U : TypeTree) → IsFlatAt T ty U → ⊥
+
+-- nothing stands around the type, which is no option or result of a flat payload there; or this option or result
+-- does, and it is its payload's
+abbrev pub IsAround : {S : Type 0} → (S → TypeTree) → TypeTree → NodeType → Option (Bor S) → Bor S → Type 0
+IsAround type_tree T ty None x = (type_tree x.now ≡ T) × ((U : TypeTree) → IsFlatAt T ty U → ⊥)
+IsAround type_tree T ty (Some whole) x = (type_tree whole.now ≡ T) × IsFlatAt T ty (type_tree x.now)

@@ -4,7 +4,7 @@ ghost use Rattle.wave_wasm.specs.Types.{TypeTree};
 ghost use Rattle.wave_wasm.specs.Borrowed.{shown};
 ghost use Rattle.wave_forms.specs.NodeTree.{NodeTree, type_of, place_of};
 ghost use Rattle.wave_plan.specs.Reading.{IsReadAs};
-ghost use Rattle.wave_read.specs.Flat.{IsFlatAt, GivesFlatAt};
+ghost use Rattle.wave_read.specs.Flat.{IsFlatAt, GivesFlatAt, IsAround};
 
 use crate::fault::or_error_at;
 use std::alloc::Global;
@@ -32,6 +32,20 @@ pub(crate) fn flat_payload<'ty, T: WasmType>(ty: &'ty T, node: NodeType) -> Opti
             },
         },
         _ => None,
+    }
+}
+
+/// The type whose parts a node of this type has, and behind the option or result that is around it, where the
+/// type is one that a flat payload stands for.
+pub(crate) fn type_of_parts<'ty, T: WasmType>(
+    ty: &'ty T,
+    node: NodeType,
+) -> (Option<&'ty T>, &'ty T)
+    ensures { IsAround T.tree (T.tree ty.now) node result.0 result.1 }
+{
+    match flat_payload(ty, node) {
+        Some(payload) => (Some(ty), payload),
+        None => (None, ty),
     }
 }
 

@@ -4,7 +4,7 @@ ghost use Rattle.wave_plan.specs.NodeParts.{IsOfParts};
 ghost use Rattle.wave_read.specs.KeptParts.{AreKept};
 
 use crate::fault::Fault;
-use crate::flat::{around, flat_payload};
+use crate::flat::{around, type_of_parts};
 use crate::leaves::{flags_at, read_leaf};
 use crate::parts::Parts;
 use std::alloc::{AllocError, Global};
@@ -46,15 +46,10 @@ impl<'ty, V: WasmValue> Kept<'ty, V::Type, V> {
     fn new(alloc: Global, ty: &'ty V::Type, of: NodeType) -> Self
         ensures { (source : List ℕ) → IsOfParts of → AreKept V.Type.tree V.tree V.is_of V.is_full (V.Type.tree ty.now) source of [] result }
     {
-        match flat_payload(ty, of) {
-            Some(payload) => Kept {
-                around: Some(ty),
-                parts: Parts::new(alloc, payload, of),
-            },
-            None => Kept {
-                around: None,
-                parts: Parts::new(alloc, ty, of),
-            },
+        let (around, due) = type_of_parts(ty, of);
+        Kept {
+            around,
+            parts: Parts::new(alloc, due, of),
         }
     }
 }
