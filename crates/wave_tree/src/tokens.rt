@@ -433,7 +433,8 @@ impl<'source> Tokens<'source> {
         }
     }
 
-    /// Reads a value.
+    /// Reads a value. Each level of a value takes such a call, so what it calls isn't inlined, and its
+    /// frame stays small.
     #[cycle(parser)]
     fn parse_node<P: Plan>(
         &mut self,
@@ -465,6 +466,7 @@ impl<'source> Tokens<'source> {
 
     /// Reads what stands behind a label that is due to be a value.
     #[cycle(parser)]
+    #[inline(never)]
     fn parse_label<P: Plan>(
         &mut self,
         alloc: Global,
@@ -514,6 +516,7 @@ impl<'source> Tokens<'source> {
 
     /// Reads the payload behind a label, where an open parenthesis stands there.
     #[cycle(parser)]
+    #[inline(never)]
     fn parse_maybe<P: Plan>(
         &mut self,
         alloc: Global,
@@ -559,6 +562,7 @@ impl<'source> Tokens<'source> {
 
     /// Reads a value and the close parenthesis behind it, in a node behind these parts.
     #[cycle(parser)]
+    #[inline(never)]
     fn parse_payload<P: Plan>(
         &mut self,
         alloc: Global,
@@ -584,6 +588,7 @@ impl<'source> Tokens<'source> {
 
     /// Reads the items of a tuple or a list, and its close.
     #[cycle(parser)]
+    #[inline(never)]
     fn parse_items<P: Plan>(
         &mut self,
         alloc: Global,
@@ -632,6 +637,7 @@ impl<'source> Tokens<'source> {
 
     /// Reads what stands behind an open brace.
     #[cycle(parser)]
+    #[inline(never)]
     fn parse_braces<P: Plan>(
         &mut self,
         alloc: Global,
@@ -683,6 +689,7 @@ impl<'source> Tokens<'source> {
 
     /// Reads the value behind the first key, the further entries and the close.
     #[cycle(parser)]
+    #[inline(never)]
     fn parse_entries<P: Plan>(
         &mut self,
         alloc: Global,
@@ -721,6 +728,7 @@ impl<'source> Tokens<'source> {
     }
 
     /// Reads the flags behind the first, which was read, and the close.
+    #[inline(never)]
     fn parse_flags<P: Plan>(
         &mut self,
         alloc: Global,
