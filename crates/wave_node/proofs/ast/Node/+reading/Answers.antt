@@ -1,4 +1,4 @@
-use Rattle.std.proofs.Common.{◌≡◌, ℕ, arith, rules}
+use Rattle.std.proofs.Common.{◌≡◌, ℕ, arith}
 use Rattle.wave_wasm.specs.Types as type
 use Rattle.wave_forms.proofs.MakerAnswers.{faulty, handed}
 use Rattle.wave_forms.proofs.ByKind.Leaves.{said}
@@ -53,7 +53,7 @@ read-returns-in_default-clause-answer g m c = λ t is distinct.
 pub read_list-returns-in_err-nodes-clause-answer : goal.read_list-returns-in_err-nodes-clause-answer
 read_list-returns-in_err-nodes-clause-answer g m c = λ t is distinct.
     faulty g.V.WasmValue.tree g.V.WasmValue.is_of g.V.WasmValue.is_full (g.V.Type.WasmType.tree c.args.ty.now) t (g.V.Type.WasmType.tree c.args.ty.now) c.in_err-nodes.field-0.0 c.from_residual.result refl c.from_residual.ensures.1
-    (list_fault (g.V.Type.WasmType.tree c.args.ty.now) (g.V.Type.WasmType.tree c.unwrap-element.result.now) c.args.src.now c.args.self.now t _ _ (element_is g.V.Type.WasmType.tree (g.V.Type.WasmType.tree c.args.ty.now) c.list_element_type.result c.unwrap-element.result c.unwrap-element.ensures c.list_element_type.ensures) is.0 c.in_err-nodes.ensures.0 (said c.in_err-nodes.ensures.1))
+    (list_fault (g.V.Type.WasmType.tree c.args.ty.now) (g.V.Type.WasmType.tree c.unwrap-element.result.now) c.args.src.now c.args.self.now t (refusal_of c.in_err-nodes.field-0.0) c.in_err-nodes.field-0.0.span (element_is g.V.Type.WasmType.tree (g.V.Type.WasmType.tree c.args.ty.now) c.list_element_type.result c.unwrap-element.result c.unwrap-element.ensures c.list_element_type.ensures) is.0 c.in_err-nodes.ensures.0 (said {p = place_of c.args.self.now} c.in_err-nodes.ensures.1))
 
 pub read_list-returns-in_err-check_length-clause-answer : goal.read_list-returns-in_err-check_length-clause-answer
 read_list-returns-in_err-check_length-clause-answer g m c = λ t is distinct.
@@ -62,7 +62,7 @@ read_list-returns-in_err-check_length-clause-answer g m c = λ t is distinct.
 
 pub read_list-read-requires : goal.read_list-read-requires
 read_list-read-requires g m c κs within =
-    let value : IsValueOf c.args.src.now c.args.self.now = search rules in
+    let value : IsValueOf c.args.src.now c.args.self.now = assumption in
     (omega (arith, list_deep (g.V.Type.WasmType.tree c.args.ty.now) (g.V.Type.WasmType.tree c.unwrap-element.result.now) (element_is g.V.Type.WasmType.tree (g.V.Type.WasmType.tree c.args.ty.now) c.list_element_type.result c.unwrap-element.result c.unwrap-element.ensures c.list_element_type.ensures)), (within.0, (within.1, list_item c.args.src.now c.args.self.now c.in_ok-nodes.nodes.now c.loop-node.node-index c.node-item.result value c.in_ok-nodes.ensures.0 c.in_ok-nodes.ensures.1 c.loop-node-test.true c.node-item.is)))
 
 pub read_list-returns-in_err-item-clause-answer : goal.read_list-returns-in_err-item-clause-answer
@@ -85,7 +85,7 @@ read_list-returns-clause-answer g m c = λ t is distinct.
 
 pub read_option-read-requires : goal.read_option-read-requires
 read_option-read-requires g m c κs within =
-    let value : IsValueOf c.args.src.now c.args.self.now = search rules in
+    let value : IsValueOf c.args.src.now c.args.self.now = assumption in
     (omega (arith, option_deep (g.V.Type.WasmType.tree c.args.ty.now) (g.V.Type.WasmType.tree c.unwrap-payload.result.now) (payload_is g.V.Type.WasmType.tree (g.V.Type.WasmType.tree c.args.ty.now) c.option_some_type.result c.unwrap-payload.result c.unwrap-payload.ensures c.option_some_type.ensures)), (within.0, (within.1, some_value c.args.src.now c.args.self.now c.in-Ok-Some.node value (rw c.in-Ok-Some.field-0-is at c.in-Ok-Some.ensures))))
 
 pub read_option-returns-in_err-val-in-Ok-Some-clause-answer : goal.read_option-returns-in_err-val-in-Ok-Some-clause-answer
@@ -128,7 +128,7 @@ read_option-returns-in_ok-flat-in-Err-clause-answer g m c = λ t is distinct.
 
 pub read_result-read_payload-requires : goal.read_result-read_payload-requires
 read_result-read_payload-requires g m c κs within =
-    let value : IsValueOf c.args.src.now c.args.self.now = search rules in
+    let value : IsValueOf c.args.src.now c.args.self.now = assumption in
     (omega (arith, ok_deep (g.V.Type.WasmType.tree c.args.ty.now) (maybe_type (shown g.V.Type.WasmType.tree c.unwrap.result.0)) (maybe_type (shown g.V.Type.WasmType.tree c.unwrap.result.1)) (result_type g.V.Type.WasmType.tree (g.V.Type.WasmType.tree c.args.ty.now) c.result_types.result c.unwrap.result c.unwrap.ensures c.result_types.ensures)), (within.0, (within.1, ok_payload c.args.src.now c.args.self.now c.in-Ok-Ok.node value (rw c.in-Ok-Ok.field-0-is at c.in-Ok-Ok.ensures))))
 
 pub read_result-returns-in_err-val-in-Ok-Ok-clause-answer : goal.read_result-returns-in_err-val-in-Ok-Ok-clause-answer
@@ -146,7 +146,7 @@ read_result-returns-in_ok-val-in-Ok-Ok-clause-answer g m c = λ t is distinct.
 
 pub read_result-read_payload-requires-in-Ok-Err : goal.read_result-read_payload-requires-in-Ok-Err
 read_result-read_payload-requires-in-Ok-Err g m c κs within =
-    let value : IsValueOf c.args.src.now c.args.self.now = search rules in
+    let value : IsValueOf c.args.src.now c.args.self.now = assumption in
     (omega (arith, err_deep (g.V.Type.WasmType.tree c.args.ty.now) (maybe_type (shown g.V.Type.WasmType.tree c.unwrap.result.0)) (maybe_type (shown g.V.Type.WasmType.tree c.unwrap.result.1)) (result_type g.V.Type.WasmType.tree (g.V.Type.WasmType.tree c.args.ty.now) c.result_types.result c.unwrap.result c.unwrap.ensures c.result_types.ensures)), (within.0, (within.1, err_payload c.args.src.now c.args.self.now c.in-Ok-Err.node value (rw c.in-Ok-Err.field-0-is at c.in-Ok-Err.ensures))))
 
 pub read_result-returns-in_err-val-in-Ok-Err-clause-answer : goal.read_result-returns-in_err-val-in-Ok-Err-clause-answer
@@ -181,14 +181,16 @@ read_result-returns-in_ok-flat-in-Err-clause-answer g m c = λ t is distinct.
 
 pub read_tuple-returns-in_err-nodes-clause-answer : goal.read_tuple-returns-in_err-nodes-clause-answer
 read_tuple-returns-in_err-nodes-clause-answer g m c = λ t is distinct.
-    let kind : kinds.Tuple ≡ kind_of (g.V.Type.WasmType.tree c.args.ty.now) = search rules in
+    let known : kind_of (g.V.Type.WasmType.tree c.args.ty.now) ≡ kinds.Tuple = assumption in
+    let kind : kinds.Tuple ≡ kind_of (g.V.Type.WasmType.tree c.args.ty.now) = sym known in
     let tuple : TupleType (g.V.Type.WasmType.tree c.args.ty.now) (shown_all g.V.Type.WasmType.tree c.in_ok-types.types.items) = tuple_is (g.V.Type.WasmType.tree c.args.ty.now) (shown_all g.V.Type.WasmType.tree c.in_ok-types.types.items) kind (rw c.in_ok-types.ensures.made at c.tuple_element_types.ensures) in
     faulty g.V.WasmValue.tree g.V.WasmValue.is_of g.V.WasmValue.is_full (g.V.Type.WasmType.tree c.args.ty.now) t (type.tuple tuple.types) c.in_err-nodes.field-0.0 c.from_residual-in_err-nodes.result tuple.is c.from_residual-in_err-nodes.ensures.1
-    (tuple_fault tuple.types c.args.src.now c.args.self.now t _ _ is.0 c.in_err-nodes.ensures.0 (said c.in_err-nodes.ensures.1))
+    (tuple_fault tuple.types c.args.src.now c.args.self.now t (refusal_of c.in_err-nodes.field-0.0) c.in_err-nodes.field-0.0.span is.0 c.in_err-nodes.ensures.0 (said {p = place_of c.args.self.now} c.in_err-nodes.ensures.1))
 
 pub read_tuple-returns-then-nodes-len-clause-answer : goal.read_tuple-returns-then-nodes-len-clause-answer
 read_tuple-returns-then-nodes-len-clause-answer g m c = λ t is distinct.
-    let kind : kinds.Tuple ≡ kind_of (g.V.Type.WasmType.tree c.args.ty.now) = search rules in
+    let known : kind_of (g.V.Type.WasmType.tree c.args.ty.now) ≡ kinds.Tuple = assumption in
+    let kind : kinds.Tuple ≡ kind_of (g.V.Type.WasmType.tree c.args.ty.now) = sym known in
     let tuple : TupleType (g.V.Type.WasmType.tree c.args.ty.now) (shown_all g.V.Type.WasmType.tree c.in_ok-types.types.items) = tuple_is (g.V.Type.WasmType.tree c.args.ty.now) (shown_all g.V.Type.WasmType.tree c.in_ok-types.types.items) kind (rw c.in_ok-types.ensures.made at c.tuple_element_types.ensures) in
     let want : c.len-then-nodes-len.result ≡ length (shown_all g.V.Type.WasmType.tree c.in_ok-types.types.items) = omega (arith, as_shown g.V.Type.WasmType.tree c.in_ok-types.types.items) in
     let apart : length c.in_ok-nodes.nodes.now ≢ length (shown_all g.V.Type.WasmType.tree c.in_ok-types.types.items) = λ same. c.if-nodes-len.true (omega (arith, want, same)) in
@@ -196,15 +198,17 @@ read_tuple-returns-then-nodes-len-clause-answer g m c = λ t is distinct.
 
 pub read_tuple-read-requires : goal.read_tuple-read-requires
 read_tuple-read-requires g m c κs within =
-    let value : IsValueOf c.args.src.now c.args.self.now = search rules in
-    let kind : kinds.Tuple ≡ kind_of (g.V.Type.WasmType.tree c.args.ty.now) = search rules in
+    let value : IsValueOf c.args.src.now c.args.self.now = assumption in
+    let known : kind_of (g.V.Type.WasmType.tree c.args.ty.now) ≡ kinds.Tuple = assumption in
+    let kind : kinds.Tuple ≡ kind_of (g.V.Type.WasmType.tree c.args.ty.now) = sym known in
     let tuple : TupleType (g.V.Type.WasmType.tree c.args.ty.now) (shown_all g.V.Type.WasmType.tree c.in_ok-types.types.items) = tuple_is (g.V.Type.WasmType.tree c.args.ty.now) (shown_all g.V.Type.WasmType.tree c.in_ok-types.types.items) kind (rw c.in_ok-types.ensures.made at c.tuple_element_types.ensures) in
     let typed : HasAt (shown_all g.V.Type.WasmType.tree c.in_ok-types.types.items) c.loop-i.i (g.V.Type.WasmType.tree c.index.result.now.now) = type_at g.V.Type.WasmType.tree c.in_ok-types.types.items c.loop-i.i c.index.result.now (omega arith) c.index.ensures in
     (omega (arith, tuple_deep (g.V.Type.WasmType.tree c.args.ty.now) (shown_all g.V.Type.WasmType.tree c.in_ok-types.types.items) c.loop-i.i (g.V.Type.WasmType.tree c.index.result.now.now) tuple typed), (within.0, (within.1, tuple_item c.args.src.now c.args.self.now c.in_ok-nodes.nodes.now c.loop-i.i c.index-nodes-i.result value c.in_ok-nodes.ensures.0 c.in_ok-nodes.ensures.1 c.loop-i-test.true c.index-nodes-i.is)))
 
 pub read_tuple-returns-in_err-item-clause-answer : goal.read_tuple-returns-in_err-item-clause-answer
 read_tuple-returns-in_err-item-clause-answer g m c = λ t is distinct.
-    let kind : kinds.Tuple ≡ kind_of (g.V.Type.WasmType.tree c.args.ty.now) = search rules in
+    let known : kind_of (g.V.Type.WasmType.tree c.args.ty.now) ≡ kinds.Tuple = assumption in
+    let kind : kinds.Tuple ≡ kind_of (g.V.Type.WasmType.tree c.args.ty.now) = sym known in
     let tuple : TupleType (g.V.Type.WasmType.tree c.args.ty.now) (shown_all g.V.Type.WasmType.tree c.in_ok-types.types.items) = tuple_is (g.V.Type.WasmType.tree c.args.ty.now) (shown_all g.V.Type.WasmType.tree c.in_ok-types.types.items) kind (rw c.in_ok-types.ensures.made at c.tuple_element_types.ensures) in
     let typed : HasAt (shown_all g.V.Type.WasmType.tree c.in_ok-types.types.items) c.loop-i.i (g.V.Type.WasmType.tree c.index.result.now.now) = type_at g.V.Type.WasmType.tree c.in_ok-types.types.items c.loop-i.i c.index.result.now (omega arith) c.index.ensures in
     handed g.V.WasmValue.tree g.V.WasmValue.is_of g.V.WasmValue.is_full (g.V.Type.WasmType.tree c.args.ty.now) t c.in_err-item.field-0.0 c.from_residual-in_err-item.result c.from_residual-in_err-item.ensures.1
@@ -217,7 +221,8 @@ read_tuple-loop-i-preserved g m c = λ ts nodes distinct.
 
 pub read_tuple-returns-clause-answer : goal.read_tuple-returns-clause-answer
 read_tuple-returns-clause-answer g m c = λ t is distinct.
-    let kind : kinds.Tuple ≡ kind_of (g.V.Type.WasmType.tree c.args.ty.now) = search rules in
+    let known : kind_of (g.V.Type.WasmType.tree c.args.ty.now) ≡ kinds.Tuple = assumption in
+    let kind : kinds.Tuple ≡ kind_of (g.V.Type.WasmType.tree c.args.ty.now) = sym known in
     let tuple : TupleType (g.V.Type.WasmType.tree c.args.ty.now) (shown_all g.V.Type.WasmType.tree c.in_ok-types.types.items) = tuple_is (g.V.Type.WasmType.tree c.args.ty.now) (shown_all g.V.Type.WasmType.tree c.in_ok-types.types.items) kind (rw c.in_ok-types.ensures.made at c.tuple_element_types.ensures) in
     let many : length c.in_ok-nodes.nodes.now ≡ length (shown_all g.V.Type.WasmType.tree c.in_ok-types.types.items) = omega (arith, as_shown g.V.Type.WasmType.tree c.in_ok-types.types.items) in
     let inner = tuple_nodes c.args.src.now c.args.self.now t is c.in_ok-nodes.ensures.0 in
@@ -225,21 +230,24 @@ read_tuple-returns-clause-answer g m c = λ t is distinct.
 
 pub read_variant-returns-in_err-name-clause-answer : goal.read_variant-returns-in_err-name-clause-answer
 read_variant-returns-in_err-name-clause-answer g m c = λ t is distinct.
-    let kind : kinds.Variant ≡ kind_of (g.V.Type.WasmType.tree c.args.ty.now) = search rules in
+    let known : kind_of (g.V.Type.WasmType.tree c.args.ty.now) ≡ kinds.Variant = assumption in
+    let kind : kinds.Variant ≡ kind_of (g.V.Type.WasmType.tree c.args.ty.now) = sym known in
     let variant : VariantType (g.V.Type.WasmType.tree c.args.ty.now) (shown_cases g.V.Type.WasmType.tree c.in-Ok.cases.items) = variant_is (g.V.Type.WasmType.tree c.args.ty.now) (shown_cases g.V.Type.WasmType.tree c.in-Ok.cases.items) kind c.in-Ok.ensures in
     faulty g.V.WasmValue.tree g.V.WasmValue.is_of g.V.WasmValue.is_full (g.V.Type.WasmType.tree c.args.ty.now) t (type.variant variant.cases) c.in_err-name.field-0.0 c.from_residual.result variant.is c.from_residual.ensures.1 (variant_fault variant.cases c.args.src.now c.args.self.now t c.in_err-name.field-0.0 is.0 c.in_err-name.ensures)
 
 pub read_variant-read_payload-requires : goal.read_variant-read_payload-requires
 read_variant-read_payload-requires g m c κs within =
-    let value : IsValueOf c.args.src.now c.args.self.now = search rules in
-    let kind : kinds.Variant ≡ kind_of (g.V.Type.WasmType.tree c.args.ty.now) = search rules in
+    let value : IsValueOf c.args.src.now c.args.self.now = assumption in
+    let known : kind_of (g.V.Type.WasmType.tree c.args.ty.now) ≡ kinds.Variant = assumption in
+    let kind : kinds.Variant ≡ kind_of (g.V.Type.WasmType.tree c.args.ty.now) = sym known in
     let variant : VariantType (g.V.Type.WasmType.tree c.args.ty.now) (shown_cases g.V.Type.WasmType.tree c.in-Ok.cases.items) = variant_is (g.V.Type.WasmType.tree c.args.ty.now) (shown_cases g.V.Type.WasmType.tree c.in-Ok.cases.items) kind c.in-Ok.ensures in
     let found : HasCase variant.cases c.in_ok-name.name.now (maybe_type (shown g.V.Type.WasmType.tree c.in-Some.payload)) = case_found (g.V.Type.WasmType.tree c.args.ty.now) (shown_cases g.V.Type.WasmType.tree c.in-Ok.cases.items) variant c.in_ok-name.name.now (shown g.V.Type.WasmType.tree c.in-Some.payload) c.in-Some.ensures in
     (omega (arith, case_deep (g.V.Type.WasmType.tree c.args.ty.now) variant.cases c.in_ok-name.name.now (maybe_type (shown g.V.Type.WasmType.tree c.in-Some.payload)) variant.is found), (within.0, (within.1, case_payload_is c.args.src.now c.args.self.now c.in_ok-name.name c.in_ok-name.node value c.in_ok-name.ensures)))
 
 pub read_variant-returns-in_err-val-in-Some-clause-answer : goal.read_variant-returns-in_err-val-in-Some-clause-answer
 read_variant-returns-in_err-val-in-Some-clause-answer g m c = λ t is distinct.
-    let kind : kinds.Variant ≡ kind_of (g.V.Type.WasmType.tree c.args.ty.now) = search rules in
+    let known : kind_of (g.V.Type.WasmType.tree c.args.ty.now) ≡ kinds.Variant = assumption in
+    let kind : kinds.Variant ≡ kind_of (g.V.Type.WasmType.tree c.args.ty.now) = sym known in
     let variant : VariantType (g.V.Type.WasmType.tree c.args.ty.now) (shown_cases g.V.Type.WasmType.tree c.in-Ok.cases.items) = variant_is (g.V.Type.WasmType.tree c.args.ty.now) (shown_cases g.V.Type.WasmType.tree c.in-Ok.cases.items) kind c.in-Ok.ensures in
     let found : HasCase variant.cases c.in_ok-name.name.now (maybe_type (shown g.V.Type.WasmType.tree c.in-Some.payload)) = case_found (g.V.Type.WasmType.tree c.args.ty.now) (shown_cases g.V.Type.WasmType.tree c.in-Ok.cases.items) variant c.in_ok-name.name.now (shown g.V.Type.WasmType.tree c.in-Some.payload) c.in-Some.ensures in
     let k = given_case c.args.src.now c.args.self.now t c.in_ok-name.name c.in_ok-name.node is c.in_ok-name.ensures in
@@ -248,7 +256,8 @@ read_variant-returns-in_err-val-in-Some-clause-answer g m c = λ t is distinct.
 
 pub read_variant-returns-in-Some-clause-answer : goal.read_variant-returns-in-Some-clause-answer
 read_variant-returns-in-Some-clause-answer g m c = λ t is distinct.
-    let kind : kinds.Variant ≡ kind_of (g.V.Type.WasmType.tree c.args.ty.now) = search rules in
+    let known : kind_of (g.V.Type.WasmType.tree c.args.ty.now) ≡ kinds.Variant = assumption in
+    let kind : kinds.Variant ≡ kind_of (g.V.Type.WasmType.tree c.args.ty.now) = sym known in
     let variant : VariantType (g.V.Type.WasmType.tree c.args.ty.now) (shown_cases g.V.Type.WasmType.tree c.in-Ok.cases.items) = variant_is (g.V.Type.WasmType.tree c.args.ty.now) (shown_cases g.V.Type.WasmType.tree c.in-Ok.cases.items) kind c.in-Ok.ensures in
     let found : HasCase variant.cases c.in_ok-name.name.now (maybe_type (shown g.V.Type.WasmType.tree c.in-Some.payload)) = case_found (g.V.Type.WasmType.tree c.args.ty.now) (shown_cases g.V.Type.WasmType.tree c.in-Ok.cases.items) variant c.in_ok-name.name.now (shown g.V.Type.WasmType.tree c.in-Some.payload) c.in-Some.ensures in
     let k = given_case c.args.src.now c.args.self.now t c.in_ok-name.name c.in_ok-name.node is c.in_ok-name.ensures in
@@ -256,7 +265,8 @@ read_variant-returns-in-Some-clause-answer g m c = λ t is distinct.
 
 pub read_variant-returns-clause-answer : goal.read_variant-returns-clause-answer
 read_variant-returns-clause-answer g m c = λ t is distinct.
-    let kind : kinds.Variant ≡ kind_of (g.V.Type.WasmType.tree c.args.ty.now) = search rules in
+    let known : kind_of (g.V.Type.WasmType.tree c.args.ty.now) ≡ kinds.Variant = assumption in
+    let kind : kinds.Variant ≡ kind_of (g.V.Type.WasmType.tree c.args.ty.now) = sym known in
     let variant : VariantType (g.V.Type.WasmType.tree c.args.ty.now) (shown_cases g.V.Type.WasmType.tree c.in-Ok.cases.items) = variant_is (g.V.Type.WasmType.tree c.args.ty.now) (shown_cases g.V.Type.WasmType.tree c.in-Ok.cases.items) kind c.in-Ok.ensures in
     let k = given_case c.args.src.now c.args.self.now t c.in_ok-name.name c.in_ok-name.node is c.in_ok-name.ensures in
     no_case_blame g.V.WasmValue.tree g.V.WasmValue.is_of g.V.WasmValue.is_full (g.V.Type.WasmType.tree c.args.ty.now) variant.cases c.args.src.now c.args.self.now t c.in_ok-name.name.now (shown_node c.in_ok-name.node) k c.refused_for.result variant.is is.0 (case_missing (g.V.Type.WasmType.tree c.args.ty.now) (shown_cases g.V.Type.WasmType.tree c.in-Ok.cases.items) variant c.in_ok-name.name.now c.in-None.ensures) c.refused_for.ensures.cause
@@ -269,12 +279,12 @@ read_map-returns-in_err-nodes-clause-answer g m c = λ t is distinct.
 
 pub read_map-entries-init : goal.read_map-entries-init
 read_map-entries-init g m c =
-    let value : IsValueOf c.args.src.now c.args.self.now = search rules in
+    let value : IsValueOf c.args.src.now c.args.self.now = assumption in
     (none_read g.V.WasmValue.tree g.V.WasmValue.is_of g.V.WasmValue.is_full c.args.src.now (g.V.Type.WasmType.tree c.unwrap.result.0.now) (g.V.Type.WasmType.tree c.unwrap.result.1.now) (node_pairs (children_of c.args.self.now)) c.in_ok-nodes.nodes c.new-entries.result.items c.in_ok-nodes.ensures.1 c.new-entries.ensures.items, subst (AllOf (PairBelongs c.args.self.now)) (sym c.in_ok-nodes.ensures.1) (entries_belong c.args.src.now c.args.self.now value))
 
 pub read_map-read_key-requires : goal.read_map-read_key-requires
 read_map-read_key-requires g m c =
-    let value : IsValueOf c.args.src.now c.args.self.now = search rules in
+    let value : IsValueOf c.args.src.now c.args.self.now = assumption in
     key_ready g.V.WasmValue.tree g.V.WasmValue.is_of g.V.WasmValue.is_full c.args.src.now (g.V.Type.WasmType.tree c.unwrap.result.0.now) (g.V.Type.WasmType.tree c.unwrap.result.1.now) c.args.self.now c.in_ok-nodes.nodes c.entries.nodes c.next.new.self (c.in-Some.key.now, c.in-Some.node.now) c.entries.entries.items value c.in_ok-nodes.ensures c.entries.invariant.0 c.in-Some.ensures.steps
 
 pub read_map-returns-in_err-key-clause-answer : goal.read_map-returns-in_err-key-clause-answer
@@ -285,7 +295,7 @@ read_map-returns-in_err-key-clause-answer g m c = λ t is distinct.
 
 pub read_map-read-requires : goal.read_map-read-requires
 read_map-read-requires g m c κs within =
-    let value : IsValueOf c.args.src.now c.args.self.now = search rules in
+    let value : IsValueOf c.args.src.now c.args.self.now = assumption in
     (omega (arith, map_deep (g.V.Type.WasmType.tree c.args.ty.now) (g.V.Type.WasmType.tree c.unwrap.result.0.now) (g.V.Type.WasmType.tree c.unwrap.result.1.now) (map_is g.V.Type.WasmType.tree (g.V.Type.WasmType.tree c.args.ty.now) c.map_key_value_types.result c.unwrap.result c.unwrap.ensures c.map_key_value_types.ensures)), (within.0, (within.1, value_ready g.V.WasmValue.tree g.V.WasmValue.is_of g.V.WasmValue.is_full c.args.src.now (g.V.Type.WasmType.tree c.unwrap.result.0.now) (g.V.Type.WasmType.tree c.unwrap.result.1.now) c.args.self.now c.in_ok-nodes.nodes c.entries.nodes c.next.new.self (c.in-Some.key.now, c.in-Some.node.now) c.entries.entries.items value c.in_ok-nodes.ensures c.entries.invariant.0 c.in-Some.ensures.steps)))
 
 pub read_map-returns-in_err-val-clause-answer : goal.read_map-returns-in_err-val-clause-answer
@@ -304,22 +314,25 @@ read_map-returns-clause-answer g m c = λ t is distinct.
 
 pub read_record-returns-in_err-nodes-clause-answer : goal.read_record-returns-in_err-nodes-clause-answer
 read_record-returns-in_err-nodes-clause-answer g m c = λ t is distinct.
-    let kind : kinds.Record ≡ kind_of (g.V.Type.WasmType.tree c.args.ty.now) = search rules in
+    let known : kind_of (g.V.Type.WasmType.tree c.args.ty.now) ≡ kinds.Record = assumption in
+    let kind : kinds.Record ≡ kind_of (g.V.Type.WasmType.tree c.args.ty.now) = sym known in
     let is_record : RecordType (g.V.Type.WasmType.tree c.args.ty.now) (shown_fields g.V.Type.WasmType.tree c.in-Ok.types.items) = record_is (g.V.Type.WasmType.tree c.args.ty.now) (shown_fields g.V.Type.WasmType.tree c.in-Ok.types.items) kind c.in-Ok.ensures in
     handed g.V.WasmValue.tree g.V.WasmValue.is_of g.V.WasmValue.is_full (g.V.Type.WasmType.tree c.args.ty.now) t c.in_err-nodes.field-0.0 c.from_residual.result c.from_residual.ensures.1
     (nodes_blame g.V.WasmValue.is_full (g.V.Type.WasmType.tree c.args.ty.now) (shown_fields g.V.Type.WasmType.tree c.in-Ok.types.items) c.args.src.now c.args.self.now t c.in_err-nodes.field-0.0 is_record is c.in_err-nodes.ensures.refused)
 
 pub read_record-read_field-requires : goal.read_record-read_field-requires
 read_record-read_field-requires g m c κs within =
-    let value : IsValueOf c.args.src.now c.args.self.now = search rules in
-    let kind : kinds.Record ≡ kind_of (g.V.Type.WasmType.tree c.args.ty.now) = search rules in
+    let value : IsValueOf c.args.src.now c.args.self.now = assumption in
+    let known : kind_of (g.V.Type.WasmType.tree c.args.ty.now) ≡ kinds.Record = assumption in
+    let kind : kinds.Record ≡ kind_of (g.V.Type.WasmType.tree c.args.ty.now) = sym known in
     let is_record : RecordType (g.V.Type.WasmType.tree c.args.ty.now) (shown_fields g.V.Type.WasmType.tree c.in-Ok.types.items) = record_is (g.V.Type.WasmType.tree c.args.ty.now) (shown_fields g.V.Type.WasmType.tree c.in-Ok.types.items) kind c.in-Ok.ensures in
     let typed : HasAt (shown_fields g.V.Type.WasmType.tree c.in-Ok.types.items) c.loop-i.i (c.index.result.now.0.now, (g.V.Type.WasmType.tree c.index.result.now.1.now)) = part_at g.V.Type.WasmType.tree c.in-Ok.types.items c.loop-i.i c.index.result.now (omega arith) c.index.ensures in
     (omega (arith, record_deep (g.V.Type.WasmType.tree c.args.ty.now) (shown_fields g.V.Type.WasmType.tree c.in-Ok.types.items) c.loop-i.i c.index.result.now.0.now (g.V.Type.WasmType.tree c.index.result.now.1.now) is_record typed), (within.0, (within.1, held_value c.args.src.now c.args.self.now value.0 (names_of (take c.loop-i.i (shown_fields g.V.Type.WasmType.tree c.in-Ok.types.items))) c.in_ok-nodes.nodes c.loop-i.nodes (fields_at c.args.src.now (children_of c.args.self.now)) c.index.result.now.0.now c.remove-node.result value.1 c.in_ok-nodes.ensures.given c.in_ok-nodes.ensures.held c.loop-i.invariant.removed c.remove-node.ensures.value)))
 
 pub read_record-returns-in_err-val-clause-answer : goal.read_record-returns-in_err-val-clause-answer
 read_record-returns-in_err-val-clause-answer g m c = λ t is distinct.
-    let kind : kinds.Record ≡ kind_of (g.V.Type.WasmType.tree c.args.ty.now) = search rules in
+    let known : kind_of (g.V.Type.WasmType.tree c.args.ty.now) ≡ kinds.Record = assumption in
+    let kind : kinds.Record ≡ kind_of (g.V.Type.WasmType.tree c.args.ty.now) = sym known in
     let is_record : RecordType (g.V.Type.WasmType.tree c.args.ty.now) (shown_fields g.V.Type.WasmType.tree c.in-Ok.types.items) = record_is (g.V.Type.WasmType.tree c.args.ty.now) (shown_fields g.V.Type.WasmType.tree c.in-Ok.types.items) kind c.in-Ok.ensures in
     let typed : HasAt (shown_fields g.V.Type.WasmType.tree c.in-Ok.types.items) c.loop-i.i (c.index.result.now.0.now, (g.V.Type.WasmType.tree c.index.result.now.1.now)) = part_at g.V.Type.WasmType.tree c.in-Ok.types.items c.loop-i.i c.index.result.now (omega arith) c.index.ensures in
     let apart = fields_distinct (g.V.Type.WasmType.tree c.args.ty.now) (shown_fields g.V.Type.WasmType.tree c.in-Ok.types.items) is_record distinct in
@@ -341,72 +354,74 @@ read_record-loop-i-preserved g m c =
 
 pub read_record-returns-then-not-is_empty-clause-answer : goal.read_record-returns-then-not-is_empty-clause-answer
 read_record-returns-then-not-is_empty-clause-answer g m c = λ t is distinct.
-    let kind : kinds.Record ≡ kind_of (g.V.Type.WasmType.tree c.args.ty.now) = search rules in
+    let known : kind_of (g.V.Type.WasmType.tree c.args.ty.now) ≡ kinds.Record = assumption in
+    let kind : kinds.Record ≡ kind_of (g.V.Type.WasmType.tree c.args.ty.now) = sym known in
     let is_record : RecordType (g.V.Type.WasmType.tree c.args.ty.now) (shown_fields g.V.Type.WasmType.tree c.in-Ok.types.items) = record_is (g.V.Type.WasmType.tree c.args.ty.now) (shown_fields g.V.Type.WasmType.tree c.in-Ok.types.items) kind c.in-Ok.ensures in
     let whole : take c.loop-i.i (shown_fields g.V.Type.WasmType.tree c.in-Ok.types.items) ≡ (shown_fields g.V.Type.WasmType.tree c.in-Ok.types.items) = take_whole (shown_fields g.V.Type.WasmType.tree c.in-Ok.types.items) c.loop-i.i (omega (arith, as_parts g.V.Type.WasmType.tree c.in-Ok.types.items)) in
-    unknown_blame g.V.WasmValue.is_full (g.V.Type.WasmType.tree c.args.ty.now) (shown_fields g.V.Type.WasmType.tree c.in-Ok.types.items) c.args.src.now c.args.self.now t (names_of (take c.loop-i.i (shown_fields g.V.Type.WasmType.tree c.in-Ok.types.items))) c.in_ok-nodes.nodes c.loop-i.nodes (fields_at c.args.src.now (children_of c.args.self.now)) c.error.result is_record is c.in_ok-nodes.ensures.given c.in_ok-nodes.ensures.held (ap names_of whole) c.loop-i.invariant.removed (failed c.is_empty.result c.if-not-is_empty.true c.is_empty.ensures.1) (said c.error.ensures)
+    unknown_blame g.V.WasmValue.is_full (g.V.Type.WasmType.tree c.args.ty.now) (shown_fields g.V.Type.WasmType.tree c.in-Ok.types.items) c.args.src.now c.args.self.now t (names_of (take c.loop-i.i (shown_fields g.V.Type.WasmType.tree c.in-Ok.types.items))) c.in_ok-nodes.nodes c.loop-i.nodes (fields_at c.args.src.now (children_of c.args.self.now)) c.error.result is_record is c.in_ok-nodes.ensures.given c.in_ok-nodes.ensures.held (ap names_of whole) c.loop-i.invariant.removed (failed c.is_empty.result c.if-not-is_empty.true c.is_empty.ensures.1) (said {p = place_of c.args.self.now} c.error.ensures)
 
 pub read_record-returns-clause-answer : goal.read_record-returns-clause-answer
 read_record-returns-clause-answer g m c = λ t is distinct.
-    let kind : kinds.Record ≡ kind_of (g.V.Type.WasmType.tree c.args.ty.now) = search rules in
+    let known : kind_of (g.V.Type.WasmType.tree c.args.ty.now) ≡ kinds.Record = assumption in
+    let kind : kinds.Record ≡ kind_of (g.V.Type.WasmType.tree c.args.ty.now) = sym known in
     let is_record : RecordType (g.V.Type.WasmType.tree c.args.ty.now) (shown_fields g.V.Type.WasmType.tree c.in-Ok.types.items) = record_is (g.V.Type.WasmType.tree c.args.ty.now) (shown_fields g.V.Type.WasmType.tree c.in-Ok.types.items) kind c.in-Ok.ensures in
     let read = c.loop-i.invariant.read (fields_at c.args.src.now (children_of c.args.self.now)) c.in_ok-nodes.ensures.held (entry_list (record_nodes c.args.src.now c.args.self.now t is c.in_ok-nodes.ensures.given.is_set).given) (given_fields c.args.src.now c.args.self.now t (fields_at c.args.src.now (children_of c.args.self.now)) is c.in_ok-nodes.ensures.given) (fields_distinct (g.V.Type.WasmType.tree c.args.ty.now) (shown_fields g.V.Type.WasmType.tree c.in-Ok.types.items) is_record distinct) in
     record_done g.V.WasmValue.tree g.V.WasmValue.is_of g.V.WasmValue.is_full (g.V.Type.WasmType.tree c.args.ty.now) (shown_fields g.V.Type.WasmType.tree c.in-Ok.types.items) c.args.src.now c.args.self.now t (fields_at c.args.src.now (children_of c.args.self.now)) c.loop-i.i c.in_ok-nodes.nodes c.loop-i.nodes c.loop-i.fields.items c.make_record.result c.or_error_here.result is_record distinct is c.in_ok-nodes.ensures.given c.in_ok-nodes.ensures.held (omega (arith, as_parts g.V.Type.WasmType.tree c.in-Ok.types.items)) c.loop-i.invariant.removed (c.is_empty.ensures.0 c.if-not-is_empty.false) read c.make_record.ensures.made c.make_record.ensures.full c.or_error_here.ensures
 
 pub read-returns-in_default-clause-within : goal.read-returns-in_default-clause-within
 read-returns-in_default-clause-within g m c =
-    let value : IsValueOf c.args.src.now c.args.self.now = search rules in
+    let value : IsValueOf c.args.src.now c.args.self.now = assumption in
     all_in c.args.src.now c.args.self.now c.read_whole.result (inl value) (whole_at g.V.WasmValue.tree g.V.WasmValue.is_of g.V.WasmValue.is_full c.kind.result c.args.src.now c.args.self.now c.read_whole.result c.read_whole.ensures)
 
 pub read-returns-in-Bool-clause-within : goal.read-returns-in-Bool-clause-within
 read-returns-in-Bool-clause-within g m c =
-    let value : IsValueOf c.args.src.now c.args.self.now = search rules in
+    let value : IsValueOf c.args.src.now c.args.self.now = assumption in
     all_in c.args.src.now c.args.self.now c.read_bool.result (inl value) c.read_bool.ensures.within
 
 pub read_list-returns-in_err-nodes-clause-within : goal.read_list-returns-in_err-nodes-clause-within
 read_list-returns-in_err-nodes-clause-within g m c =
-    let value : IsValueOf c.args.src.now c.args.self.now = search rules in
+    let value : IsValueOf c.args.src.now c.args.self.now = assumption in
     error_handed (RefusesIn c.args.self.now) c.from_residual.result c.in_err-nodes.field-0.0 c.from_residual.ensures.1 (at_in c.args.src.now c.args.self.now c.in_err-nodes.field-0.0 (inl value) (form_at c.args.self.now c.in_err-nodes.field-0.0 c.in_err-nodes.ensures.1))
 
 pub read_list-returns-in_err-check_length-clause-within : goal.read_list-returns-in_err-check_length-clause-within
 read_list-returns-in_err-check_length-clause-within g m c =
-    let value : IsValueOf c.args.src.now c.args.self.now = search rules in
+    let value : IsValueOf c.args.src.now c.args.self.now = assumption in
     let other = c.in_err-check_length.ensures.other in
     error_handed (RefusesIn c.args.self.now) c.from_residual-in_err-check_length.result c.in_err-check_length.field-0.0 c.from_residual-in_err-check_length.ensures.1 (at_in c.args.src.now c.args.self.now c.in_err-check_length.field-0.0 (inl value) (caused_at _ c.args.self.now c.in_err-check_length.field-0.0 (inr other.3) other.3.1))
 
 pub read_list-returns-in_err-item-clause-within : goal.read_list-returns-in_err-item-clause-within
 read_list-returns-in_err-item-clause-within g m c =
-    let value : IsValueOf c.args.src.now c.args.self.now = search rules in
+    let value : IsValueOf c.args.src.now c.args.self.now = assumption in
     error_handed (RefusesIn c.args.self.now) c.from_residual-in_err-item.result c.in_err-item.field-0.0 c.from_residual-in_err-item.ensures.1 (deeper_at c.args.src.now c.args.self.now c.in_ok-nodes.nodes.now c.loop-node.node-index c.node-item.result c.in_err-item.field-0.0 value c.in_ok-nodes.ensures.1 c.loop-node-test.true c.node-item.is c.in_err-item.ensures.within)
 
 pub read_list-returns-in_err-push-clause-within : goal.read_list-returns-in_err-push-clause-within
 read_list-returns-in_err-push-clause-within g m c =
-    let value : IsValueOf c.args.src.now c.args.self.now = search rules in
+    let value : IsValueOf c.args.src.now c.args.self.now = assumption in
     error_handed (RefusesIn c.args.self.now) c.from_residual-in_err-push.result c.in_err-push.field-0.0 c.from_residual-in_err-push.ensures.1 (at_in c.args.src.now c.args.self.now c.in_err-push.field-0.0 (inl value) (memory_here c.args.self.now c.in_err-push.field-0.0 c.in_err-push.ensures.refused c.in_err-push.ensures.place))
 
 pub read_list-returns-clause-within : goal.read_list-returns-clause-within
 read_list-returns-clause-within g m c =
-    let value : IsValueOf c.args.src.now c.args.self.now = search rules in
+    let value : IsValueOf c.args.src.now c.args.self.now = assumption in
     made_in c.args.src.now c.args.self.now c.make_list.result c.or_error_here.result (inl value) c.or_error_here.ensures
 
 pub read_option-returns-in-Ok-None-clause-within : goal.read_option-returns-in-Ok-None-clause-within
 read_option-returns-in-Ok-None-clause-within g m c =
-    let value : IsValueOf c.args.src.now c.args.self.now = search rules in
+    let value : IsValueOf c.args.src.now c.args.self.now = assumption in
     made_in c.args.src.now c.args.self.now c.make_option.result c.or_error_here.result (inl value) c.or_error_here.ensures
 
 pub read_option-returns-in_err-val-in-Ok-Some-clause-within : goal.read_option-returns-in_err-val-in-Ok-Some-clause-within
 read_option-returns-in_err-val-in-Ok-Some-clause-within g m c =
-    let value : IsValueOf c.args.src.now c.args.self.now = search rules in
+    let value : IsValueOf c.args.src.now c.args.self.now = assumption in
     error_handed (RefusesIn c.args.self.now) c.from_residual.result c.in_err-val-in-Ok-Some.field-0.0 c.from_residual.ensures.1 (deeper c.args.self.now c.in-Ok-Some.node.now c.in_err-val-in-Ok-Some.field-0.0 (some_belongs c.args.src.now c.args.self.now c.in-Ok-Some.node value (rw c.in-Ok-Some.field-0-is at c.in-Ok-Some.ensures)) c.in_err-val-in-Ok-Some.ensures.within)
 
 pub read_option-returns-in_ok-val-in-Ok-Some-clause-within : goal.read_option-returns-in_ok-val-in-Ok-Some-clause-within
 read_option-returns-in_ok-val-in-Ok-Some-clause-within g m c =
-    let value : IsValueOf c.args.src.now c.args.self.now = search rules in
+    let value : IsValueOf c.args.src.now c.args.self.now = assumption in
     made_in c.args.src.now c.args.self.now c.make_option-in-Ok-Some.result c.or_error_here-in-Ok-Some.result (inl value) c.or_error_here-in-Ok-Some.ensures
 
 pub read_option-returns-then-not-is_flat-clause-within : goal.read_option-returns-then-not-is_flat-clause-within
 read_option-returns-then-not-is_flat-clause-within g m c =
-    let value : IsValueOf c.args.src.now c.args.self.now = search rules in
+    let value : IsValueOf c.args.src.now c.args.self.now = assumption in
     at_in c.args.src.now c.args.self.now c.in-Err.error (inl value) (form_at c.args.self.now c.in-Err.error c.in-Err.ensures.2)
 
 pub read_option-returns-in_err-flat-in-Err-clause-within : goal.read_option-returns-in_err-flat-in-Err-clause-within
@@ -415,34 +430,34 @@ read_option-returns-in_err-flat-in-Err-clause-within g m c =
 
 pub read_option-returns-in_ok-flat-in-Err-clause-within : goal.read_option-returns-in_ok-flat-in-Err-clause-within
 read_option-returns-in_ok-flat-in-Err-clause-within g m c =
-    let value : IsValueOf c.args.src.now c.args.self.now = search rules in
+    let value : IsValueOf c.args.src.now c.args.self.now = assumption in
     made_in c.args.src.now c.args.self.now c.make_option-in-Err.result c.or_error_here-in-Err.result (inl value) c.or_error_here-in-Err.ensures
 
 pub read_result-returns-in_err-val-in-Ok-Ok-clause-within : goal.read_result-returns-in_err-val-in-Ok-Ok-clause-within
 read_result-returns-in_err-val-in-Ok-Ok-clause-within g m c =
-    let value : IsValueOf c.args.src.now c.args.self.now = search rules in
+    let value : IsValueOf c.args.src.now c.args.self.now = assumption in
     let given = rw c.in-Ok-Ok.field-0-is at c.in-Ok-Ok.ensures in
     error_handed (RefusesIn c.args.self.now) c.from_residual.result c.in_err-val-in-Ok-Ok.field-0.0 c.from_residual.ensures.1 (part_in c.args.src.now c.args.self.now (shown_node c.in-Ok-Ok.node) c.in_err-val-in-Ok-Ok.field-0.0 (inl value) (first_belongs c.args.src.now c.args.self.now (shown_node c.in-Ok-Ok.node) value given.1) c.in_err-val-in-Ok-Ok.ensures.within)
 
 pub read_result-returns-in_err-val-in-Ok-Err-clause-within : goal.read_result-returns-in_err-val-in-Ok-Err-clause-within
 read_result-returns-in_err-val-in-Ok-Err-clause-within g m c =
-    let value : IsValueOf c.args.src.now c.args.self.now = search rules in
+    let value : IsValueOf c.args.src.now c.args.self.now = assumption in
     let given = rw c.in-Ok-Err.field-0-is at c.in-Ok-Err.ensures in
     error_handed (RefusesIn c.args.self.now) c.from_residual-in_err-val-in-Ok-Err.result c.in_err-val-in-Ok-Err.field-0.0 c.from_residual-in_err-val-in-Ok-Err.ensures.1 (part_in c.args.src.now c.args.self.now (shown_node c.in-Ok-Err.node) c.in_err-val-in-Ok-Err.field-0.0 (inl value) (first_belongs c.args.src.now c.args.self.now (shown_node c.in-Ok-Err.node) value given.1) c.in_err-val-in-Ok-Err.ensures.within)
 
 pub read_result-returns-in_ok-val-in-Ok-Ok-clause-within : goal.read_result-returns-in_ok-val-in-Ok-Ok-clause-within
 read_result-returns-in_ok-val-in-Ok-Ok-clause-within g m c =
-    let value : IsValueOf c.args.src.now c.args.self.now = search rules in
+    let value : IsValueOf c.args.src.now c.args.self.now = assumption in
     made_in c.args.src.now c.args.self.now c.make_result.result c.or_error_here.result (inl value) c.or_error_here.ensures
 
 pub read_result-returns-in_ok-val-in-Ok-Err-clause-within : goal.read_result-returns-in_ok-val-in-Ok-Err-clause-within
 read_result-returns-in_ok-val-in-Ok-Err-clause-within g m c =
-    let value : IsValueOf c.args.src.now c.args.self.now = search rules in
+    let value : IsValueOf c.args.src.now c.args.self.now = assumption in
     made_in c.args.src.now c.args.self.now c.make_result-in-Ok-Err.result c.or_error_here-in-Ok-Err.result (inl value) c.or_error_here-in-Ok-Err.ensures
 
 pub read_result-returns-in-None-clause-within : goal.read_result-returns-in-None-clause-within
 read_result-returns-in-None-clause-within g m c =
-    let value : IsValueOf c.args.src.now c.args.self.now = search rules in
+    let value : IsValueOf c.args.src.now c.args.self.now = assumption in
     at_in c.args.src.now c.args.self.now c.in-Err.error (inl value) (form_at c.args.self.now c.in-Err.error c.in-Err.ensures.2)
 
 pub read_result-returns-in_err-flat-in-Err-clause-within : goal.read_result-returns-in_err-flat-in-Err-clause-within
@@ -451,67 +466,67 @@ read_result-returns-in_err-flat-in-Err-clause-within g m c =
 
 pub read_result-returns-in_ok-flat-in-Err-clause-within : goal.read_result-returns-in_ok-flat-in-Err-clause-within
 read_result-returns-in_ok-flat-in-Err-clause-within g m c =
-    let value : IsValueOf c.args.src.now c.args.self.now = search rules in
+    let value : IsValueOf c.args.src.now c.args.self.now = assumption in
     made_in c.args.src.now c.args.self.now c.make_result-in-Err.result c.or_error_here-in-Err.result (inl value) c.or_error_here-in-Err.ensures
 
 pub read_tuple-returns-in_err-nodes-clause-within : goal.read_tuple-returns-in_err-nodes-clause-within
 read_tuple-returns-in_err-nodes-clause-within g m c =
-    let value : IsValueOf c.args.src.now c.args.self.now = search rules in
+    let value : IsValueOf c.args.src.now c.args.self.now = assumption in
     error_handed (RefusesIn c.args.self.now) c.from_residual-in_err-nodes.result c.in_err-nodes.field-0.0 c.from_residual-in_err-nodes.ensures.1 (at_in c.args.src.now c.args.self.now c.in_err-nodes.field-0.0 (inl value) (form_at c.args.self.now c.in_err-nodes.field-0.0 c.in_err-nodes.ensures.1))
 
 pub read_tuple-returns-then-nodes-len-clause-within : goal.read_tuple-returns-then-nodes-len-clause-within
 read_tuple-returns-then-nodes-len-clause-within g m c =
-    let value : IsValueOf c.args.src.now c.args.self.now = search rules in
+    let value : IsValueOf c.args.src.now c.args.self.now = assumption in
     at_in c.args.src.now c.args.self.now c.wrong_number.result (inl value) (caused_at _ c.args.self.now c.wrong_number.result (inr c.wrong_number.ensures) c.wrong_number.ensures.1)
 
 pub read_tuple-returns-in_err-item-clause-within : goal.read_tuple-returns-in_err-item-clause-within
 read_tuple-returns-in_err-item-clause-within g m c =
-    let value : IsValueOf c.args.src.now c.args.self.now = search rules in
+    let value : IsValueOf c.args.src.now c.args.self.now = assumption in
     error_handed (RefusesIn c.args.self.now) c.from_residual-in_err-item.result c.in_err-item.field-0.0 c.from_residual-in_err-item.ensures.1 (deeper_at c.args.src.now c.args.self.now c.in_ok-nodes.nodes.now c.loop-i.i c.index-nodes-i.result c.in_err-item.field-0.0 value c.in_ok-nodes.ensures.1 c.loop-i-test.true c.index-nodes-i.is c.in_err-item.ensures.within)
 
 pub read_tuple-returns-in_err-push-clause-within : goal.read_tuple-returns-in_err-push-clause-within
 read_tuple-returns-in_err-push-clause-within g m c =
-    let value : IsValueOf c.args.src.now c.args.self.now = search rules in
+    let value : IsValueOf c.args.src.now c.args.self.now = assumption in
     error_handed (RefusesIn c.args.self.now) c.from_residual-in_err-push.result c.in_err-push.field-0.0 c.from_residual-in_err-push.ensures.1 (at_in c.args.src.now c.args.self.now c.in_err-push.field-0.0 (inl value) (memory_here c.args.self.now c.in_err-push.field-0.0 c.in_err-push.ensures.refused c.in_err-push.ensures.place))
 
 pub read_tuple-returns-clause-within : goal.read_tuple-returns-clause-within
 read_tuple-returns-clause-within g m c =
-    let value : IsValueOf c.args.src.now c.args.self.now = search rules in
+    let value : IsValueOf c.args.src.now c.args.self.now = assumption in
     made_in c.args.src.now c.args.self.now c.make_tuple.result c.or_error_here.result (inl value) c.or_error_here.ensures
 
 pub read_tuple-returns-in_err-types-clause-within : goal.read_tuple-returns-in_err-types-clause-within
 read_tuple-returns-in_err-types-clause-within g m c =
-    let value : IsValueOf c.args.src.now c.args.self.now = search rules in
+    let value : IsValueOf c.args.src.now c.args.self.now = assumption in
     error_handed (RefusesIn c.args.self.now) c.from_residual.result c.in_err-types.field-0.0 c.from_residual.ensures.1 (at_in c.args.src.now c.args.self.now c.in_err-types.field-0.0 (inl value) (memory_here c.args.self.now c.in_err-types.field-0.0 c.in_err-types.ensures.refused c.in_err-types.ensures.place))
 
 pub read_variant-returns-in-Err-clause-within : goal.read_variant-returns-in-Err-clause-within
 read_variant-returns-in-Err-clause-within g m c =
-    let value : IsValueOf c.args.src.now c.args.self.now = search rules in
+    let value : IsValueOf c.args.src.now c.args.self.now = assumption in
     at_in c.args.src.now c.args.self.now c.out_of_memory.result (inl value) (memory_here c.args.self.now c.out_of_memory.result c.out_of_memory.ensures.kind c.out_of_memory.ensures.span)
 
 pub read_variant-returns-in_err-name-clause-within : goal.read_variant-returns-in_err-name-clause-within
 read_variant-returns-in_err-name-clause-within g m c =
-    let value : IsValueOf c.args.src.now c.args.self.now = search rules in
+    let value : IsValueOf c.args.src.now c.args.self.now = assumption in
     error_handed (RefusesIn c.args.self.now) c.from_residual.result c.in_err-name.field-0.0 c.from_residual.ensures.1 (at_in c.args.src.now c.args.self.now c.in_err-name.field-0.0 (inl value) (form_at c.args.self.now c.in_err-name.field-0.0 c.in_err-name.ensures.2))
 
 pub read_variant-returns-in_err-val-in-Some-clause-within : goal.read_variant-returns-in_err-val-in-Some-clause-within
 read_variant-returns-in_err-val-in-Some-clause-within g m c =
-    let value : IsValueOf c.args.src.now c.args.self.now = search rules in
+    let value : IsValueOf c.args.src.now c.args.self.now = assumption in
     error_handed (RefusesIn c.args.self.now) c.from_residual-in_err-val-in-Some.result c.in_err-val-in-Some.field-0.0 c.from_residual-in_err-val-in-Some.ensures.1 (part_in c.args.src.now c.args.self.now (shown_node c.in_ok-name.node) c.in_err-val-in-Some.field-0.0 (inl value) (case_belongs c.args.src.now c.args.self.now c.in_ok-name.name c.in_ok-name.node value c.in_ok-name.ensures) c.in_err-val-in-Some.ensures.within)
 
 pub read_variant-returns-in-Some-clause-within : goal.read_variant-returns-in-Some-clause-within
 read_variant-returns-in-Some-clause-within g m c =
-    let value : IsValueOf c.args.src.now c.args.self.now = search rules in
+    let value : IsValueOf c.args.src.now c.args.self.now = assumption in
     made_in c.args.src.now c.args.self.now c.make_variant.result c.or_error_here.result (inl value) c.or_error_here.ensures
 
 pub read_variant-returns-clause-within : goal.read_variant-returns-clause-within
 read_variant-returns-clause-within g m c =
-    let value : IsValueOf c.args.src.now c.args.self.now = search rules in
+    let value : IsValueOf c.args.src.now c.args.self.now = assumption in
     at_in c.args.src.now c.args.self.now c.refused_for.result (inl value) (caused_at _ c.args.self.now c.refused_for.result c.refused_for.ensures.cause c.refused_for.ensures.span)
 
 pub read_map-returns-in_err-nodes-clause-within : goal.read_map-returns-in_err-nodes-clause-within
 read_map-returns-in_err-nodes-clause-within g m c =
-    let value : IsValueOf c.args.src.now c.args.self.now = search rules in
+    let value : IsValueOf c.args.src.now c.args.self.now = assumption in
     error_handed (RefusesIn c.args.self.now) c.from_residual.result c.in_err-nodes.field-0.0 c.from_residual.ensures.1 (at_in c.args.src.now c.args.self.now c.in_err-nodes.field-0.0 (inl value) (form_at c.args.self.now c.in_err-nodes.field-0.0 c.in_err-nodes.ensures.2))
 
 pub read_map-returns-in_err-key-clause-within : goal.read_map-returns-in_err-key-clause-within
@@ -526,22 +541,22 @@ read_map-returns-in_err-val-clause-within g m c =
 
 pub read_map-returns-in_err-push-clause-within : goal.read_map-returns-in_err-push-clause-within
 read_map-returns-in_err-push-clause-within g m c =
-    let value : IsValueOf c.args.src.now c.args.self.now = search rules in
+    let value : IsValueOf c.args.src.now c.args.self.now = assumption in
     error_handed (RefusesIn c.args.self.now) c.from_residual-in_err-push.result c.in_err-push.field-0.0 c.from_residual-in_err-push.ensures.1 (at_in c.args.src.now c.args.self.now c.in_err-push.field-0.0 (inl value) (memory_here c.args.self.now c.in_err-push.field-0.0 c.in_err-push.ensures.refused c.in_err-push.ensures.place))
 
 pub read_map-returns-clause-within : goal.read_map-returns-clause-within
 read_map-returns-clause-within g m c =
-    let value : IsValueOf c.args.src.now c.args.self.now = search rules in
+    let value : IsValueOf c.args.src.now c.args.self.now = assumption in
     made_in c.args.src.now c.args.self.now c.make_map.result c.or_error_here.result (inl value) c.or_error_here.ensures
 
 pub read_map-returns-in_err-entries-clause-within : goal.read_map-returns-in_err-entries-clause-within
 read_map-returns-in_err-entries-clause-within g m c =
-    let value : IsValueOf c.args.src.now c.args.self.now = search rules in
+    let value : IsValueOf c.args.src.now c.args.self.now = assumption in
     error_handed (RefusesIn c.args.self.now) c.from_residual-in_err-entries.result c.in_err-entries.field-0.0 c.from_residual-in_err-entries.ensures.1 (at_in c.args.src.now c.args.self.now c.in_err-entries.field-0.0 (inl value) (memory_here c.args.self.now c.in_err-entries.field-0.0 c.in_err-entries.ensures.refused c.in_err-entries.ensures.place))
 
 pub read_record-returns-in-Err-clause-within : goal.read_record-returns-in-Err-clause-within
 read_record-returns-in-Err-clause-within g m c =
-    let value : IsValueOf c.args.src.now c.args.self.now = search rules in
+    let value : IsValueOf c.args.src.now c.args.self.now = assumption in
     at_in c.args.src.now c.args.self.now c.out_of_memory.result (inl value) (memory_here c.args.self.now c.out_of_memory.result c.out_of_memory.ensures.kind c.out_of_memory.ensures.span)
 
 pub read_record-returns-in_err-nodes-clause-within : goal.read_record-returns-in_err-nodes-clause-within
@@ -550,20 +565,49 @@ read_record-returns-in_err-nodes-clause-within g m c =
 
 pub read_record-returns-in_err-val-clause-within : goal.read_record-returns-in_err-val-clause-within
 read_record-returns-in_err-val-clause-within g m c =
-    let value : IsValueOf c.args.src.now c.args.self.now = search rules in
+    let value : IsValueOf c.args.src.now c.args.self.now = assumption in
     error_handed (RefusesIn c.args.self.now) c.from_residual-in_err-val.result c.in_err-val.field-0.0 c.from_residual-in_err-val.ensures.1 (part_in c.args.src.now c.args.self.now (shown_node c.remove-node.result) c.in_err-val.field-0.0 (inl value) (held_belongs c.args.src.now c.args.self.now (names_of (take c.loop-i.i (shown_fields g.V.Type.WasmType.tree c.in-Ok.types.items))) c.in_ok-nodes.nodes c.loop-i.nodes (fields_at c.args.src.now (children_of c.args.self.now)) c.index.result.now.0.now c.remove-node.result value c.in_ok-nodes.ensures.given c.in_ok-nodes.ensures.held c.loop-i.invariant.removed c.remove-node.ensures.value) c.in_err-val.ensures.within)
 
 pub read_record-returns-then-not-is_empty-clause-within : goal.read_record-returns-then-not-is_empty-clause-within
 read_record-returns-then-not-is_empty-clause-within g m c =
-    let value : IsValueOf c.args.src.now c.args.self.now = search rules in
+    let value : IsValueOf c.args.src.now c.args.self.now = assumption in
     at_in c.args.src.now c.args.self.now c.error.result (inl value) (refused_at _ c.args.self.now c.error.result (λ was. cc) tt c.error.ensures)
 
 pub read_record-returns-clause-within : goal.read_record-returns-clause-within
 read_record-returns-clause-within g m c =
-    let value : IsValueOf c.args.src.now c.args.self.now = search rules in
+    let value : IsValueOf c.args.src.now c.args.self.now = assumption in
     made_in c.args.src.now c.args.self.now c.make_record.result c.or_error_here.result (inl value) c.or_error_here.ensures
 
 pub read_record-returns-then-is_err-clause-within : goal.read_record-returns-then-is_err-clause-within
 read_record-returns-then-is_err-clause-within g m c =
-    let value : IsValueOf c.args.src.now c.args.self.now = search rules in
+    let value : IsValueOf c.args.src.now c.args.self.now = assumption in
     at_in c.args.src.now c.args.self.now c.out_of_memory-then-is_err.result (inl value) (memory_here c.args.self.now c.out_of_memory-then-is_err.result c.out_of_memory-then-is_err.ensures.kind c.out_of_memory-then-is_err.ensures.span)
+
+pub read_list-returns-in_err-push-clause-answer : goal.read_list-returns-in_err-push-clause-answer
+read_list-returns-in_err-push-clause-answer g m c = λ t is distinct.
+    handed g.V.WasmValue.tree g.V.WasmValue.is_of g.V.WasmValue.is_full (g.V.Type.WasmType.tree c.args.ty.now) t c.in_err-push.field-0.0 c.from_residual-in_err-push.result c.from_residual-in_err-push.ensures.1 (inl c.in_err-push.ensures.refused)
+
+pub read_map-returns-in_err-push-clause-answer : goal.read_map-returns-in_err-push-clause-answer
+read_map-returns-in_err-push-clause-answer g m c = λ t is distinct.
+    handed g.V.WasmValue.tree g.V.WasmValue.is_of g.V.WasmValue.is_full (g.V.Type.WasmType.tree c.args.ty.now) t c.in_err-push.field-0.0 c.from_residual-in_err-push.result c.from_residual-in_err-push.ensures.1 (inl c.in_err-push.ensures.refused)
+
+pub read_map-returns-in_err-entries-clause-answer : goal.read_map-returns-in_err-entries-clause-answer
+read_map-returns-in_err-entries-clause-answer g m c = λ t is distinct.
+    handed g.V.WasmValue.tree g.V.WasmValue.is_of g.V.WasmValue.is_full (g.V.Type.WasmType.tree c.args.ty.now) t c.in_err-entries.field-0.0 c.from_residual-in_err-entries.result c.from_residual-in_err-entries.ensures.1 (inl c.in_err-entries.ensures.refused)
+
+pub read_tuple-returns-in_err-push-clause-answer : goal.read_tuple-returns-in_err-push-clause-answer
+read_tuple-returns-in_err-push-clause-answer g m c = λ t is distinct.
+    handed g.V.WasmValue.tree g.V.WasmValue.is_of g.V.WasmValue.is_full (g.V.Type.WasmType.tree c.args.ty.now) t c.in_err-push.field-0.0 c.from_residual-in_err-push.result c.from_residual-in_err-push.ensures.1 (inl c.in_err-push.ensures.refused)
+
+pub read_tuple-returns-in_err-types-clause-answer : goal.read_tuple-returns-in_err-types-clause-answer
+read_tuple-returns-in_err-types-clause-answer g m c = λ t is distinct.
+    handed g.V.WasmValue.tree g.V.WasmValue.is_of g.V.WasmValue.is_full (g.V.Type.WasmType.tree c.args.ty.now) t c.in_err-types.field-0.0 c.from_residual.result c.from_residual.ensures.1 (inl c.in_err-types.ensures.refused)
+
+pub read_variant-returns-in-Err-clause-answer : goal.read_variant-returns-in-Err-clause-answer
+read_variant-returns-in-Err-clause-answer g m c = λ t is distinct. inl c.out_of_memory.ensures.kind
+
+pub read_record-returns-in-Err-clause-answer : goal.read_record-returns-in-Err-clause-answer
+read_record-returns-in-Err-clause-answer g m c = λ t is distinct. inl c.out_of_memory.ensures.kind
+
+pub read_record-returns-then-is_err-clause-answer : goal.read_record-returns-then-is_err-clause-answer
+read_record-returns-then-is_err-clause-answer g m c = λ t is distinct. inl c.out_of_memory-then-is_err.ensures.kind

@@ -5,6 +5,8 @@ use Rattle.wave_wasm.specs.Names.{AreAllOf, found_in}
 use Rattle.wave_forms.specs.NodeTree.{NodeTree, children_of}
 use Rattle.wave_forms.specs.NodeFlags.{names_at}
 use Rattle.wave_forms.specs.Private.NodeFlags.{AreAllParsed, MarksNames, RefusesFlags}
+use Rattle.wave_forms.specs.Private.ErrorSpans.{RefusesAt}
+use Rattle.wave_forms.proofs.ErrorSpans.Nodes.{memory_here}
 use Rattle.wave_forms.proofs.Fields.Lookup.{err_handed}
 use Rattle.wave_forms.proofs.FlagNodes.{labels_of}
 use Rattle.wave_forms.proofs.FlagSets.{texts_next, texts_all, picks_more, picks_same, flags_unknown}
@@ -42,3 +44,23 @@ pub returns-clause-picked : goal.returns-clause-picked
 returns-clause-picked c =
     let all = texts_all c.args.names.now.items c.deref-name-items.result.now c.loop-name.name-index c.deref-name-items.ensures.value c.loop-name-test.false in
     c.loop-name.invariant.picked ∙ (ap (found_in (names_at c.args.src.now c.in_ok-nodes.nodes.now)) all ∙ ap (λ (ns : List NodeTree). found_in (names_at c.args.src.now ns) (texts c.args.names.now.items)) c.in_ok-nodes.ensures.1)
+
+pub returns-in_err-marks-clause-refused : goal.returns-in_err-marks-clause-refused
+returns-in_err-marks-clause-refused c =
+    err_handed (RefusesFlags (texts c.args.names.now.items) c.args.src.now c.args.self.now) c.from_residual-in_err-marks.result c.in_err-marks.field-0.0 c.from_residual-in_err-marks.ensures.1 (inl c.in_err-marks.ensures.refused)
+
+pub returns-in_err-marks-clause-within : goal.returns-in_err-marks-clause-within
+returns-in_err-marks-clause-within c =
+    err_handed (RefusesAt c.args.self.now) c.from_residual-in_err-marks.result c.in_err-marks.field-0.0 c.from_residual-in_err-marks.ensures.1 (memory_here c.args.self.now c.in_err-marks.field-0.0 c.in_err-marks.ensures.refused c.in_err-marks.ensures.place)
+
+pub returns-in_err-push-clause-refused : goal.returns-in_err-push-clause-refused
+returns-in_err-push-clause-refused c =
+    err_handed (RefusesFlags (texts c.args.names.now.items) c.args.src.now c.args.self.now) c.from_residual-in_err-push.result c.in_err-push.field-0.0 c.from_residual-in_err-push.ensures.1 (inl c.in_err-push.ensures.refused)
+
+pub returns-in_err-push-clause-within : goal.returns-in_err-push-clause-within
+returns-in_err-push-clause-within c =
+    err_handed (RefusesAt c.args.self.now) c.from_residual-in_err-push.result c.in_err-push.field-0.0 c.from_residual-in_err-push.ensures.1 (memory_here c.args.self.now c.in_err-push.field-0.0 c.in_err-push.ensures.refused c.in_err-push.ensures.place)
+
+pub returns-in_err-ensure_marked-clause-within : goal.returns-in_err-ensure_marked-clause-within
+returns-in_err-ensure_marked-clause-within c =
+    err_handed (RefusesAt c.args.self.now) c.from_residual-in_err-ensure_marked.result c.in_err-ensure_marked.field-0.0 c.from_residual-in_err-ensure_marked.ensures.1 c.in_err-ensure_marked.ensures.place

@@ -4,7 +4,7 @@ use Rattle.wave_forms.proofs.MakerAnswers.{handed}
 use Rattle.wave_forms.proofs.ByKind.Flags.{flags_is, flags_blame, flags_made}
 use Rattle.wave_forms.specs.Private.ErrorSpans.{RefusesIn}
 use Rattle.wave_forms.proofs.Parameters.{error_handed}
-use Rattle.wave_forms.proofs.ErrorSpans.Nodes.{at_in, made_in}
+use Rattle.wave_forms.proofs.ErrorSpans.Nodes.{at_in, made_in, memory_here}
 use Rattle.wave_node.proofs.ast.Node.read_flags.Goals as goal
 
 pub returns-in_err-picked-clause-answer : goal.returns-in_err-picked-clause-answer
@@ -22,3 +22,11 @@ returns-in_err-picked-clause-within g c =
 pub returns-clause-within : goal.returns-clause-within
 returns-clause-within g c =
     made_in c.args.src.now c.args.self.now c.make_flags.result c.or_error_here.result (inl c.requires.node) c.or_error_here.ensures
+
+pub returns-in_err-names-clause-answer : goal.returns-in_err-names-clause-answer
+returns-in_err-names-clause-answer g c = λ t is distinct.
+    handed g.V.WasmValue.tree g.V.WasmValue.is_of g.V.WasmValue.is_full (g.V.Type.WasmType.tree c.args.ty.now) t c.in_err-names.field-0.0 c.from_residual.result c.from_residual.ensures.1 (inl c.in_err-names.ensures.refused)
+
+pub returns-in_err-names-clause-within : goal.returns-in_err-names-clause-within
+returns-in_err-names-clause-within g c =
+    error_handed (RefusesIn c.args.self.now) c.from_residual.result c.in_err-names.field-0.0 c.from_residual.ensures.1 (at_in c.args.src.now c.args.self.now c.in_err-names.field-0.0 (inl c.requires.node) (memory_here c.args.self.now c.in_err-names.field-0.0 c.in_err-names.ensures.refused c.in_err-names.ensures.place))

@@ -47,3 +47,13 @@ returns-in_ok-as_bool_key-in-Bool-clause-within g c =
 pub returns-in_default-clause-within : goal.returns-in_default-clause-within
 returns-in_default-clause-within g c =
     all_in c.args.src.now c.args.self.now c.read_whole.result (inr c.requires) (whole_at g.V.WasmValue.tree g.V.WasmValue.is_of g.V.WasmValue.is_full c.kind.result c.args.src.now c.args.self.now c.read_whole.result c.read_whole.ensures)
+
+pub returns-in_ok-as_char-in-Char-clause-within : goal.returns-in_ok-as_char-in-Char-clause-within
+returns-in_ok-as_char-in-Char-clause-within g c =
+    made_in c.args.src.now c.args.self.now c.make_char.result c.or_error_here-in-Char.result (inr c.requires) c.or_error_here-in-Char.ensures
+
+pub returns-in-String-clause-answer : goal.returns-in-String-clause-answer
+returns-in-String-clause-answer g c = c.read_string_key.ensures.answer
+
+pub returns-in-String-clause-within : goal.returns-in-String-clause-within
+returns-in-String-clause-within g c = c.read_string_key.ensures.within
