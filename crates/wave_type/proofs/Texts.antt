@@ -1,7 +1,8 @@
 -- Texts of types, fields and cases with commas between, item by item.
-use Rattle.std.proofs.Common.{◌≡◌, ℕ, ◌≤◌, List, [], ◌∷◌, ◌++◌, map, length, take, ap, ◌∙◌, refl, String, string_bytes, Option}
+use Rattle.std.proofs.Common.{◌≡◌, ℕ, ◌≤◌, List, [], ◌∷◌, ◌++◌, map, length, take, ap, ◌∙◌, refl, sym, codes, append_assoc, String, string_bytes, Option}
+use Rattle.std.specs.Fmt.{decimal}
 use Rattle.std.specs.declared.alloc.Global.{Global}
-use Rattle.wave_wasm.specs.Types.{TypeTree, types_of, fields_of, cases_of, maybe_type}
+use Rattle.wave_wasm.specs.Types.{TypeTree, fixed, types_of, fields_of, cases_of, maybe_type}
 use Rattle.wave_wasm.specs.Commas.{joined, behind_name}
 use Rattle.wave_wasm.specs.TypeText.{type_text, type_texts, field_texts, case_texts, payload_text}
 use Rattle.wave_wasm.proofs.JoinedTexts.{all_joined}
@@ -38,3 +39,11 @@ all_fields xs fs i same h = all_joined field_line xs fs i same h ∙ ap joined (
 -- all cases
 pub all_cases : (xs cs : List (String Global × Option TypeTree)) (i : ℕ) → xs ≡ cs → length xs ≤ i → joined (map case_line (take i xs)) ≡ joined (case_texts (cases_of (map by_bytes cs)))
 all_cases xs cs i same h = all_joined case_line xs cs i same h ∙ ap joined (case_lines cs)
+
+-- two texts in angle brackets, as they are written one after the other
+pub pair_text : (front a b all : List ℕ) → front ++ ((a ++ (codes ", " ++ b)) ++ codes ">") ≡ all → front ++ (a ++ (codes ", " ++ (b ++ codes ">"))) ≡ all
+pair_text front a b all e = ap (λ z. front ++ z) (sym (append_assoc a (codes ", " ++ b) (codes ">"))) ∙ e
+
+-- the text of a list of fixed length, likewise
+pub fixed_text : (E : TypeTree) (n : ℕ) (T : TypeTree) → fixed E n ≡ T → codes "list<" ++ (type_text E ++ (codes ", " ++ (decimal n ++ codes ">"))) ≡ type_text T
+fixed_text E n T is = pair_text (codes "list<") (type_text E) (decimal n) _ (ap type_text is)
