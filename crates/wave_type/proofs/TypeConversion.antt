@@ -1,12 +1,17 @@
 -- What converting the parts of a type tells of the whole.
-use Rattle.std.proofs.Common.{ℕ, ◌≡◌, Bool, ◌&&◌, if◌then◌else◌, Option, Some, None, List, [], ◌∷◌, ◌++◌, refl, sym, ap, ◌∙◌}
+use Rattle.std.proofs.Common.{ℕ, ◌≡◌, ◌<◌, ◌≤◌, ◌+◌, Bool, true, false, ◌&&◌, Bor, map, drop, length, get_or, append_assoc, append-nil, if◌then◌else◌, Option, Some, None, List, [], ◌∷◌, ◌++◌, refl, sym, ap, ◌∙◌}
 use Rattle.std.specs.List.{list_all}
 use Rattle.wave_wasm.specs.Types as type
 use Rattle.wave_wasm.specs.Types.{TypeTree, Types, Fields, Cases, MaybeType, types_of, type_list, fields_of, field_list, cases_of, case_list, maybe_type, type_option, kind_of, tuple_parts, record_parts, variant_parts, is_own, every_type, every_field, every_case, every_maybe, can_be_made}
 use Rattle.wave_wasm.specs.declared.wasm.WasmTypeKind.TheVariants as kinds
+use Rattle.std.proofs.lemmas.List.{map-append}
+use Rattle.wave_wasm.specs.Borrowed.{named}
+use Rattle.wave_wasm.proofs.Sequence.{at_item, at_end}
 use Rattle.wave_wasm.proofs.TypeKinds.{formed_as}
 use Rattle.wave_type.specs.TypeMade.{tuple_type, record_type, variant_type}
 use Rattle.wave_type.specs.TypeConversion.{converted_type}
+use Rattle.wave_type.specs.Private.TypeConversion.{converted_payload}
+use Rattle.std.specs.Prelude.{option_map}
 
 -- the payload's type, where there is one, is a tree of `Type`
 abbrev pub can_be_payload : List ℕ × Option TypeTree → Bool
@@ -76,3 +81,64 @@ variant_start T parts done k e none =
     let f = formed_as kinds.Variant T (sym k) in
     let made : T ≡ type.variant (cases_of parts) = f.1 ∙ ap type.variant (sym (cases_back f.0) ∙ ap cases_of (sym (e ∙ ap variant_parts f.1))) in
     ap converted_type made ∙ (variant_from parts ∙ ap (λ ds. remaining can_be_payload variant_type ds parts) (sym none))
+
+converted_by : (own : Bool) (T U : TypeTree) → Some U ≡ (if own then Some T else None) → (own ≡ true) × (U ≡ T)
+converted_by true T U e = (refl, cc)
+converted_by false T U e = absurd (cc)
+
+refused_by : (own : Bool) (T : TypeTree) → None ≡ (if own then Some T else None) → own ≡ false
+refused_by true T e = absurd (cc)
+refused_by false T e = refl
+
+-- a type that was converted is a tree of `Type`, and what was made is the type
+pub converted_is : (T U : TypeTree) (made : Option TypeTree) → made ≡ converted_type T → made ≡ Some U → (is_own T ≡ true) × (U ≡ T)
+converted_is T U made e some = converted_by (is_own T) T U (sym some ∙ e)
+
+-- a type that was not converted is none
+pub refused_is : (T : TypeTree) (made : Option TypeTree) → made ≡ converted_type T → made ≡ None → is_own T ≡ false
+refused_is T made e none = refused_by (is_own T) T (sym none ∙ e)
+
+-- what was pushed is what was to be made
+pub pushed : {X : Type 0} (done more : List X) (x y : X) → more ≡ done ++ (x ∷ []) → x ≡ y → more ≡ done ++ (y ∷ [])
+pushed done more x y e is = e ∙ ap (λ z. done ++ (z ∷ [])) is
+
+-- the same beside a borrowed name
+pub named_pushed : {X : Type 0} (done more : List (Bor (List ℕ) × X)) (name : Bor (List ℕ)) (x y : X) → more ≡ done ++ ((name, x) ∷ []) → x ≡ y → named more ≡ named done ++ ((name.now, y) ∷ [])
+named_pushed done more name x y e is = ap named e ∙ (map-append _ done ((name, x) ∷ []) ∙ ap (λ z. named done ++ ((name.now, z) ∷ [])) is)
+
+-- the next part was converted
+pub remaining_more : {X Y : Type 0} (ok : Y → Bool) (make : List Y → Option TypeTree) (f : X → Y) (xs : List X) (i : ℕ) (x : X) (done more : List Y) (whole : Option TypeTree) → whole ≡ remaining ok make done (map f (drop i xs)) → i < length xs → x ≡ get_or xs i x → ok (f x) ≡ true → more ≡ done ++ (f x ∷ [])
+    → whole ≡ remaining ok make more (map f (drop (i + 1) xs))
+remaining_more ok make f xs i x done more whole before lt is converts same =
+    let left = map f (drop (i + 1) xs) in
+    before ∙ (at_item (λ l. remaining ok make done (map f l)) xs i x lt is
+    ∙ (ap (λ b. if b && list_all ok left then make (done ++ (f x ∷ left)) else None) converts
+    ∙ ap (λ zs. if list_all ok left then make zs else None) (sym (append_assoc done (f x ∷ []) left) ∙ ap (λ d. d ++ left) (sym same))))
+
+-- the next part can't be converted
+pub remaining_none : {X Y : Type 0} (ok : Y → Bool) (make : List Y → Option TypeTree) (f : X → Y) (xs : List X) (i : ℕ) (x : X) (done : List Y) (whole : Option TypeTree) → whole ≡ remaining ok make done (map f (drop i xs)) → i < length xs → x ≡ get_or xs i x → ok (f x) ≡ false → None ≡ whole
+remaining_none ok make f xs i x done whole before lt is refused =
+    let left = map f (drop (i + 1) xs) in
+    sym (before ∙ (at_item (λ l. remaining ok make done (map f l)) xs i x lt is ∙ ap (λ b. if b && list_all ok left then make (done ++ (f x ∷ left)) else None) refused))
+
+-- all parts were converted
+pub remaining_done : {X Y : Type 0} (ok : Y → Bool) (make : List Y → Option TypeTree) (f : X → Y) (xs : List X) (i : ℕ) (done : List Y) (whole : Option TypeTree) → whole ≡ remaining ok make done (map f (drop i xs)) → length xs ≤ i → make done ≡ whole
+remaining_done ok make f xs i done whole before le = sym (before ∙ (at_end (λ l. remaining ok make done (map f l)) xs i le ∙ ap make (append-nil done)))
+
+payload_by : (own : Bool) (T : TypeTree) (payload : Option TypeTree) → Some payload ≡ option_map (λ U. Some U) (if own then Some T else None) → (own ≡ true) × (payload ≡ Some T)
+payload_by true T payload e = (refl, cc)
+payload_by false T payload e = absurd (cc)
+
+refused_payload_by : (own : Bool) (T : TypeTree) → None ≡ option_map (λ U. Some U) (if own then Some T else None) → own ≡ false
+refused_payload_by true T e = absurd (cc)
+refused_payload_by false T e = refl
+
+-- a payload that was converted, likewise
+pub payload_is : (given payload : Option TypeTree) (made : Option (Option TypeTree)) → made ≡ converted_payload given → made ≡ Some payload → (every_maybe can_be_made (maybe_type given) ≡ true) × (payload ≡ given)
+payload_is None payload made e some = (refl, cc)
+payload_is (Some T) payload made e some = payload_by (is_own T) T payload (sym some ∙ e)
+
+-- a payload that was not converted
+pub refused_payload : (given : Option TypeTree) (made : Option (Option TypeTree)) → made ≡ converted_payload given → made ≡ None → every_maybe can_be_made (maybe_type given) ≡ false
+refused_payload None made e none = absurd (cc)
+refused_payload (Some T) made e none = refused_payload_by (is_own T) T (sym none ∙ e)
