@@ -21,7 +21,6 @@ use Rattle.wave_forms.proofs.ByKind.Leaves.{said}
 use Rattle.wave_forms.proofs.ByKind.Lists.{AreNodesOf, AllRead, has_element, list_fault, list_is, list_nodes, given_nodes, list_item, list_blame, length_blame, list_made, element_distinct, as_many}
 use Rattle.wave_forms.proofs.ChildNodes.Trees.{list_of_trees}
 use Rattle.wave_forms.proofs.ErrorSpans.Nodes.{at_in, form_at, caused_at, deeper_at, made_in}
-use Rattle.wave_plan.specs.NodeParts.{IsOneToken}
 use Rattle.wave_plan.specs.Reading.{IsReadAs, IsReadWhereDue}
 use Rattle.wave_read.specs.ListParts.{unless_held, AllReadAs, ReadOrHeld}
 
@@ -57,10 +56,6 @@ one_more ns n count next many is = omega (arith, many, is, length-append ns (n �
 pub refusal_handed : {X : Type 0} (P : Result X Diagnostic → Type 0) (r : Result X Diagnostic) (e : Diagnostic) → IsErrAnd r (λ f. f ≡ e) → P (Err e) → P r
 refusal_handed P (Ok x) e same h = absurd same
 refusal_handed P (Err f) e same h = subst (λ (x : Diagnostic). P (Err x)) (sym same) h
-
--- no node of one token is a list
-pub no_list : (ty : NodeType) → IsOneToken ty → ty ≢ kind.List
-no_list ty h e = subst IsOneToken e h
 
 module _ {V : Type 0} (tree : V → Value) (of : V → TypeTree → Type 0) (Full : TypeTree → Type 0) where
   -- a node that is no list, at a type of lists

@@ -34,10 +34,6 @@ one_child a b e = cc
 some_payload : (source : List ℕ) (p : Range ℕ) (inner : NodeTree) (t : Placed) (k : SomeNode source (some_of p (inner ∷ [])) t) → IsNodeOf source inner k.payload
 some_payload source p inner t k = subst (λ (m : NodeTree). IsNodeOf source m k.payload) (sym (one_child inner k.inner k.children)) k.node
 
--- no node of `some` is without one
-no_payload : (source : List ℕ) (p : Range ℕ) (t : Placed) → IsNodeOf source (some_of p []) t → ⊥
-no_payload source p t is = absurd (cc (some_node source (some_of p []) t is refl).children)
-
 module _ {V : Type 0} (tree : V → Value) (of : V → TypeTree → Type 0) (Full : TypeTree → Type 0) where
   -- `some` of a value
   pub some_read : (T P : TypeTree) (source : List ℕ) (p : Range ℕ) (children : List NodeTree) (v : V) (m : Result V WasmValueError) (r : Result V Diagnostic) → T ≡ type.option P → IsReadPayload tree of Full (Some P) source children (Some (Ok v)) → IfOk m (MakesOption tree of T (Some v)) → IfErr m (FullOption of Full T (Some v)) → IsMadeAt p m r → IsReadAs tree of Full T source (some_of p children) r
@@ -52,11 +48,6 @@ module _ {V : Type 0} (tree : V → Value) (of : V → TypeTree → Type 0) (Ful
       let n = some_of p (inner ∷ []) in
       subst (λ (ns : List NodeTree). IsReadAs tree of Full T source (some_of p ns) (Err e)) (sym is)
       (record { answer = λ t here distinct. let k = some_node source n t here refl in some_blame tree of Full T P t k.payload e option k.shape parts (read.answer k.payload (some_payload source p inner t k) (subst HasDistinctNames option distinct)); within = λ value. let k = some_node source n value.0 value.1 refl in deeper n inner e (first_belongs source n (Some inner) value refl inner refl) (read.within (k.payload, some_payload source p inner value.0 k)) })
-
-  -- `some` of nothing, which is the node of no value
-  pub some_missing : (T P : TypeTree) (source : List ℕ) (p : Range ℕ) (children : List NodeTree) (r : Result V Diagnostic) → IsReadPayload tree of Full (Some P) source children None → IsReadAs tree of Full T source (some_of p children) r
-  some_missing T P source p children r is =
-      subst (λ (ns : List NodeTree). IsReadAs tree of Full T source (some_of p ns) r) (sym is) (record { answer = λ t node distinct. absurd (no_payload source p t node); within = λ value. absurd (no_payload source p value.0 value.1) })
 
   -- `none`
   pub none_read : (T : TypeTree) (source : List ℕ) (n : NodeTree) (m : Result V WasmValueError) (r : Result V Diagnostic) → kind_of T ≡ kinds.Option → type_of n ≡ node_type.OptionNone → IfOk m (MakesOption tree of T None) → IfErr m (FullOption of Full T None) → IsMade n m r → IsReadAs tree of Full T source n r

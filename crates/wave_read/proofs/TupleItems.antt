@@ -23,16 +23,11 @@ use Rattle.wave_forms.proofs.ByKind.Lists.{AreNodesOf, HasAt}
 use Rattle.wave_forms.proofs.ByKind.Tuples.{TupleType, tuple_is, all_has, parts_distinct, tuple_nodes, given_items, tuple_item, tuple_fault, item_blamed, count_blame, ReadAt, tuple_made}
 use Rattle.wave_forms.proofs.ChildNodes.Trees.{list_of_trees}
 use Rattle.wave_forms.proofs.ErrorSpans.Nodes.{at_in, form_at, memory_here, caused_at, deeper_at, made_in}
-use Rattle.wave_plan.specs.NodeParts.{IsOneToken}
 use Rattle.wave_plan.specs.Reading.{IsReadAs, IsReadWhereDue}
 use Rattle.wave_read.specs.Faults.{IsDoomed}
 use Rattle.wave_read.specs.TupleParts.{AreReadEach}
 use Rattle.wave_read.specs.declared.fault.Fault.TheVariants as fault
 use Rattle.wave_read.proofs.Doomed.{told_dooms}
-
--- no node of one token is a tuple
-pub no_tuple : (ty : NodeType) → IsOneToken ty → ty ≢ kind.Tuple
-no_tuple ty h e = subst IsOneToken e h
 
 -- the one behind the first ones
 at_last : {A : Type 0} (xs more : List A) (x : A) → x ≡ get_or ((xs ++ x ∷ []) ++ more) (length xs) x
