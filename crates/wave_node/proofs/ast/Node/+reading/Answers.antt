@@ -280,7 +280,7 @@ read_map-returns-in_err-nodes-clause-answer g m c = λ t is distinct.
 pub read_map-entries-init : goal.read_map-entries-init
 read_map-entries-init g m c =
     let value : IsValueOf c.args.src.now c.args.self.now = assumption in
-    (none_read g.V.WasmValue.tree g.V.WasmValue.is_of g.V.WasmValue.is_full c.args.src.now (g.V.Type.WasmType.tree c.unwrap.result.0.now) (g.V.Type.WasmType.tree c.unwrap.result.1.now) (node_pairs (children_of c.args.self.now)) c.in_ok-nodes.nodes c.new-entries.result.items c.in_ok-nodes.ensures.1 c.new-entries.ensures.items, subst (AllOf (PairBelongs c.args.self.now)) (sym c.in_ok-nodes.ensures.1) (entries_belong c.args.src.now c.args.self.now value))
+    (none_read g.V.WasmValue.tree g.V.WasmValue.is_of g.V.WasmValue.is_full c.args.src.now (g.V.Type.WasmType.tree c.unwrap.result.0.now) (g.V.Type.WasmType.tree c.unwrap.result.1.now) (node_pairs (children_of c.args.self.now)) c.in_ok-nodes.nodes c.new-entries.result.items c.in_ok-nodes.ensures.1 c.new-entries.ensures.items, subst (AllOf (PairBelongs c.args.self.now)) {x = node_pairs (children_of c.args.self.now)} (sym {b = node_pairs (children_of c.args.self.now)} c.in_ok-nodes.ensures.1) (entries_belong c.args.src.now c.args.self.now value))
 
 pub read_map-read_key-requires : goal.read_map-read_key-requires
 read_map-read_key-requires g m c =
