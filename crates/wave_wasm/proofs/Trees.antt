@@ -1,5 +1,5 @@
 -- The text, the depth and the writability of a value, by the lists of its parts.
-use Rattle.std.proofs.Common.{ℕ, suc, ◌≡◌, List, [], ◌∷◌, ◌++◌, Bool, true, false, ◌&&◌, ◌⊎◌, inl, inr, cond, if◌then◌else◌, refl, sym, ap, ◌∙◌, map, max, codes, append_assoc, Option, Some, None}
+use Rattle.std.proofs.Common.{ℕ, suc, ◌≡◌, List, [], ◌∷◌, ◌++◌, Bool, true, false, ◌&&◌, ◌⊎◌, inl, inr, cond, if◌then◌else◌, refl, sym, ap, ◌∙◌, map, max, codes, append_assoc, subst, Option, Some, None}
 use Rattle.std.specs.List.{list_all}
 use Rattle.wave_wasm.specs.declared.wasm.WasmTypeKind.{WasmTypeKind}
 use Rattle.wave_wasm.specs.declared.wasm.WasmTypeKind.TheVariants as kinds
@@ -7,7 +7,7 @@ use Rattle.wave_wasm.specs.Types as type
 use Rattle.wave_wasm.specs.Types.{simple_kind}
 use Rattle.wave_wasm.specs.Values as value
 use Rattle.wave_wasm.specs.Values.{Leaf, Value, Values, FieldValues, no_value, a_value, no_values, value_and, no_fields, field, value_list, field_list, list_items, tuple_items, record_fields, maybe_value, kind_of, leaf_type}
-use Rattle.wave_wasm.specs.Private.Values.{depth, depth_of_values, depth_of_fields}
+use Rattle.wave_wasm.specs.Private.Values.{depth, depth_of_values, depth_of_fields, IsLeaf}
 use Rattle.wave_wasm.specs.ConstructorContracts.{IsOfListKind}
 use Rattle.wave_wasm.specs.Keywords.{case_label}
 use Rattle.wave_wasm.specs.Commas.{followed, behind_name}
@@ -212,10 +212,18 @@ pub ok_text : (payload : Option Value) → text (value.ok (maybe_value payload))
 ok_text None = refl
 ok_text (Some v) = refl
 
+pub ok_writable : (payload : Option Value) → has_text (value.ok (maybe_value payload)) ≡ has_payload_text payload
+ok_writable None = refl
+ok_writable (Some v) = refl
+
 -- `err` with its payload
 pub err_text : (payload : Option Value) → text (value.err (maybe_value payload)) ≡ codes "err" ++ payload_text payload
 err_text None = refl
 err_text (Some v) = refl
+
+pub err_writable : (payload : Option Value) → has_text (value.err (maybe_value payload)) ≡ has_payload_text payload
+err_writable None = refl
+err_writable (Some v) = refl
 
 -- a value of a kind without text can't be written
 no_text : (v : Value) → is_readable_kind (kind_of v) ≡ false → has_text v ≡ false
@@ -238,3 +246,26 @@ pub no_text_of_kind : (v : Value) (k : WasmTypeKind) → k ≡ kind_of v → (k 
 no_text_of_kind v k e (inl is) = no_text v (ap is_readable_kind (sym e ∙ is))
 no_text_of_kind v k e (inr (inl is)) = no_text v (ap is_readable_kind (sym e ∙ is))
 no_text_of_kind v k e (inr (inr is)) = no_text v (ap is_readable_kind (sym e ∙ is))
+
+-- a kind of lists, by the arm that names them
+pub of_list_kind : (v : Value) (k : WasmTypeKind) → k ≡ kind_of v → (k ≡ kinds.List) ⊎ (k ≡ kinds.FixedLengthList) → IsOfListKind (kind_of v)
+of_list_kind v k e (inl is) = subst IsOfListKind (sym is ∙ e) tt
+of_list_kind v k e (inr is) = subst IsOfListKind (sym is ∙ e) tt
+
+-- a value of no other kind is a leaf
+pub leaf_of : (v : Value) (k : WasmTypeKind) → k ≡ kind_of v → (k ≡ kinds.F32 → ⊥) → (k ≡ kinds.F64 → ⊥) → (k ≡ kinds.List → ⊥) → (k ≡ kinds.FixedLengthList → ⊥) → (k ≡ kinds.Record → ⊥) → (k ≡ kinds.Tuple → ⊥) → (k ≡ kinds.Variant → ⊥) → (k ≡ kinds.Enum → ⊥) → (k ≡ kinds.Option → ⊥) → (k ≡ kinds.Result → ⊥) → (k ≡ kinds.Flags → ⊥) → (k ≡ kinds.Map → ⊥) → (k ≡ kinds.Unsupported → ⊥) → IsLeaf v
+leaf_of (value.leaf one) k e no_single no_double no_list no_fixed no_record_kind no_tuple no_variant no_enum no_option no_result no_flags no_map_kind no_unsupported = (one, refl)
+leaf_of (value.unreadable type.f32) k e no_single no_double no_list no_fixed no_record_kind no_tuple no_variant no_enum no_option no_result no_flags no_map_kind no_unsupported = absurd (no_single e)
+leaf_of (value.unreadable type.f64) k e no_single no_double no_list no_fixed no_record_kind no_tuple no_variant no_enum no_option no_result no_flags no_map_kind no_unsupported = absurd (no_double e)
+leaf_of (value.unreadable type.unsupported) k e no_single no_double no_list no_fixed no_record_kind no_tuple no_variant no_enum no_option no_result no_flags no_map_kind no_unsupported = absurd (no_unsupported e)
+leaf_of (value.list vs) k e no_single no_double no_list no_fixed no_record_kind no_tuple no_variant no_enum no_option no_result no_flags no_map_kind no_unsupported = absurd (no_list e)
+leaf_of (value.fixed vs) k e no_single no_double no_list no_fixed no_record_kind no_tuple no_variant no_enum no_option no_result no_flags no_map_kind no_unsupported = absurd (no_fixed e)
+leaf_of (value.record_value fs) k e no_single no_double no_list no_fixed no_record_kind no_tuple no_variant no_enum no_option no_result no_flags no_map_kind no_unsupported = absurd (no_record_kind e)
+leaf_of (value.tuple vs) k e no_single no_double no_list no_fixed no_record_kind no_tuple no_variant no_enum no_option no_result no_flags no_map_kind no_unsupported = absurd (no_tuple e)
+leaf_of (value.variant name payload) k e no_single no_double no_list no_fixed no_record_kind no_tuple no_variant no_enum no_option no_result no_flags no_map_kind no_unsupported = absurd (no_variant e)
+leaf_of (value.enum name) k e no_single no_double no_list no_fixed no_record_kind no_tuple no_variant no_enum no_option no_result no_flags no_map_kind no_unsupported = absurd (no_enum e)
+leaf_of (value.option payload) k e no_single no_double no_list no_fixed no_record_kind no_tuple no_variant no_enum no_option no_result no_flags no_map_kind no_unsupported = absurd (no_option e)
+leaf_of (value.ok payload) k e no_single no_double no_list no_fixed no_record_kind no_tuple no_variant no_enum no_option no_result no_flags no_map_kind no_unsupported = absurd (no_result e)
+leaf_of (value.err payload) k e no_single no_double no_list no_fixed no_record_kind no_tuple no_variant no_enum no_option no_result no_flags no_map_kind no_unsupported = absurd (no_result e)
+leaf_of (value.flags names) k e no_single no_double no_list no_fixed no_record_kind no_tuple no_variant no_enum no_option no_result no_flags no_map_kind no_unsupported = absurd (no_flags e)
+leaf_of (value.map es) k e no_single no_double no_list no_fixed no_record_kind no_tuple no_variant no_enum no_option no_result no_flags no_map_kind no_unsupported = absurd (no_map_kind e)

@@ -1,6 +1,6 @@
 -- How the parts that are written join to the whole.
 use Rattle.std.proofs.Common.{ℕ, ◌≡◌, List, [], ◌++◌, Bool, true, false, refl, sym, ap, ◌∙◌, append_assoc, arith, subst}
-use Rattle.std.specs.Prelude.{Result, Err}
+use Rattle.std.specs.Prelude.{Result, Ok, Err}
 use Rattle.std.proofs.lemmas.List.{append-nil}
 use Rattle.std.proofs.lemmas.Result.{IfOk-weaker, IfErr-weaker}
 use Rattle.std.specs.declared.alloc.AllocError.{AllocError}
@@ -92,3 +92,11 @@ writing_last {whole} {part} {old} {now} {new} {writable} {all} {result} w same r
       writable = IfOk-weaker result (λ _. writable ≡ true) (λ _. all ≡ true) (λ _ h. same ∙ h) r.writable;
       err = IfErr-weaker result (λ e. Refused part writable e now new) (λ e. Refused whole all e old new) (λ e x. refused_later [] left (λ h. same ∙ h) x) r.err;
     }
+
+-- an empty text is written without a call
+pub nothing_written : (whole : List ℕ) (all : Bool) (old : Output) → whole ≡ [] → all ≡ true → Writes whole all (Ok tt) old old
+nothing_written whole all old none passes = record { ok = record { written = sym (ap (λ s. old.written ++ s) none ∙ append-nil old.written); failures = refl }; writable = passes; err = tt }
+
+-- nothing is left to write
+pub all_written : {whole : List ℕ} {old now : Output} {all : Bool} → Writing whole [] old now → all ≡ true → Writes whole all (Ok tt) old now
+all_written w passes = record { ok = writing_all w; writable = passes; err = tt }

@@ -8,12 +8,12 @@ use Rattle.wave_wasm.specs.Commas.{behind_name}
 use Rattle.wave_wasm.specs.Borrowed.{shown}
 use Rattle.wave_wasm.specs.Text.{text, has_text}
 use Rattle.wave_wasm.specs.Private.Text.{payload_text, has_payload_text}
-use Rattle.wave_wasm.specs.Values.{Value}
-use Rattle.wave_wasm.specs.Private.Values.{depth}
-use Rattle.wave_wasm.proofs.Writing.{writing_more, writing_refused, writing_refused_text, start_refused, start_written, writing_as, writing_none, refused_before, refused_grounded, refused_unsupported, writing_last}
+use Rattle.wave_wasm.specs.Values.{Value, maybe_value}
+use Rattle.wave_wasm.specs.Private.Values.{depth, depth_of_maybe}
+use Rattle.wave_wasm.proofs.Writing.{writing_more, writing_refused, writing_refused_text, start_refused, start_written, writing_as, writing_none, refused_before, refused_grounded, refused_unsupported, writing_last, nothing_written}
 use Rattle.wave_wasm.proofs.Sequence.{writing_start, writing_item, writing_close, item_blocks, item_passes, items_pass, part_depth, all_at}
-use Rattle.wave_wasm.proofs.Trees.{map_map, all_map, list_sequence, tuple_sequence, record_is, variant_text, variant_writable, ok_text, err_text, no_text_of_kind}
-use Rattle.wave_wasm.proofs.Records.{writing_field, writing_record_close}
+use Rattle.wave_wasm.proofs.Trees.{map_map, all_map, list_sequence, tuple_sequence, record_is, variant_text, variant_writable, ok_text, ok_writable, err_text, err_writable, no_text_of_kind, of_list_kind, leaf_of}
+use Rattle.wave_wasm.proofs.Records.{writing_field, writing_skipped, none_writable, writing_record_close}
 use Rattle.wave_wasm.proofs.Maps.{written_map, keys_are_leaves, writing_entry}
 use Rattle.wave_wasm.proofs.writer.Writer.+write.Goals as goal
 
@@ -281,3 +281,246 @@ write_map-returns g t c =
     let ok : String Global × Bor g.row.V.Denot → Bool = λ e. has_text (g.V.WasmValue.tree e.1.now) in
     let w = writing_close (λ e. behind_name (key e) (value e)) c.deref-entry-items.result.now c.loop-entry.entry-index _ _ c.loop-entry-test.false c.loop-entry.invariant.writing in
     writing_last w (items_pass ok c.deref-entry-items.result.now c.loop-entry.entry-index _ c.loop-entry-test.false c.loop-entry.invariant.writable) c.write_text-2.ensures
+
+-- what the checks above leave
+
+pub write_items-returns-in_err-write_text : goal.write_items-returns-in_err-write_text
+write_items-returns-in_err-write_text g t c =
+    let p = err_from_is_err_and c.from_residual.result c.from_residual.ensures.1 in
+    rw (p.1, p.2) (start_refused _ refl c.in_err-write_text.ensures)
+
+pub write_items-loop-item-preserved : goal.write_items-loop-item-preserved
+write_items-loop-item-preserved g t c =
+    let f : Bor g.row.V.Denot → List ℕ = λ v. text (g.V.WasmValue.tree v.now) in
+    let ok : Bor g.row.V.Denot → Bool = λ v. has_text (g.V.WasmValue.tree v.now) in
+    let w = writing_item f c.deref-item-items.result.now c.loop-item.item-index c.item-item.result _ _ c.loop-item-test.true c.item-item.is c.loop-item.invariant.writing in
+    record {
+      writing = writing_more (writing_more w c.in_ok-write_separator.ensures.ok) c.in_ok-write_value.ensures.ok;
+      writable = item_passes ok c.deref-item-items.result.now c.loop-item.item-index c.item-item.result _ c.loop-item-test.true c.item-item.is c.loop-item.invariant.writable c.in_ok-write_value.ensures.writable;
+    }
+
+pub write_list-returns-in_err-items : goal.write_list-returns-in_err-items
+write_list-returns-in_err-items g t c =
+    let p = err_from_is_err_and c.from_residual.result c.from_residual.ensures.1 in
+    rw (p.1, p.2) (refused_before _ _ _ _)
+
+pub write_tuple-returns-in_err-items : goal.write_tuple-returns-in_err-items
+write_tuple-returns-in_err-items g t c =
+    let p = err_from_is_err_and c.from_residual.result c.from_residual.ensures.1 in
+    rw (p.1, p.2) (refused_before _ _ _ _)
+
+pub write_map-returns-in_err-entries : goal.write_map-returns-in_err-entries
+write_map-returns-in_err-entries g t c =
+    let p = err_from_is_err_and c.from_residual.result c.from_residual.ensures.1 in
+    rw (p.1, p.2) (refused_before _ _ _ _)
+
+pub write_record-loop-field-preserved-then-is_none : goal.write_record-loop-field-preserved-then-is_none
+write_record-loop-field-preserved-then-is_none g t c =
+    let f : Bor (List ℕ) × Bor g.row.V.Denot → List ℕ × Value = λ x. (x.0.now, g.V.WasmValue.tree x.1.now) in
+    let none = sym c.is_none.ensures ∙ c.if-is_none.true in
+    record {
+      writing = writing_skipped f c.deref-field-items.result.now c.loop-field.field-index c.field-item.result _ c.loop-field-test.true c.field-item.is none c.loop-field.invariant.writing;
+      writable = item_passes (λ (x : Bor (List ℕ) × Bor g.row.V.Denot). has_text (g.V.WasmValue.tree x.1.now)) c.deref-field-items.result.now c.loop-field.field-index c.field-item.result _ c.loop-field-test.true c.field-item.is c.loop-field.invariant.writable (none_writable _ none);
+    }
+
+pub write_variant-returns-in_err-write_case : goal.write_variant-returns-in_err-write_case
+write_variant-returns-in_err-write_case g t c =
+    let p = err_from_is_err_and c.from_residual.result c.from_residual.ensures.1 in
+    rw (p.1, p.2) (start_refused _ (ap text c.unwrap_variant.ensures ∙ variant_text c.unwrap_variant.result.0.now (shown g.V.WasmValue.tree c.unwrap_variant.result.1)) c.in_err-write_case.ensures)
+
+pub write_variant-write_payload-requires : goal.write_variant-write_payload-requires
+write_variant-write_payload-requires g t c κs within =
+    let d = ap depth c.unwrap_variant.ensures in
+    (omega (arith, d), within)
+
+pub write_option-write_payload-requires : goal.write_option-write_payload-requires
+write_option-write_payload-requires g t c κs within =
+    let d = ap depth c.in-Some.ensures in
+    (omega (arith, d), within)
+
+pub write_result-write_payload-requires : goal.write_result-write_payload-requires
+write_result-write_payload-requires g t c κs within =
+    let d = ap depth c.in-Ok.ensures in
+    (omega (arith, d), within)
+
+pub write_result-write_payload-requires-in-Err : goal.write_result-write_payload-requires-in-Err
+write_result-write_payload-requires-in-Err g t c κs within =
+    let d = ap depth c.in-Err.ensures in
+    (omega (arith, d), within)
+
+pub write_payload-write_value-requires : goal.write_payload-write_value-requires
+write_payload-write_value-requires g t c κs within =
+    let d = ap (λ o. depth_of_maybe (maybe_value (shown g.V.WasmValue.tree o))) c.in-Some.is in
+    (omega (arith, d), within)
+
+pub write_option-returns-in-None : goal.write_option-returns-in-None
+write_option-returns-in-None g t c =
+    rw (ap text c.in-None.ensures, ap has_text c.in-None.ensures) c.write_text.ensures
+
+pub write_option-returns-in_ok-write_text-in-Some : goal.write_option-returns-in_ok-write_text-in-Some
+write_option-returns-in_ok-write_text-in-Some g t c =
+    writing_last (start_written _ (ap text c.in-Some.ensures) c.in_ok-write_text-in-Some.ensures.ok) (ap has_text c.in-Some.ensures) c.write_payload.ensures
+
+pub write_result-returns-in_ok-write_text-in-Ok : goal.write_result-returns-in_ok-write_text-in-Ok
+write_result-returns-in_ok-write_text-in-Ok g t c =
+    writing_last (start_written _ (ap text c.in-Ok.ensures ∙ ok_text (shown g.V.WasmValue.tree c.in-Ok.payload)) c.in_ok-write_text-in-Ok.ensures.ok) (ap has_text c.in-Ok.ensures ∙ ok_writable (shown g.V.WasmValue.tree c.in-Ok.payload)) c.write_payload.ensures
+
+pub write_result-returns-in_ok-write_text-in-Err : goal.write_result-returns-in_ok-write_text-in-Err
+write_result-returns-in_ok-write_text-in-Err g t c =
+    writing_last (start_written _ (ap text c.in-Err.ensures ∙ err_text (shown g.V.WasmValue.tree c.in-Err.payload)) c.in_ok-write_text-in-Err.ensures.ok) (ap has_text c.in-Err.ensures ∙ err_writable (shown g.V.WasmValue.tree c.in-Err.payload)) c.write_payload-in-Err.ensures
+
+pub write_payload-returns-in_err-write_value-in-Some : goal.write_payload-returns-in_err-write_value-in-Some
+write_payload-returns-in_err-write_value-in-Some g t c =
+    let p = err_from_is_err_and c.from_residual-in_err-write_value-in-Some.result c.from_residual-in_err-write_value-in-Some.ensures.1 in
+    rw (p.1, p.2) (writing_refused _ (start_written _ (ap (λ o. payload_text (shown g.V.WasmValue.tree o)) c.in-Some.is) c.in_ok-write_text-in-Some.ensures.ok) (λ h. ap (λ o. has_payload_text (shown g.V.WasmValue.tree o)) c.in-Some.is ∙ h) c.in_err-write_value-in-Some.ensures.err)
+
+pub write_payload-returns-in-None : goal.write_payload-returns-in-None
+write_payload-returns-in-None g t c =
+    nothing_written _ _ _ (ap (λ o. payload_text (shown g.V.WasmValue.tree o)) c.in-None.is) (ap (λ o. has_payload_text (shown g.V.WasmValue.tree o)) c.in-None.is)
+
+pub write_value-returns-in-List-clause-ok : goal.write_value-returns-in-List-clause-ok
+write_value-returns-in-List-clause-ok g t c = c.write_list.ensures.ok
+
+pub write_value-returns-in-List-clause-writable : goal.write_value-returns-in-List-clause-writable
+write_value-returns-in-List-clause-writable g t c = c.write_list.ensures.writable
+
+pub write_value-returns-in-List-clause-err : goal.write_value-returns-in-List-clause-err
+write_value-returns-in-List-clause-err g t c = c.write_list.ensures.err
+
+pub write_value-returns-in-Record-clause-ok : goal.write_value-returns-in-Record-clause-ok
+write_value-returns-in-Record-clause-ok g t c = c.write_record.ensures.ok
+
+pub write_value-returns-in-Record-clause-writable : goal.write_value-returns-in-Record-clause-writable
+write_value-returns-in-Record-clause-writable g t c = c.write_record.ensures.writable
+
+pub write_value-returns-in-Record-clause-err : goal.write_value-returns-in-Record-clause-err
+write_value-returns-in-Record-clause-err g t c = c.write_record.ensures.err
+
+pub write_value-returns-in-Tuple-clause-ok : goal.write_value-returns-in-Tuple-clause-ok
+write_value-returns-in-Tuple-clause-ok g t c = c.write_tuple.ensures.ok
+
+pub write_value-returns-in-Tuple-clause-writable : goal.write_value-returns-in-Tuple-clause-writable
+write_value-returns-in-Tuple-clause-writable g t c = c.write_tuple.ensures.writable
+
+pub write_value-returns-in-Tuple-clause-err : goal.write_value-returns-in-Tuple-clause-err
+write_value-returns-in-Tuple-clause-err g t c = c.write_tuple.ensures.err
+
+pub write_value-returns-in-Variant-clause-ok : goal.write_value-returns-in-Variant-clause-ok
+write_value-returns-in-Variant-clause-ok g t c = c.write_variant.ensures.ok
+
+pub write_value-returns-in-Variant-clause-writable : goal.write_value-returns-in-Variant-clause-writable
+write_value-returns-in-Variant-clause-writable g t c = c.write_variant.ensures.writable
+
+pub write_value-returns-in-Variant-clause-err : goal.write_value-returns-in-Variant-clause-err
+write_value-returns-in-Variant-clause-err g t c = c.write_variant.ensures.err
+
+pub write_value-returns-in-Option-clause-ok : goal.write_value-returns-in-Option-clause-ok
+write_value-returns-in-Option-clause-ok g t c = c.write_option.ensures.ok
+
+pub write_value-returns-in-Option-clause-writable : goal.write_value-returns-in-Option-clause-writable
+write_value-returns-in-Option-clause-writable g t c = c.write_option.ensures.writable
+
+pub write_value-returns-in-Option-clause-err : goal.write_value-returns-in-Option-clause-err
+write_value-returns-in-Option-clause-err g t c = c.write_option.ensures.err
+
+pub write_value-returns-in-Result-clause-ok : goal.write_value-returns-in-Result-clause-ok
+write_value-returns-in-Result-clause-ok g t c = c.write_result.ensures.ok
+
+pub write_value-returns-in-Result-clause-writable : goal.write_value-returns-in-Result-clause-writable
+write_value-returns-in-Result-clause-writable g t c = c.write_result.ensures.writable
+
+pub write_value-returns-in-Result-clause-err : goal.write_value-returns-in-Result-clause-err
+write_value-returns-in-Result-clause-err g t c = c.write_result.ensures.err
+
+pub write_value-returns-in-Flags-clause-ok : goal.write_value-returns-in-Flags-clause-ok
+write_value-returns-in-Flags-clause-ok g t c = c.write_flags.ensures.ok
+
+pub write_value-returns-in-Flags-clause-writable : goal.write_value-returns-in-Flags-clause-writable
+write_value-returns-in-Flags-clause-writable g t c = c.write_flags.ensures.writable
+
+pub write_value-returns-in-Flags-clause-err : goal.write_value-returns-in-Flags-clause-err
+write_value-returns-in-Flags-clause-err g t c = c.write_flags.ensures.err
+
+pub write_value-returns-in-Map-clause-ok : goal.write_value-returns-in-Map-clause-ok
+write_value-returns-in-Map-clause-ok g t c = c.write_map.ensures.ok
+
+pub write_value-returns-in-Map-clause-writable : goal.write_value-returns-in-Map-clause-writable
+write_value-returns-in-Map-clause-writable g t c = c.write_map.ensures.writable
+
+pub write_value-returns-in-Map-clause-err : goal.write_value-returns-in-Map-clause-err
+write_value-returns-in-Map-clause-err g t c = c.write_map.ensures.err
+
+pub write_value-returns-in_default-clause-ok : goal.write_value-returns-in_default-clause-ok
+write_value-returns-in_default-clause-ok g t c = c.write_leaf.ensures.ok
+
+pub write_value-write_list-requires : goal.write_value-write_list-requires
+write_value-write_list-requires g t c κs within = (omega arith, (within.0, (within.1.0, (within.1.1, of_list_kind _ _ c.kind.ensures.kind c.in-List.is))))
+
+pub write_value-write_map-requires : goal.write_value-write_map-requires
+write_value-write_map-requires g t c κs within = (omega arith, (within.0, (within.1.0, (within.1.1, (sym c.kind.ensures.kind ∙ c.in-Map.is, c.kind.ensures.formed)))))
+
+pub write_value-write_leaf-requires : goal.write_value-write_leaf-requires
+write_value-write_leaf-requires g t c = leaf_of _ _ c.kind.ensures.kind c.in_default.not-F32 c.in_default.not-F64 c.in_default.not-List c.in_default.not-FixedLengthList c.in_default.not-Record c.in_default.not-Tuple c.in_default.not-Variant c.in_default.not-Enum c.in_default.not-Option c.in_default.not-Result c.in_default.not-Flags c.in_default.not-Map c.in_default.not-Unsupported
+
+pub write_value-write_flags-requires : goal.write_value-write_flags-requires
+write_value-write_flags-requires g t c = sym c.kind.ensures.kind ∙ c.in-Flags.is
+
+pub write_value-returns-in-Enum-clause-ok : goal.write_value-returns-in-Enum-clause-ok
+write_value-returns-in-Enum-clause-ok g t c = rw (ap text c.unwrap_enum.ensures) c.write_case.ensures.ok
+
+pub write_value-returns-in_default-clause-writable : goal.write_value-returns-in_default-clause-writable
+write_value-returns-in_default-clause-writable g t c =
+    let one = leaf_of _ _ c.kind.ensures.kind c.in_default.not-F32 c.in_default.not-F64 c.in_default.not-List c.in_default.not-FixedLengthList c.in_default.not-Record c.in_default.not-Tuple c.in_default.not-Variant c.in_default.not-Enum c.in_default.not-Option c.in_default.not-Result c.in_default.not-Flags c.in_default.not-Map c.in_default.not-Unsupported in
+    rw (ap has_text one.1) c.write_leaf.ensures.writable
+
+pub write_value-returns-in_default-clause-err : goal.write_value-returns-in_default-clause-err
+write_value-returns-in_default-clause-err g t c =
+    let one = leaf_of _ _ c.kind.ensures.kind c.in_default.not-F32 c.in_default.not-F64 c.in_default.not-List c.in_default.not-FixedLengthList c.in_default.not-Record c.in_default.not-Tuple c.in_default.not-Variant c.in_default.not-Enum c.in_default.not-Option c.in_default.not-Result c.in_default.not-Flags c.in_default.not-Map c.in_default.not-Unsupported in
+    rw (ap has_text one.1) c.write_leaf.ensures.err
+
+pub write_value-write_record-requires : goal.write_value-write_record-requires
+write_value-write_record-requires g t c κs within = (omega arith, (within.0, (within.1.0, (within.1.1, sym c.kind.ensures.kind ∙ c.in-Record.is))))
+
+pub write_value-write_tuple-requires : goal.write_value-write_tuple-requires
+write_value-write_tuple-requires g t c κs within = (omega arith, (within.0, (within.1.0, (within.1.1, sym c.kind.ensures.kind ∙ c.in-Tuple.is))))
+
+pub write_value-write_variant-requires : goal.write_value-write_variant-requires
+write_value-write_variant-requires g t c κs within = (omega arith, (within.0, (within.1.0, (within.1.1, sym c.kind.ensures.kind ∙ c.in-Variant.is))))
+
+pub write_value-write_option-requires : goal.write_value-write_option-requires
+write_value-write_option-requires g t c κs within = (omega arith, (within.0, (within.1.0, (within.1.1, sym c.kind.ensures.kind ∙ c.in-Option.is))))
+
+pub write_value-write_result-requires : goal.write_value-write_result-requires
+write_value-write_result-requires g t c κs within = (omega arith, (within.0, (within.1.0, (within.1.1, sym c.kind.ensures.kind ∙ c.in-Result.is))))
+
+pub write_value-unwrap_enum-requires : goal.write_value-unwrap_enum-requires
+write_value-unwrap_enum-requires g t c = sym c.kind.ensures.kind ∙ c.in-Enum.is
+
+pub write_value-returns-in-Enum-clause-writable : goal.write_value-returns-in-Enum-clause-writable
+write_value-returns-in-Enum-clause-writable g t c =
+    rw (ap has_text c.unwrap_enum.ensures) c.write_case.ensures.writable
+
+pub write_value-returns-in-Enum-clause-err : goal.write_value-returns-in-Enum-clause-err
+write_value-returns-in-Enum-clause-err g t c =
+    rw (ap text c.unwrap_enum.ensures, ap has_text c.unwrap_enum.ensures) c.write_case.ensures.err
+
+pub write_list-unwrap_list-requires : goal.write_list-unwrap_list-requires
+write_list-unwrap_list-requires g t c = c.requires
+
+pub write_tuple-unwrap_tuple-requires : goal.write_tuple-unwrap_tuple-requires
+write_tuple-unwrap_tuple-requires g t c = c.requires
+
+pub write_record-unwrap_record-requires : goal.write_record-unwrap_record-requires
+write_record-unwrap_record-requires g t c = c.requires
+
+pub write_variant-unwrap_variant-requires : goal.write_variant-unwrap_variant-requires
+write_variant-unwrap_variant-requires g t c = c.requires
+
+pub write_option-unwrap_option-requires : goal.write_option-unwrap_option-requires
+write_option-unwrap_option-requires g t c = c.requires
+
+pub write_result-unwrap_result-requires : goal.write_result-unwrap_result-requires
+write_result-unwrap_result-requires g t c = c.requires
+
+pub write_map-unwrap_map-requires : goal.write_map-unwrap_map-requires
+write_map-unwrap_map-requires g t c = c.requires.kind

@@ -1,6 +1,6 @@
 use Rattle.std.proofs.Common.{ap, ◌∙◌, List, ℕ, Bor, [], ◌∷◌, map, get_or}
 use Rattle.std.proofs.lemmas.Result.{err_from_is_err_and}
-use Rattle.wave_wasm.proofs.Writing.{writing_more, writing_refused_text, writing_last, start_refused}
+use Rattle.wave_wasm.proofs.Writing.{writing_more, writing_refused_text, writing_last, start_refused, refused_before}
 use Rattle.wave_wasm.proofs.Sequence.{item_again, writing_start, writing_item, writing_close}
 use Rattle.wave_wasm.proofs.Flags.{flags_text, flags_writable}
 use Rattle.wave_wasm.proofs.writer.Writer.write_flags.Goals as goal
@@ -35,3 +35,15 @@ returns g c =
     let f : Bor (List ℕ) → List ℕ = λ n. n.now in
     let w = writing_close f c.deref-name-items.result.now c.loop-name.name-index _ (125 ∷ []) c.loop-name-test.false c.loop-name.invariant in
     writing_last w (flags_writable _ c.requires) c.write_text-2.ensures
+
+pub returns-in_err-names : goal.returns-in_err-names
+returns-in_err-names g c =
+    let p = err_from_is_err_and c.from_residual.result c.from_residual.ensures.1 in
+    rw (p.1, p.2) (refused_before _ _ _ _)
+
+pub loop-name-preserved : goal.loop-name-preserved
+loop-name-preserved g c =
+    let f : Bor (List ℕ) → List ℕ = λ n. n.now in
+    let name = get_or c.deref-name-items.result.now c.loop-name.name-index (record { ref_ptr = (0, 0); now = [] }) in
+    let w = writing_item f c.deref-name-items.result.now c.loop-name.name-index name _ _ c.loop-name-test.true (item_again c.deref-name-items.result.now c.loop-name.name-index _ c.loop-name-test.true) c.loop-name.invariant in
+    writing_more (writing_more w c.in_ok-write_separator.ensures.ok) c.in_ok-write_text-2.ensures.ok

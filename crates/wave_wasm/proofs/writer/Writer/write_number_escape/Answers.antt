@@ -1,7 +1,8 @@
-use Rattle.std.proofs.Common.{◌<◌, ◌^◌, arith}
+use Rattle.std.proofs.Common.{◌<◌, ◌^◌, ap, arith, refl, take, drop}
+use Rattle.std.proofs.Math.Utf8.{encodes}
 use Rattle.std.proofs.lemmas.Result.{err_from_is_err_and}
 use Rattle.wave_wasm.proofs.NumberEscapes.{escape_start, escape_next}
-use Rattle.wave_wasm.proofs.Writing.{writing_refused_text}
+use Rattle.wave_wasm.proofs.Writing.{writing_as, writing_more, writing_refused_text, all_written}
 use Rattle.wave_wasm.proofs.writer.Writer.write_number_escape.Goals as goal
 
 pub loop-part-init : goal.loop-part-init
@@ -16,3 +17,17 @@ returns-in_err-write_text g c =
     let p = err_from_is_err_and c.from_residual.result c.from_residual.ensures.1 in
     let step = c.in-Some.ensures.steps in
     rw (p.1, p.2) (writing_refused_text _ (escape_next _ _ _ c.in-Some.part step.1.0 c.encode_utf8.ensures.value c.loop-part.invariant.writing) c.in_err-write_text.ensures)
+
+pub loop-part-preserved : goal.loop-part-preserved
+loop-part-preserved g c =
+    let step = c.in-Some.ensures.steps in
+    record {
+      bound = rw step.0 c.loop-part.invariant.bound;
+      writing = writing_more (escape_next _ _ _ c.in-Some.part step.1.0 c.encode_utf8.ensures.value c.loop-part.invariant.writing) c.in_ok-write_text.ensures.ok;
+    }
+
+pub returns : goal.returns
+returns g c =
+    let step = c.in-None.ensures.steps in
+    let left = drop c.loop-part.part-iterator.from c.loop-part.part-iterator.chars in
+    all_written (writing_as (ap (λ n. encodes (take n left)) step.1.0) c.loop-part.invariant.writing) refl
