@@ -68,3 +68,33 @@ push_variant-loop-case-preserved g t c =
     let a = adding_item (λ x. case_text (f x)) c.deref-case-items.result.now c.loop-case.case-index c.case-item.result _ _ c.loop-case-test.true c.case-item.is c.loop-case.invariant in
     let payload = payload_text (maybe_type (shown g.T.WasmType.tree c.case-item.result.1)) in
     adding_two c.case-item.result.0.now payload (adding_more (comma_if c.loop-case.later) a c.in_ok-push_separator.ensures) c.in_ok-push_str-2.ensures.bytes c.in_ok-push_payload.ensures
+
+pub push_tuple-loop-item-preserved : goal.push_tuple-loop-item-preserved
+push_tuple-loop-item-preserved g t c =
+    let f : Bor g.row.T.Denot → List ℕ = λ x. type_text (g.T.WasmType.tree x.now) in
+    let a = adding_item f c.deref-item-items.result.now c.loop-item.item-index c.item-item.result _ _ c.loop-item-test.true c.item-item.is c.loop-item.invariant in
+    adding_more _ (adding_more (comma_if c.loop-item.later) a c.in_ok-push_separator.ensures) c.in_ok-push_type.ensures
+
+pub push_type-returns-in-List : goal.push_type-returns-in-List
+push_type-returns-in-List g t c = c.push_list.ensures
+
+pub push_type-returns-in-FixedLengthList : goal.push_type-returns-in-FixedLengthList
+push_type-returns-in-FixedLengthList g t c = c.push_fixed_length_list.ensures
+
+pub push_type-returns-in-Record : goal.push_type-returns-in-Record
+push_type-returns-in-Record g t c = c.push_record.ensures
+
+pub push_type-returns-in-Tuple : goal.push_type-returns-in-Tuple
+push_type-returns-in-Tuple g t c = c.push_tuple.ensures
+
+pub push_type-returns-in-Variant : goal.push_type-returns-in-Variant
+push_type-returns-in-Variant g t c = c.push_variant.ensures
+
+pub push_type-returns-in-Option : goal.push_type-returns-in-Option
+push_type-returns-in-Option g t c = c.push_option.ensures
+
+pub push_type-returns-in-Result : goal.push_type-returns-in-Result
+push_type-returns-in-Result g t c = c.push_result.ensures
+
+pub push_type-returns-in-Map : goal.push_type-returns-in-Map
+push_type-returns-in-Map g t c = c.push_map.ensures
