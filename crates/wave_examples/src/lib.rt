@@ -1,12 +1,7 @@
 //! Examples to copy. `settings` reads a record, views its fields, changes one and writes it again;
-//! `calls` answers calls over flags of an embedder's own.
+//! `calls` answers calls over flags of an embedder's own, and `flags` reads such flags by a generic call.
 #![tactic(auto)]
 
 pub mod calls;
-#[cfg(test)]
-mod calls_tests;
-#[cfg(test)]
-mod doc_tests;
+pub mod flags;
 pub mod settings;
-#[cfg(test)]
-mod settings_tests;

@@ -38,29 +38,17 @@ pub fn told(alloc: Global, answer: Result<Value, ParserError>) -> Result<String,
     }
 }
 
-/// The first text at the type that is answered otherwise, with its answer; nothing where there is none.
-/// Each text is also read alike without its type first, and each front of it is told.
-fn wrong_at(alloc: Global, ty: &str, rows: &[(&str, &str)]) -> Result<String, Fail> {
-    let ty = type_of(alloc, ty)?;
+/// The first text that is answered otherwise at its type, with its answer; nothing where there is none.
+/// Each row is a type, a text and its answer. Each text is also read alike without its type first, and
+/// each front of it is told.
+pub fn wrong(alloc: Global, rows: &[(&str, &str, &str)]) -> Result<String, Fail> {
     for row in rows {
-        let (text, expected) = *row;
+        let (ty, text, expected) = *row;
+        let ty = type_of(alloc, ty)?;
         let answer = told(alloc, from_str::<Value>(alloc, &ty, text))?;
         let is_alike = is_read_alike(alloc, &ty, text) && is_told_at_each_cut(alloc, &ty, text);
         if answer.as_str() != expected || !is_alike {
             return Ok(format!(in alloc; "{text} gives {answer} at {ty}")?);
-        }
-    }
-    Ok(String::new(alloc))
-}
-
-/// The first text at one of the types that is answered otherwise, with its answer; nothing where there
-/// is none.
-pub fn wrong(alloc: Global, groups: &[(&str, &[(&str, &str)])]) -> Result<String, Fail> {
-    for group in groups {
-        let (ty, rows) = *group;
-        let found = wrong_at(alloc, ty, rows)?;
-        if !found.is_empty() {
-            return Ok(found);
         }
     }
     Ok(String::new(alloc))

@@ -228,16 +228,31 @@ fn written_deeper_read_within_its_levels(rt: HostRuntime) -> Result<(), Fail> {
     Ok(())
 }
 
+/// The first text that is answered otherwise at its type within one level, with its answer; nothing
+/// where there is none.
+fn wrong_within_one(rt: HostRuntime, rows: &[(&str, &str, &str)]) -> Result<String, Fail> {
+    for row in rows {
+        let (ty, text, expected) = *row;
+        let answer = read_whole(rt, ty, Parser::new(text).with_limit(1))?;
+        if answer.as_str() != expected {
+            return Ok(answer);
+        }
+    }
+    Ok(String::new(rt.alloc()))
+}
+
 #[test]
 fn within_one_level(rt: HostRuntime) -> Result<(), Fail> {
-    let read = read_whole(rt, "list<u8>", Parser::new("[]").with_limit(1))?;
-    assert_eq!(rt; read.as_str(), "[]");
-    let refusal = read_whole(rt, "list<u8>", Parser::new("[1]").with_limit(1))?;
-    assert_eq!(rt; refusal.as_str(), "value nesting too deep at 0..1");
-    let read = read_whole(rt, "option<u8>", Parser::new("7").with_limit(1))?;
-    assert_eq!(rt; read.as_str(), "some(7)");
-    let refusal = read_whole(rt, "option<u8>", Parser::new("some(7)").with_limit(1))?;
-    assert_eq!(rt; refusal.as_str(), "value nesting too deep at 4..5");
+    let found = wrong_within_one(
+        rt,
+        &[
+            ("list<u8>", "[]", "[]"),
+            ("list<u8>", "[1]", "value nesting too deep at 0..1"),
+            ("option<u8>", "7", "some(7)"),
+            ("option<u8>", "some(7)", "value nesting too deep at 4..5"),
+        ],
+    )?;
+    assert_eq!(rt; found.as_str(), "");
     Ok(())
 }
 

@@ -12,35 +12,48 @@ fn flags(rt: HostRuntime) -> Result<(), Fail> {
         &[
             (
                 "flags { read, write, exec }",
-                &[
-                    ("", "unexpected end of input at 0..0"),
-                    ("{:}", "invalid value type at 0..3"),
-                    ("{}", "{}"),
-                    ("{write, read,}", "{read, write}"),
-                    (
-                        "{read, nope}",
-                        "error converting Wasm value: unknown case \"nope\" at 0..12",
-                    ),
-                    ("{write, exec}", "{write, exec}"),
-                    ("{exec, write}", "{write, exec}"),
-                    ("{%exec, write}", "{write, exec}"),
-                ][..],
+                "",
+                "unexpected end of input at 0..0",
             ),
-            ("flags { hot, cold }", &[("{cold, hot}", "{hot, cold}")][..]),
+            (
+                "flags { read, write, exec }",
+                "{:}",
+                "invalid value type at 0..3",
+            ),
+            ("flags { read, write, exec }", "{}", "{}"),
+            (
+                "flags { read, write, exec }",
+                "{write, read,}",
+                "{read, write}",
+            ),
+            (
+                "flags { read, write, exec }",
+                "{read, nope}",
+                "error converting Wasm value: unknown case \"nope\" at 0..12",
+            ),
+            (
+                "flags { read, write, exec }",
+                "{write, exec}",
+                "{write, exec}",
+            ),
+            (
+                "flags { read, write, exec }",
+                "{exec, write}",
+                "{write, exec}",
+            ),
+            (
+                "flags { read, write, exec }",
+                "{%exec, write}",
+                "{write, exec}",
+            ),
+            ("flags { hot, cold }", "{cold, hot}", "{hot, cold}"),
             (
                 "flags { true, false, inf, nan, some, none, ok, err }",
-                &[(
-                    "{true, false, inf, nan, some, none, ok, err}",
-                    "{true, false, inf, nan, some, none, ok, err}",
-                )][..],
+                "{true, false, inf, nan, some, none, ok, err}",
+                "{true, false, inf, nan, some, none, ok, err}",
             ),
-            (
-                "flags { a, a }",
-                &[
-                    ("{a}", "{a, a}"),
-                    ("{a, a}", "duplicate flag: \"a\" at 4..5"),
-                ][..],
-            ),
+            ("flags { a, a }", "{a}", "{a, a}"),
+            ("flags { a, a }", "{a, a}", "duplicate flag: \"a\" at 4..5"),
         ],
     )?;
     assert_eq!(rt; found.as_str(), "");
@@ -54,21 +67,31 @@ fn enums(rt: HostRuntime) -> Result<(), Fail> {
         &[
             (
                 "enum { ok, not-found }",
-                &[
-                    ("", "unexpected end of input at 0..0"),
-                    ("%ok", "%ok"),
-                    ("ok", "invalid value type at 0..2"),
-                ][..],
+                "",
+                "unexpected end of input at 0..0",
             ),
-            ("enum { some }", &[("%some", "%some")][..]),
+            ("enum { ok, not-found }", "%ok", "%ok"),
+            ("enum { ok, not-found }", "ok", "invalid value type at 0..2"),
+            ("enum { some }", "%some", "%some"),
             (
                 "enum { true, inf, none, ok }",
-                &[
-                    ("true", "invalid value type at 0..4"),
-                    ("inf", "invalid value type at 0..3"),
-                    ("none", "invalid value type at 0..4"),
-                    ("ok", "invalid value type at 0..2"),
-                ][..],
+                "true",
+                "invalid value type at 0..4",
+            ),
+            (
+                "enum { true, inf, none, ok }",
+                "inf",
+                "invalid value type at 0..3",
+            ),
+            (
+                "enum { true, inf, none, ok }",
+                "none",
+                "invalid value type at 0..4",
+            ),
+            (
+                "enum { true, inf, none, ok }",
+                "ok",
+                "invalid value type at 0..2",
             ),
         ],
     )?;

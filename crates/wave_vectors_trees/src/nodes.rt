@@ -1,154 +1,118 @@
 //! What the accessors of parsed nodes answer.
+use std::alloc::AllocError;
+use std::fmt::Display;
 use std::test::Fail;
-use wasm_wave::ast::{CowStr, Node, NodeType};
+use wasm_wave::ast::{CowStr, FlagLabels, Node, NodeType};
 use wasm_wave::parser::{ParserError, ParserErrorKind};
 use wasm_wave::strings::StringPart;
-use wasm_wave::untyped::{UntypedFuncCall, UntypedValue};
+use wasm_wave::untyped::UntypedValue;
 use wasm_wave::value::{Type, Value};
 use wave_vectors::cuts::is_told_at_each_cut;
 use wave_vectors::reading::told;
 use wave_vectors_types::reader::type_of;
 
-/// How many nodes there are.
-fn counted(rt: HostRuntime, nodes: &[Node]) -> Result<String, Fail> {
-    Ok(format!(in rt.alloc(); "{} items", nodes.len())?)
-}
-
-/// The word, and how many nodes are in the payload.
-fn payload(rt: HostRuntime, word: &str, payload: Option<&Node>) -> Result<String, Fail> {
-    match payload {
-        Some(node) => {
-            let span = node.span();
-            Ok(format!(in rt.alloc(); "{word} of {}..{}", span.start, span.end)?)
-        }
-        None => Ok(String::from_str(rt.alloc(), word)?),
+/// What the accessor of a scalar answers, or its refusal.
+fn scalar<T: Display + Copy>(
+    rt: HostRuntime,
+    answer: Result<T, ParserError>,
+) -> Result<String, AllocError> {
+    match answer {
+        Ok(scalar) => scalar.to_string(rt.alloc()),
+        Err(error) => error.to_string(rt.alloc()),
     }
 }
 
-/// The text, and whether it is a part of the source.
-fn text(rt: HostRuntime, text: CowStr) -> Result<String, Fail> {
-    match text {
-        CowStr::Borrowed(text) => Ok(format!(in rt.alloc(); "borrowed {text}")?),
-        CowStr::Owned(text) => Ok(format!(in rt.alloc(); "owned {text}")?),
+/// How many nodes there are, or a refusal.
+pub(crate) fn counted(
+    rt: HostRuntime,
+    answer: Result<&[Node], ParserError>,
+) -> Result<String, AllocError> {
+    match answer {
+        Ok(nodes) => format!(in rt.alloc(); "{} items", nodes.len()),
+        Err(error) => error.to_string(rt.alloc()),
     }
 }
 
-/// What the accessor of a scalar's node answers.
-fn scalar(rt: HostRuntime, value: &UntypedValue) -> Result<String, Fail> {
+/// The text, and whether it is a part of the source; or a refusal.
+fn text(rt: HostRuntime, answer: Result<CowStr, ParserError>) -> Result<String, AllocError> {
+    match answer {
+        Ok(CowStr::Borrowed(text)) => format!(in rt.alloc(); "borrowed {text}"),
+        Ok(CowStr::Owned(text)) => format!(in rt.alloc(); "owned {text}"),
+        Err(error) => error.to_string(rt.alloc()),
+    }
+}
+
+/// The word and the payload of a label's, a case's, an option's or a result's node.
+fn case<'value>(
+    value: &'value UntypedValue,
+) -> Result<(&'value str, Option<&'value Node>), ParserError> {
     let node = value.node();
     match node.ty() {
-        NodeType::BoolTrue | NodeType::BoolFalse => Ok(format!(in rt.alloc();
-            "{}",
-            node.as_bool()?
-        )?),
-        NodeType::Number => Ok(format!(in rt.alloc();
-            "{}",
-            node.as_number::<i64>(value.source())?
-        )?),
-        NodeType::Char => Ok(format!(in rt.alloc(); "{}", node.as_char(value.source())?)?),
-        _ => text(rt, node.as_str(rt.alloc(), value.source())?),
+        NodeType::Label => Ok((node.as_enum(value.source())?, None)),
+        NodeType::VariantWithPayload => node.as_variant(value.source()),
+        NodeType::OptionSome => Ok(("some", node.as_option()?)),
+        NodeType::OptionNone => Ok(("none", node.as_option()?)),
+        _ => match node.as_result()? {
+            Ok(val) => Ok(("ok", val)),
+            Err(val) => Ok(("err", val)),
+        },
     }
 }
 
-/// The names of a node of flags, one behind the other.
-fn flags(rt: HostRuntime, value: &UntypedValue) -> Result<String, Fail> {
-    let mut text = String::new(rt.alloc());
-    for name in value.node().as_flags(value.source())? {
-        text.push_str(name)?;
-        text.push_str(";")?;
+/// The word, and where the payload lies; or a refusal.
+fn payload(
+    rt: HostRuntime,
+    answer: Result<(&str, Option<&Node>), ParserError>,
+) -> Result<String, AllocError> {
+    match answer {
+        Ok((word, Some(node))) => {
+            let span = node.span();
+            format!(in rt.alloc(); "{word} of {}..{}", span.start, span.end)
+        }
+        Ok((word, None)) => String::from_str(rt.alloc(), word),
+        Err(error) => error.to_string(rt.alloc()),
     }
-    Ok(text)
+}
+
+/// The names of flags, one behind the other, or a refusal.
+fn flags(rt: HostRuntime, answer: Result<FlagLabels, ParserError>) -> Result<String, AllocError> {
+    match answer {
+        Ok(names) => {
+            let mut text = String::new(rt.alloc());
+            for name in names {
+                write!(text, "{name};")?;
+            }
+            Ok(text)
+        }
+        Err(error) => error.to_string(rt.alloc()),
+    }
+}
+
+/// What the accessor of a node answers that has no fields.
+fn parts(rt: HostRuntime, value: &UntypedValue) -> Result<String, AllocError> {
+    let node = value.node();
+    match node.ty() {
+        NodeType::BoolTrue | NodeType::BoolFalse => scalar(rt, node.as_bool()),
+        NodeType::Number => scalar(rt, node.as_number::<i64>(value.source())),
+        NodeType::Char => scalar(rt, node.as_char(value.source())),
+        NodeType::String | NodeType::MultilineString => {
+            text(rt, node.as_str(rt.alloc(), value.source()))
+        }
+        NodeType::Flags | NodeType::EmptySet => flags(rt, node.as_flags(value.source())),
+        NodeType::Tuple => counted(rt, node.as_tuple()),
+        NodeType::List => counted(rt, node.as_list()),
+        _ => payload(rt, case(value)),
+    }
 }
 
 /// How many entries there are, and the names of the fields.
 fn fields(rt: HostRuntime, value: &UntypedValue) -> Result<String, Fail> {
-    let mut text = format!(in rt.alloc(); "{} entries ", value.node().as_map()?.len())?;
+    let count = value.node().as_map()?.len();
+    let mut text = format!(in rt.alloc(); "{count} entries ")?;
     for (name, _) in value.node().as_record(rt.alloc(), value.source())? {
-        text.push_str(name)?;
-        text.push_str(";")?;
+        write!(text, "{name};")?;
     }
     Ok(text)
-}
-
-/// What the accessor of a node with parts answers.
-fn parts(rt: HostRuntime, value: &UntypedValue) -> Result<String, Fail> {
-    let node = value.node();
-    match node.ty() {
-        NodeType::Tuple => counted(rt, node.as_tuple()?),
-        NodeType::List => counted(rt, node.as_list()?),
-        NodeType::TupleSet => fields(rt, value),
-        NodeType::Flags | NodeType::EmptySet => flags(rt, value),
-        NodeType::OptionSome => payload(rt, "some", node.as_option()?),
-        NodeType::OptionNone => payload(rt, "none", node.as_option()?),
-        _ => scalar(rt, value),
-    }
-}
-
-/// What the accessor of a label's, a case's or a result's node answers.
-fn case(rt: HostRuntime, value: &UntypedValue) -> Result<String, Fail> {
-    let node = value.node();
-    match node.ty() {
-        NodeType::Label => Ok(String::from_str(rt.alloc(), node.as_enum(value.source())?)?),
-        NodeType::VariantWithPayload => {
-            let (name, val) = node.as_variant(value.source())?;
-            payload(rt, name, val)
-        }
-        NodeType::ResultOk | NodeType::ResultErr => match node.as_result()? {
-            Ok(val) => payload(rt, "ok", val),
-            Err(val) => payload(rt, "err", val),
-        },
-        _ => parts(rt, value),
-    }
-}
-
-/// What the accessor of the text's node answers.
-fn answered(rt: HostRuntime, text: &str) -> Result<String, Fail> {
-    case(rt, &UntypedValue::parse(rt.alloc(), text)?)
-}
-
-/// The first text that is answered otherwise or not told at each cut, with its answer; nothing where
-/// there is none.
-fn wrong(rt: HostRuntime, rows: &[(&str, &str)]) -> Result<String, Fail> {
-    for row in rows {
-        let (text, expected) = *row;
-        let answer = answered(rt, text)?;
-        if answer.as_str() != expected || !is_told_at_each_cut(rt.alloc(), &Type::U8, text) {
-            return Ok(format!(in rt.alloc(); "{text} gives {answer}")?);
-        }
-    }
-    Ok(String::new(rt.alloc()))
-}
-
-#[test]
-fn accessors(rt: HostRuntime) -> Result<(), Fail> {
-    let found = wrong(
-        rt,
-        &[
-            ("true", "true"),
-            ("false", "false"),
-            ("-9223372036854775808", "-9223372036854775808"),
-            ("'\\u{1F44B}'", "👋"),
-            ("\"\"", "borrowed "),
-            ("\"ab\"", "borrowed ab"),
-            ("\"a\\tb\"", "owned a\tb"),
-            ("\"\"\"\n  a\n  b\n  \"\"\"", "owned a\nb"),
-            ("(1, 2)", "2 items"),
-            ("[]", "0 items"),
-            ("{:}", "0 entries "),
-            ("{%b: 1, a: 2}", "2 entries b;a;"),
-            ("{}", ""),
-            ("{%b, a}", "a;b;"),
-            ("%some", "some"),
-            ("left( 1 )", "left of 6..7"),
-            ("some([1])", "some of 5..8"),
-            ("none", "none"),
-            ("ok", "ok"),
-            ("err(1)", "err of 4..5"),
-            ("ok(ok)", "ok of 3..5"),
-        ],
-    )?;
-    assert_eq!(rt; found.as_str(), "");
-    Ok(())
 }
 
 /// Whether two names are counted, and one behind the first, which is `a`.
@@ -169,68 +133,22 @@ fn are_entries_counted(value: &UntypedValue) -> Result<bool, ParserError> {
     Ok(entries.size_hint() == (2, Some(2)) && entries.next().is_some() && entries.len() == 1)
 }
 
-#[test]
-fn lengths(rt: HostRuntime) -> Result<(), Fail> {
-    let flags = UntypedValue::parse(rt.alloc(), "{b, a}")?;
-    assert!(rt; are_names_counted(&flags)?);
-    Ok(())
-}
-
-#[test]
-fn lengths_of_fields_and_entries(rt: HostRuntime) -> Result<(), Fail> {
-    let record = UntypedValue::parse(rt.alloc(), "{%b: 1, a: 2}")?;
-    assert!(rt; are_fields_counted(rt, &record)?);
-    assert!(rt; are_entries_counted(&record)?);
-    Ok(())
-}
-
-/// A part of a string: a run in angle brackets, a char bare, a refusal in braces.
-fn part_text(rt: HostRuntime, part: Result<StringPart, ParserError>) -> Result<String, Fail> {
+/// Adds a part of a string: a run in angle brackets, a char bare, a refusal in braces.
+fn add_part(out: &mut String, part: Result<StringPart, ParserError>) -> Result<(), AllocError> {
     match part {
-        Ok(StringPart::Run(run)) => Ok(format!(in rt.alloc(); "<{run}>")?),
-        Ok(StringPart::Char(c)) => Ok(format!(in rt.alloc(); "{c}")?),
-        Err(error) => Ok(format!(in rt.alloc(); "{{{error}}}")?),
+        Ok(StringPart::Run(run)) => write!(out, "<{run}>"),
+        Ok(StringPart::Char(c)) => out.push(c),
+        Err(error) => write!(out, "{{{error}}}"),
     }
 }
 
 /// The parts of the value, which is a string.
-fn parts_of(rt: HostRuntime, value: &UntypedValue) -> Result<String, Fail> {
+fn string_parts(rt: HostRuntime, value: &UntypedValue) -> Result<String, Fail> {
     let mut out = String::new(rt.alloc());
     for part in value.node().iter_str(value.source())? {
-        out.push_str(part_text(rt, part)?.as_str())?;
+        add_part(&mut out, part)?;
     }
     Ok(out)
-}
-
-/// The parts of the text's string.
-fn string_parts(rt: HostRuntime, text: &str) -> Result<String, Fail> {
-    parts_of(rt, &UntypedValue::parse(rt.alloc(), text)?)
-}
-
-/// The first text whose string has other parts, with its parts; nothing where there is none.
-fn other_parts(rt: HostRuntime, rows: &[(&str, &str)]) -> Result<String, Fail> {
-    for row in rows {
-        let (text, expected) = *row;
-        let parts = string_parts(rt, text)?;
-        if parts.as_str() != expected {
-            return Ok(format!(in rt.alloc(); "{text} has {parts}")?);
-        }
-    }
-    Ok(String::new(rt.alloc()))
-}
-
-#[test]
-fn parts_of_strings(rt: HostRuntime) -> Result<(), Fail> {
-    let found = other_parts(
-        rt,
-        &[
-            ("\"a\\tb\"", "<a>\t<b>"),
-            ("\"\\u{D800}\"", "{invalid character escape at 1..2}"),
-            ("\"\"\"\n  a\n  b\n  \"\"\"", "<a>\n<b>"),
-        ],
-    )?;
-    assert_eq!(rt; found.as_str(), "");
-    Ok(())
 }
 
 /// The value of a copy of the value's node at the type.
@@ -241,28 +159,80 @@ fn copied(rt: HostRuntime, ty: &Type, value: &UntypedValue) -> Result<Value, Par
     }
 }
 
-/// What the text reads as by a copy of its node, printed, or its refusal.
-fn printed(rt: HostRuntime, ty: &str, text: &str) -> Result<String, Fail> {
+/// What the value reads as at the type by a copy of its node, printed, or its refusal.
+fn printed(rt: HostRuntime, ty: &str, value: &UntypedValue) -> Result<String, Fail> {
     let ty = type_of(rt.alloc(), ty)?;
-    let value = UntypedValue::parse(rt.alloc(), text)?;
-    told(rt.alloc(), copied(rt, &ty, &value))
+    told(rt.alloc(), copied(rt, &ty, value))
 }
 
-/// How many parameters the call's node has; nothing where it has no node.
-fn params(rt: HostRuntime, text: &str) -> Result<String, Fail> {
-    let call = UntypedFuncCall::parse(rt.alloc(), text)?;
-    match call.params_node() {
-        Some(node) => counted(rt, node.as_tuple()?),
-        None => Ok(String::new(rt.alloc())),
+/// What is asked of the value's node: what an accessor answers, whether two parts are counted, the
+/// parts of its string, or its value at a type.
+fn answer(rt: HostRuntime, asked: &str, value: &UntypedValue) -> Result<String, Fail> {
+    match asked {
+        "accessor" => Ok(parts(rt, value)?),
+        "fields" => fields(rt, value),
+        "two flags" => Ok(scalar(rt, are_names_counted(value))?),
+        "two fields" => Ok(scalar(rt, are_fields_counted(rt, value))?),
+        "two entries" => Ok(scalar(rt, are_entries_counted(value))?),
+        "parts" => string_parts(rt, value),
+        _ => printed(rt, asked, value),
     }
 }
 
-#[test]
-fn copies_and_parameters(rt: HostRuntime) -> Result<(), Fail> {
-    let copy = printed(rt, "tuple<option<u8>, string>", "(7, \"a\")")?;
-    assert_eq!(rt; copy.as_str(), "(some(7), \"a\")");
-    for (text, expected) in [("f(1, 2)", "2 items"), ("f( )", "")] {
-        assert_eq!(rt; params(rt, text)?.as_str(), expected);
+/// Tells of the first row that is answered otherwise or whose text is not told at each cut.
+fn check(rt: HostRuntime, rows: &[(&str, &str, &str)]) -> Result<(), Fail> {
+    for row in rows {
+        let (asked, text, expected) = *row;
+        let value = UntypedValue::parse(rt.alloc(), text)?;
+        let found = answer(rt, asked, &value)?;
+        if found.as_str() != expected || !is_told_at_each_cut(rt.alloc(), &Type::U8, text) {
+            return Err(Fail::new(format_args!("{asked} of {text} gives {found}")));
+        }
     }
     Ok(())
+}
+
+/// What is asked of nodes, their texts and the answers.
+const ROWS: &[(&str, &str, &str)] = &[
+    ("accessor", "true", "true"),
+    ("accessor", "false", "false"),
+    ("accessor", "-9223372036854775808", "-9223372036854775808"),
+    ("accessor", "'\\u{1F44B}'", "👋"),
+    ("accessor", "\"\"", "borrowed "),
+    ("accessor", "\"ab\"", "borrowed ab"),
+    ("accessor", "\"a\\tb\"", "owned a\tb"),
+    ("accessor", "\"\"\"\n  a\n  b\n  \"\"\"", "owned a\nb"),
+    ("accessor", "(1, 2)", "2 items"),
+    ("accessor", "[]", "0 items"),
+    ("fields", "{:}", "0 entries "),
+    ("fields", "{%b: 1, a: 2}", "2 entries b;a;"),
+    ("accessor", "{}", ""),
+    ("accessor", "{%b, a}", "a;b;"),
+    ("accessor", "%some", "some"),
+    ("accessor", "left( 1 )", "left of 6..7"),
+    ("accessor", "some([1])", "some of 5..8"),
+    ("accessor", "none", "none"),
+    ("accessor", "ok", "ok"),
+    ("accessor", "err(1)", "err of 4..5"),
+    ("accessor", "ok(ok)", "ok of 3..5"),
+    ("two flags", "{b, a}", "true"),
+    ("two fields", "{%b: 1, a: 2}", "true"),
+    ("two entries", "{%b: 1, a: 2}", "true"),
+    ("parts", "\"a\\tb\"", "<a>\t<b>"),
+    (
+        "parts",
+        "\"\\u{D800}\"",
+        "{invalid character escape at 1..2}",
+    ),
+    ("parts", "\"\"\"\n  a\n  b\n  \"\"\"", "<a>\n<b>"),
+    (
+        "tuple<option<u8>, string>",
+        "(7, \"a\")",
+        "(some(7), \"a\")",
+    ),
+];
+
+#[test]
+fn accessors_lengths_parts_and_copies(rt: HostRuntime) -> Result<(), Fail> {
+    check(rt, ROWS)
 }

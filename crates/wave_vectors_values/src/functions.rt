@@ -1,103 +1,138 @@
 //! The types of functions: their texts, their names, and names that are refused.
+use std::alloc::AllocError;
 use std::test::Fail;
 use wave_func::func::FuncType;
 use wave_type::ty::Type;
-use wave_vectors_types::reader::type_of;
 use wave_wasm::wasm::{DisplayFunc, WasmFunc, WasmValueError};
 
-/// Parameters or results of these names and types, by the texts of the types.
-fn parts(rt: HostRuntime, rows: &[(&str, &str)]) -> Result<Vec<(String, Type)>, Fail> {
+/// The name of a parameter or of a result, and the word of its type.
+type Part = (&'static str, &'static str);
+
+/// Parameters, results, and the text of the type of a function of these, or the words of a refusal.
+type Row = (&'static [Part], &'static [Part], &'static str);
+
+/// The type of this word.
+fn typed(word: &str) -> Type {
+    match word {
+        "u8" => Type::U8,
+        "u16" => Type::U16,
+        "bool" => Type::BOOL,
+        _ => Type::STRING,
+    }
+}
+
+/// Parameters or results of these names and types.
+fn parts(rt: HostRuntime, rows: &[Part]) -> Result<Vec<(String, Type)>, AllocError> {
     let mut parts = Vec::new(rt.alloc());
     for row in rows {
-        let (name, ty) = *row;
+        let (name, word) = *row;
         let name = String::from_str(rt.alloc(), name)?;
-        parts.push((name, type_of(rt.alloc(), ty)?))?;
+        parts.push((name, typed(word)))?;
     }
     Ok(parts)
 }
 
 /// What is made of these parameters and results.
-fn made(
-    rt: HostRuntime,
-    params: &[(&str, &str)],
-    results: &[(&str, &str)],
-) -> Result<Result<FuncType, WasmValueError>, Fail> {
+fn made(rt: HostRuntime, params: &[Part], results: &[Part]) -> Result<FuncType, WasmValueError> {
     let params = parts(rt, params)?;
     let results = parts(rt, results)?;
-    Ok(FuncType::new(rt.alloc(), params, results))
+    FuncType::new(rt.alloc(), params, results)
 }
 
-/// The text of a copy; nothing where it is another type, or where the type is shown as another text
-/// among all functions.
-fn copy_text(rt: HostRuntime, func: FuncType) -> Result<String, Fail> {
-    let copy = func.clone(rt.alloc())?;
-    let same = copy == func;
+/// Whether the type is shown as this text among all functions.
+fn is_shown(rt: HostRuntime, func: FuncType, text: &str) -> Result<bool, Fail> {
     let shown = format!(in rt.alloc(); "{}", DisplayFunc::new(rt.alloc(), func))?;
-    let printed = copy.to_string(rt.alloc())?;
-    match same && shown.as_str() == printed.as_str() {
-        true => Ok(printed),
-        false => Ok(String::new(rt.alloc())),
+    Ok(shown.as_str() == text)
+}
+
+/// Whether the type and a copy of it are the same and have the text.
+fn is_printed(rt: HostRuntime, func: &FuncType, text: &str) -> Result<bool, Fail> {
+    let copy = func.clone(rt.alloc())?;
+    let is_same = copy == *func;
+    let is_shown = is_shown(rt, copy, text)?;
+    let printed = func.to_string(rt.alloc())?;
+    Ok(is_same && is_shown && printed.as_str() == text)
+}
+
+/// Whether the text is that of what is made, or the refusal's words.
+fn is_told(rt: HostRuntime, params: &[Part], results: &[Part], text: &str) -> Result<bool, Fail> {
+    match made(rt, params, results) {
+        Ok(func) => is_printed(rt, &func, text),
+        Err(error) => Ok(error.to_string(rt.alloc())?.as_str() == text),
     }
 }
 
-/// The text of what is made, or the refusal's words.
-fn told(
-    rt: HostRuntime,
-    params: &[(&str, &str)],
-    results: &[(&str, &str)],
-) -> Result<String, Fail> {
-    match made(rt, params, results)? {
-        Ok(func) => copy_text(rt, func),
-        Err(error) => Ok(error.to_string(rt.alloc())?),
+/// Parameters and results that make a type, and such as are refused.
+const ROWS: &[Row] = &[
+    (&[], &[], "func()"),
+    (&[], &[("n", "u8")], "func() -> (n: u8)"),
+    (
+        &[("a", "u8")],
+        &[("x", "u8"), ("y", "bool")],
+        "func(a: u8) -> (x: u8, y: bool)",
+    ),
+    (
+        &[("a", "u8"), ("b", "string")],
+        &[("", "u8")],
+        "func(a: u8, b: string) -> u8",
+    ),
+    (&[("a", "u8"), ("", "u8")], &[], "func params must be named"),
+    (
+        &[("a", "u8")],
+        &[("", "u8"), ("y", "bool")],
+        "funcs with more than one result must have all results named",
+    ),
+    (
+        &[("", "u8")],
+        &[("x", "u8"), ("", "bool")],
+        "func params must be named",
+    ),
+];
+
+/// The text of the first row of which something else is told; nothing where there is none.
+fn wrong(rt: HostRuntime, rows: &[Row]) -> Result<&'static str, Fail> {
+    for row in rows {
+        let (params, results, text) = *row;
+        if !is_told(rt, params, results, text)? {
+            return Ok(text);
+        }
     }
+    Ok("")
+}
+
+/// Whether the type tells these names of parameters and of results.
+fn tells(
+    rt: HostRuntime,
+    func: &FuncType,
+    params: &[&'static str],
+    results: &[&'static str],
+) -> Result<bool, Fail> {
+    let has_params = func.param_names(rt.alloc())?.as_slice() == params;
+    let has_results = func.result_names(rt.alloc())?.as_slice() == results;
+    Ok(has_params && has_results)
+}
+
+/// Whether types of functions differ where one name or one type does.
+fn differ(rt: HostRuntime) -> Result<bool, Fail> {
+    let func = made(rt, &[("a", "u8")], &[("", "u8")])?;
+    let named_param = made(rt, &[("b", "u8")], &[("", "u8")])?;
+    let named_result = made(rt, &[("a", "u8")], &[("n", "u8")])?;
+    let other_result = made(rt, &[("a", "u8")], &[("", "u16")])?;
+    Ok(func != named_param && func != named_result && func != other_result)
 }
 
 #[test]
 fn texts(rt: HostRuntime) -> Result<(), Fail> {
-    let text = told(rt, &[], &[])?;
-    assert_eq!(rt; text.as_str(), "func()");
-    let text = told(rt, &[], &[("n", "u8")])?;
-    assert_eq!(rt; text.as_str(), "func() -> (n: u8)");
-    let text = told(rt, &[("a", "u8")], &[("x", "u8"), ("y", "bool")])?;
-    assert_eq!(rt; text.as_str(), "func(a: u8) -> (x: u8, y: bool)");
-    let text = told(rt, &[("a", "u8"), ("b", "string")], &[("", "u8")])?;
-    assert_eq!(rt; text.as_str(), "func(a: u8, b: string) -> u8");
-    Ok(())
-}
-
-#[test]
-fn refused_names(rt: HostRuntime) -> Result<(), Fail> {
-    let unnamed_param = "func params must be named";
-    let unnamed_result = "funcs with more than one result must have all results named";
-    let text = told(rt, &[("a", "u8"), ("", "u8")], &[])?;
-    assert_eq!(rt; text.as_str(), unnamed_param);
-    let text = told(rt, &[("a", "u8")], &[("", "u8"), ("y", "bool")])?;
-    assert_eq!(rt; text.as_str(), unnamed_result);
-    let text = told(rt, &[("", "u8")], &[("x", "u8"), ("", "bool")])?;
-    assert_eq!(rt; text.as_str(), unnamed_param);
+    assert_eq!(rt; wrong(rt, ROWS)?, "");
+    assert!(rt; differ(rt)?);
     Ok(())
 }
 
 #[test]
 fn names(rt: HostRuntime) -> Result<(), Fail> {
-    let func = made(rt, &[("a", "u8"), ("b", "string")], &[("n", "u8")])??;
-    let names = func.param_names(rt.alloc())?;
-    assert!(rt; names.len() == 2 && names[0] == "a" && names[1] == "b");
-    let names = func.result_names(rt.alloc())?;
-    assert!(rt; names.len() == 1 && names[0] == "n");
-    let func = made(rt, &[], &[("", "u8")])??;
-    assert!(rt; func.param_names(rt.alloc())?.is_empty());
-    assert!(rt; func.result_names(rt.alloc())?.is_empty());
-    assert_eq!(rt; func.results(rt.alloc())?.len(), 1);
-    Ok(())
-}
-
-#[test]
-fn types_that_differ(rt: HostRuntime) -> Result<(), Fail> {
-    let func = made(rt, &[("a", "u8")], &[("", "u8")])??;
-    let named_param = made(rt, &[("b", "u8")], &[("", "u8")])??;
-    let named_result = made(rt, &[("a", "u8")], &[("n", "u8")])??;
-    let other_result = made(rt, &[("a", "u8")], &[("", "u16")])??;
-    assert!(rt; func != named_param && func != named_result && func != other_result);
+    let func = made(rt, &[("a", "u8"), ("b", "string")], &[("n", "u8")])?;
+    assert!(rt; tells(rt, &func, &["a", "b"], &["n"])?);
+    let func = made(rt, &[], &[("", "u8")])?;
+    assert!(rt; tells(rt, &func, &[], &[])? && func.results(rt.alloc())?.len() == 1);
     Ok(())
 }

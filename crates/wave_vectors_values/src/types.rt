@@ -1,278 +1,211 @@
 //! Rows of types: their texts, their names, and parts of which there is no type.
-use std::alloc::{AllocError, Global};
+use std::alloc::AllocError;
 use std::test::Fail;
 use wave_type::ty::Type;
 use wave_vectors_types::reader::{TypeError, type_of};
-use wave_wasm::wasm::{DisplayFunc, DisplayType, WasmFunc, WasmType, WasmTypeKind};
+use wave_wasm::wasm::{DisplayType, WasmType, WasmTypeKind};
 
-/// The text of the copy; nothing where it is another type, or where the type is shown as another text
-/// among all lawful types.
-fn copy_text(rt: HostRuntime, ty: &Type, copy: &Type) -> Result<String, Fail> {
+/// What is answered of a text.
+#[derive(Clone, Copy)]
+enum Answer {
+    /// The type that the text names is printed as the text.
+    Same,
+    /// The type that the text names is printed as this one.
+    Printed(&'static str),
+    /// The names of the type are all labels, or they aren't.
+    Labels(bool),
+    /// The type is the key type of no map type.
+    NoKey,
+    /// The text names no type.
+    NoType,
+}
+
+/// Texts, and what is answered of them.
+const TEXTS: &[(&str, Answer)] = &[
+    ("result", Answer::Same),
+    ("result<u8>", Answer::Same),
+    ("result<_, string>", Answer::Same),
+    ("result<u8, string>", Answer::Same),
+    ("variant { off, on(u8) }", Answer::Same),
+    ("enum { x }", Answer::Same),
+    ("flags { read, write }", Answer::Same),
+    ("map<char, map<bool, list<u8>>>", Answer::Same),
+    (
+        "record { pair: tuple<s8, list<char>>, maybe: option<f32>, end: result<_, string> }",
+        Answer::Same,
+    ),
+    ("bool", Answer::Same),
+    ("s8", Answer::Same),
+    ("s16", Answer::Same),
+    ("s32", Answer::Same),
+    ("s64", Answer::Same),
+    ("u8", Answer::Same),
+    ("u16", Answer::Same),
+    ("u32", Answer::Same),
+    ("u64", Answer::Same),
+    ("f32", Answer::Same),
+    ("f64", Answer::Same),
+    ("char", Answer::Same),
+    ("string", Answer::Same),
+    ("list<s32>", Answer::Same),
+    ("list<char>", Answer::Same),
+    ("list<u8>", Answer::Same),
+    ("option<u8>", Answer::Same),
+    ("option<s32>", Answer::Same),
+    ("tuple<s32>", Answer::Same),
+    ("tuple<u8, bool>", Answer::Same),
+    ("tuple<s32, string, list<s32>>", Answer::Same),
+    ("tuple<u8, u8, u8, u8>", Answer::Same),
+    ("tuple<u8, u8, u8, u8, bool>", Answer::Same),
+    ("tuple<u8, u8, u8, u8, bool, char>", Answer::Same),
+    ("tuple<tuple<u8>, u8>", Answer::Same),
+    ("tuple<u8, tuple<u8>>", Answer::Same),
+    (
+        "tuple<list<u8>, option<u8>, map<u8, u8>, result, u8>",
+        Answer::Same,
+    ),
+    ("result<result<_, u8>, result<u8>>", Answer::Same),
+    ("result<_, result<_, result>>", Answer::Same),
+    (
+        "tuple<result, result<u8>, result<_, u8>, result<u8, u8>>",
+        Answer::Same,
+    ),
+    ("record { a: record { b: u8 }, c: u8 }", Answer::Same),
+    (
+        "variant { a(variant { b, c(u8) }), d, e(enum { f }) }",
+        Answer::Same,
+    ),
+    (
+        "record { list: list<u8>, enum: enum { enum, flags }, flags: flags { u8, result } }",
+        Answer::Same,
+    ),
+    (
+        "variant { result(result), u8, map(map<u8, tuple<u8>>), _ }",
+        Answer::Same,
+    ),
+    ("option<enum { A b, c  d, _, 1, %e }>", Answer::Same),
+    ("variant{v(u8),w}", Answer::Printed("variant { v(u8), w }")),
+    (
+        "record{a:u8,b:u8}",
+        Answer::Printed("record { a: u8, b: u8 }"),
+    ),
+    (
+        "map<u8,map<u8,u8>>",
+        Answer::Printed("map<u8, map<u8, u8>>"),
+    ),
+    (" result < _ , u8 >", Answer::Printed("result<_, u8>")),
+    ("flags {  A b  }", Answer::Printed("flags { A b }")),
+    ("list<u8,0>", Answer::Printed("list<u8, 0>")),
+    (
+        "tuple<list<list<u8>,4294967295>, u8>",
+        Answer::Printed("tuple<list<list<u8>, 4294967295>, u8>"),
+    ),
+    ("list<flags { A1, b-2 }>", Answer::Labels(true)),
+    ("flags { a, a }", Answer::Labels(false)),
+    ("flags { aB, c }", Answer::Labels(false)),
+    ("enum { 1, c }", Answer::Labels(false)),
+    ("record { a: u8, a: u8 }", Answer::Labels(false)),
+    ("variant { a, a(u8) }", Answer::Labels(false)),
+    ("option<enum { a, %b }>", Answer::Labels(false)),
+    ("f32", Answer::NoKey),
+    ("list<u8>", Answer::NoKey),
+    ("tuple<u8>", Answer::NoKey),
+    ("map<u8, u8>", Answer::NoKey),
+    ("option<u8>", Answer::NoKey),
+    ("", Answer::NoType),
+    (" ", Answer::NoType),
+    ("x", Answer::NoType),
+    ("u9", Answer::NoType),
+    ("U8", Answer::NoType),
+    ("_", Answer::NoType),
+    ("u8 u8", Answer::NoType),
+    ("u8 ", Answer::NoType),
+    ("u8,", Answer::NoType),
+    ("u8>", Answer::NoType),
+    ("u8<u8>", Answer::NoType),
+    ("list", Answer::NoType),
+    ("list u8", Answer::NoType),
+    ("list<>", Answer::NoType),
+    ("list<u8", Answer::NoType),
+    ("list<u8>>", Answer::NoType),
+    ("list<u8, u8>", Answer::NoType),
+    ("list<_,N>", Answer::NoType),
+    ("list<u8, 4294967296>", Answer::NoType),
+    ("option<u8, u8>", Answer::NoType),
+    ("<<UNSUPPORTED>>", Answer::NoType),
+    ("map<u8>", Answer::NoType),
+    ("map<f32, u8>", Answer::NoType),
+    ("map<u8, u8, u8>", Answer::NoType),
+    ("tuple", Answer::NoType),
+    ("tuple<>", Answer::NoType),
+    ("tuple<u8, >", Answer::NoType),
+    ("tuple<u8 u8>", Answer::NoType),
+    ("result<>", Answer::NoType),
+    ("result<_>", Answer::NoType),
+    ("result<_x, u8>", Answer::NoType),
+    ("result<u8, _>", Answer::NoType),
+    ("result<u8, u8, u8>", Answer::NoType),
+    ("func(u8)", Answer::NoType),
+    ("record {  }", Answer::NoType),
+    ("record { a }", Answer::NoType),
+    ("record { a: }", Answer::NoType),
+    ("record { : u8 }", Answer::NoType),
+    ("record { a: u8, }", Answer::NoType),
+    ("record { a: u8 b: u8 }", Answer::NoType),
+    ("variant {  }", Answer::NoType),
+    ("variant { a() }", Answer::NoType),
+    ("variant { a(u8 }", Answer::NoType),
+    ("variant { a: u8 }", Answer::NoType),
+    ("enum {  }", Answer::NoType),
+    ("enum { a", Answer::NoType),
+    ("enum { a, }", Answer::NoType),
+    ("enum { a(u8) }", Answer::NoType),
+    ("flags { a } b", Answer::NoType),
+];
+
+/// Whether the type and a copy of it are the same and have the text; the type is shown as among all
+/// lawful types.
+fn is_printed(rt: HostRuntime, ty: &Type, text: &str) -> Result<bool, Fail> {
+    let copy = ty.clone()?;
     let shown = format!(in rt.alloc(); "{}", DisplayType::new(rt.alloc(), ty))?;
     let printed = copy.to_string(rt.alloc())?;
-    match copy == ty && shown.as_str() == printed.as_str() {
-        true => Ok(printed),
-        false => Ok(String::new(rt.alloc())),
+    Ok(copy == *ty && shown.as_str() == text && printed.as_str() == text)
+}
+
+/// Whether the answer holds of the type that the text names.
+fn holds(rt: HostRuntime, ty: Type, text: &str, answer: Answer) -> Result<bool, Fail> {
+    match answer {
+        Answer::Same => is_printed(rt, &ty, text),
+        Answer::Printed(other) => is_printed(rt, &ty, other),
+        Answer::Labels(are_labels) => Ok(ty.names_are_labels() == are_labels),
+        Answer::NoKey => Ok(Type::map(rt.alloc(), ty, Type::U8)?.is_none()),
+        Answer::NoType => Ok(false),
     }
 }
 
-/// The text of a copy of the type that the text names.
-fn printed(rt: HostRuntime, text: &str) -> Result<String, Fail> {
-    let ty = type_of(rt.alloc(), text)?;
-    let copy = ty.clone()?;
-    copy_text(rt, &ty, &copy)
+/// Whether the answer holds of the text.
+fn is_answered(rt: HostRuntime, text: &str, answer: Answer) -> Result<bool, Fail> {
+    match type_of(rt.alloc(), text) {
+        Ok(ty) => holds(rt, ty, text, answer),
+        Err(TypeError::NoType) => Ok(matches!(answer, Answer::NoType)),
+        Err(error) => Err(Fail::from(error)),
+    }
 }
 
-/// The first text of a type that is printed otherwise, with what is printed; nothing where there is
-/// none.
-fn wrong(rt: HostRuntime, rows: &[(&str, &str)]) -> Result<String, Fail> {
+/// The first text of which the answer doesn't hold.
+fn wrong(rt: HostRuntime, rows: &[(&'static str, Answer)]) -> Result<Option<&'static str>, Fail> {
     for row in rows {
-        let (text, expected) = *row;
-        let printed = printed(rt, text)?;
-        if printed.as_str() != expected {
-            return Ok(format!(in rt.alloc(); "{text} gives {printed}")?);
+        let (text, answer) = *row;
+        if !is_answered(rt, text, answer)? {
+            return Ok(Some(text));
         }
     }
-    Ok(String::new(rt.alloc()))
-}
-
-/// The first text of a type that isn't printed again as itself, with what is printed; nothing where
-/// there is none.
-fn changed(rt: HostRuntime, texts: &[&str]) -> Result<String, Fail> {
-    for text in texts {
-        let found = wrong(rt, &[(*text, *text)])?;
-        if !found.is_empty() {
-            return Ok(found);
-        }
-    }
-    Ok(String::new(rt.alloc()))
+    Ok(None)
 }
 
 #[test]
 fn texts(rt: HostRuntime) -> Result<(), Fail> {
-    let found = changed(
-        rt,
-        &[
-            "f64",
-            "result",
-            "result<u8>",
-            "result<_, string>",
-            "result<u8, string>",
-            "variant { off, on(u8) }",
-            "enum { x }",
-            "flags { read, write }",
-            "map<char, map<bool, list<u8>>>",
-            "record { pair: tuple<s8, list<char>>, maybe: option<f32>, end: result<_, string> }",
-        ],
-    )?;
-    assert_eq!(rt; found.as_str(), "");
-    Ok(())
-}
-
-#[test]
-fn texts_of_kinds(rt: HostRuntime) -> Result<(), Fail> {
-    let found = changed(
-        rt,
-        &[
-            "bool", "s8", "s16", "s32", "s64", "u8", "u16", "u32", "u64", "f32", "f64", "char",
-            "string",
-        ],
-    )?;
-    assert_eq!(rt; found.as_str(), "");
-    Ok(())
-}
-
-#[test]
-fn texts_of_parts_behind_parts(rt: HostRuntime) -> Result<(), Fail> {
-    let found = changed(
-        rt,
-        &[
-            "tuple<tuple<u8>, u8>",
-            "tuple<u8, tuple<u8>>",
-            "tuple<list<u8>, option<u8>, map<u8, u8>, result, u8>",
-            "result<result<_, u8>, result<u8>>",
-            "result<_, result<_, result>>",
-            "tuple<result, result<u8>, result<_, u8>, result<u8, u8>>",
-            "record { a: record { b: u8 }, c: u8 }",
-            "variant { a(variant { b, c(u8) }), d, e(enum { f }) }",
-            "record { list: list<u8>, enum: enum { enum, flags }, flags: flags { u8, result } }",
-            "variant { result(result), u8, map(map<u8, tuple<u8>>), _ }",
-            "option<enum { A b, c  d, _, 1, %e }>",
-        ],
-    )?;
-    assert_eq!(rt; found.as_str(), "");
-    Ok(())
-}
-
-#[test]
-fn texts_that_are_printed_otherwise(rt: HostRuntime) -> Result<(), Fail> {
-    let found = wrong(
-        rt,
-        &[
-            ("variant{v(u8),w}", "variant { v(u8), w }"),
-            ("record{a:u8,b:u8}", "record { a: u8, b: u8 }"),
-            ("map<u8,map<u8,u8>>", "map<u8, map<u8, u8>>"),
-            (" result < _ , u8 >", "result<_, u8>"),
-            ("flags {  A b  }", "flags { A b }"),
-            ("list<u8,0>", "list<u8, 0>"),
-            (
-                "tuple<list<list<u8>,4294967295>, u8>",
-                "tuple<list<list<u8>, 4294967295>, u8>",
-            ),
-        ],
-    )?;
-    assert_eq!(rt; found.as_str(), "");
-    Ok(())
-}
-
-/// The first text that is read as a type; nothing where there is none.
-fn typed(rt: HostRuntime, texts: &[&str]) -> Result<String, Fail> {
-    for text in texts {
-        match type_of(rt.alloc(), text) {
-            Ok(ty) => return Ok(format!(in rt.alloc(); "{text} gives {ty}")?),
-            Err(TypeError::NoType) => {}
-            Err(error) => return Err(Fail::from(error)),
-        }
-    }
-    Ok(String::new(rt.alloc()))
-}
-
-#[test]
-fn texts_of_no_type(rt: HostRuntime) -> Result<(), Fail> {
-    let found = typed(
-        rt,
-        &[
-            "",
-            " ",
-            "x",
-            "u9",
-            "U8",
-            "_",
-            "u8 u8",
-            "u8 ",
-            "u8,",
-            "u8>",
-            "u8<u8>",
-            "list",
-            "list u8",
-            "list<>",
-            "list<u8",
-            "list<u8>>",
-            "list<u8, u8>",
-            "list<_,N>",
-            "list<u8, 4294967296>",
-            "option<u8, u8>",
-            "<<UNSUPPORTED>>",
-        ],
-    )?;
-    assert_eq!(rt; found.as_str(), "");
-    Ok(())
-}
-
-#[test]
-fn texts_of_no_compound_type(rt: HostRuntime) -> Result<(), Fail> {
-    let found = typed(
-        rt,
-        &[
-            "map<u8>",
-            "map<f32, u8>",
-            "map<u8, u8, u8>",
-            "tuple",
-            "tuple<>",
-            "tuple<u8, >",
-            "tuple<u8 u8>",
-            "result<>",
-            "result<_>",
-            "result<_x, u8>",
-            "result<u8, _>",
-            "result<u8, u8, u8>",
-            "func(u8)",
-        ],
-    )?;
-    assert_eq!(rt; found.as_str(), "");
-    Ok(())
-}
-
-#[test]
-fn texts_of_no_type_of_names(rt: HostRuntime) -> Result<(), Fail> {
-    let found = typed(
-        rt,
-        &[
-            "record {  }",
-            "record { a }",
-            "record { a: }",
-            "record { : u8 }",
-            "record { a: u8, }",
-            "record { a: u8 b: u8 }",
-            "variant {  }",
-            "variant { a() }",
-            "variant { a(u8 }",
-            "variant { a: u8 }",
-            "enum {  }",
-            "enum { a",
-            "enum { a, }",
-            "enum { a(u8) }",
-            "flags { a } b",
-        ],
-    )?;
-    assert_eq!(rt; found.as_str(), "");
-    Ok(())
-}
-
-/// The first type whose names are labels where they are to be none, or the other way round; nothing
-/// where there is none.
-fn wrong_names(rt: HostRuntime, texts: &[&str], are_labels: bool) -> Result<String, Fail> {
-    for text in texts {
-        if type_of(rt.alloc(), text)?.names_are_labels() != are_labels {
-            return Ok(String::from_str(rt.alloc(), text)?);
-        }
-    }
-    Ok(String::new(rt.alloc()))
-}
-
-#[test]
-fn names_that_are_labels(rt: HostRuntime) -> Result<(), Fail> {
-    let found = wrong_names(rt, &["list<flags { A1, b-2 }>"], true)?;
-    assert_eq!(rt; found.as_str(), "");
-    Ok(())
-}
-
-#[test]
-fn names_that_are_no_labels(rt: HostRuntime) -> Result<(), Fail> {
-    let found = wrong_names(
-        rt,
-        &[
-            "flags { a, a }",
-            "flags { aB, c }",
-            "enum { 1, c }",
-            "record { a: u8, a: u8 }",
-            "variant { a, a(u8) }",
-            "option<enum { a, %b }>",
-        ],
-        false,
-    )?;
-    assert_eq!(rt; found.as_str(), "");
-    Ok(())
-}
-
-/// The first type that is the key type of a map type; nothing where there is none.
-fn key(rt: HostRuntime, texts: &[&str]) -> Result<String, Fail> {
-    for text in texts {
-        let key = type_of(rt.alloc(), text)?;
-        if Type::map(rt.alloc(), key, Type::U8)?.is_some() {
-            return Ok(String::from_str(rt.alloc(), text)?);
-        }
-    }
-    Ok(String::new(rt.alloc()))
-}
-
-#[test]
-fn keys_of_no_map(rt: HostRuntime) -> Result<(), Fail> {
-    let found = key(
-        rt,
-        &["f32", "list<u8>", "tuple<u8>", "map<u8, u8>", "option<u8>"],
-    )?;
-    assert_eq!(rt; found.as_str(), "");
+    assert_eq!(rt; wrong(rt, TEXTS)?, None);
     Ok(())
 }
 
@@ -305,55 +238,14 @@ fn is_fixed(rt: HostRuntime) -> Result<bool, Fail> {
     Ok(element && ty.list_length() == Some(4) && text.as_str() == "list<u8, 4>")
 }
 
+/// Whether there are simple types of kinds without parts alone.
+fn are_simple() -> bool {
+    Type::simple(WasmTypeKind::List).is_none()
+        && Type::simple(WasmTypeKind::Char) == Some(Type::CHAR)
+}
+
 #[test]
 fn makers_of_types(rt: HostRuntime) -> Result<(), Fail> {
-    assert_eq!(rt; empty_kind(rt)?, "");
-    assert!(rt; is_fixed(rt)?);
-    Ok(())
-}
-
-#[test]
-fn simple_types(rt: HostRuntime) {
-    assert!(rt; Type::simple(WasmTypeKind::List).is_none());
-    assert!(rt; Type::simple(WasmTypeKind::Char) == Some(Type::CHAR));
-}
-
-/// A function of two named parameters and one result without a name.
-#[derive(Drop)]
-struct Function {
-    a: Type,
-    b: Type,
-    result: Type,
-}
-
-impl WasmFunc for Function {
-    ghost use Rattle.std.specs.Prelude.{[], ◌∷◌, codes};
-
-    type Type = Type;
-
-    ghost func = { λ f. record { params = f.a ∷ f.b ∷ []; param_names = codes "a" ∷ codes "b" ∷ []; results = f.result ∷ []; result_names = [] } };
-
-    fn params(&self, alloc: Global) -> Result<Vec<&Type>, AllocError> {
-        Ok(Vec::from_array(alloc, [&self.a, &self.b])?)
-    }
-
-    fn param_names(&self, alloc: Global) -> Result<Vec<&str>, AllocError> {
-        Ok(Vec::from_array(alloc, ["a", "b"])?)
-    }
-
-    fn results(&self, alloc: Global) -> Result<Vec<&Type>, AllocError> {
-        Ok(Vec::from_array(alloc, [&self.result])?)
-    }
-}
-
-#[test]
-fn functions(rt: HostRuntime) -> Result<(), Fail> {
-    let function = Function {
-        a: Type::U8,
-        b: Type::STRING,
-        result: Type::U8,
-    };
-    let shown = format!(in rt.alloc(); "{}", DisplayFunc::new(rt.alloc(), function))?;
-    assert_eq!(rt; shown.as_str(), "func(a: u8, b: string) -> u8");
+    assert!(rt; empty_kind(rt)?.is_empty() && is_fixed(rt)? && are_simple());
     Ok(())
 }

@@ -1,9 +1,8 @@
 //! Writers that fail.
 use std::fmt;
 use std::test::Fail;
+use wave_into::IntoValue;
 use wave_value::value::Value;
-use wave_vectors_types::reader::type_of;
-use wave_wasm::wasm::WasmValueError;
 use wave_wasm::writer::{TextWrite, Writer, WriterError};
 
 /// A writer that passes so many texts and then fails, once or for good.
@@ -66,23 +65,10 @@ fn outcome(rt: HostRuntime, val: &Value, left: usize, once: bool) -> &'static st
     }
 }
 
-/// The number 1 and the text `a`.
-fn vals(rt: HostRuntime) -> Result<Vec<Value>, WasmValueError> {
-    let mut vals = Vec::new(rt.alloc());
-    vals.push(Value::make_u8(rt.alloc(), 1)?)?;
-    vals.push(Value::make_string(rt.alloc(), "a")?)?;
-    Ok(vals)
-}
-
-/// The tuple `(1, "a")`.
-fn pair(rt: HostRuntime) -> Result<Value, Fail> {
-    let ty = type_of(rt.alloc(), "tuple<u8, string>")?;
-    Ok(Value::make_tuple(rt.alloc(), &ty, vals(rt)?)?)
-}
-
-/// How the tuple `(1, "a")` is written, one letter for each number of texts that pass
+/// Whether the tuple `(1, "a")` fails to be written to writers that pass few texts, and is written to all
+/// that pass more.
 fn outcomes(rt: HostRuntime, once: bool) -> Result<bool, Fail> {
-    let val = pair(rt)?;
+    let val = (1u8, "a").into_value(rt.alloc())?;
     let mut was_done = false;
     for left in 0..20 {
         match outcome(rt, &val, left, once) {
@@ -94,25 +80,19 @@ fn outcomes(rt: HostRuntime, once: bool) -> Result<bool, Fail> {
     Ok(was_done)
 }
 
+/// Whether a writer that passes a first char and a part of the second took these alone.
+fn fails_behind_another(rt: HostRuntime) -> bool {
+    let mut writer = writer_that_fails(rt, 4, false);
+    let passes = writer.write_value(rt.alloc(), &Value::from('x')).is_ok();
+    let fails = writer.write_value(rt.alloc(), &Value::from('y')).is_err();
+    let failures = writer.as_mut().failures;
+    let out = writer.into_inner();
+    passes && fails && failures == 1 && out.taken.as_str() == "'x''"
+}
+
 #[test]
 fn failed_writes(rt: HostRuntime) -> Result<(), Fail> {
     assert!(rt; outcomes(rt, false)? && outcomes(rt, true)?);
-    Ok(())
-}
-
-/// What a writer took that passes a first char and a part of the second.
-fn behind_another(rt: HostRuntime) -> Result<String, Fail> {
-    let mut writer = writer_that_fails(rt, 4, false);
-    let first = writer.write_value(rt.alloc(), &Value::make_char(rt.alloc(), 'x')?);
-    let second = writer.write_value(rt.alloc(), &Value::make_char(rt.alloc(), 'y')?);
-    if first.is_err() || second.is_ok() || writer.as_mut().failures != 1 {
-        return Ok(String::new(rt.alloc()));
-    }
-    Ok(writer.into_inner().taken)
-}
-
-#[test]
-fn a_write_that_fails_behind_another(rt: HostRuntime) -> Result<(), Fail> {
-    assert_eq!(rt; behind_another(rt)?.as_str(), "'x''");
+    assert!(rt; fails_behind_another(rt));
     Ok(())
 }

@@ -1,7 +1,7 @@
 //! Settings that are read, viewed, changed and written.
-use crate::settings::{read, resized, settings_type, width};
 use std::test::Fail;
 use wasm_wave::wasm::WasmTypeKind;
+use wave_examples::settings::{read, resized, settings_type, width};
 
 #[test]
 fn views(rt: HostRuntime) -> Result<(), Fail> {

@@ -1,7 +1,7 @@
 //! Calls that are answered and refused.
-use crate::calls::answer;
 use std::alloc::AllocError;
 use std::test::Fail;
+use wave_examples::calls::answer;
 use wave_vectors_flags::name_set::NameSet;
 
 /// The types of the function's two parameters.

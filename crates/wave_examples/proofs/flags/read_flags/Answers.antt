@@ -1,7 +1,7 @@
 use Rattle.std.proofs.Common.{inl, inr}
 use Rattle.std.specs.Prelude.{◌⊎◌}
 use Rattle.std.proofs.lemmas.Result.{IfErr-weaker}
-use Rattle.wave_vectors_embedders.proofs.flags.read_flags.Goals as goal
+use Rattle.wave_examples.proofs.flags.read_flags.Goals as goal
 
 -- what is told for no want of memory, and for no maker that serves less than all
 told : {M F N W L : Type 0} → (M → ⊥) → L → M ⊎ F × N ⊎ W × (L → ⊥) → N
