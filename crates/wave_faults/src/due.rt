@@ -4,7 +4,6 @@ use std::alloc::Global;
 use std::fmt;
 use std::fmt::{Display, Write};
 use wasm_wave::parser::{ParserError, ParserErrorKind};
-use wasm_wave::untyped::UntypedValue;
 use wasm_wave::value::Value;
 use wasm_wave::wasm::{DisplayValue, WasmValueError};
 
@@ -58,7 +57,7 @@ pub fn shown<D: Display>(value: &D, text: &str) -> Found {
 
 /// Whether this, whose display takes no memory, is displayed as the text.
 pub fn exactly<D: Display>(value: &D, text: &str) -> Found {
-    due_if(shown(value, text) == Found::Due)
+    due_if(matches!(shown(value, text), Found::Due))
 }
 
 /// Whether the value has the text.
@@ -82,11 +81,19 @@ pub fn of_read(alloc: Global, answer: &Result<Value, ParserError>, text: &str) -
     }
 }
 
-/// Whether an untyped value with the display was read, or refused with these words.
-pub fn of_untyped(answer: &Result<UntypedValue<'_>, ParserError>, text: &str) -> Found {
+/// Whether this was read, displayed as the text, or refused with these words.
+pub fn of_display<D: Display>(answer: &Result<D, ParserError>, text: &str) -> Found {
     match answer {
-        Ok(value) => exactly(value, text),
+        Ok(read) => exactly(read, text),
         Err(error) => of_refusal(error, text),
+    }
+}
+
+/// Whether the refusal of a maker has the words.
+pub fn of_fault(error: &WasmValueError, words: &str) -> Found {
+    match error {
+        WasmValueError::Memory(_) => Found::Want,
+        _ => exactly(error, words),
     }
 }
 
@@ -94,7 +101,6 @@ pub fn of_untyped(answer: &Result<UntypedValue<'_>, ParserError>, text: &str) ->
 pub fn of_made(alloc: Global, answer: &Result<Value, WasmValueError>, text: &str) -> Found {
     match answer {
         Ok(val) => of_value(alloc, val, text),
-        Err(WasmValueError::Memory(_)) => Found::Want,
-        Err(error) => exactly(error, text),
+        Err(error) => of_fault(error, text),
     }
 }

@@ -1,12 +1,11 @@
 //! What a call was found to answer.
-use std::alloc::{AllocError, AllocFailed};
+use std::alloc::AllocError;
 use std::fmt;
 use wasm_wave::parser::{ParserError, ParserErrorKind};
-use wasm_wave::wasm::WasmValueError;
 use wave_vectors_types::reader::TypeError;
 
 /// What a call was found to answer.
-#[derive(Clone, Copy, Debug, PartialEq, Eq)]
+#[derive(Clone, Copy)]
 pub enum Found {
     /// What is due.
     Due,
@@ -40,13 +39,7 @@ impl fmt::Display for Found {
 
 impl From<AllocError> for Found {
     fn from(_error: AllocError) -> Found {
-        Found::NotCalled
-    }
-}
-
-impl<T: Drop> From<AllocFailed<T>> for Found {
-    fn from(_error: AllocFailed<T>) -> Found {
-        Found::NotCalled
+        Found::Want
     }
 }
 
@@ -68,28 +61,10 @@ impl From<ParserError> for Found {
     }
 }
 
-impl From<WasmValueError> for Found {
-    fn from(error: WasmValueError) -> Found {
-        match error {
-            WasmValueError::Memory(_) => Found::NotCalled,
-            _ => Found::Other,
-        }
-    }
-}
-
 /// Whether it is so.
 pub fn due_if(holds: bool) -> Found {
     match holds {
         true => Found::Due,
         false => Found::Other,
-    }
-}
-
-/// Whether what wanted memory at first is as due now.
-pub fn again(found: Found) -> Found {
-    match found {
-        Found::Due => Found::DueAgain,
-        Found::Want => Found::WantAgain,
-        other => other,
     }
 }

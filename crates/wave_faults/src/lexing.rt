@@ -1,7 +1,6 @@
 //! Calls on texts that take no memory.
 use crate::due::{Due, exactly};
 use crate::found::{Found, due_if};
-use crate::words::word;
 use std::fmt;
 use std::fmt::Write;
 use std::ops::Range;
@@ -9,6 +8,30 @@ use wasm_wave::Asked;
 use wasm_wave::lex::{FuncNameLexer, Keyword, Lexer, Token};
 use wasm_wave::parser::ParserError;
 use wasm_wave::strings::{StringPart, StringPartsIter, unescape};
+
+/// What a call on the text is found to answer: a lexer the tokens with their spans, `StringPartsIter`
+/// the parts, and the others what they find, or `none`.
+pub fn lexed(name: &str, text: &str, due: &str) -> Found {
+    match name {
+        "Lexer" => tokens(false, text, due),
+        "FuncNameLexer" => tokens(true, text, due),
+        "Keyword::decode" => match Keyword::decode(text) {
+            Some(keyword) => exactly(&keyword, due),
+            None => due_if(due == "none"),
+        },
+        "StringPartsIter::new" => parts(false, text, due),
+        "StringPartsIter::new_multiline" => parts(true, text, due),
+        "unescape" => match unescape(text) {
+            Some((c, length)) => {
+                let mut due = Due::new(due);
+                let _ = write!(due, "{c} {length}");
+                due.found()
+            }
+            None => due_if(due == "none"),
+        },
+        _ => Found::Unknown,
+    }
+}
 
 /// Writes a token or a refusal with its span.
 fn write_item(
@@ -38,32 +61,24 @@ fn write_tokens(due: &mut Due<'_>, lexer: Lexer<'_>) {
     }
 }
 
-/// The lexer, on a text; then its tokens.
-pub fn tokens(words: &[String]) -> Found {
-    let mut due = Due::new(word(words, 1));
-    write_tokens(&mut due, Lexer::new(word(words, 0)));
-    due.found()
-}
-
-/// The lexer of names of functions, on a text; then its first item and the tokens behind it.
-pub fn name(words: &[String]) -> Found {
-    let mut due = Due::new(word(words, 1));
-    let mut lexer = FuncNameLexer::new(word(words, 0));
-    let _ = match lexer.next() {
-        Some(Ok(token)) => write!(due, "{token};"),
-        Some(Err(_)) => write!(due, "refused;"),
-        None => write!(due, "none;"),
+/// The tokens of the lexer, or the first item of the lexer of names of functions and the tokens behind
+/// it.
+fn tokens(is_behind_name: bool, text: &str, due: &str) -> Found {
+    let mut due = Due::new(due);
+    let lexer = match is_behind_name {
+        true => {
+            let mut lexer = FuncNameLexer::new(text);
+            let _ = match lexer.next() {
+                Some(Ok(token)) => write!(due, "{token};"),
+                Some(Err(_)) => write!(due, "refused;"),
+                None => write!(due, "none;"),
+            };
+            lexer.into_lexer()
+        }
+        false => Lexer::new(text),
     };
-    write_tokens(&mut due, lexer.into_lexer());
+    write_tokens(&mut due, lexer);
     due.found()
-}
-
-/// `Keyword::decode`, on a word; then the keyword or `none`.
-pub fn keyword(words: &[String]) -> Found {
-    match Keyword::decode(word(words, 0)) {
-        Some(keyword) => exactly(&keyword, word(words, 1)),
-        None => due_if(word(words, 1) == "none"),
-    }
 }
 
 /// Writes a part of a string.
@@ -75,43 +90,21 @@ fn write_part(due: &mut Due<'_>, part: Result<StringPart<'_>, ParserError>) -> f
     }
 }
 
-/// The parts of a text between quotes; then the parts.
-pub fn parts(words: &[String]) -> Found {
-    let text = word(words, 0);
+/// The parts of a text between quotes, or between triple quotes.
+fn parts(is_multiline: bool, text: &str, due: &str) -> Found {
     if text.len() > 1_000_000 {
         return Found::Other;
     }
-    let mut due = Due::new(word(words, 1));
-    for part in StringPartsIter::new(text, 1) {
+    let parts = match is_multiline {
+        true => match StringPartsIter::new_multiline(text, 3) {
+            Ok(parts) => parts,
+            Err(error) => return exactly(&error, due),
+        },
+        false => StringPartsIter::new(text, 1),
+    };
+    let mut due = Due::new(due);
+    for part in parts {
         let _ = write_part(&mut due, part);
     }
-    due.found()
-}
-
-/// The parts of a text between triple quotes; then the parts.
-pub fn multiline_parts(words: &[String]) -> Found {
-    let text = word(words, 0);
-    if text.len() > 1_000_000 {
-        return Found::Other;
-    }
-    let mut due = Due::new(word(words, 1));
-    match StringPartsIter::new_multiline(text, 3) {
-        Ok(parts) => {
-            for part in parts {
-                let _ = write_part(&mut due, part);
-            }
-            due.found()
-        }
-        Err(error) => exactly(&error, word(words, 1)),
-    }
-}
-
-/// `unescape`, on a text; then the scalar and the bytes of its escape, or `none`.
-pub fn escape(words: &[String]) -> Found {
-    let mut due = Due::new(word(words, 1));
-    let _ = match unescape(word(words, 0)) {
-        Some((c, length)) => write!(due, "{c} {length}"),
-        None => write!(due, "none"),
-    };
     due.found()
 }

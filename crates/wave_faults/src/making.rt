@@ -1,11 +1,33 @@
-//! Makers of values, and views that allocate.
+//! Makers of values, from the parts of others and from Rust values.
 use crate::due::{exactly, of_made, of_value};
 use crate::found::Found;
-use crate::views::are_equal;
-use crate::words::{type_at, value_at, word};
+use crate::values::viewed;
+use crate::words::word;
 use std::alloc::{AllocError, Global};
-use wasm_wave::value::{Type, Value};
+use wasm_wave::value::{IntoValue, Type, Value};
 use wasm_wave::wasm::{WasmTypeKind, WasmValueError};
+use wave_vectors_types::reader::type_of;
+
+/// The maker of the value's kind, or that of a list of the value alone, at the type that is the third
+/// word; then its text or the refusal.
+pub fn made(
+    alloc: Global,
+    is_in_list: bool,
+    val: &Value,
+    words: &[String],
+) -> Result<Found, Found> {
+    let ty = type_of(alloc, word(words, 2))?;
+    let answer = match is_in_list {
+        true => list(alloc, &ty, &[val]),
+        false => of_parts(alloc, &ty, val),
+    };
+    Ok(of_made(alloc, &answer, word(words, 3)))
+}
+
+/// A list of copies of the items at the type.
+fn list(alloc: Global, ty: &Type, items: &[&Value]) -> Result<Value, WasmValueError> {
+    Value::make_list(alloc, ty, copies(alloc, items)?)
+}
 
 /// Copies of the values.
 fn copies(alloc: Global, vals: &[&Value]) -> Result<Vec<Value>, AllocError> {
@@ -29,12 +51,6 @@ fn named_copies<'name>(
     Ok(items)
 }
 
-/// Copies of the key and the value.
-fn entry_copy(alloc: Global, key: &Value, val: &Value) -> Result<(Value, Value), AllocError> {
-    let key = key.clone(alloc)?;
-    Ok((key, val.clone(alloc)?))
-}
-
 /// Copies of the keys and values.
 fn entry_copies(
     alloc: Global,
@@ -42,7 +58,8 @@ fn entry_copies(
 ) -> Result<Vec<(Value, Value)>, AllocError> {
     let mut items = Vec::new(alloc);
     for entry in entries {
-        items.push(entry_copy(alloc, entry.0, entry.1)?)?;
+        let key = entry.0.clone(alloc)?;
+        items.push((key, entry.1.clone(alloc)?))?;
     }
     Ok(items)
 }
@@ -55,64 +72,32 @@ fn copy(alloc: Global, val: Option<&Value>) -> Result<Option<Value>, AllocError>
     }
 }
 
-/// A list of copies of the items at the type.
-fn list(alloc: Global, ty: &Type, items: &[&Value]) -> Result<Value, WasmValueError> {
-    Value::make_list(alloc, ty, copies(alloc, items)?)
-}
-
-/// A tuple of copies of the items at the type.
-fn tuple(alloc: Global, ty: &Type, items: &[&Value]) -> Result<Value, WasmValueError> {
-    Value::make_tuple(alloc, ty, copies(alloc, items)?)
-}
-
-/// A record of copies of the fields at the type.
-fn record(alloc: Global, ty: &Type, fields: &[(&str, &Value)]) -> Result<Value, WasmValueError> {
-    Value::make_record(alloc, ty, named_copies(alloc, fields)?)
-}
-
-/// A map of copies of the entries at the type.
-fn map(alloc: Global, ty: &Type, entries: &[(&Value, &Value)]) -> Result<Value, WasmValueError> {
-    Value::make_map(alloc, ty, entry_copies(alloc, entries)?)
-}
-
-/// A case with a copy of the payload at the type.
-fn variant(
-    alloc: Global,
-    ty: &Type,
-    case: &str,
-    val: Option<&Value>,
-) -> Result<Value, WasmValueError> {
-    Value::make_variant(alloc, ty, case, copy(alloc, val)?)
-}
-
-/// An option of a copy of the value at the type.
-fn option(alloc: Global, ty: &Type, val: Option<&Value>) -> Result<Value, WasmValueError> {
-    Value::make_option(alloc, ty, copy(alloc, val)?)
-}
-
-/// A result of a copy of the payload at the type.
-fn result(
-    alloc: Global,
-    ty: &Type,
-    val: Result<Option<&Value>, Option<&Value>>,
-) -> Result<Value, WasmValueError> {
-    let val = match val {
-        Ok(val) => Ok(copy(alloc, val)?),
-        Err(val) => Err(copy(alloc, val)?),
-    };
-    Value::make_result(alloc, ty, val)
-}
-
-/// What the maker of the value's kind makes at the type of what the view of the value answers.
+/// What the maker of the value's kind makes at the type of copies of what the value's view answers.
 fn of_parts(alloc: Global, ty: &Type, val: &Value) -> Result<Value, WasmValueError> {
     match val.kind() {
         WasmTypeKind::List | WasmTypeKind::FixedLengthList => {
             list(alloc, ty, val.unwrap_list(alloc)?.as_slice())
         }
-        WasmTypeKind::Tuple => tuple(alloc, ty, val.unwrap_tuple(alloc)?.as_slice()),
-        WasmTypeKind::Record => record(alloc, ty, val.unwrap_record(alloc)?.as_slice()),
-        WasmTypeKind::Map => map(alloc, ty, val.unwrap_map(alloc)?.as_slice()),
+        WasmTypeKind::Tuple => {
+            let items = copies(alloc, val.unwrap_tuple(alloc)?.as_slice())?;
+            Value::make_tuple(alloc, ty, items)
+        }
         WasmTypeKind::Flags => Value::make_flags(alloc, ty, val.unwrap_flags(alloc)?.as_slice()),
+        _ => of_pairs(alloc, ty, val),
+    }
+}
+
+/// The same for a value of fields or entries.
+fn of_pairs(alloc: Global, ty: &Type, val: &Value) -> Result<Value, WasmValueError> {
+    match val.kind() {
+        WasmTypeKind::Record => {
+            let fields = named_copies(alloc, val.unwrap_record(alloc)?.as_slice())?;
+            Value::make_record(alloc, ty, fields)
+        }
+        WasmTypeKind::Map => {
+            let entries = entry_copies(alloc, val.unwrap_map(alloc)?.as_slice())?;
+            Value::make_map(alloc, ty, entries)
+        }
         _ => of_part(alloc, ty, val),
     }
 }
@@ -121,73 +106,82 @@ fn of_parts(alloc: Global, ty: &Type, val: &Value) -> Result<Value, WasmValueErr
 fn of_part(alloc: Global, ty: &Type, val: &Value) -> Result<Value, WasmValueError> {
     match val.kind() {
         WasmTypeKind::Enum => Value::make_enum(alloc, ty, val.unwrap_enum()),
-        WasmTypeKind::Option => option(alloc, ty, val.unwrap_option()),
-        WasmTypeKind::Result => result(alloc, ty, val.unwrap_result()),
+        WasmTypeKind::Option => Value::make_option(alloc, ty, copy(alloc, val.unwrap_option())?),
+        WasmTypeKind::Result => match val.unwrap_result() {
+            Ok(val) => Value::make_result(alloc, ty, Ok(copy(alloc, val)?)),
+            Err(val) => Value::make_result(alloc, ty, Err(copy(alloc, val)?)),
+        },
         WasmTypeKind::Variant => {
             let (case, val) = val.unwrap_variant();
-            variant(alloc, ty, case, val)
+            Value::make_variant(alloc, ty, case, copy(alloc, val)?)
         }
         WasmTypeKind::String => Value::make_string(alloc, val.unwrap_string()),
         _ => Err(WasmValueError::WrongNumberOfTupleValues { want: 0, got: 0 }),
     }
 }
 
-/// What the maker of the value's kind makes at the third word's type; the fourth is due.
-fn made_of(alloc: Global, words: &[String], val: &Value) -> Result<Found, Found> {
-    let ty = type_at(alloc, words, 2)?;
-    Ok(of_made(alloc, &of_parts(alloc, &ty, val), word(words, 3)))
-}
-
-/// The maker of a value's kind, on the value's type and text, and the type that it is made at; then
-/// its text or the refusal.
-pub fn made(alloc: Global, words: &[String]) -> Result<Found, Found> {
-    let val = value_at(alloc, words, 0)?;
-    made_of(alloc, words, &val)
-}
-
-/// The list of the value that is made at the third word's type; the fourth is due.
-fn list_of(alloc: Global, words: &[String], val: &Value) -> Result<Found, Found> {
-    let ty = type_at(alloc, words, 2)?;
-    Ok(of_made(alloc, &list(alloc, &ty, &[val]), word(words, 3)))
-}
-
-/// The maker of lists, on the item's type and text, and the type that it is made at; then its text or
-/// the refusal.
-pub fn made_list(alloc: Global, words: &[String]) -> Result<Found, Found> {
-    let val = value_at(alloc, words, 0)?;
-    list_of(alloc, words, &val)
-}
-
-/// A copy of the value.
-fn value_copy(alloc: Global, val: &Value) -> Result<Value, AllocError> {
-    val.clone(alloc)
-}
-
-/// Whether a copy of the value is equal and has the text.
-fn of_copy(alloc: Global, val: &Value, text: &str) -> Found {
-    match value_copy(alloc, val) {
-        Ok(copy) if are_equal(&copy, val) => of_value(alloc, &copy, text),
-        Ok(_) => Found::Other,
-        Err(_) => Found::Want,
+/// What a call on a text, or on the Rust value or type that has this name, is found to answer.
+pub fn of_rust(alloc: Global, name: &str, text: &str, due: &str) -> Result<Found, Found> {
+    match name {
+        "make_string" => Ok(of_made(alloc, &Value::make_string(alloc, text), due)),
+        "into_value" => Ok(of_value(alloc, &converted(alloc, text)?, due)),
+        "value_type" => Ok(exactly(&type_named(alloc, text)?, due)),
+        "scalar" => match plain(alloc, text) {
+            Ok(val) => Ok(viewed(&val, due)),
+            Err(_) => Ok(Found::Other),
+        },
+        _ => match String::from_str(alloc, text) {
+            Ok(text) => Ok(viewed(&Value::from(text), due)),
+            Err(_) => Ok(Found::NotCalled),
+        },
     }
 }
 
-/// `clone` of a value, on its type and text; then its text.
-pub fn cloned(alloc: Global, words: &[String]) -> Result<Found, Found> {
-    let val = value_at(alloc, words, 0)?;
-    Ok(of_copy(alloc, &val, word(words, 2)))
+/// The value of the Rust value that has this name.
+fn converted(alloc: Global, name: &str) -> Result<Value, AllocError> {
+    match name {
+        "vec" => Vec::from_array(alloc, [1i32, 2, 3])?.into_value(alloc),
+        "array" => ['a'; 3].into_value(alloc),
+        "single" => (1i32,).into_value(alloc),
+        "triple" => (1i32, "str", [9i32; 2]).into_value(alloc),
+        "str" => "str".into_value(alloc),
+        "string" => String::from_str(alloc, "oops")?.into_value(alloc),
+        "none" => None::<u8>.into_value(alloc),
+        "some" => Some("a").into_value(alloc),
+        "ok" => Ok::<u8, char>(1).into_value(alloc),
+        "err" => Err::<u8, &str>("oops").into_value(alloc),
+        _ => true.into_value(alloc),
+    }
 }
 
-/// The value's own type.
-fn own_type_of(val: &Value) -> Result<Type, AllocError> {
-    val.ty()
+/// The type of the Rust values that have this name.
+fn type_named(alloc: Global, name: &str) -> Result<Type, AllocError> {
+    match name {
+        "vec" => Vec::<i32>::value_type(alloc),
+        "array" => <[char; 3]>::value_type(alloc),
+        "triple" => <(i32, &str, [i32; 2])>::value_type(alloc),
+        "none" => Option::<u8>::value_type(alloc),
+        _ => Result::<u8, String>::value_type(alloc),
+    }
 }
 
-/// `ty` of a value, on its type and text.
-pub fn own_type(alloc: Global, words: &[String]) -> Result<Found, Found> {
-    let val = value_at(alloc, words, 0)?;
-    match own_type_of(&val) {
-        Ok(own) => Ok(exactly(&own, word(words, 0))),
-        Err(_) => Ok(Found::Want),
+/// The scalar that has this name, by its maker or by `From`.
+fn plain(alloc: Global, name: &str) -> Result<Value, WasmValueError> {
+    match name {
+        "bool" => Value::make_bool(alloc, true),
+        "s8" => Value::make_s8(alloc, -128),
+        "s16" => Value::make_s16(alloc, -32768),
+        "s32" => Value::make_s32(alloc, -2147483648),
+        "s64" => Value::make_s64(alloc, -9223372036854775808),
+        "u8" => Value::make_u8(alloc, 255),
+        "u16" => Value::make_u16(alloc, 65535),
+        "u32" => Value::make_u32(alloc, 4294967295),
+        "u64" => Value::make_u64(alloc, 18446744073709551615),
+        "char" => Value::make_char(alloc, '☃'),
+        "from bool" => Ok(Value::from(false)),
+        "from u8" => Ok(Value::from(7u8)),
+        "from s64" => Ok(Value::from(-7i64)),
+        "from char" => Ok(Value::from('a')),
+        _ => Err(WasmValueError::WrongNumberOfTupleValues { want: 0, got: 0 }),
     }
 }

@@ -1,42 +1,43 @@
-//! Accessors of nodes.
+//! Calls on an untyped value, and the accessors of its node.
 use crate::due::{Due, exactly, of_refusal};
 use crate::found::{Found, due_if};
-use crate::words::word;
 use std::alloc::Global;
 use std::fmt::Write;
 use wasm_wave::ast::{CowStr, Node, NodeType};
 use wasm_wave::untyped::UntypedValue;
 
-/// `as_str`, on a text; then whether it is borrowed or owned, and what it is.
-pub fn text(alloc: Global, words: &[String]) -> Result<Found, Found> {
-    let value = UntypedValue::parse(alloc, word(words, 0))?;
-    let mut due = Due::new(word(words, 1));
-    match value.node().as_str(alloc, value.source()) {
-        Ok(CowStr::Borrowed(text)) => {
-            let _ = write!(due, "borrowed {text}");
-            Ok(due.found())
-        }
-        Ok(CowStr::Owned(text)) => {
-            let _ = write!(due, "owned {text}");
-            Ok(due.found())
-        }
-        Err(error) => Ok(of_refusal(&error, word(words, 1))),
+/// What a call on the untyped value is found to answer: one that takes no memory may refuse only
+/// where the words are wrong.
+pub fn on_untyped(alloc: Global, name: &str, value: &UntypedValue<'_>, due: &str) -> Found {
+    match name {
+        "as_str" => text(alloc, value, due),
+        "as_record" => record(alloc, value, due),
+        _ => accessed(value, due).unwrap_or(Found::Other),
     }
 }
 
-/// `as_record`, on a text; then its names.
-pub fn record(alloc: Global, words: &[String]) -> Result<Found, Found> {
-    let value = UntypedValue::parse(alloc, word(words, 0))?;
-    match value.node().as_record(alloc, value.source()) {
-        Ok(fields) => {
-            let mut due = Due::new(word(words, 1));
-            for (name, _) in fields {
-                let _ = write!(due, "{name};");
-            }
-            Ok(due.found())
-        }
-        Err(error) => Ok(of_refusal(&error, word(words, 1))),
+/// `as_str`; then whether the text is borrowed or owned, and what it is.
+fn text(alloc: Global, value: &UntypedValue<'_>, text: &str) -> Found {
+    let mut due = Due::new(text);
+    let _ = match value.node().as_str(alloc, value.source()) {
+        Ok(CowStr::Borrowed(text)) => write!(due, "borrowed {text}"),
+        Ok(CowStr::Owned(text)) => write!(due, "owned {text}"),
+        Err(error) => return of_refusal(&error, text),
+    };
+    due.found()
+}
+
+/// `as_record`; then its names.
+fn record(alloc: Global, value: &UntypedValue<'_>, text: &str) -> Found {
+    let fields = match value.node().as_record(alloc, value.source()) {
+        Ok(fields) => fields,
+        Err(error) => return of_refusal(&error, text),
+    };
+    let mut due = Due::new(text);
+    for (name, _) in fields {
+        let _ = write!(due, "{name};");
     }
+    due.found()
 }
 
 /// Whether the word and the span of the payload are the text.
@@ -94,10 +95,4 @@ fn accessed(value: &UntypedValue<'_>, text: &str) -> Option<Found> {
         NodeType::Flags | NodeType::EmptySet => names(value, text),
         _ => scalar(value, text),
     }
-}
-
-/// The accessor of a node that takes no memory, on a text; then what it answers.
-pub fn access(alloc: Global, words: &[String]) -> Result<Found, Found> {
-    let value = UntypedValue::parse(alloc, word(words, 0))?;
-    Ok(accessed(&value, word(words, 1)).unwrap_or(Found::Other))
 }

@@ -19,13 +19,8 @@ pub fn read(alloc: Global, ty: &Type, text: &str) -> Result<Value, ParserError> 
     from_str::<Value>(alloc, ty, text)
 }
 
-/// The type that is the word at this place.
-pub fn type_at(alloc: Global, words: &[String], at: usize) -> Result<Type, Found> {
-    Ok(type_of(alloc, word(words, at))?)
-}
-
 /// The value of the word behind this place, at the type that is the word there.
 pub fn value_at(alloc: Global, words: &[String], at: usize) -> Result<Value, Found> {
-    let ty = type_at(alloc, words, at)?;
+    let ty = type_of(alloc, word(words, at))?;
     Ok(read(alloc, &ty, word(words, at.saturating_add(1)))?)
 }

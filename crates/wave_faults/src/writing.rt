@@ -1,27 +1,18 @@
 //! Calls that write.
-use crate::due::of_value;
 use crate::found::{Found, due_if};
-use crate::words::{value_at, word};
 use std::alloc::Global;
 use std::fmt;
 use wasm_wave::to_string;
 use wasm_wave::value::Value;
 use wasm_wave::writer::{TextWrite, Writer, WriterError};
 
-/// `to_string`, on a type and a text; then the canonical text.
-pub fn text(alloc: Global, words: &[String]) -> Result<Found, Found> {
-    let val = value_at(alloc, words, 0)?;
-    Ok(match to_string(alloc, &val) {
-        Ok(text) => due_if(text.as_str() == word(words, 2)),
+/// `to_string`; then the canonical text.
+pub fn text(alloc: Global, val: &Value, due: &str) -> Found {
+    match to_string(alloc, val) {
+        Ok(text) => due_if(text.as_str() == due),
         Err(WriterError::Memory(_)) => Found::Want,
         Err(_) => Found::Other,
-    })
-}
-
-/// The display of a value, on a type and a text; then the canonical text.
-pub fn display(alloc: Global, words: &[String]) -> Result<Found, Found> {
-    let val = value_at(alloc, words, 0)?;
-    Ok(of_value(alloc, &val, word(words, 2)))
+    }
 }
 
 /// What a writer holds before it writes.
@@ -39,11 +30,12 @@ fn behind_earlier(alloc: Global, val: &Value, earlier: String, due: &str) -> Fou
     }
 }
 
-/// `write_value` of a writer that holds an earlier text, on a type and a text; then the canonical text.
-pub fn behind(alloc: Global, words: &[String]) -> Result<Found, Found> {
-    let val = value_at(alloc, words, 0)?;
-    let earlier = String::from_str(alloc, EARLIER)?;
-    Ok(behind_earlier(alloc, &val, earlier, word(words, 2)))
+/// `write_value` of a writer that holds an earlier text; then the canonical text.
+pub fn behind(alloc: Global, val: &Value, due: &str) -> Found {
+    match String::from_str(alloc, EARLIER) {
+        Ok(earlier) => behind_earlier(alloc, val, earlier, due),
+        Err(_) => Found::NotCalled,
+    }
 }
 
 /// A writer that passes so many texts and then fails, once or for good.
@@ -102,7 +94,7 @@ fn passes(alloc: Global, val: &Value, text: &str, left: usize, once: bool) -> Op
 
 /// Whether the value is written right to writers of each number of texts, and written from one number
 /// on.
-fn is_told(alloc: Global, val: &Value, text: &str, once: bool) -> bool {
+pub fn is_told(alloc: Global, val: &Value, text: &str, once: bool) -> bool {
     let mut was_passed = false;
     for left in 0..text.len().saturating_add(2) {
         match passes(alloc, val, text, left, once) {
@@ -112,12 +104,4 @@ fn is_told(alloc: Global, val: &Value, text: &str, once: bool) -> bool {
         }
     }
     was_passed
-}
-
-/// Writers that fail behind each number of texts, once or for good, on a type and a text; then the
-/// canonical text.
-pub fn failing(alloc: Global, words: &[String]) -> Result<Found, Found> {
-    let val = value_at(alloc, words, 0)?;
-    let text = word(words, 2);
-    Ok(due_if(is_told(alloc, &val, text, false) && is_told(alloc, &val, text, true)))
 }
