@@ -4,7 +4,6 @@
 mod cases;
 mod texts;
 mod times;
-mod types;
 
 use std::env;
 

@@ -1,15 +1,4 @@
-//! The texts that are read.
-
-/// Once more each item, between these.
-pub(crate) fn repeated(
-    rt: HostRuntime,
-    open: &str,
-    item: &str,
-    close: &str,
-    count: usize,
-) -> anyhow::Result<String> {
-    joined(rt, open, item, ", ", close, count)
-}
+//! The texts of types and values.
 
 /// So many times the item with this between two of them, between these.
 pub(crate) fn joined(
@@ -31,35 +20,48 @@ pub(crate) fn joined(
     Ok(text)
 }
 
-/// The entries of a map with distinct keys.
-pub(crate) fn entries(rt: HostRuntime, count: usize) -> anyhow::Result<String> {
+/// So many names between these, with this behind each.
+pub(crate) fn numbered(
+    rt: HostRuntime,
+    open: &str,
+    front: &str,
+    behind: &str,
+    close: &str,
+    count: usize,
+) -> anyhow::Result<String> {
+    let mut text = String::from_str(rt.alloc(), open)?;
+    for i in 0..count {
+        let between = if i > 0 { ", " } else { "" };
+        let name = format!(in rt.alloc(); "{between}{front}{i}{behind}")?;
+        text.push_str(name.as_str())?;
+    }
+    text.push_str(close)?;
+    Ok(text)
+}
+
+/// So many entries in braces: a number between these, and the number.
+pub(crate) fn entries(
+    rt: HostRuntime,
+    front: &str,
+    behind: &str,
+    count: usize,
+) -> anyhow::Result<String> {
     let mut text = String::from_str(rt.alloc(), "{")?;
     for i in 0..count {
-        let entry = format!(in rt.alloc(); "\"key-{i}\": {i}, ")?;
+        let entry = format!(in rt.alloc(); "{front}{i}{behind}{i}, ")?;
         text.push_str(entry.as_str())?;
     }
     text.push_str("}")?;
     Ok(text)
 }
 
-/// A record of so many fields.
-pub(crate) fn fields(rt: HostRuntime, count: usize) -> anyhow::Result<String> {
+/// The names of even numbers below the bound, in braces.
+pub(crate) fn even(rt: HostRuntime, front: &str, bound: usize) -> anyhow::Result<String> {
     let mut text = String::from_str(rt.alloc(), "{")?;
-    for i in 0..count {
-        let field = format!(in rt.alloc(); "field-n{i}: {i}, ")?;
-        text.push_str(field.as_str())?;
-    }
-    text.push_str("}")?;
-    Ok(text)
-}
-
-/// Each second one of so many flags.
-pub(crate) fn flags(rt: HostRuntime, count: usize) -> anyhow::Result<String> {
-    let mut text = String::from_str(rt.alloc(), "{")?;
-    for i in 0..count {
+    for i in 0..bound {
         if i % 2 == 0 {
-            let flag = format!(in rt.alloc(); "flag-n{i}, ")?;
-            text.push_str(flag.as_str())?;
+            let name = format!(in rt.alloc(); "{front}{i}, ")?;
+            text.push_str(name.as_str())?;
         }
     }
     text.push_str("}")?;

@@ -1,28 +1,43 @@
 //! How long calls take.
+use anyhow::Context;
+use std::alloc::Global;
 use std::time::Instant;
-use wasm_wave::parser::Parser;
+use wasm_wave::parser::ParserError;
 use wasm_wave::untyped::{UntypedFuncCall, UntypedValue};
 use wasm_wave::value::{Type, Value};
 use wasm_wave::{from_str, to_string};
+use wave_vectors_types::reader::{type_of, types_of};
 
 /// Reads, writes and parses the text as often as is said, and prints the nanoseconds of each.
 pub(crate) fn time(
     rt: HostRuntime,
     name: &str,
-    ty: &Type,
+    ty: &str,
     text: &str,
     loops: usize,
 ) -> anyhow::Result<()> {
-    let val = from_str::<Value>(rt.alloc(), ty, text)?;
-    let out = to_string(rt.alloc(), &val)?;
+    let ty = type_of(rt.alloc(), ty).ok().context("no type")?;
+    let val = from_str::<Value>(rt.alloc(), &ty, text)?;
+    print_times(rt, name, &ty, &val, text, loops)
+}
+
+/// Does so with the type and the value that the text means at it.
+fn print_times(
+    rt: HostRuntime,
+    name: &str,
+    ty: &Type,
+    val: &Value,
+    text: &str,
+    loops: usize,
+) -> anyhow::Result<()> {
+    let out = to_string(rt.alloc(), val)?.len();
     let read = reading(rt, ty, text, loops)?;
     let nodes = by_nodes(rt, ty, text, loops)?;
-    let write = writing(rt, &val, loops)?;
+    let write = writing(rt, val, loops)?;
     let untyped = parsing(rt, text, loops)?;
     println!(rt;
-        "{name} in {} out {} loops {loops} read {read} write {write} untyped {untyped} nodes {nodes}",
-        text.len(),
-        out.len()
+        "{name} in {} out {out} loops {loops} read {read} write {write} untyped {untyped} nodes {nodes}",
+        text.len()
     )?;
     Ok(())
 }
@@ -36,14 +51,16 @@ fn reading(rt: HostRuntime, ty: &Type, text: &str, loops: usize) -> anyhow::Resu
     Ok(start.elapsed(&rt)?.as_nanos())
 }
 
-/// Nanoseconds of reading by way of nodes: the text is parsed without a type, and its tree read at the type.
+/// The value of the text by way of nodes: its tree is parsed without a type, and read at the type.
+fn late(alloc: Global, ty: &Type, text: &str) -> Result<Value, ParserError> {
+    UntypedValue::parse(alloc, text)?.to_wasm_value(alloc, ty)
+}
+
+/// Nanoseconds of reading by way of nodes.
 fn by_nodes(rt: HostRuntime, ty: &Type, text: &str, loops: usize) -> anyhow::Result<u128> {
     let start = Instant::now(&rt)?;
     for _ in 0..loops {
-        let mut parser = Parser::new(text);
-        let untyped = parser.parse_raw_value(rt.alloc())?;
-        parser.finish()?;
-        untyped.to_wasm_value::<Value>(rt.alloc(), ty)?;
+        late(rt.alloc(), ty, text)?;
     }
     Ok(start.elapsed(&rt)?.as_nanos())
 }
@@ -66,18 +83,23 @@ fn parsing(rt: HostRuntime, text: &str, loops: usize) -> anyhow::Result<u128> {
     Ok(start.elapsed(&rt)?.as_nanos())
 }
 
+/// The parameters of the call at the types.
+fn params(alloc: Global, types: &[Type], text: &str) -> Result<Vec<Value>, ParserError> {
+    UntypedFuncCall::parse(alloc, text)?.to_wasm_params(alloc, types)
+}
+
 /// Parses the call as often as is said, and reads its parameters at the types; prints the
 /// nanoseconds of both together.
 pub(crate) fn time_calls(
     rt: HostRuntime,
-    types: &Vec<Type>,
+    types: &[&str],
     text: &str,
     loops: usize,
 ) -> anyhow::Result<()> {
+    let types = types_of(rt.alloc(), types).ok().context("no types")?;
     let start = Instant::now(&rt)?;
     for _ in 0..loops {
-        let call = UntypedFuncCall::parse(rt.alloc(), text)?;
-        call.to_wasm_params::<Value>(rt.alloc(), types.as_slice())?;
+        params(rt.alloc(), types.as_slice(), text)?;
     }
     let read = start.elapsed(&rt)?.as_nanos();
     println!(rt;

@@ -127,14 +127,19 @@ fn types_from(alloc: Global, words: &[String], first: usize) -> Result<Vec<Type>
 pub fn params(alloc: Global, words: &[String]) -> Result<Found, Found> {
     let types = types_from(alloc, words, 2)?;
     let call = UntypedFuncCall::parse(alloc, word(words, 0))?;
-    let answer: Result<Vec<Value>, ParserError> = call.to_wasm_params(alloc, types.as_slice());
-    Ok(match answer {
-        Ok(vals) => shown(
-            &DisplayFuncArgs::new(alloc, vals.as_slice()),
-            word(words, 1),
-        ),
-        Err(error) => of_refusal(&error, word(words, 1)),
-    })
+    Ok(of_params(
+        alloc,
+        call.to_wasm_params(alloc, types.as_slice()),
+        word(words, 1),
+    ))
+}
+
+/// Whether the display of the arguments, or the refusal, is this one.
+fn of_params(alloc: Global, answer: Result<Vec<Value>, ParserError>, due: &str) -> Found {
+    match answer {
+        Ok(vals) => shown(&DisplayFuncArgs::new(alloc, vals.as_slice()), due),
+        Err(error) => of_refusal(&error, due),
+    }
 }
 
 /// The display of results; then that display, and types and texts of the results.

@@ -23,14 +23,22 @@ fn written(rt: HostRuntime, val: &Bare) -> Result<String, WriterError> {
     Ok(writer.into_inner())
 }
 
+/// Whether it is refused as a value that has no text.
+fn is_unsupported(answer: Result<String, WriterError>) -> bool {
+    matches!(answer, Err(WriterError::UnsupportedType))
+}
+
+/// Whether the display of the value fails.
+fn is_not_shown(rt: HostRuntime, val: &Bare) -> bool {
+    format!(in rt.alloc(); "{}", DisplayValue::new(rt.alloc(), val)).is_err()
+}
+
 /// Whether the writer and `to_string` refuse the value as one that has no text, and its display
 /// fails.
 fn has_no_text(rt: HostRuntime, val: &Bare) -> bool {
-    let shown = format!(in rt.alloc(); "{}", DisplayValue::new(rt.alloc(), val));
-    match (written(rt, val), to_string(rt.alloc(), val)) {
-        (Err(WriterError::UnsupportedType), Err(WriterError::UnsupportedType)) => shown.is_err(),
-        _ => false,
-    }
+    is_unsupported(written(rt, val))
+        && is_unsupported(to_string(rt.alloc(), val))
+        && is_not_shown(rt, val)
 }
 
 #[test]
@@ -45,14 +53,20 @@ fn without_text(rt: HostRuntime) -> Result<(), Fail> {
     Ok(())
 }
 
+/// Whether this is the text that is answered.
+fn is_text(answer: Result<String, WriterError>, text: &str) -> bool {
+    match answer {
+        Ok(answer) => answer.as_str() == text,
+        Err(_) => false,
+    }
+}
+
 /// Whether the writer, `to_string` and the display give this text.
 fn has_text(rt: HostRuntime, val: &Bare, text: &str) -> Result<bool, Fail> {
     let shown = format!(in rt.alloc(); "{}", DisplayValue::new(rt.alloc(), val))?;
-    Ok(
-        written(rt, val)?.as_str() == text
-            && to_string(rt.alloc(), val)?.as_str() == text
-            && shown.as_str() == text,
-    )
+    Ok(shown.as_str() == text
+        && is_text(written(rt, val), text)
+        && is_text(to_string(rt.alloc(), val), text))
 }
 
 /// What the answer is: the text of the value, or the refusal's words and place.
@@ -68,62 +82,63 @@ fn read_late(rt: HostRuntime, ty: &Type, text: &str) -> Result<Bare, ParserError
     UntypedValue::parse(rt.alloc(), text)?.to_wasm_value(rt.alloc(), ty)
 }
 
-/// The first text that answers otherwise at its type, at once or read without its type first, with
-/// what it answers; nothing where there is none.
+/// What the text answers at the type, or both answers where it is read otherwise without the type
+/// first.
+fn answer(rt: HostRuntime, ty: &Type, text: &str) -> Result<String, Fail> {
+    let found = told(rt, from_str(rt.alloc(), ty, text))?;
+    let late = told(rt, read_late(rt, ty, text))?;
+    match found == late {
+        true => Ok(found),
+        false => Ok(format!(in rt.alloc(); "{found} or {late}")?),
+    }
+}
+
+/// The first text that answers otherwise at its type, with what it answers; nothing where there is
+/// none.
 fn wrong(rt: HostRuntime, rows: &[(&str, &str, &str)]) -> Result<String, Fail> {
     for row in rows {
         let (ty, text, expected) = *row;
         let ty = type_of(rt.alloc(), ty)?;
-        let found = told(rt, from_str::<Bare>(rt.alloc(), &ty, text))?;
-        let late = told(rt, read_late(rt, &ty, text))?;
-        if found.as_str() != expected || late.as_str() != expected {
-            return Ok(format!(in rt.alloc(); "{text} gives {found} and {late}")?);
+        let found = answer(rt, &ty, text)?;
+        if found.as_str() != expected {
+            return Ok(format!(in rt.alloc(); "{text} gives {found}")?);
         }
     }
     Ok(String::new(rt.alloc()))
 }
 
-#[test]
-fn lists_of_lists(rt: HostRuntime) -> Result<(), Fail> {
-    let found = wrong(
-        rt,
-        &[
-            ("list<list<u8>>", "[[], []]", "[[], []]"),
-            ("list<u8>", "[]", "[]"),
-            ("list<list<list<u8>>>", "[[[], ], []]", "[[[]], []]"),
-        ],
-    )?;
-    assert_eq!(rt; found.as_str(), "");
-    Ok(())
-}
+/// A type, a text and its answer.
+const ROWS: [(&str, &str, &str); 7] = [
+    // Lists of lists.
+    ("list<list<u8>>", "[[], []]", "[[], []]"),
+    ("list<u8>", "[]", "[]"),
+    ("list<list<list<u8>>>", "[[[], ], []]", "[[[]], []]"),
+    // Refused by makers.
+    (
+        "u8",
+        "1",
+        "error converting Wasm value: unsupported type u8 at 0..1",
+    ),
+    (
+        "list<list<u8>>",
+        "[[], [1]]",
+        "error converting Wasm value: unsupported type u8 at 6..7",
+    ),
+    (
+        "list<tuple<list<u8>>>",
+        "[ ([])]",
+        "error converting Wasm value: unsupported type tuple at 2..6",
+    ),
+    (
+        "option<list<u8>>",
+        "none",
+        "error converting Wasm value: unsupported type option at 0..4",
+    ),
+];
 
 #[test]
-fn refused_by_makers(rt: HostRuntime) -> Result<(), Fail> {
-    let found = wrong(
-        rt,
-        &[
-            (
-                "u8",
-                "1",
-                "error converting Wasm value: unsupported type u8 at 0..1",
-            ),
-            (
-                "list<list<u8>>",
-                "[[], [1]]",
-                "error converting Wasm value: unsupported type u8 at 6..7",
-            ),
-            (
-                "list<tuple<list<u8>>>",
-                "[ ([])]",
-                "error converting Wasm value: unsupported type tuple at 2..6",
-            ),
-            (
-                "option<list<u8>>",
-                "none",
-                "error converting Wasm value: unsupported type option at 0..4",
-            ),
-        ],
-    )?;
+fn texts(rt: HostRuntime) -> Result<(), Fail> {
+    let found = wrong(rt, &ROWS)?;
     assert_eq!(rt; found.as_str(), "");
     Ok(())
 }
@@ -144,19 +159,30 @@ fn call(rt: HostRuntime, types: &[&str], text: &str) -> Result<String, Fail> {
 
 #[test]
 fn calls(rt: HostRuntime) -> Result<(), Fail> {
-    assert_eq!(rt;
-        call(rt, &["option<u8>"], "go()")?.as_str(),
-        "error converting Wasm value: unsupported type option at 0..2"
-    );
+    for (ty, text, expected) in [
+        (
+            "option<u8>",
+            "go()",
+            "error converting Wasm value: unsupported type option at 0..2",
+        ),
+        (
+            "u8",
+            "f(1)",
+            "error converting Wasm value: unsupported type u8 at 2..3",
+        ),
+        ("list<u8>", "f([])", "1"),
+    ] {
+        assert_eq!(rt; call(rt, &[ty], text)?.as_str(), expected);
+    }
+    Ok(())
+}
+
+#[test]
+fn a_call_that_lacks_a_parameter(rt: HostRuntime) -> Result<(), Fail> {
     assert_eq!(rt;
         call(rt, &["list<u8>", "option<u8>"], "go( [])")?.as_str(),
         "error converting Wasm value: unsupported type option at 2..7"
     );
-    assert_eq!(rt;
-        call(rt, &["u8"], "f(1)")?.as_str(),
-        "error converting Wasm value: unsupported type u8 at 2..3"
-    );
-    assert_eq!(rt; call(rt, &["list<u8>"], "f([])")?.as_str(), "1");
     Ok(())
 }
 

@@ -108,31 +108,34 @@ fn flags(rt: HostRuntime, names: &[&str]) -> Result<String, Fail> {
 
 #[test]
 fn made_in_the_order_of_the_names(rt: HostRuntime) -> Result<(), Fail> {
-    assert_eq!(rt;
-        flags(rt, &["exec", "write"])?.as_str(),
-        "exec write {exec, write}"
-    );
+    for (first, second, expected) in [
+        ("exec", "write", "exec write {exec, write}"),
+        ("exec", "exec", "a name stands twice"),
+        ("exec", "nope", "unknown case \"nope\""),
+    ] {
+        assert_eq!(rt; flags(rt, &[first, second])?.as_str(), expected);
+    }
     assert_eq!(rt; flags(rt, &[])?.as_str(), "{}");
-    assert_eq!(rt;
-        flags(rt, &["exec", "exec"])?.as_str(),
-        "a name stands twice"
-    );
-    assert_eq!(rt;
-        flags(rt, &["exec", "nope"])?.as_str(),
-        "unknown case \"nope\""
-    );
     Ok(())
+}
+
+/// How a list without items is refused.
+fn list(rt: HostRuntime) -> Result<String, Fail> {
+    let (alloc, ty) = (rt.alloc(), permissions(rt)?);
+    made(rt, OrderedFlags::make_list(alloc, &ty, Vec::new(alloc)))
+}
+
+/// How a map without entries is refused.
+fn map(rt: HostRuntime) -> Result<String, Fail> {
+    let (alloc, ty) = (rt.alloc(), permissions(rt)?);
+    made(rt, OrderedFlags::make_map(alloc, &ty, Vec::new(alloc)))
 }
 
 #[test]
 fn values_of_other_kinds(rt: HostRuntime) -> Result<(), Fail> {
-    let alloc = rt.alloc();
-    let ty = permissions(rt)?;
-    let number = made(rt, OrderedFlags::make_u8(alloc, 1))?;
+    let number = made(rt, OrderedFlags::make_u8(rt.alloc(), 1))?;
     assert_eq!(rt; number.as_str(), "unsupported type u8");
-    let list = made(rt, OrderedFlags::make_list(alloc, &ty, Vec::new(alloc)))?;
-    assert_eq!(rt; list.as_str(), "unsupported type list");
-    let map = made(rt, OrderedFlags::make_map(alloc, &ty, Vec::new(alloc)))?;
-    assert_eq!(rt; map.as_str(), "unsupported type map");
+    assert_eq!(rt; list(rt)?.as_str(), "unsupported type list");
+    assert_eq!(rt; map(rt)?.as_str(), "unsupported type map");
     Ok(())
 }

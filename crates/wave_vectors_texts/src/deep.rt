@@ -1,6 +1,5 @@
 //! Texts of many levels.
 use std::test::Fail;
-use wasm_wave::from_str;
 use wasm_wave::parser::{DEFAULT_LEVELS, MAX_LEVELS, Parser};
 use wasm_wave::untyped::{UntypedFuncCall, UntypedValue};
 use wasm_wave::value::{Type, Value};
@@ -90,12 +89,15 @@ fn nest(rt: HostRuntime, front: &str, times: usize, middle: &str, end: &str) -> 
     Ok(type_of(rt.alloc(), text.as_str())?)
 }
 
-/// The front of the first text that is not told at each cut, at its type of so many layers around
-/// `u8`; nothing where there is none.
-fn untold(rt: HostRuntime, rows: &[(&str, usize, &str, &str, &str, &str)]) -> Result<String, Fail> {
+/// The front of the first text that is not told at each cut, at its type; nothing where there is none.
+/// A row has the layers of the text, and those of the type.
+fn untold(
+    rt: HostRuntime,
+    rows: &[(&str, usize, &str, &str, &str, usize, &str, &str)],
+) -> Result<String, Fail> {
     for row in rows {
-        let (front, times, middle, end, around, behind) = *row;
-        let ty = nest(rt, around, times, "u8", behind)?;
+        let (front, times, middle, end, around, layers, inner, behind) = *row;
+        let ty = nest(rt, around, layers, inner, behind)?;
         let text = within(rt, front, times, middle, end)?;
         if !is_told_at_each_cut(rt.alloc(), &ty, text.as_str()) {
             return Ok(String::from_str(rt.alloc(), front)?);
@@ -104,107 +106,59 @@ fn untold(rt: HostRuntime, rows: &[(&str, usize, &str, &str, &str, &str)]) -> Re
     Ok(String::new(rt.alloc()))
 }
 
-/// The fronts of the texts of `levels` and of `read_at_each_level`: those of each text there that is
-/// not below are among these. The type has as many layers as the text, and what opens in the text is
-/// well-typed at it.
+/// The fronts of the texts of `levels`, `read_at_each_level` and `written_deeper_than_read`: those of
+/// each text there that is not below are among these. What opens in the text is well-typed at the type.
 #[test]
 fn fronts(rt: HostRuntime) -> Result<(), Fail> {
     let found = untold(
         rt,
         &[
-            ("[", 100, "", "]", "list<", ">"),
-            ("[", 101, "", "]", "list<", ">"),
-            ("(", 101, "0", ")", "tuple<", ">"),
-            ("some(", 101, "0", ")", "option<", ">"),
-            ("ok(", 101, "0", ")", "result<", ">"),
-            ("v(", 101, "0", ")", "variant{v(", ")}"),
-            ("{a:", 101, "0", "}", "record{a:", "}"),
-            ("{1:", 101, "0", "}", "map<u8,", ">"),
+            ("[", 100, "", "]", "list<", 100, "u8", ">"),
+            ("[", 101, "", "]", "list<", 101, "u8", ">"),
+            ("(", 101, "0", ")", "tuple<", 101, "u8", ">"),
+            ("some(", 101, "0", ")", "option<", 101, "u8", ">"),
+            ("ok(", 101, "0", ")", "result<", 101, "u8", ">"),
+            ("v(", 101, "0", ")", "variant{v(", 101, "u8", ")}"),
+            ("{a:", 101, "0", "}", "record{a:", 101, "u8", "}"),
+            ("{1:", 101, "0", "}", "map<u8,", 101, "u8", ">"),
+            ("[", 60, "", "]", "list<option<", 59, "list<u8>", ">>"),
+            ("[some(", 59, "[]", ")]", "list<option<", 59, "list<u8>", ">>"),
         ],
     )?;
     assert_eq!(rt; found.as_str(), "");
     Ok(())
 }
 
-/// A call with a number within so many payloads as its parameter.
-fn deep_call(rt: HostRuntime, payloads: usize) -> Result<String, Fail> {
+/// How a call with a number within so many payloads as its parameter is refused, nothing where it
+/// isn't; and whether its fronts from this length on are told at the type.
+fn call(rt: HostRuntime, payloads: usize, ty: &Type, first: usize) -> Result<String, Fail> {
     let param = within(rt, "some(", payloads, "0", ")")?;
-    Ok(format!(in rt.alloc(); "f({param})")?)
+    let text = format!(in rt.alloc(); "f({param})")?;
+    let is_told = is_told_from(rt.alloc(), ty, text.as_str(), first);
+    let refusal = refused_call(rt, text.as_str())?;
+    Ok(format!(in rt.alloc(); "{refusal}, {is_told}")?)
 }
 
+/// The fronts of the calls are read at a variant of a hundred options: the shorter call is of it too,
+/// since a number stands for `some` of itself. The first 497 bytes of the calls are equal, and the
+/// fronts shorter than that are read once.
 #[test]
 fn levels_of_calls(rt: HostRuntime) -> Result<(), Fail> {
-    for (payloads, answer) in [(99, ""), (100, "value nesting too deep at 501..502")] {
-        let text = deep_call(rt, payloads)?;
-        assert_eq!(rt; refused_call(rt, text.as_str())?.as_str(), answer);
-    }
-    Ok(())
-}
-
-/// The fronts of the calls of `levels_of_calls`, at a variant of a hundred options: the shorter call
-/// is of it too, since a number stands for `some` of itself. The first 497 bytes of the calls are
-/// equal, and the fronts shorter than that are read once.
-#[test]
-fn fronts_of_calls(rt: HostRuntime) -> Result<(), Fail> {
     let options = within(rt, "option<", 100, "u8", ">")?;
     let ty = nest(rt, "variant{f(", 1, options.as_str(), ")}")?;
-    for (payloads, first) in [(99, 0), (100, 497)] {
-        let text = deep_call(rt, payloads)?;
-        assert!(rt;
-            is_told_from(rt.alloc(), &ty, text.as_str(), first),
-            "{payloads} payloads"
-        );
+    for (payloads, first, expected) in [
+        (99, 0, ", true"),
+        (100, 497, "value nesting too deep at 501..502, true"),
+    ] {
+        assert_eq!(rt; call(rt, payloads, &ty, first)?.as_str(), expected);
     }
-    Ok(())
-}
-
-/// What the text prints at the type, or its refusal; `otherwise` where it is read otherwise without
-/// the type first.
-fn answer(rt: HostRuntime, ty: &str, text: &str) -> Result<String, Fail> {
-    let ty = type_of(rt.alloc(), ty)?;
-    match is_read_alike(rt.alloc(), &ty, text) {
-        true => told(rt.alloc(), from_str::<Value>(rt.alloc(), &ty, text)),
-        false => Ok(String::from_str(rt.alloc(), "otherwise")?),
-    }
-}
-
-/// Lists in lists, a hundred levels of them, read and printed.
-fn hundred_lists(rt: HostRuntime, text: &str) -> Result<String, Fail> {
-    let ty = within(rt, "list<", 100, "u8", ">")?;
-    answer(rt, ty.as_str(), text)
-}
-
-#[test]
-fn read_at_each_level(rt: HostRuntime) -> Result<(), Fail> {
-    let text = within(rt, "[", 100, "", "]")?;
-    assert_eq!(rt; hundred_lists(rt, text.as_str())?.as_str(), text.as_str());
-    Ok(())
-}
-
-/// Lists of options of such lists, 59 of them around a list, read and printed.
-fn lists_of_options(rt: HostRuntime, text: &str) -> Result<String, Fail> {
-    let ty = within(rt, "list<option<", 59, "list<u8>", ">>")?;
-    answer(rt, ty.as_str(), text)
-}
-
-#[test]
-fn written_deeper_than_read(rt: HostRuntime) -> Result<(), Fail> {
-    let flat = within(rt, "[", 60, "", "]")?;
-    let written = within(rt, "[some(", 59, "[]", ")]")?;
-    assert_eq!(rt;
-        lists_of_options(rt, flat.as_str())?.as_str(),
-        written.as_str()
-    );
-    let refusal = lists_of_options(rt, written.as_str())?;
-    assert_eq!(rt; refusal.as_str(), "value nesting too deep at 299..300");
     Ok(())
 }
 
 /// What the parser reads of the whole of its text at the type, printed, or its refusal.
-fn read_whole(rt: HostRuntime, ty: &str, parser: Parser) -> Result<String, Fail> {
-    let ty = type_of(rt.alloc(), ty)?;
+fn read_whole(rt: HostRuntime, ty: &Type, parser: Parser) -> Result<String, Fail> {
     let mut parser = parser;
-    let value = match parser.parse_value::<Value>(rt.alloc(), &ty) {
+    let value = match parser.parse_value::<Value>(rt.alloc(), ty) {
         Ok(value) => value,
         Err(error) => return Ok(format!(in rt.alloc(); "{error}")?),
     };
@@ -214,26 +168,25 @@ fn read_whole(rt: HostRuntime, ty: &str, parser: Parser) -> Result<String, Fail>
     }
 }
 
-#[test]
-fn written_deeper_read_within_its_levels(rt: HostRuntime) -> Result<(), Fail> {
-    let ty = within(rt, "list<option<", 59, "list<u8>", ">>")?;
-    let written = within(rt, "[some(", 59, "[]", ")]")?;
-    let (ty, text) = (ty.as_str(), written.as_str());
-    let read = read_whole(rt, ty, Parser::new(text).with_limit(119))?;
-    assert_eq!(rt; read.as_str(), text);
-    let refusal = read_whole(rt, ty, Parser::new(text).with_limit(118))?;
-    assert_eq!(rt; refusal.as_str(), "value nesting too deep at 353..354");
-    let refusal = read_whole(rt, ty, Parser::new(text).with_limit(DEFAULT_LEVELS))?;
-    assert_eq!(rt; refusal.as_str(), "value nesting too deep at 299..300");
-    Ok(())
+/// What the text prints at the type within so many levels, or its refusal; `otherwise` where it is
+/// read otherwise without the type first.
+fn answer_within(rt: HostRuntime, ty: &str, text: &str, levels: u32) -> Result<String, Fail> {
+    if levels < 1 || levels > MAX_LEVELS {
+        return Ok(String::from_str(rt.alloc(), "no limit")?);
+    }
+    let parser = Parser::new(text).with_limit(levels);
+    let ty = type_of(rt.alloc(), ty)?;
+    match levels != DEFAULT_LEVELS || is_read_alike(rt.alloc(), &ty, text) {
+        true => read_whole(rt, &ty, parser),
+        false => Ok(String::from_str(rt.alloc(), "otherwise")?),
+    }
 }
 
-/// The first text that is answered otherwise at its type within one level, with its answer; nothing
-/// where there is none.
-fn wrong_within_one(rt: HostRuntime, rows: &[(&str, &str, &str)]) -> Result<String, Fail> {
+/// The first answer at its type within its levels that is another one; nothing where there is none.
+fn wrong_within(rt: HostRuntime, rows: &[(&str, &str, u32, &str)]) -> Result<String, Fail> {
     for row in rows {
-        let (ty, text, expected) = *row;
-        let answer = read_whole(rt, ty, Parser::new(text).with_limit(1))?;
+        let (ty, text, levels, expected) = *row;
+        let answer = answer_within(rt, ty, text, levels)?;
         if answer.as_str() != expected {
             return Ok(answer);
         }
@@ -242,14 +195,43 @@ fn wrong_within_one(rt: HostRuntime, rows: &[(&str, &str, &str)]) -> Result<Stri
 }
 
 #[test]
-fn within_one_level(rt: HostRuntime) -> Result<(), Fail> {
-    let found = wrong_within_one(
+fn read_at_each_level(rt: HostRuntime) -> Result<(), Fail> {
+    let ty = within(rt, "list<", 100, "u8", ">")?;
+    let text = within(rt, "[", 100, "", "]")?;
+    let found = wrong_within(rt, &[(ty.as_str(), text.as_str(), 100, text.as_str())])?;
+    assert_eq!(rt; found.as_str(), "");
+    Ok(())
+}
+
+/// At lists of options of such lists, 59 of them around a list.
+#[test]
+fn written_deeper_than_read(rt: HostRuntime) -> Result<(), Fail> {
+    let ty = within(rt, "list<option<", 59, "list<u8>", ">>")?;
+    let flat = within(rt, "[", 60, "", "]")?;
+    let written = within(rt, "[some(", 59, "[]", ")]")?;
+    let (ty, flat, written) = (ty.as_str(), flat.as_str(), written.as_str());
+    let found = wrong_within(
         rt,
         &[
-            ("list<u8>", "[]", "[]"),
-            ("list<u8>", "[1]", "value nesting too deep at 0..1"),
-            ("option<u8>", "7", "some(7)"),
-            ("option<u8>", "some(7)", "value nesting too deep at 4..5"),
+            (ty, flat, 100, written),
+            (ty, written, 100, "value nesting too deep at 299..300"),
+            (ty, written, 118, "value nesting too deep at 353..354"),
+            (ty, written, 119, written),
+        ],
+    )?;
+    assert_eq!(rt; found.as_str(), "");
+    Ok(())
+}
+
+#[test]
+fn within_one_level(rt: HostRuntime) -> Result<(), Fail> {
+    let found = wrong_within(
+        rt,
+        &[
+            ("list<u8>", "[]", 1, "[]"),
+            ("list<u8>", "[1]", 1, "value nesting too deep at 0..1"),
+            ("option<u8>", "7", 1, "some(7)"),
+            ("option<u8>", "some(7)", 1, "value nesting too deep at 4..5"),
         ],
     )?;
     assert_eq!(rt; found.as_str(), "");
@@ -268,25 +250,9 @@ fn thousand_lists(rt: HostRuntime, times: usize) -> Result<String, Fail> {
 
 #[test]
 fn within_a_thousand_levels(rt: HostRuntime) -> Result<(), Fail> {
-    assert_eq!(rt; (DEFAULT_LEVELS, MAX_LEVELS), (100, 1000));
-    assert_eq!(rt; thousand_lists(rt, 1000)?.as_str(), "");
-    assert_eq!(rt;
-        thousand_lists(rt, 1001)?.as_str(),
-        "value nesting too deep at 999..1000"
-    );
-    Ok(())
-}
-
-/// The fronts of the texts of `written_deeper_than_read`, at their type.
-#[test]
-fn fronts_of_lists_of_options(rt: HostRuntime) -> Result<(), Fail> {
-    let ty = nest(rt, "list<option<", 59, "list<u8>", ">>")?;
-    for (front, times, middle, end) in [("[", 60, "", "]"), ("[some(", 59, "[]", ")]")] {
-        let text = within(rt, front, times, middle, end)?;
-        assert!(rt;
-            is_told_at_each_cut(rt.alloc(), &ty, text.as_str()),
-            "of {front}"
-        );
+    for (times, expected) in [(1000, ""), (1001, "value nesting too deep at 999..1000")] {
+        assert_eq!(rt; thousand_lists(rt, times)?.as_str(), expected);
     }
+    assert_eq!(rt; (DEFAULT_LEVELS, MAX_LEVELS), (100, 1000));
     Ok(())
 }

@@ -5,96 +5,87 @@ use wasm_wave::{from_str, to_string};
 use wave_vectors::cuts::is_told_at_each_cut;
 use wave_vectors::reading::{is_read_alike, wrong};
 
-#[test]
-fn flags(rt: HostRuntime) -> Result<(), Fail> {
-    let found = wrong(
-        rt.alloc(),
-        &[
-            (
-                "flags { read, write, exec }",
-                "",
-                "unexpected end of input at 0..0",
-            ),
-            (
-                "flags { read, write, exec }",
-                "{:}",
-                "invalid value type at 0..3",
-            ),
-            ("flags { read, write, exec }", "{}", "{}"),
-            (
-                "flags { read, write, exec }",
-                "{write, read,}",
-                "{read, write}",
-            ),
-            (
-                "flags { read, write, exec }",
-                "{read, nope}",
-                "error converting Wasm value: unknown case \"nope\" at 0..12",
-            ),
-            (
-                "flags { read, write, exec }",
-                "{write, exec}",
-                "{write, exec}",
-            ),
-            (
-                "flags { read, write, exec }",
-                "{exec, write}",
-                "{write, exec}",
-            ),
-            (
-                "flags { read, write, exec }",
-                "{%exec, write}",
-                "{write, exec}",
-            ),
-            ("flags { hot, cold }", "{cold, hot}", "{hot, cold}"),
-            (
-                "flags { true, false, inf, nan, some, none, ok, err }",
-                "{true, false, inf, nan, some, none, ok, err}",
-                "{true, false, inf, nan, some, none, ok, err}",
-            ),
-            ("flags { a, a }", "{a}", "{a, a}"),
-            ("flags { a, a }", "{a, a}", "duplicate flag: \"a\" at 4..5"),
-        ],
-    )?;
-    assert_eq!(rt; found.as_str(), "");
-    Ok(())
-}
+/// A type, a text and its answer.
+const ROWS: [(&str, &str, &str); 20] = [
+    // Flags.
+    (
+        "flags { read, write, exec }",
+        "",
+        "unexpected end of input at 0..0",
+    ),
+    (
+        "flags { read, write, exec }",
+        "{:}",
+        "invalid value type at 0..3",
+    ),
+    ("flags { read, write, exec }", "{}", "{}"),
+    (
+        "flags { read, write, exec }",
+        "{write, read,}",
+        "{read, write}",
+    ),
+    (
+        "flags { read, write, exec }",
+        "{read, nope}",
+        "error converting Wasm value: unknown case \"nope\" at 0..12",
+    ),
+    (
+        "flags { read, write, exec }",
+        "{write, exec}",
+        "{write, exec}",
+    ),
+    (
+        "flags { read, write, exec }",
+        "{exec, write}",
+        "{write, exec}",
+    ),
+    (
+        "flags { read, write, exec }",
+        "{%exec, write}",
+        "{write, exec}",
+    ),
+    ("flags { hot, cold }", "{cold, hot}", "{hot, cold}"),
+    (
+        "flags { true, false, inf, nan, some, none, ok, err }",
+        "{true, false, inf, nan, some, none, ok, err}",
+        "{true, false, inf, nan, some, none, ok, err}",
+    ),
+    ("flags { a, a }", "{a}", "{a, a}"),
+    ("flags { a, a }", "{a, a}", "duplicate flag: \"a\" at 4..5"),
+    // Enums.
+    (
+        "enum { ok, not-found }",
+        "",
+        "unexpected end of input at 0..0",
+    ),
+    ("enum { ok, not-found }", "%ok", "%ok"),
+    ("enum { ok, not-found }", "ok", "invalid value type at 0..2"),
+    ("enum { some }", "%some", "%some"),
+    (
+        "enum { true, inf, none, ok }",
+        "true",
+        "invalid value type at 0..4",
+    ),
+    (
+        "enum { true, inf, none, ok }",
+        "inf",
+        "invalid value type at 0..3",
+    ),
+    (
+        "enum { true, inf, none, ok }",
+        "none",
+        "invalid value type at 0..4",
+    ),
+    (
+        "enum { true, inf, none, ok }",
+        "ok",
+        "invalid value type at 0..2",
+    ),
+];
 
 #[test]
-fn enums(rt: HostRuntime) -> Result<(), Fail> {
-    let found = wrong(
-        rt.alloc(),
-        &[
-            (
-                "enum { ok, not-found }",
-                "",
-                "unexpected end of input at 0..0",
-            ),
-            ("enum { ok, not-found }", "%ok", "%ok"),
-            ("enum { ok, not-found }", "ok", "invalid value type at 0..2"),
-            ("enum { some }", "%some", "%some"),
-            (
-                "enum { true, inf, none, ok }",
-                "true",
-                "invalid value type at 0..4",
-            ),
-            (
-                "enum { true, inf, none, ok }",
-                "inf",
-                "invalid value type at 0..3",
-            ),
-            (
-                "enum { true, inf, none, ok }",
-                "none",
-                "invalid value type at 0..4",
-            ),
-            (
-                "enum { true, inf, none, ok }",
-                "ok",
-                "invalid value type at 0..2",
-            ),
-        ],
-    )?;
+fn names(rt: HostRuntime) -> Result<(), Fail> {
+    let found = wrong(rt.alloc(), &ROWS)?;
     assert_eq!(rt; found.as_str(), "");
     Ok(())
 }
