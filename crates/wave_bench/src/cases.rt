@@ -39,14 +39,7 @@ const ALIKE: [(&str, &str, &str, &str, &str, &str); 7] = [
         ", ",
         "\"",
     ),
-    (
-        "escapes",
-        "string",
-        "\"",
-        "\\n\\t\\\"\\u{1f44b}",
-        "",
-        "\"",
-    ),
+    ("escapes", "string", "\"", "\\n\\t\\\"\\u{1f44b}", "", "\""),
     (
         "scripts",
         "string",

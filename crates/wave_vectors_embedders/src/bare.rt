@@ -64,9 +64,11 @@ fn is_text(answer: Result<String, WriterError>, text: &str) -> bool {
 /// Whether the writer, `to_string` and the display give this text.
 fn has_text(rt: HostRuntime, val: &Bare, text: &str) -> Result<bool, Fail> {
     let shown = format!(in rt.alloc(); "{}", DisplayValue::new(rt.alloc(), val))?;
-    Ok(shown.as_str() == text
-        && is_text(written(rt, val), text)
-        && is_text(to_string(rt.alloc(), val), text))
+    Ok(
+        shown.as_str() == text
+            && is_text(written(rt, val), text)
+            && is_text(to_string(rt.alloc(), val), text),
+    )
 }
 
 /// What the answer is: the text of the value, or the refusal's words and place.

@@ -122,7 +122,16 @@ fn fronts(rt: HostRuntime) -> Result<(), Fail> {
             ("{a:", 101, "0", "}", "record{a:", 101, "u8", "}"),
             ("{1:", 101, "0", "}", "map<u8,", 101, "u8", ">"),
             ("[", 60, "", "]", "list<option<", 59, "list<u8>", ">>"),
-            ("[some(", 59, "[]", ")]", "list<option<", 59, "list<u8>", ">>"),
+            (
+                "[some(",
+                59,
+                "[]",
+                ")]",
+                "list<option<",
+                59,
+                "list<u8>",
+                ">>",
+            ),
         ],
     )?;
     assert_eq!(rt; found.as_str(), "");
