@@ -6,7 +6,6 @@ ghost use Rattle.wave_grammar.specs.UnambiguityLaws.{OneReading};
 ghost use Rattle.wave_grammar.specs.RoundTripLaws.{ReadsBack, EqualTexts, ReadsMerged, ReadsBackWithinTwice};
 ghost use Rattle.wasm_wave.specs.MainTheorem.{OneValue};
 
-pub use wave_func::laws::equal_functions;
 pub use wave_lex::laws::{
     faults_refuse, labels_are_words, lines_join, no_longer_label, one_cut, one_line_joins,
     one_meaning, parts_join, through_first_quotes, tokens_cut,
@@ -20,7 +19,10 @@ pub use wave_tree::laws::{
     shown_call_keeps_meaning, shown_keeps_meaning, trees_are_led, unexpected_tokens_begin_none,
     untyped_reading_agrees, whole_texts_are_read,
 };
-pub use wave_type::laws::{equal_types, type_text_injective, types_convert_to_themselves};
+pub use wave_type::laws::{
+    equal_functions, equal_types, one_type_of_text, type_text_injective,
+    types_convert_to_themselves,
+};
 pub use wave_value::laws::equal_values;
 pub use wave_wasm::laws::{key_text_injective, merging_keeps_last_values};
 

@@ -20,6 +20,7 @@ use wave_lex::error::ParserError;
 pub mod laws;
 pub mod value;
 
+pub use wave_explain::explain;
 pub use wave_grammar::number::WholeNumber;
 pub use wave_lex::asked::Asked;
 pub use wave_lex::{lex, strings};

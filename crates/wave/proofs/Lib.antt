@@ -1,3 +1,4 @@
 pub mod Moved
 pub mod Named
 pub mod Untyped
+pub mod Told

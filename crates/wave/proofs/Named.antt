@@ -24,7 +24,7 @@ use Rattle.wave.specs.declared.answer.Unanswered.{Unanswered}
 use Rattle.wave.specs.declared.answer.Unanswered.TheVariants as why
 use Rattle.wave.specs.Requests.{type_of}
 use Rattle.wave.specs.Answers.{Answers, IsRefused}
-use Rattle.wave.specs.Private.Answers.{IsUnanswered, MatchesRefusal}
+use Rattle.wave.specs.Private.Answers.{IsUnanswered}
 
 -- two names that the test tells apart
 apart : (m n : List ℕ) → bytes_eq m n ≡ false → m ≢ n
@@ -63,15 +63,15 @@ answered name n s v answer read same = (v.tree, (read.meant (full name)).0, same
 pub wants_memory : (name : TypeName) (n : ℕ) (s : List ℕ) (v : TypedValue) (e : WriterError) → IsReadAt name n s v → IsForMemory v.tree e → IsWantOfMemory e
 wants_memory name n s v e read memory = memory (type_of name) (read.meant (full name)).1.fits
 
--- what the program makes of an error that tells why there is no answer, unless it is want of memory
-unanswered : (request : Request) (s : List ℕ) (e : Diagnostic) (u : Unanswered) → (e.kind ≢ kind.OutOfMemory → IsRefused request s e) → MatchesRefusal e u → IsUnanswered request s u
-unanswered request s e (why.Refused refusal) told same = subst (IsRefused request s) (sym same.0) (told same.1)
-unanswered request s e why.OutOfMemory told same = tt
+-- a refusal that is handed on says what it said
+pub handed_on : {X : Type 0} (Answer : X → Type 0) (request : Request) (s : List ℕ) (r : Result X Unanswered) (e : Diagnostic) → IsErrAnd r (λ unanswered. unanswered ≡ why.Refused e) → (e.kind ≢ kind.OutOfMemory → IsRefused request s e) → MatchResult r Answer (IsUnanswered request s)
+handed_on Answer request s (Ok x) e same told = absurd same
+handed_on Answer request s (Err u) e same told = subst (IsUnanswered request s) (sym same) told
 
--- so is an error that is handed on
-pub handed_on : {X : Type 0} (Answer : X → Type 0) (request : Request) (s : List ℕ) (r : Result X Unanswered) (e : Diagnostic) → IsErrAnd r (MatchesRefusal e) → (e.kind ≢ kind.OutOfMemory → IsRefused request s e) → MatchResult r Answer (IsUnanswered request s)
-handed_on Answer request s (Ok x) e same why = absurd same
-handed_on Answer request s (Err u) e same why = unanswered request s e u why same
+-- memory was wanting for an answer
+pub unshown : {X : Type 0} (Answer : X → Type 0) (request : Request) (s : List ℕ) (r : Result X Unanswered) (answer : List ℕ) → IsErrAnd r (λ unanswered. unanswered ≡ why.OutOfMemory) → Answers request s answer → MatchResult r Answer (IsUnanswered request s)
+unshown Answer request s (Ok x) answer same answers = absurd same
+unshown Answer request s (Err u) answer same answers = subst (IsUnanswered request s) (sym same) (answer, answers)
 
 -- the refusal tells a fault of the text, which has no answer; or it is want of memory
 pub told : (name : TypeName) (n : ℕ) (s : List ℕ) (e : Diagnostic) → (HasDistinctNames (type_of name) → BlamesText IsFull (type_of name) n s e) → e.kind ≢ kind.OutOfMemory → IsRefused (Read name n) s e

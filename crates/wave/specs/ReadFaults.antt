@@ -17,8 +17,8 @@ module _ {R : Type 0} where
       ⊎ (new.reads_left ≡ 0) × (new.has_ended ≡ false) × (new.failures ≡ old.failures)
       ⊎ (old.has_ended ≡ true) × (new ≡ old)
 
-  -- the input was not read to its end; or memory was wanting, and no read failed
+  -- the input was not read to its end; or memory was wanting before the reader told its end, and no read failed
   abbrev pub IsReadFault : Input R → Input R → Fault → Type 0
   IsReadFault old new NotUtf8 = ⊥
   IsReadFault old new InputFailed = IsUnread old new
-  IsReadFault old new OutOfMemory = new.failures ≡ old.failures
+  IsReadFault old new OutOfMemory = (new.failures ≡ old.failures) × (new.has_ended ≡ false)

@@ -1,12 +1,13 @@
 // What a request answers on a text.
-ghost use Rattle.std.specs.Prelude.{◌≡◌, MatchResult, string_bytes};
+ghost use Rattle.std.specs.Prelude.{◌≡◌, IfOk, IfErr, MatchResult, string_bytes};
+ghost use Rattle.wave_lex.specs.declared.error.ParserErrorKind.TheVariants as kind;
 ghost use Rattle.wave_wasm.specs.WriterState.{IsWantOfMemory};
 ghost use Rattle.wave.specs.declared.answer.Unanswered.TheVariants as why;
 ghost use Rattle.wave.specs.declared.request.Request.TheVariants as request;
 ghost use Rattle.wave_tree.specs.ParserState.{IsLimit};
-ghost use Rattle.wave.specs.Requests.{HasLimit};
+ghost use Rattle.wave.specs.Requests.{HasLimit, type_of as named_type};
 ghost use Rattle.wave.specs.Answers.{Answers};
-ghost use Rattle.wave.specs.Private.Answers.{IsUnanswered, MatchesRefusal};
+ghost use Rattle.wave.specs.Private.Answers.{IsUnanswered};
 
 use crate::request::{Request, TypeName};
 use crate::types::type_of;
@@ -14,13 +15,15 @@ use std::alloc::{AllocError, Global};
 use wasm_wave::parser::{Parser, ParserError, ParserErrorKind};
 use wasm_wave::to_string;
 use wasm_wave::untyped::UntypedFuncCall;
-use wasm_wave::value::Value;
+use wasm_wave::value::{Type, Value};
 use wasm_wave::writer::WriterError;
 
-/// Why a request has no answer on a text: the text is refused, or memory ran out.
+/// Why a request isn't answered on a text.
 #[derive(Drop)]
 pub enum Unanswered {
+    /// The text is refused, as it is told here; or memory was wanting to read it, which is told here too.
     Refused(ParserError),
+    /// Memory was wanting to show the answer that the request has.
     OutOfMemory,
 }
 
@@ -33,14 +36,10 @@ impl From<AllocError> for Unanswered {
 }
 
 impl From<ParserError> for Unanswered {
-    ghost from_gives = { MatchesRefusal };
+    ghost from_gives = { λ refusal unanswered. unanswered ≡ why.Refused refusal };
 
     fn from(error: ParserError) -> Unanswered {
-        if error.kind() == ParserErrorKind::OutOfMemory {
-            Unanswered::OutOfMemory
-        } else {
-            Unanswered::Refused(error)
-        }
+        Unanswered::Refused(error)
     }
 }
 
@@ -88,13 +87,24 @@ fn read(alloc: Global, name: TypeName, levels: u32, text: &str) -> Result<String
         (λ answer. Answers (request.Read name levels) text.now (string_bytes answer))
         (IsUnanswered (request.Read name levels) text.now) }
 {
-    let ty = type_of(alloc, name)?;
+    let ty = type_named(alloc, name)?;
     let mut parser = Parser::new(text).with_limit(levels);
     let value = parser.parse_value::<Value>(alloc, &ty)?;
     parser.finish()?;
     match to_string(alloc, &value) {
         Ok(answer) => Ok(answer),
         Err(error) => Err(for_memory(error)),
+    }
+}
+
+/// The type of this name; want of memory for it is told at the front of the text.
+fn type_named(alloc: Global, name: TypeName) -> Result<Type, ParserError>
+    ensures named { IfOk result (λ ty. ty ≡ named_type name) }
+    ensures memory { IfErr result (λ e. e.kind ≡ kind.OutOfMemory) }
+{
+    match type_of(alloc, name) {
+        Ok(ty) => Ok(ty),
+        Err(_) => Err(ParserError::new(ParserErrorKind::OutOfMemory, 0..0)),
     }
 }
 

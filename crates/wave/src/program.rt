@@ -1,10 +1,12 @@
 // The program between a reader and a writer.
-ghost use Rattle.std.specs.Prelude.{ℕ, List, ◌≡◌, ◌≤◌, true, false, map, IfOk, IfErr, IfSome, string_bytes};
+ghost use Rattle.std.specs.Prelude.{ℕ, List, ◌≡◌, ◌≢◌, ◌≤◌, true, false, map, IfOk, IfErr, OnOk, IfSome, string_bytes};
+ghost use Rattle.wave_lex.specs.Errors.{error_text};
+ghost use Rattle.wave_lex.specs.declared.error.ParserErrorKind.TheVariants as kind;
 ghost use Rattle.wave.specs.ReadFaults.{IsReadToEnd, IsReadFault};
 ghost use Rattle.wave.specs.Written.{WritesWhole, WritesLess, Prints};
 ghost use Rattle.wave.specs.Requests.{AreUnknown, HasLimit};
-ghost use Rattle.wave.specs.Answers.{IsFaultOf, line, words_of_fault};
-ghost use Rattle.wave.specs.Private.Answers.{IsOutcome};
+ghost use Rattle.wave.specs.Answers.{line, words_of_fault};
+ghost use Rattle.wave.specs.Private.Answers.{IsOutcome, IsNoOutcome, TellsRefusal};
 ghost use Rattle.wave.specs.Statuses.{IsDue};
 
 use crate::answer::{Unanswered, answer};
@@ -13,6 +15,7 @@ use crate::output::Output;
 use crate::request::{Request, request_of};
 use std::alloc::{AllocError, Global};
 use std::io::{Read, Write};
+use wasm_wave::parser::{ParserError, ParserErrorKind};
 
 const CHUNK: usize = 65_536;
 
@@ -42,9 +45,30 @@ pub fn run<R: Read, W: Write>(
     };
     match respond(alloc, request, input) {
         Ok(Outcome::Answered(line)) => print(output, line.as_str(), 0),
-        Ok(Outcome::Refused(line)) => print(output, line.as_str(), 1),
+        Ok(Outcome::Refused(refusal)) => tell(alloc, output, &refusal),
         Err(fault) => report(output, fault),
     }
+}
+
+/// Says why there is no answer: the refusal's text at status 1, want of memory at status 3.
+fn tell<W: Write>(alloc: Global, output: &mut Output<W>, refusal: &ParserError) -> u8
+    ensures { TellsRefusal W.contents output.old output.new refusal.now result }
+{
+    match refusal_line(alloc, refusal) {
+        Ok(line) => print(output, line.as_str(), 1),
+        Err(_) => report(output, Fault::OutOfMemory),
+    }
+}
+
+/// The text of the refusal and a line feed; want of memory for that, or that the refusal tells.
+fn refusal_line(alloc: Global, refusal: &ParserError) -> Result<String, AllocError>
+    ensures line { IfOk result (λ whole. string_bytes whole ≡ line (error_text refusal.now)) }
+    ensures told { OnOk result (refusal.now.kind ≢ kind.OutOfMemory) }
+{
+    if refusal.kind() == ParserErrorKind::OutOfMemory {
+        return Err(AllocError);
+    }
+    line_of(refusal.to_string(alloc)?)
 }
 
 /// Says why there is no answer and no refusal.
@@ -92,11 +116,13 @@ fn write_whole<W: Write>(output: &mut Output<W>, bytes: &[u8]) -> bool
     true
 }
 
-/// What is printed for a request, with its line feed.
+/// What a request comes to on the whole input.
 #[derive(Drop)]
 enum Outcome {
+    /// Its answer, with a line feed.
     Answered(String),
-    Refused(String),
+    /// A refusal of the text, or want of memory while it was read.
+    Refused(ParserError),
 }
 
 /// The outcome of the request on all of the input.
@@ -104,7 +130,7 @@ fn respond<R: Read>(alloc: Global, request: Request, input: &mut Input<R>) -> Re
     requires { HasLimit request }
     ensures outcome { IfOk result (λ outcome.
         IsOutcome request (R.remaining input.old.reader) outcome × IsReadToEnd input.old input.new) }
-    ensures fault { IfErr result (IsFaultOf (R.remaining input.old.reader) input.old input.new) }
+    ensures fault { IfErr result (IsNoOutcome request (R.remaining input.old.reader) input.old input.new) }
     ensures counted { input.new.reads_left ≤ input.old.reads_left }
 {
     let bytes = read_whole(alloc, input)?;
@@ -113,9 +139,7 @@ fn respond<R: Read>(alloc: Global, request: Request, input: &mut Input<R>) -> Re
     };
     match answer(alloc, request, text) {
         Ok(answer) => Ok(Outcome::Answered(line_of(answer)?)),
-        Err(Unanswered::Refused(refusal)) => {
-            Ok(Outcome::Refused(line_of(refusal.to_string(alloc)?)?))
-        }
+        Err(Unanswered::Refused(refusal)) => Ok(Outcome::Refused(refusal)),
         Err(Unanswered::OutOfMemory) => Err(Fault::OutOfMemory),
     }
 }

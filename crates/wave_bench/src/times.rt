@@ -6,7 +6,7 @@ use wasm_wave::parser::ParserError;
 use wasm_wave::untyped::{UntypedFuncCall, UntypedValue};
 use wasm_wave::value::{Type, Value};
 use wasm_wave::{from_str, to_string};
-use wave_vectors_types::reader::{type_of, types_of};
+use wave_test_types::reader::{type_of, types_of};
 
 /// Reads, writes and parses the text as often as is said, and prints the nanoseconds of each.
 pub(crate) fn time(

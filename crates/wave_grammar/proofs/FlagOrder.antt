@@ -10,7 +10,7 @@ use Rattle.std.proofs.lemmas.Map.Text.{is_eq-slice_cmp}
 use Rattle.std.proofs.lemmas.Bool.Decides.{nat_tests}
 use Rattle.wave_wasm.specs.Names.{IsNoneOf}
 use Rattle.wave_grammar.specs.Tree.{is_before}
-use Rattle.wave_grammar.specs.Private.FlagOrder.{Flag, flag_name, put_flag, flags_in_order}
+use Rattle.wave_grammar.specs.Shared.FlagOrder.{Flag, flag_name, put_flag, flags_in_order}
 
 -- ---- the order of names
 

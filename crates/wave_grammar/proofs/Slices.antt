@@ -1,14 +1,15 @@
 -- What a slice of a source cuts into: the tokens that stand there.
 use Rattle.std.proofs.Common.{◌≡◌, ℕ, ◌≤◌, ◌+◌, ◌-◌, inl, inr, true, false, List, [], ◌∷◌, ◌++◌, refl, sym, ap, subst, ◌∙◌, length, take, drop, arith, Some, None, Ok, append_assoc, map}
+use Rattle.wave_wasm.specs.Lists.{AllOf}
 use Rattle.std.specs.Prelude.{◌⊎◌, encode_utf8, encode_utf8_all, slice_range}
 use Rattle.std.proofs.lemmas.List.{take-append-drop, take-take, drop-drop, drop-take, length-take, length-take-le}
 use Rattle.wave_lex.specs.declared.lex.Token as lex
 use Rattle.wave_lex.specs.declared.lex.Token.TheVariants.{BraceOpen, BraceClose, ParenOpen, ParenClose, BracketOpen, BracketClose, Colon, Comma, Number, LabelOrKeyword, Char, String, MultilineString}
 use Rattle.wave_lex.specs.LongestMatch.{IsFront}
-use Rattle.wave_lex.specs.Regex.{Regex, either, both, empty, Matches, joined, Each}
+use Rattle.wave_lex.specs.Regex.{Regex, either, both, empty, Matches, joined}
 use Rattle.wave_lex.specs.Tokens.{shape, gap, blank, comment_text, one}
 use Rattle.wave_lex.specs.Tokenization.{three_quotes, MayStandAt, IsToken, IsLongestToken, IsGap, Lexeme, Front, remainder_of}
-use Rattle.wave_lex.specs.Private.Reading.{class_of}
+use Rattle.wave_lex.specs.Shared.Reading.{class_of}
 use Rattle.wave_lex.proofs.Derive.{empty_from, empty_into}
 use Rattle.wave_lex.proofs.Shapes.{one_is}
 use Rattle.wave_lex.proofs.Classes.{no_string, token_shows}
@@ -105,7 +106,7 @@ part_begins x cs (inr ([], b, e, h, k)) = absurd (no_comment h)
     no_comment h = let wrong : false ≡ true = empty_into comment_text h in cc
 part_begins x cs (inr (y ∷ ys, b, e, h, k)) = let f : x ≡ y = cc in subst BeginsGap (sym f) (comment_begins y ys h)
 
-parts_begin : (x : ℕ) (cs : List ℕ) (parts : List (List ℕ)) (more : List ℕ) → Each (Matches part) parts → Matches (either empty comment_text) more → x ∷ cs ≡ joined parts ++ more → BeginsGap x
+parts_begin : (x : ℕ) (cs : List ℕ) (parts : List (List ℕ)) (more : List ℕ) → AllOf (Matches part) parts → Matches (either empty comment_text) more → x ∷ cs ≡ joined parts ++ more → BeginsGap x
 parts_begin x cs [] more h (inl k) e = absurd (let wrong : x ∷ cs ≡ [] = e ∙ k in cc)
 parts_begin x cs [] more h (inr k) e = comment_begins x cs (subst (Matches comment_text) (sym e) k)
 parts_begin x cs ([] ∷ parts) more (h, hs) k e = absurd (let wrong : false ≡ true = empty_into part h in cc)

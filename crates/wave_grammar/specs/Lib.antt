@@ -1,5 +1,6 @@
 pub mod Token
 pub mod NumberText
+pub mod Shared
 pub mod Private
 pub mod LeafTokens
 pub mod CommaSeparated

@@ -1,5 +1,2 @@
 pub mod NumberText
-pub mod TokenRoles
-pub mod SyntaxErrors
-pub mod FlagOrder
 pub mod StringAssembly

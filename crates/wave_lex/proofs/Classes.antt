@@ -8,10 +8,10 @@ use Rattle.std.proofs.lemmas.Str.{encode_same}
 use Rattle.wave_lex.specs.declared.lex.Token.{Token}
 use Rattle.wave_lex.specs.declared.lex.Token.TheVariants.{BraceOpen, BraceClose, ParenOpen, ParenClose, BracketOpen, BracketClose, Colon, Comma, Number, LabelOrKeyword, Char, String, MultilineString}
 use Rattle.wave_lex.specs.Regex.{Regex, nothing, Matches}
-use Rattle.wave_lex.specs.Derive.{may_be_empty, after}
+use Rattle.wave_lex.specs.Shared.Derive.{may_be_empty, after}
 use Rattle.wave_lex.specs.Tokens.{shape, word, string}
 use Rattle.wave_lex.specs.Tokenization.{three_quotes, MayStandAt, IsToken}
-use Rattle.wave_lex.specs.Private.Reading.{class_of, ClassAt}
+use Rattle.wave_lex.specs.Shared.Reading.{class_of, ClassAt}
 use Rattle.wave_lex.proofs.Derive.{after_into, empty_into}
 use Rattle.wave_lex.proofs.Shapes.{same, same_true, each_below, each_below_at, is_ascii_shape, after_past, one_is}
 

@@ -7,7 +7,7 @@ use Rattle.wave_lex.specs.declared.lex.Token.TheVariants.{LabelOrKeyword, Multil
 use Rattle.wave_lex.specs.Regex.{Matches}
 use Rattle.wave_lex.specs.Tokens.{shape}
 use Rattle.wave_lex.specs.Tokenization.{three_quotes, IsToken, NoToken, IsLongestToken, IsGap, Lexeme, Front, OneCut, NoLongerLabel}
-use Rattle.wave_lex.specs.Private.Reading.{ClassAt, class_of}
+use Rattle.wave_lex.specs.Shared.Reading.{ClassAt, class_of}
 use Rattle.wave_lex.proofs.Derive.{empty_into}
 use Rattle.wave_lex.proofs.Shapes.{same_list, same_list_true}
 use Rattle.wave_lex.proofs.Classes.{class_here, class_quoted, shape_not_empty}

@@ -1,8 +1,9 @@
 -- The derivative means what it says, and a shape's texts are those that it accepts.
 use Rattle.std.proofs.Common.{◌≡◌, ℕ, Bool, true, false, cond, List, [], ◌∷◌, ◌++◌, ◌⊎◌, inl, inr, refl, sym, ap, subst, ◌∙◌}
+use Rattle.wave_wasm.specs.Lists.{AllOf}
 use Rattle.std.specs.Prelude.{◌&&◌, ◌||◌}
-use Rattle.wave_lex.specs.Regex.{Regex, nothing, empty, within, other, both, either, many, is_one_of, is_within, Matches, Each, joined}
-use Rattle.wave_lex.specs.Derive.{may_be_empty, join, choice, choice_right, after, after_all}
+use Rattle.wave_lex.specs.Regex.{Regex, nothing, empty, within, other, both, either, many, is_one_of, is_within, Matches, joined}
+use Rattle.wave_lex.specs.Shared.Derive.{may_be_empty, join, choice, choice_right, after, after_all}
 
 -- both are true where both at once are
 and_true : (a b : Bool) → (a && b) ≡ true → (a ≡ true) × (b ≡ true)
@@ -171,7 +172,7 @@ both_into c p q s (d ∷ x) y ip iq e hp hq =
 -- what follows the first scalar of many texts
 many_into : (c : ℕ) (p : Regex) (s : List ℕ) (parts : List (List ℕ))
     → ((t : List ℕ) → Matches p (c ∷ t) → Matches (after c p) t)
-    → c ∷ s ≡ joined parts → Each (Matches p) parts → Matches (after c (many p)) s
+    → c ∷ s ≡ joined parts → AllOf (Matches p) parts → Matches (after c (many p)) s
 many_into c p s [] ip e h = cc
 many_into c p s ([] ∷ parts) ip e h = many_into c p s parts ip e h.1
 many_into c p s ((d ∷ x) ∷ parts) ip e h =

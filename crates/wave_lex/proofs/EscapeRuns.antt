@@ -8,11 +8,11 @@ use Rattle.std.proofs.lemmas.Bool.Decides.{nat_tests}
 use Rattle.std.proofs.lemmas.Str.{IsUtf8-take, encodes-chars, encodes-append}
 use Rattle.std.proofs.Math.Seq.{take-append_seam}
 use Rattle.wave_lex.specs.Regex.{Regex}
-use Rattle.wave_lex.specs.Derive.{after, after_all, after_next}
+use Rattle.wave_lex.specs.Shared.Derive.{after, after_all, after_next}
 use Rattle.wave_lex.specs.Strings.{short_escape, IsEscape}
 use Rattle.wave_lex.specs.Tokens.{string}
-use Rattle.wave_lex.specs.Private.Reading.{LeadsTo, IsPlainRun}
-use Rattle.wave_lex.specs.Machines.{is_hexadecimal, is_plain, escape_step, ends_short, in_string, string_rest}
+use Rattle.wave_lex.specs.Shared.Reading.{LeadsTo, IsPlainRun}
+use Rattle.wave_lex.specs.Shared.Machines.{is_hexadecimal, is_plain, escape_step, ends_short, in_string, string_rest}
 use Rattle.wave_lex.specs.declared.machine.escape.EscapeState.{EscapeState}
 use Rattle.wave_lex.specs.declared.machine.escape.EscapeState.TheVariants as escape
 use Rattle.wave_lex.specs.declared.machine.escape.EscapeStep.{EscapeStep}

@@ -9,9 +9,9 @@ use Rattle.std.proofs.Math.Seq.{take-append-add}
 use Rattle.std.proofs.lemmas.Str.{encodes-append, encode_ascii, IsCharBoundary-start, IsCharBoundary-end, IsCharBoundary-after_ascii, IsCharBoundary-before_ascii}
 use Rattle.wave_lex.specs.Tokens.{any}
 use Rattle.wave_lex.specs.Regex.{many, Regex, nothing, Matches}
-use Rattle.wave_lex.specs.Derive.{may_be_empty, after, after_all}
+use Rattle.wave_lex.specs.Shared.Derive.{may_be_empty, after, after_all}
 use Rattle.wave_lex.specs.LongestMatch.{Greatest, IsFront}
-use Rattle.wave_lex.specs.Private.Reading.{LeadsTo}
+use Rattle.wave_lex.specs.Shared.Reading.{LeadsTo}
 use Rattle.wave_lex.proofs.Derive.{matches_from, matches_into, empty_from}
 use Rattle.wave_lex.proofs.Scanning.{front_boundary, after_all_append, after_all_nothing, begins}
 use Rattle.wave_lex.proofs.LongestMatch.{is_ascii, ascii_spelled}

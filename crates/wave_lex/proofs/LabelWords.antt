@@ -12,7 +12,7 @@ use Rattle.std.proofs.lemmas.Str.{IsAscii-append}
 use Rattle.std.proofs.lemmas.Str.Ascii.{encodes-IsAscii, IsAscii-nil, IsAscii-cons}
 use Rattle.wave_wasm.specs.Lists.{AllOf}
 use Rattle.wave_lex.specs.declared.lex.Token.TheVariants.{LabelOrKeyword}
-use Rattle.wave_lex.specs.Regex.{Regex, nothing, empty, within, other, both, either, many, Matches, Each, joined, is_within}
+use Rattle.wave_lex.specs.Regex.{Regex, nothing, empty, within, other, both, either, many, Matches, joined, is_within}
 use Rattle.wave_lex.specs.Tokens.{some, digit, label_or_keyword, first_word, next_word}
 use Rattle.wave_lex.specs.Labels.{IsLabel}
 use Rattle.wave_lex.specs.Tokenization.{IsToken}
@@ -43,7 +43,7 @@ one_from : (lo hi c : ℕ) → IsOfCase lo hi c → Matches (of_case lo hi) (c �
 one_from lo hi c t = elim (or_cases (is_in_range lo hi c) (is_in_range 48 57 c) t) [ inl a ↦ inl (c, refl, a) | inr b ↦ inr (c, refl, b) ]
 
 -- parts of the shape join to them alone
-all_joined : (lo hi : ℕ) (parts : List (List ℕ)) → Each (Matches (of_case lo hi)) parts → AllOf (IsOfCase lo hi) (joined parts)
+all_joined : (lo hi : ℕ) (parts : List (List ℕ)) → AllOf (Matches (of_case lo hi)) parts → AllOf (IsOfCase lo hi) (joined parts)
 all_joined lo hi [] h = tt
 all_joined lo hi (p ∷ ps) h =
     let one = one_into lo hi p h.0 in
@@ -144,7 +144,7 @@ hyphen_into s (x, y, e, (c, f, t), m) =
     (y, e ∙ (ap (λ (z : List ℕ). z ++ y) f ∙ ap (λ (z : ℕ). z ∷ y) is), next_into y m)
 
 -- the parts behind the first word are words behind hyphens
-parts_into : (parts : List (List ℕ)) → Each (Matches hyphen_word) parts → (more : List (List ℕ)) × (joined parts ≡ behind_hyphens more) × AllOf IsWord more
+parts_into : (parts : List (List ℕ)) → AllOf (Matches hyphen_word) parts → (more : List (List ℕ)) × (joined parts ≡ behind_hyphens more) × AllOf IsWord more
 parts_into [] h = ([], refl, tt)
 parts_into (p ∷ ps) h =
     let one = hyphen_into p h.0 in
@@ -203,7 +203,7 @@ only_ascii (either p q) = only_ascii p && only_ascii q
 only_ascii (many p) = only_ascii p
 
 -- texts of ASCII join to one
-ascii_joined : (P : List ℕ → Type 0) → ((x : List ℕ) → P x → IsAscii x) → (parts : List (List ℕ)) → Each P parts → IsAscii (joined parts)
+ascii_joined : (P : List ℕ → Type 0) → ((x : List ℕ) → P x → IsAscii x) → (parts : List (List ℕ)) → AllOf P parts → IsAscii (joined parts)
 ascii_joined P ascii [] h = IsAscii-nil
 ascii_joined P ascii (x ∷ xs) h = IsAscii-append x (joined xs) (ascii x h.0) (ascii_joined P ascii xs h.1)
 

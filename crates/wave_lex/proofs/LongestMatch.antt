@@ -6,7 +6,7 @@ use Rattle.std.proofs.lemmas.Str.{encode_same, encode_ascii, len_utf8_bounds, le
 use Rattle.wave_lex.specs.declared.lex.Token.{Token}
 use Rattle.wave_lex.specs.declared.lex.Token.TheVariants.{BraceOpen, BraceClose, ParenOpen, ParenClose, BracketOpen, BracketClose, Colon, Comma, Number, LabelOrKeyword, Char, String, MultilineString}
 use Rattle.wave_lex.specs.Regex.{Regex, Matches}
-use Rattle.wave_lex.specs.Derive.{may_be_empty, after_all}
+use Rattle.wave_lex.specs.Shared.Derive.{may_be_empty, after_all}
 use Rattle.wave_lex.specs.LongestMatch.{Greatest, IsFront}
 use Rattle.wave_lex.specs.Tokens.{shape}
 use Rattle.wave_lex.specs.Tokenization.{MayStandAt, IsLongestToken, NoToken}

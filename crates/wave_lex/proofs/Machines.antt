@@ -5,9 +5,9 @@ use Rattle.std.proofs.lemmas.Bool.{cases_lt}
 use Rattle.std.proofs.lemmas.Bool.Decides.{nat_tests}
 use Rattle.wave_lex.specs.Regex.{Regex}
 use Rattle.wave_lex.specs.Strings.{short_escape}
-use Rattle.wave_lex.specs.Derive.{after, after_next}
+use Rattle.wave_lex.specs.Shared.Derive.{after, after_next}
 use Rattle.wave_lex.proofs.Shapes.{same, same_true, each_below, each_below_at, is_ascii_shape, after_past}
-use Rattle.wave_lex.specs.Machines.{number_rest, number_step, label_rest, label_step, label_token_rest, in_token, label_token_step, ends_short, escape_step, in_string, in_char, gap_rest, gap_step, string_rest, string_step, character_rest, character_step, invalid_rest, invalid_step}
+use Rattle.wave_lex.specs.Shared.Machines.{number_rest, number_step, label_rest, label_step, label_token_rest, in_token, label_token_step, ends_short, escape_step, in_string, in_char, gap_rest, gap_step, string_rest, string_step, character_rest, character_step, invalid_rest, invalid_step}
 use Rattle.wave_lex.specs.declared.machine.number.NumberState.{NumberState}
 use Rattle.wave_lex.specs.declared.machine.number.NumberState.TheVariants as n
 use Rattle.wave_lex.specs.declared.machine.label.LabelState.{LabelState}

@@ -3,7 +3,7 @@ use Rattle.std.proofs.Common.{◌≡◌, ℕ, ◌≤◌, true, nat_eq, [], ◌�
 use Rattle.std.specs.Prelude.{if◌then◌else◌}
 use Rattle.std.proofs.lemmas.Bool.Decides.{nat_tests}
 use Rattle.wave_lex.specs.Regex.{Regex}
-use Rattle.wave_lex.specs.Derive.{after, after_all, after_next}
+use Rattle.wave_lex.specs.Shared.Derive.{after, after_all, after_next}
 use Rattle.wave_lex.specs.Tokens.{multiline_string}
 use Rattle.wave_lex.proofs.Shapes.{each_below, is_ascii_shape}
 use Rattle.wave_lex.proofs.Machines.{agrees, steps_agree}

@@ -1,11 +1,11 @@
 -- The machine of function names keeps to its shape: computed at each scalar up to 128.
 use Rattle.std.proofs.Common.{◌≡◌, ℕ, ◌≤◌, true, refl, ap, ◌∙◌, arith, Option}
 use Rattle.std.proofs.lemmas.Bool.Decides.{nat_tests}
-use Rattle.wave_lex.specs.Derive.{after, after_next}
+use Rattle.wave_lex.specs.Shared.Derive.{after, after_next}
 use Rattle.wave_lex.proofs.Shapes.{each_below, is_ascii_shape}
 use Rattle.wave_lex.proofs.Machines.{agrees, steps_agree, label_past}
-use Rattle.wave_lex.specs.Machines.{label_step, label_ends}
-use Rattle.wave_lex.specs.NameMachine.{name_rest, behind_label, number_step, behind_number, number_ends, label_goes, number_goes, name_step}
+use Rattle.wave_lex.specs.Shared.Machines.{label_step, label_ends}
+use Rattle.wave_lex.specs.Shared.NameMachine.{name_rest, behind_label, number_step, behind_number, number_ends, label_goes, number_goes, name_step}
 use Rattle.wave_lex.specs.declared.machine.name.NameState.{NameState}
 use Rattle.wave_lex.specs.declared.machine.name.NameState.TheVariants.{Label, Version}
 use Rattle.wave_lex.specs.declared.machine.name.Section.{Section}

@@ -1,9 +1,10 @@
 -- A multiline token ends at the first later three quotes.
 use Rattle.std.proofs.Common.{◌≡◌, ℕ, ◌≢◌, Bool, true, false, nat_eq, List, [], ◌∷◌, ◌++◌, ◌⊎◌, inl, inr, refl, sym, ap, subst, ◌∙◌, arith, append_assoc}
+use Rattle.wave_wasm.specs.Lists.{AllOf}
 use Rattle.std.specs.Prelude.{codes}
 use Rattle.std.proofs.lemmas.Bool.{eqb-true}
 use Rattle.std.proofs.lemmas.Bool.Decides.{nat_tests}
-use Rattle.wave_lex.specs.Regex.{Regex, other, both, Matches, Each, joined, is_one_of, is_within}
+use Rattle.wave_lex.specs.Regex.{Regex, other, both, Matches, joined, is_one_of, is_within}
 use Rattle.wave_lex.specs.Tokens.{one, word, up_to, multiline_string}
 use Rattle.wave_lex.specs.Tokenization.{three_quotes, HasNoThreeQuotes, ThroughFirstQuotes}
 use Rattle.wave_lex.proofs.Shapes.{one_is}
@@ -102,13 +103,13 @@ none_part p s (c, n, inr (inl e)) h = subst (λ (z : List ℕ). HasNoThreeQuotes
 none_part p s (c, n, inr (inr e)) h = subst (λ (z : List ℕ). HasNoThreeQuotes (z ++ s)) (sym e) (none_two_quotes c s n h)
 
 -- parts in front of two quotes
-none_parts : (ps : List (List ℕ)) → Each (Matches part) ps → HasNoThreeQuotes (joined ps ++ 34 ∷ 34 ∷ [])
+none_parts : (ps : List (List ℕ)) → AllOf (Matches part) ps → HasNoThreeQuotes (joined ps ++ 34 ∷ 34 ∷ [])
 none_parts [] h = none_two
 none_parts (p ∷ ps) h = subst HasNoThreeQuotes (sym (append_assoc p (joined ps) (34 ∷ 34 ∷ []))) (none_part p (joined ps ++ 34 ∷ 34 ∷ []) (part_into p h.0) (none_parts ps h.1))
 
 -- a text without three quotes, also with two behind it, is cut into parts
 abbrev Parts : List ℕ → Type 0
-Parts s = (ps : List (List ℕ)) × (s ≡ joined ps) × Each (Matches part) ps
+Parts s = (ps : List (List ℕ)) × (s ≡ joined ps) × AllOf (Matches part) ps
 
 -- what stands behind a scalar has no three quotes either
 behind : (c : ℕ) (s : List ℕ) → HasNoThreeQuotes (c ∷ s) → HasNoThreeQuotes s

@@ -10,11 +10,11 @@ use Rattle.std.specs.Str.{IsCharBoundary}
 use Rattle.std.proofs.Common.{length-append, length-drop}
 use Rattle.memchr.specs.Find.{IsFirstByte, is_byte3}
 use Rattle.wave_lex.specs.Regex.{Regex, nothing, empty, is_within}
-use Rattle.wave_lex.specs.Derive.{may_be_empty, after, after_all, after_next}
+use Rattle.wave_lex.specs.Shared.Derive.{may_be_empty, after, after_all, after_next}
 use Rattle.wave_lex.specs.LongestMatch.{Greatest, IsFront}
 use Rattle.wave_lex.specs.Tokens.{one, string, gap, number, label_or_keyword}
-use Rattle.wave_lex.specs.Private.Reading.{LeadsTo, IsPlainRun}
-use Rattle.wave_lex.specs.Machines.{is_blank, is_digit, is_lower, is_plain, ends_whole, gap_step, gap_rest, number_step, number_rest, label_step, label_token_step, label_token_rest, in_token, string_step, string_rest}
+use Rattle.wave_lex.specs.Shared.Reading.{LeadsTo, IsPlainRun}
+use Rattle.wave_lex.specs.Shared.Machines.{is_blank, is_digit, is_lower, is_plain, ends_whole, gap_step, gap_rest, number_step, number_rest, label_step, label_token_step, label_token_rest, in_token, string_step, string_rest}
 use Rattle.wave_lex.specs.declared.machine.number.NumberState.{NumberState}
 use Rattle.wave_lex.specs.declared.machine.number.NumberState.TheVariants as n
 use Rattle.wave_lex.specs.declared.machine.label.LabelState.{LabelState}

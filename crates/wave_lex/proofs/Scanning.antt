@@ -11,7 +11,7 @@ use Rattle.std.proofs.lemmas.List.{append-nil, take_more, take-take, take-append
 use Rattle.std.proofs.lemmas.Str.{encodes-append, length-encode, cons_from_encodes, encodes-chars, scalars-chars, IsCharBoundary-at_seam}
 use Rattle.std.proofs.Math.Seq.{take-append_seam, take-length}
 use Rattle.wave_lex.specs.Regex.{Regex, nothing, Matches}
-use Rattle.wave_lex.specs.Derive.{may_be_empty, after, after_all}
+use Rattle.wave_lex.specs.Shared.Derive.{may_be_empty, after, after_all}
 use Rattle.wave_lex.specs.LongestMatch.{Greatest, IsFront}
 use Rattle.wave_lex.proofs.Seen.{place_of, place_of_seen, SeenTo, Seen}
 use Rattle.wave_lex.proofs.Derive.{matches_from, matches_into, empty_from}

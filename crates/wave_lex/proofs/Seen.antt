@@ -1,7 +1,7 @@
 -- What a machine has seen of the fronts of a text, counted in scalars.
 use Rattle.std.specs.Prelude.{◌≡◌, ℕ, ◌≤◌, true, List, Option, Some, None, take, length, encode_utf8_all}
 use Rattle.wave_lex.specs.Regex.{Regex}
-use Rattle.wave_lex.specs.Derive.{may_be_empty, after_all}
+use Rattle.wave_lex.specs.Shared.Derive.{may_be_empty, after_all}
 use Rattle.wave_lex.specs.LongestMatch.{Greatest}
 
 -- how many bytes the first i scalars take

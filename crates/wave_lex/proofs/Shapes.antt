@@ -4,7 +4,7 @@ use Rattle.std.specs.Prelude.{◌&&◌}
 use Rattle.std.proofs.lemmas.Bool.{cases_lt, eqb-true, ltb-true}
 use Rattle.std.proofs.lemmas.Bool.Decides.{nat_tests}
 use Rattle.wave_lex.specs.Regex.{Regex, nothing, empty, within, other, both, either, many, is_one_of, is_within}
-use Rattle.wave_lex.specs.Derive.{after, join, choice, may_be_empty}
+use Rattle.wave_lex.specs.Shared.Derive.{after, join, choice, may_be_empty}
 
 -- a scalar from c to c is c
 pub one_is : (c d : ℕ) → is_within c c d ≡ true → d ≡ c

@@ -1,12 +1,10 @@
 pub mod Regex
-pub mod Derive
 pub mod LongestMatch
 pub mod Tokens
 pub mod Tokenization
 pub mod LexerRuns
+pub mod Shared
 pub mod Private
-pub mod Machines
-pub mod NameMachine
 pub mod Labels
 pub mod LabelWords
 pub mod FunctionName

@@ -5,7 +5,7 @@ ghost use Rattle.wave_lex.specs.Errors.{class_name, name_class_name};
 ghost use Rattle.wave_lex.specs.LongestMatch.{Greatest, IsFront};
 ghost use Rattle.wave_lex.specs.Tokens.{shape, invalid};
 ghost use Rattle.wave_lex.specs.Tokenization.{Lexed, Stands, NextIs, remainder_of, span};
-ghost use Rattle.wave_lex.specs.Private.Reading.{class_of, ClassAt, TokenAt};
+ghost use Rattle.wave_lex.specs.Shared.Reading.{class_of, ClassAt, TokenAt};
 
 use self::front::{gap_at, label_at, mark_at, multiline_at, number_at, string_at};
 pub use self::func_name::FuncNameLexer;

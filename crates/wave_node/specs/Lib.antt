@@ -1,1 +1,2 @@
+pub mod KeywordNodes
 pub mod Private

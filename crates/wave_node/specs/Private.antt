@@ -1,1 +1,1 @@
-pub mod Amiss
+pub mod NodeForms

@@ -1,13 +1,11 @@
 //! Nodes of the untyped tree.
 ghost use Rattle.std.specs.Prelude.{◌≡◌, [], length, IfOk, IsTrue, ◌↔◌};
-ghost use Rattle.wave_wasm.specs.ValueErrors.{cause_of};
 ghost use Rattle.wave_lex.specs.Tokenization.{Stands};
-ghost use Rattle.wave_lex.specs.Errors.{refusal_of, refused_by};
-ghost use Rattle.wave_forms.specs.NodeTree.{node, node_trees, type_of, place_of, children_of};
-ghost use Rattle.wave_forms.specs.Nodes.{IsParsedFrom};
-ghost use Rattle.wave_forms.specs.NodeStrings.{GivesString};
-ghost use Rattle.wave_forms.specs.NodeAccessors.{node_text, quotes_of, IsInside, RefusedAs, GivesBool, GivesNumber, GivesChar, GivesParts, GivesNodes, GivesOption, GivesResult, GivesLabel, GivesVariant, GivesEntries, node_pairs};
-ghost use Rattle.wave_forms.specs.Private.NodeAccessors.{OfType, GivesBoolKey};
+ghost use Rattle.wave_syntax.specs.NodeTree.{node, node_trees, type_of, place_of, children_of};
+ghost use Rattle.wave_syntax.specs.Nodes.{IsParsedFrom};
+ghost use Rattle.wave_syntax.specs.NodeStrings.{GivesString};
+ghost use Rattle.wave_syntax.specs.NodeAccessors.{node_text, quotes_of, IsInside, RefusedAs, GivesBool, GivesNumber, GivesChar, GivesParts, GivesNodes, GivesOption, GivesResult, GivesLabel, GivesVariant, GivesEntries, node_pairs};
+ghost use Rattle.wave_syntax.specs.Shared.NodeAccessors.{OfType};
 
 pub use crate::flags::FlagLabels;
 pub use crate::record::RecordFields;
@@ -15,14 +13,13 @@ use std::alloc::{AllocError, Global};
 pub use std::borrow::CowStr;
 use std::iter::ExactSizeIterator;
 use std::marker::Model;
-pub use wave_forms::form::NodeType;
 use wave_grammar::label::label_name;
 use wave_grammar::number::WholeNumber;
 use wave_grammar::text::{char_in, joined};
 use wave_lex::error::{ParserError, ParserErrorKind};
 use wave_lex::lex::Span;
 use wave_lex::strings::StringPartsIter;
-use wave_wasm::wasm::WasmValueError;
+pub use wave_syntax::form::NodeType;
 
 pub mod make;
 
@@ -36,9 +33,9 @@ pub struct Node {
 }
 
 impl Model for Node {
-    ghost use Rattle.wave_forms.specs.NodeTree.{NodeTree, node, node_trees};
-    ghost use Rattle.wave_forms.specs.Private.NodeTree.{depth};
-    ghost use Rattle.wave_forms.specs.Private.NodeEncoding.{node_code};
+    ghost use Rattle.wave_syntax.specs.NodeTree.{NodeTree, node, node_trees};
+    ghost use Rattle.wave_syntax.specs.Shared.NodeTree.{depth};
+    ghost use Rattle.wave_syntax.specs.Shared.NodeEncoding.{node_code};
 
     ghost Value = { NodeTree };
 
@@ -49,7 +46,7 @@ impl Model for Node {
     ghost size = { depth };
 
     ghost use Rattle.std.proofs.Common.{arith};
-    ghost use Rattle.wave_forms.specs.Private.NodeDepth.{most_le-nodes_depth};
+    ghost use Rattle.wave_syntax.specs.Shared.NodeDepth.{most_le-nodes_depth};
 
     ghost size_decreases = { λ a h. omega (arith, most_le-nodes_depth a.children.items) };
 }
@@ -229,19 +226,6 @@ impl Node {
         }
     }
 
-    /// The bool, at a key whose label is `true` or `false`; else `InvalidType`.
-    pub(crate) fn as_bool_key(&self, src: &str) -> Result<bool, ParserError>
-        requires { IsParsedFrom src.now self.now }
-        ensures { GivesBoolKey src.now self.now result }
-    {
-        self.ensure_type(NodeType::Label)?;
-        match self.slice(src) {
-            "true" => Ok(true),
-            "false" => Ok(false),
-            _ => Err(self.error(ParserErrorKind::InvalidType)),
-        }
-    }
-
     /// The nodes within the node.
     pub(crate) fn nodes(&self) -> &[Node]
         ensures { result.now ≡ children_of self.now }
@@ -292,14 +276,6 @@ impl Node {
     {
         ParserError::new(kind, self.span())
     }
-
-    /// The refusal of a value's maker at the node.
-    pub(crate) fn refused(&self, cause: WasmValueError) -> ParserError
-        ensures refusal { refusal_of result ≡ refused_by (cause_of cause) }
-        ensures span { result.span ≡ place_of self.now }
-    {
-        ParserError::with_cause(self.span(), cause)
-    }
 }
 
 /// The keys and the values of a map, in the order of the source.
@@ -311,9 +287,9 @@ pub struct MapEntries<'this> {
 impl<'this> Model for MapEntries<'this> {
     ghost use Rattle.std.specs.Prelude.{List};
     ghost use Rattle.std.specs.Coded.{codes};
-    ghost use Rattle.wave_forms.specs.NodeTree.{NodeTree};
-    ghost use Rattle.wave_forms.specs.Private.NodeEncoding.{node_code};
-    ghost use Rattle.wave_forms.specs.NodeAccessors.{node_pairs};
+    ghost use Rattle.wave_syntax.specs.NodeTree.{NodeTree};
+    ghost use Rattle.wave_syntax.specs.Shared.NodeEncoding.{node_code};
+    ghost use Rattle.wave_syntax.specs.NodeAccessors.{node_pairs};
 
     ghost Value = { List (NodeTree × NodeTree) };
 
@@ -335,7 +311,7 @@ impl<'this> Iterator for MapEntries<'this> {
     ghost use Rattle.std.specs.Prelude.{◌≡◌, Some, IfSome, length};
     ghost use Rattle.std.specs.Iterator.{YieldsFirstBy, UpTo, item_count};
     ghost use Rattle.std.specs.Iterator.SizeHint.{IsWithinCount};
-    ghost use Rattle.wave_forms.specs.NodeAccessors.{shown_nodes};
+    ghost use Rattle.wave_syntax.specs.NodeAccessors.{shown_nodes};
 
     type Item = (&'this Node, &'this Node);
 

@@ -2,6 +2,7 @@
 #![tactic(auto)]
 
 pub mod ast;
+mod builders;
 mod flags;
 pub mod nodes;
 pub mod params;

@@ -1,28 +1,30 @@
-//! The plan that makes nodes.
+//! The builder that makes nodes.
 use crate::ast::{Node, NodeType, make};
 use std::alloc::{AllocError, Global};
 use std::collections::BTreeMap;
 use wave_lex::lex::Span;
-use wave_plan::plan::Plan;
+use wave_syntax::builder::Builder;
 
-/// The plan that makes of each value its node.
+/// The builder that makes of each value its node.
 #[derive(Clone, Copy)]
 pub struct Nodes;
 
-impl Plan for Nodes {
+impl Builder for Nodes {
     type Made = Node;
 
     type Parts = Vec<Node>;
 
     ghost use Rattle.std.specs.Prelude.{◌≡◌};
 
-    ghost is_made = { λ plan source n made. made ≡ n };
+    ghost is_made = { λ builder source n made. made ≡ n };
 
-    ghost are_parts = { λ plan source ty children parts. parts.items ≡ children };
+    ghost are_parts = { λ builder source ty children parts. parts.items ≡ children };
 
-    ghost next = { λ plan parts. plan };
+    ghost next = { λ builder parts. builder };
 
-    ghost takes_memory = { Unit {0} };
+    ghost takes_memory = { λ builder. Unit {0} };
+
+    ghost next_takes = { λ builder source ty children parts are takes. takes };
 
     fn leaf(self, alloc: Global, ty: NodeType, span: Span, text: &str) -> Node {
         make::leaf(alloc, ty, span)

@@ -7,18 +7,18 @@ ghost use Rattle.wave_lex.specs.Errors.{too_many_params, too_few_params, no_para
 ghost use Rattle.wave_lex.specs.declared.error.ParserErrorKind.TheVariants.{InvalidParams, InvalidType, OutOfMemory, WasmValueError};
 ghost use Rattle.wave_grammar.specs.TypedGrammar.{IsOption};
 ghost use Rattle.wave_grammar.specs.Params.{Omitted};
-ghost use Rattle.wave_forms.specs.NodeTree.{type_of, place_of};
-ghost use Rattle.wave_forms.specs.NodeAccessors.{RefusedAs};
-ghost use Rattle.wave_forms.specs.declared.form.NodeType.TheVariants.{Tuple};
+ghost use Rattle.wave_syntax.specs.NodeTree.{type_of, place_of};
+ghost use Rattle.wave_syntax.specs.NodeAccessors.{RefusedAs};
+ghost use Rattle.wave_syntax.specs.declared.form.NodeType.TheVariants.{Tuple};
 ghost use Rattle.std.specs.Result.{IsErrAnd};
 ghost use Rattle.wave_lex.specs.Errors.{Says};
-ghost use Rattle.wave_forms.specs.ErrorSpans.{IsCausedIn, IsAtPlace, HasParamsKind};
+ghost use Rattle.wave_syntax.specs.ErrorSpans.{IsCausedIn, IsAtPlace, HasParamsKind};
 ghost use Rattle.wave_lex.specs.Errors.{LiesInText};
-ghost use Rattle.wave_forms.specs.Nodes.{IsNodeOf, IsParsedFrom};
+ghost use Rattle.wave_syntax.specs.Nodes.{IsNodeOf, IsParsedFrom};
 ghost use Rattle.wave_grammar.specs.SpannedTree.{Placed};
-ghost use Rattle.wave_forms.specs.NodeParams.{AreOmitted, RefusesNone};
-ghost use Rattle.wave_forms.specs.NodeParams.{GivesParams, RefusesParams, IsNoOption, close_of};
-ghost use Rattle.wave_forms.specs.Private.NodeParams.{RefusesOmitted};
+ghost use Rattle.wave_syntax.specs.NodeParams.{AreOmitted, RefusesNone};
+ghost use Rattle.wave_syntax.specs.NodeParams.{GivesParams, RefusesParams, IsNoOption, close_of};
+ghost use Rattle.wave_syntax.specs.Shared.NodeParams.{RefusesOmitted};
 
 use crate::ast::Node;
 use std::alloc::Global;

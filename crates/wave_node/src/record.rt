@@ -4,15 +4,15 @@ ghost use Rattle.wave_wasm.specs.Lists.{AllOf};
 ghost use Rattle.wave_lex.specs.Errors.{field_label_due, repeated_name};
 ghost use Rattle.wave_lex.specs.declared.error.ParserErrorKind.TheVariants.{InvalidType, DuplicateField, OutOfMemory};
 ghost use Rattle.wave_grammar.specs.LeafTokens.{name_of};
-ghost use Rattle.wave_forms.specs.NodeTree.{type_of, place_of, children_of};
-ghost use Rattle.wave_forms.specs.Nodes.{IsParsedFrom};
-ghost use Rattle.wave_forms.specs.NodeAccessors.{node_text, node_pairs, IsEntryOf};
-ghost use Rattle.wave_forms.specs.TypedReading.{IsValueOf};
+ghost use Rattle.wave_syntax.specs.NodeTree.{type_of, place_of, children_of};
+ghost use Rattle.wave_syntax.specs.Nodes.{IsParsedFrom};
+ghost use Rattle.wave_syntax.specs.NodeAccessors.{node_text, node_pairs, IsEntryOf};
+ghost use Rattle.wave_syntax.specs.TypedReading.{IsValueOf};
 ghost use Rattle.wave_lex.specs.Errors.{Says};
-ghost use Rattle.wave_forms.specs.ErrorSpans.{StandsIn};
-ghost use Rattle.wave_forms.specs.Private.ErrorSpans.{RefusesIn};
-ghost use Rattle.wave_forms.specs.NodeFields.{IsFieldsOf, RefusesFields, GivesRecord};
-ghost use Rattle.wave_forms.specs.Private.NodeFields.{GivesName, HoldsFields, fields_at};
+ghost use Rattle.wave_syntax.specs.ErrorSpans.{StandsIn};
+ghost use Rattle.wave_syntax.specs.Shared.ErrorSpans.{RefusesIn};
+ghost use Rattle.wave_syntax.specs.NodeFields.{IsFieldsOf, RefusesFields, GivesRecord};
+ghost use Rattle.wave_syntax.specs.Shared.NodeFields.{GivesName, HoldsFields, fields_at};
 
 use crate::ast::{MapEntries, Node, NodeType};
 use std::alloc::Global;
@@ -112,10 +112,10 @@ impl<'this, 'src> Model for RecordFields<'this, 'src> {
     ghost use Rattle.std.specs.Prelude.{List, ℕ, map};
     ghost use Rattle.std.specs.Coded.{codes};
     ghost use Rattle.wave_wasm.specs.Lists.{AllOf};
-    ghost use Rattle.wave_forms.specs.NodeTree.{NodeTree};
-    ghost use Rattle.wave_forms.specs.Private.NodeEncoding.{node_code};
-    ghost use Rattle.wave_forms.specs.NodeAccessors.{IsEntryOf};
-    ghost use Rattle.wave_forms.specs.NodeFields.{field_of};
+    ghost use Rattle.wave_syntax.specs.NodeTree.{NodeTree};
+    ghost use Rattle.wave_syntax.specs.Shared.NodeEncoding.{node_code};
+    ghost use Rattle.wave_syntax.specs.NodeAccessors.{IsEntryOf};
+    ghost use Rattle.wave_syntax.specs.NodeFields.{field_of};
 
     ghost Value = { List (List ℕ × NodeTree) };
 
@@ -143,7 +143,7 @@ impl<'this, 'src> Iterator for RecordFields<'this, 'src> {
     ghost use Rattle.std.specs.Prelude.{◌≡◌, Some, IfSome, length};
     ghost use Rattle.std.specs.Iterator.{YieldsFirstBy, UpTo, item_count};
     ghost use Rattle.std.specs.Iterator.SizeHint.{IsWithinCount};
-    ghost use Rattle.wave_forms.specs.NodeFields.{shown_field};
+    ghost use Rattle.wave_syntax.specs.NodeFields.{shown_field};
 
     type Item = (&'src str, &'this Node);
 

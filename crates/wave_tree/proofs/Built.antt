@@ -1,13 +1,13 @@
 -- What is made of nodes while their tokens are taken.
 use Rattle.std.proofs.Common.{◌≡◌, ℕ, List, Some, Result, Ok, Err, sym, subst, ◌∙◌}
-use Rattle.std.specs.Prelude.{IfOk}
+use Rattle.std.specs.Prelude.{IfOk, IfErr}
 use Rattle.wave_lex.specs.declared.lex.Token as lex
 use Rattle.wave_lex.specs.Tokenization.{span}
 use Rattle.wave_grammar.specs.ParserPosition.{Place, TakesItem, span_at}
 use Rattle.wave_grammar.specs.PrefixAutomaton.{Due, Form}
 use Rattle.wave_grammar.proofs.Slices.{tokens_source}
-use Rattle.wave_forms.specs.NodeTree.{NodeTree, node, no_nodes, node_trees}
-use Rattle.wave_forms.specs.declared.form.NodeType.{NodeType}
+use Rattle.wave_syntax.specs.NodeTree.{NodeTree, node, no_nodes, node_trees}
+use Rattle.wave_syntax.specs.declared.form.NodeType.{NodeType}
 use Rattle.wave_tree.specs.ParsedNodes.{IsParsed, IsBuilt}
 use Rattle.wave_tree.proofs.ParserSteps.{Reached}
 
@@ -45,6 +45,11 @@ of_front Holds (Err x) Is h front k = tt
 pub of_part : {M E A : Type 0} (Next Holds : A → Type 0) (r : Result M E) (Is : A → M → Type 0) → IfOk r (λ made. (front : A) → Next front → Holds front → Is front made) → (front : A) → Next front → Holds front → IfOk r (Is front)
 of_part Next Holds (Ok made) Is h front next k = h front next k
 of_part Next Holds (Err x) Is h front next k = tt
+
+-- so of a refusal
+pub wants_part : {M E A : Type 0} (Next Holds : A → Type 0) (r : Result M E) (Is : E → Type 0) → IfErr r (λ e. (front : A) → Next front → Holds front → Is e) → (front : A) → Next front → Holds front → IfErr r Is
+wants_part Next Holds (Ok made) Is h front next k = tt
+wants_part Next Holds (Err x) Is h front next k = h front next k
 
 -- what is made of a node of these children
 pub whole_built : {M Q : Type 0} (Of : List ℕ → NodeTree → M → Type 0) (Are : List ℕ → List NodeTree → Q → Type 0) (p q : Place) (ty : NodeType) (start : ℕ) (made : M) (parts : Q) (children : List NodeTree) (B : NodeTree → Type 0) →

@@ -3,11 +3,10 @@ use Rattle.std.proofs.Common.{ℕ, ◌≡◌, ◌≢◌, ◌⊎◌, inl, inr, ze
 use Rattle.std.specs.Prelude.{IfOk, IfErr}
 use Rattle.std.specs.Borrow.{Bor}
 use Rattle.std.specs.declared.ops.Range.{Range}
-use Rattle.wave_wasm.specs.Types.{TypeTree, kind_of, IsOwn}
+use Rattle.wave_wasm.specs.Types.{TypeTree, IsOwn}
 use Rattle.wave_wasm.specs.Borrowed.{shown}
 use Rattle.wave_wasm.specs.HasType.{HasType}
 use Rattle.wave_lex.specs.Labels.{Good}
-use Rattle.wave_wasm.specs.declared.wasm.WasmTypeKind.{WasmTypeKind}
 use Rattle.wave_wasm.specs.Values.{Value}
 use Rattle.wave_lex.specs.declared.lex.Token as lex
 use Rattle.wave_lex.specs.declared.lex.Token.TheVariants.{ParenOpen, BracketOpen}
@@ -21,17 +20,17 @@ use Rattle.wave_grammar.specs.SpannedTree.{Placed, Shape, tuple, list, shape_of,
 use Rattle.wave_grammar.specs.ParserPosition.{Place, TakesItem, text_at, token_of}
 use Rattle.wave_grammar.specs.PrefixAutomaton.{value}
 use Rattle.wave_grammar.specs.SyntaxErrors.{LeadsBehindValue}
-use Rattle.wave_forms.specs.NodeTree.{NodeTree, type_of}
-use Rattle.wave_forms.specs.Nodes.{placed_of}
-use Rattle.wave_forms.specs.TypedReading.{IsValueOf}
-use Rattle.wave_forms.specs.declared.form.NodeType.{NodeType}
-use Rattle.wave_forms.specs.declared.form.NodeType.TheVariants as kind
-use Rattle.wave_forms.proofs.ByKind.Leaves.{tree_is}
-use Rattle.wave_forms.proofs.ChildNodes.Inside.{From, inside}
-use Rattle.wave_forms.proofs.ErrorSpans.Nodes.{all_in_text}
-use Rattle.wave_forms.proofs.Faultless.{refused}
-use Rattle.wave_plan.specs.PlainReading.{IsPlain, ReadsDue}
-use Rattle.wave_plan.specs.Reading.{IsReadAs, IsReadWhereDue}
+use Rattle.wave_syntax.specs.NodeTree.{NodeTree, type_of}
+use Rattle.wave_syntax.specs.Nodes.{placed_of}
+use Rattle.wave_syntax.specs.TypedReading.{IsValueOf}
+use Rattle.wave_syntax.specs.declared.form.NodeType.{NodeType}
+use Rattle.wave_syntax.specs.declared.form.NodeType.TheVariants as kind
+use Rattle.wave_syntax.proofs.ByKind.Leaves.{tree_is}
+use Rattle.wave_syntax.proofs.ChildNodes.Inside.{From, inside}
+use Rattle.wave_syntax.proofs.ErrorSpans.Nodes.{all_in_text}
+use Rattle.wave_syntax.proofs.Faultless.{refused}
+use Rattle.wave_leaf.specs.PlainReading.{IsPlain, IsReadSparing}
+use Rattle.wave_leaf.specs.Reading.{IsReadAs}
 use Rattle.wave_tree.specs.ParserState.{BeginsRow}
 use Rattle.wave_tree.specs.ParsedNodes.{IsParsed, IsNodeTaken, IsSound, IsBuilt}
 use Rattle.wave_tree.specs.FromStr.{IsValueTaken, IsTypeRefused, IsCausedBetween, PrintsWithinTwice}
@@ -71,12 +70,6 @@ module _ {V : Type 0} (tree : V → Value) (of : V → TypeTree → Type 0) (Ful
 pub all_print : {V E : Type 0} (tree : V → Value) (of : V → TypeTree → Type 0) → ((v : V) (T : TypeTree) → of v T → HasType T (tree v)) → (T : TypeTree) (n : ℕ) (old new : Place) (r : Result V E) → IfOk r (IsValueTaken tree of T n old new) → Good T → IsOwn T → IfOk r (λ v. PrintsWithinTwice T n (tree v))
 all_print tree of fits T n old new (Ok v) h good own = value_prints tree of fits T n old new v h good own
 all_print tree of fits T n old new (Err e) h good own = tt
-
--- what was made of a node where this type is due
-pub typed_answered : {V S : Type 0} (tree : V → Value) (of : V → TypeTree → Type 0) (Full : TypeTree → Type 0) (type_tree : S → TypeTree) (n : ℕ) (old new : Place) (r : Result V Diagnostic) (o : Option (Bor S)) (x : Bor S) → o ≡ Some x → IsSound old →
-    LeadsBehindValue n value [] old new [] → IsBuilt (IsReadWhereDue tree of Full (shown type_tree o)) old (IsParsed n old new) r → IsAnswered tree of Full (type_tree x.now) n old new r
-typed_answered {V} {S} tree of Full type_tree n old new r o x due sound led (m, parsed, read) =
-    answered tree of Full (type_tree x.now) n old new r m sound led parsed (subst (λ (z : Option (Bor S)). IsReadWhereDue tree of Full (shown type_tree z) old.lexer.source m r) due read)
 
 -- ---- tuples and lists
 
@@ -120,11 +113,12 @@ row_there n old new parsed sound h (q, inr mark) =
     let (ts, made) = list_taken n (h.others ++ []) [] (tree_of h.placed) (subst (λ z. Takes n (z ∷ (h.others ++ [])) (tree_of h.placed) []) token (h.takes [] (λ more e. cc))) in
     inr (list_type old.lexer.source parsed h.placed ts (h.is_node sound).0 made)
 
--- ---- plain types
+-- ---- the type that is due
 
--- what was made of a node where a plain type is due
-pub plain_answered : {V : Type 0} (tree : V → Value) (of : V → TypeTree → Type 0) (Full : TypeTree → Type 0) (T : TypeTree) (n : ℕ) (old new : Place) (r : Result V Diagnostic) (o : Option WasmTypeKind) (k : WasmTypeKind) → o ≡ Some k → k ≡ kind_of T → IsPlain T → IsSound old →
-    LeadsBehindValue n value [] old new [] → IsBuilt (ReadsDue tree of Full o) old (IsParsed n old new) r → IsAnswered tree of Full T n old new r × (BeginsRow old → IfErr r (λ e. e.kind ≢ because.OutOfMemory))
-plain_answered tree of Full T n old new r o k due is plain sound led (m, parsed, read) =
-    let given = subst (λ (z : Option WasmTypeKind). ReadsDue tree of Full z old.lexer.source m r) due read T is plain in
-    (answered tree of Full T n old new r m sound led parsed given.0, λ row. given.1 (row_there n old new m sound parsed row))
+-- what was made of a node there; at a plain type a tuple or a list is refused without memory
+pub typed_answered : {V S : Type 0} (tree : V → Value) (of : V → TypeTree → Type 0) (Full : TypeTree → Type 0) (type_tree : S → TypeTree) (n : ℕ) (old new : Place) (r : Result V Diagnostic) (o : Option (Bor S)) (x : Bor S) → o ≡ Some x → IsSound old →
+    LeadsBehindValue n value [] old new [] → IsBuilt (IsReadSparing tree of Full (shown type_tree o)) old (IsParsed n old new) r →
+    IsAnswered tree of Full (type_tree x.now) n old new r × (IsPlain (type_tree x.now) → BeginsRow old → IfErr r (λ e. e.kind ≢ because.OutOfMemory))
+typed_answered {V} {S} tree of Full type_tree n old new r o x due sound led (m, parsed, read) =
+    let given = subst (λ (z : Option (Bor S)). IsReadSparing tree of Full (shown type_tree z) old.lexer.source m r) due read in
+    (answered tree of Full (type_tree x.now) n old new r m sound led parsed given.0, λ plain row. given.1 plain (row_there n old new m sound parsed row))

@@ -51,3 +51,7 @@ module _ (Takes : Type 0) where
   -- parts take memory
   pub wants_taken : (p : Place) (e : Diagnostic) → Takes → WantsOnly Takes p e
   wants_taken p e takes = λ memory none. takes
+
+-- what takes memory for less takes it too
+pub wants_less : (Less Takes : Type 0) (p : Place) (e : Diagnostic) → (Less → Takes) → WantsOnly Less p e → WantsOnly Takes p e
+wants_less Less Takes p e more wants = λ memory none. more (wants memory none)

@@ -5,9 +5,8 @@ ghost use Rattle.wave_grammar.specs.EquivalenceLaws.{MeansByTree};
 ghost use Rattle.wave_tree.specs.UntypedLaws.{ReadAlike, RefusedAlike};
 ghost use Rattle.wave_tree.specs.ParserLaws.{ReadHaveATree, RefusedHaveNone, AskingsAreFew, RefusalsLieInText};
 ghost use Rattle.wave_tree.specs.WholeTextLaws.{ReadsWholeText, ReadsWholeTree};
-ghost use Rattle.wave_forms.specs.NodeLaws.{FaultsLieInText};
+ghost use Rattle.wave_syntax.specs.NodeLaws.{FaultsLieInText};
 
-pub use wave_forms::laws::{keys_are_values, nodes_read_as_their_tokens};
 pub use wave_grammar::laws::{
     fronts_are_led, last_commas_mean_nothing, led_tokens_begin_a_tree, led_tokens_have_a_tree,
     levels_are_exact, one_reading, one_tree, order_means_nothing, params_are_by_tree,
@@ -15,6 +14,7 @@ pub use wave_grammar::laws::{
     same_tokens_mean_the_same, shown_call_keeps_meaning, shown_keeps_meaning, trees_are_led,
     unexpected_tokens_begin_none,
 };
+pub use wave_syntax::laws::{keys_are_values, nodes_read_as_their_tokens};
 use wave_wasm::wasm::WasmValue;
 
 /// Where a parser has read a value stands a tree, and its tokens are taken.

@@ -11,6 +11,7 @@ use wave_wasm::wasm::WasmValue;
 
 mod ahead;
 pub mod ast;
+mod descent;
 pub mod laws;
 pub mod parser;
 mod refusal;

@@ -6,7 +6,7 @@ ghost use Rattle.wave_lex.specs.Errors.{LiesInText};
 ghost use Rattle.wave_lex.specs.Labels.{Good};
 ghost use Rattle.wave_grammar.specs.PrefixAutomaton as due;
 ghost use Rattle.wave_grammar.specs.SyntaxErrors.{Gives};
-ghost use Rattle.wave_plan.specs.PlainReading.{IsPlain};
+ghost use Rattle.wave_leaf.specs.PlainReading.{IsPlain};
 ghost use Rattle.wave_tree.specs.ParserState.{BeginsRow, HoldsNoBrace, Parsing, IsLimit, asked, Asks, first_at, front_of, limited, Finishes, StaysWithout};
 ghost use Rattle.wave_tree.specs.Untyped.{IsUntypedTaken};
 ghost use Rattle.wave_tree.specs.FromStr.{IsValueTaken, RefusesValue, IsCausedBetween, PrintsWithinTwice};
@@ -18,7 +18,6 @@ use std::alloc::Global;
 use std::marker::Model;
 pub use wave_lex::error::{ParserError, ParserErrorKind};
 use wave_lex::lex::Lexer;
-use wave_plan::plain::is_plain;
 use wave_wasm::wasm::WasmValue;
 
 /// How many levels a value may have for a parser that was handed no limit.
@@ -123,9 +122,6 @@ impl<'source> Parser<'source> {
         ensures asks { Asks self.old self.new }
         ensures keeps { self.new.limit ≡ self.old.limit }
     {
-        if is_plain(ty) {
-            return self.tokens.parse_plain(alloc, ty, self.limit);
-        }
         self.tokens.parse_typed(alloc, ty, self.limit)
     }
 

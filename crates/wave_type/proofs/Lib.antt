@@ -7,3 +7,11 @@ pub mod LabelTest
 pub mod TextFronts
 pub mod TypeTexts
 pub mod TypeConversion
+pub mod Parts
+pub mod TypeReading
+pub mod CountTokens
+pub mod TypeComplete
+pub mod TypeTokens
+pub mod PartSteps
+pub mod WholeTypes
+pub mod FunctionsRead

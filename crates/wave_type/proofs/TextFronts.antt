@@ -11,7 +11,8 @@ use Rattle.std.proofs.lemmas.List.Folds.{list_all-append}
 use Rattle.wave_wasm.specs.declared.wasm.WasmTypeKind.{WasmTypeKind}
 use Rattle.wave_wasm.specs.declared.wasm.WasmTypeKind.TheVariants as kinds
 use Rattle.wave_wasm.specs.TypeText.{kind_word}
-use Rattle.wave_lex.specs.Regex.{Regex, nothing, empty, within, other, both, either, many, Matches, Each, joined, is_within}
+use Rattle.wave_wasm.specs.Lists.{AllOf}
+use Rattle.wave_lex.specs.Regex.{Regex, nothing, empty, within, other, both, either, many, Matches, joined, is_within}
 use Rattle.wave_lex.specs.Labels.{IsLabel}
 use Rattle.wave_lex.specs.Tokens.{label}
 
@@ -70,7 +71,7 @@ within_goes_on lo hi c h e = grind (arith, nat_tests)
 append_goes_on : (x y : List ℕ) → has_no_stop x ≡ true → has_no_stop y ≡ true → has_no_stop (x ++ y) ≡ true
 append_goes_on x y h k = list_all-append (λ c. not (is_stop c)) x y ∙ and_from _ _ h k
 
-joined_goes_on : (p : Regex) → ((s : List ℕ) → Matches p s → has_no_stop s ≡ true) → (parts : List (List ℕ)) → Each (Matches p) parts → has_no_stop (joined parts) ≡ true
+joined_goes_on : (p : Regex) → ((s : List ℕ) → Matches p s → has_no_stop s ≡ true) → (parts : List (List ℕ)) → AllOf (Matches p) parts → has_no_stop (joined parts) ≡ true
 joined_goes_on p each [] h = refl
 joined_goes_on p each (x ∷ parts) h = append_goes_on x (joined parts) (each x h.0) (joined_goes_on p each parts h.1)
 

@@ -1,7 +1,7 @@
 -- Whether two lists of types have the same trees, turn by turn.
 use Rattle.std.proofs.Common.{◌≡◌, ℕ, zero, suc, ◌<◌, ◌≤◌, Bool, true, false, ◌&&◌, List, [], ◌∷◌, map, length, get_or, String, string_bytes, Option, sym, ap, ◌∙◌, refl, arith}
 use Rattle.wave_wasm.specs.Types.{TypeTree, types_of, fields_of, cases_of, maybe_type}
-use Rattle.wave_wasm.specs.Private.Types.{depth_of_types, depth_of_fields, depth_of_cases, depth_of_maybe, depth}
+use Rattle.wave_wasm.specs.Shared.Types.{depth_of_types, depth_of_fields, depth_of_cases, depth_of_maybe, depth}
 use Rattle.wave_type.specs.TypeEquality.{same_tree, same_types, same_fields, same_cases, same_payload}
 use Rattle.wave_type.specs.TypeModel.{by_bytes}
 use Rattle.std.specs.Str.{bytes_eq}

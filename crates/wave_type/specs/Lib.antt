@@ -3,6 +3,12 @@ pub mod Private
 pub mod TypeMade
 pub mod TypeEquality
 pub mod TypeEqualityLaws
-pub mod LabelTest
 pub mod TypeTexts
 pub mod TypeConversion
+pub mod FunctionType
+pub mod NamingRule
+pub mod FunctionEquality
+pub mod FunctionEqualityLaws
+pub mod TypeSpelling
+pub mod TypeErrors
+pub mod FunctionSpelling

@@ -15,7 +15,8 @@ use wave_wasm::wasm::WasmTypeKind;
 mod conversion;
 mod display;
 mod equality;
-mod labels;
+pub(crate) mod labels;
+pub(crate) mod parse;
 mod parts;
 pub mod places;
 
@@ -69,8 +70,8 @@ impl Drop for Type {
 
 impl Model for Type {
     ghost use Rattle.wave_wasm.specs.Types.{TypeTree};
-    ghost use Rattle.wave_wasm.specs.Private.Types.{depth};
-    ghost use Rattle.wave_wasm.specs.Private.TypeTreeEncoding.{tree_code};
+    ghost use Rattle.wave_wasm.specs.Shared.Types.{depth};
+    ghost use Rattle.wave_wasm.specs.Shared.TypeTreeEncoding.{tree_code};
 
     ghost Value = { TypeTree };
 
@@ -325,7 +326,7 @@ impl Type {
     }
 
     // Whether values of the type are one token.
-    fn is_simple(&self) -> bool
+    pub(crate) fn is_simple(&self) -> bool
         ensures { IsTrue result ↔ IsSimple self.now }
     {
         match &self.shape {

@@ -21,7 +21,7 @@ use Rattle.wave_value.specs.TypedValue.{TypedValue, IsAt}
 use Rattle.wave_value.specs.ValueEncoding.{stored_leaf, stored_values, stored_fields, stored_maybe, stored_entries}
 use Rattle.wave_value.specs.Private.ValueEncoding.{name_apart}
 use Rattle.wave_value.specs.ValueEquality.{same_stored, same_value, same_typed, one_stored, stored_itself}
-use Rattle.wave_value.specs.ContentEquality.{same_all, same_pairs, same_option, same_content}
+use Rattle.wave_value.specs.Private.ContentEquality.{same_all, same_pairs, same_option, same_content}
 use Rattle.wave_value.specs.declared.value.Content.{Content}
 use Rattle.wave_value.specs.declared.value.Content.TheVariants as contents
 use Rattle.wave_value.specs.declared.value.Scalar.{Scalar}

@@ -1,5 +1,6 @@
 -- From what `Value` says of records to the laws of values.
 use Rattle.std.proofs.Common.{ℕ, ◌≡◌, ◌≢◌, inl, inr, Bool, true, false, List, [], ◌∷◌, map, refl, sym, ap, subst, ◌∙◌, Option, Some, None, Bor, IsPermutation}
+use Rattle.std.specs.Option.{option_or}
 use Rattle.std.specs.Prelude.{if◌then◌else◌}
 use Rattle.std.specs.List.{All}
 use Rattle.std.specs.Str.{bytes_eq}
@@ -20,7 +21,7 @@ use Rattle.wave_wasm.specs.declared.wasm.WasmValueError.{WasmValueError}
 use Rattle.wave_wasm.specs.declared.wasm.WasmValueError.TheVariants as error
 use Rattle.wave_wasm.proofs.NameTests.{is_one, none_of}
 use Rattle.wave_value.specs.FullTypes.{IsFull}
-use Rattle.wave_value.specs.RecordConstructor.{or_else, last_under, HasOwn, HasOther, IsRepeated, TakesRecord, MadeRecord, RefusesRecord}
+use Rattle.wave_value.specs.RecordConstructor.{last_under, HasOwn, HasOther, IsRepeated, TakesRecord, MadeRecord, RefusesRecord}
 use Rattle.wave_value.specs.TypedValue.{TypedValue, IsAt}
 use Rattle.wave_value.specs.ValueModel.{first_names, trees, beside}
 use Rattle.wave_value.proofs.Lawful.{one_none, among}
@@ -46,14 +47,14 @@ other_text a b n = false_from_ne_true (bytes_eq a b) (λ e. n ((bytes_eq-Decides
 -- ---- the last value under a name, where names are distinct
 
 module _ {A : Type 0} where
-  or_none : (o : Option A) → or_else o None ≡ o
+  or_none : (o : Option A) → option_or o None ≡ o
   or_none None = refl
   or_none (Some a) = refl
 
   none_last : (gs : List (List ℕ × A)) (n : List ℕ) → IsNoneOf (first_names gs) n → last_under gs n ≡ None
   none_last [] n h = refl
   none_last (g ∷ gs) n h =
-      ap (λ b. or_else (last_under gs n) (if b then Some g.1 else None)) (other_text g.0 n (λ e. h.0 (sym e))) ∙ (or_none (last_under gs n) ∙ none_last gs n h.1)
+      ap (λ b. option_or (last_under gs n) (if b then Some g.1 else None)) (other_text g.0 n (λ e. h.0 (sym e))) ∙ (or_none (last_under gs n) ∙ none_last gs n h.1)
 
   -- what has a last value was handed in
   last_among : (gs : List (List ℕ × A)) (n : List ℕ) → last_under gs n ≢ None → IsOneOf (first_names gs) n
@@ -73,10 +74,10 @@ module _ {A : Type 0} where
   to_front [] n v d e = absurd (cc)
   to_front (g ∷ gs) n v d e = by (bytes_eq g.0 n) refl (to_front gs n v d.1) e
     where
-      here : (w : A) → last_under gs n ≡ None → or_else (last_under gs n) (Some w) ≡ Some v → w ≡ v
-      here w none e = let first : Some w ≡ Some v = ap (λ o. or_else o (Some w)) (sym none) ∙ e in cc
+      here : (w : A) → last_under gs n ≡ None → option_or (last_under gs n) (Some w) ≡ Some v → w ≡ v
+      here w none e = let first : Some w ≡ Some v = ap (λ o. option_or o (Some w)) (sym none) ∙ e in cc
 
-      by : (b : Bool) → bytes_eq g.0 n ≡ b → (last_under gs n ≡ Some v → IsPermutation gs ((n, v) ∷ without n gs)) → or_else (last_under gs n) (if b then Some g.1 else None) ≡ Some v → IsPermutation (g ∷ gs) ((n, v) ∷ (if b then gs else g ∷ without n gs))
+      by : (b : Bool) → bytes_eq g.0 n ≡ b → (last_under gs n ≡ Some v → IsPermutation gs ((n, v) ∷ without n gs)) → option_or (last_under gs n) (if b then Some g.1 else None) ≡ Some v → IsPermutation (g ∷ gs) ((n, v) ∷ (if b then gs else g ∷ without n gs))
       by true t rest e =
           let same = (bytes_eq-Decides g.0 n).0 t in
           let value_is = here g.1 (none_last gs n (subst (IsNoneOf (first_names gs)) same d.0)) e in
@@ -88,10 +89,10 @@ module _ {A : Type 0} where
   other_last [] n m other = refl
   other_last (g ∷ gs) n m other = by (bytes_eq g.0 n) refl (other_last gs n m other)
     where
-      by : (b : Bool) → bytes_eq g.0 n ≡ b → last_under (without n gs) m ≡ last_under gs m → last_under (if b then gs else g ∷ without n gs) m ≡ or_else (last_under gs m) (if bytes_eq g.0 m then Some g.1 else None)
+      by : (b : Bool) → bytes_eq g.0 n ≡ b → last_under (without n gs) m ≡ last_under gs m → last_under (if b then gs else g ∷ without n gs) m ≡ option_or (last_under gs m) (if bytes_eq g.0 m then Some g.1 else None)
       by true t rest =
-          sym (ap (λ b. or_else (last_under gs m) (if b then Some g.1 else None)) (other_text g.0 m (λ e. other (sym e ∙ (bytes_eq-Decides g.0 n).0 t))) ∙ or_none (last_under gs m))
-      by false t rest = ap (λ o. or_else o (if bytes_eq g.0 m then Some g.1 else None)) rest
+          sym (ap (λ b. option_or (last_under gs m) (if b then Some g.1 else None)) (other_text g.0 m (λ e. other (sym e ∙ (bytes_eq-Decides g.0 n).0 t))) ∙ or_none (last_under gs m))
+      by false t rest = ap (λ o. option_or o (if bytes_eq g.0 m then Some g.1 else None)) rest
 
   none_without : (gs : List (List ℕ × A)) (n m : List ℕ) → IsNoneOf (first_names gs) m → IsNoneOf (first_names (without n gs)) m
   none_without [] n m h = tt
@@ -191,9 +192,9 @@ module _ {X : Type 0} where
 each_last : (fields : List (Bor (List ℕ) × TypedValue)) → AreDistinct (first_names (named fields)) → AllOf (λ f. last_under (named fields) f.0.now ≡ Some f.1) fields
 each_last [] d = tt
 each_last (f ∷ fields) d = (
-  ap (λ o. or_else o (if bytes_eq f.0.now f.0.now then Some f.1 else None)) (none_last (named fields) f.0.now d.0) ∙ ap (λ b. if b then Some f.1 else None) (same_text f.0.now),
+  ap (λ o. option_or o (if bytes_eq f.0.now f.0.now then Some f.1 else None)) (none_last (named fields) f.0.now d.0) ∙ ap (λ b. if b then Some f.1 else None) (same_text f.0.now),
   all_weaker (λ g. last_under (named fields) g.0.now ≡ Some g.1) (λ g. last_under (named (f ∷ fields)) g.0.now ≡ Some g.1) fields
-      (λ g e. ap (λ o. or_else o (if bytes_eq f.0.now g.0.now then Some f.1 else None)) e) (each_last fields d.1),
+      (λ g e. ap (λ o. option_or o (if bytes_eq f.0.now g.0.now then Some f.1 else None)) e) (each_last fields d.1),
 )
 
 each_own : (under : List ℕ → Option TypedValue) (fs : List (List ℕ × TypeTree)) (ordered : List (Bor (List ℕ) × TypedValue)) → AllOf (λ f. under f.0.now ≡ Some f.1) ordered → FieldsAreOf (λ v T. IsAt T v) fs ordered → AllOf (λ f. HasOwn f.1 (under f.0)) fs

@@ -32,7 +32,7 @@ map_fits T own A B es same e h =
 
 pub entries_own : (A B : TypeTree) (es : List (TypedValue × TypedValue)) → EntriesAt A B es → EntriesOwn A B es
 entries_own A B [] h = tt
-entries_own A B (e ∷ es) h = (h.0.0.own, h.0.1.own, entries_own A B es h.1)
+entries_own A B (e ∷ es) h = ((h.0.0.own, h.0.1.own), entries_own A B es h.1)
 
 pub map_taken : (T A B : TypeTree) (es : List (TypedValue × TypedValue)) → Some (A, B) ≡ map_parts T → EntriesAt A B es → TakesMap T es
 map_taken T A B es e h =

@@ -1,5 +1,6 @@
 -- What the maker of records makes and refuses.
 use Rattle.std.proofs.Common.{ℕ, zero, suc, ◌≡◌, ◌≢◌, ◌<◌, ◌≤◌, ◌+◌, ◌⊎◌, inl, inr, Bool, true, false, ◌||◌, List, [], ◌∷◌, ◌++◌, map, length, take, get_or, refl, sym, ap, subst, ◌∙◌, arith, rules, Option, Some, None, cond, Bor, String, string_bytes}
+use Rattle.std.specs.Option.{option_or}
 use Rattle.std.specs.BTreeMap as tree
 use Rattle.std.specs.BTreeMap.{BTreeMap}
 use Rattle.std.specs.Cmp.Lexicographic.{slice_cmp}
@@ -24,7 +25,7 @@ use Rattle.wave_wasm.specs.Values.{field_values}
 use Rattle.wave_wasm.specs.declared.wasm.WasmValueError.{WasmValueError}
 use Rattle.wave_wasm.specs.declared.wasm.WasmValueError.TheVariants as error
 use Rattle.wave_wasm.proofs.NameTests.{is_one, passes, none_of, distinct_more}
-use Rattle.wave_value.specs.RecordConstructor.{or_else, last_under, HasOwn, HasOther, TakesRecord, MadeRecord, RefusesRecord, IsRepeated, RefusesFields}
+use Rattle.wave_value.specs.RecordConstructor.{last_under, HasOwn, HasOther, TakesRecord, MadeRecord, RefusesRecord, IsRepeated, RefusesFields}
 use Rattle.wave_value.specs.Private.RecordConstructor.{held, FieldsHeld, InOrder, SaysMissingField, SaysUnknownField}
 use Rattle.wave_value.specs.ConstructorRules.{TellsOther}
 use Rattle.wave_value.specs.Private.ConstructorRules.{SaysType}
@@ -39,7 +40,7 @@ use Rattle.wave_value.proofs.ValueMeans.{record_value}
 -- ---- the last value under each name
 
 module _ {A : Type 0} where
-  or_cond : (b : Bool) (v : A) (o p : Option A) → or_else (cond b (Some v) o) p ≡ cond b (Some v) (or_else o p)
+  or_cond : (b : Bool) (v : A) (o p : Option A) → option_or (cond b (Some v) o) p ≡ cond b (Some v) (option_or o p)
   or_cond true v o p = refl
   or_cond false v o p = refl
 
@@ -48,7 +49,7 @@ module _ {A : Type 0} where
   last_more [] m v name = refl
   last_more (f ∷ fs) m v name =
       let rest : Option A = if bytes_eq f.0 name then Some f.1 else None in
-      ap (λ o. or_else o rest) (last_more fs m v name) ∙ or_cond (bytes_eq m name) v (last_under fs name) rest
+      ap (λ o. option_or o rest) (last_more fs m v name) ∙ or_cond (bytes_eq m name) v (last_under fs name) rest
 
   -- one more value in the map
   pub held_more : (m n : BTreeMap (Bor (List ℕ)) A) (given : List (Bor (List ℕ) × A)) (name : Bor (List ℕ)) (v : A) → ((q : List ℕ) → held m q ≡ last_under (named given) q)
@@ -241,11 +242,11 @@ record_made T own parts given vs same is o = record {
   };
 }
 
-some_stays : (o p : Option TypedValue) → p ≢ None → or_else o p ≢ None
+some_stays : (o p : Option TypedValue) → p ≢ None → option_or o p ≢ None
 some_stays None p h e = h e
 some_stays (Some v) p h e = cc
 
-first_stays : (o p : Option TypedValue) → o ≢ None → or_else o p ≢ None
+first_stays : (o p : Option TypedValue) → o ≢ None → option_or o p ≢ None
 first_stays None p h e = h refl
 first_stays (Some v) p h e = cc
 

@@ -1,5 +1,6 @@
 -- What the maker of records makes of fields that are handed in as the type has them.
 use Rattle.std.proofs.Common.{ℕ, zero, suc, ◌≡◌, ◌≢◌, ◌<◌, ◌+◌, Bool, true, false, List, [], ◌∷◌, ◌++◌, map, length, take, get_or, refl, sym, ap, subst, ◌∙◌, arith, Option, Some, None, Bor, String, string_bytes}
+use Rattle.std.specs.Option.{option_or}
 use Rattle.std.specs.Prelude.{if◌then◌else◌, not}
 use Rattle.std.specs.Bool.{OnFalse}
 use Rattle.std.specs.Str.{bytes_eq}
@@ -16,7 +17,7 @@ use Rattle.wave_type.specs.TypeModel.{by_bytes}
 use Rattle.wave_value.specs.TypedValue.{TypedValue, IsAt}
 use Rattle.wave_value.specs.ValueModel.{first_names}
 use Rattle.wave_value.specs.ConstructorRules.{TellsOther}
-use Rattle.wave_value.specs.RecordConstructor.{or_else, last_under, HasOther, RefusesFields}
+use Rattle.wave_value.specs.RecordConstructor.{last_under, HasOther, RefusesFields}
 use Rattle.wave_value.specs.Private.ValueModel.{FieldsAt}
 use Rattle.wave_value.specs.Private.ConstructorRules.{SaysType}
 use Rattle.wave_value.specs.Private.RecordConstructor.{FieldsHeld, InOrder, IsInTurn}
@@ -87,7 +88,7 @@ module _ {V : Type 0} where
   none_under [] n h = refl
   none_under (g ∷ gs) n h =
       let other : bytes_eq g.0 n ≡ false = false_from_ne_true (bytes_eq g.0 n) (λ e. h.0 (sym ((bytes_eq-Decides g.0 n).0 e))) in
-      ap (λ o. or_else o (if bytes_eq g.0 n then Some g.1 else None)) (none_under gs n h.1) ∙ ap (λ (b : Bool). if b then Some g.1 else None) other
+      ap (λ o. option_or o (if bytes_eq g.0 n then Some g.1 else None)) (none_under gs n h.1) ∙ ap (λ (b : Bool). if b then Some g.1 else None) other
 
   known_under : (gs : List (List ℕ × V)) (n : List ℕ) → last_under gs n ≢ None → IsOneOf (first_names gs) n
   known_under gs n some = is_one (first_names gs) n (by (is_one_of (first_names gs) n) refl)
@@ -98,12 +99,12 @@ module _ {V : Type 0} where
 
   first_under : (g : List ℕ × V) (gs : List (List ℕ × V)) → IsNoneOf (first_names gs) g.0 → last_under (g ∷ gs) g.0 ≡ Some g.1
   first_under g gs none =
-      ap (λ o. or_else o (if bytes_eq g.0 g.0 then Some g.1 else None)) (none_under gs g.0 none) ∙ ap (λ (b : Bool). if b then Some g.1 else None) ((bytes_eq-Decides g.0 g.0).1 refl)
+      ap (λ o. option_or o (if bytes_eq g.0 g.0 then Some g.1 else None)) (none_under gs g.0 none) ∙ ap (λ (b : Bool). if b then Some g.1 else None) ((bytes_eq-Decides g.0 g.0).1 refl)
 
   under_at : (fs : List (Bor (List ℕ) × V)) (i : ℕ) (f : Bor (List ℕ) × V) → i < length fs → f ≡ get_or fs i f → AreDistinct (first_names (named fs)) → last_under (named fs) f.0.now ≡ Some f.1
   under_at [] i f lt is d = absurd (omega (arith, lt))
   under_at (g ∷ fs) zero f lt is d = subst (λ (h : Bor (List ℕ) × V). last_under (named (g ∷ fs)) h.0.now ≡ Some h.1) (sym is) (first_under (g.0.now, g.1) (named fs) d.0)
-  under_at (g ∷ fs) (suc i) f lt is d = ap (λ o. or_else o (if bytes_eq g.0.now f.0.now then Some g.1 else None)) (under_at fs i f (omega (arith, lt)) is d.1)
+  under_at (g ∷ fs) (suc i) f lt is d = ap (λ o. option_or o (if bytes_eq g.0.now f.0.now then Some g.1 else None)) (under_at fs i f (omega (arith, lt)) is d.1)
 
 -- ---- the values in turn
 
@@ -145,7 +146,7 @@ held_in_turn (p ∷ ps) [] same d at = absurd at
 held_in_turn (p ∷ ps) (f ∷ fs) same d at =
     let heads : f.0.now ≡ p.0 = cc (same) in
     let tails : first_names (named fs) ≡ first_names ps = cc (same) in
-    let more = λ (n : List ℕ) (v : TypedValue) (e : last_under (named fs) n ≡ Some v). ap (λ o. or_else o (if bytes_eq f.0.now n then Some f.1 else None)) e in
+    let more = λ (n : List ℕ) (v : TypedValue) (e : last_under (named fs) n ≡ Some v). ap (λ o. option_or o (if bytes_eq f.0.now n then Some f.1 else None)) e in
     (subst (λ n. last_under (named (f ∷ fs)) n ≡ Some f.1) heads (first_under (f.0.now, f.1) (named fs) d.0), at.0, held_wider (last_under (named fs)) (last_under (named (f ∷ fs))) ps (map (λ g. g.1) fs) more (held_in_turn ps fs tails d.1 at.1))
 
 -- the values are in the fields' order

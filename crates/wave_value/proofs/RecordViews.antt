@@ -1,5 +1,6 @@
 -- What the view of a record answers is what the maker of records takes at the value's own type.
 use Rattle.std.proofs.Common.{ℕ, ◌≡◌, Bool, true, false, List, [], ◌∷◌, map, Option, Some, None, Result, Ok, Err, IfOk, Bor, refl, sym, ap, subst}
+use Rattle.std.specs.Option.{option_or}
 use Rattle.std.specs.Prelude.{if◌then◌else◌}
 use Rattle.std.specs.Str.{bytes_eq}
 use Rattle.std.proofs.lemmas.Bool.{false≢true}
@@ -13,7 +14,7 @@ use Rattle.wave_wasm.specs.Values.{Value}
 use Rattle.wave_value.specs.TypedValue.{TypedValue}
 use Rattle.wave_value.specs.ValueModel.{first_names, trees, beside}
 use Rattle.wave_value.specs.Private.ValueModel.{FieldsAt, RecordFits}
-use Rattle.wave_value.specs.RecordConstructor.{or_else, last_under, HasOwn, TakesRecord}
+use Rattle.wave_value.specs.RecordConstructor.{last_under, HasOwn, TakesRecord}
 use Rattle.wave_value.proofs.MadeRecord.{all_of}
 
 -- what follows from two facts of what is Ok
@@ -51,9 +52,9 @@ unlike : (b : Bool) → (b ≡ true → ⊥) → b ≡ false
 unlike true h = absurd (h refl)
 unlike false h = refl
 
-none_step : (o : Option TypedValue) (b : Bool) (v : TypedValue) → o ≡ None → b ≡ false → or_else o (if b then Some v else None) ≡ None
+none_step : (o : Option TypedValue) (b : Bool) (v : TypedValue) → o ≡ None → b ≡ false → option_or o (if b then Some v else None) ≡ None
 none_step o true v e f = absurd (false≢true (sym f))
-none_step o false v e f = ap (λ p. or_else p None) e
+none_step o false v e f = ap (λ p. option_or p None) e
 
 -- none of the names has no last value
 none_under : (gs : List (List ℕ × TypedValue)) (n : List ℕ) → IsNoneOf (first_names gs) n → last_under gs n ≡ None
@@ -61,11 +62,11 @@ none_under [] n h = refl
 none_under (g ∷ gs) n h =
     none_step (last_under gs n) (bytes_eq g.0 n) g.1 (none_under gs n h.1) (unlike (bytes_eq g.0 n) (λ e. h.0 (sym ((bytes_eq-Decides g.0 n).0 e))))
 
-head_own : (o : Option TypedValue) (b : Bool) (T : TypeTree) (v : TypedValue) → o ≡ None → b ≡ true → v.own ≡ T → HasOwn T (or_else o (if b then Some v else None))
-head_own o true T v e f own = subst (λ p. HasOwn T (or_else p (Some v))) (sym e) own
+head_own : (o : Option TypedValue) (b : Bool) (T : TypeTree) (v : TypedValue) → o ≡ None → b ≡ true → v.own ≡ T → HasOwn T (option_or o (if b then Some v else None))
+head_own o true T v e f own = subst (λ p. HasOwn T (option_or p (Some v))) (sym e) own
 head_own o false T v e f own = absurd (false≢true f)
 
-last_stays : (T : TypeTree) (o p : Option TypedValue) → HasOwn T o → HasOwn T (or_else o p)
+last_stays : (T : TypeTree) (o p : Option TypedValue) → HasOwn T o → HasOwn T (option_or o p)
 last_stays T None p h = absurd h
 last_stays T (Some v) p h = h
 

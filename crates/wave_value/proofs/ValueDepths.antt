@@ -2,7 +2,7 @@
 use Rattle.std.proofs.Common.{ℕ, zero, suc, ◌≤◌, ◌<◌, ◌≡◌, max, List, [], ◌∷◌, length, get_or, ap, arith, Option}
 use Rattle.wave_wasm.specs.Types as type
 use Rattle.wave_wasm.specs.Types.{TypeTree, Simple}
-use Rattle.wave_wasm.specs.Private.Values.{depth, depth_of_values, depth_of_fields, depth_of_entries, depth_of_maybe}
+use Rattle.wave_wasm.specs.Shared.Values.{depth, depth_of_values, depth_of_fields, depth_of_entries, depth_of_maybe}
 use Rattle.wave_wasm.specs.Values.{values, field_values, entries, maybe_value}
 use Rattle.wave_wasm.specs.ConstructorContracts.{list_value}
 use Rattle.wave_value.specs.declared.value.Content.{Content}

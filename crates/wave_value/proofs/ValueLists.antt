@@ -11,7 +11,7 @@ use Rattle.wave_value.specs.ValueModel.{trees, beside}
 use Rattle.wave_value.specs.Private.ValueModel.{key_of, entry_trees, EntriesAt, MapFits}
 use Rattle.wave_wasm.specs.Values as value
 use Rattle.wave_wasm.specs.Values.{Leaf, Value, values, value_list, field_values, field_list, entries, entry_list, maybe_value}
-use Rattle.wave_wasm.specs.Private.Values.{value_option}
+use Rattle.wave_wasm.specs.Shared.Values.{value_option}
 
 pub value_list-values : (vs : List Value) → value_list (values vs) ≡ vs
 value_list-values [] = refl

@@ -1,5 +1,6 @@
 -- What the makers of variants, flags and maps accept, and what their refusals say.
 use Rattle.std.specs.Prelude.{ℕ, ◌≡◌, ◌≢◌, ◌⊎◌, List, [], ◌∷◌, map, Option, string_bytes}
+use Rattle.wave_wasm.specs.Lists.{AllOf}
 use Rattle.wave_wasm.specs.Names.{IsOneOf, IsNoneOf, AreAllOf}
 use Rattle.wave_wasm.specs.Types as type
 use Rattle.wave_wasm.specs.Types.{TypeTree, kind_of, variant_parts, flags_names}
@@ -57,8 +58,7 @@ MadeMap handed T v = (all : List (Leaf × Value)) × (map (λ e. (e.0.tree, e.1.
 
 -- each key's own type is the first, each value's the second
 abbrev pub EntriesOwn : TypeTree → TypeTree → List (TypedValue × TypedValue) → Type 0
-EntriesOwn K V [] = Unit {0}
-EntriesOwn K V (e ∷ es) = (e.0.own ≡ K) × (e.1.own ≡ V) × EntriesOwn K V es
+EntriesOwn K V es = AllOf (λ e. (e.0.own ≡ K) × (e.1.own ≡ V)) es
 
 -- entries whose keys and values are of the stated types
 abbrev pub TakesMap : TypeTree → List (TypedValue × TypedValue) → Type 0

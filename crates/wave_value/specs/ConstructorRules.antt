@@ -1,5 +1,6 @@
 -- What each maker of values accepts, what it makes, and what its refusals say.
 use Rattle.std.specs.Prelude.{ℕ, ◌≡◌, ◌≢◌, List, [], ◌∷◌, map, length, Option, Some, None, Result, Ok, Err, string_bytes, codes}
+use Rattle.wave_wasm.specs.Lists.{AllOf}
 use Rattle.wave_wasm.specs.Lists.{SomeOf}
 use Rattle.wave_wasm.specs.Names.{IsOneOf}
 use Rattle.wave_wasm.specs.Text.{text}
@@ -23,8 +24,7 @@ pub record Made (asked : Value) (T : TypeTree) (v : TypedValue) : Type 0 where
 
 -- each value's own type is this one
 abbrev pub AllOwn : TypeTree → List TypedValue → Type 0
-AllOwn T [] = Unit {0}
-AllOwn T (v ∷ vs) = (v.own ≡ T) × AllOwn T vs
+AllOwn T vs = AllOf (λ v. v.own ≡ T) vs
 
 -- as many values as types, each of its type
 abbrev pub EachOwn : List TypeTree → List TypedValue → Type 0

@@ -6,5 +6,4 @@ pub mod ValueModel
 pub mod ConstructorRules
 pub mod RecordConstructor
 pub mod CaseRules
-pub mod ContentEquality
 pub mod FullTypes

@@ -4,3 +4,4 @@ pub mod ValueDepth
 pub mod ConstructorRules
 pub mod RecordConstructor
 pub mod CaseRules
+pub mod ContentEquality

@@ -2,6 +2,7 @@
 use Rattle.std.specs.Prelude.{ℕ, ◌≡◌, ◌≢◌, ◌⊎◌, List, [], ◌∷◌, map, Option, Some, None, if◌then◌else◌, string_bytes}
 use Rattle.std.specs.Str.{bytes_eq}
 use Rattle.wave_wasm.specs.Lists.{AllOf, SomeOf}
+use Rattle.wave_wasm.specs.Merge.{value_at_last}
 use Rattle.wave_wasm.specs.Names.{IsOneOf, AreDistinct, AreAllOf}
 use Rattle.wave_wasm.specs.Types as type
 use Rattle.wave_wasm.specs.Types.{TypeTree, kind_of, record_parts}
@@ -14,15 +15,9 @@ use Rattle.wave_value.specs.TypedValue.{TypedValue}
 use Rattle.wave_value.specs.ValueModel.{first_names, trees, beside}
 use Rattle.wave_value.specs.ConstructorRules.{Made, TellsKind, TellsOther}
 
--- the first of two, where it is there, else the second
-abbrev pub or_else : {A : Type 0} → Option A → Option A → Option A
-or_else None second = second
-or_else (Some a) second = Some a
-
 -- the last value under the name
 abbrev pub last_under : {A : Type 0} → List (List ℕ × A) → List ℕ → Option A
-last_under [] name = None
-last_under (f ∷ fs) name = or_else (last_under fs name) (if bytes_eq f.0 name then Some f.1 else None)
+last_under fs name = value_at_last (λ n other. bytes_eq other n) name fs
 
 -- there is a value, whose own type is this one
 abbrev pub HasOwn : TypeTree → Option TypedValue → Type 0

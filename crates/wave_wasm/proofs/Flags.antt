@@ -4,7 +4,7 @@ use Rattle.wave_wasm.specs.declared.wasm.WasmTypeKind.TheVariants as kinds
 use Rattle.wave_wasm.specs.Types as type
 use Rattle.wave_wasm.specs.Values as value
 use Rattle.wave_wasm.specs.Values.{Value, kind_of, flags_names}
-use Rattle.wave_wasm.specs.Private.Commas.{enclosed}
+use Rattle.wave_wasm.specs.Shared.Commas.{enclosed}
 use Rattle.wave_wasm.specs.Text.{text, has_text}
 use Rattle.wave_wasm.proofs.Trees.{not_leaf}
 

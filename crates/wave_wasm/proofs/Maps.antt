@@ -8,10 +8,10 @@ use Rattle.wave_wasm.specs.Types as type
 use Rattle.wave_wasm.specs.Types.{Simple}
 use Rattle.wave_wasm.specs.Values as value
 use Rattle.wave_wasm.specs.Values.{Leaf, Value, Entries, no_entries, entry, entries, entry_list, map_entries, kind_of, leaf_type, IsSound, AreOfOneKind, IsWellFormed, AreWellFormedEntries}
-use Rattle.wave_wasm.specs.Private.Values.{depth, depth_of_entries, IsLeaf}
+use Rattle.wave_wasm.specs.Shared.Values.{depth, depth_of_entries, IsLeaf}
 use Rattle.wave_wasm.specs.HasType.{IsLeafOf}
 use Rattle.wave_wasm.specs.ConstructorContracts.{leaf_entries}
-use Rattle.wave_wasm.specs.Private.Commas.{enclosed, comma_if}
+use Rattle.wave_wasm.specs.Shared.Commas.{enclosed, comma_if}
 use Rattle.wave_wasm.specs.Commas.{behind_name}
 use Rattle.wave_wasm.specs.Merge.{merged, merged_entries, merge, leaf_eq}
 use Rattle.wave_wasm.specs.Private.Merge.{with_key_texts}

@@ -1,9 +1,10 @@
 -- What merging gives; and keys are equal where their test says so.
 use Rattle.std.proofs.Common.{◌≡◌, Bool, true, false, not, List, [], ◌∷◌, map, refl, ap, ◌∙◌, Option, Some, None}
+use Rattle.std.specs.Option.{option_or}
 use Rattle.std.specs.Prelude.{cond, filter, if◌then◌else◌, nat_eq, ◌&&◌}
 use Rattle.wave_wasm.specs.Lists.{AllOf}
 use Rattle.std.specs.Ordering.{int_eq}
-use Rattle.wave_wasm.specs.Merge.{or_else, last_value, without, merge, distinct_keys, value_at_last, IsMergeOf, bool_eq, leaf_eq}
+use Rattle.wave_wasm.specs.Merge.{last_value, without, merge, distinct_keys, value_at_last, IsMergeOf, bool_eq, leaf_eq}
 use Rattle.wave_wasm.specs.Values as value
 use Rattle.wave_wasm.specs.Values.{Leaf, leaf_type}
 use Rattle.wave_wasm.specs.Types as type
@@ -16,13 +17,13 @@ picked : {K V : Type 0} (b : Bool) (e : K × V) (xs : List (K × V)) (ks : List 
 picked true e xs ks h = h
 picked false e xs ks h = ap (λ z. e.0 ∷ z) h
 
-stepped : {V : Type 0} (b : Bool) (o : Option V) (v w : V) (last : V → V) → ((x : V) → or_else o (Some x) ≡ Some (last x)) → or_else (or_else o (if b then Some w else None)) (Some v) ≡ Some (last (if b then w else v))
+stepped : {V : Type 0} (b : Bool) (o : Option V) (v w : V) (last : V → V) → ((x : V) → option_or o (Some x) ≡ Some (last x)) → option_or (option_or o (if b then Some w else None)) (Some v) ≡ Some (last (if b then w else v))
 stepped true (Some a) v w last h = h w
 stepped true None v w last h = h w
 stepped false (Some a) v w last h = h v
 stepped false None v w last h = h v
 
-found_first : {V : Type 0} (b : Bool) (o : Option V) (v : V) → b ≡ true → or_else o (if b then Some v else None) ≡ or_else o (Some v)
+found_first : {V : Type 0} (b : Bool) (o : Option V) (v : V) → b ≡ true → option_or o (if b then Some v else None) ≡ option_or o (Some v)
 found_first true o v e = refl
 found_first false o v e = cc
 
@@ -38,14 +39,14 @@ module _ {K V : Type 0} (same : K → K → Bool) where
   merged_keys (e ∷ es) = ap (λ (z : List K). e.0 ∷ z) (keys_without e.0 (merge same es) ∙ ap (filter (λ other. not (same e.0 other))) (merged_keys es))
 
   -- the last value is the value at the last place, or else the one that was given
-  last_is : (key : K) (es : List (K × V)) (v : V) → or_else (value_at_last same key es) (Some v) ≡ Some (last_value same key v es)
+  last_is : (key : K) (es : List (K × V)) (v : V) → option_or (value_at_last same key es) (Some v) ≡ Some (last_value same key v es)
   last_is key [] v = refl
   last_is key (e ∷ es) v = stepped (same key e.0) (value_at_last same key es) v e.1 (λ x. last_value same key x es) (last_is key es)
 
   -- of entries whose values are the last ones behind e, those of other keys keep them with e in front
   values_without : (e : K × V) (es xs : List (K × V)) → AllOf (λ x. value_at_last same x.0 es ≡ Some x.1) xs → AllOf (λ x. value_at_last same x.0 (e ∷ es) ≡ Some x.1) (without same e.0 xs)
   values_without e es [] h = tt
-  values_without e es (x ∷ xs) h = kept (same e.0 x.0) x (without same e.0 xs) (ap (λ (z : Option V). or_else z (if same x.0 e.0 then Some e.1 else None)) h.0) (values_without e es xs h.1)
+  values_without e es (x ∷ xs) h = kept (same e.0 x.0) x (without same e.0 xs) (ap (λ (z : Option V). option_or z (if same x.0 e.0 then Some e.1 else None)) h.0) (values_without e es xs h.1)
     where
       kept : (b : Bool) (x : K × V) (xs : List (K × V)) → (value_at_last same x.0 (e ∷ es) ≡ Some x.1) → AllOf (λ x. value_at_last same x.0 (e ∷ es) ≡ Some x.1) xs → AllOf (λ x. value_at_last same x.0 (e ∷ es) ≡ Some x.1) (cond (not b) (x ∷ xs) xs)
       kept true x xs a h = h

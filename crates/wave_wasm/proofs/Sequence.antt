@@ -4,7 +4,7 @@ use Rattle.std.proofs.Math.Seq.{drop-cons, drop-nil}
 use Rattle.std.specs.List.{list_all}
 use Rattle.wave_wasm.specs.Lists.{AllOf}
 use Rattle.wave_wasm.specs.Commas.{joined, followed}
-use Rattle.wave_wasm.specs.Private.Commas.{enclosed, comma_if}
+use Rattle.wave_wasm.specs.Shared.Commas.{enclosed, comma_if}
 use Rattle.wave_wasm.specs.WriterState.{Output, Appended}
 use Rattle.wave_wasm.proofs.Writing.{Writing, writing_as, start_written}
 

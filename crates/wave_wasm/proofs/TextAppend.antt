@@ -1,7 +1,7 @@
 -- How the parts that are added to a text join to the whole.
 use Rattle.std.proofs.Common.{ℕ, ◌≡◌, ◌<◌, ◌+◌, List, [], ◌++◌, Bool, true, false, refl, sym, ap, ◌∙◌, append_assoc, length, get_or, drop, map, subst}
 use Rattle.std.proofs.lemmas.List.{append-nil}
-use Rattle.wave_wasm.specs.Private.Commas.{comma_if, enclosed}
+use Rattle.wave_wasm.specs.Shared.Commas.{comma_if, enclosed}
 use Rattle.wave_wasm.proofs.Sequence.{at_item, parted, parted_joined}
 
 -- of the text `whole`, all but `rest` was added

@@ -4,7 +4,7 @@ use Rattle.wave_wasm.specs.declared.wasm.WasmTypeKind.{WasmTypeKind}
 use Rattle.wave_wasm.specs.declared.wasm.WasmTypeKind.TheVariants as kinds
 use Rattle.wave_wasm.specs.Types as type
 use Rattle.wave_wasm.specs.Types.{TypeTree, Simple, Types, Fields, Cases, MaybeType, simple_kind, kind_of, maybe_type, type_option, type_list, field_list, case_list, list_part, option_part, map_parts, result_parts, record_parts, tuple_parts, variant_parts, enum_names, flags_names}
-use Rattle.wave_wasm.specs.Private.Types.{depth, depth_of_maybe, depth_of_types, depth_of_fields, depth_of_cases}
+use Rattle.wave_wasm.specs.Shared.Types.{depth, depth_of_maybe, depth_of_types, depth_of_fields, depth_of_cases}
 use Rattle.wave_wasm.specs.Commas.{behind_name, joined}
 use Rattle.wave_wasm.specs.TypeText.{type_text, type_texts, field_texts, case_texts, payload_text, angled, braced}
 use Rattle.wave_wasm.proofs.Sequence.{depths}

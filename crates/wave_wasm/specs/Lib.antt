@@ -1,6 +1,7 @@
 pub mod Lists
 pub mod Names
 pub mod Types
+pub mod Shared
 pub mod Private
 pub mod TypeTreeEncoding
 pub mod Borrowed

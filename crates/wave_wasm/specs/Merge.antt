@@ -1,16 +1,12 @@
 -- Merging: the distinct keys in the order of their first places, each with the value of its last place.
 use Rattle.std.specs.Prelude.{ℕ, ◌≡◌, Bool, true, false, not, ◌&&◌, if◌then◌else◌, List, [], ◌∷◌, map, filter, nat_eq, Option, Some, None}
 use Rattle.std.specs.Str.{bytes_eq}
+use Rattle.std.specs.Option.{option_or}
 use Rattle.wave_wasm.specs.Lists.{AllOf}
 use Rattle.std.specs.Ordering.{int_eq}
 use Rattle.wave_wasm.specs.TypeTreeEncoding.{simple_number}
 use Rattle.wave_wasm.specs.Values as value
 use Rattle.wave_wasm.specs.Values.{Leaf, Value, MaybeValue, Values, FieldValues, Entries, entries, leaf_type, no_value, a_value, no_values, value_and, no_fields, field, no_entries, entry}
-
--- the first, or else the second
-abbrev pub or_else : {A : Type 0} → Option A → Option A → Option A
-or_else (Some a) other = Some a
-or_else None other = other
 
 module _ {K V : Type 0} (same : K → K → Bool) where
   -- the value at the last place of the key, or v where it has no place
@@ -37,7 +33,7 @@ module _ {K V : Type 0} (same : K → K → Bool) where
   -- the value at the last place of the key
   abbrev pub value_at_last : K → List (K × V) → Option V
   value_at_last key [] = None
-  value_at_last key (e ∷ es) = or_else (value_at_last key es) (if same key e.0 then Some e.1 else None)
+  value_at_last key (e ∷ es) = option_or (value_at_last key es) (if same key e.0 then Some e.1 else None)
 
   -- the second entries are the first ones merged
   pub record IsMergeOf (es merged : List (K × V)) : Type 0 where

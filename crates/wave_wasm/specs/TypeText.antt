@@ -1,8 +1,6 @@
 -- The text of a type and of a function.
-use Rattle.std.specs.declared.fmt.Formatter.{Formatter}
-use Rattle.std.specs.declared.fmt.Error.{Error}
-use Rattle.std.specs.Fmt.{IsPlainFormatter, HasWritten, decimal}
-use Rattle.std.specs.Prelude.{ℕ, ◌≡◌, ◌⊎◌, length, List, [], ◌∷◌, ◌++◌, Option, Some, None, codes, Result, IsOk}
+use Rattle.std.specs.Fmt.{decimal}
+use Rattle.std.specs.Prelude.{ℕ, ◌≡◌, ◌⊎◌, length, List, [], ◌∷◌, ◌++◌, Option, Some, None, codes}
 use Rattle.wave_wasm.specs.Types.{TypeTree, simple, unreadable, list, fixed, record_type, tuple, variant, enum, option, result, flags, map, MaybeType, no_type, a_type, Types, no_types, type_and, Fields, no_fields, field, Cases, no_cases, case_of, simple_kind, unreadable_kind}
 use Rattle.wave_wasm.specs.Commas.{joined, behind_name, in_parens}
 use Rattle.wave_wasm.specs.declared.wasm.WasmTypeKind.{WasmTypeKind}
@@ -97,10 +95,6 @@ abbrev mutual
 abbrev pub AreNamesOf : List TypeTree → List (List ℕ) → Type 0
 AreNamesOf types names = (names ≡ []) ⊎ (length names ≡ length types)
 
--- the names given for these types: as many or none, and those of the function or none
-abbrev pub AreNamesGiven : List TypeTree → List (List ℕ) → List (List ℕ) → Type 0
-AreNamesGiven types names given = AreNamesOf types given × ((given ≡ names) ⊎ (given ≡ []))
-
 -- a function: its types, and as many names or none
 pub record Func : Type 0 where
   pub params : List TypeTree
@@ -123,13 +117,3 @@ function_results_text names (T ∷ Ts) = codes " -> " ++ in_parens (joined (type
 -- the text of a function
 abbrev pub function_text : Func → List ℕ
 function_text f = codes "func" ++ (in_parens (joined (typed_names f.param_names f.params)) ++ function_results_text f.result_names f.results)
-
--- the text is that of the function, with its names or without
-abbrev pub IsFuncText : Func → List ℕ → Type 0
-IsFuncText f text =
-    (param_names result_names : List (List ℕ)) × AreNamesGiven f.params f.param_names param_names × AreNamesGiven f.results f.result_names result_names
-    × (text ≡ function_text (record { params = f.params; param_names = param_names; results = f.results; result_names = result_names }))
-
--- the text of the function was shown, where the formatter is plain and nothing failed
-abbrev pub ShowsFunc : {W : Type 0} → (W → List ℕ → W → Type 0) → Func → Formatter W → Result (Unit {0}) Error → Formatter W → Type 0
-ShowsFunc took f old shown new = IsPlainFormatter old → IsOk shown → (text : List ℕ) × IsFuncText f text × HasWritten took old text new

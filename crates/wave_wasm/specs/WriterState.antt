@@ -22,11 +22,15 @@ pub record Began (whole : List ℕ) (old new : Output) : Type 0 where
   pub written : new.written ≡ old.written ++ done
   pub whole_is : whole ≡ done ++ rest
 
--- a failed write counts; want of memory doesn't; there is no third refusal of a text
+-- a failed write counts, and no other refusal does
+abbrev pub CountsOnce : WriterError → ℕ → ℕ → Type 0
+CountsOnce (WriterError.Io e) old new = new ≡ min (old + 1) (2 ^ 64 - 1)
+CountsOnce _ old new = new ≡ old
+
+-- so of a text, which has no third refusal
 abbrev pub Counts : WriterError → ℕ → ℕ → Type 0
-Counts (WriterError.Io e) old new = new ≡ min (old + 1) (2 ^ 64 - 1)
 Counts WriterError.UnsupportedType old new = ⊥
-Counts (WriterError.Memory e) old new = new ≡ old
+Counts e old new = CountsOnce e old new
 
 -- what a refusal of `write_str` says
 pub record TextRefused (whole : List ℕ) (e : WriterError) (old new : Output) : Type 0 where
@@ -38,12 +42,6 @@ abbrev pub IsGrounded : WriterError → Bool → ℕ → ℕ → Type 0
 IsGrounded (WriterError.Io e) writable old new = (old < new) ⊎ (new ≡ 2 ^ 64 - 1)
 IsGrounded WriterError.UnsupportedType writable old new = writable ≡ false
 IsGrounded (WriterError.Memory e) writable old new = Unit {0}
-
--- only one write failed, and only where the refusal is `Io`
-abbrev pub CountsOnce : WriterError → ℕ → ℕ → Type 0
-CountsOnce (WriterError.Io e) old new = new ≡ min (old + 1) (2 ^ 64 - 1)
-CountsOnce WriterError.UnsupportedType old new = new ≡ old
-CountsOnce (WriterError.Memory e) old new = new ≡ old
 
 -- what a refusal of `write_value` says
 pub record Refused (whole : List ℕ) (writable : Bool) (e : WriterError) (old new : Output) : Type 0 where

@@ -1,27 +1,50 @@
 -- What the parts of the program answer to each other.
-use Rattle.std.specs.Prelude.{ℕ, List, ◌≡◌, ◌≢◌, string_bytes}
+use Rattle.std.specs.Prelude.{ℕ, List, ◌≡◌, ◌≢◌, ◌⊎◌, false, string_bytes}
 use Rattle.std.specs.declared.option.Option.{Option}
-use Rattle.wave_lex.specs.Errors.{Diagnostic}
+use Rattle.wave_lex.specs.Errors.{Diagnostic, error_text}
 use Rattle.wave_lex.specs.declared.error.ParserErrorKind.TheVariants as kind
 use Rattle.wave.specs.declared.answer.Unanswered.{Unanswered}
 use Rattle.wave.specs.declared.answer.Unanswered.TheVariants as why
 use Rattle.wave.specs.declared.request.Request.{Request}
+use Rattle.wave.specs.declared.input.Input.{Input}
+use Rattle.wave.specs.declared.input.Fault.{Fault}
+use Rattle.wave.specs.declared.input.Fault.TheVariants.{NotUtf8, InputFailed, OutOfMemory}
+use Rattle.wave.specs.declared.output.Output.{Output}
 use Rattle.wave.specs.declared.program.Outcome.{Outcome}
 use Rattle.wave.specs.declared.program.Outcome.TheVariants.{Answered, Refused}
-use Rattle.wave.specs.Answers.{IsRefused}
-use Rattle.wave.specs.Statuses.{IsAnswer, IsRefusal}
+use Rattle.wave.specs.Answers.{Answers, IsRefused, IsInput, IsNoText, line, words_of_fault}
+use Rattle.wave.specs.ReadFaults.{IsReadToEnd, IsUnread}
+use Rattle.wave.specs.Statuses.{IsAnswer}
+use Rattle.wave.specs.Written.{Prints}
 
--- what is said where a request has no answer: of a refused text, why it has none
+-- the request has no answer on the text, and the refusal tells why; or it tells want of memory
+abbrev pub Refuses : Request → List ℕ → Diagnostic → Type 0
+Refuses request whole e = e.kind ≢ kind.OutOfMemory → IsRefused request whole e
+
+-- why a request isn't answered on a text: a refusal tells it; or memory was wanting for the answer that it has
 abbrev pub IsUnanswered : Request → List ℕ → Unanswered → Type 0
-IsUnanswered request whole (why.Refused e) = IsRefused request whole e
-IsUnanswered request whole why.OutOfMemory = Unit {0}
+IsUnanswered request whole (why.Refused e) = Refuses request whole e
+IsUnanswered request whole why.OutOfMemory = (answer : List ℕ) × Answers request whole answer
 
--- the error is that refusal, or else want of memory
-abbrev pub MatchesRefusal : Diagnostic → Unanswered → Type 0
-MatchesRefusal e (why.Refused refusal) = (refusal ≡ e) × (e.kind ≢ kind.OutOfMemory)
-MatchesRefusal e why.OutOfMemory = e.kind ≡ kind.OutOfMemory
-
--- the outcome is that of the request on the whole input: its answer, or its refusal's text, as a line
+-- the outcome is that of the request on the whole input: its answer as a line, or its refusal
 abbrev pub IsOutcome : Request → Option (List ℕ) → Outcome → Type 0
 IsOutcome request left (Answered output) = IsAnswer request left (string_bytes output)
-IsOutcome request left (Refused output) = IsRefusal request left (string_bytes output)
+IsOutcome request left (Refused e) = (whole : List ℕ) × IsInput left whole × Refuses request whole e
+
+-- the request has an answer on the whole input
+abbrev pub HasAnswer : Request → Option (List ℕ) → Type 0
+HasAnswer request left = (whole : List ℕ) × (answer : List ℕ) × IsInput left whole × Answers request whole answer
+
+module _ {R : Type 0} where
+  -- why a request has no outcome: the input is no text, or was not read to its end; or memory was wanting before the reader told its end, or for the answer that the request has
+  abbrev pub IsNoOutcome : Request → Option (List ℕ) → Input R → Input R → Fault → Type 0
+  IsNoOutcome request left old new NotUtf8 = IsNoText left × IsReadToEnd old new
+  IsNoOutcome request left old new InputFailed = IsUnread old new
+  IsNoOutcome request left old new OutOfMemory = (new.failures ≡ old.failures) × ((new.has_ended ≡ false) ⊎ HasAnswer request left)
+
+module _ {W : Type 0} (contents : W → Option (List ℕ)) where
+  -- the refusal's text was printed at status 1, which is none of want of memory; or want of memory at status 3
+  abbrev pub TellsRefusal : Output W → Output W → Diagnostic → ℕ → Type 0
+  TellsRefusal old new e result =
+      (e.kind ≢ kind.OutOfMemory) × Prints contents old new (line (error_text e)) 1 result
+      ⊎ Prints contents old new (line (words_of_fault OutOfMemory)) 3 result

@@ -5,7 +5,7 @@ use Rattle.std.proofs.lemmas.Bool.Decides.{nat_tests}
 use Rattle.wave_wasm.specs.Lists.{AllOf}
 use Rattle.wave_lex.specs.declared.lex.Token.TheVariants as class
 use Rattle.wave_lex.specs.Regex.{Matches, is_within}
-use Rattle.wave_lex.specs.Derive.{may_be_empty, after}
+use Rattle.wave_lex.specs.Shared.Derive.{may_be_empty, after}
 use Rattle.wave_lex.specs.Tokens as shapes
 use Rattle.wave_lex.specs.Tokens.{shape}
 use Rattle.wave_lex.specs.Labels.{IsLabel}

@@ -8,7 +8,7 @@ use Rattle.wave_wasm.specs.Names.{IsNoneOf}
 use Rattle.wave_wasm.specs.Keywords.{keywords, is_keyword, case_label}
 use Rattle.wave_wasm.specs.Merge.{merge, last_value, without}
 use Rattle.wave_wasm.proofs.NameTests.{none_of}
-use Rattle.wave_lex.specs.Regex.{Regex, nothing, empty, within, other, both, either, many, Matches, Each, joined, is_within}
+use Rattle.wave_lex.specs.Regex.{Regex, nothing, empty, within, other, both, either, many, Matches, joined, is_within}
 use Rattle.wave_lex.specs.Tokens as shapes
 use Rattle.wave_lex.specs.Labels.{IsLabel}
 use Rattle.wave_lex.proofs.Derive.{after_into}
@@ -34,7 +34,7 @@ ascii_append : (x y : List ℕ) → is_ascii x ≡ true → is_ascii y ≡ true 
 ascii_append [] y a b = b
 ascii_append (c ∷ x) y a b = let p : (nat_lt c 128 ≡ true) × (is_ascii x ≡ true) = and_true _ _ a in rw (p.0, ascii_append x y p.1 b) refl
 
-ascii_joined : (p : Regex) → ((s : List ℕ) → Matches p s → is_ascii s ≡ true) → (parts : List (List ℕ)) → Each (Matches p) parts → is_ascii (joined parts) ≡ true
+ascii_joined : (p : Regex) → ((s : List ℕ) → Matches p s → is_ascii s ≡ true) → (parts : List (List ℕ)) → AllOf (Matches p) parts → is_ascii (joined parts) ≡ true
 ascii_joined p each [] h = refl
 ascii_joined p each (x ∷ parts) h = ascii_append x (joined parts) (each x h.0) (ascii_joined p each parts h.1)
 

@@ -7,9 +7,9 @@ use Rattle.std.proofs.lemmas.Bool.Decides.{nat_tests}
 use Rattle.wave_wasm.specs.Types.{Whole, s8, s16, s32, s64, u8, u16, u32, u64}
 use Rattle.wave_wasm.specs.Numbers.{IsInRange, is_signed}
 use Rattle.wave_lex.specs.Regex.{Matches}
-use Rattle.wave_lex.specs.Derive.{may_be_empty, after, after_all, after_next}
+use Rattle.wave_lex.specs.Shared.Derive.{may_be_empty, after, after_all, after_next}
 use Rattle.wave_lex.specs.Tokens.{number}
-use Rattle.wave_lex.specs.Machines.{number_rest, number_step, is_digit}
+use Rattle.wave_lex.specs.Shared.Machines.{number_rest, number_step, is_digit}
 use Rattle.wave_lex.specs.declared.machine.number.NumberState.{NumberState}
 use Rattle.wave_lex.specs.declared.machine.number.NumberState.TheVariants as state
 use Rattle.std.proofs.lemmas.Int.{ints}

@@ -1,5 +1,6 @@
 -- The canonical text of a char or a string is one token, which means that char or string.
 use Rattle.std.proofs.Common.{◌≡◌, ℕ, true, List, [], ◌∷◌, ◌++◌, inl, inr, refl, sym, ap, subst, ◌∙◌}
+use Rattle.wave_wasm.specs.Lists.{AllOf}
 use Rattle.std.specs.Prelude.{encode_utf8, encode_utf8_all}
 use Rattle.std.specs.Char.{IsScalar}
 use Rattle.std.specs.List.{flat_map}
@@ -20,10 +21,10 @@ use Rattle.wave_lex.specs.declared.machine.character.CharState.TheVariants as ch
 use Rattle.wave_lex.specs.declared.machine.escape.EscapeState.TheVariants as escape
 use Rattle.wave_lex.specs.declared.machine.string.StringState.{StringState}
 use Rattle.wave_lex.specs.declared.machine.string.StringState.TheVariants as string
-use Rattle.wave_lex.specs.Machines.{character_rest, character_step, string_rest, string_step}
+use Rattle.wave_lex.specs.Shared.Machines.{character_rest, character_step, string_rest, string_step}
 use Rattle.wave_lex.specs.Regex as regex
 use Rattle.wave_lex.specs.Regex.{Regex, Matches, other, either}
-use Rattle.wave_lex.specs.Derive.{may_be_empty, after}
+use Rattle.wave_lex.specs.Shared.Derive.{may_be_empty, after}
 use Rattle.wave_lex.specs.Strings.{CharMeans, Decodes}
 use Rattle.wave_lex.specs.Tokens as shapes
 use Rattle.wave_lex.specs.Tokens.{escape}
@@ -105,7 +106,7 @@ inside = either (other (92 ∷ 34 ∷ 10 ∷ [])) escape
 record IsInside (cs x : List ℕ) : Type 0 where
   parts : List (List ℕ)
   spelled : encode_utf8_all (regex.joined parts) ≡ x
-  shaped : regex.Each (Matches inside) parts
+  shaped : AllOf (Matches inside) parts
   decodes : Decodes x (encode_utf8_all cs)
 
 written_inside : (cs : List ℕ) → scalars cs ≡ true → IsInside cs (flat_map escaped cs)

@@ -12,14 +12,14 @@ use Rattle.wave_lex.specs.declared.machine.number.NumberState.TheVariants as n
 use Rattle.wave_lex.specs.declared.machine.label.LabelTokenState.{LabelTokenState}
 use Rattle.wave_lex.specs.declared.machine.label.LabelTokenState.TheVariants as token
 use Rattle.wave_lex.specs.declared.machine.label.LabelState.TheVariants as l
-use Rattle.wave_lex.specs.Machines.{number_rest, number_step, label_token_rest, label_token_step}
+use Rattle.wave_lex.specs.Shared.Machines.{number_rest, number_step, label_token_rest, label_token_step}
 use Rattle.wave_lex.proofs.Machines.{number_steps, label_token_steps}
 use Rattle.wave_lex.specs.Regex.{Regex, nothing, empty, Matches, is_one_of}
-use Rattle.wave_lex.specs.Derive.{may_be_empty, after, after_all, after_next}
+use Rattle.wave_lex.specs.Shared.Derive.{may_be_empty, after, after_all, after_next}
 use Rattle.wave_lex.specs.LongestMatch.{IsFront}
 use Rattle.wave_lex.specs.Tokens.{shape, gap, number, label_or_keyword}
 use Rattle.wave_lex.specs.Tokenization.{MayStandAt, IsToken, IsLongestToken, IsGap, Lexeme, Front, Cuts, three_quotes}
-use Rattle.wave_lex.specs.Private.Reading.{class_of}
+use Rattle.wave_lex.specs.Shared.Reading.{class_of}
 use Rattle.wave_lex.proofs.Derive.{matches_from, matches_into, after_into, after_from, empty_into}
 use Rattle.wave_lex.proofs.Shapes.{and_true, same, same_true, each_below_at, after_past}
 use Rattle.wave_lex.proofs.Scanning.{after_all_append, after_all_nothing}

@@ -3,8 +3,8 @@
 //! string is searched.
 ghost use Rattle.std.specs.Prelude.{◌≡◌, ℕ, ◌<◌, ◌≤◌, true, false, length, slice_index};
 ghost use Rattle.wave_lex.specs.LongestMatch.{Greatest, IsFront};
-ghost use Rattle.wave_lex.specs.Machines.{ends_whole, is_blank, is_digit, is_lower, is_plain, string_rest};
-ghost use Rattle.wave_lex.specs.Private.Reading.{LeadsTo, IsPlainRun, IsStep};
+ghost use Rattle.wave_lex.specs.Shared.Machines.{ends_whole, is_blank, is_digit, is_lower, is_plain, string_rest};
+ghost use Rattle.wave_lex.specs.Shared.Reading.{LeadsTo, IsPlainRun, IsStep};
 ghost use Rattle.wave_lex.specs.declared.machine.string.StringState.TheVariants.{Inside};
 ghost use Rattle.wave_lex.specs.Tokenization.{IsGap};
 ghost use Rattle.wave_lex.specs.Tokens.{label_or_keyword, multiline_string, number, one, string};

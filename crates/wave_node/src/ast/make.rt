@@ -1,8 +1,8 @@
 //! Nodes as a parser makes them and a display takes them apart.
 ghost use Rattle.std.specs.Prelude.{◌≡◌, []};
-ghost use Rattle.wave_forms.specs.NodeTree.{node, node_trees, children_of};
-ghost use Rattle.wave_forms.specs.Nodes.{IsParsedFrom};
-ghost use Rattle.wave_forms.specs.NodeAccessors.{node_text};
+ghost use Rattle.wave_syntax.specs.NodeTree.{node, node_trees, children_of};
+ghost use Rattle.wave_syntax.specs.Nodes.{IsParsedFrom};
+ghost use Rattle.wave_syntax.specs.NodeAccessors.{node_text};
 
 use super::{Node, NodeType};
 use std::alloc::Global;

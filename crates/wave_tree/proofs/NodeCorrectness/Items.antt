@@ -8,12 +8,12 @@ use Rattle.wave_grammar.specs.Token as token
 use Rattle.wave_grammar.specs.ParserPosition.{Place, TakesItem, text_at, span_at}
 use Rattle.wave_grammar.specs.Tree.{word_of, leaf_word, none_word, some_word, ok_word, err_word, case_word}
 use Rattle.wave_grammar.specs.SpannedTree.{one}
-use Rattle.wave_forms.specs.NodeTree.{NodeTree, node, no_nodes, node_trees}
-use Rattle.wave_forms.specs.declared.form.NodeType.{NodeType}
-use Rattle.wave_forms.specs.declared.form.NodeType.TheVariants as kind
+use Rattle.wave_syntax.specs.NodeTree.{NodeTree, node, no_nodes, node_trees}
+use Rattle.wave_syntax.specs.declared.form.NodeType.{NodeType}
+use Rattle.wave_syntax.specs.declared.form.NodeType.TheVariants as kind
 use Rattle.wave_tree.specs.ParsedNodes.{IsParsed, TakesClass}
 use Rattle.wave_tree.specs.Private.ParsedNodes.{IsParsedBehind, IsMaybe, IsPayload, IsOfItems, items_type, AreItems, AreFurther, IsKeyAt, ArePairs, IsOfEntries, IsOfFlags, label_children}
-use Rattle.wave_grammar.specs.Private.TokenRoles.{IsClose}
+use Rattle.wave_grammar.specs.Shared.TokenRoles.{IsClose}
 use Rattle.wave_lex.specs.Tokenization.{span}
 use Rattle.wave_tree.proofs.NodeCorrectness.Braces.{entries_parsed, empty_parsed, no_fields_parsed}
 use Rattle.wave_tree.proofs.NodeCorrectness.Flags.{flags_parsed}

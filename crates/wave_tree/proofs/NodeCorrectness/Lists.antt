@@ -11,12 +11,12 @@ use Rattle.wave_grammar.specs.Tree as tree
 use Rattle.wave_grammar.specs.Tree.{Tree, NoParen}
 use Rattle.wave_grammar.specs.SpannedTree as placed
 use Rattle.wave_grammar.specs.SpannedTree.{Placed, at, some, SpellsAll, SpellsEach, StandsAtTokens, placed_trees, placed_list, span_of, tree_of, slice}
-use Rattle.wave_forms.specs.NodeTree.{NodeTree, node_trees}
-use Rattle.wave_forms.specs.Nodes.{placed_of, all_placed, shape_from, and_then, with_both}
-use Rattle.wave_forms.specs.declared.form.NodeType.TheVariants as kind
+use Rattle.wave_syntax.specs.NodeTree.{NodeTree, node_trees}
+use Rattle.wave_syntax.specs.Nodes.{placed_of, all_placed, shape_from, and_then, with_both}
+use Rattle.wave_syntax.specs.declared.form.NodeType.TheVariants as kind
 use Rattle.wave_tree.specs.ParsedNodes.{IsSound, IsParsed}
 use Rattle.wave_tree.specs.Private.ParsedNodes.{IsClosed, AreFurther, AreItems, IsOfItems}
-use Rattle.wave_grammar.specs.Private.TokenRoles.{IsClose}
+use Rattle.wave_grammar.specs.Shared.TokenRoles.{IsClose}
 use Rattle.wave_grammar.specs.CommaSeparated.{Spelling, Closes, FurtherItems, Items}
 use Rattle.wave_tree.proofs.NodeCorrectness.Tokens.{in_order, sound_next, sound_tokens, start_of, at_start, made, takes_less}
 use Rattle.wave_tree.proofs.ParserSteps.{tokens_join}

@@ -13,7 +13,7 @@ use Rattle.wave_lex.specs.declared.lex.Token as lex
 use Rattle.wave_lex.specs.declared.lex.Token.TheVariants.{ParenOpen, ParenClose, Number, LabelOrKeyword, Char, String, MultilineString}
 use Rattle.wave_lex.specs.Tokens.{shape, gap}
 use Rattle.wave_lex.specs.Tokenization.{IsGap, IsLongestToken, Front, remainder_of, span, Stands}
-use Rattle.wave_lex.specs.Private.Reading.{class_of}
+use Rattle.wave_lex.specs.Shared.Reading.{class_of}
 use Rattle.wave_lex.proofs.Classes.{token_shows, shape_not_empty}
 use Rattle.wave_lex.proofs.LongestMatch.{front_positive}
 use Rattle.wave_lex.proofs.Scanning.{front_boundary}
@@ -24,10 +24,10 @@ use Rattle.wave_grammar.specs.Tree as tree
 use Rattle.wave_grammar.specs.Tree.{Tree, ATree, BehindWord, word_of, leaf_word, none_word, some_word, ok_word, err_word, case_word, MaybeInParens, NoParen}
 use Rattle.wave_grammar.specs.TypedGrammar.{InParens}
 use Rattle.wave_grammar.specs.SpannedTree.{Placed, at, Shape, one, none, some, ok, err, label, no_placed, a_placed, HoldsTokens, SpellsParts, SpellsEach, StandsAtTokens, part_places, LiesIn, span_of, tree_of, tree_of_shape, slice}
-use Rattle.wave_forms.specs.NodeTree.{NodeTree, node, no_nodes}
-use Rattle.wave_forms.specs.Nodes.{placed_of, shape_from, and_then, with_both}
-use Rattle.wave_forms.specs.declared.form.NodeType.{NodeType}
-use Rattle.wave_forms.specs.declared.form.NodeType.TheVariants as kind
+use Rattle.wave_syntax.specs.NodeTree.{NodeTree, node, no_nodes}
+use Rattle.wave_syntax.specs.Nodes.{placed_of, shape_from, and_then, with_both}
+use Rattle.wave_syntax.specs.declared.form.NodeType.{NodeType}
+use Rattle.wave_syntax.specs.declared.form.NodeType.TheVariants as kind
 use Rattle.wave_tree.specs.ParsedNodes.{IsSound, IsParsed}
 use Rattle.wave_tree.specs.Private.ParsedNodes.{IsPayload, IsMaybe}
 use Rattle.wave_tree.proofs.ParserSteps.{tokens_join, token_there}

@@ -2,7 +2,7 @@
 ghost use Rattle.std.specs.Prelude.{◌≡◌, ℕ, Some, IfOk, IfErr, option_map, map};
 ghost use Rattle.std.specs.Fmt.{DisplaysOnOk};
 ghost use Rattle.wave_grammar.specs.SpannedTree.{slice};
-ghost use Rattle.wave_forms.specs.ErrorSpans.{HasParamsKind, IsCausedInParams};
+ghost use Rattle.wave_syntax.specs.ErrorSpans.{HasParamsKind, IsCausedInParams};
 ghost use Rattle.wave_lex.specs.declared.error.ParserErrorKind.TheVariants.{WasmValueError};
 ghost use Rattle.wave_lex.specs.Errors.{LiesInText};
 ghost use Rattle.wave_lex.specs.FunctionName.{IsName};

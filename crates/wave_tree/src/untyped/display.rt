@@ -2,12 +2,12 @@
 ghost use Rattle.std.specs.Prelude.{◌≡◌, ◌++◌, All, Some, map, codes};
 ghost use Rattle.std.specs.Fmt.{WritesOnOk, DisplaysOnOk};
 ghost use Rattle.wave_wasm.specs.Commas.{joined, behind_name, in_parens, in_braces};
-ghost use Rattle.wave_wasm.specs.Private.Commas.{enclosed};
+ghost use Rattle.wave_wasm.specs.Shared.Commas.{enclosed};
 ghost use Rattle.wave_wasm.specs.Keywords.{case_label};
-ghost use Rattle.wave_forms.specs.NodeTree.{type_of};
-ghost use Rattle.wave_forms.specs.Nodes.{IsParsedFrom};
-ghost use Rattle.wave_forms.specs.TypedReading.{IsValueOf};
-ghost use Rattle.wave_forms.specs.NodeAccessors.{node_text};
+ghost use Rattle.wave_syntax.specs.NodeTree.{type_of};
+ghost use Rattle.wave_syntax.specs.Nodes.{IsParsedFrom};
+ghost use Rattle.wave_syntax.specs.TypedReading.{IsValueOf};
+ghost use Rattle.wave_syntax.specs.NodeAccessors.{node_text};
 ghost use Rattle.wave_tree.specs.DisplayKeeps.{IsKeptByDisplay};
 ghost use Rattle.wave_tree.specs.NodeDisplay.{shown_at};
 ghost use Rattle.wave_tree.specs.Private.NodeDisplay.{name_at, entries_at, fields_at, payload_at, AreEntriesOf};

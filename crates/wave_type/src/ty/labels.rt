@@ -4,7 +4,7 @@ ghost use Rattle.wave_wasm.specs.Types.{IsOwn, types_of, fields_of, cases_of, ma
 ghost use Rattle.wave_wasm.specs.Names.{is_one_of};
 ghost use Rattle.wave_lex.specs.Labels.{Good};
 ghost use Rattle.wave_type.specs.TypeModel.{by_bytes};
-ghost use Rattle.wave_type.specs.LabelTest.{is_label, are_label_names, names_pass, types_pass, fields_pass, cases_pass, payload_passes};
+ghost use Rattle.wave_type.specs.Private.LabelTest.{is_label, are_label_names, names_pass, types_pass, fields_pass, cases_pass, payload_passes};
 
 use super::{Shape, Type};
 use wave_lex::machine::label::LabelState;
@@ -145,7 +145,7 @@ fn stands_behind<N: Named>(items: &Vec<N>, from: usize, name: &str) -> bool
 }
 
 // Whether the name is a label: the longest label at its front is the whole name.
-fn is_label(name: &str) -> bool
+pub(crate) fn is_label(name: &str) -> bool
     ensures { result ≡ is_label name.now }
 {
     longest_front(LabelState::Start, name) == Some(name.len())

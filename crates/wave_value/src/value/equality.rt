@@ -4,7 +4,7 @@ ghost use Rattle.std.specs.Str.{bytes_eq};
 ghost use Rattle.std.specs.Cmp.Lexicographic.{pointwise};
 ghost use Rattle.wave_wasm.specs.Types.{flags_names};
 ghost use Rattle.wave_value.specs.ValueModel.{name_at, boxed};
-ghost use Rattle.wave_value.specs.ContentEquality.{same_all, same_pairs, same_option, same_content};
+ghost use Rattle.wave_value.specs.Private.ContentEquality.{same_all, same_pairs, same_option, same_content};
 
 use super::{Content, Type, Value};
 use std::boxed::Box;

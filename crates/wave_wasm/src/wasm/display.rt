@@ -4,11 +4,11 @@ ghost use Rattle.std.specs.Fmt.{DisplaysOnOk};
 ghost use Rattle.std.specs.List.{list_all};
 ghost use Rattle.std.specs.String.{string_bytes};
 ghost use Rattle.wave_wasm.specs.Types.{kind_of, maybe_type};
-ghost use Rattle.wave_wasm.specs.Private.Commas.{comma_if};
+ghost use Rattle.wave_wasm.specs.Shared.Commas.{comma_if};
 ghost use Rattle.wave_wasm.specs.Commas.{joined, in_parens};
 ghost use Rattle.wave_wasm.specs.Borrowed.{texts, shown, shown_all};
 ghost use Rattle.wave_wasm.specs.Text.{text, has_text, arguments_text, results_text};
-ghost use Rattle.wave_wasm.specs.TypeText.{type_text, payload_text, braced, function_results_text, typed_names, IsFuncText, ShowsFunc};
+ghost use Rattle.wave_wasm.specs.TypeText.{type_text, payload_text, braced, function_results_text, typed_names, function_text};
 ghost use Rattle.wave_wasm.specs.Private.TypeText.{name_part};
 
 use crate::wasm::{WasmFunc, WasmType, WasmTypeKind, WasmValue};
@@ -111,9 +111,9 @@ impl<F: WasmFunc> DisplayFunc<F> {
 }
 
 impl<F: WasmFunc> fmt::Display for DisplayFunc<F> {
-    fn fmt<W: fmt::Write>(&self, f: &mut fmt::Formatter<W>) -> fmt::Result
-        ensures { ShowsFunc W.write_str_gives (F.func self.now) f.old result f.new }
-    {
+    ghost output = { λ d. Some (function_text (F.func d)) };
+
+    fn fmt<W: fmt::Write>(&self, f: &mut fmt::Formatter<W>) -> fmt::Result {
         match func_to_string(self.alloc, &self.func) {
             Ok(text) => f.write_str(text.as_str()),
             Err(_) => Err(fmt::Error),
@@ -197,7 +197,7 @@ impl<V: WasmValue> fmt::Display for DisplayFuncResults<'_, V> {
 
 /// The text of a function's type.
 fn func_to_string<F: WasmFunc>(alloc: Global, func: &F) -> Result<String, AllocError>
-    ensures { IfOk result (λ s. IsFuncText (F.func func.now) (string_bytes s)) }
+    ensures { IfOk result (λ s. string_bytes s ≡ function_text (F.func func.now)) }
 {
     let params = func.params(alloc)?;
     let param_names = func.param_names(alloc)?;

@@ -1,5 +1,5 @@
 use Rattle.std.proofs.Common.{sym, ◌∙◌, ap, arith, ◌≡◌}
-use Rattle.wave_lex.specs.Private.Reading.{class_of}
+use Rattle.wave_lex.specs.Shared.Reading.{class_of}
 use Rattle.wave_lex.proofs.Classes.{class_here, class_quoted, not_quoted}
 use Rattle.wave_lex.proofs.lex.class_at.Goals as goal
 

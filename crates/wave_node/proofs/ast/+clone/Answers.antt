@@ -1,7 +1,7 @@
 use Rattle.std.proofs.Common.{arith, ap, List}
-use Rattle.wave_forms.specs.NodeTree.{NodeTree, node_trees}
-use Rattle.wave_forms.specs.Private.NodeTree.{depth, nodes_depth}
-use Rattle.wave_forms.proofs.ChildNodes.Trees.{node_below}
+use Rattle.wave_syntax.specs.NodeTree.{NodeTree, node_trees}
+use Rattle.wave_syntax.specs.Shared.NodeTree.{depth, nodes_depth}
+use Rattle.wave_syntax.proofs.ChildNodes.Trees.{node_below}
 use Rattle.wave_node.proofs.ast.+clone.Goals as goal
 
 pub Node::clone-clone_nodes-requires : goal.Node::clone-clone_nodes-requires

@@ -1,6 +1,6 @@
 use Rattle.std.proofs.Common.{◌≡◌, ◌+◌, ◌*◌, take}
-use Rattle.wave_forms.specs.Private.NodeTree.{depth, nodes_depth}
-use Rattle.wave_forms.specs.NodeTree.{node_trees}
+use Rattle.wave_syntax.specs.Shared.NodeTree.{depth, nodes_depth}
+use Rattle.wave_syntax.specs.NodeTree.{node_trees}
 use Rattle.wave_node.proofs.ast.+clone.Given as goal
 
 abbrev pub decreases-Node::clone : goal.decreases-Node::clone

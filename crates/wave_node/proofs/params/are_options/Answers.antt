@@ -1,8 +1,8 @@
 use Rattle.std.proofs.Common.{map, sym, ◌∙◌}
 use Rattle.wave_grammar.specs.TypedGrammar.{IsOption}
-use Rattle.wave_forms.specs.NodeParams.{IsNoOption}
-use Rattle.wave_forms.proofs.Parameters.{option_kind, no_option_kind, all_more, some_of}
-use Rattle.wave_forms.proofs.ByKind.Tuples.{place_has, map_has}
+use Rattle.wave_syntax.specs.NodeParams.{IsNoOption}
+use Rattle.wave_syntax.proofs.Parameters.{option_kind, no_option_kind, all_more, some_of}
+use Rattle.wave_syntax.proofs.ByKind.Tuples.{place_has, map_has}
 use Rattle.wave_node.proofs.params.are_options.Goals as goal
 
 pub returns-then-not-is_option : goal.returns-then-not-is_option

@@ -1,5 +1,5 @@
 use Rattle.wave_lex.specs.declared.error.ParserErrorKind.TheVariants as because
-use Rattle.wave_forms.proofs.ErrorSpans.Nodes.{memory_or_plain}
+use Rattle.wave_syntax.proofs.ErrorSpans.Nodes.{memory_or_plain}
 use Rattle.wave_node.proofs.params.omitted_params.Goals as goal
 
 pub returns-then-not-are_options-clause-within : goal.returns-then-not-are_options-clause-within

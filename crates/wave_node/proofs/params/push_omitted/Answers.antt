@@ -1,11 +1,11 @@
 use Rattle.std.proofs.Common.{map}
 use Rattle.wave_wasm.specs.Types.{HasDistinctNames}
 use Rattle.wave_grammar.specs.TypedGrammar.{IsOption}
-use Rattle.wave_forms.proofs.Parameters.{omission_refused, omitted_more}
-use Rattle.wave_forms.proofs.ByKind.Tuples.{place_has, map_has, all_has}
-use Rattle.wave_forms.specs.ErrorSpans.{IsAtPlace}
-use Rattle.wave_forms.proofs.Parameters.{error_handed}
-use Rattle.wave_forms.proofs.ErrorSpans.Nodes.{made_cause, memory_at}
+use Rattle.wave_syntax.proofs.Parameters.{omission_refused, omitted_more}
+use Rattle.wave_syntax.proofs.ByKind.Tuples.{place_has, map_has, all_has}
+use Rattle.wave_syntax.specs.ErrorSpans.{IsAtPlace}
+use Rattle.wave_syntax.proofs.Parameters.{error_handed}
+use Rattle.wave_syntax.proofs.ErrorSpans.Nodes.{made_cause, memory_at}
 use Rattle.wave_node.proofs.params.push_omitted.Goals as goal
 
 pub returns-in-Err-clause-refused : goal.returns-in-Err-clause-refused

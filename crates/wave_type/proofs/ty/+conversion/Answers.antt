@@ -3,7 +3,7 @@ use Rattle.std.specs.Result.{IfOk}
 use Rattle.wave_wasm.specs.Borrowed.{shown, named}
 use Rattle.wave_wasm.specs.Types.{TypeTree, is_own}
 use Rattle.wave_type.specs.TypeMade.{tuple_type, record_type, variant_type}
-use Rattle.wave_wasm.specs.Private.Types.{depth}
+use Rattle.wave_wasm.specs.Shared.Types.{depth}
 use Rattle.wave_wasm.proofs.Sequence.{part_depth}
 use Rattle.wave_wasm.proofs.TypeTrees.{record_is, tuple_is, variant_is, field_depth, case_depth}
 use Rattle.wave_type.proofs.TypeConversion.{record_start, tuple_start, variant_start, can_be_payload, converted_is, refused_is, payload_is, refused_payload, remaining_more, remaining_none, remaining_done, pushed, named_pushed}

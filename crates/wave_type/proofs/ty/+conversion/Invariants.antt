@@ -1,6 +1,6 @@
 use Rattle.std.proofs.Common.{◌≡◌, ◌+◌, ◌*◌, map, drop}
 use Rattle.wave_wasm.specs.Borrowed.{shown, named}
-use Rattle.wave_wasm.specs.Private.Types.{depth, depth_of_maybe}
+use Rattle.wave_wasm.specs.Shared.Types.{depth, depth_of_maybe}
 use Rattle.wave_wasm.specs.Types.{maybe_type, is_own}
 use Rattle.wave_type.specs.TypeMade.{tuple_type, record_type, variant_type}
 use Rattle.wave_type.specs.TypeConversion.{converted_type}

@@ -3,7 +3,7 @@ use Rattle.std.specs.String.{string_bytes}
 use Rattle.wave_wasm.proofs.Trees.{map_map}
 use Rattle.std.proofs.lemmas.List.{take_all}
 use Rattle.wave_wasm.specs.Private.Merge.{with_key_texts}
-use Rattle.wave_wasm.specs.Private.Values.{IsLeaf}
+use Rattle.wave_wasm.specs.Shared.Values.{IsLeaf}
 use Rattle.wave_wasm.specs.Text.{text}
 use Rattle.wave_wasm.proofs.MergeCongruence.{merge_texts}
 use Rattle.wave_wasm.proofs.Sequence.{all_at}

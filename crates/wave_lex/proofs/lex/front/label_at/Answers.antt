@@ -1,6 +1,6 @@
 use Rattle.std.proofs.Common.{refl, arith, sym, ◌∙◌}
 use Rattle.wave_lex.specs.Tokens.{label_or_keyword}
-use Rattle.wave_lex.specs.Machines.{label_token_rest}
+use Rattle.wave_lex.specs.Shared.Machines.{label_token_rest}
 use Rattle.wave_lex.specs.declared.machine.label.LabelState.TheVariants.{Lower}
 use Rattle.wave_lex.specs.declared.machine.label.LabelTokenState.TheVariants.{Label}
 use Rattle.wave_lex.proofs.Fronts.{front_there, front_behind}

@@ -1,6 +1,6 @@
 use Rattle.std.proofs.Common.{refl, arith, sym, ◌∙◌}
 use Rattle.wave_lex.specs.Tokens.{number}
-use Rattle.wave_lex.specs.Machines.{number_rest}
+use Rattle.wave_lex.specs.Shared.Machines.{number_rest}
 use Rattle.wave_lex.specs.declared.machine.number.NumberState.TheVariants.{Whole}
 use Rattle.wave_lex.proofs.Fronts.{front_there, front_behind}
 use Rattle.wave_lex.proofs.Runs.{digits_end, digits_cut, digits_lead}

@@ -1,5 +1,5 @@
 use Rattle.std.proofs.Common.{ℕ, subst, sym}
-use Rattle.wave_lex.specs.Private.Reading.{IsPlainRun}
+use Rattle.wave_lex.specs.Shared.Reading.{IsPlainRun}
 use Rattle.wave_lex.proofs.Runs.{plain_found}
 use Rattle.wave_lex.proofs.lex.front.plains_at_once.Goals as goal
 

@@ -1,5 +1,5 @@
 use Rattle.wave_lex.specs.Tokens.{string}
-use Rattle.wave_lex.specs.Machines.{string_rest}
+use Rattle.wave_lex.specs.Shared.Machines.{string_rest}
 use Rattle.wave_lex.specs.declared.machine.string.StringState.TheVariants.{Inside}
 use Rattle.wave_lex.proofs.Fronts.{front_behind, none_behind, lead_boundary}
 use Rattle.wave_lex.proofs.Runs.{inside_none}

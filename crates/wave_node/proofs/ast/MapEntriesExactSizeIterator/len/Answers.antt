@@ -1,5 +1,5 @@
 use Rattle.std.proofs.Common.{ap, ◌∙◌, length}
-use Rattle.wave_forms.proofs.ChildNodes.Entries.{pairs_count}
+use Rattle.wave_syntax.proofs.ChildNodes.Entries.{pairs_count}
 use Rattle.wave_node.proofs.ast.MapEntriesExactSizeIterator.len.Goals as goal
 
 pub returns-clause-value : goal.returns-clause-value

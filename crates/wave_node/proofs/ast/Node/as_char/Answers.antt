@@ -1,5 +1,5 @@
 use Rattle.std.proofs.Common.{inr}
-use Rattle.wave_forms.proofs.Strings.Chars.{char_means, char_none}
+use Rattle.wave_syntax.proofs.Strings.Chars.{char_means, char_none}
 use Rattle.wave_node.proofs.ast.Node.as_char.Goals as goal
 
 pub returns-in-Some : goal.returns-in-Some

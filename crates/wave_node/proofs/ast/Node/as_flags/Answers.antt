@@ -1,7 +1,7 @@
 use Rattle.std.proofs.Common.{sym, ap, ◌∙◌, subst}
-use Rattle.wave_forms.specs.Private.NodeFlags.{AreAllParsed}
-use Rattle.wave_forms.specs.NodeFlags.{AreInOrder, names_at}
-use Rattle.wave_forms.proofs.FlagNodes.{labels_of, labels_ordered}
+use Rattle.wave_syntax.specs.Shared.NodeFlags.{AreAllParsed}
+use Rattle.wave_syntax.specs.NodeFlags.{AreInOrder, names_at}
+use Rattle.wave_syntax.proofs.FlagNodes.{labels_of, labels_ordered}
 use Rattle.wave_node.proofs.ast.Node.as_flags.Goals as goal
 
 pub new-requires : goal.new-requires

@@ -1,4 +1,4 @@
-use Rattle.wave_forms.proofs.ChildNodes.Parts.{list_within}
+use Rattle.wave_syntax.proofs.ChildNodes.Parts.{list_within}
 use Rattle.wave_node.proofs.ast.Node.as_list.Goals as goal
 
 pub returns : goal.returns

@@ -1,8 +1,8 @@
 use Rattle.std.proofs.Common.{rules, ◌≡◌, ◌⊎◌}
-use Rattle.wave_forms.specs.NodeTree.{type_of, children_of}
-use Rattle.wave_forms.specs.NodeAccessors.{node_pairs}
-use Rattle.wave_forms.specs.declared.form.NodeType.TheVariants as kind
-use Rattle.wave_forms.proofs.ChildNodes.Parts.{entries_within}
+use Rattle.wave_syntax.specs.NodeTree.{type_of, children_of}
+use Rattle.wave_syntax.specs.NodeAccessors.{node_pairs}
+use Rattle.wave_syntax.specs.declared.form.NodeType.TheVariants as kind
+use Rattle.wave_syntax.proofs.ChildNodes.Parts.{entries_within}
 use Rattle.wave_node.proofs.ast.Node.as_map.Goals as goal
 
 pub returns-in-TupleSet : goal.returns-in-TupleSet

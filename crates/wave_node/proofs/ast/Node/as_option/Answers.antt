@@ -1,8 +1,8 @@
 use Rattle.std.proofs.Common.{rules, ◌≡◌, inl}
-use Rattle.wave_forms.specs.NodeTree.{type_of, children_of}
-use Rattle.wave_forms.specs.NodeAccessors.{shown_node, first_of}
-use Rattle.wave_forms.specs.declared.form.NodeType.TheVariants as kind
-use Rattle.wave_forms.proofs.ChildNodes.Parts.{some_within}
+use Rattle.wave_syntax.specs.NodeTree.{type_of, children_of}
+use Rattle.wave_syntax.specs.NodeAccessors.{shown_node, first_of}
+use Rattle.wave_syntax.specs.declared.form.NodeType.TheVariants as kind
+use Rattle.wave_syntax.proofs.ChildNodes.Parts.{some_within}
 use Rattle.wave_node.proofs.ast.Node.as_option.Goals as goal
 
 pub returns-in-OptionSome : goal.returns-in-OptionSome

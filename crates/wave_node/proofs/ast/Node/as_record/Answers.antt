@@ -1,13 +1,13 @@
 use Rattle.std.proofs.Common.{List, inl, refl, sym, ap, ◌∙◌, subst}
 use Rattle.wave_wasm.specs.Lists.{AllOf}
-use Rattle.wave_forms.specs.NodeTree.{NodeTree, children_of}
-use Rattle.wave_forms.specs.NodeAccessors.{IsEntryOf, node_pairs}
-use Rattle.wave_forms.specs.TypedReading.{IsValueOf}
-use Rattle.wave_forms.specs.Private.NodeFields.{fields_at}
-use Rattle.wave_forms.proofs.ChildNodes.Parts.{fields_values, entries_within}
-use Rattle.wave_forms.proofs.Fields.Lookup.{set_value}
-use Rattle.wave_forms.specs.ErrorSpans.{StandsIn}
-use Rattle.wave_forms.proofs.Parameters.{error_handed}
+use Rattle.wave_syntax.specs.NodeTree.{NodeTree, children_of}
+use Rattle.wave_syntax.specs.NodeAccessors.{IsEntryOf, node_pairs}
+use Rattle.wave_syntax.specs.TypedReading.{IsValueOf}
+use Rattle.wave_syntax.specs.Shared.NodeFields.{fields_at}
+use Rattle.wave_syntax.proofs.ChildNodes.Parts.{fields_values, entries_within}
+use Rattle.wave_syntax.proofs.Fields.Lookup.{set_value}
+use Rattle.wave_syntax.specs.ErrorSpans.{StandsIn}
+use Rattle.wave_syntax.proofs.Parameters.{error_handed}
 use Rattle.wave_node.proofs.ast.Node.as_record.Goals as goal
 
 pub new-requires : goal.new-requires

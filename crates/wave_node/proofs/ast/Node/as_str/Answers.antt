@@ -1,8 +1,8 @@
 use Rattle.std.proofs.Common.{[], ap, subst}
 use Rattle.wave_lex.specs.Parts.{left_of}
-use Rattle.wave_forms.specs.NodeTree.{place_of}
+use Rattle.wave_syntax.specs.NodeTree.{place_of}
 use Rattle.wave_grammar.specs.StringAssembly.{IsUncopied, PutTogether}
-use Rattle.wave_forms.proofs.Strings.Nodes.{parts_given, parts_refused_on}
+use Rattle.wave_syntax.proofs.Strings.Nodes.{parts_given, parts_refused_on}
 use Rattle.wave_node.proofs.ast.Node.as_str.Goals as goal
 
 pub returns : goal.returns

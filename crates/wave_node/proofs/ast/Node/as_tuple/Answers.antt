@@ -1,4 +1,4 @@
-use Rattle.wave_forms.proofs.ChildNodes.Parts.{tuple_within}
+use Rattle.wave_syntax.proofs.ChildNodes.Parts.{tuple_within}
 use Rattle.wave_node.proofs.ast.Node.as_tuple.Goals as goal
 
 pub returns : goal.returns

@@ -1,5 +1,5 @@
 use Rattle.std.proofs.Common.{arith, inr, refl}
-use Rattle.wave_forms.proofs.ChildNodes.Cases.{two_nodes, label_parsed, case_given}
+use Rattle.wave_syntax.proofs.ChildNodes.Cases.{two_nodes, label_parsed, case_given}
 use Rattle.wave_node.proofs.ast.Node.as_variant.Goals as goal
 
 pub bounds-nodes-0 : goal.bounds-nodes-0

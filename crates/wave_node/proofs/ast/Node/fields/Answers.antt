@@ -1,12 +1,12 @@
 use Rattle.std.proofs.Common.{arith, map, take, refl}
-use Rattle.wave_forms.specs.NodeAccessors.{node_pairs}
-use Rattle.wave_forms.specs.NodeFields.{field_of, RefusesFields}
-use Rattle.wave_forms.proofs.ByKind.Lists.{HasAt}
-use Rattle.wave_forms.proofs.Fields.Lookup.{pair_has, key_parsed, new_name, old_name, refused_label, refused_name, fields_whole, held_whole, fields_kept, field_held, err_handed}
-use Rattle.wave_forms.specs.Private.ErrorSpans.{RefusesIn}
-use Rattle.wave_forms.proofs.Parameters.{error_handed}
+use Rattle.wave_syntax.specs.NodeAccessors.{node_pairs}
+use Rattle.wave_syntax.specs.NodeFields.{field_of, RefusesFields}
+use Rattle.wave_syntax.proofs.ByKind.Lists.{HasAt}
+use Rattle.wave_syntax.proofs.Fields.Lookup.{pair_has, key_parsed, new_name, old_name, refused_label, refused_name, fields_whole, held_whole, fields_kept, field_held, err_handed}
+use Rattle.wave_syntax.specs.Shared.ErrorSpans.{RefusesIn}
+use Rattle.wave_syntax.proofs.Parameters.{error_handed}
 use Rattle.wave_lex.specs.declared.error.ParserErrorKind.TheVariants as because
-use Rattle.wave_forms.proofs.ErrorSpans.Nodes.{deeper, key_belongs, at_in, form_at, said_here, memory_here, memory_or_said}
+use Rattle.wave_syntax.proofs.ErrorSpans.Nodes.{deeper, key_belongs, at_in, form_at, said_here, memory_here, memory_or_said}
 use Rattle.wave_node.proofs.ast.Node.fields.Goals as goal
 
 pub field_name-requires : goal.field_name-requires

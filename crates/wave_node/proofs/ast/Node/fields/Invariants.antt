@@ -1,8 +1,8 @@
 use Rattle.std.proofs.Common.{take, map}
-use Rattle.wave_forms.specs.NodeAccessors.{node_pairs}
-use Rattle.wave_forms.specs.NodeFields.{field_of}
-use Rattle.wave_forms.specs.Private.NodeFields.{HoldsFields}
-use Rattle.wave_forms.proofs.Fields.Lookup.{FieldsSoFar}
+use Rattle.wave_syntax.specs.NodeAccessors.{node_pairs}
+use Rattle.wave_syntax.specs.NodeFields.{field_of}
+use Rattle.wave_syntax.specs.Shared.NodeFields.{HoldsFields}
+use Rattle.wave_syntax.proofs.Fields.Lookup.{FieldsSoFar}
 use Rattle.wave_node.proofs.ast.Node.fields.Given as goal
 
 abbrev pub invariant-loop-i : goal.invariant-loop-i

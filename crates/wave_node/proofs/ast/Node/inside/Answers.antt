@@ -1,7 +1,7 @@
 use Rattle.std.proofs.Common.{ℕ, List, ◌++◌, arith, sym, ap, ◌∙◌}
-use Rattle.wave_forms.specs.NodeTree.{type_of}
-use Rattle.wave_forms.specs.NodeAccessors.{quotes_of}
-use Rattle.wave_forms.proofs.Strings.Quoted.{node_cut}
+use Rattle.wave_syntax.specs.NodeTree.{type_of}
+use Rattle.wave_syntax.specs.NodeAccessors.{quotes_of}
+use Rattle.wave_syntax.proofs.Strings.Quoted.{node_cut}
 use Rattle.wave_node.proofs.ast.Node.inside.Goals as goal
 
 pub overflow_sub-end : goal.overflow_sub-end

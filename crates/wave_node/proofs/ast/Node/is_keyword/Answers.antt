@@ -1,5 +1,5 @@
 use Rattle.std.proofs.Common.{◌∙◌, sym}
-use Rattle.wave_forms.proofs.Fields.Reading.{failed}
+use Rattle.wave_syntax.proofs.Fields.Reading.{failed}
 use Rattle.wave_node.proofs.ast.Node.is_keyword.Goals as goal
 
 pub returns-then-not-is_of : goal.returns-then-not-is_of

@@ -2,9 +2,9 @@ use Rattle.std.proofs.Common.{◌≡◌, ℕ, ◌+◌, inl, inr, List, Result, O
 use Rattle.wave_lex.specs.Errors.{Diagnostic}
 use Rattle.wave_lex.specs.Parts.{left_of, OpensTo, OpeningRefused}
 use Rattle.wave_lex.specs.declared.strings.StringPartsIter.{StringPartsIter}
-use Rattle.wave_forms.specs.NodeTree.{NodeTree, type_of, place_of}
-use Rattle.wave_forms.specs.NodeAccessors.{IsInside, GivesParts}
-use Rattle.wave_forms.specs.declared.form.NodeType.TheVariants as kind
+use Rattle.wave_syntax.specs.NodeTree.{NodeTree, type_of, place_of}
+use Rattle.wave_syntax.specs.NodeAccessors.{IsInside, GivesParts}
+use Rattle.wave_syntax.specs.declared.form.NodeType.TheVariants as kind
 use Rattle.wave_node.proofs.ast.Node.iter_str.Goals as goal
 
 -- a multiline string, or what its opening refuses

@@ -1,6 +1,6 @@
 use Rattle.std.proofs.Common.{sym, ap, ◌∙◌}
-use Rattle.wave_forms.specs.NodeTree.{children_of}
-use Rattle.wave_forms.proofs.ChildNodes.Trees.{list_of_trees}
+use Rattle.wave_syntax.specs.NodeTree.{children_of}
+use Rattle.wave_syntax.proofs.ChildNodes.Trees.{list_of_trees}
 use Rattle.wave_node.proofs.ast.Node.nodes.Goals as goal
 
 pub returns : goal.returns

@@ -1,4 +1,4 @@
-use Rattle.wave_forms.proofs.ChildNodes.Inside.{stands_at}
+use Rattle.wave_syntax.proofs.ChildNodes.Inside.{stands_at}
 use Rattle.wave_node.proofs.ast.Node.slice.Goals as goal
 
 pub range-requires-clause-start_le_end : goal.range-requires-clause-start_le_end

@@ -1,20 +1,20 @@
 use Rattle.std.proofs.Common.{◌≡◌, ◌≤◌, ◌-◌, length, map, take, drop, inl, inr, sym, subst, arith}
 use Rattle.wave_wasm.specs.Lists.{AllOf}
 use Rattle.wave_wasm.specs.Types.{HasDistinctNames}
-use Rattle.wave_forms.specs.NodeParams.{RefusesParams}
-use Rattle.wave_forms.specs.Private.NodeParams.{RefusesOmitted}
-use Rattle.wave_forms.proofs.ByKind.Tuples.{tuple_nodes, given_items, tuple_item, tuple_kept, place_has, map_has, all_has}
-use Rattle.wave_forms.proofs.Parameters.{mapped_count, rest_mapped, error_handed, handed_is, all_drop, too_many_refused, item_refused, missing_refused, params_read, omitted_refused}
+use Rattle.wave_syntax.specs.NodeParams.{RefusesParams}
+use Rattle.wave_syntax.specs.Shared.NodeParams.{RefusesOmitted}
+use Rattle.wave_syntax.proofs.ByKind.Tuples.{tuple_nodes, given_items, tuple_item, tuple_kept, place_has, map_has, all_has}
+use Rattle.wave_syntax.proofs.Parameters.{mapped_count, rest_mapped, error_handed, handed_is, all_drop, too_many_refused, item_refused, missing_refused, params_read, omitted_refused}
 use Rattle.std.proofs.Common.{ℕ, ap, ◌∙◌}
 use Rattle.std.specs.declared.ops.Range.{Range}
 use Rattle.wave_lex.specs.Errors.{Diagnostic, Refusal}
 use Rattle.wave_lex.specs.declared.error.ParserErrorKind.TheVariants as because
-use Rattle.wave_forms.specs.NodeTree.{place_of}
-use Rattle.wave_forms.specs.NodeAccessors.{RefusedAs}
+use Rattle.wave_syntax.specs.NodeTree.{place_of}
+use Rattle.wave_syntax.specs.NodeAccessors.{RefusedAs}
 use Rattle.wave_lex.specs.Errors.{LiesInText}
-use Rattle.wave_forms.specs.ErrorSpans.{IsAtPlace, IsCausedIn, IsTypeKind, HasParamsKind}
-use Rattle.wave_forms.proofs.ErrorSpans.Nodes.{at_in, at_in_text, form_at, memory_at, memory_here, node_in_text, deeper_at, close_lies, said_params_kind, omitted_kind}
-use Rattle.wave_forms.proofs.KeyNodes.{other_value}
+use Rattle.wave_syntax.specs.ErrorSpans.{IsAtPlace, IsCausedIn, IsTypeKind, HasParamsKind}
+use Rattle.wave_syntax.proofs.ErrorSpans.Nodes.{at_in, at_in_text, form_at, memory_at, memory_here, node_in_text, deeper_at, close_lies, said_params_kind, omitted_kind}
+use Rattle.wave_syntax.proofs.KeyNodes.{other_value}
 use Rattle.wave_node.proofs.ast.Node.to_wasm_params.Goals as goal
 
 pub returns-then-i-types-clause-refused : goal.returns-then-i-types-clause-refused

@@ -2,8 +2,8 @@ use Rattle.std.proofs.Common.{List, ◌≤◌, length, map, take}
 use Rattle.wave_wasm.specs.Lists.{AllOf}
 use Rattle.wave_wasm.specs.Types.{HasDistinctNames}
 use Rattle.wave_grammar.specs.SpannedTree.{Placed}
-use Rattle.wave_forms.proofs.ByKind.Lists.{AreNodesOf}
-use Rattle.wave_forms.proofs.ByKind.Tuples.{ReadAt}
+use Rattle.wave_syntax.proofs.ByKind.Lists.{AreNodesOf}
+use Rattle.wave_syntax.proofs.ByKind.Tuples.{ReadAt}
 use Rattle.wave_node.proofs.ast.Node.to_wasm_params.Given as goal
 
 abbrev pub invariant-loop-i : goal.invariant-loop-i

@@ -1,6 +1,6 @@
-use Rattle.wave_forms.proofs.Faultless.{refused}
-use Rattle.wave_forms.proofs.KeyNodes.{keyword_key, keyword_no_value, value_node, key_node, key_read, key_told_none, simple_distinct}
-use Rattle.wave_forms.proofs.ErrorSpans.Nodes.{all_stand, all_kinds, all_in_text}
+use Rattle.wave_syntax.proofs.Faultless.{refused}
+use Rattle.wave_syntax.proofs.KeyNodes.{keyword_key, keyword_no_value, value_node, key_node, key_read, key_told_none, simple_distinct}
+use Rattle.wave_syntax.proofs.ErrorSpans.Nodes.{all_stand, all_kinds, all_in_text}
 use Rattle.wave_node.proofs.ast.Node.to_wasm_value.Goals as goal
 
 pub read_keyword-requires : goal.read_keyword-requires

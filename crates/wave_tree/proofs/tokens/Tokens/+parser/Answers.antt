@@ -9,7 +9,7 @@ use Rattle.wave_grammar.specs.PrefixAutomaton.{Due, Form, due_behind, reads, beh
 use Rattle.wave_grammar.specs.PrefixAutomaton as due
 use Rattle.wave_grammar.specs.SyntaxErrors.{Gives, IsBehind, LeadsBehindValue}
 use Rattle.std.specs.declared.ops.Range.{Range}
-use Rattle.wave_grammar.specs.Private.TokenRoles.{form_of, IsClose}
+use Rattle.wave_grammar.specs.Shared.TokenRoles.{form_of, IsClose}
 use Rattle.wave_tree.specs.Private.ParserState.{spec_word}
 use Rattle.wave_lex.specs.declared.error.ParserErrorKind.TheVariants as because
 use Rattle.wave_tree.proofs.ParserSteps.{no_level, kind_is, here, here_is, handed, gives_then, fails, any_token, shallow, value_read, no_value, level_open, read_there, unexpected_there, no_paren, then_token, token_there, behind_bare, reached, fails_behind, then_behind, payload_other, unexpected_behind, expected, untrue, moved, then_class, then_behind_class, range_path, close_first, close_empty, close_next, then_same, then_refuses, item_refuses, item_read, then_reached, Reached, IsItemDue, no_close, empty_there, key_reads, no_key, brace_key, entries_other, close_behind, comma_behind, other_behind, token_less, tokens_less, left_at, no_colon, no_brace}
@@ -17,16 +17,16 @@ use Rattle.wave_tree.specs.declared.role.LabelRole.{LabelRole}
 use Rattle.wave_tree.specs.Private.ParserState.{Stream, AsksFor, HasText}
 use Rattle.wave_tree.specs.Private.ParsedNodes.{IsParsedBehind, IsMaybe, IsPayload, IsOfItems, IsOfEntries, IsOfFlags, items_type, label_children}
 use Rattle.wave_tree.specs.ParsedNodes.{TakesClass}
-use Rattle.wave_forms.specs.NodeTree.{NodeTree, node, no_nodes}
-use Rattle.wave_forms.specs.declared.form.NodeType.TheVariants as kind_of_node
+use Rattle.wave_syntax.specs.NodeTree.{NodeTree, node, no_nodes}
+use Rattle.wave_syntax.specs.declared.form.NodeType.TheVariants as kind_of_node
 use Rattle.wave_tree.proofs.NodeCorrectness.Items.{class_as, one_tied, label_tied, items_tied, braces_tied, leaf_tied, number_word_tied, none_tied, some_tied, ok_tied, err_tied, case_tied, some_there, type_of_items, items_made, items_none, items_first, items_next, pairs_next, pairs_close, empty_tied, no_fields_tied, entries_tied, flags_tied, payload_tied}
 use Rattle.wave_tree.proofs.NodeCorrectness.Tokens.{number_parsed, char_parsed, string_parsed, multiline_parsed}
-use Rattle.wave_forms.proofs.Parameters.{error_handed}
+use Rattle.wave_syntax.proofs.Parameters.{error_handed}
 use Rattle.wave_tree.specs.Private.ParserState.{WantsOnly}
-use Rattle.wave_tree.proofs.Wanting.{wants_reached, answer_token, answer_brace, wants_other, wants_fails, wants_taken}
+use Rattle.wave_tree.proofs.Wanting.{wants_reached, wants_less, answer_token, answer_brace, wants_other, wants_fails, wants_taken}
 use Rattle.wave_tree.proofs.PartsDue.{key_next, value_next, payload_due, payload_parts}
-use Rattle.wave_tree.proofs.Built.{built, leaf_built, whole_built, as_ok, of_front, of_part, source_item, source_parsed, source_reached}
-use Rattle.wave_plan.specs.NodeParts.{IsOfParts, TakesPart}
+use Rattle.wave_tree.proofs.Built.{built, leaf_built, whole_built, as_ok, of_front, of_part, wants_part, source_item, source_parsed, source_reached}
+use Rattle.wave_syntax.specs.NodeParts.{IsOfParts, TakesPart}
 use Rattle.wave_tree.specs.ParsedNodes.{IsBuilt, IsParsed}
 use Rattle.wave_tree.proofs.ClassTests.{is_class, is_other, differs, differs_not}
 use Rattle.wave_tree.proofs.LexerCallCount.{asks_none, asks_once, asks_token, asks_looked, asks_read, asks_reached}
@@ -453,35 +453,35 @@ parse_entries-returns-in_err-with_key-clause-asks g t c =
     asks_entries c.args.levels c.args.self.now c.entries.self c.advance-in-entries.new.self c.entries.invariant.led c.entries.invariant.asks (asks_value c.args.levels c.entries.self c.parse_node.new.self c.advance-in-entries.new.self c.in_ok-value.ensures.led c.parse_node.ensures.asks (asks_token c.parse_node.new.self c.advance.new.self c.advance-in-entries.new.self c.in_ok-token.token c.in_ok-token.ensures.takes c.advance.ensures.asks (asks_once c.advance.new.self c.advance-in-entries.new.self c.advance-in-entries.ensures.asks)))
 
 pub parse_node-returns-in-Number-clause-tree : goal.parse_node-returns-in-Number-clause-tree
-parse_node-returns-in-Number-clause-tree g t c = leaf_built (g.P.Plan.is_made c.args.plan) c.args.self.now.place c.advance.new.self.place c.in_ok-token.token kind_of_node.Number c.leaf.result (IsParsed c.args.levels c.args.self.now.place c.advance.new.self.place) c.in_ok-token.ensures.takes (one_tied kind_of_node.Number Number number_parsed c.args.levels c.args.self.now.place c.advance.new.self.place c.in_ok-token.token _ (omega arith) c.in_ok-token.ensures.takes c.in-Number.is refl) c.leaf.ensures
+parse_node-returns-in-Number-clause-tree g t c = leaf_built (g.P.Builder.is_made c.args.builder) c.args.self.now.place c.advance.new.self.place c.in_ok-token.token kind_of_node.Number c.leaf.result (IsParsed c.args.levels c.args.self.now.place c.advance.new.self.place) c.in_ok-token.ensures.takes (one_tied kind_of_node.Number Number number_parsed c.args.levels c.args.self.now.place c.advance.new.self.place c.in_ok-token.token _ (omega arith) c.in_ok-token.ensures.takes c.in-Number.is refl) c.leaf.ensures
 
 pub parse_node-returns-in-Char-clause-tree : goal.parse_node-returns-in-Char-clause-tree
-parse_node-returns-in-Char-clause-tree g t c = leaf_built (g.P.Plan.is_made c.args.plan) c.args.self.now.place c.advance.new.self.place c.in_ok-token.token kind_of_node.Char c.leaf-in-Char.result (IsParsed c.args.levels c.args.self.now.place c.advance.new.self.place) c.in_ok-token.ensures.takes (one_tied kind_of_node.Char Char char_parsed c.args.levels c.args.self.now.place c.advance.new.self.place c.in_ok-token.token _ (omega arith) c.in_ok-token.ensures.takes c.in-Char.is refl) c.leaf-in-Char.ensures
+parse_node-returns-in-Char-clause-tree g t c = leaf_built (g.P.Builder.is_made c.args.builder) c.args.self.now.place c.advance.new.self.place c.in_ok-token.token kind_of_node.Char c.leaf-in-Char.result (IsParsed c.args.levels c.args.self.now.place c.advance.new.self.place) c.in_ok-token.ensures.takes (one_tied kind_of_node.Char Char char_parsed c.args.levels c.args.self.now.place c.advance.new.self.place c.in_ok-token.token _ (omega arith) c.in_ok-token.ensures.takes c.in-Char.is refl) c.leaf-in-Char.ensures
 
 pub parse_node-returns-in-String-clause-tree : goal.parse_node-returns-in-String-clause-tree
-parse_node-returns-in-String-clause-tree g t c = leaf_built (g.P.Plan.is_made c.args.plan) c.args.self.now.place c.advance.new.self.place c.in_ok-token.token kind_of_node.String c.leaf-in-String.result (IsParsed c.args.levels c.args.self.now.place c.advance.new.self.place) c.in_ok-token.ensures.takes (one_tied kind_of_node.String String string_parsed c.args.levels c.args.self.now.place c.advance.new.self.place c.in_ok-token.token _ (omega arith) c.in_ok-token.ensures.takes c.in-String.is refl) c.leaf-in-String.ensures
+parse_node-returns-in-String-clause-tree g t c = leaf_built (g.P.Builder.is_made c.args.builder) c.args.self.now.place c.advance.new.self.place c.in_ok-token.token kind_of_node.String c.leaf-in-String.result (IsParsed c.args.levels c.args.self.now.place c.advance.new.self.place) c.in_ok-token.ensures.takes (one_tied kind_of_node.String String string_parsed c.args.levels c.args.self.now.place c.advance.new.self.place c.in_ok-token.token _ (omega arith) c.in_ok-token.ensures.takes c.in-String.is refl) c.leaf-in-String.ensures
 
 pub parse_node-returns-in-MultilineString-clause-tree : goal.parse_node-returns-in-MultilineString-clause-tree
-parse_node-returns-in-MultilineString-clause-tree g t c = leaf_built (g.P.Plan.is_made c.args.plan) c.args.self.now.place c.advance.new.self.place c.in_ok-token.token kind_of_node.MultilineString c.leaf-in-MultilineString.result (IsParsed c.args.levels c.args.self.now.place c.advance.new.self.place) c.in_ok-token.ensures.takes (one_tied kind_of_node.MultilineString MultilineString multiline_parsed c.args.levels c.args.self.now.place c.advance.new.self.place c.in_ok-token.token _ (omega arith) c.in_ok-token.ensures.takes c.in-MultilineString.is refl) c.leaf-in-MultilineString.ensures
+parse_node-returns-in-MultilineString-clause-tree g t c = leaf_built (g.P.Builder.is_made c.args.builder) c.args.self.now.place c.advance.new.self.place c.in_ok-token.token kind_of_node.MultilineString c.leaf-in-MultilineString.result (IsParsed c.args.levels c.args.self.now.place c.advance.new.self.place) c.in_ok-token.ensures.takes (one_tied kind_of_node.MultilineString MultilineString multiline_parsed c.args.levels c.args.self.now.place c.advance.new.self.place c.in_ok-token.token _ (omega arith) c.in_ok-token.ensures.takes c.in-MultilineString.is refl) c.leaf-in-MultilineString.ensures
 
 pub parse_node-returns-in-LabelOrKeyword-clause-tree : goal.parse_node-returns-in-LabelOrKeyword-clause-tree
 parse_node-returns-in-LabelOrKeyword-clause-tree g t c =
-    built (g.P.Plan.is_made c.args.plan) c.args.self.now.place c.advance.new.self.place (IsParsedBehind LabelOrKeyword (c.args.levels - 1 + 1) c.advance.new.self.place c.parse_label.new.self.place) (IsParsed c.args.levels c.args.self.now.place c.parse_label.new.self.place) c.parse_label.result (source_item c.args.self.now.place c.advance.new.self.place c.in_ok-token.token c.in_ok-token.ensures.takes)
+    built (g.P.Builder.is_made c.args.builder) c.args.self.now.place c.advance.new.self.place (IsParsedBehind LabelOrKeyword (c.args.levels - 1 + 1) c.advance.new.self.place c.parse_label.new.self.place) (IsParsed c.args.levels c.args.self.now.place c.parse_label.new.self.place) c.parse_label.result (source_item c.args.self.now.place c.advance.new.self.place c.in_ok-token.token c.in_ok-token.ensures.takes)
     (λ n. label_tied c.args.levels c.args.self.now.place c.advance.new.self.place c.parse_label.new.self.place c.in_ok-token.token (as_ok n) (omega arith) c.in_ok-token.ensures.takes c.in-LabelOrKeyword.is) c.parse_label.ensures.tree
 
 pub parse_node-returns-in-ParenOpen-clause-tree : goal.parse_node-returns-in-ParenOpen-clause-tree
 parse_node-returns-in-ParenOpen-clause-tree g t c =
-    built (g.P.Plan.is_made c.args.plan) c.args.self.now.place c.advance.new.self.place (IsOfItems (c.args.levels - 1) ParenClose c.advance.new.self.place c.parse_items.new.self.place) (IsParsed c.args.levels c.args.self.now.place c.parse_items.new.self.place) c.parse_items.result (source_item c.args.self.now.place c.advance.new.self.place c.in_ok-token.token c.in_ok-token.ensures.takes)
+    built (g.P.Builder.is_made c.args.builder) c.args.self.now.place c.advance.new.self.place (IsOfItems (c.args.levels - 1) ParenClose c.advance.new.self.place c.parse_items.new.self.place) (IsParsed c.args.levels c.args.self.now.place c.parse_items.new.self.place) c.parse_items.result (source_item c.args.self.now.place c.advance.new.self.place c.in_ok-token.token c.in_ok-token.ensures.takes)
     (λ n. items_tied c.args.levels c.args.self.now.place c.advance.new.self.place c.parse_items.new.self.place c.in_ok-token.token ParenOpen ParenClose (inl (refl, refl)) (as_ok n) (omega arith) c.in_ok-token.ensures.takes c.in-ParenOpen.is) c.parse_items.ensures.tree
 
 pub parse_node-returns-in-BracketOpen-clause-tree : goal.parse_node-returns-in-BracketOpen-clause-tree
 parse_node-returns-in-BracketOpen-clause-tree g t c =
-    built (g.P.Plan.is_made c.args.plan) c.args.self.now.place c.advance.new.self.place (IsOfItems (c.args.levels - 1) BracketClose c.advance.new.self.place c.parse_items-in-BracketOpen.new.self.place) (IsParsed c.args.levels c.args.self.now.place c.parse_items-in-BracketOpen.new.self.place) c.parse_items-in-BracketOpen.result (source_item c.args.self.now.place c.advance.new.self.place c.in_ok-token.token c.in_ok-token.ensures.takes)
+    built (g.P.Builder.is_made c.args.builder) c.args.self.now.place c.advance.new.self.place (IsOfItems (c.args.levels - 1) BracketClose c.advance.new.self.place c.parse_items-in-BracketOpen.new.self.place) (IsParsed c.args.levels c.args.self.now.place c.parse_items-in-BracketOpen.new.self.place) c.parse_items-in-BracketOpen.result (source_item c.args.self.now.place c.advance.new.self.place c.in_ok-token.token c.in_ok-token.ensures.takes)
     (λ n. items_tied c.args.levels c.args.self.now.place c.advance.new.self.place c.parse_items-in-BracketOpen.new.self.place c.in_ok-token.token BracketOpen BracketClose (inr (refl, refl)) (as_ok n) (omega arith) c.in_ok-token.ensures.takes c.in-BracketOpen.is) c.parse_items-in-BracketOpen.ensures.tree
 
 pub parse_node-returns-in-BraceOpen-clause-tree : goal.parse_node-returns-in-BraceOpen-clause-tree
 parse_node-returns-in-BraceOpen-clause-tree g t c =
-    built (g.P.Plan.is_made c.args.plan) c.args.self.now.place c.advance.new.self.place (IsParsedBehind BraceOpen (c.args.levels - 1 + 1) c.advance.new.self.place c.parse_braces.new.self.place) (IsParsed c.args.levels c.args.self.now.place c.parse_braces.new.self.place) c.parse_braces.result (source_item c.args.self.now.place c.advance.new.self.place c.in_ok-token.token c.in_ok-token.ensures.takes)
+    built (g.P.Builder.is_made c.args.builder) c.args.self.now.place c.advance.new.self.place (IsParsedBehind BraceOpen (c.args.levels - 1 + 1) c.advance.new.self.place c.parse_braces.new.self.place) (IsParsed c.args.levels c.args.self.now.place c.parse_braces.new.self.place) c.parse_braces.result (source_item c.args.self.now.place c.advance.new.self.place c.in_ok-token.token c.in_ok-token.ensures.takes)
     (λ n. braces_tied c.args.levels c.args.self.now.place c.advance.new.self.place c.parse_braces.new.self.place c.in_ok-token.token (as_ok n) (omega arith) c.in_ok-token.ensures.takes c.in-BraceOpen.is) c.parse_braces.ensures.tree
 
 pub parse_label-returns-in-True-clause-tree : goal.parse_label-returns-in-True-clause-tree
@@ -504,53 +504,53 @@ parse_label-returns-in-None-clause-tree g t c = (node kind_of_node.OptionNone (s
 
 pub parse_label-returns-in_ok-expect-in-Some-clause-tree : goal.parse_label-returns-in_ok-expect-in-Some-clause-tree
 parse_label-returns-in_ok-expect-in-Some-clause-tree g t c =
-    built (g.P.Plan.is_made c.args.plan) c.args.self.now.place c.expect.new.self.place (IsPayload c.args.levels kind_of_node.OptionSome c.span-start.result.start [] c.expect.new.self.place c.parse_payload.new.self.place) (IsParsedBehind LabelOrKeyword (c.args.levels + 1) c.args.self.now.place c.parse_payload.new.self.place) c.parse_payload.result (source_item c.args.self.now.place c.expect.new.self.place ParenOpen c.in_ok-expect-in-Some.ensures.takes)
+    built (g.P.Builder.is_made c.args.builder) c.args.self.now.place c.expect.new.self.place (IsPayload c.args.levels kind_of_node.OptionSome c.span-start.result.start [] c.expect.new.self.place c.parse_payload.new.self.place) (IsParsedBehind LabelOrKeyword (c.args.levels + 1) c.args.self.now.place c.parse_payload.new.self.place) c.parse_payload.result (source_item c.args.self.now.place c.expect.new.self.place ParenOpen c.in_ok-expect-in-Some.ensures.takes)
     (λ n. some_tied c.args.levels c.args.self.now.place c.expect.new.self.place c.parse_payload.new.self.place c.span-start.result.start [] (as_ok n) (word_here c.slice.ensures c.role_of.ensures.word c.in-Some.is) (ap (λ (z : Range ℕ). z.start) c.span-start.ensures) refl c.in_ok-expect-in-Some.ensures.takes)
-    (of_part (TakesPart kind_of_node.OptionSome) (λ front. g.P.Plan.are_parts c.args.plan c.expect.new.self.place.lexer.source kind_of_node.OptionSome front c.parts-parts.result) c.parse_payload.result (λ front. IsBuilt (g.P.Plan.is_made c.args.plan) c.expect.new.self.place (IsPayload c.args.levels kind_of_node.OptionSome c.span-start.result.start front c.expect.new.self.place c.parse_payload.new.self.place)) c.parse_payload.ensures.tree [] refl (c.parts-parts.ensures c.expect.new.self.place.lexer.source tt))
+    (of_part (TakesPart kind_of_node.OptionSome) (λ front. g.P.Builder.are_parts c.args.builder c.expect.new.self.place.lexer.source kind_of_node.OptionSome front c.parts-parts.result) c.parse_payload.result (λ front. IsBuilt (g.P.Builder.is_made c.args.builder) c.expect.new.self.place (IsPayload c.args.levels kind_of_node.OptionSome c.span-start.result.start front c.expect.new.self.place c.parse_payload.new.self.place)) c.parse_payload.ensures.tree [] refl (c.parts-parts.ensures c.expect.new.self.place.lexer.source tt))
 
 pub parse_label-returns-in-Ok-clause-tree : goal.parse_label-returns-in-Ok-clause-tree
 parse_label-returns-in-Ok-clause-tree g t c =
-    built (g.P.Plan.is_made c.args.plan) c.args.self.now.place c.args.self.now.place (IsMaybe c.args.levels kind_of_node.ResultOk kind_of_node.ResultOk c.args.self.now.place c.parse_maybe.new.self.place) (IsParsedBehind LabelOrKeyword (c.args.levels + 1) c.args.self.now.place c.parse_maybe.new.self.place) c.parse_maybe.result refl
+    built (g.P.Builder.is_made c.args.builder) c.args.self.now.place c.args.self.now.place (IsMaybe c.args.levels kind_of_node.ResultOk kind_of_node.ResultOk c.args.self.now.place c.parse_maybe.new.self.place) (IsParsedBehind LabelOrKeyword (c.args.levels + 1) c.args.self.now.place c.parse_maybe.new.self.place) c.parse_maybe.result refl
     (λ n. ok_tied c.args.levels c.args.self.now.place c.parse_maybe.new.self.place (as_ok n) (word_here c.slice.ensures c.role_of.ensures.word c.in-Ok.is)) c.parse_maybe.ensures.tree
 
 pub parse_label-returns-in-Err-clause-tree : goal.parse_label-returns-in-Err-clause-tree
 parse_label-returns-in-Err-clause-tree g t c =
-    built (g.P.Plan.is_made c.args.plan) c.args.self.now.place c.args.self.now.place (IsMaybe c.args.levels kind_of_node.ResultErr kind_of_node.ResultErr c.args.self.now.place c.parse_maybe-in-Err.new.self.place) (IsParsedBehind LabelOrKeyword (c.args.levels + 1) c.args.self.now.place c.parse_maybe-in-Err.new.self.place) c.parse_maybe-in-Err.result refl
+    built (g.P.Builder.is_made c.args.builder) c.args.self.now.place c.args.self.now.place (IsMaybe c.args.levels kind_of_node.ResultErr kind_of_node.ResultErr c.args.self.now.place c.parse_maybe-in-Err.new.self.place) (IsParsedBehind LabelOrKeyword (c.args.levels + 1) c.args.self.now.place c.parse_maybe-in-Err.new.self.place) c.parse_maybe-in-Err.result refl
     (λ n. err_tied c.args.levels c.args.self.now.place c.parse_maybe-in-Err.new.self.place (as_ok n) (word_here c.slice.ensures c.role_of.ensures.word c.in-Err.is)) c.parse_maybe-in-Err.ensures.tree
 
 pub parse_label-returns-in-Case-clause-tree : goal.parse_label-returns-in-Case-clause-tree
 parse_label-returns-in-Case-clause-tree g t c =
-    built (g.P.Plan.is_made c.args.plan) c.args.self.now.place c.args.self.now.place (IsMaybe c.args.levels kind_of_node.Label kind_of_node.VariantWithPayload c.args.self.now.place c.parse_maybe-in-Case.new.self.place) (IsParsedBehind LabelOrKeyword (c.args.levels + 1) c.args.self.now.place c.parse_maybe-in-Case.new.self.place) c.parse_maybe-in-Case.result refl
+    built (g.P.Builder.is_made c.args.builder) c.args.self.now.place c.args.self.now.place (IsMaybe c.args.levels kind_of_node.Label kind_of_node.VariantWithPayload c.args.self.now.place c.parse_maybe-in-Case.new.self.place) (IsParsedBehind LabelOrKeyword (c.args.levels + 1) c.args.self.now.place c.parse_maybe-in-Case.new.self.place) c.parse_maybe-in-Case.result refl
     (λ n. case_tied c.args.levels c.args.self.now.place c.parse_maybe-in-Case.new.self.place (as_ok n) (word_here c.slice.ensures c.role_of.ensures.word c.in-Case.is)) c.parse_maybe-in-Case.ensures.tree
 
 pub parse_maybe-returns-then-not-next_is-clause-tree : goal.parse_maybe-returns-then-not-next_is-clause-tree
 parse_maybe-returns-then-not-next_is-clause-tree g t c =
     let stays = c.next_is.ensures.stays in
-    (node c.args.alone (span_at c.args.self.now.place) no_nodes, inl (stays, refl), subst (λ (z : Place). g.P.Plan.is_made c.args.plan z.lexer.source (node c.args.alone (span_at z) no_nodes) c.leaf.result) stays c.leaf.ensures)
+    (node c.args.alone (span_at c.args.self.now.place) no_nodes, inl (stays, refl), subst (λ (z : Place). g.P.Builder.is_made c.args.builder z.lexer.source (node c.args.alone (span_at z) no_nodes) c.leaf.result) stays c.leaf.ensures)
 
 pub parse_maybe-returns-clause-tree : goal.parse_maybe-returns-clause-tree
 parse_maybe-returns-clause-tree g t c =
     let stays = c.next_is.ensures.stays in
     let label = label_children c.args.with (span_at c.next_is.new.self.place) in
     let behind : c.expect.new.self.place.lexer.source ≡ c.next_is.new.self.place.lexer.source = source_item c.next_is.new.self.place c.expect.new.self.place ParenOpen c.in_ok-expect.ensures.takes in
-    built (g.P.Plan.is_made c.args.plan) c.args.self.now.place c.expect.new.self.place (IsPayload c.args.levels c.args.with c.span-start.result.start label c.expect.new.self.place c.parse_payload.new.self.place) (IsMaybe c.args.levels c.args.alone c.args.with c.args.self.now.place c.parse_payload.new.self.place) c.parse_payload.result (behind ∙ ap (λ (z : Place). z.lexer.source) stays)
+    built (g.P.Builder.is_made c.args.builder) c.args.self.now.place c.expect.new.self.place (IsPayload c.args.levels c.args.with c.span-start.result.start label c.expect.new.self.place c.parse_payload.new.self.place) (IsMaybe c.args.levels c.args.alone c.args.with c.args.self.now.place c.parse_payload.new.self.place) c.parse_payload.result (behind ∙ ap (λ (z : Place). z.lexer.source) stays)
     (λ n. payload_tied c.args.levels c.args.alone c.args.with c.args.self.now.place c.expect.new.self.place c.next_is.new.self.place c.parse_payload.new.self.place c.span-start.result.start label (as_ok n) stays c.in_ok-expect.ensures.takes (ap (λ (z : Range ℕ). z.start) c.span-start.ensures) refl)
-    (of_part (TakesPart c.args.with) (λ front. g.P.Plan.are_parts c.args.plan c.expect.new.self.place.lexer.source c.args.with front c.in_ok-front.front) c.parse_payload.result (λ front. IsBuilt (g.P.Plan.is_made c.args.plan) c.expect.new.self.place (IsPayload c.args.levels c.args.with c.span-start.result.start front c.expect.new.self.place c.parse_payload.new.self.place)) c.parse_payload.ensures.tree label (payload_due c.args.with (span_at c.next_is.new.self.place) c.requires.1)
-    (subst (λ (s : List ℕ). g.P.Plan.are_parts c.args.plan s c.args.with label c.in_ok-front.front) (sym behind) (c.in_ok-front.ensures.made (payload_parts c.args.with c.requires.1))))
+    (of_part (TakesPart c.args.with) (λ front. g.P.Builder.are_parts c.args.builder c.expect.new.self.place.lexer.source c.args.with front c.in_ok-front.front) c.parse_payload.result (λ front. IsBuilt (g.P.Builder.is_made c.args.builder) c.expect.new.self.place (IsPayload c.args.levels c.args.with c.span-start.result.start front c.expect.new.self.place c.parse_payload.new.self.place)) c.parse_payload.ensures.tree label (payload_due c.args.with (span_at c.next_is.new.self.place) c.requires.1)
+    (subst (λ (s : List ℕ). g.P.Builder.are_parts c.args.builder s c.args.with label c.in_ok-front.front) (sym behind) (c.in_ok-front.ensures.made (payload_parts c.args.with c.requires.1))))
 
 pub parse_payload-returns-clause-tree : goal.parse_payload-returns-clause-tree
 parse_payload-returns-clause-tree g t c = λ front part_due first.
     let (n, is, of) = c.in_ok-payload.ensures.tree in
     let source : c.expect.new.self.place.lexer.source ≡ c.args.self.now.place.lexer.source = source_item c.parse_node.new.self.place c.expect.new.self.place ParenClose c.in_ok-expect.ensures.takes ∙ source_parsed c.args.levels c.args.self.now.place c.parse_node.new.self.place n is in
-    let grown = c.in_ok-with_part.ensures.kept c.args.self.now.place.lexer.source c.args.ty front n part_due first (subst (λ z. g.P.Plan.is_made z c.args.self.now.place.lexer.source n c.in_ok-payload.payload) c.part-part.ensures of) in
-    whole_built (g.P.Plan.is_made c.args.plan) (λ (s : List ℕ) cs ps. g.P.Plan.are_parts c.args.plan s c.args.ty cs ps) c.args.self.now.place c.expect.new.self.place c.args.ty c.args.start c.whole.result c.with_part.new.parts (front ++ n ∷ []) (IsPayload c.args.levels c.args.ty c.args.start front c.args.self.now.place c.expect.new.self.place) source grown c.whole.ensures
+    let grown = c.in_ok-with_part.ensures.kept c.args.self.now.place.lexer.source c.args.ty front n part_due first (subst (λ z. g.P.Builder.is_made z c.args.self.now.place.lexer.source n c.in_ok-payload.payload) c.part-part.ensures of) in
+    whole_built (g.P.Builder.is_made c.args.builder) (λ (s : List ℕ) cs ps. g.P.Builder.are_parts c.args.builder s c.args.ty cs ps) c.args.self.now.place c.expect.new.self.place c.args.ty c.args.start c.whole.result c.with_part.new.parts (front ++ n ∷ []) (IsPayload c.args.levels c.args.ty c.args.start front c.args.self.now.place c.expect.new.self.place) source grown c.whole.ensures
     (record { payload = n; behind = c.parse_node.new.self.place; inner = is; close = c.in_ok-expect.ensures.takes; is = refl })
 
 pub parse_items-returns-then-next_is-clause-tree : goal.parse_items-returns-then-next_is-clause-tree
 parse_items-returns-then-next_is-clause-tree g t c =
     let stays = c.next_is.ensures.stays in
     let source : c.expect.new.self.place.lexer.source ≡ c.args.self.now.place.lexer.source = source_item c.next_is.new.self.place c.expect.new.self.place c.args.close c.in_ok-expect.ensures.takes ∙ ap (λ (z : Place). z.lexer.source) stays in
-    whole_built (g.P.Plan.is_made c.args.plan) (λ (s : List ℕ) cs ps. g.P.Plan.are_parts c.args.plan s kind_of_node.List cs ps) c.args.self.now.place c.expect.new.self.place kind_of_node.List c.span-start.result.start c.whole.result c.parts-none.result [] (IsOfItems c.args.levels c.args.close c.args.self.now.place c.expect.new.self.place) source (c.parts-none.ensures c.args.self.now.place.lexer.source tt) c.whole.ensures
+    whole_built (g.P.Builder.is_made c.args.builder) (λ (s : List ℕ) cs ps. g.P.Builder.are_parts c.args.builder s kind_of_node.List cs ps) c.args.self.now.place c.expect.new.self.place kind_of_node.List c.span-start.result.start c.whole.result c.parts-none.result [] (IsOfItems c.args.levels c.args.close c.args.self.now.place c.expect.new.self.place) source (c.parts-none.ensures c.args.self.now.place.lexer.source tt) c.whole.ensures
     (items_none c.args.levels c.args.close c.args.self.now.place c.next_is.new.self.place c.expect.new.self.place c.span-start.result.start [] _ refl refl c.requires (is_other _ _ c.eq.ensures c.if-eq.false) (ap (λ (z : Range ℕ). z.start) c.span-start.ensures) stays c.in_ok-expect.ensures.takes)
 
 pub parse_items-returns-then-eq-3-clause-tree : goal.parse_items-returns-then-eq-3-clause-tree
@@ -563,10 +563,10 @@ parse_items-returns-then-eq-3-clause-tree g t c =
       | parse_items-then-eq-2 w ↦ subst (λ z. TakesPart z children) (sym w.ty-is) tt
       | parse_items-else-eq-2 w ↦ subst (λ z. TakesPart z children) (sym w.ty-is) tt
     ] in
-    let grown = c.in_ok-with_part.ensures.kept c.args.self.now.place.lexer.source c.if-eq-2.ty children n part_due first (subst (λ z. g.P.Plan.is_made z c.args.self.now.place.lexer.source n c.in_ok-item.item) c.part-part.ensures (subst (λ (s : List ℕ). g.P.Plan.is_made c.part-part.result s n c.in_ok-item.item) here of)) in
+    let grown = c.in_ok-with_part.ensures.kept c.args.self.now.place.lexer.source c.if-eq-2.ty children n part_due first (subst (λ z. g.P.Builder.is_made z c.args.self.now.place.lexer.source n c.in_ok-item.item) c.part-part.ensures (subst (λ (s : List ℕ). g.P.Builder.is_made c.part-part.result s n c.in_ok-item.item) here of)) in
     let behind : c.parse_node.new.self.place.lexer.source ≡ c.args.self.now.place.lexer.source = source_parsed c.args.levels c.items.self.place c.parse_node.new.self.place n is ∙ here in
     let token : c.advance.new.self.place.lexer.source ≡ c.args.self.now.place.lexer.source = source_item c.parse_node.new.self.place c.advance.new.self.place c.in_ok-token.token c.in_ok-token.ensures.takes ∙ behind in
-    whole_built (g.P.Plan.is_made c.args.plan) (λ (s : List ℕ) cs ps. g.P.Plan.are_parts c.args.plan s c.if-eq-2.ty cs ps) c.args.self.now.place c.advance.new.self.place c.if-eq-2.ty c.span-start.result.start c.whole-then-eq-3.result c.with_part.new.parts (children ++ n ∷ []) (IsOfItems c.args.levels c.args.close c.args.self.now.place c.advance.new.self.place) token grown c.whole-then-eq-3.ensures
+    whole_built (g.P.Builder.is_made c.args.builder) (λ (s : List ℕ) cs ps. g.P.Builder.are_parts c.args.builder s c.if-eq-2.ty cs ps) c.args.self.now.place c.advance.new.self.place c.if-eq-2.ty c.span-start.result.start c.whole-then-eq-3.result c.with_part.new.parts (children ++ n ∷ []) (IsOfItems c.args.levels c.args.close c.args.self.now.place c.advance.new.self.place) token grown c.whole-then-eq-3.ensures
     (items_made c.args.levels c.args.close c.args.self.now.place c.advance.new.self.place c.if-eq-2.ty c.span-start.result.start (children ++ n ∷ []) _ refl (elim c.if-eq-2.branch [
       | parse_items-then-eq-2 w ↦ w.ty-is ∙ sym (ap items_type (is_class c.args.close ParenClose c.eq-2.ensures w.if-eq-2.true))
       | parse_items-else-eq-2 w ↦ w.ty-is ∙ sym (type_of_items c.args.close c.requires (is_other _ _ c.eq-2.ensures w.if-eq-2.false))
@@ -582,12 +582,12 @@ parse_items-returns-then-next_is-2-clause-tree g t c =
       | parse_items-then-eq-2 w ↦ subst (λ z. TakesPart z children) (sym w.ty-is) tt
       | parse_items-else-eq-2 w ↦ subst (λ z. TakesPart z children) (sym w.ty-is) tt
     ] in
-    let grown = c.in_ok-with_part.ensures.kept c.args.self.now.place.lexer.source c.if-eq-2.ty children n part_due first (subst (λ z. g.P.Plan.is_made z c.args.self.now.place.lexer.source n c.in_ok-item.item) c.part-part.ensures (subst (λ (s : List ℕ). g.P.Plan.is_made c.part-part.result s n c.in_ok-item.item) here of)) in
+    let grown = c.in_ok-with_part.ensures.kept c.args.self.now.place.lexer.source c.if-eq-2.ty children n part_due first (subst (λ z. g.P.Builder.is_made z c.args.self.now.place.lexer.source n c.in_ok-item.item) c.part-part.ensures (subst (λ (s : List ℕ). g.P.Builder.is_made c.part-part.result s n c.in_ok-item.item) here of)) in
     let behind : c.parse_node.new.self.place.lexer.source ≡ c.args.self.now.place.lexer.source = source_parsed c.args.levels c.items.self.place c.parse_node.new.self.place n is ∙ here in
     let token : c.advance.new.self.place.lexer.source ≡ c.args.self.now.place.lexer.source = source_item c.parse_node.new.self.place c.advance.new.self.place c.in_ok-token.token c.in_ok-token.ensures.takes ∙ behind in
     let stays = c.next_is-in-items.ensures.stays in
     let close : c.expect-then-next_is-2.new.self.place.lexer.source ≡ c.args.self.now.place.lexer.source = source_item c.next_is-in-items.new.self.place c.expect-then-next_is-2.new.self.place c.args.close c.in_ok-expect-2.ensures.takes ∙ (ap (λ (z : Place). z.lexer.source) stays ∙ token) in
-    whole_built (g.P.Plan.is_made c.args.plan) (λ (s : List ℕ) cs ps. g.P.Plan.are_parts c.args.plan s c.if-eq-2.ty cs ps) c.args.self.now.place c.expect-then-next_is-2.new.self.place c.if-eq-2.ty c.span-start.result.start c.whole-then-next_is-2.result c.with_part.new.parts (children ++ n ∷ []) (IsOfItems c.args.levels c.args.close c.args.self.now.place c.expect-then-next_is-2.new.self.place) close grown c.whole-then-next_is-2.ensures
+    whole_built (g.P.Builder.is_made c.args.builder) (λ (s : List ℕ) cs ps. g.P.Builder.are_parts c.args.builder s c.if-eq-2.ty cs ps) c.args.self.now.place c.expect-then-next_is-2.new.self.place c.if-eq-2.ty c.span-start.result.start c.whole-then-next_is-2.result c.with_part.new.parts (children ++ n ∷ []) (IsOfItems c.args.levels c.args.close c.args.self.now.place c.expect-then-next_is-2.new.self.place) close grown c.whole-then-next_is-2.ensures
     (items_made c.args.levels c.args.close c.args.self.now.place c.expect-then-next_is-2.new.self.place c.if-eq-2.ty c.span-start.result.start (children ++ n ∷ []) _ refl (elim c.if-eq-2.branch [
       | parse_items-then-eq-2 w ↦ w.ty-is ∙ sym (ap items_type (is_class c.args.close ParenClose c.eq-2.ensures w.if-eq-2.true))
       | parse_items-else-eq-2 w ↦ w.ty-is ∙ sym (type_of_items c.args.close c.requires (is_other _ _ c.eq-2.ensures w.if-eq-2.false))
@@ -618,7 +618,7 @@ parse_items-items-preserved g t c = record {
         | parse_items-then-eq-2 w ↦ subst (λ z. TakesPart z children) (sym w.ty-is) tt
         | parse_items-else-eq-2 w ↦ subst (λ z. TakesPart z children) (sym w.ty-is) tt
       ] in
-      let grown = c.in_ok-with_part.ensures.kept c.args.self.now.place.lexer.source c.if-eq-2.ty children n part_due first (subst (λ z. g.P.Plan.is_made z c.args.self.now.place.lexer.source n c.in_ok-item.item) c.part-part.ensures (subst (λ (s : List ℕ). g.P.Plan.is_made c.part-part.result s n c.in_ok-item.item) here of)) in
+      let grown = c.in_ok-with_part.ensures.kept c.args.self.now.place.lexer.source c.if-eq-2.ty children n part_due first (subst (λ z. g.P.Builder.is_made z c.args.self.now.place.lexer.source n c.in_ok-item.item) c.part-part.ensures (subst (λ (s : List ℕ). g.P.Builder.is_made c.part-part.result s n c.in_ok-item.item) here of)) in
       let behind : c.parse_node.new.self.place.lexer.source ≡ c.args.self.now.place.lexer.source = source_parsed c.args.levels c.items.self.place c.parse_node.new.self.place n is ∙ here in
       let token : c.advance.new.self.place.lexer.source ≡ c.args.self.now.place.lexer.source = source_item c.parse_node.new.self.place c.advance.new.self.place c.in_ok-token.token c.in_ok-token.ensures.takes ∙ behind in
       (children ++ n ∷ [], grown, items_next c.args.levels c.args.close c.args.self.now.place c.items.self.place c.parse_node.new.self.place c.advance.new.self.place c.next_is-in-items.new.self.place children (children ++ n ∷ []) n go is (class_as _ _ _ Comma c.in_ok-token.ensures.takes (differs_not _ _ c.ne.ensures c.if-ne.false)) c.next_is-in-items.ensures.stays refl);
@@ -629,38 +629,38 @@ parse_braces-returns-then-next_is-clause-tree g t c =
     let stays = c.next_is.ensures.stays in
     let key = node kind_of_node.Label (span_at c.next_is.new.self.place) no_nodes in
     let behind : c.expect-then-next_is.new.self.place.lexer.source ≡ c.next_is.new.self.place.lexer.source = source_item c.next_is.new.self.place c.expect-then-next_is.new.self.place Colon c.in_ok-expect-2.ensures.takes in
-    built (g.P.Plan.is_made c.args.plan) c.args.self.now.place c.expect-then-next_is.new.self.place (IsOfEntries c.args.levels c.span-start.result.start key c.expect-then-next_is.new.self.place c.parse_entries.new.self.place) (IsParsedBehind BraceOpen (c.args.levels + 1) c.args.self.now.place c.parse_entries.new.self.place) c.parse_entries.result (behind ∙ (ap (λ (z : Place). z.lexer.source) stays ∙ (source_item c.args.self.now.place c.advance.new.self.place c.in_ok-token.token c.in_ok-token.ensures.takes)))
+    built (g.P.Builder.is_made c.args.builder) c.args.self.now.place c.expect-then-next_is.new.self.place (IsOfEntries c.args.levels c.span-start.result.start key c.expect-then-next_is.new.self.place c.parse_entries.new.self.place) (IsParsedBehind BraceOpen (c.args.levels + 1) c.args.self.now.place c.parse_entries.new.self.place) c.parse_entries.result (behind ∙ (ap (λ (z : Place). z.lexer.source) stays ∙ (source_item c.args.self.now.place c.advance.new.self.place c.in_ok-token.token c.in_ok-token.ensures.takes)))
     (λ n. entries_tied c.args.levels c.args.self.now.place c.advance.new.self.place c.expect-then-next_is.new.self.place c.parse_entries.new.self.place c.span-start.result.start key (as_ok n)
     (LabelOrKeyword, class_as _ _ _ LabelOrKeyword c.in_ok-token.ensures.takes (is_class _ _ c.eq-3.ensures c.if-eq-3.true), tt, ap (λ z. node kind_of_node.Label (span_at z) no_nodes) stays)
     (subst (λ z. TakesClass Colon z c.expect-then-next_is.new.self.place) stays c.in_ok-expect-2.ensures.takes) (ap (λ (z : Range ℕ). z.start) c.span-start.ensures))
-    (of_front (λ first. g.P.Plan.are_parts c.args.plan c.expect-then-next_is.new.self.place.lexer.source kind_of_node.TupleSet (first ∷ []) c.in_ok-key.key) c.parse_entries.result (λ first. IsBuilt (g.P.Plan.is_made c.args.plan) c.expect-then-next_is.new.self.place (IsOfEntries c.args.levels c.span-start.result.start first c.expect-then-next_is.new.self.place c.parse_entries.new.self.place)) c.parse_entries.ensures.tree key
-    (subst (λ (s : List ℕ). g.P.Plan.are_parts c.args.plan s kind_of_node.TupleSet (key ∷ []) c.in_ok-key.key) (sym behind) c.in_ok-key.ensures.made))
+    (of_front (λ first. g.P.Builder.are_parts c.args.builder c.expect-then-next_is.new.self.place.lexer.source kind_of_node.TupleSet (first ∷ []) c.in_ok-key.key) c.parse_entries.result (λ first. IsBuilt (g.P.Builder.is_made c.args.builder) c.expect-then-next_is.new.self.place (IsOfEntries c.args.levels c.span-start.result.start first c.expect-then-next_is.new.self.place c.parse_entries.new.self.place)) c.parse_entries.ensures.tree key
+    (subst (λ (s : List ℕ). g.P.Builder.are_parts c.args.builder s kind_of_node.TupleSet (key ∷ []) c.in_ok-key.key) (sym behind) c.in_ok-key.ensures.made))
 
 pub parse_braces-returns-clause-tree : goal.parse_braces-returns-clause-tree
 parse_braces-returns-clause-tree g t c =
     let key = node c.in-Some.ty (span_at c.advance.new.self.place) no_nodes in
     let behind : c.expect-2.new.self.place.lexer.source ≡ c.advance.new.self.place.lexer.source = source_item c.advance.new.self.place c.expect-2.new.self.place Colon c.in_ok-expect-3.ensures.takes in
-    built (g.P.Plan.is_made c.args.plan) c.args.self.now.place c.expect-2.new.self.place (IsOfEntries c.args.levels c.span-start.result.start key c.expect-2.new.self.place c.parse_entries-2.new.self.place) (IsParsedBehind BraceOpen (c.args.levels + 1) c.args.self.now.place c.parse_entries-2.new.self.place) c.parse_entries-2.result (behind ∙ (source_item c.args.self.now.place c.advance.new.self.place c.in_ok-token.token c.in_ok-token.ensures.takes))
+    built (g.P.Builder.is_made c.args.builder) c.args.self.now.place c.expect-2.new.self.place (IsOfEntries c.args.levels c.span-start.result.start key c.expect-2.new.self.place c.parse_entries-2.new.self.place) (IsParsedBehind BraceOpen (c.args.levels + 1) c.args.self.now.place c.parse_entries-2.new.self.place) c.parse_entries-2.result (behind ∙ (source_item c.args.self.now.place c.advance.new.self.place c.in_ok-token.token c.in_ok-token.ensures.takes))
     (λ n. entries_tied c.args.levels c.args.self.now.place c.advance.new.self.place c.expect-2.new.self.place c.parse_entries-2.new.self.place c.span-start.result.start key (as_ok n)
     (c.in_ok-token.token, c.in_ok-token.ensures.takes, c.in-Some.ensures.0, ap (λ z. node z (span_at c.advance.new.self.place) no_nodes) c.in-Some.ensures.1)
     c.in_ok-expect-3.ensures.takes (ap (λ (z : Range ℕ). z.start) c.span-start.ensures))
-    (of_front (λ first. g.P.Plan.are_parts c.args.plan c.expect-2.new.self.place.lexer.source kind_of_node.TupleSet (first ∷ []) c.in_ok-key-2.key) c.parse_entries-2.result (λ first. IsBuilt (g.P.Plan.is_made c.args.plan) c.expect-2.new.self.place (IsOfEntries c.args.levels c.span-start.result.start first c.expect-2.new.self.place c.parse_entries-2.new.self.place)) c.parse_entries-2.ensures.tree key
-    (subst (λ (s : List ℕ). g.P.Plan.are_parts c.args.plan s kind_of_node.TupleSet (key ∷ []) c.in_ok-key-2.key) (sym behind) c.in_ok-key-2.ensures.made))
+    (of_front (λ first. g.P.Builder.are_parts c.args.builder c.expect-2.new.self.place.lexer.source kind_of_node.TupleSet (first ∷ []) c.in_ok-key-2.key) c.parse_entries-2.result (λ first. IsBuilt (g.P.Builder.is_made c.args.builder) c.expect-2.new.self.place (IsOfEntries c.args.levels c.span-start.result.start first c.expect-2.new.self.place c.parse_entries-2.new.self.place)) c.parse_entries-2.ensures.tree key
+    (subst (λ (s : List ℕ). g.P.Builder.are_parts c.args.builder s kind_of_node.TupleSet (key ∷ []) c.in_ok-key-2.key) (sym behind) c.in_ok-key-2.ensures.made))
 
 pub parse_braces-returns-then-eq-clause-tree : goal.parse_braces-returns-then-eq-clause-tree
 parse_braces-returns-then-eq-clause-tree g t c =
-    whole_built (g.P.Plan.is_made c.args.plan) (λ (s : List ℕ) cs ps. g.P.Plan.are_parts c.args.plan s kind_of_node.EmptySet cs ps) c.args.self.now.place c.advance.new.self.place kind_of_node.EmptySet c.span-start.result.start c.whole.result c.parts-none.result [] (IsParsedBehind BraceOpen (c.args.levels + 1) c.args.self.now.place c.advance.new.self.place) (source_item c.args.self.now.place c.advance.new.self.place c.in_ok-token.token c.in_ok-token.ensures.takes) (c.parts-none.ensures c.args.self.now.place.lexer.source tt) c.whole.ensures
+    whole_built (g.P.Builder.is_made c.args.builder) (λ (s : List ℕ) cs ps. g.P.Builder.are_parts c.args.builder s kind_of_node.EmptySet cs ps) c.args.self.now.place c.advance.new.self.place kind_of_node.EmptySet c.span-start.result.start c.whole.result c.parts-none.result [] (IsParsedBehind BraceOpen (c.args.levels + 1) c.args.self.now.place c.advance.new.self.place) (source_item c.args.self.now.place c.advance.new.self.place c.in_ok-token.token c.in_ok-token.ensures.takes) (c.parts-none.ensures c.args.self.now.place.lexer.source tt) c.whole.ensures
     (empty_tied c.args.levels c.args.self.now.place c.advance.new.self.place c.span-start.result.start [] _ (class_as _ _ _ BraceClose c.in_ok-token.ensures.takes (is_class _ _ c.eq.ensures c.if-eq.true)) (ap (λ (z : Range ℕ). z.start) c.span-start.ensures) refl refl)
 
 pub parse_braces-returns-then-eq-2-clause-tree : goal.parse_braces-returns-then-eq-2-clause-tree
 parse_braces-returns-then-eq-2-clause-tree g t c =
-    whole_built (g.P.Plan.is_made c.args.plan) (λ (s : List ℕ) cs ps. g.P.Plan.are_parts c.args.plan s kind_of_node.TupleSet cs ps) c.args.self.now.place c.expect.new.self.place kind_of_node.TupleSet c.span-start.result.start c.whole-then-eq-2.result c.parts-none-then-eq-2.result [] (IsParsedBehind BraceOpen (c.args.levels + 1) c.args.self.now.place c.expect.new.self.place) (source_item c.advance.new.self.place c.expect.new.self.place BraceClose c.in_ok-expect.ensures.takes ∙ (source_item c.args.self.now.place c.advance.new.self.place c.in_ok-token.token c.in_ok-token.ensures.takes)) (c.parts-none-then-eq-2.ensures c.args.self.now.place.lexer.source tt) c.whole-then-eq-2.ensures
+    whole_built (g.P.Builder.is_made c.args.builder) (λ (s : List ℕ) cs ps. g.P.Builder.are_parts c.args.builder s kind_of_node.TupleSet cs ps) c.args.self.now.place c.expect.new.self.place kind_of_node.TupleSet c.span-start.result.start c.whole-then-eq-2.result c.parts-none-then-eq-2.result [] (IsParsedBehind BraceOpen (c.args.levels + 1) c.args.self.now.place c.expect.new.self.place) (source_item c.advance.new.self.place c.expect.new.self.place BraceClose c.in_ok-expect.ensures.takes ∙ (source_item c.args.self.now.place c.advance.new.self.place c.in_ok-token.token c.in_ok-token.ensures.takes)) (c.parts-none-then-eq-2.ensures c.args.self.now.place.lexer.source tt) c.whole-then-eq-2.ensures
     (no_fields_tied c.args.levels c.args.self.now.place c.advance.new.self.place c.expect.new.self.place c.span-start.result.start [] _ (class_as _ _ _ Colon c.in_ok-token.ensures.takes (is_class _ _ c.eq-2.ensures c.if-eq-2.true)) c.in_ok-expect.ensures.takes (ap (λ (z : Range ℕ). z.start) c.span-start.ensures) refl refl)
 
 pub parse_braces-returns-then-eq-3-clause-tree : goal.parse_braces-returns-then-eq-3-clause-tree
 parse_braces-returns-then-eq-3-clause-tree g t c =
     let stays = c.next_is.ensures.stays in
-    built (g.P.Plan.is_made c.args.plan) c.args.self.now.place c.next_is.new.self.place (IsOfFlags c.span-start.result.start c.next_is.new.self.place c.parse_flags.new.self.place) (IsParsedBehind BraceOpen (c.args.levels + 1) c.args.self.now.place c.parse_flags.new.self.place) c.parse_flags.result (ap (λ (z : Place). z.lexer.source) stays ∙ (source_item c.args.self.now.place c.advance.new.self.place c.in_ok-token.token c.in_ok-token.ensures.takes))
+    built (g.P.Builder.is_made c.args.builder) c.args.self.now.place c.next_is.new.self.place (IsOfFlags c.span-start.result.start c.next_is.new.self.place c.parse_flags.new.self.place) (IsParsedBehind BraceOpen (c.args.levels + 1) c.args.self.now.place c.parse_flags.new.self.place) c.parse_flags.result (ap (λ (z : Place). z.lexer.source) stays ∙ (source_item c.args.self.now.place c.advance.new.self.place c.in_ok-token.token c.in_ok-token.ensures.takes))
     (λ n. flags_tied c.args.levels c.args.self.now.place c.next_is.new.self.place c.parse_flags.new.self.place c.span-start.result.start (as_ok n) (subst (λ z. TakesClass LabelOrKeyword c.args.self.now.place z) (sym stays) (class_as _ _ _ LabelOrKeyword c.in_ok-token.ensures.takes (is_class _ _ c.eq-3.ensures c.if-eq-3.true))) (ap (λ (z : Range ℕ). z.start) c.span-start.ensures)) c.parse_flags.ensures.tree
 
 pub parse_entries-returns-then-eq-clause-tree : goal.parse_entries-returns-then-eq-clause-tree
@@ -668,9 +668,9 @@ parse_entries-returns-then-eq-clause-tree g t c = λ first given.
     let (n, is, of) = c.in_ok-value.ensures.tree in
     let (hs, so_far, part_due, go) = c.entries.invariant.tree first given in
     let here : c.entries.self.place.lexer.source ≡ c.args.self.now.place.lexer.source = source_reached (c.entries.invariant.led (c.args.levels + 1) [] (omega arith)) in
-    let grown = c.in_ok-with_part.ensures.kept c.args.self.now.place.lexer.source kind_of_node.TupleSet (first ∷ hs) n part_due so_far (subst (λ z. g.P.Plan.is_made z c.args.self.now.place.lexer.source n c.in_ok-value.value) c.part-part.ensures (subst (λ (s : List ℕ). g.P.Plan.is_made c.part-part.result s n c.in_ok-value.value) here of)) in
+    let grown = c.in_ok-with_part.ensures.kept c.args.self.now.place.lexer.source kind_of_node.TupleSet (first ∷ hs) n part_due so_far (subst (λ z. g.P.Builder.is_made z c.args.self.now.place.lexer.source n c.in_ok-value.value) c.part-part.ensures (subst (λ (s : List ℕ). g.P.Builder.is_made c.part-part.result s n c.in_ok-value.value) here of)) in
     let token : c.advance.new.self.place.lexer.source ≡ c.args.self.now.place.lexer.source = source_item c.parse_node.new.self.place c.advance.new.self.place c.in_ok-token.token c.in_ok-token.ensures.takes ∙ (source_parsed c.args.levels c.entries.self.place c.parse_node.new.self.place n is ∙ here) in
-    whole_built (g.P.Plan.is_made c.args.plan) (λ (s : List ℕ) cs ps. g.P.Plan.are_parts c.args.plan s kind_of_node.TupleSet cs ps) c.args.self.now.place c.advance.new.self.place kind_of_node.TupleSet c.args.start c.whole.result c.with_part.new.parts (first ∷ (hs ++ n ∷ [])) (IsOfEntries c.args.levels c.args.start first c.args.self.now.place c.advance.new.self.place) token grown c.whole.ensures
+    whole_built (g.P.Builder.is_made c.args.builder) (λ (s : List ℕ) cs ps. g.P.Builder.are_parts c.args.builder s kind_of_node.TupleSet cs ps) c.args.self.now.place c.advance.new.self.place kind_of_node.TupleSet c.args.start c.whole.result c.with_part.new.parts (first ∷ (hs ++ n ∷ [])) (IsOfEntries c.args.levels c.args.start first c.args.self.now.place c.advance.new.self.place) token grown c.whole.ensures
     (pairs_close c.args.levels c.args.start c.args.self.now.place c.entries.self.place c.parse_node.new.self.place c.advance.new.self.place (first ∷ hs) (first ∷ (hs ++ n ∷ [])) first n _ (hs, refl, go) is (inl (class_as _ _ _ BraceClose c.in_ok-token.ensures.takes (is_class _ _ c.eq.ensures c.if-eq.true))) refl refl)
 
 pub parse_entries-returns-then-eq-2-clause-tree : goal.parse_entries-returns-then-eq-2-clause-tree
@@ -678,10 +678,10 @@ parse_entries-returns-then-eq-2-clause-tree g t c = λ first given.
     let (n, is, of) = c.in_ok-value.ensures.tree in
     let (hs, so_far, part_due, go) = c.entries.invariant.tree first given in
     let here : c.entries.self.place.lexer.source ≡ c.args.self.now.place.lexer.source = source_reached (c.entries.invariant.led (c.args.levels + 1) [] (omega arith)) in
-    let grown = c.in_ok-with_part.ensures.kept c.args.self.now.place.lexer.source kind_of_node.TupleSet (first ∷ hs) n part_due so_far (subst (λ z. g.P.Plan.is_made z c.args.self.now.place.lexer.source n c.in_ok-value.value) c.part-part.ensures (subst (λ (s : List ℕ). g.P.Plan.is_made c.part-part.result s n c.in_ok-value.value) here of)) in
+    let grown = c.in_ok-with_part.ensures.kept c.args.self.now.place.lexer.source kind_of_node.TupleSet (first ∷ hs) n part_due so_far (subst (λ z. g.P.Builder.is_made z c.args.self.now.place.lexer.source n c.in_ok-value.value) c.part-part.ensures (subst (λ (s : List ℕ). g.P.Builder.is_made c.part-part.result s n c.in_ok-value.value) here of)) in
     let token : c.advance.new.self.place.lexer.source ≡ c.args.self.now.place.lexer.source = source_item c.parse_node.new.self.place c.advance.new.self.place c.in_ok-token.token c.in_ok-token.ensures.takes ∙ (source_parsed c.args.levels c.entries.self.place c.parse_node.new.self.place n is ∙ here) in
     let close : c.advance-in-entries.new.self.place.lexer.source ≡ c.args.self.now.place.lexer.source = source_item c.advance.new.self.place c.advance-in-entries.new.self.place c.in_ok-next.next c.in_ok-next.ensures.takes ∙ token in
-    whole_built (g.P.Plan.is_made c.args.plan) (λ (s : List ℕ) cs ps. g.P.Plan.are_parts c.args.plan s kind_of_node.TupleSet cs ps) c.args.self.now.place c.advance-in-entries.new.self.place kind_of_node.TupleSet c.args.start c.whole-then-eq-2.result c.with_part.new.parts (first ∷ (hs ++ n ∷ [])) (IsOfEntries c.args.levels c.args.start first c.args.self.now.place c.advance-in-entries.new.self.place) close grown c.whole-then-eq-2.ensures
+    whole_built (g.P.Builder.is_made c.args.builder) (λ (s : List ℕ) cs ps. g.P.Builder.are_parts c.args.builder s kind_of_node.TupleSet cs ps) c.args.self.now.place c.advance-in-entries.new.self.place kind_of_node.TupleSet c.args.start c.whole-then-eq-2.result c.with_part.new.parts (first ∷ (hs ++ n ∷ [])) (IsOfEntries c.args.levels c.args.start first c.args.self.now.place c.advance-in-entries.new.self.place) close grown c.whole-then-eq-2.ensures
     (pairs_close c.args.levels c.args.start c.args.self.now.place c.entries.self.place c.parse_node.new.self.place c.advance-in-entries.new.self.place (first ∷ hs) (first ∷ (hs ++ n ∷ [])) first n _ (hs, refl, go) is (inr (c.advance.new.self.place, class_as _ _ _ Comma c.in_ok-token.ensures.takes (differs_not _ _ c.ne.ensures c.if-ne.false), class_as _ _ _ BraceClose c.in_ok-next.ensures.takes (is_class _ _ c.eq-in-entries.ensures c.if-eq-2.true))) refl refl)
 
 pub parse_entries-entries-init : goal.parse_entries-entries-init
@@ -694,14 +694,14 @@ parse_entries-entries-preserved g t c = record {
       let (n, is, of) = c.in_ok-value.ensures.tree in
       let (hs, so_far, part_due, go) = c.entries.invariant.tree first given in
       let here : c.entries.self.place.lexer.source ≡ c.args.self.now.place.lexer.source = source_reached (c.entries.invariant.led (c.args.levels + 1) [] (omega arith)) in
-      let grown = c.in_ok-with_part.ensures.kept c.args.self.now.place.lexer.source kind_of_node.TupleSet (first ∷ hs) n part_due so_far (subst (λ z. g.P.Plan.is_made z c.args.self.now.place.lexer.source n c.in_ok-value.value) c.part-part.ensures (subst (λ (s : List ℕ). g.P.Plan.is_made c.part-part.result s n c.in_ok-value.value) here of)) in
+      let grown = c.in_ok-with_part.ensures.kept c.args.self.now.place.lexer.source kind_of_node.TupleSet (first ∷ hs) n part_due so_far (subst (λ z. g.P.Builder.is_made z c.args.self.now.place.lexer.source n c.in_ok-value.value) c.part-part.ensures (subst (λ (s : List ℕ). g.P.Builder.is_made c.part-part.result s n c.in_ok-value.value) here of)) in
       let token : c.advance.new.self.place.lexer.source ≡ c.args.self.now.place.lexer.source = source_item c.parse_node.new.self.place c.advance.new.self.place c.in_ok-token.token c.in_ok-token.ensures.takes ∙ (source_parsed c.args.levels c.entries.self.place c.parse_node.new.self.place n is ∙ here) in
       let key = node c.in-Some.ty (span_at c.advance-in-entries.new.self.place) no_nodes in
       let at_key : c.advance-in-entries.new.self.place.lexer.source ≡ c.args.self.now.place.lexer.source = source_item c.advance.new.self.place c.advance-in-entries.new.self.place c.in_ok-next.next c.in_ok-next.ensures.takes ∙ token in
-      let keyed = c.in_ok-with_key.ensures.kept kind_of_node.TupleSet (first ∷ (hs ++ n ∷ [])) (key_next (first ∷ hs) n part_due) (subst (λ (s : List ℕ). g.P.Plan.are_parts c.args.plan s kind_of_node.TupleSet (first ∷ (hs ++ n ∷ [])) c.with_part.new.parts) (sym at_key) grown) in
+      let keyed = c.in_ok-with_key.ensures.kept kind_of_node.TupleSet (first ∷ (hs ++ n ∷ [])) (key_next (first ∷ hs) n part_due) (subst (λ (s : List ℕ). g.P.Builder.are_parts c.args.builder s kind_of_node.TupleSet (first ∷ (hs ++ n ∷ [])) c.with_part.new.parts) (sym at_key) grown) in
       let (more, same, further) = pairs_next c.args.levels c.args.self.now.place c.entries.self.place c.parse_node.new.self.place c.advance.new.self.place c.advance-in-entries.new.self.place c.expect.new.self.place (first ∷ hs) (first ∷ (hs ++ n ∷ [])) ((first ∷ (hs ++ n ∷ [])) ++ key ∷ []) first n key (hs, refl, go) is (class_as _ _ _ Comma c.in_ok-token.ensures.takes (differs_not _ _ c.ne.ensures c.if-ne.false))
       (c.in_ok-next.next, c.in_ok-next.ensures.takes, c.in-Some.ensures.0, ap (λ z. node z (span_at c.advance-in-entries.new.self.place) no_nodes) c.in-Some.ensures.1) c.in_ok-expect.ensures.takes refl refl in
-      (more, subst (λ (ns : List NodeTree). g.P.Plan.are_parts c.args.plan c.args.self.now.place.lexer.source kind_of_node.TupleSet ns c.with_key.new.parts) same (subst (λ (s : List ℕ). g.P.Plan.are_parts c.args.plan s kind_of_node.TupleSet ((first ∷ (hs ++ n ∷ [])) ++ key ∷ []) c.with_key.new.parts) at_key keyed), subst (TakesPart kind_of_node.TupleSet) same (value_next (first ∷ (hs ++ n ∷ [])) key (key_next (first ∷ hs) n part_due)), further);
+      (more, subst (λ (ns : List NodeTree). g.P.Builder.are_parts c.args.builder c.args.self.now.place.lexer.source kind_of_node.TupleSet ns c.with_key.new.parts) same (subst (λ (s : List ℕ). g.P.Builder.are_parts c.args.builder s kind_of_node.TupleSet ((first ∷ (hs ++ n ∷ [])) ++ key ∷ []) c.with_key.new.parts) at_key keyed), subst (TakesPart kind_of_node.TupleSet) same (value_next (first ∷ (hs ++ n ∷ [])) key (key_next (first ∷ hs) n part_due)), further);
   led = λ n s e.
       let item = c.in_ok-value.ensures.led n (due.entries ∷ s) (omega arith) in
       let due_key = key_due (c.entries.invariant.led n s e) item c.in_ok-token.ensures.takes (differs_not _ _ c.ne.ensures c.if-ne.false) in
@@ -716,67 +716,87 @@ pub parse_node-returns-then-levels-eq0-clause-led : goal.parse_node-returns-then
 parse_node-returns-then-levels-eq0-clause-led g t c = λ n s e. no_level n s c.args.self.now.place c.new.result (omega arith) (record { is = c.new.ensures.is; stands = c.new.ensures.stands ∙ c.span.ensures; tells = c.new.ensures.tells })
 
 pub parse_node-returns-then-levels-eq0-clause-memory : goal.parse_node-returns-then-levels-eq0-clause-memory
-parse_node-returns-then-levels-eq0-clause-memory g t c = wants_other g.P.Plan.takes_memory c.args.self.now.place c.new.result because.NestingTooDeep (kind_is c.new.ensures) (λ z. cc)
+parse_node-returns-then-levels-eq0-clause-memory g t c = wants_other (g.P.Builder.takes_memory c.args.builder) c.args.self.now.place c.new.result because.NestingTooDeep (kind_is c.new.ensures) (λ z. cc)
 
 pub parse_node-returns-in_err-token-clause-memory : goal.parse_node-returns-in_err-token-clause-memory
-parse_node-returns-in_err-token-clause-memory g t c = error_handed (WantsOnly g.P.Plan.takes_memory c.args.self.now.place) c.from_residual.result c.in_err-token.field-0.0 c.from_residual.ensures.1 (wants_fails g.P.Plan.takes_memory c.args.self.now.place c.args.self.now.place c.advance.new.self.place (λ _. Unit {0}) c.in_err-token.field-0.0 c.in_err-token.ensures.takes)
+parse_node-returns-in_err-token-clause-memory g t c = error_handed (WantsOnly (g.P.Builder.takes_memory c.args.builder) c.args.self.now.place) c.from_residual.result c.in_err-token.field-0.0 c.from_residual.ensures.1 (wants_fails (g.P.Builder.takes_memory c.args.builder) c.args.self.now.place c.args.self.now.place c.advance.new.self.place (λ _. Unit {0}) c.in_err-token.field-0.0 c.in_err-token.ensures.takes)
 
 pub parse_node-returns-in-LabelOrKeyword-clause-memory : goal.parse_node-returns-in-LabelOrKeyword-clause-memory
-parse_node-returns-in-LabelOrKeyword-clause-memory g t c = answer_token g.P.Plan.takes_memory c.args.self.now.place c.advance.new.self.place c.in_ok-token.token c.parse_label.result c.in_ok-token.ensures.takes c.parse_label.ensures.memory
+parse_node-returns-in-LabelOrKeyword-clause-memory g t c = answer_token (g.P.Builder.takes_memory c.args.builder) c.args.self.now.place c.advance.new.self.place c.in_ok-token.token c.parse_label.result c.in_ok-token.ensures.takes c.parse_label.ensures.memory
 
 pub parse_node-returns-in-ParenOpen-clause-memory : goal.parse_node-returns-in-ParenOpen-clause-memory
-parse_node-returns-in-ParenOpen-clause-memory g t c = answer_token g.P.Plan.takes_memory c.args.self.now.place c.advance.new.self.place c.in_ok-token.token c.parse_items.result c.in_ok-token.ensures.takes c.parse_items.ensures.memory
+parse_node-returns-in-ParenOpen-clause-memory g t c = answer_token (g.P.Builder.takes_memory c.args.builder) c.args.self.now.place c.advance.new.self.place c.in_ok-token.token c.parse_items.result c.in_ok-token.ensures.takes c.parse_items.ensures.memory
 
 pub parse_node-returns-in-BracketOpen-clause-memory : goal.parse_node-returns-in-BracketOpen-clause-memory
-parse_node-returns-in-BracketOpen-clause-memory g t c = answer_token g.P.Plan.takes_memory c.args.self.now.place c.advance.new.self.place c.in_ok-token.token c.parse_items-in-BracketOpen.result c.in_ok-token.ensures.takes c.parse_items-in-BracketOpen.ensures.memory
+parse_node-returns-in-BracketOpen-clause-memory g t c = answer_token (g.P.Builder.takes_memory c.args.builder) c.args.self.now.place c.advance.new.self.place c.in_ok-token.token c.parse_items-in-BracketOpen.result c.in_ok-token.ensures.takes c.parse_items-in-BracketOpen.ensures.memory
 
 pub parse_node-returns-in-BraceOpen-clause-memory : goal.parse_node-returns-in-BraceOpen-clause-memory
-parse_node-returns-in-BraceOpen-clause-memory g t c = answer_brace g.P.Plan.takes_memory c.args.self.now.place c.advance.new.self.place c.parse_braces.result (class_as c.args.self.now.place c.advance.new.self.place c.in_ok-token.token BraceOpen c.in_ok-token.ensures.takes c.in-BraceOpen.is)
+parse_node-returns-in-BraceOpen-clause-memory g t c = answer_brace (g.P.Builder.takes_memory c.args.builder) c.args.self.now.place c.advance.new.self.place c.parse_braces.result (class_as c.args.self.now.place c.advance.new.self.place c.in_ok-token.token BraceOpen c.in_ok-token.ensures.takes c.in-BraceOpen.is)
 
 pub parse_node-returns-in_default-clause-memory : goal.parse_node-returns-in_default-clause-memory
-parse_node-returns-in_default-clause-memory g t c = wants_other g.P.Plan.takes_memory c.args.self.now.place c.unexpected.result because.UnexpectedToken (kind_is c.unexpected.ensures) (λ z. cc)
+parse_node-returns-in_default-clause-memory g t c = wants_other (g.P.Builder.takes_memory c.args.builder) c.args.self.now.place c.unexpected.result because.UnexpectedToken (kind_is c.unexpected.ensures) (λ z. cc)
 
 pub parse_label-returns-in_err-expect-in-Some-clause-memory : goal.parse_label-returns-in_err-expect-in-Some-clause-memory
-parse_label-returns-in_err-expect-in-Some-clause-memory g t c = error_handed (WantsOnly g.P.Plan.takes_memory c.args.self.now.place) c.from_residual.result c.in_err-expect-in-Some.field-0.0 c.from_residual.ensures.1 (wants_fails g.P.Plan.takes_memory c.args.self.now.place c.args.self.now.place c.expect.new.self.place (λ k. k ≡ ParenOpen) c.in_err-expect-in-Some.field-0.0 c.in_err-expect-in-Some.ensures.takes)
+parse_label-returns-in_err-expect-in-Some-clause-memory g t c = error_handed (WantsOnly (g.P.Builder.takes_memory c.args.builder) c.args.self.now.place) c.from_residual.result c.in_err-expect-in-Some.field-0.0 c.from_residual.ensures.1 (wants_fails (g.P.Builder.takes_memory c.args.builder) c.args.self.now.place c.args.self.now.place c.expect.new.self.place (λ k. k ≡ ParenOpen) c.in_err-expect-in-Some.field-0.0 c.in_err-expect-in-Some.ensures.takes)
 
 pub parse_label-returns-in_ok-expect-in-Some-clause-memory : goal.parse_label-returns-in_ok-expect-in-Some-clause-memory
-parse_label-returns-in_ok-expect-in-Some-clause-memory g t c = answer_token g.P.Plan.takes_memory c.args.self.now.place c.expect.new.self.place ParenOpen c.parse_payload.result c.in_ok-expect-in-Some.ensures.takes c.parse_payload.ensures.memory
+parse_label-returns-in_ok-expect-in-Some-clause-memory g t c = answer_token (g.P.Builder.takes_memory c.args.builder) c.args.self.now.place c.expect.new.self.place ParenOpen c.parse_payload.result c.in_ok-expect-in-Some.ensures.takes
+    (wants_part (TakesPart kind_of_node.OptionSome) (λ front. g.P.Builder.are_parts c.args.builder c.expect.new.self.place.lexer.source kind_of_node.OptionSome front c.parts-parts.result) c.parse_payload.result (WantsOnly (g.P.Builder.takes_memory c.args.builder) c.expect.new.self.place) c.parse_payload.ensures.memory [] refl (c.parts-parts.ensures c.expect.new.self.place.lexer.source tt))
 
 pub parse_maybe-returns-in_err-front-clause-memory : goal.parse_maybe-returns-in_err-front-clause-memory
-parse_maybe-returns-in_err-front-clause-memory g t c = error_handed (WantsOnly g.P.Plan.takes_memory c.args.self.now.place) c.from_residual.result c.in_err-front.field-0.0 c.from_residual.ensures.1 (wants_taken g.P.Plan.takes_memory c.args.self.now.place c.in_err-front.field-0.0 c.in_err-front.ensures.takes)
+parse_maybe-returns-in_err-front-clause-memory g t c = error_handed (WantsOnly (g.P.Builder.takes_memory c.args.builder) c.args.self.now.place) c.from_residual.result c.in_err-front.field-0.0 c.from_residual.ensures.1 (wants_taken (g.P.Builder.takes_memory c.args.builder) c.args.self.now.place c.in_err-front.field-0.0 (c.in_err-front.ensures.takes (payload_parts c.args.with c.requires.1)))
 
 pub parse_maybe-returns-in_err-expect-clause-memory : goal.parse_maybe-returns-in_err-expect-clause-memory
-parse_maybe-returns-in_err-expect-clause-memory g t c = error_handed (WantsOnly g.P.Plan.takes_memory c.args.self.now.place) c.from_residual-in_err-expect.result c.in_err-expect.field-0.0 c.from_residual-in_err-expect.ensures.1 (wants_fails g.P.Plan.takes_memory c.args.self.now.place c.next_is.new.self.place c.expect.new.self.place (λ k. k ≡ ParenOpen) c.in_err-expect.field-0.0 c.in_err-expect.ensures.takes)
+parse_maybe-returns-in_err-expect-clause-memory g t c = error_handed (WantsOnly (g.P.Builder.takes_memory c.args.builder) c.args.self.now.place) c.from_residual-in_err-expect.result c.in_err-expect.field-0.0 c.from_residual-in_err-expect.ensures.1 (wants_fails (g.P.Builder.takes_memory c.args.builder) c.args.self.now.place c.next_is.new.self.place c.expect.new.self.place (λ k. k ≡ ParenOpen) c.in_err-expect.field-0.0 c.in_err-expect.ensures.takes)
 
 pub parse_maybe-returns-clause-memory : goal.parse_maybe-returns-clause-memory
-parse_maybe-returns-clause-memory g t c = answer_token g.P.Plan.takes_memory c.args.self.now.place c.expect.new.self.place ParenOpen c.parse_payload.result (subst (λ z. TakesItem z (Some (Ok ParenOpen)) c.expect.new.self.place) c.next_is.ensures.stays c.in_ok-expect.ensures.takes) c.parse_payload.ensures.memory
+parse_maybe-returns-clause-memory g t c =
+    let stays = c.next_is.ensures.stays in
+    let label = label_children c.args.with (span_at c.next_is.new.self.place) in
+    let behind : c.expect.new.self.place.lexer.source ≡ c.next_is.new.self.place.lexer.source = source_item c.next_is.new.self.place c.expect.new.self.place ParenOpen c.in_ok-expect.ensures.takes in
+    answer_token (g.P.Builder.takes_memory c.args.builder) c.args.self.now.place c.expect.new.self.place ParenOpen c.parse_payload.result (subst (λ z. TakesItem z (Some (Ok ParenOpen)) c.expect.new.self.place) stays c.in_ok-expect.ensures.takes)
+    (wants_part (TakesPart c.args.with) (λ front. g.P.Builder.are_parts c.args.builder c.expect.new.self.place.lexer.source c.args.with front c.in_ok-front.front) c.parse_payload.result (WantsOnly (g.P.Builder.takes_memory c.args.builder) c.expect.new.self.place) c.parse_payload.ensures.memory label (payload_due c.args.with (span_at c.next_is.new.self.place) c.requires.1)
+    (subst (λ (s : List ℕ). g.P.Builder.are_parts c.args.builder s c.args.with label c.in_ok-front.front) (sym behind) (c.in_ok-front.ensures.made (payload_parts c.args.with c.requires.1))))
 
 pub parse_payload-returns-in_err-payload-clause-memory : goal.parse_payload-returns-in_err-payload-clause-memory
-parse_payload-returns-in_err-payload-clause-memory g t c = error_handed (WantsOnly g.P.Plan.takes_memory c.args.self.now.place) c.from_residual.result c.in_err-payload.field-0.0 c.from_residual.ensures.1 (c.in_err-payload.ensures.memory)
+parse_payload-returns-in_err-payload-clause-memory g t c =
+    error_handed (λ e. (front : List NodeTree) → TakesPart c.args.ty front → g.P.Builder.are_parts c.args.builder c.args.self.now.place.lexer.source c.args.ty front c.args.parts → WantsOnly (g.P.Builder.takes_memory c.args.builder) c.args.self.now.place e) c.from_residual.result c.in_err-payload.field-0.0 c.from_residual.ensures.1 (λ front part_due first.
+    wants_less (g.P.Builder.takes_memory c.part-part.result) (g.P.Builder.takes_memory c.args.builder) c.args.self.now.place c.in_err-payload.field-0.0
+    (λ takes. g.met.P.Builder.next_takes c.args.builder c.args.self.now.place.lexer.source c.args.ty front c.args.parts first (subst (λ z. g.P.Builder.takes_memory z) c.part-part.ensures takes)) c.in_err-payload.ensures.memory)
 
 pub parse_payload-returns-in_err-expect-clause-memory : goal.parse_payload-returns-in_err-expect-clause-memory
-parse_payload-returns-in_err-expect-clause-memory g t c = error_handed (WantsOnly g.P.Plan.takes_memory c.args.self.now.place) c.from_residual-in_err-expect.result c.in_err-expect.field-0.0 c.from_residual-in_err-expect.ensures.1 (wants_fails g.P.Plan.takes_memory c.args.self.now.place c.parse_node.new.self.place c.expect.new.self.place (λ k. k ≡ ParenClose) c.in_err-expect.field-0.0 c.in_err-expect.ensures.takes)
+parse_payload-returns-in_err-expect-clause-memory g t c =
+    error_handed (λ e. (front : List NodeTree) → TakesPart c.args.ty front → g.P.Builder.are_parts c.args.builder c.args.self.now.place.lexer.source c.args.ty front c.args.parts → WantsOnly (g.P.Builder.takes_memory c.args.builder) c.args.self.now.place e) c.from_residual-in_err-expect.result c.in_err-expect.field-0.0 c.from_residual-in_err-expect.ensures.1 (λ front part_due first.
+    wants_fails (g.P.Builder.takes_memory c.args.builder) c.args.self.now.place c.parse_node.new.self.place c.expect.new.self.place (λ k. k ≡ ParenClose) c.in_err-expect.field-0.0 c.in_err-expect.ensures.takes)
 
 pub parse_payload-returns-in_err-with_part-clause-memory : goal.parse_payload-returns-in_err-with_part-clause-memory
-parse_payload-returns-in_err-with_part-clause-memory g t c = error_handed (WantsOnly g.P.Plan.takes_memory c.args.self.now.place) c.from_residual-in_err-with_part.result c.in_err-with_part.field-0.0 c.from_residual-in_err-with_part.ensures.1 (wants_taken g.P.Plan.takes_memory c.args.self.now.place c.in_err-with_part.field-0.0 c.in_err-with_part.ensures.takes)
+parse_payload-returns-in_err-with_part-clause-memory g t c =
+    error_handed (λ e. (front : List NodeTree) → TakesPart c.args.ty front → g.P.Builder.are_parts c.args.builder c.args.self.now.place.lexer.source c.args.ty front c.args.parts → WantsOnly (g.P.Builder.takes_memory c.args.builder) c.args.self.now.place e) c.from_residual-in_err-with_part.result c.in_err-with_part.field-0.0 c.from_residual-in_err-with_part.ensures.1 (λ front part_due first.
+    wants_taken (g.P.Builder.takes_memory c.args.builder) c.args.self.now.place c.in_err-with_part.field-0.0 (c.in_err-with_part.ensures.takes c.args.self.now.place.lexer.source c.args.ty front first))
 
 pub parse_items-returns-in_err-expect-clause-memory : goal.parse_items-returns-in_err-expect-clause-memory
-parse_items-returns-in_err-expect-clause-memory g t c = error_handed (WantsOnly g.P.Plan.takes_memory c.args.self.now.place) c.from_residual.result c.in_err-expect.field-0.0 c.from_residual.ensures.1 (wants_fails g.P.Plan.takes_memory c.args.self.now.place c.next_is.new.self.place c.expect.new.self.place (λ k. k ≡ c.args.close) c.in_err-expect.field-0.0 c.in_err-expect.ensures.takes)
+parse_items-returns-in_err-expect-clause-memory g t c = error_handed (WantsOnly (g.P.Builder.takes_memory c.args.builder) c.args.self.now.place) c.from_residual.result c.in_err-expect.field-0.0 c.from_residual.ensures.1 (wants_fails (g.P.Builder.takes_memory c.args.builder) c.args.self.now.place c.next_is.new.self.place c.expect.new.self.place (λ k. k ≡ c.args.close) c.in_err-expect.field-0.0 c.in_err-expect.ensures.takes)
 
 pub parse_items-returns-then-eq-clause-memory : goal.parse_items-returns-then-eq-clause-memory
-parse_items-returns-then-eq-clause-memory g t c = wants_other g.P.Plan.takes_memory c.args.self.now.place c.new.result because.EmptyTuple (kind_is c.new.ensures) (λ z. cc)
+parse_items-returns-then-eq-clause-memory g t c = wants_other (g.P.Builder.takes_memory c.args.builder) c.args.self.now.place c.new.result because.EmptyTuple (kind_is c.new.ensures) (λ z. cc)
 
 pub parse_items-returns-in_err-item-clause-memory : goal.parse_items-returns-in_err-item-clause-memory
-parse_items-returns-in_err-item-clause-memory g t c = error_handed (WantsOnly g.P.Plan.takes_memory c.args.self.now.place) c.from_residual-in_err-item.result c.in_err-item.field-0.0 c.from_residual-in_err-item.ensures.1 (let (d, i, r) = c.items.invariant.reached (c.args.levels + 1) [] (omega arith) in wants_reached g.P.Plan.takes_memory c.in_err-item.field-0.0 r c.in_err-item.ensures.memory)
+parse_items-returns-in_err-item-clause-memory g t c = error_handed (WantsOnly (g.P.Builder.takes_memory c.args.builder) c.args.self.now.place) c.from_residual-in_err-item.result c.in_err-item.field-0.0 c.from_residual-in_err-item.ensures.1
+    (let (d, i, r) = c.items.invariant.reached (c.args.levels + 1) [] (omega arith) in
+    let (children, first, go) = c.items.invariant.tree in
+    wants_reached (g.P.Builder.takes_memory c.args.builder) c.in_err-item.field-0.0 r (wants_less (g.P.Builder.takes_memory c.part-part.result) (g.P.Builder.takes_memory c.args.builder) c.items.self.place c.in_err-item.field-0.0
+    (λ takes. g.met.P.Builder.next_takes c.args.builder c.args.self.now.place.lexer.source c.if-eq-2.ty children c.items.parts first (subst (λ z. g.P.Builder.takes_memory z) c.part-part.ensures takes)) c.in_err-item.ensures.memory))
 
 pub parse_items-returns-in_err-with_part-clause-memory : goal.parse_items-returns-in_err-with_part-clause-memory
-parse_items-returns-in_err-with_part-clause-memory g t c = error_handed (WantsOnly g.P.Plan.takes_memory c.args.self.now.place) c.from_residual-in_err-with_part.result c.in_err-with_part.field-0.0 c.from_residual-in_err-with_part.ensures.1 (wants_taken g.P.Plan.takes_memory c.args.self.now.place c.in_err-with_part.field-0.0 c.in_err-with_part.ensures.takes)
+parse_items-returns-in_err-with_part-clause-memory g t c = error_handed (WantsOnly (g.P.Builder.takes_memory c.args.builder) c.args.self.now.place) c.from_residual-in_err-with_part.result c.in_err-with_part.field-0.0 c.from_residual-in_err-with_part.ensures.1
+    (let (children, first, go) = c.items.invariant.tree in
+    wants_taken (g.P.Builder.takes_memory c.args.builder) c.args.self.now.place c.in_err-with_part.field-0.0 (c.in_err-with_part.ensures.takes c.args.self.now.place.lexer.source c.if-eq-2.ty children first))
 
 pub parse_items-returns-in_err-token-clause-memory : goal.parse_items-returns-in_err-token-clause-memory
-parse_items-returns-in_err-token-clause-memory g t c = error_handed (WantsOnly g.P.Plan.takes_memory c.args.self.now.place) c.from_residual-in_err-token.result c.in_err-token.field-0.0 c.from_residual-in_err-token.ensures.1 (wants_fails g.P.Plan.takes_memory c.args.self.now.place c.parse_node.new.self.place c.advance.new.self.place (λ _. Unit {0}) c.in_err-token.field-0.0 c.in_err-token.ensures.takes)
+parse_items-returns-in_err-token-clause-memory g t c = error_handed (WantsOnly (g.P.Builder.takes_memory c.args.builder) c.args.self.now.place) c.from_residual-in_err-token.result c.in_err-token.field-0.0 c.from_residual-in_err-token.ensures.1 (wants_fails (g.P.Builder.takes_memory c.args.builder) c.args.self.now.place c.parse_node.new.self.place c.advance.new.self.place (λ _. Unit {0}) c.in_err-token.field-0.0 c.in_err-token.ensures.takes)
 
 pub parse_items-returns-then-ne-clause-memory : goal.parse_items-returns-then-ne-clause-memory
-parse_items-returns-then-ne-clause-memory g t c = wants_other g.P.Plan.takes_memory c.args.self.now.place c.unexpected.result because.UnexpectedToken (kind_is c.unexpected.ensures) (λ z. cc)
+parse_items-returns-then-ne-clause-memory g t c = wants_other (g.P.Builder.takes_memory c.args.builder) c.args.self.now.place c.unexpected.result because.UnexpectedToken (kind_is c.unexpected.ensures) (λ z. cc)
 
 pub parse_items-returns-in_err-expect-2-clause-memory : goal.parse_items-returns-in_err-expect-2-clause-memory
-parse_items-returns-in_err-expect-2-clause-memory g t c = error_handed (WantsOnly g.P.Plan.takes_memory c.args.self.now.place) c.from_residual-in_err-expect-2.result c.in_err-expect-2.field-0.0 c.from_residual-in_err-expect-2.ensures.1 (wants_fails g.P.Plan.takes_memory c.args.self.now.place c.next_is-in-items.new.self.place c.expect-then-next_is-2.new.self.place (λ k. k ≡ c.args.close) c.in_err-expect-2.field-0.0 c.in_err-expect-2.ensures.takes)
+parse_items-returns-in_err-expect-2-clause-memory g t c = error_handed (WantsOnly (g.P.Builder.takes_memory c.args.builder) c.args.self.now.place) c.from_residual-in_err-expect-2.result c.in_err-expect-2.field-0.0 c.from_residual-in_err-expect-2.ensures.1 (wants_fails (g.P.Builder.takes_memory c.args.builder) c.args.self.now.place c.next_is-in-items.new.self.place c.expect-then-next_is-2.new.self.place (λ k. k ≡ c.args.close) c.in_err-expect-2.field-0.0 c.in_err-expect-2.ensures.takes)

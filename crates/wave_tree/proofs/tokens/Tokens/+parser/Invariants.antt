@@ -2,10 +2,10 @@ use Rattle.std.proofs.Common.{◌≡◌, ℕ, ◌+◌, ◌*◌, length, List, []
 use Rattle.wave_grammar.specs.ParserPosition.{Place, TakesItem}
 use Rattle.wave_grammar.specs.PrefixAutomaton.{Due, Form, first_item}
 use Rattle.wave_grammar.specs.PrefixAutomaton as due
-use Rattle.wave_grammar.specs.Private.TokenRoles.{form_of}
-use Rattle.wave_forms.specs.NodeTree.{NodeTree}
-use Rattle.wave_plan.specs.NodeParts.{TakesPart}
-use Rattle.wave_forms.specs.declared.form.NodeType.TheVariants as kind
+use Rattle.wave_grammar.specs.Shared.TokenRoles.{form_of}
+use Rattle.wave_syntax.specs.NodeTree.{NodeTree}
+use Rattle.wave_syntax.specs.NodeParts.{TakesPart}
+use Rattle.wave_syntax.specs.declared.form.NodeType.TheVariants as kind
 use Rattle.wave_tree.specs.ParsedNodes.{IsParsed}
 use Rattle.wave_tree.specs.Private.ParsedNodes.{AreFurther, AreItems, ArePairs}
 use Rattle.wave_tree.proofs.ParserSteps.{Reached, IsItemDue, left_at}
@@ -33,7 +33,7 @@ invariant-parse_items-items g l = record {
   no_close : (next : Place) × TakesItem l.self.place (Some (Ok l.close)) next → ⊥;
   reached : (n : ℕ) (s : List Form) → n ≡ l.levels + 1 + length s →
       (d : Due) × IsItemDue d × Reached n first_item (form_of l.close ∷ s) l.fn.self.place d (form_of l.close ∷ s) l.self.place;
-  tree : (children : List NodeTree) × g.P.Plan.are_parts l.plan l.fn.self.place.lexer.source l.ty children l.parts
+  tree : (children : List NodeTree) × g.P.Builder.are_parts l.builder l.fn.self.place.lexer.source l.ty children l.parts
       × ((item : NodeTree) (m r : Place) (more : List NodeTree) → IsParsed l.levels l.self.place m item → AreFurther l.levels l.close m more r → AreItems l.levels l.close l.fn.self.place (children ++ item ∷ more) r);
 }
 
@@ -50,8 +50,8 @@ abbrev pub invariant-parse_entries-entries : goal.invariant-parse_entries-entrie
 invariant-parse_entries-entries g l = record {
   asks : AsksFor l.fn.self l.self;
   led : (n : ℕ) (s : List Form) → n ≡ l.levels + 1 + length s → Reached n due.value (due.entries ∷ s) l.fn.self.place due.value (due.entries ∷ s) l.self.place;
-  tree : (first : NodeTree) → g.P.Plan.are_parts l.plan l.fn.self.place.lexer.source kind.TupleSet (first ∷ []) l.fn.key
-      → (ys : List NodeTree) × g.P.Plan.are_parts l.plan l.fn.self.place.lexer.source kind.TupleSet (first ∷ ys) l.parts × TakesPart kind.TupleSet (first ∷ ys) × ((cs : List NodeTree) (r : Place) → ArePairs l.levels l.self.place cs r → ArePairs l.levels l.fn.self.place (ys ++ cs) r);
+  tree : (first : NodeTree) → g.P.Builder.are_parts l.builder l.fn.self.place.lexer.source kind.TupleSet (first ∷ []) l.fn.key
+      → (ys : List NodeTree) × g.P.Builder.are_parts l.builder l.fn.self.place.lexer.source kind.TupleSet (first ∷ ys) l.parts × TakesPart kind.TupleSet (first ∷ ys) × ((cs : List NodeTree) (r : Place) → ArePairs l.levels l.self.place cs r → ArePairs l.levels l.fn.self.place (ys ++ cs) r);
 }
 
 abbrev pub decreases-parse_entries-entries : goal.decreases-parse_entries-entries

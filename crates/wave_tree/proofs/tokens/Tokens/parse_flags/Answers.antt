@@ -17,7 +17,7 @@ use Rattle.std.specs.Prelude.{map}
 use Rattle.std.specs.BTreeMap.{insert_entry}
 use Rattle.std.specs.Cmp.Lexicographic.{slice_cmp}
 use Rattle.std.specs.Ordering.{nat_cmp}
-use Rattle.wave_grammar.specs.Private.FlagOrder.{flag_name}
+use Rattle.wave_grammar.specs.Shared.FlagOrder.{flag_name}
 use Rattle.wave_tree.proofs.NodeCorrectness.Items.{class_as}
 use Rattle.wave_tree.proofs.FlagsSorted.{entry_of}
 use Rattle.wave_tree.proofs.FlagLoop.{flag_at, grown, ended, asks_flags}
@@ -127,10 +127,10 @@ flags-preserved g c =
     )
 
 pub returns-then-eq-clause-tree : goal.returns-then-eq-clause-tree
-returns-then-eq-clause-tree g c = ended (g.P.Plan.is_made c.args.plan) c.flags.flags _ c.flags.self.place _ _ c.whole_flags.result c.flags.invariant.0 (inl (class_as _ _ _ BraceClose c.in_ok-token.ensures.takes (is_class _ _ c.eq.ensures c.if-eq.true))) c.whole_flags.ensures.made
+returns-then-eq-clause-tree g c = ended (g.P.Builder.is_made c.args.builder) c.flags.flags _ c.flags.self.place _ _ c.whole_flags.result c.flags.invariant.0 (inl (class_as _ _ _ BraceClose c.in_ok-token.ensures.takes (is_class _ _ c.eq.ensures c.if-eq.true))) c.whole_flags.ensures.made
 
 pub returns-then-eq-2-clause-tree : goal.returns-then-eq-2-clause-tree
-returns-then-eq-2-clause-tree g c = ended (g.P.Plan.is_made c.args.plan) c.flags.flags _ c.flags.self.place _ _ c.whole_flags-then-eq-2.result c.flags.invariant.0 (inr (c.advance.new.self.place, class_as _ _ _ Comma c.in_ok-token.ensures.takes (differs_not _ _ c.ne.ensures c.if-ne.false), class_as _ _ _ BraceClose c.in_ok-next.ensures.takes (is_class _ _ c.eq-in-flags.ensures c.if-eq-2.true))) c.whole_flags-then-eq-2.ensures.made
+returns-then-eq-2-clause-tree g c = ended (g.P.Builder.is_made c.args.builder) c.flags.flags _ c.flags.self.place _ _ c.whole_flags-then-eq-2.result c.flags.invariant.0 (inr (c.advance.new.self.place, class_as _ _ _ Comma c.in_ok-token.ensures.takes (differs_not _ _ c.ne.ensures c.if-ne.false), class_as _ _ _ BraceClose c.in_ok-next.ensures.takes (is_class _ _ c.eq-in-flags.ensures c.if-eq-2.true))) c.whole_flags-then-eq-2.ensures.made
 
 pub returns-in_err-token-clause-asks : goal.returns-in_err-token-clause-asks
 returns-in_err-token-clause-asks g c =

@@ -1,6 +1,6 @@
 use Rattle.std.proofs.Common.{◌≡◌, ◌+◌, ◌*◌, max, map, take}
 use Rattle.std.specs.Fmt.{HasWritten, IsPlainFormatter}
-use Rattle.wave_wasm.specs.Private.Types.{depth, depth_of_types, depth_of_fields, depth_of_cases, depth_of_maybe}
+use Rattle.wave_wasm.specs.Shared.Types.{depth, depth_of_types, depth_of_fields, depth_of_cases, depth_of_maybe}
 use Rattle.wave_wasm.specs.Types.{types_of, fields_of, cases_of, maybe_type}
 use Rattle.wave_wasm.specs.Commas.{joined}
 use Rattle.wave_wasm.specs.TypeText.{type_text}

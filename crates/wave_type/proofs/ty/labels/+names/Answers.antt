@@ -1,5 +1,5 @@
 use Rattle.std.proofs.Common.{arith, ap, map}
-use Rattle.wave_wasm.specs.Private.Types.{depth_of_types, depth_of_fields, depth_of_cases}
+use Rattle.wave_wasm.specs.Shared.Types.{depth_of_types, depth_of_fields, depth_of_cases}
 use Rattle.wave_wasm.specs.Types.{types_of, fields_of, cases_of}
 use Rattle.wave_type.specs.TypeModel.{by_bytes}
 use Rattle.wave_type.proofs.TypeEqual.{type_at, field_at, case_at}

@@ -1,5 +1,5 @@
 use Rattle.std.proofs.Common.{◌≡◌, map, drop}
-use Rattle.wave_type.specs.LabelTest.{are_label_names}
+use Rattle.wave_type.specs.Private.LabelTest.{are_label_names}
 use Rattle.wave_type.proofs.ty.labels.are_label_names.Given as goal
 
 abbrev pub invariant-loop-i : goal.invariant-loop-i

@@ -1,5 +1,5 @@
 use Rattle.std.proofs.Common.{arith, ap, sym, ◌∙◌}
-use Rattle.wave_wasm.specs.Private.Values.{depth}
+use Rattle.wave_wasm.specs.Shared.Values.{depth}
 use Rattle.wave_type.specs.TypeEqualityLaws.{one_tree}
 use Rattle.wave_type.proofs.TypeEqual.{unequal}
 use Rattle.wave_value.specs.TypedValue.{TypedValue}

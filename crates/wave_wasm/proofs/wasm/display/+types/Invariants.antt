@@ -1,7 +1,7 @@
 use Rattle.std.proofs.Common.{◌++◌, ◌+◌, ◌*◌, map, drop, codes}
 use Rattle.std.specs.String.{string_bytes}
 use Rattle.wave_wasm.specs.Borrowed.{shown}
-use Rattle.wave_wasm.specs.Private.Types.{depth, depth_of_maybe}
+use Rattle.wave_wasm.specs.Shared.Types.{depth, depth_of_maybe}
 use Rattle.wave_wasm.specs.Types.{maybe_type}
 use Rattle.wave_wasm.specs.TypeText.{type_text}
 use Rattle.wave_wasm.proofs.TextAppend.{Adding}

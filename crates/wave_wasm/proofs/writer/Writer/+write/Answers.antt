@@ -3,13 +3,13 @@ use Rattle.std.proofs.lemmas.Result.{err_from_is_err_and}
 use Rattle.std.specs.List.{list_all}
 use Rattle.std.specs.String.{string_bytes}
 use Rattle.wave_wasm.specs.Private.Merge.{with_key_texts}
-use Rattle.wave_wasm.specs.Private.Commas.{enclosed}
+use Rattle.wave_wasm.specs.Shared.Commas.{enclosed}
 use Rattle.wave_wasm.specs.Commas.{behind_name}
 use Rattle.wave_wasm.specs.Borrowed.{shown}
 use Rattle.wave_wasm.specs.Text.{text, has_text}
 use Rattle.wave_wasm.specs.Private.Text.{payload_text, has_payload_text}
 use Rattle.wave_wasm.specs.Values.{Value, maybe_value}
-use Rattle.wave_wasm.specs.Private.Values.{depth, depth_of_maybe}
+use Rattle.wave_wasm.specs.Shared.Values.{depth, depth_of_maybe}
 use Rattle.wave_wasm.proofs.Writing.{writing_more, writing_refused, writing_refused_text, start_refused, start_written, writing_as, writing_none, refused_before, refused_grounded, refused_unsupported, writing_last, nothing_written}
 use Rattle.wave_wasm.proofs.Sequence.{writing_start, writing_item, writing_close, item_blocks, item_passes, items_pass, part_depth, all_at}
 use Rattle.wave_wasm.proofs.Trees.{map_map, all_map, list_sequence, tuple_sequence, record_is, variant_text, variant_writable, ok_text, ok_writable, err_text, err_writable, no_text_of_kind, of_list_kind, leaf_of}

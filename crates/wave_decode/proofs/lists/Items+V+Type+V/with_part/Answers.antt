@@ -1,0 +1,32 @@
+use Rattle.std.proofs.Common.{sym, subst}
+use Rattle.wave_wasm.specs.Borrowed.{shown}
+use Rattle.wave_leaf.specs.Reading.{IsReadWhereDue}
+use Rattle.wave_decode.specs.ListParts.{element_due}
+use Rattle.wave_decode.proofs.ListItems.{one_more, held_still, item_kept, refusal_held}
+use Rattle.wave_decode.proofs.lists.Items+V+Type+V.with_part.Goals as goal
+
+pub returns-then-is_some : goal.returns-then-is_some
+returns-then-is_some g c = λ T source children n a due. record {
+  is = a.is;
+  element = a.element;
+  count = one_more children n c.args.self.now.count c.in-Some.count a.count c.in-Some.ensures.1;
+  read = held_still g.V.WasmValue.tree g.V.WasmValue.is_of g.V.WasmValue.is_full (g.V.Type.WasmType.tree c.args.self.now.element.now) source children c.args.self.now.items.items c.args.self.now.held n (sym c.if-is_some.ensures) a.read;
+}
+
+pub returns-in_ok-push-in-Ok : goal.returns-in_ok-push-in-Ok
+returns-in_ok-push-in-Ok g c = λ T source children n a due. record {
+  is = a.is;
+  element = a.element;
+  count = one_more children n c.args.self.now.count c.in-Some.count a.count c.in-Some.ensures.1;
+  read = item_kept g.V.WasmValue.tree g.V.WasmValue.is_of g.V.WasmValue.is_full g.V.Type.WasmType.tree c.args.self.now.element source children c.args.self.now.items.items c.push.new.self.items c.args.self.now.held n c.in-Ok.item (sym c.if-is_some.ensures) a.read
+      (subst (IsReadWhereDue g.V.WasmValue.tree g.V.WasmValue.is_of g.V.WasmValue.is_full (shown g.V.Type.WasmType.tree (element_due c.args.self.now)) source n) c.in-Ok.is due) c.in_ok-push-in-Ok.ensures.items;
+}
+
+pub returns-in-Err : goal.returns-in-Err
+returns-in-Err g c = λ T source children n a due. record {
+  is = a.is;
+  element = a.element;
+  count = one_more children n c.args.self.now.count c.in-Some.count a.count c.in-Some.ensures.1;
+  read = refusal_held g.V.WasmValue.tree g.V.WasmValue.is_of g.V.WasmValue.is_full g.V.Type.WasmType.tree c.args.self.now.element source children c.args.self.now.items.items c.args.self.now.held n c.in-Err.failure (sym c.if-is_some.ensures)
+      (subst (IsReadWhereDue g.V.WasmValue.tree g.V.WasmValue.is_of g.V.WasmValue.is_full (shown g.V.Type.WasmType.tree (element_due c.args.self.now)) source n) c.in-Err.is due);
+}

@@ -1,0 +1,38 @@
+-- What is wrong with a value before its end is seen.
+use Rattle.std.specs.Prelude.{ℕ, ◌≡◌, ◌++◌, List, Result, Err}
+use Rattle.std.specs.declared.ops.Range.{Range}
+use Rattle.wave_wasm.specs.Types.{TypeTree}
+use Rattle.wave_wasm.specs.Values.{Value}
+use Rattle.wave_wasm.specs.ValueErrors.{cause_of}
+use Rattle.wave_wasm.specs.declared.wasm.WasmValueError.{WasmValueError}
+use Rattle.wave_lex.specs.Errors.{Diagnostic, Says, refusal_of, refused_by}
+use Rattle.std.specs.Prelude.{None}
+use Rattle.wave_lex.specs.declared.error.ParserErrorKind.TheVariants.{OutOfMemory}
+use Rattle.wave_syntax.specs.NodeTree.{NodeTree, node, node_trees, place_of}
+use Rattle.wave_syntax.specs.TypedReading.{IsMade}
+use Rattle.wave_syntax.specs.declared.form.NodeType.{NodeType}
+use Rattle.wave_leaf.specs.Reading.{IsReadAs}
+use Rattle.wave_decode.specs.declared.fault.Fault.{Fault}
+use Rattle.wave_decode.specs.declared.fault.Fault.TheVariants as fault
+
+-- what the fault says of a value that stands there
+abbrev pub Tells : Fault → Range ℕ → Diagnostic → Type 0
+Tells (fault.Told e) p f = f ≡ e
+Tells (fault.Kind k) p f = Says f k p None
+Tells (fault.Cause c) p f = (refusal_of f ≡ refused_by (cause_of c.value)) × (f.span ≡ p)
+
+-- the fault with this cause, or for want of memory
+abbrev pub IsFaultOf : WasmValueError → Fault → Type 0
+IsFaultOf cause (fault.Cause c) = c.value ≡ cause
+IsFaultOf cause (fault.Kind k) = k ≡ OutOfMemory
+IsFaultOf cause (fault.Told e) = ⊥
+
+-- at each node that stands there: the value that was made, or the refusal of its maker
+abbrev pub IsMadeAt : {V : Type 0} → Range ℕ → Result V WasmValueError → Result V Diagnostic → Type 0
+IsMadeAt p made r = (n : NodeTree) → place_of n ≡ p → IsMade n made r
+
+module _ {V : Type 0} (tree : V → Value) (of : V → TypeTree → Type 0) (Full : TypeTree → Type 0) where
+  -- whatever follows these children of a node of this type, at the type it is refused for the fault
+  abbrev pub IsDoomed : TypeTree → List ℕ → NodeType → List NodeTree → Fault → Type 0
+  IsDoomed T source ty children f =
+      (more : List NodeTree) (p : Range ℕ) (e : Diagnostic) → Tells f p e → IsReadAs tree of Full T source (node ty p (node_trees (children ++ more))) (Err e)

@@ -1,0 +1,62 @@
+-- The parts of values of all kinds of types.
+use Rattle.std.specs.Prelude.{ℕ, ◌≡◌, List, [], Option, Some, None}
+use Rattle.std.specs.Borrow.{Bor}
+use Rattle.wave_wasm.specs.Types as type
+use Rattle.wave_wasm.specs.Types.{TypeTree}
+use Rattle.wave_wasm.specs.Values.{Value}
+use Rattle.wave_syntax.specs.NodeTree.{NodeTree}
+use Rattle.wave_syntax.specs.declared.form.NodeType.{NodeType}
+use Rattle.wave_syntax.specs.declared.form.NodeType.TheVariants as kind
+use Rattle.wave_leaf.specs.Leaves.{IsSimpleOrUnreadable}
+use Rattle.wave_syntax.specs.NodeParts.{IsOfParts}
+use Rattle.wave_decode.specs.CaseParts.{AreCaseParts, payload_due}
+use Rattle.wave_decode.specs.Faults.{IsDoomed}
+use Rattle.wave_decode.specs.MapParts.{AreEntries, value_type_due}
+use Rattle.wave_decode.specs.Payloads.{AreOfSome, AreOfResult, result_node}
+use Rattle.wave_decode.specs.ListParts.{AreItems, element_due}
+use Rattle.wave_decode.specs.RecordParts.{AreFields, type_due}
+use Rattle.wave_decode.specs.TupleParts.{IsRow, item_due}
+use Rattle.wave_decode.specs.declared.parts.Parts.{Parts}
+use Rattle.wave_decode.specs.declared.parts.Parts.TheVariants as parts
+
+-- at the type `{}` spells a value
+abbrev pub TakesEmptySet : TypeTree → Type 0
+TakesEmptySet (type.flags names) = Unit {0}
+TakesEmptySet (type.map K W) = Unit {0}
+TakesEmptySet _ = ⊥
+
+-- of these parts nothing is kept
+abbrev pub IsBare : {S V : Type 0} → Parts S V → Type 0
+IsBare (parts.Faulty f) = Unit {0}
+IsBare (parts.Simple x) = Unit {0}
+IsBare _ = ⊥
+
+-- parts of a value of this type, of which nothing is kept and that have no fault
+abbrev pub IsSimpleAt : {S V : Type 0} → (S → TypeTree) → TypeTree → Parts S V → Type 0
+IsSimpleAt type_tree T (parts.Simple x) = type_tree x.now ≡ T
+IsSimpleAt type_tree T _ = ⊥
+
+-- the type of the value that comes next
+abbrev pub next_due : {S V : Type 0} → Parts S V → Option (Bor S)
+next_due (parts.Items x) = element_due x
+next_due (parts.Row x) = item_due x
+next_due (parts.OfSome x) = Some x.due
+next_due (parts.OfResult x) = x.due
+next_due (parts.OfCase x) = payload_due x
+next_due (parts.Fields x) = type_due x
+next_due (parts.Entries x) = value_type_due x
+next_due _ = None
+
+module _ {S V : Type 0} (type_tree : S → TypeTree) (tree : V → Value) (of : V → TypeTree → Type 0) (Full : TypeTree → Type 0) where
+  -- these parts were read of the first children of a node of this type
+  abbrev pub AreParts : TypeTree → List ℕ → NodeType → List NodeTree → Parts S V → Type 0
+  AreParts T source ty children (parts.Faulty f) = IsDoomed tree of Full T source ty children f
+  AreParts T source ty children (parts.Simple x) = (type_tree x.now ≡ T) × IsSimpleOrUnreadable T × IsOfParts ty
+  AreParts T source ty children (parts.Empty x) = (ty ≡ kind.EmptySet) × (children ≡ []) × (type_tree x.now ≡ T) × TakesEmptySet T
+  AreParts T source ty children (parts.Items x) = (ty ≡ kind.List) × AreItems type_tree tree of Full T source children x
+  AreParts T source ty children (parts.Row x) = (ty ≡ kind.Tuple) × IsRow type_tree tree of Full T source children x
+  AreParts T source ty children (parts.OfSome x) = (ty ≡ kind.OptionSome) × AreOfSome type_tree tree of Full T source children x
+  AreParts T source ty children (parts.OfResult x) = (ty ≡ result_node x.is_ok) × AreOfResult type_tree tree of Full T source children x
+  AreParts T source ty children (parts.OfCase x) = (ty ≡ kind.VariantWithPayload) × AreCaseParts type_tree tree of Full T source children x
+  AreParts T source ty children (parts.Fields x) = (ty ≡ kind.TupleSet) × AreFields tree of Full type_tree T source children x
+  AreParts T source ty children (parts.Entries x) = (ty ≡ kind.TupleSet) × AreEntries tree of Full type_tree T source children x

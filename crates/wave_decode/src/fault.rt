@@ -1,0 +1,54 @@
+//! What is wrong with a value, before its end is seen.
+ghost use Rattle.wave_decode.specs.Faults.{Tells, IsFaultOf, IsMadeAt};
+
+use std::alloc::Global;
+use std::boxed::Box;
+use wave_leaf::failure::Failure;
+use wave_lex::error::{ParserError, ParserErrorKind};
+use wave_lex::lex::Span;
+use wave_wasm::wasm::WasmValueError;
+
+/// What is wrong with a value that has parts. A cause stands on the heap, so that what is kept of the
+/// parts is small.
+#[derive(Drop)]
+pub enum Fault {
+    /// This refusal of a part.
+    Told(Failure),
+    /// A refusal of this kind, of the whole value.
+    Kind(ParserErrorKind),
+    /// A refusal with this cause, of the whole value.
+    Cause(Box<WasmValueError>),
+}
+
+impl Fault {
+    /// The refusal, where the whole value stands here.
+    pub(crate) fn tell(self, span: Span) -> ParserError
+        ensures { Tells self span result }
+    {
+        match self {
+            Fault::Told(failure) => failure.into_error(),
+            Fault::Kind(kind) => ParserError::new(kind, span),
+            Fault::Cause(cause) => ParserError::with_cause(span, Box::into_inner(cause)),
+        }
+    }
+}
+
+/// The fault with this cause; where there is no memory to keep it, want of memory.
+pub(crate) fn caused(alloc: Global, cause: WasmValueError) -> Fault
+    ensures { IsFaultOf cause result }
+{
+    match Box::new(alloc, cause) {
+        Ok(cause) => Fault::Cause(cause),
+        Err(_) => Fault::Kind(ParserErrorKind::OutOfMemory),
+    }
+}
+
+/// The value that was made, or its maker's refusal as an error that stands there.
+pub(crate) fn or_error_at<V>(span: Span, made: Result<V, WasmValueError>) -> Result<V, ParserError>
+    ensures { IsMadeAt span made result }
+{
+    match made {
+        Ok(val) => Ok(val),
+        Err(cause) => Err(ParserError::with_cause(span, cause)),
+    }
+}

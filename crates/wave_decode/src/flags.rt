@@ -1,0 +1,109 @@
+//! Flags, read at their types.
+ghost use Rattle.std.specs.Prelude.{ℕ, List, ◌≡◌, IfOk, IfErr};
+ghost use Rattle.wave_wasm.specs.Types.{kind_of};
+ghost use Rattle.wave_wasm.specs.Names.{AreAllOf, AreDistinct, found_in};
+ghost use Rattle.wave_wasm.specs.Borrowed.{texts};
+ghost use Rattle.wave_wasm.specs.ValueErrors.{unknown_case};
+ghost use Rattle.wave_syntax.specs.NodeTree.{NodeTree, node, no_nodes, children_of};
+ghost use Rattle.wave_syntax.specs.declared.form.NodeType.TheVariants as node_type;
+ghost use Rattle.wave_syntax.specs.NodeFlags.{AreFlags, names_at};
+ghost use Rattle.wave_syntax.specs.FlagParts.{AreFlagsOf, flag_nodes};
+ghost use Rattle.wave_leaf.specs.Reading.{IsReadAs};
+ghost use Rattle.wave_decode.specs.NamedFlags.{flag_names, IsReadOrTold, IsTold, TellsCause, TellsUnknown};
+
+use crate::fault::{Fault, caused};
+use std::alloc::Global;
+use std::collections::BTreeMap;
+use wave_lex::error::{ParserError, ParserErrorKind};
+use wave_lex::lex::Span;
+use wave_wasm::wasm::{WasmType, WasmTypeKind, WasmValue, WasmValueError};
+
+/// The value of the flags that stand here. A flag that the type doesn't name is `UnknownCase`.
+pub(crate) fn read_flags<V: WasmValue>(
+    alloc: Global,
+    ty: &V::Type,
+    span: Span,
+    flags: BTreeMap<&str, Span>,
+) -> Result<V, ParserError>
+    requires { kind_of (V.Type.tree ty.now) ≡ WasmTypeKind.Flags }
+    ensures { (source : List ℕ) → AreFlagsOf source flags.entry → IsReadAs V.tree V.is_of V.is_full (V.Type.tree ty.now) source (node node_type.Flags span (flag_nodes flags.entry)) result }
+{
+    told(read_names(alloc, ty, flags), span)
+}
+
+/// The value of no flags, where `{}` stands here.
+pub(crate) fn read_no_flags<V: WasmValue>(
+    alloc: Global,
+    ty: &V::Type,
+    span: Span,
+) -> Result<V, ParserError>
+    requires { kind_of (V.Type.tree ty.now) ≡ WasmTypeKind.Flags }
+    ensures { (source : List ℕ) → IsReadAs V.tree V.is_of V.is_full (V.Type.tree ty.now) source (node node_type.EmptySet span no_nodes) result }
+{
+    told(read_names(alloc, ty, BTreeMap::new(alloc)), span)
+}
+
+/// The value of the flags of these names.
+fn read_names<V: WasmValue>(
+    alloc: Global,
+    ty: &V::Type,
+    flags: BTreeMap<&str, Span>,
+) -> Result<V, Fault>
+    requires { kind_of (V.Type.tree ty.now) ≡ WasmTypeKind.Flags }
+    ensures { (source : List ℕ) (n : NodeTree) → AreFlags n → names_at source (children_of n) ≡ flag_names flags.entry → IsReadOrTold V.tree V.is_of V.is_full (V.Type.tree ty.now) source n result }
+{
+    let names = match ty.flags_names(alloc) {
+        Ok(names) => names,
+        Err(_) => return Err(Fault::Kind(ParserErrorKind::OutOfMemory)),
+    };
+    let picked = picked(alloc, &names, flags)?;
+    match V::make_flags(alloc, ty, picked.as_slice()) {
+        Ok(val) => Ok(val),
+        Err(cause) => Err(caused(alloc, cause)),
+    }
+}
+
+/// Those of the type's names that flags have, in the type's order; each flag has one of the names.
+fn picked<'name>(
+    alloc: Global,
+    names: &Vec<&'name str>,
+    flags: BTreeMap<&str, Span>,
+) -> Result<Vec<&'name str>, Fault>
+    ensures known { IfOk result (λ _. AreAllOf (texts names.now.items) (flag_names flags.entry)) }
+    ensures picked { IfOk result (λ picked. AreDistinct (texts names.now.items) → texts picked.items ≡ found_in (flag_names flags.entry) (texts names.now.items)) }
+    ensures refused { IfErr result (TellsUnknown (texts names.now.items) (flag_names flags.entry)) }
+{
+    let mut left = flags;
+    let mut picked = Vec::new(alloc);
+    for name in names {
+        if left.remove(*name).is_some() {
+            if picked.push(*name).is_err() {
+                return Err(Fault::Kind(ParserErrorKind::OutOfMemory));
+            }
+        }
+    }
+    match left.first_key_value() {
+        Some((name, _)) => Err(unknown(alloc, *name)),
+        None => Ok(picked),
+    }
+}
+
+/// The fault of a flag that the type doesn't name.
+fn unknown(alloc: Global, name: &str) -> Fault
+    ensures { TellsCause (unknown_case name.now) result }
+{
+    match String::from_str(alloc, name) {
+        Ok(name) => caused(alloc, WasmValueError::UnknownCase(name)),
+        Err(_) => Fault::Kind(ParserErrorKind::OutOfMemory),
+    }
+}
+
+/// What was read, or its fault told of the whole value, which stands here.
+fn told<V>(read: Result<V, Fault>, span: Span) -> Result<V, ParserError>
+    ensures { IsTold read span result }
+{
+    match read {
+        Ok(val) => Ok(val),
+        Err(fault) => Err(fault.tell(span)),
+    }
+}

@@ -1,0 +1,69 @@
+//! Values that stand for an option or a result of themselves.
+ghost use Rattle.std.specs.Prelude.{ℕ, List, ◌≡◌};
+ghost use Rattle.wave_wasm.specs.Types.{TypeTree};
+ghost use Rattle.wave_wasm.specs.Borrowed.{shown};
+ghost use Rattle.wave_syntax.specs.NodeTree.{NodeTree, type_of, place_of};
+ghost use Rattle.wave_leaf.specs.Reading.{IsReadAs};
+ghost use Rattle.wave_decode.specs.Flat.{IsFlatAt, GivesFlatAt, IsAround};
+
+use crate::fault::or_error_at;
+use std::alloc::Global;
+use wave_lex::error::ParserError;
+use wave_lex::lex::Span;
+use wave_syntax::form::NodeType;
+use wave_syntax::typed::flat_type;
+use wave_wasm::wasm::{WasmType, WasmTypeKind, WasmValue};
+
+/// The type of the payload that a node of this type stands for alone, where the type is an option or
+/// a result.
+pub(crate) fn flat_payload<'ty, T: WasmType>(ty: &'ty T, node: NodeType) -> Option<&'ty T>
+    ensures { GivesFlatAt (T.tree ty.now) node (shown T.tree result) }
+{
+    match ty.kind() {
+        WasmTypeKind::Option => match node {
+            NodeType::OptionSome | NodeType::OptionNone => None,
+            _ => flat_type(ty.option_some_type()),
+        },
+        WasmTypeKind::Result => match node {
+            NodeType::ResultOk | NodeType::ResultErr => None,
+            _ => match ty.result_types() {
+                Some((ok, _)) => flat_type(ok),
+                None => None,
+            },
+        },
+        _ => None,
+    }
+}
+
+/// The type whose parts a node of this type has, and behind the option or result that is around it, where the
+/// type is one that a flat payload stands for.
+pub(crate) fn type_of_parts<'ty, T: WasmType>(
+    ty: &'ty T,
+    node: NodeType,
+) -> (Option<&'ty T>, &'ty T)
+    ensures { IsAround T.tree (T.tree ty.now) node result.0 result.1 }
+{
+    match flat_payload(ty, node) {
+        Some(payload) => (Some(ty), payload),
+        None => (None, ty),
+    }
+}
+
+/// The option or the result around a flat payload that stands there.
+pub(crate) fn around<V: WasmValue>(
+    alloc: Global,
+    ty: &V::Type,
+    span: Span,
+    made: Result<V, ParserError>,
+) -> Result<V, ParserError>
+    ensures { (source : List ℕ) (n : NodeTree) (U : TypeTree) → IsFlatAt (V.Type.tree ty.now) (type_of n) U → place_of n ≡ span → IsReadAs V.tree V.is_of V.is_full U source n made → IsReadAs V.tree V.is_of V.is_full (V.Type.tree ty.now) source n result }
+{
+    let val = match made {
+        Ok(val) => val,
+        Err(error) => return Err(error),
+    };
+    match ty.kind() {
+        WasmTypeKind::Option => or_error_at(span, V::make_option(alloc, ty, Some(val))),
+        _ => or_error_at(span, V::make_result(alloc, ty, Ok(Some(val)))),
+    }
+}

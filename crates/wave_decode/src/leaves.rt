@@ -1,0 +1,118 @@
+//! Values without parts: of one token, or flags.
+ghost use Rattle.std.specs.Prelude.{ℕ, ◌≡◌, List};
+ghost use Rattle.wave_wasm.specs.Types.{TypeTree};
+ghost use Rattle.wave_syntax.specs.NodeTree.{node};
+ghost use Rattle.wave_syntax.specs.declared.form.NodeType.TheVariants as node_type;
+ghost use Rattle.wave_syntax.specs.FlagParts.{AreFlagsOf, flag_nodes};
+ghost use Rattle.wave_leaf.specs.Leaves.{leaf_node, IsLeafIn};
+ghost use Rattle.wave_syntax.specs.NodeParts.{IsOneToken};
+ghost use Rattle.wave_leaf.specs.Reading.{IsReadAs};
+ghost use Rattle.wave_decode.specs.Flat.{IsFlatAt};
+
+use crate::enums::read_enum;
+use crate::flags::read_flags;
+use crate::flat::{around, flat_payload};
+use crate::options::read_none;
+use crate::parts::refuse_simple;
+use crate::results::read_alone;
+use crate::variants::read_case;
+use std::alloc::Global;
+use std::collections::BTreeMap;
+use wave_leaf::leaf::Leaf;
+use wave_lex::error::{ParserError, ParserErrorKind};
+use wave_lex::lex::Span;
+use wave_syntax::form::NodeType;
+use wave_wasm::wasm::{WasmType, WasmTypeKind, WasmValue};
+
+/// The value of one token at the type.
+#[inline(always)]
+pub(crate) fn read_leaf<V: WasmValue>(
+    leaf: &Leaf<'_>,
+    alloc: Global,
+    ty: &V::Type,
+) -> Result<V, ParserError>
+    ensures { (source : List ℕ) → IsOneToken leaf.now.ty → IsLeafIn source leaf.now → IsReadAs V.tree V.is_of V.is_full (V.Type.tree ty.now) source (leaf_node leaf.now) result }
+{
+    match flat_payload(ty, leaf.ty) {
+        Some(payload) => {
+            let made = read_directly::<V>(leaf, alloc, payload);
+            around(alloc, ty, leaf.span.start..leaf.span.end, made)
+        }
+        None => read_directly(leaf, alloc, ty),
+    }
+}
+
+/// The value of one token at the type, which is none of a flat payload.
+#[inline(always)]
+fn read_directly<V: WasmValue>(
+    leaf: &Leaf<'_>,
+    alloc: Global,
+    ty: &V::Type,
+) -> Result<V, ParserError>
+    requires { (U : TypeTree) → IsFlatAt (V.Type.tree ty.now) leaf.now.ty U → ⊥ }
+    ensures { (source : List ℕ) → IsOneToken leaf.now.ty → IsLeafIn source leaf.now → IsReadAs V.tree V.is_of V.is_full (V.Type.tree ty.now) source (leaf_node leaf.now) result }
+{
+    match ty.kind() {
+        WasmTypeKind::List
+        | WasmTypeKind::FixedLengthList
+        | WasmTypeKind::Tuple
+        | WasmTypeKind::Record
+        | WasmTypeKind::Map
+        | WasmTypeKind::Flags => Err(leaf.error(ParserErrorKind::InvalidType)),
+        WasmTypeKind::Variant => read_case(leaf, alloc, ty),
+        WasmTypeKind::Enum => read_enum(leaf, alloc, ty),
+        WasmTypeKind::Option => match leaf.ty {
+            NodeType::OptionNone => read_none(leaf, alloc, ty),
+            _ => Err(leaf.error(ParserErrorKind::InvalidType)),
+        },
+        WasmTypeKind::Result => match leaf.ty {
+            NodeType::ResultOk => read_alone(leaf, alloc, ty, true),
+            NodeType::ResultErr => read_alone(leaf, alloc, ty, false),
+            _ => Err(leaf.error(ParserErrorKind::InvalidType)),
+        },
+        _ => leaf.read_simple(alloc, ty),
+    }
+}
+
+/// The value of these flags at the type.
+pub(crate) fn flags_at<V: WasmValue>(
+    alloc: Global,
+    ty: &V::Type,
+    span: Span,
+    flags: BTreeMap<&str, Span>,
+) -> Result<V, ParserError>
+    ensures { (source : List ℕ) → AreFlagsOf source flags.entry → IsReadAs V.tree V.is_of V.is_full (V.Type.tree ty.now) source (node node_type.Flags span (flag_nodes flags.entry)) result }
+{
+    match flat_payload(ty, NodeType::Flags) {
+        Some(payload) => {
+            let made = flags_directly::<V>(alloc, payload, span.start..span.end, flags);
+            around(alloc, ty, span, made)
+        }
+        None => flags_directly(alloc, ty, span, flags),
+    }
+}
+
+/// The value of these flags at the type, which is none of a flat payload.
+fn flags_directly<V: WasmValue>(
+    alloc: Global,
+    ty: &V::Type,
+    span: Span,
+    flags: BTreeMap<&str, Span>,
+) -> Result<V, ParserError>
+    requires { (U : TypeTree) → IsFlatAt (V.Type.tree ty.now) node_type.Flags U → ⊥ }
+    ensures { (source : List ℕ) → AreFlagsOf source flags.entry → IsReadAs V.tree V.is_of V.is_full (V.Type.tree ty.now) source (node node_type.Flags span (flag_nodes flags.entry)) result }
+{
+    match ty.kind() {
+        WasmTypeKind::Flags => read_flags(alloc, ty, span, flags),
+        WasmTypeKind::List
+        | WasmTypeKind::FixedLengthList
+        | WasmTypeKind::Tuple
+        | WasmTypeKind::Record
+        | WasmTypeKind::Map
+        | WasmTypeKind::Variant
+        | WasmTypeKind::Enum
+        | WasmTypeKind::Option
+        | WasmTypeKind::Result => Err(ParserError::new(ParserErrorKind::InvalidType, span)),
+        _ => refuse_simple(alloc, ty, span),
+    }
+}

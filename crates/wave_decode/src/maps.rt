@@ -1,0 +1,133 @@
+//! Maps, whose keys and values are read in turn.
+ghost use Rattle.std.specs.Prelude.{ℕ, List, [], ◌∷◌, ◌++◌, ◌≡◌, IfOk, MatchOption};
+ghost use Rattle.wave_wasm.specs.Types.{TypeTree, kind_of};
+ghost use Rattle.wave_wasm.specs.Borrowed.{shown};
+ghost use Rattle.wave_grammar.specs.SpannedTree.{slice};
+ghost use Rattle.wave_syntax.specs.NodeTree.{NodeTree, node, no_nodes, node_trees};
+ghost use Rattle.wave_syntax.specs.NodeParts.{TakesKey, TakesPart};
+ghost use Rattle.wave_leaf.specs.Reading.{IsReadAs, IsReadWhereDue};
+ghost use Rattle.wave_decode.specs.Faults.{IsDoomed};
+ghost use Rattle.wave_decode.specs.MapParts.{AreEntries, value_type_due};
+
+use crate::fault::Fault;
+use std::alloc::{AllocError, Global};
+use wave_leaf::failure::Failure;
+use wave_leaf::leaf::Leaf;
+use wave_lex::error::{ParserError, ParserErrorKind};
+use wave_lex::lex::Span;
+use wave_syntax::form::NodeType;
+use wave_syntax::typed::merged;
+use wave_wasm::wasm::{WasmType, WasmTypeKind, WasmValue};
+
+/// The entries of a map so far, and the key of the next one where it was read.
+#[derive(Drop)]
+pub struct Entries<'ty, T, V> {
+    ty: &'ty T,
+    key_type: &'ty T,
+    value_type: &'ty T,
+    entries: Vec<(V, V)>,
+    key: Option<V>,
+}
+
+impl<'ty, V: WasmValue> Entries<'ty, V::Type, V> {
+    /// No entries of a map of the type.
+    pub(crate) fn new(alloc: Global, ty: &'ty V::Type) -> Self
+        requires { kind_of (V.Type.tree ty.now) ≡ WasmTypeKind.Map }
+        ensures { (source : List ℕ) → AreEntries V.tree V.is_of V.is_full V.Type.tree (V.Type.tree ty.now) source [] result }
+    {
+        let (key_type, value_type) = ty.map_key_value_types().unwrap();
+        Entries {
+            ty,
+            key_type,
+            value_type,
+            entries: Vec::new(alloc),
+            key: None,
+        }
+    }
+
+    /// The type of the value that comes next, behind a key.
+    pub(crate) fn next(&self) -> Option<&'ty V::Type>
+        ensures { result ≡ value_type_due self.now }
+    {
+        if self.key.is_none() {
+            return None;
+        }
+        Some(self.value_type)
+    }
+
+    /// Adds a key, which is of this type and text; or what is wrong with the map.
+    pub(crate) fn with_key(
+        &mut self,
+        alloc: Global,
+        ty: NodeType,
+        span: Span,
+        text: &str,
+    ) -> Result<Option<Fault>, AllocError>
+        ensures { IfOk result (λ found. (T : TypeTree) (source : List ℕ) (children : List NodeTree) → text.now ≡ slice source span → TakesKey NodeType.TupleSet children → AreEntries V.tree V.is_of V.is_full V.Type.tree T source children self.old
+            → MatchOption found (AreEntries V.tree V.is_of V.is_full V.Type.tree T source (children ++ node ty span no_nodes ∷ []) self.new) (IsDoomed V.tree V.is_of V.is_full T source NodeType.TupleSet (children ++ node ty span no_nodes ∷ []))) }
+    {
+        let leaf = Leaf { ty, span, text };
+        match leaf.read_key::<V>(alloc, self.key_type) {
+            Ok(key) => {
+                drop(self.key.replace(key));
+                Ok(None)
+            }
+            Err(error) => {
+                let failure = Failure::told(alloc, error)?;
+                Ok(Some(Fault::Told(failure)))
+            }
+        }
+    }
+
+    /// Adds the value behind the last key, which was read at the type that is due; or what is wrong
+    /// with the map.
+    pub(crate) fn with_part(
+        &mut self,
+        alloc: Global,
+        made: Result<V, Failure>,
+    ) -> Result<Option<Fault>, AllocError>
+        ensures { IfOk result (λ found. (T : TypeTree) (source : List ℕ) (children : List NodeTree) (n : NodeTree) → TakesPart NodeType.TupleSet children → AreEntries V.tree V.is_of V.is_full V.Type.tree T source children self.old → IsReadWhereDue V.tree V.is_of V.is_full (shown V.Type.tree (value_type_due self.old)) source n made
+            → MatchOption found (AreEntries V.tree V.is_of V.is_full V.Type.tree T source (children ++ n ∷ []) self.new) (IsDoomed V.tree V.is_of V.is_full T source NodeType.TupleSet (children ++ n ∷ []))) }
+    {
+        match made {
+            Ok(val) => match self.key.take() {
+                Some(key) => {
+                    self.entries.push((key, val))?;
+                    Ok(None)
+                }
+                None => Ok(None),
+            },
+            Err(failure) => Ok(Some(Fault::Told(failure))),
+        }
+    }
+
+    /// The map of the entries, which stands here, each key once.
+    pub(crate) fn whole(self, alloc: Global, span: Span) -> Result<V, ParserError>
+        ensures { (T : TypeTree) (source : List ℕ) (children : List NodeTree) → AreEntries V.tree V.is_of V.is_full V.Type.tree T source children self.entry → IsReadAs V.tree V.is_of V.is_full T source (node NodeType.TupleSet span (node_trees children)) result }
+    {
+        let Entries { ty, entries, .. } = self;
+        let entries = match merged(alloc, entries) {
+            Ok(entries) => entries,
+            Err(_) => return Err(ParserError::new(ParserErrorKind::OutOfMemory, span)),
+        };
+        match V::make_map(alloc, ty, entries) {
+            Ok(val) => Ok(val),
+            Err(cause) => Err(ParserError::with_cause(span, cause)),
+        }
+    }
+}
+
+/// The map of `{}`, which stands here.
+pub(crate) fn read_no_entries<V: WasmValue>(
+    alloc: Global,
+    ty: &V::Type,
+    span: Span,
+) -> Result<V, ParserError>
+    requires { kind_of (V.Type.tree ty.now) ≡ WasmTypeKind.Map }
+    ensures { (source : List ℕ) → IsReadAs V.tree V.is_of V.is_full (V.Type.tree ty.now) source (node NodeType.EmptySet span no_nodes) result }
+{
+    match V::make_map(alloc, ty, Vec::new(alloc)) {
+        Ok(val) => Ok(val),
+        Err(cause) => Err(ParserError::with_cause(span, cause)),
+    }
+}

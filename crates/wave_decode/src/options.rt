@@ -1,0 +1,86 @@
+//! Options, read at their types.
+ghost use Rattle.std.specs.Prelude.{ℕ, List, [], ◌∷◌, ◌++◌, ◌≡◌, Some, IfOk};
+ghost use Rattle.wave_wasm.specs.Types.{TypeTree, kind_of};
+ghost use Rattle.wave_syntax.specs.NodeTree.{NodeTree, node, node_trees};
+ghost use Rattle.wave_syntax.specs.declared.form.NodeType.TheVariants as node_type;
+ghost use Rattle.wave_leaf.specs.Leaves.{leaf_node};
+ghost use Rattle.wave_syntax.specs.NodeParts.{TakesPart};
+ghost use Rattle.wave_leaf.specs.Reading.{IsReadAs, IsReadWhereDue};
+ghost use Rattle.wave_decode.specs.Payloads.{AreOfSome};
+
+use crate::fault::or_error_at;
+use std::alloc::{AllocError, Global};
+use wave_leaf::failure::Failure;
+use wave_leaf::leaf::Leaf;
+use wave_lex::error::{ParserError, ParserErrorKind};
+use wave_lex::lex::Span;
+use wave_wasm::wasm::{WasmType, WasmTypeKind, WasmValue};
+
+/// What has been read of `some` of a payload.
+#[derive(Drop)]
+pub struct SomePayload<'ty, T, V> {
+    /// The type of the option.
+    ty: &'ty T,
+    /// The type of the payload.
+    due: &'ty T,
+    /// The payload or its refusal, once it was read.
+    made: Option<Result<V, Failure>>,
+}
+
+impl<'ty, V: WasmValue> SomePayload<'ty, V::Type, V> {
+    /// Nothing yet, of a value of the type.
+    pub(crate) fn new(ty: &'ty V::Type) -> Self
+        requires { kind_of (V.Type.tree ty.now) ≡ WasmTypeKind.Option }
+        ensures { (source : List ℕ) → AreOfSome V.Type.tree V.tree V.is_of V.is_full (V.Type.tree ty.now) source [] result }
+    {
+        SomePayload {
+            ty,
+            due: ty.option_some_type().unwrap(),
+            made: None,
+        }
+    }
+
+    /// The type of the payload.
+    pub(crate) fn next(&self) -> Option<&'ty V::Type>
+        ensures { result ≡ Some self.now.due }
+    {
+        Some(self.due)
+    }
+
+    /// The payload was read, or refused.
+    pub(crate) fn with_part(
+        &mut self,
+        alloc: Global,
+        made: Result<V, Failure>,
+    ) -> Result<(), AllocError>
+        ensures { IfOk result (λ _. (T : TypeTree) (source : List ℕ) (children : List NodeTree) (n : NodeTree) → TakesPart node_type.OptionSome children → AreOfSome V.Type.tree V.tree V.is_of V.is_full T source children self.old → IsReadWhereDue V.tree V.is_of V.is_full (Some (V.Type.tree self.old.due.now)) source n made → AreOfSome V.Type.tree V.tree V.is_of V.is_full T source (children ++ n ∷ []) self.new) }
+    {
+        self.made = Some(made);
+        Ok(())
+    }
+
+    /// `some` of the payload that was read, at this place.
+    pub(crate) fn whole(self, alloc: Global, span: Span) -> Result<V, ParserError>
+        ensures { (T : TypeTree) (source : List ℕ) (children : List NodeTree) → AreOfSome V.Type.tree V.tree V.is_of V.is_full T source children self.entry → IsReadAs V.tree V.is_of V.is_full T source (node node_type.OptionSome span (node_trees children)) result }
+    {
+        let SomePayload { ty, due: _, made } = self;
+        match made {
+            Some(Ok(val)) => or_error_at(span, V::make_option(alloc, ty, Some(val))),
+            Some(Err(failure)) => Err(failure.into_error()),
+            None => Err(ParserError::new(ParserErrorKind::InvalidType, span)),
+        }
+    }
+}
+
+/// `none`.
+pub(crate) fn read_none<V: WasmValue>(
+    leaf: &Leaf<'_>,
+    alloc: Global,
+    ty: &V::Type,
+) -> Result<V, ParserError>
+    requires form { leaf.now.ty ≡ node_type.OptionNone }
+    requires kind { kind_of (V.Type.tree ty.now) ≡ WasmTypeKind.Option }
+    ensures { (source : List ℕ) → IsReadAs V.tree V.is_of V.is_full (V.Type.tree ty.now) source (leaf_node leaf.now) result }
+{
+    leaf.or_error_here(V::make_option(alloc, ty, None))
+}

@@ -1,0 +1,99 @@
+//! Tuples, read at their types.
+ghost use Rattle.std.specs.Prelude.{ℕ, List, [], ◌∷◌, ◌++◌, ◌≡◌, IfOk, IfErr, MatchOption};
+ghost use Rattle.wave_wasm.specs.Types.{TypeTree, kind_of};
+ghost use Rattle.wave_wasm.specs.Borrowed.{shown};
+ghost use Rattle.wave_syntax.specs.NodeTree.{NodeTree, node, node_trees};
+ghost use Rattle.wave_leaf.specs.Reading.{IsReadAs, IsReadWhereDue};
+ghost use Rattle.wave_decode.specs.Faults.{IsDoomed};
+ghost use Rattle.wave_decode.specs.TupleParts.{IsRow, item_due};
+
+use crate::fault::{Fault, or_error_at};
+use std::alloc::{AllocError, Global};
+use wave_leaf::failure::Failure;
+use wave_lex::error::ParserError;
+use wave_lex::lex::Span;
+use wave_syntax::form::NodeType;
+use wave_wasm::wasm::{WasmType, WasmTypeKind, WasmValue, WasmValueError};
+
+/// The items of a tuple so far. Items beyond those that the type has are counted and not kept.
+#[derive(Drop)]
+pub struct Row<'ty, T, V> {
+    /// The type of the tuple.
+    ty: &'ty T,
+    /// The types of its items.
+    types: Vec<&'ty T>,
+    /// The items that were read.
+    items: Vec<V>,
+    /// The number of all items so far.
+    count: usize,
+}
+
+impl<'ty, V: WasmValue> Row<'ty, V::Type, V> {
+    /// No items, of a tuple of the type.
+    pub(crate) fn new(alloc: Global, ty: &'ty V::Type) -> Result<Self, AllocError>
+        requires { kind_of (V.Type.tree ty.now) ≡ WasmTypeKind.Tuple }
+        ensures { IfOk result (λ new. (source : List ℕ) → IsRow V.Type.tree V.tree V.is_of V.is_full (V.Type.tree ty.now) source [] new) }
+    {
+        let types = ty.tuple_element_types(alloc)?;
+        let items = Vec::with_capacity(alloc, types.len())?;
+        Ok(Row {
+            ty,
+            types,
+            items,
+            count: 0,
+        })
+    }
+
+    /// The type of the item that comes next, where there is one.
+    pub(crate) fn next(&self) -> Option<&'ty V::Type>
+        ensures { result ≡ item_due self.now }
+    {
+        match self.types.get(self.items.len()) {
+            Some(ty) => Some(*ty),
+            None => None,
+        }
+    }
+
+    /// Adds an item, which was read at the type that is due; or what is wrong with the tuple.
+    pub(crate) fn with_part(
+        &mut self,
+        alloc: Global,
+        made: Result<V, Failure>,
+    ) -> Result<Option<Fault>, AllocError>
+        ensures { IfOk result (λ found. (T : TypeTree) (source : List ℕ) (children : List NodeTree) (n : NodeTree) → IsRow V.Type.tree V.tree V.is_of V.is_full T source children self.old → IsReadWhereDue V.tree V.is_of V.is_full (shown V.Type.tree (item_due self.old)) source n made
+            → MatchOption found (IsRow V.Type.tree V.tree V.is_of V.is_full T source (children ++ n ∷ []) self.new) (IsDoomed V.tree V.is_of V.is_full T source NodeType.Tuple (children ++ n ∷ []))) }
+    {
+        match self.count.checked_add(1) {
+            Some(count) => self.count = count,
+            None => return Err(AllocError),
+        }
+        if self.next().is_none() {
+            return Ok(None);
+        }
+        match made {
+            Ok(item) => {
+                self.items.push(item)?;
+                Ok(None)
+            }
+            Err(failure) => Ok(Some(Fault::Told(failure))),
+        }
+    }
+
+    /// The tuple of these items, which stands here.
+    pub(crate) fn whole(self, alloc: Global, span: Span) -> Result<V, ParserError>
+        ensures { (T : TypeTree) (source : List ℕ) (children : List NodeTree) → IsRow V.Type.tree V.tree V.is_of V.is_full T source children self.entry → IsReadAs V.tree V.is_of V.is_full T source (node NodeType.Tuple span (node_trees children)) result }
+    {
+        let Row {
+            ty,
+            types,
+            items,
+            count,
+        } = self;
+        let want = types.len();
+        if count != want {
+            let cause = WasmValueError::WrongNumberOfTupleValues { want, got: count };
+            return Err(ParserError::with_cause(span, cause));
+        }
+        or_error_at(span, V::make_tuple(alloc, ty, items))
+    }
+}

@@ -1,0 +1,151 @@
+//! The builder that reads values of a type.
+ghost use Rattle.std.specs.Prelude.{ℕ, ◌≡◌, List, [], Some};
+ghost use Rattle.wave_syntax.specs.NodeParts.{IsOfParts};
+ghost use Rattle.wave_decode.specs.KeptParts.{AreKeptWhereDue};
+
+use crate::fault::Fault;
+use crate::flat::{around, type_of_parts};
+use crate::leaves::{flags_at, read_leaf};
+use crate::parts::Parts;
+use std::alloc::{AllocError, Global};
+use std::collections::BTreeMap;
+use wave_leaf::failure::{Failure, kept};
+use wave_leaf::leaf::Leaf;
+use wave_lex::error::ParserErrorKind;
+use wave_lex::lex::Span;
+use wave_syntax::builder::Builder;
+use wave_syntax::form::NodeType;
+use wave_wasm::wasm::WasmValue;
+
+/// The builder that reads a value of the type that is due. Where none is due nothing is kept, and the
+/// answer is worth nothing.
+#[derive_where(Clone, Copy)]
+pub struct Values<'ty, V: WasmValue> {
+    due: Option<&'ty V::Type>,
+}
+
+impl<'ty, V: WasmValue> Values<'ty, V> {
+    /// The builder that reads a value of the type.
+    pub fn new(ty: &'ty V::Type) -> Self
+        ensures { result.due ≡ Some ty.entry }
+    {
+        Values { due: Some(ty) }
+    }
+}
+
+/// What has been read of the parts of a value, or of the flat payload that stands for the value.
+#[derive(Drop)]
+pub struct Kept<'ty, T, V> {
+    around: Option<&'ty T>,
+    parts: Parts<'ty, T, V>,
+}
+
+impl<'ty, V: WasmValue> Kept<'ty, V::Type, V> {
+    /// No parts yet, of a value of the type at a node of this one.
+    #[inline(always)]
+    fn new(alloc: Global, ty: &'ty V::Type, of: NodeType) -> Self
+        ensures { (source : List ℕ) → IsOfParts of → AreKeptWhereDue V.Type.tree V.tree V.is_of V.is_full (Some (V.Type.tree ty.now)) source of [] result }
+    {
+        let (around, due) = type_of_parts(ty, of);
+        Kept {
+            around,
+            parts: Parts::new(alloc, due, of),
+        }
+    }
+}
+
+impl<'ty, V: WasmValue> Builder for Values<'ty, V> {
+    type Made = Result<V, Failure>;
+
+    type Parts = Kept<'ty, V::Type, V>;
+
+    ghost use Rattle.wave_wasm.specs.Borrowed.{shown};
+    ghost use Rattle.wave_leaf.specs.PlainReading.{IsReadSparing, TakesMemory};
+    ghost use Rattle.wave_decode.specs.KeptParts.{AreKeptWhereDue, next_takes};
+    ghost use Rattle.wave_decode.specs.PartsOfKinds.{next_due};
+
+    ghost is_made = { λ builder source n made. IsReadSparing V.tree V.is_of V.is_full (shown V.Type.tree builder.due) source n made };
+
+    ghost are_parts = { λ builder source ty children kept. AreKeptWhereDue V.Type.tree V.tree V.is_of V.is_full (shown V.Type.tree builder.due) source ty children kept };
+
+    ghost next = { λ builder kept. record builder { due = next_due kept.parts } };
+
+    ghost takes_memory = { λ builder. TakesMemory (shown V.Type.tree builder.due) };
+
+    ghost next_takes = { λ builder source ty children kept are takes. next_takes V.Type.tree V.tree V.is_of V.is_full (shown V.Type.tree builder.due) source ty children kept are takes };
+
+    fn leaf(self, alloc: Global, ty: NodeType, span: Span, text: &str) -> Result<V, Failure> {
+        let leaf = Leaf { ty, span, text };
+        match self.due {
+            Some(due) => match leaf.read_soon(alloc, due) {
+                Some(val) => Ok(val),
+                None => kept(alloc, read_leaf(&leaf, alloc, due)),
+            },
+            None => Err(Failure::plain(ParserErrorKind::InvalidType, leaf.span)),
+        }
+    }
+
+    fn parts(self, alloc: Global, ty: NodeType) -> Kept<'ty, V::Type, V> {
+        match self.due {
+            Some(due) => Kept::new(alloc, due, ty),
+            None => Kept {
+                around: None,
+                parts: Parts::Faulty(Fault::Kind(ParserErrorKind::InvalidType)),
+            },
+        }
+    }
+
+    fn part(self, parts: &Kept<'ty, V::Type, V>) -> Self {
+        Values {
+            due: parts.parts.next(),
+        }
+    }
+
+    fn with_key(
+        self,
+        alloc: Global,
+        parts: &mut Kept<'ty, V::Type, V>,
+        ty: NodeType,
+        span: Span,
+        text: &str,
+    ) -> Result<(), AllocError> {
+        parts.parts.with_key(alloc, ty, span, text)
+    }
+
+    fn with_part(
+        self,
+        alloc: Global,
+        parts: &mut Kept<'ty, V::Type, V>,
+        made: Result<V, Failure>,
+    ) -> Result<(), AllocError> {
+        parts.parts.with_part(alloc, made)
+    }
+
+    fn whole(
+        self,
+        alloc: Global,
+        ty: NodeType,
+        span: Span,
+        parts: Kept<'ty, V::Type, V>,
+    ) -> Result<V, Failure> {
+        let place = span.start..span.end;
+        let Kept { around: ty, parts } = parts;
+        let made = parts.whole(alloc, span);
+        match ty {
+            Some(ty) => kept(alloc, around(alloc, ty, place, made)),
+            None => kept(alloc, made),
+        }
+    }
+
+    fn flags(
+        self,
+        alloc: Global,
+        span: Span,
+        flags: BTreeMap<&str, Span>,
+    ) -> Result<Result<V, Failure>, AllocError> {
+        match self.due {
+            Some(due) => Ok(kept(alloc, flags_at(alloc, due, span, flags))),
+            None => Ok(Err(Failure::plain(ParserErrorKind::InvalidType, span))),
+        }
+    }
+}

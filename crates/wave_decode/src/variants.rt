@@ -1,0 +1,180 @@
+//! Variants, read at their types.
+ghost use Rattle.std.specs.Prelude.{ℕ, ◌≡◌, ◌++◌, List, [], ◌∷◌, IfOk, IfSome, MatchOption, option_map};
+ghost use Rattle.wave_wasm.specs.Types.{TypeTree, kind_of};
+ghost use Rattle.wave_wasm.specs.Borrowed.{shown, shown_cases};
+ghost use Rattle.wave_wasm.specs.ValueErrors.{missing_payload};
+ghost use Rattle.wave_grammar.specs.SpannedTree.{slice};
+ghost use Rattle.wave_grammar.specs.TypedGrammar.{look_up};
+ghost use Rattle.wave_syntax.specs.NodeTree.{NodeTree, node, no_nodes, node_trees, place_of};
+ghost use Rattle.wave_syntax.specs.declared.form.NodeType.TheVariants as node_type;
+ghost use Rattle.wave_syntax.specs.Shared.TypedReading.{IsCaused};
+ghost use Rattle.wave_leaf.specs.Leaves.{leaf_node, IsLeafIn};
+ghost use Rattle.wave_syntax.specs.NodeParts.{IsOneToken, TakesKey, TakesPart};
+ghost use Rattle.wave_leaf.specs.Reading.{IsReadAs, IsReadWhereDue};
+ghost use Rattle.wave_decode.specs.CaseParts.{AreCaseParts, payload_due};
+ghost use Rattle.wave_decode.specs.Faults.{IsDoomed};
+
+use crate::enums::no_case;
+use crate::fault::Fault;
+use std::alloc::{AllocError, Global};
+use std::boxed::Box;
+use wave_grammar::label::label_name;
+use wave_leaf::failure::Failure;
+use wave_leaf::leaf::Leaf;
+use wave_lex::error::{ParserError, ParserErrorKind};
+use wave_lex::lex::Span;
+use wave_syntax::form::NodeType;
+use wave_syntax::typed::case_payload;
+use wave_wasm::wasm::{WasmType, WasmTypeKind, WasmValue, WasmValueError};
+
+/// What has been read of a case and its payload.
+#[derive(Drop)]
+pub struct CasePayload<'ty, T, V> {
+    /// The type of the variant.
+    ty: &'ty T,
+    /// The name of the case and the type of its payload, once its label was read.
+    case: Option<(&'ty str, &'ty T)>,
+    /// The payload, once it was read.
+    payload: Option<V>,
+}
+
+impl<'ty, V: WasmValue> CasePayload<'ty, V::Type, V> {
+    /// Nothing yet, of a value of the type.
+    pub(crate) fn new(ty: &'ty V::Type) -> Self
+        requires { kind_of (V.Type.tree ty.now) ≡ WasmTypeKind.Variant }
+        ensures { (source : List ℕ) → AreCaseParts V.Type.tree V.tree V.is_of V.is_full (V.Type.tree ty.now) source [] result }
+    {
+        CasePayload {
+            ty,
+            case: None,
+            payload: None,
+        }
+    }
+
+    /// The type of the payload, once the label was read.
+    pub(crate) fn next(&self) -> Option<&'ty V::Type>
+        ensures { result ≡ payload_due self.now }
+    {
+        match self.case {
+            Some((_, payload)) => Some(payload),
+            None => None,
+        }
+    }
+
+    /// The label of the case is read: the type has such a case, and the case has a payload; or that is
+    /// wrong.
+    pub(crate) fn with_key(
+        &mut self,
+        alloc: Global,
+        ty: NodeType,
+        span: Span,
+        text: &str,
+    ) -> Result<Option<Fault>, AllocError>
+        ensures { IfOk result (λ found. (T : TypeTree) (source : List ℕ) (children : List NodeTree) → text.now ≡ slice source span → TakesKey node_type.VariantWithPayload children → AreCaseParts V.Type.tree V.tree V.is_of V.is_full T source children self.old
+            → MatchOption found (AreCaseParts V.Type.tree V.tree V.is_of V.is_full T source (children ++ node ty span no_nodes ∷ []) self.new) (IsDoomed V.tree V.is_of V.is_full T source node_type.VariantWithPayload (children ++ node ty span no_nodes ∷ []))) }
+    {
+        let cases = self.ty.variant_cases(alloc)?;
+        let name = label_name(text);
+        match named_case(&cases, name) {
+            Some((case, Some(payload))) => {
+                self.case = Some((case, payload));
+                Ok(None)
+            }
+            Some((_, None)) => {
+                let name = String::from_str(alloc, name)?;
+                let cause = Box::new(alloc, WasmValueError::UnexpectedPayload(name))?;
+                Ok(Some(Fault::Cause(cause)))
+            }
+            None => {
+                let name = String::from_str(alloc, name)?;
+                let cause = Box::new(alloc, WasmValueError::UnknownCase(name))?;
+                Ok(Some(Fault::Cause(cause)))
+            }
+        }
+    }
+
+    /// The payload is read, or was refused.
+    pub(crate) fn with_part(
+        &mut self,
+        alloc: Global,
+        made: Result<V, Failure>,
+    ) -> Result<Option<Fault>, AllocError>
+        ensures { IfOk result (λ found. (T : TypeTree) (source : List ℕ) (children : List NodeTree) (n : NodeTree) → TakesPart node_type.VariantWithPayload children → AreCaseParts V.Type.tree V.tree V.is_of V.is_full T source children self.old → IsReadWhereDue V.tree V.is_of V.is_full (shown V.Type.tree (payload_due self.old)) source n made
+            → MatchOption found (AreCaseParts V.Type.tree V.tree V.is_of V.is_full T source (children ++ n ∷ []) self.new) (IsDoomed V.tree V.is_of V.is_full T source node_type.VariantWithPayload (children ++ n ∷ []))) }
+    {
+        match made {
+            Ok(val) => {
+                drop(self.payload.replace(val));
+                Ok(None)
+            }
+            Err(failure) => Ok(Some(Fault::Told(failure))),
+        }
+    }
+
+    /// The variant of the case and the payload that were read, at this place.
+    pub(crate) fn whole(self, alloc: Global, span: Span) -> Result<V, ParserError>
+        ensures { (T : TypeTree) (source : List ℕ) (children : List NodeTree) → AreCaseParts V.Type.tree V.tree V.is_of V.is_full T source children self.entry → IsReadAs V.tree V.is_of V.is_full T source (node node_type.VariantWithPayload span (node_trees children)) result }
+    {
+        let CasePayload { ty, case, payload } = self;
+        let (name, val) = match (case, payload) {
+            (Some((name, _)), Some(val)) => (name, val),
+            _ => return Err(ParserError::new(ParserErrorKind::InvalidType, span)),
+        };
+        match V::make_variant(alloc, ty, name, Some(val)) {
+            Ok(val) => Ok(val),
+            Err(cause) => Err(ParserError::with_cause(span, cause)),
+        }
+    }
+}
+
+/// A variant of a case without a payload.
+pub(crate) fn read_case<V: WasmValue>(
+    leaf: &Leaf<'_>,
+    alloc: Global,
+    ty: &V::Type,
+) -> Result<V, ParserError>
+    requires { kind_of (V.Type.tree ty.now) ≡ WasmTypeKind.Variant }
+    ensures { (source : List ℕ) → IsOneToken leaf.now.ty → IsLeafIn source leaf.now → IsReadAs V.tree V.is_of V.is_full (V.Type.tree ty.now) source (leaf_node leaf.now) result }
+{
+    if leaf.ty != NodeType::Label {
+        return Err(leaf.error(ParserErrorKind::InvalidType));
+    }
+    let cases = match ty.variant_cases(alloc) {
+        Ok(cases) => cases,
+        Err(_) => return Err(leaf.error(ParserErrorKind::OutOfMemory)),
+    };
+    let name = label_name(leaf.text);
+    match case_payload(&cases, name) {
+        Some(Some(_)) => Err(no_payload(leaf, alloc, name)),
+        Some(None) => leaf.or_error_here(V::make_variant(alloc, ty, name, None)),
+        None => Err(no_case(leaf, alloc, name)),
+    }
+}
+
+/// A refusal at the leaf because the case of this name has a payload.
+fn no_payload(leaf: &Leaf<'_>, alloc: Global, name: &str) -> ParserError
+    ensures cause { IsCaused (missing_payload name.now) (leaf_node leaf.now) result }
+    ensures span { result.span ≡ place_of (leaf_node leaf.now) }
+{
+    match String::from_str(alloc, name) {
+        Ok(name) => leaf.refused(WasmValueError::MissingPayload(name)),
+        Err(error) => leaf.refused(WasmValueError::Memory(error)),
+    }
+}
+
+/// The case of this name and what it has for the type of its payload, where there is such a case.
+fn named_case<'ty, T: WasmType>(
+    cases: &Vec<(&'ty str, Option<&'ty T>)>,
+    name: &str,
+) -> Option<(&'ty str, Option<&'ty T>)>
+    ensures name { IfSome result (λ case. case.0.now ≡ name.now) }
+    ensures payload { option_map (λ case. shown T.tree case.1) result ≡ look_up (shown_cases T.tree cases.now.items) name.now }
+{
+    for case in cases {
+        let (other, payload) = *case;
+        if name == other {
+            return Some((other, payload));
+        }
+    }
+    None
+}

@@ -1,0 +1,13 @@
+use Rattle.std.proofs.Common.{inl, inr}
+use Rattle.std.specs.Prelude.{◌⊎◌}
+use Rattle.std.proofs.lemmas.Result.{IfErr-weaker}
+use Rattle.wave_example_settings.proofs.flags.read_flags.Goals as goal
+
+-- what is told for no want of memory, and for no maker that serves less than all
+told : {M F N W L : Type 0} → (M → ⊥) → L → M ⊎ F × N ⊎ W × (L → ⊥) → N
+told other full (inl memory) = absurd (other memory)
+told other full (inr (inl (fault, none))) = none
+told other full (inr (inr (maker, less))) = absurd (less full)
+
+pub returns-clause-refused : goal.returns-clause-refused
+returns-clause-refused c = IfErr-weaker c.from_str.result _ _ (λ e refused distinct other. told other distinct (refused.blames distinct)) c.from_str.ensures.refused

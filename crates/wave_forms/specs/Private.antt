@@ -1,9 +1,0 @@
-pub mod NodeTree
-pub mod NodeEncoding
-pub mod NodeDepth
-pub mod NodeAccessors
-pub mod TypedReading
-pub mod NodeFlags
-pub mod NodeFields
-pub mod NodeParams
-pub mod ErrorSpans

@@ -1,5 +1,0 @@
-pub mod FunctionType
-pub mod NamingRule
-pub mod FunctionEquality
-pub mod FunctionEqualityLaws
-pub mod Private

@@ -1,5 +1,0 @@
-//! The types of functions.
-#![tactic(auto)]
-
-pub mod func;
-pub mod laws;

@@ -1,0 +1,3 @@
+pub mod FlagOrder
+pub mod SyntaxErrors
+pub mod TokenRoles

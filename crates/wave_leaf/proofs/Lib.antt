@@ -1,0 +1,7 @@
+mod DetailedKeys
+mod Inside
+mod Strings
+pub mod PlainTypes
+pub mod SimpleTypes
+mod SoonRead
+pub mod Kept

@@ -1,0 +1,5 @@
+pub mod Failures
+pub mod Keys
+pub mod Leaves
+pub mod PlainReading
+pub mod Reading

@@ -1,0 +1,84 @@
+//! Keys of maps, each of one token.
+ghost use Rattle.std.specs.Prelude.{ℕ, List, IfErr};
+ghost use Rattle.wave_wasm.specs.Types as type;
+ghost use Rattle.wave_syntax.specs.TypedReading.{IsKeyOf, AnswersKey};
+ghost use Rattle.wave_syntax.specs.Shared.NodeAccessors.{GivesBoolKey};
+ghost use Rattle.wave_syntax.specs.Shared.ErrorSpans.{RefusesIn};
+ghost use Rattle.wave_leaf.specs.Keys.{IsDetailed, TellsKeyDue};
+ghost use Rattle.wave_leaf.specs.Leaves.{leaf_node, IsLeafIn};
+
+use crate::leaf::Leaf;
+use std::alloc::Global;
+use wave_lex::error::{ParserError, ParserErrorKind};
+use wave_syntax::form::NodeType;
+use wave_wasm::wasm::{DisplayType, WasmType, WasmTypeKind, WasmValue};
+
+impl<'src> Leaf<'src> {
+    /// A key of a map. Of a label that spells none the refusal says what it should be.
+    pub fn read_key<V: WasmValue>(&self, alloc: Global, ty: &V::Type) -> Result<V, ParserError>
+        ensures answer { (source : List ℕ) → IsLeafIn source self.now → AnswersKey V.tree V.is_of V.is_full (V.Type.tree ty.now) source (leaf_node self.now) result }
+        ensures within { (source : List ℕ) → IsLeafIn source self.now → IsKeyOf source (leaf_node self.now) → IfErr result (RefusesIn (leaf_node self.now)) }
+        ensures detail { IfErr result (TellsKeyDue (V.Type.tree ty.now) self.now) }
+    {
+        match self.read_plain_key(alloc, ty) {
+            Ok(key) => Ok(key),
+            Err(error) => Err(self.with_key_detail(alloc, ty, error)),
+        }
+    }
+
+    /// The refusal of a key; where a label is none of the type, with a detail that says which key is
+    /// due.
+    fn with_key_detail<T: WasmType>(&self, alloc: Global, ty: &T, error: ParserError) -> ParserError
+        ensures { IsDetailed (T.tree ty.now) self.now error result }
+    {
+        if error.kind() != ParserErrorKind::InvalidType
+            || error.cause().is_some()
+            || self.ty != NodeType::Label
+        {
+            return error;
+        }
+        match format!(in alloc;
+            "expected a {} key, found a label",
+            DisplayType::new(alloc, ty)
+        ) {
+            Ok(detail) => ParserError::with_detail(error.kind(), error.span(), detail),
+            Err(_) => self.error(ParserErrorKind::OutOfMemory),
+        }
+    }
+
+    /// A key of a map, its refusal without a detail where it is a label.
+    fn read_plain_key<V: WasmValue>(&self, alloc: Global, ty: &V::Type) -> Result<V, ParserError>
+        ensures answer { (source : List ℕ) → IsLeafIn source self.now → AnswersKey V.tree V.is_of V.is_full (V.Type.tree ty.now) source (leaf_node self.now) result }
+        ensures within { (source : List ℕ) → IsLeafIn source self.now → IsKeyOf source (leaf_node self.now) → IfErr result (RefusesIn (leaf_node self.now)) }
+    {
+        match ty.kind() {
+            WasmTypeKind::Bool => self.or_error_here(V::make_bool(alloc, self.as_bool_key()?)),
+            WasmTypeKind::Char => self.or_error_here(V::make_char(alloc, self.as_char()?)),
+            WasmTypeKind::String => self.read_string_key(alloc),
+            kind => self.read_whole(alloc, kind),
+        }
+    }
+
+    /// A key of a map that is a string.
+    fn read_string_key<V: WasmValue>(&self, alloc: Global) -> Result<V, ParserError>
+        ensures answer { (source : List ℕ) → IsLeafIn source self.now → AnswersKey V.tree V.is_of V.is_full (type.simple type.string) source (leaf_node self.now) result }
+        ensures within { (source : List ℕ) → IsLeafIn source self.now → IsKeyOf source (leaf_node self.now) → IfErr result (RefusesIn (leaf_node self.now)) }
+    {
+        let text = self.as_str(alloc)?;
+        self.made_string(alloc, text)
+    }
+
+    /// The bool, at a key whose label is `true` or `false`; else `InvalidType`.
+    fn as_bool_key(&self) -> Result<bool, ParserError>
+        ensures { (source : List ℕ) → IsLeafIn source self.now → GivesBoolKey source (leaf_node self.now) result }
+    {
+        if self.ty != NodeType::Label {
+            return Err(self.error(ParserErrorKind::InvalidType));
+        }
+        match self.text {
+            "true" => Ok(true),
+            "false" => Ok(false),
+            _ => Err(self.error(ParserErrorKind::InvalidType)),
+        }
+    }
+}

@@ -1,0 +1,54 @@
+//! Whole numbers that are read and made at once.
+ghost use Rattle.std.specs.Prelude.{ℕ, List, ◌≡◌, Ok, IfSome};
+ghost use Rattle.wave_syntax.specs.NodeAccessors.{GivesNumber};
+ghost use Rattle.wave_leaf.specs.Leaves.{leaf_node, IsLeafIn};
+ghost use Rattle.wave_leaf.specs.Reading.{IsReadAs};
+
+use crate::leaf::Leaf;
+use std::alloc::Global;
+use wave_grammar::number::WholeNumber;
+use wave_syntax::form::NodeType;
+use wave_wasm::wasm::{WasmType, WasmTypeKind, WasmValue, WasmValueError};
+
+impl<'src> Leaf<'src> {
+    /// The whole number, where the type is a whole-number type and a value of it is read and made.
+    /// Nothing is said of why there is none.
+    #[inline(always)]
+    pub fn read_soon<V: WasmValue>(&self, alloc: Global, ty: &V::Type) -> Option<V>
+        ensures { (source : List ℕ) → IsLeafIn source self.now → IfSome result (λ val. IsReadAs V.tree V.is_of V.is_full (V.Type.tree ty.now) source (leaf_node self.now) (Ok val)) }
+    {
+        match ty.kind() {
+            WasmTypeKind::S8 => if_made(V::make_s8(alloc, self.number()?)),
+            WasmTypeKind::S16 => if_made(V::make_s16(alloc, self.number()?)),
+            WasmTypeKind::S32 => if_made(V::make_s32(alloc, self.number()?)),
+            WasmTypeKind::S64 => if_made(V::make_s64(alloc, self.number()?)),
+            WasmTypeKind::U8 => if_made(V::make_u8(alloc, self.number()?)),
+            WasmTypeKind::U16 => if_made(V::make_u16(alloc, self.number()?)),
+            WasmTypeKind::U32 => if_made(V::make_u32(alloc, self.number()?)),
+            WasmTypeKind::U64 => if_made(V::make_u64(alloc, self.number()?)),
+            _ => None,
+        }
+    }
+
+    /// The number, at a number of the type.
+    #[inline(always)]
+    fn number<T: WholeNumber>(&self) -> Option<T>
+        ensures { (source : List ℕ) → IsLeafIn source self.now → IfSome result (λ number. GivesNumber T.kind T.number source (leaf_node self.now) (Ok number)) }
+    {
+        if self.ty != NodeType::Number {
+            return None;
+        }
+        T::from_text(self.text)
+    }
+}
+
+/// The value that was made.
+#[inline(always)]
+fn if_made<V>(made: Result<V, WasmValueError>) -> Option<V>
+    ensures { IfSome result (λ val. made ≡ Ok val) }
+{
+    match made {
+        Ok(val) => Some(val),
+        Err(_) => None,
+    }
+}

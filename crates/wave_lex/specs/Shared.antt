@@ -1,0 +1,4 @@
+pub mod Reading
+pub mod Machines
+pub mod NameMachine
+pub mod Derive

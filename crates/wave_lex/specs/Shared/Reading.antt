@@ -1,0 +1,51 @@
+-- What the lexer's own functions answer. Only private contracts and proofs cite it.
+use Rattle.std.specs.Prelude.{◌≡◌, ℕ, ◌<◌, ◌≤◌, ◌||◌, true, false, nat_eq, if◌then◌else◌, List, Option, Some, None, length, slice_index}
+use Rattle.wave_lex.specs.declared.lex.Token.{Token}
+use Rattle.wave_lex.specs.declared.lex.Token.TheVariants.{BraceOpen, BraceClose, ParenOpen, ParenClose, BracketOpen, BracketClose, Colon, Comma, Number, LabelOrKeyword, Char, String}
+use Rattle.wave_lex.specs.Regex.{Regex, is_within}
+use Rattle.wave_lex.specs.Shared.Derive.{after_all}
+use Rattle.wave_lex.specs.LongestMatch.{FrontHas}
+use Rattle.wave_lex.specs.Shared.Machines.{is_plain}
+use Rattle.wave_lex.specs.Tokenization.{MayStandAt, IsToken, IsLongestToken, NoToken}
+
+-- which class the first scalar of a token shows; the two kinds of strings begin alike
+abbrev pub class_of : ℕ → Option Token
+class_of c =
+    if nat_eq c 123 then Some BraceOpen
+    else (if nat_eq c 125 then Some BraceClose
+    else (if nat_eq c 40 then Some ParenOpen
+    else (if nat_eq c 41 then Some ParenClose
+    else (if nat_eq c 91 then Some BracketOpen
+    else (if nat_eq c 93 then Some BracketClose
+    else (if nat_eq c 58 then Some Colon
+    else (if nat_eq c 44 then Some Comma
+    else (if nat_eq c 45 || is_within 48 57 c then Some Number
+    else (if nat_eq c 37 || is_within 97 122 c || is_within 65 90 c then Some LabelOrKeyword
+    else (if nat_eq c 39 then Some Char
+    else (if nat_eq c 34 then Some String
+    else None)))))))))))
+
+-- what stands at the front of r
+abbrev pub TokenAt : List ℕ → Option (Token × ℕ) → Type 0
+TokenAt r None = NoToken r
+TokenAt r (Some t) = IsLongestToken r t.1 t.0
+
+-- each token at the front of r is in the class
+abbrev pub ClassAt : List ℕ → Option Token → Type 0
+ClassAt r None = NoToken r
+ClassAt r (Some c) = ((k : ℕ) (d : Token) → IsToken r k d → d ≡ c) × ((k : ℕ) → MayStandAt r k c)
+
+-- behind the first k bytes of s, what may follow in the shape is the shape q
+abbrev pub LeadsTo : Regex → Regex → List ℕ → ℕ → Type 0
+LeadsTo shape q s k = FrontHas (λ scalars. after_all scalars shape ≡ q) s k
+
+-- the first k bytes of s, where some are told, leave the shape q as it is
+abbrev pub IsStep : Regex → List ℕ → Option ℕ → Type 0
+IsStep q s None = Unit {0}
+IsStep q s (Some k) = (0 < k) × LeadsTo q q s k
+
+-- the plain bytes at the front of s are n
+pub record IsPlainRun (s : List ℕ) (n : ℕ) : Type 0 where
+  pub within : n ≤ length s
+  pub all : (i : ℕ) → i < n → is_plain (slice_index s i) ≡ true
+  pub stops : n < length s → is_plain (slice_index s n) ≡ false

@@ -1,0 +1,54 @@
+-- What the builder of a type makes of a node, and what a keyword is at a type.
+use Rattle.std.proofs.Common.{◌≡◌, ◌≢◌, ◌⊎◌, inl, inr, ℕ, List, Option, Some, Bor, Result, Ok, Err, refl, sym, subst}
+use Rattle.wave_wasm.specs.Types.{TypeTree, kind_of}
+use Rattle.wave_wasm.specs.Borrowed.{shown}
+use Rattle.wave_wasm.specs.Values.{Value}
+use Rattle.wave_wasm.specs.TypeText.{kind_word}
+use Rattle.wave_wasm.specs.ValueErrors.{unsupported_type}
+use Rattle.wave_wasm.specs.declared.wasm.WasmTypeKind.{WasmTypeKind}
+use Rattle.wave_wasm.specs.declared.wasm.WasmTypeKind.TheVariants as kinds
+use Rattle.wave_lex.specs.Errors.{Diagnostic}
+use Rattle.wave_lex.specs.declared.error.ParserErrorKind.TheVariants.{InvalidType}
+use Rattle.wave_syntax.specs.NodeTree.{NodeTree}
+use Rattle.wave_syntax.specs.NodeAccessors.{RefusedAs}
+use Rattle.wave_syntax.specs.Shared.TypedReading.{IsCaused}
+use Rattle.wave_leaf.specs.Reading.{IsReadAs, IsReadWhereDue}
+use Rattle.wave_node.specs.KeywordNodes.{RefusesKeyword}
+
+module _ {V S : Type 0} (tree : V → Value) (of : V → TypeTree → Type 0) (Full : TypeTree → Type 0) (type_tree : S → TypeTree) where
+  -- where this type is due, it is what is read at the type
+  due_read : (source : List ℕ) (n : NodeTree) (due : Option (Bor S)) (ty : Bor S) (r : Result V Diagnostic) → due ≡ Some ty → IsReadWhereDue tree of Full (shown type_tree due) source n r → IsReadAs tree of Full (type_tree ty.now) source n r
+  due_read source n due ty r e h = subst (λ (d : Option (Bor S)). IsReadWhereDue tree of Full (shown type_tree d) source n r) e h
+
+  -- a value
+  pub due_value : (source : List ℕ) (n : NodeTree) (due : Option (Bor S)) (ty : Bor S) (r : Result V Diagnostic) (v : V) → due ≡ Some ty → IsReadWhereDue tree of Full (shown type_tree due) source n r → r ≡ Ok v → IsReadAs tree of Full (type_tree ty.now) source n (Ok v)
+  due_value source n due ty r v e h is = subst (IsReadAs tree of Full (type_tree ty.now) source n) is (due_read source n due ty r e h)
+
+  -- a refusal, which is told
+  pub due_told : (source : List ℕ) (n : NodeTree) (due : Option (Bor S)) (ty : Bor S) (r : Result V Diagnostic) (e f : Diagnostic) → due ≡ Some ty → IsReadWhereDue tree of Full (shown type_tree due) source n r → r ≡ Err e → f ≡ e → IsReadAs tree of Full (type_tree ty.now) source n (Err f)
+  due_told source n due ty r e f same h is told =
+      subst (λ (d : Diagnostic). IsReadAs tree of Full (type_tree ty.now) source n (Err d)) (sym told) (subst (IsReadAs tree of Full (type_tree ty.now) source n) is (due_read source n due ty r same h))
+
+-- ---- keywords
+
+-- at a type that has no values
+pub keyword_unread : (T : TypeTree) (k : WasmTypeKind) (n : NodeTree) (e : Diagnostic) → k ≡ kind_of T → (k ≡ kinds.F32) ⊎ (k ≡ kinds.F64) ⊎ (k ≡ kinds.Unsupported) → IsCaused (unsupported_type (kind_word k)) n e → RefusesKeyword (kind_of T) n e
+keyword_unread T k n e same which h = subst (λ (j : WasmTypeKind). RefusesKeyword j n e) same (by which)
+  where
+    at_kind : (j : WasmTypeKind) → k ≡ j → IsCaused (unsupported_type (kind_word j)) n e
+    at_kind j is = subst (λ (i : WasmTypeKind). IsCaused (unsupported_type (kind_word i)) n e) is h
+
+    by : (k ≡ kinds.F32) ⊎ (k ≡ kinds.F64) ⊎ (k ≡ kinds.Unsupported) → RefusesKeyword k n e
+    by (inl is) = subst (λ (j : WasmTypeKind). RefusesKeyword j n e) (sym is) (at_kind kinds.F32 is)
+    by (inr (inl is)) = subst (λ (j : WasmTypeKind). RefusesKeyword j n e) (sym is) (at_kind kinds.F64 is)
+    by (inr (inr is)) = subst (λ (j : WasmTypeKind). RefusesKeyword j n e) (sym is) (at_kind kinds.Unsupported is)
+
+other_keyword : (k : WasmTypeKind) (n : NodeTree) (e : Diagnostic) → k ≢ kinds.F32 → k ≢ kinds.F64 → k ≢ kinds.Unsupported → RefusedAs InvalidType n e → RefusesKeyword k n e
+other_keyword kinds.F32 n e a b c h = absurd (a refl)
+other_keyword kinds.F64 n e a b c h = absurd (b refl)
+other_keyword kinds.Unsupported n e a b c h = absurd (c refl)
+other_keyword _ n e a b c h = h
+
+-- at another type
+pub keyword_other : (T : TypeTree) (k : WasmTypeKind) (n : NodeTree) (e : Diagnostic) → k ≡ kind_of T → k ≢ kinds.F32 → k ≢ kinds.F64 → k ≢ kinds.Unsupported → RefusedAs InvalidType n e → RefusesKeyword (kind_of T) n e
+keyword_other T k n e same a b c h = subst (λ (j : WasmTypeKind). RefusesKeyword j n e) same (other_keyword k n e a b c h)

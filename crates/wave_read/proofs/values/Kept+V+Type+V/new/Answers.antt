@@ -1,8 +1,0 @@
-use Rattle.wave_read.proofs.FlatReading.{none_flat_within, begun_around}
-use Rattle.wave_read.proofs.values.Kept+V+Type+V.new.Goals as goal
-
-pub new-requires : goal.new-requires
-new-requires g c = none_flat_within g.V.Type.WasmType.tree (g.V.Type.WasmType.tree c.args.ty.now) c.args.of c.type_of_parts.result.0 c.type_of_parts.result.1 c.type_of_parts.ensures
-
-pub returns : goal.returns
-returns g c = λ source parts. begun_around g.V.Type.WasmType.tree (g.V.Type.WasmType.tree c.args.ty.now) c.args.of g.V.WasmValue.tree g.V.WasmValue.is_of g.V.WasmValue.is_full source c.type_of_parts.result.0 c.type_of_parts.result.1 (record { around = c.type_of_parts.result.0; parts = c.new.result }) c.type_of_parts.ensures (c.new.ensures source parts)

@@ -1,0 +1,13 @@
+pub mod NodeTree
+pub mod Shared
+pub mod Nodes
+pub mod NodeAccessors
+pub mod NodeStrings
+pub mod TypedReading
+pub mod NodeFlags
+pub mod NodeFields
+pub mod NodeParams
+pub mod ErrorSpans
+pub mod NodeLaws
+pub mod FlagParts
+pub mod NodeParts

@@ -1,0 +1,31 @@
+-- What a node answers about its flags.
+use Rattle.std.specs.Prelude.{ℕ, ◌≡◌, ◌⊎◌, List, Result, Ok, Err}
+use Rattle.std.specs.Borrow.{Bor}
+use Rattle.wave_wasm.specs.Lists.{AllOf, SomeOf}
+use Rattle.wave_wasm.specs.Names.{IsNoneOf}
+use Rattle.wave_wasm.specs.ValueErrors.{unknown_case}
+use Rattle.wave_lex.specs.Errors.{Diagnostic, refusal_of}
+use Rattle.wave_lex.specs.declared.error.ParserErrorKind.TheVariants.{OutOfMemory}
+use Rattle.wave_syntax.specs.NodeTree.{NodeTree, place_of, children_of}
+use Rattle.wave_syntax.specs.Nodes.{IsParsedFrom}
+use Rattle.wave_grammar.specs.TypeErrors.{RefusesFor}
+use Rattle.wave_syntax.specs.NodeFlags.{AreFlags, IsNoFlags, names_at}
+
+-- the nodes were parsed from the source
+abbrev pub AreAllParsed : List ℕ → List NodeTree → Type 0
+AreAllParsed source ns = AllOf (IsParsedFrom source) ns
+
+-- the nodes of the flags; or `InvalidType` at another node
+abbrev pub GivesFlagNodes : NodeTree → Result (Bor (List NodeTree)) Diagnostic → Type 0
+GivesFlagNodes n (Ok nodes) = AreFlags n × (nodes.now ≡ children_of n)
+GivesFlagNodes n (Err e) = IsNoFlags n e
+
+-- want of memory; or one of these flags of the node is none of the names
+abbrev pub RefusesUnknown : List (List ℕ) → List (List ℕ) → NodeTree → Diagnostic → Type 0
+RefusesUnknown names flags n e = (e.kind ≡ OutOfMemory) ⊎ SomeOf (λ name. IsNoneOf names name × RefusesFor (unknown_case name) (place_of n) (refusal_of e) e.span) flags
+
+-- want of memory; or the node is neither flags nor `{}`; or one of its flags is none of the names
+abbrev pub RefusesFlags : List (List ℕ) → List ℕ → NodeTree → Diagnostic → Type 0
+RefusesFlags names source n e =
+    (e.kind ≡ OutOfMemory) ⊎ IsNoFlags n e
+    ⊎ AreFlags n × SomeOf (λ name. IsNoneOf names name × RefusesFor (unknown_case name) (place_of n) (refusal_of e) e.span) (names_at source (children_of n))

@@ -1,0 +1,76 @@
+//! Calls that readers at types share.
+ghost use Rattle.std.specs.Prelude.{◌≡◌, ◌≢◌, ◌↔◌, option_map, IsTrue, IfOk};
+ghost use Rattle.std.specs.Str.{bytes_eq};
+ghost use Rattle.wave_wasm.specs.Borrowed.{texts, shown, shown_cases};
+ghost use Rattle.wave_wasm.specs.Merge.{merge};
+ghost use Rattle.wave_wasm.specs.Text.{text};
+ghost use Rattle.wave_grammar.specs.TypedGrammar.{look_up};
+ghost use Rattle.wave_syntax.specs.Shared.NodeAccessors.{Among};
+ghost use Rattle.wave_syntax.specs.Shared.TypedReading.{GivesFlat};
+
+use std::alloc::{AllocError, Global};
+use wave_wasm::wasm::{WasmType, WasmTypeKind, WasmValue};
+use wave_wasm::writer::{merge_map_entries, to_string};
+
+/// The entries with each key once, merged by the texts of their keys. The only error is want of
+/// memory, which also stands for a key that has no text.
+pub fn merged<V: WasmValue>(alloc: Global, entries: Vec<(V, V)>) -> Result<Vec<(V, V)>, AllocError>
+    ensures { IfOk result (λ m. m.items ≡ merge (λ a b. bytes_eq (text (V.tree a)) (text (V.tree b))) entries.items) }
+{
+    let mut with_texts = Vec::with_capacity(alloc, entries.len())?;
+    for (key, val) in entries {
+        let Ok(text) = to_string(alloc, &key) else {
+            return Err(AllocError);
+        };
+        with_texts.push((text, key, val))?;
+    }
+    merge_map_entries(alloc, with_texts)
+}
+
+/// Whether an option or a result may be left out around a value of this kind.
+pub fn is_flat(kind: WasmTypeKind) -> bool
+    ensures { IsTrue result ↔ ((kind ≢ WasmTypeKind.Option) × (kind ≢ WasmTypeKind.Result)) }
+{
+    match kind {
+        WasmTypeKind::Option | WasmTypeKind::Result => false,
+        _ => true,
+    }
+}
+
+/// The type of a payload that may stand alone for `ok` of itself.
+pub fn flat_type<T: WasmType>(payload: Option<&T>) -> Option<&T>
+    ensures { GivesFlat (shown T.tree payload.entry) (shown T.tree result) }
+{
+    match payload {
+        Some(ty) if is_flat(ty.kind()) => Some(ty),
+        _ => None,
+    }
+}
+
+/// What the case of this name has for the type of its payload, where there is such a case.
+pub fn case_payload<'ty, T: WasmType>(
+    cases: &Vec<(&str, Option<&'ty T>)>,
+    name: &str,
+) -> Option<Option<&'ty T>>
+    ensures { option_map (shown T.tree) result ≡ look_up (shown_cases T.tree cases.now.items) name.now }
+{
+    for case in cases {
+        let (other, payload) = *case;
+        if name == other {
+            return Some(payload);
+        }
+    }
+    None
+}
+
+/// Whether the name is one of these.
+pub fn is_among(names: &Vec<&str>, name: &str) -> bool
+    ensures { Among (texts names.now.items) name.now result }
+{
+    for other in names {
+        if name == *other {
+            return true;
+        }
+    }
+    false
+}

@@ -1,0 +1,39 @@
+//! Types that are made of foreign types, and of types.
+use std::test::Fail;
+use wasm_wave::value::Type;
+use wasm_wave::wasm::WasmType;
+use wave_example_flags::name_set::NameSet;
+use wave_test_types::reader::type_of;
+
+/// The text of the type that is made of this one, or `none`.
+fn made<T: WasmType>(rt: HostRuntime, ty: &T) -> Result<String, Fail> {
+    match Type::from_wasm_type(rt.alloc(), ty)? {
+        Some(ty) => Ok(format!(in rt.alloc(); "{ty}")?),
+        None => Ok(String::from_str(rt.alloc(), "none")?),
+    }
+}
+
+#[test]
+fn of_names(rt: HostRuntime) -> Result<(), Fail> {
+    let names = NameSet::new(rt.alloc(), &["read", "write", "exec"])?;
+    assert_eq!(rt; made(rt, &names)?.as_str(), "flags { read, write, exec }");
+    let names = NameSet::new(rt.alloc(), &[])?;
+    assert_eq!(rt; made(rt, &names)?.as_str(), "none");
+    Ok(())
+}
+
+#[test]
+fn of_types(rt: HostRuntime) -> Result<(), Fail> {
+    for text in [
+        "tuple<result, result<u8>, result<_, string>, f64>",
+        "record { pair: tuple<s8, list<char>>, maybe: option<f32>, of: map<char, bool> }",
+        "variant { off, on(flags { read, write }), of(enum { x }) }",
+        "record { a: list<u8, 4>, b: tuple<option<list<u8, 0>>> }",
+    ] {
+        let ty = type_of(rt.alloc(), text)?;
+        if made(rt, &ty)?.as_str() != text {
+            return Err(Fail::new(text));
+        }
+    }
+    Ok(())
+}

@@ -1,0 +1,70 @@
+//! What a call was found to answer.
+use std::alloc::AllocError;
+use std::fmt;
+use wasm_wave::parser::{ParserError, ParserErrorKind};
+use wave_test_types::reader::TypeError;
+
+/// What a call was found to answer.
+#[derive(Clone, Copy)]
+pub enum Found {
+    /// What is due.
+    Due,
+    /// Want of memory.
+    Want,
+    /// Want of memory, and then, called once more, what is due.
+    DueAgain,
+    /// Want of memory, called twice.
+    WantAgain,
+    /// Nothing: memory was wanting for what it is called on.
+    NotCalled,
+    /// Something else.
+    Other,
+    /// Nothing: the words name no call.
+    Unknown,
+}
+
+impl fmt::Display for Found {
+    fn fmt<W: fmt::Write>(&self, f: &mut fmt::Formatter<W>) -> fmt::Result {
+        f.write_str(match self {
+            Found::Due => "as expected",
+            Found::Want => "want of memory",
+            Found::DueAgain => "want of memory, then as expected",
+            Found::WantAgain => "want of memory, then want of memory",
+            Found::NotCalled => "not called",
+            Found::Other => "wrong",
+            Found::Unknown => "no such call",
+        })
+    }
+}
+
+impl From<AllocError> for Found {
+    fn from(_error: AllocError) -> Found {
+        Found::Want
+    }
+}
+
+impl From<TypeError> for Found {
+    fn from(error: TypeError) -> Found {
+        match error {
+            TypeError::NoType => Found::Other,
+            TypeError::Memory(_) => Found::NotCalled,
+        }
+    }
+}
+
+impl From<ParserError> for Found {
+    fn from(error: ParserError) -> Found {
+        match error.kind() {
+            ParserErrorKind::OutOfMemory => Found::NotCalled,
+            _ => Found::Other,
+        }
+    }
+}
+
+/// Whether it is so.
+pub fn due_if(holds: bool) -> Found {
+    match holds {
+        true => Found::Due,
+        false => Found::Other,
+    }
+}

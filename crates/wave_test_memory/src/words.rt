@@ -1,0 +1,26 @@
+//! The words of the program, and what they stand for.
+use crate::found::Found;
+use std::alloc::Global;
+use wasm_wave::from_str;
+use wasm_wave::parser::ParserError;
+use wasm_wave::value::{Type, Value};
+use wave_test_types::reader::type_of;
+
+/// The word at this place; nothing where there is none.
+pub fn word(words: &[String], at: usize) -> &str {
+    match words.get(at) {
+        Some(word) => word.as_str(),
+        None => "",
+    }
+}
+
+/// The value of the text at the type.
+pub fn read(alloc: Global, ty: &Type, text: &str) -> Result<Value, ParserError> {
+    from_str::<Value>(alloc, ty, text)
+}
+
+/// The value of the word behind this place, at the type that is the word there.
+pub fn value_at(alloc: Global, words: &[String], at: usize) -> Result<Value, Found> {
+    let ty = type_of(alloc, word(words, at))?;
+    Ok(read(alloc, &ty, word(words, at.saturating_add(1)))?)
+}

@@ -1,0 +1,55 @@
+//! What texts answer at types.
+use crate::cuts::is_told_at_each_cut;
+use std::alloc::Global;
+use std::test::Fail;
+use wasm_wave::parser::ParserError;
+use wasm_wave::untyped::UntypedValue;
+use wasm_wave::value::{Type, Value};
+use wasm_wave::{from_str, to_string};
+use wave_test_types::reader::type_of;
+
+/// The value of the text, read without the type at first and then at it.
+fn read_late(alloc: Global, ty: &Type, text: &str) -> Result<Value, ParserError> {
+    UntypedValue::parse(alloc, text)?.to_wasm_value(alloc, ty)
+}
+
+/// Whether the text means the same value, or none, where it is read without the type at first.
+pub fn is_read_alike(alloc: Global, ty: &Type, text: &str) -> bool {
+    match (
+        from_str::<Value>(alloc, ty, text),
+        read_late(alloc, ty, text),
+    ) {
+        (Ok(one), Ok(other)) => one == other,
+        (Err(_), Err(_)) => true,
+        _ => false,
+    }
+}
+
+/// The text of the value.
+fn text(alloc: Global, val: &Value) -> Result<String, Fail> {
+    Ok(to_string(alloc, val)?)
+}
+
+/// What a value prints, or a refusal.
+pub fn told(alloc: Global, answer: Result<Value, ParserError>) -> Result<String, Fail> {
+    match answer {
+        Ok(val) => text(alloc, &val),
+        Err(error) => Ok(format!(in alloc; "{error}")?),
+    }
+}
+
+/// The first text that is answered otherwise at its type, with its answer; nothing where there is none.
+/// Each row is a type, a text and its answer. Each text is also read alike without its type first, and
+/// each front of it is told.
+pub fn wrong(alloc: Global, rows: &[(&str, &str, &str)]) -> Result<String, Fail> {
+    for row in rows {
+        let (ty, text, expected) = *row;
+        let ty = type_of(alloc, ty)?;
+        let answer = told(alloc, from_str::<Value>(alloc, &ty, text))?;
+        let is_alike = is_read_alike(alloc, &ty, text) && is_told_at_each_cut(alloc, &ty, text);
+        if answer.as_str() != expected || !is_alike {
+            return Ok(format!(in alloc; "{text} gives {answer} at {ty}")?);
+        }
+    }
+    Ok(String::new(alloc))
+}

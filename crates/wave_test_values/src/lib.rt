@@ -1,0 +1,25 @@
+//! Worked rows of types and of values: the words of kinds, keywords and causes, the texts of types, also
+//! of those of functions, what the makers of values make, Rust values as values, merged entries, and
+//! writers that fail.
+#![tactic(auto)]
+
+#[cfg(test)]
+mod conversions;
+#[cfg(test)]
+mod functions;
+#[cfg(test)]
+mod kinds;
+#[cfg(test)]
+mod makers;
+#[cfg(test)]
+mod merging;
+#[cfg(test)]
+mod parsed_types;
+#[cfg(test)]
+mod shown_functions;
+#[cfg(test)]
+mod types;
+#[cfg(test)]
+mod words;
+#[cfg(test)]
+mod writing;

@@ -1,0 +1,390 @@
+//! Recursive descent: what is made of a value, a call for each of its levels.
+ghost use Rattle.std.specs.Prelude.{◌≡◌, ◌+◌, ◌-◌, Some, None, Ok, Err, IfOk, IfErr, List, [], ◌∷◌};
+ghost use Rattle.wave_lex.specs.declared.lex.Token.TheVariants as lex_class;
+ghost use Rattle.wave_lex.specs.declared.error.ParserErrorKind.TheVariants as kind;
+ghost use Rattle.wave_grammar.specs.ParserPosition.{Place, TakesItem, span_at, text_at};
+ghost use Rattle.wave_grammar.specs.Tree.{word_of};
+ghost use Rattle.wave_grammar.specs.PrefixAutomaton.{due_behind};
+ghost use Rattle.wave_grammar.specs.PrefixAutomaton as due;
+ghost use Rattle.wave_grammar.specs.Shared.SyntaxErrors.{GivesWithin, GivesAnywhere};
+ghost use Rattle.wave_lex.specs.Tokenization.{span};
+ghost use Rattle.wave_grammar.specs.Shared.TokenRoles.{form_of, IsClose};
+ghost use Rattle.wave_syntax.specs.FlagParts.{AreFlagsOf, flag_nodes};
+ghost use Rattle.wave_syntax.specs.NodeParts.{IsOfParts, IsOneToken, TakesPart};
+ghost use Rattle.wave_syntax.specs.NodeTree.{NodeTree, node, no_nodes};
+ghost use Rattle.wave_syntax.specs.declared.form.NodeType.TheVariants as node_type;
+ghost use Rattle.wave_tree.specs.ParsedNodes.{IsParsed, IsBuilt};
+ghost use Rattle.wave_tree.specs.Private.ParsedNodes.{IsParsedBehind, IsOfPayload, IsMaybe, IsPayload, IsOfItems, IsOfEntries, IsOfFlags, label_children};
+ghost use Rattle.wave_tree.specs.Private.ParserState.{AsksFor, WantsOnly};
+
+use crate::ast::NodeType;
+use crate::refusal::Refusal;
+use crate::role::{LabelRole, key_type, role_of};
+use crate::tokens::Tokens;
+use std::alloc::Global;
+use std::collections::BTreeMap;
+use wave_grammar::label::label_name;
+use wave_lex::error::ParserErrorKind;
+use wave_lex::lex::{Span, Token};
+use wave_syntax::builder::Builder;
+
+impl<'source> Tokens<'source> {
+    /// Reads a value. Each level of a value takes such a call, so what it calls isn't inlined, and its
+    /// frame stays small.
+    #[cycle(parser)]
+    pub(crate) fn parse_node<P: Builder>(
+        &mut self,
+        alloc: Global,
+        builder: P,
+        levels: u32,
+    ) -> Result<P::Made, Refusal>
+        ensures led { GivesWithin result levels due.value [] self.old.place self.new.place }
+        ensures tree { IfOk result (IsBuilt (P.is_made builder) self.old.place (IsParsed levels self.old.place self.new.place)) }
+        ensures memory { IfErr result (WantsOnly (P.takes_memory builder) self.old.place) }
+        ensures asks { AsksFor self.old self.new }
+    {
+        if levels == 0 {
+            return Err(Refusal::new(ParserErrorKind::NestingTooDeep, self.span()));
+        }
+        let token = self.advance()?;
+        match token {
+            Token::Number => Ok(self.leaf(alloc, builder, NodeType::Number)),
+            Token::Char => Ok(self.leaf(alloc, builder, NodeType::Char)),
+            Token::String => Ok(self.leaf(alloc, builder, NodeType::String)),
+            Token::MultilineString => Ok(self.leaf(alloc, builder, NodeType::MultilineString)),
+            Token::LabelOrKeyword => self.parse_label(alloc, builder, levels - 1),
+            Token::ParenOpen => self.parse_items(alloc, builder, levels - 1, Token::ParenClose),
+            Token::BracketOpen => self.parse_items(alloc, builder, levels - 1, Token::BracketClose),
+            Token::BraceOpen => self.parse_braces(alloc, builder, levels - 1),
+            _ => Err(self.unexpected(token)),
+        }
+    }
+
+    /// Reads what stands behind a label that is due to be a value.
+    #[cycle(parser)]
+    #[inline(never)]
+    fn parse_label<P: Builder>(
+        &mut self,
+        alloc: Global,
+        builder: P,
+        levels: u32,
+    ) -> Result<P::Made, Refusal>
+        ensures led { let d = due_behind (word_of (text_at self.old.place)) in
+            GivesWithin result (levels + 1) d [] self.old.place self.new.place }
+        ensures tree { IfOk result (IsBuilt (P.is_made builder) self.old.place (IsParsedBehind lex_class.LabelOrKeyword (levels + 1) self.old.place self.new.place)) }
+        ensures memory { IfErr result (WantsOnly (P.takes_memory builder) self.old.place) }
+        ensures asks { AsksFor self.old self.new }
+    {
+        match role_of(self.slice()) {
+            LabelRole::True => Ok(self.leaf(alloc, builder, NodeType::BoolTrue)),
+            LabelRole::False => Ok(self.leaf(alloc, builder, NodeType::BoolFalse)),
+            LabelRole::Number => Ok(self.leaf(alloc, builder, NodeType::Number)),
+            LabelRole::None => Ok(self.leaf(alloc, builder, NodeType::OptionNone)),
+            LabelRole::Some => {
+                let start = self.span().start;
+                self.expect(Token::ParenOpen)?;
+                let parts = builder.parts(alloc, NodeType::OptionSome);
+                self.parse_payload(alloc, builder, levels, NodeType::OptionSome, start, parts)
+            }
+            LabelRole::Ok => self.parse_maybe(
+                alloc,
+                builder,
+                levels,
+                NodeType::ResultOk,
+                NodeType::ResultOk,
+            ),
+            LabelRole::Err => self.parse_maybe(
+                alloc,
+                builder,
+                levels,
+                NodeType::ResultErr,
+                NodeType::ResultErr,
+            ),
+            LabelRole::Case => self.parse_maybe(
+                alloc,
+                builder,
+                levels,
+                NodeType::Label,
+                NodeType::VariantWithPayload,
+            ),
+        }
+    }
+
+    /// Reads the payload behind a label, where an open parenthesis stands there.
+    #[cycle(parser)]
+    #[inline(never)]
+    fn parse_maybe<P: Builder>(
+        &mut self,
+        alloc: Global,
+        builder: P,
+        levels: u32,
+        alone: NodeType,
+        with: NodeType,
+    ) -> Result<P::Made, Refusal>
+        requires { IsOneToken alone × IsOfPayload with }
+        ensures led { GivesWithin result (levels + 1) due.behind_label [] self.old.place self.new.place }
+        ensures tree { IfOk result (IsBuilt (P.is_made builder) self.old.place (IsMaybe levels alone with self.old.place self.new.place)) }
+        ensures memory { IfErr result (WantsOnly (P.takes_memory builder) self.old.place) }
+        ensures asks { AsksFor self.old self.new }
+    {
+        let start = self.span().start;
+        if !self.next_is(Token::ParenOpen) {
+            return Ok(self.leaf(alloc, builder, alone));
+        }
+        let front = self.label_parts(alloc, builder, with)?;
+        self.expect(Token::ParenOpen)?;
+        self.parse_payload(alloc, builder, levels, with, start, front)
+    }
+
+    /// The label of a case, which was taken last, as the first part of its node; no part of other
+    /// nodes.
+    fn label_parts<P: Builder>(
+        &self,
+        alloc: Global,
+        builder: P,
+        ty: NodeType,
+    ) -> Result<P::Parts, Refusal>
+        ensures made { let source = self.now.place.lexer.source in
+            IfOk result (λ made. IsOfParts ty → P.are_parts builder source ty (label_children ty (span_at self.now.place)) made) }
+        ensures memory { IfErr result (λ e. e.kind ≡ kind.OutOfMemory) }
+        ensures takes { IfErr result (λ _. IsOfParts ty → P.takes_memory builder) }
+    {
+        let mut parts = builder.parts(alloc, ty);
+        if let NodeType::VariantWithPayload = ty {
+            self.with_key(alloc, builder, &mut parts, NodeType::Label)?;
+        }
+        Ok(parts)
+    }
+
+    /// Reads a value and the close parenthesis behind it, in a node behind these parts.
+    #[cycle(parser)]
+    #[inline(never)]
+    fn parse_payload<P: Builder>(
+        &mut self,
+        alloc: Global,
+        builder: P,
+        levels: u32,
+        ty: NodeType,
+        start: usize,
+        parts: P::Parts,
+    ) -> Result<P::Made, Refusal>
+        ensures led { GivesWithin result (levels + 1) due.value (due.payload ∷ []) self.old.place self.new.place }
+        ensures tree { IfOk result (λ made. (front : List NodeTree) → TakesPart ty front → P.are_parts builder self.old.place.lexer.source ty front parts
+            → IsBuilt (P.is_made builder) self.old.place (IsPayload levels ty start front self.old.place self.new.place) made) }
+        ensures memory { IfErr result (λ e. (front : List NodeTree) → TakesPart ty front → P.are_parts builder self.old.place.lexer.source ty front parts
+            → WantsOnly (P.takes_memory builder) self.old.place e) }
+        ensures asks { AsksFor self.old self.new }
+    {
+        let mut parts = parts;
+        let part = builder.part(&parts);
+        let payload = self.parse_node(alloc, part, levels)?;
+        self.expect(Token::ParenClose)?;
+        self.with_part(alloc, builder, &mut parts, payload)?;
+        Ok(self.whole(alloc, builder, ty, start, parts))
+    }
+
+    /// Reads the items of a tuple or a list, and its close.
+    #[cycle(parser)]
+    #[inline(never)]
+    pub(crate) fn parse_items<P: Builder>(
+        &mut self,
+        alloc: Global,
+        builder: P,
+        levels: u32,
+        close: Token,
+    ) -> Result<P::Made, Refusal>
+        requires { IsClose close }
+        ensures led { GivesWithin result (levels + 1) due.first_item (form_of close ∷ []) self.old.place self.new.place }
+        ensures tree { IfOk result (IsBuilt (P.is_made builder) self.old.place (IsOfItems levels close self.old.place self.new.place)) }
+        ensures memory { IfErr result (WantsOnly (P.takes_memory builder) self.old.place) }
+        ensures asks { AsksFor self.old self.new }
+    {
+        let start = self.span().start;
+        if self.next_is(close) {
+            self.expect(close)?;
+            if close == Token::ParenClose {
+                return Err(Refusal::new(ParserErrorKind::EmptyTuple, start..self.span().end));
+            }
+            let none = builder.parts(alloc, NodeType::List);
+            return Ok(self.whole(alloc, builder, NodeType::List, start, none));
+        }
+        let ty = if close == Token::ParenClose {
+            NodeType::Tuple
+        } else {
+            NodeType::List
+        };
+        let mut parts = builder.parts(alloc, ty);
+        'items: loop {
+            let part = builder.part(&parts);
+            let item = self.parse_node(alloc, part, levels)?;
+            self.with_part(alloc, builder, &mut parts, item)?;
+            let token = self.advance()?;
+            if token == close {
+                return Ok(self.whole(alloc, builder, ty, start, parts));
+            }
+            if token != Token::Comma {
+                return Err(self.unexpected(token));
+            }
+            if self.next_is(close) {
+                self.expect(close)?;
+                return Ok(self.whole(alloc, builder, ty, start, parts));
+            }
+        }
+    }
+
+    /// Reads what stands behind an open brace.
+    #[cycle(parser)]
+    #[inline(never)]
+    fn parse_braces<P: Builder>(
+        &mut self,
+        alloc: Global,
+        builder: P,
+        levels: u32,
+    ) -> Result<P::Made, Refusal>
+        ensures led { GivesWithin result (levels + 1) due.in_braces [] self.old.place self.new.place }
+        ensures tree { IfOk result (IsBuilt (P.is_made builder) self.old.place (IsParsedBehind lex_class.BraceOpen (levels + 1) self.old.place self.new.place)) }
+        ensures asks { AsksFor self.old self.new }
+    {
+        let start = self.span().start;
+        let token = self.advance()?;
+        if token == Token::BraceClose {
+            let none = builder.parts(alloc, NodeType::EmptySet);
+            return Ok(self.whole(alloc, builder, NodeType::EmptySet, start, none));
+        }
+        if token == Token::Colon {
+            self.expect(Token::BraceClose)?;
+            let none = builder.parts(alloc, NodeType::TupleSet);
+            return Ok(self.whole(alloc, builder, NodeType::TupleSet, start, none));
+        }
+        if token == Token::LabelOrKeyword {
+            if self.next_is(Token::Colon) {
+                let key = self.first_key(alloc, builder, NodeType::Label)?;
+                self.expect(Token::Colon)?;
+                return self.parse_entries(alloc, builder, levels, start, key);
+            }
+            return self.parse_flags(alloc, builder, start);
+        }
+        let Some(ty) = key_type(token) else {
+            return Err(self.unexpected(token));
+        };
+        let key = self.first_key(alloc, builder, ty)?;
+        self.expect(Token::Colon)?;
+        self.parse_entries(alloc, builder, levels, start, key)
+    }
+
+    /// The first part of entries: their first key, which was taken last.
+    fn first_key<P: Builder>(
+        &self,
+        alloc: Global,
+        builder: P,
+        ty: NodeType,
+    ) -> Result<P::Parts, Refusal>
+        ensures made { let source = self.now.place.lexer.source in
+            IfOk result (P.are_parts builder source node_type.TupleSet (node ty (span_at self.now.place) no_nodes ∷ [])) }
+        ensures memory { IfErr result (λ e. e.kind ≡ kind.OutOfMemory) }
+        ensures takes { IfErr result (λ _. P.takes_memory builder) }
+    {
+        let mut parts = builder.parts(alloc, NodeType::TupleSet);
+        self.with_key(alloc, builder, &mut parts, ty)?;
+        Ok(parts)
+    }
+
+    /// Reads the value behind the first key, the further entries and the close.
+    #[cycle(parser)]
+    #[inline(never)]
+    fn parse_entries<P: Builder>(
+        &mut self,
+        alloc: Global,
+        builder: P,
+        levels: u32,
+        start: usize,
+        key: P::Parts,
+    ) -> Result<P::Made, Refusal>
+        ensures led { GivesWithin result (levels + 1) due.value (due.entries ∷ []) self.old.place self.new.place }
+        ensures tree { IfOk result (λ made. (first : NodeTree) → P.are_parts builder self.old.place.lexer.source node_type.TupleSet (first ∷ []) key
+            → IsBuilt (P.is_made builder) self.old.place (IsOfEntries levels start first self.old.place self.new.place) made) }
+        ensures asks { AsksFor self.old self.new }
+    {
+        let mut parts = key;
+        'entries: loop {
+            let part = builder.part(&parts);
+            let value = self.parse_node(alloc, part, levels)?;
+            self.with_part(alloc, builder, &mut parts, value)?;
+            let token = self.advance()?;
+            if token == Token::BraceClose {
+                return Ok(self.whole(alloc, builder, NodeType::TupleSet, start, parts));
+            }
+            if token != Token::Comma {
+                return Err(self.unexpected(token));
+            }
+            let next = self.advance()?;
+            if next == Token::BraceClose {
+                return Ok(self.whole(alloc, builder, NodeType::TupleSet, start, parts));
+            }
+            let Some(ty) = key_type(next) else {
+                return Err(self.unexpected(next));
+            };
+            self.with_key(alloc, builder, &mut parts, ty)?;
+            self.expect(Token::Colon)?;
+        }
+    }
+
+    /// Reads the flags behind the first, which was read, and the close.
+    #[inline(never)]
+    fn parse_flags<P: Builder>(
+        &mut self,
+        alloc: Global,
+        builder: P,
+        start: usize,
+    ) -> Result<P::Made, Refusal>
+        requires { (next : Place) → TakesItem self.old.place (Some (Ok lex_class.Colon)) next → ⊥ }
+        ensures led { GivesAnywhere result (due.behind_word (text_at self.old.place)) self.old.place self.new.place }
+        ensures tree { IfOk result (IsBuilt (P.is_made builder) self.old.place (IsOfFlags start self.old.place self.new.place)) }
+        ensures asks { AsksFor self.old self.new }
+    {
+        let mut flags = BTreeMap::new(alloc);
+        if flags.insert(label_name(self.slice()), self.span()).is_err() {
+            return Err(self.out_of_memory());
+        }
+        'flags: loop {
+            let token = self.advance()?;
+            if token == Token::BraceClose {
+                return self.whole_flags(alloc, builder, start, flags);
+            }
+            if token != Token::Comma {
+                return Err(self.unexpected(token));
+            }
+            let next = self.advance()?;
+            if next == Token::BraceClose {
+                return self.whole_flags(alloc, builder, start, flags);
+            }
+            if next != Token::LabelOrKeyword {
+                return Err(self.unexpected(next));
+            }
+            let name = label_name(self.slice());
+            match flags.insert(name, self.span()) {
+                Ok(None) => {}
+                Ok(Some(_)) => return Err(self.repeated(alloc, name)),
+                Err(_) => return Err(self.out_of_memory()),
+            }
+        }
+    }
+
+    /// What is made of these flags, by their names, up to the last token.
+    fn whole_flags<P: Builder>(
+        &self,
+        alloc: Global,
+        builder: P,
+        start: usize,
+        flags: BTreeMap<&'source str, Span>,
+    ) -> Result<P::Made, Refusal>
+        ensures made { let source = self.now.place.lexer.source in
+            IfOk result (λ made. AreFlagsOf source flags.entry → P.is_made builder source (node node_type.Flags (span start self.now.place.lexer.end) (flag_nodes flags.entry)) made) }
+        ensures memory { IfErr result (λ e. e.kind ≡ kind.OutOfMemory) }
+    {
+        match builder.flags(alloc, start..self.span().end, flags) {
+            Ok(made) => Ok(made),
+            Err(_) => Err(self.out_of_memory()),
+        }
+    }
+}

@@ -1,0 +1,114 @@
+-- One part more in a loop that reads parts.
+use Rattle.std.proofs.Common.{◌≡◌, ℕ, zero, suc, ◌+◌, ◌-◌, ◌≤◌, ◌<◌, List, [], ◌∷◌, ◌++◌, Option, Some, None, refl, sym, ap, ◌∙◌, arith, codes, length}
+use Rattle.std.specs.Prelude.{◌||◌}
+use Rattle.std.specs.Borrow.{Bor}
+use Rattle.std.specs.List.{list_any}
+use Rattle.std.specs.Str.{bytes_eq}
+use Rattle.wave_wasm.specs.Borrowed.{texts, named}
+use Rattle.wave_wasm.specs.Names.{is_one_of}
+use Rattle.wave_wasm.specs.Types.{TypeTree}
+use Rattle.wave_wasm.specs.declared.wasm.WasmTypeKind.{WasmTypeKind}
+use Rattle.wave_type.specs.declared.tokens.Token.{Token}
+use Rattle.wave_type.specs.TypeSpelling.{Tokens}
+use Rattle.wave_type.specs.Private.TypeTokens.{texts_of}
+use Rattle.wave_type.specs.Private.TypeReading.{onward, or_else, with, after, closed, parts, Reads, part_names, new_name, field_part, payload_read, case_part, kind_at, kind_read, type_read}
+use Rattle.wave_type.proofs.TypeReading.{map_more}
+
+-- the names of parts whose names are borrowed
+pub twice : {A : Type 0} (name : List ℕ) (ps : List (Bor (List ℕ) × A)) → list_any (λ p. bytes_eq name p.0.now) ps ≡ is_one_of (part_names (named ps)) name
+twice name [] = refl
+twice name (p ∷ ps) = ap (λ b. bytes_eq name p.0.now || b) (twice name ps)
+
+pub named_more : {A : Type 0} (ps qs : List (Bor (List ℕ) × A)) (n : Bor (List ℕ)) (a : A) → qs ≡ ps ++ ((n, a) ∷ []) → named qs ≡ named ps ++ ((n.now, a) ∷ [])
+named_more ps qs n a e = ap named e ∙ map_more (λ f. (f.0.now, f.1)) ps (n, a)
+
+pub texts_more : (ps qs : List (Bor (List ℕ))) (n : Bor (List ℕ)) → qs ≡ ps ++ (n ∷ []) → texts qs ≡ texts ps ++ (n.now ∷ [])
+texts_more ps qs n e = ap texts e ∙ map_more (λ m. m.now) ps n
+
+-- ---- a field, or a case, step by step
+
+module _ (read : Reads) (seen : List (List ℕ × TypeTree)) (ts : Tokens) where
+  pub field_unnamed : new_name (part_names seen) ts ≡ None → field_part read seen ts ≡ None
+  field_unnamed e = ap (λ o. onward o (λ a. onward (after (codes ":") a.1) (λ m. onward (read m) (λ b. Some ((a.0, b.0), b.1))))) e
+
+  pub field_named : (n : List ℕ) (m : Tokens) → new_name (part_names seen) ts ≡ Some (n, m) → field_part read seen ts ≡ onward (after (codes ":") m) (λ l. onward (read l) (λ b. Some ((n, b.0), b.1)))
+  field_named n m e = ap (λ o. onward o (λ a. onward (after (codes ":") a.1) (λ m. onward (read m) (λ b. Some ((a.0, b.0), b.1))))) e
+
+  pub field_without_colon : (n : List ℕ) (m : Tokens) → new_name (part_names seen) ts ≡ Some (n, m) → after (codes ":") m ≡ None → field_part read seen ts ≡ None
+  field_without_colon n m e c = field_named n m e ∙ ap (λ o. onward o (λ l. onward (read l) (λ b. Some ((n, b.0), b.1)))) c
+
+  pub field_typed : (n : List ℕ) (m l : Tokens) → new_name (part_names seen) ts ≡ Some (n, m) → after (codes ":") m ≡ Some l → field_part read seen ts ≡ onward (read l) (λ b. Some ((n, b.0), b.1))
+  field_typed n m l e c = field_named n m e ∙ ap (λ o. onward o (λ l. onward (read l) (λ b. Some ((n, b.0), b.1)))) c
+
+  pub field_untyped : (n : List ℕ) (m l : Tokens) → new_name (part_names seen) ts ≡ Some (n, m) → after (codes ":") m ≡ Some l → read l ≡ None → field_part read seen ts ≡ None
+  field_untyped n m l e c t = field_typed n m l e c ∙ ap (λ o. onward o (λ b. Some ((n, b.0), b.1))) t
+
+  pub field_read : (n : List ℕ) (m l r : Tokens) (T : TypeTree) → new_name (part_names seen) ts ≡ Some (n, m) → after (codes ":") m ≡ Some l → read l ≡ Some (T, r) → field_part read seen ts ≡ Some ((n, T), r)
+  field_read n m l r T e c t = field_typed n m l e c ∙ ap (λ o. onward o (λ b. Some ((n, b.0), b.1))) t
+
+module _ (read : Reads) (seen : List (List ℕ × Option TypeTree)) (ts : Tokens) where
+  pub case_unnamed : new_name (part_names seen) ts ≡ None → case_part read seen ts ≡ None
+  case_unnamed e = ap (λ o. onward o (λ a. onward (payload_read read a.1 (after (codes "(") a.1)) (λ b. Some ((a.0, b.0), b.1)))) e
+
+  pub case_named : (n : List ℕ) (m : Tokens) → new_name (part_names seen) ts ≡ Some (n, m) → case_part read seen ts ≡ onward (payload_read read m (after (codes "(") m)) (λ b. Some ((n, b.0), b.1))
+  case_named n m e = ap (λ o. onward o (λ a. onward (payload_read read a.1 (after (codes "(") a.1)) (λ b. Some ((a.0, b.0), b.1)))) e
+
+  pub case_unread : (n : List ℕ) (m : Tokens) → new_name (part_names seen) ts ≡ Some (n, m) → payload_read read m (after (codes "(") m) ≡ None → case_part read seen ts ≡ None
+  case_unread n m e p = case_named n m e ∙ ap (λ o. onward o (λ b. Some ((n, b.0), b.1))) p
+
+  pub case_read : (n : List ℕ) (m r : Tokens) (P : Option TypeTree) → new_name (part_names seen) ts ≡ Some (n, m) → payload_read read m (after (codes "(") m) ≡ Some (P, r) → case_part read seen ts ≡ Some ((n, P), r)
+  case_read n m r P e p = case_named n m e ∙ ap (λ o. onward o (λ b. Some ((n, b.0), b.1))) p
+
+-- ---- loops
+
+module _ {A : Type 0} (part : List A → Tokens → Option (A × Tokens)) (mark : List ℕ) where
+  -- of n parts at most, the one at i
+  unrolled : (n i : ℕ) (seen : List A) (ts : Tokens) → i < n → parts part mark (n - i) seen ts ≡ onward (part seen ts) (λ a. or_else (with (seen ++ (a.0 ∷ [])) (closed mark a.1)) (onward (after (codes ",") a.1) (parts part mark (n - (i + 1)) (seen ++ (a.0 ∷ [])))))
+  unrolled n i seen ts h =
+      let one : n - i ≡ suc (n - (i + 1)) = omega arith in
+      ap (λ k. parts part mark k seen ts) one
+
+  module _ (n i : ℕ) (seen : List A) (ts : Tokens) (all : Option (List A × Tokens)) (h : i < n) (known : parts part mark (n - i) seen ts ≡ all) where
+    pub part_fails : part seen ts ≡ None → all ≡ None
+    part_fails e = sym known ∙ (unrolled n i seen ts h ∙ ap (λ o. onward o (λ a. or_else (with (seen ++ (a.0 ∷ [])) (closed mark a.1)) (onward (after (codes ",") a.1) (parts part mark (n - (i + 1)) (seen ++ (a.0 ∷ [])))))) e)
+
+    there : (a : A × Tokens) → part seen ts ≡ Some a → all ≡ or_else (with (seen ++ (a.0 ∷ [])) (closed mark a.1)) (onward (after (codes ",") a.1) (parts part mark (n - (i + 1)) (seen ++ (a.0 ∷ []))))
+    there a e = sym known ∙ (unrolled n i seen ts h ∙ ap (λ o. onward o (λ a. or_else (with (seen ++ (a.0 ∷ [])) (closed mark a.1)) (onward (after (codes ",") a.1) (parts part mark (n - (i + 1)) (seen ++ (a.0 ∷ [])))))) e)
+
+    pub part_ends : (a : A) (m r : Tokens) → part seen ts ≡ Some (a, m) → closed mark m ≡ Some r → all ≡ Some (seen ++ (a ∷ []), r)
+    part_ends a m r e c = there (a, m) e ∙ ap (λ o. or_else (with (seen ++ (a ∷ [])) o) (onward (after (codes ",") m) (parts part mark (n - (i + 1)) (seen ++ (a ∷ []))))) c
+
+    goes_on : (a : A) (m : Tokens) → part seen ts ≡ Some (a, m) → closed mark m ≡ None → all ≡ onward (after (codes ",") m) (parts part mark (n - (i + 1)) (seen ++ (a ∷ [])))
+    goes_on a m e c = there (a, m) e ∙ ap (λ o. or_else (with (seen ++ (a ∷ [])) o) (onward (after (codes ",") m) (parts part mark (n - (i + 1)) (seen ++ (a ∷ []))))) c
+
+    pub comma_fails : (a : A) (m : Tokens) → part seen ts ≡ Some (a, m) → closed mark m ≡ None → after (codes ",") m ≡ None → all ≡ None
+    comma_fails a m e c f = goes_on a m e c ∙ ap (λ o. onward o (parts part mark (n - (i + 1)) (seen ++ (a ∷ [])))) f
+
+    pub part_behind : (a : A) (m r : Tokens) → part seen ts ≡ Some (a, m) → closed mark m ≡ None → after (codes ",") m ≡ Some r → parts part mark (n - (i + 1)) (seen ++ (a ∷ [])) r ≡ all
+    part_behind a m r e c f = sym (goes_on a m e c ∙ ap (λ o. onward o (parts part mark (n - (i + 1)) (seen ++ (a ∷ [])))) f)
+
+  -- where so many were read, no more are
+  pub parts_end : (n i : ℕ) (seen : List A) (ts : Tokens) (all : Option (List A × Tokens)) → n ≤ i → parts part mark (n - i) seen ts ≡ all → all ≡ None
+  parts_end n i seen ts all h known =
+      let none : n - i ≡ zero = omega arith in
+      sym known ∙ ap (λ k. parts part mark k seen ts) none
+
+  -- at the beginning all are left
+  pub parts_begin : (n m : ℕ) (seen : List A) (ts : Tokens) → n ≡ m → parts part mark (n - 0) seen ts ≡ parts part mark m seen ts
+  parts_begin n m seen ts e =
+      let same : n - 0 ≡ m = omega (arith, e) in
+      ap (λ k. parts part mark k seen ts) same
+
+-- ---- what the reader's functions say
+
+-- as many texts as tokens
+pub texts_count : (tokens : List Token) → length (texts_of tokens) ≡ length tokens
+texts_count [] = refl
+texts_count (t ∷ tokens) = ap suc (texts_count tokens)
+
+-- the types inside have one level less
+pub level_less : (n : ℕ) (ts m : Tokens) (kind : WasmTypeKind) → 0 < n → kind_at ts ≡ Some (kind, m) → type_read n ts ≡ kind_read (type_read (n - 1)) kind m
+level_less zero ts m kind h e = absurd (omega arith)
+level_less (suc n) ts m kind h e =
+    let one : suc n - 1 ≡ n = omega arith in
+    ap (λ o. onward o (λ k. kind_read (type_read n) k.0 k.1)) e ∙ ap (λ k. kind_read (type_read k) kind m) (sym one)

@@ -1,0 +1,7 @@
+use Rattle.std.proofs.Common.{◌≡◌, map}
+use Rattle.wave_wasm.specs.Borrowed.{named}
+use Rattle.wave_type.specs.TypeModel.{by_bytes}
+use Rattle.wave_type.proofs.func.parse.owned_parts.Given as goal
+
+abbrev pub invariant-loop-name : goal.invariant-loop-name
+invariant-loop-name l = map by_bytes l.owned.items ≡ named l.yielded

@@ -1,0 +1,16 @@
+use Rattle.std.proofs.Common.{inr, arith}
+use Rattle.wave_type.specs.FunctionType.{named_function}
+use Rattle.wave_type.specs.FunctionSpelling.{SpellsFunction}
+use Rattle.wave_type.proofs.FunctionsRead.{function_sound, function_left, ok_more}
+use Rattle.wave_type.proofs.func.parse.whole_function.Goals as goal
+
+pub returns-then-count-gt0-clause-refused : goal.returns-then-count-gt0-clause-refused
+returns-then-count-gt0-clause-refused c =
+    let f = named_function c.in_ok-params.params.items c.in_ok-params.results.items in
+    inr (function_left c.args.levels c.args.reader.now c.function.new.reader f c.in_ok-params.ensures (λ none. omega (arith, none, c.count.ensures, c.if-count-gt0.true)))
+
+pub returns-clause-spelled : goal.returns-clause-spelled
+returns-clause-spelled c =
+    let f = named_function c.in_ok-params.params.items c.in_ok-params.results.items in
+    let spelled = function_sound c.args.levels c.args.reader.now c.function.new.reader f c.in_ok-params.ensures (omega (arith, c.count.ensures, c.if-count-gt0.false)) in
+    ok_more (λ g. SpellsFunction g c.args.reader.now) f c.made.result c.made.ensures.made spelled

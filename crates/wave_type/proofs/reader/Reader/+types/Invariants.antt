@@ -1,0 +1,61 @@
+use Rattle.std.proofs.Common.{◌≡◌, ◌+◌, ◌-◌, ◌*◌, length, codes}
+use Rattle.wave_wasm.specs.Borrowed.{named}
+use Rattle.wave_type.specs.Private.TypeReading.{parts, field_part, case_part, types_read, fields_read, cases_read, type_read}
+use Rattle.wave_type.proofs.reader.Reader.+types.Given as goal
+
+abbrev pub decreases-ty : goal.decreases-ty
+decreases-ty l = 8 * l.levels
+
+abbrev pub decreases-err : goal.decreases-err
+decreases-err l = 8 * l.levels + 1
+
+abbrev pub decreases-payload : goal.decreases-payload
+decreases-payload l = 8 * l.levels + 2
+
+abbrev pub decreases-payloads : goal.decreases-payloads
+decreases-payloads l = 8 * l.levels + 4
+
+abbrev pub decreases-types : goal.decreases-types
+decreases-types l = 8 * l.levels + 4
+
+abbrev pub decreases-fields : goal.decreases-fields
+decreases-fields l = 8 * l.levels + 4
+
+abbrev pub decreases-cases : goal.decreases-cases
+decreases-cases l = 8 * l.levels + 4
+
+abbrev pub decreases-list : goal.decreases-list
+decreases-list l = 8 * l.levels + 5
+
+abbrev pub decreases-option : goal.decreases-option
+decreases-option l = 8 * l.levels + 5
+
+abbrev pub decreases-map : goal.decreases-map
+decreases-map l = 8 * l.levels + 5
+
+abbrev pub decreases-result : goal.decreases-result
+decreases-result l = 8 * l.levels + 5
+
+abbrev pub decreases-tuple : goal.decreases-tuple
+decreases-tuple l = 8 * l.levels + 5
+
+abbrev pub decreases-record : goal.decreases-record
+decreases-record l = 8 * l.levels + 5
+
+abbrev pub decreases-variant : goal.decreases-variant
+decreases-variant l = 8 * l.levels + 5
+
+abbrev pub decreases-of_kind : goal.decreases-of_kind
+decreases-of_kind l = 8 * l.levels + 7
+
+abbrev pub invariant-types-loop-part : goal.invariant-types-loop-part
+invariant-types-loop-part l =
+    parts (λ seen. type_read l.levels) (codes ">") (length l.fn.self - l._part) l.types.items l.self ≡ types_read (type_read l.levels) l.fn.self
+
+abbrev pub invariant-fields-loop-part : goal.invariant-fields-loop-part
+invariant-fields-loop-part l =
+    parts (field_part (type_read l.levels)) l.mark (length l.fn.self - l._part) (named l.fields.items) l.self ≡ fields_read (type_read l.levels) l.mark l.fn.self
+
+abbrev pub invariant-cases-loop-part : goal.invariant-cases-loop-part
+invariant-cases-loop-part l =
+    parts (case_part (type_read l.levels)) (codes "}") (length l.fn.self - l._part) (named l.cases.items) l.self ≡ cases_read (type_read l.levels) l.fn.self

@@ -1,0 +1,13 @@
+use Rattle.std.proofs.Common.{rules, arith}
+use Rattle.std.proofs.lemmas.Grind.{common_steps}
+use Rattle.wave_type.proofs.WholeTypes.{whole_refused, whole_left}
+use Rattle.wave_type.proofs.ty.parse.whole_type.Goals as goal
+
+pub returns-in_err-ty-clause-refused : goal.returns-in_err-ty-clause-refused
+returns-in_err-ty-clause-refused c =
+    let refused = whole_refused c.args.levels c.args.reader.now _ c.in_err-ty.ensures in
+    first_of (search (rules, refused), grind (arith, common_steps, refused))
+
+pub returns-then-count-gt0-clause-refused : goal.returns-then-count-gt0-clause-refused
+returns-then-count-gt0-clause-refused c =
+    whole_left c.args.levels c.args.reader.now c.ty.new.self c.in_ok-ty.ty c.refusal.result c.in_ok-ty.ensures (λ none. omega (arith, none, c.count.ensures, c.if-count-gt0.true))

@@ -1,0 +1,146 @@
+//! Types of functions from their texts.
+ghost use Rattle.std.specs.Prelude.{◌≡◌, ◌⊎◌, IfOk, IfErr, map, codes};
+ghost use Rattle.wave_lex.specs.Errors.{LiesInText};
+ghost use Rattle.wave_wasm.specs.Borrowed.{named};
+ghost use Rattle.wave_type.specs.declared.error.TypeErrorKind.TheVariants.{OutOfMemory};
+ghost use Rattle.wave_type.specs.FunctionSpelling.{SpellsFunction, SpellsNoFunction, IsFunctionOf, IsNoFunction};
+ghost use Rattle.wave_type.specs.FunctionType.{named_function};
+ghost use Rattle.wave_type.specs.Private.FunctionReading.{params_read, result_parts_read, results_read, function_read};
+ghost use Rattle.wave_type.specs.Private.TypeReading.{after, type_read};
+ghost use Rattle.wave_type.specs.Private.TypeTokens.{Answers};
+ghost use Rattle.wave_type.specs.TypeModel.{by_bytes};
+
+use super::FuncType;
+use crate::error::{TypeError, TypeErrorKind};
+use crate::reader::Reader;
+use crate::tokens::tokens_of;
+use crate::ty::Type;
+use crate::ty::parse::{MAX_LEVELS, place};
+use std::alloc::{AllocError, Global};
+
+impl FuncType {
+    /// The type of a function that the text spells, in the form in which it is displayed: `func`, the
+    /// parameters by their names and types in parentheses, and `->` with the type of the result, or
+    /// with named results in parentheses, where there are results. All else is as in `Type::parse`.
+    pub fn parse(alloc: Global, text: &str) -> Result<FuncType, TypeError>
+        ensures spelled { IfOk result (λ f. IsFunctionOf text.now f) }
+        ensures refused { IfErr result (λ e. IsNoFunction text.now e.kind) }
+        ensures within { IfErr result (λ e. LiesInText text.now e.span) }
+    {
+        let tokens = match tokens_of(alloc, text) {
+            Ok(tokens) => tokens,
+            Err(_) => return Err(TypeError::new(TypeErrorKind::OutOfMemory, 0..0)),
+        };
+        let mut reader = Reader::new(tokens.as_slice());
+        match whole_function(alloc, &mut reader, MAX_LEVELS) {
+            Ok(function) => Ok(function),
+            Err(kind) => Err(TypeError::new(kind, place(text, &tokens, reader.count()))),
+        }
+    }
+}
+
+/// Names and types, as they stand in the text.
+type Parts<'text> = Vec<(&'text str, Type)>;
+
+/// Takes the type of a function, behind which nothing stands.
+#[tactic(auto, using(crate::proofs::FunctionsRead::function_sound, crate::proofs::FunctionsRead::function_none, crate::proofs::FunctionsRead::function_left))]
+fn whole_function(
+    alloc: Global,
+    reader: &mut Reader<'_, '_>,
+    levels: usize,
+) -> Result<FuncType, TypeErrorKind>
+    ensures spelled { IfOk result (λ f. SpellsFunction f reader.old) }
+    ensures refused { IfErr result (λ kind. (kind ≡ OutOfMemory) ⊎ SpellsNoFunction levels reader.old) }
+{
+    let (params, results) = function(alloc, reader, levels)?;
+    if reader.count() > 0 {
+        return Err(reader.refusal());
+    }
+    made(alloc, params, results)
+}
+
+/// Takes the parameters and the results of a function.
+fn function<'text>(
+    alloc: Global,
+    reader: &mut Reader<'_, 'text>,
+    levels: usize,
+) -> Result<(Parts<'text>, Parts<'text>), TypeErrorKind>
+    ensures { Answers (λ p. named_function p.0.items p.1.items) result reader.new (function_read (type_read levels) reader.old) }
+{
+    reader.expect("func")?;
+    reader.expect("(")?;
+    let params = params(alloc, reader, levels)?;
+    let results = results(alloc, reader, levels)?;
+    Ok((params, results))
+}
+
+/// Takes the parameters through `)`.
+fn params<'text>(
+    alloc: Global,
+    reader: &mut Reader<'_, 'text>,
+    levels: usize,
+) -> Result<Parts<'text>, TypeErrorKind>
+    ensures { Answers (λ v. named v.items) result reader.new (params_read (type_read levels) reader.old (after (codes ")") reader.old)) }
+{
+    if reader.takes(")") {
+        return Ok(Vec::new(alloc));
+    }
+    reader.fields(alloc, levels, ")")
+}
+
+/// Takes the results, where there are any.
+fn results<'text>(
+    alloc: Global,
+    reader: &mut Reader<'_, 'text>,
+    levels: usize,
+) -> Result<Parts<'text>, TypeErrorKind>
+    ensures { Answers (λ v. named v.items) result reader.new (results_read (type_read levels) reader.old (after (codes "-") reader.old)) }
+{
+    if !reader.takes("-") {
+        return Ok(Vec::new(alloc));
+    }
+    reader.expect(">")?;
+    result_parts(alloc, reader, levels)
+}
+
+/// Takes named results through `)`, or one type.
+fn result_parts<'text>(
+    alloc: Global,
+    reader: &mut Reader<'_, 'text>,
+    levels: usize,
+) -> Result<Parts<'text>, TypeErrorKind>
+    ensures { Answers (λ v. named v.items) result reader.new (result_parts_read (type_read levels) reader.old (after (codes "(") reader.old)) }
+{
+    if reader.takes("(") {
+        return reader.fields(alloc, levels, ")");
+    }
+    let ty = reader.ty(alloc, levels)?;
+    let mut results = Vec::new(alloc);
+    results.push(("", ty))?;
+    Ok(results)
+}
+
+/// The type of a function of these parameters and results, which have names.
+fn made(alloc: Global, params: Parts<'_>, results: Parts<'_>) -> Result<FuncType, TypeErrorKind>
+    ensures made { IfOk result (λ f. f ≡ named_function params.entry.items results.entry.items) }
+    ensures memory { IfErr result (λ kind. kind ≡ OutOfMemory) }
+{
+    let params = owned_parts(alloc, params)?;
+    let results = owned_parts(alloc, results)?;
+    match FuncType::new(alloc, params, results) {
+        Ok(function) => Ok(function),
+        Err(_) => Err(TypeErrorKind::OutOfMemory),
+    }
+}
+
+/// The names and types, with the names as texts of their own.
+fn owned_parts(alloc: Global, parts: Parts<'_>) -> Result<Vec<(String, Type)>, AllocError>
+    ensures { IfOk result (λ v. map by_bytes v.items ≡ named parts.entry.items) }
+{
+    let mut owned = Vec::new(alloc);
+    for (name, ty) in parts {
+        let name = String::from_str(alloc, name)?;
+        owned.push((name, ty))?;
+    }
+    Ok(owned)
+}

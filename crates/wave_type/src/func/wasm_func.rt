@@ -1,0 +1,59 @@
+//! What the type of a function answers about itself.
+ghost use Rattle.std.specs.Prelude.{◌≡◌, IfOk, map};
+ghost use Rattle.wave_wasm.specs.Borrowed.{texts, shown_all};
+ghost use Rattle.wave_type.specs.TypeModel.{by_bytes};
+ghost use Rattle.wave_type.specs.FunctionType.{names_of, types_of};
+
+use super::{FuncType, is_one_unnamed};
+use crate::ty::Type;
+use std::alloc::{AllocError, Global};
+use wave_wasm::wasm::WasmFunc;
+
+impl WasmFunc for FuncType {
+    ghost use Rattle.wave_type.specs.FunctionType.{func_of};
+
+    type Type = Type;
+
+    ghost func = { func_of };
+
+    fn params(&self, alloc: Global) -> Result<Vec<&Type>, AllocError> {
+        borrowed_types(alloc, &self.params)
+    }
+
+    fn param_names(&self, alloc: Global) -> Result<Vec<&str>, AllocError> {
+        borrowed_names(alloc, &self.params)
+    }
+
+    fn results(&self, alloc: Global) -> Result<Vec<&Type>, AllocError> {
+        borrowed_types(alloc, &self.results)
+    }
+
+    fn result_names(&self, alloc: Global) -> Result<Vec<&str>, AllocError> {
+        if is_one_unnamed(&self.results) {
+            return Ok(Vec::new(alloc));
+        }
+        borrowed_names(alloc, &self.results)
+    }
+}
+
+// The types, in their order.
+fn borrowed_types(alloc: Global, parts: &Vec<(String, Type)>) -> Result<Vec<&Type>, AllocError>
+    ensures { IfOk result (λ v. shown_all (λ t. t) v.items ≡ types_of (map by_bytes parts.now.items)) }
+{
+    let mut types = Vec::new(alloc);
+    for part in parts {
+        types.push(&part.1)?;
+    }
+    Ok(types)
+}
+
+// The names, in their order.
+fn borrowed_names(alloc: Global, parts: &Vec<(String, Type)>) -> Result<Vec<&str>, AllocError>
+    ensures { IfOk result (λ v. texts v.items ≡ names_of (map by_bytes parts.now.items)) }
+{
+    let mut names = Vec::new(alloc);
+    for part in parts {
+        names.push(part.0.as_str())?;
+    }
+    Ok(names)
+}

@@ -1,0 +1,561 @@
+//! Types from their tokens.
+ghost use Rattle.std.specs.Prelude.{◌≡◌, IfOk, IfErr, MatchBool, option_map, Some, None, drop, length, codes};
+ghost use Rattle.wave_wasm.specs.declared.wasm.WasmTypeKind.TheVariants as kinds;
+ghost use Rattle.wave_wasm.specs.Names.{is_one_of};
+ghost use Rattle.wave_wasm.specs.Borrowed.{texts, named};
+ghost use Rattle.wave_type.specs.Private.TypeTokens.{Answers, texts_of};
+ghost use Rattle.wave_type.specs.Private.TypeReading.{first_of, second_is, key_of_word, after, closed, kind_of_word, kind_at, name_of_token, name_at, new_name, without_percent, count_of_token, count_at, key_at, names_read, types_read, fields_read, cases_read, part_names, payload_read, list_read, fixed_read, option_read, map_read, result_read, payloads_read, err_read, kind_read, type_read, enum_read, flags_read};
+
+use crate::error::TypeErrorKind;
+use crate::tokens::Token;
+use crate::ty::Type;
+use crate::ty::labels::is_label;
+use itoa::Buffer;
+use std::alloc::Global;
+use std::marker::Model;
+use wave_wasm::wasm::WasmTypeKind;
+
+/// The tokens that are left to read. What can't be read stays, so that the next token is the one
+/// that is refused.
+#[derive(Drop)]
+pub(crate) struct Reader<'tokens, 'text> {
+    rest: &'tokens [Token<'text>],
+}
+
+impl<'tokens, 'text> Model for Reader<'tokens, 'text> {
+    ghost use Rattle.wave_type.specs.TypeSpelling.{Tokens};
+    ghost use Rattle.wave_type.specs.Private.TypeTokens.{texts_of};
+
+    ghost Value = { Tokens };
+
+    ghost view = { λ r. texts_of r.rest.now };
+}
+
+/// The kind whose types begin with this word.
+fn kind_of_word(word: &str) -> Option<WasmTypeKind>
+    ensures { result ≡ kind_of_word word.now }
+{
+    match word {
+        "bool" => Some(WasmTypeKind::Bool),
+        "s8" => Some(WasmTypeKind::S8),
+        "s16" => Some(WasmTypeKind::S16),
+        "s32" => Some(WasmTypeKind::S32),
+        "s64" => Some(WasmTypeKind::S64),
+        "u8" => Some(WasmTypeKind::U8),
+        "u16" => Some(WasmTypeKind::U16),
+        "u32" => Some(WasmTypeKind::U32),
+        "u64" => Some(WasmTypeKind::U64),
+        "f32" => Some(WasmTypeKind::F32),
+        "f64" => Some(WasmTypeKind::F64),
+        "char" => Some(WasmTypeKind::Char),
+        "string" => Some(WasmTypeKind::String),
+        "list" => Some(WasmTypeKind::List),
+        "record" => Some(WasmTypeKind::Record),
+        "tuple" => Some(WasmTypeKind::Tuple),
+        "variant" => Some(WasmTypeKind::Variant),
+        "enum" => Some(WasmTypeKind::Enum),
+        "option" => Some(WasmTypeKind::Option),
+        "result" => Some(WasmTypeKind::Result),
+        "flags" => Some(WasmTypeKind::Flags),
+        "map" => Some(WasmTypeKind::Map),
+        _ => None,
+    }
+}
+
+/// The simple type of this word.
+fn key_of_word(word: &str) -> Option<Type>
+    ensures { result ≡ key_of_word word.now }
+{
+    let key = Type::simple(kind_of_word(word)?)?;
+    if key.is_simple() { Some(key) } else { None }
+}
+
+/// The token without a `%` in front.
+fn without_percent(token: &str) -> &str
+    ensures { result.now ≡ without_percent token.now }
+{
+    let bytes = token.as_bytes();
+    if bytes.is_empty() || bytes[0] != b'%' {
+        return token;
+    }
+    &token[1..]
+}
+
+/// The name that the token is, perhaps behind a `%`.
+fn name_of_token(token: &str) -> Option<&str>
+    ensures { option_map (λ name. name.now) result ≡ name_of_token token.now }
+{
+    let name = without_percent(token);
+    if is_label(name) { Some(name) } else { None }
+}
+
+/// The count that the token is: decimal digits, without a zero in front.
+fn count_of_token(token: &str) -> Option<u32>
+    ensures { result ≡ count_of_token token.now }
+{
+    let Ok(count) = token.parse::<u32>() else {
+        return None;
+    };
+    let mut buffer = Buffer::new();
+    if buffer.format(count) == token {
+        Some(count)
+    } else {
+        None
+    }
+}
+
+/// Whether one of the fields or cases has this name.
+fn is_named<A>(parts: &Vec<(&str, A)>, name: &str) -> bool
+    ensures { result ≡ is_one_of (part_names (named parts.now.items)) name.now }
+{
+    parts.iter().any(|part| name == part.0)
+}
+
+/// Whether the name is one of these.
+fn is_among(names: &Vec<&str>, name: &str) -> bool
+    ensures { result ≡ is_one_of (texts names.now.items) name.now }
+{
+    names.iter().any(|other| name == *other)
+}
+
+impl<'tokens, 'text> Reader<'tokens, 'text> {
+    /// What reads these tokens.
+    pub(crate) fn new(tokens: &'tokens [Token<'text>]) -> Self
+        ensures { result ≡ texts_of tokens.now }
+    {
+        Reader { rest: tokens }
+    }
+
+    /// How many tokens are left.
+    pub(crate) fn count(&self) -> usize
+        ensures { result ≡ length self.now }
+    {
+        self.rest.len()
+    }
+
+    /// Why the next token, or the end, is refused.
+    pub(crate) fn refusal(&self) -> TypeErrorKind {
+        match self.rest.first() {
+            None => TypeErrorKind::UnexpectedEnd,
+            Some(token) if !token.known => TypeErrorKind::InvalidToken,
+            Some(_) => TypeErrorKind::UnexpectedToken,
+        }
+    }
+
+    /// The token that stands next.
+    fn next(&self) -> Option<&'text str>
+        ensures { option_map (λ token. token.now) result ≡ first_of self.now }
+    {
+        match self.rest.first() {
+            Some(token) => Some(token.text),
+            None => None,
+        }
+    }
+
+    /// Passes the next token.
+    fn skip(&mut self)
+        ensures { self.new ≡ drop 1 self.old }
+    {
+        if !self.rest.is_empty() {
+            self.rest = &self.rest[1..];
+        }
+    }
+
+    /// Whether the mark stands behind the next token.
+    fn second_is(&self, mark: &str) -> bool
+        ensures { result ≡ second_is mark.now self.now }
+    {
+        match self.rest.get(1) {
+            Some(token) => token.text == mark,
+            None => false,
+        }
+    }
+
+    /// Whether the mark stands next; it is taken then.
+    pub(crate) fn takes(&mut self, mark: &str) -> bool
+        ensures { MatchBool result (after mark.now self.old ≡ Some self.new) ((after mark.now self.old ≡ None) × (self.new ≡ self.old)) }
+    {
+        match self.next() {
+            Some(token) if token == mark => {
+                self.skip();
+                true
+            }
+            _ => false,
+        }
+    }
+
+    /// Whether the mark stands next, perhaps behind a comma; both are taken then.
+    pub(crate) fn closes(&mut self, mark: &str) -> bool
+        ensures { MatchBool result (closed mark.now self.old ≡ Some self.new) ((closed mark.now self.old ≡ None) × (self.new ≡ self.old)) }
+    {
+        if self.takes(mark) {
+            return true;
+        }
+        if !self.second_is(mark) {
+            return false;
+        }
+        let comma = self.takes(",");
+        if comma {
+            self.skip();
+        }
+        comma
+    }
+
+    /// Takes the mark, which has to stand next.
+    pub(crate) fn expect(&mut self, mark: &str) -> Result<(), TypeErrorKind>
+        ensures taken { IfOk result (λ _. after mark.now self.old ≡ Some self.new) }
+        ensures refused { IfErr result (λ _. after mark.now self.old ≡ None) }
+    {
+        match self.takes(mark) {
+            true => Ok(()),
+            false => Err(self.refusal()),
+        }
+    }
+
+    /// Takes the mark, which has to stand next, perhaps behind a comma.
+    fn close(&mut self, mark: &str) -> Result<(), TypeErrorKind>
+        ensures taken { IfOk result (λ _. closed mark.now self.old ≡ Some self.new) }
+        ensures refused { IfErr result (λ _. closed mark.now self.old ≡ None) }
+    {
+        match self.closes(mark) {
+            true => Ok(()),
+            false => Err(self.refusal()),
+        }
+    }
+
+    /// Takes the word of a kind, which has to stand next.
+    fn kind(&mut self) -> Result<WasmTypeKind, TypeErrorKind>
+        ensures { Answers (λ kind. kind) result self.new (kind_at self.old) }
+    {
+        let Some(word) = self.next() else {
+            return Err(TypeErrorKind::UnexpectedEnd);
+        };
+        match kind_of_word(word) {
+            Some(kind) => {
+                self.skip();
+                Ok(kind)
+            }
+            None => Err(self.refusal()),
+        }
+    }
+
+    /// Takes the word of a simple type, which has to stand next.
+    fn key(&mut self) -> Result<Type, TypeErrorKind>
+        ensures { Answers (λ key. key) result self.new (key_at self.old) }
+    {
+        let Some(word) = self.next() else {
+            return Err(TypeErrorKind::UnexpectedEnd);
+        };
+        match key_of_word(word) {
+            Some(key) => {
+                self.skip();
+                Ok(key)
+            }
+            None => Err(TypeErrorKind::InvalidKeyType),
+        }
+    }
+
+    /// Takes a count, which has to stand next.
+    fn length(&mut self) -> Result<u32, TypeErrorKind>
+        ensures { Answers (λ count. count) result self.new (count_at self.old) }
+    {
+        let Some(token) = self.next() else {
+            return Err(TypeErrorKind::UnexpectedEnd);
+        };
+        match count_of_token(token) {
+            Some(count) => {
+                self.skip();
+                Ok(count)
+            }
+            None => Err(TypeErrorKind::InvalidCount),
+        }
+    }
+
+    /// The name that stands next.
+    fn name(&self) -> Result<&'text str, TypeErrorKind>
+        ensures named { IfOk result (λ name. name_at self.now ≡ Some name.now) }
+        ensures refused { IfErr result (λ _. name_at self.now ≡ None) }
+    {
+        let Some(token) = self.next() else {
+            return Err(TypeErrorKind::UnexpectedEnd);
+        };
+        match name_of_token(token) {
+            Some(name) => Ok(name),
+            None => Err(self.refusal()),
+        }
+    }
+
+    /// Takes a name, which has to stand next and is none of these.
+    fn new_name(&mut self, names: &Vec<&str>) -> Result<&'text str, TypeErrorKind>
+        ensures { Answers (λ name. name.now) result self.new (new_name (texts names.now.items) self.old) }
+    {
+        let name = self.name()?;
+        if is_among(names, name) {
+            return Err(TypeErrorKind::DuplicateName);
+        }
+        self.skip();
+        Ok(name)
+    }
+
+    /// Takes a name, which has to stand next and is that of none of these.
+    fn part_name<A>(&mut self, parts: &Vec<(&str, A)>) -> Result<&'text str, TypeErrorKind>
+        ensures { Answers (λ name. name.now) result self.new (new_name (part_names (named parts.now.items)) self.old) }
+    {
+        let name = self.name()?;
+        if is_named(parts, name) {
+            return Err(TypeErrorKind::DuplicateName);
+        }
+        self.skip();
+        Ok(name)
+    }
+
+    /// Takes names through the mark.
+    fn names(&mut self, alloc: Global, mark: &str) -> Result<Vec<&'text str>, TypeErrorKind>
+        ensures { Answers (λ names. texts names.items) result self.new (names_read mark.now self.old) }
+    {
+        let mut names = Vec::new(alloc);
+        for _part in 0..self.rest.len() {
+            let name = self.new_name(&names)?;
+            names.push(name)?;
+            if self.closes(mark) {
+                return Ok(names);
+            }
+            self.expect(",")?;
+        }
+        Err(self.refusal())
+    }
+
+    /// Takes a type, within so many levels.
+    #[cycle(types)]
+    pub(crate) fn ty(&mut self, alloc: Global, levels: usize) -> Result<Type, TypeErrorKind>
+        ensures { Answers (λ ty. ty) result self.new (type_read levels self.old) }
+    {
+        if levels == 0 {
+            return Err(TypeErrorKind::NestingTooDeep);
+        }
+        let kind = self.kind()?;
+        self.of_kind(alloc, kind, levels - 1)
+    }
+
+    /// Takes what stands behind the word of a kind, whose parts are within so many levels.
+    #[cycle(types)]
+    fn of_kind(
+        &mut self,
+        alloc: Global,
+        kind: WasmTypeKind,
+        levels: usize,
+    ) -> Result<Type, TypeErrorKind>
+        ensures { Answers (λ ty. ty) result self.new (kind_read (type_read levels) kind self.old) }
+    {
+        match kind {
+            WasmTypeKind::List => self.list(alloc, levels),
+            WasmTypeKind::Option => self.option(alloc, levels),
+            WasmTypeKind::Map => self.map(alloc, levels),
+            WasmTypeKind::Result => self.result(alloc, levels),
+            WasmTypeKind::Tuple => self.tuple(alloc, levels),
+            WasmTypeKind::Record => self.record(alloc, levels),
+            WasmTypeKind::Variant => self.variant(alloc, levels),
+            WasmTypeKind::Enum => self.enumeration(alloc),
+            WasmTypeKind::Flags => self.flags(alloc),
+            kind => Type::simple(kind).ok_or(TypeErrorKind::UnexpectedToken),
+        }
+    }
+
+    #[cycle(types)]
+    fn list(&mut self, alloc: Global, levels: usize) -> Result<Type, TypeErrorKind>
+        ensures { Answers (λ ty. ty) result self.new (list_read (type_read levels) self.old) }
+    {
+        self.expect("<")?;
+        let element = self.ty(alloc, levels)?;
+        if self.closes(">") {
+            return Ok(Type::list(alloc, element)?);
+        }
+        self.fixed(alloc, element)
+    }
+
+    /// Takes the length of a list behind its element type.
+    fn fixed(&mut self, alloc: Global, element: Type) -> Result<Type, TypeErrorKind>
+        ensures { Answers (λ ty. ty) result self.new (fixed_read element self.old) }
+    {
+        self.expect(",")?;
+        let count = self.length()?;
+        self.close(">")?;
+        Ok(Type::fixed_length_list(alloc, element, count)?)
+    }
+
+    #[cycle(types)]
+    fn option(&mut self, alloc: Global, levels: usize) -> Result<Type, TypeErrorKind>
+        ensures { Answers (λ ty. ty) result self.new (option_read (type_read levels) self.old) }
+    {
+        self.expect("<")?;
+        let some = self.ty(alloc, levels)?;
+        self.close(">")?;
+        Ok(Type::option(alloc, some)?)
+    }
+
+    #[cycle(types)]
+    fn map(&mut self, alloc: Global, levels: usize) -> Result<Type, TypeErrorKind>
+        ensures { Answers (λ ty. ty) result self.new (map_read (type_read levels) self.old) }
+    {
+        self.expect("<")?;
+        let key = self.key()?;
+        self.expect(",")?;
+        let value = self.ty(alloc, levels)?;
+        self.close(">")?;
+        Type::map(alloc, key, value)?.ok_or(TypeErrorKind::InvalidKeyType)
+    }
+
+    #[cycle(types)]
+    fn result(&mut self, alloc: Global, levels: usize) -> Result<Type, TypeErrorKind>
+        ensures { Answers (λ ty. ty) result self.new (result_read (type_read levels) self.old (after (codes "<") self.old)) }
+    {
+        match self.takes("<") {
+            true => self.payloads(alloc, levels),
+            false => Ok(Type::result(alloc, None, None)?),
+        }
+    }
+
+    /// Takes the types of a result: `_` stands for no type of `ok` before one of `err`.
+    #[cycle(types)]
+    fn payloads(&mut self, alloc: Global, levels: usize) -> Result<Type, TypeErrorKind>
+        ensures { Answers (λ ty. ty) result self.new (payloads_read (type_read levels) self.old (after (codes "_") self.old)) }
+    {
+        if self.takes("_") {
+            return self.err(alloc, levels, None);
+        }
+        let ok = self.ty(alloc, levels)?;
+        if self.closes(">") {
+            return Ok(Type::result(alloc, Some(ok), None)?);
+        }
+        self.err(alloc, levels, Some(ok))
+    }
+
+    #[cycle(types)]
+    fn err(&mut self, alloc: Global, levels: usize, ok: Option<Type>) -> Result<Type, TypeErrorKind>
+        ensures { Answers (λ ty. ty) result self.new (err_read (type_read levels) ok self.old) }
+    {
+        self.expect(",")?;
+        let err = self.ty(alloc, levels)?;
+        self.close(">")?;
+        Ok(Type::result(alloc, ok, Some(err))?)
+    }
+
+    #[cycle(types)]
+    fn tuple(&mut self, alloc: Global, levels: usize) -> Result<Type, TypeErrorKind>
+        ensures { Answers (λ ty. ty) result self.new (kind_read (type_read levels) kinds.Tuple self.old) }
+    {
+        self.expect("<")?;
+        let types = self.types(alloc, levels)?;
+        Type::tuple(alloc, types)?.ok_or(TypeErrorKind::UnexpectedToken)
+    }
+
+    /// Takes types through `>`.
+    #[cycle(types)]
+    fn types(&mut self, alloc: Global, levels: usize) -> Result<Vec<Type>, TypeErrorKind>
+        ensures { Answers (λ types. types.items) result self.new (types_read (type_read levels) self.old) }
+    {
+        let mut types = Vec::new(alloc);
+        for _part in 0..self.rest.len() {
+            let ty = self.ty(alloc, levels)?;
+            types.push(ty)?;
+            if self.closes(">") {
+                return Ok(types);
+            }
+            self.expect(",")?;
+        }
+        Err(self.refusal())
+    }
+
+    #[cycle(types)]
+    fn record(&mut self, alloc: Global, levels: usize) -> Result<Type, TypeErrorKind>
+        ensures { Answers (λ ty. ty) result self.new (kind_read (type_read levels) kinds.Record self.old) }
+    {
+        self.expect("{")?;
+        let fields = self.fields(alloc, levels, "}")?;
+        Type::record(alloc, fields)?.ok_or(TypeErrorKind::UnexpectedToken)
+    }
+
+    /// Takes fields through the mark.
+    #[cycle(types)]
+    pub(crate) fn fields(
+        &mut self,
+        alloc: Global,
+        levels: usize,
+        mark: &str,
+    ) -> Result<Vec<(&'text str, Type)>, TypeErrorKind>
+        ensures { Answers (λ fields. named fields.items) result self.new (fields_read (type_read levels) mark.now self.old) }
+    {
+        let mut fields = Vec::new(alloc);
+        for _part in 0..self.rest.len() {
+            let name = self.part_name(&fields)?;
+            self.expect(":")?;
+            let ty = self.ty(alloc, levels)?;
+            fields.push((name, ty))?;
+            if self.closes(mark) {
+                return Ok(fields);
+            }
+            self.expect(",")?;
+        }
+        Err(self.refusal())
+    }
+
+    #[cycle(types)]
+    fn variant(&mut self, alloc: Global, levels: usize) -> Result<Type, TypeErrorKind>
+        ensures { Answers (λ ty. ty) result self.new (kind_read (type_read levels) kinds.Variant self.old) }
+    {
+        self.expect("{")?;
+        let cases = self.cases(alloc, levels)?;
+        Type::variant(alloc, cases)?.ok_or(TypeErrorKind::UnexpectedToken)
+    }
+
+    /// Takes cases through `}`.
+    #[cycle(types)]
+    fn cases(
+        &mut self,
+        alloc: Global,
+        levels: usize,
+    ) -> Result<Vec<(&'text str, Option<Type>)>, TypeErrorKind>
+        ensures { Answers (λ cases. named cases.items) result self.new (cases_read (type_read levels) self.old) }
+    {
+        let mut cases = Vec::new(alloc);
+        for _part in 0..self.rest.len() {
+            let name = self.part_name(&cases)?;
+            let payload = self.payload(alloc, levels)?;
+            cases.push((name, payload))?;
+            if self.closes("}") {
+                return Ok(cases);
+            }
+            self.expect(",")?;
+        }
+        Err(self.refusal())
+    }
+
+    /// Takes the payload of a case, where there is one.
+    #[cycle(types)]
+    fn payload(&mut self, alloc: Global, levels: usize) -> Result<Option<Type>, TypeErrorKind>
+        ensures { Answers (λ p. p) result self.new (payload_read (type_read levels) self.old (after (codes "(") self.old)) }
+    {
+        if !self.takes("(") {
+            return Ok(None);
+        }
+        let ty = self.ty(alloc, levels)?;
+        self.expect(")")?;
+        Ok(Some(ty))
+    }
+
+    fn enumeration(&mut self, alloc: Global) -> Result<Type, TypeErrorKind>
+        ensures { Answers (λ ty. ty) result self.new (enum_read self.old) }
+    {
+        self.expect("{")?;
+        let names = self.names(alloc, "}")?;
+        Type::enum_ty(alloc, names.as_slice())?.ok_or(TypeErrorKind::UnexpectedToken)
+    }
+
+    fn flags(&mut self, alloc: Global) -> Result<Type, TypeErrorKind>
+        ensures { Answers (λ ty. ty) result self.new (flags_read self.old) }
+    {
+        self.expect("{")?;
+        let names = self.names(alloc, "}")?;
+        Type::flags(alloc, names.as_slice())?.ok_or(TypeErrorKind::UnexpectedToken)
+    }
+}

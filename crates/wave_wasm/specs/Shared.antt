@@ -1,0 +1,4 @@
+pub mod Commas
+pub mod TypeTreeEncoding
+pub mod Types
+pub mod Values
