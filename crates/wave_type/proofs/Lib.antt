@@ -15,3 +15,4 @@ pub mod TypeTokens
 pub mod PartSteps
 pub mod WholeTypes
 pub mod FunctionsRead
+pub mod TypeLevels
