@@ -16,3 +16,4 @@ pub mod PartSteps
 pub mod WholeTypes
 pub mod FunctionsRead
 pub mod TypeLevels
+pub mod SpelledNames

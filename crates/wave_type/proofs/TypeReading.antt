@@ -237,7 +237,7 @@ cases_spelled [] ts r h = h
 cases_spelled (x ∷ []) ts r (l, (t, m, e, n, s), c) = (t, m, l, e, n, s, c)
 cases_spelled (x ∷ y ∷ xs) ts r (l, (t, m, e, n, s), h) = (t, m, l, e, n, s, cases_spelled (y ∷ xs) l r h)
 
-field_names_of : (xs : List (List ℕ × TypeTree)) → map (λ f. f.0) xs ≡ field_names (fields_of xs)
+pub field_names_of : (xs : List (List ℕ × TypeTree)) → map (λ f. f.0) xs ≡ field_names (fields_of xs)
 field_names_of [] = refl
 field_names_of (x ∷ xs) = ap (λ l. x.0 ∷ l) (field_names_of xs)
 

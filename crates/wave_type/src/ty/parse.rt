@@ -1,6 +1,7 @@
 //! Types from their texts.
 ghost use Rattle.std.specs.Prelude.{◌≡◌, ◌≤◌, ◌⊎◌, IfOk, IfErr, []};
 ghost use Rattle.wave_lex.specs.Errors.{LiesInText};
+ghost use Rattle.wave_lex.specs.Labels.{Good};
 ghost use Rattle.wave_type.specs.Private.TypeTokens.{AreWithin};
 ghost use Rattle.wave_type.specs.TypeSpelling.{Spells, SpellsNone, IsTypeOf, IsNoType, levels_of};
 ghost use Rattle.wave_type.specs.declared.error.TypeErrorKind.TheVariants.{OutOfMemory};
@@ -22,6 +23,7 @@ impl Type {
     pub fn parse(alloc: Global, text: &str) -> Result<Type, TypeError>
         ensures spelled { IfOk result (λ ty. IsTypeOf text.now ty) }
         ensures levels { IfOk result (λ ty. levels_of ty ≤ 100) }
+        ensures labels { IfOk result (λ ty. Good ty) }
         ensures refused { IfErr result (λ e. IsNoType text.now e.kind) }
         ensures within { IfErr result (λ e. LiesInText text.now e.span) }
     {
@@ -46,6 +48,7 @@ fn whole_type(
 ) -> Result<Type, TypeErrorKind>
     ensures spelled { IfOk result (λ ty. Spells ty reader.old []) }
     ensures levels { IfOk result (λ ty. levels_of ty ≤ levels) }
+    ensures labels { IfOk result (λ ty. Good ty) }
     ensures refused { IfErr result (λ kind. (kind ≡ OutOfMemory) ⊎ SpellsNone levels reader.old) }
 {
     let ty = reader.ty(alloc, levels)?;
