@@ -15,7 +15,8 @@ impl<'src> Leaf<'src> {
     /// Nothing is said of why there is none.
     #[inline(always)]
     pub fn read_soon<V: WasmValue>(&self, alloc: Global, ty: &V::Type) -> Option<V>
-        ensures { (source : List ℕ) → IsLeafIn source self.now → IfSome result (λ val. IsReadAs V.tree V.is_of V.is_full (V.Type.tree ty.now) source (leaf_node self.now) (Ok val)) }
+        ensures { (source : List ℕ) → IsLeafIn source self.now
+            → IfSome result (λ val. IsReadAs V.tree V.is_of V.is_full (V.Type.tree ty.now) source (leaf_node self.now) (Ok val)) }
     {
         match ty.kind() {
             WasmTypeKind::S8 => if_made(V::make_s8(alloc, self.number()?)),

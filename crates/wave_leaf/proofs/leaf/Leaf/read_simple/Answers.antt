@@ -4,17 +4,17 @@ use Rattle.wave_leaf.proofs.SimpleTypes.{read_at_kind, bool_at_kind, whole_at_ki
 use Rattle.wave_leaf.proofs.leaf.Leaf.read_simple.Goals as goal
 
 pub returns-in-Bool : goal.returns-in-Bool
-returns-in-Bool g c = λ source token here due.
+returns-in-Bool g c = λ due source token here.
     bool_at_kind g.V.WasmValue.tree g.V.WasmValue.is_of g.V.WasmValue.is_full (g.V.Type.WasmType.tree c.args.ty.now) source (leaf_node c.args.self.now) c.read_bool.result c.in-Bool.ensures (c.read_bool.ensures.answer source) c.read_bool.ensures.within
 
 pub returns-in-Char : goal.returns-in-Char
-returns-in-Char g c = λ source token here due.
+returns-in-Char g c = λ due source token here.
     read_at_kind g.V.WasmValue.tree g.V.WasmValue.is_of g.V.WasmValue.is_full type.char (g.V.Type.WasmType.tree c.args.ty.now) source (leaf_node c.args.self.now) c.read_char.result c.in-Char.ensures (c.read_char.ensures source token here)
 
 pub returns-in-String : goal.returns-in-String
-returns-in-String g c = λ source token here due.
+returns-in-String g c = λ due source token here.
     read_at_kind g.V.WasmValue.tree g.V.WasmValue.is_of g.V.WasmValue.is_full type.string (g.V.Type.WasmType.tree c.args.ty.now) source (leaf_node c.args.self.now) c.read_string.result c.in-String.ensures (c.read_string.ensures source token here)
 
 pub returns-in_default : goal.returns-in_default
-returns-in_default g c = λ source token here due.
+returns-in_default g c = λ due source token here.
     whole_at_kind g.V.WasmValue.tree g.V.WasmValue.is_of g.V.WasmValue.is_full (g.V.Type.WasmType.tree c.args.ty.now) c.kind.result source (leaf_node c.args.self.now) c.read_whole.result c.kind.ensures c.in_default.not-Bool c.in_default.not-Char c.in_default.not-String due (c.read_whole.ensures source here)
