@@ -49,11 +49,32 @@ impl<'src> Leaf<'src> {
         ensures answer { IsKeyReadOf V.tree V.is_of V.is_full (V.Type.tree ty.now) self.now result }
         ensures within { RefusesInKey self.now result }
     {
-        match ty.kind() {
+        let kind = ty.kind();
+        match kind {
             WasmTypeKind::Bool => self.or_error_here(V::make_bool(alloc, self.as_bool_key()?)),
             WasmTypeKind::Char => self.or_error_here(V::make_char(alloc, self.as_char()?)),
             WasmTypeKind::String => self.read_string_key(alloc),
-            kind => self.read_whole(alloc, kind),
+            WasmTypeKind::S8
+            | WasmTypeKind::S16
+            | WasmTypeKind::S32
+            | WasmTypeKind::S64
+            | WasmTypeKind::U8
+            | WasmTypeKind::U16
+            | WasmTypeKind::U32
+            | WasmTypeKind::U64
+            | WasmTypeKind::F32
+            | WasmTypeKind::F64
+            | WasmTypeKind::List
+            | WasmTypeKind::FixedLengthList
+            | WasmTypeKind::Record
+            | WasmTypeKind::Tuple
+            | WasmTypeKind::Variant
+            | WasmTypeKind::Enum
+            | WasmTypeKind::Option
+            | WasmTypeKind::Result
+            | WasmTypeKind::Flags
+            | WasmTypeKind::Map
+            | WasmTypeKind::Unsupported => self.read_whole(alloc, kind),
         }
     }
 

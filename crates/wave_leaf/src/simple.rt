@@ -18,11 +18,32 @@ impl<'src> Leaf<'src> {
     pub fn read_simple<V: WasmValue>(&self, alloc: Global, ty: &V::Type) -> Result<V, ParserError>
         ensures { IsSimpleOrUnreadable (V.Type.tree ty.now) → IsReadOfLeaf V.tree V.is_of V.is_full (V.Type.tree ty.now) self.now result }
     {
-        match ty.kind() {
+        let kind = ty.kind();
+        match kind {
             WasmTypeKind::Bool => self.read_bool(alloc),
             WasmTypeKind::Char => self.read_char(alloc),
             WasmTypeKind::String => self.read_string(alloc),
-            kind => self.read_whole(alloc, kind),
+            WasmTypeKind::S8
+            | WasmTypeKind::S16
+            | WasmTypeKind::S32
+            | WasmTypeKind::S64
+            | WasmTypeKind::U8
+            | WasmTypeKind::U16
+            | WasmTypeKind::U32
+            | WasmTypeKind::U64
+            | WasmTypeKind::F32
+            | WasmTypeKind::F64
+            | WasmTypeKind::List
+            | WasmTypeKind::FixedLengthList
+            | WasmTypeKind::Record
+            | WasmTypeKind::Tuple
+            | WasmTypeKind::Variant
+            | WasmTypeKind::Enum
+            | WasmTypeKind::Option
+            | WasmTypeKind::Result
+            | WasmTypeKind::Flags
+            | WasmTypeKind::Map
+            | WasmTypeKind::Unsupported => self.read_whole(alloc, kind),
         }
     }
 
@@ -37,7 +58,27 @@ impl<'src> Leaf<'src> {
             WasmTypeKind::F32 | WasmTypeKind::F64 | WasmTypeKind::Unsupported => {
                 Err(self.unsupported(alloc, kind))
             }
-            _ => Err(self.error(ParserErrorKind::InvalidType)),
+            WasmTypeKind::Bool
+            | WasmTypeKind::S8
+            | WasmTypeKind::S16
+            | WasmTypeKind::S32
+            | WasmTypeKind::S64
+            | WasmTypeKind::U8
+            | WasmTypeKind::U16
+            | WasmTypeKind::U32
+            | WasmTypeKind::U64
+            | WasmTypeKind::Char
+            | WasmTypeKind::String
+            | WasmTypeKind::List
+            | WasmTypeKind::FixedLengthList
+            | WasmTypeKind::Record
+            | WasmTypeKind::Tuple
+            | WasmTypeKind::Variant
+            | WasmTypeKind::Enum
+            | WasmTypeKind::Option
+            | WasmTypeKind::Result
+            | WasmTypeKind::Flags
+            | WasmTypeKind::Map => Err(self.error(ParserErrorKind::InvalidType)),
         }
     }
 }

@@ -27,7 +27,22 @@ impl<'src> Leaf<'src> {
             WasmTypeKind::U16 => if_made(V::make_u16(alloc, self.number()?)),
             WasmTypeKind::U32 => if_made(V::make_u32(alloc, self.number()?)),
             WasmTypeKind::U64 => if_made(V::make_u64(alloc, self.number()?)),
-            _ => None,
+            WasmTypeKind::Bool
+            | WasmTypeKind::F32
+            | WasmTypeKind::F64
+            | WasmTypeKind::Char
+            | WasmTypeKind::String
+            | WasmTypeKind::List
+            | WasmTypeKind::FixedLengthList
+            | WasmTypeKind::Record
+            | WasmTypeKind::Tuple
+            | WasmTypeKind::Variant
+            | WasmTypeKind::Enum
+            | WasmTypeKind::Option
+            | WasmTypeKind::Result
+            | WasmTypeKind::Flags
+            | WasmTypeKind::Map
+            | WasmTypeKind::Unsupported => None,
         }
     }
 
