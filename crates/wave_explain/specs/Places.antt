@@ -1,8 +1,10 @@
 -- Where a byte of a text stands, as people count: in which line, and at which of its scalars.
-use Rattle.std.specs.Prelude.{ℕ, suc, ◌≡◌, ◌≢◌, ◌≤◌, ◌⊎◌, ◌==◌, List, [], ◌∷◌, ◌++◌, length, filter, chars, codes}
+use Rattle.std.specs.Prelude.{ℕ, suc, ◌≡◌, ◌≢◌, ◌≤◌, ◌⊎◌, ◌-◌, ◌==◌, List, [], ◌∷◌, ◌++◌, length, filter, chars, codes}
 use Rattle.std.specs.Str.{IsCharBoundary}
 use Rattle.std.specs.Fmt.{decimal}
+use Rattle.std.specs.declared.ops.Range.{Range}
 use Rattle.wave_wasm.specs.Lists.{AllOf}
+use Rattle.wave_explain.specs.Shown.{IsMarked, shown_lines}
 
 -- how many line feeds are in the text
 abbrev pub line_feeds : List ℕ → ℕ
@@ -44,12 +46,13 @@ pub record IsPlaceNear (source : List ℕ) (at line column : ℕ) (front rest : 
 abbrev pub heading : List ℕ → ℕ → ℕ → List ℕ
 heading message line column = message ++ (codes "\n --> line " ++ (decimal line ++ (codes ", column " ++ (decimal column ++ codes "\n"))))
 
--- the text has the message, and the line and the column of the source's byte at `at`, and then shows that line
-pub record IsExplained (source message : List ℕ) (at : ℕ) (text : List ℕ) : Type 0 where
+-- the text has the message, the line and the column of the source's byte where the span begins, that line, and a mark below what the span covers of it
+pub record IsExplained (source message : List ℕ) (span : Range ℕ) (text : List ℕ) : Type 0 where
   pub line : ℕ
   pub column : ℕ
   pub front : List ℕ
   pub rest : List ℕ
-  pub shown : List ℕ
-  pub place : IsPlaceNear source at line column front rest
-  pub text_is : text ≡ heading message line column ++ shown
+  pub marked : List ℕ
+  pub place : IsPlaceNear source span.start line column front rest
+  pub is_marked : IsMarked rest (span.end - span.start) marked
+  pub text_is : text ≡ heading message line column ++ shown_lines front rest marked

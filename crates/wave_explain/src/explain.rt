@@ -1,18 +1,17 @@
 //! A refusal of a text, as a person is shown it.
-ghost use Rattle.std.specs.Prelude.{◌≡◌, IfOk, string_bytes};
+ghost use Rattle.std.specs.Prelude.{◌≡◌, ◌-◌, ◌++◌, max, take, drop, replicate, chars, IfOk, string_bytes};
 ghost use Rattle.wave_lex.specs.Errors.{error_text};
 ghost use Rattle.wave_explain.specs.Places.{heading, IsExplained};
+ghost use Rattle.wave_explain.specs.Shown.{shown_scalar, shown_text, shown_before, shown_after, ellipsis, columns, shown_lines, IsMarked};
 
-use crate::place::{Place, place_of};
+use crate::place::{Place, place_of, scalars};
 use std::alloc::{AllocError, Global};
 use unicode_width::UnicodeWidthStr;
 use wave_lex::error::ParserError;
 use wave_lex::lex::Span;
 
-/// How many scalars of a line are shown in front of the place, and how many from there on.
-const SHOWN_IN_FRONT: usize = 48;
-
-const SHOWN_BEHIND: usize = 48;
+/// How many scalars of a line are shown before the place, and how many from there on.
+const SHOWN: usize = 48;
 
 /// The refusal's text, the line and the column where it stands in the source that was refused, the line
 /// itself, and a mark below the place:
@@ -25,9 +24,9 @@ const SHOWN_BEHIND: usize = 48;
 /// ```
 ///
 /// A long line is cut around the place. A tab is shown as one blank, another control character as
-/// U+FFFD, and the mark is as wide as what it stands below.
+/// U+FFFD, and the mark is as wide as what it stands below. The only error is out of memory.
 pub fn explain(alloc: Global, error: &ParserError, source: &str) -> Result<String, AllocError>
-    ensures { IfOk result (λ text. IsExplained source.now (error_text error.now) error.now.span.start (string_bytes text)) }
+    ensures { IfOk result (λ text. IsExplained source.now (error_text error.now) error.now.span (string_bytes text)) }
 {
     let message = error.to_string(alloc)?;
     explain_at(alloc, message.as_str(), error.span(), source)
@@ -40,11 +39,12 @@ pub fn explain_at(
     span: Span,
     source: &str,
 ) -> Result<String, AllocError>
-    ensures { IfOk result (λ text. IsExplained source.now message.now span.start (string_bytes text)) }
+    ensures { IfOk result (λ text. IsExplained source.now message.now span (string_bytes text)) }
 {
     let place = place_of(source, span.start);
     let mut text = heading(alloc, message, &place)?;
-    let lines = shown_line(alloc, &place, &span)?;
+    let marked = marked_of(place.rest, span.end.saturating_sub(span.start));
+    let lines = shown_lines(alloc, place.front, place.rest, marked)?;
     text.push_str(lines.as_str())?;
     Ok(text)
 }
@@ -59,48 +59,93 @@ fn heading(alloc: Global, message: &str, place: &Place<'_>) -> Result<String, Al
     )
 }
 
-/// The line, cut around the place, and the mark below it.
-fn shown_line(alloc: Global, place: &Place<'_>, span: &Span) -> Result<String, AllocError> {
-    let mut line = String::new(alloc);
-    let left = place.column.saturating_sub(SHOWN_IN_FRONT + 1);
-    if left > 0 {
-        line.push('…')?;
-    }
-    push_shown(&mut line, place.front, left, SHOWN_IN_FRONT)?;
-    let indent = line.as_str().width();
-    push_shown(&mut line, place.rest, 0, SHOWN_BEHIND)?;
-    if place.rest.chars().count() > SHOWN_BEHIND {
-        line.push('…')?;
-    }
-    let mut below = String::new(alloc);
-    push_shown(&mut below, marked_of(place, span), 0, SHOWN_BEHIND)?;
-    let width = below.as_str().width().max(1);
-    let mut marks = String::new(alloc);
-    push_times(&mut marks, ' ', indent)?;
-    push_times(&mut marks, '^', width)?;
-    format!(in alloc; "  | {line}\n  | {marks}\n")
-}
-
-/// What is marked: the bytes of the span that stand in the line.
-fn marked_of<'source>(place: &Place<'source>, span: &Span) -> &'source str {
-    let rest = place.rest;
-    let count = span.end.saturating_sub(span.start);
+/// What is marked of the line from the place on: so many of its bytes.
+fn marked_of(rest: &str, count: usize) -> &str
+    ensures { IsMarked rest.now count result.now }
+{
     if count >= rest.len() {
         return rest;
     }
     rest.split_at(rest.floor_char_boundary(count)).0
 }
 
+/// The line, cut around the place, and the mark below it.
+fn shown_lines(alloc: Global, front: &str, rest: &str, marked: &str) -> Result<String, AllocError>
+    ensures { IfOk result (λ text. string_bytes text ≡ shown_lines front.now rest.now marked.now) }
+{
+    let before = shown_before(alloc, front)?;
+    let after = shown_after(alloc, rest)?;
+    let marks = marks(alloc, before.as_str(), marked)?;
+    format!(in alloc; "  | {before}{after}\n  | {marks}\n")
+}
+
+/// The line before the place: its last scalars.
+fn shown_before(alloc: Global, front: &str) -> Result<String, AllocError>
+    ensures { IfOk result (λ text. string_bytes text ≡ shown_before front.now) }
+{
+    let left_out = scalars(front).saturating_sub(SHOWN);
+    let mut text = String::new(alloc);
+    push_ellipsis(&mut text, left_out)?;
+    push_shown(&mut text, front, left_out, SHOWN)?;
+    Ok(text)
+}
+
+/// The line from the place on: its first scalars.
+fn shown_after(alloc: Global, rest: &str) -> Result<String, AllocError>
+    ensures { IfOk result (λ text. string_bytes text ≡ shown_after rest.now) }
+{
+    let mut text = String::new(alloc);
+    push_shown(&mut text, rest, 0, SHOWN)?;
+    push_ellipsis(&mut text, scalars(rest).saturating_sub(SHOWN))?;
+    Ok(text)
+}
+
+/// The marks below the line: behind what is shown before the place, as wide as what is marked.
+fn marks(alloc: Global, before: &str, marked: &str) -> Result<String, AllocError>
+    ensures { IfOk result (λ text. string_bytes text ≡
+        replicate (columns before.now) 32 ++ replicate (max 1 (columns (shown_text (take 48 (chars marked.now))))) 94) }
+{
+    let mut below = String::new(alloc);
+    push_shown(&mut below, marked, 0, SHOWN)?;
+    let width = below.as_str().width().max(1);
+    let mut text = String::new(alloc);
+    push_blanks(&mut text, before.width())?;
+    push_marks(&mut text, width)?;
+    Ok(text)
+}
+
+/// Adds `…` where any of so many scalars is left out.
+fn push_ellipsis(to: &mut String, left_out: usize) -> Result<(), AllocError>
+    ensures { IfOk result (λ _. string_bytes to.new ≡ string_bytes to.old ++ ellipsis left_out) }
+{
+    if left_out > 0 {
+        to.push('…')?;
+    }
+    Ok(())
+}
+
 /// Adds the text's scalars, as they are shown, without the first so many and at most so many.
-fn push_shown(to: &mut String, text: &str, skipped: usize, most: usize) -> Result<(), AllocError> {
-    for scalar in text.chars().skip(skipped).take(most) {
-        to.push(shown(scalar))?;
+fn push_shown(to: &mut String, text: &str, skipped: usize, most: usize) -> Result<(), AllocError>
+    ensures { IfOk result (λ _. string_bytes to.new ≡
+        string_bytes to.old ++ shown_text (take most (drop skipped (chars text.now)))) }
+{
+    let mut left_out = skipped;
+    let mut room = most;
+    'scalars: for scalar in text.chars() {
+        if left_out > 0 {
+            left_out -= 1;
+        } else if room > 0 {
+            room -= 1;
+            to.push(shown(scalar))?;
+        }
     }
     Ok(())
 }
 
 /// The scalar, as it is shown: a tab as a blank, another control character as U+FFFD.
-fn shown(scalar: char) -> char {
+fn shown(scalar: char) -> char
+    ensures { result ≡ shown_scalar scalar }
+{
     match scalar {
         '\t' => ' ',
         scalar if scalar.is_control() => '\u{fffd}',
@@ -108,10 +153,22 @@ fn shown(scalar: char) -> char {
     }
 }
 
-/// Adds the scalar so many times.
-fn push_times(to: &mut String, scalar: char, count: usize) -> Result<(), AllocError> {
-    for _ in 0..count {
-        to.push(scalar)?;
+/// Adds so many blanks.
+fn push_blanks(to: &mut String, count: usize) -> Result<(), AllocError>
+    ensures { IfOk result (λ _. string_bytes to.new ≡ string_bytes to.old ++ replicate count 32) }
+{
+    'blanks: for _ in 0..count {
+        to.push(' ')?;
+    }
+    Ok(())
+}
+
+/// Adds so many marks.
+fn push_marks(to: &mut String, count: usize) -> Result<(), AllocError>
+    ensures { IfOk result (λ _. string_bytes to.new ≡ string_bytes to.old ++ replicate count 94) }
+{
+    'marks: for _ in 0..count {
+        to.push('^')?;
     }
     Ok(())
 }

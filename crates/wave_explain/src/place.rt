@@ -31,7 +31,7 @@ pub fn place_of(source: &str, at: usize) -> Place<'_>
 }
 
 /// How many scalars the text has.
-fn scalars(text: &str) -> usize
+pub(crate) fn scalars(text: &str) -> usize
     ensures count { result ≡ length (chars text.now) }
     ensures bound { result ≤ length text.now }
 {
