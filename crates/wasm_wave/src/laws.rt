@@ -20,8 +20,8 @@ pub use wave_tree::laws::{
     untyped_reading_agrees, whole_texts_are_read,
 };
 pub use wave_type::laws::{
-    equal_functions, equal_types, one_type_of_text, spelled_names_are_labels, type_text_injective,
-    types_convert_to_themselves,
+    equal_functions, equal_types, function_text_spells, one_type_of_text, spelled_names_are_labels,
+    type_text_injective, type_text_spells, types_convert_to_themselves,
 };
 pub use wave_value::laws::equal_values;
 pub use wave_wasm::laws::{key_text_injective, merging_keeps_last_values};

@@ -26,7 +26,7 @@ abbrev pub Parts : Type 0
 Parts = List (List ℕ × TypeTree)
 
 -- the empty name is no label
-no_empty_label : IsLabel [] → ⊥
+pub no_empty_label : IsLabel [] → ⊥
 no_empty_label h = let wrong : false ≡ true = matches_into [] label h in cc
 
 -- ---- what is read is spelled

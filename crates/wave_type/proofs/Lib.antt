@@ -17,3 +17,6 @@ pub mod WholeTypes
 pub mod FunctionsRead
 pub mod TypeLevels
 pub mod SpelledNames
+pub mod TextCuts
+pub mod TypeReadBack
+pub mod FunctionReadBack

@@ -341,7 +341,7 @@ fields_parts mark (field name T (field x U more)) ts r (t, m, l, e, n, s, h) = (
 abbrev IsWholeCase : List ℕ × Option TypeTree → Tokens → Tokens → Type 0
 IsWholeCase c ts r = IsCase c ts r × (after (codes "(") r ≡ None)
 
-payload_same : (p : MaybeType) → p ≡ maybe_type (type_option p)
+pub payload_same : (p : MaybeType) → p ≡ maybe_type (type_option p)
 payload_same no_type = refl
 payload_same (a_type T) = refl
 
@@ -355,15 +355,15 @@ cases_parts (case_of name p no_cases) ts r (t, m, l, e, n, s, c) = (l, ((t, m, e
 cases_parts (case_of name p (case_of x q more)) ts r (t, m, l, e, n, s, h) =
     (l, ((t, m, e, n, subst (λ q. SpellsPayload q m (codes "," ∷ l)) (payload_same p) s), refl), cases_parts (case_of x q more) l r h)
 
-types_again : (Ts : Types) → types_of (type_list Ts) ≡ Ts
+pub types_again : (Ts : Types) → types_of (type_list Ts) ≡ Ts
 types_again no_types = refl
 types_again (type_and T more) = ap (type_and T) (types_again more)
 
-fields_again : (fs : Fields) → fields_of (field_list fs) ≡ fs
+pub fields_again : (fs : Fields) → fields_of (field_list fs) ≡ fs
 fields_again no_fields = refl
 fields_again (field name T more) = ap (field name T) (fields_again more)
 
-cases_again : (cs : Cases) → cases_of (case_list cs) ≡ cs
+pub cases_again : (cs : Cases) → cases_of (case_list cs) ≡ cs
 cases_again no_cases = refl
 cases_again (case_of name p more) = λ i. case_of name (sym (payload_same p) i) (cases_again more i)
 

@@ -1,6 +1,5 @@
 -- What is read within so many levels has no more.
 use Rattle.std.proofs.Common.{◌≡◌, ℕ, zero, suc, ◌≤◌, List, [], ◌∷◌, inl, inr, Option, Some, None, refl, sym, subst, arith, length, codes}
-use Rattle.std.specs.Prelude.{◌⊎◌, max}
 use Rattle.wave_wasm.specs.declared.wasm.WasmTypeKind.{WasmTypeKind}
 use Rattle.wave_wasm.specs.declared.wasm.WasmTypeKind.TheVariants as kinds
 use Rattle.wave_wasm.specs.Types.{TypeTree, list, fixed, record_type, tuple, variant, enum, option, result, flags, map as map_tree, no_type, a_type, types_of, fields_of, cases_of, maybe_type}
@@ -10,7 +9,7 @@ use Rattle.wave_type.specs.FunctionType.{FunctionType}
 use Rattle.wave_type.specs.FunctionSpelling.{levels_of_function}
 use Rattle.wave_type.specs.TypeSpelling.{Tokens, levels_of, levels_of_payload, levels_of_types, levels_of_fields, levels_of_cases}
 use Rattle.wave_type.specs.Private.FunctionReading.{params_read, result_parts_read, results_read, signature_read, function_read}
-use Rattle.wave_type.specs.Private.TypeReading.{onward, with, after, closed, kind_at, new_name, count_at, names_read, Reads, fixed_read, key_at, types_read, field_part, fields_read, payload_read, case_part, cases_read, list_read, option_read, map_read, err_read, payloads_read, result_read, kind_read, type_read}
+use Rattle.wave_type.specs.Private.TypeReading.{with, after, closed, kind_at, new_name, count_at, names_read, Reads, fixed_read, key_at, types_read, field_part, fields_read, payload_read, case_part, cases_read, list_read, option_read, map_read, err_read, payloads_read, result_read, kind_read, type_read}
 use Rattle.wave_type.proofs.FunctionsRead.{Parts, unwrapped}
 use Rattle.wave_type.proofs.TypeReading.{onward_back, or_back, with_back, made_back, AreParts, parts_back, tuple_made, record_made, variant_made, enum_made, flags_made, key_back, map_made}
 

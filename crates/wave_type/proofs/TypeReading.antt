@@ -217,22 +217,22 @@ IsField f ts r = (t : List ℕ) × (m : Tokens) × (ts ≡ t ∷ codes ":" ∷ m
 abbrev pub IsCase : List ℕ × Option TypeTree → Tokens → Tokens → Type 0
 IsCase c ts r = (t : List ℕ) × (m : Tokens) × (ts ≡ t ∷ m) × Names t c.0 × SpellsPayload (maybe_type c.1) m r
 
-names_spelled : (mark : List ℕ) (xs : List (List ℕ)) (ts r : Tokens) → AreParts mark IsNamed xs ts r → SpellsNames mark xs ts r
+pub names_spelled : (mark : List ℕ) (xs : List (List ℕ)) (ts r : Tokens) → AreParts mark IsNamed xs ts r → SpellsNames mark xs ts r
 names_spelled mark [] ts r h = h
 names_spelled mark (x ∷ []) ts r (m, (t, e, n), c) = (t, m, e, n, c)
 names_spelled mark (x ∷ y ∷ xs) ts r (m, (t, e, n), h) = (t, m, e, n, names_spelled mark (y ∷ xs) m r h)
 
-types_spelled : (xs : List TypeTree) (ts r : Tokens) → AreParts (codes ">") Spells xs ts r → SpellsTypes (types_of xs) ts r
+pub types_spelled : (xs : List TypeTree) (ts r : Tokens) → AreParts (codes ">") Spells xs ts r → SpellsTypes (types_of xs) ts r
 types_spelled [] ts r h = h
 types_spelled (x ∷ []) ts r h = h
 types_spelled (x ∷ y ∷ xs) ts r (m, s, h) = (m, s, types_spelled (y ∷ xs) m r h)
 
-fields_spelled : (mark : List ℕ) (xs : List (List ℕ × TypeTree)) (ts r : Tokens) → AreParts mark IsField xs ts r → SpellsFields mark (fields_of xs) ts r
+pub fields_spelled : (mark : List ℕ) (xs : List (List ℕ × TypeTree)) (ts r : Tokens) → AreParts mark IsField xs ts r → SpellsFields mark (fields_of xs) ts r
 fields_spelled mark [] ts r h = h
 fields_spelled mark (x ∷ []) ts r (l, (t, m, e, n, s), c) = (t, m, l, e, n, s, c)
 fields_spelled mark (x ∷ y ∷ xs) ts r (l, (t, m, e, n, s), h) = (t, m, l, e, n, s, fields_spelled mark (y ∷ xs) l r h)
 
-cases_spelled : (xs : List (List ℕ × Option TypeTree)) (ts r : Tokens) → AreParts (codes "}") IsCase xs ts r → SpellsCases (cases_of xs) ts r
+pub cases_spelled : (xs : List (List ℕ × Option TypeTree)) (ts r : Tokens) → AreParts (codes "}") IsCase xs ts r → SpellsCases (cases_of xs) ts r
 cases_spelled [] ts r h = h
 cases_spelled (x ∷ []) ts r (l, (t, m, e, n, s), c) = (t, m, l, e, n, s, c)
 cases_spelled (x ∷ y ∷ xs) ts r (l, (t, m, e, n, s), h) = (t, m, l, e, n, s, cases_spelled (y ∷ xs) l r h)
@@ -245,7 +245,7 @@ case_names_of : (xs : List (List ℕ × Option TypeTree)) → map (λ c. c.0) xs
 case_names_of [] = refl
 case_names_of (x ∷ xs) = ap (λ l. x.0 ∷ l) (case_names_of xs)
 
-map_self : {A : Type 0} (xs : List A) → map (λ x. x) xs ≡ xs
+pub map_self : {A : Type 0} (xs : List A) → map (λ x. x) xs ≡ xs
 map_self [] = refl
 map_self (x ∷ xs) = ap (λ l. x ∷ l) (map_self xs)
 

@@ -24,46 +24,46 @@ short : (n : ℕ) → nat_lt n (2 ^ 32) ≡ true → n < 2 ^ 64
 short n h = omega (arith, ltb-true n (2 ^ 32) h)
 
 -- a type of `Type` whose names are labels
-abbrev IsTold : TypeTree → Type 0
+abbrev pub IsTold : TypeTree → Type 0
 IsTold T = IsOwn T × HasLabels T
 
-abbrev IsToldMaybe : MaybeType → Type 0
+abbrev pub IsToldMaybe : MaybeType → Type 0
 IsToldMaybe P = (every_maybe can_be_made P ≡ true) × EachNamesOfMaybe (AllOf IsLabel) P
 
-abbrev AreToldTypes : Types → Type 0
+abbrev pub AreToldTypes : Types → Type 0
 AreToldTypes Ts = (every_type can_be_made Ts ≡ true) × EachNamesOfTypes (AllOf IsLabel) Ts
 
-abbrev AreToldFields : Fields → Type 0
+abbrev pub AreToldFields : Fields → Type 0
 AreToldFields fs = (every_field can_be_made fs ≡ true) × (AllOf IsLabel (field_names fs) × EachNamesOfFields (AllOf IsLabel) fs)
 
-abbrev AreToldCases : Cases → Type 0
+abbrev pub AreToldCases : Cases → Type 0
 AreToldCases cs = (every_case can_be_made cs ≡ true) × (AllOf IsLabel (case_names cs) × EachNamesOfCases (AllOf IsLabel) cs)
 
-first_type : (T : TypeTree) (more : Types) → AreToldTypes (type_and T more) → IsTold T × AreToldTypes more
+pub first_type : (T : TypeTree) (more : Types) → AreToldTypes (type_and T more) → IsTold T × AreToldTypes more
 first_type T more h = let p = and_parts _ _ h.0 in ((p.0, h.1.0), (p.1, h.1.1))
 
-first_field : (name : List ℕ) (T : TypeTree) (more : Fields) → AreToldFields (field name T more) → IsLabel name × (IsTold T × AreToldFields more)
+pub first_field : (name : List ℕ) (T : TypeTree) (more : Fields) → AreToldFields (field name T more) → IsLabel name × (IsTold T × AreToldFields more)
 first_field name T more h = let p = and_parts _ _ h.0 in (h.1.0.0, ((p.0, h.1.1.0), (p.1, (h.1.0.1, h.1.1.1))))
 
-first_case : (name : List ℕ) (P : MaybeType) (more : Cases) → AreToldCases (case_of name P more) → IsLabel name × (IsToldMaybe P × AreToldCases more)
+pub first_case : (name : List ℕ) (P : MaybeType) (more : Cases) → AreToldCases (case_of name P more) → IsLabel name × (IsToldMaybe P × AreToldCases more)
 first_case name P more h = let p = and_parts _ _ h.0 in (h.1.0.0, ((p.0, h.1.1.0), (p.1, (h.1.0.1, h.1.1.1))))
 
-element_of_fixed : (E : TypeTree) (n : ℕ) → IsTold (type.fixed E n) → IsTold E × (n < 2 ^ 64)
+pub element_of_fixed : (E : TypeTree) (n : ℕ) → IsTold (type.fixed E n) → IsTold E × (n < 2 ^ 64)
 element_of_fixed E n h = let p = and_parts _ _ h.0 in ((p.1, h.1), short n p.0)
 
-types_of_tuple : (Ts : Types) → IsTold (type.tuple Ts) → AreToldTypes Ts × (has_names (type_texts Ts) ≡ true)
+pub types_of_tuple : (Ts : Types) → IsTold (type.tuple Ts) → AreToldTypes Ts × (has_names (type_texts Ts) ≡ true)
 types_of_tuple no_types h = absurd (false≢true h.0)
 types_of_tuple (type_and T more) h = (h, refl)
 
-fields_of_record : (fs : Fields) → IsTold (type.record_type fs) → AreToldFields fs × (has_names (field_texts fs) ≡ true)
+pub fields_of_record : (fs : Fields) → IsTold (type.record_type fs) → AreToldFields fs × (has_names (field_texts fs) ≡ true)
 fields_of_record no_fields h = absurd (false≢true h.0)
 fields_of_record (field name T more) h = (h, refl)
 
-cases_of_variant : (cs : Cases) → IsTold (type.variant cs) → AreToldCases cs × (has_names (case_texts cs) ≡ true)
+pub cases_of_variant : (cs : Cases) → IsTold (type.variant cs) → AreToldCases cs × (has_names (case_texts cs) ≡ true)
 cases_of_variant no_cases h = absurd (false≢true h.0)
 cases_of_variant (case_of name P more) h = (h, refl)
 
-payloads_of_result : (A B : MaybeType) → IsTold (type.result A B) → IsToldMaybe A × IsToldMaybe B
+pub payloads_of_result : (A B : MaybeType) → IsTold (type.result A B) → IsToldMaybe A × IsToldMaybe B
 payloads_of_result A B h =
     let p = and_parts _ _ h.0 in
     ((p.0, h.1.0), (p.1, h.1.1))

@@ -1,10 +1,12 @@
 //! Laws of types and types of functions, over the definitions alone.
 ghost use Rattle.std.specs.Prelude.{◌≡◌, ◌↔◌, ℕ, List, Some, true};
 ghost use Rattle.wave_wasm.specs.Types.{TypeTree, IsOwn};
+ghost use Rattle.wave_wasm.specs.TypeText.{type_text, function_text};
+ghost use Rattle.wave_wasm.specs.Lists.{AllOf};
 ghost use Rattle.wave_lex.specs.Labels.{HasLabels, Good};
 ghost use Rattle.wave_type.specs.FunctionEquality.{same_function};
 ghost use Rattle.wave_type.specs.FunctionSpelling.{IsFunctionOf};
-ghost use Rattle.wave_type.specs.FunctionType.{FunctionType};
+ghost use Rattle.wave_type.specs.FunctionType.{FunctionType, types_of, func_of};
 ghost use Rattle.wave_type.specs.GoodNames.{IsGoodFunction};
 ghost use Rattle.wave_type.specs.TypeConversion.{converted_type};
 ghost use Rattle.wave_type.specs.TypeEquality.{same_tree};
@@ -42,4 +44,18 @@ pub fn one_type_of_text()
 pub fn spelled_names_are_labels()
     ensures types { (text : List ℕ) (T : TypeTree) → IsTypeOf text T → Good T }
     ensures functions { (text : List ℕ) (f : FunctionType) → IsFunctionOf text f → IsGoodFunction f }
+{}
+
+/// The text of a type spells the type, where `Type` can hold it and its names are distinct labels.
+/// As no text spells two types (`one_type_of_text`), what `Type::parse` answers of that text is the
+/// type itself, and it answers one where the type has at most a hundred levels and memory is there.
+pub fn type_text_spells()
+    ensures { (T : TypeTree) → IsOwn T → Good T → IsTypeOf (type_text T) T }
+{}
+
+/// So does the text of the type of a function whose types `Type` can hold, and where the names within
+/// them, the names of parameters and those of named results are distinct labels.
+pub fn function_text_spells()
+    ensures { (f : FunctionType) → AllOf IsOwn (types_of f.params) → AllOf IsOwn (types_of f.results) → IsGoodFunction f
+        → IsFunctionOf (function_text (func_of f)) f }
 {}

@@ -1,0 +1,5 @@
+use Rattle.wave_type.proofs.FunctionReadBack.{function_spells}
+use Rattle.wave_type.proofs.laws.function_text_spells.Goals as goal
+
+pub returns : goal.returns
+returns c = function_spells

@@ -1,0 +1,5 @@
+use Rattle.wave_type.proofs.TypeReadBack.{text_spells}
+use Rattle.wave_type.proofs.laws.type_text_spells.Goals as goal
+
+pub returns : goal.returns
+returns c = text_spells
