@@ -24,7 +24,7 @@ use Rattle.wave_decode.proofs.Doomed.{told_dooms}
 use Rattle.wave_decode.proofs.MapEntries.{none_waits, one_waits, key_more, value_more, key_dooms, value_dooms, entries_made}
 
 module _ {V : Type 0} (tree : V → Value) (of : V → TypeTree → Type 0) (Full : TypeTree → Type 0) {X : Type 0} (type_tree : X → TypeTree) (T : TypeTree) (source : List ℕ) where
-  module _ (children : List NodeTree) (x : Entries X V) (h : AreEntries tree of Full type_tree T source children x) where
+  module _ (children : List NodeTree) (x : Entries X V) (h : AreEntries type_tree tree of Full T source children x) where
     parts_of : IsMapOf T (type_tree x.key_type.now) (type_tree x.value_type.now)
     parts_of = map_is type_tree T (Some (x.key_type, x.value_type)) (x.key_type, x.value_type) refl (sym h.parts_are)
 
@@ -34,7 +34,7 @@ module _ {V : Type 0} (tree : V → Value) (of : V → TypeTree → Type 0) (Ful
         subst (AreReadInTurn tree of Full (type_tree x.key_type.now) (type_tree x.value_type.now) source children x.entries.items) (none_waits tree of Full (type_tree x.key_type.now) (type_tree x.value_type.now) source children x.entries.items x.key even.0 h.read even.1) h.read
 
     -- a key was read
-    pub key_taken : (k : NodeTree) (key : V) (keys : Option V) → TakesKey kind.TupleSet children → AnswersKey tree of Full (type_tree x.key_type.now) source k (Ok key) → keys ≡ Some key → AreEntries tree of Full type_tree T source (children ++ k ∷ []) (record x { key = keys })
+    pub key_taken : (k : NodeTree) (key : V) (keys : Option V) → TakesKey kind.TupleSet children → AnswersKey tree of Full (type_tree x.key_type.now) source k (Ok key) → keys ≡ Some key → AreEntries type_tree tree of Full T source (children ++ k ∷ []) (record x { key = keys })
     key_taken k key keys even read is = record {
       type_is = h.type_is;
       parts_are = h.parts_are;
@@ -55,7 +55,7 @@ module _ {V : Type 0} (tree : V → Value) (of : V → TypeTree → Type 0) (Ful
     due_type key n r waits read = subst (λ (o : Option V). IsReadWhereDue tree of Full (shown type_tree (option_map (λ k. x.value_type) o)) source n r) waits read
 
     -- a value was read
-    pub value_taken : (n : NodeTree) (r : Result V Diagnostic) (key v : V) (keys : Option V) (all : Vec (V × V) Global) → x.key ≡ Some key → r ≡ Ok v → IsReadWhereDue tree of Full (shown type_tree (value_type_due x)) source n r → keys ≡ None → all.items ≡ x.entries.items ++ (key, v) ∷ [] → AreEntries tree of Full type_tree T source (children ++ n ∷ []) (record x { entries = all; key = keys })
+    pub value_taken : (n : NodeTree) (r : Result V Diagnostic) (key v : V) (keys : Option V) (all : Vec (V × V) Global) → x.key ≡ Some key → r ≡ Ok v → IsReadWhereDue tree of Full (shown type_tree (value_type_due x)) source n r → keys ≡ None → all.items ≡ x.entries.items ++ (key, v) ∷ [] → AreEntries type_tree tree of Full T source (children ++ n ∷ []) (record x { entries = all; key = keys })
     value_taken n r key v keys all waits made read no_key is =
         let here : IsReadAs tree of Full (type_tree x.value_type.now) source n (Ok v) = subst (IsReadAs tree of Full (type_tree x.value_type.now) source n) made (due_type key n r waits read) in
         let more : AreReadInTurn tree of Full (type_tree x.key_type.now) (type_tree x.value_type.now) source (children ++ n ∷ []) (x.entries.items ++ (key, v) ∷ []) None = value_more tree of Full (type_tree x.key_type.now) (type_tree x.value_type.now) source children x.entries.items n key v (read_for_value key waits) here in

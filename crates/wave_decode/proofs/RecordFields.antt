@@ -20,7 +20,7 @@ use Rattle.wave_syntax.proofs.Fields.Lookup.{take_next, map_last}
 use Rattle.wave_syntax.proofs.Fields.Entries.{not_both}
 use Rattle.wave_leaf.specs.Reading.{IsReadAs}
 use Rattle.wave_decode.specs.declared.records.Field.{Field}
-use Rattle.wave_decode.specs.RecordParts.{part_of, field_name, with_value, IsKeptAs, AreKept, IsFull, AreFull}
+use Rattle.wave_decode.specs.RecordParts.{part_of, field_name, with_value, IsKeptAs, AreKeptAs, IsFull, AreFull}
 
 -- ---- lists
 
@@ -176,19 +176,19 @@ same_names (g ∷ fields) (suc i) f v h = ap (λ (names : List (List ℕ)). g.na
 
 module _ {V : Type 0} (tree : V → Value) (of : V → TypeTree → Type 0) (Full : TypeTree → Type 0) {S : Type 0} (type_tree : S → TypeTree) (source : List ℕ) where
   -- nothing was read, and nothing is kept
-  pub none_kept : (ps : List (Bor (List ℕ) × Bor S)) → AreKept tree of Full type_tree source [] (map empty_field ps)
+  pub none_kept : (ps : List (Bor (List ℕ) × Bor S)) → AreKeptAs type_tree tree of Full source [] (map empty_field ps)
   none_kept [] = tt
   none_kept (p ∷ ps) = (refl, none_kept ps)
 
   kept_other : (given : List (List ℕ × NodeTree)) (name : List ℕ) (m : NodeTree) (f : Field S V) → f.name.now ≢ name → IsKeptAs tree of Full (type_tree f.ty.now) source (look_up given f.name.now) f.value → IsKeptAs tree of Full (type_tree f.ty.now) source (look_up (given ++ (name, m) ∷ []) f.name.now) f.value
   kept_other given name m f apart h = subst (λ (o : Option NodeTree). IsKeptAs tree of Full (type_tree f.ty.now) source o f.value) (sym (look_old given name m f.name.now apart)) h
 
-  kept_others : (given : List (List ℕ × NodeTree)) (name : List ℕ) (m : NodeTree) (fields : List (Field S V)) → IsNoneOf (map field_name fields) name → AreKept tree of Full type_tree source given fields → AreKept tree of Full type_tree source (given ++ (name, m) ∷ []) fields
+  kept_others : (given : List (List ℕ × NodeTree)) (name : List ℕ) (m : NodeTree) (fields : List (Field S V)) → IsNoneOf (map field_name fields) name → AreKeptAs type_tree tree of Full source given fields → AreKeptAs type_tree tree of Full source (given ++ (name, m) ∷ []) fields
   kept_others given name m [] none h = tt
   kept_others given name m (f ∷ fields) none h = (kept_other given name m f (λ e. none.0 (sym e)) h.0, kept_others given name m fields none.1 h.1)
 
   -- the value of one more entry is kept
-  pub kept_more : (given : List (List ℕ × NodeTree)) (m : NodeTree) (fields : List (Field S V)) (i : ℕ) (f : Field S V) (v : V) → HasAt fields i f → AreDistinct (map field_name fields) → look_up given f.name.now ≡ None → IsReadAs tree of Full (type_tree f.ty.now) source m (Ok v) → AreKept tree of Full type_tree source given fields → AreKept tree of Full type_tree source (given ++ (f.name.now, m) ∷ []) (set fields i (with_value f v))
+  pub kept_more : (given : List (List ℕ × NodeTree)) (m : NodeTree) (fields : List (Field S V)) (i : ℕ) (f : Field S V) (v : V) → HasAt fields i f → AreDistinct (map field_name fields) → look_up given f.name.now ≡ None → IsReadAs tree of Full (type_tree f.ty.now) source m (Ok v) → AreKeptAs type_tree tree of Full source given fields → AreKeptAs type_tree tree of Full source (given ++ (f.name.now, m) ∷ []) (set fields i (with_value f v))
   kept_more given m [] i f v here distinct none read h = absurd here
   kept_more given m (g ∷ fields) zero f v here distinct none read h =
       ((m, look_new given f.name.now m none, read), kept_others given f.name.now m fields (subst (IsNoneOf (map field_name fields)) (ap field_name here) distinct.0) h.1)

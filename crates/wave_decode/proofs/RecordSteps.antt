@@ -25,7 +25,7 @@ use Rattle.wave_syntax.proofs.ErrorSpans.Nodes.{said_here}
 use Rattle.wave_syntax.specs.NodeParts.{TakesKey, TakesPart}
 use Rattle.wave_leaf.specs.Reading.{IsReadAs, IsReadWhereDue}
 use Rattle.wave_decode.specs.Faults.{IsDoomed}
-use Rattle.wave_decode.specs.RecordParts.{AreFields, AreBegun, AreKept, IsKeptAs, IsFieldKey, IsUnread, IsReadBefore, IsKeyFault, IsKeyDue, last_key, type_due, field_name, with_value, part_of}
+use Rattle.wave_decode.specs.RecordParts.{AreFields, AreBegun, AreKeptAs, IsKeptAs, IsFieldKey, IsUnread, IsReadBefore, IsKeyFault, IsKeyDue, last_key, type_due, field_name, with_value, part_of}
 use Rattle.wave_decode.specs.declared.fault.Fault.{Fault}
 use Rattle.wave_decode.specs.declared.fault.Fault.TheVariants as fault
 use Rattle.wave_decode.specs.declared.records.Field.{Field}
@@ -37,7 +37,7 @@ use Rattle.wave_decode.proofs.RecordFields.{has_got, has_mapped, holds_at, one_o
 
 module _ {V : Type 0} (tree : V → Value) (of : V → TypeTree → Type 0) (Full : TypeTree → Type 0) {S : Type 0} (type_tree : S → TypeTree) (T : TypeTree) (source : List ℕ) where
   -- what is said of fields speaks of their type, of them and of what is due alone
-  pub same_fields : (children : List NodeTree) (x y : Fields S V) → y.ty ≡ x.ty → y.fields ≡ x.fields → y.due ≡ x.due → AreFields tree of Full type_tree T source children x → AreFields tree of Full type_tree T source children y
+  pub same_fields : (children : List NodeTree) (x y : Fields S V) → y.ty ≡ x.ty → y.fields ≡ x.fields → y.due ≡ x.due → AreFields type_tree tree of Full T source children x → AreFields type_tree tree of Full T source children y
   same_fields children x y ty fields due h = record {
     type_is = ap (λ (t : Bor S). type_tree t.now) ty ∙ h.type_is;
     of_kind = h.of_kind;
@@ -47,11 +47,11 @@ module _ {V : Type 0} (tree : V → Value) (of : V → TypeTree → Type 0) (Ful
       known = subst (λ (fs : Vec (Field S V) Global). AllOf (IsOneOf (map field_name fs.items)) (names_of (fields_at source children))) (sym fields) h.begun.known;
       due = subst (λ (fs : Vec (Field S V) Global). IsKeyDue source fs.items (last_key children) y.due) (sym fields) (subst (IsKeyDue source x.fields.items (last_key children)) (sym due) h.begun.due);
       distinct = h.begun.distinct;
-      kept = λ distinct. subst (λ (fs : Vec (Field S V) Global). AreKept tree of Full type_tree source (fields_at source children) fs.items) (sym fields) (h.begun.kept distinct);
+      kept = λ distinct. subst (λ (fs : Vec (Field S V) Global). AreKeptAs type_tree tree of Full source (fields_at source children) fs.items) (sym fields) (h.begun.kept distinct);
     };
   }
 
-  module _ (children : List NodeTree) (x : Fields S V) (h : AreFields tree of Full type_tree T source children x) where
+  module _ (children : List NodeTree) (x : Fields S V) (h : AreFields type_tree tree of Full T source children x) where
     -- the type is a record of these parts
     pub is_record : RecordType T (map (part_of type_tree) x.fields.items)
     is_record = record_is T (map (part_of type_tree) x.fields.items) h.of_kind h.parts
@@ -63,7 +63,7 @@ module _ {V : Type 0} (tree : V → Value) (of : V → TypeTree → Type 0) (Ful
     -- ---- keys
 
     -- the key of a field was taken
-    pub key_taken : (k : NodeTree) (due : ℕ × Bor S) → TakesKey kind.TupleSet children → IsFieldKey x.fields.items (type_of k) (node_text source k) due → AreFields tree of Full type_tree T source (children ++ k ∷ []) (record x { due = Some due })
+    pub key_taken : (k : NodeTree) (due : ℕ × Bor S) → TakesKey kind.TupleSet children → IsFieldKey x.fields.items (type_of k) (node_text source k) due → AreFields type_tree tree of Full T source (children ++ k ∷ []) (record x { due = Some due })
     key_taken k due even key =
         let b = h.begun in
         let pairs : node_pairs children ≡ node_pairs (children ++ k ∷ []) = sym (pairs_with_key children k even.0 even.1) in
@@ -76,12 +76,12 @@ module _ {V : Type 0} (tree : V → Value) (of : V → TypeTree → Type 0) (Ful
             known = subst (λ (ps : List (NodeTree × NodeTree)). AllOf (IsOneOf (map field_name x.fields.items)) (names_of (map (field_of source) ps))) pairs b.known;
             due = subst (λ (o : Option NodeTree). IsKeyDue source x.fields.items o (Some due)) (sym (key_waits children k even.0 even.1)) key;
             distinct = λ distinct. subst (λ (ps : List (NodeTree × NodeTree)). AreDistinct (names_of (map (field_of source) ps))) pairs (b.distinct distinct);
-            kept = λ distinct. subst (λ (ps : List (NodeTree × NodeTree)). AreKept tree of Full type_tree source (map (field_of source) ps) x.fields.items) pairs (b.kept distinct);
+            kept = λ distinct. subst (λ (ps : List (NodeTree × NodeTree)). AreKeptAs type_tree tree of Full source (map (field_of source) ps) x.fields.items) pairs (b.kept distinct);
           };
         }
 
     -- a name that was read is one of those of the entries
-    read_name : (name : List ℕ) → AreKept tree of Full type_tree source (fields_at source children) x.fields.items → IsReadBefore x.fields.items name → IsOneOf (names_of (fields_at source children)) name
+    read_name : (name : List ℕ) → AreKeptAs type_tree tree of Full source (fields_at source children) x.fields.items → IsReadBefore x.fields.items name → IsOneOf (names_of (fields_at source children)) name
     read_name name kept (i, f, v, there, named, value) =
         let own : IsKeptAs tree of Full (type_tree f.ty.now) source (look_up (fields_at source children) f.name.now) (Some v) = subst (IsKeptAs tree of Full (type_tree f.ty.now) source (look_up (fields_at source children) f.name.now)) value (holds_at (λ (g : Field S V). IsKeptAs tree of Full (type_tree g.ty.now) source (look_up (fields_at source children) g.name.now) g.value) x.fields.items i f kept (has_got x.fields.items i f there)) in
         subst (IsOneOf (names_of (fields_at source children))) named (is_found (fields_at source children) f.name.now own.0 own.1)
@@ -123,7 +123,7 @@ module _ {V : Type 0} (tree : V → Value) (of : V → TypeTree → Type 0) (Ful
         by (Some k) e d = d
 
     -- one more field was read
-    begun_more : (n k : NodeTree) (v : V) (due : ℕ × Bor S) (f : Field S V) (y : Fields S V) → last_key children ≡ Some k → type_of k ≡ kind.Label → slice_get x.fields.items due.0 ≡ Some f → f.name.now ≡ name_of (node_text source k) → f.value ≡ None → IsReadAs tree of Full (type_tree f.ty.now) source n (Ok v) → y.fields.items ≡ set x.fields.items due.0 (with_value f v) → y.due ≡ None → AreBegun tree of Full type_tree T source (children ++ n ∷ []) y
+    begun_more : (n k : NodeTree) (v : V) (due : ℕ × Bor S) (f : Field S V) (y : Fields S V) → last_key children ≡ Some k → type_of k ≡ kind.Label → slice_get x.fields.items due.0 ≡ Some f → f.name.now ≡ name_of (node_text source k) → f.value ≡ None → IsReadAs tree of Full (type_tree f.ty.now) source n (Ok v) → y.fields.items ≡ set x.fields.items due.0 (with_value f v) → y.due ≡ None → AreBegun type_tree tree of Full T source (children ++ n ∷ []) y
     begun_more n k v due f y waits label there named unread read is none =
         let b = h.begun in
         let here : HasAt x.fields.items due.0 f = has_got x.fields.items due.0 f there in
@@ -138,11 +138,11 @@ module _ {V : Type 0} (tree : V → Value) (of : V → TypeTree → Type 0) (Ful
           known = subst (λ (own : List (List ℕ)). AllOf (IsOneOf own) (names_of (fields_at source (children ++ n ∷ [])))) names (subst (AllOf (IsOneOf (map field_name x.fields.items))) (sym all_names) (all_last (IsOneOf (map field_name x.fields.items)) (names_of given) f.name.now b.known (one_of_fields x.fields.items due.0 f here)));
           due = subst (IsKeyDue source y.fields.items (last_key (children ++ n ∷ []))) (sym none) (subst (λ (o : Option NodeTree). IsKeyDue source y.fields.items o None) (sym (none_waits children k n waits)) tt);
           distinct = λ distinct. subst AreDistinct (sym all_names) (distinct_more (names_of given) f.name.now (b.distinct distinct) (not_found given f.name.now (new distinct)));
-          kept = λ distinct. subst (λ (l : List (List ℕ × NodeTree)). AreKept tree of Full type_tree source l y.fields.items) (sym all) (subst (AreKept tree of Full type_tree source (given ++ (f.name.now, n) ∷ [])) (sym is) (kept_more tree of Full type_tree source given n x.fields.items due.0 f v here (apart_names distinct) (new distinct) read (b.kept distinct)));
+          kept = λ distinct. subst (λ (l : List (List ℕ × NodeTree)). AreKeptAs type_tree tree of Full source l y.fields.items) (sym all) (subst (AreKeptAs type_tree tree of Full source (given ++ (f.name.now, n) ∷ [])) (sym is) (kept_more tree of Full type_tree source given n x.fields.items due.0 f v here (apart_names distinct) (new distinct) read (b.kept distinct)));
         }
 
     -- a value was read
-    pub value_taken : (n : NodeTree) (r : Result V Diagnostic) (v : V) (due : ℕ × Bor S) (dues : Option (ℕ × Bor S)) (fields : Vec (Field S V) Global) (behind : ℕ) → x.due ≡ Some due → r ≡ Ok v → IsReadWhereDue tree of Full (shown type_tree (type_due x)) source n r → dues ≡ None → ((f : Field S V) → slice_get x.fields.items due.0 ≡ Some f → fields.items ≡ set x.fields.items due.0 (with_value f v)) → AreFields tree of Full type_tree T source (children ++ n ∷ []) (record x { fields = fields; behind = behind; due = dues })
+    pub value_taken : (n : NodeTree) (r : Result V Diagnostic) (v : V) (due : ℕ × Bor S) (dues : Option (ℕ × Bor S)) (fields : Vec (Field S V) Global) (behind : ℕ) → x.due ≡ Some due → r ≡ Ok v → IsReadWhereDue tree of Full (shown type_tree (type_due x)) source n r → dues ≡ None → ((f : Field S V) → slice_get x.fields.items due.0 ≡ Some f → fields.items ≡ set x.fields.items due.0 (with_value f v)) → AreFields type_tree tree of Full T source (children ++ n ∷ []) (record x { fields = fields; behind = behind; due = dues })
     value_taken n r v due dues fields behind is made read no_due keeps =
         let (k, waits, label, (f, there, named, typed, unread)) = waiting due is in
         let own : IsReadAs tree of Full (type_tree f.ty.now) source n (Ok v) = subst (λ (t : Bor S). IsReadAs tree of Full (type_tree t.now) source n (Ok v)) (sym typed) (subst (IsReadAs tree of Full (type_tree due.1.now) source n) made (due_type due n r is read)) in

@@ -27,7 +27,7 @@ use Rattle.wave_syntax.proofs.Fields.Entries.{AreFieldsOf, record_nodes}
 use Rattle.wave_syntax.proofs.Fields.Reading.{RecordType, fields_distinct, given_fields, FieldIsRead, FieldsRead, field_read, field_blamed, record_reads, record_full}
 use Rattle.wave_syntax.proofs.ErrorSpans.Nodes.{at_in, made_in}
 use Rattle.wave_leaf.specs.Reading.{IsReadAs}
-use Rattle.wave_decode.specs.RecordParts.{AreFields, AreKept, IsKeptAs, IsFull, AreFull, IsLeftUnfilled, field_name, part_of}
+use Rattle.wave_decode.specs.RecordParts.{AreFields, AreKeptAs, IsKeptAs, IsFull, AreFull, IsLeftUnfilled, field_name, part_of}
 use Rattle.wave_decode.specs.declared.records.Field.{Field}
 use Rattle.wave_decode.specs.declared.records.Fields.{Fields}
 use Rattle.wave_decode.proofs.RecordFields.{has_mapped, holds_at, some_place, of_one, part_names}
@@ -45,14 +45,14 @@ module _ {V : Type 0} (tree : V → Value) (of : V → TypeTree → Type 0) (Ful
       field_read tree of Full E source n given es name (Some m) v all distinct (sym found) (λ t is apart. (subst (λ (u : V). IsReadAs tree of Full E source m (Ok u)) same read).answer t is apart)
 
   -- the values of the fields, which are those of their entries
-  fields_read : (given : List (List ℕ × NodeTree)) (es : List PlacedEntry) (fields : List (Field S V)) (vals : List (Bor (List ℕ) × V)) (n : NodeTree) → AreFieldsOf source given es → AllOf (λ p. HasDistinctNames p.1) (map (part_of type_tree) fields) → AreKept tree of Full type_tree source given fields → AreFull tree of type_tree fields vals → FieldsRead tree of Full (map (part_of type_tree) fields) es vals
+  fields_read : (given : List (List ℕ × NodeTree)) (es : List PlacedEntry) (fields : List (Field S V)) (vals : List (Bor (List ℕ) × V)) (n : NodeTree) → AreFieldsOf source given es → AllOf (λ p. HasDistinctNames p.1) (map (part_of type_tree) fields) → AreKeptAs type_tree tree of Full source given fields → AreFull tree of type_tree fields vals → FieldsRead tree of Full (map (part_of type_tree) fields) es vals
   fields_read given es [] [] n all distinct kept full = tt
   fields_read given es [] (v ∷ vals) n all distinct kept full = absurd full
   fields_read given es (f ∷ fields) [] n all distinct kept full = absurd full
   fields_read given es (f ∷ fields) (v ∷ vals) n all distinct kept full =
       (full.0, field_reads given es f.name.now (type_tree f.ty.now) f.value v.1 n all distinct.0 kept.0 full.1, fields_read given es fields vals n all distinct.1 kept.1 full.2)
 
-  module _ (children : List NodeTree) (x : Fields S V) (h : AreFields tree of Full type_tree T source children x) where
+  module _ (children : List NodeTree) (x : Fields S V) (h : AreFields type_tree tree of Full T source children x) where
     own : RecordType T (map (part_of type_tree) x.fields.items)
     own = is_record tree of Full type_tree T source children x h
 

@@ -17,7 +17,8 @@ module _ {S V : Type 0} (type_tree : S → TypeTree) (tree : V → Value) (of : 
   -- the parts of a value of the type; or, where this option or result is around it, those of its flat payload
   abbrev pub AreOfType : TypeTree → List ℕ → NodeType → List NodeTree → Option (Bor S) → Kept S V → Type 0
   AreOfType T source ty children None kept = AreParts type_tree tree of Full T source ty children kept.parts
-  AreOfType T source ty children (Some x) kept = (type_tree x.now ≡ T) × ((U : TypeTree) × IsFlatAt T ty U × AreParts type_tree tree of Full U source ty children kept.parts)
+  AreOfType T source ty children (Some x) kept =
+      (type_tree x.now ≡ T) × ((U : TypeTree) × IsFlatAt T ty U × AreParts type_tree tree of Full U source ty children kept.parts)
 
   abbrev pub AreKept : TypeTree → List ℕ → NodeType → List NodeTree → Kept S V → Type 0
   AreKept T source ty children kept = AreOfType T source ty children kept.around kept
@@ -38,6 +39,7 @@ module _ {S V : Type 0} (type_tree : S → TypeTree) (tree : V → Value) (of : 
   simple_next T _ simple takes = absurd simple
 
   -- where memory is taken for the parts of the next part, it is taken for parts
-  pub next_takes : (due : Option TypeTree) (source : List ℕ) (ty : NodeType) (children : List NodeTree) (kept : Kept S V) → AreKeptWhereDue due source ty children kept → TakesMemory (shown type_tree (next_due kept.parts)) → TakesMemory due
+  pub next_takes : (due : Option TypeTree) (source : List ℕ) (ty : NodeType) (children : List NodeTree) (kept : Kept S V)
+      → AreKeptWhereDue due source ty children kept → TakesMemory (shown type_tree (next_due kept.parts)) → TakesMemory due
   next_takes None source ty children kept bare takes = none_next kept.parts bare takes
   next_takes (Some T) source ty children kept are takes = λ plain. simple_next T kept.parts (are.1 plain) takes

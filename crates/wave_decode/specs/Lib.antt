@@ -5,6 +5,7 @@ pub mod KeptParts
 pub mod ListParts
 pub mod MapParts
 pub mod NamedFlags
+pub mod PartSteps
 pub mod PartsOfKinds
 pub mod Payloads
 pub mod RecordParts

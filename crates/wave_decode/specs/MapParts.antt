@@ -21,8 +21,9 @@ module _ {V : Type 0} (tree : V → Value) (of : V → TypeTree → Type 0) (Ful
       AnswersKey tree of Full S source k (Ok e.0) × IsReadAs tree of Full U source n (Ok e.1) × AreReadInTurn S U source more es key
   AreReadInTurn S U source _ _ _ = ⊥
 
+module _ {S V : Type 0} (type_tree : S → TypeTree) (tree : V → Value) (of : V → TypeTree → Type 0) (Full : TypeTree → Type 0) where
   -- these are the entries of a map of the type
-  pub record AreEntries {S : Type 0} (type_tree : S → TypeTree) (T : TypeTree) (source : List ℕ) (children : List NodeTree) (x : Entries S V) : Type 0 where
+  pub record AreEntries (T : TypeTree) (source : List ℕ) (children : List NodeTree) (x : Entries S V) : Type 0 where
     pub type_is : type_tree x.ty.now ≡ T
     pub parts_are : map_parts T ≡ Some (type_tree x.key_type.now, type_tree x.value_type.now)
-    pub read : AreReadInTurn (type_tree x.key_type.now) (type_tree x.value_type.now) source children x.entries.items x.key
+    pub read : AreReadInTurn tree of Full (type_tree x.key_type.now) (type_tree x.value_type.now) source children x.entries.items x.key

@@ -12,7 +12,7 @@ use Rattle.wave_syntax.specs.NodeParts.{IsOfParts}
 use Rattle.wave_decode.specs.CaseParts.{AreCaseParts, payload_due}
 use Rattle.wave_decode.specs.Faults.{IsDoomed}
 use Rattle.wave_decode.specs.MapParts.{AreEntries, value_type_due}
-use Rattle.wave_decode.specs.Payloads.{AreOfSome, AreOfResult, result_node}
+use Rattle.wave_decode.specs.Payloads.{AreOfSome, AreOfResult, result_node, some_due, result_due}
 use Rattle.wave_decode.specs.ListParts.{AreItems, element_due}
 use Rattle.wave_decode.specs.RecordParts.{AreFields, type_due}
 use Rattle.wave_decode.specs.TupleParts.{IsRow, item_due}
@@ -40,8 +40,8 @@ IsSimpleAt type_tree T _ = ⊥
 abbrev pub next_due : {S V : Type 0} → Parts S V → Option (Bor S)
 next_due (parts.Items x) = element_due x
 next_due (parts.Row x) = item_due x
-next_due (parts.OfSome x) = Some x.due
-next_due (parts.OfResult x) = x.due
+next_due (parts.OfSome x) = some_due x
+next_due (parts.OfResult x) = result_due x
 next_due (parts.OfCase x) = payload_due x
 next_due (parts.Fields x) = type_due x
 next_due (parts.Entries x) = value_type_due x
@@ -58,5 +58,9 @@ module _ {S V : Type 0} (type_tree : S → TypeTree) (tree : V → Value) (of : 
   AreParts T source ty children (parts.OfSome x) = (ty ≡ kind.OptionSome) × AreOfSome type_tree tree of Full T source children x
   AreParts T source ty children (parts.OfResult x) = (ty ≡ result_node x.is_ok) × AreOfResult type_tree tree of Full T source children x
   AreParts T source ty children (parts.OfCase x) = (ty ≡ kind.VariantWithPayload) × AreCaseParts type_tree tree of Full T source children x
-  AreParts T source ty children (parts.Fields x) = (ty ≡ kind.TupleSet) × AreFields tree of Full type_tree T source children x
-  AreParts T source ty children (parts.Entries x) = (ty ≡ kind.TupleSet) × AreEntries tree of Full type_tree T source children x
+  AreParts T source ty children (parts.Fields x) = (ty ≡ kind.TupleSet) × AreFields type_tree tree of Full T source children x
+  AreParts T source ty children (parts.Entries x) = (ty ≡ kind.TupleSet) × AreEntries type_tree tree of Full T source children x
+
+  -- the parts of a value at a node of this type with parts, before the first of them
+  abbrev pub AreNoPartsYet : TypeTree → NodeType → Parts S V → Type 0
+  AreNoPartsYet T ty x = (source : List ℕ) → IsOfParts ty → AreParts T source ty [] x

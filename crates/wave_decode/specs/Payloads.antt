@@ -1,5 +1,6 @@
 -- What has been read of the payload of `some`, `ok` or `err`.
 use Rattle.std.specs.Prelude.{ℕ, ◌≡◌, Bool, true, false, List, [], ◌∷◌, Option, Some, None, Result, Ok, Err, codes}
+use Rattle.std.specs.Borrow.{Bor}
 use Rattle.wave_wasm.specs.Types as type
 use Rattle.wave_wasm.specs.Types.{TypeTree, result_parts}
 use Rattle.wave_wasm.specs.Values.{Value}
@@ -12,6 +13,14 @@ use Rattle.wave_syntax.specs.declared.form.NodeType.TheVariants as node_type
 use Rattle.wave_leaf.specs.Reading.{IsReadWhereDue}
 use Rattle.wave_decode.specs.declared.options.SomePayload.{SomePayload}
 use Rattle.wave_decode.specs.declared.results.ResultPayload.{ResultPayload}
+
+-- the type of the payload of `some`
+abbrev pub some_due : {S V : Type 0} → SomePayload S V → Option (Bor S)
+some_due x = Some x.due
+
+-- the type of the payload of `ok` or `err`, where one is due
+abbrev pub result_due : {S V : Type 0} → ResultPayload S V → Option (Bor S)
+result_due x = x.due
 
 -- the type of a node of `ok`, and of `err`
 abbrev pub result_node : Bool → NodeType

@@ -117,10 +117,10 @@ module _ {S V : Type 0} (Full : TypeTree → Type 0) (type_tree : S → TypeTree
       (e.kind ≡ OutOfMemory)
       ⊎ SomeOf (λ f. (f.value ≡ None) × (HasDistinctNames (type_tree f.ty.now) → IsMissing Full (type_tree f.ty.now) f.name.now n e)) fields
 
-module _ {V : Type 0} (tree : V → Value) (of : V → TypeTree → Type 0) (Full : TypeTree → Type 0) {S : Type 0} (type_tree : S → TypeTree) where
+module _ {S V : Type 0} (type_tree : S → TypeTree) (tree : V → Value) (of : V → TypeTree → Type 0) (Full : TypeTree → Type 0) where
   -- each field has the value of its entry, where one is for it
-  abbrev pub AreKept : List ℕ → List (List ℕ × NodeTree) → List (Field S V) → Type 0
-  AreKept source given fields = AllOf (λ f. IsKeptAs tree of Full (type_tree f.ty.now) source (look_up given f.name.now) f.value) fields
+  abbrev pub AreKeptAs : List ℕ → List (List ℕ × NodeTree) → List (Field S V) → Type 0
+  AreKeptAs source given fields = AllOf (λ f. IsKeptAs tree of Full (type_tree f.ty.now) source (look_up given f.name.now) f.value) fields
 
   -- what was read of these nodes: entries of distinct names of the type's fields, and perhaps a key
   pub record AreBegun (T : TypeTree) (source : List ℕ) (children : List NodeTree) (x : Fields S V) : Type 0 where
@@ -128,7 +128,7 @@ module _ {V : Type 0} (tree : V → Value) (of : V → TypeTree → Type 0) (Ful
     pub known : AllOf (IsOneOf (map field_name x.fields.items)) (names_of (fields_at source children))
     pub due : IsKeyDue source x.fields.items (last_key children) x.due
     pub distinct : HasDistinctNames T → AreDistinct (names_of (fields_at source children))
-    pub kept : HasDistinctNames T → AreKept source (fields_at source children) x.fields.items
+    pub kept : HasDistinctNames T → AreKeptAs source (fields_at source children) x.fields.items
 
   -- these are the fields of a record of the type
   pub record AreFields (T : TypeTree) (source : List ℕ) (children : List NodeTree) (x : Fields S V) : Type 0 where

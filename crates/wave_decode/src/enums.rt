@@ -1,12 +1,11 @@
 //! Enums, read at their types.
-ghost use Rattle.std.specs.Prelude.{ℕ, List, ◌≡◌};
+ghost use Rattle.std.specs.Prelude.{◌≡◌};
 ghost use Rattle.wave_wasm.specs.Types.{kind_of};
 ghost use Rattle.wave_wasm.specs.ValueErrors.{unknown_case};
 ghost use Rattle.wave_syntax.specs.NodeTree.{place_of};
 ghost use Rattle.wave_syntax.specs.Shared.TypedReading.{IsCaused};
-ghost use Rattle.wave_leaf.specs.Leaves.{leaf_node, IsLeafIn};
-ghost use Rattle.wave_syntax.specs.NodeParts.{IsOneToken};
-ghost use Rattle.wave_leaf.specs.Reading.{IsReadAs};
+ghost use Rattle.wave_leaf.specs.Leaves.{leaf_node};
+ghost use Rattle.wave_leaf.specs.Reading.{IsReadOfLeaf};
 
 use std::alloc::Global;
 use wave_grammar::label::label_name;
@@ -23,7 +22,7 @@ pub(crate) fn read_enum<V: WasmValue>(
     ty: &V::Type,
 ) -> Result<V, ParserError>
     requires { kind_of (V.Type.tree ty.now) ≡ WasmTypeKind.Enum }
-    ensures { (source : List ℕ) → IsOneToken leaf.now.ty → IsLeafIn source leaf.now → IsReadAs V.tree V.is_of V.is_full (V.Type.tree ty.now) source (leaf_node leaf.now) result }
+    ensures { IsReadOfLeaf V.tree V.is_of V.is_full (V.Type.tree ty.now) leaf.now result }
 {
     if leaf.ty != NodeType::Label {
         return Err(leaf.error(ParserErrorKind::InvalidType));

@@ -7,9 +7,8 @@ ghost use Rattle.wave_wasm.specs.ValueErrors.{unknown_case};
 ghost use Rattle.wave_syntax.specs.NodeTree.{NodeTree, node, no_nodes, children_of};
 ghost use Rattle.wave_syntax.specs.declared.form.NodeType.TheVariants as node_type;
 ghost use Rattle.wave_syntax.specs.NodeFlags.{AreFlags, names_at};
-ghost use Rattle.wave_syntax.specs.FlagParts.{AreFlagsOf, flag_nodes};
 ghost use Rattle.wave_leaf.specs.Reading.{IsReadAs};
-ghost use Rattle.wave_decode.specs.NamedFlags.{flag_names, IsReadOrTold, IsTold, TellsCause, TellsUnknown};
+ghost use Rattle.wave_decode.specs.NamedFlags.{flag_names, IsReadOrTold, IsTold, TellsCause, TellsUnknown, IsReadOfFlags};
 
 use crate::fault::{Fault, caused};
 use std::alloc::Global;
@@ -26,7 +25,7 @@ pub(crate) fn read_flags<V: WasmValue>(
     flags: BTreeMap<&str, Span>,
 ) -> Result<V, ParserError>
     requires { kind_of (V.Type.tree ty.now) ≡ WasmTypeKind.Flags }
-    ensures { (source : List ℕ) → AreFlagsOf source flags.entry → IsReadAs V.tree V.is_of V.is_full (V.Type.tree ty.now) source (node node_type.Flags span (flag_nodes flags.entry)) result }
+    ensures { IsReadOfFlags V.tree V.is_of V.is_full (V.Type.tree ty.now) span flags.entry result }
 {
     told(read_names(alloc, ty, flags), span)
 }
@@ -50,7 +49,8 @@ fn read_names<V: WasmValue>(
     flags: BTreeMap<&str, Span>,
 ) -> Result<V, Fault>
     requires { kind_of (V.Type.tree ty.now) ≡ WasmTypeKind.Flags }
-    ensures { (source : List ℕ) (n : NodeTree) → AreFlags n → names_at source (children_of n) ≡ flag_names flags.entry → IsReadOrTold V.tree V.is_of V.is_full (V.Type.tree ty.now) source n result }
+    ensures { (source : List ℕ) (n : NodeTree) → AreFlags n → names_at source (children_of n) ≡ flag_names flags.entry
+        → IsReadOrTold V.tree V.is_of V.is_full (V.Type.tree ty.now) source n result }
 {
     let names = match ty.flags_names(alloc) {
         Ok(names) => names,
@@ -70,7 +70,8 @@ fn picked<'name>(
     flags: BTreeMap<&str, Span>,
 ) -> Result<Vec<&'name str>, Fault>
     ensures known { IfOk result (λ _. AreAllOf (texts names.now.items) (flag_names flags.entry)) }
-    ensures picked { IfOk result (λ picked. AreDistinct (texts names.now.items) → texts picked.items ≡ found_in (flag_names flags.entry) (texts names.now.items)) }
+    ensures picked { IfOk result (λ picked. AreDistinct (texts names.now.items)
+        → texts picked.items ≡ found_in (flag_names flags.entry) (texts names.now.items)) }
     ensures refused { IfErr result (TellsUnknown (texts names.now.items) (flag_names flags.entry)) }
 {
     let mut left = flags;

@@ -56,7 +56,8 @@ pub(crate) fn around<V: WasmValue>(
     span: Span,
     made: Result<V, ParserError>,
 ) -> Result<V, ParserError>
-    ensures { (source : List ℕ) (n : NodeTree) (U : TypeTree) → IsFlatAt (V.Type.tree ty.now) (type_of n) U → place_of n ≡ span → IsReadAs V.tree V.is_of V.is_full U source n made → IsReadAs V.tree V.is_of V.is_full (V.Type.tree ty.now) source n result }
+    ensures { (source : List ℕ) (n : NodeTree) (U : TypeTree) → IsFlatAt (V.Type.tree ty.now) (type_of n) U → place_of n ≡ span
+        → IsReadAs V.tree V.is_of V.is_full U source n made → IsReadAs V.tree V.is_of V.is_full (V.Type.tree ty.now) source n result }
 {
     let val = match made {
         Ok(val) => val,

@@ -1,13 +1,9 @@
 //! Values without parts: of one token, or flags.
-ghost use Rattle.std.specs.Prelude.{ℕ, ◌≡◌, List};
 ghost use Rattle.wave_wasm.specs.Types.{TypeTree};
-ghost use Rattle.wave_syntax.specs.NodeTree.{node};
 ghost use Rattle.wave_syntax.specs.declared.form.NodeType.TheVariants as node_type;
-ghost use Rattle.wave_syntax.specs.FlagParts.{AreFlagsOf, flag_nodes};
-ghost use Rattle.wave_leaf.specs.Leaves.{leaf_node, IsLeafIn};
-ghost use Rattle.wave_syntax.specs.NodeParts.{IsOneToken};
-ghost use Rattle.wave_leaf.specs.Reading.{IsReadAs};
 ghost use Rattle.wave_decode.specs.Flat.{IsFlatAt};
+ghost use Rattle.wave_decode.specs.NamedFlags.{IsReadOfFlags};
+ghost use Rattle.wave_leaf.specs.Reading.{IsReadOfLeaf};
 
 use crate::enums::read_enum;
 use crate::flags::read_flags;
@@ -31,7 +27,7 @@ pub(crate) fn read_leaf<V: WasmValue>(
     alloc: Global,
     ty: &V::Type,
 ) -> Result<V, ParserError>
-    ensures { (source : List ℕ) → IsOneToken leaf.now.ty → IsLeafIn source leaf.now → IsReadAs V.tree V.is_of V.is_full (V.Type.tree ty.now) source (leaf_node leaf.now) result }
+    ensures { IsReadOfLeaf V.tree V.is_of V.is_full (V.Type.tree ty.now) leaf.now result }
 {
     match flat_payload(ty, leaf.ty) {
         Some(payload) => {
@@ -50,7 +46,7 @@ fn read_directly<V: WasmValue>(
     ty: &V::Type,
 ) -> Result<V, ParserError>
     requires { (U : TypeTree) → IsFlatAt (V.Type.tree ty.now) leaf.now.ty U → ⊥ }
-    ensures { (source : List ℕ) → IsOneToken leaf.now.ty → IsLeafIn source leaf.now → IsReadAs V.tree V.is_of V.is_full (V.Type.tree ty.now) source (leaf_node leaf.now) result }
+    ensures { IsReadOfLeaf V.tree V.is_of V.is_full (V.Type.tree ty.now) leaf.now result }
 {
     match ty.kind() {
         WasmTypeKind::List
@@ -81,7 +77,7 @@ pub(crate) fn flags_at<V: WasmValue>(
     span: Span,
     flags: BTreeMap<&str, Span>,
 ) -> Result<V, ParserError>
-    ensures { (source : List ℕ) → AreFlagsOf source flags.entry → IsReadAs V.tree V.is_of V.is_full (V.Type.tree ty.now) source (node node_type.Flags span (flag_nodes flags.entry)) result }
+    ensures { IsReadOfFlags V.tree V.is_of V.is_full (V.Type.tree ty.now) span flags.entry result }
 {
     match flat_payload(ty, NodeType::Flags) {
         Some(payload) => {
@@ -100,7 +96,7 @@ fn flags_directly<V: WasmValue>(
     flags: BTreeMap<&str, Span>,
 ) -> Result<V, ParserError>
     requires { (U : TypeTree) → IsFlatAt (V.Type.tree ty.now) node_type.Flags U → ⊥ }
-    ensures { (source : List ℕ) → AreFlagsOf source flags.entry → IsReadAs V.tree V.is_of V.is_full (V.Type.tree ty.now) source (node node_type.Flags span (flag_nodes flags.entry)) result }
+    ensures { IsReadOfFlags V.tree V.is_of V.is_full (V.Type.tree ty.now) span flags.entry result }
 {
     match ty.kind() {
         WasmTypeKind::Flags => read_flags(alloc, ty, span, flags),

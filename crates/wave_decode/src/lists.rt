@@ -1,12 +1,11 @@
 //! Lists and fixed-length lists, read at their types.
-ghost use Rattle.std.specs.Prelude.{ℕ, List, [], ◌∷◌, ◌++◌, ◌≡◌, IfOk, IfErr};
-ghost use Rattle.wave_wasm.specs.Types.{TypeTree, kind_of};
-ghost use Rattle.wave_wasm.specs.Borrowed.{shown};
+ghost use Rattle.std.specs.Prelude.{ℕ, List, [], ◌≡◌, IfOk, IfErr, None};
+ghost use Rattle.wave_wasm.specs.Types.{kind_of};
 ghost use Rattle.wave_wasm.specs.ConstructorContracts.{IsOfListKind};
-ghost use Rattle.wave_syntax.specs.NodeTree.{NodeTree, NodeTrees, node, node_trees};
+ghost use Rattle.wave_syntax.specs.NodeTree.{NodeTrees, node};
 ghost use Rattle.wave_syntax.specs.Shared.TypedReading.{IsOfLength, IsOtherLength};
-ghost use Rattle.wave_leaf.specs.Reading.{IsReadAs, IsReadWhereDue};
 ghost use Rattle.wave_decode.specs.ListParts.{AreItems, element_due};
+ghost use Rattle.wave_decode.specs.PartSteps.{AddsPart, IsWholeOf};
 
 use crate::fault::or_error_at;
 use std::alloc::{AllocError, Global};
@@ -65,7 +64,7 @@ impl<'ty, V: WasmValue> Items<'ty, V::Type, V> {
         alloc: Global,
         made: Result<V, Failure>,
     ) -> Result<(), AllocError>
-        ensures { IfOk result (λ _. (T : TypeTree) (source : List ℕ) (children : List NodeTree) (n : NodeTree) → AreItems V.Type.tree V.tree V.is_of V.is_full T source children self.old → IsReadWhereDue V.tree V.is_of V.is_full (shown V.Type.tree (element_due self.old)) source n made → AreItems V.Type.tree V.tree V.is_of V.is_full T source (children ++ n ∷ []) self.new) }
+        ensures { IfOk result (λ _. AddsPart AreItems V.Type.tree V.tree V.is_of V.is_full NodeType.List element_due self.old made self.new None) }
     {
         match self.count.checked_add(1) {
             Some(count) => self.count = count,
@@ -88,7 +87,7 @@ impl<'ty, V: WasmValue> Items<'ty, V::Type, V> {
 
     /// The list of these items, which stands here.
     pub(crate) fn whole(self, alloc: Global, span: Span) -> Result<V, ParserError>
-        ensures { (T : TypeTree) (source : List ℕ) (children : List NodeTree) → AreItems V.Type.tree V.tree V.is_of V.is_full T source children self.entry → IsReadAs V.tree V.is_of V.is_full T source (node NodeType.List span (node_trees children)) result }
+        ensures { IsWholeOf AreItems V.Type.tree V.tree V.is_of V.is_full NodeType.List self.entry span result }
     {
         let Items {
             ty,

@@ -1,13 +1,10 @@
 //! Maps, whose keys and values are read in turn.
-ghost use Rattle.std.specs.Prelude.{ℕ, List, [], ◌∷◌, ◌++◌, ◌≡◌, IfOk, MatchOption};
-ghost use Rattle.wave_wasm.specs.Types.{TypeTree, kind_of};
-ghost use Rattle.wave_wasm.specs.Borrowed.{shown};
-ghost use Rattle.wave_grammar.specs.SpannedTree.{slice};
-ghost use Rattle.wave_syntax.specs.NodeTree.{NodeTree, node, no_nodes, node_trees};
-ghost use Rattle.wave_syntax.specs.NodeParts.{TakesKey, TakesPart};
-ghost use Rattle.wave_leaf.specs.Reading.{IsReadAs, IsReadWhereDue};
-ghost use Rattle.wave_decode.specs.Faults.{IsDoomed};
+ghost use Rattle.std.specs.Prelude.{ℕ, List, [], ◌≡◌, IfOk};
+ghost use Rattle.wave_wasm.specs.Types.{kind_of};
+ghost use Rattle.wave_syntax.specs.NodeTree.{node, no_nodes};
+ghost use Rattle.wave_leaf.specs.Reading.{IsReadAs};
 ghost use Rattle.wave_decode.specs.MapParts.{AreEntries, value_type_due};
+ghost use Rattle.wave_decode.specs.PartSteps.{AddsKey, AddsPart, IsWholeOf};
 
 use crate::fault::Fault;
 use std::alloc::{AllocError, Global};
@@ -33,7 +30,7 @@ impl<'ty, V: WasmValue> Entries<'ty, V::Type, V> {
     /// No entries of a map of the type.
     pub(crate) fn new(alloc: Global, ty: &'ty V::Type) -> Self
         requires { kind_of (V.Type.tree ty.now) ≡ WasmTypeKind.Map }
-        ensures { (source : List ℕ) → AreEntries V.tree V.is_of V.is_full V.Type.tree (V.Type.tree ty.now) source [] result }
+        ensures { (source : List ℕ) → AreEntries V.Type.tree V.tree V.is_of V.is_full (V.Type.tree ty.now) source [] result }
     {
         let (key_type, value_type) = ty.map_key_value_types().unwrap();
         Entries {
@@ -63,8 +60,7 @@ impl<'ty, V: WasmValue> Entries<'ty, V::Type, V> {
         span: Span,
         text: &str,
     ) -> Result<Option<Fault>, AllocError>
-        ensures { IfOk result (λ found. (T : TypeTree) (source : List ℕ) (children : List NodeTree) → text.now ≡ slice source span → TakesKey NodeType.TupleSet children → AreEntries V.tree V.is_of V.is_full V.Type.tree T source children self.old
-            → MatchOption found (AreEntries V.tree V.is_of V.is_full V.Type.tree T source (children ++ node ty span no_nodes ∷ []) self.new) (IsDoomed V.tree V.is_of V.is_full T source NodeType.TupleSet (children ++ node ty span no_nodes ∷ []))) }
+        ensures { IfOk result (AddsKey AreEntries V.Type.tree V.tree V.is_of V.is_full NodeType.TupleSet self.old ty span text.now self.new) }
     {
         let leaf = Leaf { ty, span, text };
         match leaf.read_key::<V>(alloc, self.key_type) {
@@ -86,8 +82,7 @@ impl<'ty, V: WasmValue> Entries<'ty, V::Type, V> {
         alloc: Global,
         made: Result<V, Failure>,
     ) -> Result<Option<Fault>, AllocError>
-        ensures { IfOk result (λ found. (T : TypeTree) (source : List ℕ) (children : List NodeTree) (n : NodeTree) → TakesPart NodeType.TupleSet children → AreEntries V.tree V.is_of V.is_full V.Type.tree T source children self.old → IsReadWhereDue V.tree V.is_of V.is_full (shown V.Type.tree (value_type_due self.old)) source n made
-            → MatchOption found (AreEntries V.tree V.is_of V.is_full V.Type.tree T source (children ++ n ∷ []) self.new) (IsDoomed V.tree V.is_of V.is_full T source NodeType.TupleSet (children ++ n ∷ []))) }
+        ensures { IfOk result (AddsPart AreEntries V.Type.tree V.tree V.is_of V.is_full NodeType.TupleSet value_type_due self.old made self.new) }
     {
         match made {
             Ok(val) => match self.key.take() {
@@ -103,7 +98,7 @@ impl<'ty, V: WasmValue> Entries<'ty, V::Type, V> {
 
     /// The map of the entries, which stands here, each key once.
     pub(crate) fn whole(self, alloc: Global, span: Span) -> Result<V, ParserError>
-        ensures { (T : TypeTree) (source : List ℕ) (children : List NodeTree) → AreEntries V.tree V.is_of V.is_full V.Type.tree T source children self.entry → IsReadAs V.tree V.is_of V.is_full T source (node NodeType.TupleSet span (node_trees children)) result }
+        ensures { IsWholeOf AreEntries V.Type.tree V.tree V.is_of V.is_full NodeType.TupleSet self.entry span result }
     {
         let Entries { ty, entries, .. } = self;
         let entries = match merged(alloc, entries) {

@@ -1,12 +1,11 @@
 //! Options, read at their types.
-ghost use Rattle.std.specs.Prelude.{ℕ, List, [], ◌∷◌, ◌++◌, ◌≡◌, Some, IfOk};
-ghost use Rattle.wave_wasm.specs.Types.{TypeTree, kind_of};
-ghost use Rattle.wave_syntax.specs.NodeTree.{NodeTree, node, node_trees};
+ghost use Rattle.std.specs.Prelude.{ℕ, List, [], ◌≡◌, IfOk, None};
+ghost use Rattle.wave_wasm.specs.Types.{kind_of};
 ghost use Rattle.wave_syntax.specs.declared.form.NodeType.TheVariants as node_type;
 ghost use Rattle.wave_leaf.specs.Leaves.{leaf_node};
-ghost use Rattle.wave_syntax.specs.NodeParts.{TakesPart};
-ghost use Rattle.wave_leaf.specs.Reading.{IsReadAs, IsReadWhereDue};
-ghost use Rattle.wave_decode.specs.Payloads.{AreOfSome};
+ghost use Rattle.wave_leaf.specs.Reading.{IsReadAs};
+ghost use Rattle.wave_decode.specs.Payloads.{AreOfSome, some_due};
+ghost use Rattle.wave_decode.specs.PartSteps.{AddsPart, IsWholeOf};
 
 use crate::fault::or_error_at;
 use std::alloc::{AllocError, Global};
@@ -42,7 +41,7 @@ impl<'ty, V: WasmValue> SomePayload<'ty, V::Type, V> {
 
     /// The type of the payload.
     pub(crate) fn next(&self) -> Option<&'ty V::Type>
-        ensures { result ≡ Some self.now.due }
+        ensures { result ≡ some_due self.now }
     {
         Some(self.due)
     }
@@ -53,7 +52,7 @@ impl<'ty, V: WasmValue> SomePayload<'ty, V::Type, V> {
         alloc: Global,
         made: Result<V, Failure>,
     ) -> Result<(), AllocError>
-        ensures { IfOk result (λ _. (T : TypeTree) (source : List ℕ) (children : List NodeTree) (n : NodeTree) → TakesPart node_type.OptionSome children → AreOfSome V.Type.tree V.tree V.is_of V.is_full T source children self.old → IsReadWhereDue V.tree V.is_of V.is_full (Some (V.Type.tree self.old.due.now)) source n made → AreOfSome V.Type.tree V.tree V.is_of V.is_full T source (children ++ n ∷ []) self.new) }
+        ensures { IfOk result (λ _. AddsPart AreOfSome V.Type.tree V.tree V.is_of V.is_full node_type.OptionSome some_due self.old made self.new None) }
     {
         self.made = Some(made);
         Ok(())
@@ -61,7 +60,7 @@ impl<'ty, V: WasmValue> SomePayload<'ty, V::Type, V> {
 
     /// `some` of the payload that was read, at this place.
     pub(crate) fn whole(self, alloc: Global, span: Span) -> Result<V, ParserError>
-        ensures { (T : TypeTree) (source : List ℕ) (children : List NodeTree) → AreOfSome V.Type.tree V.tree V.is_of V.is_full T source children self.entry → IsReadAs V.tree V.is_of V.is_full T source (node node_type.OptionSome span (node_trees children)) result }
+        ensures { IsWholeOf AreOfSome V.Type.tree V.tree V.is_of V.is_full node_type.OptionSome self.entry span result }
     {
         let SomePayload { ty, due: _, made } = self;
         match made {

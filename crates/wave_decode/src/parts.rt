@@ -1,17 +1,16 @@
 //! The parts of a value of any type.
-ghost use Rattle.std.specs.Prelude.{ℕ, ◌≡◌, ◌⊎◌, ◌++◌, List, [], ◌∷◌, None, IfOk, IfErr, IsOk, MatchOption};
+ghost use Rattle.std.specs.Prelude.{ℕ, ◌≡◌, ◌++◌, List, [], ◌∷◌, None, IfOk, IfErr, IsOk, MatchOption};
 ghost use Rattle.wave_wasm.specs.Types.{TypeTree, kind_of};
 ghost use Rattle.wave_wasm.specs.ConstructorContracts.{IsOfListKind};
 ghost use Rattle.wave_wasm.specs.Borrowed.{shown};
 ghost use Rattle.wave_grammar.specs.SpannedTree.{slice};
-ghost use Rattle.wave_syntax.specs.NodeTree.{NodeTree, node, no_nodes, node_trees, type_of, place_of};
-ghost use Rattle.wave_syntax.specs.NodeParts.{IsOfParts, TakesKey, TakesPart};
-ghost use Rattle.wave_leaf.specs.Leaves.{IsSimpleOrUnreadable};
+ghost use Rattle.wave_syntax.specs.NodeTree.{NodeTree, node, no_nodes, node_trees};
+ghost use Rattle.wave_syntax.specs.NodeParts.{TakesKey, TakesPart};
 ghost use Rattle.wave_leaf.specs.PlainReading.{IsPlain};
-ghost use Rattle.wave_leaf.specs.Reading.{IsReadAs, IsReadWhereDue};
+ghost use Rattle.wave_leaf.specs.Reading.{IsReadAs, IsReadWhereDue, IsReadOfForm};
 ghost use Rattle.wave_lex.specs.Errors.{Says};
 ghost use Rattle.wave_decode.specs.Flat.{IsFlatAt};
-ghost use Rattle.wave_decode.specs.PartsOfKinds.{AreParts, IsBare, IsSimpleAt, TakesEmptySet, next_due};
+ghost use Rattle.wave_decode.specs.PartsOfKinds.{AreParts, IsBare, IsSimpleAt, TakesEmptySet, next_due, AreNoPartsYet};
 ghost use Rattle.wave_decode.specs.declared.parts.Parts.TheVariants as parts;
 ghost use Rattle.wave_decode.specs.declared.fault.Fault.TheVariants as fault;
 ghost use Rattle.wave_lex.specs.declared.error.ParserErrorKind.TheVariants as why;
@@ -64,7 +63,7 @@ impl<'ty, V: WasmValue> Parts<'ty, V::Type, V> {
     #[inline(always)]
     pub(crate) fn new(alloc: Global, ty: &'ty V::Type, of: NodeType) -> Self
         requires { (U : TypeTree) → IsFlatAt (V.Type.tree ty.now) of U → ⊥ }
-        ensures begun { (source : List ℕ) → IsOfParts of → AreParts V.Type.tree V.tree V.is_of V.is_full (V.Type.tree ty.now) source of [] result }
+        ensures begun { AreNoPartsYet V.Type.tree V.tree V.is_of V.is_full (V.Type.tree ty.now) of result }
         ensures plain { IsPlain (V.Type.tree ty.now) → IsSimpleAt V.Type.tree (V.Type.tree ty.now) result }
     {
         match ty.kind() {
@@ -84,7 +83,7 @@ impl<'ty, V: WasmValue> Parts<'ty, V::Type, V> {
     /// No items yet of a list.
     fn of_list(alloc: Global, ty: &'ty V::Type, of: NodeType) -> Self
         requires { IsOfListKind (kind_of (V.Type.tree ty.now)) }
-        ensures { (source : List ℕ) → IsOfParts of → AreParts V.Type.tree V.tree V.is_of V.is_full (V.Type.tree ty.now) source of [] result }
+        ensures { AreNoPartsYet V.Type.tree V.tree V.is_of V.is_full (V.Type.tree ty.now) of result }
     {
         match of {
             NodeType::List => Parts::Items(Items::new(alloc, ty)),
@@ -95,7 +94,7 @@ impl<'ty, V: WasmValue> Parts<'ty, V::Type, V> {
     /// No items yet of a tuple.
     fn of_tuple(alloc: Global, ty: &'ty V::Type, of: NodeType) -> Self
         requires { kind_of (V.Type.tree ty.now) ≡ WasmTypeKind.Tuple }
-        ensures { (source : List ℕ) → IsOfParts of → AreParts V.Type.tree V.tree V.is_of V.is_full (V.Type.tree ty.now) source of [] result }
+        ensures { AreNoPartsYet V.Type.tree V.tree V.is_of V.is_full (V.Type.tree ty.now) of result }
     {
         match of {
             NodeType::Tuple => match Row::new(alloc, ty) {
@@ -109,7 +108,7 @@ impl<'ty, V: WasmValue> Parts<'ty, V::Type, V> {
     /// No fields yet of a record.
     fn of_record(alloc: Global, ty: &'ty V::Type, of: NodeType) -> Self
         requires { kind_of (V.Type.tree ty.now) ≡ WasmTypeKind.Record }
-        ensures { (source : List ℕ) → IsOfParts of → AreParts V.Type.tree V.tree V.is_of V.is_full (V.Type.tree ty.now) source of [] result }
+        ensures { AreNoPartsYet V.Type.tree V.tree V.is_of V.is_full (V.Type.tree ty.now) of result }
     {
         match of {
             NodeType::TupleSet => match Fields::new(alloc, ty) {
@@ -123,7 +122,7 @@ impl<'ty, V: WasmValue> Parts<'ty, V::Type, V> {
     /// No entries yet of a map.
     fn of_map(alloc: Global, ty: &'ty V::Type, of: NodeType) -> Self
         requires { kind_of (V.Type.tree ty.now) ≡ WasmTypeKind.Map }
-        ensures { (source : List ℕ) → IsOfParts of → AreParts V.Type.tree V.tree V.is_of V.is_full (V.Type.tree ty.now) source of [] result }
+        ensures { AreNoPartsYet V.Type.tree V.tree V.is_of V.is_full (V.Type.tree ty.now) of result }
     {
         match of {
             NodeType::TupleSet => Parts::Entries(Entries::new(alloc, ty)),
@@ -135,7 +134,7 @@ impl<'ty, V: WasmValue> Parts<'ty, V::Type, V> {
     /// No flags.
     fn of_flags(ty: &'ty V::Type, of: NodeType) -> Self
         requires { kind_of (V.Type.tree ty.now) ≡ WasmTypeKind.Flags }
-        ensures { (source : List ℕ) → IsOfParts of → AreParts V.Type.tree V.tree V.is_of V.is_full (V.Type.tree ty.now) source of [] result }
+        ensures { AreNoPartsYet V.Type.tree V.tree V.is_of V.is_full (V.Type.tree ty.now) of result }
     {
         match of {
             NodeType::EmptySet => Parts::Empty(ty),
@@ -146,7 +145,7 @@ impl<'ty, V: WasmValue> Parts<'ty, V::Type, V> {
     /// Nothing yet of a case and its payload.
     fn of_variant(ty: &'ty V::Type, of: NodeType) -> Self
         requires { kind_of (V.Type.tree ty.now) ≡ WasmTypeKind.Variant }
-        ensures { (source : List ℕ) → IsOfParts of → AreParts V.Type.tree V.tree V.is_of V.is_full (V.Type.tree ty.now) source of [] result }
+        ensures { AreNoPartsYet V.Type.tree V.tree V.is_of V.is_full (V.Type.tree ty.now) of result }
     {
         match of {
             NodeType::VariantWithPayload => Parts::OfCase(CasePayload::new(ty)),
@@ -158,7 +157,7 @@ impl<'ty, V: WasmValue> Parts<'ty, V::Type, V> {
     fn of_option(ty: &'ty V::Type, of: NodeType) -> Self
         requires kind { kind_of (V.Type.tree ty.now) ≡ WasmTypeKind.Option }
         requires flat { (U : TypeTree) → IsFlatAt (V.Type.tree ty.now) of U → ⊥ }
-        ensures { (source : List ℕ) → IsOfParts of → AreParts V.Type.tree V.tree V.is_of V.is_full (V.Type.tree ty.now) source of [] result }
+        ensures { AreNoPartsYet V.Type.tree V.tree V.is_of V.is_full (V.Type.tree ty.now) of result }
     {
         match of {
             NodeType::OptionSome => Parts::OfSome(SomePayload::new(ty)),
@@ -170,7 +169,7 @@ impl<'ty, V: WasmValue> Parts<'ty, V::Type, V> {
     fn of_result(ty: &'ty V::Type, of: NodeType) -> Self
         requires kind { kind_of (V.Type.tree ty.now) ≡ WasmTypeKind.Result }
         requires flat { (U : TypeTree) → IsFlatAt (V.Type.tree ty.now) of U → ⊥ }
-        ensures { (source : List ℕ) → IsOfParts of → AreParts V.Type.tree V.tree V.is_of V.is_full (V.Type.tree ty.now) source of [] result }
+        ensures { AreNoPartsYet V.Type.tree V.tree V.is_of V.is_full (V.Type.tree ty.now) of result }
     {
         match of {
             NodeType::ResultOk => Parts::OfResult(ResultPayload::new(ty, true)),
@@ -217,8 +216,9 @@ impl<'ty, V: WasmValue> Parts<'ty, V::Type, V> {
         span: Span,
         text: &str,
     ) -> Result<(), AllocError>
-        ensures grown { IfOk result (λ _. (T : TypeTree) (source : List ℕ) (of : NodeType) (children : List NodeTree) → text.now ≡ slice source span → TakesKey of children
-            → AreParts V.Type.tree V.tree V.is_of V.is_full T source of children self.old → AreParts V.Type.tree V.tree V.is_of V.is_full T source of (children ++ node ty span no_nodes ∷ []) self.new) }
+        ensures grown { IfOk result (λ _. (T : TypeTree) (source : List ℕ) (of : NodeType) (children : List NodeTree)
+            → text.now ≡ slice source span → TakesKey of children → AreParts V.Type.tree V.tree V.is_of V.is_full T source of children self.old
+            → AreParts V.Type.tree V.tree V.is_of V.is_full T source of (children ++ node ty span no_nodes ∷ []) self.new) }
         ensures bare { IsBare self.old → (self.new ≡ self.old) × IsOk result }
     {
         let found = match self {
@@ -237,8 +237,9 @@ impl<'ty, V: WasmValue> Parts<'ty, V::Type, V> {
         alloc: Global,
         made: Result<V, Failure>,
     ) -> Result<(), AllocError>
-        ensures grown { IfOk result (λ _. (T : TypeTree) (source : List ℕ) (of : NodeType) (children : List NodeTree) (n : NodeTree) → TakesPart of children
-            → AreParts V.Type.tree V.tree V.is_of V.is_full T source of children self.old → IsReadWhereDue V.tree V.is_of V.is_full (shown V.Type.tree (next_due self.old)) source n made
+        ensures grown { IfOk result (λ _. (T : TypeTree) (source : List ℕ) (of : NodeType) (children : List NodeTree) (n : NodeTree)
+            → TakesPart of children → AreParts V.Type.tree V.tree V.is_of V.is_full T source of children self.old
+            → IsReadWhereDue V.tree V.is_of V.is_full (shown V.Type.tree (next_due self.old)) source n made
             → AreParts V.Type.tree V.tree V.is_of V.is_full T source of (children ++ n ∷ []) self.new) }
         ensures bare { IsBare self.old → (self.new ≡ self.old) × IsOk result }
     {
@@ -268,7 +269,8 @@ impl<'ty, V: WasmValue> Parts<'ty, V::Type, V> {
     /// The value of these parts, which stands here.
     pub(crate) fn whole(self, alloc: Global, span: Span) -> Result<V, ParserError>
         ensures read { (T : TypeTree) (source : List ℕ) (of : NodeType) (children : List NodeTree)
-            → AreParts V.Type.tree V.tree V.is_of V.is_full T source of children self.entry → IsReadAs V.tree V.is_of V.is_full T source (node of span (node_trees children)) result }
+            → AreParts V.Type.tree V.tree V.is_of V.is_full T source of children self.entry
+            → IsReadAs V.tree V.is_of V.is_full T source (node of span (node_trees children)) result }
         ensures plain { (T : TypeTree) → IsPlain T → IsSimpleAt V.Type.tree T self.entry → IfErr result (λ e. Says e why.InvalidType span None) }
     {
         match self {
@@ -288,7 +290,8 @@ impl<'ty, V: WasmValue> Parts<'ty, V::Type, V> {
 
 /// No flags, or no entries, where `{}` stands here.
 fn read_empty<V: WasmValue>(alloc: Global, ty: &V::Type, span: Span) -> Result<V, ParserError>
-    ensures { (source : List ℕ) → TakesEmptySet (V.Type.tree ty.now) → IsReadAs V.tree V.is_of V.is_full (V.Type.tree ty.now) source (node node_type.EmptySet span no_nodes) result }
+    ensures { (source : List ℕ) → TakesEmptySet (V.Type.tree ty.now)
+        → IsReadAs V.tree V.is_of V.is_full (V.Type.tree ty.now) source (node node_type.EmptySet span no_nodes) result }
 {
     match ty.kind() {
         WasmTypeKind::Flags => read_no_flags(alloc, ty, span),
@@ -303,7 +306,7 @@ pub(crate) fn refuse_simple<V: WasmValue>(
     ty: &V::Type,
     span: Span,
 ) -> Result<V, ParserError>
-    ensures read { (source : List ℕ) (n : NodeTree) → place_of n ≡ span → IsOfParts (type_of n) ⊎ (type_of n ≡ node_type.Flags) → IsSimpleOrUnreadable (V.Type.tree ty.now) → IsReadAs V.tree V.is_of V.is_full (V.Type.tree ty.now) source n result }
+    ensures read { IsReadOfForm V.tree V.is_of V.is_full (V.Type.tree ty.now) span result }
     ensures plain { IsPlain (V.Type.tree ty.now) → IfErr result (λ e. Says e why.InvalidType span None) }
 {
     let leaf = Leaf {

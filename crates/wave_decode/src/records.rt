@@ -1,20 +1,15 @@
 //! Records, whose fields are read in whatever order they stand.
-ghost use Rattle.std.specs.Prelude.{ℕ, List, [], ◌∷◌, ◌++◌, ◌≡◌, IfOk, IfErr, IfSome, map, MatchOption, MatchResult, Some, set, slice_get};
+ghost use Rattle.std.specs.Prelude.{ℕ, List, [], ◌≡◌, IfOk, IfErr, IfSome, map, MatchOption, MatchResult, Some, set, slice_get};
 ghost use Rattle.wave_wasm.specs.Names.{IsNoneOf};
-ghost use Rattle.wave_wasm.specs.Types.{TypeTree, HasDistinctNames, kind_of};
-ghost use Rattle.wave_wasm.specs.Borrowed.{shown};
-ghost use Rattle.wave_grammar.specs.LeafTokens.{name_of};
-ghost use Rattle.wave_grammar.specs.SpannedTree.{slice};
-ghost use Rattle.wave_syntax.specs.NodeTree.{NodeTree, node, no_nodes, node_trees, place_of};
+ghost use Rattle.wave_wasm.specs.Types.{HasDistinctNames, kind_of};
+ghost use Rattle.wave_syntax.specs.NodeTree.{NodeTree, place_of};
 ghost use Rattle.wave_syntax.specs.Shared.ErrorSpans.{RefusesAt};
 ghost use Rattle.wave_syntax.specs.Shared.NodeFields.{IsLeftOut, IsMissing};
-ghost use Rattle.wave_syntax.specs.NodeParts.{TakesKey, TakesPart};
-ghost use Rattle.wave_leaf.specs.Reading.{IsReadAs, IsReadWhereDue};
 ghost use Rattle.wave_lex.specs.Errors.{field_label_due, repeated_name};
 ghost use Rattle.wave_lex.specs.declared.error.ParserErrorKind.TheVariants.{InvalidType, DuplicateField, OutOfMemory};
-ghost use Rattle.wave_decode.specs.Faults.{IsDoomed};
 ghost use Rattle.wave_decode.specs.RecordParts.{AreFields, IsFieldKey, IsKeyFault, IsNamedAt, AreFull, IsLeftUnfilled, IsMissingOrMemory, IsToldAs, type_due, field_name, with_value};
 ghost use Rattle.wave_decode.specs.declared.records.Field.{Field};
+ghost use Rattle.wave_decode.specs.PartSteps.{AddsKey, AddsPart, IsWholeOf};
 
 use crate::fault::Fault;
 use std::alloc::{AllocError, Global};
@@ -140,7 +135,7 @@ impl<'ty, V: WasmValue> Fields<'ty, V::Type, V> {
     /// No values, for the fields of a record of the type.
     pub(crate) fn new(alloc: Global, ty: &'ty V::Type) -> Result<Self, AllocError>
         requires { kind_of (V.Type.tree ty.now) ≡ WasmTypeKind.Record }
-        ensures { IfOk result (λ new. (source : List ℕ) → AreFields V.tree V.is_of V.is_full V.Type.tree (V.Type.tree ty.now) source [] new) }
+        ensures { IfOk result (λ new. (source : List ℕ) → AreFields V.Type.tree V.tree V.is_of V.is_full (V.Type.tree ty.now) source [] new) }
     {
         let types = ty.record_fields(alloc)?;
         let mut fields = Vec::with_capacity(alloc, types.len())?;
@@ -178,8 +173,7 @@ impl<'ty, V: WasmValue> Fields<'ty, V::Type, V> {
         span: Span,
         text: &str,
     ) -> Result<Option<Fault>, AllocError>
-        ensures { IfOk result (λ found. (T : TypeTree) (source : List ℕ) (children : List NodeTree) → text.now ≡ slice source span → TakesKey NodeType.TupleSet children → AreFields V.tree V.is_of V.is_full V.Type.tree T source children self.old
-            → MatchOption found (AreFields V.tree V.is_of V.is_full V.Type.tree T source (children ++ node ty span no_nodes ∷ []) self.new) (IsDoomed V.tree V.is_of V.is_full T source NodeType.TupleSet (children ++ node ty span no_nodes ∷ []))) }
+        ensures { IfOk result (AddsKey AreFields V.Type.tree V.tree V.is_of V.is_full NodeType.TupleSet self.old ty span text.now self.new) }
     {
         match self.named(alloc, ty, span, text)? {
             Ok(due) => {
@@ -198,8 +192,7 @@ impl<'ty, V: WasmValue> Fields<'ty, V::Type, V> {
         alloc: Global,
         made: Result<V, Failure>,
     ) -> Result<Option<Fault>, AllocError>
-        ensures { IfOk result (λ found. (T : TypeTree) (source : List ℕ) (children : List NodeTree) (n : NodeTree) → TakesPart NodeType.TupleSet children → AreFields V.tree V.is_of V.is_full V.Type.tree T source children self.old → IsReadWhereDue V.tree V.is_of V.is_full (shown V.Type.tree (type_due self.old)) source n made
-            → MatchOption found (AreFields V.tree V.is_of V.is_full V.Type.tree T source (children ++ n ∷ []) self.new) (IsDoomed V.tree V.is_of V.is_full T source NodeType.TupleSet (children ++ n ∷ []))) }
+        ensures { IfOk result (AddsPart AreFields V.Type.tree V.tree V.is_of V.is_full NodeType.TupleSet type_due self.old made self.new) }
     {
         let Some((i, _)) = self.due.take() else {
             return Ok(None);
@@ -216,7 +209,7 @@ impl<'ty, V: WasmValue> Fields<'ty, V::Type, V> {
 
     /// The record of the fields, which stands here.
     pub(crate) fn whole(self, alloc: Global, span: Span) -> Result<V, ParserError>
-        ensures { (T : TypeTree) (source : List ℕ) (children : List NodeTree) → AreFields V.tree V.is_of V.is_full V.Type.tree T source children self.entry → IsReadAs V.tree V.is_of V.is_full T source (node NodeType.TupleSet span (node_trees children)) result }
+        ensures { IsWholeOf AreFields V.Type.tree V.tree V.is_of V.is_full NodeType.TupleSet self.entry span result }
     {
         let Fields { ty, fields, .. } = self;
         let fields = filled(alloc, fields, &span)?;
@@ -293,7 +286,8 @@ fn left_out<V: WasmValue>(
     ty: &V::Type,
     span: &Span,
 ) -> Result<V, ParserError>
-    ensures answer { (n : NodeTree) → place_of n ≡ span.now → HasDistinctNames (V.Type.tree ty.now) → MatchResult result (IsLeftOut V.tree V.is_of (V.Type.tree ty.now)) (IsMissing V.is_full (V.Type.tree ty.now) name.now n) }
+    ensures answer { (n : NodeTree) → place_of n ≡ span.now → HasDistinctNames (V.Type.tree ty.now)
+        → MatchResult result (IsLeftOut V.tree V.is_of (V.Type.tree ty.now)) (IsMissing V.is_full (V.Type.tree ty.now) name.now n) }
     ensures within { IfErr result (λ e. (n : NodeTree) → place_of n ≡ span.now → RefusesAt n e) }
 {
     let refusal = match ty.kind() {

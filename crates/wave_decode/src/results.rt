@@ -1,15 +1,15 @@
 //! Results, read at their types.
-ghost use Rattle.std.specs.Prelude.{ℕ, List, [], ◌∷◌, ◌++◌, ◌≡◌, IfOk, IfErr};
-ghost use Rattle.wave_wasm.specs.Types.{TypeTree, kind_of};
+ghost use Rattle.std.specs.Prelude.{ℕ, List, [], ◌≡◌, IfOk, IfErr, None};
+ghost use Rattle.wave_wasm.specs.Types.{kind_of};
 ghost use Rattle.wave_wasm.specs.Borrowed.{shown};
-ghost use Rattle.wave_syntax.specs.NodeTree.{NodeTree, node, node_trees, place_of};
+ghost use Rattle.wave_syntax.specs.NodeTree.{NodeTree, place_of};
 ghost use Rattle.wave_syntax.specs.NodeAccessors.{first_of};
 ghost use Rattle.wave_syntax.specs.Shared.TypedReading.{IsCaused, IsPayloadOf, AnswersPayload};
 ghost use Rattle.wave_syntax.specs.Shared.ErrorSpans.{RefusesInPart};
 ghost use Rattle.wave_leaf.specs.Leaves.{leaf_node};
-ghost use Rattle.wave_syntax.specs.NodeParts.{TakesPart};
-ghost use Rattle.wave_leaf.specs.Reading.{IsReadAs, IsReadWhereDue};
-ghost use Rattle.wave_decode.specs.Payloads.{AreOfResult, IsReadPayload, payload_cause, result_node, result_name, result_with};
+ghost use Rattle.wave_leaf.specs.Reading.{IsReadAs};
+ghost use Rattle.wave_decode.specs.Payloads.{AreOfResult, IsReadPayload, payload_cause, result_node, result_name, result_with, result_due};
+ghost use Rattle.wave_decode.specs.PartSteps.{AddsPart, IsWholeOf};
 
 use crate::fault::or_error_at;
 use std::alloc::{AllocError, Global};
@@ -50,7 +50,7 @@ impl<'ty, V: WasmValue> ResultPayload<'ty, V::Type, V> {
 
     /// The type of the payload, where one is due.
     pub(crate) fn next(&self) -> Option<&'ty V::Type>
-        ensures { result ≡ self.now.due }
+        ensures { result ≡ result_due self.now }
     {
         self.due
     }
@@ -61,7 +61,8 @@ impl<'ty, V: WasmValue> ResultPayload<'ty, V::Type, V> {
         alloc: Global,
         made: Result<V, Failure>,
     ) -> Result<(), AllocError>
-        ensures parts { IfOk result (λ _. (T : TypeTree) (source : List ℕ) (children : List NodeTree) (n : NodeTree) → TakesPart (result_node self.old.is_ok) children → AreOfResult V.Type.tree V.tree V.is_of V.is_full T source children self.old → IsReadWhereDue V.tree V.is_of V.is_full (shown V.Type.tree self.old.due) source n made → AreOfResult V.Type.tree V.tree V.is_of V.is_full T source (children ++ n ∷ []) self.new) }
+        ensures parts { IfOk result (λ _. AddsPart AreOfResult V.Type.tree V.tree V.is_of V.is_full (result_node self.old.is_ok) result_due
+            self.old made self.new None) }
         ensures case { self.new.is_ok ≡ self.old.is_ok }
     {
         self.made = Some(made);
@@ -70,7 +71,7 @@ impl<'ty, V: WasmValue> ResultPayload<'ty, V::Type, V> {
 
     /// `ok` or `err` with the payload that was read, or without one, at this place.
     pub(crate) fn whole(self, alloc: Global, span: Span) -> Result<V, ParserError>
-        ensures { (T : TypeTree) (source : List ℕ) (children : List NodeTree) → AreOfResult V.Type.tree V.tree V.is_of V.is_full T source children self.entry → IsReadAs V.tree V.is_of V.is_full T source (node (result_node self.entry.is_ok) span (node_trees children)) result }
+        ensures { IsWholeOf AreOfResult V.Type.tree V.tree V.is_of V.is_full (result_node self.entry.is_ok) self.entry span result }
     {
         let ResultPayload {
             ty,

@@ -1,11 +1,8 @@
 //! Tuples, read at their types.
-ghost use Rattle.std.specs.Prelude.{ℕ, List, [], ◌∷◌, ◌++◌, ◌≡◌, IfOk, IfErr, MatchOption};
-ghost use Rattle.wave_wasm.specs.Types.{TypeTree, kind_of};
-ghost use Rattle.wave_wasm.specs.Borrowed.{shown};
-ghost use Rattle.wave_syntax.specs.NodeTree.{NodeTree, node, node_trees};
-ghost use Rattle.wave_leaf.specs.Reading.{IsReadAs, IsReadWhereDue};
-ghost use Rattle.wave_decode.specs.Faults.{IsDoomed};
+ghost use Rattle.std.specs.Prelude.{ℕ, List, [], ◌≡◌, IfOk};
+ghost use Rattle.wave_wasm.specs.Types.{kind_of};
 ghost use Rattle.wave_decode.specs.TupleParts.{IsRow, item_due};
+ghost use Rattle.wave_decode.specs.PartSteps.{AddsPart, IsWholeOf};
 
 use crate::fault::{Fault, or_error_at};
 use std::alloc::{AllocError, Global};
@@ -60,8 +57,7 @@ impl<'ty, V: WasmValue> Row<'ty, V::Type, V> {
         alloc: Global,
         made: Result<V, Failure>,
     ) -> Result<Option<Fault>, AllocError>
-        ensures { IfOk result (λ found. (T : TypeTree) (source : List ℕ) (children : List NodeTree) (n : NodeTree) → IsRow V.Type.tree V.tree V.is_of V.is_full T source children self.old → IsReadWhereDue V.tree V.is_of V.is_full (shown V.Type.tree (item_due self.old)) source n made
-            → MatchOption found (IsRow V.Type.tree V.tree V.is_of V.is_full T source (children ++ n ∷ []) self.new) (IsDoomed V.tree V.is_of V.is_full T source NodeType.Tuple (children ++ n ∷ []))) }
+        ensures { IfOk result (AddsPart IsRow V.Type.tree V.tree V.is_of V.is_full NodeType.Tuple item_due self.old made self.new) }
     {
         match self.count.checked_add(1) {
             Some(count) => self.count = count,
@@ -81,7 +77,7 @@ impl<'ty, V: WasmValue> Row<'ty, V::Type, V> {
 
     /// The tuple of these items, which stands here.
     pub(crate) fn whole(self, alloc: Global, span: Span) -> Result<V, ParserError>
-        ensures { (T : TypeTree) (source : List ℕ) (children : List NodeTree) → IsRow V.Type.tree V.tree V.is_of V.is_full T source children self.entry → IsReadAs V.tree V.is_of V.is_full T source (node NodeType.Tuple span (node_trees children)) result }
+        ensures { IsWholeOf IsRow V.Type.tree V.tree V.is_of V.is_full NodeType.Tuple self.entry span result }
     {
         let Row {
             ty,

@@ -44,7 +44,8 @@ impl<'ty, V: WasmValue> Kept<'ty, V::Type, V> {
     /// No parts yet, of a value of the type at a node of this one.
     #[inline(always)]
     fn new(alloc: Global, ty: &'ty V::Type, of: NodeType) -> Self
-        ensures { (source : List ℕ) → IsOfParts of → AreKeptWhereDue V.Type.tree V.tree V.is_of V.is_full (Some (V.Type.tree ty.now)) source of [] result }
+        ensures { (source : List ℕ) → IsOfParts of
+            → AreKeptWhereDue V.Type.tree V.tree V.is_of V.is_full (Some (V.Type.tree ty.now)) source of [] result }
     {
         let (around, due) = type_of_parts(ty, of);
         Kept {
@@ -66,13 +67,15 @@ impl<'ty, V: WasmValue> Builder for Values<'ty, V> {
 
     ghost is_made = { λ builder source n made. IsReadSparing V.tree V.is_of V.is_full (shown V.Type.tree builder.due) source n made };
 
-    ghost are_parts = { λ builder source ty children kept. AreKeptWhereDue V.Type.tree V.tree V.is_of V.is_full (shown V.Type.tree builder.due) source ty children kept };
+    ghost are_parts = { λ builder source ty children kept.
+        AreKeptWhereDue V.Type.tree V.tree V.is_of V.is_full (shown V.Type.tree builder.due) source ty children kept };
 
     ghost next = { λ builder kept. record builder { due = next_due kept.parts } };
 
     ghost takes_memory = { λ builder. TakesMemory (shown V.Type.tree builder.due) };
 
-    ghost next_takes = { λ builder source ty children kept are takes. next_takes V.Type.tree V.tree V.is_of V.is_full (shown V.Type.tree builder.due) source ty children kept are takes };
+    ghost next_takes = { λ builder source ty children kept are takes.
+        next_takes V.Type.tree V.tree V.is_of V.is_full (shown V.Type.tree builder.due) source ty children kept are takes };
 
     fn leaf(self, alloc: Global, ty: NodeType, span: Span, text: &str) -> Result<V, Failure> {
         let leaf = Leaf { ty, span, text };

@@ -1,18 +1,16 @@
 //! Variants, read at their types.
-ghost use Rattle.std.specs.Prelude.{ℕ, ◌≡◌, ◌++◌, List, [], ◌∷◌, IfOk, IfSome, MatchOption, option_map};
-ghost use Rattle.wave_wasm.specs.Types.{TypeTree, kind_of};
+ghost use Rattle.std.specs.Prelude.{ℕ, ◌≡◌, List, [], IfOk, IfSome, option_map};
+ghost use Rattle.wave_wasm.specs.Types.{kind_of};
 ghost use Rattle.wave_wasm.specs.Borrowed.{shown, shown_cases};
 ghost use Rattle.wave_wasm.specs.ValueErrors.{missing_payload};
-ghost use Rattle.wave_grammar.specs.SpannedTree.{slice};
 ghost use Rattle.wave_grammar.specs.TypedGrammar.{look_up};
-ghost use Rattle.wave_syntax.specs.NodeTree.{NodeTree, node, no_nodes, node_trees, place_of};
+ghost use Rattle.wave_syntax.specs.NodeTree.{place_of};
 ghost use Rattle.wave_syntax.specs.declared.form.NodeType.TheVariants as node_type;
 ghost use Rattle.wave_syntax.specs.Shared.TypedReading.{IsCaused};
-ghost use Rattle.wave_leaf.specs.Leaves.{leaf_node, IsLeafIn};
-ghost use Rattle.wave_syntax.specs.NodeParts.{IsOneToken, TakesKey, TakesPart};
-ghost use Rattle.wave_leaf.specs.Reading.{IsReadAs, IsReadWhereDue};
+ghost use Rattle.wave_leaf.specs.Leaves.{leaf_node};
 ghost use Rattle.wave_decode.specs.CaseParts.{AreCaseParts, payload_due};
-ghost use Rattle.wave_decode.specs.Faults.{IsDoomed};
+ghost use Rattle.wave_decode.specs.PartSteps.{AddsKey, AddsPart, IsWholeOf};
+ghost use Rattle.wave_leaf.specs.Reading.{IsReadOfLeaf};
 
 use crate::enums::no_case;
 use crate::fault::Fault;
@@ -70,8 +68,7 @@ impl<'ty, V: WasmValue> CasePayload<'ty, V::Type, V> {
         span: Span,
         text: &str,
     ) -> Result<Option<Fault>, AllocError>
-        ensures { IfOk result (λ found. (T : TypeTree) (source : List ℕ) (children : List NodeTree) → text.now ≡ slice source span → TakesKey node_type.VariantWithPayload children → AreCaseParts V.Type.tree V.tree V.is_of V.is_full T source children self.old
-            → MatchOption found (AreCaseParts V.Type.tree V.tree V.is_of V.is_full T source (children ++ node ty span no_nodes ∷ []) self.new) (IsDoomed V.tree V.is_of V.is_full T source node_type.VariantWithPayload (children ++ node ty span no_nodes ∷ []))) }
+        ensures { IfOk result (AddsKey AreCaseParts V.Type.tree V.tree V.is_of V.is_full node_type.VariantWithPayload self.old ty span text.now self.new) }
     {
         let cases = self.ty.variant_cases(alloc)?;
         let name = label_name(text);
@@ -99,8 +96,7 @@ impl<'ty, V: WasmValue> CasePayload<'ty, V::Type, V> {
         alloc: Global,
         made: Result<V, Failure>,
     ) -> Result<Option<Fault>, AllocError>
-        ensures { IfOk result (λ found. (T : TypeTree) (source : List ℕ) (children : List NodeTree) (n : NodeTree) → TakesPart node_type.VariantWithPayload children → AreCaseParts V.Type.tree V.tree V.is_of V.is_full T source children self.old → IsReadWhereDue V.tree V.is_of V.is_full (shown V.Type.tree (payload_due self.old)) source n made
-            → MatchOption found (AreCaseParts V.Type.tree V.tree V.is_of V.is_full T source (children ++ n ∷ []) self.new) (IsDoomed V.tree V.is_of V.is_full T source node_type.VariantWithPayload (children ++ n ∷ []))) }
+        ensures { IfOk result (AddsPart AreCaseParts V.Type.tree V.tree V.is_of V.is_full node_type.VariantWithPayload payload_due self.old made self.new) }
     {
         match made {
             Ok(val) => {
@@ -113,7 +109,7 @@ impl<'ty, V: WasmValue> CasePayload<'ty, V::Type, V> {
 
     /// The variant of the case and the payload that were read, at this place.
     pub(crate) fn whole(self, alloc: Global, span: Span) -> Result<V, ParserError>
-        ensures { (T : TypeTree) (source : List ℕ) (children : List NodeTree) → AreCaseParts V.Type.tree V.tree V.is_of V.is_full T source children self.entry → IsReadAs V.tree V.is_of V.is_full T source (node node_type.VariantWithPayload span (node_trees children)) result }
+        ensures { IsWholeOf AreCaseParts V.Type.tree V.tree V.is_of V.is_full node_type.VariantWithPayload self.entry span result }
     {
         let CasePayload { ty, case, payload } = self;
         let (name, val) = match (case, payload) {
@@ -134,7 +130,7 @@ pub(crate) fn read_case<V: WasmValue>(
     ty: &V::Type,
 ) -> Result<V, ParserError>
     requires { kind_of (V.Type.tree ty.now) ≡ WasmTypeKind.Variant }
-    ensures { (source : List ℕ) → IsOneToken leaf.now.ty → IsLeafIn source leaf.now → IsReadAs V.tree V.is_of V.is_full (V.Type.tree ty.now) source (leaf_node leaf.now) result }
+    ensures { IsReadOfLeaf V.tree V.is_of V.is_full (V.Type.tree ty.now) leaf.now result }
 {
     if leaf.ty != NodeType::Label {
         return Err(leaf.error(ParserErrorKind::InvalidType));

@@ -6,7 +6,7 @@ use Rattle.wave_decode.proofs.ListItems.{one_more, held_still, item_kept, refusa
 use Rattle.wave_decode.proofs.lists.Items+V+Type+V.with_part.Goals as goal
 
 pub returns-then-is_some : goal.returns-then-is_some
-returns-then-is_some g c = λ T source children n a due. record {
+returns-then-is_some g c = λ T source children n takes a due. record {
   is = a.is;
   element = a.element;
   count = one_more children n c.args.self.now.count c.in-Some.count a.count c.in-Some.ensures.1;
@@ -14,7 +14,7 @@ returns-then-is_some g c = λ T source children n a due. record {
 }
 
 pub returns-in_ok-push-in-Ok : goal.returns-in_ok-push-in-Ok
-returns-in_ok-push-in-Ok g c = λ T source children n a due. record {
+returns-in_ok-push-in-Ok g c = λ T source children n takes a due. record {
   is = a.is;
   element = a.element;
   count = one_more children n c.args.self.now.count c.in-Some.count a.count c.in-Some.ensures.1;
@@ -23,7 +23,7 @@ returns-in_ok-push-in-Ok g c = λ T source children n a due. record {
 }
 
 pub returns-in-Err : goal.returns-in-Err
-returns-in-Err g c = λ T source children n a due. record {
+returns-in-Err g c = λ T source children n takes a due. record {
   is = a.is;
   element = a.element;
   count = one_more children n c.args.self.now.count c.in-Some.count a.count c.in-Some.ensures.1;

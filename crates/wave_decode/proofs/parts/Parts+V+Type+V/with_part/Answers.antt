@@ -7,7 +7,7 @@ use Rattle.wave_decode.proofs.parts.Parts+V+Type+V.with_part.Goals.{in-Row+in_ok
 pub returns-in-Items-clause-grown : goal.returns-in-Items-clause-grown
 returns-in-Items-clause-grown g c = where_ok _ _ c.with_part.result (λ done kept. λ T source of children n takes parts due.
     let h = rw c.in-Items.is at parts in
-    (h.0, kept T source children n h.1 (rw c.in-Items.is at due)))
+    (h.0, kept T source children n (rw h.0 at takes) h.1 (rw c.in-Items.is at due)))
     c.with_part.ensures
 
 pub returns-in-OfSome-clause-grown : goal.returns-in-OfSome-clause-grown
@@ -28,7 +28,7 @@ returns-clause-grown g c = λ T source of children n takes parts due.
     (elim c.match-self.branch [
       | in-Row+in_ok-found-in-Row w ↦
           let h = rw w.in-Row.is at parts in
-          rw (w.self-is, w.found-is) (found_at g.V.WasmValue.tree g.V.WasmValue.is_of g.V.WasmValue.is_full T source of kind.Tuple (children ++ n ∷ []) _ _ h.0 (w.in_ok-found-in-Row.ensures T source children n h.1 (rw w.in-Row.is at due)))
+          rw (w.self-is, w.found-is) (found_at g.V.WasmValue.tree g.V.WasmValue.is_of g.V.WasmValue.is_full T source of kind.Tuple (children ++ n ∷ []) _ _ h.0 (w.in_ok-found-in-Row.ensures T source children n (rw h.0 at takes) h.1 (rw w.in-Row.is at due)))
       | in-OfCase+in_ok-found-in-OfCase w ↦
           let h = rw w.in-OfCase.is at parts in
           rw (w.self-is, w.found-is) (found_at g.V.WasmValue.tree g.V.WasmValue.is_of g.V.WasmValue.is_full T source of kind.VariantWithPayload (children ++ n ∷ []) _ _ h.0 (w.in_ok-found-in-OfCase.ensures T source children n (rw h.0 at takes) h.1 (rw w.in-OfCase.is at due)))

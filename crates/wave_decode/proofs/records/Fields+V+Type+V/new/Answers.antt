@@ -1,5 +1,5 @@
 use Rattle.std.proofs.Common.{◌≡◌, [], map, refl, sym, ap, ◌∙◌, subst}
-use Rattle.wave_decode.specs.RecordParts.{AreKept, part_of}
+use Rattle.wave_decode.specs.RecordParts.{AreKeptAs, part_of}
 use Rattle.wave_decode.proofs.RecordFields.{given_all, empty_field, empty_parts, none_kept}
 use Rattle.wave_decode.proofs.records.Fields+V+Type+V.new.Goals as goal
 
@@ -16,6 +16,6 @@ returns g c = λ source.
         known = tt;
         due = tt;
         distinct = λ apart. tt;
-        kept = λ apart. subst (AreKept g.V.WasmValue.tree g.V.WasmValue.is_of g.V.WasmValue.is_full g.V.Type.WasmType.tree source []) (sym empty) (none_kept g.V.WasmValue.tree g.V.WasmValue.is_of g.V.WasmValue.is_full g.V.Type.WasmType.tree source c.in_ok-types.types.items);
+        kept = λ apart. subst (AreKeptAs g.V.Type.WasmType.tree g.V.WasmValue.tree g.V.WasmValue.is_of g.V.WasmValue.is_full source []) (sym empty) (none_kept g.V.WasmValue.tree g.V.WasmValue.is_of g.V.WasmValue.is_full g.V.Type.WasmType.tree source c.in_ok-types.types.items);
       };
     }

@@ -7,7 +7,7 @@ use Rattle.wave_decode.proofs.TupleItems.{each_beyond, each_next, item_refused}
 use Rattle.wave_decode.proofs.tuples.Row+V+Type+V.with_part.Goals as goal
 
 pub returns-then-is_none : goal.returns-then-is_none
-returns-then-is_none g c = λ T source children n a due. record {
+returns-then-is_none g c = λ T source children n takes a due. record {
   is = a.is;
   kind = a.kind;
   parts = a.parts;
@@ -16,7 +16,7 @@ returns-then-is_none g c = λ T source children n a due. record {
 }
 
 pub returns-in_ok-push-in-Ok : goal.returns-in_ok-push-in-Ok
-returns-in_ok-push-in-Ok g c = λ T source children n a due. record {
+returns-in_ok-push-in-Ok g c = λ T source children n takes a due. record {
   is = a.is;
   kind = a.kind;
   parts = a.parts;
@@ -26,6 +26,6 @@ returns-in_ok-push-in-Ok g c = λ T source children n a due. record {
 }
 
 pub returns-in-Err : goal.returns-in-Err
-returns-in-Err g c = λ T source children n a due.
+returns-in-Err g c = λ T source children n takes a due.
     item_refused g.V.WasmValue.tree g.V.WasmValue.is_of g.V.WasmValue.is_full g.V.Type.WasmType.tree source T c.args.self.now.types.items children c.args.self.now.items.items n c.in-Err.failure g.met.V.WasmValue.full_parts a.kind a.parts (ap is_some (sym c.next.ensures) ∙ c.if-is_none.ensures) a.read
     (subst (IsReadWhereDue g.V.WasmValue.tree g.V.WasmValue.is_of g.V.WasmValue.is_full (shown g.V.Type.WasmType.tree (item_due c.args.self.now)) source n) c.in-Err.is due)
