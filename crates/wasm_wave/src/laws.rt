@@ -20,7 +20,7 @@ pub use wave_tree::laws::{
     untyped_reading_agrees, whole_texts_are_read,
 };
 pub use wave_type::laws::{
-    equal_functions, equal_types, one_type_of_text, type_text_injective,
+    equal_functions, equal_types, one_type_of_text, spelled_names_are_labels, type_text_injective,
     types_convert_to_themselves,
 };
 pub use wave_value::laws::equal_values;

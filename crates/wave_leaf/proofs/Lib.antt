@@ -5,3 +5,4 @@ pub mod PlainTypes
 pub mod SimpleTypes
 mod SoonRead
 pub mod Kept
+pub mod NamedKinds

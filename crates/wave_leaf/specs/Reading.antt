@@ -1,11 +1,16 @@
--- What is read of a node at a type, where a type is due.
-use Rattle.std.specs.Prelude.{ℕ, List, Option, Some, None, Result, IfErr}
+-- What is read of a node at a type.
+use Rattle.std.specs.Prelude.{ℕ, ◌≡◌, ◌⊎◌, List, Option, Some, None, Result, IfErr}
+use Rattle.std.specs.declared.ops.Range.{Range}
 use Rattle.wave_wasm.specs.Types.{TypeTree}
 use Rattle.wave_wasm.specs.Values.{Value}
 use Rattle.wave_lex.specs.Errors.{Diagnostic}
-use Rattle.wave_syntax.specs.NodeTree.{NodeTree}
+use Rattle.wave_syntax.specs.NodeTree.{NodeTree, type_of, place_of}
+use Rattle.wave_syntax.specs.NodeParts.{IsOneToken, IsOfParts}
+use Rattle.wave_syntax.specs.declared.form.NodeType.TheVariants as kind
 use Rattle.wave_syntax.specs.TypedReading.{Answers, IsValueOf}
 use Rattle.wave_syntax.specs.Shared.ErrorSpans.{RefusesIn}
+use Rattle.wave_leaf.specs.Leaves.{leaf_node, IsLeafIn, IsSimpleOrUnreadable}
+use Rattle.wave_leaf.specs.declared.leaf.Leaf.{Leaf}
 
 module _ {V : Type 0} (tree : V → Value) (of : V → TypeTree → Type 0) (Full : TypeTree → Type 0) where
   -- the value of the node's tree at the type, or a refusal of it, which stands in the node
@@ -17,3 +22,12 @@ module _ {V : Type 0} (tree : V → Value) (of : V → TypeTree → Type 0) (Ful
   abbrev pub IsReadWhereDue : Option TypeTree → List ℕ → NodeTree → Result V Diagnostic → Type 0
   IsReadWhereDue None source n r = Unit {0}
   IsReadWhereDue (Some T) source n r = IsReadAs T source n r
+
+  -- so of the node that the leaf would be, in any text that has the leaf
+  abbrev pub IsReadOfLeaf : TypeTree → Leaf → Result V Diagnostic → Type 0
+  IsReadOfLeaf T leaf r = (source : List ℕ) → IsOneToken leaf.ty → IsLeafIn source leaf → IsReadAs T source (leaf_node leaf) r
+
+  -- so of any node of parts or flags that stands there, where the type is a simple one or has no values
+  abbrev pub IsReadOfForm : TypeTree → Range ℕ → Result V Diagnostic → Type 0
+  IsReadOfForm T p r =
+      (source : List ℕ) (n : NodeTree) → place_of n ≡ p → IsOfParts (type_of n) ⊎ (type_of n ≡ kind.Flags) → IsSimpleOrUnreadable T → IsReadAs T source n r

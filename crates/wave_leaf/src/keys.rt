@@ -1,10 +1,8 @@
 //! Keys of maps, each of one token.
 ghost use Rattle.std.specs.Prelude.{ℕ, List, IfErr};
 ghost use Rattle.wave_wasm.specs.Types as type;
-ghost use Rattle.wave_syntax.specs.TypedReading.{IsKeyOf, AnswersKey};
 ghost use Rattle.wave_syntax.specs.Shared.NodeAccessors.{GivesBoolKey};
-ghost use Rattle.wave_syntax.specs.Shared.ErrorSpans.{RefusesIn};
-ghost use Rattle.wave_leaf.specs.Keys.{IsDetailed, TellsKeyDue};
+ghost use Rattle.wave_leaf.specs.Keys.{IsDetailed, TellsKeyDue, IsKeyReadOf, RefusesInKey};
 ghost use Rattle.wave_leaf.specs.Leaves.{leaf_node, IsLeafIn};
 
 use crate::leaf::Leaf;
@@ -16,8 +14,8 @@ use wave_wasm::wasm::{DisplayType, WasmType, WasmTypeKind, WasmValue};
 impl<'src> Leaf<'src> {
     /// A key of a map. Of a label that spells none the refusal says what it should be.
     pub fn read_key<V: WasmValue>(&self, alloc: Global, ty: &V::Type) -> Result<V, ParserError>
-        ensures answer { (source : List ℕ) → IsLeafIn source self.now → AnswersKey V.tree V.is_of V.is_full (V.Type.tree ty.now) source (leaf_node self.now) result }
-        ensures within { (source : List ℕ) → IsLeafIn source self.now → IsKeyOf source (leaf_node self.now) → IfErr result (RefusesIn (leaf_node self.now)) }
+        ensures answer { IsKeyReadOf V.tree V.is_of V.is_full (V.Type.tree ty.now) self.now result }
+        ensures within { RefusesInKey self.now result }
         ensures detail { IfErr result (TellsKeyDue (V.Type.tree ty.now) self.now) }
     {
         match self.read_plain_key(alloc, ty) {
@@ -48,21 +46,42 @@ impl<'src> Leaf<'src> {
 
     /// A key of a map, its refusal without a detail where it is a label.
     fn read_plain_key<V: WasmValue>(&self, alloc: Global, ty: &V::Type) -> Result<V, ParserError>
-        ensures answer { (source : List ℕ) → IsLeafIn source self.now → AnswersKey V.tree V.is_of V.is_full (V.Type.tree ty.now) source (leaf_node self.now) result }
-        ensures within { (source : List ℕ) → IsLeafIn source self.now → IsKeyOf source (leaf_node self.now) → IfErr result (RefusesIn (leaf_node self.now)) }
+        ensures answer { IsKeyReadOf V.tree V.is_of V.is_full (V.Type.tree ty.now) self.now result }
+        ensures within { RefusesInKey self.now result }
     {
-        match ty.kind() {
+        let kind = ty.kind();
+        match kind {
             WasmTypeKind::Bool => self.or_error_here(V::make_bool(alloc, self.as_bool_key()?)),
             WasmTypeKind::Char => self.or_error_here(V::make_char(alloc, self.as_char()?)),
             WasmTypeKind::String => self.read_string_key(alloc),
-            kind => self.read_whole(alloc, kind),
+            WasmTypeKind::S8
+            | WasmTypeKind::S16
+            | WasmTypeKind::S32
+            | WasmTypeKind::S64
+            | WasmTypeKind::U8
+            | WasmTypeKind::U16
+            | WasmTypeKind::U32
+            | WasmTypeKind::U64
+            | WasmTypeKind::F32
+            | WasmTypeKind::F64
+            | WasmTypeKind::List
+            | WasmTypeKind::FixedLengthList
+            | WasmTypeKind::Record
+            | WasmTypeKind::Tuple
+            | WasmTypeKind::Variant
+            | WasmTypeKind::Enum
+            | WasmTypeKind::Option
+            | WasmTypeKind::Result
+            | WasmTypeKind::Flags
+            | WasmTypeKind::Map
+            | WasmTypeKind::Unsupported => self.read_whole(alloc, kind),
         }
     }
 
     /// A key of a map that is a string.
     fn read_string_key<V: WasmValue>(&self, alloc: Global) -> Result<V, ParserError>
-        ensures answer { (source : List ℕ) → IsLeafIn source self.now → AnswersKey V.tree V.is_of V.is_full (type.simple type.string) source (leaf_node self.now) result }
-        ensures within { (source : List ℕ) → IsLeafIn source self.now → IsKeyOf source (leaf_node self.now) → IfErr result (RefusesIn (leaf_node self.now)) }
+        ensures answer { IsKeyReadOf V.tree V.is_of V.is_full (type.simple type.string) self.now result }
+        ensures within { RefusesInKey self.now result }
     {
         let text = self.as_str(alloc)?;
         self.made_string(alloc, text)

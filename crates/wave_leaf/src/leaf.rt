@@ -10,8 +10,7 @@ ghost use Rattle.wave_syntax.specs.TypedReading.{Answers, IsMade};
 ghost use Rattle.wave_syntax.specs.Shared.TypedReading.{IsCaused, AnswersWhole};
 ghost use Rattle.wave_syntax.specs.Shared.ErrorSpans.{RefusesAt};
 ghost use Rattle.wave_leaf.specs.Leaves.{leaf_node, IsLeafIn};
-ghost use Rattle.wave_syntax.specs.NodeParts.{IsOneToken};
-ghost use Rattle.wave_leaf.specs.Reading.{IsReadAs};
+ghost use Rattle.wave_leaf.specs.Reading.{IsReadOfLeaf};
 
 use std::alloc::Global;
 use wave_grammar::number::WholeNumber;
@@ -49,7 +48,22 @@ impl<'src> Leaf<'src> {
             WasmTypeKind::U16 => self.or_error_here(V::make_u16(alloc, self.as_number()?)),
             WasmTypeKind::U32 => self.or_error_here(V::make_u32(alloc, self.as_number()?)),
             WasmTypeKind::U64 => self.or_error_here(V::make_u64(alloc, self.as_number()?)),
-            _ => Err(self.unsupported(alloc, kind)),
+            WasmTypeKind::Bool
+            | WasmTypeKind::F32
+            | WasmTypeKind::F64
+            | WasmTypeKind::Char
+            | WasmTypeKind::String
+            | WasmTypeKind::List
+            | WasmTypeKind::FixedLengthList
+            | WasmTypeKind::Record
+            | WasmTypeKind::Tuple
+            | WasmTypeKind::Variant
+            | WasmTypeKind::Enum
+            | WasmTypeKind::Option
+            | WasmTypeKind::Result
+            | WasmTypeKind::Flags
+            | WasmTypeKind::Map
+            | WasmTypeKind::Unsupported => Err(self.unsupported(alloc, kind)),
         }
     }
 
@@ -64,7 +78,7 @@ impl<'src> Leaf<'src> {
 
     /// A char.
     pub(crate) fn read_char<V: WasmValue>(&self, alloc: Global) -> Result<V, ParserError>
-        ensures { (source : List ℕ) → IsOneToken self.now.ty → IsLeafIn source self.now → IsReadAs V.tree V.is_of V.is_full (type.simple type.char) source (leaf_node self.now) result }
+        ensures { IsReadOfLeaf V.tree V.is_of V.is_full (type.simple type.char) self.now result }
     {
         let val = self.as_char()?;
         self.or_error_here(V::make_char(alloc, val))
@@ -115,7 +129,8 @@ impl<'src> Leaf<'src> {
 
     /// The text between these quotes, where they stand at both ends.
     pub(crate) fn inside(&self, quotes: &str) -> Option<&'src str>
-        ensures { MatchOption result ((inside : List ℕ) → self.now.text.now ≢ quotes.now ++ (inside ++ quotes.now)) (λ inside. self.now.text.now ≡ quotes.now ++ (inside.now ++ quotes.now)) }
+        ensures { MatchOption result ((inside : List ℕ) → self.now.text.now ≢ quotes.now ++ (inside ++ quotes.now))
+            (λ inside. self.now.text.now ≡ quotes.now ++ (inside.now ++ quotes.now)) }
     {
         let behind = self.text.strip_prefix(quotes)?;
         behind.strip_suffix(quotes)

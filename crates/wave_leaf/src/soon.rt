@@ -15,7 +15,8 @@ impl<'src> Leaf<'src> {
     /// Nothing is said of why there is none.
     #[inline(always)]
     pub fn read_soon<V: WasmValue>(&self, alloc: Global, ty: &V::Type) -> Option<V>
-        ensures { (source : List ℕ) → IsLeafIn source self.now → IfSome result (λ val. IsReadAs V.tree V.is_of V.is_full (V.Type.tree ty.now) source (leaf_node self.now) (Ok val)) }
+        ensures { (source : List ℕ) → IsLeafIn source self.now
+            → IfSome result (λ val. IsReadAs V.tree V.is_of V.is_full (V.Type.tree ty.now) source (leaf_node self.now) (Ok val)) }
     {
         match ty.kind() {
             WasmTypeKind::S8 => if_made(V::make_s8(alloc, self.number()?)),
@@ -26,7 +27,22 @@ impl<'src> Leaf<'src> {
             WasmTypeKind::U16 => if_made(V::make_u16(alloc, self.number()?)),
             WasmTypeKind::U32 => if_made(V::make_u32(alloc, self.number()?)),
             WasmTypeKind::U64 => if_made(V::make_u64(alloc, self.number()?)),
-            _ => None,
+            WasmTypeKind::Bool
+            | WasmTypeKind::F32
+            | WasmTypeKind::F64
+            | WasmTypeKind::Char
+            | WasmTypeKind::String
+            | WasmTypeKind::List
+            | WasmTypeKind::FixedLengthList
+            | WasmTypeKind::Record
+            | WasmTypeKind::Tuple
+            | WasmTypeKind::Variant
+            | WasmTypeKind::Enum
+            | WasmTypeKind::Option
+            | WasmTypeKind::Result
+            | WasmTypeKind::Flags
+            | WasmTypeKind::Map
+            | WasmTypeKind::Unsupported => None,
         }
     }
 

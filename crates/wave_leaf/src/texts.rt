@@ -10,8 +10,7 @@ ghost use Rattle.wave_syntax.specs.NodeStrings.{GivesString};
 ghost use Rattle.wave_syntax.specs.Nodes.{IsParsedFrom};
 ghost use Rattle.wave_syntax.specs.TypedReading.{IsLeafMade};
 ghost use Rattle.wave_leaf.specs.Leaves.{leaf_node, IsLeafIn};
-ghost use Rattle.wave_syntax.specs.NodeParts.{IsOneToken};
-ghost use Rattle.wave_leaf.specs.Reading.{IsReadAs};
+ghost use Rattle.wave_leaf.specs.Reading.{IsReadOfLeaf};
 
 use crate::leaf::Leaf;
 use std::alloc::Global;
@@ -25,7 +24,7 @@ use wave_wasm::wasm::WasmValue;
 impl<'src> Leaf<'src> {
     /// A string.
     pub(crate) fn read_string<V: WasmValue>(&self, alloc: Global) -> Result<V, ParserError>
-        ensures { (source : List ℕ) → IsOneToken self.now.ty → IsLeafIn source self.now → IsReadAs V.tree V.is_of V.is_full (type.simple type.string) source (leaf_node self.now) result }
+        ensures { IsReadOfLeaf V.tree V.is_of V.is_full (type.simple type.string) self.now result }
     {
         let text = self.as_str(alloc)?;
         self.made_string(alloc, text)
@@ -37,7 +36,9 @@ impl<'src> Leaf<'src> {
     /// `InvalidMultilineString`. Want of memory is refused at the leaf; so is a leaf behind the end
     /// of any source that memory can hold.
     pub(crate) fn as_str(&self, alloc: Global) -> Result<CowStr<'src>, ParserError>
-        ensures gives { (source : List ℕ) → IsLeafIn source self.now → IsParsedFrom source (leaf_node self.now) → GivesString source (leaf_node self.now) result ⊎ IsErrAnd result (WantsMemory self.now.span) × (2 ^ 64 ≤ self.now.span.start + length self.now.text.now + 3) }
+        ensures gives { (source : List ℕ) → IsLeafIn source self.now → IsParsedFrom source (leaf_node self.now)
+            → GivesString source (leaf_node self.now) result
+            ⊎ IsErrAnd result (WantsMemory self.now.span) × (2 ^ 64 ≤ self.now.span.start + length self.now.text.now + 3) }
         ensures ty { IfOk result (λ c. (self.now.ty ≡ NodeType.String) ⊎ (self.now.ty ≡ NodeType.MultilineString)) }
     {
         match self.ty {

@@ -64,7 +64,8 @@ GivesNodes ty n (Err e) = (type_of n ≢ ty) × RefusedAs InvalidType n e
 -- the payload of `some`, or nothing at `none`; or `InvalidType` at another node
 abbrev pub GivesOption : NodeTree → Result (Option (Bor NodeTree)) Diagnostic → Type 0
 GivesOption n (Ok o) =
-    (type_of n ≡ kind.OptionSome) × (shown_node o ≡ first_of (children_of n)) × IsValueWithin n (shown_node o) ⊎ (type_of n ≡ kind.OptionNone) × (shown_node o ≡ None)
+    (type_of n ≡ kind.OptionSome) × (shown_node o ≡ first_of (children_of n)) × IsValueWithin n (shown_node o)
+    ⊎ (type_of n ≡ kind.OptionNone) × (shown_node o ≡ None)
 GivesOption n (Err e) = (type_of n ≢ kind.OptionSome) × (type_of n ≢ kind.OptionNone) × RefusedAs InvalidType n e
 
 -- the payload of `ok` or of `err`, where it has one; or `InvalidType` at another node
@@ -82,7 +83,8 @@ GivesLabel source n (Err e) = (type_of n ≢ kind.Label) × RefusedAs InvalidTyp
 abbrev pub GivesVariant : List ℕ → NodeTree → Result (Bor (List ℕ) × Option (Bor NodeTree)) Diagnostic → Type 0
 GivesVariant source n (Ok (name, payload)) =
     (type_of n ≡ kind.Label) × (name.now ≡ name_of (node_text source n)) × (shown_node payload ≡ None)
-    ⊎ ((c : NodeTree) × (t : NodeTree) × (type_of n ≡ kind.VariantWithPayload) × (children_of n ≡ c ∷ t ∷ []) × (name.now ≡ name_of (node_text source c)) × (shown_node payload ≡ Some t) × IsValueOf source t)
+    ⊎ ((c : NodeTree) × (t : NodeTree) × (type_of n ≡ kind.VariantWithPayload) × (children_of n ≡ c ∷ t ∷ [])
+    × (name.now ≡ name_of (node_text source c)) × (shown_node payload ≡ Some t) × IsValueOf source t)
 GivesVariant source n (Err e) = (type_of n ≢ kind.Label) × (type_of n ≢ kind.VariantWithPayload) × RefusedAs InvalidType n e
 
 -- the nodes two by two

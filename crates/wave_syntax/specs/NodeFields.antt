@@ -30,7 +30,8 @@ pub record IsFieldsOf (source : List ℕ) (n : NodeTree) (fields : List (List �
 abbrev pub RefusesKey : List ℕ → List (List ℕ) → NodeTree → Diagnostic → Type 0
 RefusesKey source names key e =
     (type_of key ≢ kind.Label) × Says e InvalidType (place_of key) (Some field_label_due)
-    ⊎ (type_of key ≡ kind.Label) × IsOneOf names (name_of (node_text source key)) × Says e DuplicateField (place_of key) (Some (repeated_name (name_of (node_text source key))))
+    ⊎ (type_of key ≡ kind.Label) × IsOneOf names (name_of (node_text source key))
+    × Says e DuplicateField (place_of key) (Some (repeated_name (name_of (node_text source key))))
 
 -- the refusal of the first key that is no label or has the name of an earlier one
 pub record RefusesEntry (source : List ℕ) (n : NodeTree) (e : Diagnostic) : Type 0 where

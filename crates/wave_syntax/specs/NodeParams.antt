@@ -48,7 +48,8 @@ module _ {V : Type 0} (tree : V → Value) (of : V → TypeTree → Type 0) wher
   abbrev pub GivesParams : List TypeTree → NodeTree → Placed → List V → Type 0
   GivesParams Ts n t vs = (items : List Placed) × (shape_of t ≡ tuple (placed_trees items)) × AreRead Ts items vs
 
--- the refusal of a maker that does not serve all values of its type, behind items that have theirs: it lies in the next item; or, for a type that is left, where all that are left are options, it stands at the node
+-- the refusal of a maker that does not serve all values of its type, behind items that have theirs: it lies in the next item; or,
+-- for a type that is left, where all that are left are options, it stands at the node
 abbrev pub MakerRefuses : (TypeTree → Type 0) → List TypeTree → List Placed → NodeTree → Diagnostic → Type 0
 MakerRefuses Full Ts [] n e = AllOf IsOption Ts × (AllOf Full Ts → ⊥) × (e.span ≡ place_of n)
 MakerRefuses Full [] (t ∷ ts) n e = ⊥

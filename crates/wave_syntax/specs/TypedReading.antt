@@ -86,7 +86,9 @@ module _ {V : Type 0} (tree : V → Value) (of : V → TypeTree → Type 0) (Ful
 
   -- the value of the node's key at the simple type, or a refusal of it
   abbrev pub AnswersKey : TypeTree → List ℕ → NodeTree → Result V Diagnostic → Type 0
-  AnswersKey T source n r = (K : Simple) (p : Range ℕ) (key : Token) → T ≡ type.simple K → IsTokenOf source n p key → MatchResult r (IsKeyRead tree of K key) (IsKeyBlamed Full K p key)
+  AnswersKey T source n r =
+      (K : Simple) (p : Range ℕ) (key : Token) → T ≡ type.simple K → IsTokenOf source n p key
+      → MatchResult r (IsKeyRead tree of K key) (IsKeyBlamed Full K p key)
 
   -- so, and a fault stands only where the type gives the tree no value
   abbrev pub ReadsAtType : TypeTree → List ℕ → NodeTree → Result V Diagnostic → Type 0
@@ -94,6 +96,8 @@ module _ {V : Type 0} (tree : V → Value) (of : V → TypeTree → Type 0) (Ful
 
   -- so of the node's key at the simple type
   abbrev pub ReadsKey : TypeTree → List ℕ → NodeTree → Result V Diagnostic → Type 0
-  ReadsKey T source n r = (K : Simple) (p : Range ℕ) (key : Token) → T ≡ type.simple K → IsTokenOf source n p key → MatchResult r (IsKeyRead tree of K key) (IsKeyError Full K p key)
+  ReadsKey T source n r =
+      (K : Simple) (p : Range ℕ) (key : Token) → T ≡ type.simple K → IsTokenOf source n p key
+      → MatchResult r (IsKeyRead tree of K key) (IsKeyError Full K p key)
 
 -- ---- payloads

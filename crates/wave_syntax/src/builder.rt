@@ -53,8 +53,11 @@ pub trait Builder: Sized + Copy {
         span: Span,
         text: &str,
     ) -> Result<(), AllocError>
-        ensures kept { IfOk result (λ _. (source : List ℕ) (whole : NodeType) (children : List NodeTree) → text.now ≡ slice source span → TakesKey whole children → are_parts self source whole children parts.old → are_parts self source whole (children ++ node ty span no_nodes ∷ []) parts.new) }
-        ensures memory { IfErr result (λ _. (source : List ℕ) (whole : NodeType) (children : List NodeTree) → are_parts self source whole children parts.old → takes_memory self) };
+        ensures kept { IfOk result (λ _. (source : List ℕ) (whole : NodeType) (children : List NodeTree)
+            → text.now ≡ slice source span → TakesKey whole children → are_parts self source whole children parts.old
+            → are_parts self source whole (children ++ node ty span no_nodes ∷ []) parts.new) }
+        ensures memory { IfErr result (λ _. (source : List ℕ) (whole : NodeType) (children : List NodeTree)
+            → are_parts self source whole children parts.old → takes_memory self) };
 
     /// Adds to the parts one that was made by the builder of the next part.
     fn with_part(
@@ -63,12 +66,16 @@ pub trait Builder: Sized + Copy {
         parts: &mut Self::Parts,
         made: Self::Made,
     ) -> Result<(), AllocError>
-        ensures kept { IfOk result (λ _. (source : List ℕ) (whole : NodeType) (children : List NodeTree) (n : NodeTree) → TakesPart whole children → are_parts self source whole children parts.old → is_made (next self parts.old) source n made → are_parts self source whole (children ++ n ∷ []) parts.new) }
-        ensures memory { IfErr result (λ _. (source : List ℕ) (whole : NodeType) (children : List NodeTree) → are_parts self source whole children parts.old → takes_memory self) };
+        ensures kept { IfOk result (λ _. (source : List ℕ) (whole : NodeType) (children : List NodeTree) (n : NodeTree)
+            → TakesPart whole children → are_parts self source whole children parts.old
+            → is_made (next self parts.old) source n made → are_parts self source whole (children ++ n ∷ []) parts.new) }
+        ensures memory { IfErr result (λ _. (source : List ℕ) (whole : NodeType) (children : List NodeTree)
+            → are_parts self source whole children parts.old → takes_memory self) };
 
     /// What is made of a node of the type with these parts.
     fn whole(self, alloc: Global, ty: NodeType, span: Span, parts: Self::Parts) -> Self::Made
-        ensures { (source : List ℕ) (children : List NodeTree) → are_parts self source ty children parts → is_made self source (node ty span (node_trees children)) result };
+        ensures { (source : List ℕ) (children : List NodeTree) → are_parts self source ty children parts
+            → is_made self source (node ty span (node_trees children)) result };
 
     /// What is made of a node of these flags, which stand at these places.
     fn flags(
@@ -77,8 +84,10 @@ pub trait Builder: Sized + Copy {
         span: Span,
         flags: BTreeMap<&str, Span>,
     ) -> Result<Self::Made, AllocError>
-        ensures { IfOk result (λ made. (source : List ℕ) → AreFlagsOf source flags.entry → is_made self source (node node_type.Flags span (flag_nodes flags.entry)) made) };
+        ensures { IfOk result (λ made. (source : List ℕ) → AreFlagsOf source flags.entry
+            → is_made self source (node node_type.Flags span (flag_nodes flags.entry)) made) };
 
     /// Where memory is taken for the parts of the next part, it is taken for parts.
-    ghost next_takes: { (builder : Self) (source : List ℕ) (ty : NodeType) (children : List NodeTree) (parts : Self.Parts) → are_parts builder source ty children parts → takes_memory (next builder parts) → takes_memory builder };
+    ghost next_takes: { (builder : Self) (source : List ℕ) (ty : NodeType) (children : List NodeTree) (parts : Self.Parts)
+        → are_parts builder source ty children parts → takes_memory (next builder parts) → takes_memory builder };
 }

@@ -22,7 +22,7 @@ use Rattle.wave_type.proofs.TypeLists.{field_list-fields_of}
 use Rattle.wave_type.proofs.TypeReading.{IsSound, onward_back, after_back, fields_back, read_sound}
 use Rattle.wave_type.proofs.TypeTokens.{one_cut}
 
-abbrev Parts : Type 0
+abbrev pub Parts : Type 0
 Parts = List (List ℕ × TypeTree)
 
 -- the empty name is no label
@@ -41,7 +41,7 @@ named_there (([], T) ∷ []) ts m r e (t, k, l, q, n, s, c) d end = absurd (no_e
 named_there (([], T) ∷ p ∷ ps) ts m r e h d end = (m, e, (subst (SpellsFields (codes ")") (fields_of (([], T) ∷ p ∷ ps)) m) end h, d))
 named_there ((c ∷ cs, T) ∷ ps) ts m r e h d end = (m, e, (subst (SpellsFields (codes ")") (fields_of ((c ∷ cs, T) ∷ ps)) m) end h, d))
 
-unwrapped : {A : Type 0} (p q : A) → Some p ≡ Some q → p ≡ q
+pub unwrapped : {A : Type 0} (p q : A) → Some p ≡ Some q → p ≡ q
 unwrapped p q e = cc
 
 module _ (read : Reads) (sound : IsSound read) where

@@ -15,3 +15,5 @@ pub mod TypeTokens
 pub mod PartSteps
 pub mod WholeTypes
 pub mod FunctionsRead
+pub mod TypeLevels
+pub mod SpelledNames

@@ -1,9 +1,15 @@
 -- One part more in a loop that reads parts.
-use Rattle.std.proofs.Common.{◌≡◌, ℕ, zero, suc, ◌+◌, ◌-◌, ◌≤◌, ◌<◌, List, [], ◌∷◌, ◌++◌, Option, Some, None, refl, sym, ap, ◌∙◌, arith, codes, length}
-use Rattle.std.specs.Prelude.{◌||◌}
+use Rattle.std.proofs.Common.{◌≡◌, ℕ, zero, suc, ◌+◌, ◌-◌, ◌≤◌, ◌<◌, Bool, true, false, cond, List, [], ◌∷◌, ◌++◌, Option, Some, None, drop, refl, sym, ap, subst, ◌∙◌, arith, rules, codes, length}
+use Rattle.std.specs.Prelude.{◌||◌, not, if◌then◌else◌}
 use Rattle.std.specs.Borrow.{Bor}
+use Rattle.std.specs.BTreeSet.{BTreeSet, contains, contains_by, Updates}
+use Rattle.std.specs.Cmp.Lexicographic.{slice_cmp}
 use Rattle.std.specs.List.{list_any}
+use Rattle.std.specs.Ordering.{is_eq, nat_cmp}
 use Rattle.std.specs.Str.{bytes_eq}
+use Rattle.std.proofs.lemmas.List.Folds.{list_any-append}
+use Rattle.std.proofs.lemmas.Map.Text.{is_eq-slice_cmp}
+use Rattle.std.proofs.lemmas.Slice.Eq.{bytes_eq-Decides}
 use Rattle.wave_wasm.specs.Borrowed.{texts, named}
 use Rattle.wave_wasm.specs.Names.{is_one_of}
 use Rattle.wave_wasm.specs.Types.{TypeTree}
@@ -11,19 +17,62 @@ use Rattle.wave_wasm.specs.declared.wasm.WasmTypeKind.{WasmTypeKind}
 use Rattle.wave_type.specs.declared.tokens.Token.{Token}
 use Rattle.wave_type.specs.TypeSpelling.{Tokens}
 use Rattle.wave_type.specs.Private.TypeTokens.{texts_of}
-use Rattle.wave_type.specs.Private.TypeReading.{onward, or_else, with, after, closed, parts, Reads, part_names, new_name, field_part, payload_read, case_part, kind_at, kind_read, type_read}
+use Rattle.wave_type.specs.Private.TypeReading.{onward, or_else, with, after, closed, parts, Reads, HasNames, part_names, name_at, new_name, field_part, payload_read, case_part, kind_at, kind_read, type_read}
 use Rattle.wave_type.proofs.TypeReading.{map_more}
 
--- the names of parts whose names are borrowed
-pub twice : {A : Type 0} (name : List ℕ) (ps : List (Bor (List ℕ) × A)) → list_any (λ p. bytes_eq name p.0.now) ps ≡ is_one_of (part_names (named ps)) name
-twice name [] = refl
-twice name (p ∷ ps) = ap (λ b. bytes_eq name p.0.now || b) (twice name ps)
+-- ---- the names that were taken
+
+eq_turn : (a b : List ℕ) → bytes_eq a b ≡ bytes_eq b a
+eq_turn a b = search (rules, bytes_eq-Decides a b, bytes_eq-Decides b a)
+
+-- no names at first
+pub has_none : (set : BTreeSet (Bor (List ℕ))) → set.keys ≡ [] → HasNames set []
+has_none set e = λ q. ap (list_any (λ k. is_eq (slice_cmp nat_cmp q k.now))) e
+
+-- a name that is found is one of them
+pub has_one : (set : BTreeSet (Bor (List ℕ))) (names : List (List ℕ)) (name : Bor (List ℕ)) (added : Bool) → HasNames set names → added ≡ not (contains (λ a b. slice_cmp nat_cmp a.now b.now) set name) → is_one_of names name.now ≡ not added
+has_one set names name added h e = sym (h name.now) ∙ (sym (not_not (contains (λ a b. slice_cmp nat_cmp a.now b.now) set name)) ∙ ap not (sym e))
+  where
+    not_not : (b : Bool) → not (not b) ≡ b
+    not_not true = refl
+    not_not false = refl
+
+-- one name more
+pub has_more : (set more : BTreeSet (Bor (List ℕ))) (names : List (List ℕ)) (name : Bor (List ℕ)) → HasNames set names → Updates (λ a b. slice_cmp nat_cmp a.now b.now) set more name true → HasNames more (names ++ (name.now ∷ []))
+has_more set more names name h u = λ q.
+    u.0 (record { ref_ptr = (0, 0); now = q })
+    ∙ (ap (λ b. cond b true (contains_by (λ k. slice_cmp nat_cmp q k.now) set)) (is_eq-slice_cmp name.now q ∙ eq_turn name.now q)
+    ∙ (ap (cond (bytes_eq q name.now) true) (h q)
+    ∙ (pick (bytes_eq q name.now) (is_one_of names q)
+    ∙ sym (list_any-append (bytes_eq q) names (name.now ∷ [])))))
+  where
+    pick : (a b : Bool) → cond a true b ≡ (b || (a || false))
+    pick true true = refl
+    pick true false = refl
+    pick false true = refl
+    pick false false = refl
+
+-- a name that was taken is refused, and another is read
+module _ (names : List (List ℕ)) (ts : Tokens) (name : List ℕ) (next : name_at ts ≡ Some name) where
+  pub name_taken : is_one_of names name ≡ true → new_name names ts ≡ None
+  name_taken e = ap (λ o. onward o (λ n. if is_one_of names n then None else Some (n, drop 1 ts))) next ∙ ap (λ b. if b then None else Some (name, drop 1 ts)) e
+
+  pub name_new : is_one_of names name ≡ false → new_name names ts ≡ Some (name, drop 1 ts)
+  name_new e = ap (λ o. onward o (λ n. if is_one_of names n then None else Some (n, drop 1 ts))) next ∙ ap (λ b. if b then None else Some (name, drop 1 ts)) e
 
 pub named_more : {A : Type 0} (ps qs : List (Bor (List ℕ) × A)) (n : Bor (List ℕ)) (a : A) → qs ≡ ps ++ ((n, a) ∷ []) → named qs ≡ named ps ++ ((n.now, a) ∷ [])
 named_more ps qs n a e = ap named e ∙ map_more (λ f. (f.0.now, f.1)) ps (n, a)
 
 pub texts_more : (ps qs : List (Bor (List ℕ))) (n : Bor (List ℕ)) → qs ≡ ps ++ (n ∷ []) → texts qs ≡ texts ps ++ (n.now ∷ [])
 texts_more ps qs n e = ap texts e ∙ map_more (λ m. m.now) ps n
+
+-- the set has the names of what was added to
+module _ (set : BTreeSet (Bor (List ℕ))) (n : Bor (List ℕ)) where
+  pub has_texts : (ps qs : List (Bor (List ℕ))) → qs ≡ ps ++ (n ∷ []) → HasNames set (texts ps ++ (n.now ∷ [])) → HasNames set (texts qs)
+  has_texts ps qs e h = subst (HasNames set) (sym (texts_more ps qs n e)) h
+
+  pub has_part_names : {A : Type 0} (a : A) (ps qs : List (Bor (List ℕ) × A)) → qs ≡ ps ++ ((n, a) ∷ []) → HasNames set (part_names (named ps) ++ (n.now ∷ [])) → HasNames set (part_names (named qs))
+  has_part_names a ps qs e h = subst (HasNames set) (sym (ap part_names (named_more ps qs n a e) ∙ map_more (λ p. p.0) (named ps) (n.now, a))) h
 
 -- ---- a field, or a case, step by step
 

@@ -29,15 +29,15 @@ module _ {A B : Type 0} where
   onward_back (Some a) next b e = (a, refl, e)
 
 module _ {A : Type 0} where
-  or_back : (o p : Option A) (a : A) → or_else o p ≡ Some a → (o ≡ Some a) ⊎ (p ≡ Some a)
+  pub or_back : (o p : Option A) (a : A) → or_else o p ≡ Some a → (o ≡ Some a) ⊎ (p ≡ Some a)
   or_back None p a e = inr e
   or_back (Some b) p a e = inl e
 
-  with_back : (a : A) (o : Option Tokens) (b : A × Tokens) → with a o ≡ Some b → (o ≡ Some b.1) × (b.0 ≡ a)
+  pub with_back : (a : A) (o : Option Tokens) (b : A × Tokens) → with a o ≡ Some b → (o ≡ Some b.1) × (b.0 ≡ a)
   with_back a None b e = absurd (cc)
   with_back a (Some r) b e = let same : (a, r) ≡ b = cc in ((λ i. Some (same i).1), (λ i. (sym same i).0))
 
-  made_back : (o : Option A) (r : Tokens) (b : A × Tokens) → made o r ≡ Some b → (o ≡ Some b.0) × (r ≡ b.1)
+  pub made_back : (o : Option A) (r : Tokens) (b : A × Tokens) → made o r ≡ Some b → (o ≡ Some b.0) × (r ≡ b.1)
   made_back None r b e = absurd (cc)
   made_back (Some a) r b e = let same : (a, r) ≡ b = cc in ((λ i. Some (same i).0), (λ i. (same i).1))
 
@@ -145,13 +145,13 @@ module _ {A : Type 0} (mark : List ℕ) (Is : A → Tokens → Tokens → Type 0
   behind_comma x (y ∷ xs) ts m r h more = (m, h, more)
 
 -- what was read of parts
-record PartsRead {A : Type 0} (mark : List ℕ) (Is : A → Tokens → Tokens → Type 0) (seen : List A) (ts : Tokens) (b : List A × Tokens) : Type 0 where
-  read : List A
-  all : b.0 ≡ seen ++ read
-  are : AreParts mark Is read ts b.1
+pub record PartsRead {A : Type 0} (mark : List ℕ) (Is : A → Tokens → Tokens → Type 0) (seen : List A) (ts : Tokens) (b : List A × Tokens) : Type 0 where
+  pub read : List A
+  pub all : b.0 ≡ seen ++ read
+  pub are : AreParts mark Is read ts b.1
 
 module _ {A : Type 0} (part : List A → Tokens → Option (A × Tokens)) (mark : List ℕ) (Is : A → Tokens → Tokens → Type 0) (each : (seen : List A) (ts : Tokens) (b : A × Tokens) → part seen ts ≡ Some b → Is b.0 ts b.1) where
-  parts_back : (k : ℕ) (seen : List A) (ts : Tokens) (b : List A × Tokens) → parts part mark k seen ts ≡ Some b → PartsRead mark Is seen ts b
+  pub parts_back : (k : ℕ) (seen : List A) (ts : Tokens) (b : List A × Tokens) → parts part mark k seen ts ≡ Some b → PartsRead mark Is seen ts b
   parts_back zero seen ts b e = absurd (cc)
   parts_back (suc k) seen ts b e =
       let p = onward_back (part seen ts) _ b e in
@@ -237,7 +237,7 @@ cases_spelled [] ts r h = h
 cases_spelled (x ∷ []) ts r (l, (t, m, e, n, s), c) = (t, m, l, e, n, s, c)
 cases_spelled (x ∷ y ∷ xs) ts r (l, (t, m, e, n, s), h) = (t, m, l, e, n, s, cases_spelled (y ∷ xs) l r h)
 
-field_names_of : (xs : List (List ℕ × TypeTree)) → map (λ f. f.0) xs ≡ field_names (fields_of xs)
+pub field_names_of : (xs : List (List ℕ × TypeTree)) → map (λ f. f.0) xs ≡ field_names (fields_of xs)
 field_names_of [] = refl
 field_names_of (x ∷ xs) = ap (λ l. x.0 ∷ l) (field_names_of xs)
 
@@ -269,23 +269,23 @@ names_back mark ts b e =
 
 -- ---- what the makers make
 
-tuple_made : (Ts : List TypeTree) (T : TypeTree) → tuple_type Ts ≡ Some T → T ≡ tuple (types_of Ts)
+pub tuple_made : (Ts : List TypeTree) (T : TypeTree) → tuple_type Ts ≡ Some T → T ≡ tuple (types_of Ts)
 tuple_made [] T e = absurd (cc)
 tuple_made (U ∷ Us) T e = cc
 
-record_made : (fs : List (List ℕ × TypeTree)) (T : TypeTree) → maker.record_type fs ≡ Some T → T ≡ record_type (fields_of fs)
+pub record_made : (fs : List (List ℕ × TypeTree)) (T : TypeTree) → maker.record_type fs ≡ Some T → T ≡ record_type (fields_of fs)
 record_made [] T e = absurd (cc)
 record_made (f ∷ fs) T e = cc
 
-variant_made : (cs : List (List ℕ × Option TypeTree)) (T : TypeTree) → variant_type cs ≡ Some T → T ≡ variant (cases_of cs)
+pub variant_made : (cs : List (List ℕ × Option TypeTree)) (T : TypeTree) → variant_type cs ≡ Some T → T ≡ variant (cases_of cs)
 variant_made [] T e = absurd (cc)
 variant_made (c ∷ cs) T e = cc
 
-enum_made : (ns : List (List ℕ)) (T : TypeTree) → enum_type ns ≡ Some T → T ≡ enum ns
+pub enum_made : (ns : List (List ℕ)) (T : TypeTree) → enum_type ns ≡ Some T → T ≡ enum ns
 enum_made [] T e = absurd (cc)
 enum_made (n ∷ ns) T e = cc
 
-flags_made : (ns : List (List ℕ)) (T : TypeTree) → flags_type ns ≡ Some T → T ≡ flags ns
+pub flags_made : (ns : List (List ℕ)) (T : TypeTree) → flags_type ns ≡ Some T → T ≡ flags ns
 flags_made [] T e = absurd (cc)
 flags_made (n ∷ ns) T e = cc
 
@@ -309,7 +309,7 @@ only_back kinds.Char K e = (char, cc, refl)
 only_back kinds.String K e = (string, cc, refl)
 only_back _ K e = absurd (cc)
 
-key_back : (ts : Tokens) (b : TypeTree × Tokens) → key_at ts ≡ Some b → KeyRead ts b
+pub key_back : (ts : Tokens) (b : TypeTree × Tokens) → key_at ts ≡ Some b → KeyRead ts b
 key_back [] b e = absurd (cc)
 key_back (t ∷ ts) b e =
     let p = made_back (key_of_word t) ts b e in
@@ -318,7 +318,7 @@ key_back (t ∷ ts) b e =
     let is : t ≡ kind_word (simple_kind s.0) = word_back t k.0 k.1 ∙ ap kind_word s.2 in
     record { kind = s.0; is = s.1; next = λ i. is i ∷ p.1 i }
 
-map_made : (K V : TypeTree) (S : Simple) (T : TypeTree) → K ≡ simple S → map_type K V ≡ Some T → T ≡ map_tree S V
+pub map_made : (K V : TypeTree) (S : Simple) (T : TypeTree) → K ≡ simple S → map_type K V ≡ Some T → T ≡ map_tree S V
 map_made K V S T is e = let there : map_type (simple S) V ≡ Some T = sym (ap (λ z. map_type z V) is) ∙ e in cc
 
 -- ---- types, where those inside are read

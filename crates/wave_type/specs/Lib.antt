@@ -12,3 +12,4 @@ pub mod FunctionEqualityLaws
 pub mod TypeSpelling
 pub mod TypeErrors
 pub mod FunctionSpelling
+pub mod GoodNames

@@ -1,9 +1,11 @@
 //! Laws of types and types of functions, over the definitions alone.
 ghost use Rattle.std.specs.Prelude.{◌≡◌, ◌↔◌, ℕ, List, Some, true};
 ghost use Rattle.wave_wasm.specs.Types.{TypeTree, IsOwn};
-ghost use Rattle.wave_lex.specs.Labels.{HasLabels};
+ghost use Rattle.wave_lex.specs.Labels.{HasLabels, Good};
 ghost use Rattle.wave_type.specs.FunctionEquality.{same_function};
+ghost use Rattle.wave_type.specs.FunctionSpelling.{IsFunctionOf};
 ghost use Rattle.wave_type.specs.FunctionType.{FunctionType};
+ghost use Rattle.wave_type.specs.GoodNames.{IsGoodFunction};
 ghost use Rattle.wave_type.specs.TypeConversion.{converted_type};
 ghost use Rattle.wave_type.specs.TypeEquality.{same_tree};
 ghost use Rattle.wave_type.specs.TypeSpelling.{IsTypeOf};
@@ -33,4 +35,11 @@ pub fn equal_functions()
 /// No text spells two types.
 pub fn one_type_of_text()
     ensures { (text : List ℕ) (T U : TypeTree) → IsTypeOf text T → IsTypeOf text U → T ≡ U }
+{}
+
+/// The names of what a text spells are labels, and distinct: within a type, in each record, variant,
+/// enum and flags; of a function also its parameters and its named results.
+pub fn spelled_names_are_labels()
+    ensures types { (text : List ℕ) (T : TypeTree) → IsTypeOf text T → Good T }
+    ensures functions { (text : List ℕ) (f : FunctionType) → IsFunctionOf text f → IsGoodFunction f }
 {}

@@ -1,10 +1,9 @@
 //! Types from their tokens.
-ghost use Rattle.std.specs.Prelude.{◌≡◌, IfOk, IfErr, MatchBool, option_map, Some, None, drop, length, codes};
+ghost use Rattle.std.specs.Prelude.{ℕ, List, [], ◌∷◌, ◌++◌, ◌≡◌, IfOk, IfErr, MatchBool, option_map, Some, None, drop, length, codes};
 ghost use Rattle.wave_wasm.specs.declared.wasm.WasmTypeKind.TheVariants as kinds;
-ghost use Rattle.wave_wasm.specs.Names.{is_one_of};
 ghost use Rattle.wave_wasm.specs.Borrowed.{texts, named};
 ghost use Rattle.wave_type.specs.Private.TypeTokens.{Answers, texts_of};
-ghost use Rattle.wave_type.specs.Private.TypeReading.{first_of, second_is, key_of_word, after, closed, kind_of_word, kind_at, name_of_token, name_at, new_name, without_percent, count_of_token, count_at, key_at, names_read, types_read, fields_read, cases_read, part_names, payload_read, list_read, fixed_read, option_read, map_read, result_read, payloads_read, err_read, kind_read, type_read, enum_read, flags_read};
+ghost use Rattle.wave_type.specs.Private.TypeReading.{first_of, second_is, key_of_word, after, closed, kind_of_word, kind_at, name_of_token, name_at, HasNames, new_name, without_percent, count_of_token, count_at, key_at, names_read, types_read, fields_read, cases_read, payload_read, list_read, fixed_read, option_read, map_read, result_read, payloads_read, err_read, kind_read, type_read, enum_read, flags_read};
 
 use crate::error::TypeErrorKind;
 use crate::tokens::Token;
@@ -12,6 +11,7 @@ use crate::ty::Type;
 use crate::ty::labels::is_label;
 use itoa::Buffer;
 use std::alloc::Global;
+use std::collections::BTreeSet;
 use std::marker::Model;
 use wave_wasm::wasm::WasmTypeKind;
 
@@ -102,20 +102,6 @@ fn count_of_token(token: &str) -> Option<u32>
     } else {
         None
     }
-}
-
-/// Whether one of the fields or cases has this name.
-fn is_named<A>(parts: &Vec<(&str, A)>, name: &str) -> bool
-    ensures { result ≡ is_one_of (part_names (named parts.now.items)) name.now }
-{
-    parts.iter().any(|part| name == part.0)
-}
-
-/// Whether the name is one of these.
-fn is_among(names: &Vec<&str>, name: &str) -> bool
-    ensures { result ≡ is_one_of (texts names.now.items) name.now }
-{
-    names.iter().any(|other| name == *other)
 }
 
 impl<'tokens, 'text> Reader<'tokens, 'text> {
@@ -285,24 +271,14 @@ impl<'tokens, 'text> Reader<'tokens, 'text> {
         }
     }
 
-    /// Takes a name, which has to stand next and is none of these.
-    fn new_name(&mut self, names: &Vec<&str>) -> Result<&'text str, TypeErrorKind>
-        ensures { Answers (λ name. name.now) result self.new (new_name (texts names.now.items) self.old) }
+    /// Takes a name, which has to stand next and is none of those that were taken; it is one of them
+    /// then.
+    fn new_name(&mut self, taken: &mut BTreeSet<&'text str>) -> Result<&'text str, TypeErrorKind>
+        ensures read { (names : List (List ℕ)) → HasNames taken.old names → Answers (λ name. name.now) result self.new (new_name names self.old) }
+        ensures added { IfOk result (λ name. (names : List (List ℕ)) → HasNames taken.old names → HasNames taken.new (names ++ name.now ∷ [])) }
     {
         let name = self.name()?;
-        if is_among(names, name) {
-            return Err(TypeErrorKind::DuplicateName);
-        }
-        self.skip();
-        Ok(name)
-    }
-
-    /// Takes a name, which has to stand next and is that of none of these.
-    fn part_name<A>(&mut self, parts: &Vec<(&str, A)>) -> Result<&'text str, TypeErrorKind>
-        ensures { Answers (λ name. name.now) result self.new (new_name (part_names (named parts.now.items)) self.old) }
-    {
-        let name = self.name()?;
-        if is_named(parts, name) {
+        if !taken.insert(name)? {
             return Err(TypeErrorKind::DuplicateName);
         }
         self.skip();
@@ -313,9 +289,10 @@ impl<'tokens, 'text> Reader<'tokens, 'text> {
     fn names(&mut self, alloc: Global, mark: &str) -> Result<Vec<&'text str>, TypeErrorKind>
         ensures { Answers (λ names. texts names.items) result self.new (names_read mark.now self.old) }
     {
+        let mut taken = BTreeSet::new(alloc);
         let mut names = Vec::new(alloc);
         for _part in 0..self.rest.len() {
-            let name = self.new_name(&names)?;
+            let name = self.new_name(&mut taken)?;
             names.push(name)?;
             if self.closes(mark) {
                 return Ok(names);
@@ -485,9 +462,10 @@ impl<'tokens, 'text> Reader<'tokens, 'text> {
     ) -> Result<Vec<(&'text str, Type)>, TypeErrorKind>
         ensures { Answers (λ fields. named fields.items) result self.new (fields_read (type_read levels) mark.now self.old) }
     {
+        let mut taken = BTreeSet::new(alloc);
         let mut fields = Vec::new(alloc);
         for _part in 0..self.rest.len() {
-            let name = self.part_name(&fields)?;
+            let name = self.new_name(&mut taken)?;
             self.expect(":")?;
             let ty = self.ty(alloc, levels)?;
             fields.push((name, ty))?;
@@ -517,9 +495,10 @@ impl<'tokens, 'text> Reader<'tokens, 'text> {
     ) -> Result<Vec<(&'text str, Option<Type>)>, TypeErrorKind>
         ensures { Answers (λ cases. named cases.items) result self.new (cases_read (type_read levels) self.old) }
     {
+        let mut taken = BTreeSet::new(alloc);
         let mut cases = Vec::new(alloc);
         for _part in 0..self.rest.len() {
-            let name = self.part_name(&cases)?;
+            let name = self.new_name(&mut taken)?;
             let payload = self.payload(alloc, levels)?;
             cases.push((name, payload))?;
             if self.closes("}") {

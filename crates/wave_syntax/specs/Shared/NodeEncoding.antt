@@ -29,7 +29,9 @@ type_number kind.Flags = 16
 
 -- the types of nodes in the order of their numbers
 abbrev all_types : List NodeType
-all_types = kind.BoolTrue ∷ kind.BoolFalse ∷ kind.Number ∷ kind.Char ∷ kind.String ∷ kind.MultilineString ∷ kind.Tuple ∷ kind.List ∷ kind.TupleSet ∷ kind.EmptySet ∷ kind.Label ∷ kind.VariantWithPayload ∷ kind.OptionSome ∷ kind.OptionNone ∷ kind.ResultOk ∷ kind.ResultErr ∷ kind.Flags ∷ []
+all_types =
+    kind.BoolTrue ∷ kind.BoolFalse ∷ kind.Number ∷ kind.Char ∷ kind.String ∷ kind.MultilineString ∷ kind.Tuple ∷ kind.List ∷ kind.TupleSet
+    ∷ kind.EmptySet ∷ kind.Label ∷ kind.VariantWithPayload ∷ kind.OptionSome ∷ kind.OptionNone ∷ kind.ResultOk ∷ kind.ResultErr ∷ kind.Flags ∷ []
 
 -- the type of nodes of this number
 abbrev numbered_type : ℕ → NodeType

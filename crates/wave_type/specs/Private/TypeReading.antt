@@ -1,7 +1,11 @@
 -- How the types of a text are read from its tokens, step by step.
-use Rattle.std.specs.Prelude.{ℕ, zero, suc, ◌^◌, ◌&&◌, nat_lt, Bool, false, ◌==◌, if◌then◌else◌, List, [], ◌∷◌, ◌++◌, map, length, drop, codes, Option, Some, None}
+use Rattle.std.specs.Prelude.{ℕ, ◌≡◌, zero, suc, ◌^◌, ◌&&◌, nat_lt, Bool, false, ◌==◌, if◌then◌else◌, List, [], ◌∷◌, ◌++◌, map, length, drop, codes, Option, Some, None}
+use Rattle.std.specs.Borrow.{Bor}
+use Rattle.std.specs.BTreeSet.{BTreeSet, contains_by}
+use Rattle.std.specs.Cmp.Lexicographic.{slice_cmp}
 use Rattle.std.specs.Fmt.{decimal}
 use Rattle.std.specs.List.{find}
+use Rattle.std.specs.Ordering.{nat_cmp}
 use Rattle.std.specs.Str.{bytes_eq}
 use Rattle.std.specs.Str.Parse.{digits_value}
 use Rattle.wave_wasm.specs.declared.wasm.WasmTypeKind.{WasmTypeKind}
@@ -88,6 +92,10 @@ name_of_token t = if is_label (without_percent t) then Some (without_percent t) 
 abbrev pub name_at : Tokens → Option (List ℕ)
 name_at [] = None
 name_at (t ∷ ts) = name_of_token t
+
+-- the set has these names and no others
+abbrev pub HasNames : BTreeSet (Bor (List ℕ)) → List (List ℕ) → Type 0
+HasNames set names = (name : List ℕ) → contains_by (λ k. slice_cmp nat_cmp name k.now) set ≡ is_one_of names name
 
 -- the name that stands next and is none of these, and what follows
 abbrev pub new_name : List (List ℕ) → Tokens → Option (List ℕ × Tokens)

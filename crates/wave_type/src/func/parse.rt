@@ -1,10 +1,11 @@
 //! Types of functions from their texts.
-ghost use Rattle.std.specs.Prelude.{◌≡◌, ◌⊎◌, IfOk, IfErr, map, codes};
+ghost use Rattle.std.specs.Prelude.{◌≡◌, ◌≤◌, ◌⊎◌, IfOk, IfErr, map, codes};
 ghost use Rattle.wave_lex.specs.Errors.{LiesInText};
 ghost use Rattle.wave_wasm.specs.Borrowed.{named};
 ghost use Rattle.wave_type.specs.declared.error.TypeErrorKind.TheVariants.{OutOfMemory};
-ghost use Rattle.wave_type.specs.FunctionSpelling.{SpellsFunction, SpellsNoFunction, IsFunctionOf, IsNoFunction};
+ghost use Rattle.wave_type.specs.FunctionSpelling.{SpellsFunction, SpellsNoFunction, IsFunctionOf, IsNoFunction, levels_of_function};
 ghost use Rattle.wave_type.specs.FunctionType.{named_function};
+ghost use Rattle.wave_type.specs.GoodNames.{IsGoodFunction};
 ghost use Rattle.wave_type.specs.Private.FunctionReading.{params_read, result_parts_read, results_read, function_read};
 ghost use Rattle.wave_type.specs.Private.TypeReading.{after, type_read};
 ghost use Rattle.wave_type.specs.Private.TypeTokens.{Answers};
@@ -24,6 +25,8 @@ impl FuncType {
     /// with named results in parentheses, where there are results. All else is as in `Type::parse`.
     pub fn parse(alloc: Global, text: &str) -> Result<FuncType, TypeError>
         ensures spelled { IfOk result (λ f. IsFunctionOf text.now f) }
+        ensures levels { IfOk result (λ f. levels_of_function f ≤ 100) }
+        ensures labels { IfOk result (λ f. IsGoodFunction f) }
         ensures refused { IfErr result (λ e. IsNoFunction text.now e.kind) }
         ensures within { IfErr result (λ e. LiesInText text.now e.span) }
     {
@@ -50,6 +53,8 @@ fn whole_function(
     levels: usize,
 ) -> Result<FuncType, TypeErrorKind>
     ensures spelled { IfOk result (λ f. SpellsFunction f reader.old) }
+    ensures levels { IfOk result (λ f. levels_of_function f ≤ levels) }
+    ensures labels { IfOk result (λ f. IsGoodFunction f) }
     ensures refused { IfErr result (λ kind. (kind ≡ OutOfMemory) ⊎ SpellsNoFunction levels reader.old) }
 {
     let (params, results) = function(alloc, reader, levels)?;

@@ -1,8 +1,9 @@
 //! Types from their texts.
-ghost use Rattle.std.specs.Prelude.{◌≡◌, ◌⊎◌, IfOk, IfErr, []};
+ghost use Rattle.std.specs.Prelude.{◌≡◌, ◌≤◌, ◌⊎◌, IfOk, IfErr, []};
 ghost use Rattle.wave_lex.specs.Errors.{LiesInText};
+ghost use Rattle.wave_lex.specs.Labels.{Good};
 ghost use Rattle.wave_type.specs.Private.TypeTokens.{AreWithin};
-ghost use Rattle.wave_type.specs.TypeSpelling.{Spells, SpellsNone, IsTypeOf, IsNoType};
+ghost use Rattle.wave_type.specs.TypeSpelling.{Spells, SpellsNone, IsTypeOf, IsNoType, levels_of};
 ghost use Rattle.wave_type.specs.declared.error.TypeErrorKind.TheVariants.{OutOfMemory};
 
 use super::Type;
@@ -21,6 +22,8 @@ impl Type {
     /// and perhaps a `%` before a name. At most a hundred types may stand one inside another.
     pub fn parse(alloc: Global, text: &str) -> Result<Type, TypeError>
         ensures spelled { IfOk result (λ ty. IsTypeOf text.now ty) }
+        ensures levels { IfOk result (λ ty. levels_of ty ≤ 100) }
+        ensures labels { IfOk result (λ ty. Good ty) }
         ensures refused { IfErr result (λ e. IsNoType text.now e.kind) }
         ensures within { IfErr result (λ e. LiesInText text.now e.span) }
     {
@@ -44,6 +47,8 @@ fn whole_type(
     levels: usize,
 ) -> Result<Type, TypeErrorKind>
     ensures spelled { IfOk result (λ ty. Spells ty reader.old []) }
+    ensures levels { IfOk result (λ ty. levels_of ty ≤ levels) }
+    ensures labels { IfOk result (λ ty. Good ty) }
     ensures refused { IfErr result (λ kind. (kind ≡ OutOfMemory) ⊎ SpellsNone levels reader.old) }
 {
     let ty = reader.ty(alloc, levels)?;

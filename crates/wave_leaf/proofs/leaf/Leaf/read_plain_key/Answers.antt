@@ -11,31 +11,33 @@ use Rattle.wave_syntax.proofs.ByKind.Wholes.{whole_answers_key, whole_at}
 use Rattle.wave_syntax.proofs.ByKind.TextKeys.{char_key, no_char_key}
 use Rattle.wave_syntax.proofs.ErrorSpans.Nodes.{all_in, at_in, made_in, form_at, char_at}
 use Rattle.wave_leaf.specs.Leaves.{leaf_node}
+use Rattle.wave_leaf.proofs.NamedKinds.{none_word}
 use Rattle.wave_leaf.proofs.leaf.Leaf.read_plain_key.Goals as goal
 
 pub returns-in_err-as_bool_key-in-Bool-clause-answer : goal.returns-in_err-as_bool_key-in-Bool-clause-answer
 returns-in_err-as_bool_key-in-Bool-clause-answer g c = λ source here K p key is token.
-    key_faulty g.V.WasmValue.tree g.V.WasmValue.is_of g.V.WasmValue.is_full (g.V.Type.WasmType.tree c.args.ty.now) K type.bool p key c.in_err-as_bool_key-in-Bool.field-0.0 c.from_residual.result is (simple_is type.bool (g.V.Type.WasmType.tree c.args.ty.now) c.in-Bool.ensures) c.from_residual.ensures.1 (no_bool_key source (leaf_node c.args.self.now) p key c.in_err-as_bool_key-in-Bool.field-0.0 token (c.in_err-as_bool_key-in-Bool.ensures source here))
+    key_faulty g.V.WasmValue.tree g.V.WasmValue.is_of g.V.WasmValue.is_full (g.V.Type.WasmType.tree c.args.ty.now) K type.bool p key c.in_err-as_bool_key-in-Bool.field-0.0 c.from_residual.result is (simple_is type.bool (g.V.Type.WasmType.tree c.args.ty.now) (sym c.in-Bool.is ∙ c.kind-kind.ensures)) c.from_residual.ensures.1 (no_bool_key source (leaf_node c.args.self.now) p key c.in_err-as_bool_key-in-Bool.field-0.0 token (c.in_err-as_bool_key-in-Bool.ensures source here))
 
 pub returns-in_ok-as_bool_key-in-Bool-clause-answer : goal.returns-in_ok-as_bool_key-in-Bool-clause-answer
 returns-in_ok-as_bool_key-in-Bool-clause-answer g c = λ source here K p key is token.
-    key_made g.V.WasmValue.tree g.V.WasmValue.is_of g.V.WasmValue.is_full (g.V.Type.WasmType.tree c.args.ty.now) K type.bool p key (leaf_node c.args.self.now) (value.bool c.in_ok-as_bool_key-in-Bool.field-0) c.make_bool.result c.or_error_here.result is (simple_is type.bool (g.V.Type.WasmType.tree c.args.ty.now) c.in-Bool.ensures) refl (bool_key source (leaf_node c.args.self.now) p key c.in_ok-as_bool_key-in-Bool.field-0 token (c.in_ok-as_bool_key-in-Bool.ensures source here)) c.make_bool.ensures.made c.make_bool.ensures.full c.or_error_here.ensures
+    key_made g.V.WasmValue.tree g.V.WasmValue.is_of g.V.WasmValue.is_full (g.V.Type.WasmType.tree c.args.ty.now) K type.bool p key (leaf_node c.args.self.now) (value.bool c.in_ok-as_bool_key-in-Bool.field-0) c.make_bool.result c.or_error_here.result is (simple_is type.bool (g.V.Type.WasmType.tree c.args.ty.now) (sym c.in-Bool.is ∙ c.kind-kind.ensures)) refl (bool_key source (leaf_node c.args.self.now) p key c.in_ok-as_bool_key-in-Bool.field-0 token (c.in_ok-as_bool_key-in-Bool.ensures source here)) c.make_bool.ensures.made c.make_bool.ensures.full c.or_error_here.ensures
 
-pub returns-in_default-clause-answer : goal.returns-in_default-clause-answer
-returns-in_default-clause-answer g c = λ source here K p key is token.
-    whole_answers_key g.V.WasmValue.tree g.V.WasmValue.is_of g.V.WasmValue.is_full K c.kind.result source (leaf_node c.args.self.now) p key c.read_whole.result (c.kind.ensures ∙ ap kind_of is) c.in_default.not-Bool c.in_default.not-Char c.in_default.not-String token (c.read_whole.ensures source here)
+pub returns-in-S8-clause-answer : goal.returns-in-S8-clause-answer
+returns-in-S8-clause-answer g c = λ source here K p key is token.
+    let none = none_word c.kind-kind.result c.in-S8.is in
+    whole_answers_key g.V.WasmValue.tree g.V.WasmValue.is_of g.V.WasmValue.is_full K c.kind-kind.result source (leaf_node c.args.self.now) p key c.read_whole.result (c.kind-kind.ensures ∙ ap kind_of is) none.0 none.1 none.2 token (c.read_whole.ensures source here)
 
 pub returns-in_err-as_char-in-Char-clause-answer : goal.returns-in_err-as_char-in-Char-clause-answer
 returns-in_err-as_char-in-Char-clause-answer g c = λ source here K p key is token.
-    key_faulty g.V.WasmValue.tree g.V.WasmValue.is_of g.V.WasmValue.is_full (g.V.Type.WasmType.tree c.args.ty.now) K type.char p key c.in_err-as_char-in-Char.field-0.0 c.from_residual-in_err-as_char-in-Char.result is (simple_is type.char (g.V.Type.WasmType.tree c.args.ty.now) c.in-Char.ensures) c.from_residual-in_err-as_char-in-Char.ensures.1 (no_char_key source (leaf_node c.args.self.now) p key c.in_err-as_char-in-Char.field-0.0 token (c.in_err-as_char-in-Char.ensures.gives source here))
+    key_faulty g.V.WasmValue.tree g.V.WasmValue.is_of g.V.WasmValue.is_full (g.V.Type.WasmType.tree c.args.ty.now) K type.char p key c.in_err-as_char-in-Char.field-0.0 c.from_residual-in_err-as_char-in-Char.result is (simple_is type.char (g.V.Type.WasmType.tree c.args.ty.now) (sym c.in-Char.is ∙ c.kind-kind.ensures)) c.from_residual-in_err-as_char-in-Char.ensures.1 (no_char_key source (leaf_node c.args.self.now) p key c.in_err-as_char-in-Char.field-0.0 token (c.in_err-as_char-in-Char.ensures.gives source here))
 
 pub returns-in_ok-as_char-in-Char-clause-answer : goal.returns-in_ok-as_char-in-Char-clause-answer
 returns-in_ok-as_char-in-Char-clause-answer g c = λ source here K p key is token.
-    key_made g.V.WasmValue.tree g.V.WasmValue.is_of g.V.WasmValue.is_full (g.V.Type.WasmType.tree c.args.ty.now) K type.char p key (leaf_node c.args.self.now) (value.char c.in_ok-as_char-in-Char.field-0) c.make_char.result c.or_error_here-in-Char.result is (simple_is type.char (g.V.Type.WasmType.tree c.args.ty.now) c.in-Char.ensures) refl (char_key source (leaf_node c.args.self.now) p key c.in_ok-as_char-in-Char.field-0 token (c.in_ok-as_char-in-Char.ensures.gives source here)) c.make_char.ensures.made c.make_char.ensures.full c.or_error_here-in-Char.ensures
+    key_made g.V.WasmValue.tree g.V.WasmValue.is_of g.V.WasmValue.is_full (g.V.Type.WasmType.tree c.args.ty.now) K type.char p key (leaf_node c.args.self.now) (value.char c.in_ok-as_char-in-Char.field-0) c.make_char.result c.or_error_here-in-Char.result is (simple_is type.char (g.V.Type.WasmType.tree c.args.ty.now) (sym c.in-Char.is ∙ c.kind-kind.ensures)) refl (char_key source (leaf_node c.args.self.now) p key c.in_ok-as_char-in-Char.field-0 token (c.in_ok-as_char-in-Char.ensures.gives source here)) c.make_char.ensures.made c.make_char.ensures.full c.or_error_here-in-Char.ensures
 
 pub returns-in-String-clause-answer : goal.returns-in-String-clause-answer
 returns-in-String-clause-answer g c = λ source here.
-    subst (λ (T : TypeTree). AnswersKey g.V.WasmValue.tree g.V.WasmValue.is_of g.V.WasmValue.is_full T source (leaf_node c.args.self.now) c.read_string_key.result) (sym (simple_is type.string (g.V.Type.WasmType.tree c.args.ty.now) c.in-String.ensures)) (c.read_string_key.ensures.answer source here)
+    subst (λ (T : TypeTree). AnswersKey g.V.WasmValue.tree g.V.WasmValue.is_of g.V.WasmValue.is_full T source (leaf_node c.args.self.now) c.read_string_key.result) (sym (simple_is type.string (g.V.Type.WasmType.tree c.args.ty.now) (sym c.in-String.is ∙ c.kind-kind.ensures))) (c.read_string_key.ensures.answer source here)
 
 pub returns-in_err-as_bool_key-in-Bool-clause-within : goal.returns-in_err-as_bool_key-in-Bool-clause-within
 returns-in_err-as_bool_key-in-Bool-clause-within g c = λ source here key.
@@ -49,9 +51,9 @@ pub returns-in_ok-as_bool_key-in-Bool-clause-within : goal.returns-in_ok-as_bool
 returns-in_ok-as_bool_key-in-Bool-clause-within g c = λ source here key.
     made_in source (leaf_node c.args.self.now) c.make_bool.result c.or_error_here.result (inr key) c.or_error_here.ensures
 
-pub returns-in_default-clause-within : goal.returns-in_default-clause-within
-returns-in_default-clause-within g c = λ source here key.
-    all_in source (leaf_node c.args.self.now) c.read_whole.result (inr key) (whole_at g.V.WasmValue.tree g.V.WasmValue.is_of g.V.WasmValue.is_full c.kind.result source (leaf_node c.args.self.now) c.read_whole.result (c.read_whole.ensures source here))
+pub returns-in-S8-clause-within : goal.returns-in-S8-clause-within
+returns-in-S8-clause-within g c = λ source here key.
+    all_in source (leaf_node c.args.self.now) c.read_whole.result (inr key) (whole_at g.V.WasmValue.tree g.V.WasmValue.is_of g.V.WasmValue.is_full c.kind-kind.result source (leaf_node c.args.self.now) c.read_whole.result (c.read_whole.ensures source here))
 
 pub returns-in_ok-as_char-in-Char-clause-within : goal.returns-in_ok-as_char-in-Char-clause-within
 returns-in_ok-as_char-in-Char-clause-within g c = λ source here key.

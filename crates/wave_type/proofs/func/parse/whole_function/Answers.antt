@@ -1,7 +1,10 @@
-use Rattle.std.proofs.Common.{inr, arith}
+use Rattle.std.proofs.Common.{◌≤◌, inr, arith}
 use Rattle.wave_type.specs.FunctionType.{named_function}
-use Rattle.wave_type.specs.FunctionSpelling.{SpellsFunction}
+use Rattle.wave_type.specs.FunctionSpelling.{SpellsFunction, levels_of_function}
 use Rattle.wave_type.proofs.FunctionsRead.{function_sound, function_left, ok_more}
+use Rattle.wave_type.specs.GoodNames.{IsGoodFunction}
+use Rattle.wave_type.proofs.SpelledNames.{function_good}
+use Rattle.wave_type.proofs.TypeLevels.{function_low}
 use Rattle.wave_type.proofs.func.parse.whole_function.Goals as goal
 
 pub returns-then-count-gt0-clause-refused : goal.returns-then-count-gt0-clause-refused
@@ -14,3 +17,15 @@ returns-clause-spelled c =
     let f = named_function c.in_ok-params.params.items c.in_ok-params.results.items in
     let spelled = function_sound c.args.levels c.args.reader.now c.function.new.reader f c.in_ok-params.ensures (omega (arith, c.count.ensures, c.if-count-gt0.false)) in
     ok_more (λ g. SpellsFunction g c.args.reader.now) f c.made.result c.made.ensures.made spelled
+
+pub returns-clause-levels : goal.returns-clause-levels
+returns-clause-levels c =
+    let f = named_function c.in_ok-params.params.items c.in_ok-params.results.items in
+    let low = function_low c.args.levels c.args.reader.now c.function.new.reader f c.in_ok-params.ensures in
+    ok_more (λ g. levels_of_function g ≤ c.args.levels) f c.made.result c.made.ensures.made low
+
+pub returns-clause-labels : goal.returns-clause-labels
+returns-clause-labels c =
+    let f = named_function c.in_ok-params.params.items c.in_ok-params.results.items in
+    let spelled = function_sound c.args.levels c.args.reader.now c.function.new.reader f c.in_ok-params.ensures (omega (arith, c.count.ensures, c.if-count-gt0.false)) in
+    ok_more (λ g. IsGoodFunction g) f c.made.result c.made.ensures.made (function_good f c.args.reader.now spelled)

@@ -1,6 +1,6 @@
 use Rattle.std.proofs.Common.{◌≡◌, ◌+◌, ◌-◌, ◌*◌, length, codes}
 use Rattle.wave_wasm.specs.Borrowed.{named}
-use Rattle.wave_type.specs.Private.TypeReading.{parts, field_part, case_part, types_read, fields_read, cases_read, type_read}
+use Rattle.wave_type.specs.Private.TypeReading.{HasNames, part_names, parts, field_part, case_part, types_read, fields_read, cases_read, type_read}
 use Rattle.wave_type.proofs.reader.Reader.+types.Given as goal
 
 abbrev pub decreases-ty : goal.decreases-ty
@@ -54,8 +54,8 @@ invariant-types-loop-part l =
 
 abbrev pub invariant-fields-loop-part : goal.invariant-fields-loop-part
 invariant-fields-loop-part l =
-    parts (field_part (type_read l.levels)) l.mark (length l.fn.self - l._part) (named l.fields.items) l.self ≡ fields_read (type_read l.levels) l.mark l.fn.self
+    HasNames l.taken (part_names (named l.fields.items)) × (parts (field_part (type_read l.levels)) l.mark (length l.fn.self - l._part) (named l.fields.items) l.self ≡ fields_read (type_read l.levels) l.mark l.fn.self)
 
 abbrev pub invariant-cases-loop-part : goal.invariant-cases-loop-part
 invariant-cases-loop-part l =
-    parts (case_part (type_read l.levels)) (codes "}") (length l.fn.self - l._part) (named l.cases.items) l.self ≡ cases_read (type_read l.levels) l.fn.self
+    HasNames l.taken (part_names (named l.cases.items)) × (parts (case_part (type_read l.levels)) (codes "}") (length l.fn.self - l._part) (named l.cases.items) l.self ≡ cases_read (type_read l.levels) l.fn.self)

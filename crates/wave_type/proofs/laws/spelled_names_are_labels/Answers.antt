@@ -1,0 +1,8 @@
+use Rattle.wave_type.proofs.SpelledNames.{text_good, function_text_good}
+use Rattle.wave_type.proofs.laws.spelled_names_are_labels.Goals as goal
+
+pub returns-clause-types : goal.returns-clause-types
+returns-clause-types c = text_good
+
+pub returns-clause-functions : goal.returns-clause-functions
+returns-clause-functions c = function_text_good
