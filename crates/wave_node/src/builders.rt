@@ -111,7 +111,8 @@ impl Node {
 
     /// Whether the node, which isn't of flags, has parts; else it is of one token.
     fn has_parts(&self) -> bool
-        ensures { (source : List ℕ) → IsValueOf source self.now → type_of self.now ≢ NodeType.Flags → MatchBool result (IsOfParts (type_of self.now)) (IsOfOneToken self.now) }
+        ensures { (source : List ℕ) → IsValueOf source self.now → type_of self.now ≢ NodeType.Flags
+            → MatchBool result (IsOfParts (type_of self.now)) (IsOfOneToken self.now) }
     {
         match self.ty() {
             NodeType::Tuple

@@ -118,7 +118,9 @@ pub(crate) fn push_omitted<V: WasmValue>(
     vals: &mut Vec<V>,
 ) -> Result<(), ParserError>
     requires { AllOf IsOption (map V.Type.tree types.now) }
-    ensures values { AllOf HasDistinctNames (map V.Type.tree types.now) → IfOk result (λ _. (others : List V) × (vals.new.items ≡ vals.old.items ++ others) × Omitted (map V.Type.tree types.now) (map V.tree others) × AreOf V.is_of (map V.Type.tree types.now) others) }
+    ensures values { AllOf HasDistinctNames (map V.Type.tree types.now)
+        → IfOk result (λ _. (others : List V) × (vals.new.items ≡ vals.old.items ++ others)
+        × Omitted (map V.Type.tree types.now) (map V.tree others) × AreOf V.is_of (map V.Type.tree types.now) others) }
     ensures refused { IfErr result (RefusesOmitted V.is_full (map V.Type.tree types.now) at) }
     ensures within { IfErr result (IsAtPlace at) }
 {

@@ -17,12 +17,14 @@ AreNext p ts = (last : Place) × TakesTokens p ts last × ((t : Token) (q : Plac
 -- where a value was read within n levels, a tree stood within n levels, and the tokens behind it are next
 abbrev pub ReadHaveATree : Type 0
 ReadHaveATree =
-    (n : ℕ) (p q : Place) (ts : List Token) → LeadsBehindValue n value [] p q [] → AreNext p ts → (t : Tree) × (rest : List Token) × tree.Takes n ts t rest × AreNext q rest
+    (n : ℕ) (p q : Place) (ts : List Token) → LeadsBehindValue n value [] p q [] → AreNext p ts
+    → (t : Tree) × (rest : List Token) × tree.Takes n ts t rest × AreNext q rest
 
 -- where a value was refused, no tree stood within n levels
 abbrev pub RefusedHaveNone : Type 0
 RefusedHaveNone =
-    (n : ℕ) (e : Diagnostic) (p q : Place) (ts : List Token) → IsSyntaxError e n value [] p q → AreNext p ts → (t : Tree) (rest : List Token) → tree.Takes n ts t rest → ⊥
+    (n : ℕ) (e : Diagnostic) (p q : Place) (ts : List Token) → IsSyntaxError e n value [] p q → AreNext p ts
+    → (t : Tree) (rest : List Token) → tree.Takes n ts t rest → ⊥
 
 -- in front of n tokens a new parser asks n + 1 times at most to read a value, and, where it has read one, to look whether something follows
 abbrev pub AskingsAreFew : Type 0
@@ -37,4 +39,5 @@ LiesInSource l = (l.start ≤ l.end) × (l.end ≤ length l.source)
 -- the span of a syntax refusal, and of what follows a value, lies in the source
 abbrev pub RefusalsLieInText : Type 0
 RefusalsLieInText =
-    (e : Diagnostic) (p : Place) → LiesInSource p.lexer → ((n : ℕ) × (q : Place) × IsSyntaxError e n value [] p q) ⊎ IsTrailing e p → LiesInText p.lexer.source e.span
+    (e : Diagnostic) (p : Place) → LiesInSource p.lexer
+    → ((n : ℕ) × (q : Place) × IsSyntaxError e n value [] p q) ⊎ IsTrailing e p → LiesInText p.lexer.source e.span

@@ -20,5 +20,6 @@ module _ {V : Type 0} (tree : V → Value) (of : V → TypeTree → Type 0) (Ful
 -- the same of untyped values
 pub record ReadsWholeTree (n : ℕ) (s : List ℕ) : Type 0 where
   pub ends : (p : Place) (u : Untyped) → IsUntypedTaken n (start_of s) p u → Finishes (Ok tt) p → IsUntypedOf n s u
-  pub trails : (p : Place) (u : Untyped) (e : Diagnostic) → LeadsBehindValue n value [] (start_of s) p [] → IsUntypedTaken n (start_of s) p u → Finishes (Err e) p → RefusesTree n s e
+  pub trails : (p : Place) (u : Untyped) (e : Diagnostic) → LeadsBehindValue n value [] (start_of s) p [] → IsUntypedTaken n (start_of s) p u
+      → Finishes (Err e) p → RefusesTree n s e
   pub refused : (p : Place) (e : Diagnostic) → FailsBySyntax e n value [] (start_of s) p → RefusesTree n s e

@@ -71,7 +71,8 @@ impl<'source> Tokens<'source> {
     ) -> Result<P::Made, Refusal>
         ensures led { let d = due_behind (word_of (text_at self.old.place)) in
             GivesWithin result (levels + 1) d [] self.old.place self.new.place }
-        ensures tree { IfOk result (IsBuilt (P.is_made builder) self.old.place (IsParsedBehind lex_class.LabelOrKeyword (levels + 1) self.old.place self.new.place)) }
+        ensures tree { IfOk result (IsBuilt (P.is_made builder) self.old.place
+            (IsParsedBehind lex_class.LabelOrKeyword (levels + 1) self.old.place self.new.place)) }
         ensures memory { IfErr result (WantsOnly (P.takes_memory builder) self.old.place) }
         ensures asks { AsksFor self.old self.new }
     {
@@ -242,7 +243,8 @@ impl<'source> Tokens<'source> {
         levels: u32,
     ) -> Result<P::Made, Refusal>
         ensures led { GivesWithin result (levels + 1) due.in_braces [] self.old.place self.new.place }
-        ensures tree { IfOk result (IsBuilt (P.is_made builder) self.old.place (IsParsedBehind lex_class.BraceOpen (levels + 1) self.old.place self.new.place)) }
+        ensures tree { IfOk result (IsBuilt (P.is_made builder) self.old.place
+            (IsParsedBehind lex_class.BraceOpen (levels + 1) self.old.place self.new.place)) }
         ensures asks { AsksFor self.old self.new }
     {
         let start = self.span().start;
@@ -379,7 +381,8 @@ impl<'source> Tokens<'source> {
         flags: BTreeMap<&'source str, Span>,
     ) -> Result<P::Made, Refusal>
         ensures made { let source = self.now.place.lexer.source in
-            IfOk result (λ made. AreFlagsOf source flags.entry → P.is_made builder source (node node_type.Flags (span start self.now.place.lexer.end) (flag_nodes flags.entry)) made) }
+            IfOk result (λ made. AreFlagsOf source flags.entry
+            → P.is_made builder source (node node_type.Flags (span start self.now.place.lexer.end) (flag_nodes flags.entry)) made) }
         ensures memory { IfErr result (λ e. e.kind ≡ kind.OutOfMemory) }
     {
         match builder.flags(alloc, start..self.span().end, flags) {

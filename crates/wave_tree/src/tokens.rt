@@ -255,9 +255,12 @@ impl<'source> Tokens<'source> {
     ) -> Result<(), Refusal>
         ensures kept { let source = self.now.place.lexer.source in
             let key = node ty (span_at self.now.place) no_nodes in
-            IfOk result (λ _. (of : NodeType) (children : List NodeTree) → TakesKey of children → P.are_parts builder source of children parts.old → P.are_parts builder source of (children ++ key ∷ []) parts.new) }
+            IfOk result (λ _. (of : NodeType) (children : List NodeTree)
+            → TakesKey of children → P.are_parts builder source of children parts.old
+            → P.are_parts builder source of (children ++ key ∷ []) parts.new) }
         ensures memory { IfErr result (λ e. e.kind ≡ kind.OutOfMemory) }
-        ensures takes { IfErr result (λ _. (source : List ℕ) (of : NodeType) (children : List NodeTree) → P.are_parts builder source of children parts.old → P.takes_memory builder) }
+        ensures takes { IfErr result (λ _. (source : List ℕ) (of : NodeType) (children : List NodeTree)
+            → P.are_parts builder source of children parts.old → P.takes_memory builder) }
     {
         match builder.with_key(alloc, parts, ty, self.span(), self.slice()) {
             Ok(()) => Ok(()),
@@ -274,9 +277,13 @@ impl<'source> Tokens<'source> {
         parts: &mut P::Parts,
         made: P::Made,
     ) -> Result<(), Refusal>
-        ensures kept { IfOk result (λ _. (source : List ℕ) (of : NodeType) (children : List NodeTree) (n : NodeTree) → TakesPart of children → P.are_parts builder source of children parts.old → P.is_made (P.next builder parts.old) source n made → P.are_parts builder source of (children ++ n ∷ []) parts.new) }
+        ensures kept { IfOk result (λ _. (source : List ℕ) (of : NodeType) (children : List NodeTree) (n : NodeTree)
+            → TakesPart of children → P.are_parts builder source of children parts.old
+            → P.is_made (P.next builder parts.old) source n made
+            → P.are_parts builder source of (children ++ n ∷ []) parts.new) }
         ensures memory { IfErr result (λ e. e.kind ≡ kind.OutOfMemory) }
-        ensures takes { IfErr result (λ _. (source : List ℕ) (of : NodeType) (children : List NodeTree) → P.are_parts builder source of children parts.old → P.takes_memory builder) }
+        ensures takes { IfErr result (λ _. (source : List ℕ) (of : NodeType) (children : List NodeTree)
+            → P.are_parts builder source of children parts.old → P.takes_memory builder) }
     {
         match builder.with_part(alloc, parts, made) {
             Ok(()) => Ok(()),
@@ -301,7 +308,8 @@ impl<'source> Tokens<'source> {
     /// there, and the refusal stands there; any other error stays, and so does the place.
     fn refuse(&mut self, error: ParserError, start: Start<'source>) -> ParserError
         ensures other { result.kind ≢ kind.OutOfMemory → (result ≡ error) × (self.new ≡ self.old) }
-        ensures memory { result.kind ≡ kind.OutOfMemory → (self.new.place.lexer ≡ start.entry) × Says result kind.OutOfMemory (span start.entry.start start.entry.end) None }
+        ensures memory { result.kind ≡ kind.OutOfMemory
+            → (self.new.place.lexer ≡ start.entry) × Says result kind.OutOfMemory (span start.entry.start start.entry.end) None }
         ensures kind { result.kind ≡ error.kind }
         ensures within { (error.kind ≢ kind.OutOfMemory → LiesInText start.entry.source error.span) → LiesInText start.entry.source result.span }
         ensures asks { asked_of self.new ≡ asked_of self.old }

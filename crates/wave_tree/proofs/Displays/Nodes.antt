@@ -17,7 +17,7 @@ use Rattle.wave_syntax.specs.Nodes.{placed_of, shape_from, pairs_of, flags_of, f
 use Rattle.wave_syntax.specs.NodeAccessors.{node_text}
 use Rattle.wave_syntax.specs.TypedReading.{IsValueOf}
 use Rattle.wave_tree.specs.NodeDisplay.{shown_placed, shown_at}
-use Rattle.wave_tree.specs.Private.NodeDisplay.{name_at, entries_at, fields_at, payload_at, AreEntriesOf}
+use Rattle.wave_tree.specs.Private.NodeDisplay.{name_at, entries_at, braces_at, payload_at, AreEntriesOf}
 use Rattle.wave_syntax.proofs.ChildNodes.Inside.{From, inside, some_is, flag_key, AreParsed, parsed, pair_parsed, nodes_in, nodes_are, is_number_word}
 use Rattle.wave_syntax.proofs.ChildNodes.Cases.{shape_at, case_shape}
 use Rattle.wave_syntax.proofs.ByKind.Leaves.{tree_is}
@@ -248,7 +248,7 @@ mapped f (Some a) b e = (a, refl, some_is _ _ e)
 mapped f None b e = absurd (cc)
 
 fields_shape : (source : List ℕ) (ns : List NodeTree) (p r : Range ℕ) (text : List ℕ) (cs : List Placed) (s : Shape) → AreParsed source ns cs → SpellsEach source (at r s) → shape_from kind.TupleSet p text cs ≡ Some s →
-    AreEntriesOf source ns × (fields_at source ns ≡ shown (tree_of_shape s))
+    AreEntriesOf source ns × (braces_at source ns ≡ shown (tree_of_shape s))
 fields_shape source [] p r text [] s h k e = (tt, ap (λ (x : Shape). shown (tree_of_shape x)) (some_is no_fields s e))
 fields_shape source [] p r text (c ∷ cs) s h k e = absurd h
 fields_shape source (n ∷ ns) p r text [] s h k e = absurd h
@@ -258,7 +258,7 @@ fields_shape source (n ∷ ns) p r text (c ∷ cs) s h k e =
     let it = pairs_shown source r.start r.end (n ∷ ns) (c ∷ cs) es h is spelled.1 in
     (it.0, ap (λ z. in_braces (joined z)) it.1 ∙ ap (λ (x : Shape). shown (tree_of_shape x)) shape)
 
-pub fields_shown : (source : List ℕ) (n : NodeTree) → IsValueOf source n → type_of n ≡ kind.TupleSet → AreEntriesOf source (children_of n) × (fields_at source (children_of n) ≡ shown_at source n)
+pub fields_shown : (source : List ℕ) (n : NodeTree) → IsValueOf source n → type_of n ≡ kind.TupleSet → AreEntriesOf source (children_of n) × (braces_at source (children_of n) ≡ shown_at source n)
 fields_shown source n v e =
     let o = opened kind.TupleSet source n v e in
     let it = fields_shape source (children_of n) (place_of n) o.place (node_text source n) o.children o.shape o.nodes o.spelled o.from in

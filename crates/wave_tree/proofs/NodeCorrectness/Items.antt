@@ -12,7 +12,7 @@ use Rattle.wave_syntax.specs.NodeTree.{NodeTree, node, no_nodes, node_trees}
 use Rattle.wave_syntax.specs.declared.form.NodeType.{NodeType}
 use Rattle.wave_syntax.specs.declared.form.NodeType.TheVariants as kind
 use Rattle.wave_tree.specs.ParsedNodes.{IsParsed, TakesClass}
-use Rattle.wave_tree.specs.Private.ParsedNodes.{IsParsedBehind, IsMaybe, IsPayload, IsOfItems, items_type, AreItems, AreFurther, IsKeyAt, ArePairs, IsOfEntries, IsOfFlags, label_children}
+use Rattle.wave_tree.specs.Private.ParsedNodes.{IsParsedBehind, IsMaybe, IsPayload, IsOfItems, items_type, AreClosedItems, AreFurther, IsKeyAt, ArePairs, IsOfEntries, IsOfFlags, label_children}
 use Rattle.wave_grammar.specs.Shared.TokenRoles.{IsClose}
 use Rattle.wave_lex.specs.Tokenization.{span}
 use Rattle.wave_tree.proofs.NodeCorrectness.Braces.{entries_parsed, empty_parsed, no_fields_parsed}
@@ -101,7 +101,7 @@ type_of_items c (inr e) h = ap items_type e
 
 -- a node of items
 pub items_made : (n : ℕ) (close : lex.Token) (p q : Place) (ty : NodeType) (start : ℕ) (ns : List NodeTree) (parsed : NodeTree) → parsed ≡ node ty (span start q.lexer.end) (node_trees ns) → ty ≡ items_type close → start ≡ p.lexer.start →
-    AreItems n close p ns q → (close ≡ ParenClose → ns ≢ []) → IsOfItems n close p q parsed
+    AreClosedItems n close p ns q → (close ≡ ParenClose → ns ≢ []) → IsOfItems n close p q parsed
 items_made n close p q ty start ns parsed is a b are some = record {
   items = ns;
   are = are;
@@ -116,16 +116,16 @@ items_none n close p w q start ns parsed is none_there i apart b same h =
     items_made n close p q kind.List start [] parsed (is ∙ ap (λ z. node kind.List (span start q.lexer.end) (node_trees z)) none_there) (sym (type_of_items close i apart)) b (subst (λ z. TakesClass close z q) same h) (λ e. absurd (apart e))
 
 -- before the first item
-pub items_first : (n : ℕ) (close : lex.Token) (p w : Place) (xs : List NodeTree) → xs ≡ [] → w ≡ p → (item : NodeTree) (m r : Place) (more : List NodeTree) → IsParsed n w m item → AreFurther n close m more r → AreItems n close p (xs ++ item ∷ more) r
-items_first n close p w xs e same item m r more h k = subst (λ z. AreItems n close p (z ++ item ∷ more) r) (sym e) (m, subst (λ z. IsParsed n z m item) same h, k)
+pub items_first : (n : ℕ) (close : lex.Token) (p w : Place) (xs : List NodeTree) → xs ≡ [] → w ≡ p → (item : NodeTree) (m r : Place) (more : List NodeTree) → IsParsed n w m item → AreFurther n close m more r → AreClosedItems n close p (xs ++ item ∷ more) r
+items_first n close p w xs e same item m r more h k = subst (λ z. AreClosedItems n close p (z ++ item ∷ more) r) (sym e) (m, subst (λ z. IsParsed n z m item) same h, k)
 
 -- behind a comma
 pub items_next : (n : ℕ) (close : lex.Token) (p0 p m w v : Place) (xs ys : List NodeTree) (one_item : NodeTree) →
-    ((item : NodeTree) (m r : Place) (more : List NodeTree) → IsParsed n p m item → AreFurther n close m more r → AreItems n close p0 (xs ++ item ∷ more) r) →
+    ((item : NodeTree) (m r : Place) (more : List NodeTree) → IsParsed n p m item → AreFurther n close m more r → AreClosedItems n close p0 (xs ++ item ∷ more) r) →
     IsParsed n p m one_item → TakesClass Comma m w → v ≡ w → ys ≡ xs ++ one_item ∷ [] →
-    (item : NodeTree) (b r : Place) (more : List NodeTree) → IsParsed n v b item → AreFurther n close b more r → AreItems n close p0 (ys ++ item ∷ more) r
+    (item : NodeTree) (b r : Place) (more : List NodeTree) → IsParsed n v b item → AreFurther n close b more r → AreClosedItems n close p0 (ys ++ item ∷ more) r
 items_next n close p0 p m w v xs ys one_item go h comma_there same e item b r more k further =
-    subst (λ z. AreItems n close p0 z r) (sym (append_assoc xs (one_item ∷ []) (item ∷ more)) ∙ ap (λ z. z ++ item ∷ more) (sym e))
+    subst (λ z. AreClosedItems n close p0 z r) (sym (append_assoc xs (one_item ∷ []) (item ∷ more)) ∙ ap (λ z. z ++ item ∷ more) (sym e))
     (go one_item m r (item ∷ more) h (w, b, comma_there, subst (λ z. IsParsed n z b item) same k, further))
 
 -- ---- entries

@@ -15,7 +15,7 @@ use Rattle.wave_syntax.specs.NodeTree.{NodeTree, node_trees}
 use Rattle.wave_syntax.specs.Nodes.{placed_of, all_placed, shape_from, and_then, with_both}
 use Rattle.wave_syntax.specs.declared.form.NodeType.TheVariants as kind
 use Rattle.wave_tree.specs.ParsedNodes.{IsSound, IsParsed}
-use Rattle.wave_tree.specs.Private.ParsedNodes.{IsClosed, AreFurther, AreItems, IsOfItems}
+use Rattle.wave_tree.specs.Private.ParsedNodes.{IsClosed, AreFurther, AreClosedItems, IsOfItems}
 use Rattle.wave_grammar.specs.Shared.TokenRoles.{IsClose}
 use Rattle.wave_grammar.specs.CommaSeparated.{Spelling, Closes, FurtherItems, Items}
 use Rattle.wave_tree.proofs.NodeCorrectness.Tokens.{in_order, sound_next, sound_tokens, start_of, at_start, made, takes_less}
@@ -114,7 +114,7 @@ further_spell c n p q (item ∷ more) mark (m, w, a, h, others) =
     }
 
 -- all items
-items_spell : (c : lex.Token) (n : ℕ) (p q : Place) (ns : List NodeTree) → IsMark c → AreItems n c p ns q → ItemsSpell n p q ns (Items (token_of c []) (tree.Takes n))
+items_spell : (c : lex.Token) (n : ℕ) (p q : Place) (ns : List NodeTree) → IsMark c → AreClosedItems n c p ns q → ItemsSpell n p q ns (Items (token_of c []) (tree.Takes n))
 items_spell c n p q [] mark h = record {
   tokens = token_of c [] ∷ [];
   taken = (q, (c, h, sym (mark.text (text_at q))), refl);

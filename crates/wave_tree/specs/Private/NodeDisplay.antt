@@ -24,9 +24,9 @@ AreEntriesOf source (k ∷ []) = ⊥
 AreEntriesOf source (k ∷ v ∷ more) = IsParsedFrom source k × IsValueOf source v × AreEntriesOf source more
 
 -- the entries in braces, or `{:}`
-abbrev pub fields_at : List ℕ → List NodeTree → List ℕ
-fields_at source [] = codes "{:}"
-fields_at source (n ∷ ns) = in_braces (joined (entries_at source (n ∷ ns)))
+abbrev pub braces_at : List ℕ → List NodeTree → List ℕ
+braces_at source [] = codes "{:}"
+braces_at source (n ∷ ns) = in_braces (joined (entries_at source (n ∷ ns)))
 
 -- `(a)` for the first of the nodes, or nothing
 abbrev pub payload_at : List ℕ → List NodeTree → List ℕ

@@ -54,9 +54,9 @@ AreFurther n close p (item ∷ more) q =
     (m : Place) × (behind : Place) × TakesClass class.Comma p m × IsParsed n m behind item × AreFurther n close behind more q
 
 -- the items and the close
-abbrev pub AreItems : ℕ → lex.Token → Place → List NodeTree → Place → Type 0
-AreItems n close p [] q = TakesClass close p q
-AreItems n close p (item ∷ more) q = (behind : Place) × IsParsed n p behind item × AreFurther n close behind more q
+abbrev pub AreClosedItems : ℕ → lex.Token → Place → List NodeTree → Place → Type 0
+AreClosedItems n close p [] q = TakesClass close p q
+AreClosedItems n close p (item ∷ more) q = (behind : Place) × IsParsed n p behind item × AreFurther n close behind more q
 
 -- the type of the node of these items
 abbrev pub items_type : lex.Token → NodeType
@@ -66,7 +66,7 @@ items_type _ = kind.List
 -- a node of items, which starts with the mark before the place old; no tuple is empty
 pub record IsOfItems (n : ℕ) (close : lex.Token) (old new : Place) (parsed : NodeTree) : Type 0 where
   pub items : List NodeTree
-  pub are : AreItems n close old items new
+  pub are : AreClosedItems n close old items new
   pub some : close ≡ class.ParenClose → items ≢ []
   pub is : parsed ≡ node (items_type close) (span old.lexer.start new.lexer.end) (node_trees items)
 

@@ -166,8 +166,10 @@ impl<'source> UntypedFuncCall<'source> {
         alloc: Global,
         types: &[V::Type],
     ) -> Result<Vec<V>, ParserError>
-        ensures values { AllOf HasDistinctNames (map V.Type.tree types.now) → IfOk result (λ vs. GivesParamsAt V.tree V.is_of (map V.Type.tree types.now) self.now.source self.now.params vs.items) }
-        ensures refused { AllOf HasDistinctNames (map V.Type.tree types.now) → IfErr result (RefusesParamsAt V.is_full (map V.Type.tree types.now) self.now.source self.now.name self.now.params) }
+        ensures values { AllOf HasDistinctNames (map V.Type.tree types.now)
+            → IfOk result (λ vs. GivesParamsAt V.tree V.is_of (map V.Type.tree types.now) self.now.source self.now.params vs.items) }
+        ensures refused { AllOf HasDistinctNames (map V.Type.tree types.now)
+            → IfErr result (RefusesParamsAt V.is_full (map V.Type.tree types.now) self.now.source self.now.name self.now.params) }
         ensures kind { IfErr result HasParamsKind }
         ensures within { IfErr result (λ e. LiesInText self.now.source e.span) }
         ensures caused { IfErr result (λ e. e.kind ≡ WasmValueError → IsCausedInParams self.now.name self.now.params e) }

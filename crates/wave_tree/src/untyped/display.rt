@@ -10,7 +10,7 @@ ghost use Rattle.wave_syntax.specs.TypedReading.{IsValueOf};
 ghost use Rattle.wave_syntax.specs.NodeAccessors.{node_text};
 ghost use Rattle.wave_tree.specs.DisplayKeeps.{IsKeptByDisplay};
 ghost use Rattle.wave_tree.specs.NodeDisplay.{shown_at};
-ghost use Rattle.wave_tree.specs.Private.NodeDisplay.{name_at, entries_at, fields_at, payload_at, AreEntriesOf};
+ghost use Rattle.wave_tree.specs.Private.NodeDisplay.{name_at, entries_at, braces_at, payload_at, AreEntriesOf};
 
 use crate::ast::{Node, NodeType};
 use crate::untyped::UntypedValue;
@@ -101,7 +101,7 @@ fn write_items<W: fmt::Write>(f: &mut fmt::Formatter<W>, nodes: &[Node], src: &s
 #[cycle(display)]
 fn write_fields<W: fmt::Write>(f: &mut fmt::Formatter<W>, nodes: &[Node], src: &str) -> fmt::Result
     requires { AreEntriesOf src.now nodes.now }
-    ensures { WritesOnOk W.write_str_gives f.old result (fields_at src.now nodes.now) f.new }
+    ensures { WritesOnOk W.write_str_gives f.old result (braces_at src.now nodes.now) f.new }
 {
     if nodes.is_empty() {
         return f.write_str("{:}");

@@ -7,7 +7,7 @@ use Rattle.wave_syntax.specs.NodeTree.{NodeTree}
 use Rattle.wave_syntax.specs.NodeParts.{TakesPart}
 use Rattle.wave_syntax.specs.declared.form.NodeType.TheVariants as kind
 use Rattle.wave_tree.specs.ParsedNodes.{IsParsed}
-use Rattle.wave_tree.specs.Private.ParsedNodes.{AreFurther, AreItems, ArePairs}
+use Rattle.wave_tree.specs.Private.ParsedNodes.{AreFurther, AreClosedItems, ArePairs}
 use Rattle.wave_tree.proofs.ParserSteps.{Reached, IsItemDue, left_at}
 use Rattle.wave_tree.specs.Private.ParserState.{AsksFor}
 use Rattle.wave_tree.proofs.tokens.Tokens.+parser.Given as goal
@@ -34,7 +34,7 @@ invariant-parse_items-items g l = record {
   reached : (n : ℕ) (s : List Form) → n ≡ l.levels + 1 + length s →
       (d : Due) × IsItemDue d × Reached n first_item (form_of l.close ∷ s) l.fn.self.place d (form_of l.close ∷ s) l.self.place;
   tree : (children : List NodeTree) × g.P.Builder.are_parts l.builder l.fn.self.place.lexer.source l.ty children l.parts
-      × ((item : NodeTree) (m r : Place) (more : List NodeTree) → IsParsed l.levels l.self.place m item → AreFurther l.levels l.close m more r → AreItems l.levels l.close l.fn.self.place (children ++ item ∷ more) r);
+      × ((item : NodeTree) (m r : Place) (more : List NodeTree) → IsParsed l.levels l.self.place m item → AreFurther l.levels l.close m more r → AreClosedItems l.levels l.close l.fn.self.place (children ++ item ∷ more) r);
 }
 
 abbrev pub decreases-parse_items-items : goal.decreases-parse_items-items

@@ -12,7 +12,7 @@ use Rattle.wave_syntax.specs.NodeTree.{NodeTree, type_of}
 use Rattle.wave_syntax.specs.TypedReading.{IsValueOf}
 use Rattle.wave_syntax.specs.Nodes.{IsParsedFrom}
 use Rattle.wave_tree.specs.NodeDisplay.{shown_at}
-use Rattle.wave_tree.specs.Private.NodeDisplay.{name_at, entries_at, fields_at, payload_at, AreEntriesOf}
+use Rattle.wave_tree.specs.Private.NodeDisplay.{name_at, entries_at, braces_at, payload_at, AreEntriesOf}
 use Rattle.wave_syntax.specs.declared.form.NodeType.TheVariants as kind
 use Rattle.wave_syntax.proofs.ChildNodes.Trees.{node_below}
 use Rattle.wave_wasm.proofs.JoinedTexts.{separator_more, joined_turn, all_joined, left, left_turn}
@@ -56,7 +56,7 @@ pub write_node-returns-in-TupleSet : goal.write_node-returns-in-TupleSet
 write_node-returns-in-TupleSet g t c = λ p ok.
     let value : IsValueOf c.args.src.now c.args.node.now = search rules in
     let it = fields_shown c.args.src.now c.args.node.now value (sym c.ty.ensures ∙ c.in-TupleSet.is) in
-    has_written_of_eq _ _ _ _ _ (ap (λ (ns : List NodeTree). fields_at c.args.src.now ns) c.nodes-in-TupleSet.ensures ∙ it.1) (c.write_fields.ensures p ok)
+    has_written_of_eq _ _ _ _ _ (ap (λ (ns : List NodeTree). braces_at c.args.src.now ns) c.nodes-in-TupleSet.ensures ∙ it.1) (c.write_fields.ensures p ok)
 
 pub write_node-write_payload-requires : goal.write_node-write_payload-requires
 write_node-write_payload-requires g t c κs within =
