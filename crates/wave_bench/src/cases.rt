@@ -1,6 +1,7 @@
 //! What is timed.
 use crate::texts::{entries, even, joined, numbered};
 use crate::times::{time, time_calls};
+use wasm_wave::value::Type;
 
 const PERSON: &str = "record{name: string, age: u8, tags: list<string>, on: option<bool>}";
 
@@ -71,7 +72,8 @@ pub(crate) fn all(rt: HostRuntime, size: usize, loops: usize) -> anyhow::Result<
     let map = entries(rt, "\"key-", "\": ", size)?;
     time(rt, "map", "map<string, u32>", map.as_str(), loops)?;
     let call = "call-me(17, \"text\", {name: \"Ada\", age: 36, tags: []})";
-    time_calls(rt, &["u32", "string", PERSON], call, loops.wrapping_mul(10))
+    let types = [Type::U32, Type::STRING, Type::parse(rt.alloc(), PERSON)?];
+    time_calls(rt, &types, call, loops.wrapping_mul(10))
 }
 
 /// Records of 100 fields.

@@ -1,12 +1,10 @@
 //! How long calls take.
-use anyhow::Context;
 use std::alloc::Global;
 use std::time::Instant;
 use wasm_wave::parser::ParserError;
 use wasm_wave::untyped::{UntypedFuncCall, UntypedValue};
 use wasm_wave::value::{Type, Value};
 use wasm_wave::{from_str, to_string};
-use wave_test_types::reader::{type_of, types_of};
 
 /// Reads, writes and parses the text as often as is said, and prints the nanoseconds of each.
 pub(crate) fn time(
@@ -16,7 +14,7 @@ pub(crate) fn time(
     text: &str,
     loops: usize,
 ) -> anyhow::Result<()> {
-    let ty = type_of(rt.alloc(), ty).ok().context("no type")?;
+    let ty = Type::parse(rt.alloc(), ty)?;
     let val = from_str::<Value>(rt.alloc(), &ty, text)?;
     print_times(rt, name, &ty, &val, text, loops)
 }
@@ -92,14 +90,13 @@ fn params(alloc: Global, types: &[Type], text: &str) -> Result<Vec<Value>, Parse
 /// nanoseconds of both together.
 pub(crate) fn time_calls(
     rt: HostRuntime,
-    types: &[&str],
+    types: &[Type],
     text: &str,
     loops: usize,
 ) -> anyhow::Result<()> {
-    let types = types_of(rt.alloc(), types).ok().context("no types")?;
     let start = Instant::now(&rt)?;
     for _ in 0..loops {
-        params(rt.alloc(), types.as_slice(), text)?;
+        params(rt.alloc(), types, text)?;
     }
     let read = start.elapsed(&rt)?.as_nanos();
     println!(rt;

@@ -7,7 +7,6 @@ use wasm_wave::wasm::DisplayValue;
 use wasm_wave::writer::{Writer, WriterError};
 use wasm_wave::{from_str, to_string};
 use wave_example_lists::bare::Bare;
-use wave_test_types::reader::{type_of, types_of};
 
 /// The list of the one item.
 fn list_of(rt: HostRuntime, item: Bare) -> Result<Bare, Fail> {
@@ -100,7 +99,7 @@ fn answer(rt: HostRuntime, ty: &Type, text: &str) -> Result<String, Fail> {
 fn wrong(rt: HostRuntime, rows: &[(&str, &str, &str)]) -> Result<String, Fail> {
     for row in rows {
         let (ty, text, expected) = *row;
-        let ty = type_of(rt.alloc(), ty)?;
+        let ty = Type::parse(rt.alloc(), ty)?;
         let found = answer(rt, &ty, text)?;
         if found.as_str() != expected {
             return Ok(format!(in rt.alloc(); "{text} gives {found}")?);
@@ -158,9 +157,8 @@ fn params(rt: HostRuntime, types: &[Type], text: &str) -> Result<Vec<Bare>, Pars
 }
 
 /// How many parameters the call has at the types, or its refusal.
-fn call(rt: HostRuntime, types: &[&str], text: &str) -> Result<String, Fail> {
-    let types = types_of(rt.alloc(), types)?;
-    match params(rt, types.as_slice(), text) {
+fn call(rt: HostRuntime, types: &[Type], text: &str) -> Result<String, Fail> {
+    match params(rt, types, text) {
         Ok(vals) => Ok(format!(in rt.alloc(); "{}", vals.len())?),
         Err(error) => Ok(format!(in rt.alloc(); "{error}")?),
     }
@@ -181,6 +179,7 @@ fn calls(rt: HostRuntime) -> Result<(), Fail> {
         ),
         ("list<u8>", "f([])", "1"),
     ] {
+        let ty = Type::parse(rt.alloc(), ty)?;
         assert_eq!(rt; call(rt, &[ty], text)?.as_str(), expected);
     }
     Ok(())
@@ -188,8 +187,10 @@ fn calls(rt: HostRuntime) -> Result<(), Fail> {
 
 #[test]
 fn a_call_that_lacks_a_parameter(rt: HostRuntime) -> Result<(), Fail> {
+    let list = Type::parse(rt.alloc(), "list<u8>")?;
+    let option = Type::parse(rt.alloc(), "option<u8>")?;
     assert_eq!(rt;
-        call(rt, &["list<u8>", "option<u8>"], "go( [])")?.as_str(),
+        call(rt, &[list, option], "go( [])")?.as_str(),
         "error converting Wasm value: unsupported type option at 2..7"
     );
     Ok(())

@@ -3,7 +3,6 @@ use std::test::Fail;
 use wasm_wave::value::Type;
 use wasm_wave::wasm::WasmType;
 use wave_example_flags::name_set::NameSet;
-use wave_test_types::reader::type_of;
 
 /// The text of the type that is made of this one, or `none`.
 fn made<T: WasmType>(rt: HostRuntime, ty: &T) -> Result<String, Fail> {
@@ -30,7 +29,7 @@ fn of_types(rt: HostRuntime) -> Result<(), Fail> {
         "variant { off, on(flags { read, write }), of(enum { x }) }",
         "record { a: list<u8, 4>, b: tuple<option<list<u8, 0>>> }",
     ] {
-        let ty = type_of(rt.alloc(), text)?;
+        let ty = Type::parse(rt.alloc(), text)?;
         if made(rt, &ty)?.as_str() != text {
             return Err(Fail::new(text));
         }

@@ -2,7 +2,7 @@
 use std::alloc::AllocError;
 use std::fmt;
 use wasm_wave::parser::{ParserError, ParserErrorKind};
-use wave_test_types::reader::TypeError;
+use wasm_wave::value::TypeErrorKind;
 
 /// What a call was found to answer.
 #[derive(Clone, Copy)]
@@ -43,11 +43,11 @@ impl From<AllocError> for Found {
     }
 }
 
-impl From<TypeError> for Found {
-    fn from(error: TypeError) -> Found {
-        match error {
-            TypeError::NoType => Found::Other,
-            TypeError::Memory(_) => Found::NotCalled,
+impl From<TypeErrorKind> for Found {
+    fn from(kind: TypeErrorKind) -> Found {
+        match kind {
+            TypeErrorKind::OutOfMemory => Found::NotCalled,
+            _ => Found::Other,
         }
     }
 }

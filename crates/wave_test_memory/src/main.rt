@@ -3,7 +3,7 @@
 //! was wanting it makes the call once more. A test calls it while memory is refused to it.
 //!
 //! `?` tells the two wants apart: an `AllocError` is the want of the call that is judged, while a
-//! `TypeError` and a `ParserError` come of making ready what it is called on. A refusal that a
+//! `TypeErrorKind` and a `ParserError` come of making ready what it is called on. A refusal that a
 //! judged call answers is compared with the words that are due, and never passed on.
 #![tactic(auto)]
 
@@ -25,7 +25,7 @@ use std::{env, io};
 use wasm_wave::untyped::UntypedValue;
 use wasm_wave::value::Type;
 use wave_test_reading::cuts::is_told_at_each_cut;
-use wave_test_types::reader::type_of;
+use wave_test_reading::types::type_of;
 use words::{value_at, word};
 
 fn main(rt: HostRuntime) -> ExitCode {
@@ -175,7 +175,9 @@ fn with_cuts(alloc: Global, text: &str, found: Found) -> Found {
 /// What a call on names, or on the text of a type or of tokens, is found to answer.
 fn on_names(alloc: Global, name: &str, words: &[String]) -> Result<Found, Found> {
     match name {
-        "Type" => Ok(types::made(alloc, word(words, 0))),
+        "Type::parse" | "FuncType::parse" => {
+            Ok(types::parsed(alloc, name, word(words, 0), word(words, 1)))
+        }
         "FuncType::new" | "FuncType::clone" | "DisplayFunc" | "WasmFunc" => {
             types::function(alloc, name, words)
         }

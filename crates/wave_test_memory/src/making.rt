@@ -6,7 +6,7 @@ use crate::words::word;
 use std::alloc::{AllocError, Global};
 use wasm_wave::value::{IntoValue, Type, Value};
 use wasm_wave::wasm::{WasmTypeKind, WasmValueError};
-use wave_test_types::reader::type_of;
+use wave_test_reading::types::type_of;
 
 /// The maker of the value's kind, or that of a list of the value alone, at the type that is the third
 /// word; then its text or the refusal.

@@ -6,11 +6,11 @@ use std::alloc::Global;
 use std::fmt::Display;
 use wasm_wave::parser::{Parser, ParserError, parse_raw_func_call};
 use wasm_wave::untyped::{UntypedFuncCall, UntypedValue};
-use wasm_wave::value::{Type, Value};
+use wasm_wave::value::{Type, TypeErrorKind, Value};
 use wasm_wave::wasm::{DisplayFuncArgs, DisplayFuncResults};
 use wave_test_reading::cuts::is_told_at_each_cut;
 use wave_test_reading::reading::is_read_alike;
-use wave_test_types::reader::{TypeError, type_of};
+use wave_test_reading::types::type_of;
 
 /// What a call that reads the second word at the type is found to answer; the third word is due, and
 /// of one parser what is due of one value after the other, with what `finish` answers behind each.
@@ -115,7 +115,7 @@ pub fn call(alloc: Global, text: &str, due: &str) -> Found {
 }
 
 /// The types that are the words from this place on.
-fn types_from(alloc: Global, words: &[String], first: usize) -> Result<Vec<Type>, TypeError> {
+fn types_from(alloc: Global, words: &[String], first: usize) -> Result<Vec<Type>, TypeErrorKind> {
     let mut types = Vec::new(alloc);
     for at in first..words.len() {
         types.push(type_of(alloc, word(words, at))?)?;

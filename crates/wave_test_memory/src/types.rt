@@ -3,20 +3,28 @@ use crate::due::{Due, exactly, of_fault, shown};
 use crate::found::{Found, due_if};
 use crate::words::word;
 use std::alloc::Global;
-use std::fmt::Write;
-use wasm_wave::value::{FuncType, Type};
+use std::fmt::{Display, Write};
+use wasm_wave::value::{FuncType, Type, TypeError, TypeErrorKind};
 use wasm_wave::wasm::{
     DisplayFunc, DisplayType, WasmFunc, WasmType, WasmTypeKind, WasmValueError, ensure_type_kind,
 };
 use wasm_wave::writer::merge_map_entries;
-use wave_test_types::reader::{TypeError, type_of};
+use wave_test_reading::types::type_of;
 
-/// The makers of types, on the text of one.
-pub fn made(alloc: Global, text: &str) -> Found {
-    match type_of(alloc, text) {
-        Ok(ty) => exactly(&ty, text),
-        Err(TypeError::Memory(_)) => Found::Want,
-        Err(TypeError::NoType) => Found::Other,
+/// `Type::parse` or `FuncType::parse`, on a text; then the display or the refusal.
+pub fn parsed(alloc: Global, name: &str, text: &str, due: &str) -> Found {
+    match name {
+        "Type::parse" => of_text(&Type::parse(alloc, text), due),
+        _ => of_text(&FuncType::parse(alloc, text), due),
+    }
+}
+
+/// Whether what was read is displayed as the text, or was refused with these words.
+fn of_text<D: Display>(answer: &Result<D, TypeError>, due: &str) -> Found {
+    match answer {
+        Ok(read) => exactly(read, due),
+        Err(error) if error.kind() == TypeErrorKind::OutOfMemory => Found::Want,
+        Err(error) => exactly(error, due),
     }
 }
 
@@ -72,7 +80,7 @@ fn views(ty: &Type, due: &str) -> Found {
 }
 
 /// The name at this place with the type behind it.
-fn named(alloc: Global, words: &[String], at: usize) -> Result<(String, Type), TypeError> {
+fn named(alloc: Global, words: &[String], at: usize) -> Result<(String, Type), TypeErrorKind> {
     let name = String::from_str(alloc, word(words, at))?;
     Ok((name, type_of(alloc, word(words, at.saturating_add(1)))?))
 }
@@ -83,7 +91,7 @@ fn all_named(
     words: &[String],
     first: usize,
     last: usize,
-) -> Result<Vec<(String, Type)>, TypeError> {
+) -> Result<Vec<(String, Type)>, TypeErrorKind> {
     let mut parts = Vec::new(alloc);
     for at in first..last {
         parts.push(named(alloc, words, at.saturating_mul(2))?)?;
@@ -96,7 +104,7 @@ fn all_named(
 fn function_made(
     alloc: Global,
     words: &[String],
-) -> Result<Result<FuncType, WasmValueError>, TypeError> {
+) -> Result<Result<FuncType, WasmValueError>, TypeErrorKind> {
     let first = word(words, 1).len().saturating_add(1);
     let params = all_named(alloc, words, 1, first)?;
     let results = all_named(alloc, words, first, words.len() / 2)?;
@@ -152,7 +160,7 @@ fn function_views(alloc: Global, func: &FuncType, due: &str) -> Result<Found, Fo
 }
 
 /// Entries of the words: each is its text, and has its place and its length.
-fn entries(alloc: Global, words: &[String]) -> Result<Vec<(String, usize, usize)>, TypeError> {
+fn entries(alloc: Global, words: &[String]) -> Result<Vec<(String, usize, usize)>, TypeErrorKind> {
     let mut entries = Vec::new(alloc);
     for at in 1..words.len() {
         let text = String::from_str(alloc, word(words, at))?;

@@ -4,7 +4,7 @@ use std::alloc::Global;
 use wasm_wave::from_str;
 use wasm_wave::parser::ParserError;
 use wasm_wave::value::{Type, Value};
-use wave_test_types::reader::type_of;
+use wave_test_reading::types::type_of;
 
 /// The word at this place; nothing where there is none.
 pub fn word(words: &[String], at: usize) -> &str {

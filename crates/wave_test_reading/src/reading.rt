@@ -1,12 +1,12 @@
 //! What texts answer at types.
 use crate::cuts::is_told_at_each_cut;
+use crate::types::type_of;
 use std::alloc::Global;
 use std::test::Fail;
 use wasm_wave::parser::ParserError;
 use wasm_wave::untyped::UntypedValue;
 use wasm_wave::value::{Type, Value};
 use wasm_wave::{from_str, to_string};
-use wave_test_types::reader::type_of;
 
 /// The value of the text, read without the type at first and then at it.
 fn read_late(alloc: Global, ty: &Type, text: &str) -> Result<Value, ParserError> {

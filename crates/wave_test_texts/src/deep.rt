@@ -1,11 +1,11 @@
 //! Texts of many levels.
+use std::alloc::AllocError;
 use std::test::Fail;
 use wasm_wave::parser::{DEFAULT_LEVELS, MAX_LEVELS, Parser};
 use wasm_wave::untyped::{UntypedFuncCall, UntypedValue};
 use wasm_wave::value::{Type, Value};
 use wave_test_reading::cuts::{is_told_at_each_cut, is_told_from};
 use wave_test_reading::reading::{is_read_alike, told};
-use wave_test_types::reader::type_of;
 
 /// The part, so many times.
 fn repeated(rt: HostRuntime, part: &str, times: usize) -> Result<String, Fail> {
@@ -83,21 +83,43 @@ fn levels(rt: HostRuntime) -> Result<(), Fail> {
     Ok(())
 }
 
-/// The type of the middle within so many layers.
-fn nest(rt: HostRuntime, front: &str, times: usize, middle: &str, end: &str) -> Result<Type, Fail> {
-    let text = within(rt, front, times, middle, end)?;
-    Ok(type_of(rt.alloc(), text.as_str())?)
+/// The type whose text is that of this one behind this front, where there is one.
+fn layer(rt: HostRuntime, front: &str, ty: Type) -> Result<Option<Type>, AllocError> {
+    let alloc = rt.alloc();
+    match front {
+        "list<" => Ok(Some(Type::list(alloc, ty)?)),
+        "option<" => Ok(Some(Type::option(alloc, ty)?)),
+        "list<option<" => Ok(Some(Type::list(alloc, Type::option(alloc, ty)?)?)),
+        "result<" => Ok(Some(Type::result(alloc, Some(ty), None)?)),
+        "map<u8," => Type::map(alloc, Type::U8, ty),
+        "tuple<" => Type::tuple(alloc, Vec::from_array(alloc, [ty])?),
+        "record{a:" => Type::record(alloc, Vec::from_array(alloc, [("a", ty)])?),
+        "variant{v(" => Type::variant(alloc, Vec::from_array(alloc, [("v", Some(ty))])?),
+        _ => Ok(None),
+    }
+}
+
+/// The type of the middle within so many layers. Its text may have more levels than are read.
+fn nest(rt: HostRuntime, front: &str, times: usize, middle: &str) -> Result<Type, Fail> {
+    let mut ty = Type::parse(rt.alloc(), middle)?;
+    for _ in 0..times {
+        let Some(more) = layer(rt, front, ty)? else {
+            return Err(Fail::new(front));
+        };
+        ty = more;
+    }
+    Ok(ty)
 }
 
 /// The front of the first text that is not told at each cut, at its type; nothing where there is none.
 /// A row has the layers of the text, and those of the type.
 fn untold(
     rt: HostRuntime,
-    rows: &[(&str, usize, &str, &str, &str, usize, &str, &str)],
+    rows: &[(&str, usize, &str, &str, &str, usize, &str)],
 ) -> Result<String, Fail> {
     for row in rows {
-        let (front, times, middle, end, around, layers, inner, behind) = *row;
-        let ty = nest(rt, around, layers, inner, behind)?;
+        let (front, times, middle, end, around, layers, inner) = *row;
+        let ty = nest(rt, around, layers, inner)?;
         let text = within(rt, front, times, middle, end)?;
         if !is_told_at_each_cut(rt.alloc(), &ty, text.as_str()) {
             return Ok(String::from_str(rt.alloc(), front)?);
@@ -113,25 +135,16 @@ fn fronts(rt: HostRuntime) -> Result<(), Fail> {
     let found = untold(
         rt,
         &[
-            ("[", 100, "", "]", "list<", 100, "u8", ">"),
-            ("[", 101, "", "]", "list<", 101, "u8", ">"),
-            ("(", 101, "0", ")", "tuple<", 101, "u8", ">"),
-            ("some(", 101, "0", ")", "option<", 101, "u8", ">"),
-            ("ok(", 101, "0", ")", "result<", 101, "u8", ">"),
-            ("v(", 101, "0", ")", "variant{v(", 101, "u8", ")}"),
-            ("{a:", 101, "0", "}", "record{a:", 101, "u8", "}"),
-            ("{1:", 101, "0", "}", "map<u8,", 101, "u8", ">"),
-            ("[", 60, "", "]", "list<option<", 59, "list<u8>", ">>"),
-            (
-                "[some(",
-                59,
-                "[]",
-                ")]",
-                "list<option<",
-                59,
-                "list<u8>",
-                ">>",
-            ),
+            ("[", 100, "", "]", "list<", 100, "u8"),
+            ("[", 101, "", "]", "list<", 101, "u8"),
+            ("(", 101, "0", ")", "tuple<", 101, "u8"),
+            ("some(", 101, "0", ")", "option<", 101, "u8"),
+            ("ok(", 101, "0", ")", "result<", 101, "u8"),
+            ("v(", 101, "0", ")", "variant{v(", 101, "u8"),
+            ("{a:", 101, "0", "}", "record{a:", 101, "u8"),
+            ("{1:", 101, "0", "}", "map<u8,", 101, "u8"),
+            ("[", 60, "", "]", "list<option<", 59, "list<u8>"),
+            ("[some(", 59, "[]", ")]", "list<option<", 59, "list<u8>"),
         ],
     )?;
     assert_eq!(rt; found.as_str(), "");
@@ -153,8 +166,11 @@ fn call(rt: HostRuntime, payloads: usize, ty: &Type, first: usize) -> Result<Str
 /// fronts shorter than that are read once.
 #[test]
 fn levels_of_calls(rt: HostRuntime) -> Result<(), Fail> {
-    let options = within(rt, "option<", 100, "u8", ">")?;
-    let ty = nest(rt, "variant{f(", 1, options.as_str(), ")}")?;
+    let options = nest(rt, "option<", 100, "u8")?;
+    let cases = Vec::from_array(rt.alloc(), [("f", Some(options))])?;
+    let Some(ty) = Type::variant(rt.alloc(), cases)? else {
+        return Err(Fail::new("variant"));
+    };
     for (payloads, first, expected) in [
         (99, 0, ", true"),
         (100, 497, "value nesting too deep at 501..502, true"),
@@ -179,20 +195,19 @@ fn read_whole(rt: HostRuntime, ty: &Type, parser: Parser) -> Result<String, Fail
 
 /// What the text prints at the type within so many levels, or its refusal; `otherwise` where it is
 /// read otherwise without the type first.
-fn answer_within(rt: HostRuntime, ty: &str, text: &str, levels: u32) -> Result<String, Fail> {
+fn answer_within(rt: HostRuntime, ty: &Type, text: &str, levels: u32) -> Result<String, Fail> {
     if levels < 1 || levels > MAX_LEVELS {
         return Ok(String::from_str(rt.alloc(), "no limit")?);
     }
     let parser = Parser::new(text).with_limit(levels);
-    let ty = type_of(rt.alloc(), ty)?;
-    match levels != DEFAULT_LEVELS || is_read_alike(rt.alloc(), &ty, text) {
-        true => read_whole(rt, &ty, parser),
+    match levels != DEFAULT_LEVELS || is_read_alike(rt.alloc(), ty, text) {
+        true => read_whole(rt, ty, parser),
         false => Ok(String::from_str(rt.alloc(), "otherwise")?),
     }
 }
 
 /// The first answer at its type within its levels that is another one; nothing where there is none.
-fn wrong_within(rt: HostRuntime, rows: &[(&str, &str, u32, &str)]) -> Result<String, Fail> {
+fn wrong_within(rt: HostRuntime, rows: &[(&Type, &str, u32, &str)]) -> Result<String, Fail> {
     for row in rows {
         let (ty, text, levels, expected) = *row;
         let answer = answer_within(rt, ty, text, levels)?;
@@ -205,9 +220,9 @@ fn wrong_within(rt: HostRuntime, rows: &[(&str, &str, u32, &str)]) -> Result<Str
 
 #[test]
 fn read_at_each_level(rt: HostRuntime) -> Result<(), Fail> {
-    let ty = within(rt, "list<", 100, "u8", ">")?;
+    let ty = nest(rt, "list<", 100, "u8")?;
     let text = within(rt, "[", 100, "", "]")?;
-    let found = wrong_within(rt, &[(ty.as_str(), text.as_str(), 100, text.as_str())])?;
+    let found = wrong_within(rt, &[(&ty, text.as_str(), 100, text.as_str())])?;
     assert_eq!(rt; found.as_str(), "");
     Ok(())
 }
@@ -215,17 +230,17 @@ fn read_at_each_level(rt: HostRuntime) -> Result<(), Fail> {
 /// At lists of options of such lists, 59 of them around a list.
 #[test]
 fn written_deeper_than_read(rt: HostRuntime) -> Result<(), Fail> {
-    let ty = within(rt, "list<option<", 59, "list<u8>", ">>")?;
+    let ty = nest(rt, "list<option<", 59, "list<u8>")?;
     let flat = within(rt, "[", 60, "", "]")?;
     let written = within(rt, "[some(", 59, "[]", ")]")?;
-    let (ty, flat, written) = (ty.as_str(), flat.as_str(), written.as_str());
+    let (flat, written) = (flat.as_str(), written.as_str());
     let found = wrong_within(
         rt,
         &[
-            (ty, flat, 100, written),
-            (ty, written, 100, "value nesting too deep at 299..300"),
-            (ty, written, 118, "value nesting too deep at 353..354"),
-            (ty, written, 119, written),
+            (&ty, flat, 100, written),
+            (&ty, written, 100, "value nesting too deep at 299..300"),
+            (&ty, written, 118, "value nesting too deep at 353..354"),
+            (&ty, written, 119, written),
         ],
     )?;
     assert_eq!(rt; found.as_str(), "");
@@ -234,13 +249,15 @@ fn written_deeper_than_read(rt: HostRuntime) -> Result<(), Fail> {
 
 #[test]
 fn within_one_level(rt: HostRuntime) -> Result<(), Fail> {
+    let list = Type::parse(rt.alloc(), "list<u8>")?;
+    let option = Type::parse(rt.alloc(), "option<u8>")?;
     let found = wrong_within(
         rt,
         &[
-            ("list<u8>", "[]", 1, "[]"),
-            ("list<u8>", "[1]", 1, "value nesting too deep at 0..1"),
-            ("option<u8>", "7", 1, "some(7)"),
-            ("option<u8>", "some(7)", 1, "value nesting too deep at 4..5"),
+            (&list, "[]", 1, "[]"),
+            (&list, "[1]", 1, "value nesting too deep at 0..1"),
+            (&option, "7", 1, "some(7)"),
+            (&option, "some(7)", 1, "value nesting too deep at 4..5"),
         ],
     )?;
     assert_eq!(rt; found.as_str(), "");

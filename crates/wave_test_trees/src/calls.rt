@@ -7,7 +7,6 @@ use wasm_wave::untyped::UntypedFuncCall;
 use wasm_wave::value::{Type, Value};
 use wasm_wave::wasm::{DisplayFuncArgs, DisplayFuncResults};
 use wave_test_reading::cuts::is_told_at_each_cut;
-use wave_test_types::reader::types_of;
 
 /// How the call is displayed, or why it is refused.
 fn shown(
@@ -95,6 +94,15 @@ fn answer(rt: HostRuntime, asked: &str, types: &[Type], text: &str) -> Result<St
     }
 }
 
+/// The types of the texts.
+fn types_of(rt: HostRuntime, texts: &[&str]) -> Result<Vec<Type>, Fail> {
+    let mut types = Vec::new(rt.alloc());
+    for text in texts {
+        types.push(Type::parse(rt.alloc(), text)?)?;
+    }
+    Ok(types)
+}
+
 /// What is asked of a call, the types of its parameters, its text and the answer.
 type Row = (
     &'static str,
@@ -107,7 +115,7 @@ type Row = (
 fn check(rt: HostRuntime, rows: &[Row]) -> Result<(), Fail> {
     for row in rows {
         let (asked, types, text, expected) = *row;
-        let types = types_of(rt.alloc(), types)?;
+        let types = types_of(rt, types)?;
         let found = answer(rt, asked, types.as_slice(), text)?;
         if found.as_str() != expected || !is_told_at_each_cut(rt.alloc(), &Type::U8, text) {
             return Err(Fail::new(format_args!("{asked} of {text} gives {found}")));

@@ -9,7 +9,6 @@ use wasm_wave::untyped::UntypedValue;
 use wasm_wave::value::{Type, Value};
 use wave_test_reading::cuts::is_told_at_each_cut;
 use wave_test_reading::reading::told;
-use wave_test_types::reader::type_of;
 
 /// What the accessor of a scalar answers, or its refusal.
 fn scalar<T: Display + Copy>(
@@ -161,7 +160,7 @@ fn copied(rt: HostRuntime, ty: &Type, value: &UntypedValue) -> Result<Value, Par
 
 /// What the value reads as at the type by a copy of its node, printed, or its refusal.
 fn printed(rt: HostRuntime, ty: &str, value: &UntypedValue) -> Result<String, Fail> {
-    let ty = type_of(rt.alloc(), ty)?;
+    let ty = Type::parse(rt.alloc(), ty)?;
     told(rt.alloc(), copied(rt, &ty, value))
 }
 

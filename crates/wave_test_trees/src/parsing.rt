@@ -7,11 +7,10 @@ use wasm_wave::parser::Parser;
 use wasm_wave::value::{Type, Value};
 use wave_test_reading::cuts::is_told_at_each_cut;
 use wave_test_reading::reading::told;
-use wave_test_types::reader::type_of;
 
 /// The value read next at the type, printed, or its refusal.
 fn at_type(rt: HostRuntime, parser: &mut Parser, ty: &str) -> Result<String, Fail> {
-    let ty = type_of(rt.alloc(), ty)?;
+    let ty = Type::parse(rt.alloc(), ty)?;
     told(rt.alloc(), parser.parse_value::<Value>(rt.alloc(), &ty))
 }
 
@@ -51,7 +50,7 @@ fn check(rt: HostRuntime, parser: &mut Parser, rows: &[Row]) -> Result<(), Fail>
 /// Tells of the first text that a parser answers otherwise, or that is not told at `u8` or `list<u8>`
 /// at each cut.
 fn check_texts(rt: HostRuntime, texts: &[(&str, &[Row])]) -> Result<(), Fail> {
-    let bytes = type_of(rt.alloc(), "list<u8>")?;
+    let bytes = Type::parse(rt.alloc(), "list<u8>")?;
     for one in texts {
         let (text, rows) = *one;
         check(rt, &mut Parser::new(text), rows)?;

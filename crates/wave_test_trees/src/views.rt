@@ -4,7 +4,6 @@ use std::test::Fail;
 use wasm_wave::value::{Type, Value};
 use wasm_wave::wasm::{DisplayValue, WasmTypeKind};
 use wasm_wave::{from_str, to_string};
-use wave_test_types::reader::type_of;
 
 /// The values, one behind the other.
 fn joined(rt: HostRuntime, vals: Vec<&Value>) -> Result<String, AllocError> {
@@ -135,7 +134,7 @@ fn answer(rt: HostRuntime, ty: &str, text: &str) -> Result<String, Fail> {
     if ty == "made" {
         return made(rt, text);
     }
-    let ty = type_of(rt.alloc(), ty)?;
+    let ty = Type::parse(rt.alloc(), ty)?;
     Ok(read(rt, &ty, text)?)
 }
 

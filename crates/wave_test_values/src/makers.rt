@@ -1,8 +1,8 @@
 //! What the makers of values make of parts, and how they refuse them.
 use crate::conversions::converted;
+use crate::types::type_of;
 use std::test::Fail;
 use wave_convert::IntoValue;
-use wave_test_types::reader::type_of;
 use wave_type::ty::Type;
 use wave_value::value::Value;
 use wave_wasm::wasm::{WasmTypeKind, WasmValueError};

@@ -1,7 +1,7 @@
 //! Types and types of functions from their texts: what is read, and where a text is refused.
 use std::alloc::AllocError;
 use std::test::Fail;
-use wave_type::error::TypeErrorKind;
+use wave_type::error::{TypeError, TypeErrorKind};
 use wave_type::func::FuncType;
 use wave_type::ty::Type;
 
@@ -19,12 +19,17 @@ const READ: &[(&str, &str)] = &[
     ("result<u8>", "result<u8>"),
     ("result<_, string>", "result<_, string>"),
     ("result<u8, string,>", "result<u8, string>"),
+    ("result<_, u8,>", "result<_, u8>"),
+    ("option<u8,>", "option<u8>"),
+    ("map<u8, u8,>", "map<u8, u8>"),
+    ("\t\r\nlist\n<\r// the\n// items\n u8>// \u{e9}", "list<u8>"),
     (
         "map<char, map<bool, list<u8>>>",
         "map<char, map<bool, list<u8>>>",
     ),
     ("enum{a,b-c,}", "enum { a, b-c }"),
     ("flags { read, %write }", "flags { read, write }"),
+    ("flags{%a,B,}", "flags { a, B }"),
     (
         "variant { off, on(u8), list(list<u8>), }",
         "variant { off, on(u8), list(list<u8>) }",
@@ -48,6 +53,7 @@ const REFUSED: &[(&str, TypeErrorKind, usize, usize)] = &[
     ("list<u8, 4294967296>", TypeErrorKind::InvalidCount, 9, 19),
     ("list<u8, 1.5>", TypeErrorKind::InvalidCount, 9, 12),
     ("list<u8, 01>", TypeErrorKind::UnexpectedToken, 10, 11),
+    ("list<u8, -1>", TypeErrorKind::InvalidCount, 9, 11),
     ("list<u8, 1, 2>", TypeErrorKind::UnexpectedToken, 10, 11),
     ("tuple<>", TypeErrorKind::UnexpectedToken, 6, 7),
     ("tuple<u8,,>", TypeErrorKind::UnexpectedToken, 9, 10),
@@ -66,7 +72,16 @@ const REFUSED: &[(&str, TypeErrorKind, usize, usize)] = &[
     ),
     ("record { a }", TypeErrorKind::UnexpectedToken, 11, 12),
     ("enum { a, b, %a }", TypeErrorKind::DuplicateName, 13, 15),
+    (
+        "enum { a, b, c, d, e, f, g, h, i, j, k, l, m, n, o, p, q, r, s, t, u, v, w, x, y, z, r }",
+        TypeErrorKind::DuplicateName,
+        85,
+        86,
+    ),
     ("enum { 1 }", TypeErrorKind::UnexpectedToken, 7, 8),
+    ("enum {}", TypeErrorKind::UnexpectedToken, 6, 7),
+    ("flags {}", TypeErrorKind::UnexpectedToken, 7, 8),
+    ("flags { a, b, a }", TypeErrorKind::DuplicateName, 14, 15),
     ("flags { a(u8) }", TypeErrorKind::UnexpectedToken, 9, 10),
     (
         "variant { a(u8), b, a }",
@@ -74,6 +89,7 @@ const REFUSED: &[(&str, TypeErrorKind, usize, usize)] = &[
         20,
         21,
     ),
+    ("variant {}", TypeErrorKind::UnexpectedToken, 9, 10),
     ("variant { a() }", TypeErrorKind::UnexpectedToken, 12, 13),
     ("map<f32, u8>", TypeErrorKind::InvalidKeyType, 4, 7),
     ("map<list<u8>, u8>", TypeErrorKind::InvalidKeyType, 4, 8),
@@ -140,6 +156,7 @@ const FUNCTIONS: &[(&str, &str)] = &[
     ("func() -> ()", ""),
     ("func() ->", ""),
     ("func(a: u8, a: u8)", ""),
+    ("func() -> (a: u8, %a: u8)", ""),
     ("func() -> u8, u8", ""),
     ("func", ""),
 ];
@@ -147,15 +164,19 @@ const FUNCTIONS: &[(&str, &str)] = &[
 /// The first text of a function that isn't read as it should be; the empty one where there is none.
 fn wrong_function(rt: HostRuntime) -> Result<&'static str, Fail> {
     for row in FUNCTIONS {
-        let shown = match FuncType::parse(rt.alloc(), row.0) {
-            Ok(func) => format!(in rt.alloc(); "{func}")?,
-            Err(_) => String::new(rt.alloc()),
-        };
-        if shown.as_str() != row.1 {
+        if !is_function_read(rt, row)? {
             return Ok(row.0);
         }
     }
     Ok("")
+}
+
+/// Whether the text of a function is read as it should be.
+fn is_function_read(rt: HostRuntime, row: &(&str, &str)) -> Result<bool, Fail> {
+    match FuncType::parse(rt.alloc(), row.0) {
+        Ok(func) => Ok(format!(in rt.alloc(); "{func}")?.as_str() == row.1),
+        Err(_) => Ok(row.1.is_empty()),
+    }
 }
 
 /// The text of so many lists, one inside another.
@@ -171,21 +192,77 @@ fn lists(rt: HostRuntime, levels: usize) -> Result<String, AllocError> {
     Ok(text)
 }
 
-/// Whether each cut of the text but the last is refused within what is left of it.
-fn cuts_are_refused(rt: HostRuntime, text: &str) -> bool {
-    for end in 0..text.len() {
+/// Texts that begin as those of types, or of types of functions, and what each front of them answers, from
+/// the empty one to the whole: `+` where it is read, else a letter for the kind of the refusal.
+const FRONTS: &[(&str, &str)] = &[
+    ("u8", "et+"),
+    (" f64 // \u{e9}", "eett++i+++"),
+    ("list < u8 , >", "ettteeeeteeee+"),
+    ("list<u8, 4294967295,>", "ettteeteeeeeeeeeeeeet+"),
+    ("list<u8, 4294967296>", "ettteeteeeeeeeeeeeecc"),
+    ("list<u8, 01>", "ettteeteeeett"),
+    ("tuple<u8,string,>", "etttteeteetttttee+"),
+    ("option<option<char>>", "ettttteettttteetttee+"),
+    ("result<u8>", "ettttt+ete+"),
+    ("result<_, string>", "ettttt+eeeettttte+"),
+    ("result<u8, string,>", "ettttt+eteeetttttet+"),
+    ("map<char, map<bool, u8>>", "etteekkkeeetteekkkeeetee+"),
+    ("map<f32, u8>", "etteekkkkkkkk"),
+    ("enum{a,b-c,}", "ettteeeeetee+"),
+    ("flags { read, %write }", "etttteeeeeeeeeeieeeeee+"),
+    ("flags { a, b, a }", "etttteeeeeeeeeeddd"),
+    (
+        "variant { off, on(u8), list(list<u8>), }",
+        "etttttteeeeeeeeeeeeteeeeeeeeettteeteeeee+",
+    ),
+    (
+        "record {\n // a\r\n a: u8,\n\t%record: flags { b },\n}",
+        "ettttteeeeeieeeeeeeeeteeeeieeeeeeeetttteeeeeeeee+",
+    ),
+    ("record { a: u8, %a: u8 }", "ettttteeeeeeeteeeiddddddd"),
+    (
+        "record { a: list<u8, 4>, b: variant { c(result<_, u8>), d } }",
+        "ettttteeeeeeettteeteeeeeeeeeetttttteeeeeettttteeeeeteeeeeeeee+",
+    ),
+    ("tuple<@>", "etttteeii"),
+    (
+        "func(a: u8, %b: list<s8>)->(n: u8, m: char,)",
+        "ettteeeeeteeeieeettteetee+eeeeeeteeeeeetttee+",
+    ),
+    ("func() -> bool", "etttee++eeettt+"),
+    ("func(a: u8, a: u8)", "ettteeeeeteeedddddd"),
+    ("func() -> (a: u8, a: u8)", "etttee++eeeeeeeteeedddddd"),
+];
+
+/// The letter of what was read, or of the kind of the refusal.
+fn letter<T: Drop>(answer: Result<T, TypeError>) -> char {
+    match answer {
+        Ok(_) => '+',
+        Err(error) => match error.kind() {
+            TypeErrorKind::UnexpectedToken => 't',
+            TypeErrorKind::UnexpectedEnd => 'e',
+            TypeErrorKind::InvalidToken => 'i',
+            TypeErrorKind::DuplicateName => 'd',
+            TypeErrorKind::InvalidKeyType => 'k',
+            TypeErrorKind::InvalidCount => 'c',
+            TypeErrorKind::NestingTooDeep => 'n',
+            TypeErrorKind::OutOfMemory => 'm',
+        },
+    }
+}
+
+/// What each front of the text answers.
+fn answers_of_fronts(rt: HostRuntime, text: &str) -> Result<String, AllocError> {
+    let mut answers = String::new(rt.alloc());
+    for end in 0..=text.len() {
         if let Some(front) = text.get(..end) {
-            match Type::parse(rt.alloc(), front) {
-                Ok(_) => return false,
-                Err(error) => {
-                    if error.span().end > end {
-                        return false;
-                    }
-                }
-            }
+            answers.push(match text.starts_with("func") {
+                true => letter(FuncType::parse(rt.alloc(), front)),
+                false => letter(Type::parse(rt.alloc(), front)),
+            })?;
         }
     }
-    true
+    Ok(answers)
 }
 
 #[test]
@@ -209,8 +286,9 @@ fn levels_are_counted(rt: HostRuntime) -> Result<(), Fail> {
 }
 
 #[test]
-fn cuts_are_no_types(rt: HostRuntime) -> Result<(), Fail> {
-    let text = "record { a: list<u8, 4>, b: variant { c(result<_, u8>), d } }";
-    assert!(rt; cuts_are_refused(rt, text));
+fn fronts_are_answered(rt: HostRuntime) -> Result<(), Fail> {
+    for row in FRONTS {
+        assert_eq!(rt; answers_of_fronts(rt, row.0)?.as_str(), row.1);
+    }
     Ok(())
 }

@@ -1,4 +1,0 @@
-//! Types by their texts, for the crates of rows.
-#![tactic(auto)]
-
-pub mod reader;
