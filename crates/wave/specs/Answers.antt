@@ -15,20 +15,19 @@ use Rattle.wave.specs.declared.request.Request.TheVariants as request
 use Rattle.wave.specs.declared.input.Input.{Input}
 use Rattle.wave.specs.declared.input.Fault.{Fault}
 use Rattle.wave.specs.declared.input.Fault.TheVariants.{NotUtf8, InputFailed, OutOfMemory}
-use Rattle.wave.specs.Requests.{type_of}
 use Rattle.wave.specs.ReadFaults.{IsReadToEnd, IsUnread}
 
 -- the request on the text has the answer: the display of the tree that the text spells within n levels, that of the call that it is, or the canonical text of the value that it means at the type within n levels
 abbrev pub Answers : Request → List ℕ → List ℕ → Type 0
 Answers (request.Value n) whole answer = (t : Tree) × SpellsText n whole t × (answer ≡ shown t)
 Answers request.Call whole answer = (name : List ℕ) × (params : MaybeTree) × IsCall whole name params × (answer ≡ shown_call name params)
-Answers (request.Read name n) whole answer = (v : Value) × Means (type_of name) n whole v × (answer ≡ text v)
+Answers (request.Read T n) whole answer = (v : Value) × Means T n whole v × (answer ≡ text v)
 
 -- the refusal tells a fault of the text: its kind, its cause and its place
 abbrev pub TellsFaultOf : Request → List ℕ → Diagnostic → Type 0
 TellsFaultOf (request.Value n) whole e = SyntaxFault n whole e
 TellsFaultOf request.Call whole e = CallFault whole e
-TellsFaultOf (request.Read name n) whole e = TextFault (type_of name) n whole e
+TellsFaultOf (request.Read T n) whole e = TextFault T n whole e
 
 -- the request on the text has no answer, and the refusal tells why
 abbrev pub IsRefused : Request → List ℕ → Diagnostic → Type 0

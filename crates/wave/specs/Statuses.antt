@@ -4,8 +4,9 @@ use Rattle.std.specs.declared.option.Option.{Option}
 use Rattle.wave_lex.specs.Errors.{Diagnostic, error_text}
 use Rattle.wave.specs.declared.request.Request.{Request}
 use Rattle.wave.specs.declared.input.Fault.{Fault}
+use Rattle.wave.specs.declared.input.Fault.TheVariants.{OutOfMemory}
 use Rattle.wave.specs.declared.input.Input.{Input}
-use Rattle.wave.specs.Requests.{AreWordsOf, AreUnknown}
+use Rattle.wave.specs.Requests.{AreWordsOf, AskForType, AreUnknown}
 use Rattle.wave.specs.Answers.{Answers, IsRefused, IsInput, IsFaultOf, line, words_of_fault, usage}
 use Rattle.wave.specs.ReadFaults.{IsReadToEnd}
 
@@ -31,8 +32,13 @@ module _ {R : Type 0} where
       ⊎ (status ≡ 1) × IsRefusal request left said × IsReadToEnd old new
       ⊎ (status ≡ 3) × ((fault : Fault) × IsFaultOf left old new fault × (said ≡ line (words_of_fault fault)))
 
-  -- the line that is due, and the status that goes with it: what the request is due that the words make, or the usage where they make none
+  -- memory was wanting for the type that the words ask for, nothing was read, and the line says so
+  abbrev pub IsUntold : List (List ℕ) → Input R → Input R → List ℕ → Type 0
+  IsUntold words old new said = AskForType words × (new ≡ old) × (said ≡ line (words_of_fault OutOfMemory))
+
+  -- the line that is due, and the status that goes with it: what the request is due that the words make, the usage where they make none, or that memory was wanting to tell
   abbrev pub IsDue : List (List ℕ) → Option (List ℕ) → Input R → Input R → ℕ → List ℕ → Type 0
   IsDue words left old new status said =
       (status ≡ 2) × IsUsage words said
+      ⊎ (status ≡ 3) × IsUntold words old new said
       ⊎ ((request : Request) × AreWordsOf request words × IsDueTo request left old new status said)

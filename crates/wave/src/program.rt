@@ -4,9 +4,10 @@ ghost use Rattle.wave_lex.specs.Errors.{error_text};
 ghost use Rattle.wave_lex.specs.declared.error.ParserErrorKind.TheVariants as kind;
 ghost use Rattle.wave.specs.ReadFaults.{IsReadToEnd, IsReadFault};
 ghost use Rattle.wave.specs.Written.{WritesWhole, WritesLess, Prints};
-ghost use Rattle.wave.specs.Requests.{AreUnknown, HasLimit};
+ghost use Rattle.wave.specs.Requests.{AreUnknown};
 ghost use Rattle.wave.specs.Answers.{line, words_of_fault};
 ghost use Rattle.wave.specs.Private.Answers.{IsOutcome, IsNoOutcome, TellsRefusal};
+ghost use Rattle.wave.specs.Private.Requests.{IsFit};
 ghost use Rattle.wave.specs.Statuses.{IsDue};
 
 use crate::answer::{Unanswered, answer};
@@ -23,7 +24,8 @@ const USAGE: &str = "usage: wave value [N] | wave call | wave read NAME [N]\n";
 
 /// Answers the words on the input, and gives the status to end with: 0 where the request has an
 /// answer, 1 where it has none, 2 where the words make no request, and 3 where the input or the
-/// output failed, the input is no text, or memory ran out. An input whose reader told its end
+/// output failed, the input is no text, or memory ran out, to tell the type that the words ask for
+/// too, which comes before anything is read. An input whose reader told its end
 /// before the call counts as one that failed.
 pub fn run<R: Read, W: Write>(
     alloc: Global,
@@ -40,8 +42,10 @@ pub fn run<R: Read, W: Write>(
     ensures tested_first { AreUnknown (map string_bytes words.now) → input.new ≡ input.old }
     ensures counted { input.new.reads_left ≤ input.old.reads_left }
 {
-    let Some(request) = request_of(words) else {
-        return print(output, USAGE, 2);
+    let request = match request_of(alloc, words) {
+        Ok(Some(request)) => request,
+        Ok(None) => return print(output, USAGE, 2),
+        Err(_) => return report(output, Fault::OutOfMemory),
     };
     match respond(alloc, request, input) {
         Ok(Outcome::Answered(line)) => print(output, line.as_str(), 0),
@@ -127,7 +131,7 @@ enum Outcome {
 
 /// The outcome of the request on all of the input.
 fn respond<R: Read>(alloc: Global, request: Request, input: &mut Input<R>) -> Result<Outcome, Fault>
-    requires { HasLimit request }
+    requires { IsFit request }
     ensures outcome { IfOk result (λ outcome.
         IsOutcome request (R.remaining input.old.reader) outcome × IsReadToEnd input.old input.new) }
     ensures fault { IfErr result (IsNoOutcome request (R.remaining input.old.reader) input.old input.new) }
