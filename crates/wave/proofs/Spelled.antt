@@ -1,8 +1,5 @@
 -- In a type that a text spells no name stands twice, and a text spells one type.
-use Rattle.std.proofs.Common.{ℕ, ◌≡◌, ◌≢◌, ◌≤◌, List, [], ◌∷◌, inl, inr, sym, subst, arith, codes}
-use Rattle.std.specs.Str.{bytes_eq}
-use Rattle.std.proofs.lemmas.Slice.Eq.{bytes_eq-Decides}
-use Rattle.std.proofs.lemmas.Bool.Decides.{not_from_Decides}
+use Rattle.std.proofs.Common.{ℕ, ◌≡◌, ◌≢◌, ◌≤◌, ◌↔◌, ◌∙◌, Bool, false, IsTrue, List, [], inl, inr, sym, subst, arith, codes}
 use Rattle.wave_wasm.specs.Names.{AreDistinct}
 use Rattle.wave_wasm.specs.Types as type
 use Rattle.wave_wasm.specs.Types.{TypeTree, MaybeType, Types, Fields, Cases, no_type, a_type, no_types, type_and, no_fields, field, no_cases, case_of, HasDistinctNames, EachNamesOfMaybe, EachNamesOfTypes, EachNamesOfFields, EachNamesOfCases}
@@ -70,9 +67,9 @@ module _ (word text : List ℕ) (stands : text ≡ text_of word) where
   names_none kind other (inr none) T h = let deep = none T (subst (λ s. IsTypeOf s T) (sym stands) h.0) in let within = h.1 in absurd (omega (arith, deep, within))
 
   -- the text spells a type that has no value
-  pub names_empty : (T : TypeTree) → IsTypeOf text T → (HasValue T → ⊥) → (U : TypeTree) → NamesType word U → ⊥
+  names_empty : (T : TypeTree) → IsTypeOf text T → (HasValue T → ⊥) → (U : TypeTree) → NamesType word U → ⊥
   names_empty T spells none U h = none (subst HasValue (sym (one_type text T U spells (subst (λ s. IsTypeOf s U) (sym stands) h.0))) h.2)
 
--- two words that the test tells apart
-pub apart : (m n : List ℕ) → bytes_eq m n ≡ false → m ≢ n
-apart m n e = not_from_Decides _ (bytes_eq-Decides m n) e
+  -- it has none where the test says so
+  pub names_untested : (T : TypeTree) (b : Bool) → IsTypeOf text T → IsTrue b ↔ HasValue T → b ≡ false → (U : TypeTree) → NamesType word U → ⊥
+  names_untested T b spells tested is = names_empty T spells (λ has. absurd (cc (sym is ∙ tested.1 has)))

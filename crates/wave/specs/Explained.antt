@@ -6,7 +6,8 @@ use Rattle.wave_explain.specs.Places.{IsExplained}
 use Rattle.wave.specs.declared.request.Request.{Request}
 use Rattle.wave.specs.declared.output.Output.{Output}
 use Rattle.wave.specs.Requests.{AreWordsOf}
-use Rattle.wave.specs.Answers.{IsRefused, IsInput, line}
+use Rattle.wave.specs.Answers.{IsRefused, IsInput}
+use Rattle.wave.specs.Lines.{line}
 use Rattle.wave.specs.Written.{WritesWhole, WritesLess}
 
 module _ {E : Type 0} (contents : E → Option (List ℕ)) where

@@ -5,7 +5,8 @@ ghost use Rattle.wave_lex.specs.declared.error.ParserErrorKind.TheVariants as ki
 ghost use Rattle.wave.specs.ReadFaults.{IsReadToEnd, IsReadFault};
 ghost use Rattle.wave.specs.Written.{WritesWhole, WritesLess, Prints};
 ghost use Rattle.wave.specs.Requests.{AreUnknown};
-ghost use Rattle.wave.specs.Answers.{line, words_of_fault};
+ghost use Rattle.wave.specs.Answers.{words_of_fault};
+ghost use Rattle.wave.specs.Lines.{line};
 ghost use Rattle.wave.specs.Private.Answers.{IsOutcome, IsNoOutcome, TellsRefusal};
 ghost use Rattle.wave.specs.Explained.{IsShown, ShowsRefusal};
 ghost use Rattle.wave.specs.Private.Requests.{IsFit};
@@ -13,6 +14,7 @@ ghost use Rattle.wave.specs.Statuses.{IsDue};
 
 use crate::answer::{Unanswered, answer};
 use crate::input::{Fault, Input};
+use crate::notices::notice_of;
 use crate::output::Output;
 use crate::request::{Request, request_of};
 use std::alloc::{AllocError, Global};
@@ -25,7 +27,7 @@ const CHUNK: usize = 65_536;
 const USAGE: &str = "usage: wave value [N] | wave call | wave read NAME [N]\n";
 
 /// Answers the words on the input, and gives the status to end with: 0 where the request has an
-/// answer, 1 where it has none, 2 where the words make no request, and 3 where the input or the
+/// answer, or the words ask for the help or the version, for which nothing is read; 1 where it has none, 2 where the words make no request, and 3 where the input or the
 /// output failed, the input is no text, or memory ran out, to tell the type that the words ask for
 /// too, which comes before anything is read. An input whose reader told its end
 /// before the call counts as one that failed. Where a refusal was told, it is shown to a person too:
@@ -50,6 +52,9 @@ pub fn run<R: Read, W: Write, E: Write>(
     ensures tested_first { AreUnknown (map string_bytes words.now) → input.new ≡ input.old }
     ensures counted { input.new.reads_left ≤ input.old.reads_left }
 {
+    if let Some(notice) = notice_of(words) {
+        return print(output, notice, 0);
+    }
     let request = match request_of(alloc, words) {
         Ok(Some(request)) => request,
         Ok(None) => return print(output, USAGE, 2),

@@ -12,7 +12,8 @@ use Rattle.wave.specs.declared.input.Fault.TheVariants.{NotUtf8, InputFailed, Ou
 use Rattle.wave.specs.declared.output.Output.{Output}
 use Rattle.wave.specs.declared.program.Outcome.{Outcome}
 use Rattle.wave.specs.declared.program.Outcome.TheVariants.{Answered, Refused}
-use Rattle.wave.specs.Answers.{Answers, IsRefused, IsInput, IsNoText, line, words_of_fault}
+use Rattle.wave.specs.Answers.{Answers, IsRefused, IsInput, IsNoText, words_of_fault}
+use Rattle.wave.specs.Lines.{line}
 use Rattle.wave.specs.ReadFaults.{IsReadToEnd, IsUnread}
 use Rattle.wave.specs.Statuses.{IsAnswer}
 use Rattle.wave.specs.Written.{Prints}
