@@ -1,5 +1,5 @@
 -- What the program answers.
-use Rattle.std.specs.Prelude.{ℕ, List, [], ◌∷◌, ◌++◌, ◌≡◌, IfSome, IsUtf8, codes}
+use Rattle.std.specs.Prelude.{ℕ, List, ◌≡◌, IfSome, IsUtf8, codes}
 use Rattle.std.specs.declared.option.Option.{Option}
 use Rattle.wave_wasm.specs.Values.{Value}
 use Rattle.wave_wasm.specs.Text.{text}
@@ -15,28 +15,24 @@ use Rattle.wave.specs.declared.request.Request.TheVariants as request
 use Rattle.wave.specs.declared.input.Input.{Input}
 use Rattle.wave.specs.declared.input.Fault.{Fault}
 use Rattle.wave.specs.declared.input.Fault.TheVariants.{NotUtf8, InputFailed, OutOfMemory}
-use Rattle.wave.specs.Requests.{type_of}
+use Rattle.wave.specs.Lines.{line}
 use Rattle.wave.specs.ReadFaults.{IsReadToEnd, IsUnread}
 
 -- the request on the text has the answer: the display of the tree that the text spells within n levels, that of the call that it is, or the canonical text of the value that it means at the type within n levels
 abbrev pub Answers : Request → List ℕ → List ℕ → Type 0
 Answers (request.Value n) whole answer = (t : Tree) × SpellsText n whole t × (answer ≡ shown t)
 Answers request.Call whole answer = (name : List ℕ) × (params : MaybeTree) × IsCall whole name params × (answer ≡ shown_call name params)
-Answers (request.Read name n) whole answer = (v : Value) × Means (type_of name) n whole v × (answer ≡ text v)
+Answers (request.Read T n) whole answer = (v : Value) × Means T n whole v × (answer ≡ text v)
 
 -- the refusal tells a fault of the text: its kind, its cause and its place
 abbrev pub TellsFaultOf : Request → List ℕ → Diagnostic → Type 0
 TellsFaultOf (request.Value n) whole e = SyntaxFault n whole e
 TellsFaultOf request.Call whole e = CallFault whole e
-TellsFaultOf (request.Read name n) whole e = TextFault (type_of name) n whole e
+TellsFaultOf (request.Read T n) whole e = TextFault T n whole e
 
 -- the request on the text has no answer, and the refusal tells why
 abbrev pub IsRefused : Request → List ℕ → Diagnostic → Type 0
 IsRefused request whole e = TellsFaultOf request whole e × ((answer : List ℕ) → Answers request whole answer → ⊥)
-
--- the text and a line feed
-abbrev pub line : List ℕ → List ℕ
-line words = words ++ 10 ∷ []
 
 -- the bytes left are the text, where they are known
 abbrev pub IsInput : Option (List ℕ) → List ℕ → Type 0

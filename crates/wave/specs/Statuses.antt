@@ -4,9 +4,12 @@ use Rattle.std.specs.declared.option.Option.{Option}
 use Rattle.wave_lex.specs.Errors.{Diagnostic, error_text}
 use Rattle.wave.specs.declared.request.Request.{Request}
 use Rattle.wave.specs.declared.input.Fault.{Fault}
+use Rattle.wave.specs.declared.input.Fault.TheVariants.{OutOfMemory}
 use Rattle.wave.specs.declared.input.Input.{Input}
-use Rattle.wave.specs.Requests.{AreWordsOf, AreUnknown}
-use Rattle.wave.specs.Answers.{Answers, IsRefused, IsInput, IsFaultOf, line, words_of_fault, usage}
+use Rattle.wave.specs.Notices.{IsNotice, IsNoNotice}
+use Rattle.wave.specs.Requests.{AreWordsOf, AskForType, AreUnknown}
+use Rattle.wave.specs.Answers.{Answers, IsRefused, IsInput, IsFaultOf, words_of_fault, usage}
+use Rattle.wave.specs.Lines.{line}
 use Rattle.wave.specs.ReadFaults.{IsReadToEnd}
 
 -- the request has an answer on the whole input, and that is the line
@@ -19,9 +22,9 @@ abbrev pub IsRefusal : Request → Option (List ℕ) → List ℕ → Type 0
 IsRefusal request left said = (whole : List ℕ) × (refusal : Diagnostic)
     × IsInput left whole × IsRefused request whole refusal × (said ≡ line (error_text refusal))
 
--- the words make no request, and the usage is the line
+-- the words make no request and ask for no notice, and the usage is the line
 abbrev pub IsUsage : List (List ℕ) → List ℕ → Type 0
-IsUsage words said = AreUnknown words × (said ≡ usage)
+IsUsage words said = AreUnknown words × IsNoNotice words × (said ≡ usage)
 
 module _ {R : Type 0} where
   -- the line that the request is due on what the reader had left: its answer or its refusal where the input was read to its end, or else a fault's words
@@ -31,8 +34,14 @@ module _ {R : Type 0} where
       ⊎ (status ≡ 1) × IsRefusal request left said × IsReadToEnd old new
       ⊎ (status ≡ 3) × ((fault : Fault) × IsFaultOf left old new fault × (said ≡ line (words_of_fault fault)))
 
-  -- the line that is due, and the status that goes with it: what the request is due that the words make, or the usage where they make none
+  -- memory was wanting for the type that the words ask for, nothing was read, and the line says so
+  abbrev pub IsUntold : List (List ℕ) → Input R → Input R → List ℕ → Type 0
+  IsUntold words old new said = AskForType words × (new ≡ old) × (said ≡ line (words_of_fault OutOfMemory))
+
+  -- the line that is due, and the status that goes with it: what the request is due that the words make; the help or the version, where they ask for it, and nothing was read; the usage; or that memory was wanting to tell which
   abbrev pub IsDue : List (List ℕ) → Option (List ℕ) → Input R → Input R → ℕ → List ℕ → Type 0
   IsDue words left old new status said =
-      (status ≡ 2) × IsUsage words said
+      (status ≡ 0) × IsNotice words said × (new ≡ old)
+      ⊎ (status ≡ 2) × IsUsage words said
+      ⊎ (status ≡ 3) × IsUntold words old new said
       ⊎ ((request : Request) × AreWordsOf request words × IsDueTo request left old new status said)

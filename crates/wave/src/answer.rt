@@ -1,18 +1,17 @@
 // What a request answers on a text.
-ghost use Rattle.std.specs.Prelude.{◌≡◌, IfOk, IfErr, MatchResult, string_bytes};
-ghost use Rattle.wave_lex.specs.declared.error.ParserErrorKind.TheVariants as kind;
+ghost use Rattle.std.specs.Prelude.{◌≡◌, MatchResult, string_bytes};
 ghost use Rattle.wave_wasm.specs.WriterState.{IsWantOfMemory};
 ghost use Rattle.wave.specs.declared.answer.Unanswered.TheVariants as why;
 ghost use Rattle.wave.specs.declared.request.Request.TheVariants as request;
 ghost use Rattle.wave_tree.specs.ParserState.{IsLimit};
-ghost use Rattle.wave.specs.Requests.{HasLimit, type_of as named_type};
+ghost use Rattle.wave_wasm.specs.Types.{HasDistinctNames};
 ghost use Rattle.wave.specs.Answers.{Answers};
 ghost use Rattle.wave.specs.Private.Answers.{IsUnanswered};
+ghost use Rattle.wave.specs.Private.Requests.{IsFit};
 
-use crate::request::{Request, TypeName};
-use crate::types::type_of;
+use crate::request::Request;
 use std::alloc::{AllocError, Global};
-use wasm_wave::parser::{Parser, ParserError, ParserErrorKind};
+use wasm_wave::parser::{Parser, ParserError};
 use wasm_wave::to_string;
 use wasm_wave::untyped::UntypedFuncCall;
 use wasm_wave::value::{Type, Value};
@@ -45,7 +44,7 @@ impl From<ParserError> for Unanswered {
 
 /// The answer of the request on the text.
 pub fn answer(alloc: Global, request: Request, text: &str) -> Result<String, Unanswered>
-    requires { HasLimit request }
+    requires { IsFit request }
     ensures { MatchResult result
         (λ answer. Answers request text.now (string_bytes answer))
         (IsUnanswered request text.now) }
@@ -53,7 +52,7 @@ pub fn answer(alloc: Global, request: Request, text: &str) -> Result<String, Una
     match request {
         Request::Value(levels) => value(alloc, levels, text),
         Request::Call => call(alloc, text),
-        Request::Read(name, levels) => read(alloc, name, levels, text),
+        Request::Read(ty, levels) => read(alloc, &ty, levels, text),
     }
 }
 
@@ -80,31 +79,20 @@ fn call(alloc: Global, text: &str) -> Result<String, Unanswered>
     Ok(call.to_string(alloc)?)
 }
 
-/// The canonical text of the value that the text means at the named type within so many levels.
-fn read(alloc: Global, name: TypeName, levels: u32, text: &str) -> Result<String, Unanswered>
-    requires { IsLimit levels }
+/// The canonical text of the value that the text means at the type within so many levels.
+fn read(alloc: Global, ty: &Type, levels: u32, text: &str) -> Result<String, Unanswered>
+    requires limit { IsLimit levels }
+    requires distinct { HasDistinctNames ty.now }
     ensures { MatchResult result
-        (λ answer. Answers (request.Read name levels) text.now (string_bytes answer))
-        (IsUnanswered (request.Read name levels) text.now) }
+        (λ answer. Answers (request.Read ty.now levels) text.now (string_bytes answer))
+        (IsUnanswered (request.Read ty.now levels) text.now) }
 {
-    let ty = type_named(alloc, name)?;
     let mut parser = Parser::new(text).with_limit(levels);
-    let value = parser.parse_value::<Value>(alloc, &ty)?;
+    let value = parser.parse_value::<Value>(alloc, ty)?;
     parser.finish()?;
     match to_string(alloc, &value) {
         Ok(answer) => Ok(answer),
         Err(error) => Err(for_memory(error)),
-    }
-}
-
-/// The type of this name; want of memory for it is told at the front of the text.
-fn type_named(alloc: Global, name: TypeName) -> Result<Type, ParserError>
-    ensures named { IfOk result (λ ty. ty ≡ named_type name) }
-    ensures memory { IfErr result (λ e. e.kind ≡ kind.OutOfMemory) }
-{
-    match type_of(alloc, name) {
-        Ok(ty) => Ok(ty),
-        Err(_) => Err(ParserError::new(ParserErrorKind::OutOfMemory, 0..0)),
     }
 }
 

@@ -4,17 +4,22 @@ ghost use Rattle.wave_lex.specs.Errors.{error_text};
 ghost use Rattle.wave_lex.specs.declared.error.ParserErrorKind.TheVariants as kind;
 ghost use Rattle.wave.specs.ReadFaults.{IsReadToEnd, IsReadFault};
 ghost use Rattle.wave.specs.Written.{WritesWhole, WritesLess, Prints};
-ghost use Rattle.wave.specs.Requests.{AreUnknown, HasLimit};
-ghost use Rattle.wave.specs.Answers.{line, words_of_fault};
+ghost use Rattle.wave.specs.Requests.{AreUnknown};
+ghost use Rattle.wave.specs.Answers.{words_of_fault};
+ghost use Rattle.wave.specs.Lines.{line};
 ghost use Rattle.wave.specs.Private.Answers.{IsOutcome, IsNoOutcome, TellsRefusal};
+ghost use Rattle.wave.specs.Explained.{IsShown, ShowsRefusal};
+ghost use Rattle.wave.specs.Private.Requests.{IsFit};
 ghost use Rattle.wave.specs.Statuses.{IsDue};
 
 use crate::answer::{Unanswered, answer};
 use crate::input::{Fault, Input};
+use crate::notices::notice_of;
 use crate::output::Output;
 use crate::request::{Request, request_of};
 use std::alloc::{AllocError, Global};
 use std::io::{Read, Write};
+use wasm_wave::explain::explain;
 use wasm_wave::parser::{ParserError, ParserErrorKind};
 
 const CHUNK: usize = 65_536;
@@ -22,31 +27,73 @@ const CHUNK: usize = 65_536;
 const USAGE: &str = "usage: wave value [N] | wave call | wave read NAME [N]\n";
 
 /// Answers the words on the input, and gives the status to end with: 0 where the request has an
-/// answer, 1 where it has none, 2 where the words make no request, and 3 where the input or the
-/// output failed, the input is no text, or memory ran out. An input whose reader told its end
-/// before the call counts as one that failed.
-pub fn run<R: Read, W: Write>(
+/// answer, or the words ask for the help or the version, for which nothing is read; 1 where it has none, 2 where the words make no request, and 3 where the input or the
+/// output failed, the input is no text, or memory ran out, to tell the type that the words ask for
+/// too, which comes before anything is read. An input whose reader told its end
+/// before the call counts as one that failed. Where a refusal was told, it is shown to a person too:
+/// what explains it is written to `errors`, unless memory is wanting for that.
+pub fn run<R: Read, W: Write, E: Write>(
     alloc: Global,
     words: &[String],
     input: &mut Input<R>,
     output: &mut Output<W>,
+    errors: &mut Output<E>,
 ) -> u8
     // One line was due, and the status with it; it was written, or a write failed.
     ensures printed { (status : ℕ) × (said : List ℕ)
         × IsDue (map string_bytes words.now) (R.remaining input.old.reader)
         input.old input.new status said
         × Prints W.contents output.old output.new said status result }
+    // A refusal is shown where it was told, and nothing else is.
+    ensures shown { result ≡ 1 → IsShown (map string_bytes words.now) (R.remaining input.old.reader)
+        W.contents output.old output.new E.contents errors.old errors.new }
+    ensures quiet { result ≢ 1 → errors.new ≡ errors.old }
     // The words are tested before anything is read.
     ensures tested_first { AreUnknown (map string_bytes words.now) → input.new ≡ input.old }
     ensures counted { input.new.reads_left ≤ input.old.reads_left }
 {
-    let Some(request) = request_of(words) else {
-        return print(output, USAGE, 2);
+    if let Some(notice) = notice_of(words) {
+        return print(output, notice, 0);
+    }
+    let request = match request_of(alloc, words) {
+        Ok(Some(request)) => request,
+        Ok(None) => return print(output, USAGE, 2),
+        Err(_) => return report(output, Fault::OutOfMemory),
     };
     match respond(alloc, request, input) {
         Ok(Outcome::Answered(line)) => print(output, line.as_str(), 0),
-        Ok(Outcome::Refused(refusal)) => tell(alloc, output, &refusal),
+        Ok(Outcome::Refused(refusal, text)) => {
+            refuse(alloc, output, errors, &refusal, text.as_str())
+        }
         Err(fault) => report(output, fault),
+    }
+}
+
+/// Says why there is no answer, and shows it to a person where that was told at status 1.
+fn refuse<W: Write, E: Write>(
+    alloc: Global,
+    output: &mut Output<W>,
+    errors: &mut Output<E>,
+    refusal: &ParserError,
+    text: &str,
+) -> u8
+    ensures told { TellsRefusal W.contents output.old output.new refusal.now result }
+    ensures shown { result ≡ 1 → ShowsRefusal E.contents errors.old errors.new text.now refusal.now }
+    ensures quiet { result ≢ 1 → errors.new ≡ errors.old }
+{
+    let status = tell(alloc, output, refusal);
+    if status == 1 {
+        show(alloc, errors, refusal, text);
+    }
+    status
+}
+
+/// Writes what explains the refusal of the text, or nothing where memory is wanting for it.
+fn show<E: Write>(alloc: Global, errors: &mut Output<E>, refusal: &ParserError, text: &str)
+    ensures { ShowsRefusal E.contents errors.old errors.new text.now refusal.now }
+{
+    if let Ok(explained) = explain(alloc, refusal, text) {
+        write_whole(errors, explained.as_bytes());
     }
 }
 
@@ -121,25 +168,25 @@ fn write_whole<W: Write>(output: &mut Output<W>, bytes: &[u8]) -> bool
 enum Outcome {
     /// Its answer, with a line feed.
     Answered(String),
-    /// A refusal of the text, or want of memory while it was read.
-    Refused(ParserError),
+    /// A refusal of the text, or want of memory while it was read; and the text.
+    Refused(ParserError, String),
 }
 
 /// The outcome of the request on all of the input.
 fn respond<R: Read>(alloc: Global, request: Request, input: &mut Input<R>) -> Result<Outcome, Fault>
-    requires { HasLimit request }
+    requires { IsFit request }
     ensures outcome { IfOk result (λ outcome.
         IsOutcome request (R.remaining input.old.reader) outcome × IsReadToEnd input.old input.new) }
     ensures fault { IfErr result (IsNoOutcome request (R.remaining input.old.reader) input.old input.new) }
     ensures counted { input.new.reads_left ≤ input.old.reads_left }
 {
     let bytes = read_whole(alloc, input)?;
-    let Ok(text) = str::from_utf8(&bytes) else {
+    let Ok(text) = String::from_utf8(bytes) else {
         return Err(Fault::NotUtf8);
     };
-    match answer(alloc, request, text) {
+    match answer(alloc, request, text.as_str()) {
         Ok(answer) => Ok(Outcome::Answered(line_of(answer)?)),
-        Err(Unanswered::Refused(refusal)) => Ok(Outcome::Refused(refusal)),
+        Err(Unanswered::Refused(refusal)) => Ok(Outcome::Refused(refusal, text)),
         Err(Unanswered::OutOfMemory) => Err(Fault::OutOfMemory),
     }
 }

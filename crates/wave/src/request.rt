@@ -1,80 +1,22 @@
 // What the words after the program's name ask for.
-ghost use Rattle.std.specs.Prelude.{ℕ, [], ◌∷◌, ◌≡◌, ◌≢◌, MatchOption, map, string_bytes};
-ghost use Rattle.wave.specs.declared.request.TypeName.{TypeName};
-ghost use Rattle.wave.specs.declared.request.Request.{Request};
-ghost use Rattle.wave.specs.Requests.{word_of, IsLimitWord, AreWordsOf, AreUnknown};
+ghost use Rattle.std.specs.Prelude.{ℕ, [], ◌∷◌, IfOk, IfErr, MatchOption, map, string_bytes};
+ghost use Rattle.wave.specs.Requests.{IsLimitWord, AreWordsOf, AskForType, AreUnknown};
 
+use crate::types::type_at;
+use std::alloc::{AllocError, Global};
 use wasm_wave::WholeNumber;
 use wasm_wave::parser::{DEFAULT_LEVELS, MAX_LEVELS};
-
-/// A type that the program reads.
-#[derive(Clone, Copy, Debug, PartialEq, Eq)]
-pub enum TypeName {
-    Bool,
-    S8,
-    S16,
-    S32,
-    S64,
-    U8,
-    U16,
-    U32,
-    U64,
-    Char,
-    String,
-    /// `list<u8>`.
-    Bytes,
-    /// `flags { read, write, exec }`.
-    Perms,
-    /// `enum { ok, not-found }`.
-    Status,
-    /// `variant { empty, body(list<u8>), err(string) }`.
-    Response,
-    /// `record { must-have: u8, optional: option<u8> }`.
-    Example,
-    /// `map<string, u32>`.
-    Counts,
-    /// `list<u8, 4>`.
-    Quad,
-}
+use wasm_wave::value::Type;
 
 /// What the program is to do.
-#[derive(Clone, Copy, Debug, PartialEq, Eq)]
+#[derive(Debug, Drop)]
 pub enum Request {
     /// A text is read without a type, within so many levels, and displayed.
     Value(u32),
     /// A call is read without types, and displayed.
     Call,
     /// A text is read at the type, within so many levels, and the canonical text of its value printed.
-    Read(TypeName, u32),
-}
-
-/// The type that the word names.
-fn type_name(word: &str) -> Option<TypeName>
-    ensures { MatchOption result
-        ((name : TypeName) → word.now ≢ word_of name)
-        (λ name. word.now ≡ word_of name) }
-{
-    match word {
-        "bool" => Some(TypeName::Bool),
-        "s8" => Some(TypeName::S8),
-        "s16" => Some(TypeName::S16),
-        "s32" => Some(TypeName::S32),
-        "s64" => Some(TypeName::S64),
-        "u8" => Some(TypeName::U8),
-        "u16" => Some(TypeName::U16),
-        "u32" => Some(TypeName::U32),
-        "u64" => Some(TypeName::U64),
-        "char" => Some(TypeName::Char),
-        "string" => Some(TypeName::String),
-        "bytes" => Some(TypeName::Bytes),
-        "perms" => Some(TypeName::Perms),
-        "status" => Some(TypeName::Status),
-        "response" => Some(TypeName::Response),
-        "example" => Some(TypeName::Example),
-        "counts" => Some(TypeName::Counts),
-        "quad" => Some(TypeName::Quad),
-        _ => None,
-    }
+    Read(Type, u32),
 }
 
 /// The limit that the word writes: a decimal number from 1 to `MAX_LEVELS` without a leading zero.
@@ -107,41 +49,63 @@ fn one_word(word: &str) -> Option<Request>
     }
 }
 
-/// The request that two words make.
-fn two_words(first: &str, second: &str) -> Option<Request>
-    ensures { MatchOption result
+/// The request that two words make. The only error is want of memory.
+fn two_words(alloc: Global, first: &str, second: &str) -> Result<Option<Request>, AllocError>
+    ensures made { IfOk result (λ found. MatchOption found
         (AreUnknown (first.now ∷ second.now ∷ []))
-        (λ request. AreWordsOf request (first.now ∷ second.now ∷ [])) }
+        (λ request. AreWordsOf request (first.now ∷ second.now ∷ []))) }
+    ensures memory { IfErr result (λ e. AskForType (first.now ∷ second.now ∷ [])) }
 {
     match first {
-        "value" => Some(Request::Value(limit_of(second)?)),
-        "read" => Some(Request::Read(type_name(second)?, DEFAULT_LEVELS)),
-        _ => None,
+        "value" => match limit_of(second) {
+            Some(levels) => Ok(Some(Request::Value(levels))),
+            None => Ok(None),
+        },
+        "read" => match type_at(alloc, second)? {
+            Some(ty) => Ok(Some(Request::Read(ty, DEFAULT_LEVELS))),
+            None => Ok(None),
+        },
+        _ => Ok(None),
     }
 }
 
-/// The request that three words make.
-fn three_words(first: &str, second: &str, third: &str) -> Option<Request>
-    ensures { MatchOption result
+/// The request that three words make. The only error is want of memory.
+fn three_words(
+    alloc: Global,
+    first: &str,
+    second: &str,
+    third: &str,
+) -> Result<Option<Request>, AllocError>
+    ensures made { IfOk result (λ found. MatchOption found
         (AreUnknown (first.now ∷ second.now ∷ third.now ∷ []))
-        (λ request. AreWordsOf request (first.now ∷ second.now ∷ third.now ∷ [])) }
+        (λ request. AreWordsOf request (first.now ∷ second.now ∷ third.now ∷ []))) }
+    ensures memory { IfErr result (λ e. AskForType (first.now ∷ second.now ∷ third.now ∷ [])) }
 {
     if first != "read" {
-        return None;
+        return Ok(None);
     }
-    Some(Request::Read(type_name(second)?, limit_of(third)?))
+    let Some(levels) = limit_of(third) else {
+        return Ok(None);
+    };
+    match type_at(alloc, second)? {
+        Some(ty) => Ok(Some(Request::Read(ty, levels))),
+        None => Ok(None),
+    }
 }
 
-/// The request that the words make.
-pub fn request_of(words: &[String]) -> Option<Request>
-    ensures { MatchOption result
+/// The request that the words make. The only error is want of memory, for the type that they name.
+pub fn request_of(alloc: Global, words: &[String]) -> Result<Option<Request>, AllocError>
+    ensures made { IfOk result (λ found. MatchOption found
         (AreUnknown (map string_bytes words.now))
-        (λ request. AreWordsOf request (map string_bytes words.now)) }
+        (λ request. AreWordsOf request (map string_bytes words.now))) }
+    ensures memory { IfErr result (λ e. AskForType (map string_bytes words.now)) }
 {
     match words {
-        [word] => one_word(word.as_str()),
-        [first, second] => two_words(first.as_str(), second.as_str()),
-        [first, second, third] => three_words(first.as_str(), second.as_str(), third.as_str()),
-        _ => None,
+        [word] => Ok(one_word(word.as_str())),
+        [first, second] => two_words(alloc, first.as_str(), second.as_str()),
+        [first, second, third] => {
+            three_words(alloc, first.as_str(), second.as_str(), third.as_str())
+        }
+        _ => Ok(None),
     }
 }

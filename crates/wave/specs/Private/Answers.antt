@@ -12,7 +12,8 @@ use Rattle.wave.specs.declared.input.Fault.TheVariants.{NotUtf8, InputFailed, Ou
 use Rattle.wave.specs.declared.output.Output.{Output}
 use Rattle.wave.specs.declared.program.Outcome.{Outcome}
 use Rattle.wave.specs.declared.program.Outcome.TheVariants.{Answered, Refused}
-use Rattle.wave.specs.Answers.{Answers, IsRefused, IsInput, IsNoText, line, words_of_fault}
+use Rattle.wave.specs.Answers.{Answers, IsRefused, IsInput, IsNoText, words_of_fault}
+use Rattle.wave.specs.Lines.{line}
 use Rattle.wave.specs.ReadFaults.{IsReadToEnd, IsUnread}
 use Rattle.wave.specs.Statuses.{IsAnswer}
 use Rattle.wave.specs.Written.{Prints}
@@ -26,10 +27,10 @@ abbrev pub IsUnanswered : Request → List ℕ → Unanswered → Type 0
 IsUnanswered request whole (why.Refused e) = Refuses request whole e
 IsUnanswered request whole why.OutOfMemory = (answer : List ℕ) × Answers request whole answer
 
--- the outcome is that of the request on the whole input: its answer as a line, or its refusal
+-- the outcome is that of the request on the whole input: its answer as a line, or its refusal and the input
 abbrev pub IsOutcome : Request → Option (List ℕ) → Outcome → Type 0
 IsOutcome request left (Answered output) = IsAnswer request left (string_bytes output)
-IsOutcome request left (Refused e) = (whole : List ℕ) × IsInput left whole × Refuses request whole e
+IsOutcome request left (Refused e text) = IsInput left (string_bytes text) × Refuses request (string_bytes text) e
 
 -- the request has an answer on the whole input
 abbrev pub HasAnswer : Request → Option (List ℕ) → Type 0

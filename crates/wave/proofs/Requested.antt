@@ -1,0 +1,57 @@
+-- What words ask for, by how many there are.
+use Rattle.std.proofs.Common.{ℕ, ◌≡◌, ◌≢◌, ◌≤◌, ◌<◌, ◌⊎◌, ◌∙◌, List, [], ◌∷◌, String, Global, Result, Ok, Err, IfErr, string_bytes, map, get_or, length, refl, inl, inr, sym, ap, arith, codes}
+use Rattle.wave.specs.declared.request.Request.TheVariants.{Value, Call, Read}
+use Rattle.wave.specs.Requests.{IsLimitWord, AskForType, AreUnknown}
+
+-- the text of the only word
+pub one_word : (words : List (String Global)) (word : String Global) (text : List ℕ) → 1 ≤ length words → length words < 2 → word ≡ get_or words 0 word → text ≡ string_bytes word → map string_bytes words ≡ text ∷ []
+one_word [] word text least below is same = absurd (omega (arith, least))
+one_word (first ∷ []) word text least below is same = ap (λ w. string_bytes w ∷ []) (sym is) ∙ ap (λ t. t ∷ []) (sym same)
+one_word (first ∷ second ∷ more) word text least below is same = absurd (omega (arith, below))
+
+-- the texts of two words
+pub two_words : (words : List (String Global)) (x y : String Global) (s t : List ℕ) → 2 ≤ length words → length words < 3 → x ≡ get_or words 0 x → y ≡ get_or words 1 y → s ≡ string_bytes x → t ≡ string_bytes y → map string_bytes words ≡ s ∷ t ∷ []
+two_words [] x y s t least below is_x is_y same_s same_t = absurd (omega (arith, least))
+two_words (a ∷ []) x y s t least below is_x is_y same_s same_t = absurd (omega (arith, least))
+two_words (a ∷ b ∷ []) x y s t least below is_x is_y same_s same_t = λ i. (ap string_bytes (sym is_x) ∙ sym same_s) i ∷ (ap string_bytes (sym is_y) ∙ sym same_t) i ∷ []
+two_words (a ∷ b ∷ d ∷ more) x y s t least below is_x is_y same_s same_t = absurd (omega (arith, below))
+
+-- the texts of three words
+pub three_words : (words : List (String Global)) (x y z : String Global) (s t u : List ℕ) → 3 ≤ length words → length words < 4 → x ≡ get_or words 0 x → y ≡ get_or words 1 y → z ≡ get_or words 2 z → s ≡ string_bytes x → t ≡ string_bytes y → u ≡ string_bytes z → map string_bytes words ≡ s ∷ t ∷ u ∷ []
+three_words [] x y z s t u least below is_x is_y is_z same_s same_t same_u = absurd (omega (arith, least))
+three_words (a ∷ []) x y z s t u least below is_x is_y is_z same_s same_t same_u = absurd (omega (arith, least))
+three_words (a ∷ b ∷ []) x y z s t u least below is_x is_y is_z same_s same_t same_u = absurd (omega (arith, least))
+three_words (a ∷ b ∷ d ∷ []) x y z s t u least below is_x is_y is_z same_s same_t same_u =
+    λ i. (ap string_bytes (sym is_x) ∙ sym same_s) i ∷ (ap string_bytes (sym is_y) ∙ sym same_t) i ∷ (ap string_bytes (sym is_z) ∙ sym same_u) i ∷ []
+three_words (a ∷ b ∷ d ∷ e ∷ more) x y z s t u least below is_x is_y is_z same_s same_t same_u = absurd (omega (arith, below))
+
+-- words that ask for a type, where memory was wanting for it
+pub asks_two : {X E : Type 0} (r : Result X E) (a b : List ℕ) → a ≡ codes "read" → IfErr r (λ e. AskForType (a ∷ b ∷ []))
+asks_two (Ok x) a b is = tt
+asks_two (Err e) a b is = (b, 100, inl (ap (λ z. z ∷ b ∷ []) is, refl))
+
+-- the same with a limit
+pub asks_three : {X E : Type 0} (r : Result X E) (a b d : List ℕ) (n : ℕ) → a ≡ codes "read" → IsLimitWord d n → IfErr r (λ e. AskForType (a ∷ b ∷ d ∷ []))
+asks_three (Ok x) a b d n is limit = tt
+asks_three (Err e) a b d n is limit = (b, n, inr (d, ap (λ z. z ∷ b ∷ d ∷ []) is, limit))
+
+-- no words
+pub unknown_none : (words : List (String Global)) → length words < 1 → AreUnknown (map string_bytes words)
+unknown_none (w ∷ more) none request asked = absurd (omega (arith, none))
+unknown_none [] none (Value n) (inl (is, hundred)) = absurd (omega (arith, ap length is))
+unknown_none [] none (Value n) (inr (l, is, limit)) = absurd (omega (arith, ap length is))
+unknown_none [] none Call is = absurd (omega (arith, ap length is))
+unknown_none [] none (Read T n) (w, inl (is, hundred), names) = absurd (omega (arith, ap length is))
+unknown_none [] none (Read T n) (w, inr (l, is, limit), names) = absurd (omega (arith, ap length is))
+
+-- more than three words
+pub unknown_many : (words : List (String Global)) → 4 ≤ length words → AreUnknown (map string_bytes words)
+unknown_many [] many request asked = absurd (omega (arith, many))
+unknown_many (a ∷ []) many request asked = absurd (omega (arith, many))
+unknown_many (a ∷ b ∷ []) many request asked = absurd (omega (arith, many))
+unknown_many (a ∷ b ∷ d ∷ []) many request asked = absurd (omega (arith, many))
+unknown_many (a ∷ b ∷ d ∷ e ∷ more) many (Value n) (inl (is, hundred)) = absurd (omega (arith, ap length is))
+unknown_many (a ∷ b ∷ d ∷ e ∷ more) many (Value n) (inr (l, is, limit)) = absurd (omega (arith, ap length is))
+unknown_many (a ∷ b ∷ d ∷ e ∷ more) many Call is = absurd (omega (arith, ap length is))
+unknown_many (a ∷ b ∷ d ∷ e ∷ more) many (Read T n) (w, inl (is, hundred), names) = absurd (omega (arith, ap length is))
+unknown_many (a ∷ b ∷ d ∷ e ∷ more) many (Read T n) (w, inr (l, is, limit), names) = absurd (omega (arith, ap length is))

@@ -1,0 +1,11 @@
+-- What a request that words make has.
+use Rattle.wave_wasm.specs.Types.{HasDistinctNames}
+use Rattle.wave_tree.specs.ParserState.{IsLimit}
+use Rattle.wave.specs.declared.request.Request.{Request}
+use Rattle.wave.specs.declared.request.Request.TheVariants.{Value, Call, Read}
+
+-- the limit of the request is one that a parser may be handed, and no name stands twice in its type
+abbrev pub IsFit : Request → Type 0
+IsFit (Value n) = IsLimit n
+IsFit Call = Unit {0}
+IsFit (Read T n) = IsLimit n × HasDistinctNames T

@@ -1,0 +1,69 @@
+// What the program prints of itself.
+ghost use Rattle.std.specs.Prelude.{[], ◌∷◌, MatchOption, map, string_bytes};
+ghost use Rattle.wave.specs.Notices.{IsNotice, IsNoNotice};
+
+const VERSION: &str =
+    "wave 0.1.0, a port of wasm-wave 0.263.0, proved with Rattle, logic dac8208d650f15bf\n";
+
+const HELP: &str =
+    "wave reads a component value in its text form, WAVE, from standard input, and prints it.
+
+  wave value [N]       a value without a type, printed in one line
+  wave call            a call, as f(1, [2]), printed in one line
+  wave read NAME [N]   a value at a type, printed as its canonical text
+  wave --help          this text, as `wave help` and `wave -h` print it too
+  wave --version       the version
+
+NAME is the text of a type, or the name of a sample:
+  bytes      list<u8>
+  perms      flags { read, write, exec }
+  status     enum { ok, not-found }
+  response   variant { empty, body(list<u8>), err(string) }
+  example    record { must-have: u8, optional: option<u8> }
+  counts     map<string, u32>
+  quad       list<u8, 4>
+
+A type is written as in WIT:
+  bool  s8  s16  s32  s64  u8  u16  u32  u64  char  string
+  list<T>  list<T, 4>  option<T>  tuple<T, U>  map<string, T>
+  result  result<T>  result<_, E>  result<T, E>
+  record { a: T, b: U }  variant { a, b(T) }  enum { a, b }  flags { a, b }
+It has at most 100 levels and some value; f32 and f64 have none.
+
+N is the number of levels that the value may have, from 1 to 1000; it is 100 where there is none.
+
+status 0   the value is printed
+status 1   the text is refused: why is printed, and shown in its line on standard error
+status 2   the words are none of these: the usage is printed
+status 3   the input failed or is no UTF-8, the output failed, or memory ran out
+
+examples:
+  echo '[(1, \"a\"),]' | wave read 'list<tuple<u8, string>>'
+  echo '{must-have: 1}' | wave read example
+  echo 'f(1, [2])' | wave call
+";
+
+/// The help or the version, where the words ask for it.
+pub fn notice_of(words: &[String]) -> Option<&'static str>
+    ensures { MatchOption result
+        (IsNoNotice (map string_bytes words.now))
+        (λ said. IsNotice (map string_bytes words.now) said.now) }
+{
+    match words {
+        [word] => notice(word.as_str()),
+        _ => None,
+    }
+}
+
+/// The help or the version, where the word asks for it.
+fn notice(word: &str) -> Option<&'static str>
+    ensures { MatchOption result
+        (IsNoNotice (word.now ∷ []))
+        (λ said. IsNotice (word.now ∷ []) said.now) }
+{
+    match word {
+        "--help" | "help" | "-h" => Some(HELP),
+        "--version" => Some(VERSION),
+        _ => None,
+    }
+}
