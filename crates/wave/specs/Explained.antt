@@ -15,7 +15,7 @@ module _ {E : Type 0} (contents : E → Option (List ℕ)) where
   abbrev pub ShowsRefusal : Output E → Output E → List ℕ → Diagnostic → Type 0
   ShowsRefusal old new whole e =
       (new ≡ old)
-      ⊎ ((text : List ℕ) × IsExplained whole (error_text e) e.span.start text
+      ⊎ ((text : List ℕ) × IsExplained whole (error_text e) e.span text
       × (WritesWhole contents old new text ⊎ WritesLess contents old new text))
 
 -- the request that the words make has no answer on the whole input, and the line that was written is the text of a refusal that tells why, which is shown

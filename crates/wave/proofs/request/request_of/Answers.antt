@@ -12,11 +12,13 @@ returns-in-len2-clause-memory c =
 pub returns-in-len3-clause-memory : goal.returns-in-len3-clause-memory
 returns-in-len3-clause-memory c =
     let is =
-        three_words c.args.words.now _ _ _ _ _ _ c.in-len3.len_at_least c.in-len3.len_below c.first-item-then-words-lt4.is c.second-item-then-words-lt4.is c.third-item.is c.as_str-in-len3.ensures.value
-            c.as_str-in-len3-2.ensures.value c.as_str-in-len3-3.ensures.value in
+    three_words c.args.words.now _ _ _ _ _ _ c.in-len3.len_at_least c.in-len3.len_below c.first-item-then-words-lt4.is c.second-item-then-words-lt4.is c.third-item.is c.as_str-in-len3.ensures.value
+    c.as_str-in-len3-2.ensures.value c.as_str-in-len3-3.ensures.value in
     subst (λ ws. IfErr c.three_words.result (λ e. AskForType ws)) (sym is) c.three_words.ensures.memory
 
 pub returns-in_default-clause-made : goal.returns-in_default-clause-made
 returns-in_default-clause-made c =
-    elim c.in_default.branch [ in_default-via-then-words-lt1 w ↦ unknown_none c.args.words.now (search rules)
-    | in_default-via-else-words-lt1+else-words-lt2+else-words-lt3+else-words-lt4 w ↦ unknown_many c.args.words.now (search rules) ]
+    elim c.in_default.branch [
+      | in_default-via-then-words-lt1 w ↦ unknown_none c.args.words.now (search rules)
+      | in_default-via-else-words-lt1+else-words-lt2+else-words-lt3+else-words-lt4 w ↦ unknown_many c.args.words.now (search rules)
+    ]
