@@ -1,5 +1,5 @@
 -- What a refusal and a fault of the input say of the line that is due.
-use Rattle.std.proofs.Common.{ℕ, ◌≡◌, ◌≢◌, List, Option, [], refl, inl, inr, sym, subst, rules, arith}
+use Rattle.std.proofs.Common.{ℕ, ◌≡◌, ◌≢◌, List, Option, Some, MatchOption, [], refl, inl, inr, sym, subst, rules, arith}
 use Rattle.wave_lex.specs.Errors.{Diagnostic, error_text}
 use Rattle.wave_lex.specs.declared.error.ParserErrorKind.TheVariants as kind
 use Rattle.wave_tree.specs.ParserState.{IsLimit}
@@ -9,7 +9,7 @@ use Rattle.wave.specs.declared.input.Input.{Input}
 use Rattle.wave.specs.declared.input.Fault.{Fault}
 use Rattle.wave.specs.declared.input.Fault.TheVariants.{NotUtf8, InputFailed, OutOfMemory}
 use Rattle.wave.specs.declared.output.Output.{Output}
-use Rattle.wave.specs.Requests.{TellLimit, AreWordsOf}
+use Rattle.wave.specs.Requests.{TellLimit, AreWordsOf, AreUnknown}
 use Rattle.wave.specs.Answers.{IsFaultOf, IsInput, words_of_fault}
 use Rattle.wave.specs.Explained.{IsShown, ShowsRefusal}
 use Rattle.wave.specs.Lines.{line}
@@ -30,6 +30,10 @@ pub is_fit : (words : List (List ℕ)) (request : Request) → AreWordsOf reques
 is_fit words (Value n) asked = is_limit words _ n asked
 is_fit words Call asked = tt
 is_fit words (Read T n) (word, tells, names) = (is_limit words _ n tells, named_distinct word T names)
+
+-- the request that was found is one that the words make
+pub asked_for : (words : List (List ℕ)) (found : Option Request) (request : Request) → MatchOption found (AreUnknown words) (λ r. AreWordsOf r words) → found ≡ Some request → AreWordsOf request words
+asked_for words found request made is = subst (λ f. MatchOption f (AreUnknown words) (λ r. AreWordsOf r words)) is made
 
 module _ {R : Type 0} where
   -- why there is no outcome is a fault of the input, or want of memory

@@ -1,0 +1,16 @@
+use Rattle.std.proofs.Common.{◌≡◌, ◌⊎◌, Bool, true, false, refl, inl, inr, sym, subst}
+use Rattle.wave_lex.specs.Errors.{error_text}
+use Rattle.wave_explain.specs.Places.{IsExplained}
+use Rattle.wave.proofs.program.show.Goals as goal
+
+written : {A B : Type 0} (b : Bool) → (b ≡ true → A) → (b ≡ false → B) → A ⊎ B
+written true whole less = inl (whole refl)
+written false whole less = inr (less refl)
+
+pub returns-in-Ok : goal.returns-in-Ok
+returns-in-Ok g c =
+    inr (
+      c.as_bytes.result.now,
+      subst (λ t. IsExplained c.args.text.now (error_text c.args.refusal.now) c.args.refusal.now.span t) (sym c.as_bytes.ensures.value) c.in-Ok.ensures,
+      written c.write_whole.result c.write_whole.ensures.whole c.write_whole.ensures.cut,
+    )
