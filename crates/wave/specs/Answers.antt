@@ -1,8 +1,8 @@
 -- What the program answers.
-use Rattle.std.specs.Prelude.{ℕ, List, ◌≡◌, IfSome, IsUtf8, codes}
+use Rattle.std.specs.Prelude.{ℕ, List, ◌≡◌, ◌⊎◌, ◌++◌, IfSome, IsUtf8, codes}
 use Rattle.std.specs.declared.option.Option.{Option}
 use Rattle.wave_wasm.specs.Values.{Value}
-use Rattle.wave_wasm.specs.Text.{text}
+use Rattle.wave_wasm.specs.Text.{text, arguments_text}
 use Rattle.wave_lex.specs.Errors.{Diagnostic}
 use Rattle.wave_grammar.specs.Tree.{Tree, MaybeTree, shown}
 use Rattle.wave_grammar.specs.Calls.{IsCall, shown_call}
@@ -16,18 +16,23 @@ use Rattle.wave.specs.declared.input.Input.{Input}
 use Rattle.wave.specs.declared.input.Fault.{Fault}
 use Rattle.wave.specs.declared.input.Fault.TheVariants.{NotUtf8, InputFailed, OutOfMemory}
 use Rattle.wave.specs.Lines.{line}
+use Rattle.wave.specs.TypedCalls.{IsCallAt, CallFaultAt}
 use Rattle.wave.specs.ReadFaults.{IsReadToEnd, IsUnread}
 
--- the request on the text has the answer: the display of the tree that the text spells within n levels, that of the call that it is, or the canonical text of the value that it means at the type within n levels
+-- the request on the text has the answer: the display of the tree that the text spells within n levels, that of the call that it is,
+-- the call's name and the canonical parameters at the types, or the canonical text of the value that it means at the type within n levels
 abbrev pub Answers : Request → List ℕ → List ℕ → Type 0
 Answers (request.Value n) whole answer = (t : Tree) × SpellsText n whole t × (answer ≡ shown t)
 Answers request.Call whole answer = (name : List ℕ) × (params : MaybeTree) × IsCall whole name params × (answer ≡ shown_call name params)
+Answers (request.CallAt types) whole answer =
+    (name : List ℕ) × (vs : List Value) × IsCallAt types.items whole name vs × (answer ≡ name ++ arguments_text vs)
 Answers (request.Read T n) whole answer = (v : Value) × Means T n whole v × (answer ≡ text v)
 
 -- the refusal tells a fault of the text: its kind, its cause and its place
 abbrev pub TellsFaultOf : Request → List ℕ → Diagnostic → Type 0
 TellsFaultOf (request.Value n) whole e = SyntaxFault n whole e
 TellsFaultOf request.Call whole e = CallFault whole e
+TellsFaultOf (request.CallAt types) whole e = CallFault whole e ⊎ CallFaultAt types.items whole e
 TellsFaultOf (request.Read T n) whole e = TextFault T n whole e
 
 -- the request on the text has no answer, and the refusal tells why

@@ -3,8 +3,8 @@ use Rattle.std.specs.Prelude.{ℕ, List, [], ◌∷◌, ◌++◌, ◌≡◌, ◌
 use Rattle.wave_grammar.specs.NumberText.{all_digits}
 use Rattle.wave_tree.specs.ParserState.{IsLimit}
 use Rattle.wave.specs.declared.request.Request.{Request}
-use Rattle.wave.specs.declared.request.Request.TheVariants.{Value, Call, Read}
-use Rattle.wave.specs.Types.{NamesType}
+use Rattle.wave.specs.declared.request.Request.TheVariants.{Value, Call, CallAt, Read}
+use Rattle.wave.specs.Types.{NamesType, NamesParams}
 
 -- the word has no leading zero
 abbrev pub HasNoLeadingZero : List ℕ → Type 0
@@ -23,11 +23,14 @@ TellLimit words front n = (words ≡ front) × (n ≡ 100) ⊎ ((word : List ℕ
 abbrev pub AreWordsOf : Request → List (List ℕ) → Type 0
 AreWordsOf (Value n) words = TellLimit words (codes "value" ∷ []) n
 AreWordsOf Call words = words ≡ codes "call" ∷ []
+AreWordsOf (CallAt types) words = (word : List ℕ) × (words ≡ codes "call" ∷ word ∷ []) × NamesParams word types.items
 AreWordsOf (Read T n) words = (word : List ℕ) × TellLimit words (codes "read" ∷ word ∷ []) n × NamesType word T
 
--- the words ask for a type, by a word for its text
+-- the words ask for a type, or for the type of a function, by a word for its text
 abbrev pub AskForType : List (List ℕ) → Type 0
-AskForType words = (word : List ℕ) × (n : ℕ) × TellLimit words (codes "read" ∷ word ∷ []) n
+AskForType words =
+    ((word : List ℕ) × (n : ℕ) × TellLimit words (codes "read" ∷ word ∷ []) n)
+    ⊎ ((word : List ℕ) × (words ≡ codes "call" ∷ word ∷ []))
 
 -- the words make no request
 abbrev pub AreUnknown : List (List ℕ) → Type 0

@@ -1,9 +1,12 @@
 -- Which word stands for which type.
-use Rattle.std.specs.Prelude.{ℕ, ◌≤◌, List, [], ◌∷◌, if◌then◌else◌, codes}
+use Rattle.std.specs.Prelude.{ℕ, ◌≡◌, ◌≤◌, List, [], ◌∷◌, if◌then◌else◌, codes}
 use Rattle.std.specs.Str.{bytes_eq}
+use Rattle.wave_wasm.specs.Lists.{AllOf}
 use Rattle.wave_wasm.specs.Types.{TypeTree}
 use Rattle.wave_wasm.specs.Values.{Value}
 use Rattle.wave_wasm.specs.HasType.{HasType}
+use Rattle.wave_type.specs.FunctionSpelling.{IsFunctionOf, levels_of_function}
+use Rattle.wave_type.specs.FunctionType.{FunctionType, types_of}
 use Rattle.wave_type.specs.TypeSpelling.{IsTypeOf, levels_of}
 
 -- the samples: their names, and the texts of their types
@@ -34,3 +37,7 @@ HasValue T = (v : Value) × HasType T v
 -- the word stands for the text of the type, in which at most 100 types stand one inside another, and which has a value
 abbrev pub NamesType : List ℕ → TypeTree → Type 0
 NamesType word T = IsTypeOf (text_of word) T × (levels_of T ≤ 100) × HasValue T
+
+-- the word is the text of the type of a function whose parameters have these types, in which at most 100 types stand one inside another; each of the parameters has a value
+abbrev pub NamesParams : List ℕ → List TypeTree → Type 0
+NamesParams word Ts = (f : FunctionType) × IsFunctionOf word f × (levels_of_function f ≤ 100) × (types_of f.params ≡ Ts) × AllOf HasValue Ts

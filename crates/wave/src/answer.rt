@@ -4,6 +4,7 @@ ghost use Rattle.wave_wasm.specs.WriterState.{IsWantOfMemory};
 ghost use Rattle.wave.specs.declared.answer.Unanswered.TheVariants as why;
 ghost use Rattle.wave.specs.declared.request.Request.TheVariants as request;
 ghost use Rattle.wave_tree.specs.ParserState.{IsLimit};
+ghost use Rattle.wave_wasm.specs.Lists.{AllOf};
 ghost use Rattle.wave_wasm.specs.Types.{HasDistinctNames};
 ghost use Rattle.wave.specs.Answers.{Answers};
 ghost use Rattle.wave.specs.Private.Answers.{IsUnanswered};
@@ -15,6 +16,7 @@ use wasm_wave::parser::{Parser, ParserError};
 use wasm_wave::to_string;
 use wasm_wave::untyped::UntypedFuncCall;
 use wasm_wave::value::{Type, Value};
+use wasm_wave::wasm::DisplayFuncArgs;
 use wasm_wave::writer::WriterError;
 
 /// Why a request isn't answered on a text.
@@ -52,6 +54,7 @@ pub fn answer(alloc: Global, request: Request, text: &str) -> Result<String, Una
     match request {
         Request::Value(levels) => value(alloc, levels, text),
         Request::Call => call(alloc, text),
+        Request::CallAt(types) => call_at(alloc, &types, text),
         Request::Read(ty, levels) => read(alloc, &ty, levels, text),
     }
 }
@@ -77,6 +80,21 @@ fn call(alloc: Global, text: &str) -> Result<String, Unanswered>
 {
     let call = UntypedFuncCall::parse(alloc, text)?;
     Ok(call.to_string(alloc)?)
+}
+
+/// The name of the call that the text is, and its canonical parameters at the types.
+fn call_at(alloc: Global, types: &Vec<Type>, text: &str) -> Result<String, Unanswered>
+    requires { AllOf HasDistinctNames types.now.items }
+    ensures { MatchResult result
+        (λ answer. Answers (request.CallAt types.now) text.now (string_bytes answer))
+        (IsUnanswered (request.CallAt types.now) text.now) }
+{
+    let call = UntypedFuncCall::parse(alloc, text)?;
+    let params = call.to_wasm_params::<Value>(alloc, types.as_slice())?;
+    let shown = DisplayFuncArgs::new(alloc, params.as_slice()).to_string(alloc)?;
+    let mut answer = String::from_str(alloc, call.name())?;
+    answer.push_str(shown.as_str())?;
+    Ok(answer)
 }
 
 /// The canonical text of the value that the text means at the type within so many levels.

@@ -27,7 +27,21 @@ fn type_has_value<T: WasmType>(alloc: Global, ty: &T) -> Result<bool, AllocError
         WasmTypeKind::Variant => some_case_has_value(alloc, ty),
         WasmTypeKind::Enum => Ok(!ty.enum_cases(alloc)?.is_empty()),
         WasmTypeKind::Result => result_has_value(alloc, ty),
-        _ => Ok(true),
+        WasmTypeKind::Bool
+        | WasmTypeKind::S8
+        | WasmTypeKind::S16
+        | WasmTypeKind::S32
+        | WasmTypeKind::S64
+        | WasmTypeKind::U8
+        | WasmTypeKind::U16
+        | WasmTypeKind::U32
+        | WasmTypeKind::U64
+        | WasmTypeKind::Char
+        | WasmTypeKind::String
+        | WasmTypeKind::List
+        | WasmTypeKind::Option
+        | WasmTypeKind::Flags
+        | WasmTypeKind::Map => Ok(true),
     }
 }
 

@@ -2,7 +2,7 @@
 ghost use Rattle.std.specs.Prelude.{ℕ, [], ◌∷◌, IfOk, IfErr, MatchOption, map, string_bytes};
 ghost use Rattle.wave.specs.Requests.{IsLimitWord, AreWordsOf, AskForType, AreUnknown};
 
-use crate::types::type_at;
+use crate::types::{params_at, type_at};
 use std::alloc::{AllocError, Global};
 use wasm_wave::WholeNumber;
 use wasm_wave::parser::{DEFAULT_LEVELS, MAX_LEVELS};
@@ -15,6 +15,8 @@ pub enum Request {
     Value(u32),
     /// A call is read without types, and displayed.
     Call,
+    /// A call is read at the types of its parameters, and its name and the canonical parameters printed.
+    CallAt(Vec<Type>),
     /// A text is read at the type, within so many levels, and the canonical text of its value printed.
     Read(Type, u32),
 }
@@ -61,6 +63,10 @@ fn two_words(alloc: Global, first: &str, second: &str) -> Result<Option<Request>
             Some(levels) => Ok(Some(Request::Value(levels))),
             None => Ok(None),
         },
+        "call" => match params_at(alloc, second)? {
+            Some(types) => Ok(Some(Request::CallAt(types))),
+            None => Ok(None),
+        },
         "read" => match type_at(alloc, second)? {
             Some(ty) => Ok(Some(Request::Read(ty, DEFAULT_LEVELS))),
             None => Ok(None),
@@ -93,7 +99,7 @@ fn three_words(
     }
 }
 
-/// The request that the words make. The only error is want of memory, for the type that they name.
+/// The request that the words make. The only error is want of memory, for the type that they tell.
 pub fn request_of(alloc: Global, words: &[String]) -> Result<Option<Request>, AllocError>
     ensures made { IfOk result (λ found. MatchOption found
         (AreUnknown (map string_bytes words.now))

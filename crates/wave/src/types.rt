@@ -1,11 +1,14 @@
 // The types that the program reads at, from their words.
-ghost use Rattle.std.specs.Prelude.{◌≡◌, ◌⊎◌, IfOk, MatchOption};
+ghost use Rattle.std.specs.Prelude.{◌≡◌, List, IfOk, MatchOption};
 ghost use Rattle.wave_wasm.specs.Types.{TypeTree};
-ghost use Rattle.wave.specs.Types.{text_of, NamesType};
+ghost use Rattle.wave_wasm.specs.Borrowed.{shown_all};
+ghost use Rattle.wave_wasm.specs.Lists.{AllOf};
+ghost use Rattle.wave.specs.Types.{text_of, HasValue, NamesType, NamesParams};
 
 use crate::inhabited::is_inhabited;
 use std::alloc::{AllocError, Global};
-use wasm_wave::value::{Type, TypeErrorKind};
+use wasm_wave::value::{FuncType, Type, TypeErrorKind};
+use wasm_wave::wasm::WasmFunc;
 
 /// The type that the word names, a sample or the text of a type, where it has a value. The only error
 /// is want of memory.
@@ -24,6 +27,38 @@ pub fn type_at(alloc: Global, word: &str) -> Result<Option<Type>, AllocError>
     } else {
         Ok(None)
     }
+}
+
+/// The types of the parameters of the function whose type the word spells, where each of them has a
+/// value. The only error is want of memory.
+pub fn params_at(alloc: Global, word: &str) -> Result<Option<Vec<Type>>, AllocError>
+    ensures { IfOk result (λ found. MatchOption found
+        ((Ts : List TypeTree) → NamesParams word.now Ts → ⊥)
+        (λ types. NamesParams word.now types.items)) }
+{
+    let function = match FuncType::parse(alloc, word) {
+        Ok(function) => function,
+        Err(error) if error.kind() == TypeErrorKind::OutOfMemory => return Err(AllocError),
+        Err(_) => return Ok(None),
+    };
+    let types = function.params(alloc)?;
+    with_values(alloc, &types)
+}
+
+/// The types, where each has a value. The only error is want of memory.
+fn with_values(alloc: Global, types: &Vec<&Type>) -> Result<Option<Vec<Type>>, AllocError>
+    ensures { IfOk result (λ found. MatchOption found
+        (AllOf HasValue (shown_all (λ T. T) types.now.items) → ⊥)
+        (λ all. (all.items ≡ shown_all (λ T. T) types.now.items) × AllOf HasValue all.items)) }
+{
+    let mut all = Vec::new(alloc);
+    for ty in types {
+        if !is_inhabited(alloc, *ty)? {
+            return Ok(None);
+        }
+        all.push(ty.clone()?)?;
+    }
+    Ok(Some(all))
 }
 
 /// The text for which the word stands: that of a sample's type, or the word itself.

@@ -1,11 +1,13 @@
 -- What a request that words make has.
+use Rattle.wave_wasm.specs.Lists.{AllOf}
 use Rattle.wave_wasm.specs.Types.{HasDistinctNames}
 use Rattle.wave_tree.specs.ParserState.{IsLimit}
 use Rattle.wave.specs.declared.request.Request.{Request}
-use Rattle.wave.specs.declared.request.Request.TheVariants.{Value, Call, Read}
+use Rattle.wave.specs.declared.request.Request.TheVariants.{Value, Call, CallAt, Read}
 
--- the limit of the request is one that a parser may be handed, and no name stands twice in its type
+-- the limit of the request is one that a parser may be handed, and no name stands twice in its type or types
 abbrev pub IsFit : Request → Type 0
 IsFit (Value n) = IsLimit n
 IsFit Call = Unit {0}
+IsFit (CallAt types) = AllOf HasDistinctNames types.items
 IsFit (Read T n) = IsLimit n × HasDistinctNames T
