@@ -4,4 +4,5 @@ pub mod Spelled
 pub mod Requested
 pub mod Named
 pub mod Untyped
+pub mod TypedCalls
 pub mod Told

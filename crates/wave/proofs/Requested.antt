@@ -1,6 +1,6 @@
 -- What words ask for, by how many there are.
 use Rattle.std.proofs.Common.{ℕ, ◌≡◌, ◌≢◌, ◌≤◌, ◌<◌, ◌⊎◌, ◌∙◌, List, [], ◌∷◌, String, Global, Result, Ok, Err, IfErr, string_bytes, map, get_or, length, refl, inl, inr, sym, ap, arith, codes}
-use Rattle.wave.specs.declared.request.Request.TheVariants.{Value, Call, Read}
+use Rattle.wave.specs.declared.request.Request.TheVariants.{Value, Call, CallAt, Read}
 use Rattle.wave.specs.Requests.{IsLimitWord, AskForType, AreUnknown}
 
 -- the text of the only word
@@ -28,12 +28,17 @@ three_words (a ∷ b ∷ d ∷ e ∷ more) x y z s t u least below is_x is_y is_
 -- words that ask for a type, where memory was wanting for it
 pub asks_two : {X E : Type 0} (r : Result X E) (a b : List ℕ) → a ≡ codes "read" → IfErr r (λ e. AskForType (a ∷ b ∷ []))
 asks_two (Ok x) a b is = tt
-asks_two (Err e) a b is = (b, 100, inl (ap (λ z. z ∷ b ∷ []) is, refl))
+asks_two (Err e) a b is = inl (b, 100, inl (ap (λ z. z ∷ b ∷ []) is, refl))
 
 -- the same with a limit
 pub asks_three : {X E : Type 0} (r : Result X E) (a b d : List ℕ) (n : ℕ) → a ≡ codes "read" → IsLimitWord d n → IfErr r (λ e. AskForType (a ∷ b ∷ d ∷ []))
 asks_three (Ok x) a b d n is limit = tt
-asks_three (Err e) a b d n is limit = (b, n, inr (d, ap (λ z. z ∷ b ∷ d ∷ []) is, limit))
+asks_three (Err e) a b d n is limit = inl (b, n, inr (d, ap (λ z. z ∷ b ∷ d ∷ []) is, limit))
+
+-- words that ask for the type of a function, where memory was wanting for it
+pub asks_call : {X E : Type 0} (r : Result X E) (a b : List ℕ) → a ≡ codes "call" → IfErr r (λ e. AskForType (a ∷ b ∷ []))
+asks_call (Ok x) a b is = tt
+asks_call (Err e) a b is = inr (b, ap (λ z. z ∷ b ∷ []) is)
 
 -- no words
 pub unknown_none : (words : List (String Global)) → length words < 1 → AreUnknown (map string_bytes words)
@@ -41,6 +46,7 @@ unknown_none (w ∷ more) none request asked = absurd (omega (arith, none))
 unknown_none [] none (Value n) (inl (is, hundred)) = absurd (omega (arith, ap length is))
 unknown_none [] none (Value n) (inr (l, is, limit)) = absurd (omega (arith, ap length is))
 unknown_none [] none Call is = absurd (omega (arith, ap length is))
+unknown_none [] none (CallAt types) (w, is, names) = absurd (omega (arith, ap length is))
 unknown_none [] none (Read T n) (w, inl (is, hundred), names) = absurd (omega (arith, ap length is))
 unknown_none [] none (Read T n) (w, inr (l, is, limit), names) = absurd (omega (arith, ap length is))
 
@@ -53,5 +59,6 @@ unknown_many (a ∷ b ∷ d ∷ []) many request asked = absurd (omega (arith, m
 unknown_many (a ∷ b ∷ d ∷ e ∷ more) many (Value n) (inl (is, hundred)) = absurd (omega (arith, ap length is))
 unknown_many (a ∷ b ∷ d ∷ e ∷ more) many (Value n) (inr (l, is, limit)) = absurd (omega (arith, ap length is))
 unknown_many (a ∷ b ∷ d ∷ e ∷ more) many Call is = absurd (omega (arith, ap length is))
+unknown_many (a ∷ b ∷ d ∷ e ∷ more) many (CallAt types) (w, is, names) = absurd (omega (arith, ap length is))
 unknown_many (a ∷ b ∷ d ∷ e ∷ more) many (Read T n) (w, inl (is, hundred), names) = absurd (omega (arith, ap length is))
 unknown_many (a ∷ b ∷ d ∷ e ∷ more) many (Read T n) (w, inr (l, is, limit), names) = absurd (omega (arith, ap length is))

@@ -1,14 +1,21 @@
--- In a type that a text spells no name stands twice, and a text spells one type.
-use Rattle.std.proofs.Common.{ℕ, ◌≡◌, ◌≢◌, ◌≤◌, ◌↔◌, ◌∙◌, Bool, false, IsTrue, List, [], inl, inr, sym, subst, arith, codes}
+-- In types that a text spells no name stands twice, and a text spells one type, and one list of parameters.
+use Rattle.std.proofs.Common.{ℕ, ◌≡◌, ◌≢◌, ◌≤◌, ◌↔◌, ◌∙◌, Bool, false, IsTrue, List, [], ◌∷◌, Option, Some, None, drop, inl, inr, refl, sym, ap, subst, arith, codes}
+use Rattle.std.specs.Prelude.{max}
+use Rattle.wave_wasm.specs.Lists.{AllOf}
 use Rattle.wave_wasm.specs.Names.{AreDistinct}
 use Rattle.wave_wasm.specs.Types as type
-use Rattle.wave_wasm.specs.Types.{TypeTree, MaybeType, Types, Fields, Cases, no_type, a_type, no_types, type_and, no_fields, field, no_cases, case_of, HasDistinctNames, EachNamesOfMaybe, EachNamesOfTypes, EachNamesOfFields, EachNamesOfCases}
-use Rattle.wave_type.specs.TypeSpelling.{Tokens, Spells, SpellsTypes, SpellsFields, SpellsCases, SpellsPayload, IsTypeOf, IsNoType, levels_of}
+use Rattle.wave_wasm.specs.Types.{TypeTree, MaybeType, Types, Fields, Cases, no_type, a_type, no_types, type_and, no_fields, field, no_cases, case_of, fields_of, field_list, field_names, HasDistinctNames, EachNamesOfMaybe, EachNamesOfTypes, EachNamesOfFields, EachNamesOfCases}
+use Rattle.wave_lex.specs.Labels.{Good}
+use Rattle.wave_type.specs.FunctionSpelling.{SpellsParts, IsFunctionOf, IsNoFunction}
+use Rattle.wave_type.specs.FunctionType.{FunctionType, types_of}
+use Rattle.wave_type.specs.TypeSpelling.{Tokens, Names, Spells, SpellsTypes, SpellsFields, SpellsCases, SpellsPayload, IsTypeOf, IsNoType, levels_of, levels_of_fields}
 use Rattle.wave_type.specs.declared.error.TypeErrorKind.{TypeErrorKind}
 use Rattle.wave_type.specs.declared.error.TypeErrorKind.TheVariants.{OutOfMemory}
-use Rattle.wave_type.proofs.TypeComplete.{one_spelling}
+use Rattle.wave_type.proofs.SpelledNames.{function_text_good}
+use Rattle.wave_type.proofs.TypeComplete.{one_spelling, fields_all, read_complete, name_stands, paren}
+use Rattle.wave_type.proofs.TypeLists.{field_list-fields_of}
 use Rattle.wave_type.proofs.TypeTokens.{one_cut}
-use Rattle.wave.specs.Types.{HasValue, NamesType, text_of}
+use Rattle.wave.specs.Types.{HasValue, NamesType, NamesParams, text_of}
 
 mutual
   spelled : (T : TypeTree) (ts rest : Tokens) → Spells T ts rest → HasDistinctNames T
@@ -73,3 +80,57 @@ module _ (word text : List ℕ) (stands : text ≡ text_of word) where
   -- it has none where the test says so
   pub names_untested : (T : TypeTree) (b : Bool) → IsTypeOf text T → IsTrue b ↔ HasValue T → b ≡ false → (U : TypeTree) → NamesType word U → ⊥
   names_untested T b spells tested is = names_empty T spells (λ has. absurd (cc (sym is ∙ tested.1 has)))
+
+-- ---- functions
+
+no_paren : (name t : List ℕ) (rest m : Tokens) → codes ")" ∷ rest ≡ t ∷ m → Names t name → ⊥
+no_paren name t rest m e names = let wrong : Some rest ≡ None = name_stands (codes ")") t name (codes ")" ∷ rest) m paren e names in cc
+
+no_fields_there : (fs : Fields) (ts r rest : Tokens) → ts ≡ codes ")" ∷ rest → SpellsFields (codes ")") fs ts r → ⊥
+no_fields_there no_fields ts r rest e h = h
+no_fields_there (field name T no_fields) ts r rest e (t, m, l, is, names, more) = no_paren name t rest (codes ":" ∷ m) (sym e ∙ is) names
+no_fields_there (field name T (field n U others)) ts r rest e (t, m, l, is, names, more) = no_paren name t rest (codes ":" ∷ m) (sym e ∙ is) names
+
+unwrapped : {A : Type 0} (p q : A) → Some p ≡ Some q → p ≡ q
+unwrapped p q e = cc
+
+-- tokens spell one list of fields
+one_fields : (fs gs : Fields) (ts r s : Tokens) → SpellsFields (codes ")") fs ts r → AreDistinct (field_names fs) → SpellsFields (codes ")") gs ts s → AreDistinct (field_names gs) → field_list fs ≡ field_list gs
+one_fields fs gs ts r s h d k f =
+    let n = max (levels_of_fields fs) (levels_of_fields gs) in
+    let a = fields_all n _ (read_complete n) (codes ")") paren fs ts r (omega arith) h d in
+    let b = fields_all n _ (read_complete n) (codes ")") paren gs ts s (omega arith) k f in
+    λ i. (unwrapped (field_list fs, r) (field_list gs, s) (sym a ∙ b) i).0
+
+-- tokens spell one list of parameters
+one_parts : (ps qs : List (List ℕ × TypeTree)) (ts r s : Tokens) → SpellsParts ps ts r → SpellsParts qs ts s → ps ≡ qs
+one_parts [] [] ts r s h k = refl
+one_parts [] (q ∷ qs) ts r s h k = absurd (no_fields_there (fields_of (q ∷ qs)) ts s r h k.0)
+one_parts (p ∷ ps) [] ts r s h k = absurd (no_fields_there (fields_of (p ∷ ps)) ts r s k h.0)
+one_parts (p ∷ ps) (q ∷ qs) ts r s h k =
+    sym (field_list-fields_of (p ∷ ps)) ∙ (one_fields (fields_of (p ∷ ps)) (fields_of (q ∷ qs)) ts r s h.0 h.1 k.0 k.1 ∙ field_list-fields_of (q ∷ qs))
+
+-- a text spells the parameters of one function
+one_params : (text : List ℕ) (f g : FunctionType) → IsFunctionOf text f → IsFunctionOf text g → f.params ≡ g.params
+one_params text f g (ts, cut, m, l, e, params, results) (us, other, n, k, is, others, more) =
+    let same : m ≡ n = ap (drop 2) (sym e ∙ (one_cut ts us text cut other ∙ is)) in
+    one_parts f.params g.params n l k (subst (λ (z : Tokens). SpellsParts f.params z l) same params) others
+
+all_distinct : (Ts : List TypeTree) → AllOf Good Ts → AllOf HasDistinctNames Ts
+all_distinct [] good = tt
+all_distinct (T ∷ Ts) good = (good.0.1, all_distinct Ts good.1)
+
+-- no name stands twice in the types of parameters that a word names
+pub params_distinct : (word : List ℕ) (Ts : List TypeTree) → NamesParams word Ts → AllOf HasDistinctNames Ts
+params_distinct word Ts (f, spells, within, types, have) = all_distinct Ts (subst (AllOf Good) types (function_text_good word f spells).0.2)
+
+module _ (word : List ℕ) where
+  -- the text spells no function
+  pub params_none : (kind : TypeErrorKind) → kind ≢ OutOfMemory → IsNoFunction word kind → (Ts : List TypeTree) → NamesParams word Ts → ⊥
+  params_none kind other (inl memory) Ts h = other memory
+  params_none kind other (inr none) Ts (f, spells, within, types, have) = let deep = none f spells in absurd (omega (arith, deep, within))
+
+  -- the text spells a function, of whose parameters one has no value
+  pub params_empty : (f : FunctionType) → IsFunctionOf word f → (AllOf HasValue (types_of f.params) → ⊥) → (Ts : List TypeTree) → NamesParams word Ts → ⊥
+  params_empty f spells none Ts (g, others, within, types, have) =
+      none (subst (AllOf HasValue) (sym (ap types_of (one_params word f g spells others) ∙ types)) have)

@@ -4,7 +4,7 @@ use Rattle.wave_lex.specs.Errors.{Diagnostic, error_text}
 use Rattle.wave_lex.specs.declared.error.ParserErrorKind.TheVariants as kind
 use Rattle.wave_tree.specs.ParserState.{IsLimit}
 use Rattle.wave.specs.declared.request.Request.{Request}
-use Rattle.wave.specs.declared.request.Request.TheVariants.{Value, Call, Read}
+use Rattle.wave.specs.declared.request.Request.TheVariants.{Value, Call, CallAt, Read}
 use Rattle.wave.specs.declared.input.Input.{Input}
 use Rattle.wave.specs.declared.input.Fault.{Fault}
 use Rattle.wave.specs.declared.input.Fault.TheVariants.{NotUtf8, InputFailed, OutOfMemory}
@@ -17,7 +17,7 @@ use Rattle.wave.specs.ReadFaults.{IsReadToEnd}
 use Rattle.wave.specs.Statuses.{IsDue}
 use Rattle.wave.specs.Written.{Prints, WritesWhole}
 use Rattle.wave.specs.Private.Requests.{IsFit}
-use Rattle.wave.proofs.Spelled.{named_distinct}
+use Rattle.wave.proofs.Spelled.{named_distinct, params_distinct}
 use Rattle.wave.specs.Private.Answers.{IsNoOutcome, Refuses, TellsRefusal}
 
 -- the limit that words tell is one
@@ -29,6 +29,7 @@ is_limit words front n (inr (word, is, limit)) = limit.2
 pub is_fit : (words : List (List ℕ)) (request : Request) → AreWordsOf request words → IsFit request
 is_fit words (Value n) asked = is_limit words _ n asked
 is_fit words Call asked = tt
+is_fit words (CallAt types) (word, is, names) = params_distinct word types.items names
 is_fit words (Read T n) (word, tells, names) = (is_limit words _ n tells, named_distinct word T names)
 
 -- the request that was found is one that the words make

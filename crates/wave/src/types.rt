@@ -53,7 +53,8 @@ fn with_values(alloc: Global, types: &Vec<&Type>) -> Result<Option<Vec<Type>>, A
 {
     let mut all = Vec::new(alloc);
     for ty in types {
-        if !is_inhabited(alloc, *ty)? {
+        let ty: &Type = *ty;
+        if !is_inhabited(alloc, ty)? {
             return Ok(None);
         }
         all.push(ty.clone()?)?;
