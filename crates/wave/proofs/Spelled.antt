@@ -1,12 +1,13 @@
 -- In types that a text spells no name stands twice, and a text spells one type, and one list of parameters.
-use Rattle.std.proofs.Common.{ℕ, ◌≡◌, ◌≢◌, ◌≤◌, ◌↔◌, ◌∙◌, Bool, false, IsTrue, List, [], ◌∷◌, Option, Some, None, drop, inl, inr, refl, sym, ap, subst, arith, codes}
+use Rattle.std.proofs.Common.{ℕ, ◌≡◌, ◌≢◌, ◌≤◌, ◌↔◌, ◌∙◌, Bool, false, IsTrue, List, [], ◌∷◌, Option, Some, None, Result, Ok, Err, IfOk, MatchOption, Global, drop, inl, inr, refl, sym, ap, subst, arith, codes}
 use Rattle.std.specs.Prelude.{max}
+use Rattle.std.specs.declared.vec.Vec.{Vec}
 use Rattle.wave_wasm.specs.Lists.{AllOf}
 use Rattle.wave_wasm.specs.Names.{AreDistinct}
 use Rattle.wave_wasm.specs.Types as type
 use Rattle.wave_wasm.specs.Types.{TypeTree, MaybeType, Types, Fields, Cases, no_type, a_type, no_types, type_and, no_fields, field, no_cases, case_of, fields_of, field_list, field_names, HasDistinctNames, EachNamesOfMaybe, EachNamesOfTypes, EachNamesOfFields, EachNamesOfCases}
 use Rattle.wave_lex.specs.Labels.{Good}
-use Rattle.wave_type.specs.FunctionSpelling.{SpellsParts, IsFunctionOf, IsNoFunction}
+use Rattle.wave_type.specs.FunctionSpelling.{SpellsParts, IsFunctionOf, IsNoFunction, levels_of_function}
 use Rattle.wave_type.specs.FunctionType.{FunctionType, types_of}
 use Rattle.wave_type.specs.TypeSpelling.{Tokens, Names, Spells, SpellsTypes, SpellsFields, SpellsCases, SpellsPayload, IsTypeOf, IsNoType, levels_of, levels_of_fields}
 use Rattle.wave_type.specs.declared.error.TypeErrorKind.{TypeErrorKind}
@@ -84,12 +85,12 @@ module _ (word text : List ℕ) (stands : text ≡ text_of word) where
 -- ---- functions
 
 no_paren : (name t : List ℕ) (rest m : Tokens) → codes ")" ∷ rest ≡ t ∷ m → Names t name → ⊥
-no_paren name t rest m e names = let wrong : Some rest ≡ None = name_stands (codes ")") t name (codes ")" ∷ rest) m paren e names in cc
+no_paren name t rest m e named = let wrong : Some rest ≡ None = name_stands (codes ")") t name (codes ")" ∷ rest) m paren e named in cc
 
 no_fields_there : (fs : Fields) (ts r rest : Tokens) → ts ≡ codes ")" ∷ rest → SpellsFields (codes ")") fs ts r → ⊥
 no_fields_there no_fields ts r rest e h = h
-no_fields_there (field name T no_fields) ts r rest e (t, m, l, is, names, more) = no_paren name t rest (codes ":" ∷ m) (sym e ∙ is) names
-no_fields_there (field name T (field n U others)) ts r rest e (t, m, l, is, names, more) = no_paren name t rest (codes ":" ∷ m) (sym e ∙ is) names
+no_fields_there (field name T no_fields) ts r rest e (t, m, l, is, named, spelled_type, more) = no_paren name t rest (codes ":" ∷ m) (sym e ∙ is) named
+no_fields_there (field name T (field n U others)) ts r rest e (t, m, l, is, named, spelled_type, more) = no_paren name t rest (codes ":" ∷ m) (sym e ∙ is) named
 
 unwrapped : {A : Type 0} (p q : A) → Some p ≡ Some q → p ≡ q
 unwrapped p q e = cc
@@ -112,7 +113,7 @@ one_parts (p ∷ ps) (q ∷ qs) ts r s h k =
 
 -- a text spells the parameters of one function
 one_params : (text : List ℕ) (f g : FunctionType) → IsFunctionOf text f → IsFunctionOf text g → f.params ≡ g.params
-one_params text f g (ts, cut, m, l, e, params, results) (us, other, n, k, is, others, more) =
+one_params text f g (ts, cut, (m, l, e, params, results)) (us, other, (n, k, is, others, more)) =
     let same : m ≡ n = ap (drop 2) (sym e ∙ (one_cut ts us text cut other ∙ is)) in
     one_parts f.params g.params n l k (subst (λ (z : Tokens). SpellsParts f.params z l) same params) others
 
@@ -134,3 +135,11 @@ module _ (word : List ℕ) where
   pub params_empty : (f : FunctionType) → IsFunctionOf word f → (AllOf HasValue (types_of f.params) → ⊥) → (Ts : List TypeTree) → NamesParams word Ts → ⊥
   params_empty f spells none Ts (g, others, within, types, have) =
       none (subst (AllOf HasValue) (sym (ap types_of (one_params word f g spells others) ∙ types)) have)
+
+  -- what is answered of the types of a function's parameters
+  pub params_answered : {E : Type 0} (f : FunctionType) (Ts : List TypeTree) (r : Result (Option (Vec TypeTree Global)) E) → IsFunctionOf word f → levels_of_function f ≤ 100 → Ts ≡ types_of f.params
+      → IfOk r (λ found. MatchOption found (AllOf HasValue Ts → ⊥) (λ all. (all.items ≡ Ts) × AllOf HasValue all.items))
+      → IfOk r (λ found. MatchOption found ((Us : List TypeTree) → NamesParams word Us → ⊥) (λ all. NamesParams word all.items))
+  params_answered f Ts (Ok (Some all)) spells within are told = (f, spells, within, sym (told.0 ∙ are), told.1)
+  params_answered f Ts (Ok None) spells within are told = params_empty f spells (λ have. told (subst (AllOf HasValue) (sym are) have))
+  params_answered f Ts (Err e) spells within are told = tt

@@ -11,6 +11,7 @@ use Rattle.wave_wasm.specs.Values.{Value}
 use Rattle.wave_lex.specs.Errors.{Diagnostic}
 use Rattle.wave_lex.specs.declared.error.ParserErrorKind.TheVariants as kind
 use Rattle.wave_lex.specs.FunctionName.{IsName}
+use Rattle.wave_type.proofs.TypeReading.{map_self}
 use Rattle.wave_value.specs.FullTypes.{IsFull}
 use Rattle.wave_value.specs.TypedValue.{TypedValue, IsAt}
 use Rattle.wave_grammar.specs.Token.{Token, CutsInto, paren_open, paren_close}
@@ -108,11 +109,15 @@ given Ts source (Some n) params items vs (t, node, is) are gives =
     let same : items ≡ map tree_of ps = placed_items t items ps (subst (λ (p : MaybeTree). AreItemsOf p items) is are) shape in
     subst (λ (z : List Tree). TreeParams Ts z (values_of vs)) (sym same) read.reads
 
+-- the parameters that a call's node means in its source
+means_at : (s : List ℕ) (u : Called) (of : IsCalledOf s u) → MeansParams u.source u.params of.params
+means_at s u of = subst (λ (source : List ℕ). MeansParams source u.params of.params) (sym of.source) of.means
+
 -- the name and the values are those of a call at the types
 pub read_at : (Ts : List TypeTree) (s : List ℕ) (u : Called) (vs : List TypedValue) → IsCalledOf s u → AreValuesAt Ts u vs → IsCallAt Ts s (slice s u.name) (values_of vs)
 read_at Ts s u vs of gives =
     let it = items_of of.call.tokens of.params of.call.spelled in
-    (of.params, of.call, (it.by Ts (values_of vs)).1 (given Ts u.source u.params of.params it.items vs of.means it.are gives))
+    (of.params, of.call, (it.by Ts (values_of vs)).1 (given Ts u.source u.params of.params it.items vs (means_at s u of) it.are gives))
 
 -- ---- what was refused
 
@@ -160,12 +165,16 @@ same_tokens s name other params others call again =
     let same : again.bytes ≡ call.bytes = omega (arith, less, more) in
     one_cut_into (drop call.bytes s) again.tokens call.tokens (subst (λ (k : ℕ). CutsInto (drop k s) again.tokens) same again.cut) call.cut
 
+-- what holds at the types of a slice holds at those that it is taken from
+pub at_types : (P : List TypeTree → Type 0) (slice Ts : List TypeTree) → slice ≡ Ts → (AllOf HasDistinctNames (map (λ T. T) slice) → P (map (λ T. T) slice)) → AllOf HasDistinctNames Ts → P Ts
+at_types P slice Ts is holds distinct = subst (λ Us. AllOf HasDistinctNames Us → P Us) (map_self slice ∙ is) holds distinct
+
 module _ (types : Vec TypeTree Global) (s : List ℕ) where
   -- a refusal of the parameters tells a fault of the call, which has no values at the types; or it is want of memory
   pub refused_at : (u : Called) (e : Diagnostic) → AllOf HasDistinctNames types.items → IsCalledOf s u → RefusesParamsAt IsFull types.items u.source u.name u.params e → e.kind ≢ kind.OutOfMemory → IsRefused (CallAt types) s e
   refused_at u e full of refuses other =
       let it = items_of of.call.tokens of.params of.call.spelled in
-      let (fault, none) = blamed types.items u.source u.name u.params of.params it.items e full other of.means it.are refuses in (
+      let (fault, none) = blamed types.items u.source u.name u.params of.params it.items e full other (means_at s u of) it.are refuses in (
         inr (u, of, subst (λ (source : List ℕ). HasParamsFault types.items source u.name u.params e) of.source fault),
         λ answer (name, vs, (params, call, are), same).
             none vs ((it.by types.items vs).0 (subst (λ (z : List Token). Params types.items z vs) (same_tokens s (slice s u.name) name of.params params of.call call) are)),

@@ -1,5 +1,6 @@
 // What a request answers on a text.
-ghost use Rattle.std.specs.Prelude.{◌≡◌, MatchResult, string_bytes};
+ghost use Rattle.std.specs.Prelude.{◌≡◌, ◌++◌, IfOk, MatchResult, map, string_bytes};
+ghost use Rattle.wave_wasm.specs.Text.{arguments_text};
 ghost use Rattle.wave_wasm.specs.WriterState.{IsWantOfMemory};
 ghost use Rattle.wave.specs.declared.answer.Unanswered.TheVariants as why;
 ghost use Rattle.wave.specs.declared.request.Request.TheVariants as request;
@@ -91,10 +92,18 @@ fn call_at(alloc: Global, types: &Vec<Type>, text: &str) -> Result<String, Unans
 {
     let call = UntypedFuncCall::parse(alloc, text)?;
     let params = call.to_wasm_params::<Value>(alloc, types.as_slice())?;
-    let shown = DisplayFuncArgs::new(alloc, params.as_slice()).to_string(alloc)?;
-    let mut answer = String::from_str(alloc, call.name())?;
-    answer.push_str(shown.as_str())?;
-    Ok(answer)
+    Ok(canonical_call(alloc, call.name(), &params)?)
+}
+
+/// The name and the canonical parameters in their parentheses.
+fn canonical_call(alloc: Global, name: &str, params: &Vec<Value>) -> Result<String, AllocError>
+    ensures { IfOk result (λ call.
+        string_bytes call ≡ name.now ++ arguments_text (map (λ v. v.tree) params.now.items)) }
+{
+    let arguments = DisplayFuncArgs::new(alloc, params.as_slice()).to_string(alloc)?;
+    let mut call = String::from_str(alloc, name)?;
+    call.push_str(arguments.as_str())?;
+    Ok(call)
 }
 
 /// The canonical text of the value that the text means at the type within so many levels.

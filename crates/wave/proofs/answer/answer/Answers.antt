@@ -10,5 +10,8 @@ returns-in-Value c = subst (λ request. MatchResult c.value.result (λ answer. A
 pub returns-in-Call : goal.returns-in-Call
 returns-in-Call c = subst (λ request. MatchResult c.call.result (λ answer. Answers request c.args.text.now (string_bytes answer)) (IsUnanswered request c.args.text.now)) (sym c.in-Call.is) c.call.ensures
 
+pub returns-in-CallAt : goal.returns-in-CallAt
+returns-in-CallAt c = subst (λ request. MatchResult c.call_at.result (λ answer. Answers request c.args.text.now (string_bytes answer)) (IsUnanswered request c.args.text.now)) (sym c.in-CallAt.is) c.call_at.ensures
+
 pub returns-in-Read : goal.returns-in-Read
 returns-in-Read c = subst (λ request. MatchResult c.read.result (λ answer. Answers request c.args.text.now (string_bytes answer)) (IsUnanswered request c.args.text.now)) (sym c.in-Read.is) c.read.ensures
