@@ -1,6 +1,8 @@
 -- What words ask for, by how many there are.
-use Rattle.std.proofs.Common.{ℕ, ◌≡◌, ◌≢◌, ◌≤◌, ◌<◌, ◌⊎◌, ◌∙◌, List, [], ◌∷◌, String, Global, Result, Ok, Err, IfErr, string_bytes, map, get_or, length, refl, inl, inr, sym, ap, arith, codes}
+use Rattle.std.proofs.Common.{ℕ, ◌≡◌, ◌≢◌, ◌≤◌, ◌<◌, ◌⊎◌, ◌∙◌, List, [], ◌∷◌, String, Global, Result, Ok, Err, IfErr, string_bytes, map, get_or, length, refl, inl, inr, sym, ap, subst, arith, codes}
 use Rattle.wave.specs.declared.request.Request.TheVariants.{Value, Call, CallAt, Read}
+use Rattle.wave_wasm.specs.Types.{TypeTree}
+use Rattle.wave.specs.Types.{NamesParams}
 use Rattle.wave.specs.Requests.{IsLimitWord, AskForType, AreUnknown}
 
 -- the text of the only word
@@ -39,6 +41,21 @@ asks_three (Err e) a b d n is limit = inl (b, n, inr (d, ap (λ z. z ∷ b ∷ d
 pub asks_call : {X E : Type 0} (r : Result X E) (a b : List ℕ) → a ≡ codes "call" → IfErr r (λ e. AskForType (a ∷ b ∷ []))
 asks_call (Ok x) a b is = tt
 asks_call (Err e) a b is = inr (b, ap (λ z. z ∷ b ∷ []) is)
+
+first_is : (a b first : List ℕ) (more : List (List ℕ)) → a ∷ b ∷ [] ≡ first ∷ more → a ≡ first
+first_is a b first more is = ap (λ words. get_or words 0 []) is
+
+second_is : (a b first second : List ℕ) → a ∷ b ∷ [] ≡ first ∷ second ∷ [] → b ≡ second
+second_is a b first second is = ap (λ words. get_or words 1 []) is
+
+-- `call` with the text of no type of a function whose parameters have values
+pub unknown_call : (a b : List ℕ) → a ≡ codes "call" → ((Ts : List TypeTree) → NamesParams b Ts → ⊥) → AreUnknown (a ∷ b ∷ [])
+unknown_call a b call none (Value n) (inl (is, hundred)) = absurd (omega (arith, ap length is))
+unknown_call a b call none (Value n) (inr (l, is, limit)) = let wrong : 99 ≡ 118 = ap (λ t. get_or t 0 0) (sym call ∙ first_is a b (codes "value") (l ∷ []) is) in absurd (omega (arith, wrong))
+unknown_call a b call none Call is = absurd (omega (arith, ap length is))
+unknown_call a b call none (CallAt types) (w, is, names) = none types.items (subst (λ word. NamesParams word types.items) (sym (second_is a b (codes "call") w is)) names)
+unknown_call a b call none (Read T n) (w, inl (is, hundred), names) = let wrong : 99 ≡ 114 = ap (λ t. get_or t 0 0) (sym call ∙ first_is a b (codes "read") (w ∷ []) is) in absurd (omega (arith, wrong))
+unknown_call a b call none (Read T n) (w, inr (l, is, limit), names) = absurd (omega (arith, ap length is))
 
 -- no words
 pub unknown_none : (words : List (String Global)) → length words < 1 → AreUnknown (map string_bytes words)
