@@ -19,7 +19,8 @@ module _ {E : Type 0} (contents : E → Option (List ℕ)) where
       × (WritesWhole contents old new text ⊎ WritesLess contents old new text))
 
 -- the request that the words make has no answer on the whole input, and the line that was written is the text of a refusal that tells why, which is shown
-abbrev pub IsShown : {W E : Type 0} → List (List ℕ) → Option (List ℕ) → (W → Option (List ℕ)) → Output W → Output W → (E → Option (List ℕ)) → Output E → Output E → Type 0
+abbrev pub IsShown : {W E : Type 0} → List (List ℕ) → Option (List ℕ) → (W → Option (List ℕ)) → Output W → Output W
+    → (E → Option (List ℕ)) → Output E → Output E → Type 0
 IsShown words left contents before after shown old new =
     (request : Request) × (whole : List ℕ) × (refusal : Diagnostic)
     × AreWordsOf request words × IsInput left whole × IsRefused request whole refusal

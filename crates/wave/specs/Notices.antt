@@ -9,6 +9,7 @@ help = lines (
     ∷ codes ""
     ∷ codes "  wave value [N]       a value without a type, printed in one line"
     ∷ codes "  wave call            a call, as f(1, [2]), printed in one line"
+    ∷ codes "  wave call FUNC       a call of a function of this type, printed with its canonical parameters"
     ∷ codes "  wave read NAME [N]   a value at a type, printed as its canonical text"
     ∷ codes "  wave --help          this text, as `wave help` and `wave -h` print it too"
     ∷ codes "  wave --version       the version"
@@ -29,6 +30,10 @@ help = lines (
     ∷ codes "  record { a: T, b: U }  variant { a, b(T) }  enum { a, b }  flags { a, b }"
     ∷ codes "It has at most 100 levels and some value; f32 and f64 have none."
     ∷ codes ""
+    ∷ codes "FUNC is the text of a function's type; it may have results, which are not used:"
+    ∷ codes "  func(a: T, b: option<U>)"
+    ∷ codes "Options at its end may be left out of the call, and are printed as none."
+    ∷ codes ""
     ∷ codes "N is the number of levels that the value may have, from 1 to 1000; it is 100 where there is none."
     ∷ codes ""
     ∷ codes "status 0   the value is printed"
@@ -40,6 +45,7 @@ help = lines (
     ∷ codes "  echo '[(1, \"a\"),]' | wave read 'list<tuple<u8, string>>'"
     ∷ codes "  echo '{must-have: 1}' | wave read example"
     ∷ codes "  echo 'f(1, [2])' | wave call"
+    ∷ codes "  echo 'f(1)' | wave call 'func(a: u32, b: option<string>)'"
     ∷ [])
 
 -- the version

@@ -38,7 +38,8 @@ module _ {R : Type 0} where
   abbrev pub IsUntold : List (List ℕ) → Input R → Input R → List ℕ → Type 0
   IsUntold words old new said = AskForType words × (new ≡ old) × (said ≡ line (words_of_fault OutOfMemory))
 
-  -- the line that is due, and the status that goes with it: what the request is due that the words make; the help or the version, where they ask for it, and nothing was read; the usage; or that memory was wanting to tell which
+  -- the line that is due, and the status that goes with it: what the request is due that the words make; the help or the version,
+  -- where they ask for it, and nothing was read; the usage; or that memory was wanting to tell which
   abbrev pub IsDue : List (List ℕ) → Option (List ℕ) → Input R → Input R → ℕ → List ℕ → Type 0
   IsDue words left old new status said =
       (status ≡ 0) × IsNotice words said × (new ≡ old)

@@ -38,6 +38,6 @@ HasValue T = (v : Value) × HasType T v
 abbrev pub NamesType : List ℕ → TypeTree → Type 0
 NamesType word T = IsTypeOf (text_of word) T × (levels_of T ≤ 100) × HasValue T
 
--- the word is the text of the type of a function whose parameters have these types, in which at most 100 types stand one inside another; each of the parameters has a value
+-- the word is the text of the type of a function, in which at most 100 types stand one inside another; its parameters have these types, each with a value
 abbrev pub NamesParams : List ℕ → List TypeTree → Type 0
 NamesParams word Ts = (f : FunctionType) × IsFunctionOf word f × (levels_of_function f ≤ 100) × (types_of f.params ≡ Ts) × AllOf HasValue Ts

@@ -10,6 +10,7 @@ const HELP: &str =
 
   wave value [N]       a value without a type, printed in one line
   wave call            a call, as f(1, [2]), printed in one line
+  wave call FUNC       a call of a function of this type, printed with its canonical parameters
   wave read NAME [N]   a value at a type, printed as its canonical text
   wave --help          this text, as `wave help` and `wave -h` print it too
   wave --version       the version
@@ -30,6 +31,10 @@ A type is written as in WIT:
   record { a: T, b: U }  variant { a, b(T) }  enum { a, b }  flags { a, b }
 It has at most 100 levels and some value; f32 and f64 have none.
 
+FUNC is the text of a function's type; it may have results, which are not used:
+  func(a: T, b: option<U>)
+Options at its end may be left out of the call, and are printed as none.
+
 N is the number of levels that the value may have, from 1 to 1000; it is 100 where there is none.
 
 status 0   the value is printed
@@ -41,6 +46,7 @@ examples:
   echo '[(1, \"a\"),]' | wave read 'list<tuple<u8, string>>'
   echo '{must-have: 1}' | wave read example
   echo 'f(1, [2])' | wave call
+  echo 'f(1)' | wave call 'func(a: u32, b: option<string>)'
 ";
 
 /// The help or the version, where the words ask for it.

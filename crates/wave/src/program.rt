@@ -27,10 +27,10 @@ const CHUNK: usize = 65_536;
 const USAGE: &str = "usage: wave value [N] | wave call | wave read NAME [N]\n";
 
 /// Answers the words on the input, and gives the status to end with: 0 where the request has an
-/// answer, or the words ask for the help or the version, for which nothing is read; 1 where it has none, 2 where the words make no request, and 3 where the input or the
-/// output failed, the input is no text, or memory ran out, to tell the type that the words ask for
-/// too, which comes before anything is read. An input whose reader told its end
-/// before the call counts as one that failed. Where a refusal was told, it is shown to a person too:
+/// answer, or the words ask for the help or the version, for which nothing is read; 1 where it has
+/// none, 2 where the words make no request, and 3 where the input or the output failed, the input is
+/// no text, or memory ran out, to tell the type that the words ask for too, which comes before anything
+/// is read. An input whose reader told its end before the call counts as one that failed. Where a refusal was told, it is shown to a person too:
 /// what explains it is written to `errors`, unless memory is wanting for that.
 pub fn run<R: Read, W: Write, E: Write>(
     alloc: Global,

@@ -37,7 +37,8 @@ abbrev pub HasAnswer : Request → Option (List ℕ) → Type 0
 HasAnswer request left = (whole : List ℕ) × (answer : List ℕ) × IsInput left whole × Answers request whole answer
 
 module _ {R : Type 0} where
-  -- why a request has no outcome: the input is no text, or was not read to its end; or memory was wanting before the reader told its end, or for the answer that the request has
+  -- why a request has no outcome: the input is no text, or was not read to its end; or memory was wanting before the reader
+  -- told its end, or for the answer that the request has
   abbrev pub IsNoOutcome : Request → Option (List ℕ) → Input R → Input R → Fault → Type 0
   IsNoOutcome request left old new NotUtf8 = IsNoText left × IsReadToEnd old new
   IsNoOutcome request left old new InputFailed = IsUnread old new
