@@ -1,10 +1,10 @@
 -- What reading at a type says of a request.
-use Rattle.std.proofs.Common.{ℕ, ◌≡◌, ◌≢◌, List, false, inl, inr, refl, subst, sym, Result, Ok, Err, MatchResult}
+use Rattle.std.proofs.Common.{ℕ, ◌≡◌, ◌≢◌, List, inl, inr, subst, sym, Result, Ok, Err, MatchResult}
 use Rattle.std.specs.Prelude.{IsErrAnd}
 use Rattle.wave_lex.specs.Errors.{Diagnostic}
 use Rattle.wave_lex.specs.declared.error.ParserErrorKind.TheVariants as kind
 use Rattle.wave_tree.specs.FromStr.{IsValueTaken, RefusesValue, IsRead, BlamesText}
-use Rattle.wave_tree.specs.ParserState.{Parsing, Finishes, first_at, limited, front_of, start_of}
+use Rattle.wave_tree.specs.ParserState.{Parsing, Finishes, first_at, limited, front_of}
 use Rattle.wave_tree.proofs.ValueReading.{whole_text}
 use Rattle.wave_grammar.specs.ParserPosition.{Place}
 use Rattle.wave_wasm.specs.Types.{TypeTree, HasDistinctNames}

@@ -1,5 +1,5 @@
 -- What reading the parameters of a call at types says of a request.
-use Rattle.std.proofs.Common.{ℕ, ◌≡◌, ◌≢◌, ◌⊎◌, ◌∙◌, ◌++◌, List, [], ◌∷◌, Option, Some, None, inl, inr, length, map, take, drop, refl, sym, ap, subst, arith}
+use Rattle.std.proofs.Common.{ℕ, ◌≡◌, ◌≢◌, ◌∙◌, ◌++◌, List, [], ◌∷◌, Option, Some, None, inl, inr, map, drop, refl, sym, ap, subst, arith}
 use Rattle.std.specs.Prelude.{◌↔◌}
 use Rattle.std.specs.declared.ops.Range.{Range}
 use Rattle.std.specs.declared.vec.Vec.{Vec}
@@ -10,13 +10,11 @@ use Rattle.wave_wasm.specs.Types.{TypeTree, HasDistinctNames}
 use Rattle.wave_wasm.specs.Values.{Value}
 use Rattle.wave_lex.specs.Errors.{Diagnostic}
 use Rattle.wave_lex.specs.declared.error.ParserErrorKind.TheVariants as kind
-use Rattle.wave_lex.specs.FunctionName.{IsName}
 use Rattle.wave_type.proofs.TypeReading.{map_self}
 use Rattle.wave_value.specs.FullTypes.{IsFull}
 use Rattle.wave_value.specs.TypedValue.{TypedValue, IsAt}
-use Rattle.wave_grammar.specs.Token.{Token, CutsInto, paren_open, paren_close}
-use Rattle.wave_grammar.specs.CommaSeparated.{Items}
-use Rattle.wave_grammar.specs.Tree.{Tree, Trees, MaybeTree, no_tree, a_tree, tuple, trees, no_trees, tree_and, Takes}
+use Rattle.wave_grammar.specs.Token.{Token, CutsInto, paren_close}
+use Rattle.wave_grammar.specs.Tree.{Tree, Trees, MaybeTree, no_tree, a_tree, tuple, trees}
 use Rattle.wave_grammar.specs.Calls.{IsCall, SpellsParams}
 use Rattle.wave_grammar.specs.Params.{Params, Omitted}
 use Rattle.wave_grammar.specs.ParamElaboration.{TreeParams}
@@ -25,7 +23,7 @@ use Rattle.wave_grammar.specs.SpannedTree.{Placed, Shape, shape_of, placed_trees
 use Rattle.wave_grammar.proofs.Elaboration.Params.{params_by_tree}
 use Rattle.wave_grammar.proofs.RoundTrip.Leaves.{one_cut_into}
 use Rattle.wave_syntax.specs.NodeTree.{NodeTree, type_of}
-use Rattle.wave_syntax.specs.Nodes.{IsNodeOf, placed_of}
+use Rattle.wave_syntax.specs.Nodes.{placed_of}
 use Rattle.wave_syntax.specs.NodeParams.{IsNoOption, MakerRefuses, RefusesParams, RefusesNone}
 use Rattle.wave_syntax.specs.declared.form.NodeType.{NodeType}
 use Rattle.wave_syntax.specs.declared.form.NodeType.TheVariants as form

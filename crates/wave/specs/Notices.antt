@@ -1,5 +1,5 @@
 -- What is printed of the program itself.
-use Rattle.std.specs.Prelude.{ℕ, List, [], ◌∷◌, ◌++◌, ◌≡◌, ◌⊎◌, codes}
+use Rattle.std.specs.Prelude.{ℕ, List, [], ◌∷◌, ◌≡◌, ◌⊎◌, codes}
 use Rattle.wave.specs.Lines.{line, lines}
 
 -- the help

@@ -90,9 +90,9 @@ fn call_at(alloc: Global, types: &Vec<Type>, text: &str) -> Result<String, Unans
         (λ answer. Answers (request.CallAt types.now) text.now (string_bytes answer))
         (IsUnanswered (request.CallAt types.now) text.now) }
 {
-    let call = UntypedFuncCall::parse(alloc, text)?;
-    let params = call.to_wasm_params::<Value>(alloc, types.as_slice())?;
-    Ok(canonical_call(alloc, call.name(), &params)?)
+    let untyped = UntypedFuncCall::parse(alloc, text)?;
+    let params = untyped.to_wasm_params::<Value>(alloc, types.as_slice())?;
+    Ok(canonical_call(alloc, untyped.name(), &params)?)
 }
 
 /// The name and the canonical parameters in their parentheses.

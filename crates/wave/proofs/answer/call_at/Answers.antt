@@ -11,39 +11,39 @@ use Rattle.wave.proofs.Named.{handed_on, unshown}
 use Rattle.wave.proofs.TypedCalls.{AreValuesAt, at_types, is_no_call_at, refused_at, answered_at}
 use Rattle.wave.proofs.answer.call_at.Goals as goal
 
-pub returns-in_err-call : goal.returns-in_err-call
-returns-in_err-call c =
+pub returns-in_err-untyped : goal.returns-in_err-untyped
+returns-in_err-untyped c =
     let types = c.args.types.now in
     let s = c.args.text.now in
-    let e = c.in_err-call.field-0.0 in
-    handed_on (λ answer. Answers (CallAt types) s (string_bytes answer)) (CallAt types) s c.from_residual.result e c.from_residual.ensures.1 (is_no_call_at types s e c.in_err-call.ensures.refused)
+    let e = c.in_err-untyped.field-0.0 in
+    handed_on (λ answer. Answers (CallAt types) s (string_bytes answer)) (CallAt types) s c.from_residual.result e c.from_residual.ensures.1 (is_no_call_at types s e c.in_err-untyped.ensures.refused)
 
 pub returns-in_err-params : goal.returns-in_err-params
 returns-in_err-params c =
     let types = c.args.types.now in
     let s = c.args.text.now in
     let e = c.in_err-params.field-0.0 in
-    let u = c.in_ok-call.call in
+    let u = c.in_ok-untyped.untyped in
     let refuses = at_types (λ (Ts : List TypeTree). RefusesParamsAt IsFull Ts u.source u.name u.params e) c.as_slice.result.now types.items c.as_slice.ensures.value c.in_err-params.ensures.refused c.requires in
     handed_on (λ answer. Answers (CallAt types) s (string_bytes answer)) (CallAt types) s c.from_residual-in_err-params.result e c.from_residual-in_err-params.ensures.1
-    (refused_at types s u e c.requires c.in_ok-call.ensures.value refuses)
+    (refused_at types s u e c.requires c.in_ok-untyped.ensures.value refuses)
 
 pub returns-in_err-canonical_call : goal.returns-in_err-canonical_call
 returns-in_err-canonical_call c =
     let types = c.args.types.now in
     let s = c.args.text.now in
-    let u = c.in_ok-call.call in
+    let u = c.in_ok-untyped.untyped in
     let vs = c.in_ok-params.params.items in
     let are = at_types (λ (Ts : List TypeTree). AreValuesAt Ts u vs) c.as_slice.result.now types.items c.as_slice.ensures.value c.in_ok-params.ensures.values c.requires in
     unshown (λ answer. Answers (CallAt types) s (string_bytes answer)) (CallAt types) s c.from_residual-in_err-canonical_call.result _ c.from_residual-in_err-canonical_call.ensures.1
-    (answered_at types s u vs _ c.in_ok-call.ensures.value are refl)
+    (answered_at types s u vs _ c.in_ok-untyped.ensures.value are refl)
 
 pub returns : goal.returns
 returns c =
     let types = c.args.types.now in
     let s = c.args.text.now in
-    let u = c.in_ok-call.call in
+    let u = c.in_ok-untyped.untyped in
     let vs = c.in_ok-params.params.items in
     let are = at_types (λ (Ts : List TypeTree). AreValuesAt Ts u vs) c.as_slice.result.now types.items c.as_slice.ensures.value c.in_ok-params.ensures.values c.requires in
-    answered_at types s u vs (string_bytes c.in_ok-canonical_call.field-0) c.in_ok-call.ensures.value are
-    (c.in_ok-canonical_call.ensures ∙ ap (λ name. name ++ arguments_text (map (λ (v : TypedValue). v.tree) vs)) (c.name.ensures ∙ ap (λ source. slice source u.name) c.in_ok-call.ensures.value.source))
+    answered_at types s u vs (string_bytes c.in_ok-canonical_call.field-0) c.in_ok-untyped.ensures.value are
+    (c.in_ok-canonical_call.ensures ∙ ap (λ name. name ++ arguments_text (map (λ (v : TypedValue). v.tree) vs)) (c.name.ensures ∙ ap (λ source. slice source u.name) c.in_ok-untyped.ensures.value.source))
