@@ -55,5 +55,3 @@ GivesRecord source n r = MatchResult r (IsFieldsOf source n) (RefusesFields sour
 -- a name and a node, behind two references
 abbrev pub shown_field : Bor (List ℕ) × Bor NodeTree → List ℕ × NodeTree
 shown_field f = (f.0.now, f.1.now)
-
--- ---- a field at its type

@@ -30,5 +30,3 @@ abbrev pub AreInOrder : List (List ℕ) → Type 0
 AreInOrder [] = Unit {0}
 AreInOrder (name ∷ []) = Unit {0}
 AreInOrder (name ∷ next ∷ more) = (is_before name next ≡ true) × AreInOrder (next ∷ more)
-
--- ---- sets of names

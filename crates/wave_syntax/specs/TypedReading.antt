@@ -99,5 +99,3 @@ module _ {V : Type 0} (tree : V → Value) (of : V → TypeTree → Type 0) (Ful
   ReadsKey T source n r =
       (K : Simple) (p : Range ℕ) (key : Token) → T ≡ type.simple K → IsTokenOf source n p key
       → MatchResult r (IsKeyRead tree of K key) (IsKeyError Full K p key)
-
--- ---- payloads

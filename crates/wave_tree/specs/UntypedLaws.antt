@@ -21,5 +21,3 @@ module _ {V : Type 0} (tree : V → Value) (of : V → TypeTree → Type 0) wher
 abbrev pub RefusedAlike : Type 0
 RefusedAlike =
     (n : ℕ) (s : List ℕ) (T : TypeTree) → (SpellsNoTree n s → MeansNone T n s) × ((t : Placed) → IsTreeOfText n s t → MeansNone T n s ↔ ReadsNone T t)
-
--- ---- commas

@@ -182,5 +182,3 @@ RefusesEnum T name (error.WrongTypeKind k t) = TellsKind kinds.Enum T k (string_
 RefusesEnum T name (error.UnknownCase n) = (kind_of T ≡ kinds.Enum) × (string_bytes n ≡ name) × (TakesEnum T name → ⊥)
 RefusesEnum T name (error.Memory e) = Unit {0}
 RefusesEnum T name _ = ⊥
-
--- ---- what the helpers of refusals say

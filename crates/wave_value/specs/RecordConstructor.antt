@@ -61,5 +61,3 @@ abbrev pub RefusesRecord : (TypedValue → List ℕ) → TypeTree → List (List
 RefusesRecord words T given (error.WrongTypeKind k t) = TellsKind kinds.Record T k (string_bytes t)
 RefusesRecord words T given (error.Memory e) = Unit {0}
 RefusesRecord words T given e = (kind_of T ≡ kinds.Record) × RefusesFields words (record_parts T) (last_under given) e
-
--- ---- what the helpers of refusals say

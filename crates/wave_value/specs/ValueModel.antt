@@ -47,5 +47,3 @@ boxed p = option_map (λ b. b.value) p
 -- what the payload means
 abbrev pub payload_tree : Option TypedValue → Option Value
 payload_tree p = option_map (λ v. v.tree) p
-
--- ---- which content fits a type

@@ -43,10 +43,6 @@ simple_has_kind type.string = refl
 not_simple : (S : Simple) (k : WasmTypeKind) → is_simple_kind k ≡ false → simple_kind S ≡ k → ⊥
 not_simple S k h e = let t = simple_has_kind S in let s = ap is_simple_kind e in cc
 
--- ---- types of one word
-
--- ---- types of one or two parts
-
 -- ---- types of many parts
 
 -- the text and the depth of a type by the list of its parts

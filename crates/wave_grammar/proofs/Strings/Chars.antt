@@ -46,5 +46,3 @@ more_none s rest d x k e slash some more c (is, inl h) = not_itself s rest c d e
 more_none s rest d x k e slash (f, t, escape, cut, size) more c (is, inr h) =
     let none : t ≡ [] = (escape_unique f s t [] x c escape h (sym cut ∙ sym (append-nil s))).1 in
     more (size ∙ ap length (sym (append-nil f) ∙ (ap (λ (z : List ℕ). f ++ z) (sym none) ∙ sym cut)))
-
--- ---- the char of a node

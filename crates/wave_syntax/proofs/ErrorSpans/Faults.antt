@@ -269,5 +269,3 @@ faults_lie source T t k q h f =
   where
     ends : (source : List ℕ) (t : Placed) → SpellsEach source t → (span_of t).end ≤ length source
     ends source (at p s) h = h.0.1.0.last.0
-
--- ---- what reading a whole text refuses
