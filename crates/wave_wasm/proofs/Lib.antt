@@ -19,6 +19,7 @@ pub mod JoinedTexts
 pub mod TypeTrees
 pub mod Functions
 pub mod NameTests
+pub mod NamedKinds
 pub mod TypeKinds
 pub mod NameSets
 pub mod Picked

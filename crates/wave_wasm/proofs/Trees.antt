@@ -251,21 +251,3 @@ no_text_of_kind v k e (inr (inr is)) = no_text v (ap is_readable_kind (sym e ∙
 pub of_list_kind : (v : Value) (k : WasmTypeKind) → k ≡ kind_of v → (k ≡ kinds.List) ⊎ (k ≡ kinds.FixedLengthList) → IsOfListKind (kind_of v)
 of_list_kind v k e (inl is) = subst IsOfListKind (sym is ∙ e) tt
 of_list_kind v k e (inr is) = subst IsOfListKind (sym is ∙ e) tt
-
--- a value of no other kind is a leaf
-pub leaf_of : (v : Value) (k : WasmTypeKind) → k ≡ kind_of v → (k ≡ kinds.F32 → ⊥) → (k ≡ kinds.F64 → ⊥) → (k ≡ kinds.List → ⊥) → (k ≡ kinds.FixedLengthList → ⊥) → (k ≡ kinds.Record → ⊥) → (k ≡ kinds.Tuple → ⊥) → (k ≡ kinds.Variant → ⊥) → (k ≡ kinds.Enum → ⊥) → (k ≡ kinds.Option → ⊥) → (k ≡ kinds.Result → ⊥) → (k ≡ kinds.Flags → ⊥) → (k ≡ kinds.Map → ⊥) → (k ≡ kinds.Unsupported → ⊥) → IsLeaf v
-leaf_of (value.leaf one) k e no_single no_double no_list no_fixed no_record_kind no_tuple no_variant no_enum no_option no_result no_flags no_map_kind no_unsupported = (one, refl)
-leaf_of (value.unreadable type.f32) k e no_single no_double no_list no_fixed no_record_kind no_tuple no_variant no_enum no_option no_result no_flags no_map_kind no_unsupported = absurd (no_single e)
-leaf_of (value.unreadable type.f64) k e no_single no_double no_list no_fixed no_record_kind no_tuple no_variant no_enum no_option no_result no_flags no_map_kind no_unsupported = absurd (no_double e)
-leaf_of (value.unreadable type.unsupported) k e no_single no_double no_list no_fixed no_record_kind no_tuple no_variant no_enum no_option no_result no_flags no_map_kind no_unsupported = absurd (no_unsupported e)
-leaf_of (value.list vs) k e no_single no_double no_list no_fixed no_record_kind no_tuple no_variant no_enum no_option no_result no_flags no_map_kind no_unsupported = absurd (no_list e)
-leaf_of (value.fixed vs) k e no_single no_double no_list no_fixed no_record_kind no_tuple no_variant no_enum no_option no_result no_flags no_map_kind no_unsupported = absurd (no_fixed e)
-leaf_of (value.record_value fs) k e no_single no_double no_list no_fixed no_record_kind no_tuple no_variant no_enum no_option no_result no_flags no_map_kind no_unsupported = absurd (no_record_kind e)
-leaf_of (value.tuple vs) k e no_single no_double no_list no_fixed no_record_kind no_tuple no_variant no_enum no_option no_result no_flags no_map_kind no_unsupported = absurd (no_tuple e)
-leaf_of (value.variant name payload) k e no_single no_double no_list no_fixed no_record_kind no_tuple no_variant no_enum no_option no_result no_flags no_map_kind no_unsupported = absurd (no_variant e)
-leaf_of (value.enum name) k e no_single no_double no_list no_fixed no_record_kind no_tuple no_variant no_enum no_option no_result no_flags no_map_kind no_unsupported = absurd (no_enum e)
-leaf_of (value.option payload) k e no_single no_double no_list no_fixed no_record_kind no_tuple no_variant no_enum no_option no_result no_flags no_map_kind no_unsupported = absurd (no_option e)
-leaf_of (value.ok payload) k e no_single no_double no_list no_fixed no_record_kind no_tuple no_variant no_enum no_option no_result no_flags no_map_kind no_unsupported = absurd (no_result e)
-leaf_of (value.err payload) k e no_single no_double no_list no_fixed no_record_kind no_tuple no_variant no_enum no_option no_result no_flags no_map_kind no_unsupported = absurd (no_result e)
-leaf_of (value.flags names) k e no_single no_double no_list no_fixed no_record_kind no_tuple no_variant no_enum no_option no_result no_flags no_map_kind no_unsupported = absurd (no_flags e)
-leaf_of (value.map es) k e no_single no_double no_list no_fixed no_record_kind no_tuple no_variant no_enum no_option no_result no_flags no_map_kind no_unsupported = absurd (no_map_kind e)

@@ -6,7 +6,7 @@ use Rattle.wave_wasm.specs.declared.wasm.WasmTypeKind.{WasmTypeKind}
 use Rattle.wave_wasm.specs.declared.wasm.WasmTypeKind.TheVariants as kind
 
 -- the kind is that of a simple type
-abbrev is_simple_kind : WasmTypeKind → Bool
+abbrev pub is_simple_kind : WasmTypeKind → Bool
 is_simple_kind kind.Bool = true
 is_simple_kind kind.S8 = true
 is_simple_kind kind.S16 = true

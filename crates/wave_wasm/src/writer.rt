@@ -165,7 +165,17 @@ impl<W: TextWrite> Writer<W> {
             WasmTypeKind::F32 | WasmTypeKind::F64 | WasmTypeKind::Unsupported => {
                 Err(WriterError::UnsupportedType)
             }
-            _ => self.write_leaf(val),
+            WasmTypeKind::Bool
+            | WasmTypeKind::S8
+            | WasmTypeKind::S16
+            | WasmTypeKind::S32
+            | WasmTypeKind::S64
+            | WasmTypeKind::U8
+            | WasmTypeKind::U16
+            | WasmTypeKind::U32
+            | WasmTypeKind::U64
+            | WasmTypeKind::Char
+            | WasmTypeKind::String => self.write_leaf(val),
         }
     }
 
@@ -356,7 +366,19 @@ impl<W: TextWrite> Writer<W> {
             WasmTypeKind::U64 => self.write_number(val.unwrap_u64()),
             WasmTypeKind::Char => self.write_char(val.unwrap_char()),
             WasmTypeKind::String => self.write_string(val.unwrap_string()),
-            _ => unreachable!(),
+            WasmTypeKind::F32
+            | WasmTypeKind::F64
+            | WasmTypeKind::List
+            | WasmTypeKind::FixedLengthList
+            | WasmTypeKind::Record
+            | WasmTypeKind::Tuple
+            | WasmTypeKind::Variant
+            | WasmTypeKind::Enum
+            | WasmTypeKind::Option
+            | WasmTypeKind::Result
+            | WasmTypeKind::Flags
+            | WasmTypeKind::Map
+            | WasmTypeKind::Unsupported => unreachable!(),
         }
     }
 

@@ -12,7 +12,8 @@ use Rattle.wave_wasm.specs.Values.{Value, maybe_value}
 use Rattle.wave_wasm.specs.Shared.Values.{depth, depth_of_maybe}
 use Rattle.wave_wasm.proofs.Writing.{writing_more, writing_refused, writing_refused_text, start_refused, start_written, writing_as, writing_none, refused_before, refused_grounded, refused_unsupported, writing_last, nothing_written}
 use Rattle.wave_wasm.proofs.Sequence.{writing_start, writing_item, writing_close, item_blocks, item_passes, items_pass, part_depth, all_at}
-use Rattle.wave_wasm.proofs.Trees.{map_map, all_map, list_sequence, tuple_sequence, record_is, variant_text, variant_writable, ok_text, ok_writable, err_text, err_writable, no_text_of_kind, of_list_kind, leaf_of}
+use Rattle.wave_wasm.proofs.Trees.{map_map, all_map, list_sequence, tuple_sequence, record_is, variant_text, variant_writable, ok_text, ok_writable, err_text, err_writable, no_text_of_kind, of_list_kind}
+use Rattle.wave_wasm.proofs.NamedKinds.{leaf_of}
 use Rattle.wave_wasm.proofs.Records.{writing_field, writing_skipped, none_writable, writing_record_close}
 use Rattle.wave_wasm.proofs.Maps.{written_map, keys_are_leaves, writing_entry}
 use Rattle.wave_wasm.proofs.writer.Writer.+write.Goals as goal
@@ -450,8 +451,8 @@ write_value-returns-in-Map-clause-writable g t c = c.write_map.ensures.writable
 pub write_value-returns-in-Map-clause-err : goal.write_value-returns-in-Map-clause-err
 write_value-returns-in-Map-clause-err g t c = c.write_map.ensures.err
 
-pub write_value-returns-in_default-clause-ok : goal.write_value-returns-in_default-clause-ok
-write_value-returns-in_default-clause-ok g t c = c.write_leaf.ensures.ok
+pub write_value-returns-in-Bool-clause-ok : goal.write_value-returns-in-Bool-clause-ok
+write_value-returns-in-Bool-clause-ok g t c = c.write_leaf.ensures.ok
 
 pub write_value-write_list-requires : goal.write_value-write_list-requires
 write_value-write_list-requires g t c κs within = (omega arith, (within.0, (within.1.0, (within.1.1, of_list_kind _ _ c.kind.ensures.kind c.in-List.is))))
@@ -460,7 +461,7 @@ pub write_value-write_map-requires : goal.write_value-write_map-requires
 write_value-write_map-requires g t c κs within = (omega arith, (within.0, (within.1.0, (within.1.1, (sym c.kind.ensures.kind ∙ c.in-Map.is, c.kind.ensures.formed)))))
 
 pub write_value-write_leaf-requires : goal.write_value-write_leaf-requires
-write_value-write_leaf-requires g t c = leaf_of _ _ c.kind.ensures.kind c.in_default.not-F32 c.in_default.not-F64 c.in_default.not-List c.in_default.not-FixedLengthList c.in_default.not-Record c.in_default.not-Tuple c.in_default.not-Variant c.in_default.not-Enum c.in_default.not-Option c.in_default.not-Result c.in_default.not-Flags c.in_default.not-Map c.in_default.not-Unsupported
+write_value-write_leaf-requires g t c = leaf_of _ _ c.kind.ensures.kind c.in-Bool.is
 
 pub write_value-write_flags-requires : goal.write_value-write_flags-requires
 write_value-write_flags-requires g t c = sym c.kind.ensures.kind ∙ c.in-Flags.is
@@ -468,14 +469,14 @@ write_value-write_flags-requires g t c = sym c.kind.ensures.kind ∙ c.in-Flags.
 pub write_value-returns-in-Enum-clause-ok : goal.write_value-returns-in-Enum-clause-ok
 write_value-returns-in-Enum-clause-ok g t c = rw (ap text c.unwrap_enum.ensures) c.write_case.ensures.ok
 
-pub write_value-returns-in_default-clause-writable : goal.write_value-returns-in_default-clause-writable
-write_value-returns-in_default-clause-writable g t c =
-    let one = leaf_of _ _ c.kind.ensures.kind c.in_default.not-F32 c.in_default.not-F64 c.in_default.not-List c.in_default.not-FixedLengthList c.in_default.not-Record c.in_default.not-Tuple c.in_default.not-Variant c.in_default.not-Enum c.in_default.not-Option c.in_default.not-Result c.in_default.not-Flags c.in_default.not-Map c.in_default.not-Unsupported in
+pub write_value-returns-in-Bool-clause-writable : goal.write_value-returns-in-Bool-clause-writable
+write_value-returns-in-Bool-clause-writable g t c =
+    let one = leaf_of _ _ c.kind.ensures.kind c.in-Bool.is in
     rw (ap has_text one.1) c.write_leaf.ensures.writable
 
-pub write_value-returns-in_default-clause-err : goal.write_value-returns-in_default-clause-err
-write_value-returns-in_default-clause-err g t c =
-    let one = leaf_of _ _ c.kind.ensures.kind c.in_default.not-F32 c.in_default.not-F64 c.in_default.not-List c.in_default.not-FixedLengthList c.in_default.not-Record c.in_default.not-Tuple c.in_default.not-Variant c.in_default.not-Enum c.in_default.not-Option c.in_default.not-Result c.in_default.not-Flags c.in_default.not-Map c.in_default.not-Unsupported in
+pub write_value-returns-in-Bool-clause-err : goal.write_value-returns-in-Bool-clause-err
+write_value-returns-in-Bool-clause-err g t c =
+    let one = leaf_of _ _ c.kind.ensures.kind c.in-Bool.is in
     rw (ap has_text one.1) c.write_leaf.ensures.err
 
 pub write_value-write_record-requires : goal.write_value-write_record-requires
