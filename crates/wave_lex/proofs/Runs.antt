@@ -311,6 +311,13 @@ pub blanks_end : (s b : List ℕ) (n : ℕ) → b ≡ s → n ≤ length b → (
 blanks_end s b n e l h stops other = subst (λ (z : List ℕ). Greatest (IsFront gap z) (Some n)) e
     (run_ends gap gap b n (blanks_lead b b n refl l h) refl (λ c k. gap_dead c (blank_past c k) (λ w. let x : c ≡ 47 = w in omega arith)) (λ k. gap_dead (get_or b n 0) (stops k) (other k)))
 
+behind_blanks : (c : ℕ) → 32 < c → is_blank c ≡ false
+behind_blanks c l = grind (arith, nat_tests)
+
+-- no gap begins with a byte behind the blanks that is no slash
+pub no_gap : (s b : List ℕ) → b ≡ s → 32 < get_or b 0 0 → get_or b 0 0 ≢ 47 → Greatest (IsFront gap s) (Some 0)
+no_gap s b e l f = blanks_end s b 0 e (omega arith) (λ i k. let w : ⊥ = omega arith in absurd w) (λ _. behind_blanks (get_or b 0 0) l) (λ _. f)
+
 number_none : (c : ℕ) → is_digit c ≡ false → ends_whole c ≡ true → number_step n.Whole c ≡ None
 number_none c e f = grind (arith, nat_tests)
 

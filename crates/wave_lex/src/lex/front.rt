@@ -25,6 +25,9 @@ pub fn gap_at(text: &str) -> usize
     ensures { IsGap text.now result }
 {
     let bytes = text.as_bytes();
+    if bytes.len() > 0 && bytes[0] > b' ' && bytes[0] != b'/' {
+        return 0;
+    }
     let run = blanks(bytes);
     if run == bytes.len() {
         return run;
@@ -112,7 +115,14 @@ pub fn string_at(text: &str) -> Option<usize>
     if bytes[0] != b'"' {
         return longest_front(StringState::Start, text);
     }
-    let inside = inside_end(text);
+    let plain = plains(text[1..].as_bytes()) + 1;
+    if plain < bytes.len() && bytes[plain] == b'"' {
+        return Some(plain + 1);
+    }
+    let inside = inside_end(text, plain);
+    if inside < bytes.len() && bytes[inside] == b'"' {
+        return Some(inside + 1);
+    }
     let Some(more) = longest_front(StringState::Inside, &text[inside..]) else {
         return None;
     };
@@ -128,14 +138,13 @@ pub fn multiline_at(text: &str) -> Option<usize>
     Some(count + 6)
 }
 
-/// Where the plain bytes and the escapes end that stand behind the quote at the front.
-fn inside_end(text: &str) -> usize
-    requires some { 0 < length text.now }
-    requires quote { slice_index text.now 0 ≡ 34 }
+/// Where the plain bytes and the escapes end that stand from this place on.
+fn inside_end(text: &str, from: usize) -> usize
+    requires { LeadsTo string (string_rest Inside) text.now from }
     ensures { LeadsTo string (string_rest Inside) text.now result }
 {
     let _length = text.len();
-    let mut place = 1;
+    let mut place = from;
     while let Some(count) = piece_at(&text[place..]) {
         place += count;
     }

@@ -2,11 +2,8 @@ use Rattle.wave_lex.specs.Tokens.{string}
 use Rattle.wave_lex.specs.Shared.Machines.{string_rest}
 use Rattle.wave_lex.specs.declared.machine.string.StringState.TheVariants.{Inside}
 use Rattle.wave_lex.proofs.Fronts.{lead_boundary}
-use Rattle.wave_lex.proofs.EscapeRuns.{quote_leads, leads_on}
+use Rattle.wave_lex.proofs.EscapeRuns.{leads_on}
 use Rattle.wave_lex.proofs.lex.front.inside_end.Goals as goal
-
-pub loop-count-init : goal.loop-count-init
-loop-count-init c = quote_leads _ c.requires.some c.requires.quote
 
 pub range_from-requires : goal.range_from-requires
 range_from-requires c = λ _. lead_boundary _ _ _ _ c.utf8.text c.loop-count.invariant
