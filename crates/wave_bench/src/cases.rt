@@ -4,6 +4,7 @@ use std::alloc::Global;
 use wasm_wave::value::Type;
 
 /// A text and what it is read at.
+#[derive(Clone, Copy)]
 pub(crate) struct Case<'a> {
     /// Its name.
     pub(crate) name: &'a str,
