@@ -1,4 +1,5 @@
 //! How long calls take.
+use crate::cases::Case;
 use std::alloc::Global;
 use std::time::Instant;
 use wasm_wave::parser::ParserError;
@@ -6,38 +7,24 @@ use wasm_wave::untyped::{UntypedFuncCall, UntypedValue};
 use wasm_wave::value::{Type, Value};
 use wasm_wave::{from_str, to_string};
 
-/// Reads, writes and parses the text as often as is said, and prints the nanoseconds of each.
-pub(crate) fn time(
+/// Nanoseconds of the call on the case, so often. Its type and value are made before.
+pub(crate) fn spent(
     rt: HostRuntime,
-    name: &str,
-    ty: &str,
-    text: &str,
+    call: &str,
     loops: usize,
-) -> anyhow::Result<()> {
-    let ty = Type::parse(rt.alloc(), ty)?;
-    let val = from_str::<Value>(rt.alloc(), &ty, text)?;
-    print_times(rt, name, &ty, &val, text, loops)
-}
-
-/// Does so with the type and the value that the text means at it.
-fn print_times(
-    rt: HostRuntime,
-    name: &str,
-    ty: &Type,
-    val: &Value,
-    text: &str,
-    loops: usize,
-) -> anyhow::Result<()> {
-    let out = to_string(rt.alloc(), val)?.len();
-    let read = reading(rt, ty, text, loops)?;
-    let nodes = by_nodes(rt, ty, text, loops)?;
-    let write = writing(rt, val, loops)?;
-    let untyped = parsing(rt, text, loops)?;
-    println!(rt;
-        "{name} in {} out {out} loops {loops} read {read} write {write} untyped {untyped} nodes {nodes}",
-        text.len()
-    )?;
-    Ok(())
+    case: &Case,
+) -> anyhow::Result<u128> {
+    let ty = Type::parse(rt.alloc(), case.types)?;
+    let val = from_str::<Value>(rt.alloc(), &ty, case.text)?;
+    if call == "read" {
+        reading(rt, &ty, case.text, loops)
+    } else if call == "nodes" {
+        by_nodes(rt, &ty, case.text, loops)
+    } else if call == "write" {
+        writing(rt, &val, loops)
+    } else {
+        parsing(rt, case.text, loops)
+    }
 }
 
 /// Nanoseconds of reading.
@@ -50,7 +37,7 @@ fn reading(rt: HostRuntime, ty: &Type, text: &str, loops: usize) -> anyhow::Resu
 }
 
 /// The value of the text by way of nodes: its tree is parsed without a type, and read at the type.
-fn late(alloc: Global, ty: &Type, text: &str) -> Result<Value, ParserError> {
+pub(crate) fn late(alloc: Global, ty: &Type, text: &str) -> Result<Value, ParserError> {
     UntypedValue::parse(alloc, text)?.to_wasm_value(alloc, ty)
 }
 
@@ -82,26 +69,30 @@ fn parsing(rt: HostRuntime, text: &str, loops: usize) -> anyhow::Result<u128> {
 }
 
 /// The parameters of the call at the types.
-fn params(alloc: Global, types: &[Type], text: &str) -> Result<Vec<Value>, ParserError> {
+pub(crate) fn params(alloc: Global, types: &[Type], text: &str) -> Result<Vec<Value>, ParserError> {
     UntypedFuncCall::parse(alloc, text)?.to_wasm_params(alloc, types)
 }
 
-/// Parses the call as often as is said, and reads its parameters at the types; prints the
-/// nanoseconds of both together.
-pub(crate) fn time_calls(
+/// Nanoseconds of parsing the calls of all lines, and of reading their parameters at the types.
+pub(crate) fn calling(
     rt: HostRuntime,
     types: &[Type],
     text: &str,
     loops: usize,
-) -> anyhow::Result<()> {
+) -> anyhow::Result<u128> {
     let start = Instant::now(&rt)?;
     for _ in 0..loops {
-        params(rt.alloc(), types, text)?;
+        call_lines(rt, types, text)?;
     }
-    let read = start.elapsed(&rt)?.as_nanos();
-    println!(rt;
-        "calls in {} out 0 loops {loops} read {read} write 0 untyped 0 nodes 0",
-        text.len()
-    )?;
+    Ok(start.elapsed(&rt)?.as_nanos())
+}
+
+/// The calls of all lines, once.
+fn call_lines(rt: HostRuntime, types: &[Type], text: &str) -> anyhow::Result<()> {
+    for line in text.split('\n') {
+        if !line.is_empty() {
+            params(rt.alloc(), types, line)?;
+        }
+    }
     Ok(())
 }
