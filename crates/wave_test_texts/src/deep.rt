@@ -206,13 +206,14 @@ fn answer_within(rt: HostRuntime, ty: &Type, text: &str, levels: u32) -> Result<
     }
 }
 
-/// The first answer at its type within its levels that is another one; nothing where there is none.
+/// The first answer at its type within its levels that is another one, with its levels; nothing
+/// where there is none.
 fn wrong_within(rt: HostRuntime, rows: &[(&Type, &str, u32, &str)]) -> Result<String, Fail> {
     for row in rows {
         let (ty, text, levels, expected) = *row;
         let answer = answer_within(rt, ty, text, levels)?;
         if answer.as_str() != expected {
-            return Ok(answer);
+            return Ok(format!(in rt.alloc(); "within {levels} levels: {answer}")?);
         }
     }
     Ok(String::new(rt.alloc()))
