@@ -1,5 +1,5 @@
 //! How many bytes a gap or a token takes at the front of a text. Runs of bytes that leave a machine
-//! in its state are counted at once; the machine reads what stands behind them. The end of a multiline
+//! in its state are counted at once; the machine reads what stands after them. The end of a multiline
 //! string is searched.
 ghost use Rattle.std.specs.Prelude.{◌≡◌, ℕ, ◌<◌, ◌≤◌, true, false, length, slice_index};
 ghost use Rattle.wave_lex.specs.LongestMatch.{Greatest, IsFront};
@@ -20,7 +20,7 @@ use memchr::{memchr3, memmem};
 /// How many bytes of a run are looked at in turn before the others are searched at once.
 const FEW: usize = 16;
 
-/// How many bytes the gap at the front takes.
+/// How many bytes the whitespace at the start takes.
 pub fn gap_at(text: &str) -> usize
     ensures { IsGap text.now result }
 {
@@ -38,7 +38,7 @@ pub fn gap_at(text: &str) -> usize
     run + more
 }
 
-/// How many bytes the mark takes, where it stands at the front.
+/// How many bytes the mark takes, where it stands at the start.
 pub fn mark_at(mark: u8, text: &str) -> Option<usize>
     requires { mark < 128 }
     ensures { Greatest (IsFront (one mark) text.now) result }
@@ -53,7 +53,7 @@ pub fn mark_at(mark: u8, text: &str) -> Option<usize>
     Some(1)
 }
 
-/// How many bytes the longest number at the front takes.
+/// How many bytes the longest number at the start takes.
 pub fn number_at(text: &str) -> Option<usize>
     ensures { Greatest (IsFront number text.now) result }
 {
@@ -77,7 +77,7 @@ pub fn number_at(text: &str) -> Option<usize>
     Some(run + more)
 }
 
-/// How many bytes the longest label or keyword at the front takes.
+/// How many bytes the longest label or keyword at the start takes.
 pub fn label_at(text: &str) -> Option<usize>
     ensures { Greatest (IsFront label_or_keyword text.now) result }
 {
@@ -101,7 +101,7 @@ pub fn label_at(text: &str) -> Option<usize>
     Some(run + more)
 }
 
-/// How many bytes the string in one line at the front takes.
+/// How many bytes the string in one line at the start takes.
 pub fn string_at(text: &str) -> Option<usize>
     ensures { Greatest (IsFront string text.now) result }
 {
@@ -119,7 +119,7 @@ pub fn string_at(text: &str) -> Option<usize>
     Some(inside + more)
 }
 
-/// How many bytes the multiline string at the front takes.
+/// How many bytes the multiline string at the start takes.
 pub fn multiline_at(text: &str) -> Option<usize>
     ensures { Greatest (IsFront multiline_string text.now) result }
 {
@@ -128,7 +128,7 @@ pub fn multiline_at(text: &str) -> Option<usize>
     Some(count + 6)
 }
 
-/// Where the plain bytes and the escapes end that stand behind the quote at the front.
+/// Where the plain bytes and the escapes end that stand after the quote at the start.
 fn inside_end(text: &str) -> usize
     requires some { 0 < length text.now }
     requires quote { slice_index text.now 0 ≡ 34 }
@@ -142,7 +142,7 @@ fn inside_end(text: &str) -> usize
     place
 }
 
-/// How many bytes the plain bytes or the escape take that stand at the front.
+/// How many bytes the plain bytes or the escape take that stand at the start.
 fn piece_at(text: &str) -> Option<usize>
     ensures { IsStep (string_rest Inside) text.now result }
 {
@@ -191,7 +191,7 @@ fn is_plain(byte: u8) -> bool
     !matches!(byte, b'"' | b'\\' | b'\n')
 }
 
-/// How many blanks stand at the front.
+/// How many blanks stand at the start.
 fn blanks(bytes: &[u8]) -> usize
     ensures within { result ≤ length bytes.now }
     ensures all { (i : ℕ) → i < result → is_blank (slice_index bytes.now i) ≡ true }
@@ -205,7 +205,7 @@ fn blanks(bytes: &[u8]) -> usize
     bytes.len()
 }
 
-/// How many digits stand at the front.
+/// How many digits stand at the start.
 fn digits(bytes: &[u8]) -> usize
     ensures within { result ≤ length bytes.now }
     ensures all { (i : ℕ) → i < result → is_digit (slice_index bytes.now i) ≡ true }
@@ -219,7 +219,7 @@ fn digits(bytes: &[u8]) -> usize
     bytes.len()
 }
 
-/// How many lower-case letters and digits stand at the front.
+/// How many lower-case letters and digits stand at the start.
 fn lowers(bytes: &[u8]) -> usize
     ensures within { result ≤ length bytes.now }
     ensures all { (i : ℕ) → i < result → is_lower (slice_index bytes.now i) ≡ true }
@@ -233,7 +233,7 @@ fn lowers(bytes: &[u8]) -> usize
     bytes.len()
 }
 
-/// How many bytes at the front stand for themselves within a string in one line.
+/// How many bytes at the start stand for themselves within a string in one line.
 fn plains(bytes: &[u8]) -> usize
     ensures { IsPlainRun bytes.now result }
 {
