@@ -28,7 +28,7 @@ pub use wave_tree::{ast, parser, untyped};
 pub use wave_wasm::{wasm, writer};
 
 /// The value that the whole text means at the type, which is of that type; a text that means none
-/// is refused, and so is any text for want of memory, at 0..0. A refusal's span lies in the text; a
+/// is refused, and so is any text for lack of memory, at 0..0. A refusal's span lies in the text; a
 /// `WasmValueError` has a cause and stands at a node of what was read. At any type what is read is
 /// the text of one value within 100 levels, a syntax refusal stands where the text has none, and a
 /// fault of type has no kind of syntax. All the rest where the names of the type are distinct and,
@@ -48,7 +48,7 @@ pub fn from_str<V: WasmValue>(alloc: Global, ty: &V::Type, s: &str) -> Result<V,
 }
 
 /// The canonical text of the value, which then has one; `UnsupportedType` is answered only where it
-/// has none, `Io` never, and a value of a type is refused for want of memory alone: every `Value`
+/// has none, `Io` never, and a value of a type is refused for lack of memory alone: every `Value`
 /// is one of its own type (`Value::ty`). Of a type whose names are distinct labels, another value
 /// has the same text exactly where the two are equal, merged. Where the type's tree is also one
 /// that `Type` has, the text is read back as the value, merged, within its own levels, so by

@@ -123,7 +123,7 @@ fn read(alloc: Global, ty: &Type, levels: u32, text: &str) -> Result<String, Una
     }
 }
 
-/// Want of memory, for which alone a value of a type isn't written.
+/// Out of memory, for which alone a value of a type isn't written.
 fn for_memory(error: WriterError) -> Unanswered
     requires { IsWantOfMemory error }
     ensures { result ≡ why.OutOfMemory }

@@ -8,7 +8,7 @@ ghost use Rattle.wave.specs.Private.Inhabited.{inhabited, payload_inhabited};
 use std::alloc::{AllocError, Global};
 use wasm_wave::wasm::{WasmType, WasmTypeKind};
 
-/// Whether the type has a value. The only error is want of memory.
+/// Whether the type has a value. The only error is out of memory.
 pub fn is_inhabited<T: WasmType>(alloc: Global, ty: &T) -> Result<bool, AllocError>
     ensures { IfOk result (λ b. IsTrue b ↔ HasValue (T.tree ty.now)) }
 {

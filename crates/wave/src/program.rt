@@ -97,7 +97,7 @@ fn show<E: Write>(alloc: Global, errors: &mut Output<E>, refusal: &ParserError, 
     }
 }
 
-/// Says why there is no answer: the refusal's text at status 1, want of memory at status 3.
+/// Says why there is no answer: the refusal's text at status 1, out of memory at status 3.
 fn tell<W: Write>(alloc: Global, output: &mut Output<W>, refusal: &ParserError) -> u8
     ensures { TellsRefusal W.contents output.old output.new refusal.now result }
 {
@@ -107,7 +107,7 @@ fn tell<W: Write>(alloc: Global, output: &mut Output<W>, refusal: &ParserError) 
     }
 }
 
-/// The text of the refusal and a line feed; want of memory for that, or that the refusal tells.
+/// The text of the refusal and a line feed; out of memory for that, or that the refusal tells.
 fn refusal_line(alloc: Global, refusal: &ParserError) -> Result<String, AllocError>
     ensures line { IfOk result (λ whole. string_bytes whole ≡ line (error_text refusal.now)) }
     ensures told { OnOk result (refusal.now.kind ≢ kind.OutOfMemory) }
@@ -168,7 +168,7 @@ fn write_whole<W: Write>(output: &mut Output<W>, bytes: &[u8]) -> bool
 enum Outcome {
     /// Its answer, with a line feed.
     Answered(String),
-    /// A refusal of the text, or want of memory while it was read; and the text.
+    /// A refusal of the text, or out of memory while it was read; and the text.
     Refused(ParserError, String),
 }
 

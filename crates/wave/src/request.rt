@@ -51,7 +51,7 @@ fn one_word(word: &str) -> Option<Request>
     }
 }
 
-/// The request that two words make. The only error is want of memory.
+/// The request that two words make. The only error is out of memory.
 fn two_words(alloc: Global, first: &str, second: &str) -> Result<Option<Request>, AllocError>
     ensures made { IfOk result (λ found. MatchOption found
         (AreUnknown (first.now ∷ second.now ∷ []))
@@ -75,7 +75,7 @@ fn two_words(alloc: Global, first: &str, second: &str) -> Result<Option<Request>
     }
 }
 
-/// The request that three words make. The only error is want of memory.
+/// The request that three words make. The only error is out of memory.
 fn three_words(
     alloc: Global,
     first: &str,
@@ -99,7 +99,7 @@ fn three_words(
     }
 }
 
-/// The request that the words make. The only error is want of memory, for the type that they tell.
+/// The request that the words make. The only error is out of memory, for the type that they name.
 pub fn request_of(alloc: Global, words: &[String]) -> Result<Option<Request>, AllocError>
     ensures made { IfOk result (λ found. MatchOption found
         (AreUnknown (map string_bytes words.now))

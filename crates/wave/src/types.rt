@@ -11,7 +11,7 @@ use wasm_wave::value::{FuncType, Type, TypeErrorKind};
 use wasm_wave::wasm::WasmFunc;
 
 /// The type that the word names, a sample or the text of a type, where it has a value. The only error
-/// is want of memory.
+/// is out of memory.
 pub fn type_at(alloc: Global, word: &str) -> Result<Option<Type>, AllocError>
     ensures { IfOk result (λ found. MatchOption found
         ((T : TypeTree) → NamesType word.now T → ⊥)

@@ -24,12 +24,12 @@ pub trait IntoValue: Sized + Drop {
     /// The value that one stands for.
     ghost tree: { Self → value.Value };
 
-    /// The type of all the values. The only error is want of memory.
+    /// The type of all the values. The only error is out of memory.
     fn value_type(alloc: Global) -> Result<Type, AllocError>
         ensures { IfOk result (λ t. t ≡ own) };
 
     /// The value that this one stands for. It is one of the type that `value_type` answers, its own.
-    /// The only error is want of memory.
+    /// The only error is out of memory.
     fn into_value(self, alloc: Global) -> Result<Value, AllocError>
         ensures { IfOk result (Made (tree self) own) };
 

@@ -1,4 +1,4 @@
-//! Values made of parts that are of the stated types: these are refused for want of memory alone.
+//! Values made of parts that are of the stated types: these are refused for lack of memory alone.
 ghost use Rattle.std.specs.Prelude.{◌≡◌, ◌≢◌, [], map, Ok, IfOk, IfErr};
 ghost use Rattle.wave_wasm.specs.Types as type;
 ghost use Rattle.wave_wasm.specs.Types.{types_of};

@@ -33,7 +33,7 @@ impl Fault {
     }
 }
 
-/// The fault with this cause; where there is no memory to keep it, want of memory.
+/// The fault with this cause; where there is no memory to keep it, out of memory.
 pub(crate) fn caused(alloc: Global, cause: WasmValueError) -> Fault
     ensures { IsFaultOf cause result }
 {
@@ -43,7 +43,7 @@ pub(crate) fn caused(alloc: Global, cause: WasmValueError) -> Fault
     }
 }
 
-/// The value that was made, or its maker's refusal as an error that stands there.
+/// The value that was made, or its constructor's refusal as an error that stands there.
 pub(crate) fn or_error_at<V>(span: Span, made: Result<V, WasmValueError>) -> Result<V, ParserError>
     ensures { IsMadeAt span made result }
 {

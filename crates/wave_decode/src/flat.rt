@@ -35,7 +35,7 @@ pub(crate) fn flat_payload<'ty, T: WasmType>(ty: &'ty T, node: NodeType) -> Opti
     }
 }
 
-/// The type whose parts a node of this type has, and behind the option or result that is around it, where the
+/// The type whose parts a node of this type has, and after the option or result that is around it, where the
 /// type is one that a flat payload stands for.
 pub(crate) fn type_of_parts<'ty, T: WasmType>(
     ty: &'ty T,

@@ -16,7 +16,7 @@ use wave_syntax::form::NodeType;
 use wave_wasm::wasm::{WasmType, WasmValue, WasmValueError};
 
 /// The items of a list so far. A fixed-length list of another number of items is refused for the
-/// number alone, so the refusal of an item is held until the end; the items behind it are counted
+/// number alone, so the refusal of an item is held until the end; the items after it are counted
 /// and not kept.
 #[derive(Drop)]
 pub struct Items<'ty, T, V> {

@@ -42,7 +42,7 @@ impl<'ty, V: WasmValue> Entries<'ty, V::Type, V> {
         }
     }
 
-    /// The type of the value that comes next, behind a key.
+    /// The type of the value that comes next, after a key.
     pub(crate) fn next(&self) -> Option<&'ty V::Type>
         ensures { result ≡ value_type_due self.now }
     {
@@ -75,7 +75,7 @@ impl<'ty, V: WasmValue> Entries<'ty, V::Type, V> {
         }
     }
 
-    /// Adds the value behind the last key, which was read at the type that is due; or what is wrong
+    /// Adds the value after the last key, which was read at the type that is due; or what is wrong
     /// with the map.
     pub(crate) fn with_part(
         &mut self,

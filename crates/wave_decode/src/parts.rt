@@ -185,7 +185,7 @@ impl<'ty, V: WasmValue> Parts<'ty, V::Type, V> {
         Parts::Faulty(Fault::Kind(ParserErrorKind::InvalidType))
     }
 
-    /// Parts of a value whose type could not be asked for want of memory.
+    /// Parts of a value whose type could not be asked for lack of memory.
     fn wanting(error: AllocError) -> Self
         ensures { result ≡ parts.Faulty (fault.Kind why.OutOfMemory) }
     {

@@ -37,11 +37,11 @@ pub struct Fields<'ty, T, V> {
     ty: &'ty T,
     /// Its fields.
     fields: Vec<Field<'ty, T, V>>,
-    /// The place behind the field that was read last.
+    /// The place after the field that was read last.
     behind: usize,
     /// The place and the type of the field whose key was taken.
     due: Option<(usize, &'ty T)>,
-    /// The places of the fields by their names, once a field stood elsewhere than behind the last one. Any
+    /// The places of the fields by their names, once a field stood elsewhere than after the last one. Any
     /// place that is taken from it is looked at.
     index: Option<Box<BTreeMap<&'ty str, usize>>>,
 }
@@ -50,7 +50,7 @@ pub struct Fields<'ty, T, V> {
 const FEW: usize = 16;
 
 impl<'ty, T, V> Fields<'ty, T, V> {
-    /// The place of the field of this name: as a rule it stands behind the last one.
+    /// The place of the field of this name: as a rule it stands after the last one.
     fn place(&self, name: &str) -> Option<usize>
         ensures { MatchOption result (IsNoneOf (map field_name self.now.fields.items) name.now) (IsNamedAt self.now.fields.items name.now) }
     {
@@ -81,7 +81,7 @@ impl<'ty, T, V> Fields<'ty, T, V> {
         self.here(*index.get(name)?, name)
     }
 
-    /// Keeps an index, where the field at the place stands elsewhere than behind the last one and the
+    /// Keeps an index, where the field at the place stands elsewhere than after the last one and the
     /// fields are more than a few. Without memory for it their names are searched further on.
     fn keep_index(&mut self, alloc: Global, place: usize)
         ensures ty { self.new.ty ≡ self.old.ty }
@@ -155,7 +155,7 @@ impl<'ty, V: WasmValue> Fields<'ty, V::Type, V> {
         })
     }
 
-    /// The type of the value that comes next, behind a key.
+    /// The type of the value that comes next, after a key.
     pub(crate) fn next(&self) -> Option<&'ty V::Type>
         ensures { result ≡ type_due self.now }
     {
@@ -185,7 +185,7 @@ impl<'ty, V: WasmValue> Fields<'ty, V::Type, V> {
         }
     }
 
-    /// Adds the value behind the last key, which was read at the type that is due; or what is wrong
+    /// Adds the value after the last key, which was read at the type that is due; or what is wrong
     /// with the record.
     pub(crate) fn with_part(
         &mut self,
@@ -300,7 +300,7 @@ fn left_out<V: WasmValue>(
     Err(ParserError::with_cause(span.start..span.end, refusal))
 }
 
-/// That the field of this name is missing, or want of memory.
+/// That the field of this name is missing, or out of memory.
 fn missing(alloc: Global, name: &str) -> WasmValueError
     ensures { IsMissingOrMemory name.now result }
 {

@@ -24,7 +24,7 @@ impl Model for NameSet {
 }
 
 impl NameSet {
-    /// The type of flags of these names, whatever they are. The only error is want of memory.
+    /// The type of flags of these names, whatever they are. The only error is out of memory.
     pub fn new(alloc: Global, names: &[&str]) -> Result<NameSet, AllocError>
         ensures { IfOk result (λ set. set ≡ texts names.now) }
     {

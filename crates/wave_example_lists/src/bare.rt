@@ -18,7 +18,7 @@ pub enum Bare {
     List(Vec<Bare>),
     /// A fixed-length list of these items.
     Fixed(Vec<Bare>),
-    /// A value of a kind that has no text. No maker makes one.
+    /// A value of a kind that has no text. No constructor makes one.
     Unsupported,
 }
 

@@ -14,7 +14,7 @@ use wave_example_flags::name_set::NameSet;
 use wave_example_flags::ordered_flags::OrderedFlags;
 
 /// The flags that the text means. Where no name of the type stands twice they are of the type, and
-/// but for want of memory only a text is refused that means no flags of it.
+/// but for lack of memory only a text is refused that means no flags of it.
 pub fn read_flags(alloc: Global, ty: &NameSet, text: &str) -> Result<OrderedFlags, ParserError>
     ensures read { IfOk result
         (λ names. AreDistinct ty.now → Means (type.flags ty.now) 100 text.now (value.flags names)) }

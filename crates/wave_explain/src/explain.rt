@@ -100,7 +100,7 @@ fn shown_after(alloc: Global, rest: &str) -> Result<String, AllocError>
     Ok(text)
 }
 
-/// The marks below the line: behind what is shown before the place, as wide as what is marked.
+/// The marks below the line: after what is shown before the place, as wide as what is marked.
 fn marks(alloc: Global, before: &str, marked: &str) -> Result<String, AllocError>
     ensures { IfOk result (λ text. string_bytes text ≡
         replicate (columns before.now) 32 ++ replicate (max 1 (columns (shown_text (take 48 (chars marked.now))))) 94) }

@@ -38,7 +38,7 @@ pub(crate) fn scalars(text: &str) -> usize
     text.chars().count()
 }
 
-/// The text in front of the last line, and the last line.
+/// The text before the last line, and the last line.
 fn last_line(text: &str) -> (&str, &str)
     ensures split { text.now ≡ result.0.now ++ result.1.now }
     ensures lines { AreWholeLines result.0.now }

@@ -46,7 +46,7 @@ pub fn led_tokens_have_a_tree()
     ensures { LedTokensHaveATree }
 {}
 
-/// Every front of the tokens of a tree is led, within the tree's levels.
+/// Every prefix of the tokens of a tree is led, within the tree's levels.
 pub fn fronts_are_led()
     ensures { FrontsAreLed }
 {}
@@ -56,12 +56,12 @@ pub fn led_tokens_begin_a_tree()
     ensures { LedTokensBeginATree }
 {}
 
-/// Tokens that are led, with a token behind them that is refused there, begin no tree.
+/// Tokens that are led, with a token after them that is refused there, begin no tree.
 pub fn refused_tokens_begin_none()
     ensures { RefusedTokensBeginNone }
 {}
 
-/// Tokens that are led, with an unexpected token behind them, begin no tree, whatever else might be refused in it.
+/// Tokens that are led, with an unexpected token after them, begin no tree, whatever else might be refused in it.
 pub fn unexpected_tokens_begin_none()
     ensures { UnexpectedTokensBeginNone }
 {}

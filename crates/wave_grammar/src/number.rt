@@ -16,7 +16,7 @@ pub trait WholeNumber: Sized {
     /// The number.
     ghost number: { Self → ℤ };
 
-    /// The number of this text: decimal digits, at a signed type perhaps behind a `-`.
+    /// The number of this text: decimal digits, at a signed type perhaps after a `-`.
     fn from_text(text: &str) -> Option<Self>
         ensures { IsNumberOf kind text.now (option_map number result) };
 }
@@ -40,7 +40,7 @@ fn magnitude(digits: &[u8]) -> Option<u64>
     Some(number)
 }
 
-/// The number of decimal digits, perhaps behind a `-`.
+/// The number of decimal digits, perhaps after a `-`.
 fn signed(text: &str) -> Option<i64>
     ensures { IsNumberOf s64 text.now result }
 {

@@ -33,7 +33,7 @@ pub fn char_in(inside: &str) -> Option<char>
     }
 }
 
-/// The parts, one behind another; borrowed where that is nothing or one run. Want of memory is
+/// The parts, one after another; borrowed where that is nothing or one run. Out of memory is
 /// refused at `place`.
 pub fn joined<'a>(
     alloc: Global,
@@ -51,7 +51,7 @@ pub fn joined<'a>(
     }
 }
 
-/// The run, and behind it the parts; borrowed where these are none.
+/// The run, and after it the parts; borrowed where these are none.
 fn behind_run<'a>(
     alloc: Global,
     run: &'a str,
@@ -68,7 +68,7 @@ fn behind_run<'a>(
     }
 }
 
-/// A copy of the text in front, the part, and behind it the parts.
+/// A copy of the text before it, the part, and after it the parts.
 fn copied<'a>(
     alloc: Global,
     front: &str,

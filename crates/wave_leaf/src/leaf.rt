@@ -136,7 +136,7 @@ impl<'src> Leaf<'src> {
         behind.strip_suffix(quotes)
     }
 
-    /// The value that was made, or its maker's refusal as an error at the leaf.
+    /// The value that was made, or its constructor's refusal as an error at the leaf.
     #[inline(always)]
     pub fn or_error_here<V>(&self, made: Result<V, WasmValueError>) -> Result<V, ParserError>
         ensures { IsMade (leaf_node self.now) made result }
@@ -154,7 +154,7 @@ impl<'src> Leaf<'src> {
         ParserError::new(kind, self.span.start..self.span.end)
     }
 
-    /// The refusal of a value's maker at the leaf.
+    /// The refusal of a value's constructor at the leaf.
     pub fn refused(&self, cause: WasmValueError) -> ParserError
         ensures refusal { refusal_of result ≡ refused_by (cause_of cause) }
         ensures span { result.span ≡ place_of (leaf_node self.now) }

@@ -33,7 +33,7 @@ impl<'src> Leaf<'src> {
     /// The text, at a string and at a multiline string; else `InvalidType`. It is borrowed where
     /// it is empty or one run of the leaf's text; else it is a copy. A bad escape is
     /// `InvalidEscape` at its backslash; a multiline string that opens, closes or indents badly is
-    /// `InvalidMultilineString`. Want of memory is refused at the leaf; so is a leaf behind the end
+    /// `InvalidMultilineString`. Out of memory is refused at the leaf; so is a leaf after the end
     /// of any source that memory can hold.
     pub(crate) fn as_str(&self, alloc: Global) -> Result<CowStr<'src>, ParserError>
         ensures gives { (source : List ℕ) → IsLeafIn source self.now → IsParsedFrom source (leaf_node self.now)
@@ -72,14 +72,14 @@ impl<'src> Leaf<'src> {
         }
     }
 
-    /// Whether a place behind the text, three bytes further, is still a number of bytes.
+    /// Whether a place after the text, three bytes further, is still a number of bytes.
     fn fits(&self) -> bool
         ensures { IsTrue result ↔ (self.now.span.start + length self.now.text.now + 3 < 2 ^ 64) }
     {
         self.span.start.checked_add(self.text.len() + 3).is_some()
     }
 
-    /// The string of this text, which is not copied before the maker is called.
+    /// The string of this text, which is not copied before the constructor is called.
     pub(crate) fn made_string<V: WasmValue>(
         &self,
         alloc: Global,

@@ -30,7 +30,7 @@ pub enum ParserErrorKind {
     InvalidType,
     /// A number out of range, or a record with an unknown field.
     InvalidValue,
-    /// Something behind the value.
+    /// Something after the value.
     TrailingCharacters,
     /// The end of the text where more is due.
     UnexpectedEnd,

@@ -45,7 +45,7 @@ pub enum Token {
     Comma,
     /// A number, or `-inf`.
     Number,
-    /// A label, perhaps behind a `%`, or a keyword.
+    /// A label, perhaps after a `%`, or a keyword.
     LabelOrKeyword,
     /// One scalar or escape between single quotes.
     Char,
@@ -124,7 +124,7 @@ fn class_of(first: char) -> Option<Token>
     }
 }
 
-/// How many bytes the longest front in the class takes.
+/// How many bytes the longest prefix in the class takes.
 fn longest_in(class: Token, text: &str) -> Option<usize>
     ensures { Greatest (IsFront (shape class) text.now) result }
 {
@@ -145,7 +145,7 @@ fn longest_in(class: Token, text: &str) -> Option<usize>
     }
 }
 
-/// The class in which any token at the front lies.
+/// The class in which any token at the start lies.
 fn class_at(text: &str) -> Option<Token>
     ensures { ClassAt text.now result }
 {
@@ -159,7 +159,7 @@ fn class_at(text: &str) -> Option<Token>
     Some(Token::String)
 }
 
-/// The longest token at the front, and how many bytes it takes.
+/// The longest token at the start, and how many bytes it takes.
 fn token_at(text: &str) -> Option<(Token, usize)>
     ensures { TokenAt text.now result }
 {
@@ -185,7 +185,7 @@ impl<'source> Model for Lexer<'source> {
 }
 
 impl<'source> Lexer<'source> {
-    /// A lexer in front of the source, with the span 0..0.
+    /// A lexer before the source, with the span 0..0.
     pub fn new(source: &'source str) -> Self
         ensures { result ≡ record { source = source.now; start = 0; end = 0 } }
     {
@@ -196,7 +196,7 @@ impl<'source> Lexer<'source> {
         }
     }
 
-    /// Where the last item stands, in bytes of the source; behind the last one the empty span at
+    /// Where the last item stands, in bytes of the source; after the last one the empty span at
     /// the end.
     pub fn span(&self) -> Span
         ensures span { result ≡ span self.now.start self.now.end }
@@ -219,7 +219,7 @@ impl<'source> Lexer<'source> {
         &self.source[self.start..self.end]
     }
 
-    /// The source behind the last item.
+    /// The source after the last item.
     pub fn remainder(&self) -> &'source str
         ensures { result.now ≡ remainder_of self.now }
     {

@@ -26,7 +26,7 @@ pub trait Machine: Copy {
         ensures { result ≡ may_be_empty (rest self) };
 }
 
-/// How many bytes the longest front of the text takes that has the shape of the machine.
+/// How many bytes the longest prefix of the text takes that has the shape of the machine.
 pub fn longest_front<M: Machine>(start: M, text: &str) -> Option<usize>
     ensures { Greatest (IsFront (M.rest start) text.now) result }
 {

@@ -59,7 +59,7 @@ impl<'a> Iterator for StringParts<'a> {
     ghost next_gives = { λ old r new. PartIs old r new };
 
     /// The next run or escape. An escape that is none is refused at its backslash, and nothing
-    /// comes behind it.
+    /// comes after it.
     #[inline(always)]
     fn next(&mut self) -> Option<Result<StringPart<'a>, ParserError>> {
         if self.src.is_empty() {
@@ -106,8 +106,8 @@ impl<'a> Model for MultilineStringParts<'a> {
 }
 
 impl<'a> MultilineStringParts<'a> {
-    /// The parts of `src`, which stands at the byte `pos` of the source, in front of the first
-    /// one. What stands before the first and behind the last line feed is refused here; a first
+    /// The parts of `src`, which stands at the byte `pos` of the source, before the first
+    /// one. What stands before the first and after the last line feed is refused here; a first
     /// line with too few spaces by the first `next`.
     fn new(src: &'a str, pos: usize) -> Result<MultilineStringParts<'a>, ParserError>
         requires { pos + length src.now + 3 < 2 ^ 64 }
@@ -210,7 +210,7 @@ impl<'a> StringPartsIter<'a> {
     }
 
     /// The parts of `src`, which stands between the quotes of a multiline string, at the byte
-    /// `pos` of the source. What stands before the first and behind the last line feed is refused
+    /// `pos` of the source. What stands before the first and after the last line feed is refused
     /// here, any other fault as an item.
     pub fn new_multiline(src: &'a str, pos: usize) -> Result<StringPartsIter<'a>, ParserError>
         requires { pos + length src.now + 3 < 2 ^ 64 }
@@ -238,7 +238,7 @@ impl<'a> Iterator for StringPartsIter<'a> {
     }
 }
 
-/// The escape at the front of `src`: its scalar, and how many bytes it takes. None where no escape
+/// The escape at the start of `src`: its scalar, and how many bytes it takes. None where no escape
 /// of a scalar stands there.
 pub fn unescape(src: &str) -> Option<(char, usize)>
     ensures { UnescapesTo src.now result }
@@ -264,7 +264,7 @@ pub fn unescape(src: &str) -> Option<(char, usize)>
     Some((scalar, count + 4))
 }
 
-/// How many hexadecimal digits stand at the front.
+/// How many hexadecimal digits stand at the start.
 fn hex_length(bytes: &[u8]) -> usize
     ensures within { result ≤ length bytes.now }
     ensures digits { (i : ℕ) → i < result → digit_value (slice_index bytes.now i) < 16 }
@@ -288,7 +288,7 @@ fn run_length(text: &str) -> usize
     text.find('\\').unwrap_or(text.len())
 }
 
-/// How many spaces stand at the front.
+/// How many spaces stand at the start.
 fn length_of_spaces(bytes: &[u8]) -> usize
     ensures within { result ≤ length bytes.now }
     ensures spaces { (i : ℕ) → i < result → slice_index bytes.now i ≡ 32 }
@@ -302,7 +302,7 @@ fn length_of_spaces(bytes: &[u8]) -> usize
     bytes.len()
 }
 
-/// Where the text behind the last line feed begins; 0 where there is none.
+/// Where the text after the last line feed begins; 0 where there is none.
 fn last_line_start(src: &str) -> usize
     ensures { BehindLastFeed src.now result }
 {
@@ -312,7 +312,7 @@ fn last_line_start(src: &str) -> usize
     }
 }
 
-/// What must be spaces: the text behind the last line feed, which begins at `start`; where there is
+/// What must be spaces: the text after the last line feed, which begins at `start`; where there is
 /// none, all but one carriage return at its beginning.
 fn closing_piece(src: &str, start: usize) -> &str
     requires { BehindLastFeed src.now start }
@@ -339,7 +339,7 @@ fn opening_length(src: &str) -> Option<usize>
     Some(first)
 }
 
-/// The first line and what stands behind its line feed; None where there is no line feed.
+/// The first line and what stands after its line feed; None where there is no line feed.
 fn split_line(text: &str) -> Option<(&str, &str)>
     ensures { MatchOption result (ended_lines text.now ≡ []) (λ parts. SplitsLine text.now parts.0.now parts.1.now) }
 {

@@ -135,7 +135,7 @@ impl Node {
 
     /// The text, at a string and at a multiline string; else `InvalidType`. It is borrowed where
     /// it is empty or one run of the source; else it is a copy. A bad escape is `InvalidEscape` at
-    /// its backslash; a multiline string that opens, closes or indents badly is `InvalidMultilineString`. Want of memory is refused
+    /// its backslash; a multiline string that opens, closes or indents badly is `InvalidMultilineString`. Out of memory is refused
     /// at the node. The node was parsed from `src`.
     pub fn as_str<'src>(&self, alloc: Global, src: &'src str) -> Result<CowStr<'src>, ParserError>
         requires { IsParsedFrom src.now self.now }

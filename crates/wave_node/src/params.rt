@@ -110,7 +110,7 @@ fn is_option(kind: WasmTypeKind) -> bool
     }
 }
 
-/// Adds `none` for each of the types, which are options. A maker's refusal stands at `at`.
+/// Adds `none` for each of the types, which are options. A constructor's refusal stands at `at`.
 pub(crate) fn push_omitted<V: WasmValue>(
     alloc: Global,
     types: &[V::Type],
@@ -164,7 +164,7 @@ fn none_given(alloc: Global, count: usize, at: Span) -> ParserError
     }
 }
 
-/// Pushes a value; want of memory is refused at `at`.
+/// Pushes a value; out of memory is refused at `at`.
 fn push_at<V: Drop>(vals: &mut Vec<V>, val: V, at: Span) -> Result<(), ParserError>
     ensures kept { OnOk result (vals.new.items ≡ vals.old.items ++ val ∷ []) }
     ensures refused { IfErr result (λ e. e.kind ≡ OutOfMemory) }

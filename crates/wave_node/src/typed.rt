@@ -114,7 +114,7 @@ impl Node {
         }
     }
 
-    /// Pushes a value; want of memory is refused at the node.
+    /// Pushes a value; out of memory is refused at the node.
     pub(crate) fn push<V: Drop>(&self, items: &mut Vec<V>, item: V) -> Result<(), ParserError>
         ensures kept { OnOk result (items.new.items ≡ items.old.items ++ item ∷ []) }
         ensures refused { IfErr result (λ e. e.kind ≡ OutOfMemory) }
@@ -126,7 +126,7 @@ impl Node {
         }
     }
 
-    /// A refusal for want of memory, at the node.
+    /// A refusal for lack of memory, at the node.
     pub(crate) fn out_of_memory(&self) -> ParserError
         ensures kind { result.kind ≡ OutOfMemory }
         ensures span { result.span ≡ place_of self.now }

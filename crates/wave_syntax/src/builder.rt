@@ -4,7 +4,7 @@ use std::alloc::{AllocError, Global};
 use std::collections::BTreeMap;
 use wave_lex::lex::Span;
 
-/// What is to be made of a value, from the parts of its node, one behind the other.
+/// What is to be made of a value, from the parts of its node, one after the other.
 pub trait Builder: Sized + Copy {
     /// What is made of a value.
     type Made: Drop;

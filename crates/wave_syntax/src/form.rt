@@ -27,7 +27,7 @@ pub enum NodeType {
     /// `{}`: no flags, or a map without entries. No children.
     EmptySet,
     /// A name alone, as `name` or `%name`: a case, a key or a flag, and the name of a case with a
-    /// payload. No children. `true` and the other keywords are labels only behind a `%` and as keys
+    /// payload. No children. `true` and the other keywords are labels only after a `%` and as keys
     /// and flags.
     Label,
     /// A case with a payload, as `name(value)`. The children are the name, a `Label`, and the

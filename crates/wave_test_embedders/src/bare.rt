@@ -1,4 +1,4 @@
-//! Lists of lists as a foreign type: what is written and read, and where makers refuse.
+//! Lists of lists as a foreign type: what is written and read, and where constructors refuse.
 use std::test::Fail;
 use wasm_wave::parser::ParserError;
 use wasm_wave::untyped::{UntypedFuncCall, UntypedValue};

@@ -14,7 +14,7 @@ fn read_late(alloc: Global, ty: &NameSet, text: &str) -> Result<OrderedFlags, Pa
     UntypedValue::parse(alloc, text)?.to_wasm_value(alloc, ty)
 }
 
-/// The names, each with a blank behind it, and the text.
+/// The names, each with a blank after it, and the text.
 fn shown(rt: HostRuntime, value: &OrderedFlags) -> Result<String, Fail> {
     let mut shown = String::new(rt.alloc());
     for name in value.unwrap_flags(rt.alloc())? {

@@ -89,7 +89,7 @@ pub fn of_display<D: Display>(answer: &Result<D, ParserError>, text: &str) -> Fo
     }
 }
 
-/// Whether the refusal of a maker has the words.
+/// Whether the refusal of a constructor has the words.
 pub fn of_fault(error: &WasmValueError, words: &str) -> Found {
     match error {
         WasmValueError::Memory(_) => Found::Want,

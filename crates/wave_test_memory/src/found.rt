@@ -9,11 +9,11 @@ use wasm_wave::value::TypeErrorKind;
 pub enum Found {
     /// What is due.
     Due,
-    /// Want of memory.
+    /// Out of memory.
     Want,
-    /// Want of memory, and then, called once more, what is due.
+    /// Out of memory, and then, called once more, what is due.
     DueAgain,
-    /// Want of memory, called twice.
+    /// Out of memory, called twice.
     WantAgain,
     /// Nothing: memory was wanting for what it is called on.
     NotCalled,

@@ -61,7 +61,7 @@ fn write_tokens(due: &mut Due<'_>, lexer: Lexer<'_>) {
     }
 }
 
-/// The tokens of the lexer, or the first item of the lexer of names of functions and the tokens behind
+/// The tokens of the lexer, or the first item of the lexer of names of functions and the tokens after
 /// it.
 fn tokens(is_behind_name: bool, text: &str, due: &str) -> Found {
     let mut due = Due::new(due);

@@ -51,7 +51,7 @@ fn attempt(rt: HostRuntime) -> Found {
     }
 }
 
-/// The program's name and the words behind it.
+/// The program's name and the words after it.
 fn arguments(rt: HostRuntime) -> Result<Vec<String>, Found> {
     match env::args(&rt) {
         Ok(arguments) => match arguments.collect(rt.alloc()) {
@@ -164,7 +164,7 @@ fn on_words(alloc: Global, name: &str, words: &[String]) -> Result<Found, Found>
     }
 }
 
-/// The answer, where each front of the text is told too.
+/// The answer, where each prefix of the text is told too.
 fn with_cuts(alloc: Global, text: &str, found: Found) -> Found {
     match is_told_at_each_cut(alloc, &Type::U8, text) {
         true => found,

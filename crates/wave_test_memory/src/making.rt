@@ -165,7 +165,7 @@ fn type_named(alloc: Global, name: &str) -> Result<Type, AllocError> {
     }
 }
 
-/// The scalar that has this name, by its maker or by `From`.
+/// The scalar that has this name, by its constructor or by `From`.
 fn plain(alloc: Global, name: &str) -> Result<Value, WasmValueError> {
     match name {
         "bool" => Value::make_bool(alloc, true),

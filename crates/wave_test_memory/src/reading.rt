@@ -13,8 +13,8 @@ use wave_test_reading::reading::is_read_alike;
 use wave_test_reading::types::type_of;
 
 /// What a call that reads the second word at the type is found to answer; the third word is due, and
-/// of one parser what is due of one value after the other, with what `finish` answers behind each.
-/// A text is also read by way of its untyped value, and each front of it.
+/// of one parser what is due of one value after the other, with what `finish` answers after each.
+/// A text is also read by way of its untyped value, and each prefix of it.
 pub fn at_type(alloc: Global, name: &str, ty: &Type, words: &[String]) -> Result<Found, Found> {
     let (text, due) = (word(words, 1), word(words, 2));
     match name {
@@ -169,7 +169,7 @@ fn found_if(holds: bool, found: Found) -> Found {
     }
 }
 
-/// What a value that was handed back for want of memory is, and what it answers once more.
+/// What a value that was handed back for lack of memory is, and what it answers once more.
 fn owned_again(alloc: Global, value: UntypedValue<'_>, words: &[String]) -> Found {
     if !is_of(&value, value.source(), words) {
         return Found::Other;
@@ -189,7 +189,7 @@ pub fn owned(alloc: Global, words: &[String]) -> Result<Found, Found> {
     })
 }
 
-/// What a call that was handed back for want of memory is, and what it answers once more.
+/// What a call that was handed back for lack of memory is, and what it answers once more.
 fn owned_call_again(alloc: Global, call: UntypedFuncCall<'_>, words: &[String]) -> Found {
     if !is_of(&call, call.source(), words) {
         return Found::Other;

@@ -79,7 +79,7 @@ fn views(ty: &Type, due: &str) -> Found {
     due.found()
 }
 
-/// The name at this place with the type behind it.
+/// The name at this place with the type after it.
 fn named(alloc: Global, words: &[String], at: usize) -> Result<(String, Type), TypeErrorKind> {
     let name = String::from_str(alloc, word(words, at))?;
     Ok((name, type_of(alloc, word(words, at.saturating_add(1)))?))

@@ -19,7 +19,7 @@ pub fn read(alloc: Global, ty: &Type, text: &str) -> Result<Value, ParserError> 
     from_str::<Value>(alloc, ty, text)
 }
 
-/// The value of the word behind this place, at the type that is the word there.
+/// The value of the word after this place, at the type that is the word there.
 pub fn value_at(alloc: Global, words: &[String], at: usize) -> Result<Value, Found> {
     let ty = type_of(alloc, word(words, at))?;
     Ok(read(alloc, &ty, word(words, at.saturating_add(1)))?)

@@ -3,7 +3,7 @@ use crate::cuts::is_told_at_each_cut;
 use crate::types::type_of;
 use std::alloc::Global;
 use std::test::Fail;
-use wasm_wave::parser::ParserError;
+use wasm_wave::parser::{ParserError, ParserErrorKind};
 use wasm_wave::untyped::UntypedValue;
 use wasm_wave::value::{Type, Value};
 use wasm_wave::{from_str, to_string};
@@ -13,14 +13,21 @@ fn read_late(alloc: Global, ty: &Type, text: &str) -> Result<Value, ParserError>
     UntypedValue::parse(alloc, text)?.to_wasm_value(alloc, ty)
 }
 
-/// Whether the text means the same value, or none, where it is read without the type at first.
+/// Whether the refusal is one of the text: memory is there in these tests, so a built program that
+/// answers out of memory is wrong.
+pub fn is_of_text(error: &ParserError) -> bool {
+    error.kind() != ParserErrorKind::OutOfMemory
+}
+
+/// Whether the text means the same value where it is read without the type at first, or is refused
+/// both times, though not for memory.
 pub fn is_read_alike(alloc: Global, ty: &Type, text: &str) -> bool {
     match (
         from_str::<Value>(alloc, ty, text),
         read_late(alloc, ty, text),
     ) {
         (Ok(one), Ok(other)) => one == other,
-        (Err(_), Err(_)) => true,
+        (Err(one), Err(other)) => is_of_text(&one) && is_of_text(&other),
         _ => false,
     }
 }
@@ -40,7 +47,7 @@ pub fn told(alloc: Global, answer: Result<Value, ParserError>) -> Result<String,
 
 /// The first text that is answered otherwise at its type, with its answer; nothing where there is none.
 /// Each row is a type, a text and its answer. Each text is also read alike without its type first, and
-/// each front of it is told.
+/// each prefix of it is answered.
 pub fn wrong(alloc: Global, rows: &[(&str, &str, &str)]) -> Result<String, Fail> {
     for row in rows {
         let (ty, text, expected) = *row;

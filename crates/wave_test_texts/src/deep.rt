@@ -16,7 +16,7 @@ fn repeated(rt: HostRuntime, part: &str, times: usize) -> Result<String, Fail> {
     Ok(text)
 }
 
-/// The middle between fronts and ends, so many of each.
+/// The middle between beginnings and ends, so many of each.
 fn within(
     rt: HostRuntime,
     front: &str,
@@ -83,7 +83,7 @@ fn levels(rt: HostRuntime) -> Result<(), Fail> {
     Ok(())
 }
 
-/// The type whose text is that of this one behind this front, where there is one.
+/// The type whose text is that of this one after this beginning, where there is one.
 fn layer(rt: HostRuntime, front: &str, ty: Type) -> Result<Option<Type>, AllocError> {
     let alloc = rt.alloc();
     match front {
@@ -152,7 +152,7 @@ fn fronts(rt: HostRuntime) -> Result<(), Fail> {
 }
 
 /// How a call with a number within so many payloads as its parameter is refused, nothing where it
-/// isn't; and whether its fronts from this length on are told at the type.
+/// isn't; and whether its prefixes from this length on are told at the type.
 fn call(rt: HostRuntime, payloads: usize, ty: &Type, first: usize) -> Result<String, Fail> {
     let param = within(rt, "some(", payloads, "0", ")")?;
     let text = format!(in rt.alloc(); "f({param})")?;
@@ -163,7 +163,7 @@ fn call(rt: HostRuntime, payloads: usize, ty: &Type, first: usize) -> Result<Str
 
 /// The fronts of the calls are read at a variant of a hundred options: the shorter call is of it too,
 /// since a number stands for `some` of itself. The first 497 bytes of the calls are equal, and the
-/// fronts shorter than that are read once.
+/// prefixes shorter than that are read once.
 #[test]
 fn levels_of_calls(rt: HostRuntime) -> Result<(), Fail> {
     let options = nest(rt, "option<", 100, "u8")?;
@@ -206,13 +206,14 @@ fn answer_within(rt: HostRuntime, ty: &Type, text: &str, levels: u32) -> Result<
     }
 }
 
-/// The first answer at its type within its levels that is another one; nothing where there is none.
+/// The first answer at its type within its levels that is another one, with its levels; nothing
+/// where there is none.
 fn wrong_within(rt: HostRuntime, rows: &[(&Type, &str, u32, &str)]) -> Result<String, Fail> {
     for row in rows {
         let (ty, text, levels, expected) = *row;
         let answer = answer_within(rt, ty, text, levels)?;
         if answer.as_str() != expected {
-            return Ok(answer);
+            return Ok(format!(in rt.alloc(); "within {levels} levels: {answer}")?);
         }
     }
     Ok(String::new(rt.alloc()))

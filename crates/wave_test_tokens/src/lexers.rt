@@ -17,7 +17,7 @@ fn item_text(
     }
 }
 
-/// The tokens of a source with their spans, one behind the other, and the span behind the last.
+/// The tokens of a source with their spans, one after the other, and the span after the last.
 fn tokens_of(rt: HostRuntime, source: &str) -> Result<String, Fail> {
     let mut out = String::new(rt.alloc());
     let mut lexer = Lexer::new(source);

@@ -73,7 +73,7 @@ fn payload(
     }
 }
 
-/// The names of flags, one behind the other, or a refusal.
+/// The names of flags, one after the other, or a refusal.
 fn flags(rt: HostRuntime, answer: Result<FlagLabels, ParserError>) -> Result<String, AllocError> {
     match answer {
         Ok(names) => {
@@ -114,19 +114,19 @@ fn fields(rt: HostRuntime, value: &UntypedValue) -> Result<String, Fail> {
     Ok(text)
 }
 
-/// Whether two names are counted, and one behind the first, which is `a`.
+/// Whether two names are counted, and one after the first, which is `a`.
 fn are_names_counted(value: &UntypedValue) -> Result<bool, ParserError> {
     let mut names = value.node().as_flags(value.source())?;
     Ok(names.size_hint() == (2, Some(2)) && names.next() == Some("a") && names.len() == 1)
 }
 
-/// Whether two fields are counted, and one behind the first.
+/// Whether two fields are counted, and one after the first.
 fn are_fields_counted(rt: HostRuntime, value: &UntypedValue) -> Result<bool, ParserError> {
     let mut fields = value.node().as_record(rt.alloc(), value.source())?;
     Ok(fields.size_hint() == (2, Some(2)) && fields.next().is_some() && fields.len() == 1)
 }
 
-/// Whether two entries are counted, and one behind the first.
+/// Whether two entries are counted, and one after the first.
 fn are_entries_counted(value: &UntypedValue) -> Result<bool, ParserError> {
     let mut entries = value.node().as_map()?;
     Ok(entries.size_hint() == (2, Some(2)) && entries.next().is_some() && entries.len() == 1)

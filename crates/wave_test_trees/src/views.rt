@@ -5,7 +5,7 @@ use wasm_wave::value::{Type, Value};
 use wasm_wave::wasm::{DisplayValue, WasmTypeKind};
 use wasm_wave::{from_str, to_string};
 
-/// The values, one behind the other.
+/// The values, one after the other.
 fn joined(rt: HostRuntime, vals: Vec<&Value>) -> Result<String, AllocError> {
     let mut text = String::new(rt.alloc());
     for val in vals.as_slice() {
@@ -14,7 +14,7 @@ fn joined(rt: HostRuntime, vals: Vec<&Value>) -> Result<String, AllocError> {
     Ok(text)
 }
 
-/// The names and values, one behind the other.
+/// The names and values, one after the other.
 fn joined_fields(rt: HostRuntime, fields: Vec<(&str, &Value)>) -> Result<String, AllocError> {
     let mut text = String::new(rt.alloc());
     for field in fields.as_slice() {
@@ -28,7 +28,7 @@ fn joined_fields(rt: HostRuntime, fields: Vec<(&str, &Value)>) -> Result<String,
     Ok(text)
 }
 
-/// The keys and values, one behind the other.
+/// The keys and values, one after the other.
 fn joined_entries(rt: HostRuntime, entries: Vec<(&Value, &Value)>) -> Result<String, AllocError> {
     let mut text = String::new(rt.alloc());
     for entry in entries.as_slice() {
@@ -38,7 +38,7 @@ fn joined_entries(rt: HostRuntime, entries: Vec<(&Value, &Value)>) -> Result<Str
     Ok(text)
 }
 
-/// The names, one behind the other.
+/// The names, one after the other.
 fn joined_names(rt: HostRuntime, names: Vec<&str>) -> Result<String, AllocError> {
     let mut text = String::new(rt.alloc());
     for name in names.as_slice() {

@@ -1,9 +1,9 @@
-//! A type of a stranger's.
+//! A foreign type.
 use std::alloc::{AllocError, Global};
 use std::test::Fail;
 use wave_wasm::wasm::{DisplayType, WasmType, WasmTypeKind, ensure_type_kind};
 
-/// The type `char`, as a stranger's.
+/// The type `char`, as a foreign type.
 #[derive(Drop)]
 pub struct CharType;
 
@@ -57,7 +57,7 @@ impl WasmType for CharType {
     }
 }
 
-/// The type as it is displayed, with its refusal behind a colon where it has to be of another kind.
+/// The type as it is displayed, with its refusal after a colon where it has to be of another kind.
 pub fn told(rt: HostRuntime, kind: WasmTypeKind) -> Result<String, Fail> {
     let shown = DisplayType::new(rt.alloc(), &CharType);
     match ensure_type_kind(rt.alloc(), &CharType, kind) {

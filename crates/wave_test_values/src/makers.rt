@@ -1,4 +1,4 @@
-//! What the makers of values make of parts, and how they refuse them.
+//! What the constructors of values make of parts, and how they refuse them.
 use crate::conversions::converted;
 use crate::types::type_of;
 use std::test::Fail;
@@ -120,13 +120,13 @@ fn told(rt: HostRuntime, val: Result<Value, WasmValueError>, ty: &Type) -> Resul
     }
 }
 
-/// What the maker makes at the type, or the refusal's words.
+/// What the constructor makes at the type, or the refusal's words.
 fn made(rt: HostRuntime, maker: &str, ty: &str) -> Result<String, Fail> {
     let ty = type_of(rt.alloc(), ty)?;
     told(rt, part(rt, maker, &ty), &ty)
 }
 
-/// A maker, the text of a type, and the text of what is made, or the words of the refusal.
+/// A constructor, the text of a type, and the text of what is made, or the words of the refusal.
 pub type Row = (&'static str, &'static str, &'static str);
 
 /// The expected text of the first row of which something else is told; nothing where there is none.

@@ -251,7 +251,7 @@ fn letter<T: Drop>(answer: Result<T, TypeError>) -> char {
     }
 }
 
-/// What each front of the text answers.
+/// What each prefix of the text answers.
 fn answers_of_fronts(rt: HostRuntime, text: &str) -> Result<String, AllocError> {
     let mut answers = String::new(rt.alloc());
     for end in 0..=text.len() {

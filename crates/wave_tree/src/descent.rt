@@ -60,7 +60,7 @@ impl<'source> Tokens<'source> {
         }
     }
 
-    /// Reads what stands behind a label that is due to be a value.
+    /// Reads what stands after a label that is due to be a value.
     #[cycle(parser)]
     #[inline(never)]
     fn parse_label<P: Builder>(
@@ -111,7 +111,7 @@ impl<'source> Tokens<'source> {
         }
     }
 
-    /// Reads the payload behind a label, where an open parenthesis stands there.
+    /// Reads the payload after a label, where an open parenthesis stands there.
     #[cycle(parser)]
     #[inline(never)]
     fn parse_maybe<P: Builder>(
@@ -157,7 +157,7 @@ impl<'source> Tokens<'source> {
         Ok(parts)
     }
 
-    /// Reads a value and the close parenthesis behind it, in a node behind these parts.
+    /// Reads a value and the close parenthesis after it, in a node after these parts.
     #[cycle(parser)]
     #[inline(never)]
     fn parse_payload<P: Builder>(
@@ -233,7 +233,7 @@ impl<'source> Tokens<'source> {
         }
     }
 
-    /// Reads what stands behind an open brace.
+    /// Reads what stands after an open brace.
     #[cycle(parser)]
     #[inline(never)]
     fn parse_braces<P: Builder>(
@@ -291,7 +291,7 @@ impl<'source> Tokens<'source> {
         Ok(parts)
     }
 
-    /// Reads the value behind the first key, the further entries and the close.
+    /// Reads the value after the first key, the further entries and the close.
     #[cycle(parser)]
     #[inline(never)]
     fn parse_entries<P: Builder>(
@@ -331,7 +331,7 @@ impl<'source> Tokens<'source> {
         }
     }
 
-    /// Reads the flags behind the first, which was read, and the close.
+    /// Reads the flags after the first, which was read, and the close.
     #[inline(never)]
     fn parse_flags<P: Builder>(
         &mut self,

@@ -44,8 +44,8 @@ pub fn whole_texts_are_read<V: WasmValue>()
     ensures untyped { (n : ℕ) (s : List ℕ) → ReadsWholeTree n s }
 {}
 
-/// A new parser in front of n tokens, which end or go on with what is no token, asks its lexer n + 1 times
-/// at most for `parse_value` and, where that has read a value, for `finish` behind it.
+/// A new parser before n tokens, which end or go on with what is no token, asks its lexer n + 1 times
+/// at most for `parse_value` and, where that has read a value, for `finish` after it.
 pub fn askings_are_few()
     ensures { AskingsAreFew }
 {}

@@ -44,7 +44,7 @@ impl<'source> Model for Parser<'source> {
 }
 
 impl<'source> Parser<'source> {
-    /// A parser in front of the source, with the limit `DEFAULT_LEVELS`.
+    /// A parser before the source, with the limit `DEFAULT_LEVELS`.
     pub fn new(source: &'source str) -> Self
         ensures { result ≡ first_at (front_of source.now) }
     {
@@ -82,7 +82,7 @@ impl<'source> Parser<'source> {
     }
 
     /// Reads a value of at most as many levels as the limit without a type. After a value the parser
-    /// stands behind it, after a refusal at the end of the refusal's span. What is no token is
+    /// stands after it, after a refusal at the end of the refusal's span. What is no token is
     /// `InvalidToken`, a token that may not stand there `UnexpectedToken`, and a flag that was read
     /// before `DuplicateFlag`, each at its span; the end is `UnexpectedEnd` at the empty span there,
     /// `()` is `EmptyTuple` at both parentheses, and a level past the limit `NestingTooDeep` at the
@@ -100,7 +100,7 @@ impl<'source> Parser<'source> {
         Ok(UntypedValue::new(start.source(), node))
     }
 
-    /// Reads a value of the type. After a value the parser stands behind it, and so it does where
+    /// Reads a value of the type. After a value the parser stands after it, and so it does where
     /// the type gives what was read no value, which is refused at the node that has the fault; all
     /// other refusals are those of `parse_raw_value`. Where the type's names are distinct labels and
     /// its tree is one that `Type` has, the value's canonical text has at most twice as many levels

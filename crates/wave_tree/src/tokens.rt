@@ -291,7 +291,7 @@ impl<'source> Tokens<'source> {
         }
     }
 
-    /// The place, in front of what a call is to read.
+    /// The place, before what a call is to read.
     fn start_here(&self) -> Start<'source>
         ensures place { result ≡ self.now.place.lexer }
         ensures inside { LiesInSource self.now.place.lexer }
@@ -304,7 +304,7 @@ impl<'source> Tokens<'source> {
         }
     }
 
-    /// The refusal of what was read from `start` on: for want of memory the tokens go back to
+    /// The refusal of what was read from `start` on: for lack of memory the tokens go back to
     /// there, and the refusal stands there; any other error stays, and so does the place.
     fn refuse(&mut self, error: ParserError, start: Start<'source>) -> ParserError
         ensures other { result.kind ≢ kind.OutOfMemory → (result ≡ error) × (self.new ≡ self.old) }
@@ -366,7 +366,7 @@ impl<'source> Tokens<'source> {
         }
     }
 
-    /// Whether only a gap is left. The place stays; what stands next is refused.
+    /// Whether only whitespace is left. The place stays; what stands next is refused.
     pub(crate) fn finish(&mut self) -> Result<(), ParserError>
         ensures stays { self.new.place ≡ self.old.place }
         ensures answer { Finishes result self.old.place }
@@ -381,7 +381,7 @@ impl<'source> Tokens<'source> {
     }
 
     /// Reads the parameters of a call, each of at most 100 levels: None for `()`, else the node of a
-    /// tuple. Want of memory is refused where the call began.
+    /// tuple. Out of memory is refused where the call began.
     pub(crate) fn parse_params(&mut self, alloc: Global) -> Result<Option<Node>, ParserError>
         ensures taken { IfOk result (AreParamsTaken self.old.place self.new.place) }
         ensures refused { IfErr result (λ e. e.kind ≢ kind.OutOfMemory → RefusesTuple e self.old.place self.new.place) }

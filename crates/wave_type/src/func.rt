@@ -66,7 +66,7 @@ impl FuncType {
         Ok(FuncType { params, results })
     }
 
-    /// An equal type of a function. The only error is want of memory.
+    /// An equal type of a function. The only error is out of memory.
     pub fn clone(&self, alloc: Global) -> Result<FuncType, AllocError>
         ensures { IfOk result (λ f. f ≡ self.now) }
     {

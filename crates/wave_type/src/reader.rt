@@ -70,7 +70,7 @@ fn key_of_word(word: &str) -> Option<Type>
     if key.is_simple() { Some(key) } else { None }
 }
 
-/// The token without a `%` in front.
+/// The token without a `%` before it.
 fn without_percent(token: &str) -> &str
     ensures { result.now ≡ without_percent token.now }
 {
@@ -81,7 +81,7 @@ fn without_percent(token: &str) -> &str
     &token[1..]
 }
 
-/// The name that the token is, perhaps behind a `%`.
+/// The name that the token is, perhaps after a `%`.
 fn name_of_token(token: &str) -> Option<&str>
     ensures { option_map (λ name. name.now) result ≡ name_of_token token.now }
 {
@@ -89,7 +89,7 @@ fn name_of_token(token: &str) -> Option<&str>
     if is_label(name) { Some(name) } else { None }
 }
 
-/// The count that the token is: decimal digits, without a zero in front.
+/// The count that the token is: decimal digits, without a zero before it.
 fn count_of_token(token: &str) -> Option<u32>
     ensures { result ≡ count_of_token token.now }
 {
@@ -147,7 +147,7 @@ impl<'tokens, 'text> Reader<'tokens, 'text> {
         }
     }
 
-    /// Whether the mark stands behind the next token.
+    /// Whether the mark stands after the next token.
     fn second_is(&self, mark: &str) -> bool
         ensures { result ≡ second_is mark.now self.now }
     {
@@ -170,7 +170,7 @@ impl<'tokens, 'text> Reader<'tokens, 'text> {
         }
     }
 
-    /// Whether the mark stands next, perhaps behind a comma; both are taken then.
+    /// Whether the mark stands next, perhaps after a comma; both are taken then.
     pub(crate) fn closes(&mut self, mark: &str) -> bool
         ensures { MatchBool result (closed mark.now self.old ≡ Some self.new) ((closed mark.now self.old ≡ None) × (self.new ≡ self.old)) }
     {
@@ -198,7 +198,7 @@ impl<'tokens, 'text> Reader<'tokens, 'text> {
         }
     }
 
-    /// Takes the mark, which has to stand next, perhaps behind a comma.
+    /// Takes the mark, which has to stand next, perhaps after a comma.
     fn close(&mut self, mark: &str) -> Result<(), TypeErrorKind>
         ensures taken { IfOk result (λ _. closed mark.now self.old ≡ Some self.new) }
         ensures refused { IfErr result (λ _. closed mark.now self.old ≡ None) }
@@ -314,7 +314,7 @@ impl<'tokens, 'text> Reader<'tokens, 'text> {
         self.of_kind(alloc, kind, levels - 1)
     }
 
-    /// Takes what stands behind the word of a kind, whose parts are within so many levels.
+    /// Takes what stands after the word of a kind, whose parts are within so many levels.
     #[cycle(types)]
     fn of_kind(
         &mut self,
@@ -350,7 +350,7 @@ impl<'tokens, 'text> Reader<'tokens, 'text> {
         self.fixed(alloc, element)
     }
 
-    /// Takes the length of a list behind its element type.
+    /// Takes the length of a list after its element type.
     fn fixed(&mut self, alloc: Global, element: Type) -> Result<Type, TypeErrorKind>
         ensures { Answers (λ ty. ty) result self.new (fixed_read element self.old) }
     {

@@ -186,7 +186,7 @@ impl Type {
         }
     }
 
-    /// The list type of this element type. The only error is want of memory.
+    /// The list type of this element type. The only error is out of memory.
     pub fn list(alloc: Global, element: Type) -> Result<Type, AllocError>
         ensures { IfOk result (λ t. t ≡ type.list element) }
     {
@@ -197,7 +197,7 @@ impl Type {
     }
 
     /// The type of lists of `count` elements of this type; `count` may be zero. The only error is
-    /// want of memory.
+    /// out of memory.
     pub fn fixed_length_list(alloc: Global, element: Type, count: u32) -> Result<Type, AllocError>
         ensures { IfOk result (λ t. t ≡ type.fixed element count) }
     {
@@ -207,7 +207,7 @@ impl Type {
         })
     }
 
-    /// The option type of this payload type. The only error is want of memory.
+    /// The option type of this payload type. The only error is out of memory.
     pub fn option(alloc: Global, some: Type) -> Result<Type, AllocError>
         ensures { IfOk result (λ t. t ≡ type.option some) }
     {
@@ -244,7 +244,7 @@ impl Type {
     }
 
     /// The record type of these fields, by their names and types; none where there is no field.
-    /// Any names are taken: `names_are_labels` tests them. The only error is want of memory.
+    /// Any names are taken: `names_are_labels` tests them. The only error is out of memory.
     pub fn record(alloc: Global, fields: Vec<(&str, Type)>) -> Result<Option<Type>, AllocError>
         ensures { IfOk result (λ r. r ≡ record_type (named fields.entry.items)) }
     {
@@ -286,7 +286,7 @@ impl Type {
     }
 
     /// The enum type of these cases; none where there is no case. Any names are taken:
-    /// `names_are_labels` tests them. The only error is want of memory.
+    /// `names_are_labels` tests them. The only error is out of memory.
     pub fn enum_ty(alloc: Global, cases: &[&str]) -> Result<Option<Type>, AllocError>
         ensures { IfOk result (λ r. r ≡ enum_type (texts cases.now)) }
     {
@@ -299,7 +299,7 @@ impl Type {
     }
 
     /// The type of flags of these names; none where there is no name. Any names are taken:
-    /// `names_are_labels` tests them. The only error is want of memory.
+    /// `names_are_labels` tests them. The only error is out of memory.
     pub fn flags(alloc: Global, names: &[&str]) -> Result<Option<Type>, AllocError>
         ensures { IfOk result (λ r. r ≡ flags_type (texts names.now)) }
     {
@@ -312,7 +312,7 @@ impl Type {
     }
 
     /// The map type of these key and value types; none where the key type isn't `bool`, a
-    /// whole-number type, `char` or `string`. The only error is want of memory.
+    /// whole-number type, `char` or `string`. The only error is out of memory.
     pub fn map(alloc: Global, key: Type, value: Type) -> Result<Option<Type>, AllocError>
         ensures { IfOk result (λ r. r ≡ map_type key value) }
     {

@@ -104,7 +104,7 @@ impl Value {
     }
 
     /// The value's own type. The value is one of it, and it has a tree of a type. The only error
-    /// is want of memory.
+    /// is out of memory.
     pub fn ty(&self) -> Result<Type, AllocError>
         ensures own { IfOk result (λ t. t ≡ self.now.own) }
         ensures typed { IsTyped self.now }
@@ -114,7 +114,7 @@ impl Value {
         self.own.clone()
     }
 
-    /// An equal value, whose own type is the same. The only error is want of memory.
+    /// An equal value, whose own type is the same. The only error is out of memory.
     #[cycle(clone)]
     pub fn clone(&self, alloc: Global) -> Result<Value, AllocError>
         ensures { IfOk result (λ v. v ≡ self.now) }
@@ -196,7 +196,7 @@ impl Value {
         Ok(scalar_value(Type::CHAR, Scalar::Char(val)))
     }
 
-    /// The value of `string`, a copy of this text. It is refused only for want of memory.
+    /// The value of `string`, a copy of this text. It is refused only for lack of memory.
     pub fn make_string(alloc: Global, val: &str) -> Result<Value, WasmValueError>
         ensures made { IfOk result (λ v. (v ≡ typed_leaf (value.string val.now)) × IsSound (value.string val.now)) }
         ensures refused { IfErr result IsMemory }

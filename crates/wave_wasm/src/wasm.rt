@@ -270,7 +270,7 @@ pub trait WasmValue: Sized + Drop {
     /// The value is of the type.
     ghost is_of: { Self → TypeTree → Type 0 };
 
-    /// Makers at this type refuse what is a value there for want of memory alone.
+    /// Constructors at this type refuse what is a value there for lack of memory alone.
     ghost is_full: { TypeTree → Type 0 };
 
     /// The kind of the value.

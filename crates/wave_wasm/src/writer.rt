@@ -334,7 +334,7 @@ impl<W: TextWrite> Writer<W> {
         self.write_text("}")
     }
 
-    /// Writes the name of a case, behind a `%` where it is a keyword.
+    /// Writes the name of a case, after a `%` where it is a keyword.
     fn write_case(&mut self, case: &str) -> Result<(), WriterError>
         ensures { Writes (case_label case.now) true result (W.output self.old) (W.output self.new) }
     {

@@ -1,5 +1,5 @@
 //! How many bytes a gap or a token takes at the front of a text. Runs of bytes that leave a machine
-//! in its state are counted at once; the machine reads what stands behind them. The end of a multiline
+//! in its state are counted at once; the machine reads what stands after them. The end of a multiline
 //! string is searched.
 ghost use Rattle.std.specs.Prelude.{◌≡◌, ℕ, ◌<◌, ◌≤◌, true, false, length, slice_index};
 ghost use Rattle.wave_lex.specs.LongestMatch.{Greatest, IsFront};
@@ -20,7 +20,7 @@ use memchr::{memchr3, memmem};
 /// How many bytes of a run are looked at in turn before the others are searched at once.
 const FEW: usize = 16;
 
-/// How many bytes the gap at the front takes.
+/// How many bytes the whitespace at the start takes.
 pub fn gap_at(text: &str) -> usize
     ensures { IsGap text.now result }
 {
@@ -41,7 +41,7 @@ pub fn gap_at(text: &str) -> usize
     run + more
 }
 
-/// How many bytes the mark takes, where it stands at the front.
+/// How many bytes the mark takes, where it stands at the start.
 pub fn mark_at(mark: u8, text: &str) -> Option<usize>
     requires { mark < 128 }
     ensures { Greatest (IsFront (one mark) text.now) result }
@@ -56,7 +56,7 @@ pub fn mark_at(mark: u8, text: &str) -> Option<usize>
     Some(1)
 }
 
-/// How many bytes the longest number at the front takes.
+/// How many bytes the longest number at the start takes.
 pub fn number_at(text: &str) -> Option<usize>
     ensures { Greatest (IsFront number text.now) result }
 {
@@ -80,7 +80,7 @@ pub fn number_at(text: &str) -> Option<usize>
     Some(run + more)
 }
 
-/// How many bytes the longest label or keyword at the front takes.
+/// How many bytes the longest label or keyword at the start takes.
 pub fn label_at(text: &str) -> Option<usize>
     ensures { Greatest (IsFront label_or_keyword text.now) result }
 {
@@ -104,7 +104,7 @@ pub fn label_at(text: &str) -> Option<usize>
     Some(run + more)
 }
 
-/// How many bytes the string in one line at the front takes.
+/// How many bytes the string in one line at the start takes.
 pub fn string_at(text: &str) -> Option<usize>
     ensures { Greatest (IsFront string text.now) result }
 {
@@ -129,7 +129,7 @@ pub fn string_at(text: &str) -> Option<usize>
     Some(inside + more)
 }
 
-/// How many bytes the multiline string at the front takes.
+/// How many bytes the multiline string at the start takes.
 pub fn multiline_at(text: &str) -> Option<usize>
     ensures { Greatest (IsFront multiline_string text.now) result }
 {
@@ -151,7 +151,7 @@ fn inside_end(text: &str, from: usize) -> usize
     place
 }
 
-/// How many bytes the plain bytes or the escape take that stand at the front.
+/// How many bytes the plain bytes or the escape take that stand at the start.
 fn piece_at(text: &str) -> Option<usize>
     ensures { IsStep (string_rest Inside) text.now result }
 {
@@ -200,7 +200,7 @@ fn is_plain(byte: u8) -> bool
     !matches!(byte, b'"' | b'\\' | b'\n')
 }
 
-/// How many blanks stand at the front.
+/// How many blanks stand at the start.
 fn blanks(bytes: &[u8]) -> usize
     ensures within { result ≤ length bytes.now }
     ensures all { (i : ℕ) → i < result → is_blank (slice_index bytes.now i) ≡ true }
@@ -214,7 +214,7 @@ fn blanks(bytes: &[u8]) -> usize
     bytes.len()
 }
 
-/// How many digits stand at the front.
+/// How many digits stand at the start.
 fn digits(bytes: &[u8]) -> usize
     ensures within { result ≤ length bytes.now }
     ensures all { (i : ℕ) → i < result → is_digit (slice_index bytes.now i) ≡ true }
@@ -228,7 +228,7 @@ fn digits(bytes: &[u8]) -> usize
     bytes.len()
 }
 
-/// How many lower-case letters and digits stand at the front.
+/// How many lower-case letters and digits stand at the start.
 fn lowers(bytes: &[u8]) -> usize
     ensures within { result ≤ length bytes.now }
     ensures all { (i : ℕ) → i < result → is_lower (slice_index bytes.now i) ≡ true }
@@ -242,7 +242,7 @@ fn lowers(bytes: &[u8]) -> usize
     bytes.len()
 }
 
-/// How many bytes at the front stand for themselves within a string in one line.
+/// How many bytes at the start stand for themselves within a string in one line.
 fn plains(bytes: &[u8]) -> usize
     ensures { IsPlainRun bytes.now result }
 {

@@ -27,7 +27,7 @@ impl<'source> Model for FuncNameLexer<'source> {
 }
 
 impl<'source> FuncNameLexer<'source> {
-    /// A lexer in front of the source, with the span 0..0.
+    /// A lexer before the source, with the span 0..0.
     pub fn new(source: &'source str) -> Self
         ensures { result ≡ record { source = source.now; start = 0; end = 0 } }
     {
@@ -38,7 +38,7 @@ impl<'source> FuncNameLexer<'source> {
         }
     }
 
-    /// Where the last item stands, in bytes of the source; behind the last one the empty span at
+    /// Where the last item stands, in bytes of the source; after the last one the empty span at
     /// the end.
     pub fn span(&self) -> Span
         ensures span { result ≡ span self.now.start self.now.end }
@@ -61,7 +61,7 @@ impl<'source> FuncNameLexer<'source> {
         &self.source[self.start..self.end]
     }
 
-    /// The source behind the last item.
+    /// The source after the last item.
     pub fn remainder(&self) -> &'source str
         ensures { result.now ≡ remainder_of self.now }
     {

@@ -7,13 +7,13 @@ use crate::machine::escape::{EscapeState, EscapeStep, escape_step};
 /// Where a char has been read to.
 #[derive(Clone, Copy)]
 pub enum CharState {
-    /// In front of it.
+    /// Before it.
     Start,
-    /// Behind the first quote.
+    /// After the first quote.
     Open,
-    /// Behind the scalar or the escape.
+    /// After the scalar or the escape.
     Filled,
-    /// Behind the last quote.
+    /// After the last quote.
     Close,
     /// Within the escape.
     Escape(EscapeState),

@@ -1,4 +1,4 @@
-//! The machine of escapes, behind their backslash, and what the short ones stand for.
+//! The machine of escapes, after their backslash, and what the short ones stand for.
 ghost use Rattle.std.specs.Prelude.{◌≡◌};
 ghost use Rattle.wave_lex.specs.Strings.{short_escape};
 ghost use Rattle.wave_lex.specs.Shared.Machines.{escape_step};
@@ -6,23 +6,23 @@ ghost use Rattle.wave_lex.specs.Shared.Machines.{escape_step};
 /// Where an escape has been read to.
 #[derive(Clone, Copy)]
 pub enum EscapeState {
-    /// Behind the backslash.
+    /// After the backslash.
     Backslash,
-    /// Behind the `u`.
+    /// After the `u`.
     U,
-    /// Behind the brace.
+    /// After the brace.
     Hex0,
-    /// Behind one digit.
+    /// After one digit.
     Hex1,
-    /// Behind two digits.
+    /// After two digits.
     Hex2,
-    /// Behind three digits.
+    /// After three digits.
     Hex3,
-    /// Behind four digits.
+    /// After four digits.
     Hex4,
-    /// Behind five digits.
+    /// After five digits.
     Hex5,
-    /// Behind six digits.
+    /// After six digits.
     Hex6,
 }
 

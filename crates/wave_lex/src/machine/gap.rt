@@ -3,12 +3,12 @@ ghost use Rattle.wave_lex.specs.Shared.Machines.{gap_step, gap_rest};
 
 use crate::machine::Machine;
 
-/// Where a gap has been read to.
+/// Where whitespace has been read to.
 #[derive(Clone, Copy)]
 pub enum GapState {
-    /// Behind blanks and whole comments.
+    /// After blanks and whole comments.
     Start,
-    /// Behind the first slash of a comment.
+    /// After the first slash of a comment.
     Slash,
     /// Within a comment.
     Comment,

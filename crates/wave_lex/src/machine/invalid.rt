@@ -6,23 +6,23 @@ use crate::machine::Machine;
 /// Where an invalid token has been read to.
 #[derive(Clone, Copy)]
 pub enum InvalidState {
-    /// In front of it.
+    /// Before it.
     Start,
-    /// Behind a single quote.
+    /// After a single quote.
     Quote0,
-    /// Behind one scalar more.
+    /// After one scalar more.
     Quote1,
-    /// Behind two scalars more.
+    /// After two scalars more.
     Quote2,
-    /// Behind three scalars more.
+    /// After three scalars more.
     Quote3,
-    /// Behind four scalars more.
+    /// After four scalars more.
     Quote4,
-    /// Behind one double quote.
+    /// After one double quote.
     Double1,
-    /// Behind two double quotes.
+    /// After two double quotes.
     Double2,
-    /// Behind it.
+    /// After it.
     Close,
 }
 

@@ -8,15 +8,15 @@ use crate::machine::Machine;
 /// Where a label has been read to.
 #[derive(Clone, Copy)]
 pub enum LabelState {
-    /// In front of it.
+    /// Before it.
     Start,
-    /// Behind a lower-case letter of a word, or a digit behind one.
+    /// After a lower-case letter of a word, or a digit after one.
     Lower,
-    /// Behind an upper-case letter of a word, or a digit behind one.
+    /// After an upper-case letter of a word, or a digit after one.
     Upper,
-    /// Behind a hyphen.
+    /// After a hyphen.
     Hyphen,
-    /// Behind digits with which a word begins.
+    /// After digits with which a word begins.
     Digits,
 }
 
@@ -56,7 +56,7 @@ impl Machine for LabelState {
 /// Where a token of the class of labels has been read to.
 #[derive(Clone, Copy)]
 pub enum LabelTokenState {
-    /// In front of it.
+    /// Before it.
     Start,
     /// Within the label.
     Label(LabelState),

@@ -10,11 +10,11 @@ use crate::machine::label::{LabelState, label_step};
 pub enum Section {
     /// The first of all.
     First,
-    /// That behind `:`.
+    /// That after `:`.
     Namespace,
-    /// That behind `/`.
+    /// That after `/`.
     Function,
-    /// That behind `.`.
+    /// That after `.`.
     Member,
 }
 
@@ -32,9 +32,9 @@ pub enum Component {
 /// Where a number of the version has been read to.
 #[derive(Clone, Copy)]
 pub enum Number {
-    /// In front of it.
+    /// Before it.
     Start,
-    /// Behind a first zero.
+    /// After a first zero.
     Zero,
     /// Within it.
     Whole,

@@ -6,27 +6,27 @@ use crate::machine::Machine;
 /// Where a number has been read to.
 #[derive(Clone, Copy)]
 pub enum NumberState {
-    /// In front of it.
+    /// Before it.
     Start,
-    /// Behind the sign.
+    /// After the sign.
     Minus,
-    /// Behind `-i`.
+    /// After `-i`.
     MinusI,
-    /// Behind `-in`.
+    /// After `-in`.
     MinusIn,
-    /// Behind `-inf`.
+    /// After `-inf`.
     MinusInf,
-    /// Behind a first zero.
+    /// After a first zero.
     Zero,
     /// Within the whole part.
     Whole,
-    /// Behind the point.
+    /// After the point.
     Point,
     /// Within the fraction.
     Fraction,
-    /// Behind the `e`.
+    /// After the `e`.
     Exponent,
-    /// Behind the sign of the exponent.
+    /// After the sign of the exponent.
     Sign,
     /// Within the exponent.
     Power,

@@ -7,11 +7,11 @@ use crate::machine::escape::{EscapeState, EscapeStep, escape_step};
 /// Where a string has been read to.
 #[derive(Clone, Copy)]
 pub enum StringState {
-    /// In front of it.
+    /// Before it.
     Start,
     /// Within the text.
     Inside,
-    /// Behind the last quote.
+    /// After the last quote.
     Close,
     /// Within an escape.
     Escape(EscapeState),

@@ -181,7 +181,7 @@ fn write_case<W: fmt::Write>(f: &mut fmt::Formatter<W>, node: &Node, src: &str) 
     f.write_str(")")
 }
 
-/// Writes the name of a case, behind a `%` where it is a keyword.
+/// Writes the name of a case, after a `%` where it is a keyword.
 fn write_label<W: fmt::Write>(f: &mut fmt::Formatter<W>, name: &str) -> fmt::Result
     ensures { WritesOnOk W.write_str_gives f.old result (case_label name.now) f.new }
 {

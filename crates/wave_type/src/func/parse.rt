@@ -45,7 +45,7 @@ impl FuncType {
 /// Names and types, as they stand in the text.
 type Parts<'text> = Vec<(&'text str, Type)>;
 
-/// Takes the type of a function, behind which nothing stands.
+/// Takes the type of a function, after which nothing stands.
 #[tactic(auto, using(crate::proofs::FunctionsRead::function_sound, crate::proofs::FunctionsRead::function_none, crate::proofs::FunctionsRead::function_left))]
 fn whole_function(
     alloc: Global,

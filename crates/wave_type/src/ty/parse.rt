@@ -18,7 +18,7 @@ pub(crate) const MAX_LEVELS: usize = 100;
 
 impl Type {
     /// The type that the text spells, in the form in which types are displayed: as in WIT, with
-    /// blanks, line ends and `//` comments between the tokens, perhaps a comma behind the last part,
+    /// blanks, line ends and `//` comments between the tokens, perhaps a comma after the last part,
     /// and perhaps a `%` before a name. At most a hundred types may stand one inside another.
     pub fn parse(alloc: Global, text: &str) -> Result<Type, TypeError>
         ensures spelled { IfOk result (λ ty. IsTypeOf text.now ty) }
@@ -39,7 +39,7 @@ impl Type {
     }
 }
 
-/// Takes a type within so many levels, behind which nothing stands.
+/// Takes a type within so many levels, after which nothing stands.
 #[tactic(auto, using(crate::proofs::WholeTypes::whole_sound, crate::proofs::WholeTypes::whole_refused, crate::proofs::WholeTypes::whole_left))]
 fn whole_type(
     alloc: Global,
@@ -58,7 +58,7 @@ fn whole_type(
     Ok(ty)
 }
 
-/// Where the token stands that has so many behind it, with it; the end of the text where there is
+/// Where the token stands that has so many after it, with it; the end of the text where there is
 /// none.
 pub(crate) fn place(text: &str, tokens: &Vec<Token<'_>>, left: usize) -> Span
     requires { AreWithin text.now tokens.now.items }

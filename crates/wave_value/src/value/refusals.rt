@@ -1,4 +1,4 @@
-//! Refusals of the makers: their texts, or want of memory where a text can't be made.
+//! Refusals of the constructors: their texts, or out of memory where a text can't be made.
 ghost use Rattle.wave_value.specs.Private.ConstructorRules.{SaysKind, SaysType};
 ghost use Rattle.wave_value.specs.Private.RecordConstructor.{SaysName};
 

@@ -18,7 +18,7 @@ use wave_wasm::wasm::WasmTypeKind;
 
 #[tactic(auto, using(crate::proofs::ValueLists::value_families))]
 impl Value {
-    /// The items. It asks for a list. The only error is want of memory.
+    /// The items. It asks for a list. The only error is out of memory.
     pub fn unwrap_list(&self, alloc: Global) -> Result<Vec<&Value>, AllocError>
         requires { IsOfListKind (kind_of self.now.tree) }
         ensures trees { IfOk result (λ v. shown_all (λ w. w.tree) v.items ≡ list_items self.now.tree) }
@@ -30,7 +30,7 @@ impl Value {
         }
     }
 
-    /// The items. It asks for a tuple. The only error is want of memory.
+    /// The items. It asks for a tuple. The only error is out of memory.
     pub fn unwrap_tuple(&self, alloc: Global) -> Result<Vec<&Value>, AllocError>
         requires { kind_of self.now.tree ≡ WasmTypeKind.Tuple }
         ensures trees { IfOk result (λ v. shown_all (λ w. w.tree) v.items ≡ tuple_items self.now.tree) }
@@ -43,7 +43,7 @@ impl Value {
     }
 
     /// The names and values of the fields in the type's order. It asks for a record. The only error
-    /// is want of memory.
+    /// is out of memory.
     pub fn unwrap_record(&self, alloc: Global) -> Result<Vec<(&str, &Value)>, AllocError>
         requires { kind_of self.now.tree ≡ WasmTypeKind.Record }
         ensures trees { IfOk result (λ v. shown_fields (λ w. w.tree) v.items ≡ record_fields self.now.tree) }
@@ -55,7 +55,7 @@ impl Value {
         }
     }
 
-    /// The entries in their order. It asks for a map. The only error is want of memory.
+    /// The entries in their order. It asks for a map. The only error is out of memory.
     pub fn unwrap_map(&self, alloc: Global) -> Result<Vec<(&Value, &Value)>, AllocError>
         requires { kind_of self.now.tree ≡ WasmTypeKind.Map }
         ensures trees { IfOk result

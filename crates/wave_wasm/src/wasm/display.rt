@@ -230,7 +230,7 @@ fn push_results<T: WasmType>(
     push_typed_names(alloc, names, types, text)
 }
 
-/// Adds the types in parentheses, each behind its name where it has one.
+/// Adds the types in parentheses, each after its name where it has one.
 fn push_typed_names<T: WasmType>(
     alloc: Global,
     names: &Vec<&str>,
@@ -475,7 +475,7 @@ fn push_payload<T: WasmType>(
     }
 }
 
-/// Adds names in braces, behind the word of their kind.
+/// Adds names in braces, after the word of their kind.
 fn push_names(word: &str, names: &Vec<&str>, text: &mut String) -> Result<(), AllocError>
     ensures { OnOk result
         (string_bytes text.new ≡ string_bytes text.old ++ braced word.now (texts names.now.items)) }
