@@ -226,7 +226,8 @@ impl<A: IntoValue, B: IntoValue, C: IntoValue, D: IntoValue, E: IntoValue, F: In
 
     ghost tree = { λ parts. tuple_value (A.tree parts.0 ∷ B.tree parts.1 ∷ C.tree parts.2 ∷ D.tree parts.3 ∷ E.tree parts.4 ∷ F.tree parts.5 ∷ []) };
 
-    ghost is_own = { tuple_is_own A.own (B.own ∷ C.own ∷ D.own ∷ E.own ∷ F.own ∷ []) (A.is_own, (B.is_own, (C.is_own, (D.is_own, (E.is_own, (F.is_own, tt)))))) };
+    ghost is_own = { tuple_is_own A.own (B.own ∷ C.own ∷ D.own ∷ E.own ∷ F.own ∷ [])
+        (A.is_own, (B.is_own, (C.is_own, (D.is_own, (E.is_own, (F.is_own, tt)))))) };
 
     fn value_type(alloc: Global) -> Result<Type, AllocError> {
         type_of::<A, (B, (C, (D, (E, (F, ())))))>(alloc)

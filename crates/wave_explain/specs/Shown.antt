@@ -1,5 +1,6 @@
 -- How the line of a refusal is shown, and what is marked in it.
-use Rattle.std.specs.Prelude.{ℕ, zero, suc, ◌≡◌, ◌≤◌, ◌⊎◌, ◌-◌, ◌==◌, max, false, if◌then◌else◌, List, [], ◌∷◌, ◌++◌, map, length, take, drop, replicate, chars, codes, encode_utf8, encode_utf8_all}
+use Rattle.std.specs.Prelude.{ℕ, zero, suc, ◌≡◌, ◌≤◌, ◌⊎◌, ◌-◌, ◌==◌, max, false, if◌then◌else◌}
+use Rattle.std.specs.Prelude.{List, [], ◌∷◌, ◌++◌, map, length, take, drop, replicate, chars, codes, encode_utf8, encode_utf8_all}
 use Rattle.std.specs.Str.{IsCharBoundary}
 use Rattle.std.specs.Char.{is_control}
 use Rattle.unicode_width.specs.Width.{str_width}

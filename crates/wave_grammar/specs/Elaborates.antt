@@ -70,7 +70,8 @@ MapTree key Inner t v =
 -- a label and its payload
 abbrev pub VariantTree : (List ℕ → Meaning MaybeTree MaybeValue) → Meaning Tree Value
 VariantTree Inner t v =
-    (text : List ℕ) × (inner : MaybeTree) × (payload : MaybeValue) × (t ≡ tree.label text inner) × Inner (name_of text) inner payload × (v ≡ value.variant (name_of text) payload)
+    (text : List ℕ) × (inner : MaybeTree) × (payload : MaybeValue)
+    × (t ≡ tree.label text inner) × Inner (name_of text) inner payload × (v ≡ value.variant (name_of text) payload)
 
 -- a label without payload
 abbrev pub EnumTree : List (List ℕ) → Meaning Tree Value

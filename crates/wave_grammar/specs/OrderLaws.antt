@@ -36,7 +36,8 @@ pub record HaveSameFields (fields others : Labelled) : Type 0 where
 -- texts of the same fields within n levels, in any order and with `%` or without, mean the same at a record type
 abbrev pub FieldsInAnyOrder : Type 0
 FieldsInAnyOrder =
-    (n : ℕ) (s d : List ℕ) (fields others : Labelled) → SpellsText n s (entries (tree_entries (label_entries fields))) → SpellsText n d (entries (tree_entries (label_entries others))) → HaveSameFields fields others →
+    (n : ℕ) (s d : List ℕ) (fields others : Labelled) → SpellsText n s (entries (tree_entries (label_entries fields))) →
+    SpellsText n d (entries (tree_entries (label_entries others))) → HaveSameFields fields others →
     (fs : Fields) (v : Value) → Means (type.record_type fs) n s v ↔ Means (type.record_type fs) n d v
 
 -- each name of the labels is one of the others

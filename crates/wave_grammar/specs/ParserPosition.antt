@@ -2,9 +2,11 @@
 use Rattle.std.specs.Prelude.{ℕ, ◌≡◌, ◌+◌, List, [], ◌∷◌, Option, Some, None, Result, Ok, slice_range}
 use Rattle.std.specs.declared.ops.Range.{Range}
 use Rattle.wave_lex.specs.declared.lex.Token as lex
-use Rattle.wave_lex.specs.declared.lex.Token.TheVariants.{BraceOpen, BraceClose, ParenOpen, ParenClose, BracketOpen, BracketClose, Colon, Comma, Number, LabelOrKeyword, Char, String, MultilineString}
+use Rattle.wave_lex.specs.declared.lex.Token.TheVariants.{BraceOpen, BraceClose, ParenOpen, ParenClose, BracketOpen, BracketClose}
+use Rattle.wave_lex.specs.declared.lex.Token.TheVariants.{Colon, Comma, Number, LabelOrKeyword, Char, String, MultilineString}
 use Rattle.wave_lex.specs.Tokenization.{Lexed, NextIs, span}
-use Rattle.wave_grammar.specs.Token.{Token, brace_open, brace_close, paren_open, paren_close, bracket_open, bracket_close, colon, comma, number, label, char, string, multiline}
+use Rattle.wave_grammar.specs.Token.{Token, brace_open, brace_close, paren_open, paren_close, bracket_open, bracket_close}
+use Rattle.wave_grammar.specs.Token.{colon, comma, number, label, char, string, multiline}
 
 -- the token of this class and this text
 abbrev pub token_of : lex.Token → List ℕ → Token

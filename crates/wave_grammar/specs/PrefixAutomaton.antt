@@ -9,7 +9,8 @@
 -- form.
 use Rattle.std.specs.Prelude.{ℕ, ◌≡◌, Bool, true, false, if◌then◌else◌, nat_lt, List, [], ◌∷◌, ◌++◌, length}
 use Rattle.wave_wasm.specs.Names.{is_one_of}
-use Rattle.wave_grammar.specs.Token.{Token, brace_open, brace_close, paren_open, paren_close, bracket_open, bracket_close, colon, comma, number, label, char, string, multiline}
+use Rattle.wave_grammar.specs.Token.{Token, brace_open, brace_close, paren_open, paren_close, bracket_open, bracket_close}
+use Rattle.wave_grammar.specs.Token.{colon, comma, number, label, char, string, multiline}
 use Rattle.wave_grammar.specs.LeafTokens.{name_of}
 use Rattle.wave_grammar.specs.Tree.{Word, word_of, leaf_word, none_word, some_word, ok_word, err_word, case_word}
 

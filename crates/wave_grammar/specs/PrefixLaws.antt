@@ -5,7 +5,8 @@ use Rattle.wave_grammar.specs.Token.{Token, brace_open, paren_open, paren_close,
 use Rattle.wave_grammar.specs.LeafTokens.{name_of}
 use Rattle.wave_grammar.specs.Tree.{Tree, Takes}
 use Rattle.wave_grammar.specs.LenientTree.{TakesLoosely}
-use Rattle.wave_grammar.specs.PrefixAutomaton.{Due, Form, value, behind_value, behind_label, reads, unexpected, empty_tuple, repeated_flag, too_deep, step, Leads, IsValueDue}
+use Rattle.wave_grammar.specs.PrefixAutomaton.{Due, Form, value, behind_value, behind_label}
+use Rattle.wave_grammar.specs.PrefixAutomaton.{reads, unexpected, empty_tuple, repeated_flag, too_deep, step, Leads, IsValueDue}
 
 -- no more is due of a value before these tokens: where a payload may follow, no `(` does
 abbrev pub EndsBefore : Due → List Token → Type 0
@@ -61,7 +62,8 @@ EmptyTuplesAreEmpty =
 abbrev pub RepeatedFlagsAreRepeated : Type 0
 RepeatedFlagsAreRepeated =
     (n : ℕ) (front : List Token) (d : Due) (s : List Form) (t : Token) → Leads n value [] front d s → step n d s t ≡ repeated_flag →
-    (before : List Token) × (texts : List (List ℕ)) × (text : List ℕ) × (front ≡ before ++ brace_open ∷ flags_before texts) × (t ≡ label text) × IsOneOf (map name_of texts) (name_of text)
+    (before : List Token) × (texts : List (List ℕ)) × (text : List ℕ)
+    × (front ≡ before ++ brace_open ∷ flags_before texts) × (t ≡ label text) × IsOneOf (map name_of texts) (name_of text)
 
 -- a value is too deep where it is due and n forms are open
 abbrev pub DeepValuesAreDeep : Type 0

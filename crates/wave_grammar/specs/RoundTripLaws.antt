@@ -36,4 +36,5 @@ ReadsMerged T = (n : ℕ) (tokens rest : List Token) (v : Value) → Reads T n t
 
 -- what the tokens of a text spell within n levels reads back, from a canonical text of at most twice as many
 abbrev pub ReadsBackWithinTwice : TypeTree → Type 0
-ReadsBackWithinTwice T = (n : ℕ) (tokens : List Token) (v : Value) → AreOfText tokens → Reads T n tokens v [] → (back : ReadBack T v) × (levels back.tree ≤ 2 * n)
+ReadsBackWithinTwice T =
+    (n : ℕ) (tokens : List Token) (v : Value) → AreOfText tokens → Reads T n tokens v [] → (back : ReadBack T v) × (levels back.tree ≤ 2 * n)

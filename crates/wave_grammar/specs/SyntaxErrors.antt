@@ -3,13 +3,15 @@ use Rattle.std.specs.Prelude.{ℕ, ◌≡◌, ◌≢◌, ◌⊎◌, ◌≤◌, �
 use Rattle.std.specs.declared.ops.Range.{Range}
 use Rattle.wave_lex.specs.declared.lex.Token as lex
 use Rattle.wave_lex.specs.declared.error.ParserErrorKind.{ParserErrorKind}
-use Rattle.wave_lex.specs.declared.error.ParserErrorKind.TheVariants.{EmptyTuple, InvalidToken, UnexpectedEnd, UnexpectedToken, DuplicateFlag, NestingTooDeep, OutOfMemory}
+use Rattle.wave_lex.specs.declared.error.ParserErrorKind.TheVariants.{EmptyTuple, InvalidToken, UnexpectedEnd}
+use Rattle.wave_lex.specs.declared.error.ParserErrorKind.TheVariants.{UnexpectedToken, DuplicateFlag, NestingTooDeep, OutOfMemory}
 use Rattle.wave_lex.specs.Errors.{Diagnostic, class_name, repeated_name, Says}
 use Rattle.wave_lex.specs.Tokenization.{span}
 use Rattle.wave_grammar.specs.Token.{Token, paren_open}
 use Rattle.wave_grammar.specs.LeafTokens.{name_of}
 use Rattle.wave_grammar.specs.ParserPosition.{Place, TakesItem, TakesToken, TakesTokens, token_of, span_at, text_at}
-use Rattle.wave_grammar.specs.PrefixAutomaton.{Due, Form, behind_value, behind_label, Step, unexpected, empty_tuple, repeated_flag, too_deep, step, Leads, IsValueDue}
+use Rattle.wave_grammar.specs.PrefixAutomaton.{Due, Form, behind_value, behind_label}
+use Rattle.wave_grammar.specs.PrefixAutomaton.{Step, unexpected, empty_tuple, repeated_flag, too_deep, step, Leads, IsValueDue}
 
 -- a value is due where n forms are open, and not its form's close stands there
 pub record IsTooDeep (n : ℕ) (d : Due) (open_forms : List Form) (at : Place) : Type 0 where

@@ -1,11 +1,13 @@
 -- The tree of a text that is read without a type.
-use Rattle.std.specs.Prelude.{ℕ, zero, suc, ◌+◌, ◌<◌, ◌≡◌, ◌≢◌, ◌⊎◌, ◌++◌, max, Bool, true, false, if◌then◌else◌, List, [], ◌∷◌, map, length, codes, nat_lt, ◌||◌}
+use Rattle.std.specs.Prelude.{ℕ, zero, suc, ◌+◌, ◌<◌, ◌≡◌, ◌≢◌, ◌⊎◌, ◌++◌, max}
+use Rattle.std.specs.Prelude.{Bool, true, false, if◌then◌else◌, List, [], ◌∷◌, map, length, codes, nat_lt, ◌||◌}
 use Rattle.std.specs.Str.{bytes_eq}
 use Rattle.wave_wasm.specs.Names.{AreDistinct, is_one_of}
 use Rattle.wave_wasm.specs.Keywords.{case_label}
 use Rattle.wave_wasm.specs.Commas as commas
 use Rattle.wave_wasm.specs.Commas.{behind_name, in_parens, in_brackets, in_braces}
-use Rattle.wave_grammar.specs.Token.{Token, brace_open, brace_close, paren_open, paren_close, bracket_open, bracket_close, colon, comma, number, char, string, multiline, text_of}
+use Rattle.wave_grammar.specs.Token.{Token, brace_open, brace_close, paren_open, paren_close, bracket_open, bracket_close}
+use Rattle.wave_grammar.specs.Token.{colon, comma, number, char, string, multiline, text_of}
 use Rattle.wave_grammar.specs.Token as token
 use Rattle.wave_grammar.specs.LeafTokens.{name_of}
 use Rattle.wave_grammar.specs.CommaSeparated.{Spelling, Items}
@@ -116,7 +118,8 @@ InBraces Inner tokens t rest =
     (tokens ≡ brace_close ∷ rest) × (t ≡ empty_braces)
     ⊎ (tokens ≡ colon ∷ brace_close ∷ rest) × (t ≡ no_fields)
     ⊎ ((es : List (Token × Tree)) × (0 < length es) × Items brace_close (KeyAnd Inner) tokens es rest × (t ≡ entries (tree_entries es)))
-    ⊎ ((texts : List (List ℕ)) × (0 < length texts) × Items brace_close Label tokens texts rest × AreDistinct (map name_of texts) × (t ≡ flags (in_order texts)))
+    ⊎ ((texts : List (List ℕ)) × (0 < length texts) × Items brace_close Label tokens texts rest
+    × AreDistinct (map name_of texts) × (t ≡ flags (in_order texts)))
 
 -- what stands behind a label
 abbrev pub BehindWord : Word → List ℕ → Spelling Tree → Spelling Tree

@@ -21,7 +21,8 @@ HasItsLevels = (n : ℕ) (tokens rest : List Token) (t : Tree) → Takes n token
 -- tokens spell a value of the type, where no `(` follows, only as a tree to which the type gives the value
 abbrev pub ReadsByTree : TypeTree → Type 0
 ReadsByTree T =
-    (n : ℕ) (tokens rest : List Token) (v : Value) → ((more : List Token) → rest ≢ paren_open ∷ more) → Reads T n tokens v rest → (t : Tree) × Takes n tokens t rest × TreeReads T t v
+    (n : ℕ) (tokens rest : List Token) (v : Value) → ((more : List Token) → rest ≢ paren_open ∷ more) → Reads T n tokens v rest →
+    (t : Tree) × Takes n tokens t rest × TreeReads T t v
 
 -- a tree to which the type gives a value spells that value
 abbrev pub TreeIsRead : TypeTree → Type 0
@@ -30,4 +31,5 @@ TreeIsRead T = (n : ℕ) (tokens rest : List Token) (t : Tree) (v : Value) → T
 -- the parameters that the tokens of some items in parentheses are, are the values that the types in their places give the items' trees
 abbrev pub ParamsAreByTree : Type 0
 ParamsAreByTree =
-    (Ts : List TypeTree) (n : ℕ) (front : List Token) (ts : List Tree) (vs : List Value) → Items paren_close (Takes n) front ts [] → Params Ts (paren_open ∷ front) vs ↔ TreeParams Ts ts vs
+    (Ts : List TypeTree) (n : ℕ) (front : List Token) (ts : List Tree) (vs : List Value) → Items paren_close (Takes n) front ts [] →
+    Params Ts (paren_open ∷ front) vs ↔ TreeParams Ts ts vs

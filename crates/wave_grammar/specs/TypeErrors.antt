@@ -4,7 +4,8 @@ use Rattle.std.specs.declared.ops.Range.{Range}
 use Rattle.wave_wasm.specs.Lists.{SomeOf}
 use Rattle.wave_wasm.specs.Names.{IsOneOf, IsNoneOf}
 use Rattle.wave_wasm.specs.Types as type
-use Rattle.wave_wasm.specs.Types.{TypeTree, MaybeType, Types, Fields, Cases, Simple, no_type, a_type, no_types, type_and, field, no_cases, case_of, field_names, count_of}
+use Rattle.wave_wasm.specs.Types.{TypeTree, MaybeType, Types, Fields, Cases, Simple}
+use Rattle.wave_wasm.specs.Types.{no_type, a_type, no_types, type_and, field, no_cases, case_of, field_names, count_of}
 use Rattle.wave_wasm.specs.Values.{Leaf}
 use Rattle.wave_wasm.specs.Text.{bool_text}
 use Rattle.wave_wasm.specs.TypeText.{kind_word}
@@ -19,7 +20,8 @@ use Rattle.wave_grammar.specs.Token.{Token}
 use Rattle.wave_grammar.specs.Token as token
 use Rattle.wave_grammar.specs.LeafTokens.{Spells, name_of}
 use Rattle.wave_grammar.specs.TypedGrammar.{IsFlat, IsOption}
-use Rattle.wave_grammar.specs.SpannedTree.{Placed, Shape, one, tuple, list, empty_braces, no_fields, entries, flags, label, none, some, ok, err, MaybePlaced, no_placed, a_placed, PlacedEntry, span_of, shape_of, placed_list, entry_list}
+use Rattle.wave_grammar.specs.SpannedTree.{Placed, Shape, one, tuple, list, empty_braces, no_fields, entries, flags, label, none, some, ok, err}
+use Rattle.wave_grammar.specs.SpannedTree.{MaybePlaced, no_placed, a_placed, PlacedEntry, span_of, shape_of, placed_list, entry_list}
 
 -- which refusals a fault gives, and at which span
 abbrev pub Blame : Type 1
@@ -180,20 +182,30 @@ abbrev mutual
   Fault (type.list E) t k q = OfForm (list_in (shape_of t)) (span_of t) (λ items k q. SomeOf (λ item. Fault E item k q) items) k q
   Fault (type.fixed E n) t k q =
       OfForm (list_in (shape_of t)) (span_of t)
-      (λ items k q. (length items ≢ n) × RefusesFor (wrong_length n (length items)) (span_of t) k q ⊎ (length items ≡ n) × SomeOf (λ item. Fault E item k q) items) k q
+      (λ items k q.
+      (length items ≢ n) × RefusesFor (wrong_length n (length items)) (span_of t) k q
+      ⊎ (length items ≡ n) × SomeOf (λ item. Fault E item k q) items) k q
   Fault (type.record_type fs) t k q =
       OfForm (record_in (shape_of t)) (span_of t)
-      (λ es k q. KeyFault es k q ⊎ UnknownField (field_names fs) es (span_of t) k q ⊎ RepeatedField [] es k q ⊎ MissingField fs es (span_of t) k q ⊎ FaultOfField fs es k q) k q
+      (λ es k q.
+      KeyFault es k q ⊎ UnknownField (field_names fs) es (span_of t) k q ⊎ RepeatedField [] es k q
+      ⊎ MissingField fs es (span_of t) k q ⊎ FaultOfField fs es k q) k q
   Fault (type.tuple Ts) t k q =
       OfForm (tuple_in (shape_of t)) (span_of t)
       (λ items k q. (length items ≢ count_of Ts) × RefusesFor (wrong_number (count_of Ts) (length items)) (span_of t) k q ⊎ FaultOfItem Ts items k q) k q
   Fault (type.variant cs) t k q = OfForm (label_in (shape_of t)) (span_of t) (λ l k q. FaultOfCase cs (name_of l.0) l.1 (span_of t) k q) k q
   Fault (type.enum names) t k q =
       OfForm (label_in (shape_of t)) (span_of t)
-      (λ l k q. (l.1 ≢ no_placed) × IsRefusalOf InvalidType (span_of t) k q ⊎ (l.1 ≡ no_placed) × IsNoneOf names (name_of l.0) × RefusesFor (unknown_case (name_of l.0)) (span_of t) k q) k q
-  Fault (type.option P) t k q = OfOption (shape_of t) (Fault P) ((λ k q. (IsFlat P → ⊥) × IsRefusalOf InvalidType (span_of t) k q ⊎ IsFlat P × Fault P t k q)) k q
+      (λ l k q.
+      (l.1 ≢ no_placed) × IsRefusalOf InvalidType (span_of t) k q
+      ⊎ (l.1 ≡ no_placed) × IsNoneOf names (name_of l.0) × RefusesFor (unknown_case (name_of l.0)) (span_of t) k q) k q
+  Fault (type.option P) t k q =
+      OfOption (shape_of t) (Fault P)
+      ((λ k q. (IsFlat P → ⊥) × IsRefusalOf InvalidType (span_of t) k q ⊎ IsFlat P × Fault P t k q)) k q
   Fault (type.result A B) t k q =
-      OfResult (shape_of t) (λ payload. FaultOfPayload (codes "ok") A payload (span_of t)) (λ payload. FaultOfPayload (codes "err") B payload (span_of t)) (FaultOfFlat A t) k q
+      OfResult (shape_of t)
+      (λ payload. FaultOfPayload (codes "ok") A payload (span_of t)) (λ payload. FaultOfPayload (codes "err") B payload (span_of t))
+      (FaultOfFlat A t) k q
   Fault (type.flags names) t k q =
       OfForm (flags_in (shape_of t)) (span_of t)
       (λ fs k q. SomeOf (λ f. IsNoneOf names (name_of f.1) × RefusesFor (unknown_case (name_of f.1)) (span_of t) k q) fs) k q
@@ -225,4 +237,6 @@ abbrev mutual
   -- a case that the variant hasn't, or a fault of the payload of the first case of this name
   pub FaultOfCase : Cases → List ℕ → MaybePlaced → Range ℕ → Blame
   FaultOfCase no_cases name payload p k q = RefusesFor (unknown_case name) p k q
-  FaultOfCase (case_of other T more) name payload p k q = (name ≡ other) × FaultOfPayload name T payload p k q ⊎ (name ≢ other) × FaultOfCase more name payload p k q
+  FaultOfCase (case_of other T more) name payload p k q =
+      (name ≡ other) × FaultOfPayload name T payload p k q
+      ⊎ (name ≢ other) × FaultOfCase more name payload p k q

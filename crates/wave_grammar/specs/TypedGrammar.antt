@@ -85,7 +85,8 @@ AFixedList count Inner tokens v rest =
 
 -- `(` and the values of a tuple, which come with their close
 abbrev pub ATuple : Spelling (List Value) → Spelling Value
-ATuple Inner tokens v rest = (items : List Value) × (front : List Token) × (tokens ≡ paren_open ∷ front) × Inner front items rest × (v ≡ value.tuple (values items))
+ATuple Inner tokens v rest =
+    (items : List Value) × (front : List Token) × (tokens ≡ paren_open ∷ front) × Inner front items rest × (v ≡ value.tuple (values items))
 
 -- `{` entries `}` with distinct names, or `{:}`; they fill the fields
 abbrev pub ARecord : Fields → (List ℕ → Spelling Value) → Spelling Value
@@ -97,17 +98,21 @@ ARecord fields Inner tokens v rest =
 -- `{` labels `}` with distinct names of the type; the value is those names in the type's order
 abbrev pub Flags : List (List ℕ) → Spelling Value
 Flags names tokens v rest =
-    (found : List (List ℕ)) × Listed brace_open brace_close Name tokens found rest × AreDistinct found × AreAllOf names found × (v ≡ value.flags (found_in found names))
+    (found : List (List ℕ)) × Listed brace_open brace_close Name tokens found rest
+    × AreDistinct found × AreAllOf names found × (v ≡ value.flags (found_in found names))
 
 -- `{}`, `{:}` or `{` entries `}`; the value is their merge
 abbrev pub AMap : Simple → Spelling Value → Spelling Value
 AMap key Inner tokens v rest =
-    (pairs : List (Leaf × Value)) × (EmptyBraces tokens pairs rest ⊎ Listed brace_open brace_close (Keyed key Inner) tokens pairs rest) × (v ≡ value.map (entries (merge leaf_eq pairs)))
+    (pairs : List (Leaf × Value))
+    × (EmptyBraces tokens pairs rest ⊎ Listed brace_open brace_close (Keyed key Inner) tokens pairs rest)
+    × (v ≡ value.map (entries (merge leaf_eq pairs)))
 
 -- a case's name and its payload
 abbrev pub AVariant : (List ℕ → Spelling MaybeValue) → Spelling Value
 AVariant Payload tokens v rest =
-    (name : List ℕ) × (payload : MaybeValue) × (behind : List Token) × CaseName tokens name behind × Payload name behind payload rest × (v ≡ value.variant name payload)
+    (name : List ℕ) × (payload : MaybeValue) × (behind : List Token)
+    × CaseName tokens name behind × Payload name behind payload rest × (v ≡ value.variant name payload)
 
 -- a case's name
 abbrev pub AnEnum : List (List ℕ) → Spelling Value
@@ -174,7 +179,8 @@ abbrev mutual
   Reads (type.variant cases) n = Provided (0 < n) (AVariant (ReadsCase cases (n - 1)))
   Reads (type.enum names) n = Provided (0 < n) (AnEnum names)
   Reads (type.option P) n = Either (Provided (0 < n) (AnOption (Reads P (n - 1)))) (Stands (λ w. value.option (a_value w)) (Provided (IsFlat P) (Reads P n)))
-  Reads (type.result A B) n = Either (Provided (0 < n) (AResult (ReadsPayload A (n - 1)) (ReadsPayload B (n - 1)))) (Stands (λ w. value.ok (a_value w)) (ReadsFlat A n))
+  Reads (type.result A B) n =
+      Either (Provided (0 < n) (AResult (ReadsPayload A (n - 1)) (ReadsPayload B (n - 1)))) (Stands (λ w. value.ok (a_value w)) (ReadsFlat A n))
   Reads (type.flags names) n = Provided (0 < n) (Flags names)
   Reads (type.map K V) n = Provided (0 < n) (AMap K (Reads V (n - 1)))
 

@@ -8,4 +8,5 @@ use Rattle.wave_grammar.specs.TypedGrammar.{Reads}
 -- a spelling that begins a spelling is that spelling, with its value
 abbrev pub OneReading : TypeTree → Type 0
 OneReading T =
-    (n m : ℕ) (tokens others rest : List Token) (v w : Value) → Reads T n tokens v [] → Reads T m others w [] → others ≡ tokens ++ rest → (tokens ≡ others) × (v ≡ w)
+    (n m : ℕ) (tokens others rest : List Token) (v w : Value) → Reads T n tokens v [] → Reads T m others w [] → others ≡ tokens ++ rest →
+    (tokens ≡ others) × (v ≡ w)

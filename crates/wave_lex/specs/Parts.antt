@@ -11,7 +11,8 @@ use Rattle.wave_lex.specs.Tokens.{backslash, line_feed}
 use Rattle.wave_lex.specs.Remaining.{Undecoded, LinesLeft, one_line}
 use Rattle.wave_lex.specs.Tokenization.{span}
 use Rattle.wave_lex.specs.Strings.{IsEscape, UnescapesTo, Decodes, IsBadEscapeAt}
-use Rattle.wave_lex.specs.Multiline.{pieces, spaces, IsIndented, Opens, DecodesLines, LineFault, closing, opening, IsSpaces, closing_piece, OpensWell, MultilineFault, fault_kind, fault_span}
+use Rattle.wave_lex.specs.Multiline.{pieces, spaces, IsIndented, Opens, DecodesLines, LineFault}
+use Rattle.wave_lex.specs.Multiline.{closing, opening, IsSpaces, closing_piece, OpensWell, MultilineFault, fault_kind, fault_span}
 use Rattle.wave_lex.specs.Errors.{Diagnostic, refusal_of, plainly, fault_detail, badly_indented}
 
 -- the text of a part

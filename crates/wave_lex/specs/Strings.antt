@@ -68,7 +68,8 @@ Undecodable s = (t : List ℕ) → Decodes s t → ⊥
 -- the first i bytes decode, and behind them stands a `\` that begins no escape
 abbrev pub IsBadEscapeAt : List ℕ → ℕ → Type 0
 IsBadEscapeAt s i =
-    (front : List ℕ) × (rest : List ℕ) × (t : List ℕ) × (s ≡ front ++ backslash ∷ rest) × Decodes front t × UnescapesTo (backslash ∷ rest) None × (i ≡ length front)
+    (front : List ℕ) × (rest : List ℕ) × (t : List ℕ)
+    × (s ≡ front ++ backslash ∷ rest) × Decodes front t × UnescapesTo (backslash ∷ rest) None × (i ≡ length front)
 
 -- what stands between the quotes of a char token
 abbrev pub IsInCharQuotes : List ℕ → List ℕ → Type 0

@@ -4,7 +4,9 @@ ghost use Rattle.wave_lex.specs.Tokenization.{Stands};
 ghost use Rattle.wave_syntax.specs.NodeTree.{node, node_trees, type_of, place_of, children_of};
 ghost use Rattle.wave_syntax.specs.Nodes.{IsParsedFrom};
 ghost use Rattle.wave_syntax.specs.NodeStrings.{GivesString};
-ghost use Rattle.wave_syntax.specs.NodeAccessors.{node_text, quotes_of, IsInside, RefusedAs, GivesBool, GivesNumber, GivesChar, GivesParts, GivesNodes, GivesOption, GivesResult, GivesLabel, GivesVariant, GivesEntries, node_pairs};
+ghost use Rattle.wave_syntax.specs.NodeAccessors.{node_text, quotes_of, IsInside, RefusedAs};
+ghost use Rattle.wave_syntax.specs.NodeAccessors.{GivesBool, GivesNumber, GivesChar, GivesParts, GivesNodes, GivesOption};
+ghost use Rattle.wave_syntax.specs.NodeAccessors.{GivesResult, GivesLabel, GivesVariant, GivesEntries, node_pairs};
 ghost use Rattle.wave_syntax.specs.Shared.NodeAccessors.{OfType};
 
 pub use crate::flags::FlagLabels;

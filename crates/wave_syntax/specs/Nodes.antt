@@ -4,7 +4,8 @@ use Rattle.std.specs.declared.ops.Range.{Range}
 use Rattle.wave_wasm.specs.Names.{is_one_of}
 use Rattle.wave_grammar.specs.Token.{Token}
 use Rattle.wave_grammar.specs.Token as token
-use Rattle.wave_grammar.specs.SpannedTree.{Placed, at, Shape, one, tuple, list, empty_braces, no_fields, entries, flags, label, none, some, ok, err, no_placed, a_placed, PlacedEntries, no_entries, entry, placed_trees, slice, HoldsTokens, SpellsEach}
+use Rattle.wave_grammar.specs.SpannedTree.{Placed, at, Shape, one, tuple, list, empty_braces, no_fields, entries, flags, label, none, some, ok, err}
+use Rattle.wave_grammar.specs.SpannedTree.{no_placed, a_placed, PlacedEntries, no_entries, entry, placed_trees, slice, HoldsTokens, SpellsEach}
 use Rattle.wave_syntax.specs.NodeTree.{NodeTree, NodeTrees, node, no_nodes, node_and}
 use Rattle.wave_syntax.specs.declared.form.NodeType.{NodeType}
 use Rattle.wave_syntax.specs.declared.form.NodeType.TheVariants as kind

@@ -37,7 +37,9 @@ same_by_path f g e = subst (λ h. same_function f h ≡ true) e (function_itself
 
 pub same_per : IsPartialEquivalence same_function
 same_per = record {
-  symm = λ f g. both_ways (same_function f g) (same_function g f) (λ e. same_by_path g f (sym (one_function f g e))) (λ e. same_by_path f g (sym (one_function g f e)));
+  symm = λ f g.
+      both_ways (same_function f g) (same_function g f)
+      (λ e. same_by_path g f (sym (one_function f g e))) (λ e. same_by_path f g (sym (one_function g f e)));
   trans = λ f g h p q. same_by_path f h (one_function f g p ∙ one_function g h q);
 }
 

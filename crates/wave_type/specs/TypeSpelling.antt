@@ -2,7 +2,10 @@
 use Rattle.std.specs.Prelude.{ℕ, suc, max, ◌≡◌, ◌≢◌, ◌<◌, ◌+◌, ◌^◌, ◌⊎◌, List, [], ◌∷◌, ◌++◌, length, take, drop, codes}
 use Rattle.std.specs.Fmt.{decimal}
 use Rattle.wave_wasm.specs.Names.{AreDistinct}
-use Rattle.wave_wasm.specs.Types.{TypeTree, simple, unreadable, list, fixed, record_type, tuple, variant, enum, option, result, flags, map, f32, f64, unsupported, MaybeType, no_type, a_type, Types, no_types, type_and, Fields, no_fields, field, Cases, no_cases, case_of, simple_kind, field_names, case_names}
+use Rattle.wave_wasm.specs.Types.{TypeTree, simple, unreadable, list, fixed, record_type, tuple, variant, enum, option, result, flags, map}
+use Rattle.wave_wasm.specs.Types.{f32, f64, unsupported}
+use Rattle.wave_wasm.specs.Types.{MaybeType, no_type, a_type, Types, no_types, type_and, Fields, no_fields, field, Cases, no_cases, case_of}
+use Rattle.wave_wasm.specs.Types.{simple_kind, field_names, case_names}
 use Rattle.wave_wasm.specs.TypeText.{kind_word}
 use Rattle.wave_lex.specs.declared.lex.Token.{Token}
 use Rattle.wave_type.specs.declared.error.TypeErrorKind.{TypeErrorKind}

@@ -3,7 +3,10 @@ ghost use Rattle.std.specs.Prelude.{ℕ, List, [], ◌∷◌, ◌++◌, ◌≡�
 ghost use Rattle.wave_wasm.specs.declared.wasm.WasmTypeKind.TheVariants as kinds;
 ghost use Rattle.wave_wasm.specs.Borrowed.{texts, named};
 ghost use Rattle.wave_type.specs.Private.TypeTokens.{Answers, texts_of};
-ghost use Rattle.wave_type.specs.Private.TypeReading.{first_of, second_is, key_of_word, after, closed, kind_of_word, kind_at, name_of_token, name_at, HasNames, new_name, without_percent, count_of_token, count_at, key_at, names_read, types_read, fields_read, cases_read, payload_read, list_read, fixed_read, option_read, map_read, result_read, payloads_read, err_read, kind_read, type_read, enum_read, flags_read};
+ghost use Rattle.wave_type.specs.Private.TypeReading.{first_of, second_is, key_of_word, after, closed, kind_of_word, kind_at};
+ghost use Rattle.wave_type.specs.Private.TypeReading.{name_of_token, name_at, HasNames, new_name, without_percent, count_of_token, count_at, key_at};
+ghost use Rattle.wave_type.specs.Private.TypeReading.{names_read, types_read, fields_read, cases_read, payload_read, list_read, fixed_read, option_read};
+ghost use Rattle.wave_type.specs.Private.TypeReading.{map_read, result_read, payloads_read, err_read, kind_read, type_read, enum_read, flags_read};
 
 use crate::error::TypeErrorKind;
 use crate::tokens::Token;

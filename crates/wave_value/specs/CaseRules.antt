@@ -28,9 +28,11 @@ TakesVariant T name payload = (P : Option TypeTree) × IsFirstCase (variant_part
 -- a type of another kind, a name that is no case, a payload that the first case of this name doesn't take, or want of memory
 abbrev pub RefusesVariant : (TypedValue → List ℕ) → TypeTree → List ℕ → Option TypedValue → WasmValueError → Type 0
 RefusesVariant words T name payload (error.WrongTypeKind k t) = TellsKind kinds.Variant T k (string_bytes t)
-RefusesVariant words T name payload (error.UnknownCase n) = (kind_of T ≡ kinds.Variant) × (string_bytes n ≡ name) × IsNoneOf (first_names (variant_parts T)) name
+RefusesVariant words T name payload (error.UnknownCase n) =
+    (kind_of T ≡ kinds.Variant) × (string_bytes n ≡ name) × IsNoneOf (first_names (variant_parts T)) name
 RefusesVariant words T name payload (error.Memory e) = Unit {0}
-RefusesVariant words T name payload e = (kind_of T ≡ kinds.Variant) × (P : Option TypeTree) × IsFirstCase (variant_parts T) name P × RefusesPayload words name P payload e
+RefusesVariant words T name payload e =
+    (kind_of T ≡ kinds.Variant) × (P : Option TypeTree) × IsFirstCase (variant_parts T) name P × RefusesPayload words name P payload e
 
 -- ---- flags
 

@@ -5,7 +5,8 @@ use base.Stored.{Gv, gnil, gnum, gcons, num}
 use Rattle.wave_wasm.specs.Types.{Whole, s8, s16, s32, s64, u8, u16, u32, u64, Unreadable, f32, f64, unsupported}
 use Rattle.wave_wasm.specs.TypeTreeEncoding.{stored, stored_name, stored_names, unreadable_number}
 use Rattle.wave_wasm.specs.Values as value
-use Rattle.wave_wasm.specs.Values.{Leaf, Value, MaybeValue, Values, FieldValues, Entries, no_value, a_value, no_values, value_and, no_fields, field, no_entries, entry}
+use Rattle.wave_wasm.specs.Values.{Leaf, Value, MaybeValue, Values, FieldValues, Entries}
+use Rattle.wave_wasm.specs.Values.{no_value, a_value, no_values, value_and, no_fields, field, no_entries, entry}
 
 -- the number of a whole-number type
 abbrev pub whole_number : Whole → ℕ
@@ -85,13 +86,35 @@ names_in _ = []
 
 abbrev leaf_in : Gv → Leaf
 leaf_in (gcons (gnum n) (gcons a b)) =
-    slice_index_or (value.bool (num a == 1) ∷ value.whole (numbered_whole (num a)) (pos (num b)) ∷ value.whole (numbered_whole (num a)) (negsuc (num b)) ∷ value.char (num a) ∷ value.string (name_in a) ∷ []) n (value.char 0)
+    slice_index_or
+    (value.bool (num a == 1)
+    ∷ value.whole (numbered_whole (num a)) (pos (num b))
+    ∷ value.whole (numbered_whole (num a)) (negsuc (num b))
+    ∷ value.char (num a)
+    ∷ value.string (name_in a)
+    ∷ [])
+    n (value.char 0)
 leaf_in _ = value.char 0
 
 abbrev mutual
   value_in : Gv → Value
   value_in (gcons (gnum n) (gcons a b)) =
-      slice_index_or (value.leaf (leaf_in a) ∷ value.unreadable (numbered_unreadable (num a)) ∷ value.list (values_in a) ∷ value.fixed (values_in a) ∷ value.record_value (fields_in a) ∷ value.tuple (values_in a) ∷ value.variant (name_in a) (maybe_in b) ∷ value.enum (name_in a) ∷ value.option (maybe_in a) ∷ value.ok (maybe_in a) ∷ value.err (maybe_in a) ∷ value.flags (names_in a) ∷ value.map (entries_in a) ∷ []) n (value.unreadable f32)
+      slice_index_or
+      (value.leaf (leaf_in a)
+      ∷ value.unreadable (numbered_unreadable (num a))
+      ∷ value.list (values_in a)
+      ∷ value.fixed (values_in a)
+      ∷ value.record_value (fields_in a)
+      ∷ value.tuple (values_in a)
+      ∷ value.variant (name_in a) (maybe_in b)
+      ∷ value.enum (name_in a)
+      ∷ value.option (maybe_in a)
+      ∷ value.ok (maybe_in a)
+      ∷ value.err (maybe_in a)
+      ∷ value.flags (names_in a)
+      ∷ value.map (entries_in a)
+      ∷ [])
+      n (value.unreadable f32)
   value_in _ = value.unreadable f32
 
   maybe_in : Gv → MaybeValue

@@ -31,12 +31,6 @@ abbrev pub simple_kinds : List WasmTypeKind
 simple_kinds =
     kinds.Bool ∷ kinds.S8 ∷ kinds.S16 ∷ kinds.S32 ∷ kinds.S64 ∷ kinds.U8 ∷ kinds.U16 ∷ kinds.U32 ∷ kinds.U64 ∷ kinds.Char ∷ kinds.String ∷ []
 
--- all other kinds
-abbrev pub other_kinds : List WasmTypeKind
-other_kinds =
-    kinds.F32 ∷ kinds.F64 ∷ kinds.List ∷ kinds.FixedLengthList ∷ kinds.Record ∷ kinds.Tuple ∷ kinds.Variant ∷ kinds.Enum ∷ kinds.Option ∷ kinds.Result
-    ∷ kinds.Flags ∷ kinds.Map ∷ kinds.Unsupported ∷ []
-
 contrary : (v : Value) (k : WasmTypeKind) → k ≡ kind_of v → IsTrue (is_simple_kind k) → is_simple_kind (kind_of v) ≡ false → ⊥
 contrary v k e is none = cc (sym is ∙ (ap is_simple_kind e ∙ none))
 

@@ -6,7 +6,8 @@ use Rattle.wave_wasm.specs.Lists.{AllOf}
 use Rattle.std.specs.Ordering.{int_eq}
 use Rattle.wave_wasm.specs.TypeTreeEncoding.{simple_number}
 use Rattle.wave_wasm.specs.Values as value
-use Rattle.wave_wasm.specs.Values.{Leaf, Value, MaybeValue, Values, FieldValues, Entries, entries, leaf_type, no_value, a_value, no_values, value_and, no_fields, field, no_entries, entry}
+use Rattle.wave_wasm.specs.Values.{Leaf, Value, MaybeValue, Values, FieldValues, Entries, entries, leaf_type}
+use Rattle.wave_wasm.specs.Values.{no_value, a_value, no_values, value_and, no_fields, field, no_entries, entry}
 
 module _ {K V : Type 0} (same : K → K → Bool) where
   -- the value at the last place of the key, or v where it has no place

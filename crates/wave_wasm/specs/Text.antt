@@ -6,9 +6,11 @@ use Rattle.std.specs.List.{flat_map}
 use Rattle.std.specs.Str.{chars}
 use Rattle.unicode.specs.GeneralCategory.{general_category}
 use Rattle.ucd_category.specs.declared.GeneralCategory.{GeneralCategory}
-use Rattle.ucd_category.specs.declared.GeneralCategory.TheVariants.{NonspacingMark, EnclosingMark, SpaceSeparator, LineSeparator, ParagraphSeparator, Control, Format, PrivateUse, Unassigned}
+use Rattle.ucd_category.specs.declared.GeneralCategory.TheVariants.{NonspacingMark, EnclosingMark, SpaceSeparator, LineSeparator}
+use Rattle.ucd_category.specs.declared.GeneralCategory.TheVariants.{ParagraphSeparator, Control, Format, PrivateUse, Unassigned}
 use Rattle.wave_wasm.specs.Values as value
-use Rattle.wave_wasm.specs.Values.{Leaf, Value, MaybeValue, Values, FieldValues, Entries, no_value, a_value, no_values, value_and, no_fields, field, no_entries, entry}
+use Rattle.wave_wasm.specs.Values.{Leaf, Value, MaybeValue, Values, FieldValues, Entries}
+use Rattle.wave_wasm.specs.Values.{no_value, a_value, no_values, value_and, no_fields, field, no_entries, entry}
 use Rattle.wave_wasm.specs.Merge.{merged}
 use Rattle.wave_wasm.specs.Keywords.{case_label}
 use Rattle.wave_wasm.specs.Commas.{joined, behind_name, in_parens, in_brackets, in_braces}

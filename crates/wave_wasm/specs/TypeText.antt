@@ -1,7 +1,9 @@
 -- The text of a type and of a function.
 use Rattle.std.specs.Fmt.{decimal}
 use Rattle.std.specs.Prelude.{ℕ, ◌≡◌, ◌⊎◌, length, List, [], ◌∷◌, ◌++◌, Option, Some, None, codes}
-use Rattle.wave_wasm.specs.Types.{TypeTree, simple, unreadable, list, fixed, record_type, tuple, variant, enum, option, result, flags, map, MaybeType, no_type, a_type, Types, no_types, type_and, Fields, no_fields, field, Cases, no_cases, case_of, simple_kind, unreadable_kind}
+use Rattle.wave_wasm.specs.Types.{TypeTree, simple, unreadable, list, fixed, record_type, tuple, variant, enum, option, result, flags, map}
+use Rattle.wave_wasm.specs.Types.{MaybeType, no_type, a_type, Types, no_types, type_and, Fields, no_fields, field, Cases, no_cases, case_of}
+use Rattle.wave_wasm.specs.Types.{simple_kind, unreadable_kind}
 use Rattle.wave_wasm.specs.Commas.{joined, behind_name, in_parens}
 use Rattle.wave_wasm.specs.declared.wasm.WasmTypeKind.{WasmTypeKind}
 use Rattle.wave_wasm.specs.declared.wasm.WasmTypeKind.TheVariants as kinds

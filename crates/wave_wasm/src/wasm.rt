@@ -198,7 +198,8 @@ impl<T: Drop> From<AllocFailed<T>> for WasmValueError {
 /// that tree in their order, and none for a tree of another kind.
 pub trait WasmType: Sized {
     ghost use Rattle.std.specs.Prelude.{◌≡◌, IfOk};
-    ghost use Rattle.wave_wasm.specs.Types.{TypeTree, kind_of, list_part, list_length, record_parts, tuple_parts, variant_parts, enum_names, option_part, result_parts, flags_names, map_parts};
+    ghost use Rattle.wave_wasm.specs.Types.{TypeTree, kind_of, list_part, list_length, record_parts, tuple_parts, variant_parts};
+    ghost use Rattle.wave_wasm.specs.Types.{enum_names, option_part, result_parts, flags_names, map_parts};
     ghost use Rattle.wave_wasm.specs.Borrowed.{texts, shown, shown_all, shown_fields, shown_cases, shown_result, shown_pair};
 
     /// The tree that the type means.
@@ -262,7 +263,11 @@ pub trait WasmValue: Sized + Drop {
     ghost use Rattle.wave_wasm.specs.Values.{Value, kind_of, maybe_value, list_items, tuple_items, record_fields, flags_names, map_entries, IsWellFormed};
     ghost use Rattle.wave_wasm.specs.HasType.{HasType};
     ghost use Rattle.wave_wasm.specs.Borrowed.{texts, shown, shown_all, shown_fields, shown_pairs, shown_either};
-    ghost use Rattle.wave_wasm.specs.ConstructorContracts.{IsOfListKind, result_value, leaf_entries, HasFullParts, MakesLeaf, MakesList, MakesTuple, MakesRecord, MakesVariant, MakesEnum, MakesOption, MakesResult, MakesFlags, MakesMap, FullLeaf, FullList, FullTuple, FullRecord, FullVariant, FullEnum, FullOption, FullResult, FullFlags, FullMap};
+    ghost use Rattle.wave_wasm.specs.ConstructorContracts.{IsOfListKind, result_value, leaf_entries, HasFullParts};
+    ghost use Rattle.wave_wasm.specs.ConstructorContracts.{MakesLeaf, MakesList, MakesTuple, MakesRecord, MakesVariant};
+    ghost use Rattle.wave_wasm.specs.ConstructorContracts.{MakesEnum, MakesOption, MakesResult, MakesFlags, MakesMap};
+    ghost use Rattle.wave_wasm.specs.ConstructorContracts.{FullLeaf, FullList, FullTuple, FullRecord, FullVariant};
+    ghost use Rattle.wave_wasm.specs.ConstructorContracts.{FullEnum, FullOption, FullResult, FullFlags, FullMap};
 
     /// The tree that the value means.
     ghost tree: { Self → Value };

@@ -206,7 +206,10 @@ impl<W: TextWrite> Writer<W> {
         items: &Vec<&V>,
         closing: &str,
     ) -> Result<(), WriterError>
-        ensures { Writes (enclosed opening.now (map text (shown_all V.tree items.now.items)) closing.now) (list_all has_text (shown_all V.tree items.now.items)) result (W.output self.old) (W.output self.new) }
+        ensures { Writes
+            (enclosed opening.now (map text (shown_all V.tree items.now.items)) closing.now)
+            (list_all has_text (shown_all V.tree items.now.items))
+            result (W.output self.old) (W.output self.new) }
     {
         self.write_text(opening)?;
         let mut later = false;
@@ -287,7 +290,10 @@ impl<W: TextWrite> Writer<W> {
         alloc: Global,
         payload: Option<&V>,
     ) -> Result<(), WriterError>
-        ensures { Writes (payload_text (shown V.tree payload.entry)) (has_payload_text (shown V.tree payload.entry)) result (W.output self.old) (W.output self.new) }
+        ensures { Writes
+            (payload_text (shown V.tree payload.entry))
+            (has_payload_text (shown V.tree payload.entry))
+            result (W.output self.old) (W.output self.new) }
     {
         match payload {
             None => Ok(()),

@@ -183,7 +183,11 @@ in_string (Some Last) = Some string.Inside
 -- what a string reads next
 abbrev pub string_step : StringState → ℕ → Option StringState
 string_step string.Start c = if nat_eq c 34 then Some string.Inside else None
-string_step string.Inside c = if nat_eq c 34 then Some string.Close else (if nat_eq c 92 then Some (string.Escape escape.Backslash) else (if nat_eq c 10 then None else Some string.Inside))
+string_step string.Inside c =
+    if nat_eq c 34 then Some string.Close
+    else (if nat_eq c 92 then Some (string.Escape escape.Backslash)
+    else (if nat_eq c 10 then None
+    else Some string.Inside))
 string_step (string.Escape e) c = in_string (escape_step e c)
 string_step string.Close c = None
 
@@ -204,7 +208,10 @@ in_char (Some Last) = Some character.Filled
 -- what a char reads next
 abbrev pub character_step : CharState → ℕ → Option CharState
 character_step character.Start c = if nat_eq c 39 then Some character.Open else None
-character_step character.Open c = if nat_eq c 92 then Some (character.Escape escape.Backslash) else (if nat_eq c 10 || nat_eq c 39 then None else Some character.Filled)
+character_step character.Open c =
+    if nat_eq c 92 then Some (character.Escape escape.Backslash)
+    else (if nat_eq c 10 || nat_eq c 39 then None
+    else Some character.Filled)
 character_step (character.Escape e) c = in_char (escape_step e c)
 character_step character.Filled c = if nat_eq c 39 then Some character.Close else None
 character_step character.Close c = None

@@ -1,7 +1,8 @@
 -- What the lexer's own functions answer. Only private contracts and proofs cite it.
 use Rattle.std.specs.Prelude.{◌≡◌, ℕ, ◌<◌, ◌≤◌, ◌||◌, true, false, nat_eq, if◌then◌else◌, List, Option, Some, None, length, slice_index}
 use Rattle.wave_lex.specs.declared.lex.Token.{Token}
-use Rattle.wave_lex.specs.declared.lex.Token.TheVariants.{BraceOpen, BraceClose, ParenOpen, ParenClose, BracketOpen, BracketClose, Colon, Comma, Number, LabelOrKeyword, Char, String}
+use Rattle.wave_lex.specs.declared.lex.Token.TheVariants.{BraceOpen, BraceClose, ParenOpen, ParenClose, BracketOpen, BracketClose}
+use Rattle.wave_lex.specs.declared.lex.Token.TheVariants.{Colon, Comma, Number, LabelOrKeyword, Char, String}
 use Rattle.wave_lex.specs.Regex.{Regex, is_within}
 use Rattle.wave_lex.specs.Shared.Derive.{after_all}
 use Rattle.wave_lex.specs.LongestMatch.{FrontHas}

@@ -12,4 +12,5 @@ parts_code = coded_list (coded× (coded_list coded_ℕ) tree_code)
 -- how the type of a function is stored
 abbrev pub function_code : Coded FunctionType
 function_code =
-    code_by (List (List ℕ × TypeTree) × List (List ℕ × TypeTree)) (coded× parts_code parts_code) (λ f. (f.params, f.results)) (λ p. record { params = p.0; results = p.1 }) (λ _. refl)
+    code_by (List (List ℕ × TypeTree) × List (List ℕ × TypeTree)) (coded× parts_code parts_code)
+    (λ f. (f.params, f.results)) (λ p. record { params = p.0; results = p.1 }) (λ _. refl)

@@ -28,7 +28,8 @@ module _ (read : Reads) where
   -- what stands behind `func(`
   abbrev pub signature_read : Tokens → Option (FunctionType × Tokens)
   signature_read ts =
-      onward (params_read ts (after (codes ")") ts)) (λ ps. onward (results_read ps.1 (after (codes "-") ps.1)) (λ rs. Some (record { params = ps.0; results = rs.0 }, rs.1)))
+      onward (params_read ts (after (codes ")") ts)) (λ ps.
+      onward (results_read ps.1 (after (codes "-") ps.1)) (λ rs. Some (record { params = ps.0; results = rs.0 }, rs.1)))
 
   -- the type of a function
   abbrev pub function_read : Tokens → Option (FunctionType × Tokens)

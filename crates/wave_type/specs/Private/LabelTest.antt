@@ -2,7 +2,8 @@
 use Rattle.std.specs.Prelude.{ℕ, ◌&&◌, Bool, true, not, List, [], ◌∷◌}
 use Rattle.wave_wasm.specs.Names.{is_one_of}
 use Rattle.wave_wasm.specs.Types as type
-use Rattle.wave_wasm.specs.Types.{TypeTree, MaybeType, Types, Fields, Cases, no_type, a_type, no_types, type_and, no_fields, field, no_cases, case_of, field_names, case_names}
+use Rattle.wave_wasm.specs.Types.{TypeTree, MaybeType, Types, Fields, Cases}
+use Rattle.wave_wasm.specs.Types.{no_type, a_type, no_types, type_and, no_fields, field, no_cases, case_of, field_names, case_names}
 use Rattle.wave_lex.specs.Shared.Derive.{after_all, may_be_empty}
 use Rattle.wave_lex.specs.Tokens.{label}
 

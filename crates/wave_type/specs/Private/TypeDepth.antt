@@ -23,12 +23,15 @@ fields_most : (fs : List (String Global × TypeTree)) → most (λ f. max 0 (max
 fields_most [] = omega arith
 fields_most (f ∷ fs) = omega (arith, fields_most fs)
 
-cases_most : (μ : String Global × Option TypeTree → ℕ) → ((n : String Global) → μ (n, None) ≤ 0) → ((n : String Global) (t : TypeTree) → μ (n, Some t) ≤ depth t + 1) → (cs : List (String Global × Option TypeTree)) → most μ cs ≤ suc (depth_of_cases (cases_of (map by_bytes cs)))
+cases_most : (μ : String Global × Option TypeTree → ℕ) → ((n : String Global) → μ (n, None) ≤ 0)
+    → ((n : String Global) (t : TypeTree) → μ (n, Some t) ≤ depth t + 1)
+    → (cs : List (String Global × Option TypeTree)) → most μ cs ≤ suc (depth_of_cases (cases_of (map by_bytes cs)))
 cases_most μ none some [] = omega arith
 cases_most μ none some ((n, None) ∷ cs) = omega (arith, none n, cases_most μ none some cs)
 cases_most μ none some ((n, Some t) ∷ cs) = omega (arith, some n t, cases_most μ none some cs)
 
-result_falls : (r : Rc (Option TypeTree × Option TypeTree) Global) (a b : Option TypeTree) → let s = shapes.Result (record r { value = (a, b) }) in max (deep-Shape s) 0 ≤ depth (shape_tree s)
+result_falls : (r : Rc (Option TypeTree × Option TypeTree) Global) (a b : Option TypeTree)
+    → let s = shapes.Result (record r { value = (a, b) }) in max (deep-Shape s) 0 ≤ depth (shape_tree s)
 result_falls r None None = omega arith
 result_falls r None (Some u) = omega arith
 result_falls r (Some t) None = omega arith

@@ -1,5 +1,6 @@
 -- How the types of a text are read from its tokens, step by step.
-use Rattle.std.specs.Prelude.{ℕ, ◌≡◌, zero, suc, ◌^◌, ◌&&◌, nat_lt, Bool, false, ◌==◌, if◌then◌else◌, List, [], ◌∷◌, ◌++◌, map, length, drop, codes, Option, Some, None}
+use Rattle.std.specs.Prelude.{ℕ, ◌≡◌, zero, suc, ◌^◌, ◌&&◌, nat_lt, Bool, false, ◌==◌, if◌then◌else◌}
+use Rattle.std.specs.Prelude.{List, [], ◌∷◌, ◌++◌, map, length, drop, codes, Option, Some, None}
 use Rattle.std.specs.Borrow.{Bor}
 use Rattle.std.specs.BTreeSet.{BTreeSet, contains_by}
 use Rattle.std.specs.Cmp.Lexicographic.{slice_cmp}

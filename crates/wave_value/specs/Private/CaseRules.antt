@@ -13,7 +13,9 @@ MarksNames m names marked = (name : List ℕ) → held m name ≡ (if is_one_of 
 
 -- the new map marks the name too, where it is one of the keys; found says whether it is
 abbrev pub MarksOneMore : BTreeMap (Bor (List ℕ)) Bool → BTreeMap (Bor (List ℕ)) Bool → List ℕ → Bool → Type 0
-MarksOneMore old new name found = (names marked : List (List ℕ)) → MarksNames old names marked → MarksNames new names (marked ++ name ∷ []) × (found ≡ is_one_of names name)
+MarksOneMore old new name found =
+    (names marked : List (List ℕ)) → MarksNames old names marked →
+    MarksNames new names (marked ++ name ∷ []) × (found ≡ is_one_of names name)
 
 -- where the map has these names as keys, each is among those that it marks; or one that isn't is refused
 abbrev pub TellsUnmarked : BTreeMap (Bor (List ℕ)) Bool → List (List ℕ) → Result Unit WasmValueError → Type 0

@@ -33,7 +33,8 @@ fields_most (n ∷ ns) (v ∷ vs) = omega (arith, fields_most ns vs)
 pub key_flat : (K : Simple) (v : TypedValue) → IsAt (type.simple K) v → depth v.tree ≤ 0
 key_flat K v h = let (one, fits, is) = h.fits in omega (arith, ap depth is)
 
-entries_most : (K : Simple) (V : TypeTree) (es : List (TypedValue × TypedValue)) → EntriesAt (type.simple K) V es → most (λ e. max (depth e.0.tree + 1) (max (depth e.1.tree + 1) 0)) es ≤ suc (depth_of_entries (entries (entry_trees es)))
+entries_most : (K : Simple) (V : TypeTree) (es : List (TypedValue × TypedValue)) → EntriesAt (type.simple K) V es
+    → most (λ e. max (depth e.0.tree + 1) (max (depth e.1.tree + 1) 0)) es ≤ suc (depth_of_entries (entries (entry_trees es)))
 entries_most K V [] h = omega arith
 entries_most K V (e ∷ es) ((key, val), more) = omega (arith, key_flat K e.0 key, entries_most K V es more)
 
@@ -52,11 +53,13 @@ err_falls : (T : TypeTree) (p : Option (Box TypedValue Global)) → max (deep-Co
 err_falls T None = omega arith
 err_falls T (Some v) = omega arith
 
-variant_falls : (T : TypeTree) (i : ℕ) (p : Option (Box TypedValue Global)) → max (deep-Content (contents.Variant i p)) 0 ≤ depth (content_tree T (contents.Variant i p))
+variant_falls : (T : TypeTree) (i : ℕ) (p : Option (Box TypedValue Global))
+    → max (deep-Content (contents.Variant i p)) 0 ≤ depth (content_tree T (contents.Variant i p))
 variant_falls T i None = omega arith
 variant_falls T i (Some v) = omega arith
 
-map_falls : (T : TypeTree) (es : List (TypedValue × TypedValue)) → MapFits T es → most (λ e. max (depth e.0.tree + 1) (max (depth e.1.tree + 1) 0)) es ≤ suc (depth_of_entries (entries (entry_trees es)))
+map_falls : (T : TypeTree) (es : List (TypedValue × TypedValue)) → MapFits T es
+    → most (λ e. max (depth e.0.tree + 1) (max (depth e.1.tree + 1) 0)) es ≤ suc (depth_of_entries (entries (entry_trees es)))
 map_falls (type.map K V) es h = entries_most K V es h
 map_falls _ es h = absurd h
 

@@ -6,7 +6,8 @@ ghost use Rattle.wave_wasm.specs.Values.{values, maybe_value};
 ghost use Rattle.wave_wasm.specs.ConstructorContracts.{list_value, result_value, either_tree};
 ghost use Rattle.wave_wasm.specs.Borrowed.{named};
 ghost use Rattle.wave_value.specs.ValueModel.{trees, payload_tree};
-ghost use Rattle.wave_value.specs.ConstructorRules.{Made, TakesList, TakesTuple, TakesOption, TakesResult, value_text, option_stated, RefusesList, RefusesParts, RefusesTuple, RefusesResult};
+ghost use Rattle.wave_value.specs.ConstructorRules.{Made, TakesList, TakesTuple, TakesOption, TakesResult, value_text, option_stated};
+ghost use Rattle.wave_value.specs.ConstructorRules.{RefusesList, RefusesParts, RefusesTuple, RefusesResult};
 ghost use Rattle.wave_value.specs.CaseRules.{TakesVariant, RefusesVariant, MadeMap, TakesMap, map_stated};
 ghost use Rattle.wave_value.specs.RecordConstructor.{TakesRecord, MadeRecord, RefusesRecord};
 

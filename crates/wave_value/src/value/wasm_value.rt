@@ -15,10 +15,14 @@ impl WasmValue for Value {
     ghost use Rattle.wave_wasm.specs.Values as value;
     ghost use Rattle.wave_wasm.specs.Values.{kind_of, values, maybe_value, list_items, tuple_items, record_fields, map_entries, IsSound};
     ghost use Rattle.wave_wasm.specs.Borrowed.{texts, named, shown, shown_all, shown_fields, shown_pairs, shown_either};
-    ghost use Rattle.wave_wasm.specs.ConstructorContracts.{IsMemory, IsOfListKind, leaf_entries, list_value, result_value, either_tree, MakesList, MakesTuple, MakesRecord, MakesVariant, MakesEnum, MakesOption, MakesResult, MakesFlags, MakesMap, FullList, FullTuple, FullRecord, FullVariant, FullEnum, FullOption, FullResult, FullFlags, FullMap};
+    ghost use Rattle.wave_wasm.specs.ConstructorContracts.{IsMemory, IsOfListKind, leaf_entries, list_value, result_value, either_tree};
+    ghost use Rattle.wave_wasm.specs.ConstructorContracts.{MakesList, MakesTuple, MakesRecord, MakesVariant};
+    ghost use Rattle.wave_wasm.specs.ConstructorContracts.{MakesEnum, MakesOption, MakesResult, MakesFlags, MakesMap};
+    ghost use Rattle.wave_wasm.specs.ConstructorContracts.{FullList, FullTuple, FullRecord, FullVariant, FullEnum, FullOption, FullResult, FullFlags, FullMap};
     ghost use Rattle.wave_value.specs.ValueModel.{trees, payload_tree};
     ghost use Rattle.wave_value.specs.TypedValue.{IsAt, MakesOnly, typed_leaf};
-    ghost use Rattle.wave_value.specs.ConstructorRules.{Made, TakesList, TakesTuple, TakesOption, TakesResult, TakesEnum, own_text, option_stated, RefusesList, RefusesParts, RefusesTuple, RefusesResult, RefusesEnum};
+    ghost use Rattle.wave_value.specs.ConstructorRules.{Made, TakesList, TakesTuple, TakesOption, TakesResult, TakesEnum, own_text, option_stated};
+    ghost use Rattle.wave_value.specs.ConstructorRules.{RefusesList, RefusesParts, RefusesTuple, RefusesResult, RefusesEnum};
     ghost use Rattle.wave_value.specs.CaseRules.{TakesVariant, RefusesVariant, TakesFlags, RefusesFlags, MadeMap, TakesMap, map_stated};
     ghost use Rattle.wave_value.specs.RecordConstructor.{TakesRecord, MadeRecord, RefusesRecord};
     ghost use Rattle.wave_value.specs.FullTypes.{IsFull, full_parts};

@@ -1,6 +1,8 @@
 -- The types of values, and their parts.
 use Rattle.std.specs.Prelude.{ℕ, suc, max}
-use Rattle.wave_wasm.specs.Types.{Cases, Fields, MaybeType, TypeTree, Types, a_type, case_of, enum, field, fixed, flags, list, map, no_cases, no_fields, no_type, no_types, option, record_type, result, simple, tuple, type_and, unreadable, variant}
+use Rattle.wave_wasm.specs.Types.{Cases, Fields, MaybeType, TypeTree, Types}
+use Rattle.wave_wasm.specs.Types.{a_type, case_of, enum, field, fixed, flags, list, map}
+use Rattle.wave_wasm.specs.Types.{no_cases, no_fields, no_type, no_types, option, record_type, result, simple, tuple, type_and, unreadable, variant}
 
 -- how deep a type nests
 abbrev mutual

@@ -1,6 +1,8 @@
 -- The values, without their types.
 use Rattle.std.specs.Prelude.{ℕ, suc, max, ◌≡◌, Option, Some, None}
-use Rattle.wave_wasm.specs.Values.{Entries, FieldValues, Leaf, MaybeValue, Value, Values, a_value, entry, enum, err, field, fixed, flags, leaf, list, map, no_entries, no_fields, no_value, no_values, ok, option, record_value, tuple, unreadable, value_and, variant}
+use Rattle.wave_wasm.specs.Values.{Entries, FieldValues, Leaf, MaybeValue, Value, Values}
+use Rattle.wave_wasm.specs.Values.{a_value, entry, enum, err, field, fixed, flags, leaf, list, map}
+use Rattle.wave_wasm.specs.Values.{no_entries, no_fields, no_value, no_values, ok, option, record_value, tuple, unreadable, value_and, variant}
 
 -- a payload, as an option
 abbrev pub value_option : MaybeValue → Option Value
