@@ -1,5 +1,5 @@
 """The texts of the benchmark, which both programs read: for each a name, a type (of calls: those of the parameters, with ; between
-them), and the text at about so many items. No text has a #, which begins a case in the programs' input."""
+them), and the text at about a number of items. No text has a #, which begins a case in the programs' input."""
 
 PERSON = "record{name: string, age: u8, tags: list<string>, on: option<bool>}"
 CONFIGURATION = "record{title: string, server: record{host: string, port: u16, tls: option<bool>}, levels: flags{debug, info, warn}, mode: enum{fast, safe}, retries: list<u8>, notes: string}"

@@ -1,7 +1,7 @@
 /* Refuses memory to a program, and lets its reads and writes fail, for the tests beside this file.
 
    REFUSE_AT=N     the N-th request to malloc or realloc is refused
-   REFUSE_ALL=1    so is each behind it
+   REFUSE_ALL=1    so is each after it
    WRITE_ROOM=N    writes take N bytes in all, and then fail
    WRITE_NONE=1    they take none then, and don't fail
    READ_FAILS=N    the N-th read fails

@@ -19,7 +19,7 @@ OneValue T = (n m : ℕ) (s : List ℕ) (v w : Value) → Means T n s v → Mean
 abbrev pub IsTextOf : Value → List ℕ → Type 0
 IsTextOf v s = (has_text v ≡ true) × (s ≡ text v)
 
--- `UnsupportedType` is told only of a value that has no text, and `Io` never; a value of a type is refused for want of memory alone
+-- `UnsupportedType` is answered only for a value that has no text, and `Io` never; a value of a type is refused for lack of memory alone
 abbrev pub RefusesWriting : Value → WriterError → Type 0
 RefusesWriting v e = IsGrounded e (has_text v) 0 0 × IsForMemory v e
 

@@ -39,7 +39,7 @@ pub fn text_injective()
     ensures { (T : TypeTree) → Good T → EqualTexts T }
 {}
 
-/// The canonical text of a value of such a type cuts into tokens that spell the value, merged, and
+/// The canonical text of a value of such a type has the tokens that spell the value, merged, and
 /// no more levels than they hold are needed.
 pub fn text_reads_back()
     ensures { (T : TypeTree) → Good T → IsOwn T → ReadsBack T }

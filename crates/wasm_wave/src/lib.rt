@@ -32,7 +32,7 @@ pub use wave_wasm::{wasm, writer};
 /// `WasmValueError` has a cause and stands at a node of what was read. At any type what is read is
 /// the text of one value within 100 levels, a syntax refusal stands where the text has none, and a
 /// fault of type has no kind of syntax. All the rest where the names of the type are distinct and,
-/// for a refusal, makers serve every value of the type, as those of `Value` do there: what is read
+/// for a refusal, constructors serve every value of the type, as those of `Value` do there: what is read
 /// is merged, and no tokens spell two values nor begin the spelling of another; where the names are
 /// labels too and the type's tree is one that `Type` has, what is read within some levels has a
 /// canonical text of at most twice as many.

@@ -38,7 +38,7 @@ none_picked : (names : List (List ℕ)) → ArePicked names []
 none_picked [] = refl
 none_picked (name ∷ more) = inl (none_picked more)
 
--- so many values of one type
+-- a number of values of one type
 copies : (E : TypeTree) (v : Value) → HasType E v → (n : ℕ) → (vs : List Value) × AllOf (HasType E) vs × (length vs ≡ n)
 copies E v typed zero = ([], tt, refl)
 copies E v typed (suc n) = let (vs, all, count) = copies E v typed n in (v ∷ vs, (typed, all), ap suc count)

@@ -28,7 +28,7 @@ IsReadAt T n s v = IsRead (λ (v : TypedValue). v.tree) (λ v T. IsAt T v) T n s
 pub answered : (T : TypeTree) (n : ℕ) (s : List ℕ) (v : TypedValue) (answer : List ℕ) → HasDistinctNames T → IsReadAt T n s v → answer ≡ text v.tree → Answers (Read T n) s answer
 answered T n s v answer distinct read same = (v.tree, (read.meant distinct).0, same)
 
--- it is refused for want of memory alone
+-- it is refused for lack of memory alone
 pub wants_memory : (T : TypeTree) (n : ℕ) (s : List ℕ) (v : TypedValue) (e : WriterError) → HasDistinctNames T → IsReadAt T n s v → IsForMemory v.tree e → IsWantOfMemory e
 wants_memory T n s v e distinct read memory = memory T (read.meant distinct).1.fits
 
@@ -37,12 +37,12 @@ pub handed_on : {X : Type 0} (Answer : X → Type 0) (request : Request) (s : Li
 handed_on Answer request s (Ok x) e same told = absurd same
 handed_on Answer request s (Err u) e same told = subst (IsUnanswered request s) (sym same) told
 
--- memory was wanting for an answer
+-- there was no memory for an answer
 pub unshown : {X : Type 0} (Answer : X → Type 0) (request : Request) (s : List ℕ) (r : Result X Unanswered) (answer : List ℕ) → IsErrAnd r (λ unanswered. unanswered ≡ why.OutOfMemory) → Answers request s answer → MatchResult r Answer (IsUnanswered request s)
 unshown Answer request s (Ok x) answer same answers = absurd same
 unshown Answer request s (Err u) answer same answers = subst (IsUnanswered request s) (sym same) (answer, answers)
 
--- the refusal tells a fault of the text, which has no answer; or it is want of memory
+-- the refusal states a fault of the text, which has no answer; or it is out of memory
 pub told : (T : TypeTree) (n : ℕ) (s : List ℕ) (e : Diagnostic) → HasDistinctNames T → (HasDistinctNames T → BlamesText IsFull T n s e) → e.kind ≢ kind.OutOfMemory → IsRefused (Read T n) s e
 told T n s e distinct blames other = by (blames distinct) where
   by : BlamesText IsFull T n s e → IsRefused (Read T n) s e
@@ -50,16 +50,16 @@ told T n s e distinct blames other = by (blames distinct) where
   by (inr (inl (wrong, none))) = (wrong, λ answer found. none found.0 found.1)
   by (inr (inr (is, partly))) = absurd (partly distinct)
 
--- ---- a parser in front of the text
+-- ---- a parser before the text
 
 module _ (T : TypeTree) (n : ℕ) (s : List ℕ) (old : Parsing) (p : Place) (first : old ≡ limited (first_at (front_of s)) n) where
-  -- a value that was read there, with nothing behind it
+  -- a value that was read there, with nothing after it
   pub read_whole : (v : TypedValue) → IsValueTaken (λ (v : TypedValue). v.tree) (λ v T. IsAt T v) T old.limit old.place p v → Finishes (Ok tt) p → IsReadAt T n s v
   read_whole v taken ends =
       (whole_text (λ (v : TypedValue). v.tree) (λ v T. IsAt T v) IsFull T n s).ends p v
       (subst (λ (z : Parsing). IsValueTaken (λ (v : TypedValue). v.tree) (λ v T. IsAt T v) T z.limit z.place p v) first taken) ends
 
-  -- a value with something behind it
+  -- a value with something after it
   pub trails : (v : TypedValue) (e : Diagnostic) → HasDistinctNames T → IsValueTaken (λ (v : TypedValue). v.tree) (λ v T. IsAt T v) T old.limit old.place p v → Finishes (Err e) p → e.kind ≢ kind.OutOfMemory → IsRefused (Read T n) s e
   trails v e distinct taken ends =
       told T n s e distinct ((whole_text (λ (v : TypedValue). v.tree) (λ v T. IsAt T v) IsFull T n s).trails p v e

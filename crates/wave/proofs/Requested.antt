@@ -1,4 +1,4 @@
--- What words ask for, by how many there are.
+-- What arguments ask for, by how many there are.
 use Rattle.std.proofs.Common.{ℕ, ◌≡◌, ◌≢◌, ◌≤◌, ◌<◌, ◌⊎◌, ◌∙◌, List, [], ◌∷◌, String, Global, Result, Ok, Err, IfErr, string_bytes, map, get_or, length, refl, inl, inr, sym, ap, subst, arith, codes}
 use Rattle.wave.specs.declared.request.Request.TheVariants.{Value, Call, CallAt, Read}
 use Rattle.wave_wasm.specs.Types.{TypeTree}
@@ -11,14 +11,14 @@ one_word [] word text least below is same = absurd (omega (arith, least))
 one_word (first ∷ []) word text least below is same = ap (λ w. string_bytes w ∷ []) (sym is) ∙ ap (λ t. t ∷ []) (sym same)
 one_word (first ∷ second ∷ more) word text least below is same = absurd (omega (arith, below))
 
--- the texts of two words
+-- the texts of two arguments
 pub two_words : (words : List (String Global)) (x y : String Global) (s t : List ℕ) → 2 ≤ length words → length words < 3 → x ≡ get_or words 0 x → y ≡ get_or words 1 y → s ≡ string_bytes x → t ≡ string_bytes y → map string_bytes words ≡ s ∷ t ∷ []
 two_words [] x y s t least below is_x is_y same_s same_t = absurd (omega (arith, least))
 two_words (a ∷ []) x y s t least below is_x is_y same_s same_t = absurd (omega (arith, least))
 two_words (a ∷ b ∷ []) x y s t least below is_x is_y same_s same_t = λ i. (ap string_bytes (sym is_x) ∙ sym same_s) i ∷ (ap string_bytes (sym is_y) ∙ sym same_t) i ∷ []
 two_words (a ∷ b ∷ d ∷ more) x y s t least below is_x is_y same_s same_t = absurd (omega (arith, below))
 
--- the texts of three words
+-- the texts of three arguments
 pub three_words : (words : List (String Global)) (x y z : String Global) (s t u : List ℕ) → 3 ≤ length words → length words < 4 → x ≡ get_or words 0 x → y ≡ get_or words 1 y → z ≡ get_or words 2 z → s ≡ string_bytes x → t ≡ string_bytes y → u ≡ string_bytes z → map string_bytes words ≡ s ∷ t ∷ u ∷ []
 three_words [] x y z s t u least below is_x is_y is_z same_s same_t same_u = absurd (omega (arith, least))
 three_words (a ∷ []) x y z s t u least below is_x is_y is_z same_s same_t same_u = absurd (omega (arith, least))
@@ -27,7 +27,7 @@ three_words (a ∷ b ∷ d ∷ []) x y z s t u least below is_x is_y is_z same_s
     λ i. (ap string_bytes (sym is_x) ∙ sym same_s) i ∷ (ap string_bytes (sym is_y) ∙ sym same_t) i ∷ (ap string_bytes (sym is_z) ∙ sym same_u) i ∷ []
 three_words (a ∷ b ∷ d ∷ e ∷ more) x y z s t u least below is_x is_y is_z same_s same_t same_u = absurd (omega (arith, below))
 
--- words that ask for a type, where memory was wanting for it
+-- arguments that ask for a type, where there was no memory for it
 pub asks_two : {X E : Type 0} (r : Result X E) (a b : List ℕ) → a ≡ codes "read" → IfErr r (λ e. AskForType (a ∷ b ∷ []))
 asks_two (Ok x) a b is = tt
 asks_two (Err e) a b is = inl (b, 100, inl (ap (λ z. z ∷ b ∷ []) is, refl))
@@ -37,7 +37,7 @@ pub asks_three : {X E : Type 0} (r : Result X E) (a b d : List ℕ) (n : ℕ) �
 asks_three (Ok x) a b d n is limit = tt
 asks_three (Err e) a b d n is limit = inl (b, n, inr (d, ap (λ z. z ∷ b ∷ d ∷ []) is, limit))
 
--- words that ask for the type of a function, where memory was wanting for it
+-- arguments that ask for the type of a function, where there was no memory for it
 pub asks_call : {X E : Type 0} (r : Result X E) (a b : List ℕ) → a ≡ codes "call" → IfErr r (λ e. AskForType (a ∷ b ∷ []))
 asks_call (Ok x) a b is = tt
 asks_call (Err e) a b is = inr (b, ap (λ z. z ∷ b ∷ []) is)
@@ -57,7 +57,7 @@ unknown_call a b call none (CallAt types) (w, is, names) = none types.items (sub
 unknown_call a b call none (Read T n) (w, inl (is, hundred), names) = let wrong : 99 ≡ 114 = ap (λ t. get_or t 0 0) (sym call ∙ first_is a b (codes "read") (w ∷ []) is) in absurd (omega (arith, wrong))
 unknown_call a b call none (Read T n) (w, inr (l, is, limit), names) = absurd (omega (arith, ap length is))
 
--- no words
+-- no arguments
 pub unknown_none : (words : List (String Global)) → length words < 1 → AreUnknown (map string_bytes words)
 unknown_none (w ∷ more) none request asked = absurd (omega (arith, none))
 unknown_none [] none (Value n) (inl (is, hundred)) = absurd (omega (arith, ap length is))
@@ -67,7 +67,7 @@ unknown_none [] none (CallAt types) (w, is, names) = absurd (omega (arith, ap le
 unknown_none [] none (Read T n) (w, inl (is, hundred), names) = absurd (omega (arith, ap length is))
 unknown_none [] none (Read T n) (w, inr (l, is, limit), names) = absurd (omega (arith, ap length is))
 
--- more than three words
+-- more than three arguments
 pub unknown_many : (words : List (String Global)) → 4 ≤ length words → AreUnknown (map string_bytes words)
 unknown_many [] many request asked = absurd (omega (arith, many))
 unknown_many (a ∷ []) many request asked = absurd (omega (arith, many))

@@ -20,31 +20,31 @@ use Rattle.wave.specs.Private.Requests.{IsFit}
 use Rattle.wave.proofs.Spelled.{named_distinct, params_distinct}
 use Rattle.wave.specs.Private.Answers.{IsNoOutcome, Refuses, TellsRefusal}
 
--- the limit that words tell is one
+-- the limit that arguments name is one
 is_limit : (words front : List (List ℕ)) (n : ℕ) → TellLimit words front n → IsLimit n
 is_limit words front n (inl (is, hundred)) = subst IsLimit (sym hundred) (search rules)
 is_limit words front n (inr (word, is, limit)) = limit.2
 
--- a request that words make is fit for a parser
+-- a request that arguments make is fit for a parser
 pub is_fit : (words : List (List ℕ)) (request : Request) → AreWordsOf request words → IsFit request
 is_fit words (Value n) asked = is_limit words _ n asked
 is_fit words Call asked = tt
 is_fit words (CallAt types) (word, is, names) = params_distinct word types.items names
 is_fit words (Read T n) (word, tells, names) = (is_limit words _ n tells, named_distinct word T names)
 
--- the request that was found is one that the words make
+-- the request that was found is one that the arguments make
 pub asked_for : (words : List (List ℕ)) (found : Option Request) (request : Request) → MatchOption found (AreUnknown words) (λ r. AreWordsOf r words) → found ≡ Some request → AreWordsOf request words
 asked_for words found request made is = subst (λ f. MatchOption f (AreUnknown words) (λ r. AreWordsOf r words)) is made
 
 module _ {R : Type 0} where
-  -- why there is no outcome is a fault of the input, or want of memory
+  -- why there is no outcome is a fault of the input, or out of memory
   pub is_fault : (request : Request) (left : Option (List ℕ)) (old new : Input R) (fault : Fault) → IsNoOutcome request left old new fault → IsFaultOf left old new fault
   is_fault request left old new NotUtf8 none = none
   is_fault request left old new InputFailed none = none
   is_fault request left old new OutOfMemory none = none.0
 
 module _ {R : Type 0} {W : Type 0} (contents : W → Option (List ℕ)) where
-  -- what is told of a refusal is due
+  -- what is printed of a refusal is due
   pub told : (words : List (List ℕ)) (request : Request) (left : Option (List ℕ)) (whole : List ℕ) (old new : Input R) (before after : Output W) (e : Diagnostic) (result : ℕ)
       → AreWordsOf request words → IsReadToEnd old new → IsInput left whole → Refuses request whole e → TellsRefusal contents before after e result
       → (status : ℕ) × (said : List ℕ) × IsDue words left old new status said × Prints contents before after said status result
@@ -61,7 +61,7 @@ module _ {W : Type 0} (contents : W → Option (List ℕ)) where
   told_at_1 before after e result (inr (inl (three, writes))) one = absurd (omega (arith, three, one))
   told_at_1 before after e result (inr (inr (three, cut))) one = absurd (omega (arith, three, one))
 
-  -- the refusal that was told is shown
+  -- the refusal that was printed is shown
   pub shown : {E : Type 0} (held : E → Option (List ℕ)) (words : List (List ℕ)) (request : Request) (left : Option (List ℕ)) (whole : List ℕ) (before after : Output W) (old new : Output E) (e : Diagnostic) (result : ℕ)
       → AreWordsOf request words → IsInput left whole → Refuses request whole e → TellsRefusal contents before after e result → (result ≡ 1 → ShowsRefusal held old new whole e)
       → result ≡ 1 → IsShown words left contents before after held old new

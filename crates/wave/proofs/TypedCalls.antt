@@ -168,7 +168,7 @@ pub at_types : (P : List TypeTree → Type 0) (slice Ts : List TypeTree) → sli
 at_types P slice Ts is holds distinct = subst (λ Us. AllOf HasDistinctNames Us → P Us) (map_self slice ∙ is) holds distinct
 
 module _ (types : Vec TypeTree Global) (s : List ℕ) where
-  -- a refusal of the parameters tells a fault of the call, which has no values at the types; or it is want of memory
+  -- a refusal of the parameters states a fault of the call, which has no values at the types; or it is out of memory
   pub refused_at : (u : Called) (e : Diagnostic) → AllOf HasDistinctNames types.items → IsCalledOf s u → RefusesParamsAt IsFull types.items u.source u.name u.params e → e.kind ≢ kind.OutOfMemory → IsRefused (CallAt types) s e
   refused_at u e full of refuses other =
       let it = items_of of.call.tokens of.params of.call.spelled in
@@ -178,7 +178,7 @@ module _ (types : Vec TypeTree Global) (s : List ℕ) where
             none vs ((it.by types.items vs).0 (subst (λ (z : List Token). Params types.items z vs) (same_tokens s (slice s u.name) name of.params params of.call call) are)),
       )
 
-  -- a refusal of the text tells a fault of it, which is no call; or it is want of memory
+  -- a refusal of the text states a fault of it, which is no call; or it is out of memory
   pub is_no_call_at : (e : Diagnostic) → RefusesCall s e → e.kind ≢ kind.OutOfMemory → IsRefused (CallAt types) s e
   is_no_call_at e fault other =
       let told = fault other in

@@ -42,21 +42,21 @@ call_displayed s u answer of same = (
   same ∙ (ap (λ source. slice source u.name ++ params_at source u.params) of.source ∙ params_shown s (slice s u.name) u.params of.params of.means),
 )
 
--- a refusal tells a fault of the text, which spells no tree; or it is want of memory
+-- a refusal states a fault of the text, which spells no tree; or it is out of memory
 pub spells_none : (n : ℕ) (s : List ℕ) (e : Diagnostic) → RefusesTree n s e → e.kind ≢ kind.OutOfMemory → IsRefused (Value n) s e
 spells_none n s e fault other = ((fault other).0, λ answer found. (fault other).1 found.0 found.1)
 
--- a refusal tells a fault of the text, which is no call; or it is want of memory
+-- a refusal states a fault of the text, which is no call; or it is out of memory
 pub is_no_call : (s : List ℕ) (e : Diagnostic) → RefusesCall s e → e.kind ≢ kind.OutOfMemory → IsRefused Call s e
 is_no_call s e fault other = ((fault other).0, λ answer found. (fault other).1 found.0 found.1 found.2)
 
--- ---- a parser in front of the text
+-- ---- a parser before the text
 
--- a tree that was read there, with nothing behind it
+-- a tree that was read there, with nothing after it
 pub tree_whole : (n : ℕ) (s : List ℕ) (old : Parsing) (p : Place) (u : Untyped) → old ≡ limited (first_at (front_of s)) n → IsUntypedTaken old.limit old.place p u → Finishes (Ok tt) p → IsUntypedOf n s u
 tree_whole n s old p u first taken ends = (whole_tree n s).ends p u (subst (λ (z : Parsing). IsUntypedTaken z.limit z.place p u) first taken) ends
 
--- a tree with something behind it
+-- a tree with something after it
 pub tree_trails : (n : ℕ) (s : List ℕ) (old : Parsing) (p : Place) (u : Untyped) (e : Diagnostic) → old ≡ limited (first_at (front_of s)) n →
     LeadsBehindValue old.limit value [] old.place p [] → IsUntypedTaken old.limit old.place p u → Finishes (Err e) p → RefusesTree n s e
 tree_trails n s old p u e first read taken ends =

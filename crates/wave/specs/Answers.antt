@@ -28,14 +28,14 @@ Answers (request.CallAt types) whole answer =
     (name : List ℕ) × (vs : List Value) × IsCallAt types.items whole name vs × (answer ≡ name ++ arguments_text vs)
 Answers (request.Read T n) whole answer = (v : Value) × Means T n whole v × (answer ≡ text v)
 
--- the refusal tells a fault of the text: its kind, its cause and its place
+-- the refusal states a fault of the text: its kind, its cause and its place
 abbrev pub TellsFaultOf : Request → List ℕ → Diagnostic → Type 0
 TellsFaultOf (request.Value n) whole e = SyntaxFault n whole e
 TellsFaultOf request.Call whole e = CallFault whole e
 TellsFaultOf (request.CallAt types) whole e = CallFault whole e ⊎ CallFaultAt types.items whole e
 TellsFaultOf (request.Read T n) whole e = TextFault T n whole e
 
--- the request on the text has no answer, and the refusal tells why
+-- the request on the text has no answer, and the refusal says why
 abbrev pub IsRefused : Request → List ℕ → Diagnostic → Type 0
 IsRefused request whole e = TellsFaultOf request whole e × ((answer : List ℕ) → Answers request whole answer → ⊥)
 
@@ -54,12 +54,12 @@ words_of_fault InputFailed = codes "input failed"
 words_of_fault OutOfMemory = codes "out of memory"
 
 module _ {R : Type 0} where
-  -- the fault is there: the input was read to its end and is no text, or was not read to its end; or memory was wanting, and no read failed
+  -- the fault is there: the input was read to its end and is no text, or was not read to its end; or there was no memory, and no read failed
   abbrev pub IsFaultOf : Option (List ℕ) → Input R → Input R → Fault → Type 0
   IsFaultOf left old new NotUtf8 = IsNoText left × IsReadToEnd old new
   IsFaultOf left old new InputFailed = IsUnread old new
   IsFaultOf left old new OutOfMemory = new.failures ≡ old.failures
 
--- what is written for words that make no request
+-- what is written for arguments that make no request
 abbrev pub usage : List ℕ
 usage = line (codes "usage: wave value [N] | wave call | wave read NAME [N]")

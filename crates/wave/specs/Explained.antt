@@ -11,14 +11,14 @@ use Rattle.wave.specs.Lines.{line}
 use Rattle.wave.specs.Written.{WritesWhole, WritesLess}
 
 module _ {E : Type 0} (contents : E → Option (List ℕ)) where
-  -- a text that explains the refusal of the whole text was written, or a beginning of it where a write failed; or nothing, where memory was wanting for one
+  -- a text that explains the refusal of the whole text was written, or a beginning of it where a write failed; or nothing, where there was no memory for one
   abbrev pub ShowsRefusal : Output E → Output E → List ℕ → Diagnostic → Type 0
   ShowsRefusal old new whole e =
       (new ≡ old)
       ⊎ ((text : List ℕ) × IsExplained whole (error_text e) e.span text
       × (WritesWhole contents old new text ⊎ WritesLess contents old new text))
 
--- the request that the words make has no answer on the whole input, and the line that was written is the text of a refusal that tells why, which is shown
+-- the request that the arguments make has no answer on the whole input, and the line that was written is the text of a refusal that says why, which is shown
 abbrev pub IsShown : {W E : Type 0} → List (List ℕ) → Option (List ℕ) → (W → Option (List ℕ)) → Output W → Output W
     → (E → Option (List ℕ)) → Output E → Output E → Type 0
 IsShown words left contents before after shown old new =

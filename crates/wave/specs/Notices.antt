@@ -52,14 +52,14 @@ help = lines (
 abbrev pub version : List ℕ
 version = line (codes "wave 0.1.0, a port of wasm-wave 0.263.0, proved with Rattle, logic dac8208d650f15bf")
 
--- the words ask for the help
+-- the arguments ask for the help
 abbrev pub AskForHelp : List (List ℕ) → Type 0
 AskForHelp words = (words ≡ codes "--help" ∷ []) ⊎ (words ≡ codes "help" ∷ []) ⊎ (words ≡ codes "-h" ∷ [])
 
--- the words ask for the help or for the version, which is said
+-- the arguments ask for the help or for the version, which is said
 abbrev pub IsNotice : List (List ℕ) → List ℕ → Type 0
 IsNotice words said = AskForHelp words × (said ≡ help) ⊎ (words ≡ codes "--version" ∷ []) × (said ≡ version)
 
--- the words ask for neither
+-- the arguments ask for neither
 abbrev pub IsNoNotice : List (List ℕ) → Type 0
 IsNoNotice words = (said : List ℕ) → IsNotice words said → ⊥

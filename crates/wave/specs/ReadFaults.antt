@@ -6,18 +6,18 @@ use Rattle.wave.specs.declared.input.Fault.TheVariants.{NotUtf8, InputFailed, Ou
 use Rattle.wave.specs.declared.input.Input.{Input}
 
 module _ {R : Type 0} where
-  -- the reader told its end, which it had not told before, and no read failed
+  -- the reader reported its end, which it had not done before, and no read failed
   abbrev pub IsReadToEnd : Input R → Input R → Type 0
   IsReadToEnd old new = (old.has_ended ≡ false) × (new.has_ended ≡ true) × (new.failures ≡ old.failures)
 
-  -- the last read failed; or no call of the reader is left, which did not tell its end; or it had told its end before, and was not called
+  -- the last read failed; or no call of the reader is left, which did not report its end; or it had reported its end before, and was not called
   abbrev pub IsUnread : Input R → Input R → Type 0
   IsUnread old new =
       CountsOne old.failures new.failures × (new.has_ended ≡ false)
       ⊎ (new.reads_left ≡ 0) × (new.has_ended ≡ false) × (new.failures ≡ old.failures)
       ⊎ (old.has_ended ≡ true) × (new ≡ old)
 
-  -- the input was not read to its end; or memory was wanting before the reader told its end, and no read failed
+  -- the input was not read to its end; or there was no memory before the reader reported its end, and no read failed
   abbrev pub IsReadFault : Input R → Input R → Fault → Type 0
   IsReadFault old new NotUtf8 = ⊥
   IsReadFault old new InputFailed = IsUnread old new

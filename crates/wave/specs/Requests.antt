@@ -1,4 +1,4 @@
--- What the words after the program's name ask for.
+-- What the arguments after the program's name ask for.
 use Rattle.std.specs.Prelude.{ℕ, List, [], ◌∷◌, ◌++◌, ◌≡◌, ◌≢◌, ◌⊎◌, Some, codes}
 use Rattle.wave_grammar.specs.NumberText.{all_digits}
 use Rattle.wave_tree.specs.ParserState.{IsLimit}
@@ -15,23 +15,23 @@ HasNoLeadingZero (digit ∷ digits) = digit ≢ 48
 abbrev pub IsLimitWord : List ℕ → ℕ → Type 0
 IsLimitWord word n = (all_digits word ≡ Some n) × HasNoLeadingZero word × IsLimit n
 
--- these words stand alone, and n is 100; or behind them stands a word that is n
+-- these arguments stand alone, and n is 100; or after them stands one that is n
 abbrev pub TellLimit : List (List ℕ) → List (List ℕ) → ℕ → Type 0
 TellLimit words front n = (words ≡ front) × (n ≡ 100) ⊎ ((word : List ℕ) × (words ≡ front ++ word ∷ []) × IsLimitWord word n)
 
--- the words make the request
+-- the arguments make the request
 abbrev pub AreWordsOf : Request → List (List ℕ) → Type 0
 AreWordsOf (Value n) words = TellLimit words (codes "value" ∷ []) n
 AreWordsOf Call words = words ≡ codes "call" ∷ []
 AreWordsOf (CallAt types) words = (word : List ℕ) × (words ≡ codes "call" ∷ word ∷ []) × NamesParams word types.items
 AreWordsOf (Read T n) words = (word : List ℕ) × TellLimit words (codes "read" ∷ word ∷ []) n × NamesType word T
 
--- the words ask for a type, or for the type of a function, by a word for its text
+-- the arguments ask for a type, or for the type of a function, by a name or its text
 abbrev pub AskForType : List (List ℕ) → Type 0
 AskForType words =
     ((word : List ℕ) × (n : ℕ) × TellLimit words (codes "read" ∷ word ∷ []) n)
     ⊎ ((word : List ℕ) × (words ≡ codes "call" ∷ word ∷ []))
 
--- the words make no request
+-- the arguments make no request
 abbrev pub AreUnknown : List (List ℕ) → Type 0
 AreUnknown words = (request : Request) → AreWordsOf request words → ⊥

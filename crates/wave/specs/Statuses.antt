@@ -17,12 +17,12 @@ abbrev pub IsAnswer : Request → Option (List ℕ) → List ℕ → Type 0
 IsAnswer request left said = (whole : List ℕ) × (answer : List ℕ)
     × IsInput left whole × Answers request whole answer × (said ≡ line answer)
 
--- the request has no answer on the whole input, and the text of a refusal that tells why is the line
+-- the request has no answer on the whole input, and the text of a refusal that says why is the line
 abbrev pub IsRefusal : Request → Option (List ℕ) → List ℕ → Type 0
 IsRefusal request left said = (whole : List ℕ) × (refusal : Diagnostic)
     × IsInput left whole × IsRefused request whole refusal × (said ≡ line (error_text refusal))
 
--- the words make no request and ask for no notice, and the usage is the line
+-- the arguments make no request and ask for no notice, and the usage is the line
 abbrev pub IsUsage : List (List ℕ) → List ℕ → Type 0
 IsUsage words said = AreUnknown words × IsNoNotice words × (said ≡ usage)
 
@@ -34,12 +34,12 @@ module _ {R : Type 0} where
       ⊎ (status ≡ 1) × IsRefusal request left said × IsReadToEnd old new
       ⊎ (status ≡ 3) × ((fault : Fault) × IsFaultOf left old new fault × (said ≡ line (words_of_fault fault)))
 
-  -- memory was wanting for the type that the words ask for, nothing was read, and the line says so
+  -- there was no memory for the type that the arguments ask for, nothing was read, and the line says so
   abbrev pub IsUntold : List (List ℕ) → Input R → Input R → List ℕ → Type 0
   IsUntold words old new said = AskForType words × (new ≡ old) × (said ≡ line (words_of_fault OutOfMemory))
 
-  -- the line that is due, and the status that goes with it: what the request is due that the words make; the help or the version,
-  -- where they ask for it, and nothing was read; the usage; or that memory was wanting to tell which
+  -- the line that is due, and the status that goes with it: what the request is due that the arguments make; the help or the version,
+  -- where they ask for it, and nothing was read; the usage; or that there was no memory to find which
   abbrev pub IsDue : List (List ℕ) → Option (List ℕ) → Input R → Input R → ℕ → List ℕ → Type 0
   IsDue words left old new status said =
       (status ≡ 0) × IsNotice words said × (new ≡ old)

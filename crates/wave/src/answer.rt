@@ -23,9 +23,9 @@ use wasm_wave::writer::WriterError;
 /// Why a request isn't answered on a text.
 #[derive(Drop)]
 pub enum Unanswered {
-    /// The text is refused, as it is told here; or memory was wanting to read it, which is told here too.
+    /// The text is refused, for this reason; or there was no memory to read it, which is a reason too.
     Refused(ParserError),
-    /// Memory was wanting to show the answer that the request has.
+    /// There was no memory to show the answer that the request has.
     OutOfMemory,
 }
 
@@ -60,7 +60,7 @@ pub fn answer(alloc: Global, request: Request, text: &str) -> Result<String, Una
     }
 }
 
-/// The display of the tree that the text spells within so many levels.
+/// The display of the tree that the text spells within `levels` levels.
 fn value(alloc: Global, levels: u32, text: &str) -> Result<String, Unanswered>
     requires { IsLimit levels }
     ensures { MatchResult result
@@ -106,7 +106,7 @@ fn canonical_call(alloc: Global, name: &str, params: &Vec<Value>) -> Result<Stri
     Ok(call)
 }
 
-/// The canonical text of the value that the text means at the type within so many levels.
+/// The canonical text of the value that the text means at the type within `levels` levels.
 fn read(alloc: Global, ty: &Type, levels: u32, text: &str) -> Result<String, Unanswered>
     requires limit { IsLimit levels }
     requires distinct { HasDistinctNames ty.now }

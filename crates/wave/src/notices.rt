@@ -49,7 +49,7 @@ examples:
   echo 'f(1)' | wave call 'func(a: u32, b: option<string>)'
 ";
 
-/// The help or the version, where the words ask for it.
+/// The help or the version, where the arguments ask for it.
 pub fn notice_of(words: &[String]) -> Option<&'static str>
     ensures { MatchOption result
         (IsNoNotice (map string_bytes words.now))

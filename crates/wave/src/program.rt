@@ -26,12 +26,13 @@ const CHUNK: usize = 65_536;
 
 const USAGE: &str = "usage: wave value [N] | wave call | wave read NAME [N]\n";
 
-/// Answers the words on the input, and gives the status to end with: 0 where the request has an
-/// answer, or the words ask for the help or the version, for which nothing is read; 1 where it has
-/// none, 2 where the words make no request, and 3 where the input or the output failed, the input is
-/// no text, or memory ran out, to tell the type that the words ask for too, which comes before anything
-/// is read. An input whose reader told its end before the call counts as one that failed. Where a refusal was told, it is shown to a person too:
-/// what explains it is written to `errors`, unless memory is wanting for that.
+/// Answers the arguments on the input, and gives the status to end with: 0 where the request has an
+/// answer, or the arguments ask for the help or the version, for which nothing is read; 1 where it
+/// has none, 2 where the arguments make no request, and 3 where the input or the output failed, the
+/// input is no text, or memory ran out, also for the type that the arguments name, before anything is
+/// read. An input whose reader had reported its end before the call counts as one that failed. Where a
+/// refusal was printed, it is shown to a person too: what explains it is written to `errors`, unless
+/// there is no memory for that.
 pub fn run<R: Read, W: Write, E: Write>(
     alloc: Global,
     words: &[String],
@@ -44,11 +45,11 @@ pub fn run<R: Read, W: Write, E: Write>(
         × IsDue (map string_bytes words.now) (R.remaining input.old.reader)
         input.old input.new status said
         × Prints W.contents output.old output.new said status result }
-    // A refusal is shown where it was told, and nothing else is.
+    // A refusal is shown where it was printed, and nothing else is.
     ensures shown { result ≡ 1 → IsShown (map string_bytes words.now) (R.remaining input.old.reader)
         W.contents output.old output.new E.contents errors.old errors.new }
     ensures quiet { result ≢ 1 → errors.new ≡ errors.old }
-    // The words are tested before anything is read.
+    // The arguments are tested before anything is read.
     ensures tested_first { AreUnknown (map string_bytes words.now) → input.new ≡ input.old }
     ensures counted { input.new.reads_left ≤ input.old.reads_left }
 {
@@ -69,7 +70,7 @@ pub fn run<R: Read, W: Write, E: Write>(
     }
 }
 
-/// Says why there is no answer, and shows it to a person where that was told at status 1.
+/// Says why there is no answer, and shows it to a person where that was printed at status 1.
 fn refuse<W: Write, E: Write>(
     alloc: Global,
     output: &mut Output<W>,
@@ -88,7 +89,7 @@ fn refuse<W: Write, E: Write>(
     status
 }
 
-/// Writes what explains the refusal of the text, or nothing where memory is wanting for it.
+/// Writes what explains the refusal of the text, or nothing where there is no memory for it.
 fn show<E: Write>(alloc: Global, errors: &mut Output<E>, refusal: &ParserError, text: &str)
     ensures { ShowsRefusal E.contents errors.old errors.new text.now refusal.now }
 {
@@ -107,7 +108,7 @@ fn tell<W: Write>(alloc: Global, output: &mut Output<W>, refusal: &ParserError) 
     }
 }
 
-/// The text of the refusal and a line feed; out of memory for that, or that the refusal tells.
+/// The text of the refusal and a line feed; else out of memory, for that text or as the refusal itself.
 fn refusal_line(alloc: Global, refusal: &ParserError) -> Result<String, AllocError>
     ensures line { IfOk result (λ whole. string_bytes whole ≡ line (error_text refusal.now)) }
     ensures told { OnOk result (refusal.now.kind ≢ kind.OutOfMemory) }

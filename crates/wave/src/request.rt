@@ -1,4 +1,4 @@
-// What the words after the program's name ask for.
+// What the arguments after the program's name ask for.
 ghost use Rattle.std.specs.Prelude.{ℕ, [], ◌∷◌, IfOk, IfErr, MatchOption, map, string_bytes};
 ghost use Rattle.wave.specs.Requests.{IsLimitWord, AreWordsOf, AskForType, AreUnknown};
 
@@ -11,13 +11,13 @@ use wasm_wave::value::Type;
 /// What the program is to do.
 #[derive(Debug, Drop)]
 pub enum Request {
-    /// A text is read without a type, within so many levels, and displayed.
+    /// A text is read without a type, within this many levels, and displayed.
     Value(u32),
     /// A call is read without types, and displayed.
     Call,
     /// A call is read at the types of its parameters, and its name and the canonical parameters printed.
     CallAt(Vec<Type>),
-    /// A text is read at the type, within so many levels, and the canonical text of its value printed.
+    /// A text is read at the type, within this many levels, and the canonical text of its value printed.
     Read(Type, u32),
 }
 
@@ -51,7 +51,7 @@ fn one_word(word: &str) -> Option<Request>
     }
 }
 
-/// The request that two words make. The only error is out of memory.
+/// The request that two arguments make. The only error is out of memory.
 fn two_words(alloc: Global, first: &str, second: &str) -> Result<Option<Request>, AllocError>
     ensures made { IfOk result (λ found. MatchOption found
         (AreUnknown (first.now ∷ second.now ∷ []))
@@ -75,7 +75,7 @@ fn two_words(alloc: Global, first: &str, second: &str) -> Result<Option<Request>
     }
 }
 
-/// The request that three words make. The only error is out of memory.
+/// The request that three arguments make. The only error is out of memory.
 fn three_words(
     alloc: Global,
     first: &str,
@@ -99,7 +99,7 @@ fn three_words(
     }
 }
 
-/// The request that the words make. The only error is out of memory, for the type that they name.
+/// The request that the arguments make. The only error is out of memory, for the type that they name.
 pub fn request_of(alloc: Global, words: &[String]) -> Result<Option<Request>, AllocError>
     ensures made { IfOk result (λ found. MatchOption found
         (AreUnknown (map string_bytes words.now))

@@ -1,4 +1,4 @@
-// The types that the program reads at, from their words.
+// The types that the program reads at, from its arguments.
 ghost use Rattle.std.specs.Prelude.{◌≡◌, List, IfOk, MatchOption};
 ghost use Rattle.wave_wasm.specs.Types.{TypeTree};
 ghost use Rattle.wave_wasm.specs.Borrowed.{shown_all};
@@ -30,7 +30,7 @@ pub fn type_at(alloc: Global, word: &str) -> Result<Option<Type>, AllocError>
 }
 
 /// The types of the parameters of the function whose type the word spells, where each of them has a
-/// value. The only error is want of memory.
+/// value. The only error is out of memory.
 pub fn params_at(alloc: Global, word: &str) -> Result<Option<Vec<Type>>, AllocError>
     ensures { IfOk result (λ found. MatchOption found
         ((Ts : List TypeTree) → NamesParams word.now Ts → ⊥)
@@ -45,7 +45,7 @@ pub fn params_at(alloc: Global, word: &str) -> Result<Option<Vec<Type>>, AllocEr
     with_values(alloc, &types)
 }
 
-/// The types, where each has a value. The only error is want of memory.
+/// The types, where each has a value. The only error is out of memory.
 fn with_values(alloc: Global, types: &Vec<&Type>) -> Result<Option<Vec<Type>>, AllocError>
     ensures { IfOk result (λ found. MatchOption found
         (AllOf HasValue (shown_all (λ T. T) types.now.items) → ⊥)

@@ -14,7 +14,7 @@ pub(crate) struct Case<'a> {
     pub(crate) text: &'a str,
 }
 
-/// The case that stands behind a `#`.
+/// The case that stands after a `#`.
 pub(crate) fn case_of(block: &str) -> Option<Case<'_>> {
     let (head, text) = block.split_once('\n')?;
     let (name, types) = head.split_once(' ')?;

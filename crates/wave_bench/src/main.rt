@@ -8,8 +8,8 @@ mod times;
 use cases::{Case, case_of};
 use std::{env, io};
 
-/// The words are a call (`read`, `nodes`, `write`, `untyped` or `call`) and how often it is made on each
-/// case of the input. With the word `check` each call is made once, and no time is printed.
+/// The arguments are a call (`read`, `nodes`, `write`, `untyped` or `call`) and how often it is made on
+/// each case of the input. With the argument `check` each call is made once, and no time is printed.
 fn main(rt: HostRuntime) -> anyhow::Result<()> {
     let mut words = env::args(&rt)?;
     let Some(call) = words.nth(1) else {

@@ -1,4 +1,4 @@
--- Parts that a maker takes: it refuses them for want of memory alone.
+-- Parts that a constructor takes: it refuses them for lack of memory alone.
 use Rattle.std.proofs.Common.{◌≡◌, ℕ, suc, List, [], ◌∷◌, length, codes, sym, ap, ◌∙◌, refl, Option, Some, None, Result, Ok, Err}
 use Rattle.wave_wasm.specs.Lists.{AllOf}
 use Rattle.wave_wasm.specs.Types as type

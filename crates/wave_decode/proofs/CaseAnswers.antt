@@ -126,7 +126,7 @@ module _ {S V : Type 0} (type_tree : S → TypeTree) (tree : V → Value) (of : 
       }
   read_whole T source (c ∷ n ∷ d ∷ more) p case v m r is read ok full done = absurd read
 
-  -- the variant was made, or its maker refused
+  -- the variant was made, or its constructor refused
   pub whole_made : (T : TypeTree) (source : List ℕ) (children : List NodeTree) (x : CasePayload S V) (p : Range ℕ) (case : Bor (List ℕ) × Bor S) (v : V) (m : Result V WasmValueError) (r : Result V Diagnostic) → x.case ≡ Some case → x.payload ≡ Some v → AreCaseParts type_tree tree of Full T source children x → IfOk m (MakesVariant tree of (type_tree x.ty.now) case.0.now (Some v)) → IfErr m (FullVariant of Full (type_tree x.ty.now) case.0.now (Some v)) → IsMade (node kind.VariantWithPayload p (node_trees children)) m r → IsReadAs tree of Full T source (node kind.VariantWithPayload p (node_trees children)) r
   whole_made T source children x p case v m r named valued h ok full done =
       let cased = subst (λ (o : Option (Bor (List ℕ) × Bor S)). AreRead type_tree tree of Full T source children o x.payload) named h.read in

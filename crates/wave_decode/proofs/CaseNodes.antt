@@ -38,7 +38,7 @@ looked_up found shown parts name here is = here ∙ ap (λ (ps : List (List ℕ 
 
 -- ---- nodes
 
--- the one node behind the first of two
+-- the one node after the first of two
 second : (source : List ℕ) (c : NodeTree) (more : List NodeTree) (a b : Placed) → AreParsed source (c ∷ more) (a ∷ b ∷ []) → (u : NodeTree) × (more ≡ u ∷ []) × (placed_of source c ≡ Some a) × (placed_of source u ≡ Some b)
 second source c [] a b h = absurd h.1
 second source c (u ∷ []) a b h = (u, refl, h.0, h.1.0)

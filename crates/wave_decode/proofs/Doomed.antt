@@ -13,12 +13,12 @@ use Rattle.wave_decode.specs.declared.fault.Fault.TheVariants as fault
 use Rattle.wave_decode.specs.Faults.{Tells, IsDoomed}
 
 module _ {V : Type 0} (tree : V → Value) (of : V → TypeTree → Type 0) (Full : TypeTree → Type 0) where
-  -- the refusal of a part is told of the whole
+  -- the refusal of a part is that of the whole
   pub told_dooms : (T : TypeTree) (source : List ℕ) (ty : NodeType) (children : List NodeTree) (e : Diagnostic) → ((more : List NodeTree) (p : Range ℕ) → IsReadAs tree of Full T source (node ty p (node_trees (children ++ more))) (Err e)) → IsDoomed tree of Full T source ty children (fault.Told e)
   told_dooms T source ty children e refused more p f same =
       subst (λ (g : Diagnostic). IsReadAs tree of Full T source (node ty p (node_trees (children ++ more))) (Err g)) (sym same) (refused more p)
 
-  -- behind one child more
+  -- after one child more
   pub still_doomed : (T : TypeTree) (source : List ℕ) (ty : NodeType) (children : List NodeTree) (n : NodeTree) (f : Fault) → IsDoomed tree of Full T source ty children f → IsDoomed tree of Full T source ty (children ++ n ∷ []) f
   still_doomed T source ty children n f doomed more p e tells =
       subst (λ (ns : List NodeTree). IsReadAs tree of Full T source (node ty p (node_trees ns)) (Err e)) (sym (append_assoc children (n ∷ []) more)) (doomed (n ∷ more) p e tells)

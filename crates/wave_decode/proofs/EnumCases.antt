@@ -23,7 +23,7 @@ use Rattle.wave_syntax.proofs.ErrorSpans.Nodes.{at_in, form_at, caused_at, made_
 use Rattle.wave_leaf.specs.Reading.{IsReadAs}
 
 module _ {V : Type 0} (tree : V → Value) (of : V → TypeTree → Type 0) (Full : TypeTree → Type 0) where
-  -- memory was wanting
+  -- there was no memory
   pub no_memory : (T : TypeTree) (source : List ℕ) (n : NodeTree) (e : Diagnostic) → RefusedAs OutOfMemory n e → IsReadAs tree of Full T source n (Err e)
   no_memory T source n e refused =
       record {
@@ -48,7 +48,7 @@ module _ {V : Type 0} (tree : V → Value) (of : V → TypeTree → Type 0) (Ful
         within = λ v. at_in source n e (inl v) (caused_at (unknown_case name) n e caused place);
       }
 
-  -- the case was made, or its maker refused
+  -- the case was made, or its constructor refused
   pub enum_read : (T : TypeTree) (names : List (List ℕ)) (source : List ℕ) (n : NodeTree) (name : List ℕ) (m : Result V WasmValueError) (r : Result V Diagnostic) → kind_of T ≡ kinds.Enum → names ≡ enum_names T → type_of n ≡ kind.Label → name ≡ name_of (node_text source n) → IsOneOf names name → IfOk m (MakesEnum tree of T name) → IfErr m (FullEnum of Full T name) → IsMade n m r → IsReadAs tree of Full T source n r
   enum_read T names source n name m r is all ty named known ok full done =
       record {

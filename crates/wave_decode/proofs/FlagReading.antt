@@ -74,7 +74,7 @@ module _ {V : Type 0} (tree : V → Value) (of : V → TypeTree → Type 0) (Ful
   flags_read T names flags source n picked v (Ok w) kind is known found makes ok named told = made_read T names flags source n picked (Ok v) (Ok w) kind is known found makes tt ok named told
   flags_read T names flags source n picked v (Err e) kind is known found makes ok named told = absurd told
 
-  -- their maker refused
+  -- their constructor refused
   pub flags_refused : (T : TypeTree) (names flags : List (List ℕ)) (source : List ℕ) (n : NodeTree) (picked : List (Bor (List ℕ))) (cause : WasmValueError) (f : Fault) (r : Result V Diagnostic) → IsFaultOf cause f → kinds.Flags ≡ kind_of T → names ≡ flags_names T → AreAllOf names flags → (AreDistinct names → texts picked ≡ found_in flags names) →
       FullFlags of Full T picked cause → AreFlags n → names_at source (children_of n) ≡ flags → IsTold (Err f) (place_of n) r → IsReadAs tree of Full T source n r
   flags_refused T names flags source n picked cause f (Ok w) caused kind is known found full ok named told = absurd told

@@ -35,7 +35,7 @@ module _ {S V : Type 0} (type_tree : S → TypeTree) (tree : V → Value) (of : 
   more_of_type T children n None kept new step h = step T h
   more_of_type T children n (Some x) kept new step h = (h.0, (h.1.0, h.1.1, step h.1.0 h.1.2))
 
-  -- behind one more
+  -- after one more
   pub one_more : (due : Option TypeTree) (children : List NodeTree) (n : NodeTree) (kept : Kept S V) (next : Parts S V) → ((U : TypeTree) → AreParts type_tree tree of Full U source ty children kept.parts → AreParts type_tree tree of Full U source ty (children ++ n ∷ []) next) → (IsBare kept.parts → next ≡ kept.parts) → AreKeptWhereDue type_tree tree of Full due source ty children kept → AreKeptWhereDue type_tree tree of Full due source ty (children ++ n ∷ []) (record { around = kept.around; parts = next })
   one_more None children n kept next step stays h = subst (λ (x : Parts S V). IsBare x) (sym (stays h)) h
   one_more (Some T) children n kept next step stays h = (
@@ -69,7 +69,7 @@ module _ {S V : Type 0} (type_tree : S → TypeTree) (tree : V → Value) (of : 
         let held = subst (λ (o : Option (Bor S)). AreOfType type_tree tree of Full T source ty children o kept) is h.0 in
         absurd (none_flat T held.1.0 ty plain held.1.1)
 
--- memory is wanting only where it is taken for parts
+-- out of memory is answered only where memory is taken for parts
 pub wants_where_due : {S V A E : Type 0} (type_tree : S → TypeTree) (tree : V → Value) (of : V → TypeTree → Type 0) (Full : TypeTree → Type 0) (due : Option TypeTree) (kept : Kept S V) (r : Result A E) → (IsBare kept.parts → IsOk r) → IfErr r (λ _. (source : List ℕ) (ty : NodeType) (children : List NodeTree) → AreKeptWhereDue type_tree tree of Full due source ty children kept → TakesMemory due)
 wants_where_due {S} {V} {A} {E} type_tree tree of Full due kept (Ok a) bare = tt
 wants_where_due {S} {V} {A} {E} type_tree tree of Full None kept (Err e) bare = λ source ty children h. absurd (no_ok A e (bare h))

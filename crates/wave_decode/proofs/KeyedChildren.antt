@@ -23,7 +23,7 @@ use Rattle.wave_decode.proofs.RecordFields.{has_behind, holds_at}
 
 -- ---- keys
 
--- a key behind pairs is in no pair
+-- a key after pairs is in no pair
 pub pairs_with_key : (children : List NodeTree) (k : NodeTree) (half : ℕ) → length children ≡ half + half → node_pairs (children ++ k ∷ []) ≡ node_pairs children
 pairs_with_key [] k half even = refl
 pairs_with_key (a ∷ []) k half even = absurd (omega (arith, even))
@@ -37,7 +37,7 @@ key_waits (a ∷ []) k half even = absurd (omega (arith, even))
 key_waits (a ∷ b ∷ children) k zero even = absurd (omega (arith, even))
 key_waits (a ∷ b ∷ children) k (suc half) even = key_waits children k half (omega (arith, even))
 
--- what stands behind it is its value
+-- what stands after it is its value
 pub pairs_behind_key : (children : List NodeTree) (k v : NodeTree) (more : List NodeTree) (half : ℕ) → length children ≡ half + half → node_pairs ((children ++ k ∷ []) ++ v ∷ more) ≡ node_pairs children ++ (k, v) ∷ node_pairs more
 pairs_behind_key [] k v more half even = refl
 pairs_behind_key (a ∷ []) k v more half even = absurd (omega (arith, even))
@@ -49,23 +49,23 @@ pairs_behind_key (a ∷ b ∷ children) k v more (suc half) even = ap (λ (ps : 
 some_same : (a b : NodeTree) → Some a ≡ Some b → a ≡ b
 some_same a b e = cc
 
--- a value behind the key that waits makes a pair
+-- a value after the key that waits makes a pair
 pub pairs_behind_value : (children : List NodeTree) (k v : NodeTree) (more : List NodeTree) → last_key children ≡ Some k → node_pairs ((children ++ v ∷ []) ++ more) ≡ node_pairs children ++ (k, v) ∷ node_pairs more
 pairs_behind_value [] k v more waits = absurd (cc)
 pairs_behind_value (a ∷ []) k v more waits = ap (λ (c : NodeTree). (c, v) ∷ node_pairs more) (some_same a k waits)
 pairs_behind_value (a ∷ b ∷ children) k v more waits = ap (λ (ps : List (NodeTree × NodeTree)). (a, b) ∷ ps) (pairs_behind_value children k v more waits)
 
--- so without more behind it
+-- so without more after it
 pub pairs_with_value : (children : List NodeTree) (k v : NodeTree) → last_key children ≡ Some k → node_pairs (children ++ v ∷ []) ≡ node_pairs children ++ (k, v) ∷ []
 pairs_with_value children k v waits = ap node_pairs (sym (append-nil (children ++ v ∷ []))) ∙ pairs_behind_value children k v [] waits
 
--- and no key waits behind it
+-- and no key waits after it
 pub none_waits : (children : List NodeTree) (k v : NodeTree) → last_key children ≡ Some k → last_key (children ++ v ∷ []) ≡ None
 none_waits [] k v waits = absurd (cc)
 none_waits (a ∷ []) k v waits = refl
 none_waits (a ∷ b ∷ children) k v waits = none_waits children k v waits
 
--- behind an odd number of children a key waits
+-- after an odd number of children a key waits
 pub odd_waits : (children : List NodeTree) (half : ℕ) → length children ≡ half + half + 1 → last_key children ≡ None → ⊥
 odd_waits [] half odd none = omega (arith, odd)
 odd_waits (a ∷ []) half odd none = cc
@@ -115,7 +115,7 @@ key_alone (a ∷ []) k half even h = omega (arith, even)
 key_alone (a ∷ b ∷ children) k zero even h = omega (arith, even)
 key_alone (a ∷ b ∷ children) k (suc half) even h = key_alone children k half (omega (arith, even)) h
 
--- the entry of this key and this value stands behind these in the node
+-- the entry of this key and this value stands after these in the node
 abbrev pub StandsBehind : NodeTree → List NodeTree → NodeTree → NodeTree → Type 0
 StandsBehind n children k v = (rest : List (NodeTree × NodeTree)) × (node_pairs (children_of n) ≡ node_pairs children ++ (k, v) ∷ rest)
 
@@ -126,7 +126,7 @@ key_stands source children k [] half p t even is =
 key_stands source children k (v ∷ more) half p t even is =
     (v, (node_pairs more, ap node_pairs (list_of_trees ((children ++ k ∷ []) ++ v ∷ more)) ∙ pairs_behind_key children k v more half even))
 
--- so does that of a value behind the key that waits
+-- so does that of a value after the key that waits
 pub value_stands : (children : List NodeTree) (k v : NodeTree) (more : List NodeTree) (p : Range ℕ) → last_key children ≡ Some k → StandsBehind (node kind.TupleSet p (node_trees ((children ++ v ∷ []) ++ more))) children k v
 value_stands children k v more p waits =
     (node_pairs more, ap node_pairs (list_of_trees ((children ++ v ∷ []) ++ more)) ∙ pairs_behind_value children k v more waits)

@@ -1,4 +1,4 @@
--- Lists, whose items were read one behind the other.
+-- Lists, whose items were read one after the other.
 use Rattle.std.proofs.Common.{ℕ, zero, suc, ◌≡◌, ◌≢◌, inl, inr, ◌<◌, ◌+◌, true, false, List, [], ◌∷◌, ◌++◌, length, get_or, Option, Some, None, Bor, Result, Ok, Err, IfOk, IfErr, refl, sym, ◌∙◌, subst, is_some, length-append, arith}
 use Rattle.std.specs.Result.{IsErrAnd}
 use Rattle.std.specs.declared.ops.Range.{Range}
@@ -36,7 +36,7 @@ some_place P [] h = absurd h
 some_place P (x ∷ xs) (inl h) = record { place = zero; item = x; before = omega arith; is = refl; holds = h }
 some_place P (x ∷ xs) (inr h) = let s = some_place P xs h in record { place = suc s.place; item = s.item; before = omega (arith, s.before); is = s.is; holds = s.holds }
 
--- what holds of some node holds of some with one behind them
+-- what holds of some node holds of some with one after them
 pub some_still : {A : Type 0} (P : A → Type 0) (xs : List A) (x : A) → SomeOf P xs → SomeOf P (xs ++ x ∷ [])
 some_still P [] x h = absurd h
 some_still P (y ∷ ys) x (inl h) = inl h
@@ -74,7 +74,7 @@ module _ {V : Type 0} (tree : V → Value) (of : V → TypeTree → Type 0) (Ful
   all_next E source (m ∷ ns) [] n v h now = absurd h
   all_next E source (m ∷ ns) (w ∷ vs) n v h now = (h.0, all_next E source ns vs n v h.1 now)
 
-  -- behind a refused item
+  -- after a refused item
   pub held_still : (E : TypeTree) (source : List ℕ) (ns : List NodeTree) (vs : List V) (held : Option Diagnostic) (n : NodeTree) → is_some held ≡ true → ReadOrHeld tree of Full E source ns vs held → ReadOrHeld tree of Full E source (ns ++ n ∷ []) vs held
   held_still E source ns vs None n some h = absurd (cc)
   held_still E source ns vs (Some e) n some h = some_still (λ m. IsReadAs tree of Full E source m (Err e)) ns n h
@@ -116,7 +116,7 @@ module _ {V : Type 0} (tree : V → Value) (of : V → TypeTree → Type 0) (Ful
         within = λ value. deeper_at source (node kind.List p (node_trees ns)) ns s.place s.item e value children s.before s.is (s.holds.within (list_item source (node kind.List p (node_trees ns)) ns s.place s.item value refl children s.before s.is));
       }
 
-  -- the list was made, or its maker refused
+  -- the list was made, or its constructor refused
   pub list_read : (T E : TypeTree) (source : List ℕ) (p : Range ℕ) (ns : List NodeTree) (vs : List V) (count : ℕ) (m : Result V WasmValueError) (r : Result V Diagnostic) → list_part T ≡ Some E → count ≡ length ns → IsOfLength T count → AllReadAs tree of Full E source ns vs → IfOk m (MakesList tree of T vs) → IfErr m (FullList of Full T vs) → IsMade (node kind.List p (node_trees ns)) m r → IsReadAs tree of Full T source (node kind.List p (node_trees ns)) r
   list_read T E source p ns vs count m r part many long all ok full done = record {
     answer = λ t is distinct.

@@ -94,7 +94,7 @@ map_children source ns p t h =
 -- ---- what was read so far
 
 module _ {V : Type 0} (tree : V → Value) (of : V → TypeTree → Type 0) (Full : TypeTree → Type 0) where
-  -- behind an even number of children no key waits
+  -- after an even number of children no key waits
   pub none_waits : (S U : TypeTree) (source : List ℕ) (ns : List NodeTree) (xs : List (V × V)) (waits : Option V) (half : ℕ) → AreReadInTurn tree of Full S U source ns xs waits → length ns ≡ half + half → waits ≡ None
   none_waits S U source [] [] None half h even = refl
   none_waits S U source [] [] (Some x) half h even = absurd h
@@ -104,7 +104,7 @@ module _ {V : Type 0} (tree : V → Value) (of : V → TypeTree → Type 0) (Ful
   none_waits S U source (k ∷ n ∷ more) (e ∷ es) waits zero h even = absurd (omega (arith, even))
   none_waits S U source (k ∷ n ∷ more) (e ∷ es) waits (suc half) h even = none_waits S U source more es waits half h.2 (omega (arith, even))
 
-  -- behind an odd number of children one does
+  -- after an odd number of children one does
   pub one_waits : (S U : TypeTree) (source : List ℕ) (ns : List NodeTree) (xs : List (V × V)) (waits : Option V) (half : ℕ) → AreReadInTurn tree of Full S U source ns xs waits → length ns ≡ half + half + 1 → (x : V) × (waits ≡ Some x)
   one_waits S U source [] xs waits half h odd = absurd (omega (arith, odd))
   one_waits S U source (k ∷ []) [] None half h odd = absurd h
@@ -123,7 +123,7 @@ module _ {V : Type 0} (tree : V → Value) (of : V → TypeTree → Type 0) (Ful
   key_more S U source (a ∷ b ∷ ns) [] k x h read = absurd h
   key_more S U source (a ∷ b ∷ ns) (e ∷ es) k x h read = (h.0, h.1, key_more S U source ns es k x h.2 read)
 
-  -- the value behind it was read
+  -- the value after it was read
   pub value_more : (S U : TypeTree) (source : List ℕ) (ns : List NodeTree) (xs : List (V × V)) (n : NodeTree) (x v : V) → AreReadInTurn tree of Full S U source ns xs (Some x) → IsReadAs tree of Full U source n (Ok v) → AreReadInTurn tree of Full S U source (ns ++ n ∷ []) (xs ++ (x, v) ∷ []) None
   value_more S U source [] [] n x v h read = absurd h
   value_more S U source [] (e ∷ es) n x v h read = absurd h
@@ -209,7 +209,7 @@ module _ {V : Type 0} (tree : V → Value) (of : V → TypeTree → Type 0) (Ful
   key_here source es done (e ∷ left) k (n ∷ more) is h =
       record { value = n; rest = node_pairs more; next = record { here = e; rest = left; is = is; key = h.0; node = h.1; nodes = entries_of_nodes source more left h.2 } }
 
-  -- the entry of a key behind entries that were read
+  -- the entry of a key after entries that were read
   key_placed : (K : Simple) (S U : TypeTree) (source : List ℕ) (ns more : List NodeTree) (k : NodeTree) (xs : List (V × V)) (es : List PlacedEntry) → S ≡ type.simple K → AreReadInTurn tree of Full S U source ns xs None → AreInTurn source ((ns ++ k ∷ []) ++ more) es → (done : List PlacedEntry) × (left : List PlacedEntry) × KeyHere source k es done left
   key_placed K S U source ns more k xs es is h nodes =
       let d = divided K S U source ns (k ∷ more) xs es is h (subst (λ (l : List NodeTree). AreInTurn source l es) (append_assoc ns (k ∷ []) more) nodes) in
@@ -231,7 +231,7 @@ module _ {V : Type 0} (tree : V → Value) (of : V → TypeTree → Type 0) (Ful
             child_in source ns more k p e value (told (next.here.place, next.here.key, next.key));
       }
 
-  -- the entry of a value behind its key
+  -- the entry of a value after its key
   value_placed : (S U : TypeTree) (source : List ℕ) (ns more : List NodeTree) (n : NodeTree) (xs : List (V × V)) (x : V) (es : List PlacedEntry) → AreReadInTurn tree of Full S U source ns xs (Some x) → AreInTurn source ((ns ++ n ∷ []) ++ more) es → (done : List PlacedEntry) × (key : NodeTree) × (rest : List (NodeTree × NodeTree)) × NextEntry source es done (key, n) rest
   value_placed S U source ns more n xs x es h nodes =
       let b = between S U source ns (n ∷ more) xs x es h (subst (λ (l : List NodeTree). AreInTurn source l es) (append_assoc ns (n ∷ []) more) nodes) in
@@ -278,7 +278,7 @@ module _ {V : Type 0} (tree : V → Value) (of : V → TypeTree → Type 0) (Ful
       let same : d.done ≡ es = sym (d.is ∙ (ap (λ (l : List PlacedEntry). d.done ++ l) (left_is_none source d.left d.nodes) ∙ append-nil d.done)) in
       subst (λ (l : List PlacedEntry). EntriesRead tree of Full K U l xs) same (d.read distinct)
 
-  -- the map was made of the merged entries, or its maker refused
+  -- the map was made of the merged entries, or its constructor refused
   pub entries_made : (T S U : TypeTree) (source : List ℕ) (ns : List NodeTree) (xs handed : List (V × V)) (waits : Option V) (p : Range ℕ) (made_map : Result V WasmValueError) (r : Result V Diagnostic) → IsMapOf T S U → AreReadInTurn tree of Full S U source ns xs waits → ((v : V) (T : TypeTree) → of v T → HasType T (tree v)) → handed ≡ merge (same_texts tree of Full) xs → IfOk made_map (MakesMap tree of T handed) → IfErr made_map (FullMap of Full T handed) → IsMade (node kind.TupleSet p (node_trees ns)) made_map r → IsReadAs tree of Full T source (node kind.TupleSet p (node_trees ns)) r
   entries_made T S U source ns xs handed (Some x) p made_map r m h fits merged ok full done =
       record {
@@ -294,7 +294,7 @@ module _ {V : Type 0} (tree : V → Value) (of : V → TypeTree → Type 0) (Ful
         within = λ value. made_in source (node kind.TupleSet p (node_trees ns)) made_map r (inl value) done;
       }
 
-  -- the map of `{}` was made, or its maker refused
+  -- the map of `{}` was made, or its constructor refused
   pub none_made : (T : TypeTree) (source : List ℕ) (p : Range ℕ) (handed : List (V × V)) (made_map : Result V WasmValueError) (r : Result V Diagnostic) → kind_of T ≡ kinds.Map → ((v : V) (T : TypeTree) → of v T → HasType T (tree v)) → handed ≡ [] → IfOk made_map (MakesMap tree of T handed) → IfErr made_map (FullMap of Full T handed) → IsMade (node kind.EmptySet p no_nodes) made_map r → IsReadAs tree of Full T source (node kind.EmptySet p no_nodes) r
   none_made T source p handed made_map r is_map fits none ok full done =
       let (K, U, same) = of_map_kind T is_map in

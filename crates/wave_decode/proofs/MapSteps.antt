@@ -1,4 +1,4 @@
--- What is known of the entries of a map behind one part more, and at the end.
+-- What is known of the entries of a map after one part more, and at the end.
 use Rattle.std.proofs.Common.{ℕ, ◌≡◌, List, [], ◌∷◌, ◌++◌, Option, Some, None, option_map, Result, Ok, Err, IfOk, IfErr, Vec, Global, refl, sym, ◌∙◌, subst}
 use Rattle.std.specs.declared.ops.Range.{Range}
 use Rattle.wave_wasm.specs.Types.{TypeTree}
@@ -46,11 +46,11 @@ module _ {V : Type 0} (tree : V → Value) (of : V → TypeTree → Type 0) (Ful
     key_refused k e parts even blamed within =
         told_dooms tree of Full T source kind.TupleSet (children ++ k ∷ []) e (λ more p. key_dooms tree of Full T (type_tree x.key_type.now) (type_tree x.value_type.now) source children more x.entries.items k p e parts_of parts (read_for_key even) blamed within)
 
-    -- behind the key that waits
+    -- after the key that waits
     read_for_value : (key : V) → x.key ≡ Some key → AreReadInTurn tree of Full (type_tree x.key_type.now) (type_tree x.value_type.now) source children x.entries.items (Some key)
     read_for_value key waits = subst (AreReadInTurn tree of Full (type_tree x.key_type.now) (type_tree x.value_type.now) source children x.entries.items) waits h.read
 
-    -- the value behind the key that waits was read at its type
+    -- the value after the key that waits was read at its type
     due_type : (key : V) (n : NodeTree) (r : Result V Diagnostic) → x.key ≡ Some key → IsReadWhereDue tree of Full (shown type_tree (value_type_due x)) source n r → IsReadAs tree of Full (type_tree x.value_type.now) source n r
     due_type key n r waits read = subst (λ (o : Option V). IsReadWhereDue tree of Full (shown type_tree (option_map (λ k. x.value_type) o)) source n r) waits read
 
@@ -81,7 +81,7 @@ module _ {V : Type 0} (tree : V → Value) (of : V → TypeTree → Type 0) (Ful
         let here : IsReadAs tree of Full (type_tree x.value_type.now) source n (Err e) = subst (IsReadAs tree of Full (type_tree x.value_type.now) source n) made (due_type key n r waits read) in
         told_dooms tree of Full T source kind.TupleSet (children ++ n ∷ []) e (λ more p. value_dooms tree of Full T (type_tree x.key_type.now) (type_tree x.value_type.now) source children more x.entries.items key n p e parts_of parts (read_for_value key waits) here)
 
-    -- the map was made of the merged entries, or its maker refused
+    -- the map was made of the merged entries, or its constructor refused
     pub whole_made : (p : Range ℕ) (handed : List (V × V)) (made_map : Result V WasmValueError) (r : Result V Diagnostic) → ((v : V) (U : TypeTree) → of v U → HasType U (tree v)) → handed ≡ merge (same_texts tree of Full) x.entries.items → IfOk made_map (MakesMap tree of (type_tree x.ty.now) handed) → IfErr made_map (FullMap of Full (type_tree x.ty.now) handed) → IsMade (node kind.TupleSet p (node_trees children)) made_map r → IsReadAs tree of Full T source (node kind.TupleSet p (node_trees children)) r
     whole_made p handed made_map r fits merged ok full done =
         entries_made tree of Full T (type_tree x.key_type.now) (type_tree x.value_type.now) source children x.entries.items handed x.key p made_map r parts_of h.read fits merged (subst (λ (U : TypeTree). IfOk made_map (MakesMap tree of U handed)) h.type_is ok) (subst (λ (U : TypeTree). IfErr made_map (FullMap of Full U handed)) h.type_is full) done

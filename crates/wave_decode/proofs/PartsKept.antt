@@ -1,4 +1,4 @@
--- Parts behind one more.
+-- Parts after one more.
 use Rattle.std.proofs.Common.{ℕ, ◌≡◌, ◌++◌, Bool, true, false, List, [], ◌∷◌, Option, Some, None, MatchOption, Result, Ok, Err, IfOk, refl, subst}
 use Rattle.wave_wasm.specs.Types.{TypeTree}
 use Rattle.wave_wasm.specs.Values.{Value}
@@ -46,7 +46,7 @@ none_found x y None none is = is
 none_found x y (Some f) none is = absurd (cc)
 
 module _ {S V : Type 0} (type_tree : S → TypeTree) (tree : V → Value) (of : V → TypeTree → Type 0) (Full : TypeTree → Type 0) (T : TypeTree) (source : List ℕ) (ty : NodeType) (children : List NodeTree) (n : NodeTree) where
-  -- behind a key, but for those that take one
+  -- after a key, but for those that take one
   pub behind_key : (x : Parts S V) → ((y : CasePayload S V) → x ≡ parts.OfCase y → ⊥) → ((y : Fields S V) → x ≡ parts.Fields y → ⊥) → ((y : Entries S V) → x ≡ parts.Entries y → ⊥) → TakesKey ty children → AreParts type_tree tree of Full T source ty children x → AreParts type_tree tree of Full T source ty (children ++ n ∷ []) x
   behind_key (parts.Faulty f) case fields entries takes h = still_doomed tree of Full T source ty children n f h
   behind_key (parts.Simple x) case fields entries takes h = h
@@ -59,7 +59,7 @@ module _ {S V : Type 0} (type_tree : S → TypeTree) (tree : V → Value) (of : 
   behind_key (parts.Fields x) case fields entries takes h = absurd (fields x refl)
   behind_key (parts.Entries x) case fields entries takes h = absurd (entries x refl)
 
-  -- behind a value, of which nothing is kept
+  -- after a value, of which nothing is kept
   pub behind_part : (x : Parts S V) → ((y : Items S V) → x ≡ parts.Items y → ⊥) → ((y : Row S V) → x ≡ parts.Row y → ⊥) → ((y : SomePayload S V) → x ≡ parts.OfSome y → ⊥) → ((y : ResultPayload S V) → x ≡ parts.OfResult y → ⊥) → ((y : CasePayload S V) → x ≡ parts.OfCase y → ⊥) → ((y : Fields S V) → x ≡ parts.Fields y → ⊥) → ((y : Entries S V) → x ≡ parts.Entries y → ⊥) → TakesPart ty children → AreParts type_tree tree of Full T source ty children x → AreParts type_tree tree of Full T source ty (children ++ n ∷ []) x
   behind_part (parts.Faulty f) items row some result case fields entries takes h = still_doomed tree of Full T source ty children n f h
   behind_part (parts.Simple x) items row some result case fields entries takes h = h

@@ -81,7 +81,7 @@ new_at (x ∷ xs) zero d lt distinct = refl
 new_at (x ∷ xs) (suc i) d lt distinct =
     rw (unlike (get_or xs i d).now x.now (apart_at x.now xs i d (omega (arith, lt)) distinct.0), new_at xs i d (omega (arith, lt)) distinct.1) refl
 
--- what is picked behind the next name
+-- what is picked after the next name
 pub picks_next : {X : Type 0} (flags : List (List ℕ)) (xs ys : List (Bor (List ℕ))) (i : ℕ) (d : Bor (List ℕ)) (m : BTreeMap (Bor (List ℕ)) X) (o : Option X) (picked more : List (List ℕ)) → ys ≡ xs → i < length ys → IsLeft flags (texts (take i xs)) m → o ≡ held m (get_or ys i d).now →
     (AreDistinct (texts xs) → picked ≡ found_in flags (texts (take i xs))) → (is_some o ≡ true) × (more ≡ picked ++ (get_or ys i d).now ∷ []) ⊎ (is_some o ≡ false) × (more ≡ picked) →
     AreDistinct (texts xs) → more ≡ found_in flags (texts (take (i + 1) xs))
@@ -102,7 +102,7 @@ pub left_next : {X : Type 0} (flags : List (List ℕ)) (xs ys : List (Bor (List 
 left_next flags xs ys i d m n same lt left u =
     subst (λ (names : List (List ℕ)). IsLeft flags names n) (sym (texts_next xs ys i d same lt)) (left_more flags (texts (take i xs)) m n (get_or ys i d).now left u)
 
--- ---- behind the last name
+-- ---- after the last name
 
 all_from : (names some : List (List ℕ)) → ((name : List ℕ) → IsOneOf some name → IsOneOf names name) → AreAllOf names some
 all_from names [] f = tt

@@ -57,12 +57,12 @@ holds_at P [] i x all h = absurd h
 holds_at P (y ∷ xs) zero x all h = subst P h all.0
 holds_at P (y ∷ xs) (suc i) x all h = holds_at P xs i x all.1 h
 
--- the one behind these
+-- the one after these
 pub has_behind : {X : Type 0} (before : List X) (x : X) (behind : List X) → HasAt (before ++ x ∷ behind) (length before) x
 has_behind [] x behind = refl
 has_behind (y ∷ before) x behind = has_behind before x behind
 
--- what holds of the one behind these holds of some
+-- what holds of the one after these holds of some
 pub some_behind : {X : Type 0} (P : X → Type 0) (before : List X) (x : X) (behind : List X) → P x → SomeOf P (before ++ x ∷ behind)
 some_behind P [] x behind p = inl p
 some_behind P (y ∷ before) x behind p = inr (some_behind P before x behind p)
@@ -82,7 +82,7 @@ pub some_there : {X : Type 0} (o : Option X) → is_some o ≡ true → (x : X) 
 some_there None e = absurd (cc)
 some_there (Some x) e = (x, refl)
 
--- what an iterator has given is a front of its items
+-- what an iterator has given is a prefix of its items
 pub given_front : {X A : Type 0} (s : IntoIter X A) (xs : List X) (t : IntoIter X A) → Yields into_iter_steps s xs t → into_iter_items s ≡ xs ++ into_iter_items t
 given_front s [] t y = ap into_iter_items y
 given_front s (x ∷ xs) t y = y.1.0 ∙ ap (λ ys. x ∷ ys) (given_front y.0 xs t y.2)
@@ -101,7 +101,7 @@ none_more : (names : List (List ℕ)) (n name : List ℕ) → IsNoneOf names nam
 none_more [] n name none apart = (apart, tt)
 none_more (m ∷ names) n name none apart = (none.0, none_more names n name none.1 apart)
 
--- the name is none of those of the fields up to behind a place
+-- the name is none of those of the fields up to after a place
 pub none_up_to : {S V : Type 0} (fields : List (Field S V)) (i : ℕ) (f : Field S V) (name : List ℕ) → HasAt fields i f → IsNoneOf (map field_name (take i fields)) name → name ≢ f.name.now → IsNoneOf (map field_name (take (i + 1) fields)) name
 none_up_to fields i f name here none apart =
     subst (λ (names : List (List ℕ)). IsNoneOf names name) (sym (ap (map field_name) (take_next fields i f here) ∙ map_last field_name (take i fields) f)) (none_more (map field_name (take i fields)) f.name.now name none apart)

@@ -1,4 +1,4 @@
--- What is known of the fields of a record behind one part more.
+-- What is known of the fields of a record after one part more.
 use Rattle.std.proofs.Common.{ℕ, ◌≡◌, inl, inr, List, [], ◌∷◌, ◌++◌, map, set, Option, Some, None, option_map, Result, Ok, Err, Vec, Global, Bor, refl, sym, ap, ◌∙◌, subst}
 use Rattle.std.specs.Prelude.{slice_get}
 use Rattle.wave_wasm.specs.Lists.{AllOf}

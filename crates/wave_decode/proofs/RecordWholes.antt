@@ -65,7 +65,7 @@ module _ {V : Type 0} (tree : V → Value) (of : V → TypeTree → Type 0) (Ful
       distinct = h.begun.distinct distinct;
     }
 
-    -- the record was made of all its values, or its maker refused
+    -- the record was made of all its values, or its constructor refused
     pub whole_made : (p : Range ℕ) (vals : List (Bor (List ℕ) × V)) (made_record : Result V WasmValueError) (r : Result V Diagnostic) → AreFull tree of type_tree x.fields.items vals → IfOk made_record (MakesRecord tree of (type_tree x.ty.now) vals) → IfErr made_record (FullRecord of Full (type_tree x.ty.now) vals) → IsMade (node kind.TupleSet p (node_trees children)) made_record r → IsReadAs tree of Full T source (node kind.TupleSet p (node_trees children)) r
     whole_made p vals made_record r filled ok full done =
         let n : NodeTree = node kind.TupleSet p (node_trees children) in
@@ -85,7 +85,7 @@ module _ {V : Type 0} (tree : V → Value) (of : V → TypeTree → Type 0) (Ful
           within = λ value. made_in source n made_record r (inl value) done;
         }
 
-    -- a field was left out, or memory was wanting
+    -- a field was left out, or there was no memory
     pub whole_unfilled : (p : Range ℕ) (e : Diagnostic) (r : Result V Diagnostic) → IsErrAnd r (λ f. f ≡ e) → HasFullParts Full → IsLeftUnfilled Full type_tree x.fields.items (node kind.TupleSet p (node_trees children)) e → RefusesAt (node kind.TupleSet p (node_trees children)) e → IsReadAs tree of Full T source (node kind.TupleSet p (node_trees children)) r
     whole_unfilled p e r same full left told =
         let n : NodeTree = node kind.TupleSet p (node_trees children) in

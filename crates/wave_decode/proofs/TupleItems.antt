@@ -1,4 +1,4 @@
--- Tuples, whose items were read one behind the other.
+-- Tuples, whose items were read one after the other.
 use Rattle.std.proofs.Common.{ℕ, ◌≡◌, ◌≢◌, inl, inr, ◌<◌, true, false, List, [], ◌∷◌, ◌++◌, length, get_or, take, Bor, Result, Ok, Err, IfOk, IfErr, refl, sym, ap, ◌∙◌, subst, is_some, length-append, arith}
 use Rattle.std.specs.List.{slice_get}
 use Rattle.std.specs.declared.ops.Range.{Range}
@@ -29,7 +29,7 @@ use Rattle.wave_decode.specs.TupleParts.{AreReadEach}
 use Rattle.wave_decode.specs.declared.fault.Fault.TheVariants as fault
 use Rattle.wave_decode.proofs.Doomed.{told_dooms}
 
--- the one behind the first ones
+-- the one after the first ones
 at_last : {A : Type 0} (xs more : List A) (x : A) → x ≡ get_or ((xs ++ x ∷ []) ++ more) (length xs) x
 at_last [] more x = refl
 at_last (y ∷ ys) more x = at_last ys more x
@@ -47,7 +47,7 @@ module _ {V : Type 0} (tree : V → Value) (of : V → TypeTree → Type 0) (Ful
         within = λ value. at_in source n e (inl value) (form_at n e refused);
       }
 
-  -- where memory was wanting for the parts, whatever they are
+  -- where there was no memory for the parts, whatever they are
   pub memory_dooms : (T : TypeTree) (source : List ℕ) (ty : NodeType) (ns : List NodeTree) → IsDoomed tree of Full T source ty ns (fault.Kind OutOfMemory)
   memory_dooms T source ty ns more p e says =
       let memory : e.kind ≡ OutOfMemory = ap (λ (r : Refusal). r.kind) says.is in
@@ -131,7 +131,7 @@ module _ {V : Type 0} (tree : V → Value) (of : V → TypeTree → Type 0) (Ful
         within = λ value. at_in source m e (inl value) (caused_at _ m e (inr (cause, place)) place);
       }
 
-  -- the tuple was made, or its maker refused
+  -- the tuple was made, or its constructor refused
   pub tuple_read : (T : TypeTree) (parts : List TypeTree) (source : List ℕ) (p : Range ℕ) (ns : List NodeTree) (vs : List V) (want count : ℕ) (m : Result V WasmValueError) (r : Result V Diagnostic) → kind_of T ≡ kinds.Tuple → parts ≡ tuple_parts T → want ≡ length parts → count ≡ length ns → count ≡ want → AreReadEach tree of Full parts source ns vs → IfOk m (MakesTuple tree of T vs) → IfErr m (FullTuple of Full T vs) → IsMade (node kind.Tuple p (node_trees ns)) m r → IsReadAs tree of Full T source (node kind.Tuple p (node_trees ns)) r
   tuple_read T parts source p ns vs want count m r tuples parts_are wanted many same all ok full done =
       let n : NodeTree = node kind.Tuple p (node_trees ns) in

@@ -21,13 +21,13 @@ Tells (fault.Told e) p f = f ≡ e
 Tells (fault.Kind k) p f = Says f k p None
 Tells (fault.Cause c) p f = (refusal_of f ≡ refused_by (cause_of c.value)) × (f.span ≡ p)
 
--- the fault with this cause, or for want of memory
+-- the fault with this cause, or for lack of memory
 abbrev pub IsFaultOf : WasmValueError → Fault → Type 0
 IsFaultOf cause (fault.Cause c) = c.value ≡ cause
 IsFaultOf cause (fault.Kind k) = k ≡ OutOfMemory
 IsFaultOf cause (fault.Told e) = ⊥
 
--- at each node that stands there: the value that was made, or the refusal of its maker
+-- at each node that stands there: the value that was made, or the refusal of its constructor
 abbrev pub IsMadeAt : {V : Type 0} → Range ℕ → Result V WasmValueError → Result V Diagnostic → Type 0
 IsMadeAt p made r = (n : NodeTree) → place_of n ≡ p → IsMade n made r
 

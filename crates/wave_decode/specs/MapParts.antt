@@ -8,12 +8,12 @@ use Rattle.wave_syntax.specs.TypedReading.{AnswersKey}
 use Rattle.wave_leaf.specs.Reading.{IsReadAs}
 use Rattle.wave_decode.specs.declared.maps.Entries.{Entries}
 
--- the type of the value that comes next, behind a key
+-- the type of the value that comes next, after a key
 abbrev pub value_type_due : {S V : Type 0} → Entries S V → Option (Bor S)
 value_type_due x = option_map (λ key. x.value_type) x.key
 
 module _ {V : Type 0} (tree : V → Value) (of : V → TypeTree → Type 0) (Full : TypeTree → Type 0) where
-  -- these nodes were read as keys and values in turn: as the entries, and behind them the key that waits
+  -- these nodes were read as keys and values in turn: as the entries, and after them the key that waits
   abbrev pub AreReadInTurn : TypeTree → TypeTree → List ℕ → List NodeTree → List (V × V) → Option V → Type 0
   AreReadInTurn S U source [] [] None = Unit {0}
   AreReadInTurn S U source (k ∷ []) [] (Some key) = AnswersKey tree of Full S source k (Ok key)

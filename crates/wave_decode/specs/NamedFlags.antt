@@ -22,7 +22,7 @@ use Rattle.wave_decode.specs.Faults.{Tells}
 abbrev pub flag_names : BTreeMap (Bor (List ℕ)) (Range ℕ) → List (List ℕ)
 flag_names flags = texts (keys flags)
 
--- told of a node, the fault is a refusal with this cause, or for want of memory
+-- at a node the fault is a refusal with this cause, or for lack of memory
 abbrev pub TellsCause : Cause → Fault → Type 0
 TellsCause cause f = (n : NodeTree) (e : Diagnostic) → Tells f (place_of n) e → IsCaused cause n e × (e.span ≡ place_of n)
 
@@ -30,7 +30,7 @@ TellsCause cause f = (n : NodeTree) (e : Diagnostic) → Tells f (place_of n) e 
 abbrev pub TellsUnknown : List (List ℕ) → List (List ℕ) → Fault → Type 0
 TellsUnknown names flags f = (n : NodeTree) (e : Diagnostic) → Tells f (place_of n) e → RefusesUnknown names flags n e × RefusesAt n e
 
--- what was read, or its fault told of what stands there
+-- what was read, or its fault as a refusal of what stands there
 abbrev pub IsTold : {V : Type 0} → Result V Fault → Range ℕ → Result V Diagnostic → Type 0
 IsTold (Ok v) p (Ok w) = w ≡ v
 IsTold (Err f) p (Err e) = Tells f p e
@@ -41,6 +41,6 @@ module _ {V : Type 0} (tree : V → Value) (of : V → TypeTree → Type 0) (Ful
   abbrev pub IsReadOfFlags : TypeTree → Range ℕ → BTreeMap (Bor (List ℕ)) (Range ℕ) → Result V Diagnostic → Type 0
   IsReadOfFlags T p flags r = (source : List ℕ) → AreFlagsOf source flags → IsReadAs tree of Full T source (node kind.Flags p (flag_nodes flags)) r
 
-  -- told of the node, that is what is read of it at the type
+  -- at the node, that is what is read of it at the type
   abbrev pub IsReadOrTold : TypeTree → List ℕ → NodeTree → Result V Fault → Type 0
   IsReadOrTold T source n read = (r : Result V Diagnostic) → IsTold read (place_of n) r → IsReadAs tree of Full T source n r

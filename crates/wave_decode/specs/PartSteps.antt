@@ -1,4 +1,4 @@
--- What parts of a value are behind one more child, and what is read of all of them.
+-- What parts of a value are after one more child, and what is read of all of them.
 use Rattle.std.specs.Prelude.{ℕ, ◌≡◌, ◌++◌, List, [], ◌∷◌, Option, Result, MatchOption}
 use Rattle.std.specs.Borrow.{Bor}
 use Rattle.std.specs.declared.ops.Range.{Range}

@@ -81,7 +81,7 @@ IsKeyDue source fields None None = Unit {0}
 IsKeyDue source fields (Some key) (Some due) = (type_of key ≡ kind.Label) × IsUnread fields (name_of (node_text source key)) due
 IsKeyDue source fields _ _ = ⊥
 
--- that a field of this name is missing, or want of memory
+-- that a field of this name is missing, or out of memory
 abbrev pub IsMissingOrMemory : List ℕ → WasmValueError → Type 0
 IsMissingOrMemory name cause = (cause_of cause ≡ missing_field name) ⊎ IsMemory cause
 
@@ -111,7 +111,7 @@ module _ {S V : Type 0} (tree : V → Value) (of : V → TypeTree → Type 0) (t
   AreFull _ _ = ⊥
 
 module _ {S V : Type 0} (Full : TypeTree → Type 0) (type_tree : S → TypeTree) where
-  -- want of memory, or the refusal of a field that was left out of the record
+  -- out of memory, or the refusal of a field that was left out of the record
   abbrev pub IsLeftUnfilled : List (Field S V) → NodeTree → Diagnostic → Type 0
   IsLeftUnfilled fields n e =
       (e.kind ≡ OutOfMemory)

@@ -99,7 +99,7 @@ fn unknown(alloc: Global, name: &str) -> Fault
     }
 }
 
-/// What was read, or its fault told of the whole value, which stands here.
+/// What was read, or its fault as one of the whole value, which stands here.
 fn told<V>(read: Result<V, Fault>, span: Span) -> Result<V, ParserError>
     ensures { IsTold read span result }
 {

@@ -104,8 +104,8 @@ impl<'ty, V: WasmValue> Items<'ty, V::Type, V> {
     }
 }
 
-/// Refuses a list of so many items, which stands here, where the type is a fixed-length list of
-/// another number.
+/// Refuses a list of `got` items, which stands here, where the type is a fixed-length list of another
+/// number.
 fn check_length<T: WasmType>(ty: &T, got: usize, span: &Span) -> Result<(), ParserError>
     ensures fits { IfOk result (λ done. IsOfLength (T.tree ty.now) got) }
     ensures other { IfErr result (λ e. (children : NodeTrees) → IsOtherLength (T.tree ty.now) got (node NodeType.List span.now children) e) }

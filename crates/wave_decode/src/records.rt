@@ -46,7 +46,7 @@ pub struct Fields<'ty, T, V> {
     index: Option<Box<BTreeMap<&'ty str, usize>>>,
 }
 
-/// So many fields are searched by their names without an index.
+/// Up to this many fields are searched by their names without an index.
 const FEW: usize = 16;
 
 impl<'ty, T, V> Fields<'ty, T, V> {

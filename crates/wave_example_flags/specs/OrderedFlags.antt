@@ -1,4 +1,4 @@
--- What `OrderedFlags` are of, where they are full, and what their makers refuse.
+-- What `OrderedFlags` are of, where they are full, and what their constructors refuse.
 use Rattle.std.specs.Prelude.{ℕ, ◌≡◌, List, string_bytes, codes}
 use Rattle.wave_wasm.specs.Names.{IsOneOf, IsNoneOf, AreAllOf, AreDistinct}
 use Rattle.wave_wasm.specs.Types as type
@@ -39,14 +39,14 @@ full_parts (type.map K V) full = absurd full
 abbrev pub TakesNames : List (List ℕ) → List (List ℕ) → Type 0
 TakesNames all handed = AreAllOf all handed × AreDistinct handed
 
--- one of the names is none of the type's, a name stands twice, or want of memory
+-- one of the names is none of the type's, a name stands twice, or out of memory
 abbrev pub RefusesNames : List (List ℕ) → List (List ℕ) → WasmValueError → Type 0
 RefusesNames all handed (error.UnknownCase n) = IsOneOf handed (string_bytes n) × IsNoneOf all (string_bytes n)
 RefusesNames all handed (error.Other words) = (string_bytes words ≡ codes "a name stands twice") × (AreDistinct handed → ⊥)
 RefusesNames all handed (error.Memory e) = Unit {0}
 RefusesNames all handed _ = ⊥
 
--- the type's kind is not supported, told by its word, or want of memory
+-- the type's kind is not supported, named by its word, or out of memory
 abbrev pub RefusesKind : WasmTypeKind → WasmValueError → Type 0
 RefusesKind kind (error.UnsupportedType word) = string_bytes word ≡ kind_word kind
 RefusesKind kind (error.Memory e) = Unit {0}

@@ -36,7 +36,7 @@ fn unsupported(alloc: Global, kind: WasmTypeKind) -> WasmValueError
     }
 }
 
-// The makers of other kinds refuse. The views of other kinds can't be asked: each says that flags are
+// The constructors of other kinds refuse. The views of other kinds can't be asked: each says that flags are
 // not of its kind, which is all that the trait's clause needs, and what it answers nobody reads.
 impl WasmValue for OrderedFlags {
     ghost use Rattle.wave_wasm.specs.Types as type;

@@ -1,4 +1,4 @@
--- What the makers ask for and refuse.
+-- What the constructors ask for and refuse.
 use Rattle.std.specs.Prelude.{ℕ, ◌≡◌, ◌≢◌, ◌⊎◌, List, Some, Result, Ok, Err}
 use Rattle.wave_wasm.specs.Lists.{AllOf}
 use Rattle.wave_wasm.specs.Types.{TypeTree, list_part, list_length}
@@ -15,11 +15,11 @@ use Rattle.wave_wasm.specs.declared.wasm.WasmValueError.{WasmValueError}
 abbrev pub AreElements : TypeTree → List Value → Type 0
 AreElements T vs = (E : TypeTree) × (Some E ≡ list_part T) × AllOf (HasType E) vs
 
--- the kind is refused, by its word, or for want of memory
+-- the kind is refused, by its word, or for lack of memory
 abbrev pub RefusesKind : WasmTypeKind → WasmValueError → Type 0
 RefusesKind kind e = IsMemory e ⊎ (cause_of e ≡ unsupported_type (kind_word kind))
 
--- lists are refused, or so many items where a fixed-length list has others
+-- lists are refused, or a number of items where a fixed-length list has another
 abbrev pub RefusesList : TypeTree → ℕ → WasmValueError → Type 0
 RefusesList T got e =
     RefusesKind kinds.List e ⊎ ((want : ℕ) × (list_length T ≡ Some want) × (got ≢ want) × (cause_of e ≡ wrong_length want got))

@@ -22,7 +22,7 @@ pub enum Bare {
     Unsupported,
 }
 
-// The makers of other kinds refuse. The views of other kinds can't be asked: each says that no value
+// The constructors of other kinds refuse. The views of other kinds can't be asked: each says that no value
 // is of its kind, which is all that the trait's clause needs, and what it answers nobody reads.
 impl WasmValue for Bare {
     ghost use Rattle.std.specs.Prelude.{ℕ, ◌≡◌, IfOk, IfErr, Some, length};
@@ -39,7 +39,7 @@ impl WasmValue for Bare {
     // A value is of each type that its tree is a value of.
     ghost is_of = { λ v T. HasType T (tree_of v) };
 
-    // At no type do the makers make each value.
+    // At no type do the constructors make each value.
     ghost is_full = { λ T. ⊥ };
 
     ghost of_fits = { λ v T h. h };

@@ -13,7 +13,7 @@ use wave_example_flags::ordered_flags::OrderedFlags;
 /// Why a call has no answer.
 #[derive(Debug, Drop, thiserror::Error)]
 pub enum CallRefusal {
-    /// The text is no call, or a parameter is refused. The error tells the place.
+    /// The text is no call, or a parameter is refused. The error has the place.
     #[error("{0}")]
     Text(#[from] ParserError),
     /// There is no function of this name.

@@ -18,7 +18,7 @@ use wasm_wave::{from_str, to_string};
 /// Why settings were not written again.
 #[derive(Debug, Drop, thiserror::Error)]
 pub enum Refusal {
-    /// The text means no settings. The error tells the place.
+    /// The text means no settings. The error has the place.
     #[error("{0}")]
     Text(#[from] ParserError),
     /// The text means a value that is no record.

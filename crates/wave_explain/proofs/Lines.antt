@@ -12,19 +12,19 @@ module _ (c : ℕ) where
   none_of [] h = tt
   none_of (b ∷ s) h = (h 0 (omega arith), none_of s (λ i lt. h (suc i) (omega (arith, lt))))
 
-  -- the front of one whose first c stands at k
+  -- the prefix of one whose first c stands at k
   pub none_before : (s : List ℕ) (k : ℕ) → k < length s → ((i : ℕ) → i < k → get_or s i 0 ≢ c) → AllOf (λ b. b ≢ c) (take k s)
   none_before s zero lt h = tt
   none_before [] (suc k) lt h = absurd (omega (arith, lt))
   none_before (b ∷ s) (suc k) lt h = (h 0 (omega arith), none_before s k (omega (arith, lt)) (λ i l. h (suc i) (omega (arith, l))))
 
-  -- what stands behind the last
+  -- what stands after the last
   pub none_behind : (s : List ℕ) (k : ℕ) → ((i : ℕ) → k ≤ i → i < length s → get_or s i 0 ≢ c) → AllOf (λ b. b ≢ c) (drop k s)
   none_behind s zero h = none_of s (λ i lt. h i (omega arith) lt)
   none_behind [] (suc k) h = tt
   none_behind (b ∷ s) (suc k) h = none_behind s k (λ i le lt. h (suc i) (omega (arith, le)) (omega (arith, lt)))
 
-  -- what stands at k and behind it
+  -- what stands at k and after it
   pub drop_at : (s : List ℕ) (k : ℕ) → k < length s → get_or s k 0 ≡ c → drop k s ≡ c ∷ drop (suc k) s
   drop_at [] k lt e = absurd (omega (arith, lt))
   drop_at (b ∷ s) zero lt e = ap (λ x. x ∷ s) e

@@ -13,7 +13,7 @@ shown_scalar c = if c == 9 then 32 else (if is_control c then 0xFFFD else c)
 abbrev pub shown_text : List ℕ → List ℕ
 shown_text scalars = encode_utf8_all (map shown_scalar scalars)
 
--- `…`, which is U+2026, where any of so many scalars is left out
+-- `…`, which is U+2026, where any scalar is left out
 abbrev pub ellipsis : ℕ → List ℕ
 ellipsis zero = []
 ellipsis (suc n) = encode_utf8 0x2026
@@ -38,7 +38,7 @@ marks front marked = replicate (columns (shown_before front)) 32 ++ replicate (m
 abbrev pub shown_lines : List ℕ → List ℕ → List ℕ → List ℕ
 shown_lines front rest marked = codes "  | " ++ (shown_before front ++ (shown_after rest ++ (codes "\n  | " ++ (marks front marked ++ codes "\n"))))
 
--- what is marked of the line from the place on: so many of its bytes, fewer where a scalar would be broken, and no more than it has
+-- what is marked of the line from the place on: `count` of its bytes, fewer where a scalar would be broken, and no more than it has
 abbrev pub IsMarked : List ℕ → ℕ → List ℕ → Type 0
 IsMarked rest count marked =
     (length rest ≤ count) × (marked ≡ rest)

@@ -23,7 +23,7 @@ const SHOWN: usize = 48;
 ///   |     ^^^
 /// ```
 ///
-/// A long line is cut around the place. A tab is shown as one blank, another control character as
+/// A long line is truncated around the place. A tab is shown as one blank, another control character as
 /// U+FFFD, and the mark is as wide as what it stands below. The only error is out of memory.
 pub fn explain(alloc: Global, error: &ParserError, source: &str) -> Result<String, AllocError>
     ensures { IfOk result (λ text. IsExplained source.now (error_text error.now) error.now.span (string_bytes text)) }
@@ -59,7 +59,7 @@ fn heading(alloc: Global, message: &str, place: &Place<'_>) -> Result<String, Al
     )
 }
 
-/// What is marked of the line from the place on: so many of its bytes.
+/// What is marked of the line from the place on: `count` of its bytes.
 fn marked_of(rest: &str, count: usize) -> &str
     ensures { IsMarked rest.now count result.now }
 {
@@ -69,7 +69,7 @@ fn marked_of(rest: &str, count: usize) -> &str
     rest.split_at(rest.floor_char_boundary(count)).0
 }
 
-/// The line, cut around the place, and the mark below it.
+/// The line, truncated around the place, and the mark below it.
 fn shown_lines(alloc: Global, front: &str, rest: &str, marked: &str) -> Result<String, AllocError>
     ensures { IfOk result (λ text. string_bytes text ≡ shown_lines front.now rest.now marked.now) }
 {
@@ -114,7 +114,7 @@ fn marks(alloc: Global, before: &str, marked: &str) -> Result<String, AllocError
     Ok(text)
 }
 
-/// Adds `…` where any of so many scalars is left out.
+/// Adds `…` where any scalar is left out.
 fn push_ellipsis(to: &mut String, left_out: usize) -> Result<(), AllocError>
     ensures { IfOk result (λ _. string_bytes to.new ≡ string_bytes to.old ++ ellipsis left_out) }
 {
@@ -124,7 +124,7 @@ fn push_ellipsis(to: &mut String, left_out: usize) -> Result<(), AllocError>
     Ok(())
 }
 
-/// Adds the text's scalars, as they are shown, without the first so many and at most so many.
+/// Adds the text's scalars, as they are shown: at most `most` of them after the first `skipped`.
 fn push_shown(to: &mut String, text: &str, skipped: usize, most: usize) -> Result<(), AllocError>
     ensures { IfOk result (λ _. string_bytes to.new ≡
         string_bytes to.old ++ shown_text (take most (drop skipped (chars text.now)))) }
@@ -153,7 +153,7 @@ fn shown(scalar: char) -> char
     }
 }
 
-/// Adds so many blanks.
+/// Adds `count` blanks.
 fn push_blanks(to: &mut String, count: usize) -> Result<(), AllocError>
     ensures { IfOk result (λ _. string_bytes to.new ≡ string_bytes to.old ++ replicate count 32) }
 {
@@ -163,7 +163,7 @@ fn push_blanks(to: &mut String, count: usize) -> Result<(), AllocError>
     Ok(())
 }
 
-/// Adds so many marks.
+/// Adds `count` marks.
 fn push_marks(to: &mut String, count: usize) -> Result<(), AllocError>
     ensures { IfOk result (λ _. string_bytes to.new ≡ string_bytes to.old ++ replicate count 94) }
 {

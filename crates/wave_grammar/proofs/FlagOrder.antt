@@ -56,7 +56,7 @@ total_at o Greater e h k = ap is_lt e
 pub total : (a b : List ℕ) → a ≢ b → is_before a b ≡ false → is_before b a ≡ true
 total a b n h = before_is b a ∙ total_at (slice_cmp nat_cmp b a) (slice_cmp nat_cmp a b) (nat_list_cmp_total.antisymm b a) (sym (before_is a b) ∙ h) (λ e. n (equal_names a b e))
 
--- what is before a name is before the names behind it
+-- what is before a name is before the names after it
 pub trans : (a b c : List ℕ) → is_before a b ≡ true → is_before b c ≡ true → is_before a c ≡ true
 trans a b c h k = before_is a c ∙ ap is_lt (nat_list_cmp_total.trans a b c (less_is _ (sym (before_is a b) ∙ h)) (less_is _ (sym (before_is b c) ∙ k)))
 

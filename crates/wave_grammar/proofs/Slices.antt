@@ -1,4 +1,4 @@
--- What a slice of a source cuts into: the tokens that stand there.
+-- How a slice of a source is tokenized: into the tokens that stand there.
 use Rattle.std.proofs.Common.{◌≡◌, ℕ, ◌≤◌, ◌+◌, ◌-◌, inl, inr, true, false, List, [], ◌∷◌, ◌++◌, refl, sym, ap, subst, ◌∙◌, length, take, drop, arith, Some, None, Ok, append_assoc, map}
 use Rattle.wave_wasm.specs.Lists.{AllOf}
 use Rattle.std.specs.Prelude.{◌⊎◌, encode_utf8, encode_utf8_all, slice_range}
@@ -17,9 +17,9 @@ use Rattle.wave_lex.proofs.Cutting.{one_class}
 use Rattle.wave_grammar.specs.Token.{Token, lexeme_of}
 use Rattle.wave_grammar.specs.ParserPosition.{Place, TakesItem, TakesTokens, token_of, text_at}
 
--- ---- fronts within a beginning of a text
+-- ---- prefixes within a beginning of a text
 
--- a front is one of each beginning that has it
+-- a prefix is one of each beginning that has it
 front_cut : (p : Regex) (r : List ℕ) (k n : ℕ) → k ≤ n → IsFront p r k → IsFront p (take n r) k
 front_cut p r k n l f = record {
   scalars = f.scalars;
@@ -28,7 +28,7 @@ front_cut p r k n l f = record {
   has = f.has;
 }
 
--- a front of a beginning is one of the text
+-- a prefix of a beginning is one of the text
 front_uncut : (p : Regex) (r : List ℕ) (k n : ℕ) → IsFront p (take n r) k → IsFront p r k
 front_uncut p r k n f =
     let a = length-take n r in
@@ -36,11 +36,11 @@ front_uncut p r k n f =
     let c : k ≤ n = omega (arith, a, b) in
     record { scalars = f.scalars; fits = omega (arith, a, b); spelled = f.spelled ∙ take-take k n r c; has = f.has }
 
--- the gap before a token is that of each beginning that has it
+-- the whitespace before a token is that of each beginning that has it
 pub gap_cut : (s : List ℕ) (g n : ℕ) → g ≤ n → IsGap s g → IsGap (take n s) g
 gap_cut s g n l h = (front_cut gap s g n l h.0, λ j f. h.1 j (front_uncut gap s j n f))
 
--- no gap stands at a beginning either
+-- no whitespace stands at a beginning either
 pub gap_zero : (r : List ℕ) (n : ℕ) → IsGap r 0 → IsGap (take n r) 0
 gap_zero r n h = gap_cut r 0 n (omega arith) h
 
@@ -72,9 +72,9 @@ token_cut r k n c l t =
           t.longest j c (front, may_uncut c r k j t.is);
     }
 
--- ---- no gap stands where a token does
+-- ---- no whitespace stands where a token does
 
--- scalars that begin a gap
+-- scalars that begin whitespace
 abbrev BeginsGap : ℕ → Type 0
 BeginsGap x = (x ≡ 32) ⊎ (x ≡ 9) ⊎ (x ≡ 10) ⊎ (x ≡ 13) ⊎ (x ≡ 47)
 
@@ -94,7 +94,7 @@ blank_begins x cs (inr (inr (inr (c, e, w)))) = let f : x ≡ c = cc in inr (inr
 comment_begins : (x : ℕ) (cs : List ℕ) → Matches comment_text (x ∷ cs) → BeginsGap x
 comment_begins x cs (a, b, e, (a1, a2, e1, (c, e2, w), more), rest) = let f : x ≡ c = cc in inr (inr (inr (inr (f ∙ one_is 47 c w))))
 
--- the parts of a gap
+-- the parts of whitespace
 abbrev part : Regex
 part = either blank (both comment_text (one 10))
 
@@ -124,7 +124,7 @@ gap_empty r k c t j (x ∷ cs) l e h =
     let none = no_class x (gap_begins x cs h) in
     absurd (let wrong : None ≡ Some _ = sym none ∙ shown in cc)
 
--- where a token stands there is no gap
+-- where a token stands there is no whitespace
 pub gap_none : (r : List ℕ) (k : ℕ) (c : lex.Token) → IsToken r k c → IsGap r 0
 gap_none r k c t = (record { scalars = []; fits = omega arith; spelled = refl; has = empty_from gap refl }, λ j f. gap_empty r k c t j f.scalars f.fits f.spelled f.has)
 
@@ -186,7 +186,7 @@ taken_is p q c ((g, k, h, t), n) =
           ∙ (ap (λ z. drop z p.lexer.source) (let b = h.end in omega (arith, b)) ∙ sym (drop-drop (g + k) p.lexer.end p.lexer.source));
     }
 
--- a cut text behind some of its bytes
+-- a tokenized text after some of its bytes
 pub drop_cut : (n k : ℕ) (r : List ℕ) → k ≤ n → drop k (take n r) ≡ take (n - k) (drop k r)
 drop_cut n k r l = ap (λ z. drop k (take z r)) (omega (arith, l)) ∙ drop-take k (n - k) r
 
@@ -200,7 +200,7 @@ pub tokens_source : (p q : Place) (ts : List Token) → TakesTokens p ts q → q
 tokens_source p q [] e = ap (λ z. z.lexer.source) (sym e)
 tokens_source p q (t ∷ ts) (m, (c, h, e), more) = tokens_source m q ts more ∙ (taken_is p m c h).source
 
--- the tokens that are taken are a front of each beginning of what is left that has them
+-- the tokens that are taken are a prefix of each beginning of what is left that has them
 pub tokens_front : (p q : Place) (ts : List Token) (n : ℕ) → TakesTokens p ts q → q.lexer.end ≤ p.lexer.end + n →
     Front (take n (remainder_of p.lexer)) (map lexeme_of ts) (take (n - (q.lexer.end - p.lexer.end)) (remainder_of q.lexer))
 tokens_front p q [] n e l =

@@ -12,7 +12,7 @@ SpellsParams n tokens params =
     ⊎ ((front : List Token) × (items : List Tree) × (tokens ≡ paren_open ∷ front) × (0 < length items)
     × Items paren_close (Takes n) front items [] × (params ≡ a_tree (tuple (trees items))))
 
--- the text is a name, a gap, the parameters and a gap
+-- the text is a name, whitespace, the parameters and whitespace
 pub record IsCall (s name : List ℕ) (params : MaybeTree) : Type 0 where
   pub bytes : ℕ
   pub tokens : List Token

@@ -2,7 +2,7 @@
 use Rattle.std.specs.Prelude.{List, [], ◌∷◌, ◌≡◌, ◌⊎◌}
 use Rattle.wave_grammar.specs.Token.{Token, comma}
 
--- what may spell an a at a front of tokens, and what is left behind it
+-- what may spell an a at the start of tokens, and what is left after it
 abbrev pub Spelling : Type 0 → Type 1
 Spelling A = List Token → A → List Token → Type 0
 
@@ -10,7 +10,7 @@ Spelling A = List Token → A → List Token → Type 0
 abbrev pub Closes : Token → List Token → List Token → Type 0
 Closes close tokens rest = (tokens ≡ close ∷ rest) ⊎ (tokens ≡ comma ∷ close ∷ rest)
 
--- what stands behind an item: each further item behind its comma, then the close
+-- what stands after an item: each further item after its comma, then the close
 abbrev pub FurtherItems : {A : Type 0} → Token → Spelling A → List Token → List A → List Token → Type 0
 FurtherItems close Item tokens [] rest = Closes close tokens rest
 FurtherItems close Item tokens (a ∷ more) rest =

@@ -7,7 +7,7 @@ use Rattle.wave_grammar.specs.TypedGrammar.{Reads}
 use Rattle.wave_grammar.specs.Tree as tree
 use Rattle.wave_grammar.specs.Tree.{Tree}
 
--- the text cuts into tokens that spell the value within n levels
+-- the text has tokens that spell the value within n levels
 abbrev pub Means : TypeTree → ℕ → List ℕ → Value → Type 0
 Means T n s v = (tokens : List Token) × CutsInto s tokens × Reads T n tokens v []
 

@@ -8,11 +8,11 @@ use Rattle.wave_grammar.specs.Calls.{IsCall, shown_call}
 use Rattle.wave_grammar.specs.Params.{Params}
 use Rattle.wave_grammar.specs.Denotes.{Means}
 
--- the text cuts into tokens that spell the tree
+-- the text has tokens that spell the tree
 abbrev pub IsTextOf : List ℕ → Tree → Type 0
 IsTextOf s t = (tokens : List Token) × CutsInto s tokens × SpellsTree tokens t
 
--- the display of the tree cuts into tokens that spell a tree of as many levels and of the same display
+-- the display of the tree has tokens that spell a tree of as many levels and of the same display
 pub record ShowsAgain (t : Tree) : Type 0 where
   pub tree : Tree
   pub text : IsTextOf (shown t) tree

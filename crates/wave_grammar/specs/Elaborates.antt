@@ -38,7 +38,7 @@ SimpleTree S t v = (token : Token) × (one : Leaf) × (t ≡ tree.one token) × 
 abbrev pub ListTree : Meaning Tree Value → Meaning Tree Value
 ListTree Inner t v = (ts : List Tree) × (vs : List Value) × (t ≡ tree.list (trees ts)) × Each Inner ts vs × (v ≡ value.list (values vs))
 
--- a list of exactly so many items
+-- a list of exactly `count` items
 abbrev pub FixedListTree : ℕ → Meaning Tree Value → Meaning Tree Value
 FixedListTree count Inner t v =
     (ts : List Tree) × (vs : List Value) × (t ≡ tree.list (trees ts)) × (length ts ≡ count) × Each Inner ts vs × (v ≡ value.fixed (values vs))
@@ -117,7 +117,7 @@ PayloadTree Inner t payload = (inner : Tree) × (w : Value) × (t ≡ a_tree inn
 abbrev pub NoMore : Meaning (List Tree) (List Value)
 NoMore ts vs = (ts ≡ []) × (vs ≡ [])
 
--- a tree, and those behind it
+-- a tree, and those after it
 abbrev pub OneMore : Meaning Tree Value → Meaning (List Tree) (List Value) → Meaning (List Tree) (List Value)
 OneMore Inner More ts vs = (t : Tree) × (others : List Tree) × (w : Value) × (ws : List Value) × (ts ≡ t ∷ others) × Inner t w × More others ws × (vs ≡ w ∷ ws)
 

@@ -20,7 +20,7 @@ SameTokensMeanTheSame = (s d : List ℕ) (tokens : List Token) → CutsInto s to
 abbrev pub SameTreeMeansTheSame : Type 0
 SameTreeMeansTheSame = (s d : List ℕ) (t : Tree) → IsTextOf s t → IsTextOf d t → MeanTheSame s d
 
--- the token in front of the others, but for a comma before a close
+-- the token before the others, but for a comma before a close
 abbrev pub put_token : Token → List Token → List Token
 put_token comma (brace_close ∷ more) = brace_close ∷ more
 put_token comma (paren_close ∷ more) = paren_close ∷ more

@@ -4,7 +4,7 @@ use Rattle.std.specs.Prelude.{nat_le, ◌&&◌, true, false, if◌then◌else◌
 use Rattle.wave_wasm.specs.Types.{Whole}
 use Rattle.wave_wasm.specs.Numbers.{is_signed, IsInRange}
 
--- the number that decimal digits stand for, behind those that stand for n; none where another byte stands among them
+-- the number that decimal digits stand for, after those that stand for n; none where another byte stands among them
 abbrev pub digits : ℕ → List ℕ → Option ℕ
 digits n [] = Some n
 digits n (d ∷ ds) = elim (nat_le 48 d && nat_le d 57) [ true ↦ digits (n * 10 + (d - 48)) ds | false ↦ None ]
@@ -18,7 +18,7 @@ all_digits (d ∷ ds) = digits 0 (d ∷ ds)
 abbrev pub unsigned_text : List ℕ → Option ℤ
 unsigned_text text = option_map pos (all_digits text)
 
--- the number of digits, perhaps behind a minus
+-- the number of digits, perhaps after a minus
 abbrev pub signed_text : List ℕ → Option ℤ
 signed_text [] = None
 signed_text (b ∷ bs) = if b == 45 then option_map (λ n. neg_ℤ (pos n)) (all_digits bs) else unsigned_text (b ∷ bs)

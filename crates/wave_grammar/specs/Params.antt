@@ -11,7 +11,7 @@ abbrev pub Omitted : List TypeTree → List Value → Type 0
 Omitted [] vs = vs ≡ []
 Omitted (T ∷ more) vs = (others : List Value) × IsOption T × Omitted more others × (vs ≡ option no_value ∷ others)
 
--- what stands behind a parameter
+-- what stands after a parameter
 abbrev pub FurtherParams : List TypeTree → List Token → List Value → Type 0
 FurtherParams [] tokens vs = Closes paren_close tokens [] × (vs ≡ [])
 FurtherParams (T ∷ more) tokens vs =

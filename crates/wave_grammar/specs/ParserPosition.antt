@@ -41,7 +41,7 @@ span_at p = span p.lexer.start p.lexer.end
 abbrev pub text_at : Place → List ℕ
 text_at p = slice_range p.lexer.source p.lexer.start p.lexer.end
 
--- the next item is this one, and q stands behind it
+-- the next item is this one, and q stands after it
 abbrev pub TakesItem : Place → Item → Place → Type 0
 TakesItem p item q = NextIs p.lexer q.lexer item × (q.taken ≡ p.taken + 1)
 

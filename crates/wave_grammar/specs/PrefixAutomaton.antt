@@ -1,6 +1,6 @@
 -- Which tokens begin a tree, and which token does not go on with them.
 --
--- A front of the tokens of a tree is described by what is due behind it, and by the open forms: the
+-- A prefix of the tokens of a tree is described by what is due after it, and by the open forms: the
 -- tuples, lists, payloads and entries whose open mark (for an entry its colon) was read and whose
 -- value is due or was just read, the innermost first. Each token either is read, which leaves
 -- something else due, or is refused in one of four ways. `Leads` follows this from token to token.
@@ -24,27 +24,27 @@ pub data Due : Type 0 where
   value : Due
   -- the first item of a tuple or a list, or the close
   first_item : Due
-  -- behind a comma a further item of a tuple or a list, or the close
+  -- after a comma a further item of a tuple or a list, or the close
   next_item : Due
-  -- behind a value what the innermost open form takes
+  -- after a value what the innermost open form takes
   behind_value : Due
-  -- behind a label, `ok` or `err` a payload, or what is due behind a value
+  -- after a label, `ok` or `err` a payload, or what is due after a value
   behind_label : Due
-  -- behind `some` a payload
+  -- after `some` a payload
   paren : Due
   -- what stands in braces
   in_braces : Due
-  -- behind `{:` the close
+  -- after `{:` the close
   no_fields : Due
-  -- behind the first label in braces a colon if it is a key, a comma or the close if it is a flag
+  -- after the first label in braces a colon if it is a key, a comma or the close if it is a flag
   behind_word : List ℕ → Due
-  -- behind a comma a further key, or the close
+  -- after a comma a further key, or the close
   key : Due
-  -- behind a key its colon
+  -- after a key its colon
   behind_key : Due
-  -- behind a comma a further flag, or the close
+  -- after a comma a further flag, or the close
   flag : List (List ℕ) → Due
-  -- behind a flag a comma or the close
+  -- after a flag a comma or the close
   behind_flag : List (List ℕ) → Due
 
 -- what a token does: it is read, and then this is due within these forms; or it is refused
@@ -59,7 +59,7 @@ pub data Step : Type 0 where
   -- it stands where a value is due on a level past the last
   too_deep : Step
 
--- what is due behind a label that stands where a value is due
+-- what is due after a label that stands where a value is due
 abbrev pub due_behind : Word → Due
 due_behind leaf_word = behind_value
 due_behind none_word = behind_value
@@ -84,7 +84,7 @@ value_step open_forms _ = unexpected
 abbrev pub level_step : ℕ → List Form → Token → Step
 level_step n open_forms t = if nat_lt (length open_forms) n then value_step open_forms t else too_deep
 
--- a token behind a value; entries are closed between one entry and the next, since a key is no level
+-- a token after a value; entries are closed between one entry and the next, since a key is no level
 abbrev pub behind_step : List Form → Token → Step
 behind_step (tuple ∷ outer) comma = reads next_item (tuple ∷ outer)
 behind_step (tuple ∷ outer) paren_close = reads behind_value outer
@@ -121,7 +121,7 @@ key_step open_forms (multiline text) = reads behind_key open_forms
 key_step open_forms brace_close = reads behind_value open_forms
 key_step open_forms _ = unexpected
 
--- a token behind an open brace: a label may be a key or a flag
+-- a token after an open brace: a label may be a key or a flag
 abbrev pub brace_step : List Form → Token → Step
 brace_step open_forms (label text) = reads (behind_word text) open_forms
 brace_step open_forms colon = reads no_fields open_forms
@@ -149,13 +149,13 @@ abbrev pub is_brace_close : Token → Bool
 is_brace_close brace_close = true
 is_brace_close _ = false
 
--- a token behind a flag
+-- a token after a flag
 abbrev pub behind_flag_step : List (List ℕ) → List Form → Token → Step
 behind_flag_step names open_forms comma = reads (flag names) open_forms
 behind_flag_step names open_forms brace_close = reads behind_value open_forms
 behind_flag_step names open_forms _ = unexpected
 
--- a token behind the first label in braces
+-- a token after the first label in braces
 abbrev pub word_behind_step : List ℕ → List Form → Token → Step
 word_behind_step text open_forms colon = reads value (entries ∷ open_forms)
 word_behind_step text open_forms t = behind_flag_step (name_of text ∷ []) open_forms t

@@ -14,18 +14,18 @@ EndsBefore behind_value rest = Unit {0}
 EndsBefore behind_label rest = (more : List Token) → rest ≢ paren_open ∷ more
 EndsBefore _ rest = ⊥
 
--- the tokens of a tree within n levels lead from where a value is due behind it
+-- the tokens of a tree within n levels lead from where a value is due to its end
 abbrev pub TreesAreLed : Type 0
 TreesAreLed =
     (n : ℕ) (tokens rest : List Token) (t : Tree) → Takes n tokens t rest →
     (front : List Token) × (d : Due) × (tokens ≡ front ++ rest) × EndsBefore d rest × Leads n value [] front d []
 
--- tokens that lead from where a value is due behind it are those of a tree within n levels
+-- tokens that lead from where a value is due to its end are those of a tree within n levels
 abbrev pub LedTokensHaveATree : Type 0
 LedTokensHaveATree =
     (n : ℕ) (front rest : List Token) (d : Due) → EndsBefore d rest → Leads n value [] front d [] → (t : Tree) × Takes n (front ++ rest) t rest
 
--- a front of the tokens of a tree within n levels is led
+-- a prefix of the tokens of a tree within n levels is led
 abbrev pub FrontsAreLed : Type 0
 FrontsAreLed =
     (n : ℕ) (front more : List Token) (t : Tree) → Takes n (front ++ more) t [] → (d : Due) × (s : List Form) × Leads n value [] front d s
@@ -47,12 +47,12 @@ UnexpectedTokensBeginNone =
     (n : ℕ) (front : List Token) (d : Due) (s : List Form) (t : Token) → Leads n value [] front d s → step n d s t ≡ unexpected →
     (m : ℕ) (more : List Token) (u : Tree) → TakesLoosely m (front ++ t ∷ more) u [] → ⊥
 
--- labels, a comma behind each
+-- labels, a comma after each
 abbrev pub flags_before : List (List ℕ) → List Token
 flags_before [] = []
 flags_before (text ∷ more) = label text ∷ comma ∷ flags_before more
 
--- an empty tuple is refused at a `)` behind its `(`
+-- an empty tuple is refused at a `)` after its `(`
 abbrev pub EmptyTuplesAreEmpty : Type 0
 EmptyTuplesAreEmpty =
     (n : ℕ) (front : List Token) (d : Due) (s : List Form) (t : Token) → Leads n value [] front d s → step n d s t ≡ empty_tuple →

@@ -10,7 +10,7 @@ use Rattle.wave_grammar.specs.Token.{Token, CutsInto}
 use Rattle.wave_grammar.specs.Tree.{Tree, Takes, levels}
 use Rattle.wave_grammar.specs.TypedGrammar.{Reads}
 
--- the value's canonical text cuts into tokens; they spell a tree, and within its levels they spell the value, merged
+-- the value's canonical text is tokenized; the tokens spell a tree, and within its levels they spell the value, merged
 pub record ReadBack (T : TypeTree) (v : Value) : Type 0 where
   pub tokens : List Token
   pub tree : Tree

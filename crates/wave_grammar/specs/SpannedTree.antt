@@ -9,7 +9,7 @@ use Rattle.wave_grammar.specs.Tree as tree
 use Rattle.wave_grammar.specs.Tree.{Tree, MaybeTree, Trees, TreeEntries}
 
 mutual
-  -- a tree, from its first byte to the one behind its last
+  -- a tree, from its first byte to the one after its last
   pub data Placed : Type 0 where
     at : Range ℕ → Shape → Placed
 
@@ -123,15 +123,15 @@ SpellsAt source p t = (tokens : List Token) × HoldsTokens source p tokens × tr
 abbrev pub LiesIn : Range ℕ → ℕ → ℕ → Type 0
 LiesIn p from to = (from ≤ p.start) × (p.end ≤ to)
 
--- the first k bytes of s are tokens of its cut and the gaps before them
+-- the first k bytes of s are tokens of s and the whitespace before them
 abbrev pub EndsToken : List ℕ → ℕ → Type 0
 EndsToken s k = (tokens : List Token) × Front s (map lexeme_of tokens) (drop k s)
 
--- so they are, and behind them the gap before the next token
+-- so they are, and after them the whitespace before the next token
 abbrev pub BeginsToken : List ℕ → ℕ → Type 0
 BeginsToken s k = (j : ℕ) × (g : ℕ) × EndsToken s j × IsGap (drop j s) g × (k ≡ j + g)
 
--- in the cut of the whole's slice the part begins where a token does, and ends where one does
+-- the part begins where a token of the whole's slice does, and ends where one does
 abbrev pub StandsAtTokens : List ℕ → Range ℕ → Range ℕ → Type 0
 StandsAtTokens source whole part = BeginsToken (slice source whole) (part.start - whole.start) × EndsToken (slice source whole) (part.end - whole.start)
 
@@ -165,12 +165,12 @@ abbrev pub SpellsFlags : List ℕ → Range ℕ → List (Range ℕ × List ℕ)
 SpellsFlags source p [] = Unit {0}
 SpellsFlags source p (f ∷ more) = LiesIn f.0 p.start p.end × HoldsTokens source f.0 (token.label f.1 ∷ []) × SpellsFlags source p more
 
--- each value within spells its tree where it stands, each key, flag and case label is its one token; each stands at tokens of the whole; but for flags, which are sorted, they stand one behind another
+-- each value within spells its tree where it stands, each key, flag and case label is its one token; each stands at tokens of the whole; but for flags, which are sorted, they stand one after another
 abbrev mutual
   pub SpellsEach : List ℕ → Placed → Type 0
   SpellsEach source (at p s) = SpellsAt source p (tree_of_shape s) × SpellsParts source p s × AllOf (StandsAtTokens source p) (part_places s)
 
-  -- so it is of the parts of a shape; the payload of `some`, `ok` or `err` begins behind the word, so behind its first byte
+  -- so it is of the parts of a shape; the payload of `some`, `ok` or `err` begins after the word, so after its first byte
   pub SpellsParts : List ℕ → Range ℕ → Shape → Type 0
   SpellsParts source p (one token) = Unit {0}
   SpellsParts source p (tuple ts) = SpellsAll source p.start p.end ts

@@ -28,11 +28,11 @@ abbrev pub BorrowedWhere : {A : Type 0} → Type 0 → CowStr A → Type 0
 BorrowedWhere P (Borrowed s) = P
 BorrowedWhere P (Owned s) = P → ⊥
 
--- a refusal for want of memory, at the place
+-- a refusal for lack of memory, at the place
 abbrev pub WantsMemory : Range ℕ → Diagnostic → Type 0
 WantsMemory place e = Says e OutOfMemory place None
 
--- one run is left, or nothing: no `\`, and no line behind
+-- one run is left, or nothing: no `\`, and no line after it
 abbrev pub IsOneRun : LinesLeft → Type 0
 IsOneRun l = AllOf (λ b. b ≢ backslash) l.line.rest × (l.later ≡ [])
 
@@ -44,7 +44,7 @@ IsRefusedFirst l = (l.line.rest ≡ []) × HasBadLine l
 abbrev pub IsUncopied : LinesLeft → Type 0
 IsUncopied l = IsOneRun l ⊎ IsRefusedFirst l
 
--- the text so far and the parts that are left, borrowed where P holds; or a refusal among the parts; or want of memory, where P doesn't hold
+-- the text so far and the parts that are left, borrowed where P holds; or a refusal among the parts; or out of memory, where P doesn't hold
 abbrev pub PutTogether : {A : Type 0} → Type 0 → List ℕ → LinesLeft → Range ℕ → Result (CowStr A) Diagnostic → Type 0
 PutTogether P front l place (Ok c) =
     ((parts : List StringPart) × LinesRunTo l parts None × (cow_str_bytes c ≡ front ++ part_texts parts)) × BorrowedWhere P c

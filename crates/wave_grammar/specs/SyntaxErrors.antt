@@ -19,7 +19,7 @@ pub record IsTooDeep (n : ℕ) (d : Due) (open_forms : List Form) (at : Place) :
   pub due : IsValueDue d
   pub no_close : (t : Token) (new : Place) → TakesToken at t new → step n d open_forms t ≡ too_deep
 
--- the token behind the place `at` is this step where d is due, and ends at the place `new`
+-- the token after the place `at` is this step where d is due, and ends at the place `new`
 abbrev pub Steps : ℕ → Due → List Form → Place → lex.Token → Place → Step → Type 0
 Steps n d open_forms at c new s = TakesItem at (Some (Ok c)) new × (step n d open_forms (token_of c (text_at new)) ≡ s)
 
@@ -60,7 +60,7 @@ pub record IsSyntaxError (e : Diagnostic) (n : ℕ) (d : Due) (open_forms : List
   pub unfinished : IsUnfinished due_there open_there
   pub stands : StandsAt e.kind e n due_there open_there at new
 
--- the error is want of memory, or that refusal
+-- the error is out of memory, or that refusal
 abbrev pub FailsBySyntax : Diagnostic → ℕ → Due → List Form → Place → Place → Type 0
 FailsBySyntax e n d open_forms old new = (e.kind ≢ OutOfMemory) → IsSyntaxError e n d open_forms old new
 
@@ -68,7 +68,7 @@ FailsBySyntax e n d open_forms old new = (e.kind ≢ OutOfMemory) → IsSyntaxEr
 abbrev pub IsBehind : Due → Place → Type 0
 IsBehind d at = (d ≡ behind_value) ⊎ (d ≡ behind_label) × ((new : Place) → TakesToken at paren_open new → ⊥)
 
--- from the place old, where d is due, tokens lead behind a value, which takes as many forms as it closes
+-- from the place old, where d is due, tokens lead to the end of a value, which takes as many forms as it closes
 pub record LeadsBehindValue (n : ℕ) (d : Due) (open_forms : List Form) (old new : Place) (behind : List Form) : Type 0 where
   pub tokens : List Token
   pub taken : TakesTokens old tokens new

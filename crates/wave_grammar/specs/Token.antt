@@ -28,6 +28,6 @@ lexeme_of (multiline text) = (class.MultilineString, text)
 abbrev pub text_of : Token → List ℕ
 text_of token = (lexeme_of token).1
 
--- the text s cuts into the tokens
+-- the text s is tokenized into these
 abbrev pub CutsInto : List ℕ → List Token → Type 0
 CutsInto s tokens = Cuts s (map lexeme_of tokens)

@@ -106,13 +106,13 @@ abbrev pub in_order : List (List ℕ) → List (List ℕ)
 in_order [] = []
 in_order (text ∷ more) = put_in_order text (in_order more)
 
--- no payload, and no parenthesis behind; or a payload in parentheses
+-- no payload, and no parenthesis next; or a payload in parentheses
 abbrev pub MaybeInParens : Spelling Tree → Spelling MaybeTree
 MaybeInParens Inner tokens payload rest =
     (tokens ≡ rest) × ((more : List Token) → rest ≢ paren_open ∷ more) × (payload ≡ no_tree)
     ⊎ ((t : Tree) × InParens Inner tokens t rest × (payload ≡ a_tree t))
 
--- what stands behind an open brace
+-- what stands after an open brace
 abbrev pub InBraces : Spelling Tree → Spelling Tree
 InBraces Inner tokens t rest =
     (tokens ≡ brace_close ∷ rest) × (t ≡ empty_braces)
@@ -121,7 +121,7 @@ InBraces Inner tokens t rest =
     ⊎ ((texts : List (List ℕ)) × (0 < length texts) × Items brace_close Label tokens texts rest
     × AreDistinct (map name_of texts) × (t ≡ flags (in_order texts)))
 
--- what stands behind a label
+-- what stands after a label
 abbrev pub BehindWord : Word → List ℕ → Spelling Tree → Spelling Tree
 BehindWord leaf_word text Inner tokens t rest = (tokens ≡ rest) × (t ≡ one (token.label text))
 BehindWord none_word text Inner tokens t rest = (tokens ≡ rest) × (t ≡ none)
@@ -142,7 +142,7 @@ ATree Inner (string text ∷ behind) t rest = (behind ≡ rest) × (t ≡ one (s
 ATree Inner (multiline text ∷ behind) t rest = (behind ≡ rest) × (t ≡ one (multiline text))
 ATree Inner _ t rest = ⊥
 
--- at the front of the tokens stands the tree within n levels, and the rest is left; behind a bare label, `ok` or `err` the rest begins with no `(`
+-- at the start of the tokens stands the tree within n levels, and the rest is left; after a bare label, `ok` or `err` the rest begins with no `(`
 abbrev pub Takes : ℕ → Spelling Tree
 Takes zero = Never
 Takes (suc n) = ATree (Takes n)

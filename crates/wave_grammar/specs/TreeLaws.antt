@@ -10,7 +10,7 @@ use Rattle.wave_grammar.specs.TypedGrammar.{Reads}
 use Rattle.wave_grammar.specs.Tree.{Tree, Takes, levels}
 use Rattle.wave_grammar.specs.Elaborates.{TreeReads}
 
--- no two trees stand at a front of the same tokens, nor does one end at two places
+-- no two trees stand at the start of the same tokens, nor does one end at two places
 abbrev pub OneTree : Type 0
 OneTree = (n m : ℕ) (tokens rest others : List Token) (t u : Tree) → Takes n tokens t rest → Takes m tokens u others → (t ≡ u) × (rest ≡ others)
 

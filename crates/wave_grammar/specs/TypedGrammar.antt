@@ -12,7 +12,7 @@ use Rattle.wave_grammar.specs.Token.{Token, brace_open, brace_close, paren_open,
 use Rattle.wave_grammar.specs.LeafTokens.{Spells, name_of}
 use Rattle.wave_grammar.specs.CommaSeparated.{Spelling, Closes, Listed}
 
--- what stands behind this word
+-- what stands after this word
 abbrev pub Behind : {A : Type 0} → List ℕ → Spelling A → Spelling A
 Behind word Inner tokens a rest = (behind : List Token) × (tokens ≡ label word ∷ behind) × Inner behind a rest
 
@@ -78,7 +78,7 @@ ASimple S tokens v rest = (token : Token) × (one : Leaf) × (tokens ≡ token �
 abbrev pub AList : Spelling Value → Spelling Value
 AList Inner tokens v rest = (items : List Value) × Listed bracket_open bracket_close Inner tokens items rest × (v ≡ value.list (values items))
 
--- `[` items `]`, exactly so many
+-- `[` items `]`, exactly `count` of them
 abbrev pub AFixedList : ℕ → Spelling Value → Spelling Value
 AFixedList count Inner tokens v rest =
     (items : List Value) × Listed bracket_open bracket_close Inner tokens items rest × (length items ≡ count) × (v ≡ value.fixed (values items))
@@ -147,7 +147,7 @@ abbrev pub First : Spelling Value → Spelling (List Value) → Spelling (List V
 First Inner Further tokens items rest =
     (w : Value) × (others : List Value) × (behind : List Token) × Inner tokens w behind × Further behind others rest × (items ≡ w ∷ others)
 
--- a comma, a further value of a tuple, and those behind it
+-- a comma, a further value of a tuple, and those after it
 abbrev pub Then : Spelling Value → Spelling (List Value) → Spelling (List Value)
 Then Inner Further tokens items rest = (front : List Token) × (tokens ≡ comma ∷ front) × First Inner Further front items rest
 
@@ -167,7 +167,7 @@ Either P Q tokens a rest = P tokens a rest ⊎ Q tokens a rest
 abbrev pub Never : {A : Type 0} → Spelling A
 Never tokens a rest = ⊥
 
--- at the front of the tokens stands a spelling of the value within n levels, and the rest is left; `Reads T n tokens v []` says that the tokens spell the value
+-- at the start of the tokens stands a spelling of the value within n levels, and the rest is left; `Reads T n tokens v []` says that the tokens spell the value
 abbrev mutual
   pub Reads : TypeTree → ℕ → Spelling Value
   Reads (type.simple S) n = Provided (0 < n) (ASimple S)
@@ -199,7 +199,7 @@ abbrev mutual
   ReadsTuple no_types n = Never
   ReadsTuple (type_and T more) n = First (Reads T n) (ReadsFurther more n)
 
-  -- what stands behind a value of a tuple
+  -- what stands after a value of a tuple
   pub ReadsFurther : Types → ℕ → Spelling (List Value)
   ReadsFurther no_types n = End
   ReadsFurther (type_and T more) n = Then (Reads T n) (ReadsFurther more n)

@@ -8,7 +8,7 @@ use Rattle.wave_leaf.specs.Keys.{IsDetailed, TellsKeyDue}
 use Rattle.wave_leaf.specs.Leaves.{leaf_node}
 use Rattle.wave_leaf.specs.declared.leaf.Leaf.{Leaf}
 
--- with a detail it is the same refusal, or want of memory at the key
+-- with a detail it is the same refusal, or out of memory at the key
 pub same_refusal : (T : TypeTree) (l : Leaf) (e f : Diagnostic) → IsDetailed T l e f → (f.kind ≡ OutOfMemory) × (f.span ≡ place_of (leaf_node l)) ⊎ (refusal_of f ≡ refusal_of e) × (f.span ≡ e.span)
 same_refusal T l e f (inl (other, same)) = inr (ap refusal_of same, ap (λ (d : Diagnostic). d.span) same)
 same_refusal T l e f (inr (inl (is, says))) = inr (says.is ∙ sym is.1, says.stands)

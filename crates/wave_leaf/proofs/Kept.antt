@@ -16,7 +16,7 @@ use Rattle.wave_leaf.specs.Reading.{IsReadAs, IsReadWhereDue}
 use Rattle.wave_leaf.specs.Failures.{IsSameOrMemory, IsKept}
 
 module _ {V : Type 0} (tree : V → Value) (of : V → TypeTree → Type 0) (Full : TypeTree → Type 0) (T : TypeTree) (source : List ℕ) (n : NodeTree) where
-  -- want of memory at the place of a refusal is one too
+  -- out of memory at the place of a refusal is one too
   pub same_or_memory : (e f : Diagnostic) → IsReadAs tree of Full T source n (Err e) → IsSameOrMemory e f → IsReadAs tree of Full T source n (Err f)
   same_or_memory e f h (inl same) = subst (λ (d : Diagnostic). IsReadAs tree of Full T source n (Err d)) (sym same) h
   same_or_memory e f h (inr memory) = record {
@@ -46,7 +46,7 @@ plainly_kept (Err e) (Err f) why p says (inr memory) = absurd (memory.2 says.tel
 plainly_kept (Ok v) (Err f) why p says same = absurd same
 plainly_kept (Err e) (Ok w) why p says same = absurd same
 
--- a refusal of this form is no want of memory
+-- a refusal of this form isn't out of memory
 pub form_spares : {V : Type 0} (r : Result V Diagnostic) (p : Range ℕ) → IfErr r (λ e. Says e InvalidType p None) → IfErr r (λ e. e.kind ≢ OutOfMemory)
 form_spares (Ok v) p says = tt
 form_spares (Err e) p says = λ memory. let is : e.kind ≡ InvalidType = ap (λ (r : Refusal). r.kind) says.is in absurd (cc)

@@ -1,4 +1,4 @@
--- The strings of leaves, or want of memory.
+-- The strings of leaves, or out of memory.
 use Rattle.std.proofs.Common.{ℕ, ◌≡◌, ◌⊎◌, inl, inr, List, Some, Result, MatchResult, refl, ap, subst}
 use Rattle.std.specs.Result.{IsErrAnd}
 use Rattle.std.specs.declared.ops.Range.{Range}

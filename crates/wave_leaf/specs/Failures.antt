@@ -11,7 +11,7 @@ use Rattle.wave_leaf.specs.declared.failure.Told.TheVariants as told
 abbrev pub plain_failure : ParserErrorKind → Range ℕ → Diagnostic
 plain_failure k p = record { kind = k; span = p; detail = None; cause = None }
 
--- what a failure tells
+-- what a failure says
 abbrev pub told_of : Told → Diagnostic
 told_of (told.Plain k p) = plain_failure k p
 told_of (told.Whole e) = e.value
@@ -20,11 +20,11 @@ told_of (told.Whole e) = e.value
 abbrev pub SaysMore : Diagnostic → Type 0
 SaysMore e = e.detail ≡ None → e.cause ≡ None → ⊥
 
--- the same refusal; or, where it has a detail or a cause, one for want of memory where it stands
+-- the same refusal; or, where it has a detail or a cause, one for lack of memory where it stands
 abbrev pub IsSameOrMemory : Diagnostic → Diagnostic → Type 0
 IsSameOrMemory e f = (f ≡ e) ⊎ (f.kind ≡ OutOfMemory) × (f.span ≡ e.span) × SaysMore e
 
--- the value that was read; or its refusal, or one for want of memory there
+-- the value that was read; or its refusal, or one for lack of memory there
 abbrev pub IsKept : {V : Type 0} → Result V Diagnostic → Result V Diagnostic → Type 0
 IsKept (Ok v) (Ok w) = w ≡ v
 IsKept (Err e) (Err f) = IsSameOrMemory e f

@@ -1,4 +1,4 @@
--- What is told of a key that is a label and none of the type.
+-- What a refusal says of a key that is a label and none of the type.
 use Rattle.std.specs.Prelude.{ℕ, ◌≡◌, ◌⊎◌, ◌++◌, List, Some, None, Result, IfErr, codes}
 use Rattle.wave_wasm.specs.Types.{TypeTree}
 use Rattle.wave_wasm.specs.TypeText.{type_text}
@@ -32,7 +32,7 @@ IsOtherLabel l e = (l.ty ≡ kind.Label) × (refusal_of e ≡ plainly InvalidTyp
 abbrev pub TellsKeyDue : TypeTree → Leaf → Diagnostic → Type 0
 TellsKeyDue T l e = IsOtherLabel l e → e.detail ≡ Some (key_due T)
 
--- the refusal of such a label with that detail, or for want of memory at the label; another refusal as it was
+-- the refusal of such a label with that detail, or for lack of memory at the label; another refusal as it was
 abbrev pub IsDetailed : TypeTree → Leaf → Diagnostic → Diagnostic → Type 0
 IsDetailed T l e f =
     (IsOtherLabel l e → ⊥) × (f ≡ e)

@@ -21,7 +21,7 @@ abbrev pub TakesMemory : Option TypeTree → Type 0
 TakesMemory None = ⊥
 TakesMemory (Some T) = IsPlain T → ⊥
 
--- at a node of a tuple or a list memory isn't wanting
+-- a node of a tuple or a list isn't refused for memory
 abbrev pub SparesRows : {V : Type 0} → NodeTree → Result V Diagnostic → Type 0
 SparesRows n r = (type_of n ≡ kind.Tuple) ⊎ (type_of n ≡ kind.List) → IfErr r (λ e. e.kind ≢ OutOfMemory)
 

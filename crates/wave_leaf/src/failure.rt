@@ -15,7 +15,7 @@ pub struct Failure {
     told: Told,
 }
 
-/// What a failure tells.
+/// What a failure says.
 #[derive(Drop)]
 enum Told {
     /// Of this kind, here.

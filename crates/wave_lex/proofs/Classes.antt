@@ -1,4 +1,4 @@
--- The first scalar of a token tells its class.
+-- The first scalar of a token determines its class.
 use Rattle.std.proofs.Common.{◌≡◌, ℕ, ◌≤◌, ◌≢◌, Bool, true, false, nat_eq, List, [], ◌∷◌, ◌++◌, ◌⊎◌, inl, inr, refl, sym, ap, subst, ◌∙◌, length, take, drop, arith, Option, Some, None, append_assoc}
 use Rattle.std.specs.Prelude.{◌||◌, encode_utf8, encode_utf8_all, if◌then◌else◌}
 use Rattle.std.proofs.Common.{length-take-le}
@@ -112,7 +112,7 @@ class_shown d x ds h =
           absurd (subst (λ (z : Regex). Matches z ds) (after_past (shape d) x 128 w.1 m n ∙ same_true _ _ w.2) h)
     ]
 
--- a front that isn't empty begins with the first scalar
+-- a prefix that isn't empty begins with the first scalar
 front_begins : (p : Regex) (r cs rest : List ℕ) (k x : ℕ) → may_be_empty p ≡ false → r ≡ encode_utf8 x ++ rest
     → encode_utf8_all cs ≡ take k r → Matches p cs → (ds : List ℕ) × (cs ≡ x ∷ ds)
 front_begins p r [] rest k x f b e h = let wrong : false ≡ true = sym f ∙ empty_into p h in cc
@@ -146,7 +146,7 @@ multiline_begins r k t =
     let u : three_quotes ++ encode_utf8_all y ≡ take k r = sym (ap encode_utf8_all s) ∙ t.0.spelled in
     (encode_utf8_all y ++ drop k r, sym (ap (λ (z : List ℕ). z ++ drop k r) u ∙ take-append-drop k r))
 
--- behind two quotes nothing more of a string may follow
+-- after two quotes nothing more of a string may follow
 no_more : (r rest ds : List ℕ) (k : ℕ) → k ≤ length r → r ≡ three_quotes ++ rest → Matches (after 34 string) ds → 34 ∷ encode_utf8_all ds ≡ take k r
     → (k ≡ 2 → take 3 r ≢ three_quotes) → ⊥
 unfolding lib.Utf8.encode

@@ -1,4 +1,4 @@
--- A text is cut in one way.
+-- A text is tokenized in one way.
 use Rattle.std.proofs.Common.{◌≡◌, ℕ, ◌≤◌, ◌<◌, ◌+◌, Bool, true, false, List, [], ◌∷◌, ◌++◌, inl, refl, sym, ap, subst, ◌∙◌, length, take, drop, arith, Option, Some, None, length-drop, append_assoc}
 use Rattle.std.specs.Prelude.{encode_utf8, encode_utf8_all}
 use Rattle.std.proofs.lemmas.List.{take-append-drop}
@@ -48,11 +48,11 @@ one_class r k j c d t u =
     let w = class_there r f.1 f.0 (same_list (take 3 r) three_quotes) f.2 refl in
     one_of_class r w.0 k j c d w.1 t u
 
--- two gaps at one place are one
+-- whitespace at one place has one length
 pub same_gap : (s : List ℕ) (g h : ℕ) → IsGap s g → IsGap s h → g ≡ h
 same_gap s g h a b = let x : h ≤ g = a.1 h b.0 in let y : g ≤ h = b.1 g a.0 in omega arith
 
--- where only a gap is left, no token stands behind it
+-- where only whitespace is left, no token stands after it
 pub no_token_left : (s : List ℕ) (g k : ℕ) (c : Token) → IsGap s (length s) → IsGap s g → IsLongestToken (drop g s) k c → ⊥
 no_token_left s g k c a b t =
     let all : g ≡ length s = same_gap s g (length s) b a in
@@ -64,7 +64,7 @@ no_token_left s g k c a b t =
 same_lexemes : (t u : Lexeme) (ts us : List Lexeme) → t.0 ≡ u.0 → t.1 ≡ u.1 → ts ≡ us → t ∷ ts ≡ u ∷ us
 same_lexemes (a, x) (b, y) ts us p q r = cc
 
--- two cuts of one text are one
+-- two tokenizations of one text are one
 same_cut : (s : List ℕ) (ts us : List Lexeme) (r q : List ℕ) → Front s ts r → IsGap r (length r) → Front s us q → IsGap q (length q) → ts ≡ us
 same_cut s [] [] r q f a g b = refl
 same_cut s [] (u ∷ us) r q f a g b = absurd (no_token_left s g.0 g.1 u.0 (subst (λ (z : List ℕ). IsGap z (length z)) (sym f) a) g.2 g.3)
@@ -81,7 +81,7 @@ same_cut s (t ∷ ts) (u ∷ us) r q f a g b =
     let tail : ts ≡ us = same_cut (drop (f.0 + f.1) s) ts us r q f.5 a rest b in
     same_lexemes t u ts us class text tail
 
--- no text is cut in two ways
+-- no text is tokenized in two ways
 pub cuts_once : OneCut
 cuts_once s ts us a b = same_cut s ts us a.0 b.0 a.1 a.2 b.1 b.2
 

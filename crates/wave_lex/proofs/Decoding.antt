@@ -60,7 +60,7 @@ escape_unique e f t u c d (inr a) (inr b) w =
 abbrev pub After : List ℕ → List ℕ → List ℕ → Type 0
 After part s t = (u : List ℕ) × (t ≡ part ++ u) × Decodes s u
 
--- behind a byte other than `\` the rest decodes
+-- after a byte other than `\` the rest decodes
 pub plain_into : (b : ℕ) (s t : List ℕ) → b ≢ 92 → Decodes (b ∷ s) t → After (b ∷ []) s t
 plain_into b s t n ([], e) = let wrong : b ∷ s ≡ [] = e.0 in cc
 plain_into b s t n (p ∷ ps, (inl a, x, y, es, et, cut)) =
@@ -78,7 +78,7 @@ plain_into b s t n (p ∷ ps, (inr a, x, y, es, et, cut)) =
 pub plain_from : (b : ℕ) (s t : List ℕ) → b ≢ 92 → After (b ∷ []) s t → Decodes (b ∷ s) t
 plain_from b s t n a = (record { source = b ∷ []; meaning = b ∷ [] } ∷ a.2.0, (inl (b, n, refl), s, a.0, refl, a.1, a.2.1))
 
--- behind an escape the rest decodes
+-- after an escape the rest decodes
 pub escape_into : (e s t : List ℕ) (c : ℕ) → IsEscape e c → Decodes (e ++ s) t → After (encode_utf8 c) s t
 escape_into e s t c h ([], w) = let k = escape_head e c h in
     let wrong : 92 ∷ (k.0 ++ s) ≡ [] = sym (ap (λ (z : List ℕ). z ++ s) k.1) ∙ w.0 in cc
@@ -103,7 +103,7 @@ empty_once t (p ∷ ps, (inr a, x, y, es, et, cut)) =
     let h = escape_head p.source a.0 a.1 in
     let q : [] ≡ 92 ∷ (h.0 ++ x) = es ∙ ap (λ (z : List ℕ). z ++ x) h.1 in cc
 
--- what is cut into pieces decodes to nothing else
+-- what is split into pieces decodes to nothing else
 once : (ps : List StringPiece) (s t u : List ℕ) → IsCutInto s ps t → Decodes s u → t ≡ u
 once [] s t u (es, et) d = et ∙ sym (empty_once u (subst (λ (z : List ℕ). Decodes z u) es d))
 once (p ∷ ps) s t u (inl a, x, y, es, et, cut) d =
@@ -184,7 +184,7 @@ pub length_spaces : (k : ℕ) → length (spaces k) ≡ k
 length_spaces zero = refl
 length_spaces (suc k) = ap suc (length_spaces k)
 
--- two equal lists that end in one more have equal fronts and ends
+-- two equal lists that end in one more have equal prefixes and ends
 pub ends_once : (xs ys : List (List ℕ)) (a b : List ℕ) → xs ++ a ∷ [] ≡ ys ++ b ∷ [] → (xs ≡ ys) × (a ≡ b)
 ends_once [] [] a b e = (refl, cc)
 ends_once [] (y ∷ []) a b e = let w : [] ≡ b ∷ [] = cc in cc

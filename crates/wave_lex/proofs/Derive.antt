@@ -133,7 +133,7 @@ unless_into : (b : Bool) (r : Regex) (s : List ℕ) → b ≡ false → Matches 
 unless_into true r s e h = cc
 unless_into false r s e h = h
 
--- what follows c, with c in front, has the shape
+-- what follows c, with c before it, has the shape
 pub after_from : (c : ℕ) (r : Regex) (s : List ℕ) → Matches (after c r) s → Matches r (c ∷ s)
 after_from c nothing s h = absurd h
 after_from c empty s h = absurd h
@@ -156,7 +156,7 @@ after_from c (many p) s h =
     let (x, y, e, hx, hy) = join_from (after c p) (many p) s h in
     ((c ∷ x) ∷ hy.0, ap (λ (z : List ℕ). c ∷ z) (e ∙ ap (λ (z : List ℕ). x ++ z) hy.1), (after_from c p x hx, hy.2))
 
--- where the front of two shapes is cut
+-- where the prefix of two shapes ends
 both_into : (c : ℕ) (p q : Regex) (s x y : List ℕ)
     → ((t : List ℕ) → Matches p (c ∷ t) → Matches (after c p) t) → ((t : List ℕ) → Matches q (c ∷ t) → Matches (after c q) t)
     → c ∷ s ≡ x ++ y → Matches p x → Matches q y → Matches (after c (both p q)) s
@@ -197,12 +197,12 @@ after_into c (either p q) s (inl h) = choice_into (after c p) (after c q) s (inl
 after_into c (either p q) s (inr h) = choice_into (after c p) (after c q) s (inr (after_into c q s h))
 after_into c (many p) s (parts, e, h) = many_into c p s parts (after_into c p) e h
 
--- a text behind which the shape may be empty has the shape
+-- a text after which the shape may be empty has the shape
 pub matches_from : (s : List ℕ) (r : Regex) → may_be_empty (after_all s r) ≡ true → Matches r s
 matches_from [] r e = empty_from r e
 matches_from (c ∷ s) r e = after_from c r s (matches_from s (after c r) e)
 
--- behind a text of the shape the shape may be empty
+-- after a text of the shape the shape may be empty
 pub matches_into : (s : List ℕ) (r : Regex) → Matches r s → may_be_empty (after_all s r) ≡ true
 matches_into [] r h = empty_into r h
 matches_into (c ∷ s) r h = matches_into s (after c r) (after_into c r s h)

@@ -57,7 +57,7 @@ hex_of_digit d l =
     let small : nat_lt (digit_value d) 16 ≡ true = grind (arith, nat_tests) in
     or_not (is_hexadecimal d) (nat_lt (digit_value d) 16) (each_below_at 128 d hex_right hex_computed (digit_ascii d l)) small
 
--- behind n digits
+-- after n digits
 abbrev hex_state : ℕ → EscapeState
 hex_state zero = escape.Hex0
 hex_state (suc zero) = escape.Hex1
@@ -124,7 +124,7 @@ all_is (b ∷ e) a =
     let small : nat_lt b 128 ≡ true = let l : b < 128 = a.0 in grind (arith, nat_tests) in
     rw (small, all_is e a.1) refl
 
--- an escape at the front
+-- an escape at the start
 pub escape_leads : (s e t : List ℕ) (c k : ℕ) → IsEscape e c → s ≡ e ++ t → k ≡ length e → LeadsTo (string_rest string.Inside) (string_rest string.Inside) s k
 escape_leads s e t c k h w l =
     let cut : take k s ≡ e = ap (λ (z : ℕ). take z s) l ∙ (ap (λ (z : List ℕ). take (length e) z) w ∙ take-append_seam e t) in
@@ -138,7 +138,7 @@ escape_some e c k h l = let w = escape_head e c h in
 
 -- ---- plain bytes
 
--- plain bytes at the front
+-- plain bytes at the start
 plains_go : (s : List ℕ) (n : ℕ) → IsUtf8 s → n ≤ length s → ((i : ℕ) → i < n → is_plain (get_or s i 0) ≡ true) → IsCharBoundary s n → LeadsTo (string_rest string.Inside) (string_rest string.Inside) s n
 plains_go s n u l h cut =
     let bytes : encode_utf8_all (chars (take n s)) ≡ take n s = encodes-chars (take n s) (IsUtf8-take s n u cut) in
@@ -174,7 +174,7 @@ plains_lead s b t p n e l q f u g run =
     subst (λ (z : ℕ). LeadsTo string (string_rest string.Inside) s z) same
     (leads_on string (string_rest string.Inside) (string_rest string.Inside) s t 1 n f (quote_leads s b e l q) (plains_here t p n g u run))
 
--- a quote behind the inside of a string closes it
+-- a quote after the inside of a string closes it
 pub string_closes : (s b : List ℕ) (n : ℕ) → b ≡ s → LeadsTo string (string_rest string.Inside) s n → n < length b → get_or b n 0 ≡ 34 → Greatest (IsFront string s) (Some (n + 1))
 string_closes s b n e h l q =
     let long : length b ≡ length s = ap length e in

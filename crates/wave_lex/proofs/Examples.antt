@@ -1,4 +1,4 @@
--- Worked texts: their tokens, their invalid tokens, their names, what they stand for, and what is told of an error.
+-- Worked texts: their tokens, their invalid tokens, their names, what they stand for, and what an error says.
 use Rattle.std.proofs.Common.{◌≡◌, ℕ, List, [], ◌∷◌, false, true, refl, inl, inr, lit<, zero, suc, ◌++◌, ◌≢◌, ◌<◌, arith, Some, None, get_or}
 use Rattle.std.specs.Prelude.{codes}
 use Rattle.std.specs.Char.{digit_value}
@@ -38,7 +38,7 @@ marks = (
   token_here _ 1 class.Comma refl refl refl tt refl,
 )
 
--- a label behind `%`, of words of either case and of digits; a number and `-inf` end before a letter that is none of their own, and a leading zero is a number of its own
+-- a label after `%`, of words of either case and of digits; a number and `-inf` end before a letter that is none of their own, and a leading zero is a number of its own
 words : IsLongestToken (codes "%ok-A-2 B") 7 class.LabelOrKeyword × IsLongestToken (codes "-10.25e+07e") 10 class.Number × IsLongestToken (codes "-info") 4 class.Number × IsLongestToken (codes "01") 1 class.Number
 words = (token_here _ 7 class.LabelOrKeyword refl refl refl tt refl, token_here _ 10 class.Number refl refl refl tt refl, token_here _ 4 class.Number refl refl refl tt refl, token_here _ 1 class.Number refl refl refl tt refl)
 
@@ -46,11 +46,11 @@ words = (token_here _ 7 class.LabelOrKeyword refl refl refl tt refl, token_here 
 quoted : IsLongestToken (codes "'\\u{1f44b}'") 11 class.Char × IsLongestToken (codes "\"\" ") 2 class.String × IsLongestToken (codes "\"\"\"a\"\"\"\"\"") 7 class.MultilineString
 quoted = (token_here _ 11 class.Char refl refl refl tt refl, token_here _ 2 class.String refl refl refl (λ e. apart (codes "\"\" ") three_quotes refl) refl, token_here _ 7 class.MultilineString refl refl refl tt refl)
 
--- a text is cut into its tokens with gaps before and behind them; the last comment goes on to the end
+-- a text is tokenized with whitespace before and after its tokens; the last comment goes on to the end
 text_cut : Cuts (codes " 'x'1// ") ((class.Char, codes "'x'") ∷ (class.Number, codes "1") ∷ [])
 text_cut = (codes "// ", (1, 3, longest_here gap _ _ refl refl refl refl, token_here _ 3 class.Char refl refl refl tt refl, refl, (0, 1, longest_here gap _ _ refl refl refl refl, token_here _ 1 class.Number refl refl refl tt refl, refl, refl)), longest_here gap _ _ refl refl refl refl)
 
--- three quotes with none behind them are refused together, two scalars between single quotes whole, five at the first quote
+-- three quotes with none after them are refused together, two scalars between single quotes whole, five at the first quote
 invalid_tokens : IsInvalid (codes "\"\"\"abc") 3 × IsInvalid (codes "'ab'") 4 × IsInvalid (codes "'abcde'") 1
 invalid_tokens = ((no_token_quoted _ (codes "abc") refl refl refl, longest_here invalid _ _ refl refl refl refl), (no_token_here _ refl refl, longest_here invalid _ _ refl refl refl refl), (no_token_here _ refl refl, longest_here invalid _ _ refl refl refl refl))
 
@@ -110,7 +110,7 @@ return_lines = (
   },
 )
 
--- `"""` LF `abc"""`: a fault of the last piece, told at the closing quotes
+-- `"""` LF `abc"""`: a fault of the last piece, at the closing quotes
 closing_bad : MultilineFault (10 ∷ codes "abc") closing × (fault_span 3 4 closing ≡ span 7 10)
 closing_bad = (inl (no_spaces, refl), refl)
   where
@@ -118,15 +118,15 @@ closing_bad = (inl (no_spaces, refl), refl)
     no_spaces (zero, e) = apart _ _ refl e
     no_spaces (suc k, e) = apart (codes "abc") (32 ∷ spaces k) refl e
 
--- six quotes: a fault of the first piece, told at the byte behind the opening quotes
+-- six quotes: a fault of the first piece, at the byte after the opening quotes
 opening_bad : MultilineFault [] opening × (fault_span 3 0 opening ≡ span 3 4)
 opening_bad = (inr (inl ((0, refl), (λ no_second. no_second), refl)), refl)
 
--- `"""` LF `a` LF `  """`: a fault of the line, told at its first byte
+-- `"""` LF `a` LF `  """`: a fault of the line, at its first byte
 line_bad : MultilineFault (10 ∷ 97 ∷ 10 ∷ 32 ∷ 32 ∷ []) (indentation 1) × (fault_span 3 5 (indentation 1) ≡ span 4 5)
 line_bad = (inr (inr (record { first = []; between = codes "a" ∷ []; indent = 2; cut = refl; opens = inl refl; bad = inl (inl ((λ x e. cc), refl)) })), refl)
 
--- what is told of an error, with a detail and without
+-- what an error says, with a detail and without
 error_shown : (word : List ℕ)
     → (error_text (record { kind = kind.UnexpectedToken; span = span 4 7; detail = Some word; cause = None }) ≡ codes "unexpected token: " ++ (word ++ (codes " at " ++ (decimal 4 ++ (codes ".." ++ decimal 7)))))
     × (error_text (record { kind = kind.EmptyTuple; span = span 0 12; detail = None; cause = None }) ≡ codes "empty tuple at " ++ (decimal 0 ++ (codes ".." ++ decimal 12)))

@@ -14,7 +14,7 @@ stuck rest t n (p ∷ ps, (inl a, x, y, es, et, cut)) =
     let wrong : a.0 ≡ 92 = cc in a.1 wrong
 stuck rest t n (p ∷ ps, (inr a, x, y, es, et, cut)) = n p.source x a.0 a.1 es
 
--- behind what decodes
+-- after what decodes
 stuck_behind : (front rest t u : List ℕ) (ps : List StringPiece) → IsCutInto front ps u → UnescapesTo (92 ∷ rest) None → Decodes (front ++ 92 ∷ rest) t → ⊥
 stuck_behind front rest t u [] c n d = stuck rest t n (subst (λ (z : List ℕ). Decodes (z ++ 92 ∷ rest) t) c.0 d)
 stuck_behind front rest t u (p ∷ ps) (inl a, x, y, es, et, cut) n d =

@@ -1,4 +1,4 @@
--- The longest multiline string at the front of a text, by the first later three quotes.
+-- The longest multiline string at the start of a text, by the first later three quotes.
 use Rattle.std.proofs.Common.{◌≡◌, ◌≢◌, ℕ, ◌≤◌, ◌<◌, ◌+◌, ◌-◌, suc, List, ◌∷◌, ◌++◌, inl, inr, refl, sym, ap, ◌∙◌, length, take, drop, arith, get_or, Some, None, append_assoc, length-append, length-take-le}
 use Rattle.std.specs.Prelude.{codes, encode_utf8_all}
 use Rattle.std.specs.Str.{IsUtf8, chars, IsCharBoundary}
@@ -23,7 +23,7 @@ none_unquoted s h = λ k f. let m = multiline_begins s k (f, tt) in h m.0 m.1
 
 -- ---- where three quotes stand
 
--- what stands between two parts of a text occurs behind the first of them
+-- what stands between two parts of a text occurs after the first of them
 occurs_between : (x needle y s : List ℕ) → s ≡ x ++ (needle ++ y) → OccursAt s needle (length x)
 occurs_between x needle y s e =
     let long : length s ≡ length x + (length needle + length y) = ap length e ∙ (length-append x (needle ++ y) ∙ ap (λ (z : ℕ). length x + z) (length-append needle y)) in
@@ -43,7 +43,7 @@ quoted_around u =
     encodes-append three_quotes (u ++ three_quotes)
     ∙ (ap (λ (z : List ℕ). z ++ encode_utf8_all (u ++ three_quotes)) (ascii_spelled three_quotes refl) ∙ ap (λ (z : List ℕ). three_quotes ++ z) (quoted_behind u))
 
--- the inside of a front of j bytes: its scalars, and what follows their bytes
+-- the inside of a prefix of j bytes: its scalars, and what follows their bytes
 pub record Closed (inside : List ℕ) (j : ℕ) : Type 0 where
   pub scalars : List ℕ
   pub rest : List ℕ
@@ -51,7 +51,7 @@ pub record Closed (inside : List ℕ) (j : ℕ) : Type 0 where
   pub cut : inside ≡ encode_utf8_all scalars ++ (three_quotes ++ rest)
   pub long : j ≡ length (encode_utf8_all scalars) + 6
 
--- a front ends with three quotes of the inside
+-- a prefix ends with three quotes of the inside
 closed : (s inside : List ℕ) (j : ℕ) → s ≡ three_quotes ++ inside → IsFront multiline_string s j → Closed inside j
 closed s inside j e f =
     let (u, split, none) = through_into f.scalars f.has in
@@ -78,7 +78,7 @@ none_unclosed s inside e h = λ j f.
 
 -- ---- the first later three quotes
 
--- a text is what stands in front of three quotes, those quotes and the rest
+-- a text is what stands before three quotes, those quotes and the rest
 first_part : (inside : List ℕ) (n : ℕ) → OccursAt inside three_quotes n → inside ≡ take n inside ++ (three_quotes ++ drop (n + 3) inside)
 first_part inside n there = sym (take-append-drop n inside) ∙ ap (λ (z : List ℕ). take n inside ++ z) (OccursAt-split inside three_quotes n there)
 
@@ -86,7 +86,7 @@ first_part inside n there = sym (take-append-drop n inside) ∙ ap (λ (z : List
 two_quotes : (u : List ℕ) → encode_utf8_all (u ++ codes "\"\"") ≡ encode_utf8_all u ++ codes "\"\""
 two_quotes u = encodes-append u (codes "\"\"") ∙ ap (λ (z : List ℕ). encode_utf8_all u ++ z) (ascii_spelled (codes "\"\"") refl)
 
--- three quotes stand neither in front of the first ones nor across their first two
+-- three quotes stand neither before the first ones nor across their first two
 none_earlier : (inside cs : List ℕ) (n : ℕ) → encode_utf8_all cs ≡ take n inside → NoneBefore (OccursAt inside three_quotes) 0 (length inside + 1) n → OccursAt inside three_quotes n
     → HasNoThreeQuotes (cs ++ codes "\"\"")
 none_earlier inside cs n spelled first there x y e =
@@ -106,7 +106,7 @@ none_earlier inside cs n spelled first there x y e =
     let less : length (encode_utf8_all x) < n = omega arith in
     first.before (length (encode_utf8_all x)) (omega arith) less here
 
--- no front goes on behind the first three quotes
+-- no prefix goes on after the first three quotes
 no_further : (inside cs : List ℕ) (n j : ℕ) → encode_utf8_all cs ≡ take n inside → OccursAt inside three_quotes n → Closed inside j → j ≤ n + 6
 no_further inside cs n j spelled there c = elim (cases_lt n (length (encode_utf8_all c.scalars))) as (λ _. j ≤ n + 6) [
   | inr l ↦ let long : j ≡ length (encode_utf8_all c.scalars) + 6 = c.long in omega arith
@@ -131,7 +131,7 @@ no_further inside cs n j spelled there c = elim (cases_lt n (length (encode_utf8
       ∙ append_assoc cs three_quotes (drop (length (cs ++ three_quotes)) (c.scalars ++ codes "\"\"")))))
 ]
 
--- a text may be cut in front of three quotes
+-- a text may be split before three quotes
 before_quote : (inside : List ℕ) (n : ℕ) → OccursAt inside three_quotes n → IsCharBoundary inside n
 before_quote inside n there =
     let fits : n + 3 ≤ length inside = there.fits in

@@ -1,4 +1,4 @@
--- The longest front of a text whose first bytes are read without a machine.
+-- The longest prefix of a text whose first bytes are read without a machine.
 use Rattle.std.proofs.Common.{◌≡◌, ℕ, ◌≤◌, ◌<◌, ◌+◌, ◌-◌, true, false, zero, suc, List, [], ◌∷◌, ◌++◌, inl, inr, refl, sym, ap, subst, ◌∙◌, length, take, drop, arith, get_or, Some, None, length-drop, length-take-le, append_assoc}
 use Rattle.std.specs.Prelude.{nat_lt, encode_utf8, encode_utf8_all}
 use Rattle.std.specs.Str.{IsUtf8, IsCharBoundary}
@@ -22,7 +22,7 @@ take_plus s p k h =
     let l : length (take p s) ≡ p = length-take-le p s h in
     ap (λ (z : ℕ). take (z + k) s) (sym l) ∙ (ap (λ (z : List ℕ). take (length (take p s) + k) z) (sym (take-append-drop p s)) ∙ take-append-add (take p s) (drop p s) k)
 
--- a front of the rest, with what was read, is a front
+-- a prefix of the rest, with what was read, is a prefix
 front_joined : (r q : Regex) (s t : List ℕ) (p k : ℕ) → t ≡ drop p s → LeadsTo r q s p → IsFront q t k → IsFront r s (p + k)
 front_joined r q s t p k e h f =
     let long : length t ≡ length (drop p s) = ap length e in
@@ -37,7 +37,7 @@ front_joined r q s t p k e h f =
           (ap may_be_empty (after_all_append h.scalars f.scalars r ∙ ap (λ (z : Regex). after_all f.scalars z) h.has) ∙ matches_into f.scalars q f.has);
     }
 
--- a longer front is a front of the rest
+-- a longer prefix is a prefix of the rest
 front_left : (r q : Regex) (s t : List ℕ) (p k : ℕ) → t ≡ drop p s → LeadsTo r q s p → IsFront r s (p + k) → IsFront q t k
 front_left r q s t p k e h f =
     let long : length t ≡ length (drop p s) = ap length e in
@@ -60,7 +60,7 @@ front_left r q s t p k e h f =
           ∙ matches_into f.scalars r f.has);
     }
 
--- the longest front of the rest, with what was read, is the longest
+-- the longest prefix of the rest, with what was read, is the longest
 pub front_behind : (r q : Regex) (s t : List ℕ) (p k : ℕ) → t ≡ drop p s → LeadsTo r q s p → Greatest (IsFront q t) (Some k) → Greatest (IsFront r s) (Some (p + k))
 front_behind r q s t p k e h g = (
   front_joined r q s t p k e h g.0,
@@ -72,11 +72,11 @@ front_behind r q s t p k e h g = (
   ],
 )
 
--- what leads to q passes no front of r
+-- what leads to q passes no prefix of r
 abbrev pub PassesNone : Regex → Regex → Type 0
 PassesNone r q = (x y : List ℕ) → may_be_empty (after_all x r) ≡ true → after_all (x ++ y) r ≡ q → ⊥
 
--- where the rest has no front, nothing has
+-- where the rest has no prefix, nothing has
 pub none_behind : (r q : Regex) (s t : List ℕ) (p : ℕ) → t ≡ drop p s → LeadsTo r q s p → PassesNone r q → Greatest (IsFront q t) None → Greatest (IsFront r s) None
 none_behind r q s t p e h quiet g = λ j (f : IsFront r s j). elim (cases_lt p j) as (λ _. ⊥) [
   | inl l ↦ let same : j ≡ p + (j - p) = omega arith in
@@ -92,7 +92,7 @@ none_behind r q s t p e h quiet g = λ j (f : IsFront r s j). elim (cases_lt p j
       quiet f.scalars (drop (length f.scalars) h.scalars) (matches_into f.scalars r f.has) (ap (λ (z : List ℕ). after_all z r) whole ∙ h.has)
 ]
 
--- where the shape may be empty there is a front
+-- where the shape may be empty there is a prefix
 pub front_there : (q : Regex) (t : List ℕ) → may_be_empty q ≡ true → Greatest (IsFront q t) None → ⊥
 front_there q t e h = h 0 (record { scalars = []; fits = omega arith; spelled = refl; has = empty_from q e })
 
@@ -129,13 +129,13 @@ pub run_leads : (r q : Regex) (s : List ℕ) (n : ℕ) → 0 < n → n ≤ lengt
     → ((i : ℕ) → i < n → after (get_or s i 0) q ≡ q) → LeadsTo r q s n
 run_leads r q s n p l a f h = ascii_leads r q s n l a (run_from r q s n p l f h)
 
--- behind a run of ASCII
+-- after a run of ASCII
 pub behind_run : (s : List ℕ) (n : ℕ) → IsUtf8 s → n ≤ length s → ((i : ℕ) → i < n → get_or s i 0 < 128) → IsCharBoundary s n
 behind_run s zero u l a = IsCharBoundary-start s u
 behind_run s (suc n) u l a = let same : suc n ≡ n + 1 = omega arith in
     subst (λ (z : ℕ). IsCharBoundary s z) (sym same) (IsCharBoundary-after_ascii s n u (omega arith) (a n (omega arith)))
 
--- a text may be cut at its end and in front of ASCII
+-- a text may be split at its end and before ASCII
 pub cut_here : (s : List ℕ) (n : ℕ) → n ≤ length s → (n < length s → get_or s n 0 < 128) → IsCharBoundary s n
 cut_here s n l h = elim (cases_lt n (length s)) as (λ _. IsCharBoundary s n) [
   | inl k ↦ IsCharBoundary-before_ascii s n k (h k)
@@ -147,11 +147,11 @@ any_text : (cs : List ℕ) → may_be_empty (after_all cs (many any)) ≡ true
 any_text [] = refl
 any_text (c ∷ cs) = any_text cs
 
--- a text may be cut behind what leads to a shape
+-- a text may be split after what leads to a shape
 pub lead_boundary : (r q : Regex) (s : List ℕ) (k : ℕ) → IsUtf8 s → LeadsTo r q s k → IsCharBoundary s k
 lead_boundary r q s k u h = front_boundary (many any) s k u (record { scalars = h.scalars; fits = h.fits; spelled = h.spelled; has = matches_from h.scalars (many any) (any_text h.scalars) })
 
--- a front of which no scalar may be the first is empty
+-- a prefix of which no scalar may be the first is empty
 no_more : (q : Regex) (t : List ℕ) (j : ℕ) (cs : List ℕ) → j ≤ length t → encode_utf8_all cs ≡ take j t → Matches q cs → ((c : ℕ) (rest : List ℕ) → t ≡ encode_utf8 c ++ rest → after c q ≡ nothing) → j ≤ 0
 no_more q t j [] l e m h = let long : length (take j t) ≡ 0 = ap length (sym e) in omega (arith, length-take-le j t l)
 no_more q t j (c ∷ cs) l e m h =
@@ -160,7 +160,7 @@ no_more q t j (c ∷ cs) l e m h =
     let dead : after_all cs (after c q) ≡ nothing = ap (λ (z : Regex). after_all cs z) (h c (encode_utf8_all cs ++ drop j t) whole) ∙ after_all_nothing cs in
     let wrong : false ≡ true = sym (ap may_be_empty dead) ∙ matches_into (c ∷ cs) q m in cc
 
--- where no scalar may follow, the longest front is empty
+-- where no scalar may follow, the longest prefix is empty
 front_ends : (q : Regex) (t : List ℕ) → may_be_empty q ≡ true → ((c : ℕ) (rest : List ℕ) → t ≡ encode_utf8 c ++ rest → after c q ≡ nothing) → Greatest (IsFront q t) (Some 0)
 front_ends q t e h = (record { scalars = []; fits = omega arith; spelled = refl; has = empty_from q e }, λ j f. no_more q t j f.scalars f.fits f.spelled f.has h)
 
@@ -172,7 +172,7 @@ drop_first (b ∷ s) zero c rest e = let same : b ≡ c = cc in (omega arith, sa
 drop_first (b ∷ s) (suc n) c rest e = let h = drop_first s n c rest e in
     let l : n < length s = h.0 in (omega arith, h.1)
 
--- the longest front ends with a run, where the next byte may not follow
+-- the longest prefix ends with a run, where the next byte may not follow
 pub run_ends : (r q : Regex) (s : List ℕ) (n : ℕ) → LeadsTo r q s n → may_be_empty q ≡ true → ((c : ℕ) → 128 ≤ c → after c q ≡ nothing) → (n < length s → after (get_or s n 0) q ≡ nothing) → Greatest (IsFront r s) (Some n)
 run_ends r q s n h e past dead =
     let same : n + 0 ≡ n = omega arith in

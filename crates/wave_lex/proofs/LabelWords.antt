@@ -121,14 +121,14 @@ first_from [] w b = absurd b
 first_from (c ∷ s) (n, inl h) b = inl (c ∷ [], s, refl, (c, refl, is_lower c h.0 b), all_from 97 122 s h.1)
 first_from (c ∷ s) (n, inr h) b = inr (c ∷ [], s, refl, (c, refl, is_upper c h.0 b), all_from 65 90 s h.1)
 
--- ---- words behind hyphens
+-- ---- words after hyphens
 
--- the words, each behind a hyphen
+-- the words, each after a hyphen
 abbrev behind_hyphens : List (List ℕ) → List ℕ
 behind_hyphens [] = []
 behind_hyphens (w ∷ ws) = 45 ∷ (w ++ behind_hyphens ws)
 
--- a first word and those behind hyphens are the words, joined
+-- a first word and those after hyphens are the words, joined
 joined_behind : (first : List ℕ) (more : List (List ℕ)) → first ++ behind_hyphens more ≡ join_with_byte 45 (first ∷ more)
 joined_behind first [] = append-nil first
 joined_behind first (w ∷ ws) = ap (λ (z : List ℕ). first ++ 45 ∷ z) (joined_behind w ws)
@@ -143,7 +143,7 @@ hyphen_into s (x, y, e, (c, f, t), m) =
     let is : c ≡ 45 = one_is 45 c t in
     (y, e ∙ (ap (λ (z : List ℕ). z ++ y) f ∙ ap (λ (z : ℕ). z ∷ y) is), next_into y m)
 
--- the parts behind the first word are words behind hyphens
+-- the parts after the first word are words after hyphens
 parts_into : (parts : List (List ℕ)) → AllOf (Matches hyphen_word) parts → (more : List (List ℕ)) × (joined parts ≡ behind_hyphens more) × AllOf IsWord more
 parts_into [] h = ([], refl, tt)
 parts_into (p ∷ ps) h =
@@ -154,7 +154,7 @@ parts_into (p ∷ ps) h =
       (one.2, rest.2),
     )
 
--- words behind hyphens are such parts
+-- words after hyphens are such parts
 parts_from : (more : List (List ℕ)) → AllOf IsWord more → Matches (many hyphen_word) (behind_hyphens more)
 parts_from [] h = ([], refl, tt)
 parts_from (w ∷ ws) h =

@@ -1,4 +1,4 @@
--- The tokens that a lexer gives are the cut of its source.
+-- The tokens that a lexer gives are those of its source.
 use Rattle.std.proofs.Common.{◌≡◌, ℕ, ◌+◌, ◌-◌, List, [], ◌∷◌, refl, sym, ap, subst, ◌∙◌, length, take, drop, arith, Some, None, Ok, Err}
 use Rattle.std.specs.Prelude.{slice_range}
 use Rattle.std.specs.declared.ops.Range.{Range}
@@ -15,20 +15,20 @@ passed_text l m g k p =
     ap (λ (z : ℕ). drop z m.source) p.start ∙ (ap (λ (z : List ℕ). drop (l.end + g) z) p.source ∙ sym (drop-drop g l.end l.source)) in
     ap (λ (z : ℕ). take z (drop m.start m.source)) size ∙ ap (λ (z : List ℕ). take k z) there
 
--- what is left behind it
+-- what is left after it
 passed_rest : (l m : Lexed) (g k : ℕ) → Passes l m g k → remainder_of m ≡ drop (g + k) (remainder_of l)
 passed_rest l m g k p =
     let place : m.end ≡ l.end + (g + k) = omega (arith, p.end) in
     ap (λ (z : ℕ). drop z m.source) place ∙ (ap (λ (z : List ℕ). drop (l.end + (g + k)) z) p.source ∙ sym (drop-drop (g + k) l.end l.source))
 
--- the tokens that come are a cut
+-- the tokens that come are those of the source
 come_cut : (l : Lexed) (ts : List Lexeme) → ComeTo l ts None → Cuts (remainder_of l) ts
 come_cut l [] (m, p) = (remainder_of l, refl, p.skipped)
 come_cut l (t ∷ ts) (m, (g, k, p, is), text, more) =
     let (r, front, left) = come_cut m ts more in
     (r, (g, k, p.skipped, is, text ∙ passed_text l m g k p, subst (λ (z : List ℕ). Front z ts r) (passed_rest l m g k p) front), left)
 
--- the tokens of a cut come
+-- the tokens of the source come
 cut_comes : (l : Lexed) (ts : List Lexeme) → Cuts (remainder_of l) ts → ComeTo l ts None
 cut_comes l [] (r, same, left) = (
   record { source = l.source; start = l.end + length (remainder_of l); end = l.end + length (remainder_of l) + 0 },
@@ -48,6 +48,6 @@ one_end l (t ∷ ts) (u ∷ us) bad (m, p, text, more) (n, q, words, rest) =
     let same : m ≡ n = (next_one l m n (Some (Ok t.0)) (Some (Ok u.0)) p q).0 in
     one_end m ts us bad more (subst (λ (z : Lexed). ComeTo z us None) (sym same) rest)
 
--- the tokens that come are the cut; where an invalid one comes there is none
+-- the tokens that come are those of the source; where an invalid one comes it isn't tokenized
 pub tokens_cut : TokensCut
 tokens_cut l ts = ((come_cut l ts, cut_comes l ts), λ bad more us cut. one_end l ts us bad more (cut_comes l us cut))

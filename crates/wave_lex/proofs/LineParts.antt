@@ -16,7 +16,7 @@ use Rattle.wave_lex.proofs.Parts.{takes, bad_behind, bad_here}
 
 -- ---- what is left means a text
 
--- the rest of the line decodes to a text, the lines behind it mean texts, and all of them are joined
+-- the rest of the line decodes to a text, the lines after it mean texts, and all of them are joined
 abbrev LeftMeans : LinesLeft → List ℕ → Type 0
 LeftMeans l t = (u : List ℕ) × (us : List (List ℕ)) × Decodes l.line.rest u × LinesMean l.indent l.later us × (t ≡ in_lines (u ∷ us))
 
@@ -24,7 +24,7 @@ LeftMeans l t = (u : List ℕ) × (us : List (List ℕ)) × Decodes l.line.rest 
 nothing_left : (s : List ℕ) → s ≡ [] → Decodes s []
 nothing_left s e = ([], (e, refl))
 
--- what stands in front of the first line stands in front of all
+-- what stands before the first line stands before all
 in_front : (x u : List ℕ) (us : List (List ℕ)) → in_lines ((x ++ u) ∷ us) ≡ x ++ in_lines (u ∷ us)
 in_front x u [] = refl
 in_front x u (w ∷ us) = append_assoc x u (10 ∷ in_lines (w ∷ us))
@@ -40,7 +40,7 @@ means_in_line old new p t h (u, us, decodes, lines, joined) =
       ap (λ (z : List ℕ). part_text p ++ z) joined ∙ sym (in_front (part_text p) u us),
     )
 
--- the line that is entered means what is left of it, and the lines behind it the rest
+-- the line that is entered means what is left of it, and the lines after it the rest
 entered_means : (old new : LinesLeft) (u : List ℕ) (us : List (List ℕ)) → EntersLine old new → Decodes new.line.rest u → LinesMean new.indent new.later us → LinesMean old.indent old.later (u ∷ us)
 entered_means old new u us h decodes lines =
     let more : LinesMean old.indent h.more us = subst (λ (z : List (List ℕ)). LinesMean old.indent z us) h.later (subst (λ (z : ℕ). LinesMean z new.later us) h.stays lines) in
@@ -65,7 +65,7 @@ run_means l (p ∷ ps) (t, inr (e, f, h), r) = means_next_line l t p (part_texts
 
 -- ---- a refusal
 
--- a refusal of the rest of the line, or of a line behind it
+-- a refusal of the rest of the line, or of a line after it
 abbrev LeftFault : ℕ → ℕ → ℕ → LinesLeft → Diagnostic → Type 0
 LeftFault pos n at l e =
     ((i : ℕ) × IsBadEscapeAt l.line.rest i × TellsBadEscape e (l.line.pos + i))
@@ -87,7 +87,7 @@ fault_in_line pos n at old new p e h (inr (u, f, decodes, bad, told)) =
       told,
     )
 
--- in the line that is entered, or behind it
+-- in the line that is entered, or after it
 fault_entered : (pos n at : ℕ) (old new : LinesLeft) (e : Diagnostic) → old.next ≡ pos + at → (h : EntersLine old new) → LeftFault pos n (at + length h.line + 1) new e
     → (f : LineFault) × BadLines old.indent at old.later f × TellsFault e f (fault_span pos n f)
 fault_entered pos n at old new e there h (inl (i, bad, told)) =
@@ -112,7 +112,7 @@ fault_here pos n at old new e there h = (
   record { refusal = h.told.refusal; detail = h.told.detail; at = h.told.at ∙ ap (λ (z : ℕ). span z (z + 1)) there },
 )
 
--- parts up to a refusal tell what is wrong
+-- parts up to a refusal show what is wrong
 run_fault : (pos n at : ℕ) (l : LinesLeft) (ps : List StringPart) (e : Diagnostic) → l.next ≡ pos + at → LinesRunTo l ps (Some e) → LeftFault pos n at l e
 run_fault pos n at l [] e there (t, inl (h, ended)) = inl (0, bad_here l.line t.line e h, subst (λ (z : ℕ). TellsBadEscape e z) (omega arith) h.told)
 run_fault pos n at l [] e there (t, inr (none, h)) =
@@ -138,7 +138,7 @@ no_lines : (k : ℕ) (us : List (List ℕ)) → LinesMean k [] us → us ≡ []
 no_lines k [] h = refl
 no_lines k (u ∷ us) h = absurd h
 
--- the lines in front of which it begins mean the inside
+-- the lines before which it begins mean the inside
 inside_means : (s : List ℕ) (pos : ℕ) (l : LinesLeft) (us : List (List ℕ)) → Begins s pos l → LinesMean l.indent l.later us → DecodesLines s (in_lines us)
 inside_means s pos l us b lines = record { first = b.first; between = l.later; indent = l.indent; texts = us; cut = b.cut; opens = b.opens; lines = lines; joins = refl }
 

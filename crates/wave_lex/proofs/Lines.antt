@@ -1,4 +1,4 @@
--- The pieces of a text between its line feeds, and the spaces at the front of a line.
+-- The pieces of a text between its line feeds, and the spaces at the start of a line.
 use Rattle.std.specs.Prelude.{MatchOption, unwrap_or}
 use Rattle.std.proofs.Common.{Bor, ◌≡◌, ℕ, ◌≤◌, ◌<◌, ◌+◌, ◌-◌, ◌≢◌, zero, suc, Bool, true, false, nat_eq, List, [], ◌∷◌, ◌++◌, ◌⊎◌, inl, inr, Option, None, Some, Result, Ok, Err, refl, sym, ap, subst, ◌∙◌, length, take, drop, arith, get_or, length-append, length-drop, length-take-le}
 use Rattle.std.specs.Prelude.{if◌then◌else◌}
@@ -64,12 +64,12 @@ indented line y k n l m h d =
 
 -- ---- pieces
 
--- a byte in front of the first of some pieces
+-- a byte before the first of some pieces
 put_first_append : (b : ℕ) (ps qs : List (List ℕ)) → ps ≢ [] → put_first b (ps ++ qs) ≡ put_first b ps ++ qs
 put_first_append b [] qs n = absurd (n refl)
 put_first_append b (p ∷ ps) qs n = refl
 
--- with a byte in front there is a piece
+-- with a byte before it there is a piece
 put_first_some : (b : ℕ) (ps : List (List ℕ)) → put_first b ps ≢ []
 put_first_some b [] e = cc
 put_first_some b (p ∷ ps) e = cc
@@ -109,13 +109,13 @@ pieces_none (b ∷ s) h =
     let rest : pieces s ≡ s ∷ [] = pieces_none s (λ i l. let m : suc i < suc (length s) = omega arith in h (suc i) m) in
     rw test (ap (put_first b) rest)
 
--- the text before the n-th byte and behind it
+-- the text before the n-th byte and after it
 split_at : (s : List ℕ) (n b : ℕ) → n < length s → get_or s n 0 ≡ b → s ≡ take n s ++ b ∷ drop (suc n) s
 split_at [] n b l e = let w : ⊥ = omega arith in absurd w
 split_at (a ∷ s) zero b l e = ap (λ (z : ℕ). z ∷ s) e
 split_at (a ∷ s) (suc n) b l e = ap (λ (z : List ℕ). a ∷ z) (split_at s n b (omega arith) e)
 
--- a byte of the front is one of the text
+-- a byte of the prefix is one of the text
 take_at : (s : List ℕ) (n i : ℕ) → i < n → n ≤ length s → get_or (take n s) i 0 ≡ get_or s i 0
 take_at s zero i l m = let w : ⊥ = omega arith in absurd w
 take_at [] (suc n) i l m = let w : ⊥ = omega arith in absurd w
@@ -140,7 +140,7 @@ pieces_before s n l e h =
     let front : pieces (take n s) ≡ take n s ∷ [] = pieces_none (take n s) (λ i m f. let k : i < n = omega arith in h i k (sym (take_at s n i k fits) ∙ f)) in
     ap pieces (split_at s n 10 l e) ∙ (pieces_append (take n s) (drop (suc n) s) ∙ (ap (λ (z : List (List ℕ)). z ++ pieces (drop (suc n) s)) front ∙ ap (λ (z : List ℕ). take n s ∷ pieces z) (next_drop s n)))
 
--- the lines that a line feed ends, behind the first of them
+-- the lines that a line feed ends, after the first of them
 pub ended_behind : (s line behind : List ℕ) → pieces s ≡ line ∷ pieces behind → ended_lines s ≡ line ∷ ended_lines behind
 ended_behind s line behind e =
     let f = pieces_first behind in
@@ -166,15 +166,15 @@ closing_last p (r ∷ ps) q = last_of_append (r ∷ ps) q
 
 -- ---- the last line feed
 
--- before a place behind a line feed
+-- before a place after a line feed
 feed_at : (s : List ℕ) (n : ℕ) → BehindLastFeed s (suc n) → get_or s n 0 ≡ 10
 feed_at s n h = let m : suc n - 1 ≡ n = omega arith in subst (λ (z : ℕ). get_or s z 0 ≡ 10) m (h.behind (omega arith))
 
--- the text before a line feed and behind it
+-- the text before a line feed and after it
 split_feed : (s : List ℕ) (n : ℕ) → BehindLastFeed s (suc n) → s ≡ take n s ++ 10 ∷ drop (suc n) s
 split_feed s n h = let fits : suc n ≤ length s = h.fits in split_at s n 10 (omega arith) (feed_at s n h)
 
--- behind the last line feed stands one piece
+-- after the last line feed stands one piece
 behind_none : (s : List ℕ) (n : ℕ) → BehindLastFeed s n → pieces (drop n s) ≡ drop n s ∷ []
 behind_none s n h = pieces_none (drop n s) (λ i l e. let fits : n + i < length s = omega (arith, length-drop n s) in h.last (n + i) (omega arith) fits (sym (drop_at s n i) ∙ e))
 
@@ -193,7 +193,7 @@ pieces_ended s (suc n) h =
     take_one (a ∷ s) zero l e = ap (λ (z : ℕ). z ∷ []) e
     take_one (a ∷ s) (suc n) l e = ap (λ (z : List ℕ). a ∷ z) (take_one s n (omega arith) e)
 
--- behind the first piece the last line feed is the same one
+-- after the first piece the last line feed is the same one
 pub later_feed : (s : List ℕ) (m n : ℕ) → m ≤ n → BehindLastFeed s n → BehindLastFeed (drop m s) (n - m)
 later_feed s m n l h =
     let fits : n ≤ length s = h.fits in
@@ -204,7 +204,7 @@ later_feed s m n l h =
       last = λ i k j e. h.last (m + i) (omega arith) (omega (arith, length-drop m s)) (sym (drop_at s m i) ∙ e);
     }
 
--- a line feed stands before the place behind the last one
+-- a line feed stands before the place after the last one
 pub feed_before : (s : List ℕ) (k n : ℕ) → BehindLastFeed s n → k < length s → get_or s k 0 ≡ 10 → k < n
 feed_before s k n h l e = elim (cases_lt k n) [ inl m ↦ m | inr m ↦ absurd (h.last k m l e) ]
 
@@ -222,7 +222,7 @@ closing_return s h l e = sym (closing_sole s h ∙ without s l e)
     without [] l e = refl
     without (b ∷ s) l e = let test : nat_eq b 13 ≡ true = grind (arith, nat_tests) in rw test refl
 
--- without one, or behind a line feed
+-- without one, or after a line feed
 pub closing_plain : (s : List ℕ) (n : ℕ) → BehindLastFeed s n → (n ≡ 0 → 0 < length s → get_or s 0 0 ≢ 13) → drop n s ≡ closing_piece (pieces s)
 closing_plain s zero h c = sym (closing_sole s h ∙ with_none s (c refl))
   where
@@ -272,7 +272,7 @@ opens_alone s h w = subst OpensWell (pieces_none s h) w
 pub none_ended : (s : List ℕ) → ((i : ℕ) → i < length s → get_or s i 0 ≢ 10) → ended_lines s ≡ []
 none_ended s h = ap but_last (pieces_none s h)
 
--- the first line and what stands behind it, where a line feed stands
+-- the first line and what stands after it, where a line feed stands
 pub lines_split : (s : List ℕ) (o : Option (Bor (List ℕ) × Bor (List ℕ)))
     → MatchOption o ((i : ℕ) → i < length s → get_or s i 0 ≢ 10) (λ x. (s ≡ x.0.now ++ 10 ∷ x.1.now) × ((i : ℕ) → i < length x.0.now → get_or x.0.now i 0 ≢ 10))
     → MatchOption o (ended_lines s ≡ []) (λ x. SplitsLine s x.0.now x.1.now)
@@ -287,7 +287,7 @@ pub drops_return : (line : Bor (List ℕ)) (o : Option (Bor (List ℕ)))
 drops_return line None h = inr (refl, h)
 drops_return line (Some x) h = inl h
 
--- behind the last line feed that was found
+-- after the last line feed that was found
 pub behind_found : (s : List ℕ) (k : ℕ) → (k < length s) × (get_or s k 0 ≡ 10) × ((i : ℕ) → k < i → i < length s → get_or s i 0 ≢ 10) → BehindLastFeed s (k + 1)
 behind_found s k h = record {
   fits = omega (arith, h.0);
@@ -299,31 +299,31 @@ behind_found s k h = record {
 pub behind_no_feed : (s : List ℕ) → ((i : ℕ) → i < length s → get_or s i 0 ≢ 10) → BehindLastFeed s 0
 behind_no_feed s h = record { fits = omega arith; behind = λ l. let v : ⊥ = omega arith in absurd v; last = λ i l m. h i m }
 
--- ---- where a text may be cut
+-- ---- where a text may be split
 
--- behind an ASCII byte
+-- after an ASCII byte
 behind_ascii : (s : List ℕ) (n m b : ℕ) → IsUtf8 s → n < length s → get_or s n 0 ≡ b → b < 128 → m ≡ n + 1 → IsCharBoundary s m
 behind_ascii s n m b u l e a q = subst (λ (z : ℕ). IsCharBoundary s z) (sym q) (IsCharBoundary-after_ascii s n u l (omega arith))
 
--- behind a line feed
+-- after a line feed
 pub behind_feed : (s : List ℕ) (n : ℕ) → IsUtf8 s → n < length s → get_or s n 0 ≡ 10 → IsCharBoundary s (n + 1)
 behind_feed s n u l e = behind_ascii s n (n + 1) 10 u l e (omega arith) refl
 
--- behind a carriage return at the beginning
+-- after a carriage return at the beginning
 pub behind_return : (s : List ℕ) → IsUtf8 s → 0 < length s → get_or s 0 0 ≡ 13 → IsCharBoundary s 1
 behind_return s u l e = behind_ascii s 0 1 13 u l e (omega arith) (omega arith)
 
--- behind the last line feed
+-- after the last line feed
 pub behind_last : (s : List ℕ) (n : ℕ) → IsUtf8 s → BehindLastFeed s n → IsCharBoundary s n
 behind_last s zero u h = IsCharBoundary-start s u
 behind_last s (suc n) u h = let fits : suc n ≤ length s = h.fits in behind_ascii s n (suc n) 10 u (omega arith) (feed_at s n h) (omega arith) (omega arith)
 
--- behind spaces
+-- after spaces
 pub behind_spaces : (s : List ℕ) (k n : ℕ) → IsUtf8 s → n ≤ k → k ≤ length s → ((i : ℕ) → i < k → get_or s i 0 ≡ 32) → IsCharBoundary s n
 behind_spaces s k zero u l m h = IsCharBoundary-start s u
 behind_spaces s k (suc n) u l m h = behind_ascii s n (suc n) 32 u (omega arith) (h n (omega arith)) (omega arith) (omega arith)
 
--- ---- in front of the first line
+-- ---- before the first line
 
 -- what the code found is the beginning of the lines
 pub begins_here : (s closing body : List ℕ) (first start pos k : ℕ) (line : Undecoded) → BehindLastFeed s start → OpeningIs s (Some first) → closing ≡ closing_piece (pieces s)

@@ -21,9 +21,9 @@ positive r s k (c ∷ cs) e l spelled h =
     let b = len_utf8_bounds c in
     omega (arith, length-append (encode_utf8 c) (encode_utf8_all cs), length-encode c, b.0)
 
--- a front of a shape that no empty text has takes a byte at least
+-- a prefix of a shape that no empty text has takes a byte at least
 
--- a front of a shape that is never empty has a byte
+-- a prefix of a shape that is never empty has a byte
 pub front_positive : (r : Regex) (s : List ℕ) (k : ℕ) → may_be_empty r ≡ false → IsFront r s k → 0 < k
 front_positive r s k e f = positive r s k f.scalars e f.fits f.spelled f.has
 
@@ -34,7 +34,7 @@ abbrev pub is_ascii : List ℕ → Bool
 is_ascii [] = true
 is_ascii (b ∷ s) = nat_lt b 128 && is_ascii s
 
--- a front of ASCII is ASCII
+-- a prefix of ASCII is ASCII
 ascii_take : (k : ℕ) (s : List ℕ) → is_ascii s ≡ true → is_ascii (take k s) ≡ true
 ascii_take zero s h = refl
 ascii_take (suc k) [] h = refl
@@ -65,21 +65,21 @@ ascii_scalars (y ∷ ds) (b ∷ s) h e =
 abbrev pub has_front : Regex → List ℕ → ℕ → Bool
 has_front r s k = may_be_empty (after_all (take k s) r)
 
--- no longer front than of k bytes has the shape, by computing
+-- no longer prefix than of k bytes has the shape, by computing
 abbrev pub no_longer : Regex → List ℕ → ℕ → Bool
 no_longer r s k = each_below (length s + 1) (λ j. nat_le j k || not (has_front r s j))
 
--- no front has the shape, by computing
+-- no prefix has the shape, by computing
 abbrev pub no_front : Regex → List ℕ → Bool
 no_front r s = each_below (length s + 1) (λ j. not (has_front r s j))
 
--- a front of the shape passes the test
+-- a prefix of the shape passes the test
 front_computed : (r : Regex) (s : List ℕ) (k : ℕ) → is_ascii s ≡ true → IsFront r s k → has_front r s k ≡ true
 front_computed r s k h f =
     let same : f.scalars ≡ take k s = ascii_scalars f.scalars (take k s) (ascii_take k s h) f.spelled in
     matches_into (take k s) r (subst (λ (z : List ℕ). Matches r z) same f.has)
 
--- what passes the test is a front of the shape
+-- what passes the test is a prefix of the shape
 pub front_here : (r : Regex) (s : List ℕ) (k : ℕ) → is_ascii s ≡ true → nat_le k (length s) ≡ true → has_front r s k ≡ true → IsFront r s k
 front_here r s k h fits e = record { scalars = take k s; fits = leb-true k (length s) fits; spelled = ascii_spelled (take k s) (ascii_take k s h); has = matches_from (take k s) r e }
 
@@ -89,7 +89,7 @@ or_not true b e f = refl
 or_not false true e f = cc
 or_not false false e f = cc
 
--- no longer front has the shape
+-- no longer prefix has the shape
 pub none_longer : (r : Regex) (s : List ℕ) (k : ℕ) → is_ascii s ≡ true → no_longer r s k ≡ true → (j : ℕ) → IsFront r s j → j ≤ k
 none_longer r s k h e j f =
     let fits : j ≤ length s = f.fits in
@@ -97,7 +97,7 @@ none_longer r s k h e j f =
     let t = or_not (nat_le j k) (has_front r s j) (each_below_at (length s + 1) j (λ j. nat_le j k || not (has_front r s j)) e l) (front_computed r s j h f) in
     leb-true j k t
 
--- no front has the shape
+-- no prefix has the shape
 pub no_front_here : (r : Regex) (s : List ℕ) → is_ascii s ≡ true → no_front r s ≡ true → (j : ℕ) → IsFront r s j → ⊥
 no_front_here r s h e j f =
     let fits : j ≤ length s = f.fits in
@@ -106,7 +106,7 @@ no_front_here r s h e j f =
     let u = front_computed r s j h f in
     let wrong : false ≡ true = sym (ap not u) ∙ t in cc
 
--- the longest front, by computing
+-- the longest prefix, by computing
 pub longest_here : (r : Regex) (s : List ℕ) (k : ℕ) → is_ascii s ≡ true → nat_le k (length s) ≡ true → has_front r s k ≡ true → no_longer r s k ≡ true → Greatest (IsFront r s) (Some k)
 longest_here r s k h fits e f = (front_here r s k h fits e, none_longer r s k h f)
 

@@ -116,19 +116,19 @@ label_token_past (token.Label q) c k = ap in_token (label_past q c k)
 pub label_token_steps : (q : LabelTokenState) (c : ℕ) → after c (label_token_rest q) ≡ after_next LabelTokenState label_token_rest (label_token_step q c)
 label_token_steps q c = let h = label_token_computed q in steps_agree LabelTokenState label_token_rest label_token_step q c h.0 h.1 (label_token_past q c)
 
--- each state of a gap is right at each scalar up to 128, by computing
+-- each state of whitespace is right at each scalar up to 128, by computing
 gap_computed : (q : GapState) → (each_below 129 (agrees GapState gap_rest gap_step q) ≡ true) × (is_ascii_shape (gap_rest q) ≡ true)
 gap_computed gap.Start = (refl, refl)
 gap_computed gap.Slash = (refl, refl)
 gap_computed gap.Comment = (refl, refl)
 
--- no state of a gap tells scalars past ASCII apart
+-- no state of whitespace tells scalars past ASCII apart
 gap_past : (q : GapState) (c : ℕ) → 128 ≤ c → gap_step q c ≡ gap_step q 128
 gap_past gap.Start c k = grind (arith, nat_tests)
 gap_past gap.Slash c k = grind (arith, nat_tests)
 gap_past gap.Comment c k = grind (arith, nat_tests)
 
--- the machine of a gap keeps to its shape
+-- the machine of whitespace keeps to its shape
 pub gap_steps : (q : GapState) (c : ℕ) → after c (gap_rest q) ≡ after_next GapState gap_rest (gap_step q c)
 gap_steps q c = let h = gap_computed q in steps_agree GapState gap_rest gap_step q c h.0 h.1 (gap_past q c)
 

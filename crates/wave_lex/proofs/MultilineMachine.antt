@@ -1,4 +1,4 @@
--- A machine that reads a multiline string. The code searches for its end; proofs about what stands behind one read it scalar by scalar.
+-- A machine that reads a multiline string. The code searches for its end; proofs about what stands after one read it scalar by scalar.
 use Rattle.std.proofs.Common.{◌≡◌, ℕ, ◌≤◌, true, nat_eq, [], ◌∷◌, refl, arith, Option, Some, None}
 use Rattle.std.specs.Prelude.{if◌then◌else◌}
 use Rattle.std.proofs.lemmas.Bool.Decides.{nat_tests}
@@ -8,7 +8,7 @@ use Rattle.wave_lex.specs.Tokens.{multiline_string}
 use Rattle.wave_lex.proofs.Shapes.{each_below, is_ascii_shape}
 use Rattle.wave_lex.proofs.Machines.{agrees, steps_agree}
 
--- where a multiline string has been read to: in front of it; behind one quote, and two; within the text; behind one quote there, and two; behind the last quote
+-- where a multiline string has been read to: before it; after one quote, and two; within the text; after one quote there, and two; after the last quote
 pub data MultilineState : Type 0 where
   Start : MultilineState
   Open1 : MultilineState

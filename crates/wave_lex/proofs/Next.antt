@@ -49,7 +49,7 @@ invalid_not_end s h j a b u =
     let fits : j ≤ length (drop h s) = u.1.0.fits in
     omega (arith, length-drop h s)
 
--- the next item is one, and so is the lexer behind it
+-- the next item is one, and so is the lexer after it
 pub next_one : (l m n : Lexed) (r q : Option (Result Token (Range ℕ))) → NextIs l m r → NextIs l n q → (m ≡ n) × (r ≡ q)
 next_one l m n None None p q = (passes_one l m n _ _ _ _ p q refl refl, refl)
 next_one l m n None (Some (Ok d)) p (h, j, q, u) = absurd (no_token_left (remainder_of l) h j d p.skipped q.skipped u)
@@ -66,7 +66,7 @@ next_one l m n (Some (Err a)) (Some (Err b)) (g, k, p, t, e) (h, j, q, u, f) =
     let same = passes_one l m n g h k j p q one.0 one.1 in
     (same, ap (λ x. Some (Err x)) (e ∙ ap (λ (z : Lexed). record { start = z.start; end = z.end }) same ∙ sym f))
 
--- behind a token less is left
+-- after a token less is left
 pub next_less : (l m : Lexed) (c : Token) → NextIs l m (Some (Ok c)) → length (remainder_of m) < length (remainder_of l)
 next_less l m c (g, k, p, t) =
     let some : 0 < k = front_positive (shape c) (drop g (remainder_of l)) k (shape_not_empty c) t.is.0 in

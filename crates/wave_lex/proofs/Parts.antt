@@ -115,20 +115,20 @@ escape_ascii e c (inr a) =
     let k : 125 < 128 = omega arith in
     subst (λ (z : List ℕ). AllAscii z) (sym a.spelled) (f, (g, (h, ascii_append a.digits (125 ∷ []) (digits_ascii a.digits a.hexadecimal) (k, tt))))
 
--- behind ASCII a text goes on as a text
+-- after ASCII a text goes on as a text
 text_behind : (x t : List ℕ) → AllAscii x → IsUtf8 (x ++ t) → IsUtf8 t
 text_behind [] t a u = u
 text_behind (b ∷ x) t a u =
     text_behind x t a.1 (IsUtf8-past_char (b ∷ (x ++ t)) (x ++ t) b u (ap (λ (z : List ℕ). z ++ (x ++ t)) (sym (encode_ascii b a.0))))
 
--- a text may be cut behind an escape
+-- a text may be split after an escape
 pub escape_boundary : (s e t : List ℕ) (c k : ℕ) → IsUtf8 s → IsEscape e c → s ≡ e ++ t → k ≡ length e → IsCharBoundary s k
 escape_boundary s e t c k u h w l =
     rw l (IsCharBoundary-at_seam s e t w (text_behind e t (escape_ascii e c h) (subst (λ (z : List ℕ). IsUtf8 z) w u)))
 
 -- ---- all parts
 
--- what one part says: some bytes are taken, and in front of any text they mean the part
+-- what one part says: some bytes are taken, and before any text they mean the part
 pub record Takes (old new : Undecoded) (part : StringPart) : Type 0 where
   pub source : List ℕ
   pub taken : old.rest ≡ source ++ new.rest
@@ -145,7 +145,7 @@ pub takes : (old new : Undecoded) (part : StringPart) → PartIs old (Some (Ok p
 takes old new (Run text) h = record { source = text.now; taken = h.taken; moved = h.moved; means = λ s t d. plain_means text.now s t h.plain d }
 takes old new (Char c) h = record { source = h.escape; taken = h.taken; moved = h.moved; means = λ s t d. escape_from h.escape s (encode_utf8 c ++ t) c h.is (t, refl, d) }
 
--- a bad escape behind a part
+-- a bad escape after a part
 pub bad_behind : (old new : Undecoded) (part : StringPart) (i : ℕ) → (h : Takes old new part) → IsBadEscapeAt new.rest i → IsBadEscapeAt old.rest (length h.source + i)
 bad_behind old new part i h (front, rest, t, whole, decodes, none, there) = (
   h.source ++ front,
@@ -168,7 +168,7 @@ join_decodes s (p ∷ ps) r =
 pub bad_here : (s t : Undecoded) (e : Diagnostic) → MeetsBadEscape s t e → IsBadEscapeAt s.rest 0
 bad_here s t e h = ([], h.begins.0, [], h.begins.1, ([], (refl, refl)), subst (λ (z : List ℕ). UnescapesTo z None) h.begins.1 h.none, refl)
 
--- parts up to a refusal tell the first bad escape
+-- parts up to a refusal show the first bad escape
 join_fails : (s : Undecoded) (ps : List StringPart) (e : Diagnostic) → RunsTo s ps (Some e) → (i : ℕ) × IsBadEscapeAt s.rest i × TellsBadEscape e (s.pos + i)
 join_fails s [] e r = (0, bad_here s r.0 e r.1, subst (λ (z : ℕ). TellsBadEscape e z) (omega arith) r.1.told)
 join_fails s (p ∷ ps) e r =

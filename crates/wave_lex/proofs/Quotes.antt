@@ -34,7 +34,7 @@ word_from (c ∷ cs) = (c ∷ [], cs, refl, (c, refl, within_one c), word_from c
 abbrev part : Regex
 part = both (up_to 2 (one 34)) (other (34 ∷ []))
 
--- a scalar other than a quote, behind at most two quotes
+-- a scalar other than a quote, after at most two quotes
 abbrev IsPart : List ℕ → Type 0
 IsPart p = (c : ℕ) × (c ≢ 34) × ((p ≡ c ∷ []) ⊎ (p ≡ 34 ∷ c ∷ []) ⊎ (p ≡ 34 ∷ 34 ∷ c ∷ []))
 
@@ -74,17 +74,17 @@ part_two c n = (34 ∷ 34 ∷ [], c ∷ [], refl, inr (34 ∷ [], 34 ∷ [], ref
 
 -- ---- no three quotes
 
--- another scalar in front
+-- another scalar before it
 none_behind : (c : ℕ) (s : List ℕ) → c ≢ 34 → HasNoThreeQuotes s → HasNoThreeQuotes (c ∷ s)
 none_behind c s n h [] y e = let w : c ≡ 34 = cc in n w
 none_behind c s n h (a ∷ x) y e = let w : s ≡ x ++ 34 ∷ 34 ∷ 34 ∷ y = cc in h x y w
 
--- one quote and another scalar in front
+-- one quote and another scalar before it
 none_one_quote : (c : ℕ) (s : List ℕ) → c ≢ 34 → HasNoThreeQuotes s → HasNoThreeQuotes (34 ∷ c ∷ s)
 none_one_quote c s n h [] y e = let w : c ≡ 34 = cc in n w
 none_one_quote c s n h (a ∷ x) y e = let w : c ∷ s ≡ x ++ 34 ∷ 34 ∷ 34 ∷ y = cc in none_behind c s n h x y w
 
--- two quotes and another scalar in front
+-- two quotes and another scalar before it
 none_two_quotes : (c : ℕ) (s : List ℕ) → c ≢ 34 → HasNoThreeQuotes s → HasNoThreeQuotes (34 ∷ 34 ∷ c ∷ s)
 none_two_quotes c s n h [] y e = let w : c ≡ 34 = cc in n w
 none_two_quotes c s n h (a ∷ x) y e = let w : 34 ∷ c ∷ s ≡ x ++ 34 ∷ 34 ∷ 34 ∷ y = cc in none_one_quote c s n h x y w
@@ -96,22 +96,22 @@ none_two (a ∷ []) y e = cc
 none_two (a ∷ b ∷ []) y e = cc
 none_two (a ∷ b ∷ d ∷ x) y e = cc
 
--- a part in front
+-- a part before it
 none_part : (p s : List ℕ) → IsPart p → HasNoThreeQuotes s → HasNoThreeQuotes (p ++ s)
 none_part p s (c, n, inl e) h = subst (λ (z : List ℕ). HasNoThreeQuotes (z ++ s)) (sym e) (none_behind c s n h)
 none_part p s (c, n, inr (inl e)) h = subst (λ (z : List ℕ). HasNoThreeQuotes (z ++ s)) (sym e) (none_one_quote c s n h)
 none_part p s (c, n, inr (inr e)) h = subst (λ (z : List ℕ). HasNoThreeQuotes (z ++ s)) (sym e) (none_two_quotes c s n h)
 
--- parts in front of two quotes
+-- parts before two quotes
 none_parts : (ps : List (List ℕ)) → AllOf (Matches part) ps → HasNoThreeQuotes (joined ps ++ 34 ∷ 34 ∷ [])
 none_parts [] h = none_two
 none_parts (p ∷ ps) h = subst HasNoThreeQuotes (sym (append_assoc p (joined ps) (34 ∷ 34 ∷ []))) (none_part p (joined ps ++ 34 ∷ 34 ∷ []) (part_into p h.0) (none_parts ps h.1))
 
--- a text without three quotes, also with two behind it, is cut into parts
+-- a text without three quotes, also with two after it, is split into parts
 abbrev Parts : List ℕ → Type 0
 Parts s = (ps : List (List ℕ)) × (s ≡ joined ps) × AllOf (Matches part) ps
 
--- what stands behind a scalar has no three quotes either
+-- what stands after a scalar has no three quotes either
 behind : (c : ℕ) (s : List ℕ) → HasNoThreeQuotes (c ∷ s) → HasNoThreeQuotes s
 behind c s h x y e = h (c ∷ x) y (ap (λ (z : List ℕ). c ∷ z) e)
 
@@ -127,7 +127,7 @@ test c = by_test (nat_eq c 34) refl
 more_parts : (p s : List ℕ) → Matches part p → Parts s → Parts (p ++ s)
 more_parts p s m (ps, e, h) = (p ∷ ps, ap (λ (z : List ℕ). p ++ z) e, (m, h))
 
--- a text without three quotes, also with two behind it, is cut into parts
+-- a text without three quotes, also with two after it, is split into parts
 cut : (s : List ℕ) → HasNoThreeQuotes (s ++ 34 ∷ 34 ∷ []) → Parts s
 cut [] h = ([], refl, tt)
 cut (a ∷ []) h = elim (test a) [ inl e ↦ absurd (h [] [] (ap (λ (z : ℕ). z ∷ 34 ∷ 34 ∷ []) e)) | inr n ↦ more_parts (a ∷ []) [] (part_zero a n) ([], refl, tt) ]

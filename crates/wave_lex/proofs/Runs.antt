@@ -101,7 +101,7 @@ plain_scalar c t h = plain_one c (elim (cases_lt c 128) as (λ _. is_plain c ≡
       there 0 (omega arith)
 ])
 
--- what is behind some plain bytes is plain
+-- what is after some plain bytes is plain
 plain_behind : (x t : List ℕ) → ArePlain (x ++ t) → ArePlain t
 plain_behind x t h = λ i l.
     let long : length (x ++ t) ≡ length x + length t = length-append x t in
@@ -164,7 +164,7 @@ plain_first s t k n fits e less run =
       stops = λ l. sym (ap is_plain (same n less)) ∙ run.stops (omega arith);
     }
 
--- the run that goes on behind the first k bytes
+-- the run that goes on after the first k bytes
 pub plain_joined : (s t u : List ℕ) (k n m : ℕ) → k ≤ length s → t ≡ take k s → u ≡ drop k s → k ≤ n → IsPlainRun t n → IsPlainRun u m → IsPlainRun s (k + m)
 plain_joined s t u k n m fits e f all run rest =
     let long : length u ≡ length s - k = ap length f ∙ length-drop k s in
@@ -181,13 +181,13 @@ plain_joined s t u k n m fits e f all run rest =
       stops = λ l. sym (ap is_plain (behind m)) ∙ rest.stops (omega arith);
     }
 
--- ---- behind a string
+-- ---- after a string
 
--- behind some scalars a string has ended badly, or stands in a state
+-- after some scalars a string has ended badly, or stands in a state
 abbrev Goes : List ℕ → Regex → Type 0
 Goes x r = (after_all x r ≡ nothing) ⊎ ((p : StringState) × (after_all x r ≡ string_rest p))
 
--- where a string goes behind one scalar more
+-- where a string goes after one scalar more
 goes_on : (c : ℕ) (x : List ℕ) (r : Regex) (o : Option StringState) → after c r ≡ after_next StringState string_rest o → ((p : StringState) → Goes x (string_rest p)) → Goes (c ∷ x) r
 goes_on c x r None e h = inl (ap (λ (z : Regex). after_all x z) e ∙ after_all_nothing x)
 goes_on c x r (Some p) e h = elim (h p) as (λ _. Goes (c ∷ x) r) [
@@ -195,12 +195,12 @@ goes_on c x r (Some p) e h = elim (h p) as (λ _. Goes (c ∷ x) r) [
   | inr k ↦ inr (k.0, ap (λ (z : Regex). after_all x z) e ∙ k.1)
 ]
 
--- the state of a string behind some scalars
+-- the state of a string after some scalars
 string_goes : (x : List ℕ) (q : StringState) → Goes x (string_rest q)
 string_goes [] q = inr (q, refl)
 string_goes (c ∷ x) q = goes_on c x (string_rest q) (string_step q c) (string_steps q c) (string_goes x)
 
--- only behind its last quote a string may end
+-- only after its last quote a string may end
 string_ends : (q : StringState) → may_be_empty (string_rest q) ≡ true → string_rest q ≡ empty
 string_ends string.Start e = cc
 string_ends string.Inside e = cc
@@ -221,7 +221,7 @@ is_over nothing = true
 is_over empty = true
 is_over r = false
 
--- behind the end of a string nothing leads anywhere
+-- after the end of a string nothing leads anywhere
 over : (y : List ℕ) → is_over (after_all y empty) ≡ true
 over [] = refl
 over (c ∷ y) = ap is_over (after_all_nothing y)
@@ -237,7 +237,7 @@ inside_none x y t e = elim (string_goes x string.Start) as (λ _. ⊥) [
 
 -- ---- marks
 
--- the shape of no scalar has the front of no byte alone
+-- the shape of no scalar has the prefix of no byte alone
 empty_front : (t : List ℕ) → Greatest (IsFront empty t) (Some 0)
 empty_front t = (
   record { scalars = []; fits = omega arith; spelled = refl; has = refl },
@@ -251,7 +251,7 @@ empty_front t = (
 mark_taken : (m : ℕ) → is_within m m m ≡ true
 mark_taken m = grind (arith, nat_tests)
 
--- a mark at the front
+-- a mark at the start
 mark_first : (s : List ℕ) (m : ℕ) → m < 128 → 0 < length s → get_or s 0 0 ≡ m → Greatest (IsFront (one m) s) (Some 1)
 mark_first s m a l e =
     let leads : after m (one m) ≡ empty = rw (mark_taken m) refl in
@@ -259,13 +259,13 @@ mark_first s m a l e =
     (record { scalars = m ∷ []; fits = omega arith; spelled = ap (λ (z : List ℕ). z ++ []) (encode_ascii m a) ∙ sym (first_and_others s 0 m l e); has = leads })
     (empty_front (drop 1 s))
 
--- a mark at the front of the bytes
+-- a mark at the start of the bytes
 pub mark_here : (s b : List ℕ) (m : ℕ) → b ≡ s → m < 128 → 0 < length b → get_or b 0 0 ≡ m → Greatest (IsFront (one m) s) (Some 1)
 mark_here s b m e a l f = subst (λ (z : List ℕ). Greatest (IsFront (one m) z) (Some 1)) e (mark_first b m a l f)
 
 -- ---- what the code counts
 
--- behind a run of ASCII
+-- after a run of ASCII
 run_cut : (P : ℕ → Bool) (s b : List ℕ) (n : ℕ) → ((c : ℕ) → P c ≡ true → c < 128) → b ≡ s → IsUtf8 s → n ≤ length b → ((i : ℕ) → i < n → P (get_or b i 0) ≡ true) → IsCharBoundary s n
 run_cut P s b n a e u l h = subst (λ (z : List ℕ). IsCharBoundary z n) e (behind_run b n (subst IsUtf8 (sym e) u) l (λ i k. a (get_or b i 0) (h i k)))
 
@@ -278,7 +278,7 @@ digits_cut s b n e u l h = run_cut is_digit s b n digit_ascii e u l h
 pub lowers_cut : (s b : List ℕ) (n : ℕ) → b ≡ s → IsUtf8 s → n ≤ length b → ((i : ℕ) → i < n → is_lower (get_or b i 0) ≡ true) → IsCharBoundary s n
 lowers_cut s b n e u l h = run_cut is_lower s b n lower_ascii e u l h
 
--- blanks lead to what may follow in a gap
+-- blanks lead to what may follow in whitespace
 pub blanks_lead : (s b : List ℕ) (n : ℕ) → b ≡ s → n ≤ length b → ((i : ℕ) → i < n → is_blank (get_or b i 0) ≡ true) → LeadsTo gap gap s n
 blanks_lead s b n e l h = subst (λ (z : List ℕ). LeadsTo gap gap z n) e
     (ascii_leads gap gap b n l (λ i k. blank_ascii (get_or b i 0) (h i k)) (run_stays gap b n l (λ i k. blank_stays (get_or b i 0) (h i k))))
@@ -305,7 +305,7 @@ gap_dead c e f = gap_steps gap.Start c ∙ ap (after_next GapState gap_rest) (ga
 blank_past : (c : ℕ) → 128 ≤ c → is_blank c ≡ false
 blank_past c l = grind (arith, nat_tests)
 
--- blanks are the gap, where no slash follows
+-- blanks are the whitespace, where no slash follows
 pub blanks_end : (s b : List ℕ) (n : ℕ) → b ≡ s → n ≤ length b → ((i : ℕ) → i < n → is_blank (get_or b i 0) ≡ true) → (n < length b → is_blank (get_or b n 0) ≡ false)
     → (n < length b → get_or b n 0 ≢ 47) → Greatest (IsFront gap s) (Some n)
 blanks_end s b n e l h stops other = subst (λ (z : List ℕ). Greatest (IsFront gap z) (Some n)) e
@@ -314,7 +314,7 @@ blanks_end s b n e l h stops other = subst (λ (z : List ℕ). Greatest (IsFront
 behind_blanks : (c : ℕ) → 32 < c → is_blank c ≡ false
 behind_blanks c l = grind (arith, nat_tests)
 
--- no gap begins with a byte behind the blanks that is no slash
+-- no whitespace begins with a byte after the blanks that is no slash
 pub no_gap : (s b : List ℕ) → b ≡ s → 32 < get_or b 0 0 → get_or b 0 0 ≢ 47 → Greatest (IsFront gap s) (Some 0)
 no_gap s b e l f = blanks_end s b 0 e (omega arith) (λ i k. let w : ⊥ = omega arith in absurd w) (λ _. behind_blanks (get_or b 0 0) l) (λ _. f)
 

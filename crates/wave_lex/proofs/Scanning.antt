@@ -33,7 +33,7 @@ stepped r q p s i l a e =
     ap (λ (z : List ℕ). after_all z r) (take_more s i 0 l) ∙ (after_all_append (take i s) (get_or s i 0 ∷ []) r
     ∙ (ap (λ (z : Regex). after (get_or s i 0) z) a ∙ e))
 
--- a front that is not the newest is an older one
+-- a prefix that is not the newest is an older one
 at_next : (r p : Regex) (s : List ℕ) (i k : ℕ) → after_all (take (i + 1) s) r ≡ p → may_be_empty p ≡ false
     → k ≤ i + 1 → may_be_empty (after_all (take k s) r) ≡ true → k ≤ i
 at_next r p s i k a f l t =
@@ -44,14 +44,14 @@ at_next r p s i k a f l t =
           let wrong2 : false ≡ true = sym f ∙ (ap may_be_empty (sym a) ∙ wrong) in cc
     ]
 
--- the longest front stays where the newest is none
+-- the longest prefix stays where the newest is none
 kept : (r p : Regex) (s : List ℕ) (i : ℕ) (o : Option ℕ) → after_all (take (i + 1) s) r ≡ p → may_be_empty p ≡ false → SeenTo r s i o → SeenTo r s (i + 1) o
 kept r p s i None a f h = λ k (d : (k ≤ i + 1) × (may_be_empty (after_all (take k s) r) ≡ true)). h k (at_next r p s i k a f d.0 d.1, d.1)
 kept r p s i (Some m) a f h =
     let best : m ≤ i = h.0.0 in
     ((omega arith, h.0.1), λ k (d : (k ≤ i + 1) × (may_be_empty (after_all (take k s) r) ≡ true)). h.1 k (at_next r p s i k a f d.0 d.1, d.1))
 
--- the place behind one scalar more
+-- the place after one scalar more
 place_step : (cs : List ℕ) (i : ℕ) → i < length cs → place_of cs (i + 1) ≡ place_of cs i + len_utf8 (get_or cs i 0)
 place_step cs i l =
     let a : encode_utf8_all (take (i + 1) cs) ≡ encode_utf8_all (take i cs) ++ encode_utf8_all (get_or cs i 0 ∷ []) =
@@ -60,11 +60,11 @@ place_step cs i l =
     ap length a ∙ (length-append (encode_utf8_all (take i cs)) (encode_utf8_all (get_or cs i 0 ∷ []))
     ∙ ap (λ (z : ℕ). place_of cs i + z) (ap length b ∙ length-encode (get_or cs i 0)))
 
--- a front is a shorter front and more
+-- a prefix is a shorter prefix and more
 cut : (cs : List ℕ) (i j : ℕ) → i ≤ j → take j cs ≡ take i cs ++ drop i (take j cs)
 cut cs i j l = sym (take-append-drop i (take j cs)) ∙ ap (λ (z : List ℕ). z ++ drop i (take j cs)) (take-take i j cs l)
 
--- a longer front takes no fewer bytes
+-- a longer prefix takes no fewer bytes
 place_mono : (cs : List ℕ) (i j : ℕ) → i ≤ j → place_of cs i ≤ place_of cs j
 place_mono cs i j l =
     let e : place_of cs j ≡ place_of cs i + length (encode_utf8_all (drop i (take j cs))) =
@@ -93,7 +93,7 @@ begins (x ∷ xs) cs t e =
     let P : List ℕ → Type 0 = λ z. (length (x ∷ xs) ≤ length z) × (x ∷ xs ≡ take (length (x ∷ xs)) z) in
     subst P (sym w.1) (first, second)
 
--- a front in bytes is one in scalars
+-- a prefix in bytes is one in scalars
 pub front_into : (r : Regex) (s : List ℕ) (k : ℕ) → IsUtf8 s → IsFront r s k
     → (i : ℕ) × (i ≤ length (chars s)) × (k ≡ place_of (chars s) i) × (may_be_empty (after_all (take i (chars s)) r) ≡ true)
 front_into r s k u f =
@@ -108,7 +108,7 @@ front_into r s k u f =
       ap (λ (z : List ℕ). may_be_empty (after_all z r)) (sym h.1) ∙ matches_into f.scalars r f.has,
     )
 
--- a front in scalars is one in bytes
+-- a prefix in scalars is one in bytes
 pub front_from : (r : Regex) (s : List ℕ) (i : ℕ) → IsUtf8 s → i ≤ length (chars s) → may_be_empty (after_all (take i (chars s)) r) ≡ true
     → IsFront r s (place_of (chars s) i)
 front_from r s i u l t =
@@ -129,7 +129,7 @@ get_or_default [] i c d l = let w : ⊥ = omega arith in absurd w
 get_or_default (x ∷ cs) zero c d l = refl
 get_or_default (x ∷ cs) (suc i) c d l = get_or_default cs i c d (omega arith)
 
--- a scalar behind which the shape may not end
+-- a scalar after which the shape may not end
 pub seen_same : (r q p : Regex) (cs : List ℕ) (i place : ℕ) (o : Option ℕ) (c : ℕ) → i < length cs → c ≡ get_or cs i c → Seen r q cs i place o → after c q ≡ p
     → may_be_empty p ≡ false → Seen r p cs (i + 1) (place + len_utf8 c) o
 seen_same r q p cs i place o c l is h e f =
@@ -143,7 +143,7 @@ seen_same r q p cs i place o c l is h e f =
       found = h.found;
     }
 
--- a scalar behind which the shape may end
+-- a scalar after which the shape may end
 pub seen_new : (r q p : Regex) (cs : List ℕ) (i place : ℕ) (o : Option ℕ) (c : ℕ) → i < length cs → c ≡ get_or cs i c → Seen r q cs i place o → after c q ≡ p
     → may_be_empty p ≡ true → Seen r p cs (i + 1) (place + len_utf8 c) (Some (place + len_utf8 c))
 seen_new r q p cs i place o c l is h e f =
@@ -176,7 +176,7 @@ seen_none r cs e = record {
   found = refl;
 }
 
--- no longer front is seen behind i
+-- no longer prefix is seen after i
 all_fronts : (r : Regex) (s : List ℕ) (i : ℕ) (o : Option ℕ) → IsUtf8 s → i ≤ length (chars s) → SeenTo r (chars s) i o
     → ((k : ℕ) → i < k → k ≤ length (chars s) → may_be_empty (after_all (take k (chars s)) r) ≡ true → ⊥) → Greatest (IsFront r s) (place_of_seen (chars s) o)
 all_fronts r s i None u l h none_later = λ k (f : IsFront r s k).
@@ -196,13 +196,13 @@ all_fronts r s i (Some m) u l h none_later =
           ]),
     )
 
--- at the end the longest front is known
+-- at the end the longest prefix is known
 pub seen_all : (r q : Regex) (s : List ℕ) (i place : ℕ) (o : Option ℕ) → IsUtf8 s → i ≡ length (chars s) → Seen r q (chars s) i place o → Greatest (IsFront r s) o
 seen_all r q s i place o u m h =
     let P : Option ℕ → Type 0 = λ z. Greatest (IsFront r s) z in
     subst P (sym h.found) (all_fronts r s i h.best u (omega arith) h.fronts (λ k (a : i < k) (b : k ≤ length (chars s)) (_ : may_be_empty (after_all (take k (chars s)) r) ≡ true). omega arith))
 
--- where no scalar follows the longest front is known
+-- where no scalar follows the longest prefix is known
 pub seen_dead : (r q : Regex) (s : List ℕ) (i place : ℕ) (o : Option ℕ) (c : ℕ) → IsUtf8 s → i < length (chars s) → c ≡ get_or (chars s) i c → Seen r q (chars s) i place o → after c q ≡ nothing
     → Greatest (IsFront r s) o
 seen_dead r q s i place o c u l is h e =
@@ -215,14 +215,14 @@ seen_dead r q s i place o c u l is h e =
     ∙ (ap (λ (z : Regex). after_all (drop (i + 1) (take k (chars s))) z) a ∙ after_all_nothing (drop (i + 1) (take k (chars s))))) in
     let wrong : false ≡ true = sym (ap may_be_empty n) ∙ t in cc))
 
--- behind some scalars come scalars
+-- after some scalars come scalars
 scalars_drop : (cs : List ℕ) (i : ℕ) → scalars cs ≡ true → scalars (drop i cs) ≡ true
 scalars_drop [] zero e = e
 scalars_drop [] (suc i) e = e
 scalars_drop (c ∷ cs) zero e = e
 scalars_drop (c ∷ cs) (suc i) e = scalars_drop cs i (and_true _ _ e).1
 
--- a text may be cut behind a front
+-- a text may be split after a prefix
 pub front_boundary : (r : Regex) (s : List ℕ) (k : ℕ) → IsUtf8 s → IsFront r s k → IsCharBoundary s k
 front_boundary r s k u f =
     let w = front_into r s k u f in
@@ -231,7 +231,7 @@ front_boundary r s k u f =
     let text : IsUtf8 (encode_utf8_all (drop w.0 (chars s))) = (drop w.0 (chars s), (scalars_drop (chars s) w.0 (scalars-chars s u), refl)) in
     rw w.2 (IsCharBoundary-at_seam s (encode_utf8_all (take w.0 (chars s))) (encode_utf8_all (drop w.0 (chars s))) whole text)
 
--- where no front is invalid, nothing is left
+-- where no prefix is invalid, nothing is left
 first_invalid : (s cs : List ℕ) → IsUtf8 s → cs ≡ chars s → Greatest (IsFront invalid s) None → cs ≡ []
 first_invalid s [] u e h = refl
 first_invalid s (c ∷ cs) u e h =
@@ -244,6 +244,6 @@ first_invalid s (c ∷ cs) u e h =
 pub invalid_none : (s : List ℕ) → IsUtf8 s → Greatest (IsFront invalid s) None → s ≡ []
 invalid_none s u h = sym (encodes-chars s u) ∙ ap encode_utf8_all (first_invalid s (chars s) u refl h)
 
--- a gap stands everywhere, perhaps an empty one
+-- whitespace stands everywhere, perhaps of no bytes
 pub gap_some : (s : List ℕ) → Greatest (IsFront gap s) None → ⊥
 gap_some s h = h 0 (record { scalars = []; fits = omega arith; spelled = refl; has = empty_from gap refl })

@@ -1,4 +1,4 @@
--- What a machine has seen of the fronts of a text, counted in scalars.
+-- What a machine has seen of the prefixes of a text, counted in scalars.
 use Rattle.std.specs.Prelude.{◌≡◌, ℕ, ◌≤◌, true, List, Option, Some, None, take, length, encode_utf8_all}
 use Rattle.wave_lex.specs.Regex.{Regex}
 use Rattle.wave_lex.specs.Shared.Derive.{may_be_empty, after_all}
@@ -8,12 +8,12 @@ use Rattle.wave_lex.specs.LongestMatch.{Greatest}
 abbrev pub place_of : List ℕ → ℕ → ℕ
 place_of cs i = length (encode_utf8_all (take i cs))
 
--- the place behind the longest front
+-- the place after the longest prefix
 abbrev pub place_of_seen : List ℕ → Option ℕ → Option ℕ
 place_of_seen cs None = None
 place_of_seen cs (Some i) = Some (place_of cs i)
 
--- the longest front among those of at most i scalars
+-- the longest prefix among those of at most i scalars
 abbrev pub SeenTo : Regex → List ℕ → ℕ → Option ℕ → Type 0
 SeenTo r cs i o = Greatest (λ k. (k ≤ i) × (may_be_empty (after_all (take k cs) r) ≡ true)) o
 

@@ -71,12 +71,12 @@ each_below_at (suc n) b p e l =
       | inr k ↦ let s : b ≡ n = omega arith in subst (λ (z : ℕ). p z ≡ true) (sym s) h.0
     ]
 
--- the shape tells no scalar past ASCII from another
+-- the shape tells no scalar past ASCII apart from another
 abbrev pub all_ascii : List ℕ → Bool
 all_ascii [] = true
 all_ascii (d ∷ ds) = nat_lt d 128 && all_ascii ds
 
--- the shape tells no scalar past ASCII from another
+-- the shape tells no scalar past ASCII apart from another
 abbrev pub is_ascii_shape : Regex → Bool
 is_ascii_shape nothing = true
 is_ascii_shape empty = true

@@ -14,13 +14,13 @@ use Rattle.wave_lex.specs.Tokens.{any}
 use Rattle.std.proofs.Math.Seq.{take-append_seam}
 use Rattle.wave_lex.proofs.Scanning.{invalid_none}
 
--- the empty span behind a gap stands
+-- the empty span after whitespace stands
 pub stands_at : (s r : List ℕ) (a e g : ℕ) → r ≡ drop e s → Stands s a e → IsCharBoundary r g → Stands s (e + g) (e + g)
 stands_at s r a e g d h b =
     let c : IsCharBoundary s (e + g) = IsCharBoundary-from_rest s e g h.last.0 (subst (λ (z : List ℕ). IsCharBoundary z g) d b) in
     record { ordered = omega arith; first = c; last = c }
 
--- the span of an item behind a gap stands
+-- the span of an item after whitespace stands
 pub stands_next : (s r t : List ℕ) (a e g k : ℕ) → r ≡ drop e s → t ≡ drop g r → Stands s a e → IsCharBoundary r g → IsCharBoundary t k → Stands s (e + g) (e + g + k)
 stands_next s r t a e g k d f h b c =
     let one : Stands s (e + g) (e + g) = stands_at s r a e g d h b in
@@ -31,7 +31,7 @@ stands_next s r t a e g k d f h b c =
       last = IsCharBoundary-from_rest s (e + g) k one.last.0 (subst (λ (z : List ℕ). IsCharBoundary z k) there c);
     }
 
--- where nothing stands behind the gap, the gap is all
+-- where nothing stands after the whitespace, the whitespace is all
 pub gap_is_rest : (r t : List ℕ) (g : ℕ) → IsUtf8 t → t ≡ drop g r → IsGap r g → Greatest (IsFront invalid t) None → g ≡ length r
 gap_is_rest r t g u d h n =
     let none : length t ≡ 0 = ap length (invalid_none t u n) in
@@ -52,7 +52,7 @@ less_left s r t a e g k d f h fits more some =
 pub stands_behind : (s r : List ℕ) (a e k : ℕ) → r ≡ drop e s → Stands s a e → IsCharBoundary r k → Stands s e (e + k)
 stands_behind s r a e k d h b = record { ordered = omega arith; first = h.last; last = IsCharBoundary-from_rest s e k h.last.0 (subst (λ (z : List ℕ). IsCharBoundary z k) d b) }
 
--- the first scalar of a text is a front of one scalar
+-- the first scalar of a text is a prefix of one scalar
 pub first_scalar : (s : List ℕ) (c : ℕ) (more : List ℕ) → s ≡ encode_utf8 c ++ more → IsFront any s (len_utf8 c)
 first_scalar s c more e =
     let long : length (encode_utf8 c) ≡ len_utf8 c = length-encode c in

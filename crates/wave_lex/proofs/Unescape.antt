@@ -1,4 +1,4 @@
--- Where an escape stands at the front of a text.
+-- Where an escape stands at the start of a text.
 use Rattle.std.proofs.Common.{◌≡◌, ℕ, ◌≤◌, ◌<◌, ◌+◌, ◌^◌, zero, suc, List, [], ◌∷◌, ◌++◌, inl, inr, refl, sym, ap, subst, ◌∙◌, length, take, drop, arith, Some, None, get_or, append_assoc, length-append, length-take-le, true, false, cond, Bool, lit<}
 use Rattle.std.specs.Prelude.{nat_eq}
 use Rattle.std.specs.Char.{IsScalar, digit_value}
@@ -15,12 +15,12 @@ pub record Good (d : List ℕ) (n : ℕ) : Type 0 where
   pub closed : get_or d n 0 ≡ 125
   pub scalar : IsScalar (digits_value 16 (take n d))
 
--- n hexadecimal digits stand at the front of d, and no more
+-- n hexadecimal digits stand at the start of d, and no more
 pub record Counts (d : List ℕ) (n : ℕ) : Type 0 where
   pub digits : (i : ℕ) → i < n → digit_value (get_or d i 0) < 16
   pub stops : n < length d → 16 ≤ digit_value (get_or d n 0)
 
--- the digits of an escape are all the digits at the front
+-- the digits of an escape are all the digits at the start
 counted : (ds t : List ℕ) (n : ℕ) → AllDigits 16 ds → Counts (ds ++ 125 ∷ t) n
     → (n ≡ length ds) × (get_or (ds ++ 125 ∷ t) n 0 ≡ 125) × (take n (ds ++ 125 ∷ t) ≡ ds) × (n < length (ds ++ 125 ∷ t))
 counted [] t zero a h = (refl, refl, refl, omega arith)
@@ -77,7 +77,7 @@ all_digits (b ∷ d) (suc n) l h =
     let first : 0 < suc n = omega arith in
     (h 0 first, all_digits d n (omega arith) (λ i k. let m : suc i < suc n = omega arith in h (suc i) m))
 
--- a text before the n-th byte and behind it
+-- a text before the n-th byte and after it
 split_at : (d : List ℕ) (n : ℕ) → n < length d → d ≡ take n d ++ (get_or d n 0 ∷ drop (suc n) d)
 split_at [] n l = let w : ⊥ = omega arith in absurd w
 split_at (b ∷ d) zero l = refl

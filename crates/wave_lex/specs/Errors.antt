@@ -26,17 +26,17 @@ plainly k = record { kind = k; cause = None }
 abbrev pub caused : Cause → Refusal
 caused c = record { kind = kind.WasmValueError; cause = Some c }
 
--- a refusal because a value could not be made: want of memory is told by the kind alone
+-- a refusal because a value could not be made: out of memory is reported by the kind alone
 abbrev pub refused_by : Cause → Refusal
 refused_by memory = plainly kind.OutOfMemory
 refused_by c = caused c
 
--- the error that such a refusal keeps: each but want of memory
+-- the error that such a refusal keeps: each but out of memory
 abbrev pub kept : WasmValueError → Option WasmValueError
 kept (error.Memory e) = None
 kept e = Some e
 
--- what a `ParserError` tells: its kind, the bytes of the source where it arose, the words of its detail and the error of the value that could not be made, where it has them
+-- what a `ParserError` says: its kind, the bytes of the source where it arose, the words of its detail and the error of the value that could not be made, where it has them
 pub record Diagnostic : Type 0 where
   pub kind : ParserErrorKind
   pub span : Range ℕ
@@ -109,7 +109,7 @@ fault_detail opening = Some (codes "opening \"\"\" must be followed immediately 
 fault_detail (indentation at) = Some badly_indented
 fault_detail (escape at) = None
 
--- the name of a class of tokens, which `UnexpectedToken` tells
+-- the name of a class of tokens, which is the detail of `UnexpectedToken`
 abbrev pub class_name : Token → List ℕ
 class_name class.BraceOpen = codes "BraceOpen"
 class_name class.BraceClose = codes "BraceClose"

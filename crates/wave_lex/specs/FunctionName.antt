@@ -10,7 +10,7 @@ use Rattle.wave_lex.specs.Tokenization.{Lexed, remainder_of, span}
 abbrev pub IsName : List ℕ → ℕ → Type 0
 IsName s k = Greatest (IsFront function_name s) (Some k)
 
--- no function name stands at the front of s
+-- no function name stands at the start of s
 abbrev pub NoName : List ℕ → Type 0
 NoName s = Greatest (IsFront function_name s) None
 

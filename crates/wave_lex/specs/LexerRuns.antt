@@ -9,7 +9,7 @@ ComeTo l [] None = (m : Lexed) × NextIs l m None
 ComeTo l [] (Some bad) = (m : Lexed) × NextIs l m (Some (Err bad))
 ComeTo l (t ∷ ts) end = (m : Lexed) × NextIs l m (Some (Ok t.0)) × (t.1 ≡ slice_range m.source m.start m.end) × ComeTo m ts end
 
--- the tokens that come up to None are those into which the rest of the source cuts; where an invalid one comes it cuts into none
+-- the tokens that come up to None are those of the rest of the source; where an invalid one comes it isn't tokenized
 abbrev pub TokensCut : Type 0
 TokensCut = (l : Lexed) (ts : List Lexeme)
     → (ComeTo l ts None ↔ Cuts (remainder_of l) ts)

@@ -9,7 +9,7 @@ use Rattle.wave_lex.specs.Strings.{CharMeans, StringMeans, Decodes, Undecodable,
 
 -- ---- lines
 
--- the byte in front of the first piece
+-- the byte before the first piece
 abbrev pub put_first : ℕ → List (List ℕ) → List (List ℕ)
 put_first b [] = (b ∷ []) ∷ []
 put_first b (p ∷ ps) = (b ∷ p) ∷ ps

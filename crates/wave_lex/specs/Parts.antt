@@ -20,7 +20,7 @@ abbrev pub part_text : StringPart → List ℕ
 part_text (Run s) = s.now
 part_text (Char c) = encode_utf8 c
 
--- the texts of the parts, one behind the other
+-- the texts of the parts, one after the other
 abbrev pub part_texts : List StringPart → List ℕ
 part_texts [] = []
 part_texts (p ∷ ps) = part_text p ++ part_texts ps
@@ -68,7 +68,7 @@ RunsTo s [] None = (t : Undecoded) × PartIs s None t
 RunsTo s [] (Some e) = (t : Undecoded) × PartIs s (Some (Err e)) t
 RunsTo s (p ∷ ps) end = (t : Undecoded) × PartIs s (Some (Ok p)) t × RunsTo t ps end
 
--- the parts join to what the source decodes to; an error tells the first bad escape
+-- the parts join to what the source decodes to; an error reports the first bad escape
 abbrev pub PartsJoin : Type 0
 PartsJoin = (s : Undecoded) (ps : List StringPart)
     → (RunsTo s ps None → Decodes s.rest (part_texts ps))
@@ -113,7 +113,7 @@ pub record MeetsBadLine (old new : LinesLeft) (e : Diagnostic) : Type 0 where
   pub ended : new.later ≡ []
   pub told : TellsBadLine e old.next
 
--- a part of the line that is read; the lines behind it stay
+-- a part of the line that is read; the lines after it stay
 pub record StaysInLine (old new : LinesLeft) (part : StringPart) : Type 0 where
   pub item : PartIs old.line (Some (Ok part)) new.line
   pub later : new.later ≡ old.later
@@ -126,7 +126,7 @@ LinePartIs old None new = (old.line.rest ≡ []) × (old.later ≡ []) × (new �
 LinePartIs old (Some (Ok part)) new = StaysInLine old new part ⊎ (old.line.rest ≡ []) × (part ≡ Char line_feed) × EntersLine old new
 LinePartIs old (Some (Err e)) new = MeetsBadEscape old.line new.line e × (new.later ≡ []) ⊎ (old.line.rest ≡ []) × MeetsBadLine old new e
 
--- in front of the first line of the inside s, which stands at pos
+-- before the first line of the inside s, which stands at pos
 pub record Begins (s : List ℕ) (pos : ℕ) (l : LinesLeft) : Type 0 where
   pub first : List ℕ
   pub cut : pieces s ≡ first ∷ (l.later ++ spaces l.indent ∷ [])
@@ -150,7 +150,7 @@ LinesRunTo s [] None = (t : LinesLeft) × LinePartIs s None t
 LinesRunTo s [] (Some e) = (t : LinesLeft) × LinePartIs s (Some (Err e)) t
 LinesRunTo s (p ∷ ps) end = (t : LinesLeft) × LinePartIs s (Some (Ok p)) t × LinesRunTo t ps end
 
--- the parts join to what the inside decodes to; an error tells what is wrong with it
+-- the parts join to what the inside decodes to; an error reports what is wrong with it
 abbrev pub LinesJoin : Type 0
 LinesJoin = (s : List ℕ) (pos : ℕ)
     → ((l : LinesLeft) (ps : List StringPart) → OpensTo s pos l
@@ -165,7 +165,7 @@ abbrev pub left_of : StringPartsIter → LinesLeft
 left_of (Normal parts) = one_line parts
 left_of (Multiline parts) = parts
 
--- the parts of one line that an iterator of either kind gives join to what it decodes to; an error tells its first bad escape
+-- the parts of one line that an iterator of either kind gives join to what it decodes to; an error reports its first bad escape
 abbrev pub OneLineJoins : Type 0
 OneLineJoins = (s : Undecoded) (ps : List StringPart)
     → (LinesRunTo (one_line s) ps None → Decodes s.rest (part_texts ps))

@@ -7,7 +7,7 @@ pub record Undecoded : Type 0 where
   pub rest : List ℕ
   pub pos : ℕ
 
--- what of a multiline string is not decoded yet: of the line that is read; the lines behind it, and the place of the first of them; how many spaces each loses
+-- what of a multiline string is not decoded yet: of the line that is read; the lines after it, and the place of the first of them; how many spaces each loses
 pub record LinesLeft : Type 0 where
   pub line : Undecoded
   pub later : List (List ℕ)

@@ -35,7 +35,7 @@ pub record IsLongEscape (e : List ℕ) (c : ℕ) : Type 0 where
 abbrev pub IsEscape : List ℕ → ℕ → Type 0
 IsEscape e c = IsShortEscape e c ⊎ IsLongEscape e c
 
--- what `unescape` answers: the scalar of the escape at the front, and how many bytes it takes
+-- what `unescape` answers: the scalar of the escape at the start, and how many bytes it takes
 abbrev pub UnescapesTo : List ℕ → Option (ℕ × ℕ) → Type 0
 UnescapesTo s None = (e t : List ℕ) (c : ℕ) → IsEscape e c → s ≢ e ++ t
 UnescapesTo s (Some r) = (e : List ℕ) × (t : List ℕ) × IsEscape e r.0 × (s ≡ e ++ t) × (r.1 ≡ length e)
@@ -52,7 +52,7 @@ abbrev pub IsPiece : StringPiece → Type 0
 IsPiece p = ((b : ℕ) × (b ≢ backslash) × (p ≡ record { source = b ∷ []; meaning = b ∷ [] }))
     ⊎ ((c : ℕ) × IsEscape p.source c × (p.meaning ≡ encode_utf8 c))
 
--- s is the sources of the pieces, one behind the other, and t is their meanings
+-- s is the sources of the pieces, one after the other, and t is their meanings
 abbrev pub IsCutInto : List ℕ → List StringPiece → List ℕ → Type 0
 IsCutInto s [] t = (s ≡ []) × (t ≡ [])
 IsCutInto s (p ∷ ps) t = IsPiece p × (x : List ℕ) × (y : List ℕ) × (s ≡ p.source ++ x) × (t ≡ p.meaning ++ y) × IsCutInto x ps y
@@ -65,7 +65,7 @@ Decodes s t = (ps : List StringPiece) × IsCutInto s ps t
 abbrev pub Undecodable : List ℕ → Type 0
 Undecodable s = (t : List ℕ) → Decodes s t → ⊥
 
--- the first i bytes decode, and behind them stands a `\` that begins no escape
+-- the first i bytes decode, and after them stands a `\` that begins no escape
 abbrev pub IsBadEscapeAt : List ℕ → ℕ → Type 0
 IsBadEscapeAt s i =
     (front : List ℕ) × (rest : List ℕ) × (t : List ℕ)

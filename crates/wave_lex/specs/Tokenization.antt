@@ -1,4 +1,4 @@
--- Tokens at the front of a text, how a text is cut into them, and what a lexer answers.
+-- Tokens at the start of a text, how a text is tokenized, and what a lexer answers.
 use Rattle.std.specs.Prelude.{◌≡◌, ℕ, ◌≤◌, ◌+◌, ◌≢◌, ◌↔◌, List, [], ◌∷◌, ◌++◌, Option, Some, None, Result, Ok, Err, take, drop, length, codes}
 use Rattle.std.specs.Str.{IsCharBoundary}
 use Rattle.std.specs.declared.ops.Range.{Range}
@@ -26,15 +26,15 @@ pub record IsLongestToken (r : List ℕ) (k : ℕ) (c : Token) : Type 0 where
   pub is : IsToken r k c
   pub longest : (j : ℕ) (d : Token) → IsToken r j d → j ≤ k
 
--- no token stands at the front of r
+-- no token stands at the start of r
 abbrev pub NoToken : List ℕ → Type 0
 NoToken r = (k : ℕ) (c : Token) → IsToken r k c → ⊥
 
--- the gap at the front of s has g bytes, as many as can be
+-- the whitespace at the start of s has g bytes, as many as can be
 abbrev pub IsGap : List ℕ → ℕ → Type 0
 IsGap s g = Greatest (IsFront gap s) (Some g)
 
--- the invalid token at the front of r has k bytes
+-- the invalid token at the start of r has k bytes
 abbrev pub IsInvalid : List ℕ → ℕ → Type 0
 IsInvalid r k = NoToken r × Greatest (IsFront invalid r) (Some k)
 
@@ -42,16 +42,16 @@ IsInvalid r k = NoToken r × Greatest (IsFront invalid r) (Some k)
 abbrev pub Lexeme : Type 0
 Lexeme = Token × List ℕ
 
--- s is gap, token, gap, token, and so on through the last of ts, then r
+-- s is whitespace, token, whitespace, token, and so on through the last of ts, then r
 abbrev pub Front : List ℕ → List Lexeme → List ℕ → Type 0
 Front s [] r = s ≡ r
 Front s (t ∷ ts) r = (g : ℕ) × (k : ℕ) × IsGap s g × IsLongestToken (drop g s) k t.0 × (t.1 ≡ take k (drop g s)) × Front (drop (g + k) s) ts r
 
--- s is so through the last of ts, and a gap behind it
+-- s is so through the last of ts, and whitespace after it
 abbrev pub Cuts : List ℕ → List Lexeme → Type 0
 Cuts s ts = (r : List ℕ) × Front s ts r × IsGap r (length r)
 
--- a text has one cut
+-- a text is tokenized in one way
 abbrev pub OneCut : Type 0
 OneCut = (s : List ℕ) (ts us : List Lexeme) → Cuts s ts → Cuts s us → ts ≡ us
 
@@ -80,13 +80,13 @@ pub record Lexed : Type 0 where
 abbrev pub remainder_of : Lexed → List ℕ
 remainder_of l = drop l.end l.source
 
--- both ends of the span may cut the source
+-- both ends of the span may split the source
 pub record Stands (source : List ℕ) (start end : ℕ) : Type 0 where
   pub ordered : start ≤ end
   pub first : IsCharBoundary source start
   pub last : IsCharBoundary source end
 
--- behind a gap of g bytes stands an item of k bytes, and the span is its
+-- after whitespace of g bytes stands an item of k bytes, and the span is its
 pub record Passes (old new : Lexed) (g k : ℕ) : Type 0 where
   pub source : new.source ≡ old.source
   pub skipped : IsGap (remainder_of old) g
@@ -97,7 +97,7 @@ pub record Passes (old new : Lexed) (g k : ℕ) : Type 0 where
 abbrev pub span : ℕ → ℕ → Range ℕ
 span from to = record { start = from; end = to }
 
--- what `Lexer::next` answers: the next token; None where only a gap is left; else the invalid span
+-- what `Lexer::next` answers: the next token; None where only whitespace is left; else the invalid span
 abbrev pub NextIs : Lexed → Lexed → Option (Result Token (Range ℕ)) → Type 0
 NextIs old new None = Passes old new (length (remainder_of old)) 0
 NextIs old new (Some (Ok c)) = (g : ℕ) × (k : ℕ) × Passes old new g k × IsLongestToken (drop g (remainder_of old)) k c

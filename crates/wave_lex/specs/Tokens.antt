@@ -1,4 +1,4 @@
--- The classes of tokens, the gap, the invalid tokens and the function name.
+-- The classes of tokens, the whitespace, the invalid tokens and the function name.
 use Rattle.std.specs.Prelude.{ℕ, zero, suc, List, [], ◌∷◌, codes}
 use Rattle.wave_lex.specs.declared.lex.Token.{Token}
 use Rattle.wave_lex.specs.declared.lex.Token.TheVariants.{BraceOpen, BraceClose, ParenOpen, ParenClose, BracketOpen, BracketClose}
@@ -119,7 +119,7 @@ first_word = (lower then many (lower or digit)) or (upper then many (upper or di
 abbrev pub next_word : Regex
 next_word = some (lower or digit) or some (upper or digit)
 
--- a first word, then any number of further words, each behind a hyphen
+-- a first word, then any number of further words, each after a hyphen
 abbrev pub label : Regex
 label = first_word then many (one_of (codes "-") then next_word)
 
@@ -153,7 +153,7 @@ quotes = word (codes "\"\"\"")
 abbrev pub multiline_string : Regex
 multiline_string = quotes then many (up_to 2 (one double_quote) then other (double_quote ∷ [])) then quotes
 
--- ---- gaps and invalid tokens
+-- ---- whitespace and invalid tokens
 
 -- a space, TAB, LF or CR
 abbrev pub blank : Regex

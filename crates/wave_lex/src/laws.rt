@@ -5,28 +5,28 @@ ghost use Rattle.wave_lex.specs.Tokenization.{NoLongerLabel, OneCut, ThroughFirs
 ghost use Rattle.wave_lex.specs.Multiline.{FaultsRefuse, OneMeaning};
 ghost use Rattle.wave_lex.specs.Parts.{LinesJoin, OneLineJoins, PartsJoin};
 
-/// No text is cut into tokens in two ways.
+/// No text is tokenized in two ways.
 pub fn one_cut()
     ensures { OneCut }
 {}
 
-/// The tokens that a lexer gives are those into which the source cuts; where it refuses one, the source
-/// cuts into none.
+/// The tokens that a lexer gives are those into which the source is tokenized; where it refuses one,
+/// the source isn't tokenized.
 pub fn tokens_cut()
     ensures { TokensCut }
 {}
 
-/// The parts of a string join to what it decodes to; a refusal tells its first bad escape.
+/// The parts of a string join to what it decodes to; a refusal reports its first bad escape.
 pub fn parts_join()
     ensures { PartsJoin }
 {}
 
-/// The parts of a multiline string join to what it decodes to; a refusal tells what is wrong with it.
+/// The parts of a multiline string join to what it decodes to; a refusal reports what is wrong with it.
 pub fn lines_join()
     ensures { LinesJoin }
 {}
 
-/// The parts of one line, by an iterator of either kind, join to what it decodes to; a refusal tells
+/// The parts of one line, by an iterator of either kind, join to what it decodes to; a refusal reports
 /// its first bad escape.
 pub fn one_line_joins()
     ensures { OneLineJoins }

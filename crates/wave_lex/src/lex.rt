@@ -1,4 +1,4 @@
-//! Tokens of the text encoding, and the lexer that cuts a source into them.
+//! Tokens of the text encoding, and the lexer that tokenizes a source.
 ghost use Rattle.std.specs.Prelude.{◌≡◌, ℕ, ◌+◌, Some, slice_range, length};
 ghost use Rattle.std.specs.Iterator.{at_most};
 ghost use Rattle.wave_lex.specs.Errors.{class_name, name_class_name};
@@ -168,7 +168,7 @@ fn token_at(text: &str) -> Option<(Token, usize)>
     Some((class, length))
 }
 
-/// Cuts a source into its tokens, one by one. Places are counted in bytes.
+/// Tokenizes a source, one token after the other. Places are counted in bytes.
 #[derive(Drop)]
 pub struct Lexer<'source> {
     source: &'source str,
@@ -254,7 +254,7 @@ impl<'source> Iterator for Lexer<'source> {
 
     ghost next_gives = { λ old r new. NextIs old new r };
 
-    /// Skips a gap and takes the longest token; the span of an invalid token where none stands,
+    /// Skips whitespace and takes the longest token; the span of an invalid token where none stands,
     /// and None at the end, for good.
     fn next(&mut self) -> Option<Result<Token, Span>> {
         let rest = &self.source[self.end..];

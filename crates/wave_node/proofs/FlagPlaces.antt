@@ -64,7 +64,7 @@ shown_entry e = (e.0.now, e.1)
 abbrev pub HoldsFirst : List ℕ → List NodeTree → ℕ → BTreeMap (Bor (List ℕ)) (Range ℕ) → Type 0
 HoldsFirst source ns i flags = map shown_entry flags.entries ≡ map (named source) (take i ns)
 
--- the name is behind each of these
+-- the name is after each of these
 abbrev AllBefore : List ℕ → List (List ℕ × Range ℕ) → Type 0
 AllBefore name es = AllOf (λ e. is_before e.0 name ≡ true) es
 
@@ -80,7 +80,7 @@ greater_at o Less e h = e
 greater_at o Equal e h = cc
 greater_at o Greater e h = cc
 
--- a name behind the others is put last
+-- a name after the others is put last
 put_last : (es : List (Bor (List ℕ) × Range ℕ)) (k : Bor (List ℕ)) (v : Range ℕ) → AllBefore k.now (map shown_entry es) → map shown_entry (insert_entry (λ a b. slice_cmp nat_cmp a.now b.now) es k v) ≡ map shown_entry es ++ (k.now, v) ∷ []
 put_last [] k v h = refl
 put_last (e ∷ es) k v h =

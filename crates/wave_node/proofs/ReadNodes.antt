@@ -24,7 +24,7 @@ module _ {V S : Type 0} (tree : V → Value) (of : V → TypeTree → Type 0) (F
   pub due_value : (source : List ℕ) (n : NodeTree) (due : Option (Bor S)) (ty : Bor S) (r : Result V Diagnostic) (v : V) → due ≡ Some ty → IsReadWhereDue tree of Full (shown type_tree due) source n r → r ≡ Ok v → IsReadAs tree of Full (type_tree ty.now) source n (Ok v)
   due_value source n due ty r v e h is = subst (IsReadAs tree of Full (type_tree ty.now) source n) is (due_read source n due ty r e h)
 
-  -- a refusal, which is told
+  -- a refusal, which is passed on
   pub due_told : (source : List ℕ) (n : NodeTree) (due : Option (Bor S)) (ty : Bor S) (r : Result V Diagnostic) (e f : Diagnostic) → due ≡ Some ty → IsReadWhereDue tree of Full (shown type_tree due) source n r → r ≡ Err e → f ≡ e → IsReadAs tree of Full (type_tree ty.now) source n (Err f)
   due_told source n due ty r e f same h is told =
       subst (λ (d : Diagnostic). IsReadAs tree of Full (type_tree ty.now) source n (Err d)) (sym told) (subst (IsReadAs tree of Full (type_tree ty.now) source n) is (due_read source n due ty r same h))

@@ -10,7 +10,7 @@ use Rattle.wave_grammar.specs.TypeErrors.{RefusesFor}
 use Rattle.wave_syntax.specs.NodeTree.{NodeTree, place_of}
 use Rattle.wave_syntax.specs.NodeAccessors.{RefusedAs}
 
--- want of memory, or a refusal at the node because values of the kind can't be read
+-- out of memory, or a refusal at the node because values of the kind can't be read
 abbrev pub IsUnsupported : WasmTypeKind → NodeTree → Diagnostic → Type 0
 IsUnsupported kind n e = (e.kind ≡ OutOfMemory) ⊎ RefusesFor (unsupported_type (kind_word kind)) (place_of n) (refusal_of e) e.span
 

@@ -243,7 +243,7 @@ impl Node {
         &src[self.span()]
     }
 
-    /// The source between the quotes of the node, of which there are so many at each end.
+    /// The source between the quotes of the node, `quotes` of them at each end.
     fn inside<'src>(&self, src: &'src str, quotes: usize) -> &'src str
         requires parsed { IsParsedFrom src.now self.now }
         requires quotes { quotes ≡ length (quotes_of (type_of self.now)) }

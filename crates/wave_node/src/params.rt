@@ -153,7 +153,7 @@ pub fn omitted_params<V: WasmValue>(
     Ok(vals)
 }
 
-/// The refusal of a call without parameters to a function of so many.
+/// The refusal of a call without parameters to a function that has some.
 fn none_given(alloc: Global, count: usize, at: Span) -> ParserError
     ensures refusal { (result.kind ≡ OutOfMemory) ⊎ Says result InvalidParams at (Some (no_params count)) }
     ensures span { result.span ≡ at }

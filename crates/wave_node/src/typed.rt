@@ -23,8 +23,8 @@ use wave_wasm::wasm::{WasmType, WasmTypeKind, WasmValue};
 
 impl Node {
     /// The value that the type gives the node, which was parsed from `src`. Where the type gives it
-    /// none the refusal is a fault of the node or of a part of it, at its span. A maker of `V` that
-    /// refuses is the cause of a refusal at the node that was read; `Value` refuses so for want of
+    /// none the refusal is a fault of the node or of a part of it, at its span. Where a constructor of
+    /// `V` refuses, that is the cause, at the node that was read; `Value` refuses so for lack of
     /// memory alone, where the names of the type are distinct. A key is read as a key of a map of
     /// such keys is; one that is a keyword is `InvalidType` at each type but bool that has values.
     pub fn to_wasm_value<V: WasmValue>(

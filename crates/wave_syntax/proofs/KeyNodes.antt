@@ -42,7 +42,7 @@ use Rattle.wave_syntax.specs.declared.form.NodeType.TheVariants as kind
 tree_text : (v w : List ℕ) (p q : MaybeTree) → tree.label v p ≡ tree.label w q → v ≡ w
 tree_text v w p q e = cc
 
--- behind which word a label stands
+-- after which word a label stands
 word_taken : (w : Word) (text v : List ℕ) (payload : MaybeTree) (Inner : Spelling Tree) (behind rest : List Token) → BehindWord w text Inner behind (tree.label v payload) rest → (w ≡ case_word) × (v ≡ text)
 word_taken leaf_word text v payload Inner behind rest h = absurd (cc (h.1))
 word_taken none_word text v payload Inner behind rest h = absurd (cc (h.1))
@@ -151,7 +151,7 @@ keys_as_values source n k = (λ v word. keyword_no_value source n v.0 word v.1, 
 pub other_value : (source : List ℕ) (n : NodeTree) → type_of n ≢ kind.Label → IsParsedFrom source n → IsValueOf source n
 other_value source n apart h = value_node source n (λ word. apart word.0) h
 
--- ---- what a key's tree tells of the key
+-- ---- what a key's tree says of the key
 
 token_is : (a b : Token) → tree.one a ≡ tree.one b → a ≡ b
 token_is a b e = cc

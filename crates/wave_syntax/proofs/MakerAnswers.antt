@@ -15,13 +15,13 @@ use Rattle.wave_syntax.specs.NodeTree.{NodeTree}
 use Rattle.wave_grammar.specs.TypeErrors.{Fault}
 use Rattle.wave_syntax.specs.TypedReading.{IsTypedValue, IsBlamed, IsMade}
 
--- a maker's refusal, which at a full type is want of memory
+-- a constructor's refusal, which at a full type is out of memory
 refused : (Full : TypeTree → Type 0) (T : TypeTree) (t : Placed) (cause : WasmValueError) (e : Diagnostic) → refusal_of e ≡ refused_by (cause_of cause) → (Full T → IsMemory cause) → IsBlamed Full T t e
 refused Full T t (error.Memory a) e is full = inl (ap (λ (r : Refusal). r.kind) is)
 refused Full T t _ e is full = inr (inr (ap (λ (r : Refusal). r.kind) is, full))
 
 module _ {V : Type 0} (tree : V → Value) (of : V → TypeTree → Type 0) (Full : TypeTree → Type 0) where
-  -- the value that was made, or its maker's refusal
+  -- the value that was made, or its constructor's refusal
   pub made : (T : TypeTree) (t : Placed) (n : NodeTree) (m : Result V WasmValueError) (r : Result V Diagnostic) → IsMade n m r → IfOk m (IsTypedValue tree of T t) → IfErr m (λ cause. Full T → IsMemory cause) → MatchResult r (IsTypedValue tree of T t) (IsBlamed Full T t)
   made T t n (Ok v) (Ok w) is read full = subst (IsTypedValue tree of T t) (sym is) read
   made T t n (Ok v) (Err e) is read full = absurd is
@@ -42,7 +42,7 @@ module _ {V : Type 0} (tree : V → Value) (of : V → TypeTree → Type 0) (Ful
   leaf_full T one (Ok v) e h = tt
   leaf_full T one (Err cause) e h = λ full. h (subst Full e full)
 
-  -- the value of one token was made, or its maker refused
+  -- the value of one token was made, or its constructor refused
   pub leaf_made : (T : TypeTree) (t : Placed) (n : NodeTree) (one : Leaf) (m : Result V WasmValueError) (r : Result V Diagnostic) → T ≡ simple (leaf_type one) → SimpleTree (leaf_type one) (tree_of t) (value.leaf one) → IfOk m (MakesLeaf tree of one) → IfErr m (FullLeaf Full one) → IsMade n m r → MatchResult r (IsTypedValue tree of T t) (IsBlamed Full T t)
   leaf_made T t n one m r e read ok full is = made T t n m r is (leaf_read T t one m e read ok) (leaf_full T one m e full)
 

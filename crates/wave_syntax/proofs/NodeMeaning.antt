@@ -15,7 +15,7 @@ use Rattle.wave_grammar.proofs.Unambiguity.Trees.{one_tree}
 use Rattle.wave_grammar.proofs.RoundTrip.Leaves.{one_cut_into}
 use Rattle.wave_grammar.proofs.RoundTrip.Tokens.{end_cut}
 
--- tokens that fill a text are its cut
+-- tokens that fill a text are all its tokens
 pub filled : (s : List ℕ) (p : _) (tokens : List Token) → HoldsTokens s p tokens → CutsInto (slice s p) tokens
 filled s p tokens h = ([], h.2, end_gap)
   where

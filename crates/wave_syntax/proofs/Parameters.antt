@@ -48,7 +48,7 @@ option_of _ h = absurd h
 
 -- ---- lists
 
--- what stands at a place, and what is behind it
+-- what stands at a place, and what is after it
 pub has_drop : {A : Type 0} (xs : List A) (i : ℕ) (x : A) → HasAt xs i x → drop i xs ≡ x ∷ drop (suc i) xs
 has_drop [] i x h = absurd h
 has_drop (y ∷ ys) zero x h = λ j. h j ∷ ys
@@ -121,7 +121,7 @@ fault_none (T ∷ Ts) (t ∷ ts) close e (inl h) vs (v, others, reads, rest, is)
 fault_none (T ∷ Ts) (t ∷ ts) close e (inr (w, reads, h)) vs (v, others, k, rest, is) = fault_none Ts ts close e h others rest
 
 module _ {V : Type 0} (tree : V → Value) (of : V → TypeTree → Type 0) (Full : TypeTree → Type 0) where
-  -- what holds of what is left holds behind items that have values
+  -- what holds of what is left holds after items that have values
   behind : (P : List TypeTree → List Placed → Type 0) → ((T : TypeTree) (Ts : List TypeTree) (t : Placed) (ts : List Placed) (v : Value) → TreeReads T (tree_of t) v → P Ts ts → P (T ∷ Ts) (t ∷ ts)) →
       (Ts : List TypeTree) (ts : List Placed) (vs : List V) (i : ℕ) → i ≤ length Ts → i ≤ length ts → ReadAt tree of Full (take i Ts) (take i ts) vs → P (drop i Ts) (drop i ts) → P Ts ts
   behind P more Ts ts vs zero l m before left = left
@@ -130,13 +130,13 @@ module _ {V : Type 0} (tree : V → Value) (of : V → TypeTree → Type 0) (Ful
   behind P more (T ∷ Ts) (t ∷ ts) [] (suc i) l m before left = absurd before
   behind P more (T ∷ Ts) (t ∷ ts) (v ∷ vs) (suc i) l m before left = more T Ts t ts (tree v) before.0.reads (behind P more Ts ts vs i (omega (arith, l)) (omega (arith, m)) before.1 left)
 
-  -- a fault behind items that have values
+  -- a fault after items that have values
   fault_refused : (Ts : List TypeTree) (ts : List Placed) (vs : List V) (i : ℕ) (whole : NodeTree) (e : Diagnostic) → i ≤ length Ts → i ≤ length ts → ReadAt tree of Full (take i Ts) (take i ts) vs → ParamsFault (drop i Ts) (drop i ts) (close_of whole) e → RefusesItems Full Ts ts whole e
   fault_refused Ts ts vs i whole e l m before fault =
       let h = behind (λ Us us. ParamsFault Us us (close_of whole) e) (λ U Us u us v reads rest. inr (v, reads, rest)) Ts ts vs i l m before fault in
       inr (inl (h, fault_none Ts ts (close_of whole) e h))
 
-  -- a maker's refusal behind them
+  -- a constructor's refusal after them
   maker_refused : (Ts : List TypeTree) (ts : List Placed) (vs : List V) (i : ℕ) (whole : NodeTree) (e : Diagnostic) → i ≤ length Ts → i ≤ length ts → ReadAt tree of Full (take i Ts) (take i ts) vs → e.kind ≡ because.WasmValueError → MakerRefuses Full (drop i Ts) (drop i ts) whole e → RefusesItems Full Ts ts whole e
   maker_refused Ts ts vs i whole e l m before kind refuses = inr (inr (kind, behind (λ Us us. MakerRefuses Full Us us whole e) (λ U Us u us v reads rest. inr (v, reads, rest)) Ts ts vs i l m before refuses))
 
@@ -234,7 +234,7 @@ module _ {V : Type 0} (tree : V → Value) (of : V → TypeTree → Type 0) (Ful
   are_push (U ∷ Ts) [] (suc i) T v here is h = absurd h
   are_push (U ∷ Ts) (w ∷ vs) (suc i) T v here is h = (h.0, are_push Ts vs i T v here is h.1)
 
-  -- the invariant of the loop holds behind one more
+  -- the invariant of the loop holds after one more
   pub omitted_more : (Ts : List TypeTree) (vs ws : List V) (i : ℕ) (T : TypeTree) (v : V) (before after : List V) → HasAt Ts i T → IsOption T → Makes tree of (value.option no_value) T v → before ≡ vs ++ ws → after ≡ before ++ v ∷ [] → Omitted (take i Ts) (map tree ws) → AreOf of (take i Ts) ws →
       (others : List V) × (after ≡ vs ++ others) × Omitted (take (i + 1) Ts) (map tree others) × AreOf of (take (i + 1) Ts) others
   omitted_more Ts vs ws i T v before after here is makes e f omitted are =
@@ -244,7 +244,7 @@ module _ {V : Type 0} (tree : V → Value) (of : V → TypeTree → Type 0) (Ful
   refused_by_cause Ts at (error.Memory a) e is place options full = inl (ap (λ (r : Refusal). r.kind) is)
   refused_by_cause Ts at _ e is place options full = inr (ap (λ (r : Refusal). r.kind) is, place, options, full)
 
-  -- a maker that refuses `none`
+  -- a constructor that refuses `none`
   pub omission_refused : (Ts : List TypeTree) (at : Range ℕ) (i : ℕ) (T : TypeTree) (cause : WasmValueError) (e : Diagnostic) → HasAt Ts i T → AllOf IsOption Ts → FullOption of Full T None cause → refusal_of e ≡ refused_by (cause_of cause) → e.span ≡ at → RefusesOmitted Full Ts at e
   omission_refused Ts at i T cause e here options full is place =
       let (P, option) = option_of T (all_has IsOption Ts i T options here) in

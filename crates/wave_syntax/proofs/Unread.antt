@@ -55,7 +55,7 @@ unread_fault (type.enum names) t k r q e unread none refused = absurd (unread.en
 unread_fault (type.flags names) t k r q e unread none refused = absurd (unread.flags e)
 unread_fault (type.map K V) t k r q e unread none refused = absurd (unread.map e)
 
--- so a refusal for want of values is a fault
+-- so a refusal for lack of values is a fault
 pub unread_blame : (Full : TypeTree → Type 0) (T : TypeTree) (source : List ℕ) (n : NodeTree) (t : Placed) (k : WasmTypeKind) (e : Diagnostic) → placed_of source n ≡ Some t → k ≡ kind_of T → IsUnread k → ((which : Whole) → k ≢ whole_kind which) → IsCaused (unsupported_type (kind_word k)) n e → IsBlamed Full T t e
 unread_blame Full T source n t k e is same unread none caused =
     caused_blame Full T source n t (unsupported_type (kind_word k)) e is caused (unread_fault T t k (refusal_of e) e.span same unread none)

@@ -135,7 +135,7 @@ GivesChar source n (Err e) =
     (type_of n ≢ kind.Char) × RefusedAs InvalidType n e
     ⊎ (type_of n ≡ kind.Char) × ((c : ℕ) → CharMeans (node_text source n) c → ⊥) × RefusedAs InvalidEscape n e
 
--- the parts of a string in front of the first of them; or of a multiline string, which may refuse its opening; or `InvalidType` at another node
+-- the parts of a string before the first of them; or of a multiline string, which may refuse its opening; or `InvalidType` at another node
 abbrev pub GivesParts : List ℕ → NodeTree → Result StringPartsIter Diagnostic → Type 0
 GivesParts source n (Ok parts) =
     (inside : List ℕ) × IsInside source n inside

@@ -26,7 +26,7 @@ pub record IsFieldsOf (source : List ℕ) (n : NodeTree) (fields : List (List �
   pub given : fields ≡ map (field_of source) (node_pairs (children_of n))
   pub distinct : AreDistinct (names_of fields)
 
--- a refusal of a key behind these names: no label, or a label of one of them
+-- a refusal of a key after these names: no label, or a label of one of them
 abbrev pub RefusesKey : List ℕ → List (List ℕ) → NodeTree → Diagnostic → Type 0
 RefusesKey source names key e =
     (type_of key ≢ kind.Label) × Says e InvalidType (place_of key) (Some field_label_due)
@@ -44,7 +44,7 @@ pub record RefusesEntry (source : List ℕ) (n : NodeTree) (e : Diagnostic) : Ty
   pub distinct : AreDistinct (names_of (map (field_of source) before))
   pub refused : RefusesKey source (names_of (map (field_of source) before)) entry.0 e
 
--- want of memory; or `InvalidType` at another node than that of entries or of `{:}`; or a refusal of a key
+-- out of memory; or `InvalidType` at another node than that of entries or of `{:}`; or a refusal of a key
 abbrev pub RefusesFields : List ℕ → NodeTree → Diagnostic → Type 0
 RefusesFields source n e = (e.kind ≡ OutOfMemory) ⊎ (type_of n ≢ kind.TupleSet) × RefusedAs InvalidType n e ⊎ RefusesEntry source n e
 

@@ -48,7 +48,7 @@ module _ {V : Type 0} (tree : V → Value) (of : V → TypeTree → Type 0) wher
   abbrev pub GivesParams : List TypeTree → NodeTree → Placed → List V → Type 0
   GivesParams Ts n t vs = (items : List Placed) × (shape_of t ≡ tuple (placed_trees items)) × AreRead Ts items vs
 
--- the refusal of a maker that does not serve all values of its type, behind items that have theirs: it lies in the next item; or,
+-- the refusal of a constructor that does not serve all values of its type, after items that have theirs: it lies in the next item; or,
 -- for a type that is left, where all that are left are options, it stands at the node
 abbrev pub MakerRefuses : (TypeTree → Type 0) → List TypeTree → List Placed → NodeTree → Diagnostic → Type 0
 MakerRefuses Full Ts [] n e = AllOf IsOption Ts × (AllOf Full Ts → ⊥) × (e.span ≡ place_of n)
@@ -57,7 +57,7 @@ MakerRefuses Full (T ∷ Ts) (t ∷ ts) n e =
     (Full T → ⊥) × LiesIn e.span (span_of t).start (span_of t).end
     ⊎ ((v : Value) × TreeReads T (tree_of t) v × MakerRefuses Full Ts ts n e)
 
--- want of memory; or a fault of the items of the node, which have no values; or the refusal of a maker
+-- out of memory; or a fault of the items of the node, which have no values; or the refusal of a constructor
 abbrev pub RefusesItems : (TypeTree → Type 0) → List TypeTree → List Placed → NodeTree → Diagnostic → Type 0
 RefusesItems Full Ts items n e =
     (e.kind ≡ OutOfMemory) ⊎ ParamsFault Ts items (close_of n) e × NoParams Ts items ⊎ (e.kind ≡ WasmValueError) × MakerRefuses Full Ts items n e
@@ -68,7 +68,7 @@ RefusesParams Full Ts n t e =
     (type_of n ≢ kind.Tuple) × RefusedAs InvalidType n e
     ⊎ ((items : List Placed) × (shape_of t ≡ tuple (placed_trees items)) × RefusesItems Full Ts items n e)
 
--- want of memory; or a type is no option; or, where all are and makers do not serve all their values, the refusal of one, at the name
+-- out of memory; or a type is no option; or, where all are and constructors do not serve all their values, the refusal of one, at the name
 abbrev pub RefusesNone : (TypeTree → Type 0) → List TypeTree → Range ℕ → Diagnostic → Type 0
 RefusesNone Full Ts at e =
     (e.kind ≡ OutOfMemory)

@@ -30,13 +30,13 @@ IsOneToken kind.ResultOk = Unit {0}
 IsOneToken kind.ResultErr = Unit {0}
 IsOneToken _ = ⊥
 
--- behind these children of such a node a key stands next: in entries behind an even number of them, and the label of a case in front
+-- after these children of such a node a key stands next: in entries after an even number of them, and the label of a case first
 abbrev pub TakesKey : NodeType → List NodeTree → Type 0
 TakesKey kind.TupleSet children = (k : ℕ) × (length children ≡ k + k)
 TakesKey kind.VariantWithPayload children = children ≡ []
 TakesKey _ children = ⊥
 
--- behind these a value stands next: in entries behind an odd number of them, a payload behind the label of a case or in front
+-- after these a value stands next: in entries after an odd number of them, a payload after the label of a case or first
 abbrev pub TakesPart : NodeType → List NodeTree → Type 0
 TakesPart kind.Tuple children = Unit {0}
 TakesPart kind.List children = Unit {0}

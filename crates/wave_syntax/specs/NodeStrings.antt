@@ -21,7 +21,7 @@ abbrev pub StandsFor : List ℕ → NodeTree → List ℕ → Type 0
 StandsFor source n t =
     (type_of n ≡ kind.String) × StringMeans (node_text source n) t ⊎ (type_of n ≡ kind.MultilineString) × MultilineMeans (node_text source n) t
 
--- the refusal tells the first bad escape of a string, or what is wrong with a multiline string
+-- the refusal reports the first bad escape of a string, or what is wrong with a multiline string
 abbrev pub TellsStringFault : List ℕ → NodeTree → Diagnostic → Type 0
 TellsStringFault source n e =
     ((type_of n ≡ kind.String) × (inside : List ℕ) × (i : ℕ) × IsInQuotes (node_text source n) inside × IsBadEscapeAt inside i
@@ -34,14 +34,14 @@ abbrev pub IsRunAt : List ℕ → NodeTree → Type 0
 IsRunAt source n =
     (inside : List ℕ) × IsInside source n inside × AllOf (λ b. b ≢ backslash) inside × (type_of n ≡ kind.MultilineString → length (pieces inside) ≤ 3)
 
--- a refusal of the text of a node; or want of memory, where it had to be copied; or `InvalidType` at another node than a string
+-- a refusal of the text of a node; or out of memory, where it had to be copied; or `InvalidType` at another node than a string
 abbrev pub RefusesString : List ℕ → NodeTree → Diagnostic → Type 0
 RefusesString source n e =
     (type_of n ≢ kind.String) × (type_of n ≢ kind.MultilineString) × RefusedAs InvalidType n e
     ⊎ TellsStringFault source n e
     ⊎ WantsMemory (place_of n) e × (IsRunAt source n → ⊥)
 
--- the text of a string, borrowed where it is one run; or a refusal of its text; or want of memory, where it had to be copied; or `InvalidType` at another node
+-- the text of a string, borrowed where it is one run; or a refusal of its text; or out of memory, where it had to be copied; or `InvalidType` at another node
 abbrev pub GivesString : {A : Type 0} → List ℕ → NodeTree → Result (CowStr A) Diagnostic → Type 0
 GivesString source n (Ok c) = StandsFor source n (cow_str_bytes c) × BorrowedWhere (IsRunAt source n) c
 GivesString source n (Err e) = RefusesString source n e

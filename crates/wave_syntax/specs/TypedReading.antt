@@ -21,12 +21,12 @@ use Rattle.wave_grammar.specs.LeafTokens.{Spells}
 use Rattle.wave_grammar.specs.Elaborates.{TreeReads}
 use Rattle.wave_grammar.specs.TypeErrors.{Fault, MapKeyFault, SpellsNoLeaf}
 
--- the type gives the tree the value, which is of the type; V is a stranger's value, `tree` says what it means, `of` when it is of a type
+-- the type gives the tree the value, which is of the type; V is the Rust type of foreign values, `tree` says what one means, `of` when it is of a type
 pub record IsTypedValue {V : Type 0} (tree : V → Value) (of : V → TypeTree → Type 0) (T : TypeTree) (t : Placed) (v : V) : Type 0 where
   pub reads : TreeReads T (tree_of t) (tree v)
   pub is_of : of v T
 
--- want of memory; or a fault of the tree; or, where makers do not serve all values of the type, the refusal of one
+-- out of memory; or a fault of the tree; or, where constructors do not serve all values of the type, the refusal of one
 abbrev pub IsBlamed : (TypeTree → Type 0) → TypeTree → Placed → Diagnostic → Type 0
 IsBlamed Full T t e =
     (e.kind ≡ OutOfMemory) ⊎ Fault T t (refusal_of e) e.span ⊎ (e.kind ≡ WasmValueError) × (Full T → ⊥)
@@ -59,7 +59,7 @@ pub record IsKeyRead {V : Type 0} (tree : V → Value) (of : V → TypeTree → 
   pub means : tree v ≡ value.leaf leaf
   pub is_of : of v (type.simple K)
 
--- want of memory; or a fault of the key, which stands there; or, where makers do not serve all values of the type, the refusal of one
+-- out of memory; or a fault of the key, which stands there; or, where constructors do not serve all values of the type, the refusal of one
 abbrev pub IsKeyBlamed : (TypeTree → Type 0) → Simple → Range ℕ → Token → Diagnostic → Type 0
 IsKeyBlamed Full K p key e =
     (e.kind ≡ OutOfMemory) ⊎ MapKeyFault K p key (refusal_of e) e.span ⊎ (e.kind ≡ WasmValueError) × (Full (type.simple K) → ⊥)
@@ -69,14 +69,14 @@ abbrev pub IsKeyError : (TypeTree → Type 0) → Simple → Range ℕ → Token
 IsKeyError Full K p key e =
     (e.kind ≡ OutOfMemory) ⊎ MapKeyFault K p key (refusal_of e) e.span × SpellsNoLeaf K key ⊎ (e.kind ≡ WasmValueError) × (Full (type.simple K) → ⊥)
 
--- the value that was made; or the refusal of its maker, at the node
+-- the value that was made; or the refusal of its constructor, at the node
 abbrev pub IsMade : {V : Type 0} → NodeTree → Result V causes.WasmValueError → Result V Diagnostic → Type 0
 IsMade n (Ok v) (Ok w) = w ≡ v
 IsMade n (Err cause) (Err e) = (refusal_of e ≡ refused_by (cause_of cause)) × (e.span ≡ place_of n)
 IsMade n _ _ = ⊥
 
 module _ {V : Type 0} (tree : V → Value) (of : V → TypeTree → Type 0) (Full : TypeTree → Type 0) where
-  -- what a maker answered for the leaf: the value, or a refusal at the node
+  -- what a constructor answered for the leaf: the value, or a refusal at the node
   abbrev pub IsLeafMade : Leaf → NodeTree → Result V Diagnostic → Type 0
   IsLeafMade one n r = (made : Result V causes.WasmValueError) × IfOk made (MakesLeaf tree of one) × IfErr made (FullLeaf Full one) × IsMade n made r
 

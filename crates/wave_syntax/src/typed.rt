@@ -12,7 +12,7 @@ use std::alloc::{AllocError, Global};
 use wave_wasm::wasm::{WasmType, WasmTypeKind, WasmValue};
 use wave_wasm::writer::{merge_map_entries, to_string};
 
-/// The entries with each key once, merged by the texts of their keys. The only error is want of
+/// The entries with each key once, merged by the texts of their keys. The only error is out of
 /// memory, which also stands for a key that has no text.
 pub fn merged<V: WasmValue>(alloc: Global, entries: Vec<(V, V)>) -> Result<Vec<(V, V)>, AllocError>
     ensures { IfOk result (λ m. m.items ≡ merge (λ a b. bytes_eq (text (V.tree a)) (text (V.tree b))) entries.items) }

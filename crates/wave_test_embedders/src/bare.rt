@@ -121,7 +121,7 @@ const ROWS: [(&str, &str, &str); 9] = [
         "[[]]",
         "error converting Wasm value: expected 2 list elements; got 1 at 0..4",
     ),
-    // Refused by makers.
+    // Refused by constructors.
     (
         "u8",
         "1",

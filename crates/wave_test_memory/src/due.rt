@@ -45,7 +45,7 @@ impl Write for Due<'_> {
 }
 
 /// Whether this is displayed as the text. A display that fails where nothing else was written
-/// wanted memory.
+/// was out of memory.
 pub fn shown<D: Display>(value: &D, text: &str) -> Found {
     let mut due = Due::new(text);
     match write!(due, "{value}") {

@@ -15,11 +15,11 @@ pub enum Found {
     DueAgain,
     /// Out of memory, called twice.
     WantAgain,
-    /// Nothing: memory was wanting for what it is called on.
+    /// Nothing: there was no memory for what it is called on.
     NotCalled,
     /// Something else.
     Other,
-    /// Nothing: the words name no call.
+    /// Nothing: the arguments name no call.
     Unknown,
 }
 

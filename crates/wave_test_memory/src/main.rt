@@ -1,8 +1,8 @@
-//! Makes the call of the library that its first word names, on what the other words say, and tells
-//! whether it answered what they say is due, or wanted memory, or answered otherwise. Where memory
-//! was wanting it makes the call once more. A test calls it while memory is refused to it.
+//! Makes the call of the library that its first argument names, on what the others say, and prints
+//! whether it answered what they say is due, or was out of memory, or answered otherwise. Where it
+//! was out of memory it makes the call once more. A test calls it while memory is refused to it.
 //!
-//! `?` tells the two wants apart: an `AllocError` is the want of the call that is judged, while a
+//! `?` keeps two refusals of memory apart: an `AllocError` is one to the call that is judged, while a
 //! `TypeErrorKind` and a `ParserError` come of making ready what it is called on. A refusal that a
 //! judged call answers is compared with the words that are due, and never passed on.
 #![tactic(auto)]
@@ -43,7 +43,7 @@ fn main(rt: HostRuntime) -> ExitCode {
     }
 }
 
-/// What the call that the words name is found to answer.
+/// What the call that the arguments name is found to answer.
 fn attempt(rt: HostRuntime) -> Found {
     match arguments(rt) {
         Ok(words) => called(rt.alloc(), words.as_slice()),
@@ -51,7 +51,7 @@ fn attempt(rt: HostRuntime) -> Found {
     }
 }
 
-/// The program's name and the words after it.
+/// The program's name and the arguments after it.
 fn arguments(rt: HostRuntime) -> Result<Vec<String>, Found> {
     match env::args(&rt) {
         Ok(arguments) => match arguments.collect(rt.alloc()) {
@@ -63,7 +63,7 @@ fn arguments(rt: HostRuntime) -> Result<Vec<String>, Found> {
     }
 }
 
-/// What the call of these words is found to answer.
+/// What the call of these arguments is found to answer.
 fn called(alloc: Global, words: &[String]) -> Found {
     let [_, name, words @ ..] = words else {
         return Found::Unknown;
@@ -123,7 +123,7 @@ fn on_value_or_words(name: &str) -> On {
     }
 }
 
-/// What the call of this name is found to answer on what the words stand for.
+/// What the call of this name is found to answer on what the arguments stand for.
 fn call(alloc: Global, name: &str, words: &[String]) -> Result<Found, Found> {
     match made_on(name) {
         On::TextAtType => {
@@ -164,7 +164,7 @@ fn on_words(alloc: Global, name: &str, words: &[String]) -> Result<Found, Found>
     }
 }
 
-/// The answer, where each prefix of the text is told too.
+/// The answer, where each prefix of the text is answered rightly too.
 fn with_cuts(alloc: Global, text: &str, found: Found) -> Found {
     match is_told_at_each_cut(alloc, &Type::U8, text) {
         true => found,

@@ -8,8 +8,8 @@ use wasm_wave::value::{IntoValue, Type, Value};
 use wasm_wave::wasm::{WasmTypeKind, WasmValueError};
 use wave_test_reading::types::type_of;
 
-/// The maker of the value's kind, or that of a list of the value alone, at the type that is the third
-/// word; then its text or the refusal.
+/// The constructor of the value's kind, or that of a list of the value alone, at the type that is the third
+/// argument; then its text or the refusal.
 pub fn made(
     alloc: Global,
     is_in_list: bool,
@@ -72,7 +72,7 @@ fn copy(alloc: Global, val: Option<&Value>) -> Result<Option<Value>, AllocError>
     }
 }
 
-/// What the maker of the value's kind makes at the type of copies of what the value's view answers.
+/// What the constructor of the value's kind makes at the type of copies of what the value's view answers.
 fn of_parts(alloc: Global, ty: &Type, val: &Value) -> Result<Value, WasmValueError> {
     match val.kind() {
         WasmTypeKind::List | WasmTypeKind::FixedLengthList => {

@@ -7,7 +7,7 @@ use wasm_wave::ast::{CowStr, Node, NodeType};
 use wasm_wave::untyped::UntypedValue;
 
 /// What a call on the untyped value is found to answer: one that takes no memory may refuse only
-/// where the words are wrong.
+/// where the arguments are wrong.
 pub fn on_untyped(alloc: Global, name: &str, value: &UntypedValue<'_>, due: &str) -> Found {
     match name {
         "as_str" => text(alloc, value, due),

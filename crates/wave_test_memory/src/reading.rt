@@ -12,7 +12,7 @@ use wave_test_reading::cuts::is_told_at_each_cut;
 use wave_test_reading::reading::is_read_alike;
 use wave_test_reading::types::type_of;
 
-/// What a call that reads the second word at the type is found to answer; the third word is due, and
+/// What a call that reads the second argument at the type is found to answer; the third is due, and
 /// of one parser what is due of one value after the other, with what `finish` answers after each.
 /// A text is also read by way of its untyped value, and each prefix of it.
 pub fn at_type(alloc: Global, name: &str, ty: &Type, words: &[String]) -> Result<Found, Found> {
@@ -42,7 +42,7 @@ fn of_copy(alloc: Global, ty: &Type, text: &str, due: &str) -> Result<Found, Fou
     Ok(of_read(alloc, &answer, due))
 }
 
-/// What the parser reads next, at the type or without one. Where memory is wanting to compare a value
+/// What the parser reads next, at the type or without one. Where there is no memory to compare a value
 /// that was read, no call is judged.
 fn next_once(alloc: Global, ty: Option<&Type>, parser: &mut Parser<'_>, due: &str) -> Found {
     let Some(ty) = ty else {
@@ -57,7 +57,7 @@ fn next_once(alloc: Global, ty: Option<&Type>, parser: &mut Parser<'_>, due: &st
     }
 }
 
-/// What the parser reads next, asked again where it wants memory.
+/// What the parser reads next, asked again where it is out of memory.
 fn next(alloc: Global, ty: Option<&Type>, parser: &mut Parser<'_>, due: &str) -> Found {
     match next_once(alloc, ty, parser, due) {
         Found::Want => match next_once(alloc, ty, parser, due) {
@@ -78,8 +78,8 @@ fn finished(parser: &mut Parser<'_>, due: &str) -> Found {
     }
 }
 
-/// Whether one parser reads, of the word before this place, what the words from there on say of one
-/// value after the other. At a type every other word says what `finish` answers, else the last.
+/// Whether one parser reads, of the argument before this place, what those from there on say of one
+/// value after the other. At a type every other one says what `finish` answers, else the last.
 pub fn all_read(alloc: Global, ty: Option<&Type>, words: &[String], first: usize) -> Found {
     let mut parser = Parser::new(word(words, first.saturating_sub(1)));
     let mut all = Found::Due;
@@ -114,7 +114,7 @@ pub fn call(alloc: Global, text: &str, due: &str) -> Found {
     of_display(&UntypedFuncCall::parse(alloc, text), due)
 }
 
-/// The types that are the words from this place on.
+/// The types that are the arguments from this place on.
 fn types_from(alloc: Global, words: &[String], first: usize) -> Result<Vec<Type>, TypeErrorKind> {
     let mut types = Vec::new(alloc);
     for at in first..words.len() {

@@ -28,7 +28,7 @@ fn of_text<D: Display>(answer: &Result<D, TypeError>, due: &str) -> Found {
     }
 }
 
-/// What a call on the type that is the first word is found to answer; the second is due.
+/// What a call on the type that is the first argument is found to answer; the second is due.
 pub fn on_type(alloc: Global, name: &str, ty: &Type, words: &[String]) -> Result<Found, Found> {
     let due = word(words, 1);
     match name {
@@ -68,7 +68,7 @@ fn equality(alloc: Global, ty: &Type, words: &[String]) -> Result<Found, Found> 
     Ok(exactly(&(*ty == other), word(words, 2)))
 }
 
-/// What is told of the type without memory: its kind, whether its names are labels, and whether its
+/// What is answered of the type without memory: its kind, whether its names are labels, and whether its
 /// kind has a simple type.
 fn views(ty: &Type, due: &str) -> Found {
     let mut due = Due::new(due);
@@ -85,7 +85,7 @@ fn named(alloc: Global, words: &[String], at: usize) -> Result<(String, Type), T
     Ok((name, type_of(alloc, word(words, at.saturating_add(1)))?))
 }
 
-/// The names and types of the words from the first place to before the last.
+/// The names and types of the arguments from the first place to before the last.
 fn all_named(
     alloc: Global,
     words: &[String],
@@ -99,7 +99,7 @@ fn all_named(
     Ok(parts)
 }
 
-/// The type of a function, or its refusal, of the names and types that are the words from the third on;
+/// The type of a function, or its refusal, of the names and types that are the arguments from the third on;
 /// the second has as many letters as there are parameters.
 fn function_made(
     alloc: Global,
@@ -111,7 +111,7 @@ fn function_made(
     Ok(FuncType::new(alloc, params, results))
 }
 
-/// What a call on the type of a function is found to answer; the first word is due.
+/// What a call on the type of a function is found to answer; the first argument is due.
 pub fn function(alloc: Global, name: &str, words: &[String]) -> Result<Found, Found> {
     let due = word(words, 0);
     match function_made(alloc, words)? {
@@ -159,7 +159,7 @@ fn function_views(alloc: Global, func: &FuncType, due: &str) -> Result<Found, Fo
     Ok(due.found())
 }
 
-/// Entries of the words: each is its text, and has its place and its length.
+/// Entries of the arguments: each is its text, and has its place and its length.
 fn entries(alloc: Global, words: &[String]) -> Result<Vec<(String, usize, usize)>, TypeErrorKind> {
     let mut entries = Vec::new(alloc);
     for at in 1..words.len() {

@@ -9,7 +9,7 @@ use std::fmt::Write;
 use wasm_wave::value::Value;
 use wasm_wave::wasm::WasmTypeKind;
 
-/// What a call on the value of the first two words is found to answer; mostly the third is due.
+/// What a call on the value of the first two arguments is found to answer; mostly the third is due.
 pub fn on_value(alloc: Global, name: &str, val: &Value, words: &[String]) -> Result<Found, Found> {
     let due = word(words, 2);
     match name {

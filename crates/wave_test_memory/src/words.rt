@@ -1,4 +1,4 @@
-//! The words of the program, and what they stand for.
+//! The arguments of the program, and what they stand for.
 use crate::found::Found;
 use std::alloc::Global;
 use wasm_wave::from_str;
@@ -6,7 +6,7 @@ use wasm_wave::parser::ParserError;
 use wasm_wave::value::{Type, Value};
 use wave_test_reading::types::type_of;
 
-/// The word at this place; nothing where there is none.
+/// The argument at this place; nothing where there is none.
 pub fn word(words: &[String], at: usize) -> &str {
     match words.get(at) {
         Some(word) => word.as_str(),
@@ -19,7 +19,7 @@ pub fn read(alloc: Global, ty: &Type, text: &str) -> Result<Value, ParserError> 
     from_str::<Value>(alloc, ty, text)
 }
 
-/// The value of the word after this place, at the type that is the word there.
+/// The value of the argument after this place, at the type that is the argument there.
 pub fn value_at(alloc: Global, words: &[String], at: usize) -> Result<Value, Found> {
     let ty = type_of(alloc, word(words, at))?;
     Ok(read(alloc, &ty, word(words, at.saturating_add(1)))?)

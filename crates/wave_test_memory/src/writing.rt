@@ -38,7 +38,7 @@ pub fn behind(alloc: Global, val: &Value, due: &str) -> Found {
     }
 }
 
-/// A writer that passes so many texts and then fails, once or for good.
+/// A writer that passes a number of texts and then fails, once or for good.
 #[derive(Drop)]
 struct ShortWriter {
     taken: String,
@@ -76,7 +76,7 @@ fn fits(answer: &Result<(), WriterError>, text: &str, out: &ShortWriter) -> bool
     }
 }
 
-/// Whether the value was written to a writer that passes so many texts; none where its answer is not
+/// Whether the value was written to a writer that passes this number of texts; none where its answer is not
 /// the right one.
 fn passes(alloc: Global, val: &Value, text: &str, left: usize, once: bool) -> Option<bool> {
     let mut writer = Writer::new(ShortWriter {

@@ -13,7 +13,7 @@ pub fn is_told_at_each_cut(alloc: Global, ty: &Type, text: &str) -> bool {
     is_told_from(alloc, ty, text, 0)
 }
 
-/// Whether each prefix of the text that has at least so many bytes is answered so in these ways.
+/// Whether each prefix of the text from `first` bytes on is answered so in these ways.
 pub fn is_told_from(alloc: Global, ty: &Type, text: &str, first: usize) -> bool {
     for end in first..text.len() {
         if text.is_char_boundary(end) && !is_told(alloc, ty, &text[..end]) {

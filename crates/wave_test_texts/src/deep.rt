@@ -7,7 +7,7 @@ use wasm_wave::value::{Type, Value};
 use wave_test_reading::cuts::{is_told_at_each_cut, is_told_from};
 use wave_test_reading::reading::{is_read_alike, told};
 
-/// The part, so many times.
+/// The part, repeated `times` times.
 fn repeated(rt: HostRuntime, part: &str, times: usize) -> Result<String, Fail> {
     let mut text = String::new(rt.alloc());
     for _ in 0..times {
@@ -16,7 +16,7 @@ fn repeated(rt: HostRuntime, part: &str, times: usize) -> Result<String, Fail> {
     Ok(text)
 }
 
-/// The middle between beginnings and ends, so many of each.
+/// The middle within `times` openings and ends.
 fn within(
     rt: HostRuntime,
     front: &str,
@@ -46,8 +46,8 @@ fn refused_call(rt: HostRuntime, text: &str) -> Result<String, Fail> {
     }
 }
 
-/// The first text of so many fronts and ends that is refused otherwise without a type, with how it is
-/// refused; nothing where there is none.
+/// The first text of repeated openings and ends that is refused otherwise without a type, with how it
+/// is refused; nothing where there is none.
 fn wrong(rt: HostRuntime, rows: &[(&str, usize, &str, &str, &str)]) -> Result<String, Fail> {
     for row in rows {
         let (front, times, middle, end, expected) = *row;
@@ -99,7 +99,7 @@ fn layer(rt: HostRuntime, front: &str, ty: Type) -> Result<Option<Type>, AllocEr
     }
 }
 
-/// The type of the middle within so many layers. Its text may have more levels than are read.
+/// The type of the middle within `times` layers. Its text may have more levels than are read.
 fn nest(rt: HostRuntime, front: &str, times: usize, middle: &str) -> Result<Type, Fail> {
     let mut ty = Type::parse(rt.alloc(), middle)?;
     for _ in 0..times {
@@ -111,7 +111,7 @@ fn nest(rt: HostRuntime, front: &str, times: usize, middle: &str) -> Result<Type
     Ok(ty)
 }
 
-/// The front of the first text that is not told at each cut, at its type; nothing where there is none.
+/// The opening of the first text of which a prefix is answered wrongly at its type; nothing where there is none.
 /// A row has the layers of the text, and those of the type.
 fn untold(
     rt: HostRuntime,
@@ -128,7 +128,7 @@ fn untold(
     Ok(String::new(rt.alloc()))
 }
 
-/// The fronts of the texts of `levels`, `read_at_each_level` and `written_deeper_than_read`: those of
+/// The prefixes of the texts of `levels`, `read_at_each_level` and `written_deeper_than_read`: those of
 /// each text there that is not below are among these. What opens in the text is well-typed at the type.
 #[test]
 fn fronts(rt: HostRuntime) -> Result<(), Fail> {
@@ -151,8 +151,8 @@ fn fronts(rt: HostRuntime) -> Result<(), Fail> {
     Ok(())
 }
 
-/// How a call with a number within so many payloads as its parameter is refused, nothing where it
-/// isn't; and whether its prefixes from this length on are told at the type.
+/// How a call with a number within `payloads` payloads as its parameter is refused, nothing where it
+/// isn't; and whether its prefixes from this length on are answered rightly at the type.
 fn call(rt: HostRuntime, payloads: usize, ty: &Type, first: usize) -> Result<String, Fail> {
     let param = within(rt, "some(", payloads, "0", ")")?;
     let text = format!(in rt.alloc(); "f({param})")?;
@@ -161,7 +161,7 @@ fn call(rt: HostRuntime, payloads: usize, ty: &Type, first: usize) -> Result<Str
     Ok(format!(in rt.alloc(); "{refusal}, {is_told}")?)
 }
 
-/// The fronts of the calls are read at a variant of a hundred options: the shorter call is of it too,
+/// The prefixes of the calls are read at a variant of a hundred options: the shorter call is of it too,
 /// since a number stands for `some` of itself. The first 497 bytes of the calls are equal, and the
 /// prefixes shorter than that are read once.
 #[test]
@@ -193,7 +193,7 @@ fn read_whole(rt: HostRuntime, ty: &Type, parser: Parser) -> Result<String, Fail
     }
 }
 
-/// What the text prints at the type within so many levels, or its refusal; `otherwise` where it is
+/// What the text prints at the type within `levels` levels, or its refusal; `otherwise` where it is
 /// read otherwise without the type first.
 fn answer_within(rt: HostRuntime, ty: &Type, text: &str, levels: u32) -> Result<String, Fail> {
     if levels < 1 || levels > MAX_LEVELS {
@@ -265,7 +265,7 @@ fn within_one_level(rt: HostRuntime) -> Result<(), Fail> {
     Ok(())
 }
 
-/// How so many lists in one another are refused within a thousand levels; nothing where they aren't.
+/// How lists in one another are refused within a thousand levels; nothing where they aren't.
 fn thousand_lists(rt: HostRuntime, times: usize) -> Result<String, Fail> {
     let text = within(rt, "[", times, "", "]")?;
     let mut parser = Parser::new(text.as_str()).with_limit(MAX_LEVELS);

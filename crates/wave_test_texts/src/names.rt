@@ -111,7 +111,7 @@ fn odd_name(rt: HostRuntime) -> Result<String, Fail> {
     }
 }
 
-/// Whether the name that is no label is read alike without its type first, and so each front of it.
+/// Whether the name that is no label is read alike without its type first, and so each prefix of it.
 fn is_odd_name_told(rt: HostRuntime) -> Result<bool, Fail> {
     match Type::enum_ty(rt.alloc(), &["A b"])? {
         Some(ty) => Ok(

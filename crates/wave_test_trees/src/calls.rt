@@ -111,7 +111,7 @@ type Row = (
     &'static str,
 );
 
-/// Tells of the first row that is answered otherwise or whose text is not told at each cut.
+/// Fails at the first row that is answered otherwise, or a prefix of whose text is answered wrongly.
 fn check(rt: HostRuntime, rows: &[Row]) -> Result<(), Fail> {
     for row in rows {
         let (asked, types, text, expected) = *row;

@@ -178,7 +178,7 @@ fn answer(rt: HostRuntime, asked: &str, value: &UntypedValue) -> Result<String, 
     }
 }
 
-/// Tells of the first row that is answered otherwise or whose text is not told at each cut.
+/// Fails at the first row that is answered otherwise, or a prefix of whose text is answered wrongly.
 fn check(rt: HostRuntime, rows: &[(&str, &str, &str)]) -> Result<(), Fail> {
     for row in rows {
         let (asked, text, expected) = *row;

@@ -47,8 +47,8 @@ fn check(rt: HostRuntime, parser: &mut Parser, rows: &[Row]) -> Result<(), Fail>
     Ok(())
 }
 
-/// Tells of the first text that a parser answers otherwise, or that is not told at `u8` or `list<u8>`
-/// at each cut.
+/// Fails at the first text that a parser answers otherwise, or a prefix of which is answered wrongly at
+/// `u8` or `list<u8>`.
 fn check_texts(rt: HostRuntime, texts: &[(&str, &[Row])]) -> Result<(), Fail> {
     let bytes = Type::parse(rt.alloc(), "list<u8>")?;
     for one in texts {

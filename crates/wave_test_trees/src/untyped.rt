@@ -28,7 +28,7 @@ fn owned(rt: HostRuntime, text: &str) -> Result<String, AllocError> {
     }
 }
 
-/// Tells of the first text that is displayed otherwise or not told at each cut.
+/// Fails at the first text that is displayed otherwise, or a prefix of which is answered wrongly.
 fn check(rt: HostRuntime, rows: &[(&str, &str)]) -> Result<(), Fail> {
     for row in rows {
         let (text, expected) = *row;

@@ -89,7 +89,7 @@ const ROWS: &[Row] = &[
     ),
 ];
 
-/// The text of the first row of which something else is told; nothing where there is none.
+/// The expected text of the first row that answers another one; nothing where there is none.
 fn wrong(rt: HostRuntime, rows: &[Row]) -> Result<&'static str, Fail> {
     for row in rows {
         let (params, results, text) = *row;
@@ -100,7 +100,7 @@ fn wrong(rt: HostRuntime, rows: &[Row]) -> Result<&'static str, Fail> {
     Ok("")
 }
 
-/// Whether the type tells these names of parameters and of results.
+/// Whether the type answers these names of parameters and of results.
 fn tells(
     rt: HostRuntime,
     func: &FuncType,

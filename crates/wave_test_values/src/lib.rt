@@ -1,5 +1,5 @@
 //! Worked rows of types and of values: the words of kinds, keywords and causes, the texts of types, also
-//! of those of functions, what the makers of values make, Rust values as values, merged entries, and
+//! of those of functions, what the constructors of values make, Rust values as values, merged entries, and
 //! writers that fail.
 #![tactic(auto)]
 

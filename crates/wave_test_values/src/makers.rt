@@ -129,7 +129,7 @@ fn made(rt: HostRuntime, maker: &str, ty: &str) -> Result<String, Fail> {
 /// A constructor, the text of a type, and the text of what is made, or the words of the refusal.
 pub type Row = (&'static str, &'static str, &'static str);
 
-/// The expected text of the first row of which something else is told; nothing where there is none.
+/// The expected text of the first row that answers another one; nothing where there is none.
 pub fn wrong(rt: HostRuntime, rows: &[Row]) -> Result<&'static str, Fail> {
     for row in rows {
         let (maker, ty, text) = *row;

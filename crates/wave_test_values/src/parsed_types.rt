@@ -179,7 +179,7 @@ fn is_function_read(rt: HostRuntime, row: &(&str, &str)) -> Result<bool, Fail> {
     }
 }
 
-/// The text of so many lists, one inside another.
+/// The text of `levels` lists, one inside another.
 fn lists(rt: HostRuntime, levels: usize) -> Result<String, AllocError> {
     let mut text = String::new(rt.alloc());
     for _ in 0..levels {
@@ -192,7 +192,7 @@ fn lists(rt: HostRuntime, levels: usize) -> Result<String, AllocError> {
     Ok(text)
 }
 
-/// Texts that begin as those of types, or of types of functions, and what each front of them answers, from
+/// Texts that begin as those of types, or of types of functions, and what each prefix of them answers, from
 /// the empty one to the whole: `+` where it is read, else a letter for the kind of the refusal.
 const FRONTS: &[(&str, &str)] = &[
     ("u8", "et+"),

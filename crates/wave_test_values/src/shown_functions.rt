@@ -138,7 +138,7 @@ fn shown(rt: HostRuntime, counts: Counts) -> Result<String, Fail> {
     Ok(format!(in rt.alloc(); "{}", DisplayFunc::new(rt.alloc(), call))?)
 }
 
-/// Counts and the text of the type of a function of so many.
+/// Counts, and the text of the type of a function that has them.
 const SHOWN: &[(Counts, &str)] = &[
     ((0, 0, 0, 0), "func()"),
     ((1, 0, 1, 0), "func(char) -> char"),

@@ -7,12 +7,12 @@ use wave_wasm::keyword::Keyword;
 use wave_wasm::wasm::{WasmTypeKind, WasmValueError};
 use wave_wasm::writer::WriterError;
 
-/// What is told in words.
+/// What has words.
 #[derive(Clone, Copy)]
 enum Item {
     /// A kind.
     Kind(WasmTypeKind),
-    /// A stranger's type, where it has to be of this kind.
+    /// A foreign type, where it has to be of this kind.
     Stranger(WasmTypeKind),
     /// A keyword.
     Keyword(Keyword),
@@ -105,7 +105,7 @@ fn writer_error(reason: &str) -> WriterError {
     }
 }
 
-/// The cause of this word that tells one name.
+/// The cause of this word that has one name.
 fn named_error(rt: HostRuntime, word: &str) -> Result<WasmValueError, AllocError> {
     let name = String::from_str(rt.alloc(), "a")?;
     match word {
@@ -119,7 +119,7 @@ fn named_error(rt: HostRuntime, word: &str) -> Result<WasmValueError, AllocError
     }
 }
 
-/// The cause of this word, else one that tells a name.
+/// The cause of this word, else one that has a name.
 fn value_error(rt: HostRuntime, word: &str) -> Result<WasmValueError, AllocError> {
     match word {
         "memory" => Ok(WasmValueError::from(AllocError)),
@@ -149,7 +149,7 @@ fn told(rt: HostRuntime, item: Item) -> Result<String, Fail> {
     }
 }
 
-/// The words of the first item that is told otherwise; nothing where there is none.
+/// The expected words of the first item that has others; nothing where there is none.
 fn wrong(rt: HostRuntime, rows: &[(Item, &'static str)]) -> Result<&'static str, Fail> {
     for row in rows {
         let (item, words) = *row;

@@ -5,7 +5,7 @@ use wave_convert::IntoValue;
 use wave_value::value::Value;
 use wave_wasm::writer::{TextWrite, Writer, WriterError};
 
-/// A writer that passes so many texts and then fails, once or for good.
+/// A writer that passes a number of texts and then fails, once or for good.
 #[derive(Drop)]
 struct Failing {
     taken: String,
@@ -53,7 +53,7 @@ fn fits(answer: &Result<(), WriterError>, text: &str, out: &Failing) -> bool {
     }
 }
 
-/// `io`, `done` or `unfit`: how the value is written to a writer that passes so many texts.
+/// `io`, `done` or `unfit`: how the value is written to a writer that passes this number of texts.
 fn outcome(rt: HostRuntime, val: &Value, left: usize, once: bool) -> &'static str {
     let mut writer = writer_that_fails(rt, left, once);
     let answer = writer.write_value(rt.alloc(), val);

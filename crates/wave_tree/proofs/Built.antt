@@ -11,15 +11,15 @@ use Rattle.wave_syntax.specs.declared.form.NodeType.{NodeType}
 use Rattle.wave_tree.specs.ParsedNodes.{IsParsed, IsBuilt}
 use Rattle.wave_tree.proofs.ParserSteps.{Reached}
 
--- the source stays behind a token
+-- the source stays after a token
 pub source_item : (p q : Place) (c : lex.Token) → TakesItem p (Some (Ok c)) q → q.lexer.source ≡ p.lexer.source
 source_item p q c ((g, k, h, t), e) = h.source
 
--- so it does behind a tree
+-- so it does after a tree
 pub source_parsed : (n : ℕ) (p q : Place) (parsed : NodeTree) → IsParsed n p q parsed → q.lexer.source ≡ p.lexer.source
 source_parsed n p q parsed h = let (c, one, e) = h.begins in tokens_source h.first q h.others h.taken ∙ source_item p h.first c one
 
--- so it does behind tokens that lead there
+-- so it does after tokens that lead there
 pub source_reached : {n : ℕ} {d e : Due} {s r : List Form} {p q : Place} → Reached n d s p e r q → q.lexer.source ≡ p.lexer.source
 source_reached {p = p} {q = q} h = tokens_source p q h.tokens h.taken
 
@@ -36,12 +36,12 @@ leaf_built Of p m c ty made B h b of = (node ty (span_at m) no_nodes, b, subst (
 abbrev pub as_ok : NodeTree → Result NodeTree (Unit {0})
 as_ok n = Ok n
 
--- what holds of an answer behind any first parts holds of it behind these
+-- what holds of an answer after any first parts holds of it after these
 pub of_front : {M E A : Type 0} (Holds : A → Type 0) (r : Result M E) (Is : A → M → Type 0) → IfOk r (λ made. (front : A) → Holds front → Is front made) → (front : A) → Holds front → IfOk r (Is front)
 of_front Holds (Ok made) Is h front k = h front k
 of_front Holds (Err x) Is h front k = tt
 
--- so where a part stands next behind them
+-- so where a part stands next after them
 pub of_part : {M E A : Type 0} (Next Holds : A → Type 0) (r : Result M E) (Is : A → M → Type 0) → IfOk r (λ made. (front : A) → Next front → Holds front → Is front made) → (front : A) → Next front → Holds front → IfOk r (Is front)
 of_part Next Holds (Ok made) Is h front next k = h front next k
 of_part Next Holds (Err x) Is h front next k = tt

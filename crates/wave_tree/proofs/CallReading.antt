@@ -43,7 +43,7 @@ use Rattle.wave_tree.proofs.NodeCorrectness.Lists.{tuple_parsed}
 
 -- ---- what is taken
 
--- what leads behind a `(` leads from a value that is due before it
+-- what leads on after a `(` leads on from before it, where a value is due
 read_before : (old m new : Place) → TakesClass ParenOpen old m → LeadsBehindValue 101 due.first_item (due.tuple ∷ []) m new [] → LeadsBehindValue 101 due.value [] old new []
 read_before old m new open_there h = record { tokens = paren_open ∷ h.tokens; taken = (m, (ParenOpen, open_there, refl), h.taken); due_there = h.due_there; is_behind = h.is_behind; leads = (due.first_item, due.tuple ∷ [], refl, h.leads) }
 
@@ -118,7 +118,7 @@ close_class : (c : lex.Token) (text : List ℕ) → paren_close ≡ token_of c t
 close_class ParenClose text e = refl
 close_class _ text e = absurd (cc)
 
--- the tokens of a call behind its name
+-- the tokens of a call after its name
 record CallTokens (s : List ℕ) (k : ℕ) : Type 0 where
   pub tokens : List Token
   pub params : MaybeTree
@@ -164,7 +164,7 @@ no_call_refused s k p e named (inr (m, open_there, no_close, refused)) name para
         no_close q (subst (λ z. place.TakesItem m (Some (Ok z)) q) (close_class d (text_at q) g) (subst (λ z. place.TakesItem z (Some (Ok d)) q) (sym same) close_there))
     by it (inr (t, takes)) = refused_have_none 101 e (behind_name s k) p it.tokens (refused_before e (behind_name s k) m p open_there refused) (all_are_next (behind_name s k) it.tokens it.all) t [] takes
 
--- what was taken behind the name is all of a call's tokens
+-- what was taken after the name is all of a call's tokens
 taken_all : (s : List ℕ) (k : ℕ) (p : Place) (params : Option NodeTree) → AreParamsTaken (behind_name s k) p params → (it : CallTokens s k) → p ≡ it.all.last
 taken_all s k p None (m, open_there, close_there) it = by (params_tokens 100 it.tokens it.params it.spelled)
   where
@@ -228,7 +228,7 @@ called_of s k p (Some n) named h ends =
 
 -- ---- the name
 
--- the lexer behind a name
+-- the lexer after a name
 pub named_at : (s : List ℕ) (l : Lexed) (name : FuncNameToken) → NameIs (record { source = s; start = 0; end = 0 }) l (Some (Ok name)) → (k : ℕ) × IsName s k × (l ≡ record { source = s; start = 0; end = k })
 named_at s l name (k, it, named) = (k, named, λ i. record { source = it.source i; start = it.start i; end = (it.end ∙ zero_plus) i })
   where

@@ -1,4 +1,4 @@
--- What `a == b` and `a != b` tell of two classes of tokens.
+-- What `a == b` and `a != b` say of two classes of tokens.
 use Rattle.std.proofs.Common.{◌≡◌, ◌≢◌, ◌∙◌, sym, Bool, true, false, rules}
 use Rattle.std.specs.Prelude.{not}
 use denote.Enum.Bare.{sameb, same_true, same_false, differs_true, differs_false}

@@ -53,7 +53,7 @@ all_more : {A : Type 0} (P : A → Type 0) (xs : List A) (x : A) → AllOf P xs 
 all_more P [] x h k = (k, tt)
 all_more P (y ∷ ys) x h k = (h.0, all_more P ys x h.1 k)
 
--- one more flag, behind a comma
+-- one more flag, after a comma
 pub grown : (old new : BTreeMap (Bor (List ℕ)) (Range ℕ)) (start at m k : Place) (key : Bor (List ℕ)) (v : Range ℕ) → (h : FlagsSoFar old start at) → TakesClass Comma at m → TakesClass LabelOrKeyword m k →
     new.entries ≡ insert_entry (λ a b. slice_cmp nat_cmp a.now b.now) old.entries key v → key.now ≡ name_of (text_at k) → v ≡ span_at k →
     is_one_of (map flag_name (flag_at start ∷ h.more)) (name_of (text_at k)) ≡ false →
@@ -97,7 +97,7 @@ ended Of flags start at q from (Ok it) h close made =
     source_closed p r (inl h) = source_item p r BraceClose h
     source_closed p r (inr (m, h, k)) = source_item m r BraceClose k ∙ source_item p m Comma h
 
--- behind the flags so far the lexer is asked for more
+-- after the flags so far the lexer is asked for more
 pub asks_flags : (flags : BTreeMap (Bor (List ℕ)) (Range ℕ)) (old at new : Stream) → FlagsSoFar flags old.place at.place → AsksFor old at → AsksFor at new → AsksFor old new
 asks_flags flags old at new so_far first more =
     let (d, i, r) = so_far.led 0 [] in

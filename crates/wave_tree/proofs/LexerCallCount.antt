@@ -18,7 +18,7 @@ asks_none p q e = λ n h. omega (arith, e)
 pub asks_once : (p q : Stream) → asked_of q ≡ p.place.taken + 1 → AsksFor p q
 asks_once p q e = λ n h. omega (arith, e)
 
--- behind tokens that were taken
+-- after tokens that were taken
 pub asks_behind : (p q r : Stream) (ts : List Token) → TakesTokens p.place ts q.place → AsksFor p q → AsksFor q r → AsksFor p r
 asks_behind p q r ts taken first then_more = λ n h.
     let count = taken_count p.place q.place ts taken in
@@ -28,19 +28,19 @@ asks_behind p q r ts taken first then_more = λ n h.
     let b = then_more (n - length ts) left in
     omega arith
 
--- behind one token that was taken
+-- after one token that was taken
 pub asks_token : (p q r : Stream) (c : lex.Token) → TakesItem p.place (Some (Ok c)) q.place → asked_of q ≡ p.place.taken + 1 → AsksFor q r → AsksFor p r
 asks_token p q r c h e more = asks_behind p q r (token_of c (text_at q.place) ∷ []) (q.place, (c, h, refl), refl) (asks_once p q e) more
 
--- behind a look at the next item
+-- after a look at the next item
 pub asks_looked : (p q r : Stream) → q.place ≡ p.place → asked_of q ≡ p.place.taken + 1 → AsksFor q r → AsksFor p r
 asks_looked p q r stays e more = asks_behind p q r [] (sym stays) (asks_once p q e) more
 
--- behind a value that was read
+-- after a value that was read
 pub asks_read : (n : ℕ) (d : Due) (s v : List Form) (p q r : Stream) → LeadsBehindValue n d s p.place q.place v → AsksFor p q → AsksFor q r → AsksFor p r
 asks_read n d s v p q r read first more = asks_behind p q r read.tokens read.taken first more
 
--- behind tokens that lead there
+-- after tokens that lead there
 pub asks_reached : (n : ℕ) (d e : Due) (s v : List Form) (p q r : Stream) → Reached n d s p.place e v q.place → AsksFor p q → AsksFor q r → AsksFor p r
 asks_reached n d e s v p q r h first more = asks_behind p q r h.tokens h.taken first more
 

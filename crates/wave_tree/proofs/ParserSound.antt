@@ -34,7 +34,7 @@ token_one p q r t u (c, (h, a), e) (d, (k, b), f) =
     same_class : (c d : lex.Token) → item c ≡ item d → c ≡ d
     same_class c d k = cc
 
--- tokens that are taken are a front of those that are next
+-- tokens that are taken are a prefix of those that are next
 behind_front : (p q : Place) (front ts : List Token) → TakesTokens p front q → AreNext p ts → (rest : List Token) × (ts ≡ front ++ rest) × AreNext q rest
 behind_front p q [] ts same next = (ts, refl, subst (λ z. AreNext z ts) same next)
 behind_front p q (t ∷ front) [] (m, h, more) (last, same, none) = absurd (none t m (subst (λ z. TakesToken z t m) same h))
@@ -43,7 +43,7 @@ behind_front p q (t ∷ front) (u ∷ ts) (m, h, more) (last, (k, g, others), no
     let (rest, same, next) = behind_front m q front ts more (last, subst (λ z. TakesTokens z ts last) (sym there) others, none) in
     (rest, ap (λ z. z ∷ ts) (sym tokens) ∙ ap (λ z. t ∷ z) same, next)
 
--- behind a value no more is due before the tokens that are next
+-- after a value no more is due before the tokens that are next
 ends_there : (d : Due) (q : Place) (rest : List Token) → IsBehind d q → AreNext q rest → EndsBefore d rest
 ends_there d q rest (inl e) next = subst (λ z. EndsBefore z rest) (sym e) tt
 ends_there d q rest (inr (e, apart)) (last, taken, none) = subst (λ z. EndsBefore z rest) (sym e) (λ more f. not_next more (subst (λ z. TakesTokens q z last) f taken))
@@ -87,11 +87,11 @@ read_stands kind.UnexpectedEnd x n d e s r p q m t (h, f, says) (c, k, o) y = no
 read_stands kind.NestingTooDeep x n d e s r p q m t (deep, f, says) k g = let w : too_deep ≡ reads e r = sym (deep.no_close t m k) ∙ g in cc
 read_stands j x n d e s r p q m t h k g = absurd h
 
--- behind the outermost value no token is read
+-- after the outermost value no token is read
 behind_none : (t : Token) (e : Due) (r : List Form) → due.behind_step [] t ≡ reads e r → ⊥
 behind_none t e r x = cc
 
--- a token is read behind the outermost value only where it is an open parenthesis behind a label
+-- a token is read after the outermost value only where it is an open parenthesis after a label
 over_step : (n : ℕ) (d e : Due) (r : List Form) (t : Token) (rest : List Token) → IsEnd d rest → step n d [] t ≡ reads e r → (t ≡ paren_open) × ((more : List Token) → rest ≢ paren_open ∷ more)
 over_step n d e r t rest (inl f) x = absurd (behind_none t e r (ap (λ z. step n z [] t) (sym f) ∙ x))
 over_step n d e r t rest (inr (f, apart)) x = (is_open t (ap (λ z. step n z [] t) (sym f) ∙ x), apart)
@@ -110,7 +110,7 @@ next_rest : (m q : Place) (t : Token) (rest : List Token) → AreNext m rest →
 next_rest m q t [] (last, e, none) h apart = none t q (subst (λ z. TakesToken z t q) e h)
 next_rest m q t (u ∷ rest) (last, (k, one, more), none) h apart = apart rest (ap (λ z. z ∷ rest) (token_one m k q u t one h).0)
 
--- where tokens lead to a refusal within a value, none of their fronts is a whole value
+-- where tokens lead to a refusal within a value, none of their prefixes is a whole value
 clash : (k : ParserErrorKind) (x : Diagnostic) (n : ℕ) (d0 : Due) (s0 : List Form) (p q at m : Place) (tokens front rest : List Token) (d e : Due) (r : List Form) →
     TakesTokens p tokens at → Leads n d0 s0 tokens e r → IsUnfinished e r → StandsAt k x n e r at q → TakesTokens p front m → Leads n d0 s0 front d [] → IsEnd d rest → AreNext m rest → ⊥
 clash k x n d0 s0 p q at m [] [] rest d e r a (v, w) (inl u) stands b (v', w') end next = within_not_end d rest end (subst IsWithin (sym v ∙ v') u)

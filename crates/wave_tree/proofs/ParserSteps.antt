@@ -72,7 +72,7 @@ then_refused {n} {d} {e} {s} {v} {p} {q} x h b = record {
   stands = b.stands;
 }
 
--- tokens, and then a refusal or want of memory
+-- tokens, and then a refusal or out of memory
 pub then_refuses : {n : ℕ} {d e : Due} {s v : List Form} {p q w : Place} (x : Diagnostic) → Reached n d s p e v q → FailsBySyntax x n e v q w → FailsBySyntax x n d s p w
 then_refuses x h b = λ apart. then_refused x h (b apart)
 
@@ -102,7 +102,7 @@ pub unexpected_there : {n : ℕ} {d e : Due} {s v : List Form} {p q w : Place} (
 unexpected_there {n} {d} {e} {s} {v} {p} {q} {w} u x c h t f says = λ apart. refused_there u x h
     (subst (λ z. StandsAt z x n e v q w) (sym (kind_is says)) (c, (t, f), says))
 
--- ---- behind a value
+-- ---- after a value
 
 pub not_deep : {n : ℕ} {d : Due} {s : List Form} {p : Place} → IsBehind d p → IsTooDeep n d s p → ⊥
 not_deep (inl e) deep = subst IsValueDue e deep.due
@@ -319,7 +319,7 @@ pub payload_other : (c : lex.Token) (s : List Form) (text : List ℕ) → c ≢ 
 payload_other ParenClose s text h = absurd (h refl)
 payload_other _ s text h = refl
 
--- a token behind a value
+-- a token after a value
 pub then_behind : {n : ℕ} {d f : Due} {s v b : List Form} {p q w : Place} (e : Due) (c : lex.Token) → Reached n d s p e v q → IsBehind e q → TakesItem q (Some (Ok c)) w → behind_step v (token_of c (text_at w)) ≡ reads f b → Reached n d s p f b w
 then_behind {n} {d} {f} {s} {v} {b} {p} {q} {w} e c h is h' x =
     let t = token_there q w c h' in then_token (token_of c (text_at w)) h t (behind_same n e v q w (token_of c (text_at w)) is t ∙ x)
@@ -377,7 +377,7 @@ word_flag : (text : List ℕ) (c : lex.Token) (s : List Form) (n : ℕ) (more : 
 word_flag text Colon s n more h = absurd (h refl)
 word_flag text _ s n more h = refl
 
--- behind a flag: behind the first one no colon stands
+-- after a flag: after the first one no colon stands
 abbrev pub IsFlagDue : Due → List (List ℕ) → Place → Type 0
 IsFlagDue d names p = (d ≡ due.behind_flag names)
     ⊎ ((text : List ℕ) × (d ≡ due.behind_word text) × (names ≡ name_of text ∷ []) × ((next : Place) → TakesItem p (Some (Ok Colon)) next → ⊥))
@@ -472,7 +472,7 @@ pub flag_within : (d : Due) (names : List (List ℕ)) (p : Place) → IsFlagDue 
 flag_within d names p (inl e) = subst IsWithin (sym e) tt
 flag_within d names p (inr (text, e, f, apart)) = subst IsWithin (sym e) tt
 
--- the answer of a call that can refuse for want of memory alone, behind a value
+-- the answer of a call that can refuse for lack of memory alone, after a value
 pub gives_read : {X : Type 0} {n : ℕ} {d : Due} {s : List Form} {p q : Place} (v : List Form) (r : Result X Diagnostic) → IfErr r (λ e. e.kind ≡ kind.OutOfMemory) → LeadsBehindValue n d s p q v → Gives r n d s p q v
 gives_read v (Ok x) h read = read
 gives_read v (Err e) h read = λ apart. absurd (apart h)

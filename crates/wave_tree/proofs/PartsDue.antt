@@ -7,15 +7,15 @@ use Rattle.wave_syntax.specs.declared.form.NodeType.TheVariants as kind
 use Rattle.wave_syntax.specs.NodeParts.{IsOfParts, TakesKey, TakesPart}
 use Rattle.wave_tree.specs.Private.ParsedNodes.{IsOfPayload, label_children}
 
--- behind a key its value
+-- after a key its value
 pub value_next : (children : List NodeTree) (n : NodeTree) → TakesKey kind.TupleSet children → TakesPart kind.TupleSet (children ++ n ∷ [])
 value_next children n (k, even) = (k, length-append children (n ∷ []) ∙ ap (λ z. z + 1) even)
 
--- behind a value a key
+-- after a value a key
 pub key_next : (children : List NodeTree) (n : NodeTree) → TakesPart kind.TupleSet children → TakesKey kind.TupleSet (children ++ n ∷ [])
 key_next children n (k, odd) = let longer = length-append children (n ∷ []) in (k + 1, omega (arith, odd, longer))
 
--- behind the label of a case, or in front, the payload
+-- after the label of a case, or first, the payload
 pub payload_due : (ty : NodeType) (p : Range ℕ) → IsOfPayload ty → TakesPart ty (label_children ty p)
 payload_due kind.VariantWithPayload p h = refl
 payload_due kind.ResultOk p h = refl

@@ -60,13 +60,13 @@ token_again (token.char text) = refl
 token_again (token.string text) = refl
 token_again (token.multiline text) = refl
 
--- what stands behind tokens of a text
+-- what stands after tokens of a text
 record TakenTo (p : Place) (ts : List Token) (r : List ℕ) : Type 0 where
   pub last : Place
   pub taken : TakesTokens p ts last
   pub left : remainder_of last.lexer ≡ r
 
--- the tokens at the front of what is left are taken
+-- the tokens at the start of what is left are taken
 front_taken : (p : Place) (ts : List Token) (r : List ℕ) → Front (remainder_of p.lexer) (map lexeme_of ts) r → TakenTo p ts r
 front_taken p [] r e = record { last = p; taken = refl; left = e }
 front_taken p (t ∷ ts) r (g, k, gap_is, longest, text, more) =
@@ -80,7 +80,7 @@ front_taken p (t ∷ ts) r (g, k, gap_is, longest, text, more) =
     let rest = front_taken q ts r (subst (λ z. Front z (map lexeme_of ts) r) left more) in
     record { last = rest.last; taken = (q, ((lexeme_of t).0, step, token_is), rest.taken); left = rest.left }
 
--- all tokens of a text, and the end behind them
+-- all tokens of a text, and the end after them
 pub record AllOf (p : Place) (ts : List Token) : Type 0 where
   pub last : Place
   pub taken : TakesTokens p ts last
@@ -124,7 +124,7 @@ nothing_there p behind q h (Some x, something, k) = apart x (next_one p.lexer q.
 pub all_are_next : (p : Place) (ts : List Token) → AllOf p ts → AreNext p ts
 all_are_next p ts h = (h.last, h.taken, no_token_there h.last h.ends.0 h.ends.1)
 
--- tokens behind which none is next are all
+-- tokens after which none is next are all
 pub all_taken : (p q : Place) (front ts : List Token) → TakesTokens p front q → AreNext q [] → (h : AllOf p ts) → (front ≡ ts) × (q ≡ h.last)
 all_taken p q [] [] e next h = (refl, sym e ∙ h.taken)
 all_taken p q [] (u ∷ ts) e (last, same, none) h = let (k, one, others) = h.taken in absurd (none u k (subst (λ z. TakesToken z u k) (e ∙ same) one))
@@ -138,7 +138,7 @@ all_taken p q (t ∷ front) (u ∷ ts) (m, one, more) next h =
 
 -- ---- the meaning
 
--- the tokens that were taken up to the end are the cut of what was left
+-- the tokens that were taken up to the end are those of what was left
 pub cut_from : (p q : Place) (tokens : List Token) → TakesTokens p tokens q → ((behind : Place) × TakesItem q None behind) → CutsInto (remainder_of p.lexer) tokens
 cut_from p q tokens taken (behind, ends) =
     let n = length p.lexer.source + q.lexer.end in
@@ -153,7 +153,7 @@ cut_from p q tokens taken (behind, ends) =
     same_length : length q.lexer.source ≡ length p.lexer.source
     same_length = ap length (tokens_source p q tokens taken)
 
--- so those of a whole text are its cut
+-- so those of a whole text are all its tokens
 pub all_cut : (s : List ℕ) (p : Place) (tokens : List Token) → TakesTokens (start_of s) tokens p → ((behind : Place) × TakesItem p None behind) → CutsInto s tokens
 all_cut s p tokens taken ends = cut_from (start_of s) p tokens taken ends
 

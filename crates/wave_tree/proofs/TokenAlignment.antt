@@ -8,7 +8,7 @@ use Rattle.wave_grammar.specs.SpannedTree.{slice, EndsToken, BeginsToken, Stands
 use Rattle.wave_tree.proofs.ParserSteps.{tokens_join}
 use Rattle.wave_grammar.proofs.Slices.{taken_is, tokens_forward, tokens_source, tokens_front, gap_cut, drop_cut}
 
--- what is left of a slice behind its first tokens
+-- what is left of a slice after its first tokens
 left_of : (p a : Place) (n : ℕ) → a.lexer.source ≡ p.lexer.source → p.lexer.end ≤ a.lexer.end → a.lexer.end - p.lexer.end ≤ n →
     drop (a.lexer.end - p.lexer.end) (take n (remainder_of p.lexer)) ≡ take (n - (a.lexer.end - p.lexer.end)) (remainder_of a.lexer)
 left_of p a n same l k =
@@ -18,7 +18,7 @@ left_of p a n same l k =
     drop_cut n d (remainder_of p.lexer) k
     ∙ ap (take (n - d)) (drop-drop d p.lexer.end s ∙ (ap (λ z. drop z s) behind ∙ ap (drop a.lexer.end) (sym same)))
 
--- the lexer stands behind tokens
+-- the lexer stands after tokens
 ends_token : (p a q : Place) (before rest : List Token) → TakesTokens p before a → TakesTokens a rest q → EndsToken (slice p.lexer.source (span p.lexer.end q.lexer.end)) (a.lexer.end - p.lexer.end)
 ends_token p a q before rest h k =
     let n = q.lexer.end - p.lexer.end in
@@ -27,7 +27,7 @@ ends_token p a q before rest h k =
     let left = left_of p a n (tokens_source p a before h) b (omega (arith, b, c)) in
     (before, subst (λ z. Front (take n (remainder_of p.lexer)) (map lexeme_of before) z) (sym left) (tokens_front p a before n h (omega (arith, b, c))))
 
--- the next token begins behind a gap
+-- the next token begins after whitespace
 begins_token : (p a f q : Place) (u : Token) (before rest : List Token) → TakesTokens p before a → TakesToken a u f → TakesTokens f rest q →
     BeginsToken (slice p.lexer.source (span p.lexer.end q.lexer.end)) (f.lexer.start - p.lexer.end)
 begins_token p a f q u before rest h (c, one, e) k =

@@ -24,7 +24,7 @@ ends_there n s p t u read h (tokens, cut, takes) =
     let (tokens_are, place_is) = all_taken (start_of s) p h.tokens tokens h.taken (subst (AreNext p) (sym same.1) next) all in
     subst (λ z. (behind : Place) × TakesItem z None behind) (sym place_is) all.ends
 
--- a value behind which nothing follows is that of the text
+-- a value after which nothing follows is that of the text
 pub untyped_of : (n : ℕ) (s : List ℕ) (p : Place) (u : Untyped) → IsUntypedTaken n (start_of s) p u → ((behind : Place) × TakesItem p None behind) → IsUntypedOf n s u
 untyped_of n s p u (same, h) ends = record {
   source = same;

@@ -104,7 +104,7 @@ value_refused Full T n s old new e first refused within caused memory =
 
 -- ---- what follows
 
--- what follows a value is no want of memory
+-- what follows a value isn't out of memory
 trailing_memory : (e : Diagnostic) (p : Place) → IsTrailing e p → e.kind ≢ kind.OutOfMemory
 trailing_memory e p (behind, item, says) is = cc (sym (ap (λ (r : Refusal). r.kind) says.is) ∙ is)
 
@@ -123,7 +123,7 @@ trailing_refused tree_of_value of Full T n s p v e h trails =
       memory = λ is. absurd (trailing_memory e p trails is);
     }
 
--- a value behind which nothing follows is read
+-- a value after which nothing follows is read
 pub value_read : {V : Type 0} (tree_of_value : V → Value) (of : V → TypeTree → Type 0) (T : TypeTree) (n : ℕ) (s : List ℕ) (p : Place) (v : V) → IsValueTaken tree_of_value of T n (start_of s) p v → ((behind : Place) × TakesItem p None behind) → IsRead tree_of_value of T n s v
 value_read tree_of_value of T n s p v h ends =
     let taken = h.read.taken in record {
@@ -136,7 +136,7 @@ value_read tree_of_value of T n s p v h ends =
 
 -- ---- whole texts
 
--- a value at the front of a text, and what follows it
+-- a value at the start of a text, and what follows it
 pub whole_text : {V : Type 0} (tree_of_value : V → Value) (of : V → TypeTree → Type 0) (Full : TypeTree → Type 0) (T : TypeTree) (n : ℕ) (s : List ℕ) → ReadsWholeText tree_of_value of Full T n s
 whole_text tree_of_value of Full T n s = record {
   ends = λ p v taken ends. value_read tree_of_value of T n s p v taken ends;

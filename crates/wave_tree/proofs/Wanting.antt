@@ -1,4 +1,4 @@
--- Where memory may be wanting.
+-- Where out of memory may be answered.
 use Rattle.std.proofs.Common.{ℕ, ◌≡◌, ◌≢◌, List, [], ◌∷◌, ◌++◌, Some, Result, Ok, Err, refl, sym, ◌∙◌, inl, inr}
 use Rattle.std.specs.Prelude.{IfErr}
 use Rattle.wave_lex.specs.declared.lex.Token as lex
@@ -13,12 +13,12 @@ use Rattle.wave_tree.specs.ParserState.{HoldsNoBrace, Fails}
 use Rattle.wave_tree.specs.Private.ParserState.{WantsOnly}
 use Rattle.wave_tree.proofs.ParserSteps.{Reached, tokens_join, kind_is}
 
--- no brace stands behind tokens before which none stands
+-- no brace stands after tokens before which none stands
 pub none_behind : (p q : Place) (ts : List Token) → TakesTokens p ts q → HoldsNoBrace p → HoldsNoBrace q
 none_behind p q ts h none us r w more brace = none (ts ++ us) r w (tokens_join p q r ts us h more) brace
 
 module _ (Takes : Type 0) where
-  -- what is said behind tokens holds before them
+  -- what is said after tokens holds before them
   pub wants_behind : (p q : Place) (ts : List Token) (e : Diagnostic) → TakesTokens p ts q → WantsOnly Takes q e → WantsOnly Takes p e
   wants_behind p q ts e h wants is none = wants is (none_behind p q ts h none)
 

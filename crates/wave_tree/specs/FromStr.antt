@@ -55,14 +55,14 @@ PrintsWithinTwice T n v = (back : ReadBack T v) × (levels back.tree ≤ 2 * n)
 
 module _ (Full : TypeTree → Type 0) where
   -- a tree was read, and the refusal is of a kind that reading one at a type answers; where the type's names are distinct it gives the tree no value, or a
-  -- maker refused its value
+  -- constructor refused its value
   pub record IsTypeRefused (T : TypeTree) (n : ℕ) (e : Diagnostic) (old new : Place) : Type 0 where
     pub placed : Placed
     pub read : IsTreeRead n old new placed
     pub kind : HasTypeKind e
     pub blames : HasDistinctNames T → Fault T placed (refusal_of e) e.span × typed.ReadsNone T placed ⊎ (e.kind ≡ WasmValueError) × (Full T → ⊥)
 
-  -- no value was read: for want of memory, or no tree within n levels stands there, or one that is refused at the type
+  -- no value was read: for lack of memory, or no tree within n levels stands there, or one that is refused at the type
   abbrev pub RefusesValue : TypeTree → ℕ → Diagnostic → Place → Place → Type 0
   RefusesValue T n e old new = (e.kind ≢ OutOfMemory) → IsSyntaxError e n value [] old new ⊎ IsTypeRefused T n e old new
 
@@ -70,7 +70,7 @@ module _ (Full : TypeTree → Type 0) where
 abbrev pub IsCausedBetween : ℕ → Place → Place → Diagnostic → Type 0
 IsCausedBetween n old new e = e.kind ≡ WasmValueError → (node : NodeTree) × IsNodeTaken n old new node × IsCausedIn node e
 
--- at any type: the text spells no tree within n levels, or memory is wanting; or a tree begins the text, and the refusal is of a kind that reading one at
+-- at any type: the text spells no tree within n levels, or there is no memory; or a tree begins the text, and the refusal is of a kind that reading one at
 -- a type answers
 abbrev pub RefusesFront : ℕ → List ℕ → Diagnostic → Type 0
 RefusesFront n s e =
@@ -83,14 +83,14 @@ TextFault T n s e =
     ⊎ ((p : Place) × (t : Placed) × IsTreeRead n (start_of s) p t × Fault T t (refusal_of e) e.span)
     ⊎ ((p : Place) × (t : Placed) × (v : Value) × IsTreeRead n (start_of s) p t × TreeReads T (tree_of t) v × IsTrailing e p)
 
--- want of memory; or a fault of the text, which within n levels means no value of the type; or, where makers do not serve all values of the type, the
+-- out of memory; or a fault of the text, which within n levels means no value of the type; or, where constructors do not serve all values of the type, the
 -- refusal of one
 abbrev pub BlamesText : (TypeTree → Type 0) → TypeTree → ℕ → List ℕ → Diagnostic → Type 0
 BlamesText Full T n s e =
     (e.kind ≡ OutOfMemory) ⊎ TextFault T n s e × MeansNone T n s ⊎ (e.kind ≡ WasmValueError) × (Full T → ⊥)
 
 -- what the refusal of a text within n levels says: at any type of its tree, where the type's names are distinct of its meaning; its span lies in the text;
--- a `WasmValueError` has a cause, and stands at a node of what was read; want of memory is told at 0..0
+-- a `WasmValueError` has a cause, and stands at a node of what was read; out of memory stands at 0..0
 pub record RefusesText (Full : TypeTree → Type 0) (T : TypeTree) (n : ℕ) (s : List ℕ) (e : Diagnostic) : Type 0 where
   pub front : RefusesFront n s e
   pub blames : HasDistinctNames T → BlamesText Full T n s e

@@ -14,7 +14,7 @@ use Rattle.wave_lex.specs.Errors.{Diagnostic, LiesInText}
 abbrev pub AreNext : Place → List Token → Type 0
 AreNext p ts = (last : Place) × TakesTokens p ts last × ((t : Token) (q : Place) → TakesToken last t q → ⊥)
 
--- where a value was read within n levels, a tree stood within n levels, and the tokens behind it are next
+-- where a value was read within n levels, a tree stood within n levels, and the tokens after it are next
 abbrev pub ReadHaveATree : Type 0
 ReadHaveATree =
     (n : ℕ) (p q : Place) (ts : List Token) → LeadsBehindValue n value [] p q [] → AreNext p ts
@@ -26,7 +26,7 @@ RefusedHaveNone =
     (n : ℕ) (e : Diagnostic) (p q : Place) (ts : List Token) → IsSyntaxError e n value [] p q → AreNext p ts
     → (t : Tree) (rest : List Token) → tree.Takes n ts t rest → ⊥
 
--- in front of n tokens a new parser asks n + 1 times at most to read a value, and, where it has read one, to look whether something follows
+-- before n tokens a new parser asks n + 1 times at most to read a value, and, where it has read one, to look whether something follows
 abbrev pub AskingsAreFew : Type 0
 AskingsAreFew =
     (n : ℕ) (p q r : Parsing) → HasTokens p.place n → asked p ≡ 0 → Asks p q →

@@ -19,7 +19,7 @@ pub record Parsing : Type 0 where
 abbrev pub IsLimit : ℕ → Type 0
 IsLimit n = (1 ≤ n) × (n ≤ 1000)
 
--- a parser that took nothing yet, in front of what the lexer has left, with the limit that is kept where none is handed in
+-- a parser that took nothing yet, before what the lexer has left, with the limit that is kept where none is handed in
 abbrev pub first_at : Lexed → Parsing
 first_at l = record { place = record { lexer = l; taken = 0 }; ahead = 0; limit = 100 }
 
@@ -27,11 +27,11 @@ first_at l = record { place = record { lexer = l; taken = 0 }; ahead = 0; limit 
 abbrev pub limited : Parsing → ℕ → Parsing
 limited p n = record { place = p.place; ahead = p.ahead; limit = n }
 
--- a lexer in front of the source
+-- a lexer before the source
 abbrev pub front_of : List ℕ → Lexed
 front_of source = record { source = source; start = 0; end = 0 }
 
--- in front of the text
+-- before the text
 abbrev pub start_of : List ℕ → Place
 start_of s = record { lexer = front_of s; taken = 0 }
 
@@ -66,11 +66,11 @@ Fails Wanted e old new =
 abbrev pub IsTrailing : Diagnostic → Place → Type 0
 IsTrailing e p = (behind : Place) × TakesAny p behind × Says e TrailingCharacters (span_at behind) None
 
--- nothing is left but a gap, or what stands next is refused
+-- nothing is left but whitespace, or what stands next is refused
 abbrev pub Finishes : Result (Unit {0}) Diagnostic → Place → Type 0
 Finishes (Ok u) p = (behind : Place) × TakesItem p None behind
 Finishes (Err e) p = IsTrailing e p
 
--- want of memory leaves the place as it was, and names the last item before it
+-- out of memory leaves the place as it was, and names the last item before it
 abbrev pub StaysWithout : Diagnostic → Place → Place → Type 0
 StaysWithout e old new = e.kind ≡ OutOfMemory → (new.lexer ≡ old.lexer) × Says e OutOfMemory (span_at old) None

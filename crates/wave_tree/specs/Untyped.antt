@@ -44,10 +44,10 @@ SyntaxFault n s e =
     ((p : Place) × IsSyntaxError e n value [] (start_of s) p)
     ⊎ ((p : Place) × (t : Tree) × LeadsBehindValue n value [] (start_of s) p [] × IsTaken n (start_of s) p t × IsTrailing e p)
 
--- want of memory; or a fault of the text, which spells no tree within n levels
+-- out of memory; or a fault of the text, which spells no tree within n levels
 abbrev pub RefusesTree : ℕ → List ℕ → Diagnostic → Type 0
 RefusesTree n s e = (e.kind ≢ OutOfMemory) → SyntaxFault n s e × SpellsNoTree n s
 
--- want of memory is told at 0..0
+-- out of memory stands at 0..0
 abbrev pub MemoryAtFront : Diagnostic → Type 0
 MemoryAtFront e = e.kind ≡ OutOfMemory → Says e OutOfMemory (span 0 0) None

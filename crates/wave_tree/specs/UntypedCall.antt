@@ -43,11 +43,11 @@ abbrev pub MeansParams : List ℕ → Option NodeTree → MaybeTree → Type 0
 MeansParams source None params = params ≡ no_tree
 MeansParams source (Some n) params = (t : Placed) × IsNodeOf source n t × (params ≡ a_tree (tree_of t))
 
--- behind a function name of so many bytes, before its parameters
+-- after a function name of k bytes, before its parameters
 abbrev pub behind_name : List ℕ → ℕ → Place
 behind_name s k = record { lexer = record { source = s; start = 0; end = k }; taken = 0 }
 
--- the node of the parameters stands from the first token behind a name of k bytes to the last token of the text
+-- the node of the parameters stands from the first token after a name of k bytes to the last token of the text
 abbrev pub ParamsStand : List ℕ → ℕ → Option NodeTree → Type 0
 ParamsStand s k None = Unit {0}
 ParamsStand s k (Some n) =
@@ -55,7 +55,7 @@ ParamsStand s k (Some n) =
     × IsNodeOf s n t × TakesTokens (behind_name s k) tokens last
     × StandsBetween (behind_name s k) last t × place.TakesItem last None behind
 
--- the call keeps the text, which is a call of its name, at its front, with the parameters that its node means
+-- the call keeps the text, which is a call of its name, at its start, with the parameters that its node means
 pub record IsCalledOf (s : List ℕ) (u : Called) : Type 0 where
   pub source : u.source ≡ s
   pub params : MaybeTree
@@ -79,7 +79,7 @@ abbrev pub AreParamsTaken : Place → Place → Option NodeTree → Type 0
 AreParamsTaken old new None = (m : Place) × TakesClass ParenOpen old m × TakesClass ParenClose m new
 AreParamsTaken old new (Some n) = IsTupleTaken 100 old new n
 
--- no `(` stands there; or what is behind it is no `)`, and is refused where items of a tuple are due, each within 100 levels
+-- no `(` stands there; or what is after it is no `)`, and is refused where items of a tuple are due, each within 100 levels
 abbrev pub RefusesTuple : Diagnostic → Place → Place → Type 0
 RefusesTuple e old new =
     Fails (λ c. c ≡ ParenOpen) e old new
@@ -102,11 +102,11 @@ CallFault s e =
 abbrev pub IsNoCall : List ℕ → Type 0
 IsNoCall s = (name : List ℕ) (params : MaybeTree) → IsCall s name params → ⊥
 
--- want of memory; or a fault of the text, which is no call
+-- out of memory; or a fault of the text, which is no call
 abbrev pub RefusesCall : List ℕ → Diagnostic → Type 0
 RefusesCall s e = (e.kind ≢ OutOfMemory) → CallFault s e × IsNoCall s
 
--- want of memory is told at the name
+-- out of memory stands at the name
 abbrev pub MemoryAtName : List ℕ → Diagnostic → Type 0
 MemoryAtName s e = e.kind ≡ OutOfMemory → (k : ℕ) × IsName s k × Says e OutOfMemory (span 0 k) None
 

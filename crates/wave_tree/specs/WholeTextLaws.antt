@@ -1,4 +1,4 @@
--- What reading a value at the front of a text, and then looking whether something follows, says of the whole text.
+-- What reading a value at the start of a text, and then looking whether something follows, says of the whole text.
 use Rattle.std.specs.Prelude.{ℕ, List, [], Ok, Err}
 use Rattle.wave_wasm.specs.Types.{TypeTree, HasDistinctNames}
 use Rattle.wave_wasm.specs.Values.{Value}
@@ -11,7 +11,7 @@ use Rattle.wave_tree.specs.FromStr.{IsValueTaken, RefusesValue, IsRead, RefusesF
 use Rattle.wave_tree.specs.Untyped.{Untyped, IsUntypedTaken, IsUntypedOf, RefusesTree}
 
 module _ {V : Type 0} (tree : V → Value) (of : V → TypeTree → Type 0) (Full : TypeTree → Type 0) where
-  -- within n levels: a value behind which nothing follows is that of the text; one behind which something follows, and a refusal, tell a fault of the text
+  -- within n levels: a value that nothing follows is that of the text; one that something follows, and a refusal, show a fault of the text
   pub record ReadsWholeText (T : TypeTree) (n : ℕ) (s : List ℕ) : Type 0 where
     pub ends : (p : Place) (v : V) → IsValueTaken tree of T n (start_of s) p v → Finishes (Ok tt) p → IsRead tree of T n s v
     pub trails : (p : Place) (v : V) (e : Diagnostic) → IsValueTaken tree of T n (start_of s) p v → Finishes (Err e) p → RefusesText Full T n s e

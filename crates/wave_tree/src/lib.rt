@@ -21,7 +21,7 @@ pub mod untyped;
 
 /// The value of the type that the whole text means. A syntax fault of the value is answered before
 /// any fault of type, and a fault of type before `TrailingCharacters`. The span of a refusal is in
-/// byte places of the text; `OutOfMemory` is told at 0..0. At any type the text that is read is that
+/// byte places of the text; `OutOfMemory` stands at 0..0. At any type the text that is read is that
 /// of one value, and is else refused as by `UntypedValue::parse`; what such a text means, and which
 /// fault of type it has, is said where the names of the type are distinct.
 pub fn from_str<V: WasmValue>(alloc: Global, ty: &V::Type, s: &str) -> Result<V, ParserError>

@@ -86,7 +86,7 @@ impl<'source> Parser<'source> {
     /// `InvalidToken`, a token that may not stand there `UnexpectedToken`, and a flag that was read
     /// before `DuplicateFlag`, each at its span; the end is `UnexpectedEnd` at the empty span there,
     /// `()` is `EmptyTuple` at both parentheses, and a level past the limit `NestingTooDeep` at the
-    /// last token that was taken. `OutOfMemory` is told at the last item before the value, and the
+    /// last token that was taken. `OutOfMemory` stands at the last item before the value, and the
     /// parser stands where it stood.
     pub fn parse_raw_value(&mut self, alloc: Global) -> Result<UntypedValue<'source>, ParserError>
         ensures value { Gives result self.old.limit due.value [] self.old.place self.new.place [] }
@@ -125,7 +125,7 @@ impl<'source> Parser<'source> {
         self.tokens.parse_typed(alloc, ty, self.limit)
     }
 
-    /// Whether only a gap is left. The parser stays where it is; what stands next is refused as
+    /// Whether only whitespace is left. The parser stays where it is; what stands next is refused as
     /// `TrailingCharacters` at its span.
     pub fn finish(&mut self) -> Result<(), ParserError>
         ensures stays { self.new.place ≡ self.old.place }

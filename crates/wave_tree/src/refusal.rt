@@ -8,7 +8,7 @@ use std::marker::Model;
 use wave_lex::error::{ParserError, ParserErrorKind};
 use wave_lex::lex::{Span, Token};
 
-/// What is told beside the kind of a refusal.
+/// What a refusal says beside its kind.
 #[derive(Drop)]
 enum Beside {
     /// Nothing.
@@ -20,7 +20,7 @@ enum Beside {
     Words(Box<String>),
 }
 
-/// Why the tokens are refused: the kind, where, and what is told beside. A clause sees the error
+/// Why the tokens are refused: the kind, where, and what it says beside. A clause sees the error
 /// that it is to become.
 #[derive(Drop)]
 pub(crate) struct Refusal {
@@ -51,7 +51,7 @@ impl Refusal {
         }
     }
 
-    /// A refusal that tells the class of a token.
+    /// A refusal whose detail is the class of a token.
     pub(crate) fn with_class(kind: ParserErrorKind, span: Span, class: Token) -> Refusal
         ensures { Says result kind span (Some (class_name class)) }
     {
@@ -62,7 +62,7 @@ impl Refusal {
         }
     }
 
-    /// A refusal that tells these words.
+    /// A refusal whose detail is these words.
     pub(crate) fn with_words(kind: ParserErrorKind, span: Span, words: Box<String>) -> Refusal
         ensures { Says result kind span (Some (string_bytes words.value)) }
     {
@@ -73,7 +73,7 @@ impl Refusal {
         }
     }
 
-    /// The error that tells it.
+    /// The error that says so.
     pub(crate) fn into_error(self) -> ParserError
         ensures { result ≡ self }
     {

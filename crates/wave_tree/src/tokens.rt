@@ -322,7 +322,7 @@ impl<'source> Tokens<'source> {
         ParserError::new(ParserErrorKind::OutOfMemory, start.span)
     }
 
-    /// Reads the node of a value of at most so many levels, and answers where it began.
+    /// Reads the node of a value of at most `levels` levels, and answers where it began.
     pub(crate) fn parse_whole(
         &mut self,
         alloc: Global,
@@ -342,7 +342,7 @@ impl<'source> Tokens<'source> {
         }
     }
 
-    /// Reads a value of the type, of at most so many levels.
+    /// Reads a value of the type, of at most `levels` levels.
     pub(crate) fn parse_typed<V: WasmValue>(
         &mut self,
         alloc: Global,

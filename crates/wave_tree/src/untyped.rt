@@ -54,7 +54,7 @@ impl<'source> UntypedValue<'source> {
 
     /// The value of at most 100 levels that the whole text spells. What is no value is refused as by
     /// `Parser::parse_raw_value`, and what follows a value as `TrailingCharacters` at the span of the
-    /// next token. Spans are byte places of the text; `OutOfMemory` is told at 0..0.
+    /// next token. Spans are byte places of the text; `OutOfMemory` stands at 0..0.
     pub fn parse(alloc: Global, source: &'source str) -> Result<UntypedValue<'source>, ParserError>
         ensures value { IfOk result (IsUntypedOf 100 source.now) }
         ensures refused { IfErr result (RefusesTree 100 source.now) }
@@ -67,7 +67,7 @@ impl<'source> UntypedValue<'source> {
         Ok(value)
     }
 
-    /// The same value with a copy of its source, where that is borrowed. Where memory is wanting
+    /// The same value with a copy of its source, where that is borrowed. Where there is no memory
     /// the value is handed back.
     pub fn into_owned(self, alloc: Global) -> Result<UntypedValue<'static>, UntypedValue<'source>>
         ensures owned { IfOk result (λ value. value ≡ self.entry) }

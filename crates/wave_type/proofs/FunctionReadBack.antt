@@ -1,4 +1,4 @@
--- The text of the type of a function is cut into tokens that spell it.
+-- The text of the type of a function has tokens that spell it.
 use Rattle.std.proofs.Common.{◌≡◌, ℕ, List, [], ◌∷◌, ◌++◌, refl, sym, ap, subst, codes, append_assoc, map}
 use Rattle.std.proofs.lemmas.List.{append-nil}
 use Rattle.wave_wasm.specs.Commas.{joined, behind_name, in_parens}
@@ -37,7 +37,7 @@ parens_cut (p ∷ ps) own good r us cut =
     let all : IsCutInto (in_parens x ++ r) (codes "(" ∷ w.0) = paren_open_cut ((x ++ codes ")") ++ r) w.0 inner in
     (w.0, subst (λ z. IsCutInto (in_parens (joined z) ++ r) (codes "(" ∷ w.0)) (lines (p ∷ ps)) all, (fields_spelled (codes ")") (p ∷ ps) w.0 us w.2, subst AreDistinct (field_names_of (p ∷ ps)) good.1))
 
--- what stands behind ` -> `
+-- what stands after ` -> `
 behind_arrow : (x : List ℕ) (ts : Tokens) → IsCutInto x ts → IsCutInto (codes " -> " ++ x) (codes "-" ∷ codes ">" ∷ ts)
 behind_arrow x ts cut = space_cut (45 ∷ 62 ∷ 32 ∷ x) (codes "-" ∷ codes ">" ∷ ts) (arrow_cut (32 ∷ x) ts (space_cut x ts cut))
 

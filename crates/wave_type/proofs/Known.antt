@@ -1,4 +1,4 @@
--- What owning a `Type`, or holding a `&` to it, tells: its tree is one that a `Type` can have. Assumes nothing.
+-- What owning a `Type`, or holding a `&` to it, says: its tree is one that a `Type` can have. Assumes nothing.
 use Rattle.std.proofs.Common.{ℕ, suc, List, [], ◌∷◌, subst, arith}
 use Rattle.std.specs.contracts.alloc.Global as alloc
 use Rattle.std.specs.contracts.impls.GlobalAllocator.TheImpl.{ghosts}
@@ -45,7 +45,7 @@ owned T vs = record {
       via 𝓤 _ (the_opens.splits M 𝓤 𝓛 T vs) ((Says-some Inside _ (λ a. Says-second (inside.the_row.own_val a vs) (the_opens.rest T a) (rest_says T a))).go M 𝓤 𝓛);
 }
 
--- both tell it
+-- both say it
 abbrev type_known : Known own.the_row
 type_known = record { Fact = IsOwn; owned = owned; shared = shared }
 

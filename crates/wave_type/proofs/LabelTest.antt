@@ -30,15 +30,15 @@ use Rattle.wave_type.specs.Private.LabelTest.{is_label, are_label_names, names_p
 by_itself : (s : List ℕ) → IsLabel s → encode_utf8_all s ≡ s
 by_itself s h = encodes-IsAscii s (ascii_text label s refl h)
 
--- a front that is a label and the whole name makes the name a label
+-- a prefix that is a label and the whole name makes the name a label
 whole_into : (s : List ℕ) → IsFront label s (length s) → IsLabel s
 whole_into s f = subst IsLabel (sym (by_itself f.scalars f.has) ∙ (f.spelled ∙ take-length s)) f.has
 
--- a label is such a front of itself
+-- a label is such a prefix of itself
 whole_from : (s : List ℕ) → IsLabel s → IsFront label s (length s)
 whole_from s h = record { scalars = s; fits = omega arith; spelled = by_itself s h ∙ sym (take-length s); has = h }
 
--- the longest label at the front of a name is the whole name exactly where the name is a label
+-- the longest label at the start of a name is the whole name exactly where the name is a label
 pub front_tells : (s : List ℕ) (o : Option ℕ) → Greatest (IsFront label s) o → option_eq eqb o (Some (length s)) ≡ is_label s
 front_tells s None none = sym (false_from_ne_true (is_label s) (λ t. none (length s) (whole_from s (matches_from s label t))))
 front_tells s (Some k) best =

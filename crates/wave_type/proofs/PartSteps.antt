@@ -136,7 +136,7 @@ module _ {A : Type 0} (part : List A → Tokens → Option (A × Tokens)) (mark 
     pub part_behind : (a : A) (m r : Tokens) → part seen ts ≡ Some (a, m) → closed mark m ≡ None → after (codes ",") m ≡ Some r → parts part mark (n - (i + 1)) (seen ++ (a ∷ [])) r ≡ all
     part_behind a m r e c f = sym (goes_on a m e c ∙ ap (λ o. onward o (parts part mark (n - (i + 1)) (seen ++ (a ∷ [])))) f)
 
-  -- where so many were read, no more are
+  -- where this many were read, no more are
   pub parts_end : (n i : ℕ) (seen : List A) (ts : Tokens) (all : Option (List A × Tokens)) → n ≤ i → parts part mark (n - i) seen ts ≡ all → all ≡ None
   parts_end n i seen ts all h known =
       let none : n - i ≡ zero = omega arith in

@@ -29,7 +29,7 @@ by_their_bytes [] (q ∷ qs) = refl
 by_their_bytes (p ∷ ps) [] = refl
 by_their_bytes (p ∷ ps) (q ∷ qs) = ap (λ b. same_part (by_bytes p) (by_bytes q) && b) (by_their_bytes ps qs)
 
--- where the first are one, the second tell
+-- where the first are equal, the second are compared
 pub second_tell : (ps qs rs ss : List (String Global × TypeTree)) (a b : Bool) → a ≡ pointwise same_kept ps qs → a ≡ true → b ≡ pointwise same_kept rs ss → b ≡ (same_parts (map by_bytes ps) (map by_bytes qs) && same_parts (map by_bytes rs) (map by_bytes ss))
 second_tell ps qs rs ss a b first same_first second =
     (second ∙ by_their_bytes rs ss) ∙ ap (λ t. t && same_parts (map by_bytes rs) (map by_bytes ss)) (sym same_first ∙ (first ∙ by_their_bytes ps qs))

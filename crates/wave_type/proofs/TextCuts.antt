@@ -1,4 +1,4 @@
--- The text of a token before a text that is cut is one token more.
+-- The text of a token before a text that is tokenized is one token more.
 use Rattle.std.proofs.Common.{◌≡◌, ◌≢◌, ℕ, ◌≤◌, ◌<◌, ◌+◌, ◌/◌, ◌%◌, ◌^◌, Bool, true, false, nat_eq, nat_lt, zero, suc, List, [], ◌∷◌, ◌++◌, ◌⊎◌, inl, inr, Option, Some, None, refl, sym, ap, subst, ◌∙◌, length, take, drop, arith, append_assoc, length-append, length-take-le, codes}
 use Rattle.std.specs.Prelude.{◌&&◌, ◌||◌, encode_utf8, encode_utf8_all}
 use Rattle.std.specs.Fmt.{decimal}
@@ -33,9 +33,9 @@ use Rattle.wave_lex.proofs.Scanning.{after_all_append, after_all_nothing}
 use Rattle.wave_lex.proofs.Shapes.{and_true, same, same_true, each_below_at, after_past}
 use Rattle.wave_type.specs.TypeSpelling.{Tokens, IsItem, IsCutInto}
 
--- ---- fronts of one text
+-- ---- prefixes of one text
 
--- of two fronts of a text the second is no longer, or goes on behind the first
+-- of two prefixes of a text the second is no longer, or goes on after the first
 goes_on : (cs ds r t : List ℕ) → encode_utf8_all cs ++ r ≡ encode_utf8_all ds ++ t
     → (length (encode_utf8_all ds) ≤ length (encode_utf8_all cs)) ⊎ ((e : ℕ) × (es : List ℕ) × (ds ≡ cs ++ e ∷ es) × (r ≡ encode_utf8 e ++ (encode_utf8_all es ++ t)))
 goes_on [] [] r t e = inl (omega arith)
@@ -51,7 +51,7 @@ goes_on (c ∷ cs) (d ∷ ds) r t e =
       | inr (x, xs, f, g) ↦ inr (x, xs, let same : c ≡ d = s.0 in cc, g)
     ]
 
--- no front goes on behind a text with a scalar that may not follow it
+-- no prefix goes on after a text with a scalar that may not follow it
 stops_here : (p : Regex) (cs es : List ℕ) (e : ℕ) → after e (after_all cs p) ≡ nothing → Matches p (cs ++ e ∷ es) → {A : Type 0} → A
 stops_here p cs es e n h =
     let dead : after_all (cs ++ e ∷ es) p ≡ nothing = after_all_append cs (e ∷ es) p ∙ (ap (after_all es) n ∙ after_all_nothing es) in
@@ -61,7 +61,7 @@ stops_here p cs es e n h =
 abbrev EndsBefore : Regex → List ℕ → List ℕ → Type 0
 EndsBefore p cs r = (e : ℕ) (rest : List ℕ) → r ≡ encode_utf8 e ++ rest → after e (after_all cs p) ≡ nothing
 
--- then no front of the shape is longer
+-- then no prefix of the shape is longer
 no_longer : (p : Regex) (cs r : List ℕ) → EndsBefore p cs r → (j : ℕ) → IsFront p (encode_utf8_all cs ++ r) j → j ≤ length (encode_utf8_all cs)
 no_longer p cs r ends j f =
     let size : length (encode_utf8_all f.scalars) ≡ j = ap length f.spelled ∙ length-take-le j (encode_utf8_all cs ++ r) f.fits in
@@ -70,27 +70,27 @@ no_longer p cs r ends j f =
       | inr (e, es, g, there) ↦ stops_here p cs es e (ends e _ there) (subst (λ (z : List ℕ). Matches p z) g f.has)
     ]
 
--- the text is a front
+-- the text is a prefix
 front_there : (p : Regex) (cs r : List ℕ) → Matches p cs → IsFront p (encode_utf8_all cs ++ r) (length (encode_utf8_all cs))
 front_there p cs r h = record { scalars = cs; fits = omega (arith, length-append (encode_utf8_all cs) r); spelled = sym (take-append_seam (encode_utf8_all cs) r); has = h }
 
--- ---- gaps
+-- ---- whitespace
 
--- where a scalar that begins no gap stands, the gap is empty
+-- where a scalar that begins no whitespace stands, the whitespace is empty
 no_gap : (c : ℕ) (s rest : List ℕ) → s ≡ encode_utf8 c ++ rest → after c gap ≡ nothing → IsGap s 0
 no_gap c s rest b n = (
   record { scalars = []; fits = omega arith; spelled = refl; has = matches_from [] gap refl },
   no_longer gap [] s (λ e more there. ap (λ (z : ℕ). after z gap) (encode_same e c more rest (sym there ∙ b)).0 ∙ n),
 )
 
--- a front of a gap behind a space is a front of the gap, and one byte
+-- a prefix of whitespace after a space is a prefix of the whitespace, and one byte
 behind_space : (s : List ℕ) (j : ℕ) (ds : List ℕ) → encode_utf8_all ds ≡ 32 ∷ take j s → Matches gap ds → (es : List ℕ) × (encode_utf8_all es ≡ take j s) × Matches gap es
 behind_space s j [] e h = cc
 behind_space s j (d ∷ ds) e h =
     let w = encode_same d 32 (encode_utf8_all ds) (take j s) (e ∙ ap (λ (z : List ℕ). z ++ take j s) (sym (encode_ascii 32 (ltb-true 32 128 refl)))) in
     (ds, w.1, after_into 32 gap ds (subst (λ (z : ℕ). Matches gap (z ∷ ds)) w.0 h))
 
--- a space in front of a gap
+-- a space before whitespace
 space_gap : (s : List ℕ) (g : ℕ) → IsGap s g → IsGap (32 ∷ s) (suc g)
 space_gap s g (f, most) = (
   record {
@@ -110,7 +110,7 @@ space_gap s g (f, most) = (
         let m : j ≤ g = most j (record { scalars = es; fits = omega arith; spelled = e; has = k }) in
         omega arith
 
--- a space before a text that is cut
+-- a space before a text that is tokenized
 pub space_cut : (s : List ℕ) (ts : Tokens) → IsCutInto s ts → IsCutInto (32 ∷ s) ts
 space_cut s [] g = space_gap s (length s) g
 space_cut s (t ∷ ts) (g, k, gap_is, item, text, more) = (
@@ -122,11 +122,11 @@ space_cut s (t ∷ ts) (g, k, gap_is, item, text, more) = (
   subst (λ (z : ℕ). IsCutInto (drop z (32 ∷ s)) ts) (let e : suc (g + k) ≡ suc g + k = omega arith in e) more,
 )
 
--- the end is cut into no token
+-- the end has no token
 pub end_cut : IsCutInto [] []
 end_cut = longest_here gap [] 0 refl refl refl refl
 
--- ---- an item before a text that is cut
+-- ---- an item before a text that is tokenized
 
 item_cut : (x r : List ℕ) (ts : Tokens) → IsGap (x ++ r) 0 → IsItem (x ++ r) (length x) → IsCutInto r ts → IsCutInto (x ++ r) (x ∷ ts)
 item_cut x r ts none item cut = (
@@ -203,7 +203,7 @@ paren_open_cut r ts cut = mark_cut class.ParenOpen 40 r ts refl (40, refl, refl)
 pub paren_close_cut : (r : List ℕ) (ts : Tokens) → IsCutInto r ts → IsCutInto (41 ∷ r) (codes ")" ∷ ts)
 paren_close_cut r ts cut = mark_cut class.ParenClose 41 r ts refl (41, refl, refl) refl refl (λ k. tt) cut
 
--- a colon or comma, and the space behind it
+-- a colon or comma, and the space after it
 pub colon_cut : (r : List ℕ) (ts : Tokens) → IsCutInto r ts → IsCutInto (58 ∷ 32 ∷ r) (codes ":" ∷ ts)
 colon_cut r ts cut = mark_cut class.Colon 58 (32 ∷ r) ts refl (58, refl, refl) refl refl (λ k. tt) (space_cut r ts cut)
 
@@ -262,7 +262,7 @@ pub ends_stop : (r : List ℕ) → Ends r → Stops r
 ends_stop [] h = tt
 ends_stop (b ∷ r) h = passes (λ z. is_one_of z stops) (codes " ),>") b refl h
 
--- behind a shape no mark may follow, by computing
+-- after a shape no mark may follow, by computing
 abbrev no_stop : Regex → Bool
 no_stop r = all_pass (λ b. same (after b r) nothing) stops
 
@@ -298,7 +298,7 @@ abbrev is_none : Option Token → Bool
 is_none None = true
 is_none (Some c) = false
 
--- a scalar that begins a token begins no gap
+-- a scalar that begins a token begins no whitespace
 token_no_gap : (x : ℕ) (c : Token) → class_of x ≡ Some c → after x gap ≡ nothing
 token_no_gap x c e =
     elim (cases_lt x 129) as (λ _. after x gap ≡ nothing) [
@@ -311,7 +311,7 @@ token_no_gap x c e =
           after_past gap x 128 refl m n ∙ same_true _ _ refl
     ]
 
--- before a token that stands there the gap is empty
+-- before a token that stands there the whitespace is empty
 gap_before : (c : Token) (cs r : List ℕ) → IsToken (encode_utf8_all cs ++ r) (length (encode_utf8_all cs)) c → Matches (shape c) cs → IsGap (encode_utf8_all cs ++ r) 0
 gap_before c [] r t h = let wrong : false ≡ true = sym (shape_not_empty c) ∙ empty_into (shape c) h in cc
 gap_before c (x ∷ cs) r t h =
@@ -352,7 +352,7 @@ one_digit k l = record {
   plain = λ some. number_steps state.Start (48 + k) ∙ ap (after_next NumberState number_rest) (let e : number_step state.Start (48 + k) ≡ Some state.Whole = grind (arith, nat_tests) in e);
 }
 
--- behind a digit another
+-- after a digit another
 whole_more : (d : ℕ) → d < 10 → after (48 + d) (number_rest state.Whole) ≡ number_rest state.Whole
 whole_more d l = number_steps state.Whole (48 + d) ∙ ap (after_next NumberState number_rest) (let e : number_step state.Whole (48 + d) ≡ Some state.Whole = grind (arith, nat_tests) in e)
 

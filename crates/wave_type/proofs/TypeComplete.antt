@@ -72,7 +72,7 @@ closed_not mark comma m e = or_second (after mark (codes "," ∷ m)) (after mark
 angle : bytes_eq (codes ",") (codes ">") ≡ false
 angle = refl
 
--- a label has no `%` in front
+-- a label has no `%` before it
 not_percent : (c : ℕ) (cs : List ℕ) (b : Bool) → (c == 37) ≡ b → has_no_stop (c ∷ cs) ≡ true → (if b then cs else c ∷ cs) ≡ c ∷ cs
 not_percent c cs true e h =
     let same : c ≡ 37 = grind (arith, nat_tests) in
@@ -114,7 +114,7 @@ count_there n m h = ap (λ o. made o m) (sym (same_count (decimal n) n h ((bytes
 -- ---- parts
 
 module _ {A : Type 0} (Fits : List A → A → Type 0) where
-  -- each part fits behind those before it
+  -- each part fits after those before it
   abbrev pub AllFit : List A → List A → Type 0
   AllFit seen [] = Unit {0}
   AllFit seen (x ∷ xs) = Fits seen x × AllFit (seen ++ (x ∷ [])) xs
@@ -144,7 +144,7 @@ not_in : (ms : List (List ℕ)) (n : List ℕ) (more : List (List ℕ)) (m : Lis
 not_in [] n more m h e = h.0 e
 not_in (k ∷ ms) n more m h e = not_in ms n more m h.1 e
 
--- a name behind others that are all different with it is none of them
+-- a name after others that are all different with it is none of them
 new_behind : (ms : List (List ℕ)) (n : List ℕ) (more : List (List ℕ)) → AreDistinct (ms ++ (n ∷ more)) → is_one_of ms n ≡ false
 new_behind [] n more h = refl
 new_behind (m ∷ ms) n more h = ap (λ b. b || is_one_of ms n) (not_equal n m (bytes_eq n m) refl (λ e. not_in ms n more m h.0 (sym e))) ∙ new_behind ms n more h.1
@@ -337,7 +337,7 @@ fields_parts mark no_fields ts r h = h
 fields_parts mark (field name T no_fields) ts r (t, m, l, e, n, s, c) = (l, (t, m, e, n, s), c)
 fields_parts mark (field name T (field x U more)) ts r (t, m, l, e, n, s, h) = (l, (t, m, e, n, s), fields_parts mark (field x U more) l r h)
 
--- a case stands next, and no payload behind it
+-- a case stands next, and no payload after it
 abbrev IsWholeCase : List ℕ × Option TypeTree → Tokens → Tokens → Type 0
 IsWholeCase c ts r = IsCase c ts r × (after (codes "(") r ≡ None)
 
@@ -400,7 +400,7 @@ names_all : (mark : List ℕ) → IsMark mark → (xs : List (List ℕ)) (ts r :
 names_all mark is xs ts r h d =
     parts_there new_name mark is.comma IsNamed NameFits (λ seen us m a fit (t, e, n). ap (new_name seen) e ∙ new_there seen t a m n fit) (λ a us m (t, e, n). name_stands mark t a us m is e n) xs (length ts) [] ts r (omega (arith, names_shorter mark xs ts r h)) (names_fit [] xs d) (names_parts mark xs ts r h)
 
--- a name more behind those of the parts
+-- a name more after those of the parts
 names_behind : {A : Type 0} (f : A → List ℕ) (seen : List A) (x : A) (more : List (List ℕ)) → AreDistinct (map f seen ++ (f x ∷ more)) → AreDistinct (map f (seen ++ (x ∷ [])) ++ more)
 names_behind f seen x more h = subst AreDistinct (sym (ap (λ l. l ++ more) (map_more f seen x) ∙ append_assoc (map f seen) (f x ∷ []) more)) h
 
@@ -435,7 +435,7 @@ module _ (n : ℕ) where
 
 -- ---- types, where those inside are read
 
--- each type that is spelled, of so many levels, is read
+-- each type that is spelled is read within its levels
 abbrev pub IsComplete : ℕ → Reads → Type 0
 IsComplete n read = (T : TypeTree) (ts r : Tokens) → levels_of T ≤ n → Spells T ts r → read ts ≡ Some (T, r)
 
@@ -471,7 +471,7 @@ module _ (n : ℕ) (read : Reads) (complete : IsComplete n read) where
   angle_not : (m : Tokens) → after (codes ">") m ≡ None → closed (codes ">") (codes "," ∷ m) ≡ None
   angle_not m e = closed_not (codes ">") angle m e
 
-  -- a type behind its word
+  -- a type after its word
   one_there : (T : TypeTree) (ts r : Tokens) → levels_of T ≤ suc n → Spells T ts r → onward (kind_at ts) (λ kind. kind_read read kind.0 kind.1) ≡ Some (T, r)
   one_there (simple S) ts r le h = ap (λ us. onward (kind_at us) (λ kind. kind_read read kind.0 kind.1)) h ∙ simple_there read S r
   one_there (unreadable f32) ts r le h = ap (λ us. onward (kind_at us) (λ kind. kind_read read kind.0 kind.1)) h
@@ -515,7 +515,7 @@ some_level (result A B) = omega arith
 some_level (map_tree K V) = omega arith
 some_level _ = omega arith
 
--- what is spelled within so many levels is read
+-- what is spelled within a number of levels is read within it
 pub read_complete : (n : ℕ) → IsComplete n (type_read n)
 read_complete zero T ts r le h = absurd (omega (arith, some_level T))
 read_complete (suc n) T ts r le h = one_there n (type_read n) (read_complete n) T ts r le h
@@ -542,7 +542,7 @@ low n m false e never = let le : m ≤ n = grind (arith, nat_tests) in absurd (n
 pub more_levels : (n : ℕ) (ts : Tokens) → type_read n ts ≡ None → (T : TypeTree) (r : Tokens) → Spells T ts r → n < levels_of T
 more_levels n ts e T r h = low n (levels_of T) (nat_lt n (levels_of T)) refl (λ le. let wrong : None ≡ Some (T, r) = sym e ∙ read_complete n T ts r le h in cc)
 
--- where tokens are left behind a type, no type is all of them
+-- where tokens are left after a type, no type is all of them
 pub tokens_left : (n : ℕ) (ts r : Tokens) (U : TypeTree) → type_read n ts ≡ Some (U, r) → (r ≡ [] → ⊥) → (T : TypeTree) → Spells T ts [] → n < levels_of T
 tokens_left n ts r U e some T h =
     low n (levels_of T) (nat_lt n (levels_of T)) refl (λ le.

@@ -1,4 +1,4 @@
--- What converting the parts of a type tells of the whole.
+-- What converting the parts of a type says of the whole.
 use Rattle.std.proofs.Common.{ℕ, ◌≡◌, ◌<◌, ◌≤◌, ◌+◌, Bool, true, false, ◌&&◌, Bor, map, drop, length, get_or, append_assoc, append-nil, if◌then◌else◌, Option, Some, None, List, [], ◌∷◌, ◌++◌, refl, sym, ap, ◌∙◌}
 use Rattle.std.specs.List.{list_all}
 use Rattle.wave_wasm.specs.Types as type

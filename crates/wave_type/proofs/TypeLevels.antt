@@ -1,4 +1,4 @@
--- What is read within so many levels has no more.
+-- What is read within a number of levels has no more.
 use Rattle.std.proofs.Common.{◌≡◌, ℕ, zero, suc, ◌≤◌, List, [], ◌∷◌, inl, inr, Option, Some, None, refl, sym, subst, arith, length, codes}
 use Rattle.wave_wasm.specs.declared.wasm.WasmTypeKind.{WasmTypeKind}
 use Rattle.wave_wasm.specs.declared.wasm.WasmTypeKind.TheVariants as kinds
@@ -13,7 +13,7 @@ use Rattle.wave_type.specs.Private.TypeReading.{with, after, closed, kind_at, ne
 use Rattle.wave_type.proofs.FunctionsRead.{Parts, unwrapped}
 use Rattle.wave_type.proofs.TypeReading.{onward_back, or_back, with_back, made_back, AreParts, parts_back, tuple_made, record_made, variant_made, enum_made, flags_made, key_back, map_made}
 
--- what is read has so many levels at most
+-- what is read has that many levels at most
 abbrev pub IsLow : ℕ → Reads → Type 0
 IsLow n read = (ts : Tokens) (b : TypeTree × Tokens) → read ts ≡ Some b → levels_of b.0 ≤ n
 
@@ -184,7 +184,7 @@ module _ (n : ℕ) (read : Reads) (low : IsLow n read) where
   kind_low kinds.FixedLengthList ts b e = absurd (cc)
   kind_low kinds.Unsupported ts b e = absurd (cc)
 
--- what is read within so many levels has so many at most
+-- what is read within a number of levels has no more
 pub read_low : (n : ℕ) → IsLow n (type_read n)
 read_low zero ts b e = absurd (cc)
 read_low (suc n) ts b e = let p = onward_back (kind_at ts) _ b e in kind_low n (type_read n) (read_low n) p.0.0 p.0.1 b p.2
@@ -220,6 +220,6 @@ module _ (n : ℕ) (read : Reads) (low : IsLow n read) where
       let second = results_low ps.0.1 (after (codes "-") ps.0.1) rs.0 rs.1 in
       subst (λ (z : FunctionType × Tokens). levels_of_function z.0 ≤ n) same (omega (arith, first, second))
 
--- the types in what is read of a function have so many levels at most
+-- the types in what is read of a function have that many levels at most
 pub function_low : (n : ℕ) (ts r : Tokens) (f : FunctionType) → function_read (type_read n) ts ≡ Some (f, r) → levels_of_function f ≤ n
 function_low n ts r f e = function_low_in n (type_read n) (read_low n) ts (f, r) e

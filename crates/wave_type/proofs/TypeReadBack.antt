@@ -1,4 +1,4 @@
--- The text of a type is cut into tokens that spell the type.
+-- The text of a type has tokens that spell the type.
 use Rattle.std.proofs.Common.{◌≡◌, ℕ, ◌<◌, ◌^◌, true, false, List, [], ◌∷◌, ◌++◌, inl, Option, refl, sym, ap, subst, arith, codes, append_assoc, get_or, map}
 use Rattle.std.specs.Fmt.{decimal}
 use Rattle.std.proofs.lemmas.Bool.{false≢true, and_parts, ltb-true}
@@ -32,7 +32,7 @@ paren_alone us e = let same : 41 ≡ 60 = ap (λ (l : List ℕ). get_or l 0 0) e
 brace_alone : (us : Tokens) → StandsAlone (codes "}" ∷ us)
 brace_alone us e = let same : 125 ≡ 60 = ap (λ (l : List ℕ). get_or l 0 0) e in omega (arith, same)
 
--- before the end or what may follow a type, behind which a cut is known, the text is cut into tokens that spell the item
+-- before the end or what may follow a type, after which the tokens are known, the text has tokens that spell the item
 abbrev pub Prints : (Tokens → Tokens → Type 0) → List ℕ → Type 0
 Prints Item x = (r : List ℕ) (us : Tokens) → Ends r → StandsAlone us → IsCutInto r us → (ts : Tokens) × IsCutInto (x ++ r) ts × Item ts us
 

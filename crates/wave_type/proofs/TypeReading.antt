@@ -176,7 +176,7 @@ other_back : (n m : List ℕ) (a b : Bool) → bytes_eq n m ≡ a → (a || b) �
 other_back n m true b h e = absurd (cc)
 other_back n m false b h e = ((λ same. let wrong : true ≡ false = sym ((bytes_eq-Decides n m).1 same) ∙ h in cc), e)
 
--- behind other names that are all different, a new one
+-- after other names that are all different, a new one
 none_more : (m n : List ℕ) (ms : List (List ℕ)) → IsNoneOf ms m → (n ≢ m) → IsNoneOf (ms ++ (n ∷ [])) m
 none_more m n [] h new = ((λ e. new (sym e)), tt)
 none_more m n (k ∷ ms) h new = (h.0, none_more m n ms h.1 new)
@@ -267,7 +267,7 @@ names_back mark ts b e =
       distinct = subst AreDistinct (map_self b.0) (distinct_back new_name mark (λ x. x) (λ seen ts b e. subst (λ z. is_one_of z b.0 ≡ false) (sym (map_self seen)) (new_back seen ts b e).new) (length ts) [] ts b tt e);
     }
 
--- ---- what the makers make
+-- ---- what the constructors make
 
 pub tuple_made : (Ts : List TypeTree) (T : TypeTree) → tuple_type Ts ≡ Some T → T ≡ tuple (types_of Ts)
 tuple_made [] T e = absurd (cc)
@@ -530,7 +530,7 @@ module _ (read : Reads) (sound : IsSound read) where
   kind_back kinds.FixedLengthList ts b e = absurd (cc)
   kind_back kinds.Unsupported ts b e = absurd (cc)
 
--- what is read within so many levels is spelled
+-- what is read within a number of levels is spelled
 pub read_sound : (n : ℕ) → IsSound (type_read n)
 read_sound zero ts b e = absurd (cc)
 read_sound (suc n) ts b e =

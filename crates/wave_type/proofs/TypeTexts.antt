@@ -1,4 +1,4 @@
--- The text of a type tells the type.
+-- The text of a type determines the type.
 use Rattle.std.proofs.Common.{◌≡◌, ℕ, Bool, true, false, List, [], ◌∷◌, ◌++◌, refl, sym, ap, subst, ◌∙◌, arith, drop, codes, append_assoc}
 use Rattle.std.specs.Prelude.{◌&&◌, ◌||◌, ◌==◌, ◌^◌, ◌<◌, nat_lt}
 use Rattle.std.specs.Fmt.{decimal}
@@ -245,7 +245,7 @@ as_followed [] ys r s h k e = absurd (false≢true h)
 as_followed (x ∷ xs) [] r s h k e = absurd (false≢true k)
 as_followed (x ∷ xs) (y ∷ ys) r s h k e = ap (λ z. 44 ∷ 32 ∷ z) e
 
--- names behind commas, up to a space
+-- names after commas, up to a space
 names_tell : (ms ns : List (List ℕ)) (r s : List ℕ) → AllOf IsLabel ms → AllOf IsLabel ns → followed ms ++ (32 ∷ r) ≡ followed ns ++ (32 ∷ s) → (ms ≡ ns) × (r ≡ s)
 names_tell [] [] r s h k e = (refl, ap (drop 1) e)
 names_tell [] (n ∷ ns) r s h k e = absurd (omega (arith, first_of e))
@@ -264,12 +264,12 @@ braced_tell ms ns r s h k l m e =
 
 -- ---- the payloads of a result
 
--- the text of the payload's type tells it, where there is one
+-- the text of the payload's type determines it, where there is one
 abbrev MaybeTells : MaybeType → Type 0
 MaybeTells no_type = Unit {0}
 MaybeTells (a_type T) = (U : TypeTree) (r s : List ℕ) → IsTold T → IsTold U → Ends r → Ends s → type_text T ++ r ≡ type_text U ++ s → (T ≡ U) × (r ≡ s)
 
--- what stands behind the word `result`, and what follows that
+-- what stands after the word `result`, and what follows that
 abbrev behind_result : MaybeType → MaybeType → List ℕ → List ℕ
 behind_result no_type no_type r = r
 behind_result (a_type A) no_type r = codes "<" ++ (type_text A ++ (62 ∷ r))
@@ -320,7 +320,7 @@ in_angles : (x y r s : List ℕ) → (x ++ codes ">") ++ r ≡ (y ++ codes ">") 
 in_angles x y r s e = regroup x (codes ">") r y (codes ">") s e
 
 mutual
-  -- a type's text tells the type and what follows it
+  -- a type's text determines the type and what follows it
   tells : (T U : TypeTree) (r s : List ℕ) → IsTold T → IsTold U → Ends r → Ends s → type_text T ++ r ≡ type_text U ++ s → (T ≡ U) × (r ≡ s)
   tells (type.simple S) (type.simple R) r s h k a b e =
       let p = one_front (kind_word (simple_kind S)) (kind_word (simple_kind R)) r s (simple_word S) (simple_word R) (ends_stop r a) (ends_stop s b) e in
@@ -400,7 +400,7 @@ mutual
       let p = tells T U (41 ∷ r) (41 ∷ s) h k refl refl (regroup (type_text T) (codes ")") r (type_text U) (codes ")") s (ap (drop 1) e)) in
       (ap a_type p.0, ap (drop 1) p.1)
 
-  -- types behind commas, up to `>`
+  -- types after commas, up to `>`
   types_tell : (Ts Us : Types) (r s : List ℕ) → AreToldTypes Ts → AreToldTypes Us → followed (type_texts Ts) ++ (62 ∷ r) ≡ followed (type_texts Us) ++ (62 ∷ s) → (Ts ≡ Us) × (r ≡ s)
   types_tell no_types no_types r s h k e = (refl, ap (drop 1) e)
   types_tell no_types (type_and U Us) r s h k e = absurd (omega (arith, first_of e))
@@ -413,7 +413,7 @@ mutual
       let q = types_tell Ts Us r s f.1 g.1 p.1 in
       ((λ i. type_and (p.0 i) (q.0 i)), q.1)
 
-  -- fields behind commas, up to a space
+  -- fields after commas, up to a space
   fields_tell : (fs gs : Fields) (r s : List ℕ) → AreToldFields fs → AreToldFields gs → followed (field_texts fs) ++ (32 ∷ r) ≡ followed (field_texts gs) ++ (32 ∷ s) → (fs ≡ gs) × (r ≡ s)
   fields_tell no_fields no_fields r s h k e = (refl, ap (drop 1) e)
   fields_tell no_fields (field m U gs) r s h k e = absurd (omega (arith, first_of e))
@@ -429,7 +429,7 @@ mutual
       let q = fields_tell fs gs r s f.1.1 g.1.1 p.1 in
       ((λ i. field (o.0 i) (p.0 i) (q.0 i)), q.1)
 
-  -- cases behind commas, up to a space
+  -- cases after commas, up to a space
   cases_tell : (cs ds : Cases) (r s : List ℕ) → AreToldCases cs → AreToldCases ds → followed (case_texts cs) ++ (32 ∷ r) ≡ followed (case_texts ds) ++ (32 ∷ s) → (cs ≡ ds) × (r ≡ s)
   cases_tell no_cases no_cases r s h k e = (refl, ap (drop 1) e)
   cases_tell no_cases (case_of m Q ds) r s h k e = absurd (omega (arith, first_of e))
@@ -449,6 +449,6 @@ mutual
       let q = cases_tell cs ds r s f.1.1 g.1.1 p.1 in
       ((λ i. case_of (o.0 i) (p.0 i) (q.0 i)), q.1)
 
--- the text of a type tells the type
+-- the text of a type determines the type
 pub text_tells : (T : TypeTree) → IsOwn T → HasLabels T → TypeTextTells T
 text_tells T own labels U other_own other_labels e = (tells T U [] [] (own, labels) (other_own, other_labels) tt tt (ap (λ z. z ++ []) e)).0

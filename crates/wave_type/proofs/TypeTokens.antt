@@ -31,7 +31,7 @@ no_item_left s g k a b (inr t) =
     let fits : k ≤ length (drop g s) = t.1.0.fits in
     omega (arith, length-drop g s)
 
--- a text is cut in one way
+-- a text is tokenized in one way
 pub one_cut : (ts us : Tokens) (s : List ℕ) → IsCutInto s ts → IsCutInto s us → ts ≡ us
 one_cut [] [] s a b = refl
 one_cut [] (u ∷ us) s a (g, k, gap, item, e, more) = absurd (no_item_left s g k a gap item)
@@ -55,13 +55,13 @@ passed_text l m g k p =
     ap (λ (z : ℕ). drop z m.source) p.start ∙ (ap (λ (z : List ℕ). drop (l.end + g) z) p.source ∙ sym (drop-drop g l.end l.source)) in
     ap (λ (z : ℕ). take z (drop m.start m.source)) size ∙ ap (λ (z : List ℕ). take k z) there
 
--- what is left behind it
+-- what is left after it
 passed_rest : (l m : Lexed) (g k : ℕ) → Passes l m g k → remainder_of m ≡ drop (g + k) (remainder_of l)
 passed_rest l m g k p =
     let place : m.end ≡ l.end + (g + k) = omega (arith, p.end) in
     ap (λ (z : ℕ). drop z m.source) place ∙ (ap (λ (z : List ℕ). drop (l.end + (g + k)) z) p.source ∙ sym (drop-drop (g + k) l.end l.source))
 
--- an item in front of a cut
+-- an item before a text that is tokenized
 pub next_cut : (l m : Lexed) (item : Result Token (Range ℕ)) (ts : Tokens) → NextIs l m (Some item) → IsCutInto (remainder_of m) ts → IsCutInto (remainder_of l) (slice_range m.source m.start m.end ∷ ts)
 next_cut l m (Ok c) ts (g, k, p, is) cut = (g, k, p.skipped, inl (c, is), passed_text l m g k p, subst (λ z. IsCutInto z ts) (passed_rest l m g k p) cut)
 next_cut l m (Err bad) ts (g, k, p, is, at) cut = (g, k, p.skipped, inr is, passed_text l m g k p, subst (λ z. IsCutInto z ts) (passed_rest l m g k p) cut)

@@ -12,7 +12,7 @@ abbrev pub SpellsParts : List (List ℕ × TypeTree) → Tokens → Tokens → T
 SpellsParts [] ts rest = ts ≡ codes ")" ∷ rest
 SpellsParts (part ∷ parts) ts rest = SpellsFields (codes ")") (fields_of (part ∷ parts)) ts rest × AreDistinct (field_names (fields_of (part ∷ parts)))
 
--- what stands behind the parameters: nothing, `->` and a type, or `->` and names and types in parentheses
+-- what stands after the parameters: nothing, `->` and a type, or `->` and names and types in parentheses
 abbrev pub SpellsResults : List (List ℕ × TypeTree) → Tokens → Type 0
 SpellsResults [] ts = ts ≡ []
 SpellsResults (([], T) ∷ []) ts = (m : Tokens) × (ts ≡ codes "-" ∷ codes ">" ∷ m) × Spells T m []
@@ -31,10 +31,10 @@ IsFunctionOf text f = (ts : Tokens) × IsCutInto text ts × SpellsFunction f ts
 abbrev pub levels_of_function : FunctionType → ℕ
 levels_of_function f = max (levels_of_fields (fields_of f.params)) (levels_of_fields (fields_of f.results))
 
--- the tokens spell no function within so many levels
+-- the tokens spell no function within `levels` levels
 abbrev pub SpellsNoFunction : ℕ → Tokens → Type 0
 SpellsNoFunction levels ts = (f : FunctionType) → SpellsFunction f ts → levels < levels_of_function f
 
--- the text spells no function within a hundred levels, or memory was wanting
+-- the text spells no function within a hundred levels, or there was no memory
 abbrev pub IsNoFunction : List ℕ → TypeErrorKind → Type 0
 IsNoFunction text kind = (kind ≡ OutOfMemory) ⊎ ((f : FunctionType) → IsFunctionOf text f → 100 < levels_of_function f)

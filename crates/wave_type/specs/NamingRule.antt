@@ -22,6 +22,6 @@ naming_fault f =
     then Some (other (codes "funcs with more than one result must have all results named"))
     else None
 
--- the names are refused for this cause, or for want of memory in its place
+-- the names are refused for this cause, or for lack of memory in its place
 abbrev pub RefusesNames : FunctionType → Cause → Type 0
 RefusesNames f cause = MatchOption (naming_fault f) ⊥ (λ fault. (cause ≡ fault) ⊎ (cause ≡ memory))

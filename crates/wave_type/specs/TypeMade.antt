@@ -1,4 +1,4 @@
--- What the makers of types answer: none where there are no parts, or where the key of a map isn't simple.
+-- What the constructors of types answer: none where there are no parts, or where the key of a map isn't simple.
 use Rattle.std.specs.Prelude.{ℕ, List, [], ◌∷◌, Option, Some, None}
 use Rattle.wave_wasm.specs.declared.wasm.WasmTypeKind.{WasmTypeKind}
 use Rattle.wave_wasm.specs.declared.wasm.WasmTypeKind.TheVariants as kinds

@@ -19,11 +19,11 @@ Tokens = List (List ℕ)
 
 -- ---- the tokens of a text
 
--- k bytes at the front of s are the longest token of the encoding, or what stands where it has none, as `<`
+-- k bytes at the start of s are the longest token of the encoding, or what stands where it has none, as `<`
 abbrev pub IsItem : List ℕ → ℕ → Type 0
 IsItem s k = ((class : Token) × IsLongestToken s k class) ⊎ IsInvalid s k
 
--- the text is gap, item, gap, item, and so on, and a gap behind the last
+-- the text is whitespace, item, whitespace, item, and so on, and whitespace after the last
 abbrev pub IsCutInto : List ℕ → Tokens → Type 0
 IsCutInto s [] = IsGap s (length s)
 IsCutInto s (t ∷ ts) = (g : ℕ) × (k : ℕ) × IsGap s g × IsItem (drop g s) k × (t ≡ take k (drop g s)) × IsCutInto (drop (g + k) s) ts
@@ -34,7 +34,7 @@ IsCutInto s (t ∷ ts) = (g : ℕ) × (k : ℕ) × IsGap s g × IsItem (drop g s
 abbrev pub Names : List ℕ → List ℕ → Type 0
 Names t name = IsLabel name × ((t ≡ name) ⊎ (t ≡ codes "%" ++ name))
 
--- the mark stands next, perhaps behind a comma
+-- the mark stands next, perhaps after a comma
 abbrev pub Closes : List ℕ → Tokens → Tokens → Type 0
 Closes mark ts rest = (ts ≡ mark ∷ rest) ⊎ (ts ≡ codes "," ∷ mark ∷ rest)
 
@@ -142,10 +142,10 @@ abbrev mutual
   levels_of_cases no_cases = 0
   levels_of_cases (case_of name payload more) = max (levels_of_payload payload) (levels_of_cases more)
 
--- the tokens spell no type within so many levels
+-- the tokens spell no type within `levels` levels
 abbrev pub SpellsNone : ℕ → Tokens → Type 0
 SpellsNone levels ts = (T : TypeTree) → Spells T ts [] → levels < levels_of T
 
--- the text spells no type within a hundred levels, or memory was wanting
+-- the text spells no type within a hundred levels, or there was no memory
 abbrev pub IsNoType : List ℕ → TypeErrorKind → Type 0
 IsNoType text kind = (kind ≡ OutOfMemory) ⊎ ((T : TypeTree) → IsTypeOf text T → 100 < levels_of T)

@@ -1,4 +1,4 @@
--- What the text of a type tells.
+-- What the text of a type determines.
 use Rattle.std.specs.Prelude.{◌≡◌}
 use Rattle.wave_wasm.specs.Types.{TypeTree, IsOwn}
 use Rattle.wave_wasm.specs.TypeText.{type_text}

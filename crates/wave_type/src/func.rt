@@ -43,7 +43,7 @@ impl FuncType {
     /// The type of a function with these parameters and results, by their names and types. Any name
     /// is taken that isn't empty; an empty name means that there is none. An unnamed parameter is
     /// refused, which is tested first, and so is an unnamed result among two or more, both as
-    /// `Other`. Memory is taken for the text of such a refusal alone, and where it is wanting
+    /// `Other`. Memory is taken for the text of such a refusal alone, and where there is none
     /// `Memory` is answered in its place.
     pub fn new(
         alloc: Global,

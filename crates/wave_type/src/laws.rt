@@ -13,7 +13,7 @@ ghost use Rattle.wave_type.specs.TypeEquality.{same_tree};
 ghost use Rattle.wave_type.specs.TypeSpelling.{IsTypeOf};
 ghost use Rattle.wave_type.specs.TypeTexts.{TypeTextTells};
 
-/// The text of a type tells the type: two types that `Type` has, with labels for names, have one
+/// The text of a type determines the type: two types that `Type` has, with labels for names, have one
 /// text only where they are one.
 pub fn type_text_injective()
     ensures { (T : TypeTree) → IsOwn T → HasLabels T → TypeTextTells T }

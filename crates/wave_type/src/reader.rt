@@ -305,7 +305,7 @@ impl<'tokens, 'text> Reader<'tokens, 'text> {
         Err(self.refusal())
     }
 
-    /// Takes a type, within so many levels.
+    /// Takes a type, within `levels` levels.
     #[cycle(types)]
     pub(crate) fn ty(&mut self, alloc: Global, levels: usize) -> Result<Type, TypeErrorKind>
         ensures { Answers (λ ty. ty) result self.new (type_read levels self.old) }
@@ -317,7 +317,7 @@ impl<'tokens, 'text> Reader<'tokens, 'text> {
         self.of_kind(alloc, kind, levels - 1)
     }
 
-    /// Takes what stands after the word of a kind, whose parts are within so many levels.
+    /// Takes what stands after the word of a kind, whose parts are within `levels` levels.
     #[cycle(types)]
     fn of_kind(
         &mut self,

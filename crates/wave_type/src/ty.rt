@@ -217,7 +217,7 @@ impl Type {
         })
     }
 
-    /// The result type of these payload types, where there are such. The only error is want of
+    /// The result type of these payload types, where there are such. The only error is out of
     /// memory.
     pub fn result(alloc: Global, ok: Option<Type>, err: Option<Type>) -> Result<Type, AllocError>
         ensures { IfOk result (λ t. t ≡ type.result (maybe_type ok) (maybe_type err)) }
@@ -229,7 +229,7 @@ impl Type {
         })
     }
 
-    /// The tuple type of these types; none where there is no type. The only error is want of
+    /// The tuple type of these types; none where there is no type. The only error is out of
     /// memory.
     pub fn tuple(alloc: Global, types: Vec<Type>) -> Result<Option<Type>, AllocError>
         ensures { IfOk result (λ r. r ≡ tuple_type types.items) }
@@ -263,7 +263,7 @@ impl Type {
     }
 
     /// The variant type of these cases, by their names and payload types; none where there is
-    /// no case. Any names are taken: `names_are_labels` tests them. The only error is want of
+    /// no case. Any names are taken: `names_are_labels` tests them. The only error is out of
     /// memory.
     pub fn variant(
         alloc: Global,

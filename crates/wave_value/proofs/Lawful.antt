@@ -47,7 +47,7 @@ made_leaf one v sound e =
 pub well_formed : (v : TypedValue) → IsTyped v → IsWellFormed v.tree
 well_formed v h = formed v.own v.tree h
 
--- a maker that refuses nothing
+-- a constructor that refuses nothing
 pub made_only : (one : Leaf) (r : Result TypedValue WasmValueError) → MakesOnly one r → IfOk r (MakesLeaf (λ v. v.tree) (λ v T. IsAt T v) one)
 made_only one (Ok v) h = made_leaf one v h.1 h.0
 made_only one (Err e) h = absurd h
@@ -56,7 +56,7 @@ pub never_refused : (one : Leaf) (r : Result TypedValue WasmValueError) → Make
 never_refused one (Ok v) h = tt
 never_refused one (Err e) h = absurd h
 
--- a refusal for want of memory alone is lawful
+-- a refusal for lack of memory alone is lawful
 pub full_leaf : (one : Leaf) (e : WasmValueError) → IsMemory e → FullLeaf IsFull one e
 full_leaf one e h = λ full. h
 
@@ -70,7 +70,7 @@ lawful asked T v m = record { means = m.tree; fits = m.fits; is_of = record { ow
 pub made_where : {D : Type 0} (asked : Value) (T : TypeTree) (v : TypedValue) → Made asked T v → D → Makes (λ (v : TypedValue). v.tree) (λ v T. IsAt T v) asked T v
 made_where asked T v m = λ distinct. lawful asked T v m
 
--- parts of the stated types are refused for want of memory alone
+-- parts of the stated types are refused for lack of memory alone
 abbrev pub IsAsStated : TypeTree × TypedValue → Type 0
 IsAsStated p = p.1.own ≡ p.0
 
@@ -89,7 +89,7 @@ own_stated : (E : TypeTree) (vs : List TypedValue) → AllOwn E vs → AllOf IsA
 own_stated E [] h = tt
 own_stated E (v ∷ vs) h = (h.0, own_stated E vs h.1)
 
--- items that are taken are refused for want of memory alone
+-- items that are taken are refused for lack of memory alone
 pub list_memory : (words : TypedValue → List ℕ) (T : TypeTree) (vs : List TypedValue) (e : WasmValueError) → TakesList T vs → RefusesList words T vs e → IsMemory e
 list_memory words (type.list E) vs (error.WrongTypeKind k t) h r = absurd (r.1.0 refl)
 list_memory words (type.list E) vs (error.WrongNumberOfElements want got) h r = absurd (cc r.0)
@@ -147,7 +147,7 @@ full_tuple words T vs e r = λ full Ts is h. tuple_memory words Ts vs e h (subst
 
 -- ---- results
 
--- a payload as it is stated is refused for want of memory alone
+-- a payload as it is stated is refused for lack of memory alone
 pub payload_memory : (words : TypedValue → List ℕ) (n : List ℕ) (P : Option TypeTree) (p : Option TypedValue) (e : WasmValueError) → PayloadIsOf (λ v T. IsAt T v) P p → RefusesPayload words n P p e → IsMemory e
 payload_memory words n None None (error.MissingPayload m) h r = absurd r.1
 payload_memory words n (Some T) (Some v) (error.MissingPayload m) h r = absurd r.1

@@ -239,7 +239,7 @@ record_memory words fs given (error.WrongValueType s t) d own known (is, other) 
 record_memory words fs given (error.Memory m) d own known r = tt
 record_memory words fs given _ d own known r = absurd r.1
 
--- fields of the stated types are refused for want of memory alone
+-- fields of the stated types are refused for lack of memory alone
 pub full_record : (words : TypedValue → List ℕ) (T : TypeTree) (fields : List (Bor (List ℕ) × TypedValue)) (e : WasmValueError) → RefusesRecord words T (named fields) e → FullRecord (λ v T. IsAt T v) IsFull T fields e
 full_record words T fields e r = λ full fs is different ordered moved h.
     let distinct : HasDistinctNames (type.record_type fs) = subst HasDistinctNames is full in

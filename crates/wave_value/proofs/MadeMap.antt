@@ -1,4 +1,4 @@
--- What the maker of maps makes and refuses.
+-- What the constructor of maps makes and refuses.
 use Rattle.std.proofs.Common.{ℕ, zero, suc, ◌≡◌, ◌<◌, List, [], ◌∷◌, length, get_or, refl, sym, ap, subst, ◌∙◌, arith, inl, inr, Some}
 use Rattle.std.proofs.lemmas.Option.{same_Some}
 use Rattle.wave_wasm.specs.Lists.{SomeOf}

@@ -1,4 +1,4 @@
--- What the maker of records makes and refuses.
+-- What the constructor of records makes and refuses.
 use Rattle.std.proofs.Common.{ℕ, zero, suc, ◌≡◌, ◌≢◌, ◌<◌, ◌≤◌, ◌+◌, ◌⊎◌, inl, inr, Bool, true, false, ◌||◌, List, [], ◌∷◌, ◌++◌, map, length, take, get_or, refl, sym, ap, subst, ◌∙◌, arith, rules, Option, Some, None, cond, Bor, String, string_bytes}
 use Rattle.std.specs.Option.{option_or}
 use Rattle.std.specs.BTreeMap as tree
@@ -165,7 +165,7 @@ taking_more xs i f n under m new vs v lt is called t some at u =
     subst (λ fs. Taking fs under (held new) (vs ++ v ∷ [])) (sym more)
     (taking_push (map by_bytes (take i xs)) under (held m) (held new) vs (by_bytes f) v t (subst (λ k. held m k ≡ Some v) called some) at step)
 
--- ---- behind the loop
+-- ---- after the loop
 
 whole_taken : (xs ys : List (String Global × TypeTree)) (i : ℕ) (under now : List ℕ → Option TypedValue) (vs : List TypedValue) → xs ≡ ys → length xs ≤ i → Taking (map by_bytes (take i xs)) under now vs → Taking (map by_bytes ys) under now vs
 whole_taken xs ys i under now vs same le t = subst (λ zs. Taking (map by_bytes zs) under now vs) (take_all i xs le ∙ same) t

@@ -1,4 +1,4 @@
--- What the maker of results refuses.
+-- What the constructor of results refuses.
 use Rattle.std.proofs.Common.{ℕ, ◌≡◌, List, Option, Some, None}
 use Rattle.std.specs.Borrow.{Bor}
 use Rattle.wave_wasm.specs.Borrowed.{shown}

@@ -1,4 +1,4 @@
--- What the maker of tuples makes and refuses.
+-- What the constructor of tuples makes and refuses.
 use Rattle.std.proofs.Common.{ℕ, zero, suc, ◌≡◌, ◌<◌, ◌≤◌, ◌+◌, List, [], ◌∷◌, length, take, get_or, refl, sym, ap, subst, ◌∙◌, arith, inl, inr, Some}
 use Rattle.std.specs.Prelude.{string_bytes}
 use Rattle.std.proofs.Math.Numerals.{add-one}

@@ -1,4 +1,4 @@
--- What the maker of records makes of fields that are handed in as the type has them.
+-- What the constructor of records makes of fields that are handed in as the type has them.
 use Rattle.std.proofs.Common.{ℕ, zero, suc, ◌≡◌, ◌≢◌, ◌<◌, ◌+◌, Bool, true, false, List, [], ◌∷◌, ◌++◌, map, length, take, get_or, refl, sym, ap, subst, ◌∙◌, arith, Option, Some, None, Bor, String, string_bytes}
 use Rattle.std.specs.Option.{option_or}
 use Rattle.std.specs.Prelude.{if◌then◌else◌, not}

@@ -1,4 +1,4 @@
--- What the view of a record answers is what the maker of records takes at the value's own type.
+-- What the view of a record answers is what the constructor of records takes at the value's own type.
 use Rattle.std.proofs.Common.{ℕ, ◌≡◌, Bool, true, false, List, [], ◌∷◌, map, Option, Some, None, Result, Ok, Err, IfOk, Bor, refl, sym, ap, subst}
 use Rattle.std.specs.Option.{option_or}
 use Rattle.std.specs.Prelude.{if◌then◌else◌}
@@ -22,7 +22,7 @@ pub both_ok : {A E : Type 0} (r : Result A E) (P Q R : A → Type 0) → ((v : A
 both_ok (Ok v) P Q R so p q = so v p q
 both_ok (Err e) P Q R so p q = tt
 
--- each value is behind the name of its field, and of its field's type
+-- each value is after the name of its field, and of its field's type
 abbrev Aligned : List (List ℕ × TypeTree) → List (List ℕ × TypedValue) → Type 0
 Aligned [] [] = Unit {0}
 Aligned (f ∷ fs) (g ∷ gs) = (g.0 ≡ f.0) × (g.1.own ≡ f.1) × Aligned fs gs

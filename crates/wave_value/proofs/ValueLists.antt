@@ -43,7 +43,7 @@ pub map_back : (T : TypeTree) (es : List (TypedValue × TypedValue)) → MapFits
 map_back (type.map K V) es h = entries_back K V es h
 map_back _ es h = absurd h
 
--- one more value behind its name
+-- one more value after its name
 beside_next : (names : List (List ℕ)) (vs : List TypedValue) (i : ℕ) (v : TypedValue) → i < length vs → v ≡ get_or vs i v → beside names (trees (take (suc i) vs)) ≡ beside names (trees (take i vs)) ++ (get_or names i [], v.tree) ∷ []
 beside_next names [] i v lt is = absurd (omega (arith, lt))
 beside_next [] (w ∷ vs) zero v lt is = λ i. ([], (sym is i).tree) ∷ []
@@ -54,7 +54,7 @@ beside_next (n ∷ names) (w ∷ vs) (suc i) v lt is = ap (λ ps. (n, w.tree) �
 pub beside_more : (names : List (List ℕ)) (vs : List TypedValue) (i : ℕ) (v : TypedValue) → i < length vs → v ≡ get_or vs i v → beside names (trees (take (i + 1) vs)) ≡ beside names (trees (take i vs)) ++ (get_or names i [], v.tree) ∷ []
 beside_more names vs i v lt is = rw add-one (beside_next names vs i v lt is)
 
--- one more value behind its name, at a turn of a loop
+-- one more value after its name, at a turn of a loop
 pub fields_turn : (names : List (List ℕ)) (vs : List TypedValue) (i : ℕ) (v : TypedValue) (n : List ℕ) → i < length vs → v ≡ get_or vs i v → n ≡ get_or names i [] → beside names (trees (take i vs)) ++ (n, v.tree) ∷ [] ≡ beside names (trees (take (i + 1) vs))
 fields_turn names vs i v n lt is called = ap (λ m. beside names (trees (take i vs)) ++ (m, v.tree) ∷ []) called ∙ sym (beside_more names vs i v lt is)
 

@@ -1,4 +1,4 @@
--- What the views of a value answer is what its maker takes at the value's own type.
+-- What the views of a value answer is what its constructor takes at the value's own type.
 use Rattle.std.proofs.Common.{ℕ, zero, suc, ◌≡◌, List, [], ◌∷◌, Option, refl, inl, inr, subst, sym}
 use Rattle.wave_wasm.specs.Types as type
 use Rattle.wave_wasm.specs.Types.{TypeTree, variant_parts}

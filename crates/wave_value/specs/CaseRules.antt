@@ -1,4 +1,4 @@
--- What the makers of variants, flags and maps accept, and what their refusals say.
+-- What the constructors of variants, flags and maps accept, and what their refusals say.
 use Rattle.std.specs.Prelude.{ℕ, ◌≡◌, ◌≢◌, ◌⊎◌, List, [], ◌∷◌, map, Option, string_bytes}
 use Rattle.wave_wasm.specs.Lists.{AllOf}
 use Rattle.wave_wasm.specs.Names.{IsOneOf, IsNoneOf, AreAllOf}
@@ -25,7 +25,7 @@ IsFirstCase (c ∷ cs) name P = ((name ≡ c.0) × (P ≡ c.1)) ⊎ ((name ≢ c
 abbrev pub TakesVariant : TypeTree → List ℕ → Option TypedValue → Type 0
 TakesVariant T name payload = (P : Option TypeTree) × IsFirstCase (variant_parts T) name P × PayloadOwn P payload
 
--- a type of another kind, a name that is no case, a payload that the first case of this name doesn't take, or want of memory
+-- a type of another kind, a name that is no case, a payload that the first case of this name doesn't take, or out of memory
 abbrev pub RefusesVariant : (TypedValue → List ℕ) → TypeTree → List ℕ → Option TypedValue → WasmValueError → Type 0
 RefusesVariant words T name payload (error.WrongTypeKind k t) = TellsKind kinds.Variant T k (string_bytes t)
 RefusesVariant words T name payload (error.UnknownCase n) =
@@ -36,7 +36,7 @@ RefusesVariant words T name payload e =
 
 -- ---- flags
 
--- one of the names handed over is none of these names, or want of memory
+-- one of the names handed over is none of these names, or out of memory
 abbrev pub RefusesNames : List (List ℕ) → List (List ℕ) → WasmValueError → Type 0
 RefusesNames names handed (error.UnknownCase n) = IsOneOf handed (string_bytes n) × IsNoneOf names (string_bytes n)
 RefusesNames names handed (error.Memory e) = Unit {0}
@@ -46,7 +46,7 @@ RefusesNames names handed _ = ⊥
 abbrev pub TakesFlags : TypeTree → List (List ℕ) → Type 0
 TakesFlags T handed = (kind_of T ≡ kinds.Flags) × AreAllOf (flags_names T) handed
 
--- a type of another kind, a name that is no flag, or want of memory
+-- a type of another kind, a name that is no flag, or out of memory
 abbrev pub RefusesFlags : TypeTree → List (List ℕ) → WasmValueError → Type 0
 RefusesFlags T handed (error.WrongTypeKind k t) = TellsKind kinds.Flags T k (string_bytes t)
 RefusesFlags T handed (error.Memory e) = Unit {0}

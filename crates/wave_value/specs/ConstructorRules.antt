@@ -1,4 +1,4 @@
--- What each maker of values accepts, what it makes, and what its refusals say.
+-- What each constructor of values accepts, what it makes, and what its refusals say.
 use Rattle.std.specs.Prelude.{ℕ, ◌≡◌, ◌≢◌, List, [], ◌∷◌, map, length, Option, Some, None, Result, Ok, Err, string_bytes, codes}
 use Rattle.wave_wasm.specs.Lists.{AllOf}
 use Rattle.wave_wasm.specs.Lists.{SomeOf}
@@ -79,15 +79,15 @@ value_text v = text v.tree
 abbrev pub own_text : TypedValue → List ℕ
 own_text v = type_text v.own
 
--- the type is of another kind than this one, which is told beside the type's text
+-- the type is of another kind than this one, which is named beside the type's text
 abbrev pub TellsKind : WasmTypeKind → TypeTree → WasmTypeKind → List ℕ → Type 0
 TellsKind kind T k t = (kind_of T ≢ kind) × (k ≡ kind) × (t ≡ type_text T)
 
--- the value's own type is another one than this, whose text is told beside what shows the value
+-- the value's own type is another one than this, whose text is given beside what shows the value
 abbrev pub TellsOther : (TypedValue → List ℕ) → List ℕ → List ℕ → TypeTree → TypedValue → Type 0
 TellsOther words t s T v = (v.own ≢ T) × (t ≡ type_text T) × (s ≡ words v)
 
--- of one of the values, each beside the type that is stated for it, this is told
+-- this is said of one of the values, each beside the type that is stated for it
 abbrev pub TellsOne : (TypedValue → List ℕ) → List ℕ → List ℕ → List (TypeTree × TypedValue) → Type 0
 TellsOne words t s stated = SomeOf (λ p. TellsOther words t s p.0 p.1) stated
 
@@ -107,14 +107,14 @@ abbrev pub option_stated : TypeTree → Option TypedValue → List (TypeTree × 
 option_stated (type.option P) (Some v) = (P, v) ∷ []
 option_stated _ _ = []
 
--- a type of another kind, a component of another type than the one stated for it, or want of memory
+-- a type of another kind, a component of another type than the one stated for it, or out of memory
 abbrev pub RefusesParts : (TypedValue → List ℕ) → WasmTypeKind → TypeTree → List (TypeTree × TypedValue) → WasmValueError → Type 0
 RefusesParts words kind T stated (error.WrongTypeKind k t) = TellsKind kind T k (string_bytes t)
 RefusesParts words kind T stated (error.WrongValueType t s) = (kind_of T ≡ kind) × TellsOne words (string_bytes t) (string_bytes s) stated
 RefusesParts words kind T stated (error.Memory e) = Unit {0}
 RefusesParts words kind T stated _ = ⊥
 
--- a type that is no list of either kind, another count than a fixed-length list's, which goes first, an item of another type than the element type, or want of memory
+-- a type that is no list of either kind, another count than a fixed-length list's, which goes first, an item of another type than the element type, or out of memory
 abbrev pub RefusesList : (TypedValue → List ℕ) → TypeTree → List TypedValue → WasmValueError → Type 0
 RefusesList words T vs (error.WrongTypeKind k t) = (kind_of T ≢ kinds.FixedLengthList) × TellsKind kinds.List T k (string_bytes t)
 RefusesList words T vs (error.WrongNumberOfElements want got) = (list_length T ≡ Some want) × (got ≡ length vs) × (want ≢ got)
@@ -123,7 +123,7 @@ RefusesList words T vs (error.WrongValueType t s) =
 RefusesList words T vs (error.Memory e) = Unit {0}
 RefusesList words T vs _ = ⊥
 
--- a type of another kind, another count than the tuple's, which goes first, an item of another type than the one at its place, or want of memory
+-- a type of another kind, another count than the tuple's, which goes first, an item of another type than the one at its place, or out of memory
 abbrev pub RefusesTuple : (TypedValue → List ℕ) → TypeTree → List TypedValue → WasmValueError → Type 0
 RefusesTuple words T vs (error.WrongTypeKind k t) = TellsKind kinds.Tuple T k (string_bytes t)
 RefusesTuple words T vs (error.WrongNumberOfTupleValues want got) =
@@ -143,12 +143,12 @@ abbrev pub IsUnexpected : Option TypeTree → Option TypedValue → Type 0
 IsUnexpected None (Some v) = Unit {0}
 IsUnexpected _ p = ⊥
 
--- a payload of another type, and this is told of it
+-- a payload of another type, and this is said of it
 abbrev pub IsOther : (TypedValue → List ℕ) → List ℕ → List ℕ → Option TypeTree → Option TypedValue → Type 0
 IsOther words t s (Some P) (Some v) = TellsOther words t s P v
 IsOther words t s _ p = ⊥
 
--- a payload that is missing, unexpected or of another type at the case of this name, or want of memory
+-- a payload that is missing, unexpected or of another type at the case of this name, or out of memory
 abbrev pub RefusesPayload : (TypedValue → List ℕ) → List ℕ → Option TypeTree → Option TypedValue → WasmValueError → Type 0
 RefusesPayload words name P p (error.MissingPayload n) = (string_bytes n ≡ name) × IsMissing P p
 RefusesPayload words name P p (error.UnexpectedPayload n) = (string_bytes n ≡ name) × IsUnexpected P p

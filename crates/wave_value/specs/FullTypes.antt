@@ -1,4 +1,4 @@
--- The types at which the makers of values refuse for want of memory alone.
+-- The types at which the constructors of values refuse for lack of memory alone.
 use Rattle.std.specs.Prelude.{List, [], map}
 use Rattle.wave_wasm.specs.Lists.{AllOf}
 use Rattle.wave_wasm.specs.Names.{AreDistinct}
@@ -11,7 +11,7 @@ use Rattle.wave_wasm.specs.ConstructorContracts.{HasFullParts, payload_and, payl
 abbrev pub IsFull : TypeTree → Type 0
 IsFull T = HasDistinctNames T
 
--- a full payload type in front of full types, where there is one
+-- a full payload type before full types, where there is one
 payload_full : (P : MaybeType) (more : List TypeTree) → EachNamesOfMaybe AreDistinct P → AllOf IsFull more → AllOf IsFull (payload_and P more)
 payload_full no_type more names h = h
 payload_full (a_type T) more names h = (names, h)

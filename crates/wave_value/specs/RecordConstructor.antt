@@ -24,7 +24,7 @@ abbrev pub HasOwn : TypeTree → Option TypedValue → Type 0
 HasOwn T None = ⊥
 HasOwn T (Some v) = v.own ≡ T
 
--- there is a value, whose own type is another one, and this is told of it
+-- there is a value, whose own type is another one, and this is said of it
 abbrev pub HasOther : (TypedValue → List ℕ) → List ℕ → List ℕ → TypeTree → Option TypedValue → Type 0
 HasOther words t s T None = ⊥
 HasOther words t s T (Some v) = TellsOther words t s T v
@@ -47,7 +47,7 @@ pub record MadeRecord (given : List (List ℕ × TypedValue)) (T : TypeTree) (v 
   pub are_last : map (λ f. last_under given f.0) (record_parts T) ≡ map Some last
   pub made : Made (value.record_value (field_values (beside (first_names (record_parts T)) (trees last)))) T v
 
--- a field that is missing or repeated in the type, a name that no field has, a value of another type, or want of memory
+-- a field that is missing or repeated in the type, a name that no field has, a value of another type, or out of memory
 abbrev pub RefusesFields : (TypedValue → List ℕ) → List (List ℕ × TypeTree) → (List ℕ → Option TypedValue) → WasmValueError → Type 0
 RefusesFields words fs under (error.MissingField n) =
     IsOneOf (first_names fs) (string_bytes n) × ((under (string_bytes n) ≡ None) ⊎ IsRepeated (first_names fs) (string_bytes n))

@@ -34,7 +34,7 @@ first_names parts = map (λ p. p.0) parts
 abbrev pub trees : List TypedValue → List Value
 trees vs = map (λ v. v.tree) vs
 
--- values behind names, in order
+-- values after names, in order
 abbrev pub beside : List (List ℕ) → List Value → List (List ℕ × Value)
 beside names [] = []
 beside [] (v ∷ vs) = ([], v) ∷ beside [] vs

@@ -69,7 +69,7 @@ escaped_encodes c s =
 
 -- ---- what an escape looks like
 
--- what the letter behind a `\` stands for
+-- what the letter after a `\` stands for
 abbrev meant : ℕ → ℕ
 meant x = if x == 116 then 9 else (if x == 114 then 13 else (if x == 110 then 10 else x))
 
@@ -109,7 +109,7 @@ form c = elim (cases_Bool (c == 0x5c)) [
   ]
 ]
 
--- ---- the front of two texts
+-- ---- the prefix of two texts
 
 -- what stands before the first 125 is one
 before_close : (ds es r s : List ℕ) → AllOf (λ d. d < 123) ds → AllOf (λ d. d < 123) es → ds ++ 125 ∷ r ≡ es ++ 125 ∷ s → (ds ≡ es) × (r ≡ s)
@@ -186,7 +186,7 @@ texts_apart (c ∷ cs) (d ∷ ds) m n e =
 close_encodes : (b : ℕ) → b < 123 → encodes (b ∷ []) ≡ b ∷ []
 close_encodes b h = ascii_encodes (b ∷ []) (h, tt)
 
--- a text between quotes tells the text
+-- a text between quotes determines the text
 pub quoted_apart : (s t : List ℕ) → IsUtf8 s → IsUtf8 t → quoted s ≡ quoted t → s ≡ t
 quoted_apart s t u v e =
     let m = scalars-chars s u in
@@ -196,7 +196,7 @@ quoted_apart s t u v e =
     let same = texts_apart (chars s) (chars t) m n (encodes_same _ _ (sym (whole (chars s) m) ∙ (inner ∙ whole (chars t) n))) in
     sym (encodes-chars s u) ∙ (ap encodes same ∙ encodes-chars t v)
 
--- a scalar between quotes tells the scalar
+-- a scalar between quotes determines the scalar
 pub quoted_char_apart : (c d : ℕ) → scalar c ≡ true → scalar d ≡ true → quoted_char c ≡ quoted_char d → c ≡ d
 quoted_char_apart c d m n e =
     let inner : escaped c ++ 39 ∷ [] ≡ escaped d ++ 39 ∷ [] = ap (drop 1) e in

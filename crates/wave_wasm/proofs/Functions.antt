@@ -21,7 +21,7 @@ no_name_here [] i le = refl
 no_name_here (name ∷ names) zero le = absurd (omega arith)
 no_name_here (name ∷ names) (suc i) le = no_name_here names i (omega arith)
 
--- the first type, behind the first name where there is one
+-- the first type, after the first name where there is one
 first_typed : (names : List (List ℕ)) (T : TypeTree) (Ts : List TypeTree) → typed_names names (T ∷ Ts) ≡ (name_part names 0 ++ type_text T) ∷ typed_names (drop 1 names) Ts
 first_typed [] T Ts = refl
 first_typed (name ∷ names) T Ts = ap (λ s. s ∷ typed_names names Ts) (sym (append_assoc name (codes ": ") (type_text T)))

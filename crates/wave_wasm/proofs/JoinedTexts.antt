@@ -27,7 +27,7 @@ module _ {A : Type 0} (text : A → List ℕ) where
   joined_more : (xs : List A) (i : ℕ) (d : A) → i < length xs → joined (map text (take (i + 1) xs)) ≡ joined (map text (take i xs)) ++ (separator (map text (take i xs)) ++ text (get_or xs i d))
   joined_more xs i d h = rw (take_more xs i d h) (rw (map-append text) (joined_push (map text (take i xs)) (text (get_or xs i d))))
 
-  -- behind one more item goes a comma
+  -- after one more item goes a comma
   pub separator_more : (xs : List A) (i : ℕ) (d : A) → i < length xs → codes ", " ≡ separator (map text (take (i + 1) xs))
   separator_more xs i d h = rw (take_more xs i d h) (rw (map-append text) (separator_push (map text (take i xs)) (text (get_or xs i d))))
 
@@ -39,7 +39,7 @@ module _ {A : Type 0} (text : A → List ℕ) where
   pub all_joined : (xs ys : List A) (i : ℕ) → xs ≡ ys → length xs ≤ i → joined (map text (take i xs)) ≡ joined (map text ys)
   all_joined xs ys i same h = ap (λ us. joined (map text us)) (take_all i xs h ∙ same)
 
--- what is left of texts with commas between, the first behind this separator
+-- what is left of texts with commas between, the first after this separator
 abbrev pub left : List ℕ → List (List ℕ) → List ℕ
 left s [] = []
 left s (x ∷ xs) = s ++ (x ++ followed xs)

@@ -24,7 +24,7 @@ word_labelled keyword.Err = refl
 word_labelled keyword.Inf = refl
 word_labelled keyword.Nan = refl
 
--- a keyword stands behind a `%`
+-- a keyword stands after a `%`
 pub keyword_labelled : (s : List ℕ) (r : Option Keyword) (k : Keyword) → DecodesTo s r → r ≡ Some k → case_label s ≡ codes "%" ++ s
 keyword_labelled s (Some other) k e is = rw e (word_labelled other)
 keyword_labelled s None k e is = absurd (cc)

@@ -43,7 +43,7 @@ module _ {K V : Type 0} (same : K → K → Bool) where
   last_is key [] v = refl
   last_is key (e ∷ es) v = stepped (same key e.0) (value_at_last same key es) v e.1 (λ x. last_value same key x es) (last_is key es)
 
-  -- of entries whose values are the last ones behind e, those of other keys keep them with e in front
+  -- of entries whose values are the last ones after e, those of other keys keep them with e before it
   values_without : (e : K × V) (es xs : List (K × V)) → AllOf (λ x. value_at_last same x.0 es ≡ Some x.1) xs → AllOf (λ x. value_at_last same x.0 (e ∷ es) ≡ Some x.1) (without same e.0 xs)
   values_without e es [] h = tt
   values_without e es (x ∷ xs) h = kept (same e.0 x.0) x (without same e.0 xs) (ap (λ (z : Option V). option_or z (if same x.0 e.0 then Some e.1 else None)) h.0) (values_without e es xs h.1)

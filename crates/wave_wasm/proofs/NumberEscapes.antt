@@ -39,7 +39,7 @@ more_room : (k n : ℕ) (acc : List ℕ) → n < 16 ^ suc k → digits_onto (suc
 more_room zero n acc h = no_front n _ _ _ (omega (arith, h))
 more_room (suc k) n acc h = same_by (n / 16 == 0) _ _ _ (more_room k (n / 16) (last n ∷ acc) (omega (arith, h)))
 
--- the last digit behind those before
+-- the last digit after those before
 hex_step : (n : ℕ) → 16 ≤ n → n < 2 ^ 32 → digits 16 false n ≡ digits 16 false (n / 16) ++ (digit_glyph false (n % 16) ∷ [])
 unfolding digits
 hex_step n low high =

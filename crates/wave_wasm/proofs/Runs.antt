@@ -9,7 +9,7 @@ use Rattle.wave_wasm.specs.WriterState.{Output}
 use Rattle.wave_wasm.specs.Text.{escaped, quoted}
 use Rattle.wave_wasm.proofs.Writing.{Writing, writing_as}
 
--- what is left to write behind the run
+-- what is left to write after the run
 abbrev pub closing : List ℕ → List ℕ
 closing rest = flat_map escaped (chars rest) ++ codes "\""
 
@@ -54,7 +54,7 @@ running_plain s start at rest c next later r e n plain = record {
   writing = writing_as (ap (λ z. r.run ++ z) (next_closing c rest later r.utf8 e ∙ ap (λ z. z ++ closing later) plain) ∙ sym (append_assoc r.run (encode_utf8 c) (closing later))) r.writing;
 }
 
--- what lies behind the start is the run and the rest
+-- what lies after the start is the run and the rest
 behind_start : (s : List ℕ) (start at : ℕ) (rest : List ℕ) {old now : Output} → (r : Running s start at rest old now) → drop start s ≡ r.run ++ rest
 behind_start s start at rest r = ap (drop start) r.cut ∙ drop_at r.before (r.run ++ rest) start (sym r.start_is)
 
@@ -65,7 +65,7 @@ running_written s start at rest c place later part r h e p =
     let same : part ≡ r.run = p ∙ (ap (take (place - start)) (behind_start s start at rest r) ∙ take_at r.run rest (place - start) n) in
     writing_as (ap (λ z. r.run ++ z) (next_closing c rest later r.utf8 e) ∙ ap (λ z. z ++ (escaped c ++ closing later)) (sym same)) r.writing
 
--- a new run begins behind a scalar that was written
+-- a new run begins after a scalar that was written
 pub running_again : (s : List ℕ) (start at : ℕ) (rest : List ℕ) {old now new : Output} (c place size next : ℕ) (later : List ℕ) → Running s start at rest old now → place ≡ at → rest ≡ encode_utf8 c ++ later → size ≡ length (encode_utf8 c) → next ≡ at + length (encode_utf8 c) → Writing (quoted s) (closing later) old new → Running s (place + size) next later old new
 running_again s start at rest c place size next later r h e p n w =
     let read : List ℕ = r.before ++ (r.run ++ encode_utf8 c) in

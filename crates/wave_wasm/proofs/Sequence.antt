@@ -34,7 +34,7 @@ at_end h xs i le = ap h (at_end_list xs i le)
 
 -- ---- what is left to write
 
--- the texts with commas between, and one in front where an item stands before
+-- the texts joined by commas, and a comma before them where an item stands before
 abbrev pub parted : Bool → List (List ℕ) → List ℕ
 parted later [] = []
 parted later (s ∷ ss) = comma_if later ++ (s ++ parted true ss)

@@ -1,4 +1,4 @@
--- A value of a type has a canonical text, and is refused for want of memory alone.
+-- A value of a type has a canonical text, and is refused for lack of memory alone.
 use Rattle.std.proofs.Common.{◌≡◌, ℕ, Bool, true, false, List, [], ◌∷◌, refl, sym, subst, ◌∙◌, inl, inr, arith}
 use Rattle.std.specs.Prelude.{◌&&◌, not, if◌then◌else◌, IfErr, Result, Ok, Err}
 use Rattle.std.proofs.lemmas.Bool.{false≢true}
@@ -13,7 +13,7 @@ use Rattle.wave_wasm.specs.WriterState.{IsGrounded, IsWantOfMemory, IsForMemory}
 use Rattle.wave_wasm.specs.declared.writer.WriterError.{WriterError}
 use Rattle.wave_wasm.specs.declared.writer.WriterError.TheVariants as refusal
 
--- a refusal by a writer that counts no failure, of a value that has a text, is want of memory
+-- a refusal by a writer that counts no failure, of a value that has a text, is out of memory
 pub only_memory : (e : WriterError) (writable : Bool) → writable ≡ true → IsGrounded e writable 0 0 → IsWantOfMemory e
 only_memory (refusal.Io e) writable has (inl h) = absurd (omega (arith, h))
 only_memory (refusal.Io e) writable has (inr h) = absurd (omega (arith, h))
@@ -100,7 +100,7 @@ mutual
   case_writes (case_of other T more) name payload (inl h) = payload_writes T payload h.1
   case_writes (case_of other T more) name payload (inr h) = case_writes more name payload h
 
--- a refusal to write a value of a type is want of memory
+-- a refusal to write a value of a type is out of memory
 pub refused_so : {S : Type 0} (v : Value) (r : Result S WriterError) → IfErr r (λ e. IsGrounded e (has_text v) 0 0) → IfErr r (IsForMemory v)
 refused_so v (Ok s) h = tt
 refused_so v (Err e) h = λ T of. only_memory e (has_text v) (writes T v of) h

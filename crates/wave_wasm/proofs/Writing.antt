@@ -61,7 +61,7 @@ writing_refused_text rest w r = writing_refused rest w (λ h. cc) r.err
 pub start_refused : {whole part : List ℕ} (rest : List ℕ) {old new : Output} {all : Bool} {e : WriterError} → whole ≡ part ++ rest → Writes part true (Err e) old new → Writes whole all (Err e) old new
 start_refused {whole} rest {old} is r = let w : Writing whole (_ ++ rest) old old = subst (λ s. Writing whole s old old) is (writing_none whole old) in writing_refused_text rest w r
 
--- want of memory before anything is written
+-- out of memory before anything is written
 pub refused_before : (whole : List ℕ) (writable : Bool) (old : Output) (e : AllocError) → Writes whole writable (Err (WriterError.Memory e)) old old
 refused_before whole writable old e = record { ok = tt; writable = tt; err = record { began = record { done = []; rest = whole; written = sym (append-nil old.written); whole_is = refl }; grounded = tt; counts = refl } }
 

@@ -1,4 +1,4 @@
--- What the makers of a stranger's values owe. S is the stranger's value, `tree` says what it means, `of` when it is of a type.
+-- What the constructors of foreign values owe. S is the Rust type of these values, `tree` says what one means, `of` when it is of a type.
 use Rattle.std.specs.Prelude.{ℕ, ◌≡◌, ◌⊎◌, length, List, [], ◌∷◌, map, filter, Option, Some, None, option_map, Result, Ok, Err, IsPermutation}
 use Rattle.std.specs.Borrow.{Bor}
 use Rattle.wave_wasm.specs.Lists.{AllOf, SomeOf}
@@ -14,7 +14,7 @@ use Rattle.wave_wasm.specs.declared.wasm.WasmTypeKind.TheVariants as kind
 use Rattle.wave_wasm.specs.declared.wasm.WasmValueError.{WasmValueError}
 use Rattle.wave_wasm.specs.declared.wasm.WasmValueError.TheVariants as error
 
--- the refusal is want of memory
+-- the refusal is out of memory
 abbrev pub IsMemory : WasmValueError → Type 0
 IsMemory (error.Memory e) = Unit {0}
 IsMemory _ = ⊥
@@ -27,7 +27,7 @@ IsOfListKind _ = ⊥
 
 -- ---- the parts of a type, and full types
 
--- the payload's type, where there is one, in front of the others
+-- the payload's type, where there is one, before the others
 abbrev pub payload_and : MaybeType → List TypeTree → List TypeTree
 payload_and no_type more = more
 payload_and (a_type T) more = T ∷ more
@@ -53,7 +53,7 @@ type_parts _ = []
 abbrev pub HasFullParts : (TypeTree → Type 0) → Type 0
 HasFullParts Full = (T : TypeTree) → Full T → AllOf Full (type_parts T)
 
--- a list of these elements, or the fixed-length list of so many
+-- a list of these elements, or the fixed-length list of `count` of them
 abbrev pub IsListOf : TypeTree → ℕ → TypeTree → Type 0
 IsListOf E count T = (T ≡ type.list E) ⊎ (T ≡ type.fixed E count)
 

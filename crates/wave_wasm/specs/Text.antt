@@ -78,7 +78,7 @@ abbrev pub record_text : List (List ℕ) → List ℕ
 record_text [] = codes "{:}"
 record_text (s ∷ ss) = in_braces (joined (s ∷ ss))
 
--- The text of a value as it stands, without merging. A leaf that has no text stands here as nothing: `is_writable` tells such a value.
+-- The text of a value as it stands, without merging. A leaf that has no text stands here as nothing: `is_writable` is false of such a value.
 abbrev mutual
   pub printed : Value → List ℕ
   printed (value.leaf one) = leaf_text one

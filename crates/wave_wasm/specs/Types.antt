@@ -291,7 +291,7 @@ abbrev pub has_names : List (List ℕ) → Bool
 has_names [] = false
 has_names (name ∷ more) = true
 
--- neither unsupported, nor a record, tuple, variant, enum or flags without parts, nor longer than a u32 tells
+-- neither unsupported, nor a record, tuple, variant, enum or flags without parts, nor longer than a u32 can say
 abbrev pub can_be_made : TypeTree → Bool
 can_be_made (unreadable unsupported) = false
 can_be_made (fixed E n) = nat_lt n (2 ^ 32)

@@ -39,7 +39,7 @@ pub enum WasmTypeKind {
     String,
     /// Items of one type.
     List,
-    /// So many items of one type.
+    /// A fixed number of items of one type.
     FixedLengthList,
     /// A value for each of its named fields.
     Record,
@@ -124,13 +124,13 @@ pub enum WasmValueError {
     UnknownField(String),
     /// A type of this word has no values here.
     UnsupportedType(String),
-    /// A fixed-length list of so many elements was wanted, and so many were given.
+    /// A fixed-length list of `want` elements was due, and `got` were given.
     WrongNumberOfElements { want: u32, got: usize },
-    /// So many items were wanted, and so many given.
+    /// `want` items were due, and `got` were given.
     WrongNumberOfTupleValues { want: usize, got: usize },
-    /// A type of this kind was wanted; the type given has the text `ty`.
+    /// A type of this kind was due; the type given has the text `ty`.
     WrongTypeKind { kind: WasmTypeKind, ty: String },
-    /// A value of the type with the text `ty` was wanted; the value given has the text `val`.
+    /// A value of the type with the text `ty` was due; the value given has the text `val`.
     WrongValueType { ty: String, val: String },
     /// Another cause, in these words.
     Other(String),

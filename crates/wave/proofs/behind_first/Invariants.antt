@@ -1,4 +1,4 @@
--- What is left and what was taken are the arguments behind the first.
+-- What is left and what was taken are the arguments after the first.
 use Rattle.std.proofs.Common.{◌≡◌, ◌++◌, drop}
 use Rattle.std.specs.Vec.Iter.{into_iter_items, into_iter_len}
 use Rattle.wave.proofs.behind_first.Given as goal

@@ -18,11 +18,11 @@ use Rattle.wave.specs.ReadFaults.{IsReadToEnd, IsUnread}
 use Rattle.wave.specs.Statuses.{IsAnswer}
 use Rattle.wave.specs.Written.{Prints}
 
--- the request has no answer on the text, and the refusal tells why; or it tells want of memory
+-- the request has no answer on the text, and the refusal says why; or it is out of memory
 abbrev pub Refuses : Request → List ℕ → Diagnostic → Type 0
 Refuses request whole e = e.kind ≢ kind.OutOfMemory → IsRefused request whole e
 
--- why a request isn't answered on a text: a refusal tells it; or memory was wanting for the answer that it has
+-- why a request isn't answered on a text: a refusal says it; or there was no memory for the answer that it has
 abbrev pub IsUnanswered : Request → List ℕ → Unanswered → Type 0
 IsUnanswered request whole (why.Refused e) = Refuses request whole e
 IsUnanswered request whole why.OutOfMemory = (answer : List ℕ) × Answers request whole answer
@@ -37,15 +37,15 @@ abbrev pub HasAnswer : Request → Option (List ℕ) → Type 0
 HasAnswer request left = (whole : List ℕ) × (answer : List ℕ) × IsInput left whole × Answers request whole answer
 
 module _ {R : Type 0} where
-  -- why a request has no outcome: the input is no text, or was not read to its end; or memory was wanting before the reader
-  -- told its end, or for the answer that the request has
+  -- why a request has no outcome: the input is no text, or was not read to its end; or there was no memory before the reader
+  -- reported its end, or for the answer that the request has
   abbrev pub IsNoOutcome : Request → Option (List ℕ) → Input R → Input R → Fault → Type 0
   IsNoOutcome request left old new NotUtf8 = IsNoText left × IsReadToEnd old new
   IsNoOutcome request left old new InputFailed = IsUnread old new
   IsNoOutcome request left old new OutOfMemory = (new.failures ≡ old.failures) × ((new.has_ended ≡ false) ⊎ HasAnswer request left)
 
 module _ {W : Type 0} (contents : W → Option (List ℕ)) where
-  -- the refusal's text was printed at status 1, which is none of want of memory; or want of memory at status 3
+  -- the refusal's text was printed at status 1, which isn't out of memory; or out of memory at status 3
   abbrev pub TellsRefusal : Output W → Output W → Diagnostic → ℕ → Type 0
   TellsRefusal old new e result =
       (e.kind ≢ kind.OutOfMemory) × Prints contents old new (line (error_text e)) 1 result

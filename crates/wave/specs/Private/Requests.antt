@@ -1,4 +1,4 @@
--- What a request that words make has.
+-- What a request that arguments make has.
 use Rattle.wave_wasm.specs.Lists.{AllOf}
 use Rattle.wave_wasm.specs.Types.{HasDistinctNames}
 use Rattle.wave_tree.specs.ParserState.{IsLimit}

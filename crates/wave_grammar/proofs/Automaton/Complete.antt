@@ -1,4 +1,4 @@
--- Tokens that lead from where a value is due behind it are those of a tree.
+-- Tokens that lead from where a value is due to its end are those of a tree.
 use Rattle.std.proofs.Common.{ℕ, zero, suc, ◌≡◌, ◌≢◌, ◌<◌, ◌≤◌, ◌+◌, inl, inr, List, [], ◌∷◌, ◌++◌, length, Bool, true, false, refl, sym, ap, subst, ◌∙◌, arith}
 use Rattle.std.specs.Prelude.{◌⊎◌, ◌||◌, nat_lt, if◌then◌else◌, map}
 use Rattle.std.specs.Str.{bytes_eq}
@@ -34,7 +34,7 @@ not_end : (d e : Due) (x : List Token) → IsWithin d → IsEnd e x → d ≡ e 
 not_end d e x w (inl k) h = subst IsWithin (h ∙ k) w
 not_end d e x w (inr (k, apart)) h = subst IsWithin (h ∙ k) w
 
--- P takes a front of ts, before x, and what is left leads on from behind it
+-- P takes a prefix of ts, before x, and what is left leads on from after it
 abbrev pub IsTaken : {A : Type 0} → ℕ → List Form → Spelling A → List Token → List Token → Due → Type 0
 IsTaken {A} n s P ts x e = (a : A) × (d : Due) × (rest : List Token) × P (ts ++ x) a (rest ++ x) × IsEnd d (rest ++ x) × Leads n d s rest e [] × (length rest < length ts)
 
@@ -42,20 +42,20 @@ IsTaken {A} n s P ts x e = (a : A) × (d : Due) × (rest : List Token) × P (ts 
 abbrev pub IsClosed : {A : Type 0} → ℕ → List Form → Spelling A → List Token → List Token → Due → Type 0
 IsClosed {A} n s P ts x e = (a : A) × (rest : List Token) × P (ts ++ x) a (rest ++ x) × Leads n behind_value s rest e [] × (length rest < length ts)
 
--- P takes a front of all tokens that lead from where a value is due within s to the end of all
+-- P takes a prefix of all tokens that lead from where a value is due within s to the end of all
 abbrev pub AreTaken : ℕ → List Form → Spelling Tree → Type 0
 AreTaken n s P = (ts x : List Token) (e : Due) → IsEnd e x → Leads n value s ts e [] → IsTaken n s P ts x e
 
 -- ---- what a token that is read may be
 
--- a comma behind a value
+-- a comma after a value
 abbrev after_comma : Form → List Form → Step
 after_comma due.tuple s = reads next_item (due.tuple ∷ s)
 after_comma due.list s = reads next_item (due.list ∷ s)
 after_comma due.payload s = unexpected
 after_comma due.entries s = reads due.key s
 
--- behind a value within a form stands its close or a comma
+-- after a value within a form stands its close or a comma
 behind_reads : (f : Form) (s : List Form) (t : Token) (d : Due) (r : List Form) → behind_step (f ∷ s) t ≡ reads d r → (t ≡ close_of f) × (reads behind_value s ≡ reads d r) ⊎ (t ≡ comma) × (after_comma f s ≡ reads d r)
 behind_reads due.tuple s comma d r h = inr (refl, h)
 behind_reads due.tuple s paren_close d r h = inl (refl, h)
@@ -66,7 +66,7 @@ behind_reads due.entries s comma d r h = inr (refl, h)
 behind_reads due.entries s brace_close d r h = inl (refl, h)
 behind_reads f s t d r h = let k : unexpected ≡ reads d r = h in cc
 
--- behind an item and a comma a further item is due
+-- after an item and a comma a further item is due
 comma_items : (f : Form) (s : List Form) → HasItems f → after_comma f s ≡ reads next_item (f ∷ s)
 comma_items due.tuple s i = refl
 comma_items due.list s i = refl
@@ -97,7 +97,7 @@ paren_reads : (n : ℕ) (s : List Form) (t : Token) (d : Due) (r : List Form) �
 paren_reads n s paren_open d r h = (refl, h)
 paren_reads n s t d r h = let k : unexpected ≡ reads d r = h in cc
 
--- a comma or the close behind a flag
+-- a comma or the close after a flag
 behind_flag_reads : (names : List (List ℕ)) (s : List Form) (t : Token) (d : Due) (r : List Form) → behind_flag_step names s t ≡ reads d r →
     (t ≡ brace_close) × (reads behind_value s ≡ reads d r) ⊎ (t ≡ comma) × (reads (due.flag names) s ≡ reads d r)
 behind_flag_reads names s brace_close d r h = inl (refl, h)
@@ -126,11 +126,11 @@ item_or_close n d f s t e r at h = which (closes (f ∷ s) t) refl
 
 -- ---- items of a tuple or a list
 
--- up to m tokens behind an item are further items and a close
+-- up to m tokens after an item are further items and a close
 abbrev TakesFurther : ℕ → ℕ → Form → List Form → Spelling Tree → List Token → Due → Type 0
 TakesFurther m n f s P x e = (ts : List Token) (d : Due) → length ts ≤ m → IsEnd d (ts ++ x) → Leads n d (f ∷ s) ts e [] → IsClosed n s (FurtherItems (close_of f) P) ts x e
 
--- the items behind a comma, or the close
+-- the items after a comma, or the close
 next_taken : (m n : ℕ) (f : Form) (s : List Form) (P : Spelling Tree) (x : List Token) (e : Due) → HasItems f → IsEnd e x → AreTaken n (f ∷ s) P → TakesFurther m n f s P x e →
     (us : List Token) → length us ≤ m → Leads n next_item (f ∷ s) us e [] → IsClosed n s (FurtherItems (close_of f) P) (comma ∷ us) x e
 next_taken m n f s P x e i end taken further [] l (same, no_forms) = cc
@@ -191,11 +191,11 @@ colon_taken n s P x e end taken (u ∷ us) (d, r, h, more) =
     let (a, b, rest, p, ends, on, less) = taken us x e end (after n _ value d e (due.entries ∷ s) r [] us refl k more) in
     (a, b, rest, (us ++ x, ap (λ z. z ∷ us ++ x) same, p), ends, on, omega arith)
 
--- up to m tokens behind a value of an entry are further entries and the close
+-- up to m tokens after a value of an entry are further entries and the close
 abbrev TakesEntries : ℕ → ℕ → List Form → Spelling Tree → List Token → Due → Type 0
 TakesEntries m n s P x e = (ts : List Token) (d : Due) → length ts ≤ m → IsEnd d (ts ++ x) → Leads n d (due.entries ∷ s) ts e [] → IsClosed n s (FurtherItems brace_close (KeyAnd P)) ts x e
 
--- the entries behind a comma, or the close
+-- the entries after a comma, or the close
 key_taken : (m n : ℕ) (s : List Form) (P : Spelling Tree) (x : List Token) (e : Due) → IsEnd e x → AreTaken n (due.entries ∷ s) P → TakesEntries m n s P x e →
     (us : List Token) → length us ≤ m → Leads n due.key s us e [] → IsClosed n s (FurtherItems brace_close (KeyAnd P)) (comma ∷ us) x e
 key_taken m n s P x e end taken further [] l (same, no_forms) = absurd (not_end due.key e x tt end same)
@@ -285,24 +285,24 @@ last_of_more : (names : List (List ℕ)) (y : List ℕ) → IsOneOf (names ++ y 
 last_of_more [] y = inl refl
 last_of_more (other ∷ names) y = inr (last_of_more names y)
 
--- one of the names is none of those that are new behind them
+-- one of the names is none of those that are new after them
 none_of_new : (names more : List (List ℕ)) (x : List ℕ) → IsOneOf names x → AllNew names more → IsNoneOf more x
 none_of_new names [] x h all = tt
 none_of_new names (y ∷ more) x h (new, all) = (not_new names x y h new, none_of_new (names ++ y ∷ []) more x (one_of_more names x y h) all)
 
--- names that are new each behind those before it are distinct
+-- names that are new each after those before it are distinct
 new_distinct : (names more : List (List ℕ)) → AllNew names more → AreDistinct more
 new_distinct names [] all = tt
 new_distinct names (y ∷ more) (new, all) = (none_of_new (names ++ y ∷ []) more y (last_of_more names y) all, new_distinct (names ++ y ∷ []) more all)
 
 -- ---- braces
 
--- behind the first label in braces a colon, or what may stand behind a flag
+-- after the first label in braces a colon, or what may stand after a flag
 word_reads : (text : List ℕ) (s : List Form) (t : Token) (d : Due) (r : List Form) → due.word_behind_step text s t ≡ reads d r → (t ≡ colon) × (reads value (due.entries ∷ s) ≡ reads d r) ⊎ (behind_flag_step (name_of text ∷ []) s t ≡ reads d r)
 word_reads text s colon d r h = inl (refl, h)
 word_reads text s t d r h = inr h
 
--- what stands behind the first label in braces
+-- what stands after the first label in braces
 word_taken : (n : ℕ) (s : List Form) (P : Spelling Tree) (x : List Token) (e : Due) → IsEnd e x → AreTaken n (due.entries ∷ s) P → (text : List ℕ) (ts : List Token) → Leads n (due.behind_word text) s ts e [] →
     IsClosed n s (InBraces P) (label text ∷ ts) x e
 word_taken n s P x e end taken text [] (same, no_forms) = absurd (not_end (due.behind_word text) e x tt end same)
@@ -316,7 +316,7 @@ word_taken n s P x e end taken text (t ∷ ts) (d, r, h, leads) = which (word_re
         let apart : AreDistinct (map name_of (text ∷ texts)) = (none_of_new (name_of text ∷ []) (map name_of texts) (name_of text) (inl refl) all, new_distinct (name_of text ∷ []) (map name_of texts) all) in
         (tree.flags (in_order (text ∷ texts)), rest, inr (inr (inr (text ∷ texts, omega arith, (t ∷ ts ++ x, refl, q), apart, refl))), on, omega arith)
 
--- what stands behind an open brace
+-- what stands after an open brace
 braces_taken : (n : ℕ) (s : List Form) (P : Spelling Tree) (x : List Token) (e : Due) → IsEnd e x → AreTaken n (due.entries ∷ s) P → (ts : List Token) → Leads n due.in_braces s ts e [] → IsClosed n s (InBraces P) ts x e
 braces_taken n s P x e end taken [] (same, no_forms) = absurd (not_end due.in_braces e x tt end same)
 braces_taken n s P x e end taken (brace_close ∷ ts) (d, r, h, leads) = (tree.empty_braces, ts, inl (refl, refl), after n _ behind_value d e s r [] ts refl h leads, omega arith)
@@ -364,7 +364,7 @@ maybe_taken n s P x e end taken t (paren_open ∷ ts) (d, r, h, leads) =
     (tree.a_tree u, behind_value, rest, inr (u, p, refl), inl refl, on, omega arith)
 maybe_taken n s P x e end taken t (u ∷ ts) leads = (tree.no_tree, behind_label, u ∷ ts, inl (refl, λ more f. cc, refl), inr (refl, λ more f. cc), leads, omega arith)
 
--- what stands behind a label
+-- what stands after a label
 label_taken : (n : ℕ) (s : List Form) (P : Spelling Tree) (x : List Token) (e : Due) → IsEnd e x → AreTaken n (due.payload ∷ s) P → (w : Word) (text : List ℕ) (t : Token) (ts : List Token) → Leads n (due.due_behind w) s ts e [] →
     (u : Tree) × (d : Due) × (rest : List Token) × BehindWord w text P (ts ++ x) u (rest ++ x) × IsEnd d (rest ++ x) × Leads n d s rest e [] × (length rest < length (t ∷ ts))
 label_taken n s P x e end taken leaf_word text t ts leads = (tree.one (label text), behind_value, ts, (refl, refl), inl refl, leads, omega arith)
@@ -409,13 +409,13 @@ level_full n s t d r l h =
     let k : too_deep ≡ reads d r = ap (λ b. if b then value_step s t else too_deep) (sym full) ∙ h in
     cc
 
--- within the levels that are left a front of the tokens is a tree
+-- within the levels that are left a prefix of the tokens is a tree
 leads_taken : (k n : ℕ) (s : List Form) → n ≤ k + length s → AreTaken n s (Takes k)
 leads_taken zero n s l [] x e end (same, no_forms) = absurd (not_end value e x tt end same)
 leads_taken zero n s l (t ∷ ts) x e end (d, r, h, leads) = absurd (level_full n s t d r (omega arith) h)
 leads_taken (suc k) n s l ts x e end leads = tree_taken n s (Takes k) (λ f. leads_taken k n (f ∷ s) (omega arith)) ts x e end leads
 
--- where no form is open nothing stands behind a value
+-- where no form is open nothing stands after a value
 nothing_behind : (n : ℕ) (d e : Due) (ts x : List Token) → IsEnd d (ts ++ x) → Leads n d [] ts e [] → ts ≡ []
 nothing_behind n d e [] x start leads = refl
 nothing_behind n d e (t ∷ ts) x start (d', r, h, leads) = let k : unexpected ≡ reads d' r = sym (end_step n d [] t (ts ++ x) start) ∙ h in cc
@@ -426,7 +426,7 @@ at_end behind_value rest h = inl refl
 at_end behind_label rest h = inr (refl, h)
 at_end d rest h = absurd h
 
--- tokens that lead behind a value are a tree
+-- tokens that lead to the end of a value are a tree
 pub led_is_tree : LedTokensHaveATree
 led_is_tree n front rest d ends leads =
     let (t, b, left, p, end, on, less) = leads_taken n n [] (omega arith) front rest d (at_end d rest ends) leads in

@@ -23,11 +23,11 @@ IsOther repeated_flag = Unit {0}
 IsOther too_deep = Unit {0}
 IsOther _ = ⊥
 
--- a front of the tokens leads to such a refusal
+-- a prefix of the tokens leads to such a refusal
 abbrev Halts : ℕ → Due → List Form → List Token → Type 0
 Halts n d s tokens = (front : List Token) × (t : Token) × (more : List Token) × (e : Due) × (r : List Form) × (tokens ≡ front ++ t ∷ more) × Leads n d s front e r × IsOther (step n e r t)
 
--- tokens lead behind a value within these forms, before this rest; or a front of them to such a refusal
+-- tokens lead to the end of a value within these forms, before this rest; or a prefix of them to such a refusal
 abbrev Led : ℕ → Due → List Form → List Token → List Form → List Token → Type 0
 Led n d s tokens v rest = ((e : Due) × IsEnd e rest × LeadsTo n d s tokens e v rest) ⊎ Halts n d s tokens
 
@@ -44,11 +44,11 @@ one n d e s r v t behind rest x (inr (front, u, more, f, q, same, leads, other))
 ended : (n : ℕ) (d : Due) (s : List Form) (rest : List Token) → IsEnd d rest → Led n d s rest s rest
 ended n d s rest ends = inl (d, ends, ([], refl, (refl, refl)))
 
--- a close behind which nothing is left to be read
+-- a close after which nothing is left to be read
 shut : (n : ℕ) (d : Due) (s v : List Form) (t : Token) (rest : List Token) → step n d s t ≡ reads behind_value v → Led n d s (t ∷ rest) v rest
 shut n d s v t rest x = one n d behind_value s v v t rest rest x (ended n behind_value v rest (inl refl))
 
--- tokens and then those behind them
+-- tokens and then those after them
 joined : (n : ℕ) (d : Due) (s q v : List Form) (tokens behind rest : List Token) → Led n d s tokens q behind → ((e : Due) → IsEnd e behind → Led n e q behind v rest) → Led n d s tokens v rest
 joined n d s q v tokens behind rest (inr halts) next = inr halts
 joined n d s q v tokens behind rest (inl (e, ends, (front, same, leads))) next = both (next e ends)
@@ -124,7 +124,7 @@ maybe_led : (n : ℕ) (s : List Form) (P : Spelling Tree) → AreLoose n (due.pa
 maybe_led n s P led tokens t rest (inl (e, apart, f)) = led_by n behind_label s s tokens rest rest e (ended n behind_label s rest (inr (refl, apart)))
 maybe_led n s P led tokens t rest (inr (u, p, f)) = parens_led n s P led behind_label refl tokens u rest p
 
--- what stands behind a label
+-- what stands after a label
 word_led : (n : ℕ) (s : List Form) (P : Spelling Tree) → AreLoose n (due.payload ∷ s) P → (w : Word) (text : List ℕ) (tokens : List Token) (t : Tree) (rest : List Token) → BehindWord w text P tokens t rest → Led n (due.due_behind w) s tokens s rest
 word_led n s P led leaf_word text tokens t rest (e, f) = led_by n behind_value s s tokens rest rest e (ended n behind_value s rest (inl refl))
 word_led n s P led none_word text tokens t rest (e, f) = led_by n behind_value s s tokens rest rest e (ended n behind_value s rest (inl refl))
@@ -188,7 +188,7 @@ flags_further n s names tokens (x ∷ more) rest (front, behind, e, f, k) =
     led_by n (due.behind_flag names) s s tokens (comma ∷ label x ∷ behind) rest (e ∙ ap (λ z. comma ∷ z) f)
     (one n (due.behind_flag names) (due.flag names) s s s comma (label x ∷ behind) rest refl (flag_led n s s names x behind rest (flags_further n s (names ++ name_of x ∷ []) behind more rest k)))
 
--- behind the first flag a colon would make it a key
+-- after the first flag a colon would make it a key
 word_further : (n : ℕ) (s : List Form) (text : List ℕ) (tokens : List Token) (texts : List (List ℕ)) (rest : List Token) → FurtherItems brace_close Label tokens texts rest → Led n (due.behind_word text) s tokens s rest
 word_further n s text tokens [] rest (inl e) = led_by n (due.behind_word text) s s tokens (brace_close ∷ rest) rest e (shut n (due.behind_word text) s s brace_close rest refl)
 word_further n s text tokens [] rest (inr e) =
@@ -270,7 +270,7 @@ loosely_led : (k n : ℕ) (s : List Form) → AreLoose n s (TakesLoosely k)
 loosely_led zero n s tokens t rest h = absurd h
 loosely_led (suc k) n s tokens t rest h = loose_led n s (TakesLoosely k) (loose_never k) (λ f. loosely_led k n (f ∷ s)) tokens t rest h
 
--- no token is unexpected and refused for another fault, nor read behind a refusal
+-- no token is unexpected and refused for another fault, nor read after a refusal
 one_refusal : (n : ℕ) (d e f : Due) (s r q : List Form) (front others : List Token) (t u : Token) (more rest : List Token) → Leads n d s front e r → step n e r t ≡ unexpected → Leads n d s others f q → IsOther (step n f q u) →
     front ++ t ∷ more ≡ others ++ u ∷ rest → ⊥
 one_refusal n d e f s r q [] [] t u more rest (a, b) x (c, g) other same =

@@ -14,7 +14,7 @@ use Rattle.wave_grammar.proofs.Automaton.Complete.{led_is_tree}
 
 -- ---- runs of tokens
 
--- a run of tokens is that of a front and that of the others
+-- a run of tokens is that of a prefix and that of the others
 pub leads_split : (n : ℕ) (d e : Due) (s r : List Form) (ts us : List Token) → Leads n d s (ts ++ us) e r → (f : Due) × (q : List Form) × Leads n d s ts f q × Leads n f q us e r
 leads_split n d e s r [] us h = (d, s, (refl, refl), h)
 leads_split n d e s r (t ∷ ts) us (d', s', x, more) = let (f, q, one, others) = leads_split n d' e s' r ts us more in (f, q, (d', s', x, one), others)
@@ -59,15 +59,15 @@ pub leads_more : (n m : ℕ) (d e : Due) (s r : List Form) (ts : List Token) →
 leads_more n m d e s r [] l h = h
 leads_more n m d e s r (t ∷ ts) l (d', s', x, more) = (d', s', step_more n m d s t l (read_there _ d' s' x) ∙ x, leads_more n m d' e s' r ts l more)
 
--- ---- fronts of trees
+-- ---- prefixes of trees
 
--- the tokens of a tree are led behind it
+-- the tokens of a tree are led to its end
 whole_led : (n : ℕ) (tokens : List Token) (t : Tree) → Takes n tokens t [] → (d : Due) × Leads n value [] tokens d []
 whole_led n tokens t h =
     let (front, d, same, ends, leads) = trees_are_led n tokens [] t h in
     (d, subst (λ z. Leads n value [] z d []) (sym (same ∙ append-nil front)) leads)
 
--- each front of a tree is led
+-- each prefix of a tree is led
 pub fronts_are_led : FrontsAreLed
 fronts_are_led n front more t h =
     let (d, leads) = whole_led n (front ++ more) t h in
@@ -88,7 +88,7 @@ refused_begin_none n front d s t led refused m more u levels h =
     which {d'} {s'} there (inr apart) =
         refused d' s' (sym (step_more n (n + m) d s t (omega arith) apart) ∙ (step_more m (n + m) d s t (omega arith) (read_there _ d' s' there) ∙ there))
 
--- ---- more tokens for any front
+-- ---- more tokens for any prefix
 
 -- how many forms may be open where this is due
 abbrev pub Fits : ℕ → Due → List Form → Type 0
@@ -113,7 +113,7 @@ level_there n s t e r h = which (nat_lt (length s) n) refl
     which true k = let room : length s < n = grind arith in (room, sym (level_open n s t room) ∙ h)
     which false k = let w : too_deep ≡ reads e r = ap (λ b. if b then value_step s t else too_deep) (sym k) ∙ h in cc
 
--- behind a label that stands for a value
+-- after a label that stands for a value
 word_fits : (n : ℕ) (w : Word) (s : List Form) → length s < n → Fits n (due.due_behind w) s
 word_fits n leaf_word s l = omega arith
 word_fits n none_word s l = omega arith
@@ -122,7 +122,7 @@ word_fits n ok_word s l = l
 word_fits n err_word s l = l
 word_fits n case_word s l = l
 
--- behind the first token of a value
+-- after the first token of a value
 value_fits : (n : ℕ) (s : List Form) (t : Token) (e : Due) (r : List Form) → length s < n → value_step s t ≡ reads e r → Fits n e r
 value_fits n s paren_open e r l h = fits_there n first_item e (due.tuple ∷ s) r h (omega arith)
 value_fits n s bracket_open e r l h = fits_there n first_item e (due.list ∷ s) r h (omega arith)
@@ -134,7 +134,7 @@ value_fits n s (multiline text) e r l h = fits_there n behind_value e s r h (ome
 value_fits n s (label text) e r l h = fits_there n (due.due_behind (word_of text)) e s r h (word_fits n (word_of text) s l)
 value_fits n s t e r l h = let k : unexpected ≡ reads e r = h in cc
 
--- behind what follows a value
+-- after what follows a value
 behind_fits : (n : ℕ) (s : List Form) (t : Token) (e : Due) (r : List Form) → length s ≤ n → behind_step s t ≡ reads e r → Fits n e r
 behind_fits n [] t e r l h = let k : unexpected ≡ reads e r = h in cc
 behind_fits n (due.tuple ∷ s) comma e r l h = fits_there n next_item e (due.tuple ∷ s) r h l
@@ -146,7 +146,7 @@ behind_fits n (due.entries ∷ s) comma e r l h = fits_there n due.key e s r h (
 behind_fits n (due.entries ∷ s) brace_close e r l h = fits_there n behind_value e s r h (omega arith)
 behind_fits n (f ∷ s) t e r l h = let k : unexpected ≡ reads e r = h in cc
 
--- behind a close
+-- after a close
 closed_fits : (n : ℕ) (s : List Form) (e : Due) (r : List Form) → length s ≤ n → closed s ≡ reads e r → Fits n e r
 closed_fits n [] e r l h = let k : unexpected ≡ reads e r = h in cc
 closed_fits n (f ∷ s) e r l h = fits_there n behind_value e s r h (omega arith)
@@ -166,7 +166,7 @@ either_fits n false x y e r f g h = g h
 unexpected_fits : (n : ℕ) (e : Due) (r : List Form) → unexpected ≡ reads e r → Fits n e r
 unexpected_fits n e r h = cc
 
--- behind a key or the close of its braces
+-- after a key or the close of its braces
 key_fits : (n : ℕ) (s : List Form) (t : Token) (e : Due) (r : List Form) → length s < n → key_step s t ≡ reads e r → Fits n e r
 key_fits n s brace_close e r l h = fits_there n behind_value e s r h (omega arith)
 key_fits n s (number text) e r l h = fits_there n due.behind_key e s r h l
@@ -176,26 +176,26 @@ key_fits n s (string text) e r l h = fits_there n due.behind_key e s r h l
 key_fits n s (multiline text) e r l h = fits_there n due.behind_key e s r h l
 key_fits n s t e r l h = let k : unexpected ≡ reads e r = h in cc
 
--- behind what follows a flag
+-- after what follows a flag
 behind_flag_fits : (n : ℕ) (names : List (List ℕ)) (s : List Form) (t : Token) (e : Due) (r : List Form) → length s < n → behind_flag_step names s t ≡ reads e r → Fits n e r
 behind_flag_fits n names s brace_close e r l h = fits_there n behind_value e s r h (omega arith)
 behind_flag_fits n names s comma e r l h = fits_there n (due.flag names) e s r h l
 behind_flag_fits n names s t e r l h = let k : unexpected ≡ reads e r = h in cc
 
--- behind a flag or the close of its braces
+-- after a flag or the close of its braces
 flag_fits : (n : ℕ) (names : List (List ℕ)) (s : List Form) (t : Token) (e : Due) (r : List Form) → length s < n → flag_step names s t ≡ reads e r → Fits n e r
 flag_fits n names s brace_close e r l h = fits_there n behind_value e s r h (omega arith)
 flag_fits n names s (label text) e r l h =
     either_fits n (is_one_of names (name_of text)) due.repeated_flag _ e r (λ k. cc) (λ k. fits_there n (due.behind_flag (names ++ name_of text ∷ [])) e s r k l) h
 flag_fits n names s t e r l h = let k : unexpected ≡ reads e r = h in cc
 
--- behind the first token in braces
+-- after the first token in braces
 brace_fits : (n : ℕ) (s : List Form) (t : Token) (e : Due) (r : List Form) → length s < n → due.brace_step s t ≡ reads e r → Fits n e r
 brace_fits n s (label text) e r l h = fits_there n (due.behind_word text) e s r h l
 brace_fits n s colon e r l h = fits_there n due.no_fields e s r h l
 brace_fits n s t e r l h = key_fits n s t e r l h
 
--- behind what follows the first label in braces
+-- after what follows the first label in braces
 word_behind_fits : (n : ℕ) (text : List ℕ) (s : List Form) (t : Token) (e : Due) (r : List Form) → length s < n → due.word_behind_step text s t ≡ reads e r → Fits n e r
 word_behind_fits n text s colon e r l h = fits_there n value e (due.entries ∷ s) r h (omega arith)
 word_behind_fits n text s t e r l h = behind_flag_fits n (name_of text ∷ []) s t e r l h
@@ -262,7 +262,7 @@ zero_value m s room = with_token m value behind_value s s zero_token (level_open
 zero_item : (m : ℕ) (d : Due) (s : List Form) → (d ≡ first_item) ⊎ (d ≡ next_item) → length s < m → Completion m d s
 zero_item m d s at room = with_token m d behind_value s s zero_token (sym (item_step m d s zero_token at (zero_closes s)) ∙ level_open m s zero_token room) (closing m s)
 
--- behind a label the closes of all forms
+-- after a label the closes of all forms
 label_closing : (m : ℕ) (s : List Form) → Completion m behind_label s
 label_closing m [] = ([], behind_label, inr (refl, λ more f. cc), (refl, refl))
 label_closing m (due.tuple ∷ s) = with_token m behind_label behind_value (due.tuple ∷ s) s paren_close refl (closing m s)
@@ -286,7 +286,7 @@ completes n due.behind_key s fits = with_token (n + 1) due.behind_key value s (d
 completes n (due.flag names) s fits = with_token (n + 1) (due.flag names) behind_value s s brace_close refl (closing (n + 1) s)
 completes n (due.behind_flag names) s fits = with_token (n + 1) (due.behind_flag names) behind_value s s brace_close refl (closing (n + 1) s)
 
--- each front that is led begins a tree
+-- each prefix that is led begins a tree
 pub led_begin_tree : LedTokensBeginATree
 led_begin_tree n front d s leads =
     let (more, e, ends, on) = completes n d s (leads_fit n value [] front d s (omega arith) leads) in

@@ -35,7 +35,7 @@ either : {X : Type 0} (b : Bool) (x y : Step) (e : Due) (r : List Form) → (x �
 either true x y e r f g h = f h
 either false x y e r f g h = g h
 
--- one more token behind others
+-- one more token after others
 with_last : (front before tokens : List Token) (t : Token) → front ≡ before ++ tokens → front ++ t ∷ [] ≡ before ++ (tokens ++ t ∷ [])
 with_last front before tokens t e = ap (λ z. z ++ t ∷ []) e ∙ append_assoc before tokens (t ∷ [])
 
@@ -49,7 +49,7 @@ names_more : (texts : List (List ℕ)) (last : List ℕ) → map name_of (texts 
 names_more [] last = refl
 names_more (text ∷ texts) last = ap (λ z. name_of text ∷ z) (names_more texts last)
 
--- behind a label that stands for a value
+-- after a label that stands for a value
 word_behind : (front : List Token) (w : Word) (s : List Form) → Behind front (due.due_behind w) s
 word_behind front leaf_word s = tt
 word_behind front none_word s = tt
@@ -164,7 +164,7 @@ step_behind n front due.behind_key s t e r behind h =
 step_behind n front (due.flag names) s t e r behind h = flag_next front names s t e r behind h
 step_behind n front (due.behind_flag names) s t e r behind h = behind_flag_next front names s t e r behind h
 
--- tokens that are read behind others
+-- tokens that are read after others
 leads_behind : (n : ℕ) (before : List Token) (d : Due) (s : List Form) (ts : List Token) (e : Due) (r : List Form) → Behind before d s → Leads n d s ts e r → Behind (before ++ ts) e r
 leads_behind n before d s [] e r behind (a, b) = subst (λ z. Behind z e r) (sym (append-nil before)) (subst (λ z. Behind before z r) a (subst (Behind before d) b behind))
 leads_behind n before d s (t ∷ ts) e r behind (d', s', x, more) =
@@ -203,7 +203,7 @@ value_plain s bracket_open = tt
 value_plain s brace_open = tt
 value_plain s t = tt
 
--- behind a value
+-- after a value
 behind_plain : (s : List Form) (t : Token) → IsPlain (behind_step s t)
 behind_plain [] t = tt
 behind_plain (due.tuple ∷ s) comma = tt
@@ -230,12 +230,12 @@ brace_plain : (s : List Form) (t : Token) → IsPlain (due.brace_step s t)
 brace_plain s colon = tt
 brace_plain s t = tt
 
--- behind a flag
+-- after a flag
 behind_flag_plain : (names : List (List ℕ)) (s : List Form) (t : Token) → IsPlain (behind_flag_step names s t)
 behind_flag_plain names s comma = tt
 behind_flag_plain names s t = tt
 
--- behind the first label in braces
+-- after the first label in braces
 word_plain : (text : List ℕ) (s : List Form) (t : Token) → IsPlain (due.word_behind_step text s t)
 word_plain text s colon = tt
 word_plain text s t = tt
@@ -282,14 +282,14 @@ kind_there n due.behind_key s t = plain_kind n due.behind_key s t (step n due.be
 kind_there n (due.flag names) s t = flag_kind n names s t
 kind_there n (due.behind_flag names) s t = plain_kind n (due.behind_flag names) s t (behind_flag_step names s t) (behind_flag_plain names s t)
 
--- an empty tuple is refused behind its open parenthesis
+-- an empty tuple is refused after its open parenthesis
 pub empty_there : EmptyTuplesAreEmpty
 empty_there n front d s t led h =
     let (r, dues, forms, close) : KindOf n d s t empty_tuple = subst (KindOf n d s t) h (kind_there n d s t) in
     let (before, same) = subst (λ z. Behind front first_item z) forms (subst (λ z. Behind front z s) dues (leads_behind n [] value [] front d s tt led)) in
     (before, same, close)
 
--- a repeated flag is refused behind the flag that it repeats
+-- a repeated flag is refused after the flag that it repeats
 pub repeated_there : RepeatedFlagsAreRepeated
 repeated_there n front d s t led h =
     let (names, text, dues, a_label, found) : KindOf n d s t repeated_flag = subst (KindOf n d s t) h (kind_there n d s t) in

@@ -20,7 +20,7 @@ pub leads_join : (n : ℕ) (d e f : Due) (s r q : List Form) (ts us : List Token
 leads_join n d e f s r q [] us (x, y) h = subst (λ z. Leads n z s us f q) (sym x) (subst (λ z. Leads n e z us f q) (sym y) h)
 leads_join n d e f s r q (t ∷ ts) us (d', s', x, more) h = (d', s', x, leads_join n d' e f s' r q ts us more h)
 
--- tokens that lead from one place to another, and what is left behind them
+-- tokens that lead from one place to another, and what is left after them
 abbrev pub LeadsTo : ℕ → Due → List Form → List Token → Due → List Form → List Token → Type 0
 LeadsTo n d s tokens e r rest = (front : List Token) × (tokens ≡ front ++ rest) × Leads n d s front e r
 
@@ -32,12 +32,12 @@ one n d e f s r v t behind rest x (front, same, leads) = (t ∷ front, ap (λ z.
 none : (n : ℕ) (d : Due) (s : List Form) (tokens rest : List Token) → tokens ≡ rest → LeadsTo n d s tokens d s rest
 none n d s tokens rest e = ([], e, (refl, refl))
 
--- tokens and then those behind them
+-- tokens and then those after them
 joined : (n : ℕ) (d e f : Due) (s r v : List Form) (tokens behind rest : List Token) → LeadsTo n d s tokens e r behind → LeadsTo n e r behind f v rest → LeadsTo n d s tokens f v rest
 joined n d e f s r v tokens behind rest (front, same, leads) (front', same', leads') =
     (front ++ front', same ∙ (ap (λ z. front ++ z) same' ∙ sym (append_assoc front front' rest)), leads_join n d e f s r v front front' leads leads')
 
--- behind a value; where a payload might follow, no parenthesis stands
+-- after a value; where a payload might follow, no parenthesis stands
 abbrev pub IsEnd : Due → List Token → Type 0
 IsEnd d rest = (d ≡ behind_value) ⊎ (d ≡ behind_label) × ((more : List Token) → rest ≢ paren_open ∷ more)
 
@@ -50,7 +50,7 @@ label_step : (n : ℕ) (s : List Form) (t : Token) → t ≢ paren_open → step
 label_step n s paren_open h = absurd (h refl)
 label_step n s t h = refl
 
--- a token behind a value
+-- a token after a value
 pub end_step : (n : ℕ) (d : Due) (s : List Form) (t : Token) (more : List Token) → IsEnd d (t ∷ more) → step n d s t ≡ behind_step s t
 end_step n d s t more (inl e) = ap (λ z. step n z s t) e
 end_step n d s t more (inr (e, k)) = ap (λ z. step n z s t) e ∙ label_step n s t (λ f. k more (ap (λ z. z ∷ more) f))
@@ -107,31 +107,31 @@ item_leads n d f s tokens e r rest i at apart ([], same, (x, y)) = absurd (apart
 item_leads n d f s tokens e r rest i at apart (t ∷ front, same, (d', s', x, leads)) =
     (t ∷ front, same, (d', s', sym (item_step n d (f ∷ s) t at (λ k. no_close_reads n f (f ∷ s) d' s' i (subst (λ z. step n value (f ∷ s) z ≡ reads d' s') (close_token f s t k) x))) ∙ x, leads))
 
--- behind a value no value is due
+-- after a value no value is due
 pub end_not_value : (d : Due) (rest : List Token) → IsEnd d rest → value ≡ d → ⊥
 end_not_value d rest (inl e) h = let k : value ≡ behind_value = h ∙ e in cc
 end_not_value d rest (inr (e, k)) h = let m : value ≡ behind_label = h ∙ e in cc
 
--- behind a value a comma or the close of its items
+-- after a value a comma or the close of its items
 pub comma_reads : (f : Form) (s : List Form) → HasItems f → behind_step (f ∷ s) comma ≡ reads next_item (f ∷ s)
 comma_reads due.tuple s i = refl
 comma_reads due.list s i = refl
 comma_reads f s i = absurd i
 
--- the close behind a value
+-- the close after a value
 pub close_reads : (f : Form) (s : List Form) → behind_step (f ∷ s) (close_of f) ≡ reads behind_value s
 close_reads due.tuple s = refl
 close_reads due.list s = refl
 close_reads due.payload s = refl
 close_reads due.entries s = refl
 
--- the close behind a comma
+-- the close after a comma
 pub next_closes : (n : ℕ) (f : Form) (s : List Form) → HasItems f → step n next_item (f ∷ s) (close_of f) ≡ reads behind_value s
 next_closes n due.tuple s i = refl
 next_closes n due.list s i = refl
 next_closes n f s i = absurd i
 
--- a form is closed behind its value
+-- a form is closed after its value
 form_closes : (n : ℕ) (d : Due) (f : Form) (s : List Form) (rest : List Token) → IsEnd d (close_of f ∷ rest) → LeadsTo n d (f ∷ s) (close_of f ∷ rest) behind_value s rest
 form_closes n d f s rest h = one n d behind_value behind_value (f ∷ s) s s (close_of f) rest rest (end_step n d (f ∷ s) (close_of f) rest h ∙ close_reads f s) (none n behind_value s rest rest refl)
 
@@ -170,7 +170,7 @@ maybe_led : (n : ℕ) (s : List Form) (P : Spelling Tree) → AreLed n (due.payl
 maybe_led n s P led tokens t rest (inl (e, apart, f)) = (behind_label, inr (refl, apart), none n behind_label s tokens rest e)
 maybe_led n s P led tokens t rest (inr (u, p, f)) = (behind_value, inl refl, in_parens n s P led behind_label refl tokens u rest p)
 
--- what stands behind a label
+-- what stands after a label
 word_led : (n : ℕ) (s : List Form) (P : Spelling Tree) → AreLed n (due.payload ∷ s) P → (w : Word) (text : List ℕ) (tokens : List Token) (t : Tree) (rest : List Token) → BehindWord w text P tokens t rest →
     (d : Due) × IsEnd d rest × LeadsTo n (due.due_behind w) s tokens d s rest
 word_led n s P led leaf_word text tokens t rest (e, f) = (behind_value, inl refl, none n behind_value s tokens rest e)
@@ -182,7 +182,7 @@ word_led n s P led case_word text tokens t rest (u, p, f) = maybe_led n s P led 
 
 -- ---- entries
 
--- a key where one is due behind a comma
+-- a key where one is due after a comma
 pub key_there : (n : ℕ) (s : List Form) (t : Token) → IsKey t → step n due.key s t ≡ reads due.behind_key s
 key_there n s (number text) h = refl
 key_there n s (label text) h = refl
@@ -228,7 +228,7 @@ entries_led n s P led tokens (a ∷ more) rest l (behind, (inside, f, k, p), g) 
 
 -- ---- flags
 
--- each of these names is new behind those before it
+-- each of these names is new after those before it
 abbrev pub AllNew : List (List ℕ) → List (List ℕ) → Type 0
 AllNew names [] = Unit {0}
 AllNew names (x ∷ more) = (is_one_of names x ≡ false) × AllNew (names ++ x ∷ []) more
@@ -252,7 +252,7 @@ none_in_more : (names more : List (List ℕ)) (x : List ℕ) → NoneIn names mo
 none_in_more names [] x h k = tt
 none_in_more names (y ∷ more) x (a, h) (b, k) = (any_append (bytes_eq y) names x a (differ y x (λ e. b (sym e))), none_in_more names more x h k)
 
--- distinct names are new, each behind those before it
+-- distinct names are new, each after those before it
 all_new : (names more : List (List ℕ)) → NoneIn names more → AreDistinct more → AllNew names more
 all_new names [] h d = tt
 all_new names (x ∷ more) (a, h) (b, d) = (a, all_new (names ++ x ∷ []) more (none_in_more names more x h b) d)
@@ -276,7 +276,7 @@ flags_further n s names tokens (x ∷ more) rest (a, h) (front, behind, e, f, k)
     (ap (λ b. if b then due.repeated_flag else reads (due.behind_flag (names ++ name_of x ∷ [])) s) a)
     (flags_further n s (names ++ name_of x ∷ []) behind more rest h k)))
 
--- behind the first flag a colon would make it a key
+-- after the first flag a colon would make it a key
 word_further : (n : ℕ) (s : List Form) (text : List ℕ) (tokens : List Token) (texts : List (List ℕ)) (rest : List Token) → AllNew (name_of text ∷ []) (map name_of texts) → FurtherItems brace_close Label tokens texts rest →
     LeadsTo n (due.behind_word text) s tokens behind_value s rest
 word_further n s text tokens [] rest h (inl e) = subst (λ z. LeadsTo n (due.behind_word text) s z behind_value s rest) (sym e)

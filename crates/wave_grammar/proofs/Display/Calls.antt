@@ -73,7 +73,7 @@ name_there cs x r e h =
               stops_here function_name cs es c (ap (λ (z : ℕ). after z (after_all cs function_name)) same ∙ name_ends cs h) (subst (λ (z : List ℕ). Matches function_name z) g f.has)
         ]
 
--- the parameters of a call, displayed behind its name
+-- the parameters of a call, displayed after its name
 call_of : (s name : List ℕ) (params others : MaybeTree) (x : List ℕ) (tokens : List Token) → IsCall s name params → CutsInto (40 ∷ x) tokens → SpellsParams 100 tokens others → (other : IsCall (name ++ 40 ∷ x) name others) × (other.tokens ≡ tokens)
 call_of s name params others x tokens call cut spelled =
     let f = call.named.0 in (

@@ -7,7 +7,7 @@ use Rattle.wave_grammar.specs.LeafTokens.{name_of}
 use Rattle.wave_grammar.specs.Tree.{is_before, put_in_order, in_order}
 use Rattle.wave_grammar.proofs.FlagOrder.{asym, total, trans}
 
--- each label's name is before the names behind it
+-- each label's name is before the names after it
 abbrev pub IsOrdered : List (List ℕ) → Type 0
 IsOrdered [] = Unit {0}
 IsOrdered (x ∷ more) = AllOf (λ y. is_before (name_of x) (name_of y) ≡ true) more × IsOrdered more

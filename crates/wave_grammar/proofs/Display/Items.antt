@@ -1,4 +1,4 @@
--- What texts with commas, in marks and behind labels show, over what their parts show.
+-- What texts with commas, in marks and after labels show, over what their parts show.
 use Rattle.std.proofs.Common.{◌≡◌, ◌≢◌, ℕ, true, List, [], ◌∷◌, ◌++◌, inl, refl, sym, subst, append_assoc}
 use Rattle.wave_wasm.specs.Commas.{joined, followed, in_parens}
 use Rattle.wave_lex.specs.Regex.{is_one_of}
@@ -10,7 +10,7 @@ use Rattle.wave_grammar.proofs.RoundTrip.Tokens.{Stops, stops}
 use Rattle.wave_grammar.proofs.RoundTrip.Injective.{IsOneToken, paren_open_cut, paren_close_cut, comma_cut}
 use Rattle.wave_grammar.proofs.RoundTrip.Items.{followed_stops, StopsFirst}
 
--- before the end or a mark that is no `(`, behind which a cut is known, the text is cut into tokens that spell the item
+-- before the end or a mark that is no `(`, after which the tokens are known, the text has tokens that spell the item
 abbrev pub Shows : {A : Type 0} → Spelling A → List ℕ → A → Type 0
 Shows Item x a = (r : List ℕ) (rest : List Token) → Stops r → CutsInto r rest → NoParen rest → (tokens : List Token) × CutsInto (x ++ r) tokens × Item tokens a rest
 
@@ -21,7 +21,7 @@ AllShow Item [] (a ∷ items) = ⊥
 AllShow Item (x ∷ xs) [] = ⊥
 AllShow Item (x ∷ xs) (a ∷ items) = Shows Item x a × AllShow Item xs items
 
--- a closing mark: how it is cut, that it may follow a value, and that it is no `(`
+-- a closing mark: its token, that it may follow a value, and that it is no `(`
 pub record IsClosing (b : ℕ) (close : Token) : Type 0 where
   pub cut : (r : List ℕ) (rest : List Token) → CutsInto r rest → CutsInto (b ∷ r) (close ∷ rest)
   pub stops : is_one_of b stops ≡ true
@@ -30,7 +30,7 @@ pub record IsClosing (b : ℕ) (close : Token) : Type 0 where
 first_token : (a b : Token) (more others : List Token) → a ∷ more ≡ b ∷ others → a ≡ b
 first_token a b more others e = cc
 
--- the texts behind a first, and the close
+-- the texts after a first, and the close
 further_show : {A : Type 0} (close : Token) (b : ℕ) (Item : Spelling A) → IsClosing b close → (xs : List (List ℕ)) (items : List A) → AllShow Item xs items → (r : List ℕ) (rest : List Token) → CutsInto r rest
     → (tokens : List Token) × CutsInto (followed xs ++ b ∷ r) tokens × FurtherItems close Item tokens items rest × NoParen tokens
 further_show close b Item closing [] [] h r rest cut = (close ∷ rest, closing.cut r rest cut, inl refl, λ more e. closing.no_paren (first_token close paren_open rest more e))
@@ -57,7 +57,7 @@ items_show close b Item closing (x ∷ xs) (a ∷ items) (p, h) r rest cut =
     )
 items_show close b Item closing _ _ h r rest cut = absurd h
 
--- the same behind the opening mark
+-- the same after the opening mark
 pub listed_show : {A : Type 0} (open_mark close : Token) (a b : ℕ) (Item : Spelling A) → ((r : List ℕ) (rest : List Token) → CutsInto r rest → CutsInto (a ∷ r) (open_mark ∷ rest)) → IsClosing b close
     → (xs : List (List ℕ)) (items : List A) → AllShow Item xs items → (r : List ℕ) (rest : List Token) → CutsInto r rest
     → (tokens : List Token) × CutsInto ((a ∷ (joined xs ++ b ∷ [])) ++ r) (open_mark ∷ tokens) × Items close Item tokens items rest
@@ -75,7 +75,7 @@ parens_show Item x a p r rest cut =
       (tokens, refl, i),
     )
 
--- a label and what is shown behind it
+-- a label and what is shown after it
 pub label_show : (text : List ℕ) → IsOneToken text (label text) → {A : Type 0} (Inner : Spelling A) (x : List ℕ) (a : A) → StopsFirst x → Shows Inner x a
     → (r : List ℕ) (rest : List Token) → Stops r → CutsInto r rest → NoParen rest → (behind : List Token) × CutsInto ((text ++ x) ++ r) (label text ∷ behind) × Inner behind a rest
 label_show text one Inner x a first p r rest s cut bare =

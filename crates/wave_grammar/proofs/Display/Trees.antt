@@ -50,7 +50,7 @@ abbrev mutual
 
 -- ---- what is spelled has it
 
--- what is spelled is so, where the tokens have their shapes, and so have those behind
+-- what is spelled is so, where the tokens have their shapes, and so have those after
 abbrev pub Keeps : {A : Type 0} → Spelling A → (A → Type 0) → Type 0
 Keeps {A} Item P = (tokens : List Token) (a : A) (rest : List Token) → Item tokens a rest → AllOf HasShape tokens → P a × AllOf HasShape rest
 

@@ -25,7 +25,7 @@ use Rattle.wave_grammar.specs.Elaborates.{Meaning, Each, TreeReads, TreeReadsPay
 abbrev pub Through : {T A : Type 0} → Spelling A → Spelling T → Meaning T A → Type 0
 Through {T} {A} P I Q = (tokens : List Token) (a : A) (rest : List Token) → P tokens a rest → NoParen rest → (t : T) × I tokens t rest × Q t a
 
--- behind an item stands no open parenthesis
+-- after an item stands no open parenthesis
 further-no_paren : {A : Type 0} (close : Token) (P : Spelling A) → close ≢ paren_open → (tokens : List Token) (items : List A) (rest : List Token) → FurtherItems close P tokens items rest → NoParen tokens
 further-no_paren close P end tokens [] rest (inl e) more f = end cc
 further-no_paren close P end tokens [] rest (inr e) more f = cc
@@ -295,7 +295,7 @@ or-swap true false c = refl
 or-swap false true c = refl
 or-swap false false c = refl
 
--- one label before or behind another
+-- one label before or after another
 any-step : (p : List ℕ → Bool) (text other : List ℕ) (more put : List (List ℕ)) (b : Bool) → list_any p (map name_of put) ≡ (p (name_of text) || list_any p (map name_of more)) →
     list_any p (map name_of (cond b (text ∷ other ∷ more) (other ∷ put))) ≡ (p (name_of text) || (p (name_of other) || list_any p (map name_of more)))
 any-step p text other more put true e = refl

@@ -71,7 +71,7 @@ word-is text = by_test (kw.is_keyword text) refl
     by_test true e = keyword-is text (is_one kw.keywords text e)
     by_test false e = let none = none_of kw.keywords text e in subst (λ w. WordIs w text) (sym (not-keyword text none)) none
 
--- what stands behind a label
+-- what stands after a label
 by-word : (Inner : Spelling Tree) (w : Word) (text : List ℕ) (behind : List Token) (t : Tree) (rest : List Token) → WordIs w text → BehindWord w text Inner behind t rest → ByTree Inner t (label text ∷ behind) rest
 by-word Inner leaf_word text behind t rest w (e, f) = subst (λ t. ByTree Inner t (label text ∷ behind) rest) (sym f) (ap (λ x. label text ∷ x) e)
 by-word Inner none_word text behind t rest w (e, f) = subst (λ t. ByTree Inner t (label text ∷ behind) rest) (sym f) cc

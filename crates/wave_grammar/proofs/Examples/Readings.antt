@@ -33,7 +33,7 @@ marks = brace_open ∷ brace_close ∷ paren_open ∷ paren_close ∷ bracket_op
 abbrev all_tokens : List Token
 all_tokens = marks ++ number (codes "1") ∷ label (codes "a") ∷ char (codes "'a'") ∷ string (codes "\"a\"") ∷ multiline (codes "\"\"\"a\"\"\"") ∷ []
 
--- a token of each class has its text, and is told by its class and text; a label's name is without its `%`;
+-- a token of each class has its text, and is determined by its class and text; a label's name is without its `%`;
 -- `7`, `-7` and no text at a signed type, `-7` at an unsigned one, no digits; `-0` is the zero of s8 and no u8; zeros may lead
 texts : (map text_of all_tokens ≡ codes "{" ∷ codes "}" ∷ codes "(" ∷ codes ")" ∷ codes "[" ∷ codes "]" ∷ codes ":" ∷ codes "," ∷ codes "1" ∷ codes "a" ∷ codes "'a'" ∷ codes "\"a\"" ∷ codes "\"\"\"a\"\"\"" ∷ [])
     × (map (λ t. token_of (lexeme_of t).0 (text_of t)) all_tokens ≡ all_tokens)
@@ -105,7 +105,7 @@ Row T text t v = Reads T 2 (tokens text) v [] × Takes 2 (tokens text) t [] × T
 a_list : Row (type.list u8) "[1, 1,]" (tree.list (trees (one_tree ∷ one_tree ∷ []))) (value.list (values (a_one ∷ a_one ∷ [])))
 a_list = ((lit< tt, (_ ∷ _ ∷ [], (_, refl, (_, inner, (_, _, refl, inner, inr refl))), refl)), (_ ∷ _ ∷ [], (_, (refl, refl), (_, _, refl, (refl, refl), inr refl)), refl), (_ ∷ _ ∷ [], _ ∷ _ ∷ [], refl, (_, _, given, (_, _, given, refl, refl), refl), refl))
 
--- four numbers in brackets, with a comma behind the last
+-- four numbers in brackets, with a comma after the last
 abbrev in_brackets : List ℕ → List ℕ → List ℕ → List ℕ → List Token
 in_brackets a b c d = bracket_open ∷ number a ∷ comma ∷ number b ∷ comma ∷ number c ∷ comma ∷ number d ∷ comma ∷ bracket_close ∷ []
 
@@ -138,7 +138,7 @@ flat_list = (
   inr (_, (tt, (_ ∷ [], _ ∷ [], refl, refl, (_, _, given, refl, refl), refl)), refl),
 )
 
--- no list of fewer or more items is one of so many
+-- no list of fewer or more items is one of this length
 other_lengths : (count : ℕ) (ts : List Tree) (v : Value) → length ts ≢ count → TreeReads (type.fixed u8 count) (tree.list (trees ts)) v → ⊥
 other_lengths count ts v other (us, vs, e, long, each, f) = other (ap length (trees-injective ts us (list_parts e)) ∙ long)
   where
@@ -203,7 +203,7 @@ leaves : (rest : List Token) → Takes 1 (char (codes "'x'") ∷ rest) (tree.one
     × Takes 1 (multiline (codes "\"\"\"x\"\"\"") ∷ rest) (tree.one (multiline (codes "\"\"\"x\"\"\""))) rest × Takes 1 (label (codes "true") ∷ rest) (tree.one (label (codes "true"))) rest
 leaves rest = ((refl, refl), (refl, refl), (refl, refl), (refl, refl))
 
--- what a label is where a value is due; in byte order capitals stand before small letters, `-` before digits, and a front before what is longer, and `%` doesn't count
+-- what a label is where a value is due; in byte order capitals stand before small letters, `-` before digits, and a prefix before what is longer, and `%` doesn't count
 labels : (map word_of (codes "true" ∷ codes "none" ∷ codes "some" ∷ codes "ok" ∷ codes "err" ∷ codes "%ok" ∷ []) ≡ leaf_word ∷ none_word ∷ some_word ∷ ok_word ∷ err_word ∷ case_word ∷ [])
     × (in_order (codes "b" ∷ codes "%a-1" ∷ codes "a2" ∷ codes "%a" ∷ codes "Z" ∷ []) ≡ codes "Z" ∷ codes "%a" ∷ codes "%a-1" ∷ codes "a2" ∷ codes "b" ∷ [])
 labels = (refl, refl)
@@ -223,7 +223,7 @@ params : SpellsParams 100 (tokens "(1,)") (tree.a_tree (tree.tuple (trees (one_t
     × Params [] (tokens "()") [] × Params (type.option u8 ∷ []) (tokens "()") (value.option value.no_value ∷ []) × Params (u8 ∷ type.option u8 ∷ []) (tokens "(1)") (a_one ∷ value.option value.no_value ∷ []) × Params (u8 ∷ u8 ∷ []) (tokens "(1, 1,)") (a_one ∷ a_one ∷ [])
 params = (inr (_, one_tree ∷ [], refl, lit< tt, (_, (refl, refl), inr refl), refl), (refl, refl), inl (refl, (_, tt, refl, refl)), inr (1, _, _, _, _, refl, inner, inl (inl refl, (_, tt, refl, refl)), refl), inr (1, _, _, _, _, refl, inner, inr (1, _, _, _, _, refl, inner, (inr refl, refl), refl), refl))
 
--- spaces and a comment without text are gaps
+-- spaces and a comment without text are whitespace
 a_text : Means u8 100 (codes " 1//") a_one
 a_text = (one ∷ [], (codes "//", (1, 1, longest_here gap _ _ refl refl refl refl, token_here _ 1 class.Number refl refl refl tt refl, refl, refl), longest_here gap _ _ refl refl refl refl), one_reads 100 [] (lit< tt))
 

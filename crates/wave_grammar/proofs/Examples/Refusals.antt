@@ -25,7 +25,7 @@ use Rattle.wave_grammar.proofs.Unambiguity.Values.{apart}
 use Rattle.wave_wasm.proofs.NameTests.{none_of}
 use Rattle.wave_grammar.proofs.Examples.Readings.{tokens, one, above_u8, u8, u8_or_err}
 
--- what the last of the tokens does behind the others, within three levels; a refusal stays
+-- what the last of the tokens does after the others, within three levels; a refusal stays
 abbrev goes : Step → List Token → Step
 goes s [] = s
 goes (reads d forms) (t ∷ more) = goes (step 3 d forms t) more
@@ -46,7 +46,7 @@ steps : (map last ("1" ∷ "'x'" ∷ "\"x\"" ∷ "\"\"\"x\"\"\"" ∷ ")" ∷ "1,
     × (map last ("[[[]" ∷ "[[{a}" ∷ "[[[1" ∷ "[[{a: 1" ∷ []) ≡ reads behind_value (due.list ∷ due.list ∷ []) ∷ reads behind_value (due.list ∷ due.list ∷ []) ∷ too_deep ∷ too_deep ∷ [])
 steps = (refl, refl, refl, refl, refl)
 
--- tokens lead behind a flag; two texts would be trees if a tuple might be empty and a flag repeated
+-- tokens lead to the end of a flag; two texts would be trees if a tuple might be empty and a flag repeated
 led : Leads 100 value [] (tokens "{a, %b") (due.behind_flag (codes "a" ∷ codes "b" ∷ [])) []
     × TakesLoosely 2 (tokens "[()]") (tree.list (tree.trees (tree.tuple tree.no_trees ∷ []))) [] × TakesLoosely 1 (tokens "{a, a}") (tree.flags (codes "a" ∷ codes "a" ∷ [])) []
 led = ((_, _, refl, (_, _, refl, (_, _, refl, (_, _, refl, (refl, refl))))), inl (_ ∷ [], (_, inr (inl (refl, refl)), inl refl), refl), inr (inr (_, codes "a" ∷ codes "a" ∷ [], omega arith, refl, (_, refl, (_, _, refl, refl, inl refl)), refl)))

@@ -4,7 +4,7 @@ use Rattle.std.specs.Bool.{◌==◌}
 use Rattle.wave_grammar.specs.NumberText.{digits, all_digits}
 use Rattle.wave_grammar.specs.Private.NumberText.{IsMagnitude}
 
--- behind a digit the number goes on
+-- after a digit the number goes on
 passed : (b : Bool) (x : Option ℕ) (n : ℕ) → elim b [ true ↦ x | false ↦ None ] ≡ Some n → x ≡ Some n
 passed true x n e = e
 passed false x n e = absurd (cc)

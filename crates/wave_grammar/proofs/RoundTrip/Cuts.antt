@@ -10,11 +10,11 @@ use Rattle.wave_grammar.specs.CommaSeparated.{Spelling, FurtherItems, Listed}
 use Rattle.wave_grammar.specs.TypedGrammar as r
 use Rattle.wave_grammar.specs.TypedGrammar.{Reads, ReadsPayload, ReadsFlat, ReadsTuple, ReadsFurther, ReadsField, ReadsCase}
 
--- behind its open parenthesis a tuple of no values
+-- after its open parenthesis a tuple of no values
 abbrev pub EmptyTuple : Spelling (List Value)
 EmptyTuple tokens items rest = (tokens ≡ paren_close ∷ rest) × (items ≡ [])
 
--- at the front of the tokens stands the value as canonical texts have it, within n levels, and the rest is left
+-- at the start of the tokens stands the value as canonical texts have it, within n levels, and the rest is left
 abbrev mutual
   pub Writes : TypeTree → ℕ → Spelling Value
   Writes (type.simple S) n = r.Provided (0 < n) (r.ASimple S)
@@ -40,7 +40,7 @@ abbrev mutual
   WritesTuple type.no_types n = EmptyTuple
   WritesTuple (type.type_and T more) n = r.First (Writes T n) (WritesFurther more n)
 
-  -- what stands behind a value of a tuple
+  -- what stands after a value of a tuple
   pub WritesFurther : Types → ℕ → Spelling (List Value)
   WritesFurther type.no_types n = r.End
   WritesFurther (type.type_and T more) n = r.Then (Writes T n) (WritesFurther more n)

@@ -20,7 +20,7 @@ use Rattle.wave_grammar.proofs.RoundTrip.Tokens.{or_either}
 
 -- ---- hexadecimal digits
 
--- at most so many digits
+-- at most this many digits
 abbrev bound : ℕ → ℕ
 bound zero = 1
 bound (suc m) = 16 * bound m
@@ -63,7 +63,7 @@ some_hexadecimal zero (d ∷ ds) l h = absurd (omega arith)
 some_hexadecimal (suc n) [] l h = inl refl
 some_hexadecimal (suc n) (d ∷ ds) l h = inr (d ∷ [], ds, refl, one_hexadecimal d h.0, some_hexadecimal n ds (omega arith) h.1)
 
--- the digits and the close behind them
+-- the digits and the close after them
 pub digits_ascii : (ds : List ℕ) → AllDigits 16 ds → is_ascii (ds ++ 125 ∷ []) ≡ true
 digits_ascii [] h = refl
 digits_ascii (d ∷ ds) h = rw (hexadecimal_small d h.0, digits_ascii ds h.1) refl

@@ -66,7 +66,7 @@ abbrev pub AreFound : List (List ℕ × Value) → FieldValues → Type 0
 AreFound found no_fields = Unit {0}
 AreFound found (field name v more) = (look_up found name ≡ written_value v) × AreFound found more
 
--- a field of another name in front changes nothing
+-- a field of another name before it changes nothing
 found_past : (name : List ℕ) (v : Value) (found : List (List ℕ × Value)) (fs : FieldValues) → IsNoneOf (names_of fs) name → AreFound found fs → AreFound ((name, v) ∷ found) fs
 found_past name v found no_fields n h = tt
 found_past name v found (field first w more) n h =

@@ -19,11 +19,11 @@ use Rattle.wave_grammar.proofs.Elaboration.TreeToGrammar.{back}
 use Rattle.wave_grammar.proofs.Unambiguity.Levels.{takes-levels, takes-within}
 use Rattle.wave_grammar.proofs.RoundTrip.Tokens.{Stops, mark_cut, space_cut, stopped_cut, label_ends, ascii_itself, end_cut}
 
--- before the end or a mark, behind which a cut is known, the text is cut into tokens that spell the item
+-- before the end or a mark, after which the tokens are known, the text has tokens that spell the item
 abbrev pub Prints : {A : Type 0} → Spelling A → List ℕ → A → Type 0
 Prints Item x a = (r : List ℕ) (rest : List Token) → Stops r → CutsInto r rest → (tokens : List Token) × CutsInto (x ++ r) tokens × Item tokens a rest
 
--- before the end or a mark, behind which a cut is known, the text is this one token
+-- before the end or a mark, after which the tokens are known, the text is this one token
 abbrev pub IsOneToken : List ℕ → Token → Type 0
 IsOneToken x token = (r : List ℕ) (rest : List Token) → Stops r → CutsInto r rest → CutsInto (x ++ r) (token ∷ rest)
 
@@ -47,7 +47,7 @@ bracket_open_cut r rest cut = mark_cut class.BracketOpen 91 r _ refl (91, refl, 
 pub bracket_close_cut : (r : List ℕ) (rest : List Token) → CutsInto r rest → CutsInto (93 ∷ r) (bracket_close ∷ rest)
 bracket_close_cut r rest cut = mark_cut class.BracketClose 93 r _ refl (93, refl, refl) refl tt cut
 
--- a colon or comma, and the space behind it
+-- a colon or comma, and the space after it
 pub colon_cut : (r : List ℕ) (rest : List Token) → CutsInto r rest → CutsInto (58 ∷ 32 ∷ r) (colon ∷ rest)
 colon_cut r rest cut = mark_cut class.Colon 58 (32 ∷ r) _ refl (58, refl, refl) refl tt (space_cut r _ cut)
 

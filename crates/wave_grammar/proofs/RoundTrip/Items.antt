@@ -32,16 +32,16 @@ all_print P Q takes (x ∷ xs) (a ∷ items) (p, h) =
     ((λ r rest s cut. let (tokens, c, i) = p r rest s cut in (tokens, c, takes tokens a rest i)), all_print P Q takes xs items h)
 all_print P Q takes _ _ h = absurd h
 
--- behind an item a comma or the close stands
+-- after an item a comma or the close stands
 pub followed_stops : (xs : List (List ℕ)) (b : ℕ) (r : List ℕ) → is_one_of b stops ≡ true → Stops (followed xs ++ b ∷ r)
 followed_stops [] b r e = e
 followed_stops (x ∷ xs) b r e = refl
 
--- a closing mark's cut
+-- a closing mark's token
 abbrev IsCut : ℕ → Token → Type 0
 IsCut b token = (r : List ℕ) (rest : List Token) → CutsInto r rest → CutsInto (b ∷ r) (token ∷ rest)
 
--- the texts behind a first, and the close
+-- the texts after a first, and the close
 further_print : {A : Type 0} (close : Token) (b : ℕ) (Item : Spelling A) → IsCut b close → is_one_of b stops ≡ true → (xs : List (List ℕ)) (items : List A) → AllPrint Item xs items
     → (r : List ℕ) (rest : List Token) → CutsInto r rest → (tokens : List Token) × CutsInto (followed xs ++ b ∷ r) tokens × FurtherItems close Item tokens items rest
 further_print close b Item close_cut stop [] [] h r rest cut = (close ∷ rest, close_cut r rest cut, inl refl)
@@ -67,7 +67,7 @@ items_print close b Item close_cut stop (x ∷ xs) (a ∷ items) (p, h) r rest c
     )
 items_print close b Item close_cut stop _ _ h r rest cut = absurd h
 
--- the same behind the opening mark
+-- the same after the opening mark
 listed_print : {A : Type 0} (open_mark close : Token) (a b : ℕ) (Item : Spelling A) → IsCut a open_mark → IsCut b close → is_one_of b stops ≡ true → (xs : List (List ℕ)) (items : List A) → AllPrint Item xs items
     → Prints (Listed open_mark close Item) (a ∷ (joined xs ++ b ∷ [])) items
 listed_print open_mark close a b Item open_cut close_cut stop xs items h r rest s cut =
@@ -94,20 +94,20 @@ parens_print Item x a p r rest s cut =
       (tokens, refl, i),
     )
 
--- ---- payloads, behind a word or a case's name
+-- ---- payloads, after a word or a case's name
 
 -- what follows a label: nothing more, or a mark
 abbrev pub StopsFirst : List ℕ → Type 0
 StopsFirst x = (r : List ℕ) → Stops r → Stops (x ++ r)
 
--- a label and what prints behind it
+-- a label and what prints after it
 label_print : (text : List ℕ) → IsOneToken text (label text) → {A : Type 0} (Inner : Spelling A) (x : List ℕ) (a : A) → StopsFirst x → Prints Inner x a
     → (r : List ℕ) (rest : List Token) → Stops r → CutsInto r rest → (behind : List Token) × CutsInto ((text ++ x) ++ r) (label text ∷ behind) × Inner behind a rest
 label_print text one Inner x a first p r rest s cut =
     let (behind, c, i) = p r rest s cut in
     (behind, subst (λ (z : List ℕ). CutsInto z (label text ∷ behind)) (sym (append_assoc text x r)) (one (x ++ r) behind (first r s) c), i)
 
--- behind a word
+-- after a word
 pub word_print : (word : List ℕ) → IsOneToken word (label word) → {A : Type 0} (Inner : Spelling A) (x : List ℕ) (a : A) → StopsFirst x → Prints Inner x a → Prints (Behind word Inner) (word ++ x) a
 word_print word one Inner x a first p r rest s cut = let (behind, c, i) = label_print word one Inner x a first p r rest s cut in (label word ∷ behind, c, (behind, refl, i))
 
@@ -124,7 +124,7 @@ bare_print r rest s cut = (rest, cut, (refl, refl))
 pub payload_print : (Inner : Spelling Value) (w : Value) → Prints Inner (printed w) w → Prints (Payload Inner) (printed_payload (a_value w)) (a_value w)
 payload_print Inner w p r rest s cut = let (tokens, c, i) = parens_print Inner (printed w) w p r rest s cut in (tokens, c, (w, i, refl))
 
--- a case's name and what prints behind it
+-- a case's name and what prints after it
 pub case_print : (name : List ℕ) → IsLabel name → {A : Type 0} (Inner : Spelling A) (x : List ℕ) (a : A) → StopsFirst x → Prints Inner x a
     → (r : List ℕ) (rest : List Token) → Stops r → CutsInto r rest → (tokens : List Token) × (behind : List Token) × CutsInto ((case_label name ++ x) ++ r) tokens × CaseName tokens name behind × Inner behind a rest
 case_print name h Inner x a first p r rest s cut =
@@ -134,7 +134,7 @@ case_print name h Inner x a first p r rest s cut =
 
 -- ---- entries
 
--- a label, a colon and what prints behind it
+-- a label, a colon and what prints after it
 pub named_print : {A : Type 0} (Inner : List ℕ → Spelling A) (name x : List ℕ) (a : A) → IsLabel name → Prints (Inner name) x a → Prints (Named Inner) (behind_name name x) (name, a)
 named_print Inner name x a h p r rest s cut =
     let (tokens, c, i) = p r rest s cut in (
@@ -143,7 +143,7 @@ named_print Inner name x a h p r rest s cut =
       (name, tokens, refl, label_name name h, i),
     )
 
--- a key, a colon and what prints behind it
+-- a key, a colon and what prints after it
 pub keyed_print : {A : Type 0} (K : Simple) (Inner : Spelling A) (key : Leaf) (x : List ℕ) (a : A) → IsWritten K key → Prints Inner x a → Prints (Keyed K Inner) (behind_name (leaf_text key) x) (key, a)
 keyed_print K Inner key x a (token, spells, one) p r rest s cut =
     let (tokens, c, i) = p r rest s cut in (

@@ -31,7 +31,7 @@ same_tokens : (ts : List Token) → map (λ l. token_of l.0 l.1) (map lexeme_of 
 same_tokens [] = refl
 same_tokens (t ∷ ts) = λ i. same_token t i ∷ same_tokens ts i
 
--- a text cuts into one list of tokens
+-- a text is tokenized into one list of tokens
 pub one_cut_into : (s : List ℕ) (ts us : List Token) → CutsInto s ts → CutsInto s us → ts ≡ us
 one_cut_into s ts us a b = sym (same_tokens ts) ∙ (ap (map (λ l. token_of l.0 l.1)) (cuts_once s (map lexeme_of ts) (map lexeme_of us) a b) ∙ same_tokens us)
 

@@ -1,4 +1,4 @@
--- No front of tokens is two values of a type in the grammar of canonical texts.
+-- No prefix of tokens is two values of a type in the grammar of canonical texts.
 use Rattle.std.proofs.Common.{ℕ, ◌-◌, ◌<◌, inl, inr, List, ◌∷◌, sym, subst}
 use Rattle.wave_wasm.specs.Types as type
 use Rattle.wave_wasm.specs.Types.{TypeTree, MaybeType, Types, Fields, Cases, field_names, case_names, HasDistinctNames, EachNamesOfMaybe, EachNamesOfTypes, EachNamesOfFields, EachNamesOfCases}
@@ -62,7 +62,7 @@ case-named (type.case_of other T more) n name tokens w rest (inr h) = inr (case-
 -- ---- any type
 
 mutual
-  -- no front is two values of the type
+  -- no prefix is two values of the type
   pub once : (T : TypeTree) → HasDistinctNames T → (n m : ℕ) → Agree (Writes T n) (Writes T m)
   once (type.simple S) d n m = provided-agree (0 < n) (0 < m) _ _ (simple-agree S)
   once (type.unreadable kind) d n m = never-agree

@@ -54,7 +54,7 @@ ascii_text (either p q) s a (inl h) = let w : (has_ascii p ≡ true) × (has_asc
 ascii_text (either p q) s a (inr h) = let w : (has_ascii p ≡ true) × (has_ascii q ≡ true) = and_true _ _ a in ascii_text q s w.1 h
 ascii_text (many p) s a (parts, e, h) = ap is_ascii e ∙ ascii_joined p (λ x. ascii_text p x a) parts h
 
--- a label, bare or behind a `%`, is one token
+-- a label, bare or after a `%`, is one token
 pub label_token : (name : List ℕ) → IsLabel name → IsOneToken name (label name)
 label_token name h = label_cut name ([], name, refl, inl refl, h) (ascii_text shapes.label name refl h)
 
@@ -92,7 +92,7 @@ case_token name h = by_test (is_keyword name) refl
 -- ---- merged entries
 
 module _ {K V : Type 0} (same : K → K → Bool) where
-  -- no key is the key of an entry behind it
+  -- no key is the key of an entry after it
   abbrev pub AreApart : List (K × V) → Type 0
   AreApart [] = Unit {0}
   AreApart (e ∷ es) = AllOf (λ f. same e.0 f.0 ≡ false) es × AreApart es

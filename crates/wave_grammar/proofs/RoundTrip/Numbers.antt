@@ -26,7 +26,7 @@ use Rattle.wave_grammar.specs.NumberText.{all_digits, digits, signed_text, whole
 digit_test : (d : ℕ) → d < 10 → is_digit (48 + d) ≡ true
 digit_test d l = grind (arith, nat_tests)
 
--- the number with one more digit behind
+-- the number with one more digit after
 digit_more : (ds : List ℕ) (a m d : ℕ) → d < 10 → digits a ds ≡ Some m → digits a (ds ++ (48 + d) ∷ []) ≡ Some (m * 10 + d)
 digit_more [] a m d l e =
     let test : (nat_le 48 (48 + d) && nat_le (48 + d) 57) ≡ true = digit_test d l in
@@ -66,7 +66,7 @@ one_digit n l = record {
   negative = λ some. number_steps state.Minus (48 + n) ∙ ap (after_next NumberState number_rest) (let e : number_step state.Minus (48 + n) ≡ Some state.Whole = grind (arith, nat_tests) in e);
 }
 
--- behind a digit another
+-- after a digit another
 whole_more : (d : ℕ) → d < 10 → after (48 + d) (number_rest state.Whole) ≡ number_rest state.Whole
 whole_more d l = number_steps state.Whole (48 + d) ∙ ap (after_next NumberState number_rest) (let e : number_step state.Whole (48 + d) ≡ Some state.Whole = grind (arith, nat_tests) in e)
 

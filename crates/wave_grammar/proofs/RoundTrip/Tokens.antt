@@ -1,4 +1,4 @@
--- A text that is put together from the texts of tokens is cut into these tokens.
+-- A text that is put together from the texts of tokens is tokenized into these.
 use Rattle.std.proofs.Common.{◌≡◌, ℕ, ◌≤◌, ◌<◌, ◌+◌, ◌≢◌, Bool, true, false, nat_eq, nat_lt, zero, suc, List, [], ◌∷◌, ◌++◌, ◌⊎◌, inl, inr, refl, sym, ap, subst, ◌∙◌, length, take, drop, arith, Option, Some, None, append_assoc, length-append, length-take-le}
 use Rattle.std.specs.Prelude.{◌&&◌, ◌||◌, encode_utf8, encode_utf8_all, codes}
 use Rattle.std.proofs.lemmas.Bool.{cases_lt, eqb-true, ltb-true}
@@ -27,7 +27,7 @@ use Rattle.wave_lex.proofs.LongestMatch.{is_ascii, longest_here}
 use Rattle.wave_lex.proofs.Classes.{group, token_shows, shape_not_empty}
 use Rattle.wave_lex.proofs.Cutting.{one_class}
 
--- ---- fronts of one text
+-- ---- prefixes of one text
 
 -- ASCII stands for itself
 pub ascii_itself : (s : List ℕ) → is_ascii s ≡ true → encode_utf8_all s ≡ s
@@ -35,7 +35,7 @@ ascii_itself [] h = refl
 ascii_itself (b ∷ s) h = let p : (nat_lt b 128 ≡ true) × (is_ascii s ≡ true) = and_true _ _ h in
     ap (λ (z : List ℕ). z ++ encode_utf8_all s) (encode_ascii b (ltb-true b 128 p.0)) ∙ ap (λ (z : List ℕ). b ∷ z) (ascii_itself s p.1)
 
--- of two fronts of a text the second is no longer, or goes on behind the first
+-- of two prefixes of a text the second is no longer, or goes on after the first
 pub goes_on : (cs ds r t : List ℕ) → encode_utf8_all cs ++ r ≡ encode_utf8_all ds ++ t
     → (length (encode_utf8_all ds) ≤ length (encode_utf8_all cs)) ⊎ ((e : ℕ) × (es : List ℕ) × (ds ≡ cs ++ e ∷ es) × (r ≡ encode_utf8 e ++ (encode_utf8_all es ++ t)))
 goes_on [] [] r t e = inl (omega arith)
@@ -51,7 +51,7 @@ goes_on (c ∷ cs) (d ∷ ds) r t e =
       | inr (x, xs, f, g) ↦ inr (x, xs, let same : c ≡ d = s.0 in cc, g)
     ]
 
--- no front goes on behind a text with a scalar that may not follow it
+-- no prefix goes on after a text with a scalar that may not follow it
 pub stops_here : (p : Regex) (cs es : List ℕ) (e : ℕ) → after e (after_all cs p) ≡ nothing → Matches p (cs ++ e ∷ es) → {A : Type 0} → A
 stops_here p cs es e n h =
     let dead : after_all (cs ++ e ∷ es) p ≡ nothing = after_all_append cs (e ∷ es) p ∙ (ap (after_all es) n ∙ after_all_nothing es) in
@@ -86,9 +86,9 @@ token_there c cs r h ends may =
           | inr (e, es, g, there) ↦ stops_here (shape c) cs es e (ends e _ there) (subst (λ (z : List ℕ). Matches (shape c) z) g f.has)
         ]
 
--- ---- gaps
+-- ---- whitespace
 
--- where a scalar that begins no gap stands, the gap is empty
+-- where a scalar that begins no whitespace stands, the whitespace is empty
 no_gap : (c : ℕ) (s rest : List ℕ) → s ≡ encode_utf8 c ++ rest → after c gap ≡ nothing → IsGap s 0
 no_gap c s rest b n = (record { scalars = []; fits = omega arith; spelled = refl; has = matches_from [] gap refl }, λ j f. none j f)
   where
@@ -110,7 +110,7 @@ pub or_either : (a b : Bool) → (a || b) ≡ true → (a ≡ true) ⊎ (b ≡ t
 or_either true b e = inl refl
 or_either false b e = inr e
 
--- a scalar that begins a token begins no gap
+-- a scalar that begins a token begins no whitespace
 token_no_gap : (x : ℕ) (c : Token) → class_of x ≡ Some c → after x gap ≡ nothing
 token_no_gap x c e =
     elim (cases_lt x 129) as (λ _. after x gap ≡ nothing) [
@@ -123,21 +123,21 @@ token_no_gap x c e =
           after_past gap x 128 refl m n ∙ same_true _ _ refl
     ]
 
--- before a token that stands there the gap is empty
+-- before a token that stands there the whitespace is empty
 gap_before : (c : Token) (cs r : List ℕ) → IsToken (encode_utf8_all cs ++ r) (length (encode_utf8_all cs)) c → Matches (shape c) cs → may_be_empty (shape c) ≡ false → IsGap (encode_utf8_all cs ++ r) 0
 gap_before c [] r t h f = let wrong : false ≡ true = sym f ∙ empty_into (shape c) h in cc
 gap_before c (x ∷ cs) r t h f =
     let begins = append_assoc (encode_utf8 x) (encode_utf8_all cs) r in
     no_gap x _ (encode_utf8_all cs ++ r) begins (token_no_gap x (group c) (token_shows _ (encode_utf8_all cs ++ r) (length (encode_utf8_all (x ∷ cs))) x c begins t))
 
--- a front of a gap behind a space is a front of the gap, and one byte
+-- a prefix of whitespace after a space is a prefix of the whitespace, and one byte
 behind_space : (s : List ℕ) (j : ℕ) (ds : List ℕ) → encode_utf8_all ds ≡ 32 ∷ take j s → Matches gap ds → (es : List ℕ) × (encode_utf8_all es ≡ take j s) × Matches gap es
 behind_space s j [] e h = cc
 behind_space s j (d ∷ ds) e h =
     let w = encode_same d 32 (encode_utf8_all ds) (take j s) (e ∙ ap (λ (z : List ℕ). z ++ take j s) (sym (encode_ascii 32 (ltb-true 32 128 refl)))) in
     (ds, w.1, after_into 32 gap ds (subst (λ (z : ℕ). Matches gap (z ∷ ds)) w.0 h))
 
--- a space in front of a gap
+-- a space before whitespace
 space_gap : (s : List ℕ) (g : ℕ) → IsGap s g → IsGap (32 ∷ s) (suc g)
 space_gap s g (f, most) = (
   record {
@@ -157,7 +157,7 @@ space_gap s g (f, most) = (
         let m : j ≤ g = most j (record { scalars = es; fits = omega arith; spelled = e; has = k }) in
         omega arith
 
--- a space before a text that is cut
+-- a space before a text that is tokenized
 pub space_cut : (s : List ℕ) (ts : List Lexeme) → Cuts s ts → Cuts (32 ∷ s) ts
 space_cut s [] (q, e, g) = (32 ∷ s, refl, space_gap s (length s) (subst (λ (z : List ℕ). IsGap z (length z)) (sym e) g))
 space_cut s (t ∷ ts) (q, (g, k, gap_is, long, text, front), end) = (
@@ -166,9 +166,9 @@ space_cut s (t ∷ ts) (q, (g, k, gap_is, long, text, front), end) = (
   end,
 )
 
--- ---- a token before a text that is cut
+-- ---- a token before a text that is tokenized
 
--- the cut of a text behind a token
+-- the tokens of a text after a token
 cut_there : (c : Token) (cs r : List ℕ) (ts : List Lexeme) → Matches (shape c) cs → IsLongestToken (encode_utf8_all cs ++ r) (length (encode_utf8_all cs)) c → Cuts r ts
     → Cuts (encode_utf8_all cs ++ r) ((c, encode_utf8_all cs) ∷ ts)
 cut_there c cs r ts h long (q, front, end) =
@@ -185,7 +185,7 @@ cut_there c cs r ts h long (q, front, end) =
       end,
     )
 
--- a token before a text that is cut, where nothing that follows goes on with the token
+-- a token before a text that is tokenized, where nothing that follows goes on with the token
 pub token_cut : (c : Token) (cs x r : List ℕ) (ts : List Lexeme) → encode_utf8_all cs ≡ x → Matches (shape c) cs → EndsBefore c cs r → MayStandAt (x ++ r) (length x) c → Cuts r ts
     → Cuts (x ++ r) ((c, x) ∷ ts)
 token_cut c cs x r ts e h ends =
@@ -194,7 +194,7 @@ token_cut c cs x r ts e h ends =
 
 -- ---- marks
 
--- a mark of one byte before a text that is cut
+-- a mark of one byte before a text that is tokenized
 pub mark_cut : (c : Token) (m : ℕ) (r : List ℕ) (ts : List Lexeme) → nat_lt m 128 ≡ true → Matches (shape c) (m ∷ []) → after m (shape c) ≡ empty → MayStandAt (m ∷ r) 1 c → Cuts r ts
     → Cuts (m ∷ r) ((c, m ∷ []) ∷ ts)
 mark_cut c m r ts small h last may cut =
@@ -260,7 +260,7 @@ may_stand _ x r s = tt
 pub stopped_cut : (c : Token) (cs x r : List ℕ) (ts : List Lexeme) → encode_utf8_all cs ≡ x → Matches (shape c) cs → NoStopAfter c cs → Stops r → Cuts r ts → Cuts (x ++ r) ((c, x) ∷ ts)
 stopped_cut c cs x r ts e h none s cut = token_cut c cs x r ts e h (ends_before c cs r none s) (may_stand c x r s) cut
 
--- the end is cut into no token
+-- the end has no token
 pub end_cut : Cuts [] []
 end_cut = ([], refl, longest_here gap [] 0 refl refl refl refl)
 
@@ -278,7 +278,7 @@ module _ (S : Type 0) (rest : S → Regex) (step : S → ℕ → Option S) (step
   pub reached : (q : S) (cs : List ℕ) → Matches (rest q) cs → (p : S) × (after_all cs (rest q) ≡ rest p)
   reached q cs h = reached_by cs (rest q) (Some q) refl (matches_into cs (rest q) h)
 
--- behind a shape no mark may follow, by computing
+-- after a shape no mark may follow, by computing
 abbrev pub no_stop : Regex → Bool
 no_stop r = all_pass (λ b. same (after b r) nothing) stops
 

@@ -30,11 +30,11 @@ use Rattle.wave_grammar.proofs.RoundTrip.Escapes.{all_plain, digits_ascii}
 
 -- ---- parts of a text
 
--- the front of a text, where what follows is UTF-8
+-- the prefix of a text, where what follows is UTF-8
 pub front_utf8 : (x y : List ℕ) → IsUtf8 (x ++ y) → IsUtf8 y → IsUtf8 x
 front_utf8 x y u v = subst IsUtf8 (take-append_seam x y) (IsUtf8-take (x ++ y) (length x) u (IsCharBoundary-at_seam (x ++ y) x y refl v))
 
--- what follows a front of ASCII
+-- what follows a prefix of ASCII
 pub ascii_off : (x y : List ℕ) → is_ascii x ≡ true → IsUtf8 (x ++ y) → IsUtf8 y
 ascii_off [] y a u = u
 ascii_off (b ∷ x) y a u =
@@ -88,7 +88,7 @@ escape_ascii e c (inl (b, f, g)) =
     (ap is_ascii f ∙ rw l refl, scalar_small c w.1)
 escape_ascii e c (inr h) = (ap is_ascii h.spelled ∙ digits_ascii h.digits h.hexadecimal, h.scalar)
 
--- what is left behind bytes that stand for themselves
+-- what is left after bytes that stand for themselves
 plain_off : (bs s t : List ℕ) → AllPlain bs → Decodes (bs ++ s) t → (u : List ℕ) × (t ≡ bs ++ u) × Decodes s u
 plain_off [] s t h d = (t, refl, d)
 plain_off (b ∷ bs) s t h d =

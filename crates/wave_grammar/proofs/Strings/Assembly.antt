@@ -17,7 +17,7 @@ use Rattle.wave_grammar.specs.Private.StringAssembly.{IsEnded}
 use Rattle.std.specs.declared.borrow.CowStr.{CowStr}
 use Rattle.std.specs.declared.borrow.CowStr.TheVariants.{Borrowed, Owned}
 
--- the parts that came so far stand behind the text
+-- the parts that came so far stand after the text
 abbrev pub CameSoFar : LinesLeft → LinesLeft → List ℕ → List ℕ → Type 0
 CameSoFar first left front text = (parts : List StringPart) × LinesRun first parts left × (text ≡ front ++ part_texts parts)
 
@@ -37,11 +37,11 @@ all_came first left next front text (parts, run, e) step = (parts, run_ended fir
 pub refused_behind : (first left next : LinesLeft) (front text : List ℕ) (e : Diagnostic) → CameSoFar first left front text → LinePartIs left (Some (Err e)) next → (parts : List StringPart) × LinesRunTo first parts (Some e)
 refused_behind first left next front text e (parts, run, same) step = (parts, run_refused first left next parts e run step)
 
--- the text in front, and the first part behind it
+-- the text so far, and the first part after it
 pub begun : (front part empty first second : List ℕ) → empty ≡ [] → first ≡ empty ++ front → second ≡ first ++ part → second ≡ front ++ part
 begun front part empty first second e f g = g ∙ ap (λ (z : List ℕ). z ++ part) (f ∙ ap (λ (z : List ℕ). z ++ front) e)
 
--- behind another text
+-- after another text
 pub all_behind : (first : LinesLeft) (front same text : List ℕ) → front ≡ same → (parts : List StringPart) × LinesRunTo first parts None × (text ≡ front ++ part_texts parts) → (parts : List StringPart) × LinesRunTo first parts None × (text ≡ same ++ part_texts parts)
 all_behind first front same text e h = subst (λ (z : List ℕ). (parts : List StringPart) × LinesRunTo first parts None × (text ≡ z ++ part_texts parts)) e h
 
@@ -50,14 +50,14 @@ pub handed_on : {A : Type 0} (P : Type 0) (front : List ℕ) (l : LinesLeft) (pl
 handed_on P front l place e (Ok c) same h = absurd same
 handed_on P front l place e (Err f) same h = inl (subst (λ (z : Diagnostic). (parts : List StringPart) × LinesRunTo l parts (Some z)) (sym same) h)
 
--- ---- a part in front of the others
+-- ---- a part before the others
 
 -- borrowed where one holds that goes with the other
 pub borrowed_so : {A : Type 0} (P Q : Type 0) (c : CowStr A) → (P → Q) → (Q → P) → BorrowedWhere Q c → BorrowedWhere P c
 borrowed_so P Q (Borrowed s) to from h = from h
 borrowed_so P Q (Owned s) to from h = λ p. h (to p)
 
--- a part in front of what is put together
+-- a part before what is put together
 pub one_in_front : {A : Type 0} (P Q : Type 0) (front longer : List ℕ) (l m : LinesLeft) (p : StringPart) (place : Range ℕ) (r : Result (CowStr A) Diagnostic) → LinePartIs l (Some (Ok p)) m → longer ≡ front ++ part_text p → (P → Q) → (Q → P) → PutTogether Q longer m place r → PutTogether P front l place r
 one_in_front P Q front longer l m p place (Ok c) step e to from ((parts, run, text), borrowed) =
     ((p ∷ parts, (m, step, run), text ∙ (ap (λ (z : List ℕ). z ++ part_texts parts) e ∙ append_assoc front (part_text p) (part_texts parts))), borrowed_so P Q c to from borrowed)
@@ -114,7 +114,7 @@ pub char_is_copied : (l m : LinesLeft) (c : ℕ) → LinePartIs l (Some (Ok (Cha
 char_is_copied l m c step (inl run) = char_is_no_run l m c step run
 char_is_copied l m c step (inr refused) = refused_gives_none l m (Char c) step refused
 
--- behind one run nothing is left
+-- after one run nothing is left
 run_is_all : (l m : LinesLeft) (s : Bor (List ℕ)) → LinePartIs l (Some (Ok (Run s))) m → IsOneRun l → IsEnded m
 run_is_all l m s (inl h) run = (ended h.item.stops, h.later ∙ run.1)
   where
@@ -125,18 +125,18 @@ run_is_all l m s (inl h) run = (ended h.item.stops, h.later ∙ run.1)
         absurd ((subst (AllOf (λ b. b ≢ 92)) e plain).0 refl)
 run_is_all l m s (inr (e, f, h)) run = absurd (cc)
 
--- behind a run that isn't copied nothing is left
+-- after a run that isn't copied nothing is left
 pub uncopied_ends : (l m : LinesLeft) (s : Bor (List ℕ)) → LinePartIs l (Some (Ok (Run s))) m → IsUncopied l → IsEnded m
 uncopied_ends l m s step (inl run) = run_is_all l m s step run
 uncopied_ends l m s step (inr refused) = absurd (refused_gives_none l m (Run s) step refused)
 
--- a run behind which nothing is left is one run
+-- a run after which nothing is left is one run
 all_is_run : (l m : LinesLeft) (s : Bor (List ℕ)) → LinePartIs l (Some (Ok (Run s))) m → IsEnded m → IsOneRun l
 all_is_run l m s (inl h) ended =
     let whole : l.line.rest ≡ s.now = h.item.taken ∙ (ap (λ (z : List ℕ). s.now ++ z) ended.0 ∙ append-nil s.now) in
     (subst (AllOf (λ b. b ≢ 92)) (sym whole) h.item.plain, sym h.later ∙ ended.1)
 all_is_run l m s (inr (e, f, h)) ended = absurd (cc)
 
--- a run behind which nothing is left isn't copied
+-- a run after which nothing is left isn't copied
 pub ended_uncopied : (l m : LinesLeft) (s : Bor (List ℕ)) → LinePartIs l (Some (Ok (Run s))) m → IsEnded m → IsUncopied l
 ended_uncopied l m s step ended = inl (all_is_run l m s step ended)

@@ -45,7 +45,7 @@ maybe-within n P within tokens payload rest (inl (e, apart, f)) = let g : levels
 maybe-within n P within tokens payload rest (inr (t, (front, e, p), f)) =
     let one = within front t (paren_close ∷ rest) p in let g : levels_of_maybe payload ≡ levels t = ap levels_of_maybe f in omega arith
 
--- what stands behind a label
+-- what stands after a label
 word-within : (n : ℕ) (w : Word) (text : List ℕ) (P : Spelling Tree) → Within n P → (tokens : List Token) (t : Tree) (rest : List Token) → BehindWord w text P tokens t rest → levels t ≤ n + 1
 word-within n leaf_word text P within tokens t rest (e, f) = let g = ap levels f in omega arith
 word-within n none_word text P within tokens t rest (e, f) = let g = ap levels f in omega arith
@@ -110,7 +110,7 @@ maybe-fits m P Q fits tokens payload rest l (inl h) = inl h
 maybe-fits m P Q fits tokens payload rest l (inr (t, (front, e, p), f)) =
     let g : levels_of_maybe payload ≡ levels t = ap levels_of_maybe f in inr (t, (front, e, fits front t (paren_close ∷ rest) (omega arith) p), f)
 
--- what stands behind a label
+-- what stands after a label
 word-fits : (m : ℕ) (w : Word) (text : List ℕ) (P Q : Spelling Tree) → Fits m P Q → (tokens : List Token) (t : Tree) (rest : List Token) → levels t ≤ m + 1 → BehindWord w text P tokens t rest → BehindWord w text Q tokens t rest
 word-fits m leaf_word text P Q fits tokens t rest l h = h
 word-fits m none_word text P Q fits tokens t rest l h = h

@@ -1,4 +1,4 @@
--- A spelling is a front of the tokens, and stands before any other rest as well.
+-- A spelling is a prefix of the tokens, and stands before any other rest as well.
 use Rattle.std.proofs.Common.{ℕ, ◌-◌, ◌≡◌, inl, inr, List, [], ◌∷◌, ◌++◌, refl, sym, ap, ◌∙◌, subst, append_assoc}
 use Rattle.wave_grammar.specs.Token.{Token, brace_open, brace_close, paren_open, paren_close, bracket_open, bracket_close, colon, comma, label}
 use Rattle.wave_wasm.specs.Types as type
@@ -11,7 +11,7 @@ use Rattle.wave_grammar.specs.TypedGrammar.{Behind, InParens, Named, Keyed, Name
 abbrev pub Fronts : {A : Type 0} → Spelling A → List Token → A → List Token → Type 0
 Fronts P tokens a rest = (front : List Token) × (tokens ≡ front ++ rest) × ((x : List Token) → P (front ++ x) a x)
 
--- each reading takes a front
+-- each reading takes a prefix
 abbrev pub Framed : {A : Type 0} → Spelling A → Type 0
 Framed {A} P = (tokens : List Token) (a : A) (rest : List Token) → P tokens a rest → Fronts P tokens a rest
 
@@ -71,7 +71,7 @@ parens-framed P framed tokens a rest (front, e, p) =
       λ x. ((f ++ (paren_close ∷ [])) ++ x, refl, subst (λ y. P y a (paren_close ∷ x)) (sym (append_assoc f (paren_close ∷ []) x)) (q (paren_close ∷ x))),
     )
 
--- what stands behind a word
+-- what stands after a word
 behind-framed : {A : Type 0} (word : List ℕ) (P : Spelling A) → Framed P → Framed (Behind word P)
 behind-framed word P framed tokens a rest (behind, e, p) =
     let (f, k, q) = framed behind a rest p in (label word ∷ f, e ∙ ap (λ x. label word ∷ x) k, λ x. (f ++ x, refl, q x))
@@ -101,13 +101,13 @@ tuple-framed : (P : Spelling (List Value)) → Framed P → Framed (ATuple P)
 tuple-framed P framed tokens v rest (items, front, e, h, g) =
     let (f, k, q) = framed front items rest h in (paren_open ∷ f, e ∙ ap (λ x. paren_open ∷ x) k, λ x. (items, f ++ x, refl, q x, g))
 
--- the first value of a tuple and those behind it
+-- the first value of a tuple and those after it
 first-framed : (P : Spelling Value) (F : Spelling (List Value)) → Framed P → Framed F → Framed (First P F)
 first-framed P F one all tokens items rest (w, others, behind, p, h, e) =
     let (f, k, q) = in_row P F tokens behind rest w others (one tokens w behind p) (all behind others rest h) in
     (f, k, λ x. let (y, i, j) = q x in (w, others, y, i, j, e))
 
--- a further value of a tuple and those behind it
+-- a further value of a tuple and those after it
 then-framed : (P : Spelling Value) (F : Spelling (List Value)) → Framed P → Framed F → Framed (Then P F)
 then-framed P F one all tokens items rest (front, e, h) =
     let (f, k, q) = first-framed P F one all front items rest h in (comma ∷ f, e ∙ ap (λ x. comma ∷ x) k, λ x. (f ++ x, refl, q x))
@@ -176,7 +176,7 @@ result-framed P Q one two tokens v rest (inl (payload, h, e)) = let (f, k, q) = 
 result-framed P Q one two tokens v rest (inr (payload, h, e)) = let (f, k, q) = behind-framed _ Q two tokens payload rest h in (f, k, λ x. inr (payload, q x, e))
 
 mutual
-  -- each reading of a type takes a front
+  -- each reading of a type takes a prefix
   pub framed : (T : TypeTree) (n : ℕ) → Framed (Reads T n)
   framed (type.simple S) n = provided-framed _ _ (simple-framed S)
   framed (type.unreadable kind) n = never-framed

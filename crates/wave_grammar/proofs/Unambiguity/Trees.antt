@@ -1,4 +1,4 @@
--- No front of tokens is two trees.
+-- No prefix of tokens is two trees.
 use Rattle.std.proofs.Common.{ℕ, zero, suc, ◌<◌, ◌≡◌, inl, inr, List, [], ◌∷◌, length, sym, ap, ◌∙◌, subst, arith}
 use Rattle.wave_grammar.specs.Token.{Token, brace_open, brace_close, paren_open, paren_close, bracket_open, bracket_close, colon, number, label, char, string, multiline}
 use Rattle.wave_grammar.specs.CommaSeparated.{Spelling, Items}
@@ -24,7 +24,7 @@ key-agree P Q agree tokens a b r s (front, e, k, p) (front', e', k', q) =
 label-agree : Agree Label Label
 label-agree tokens a b r s e f = (cc, cc)
 
--- what stands behind a label
+-- what stands after a label
 word-agree : (w : Word) (text : List ℕ) (P Q : Spelling Tree) → Agree P Q → Agree (BehindWord w text P) (BehindWord w text Q)
 word-agree leaf_word text P Q agree tokens a b r s (e, f) (g, h) = (cc, cc)
 word-agree none_word text P Q agree tokens a b r s (e, f) (g, h) = (cc, cc)
@@ -46,7 +46,7 @@ entries-not-flags P tokens (e ∷ es) (text ∷ []) r s l k (behind, (front, f, 
 entries-not-flags P tokens (e ∷ es) (text ∷ []) r s l k (behind, (front, f, key, p), h) (behind', g, inr c) = cc
 entries-not-flags P tokens (e ∷ es) (text ∷ other ∷ more) r s l k (behind, (front, f, key, p), h) (behind', g, (front', behind'', c, i, rest)) = cc
 
--- what stands first behind an open brace
+-- what stands first after an open brace
 entries-first : (P : Spelling Tree) (tokens : List Token) (es : List (Token × Tree)) (r : List Token) → 0 < length es → Items brace_close (KeyAnd P) tokens es r → (more : List Token) →
     (tokens ≡ brace_close ∷ more → ⊥) × (tokens ≡ colon ∷ more → ⊥)
 entries-first P tokens [] r l h more = absurd (omega arith)

@@ -1,4 +1,4 @@
--- No front of tokens spells two values of a type, nor ends at two places.
+-- No prefix of tokens spells two values of a type, nor ends at two places.
 use Rattle.std.proofs.Common.{ℕ, ◌-◌, ◌<◌, ◌≡◌, ◌≢◌, ◌⊎◌, inl, inr, Bool, true, false, List, [], ◌∷◌, length, Option, Some, None, refl, sym, ap, ◌∙◌, subst}
 use Rattle.std.specs.Prelude.{codes, bytes_eq}
 use Rattle.std.proofs.lemmas.Slice.Eq.{bytes_eq-Decides}
@@ -111,14 +111,14 @@ end-agree tokens a b r s (inl e, f) (inr g, h) = let no : paren_close ≡ comma 
 end-agree tokens a b r s (inr e, f) (inl g, h) = let no : paren_close ≡ comma = cc in cc
 end-agree tokens a b r s (inr e, f) (inr g, h) = (cc, cc)
 
--- the first value of a tuple and those behind it
+-- the first value of a tuple and those after it
 pub first-agree : (P Q : Spelling Value) (F G : Spelling (List Value)) → Agree P Q → Agree F G → Agree (First P F) (First Q G)
 first-agree P Q F G agree further tokens a b r s (w, others, behind, p, f, e) (w', others', behind', q, g, e') =
     let one = agree tokens w w' behind behind' p q in
     let all = further behind others others' r s f (subst (λ x. G x others' s) (sym one.1) g) in
     (cc, all.1)
 
--- a further value of a tuple and those behind it
+-- a further value of a tuple and those after it
 pub then-agree : (P Q : Spelling Value) (F G : Spelling (List Value)) → Agree P Q → Agree F G → Agree (Then P F) (Then Q G)
 then-agree P Q F G agree further tokens a b r s (front, e, h) (front', e', k) =
     let f : front' ≡ front = cc in

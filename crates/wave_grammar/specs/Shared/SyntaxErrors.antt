@@ -5,7 +5,7 @@ use Rattle.wave_grammar.specs.ParserPosition.{Place}
 use Rattle.wave_grammar.specs.PrefixAutomaton.{Due, Form}
 use Rattle.wave_grammar.specs.SyntaxErrors.{Gives}
 
--- so within all open forms, where this many levels are left, behind forms that the call itself is to close
+-- so within all open forms, where this many levels are left, after forms that the call itself is to close
 abbrev pub GivesWithin : {X : Type 0} → Result X Diagnostic → ℕ → Due → List Form → Place → Place → Type 0
 GivesWithin result levels d opened old new =
     (n : ℕ) (s : List Form) → n ≡ levels + length s → Gives result n d (opened ++ s) old new s

@@ -12,7 +12,7 @@ LineIs old None new = (old.later ≡ []) × (new ≡ old)
 LineIs old (Some (Ok done)) new = EntersLine old new
 LineIs old (Some (Err e)) new = HasBadLine old × TellsBadLine e old.next × (new ≡ old)
 
--- the text is the line, a line feed and what stands behind it
+-- the text is the line, a line feed and what stands after it
 pub record SplitsLine (text line behind : List ℕ) : Type 0 where
   pub parts : text ≡ line ++ line_feed ∷ behind
   pub lines : ended_lines text ≡ line ∷ ended_lines behind
@@ -22,7 +22,7 @@ abbrev pub OpeningIs : List ℕ → Option ℕ → Type 0
 OpeningIs s None = OpensWell (pieces s) → ⊥
 OpeningIs s (Some n) = (n < length s) × (slice_index s n ≡ line_feed) × (pieces s ≡ take n s ∷ pieces (drop (n + 1) s)) × Opens (take n s)
 
--- behind the last line feed, or at the beginning where there is none
+-- after the last line feed, or at the beginning where there is none
 pub record BehindLastFeed (s : List ℕ) (n : ℕ) : Type 0 where
   pub fits : n ≤ length s
   pub behind : 0 < n → slice_index s (n - 1) ≡ line_feed

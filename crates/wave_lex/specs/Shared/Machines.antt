@@ -114,7 +114,7 @@ abbrev pub label_token_step : LabelTokenState → ℕ → Option LabelTokenState
 label_token_step token.Start b = if nat_eq b 37 then Some (token.Label l.Start) else in_token (label_step l.Start b)
 label_token_step (token.Label q) b = in_token (label_step q b)
 
--- what may still follow in a gap
+-- what may still follow in whitespace
 abbrev pub gap_rest : GapState → Regex
 gap_rest gap.Start = after_all ([]) gap
 gap_rest gap.Slash = after_all (47 ∷ []) gap
@@ -124,13 +124,13 @@ gap_rest gap.Comment = after_all (47 ∷ 47 ∷ []) gap
 abbrev pub is_blank : ℕ → Bool
 is_blank c = nat_eq c 32 || nat_eq c 9 || nat_eq c 10 || nat_eq c 13
 
--- what a gap reads next
+-- what whitespace reads next
 abbrev pub gap_step : GapState → ℕ → Option GapState
 gap_step gap.Start c = (if is_blank c then Some gap.Start else (if nat_eq c 47 then Some gap.Slash else None))
 gap_step gap.Slash c = (if nat_eq c 47 then Some gap.Comment else None)
 gap_step gap.Comment c = (if nat_eq c 10 then Some gap.Start else Some gap.Comment)
 
--- an escape read so far, behind its backslash
+-- an escape read so far, after its backslash
 abbrev pub escape_read : EscapeState → List ℕ
 escape_read escape.Backslash = []
 escape_read escape.U = codes "u"
@@ -174,7 +174,7 @@ string_rest string.Close = after_all (codes "\"\"") string
 abbrev pub is_plain : ℕ → Bool
 is_plain c = not (nat_eq c 34 || nat_eq c 92 || nat_eq c 10)
 
--- the string goes on, in the escape or behind it
+-- the string goes on, in the escape or after it
 abbrev pub in_string : Option EscapeStep → Option StringState
 in_string None = None
 in_string (Some (Within e)) = Some (string.Escape e)
@@ -199,7 +199,7 @@ character_rest (character.Escape e) = after_all (codes "'\\" ++ escape_read e) c
 character_rest character.Filled = after_all (codes "'a") character
 character_rest character.Close = after_all (codes "'a'") character
 
--- the char goes on, in the escape or behind it
+-- the char goes on, in the escape or after it
 abbrev pub in_char : Option EscapeStep → Option CharState
 in_char None = None
 in_char (Some (Within e)) = Some (character.Escape e)

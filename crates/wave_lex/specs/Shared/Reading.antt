@@ -26,26 +26,26 @@ class_of c =
     else (if nat_eq c 34 then Some String
     else None)))))))))))
 
--- what stands at the front of r
+-- what stands at the start of r
 abbrev pub TokenAt : List ℕ → Option (Token × ℕ) → Type 0
 TokenAt r None = NoToken r
 TokenAt r (Some t) = IsLongestToken r t.1 t.0
 
--- each token at the front of r is in the class
+-- each token at the start of r is in the class
 abbrev pub ClassAt : List ℕ → Option Token → Type 0
 ClassAt r None = NoToken r
 ClassAt r (Some c) = ((k : ℕ) (d : Token) → IsToken r k d → d ≡ c) × ((k : ℕ) → MayStandAt r k c)
 
--- behind the first k bytes of s, what may follow in the shape is the shape q
+-- after the first k bytes of s, what may follow in the shape is the shape q
 abbrev pub LeadsTo : Regex → Regex → List ℕ → ℕ → Type 0
 LeadsTo shape q s k = FrontHas (λ scalars. after_all scalars shape ≡ q) s k
 
--- the first k bytes of s, where some are told, leave the shape q as it is
+-- the first k bytes of s, where a k is given, leave the shape q as it is
 abbrev pub IsStep : Regex → List ℕ → Option ℕ → Type 0
 IsStep q s None = Unit {0}
 IsStep q s (Some k) = (0 < k) × LeadsTo q q s k
 
--- the plain bytes at the front of s are n
+-- the plain bytes at the start of s are n
 pub record IsPlainRun (s : List ℕ) (n : ℕ) : Type 0 where
   pub within : n ≤ length s
   pub all : (i : ℕ) → i < n → is_plain (slice_index s i) ≡ true

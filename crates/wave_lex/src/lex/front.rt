@@ -1,4 +1,4 @@
-//! How many bytes a gap or a token takes at the front of a text. Runs of bytes that leave a machine
+//! How many bytes whitespace or a token takes at the start of a text. Runs of bytes that leave a machine
 //! in its state are counted at once; the machine reads what stands after them. The end of a multiline
 //! string is searched.
 ghost use Rattle.std.specs.Prelude.{◌≡◌, ℕ, ◌<◌, ◌≤◌, true, false, length, slice_index};

@@ -10,7 +10,7 @@ use crate::machine::longest_front;
 use crate::machine::name::{NameState, Section};
 use std::marker::Model;
 
-/// Cuts a source into function names, one by one; it skips nothing. Places are counted in bytes.
+/// Takes function names from a source, one after the other; it skips nothing. Places are counted in bytes.
 #[derive(Drop)]
 pub struct FuncNameLexer<'source> {
     source: &'source str,

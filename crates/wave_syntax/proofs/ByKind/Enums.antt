@@ -83,7 +83,7 @@ module _ {V : Type 0} (tree : V → Value) (of : V → TypeTree → Type 0) (Ful
   enum_full T names name (Ok v) is h f = tt
   enum_full T names name (Err cause) is h f = λ full. f full names is h
 
-  -- the case was made, or its maker refused
+  -- the case was made, or its constructor refused
   pub enum_made : (T : TypeTree) (names : List (List ℕ)) (source : List ℕ) (n : NodeTree) (t : Placed) (name : List ℕ) (m : Result V WasmValueError) (r : Result V Diagnostic) → T ≡ type.enum names → HasDistinctNames T → placed_of source n ≡ Some t → type_of n ≡ kind.Label → name ≡ name_of (node_text source n) → IsOneOf names name → IfOk m (MakesEnum tree of T name) → IfErr m (FullEnum of Full T name) → IsMade n m r → MatchResult r (IsTypedValue tree of T t) (IsBlamed Full T t)
   enum_made T names source n t name m r is distinct node ty named known ok full done =
       let shape = label_node source n t node ty in

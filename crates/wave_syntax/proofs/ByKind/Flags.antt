@@ -97,7 +97,7 @@ module _ {V : Type 0} (tree : V → Value) (of : V → TypeTree → Type 0) (Ful
   all_pass names [] h = refl
   all_pass names (one ∷ more) h = let here : is_one_of names one ≡ true = passes names one h.0 in rw here (ap (λ (l : List (List ℕ)). one ∷ l) (all_pass names more h.1))
 
-  -- the flags were made, or their maker refused
+  -- the flags were made, or their constructor refused
   pub flags_made : (T : TypeTree) (names : List (List ℕ)) (source : List ℕ) (n : NodeTree) (t : Placed) (picked : List (Bor (List ℕ))) (m : Result V WasmValueError) (r : Result V Diagnostic) → T ≡ type.flags names → HasDistinctNames T → IsNodeOf source n t → AreFlags n → AreAllOf names (names_at source (children_of n)) → texts picked ≡ found_in (names_at source (children_of n)) names → IfOk m (MakesFlags tree of T picked) → IfErr m (FullFlags of Full T picked) → IsMade n m r → MatchResult r (IsTypedValue tree of T t) (IsBlamed Full T t)
   flags_made T names source n t picked m r is distinct node ok known found makes full done =
       let g = flags_given source n t node ok in

@@ -157,7 +157,7 @@ module _ {V : Type 0} (tree : V → Value) (of : V → TypeTree → Type 0) (Ful
   made_at K p key n l (Err cause) (Ok w) is spelled ok full done = absurd done
   made_at K p key n l (Err cause) (Err e) is spelled ok full done = refused Full K p key cause e done.0 (λ f. full (subst (λ (S : Simple). Full (type.simple S)) (sym is) f))
 
-  -- the key's value was made, or its maker refused
+  -- the key's value was made, or its constructor refused
   pub key_made : (T : TypeTree) (K S : Simple) (p : Range ℕ) (key : Token) (n : NodeTree) (one_leaf : Leaf) (m : Result V WasmValueError) (r : Result V Diagnostic) → T ≡ type.simple K → T ≡ type.simple S → leaf_type one_leaf ≡ S → Spells S key one_leaf → IfOk m (MakesLeaf tree of one_leaf) → IfErr m (FullLeaf Full one_leaf) → IsMade n m r → MatchResult r (IsKeyRead tree of K key) (IsKeyBlamed Full K p key)
   key_made T K S p key n l m r e f is spelled ok full done =
       subst (λ (R : Simple). MatchResult r (IsKeyRead tree of R key) (IsKeyBlamed Full R p key)) (one_simple T K S e f) (made_at S p key n l m r is spelled ok full done)

@@ -112,7 +112,7 @@ has_element (type.unreadable type.f64) h = absurd h
 has_element (type.unreadable type.unsupported) h = absurd h
 has_element _ h = absurd h
 
--- what a type with this element type is, where so many items may be of it
+-- what a type with this element type is, where this number of items may be of it
 pub list_is : (T E : TypeTree) (count : ℕ) → list_part T ≡ Some E → IsOfLength T count → IsListOf E count T
 list_is (type.list F) E count e long = inl (ap type.list (some_is F E e))
 list_is (type.fixed F n) E count e long = let f : F ≡ E = some_is F E e in let g : n ≡ count = sym (long n refl) in inr (cc)
@@ -220,7 +220,7 @@ module _ {V : Type 0} (tree : V → Value) (of : V → TypeTree → Type 0) (Ful
   list_full T E ts vs (Ok v) is all h = tt
   list_full T E ts vs (Err cause) is all h = λ full. h full E (subst (λ (count : ℕ). IsListOf E count T) (read_length E ts vs all) is) (each_of E ts vs all)
 
-  -- the list was made, or its maker refused
+  -- the list was made, or its constructor refused
   pub list_made : (T E : TypeTree) (t : Placed) (ts : List Placed) (vs : List V) (n : NodeTree) (m : Result V WasmValueError) (r : Result V Diagnostic) → IsListOf E (length ts) T → HasDistinctNames T → shape_of t ≡ list (placed_trees ts) → AllRead E ts vs → IfOk m (MakesList tree of T vs) → IfErr m (FullList of Full T vs) → IsMade n m r → MatchResult r (IsTypedValue tree of T t) (IsBlamed Full T t)
   list_made T E t ts vs n m r is distinct shape all ok full done = made tree of Full T t n m r done (list_reads T E t ts vs m is distinct shape all ok) (list_full T E ts vs m is all full)
 

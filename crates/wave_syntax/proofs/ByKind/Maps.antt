@@ -205,7 +205,7 @@ module _ {V : Type 0} (tree : V → Value) (of : V → TypeTree → Type 0) (Ful
   map_full T S U es xs handed (Err cause) m read merged h = λ full.
       h full m.key U m.is (subst (AllOf (λ x. of x.0 (type.simple m.key) × of x.1 U)) (sym merged) (merged_of tree of Full m.key U xs read.keys_of read.values_of))
 
-  -- the map was made of the merged entries, or its maker refused
+  -- the map was made of the merged entries, or its constructor refused
   pub map_made : (T S U : TypeTree) (t : Placed) (es : PlacedEntries) (xs handed : List (V × V)) (n : NodeTree) (made_map : Result V WasmValueError) (r : Result V Diagnostic) (m : IsMapOf T S U) → HasDistinctNames T → IsOfMap (shape_of t) es → ((v : V) (T : TypeTree) → of v T → HasType T (tree v)) → EntriesRead tree of Full m.key U (entry_list es) xs → handed ≡ merge (same_texts tree of Full) xs → IfOk made_map (MakesMap tree of T handed) → IfErr made_map (FullMap of Full T handed) → IsMade n made_map r → MatchResult r (IsTypedValue tree of T t) (IsBlamed Full T t)
   map_made T S U t es xs handed n made_map r m distinct shape fits all merged ok full done =
       let read = pairs_read tree of Full fits m.key U (entry_list es) xs all in

@@ -92,7 +92,7 @@ of_text (token.label w) (v, inl e) wrong = absurd (cc)
 of_text (token.label w) (v, inr e) wrong = absurd (cc)
 of_text _ form wrong = inr (refl, inr (form, wrong))
 
--- the refusal of a string is a fault of the key, or want of memory
+-- the refusal of a string is a fault of the key, or out of memory
 pub string_key_blame : (Full : TypeTree → Type 0) (source : List ℕ) (n : NodeTree) (p : Range ℕ) (key : Token) (e : Diagnostic) → IsTokenOf source n p key → RefusesString source n e → IsKeyBlamed Full type.string p key e
 string_key_blame Full source n p key e h (inl (apart, other, refused)) =
     inr (inl (string_unspelled (type_of n) (node_text source n) p key (refusal_of e) e.span (key_token source n p key h) apart other (at_key InvalidType source n p key (refusal_of e) e.span h (said refused))))

@@ -121,7 +121,7 @@ told_fault source n e (inl (ty, x, k, own, bad, told)) =
 told_fault source n e (inr (ty, x, f, own, fault, told)) =
     record { tok = token.multiline (node_text source n); own = own_token kind.MultilineString source n (token.multiline (node_text source n)) ty refl; form = (node_text source n, inr refl); wrong = inr (node_text source n, x, f, refl, own, fault, (told.refusal, told.at)) }
 
--- the refusal of a string is a fault, or want of memory
+-- the refusal of a string is a fault, or out of memory
 pub string_blame : (Full : TypeTree → Type 0) (T : TypeTree) (source : List ℕ) (n : NodeTree) (t : Placed) (e : Diagnostic) → T ≡ type.simple type.string → placed_of source n ≡ Some t → RefusesString source n e → IsBlamed Full T t e
 string_blame Full T source n t e same is h = subst (λ (U : TypeTree). IsBlamed Full U t e) (sym same) (blamed h)
   where

@@ -211,7 +211,7 @@ module _ {V : Type 0} (tree : V → Value) (of : V → TypeTree → Type 0) (Ful
   next_at (U ∷ Ts) (u ∷ ts) [] (suc i) E t v typed here before now = absurd before
   next_at (U ∷ Ts) (u ∷ ts) (w ∷ vs) (suc i) E t v typed here before now = (before.0, next_at Ts ts vs i E t v typed here before.1 now)
 
-  -- the invariant of the loop holds behind the next item
+  -- the invariant of the loop holds after the next item
   pub tuple_kept : (source : List ℕ) (parts : List TypeTree) (ns : List NodeTree) (ts : List Placed) (vs ws : List V) (i : ℕ) (n : NodeTree) (E : TypeTree) (v : V) → AreNodesOf source ns ts → i < length ns → n ≡ get_or ns i n → HasAt parts i E → ReadAt (take i parts) (take i ts) vs → ((t : Placed) → IsNodeOf source n t → IsTypedValue tree of E t v) → ws ≡ vs ++ v ∷ [] → ReadAt (take (i + 1) parts) (take (i + 1) ts) ws
   tuple_kept source parts ns ts vs ws i n E v nodes lt is typed before now kept =
       let here = node_at source ns ts i n nodes lt is in
@@ -258,7 +258,7 @@ module _ {V : Type 0} (tree : V → Value) (of : V → TypeTree → Type 0) (Ful
   tuple_full T Ts ts vs (Ok v) is all h = tt
   tuple_full T Ts ts vs (Err cause) is all h = λ full. h full Ts is (each_is (type_list Ts) ts vs all)
 
-  -- the tuple was made, or its maker refused
+  -- the tuple was made, or its constructor refused
   pub tuple_made : (source : List ℕ) (T : TypeTree) (parts : List TypeTree) (n : NodeTree) (t : Placed) (ns : List NodeTree) (vs : List V) (i : ℕ) (m : Result V WasmValueError) (r : Result V Diagnostic) → TupleType T parts → HasDistinctNames T → (node : IsNodeOf source n t) → (ty : type_of n ≡ kind.Tuple) → ns ≡ children_of n → length ns ≡ length parts → length ns ≤ i → ReadAt (take i parts) (take i (tuple_nodes source n t node ty).items) vs → IfOk m (MakesTuple tree of T vs) → IfErr m (FullTuple of Full T vs) → IsMade n m r → MatchResult r (IsTypedValue tree of T t) (IsBlamed Full T t)
   tuple_made source T parts n t ns vs i m r is distinct node ty children same le before ok full done =
       let inner = tuple_nodes source n t node ty in

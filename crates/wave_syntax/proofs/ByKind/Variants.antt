@@ -176,7 +176,7 @@ module _ {V : Type 0} (tree : V → Value) (of : V → TypeTree → Type 0) (Ful
   variant_full T cs name P payload (Ok v) is found h f = tt
   variant_full T cs name P payload (Err cause) is found h f = λ full. f full cs is (type_option P) (case_listed cs name P found) h
 
-  -- the case was made, or its maker refused
+  -- the case was made, or its constructor refused
   pub variant_made : (T : TypeTree) (cs : Cases) (source : List ℕ) (t : Placed) (n : NodeTree) (name : List ℕ) (o : Option NodeTree) (c : CaseNode source t name o) (P : MaybeType) (payload : Option V) (m : Result V WasmValueError) (r : Result V Diagnostic) → T ≡ type.variant cs → HasDistinctNames T → HasCase cs name P → IsPayloadRead tree of P c.payload payload → IfOk m (MakesVariant tree of T name payload) → IfErr m (FullVariant of Full T name payload) → IsMade n m r → MatchResult r (IsTypedValue tree of T t) (IsBlamed Full T t)
   variant_made T cs source t n name o c P payload m r is distinct found read ok full done =
       let w = maybe_value (option_map tree payload) in

@@ -99,7 +99,7 @@ module _ {V : Type 0} (tree : V → Value) (of : V → TypeTree → Type 0) (Ful
   answered k which source n r is read =
       (λ other same. subst (λ (w : Whole). IsWholeRead tree of Full w source n r) (whole_once which other (sym is ∙ same)) read, λ none. absurd (none which is))
 
-  -- what a maker answered for the number
+  -- what a constructor answered for the number
   pub whole_made : (k : WasmTypeKind) (which : Whole) (source : List ℕ) (n : NodeTree) (y z : ℤ) (m : Result V WasmValueError) (r : Result V Diagnostic) → k ≡ whole_kind which → y ≡ z → GivesNumber which (λ (x : ℤ). x) source n (Ok z) → IfOk m (MakesLeaf tree of (value.whole which y)) → IfErr m (FullLeaf Full (value.whole which y)) → IsMade n m r → AnswersWhole tree of Full k source n r
   whole_made k which source n y z m r is same given made full done =
       answered k which source n r is (inl (y, subst (λ (x : ℤ). GivesNumber which (λ (w : ℤ). w) source n (Ok x)) (sym same) given, (m, made, full, done)))

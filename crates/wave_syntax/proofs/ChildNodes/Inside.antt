@@ -119,11 +119,11 @@ key_place source n (at q (one (token.string w))) p key i e = sym (ap (λ (k : Ra
 key_place source n (at q (one (token.multiline w))) p key i e = sym (ap (λ (k : Range ℕ × Token). k.0) (some_is (q, token.multiline w) (p, key) e)) ∙ i.place
 key_place source n _ p key i e = absurd (cc)
 
--- where a value stands, the source may be cut
+-- where a value stands, the source may be split
 pub value_stands : (source : List ℕ) (t : Placed) → SpellsEach source t → Stands source (span_of t).start (span_of t).end
 value_stands source (at q s) h = h.0.1.0
 
--- where a node stands that was parsed from the source, the source may be cut
+-- where a node stands that was parsed from the source, the source may be split
 pub stands : (source : List ℕ) (n : NodeTree) → IsParsedFrom source n → Stands source (place_of n).start (place_of n).end
 stands source n (inl v) =
     subst (λ (p : Range ℕ). Stands source p.start p.end) (inside source n v.0 v.1.0).place (value_stands source v.0 v.1.1)

@@ -34,7 +34,7 @@ text_held source p t (stands, gap, (g, k, skipped, longest, is, more)) =
     let o = stands.ordered in
     omega arith
 
--- the bytes of the pieces, with a line feed behind each
+-- the bytes of the pieces, with a line feed after each
 total : List (List ℕ) → ℕ
 total [] = 0
 total (p ∷ ps) = length p + 1 + total ps

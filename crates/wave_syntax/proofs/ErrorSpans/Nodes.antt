@@ -191,11 +191,11 @@ at_in source n e h told =
 said_kind : (e : Diagnostic) (r : Refusal) → refusal_of e ≡ r → IsTypeKind r.kind → HasTypeKind e
 said_kind e r is known = subst IsTypeKind (sym (ap (λ (x : Refusal). x.kind) is)) known
 
--- a refusal of another kind has no cause to tell
+-- a refusal of another kind has no cause
 pub plain_kind : (k : ParserErrorKind) (e : Diagnostic) → k ≢ why.WasmValueError → refusal_of e ≡ plainly k → HasCause e
 plain_kind k e apart is = λ was. absurd (apart (sym (ap (λ (r : Refusal). r.kind) is) ∙ was))
 
--- a refusal for want of memory
+-- a refusal for lack of memory
 pub memory_at : (p : Range ℕ) (e : Diagnostic) → e.kind ≡ why.OutOfMemory → e.span ≡ p → IsAtPlace p e
 memory_at p e is place = (place, λ was. absurd (cc (sym is ∙ was)))
 
@@ -203,7 +203,7 @@ memory_at p e is place = (place, λ was. absurd (cc (sym is ∙ was)))
 pub memory_here : (n : NodeTree) (e : Diagnostic) → e.kind ≡ why.OutOfMemory → e.span ≡ place_of n → RefusesAt n e
 memory_here n e is place = (memory_at (place_of n) e is place, subst IsTypeKind (sym is) tt)
 
--- a maker's refusal has its cause
+-- a constructor's refusal has its cause
 pub made_cause : (c : WasmValueError) (e : Diagnostic) → refusal_of e ≡ refused_by (cause_of c) → HasCause e
 made_cause (error.Memory a) e is = λ was. absurd (cc (sym (ap (λ (r : Refusal). r.kind) is) ∙ was))
 made_cause c e is = λ was. (cause_of c, is)
@@ -222,7 +222,7 @@ caused_at c n e (inr h) place = ((place, λ was. (c, h.0)), said_kind e (caused 
 pub refused_at : (k : ParserErrorKind) (n : NodeTree) (e : Diagnostic) → k ≢ why.WasmValueError → IsTypeKind k → RefusedAs k n e → RefusesAt n e
 refused_at k n e apart known h = ((h.stands, plain_kind k e apart h.is), said_kind e (plainly k) h.is known)
 
--- what a maker refused, at the node
+-- what a constructor refused, at the node
 pub made_at : {V : Type 0} (n : NodeTree) (m : Result V WasmValueError) (r : Result V Diagnostic) → IsMade n m r → IfErr r (RefusesAt n)
 made_at n m (Ok w) is = tt
 made_at n (Ok v) (Err e) is = absurd is
@@ -352,7 +352,7 @@ close_lies source n h = let l = node_in_text source n h in (omega arith, l.1)
 pub said_plain : (e : Diagnostic) (k : ParserErrorKind) (p : Range ℕ) (detail : Option (List ℕ)) → k ≢ why.WasmValueError → Says e k p detail → IsAtPlace p e
 said_plain e k p detail apart says = (says.stands, plain_kind k e apart says.is)
 
--- want of memory, or a refusal without a cause
+-- out of memory, or a refusal without a cause
 pub memory_or_plain : (e : Diagnostic) (k : ParserErrorKind) (p : Range ℕ) (detail : Option (List ℕ)) → k ≢ why.WasmValueError → (e.kind ≡ why.OutOfMemory) ⊎ Says e k p detail → e.span ≡ p → IsAtPlace p e
 memory_or_plain e k p detail apart (inl memory) place = memory_at p e memory place
 memory_or_plain e k p detail apart (inr says) place = said_plain e k p detail apart says
@@ -361,7 +361,7 @@ memory_or_plain e k p detail apart (inr says) place = said_plain e k p detail ap
 pub said_here : (n : NodeTree) (e : Diagnostic) (k : ParserErrorKind) (detail : Option (List ℕ)) → k ≢ why.WasmValueError → IsTypeKind k → Says e k (place_of n) detail → RefusesAt n e
 said_here n e k detail apart known says = (said_plain e k (place_of n) detail apart says, said_kind e (plainly k) says.is known)
 
--- or want of memory
+-- or out of memory
 pub memory_or_said : (n : NodeTree) (e : Diagnostic) (k : ParserErrorKind) (detail : Option (List ℕ)) → k ≢ why.WasmValueError → IsTypeKind k → (e.kind ≡ why.OutOfMemory) ⊎ Says e k (place_of n) detail → e.span ≡ place_of n → RefusesAt n e
 memory_or_said n e k detail apart known (inl memory) place = memory_here n e memory place
 memory_or_said n e k detail apart known (inr says) place = said_here n e k detail apart known says
@@ -390,7 +390,7 @@ all_at_cause p (Err e) told = λ was. told
 pub leaf_at : {V : Type 0} (tree : V → Value) (of : V → TypeTree → Type 0) (Full : TypeTree → Type 0) (leaf : Leaf) (n : NodeTree) (r : Result V Diagnostic) → IsLeafMade tree of Full leaf n r → IfErr r (RefusesAt n)
 leaf_at tree of Full leaf n r h = made_at n h.0 r h.3
 
--- a refusal that says the same of a key, or want of memory
+-- a refusal that says the same of a key, or out of memory
 pub told_in : {V : Type 0} (source : List ℕ) (n : NodeTree) (r : Result V Diagnostic) (e f : Diagnostic) → IsParsedFrom source n → r ≡ Err e → IfErr r (RefusesIn n) → (f.kind ≡ why.OutOfMemory) × (f.span ≡ place_of n) ⊎ (refusal_of f ≡ refusal_of e) × (f.span ≡ e.span) → RefusesIn n f
 told_in source n r e f parsed is h (inl memory) = at_in source n f parsed (memory_here n f memory.0 memory.1)
 told_in {V} source n r e f parsed is h (inr (same, place)) =

@@ -187,7 +187,7 @@ refused_key : (fs : Fields) (source : List ℕ) (t : Placed) (before : List (Nod
 refused_key fs source t before entry behind es e taken h labels (inl (apart, says)) = within_record fs t es (refusal_of e) e.span taken (inl (key_fault source before entry behind es (refusal_of e) e.span h apart (says.is, says.stands)))
 refused_key fs source t before entry behind es e taken h labels (inr (labelled, old, says)) = within_record fs t es (refusal_of e) e.span taken (inr (inr (inl (repeated_fault source before entry behind es [] (refusal_of e) e.span h labels labelled (inl old) (says.is, says.stands)))))
 
--- a refusal of a record's node or of its keys is want of memory or a fault
+-- a refusal of a record's node or of its keys is out of memory or a fault
 pub fields_blame : (fs : Fields) (source : List ℕ) (n : NodeTree) (t : Placed) (e : Diagnostic) → IsNodeOf source n t → RefusesFields source n e → (e.kind ≡ OutOfMemory) ⊎ Fault (type.record_type fs) t (refusal_of e) e.span
 fields_blame fs source n t e h (inl memory) = inl memory
 fields_blame fs source n t e h (inr (inl other)) = inr (other_fault fs source n t (refusal_of e) e.span h.0 other.0 (said other.1))

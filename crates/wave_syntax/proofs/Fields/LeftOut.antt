@@ -31,7 +31,7 @@ not_made Full T name n (causes.Memory a) e is full = inl (ap (λ (r : Refusal). 
 not_made Full T name n _ e is full = inr (inr (ap (λ (r : Refusal). r.kind) is, full))
 
 module _ {V : Type 0} (tree : V → Value) (of : V → TypeTree → Type 0) (Full : TypeTree → Type 0) where
-  -- `none` was made, or its maker refused
+  -- `none` was made, or its constructor refused
   pub left_made : (T : TypeTree) (name : List ℕ) (n : NodeTree) (m : Result V WasmValueError) (r : Result V Diagnostic) → kinds.Option ≡ kind_of T → HasDistinctNames T → IfOk m (MakesOption tree of T None) → IfErr m (FullOption of Full T None) → IsMade n m r → MatchResult r (IsLeftOut tree of T) (IsMissing Full T name n)
   left_made T name n (Ok v) (Ok w) is distinct ok full done =
       let makes = ok distinct in

@@ -39,7 +39,7 @@ cut_at [] i x h = absurd h
 cut_at (y ∷ ys) zero x h = ap (λ z. z ∷ ys) h
 cut_at (y ∷ ys) (suc i) x h = ap (λ zs. y ∷ zs) (cut_at ys i x h)
 
--- the list up to behind a place
+-- the list up to after a place
 pub take_next : {A : Type 0} (xs : List A) (i : ℕ) (x : A) → HasAt xs i x → take (i + 1) xs ≡ take i xs ++ x ∷ []
 take_next [] i x h = absurd h
 take_next (y ∷ ys) zero x h = ap (λ z. z ∷ []) h
@@ -191,17 +191,17 @@ refused_name source n ns i k v name e set children here h labelled named old (in
       refused = inr (labelled, subst (IsOneOf (names_of (map (field_of source) (take i (node_pairs ns))))) named old, subst (λ (w : List ℕ). Says e DuplicateField (place_of k) (Some (repeated_name w))) named says);
     }))
 
--- all entries, behind the last
+-- all entries, after the last
 entries_whole : (n : NodeTree) (ns : List NodeTree) (i : ℕ) → ns ≡ children_of n → length ns / 2 ≤ i → take i (node_pairs ns) ≡ node_pairs (children_of n)
 entries_whole n ns i children le = take_whole (node_pairs ns) i (omega (arith, le, pairs_count ns)) ∙ ap node_pairs children
 
--- all fields, behind the last entry
+-- all fields, after the last entry
 pub fields_whole : (source : List ℕ) (n : NodeTree) (ns : List NodeTree) (i : ℕ) → type_of n ≡ kind.TupleSet → ns ≡ children_of n → length ns / 2 ≤ i → FieldsSoFar source (take i (node_pairs ns)) → IsFieldsOf source n (fields_at source (children_of n))
 fields_whole source n ns i set children le h =
     let whole = entries_whole n ns i children le in
     record { is_set = set; labels = subst (AllOf IsLabelled) whole h.labels; given = refl; distinct = subst (λ (es : List (NodeTree × NodeTree)). AreDistinct (names_of (map (field_of source) es))) whole h.distinct }
 
--- the map holds all fields, behind the last entry
+-- the map holds all fields, after the last entry
 pub held_whole : (source : List ℕ) (n : NodeTree) (ns : List NodeTree) (i : ℕ) (m : BTreeMap (Bor (List ℕ)) (Bor NodeTree)) → ns ≡ children_of n → length ns / 2 ≤ i → HoldsFields m (map (field_of source) (take i (node_pairs ns))) → HoldsFields m (fields_at source (children_of n))
 held_whole source n ns i m children le h = subst (λ (es : List (NodeTree × NodeTree)). HoldsFields m (map (field_of source) es)) (entries_whole n ns i children le) h
 

@@ -172,7 +172,7 @@ fault_at (type.field other U more) zero name E es k q h fault = inl (subst (λ (
 fault_at (type.field other U more) (suc i) name E es k q h fault = inr (fault_at more i name E es k q h fault)
 
 module _ {V : Type 0} (tree : V → Value) (of : V → TypeTree → Type 0) (Full : TypeTree → Type 0) where
-  -- a refusal of an entry of the name is want of memory, a fault or that of a maker
+  -- a refusal of an entry of the name is out of memory, a fault or that of a constructor
   pub some_blamed : (E : TypeTree) (name : List ℕ) (es : List PlacedEntry) (e : Diagnostic) → SomeOf (λ x. IsFor name x × IsBlamed Full E x.value e) es → (e.kind ≡ error.OutOfMemory) ⊎ SomeOf (λ x. IsFor name x × Fault E x.value (refusal_of e) e.span) es ⊎ (e.kind ≡ error.WasmValueError) × (Full E → ⊥)
   some_blamed E name [] e h = absurd h
   some_blamed E name (x ∷ es) e (inl (is, inl memory)) = inl memory
@@ -395,7 +395,7 @@ module _ {V : Type 0} (tree : V → Value) (of : V → TypeTree → Type 0) (Ful
   fields_are_of (p ∷ ps) es [] h = absurd h
   fields_are_of (p ∷ ps) es (f ∷ hs) h = (h.0, is_of_read p.1 p.0 es f.1 h.1, fields_are_of ps es hs h.2)
 
-  -- a maker at a full type refuses for want of memory alone
+  -- a constructor at a full type refuses for lack of memory alone
   pub record_full : (T : TypeTree) (fs : Fields) (es : List PlacedEntry) (hs : List (Bor (List ℕ) × V)) (m : Result V WasmValueError) → T ≡ type.record_type fs → AreDistinct (names_of (type.field_list fs)) → FieldsRead (type.field_list fs) es hs → IfErr m (FullRecord of Full T hs) → IfErr m (λ cause. Full T → IsMemory cause)
   record_full T fs es hs (Ok v) is names h f = tt
   record_full T fs es hs (Err cause) is names h f = λ full. f full fs is (subst AreDistinct (sym (names_same (type.field_list fs) es hs h)) names) hs (IsPermutation-refl hs) (fields_are_of (type.field_list fs) es hs h)

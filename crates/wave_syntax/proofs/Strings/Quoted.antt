@@ -182,7 +182,7 @@ quotes_utf8 kind.String = (34 ∷ [], (refl, ascii_itself (34 ∷ []) refl))
 quotes_utf8 kind.MultilineString = (three_quotes, (refl, ascii_itself three_quotes refl))
 quotes_utf8 _ = ([], (refl, refl))
 
--- a text is cut behind the quotes and in front of them
+-- a text is split after the quotes and before them
 pub record Cut (text quotes : List ℕ) (count : ℕ) : Type 0 where
   pub within : count + count ≤ length text
   pub first : IsCharBoundary text count

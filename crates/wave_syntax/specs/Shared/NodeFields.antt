@@ -42,7 +42,7 @@ pub record IsLeftOut {V : Type 0} (tree : V → Value) (of : V → TypeTree → 
   pub means : tree v ≡ value.option no_value
   pub is_of : of v T
 
--- want of memory; or `MissingField` at the record, for a type that is no option; or, where makers do not serve all values of the type, the refusal of one
+-- out of memory; or `MissingField` at the record, for a type that is no option; or, where constructors do not serve all values of the type, the refusal of one
 abbrev pub IsMissing : (TypeTree → Type 0) → TypeTree → List ℕ → NodeTree → Diagnostic → Type 0
 IsMissing Full T name n e =
     (e.kind ≡ OutOfMemory) ⊎ (IsOption T → ⊥) × RefusesFor (missing_field name) (place_of n) (refusal_of e) e.span ⊎ (e.kind ≡ WasmValueError) × (Full T → ⊥)

@@ -20,12 +20,12 @@ abbrev pub GivesFlagNodes : NodeTree → Result (Bor (List NodeTree)) Diagnostic
 GivesFlagNodes n (Ok nodes) = AreFlags n × (nodes.now ≡ children_of n)
 GivesFlagNodes n (Err e) = IsNoFlags n e
 
--- want of memory; or one of these flags of the node is none of the names
+-- out of memory; or one of these flags of the node is none of the names
 abbrev pub RefusesUnknown : List (List ℕ) → List (List ℕ) → NodeTree → Diagnostic → Type 0
 RefusesUnknown names flags n e =
     (e.kind ≡ OutOfMemory) ⊎ SomeOf (λ name. IsNoneOf names name × RefusesFor (unknown_case name) (place_of n) (refusal_of e) e.span) flags
 
--- want of memory; or the node is neither flags nor `{}`; or one of its flags is none of the names
+-- out of memory; or the node is neither flags nor `{}`; or one of its flags is none of the names
 abbrev pub RefusesFlags : List (List ℕ) → List ℕ → NodeTree → Diagnostic → Type 0
 RefusesFlags names source n e =
     (e.kind ≡ OutOfMemory) ⊎ IsNoFlags n e

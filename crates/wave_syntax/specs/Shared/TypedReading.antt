@@ -21,11 +21,11 @@ use Rattle.wave_grammar.specs.Elaborates.{TreeReadsPayload}
 use Rattle.wave_grammar.specs.TypeErrors.{FaultOfPayload, RefusesFor}
 use Rattle.wave_syntax.specs.TypedReading.{IsLeafMade}
 
--- a refusal with this cause at the node, or for want of memory
+-- a refusal with this cause at the node, or for lack of memory
 abbrev pub IsCaused : Cause → NodeTree → Diagnostic → Type 0
 IsCaused cause n e = (e.kind ≡ OutOfMemory) ⊎ RefusesFor cause (place_of n) (refusal_of e) e.span
 
--- where the type is a fixed-length list, it has so many elements
+-- where the type is a fixed-length list, it has this number of elements
 abbrev pub IsOfLength : TypeTree → ℕ → Type 0
 IsOfLength T got = (want : ℕ) → list_length T ≡ Some want → got ≡ want
 
@@ -35,7 +35,7 @@ IsOtherLength T got n e =
     (want : ℕ) × (list_length T ≡ Some want) × (got ≢ want) × RefusesFor (wrong_length want got) (place_of n) (refusal_of e) e.span
 
 module _ {V : Type 0} (tree : V → Value) (of : V → TypeTree → Type 0) (Full : TypeTree → Type 0) where
-  -- what a maker answered for the node's number, which is one of this type; or the refusal of a node of none
+  -- what a constructor answered for the node's number, which is one of this type; or the refusal of a node of none
   abbrev pub IsWholeRead : Whole → List ℕ → NodeTree → Result V Diagnostic → Type 0
   IsWholeRead which source n r =
       ((z : ℤ) × GivesNumber which (λ (x : ℤ). x) source n (Ok z) × IsLeafMade tree of Full (value.whole which z) n r)

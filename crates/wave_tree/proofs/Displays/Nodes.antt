@@ -318,7 +318,7 @@ case_shown source n v e =
 
 -- ---- entries, one by one
 
--- a key's node has a value's node behind it
+-- a key's node has a value's node after it
 pub entries_two : (source : List ℕ) (ns : List NodeTree) (i : ℕ) → i < length ns → AreEntriesOf source (drop i ns) → i + 1 < length ns
 entries_two source [] i lt h = absurd (omega (arith, lt))
 entries_two source (k ∷ []) zero lt h = absurd h

@@ -17,7 +17,7 @@ use Rattle.wave_syntax.specs.NodeTree.{NodeTree}
 use Rattle.wave_tree.specs.UntypedCall.{RefusesTuple, AreParamsTaken, NameFault, behind_name}
 use Rattle.wave_tree.specs.ParserLaws.{LiesInSource, RefusalsLieInText}
 
--- the item behind a gap lies in the source, behind what was read
+-- the item after whitespace lies in the source, after what was read
 record Behind (l m : Lexed) : Type 0 where
   pub later : l.end ≤ m.start
   pub inside : LiesInSource m
@@ -95,7 +95,7 @@ pub back_lies : (l m : Lexed) (e x : Diagnostic) → l ≡ m → ((e.kind ≢ ki
 back_lies l m e x same within there =
     subst (λ (z : Lexed). LiesInText z.source x.span) same (within (λ apart. subst (λ (z : Lexed). LiesInText z.source e.span) (sym same) (there apart)))
 
--- what holds of a refusal other than want of memory holds of what is answered for it
+-- what holds of a refusal other than out of memory holds of what is answered for it
 pub back_same : {A : Type 0} (R : Diagnostic → A → Type 0) (e x : Diagnostic) (old new : A) → (x ≡ e) × (new ≡ old) → R e old → R x new
 back_same R e x old new (same, stays) there = subst (λ (z : Diagnostic). R z new) (sym same) (subst (R e) (sym stays) there)
 
@@ -116,7 +116,7 @@ params_inside p q None (m, opens, closes) i =
     (b.inside, b.source ∙ a.source)
 params_inside p q (Some n) h i = tokens_inside p q h.tokens h.taken i
 
--- behind a function name the lexer stands in the text
+-- after a function name the lexer stands in the text
 pub name_inside : (s : List ℕ) (k : ℕ) → IsName s k → LiesInSource (behind_name s k).lexer
 name_inside s k named = (omega arith, named.0.fits)
 

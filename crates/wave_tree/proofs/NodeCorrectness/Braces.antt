@@ -80,7 +80,7 @@ record FurtherSpell (n : ℕ) (p q : Place) (ns : List NodeTree) : Type 0 where
   pub places : (o : Place) (before : List Token) → TakesTokens o before p → AllOf (StandsAtTokens o.lexer.source (span o.lexer.end q.lexer.end)) (entry_places all)
   pub items : (rest : List Token) → FurtherItems brace_close (KeyAnd (tree.Takes n)) (tokens ++ rest) (pairs_in all) rest
 
--- what the value behind a first key and further entries give
+-- what the value after a first key and further entries give
 record PairsSpell (n : ℕ) (p q : Place) (ns : List NodeTree) : Type 0 where
   pub tokens : List Token
   pub taken : TakesTokens p tokens q
@@ -179,7 +179,7 @@ mutual
             );
       }
 
--- entries behind their first key
+-- entries after their first key
 pub entries_parsed : (n : ℕ) (p m k b q : Place) (key parsed : NodeTree) → TakesItem p (Some (Ok BraceOpen)) m → IsKeyAt m key k → TakesItem k (Some (Ok Colon)) b → IsOfEntries n m.lexer.start key b q parsed → IsParsed (n + 1) p q parsed
 entries_parsed n p m k b q key parsed h (c, key_there, is_key, key_node) colon_there e =
     let inner = pairs_spell n b q e.pairs e.are in

@@ -156,7 +156,7 @@ further_flags p q (f ∷ more) (m, k, comma_there, label_there, same, others) =
       );
     }
 
--- flags behind their first one
+-- flags after their first one
 pub flags_parsed : (n : ℕ) (p m k q : Place) (parsed : NodeTree) → TakesItem p (Some (Ok BraceOpen)) m → TakesItem m (Some (Ok LabelOrKeyword)) k → IsOfFlags m.lexer.start k q parsed → IsParsed (n + 1) p q parsed
 flags_parsed n p m k q parsed h label_there e =
     let inner = further_flags k q e.more e.are in

@@ -119,7 +119,7 @@ items_none n close p w q start ns parsed is none_there i apart b same h =
 pub items_first : (n : ℕ) (close : lex.Token) (p w : Place) (xs : List NodeTree) → xs ≡ [] → w ≡ p → (item : NodeTree) (m r : Place) (more : List NodeTree) → IsParsed n w m item → AreFurther n close m more r → AreClosedItems n close p (xs ++ item ∷ more) r
 items_first n close p w xs e same item m r more h k = subst (λ z. AreClosedItems n close p (z ++ item ∷ more) r) (sym e) (m, subst (λ z. IsParsed n z m item) same h, k)
 
--- behind a comma
+-- after a comma
 pub items_next : (n : ℕ) (close : lex.Token) (p0 p m w v : Place) (xs ys : List NodeTree) (one_item : NodeTree) →
     ((item : NodeTree) (m r : Place) (more : List NodeTree) → IsParsed n p m item → AreFurther n close m more r → AreClosedItems n close p0 (xs ++ item ∷ more) r) →
     IsParsed n p m one_item → TakesClass Comma m w → v ≡ w → ys ≡ xs ++ one_item ∷ [] →
@@ -130,7 +130,7 @@ items_next n close p0 p m w v xs ys one_item go h comma_there same e item b r mo
 
 -- ---- entries
 
--- behind a value, a comma, a key and its colon
+-- after a value, a comma, a key and its colon
 pub pairs_next : (n : ℕ) (p0 p m w k b : Place) (xs ys zs : List NodeTree) (first value key : NodeTree) →
     (hs : List NodeTree) × (xs ≡ first ∷ hs) × ((cs : List NodeTree) (r : Place) → ArePairs n p cs r → ArePairs n p0 (hs ++ cs) r) →
     IsParsed n p m value → TakesClass Comma m w → IsKeyAt w key k → TakesClass Colon k b → ys ≡ xs ++ value ∷ [] → zs ≡ ys ++ key ∷ [] →
@@ -141,7 +141,7 @@ pairs_next n p0 p m w k b xs ys zs first value key (hs, e, go) h comma_there key
   λ cs r pairs. subst (λ z. ArePairs n p0 z r) (sym (append_assoc hs (value ∷ key ∷ []) cs)) (go (value ∷ key ∷ cs) r (m, h, (w, k, b, comma_there, key_there, colon_there, pairs))),
 )
 
--- the close behind a value
+-- the close after a value
 pub pairs_close : (n : ℕ) (start : ℕ) (p0 p m q : Place) (xs ys : List NodeTree) (first value parsed : NodeTree) →
     (hs : List NodeTree) × (xs ≡ first ∷ hs) × ((cs : List NodeTree) (r : Place) → ArePairs n p cs r → ArePairs n p0 (hs ++ cs) r) →
     IsParsed n p m value → TakesClass BraceClose m q ⊎ ((w : Place) × TakesClass Comma m w × TakesClass BraceClose w q) → ys ≡ xs ++ value ∷ [] → parsed ≡ node kind.TupleSet (span start q.lexer.end) (node_trees ys) → IsOfEntries n start first p0 q parsed

@@ -48,25 +48,25 @@ close_mark c (inr e) = subst IsMark (sym e) (record { text = λ s. refl; apart =
 pub brace_mark : IsMark BraceClose
 brace_mark = record { text = λ s. refl; apart = λ k. cc }
 
--- the close of items, behind a comma or not
+-- the close of items, after a comma or not
 pub closed_tokens : (c : lex.Token) (p q : Place) → IsMark c → IsClosed c p q → (ts : List Token) × TakesTokens p ts q × ((rest : List Token) → Closes (token_of c []) (ts ++ rest) rest)
 closed_tokens c p q mark (inl h) = (token_of c [] ∷ [], (q, (c, h, sym (mark.text (text_at q))), refl), λ rest. inl refl)
 closed_tokens c p q mark (inr (m, a, h)) = (comma ∷ token_of c [] ∷ [], (m, (Comma, a, refl), (q, (c, h, sym (mark.text (text_at q))), refl)), λ rest. inr refl)
 
--- a comma and the tokens behind it
+-- a comma and the tokens after it
 behind_comma : (p m w : Place) (n : ℕ) (item : NodeTree) → TakesItem p (Some (Ok Comma)) m → (h : IsParsed n m w item) → TakesTokens p (comma ∷ h.token ∷ h.others) w
 behind_comma p m w n item a h = (m, (Comma, a, refl), (h.first, h.begins, h.taken))
 
 first_same : {a b : Token} {as' bs : List Token} → a ∷ as' ≡ b ∷ bs → a ≡ b
 first_same e = cc
 
--- what stands behind an item is no open parenthesis
+-- what stands after an item is no open parenthesis
 pub no_paren_further : {A : Type 0} (c : lex.Token) (P : Spelling A) (tokens : List Token) (items : List A) (rest : List Token) → IsMark c → FurtherItems (token_of c []) P tokens items rest → NoParen tokens
 no_paren_further c P tokens [] rest mark (inl e) = λ more k. mark.apart (first_same (sym e ∙ k))
 no_paren_further c P tokens [] rest mark (inr e) = λ more k. let wrong : comma ≡ paren_open = first_same (sym e ∙ k) in cc
 no_paren_further c P tokens (t ∷ ts) rest mark (front, behind, e, h, k) = λ more f. let wrong : comma ≡ paren_open = first_same (sym e ∙ f) in cc
 
--- items behind an item
+-- items after an item
 further_spell : (c : lex.Token) (n : ℕ) (p q : Place) (ns : List NodeTree) → IsMark c → AreFurther n c p ns q → ItemsSpell n p q ns (FurtherItems (token_of c []) (tree.Takes n))
 further_spell c n p q [] mark h =
     let (ts, taken, closes) = closed_tokens c p q mark h in

@@ -36,7 +36,7 @@ use Rattle.wave_grammar.proofs.Slices.{Taken, taken_is, gap_zero, tokens_front, 
 
 -- ---- sound places
 
--- how a token cuts what is left at a sound place
+-- how a token splits what is left at a sound place
 record Cuts (p q : Place) (c : lex.Token) (it : Taken p q c) : Type 0 where
   pub gap_cut : IsCharBoundary (remainder_of p.lexer) it.g
   pub behind_gap : IsUtf8 (drop it.g (remainder_of p.lexer))
@@ -49,7 +49,7 @@ cuts_of p q c it sound =
     let t_utf8 : IsUtf8 (drop it.g r) = IsUtf8-drop r it.g sound g_cut in
     record { gap_cut = g_cut; behind_gap = t_utf8; token_cut = front_boundary (shape c) (drop it.g r) it.k t_utf8 it.token_is.is.0 }
 
--- behind a token of a sound place a place is sound
+-- after a token of a sound place a place is sound
 pub sound_next : (p q : Place) (c : lex.Token) → TakesItem p (Some (Ok c)) q → IsSound p → IsSound q
 sound_next p q c h sound =
     let it = taken_is p q c h in
@@ -70,7 +70,7 @@ not_empty p q c h =
     let some : 0 < it.k = front_positive (shape c) (drop it.g (remainder_of p.lexer)) it.k (shape_not_empty c) it.token_is.is.0 in
     omega (arith, a, b, some)
 
--- the source is cut where the token stands
+-- the source is split where the token stands
 pub stands_after : (p q : Place) (c : lex.Token) → TakesItem p (Some (Ok c)) q → IsSound p → Stands p.lexer.source q.lexer.start q.lexer.end
 stands_after p q c h sound =
     let it = taken_is p q c h in
@@ -88,7 +88,7 @@ stands_after p q c h sound =
       last = subst (IsCharBoundary s) (sym it.end) last;
     }
 
--- the source is cut behind the last of these tokens, if it is before the first
+-- the source is split after the last of these tokens, if it is before the first
 pub cut_behind : (p q : Place) (ts : List Token) → TakesTokens p ts q → IsSound p → IsCharBoundary p.lexer.source p.lexer.end → IsCharBoundary p.lexer.source q.lexer.end
 cut_behind p q [] e sound h = subst (λ z. IsCharBoundary p.lexer.source z.lexer.end) e h
 cut_behind p q (t ∷ ts) (m, (c, h, e), more) sound k =
@@ -96,7 +96,7 @@ cut_behind p q (t ∷ ts) (m, (c, h, e), more) sound k =
     subst (λ z. IsCharBoundary z q.lexer.end) it.source
     (cut_behind m q ts more (sound_next p m c h sound) (subst (λ z. IsCharBoundary z m.lexer.end) (sym it.source) (stands_after p m c h sound).last))
 
--- so it is behind tokens
+-- so it is after tokens
 pub sound_tokens : (p q : Place) (ts : List Token) → TakesTokens p ts q → IsSound p → IsSound q
 sound_tokens p q [] e sound = subst IsSound e sound
 sound_tokens p q (t ∷ ts) (m, (c, h, e), more) sound = sound_tokens m q ts more (sound_next p m c h sound)
@@ -237,7 +237,7 @@ multiline_parsed n p m l h = one_token n p m MultilineString kind.MultilineStrin
 
 -- ---- labels
 
--- what stands behind a label, by its word
+-- what stands after a label, by its word
 word_takes : (n : ℕ) (w : tree.Word) (text : List ℕ) (behind : List Token) (t : Tree) (rest : List Token) → word_of text ≡ w → BehindWord w text (tree.Takes n) behind t rest → tree.Takes (n + 1) (token.label text ∷ behind) t rest
 word_takes n w text behind t rest e h = takes_plus n (token.label text ∷ behind) t rest (subst (λ z. BehindWord z text (tree.Takes n) behind t rest) (sym e) h)
 
@@ -253,7 +253,7 @@ none_parsed n p m h w = one_token (n + 1) p m LabelOrKeyword kind.OptionNone non
 
 -- ---- payloads
 
--- what a payload in parentheses gives behind its label
+-- what a payload in parentheses gives after its label
 record InParentheses (n : ℕ) (m q : Place) (payload : NodeTree) : Type 0 where
   pub others : List Token
   pub taken : TakesTokens m others q

@@ -13,7 +13,7 @@ use Rattle.wave_syntax.specs.declared.form.NodeType.TheVariants as kind
 use Rattle.wave_grammar.specs.Shared.FlagOrder.{Flag, flag_name, flags_in_order}
 use Rattle.wave_tree.specs.ParsedNodes.{IsParsed, TakesClass}
 
--- behind a token of this class, which was taken before, stands what is left of a tree
+-- after a token of this class, which was taken before, stands what is left of a tree
 abbrev pub IsParsedBehind : lex.Token → ℕ → Place → Place → NodeTree → Type 0
 IsParsedBehind c n first new parsed = (old : Place) → TakesClass c old first → IsParsed n old new parsed
 
@@ -24,12 +24,12 @@ IsOfPayload kind.ResultOk = Unit {0}
 IsOfPayload kind.ResultErr = Unit {0}
 IsOfPayload _ = ⊥
 
--- the children in front of a payload: the label of a case, at this place
+-- the children before a payload: the label of a case, at this place
 abbrev pub label_children : NodeType → Range ℕ → List NodeTree
 label_children kind.VariantWithPayload p = node kind.Label p no_nodes ∷ []
 label_children _ p = []
 
--- a value and a close parenthesis, behind these children, in a node that starts there
+-- a value and a close parenthesis, after these children, in a node that starts there
 pub record IsPayload (n : ℕ) (ty : NodeType) (start : ℕ) (children : List NodeTree) (old new : Place) (parsed : NodeTree) : Type 0 where
   pub payload : NodeTree
   pub behind : Place
@@ -37,7 +37,7 @@ pub record IsPayload (n : ℕ) (ty : NodeType) (start : ℕ) (children : List No
   pub close : TakesClass class.ParenClose behind new
   pub is : parsed ≡ node ty (span start new.lexer.end) (node_trees (children ++ payload ∷ []))
 
--- behind a label no payload, or one in parentheses
+-- after a label no payload, or one in parentheses
 abbrev pub IsMaybe : ℕ → NodeType → NodeType → Place → Place → NodeTree → Type 0
 IsMaybe n alone with old new parsed =
     (new ≡ old) × (parsed ≡ node alone (span_at old) no_nodes)
@@ -47,7 +47,7 @@ IsMaybe n alone with old new parsed =
 abbrev pub IsClosed : lex.Token → Place → Place → Type 0
 IsClosed close p q = TakesClass close p q ⊎ ((m : Place) × TakesClass class.Comma p m × TakesClass close m q)
 
--- each further item behind its comma, then the close
+-- each further item after its comma, then the close
 abbrev pub AreFurther : ℕ → lex.Token → Place → List NodeTree → Place → Type 0
 AreFurther n close p [] q = IsClosed close p q
 AreFurther n close p (item ∷ more) q =
@@ -83,18 +83,18 @@ abbrev pub IsKeyAt : Place → NodeTree → Place → Type 0
 IsKeyAt p parsed q = (c : lex.Token) × TakesClass c p q × IsKeyClass c × (parsed ≡ node (key_node_type c) (span_at q) no_nodes)
 
 abbrev mutual
-  -- behind a key and its colon: its value, and the further keys and values
+  -- after a key and its colon: its value, and the further keys and values
   pub ArePairs : ℕ → Place → List NodeTree → Place → Type 0
   ArePairs n p [] q = ⊥
   ArePairs n p (value ∷ more) q = (behind : Place) × IsParsed n p behind value × AreFurtherPairs n behind more q
 
-  -- further keys and values, each pair behind its comma, then the close
+  -- further keys and values, each pair after its comma, then the close
   pub AreFurtherPairs : ℕ → Place → List NodeTree → Place → Type 0
   AreFurtherPairs n p [] q = IsClosed class.BraceClose p q
   AreFurtherPairs n p (key ∷ more) q =
       (m : Place) × (k : Place) × (behind : Place) × TakesClass class.Comma p m × IsKeyAt m key k × TakesClass class.Colon k behind × ArePairs n behind more q
 
--- a node of entries behind its first key, which starts there
+-- a node of entries after its first key, which starts there
 pub record IsOfEntries (n : ℕ) (start : ℕ) (key : NodeTree) (old new : Place) (parsed : NodeTree) : Type 0 where
   pub pairs : List NodeTree
   pub are : ArePairs n old pairs new
@@ -104,13 +104,13 @@ pub record IsOfEntries (n : ℕ) (start : ℕ) (key : NodeTree) (old new : Place
 abbrev pub flag_node : Flag → NodeTree
 flag_node f = node kind.Label f.0 no_nodes
 
--- each further flag behind its comma, then the close
+-- each further flag after its comma, then the close
 abbrev pub AreFurtherFlags : Place → List Flag → Place → Type 0
 AreFurtherFlags p [] q = IsClosed class.BraceClose p q
 AreFurtherFlags p (f ∷ more) q =
     (m : Place) × (k : Place) × TakesClass class.Comma p m × TakesClass class.LabelOrKeyword m k × (f ≡ (span_at k, text_at k)) × AreFurtherFlags k more q
 
--- a node of flags behind its first one, which starts there
+-- a node of flags after its first one, which starts there
 pub record IsOfFlags (start : ℕ) (old new : Place) (parsed : NodeTree) : Type 0 where
   pub more : List Flag
   pub are : AreFurtherFlags old more new

@@ -30,7 +30,7 @@ asked_of s = s.place.taken + s.ahead
 abbrev pub AsksFor : Stream → Stream → Type 0
 AsksFor old new = (n : ℕ) → HasTokens old.place n → asked_of new ≤ max (asked_of old) (old.place.taken + n + 1)
 
--- memory is wanting only where this holds, or a `{` stands among the tokens from the place on
+-- out of memory is answered only where this holds, or a `{` stands among the tokens from the place on
 abbrev pub WantsOnly : Type 0 → Place → Diagnostic → Type 0
 WantsOnly Takes p e = e.kind ≡ OutOfMemory → HoldsNoBrace p → Takes
 

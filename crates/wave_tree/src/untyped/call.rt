@@ -28,7 +28,7 @@ use wave_wasm::wasm::WasmValue;
 /// of at most 100 levels. The empty text is `UnexpectedEnd` at 0..0, and one that begins with no name
 /// `InvalidToken` at its first scalar; what is no parameters is refused as by
 /// `Parser::parse_raw_value`, and what follows them as `TrailingCharacters` at the span of the next
-/// token. Spans are byte places of the text; `OutOfMemory` is told at the name.
+/// token. Spans are byte places of the text; `OutOfMemory` stands at the name.
 pub fn parse_raw_func_call<'source>(
     alloc: Global,
     source: &'source str,
@@ -108,8 +108,8 @@ impl<'source> UntypedFuncCall<'source> {
         parse_raw_func_call(alloc, source)
     }
 
-    /// The same call with a copy of its source, where that is borrowed. Where memory is wanting the
-    /// call is handed back.
+    /// The same call with a copy of its source, where that is borrowed. Where there is no memory
+    /// the call is handed back.
     pub fn into_owned(
         self,
         alloc: Global,

@@ -15,17 +15,17 @@ module _ (read : Reads) where
   params_read ts (Some m) = Some ([], m)
   params_read ts None = fields_read read (codes ")") ts
 
-  -- what stands behind `->`, by what follows a `(`
+  -- what stands after `->`, by what follows a `(`
   abbrev pub result_parts_read : Tokens → Option Tokens → PartsRead
   result_parts_read ts (Some m) = fields_read read (codes ")") m
   result_parts_read ts None = onward (read ts) (λ T. Some (([], T.0) ∷ [], T.1))
 
-  -- what stands behind the parameters, by what follows a `-`
+  -- what stands after the parameters, by what follows a `-`
   abbrev pub results_read : Tokens → Option Tokens → PartsRead
   results_read ts None = Some ([], ts)
   results_read ts (Some m) = onward (after (codes ">") m) (λ l. result_parts_read l (after (codes "(") l))
 
-  -- what stands behind `func(`
+  -- what stands after `func(`
   abbrev pub signature_read : Tokens → Option (FunctionType × Tokens)
   signature_read ts =
       onward (params_read ts (after (codes ")") ts)) (λ ps.

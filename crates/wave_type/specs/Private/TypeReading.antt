@@ -22,7 +22,7 @@ use Rattle.wave_type.specs.TypeSpelling.{Tokens}
 -- ---- one step and then another
 
 module _ {A B : Type 0} where
-  -- what is read behind the first
+  -- what is read after the first
   abbrev pub onward : Option A → (A → Option B) → Option B
   onward None next = None
   onward (Some a) next = next a
@@ -50,7 +50,7 @@ abbrev pub after : List ℕ → Tokens → Option Tokens
 after mark [] = None
 after mark (t ∷ ts) = if bytes_eq t mark then Some ts else None
 
--- what follows the mark, where it stands next, perhaps behind a comma
+-- what follows the mark, where it stands next, perhaps after a comma
 abbrev pub closed : List ℕ → Tokens → Option Tokens
 closed mark ts = or_else (after mark ts) (onward (after (codes ",") ts) (after mark))
 
@@ -59,7 +59,7 @@ abbrev pub first_of : Tokens → Option (List ℕ)
 first_of [] = None
 first_of (t ∷ ts) = Some t
 
--- the mark stands behind the next token
+-- the mark stands after the next token
 abbrev pub second_is : List ℕ → Tokens → Bool
 second_is mark (t ∷ u ∷ ts) = bytes_eq u mark
 second_is mark ts = false
@@ -80,7 +80,7 @@ abbrev pub kind_at : Tokens → Option (WasmTypeKind × Tokens)
 kind_at [] = None
 kind_at (t ∷ ts) = made (kind_of_word t) ts
 
--- the token without a `%` in front
+-- the token without a `%` before it
 abbrev pub without_percent : List ℕ → List ℕ
 without_percent [] = []
 without_percent (c ∷ cs) = if c == 37 then cs else c ∷ cs
@@ -114,7 +114,7 @@ count_at (t ∷ ts) = made (count_of_token t) ts
 -- ---- parts with commas between
 
 module _ {A : Type 0} (part : List A → Tokens → Option (A × Tokens)) (mark : List ℕ) where
-  -- parts through the mark, at most so many, behind those that were read
+  -- parts through the mark, no more of them than the number, after those that were read
   abbrev pub parts : ℕ → List A → Tokens → Option (List A × Tokens)
   parts zero seen ts = None
   parts (suc k) seen ts =
@@ -124,11 +124,11 @@ module _ {A : Type 0} (part : List A → Tokens → Option (A × Tokens)) (mark 
 abbrev pub names_read : List ℕ → Tokens → Option (List (List ℕ) × Tokens)
 names_read mark ts = parts new_name mark (length ts) [] ts
 
--- what stands behind `enum`
+-- what stands after `enum`
 abbrev pub enum_read : Tokens → Option (TypeTree × Tokens)
 enum_read ts = onward (after (codes "{") ts) (λ m. onward (names_read (codes "}") m) (λ names. made (enum_type names.0) names.1))
 
--- what stands behind `flags`
+-- what stands after `flags`
 abbrev pub flags_read : Tokens → Option (TypeTree × Tokens)
 flags_read ts = onward (after (codes "{") ts) (λ m. onward (names_read (codes "}") m) (λ names. made (flags_type names.0) names.1))
 
@@ -138,7 +138,7 @@ flags_read ts = onward (after (codes "{") ts) (λ m. onward (names_read (codes "
 abbrev pub Reads : Type 0
 Reads = Tokens → Option (TypeTree × Tokens)
 
--- a count and `>`, behind the element type of a list
+-- a count and `>`, after the element type of a list
 abbrev pub fixed_read : TypeTree → Tokens → Option (TypeTree × Tokens)
 fixed_read E ts = onward (after (codes ",") ts) (λ m. onward (count_at m) (λ n. with (type.fixed E n.0) (closed (codes ">") n.1)))
 
@@ -175,7 +175,7 @@ module _ (read : Reads) where
   abbrev pub fields_read : List ℕ → Tokens → Option (List (List ℕ × TypeTree) × Tokens)
   fields_read mark ts = parts field_part mark (length ts) [] ts
 
-  -- what stands behind the name of a case, by what follows a `(`
+  -- what stands after the name of a case, by what follows a `(`
   abbrev pub payload_read : Tokens → Option Tokens → Option (Option TypeTree × Tokens)
   payload_read ts None = Some (None, ts)
   payload_read ts (Some m) = onward (read m) (λ b. with (Some b.0) (after (codes ")") b.1))
@@ -189,20 +189,20 @@ module _ (read : Reads) where
   abbrev pub cases_read : Tokens → Option (List (List ℕ × Option TypeTree) × Tokens)
   cases_read ts = parts case_part (codes "}") (length ts) [] ts
 
-  -- what stands behind `list`
+  -- what stands after `list`
   abbrev pub list_read : Reads
   list_read ts =
       onward (after (codes "<") ts) (λ m. onward (read m) (λ a. or_else (with (type.list a.0) (closed (codes ">") a.1)) (fixed_read a.0 a.1)))
 
-  -- what stands behind `option`
+  -- what stands after `option`
   abbrev pub option_read : Reads
   option_read ts = onward (after (codes "<") ts) (λ m. onward (read m) (λ a. with (type.option a.0) (closed (codes ">") a.1)))
 
-  -- the type of a map's values through `>`, behind the key type
+  -- the type of a map's values through `>`, after the key type
   abbrev pub map_behind : TypeTree → Reads
   map_behind K ts = onward (read ts) (λ V. onward (closed (codes ">") V.1) (made (map_type K V.0)))
 
-  -- what stands behind `map`
+  -- what stands after `map`
   abbrev pub map_read : Reads
   map_read ts =
       onward (after (codes "<") ts) (λ m. onward (key_at m) (λ K. onward (after (codes ",") K.1) (map_behind K.0)))
@@ -218,12 +218,12 @@ module _ (read : Reads) where
   payloads_read ts None =
       onward (read ts) (λ a. or_else (with (type.result (type.a_type a.0) type.no_type) (closed (codes ">") a.1)) (err_read (Some a.0) a.1))
 
-  -- what stands behind `result`, by what follows a `<`
+  -- what stands after `result`, by what follows a `<`
   abbrev pub result_read : Tokens → Option Tokens → Option (TypeTree × Tokens)
   result_read ts None = Some (type.result type.no_type type.no_type, ts)
   result_read ts (Some m) = payloads_read m (after (codes "_") m)
 
-  -- what stands behind the word of a kind
+  -- what stands after the word of a kind
   abbrev pub kind_read : WasmTypeKind → Reads
   kind_read kinds.List ts = list_read ts
   kind_read kinds.Option ts = option_read ts
@@ -236,7 +236,7 @@ module _ (read : Reads) where
   kind_read kinds.Flags ts = flags_read ts
   kind_read kind ts = made (simple_type kind) ts
 
--- a type, within so many levels
+-- a type, within this number of levels
 abbrev pub type_read : ℕ → Reads
 type_read zero ts = None
 type_read (suc n) ts = onward (kind_at ts) (λ kind. kind_read (type_read n) kind.0 kind.1)

@@ -15,7 +15,7 @@ abbrev pub AreWithin : List ℕ → List Token → Type 0
 AreWithin s tokens = AllOf (λ (t : Token). t.start + length t.text.now ≤ length s) tokens
 
 module _ {A B : Type 0} (view : A → B) where
-  -- what was read, and the tokens behind it; or nothing was read, or memory was wanting
+  -- what was read, and the tokens after it; or nothing was read, or there was no memory
   abbrev pub Answers : Result A TypeErrorKind → Tokens → Option (B × Tokens) → Type 0
   Answers (Ok a) new read = read ≡ Some (view a, new)
   Answers (Err kind) new read = (kind ≡ OutOfMemory) ⊎ (read ≡ None)

@@ -45,7 +45,7 @@ fn write_results<W: fmt::Write>(
     write!(f, ")")
 }
 
-// Each type behind its name, with commas between.
+// Each type after its name, joined by commas.
 fn write_parts<W: fmt::Write>(f: &mut fmt::Formatter<W>, parts: &Vec<(String, Type)>) -> fmt::Result
     ensures { let ps = map by_bytes parts.now.items in
         WritesOnOk W.write_str_gives f.old result (joined (typed_names (names_of ps) (types_of ps))) f.new }

@@ -11,7 +11,7 @@ use wave_wasm::wasm::{WasmType, WasmTypeKind};
 
 impl Type {
     /// The `Type` of the same tree. None exactly where the type holds, at any depth, an unsupported
-    /// kind, or a record, tuple, variant, enum or flags without parts. The only error is want of
+    /// kind, or a record, tuple, variant, enum or flags without parts. The only error is out of
     /// memory.
     #[cycle(conversion)]
     pub fn from_wasm_type<T: WasmType>(alloc: Global, ty: &T) -> Result<Option<Type>, AllocError>

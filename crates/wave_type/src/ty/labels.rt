@@ -22,7 +22,7 @@ impl Type {
     }
 }
 
-// What has a name: a name alone, or a part behind its name.
+// What has a name: a name alone, or a part after its name.
 trait Named {
     ghost use Rattle.std.specs.Prelude.{◌≡◌, ℕ, List};
 
@@ -144,7 +144,7 @@ fn stands_behind<N: Named>(items: &Vec<N>, from: usize, name: &str) -> bool
     false
 }
 
-// Whether the name is a label: the longest label at its front is the whole name.
+// Whether the name is a label: the longest label at its start is the whole name.
 pub(crate) fn is_label(name: &str) -> bool
     ensures { result ≡ is_label name.now }
 {

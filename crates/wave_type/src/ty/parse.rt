@@ -39,7 +39,7 @@ impl Type {
     }
 }
 
-/// Takes a type within so many levels, after which nothing stands.
+/// Takes a type within `levels` levels, after which nothing stands.
 #[tactic(auto, using(crate::proofs::WholeTypes::whole_sound, crate::proofs::WholeTypes::whole_refused, crate::proofs::WholeTypes::whole_left))]
 fn whole_type(
     alloc: Global,
@@ -58,8 +58,7 @@ fn whole_type(
     Ok(ty)
 }
 
-/// Where the token stands that has so many after it, with it; the end of the text where there is
-/// none.
+/// Where the first of the last `left` tokens stands; the end of the text where there is none.
 pub(crate) fn place(text: &str, tokens: &Vec<Token<'_>>, left: usize) -> Span
     requires { AreWithin text.now tokens.now.items }
     ensures { LiesInText text.now result }

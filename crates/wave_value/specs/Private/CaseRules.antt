@@ -1,4 +1,4 @@
--- What the makers of variants, flags and maps accept, and what their refusals say.
+-- What the constructors of variants, flags and maps accept, and what their refusals say.
 use Rattle.std.specs.Prelude.{ℕ, ◌≡◌, ◌++◌, if◌then◌else◌, Bool, List, [], ◌∷◌, Some, None, Result, MatchResult}
 use Rattle.std.specs.Borrow.{Bor}
 use Rattle.std.specs.BTreeMap.{BTreeMap}

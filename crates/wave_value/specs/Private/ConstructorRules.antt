@@ -1,4 +1,4 @@
--- What each maker of values accepts, what it makes, and what its refusals say.
+-- What each constructor of values accepts, what it makes, and what its refusals say.
 use Rattle.std.specs.Prelude.{ℕ, ◌≡◌, ◌≢◌, Bool, true, false, List, Some, string_bytes}
 use Rattle.wave_wasm.specs.TypeText.{type_text}
 use Rattle.wave_wasm.specs.Types.{TypeTree, list_length}

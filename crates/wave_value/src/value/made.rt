@@ -26,7 +26,7 @@ use wave_wasm::wasm::{WasmType, WasmTypeKind, WasmValueError};
 
 mod cases;
 
-// Up to so many fields each name is compared with each that stands before it. Past that, looking
+// Up to this many fields each name is compared with each that stands before it. Past that, looking
 // names up in a map costs less.
 const MOST_COMPARED: usize = 16;
 
@@ -305,7 +305,7 @@ fn stand_in_order<V>(stated: &Vec<(String, Type)>, fields: &Vec<(&str, V)>) -> b
     true
 }
 
-// Whether one of the first so many fields has this name.
+// Whether one of the first `count` fields has this name.
 fn stands_before(stated: &Vec<(String, Type)>, count: usize, name: &str) -> bool
     requires { count ≤ vec_len stated.now }
     ensures { OnFalse result (IsNoneOf (first_names (map by_bytes (take count stated.now.items))) name.now) }

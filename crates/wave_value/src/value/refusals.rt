@@ -36,7 +36,7 @@ impl ShowsValue for ByText {
     }
 }
 
-// The text of the value's own type: the makers that the writer stands on can't call the writer.
+// The text of the value's own type: the constructors that the writer stands on can't call the writer.
 pub(super) struct ByType;
 
 impl ShowsValue for ByType {

@@ -1,4 +1,4 @@
-//! The parts of values. What is answered is also what the maker of that kind takes at the value's
+//! The parts of values. What is answered is also what the constructor of that kind takes at the value's
 //! own type, so each part has the own type that is stated there.
 ghost use Rattle.std.specs.Prelude.{◌≡◌, IfOk, map};
 ghost use Rattle.wave_wasm.specs.Types.{flags_names, record_parts};
@@ -123,7 +123,7 @@ impl Value {
         }
     }
 
-    /// The names of the flags in the type's order. It asks for flags. The only error is want of
+    /// The names of the flags in the type's order. It asks for flags. The only error is out of
     /// memory.
     pub fn unwrap_flags(&self, alloc: Global) -> Result<Vec<&str>, AllocError>
         requires { kind_of self.now.tree ≡ WasmTypeKind.Flags }
@@ -163,7 +163,7 @@ fn borrowed_flags<'a>(
     Ok(answer)
 }
 
-// The values behind the names of the type's fields.
+// The values, each after the name of its field in the type.
 fn borrowed_fields<'a>(
     alloc: Global,
     own: &'a Type,

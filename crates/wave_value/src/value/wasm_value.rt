@@ -1,5 +1,5 @@
 //! A value is lawful: it is of its own type, and a type is full where its names are distinct. Beside
-//! the trait's clauses each maker and each view of values has those of the one of `Value` of the
+//! the trait's clauses each constructor and each view of values has those of the one of `Value` of the
 //! same name; a refusal shows a value by the text of its own type.
 use super::refusals::ByType;
 use super::{Type, Value};

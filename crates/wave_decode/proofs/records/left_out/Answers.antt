@@ -16,7 +16,7 @@ use Rattle.wave_decode.specs.RecordParts.{IsMissingOrMemory}
 use Rattle.wave_decode.proofs.records.left_out.Goals.{in-Option+in-Err, in_default}
 use Rattle.wave_decode.proofs.records.left_out.Goals as goal
 
--- the maker of `none` refused
+-- the constructor of `none` refused
 none_refused : {V : Type 0} (tree : V → Value) (of : V → TypeTree → Type 0) (Full : TypeTree → Type 0) (T : TypeTree) (name : List ℕ) (n : NodeTree) (cause kept : WasmValueError) (e : Diagnostic) → kinds.Option ≡ kind_of T → HasDistinctNames T → FullOption of Full T None cause → kept ≡ cause → refusal_of e ≡ refused_by (cause_of kept) → e.span ≡ place_of n → IsMissing Full T name n e
 none_refused tree of Full T name n cause kept e option distinct full same is place =
     left_made tree of Full T name n (Err cause) (Err e) option distinct tt full (is ∙ ap (λ (w : WasmValueError). refused_by (cause_of w)) same, place)

@@ -6,7 +6,7 @@ use Rattle.wave_grammar.specs.TypedGrammar.{look_up}
 use Rattle.wave_decode.proofs.variants.named_case.Goals as goal
 
 module _ {S A : Type 0} (tree : S → A) (cases given : List (Bor (List ℕ) × Option (Bor S))) (i : ℕ) (name : List ℕ) (same : given ≡ cases) (inside : look_up (shown_cases tree cases) name ≡ look_up (shown_cases tree (drop i cases)) name) where
-  -- the case at the place has the name, or else it is among those behind
+  -- the case at the place has the name, or else it is among those after
   looked_here : (c : Bor (List ℕ) × Option (Bor S)) (b : Bool) → i < length given → c ≡ get_or given i c → b ≡ bytes_eq name c.0.now → look_up (shown_cases tree cases) name ≡ (if b then Some (shown tree c.1) else look_up (shown_cases tree (drop (i + 1) cases)) name)
   looked_here c b lt here is =
       let there = at_item (λ cs. look_up (shown_cases tree cs) name) cases i c (subst (λ (cs : List (Bor (List ℕ) × Option (Bor S))). i < length cs) same lt) (subst (λ (cs : List (Bor (List ℕ) × Option (Bor S))). c ≡ get_or cs i c) same here) in

@@ -3,7 +3,7 @@ use Rattle.std.specs.Prelude.{◌⊎◌}
 use Rattle.std.proofs.lemmas.Result.{IfErr-weaker}
 use Rattle.wave_example_settings.proofs.flags.read_flags.Goals as goal
 
--- what is told for no want of memory, and for no maker that serves less than all
+-- what a refusal says that isn't out of memory, where constructors serve every value
 told : {M F N W L : Type 0} → (M → ⊥) → L → M ⊎ F × N ⊎ W × (L → ⊥) → N
 told other full (inl memory) = absurd (other memory)
 told other full (inr (inl (fault, none))) = none

@@ -12,7 +12,7 @@ use Rattle.wave_lex.proofs.strings.unescape.Goals.{then-count-eq0-via-then-count
 take_rest : (s : List ℕ) → take (length s - 3) (drop 3 s) ≡ drop 3 s
 take_rest s = ap (λ (z : ℕ). take z (drop 3 s)) (sym (length-drop 3 s)) ∙ take-length (drop 3 s)
 
--- the text behind `\u{`
+-- the text after `\u{`
 begins : (s t : List ℕ) → s ≡ t → 3 ≤ length s → get_or s 0 0 ≡ 92 → get_or s 1 0 ≡ 117 → get_or s 2 0 ≡ 123 → t ≡ 92 ∷ 117 ∷ 123 ∷ take (length s - 3) (drop 3 s)
 begins s t e l a b c = sym e ∙ (opened s l a b c ∙ ap (λ (z : List ℕ). 92 ∷ 117 ∷ 123 ∷ z) (sym (take_rest s)))
 

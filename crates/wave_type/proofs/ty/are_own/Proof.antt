@@ -1,4 +1,4 @@
--- The `&` tells what is known of each type. Assumes `Logic`.
+-- The `&` says what is known of each type. Assumes `Logic`.
 use Rattle.std.proofs.Common.{List, [], ◌∷◌, refl}
 use Rattle.std.proofs.raw_atomic.Walks.{proved}
 use base.Fml.{ftrue, flft}

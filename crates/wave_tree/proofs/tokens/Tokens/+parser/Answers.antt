@@ -37,23 +37,23 @@ use Rattle.wave_tree.proofs.tokens.Tokens.+parser.Goals.{parse_items-then-eq-2, 
 word_here : {text shown : List ℕ} {role r : LabelRole} → shown ≡ text → spec_word role ≡ word_of shown → role ≡ r → word_of text ≡ spec_word r
 word_here text_is word_is role_is = ap word_of (sym text_is) ∙ (sym word_is ∙ ap spec_word role_is)
 
--- behind a value and a comma a key is due
+-- after a value and a comma a key is due
 key_due : {n : ℕ} {s : List Form} {p q m w : Place} {c : lex.Token} → Reached n due.value (due.entries ∷ s) p due.value (due.entries ∷ s) q → (item : LeadsBehindValue n due.value (due.entries ∷ s) q m (due.entries ∷ s)) →
     TakesItem m (Some (Ok c)) w → c ≡ Comma → Reached n due.value (due.entries ∷ s) p due.key s w
 key_due {s = s} so_far item comma_there is_comma = then_behind_class {f = due.key} {b = s} item.due_there Comma (then_reached so_far (reached item)) item.is_behind comma_there is_comma refl
 
--- behind a value that was read
+-- after a value that was read
 asks_value : (levels : ℕ) (p q r : Stream) → ((n : ℕ) (s : List Form) → n ≡ levels + length s → LeadsBehindValue n due.value s p.place q.place s) → AsksFor p q → AsksFor q r → AsksFor p r
 asks_value levels p q r read first more = asks_read levels due.value [] [] p q r (read levels [] (omega arith)) first more
 
--- behind the items so far
+-- after the items so far
 asks_items : (levels : ℕ) (close : lex.Token) (old at new : Stream) →
     ((n : ℕ) (s : List Form) → n ≡ levels + 1 + length s → (d : Due) × IsItemDue d × Reached n due.first_item (form_of close ∷ s) old.place d (form_of close ∷ s) at.place) → AsksFor old at → AsksFor at new → AsksFor old new
 asks_items levels close old at new led first more =
     let (d, i, r) = led (levels + 1) [] (omega arith) in
     asks_reached (levels + 1) due.first_item d (form_of close ∷ []) (form_of close ∷ []) old at new r first more
 
--- behind the entries so far
+-- after the entries so far
 asks_entries : (levels : ℕ) (old at new : Stream) → ((n : ℕ) (s : List Form) → n ≡ levels + 1 + length s → Reached n due.value (due.entries ∷ s) old.place due.value (due.entries ∷ s) at.place) →
     AsksFor old at → AsksFor at new → AsksFor old new
 asks_entries levels old at new led first more = asks_reached (levels + 1) due.value due.value (due.entries ∷ []) (due.entries ∷ []) old at new (led (levels + 1) [] (omega arith)) first more
@@ -164,7 +164,7 @@ parse_items-returns-in_err-item-clause-led g t c = λ n s e.
     handed s _ _ c.from_residual-in_err-item.ensures.1 (then_refuses c.in_err-item.field-0.0 r
     (item_refuses d c.in_err-item.field-0.0 i (no_close c.args.close s _ c.requires c.items.invariant.no_close) (c.in_err-item.ensures.led n (form_of c.args.close ∷ s) (omega arith))))
 
--- behind an item that was read
+-- after an item that was read
 behind_item : {n : ℕ} {d e : Due} {s : List Form} {p q w : Place} (close : lex.Token) → IsClose close → ((next : Place) × TakesItem q (Some (Ok close)) next → ⊥) → IsItemDue e →
     Reached n d (form_of close ∷ s) p e (form_of close ∷ s) q → (h : LeadsBehindValue n due.value (form_of close ∷ s) q w (form_of close ∷ s)) → Reached n d (form_of close ∷ s) p h.due_there (form_of close ∷ s) w
 behind_item {e = e} {s = s} {q = q} close is_close none i r h = then_reached r (item_read e i (no_close close s q is_close none) h)

@@ -25,7 +25,7 @@ use Rattle.wave_tree.proofs.ClassTests.{is_class, is_other, differs, differs_not
 use Rattle.wave_tree.proofs.LexerCallCount.{asks_none, asks_once, asks_token}
 use Rattle.wave_tree.proofs.tokens.Tokens.parse_flags.Goals as goal
 
--- behind a comma a further flag is due
+-- after a comma a further flag is due
 due_flag : (names : List (List ℕ)) {n : ℕ} {s : List Form} {p q w : Place} {text : List ℕ} (d : Due) (c : lex.Token) → IsFlagDue d names q → Reached n (due.behind_word text) s p d s q → TakesItem q (Some (Ok c)) w → c ≡ Comma →
     Reached n (due.behind_word text) s p (due.flag names) s w
 due_flag names {n} {s} {p} {q} {w} d c i r h e = then_same c r h (flag_same n d names s q w c i h ∙ ap (λ z. behind_flag_step names s (token_of z (text_at w))) e)

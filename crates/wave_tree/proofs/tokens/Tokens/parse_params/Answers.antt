@@ -25,7 +25,7 @@ pub returns-in-Err-expect-clause-within : goal.returns-in-Err-expect-clause-with
 returns-in-Err-expect-clause-within c =
     expected c.expect.new.self.place c.next_is.new.self.place c.expect-then-next_is.new.self.place class.ParenClose c.in-Err-expect.refusal c.next_is.ensures.stays (c.next_is.ensures.answer.0 c.if-next_is.true) c.in-Err-expect.ensures.takes
 
--- what is refused behind a `(`, where no `)` stands
+-- what is refused after a `(`, where no `)` stands
 behind_open : (e : Diagnostic) (old m looked new : Place) → TakesClass class.ParenOpen old m → looked ≡ m → ((q : Place) → TakesClass class.ParenClose m q → ⊥) → IsSyntaxError e 101 due.first_item (due.tuple ∷ []) looked new → RefusesTuple e old new
 behind_open e old m looked new opens stays none h = inr (m, opens, none, subst (λ (z : Place). IsSyntaxError e 101 due.first_item (due.tuple ∷ []) z new) stays h)
 
