@@ -1,7 +1,7 @@
 use Rattle.std.proofs.Common.{◌∙◌, sym, subst}
 use Rattle.wave_leaf.specs.Leaves.{leaf_node}
 use Rattle.wave_syntax.specs.NodeParts.{IsOneToken}
-use Rattle.wave_decode.proofs.LeafForms.{leaf_refused}
+use Rattle.wave_decode.proofs.LeafForms.{leaf_refused, named_simple}
 use Rattle.wave_decode.proofs.OptionReading.{other_option}
 use Rattle.wave_decode.proofs.ResultReading.{other_result}
 use Rattle.wave_decode.proofs.leaves.read_directly.Goals as goal
@@ -28,3 +28,6 @@ pub returns-in_default-ty-2 : goal.returns-in_default-ty-2
 returns-in_default-ty-2 g c = λ source token here.
     other_result g.V.WasmValue.tree g.V.WasmValue.is_of g.V.WasmValue.is_full (g.V.Type.WasmType.tree c.args.ty.now) source (leaf_node c.args.leaf.now) c.error-in_default-ty-2.result (sym c.kind.ensures ∙ c.in-Result.is)
     c.in_default-ty-2.not-ResultOk c.in_default-ty-2.not-ResultErr c.requires c.error-in_default-ty-2.ensures
+
+pub returns-in-Bool : goal.returns-in-Bool
+returns-in-Bool g c = c.read_simple.ensures (named_simple (g.V.Type.WasmType.tree c.args.ty.now) c.kind.result c.kind.ensures c.in-Bool.is)
