@@ -23,7 +23,7 @@ use Rattle.wave_syntax.specs.declared.form.NodeType.TheVariants as kind
 use Rattle.wave_syntax.proofs.ByKind.Variants.{HasCase, case_found, case_missing, case_distinct, case_blame, no_case_blame, variant_made}
 use Rattle.wave_syntax.proofs.ErrorSpans.Nodes.{at_in, caused_at, made_in, deeper}
 use Rattle.wave_leaf.specs.Reading.{IsReadAs, IsReadWhereDue}
-use Rattle.wave_decode.specs.CaseParts.{payload_due, IsLabelOf, AreRead, AreCaseParts}
+use Rattle.wave_decode.specs.CaseParts.{payload_due, IsLabelOf, IsCaseRead, AreCaseParts}
 use Rattle.wave_decode.specs.Faults.{IsDoomed}
 use Rattle.wave_decode.specs.declared.fault.Fault.TheVariants as fault
 use Rattle.wave_decode.specs.declared.variants.CasePayload.{CasePayload}
@@ -91,7 +91,7 @@ module _ {S V : Type 0} (type_tree : S → TypeTree) (tree : V → Value) (of : 
         within = λ v. deeper whole n error (payload_belongs source p c n more v) (read.within (payload_value source p c n more v));
       })
 
-  refused : (T : TypeTree) (source : List ℕ) (children : List NodeTree) (n : NodeTree) (case : Option (Bor (List ℕ) × Bor S)) (payload : Option V) (error : Diagnostic) → HasFullParts Full → kind_of T ≡ kinds.Variant → length children ≡ 1 → AreRead type_tree tree of Full T source children case payload → IsReadWhereDue tree of Full (shown type_tree (option_map (λ c. c.1) case)) source n (Err error) → IsDoomed tree of Full T source kind.VariantWithPayload (children ++ n ∷ []) (fault.Told error)
+  refused : (T : TypeTree) (source : List ℕ) (children : List NodeTree) (n : NodeTree) (case : Option (Bor (List ℕ) × Bor S)) (payload : Option V) (error : Diagnostic) → HasFullParts Full → kind_of T ≡ kinds.Variant → length children ≡ 1 → IsCaseRead type_tree tree of Full T source children case payload → IsReadWhereDue tree of Full (shown type_tree (option_map (λ c. c.1) case)) source n (Err error) → IsDoomed tree of Full T source kind.VariantWithPayload (children ++ n ∷ []) (fault.Told error)
   refused T source [] n case payload error parts is count h read = absurd (omega (arith, count))
   refused T source (c ∷ []) n None payload error parts is count h read = absurd h
   refused T source (c ∷ []) n (Some case) payload error parts is count h read = told_of_payload T source c n case error parts is h read
@@ -105,7 +105,7 @@ module _ {S V : Type 0} (type_tree : S → TypeTree) (tree : V → Value) (of : 
   -- ---- the whole
 
   -- the case and the payload that were read
-  read_whole : (T : TypeTree) (source : List ℕ) (children : List NodeTree) (p : Range ℕ) (case : Bor (List ℕ) × Bor S) (v : V) (m : Result V WasmValueError) (r : Result V Diagnostic) → kind_of T ≡ kinds.Variant → AreRead type_tree tree of Full T source children (Some case) (Some v) → IfOk m (MakesVariant tree of T case.0.now (Some v)) → IfErr m (FullVariant of Full T case.0.now (Some v)) → IsMade (node kind.VariantWithPayload p (node_trees children)) m r → IsReadAs tree of Full T source (node kind.VariantWithPayload p (node_trees children)) r
+  read_whole : (T : TypeTree) (source : List ℕ) (children : List NodeTree) (p : Range ℕ) (case : Bor (List ℕ) × Bor S) (v : V) (m : Result V WasmValueError) (r : Result V Diagnostic) → kind_of T ≡ kinds.Variant → IsCaseRead type_tree tree of Full T source children (Some case) (Some v) → IfOk m (MakesVariant tree of T case.0.now (Some v)) → IfErr m (FullVariant of Full T case.0.now (Some v)) → IsMade (node kind.VariantWithPayload p (node_trees children)) m r → IsReadAs tree of Full T source (node kind.VariantWithPayload p (node_trees children)) r
   read_whole T source [] p case v m r is read ok full done =
       record { answer = λ t node distinct. absurd (no_case_of_none source p t node); within = λ w. absurd (no_case_of_none source p w.0 w.1) }
   read_whole T source (c ∷ []) p case v m r is read ok full done =
@@ -129,6 +129,6 @@ module _ {S V : Type 0} (type_tree : S → TypeTree) (tree : V → Value) (of : 
   -- the variant was made, or its constructor refused
   pub whole_made : (T : TypeTree) (source : List ℕ) (children : List NodeTree) (x : CasePayload S V) (p : Range ℕ) (case : Bor (List ℕ) × Bor S) (v : V) (m : Result V WasmValueError) (r : Result V Diagnostic) → x.case ≡ Some case → x.payload ≡ Some v → AreCaseParts type_tree tree of Full T source children x → IfOk m (MakesVariant tree of (type_tree x.ty.now) case.0.now (Some v)) → IfErr m (FullVariant of Full (type_tree x.ty.now) case.0.now (Some v)) → IsMade (node kind.VariantWithPayload p (node_trees children)) m r → IsReadAs tree of Full T source (node kind.VariantWithPayload p (node_trees children)) r
   whole_made T source children x p case v m r named valued h ok full done =
-      let cased = subst (λ (o : Option (Bor (List ℕ) × Bor S)). AreRead type_tree tree of Full T source children o x.payload) named h.read in
-      read_whole T source children p case v m r h.kind (subst (AreRead type_tree tree of Full T source children (Some case)) valued cased)
+      let cased = subst (λ (o : Option (Bor (List ℕ) × Bor S)). IsCaseRead type_tree tree of Full T source children o x.payload) named h.read in
+      read_whole T source children p case v m r h.kind (subst (IsCaseRead type_tree tree of Full T source children (Some case)) valued cased)
       (subst (λ (U : TypeTree). IfOk m (MakesVariant tree of U case.0.now (Some v))) (sym h.ty) ok) (subst (λ (U : TypeTree). IfErr m (FullVariant of Full U case.0.now (Some v))) (sym h.ty) full) done

@@ -20,3 +20,4 @@ mod PartsBegun
 mod PartsKept
 mod KeptSteps
 mod LeafForms
+mod OtherKinds

@@ -22,14 +22,15 @@ module _ {S V : Type 0} (type_tree : S → TypeTree) (tree : V → Value) (of : 
       (case.0.now ≡ name_of (node_text source label)) × (look_up (variant_parts T) case.0.now ≡ Some (Some (type_tree case.1.now)))
 
   -- of no children nothing was read; of a label its case; of a label and a payload that too, at its type
-  abbrev pub AreRead : TypeTree → List ℕ → List NodeTree → Option (Bor (List ℕ) × Bor S) → Option V → Type 0
-  AreRead T source [] case payload = Unit {0}
-  AreRead T source (label ∷ []) (Some case) payload = IsLabelOf T source label case
-  AreRead T source (label ∷ inner ∷ []) (Some case) (Some v) = IsLabelOf T source label case × IsReadAs tree of Full (type_tree case.1.now) source inner (Ok v)
-  AreRead T source _ case payload = ⊥
+  abbrev pub IsCaseRead : TypeTree → List ℕ → List NodeTree → Option (Bor (List ℕ) × Bor S) → Option V → Type 0
+  IsCaseRead T source [] case payload = Unit {0}
+  IsCaseRead T source (label ∷ []) (Some case) payload = IsLabelOf T source label case
+  IsCaseRead T source (label ∷ inner ∷ []) (Some case) (Some v) =
+      IsLabelOf T source label case × IsReadAs tree of Full (type_tree case.1.now) source inner (Ok v)
+  IsCaseRead T source _ case payload = ⊥
 
   -- the children of a node of a case and its payload, at a variant type
   pub record AreCaseParts (T : TypeTree) (source : List ℕ) (children : List NodeTree) (x : CasePayload S V) : Type 0 where
     pub ty : T ≡ type_tree x.ty.now
     pub kind : kind_of T ≡ kinds.Variant
-    pub read : AreRead T source children x.case x.payload
+    pub read : IsCaseRead T source children x.case x.payload

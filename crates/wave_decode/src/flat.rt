@@ -8,7 +8,7 @@ ghost use Rattle.wave_decode.specs.Flat.{IsFlatAt, GivesFlatAt, IsAround};
 
 use crate::fault::or_error_at;
 use std::alloc::Global;
-use wave_lex::error::ParserError;
+use wave_lex::error::{ParserError, ParserErrorKind};
 use wave_lex::lex::Span;
 use wave_syntax::form::NodeType;
 use wave_syntax::typed::flat_type;
@@ -31,7 +31,28 @@ pub(crate) fn flat_payload<'ty, T: WasmType>(ty: &'ty T, node: NodeType) -> Opti
                 None => None,
             },
         },
-        _ => None,
+        WasmTypeKind::Bool
+        | WasmTypeKind::S8
+        | WasmTypeKind::S16
+        | WasmTypeKind::S32
+        | WasmTypeKind::S64
+        | WasmTypeKind::U8
+        | WasmTypeKind::U16
+        | WasmTypeKind::U32
+        | WasmTypeKind::U64
+        | WasmTypeKind::F32
+        | WasmTypeKind::F64
+        | WasmTypeKind::Char
+        | WasmTypeKind::String
+        | WasmTypeKind::List
+        | WasmTypeKind::FixedLengthList
+        | WasmTypeKind::Record
+        | WasmTypeKind::Tuple
+        | WasmTypeKind::Variant
+        | WasmTypeKind::Enum
+        | WasmTypeKind::Flags
+        | WasmTypeKind::Map
+        | WasmTypeKind::Unsupported => None,
     }
 }
 
@@ -65,6 +86,28 @@ pub(crate) fn around<V: WasmValue>(
     };
     match ty.kind() {
         WasmTypeKind::Option => or_error_at(span, V::make_option(alloc, ty, Some(val))),
-        _ => or_error_at(span, V::make_result(alloc, ty, Ok(Some(val)))),
+        WasmTypeKind::Result => or_error_at(span, V::make_result(alloc, ty, Ok(Some(val)))),
+        WasmTypeKind::Bool
+        | WasmTypeKind::S8
+        | WasmTypeKind::S16
+        | WasmTypeKind::S32
+        | WasmTypeKind::S64
+        | WasmTypeKind::U8
+        | WasmTypeKind::U16
+        | WasmTypeKind::U32
+        | WasmTypeKind::U64
+        | WasmTypeKind::F32
+        | WasmTypeKind::F64
+        | WasmTypeKind::Char
+        | WasmTypeKind::String
+        | WasmTypeKind::List
+        | WasmTypeKind::FixedLengthList
+        | WasmTypeKind::Record
+        | WasmTypeKind::Tuple
+        | WasmTypeKind::Variant
+        | WasmTypeKind::Enum
+        | WasmTypeKind::Flags
+        | WasmTypeKind::Map
+        | WasmTypeKind::Unsupported => Err(ParserError::new(ParserErrorKind::InvalidType, span)),
     }
 }

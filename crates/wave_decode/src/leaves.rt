@@ -66,7 +66,20 @@ fn read_directly<V: WasmValue>(
             NodeType::ResultErr => read_alone(leaf, alloc, ty, false),
             _ => Err(leaf.error(ParserErrorKind::InvalidType)),
         },
-        _ => leaf.read_simple(alloc, ty),
+        WasmTypeKind::Bool
+        | WasmTypeKind::S8
+        | WasmTypeKind::S16
+        | WasmTypeKind::S32
+        | WasmTypeKind::S64
+        | WasmTypeKind::U8
+        | WasmTypeKind::U16
+        | WasmTypeKind::U32
+        | WasmTypeKind::U64
+        | WasmTypeKind::F32
+        | WasmTypeKind::F64
+        | WasmTypeKind::Char
+        | WasmTypeKind::String
+        | WasmTypeKind::Unsupported => leaf.read_simple(alloc, ty),
     }
 }
 
@@ -109,6 +122,19 @@ fn flags_directly<V: WasmValue>(
         | WasmTypeKind::Enum
         | WasmTypeKind::Option
         | WasmTypeKind::Result => Err(ParserError::new(ParserErrorKind::InvalidType, span)),
-        _ => refuse_simple(alloc, ty, span),
+        WasmTypeKind::Bool
+        | WasmTypeKind::S8
+        | WasmTypeKind::S16
+        | WasmTypeKind::S32
+        | WasmTypeKind::S64
+        | WasmTypeKind::U8
+        | WasmTypeKind::U16
+        | WasmTypeKind::U32
+        | WasmTypeKind::U64
+        | WasmTypeKind::F32
+        | WasmTypeKind::F64
+        | WasmTypeKind::Char
+        | WasmTypeKind::String
+        | WasmTypeKind::Unsupported => refuse_simple(alloc, ty, span),
     }
 }

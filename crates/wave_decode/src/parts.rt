@@ -76,7 +76,20 @@ impl<'ty, V: WasmValue> Parts<'ty, V::Type, V> {
             WasmTypeKind::Enum => Parts::wrong_form(),
             WasmTypeKind::Option => Parts::of_option(ty, of),
             WasmTypeKind::Result => Parts::of_result(ty, of),
-            _ => Parts::Simple(ty),
+            WasmTypeKind::Bool
+            | WasmTypeKind::S8
+            | WasmTypeKind::S16
+            | WasmTypeKind::S32
+            | WasmTypeKind::S64
+            | WasmTypeKind::U8
+            | WasmTypeKind::U16
+            | WasmTypeKind::U32
+            | WasmTypeKind::U64
+            | WasmTypeKind::F32
+            | WasmTypeKind::F64
+            | WasmTypeKind::Char
+            | WasmTypeKind::String
+            | WasmTypeKind::Unsupported => Parts::Simple(ty),
         }
     }
 
@@ -296,7 +309,28 @@ fn read_empty<V: WasmValue>(alloc: Global, ty: &V::Type, span: Span) -> Result<V
     match ty.kind() {
         WasmTypeKind::Flags => read_no_flags(alloc, ty, span),
         WasmTypeKind::Map => read_no_entries(alloc, ty, span),
-        _ => Err(ParserError::new(ParserErrorKind::InvalidType, span)),
+        WasmTypeKind::Bool
+        | WasmTypeKind::S8
+        | WasmTypeKind::S16
+        | WasmTypeKind::S32
+        | WasmTypeKind::S64
+        | WasmTypeKind::U8
+        | WasmTypeKind::U16
+        | WasmTypeKind::U32
+        | WasmTypeKind::U64
+        | WasmTypeKind::F32
+        | WasmTypeKind::F64
+        | WasmTypeKind::Char
+        | WasmTypeKind::String
+        | WasmTypeKind::List
+        | WasmTypeKind::FixedLengthList
+        | WasmTypeKind::Record
+        | WasmTypeKind::Tuple
+        | WasmTypeKind::Variant
+        | WasmTypeKind::Enum
+        | WasmTypeKind::Option
+        | WasmTypeKind::Result
+        | WasmTypeKind::Unsupported => Err(ParserError::new(ParserErrorKind::InvalidType, span)),
     }
 }
 

@@ -295,7 +295,29 @@ fn left_out<V: WasmValue>(
             Ok(val) => return Ok(val),
             Err(cause) => cause,
         },
-        _ => missing(alloc, name),
+        WasmTypeKind::Bool
+        | WasmTypeKind::S8
+        | WasmTypeKind::S16
+        | WasmTypeKind::S32
+        | WasmTypeKind::S64
+        | WasmTypeKind::U8
+        | WasmTypeKind::U16
+        | WasmTypeKind::U32
+        | WasmTypeKind::U64
+        | WasmTypeKind::F32
+        | WasmTypeKind::F64
+        | WasmTypeKind::Char
+        | WasmTypeKind::String
+        | WasmTypeKind::List
+        | WasmTypeKind::FixedLengthList
+        | WasmTypeKind::Record
+        | WasmTypeKind::Tuple
+        | WasmTypeKind::Variant
+        | WasmTypeKind::Enum
+        | WasmTypeKind::Result
+        | WasmTypeKind::Flags
+        | WasmTypeKind::Map
+        | WasmTypeKind::Unsupported => missing(alloc, name),
     };
     Err(ParserError::with_cause(span.start..span.end, refusal))
 }

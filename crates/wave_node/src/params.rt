@@ -104,10 +104,7 @@ pub(crate) fn are_options<T: WasmType>(types: &[T]) -> bool
 fn is_option(kind: WasmTypeKind) -> bool
     ensures { IsTrue result ↔ (kind ≡ WasmTypeKind.Option) }
 {
-    match kind {
-        WasmTypeKind::Option => true,
-        _ => false,
-    }
+    kind == WasmTypeKind::Option
 }
 
 /// Adds `none` for each of the types, which are options. A constructor's refusal stands at `at`.

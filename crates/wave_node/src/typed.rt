@@ -83,7 +83,26 @@ impl Node {
             WasmTypeKind::F32 | WasmTypeKind::F64 | WasmTypeKind::Unsupported => {
                 Err(leaf.unsupported(alloc, kind))
             }
-            _ => Err(self.error(ParserErrorKind::InvalidType)),
+            WasmTypeKind::S8
+            | WasmTypeKind::S16
+            | WasmTypeKind::S32
+            | WasmTypeKind::S64
+            | WasmTypeKind::U8
+            | WasmTypeKind::U16
+            | WasmTypeKind::U32
+            | WasmTypeKind::U64
+            | WasmTypeKind::Char
+            | WasmTypeKind::String
+            | WasmTypeKind::List
+            | WasmTypeKind::FixedLengthList
+            | WasmTypeKind::Record
+            | WasmTypeKind::Tuple
+            | WasmTypeKind::Variant
+            | WasmTypeKind::Enum
+            | WasmTypeKind::Option
+            | WasmTypeKind::Result
+            | WasmTypeKind::Flags
+            | WasmTypeKind::Map => Err(self.error(ParserErrorKind::InvalidType)),
         }
     }
 
