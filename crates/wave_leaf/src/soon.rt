@@ -1,18 +1,20 @@
-//! Whole numbers that are read and made at once.
+//! Bools, whole numbers, chars, and strings without escapes that are read and made at once.
 ghost use Rattle.std.specs.Prelude.{ℕ, List, ◌≡◌, Ok, IfSome};
-ghost use Rattle.wave_syntax.specs.NodeAccessors.{GivesNumber};
+ghost use Rattle.wave_syntax.specs.NodeAccessors.{GivesBool, GivesNumber, GivesChar};
+ghost use Rattle.wave_syntax.specs.NodeStrings.{StandsFor};
 ghost use Rattle.wave_leaf.specs.Leaves.{leaf_node, IsLeafIn};
 ghost use Rattle.wave_leaf.specs.Reading.{IsReadAs};
 
 use crate::leaf::Leaf;
 use std::alloc::Global;
 use wave_grammar::number::WholeNumber;
+use wave_grammar::text::char_in;
 use wave_syntax::form::NodeType;
 use wave_wasm::wasm::{WasmType, WasmTypeKind, WasmValue, WasmValueError};
 
 impl<'src> Leaf<'src> {
-    /// The whole number, where the type is a whole-number type and a value of it is read and made.
-    /// Nothing is said of why there is none.
+    /// The bool, whole number or char, or the string in one line without escapes, where a value of
+    /// that type is due, read and made. Nothing is said of why there is none.
     #[inline(always)]
     pub fn read_soon<V: WasmValue>(&self, alloc: Global, ty: &V::Type) -> Option<V>
         ensures { (source : List ℕ) → IsLeafIn source self.now
@@ -27,11 +29,11 @@ impl<'src> Leaf<'src> {
             WasmTypeKind::U16 => if_made(V::make_u16(alloc, self.number()?)),
             WasmTypeKind::U32 => if_made(V::make_u32(alloc, self.number()?)),
             WasmTypeKind::U64 => if_made(V::make_u64(alloc, self.number()?)),
-            WasmTypeKind::Bool
-            | WasmTypeKind::F32
+            WasmTypeKind::Bool => if_made(V::make_bool(alloc, self.boolean()?)),
+            WasmTypeKind::Char => if_made(V::make_char(alloc, self.scalar()?)),
+            WasmTypeKind::String => if_made(V::make_string(alloc, self.run()?)),
+            WasmTypeKind::F32
             | WasmTypeKind::F64
-            | WasmTypeKind::Char
-            | WasmTypeKind::String
             | WasmTypeKind::List
             | WasmTypeKind::FixedLengthList
             | WasmTypeKind::Record
@@ -55,6 +57,42 @@ impl<'src> Leaf<'src> {
             return None;
         }
         T::from_text(self.text)
+    }
+
+    /// The bool, at one of the two types of bools.
+    #[inline(always)]
+    fn boolean(&self) -> Option<bool>
+        ensures { IfSome result (λ val. GivesBool (leaf_node self.now) (Ok val)) }
+    {
+        match self.ty {
+            NodeType::BoolTrue => Some(true),
+            NodeType::BoolFalse => Some(false),
+            _ => None,
+        }
+    }
+
+    /// The scalar, at a char of one.
+    fn scalar(&self) -> Option<char>
+        ensures { (source : List ℕ) → IsLeafIn source self.now → IfSome result (λ c. GivesChar source (leaf_node self.now) (Ok c)) }
+    {
+        if self.ty != NodeType::Char {
+            return None;
+        }
+        char_in(self.inside("'")?)
+    }
+
+    /// The text, at a string that has no backslash between its quotes: what stands there.
+    fn run(&self) -> Option<&'src str>
+        ensures { (source : List ℕ) → IsLeafIn source self.now → IfSome result (λ text. StandsFor source (leaf_node self.now) text.now) }
+    {
+        if self.ty != NodeType::String {
+            return None;
+        }
+        let inside = self.inside("\"")?;
+        if inside.as_bytes().contains(&b'\\') {
+            return None;
+        }
+        Some(inside)
     }
 }
 
