@@ -1,5 +1,5 @@
 -- Plain bytes and escapes lead a string back to where it stood.
-use Rattle.std.proofs.Common.{◌≡◌, ℕ, ◌≤◌, ◌<◌, ◌+◌, Bool, true, false, nat_eq, zero, suc, List, [], ◌∷◌, ◌++◌, inl, inr, refl, sym, ap, subst, ◌∙◌, length, take, drop, arith, get_or, Option, Some, None, length-append, length-drop, get_or-drop}
+use Rattle.std.proofs.Common.{◌≡◌, ℕ, ◌≤◌, ◌<◌, ◌+◌, Bool, true, false, nat_eq, zero, suc, List, [], ◌∷◌, ◌++◌, inl, inr, refl, sym, ap, subst, ◌∙◌, length, take, drop, arith, get_or, Option, Some, None, length-append, length-drop, length-take-le, get_or-drop}
 use Rattle.std.specs.Prelude.{◌||◌, not, nat_lt, if◌then◌else◌, encode_utf8_all}
 use Rattle.std.specs.Char.{digit_value}
 use Rattle.std.specs.Str.{IsUtf8, chars, IsCharBoundary}
@@ -10,7 +10,7 @@ use Rattle.std.proofs.Math.Seq.{take-append_seam}
 use Rattle.wave_lex.specs.Regex.{Regex}
 use Rattle.wave_lex.specs.Shared.Derive.{after, after_all, after_next}
 use Rattle.wave_lex.specs.LongestMatch.{Greatest, IsFront}
-use Rattle.wave_lex.specs.Strings.{short_escape, IsEscape}
+use Rattle.wave_lex.specs.Strings.{short_escape}
 use Rattle.wave_lex.specs.Tokens.{string}
 use Rattle.wave_lex.specs.Shared.Reading.{LeadsTo, IsPlainRun}
 use Rattle.wave_lex.specs.Shared.Machines.{is_hexadecimal, is_plain, escape_step, ends_short, in_string, string_rest}
@@ -20,12 +20,12 @@ use Rattle.wave_lex.specs.declared.machine.escape.EscapeStep.{EscapeStep}
 use Rattle.wave_lex.specs.declared.machine.escape.EscapeStep.TheVariants.{Within, Last}
 use Rattle.wave_lex.specs.declared.machine.string.StringState.{StringState}
 use Rattle.wave_lex.specs.declared.machine.string.StringState.TheVariants as string
-use Rattle.wave_lex.proofs.Decoding.{escape_head}
 use Rattle.wave_lex.proofs.Shapes.{each_below, each_below_at}
 use Rattle.wave_lex.proofs.LongestMatch.{is_ascii, ascii_spelled, or_not}
 use Rattle.wave_lex.proofs.Scanning.{after_all_append}
 use Rattle.wave_lex.proofs.Machines.{string_steps}
-use Rattle.wave_lex.proofs.Parts.{AllAscii, digit_ascii, escape_ascii}
+use Rattle.wave_lex.proofs.Parts.{AllAscii, ascii_append, digit_ascii, digits_ascii, short_ascii}
+use Rattle.wave_lex.proofs.Unescape.{all_digits, closed_at}
 use Rattle.wave_lex.proofs.Fronts.{take_plus, ascii_leads, cut_here, run_ends}
 use Rattle.wave_lex.proofs.Runs.{ArePlain, plains_stay, plain_taken, not_plain_ascii}
 
@@ -106,17 +106,17 @@ not_u b c e = grind (arith, nat_tests)
 short_last : (b c : ℕ) → short_escape b ≡ Some c → escape_step escape.Backslash b ≡ Some Last
 short_last b c e = ap (λ (z : Bool). if z then Some (Within escape.U) else ends_short (short_escape b)) (not_u b c e) ∙ ap ends_short e
 
--- an escape leads back to where it began
-escape_stays : (e : List ℕ) (c : ℕ) → IsEscape e c → after_all e (string_rest string.Inside) ≡ string_rest string.Inside
-escape_stays e c (inl a) =
-    ap (λ (z : List ℕ). after_all z (string_rest string.Inside)) a.1
-    ∙ (string_steps (string.Escape escape.Backslash) a.0 ∙ ap (λ (z : Option EscapeStep). after_next StringState string_rest (in_string z)) (short_last a.0 c a.2))
-escape_stays e c (inr a) =
-    let few : 0 + length a.digits ≤ 6 = let h : length a.digits ≤ 6 = a.few in omega arith in
-    let none : 0 + length a.digits ≡ length a.digits = omega arith in
-    ap (λ (z : List ℕ). after_all z (string_rest string.Inside)) a.spelled
-    ∙ (after_all_append a.digits (125 ∷ []) (string_rest (string.Escape escape.Hex0))
-    ∙ (ap (λ (z : Regex). after 125 z) (digits_go a.digits 0 few a.hexadecimal ∙ ap (λ (z : ℕ). string_rest (string.Escape (hex_state z))) none) ∙ closes (length a.digits) a.some a.few))
+-- a short escape leads back to where it began
+short_stays : (b c : ℕ) → short_escape b ≡ Some c → after_all (92 ∷ b ∷ []) (string_rest string.Inside) ≡ string_rest string.Inside
+short_stays b c e = string_steps (string.Escape escape.Backslash) b ∙ ap (λ (z : Option EscapeStep). after_next StringState string_rest (in_string z)) (short_last b c e)
+
+-- a long escape leads back to where it began
+long_stays : (ds : List ℕ) → 1 ≤ length ds → length ds ≤ 6 → AllDigits 16 ds → after_all (92 ∷ 117 ∷ 123 ∷ (ds ++ 125 ∷ [])) (string_rest string.Inside) ≡ string_rest string.Inside
+long_stays ds l m a =
+    let few : 0 + length ds ≤ 6 = omega arith in
+    let none : 0 + length ds ≡ length ds = omega arith in
+    after_all_append ds (125 ∷ []) (string_rest (string.Escape escape.Hex0))
+    ∙ (ap (λ (z : Regex). after 125 z) (digits_go ds 0 few a ∙ ap (λ (z : ℕ). string_rest (string.Escape (hex_state z))) none) ∙ closes (length ds) l m)
 
 all_is : (e : List ℕ) → AllAscii e → is_ascii e ≡ true
 all_is [] a = refl
@@ -124,17 +124,34 @@ all_is (b ∷ e) a =
     let small : nat_lt b 128 ≡ true = let l : b < 128 = a.0 in grind (arith, nat_tests) in
     rw (small, all_is e a.1) refl
 
--- an escape at the start
-pub escape_leads : (s e t : List ℕ) (c k : ℕ) → IsEscape e c → s ≡ e ++ t → k ≡ length e → LeadsTo (string_rest string.Inside) (string_rest string.Inside) s k
-escape_leads s e t c k h w l =
+-- bytes of ASCII at the start that lead back to where they began
+stays_here : (s e t : List ℕ) (k : ℕ) → AllAscii e → after_all e (string_rest string.Inside) ≡ string_rest string.Inside → s ≡ e ++ t → k ≡ length e
+    → LeadsTo (string_rest string.Inside) (string_rest string.Inside) s k
+stays_here s e t k a h w l =
     let cut : take k s ≡ e = ap (λ (z : ℕ). take z s) l ∙ (ap (λ (z : List ℕ). take (length e) z) w ∙ take-append_seam e t) in
     let long : length s ≡ length e + length t = ap length w ∙ length-append e t in
-    record { scalars = e; fits = omega arith; spelled = ascii_spelled e (all_is e (escape_ascii e c h)) ∙ sym cut; has = escape_stays e c h }
+    record { scalars = e; fits = omega arith; spelled = ascii_spelled e (all_is e a) ∙ sym cut; has = h }
 
--- an escape has a byte
-pub escape_some : (e : List ℕ) (c k : ℕ) → IsEscape e c → k ≡ length e → 0 < k
-escape_some e c k h l = let w = escape_head e c h in
-    let long : length e ≡ suc (length w.0) = ap length w.1 in omega arith
+-- a short escape at the start
+pub short_leads : (s : List ℕ) (c : ℕ) → 2 ≤ length s → get_or s 0 0 ≡ 92 → short_escape (get_or s 1 0) ≡ Some c → LeadsTo (string_rest string.Inside) (string_rest string.Inside) s 2
+short_leads [] c l a b = let w : ⊥ = omega arith in absurd w
+short_leads (x ∷ []) c l a b = let w : ⊥ = omega arith in absurd w
+short_leads (x ∷ y ∷ s) c l a b =
+    let f : 92 < 128 = omega arith in
+    stays_here (x ∷ y ∷ s) (92 ∷ y ∷ []) s 2 (f, (short_ascii y c b, tt)) (short_stays y c b) (ap (λ (z : ℕ). z ∷ y ∷ s) a) refl
+
+-- a long escape at the start
+pub long_leads : (s d : List ℕ) (n : ℕ) → s ≡ 92 ∷ 117 ∷ 123 ∷ d → 1 ≤ n → n ≤ 6 → n < length d → ((i : ℕ) → i < n → digit_value (get_or d i 0) < 16) → get_or d n 0 ≡ 125
+    → LeadsTo (string_rest string.Inside) (string_rest string.Inside) s (n + 4)
+long_leads s d n w some few within digits closed =
+    let f : 92 < 128 = omega arith in
+    let g : 117 < 128 = omega arith in
+    let h : 123 < 128 = omega arith in
+    let k : 125 < 128 = omega arith in
+    let cut : length (take n d) ≡ n = length-take-le n d (omega arith) in
+    let a : AllDigits 16 (take n d) = all_digits d n (omega arith) digits in
+    stays_here s (92 ∷ 117 ∷ 123 ∷ (take n d ++ 125 ∷ [])) (drop (suc n) d) (n + 4) (f, (g, (h, ascii_append (take n d) (125 ∷ []) (digits_ascii (take n d) a) (k, tt))))
+    (long_stays (take n d) (omega arith) (omega arith) a) (w ∙ ap (λ (z : List ℕ). 92 ∷ 117 ∷ 123 ∷ z) (closed_at d n within closed)) (omega (arith, length-append (take n d) (125 ∷ [])))
 
 -- ---- plain bytes
 

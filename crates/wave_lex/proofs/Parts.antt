@@ -87,7 +87,7 @@ abbrev pub AllAscii : List ℕ → Type 0
 AllAscii s = AllOf (λ b. b < 128) s
 
 -- two texts of ASCII join to one
-ascii_append : (x y : List ℕ) → AllAscii x → AllAscii y → AllAscii (x ++ y)
+pub ascii_append : (x y : List ℕ) → AllAscii x → AllAscii y → AllAscii (x ++ y)
 ascii_append [] y a b = b
 ascii_append (c ∷ x) y a b = (a.0, ascii_append x y a.1 b)
 
@@ -96,12 +96,12 @@ pub digit_ascii : (d : ℕ) → digit_value d < 16 → d < 128
 digit_ascii d h = grind (arith, nat_tests)
 
 -- digits are ASCII
-digits_ascii : (ds : List ℕ) → AllDigits 16 ds → AllAscii ds
+pub digits_ascii : (ds : List ℕ) → AllDigits 16 ds → AllAscii ds
 digits_ascii [] a = tt
 digits_ascii (d ∷ ds) a = (digit_ascii d a.0, digits_ascii ds a.1)
 
 -- the byte of a short escape is ASCII
-short_ascii : (b c : ℕ) → short_escape b ≡ Some c → b < 128
+pub short_ascii : (b c : ℕ) → short_escape b ≡ Some c → b < 128
 short_ascii b c e = grind (arith, nat_tests)
 
 -- an escape is ASCII

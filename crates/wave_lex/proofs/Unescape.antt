@@ -1,10 +1,11 @@
 -- Where an escape stands at the start of a text.
-use Rattle.std.proofs.Common.{◌≡◌, ℕ, ◌≤◌, ◌<◌, ◌+◌, ◌^◌, zero, suc, List, [], ◌∷◌, ◌++◌, inl, inr, refl, sym, ap, subst, ◌∙◌, length, take, drop, arith, Some, None, get_or, append_assoc, length-append, length-take-le, true, false, cond, Bool, lit<}
+use Rattle.std.proofs.Common.{◌≡◌, ℕ, ◌≤◌, ◌<◌, ◌+◌, ◌^◌, zero, suc, List, [], ◌∷◌, ◌++◌, inl, inr, refl, sym, ap, subst, ◌∙◌, length, take, drop, arith, Some, None, get_or, append_assoc, length-append, length-take-le, length-drop, ◌-◌, true, false, cond, Bool, lit<}
 use Rattle.std.specs.Prelude.{nat_eq}
 use Rattle.std.specs.Char.{IsScalar, digit_value}
 use Rattle.std.specs.Str.Parse.{AllDigits, IsNumeral, digits_value, without_leading_plus}
 use Rattle.std.proofs.lemmas.Int.Digits.{digits_value-lt}
 use Rattle.std.proofs.lemmas.Bool.Decides.{nat_tests}
+use Rattle.std.proofs.Math.Seq.{take-length}
 use Rattle.wave_lex.specs.Strings.{short_escape, IsEscape, UnescapesTo}
 
 -- n digits are right: one to six, closed by `}`, the number of a scalar
@@ -83,6 +84,10 @@ split_at [] n l = let w : ⊥ = omega arith in absurd w
 split_at (b ∷ d) zero l = refl
 split_at (b ∷ d) (suc n) l = ap (λ (z : List ℕ). b ∷ z) (split_at d n (omega arith))
 
+-- the digits and the `}` behind them are the front
+pub closed_at : (d : List ℕ) (n : ℕ) → n < length d → get_or d n 0 ≡ 125 → d ≡ (take n d ++ 125 ∷ []) ++ drop (suc n) d
+closed_at d n l e = split_at d n l ∙ (ap (λ (z : ℕ). take n d ++ (z ∷ drop (suc n) d)) e ∙ sym (append_assoc (take n d) (125 ∷ []) (drop (suc n) d)))
+
 -- where the digits are right, the escape is theirs
 pub some_long : (s d : List ℕ) (n c : ℕ) → s ≡ 92 ∷ 117 ∷ 123 ∷ d → Counts d n → Good d n → c ≡ digits_value 16 (take n d) → UnescapesTo s (Some (c, n + 4))
 some_long s d n c w h g v =
@@ -91,8 +96,7 @@ some_long s d n c w h g v =
     let least : 1 ≤ n = g.some in
     let most : n ≤ 6 = g.few in
     let e : List ℕ = 92 ∷ 117 ∷ 123 ∷ (take n d ++ 125 ∷ []) in
-    let whole : d ≡ (take n d ++ 125 ∷ []) ++ drop (suc n) d =
-    split_at d n g.within ∙ (ap (λ (z : ℕ). take n d ++ (z ∷ drop (suc n) d)) g.closed ∙ sym (append_assoc (take n d) (125 ∷ []) (drop (suc n) d))) in (
+    let whole : d ≡ (take n d ++ 125 ∷ []) ++ drop (suc n) d = closed_at d n g.within g.closed in (
       92 ∷ 117 ∷ 123 ∷ (take n d ++ 125 ∷ []),
       drop (suc n) d,
       inr (record {
@@ -114,6 +118,14 @@ opened [] l a b c = let w : ⊥ = omega arith in absurd w
 opened (x ∷ []) l a b c = let w : ⊥ = omega arith in absurd w
 opened (x ∷ y ∷ []) l a b c = let w : ⊥ = omega arith in absurd w
 opened (x ∷ y ∷ z ∷ s) l a b c = cc
+
+-- what stands behind three bytes, counted, is all that stands there
+pub rest_of : (s : List ℕ) → take (length s - 3) (drop 3 s) ≡ drop 3 s
+rest_of s = ap (λ (z : ℕ). take z (drop 3 s)) (sym (length-drop 3 s)) ∙ take-length (drop 3 s)
+
+-- the text is `\u{` and the rest that the code cuts off
+pub opened_cut : (s : List ℕ) → 3 ≤ length s → get_or s 0 0 ≡ 92 → get_or s 1 0 ≡ 117 → get_or s 2 0 ≡ 123 → s ≡ 92 ∷ 117 ∷ 123 ∷ take (length s - 3) (drop 3 s)
+opened_cut s l a b c = opened s l a b c ∙ ap (λ (z : List ℕ). 92 ∷ 117 ∷ 123 ∷ z) (sym (rest_of s))
 
 -- a short escape
 pub short : (s : List ℕ) (c : ℕ) → 2 ≤ length s → get_or s 0 0 ≡ 92 → short_escape (get_or s 1 0) ≡ Some c → UnescapesTo s (Some (c, 2))

@@ -265,7 +265,7 @@ pub fn unescape(src: &str) -> Option<(char, usize)>
 }
 
 /// How many hexadecimal digits stand at the start.
-fn hex_length(bytes: &[u8]) -> usize
+pub(crate) fn hex_length(bytes: &[u8]) -> usize
     ensures within { result ≤ length bytes.now }
     ensures digits { (i : ℕ) → i < result → digit_value (slice_index bytes.now i) < 16 }
     ensures stops { result < length bytes.now → 16 ≤ digit_value (slice_index bytes.now result) }

@@ -9,12 +9,13 @@ ghost use Rattle.wave_lex.specs.declared.machine.string.StringState.TheVariants.
 ghost use Rattle.wave_lex.specs.Tokenization.{IsGap};
 ghost use Rattle.wave_lex.specs.Tokens.{label_or_keyword, multiline_string, number, one, string};
 
+use crate::machine::escape::short_escape;
 use crate::machine::gap::GapState;
 use crate::machine::label::{LabelState, LabelTokenState};
 use crate::machine::longest_front;
 use crate::machine::number::NumberState;
 use crate::machine::string::StringState;
-use crate::strings::unescape;
+use crate::strings::hex_length;
 use memchr::{memchr3, memmem};
 
 /// How many bytes of a run are looked at in turn before the others are searched at once.
@@ -155,14 +156,37 @@ fn inside_end(text: &str, from: usize) -> usize
 fn piece_at(text: &str) -> Option<usize>
     ensures { IsStep (string_rest Inside) text.now result }
 {
-    let run = plains(text.as_bytes());
-    if run > 0 {
-        return Some(run);
+    let bytes = text.as_bytes();
+    if let Some(count) = escape_at(bytes) {
+        return Some(count);
     }
-    let Some((_, count)) = unescape(text) else {
+    let run = plains(bytes);
+    if run == 0 {
         return None;
-    };
-    Some(count)
+    }
+    Some(run)
+}
+
+/// How many bytes the escape takes that stands at the start; its number need be no scalar.
+fn escape_at(bytes: &[u8]) -> Option<usize>
+    ensures { IsStep (string_rest Inside) bytes.now result }
+{
+    if bytes.len() < 2 || bytes[0] != b'\\' {
+        return None;
+    }
+    if bytes[1] != b'u' {
+        let _scalar = short_escape(char::from(bytes[1]))?;
+        return Some(2);
+    }
+    if bytes.len() < 3 || bytes[2] != b'{' {
+        return None;
+    }
+    let digits = &bytes[3..];
+    let count = hex_length(digits);
+    if count == 0 || count > 6 || count >= digits.len() || digits[count] != b'}' {
+        return None;
+    }
+    Some(count + 4)
 }
 
 /// The byte is a space, a tab, a line feed or a carriage return.

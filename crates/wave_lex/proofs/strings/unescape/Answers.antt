@@ -3,18 +3,14 @@ use Rattle.std.specs.Prelude.{slice_range}
 use Rattle.std.specs.Result.{result_ok}
 use Rattle.std.specs.Str.Parse.{digits_value, IsNumeral, without_leading_plus, ParsesUnsigned}
 use Rattle.std.specs.Char.{IsScalar}
-use Rattle.std.proofs.Math.Seq.{take-length}
 use Rattle.wave_lex.specs.Strings.{UnescapesTo, short_escape}
-use Rattle.wave_lex.proofs.Unescape.{Good, Counts, none_long, some_long, opened, short, no_plus, numeral, all_digits}
+use Rattle.wave_lex.proofs.Unescape.{Good, Counts, none_long, some_long, opened_cut, rest_of, short, no_plus, numeral, all_digits}
 use Rattle.wave_lex.proofs.strings.unescape.Goals as goal
 use Rattle.wave_lex.proofs.strings.unescape.Goals.{then-count-eq0-via-then-count-eq0, then-count-eq0-via-else-count-eq0+then-count-gt6, then-count-eq0-via-else-count-eq0+else-count-gt6+then-count-digits, then-count-eq0-via-else-count-eq0+else-count-gt6+else-count-digits+then-digits-count-ne125}
 
-take_rest : (s : List ℕ) → take (length s - 3) (drop 3 s) ≡ drop 3 s
-take_rest s = ap (λ (z : ℕ). take z (drop 3 s)) (sym (length-drop 3 s)) ∙ take-length (drop 3 s)
-
 -- the text after `\u{`
 begins : (s t : List ℕ) → s ≡ t → 3 ≤ length s → get_or s 0 0 ≡ 92 → get_or s 1 0 ≡ 117 → get_or s 2 0 ≡ 123 → t ≡ 92 ∷ 117 ∷ 123 ∷ take (length s - 3) (drop 3 s)
-begins s t e l a b c = sym e ∙ (opened s l a b c ∙ ap (λ (z : List ℕ). 92 ∷ 117 ∷ 123 ∷ z) (sym (take_rest s)))
+begins s t e l a b c = sym e ∙ opened_cut s l a b c
 
 pub returns-then-count-eq0 : goal.returns-then-count-eq0
 returns-then-count-eq0 c =
@@ -31,7 +27,7 @@ returns-then-count-eq0 c =
 between : (s t x : List ℕ) (n : ℕ) → s ≡ t → x ≡ slice_range t 3 (3 + n) → x ≡ take n (take (length s - 3) (drop 3 s))
 between s t x n e r =
     let m : 3 + n - 3 ≡ n = omega arith in
-    r ∙ (ap (λ (z : ℕ). take z (drop 3 t)) m ∙ (ap (λ (z : List ℕ). take n (drop 3 z)) (sym e) ∙ ap (λ (z : List ℕ). take n z) (sym (take_rest s))))
+    r ∙ (ap (λ (z : ℕ). take z (drop 3 t)) m ∙ (ap (λ (z : List ℕ). take n (drop 3 z)) (sym e) ∙ ap (λ (z : List ℕ). take n z) (sym (rest_of s))))
 
 parsed : {E : Type 0} (x : List ℕ) (v : ℕ) (r : Result ℕ E) → ParsesUnsigned 32 16 x r → Some v ≡ result_ok r → v ≡ digits_value 16 (without_leading_plus x)
 parsed x v (Ok u) h e = let same : v ≡ u = cc in same ∙ h.1
