@@ -7,7 +7,8 @@ ghost use Rattle.wave_syntax.specs.Shared.ErrorSpans.{RefusesAt};
 ghost use Rattle.wave_syntax.specs.Shared.NodeFields.{IsLeftOut, IsMissing};
 ghost use Rattle.wave_lex.specs.Errors.{field_label_due, repeated_name};
 ghost use Rattle.wave_lex.specs.declared.error.ParserErrorKind.TheVariants.{InvalidType, DuplicateField, OutOfMemory};
-ghost use Rattle.wave_decode.specs.RecordParts.{AreFields, IsFieldKey, IsKeyFault, IsNamedAt, AreFull, IsLeftUnfilled, IsMissingOrMemory, IsToldAs, type_due, field_name, with_value};
+ghost use Rattle.wave_decode.specs.RecordParts.{AreFields, IsFieldKey, IsKeyFault, IsNamedAt, AreFull, IsLeftUnfilled};
+ghost use Rattle.wave_decode.specs.RecordParts.{IsMissingOrMemory, IsToldAs, type_due, field_name, with_value};
 ghost use Rattle.wave_decode.specs.declared.records.Field.{Field};
 ghost use Rattle.wave_decode.specs.PartSteps.{AddsKey, AddsPart, IsWholeOf};
 

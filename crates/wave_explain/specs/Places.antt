@@ -22,7 +22,8 @@ AreWholeLines s = (s ≡ []) ⊎ ((lines : List ℕ) × (s ≡ lines ++ 10 ∷ [
 abbrev pub IsBehindLine : List ℕ → Type 0
 IsBehindLine s = (s ≡ []) ⊎ ((more : List ℕ) × (s ≡ 10 ∷ more))
 
--- the source's byte at this place stands in this line, counted from 1, after `front` of it and before the rest; the column counts the scalars of `front`, from 1
+-- the source's byte at this place stands in this line, counted from 1, after `front` of it and before the rest;
+-- the column counts the scalars of `front`, from 1
 pub record IsPlaceOf (source : List ℕ) (at line column : ℕ) (front rest : List ℕ) : Type 0 where
   pub before : List ℕ
   pub behind : List ℕ

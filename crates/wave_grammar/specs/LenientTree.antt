@@ -1,4 +1,5 @@
--- Trees as they would be if a tuple might be empty and a flag repeated. They keep a token after which no tree can follow apart from one that is refused only for such a fault, or for the depth of its value.
+-- Trees as they would be if a tuple might be empty and a flag repeated. They keep a token after which no
+-- tree can follow apart from one that is refused only for such a fault, or for the depth of its value.
 use Rattle.std.specs.Prelude.{ℕ, zero, suc, ◌<◌, ◌≡◌, ◌⊎◌, List, ◌∷◌, length}
 use Rattle.wave_grammar.specs.Token.{Token, brace_open, brace_close, paren_open, paren_close}
 use Rattle.wave_grammar.specs.CommaSeparated.{Spelling, Items}

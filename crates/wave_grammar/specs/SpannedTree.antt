@@ -165,7 +165,8 @@ abbrev pub SpellsFlags : List ℕ → Range ℕ → List (Range ℕ × List ℕ)
 SpellsFlags source p [] = Unit {0}
 SpellsFlags source p (f ∷ more) = LiesIn f.0 p.start p.end × HoldsTokens source f.0 (token.label f.1 ∷ []) × SpellsFlags source p more
 
--- each value within spells its tree where it stands, each key, flag and case label is its one token; each stands at tokens of the whole; but for flags, which are sorted, they stand one after another
+-- each value within spells its tree where it stands, each key, flag and case label is its one token;
+-- each stands at tokens of the whole; but for flags, which are sorted, they stand one after another
 abbrev mutual
   pub SpellsEach : List ℕ → Placed → Type 0
   SpellsEach source (at p s) = SpellsAt source p (tree_of_shape s) × SpellsParts source p s × AllOf (StandsAtTokens source p) (part_places s)

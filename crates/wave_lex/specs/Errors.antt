@@ -36,7 +36,8 @@ abbrev pub kept : WasmValueError → Option WasmValueError
 kept (error.Memory e) = None
 kept e = Some e
 
--- what a `ParserError` says: its kind, the bytes of the source where it arose, the words of its detail and the error of the value that could not be made, where it has them
+-- what a `ParserError` says: its kind, the bytes of the source where it arose, the words of its detail
+-- and the error of the value that could not be made, where it has them
 pub record Diagnostic : Type 0 where
   pub kind : ParserErrorKind
   pub span : Range ℕ

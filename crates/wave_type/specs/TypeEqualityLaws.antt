@@ -57,12 +57,16 @@ mutual
 
   pub one_fields : (fs gs : Fields) → same_fields fs gs ≡ true → fs ≡ gs
   one_fields no_fields no_fields e = refl
-  one_fields (field n t fs) (field m u gs) e = let p = and_parts _ _ e in let q = and_parts _ _ p.1 in λ i. field (one_name n m p.0 i) (one_tree t u q.0 i) (one_fields fs gs q.1 i)
+  one_fields (field n t fs) (field m u gs) e =
+      let p = and_parts _ _ e in let q = and_parts _ _ p.1 in
+      λ i. field (one_name n m p.0 i) (one_tree t u q.0 i) (one_fields fs gs q.1 i)
   one_fields _ _ e = absurd (false≢true e)
 
   pub one_cases : (cs ds : Cases) → same_cases cs ds ≡ true → cs ≡ ds
   one_cases no_cases no_cases e = refl
-  one_cases (case_of n t fs) (case_of m u gs) e = let p = and_parts _ _ e in let q = and_parts _ _ p.1 in λ i. case_of (one_name n m p.0 i) (one_payload t u q.0 i) (one_cases fs gs q.1 i)
+  one_cases (case_of n t fs) (case_of m u gs) e =
+      let p = and_parts _ _ e in let q = and_parts _ _ p.1 in
+      λ i. case_of (one_name n m p.0 i) (one_payload t u q.0 i) (one_cases fs gs q.1 i)
   one_cases _ _ e = absurd (false≢true e)
 
   pub one_payload : (p q : MaybeType) → same_payload p q ≡ true → p ≡ q

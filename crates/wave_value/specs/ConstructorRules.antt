@@ -114,7 +114,8 @@ RefusesParts words kind T stated (error.WrongValueType t s) = (kind_of T ≡ kin
 RefusesParts words kind T stated (error.Memory e) = Unit {0}
 RefusesParts words kind T stated _ = ⊥
 
--- a type that is no list of either kind, another count than a fixed-length list's, which goes first, an item of another type than the element type, or out of memory
+-- a type that is no list of either kind, another count than a fixed-length list's, which goes first,
+-- an item of another type than the element type, or out of memory
 abbrev pub RefusesList : (TypedValue → List ℕ) → TypeTree → List TypedValue → WasmValueError → Type 0
 RefusesList words T vs (error.WrongTypeKind k t) = (kind_of T ≢ kinds.FixedLengthList) × TellsKind kinds.List T k (string_bytes t)
 RefusesList words T vs (error.WrongNumberOfElements want got) = (list_length T ≡ Some want) × (got ≡ length vs) × (want ≢ got)

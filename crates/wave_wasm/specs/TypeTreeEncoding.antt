@@ -20,7 +20,10 @@ simple_number string = 10
 
 -- the simple type of this number
 abbrev pub numbered_simple : ℕ → Simple
-numbered_simple n = slice_index_or (bool ∷ whole s8 ∷ whole s16 ∷ whole s32 ∷ whole s64 ∷ whole u8 ∷ whole u16 ∷ whole u32 ∷ whole u64 ∷ char ∷ string ∷ []) n bool
+numbered_simple n =
+    slice_index_or
+    (bool ∷ whole s8 ∷ whole s16 ∷ whole s32 ∷ whole s64 ∷ whole u8 ∷ whole u16 ∷ whole u32 ∷ whole u64 ∷ char ∷ string ∷ [])
+    n bool
 
 pub simple_back : (S : Simple) → numbered_simple (simple_number S) ≡ S
 simple_back bool = refl

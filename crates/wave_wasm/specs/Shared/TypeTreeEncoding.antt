@@ -3,7 +3,9 @@ use Rattle.std.specs.Prelude.{◌≡◌, ℕ, List, [], ◌∷◌, refl, slice_i
 use Rattle.std.proofs.Common.{sym, ap, ◌∙◌}
 use Rattle.std.specs.Coded.{Coded}
 use base.Stored.{Gv, gnil, gnum, gcons, num}
-use Rattle.wave_wasm.specs.Types.{Unreadable, f32, f64, unsupported, TypeTree, simple, unreadable, list, fixed, record_type, tuple, variant, enum, option, result, flags, map, MaybeType, no_type, a_type, Types, no_types, type_and, Fields, no_fields, field, Cases, no_cases, case_of}
+use Rattle.wave_wasm.specs.Types.{Unreadable, f32, f64, unsupported, TypeTree, simple, unreadable, list, fixed}
+use Rattle.wave_wasm.specs.Types.{record_type, tuple, variant, enum, option, result, flags, map}
+use Rattle.wave_wasm.specs.Types.{MaybeType, no_type, a_type, Types, no_types, type_and, Fields, no_fields, field, Cases, no_cases, case_of}
 use Rattle.wave_wasm.specs.TypeTreeEncoding.{numbered_simple, simple_back, simple_number, stored, stored_name, stored_names, unreadable_number}
 
 -- the type without values of this number
@@ -65,7 +67,11 @@ names_in _ = []
 abbrev mutual
   tree_in : Gv → TypeTree
   tree_in (gcons (gnum n) (gcons a b)) =
-      slice_index_or (simple (numbered_simple (num a)) ∷ unreadable (numbered_unreadable (num a)) ∷ list (tree_in a) ∷ fixed (tree_in a) (num b) ∷ record_type (fields_in a) ∷ tuple (types_in a) ∷ variant (cases_in a) ∷ enum (names_in a) ∷ option (tree_in a) ∷ result (maybe_in a) (maybe_in b) ∷ flags (names_in a) ∷ map (numbered_simple (num a)) (tree_in b) ∷ []) n (unreadable unsupported)
+      slice_index_or
+      (simple (numbered_simple (num a)) ∷ unreadable (numbered_unreadable (num a)) ∷ list (tree_in a) ∷ fixed (tree_in a) (num b)
+      ∷ record_type (fields_in a) ∷ tuple (types_in a) ∷ variant (cases_in a) ∷ enum (names_in a) ∷ option (tree_in a)
+      ∷ result (maybe_in a) (maybe_in b) ∷ flags (names_in a) ∷ map (numbered_simple (num a)) (tree_in b) ∷ [])
+      n (unreadable unsupported)
   tree_in _ = unreadable unsupported
 
   types_in : Gv → Types
