@@ -1,5 +1,5 @@
 -- Plain bytes and escapes lead a string back to where it stood.
-use Rattle.std.proofs.Common.{◌≡◌, ℕ, ◌≤◌, ◌<◌, ◌+◌, Bool, true, false, nat_eq, zero, suc, List, [], ◌∷◌, ◌++◌, inl, inr, refl, sym, ap, subst, ◌∙◌, length, take, drop, arith, get_or, Option, Some, None, length-append, length-drop, length-take-le, get_or-drop}
+use Rattle.std.proofs.Common.{◌≡◌, ℕ, ◌≤◌, ◌<◌, ◌+◌, Bool, true, false, nat_eq, zero, suc, List, [], ◌∷◌, ◌++◌, refl, sym, ap, subst, ◌∙◌, length, take, drop, arith, get_or, Option, Some, None, length-append, length-drop, length-take-le, get_or-drop}
 use Rattle.std.specs.Prelude.{◌||◌, not, nat_lt, if◌then◌else◌, encode_utf8_all}
 use Rattle.std.specs.Char.{digit_value}
 use Rattle.std.specs.Str.{IsUtf8, chars, IsCharBoundary}
@@ -171,10 +171,10 @@ pub plains_here : (s b : List ℕ) (n : ℕ) → b ≡ s → IsUtf8 s → IsPlai
 plains_here s b n e u run = subst (λ (z : List ℕ). LeadsTo (string_rest string.Inside) (string_rest string.Inside) z n) e
     (plains_go b n (subst IsUtf8 (sym e) u) run.within run.all (cut_here b n run.within (λ l. not_plain_ascii (get_or b n 0) (run.stops l))))
 
--- a quote leads from one shape to another
-first_quote : (r q : Regex) (s : List ℕ) → after 34 r ≡ q → 0 < length s → get_or s 0 0 ≡ 34 → LeadsTo r q s 1
-first_quote r q [] h l e = let w : ⊥ = omega arith in absurd w
-first_quote r q (b ∷ s) h l e = ascii_leads r q (b ∷ s) 1 (omega arith) (λ i k. first i k) (ap (λ (z : ℕ). after z r) e ∙ h)
+-- a byte of ASCII leads from one shape to another
+pub first_byte : (r q : Regex) (m : ℕ) (s : List ℕ) → m < 128 → after m r ≡ q → 0 < length s → get_or s 0 0 ≡ m → LeadsTo r q s 1
+first_byte r q m [] a h l e = let w : ⊥ = omega arith in absurd w
+first_byte r q m (b ∷ s) a h l e = ascii_leads r q (b ∷ s) 1 (omega arith) (λ i k. first i k) (ap (λ (z : ℕ). after z r) e ∙ h)
   where
     first : (i : ℕ) → i < 1 → get_or (b ∷ s) i 0 < 128
     first zero k = omega arith
@@ -182,7 +182,7 @@ first_quote r q (b ∷ s) h l e = ascii_leads r q (b ∷ s) 1 (omega arith) (λ 
 
 -- a quote leads into a string
 pub quote_leads : (s b : List ℕ) → b ≡ s → 0 < length b → get_or b 0 0 ≡ 34 → LeadsTo string (string_rest string.Inside) s 1
-quote_leads s b e l q = subst (λ (z : List ℕ). LeadsTo string (string_rest string.Inside) z 1) e (first_quote string (string_rest string.Inside) b refl l q)
+quote_leads s b e l q = subst (λ (z : List ℕ). LeadsTo string (string_rest string.Inside) z 1) e (first_byte string (string_rest string.Inside) 34 b (omega arith) refl l q)
 
 -- a quote and plain bytes lead into a string
 pub plains_lead : (s b t p : List ℕ) (n : ℕ) → b ≡ s → 0 < length b → get_or b 0 0 ≡ 34 → t ≡ drop 1 s → IsUtf8 t → p ≡ t → IsPlainRun p n → LeadsTo string (string_rest string.Inside) s (n + 1)
@@ -199,5 +199,5 @@ string_closes s b n e h l q =
     let none : n + 0 ≡ n = omega arith in
     let there : get_or (drop n s) 0 0 ≡ 34 = get_or-drop n s 0 0 ∙ (ap (λ (z : ℕ). get_or s z 0) none ∙ (ap (λ (z : List ℕ). get_or z n 0) (sym e) ∙ q)) in
     run_ends string (string_rest string.Close) s (n + 1)
-    (leads_on string (string_rest string.Inside) (string_rest string.Close) s (drop n s) n 1 refl h (first_quote (string_rest string.Inside) (string_rest string.Close) (drop n s) refl some there))
+    (leads_on string (string_rest string.Inside) (string_rest string.Close) s (drop n s) n 1 refl h (first_byte (string_rest string.Inside) (string_rest string.Close) 34 (drop n s) (omega arith) refl some there))
     refl (λ c _. string_steps string.Close c) (λ _. string_steps string.Close (get_or s (n + 1) 0))

@@ -20,6 +20,7 @@ pub mod Faults
 pub mod Fronts
 pub mod Runs
 pub mod EscapeRuns
+pub mod WordRuns
 pub mod Quotes
 pub mod FirstQuotes
 pub mod LabelWords

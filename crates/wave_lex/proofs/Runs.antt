@@ -66,7 +66,7 @@ lower_stays b e =
     label_token_steps (token.Label l.Lower) b
     ∙ ap (λ (z : Bool). after_next LabelTokenState label_token_rest (in_token (if z then Some l.Lower else (if nat_eq b 45 then Some l.Hyphen else None)))) e
 
-lower_begins : (b : ℕ) → is_lower b ≡ true → is_digit b ≡ false → (nat_eq b 37 ≡ false) × (is_within 97 122 b ≡ true)
+pub lower_begins : (b : ℕ) → is_lower b ≡ true → is_digit b ≡ false → (nat_eq b 37 ≡ false) × (is_within 97 122 b ≡ true)
 lower_begins b e f = (grind (arith, nat_tests), grind (arith, nat_tests))
 
 lower_begins_label : (b : ℕ) (x y : Bool) → nat_eq b 37 ≡ x → x ≡ false → is_within 97 122 b ≡ y → y ≡ true → label_token_step token.Start b ≡ Some (token.Label l.Lower)
@@ -339,15 +339,8 @@ digits_end s b k e p fits h f stops other = subst (λ (z : List ℕ). Greatest (
 label_none : (c : ℕ) → is_lower c ≡ false → c ≢ 45 → label_step l.Lower c ≡ None
 label_none c e f = grind (arith, nat_tests)
 
-label_dead : (c : ℕ) → is_lower c ≡ false → c ≢ 45 → after c (label_token_rest (token.Label l.Lower)) ≡ nothing
+pub label_dead : (c : ℕ) → is_lower c ≡ false → c ≢ 45 → after c (label_token_rest (token.Label l.Lower)) ≡ nothing
 label_dead c e f = label_token_steps (token.Label l.Lower) c ∙ ap (λ (z : Option LabelState). after_next LabelTokenState label_token_rest (in_token z)) (label_none c e f)
 
-lower_past : (c : ℕ) → 128 ≤ c → is_lower c ≡ false
+pub lower_past : (c : ℕ) → 128 ≤ c → is_lower c ≡ false
 lower_past c l = grind (arith, nat_tests)
-
--- lower-case letters and digits are the label, where no hyphen follows
-pub lowers_end : (s b : List ℕ) (n : ℕ) → b ≡ s → 0 < n → n ≤ length b → ((i : ℕ) → i < n → is_lower (get_or b i 0) ≡ true) → is_digit (get_or b 0 0) ≡ false → (n < length b → is_lower (get_or b n 0) ≡ false)
-    → (n < length b → get_or b n 0 ≢ 45) → Greatest (IsFront label_or_keyword s) (Some n)
-lowers_end s b n e p fits h f stops other = subst (λ (z : List ℕ). Greatest (IsFront label_or_keyword z) (Some n)) e
-    (run_ends label_or_keyword (label_token_rest (token.Label l.Lower)) b n (lowers_lead b b n refl p fits h f) refl
-    (λ c k. label_dead c (lower_past c k) (λ w. let x : c ≡ 45 = w in omega arith)) (λ k. label_dead (get_or b n 0) (stops k) (other k)))

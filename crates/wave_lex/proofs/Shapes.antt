@@ -1,6 +1,7 @@
 -- Shapes that are compared by computing, and numbers that are tried one by one.
 use Rattle.std.proofs.Common.{◌≡◌, ℕ, ◌≤◌, ◌<◌, zero, suc, Bool, true, false, cond, nat_eq, nat_lt, List, [], ◌∷◌, refl, sym, ap, subst, ◌∙◌, arith, inl, inr}
 use Rattle.std.specs.Prelude.{◌&&◌}
+use Rattle.std.specs.Bool.{beq}
 use Rattle.std.proofs.lemmas.Bool.{cases_lt, eqb-true, ltb-true}
 use Rattle.std.proofs.lemmas.Bool.Decides.{nat_tests}
 use Rattle.wave_lex.specs.Regex.{Regex, nothing, empty, within, other, both, either, many, is_one_of, is_within}
@@ -70,6 +71,17 @@ each_below_at (suc n) b p e l =
       | inl k ↦ each_below_at n b p h.1 k
       | inr k ↦ let s : b ≡ n = omega arith in subst (λ (z : ℕ). p z ≡ true) (sym s) h.0
     ]
+
+-- two answers that are equal by computing are one
+same_answer : (x y : Bool) → beq x y ≡ true → x ≡ y
+same_answer true true e = refl
+same_answer true false e = cc
+same_answer false true e = cc
+same_answer false false e = refl
+
+-- tests that agree on each byte, by computing, agree
+pub bytes_agree : (p q : ℕ → Bool) (b : ℕ) → b < 256 → each_below 256 (λ k. beq (p k) (q k)) ≡ true → p b ≡ q b
+bytes_agree p q b l computed = same_answer (p b) (q b) (each_below_at 256 b (λ k. beq (p k) (q k)) computed l)
 
 -- the shape tells no scalar past ASCII apart from another
 abbrev pub all_ascii : List ℕ → Bool

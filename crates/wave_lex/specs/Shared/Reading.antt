@@ -3,10 +3,12 @@ use Rattle.std.specs.Prelude.{◌≡◌, ℕ, ◌<◌, ◌≤◌, ◌||◌, true
 use Rattle.wave_lex.specs.declared.lex.Token.{Token}
 use Rattle.wave_lex.specs.declared.lex.Token.TheVariants.{BraceOpen, BraceClose, ParenOpen, ParenClose, BracketOpen, BracketClose}
 use Rattle.wave_lex.specs.declared.lex.Token.TheVariants.{Colon, Comma, Number, LabelOrKeyword, Char, String}
+use Rattle.wave_lex.specs.declared.machine.label.LabelState.TheVariants.{Lower}
+use Rattle.wave_lex.specs.declared.machine.label.LabelTokenState.TheVariants.{Label}
 use Rattle.wave_lex.specs.Regex.{Regex, is_within}
 use Rattle.wave_lex.specs.Shared.Derive.{after_all}
 use Rattle.wave_lex.specs.LongestMatch.{FrontHas}
-use Rattle.wave_lex.specs.Shared.Machines.{is_plain}
+use Rattle.wave_lex.specs.Shared.Machines.{is_lower, is_plain, label_token_rest}
 use Rattle.wave_lex.specs.Tokenization.{MayStandAt, IsToken, IsLongestToken, NoToken}
 
 -- which class the first scalar of a token shows; the two kinds of strings begin alike
@@ -44,6 +46,16 @@ LeadsTo shape q s k = FrontHas (λ scalars. after_all scalars shape ≡ q) s k
 abbrev pub IsStep : Regex → List ℕ → Option ℕ → Type 0
 IsStep q s None = Unit {0}
 IsStep q s (Some k) = (0 < k) × LeadsTo q q s k
+
+-- after the first k bytes of s a lower-case word of a label ends: they lead into such a word, and it does not go on
+pub record EndsWord (shape : Regex) (s : List ℕ) (k : ℕ) : Type 0 where
+  pub leads : LeadsTo shape (label_token_rest (Label Lower)) s k
+  pub stops : k < length s → is_lower (slice_index s k) ≡ false
+
+-- the first k bytes of s, where there are some, lead from one such word to the end of the next
+abbrev pub IsWordStep : List ℕ → Option ℕ → Type 0
+IsWordStep s None = Unit {0}
+IsWordStep s (Some k) = (0 < k) × EndsWord (label_token_rest (Label Lower)) s k
 
 -- the plain bytes at the start of s are n
 pub record IsPlainRun (s : List ℕ) (n : ℕ) : Type 0 where

@@ -4,7 +4,7 @@
 ghost use Rattle.std.specs.Prelude.{◌≡◌, ℕ, ◌<◌, ◌≤◌, true, false, length, slice_index};
 ghost use Rattle.wave_lex.specs.LongestMatch.{Greatest, IsFront};
 ghost use Rattle.wave_lex.specs.Shared.Machines.{ends_whole, is_blank, is_digit, is_lower, is_plain, string_rest};
-ghost use Rattle.wave_lex.specs.Shared.Reading.{LeadsTo, IsPlainRun, IsStep};
+ghost use Rattle.wave_lex.specs.Shared.Reading.{LeadsTo, EndsWord, IsPlainRun, IsStep, IsWordStep};
 ghost use Rattle.wave_lex.specs.declared.machine.string.StringState.TheVariants.{Inside};
 ghost use Rattle.wave_lex.specs.Tokenization.{IsGap};
 ghost use Rattle.wave_lex.specs.Tokens.{label_or_keyword, multiline_string, number, one, string};
@@ -93,16 +93,17 @@ pub fn label_at(text: &str) -> Option<usize>
     if is_digit(bytes[0]) {
         return longest_front(LabelTokenState::Start, text);
     }
-    if run == bytes.len() {
-        return Some(run);
+    let place = words_end(text, run);
+    if place >= bytes.len() {
+        return Some(place);
     }
-    if bytes[run] != b'-' {
-        return Some(run);
+    if bytes[place] != b'-' {
+        return Some(place);
     }
-    let Some(more) = longest_front(LabelTokenState::Label(LabelState::Lower), &text[run..]) else {
+    let Some(more) = longest_front(LabelTokenState::Label(LabelState::Lower), &text[place..]) else {
         return None;
     };
-    Some(run + more)
+    Some(place + more)
 }
 
 /// How many bytes the string in one line at the start takes.
@@ -137,6 +138,35 @@ pub fn multiline_at(text: &str) -> Option<usize>
     let inside = text.strip_prefix("\"\"\"")?;
     let count = memmem::find(inside.as_bytes(), b"\"\"\"")?;
     Some(count + 6)
+}
+
+/// Where the lower-case words end that stand from this place on, each behind a hyphen.
+fn words_end(text: &str, from: usize) -> usize
+    requires { EndsWord label_or_keyword text.now from }
+    ensures { EndsWord label_or_keyword text.now result }
+{
+    let _length = text.len();
+    let mut place = from;
+    while let Some(count) = word_at(&text[place..]) {
+        place += count;
+    }
+    place
+}
+
+/// How many bytes the hyphen and the word take that stand at the start, where the word begins with a
+/// lower-case letter.
+fn word_at(text: &str) -> Option<usize>
+    ensures { IsWordStep text.now result }
+{
+    let bytes = text.as_bytes();
+    if bytes.len() < 2 || bytes[0] != b'-' || is_digit(bytes[1]) {
+        return None;
+    }
+    let run = lowers(&bytes[1..]);
+    if run == 0 {
+        return None;
+    }
+    Some(run + 1)
 }
 
 /// Where the plain bytes and the escapes end that stand from this place on.
@@ -210,18 +240,41 @@ fn ends_whole(byte: u8) -> bool
     !matches!(byte, b'.' | b'e' | b'E')
 }
 
+/// Each lower-case letter and each digit at its own place, and a comma at every other.
+static LOWERS: [u8; 256] = *b"\
+    ,,,,,,,,,,,,,,,,,,,,,,,,,,,,,,,,\
+    ,,,,,,,,,,,,,,,,0123456789,,,,,,\
+    ,,,,,,,,,,,,,,,,,,,,,,,,,,,,,,,,\
+    ,abcdefghijklmnopqrstuvwxyz,,,,,\
+    ,,,,,,,,,,,,,,,,,,,,,,,,,,,,,,,,\
+    ,,,,,,,,,,,,,,,,,,,,,,,,,,,,,,,,\
+    ,,,,,,,,,,,,,,,,,,,,,,,,,,,,,,,,\
+    ,,,,,,,,,,,,,,,,,,,,,,,,,,,,,,,,";
+
 /// The byte is a lower-case letter or a digit.
 fn is_lower(byte: u8) -> bool
     ensures { result ≡ is_lower byte }
 {
-    matches!(byte, b'a'..=b'z' | b'0'..=b'9')
+    LOWERS[byte as usize] != b','
 }
+
+/// A comma at the place of each byte that does not stand for itself within a string in one line: the
+/// double quote, the backslash and the line feed.
+static PLAINS: [u8; 256] = *b"\
+    ..........,.....................\
+    ..,.............................\
+    ............................,...\
+    ................................\
+    ................................\
+    ................................\
+    ................................\
+    ................................";
 
 /// The byte stands for itself within a string in one line.
 fn is_plain(byte: u8) -> bool
     ensures { result ≡ is_plain byte }
 {
-    !matches!(byte, b'"' | b'\\' | b'\n')
+    PLAINS[byte as usize] == b'.'
 }
 
 /// How many blanks stand at the start.

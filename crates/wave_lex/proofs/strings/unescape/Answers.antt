@@ -1,4 +1,4 @@
-use Rattle.std.proofs.Common.{◌≡◌, ℕ, ◌≤◌, ◌<◌, ◌+◌, ◌-◌, List, ◌∷◌, length, drop, take, sym, ap, subst, ◌∙◌, arith, get_or, length-drop, length-take-le, None, Some, Result, Ok, Err, ◌^◌}
+use Rattle.std.proofs.Common.{◌≡◌, ℕ, ◌≤◌, ◌<◌, ◌+◌, ◌-◌, List, ◌∷◌, length, drop, take, sym, ap, subst, ◌∙◌, arith, get_or, length-take-le, None, Some, Result, Ok, Err, ◌^◌}
 use Rattle.std.specs.Prelude.{slice_range}
 use Rattle.std.specs.Result.{result_ok}
 use Rattle.std.specs.Str.Parse.{digits_value, IsNumeral, without_leading_plus, ParsesUnsigned}
