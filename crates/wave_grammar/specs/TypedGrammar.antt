@@ -48,14 +48,33 @@ look_up (e ∷ more) name = if bytes_eq name e.0 then Some e.1 else look_up more
 
 -- an option type
 abbrev pub IsOption : TypeTree → Type 0
-IsOption (type.option inner) = Unit {0}
-IsOption _ = ⊥
+IsOption (type.simple S) = ⊥
+IsOption (type.unreadable kind) = ⊥
+IsOption (type.list E) = ⊥
+IsOption (type.fixed E count) = ⊥
+IsOption (type.record_type fs) = ⊥
+IsOption (type.tuple Ts) = ⊥
+IsOption (type.variant cs) = ⊥
+IsOption (type.enum names) = ⊥
+IsOption (type.option P) = Unit {0}
+IsOption (type.result A B) = ⊥
+IsOption (type.flags names) = ⊥
+IsOption (type.map K V) = ⊥
 
 -- neither an option nor a result
 abbrev pub IsFlat : TypeTree → Type 0
-IsFlat (type.option inner) = ⊥
-IsFlat (type.result a b) = ⊥
-IsFlat _ = Unit {0}
+IsFlat (type.simple S) = Unit {0}
+IsFlat (type.unreadable kind) = Unit {0}
+IsFlat (type.list E) = Unit {0}
+IsFlat (type.fixed E count) = Unit {0}
+IsFlat (type.record_type fs) = Unit {0}
+IsFlat (type.tuple Ts) = Unit {0}
+IsFlat (type.variant cs) = Unit {0}
+IsFlat (type.enum names) = Unit {0}
+IsFlat (type.option P) = ⊥
+IsFlat (type.result A B) = ⊥
+IsFlat (type.flags names) = Unit {0}
+IsFlat (type.map K V) = Unit {0}
 
 -- the value of a field, where the text has this for its name
 abbrev pub FieldIs : TypeTree → Option Value → Value → Type 0

@@ -112,15 +112,18 @@ IsTypeOf text T = (ts : Tokens) × IsCutInto text ts × Spells T ts []
 abbrev mutual
   -- how many types stand one inside another
   pub levels_of : TypeTree → ℕ
+  levels_of (simple S) = 1
+  levels_of (unreadable kind) = 1
   levels_of (list E) = suc (levels_of E)
   levels_of (fixed E n) = suc (levels_of E)
   levels_of (record_type fs) = suc (levels_of_fields fs)
   levels_of (tuple Ts) = suc (levels_of_types Ts)
   levels_of (variant cs) = suc (levels_of_cases cs)
+  levels_of (enum names) = 1
   levels_of (option P) = suc (levels_of P)
   levels_of (result A B) = suc (max (levels_of_payload A) (levels_of_payload B))
+  levels_of (flags names) = 1
   levels_of (map K V) = suc (levels_of V)
-  levels_of _ = 1
 
   -- so in a payload
   pub levels_of_payload : MaybeType → ℕ

@@ -171,7 +171,17 @@ impl Type {
             WasmTypeKind::F64 => Some(Type::F64),
             WasmTypeKind::Char => Some(Type::CHAR),
             WasmTypeKind::String => Some(Type::STRING),
-            _ => None,
+            WasmTypeKind::List
+            | WasmTypeKind::FixedLengthList
+            | WasmTypeKind::Record
+            | WasmTypeKind::Tuple
+            | WasmTypeKind::Variant
+            | WasmTypeKind::Enum
+            | WasmTypeKind::Option
+            | WasmTypeKind::Result
+            | WasmTypeKind::Flags
+            | WasmTypeKind::Map
+            | WasmTypeKind::Unsupported => None,
         }
     }
 
@@ -331,7 +341,18 @@ impl Type {
     {
         match &self.shape {
             Shape::Simple(_) => true,
-            _ => false,
+            Shape::F32
+            | Shape::F64
+            | Shape::List(_)
+            | Shape::FixedLengthList(_)
+            | Shape::Record(_)
+            | Shape::Tuple(_)
+            | Shape::Variant(_)
+            | Shape::Enum(_)
+            | Shape::Option(_)
+            | Shape::Result(_)
+            | Shape::Flags(_)
+            | Shape::Map(_) => false,
         }
     }
 }

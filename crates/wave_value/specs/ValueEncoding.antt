@@ -2,26 +2,22 @@
 use Rattle.std.specs.Prelude.{◌≡◌, ℕ, pos, negsuc, Bool, true, false, ◌==◌, List, [], ◌∷◌, refl, slice_index_or}
 use Rattle.std.proofs.Common.{sym, ap, ◌∙◌}
 use base.Stored.{Gv, gnil, gnum, gcons, num}
-use Rattle.wave_wasm.specs.Types.{Whole, s8, s16, s32, s64, u8, u16, u32, u64, Unreadable, f32, f64, unsupported}
-use Rattle.wave_wasm.specs.TypeTreeEncoding.{stored, stored_name, stored_names, unreadable_number}
+use Rattle.wave_wasm.specs.Types.{Whole, s8, Simple, bool, whole, char, string, Unreadable, f32, f64, unsupported}
+use Rattle.wave_wasm.specs.TypeTreeEncoding.{simple_number, numbered_simple, simple_back, stored, stored_name, stored_names, unreadable_number}
 use Rattle.wave_wasm.specs.Values as value
 use Rattle.wave_wasm.specs.Values.{Leaf, Value, MaybeValue, Values, FieldValues, Entries}
 use Rattle.wave_wasm.specs.Values.{no_value, a_value, no_values, value_and, no_fields, field, no_entries, entry}
 
--- the number of a whole-number type
-abbrev pub whole_number : Whole → ℕ
-whole_number s8 = 0
-whole_number s16 = 1
-whole_number s32 = 2
-whole_number s64 = 3
-whole_number u8 = 4
-whole_number u16 = 5
-whole_number u32 = 6
-whole_number u64 = 7
+-- the whole-number type that a simple type is; s8 where it is none
+abbrev whole_or_s8 : Simple → Whole
+whole_or_s8 (whole kind) = kind
+whole_or_s8 bool = s8
+whole_or_s8 char = s8
+whole_or_s8 string = s8
 
--- the whole-number type of this number
+-- the whole-number type whose simple type has this number
 abbrev numbered_whole : ℕ → Whole
-numbered_whole n = slice_index_or (s8 ∷ s16 ∷ s32 ∷ s64 ∷ u8 ∷ u16 ∷ u32 ∷ u64 ∷ []) n s8
+numbered_whole n = whole_or_s8 (numbered_simple n)
 
 -- a bool as a number
 abbrev pub bit : Bool → ℕ
@@ -31,8 +27,8 @@ bit false = 0
 -- a value of one token, stored
 abbrev pub stored_leaf : Leaf → Gv
 stored_leaf (value.bool b) = stored 0 (gnum (bit b)) gnil
-stored_leaf (value.whole kind (pos n)) = stored 1 (gnum (whole_number kind)) (gnum n)
-stored_leaf (value.whole kind (negsuc n)) = stored 2 (gnum (whole_number kind)) (gnum n)
+stored_leaf (value.whole kind (pos n)) = stored 1 (gnum (simple_number (whole kind))) (gnum n)
+stored_leaf (value.whole kind (negsuc n)) = stored 2 (gnum (simple_number (whole kind))) (gnum n)
 stored_leaf (value.char c) = stored 3 (gnum c) gnil
 stored_leaf (value.string s) = stored 4 (stored_name s) gnil
 
@@ -133,15 +129,8 @@ abbrev mutual
   entries_in (gcons k (gcons v es)) = entry (leaf_in k) (value_in v) (entries_in es)
   entries_in _ = no_entries
 
-whole_back : (kind : Whole) → numbered_whole (whole_number kind) ≡ kind
-whole_back s8 = refl
-whole_back s16 = refl
-whole_back s32 = refl
-whole_back s64 = refl
-whole_back u8 = refl
-whole_back u16 = refl
-whole_back u32 = refl
-whole_back u64 = refl
+whole_back : (kind : Whole) → numbered_whole (simple_number (whole kind)) ≡ kind
+whole_back kind = ap whole_or_s8 (simple_back (whole kind))
 
 unreadable_back : (u : Unreadable) → numbered_unreadable (unreadable_number u) ≡ u
 unreadable_back f32 = refl

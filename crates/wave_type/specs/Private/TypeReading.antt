@@ -234,7 +234,21 @@ module _ (read : Reads) where
   kind_read kinds.Variant ts = onward (after (codes "{") ts) (λ m. onward (cases_read m) (λ cs. made (variant_type cs.0) cs.1))
   kind_read kinds.Enum ts = enum_read ts
   kind_read kinds.Flags ts = flags_read ts
-  kind_read kind ts = made (simple_type kind) ts
+  kind_read kinds.Bool ts = made (simple_type kinds.Bool) ts
+  kind_read kinds.S8 ts = made (simple_type kinds.S8) ts
+  kind_read kinds.S16 ts = made (simple_type kinds.S16) ts
+  kind_read kinds.S32 ts = made (simple_type kinds.S32) ts
+  kind_read kinds.S64 ts = made (simple_type kinds.S64) ts
+  kind_read kinds.U8 ts = made (simple_type kinds.U8) ts
+  kind_read kinds.U16 ts = made (simple_type kinds.U16) ts
+  kind_read kinds.U32 ts = made (simple_type kinds.U32) ts
+  kind_read kinds.U64 ts = made (simple_type kinds.U64) ts
+  kind_read kinds.F32 ts = made (simple_type kinds.F32) ts
+  kind_read kinds.F64 ts = made (simple_type kinds.F64) ts
+  kind_read kinds.Char ts = made (simple_type kinds.Char) ts
+  kind_read kinds.String ts = made (simple_type kinds.String) ts
+  kind_read kinds.FixedLengthList ts = made (simple_type kinds.FixedLengthList) ts
+  kind_read kinds.Unsupported ts = made (simple_type kinds.Unsupported) ts
 
 -- a type, within this number of levels
 abbrev pub type_read : ℕ → Reads

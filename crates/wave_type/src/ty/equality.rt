@@ -29,7 +29,19 @@ impl PartialEq for Type {
             (Shape::Option(a), Shape::Option(b)) => **a == **b,
             (Shape::Flags(a), Shape::Flags(b)) => same_names(a, b),
             (Shape::Map(a), Shape::Map(b)) => a.0 == b.0 && a.1 == b.1,
-            _ => false,
+            (Shape::Simple(_), _)
+            | (Shape::F32, _)
+            | (Shape::F64, _)
+            | (Shape::List(_), _)
+            | (Shape::FixedLengthList(_), _)
+            | (Shape::Record(_), _)
+            | (Shape::Tuple(_), _)
+            | (Shape::Variant(_), _)
+            | (Shape::Enum(_), _)
+            | (Shape::Option(_), _)
+            | (Shape::Result(_), _)
+            | (Shape::Flags(_), _)
+            | (Shape::Map(_), _) => false,
         }
     }
 }

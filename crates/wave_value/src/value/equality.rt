@@ -49,7 +49,18 @@ fn same_content(own: &Type, a: &Content, b: &Content) -> bool
         (Content::Err(a), Content::Err(b)) => same_payload(a, b),
         (Content::Flags(a), Content::Flags(b)) => same_flags(own, a, b),
         (Content::Map(a), Content::Map(b)) => same_entries(a, b),
-        _ => false,
+        (Content::Scalar(_), _)
+        | (Content::String(_), _)
+        | (Content::List(_), _)
+        | (Content::Record(_), _)
+        | (Content::Tuple(_), _)
+        | (Content::Variant(_, _), _)
+        | (Content::Enum(_), _)
+        | (Content::Option(_), _)
+        | (Content::Ok(_), _)
+        | (Content::Err(_), _)
+        | (Content::Flags(_), _)
+        | (Content::Map(_), _) => false,
     }
 }
 
