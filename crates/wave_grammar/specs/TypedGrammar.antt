@@ -48,18 +48,8 @@ look_up (e ∷ more) name = if bytes_eq name e.0 then Some e.1 else look_up more
 
 -- an option type
 abbrev pub IsOption : TypeTree → Type 0
-IsOption (type.simple S) = ⊥
-IsOption (type.unreadable kind) = ⊥
-IsOption (type.list E) = ⊥
-IsOption (type.fixed E count) = ⊥
-IsOption (type.record_type fs) = ⊥
-IsOption (type.tuple Ts) = ⊥
-IsOption (type.variant cs) = ⊥
-IsOption (type.enum names) = ⊥
 IsOption (type.option P) = Unit {0}
-IsOption (type.result A B) = ⊥
-IsOption (type.flags names) = ⊥
-IsOption (type.map K V) = ⊥
+IsOption _ = ⊥
 
 -- neither an option nor a result
 abbrev pub IsFlat : TypeTree → Type 0

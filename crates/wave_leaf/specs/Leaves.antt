@@ -18,13 +18,4 @@ IsLeafIn source l = l.text.now ≡ slice source l.span
 abbrev pub IsSimpleOrUnreadable : TypeTree → Type 0
 IsSimpleOrUnreadable (type.simple S) = Unit {0}
 IsSimpleOrUnreadable (type.unreadable u) = Unit {0}
-IsSimpleOrUnreadable (type.list E) = ⊥
-IsSimpleOrUnreadable (type.fixed E count) = ⊥
-IsSimpleOrUnreadable (type.record_type fs) = ⊥
-IsSimpleOrUnreadable (type.tuple Ts) = ⊥
-IsSimpleOrUnreadable (type.variant cs) = ⊥
-IsSimpleOrUnreadable (type.enum names) = ⊥
-IsSimpleOrUnreadable (type.option P) = ⊥
-IsSimpleOrUnreadable (type.result A B) = ⊥
-IsSimpleOrUnreadable (type.flags names) = ⊥
-IsSimpleOrUnreadable (type.map K V) = ⊥
+IsSimpleOrUnreadable _ = ⊥

@@ -14,18 +14,7 @@ abbrev pub IsPlain : TypeTree → Type 0
 IsPlain (type.simple type.bool) = Unit {0}
 IsPlain (type.simple (type.whole which)) = Unit {0}
 IsPlain (type.simple type.char) = Unit {0}
-IsPlain (type.simple type.string) = ⊥
-IsPlain (type.unreadable u) = ⊥
-IsPlain (type.list E) = ⊥
-IsPlain (type.fixed E count) = ⊥
-IsPlain (type.record_type fs) = ⊥
-IsPlain (type.tuple Ts) = ⊥
-IsPlain (type.variant cs) = ⊥
-IsPlain (type.enum names) = ⊥
-IsPlain (type.option P) = ⊥
-IsPlain (type.result A B) = ⊥
-IsPlain (type.flags names) = ⊥
-IsPlain (type.map K V) = ⊥
+IsPlain _ = ⊥
 
 -- memory is taken for the parts of a value of the type that is due, which is none of these; and for none where no type is due
 abbrev pub TakesMemory : Option TypeTree → Type 0

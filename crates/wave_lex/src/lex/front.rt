@@ -140,7 +140,7 @@ pub fn multiline_at(text: &str) -> Option<usize>
     Some(count + 6)
 }
 
-/// Where the lower-case words end that stand from this place on, each behind a hyphen.
+/// Where the lower-case words end that stand from this place on, each after a hyphen.
 fn words_end(text: &str, from: usize) -> usize
     requires { EndsWord label_or_keyword text.now from }
     ensures { EndsWord label_or_keyword text.now result }

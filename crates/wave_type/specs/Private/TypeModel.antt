@@ -30,17 +30,7 @@ shape_tree (shapes.Map m) = type.map (simple_or_bool m.value.0) m.value.1
 -- values of the type are one token
 abbrev pub IsSimple : TypeTree → Type 0
 IsSimple (type.simple S) = Unit {0}
-IsSimple (type.unreadable u) = ⊥
-IsSimple (type.list E) = ⊥
-IsSimple (type.fixed E count) = ⊥
-IsSimple (type.record_type fs) = ⊥
-IsSimple (type.tuple Ts) = ⊥
-IsSimple (type.variant cs) = ⊥
-IsSimple (type.enum names) = ⊥
-IsSimple (type.option P) = ⊥
-IsSimple (type.result A B) = ⊥
-IsSimple (type.flags names) = ⊥
-IsSimple (type.map K V) = ⊥
+IsSimple _ = ⊥
 
 -- the key of a map is of a simple type
 abbrev pub HasSimpleKey : Shape → Type 0
