@@ -2,7 +2,7 @@
 use Rattle.std.specs.Prelude.{ℕ, Bool, true, false, ◌&&◌, ◌==◌, List}
 use Rattle.std.specs.Str.{bytes_eq}
 use Rattle.std.specs.Cmp.Lexicographic.{pointwise}
-use Rattle.wave_wasm.specs.TypeTreeEncoding.{simple_number, unreadable_number}
+use Rattle.wave_wasm.specs.SimpleEquality.{same_simple, same_unreadable}
 use Rattle.wave_wasm.specs.Types.{TypeTree, simple, unreadable, list, fixed, record_type, tuple, variant, enum, option, result, flags, map, Types, no_types, type_and, Fields, no_fields, field, Cases, no_cases, case_of, MaybeType, no_type, a_type}
 
 abbrev pub same_names : List (List ℕ) → List (List ℕ) → Bool
@@ -10,8 +10,8 @@ same_names = pointwise bytes_eq
 
 abbrev mutual
   pub same_tree : TypeTree → TypeTree → Bool
-  same_tree (simple p) (simple q) = simple_number p == simple_number q
-  same_tree (unreadable u) (unreadable v) = unreadable_number u == unreadable_number v
+  same_tree (simple p) (simple q) = same_simple p q
+  same_tree (unreadable u) (unreadable v) = same_unreadable u v
   same_tree (list t) (list u) = same_tree t u
   same_tree (fixed t n) (fixed u m) = n == m && same_tree t u
   same_tree (record_type fs) (record_type gs) = same_fields fs gs
@@ -21,7 +21,7 @@ abbrev mutual
   same_tree (option t) (option u) = same_tree t u
   same_tree (result a b) (result c d) = same_payload a c && same_payload b d
   same_tree (flags ns) (flags ms) = same_names ns ms
-  same_tree (map k t) (map l u) = simple_number k == simple_number l && same_tree t u
+  same_tree (map k t) (map l u) = same_simple k l && same_tree t u
   same_tree _ _ = false
 
   pub same_types : Types → Types → Bool

@@ -1,26 +1,14 @@
 -- The test says true exactly at one tree and itself.
-use Rattle.std.specs.Prelude.{◌≡◌, ℕ, Bool, true, ◌&&◌, ◌==◌, List, [], ◌∷◌, refl, slice_index_or}
+use Rattle.std.specs.Prelude.{◌≡◌, ℕ, Bool, true, ◌&&◌, ◌==◌, List, [], ◌∷◌, refl}
 use Rattle.std.proofs.Common.{sym, ap, subst, ◌∙◌, arith}
 use Rattle.std.proofs.lemmas.Bool.{false≢true, and_parts}
 use Rattle.std.proofs.lemmas.Bool.Decides.{nat_tests}
 use Rattle.std.specs.Str.{bytes_eq}
 use Rattle.std.specs.Cmp.{IsPartialEquivalence, IsEquivalence, both_ways, equiv}
 use Rattle.std.proofs.lemmas.Slice.Eq.{bytes_eq-Decides}
-use Rattle.wave_wasm.specs.TypeTreeEncoding.{simple_number, simple_apart, unreadable_number}
+use Rattle.wave_wasm.specs.SimpleEquality.{one_simple, simple_itself, one_unreadable, unreadable_itself}
 use Rattle.wave_type.specs.TypeEquality.{same_names, same_tree, same_types, same_fields, same_cases, same_payload}
-use Rattle.wave_wasm.specs.Types.{Unreadable, f32, f64, unsupported, TypeTree, simple, unreadable, list, fixed, record_type, tuple, variant, enum, option, result, flags, map, Types, no_types, type_and, Fields, no_fields, field, Cases, no_cases, case_of, MaybeType, no_type, a_type}
-
--- the type without values of this number
-abbrev numbered : ℕ → Unreadable
-numbered n = slice_index_or (f32 ∷ f64 ∷ unsupported ∷ []) n f32
-
-numbered_back : (u : Unreadable) → numbered (unreadable_number u) ≡ u
-numbered_back f32 = refl
-numbered_back f64 = refl
-numbered_back unsupported = refl
-
-unreadable_apart : (u v : Unreadable) → unreadable_number u ≡ unreadable_number v → u ≡ v
-unreadable_apart u v e = sym (numbered_back u) ∙ (ap numbered e ∙ numbered_back v)
+use Rattle.wave_wasm.specs.Types.{TypeTree, simple, unreadable, list, fixed, record_type, tuple, variant, enum, option, result, flags, map, Types, no_types, type_and, Fields, no_fields, field, Cases, no_cases, case_of, MaybeType, no_type, a_type}
 
 same_number : (m n : ℕ) → (m == n) ≡ true → m ≡ n
 same_number m n e = grind (arith, nat_tests)
@@ -36,8 +24,8 @@ one_names (a ∷ m) [] e = absurd (false≢true e)
 
 mutual
   pub one_tree : (t u : TypeTree) → same_tree t u ≡ true → t ≡ u
-  one_tree (simple p) (simple q) e = ap simple (simple_apart p q (same_number _ _ e))
-  one_tree (unreadable u) (unreadable v) e = ap unreadable (unreadable_apart u v (same_number _ _ e))
+  one_tree (simple p) (simple q) e = ap simple (one_simple p q e)
+  one_tree (unreadable u) (unreadable v) e = ap unreadable (one_unreadable u v e)
   one_tree (list t) (list u) e = ap list (one_tree t u e)
   one_tree (fixed t n) (fixed u m) e = let p = and_parts _ _ e in λ i. fixed (one_tree t u p.1 i) (same_number n m p.0 i)
   one_tree (record_type fs) (record_type gs) e = ap record_type (one_fields fs gs e)
@@ -47,7 +35,7 @@ mutual
   one_tree (option t) (option u) e = ap option (one_tree t u e)
   one_tree (result a b) (result c d) e = let p = and_parts _ _ e in λ i. result (one_payload a c p.0 i) (one_payload b d p.1 i)
   one_tree (flags ns) (flags ms) e = ap flags (one_names ns ms e)
-  one_tree (map k t) (map l u) e = let p = and_parts _ _ e in λ i. map (simple_apart k l (same_number _ _ p.0) i) (one_tree t u p.1 i)
+  one_tree (map k t) (map l u) e = let p = and_parts _ _ e in λ i. map (one_simple k l p.0 i) (one_tree t u p.1 i)
   one_tree _ _ e = absurd (false≢true e)
 
   pub one_types : (ts us : Types) → same_types ts us ≡ true → ts ≡ us
@@ -89,8 +77,8 @@ same_names_itself (n ∷ ns) = both (same_name_itself n) (same_names_itself ns)
 
 mutual
   pub same_itself : (t : TypeTree) → same_tree t t ≡ true
-  same_itself (simple p) = same_number_itself (simple_number p)
-  same_itself (unreadable u) = same_number_itself (unreadable_number u)
+  same_itself (simple p) = simple_itself p
+  same_itself (unreadable u) = unreadable_itself u
   same_itself (list t) = same_itself t
   same_itself (fixed t n) = both (same_number_itself n) (same_itself t)
   same_itself (record_type fs) = fields_itself fs
@@ -100,7 +88,7 @@ mutual
   same_itself (option t) = same_itself t
   same_itself (result a b) = both (payload_itself a) (payload_itself b)
   same_itself (flags ns) = same_names_itself ns
-  same_itself (map k t) = both (same_number_itself (simple_number k)) (same_itself t)
+  same_itself (map k t) = both (simple_itself k) (same_itself t)
 
   types_itself : (ts : Types) → same_types ts ts ≡ true
   types_itself no_types = refl

@@ -1,14 +1,13 @@
 -- What merging gives; and keys are equal where their test says so.
 use Rattle.std.proofs.Common.{◌≡◌, Bool, true, false, not, List, [], ◌∷◌, map, refl, ap, ◌∙◌, Option, Some, None}
 use Rattle.std.specs.Option.{option_or}
-use Rattle.std.specs.Prelude.{cond, filter, if◌then◌else◌, nat_eq, ◌&&◌}
+use Rattle.std.specs.Prelude.{cond, filter, if◌then◌else◌, ◌&&◌}
 use Rattle.wave_wasm.specs.Lists.{AllOf}
 use Rattle.std.specs.Ordering.{int_eq}
 use Rattle.wave_wasm.specs.Merge.{last_value, without, merge, distinct_keys, value_at_last, IsMergeOf, bool_eq, leaf_eq}
 use Rattle.wave_wasm.specs.Values as value
-use Rattle.wave_wasm.specs.Values.{Leaf, leaf_type}
-use Rattle.wave_wasm.specs.Types as type
-use Rattle.wave_wasm.specs.TypeTreeEncoding.{simple_apart, simple_number}
+use Rattle.wave_wasm.specs.Values.{Leaf}
+use Rattle.wave_wasm.specs.SimpleEquality.{same_whole, one_whole, whole_itself}
 use Rattle.std.proofs.lemmas.Bool.{eqb-true}
 use Rattle.std.specs.Cmp.{signed_Decides, unsigned_Decides}
 use Rattle.std.proofs.lemmas.Slice.Eq.{bytes_eq-Decides}
@@ -81,9 +80,8 @@ both_true false b e = cc
 pub leaf_eq-true : (a b : Leaf) → leaf_eq a b ≡ true → a ≡ b
 leaf_eq-true (value.bool a) (value.bool b) e = ap value.bool (bool_eq-true a b e)
 leaf_eq-true (value.whole kind y) (value.whole other z) e =
-    let p = both_true (nat_eq (simple_number (type.whole kind)) (simple_number (type.whole other))) (int_eq y z) e in
-    let k : type.whole kind ≡ type.whole other = simple_apart (type.whole kind) (type.whole other) (eqb-true (simple_number (type.whole kind)) (simple_number (type.whole other)) p.0) in
-    let w : kind ≡ other = cc in
+    let p = both_true (same_whole kind other) (int_eq y z) e in
+    let k : kind ≡ other = one_whole kind other p.0 in
     let n : y ≡ z = (signed_Decides y z).0 p.1 in cc
 leaf_eq-true (value.char c) (value.char d) e = ap value.char (eqb-true c d e)
 leaf_eq-true (value.string s) (value.string t) e = ap value.string ((bytes_eq-Decides s t).0 e)
@@ -92,7 +90,7 @@ leaf_eq-true _ _ e = cc
 -- a key is equal to itself
 pub leaf_eq-self : (a : Leaf) → leaf_eq a a ≡ true
 leaf_eq-self (value.bool b) = bool_eq-self b
-leaf_eq-self (value.whole kind z) = both (nat_eq (simple_number (type.whole kind)) (simple_number (type.whole kind))) (int_eq z z) ((unsigned_Decides (simple_number (type.whole kind)) (simple_number (type.whole kind))).1 refl) ((signed_Decides z z).1 refl)
+leaf_eq-self (value.whole kind z) = both (same_whole kind kind) (int_eq z z) (whole_itself kind) ((signed_Decides z z).1 refl)
   where
     both : (a b : Bool) → a ≡ true → b ≡ true → (a && b) ≡ true
     both true true e f = refl

@@ -39,15 +39,18 @@ payload_types (case_of name payload more) = payload_and payload (payload_types m
 
 -- the types that a type is made of
 abbrev pub type_parts : TypeTree → List TypeTree
+type_parts (type.simple S) = []
+type_parts (type.unreadable kind) = []
 type_parts (type.list E) = E ∷ []
 type_parts (type.fixed E n) = E ∷ []
 type_parts (type.record_type fs) = map (λ f. f.1) (type.field_list fs)
 type_parts (type.tuple Ts) = type_list Ts
 type_parts (type.variant cs) = payload_types cs
+type_parts (type.enum names) = []
 type_parts (type.option P) = P ∷ []
 type_parts (type.result A B) = payload_and A (payload_and B [])
+type_parts (type.flags names) = []
 type_parts (type.map K V) = type.simple K ∷ V ∷ []
-type_parts _ = []
 
 -- the parts of a full type are full
 abbrev pub HasFullParts : (TypeTree → Type 0) → Type 0

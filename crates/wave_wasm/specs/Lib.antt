@@ -4,6 +4,7 @@ pub mod Types
 pub mod Shared
 pub mod Private
 pub mod TypeTreeEncoding
+pub mod SimpleEquality
 pub mod Borrowed
 pub mod Numbers
 pub mod Values

@@ -4,9 +4,9 @@ use Rattle.std.specs.Str.{bytes_eq}
 use Rattle.std.specs.Option.{option_or}
 use Rattle.wave_wasm.specs.Lists.{AllOf}
 use Rattle.std.specs.Ordering.{int_eq}
-use Rattle.wave_wasm.specs.TypeTreeEncoding.{simple_number}
+use Rattle.wave_wasm.specs.SimpleEquality.{same_whole}
 use Rattle.wave_wasm.specs.Values as value
-use Rattle.wave_wasm.specs.Values.{Leaf, Value, MaybeValue, Values, FieldValues, Entries, entries, leaf_type}
+use Rattle.wave_wasm.specs.Values.{Leaf, Value, MaybeValue, Values, FieldValues, Entries, entries}
 use Rattle.wave_wasm.specs.Values.{no_value, a_value, no_values, value_and, no_fields, field, no_entries, entry}
 
 module _ {K V : Type 0} (same : K → K → Bool) where
@@ -48,10 +48,10 @@ abbrev pub bool_eq : Bool → Bool → Bool
 bool_eq true b = b
 bool_eq false b = not b
 
--- two keys are equal, by value
+-- two keys are equal: they are of one type and hold the same
 abbrev pub leaf_eq : Leaf → Leaf → Bool
 leaf_eq (value.bool a) (value.bool b) = bool_eq a b
-leaf_eq (value.whole kind y) (value.whole other z) = nat_eq (simple_number (leaf_type (value.whole kind y))) (simple_number (leaf_type (value.whole other z))) && int_eq y z
+leaf_eq (value.whole kind y) (value.whole other z) = same_whole kind other && int_eq y z
 leaf_eq (value.char c) (value.char d) = nat_eq c d
 leaf_eq (value.string s) (value.string t) = bytes_eq s t
 leaf_eq _ _ = false

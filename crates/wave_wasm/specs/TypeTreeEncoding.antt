@@ -1,6 +1,5 @@
 -- A type tree as a value that can be stored, by which two trees are told apart.
 use Rattle.std.specs.Prelude.{◌≡◌, ℕ, List, [], ◌∷◌, refl, slice_index_or}
-use Rattle.std.proofs.Common.{sym, ap, ◌∙◌}
 use base.Stored.{Gv, gnil, gnum, gcons}
 use Rattle.wave_wasm.specs.Types.{s8, s16, s32, s64, u8, u16, u32, u64, Simple, bool, whole, char, string, Unreadable, f32, f64, unsupported}
 
@@ -37,10 +36,6 @@ simple_back (whole u32) = refl
 simple_back (whole u64) = refl
 simple_back char = refl
 simple_back string = refl
-
--- two simple types of one number are one
-pub simple_apart : (S R : Simple) → simple_number S ≡ simple_number R → S ≡ R
-simple_apart S R e = sym (simple_back S) ∙ (ap numbered_simple e ∙ simple_back R)
 
 -- the number of a type without values
 abbrev pub unreadable_number : Unreadable → ℕ

@@ -293,14 +293,23 @@ has_names (name ∷ more) = true
 
 -- neither unsupported, nor a record, tuple, variant, enum or flags without parts, nor longer than a u32 can say
 abbrev pub can_be_made : TypeTree → Bool
+can_be_made (simple S) = true
+can_be_made (unreadable f32) = true
+can_be_made (unreadable f64) = true
 can_be_made (unreadable unsupported) = false
+can_be_made (list E) = true
 can_be_made (fixed E n) = nat_lt n (2 ^ 32)
 can_be_made (record_type no_fields) = false
+can_be_made (record_type (field name T more)) = true
 can_be_made (tuple no_types) = false
+can_be_made (tuple (type_and T more)) = true
 can_be_made (variant no_cases) = false
+can_be_made (variant (case_of name payload more)) = true
 can_be_made (enum names) = has_names names
+can_be_made (option P) = true
+can_be_made (result A B) = true
 can_be_made (flags names) = has_names names
-can_be_made _ = true
+can_be_made (map K V) = true
 
 -- `Type` can have this tree
 abbrev pub is_own : TypeTree → Bool
