@@ -11,7 +11,7 @@ fn wrong_kind(rt: HostRuntime, rows: &[(ParserErrorKind, &str)]) -> Result<Strin
         let (kind, expected) = *row;
         let words = format!(in rt.alloc(); "{kind}")?;
         if words.as_str() != expected {
-            return Ok(words);
+            return Ok(format!(in rt.alloc(); "{expected} is {words}")?);
         }
     }
     Ok(String::new(rt.alloc()))
@@ -102,7 +102,7 @@ fn wrong(rt: HostRuntime, rows: &[(&str, &str)]) -> Result<String, Fail> {
         let (told, expected) = *row;
         let answers = answers(rt, &refusal(rt, told)?)?;
         if answers.as_str() != expected {
-            return Ok(answers);
+            return Ok(format!(in rt.alloc(); "{told} answers {answers}")?);
         }
     }
     Ok(String::new(rt.alloc()))
