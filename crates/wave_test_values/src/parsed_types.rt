@@ -124,20 +124,19 @@ fn is_refused(rt: HostRuntime, row: &(&str, TypeErrorKind, usize, usize)) -> boo
     }
 }
 
-/// The first text that isn't read as it should be, or isn't refused so; the empty one where there
-/// is none.
-fn wrong(rt: HostRuntime) -> Result<&'static str, Fail> {
+/// The first text that isn't read as it should be, or isn't refused so.
+fn wrong(rt: HostRuntime) -> Result<Option<&'static str>, Fail> {
     for row in READ {
         if !is_read(rt, row.0, row.1)? {
-            return Ok(row.0);
+            return Ok(Some(row.0));
         }
     }
     for row in REFUSED {
         if !is_refused(rt, row) {
-            return Ok(row.0);
+            return Ok(Some(row.0));
         }
     }
-    Ok("")
+    Ok(None)
 }
 
 /// Texts that spell types of functions, and their texts as they are printed; an empty one where the
@@ -161,14 +160,14 @@ const FUNCTIONS: &[(&str, &str)] = &[
     ("func", ""),
 ];
 
-/// The first text of a function that isn't read as it should be; the empty one where there is none.
-fn wrong_function(rt: HostRuntime) -> Result<&'static str, Fail> {
+/// The first text of a function that isn't read as it should be.
+fn wrong_function(rt: HostRuntime) -> Result<Option<&'static str>, Fail> {
     for row in FUNCTIONS {
         if !is_function_read(rt, row)? {
-            return Ok(row.0);
+            return Ok(Some(row.0));
         }
     }
-    Ok("")
+    Ok(None)
 }
 
 /// Whether the text of a function is read as it should be.
@@ -267,8 +266,8 @@ fn answers_of_fronts(rt: HostRuntime, text: &str) -> Result<String, AllocError> 
 
 #[test]
 fn types_are_read(rt: HostRuntime) -> Result<(), Fail> {
-    assert_eq!(rt; wrong(rt)?, "");
-    assert_eq!(rt; wrong_function(rt)?, "");
+    assert_eq!(rt; wrong(rt)?, None);
+    assert_eq!(rt; wrong_function(rt)?, None);
     Ok(())
 }
 
