@@ -21,7 +21,7 @@ use wave_syntax::form::NodeType;
 use wave_wasm::wasm::{WasmType, WasmTypeKind, WasmValue};
 
 /// The value of one token at the type.
-#[inline(always)]
+#[inline(never)]
 pub(crate) fn read_leaf<V: WasmValue>(
     leaf: &Leaf<'_>,
     alloc: Global,

@@ -77,6 +77,7 @@ impl<'ty, V: WasmValue> Entries<'ty, V::Type, V> {
 
     /// Adds the value after the last key, which was read at the type that is due; or what is wrong
     /// with the map.
+    #[inline(never)]
     pub(crate) fn with_part(
         &mut self,
         alloc: Global,

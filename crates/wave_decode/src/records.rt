@@ -188,6 +188,7 @@ impl<'ty, V: WasmValue> Fields<'ty, V::Type, V> {
 
     /// Adds the value after the last key, which was read at the type that is due; or what is wrong
     /// with the record.
+    #[inline(never)]
     pub(crate) fn with_part(
         &mut self,
         alloc: Global,

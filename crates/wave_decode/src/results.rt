@@ -56,6 +56,7 @@ impl<'ty, V: WasmValue> ResultPayload<'ty, V::Type, V> {
     }
 
     /// The payload was read, or refused.
+    #[inline(never)]
     pub(crate) fn with_part(
         &mut self,
         alloc: Global,

@@ -52,6 +52,7 @@ impl<'ty, V: WasmValue> Row<'ty, V::Type, V> {
     }
 
     /// Adds an item, which was read at the type that is due; or what is wrong with the tuple.
+    #[inline(never)]
     pub(crate) fn with_part(
         &mut self,
         alloc: Global,

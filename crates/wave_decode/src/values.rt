@@ -77,6 +77,7 @@ impl<'ty, V: WasmValue> Builder for Values<'ty, V> {
     ghost next_takes = { λ builder source ty children kept are takes.
         next_takes V.Type.tree V.tree V.is_of V.is_full (shown V.Type.tree builder.due) source ty children kept are takes };
 
+    #[inline(always)]
     fn leaf(self, alloc: Global, ty: NodeType, span: Span, text: &str) -> Result<V, Failure> {
         let leaf = Leaf { ty, span, text };
         match self.due {

@@ -91,6 +91,7 @@ impl<'ty, V: WasmValue> CasePayload<'ty, V::Type, V> {
     }
 
     /// The payload is read, or was refused.
+    #[inline(never)]
     pub(crate) fn with_part(
         &mut self,
         alloc: Global,

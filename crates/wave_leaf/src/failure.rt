@@ -45,6 +45,8 @@ impl Failure {
 
     /// The error as a failure. Where there is no memory for its detail or its cause, that is the
     /// failure, at the same place.
+    #[cold]
+    #[inline(never)]
     pub fn new(alloc: Global, error: ParserError) -> Failure
         ensures { IsSameOrMemory error result }
     {

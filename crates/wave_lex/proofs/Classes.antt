@@ -1,5 +1,5 @@
 -- The first scalar of a token determines its class.
-use Rattle.std.proofs.Common.{◌≡◌, ℕ, ◌≤◌, ◌≢◌, Bool, true, false, nat_eq, List, [], ◌∷◌, ◌++◌, ◌⊎◌, inl, inr, refl, sym, ap, subst, ◌∙◌, length, take, drop, arith, Option, Some, None, append_assoc}
+use Rattle.std.proofs.Common.{◌≡◌, ℕ, ◌≤◌, ◌<◌, ◌≢◌, get_or, Bool, true, false, nat_eq, List, [], ◌∷◌, ◌++◌, ◌⊎◌, inl, inr, refl, sym, ap, subst, ◌∙◌, length, take, drop, arith, Option, Some, None, append_assoc}
 use Rattle.std.specs.Prelude.{◌||◌, encode_utf8, encode_utf8_all, if◌then◌else◌}
 use Rattle.std.proofs.Common.{length-take-le}
 use Rattle.std.proofs.lemmas.Bool.{cases_lt, eqb-true}
@@ -233,3 +233,25 @@ quoted MultilineString r rest k b t e = refl
 pub class_quoted : (r rest : List ℕ) → r ≡ three_quotes ++ rest → ClassAt r (Some MultilineString)
 unfolding lib.Utf8.encode
 class_quoted r rest b = (λ k d t. quoted d r rest k b t (token_shows r (34 ∷ 34 ∷ rest) k 34 d b t), λ k. tt)
+
+-- two quotes behind a first one
+quoted_behind : (rest : List ℕ) → 2 < length (34 ∷ rest) → get_or (34 ∷ rest) 1 0 ≡ 34 → get_or (34 ∷ rest) 2 0 ≡ 34 → (more : List ℕ) × (34 ∷ rest ≡ three_quotes ++ more)
+quoted_behind [] l a b = let w : ⊥ = omega arith in absurd w
+quoted_behind (x ∷ []) l a b = let w : ⊥ = omega arith in absurd w
+quoted_behind (x ∷ y ∷ more) l a b = let p : x ≡ 34 = a in let q : y ≡ 34 = b in (more, ap (λ (z : ℕ). 34 ∷ z ∷ y ∷ more) p ∙ ap (λ (z : ℕ). 34 ∷ 34 ∷ z ∷ more) q)
+
+-- the class where the code counts three quotes
+pub class_counted : (r b rest : List ℕ) (first : ℕ) → first ≡ 34 → b ≡ r → r ≡ encode_utf8 first ++ rest → 2 < length b → get_or b 1 0 ≡ 34 → get_or b 2 0 ≡ 34 → ClassAt r (Some MultilineString)
+unfolding lib.Utf8.encode
+class_counted r b rest first quote e f l second third =
+    let at : r ≡ 34 ∷ rest = f ∙ ap (λ (z : ℕ). encode_utf8 z ++ rest) quote in
+    let is : b ≡ 34 ∷ rest = e ∙ at in
+    let w = quoted_behind rest (subst (λ (z : List ℕ). 2 < length z) is l) (subst (λ (z : List ℕ). get_or z 1 0 ≡ 34) is second) (subst (λ (z : List ℕ). get_or z 2 0 ≡ 34) is third) in
+    class_quoted r w.0 (at ∙ w.1)
+
+-- no three quotes stand where the code counts none
+pub not_counted : (r b : List ℕ) → b ≡ r → (2 < length b → get_or b 1 0 ≡ 34 → get_or b 2 0 ≡ 34 → ⊥) → (more : List ℕ) → r ≢ three_quotes ++ more
+not_counted r b e h more f =
+    let is : b ≡ three_quotes ++ more = e ∙ f in
+    let long : length b ≡ length (three_quotes ++ more) = ap length is in
+    h (omega arith) (ap (λ (z : List ℕ). get_or z 1 0) is) (ap (λ (z : List ℕ). get_or z 2 0) is)

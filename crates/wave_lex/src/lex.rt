@@ -153,7 +153,8 @@ fn class_at(text: &str) -> Option<Token>
     if first != '"' {
         return class_of(first);
     }
-    if text.starts_with("\"\"\"") {
+    let bytes = text.as_bytes();
+    if bytes.len() > 2 && bytes[1] == b'"' && bytes[2] == b'"' {
         return Some(Token::MultilineString);
     }
     Some(Token::String)

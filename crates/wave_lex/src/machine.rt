@@ -27,6 +27,7 @@ pub trait Machine: Copy {
 }
 
 /// How many bytes the longest prefix of the text takes that has the shape of the machine.
+#[inline(never)]
 pub fn longest_front<M: Machine>(start: M, text: &str) -> Option<usize>
     ensures { Greatest (IsFront (M.rest start) text.now) result }
 {

@@ -30,8 +30,15 @@ impl Builder for Nodes {
         make::leaf(alloc, ty, span)
     }
 
+    /// The parts of a case with its payload and of an option's or a result's payload are as many as the
+    /// vector has room for at once, where there is memory.
     fn parts(self, alloc: Global, ty: NodeType) -> Vec<Node> {
-        Vec::new(alloc)
+        let count = match ty {
+            NodeType::VariantWithPayload => 2,
+            NodeType::OptionSome | NodeType::ResultOk | NodeType::ResultErr => 1,
+            _ => 0,
+        };
+        Vec::with_capacity(alloc, count).unwrap_or(Vec::new(alloc))
     }
 
     fn part(self, parts: &Vec<Node>) -> Nodes {

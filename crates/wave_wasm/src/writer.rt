@@ -180,6 +180,7 @@ impl<W: TextWrite> Writer<W> {
     }
 
     #[cycle(write)]
+    #[inline(never)]
     fn write_list<V: WasmValue>(&mut self, alloc: Global, val: &V) -> Result<(), WriterError>
         requires { IsOfListKind (kind_of (V.tree val.now)) }
         ensures { Writes (text (V.tree val.now)) (has_text (V.tree val.now)) result (W.output self.old) (W.output self.new) }
@@ -189,6 +190,7 @@ impl<W: TextWrite> Writer<W> {
     }
 
     #[cycle(write)]
+    #[inline(never)]
     fn write_tuple<V: WasmValue>(&mut self, alloc: Global, val: &V) -> Result<(), WriterError>
         requires { kind_of (V.tree val.now) ≡ WasmTypeKind.Tuple }
         ensures { Writes (text (V.tree val.now)) (has_text (V.tree val.now)) result (W.output self.old) (W.output self.new) }
@@ -222,6 +224,7 @@ impl<W: TextWrite> Writer<W> {
     }
 
     #[cycle(write)]
+    #[inline(never)]
     fn write_record<V: WasmValue>(&mut self, alloc: Global, val: &V) -> Result<(), WriterError>
         requires { kind_of (V.tree val.now) ≡ WasmTypeKind.Record }
         ensures { Writes (text (V.tree val.now)) (has_text (V.tree val.now)) result (W.output self.old) (W.output self.new) }
@@ -243,6 +246,7 @@ impl<W: TextWrite> Writer<W> {
     }
 
     #[cycle(write)]
+    #[inline(never)]
     fn write_variant<V: WasmValue>(&mut self, alloc: Global, val: &V) -> Result<(), WriterError>
         requires { kind_of (V.tree val.now) ≡ WasmTypeKind.Variant }
         ensures { Writes (text (V.tree val.now)) (has_text (V.tree val.now)) result (W.output self.old) (W.output self.new) }
@@ -253,6 +257,7 @@ impl<W: TextWrite> Writer<W> {
     }
 
     #[cycle(write)]
+    #[inline(never)]
     fn write_option<V: WasmValue>(&mut self, alloc: Global, val: &V) -> Result<(), WriterError>
         requires { kind_of (V.tree val.now) ≡ WasmTypeKind.Option }
         ensures { Writes (text (V.tree val.now)) (has_text (V.tree val.now)) result (W.output self.old) (W.output self.new) }
@@ -267,6 +272,7 @@ impl<W: TextWrite> Writer<W> {
     }
 
     #[cycle(write)]
+    #[inline(never)]
     fn write_result<V: WasmValue>(&mut self, alloc: Global, val: &V) -> Result<(), WriterError>
         requires { kind_of (V.tree val.now) ≡ WasmTypeKind.Result }
         ensures { Writes (text (V.tree val.now)) (has_text (V.tree val.now)) result (W.output self.old) (W.output self.new) }
@@ -306,6 +312,7 @@ impl<W: TextWrite> Writer<W> {
     }
 
     #[cycle(write)]
+    #[inline(never)]
     fn write_map<V: WasmValue>(&mut self, alloc: Global, val: &V) -> Result<(), WriterError>
         requires kind { kind_of (V.tree val.now) ≡ WasmTypeKind.Map }
         requires formed { IsWellFormed (V.tree val.now) }
@@ -325,6 +332,7 @@ impl<W: TextWrite> Writer<W> {
         self.write_text("}")
     }
 
+    #[inline(never)]
     fn write_flags<V: WasmValue>(&mut self, alloc: Global, val: &V) -> Result<(), WriterError>
         requires { kind_of (V.tree val.now) ≡ WasmTypeKind.Flags }
         ensures { Writes (text (V.tree val.now)) (has_text (V.tree val.now)) result (W.output self.old) (W.output self.new) }
@@ -341,6 +349,7 @@ impl<W: TextWrite> Writer<W> {
     }
 
     /// Writes the name of a case, after a `%` where it is a keyword.
+    #[inline(never)]
     fn write_case(&mut self, case: &str) -> Result<(), WriterError>
         ensures { Writes (case_label case.now) true result (W.output self.old) (W.output self.new) }
     {
@@ -388,6 +397,7 @@ impl<W: TextWrite> Writer<W> {
         }
     }
 
+    #[inline(never)]
     fn write_number<N: Integer>(&mut self, number: N) -> Result<(), WriterError>
         ensures { Writes (N.text number) true result (W.output self.old) (W.output self.new) }
     {
@@ -396,6 +406,7 @@ impl<W: TextWrite> Writer<W> {
     }
 
     /// Writes a scalar between single quotes.
+    #[inline(never)]
     fn write_char(&mut self, c: char) -> Result<(), WriterError>
         ensures { Writes (quoted_char c) true result (W.output self.old) (W.output self.new) }
     {
@@ -405,6 +416,7 @@ impl<W: TextWrite> Writer<W> {
     }
 
     /// Writes a text between double quotes. The scalars between two escapes are written as one run.
+    #[inline(never)]
     fn write_string(&mut self, s: &str) -> Result<(), WriterError>
         ensures { Writes (quoted s.now) true result (W.output self.old) (W.output self.new) }
     {

@@ -1,7 +1,7 @@
 //! How many bytes whitespace or a token takes at the start of a text. Runs of bytes that leave a machine
 //! in its state are counted at once; the machine reads what stands after them. The end of a multiline
 //! string is searched.
-ghost use Rattle.std.specs.Prelude.{◌≡◌, ℕ, ◌<◌, ◌≤◌, true, false, length, slice_index};
+ghost use Rattle.std.specs.Prelude.{◌≡◌, ℕ, ◌<◌, ◌≤◌, true, false, length, drop, slice_index};
 ghost use Rattle.wave_lex.specs.LongestMatch.{Greatest, IsFront};
 ghost use Rattle.wave_lex.specs.Shared.Machines.{ends_whole, is_blank, is_digit, is_lower, is_plain, string_rest};
 ghost use Rattle.wave_lex.specs.Shared.Reading.{LeadsTo, EndsWord, IsPlainRun, IsStep, IsWordStep};
@@ -176,21 +176,22 @@ fn inside_end(text: &str, from: usize) -> usize
 {
     let _length = text.len();
     let mut place = from;
-    while let Some(count) = piece_at(&text[place..]) {
+    while let Some(count) = piece_at(text, place) {
         place += count;
     }
     place
 }
 
-/// How many bytes the plain bytes or the escape take that stand at the start.
-fn piece_at(text: &str) -> Option<usize>
-    ensures { IsStep (string_rest Inside) text.now result }
+/// How many bytes the plain bytes or the escape take that stand at this place.
+fn piece_at(text: &str, place: usize) -> Option<usize>
+    requires { LeadsTo string (string_rest Inside) text.now place }
+    ensures { IsStep (string_rest Inside) (drop place text.now) result }
 {
-    let bytes = text.as_bytes();
-    if let Some(count) = escape_at(bytes) {
+    let rest = &text.as_bytes()[place..];
+    if let Some(count) = escape_at(rest) {
         return Some(count);
     }
-    let run = plains(bytes);
+    let run = plains(rest);
     if run == 0 {
         return None;
     }
