@@ -15,7 +15,7 @@ use Rattle.wave_syntax.specs.declared.form.NodeType.TheVariants as kind
 use Rattle.wave_leaf.specs.Leaves.{IsSimpleOrUnreadable}
 use Rattle.wave_syntax.specs.NodeParts.{IsOneToken}
 use Rattle.wave_leaf.specs.Reading.{IsReadAs}
-use Rattle.wave_leaf.proofs.NamedKinds.{IsNamed, apart}
+use Rattle.wave_wasm.proofs.NamedKinds.{Passes, apart}
 use Rattle.wave_decode.specs.Flat.{IsFlatAt}
 use Rattle.wave_decode.proofs.CaseNodes.{variant_other_form}
 use Rattle.wave_decode.proofs.EnumCases.{enum_other_form}
@@ -68,17 +68,12 @@ is_simple kinds.Flags = false
 is_simple kinds.Map = false
 is_simple _ = true
 
--- the kinds of simple types, and of types without values
-abbrev pub simples : List WasmTypeKind
-simples =
-    kinds.Bool ∷ kinds.S8 ∷ kinds.S16 ∷ kinds.S32 ∷ kinds.S64 ∷ kinds.U8 ∷ kinds.U16 ∷ kinds.U32 ∷ kinds.U64 ∷ kinds.F32 ∷ kinds.F64 ∷ kinds.Char ∷ kinds.String ∷ kinds.Unsupported ∷ []
-
 -- so at one of these the type is such a one
-pub named_simple : (T : TypeTree) (k : WasmTypeKind) → k ≡ kind_of T → IsNamed simples k → IsSimpleOrUnreadable T
+pub named_simple : (T : TypeTree) (k : WasmTypeKind) → k ≡ kind_of T → Passes is_simple k → IsSimpleOrUnreadable T
 named_simple T k is one = others_simple T k is (no kinds.List refl) (no kinds.FixedLengthList refl) (no kinds.Record refl) (no kinds.Tuple refl) (no kinds.Variant refl) (no kinds.Enum refl) (no kinds.Option refl) (no kinds.Result refl) (no kinds.Flags refl) (no kinds.Map refl)
   where
     no : (j : WasmTypeKind) → is_simple j ≡ false → k ≢ j
-    no = apart is_simple simples refl k one
+    no = apart is_simple refl k one
 
 module _ {V : Type 0} (tree : V → Value) (of : V → TypeTree → Type 0) (Full : TypeTree → Type 0) (T : TypeTree) (k : WasmTypeKind) (is : k ≡ kind_of T) (source : List ℕ) (n : NodeTree) (e : Diagnostic) (refused : RefusedAs why.InvalidType n e) where
   -- such a node at a list, a tuple, a record or a map

@@ -13,7 +13,7 @@ use Rattle.wave_syntax.specs.NodeTree.{NodeTree}
 use Rattle.wave_syntax.specs.NodeAccessors.{RefusedAs}
 use Rattle.wave_syntax.specs.Shared.TypedReading.{IsCaused}
 use Rattle.wave_leaf.specs.Reading.{IsReadAs, IsReadWhereDue}
-use Rattle.wave_leaf.proofs.NamedKinds.{IsNamed, apart}
+use Rattle.wave_wasm.proofs.NamedKinds.{Passes, apart}
 use Rattle.wave_node.specs.KeywordNodes.{RefusesKeyword}
 
 module _ {V S : Type 0} (tree : V → Value) (of : V → TypeTree → Type 0) (Full : TypeTree → Type 0) (type_tree : S → TypeTree) where
@@ -62,15 +62,9 @@ is_other_kind kinds.F64 = false
 is_other_kind kinds.Unsupported = false
 is_other_kind _ = true
 
--- all these kinds
-abbrev pub other_kinds : List WasmTypeKind
-other_kinds =
-    kinds.S8 ∷ kinds.S16 ∷ kinds.S32 ∷ kinds.S64 ∷ kinds.U8 ∷ kinds.U16 ∷ kinds.U32 ∷ kinds.U64 ∷ kinds.Char ∷ kinds.String ∷ kinds.List ∷ kinds.FixedLengthList
-    ∷ kinds.Record ∷ kinds.Tuple ∷ kinds.Variant ∷ kinds.Enum ∷ kinds.Option ∷ kinds.Result ∷ kinds.Flags ∷ kinds.Map ∷ []
-
 -- so one of these is none of the four others
-pub other_kind : (k : WasmTypeKind) → IsNamed other_kinds k → (k ≢ kinds.Bool) × (k ≢ kinds.F32) × (k ≢ kinds.F64) × (k ≢ kinds.Unsupported)
+pub other_kind : (k : WasmTypeKind) → Passes is_other_kind k → (k ≢ kinds.Bool) × (k ≢ kinds.F32) × (k ≢ kinds.F64) × (k ≢ kinds.Unsupported)
 other_kind k one = (no kinds.Bool refl, no kinds.F32 refl, no kinds.F64 refl, no kinds.Unsupported refl)
   where
     no : (j : WasmTypeKind) → is_other_kind j ≡ false → k ≢ j
-    no = apart is_other_kind other_kinds refl k one
+    no = apart is_other_kind refl k one

@@ -2,8 +2,8 @@
 use Rattle.std.specs.Prelude.{◌≡◌, ℕ, pos, negsuc, Bool, true, false, ◌==◌, List, [], ◌∷◌, refl, slice_index_or}
 use Rattle.std.proofs.Common.{sym, ap, ◌∙◌}
 use base.Stored.{Gv, gnil, gnum, gcons, num}
-use Rattle.wave_wasm.specs.Types.{Whole, s8, Simple, bool, whole, char, string, Unreadable, f32, f64, unsupported}
-use Rattle.wave_wasm.specs.TypeTreeEncoding.{simple_number, numbered_simple, simple_back, stored, stored_name, stored_names, unreadable_number}
+use Rattle.wave_wasm.specs.Types.{Whole, s8, Simple, bool, whole, char, string, f32}
+use Rattle.wave_wasm.specs.TypeTreeEncoding.{simple_number, numbered_simple, simple_back, stored, stored_name, stored_names, unreadable_number, numbered_unreadable, unreadable_back}
 use Rattle.wave_wasm.specs.Values as value
 use Rattle.wave_wasm.specs.Values.{Leaf, Value, MaybeValue, Values, FieldValues, Entries}
 use Rattle.wave_wasm.specs.Values.{no_value, a_value, no_values, value_and, no_fields, field, no_entries, entry}
@@ -69,9 +69,6 @@ abbrev mutual
   stored_entries no_entries = gnil
   stored_entries (entry k v es) = gcons (stored_leaf k) (gcons (stored_value v) (stored_entries es))
 
-abbrev numbered_unreadable : ℕ → Unreadable
-numbered_unreadable n = slice_index_or (f32 ∷ f64 ∷ unsupported ∷ []) n f32
-
 abbrev pub name_in : Gv → List ℕ
 name_in (gcons b n) = num b ∷ name_in n
 name_in _ = []
@@ -131,11 +128,6 @@ abbrev mutual
 
 whole_back : (kind : Whole) → numbered_whole (simple_number (whole kind)) ≡ kind
 whole_back kind = ap whole_or_s8 (simple_back (whole kind))
-
-unreadable_back : (u : Unreadable) → numbered_unreadable (unreadable_number u) ≡ u
-unreadable_back f32 = refl
-unreadable_back f64 = refl
-unreadable_back unsupported = refl
 
 pub name_back : (n : List ℕ) → name_in (stored_name n) ≡ n
 name_back [] = refl

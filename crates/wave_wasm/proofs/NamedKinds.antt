@@ -1,6 +1,6 @@
 -- Kinds of types that an arm of a match names.
-use Rattle.std.proofs.Common.{◌≡◌, ◌⊎◌, inl, inr, List, [], ◌∷◌, Bool, true, false, ◌&&◌, refl, sym, ap, ◌∙◌, subst}
-use Rattle.std.specs.Prelude.{IsTrue}
+use Rattle.std.proofs.Common.{◌≡◌, ◌≢◌, ◌⊎◌, inl, inr, List, [], ◌∷◌, Bool, true, false, ◌&&◌, refl, sym, ap, ◌∙◌, subst}
+use Rattle.std.specs.Prelude.{IsTrue, filter}
 use Rattle.std.specs.List.{list_all}
 use Rattle.wave_wasm.specs.Values as value
 use Rattle.wave_wasm.specs.Values.{Value, Leaf, kind_of}
@@ -26,10 +26,20 @@ named p (a ∷ []) all k is = subst (λ (j : WasmTypeKind). IsTrue (p j)) (sym i
 named p (a ∷ b ∷ more) all k (inl is) = subst (λ (j : WasmTypeKind). IsTrue (p j)) (sym is) (both (p a) (list_all p (b ∷ more)) all).0
 named p (a ∷ b ∷ more) all k (inr is) = named p (b ∷ more) (both (p a) (list_all p (b ∷ more)) all).1 k is
 
--- all kinds of values of one token
-abbrev pub simple_kinds : List WasmTypeKind
-simple_kinds =
-    kinds.Bool ∷ kinds.S8 ∷ kinds.S16 ∷ kinds.S32 ∷ kinds.S64 ∷ kinds.U8 ∷ kinds.U16 ∷ kinds.U32 ∷ kinds.U64 ∷ kinds.Char ∷ kinds.String ∷ []
+-- all kinds
+abbrev pub all_kinds : List WasmTypeKind
+all_kinds =
+    kinds.Bool ∷ kinds.S8 ∷ kinds.S16 ∷ kinds.S32 ∷ kinds.S64 ∷ kinds.U8 ∷ kinds.U16 ∷ kinds.U32 ∷ kinds.U64 ∷ kinds.F32 ∷ kinds.F64 ∷ kinds.Char
+    ∷ kinds.String ∷ kinds.List ∷ kinds.FixedLengthList ∷ kinds.Record ∷ kinds.Tuple ∷ kinds.Variant ∷ kinds.Enum ∷ kinds.Option ∷ kinds.Result
+    ∷ kinds.Flags ∷ kinds.Map ∷ kinds.Unsupported ∷ []
+
+-- the kind is one of those that pass the test, all of which the arm names
+abbrev pub Passes : (WasmTypeKind → Bool) → WasmTypeKind → Type 0
+Passes p = IsNamed (filter p all_kinds)
+
+-- so it is none of those that don't pass
+pub apart : (p : WasmTypeKind → Bool) → IsTrue (list_all p (filter p all_kinds)) → (k : WasmTypeKind) → Passes p k → (j : WasmTypeKind) → p j ≡ false → k ≢ j
+apart p all k is j none = λ same. cc (sym (named p (filter p all_kinds) all k is) ∙ (ap p same ∙ none))
 
 contrary : (v : Value) (k : WasmTypeKind) → k ≡ kind_of v → IsTrue (is_simple_kind k) → is_simple_kind (kind_of v) ≡ false → ⊥
 contrary v k e is none = cc (sym is ∙ (ap is_simple_kind e ∙ none))
@@ -52,5 +62,5 @@ of_simple (value.flags names) k e is = absurd (contrary (value.flags names) k e 
 of_simple (value.map es) k e is = absurd (contrary (value.map es) k e is refl)
 
 -- a value of one of these kinds is a leaf
-pub leaf_of : (v : Value) (k : WasmTypeKind) → k ≡ kind_of v → IsNamed simple_kinds k → (one : Leaf) × (v ≡ value.leaf one)
-leaf_of v k e is = of_simple v k e (named is_simple_kind simple_kinds refl k is)
+pub leaf_of : (v : Value) (k : WasmTypeKind) → k ≡ kind_of v → Passes is_simple_kind k → (one : Leaf) × (v ≡ value.leaf one)
+leaf_of v k e is = of_simple v k e (named is_simple_kind (filter is_simple_kind all_kinds) refl k is)

@@ -43,6 +43,15 @@ unreadable_number f32 = 0
 unreadable_number f64 = 1
 unreadable_number unsupported = 2
 
+-- the type without values of this number
+abbrev pub numbered_unreadable : ℕ → Unreadable
+numbered_unreadable n = slice_index_or (f32 ∷ f64 ∷ unsupported ∷ []) n f32
+
+pub unreadable_back : (u : Unreadable) → numbered_unreadable (unreadable_number u) ≡ u
+unreadable_back f32 = refl
+unreadable_back f64 = refl
+unreadable_back unsupported = refl
+
 -- a name, stored
 abbrev pub stored_name : List ℕ → Gv
 stored_name [] = gnil

@@ -3,19 +3,10 @@ use Rattle.std.specs.Prelude.{◌≡◌, ℕ, List, [], ◌∷◌, refl, slice_i
 use Rattle.std.proofs.Common.{sym, ap, ◌∙◌}
 use Rattle.std.specs.Coded.{Coded}
 use base.Stored.{Gv, gnil, gnum, gcons, num}
-use Rattle.wave_wasm.specs.Types.{Unreadable, f32, f64, unsupported, TypeTree, simple, unreadable, list, fixed}
+use Rattle.wave_wasm.specs.Types.{unsupported, TypeTree, simple, unreadable, list, fixed}
 use Rattle.wave_wasm.specs.Types.{record_type, tuple, variant, enum, option, result, flags, map}
 use Rattle.wave_wasm.specs.Types.{MaybeType, no_type, a_type, Types, no_types, type_and, Fields, no_fields, field, Cases, no_cases, case_of}
-use Rattle.wave_wasm.specs.TypeTreeEncoding.{numbered_simple, simple_back, simple_number, stored, stored_name, stored_names, unreadable_number}
-
--- the type without values of this number
-abbrev numbered_unreadable : ℕ → Unreadable
-numbered_unreadable n = slice_index_or (f32 ∷ f64 ∷ unsupported ∷ []) n f32
-
-unreadable_back : (u : Unreadable) → numbered_unreadable (unreadable_number u) ≡ u
-unreadable_back f32 = refl
-unreadable_back f64 = refl
-unreadable_back unsupported = refl
+use Rattle.wave_wasm.specs.TypeTreeEncoding.{numbered_simple, simple_back, simple_number, stored, stored_name, stored_names, unreadable_number, numbered_unreadable, unreadable_back}
 
 -- a type, stored
 abbrev mutual
