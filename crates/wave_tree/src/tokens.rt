@@ -15,7 +15,7 @@ ghost use Rattle.wave_syntax.specs.NodeTree.{NodeTree, node, no_nodes, node_tree
 ghost use Rattle.wave_tree.specs.ParsedNodes.{IsNodeTaken, IsSound};
 ghost use Rattle.wave_tree.specs.FromStr.{IsValueTaken, RefusesValue, IsCausedBetween};
 ghost use Rattle.wave_tree.specs.ParserState.{BeginsRow, HoldsNoBrace, Finishes, StaysWithout};
-ghost use Rattle.wave_tree.specs.Private.ParserState.{Stream, stream_of, asked_of, AsksFor, ahead_count, IsAhead, Advances, Expects};
+ghost use Rattle.wave_tree.specs.Private.ParserState.{Stream, stream_of, asked_of, AsksFor, ahead_count, IsAhead, Advances, Expects, IsRefused};
 ghost use Rattle.wave_lex.specs.Errors.{LiesInText};
 ghost use Rattle.wave_tree.specs.ParserLaws.{LiesInSource};
 
@@ -180,8 +180,7 @@ impl<'source> Tokens<'source> {
     {
         match self.take() {
             Some(Ok(token)) => Ok(token),
-            Some(Err(span)) => Err(Refusal::new(ParserErrorKind::InvalidToken, span)),
-            None => Err(Refusal::new(ParserErrorKind::UnexpectedEnd, self.span())),
+            item => Err(self.refused(item)),
         }
     }
 
@@ -190,15 +189,28 @@ impl<'source> Tokens<'source> {
         ensures takes { Expects class result self.old.place self.new.place }
         ensures asks { asked_of self.new ≡ self.old.place.taken + 1 }
     {
-        let token = self.advance()?;
-        if token == class {
-            Ok(())
-        } else {
-            Err(self.unexpected(token))
+        match self.take() {
+            Some(Ok(token)) if token == class => Ok(()),
+            item => Err(self.refused(item)),
+        }
+    }
+
+    /// The refusal of this item, which was taken last.
+    #[cold]
+    #[inline(never)]
+    fn refused(&self, item: Option<Result<Token, Span>>) -> Refusal
+        ensures { IsRefused result item self.now.place }
+    {
+        match item {
+            Some(Ok(token)) => self.unexpected(token),
+            Some(Err(span)) => Refusal::new(ParserErrorKind::InvalidToken, span),
+            None => Refusal::new(ParserErrorKind::UnexpectedEnd, self.span()),
         }
     }
 
     /// The refusal of the token of this class, which was taken last.
+    #[cold]
+    #[inline(never)]
     pub(crate) fn unexpected(&self, token: Token) -> Refusal
         ensures { Says result kind.UnexpectedToken (span_at self.now.place) (Some (class_name token)) }
     {
@@ -206,6 +218,8 @@ impl<'source> Tokens<'source> {
     }
 
     /// The refusal of the label of this name, which was taken last.
+    #[cold]
+    #[inline(never)]
     pub(crate) fn repeated(&self, alloc: Global, name: &str) -> Refusal
         ensures { let detail = Some (repeated_name name.now) in
             result.kind ≢ kind.OutOfMemory → Says result kind.DuplicateFlag (span_at self.now.place) detail }
@@ -216,6 +230,8 @@ impl<'source> Tokens<'source> {
         }
     }
 
+    #[cold]
+    #[inline(never)]
     pub(crate) fn out_of_memory(&self) -> Refusal
         ensures { Says result kind.OutOfMemory (span_at self.now.place) None }
     {
