@@ -8,7 +8,8 @@ use Rattle.wave_lex.specs.Errors.{Diagnostic, Says, class_name}
 use Rattle.wave_lex.specs.Tokenization.{Lexed, NextIs, span}
 use Rattle.wave_grammar.specs.Tree.{Word, leaf_word, none_word, some_word, ok_word, err_word, case_word}
 use Rattle.wave_grammar.specs.ParserPosition.{Place, Item, TakesItem, span_at}
-use Rattle.wave_tree.specs.declared.ahead.Ahead.{Ahead}
+use Rattle.wave_tree.specs.declared.item.Item.{Item as Kept}
+use Rattle.wave_tree.specs.declared.item.Item.TheVariants as kept
 use Rattle.wave_tree.specs.declared.role.LabelRole as code
 use Rattle.wave_tree.specs.declared.role.LabelRole.TheVariants as word
 use Rattle.wave_tree.specs.ParserState.{HasTokens, HoldsNoBrace, Fails}
@@ -34,15 +35,21 @@ AsksFor old new = (n : ℕ) → HasTokens old.place n → asked_of new ≤ max (
 abbrev pub WantsOnly : Type 0 → Place → Diagnostic → Type 0
 WantsOnly Takes p e = e.kind ≡ OutOfMemory → HoldsNoBrace p → Takes
 
--- how many items are at hand
-abbrev pub ahead_count : Option Ahead → ℕ
-ahead_count None = 0
-ahead_count (Some a) = 1
+-- what a lexer that stands at l gave, of which this is kept
+abbrev pub item_at : Kept → Lexed → Item
+item_at (kept.Token c) l = Some (Ok c)
+item_at kept.Invalid l = Some (Err (span l.start l.end))
+item_at kept.End l = None
 
--- what is at hand stands next
-abbrev pub IsAhead : Lexed → Option Ahead → Type 0
-IsAhead l None = Unit {0}
-IsAhead l (Some a) = NextIs l a.lexer a.item
+-- how many items are at hand
+abbrev pub ahead_count : Option Kept → ℕ
+ahead_count None = 0
+ahead_count (Some item) = 1
+
+-- what is at hand stands next, and the lexer after it is this one
+abbrev pub IsAhead : Lexed → Lexed → Option Kept → Type 0
+IsAhead l next None = Unit {0}
+IsAhead l next (Some item) = NextIs l next (item_at item next)
 
 -- this is the source of the lexer, and this the span of its last item
 abbrev pub IsStart : Lexed → List ℕ → Range ℕ → Type 0
