@@ -9,9 +9,9 @@ use std::alloc::Global;
 use wave_lex::error::ParserError;
 use wave_wasm::wasm::WasmValue;
 
-mod ahead;
 pub mod ast;
 mod descent;
+mod item;
 pub mod laws;
 pub mod parser;
 mod refusal;

@@ -15,12 +15,12 @@ ghost use Rattle.wave_syntax.specs.NodeTree.{NodeTree, node, no_nodes, node_tree
 ghost use Rattle.wave_tree.specs.ParsedNodes.{IsNodeTaken, IsSound};
 ghost use Rattle.wave_tree.specs.FromStr.{IsValueTaken, RefusesValue, IsCausedBetween};
 ghost use Rattle.wave_tree.specs.ParserState.{BeginsRow, HoldsNoBrace, Finishes, StaysWithout};
-ghost use Rattle.wave_tree.specs.Private.ParserState.{Stream, stream_of, asked_of, AsksFor, ahead_count, IsAhead, Advances, Expects};
+ghost use Rattle.wave_tree.specs.Private.ParserState.{Stream, stream_of, asked_of, AsksFor, ahead_count, IsAhead, Advances, Expects, IsRefused, item_at};
 ghost use Rattle.wave_lex.specs.Errors.{LiesInText};
 ghost use Rattle.wave_tree.specs.ParserLaws.{LiesInSource};
 
-use crate::ahead::Ahead;
 use crate::ast::{Node, NodeType};
+use crate::item::Item;
 use crate::parser::DEFAULT_LEVELS;
 use crate::refusal::Refusal;
 use std::alloc::{AllocError, Global};
@@ -34,16 +34,6 @@ use wave_node::nodes::Nodes;
 use wave_syntax::builder::Builder;
 use wave_wasm::wasm::WasmValue;
 
-/// Whether the item is a token of this class.
-fn is_token(item: &Option<Result<Token, Span>>, class: Token) -> bool
-    ensures { IsTrue result ↔ (item.now ≡ Some (Ok class)) }
-{
-    match item {
-        Some(Ok(token)) => *token == class,
-        _ => false,
-    }
-}
-
 /// The words on a name that stands twice.
 fn repeated_words(alloc: Global, name: &str) -> Result<Box<String>, AllocError>
     ensures { IfOk result (λ words. string_bytes words.value ≡ repeated_name name.now) }
@@ -53,14 +43,14 @@ fn repeated_words(alloc: Global, name: &str) -> Result<Box<String>, AllocError>
 }
 
 /// The refusal of an item that is no end, at its span.
-fn trailing(item: &Option<Result<Token, Span>>, behind: &Lexer) -> Result<(), ParserError>
-    ensures end { IfOk result (λ _. item.now ≡ None) }
-    ensures refused { IfErr result (λ e. Says e kind.TrailingCharacters (span behind.now.start behind.now.end) None × IsSomething item.now) }
+fn trailing(item: Item, behind: &Lexer) -> Result<(), ParserError>
+    ensures end { IfOk result (λ _. item_at item behind.now ≡ None) }
+    ensures refused { IfErr result (λ e. Says e kind.TrailingCharacters (span behind.now.start behind.now.end) None × IsSomething (item_at item behind.now)) }
     ensures within { IfErr result (λ e. LiesInText behind.now.source e.span) }
 {
     match item {
-        None => Ok(()),
-        Some(_) => Err(ParserError::new(ParserErrorKind::TrailingCharacters, behind.span())),
+        Item::End => Ok(()),
+        _ => Err(ParserError::new(ParserErrorKind::TrailingCharacters, behind.span())),
     }
 }
 
@@ -68,8 +58,11 @@ fn trailing(item: &Option<Result<Token, Span>>, behind: &Lexer) -> Result<(), Pa
 /// refusals are byte places of the source.
 #[derive(Drop)]
 pub(crate) struct Tokens<'source> {
+    /// After the last item that was taken.
     lexer: Lexer<'source>,
-    ahead: Option<Ahead<'source>>,
+    /// After the item ahead.
+    next: Lexer<'source>,
+    ahead: Option<Item>,
     asked: Asked,
 }
 
@@ -78,7 +71,7 @@ impl<'source> Model for Tokens<'source> {
 
     ghost view = { λ t. record { place = record { lexer = t.lexer; taken = t.asked - ahead_count t.ahead }; ahead = ahead_count t.ahead } };
 
-    ghost invariant = { λ t. IsAhead t.lexer t.ahead × (ahead_count t.ahead ≤ t.asked) };
+    ghost invariant = { λ t. IsAhead t.lexer t.next t.ahead × (ahead_count t.ahead ≤ t.asked) };
 }
 
 /// Where a call began: the lexer as it stood, with its source and the span of its last item.
@@ -116,6 +109,7 @@ impl<'source> Tokens<'source> {
         ensures { result ≡ stream_of lexer.entry }
     {
         Tokens {
+            next: lexer.clone(),
             lexer,
             ahead: None,
             asked: Asked::new(),
@@ -135,28 +129,31 @@ impl<'source> Tokens<'source> {
     }
 
     /// Takes the next item.
-    fn take(&mut self) -> Option<Result<Token, Span>>
-        ensures takes { TakesItem self.old.place result self.new.place }
+    #[inline(always)]
+    fn take(&mut self) -> Item
+        ensures takes { TakesItem self.old.place (item_at result self.new.place.lexer) self.new.place }
         ensures asks { asked_of self.new ≡ self.old.place.taken + 1 }
     {
-        match self.ahead.take() {
-            Some(ahead) => {
-                self.lexer = ahead.lexer;
-                ahead.item
+        match self.ahead {
+            Some(item) => {
+                self.ahead = None;
+                self.lexer = self.next.clone();
+                item
             }
-            None => self.lexer.next_ticked(&mut self.asked),
+            None => Item::next_of(&mut self.lexer, &mut self.asked),
         }
     }
 
     /// Looks at the next item, which stays.
+    #[inline(always)]
     fn peek(&mut self)
         ensures stays { self.new.place ≡ self.old.place }
         ensures looks { self.new.ahead ≡ 1 }
     {
         if self.ahead.is_none() {
-            let mut lexer = self.lexer.clone();
-            let item = lexer.next_ticked(&mut self.asked);
-            self.ahead = Some(Ahead { item, lexer });
+            self.next = self.lexer.clone();
+            let item = Item::next_of(&mut self.next, &mut self.asked);
+            self.ahead = Some(item);
         }
     }
 
@@ -167,8 +164,8 @@ impl<'source> Tokens<'source> {
         ensures asks { asked_of self.new ≡ self.old.place.taken + 1 }
     {
         self.peek();
-        match &self.ahead {
-            Some(ahead) => is_token(&ahead.item, class),
+        match self.ahead {
+            Some(item) => item.is(class),
             None => false,
         }
     }
@@ -179,9 +176,8 @@ impl<'source> Tokens<'source> {
         ensures asks { asked_of self.new ≡ self.old.place.taken + 1 }
     {
         match self.take() {
-            Some(Ok(token)) => Ok(token),
-            Some(Err(span)) => Err(Refusal::new(ParserErrorKind::InvalidToken, span)),
-            None => Err(Refusal::new(ParserErrorKind::UnexpectedEnd, self.span())),
+            Item::Token(token) => Ok(token),
+            item => Err(self.refused(item)),
         }
     }
 
@@ -190,15 +186,28 @@ impl<'source> Tokens<'source> {
         ensures takes { Expects class result self.old.place self.new.place }
         ensures asks { asked_of self.new ≡ self.old.place.taken + 1 }
     {
-        let token = self.advance()?;
-        if token == class {
-            Ok(())
-        } else {
-            Err(self.unexpected(token))
+        match self.take() {
+            Item::Token(token) if token == class => Ok(()),
+            item => Err(self.refused(item)),
+        }
+    }
+
+    /// The refusal of this item, which was taken last.
+    #[cold]
+    #[inline(never)]
+    fn refused(&self, item: Item) -> Refusal
+        ensures { IsRefused result (item_at item self.now.place.lexer) self.now.place }
+    {
+        match item {
+            Item::Token(token) => self.unexpected(token),
+            Item::Invalid => Refusal::new(ParserErrorKind::InvalidToken, self.span()),
+            Item::End => Refusal::new(ParserErrorKind::UnexpectedEnd, self.span()),
         }
     }
 
     /// The refusal of the token of this class, which was taken last.
+    #[cold]
+    #[inline(never)]
     pub(crate) fn unexpected(&self, token: Token) -> Refusal
         ensures { Says result kind.UnexpectedToken (span_at self.now.place) (Some (class_name token)) }
     {
@@ -206,6 +215,8 @@ impl<'source> Tokens<'source> {
     }
 
     /// The refusal of the label of this name, which was taken last.
+    #[cold]
+    #[inline(never)]
     pub(crate) fn repeated(&self, alloc: Global, name: &str) -> Refusal
         ensures { let detail = Some (repeated_name name.now) in
             result.kind ≢ kind.OutOfMemory → Says result kind.DuplicateFlag (span_at self.now.place) detail }
@@ -216,6 +227,8 @@ impl<'source> Tokens<'source> {
         }
     }
 
+    #[cold]
+    #[inline(never)]
     pub(crate) fn out_of_memory(&self) -> Refusal
         ensures { Says result kind.OutOfMemory (span_at self.now.place) None }
     {
@@ -374,8 +387,8 @@ impl<'source> Tokens<'source> {
         ensures asks { asked_of self.new ≡ self.old.place.taken + 1 }
     {
         self.peek();
-        match &self.ahead {
-            Some(ahead) => trailing(&ahead.item, &ahead.lexer),
+        match self.ahead {
+            Some(item) => trailing(item, &self.next),
             None => Ok(()),
         }
     }

@@ -3,12 +3,13 @@ use Rattle.std.specs.Prelude.{ℕ, ◌≡◌, ◌+◌, ◌≤◌, max, true, Lis
 use Rattle.std.specs.declared.ops.Range.{Range}
 use Rattle.wave_wasm.specs.Names.{is_one_of}
 use Rattle.wave_lex.specs.declared.lex.Token as lex
-use Rattle.wave_lex.specs.declared.error.ParserErrorKind.TheVariants.{OutOfMemory}
-use Rattle.wave_lex.specs.Errors.{Diagnostic}
+use Rattle.wave_lex.specs.declared.error.ParserErrorKind.TheVariants.{InvalidToken, UnexpectedEnd, UnexpectedToken, OutOfMemory}
+use Rattle.wave_lex.specs.Errors.{Diagnostic, Says, class_name}
 use Rattle.wave_lex.specs.Tokenization.{Lexed, NextIs, span}
 use Rattle.wave_grammar.specs.Tree.{Word, leaf_word, none_word, some_word, ok_word, err_word, case_word}
-use Rattle.wave_grammar.specs.ParserPosition.{Place, TakesItem}
-use Rattle.wave_tree.specs.declared.ahead.Ahead.{Ahead}
+use Rattle.wave_grammar.specs.ParserPosition.{Place, Item, TakesItem, span_at}
+use Rattle.wave_tree.specs.declared.item.Item.{Item as Kept}
+use Rattle.wave_tree.specs.declared.item.Item.TheVariants as kept
 use Rattle.wave_tree.specs.declared.role.LabelRole as code
 use Rattle.wave_tree.specs.declared.role.LabelRole.TheVariants as word
 use Rattle.wave_tree.specs.ParserState.{HasTokens, HoldsNoBrace, Fails}
@@ -34,19 +35,31 @@ AsksFor old new = (n : ℕ) → HasTokens old.place n → asked_of new ≤ max (
 abbrev pub WantsOnly : Type 0 → Place → Diagnostic → Type 0
 WantsOnly Takes p e = e.kind ≡ OutOfMemory → HoldsNoBrace p → Takes
 
--- how many items are at hand
-abbrev pub ahead_count : Option Ahead → ℕ
-ahead_count None = 0
-ahead_count (Some a) = 1
+-- what a lexer that stands at l gave, of which this is kept
+abbrev pub item_at : Kept → Lexed → Item
+item_at (kept.Token c) l = Some (Ok c)
+item_at kept.Invalid l = Some (Err (span l.start l.end))
+item_at kept.End l = None
 
--- what is at hand stands next
-abbrev pub IsAhead : Lexed → Option Ahead → Type 0
-IsAhead l None = Unit {0}
-IsAhead l (Some a) = NextIs l a.lexer a.item
+-- how many items are at hand
+abbrev pub ahead_count : Option Kept → ℕ
+ahead_count None = 0
+ahead_count (Some item) = 1
+
+-- what is at hand stands next, and the lexer after it is this one
+abbrev pub IsAhead : Lexed → Lexed → Option Kept → Type 0
+IsAhead l next None = Unit {0}
+IsAhead l next (Some item) = NextIs l next (item_at item next)
 
 -- this is the source of the lexer, and this the span of its last item
 abbrev pub IsStart : Lexed → List ℕ → Range ℕ → Type 0
 IsStart l source last = (source ≡ l.source) × (last ≡ span l.start l.end)
+
+-- the item, which was taken last, is refused
+abbrev pub IsRefused : Diagnostic → Item → Place → Type 0
+IsRefused e (Some (Ok c)) p = Says e UnexpectedToken (span_at p) (Some (class_name c))
+IsRefused e (Some (Err bad)) p = Says e InvalidToken bad None
+IsRefused e None p = Says e UnexpectedEnd (span_at p) None
 
 -- the next token was taken, or what stands next is no token
 abbrev pub Advances : Result lex.Token Diagnostic → Place → Place → Type 0

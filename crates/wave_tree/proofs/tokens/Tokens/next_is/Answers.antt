@@ -9,6 +9,6 @@ pub returns-clause-answer : goal.returns-clause-answer
 returns-clause-answer c =
     let here : c.args.self.now.place.lexer ≡ c.self.inside.lexer = sym (ap (λ (z : Stream). z.place.lexer) c.self.view_is ∙ ap (λ (z : Place). z.lexer) c.peek.ensures.stays) in
     elim c.match-self.branch [
-      | in-Some w ↦ at_hand _ _ _ w.in-Some.ahead _ w.is_token.result _ here c.self.invariant.0 w.in-Some.is w.is_token.ensures w.result-is
+      | in-Some w ↦ at_hand _ c.self.inside.next _ _ w.in-Some.item _ w.is.result _ here c.self.invariant.0 w.in-Some.is w.is.ensures w.result-is
       | in-None w ↦ one_ahead c.self.inside.ahead (ap (λ (z : Stream). z.ahead) c.self.view_is ∙ c.peek.ensures.looks) w.in-None.is
     ]
