@@ -9,6 +9,7 @@ mod MapEntries
 mod MapSteps
 mod OptionReading
 mod PickedNames
+mod MarkedNames
 mod RecordFaults
 mod RecordFields
 mod RecordSteps

@@ -67,7 +67,7 @@ apart_at name [] i d lt none same = absurd (omega (arith, lt))
 apart_at name (x ∷ xs) zero d lt none same = none.0 (sym same)
 apart_at name (x ∷ xs) (suc i) d lt none same = apart_at name xs i d (omega (arith, lt)) none.1 same
 
-unlike : (x y : List ℕ) → (x ≡ y → ⊥) → bytes_eq x y ≡ false
+pub unlike : (x y : List ℕ) → (x ≡ y → ⊥) → bytes_eq x y ≡ false
 unlike x y n = by_test (bytes_eq x y) refl
   where
     by_test : (t : Bool) → bytes_eq x y ≡ t → t ≡ false

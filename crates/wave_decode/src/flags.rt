@@ -1,7 +1,7 @@
 //! Flags, read at their types.
-ghost use Rattle.std.specs.Prelude.{ℕ, List, ◌≡◌, IfOk, IfErr};
+ghost use Rattle.std.specs.Prelude.{ℕ, List, ◌≡◌, ◌≢◌, ◌≤◌, ◌<◌, IfOk, IfErr, IfSome, IfNone, Some, length, map, slice_get};
 ghost use Rattle.wave_wasm.specs.Types.{kind_of};
-ghost use Rattle.wave_wasm.specs.Names.{AreAllOf, AreDistinct, found_in};
+ghost use Rattle.wave_wasm.specs.Names.{AreAllOf, AreDistinct, IsNoneOf, found_in, is_one_of};
 ghost use Rattle.wave_wasm.specs.Borrowed.{texts};
 ghost use Rattle.wave_wasm.specs.ValueErrors.{unknown_case};
 ghost use Rattle.wave_syntax.specs.NodeTree.{NodeTree, node, no_nodes, children_of};
@@ -16,6 +16,10 @@ use std::collections::BTreeMap;
 use wave_lex::error::{ParserError, ParserErrorKind};
 use wave_lex::lex::Span;
 use wave_wasm::wasm::{WasmType, WasmTypeKind, WasmValue, WasmValueError};
+
+/// Up to this many flags are looked for among the type's names. Past that, taking them from a map costs
+/// less.
+const FEW: usize = 32;
 
 /// The value of the flags that stand here. A flag that the type doesn't name is `UnknownCase`.
 pub(crate) fn read_flags<V: WasmValue>(
@@ -65,6 +69,86 @@ fn read_names<V: WasmValue>(
 
 /// Those of the type's names that flags have, in the type's order; each flag has one of the names.
 fn picked<'name>(
+    alloc: Global,
+    names: &Vec<&'name str>,
+    flags: BTreeMap<&str, Span>,
+) -> Result<Vec<&'name str>, Fault>
+    ensures known { IfOk result (λ _. AreAllOf (texts names.now.items) (flag_names flags.entry)) }
+    ensures picked { IfOk result (λ picked. AreDistinct (texts names.now.items)
+        → texts picked.items ≡ found_in (flag_names flags.entry) (texts names.now.items)) }
+    ensures refused { IfErr result (TellsUnknown (texts names.now.items) (flag_names flags.entry)) }
+{
+    if flags.len() > FEW {
+        return taken(alloc, names, flags);
+    }
+    let marks = marked(alloc, names, &flags)?;
+    let mut picked = match Vec::with_capacity(alloc, flags.len()) {
+        Ok(picked) => picked,
+        Err(_) => return Err(Fault::Kind(ParserErrorKind::OutOfMemory)),
+    };
+    for i in 0..names.len() {
+        if marks[i] && picked.push(names[i]).is_err() {
+            return Err(Fault::Kind(ParserErrorKind::OutOfMemory));
+        }
+    }
+    Ok(picked)
+}
+
+/// For each of the type's names whether a flag has it; each flag has one of the names.
+fn marked(
+    alloc: Global,
+    names: &Vec<&str>,
+    flags: &BTreeMap<&str, Span>,
+) -> Result<Vec<bool>, Fault>
+    ensures known { IfOk result (λ _. AreAllOf (texts names.now.items) (flag_names flags.now)) }
+    ensures len { IfOk result (λ marks. length marks.items ≡ length names.now.items) }
+    ensures marked { IfOk result (λ marks. AreDistinct (texts names.now.items)
+        → marks.items ≡ map (is_one_of (flag_names flags.now)) (texts names.now.items)) }
+    ensures refused { IfErr result (TellsUnknown (texts names.now.items) (flag_names flags.now)) }
+{
+    let mut marks = match vec![in alloc; false; names.len()] {
+        Ok(marks) => marks,
+        Err(_) => return Err(Fault::Kind(ParserErrorKind::OutOfMemory)),
+    };
+    let mut behind = 0;
+    for name in flags.keys() {
+        let Some(place) = place_from(names, behind, *name) else {
+            return Err(unknown(alloc, *name));
+        };
+        marks[place] = true;
+        behind = place + 1;
+    }
+    Ok(marks)
+}
+
+/// A place where the name stands: the first from this place on, or else the first.
+fn place_from(names: &Vec<&str>, from: usize, name: &str) -> Option<usize>
+    requires { from ≤ length names.now.items }
+    ensures stands { IfSome result (λ place. slice_get (texts names.now.items) place ≡ Some name.now) }
+    ensures absent { IfNone result (IsNoneOf (texts names.now.items) name.now) }
+{
+    match place_within(names, from, names.len(), name) {
+        Some(place) => Some(place),
+        None => place_within(names, 0, from, name),
+    }
+}
+
+/// The first place from one to another where the name stands.
+fn place_within(names: &Vec<&str>, from: usize, to: usize, name: &str) -> Option<usize>
+    requires { to ≤ length names.now.items }
+    ensures stands { IfSome result (λ place. slice_get (texts names.now.items) place ≡ Some name.now) }
+    ensures absent { IfNone result ((place : ℕ) → from ≤ place → place < to → slice_get (texts names.now.items) place ≢ Some name.now) }
+{
+    for place in from..to {
+        if names[place] == name {
+            return Some(place);
+        }
+    }
+    None
+}
+
+/// What `picked` answers, where the flags are taken from their map.
+fn taken<'name>(
     alloc: Global,
     names: &Vec<&'name str>,
     flags: BTreeMap<&str, Span>,

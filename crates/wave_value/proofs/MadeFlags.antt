@@ -122,6 +122,9 @@ not_marked m names marked name b h one is told = by (is_one_of names name) (is_o
     by true false there e t = none_of marked name e
     by false c there e t = absurd (cc)
 
+one_at : (xs : List (Bor (List ℕ))) (i : ℕ) (d : Bor (List ℕ)) → i < length xs → IsOneOf (texts xs) (get_or xs i d).now
+one_at xs i d lt = subst (IsOneOf (texts xs)) (get_or-map (λ (n : Bor (List ℕ)). n.now) xs i d [] lt) (one_of (texts xs) i (omega (arith, length-map xs (λ (n : Bor (List ℕ)). n.now), lt)))
+
 -- ---- the names that are marked
 
 all_push : (names ns : List (List ℕ)) (n : List ℕ) → AreAllOf names ns → IsOneOf names n → AreAllOf names (ns ++ n ∷ [])
@@ -147,7 +150,7 @@ refused names handed n _ one none says = absurd says
 pub name_refused : (m : BTreeMap (Bor (List ℕ)) Bool) (marked : List (List ℕ)) (xs : List (Bor (List ℕ))) (i : ℕ) (d : Bor (List ℕ)) (b : Bool) (e : WasmValueError) → i < length xs → MarksNames m (texts xs) marked
     → b ≡ unwrap_or (held m (get_or xs i d).now) false → b ≡ false → SaysCase (get_or xs i d).now e → RefusesNames marked (texts xs) e
 name_refused m marked xs i d b e lt marks is told says =
-    let among : IsOneOf (texts xs) (get_or xs i d).now = subst (IsOneOf (texts xs)) (get_or-map (λ (n : Bor (List ℕ)). n.now) xs i d [] lt) (one_of (texts xs) i (omega (arith, length-map xs (λ (n : Bor (List ℕ)). n.now), lt))) in
+    let among = one_at xs i d lt in
     refused marked (texts xs) (get_or xs i d).now e among (not_marked m (texts xs) marked (get_or xs i d).now b marks among is told) says
 
 -- ---- the places that are found
@@ -192,6 +195,18 @@ place_passed handed all i d b is lt found not_there h =
 -- all places, at the end of the loop
 pub places_end : (handed : List (List ℕ)) (all : List (Bor (List ℕ))) (i : ℕ) (is : List ℕ) → i ≤ length all → length all ≤ i → PlacesSoFar handed all i is → Grows 0 (length all) is × (map (name_at (texts all)) is ≡ found_in handed (texts all))
 places_end handed all i is below above h = (grows_wider 0 i (length all) is below h.0, h.1 ∙ ap (λ xs. found_in handed (texts xs)) (take_all i all above))
+
+-- the next of the names that are handed over stands at this place
+pub step_taken : (all handed : List (Bor (List ℕ))) (i k : ℕ) (d e : Bor (List ℕ)) (is : List ℕ) → i < length all → k < length handed → bytes_eq (get_or handed k e).now (get_or all i d).now ≡ true
+    → AreAllOf (texts all) (texts (take k handed)) → PlacesSoFar (texts handed) all i is
+    → AreAllOf (texts all) (texts (take (k + 1) handed)) × PlacesSoFar (texts handed) all (i + 1) (is ++ i ∷ [])
+step_taken all handed i k d e is here lt eq known places =
+    let same : (get_or handed k e).now ≡ (get_or all i d).now = (bytes_eq-Decides _ _).0 eq in
+    let name : IsOneOf (texts all) (get_or handed k e).now = subst (IsOneOf (texts all)) (sym same) (one_at all i d here) in
+    let found : is_one_of (texts handed) (get_or all i d).now ≡ true = passes (texts handed) (get_or all i d).now (subst (IsOneOf (texts handed)) same (one_at handed k e lt)) in (
+      subst (AreAllOf (texts all)) (sym (texts_more handed k e lt)) (all_push (texts all) (texts (take k handed)) (get_or handed k e).now known name),
+      place_found (texts handed) all i d true is here (sym found) refl places,
+    )
 
 -- ---- flags
 

@@ -1,6 +1,6 @@
 //! Makers of variants and flags, whose parts are found by name.
-ghost use Rattle.std.specs.Prelude.{◌≡◌, [], IfOk, IfErr, OnOk, length, map};
-ghost use Rattle.wave_wasm.specs.Names.{AreAllOf, found_in};
+ghost use Rattle.std.specs.Prelude.{◌≡◌, [], IfOk, IfErr, OnOk, IfSome, OnSome, length, map};
+ghost use Rattle.wave_wasm.specs.Names.{AreAllOf, found_in, is_one_of};
 ghost use Rattle.wave_wasm.specs.Types.{flags_names};
 ghost use Rattle.wave_wasm.specs.Borrowed.{texts};
 ghost use Rattle.wave_wasm.specs.Values as value;
@@ -18,6 +18,9 @@ use std::alloc::{AllocError, Global};
 use std::collections::BTreeMap;
 use wave_type::ty::places::{variant_case, variant_place};
 use wave_wasm::wasm::{WasmType, WasmTypeKind, WasmValueError};
+
+// Up to this many names are found by comparing. Past that, looking names up in a map costs less.
+const MOST_COMPARED: usize = 32;
 
 impl Value {
     // What `make_variant` answers, where a refusal shows values so.
@@ -72,6 +75,56 @@ impl Value {
 // The places of those of the first names that stand among the others. One of the others that is
 // none of the first is refused.
 fn places_of(alloc: Global, all: &[&str], names: &[&str]) -> Result<Vec<usize>, WasmValueError>
+    ensures known { OnOk result (AreAllOf (texts all.now) (texts names.now)) }
+    ensures grow { IfOk result (λ is. Grows 0 (length all.now) is.items) }
+    ensures found { IfOk result (λ is. map (name_at (texts all.now)) is.items ≡ found_in (texts names.now) (texts all.now)) }
+    ensures refused { IfErr result (RefusesNames (texts all.now) (texts names.now)) }
+{
+    if names.len() <= MOST_COMPARED {
+        if let Some(places) = places_in_turn(alloc, all, names)? {
+            return Ok(places);
+        }
+    }
+    marked_places(alloc, all, names)
+}
+
+// The places of the other names among the first, where they stand there in the same order and at
+// no further place. Else none.
+fn places_in_turn(
+    alloc: Global,
+    all: &[&str],
+    names: &[&str],
+) -> Result<Option<Vec<usize>>, AllocError>
+    ensures known { IfOk result (λ r. OnSome r (AreAllOf (texts all.now) (texts names.now))) }
+    ensures grow { IfOk result (λ r. IfSome r (λ is. Grows 0 (length all.now) is.items)) }
+    ensures found { IfOk result (λ r. IfSome r (λ is. map (name_at (texts all.now)) is.items ≡ found_in (texts names.now) (texts all.now))) }
+{
+    let mut places = Vec::with_capacity(alloc, names.len())?;
+    let mut next = 0;
+    for i in 0..all.len() {
+        let name = all[i];
+        if next < names.len() && names[next] == name {
+            places.push(i)?;
+            next += 1;
+        } else if is_among(names, name) {
+            return Ok(None);
+        }
+    }
+    if next < names.len() {
+        return Ok(None);
+    }
+    Ok(Some(places))
+}
+
+// Whether the name is one of the names.
+fn is_among(names: &[&str], name: &str) -> bool
+    ensures { result ≡ is_one_of (texts names.now) name.now }
+{
+    names.iter().any(|other| name == *other)
+}
+
+// What `places_of` answers, by a map of the other names.
+fn marked_places(alloc: Global, all: &[&str], names: &[&str]) -> Result<Vec<usize>, WasmValueError>
     ensures known { OnOk result (AreAllOf (texts all.now) (texts names.now)) }
     ensures grow { IfOk result (λ is. Grows 0 (length all.now) is.items) }
     ensures found { IfOk result (λ is. map (name_at (texts all.now)) is.items ≡ found_in (texts names.now) (texts all.now)) }

@@ -2,7 +2,7 @@ use Rattle.std.proofs.Common.{take}
 use Rattle.wave_wasm.specs.Borrowed.{texts}
 use Rattle.wave_value.specs.Private.CaseRules.{MarksNames}
 use Rattle.wave_value.proofs.MadeFlags.{PlacesSoFar}
-use Rattle.wave_value.proofs.value.made.cases.places_of.Given as goal
+use Rattle.wave_value.proofs.value.made.cases.marked_places.Given as goal
 
 abbrev pub invariant-loop-i : goal.invariant-loop-i
 invariant-loop-i l = record {

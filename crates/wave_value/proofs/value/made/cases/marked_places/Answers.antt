@@ -5,7 +5,7 @@ use Rattle.wave_wasm.specs.Names.{AreAllOf}
 use Rattle.wave_wasm.specs.Borrowed.{texts}
 use Rattle.wave_value.specs.CaseRules.{RefusesNames}
 use Rattle.wave_value.proofs.MadeFlags.{PlacesSoFar, marks_more, place_found, place_passed, places_end}
-use Rattle.wave_value.proofs.value.made.cases.places_of.Goals as goal
+use Rattle.wave_value.proofs.value.made.cases.marked_places.Goals as goal
 
 pub loop-i-preserved : goal.loop-i-preserved
 loop-i-preserved c =

@@ -1,0 +1,10 @@
+use Rattle.std.proofs.Common.{rules, tests, Bor, List, ℕ}
+use Rattle.std.specs.Str.{bytes_eq}
+use Rattle.std.proofs.lemmas.Iterator.{YieldsList-from_slice}
+use Rattle.std.proofs.lemmas.Iterator.Search.{any_from_yields_List}
+use Rattle.wave_type.proofs.Parts.{list_any-map}
+use Rattle.wave_value.proofs.value.made.cases.is_among.Goals as goal
+
+pub returns : goal.returns
+returns c =
+    rw (list_any-map (bytes_eq c.args.name.now) (λ (n : Bor (List ℕ)). n.now) c.args.names.now) (any_from_yields_List (λ (n : Bor (List ℕ)). bytes_eq c.args.name.now n.now) _ _ c.any.result c.any.ensures.ran (YieldsList-from_slice c.args.names.now (cc)) (λ x b q k. search (rules, tests)))
