@@ -1,7 +1,7 @@
 -- What the constructor of records makes of fields that are handed in as the type has them.
 use Rattle.std.proofs.Common.{ℕ, zero, suc, ◌≡◌, ◌≢◌, ◌<◌, ◌+◌, Bool, true, false, List, [], ◌∷◌, ◌++◌, map, length, take, get_or, refl, sym, ap, subst, ◌∙◌, arith, Option, Some, None, Bor, String, string_bytes}
 use Rattle.std.specs.Option.{option_or}
-use Rattle.std.specs.Prelude.{if◌then◌else◌, not}
+use Rattle.std.specs.Prelude.{if◌then◌else◌}
 use Rattle.std.specs.Bool.{OnFalse}
 use Rattle.std.specs.Str.{bytes_eq}
 use Rattle.std.specs.declared.alloc.Global.{Global}
@@ -30,13 +30,6 @@ use Rattle.wave_value.proofs.MadeRecord.{other_is}
 pub apart_from : (b : Bool) (m n : List ℕ) → b ≡ bytes_eq m n → b ≡ false → m ≢ n
 apart_from b m n is told e = false≢true (sym told ∙ (is ∙ (bytes_eq-Decides m n).1 e))
 
-pub same_from : (b : Bool) (m n : List ℕ) → b ≡ not (bytes_eq m n) → b ≡ false → m ≡ n
-same_from b m n is told = (bytes_eq-Decides m n).0 (by (bytes_eq m n) (sym is ∙ told))
-  where
-    by : (t : Bool) → not t ≡ false → t ≡ true
-    by true e = refl
-    by false e = absurd (cc)
-
 names_more : (xs : List (String Global × TypeTree)) (i : ℕ) (x : String Global × TypeTree) → i < length xs → x ≡ get_or xs i x → first_names (map by_bytes (take (i + 1) xs)) ≡ first_names (map by_bytes (take i xs)) ++ string_bytes x.0 ∷ []
 names_more xs i x lt is =
     ap (λ (ys : List (String Global × TypeTree)). first_names (map by_bytes ys)) (take_more xs i x lt ∙ ap (λ y. take i xs ++ y ∷ []) (sym is))
@@ -50,22 +43,14 @@ none_push (n ∷ names) name other h apart = (h.0, none_push names name other h.
 pub none_more : (xs : List (String Global × TypeTree)) (i : ℕ) (x : String Global × TypeTree) (n : List ℕ) → i < length xs → x ≡ get_or xs i x → n ≢ string_bytes x.0 → IsNoneOf (first_names (map by_bytes (take i xs))) n → IsNoneOf (first_names (map by_bytes (take (i + 1) xs))) n
 none_more xs i x n lt is apart h = subst (λ ns. IsNoneOf ns n) (sym (names_more xs i x lt is)) (none_push (first_names (map by_bytes (take i xs))) n (string_bytes x.0) h apart)
 
+-- one more name is none of those before it
+pub once_more : (xs : List (String Global × TypeTree)) (i : ℕ) (x : String Global × TypeTree) (n : List ℕ) (b : Bool) → i < length xs → x ≡ get_or xs i x → n ≡ string_bytes x.0 → b ≡ false → OnFalse b (IsNoneOf (first_names (map by_bytes (take i xs))) n)
+    → AreDistinct (first_names (map by_bytes (take i xs))) → AreDistinct (first_names (map by_bytes (take (i + 1) xs)))
+once_more xs i x n b lt is called new told h =
+    let none : IsNoneOf (first_names (map by_bytes (take i xs))) (string_bytes x.0) = subst (IsNoneOf (first_names (map by_bytes (take i xs)))) called (subst (λ b. OnFalse b (IsNoneOf (first_names (map by_bytes (take i xs))) n)) new told) in
+    subst AreDistinct (sym (names_more xs i x lt is)) (distinct_more (first_names (map by_bytes (take i xs))) (string_bytes x.0) h none)
+
 module _ {V : Type 0} where
-  given_more : (fs : List (Bor (List ℕ) × V)) (i : ℕ) (f : Bor (List ℕ) × V) → i < length fs → f ≡ get_or fs i f → first_names (named (take (i + 1) fs)) ≡ first_names (named (take i fs)) ++ f.0.now ∷ []
-  given_more fs i f lt is =
-      ap (λ (gs : List (Bor (List ℕ) × V)). first_names (named gs)) (take_more fs i f lt ∙ ap (λ g. take i fs ++ g ∷ []) (sym is))
-      ∙ (ap first_names (map-append (λ g. (g.0.now, g.1)) (take i fs) (f ∷ [])) ∙ map-append (λ p. p.0) (named (take i fs)) ((f.0.now, f.1) ∷ []))
-
-  -- one more field has the type's name, which is none of those before it
-  pub named_more : (xs : List (String Global × TypeTree)) (fs : List (Bor (List ℕ) × V)) (i : ℕ) (x : String Global × TypeTree) (f : Bor (List ℕ) × V) (n : List ℕ) (b : Bool) → i < length xs → i < length fs → x ≡ get_or xs i x → f ≡ get_or fs i f → n ≡ string_bytes x.0 → f.0.now ≡ n
-      → b ≡ false → OnFalse b (IsNoneOf (first_names (map by_bytes (take i xs))) n) → IsInTurn (map by_bytes (take i xs)) (named (take i fs)) → IsInTurn (map by_bytes (take (i + 1) xs)) (named (take (i + 1) fs))
-  named_more xs fs i x f n b ltx ltf isx isf called same new told h =
-      let none : IsNoneOf (first_names (map by_bytes (take i xs))) (string_bytes x.0) = subst (IsNoneOf (first_names (map by_bytes (take i xs)))) called (subst (λ b. OnFalse b (IsNoneOf (first_names (map by_bytes (take i xs))) n)) new told) in
-      record {
-        same = given_more fs i f ltf isf ∙ ((λ j. h.same j ++ (same ∙ called) j ∷ []) ∙ sym (names_more xs i x ltx isx));
-        distinct = subst AreDistinct (sym (names_more xs i x ltx isx)) (distinct_more (first_names (map by_bytes (take i xs))) (string_bytes x.0) h.distinct none);
-      }
-
   -- as many fields are handed in as the type has
   pub same_count : (xs : List (String Global × TypeTree)) (fs : List (Bor (List ℕ) × V)) → IsInTurn (map by_bytes xs) (named fs) → length xs ≡ length fs
   same_count xs fs h =

@@ -1,6 +1,6 @@
 //! Makers of values that have parts.
-ghost use Rattle.std.specs.Prelude.{◌≡◌, ◌≤◌, ℕ, List, map, length, take, vec_len, IfOk, IfErr, OnOk};
-ghost use Rattle.std.specs.Bool.{OnTrue, OnFalse};
+ghost use Rattle.std.specs.Prelude.{◌≡◌, ℕ, List, map, length, IfOk, IfErr, OnOk};
+ghost use Rattle.std.specs.Bool.{OnTrue};
 ghost use Rattle.wave_wasm.specs.Values as value;
 ghost use Rattle.wave_wasm.specs.Values.{values, maybe_value};
 ghost use Rattle.wave_wasm.specs.ConstructorContracts.{list_value, result_value, either_tree};
@@ -11,13 +11,13 @@ ghost use Rattle.wave_value.specs.ConstructorRules.{RefusesList, RefusesParts, R
 ghost use Rattle.wave_value.specs.CaseRules.{MadeMap, TakesMap, map_stated};
 ghost use Rattle.wave_value.specs.Private.ConstructorRules.{Tells, SaysLength};
 ghost use Rattle.wave_wasm.specs.Borrowed.{shown, named};
-ghost use Rattle.wave_wasm.specs.Names.{IsNoneOf};
 ghost use Rattle.wave_type.specs.TypeModel.{by_bytes};
 ghost use Rattle.wave_value.specs.Private.RecordConstructor.{held, InOrder, IsInTurn};
 ghost use Rattle.wave_value.specs.RecordConstructor.{last_under, TakesRecord, MadeRecord, RefusesRecord, RefusesFields};
 
 use super::refusals::{Amiss, ShowsValue, named, wrong_kind, wrong_type};
 use super::{Content, Type, Value};
+use names::are_distinct;
 use std::alloc::{AllocError, Global};
 use std::boxed::Box;
 use std::collections::BTreeMap;
@@ -25,10 +25,7 @@ use wave_type::ty::places::{enum_place, named_types, tuple_types};
 use wave_wasm::wasm::{WasmType, WasmTypeKind, WasmValueError};
 
 mod cases;
-
-// Up to this many fields each name is compared with each that stands before it. Past that, looking
-// names up in a map costs less.
-const MOST_COMPARED: usize = 16;
+mod names;
 
 impl Value {
     // Whether the value's own type is this one.
@@ -278,44 +275,38 @@ fn ordered<S: ShowsValue>(
     ensures refused { IfErr result
         (RefusesFields S.words (map by_bytes stated.now.items) (last_under (named fields.entry.items))) }
 {
-    if stand_in_order(stated, &fields) {
+    if stand_in_order(alloc, stated, &fields) {
         return in_turn::<S>(alloc, stated, fields);
     }
     let given = last_values(alloc, fields)?;
     in_order::<S>(alloc, stated, given)
 }
 
-// Whether the fields are few, have the type's names in its order, and no name stands twice.
-fn stand_in_order<V>(stated: &Vec<(String, Type)>, fields: &Vec<(&str, V)>) -> bool
+// Whether the fields have the type's names in its order, and no name stands twice.
+fn stand_in_order<V>(alloc: Global, stated: &Vec<(String, Type)>, fields: &Vec<(&str, V)>) -> bool
     ensures { OnTrue result (IsInTurn (map by_bytes stated.now.items) (named fields.now.items)) }
 {
+    if !have_names(stated, fields) {
+        return false;
+    }
+    are_distinct(alloc, stated)
+}
+
+// Whether the fields have the type's names in its order.
+fn have_names<V>(stated: &Vec<(String, Type)>, fields: &Vec<(&str, V)>) -> bool
+    ensures { OnTrue result
+        (first_names (named fields.now.items) ≡ first_names (map by_bytes stated.now.items)) }
+{
     let count = stated.len();
-    if count != fields.len() || count > MOST_COMPARED {
+    if count != fields.len() {
         return false;
     }
     for i in 0..count {
-        let name = stated[i].0.as_str();
-        if fields[i].0 != name {
-            return false;
-        }
-        if stands_before(stated, i, name) {
+        if fields[i].0 != stated[i].0.as_str() {
             return false;
         }
     }
     true
-}
-
-// Whether one of the first `count` fields has this name.
-fn stands_before(stated: &Vec<(String, Type)>, count: usize, name: &str) -> bool
-    requires { count ≤ vec_len stated.now }
-    ensures { OnFalse result (IsNoneOf (first_names (map by_bytes (take count stated.now.items))) name.now) }
-{
-    for i in 0..count {
-        if stated[i].0.as_str() == name {
-            return true;
-        }
-    }
-    false
 }
 
 // The values of fields that stand in the type's order. One of another type is refused.

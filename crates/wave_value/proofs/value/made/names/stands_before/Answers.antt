@@ -1,6 +1,6 @@
 use Rattle.std.proofs.Common.{arith, sym, ◌∙◌}
 use Rattle.wave_value.proofs.RecordInTurn.{apart_from, none_more}
-use Rattle.wave_value.proofs.value.made.stands_before.Goals as goal
+use Rattle.wave_value.proofs.value.made.names.stands_before.Goals as goal
 
 pub loop-i-preserved : goal.loop-i-preserved
 loop-i-preserved c =
