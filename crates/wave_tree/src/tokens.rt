@@ -1,5 +1,6 @@
 //! The tokens of a source, taken one by one, and what is made of them.
-ghost use Rattle.std.specs.Prelude.{◌≡◌, ◌≢◌, ◌↔◌, ℕ, ◌+◌, ◌-◌, ◌++◌, ◌≤◌, Some, None, Ok, Err, IfOk, IfErr, IsTrue, List, [], ◌∷◌};
+ghost use Rattle.std.specs.Prelude.{◌≡◌, ◌≢◌, ◌↔◌, ℕ, ◌+◌, ◌-◌, ◌++◌, ◌≤◌, List, [], ◌∷◌};
+ghost use Rattle.std.specs.Prelude.{Some, None, Ok, Err, IfOk, IfErr, IsTrue};
 ghost use Rattle.wave_lex.specs.declared.error.ParserErrorKind.TheVariants as kind;
 ghost use Rattle.std.specs.String.{string_bytes};
 ghost use Rattle.wave_lex.specs.Errors.{class_name, repeated_name};
@@ -367,7 +368,8 @@ impl<'source> Tokens<'source> {
         ensures within { IfErr result (λ e. LiesInText self.old.place.lexer.source e.span) }
         ensures caused { IfErr result (IsCausedBetween levels self.old.place self.new.place) }
         ensures memory { IfErr result (λ e. StaysWithout e self.old.place self.new.place) }
-        ensures spares { IsPlain (V.Type.tree ty.now) → BeginsRow self.old.place → HoldsNoBrace self.old.place → IfErr result (λ e. e.kind ≢ kind.OutOfMemory) }
+        ensures spares { IsPlain (V.Type.tree ty.now) → BeginsRow self.old.place → HoldsNoBrace self.old.place
+            → IfErr result (λ e. e.kind ≢ kind.OutOfMemory) }
         ensures asks { AsksFor self.old self.new }
     {
         let start = self.start_here();

@@ -3,7 +3,8 @@ use Rattle.std.specs.Prelude.{◌≡◌, ℕ, pos, negsuc, Bool, true, false, �
 use Rattle.std.proofs.Common.{sym, ap, ◌∙◌}
 use base.Stored.{Gv, gnil, gnum, gcons, num}
 use Rattle.wave_wasm.specs.Types.{Whole, s8, Simple, bool, whole, char, string, f32}
-use Rattle.wave_wasm.specs.TypeTreeEncoding.{simple_number, numbered_simple, simple_back, stored, stored_name, stored_names, unreadable_number, numbered_unreadable, unreadable_back}
+use Rattle.wave_wasm.specs.TypeTreeEncoding.{simple_number, numbered_simple, simple_back, stored, stored_name, stored_names}
+use Rattle.wave_wasm.specs.TypeTreeEncoding.{unreadable_number, numbered_unreadable, unreadable_back}
 use Rattle.wave_wasm.specs.Values as value
 use Rattle.wave_wasm.specs.Values.{Leaf, Value, MaybeValue, Values, FieldValues, Entries}
 use Rattle.wave_wasm.specs.Values.{no_value, a_value, no_values, value_and, no_fields, field, no_entries, entry}

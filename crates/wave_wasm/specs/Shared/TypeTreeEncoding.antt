@@ -6,7 +6,8 @@ use base.Stored.{Gv, gnil, gnum, gcons, num}
 use Rattle.wave_wasm.specs.Types.{unsupported, TypeTree, simple, unreadable, list, fixed}
 use Rattle.wave_wasm.specs.Types.{record_type, tuple, variant, enum, option, result, flags, map}
 use Rattle.wave_wasm.specs.Types.{MaybeType, no_type, a_type, Types, no_types, type_and, Fields, no_fields, field, Cases, no_cases, case_of}
-use Rattle.wave_wasm.specs.TypeTreeEncoding.{numbered_simple, simple_back, simple_number, stored, stored_name, stored_names, unreadable_number, numbered_unreadable, unreadable_back}
+use Rattle.wave_wasm.specs.TypeTreeEncoding.{numbered_simple, simple_back, simple_number, stored, stored_name, stored_names}
+use Rattle.wave_wasm.specs.TypeTreeEncoding.{unreadable_number, numbered_unreadable, unreadable_back}
 
 -- a type, stored
 abbrev mutual
