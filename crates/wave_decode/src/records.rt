@@ -15,7 +15,6 @@ ghost use Rattle.wave_decode.specs.PartSteps.{AddsKey, AddsPart, IsWholeOf};
 use crate::fault::Fault;
 use std::alloc::{AllocError, Global};
 use std::boxed::Box;
-use std::hash::{FoldHasher, Hasher};
 use wave_grammar::label::label_name;
 use wave_leaf::failure::Failure;
 use wave_lex::error::{ParserError, ParserErrorKind};
@@ -42,16 +41,13 @@ pub struct Fields<'ty, T, V> {
     behind: usize,
     /// The place and the type of the field whose key was taken.
     due: Option<(usize, &'ty T)>,
-    /// The places of the fields, each in the first free slot from the one of its name on, once a field
-    /// stood elsewhere than after the last one. Any place that is taken from it is looked at.
-    index: Option<Box<Vec<usize>>>,
+    /// The names of the fields with their places, sorted, once a field stood elsewhere than after the
+    /// last one. Any place that is taken from it is looked at.
+    index: Option<Box<Vec<(&'ty str, usize)>>>,
 }
 
 /// Up to this many fields are searched by their names without an index.
 const FEW: usize = 16;
-
-/// What a free slot of an index has for a place.
-const FREE: usize = usize::MAX;
 
 impl<'ty, T, V> Fields<'ty, T, V> {
     /// The place of the field of this name: as a rule it stands after the last one.
@@ -81,17 +77,9 @@ impl<'ty, T, V> Fields<'ty, T, V> {
     fn indexed(&self, name: &str) -> Option<usize>
         ensures { IfSome result (IsNamedAt self.now.fields.items name.now) }
     {
-        let slots = self.index.as_ref()?;
-        let mut slot = slot_of(name, slots.len());
-        for _ in 0..slots.len() {
-            let place = *slots.get(slot)?;
-            let found = self.here(place, name);
-            if found.is_some() || place == FREE {
-                return found;
-            }
-            slot = slot_after(slot, slots.len());
-        }
-        None
+        let index = self.index.as_ref()?;
+        let at = index.partition_point(|entry| entry.0 < name);
+        self.here(index.get(at)?.1, name)
     }
 
     /// Keeps an index, where the field at the place stands elsewhere than after the last one and the
@@ -233,41 +221,19 @@ impl<'ty, V: WasmValue> Fields<'ty, V::Type, V> {
     }
 }
 
-/// The places of the fields, each in the first free slot from the one of its name on, where there is
-/// memory for them. Half of the slots stay free, so that few names are compared with another one.
-fn index_of<T, V>(alloc: Global, fields: &Vec<Field<'_, T, V>>) -> Option<Box<Vec<usize>>> {
-    let count = fields.len().checked_mul(2)?.checked_next_power_of_two()?;
-    let mut slots = vec![in alloc; FREE; count].ok()?;
+/// The names of the fields with their places, sorted, where there is memory for them.
+fn index_of<'ty, T, V>(
+    alloc: Global,
+    fields: &Vec<Field<'ty, T, V>>,
+) -> Option<Box<Vec<(&'ty str, usize)>>> {
+    let mut index = Vec::with_capacity(alloc, fields.len()).ok()?;
     for i in 0..fields.len() {
-        take_slot(&mut slots, fields[i].name, i);
-    }
-    Box::new(alloc, slots).ok()
-}
-
-/// Puts the place into the first free slot from the one of the name on.
-fn take_slot(slots: &mut Vec<usize>, name: &str, place: usize) {
-    let mut slot = slot_of(name, slots.len());
-    for _ in 0..slots.len() {
-        if let Some(at) = slots.get_mut(slot) {
-            if *at == FREE {
-                *at = place;
-                return;
-            }
+        if index.push((fields[i].name, i)).is_err() {
+            return None;
         }
-        slot = slot_after(slot, slots.len());
     }
-}
-
-/// The slot of the name among as many, whose number is a power of two.
-fn slot_of(name: &str, count: usize) -> usize {
-    let mut hasher = FoldHasher::default();
-    hasher.write(name.as_bytes());
-    hasher.finish() as usize & count.wrapping_sub(1)
-}
-
-/// The slot after this one among as many, whose number is a power of two: the first after the last.
-fn slot_after(slot: usize, count: usize) -> usize {
-    slot.wrapping_add(1) & count.wrapping_sub(1)
+    index.sort_unstable();
+    Box::new(alloc, index).ok()
 }
 
 /// Keeps the value of the field at the place.
