@@ -15,7 +15,6 @@ ghost use Rattle.wave_decode.specs.PartSteps.{AddsKey, AddsPart, IsWholeOf};
 use crate::fault::Fault;
 use std::alloc::{AllocError, Global};
 use std::boxed::Box;
-use std::collections::BTreeMap;
 use wave_grammar::label::label_name;
 use wave_leaf::failure::Failure;
 use wave_lex::error::{ParserError, ParserErrorKind};
@@ -42,9 +41,9 @@ pub struct Fields<'ty, T, V> {
     behind: usize,
     /// The place and the type of the field whose key was taken.
     due: Option<(usize, &'ty T)>,
-    /// The places of the fields by their names, once a field stood elsewhere than after the last one. Any
-    /// place that is taken from it is looked at.
-    index: Option<Box<BTreeMap<&'ty str, usize>>>,
+    /// The names of the fields with their places, sorted, once a field stood elsewhere than after the
+    /// last one. Any place that is taken from it is looked at.
+    index: Option<Box<Vec<(&'ty str, usize)>>>,
 }
 
 /// Up to this many fields are searched by their names without an index.
@@ -79,7 +78,8 @@ impl<'ty, T, V> Fields<'ty, T, V> {
         ensures { IfSome result (IsNamedAt self.now.fields.items name.now) }
     {
         let index = self.index.as_ref()?;
-        self.here(*index.get(name)?, name)
+        let at = index.partition_point(|entry| entry.0 < name);
+        self.here(index.get(at)?.1, name)
     }
 
     /// Keeps an index, where the field at the place stands elsewhere than after the last one and the
@@ -222,17 +222,18 @@ impl<'ty, V: WasmValue> Fields<'ty, V::Type, V> {
     }
 }
 
-/// The places of the fields by their names, where there is memory for them.
+/// The names of the fields with their places, sorted, where there is memory for them.
 fn index_of<'ty, T, V>(
     alloc: Global,
     fields: &Vec<Field<'ty, T, V>>,
-) -> Option<Box<BTreeMap<&'ty str, usize>>> {
-    let mut index = BTreeMap::new(alloc);
+) -> Option<Box<Vec<(&'ty str, usize)>>> {
+    let mut index = Vec::with_capacity(alloc, fields.len()).ok()?;
     for i in 0..fields.len() {
-        if index.insert(fields[i].name, i).is_err() {
+        if index.push((fields[i].name, i)).is_err() {
             return None;
         }
     }
+    index.sort_unstable();
     Box::new(alloc, index).ok()
 }
 
