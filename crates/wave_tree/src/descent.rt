@@ -24,7 +24,6 @@ use crate::tokens::Tokens;
 use std::alloc::Global;
 use std::collections::BTreeMap;
 use wave_grammar::label::label_name;
-use wave_lex::error::ParserErrorKind;
 use wave_lex::lex::{Span, Token};
 use wave_syntax::builder::Builder;
 
@@ -44,7 +43,7 @@ impl<'source> Tokens<'source> {
         ensures asks { AsksFor self.old self.new }
     {
         if levels == 0 {
-            return Err(Refusal::new(ParserErrorKind::NestingTooDeep, self.span()));
+            return Err(self.too_deep());
         }
         let token = self.advance()?;
         match token {
@@ -204,7 +203,7 @@ impl<'source> Tokens<'source> {
         if self.next_is(close) {
             self.expect(close)?;
             if close == Token::ParenClose {
-                return Err(Refusal::new(ParserErrorKind::EmptyTuple, start..self.span().end));
+                return Err(self.empty_tuple(start));
             }
             let none = builder.parts(alloc, NodeType::List);
             return Ok(self.whole(alloc, builder, NodeType::List, start, none));

@@ -1,5 +1,5 @@
 //! The item that a parser looks at.
-ghost use Rattle.std.specs.Prelude.{◌≡◌, ◌↔◌, ◌+◌, IsTrue};
+ghost use Rattle.std.specs.Prelude.{◌≡◌, ◌↔◌, ◌+◌, IsTrue, if◌then◌else◌};
 ghost use Rattle.wave_lex.specs.Tokenization.{NextIs};
 ghost use Rattle.wave_tree.specs.declared.item.Item.TheVariants as kept;
 ghost use Rattle.wave_tree.specs.Private.ParserState.{item_at};
@@ -24,9 +24,18 @@ impl Item {
     {
         match lexer.next_ticked(asked) {
             Some(Ok(token)) => Item::Token(token),
-            Some(Err(_)) => Item::Invalid,
-            None => Item::End,
+            Some(Err(_)) => Item::without_token(false),
+            None => Item::without_token(true),
         }
+    }
+
+    /// The item where no token stands, which is seldom: hence no part of the code where one does.
+    #[cold]
+    #[inline(never)]
+    fn without_token(is_end: bool) -> Item
+        ensures { result ≡ (if is_end then kept.End else kept.Invalid) }
+    {
+        if is_end { Item::End } else { Item::Invalid }
     }
 
     /// Whether the item is a token of this class.

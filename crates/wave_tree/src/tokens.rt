@@ -172,6 +172,7 @@ impl<'source> Tokens<'source> {
     }
 
     /// Takes the next token.
+    #[inline(always)]
     pub(crate) fn advance(&mut self) -> Result<Token, Refusal>
         ensures takes { Advances result self.old.place self.new.place }
         ensures asks { asked_of self.new ≡ self.old.place.taken + 1 }
@@ -183,6 +184,7 @@ impl<'source> Tokens<'source> {
     }
 
     /// Takes the next token, which has to be of this class.
+    #[inline(always)]
     pub(crate) fn expect(&mut self, class: Token) -> Result<(), Refusal>
         ensures takes { Expects class result self.old.place self.new.place }
         ensures asks { asked_of self.new ≡ self.old.place.taken + 1 }
@@ -213,6 +215,24 @@ impl<'source> Tokens<'source> {
         ensures { Says result kind.UnexpectedToken (span_at self.now.place) (Some (class_name token)) }
     {
         Refusal::with_class(ParserErrorKind::UnexpectedToken, self.span(), token)
+    }
+
+    /// The refusal of a value that is too deep, where it is due.
+    #[cold]
+    #[inline(never)]
+    pub(crate) fn too_deep(&self) -> Refusal
+        ensures { Says result kind.NestingTooDeep (span_at self.now.place) None }
+    {
+        Refusal::new(ParserErrorKind::NestingTooDeep, self.span())
+    }
+
+    /// The refusal of an empty tuple, from `start` to the last token.
+    #[cold]
+    #[inline(never)]
+    pub(crate) fn empty_tuple(&self, start: usize) -> Refusal
+        ensures { Says result kind.EmptyTuple (span start self.now.place.lexer.end) None }
+    {
+        Refusal::new(ParserErrorKind::EmptyTuple, start..self.span().end)
     }
 
     /// The refusal of the label of this name, which was taken last.

@@ -133,10 +133,9 @@ parse_items-returns-in_err-expect-clause-led g t c = λ n s e. handed s _ _ c.fr
 pub parse_items-returns-then-eq-clause-led : goal.parse_items-returns-then-eq-clause-led
 parse_items-returns-then-eq-clause-led g t c = λ n s e.
     let first = ap (λ (z : Range ℕ). z.start) c.span-start.ensures ∙ sym (ap (λ (z : Place). z.lexer.start) c.next_is.ensures.stays) in
-    let last = ap (λ (z : Range ℕ). z.end) c.span.ensures in
-    empty_there (inl tt) c.new.result c.args.close (here_is n due.first_item (form_of c.args.close ∷ s) _ _ c.next_is.ensures.stays) c.in_ok-expect.ensures.takes
+    empty_there (inl tt) c.empty_tuple.result c.args.close (here_is n due.first_item (form_of c.args.close ∷ s) _ _ c.next_is.ensures.stays) c.in_ok-expect.ensures.takes
     (close_empty n c.args.close s (text_at c.expect.new.self.place) (is_class _ _ c.eq.ensures c.if-eq.true))
-    (record { is = c.new.ensures.is; stands = c.new.ensures.stands ∙ range_path first last; tells = c.new.ensures.tells })
+    (record { is = c.empty_tuple.ensures.is; stands = c.empty_tuple.ensures.stands ∙ range_path first refl; tells = c.empty_tuple.ensures.tells })
 
 pub parse_items-returns-then-next_is-clause-led : goal.parse_items-returns-then-next_is-clause-led
 parse_items-returns-then-next_is-clause-led g t c = λ n s e.
@@ -713,10 +712,10 @@ parse_braces-returns-in_err-key-clause-asks g t c =
     asks_token c.args.self.now c.advance.new.self c.next_is.new.self c.in_ok-token.token c.in_ok-token.ensures.takes c.advance.ensures.asks (asks_once c.advance.new.self c.next_is.new.self c.next_is.ensures.asks)
 
 pub parse_node-returns-then-levels-eq0-clause-led : goal.parse_node-returns-then-levels-eq0-clause-led
-parse_node-returns-then-levels-eq0-clause-led g t c = λ n s e. no_level n s c.args.self.now.place c.new.result (omega arith) (record { is = c.new.ensures.is; stands = c.new.ensures.stands ∙ c.span.ensures; tells = c.new.ensures.tells })
+parse_node-returns-then-levels-eq0-clause-led g t c = λ n s e. no_level n s c.args.self.now.place c.too_deep.result (omega arith) c.too_deep.ensures
 
 pub parse_node-returns-then-levels-eq0-clause-memory : goal.parse_node-returns-then-levels-eq0-clause-memory
-parse_node-returns-then-levels-eq0-clause-memory g t c = wants_other (g.P.Builder.takes_memory c.args.builder) c.args.self.now.place c.new.result because.NestingTooDeep (kind_is c.new.ensures) (λ z. cc)
+parse_node-returns-then-levels-eq0-clause-memory g t c = wants_other (g.P.Builder.takes_memory c.args.builder) c.args.self.now.place c.too_deep.result because.NestingTooDeep (kind_is c.too_deep.ensures) (λ z. cc)
 
 pub parse_node-returns-in_err-token-clause-memory : goal.parse_node-returns-in_err-token-clause-memory
 parse_node-returns-in_err-token-clause-memory g t c = error_handed (WantsOnly (g.P.Builder.takes_memory c.args.builder) c.args.self.now.place) c.from_residual.result c.in_err-token.field-0.0 c.from_residual.ensures.1 (wants_fails (g.P.Builder.takes_memory c.args.builder) c.args.self.now.place c.args.self.now.place c.advance.new.self.place (λ _. Unit {0}) c.in_err-token.field-0.0 c.in_err-token.ensures.takes)
@@ -778,7 +777,7 @@ pub parse_items-returns-in_err-expect-clause-memory : goal.parse_items-returns-i
 parse_items-returns-in_err-expect-clause-memory g t c = error_handed (WantsOnly (g.P.Builder.takes_memory c.args.builder) c.args.self.now.place) c.from_residual.result c.in_err-expect.field-0.0 c.from_residual.ensures.1 (wants_fails (g.P.Builder.takes_memory c.args.builder) c.args.self.now.place c.next_is.new.self.place c.expect.new.self.place (λ k. k ≡ c.args.close) c.in_err-expect.field-0.0 c.in_err-expect.ensures.takes)
 
 pub parse_items-returns-then-eq-clause-memory : goal.parse_items-returns-then-eq-clause-memory
-parse_items-returns-then-eq-clause-memory g t c = wants_other (g.P.Builder.takes_memory c.args.builder) c.args.self.now.place c.new.result because.EmptyTuple (kind_is c.new.ensures) (λ z. cc)
+parse_items-returns-then-eq-clause-memory g t c = wants_other (g.P.Builder.takes_memory c.args.builder) c.args.self.now.place c.empty_tuple.result because.EmptyTuple (kind_is c.empty_tuple.ensures) (λ z. cc)
 
 pub parse_items-returns-in_err-item-clause-memory : goal.parse_items-returns-in_err-item-clause-memory
 parse_items-returns-in_err-item-clause-memory g t c = error_handed (WantsOnly (g.P.Builder.takes_memory c.args.builder) c.args.self.now.place) c.from_residual-in_err-item.result c.in_err-item.field-0.0 c.from_residual-in_err-item.ensures.1
