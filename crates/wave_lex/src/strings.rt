@@ -1,5 +1,5 @@
 //! What the escapes of a string stand for, and the parts of a string, one by one.
-ghost use Rattle.std.specs.Prelude.{◌≡◌, ℕ, ◌+◌, ◌<◌, ◌≤◌, ◌^◌, ◌≢◌, [], length, slice_index, MatchResult, MatchOption};
+ghost use Rattle.std.specs.Prelude.{◌≡◌, ℕ, ◌+◌, ◌<◌, ◌≤◌, ◌^◌, ◌≢◌, nat_lt, [], length, slice_index, MatchResult, MatchOption};
 ghost use Rattle.std.specs.Iterator.{at_most};
 ghost use Rattle.std.specs.Char.{digit_value};
 ghost use Rattle.std.specs.Str.{IsUtf8};
@@ -264,6 +264,24 @@ pub fn unescape(src: &str) -> Option<(char, usize)>
     Some((scalar, count + 4))
 }
 
+/// Each hexadecimal digit at its own place, and a comma at every other.
+static HEXADECIMALS: [u8; 256] = *b"\
+    ,,,,,,,,,,,,,,,,,,,,,,,,,,,,,,,,\
+    ,,,,,,,,,,,,,,,,0123456789,,,,,,\
+    ,ABCDEF,,,,,,,,,,,,,,,,,,,,,,,,,\
+    ,abcdef,,,,,,,,,,,,,,,,,,,,,,,,,\
+    ,,,,,,,,,,,,,,,,,,,,,,,,,,,,,,,,\
+    ,,,,,,,,,,,,,,,,,,,,,,,,,,,,,,,,\
+    ,,,,,,,,,,,,,,,,,,,,,,,,,,,,,,,,\
+    ,,,,,,,,,,,,,,,,,,,,,,,,,,,,,,,,";
+
+/// The byte is a hexadecimal digit.
+fn is_hexadecimal(byte: u8) -> bool
+    ensures { result ≡ nat_lt (digit_value byte) 16 }
+{
+    HEXADECIMALS[byte as usize] != b','
+}
+
 /// How many hexadecimal digits stand at the start.
 pub(crate) fn hex_length(bytes: &[u8]) -> usize
     ensures within { result ≤ length bytes.now }
@@ -271,7 +289,7 @@ pub(crate) fn hex_length(bytes: &[u8]) -> usize
     ensures stops { result < length bytes.now → 16 ≤ digit_value (slice_index bytes.now result) }
 {
     for (i, byte) in bytes.iter().enumerate() {
-        if !byte.is_ascii_hexdigit() {
+        if !is_hexadecimal(*byte) {
             return i;
         }
     }
