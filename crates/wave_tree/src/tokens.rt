@@ -178,7 +178,7 @@ impl<'source> Tokens<'source> {
     {
         match self.take() {
             Item::Token(token) => Ok(token),
-            item => Err(self.refused(item)),
+            item => self.refuse_item(item),
         }
     }
 
@@ -190,8 +190,17 @@ impl<'source> Tokens<'source> {
     {
         match self.take() {
             Item::Token(token) if token == class => Ok(()),
-            item => Err(self.refused(item)),
+            item => self.refuse_item(item),
         }
+    }
+
+    /// Refuses this item, which was taken last.
+    #[inline(always)]
+    fn refuse_item<T>(&self, item: Item) -> Result<T, Refusal>
+        ensures never { IfOk result (λ _. ⊥) }
+        ensures refused { IfErr result (λ e. IsRefused e (item_at item self.now.place.lexer) self.now.place) }
+    {
+        Err(self.refused(item))
     }
 
     /// The refusal of this item, which was taken last.
