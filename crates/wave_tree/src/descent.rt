@@ -43,7 +43,7 @@ impl<'source> Tokens<'source> {
         ensures asks { AsksFor self.old self.new }
     {
         if levels == 0 {
-            return Err(self.too_deep());
+            return self.refuse_depth();
         }
         let token = self.advance()?;
         match token {
@@ -55,7 +55,7 @@ impl<'source> Tokens<'source> {
             Token::ParenOpen => self.parse_items(alloc, builder, levels - 1, Token::ParenClose),
             Token::BracketOpen => self.parse_items(alloc, builder, levels - 1, Token::BracketClose),
             Token::BraceOpen => self.parse_braces(alloc, builder, levels - 1),
-            _ => Err(self.unexpected(token)),
+            _ => self.refuse_token(token),
         }
     }
 

@@ -225,10 +225,28 @@ impl<'source> Tokens<'source> {
         Refusal::with_class(ParserErrorKind::UnexpectedToken, self.span(), token)
     }
 
+    /// Refuses the token of this class, which was taken last.
+    #[inline(always)]
+    pub(crate) fn refuse_token<T>(&self, token: Token) -> Result<T, Refusal>
+        ensures never { IfOk result (λ _. ⊥) }
+        ensures refused { IfErr result (λ e. Says e kind.UnexpectedToken (span_at self.now.place) (Some (class_name token))) }
+    {
+        Err(self.unexpected(token))
+    }
+
+    /// Refuses a value that is too deep, where it is due.
+    #[inline(always)]
+    pub(crate) fn refuse_depth<T>(&self) -> Result<T, Refusal>
+        ensures never { IfOk result (λ _. ⊥) }
+        ensures refused { IfErr result (λ e. Says e kind.NestingTooDeep (span_at self.now.place) None) }
+    {
+        Err(self.too_deep())
+    }
+
     /// The refusal of a value that is too deep, where it is due.
     #[cold]
     #[inline(never)]
-    pub(crate) fn too_deep(&self) -> Refusal
+    fn too_deep(&self) -> Refusal
         ensures { Says result kind.NestingTooDeep (span_at self.now.place) None }
     {
         Refusal::new(ParserErrorKind::NestingTooDeep, self.span())

@@ -25,7 +25,9 @@ use Rattle.wave_syntax.proofs.Parameters.{error_handed}
 use Rattle.wave_tree.specs.Private.ParserState.{WantsOnly}
 use Rattle.wave_tree.proofs.Wanting.{wants_reached, wants_less, answer_token, answer_brace, wants_other, wants_fails, wants_taken}
 use Rattle.wave_tree.proofs.PartsDue.{key_next, value_next, payload_due, payload_parts}
-use Rattle.wave_tree.proofs.Built.{built, leaf_built, whole_built, as_ok, of_front, of_part, wants_part, source_item, source_parsed, source_reached}
+use Rattle.wave_lex.specs.Errors.{Says, class_name}
+use Rattle.std.specs.Prelude.{None, IfErr}
+use Rattle.wave_tree.proofs.Built.{refused_as, built, leaf_built, whole_built, as_ok, of_front, of_part, wants_part, source_item, source_parsed, source_reached}
 use Rattle.wave_syntax.specs.NodeParts.{IsOfParts, TakesPart}
 use Rattle.wave_tree.specs.ParsedNodes.{IsBuilt, IsParsed}
 use Rattle.wave_tree.proofs.ClassTests.{is_class, is_other, differs, differs_not}
@@ -118,10 +120,13 @@ parse_payload-returns-clause-led g t c = λ n s e.
     read_there (then_behind item.due_there ParenClose (reached item) item.is_behind c.in_ok-expect.ensures.takes refl) (inl refl)
 
 pub parse_node-returns-in_default-clause-led : goal.parse_node-returns-in_default-clause-led
-parse_node-returns-in_default-clause-led g t c = λ n s e. unexpected_there (inl tt) c.unexpected.result c.in_ok-token.token (here n due.value s _) c.in_ok-token.ensures.takes
-    (level_open n s (token_of c.in_ok-token.token (text_at c.advance.new.self.place)) (omega arith) ∙
-    no_value s c.in_ok-token.token (text_at c.advance.new.self.place) c.in_default.not-ParenOpen c.in_default.not-BracketOpen c.in_default.not-BraceOpen c.in_default.not-Number c.in_default.not-LabelOrKeyword c.in_default.not-Char c.in_default.not-String c.in_default.not-MultilineString)
-    c.unexpected.ensures
+parse_node-returns-in_default-clause-led g t c = λ n s e.
+    let new = c.advance.new.self.place in
+    refused_as (λ x. Says x because.UnexpectedToken (span_at new) (Some (class_name c.in_ok-token.token))) (λ r. Gives r n due.value s c.args.self.now.place new s) c.refuse_token.result c.refuse_token.ensures.never c.refuse_token.ensures.refused
+    (λ x says. unexpected_there (inl tt) x c.in_ok-token.token (here n due.value s _) c.in_ok-token.ensures.takes
+    (level_open n s (token_of c.in_ok-token.token (text_at new)) (omega arith) ∙
+    no_value s c.in_ok-token.token (text_at new) c.in_default.not-ParenOpen c.in_default.not-BracketOpen c.in_default.not-BraceOpen c.in_default.not-Number c.in_default.not-LabelOrKeyword c.in_default.not-Char c.in_default.not-String c.in_default.not-MultilineString)
+    says)
 
 pub parse_node-returns-in-BraceOpen-clause-led : goal.parse_node-returns-in-BraceOpen-clause-led
 parse_node-returns-in-BraceOpen-clause-led g t c = λ n s e. gives_then s _ c.parse_braces.result (value_read n due.in_braces s s _ _ _ BraceOpen (omega arith) c.in_ok-token.ensures.takes c.in-BraceOpen.is refl) (c.parse_braces.ensures.led n s (omega arith))
@@ -712,10 +717,12 @@ parse_braces-returns-in_err-key-clause-asks g t c =
     asks_token c.args.self.now c.advance.new.self c.next_is.new.self c.in_ok-token.token c.in_ok-token.ensures.takes c.advance.ensures.asks (asks_once c.advance.new.self c.next_is.new.self c.next_is.ensures.asks)
 
 pub parse_node-returns-then-levels-eq0-clause-led : goal.parse_node-returns-then-levels-eq0-clause-led
-parse_node-returns-then-levels-eq0-clause-led g t c = λ n s e. no_level n s c.args.self.now.place c.too_deep.result (omega arith) c.too_deep.ensures
+parse_node-returns-then-levels-eq0-clause-led g t c = λ n s e. refused_as (λ x. Says x because.NestingTooDeep (span_at c.args.self.now.place) None) (λ r. Gives r n due.value s c.args.self.now.place c.args.self.now.place s) c.refuse_depth.result c.refuse_depth.ensures.never c.refuse_depth.ensures.refused
+    (λ x says. no_level n s c.args.self.now.place x (omega arith) says)
 
 pub parse_node-returns-then-levels-eq0-clause-memory : goal.parse_node-returns-then-levels-eq0-clause-memory
-parse_node-returns-then-levels-eq0-clause-memory g t c = wants_other (g.P.Builder.takes_memory c.args.builder) c.args.self.now.place c.too_deep.result because.NestingTooDeep (kind_is c.too_deep.ensures) (λ z. cc)
+parse_node-returns-then-levels-eq0-clause-memory g t c = refused_as (λ x. Says x because.NestingTooDeep (span_at c.args.self.now.place) None) (λ r. IfErr r (WantsOnly (g.P.Builder.takes_memory c.args.builder) c.args.self.now.place)) c.refuse_depth.result c.refuse_depth.ensures.never c.refuse_depth.ensures.refused
+    (λ x says. wants_other (g.P.Builder.takes_memory c.args.builder) c.args.self.now.place x because.NestingTooDeep (kind_is says) (λ z. cc))
 
 pub parse_node-returns-in_err-token-clause-memory : goal.parse_node-returns-in_err-token-clause-memory
 parse_node-returns-in_err-token-clause-memory g t c = error_handed (WantsOnly (g.P.Builder.takes_memory c.args.builder) c.args.self.now.place) c.from_residual.result c.in_err-token.field-0.0 c.from_residual.ensures.1 (wants_fails (g.P.Builder.takes_memory c.args.builder) c.args.self.now.place c.args.self.now.place c.advance.new.self.place (λ _. Unit {0}) c.in_err-token.field-0.0 c.in_err-token.ensures.takes)
@@ -733,7 +740,8 @@ pub parse_node-returns-in-BraceOpen-clause-memory : goal.parse_node-returns-in-B
 parse_node-returns-in-BraceOpen-clause-memory g t c = answer_brace (g.P.Builder.takes_memory c.args.builder) c.args.self.now.place c.advance.new.self.place c.parse_braces.result (class_as c.args.self.now.place c.advance.new.self.place c.in_ok-token.token BraceOpen c.in_ok-token.ensures.takes c.in-BraceOpen.is)
 
 pub parse_node-returns-in_default-clause-memory : goal.parse_node-returns-in_default-clause-memory
-parse_node-returns-in_default-clause-memory g t c = wants_other (g.P.Builder.takes_memory c.args.builder) c.args.self.now.place c.unexpected.result because.UnexpectedToken (kind_is c.unexpected.ensures) (λ z. cc)
+parse_node-returns-in_default-clause-memory g t c = refused_as (λ x. Says x because.UnexpectedToken (span_at c.advance.new.self.place) (Some (class_name c.in_ok-token.token))) (λ r. IfErr r (WantsOnly (g.P.Builder.takes_memory c.args.builder) c.args.self.now.place)) c.refuse_token.result c.refuse_token.ensures.never c.refuse_token.ensures.refused
+    (λ x says. wants_other (g.P.Builder.takes_memory c.args.builder) c.args.self.now.place x because.UnexpectedToken (kind_is says) (λ z. cc))
 
 pub parse_label-returns-in_err-expect-in-Some-clause-memory : goal.parse_label-returns-in_err-expect-in-Some-clause-memory
 parse_label-returns-in_err-expect-in-Some-clause-memory g t c = error_handed (WantsOnly (g.P.Builder.takes_memory c.args.builder) c.args.self.now.place) c.from_residual.result c.in_err-expect-in-Some.field-0.0 c.from_residual.ensures.1 (wants_fails (g.P.Builder.takes_memory c.args.builder) c.args.self.now.place c.args.self.now.place c.expect.new.self.place (λ k. k ≡ ParenOpen) c.in_err-expect-in-Some.field-0.0 c.in_err-expect-in-Some.ensures.takes)
