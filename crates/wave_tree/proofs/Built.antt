@@ -23,11 +23,6 @@ source_parsed n p q parsed h = let (c, one, e) = h.begins in tokens_source h.fir
 pub source_reached : {n : ℕ} {d e : Due} {s r : List Form} {p q : Place} → Reached n d s p e r q → q.lexer.source ≡ p.lexer.source
 source_reached {p = p} {q = q} h = tokens_source p q h.tokens h.taken
 
--- what is always an error of which something holds
-pub refused_as : {X E : Type 0} (P : E → Type 0) (Q : Result X E → Type 0) (r : Result X E) → IfOk r (λ _. ⊥) → IfErr r P → ((e : E) → P e → Q (Err e)) → Q r
-refused_as P Q (Ok x) never told answer = absurd never
-refused_as P Q (Err e) never told answer = answer e told
-
 -- what is made of a node is made of what the node is
 pub built : {M E : Type 0} (Of : List ℕ → NodeTree → M → Type 0) (p q : Place) (A B : NodeTree → Type 0) (r : Result M E) → q.lexer.source ≡ p.lexer.source → ((n : NodeTree) → A n → B n) → IfOk r (IsBuilt Of q A) → IfOk r (IsBuilt Of p B)
 built Of p q A B (Ok made) e f (n, a, of) = (n, f n a, subst (λ (s : List ℕ). Of s n made) e of)

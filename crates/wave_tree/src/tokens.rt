@@ -219,7 +219,7 @@ impl<'source> Tokens<'source> {
     /// The refusal of the token of this class, which was taken last.
     #[cold]
     #[inline(never)]
-    pub(crate) fn unexpected(&self, token: Token) -> Refusal
+    fn unexpected(&self, token: Token) -> Refusal
         ensures { Says result kind.UnexpectedToken (span_at self.now.place) (Some (class_name token)) }
     {
         Refusal::with_class(ParserErrorKind::UnexpectedToken, self.span(), token)
@@ -252,10 +252,19 @@ impl<'source> Tokens<'source> {
         Refusal::new(ParserErrorKind::NestingTooDeep, self.span())
     }
 
+    /// Refuses an empty tuple, from `start` to the last token.
+    #[inline(always)]
+    pub(crate) fn refuse_empty<T>(&self, start: usize) -> Result<T, Refusal>
+        ensures never { IfOk result (λ _. ⊥) }
+        ensures refused { IfErr result (λ e. Says e kind.EmptyTuple (span start self.now.place.lexer.end) None) }
+    {
+        Err(self.empty_tuple(start))
+    }
+
     /// The refusal of an empty tuple, from `start` to the last token.
     #[cold]
     #[inline(never)]
-    pub(crate) fn empty_tuple(&self, start: usize) -> Refusal
+    fn empty_tuple(&self, start: usize) -> Refusal
         ensures { Says result kind.EmptyTuple (span start self.now.place.lexer.end) None }
     {
         Refusal::new(ParserErrorKind::EmptyTuple, start..self.span().end)
