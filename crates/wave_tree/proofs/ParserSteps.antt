@@ -1,6 +1,6 @@
 -- How a parser goes on from token to token.
 use Rattle.std.proofs.Common.{ℕ, ◌≡◌, ◌≢◌, ◌<◌, ◌≤◌, ◌+◌, inl, inr, List, [], ◌∷◌, ◌++◌, length, Option, Some, None, Result, Ok, Err, Bool, true, false, refl, sym, ap, subst, ◌∙◌, arith}
-use Rattle.std.specs.Prelude.{◌⊎◌, nat_lt, if◌then◌else◌, IsErrAnd, IfErr}
+use Rattle.std.specs.Prelude.{◌⊎◌, nat_lt, if◌then◌else◌, IsErrAnd, IfOk, IfErr}
 use Rattle.std.specs.declared.ops.Range.{Range}
 use Rattle.wave_lex.specs.declared.lex.Token as lex
 use Rattle.wave_lex.specs.declared.lex.Token.TheVariants.{BraceOpen, BraceClose, ParenOpen, ParenClose, BracketOpen, BracketClose, Colon, Comma, Number, LabelOrKeyword, Char, String, MultilineString}
@@ -101,6 +101,11 @@ pub unexpected_there : {n : ℕ} {d e : Due} {s v : List Form} {p q w : Place} (
     Says x kind.UnexpectedToken (span_at w) (Some (class_name c)) → FailsBySyntax x n d s p w
 unexpected_there {n} {d} {e} {s} {v} {p} {q} {w} u x c h t f says = λ apart. refused_there u x h
     (subst (λ z. StandsAt z x n e v q w) (sym (kind_is says)) (c, (t, f), says))
+
+-- what is always a refusal, by what it says
+pub refuses_there : {X : Type 0} {P : Diagnostic → Type 0} {n : ℕ} {d : Due} {s : List Form} {p w : Place} (v : List Form) (r : Result X Diagnostic) → IfOk r (λ _. ⊥) → IfErr r P → ((x : Diagnostic) → P x → FailsBySyntax x n d s p w) → Gives r n d s p w v
+refuses_there v (Ok made) never says refuses = absurd never
+refuses_there v (Err x) never says refuses = refuses x says
 
 -- ---- after a value
 

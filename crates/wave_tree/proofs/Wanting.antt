@@ -42,6 +42,11 @@ module _ (Takes : Type 0) where
   pub wants_other : (p : Place) (e : Diagnostic) (k : ParserErrorKind) → e.kind ≡ k → k ≢ kind.OutOfMemory → WantsOnly Takes p e
   wants_other p e k is apart = λ memory none. absurd (apart (sym is ∙ memory))
 
+  -- what is always a refusal, by what it says
+  pub wants_refused : {M : Type 0} {P : Diagnostic → Type 0} (p : Place) (r : Result M Diagnostic) → IfErr r P → ((x : Diagnostic) → P x → WantsOnly Takes p x) → IfErr r (WantsOnly Takes p)
+  wants_refused p (Ok made) says wants = tt
+  wants_refused p (Err e) says wants = wants e says
+
   -- what stands next is none of the wanted tokens
   pub wants_fails : (p q r : Place) (Wanted : lex.Token → Type 0) (e : Diagnostic) → Fails Wanted e q r → WantsOnly Takes p e
   wants_fails p q r Wanted e (inl (bad, h, says)) = wants_other p e kind.InvalidToken (kind_is says) (λ z. cc)

@@ -43,7 +43,7 @@ impl<'source> Tokens<'source> {
         ensures asks { AsksFor self.old self.new }
     {
         if levels == 0 {
-            return Err(self.too_deep());
+            return self.refuse_depth();
         }
         let token = self.advance()?;
         match token {
@@ -55,7 +55,7 @@ impl<'source> Tokens<'source> {
             Token::ParenOpen => self.parse_items(alloc, builder, levels - 1, Token::ParenClose),
             Token::BracketOpen => self.parse_items(alloc, builder, levels - 1, Token::BracketClose),
             Token::BraceOpen => self.parse_braces(alloc, builder, levels - 1),
-            _ => Err(self.unexpected(token)),
+            _ => self.refuse_token(token),
         }
     }
 
@@ -203,7 +203,7 @@ impl<'source> Tokens<'source> {
         if self.next_is(close) {
             self.expect(close)?;
             if close == Token::ParenClose {
-                return Err(self.empty_tuple(start));
+                return self.refuse_empty(start);
             }
             let none = builder.parts(alloc, NodeType::List);
             return Ok(self.whole(alloc, builder, NodeType::List, start, none));
@@ -223,7 +223,7 @@ impl<'source> Tokens<'source> {
                 return Ok(self.whole(alloc, builder, ty, start, parts));
             }
             if token != Token::Comma {
-                return Err(self.unexpected(token));
+                return self.refuse_token(token);
             }
             if self.next_is(close) {
                 self.expect(close)?;
@@ -266,7 +266,7 @@ impl<'source> Tokens<'source> {
             return self.parse_flags(alloc, builder, start);
         }
         let Some(ty) = key_type(token) else {
-            return Err(self.unexpected(token));
+            return self.refuse_token(token);
         };
         let key = self.first_key(alloc, builder, ty)?;
         self.expect(Token::Colon)?;
@@ -316,14 +316,14 @@ impl<'source> Tokens<'source> {
                 return Ok(self.whole(alloc, builder, NodeType::TupleSet, start, parts));
             }
             if token != Token::Comma {
-                return Err(self.unexpected(token));
+                return self.refuse_token(token);
             }
             let next = self.advance()?;
             if next == Token::BraceClose {
                 return Ok(self.whole(alloc, builder, NodeType::TupleSet, start, parts));
             }
             let Some(ty) = key_type(next) else {
-                return Err(self.unexpected(next));
+                return self.refuse_token(next);
             };
             self.with_key(alloc, builder, &mut parts, ty)?;
             self.expect(Token::Colon)?;
@@ -353,14 +353,14 @@ impl<'source> Tokens<'source> {
                 return self.whole_flags(alloc, builder, start, flags);
             }
             if token != Token::Comma {
-                return Err(self.unexpected(token));
+                return self.refuse_token(token);
             }
             let next = self.advance()?;
             if next == Token::BraceClose {
                 return self.whole_flags(alloc, builder, start, flags);
             }
             if next != Token::LabelOrKeyword {
-                return Err(self.unexpected(next));
+                return self.refuse_token(next);
             }
             let name = label_name(self.slice());
             match flags.insert(name, self.span()) {

@@ -179,7 +179,7 @@ impl<'source> Tokens<'source> {
     {
         match self.take() {
             Item::Token(token) => Ok(token),
-            item => Err(self.refused(item)),
+            item => self.refuse_item(item),
         }
     }
 
@@ -191,8 +191,17 @@ impl<'source> Tokens<'source> {
     {
         match self.take() {
             Item::Token(token) if token == class => Ok(()),
-            item => Err(self.refused(item)),
+            item => self.refuse_item(item),
         }
+    }
+
+    /// Refuses this item, which was taken last.
+    #[inline(always)]
+    fn refuse_item<T>(&self, item: Item) -> Result<T, Refusal>
+        ensures never { IfOk result (λ _. ⊥) }
+        ensures refused { IfErr result (λ e. IsRefused e (item_at item self.now.place.lexer) self.now.place) }
+    {
+        Err(self.refused(item))
     }
 
     /// The refusal of this item, which was taken last.
@@ -211,25 +220,52 @@ impl<'source> Tokens<'source> {
     /// The refusal of the token of this class, which was taken last.
     #[cold]
     #[inline(never)]
-    pub(crate) fn unexpected(&self, token: Token) -> Refusal
+    fn unexpected(&self, token: Token) -> Refusal
         ensures { Says result kind.UnexpectedToken (span_at self.now.place) (Some (class_name token)) }
     {
         Refusal::with_class(ParserErrorKind::UnexpectedToken, self.span(), token)
     }
 
+    /// Refuses the token of this class, which was taken last.
+    #[inline(always)]
+    pub(crate) fn refuse_token<T>(&self, token: Token) -> Result<T, Refusal>
+        ensures never { IfOk result (λ _. ⊥) }
+        ensures refused { IfErr result (λ e. Says e kind.UnexpectedToken (span_at self.now.place) (Some (class_name token))) }
+    {
+        Err(self.unexpected(token))
+    }
+
+    /// Refuses a value that is too deep, where it is due.
+    #[inline(always)]
+    pub(crate) fn refuse_depth<T>(&self) -> Result<T, Refusal>
+        ensures never { IfOk result (λ _. ⊥) }
+        ensures refused { IfErr result (λ e. Says e kind.NestingTooDeep (span_at self.now.place) None) }
+    {
+        Err(self.too_deep())
+    }
+
     /// The refusal of a value that is too deep, where it is due.
     #[cold]
     #[inline(never)]
-    pub(crate) fn too_deep(&self) -> Refusal
+    fn too_deep(&self) -> Refusal
         ensures { Says result kind.NestingTooDeep (span_at self.now.place) None }
     {
         Refusal::new(ParserErrorKind::NestingTooDeep, self.span())
     }
 
+    /// Refuses an empty tuple, from `start` to the last token.
+    #[inline(always)]
+    pub(crate) fn refuse_empty<T>(&self, start: usize) -> Result<T, Refusal>
+        ensures never { IfOk result (λ _. ⊥) }
+        ensures refused { IfErr result (λ e. Says e kind.EmptyTuple (span start self.now.place.lexer.end) None) }
+    {
+        Err(self.empty_tuple(start))
+    }
+
     /// The refusal of an empty tuple, from `start` to the last token.
     #[cold]
     #[inline(never)]
-    pub(crate) fn empty_tuple(&self, start: usize) -> Refusal
+    fn empty_tuple(&self, start: usize) -> Refusal
         ensures { Says result kind.EmptyTuple (span start self.now.place.lexer.end) None }
     {
         Refusal::new(ParserErrorKind::EmptyTuple, start..self.span().end)

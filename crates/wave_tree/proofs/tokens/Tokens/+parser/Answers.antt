@@ -12,7 +12,7 @@ use Rattle.std.specs.declared.ops.Range.{Range}
 use Rattle.wave_grammar.specs.Shared.TokenRoles.{form_of, IsClose}
 use Rattle.wave_tree.specs.Private.ParserState.{spec_word}
 use Rattle.wave_lex.specs.declared.error.ParserErrorKind.TheVariants as because
-use Rattle.wave_tree.proofs.ParserSteps.{no_level, kind_is, here, here_is, handed, gives_then, fails, any_token, shallow, value_read, no_value, level_open, read_there, unexpected_there, no_paren, then_token, token_there, behind_bare, reached, fails_behind, then_behind, payload_other, unexpected_behind, expected, untrue, moved, then_class, then_behind_class, range_path, close_first, close_empty, close_next, then_same, then_refuses, item_refuses, item_read, then_reached, Reached, IsItemDue, no_close, empty_there, key_reads, no_key, brace_key, entries_other, close_behind, comma_behind, other_behind, token_less, tokens_less, left_at, no_colon, no_brace}
+use Rattle.wave_tree.proofs.ParserSteps.{no_level, refuses_there, kind_is, here, here_is, handed, gives_then, fails, any_token, shallow, value_read, no_value, level_open, read_there, unexpected_there, no_paren, then_token, token_there, behind_bare, reached, fails_behind, then_behind, payload_other, unexpected_behind, expected, untrue, moved, then_class, then_behind_class, range_path, close_first, close_empty, close_next, then_same, then_refuses, item_refuses, item_read, then_reached, Reached, IsItemDue, no_close, empty_there, key_reads, no_key, brace_key, entries_other, close_behind, comma_behind, other_behind, token_less, tokens_less, left_at, no_colon, no_brace}
 use Rattle.wave_tree.specs.declared.role.LabelRole.{LabelRole}
 use Rattle.wave_tree.specs.Private.ParserState.{Stream, AsksFor, HasText}
 use Rattle.wave_tree.specs.Private.ParsedNodes.{IsParsedBehind, IsMaybe, IsPayload, IsOfItems, IsOfEntries, IsOfFlags, items_type, label_children}
@@ -23,7 +23,7 @@ use Rattle.wave_tree.proofs.NodeCorrectness.Items.{class_as, one_tied, label_tie
 use Rattle.wave_tree.proofs.NodeCorrectness.Tokens.{number_parsed, char_parsed, string_parsed, multiline_parsed}
 use Rattle.wave_syntax.proofs.Parameters.{error_handed}
 use Rattle.wave_tree.specs.Private.ParserState.{WantsOnly}
-use Rattle.wave_tree.proofs.Wanting.{wants_reached, wants_less, answer_token, answer_brace, wants_other, wants_fails, wants_taken}
+use Rattle.wave_tree.proofs.Wanting.{wants_refused, wants_reached, wants_less, answer_token, answer_brace, wants_other, wants_fails, wants_taken}
 use Rattle.wave_tree.proofs.PartsDue.{key_next, value_next, payload_due, payload_parts}
 use Rattle.wave_tree.proofs.Built.{built, leaf_built, whole_built, as_ok, of_front, of_part, wants_part, source_item, source_parsed, source_reached}
 use Rattle.wave_syntax.specs.NodeParts.{IsOfParts, TakesPart}
@@ -118,10 +118,13 @@ parse_payload-returns-clause-led g t c = λ n s e.
     read_there (then_behind item.due_there ParenClose (reached item) item.is_behind c.in_ok-expect.ensures.takes refl) (inl refl)
 
 pub parse_node-returns-in_default-clause-led : goal.parse_node-returns-in_default-clause-led
-parse_node-returns-in_default-clause-led g t c = λ n s e. unexpected_there (inl tt) c.unexpected.result c.in_ok-token.token (here n due.value s _) c.in_ok-token.ensures.takes
-    (level_open n s (token_of c.in_ok-token.token (text_at c.advance.new.self.place)) (omega arith) ∙
-    no_value s c.in_ok-token.token (text_at c.advance.new.self.place) c.in_default.not-ParenOpen c.in_default.not-BracketOpen c.in_default.not-BraceOpen c.in_default.not-Number c.in_default.not-LabelOrKeyword c.in_default.not-Char c.in_default.not-String c.in_default.not-MultilineString)
-    c.unexpected.ensures
+parse_node-returns-in_default-clause-led g t c = λ n s e.
+    let new = c.advance.new.self.place in
+    refuses_there s c.refuse_token.result c.refuse_token.ensures.never c.refuse_token.ensures.refused
+    (λ x says. unexpected_there (inl tt) x c.in_ok-token.token (here n due.value s _) c.in_ok-token.ensures.takes
+    (level_open n s (token_of c.in_ok-token.token (text_at new)) (omega arith) ∙
+    no_value s c.in_ok-token.token (text_at new) c.in_default.not-ParenOpen c.in_default.not-BracketOpen c.in_default.not-BraceOpen c.in_default.not-Number c.in_default.not-LabelOrKeyword c.in_default.not-Char c.in_default.not-String c.in_default.not-MultilineString)
+    says)
 
 pub parse_node-returns-in-BraceOpen-clause-led : goal.parse_node-returns-in-BraceOpen-clause-led
 parse_node-returns-in-BraceOpen-clause-led g t c = λ n s e. gives_then s _ c.parse_braces.result (value_read n due.in_braces s s _ _ _ BraceOpen (omega arith) c.in_ok-token.ensures.takes c.in-BraceOpen.is refl) (c.parse_braces.ensures.led n s (omega arith))
@@ -133,9 +136,9 @@ parse_items-returns-in_err-expect-clause-led g t c = λ n s e. handed s _ _ c.fr
 pub parse_items-returns-then-eq-clause-led : goal.parse_items-returns-then-eq-clause-led
 parse_items-returns-then-eq-clause-led g t c = λ n s e.
     let first = ap (λ (z : Range ℕ). z.start) c.span-start.ensures ∙ sym (ap (λ (z : Place). z.lexer.start) c.next_is.ensures.stays) in
-    empty_there (inl tt) c.empty_tuple.result c.args.close (here_is n due.first_item (form_of c.args.close ∷ s) _ _ c.next_is.ensures.stays) c.in_ok-expect.ensures.takes
+    refuses_there s c.refuse_empty.result c.refuse_empty.ensures.never c.refuse_empty.ensures.refused (λ x says. empty_there (inl tt) x c.args.close (here_is n due.first_item (form_of c.args.close ∷ s) _ _ c.next_is.ensures.stays) c.in_ok-expect.ensures.takes
     (close_empty n c.args.close s (text_at c.expect.new.self.place) (is_class _ _ c.eq.ensures c.if-eq.true))
-    (record { is = c.empty_tuple.ensures.is; stands = c.empty_tuple.ensures.stands ∙ range_path first refl; tells = c.empty_tuple.ensures.tells })
+    (record { is = says.is; stands = says.stands ∙ range_path first refl; tells = says.tells }))
 
 pub parse_items-returns-then-next_is-clause-led : goal.parse_items-returns-then-next_is-clause-led
 parse_items-returns-then-next_is-clause-led g t c = λ n s e.
@@ -188,9 +191,9 @@ parse_items-returns-then-ne-clause-led g t c = λ n s e.
     let (d, i, r) = c.items.invariant.reached n s e in
     let item = c.in_ok-item.ensures.led n (form_of c.args.close ∷ s) (omega arith) in
     let behind = behind_item c.args.close c.requires c.items.invariant.no_close i r item in
-    unexpected_behind item.due_there c.unexpected.result c.in_ok-token.token behind item.is_behind c.in_ok-token.ensures.takes
+    refuses_there s c.refuse_token.result c.refuse_token.ensures.never c.refuse_token.ensures.refused (λ x says. unexpected_behind item.due_there x c.in_ok-token.token behind item.is_behind c.in_ok-token.ensures.takes
     (other_behind c.args.close c.in_ok-token.token s (text_at c.advance.new.self.place) c.requires (is_other _ _ c.eq-in-items.ensures c.if-eq-3.false) (differs _ _ c.ne.ensures c.if-ne.true))
-    c.unexpected.ensures
+    says)
 
 pub parse_items-returns-in_err-expect-2-clause-led : goal.parse_items-returns-in_err-expect-2-clause-led
 parse_items-returns-in_err-expect-2-clause-led g t c = λ n s e. handed s _ _ c.from_residual-in_err-expect-2.ensures.1
@@ -245,10 +248,10 @@ parse_braces-returns-then-eq-3-clause-led g t c = λ n s e.
     (subst (λ z. Gives c.parse_flags.result n (due.behind_word (text_at z)) s c.next_is.new.self.place c.parse_flags.new.self.place s) c.next_is.ensures.stays (c.parse_flags.ensures.led n s))
 
 pub parse_braces-returns-in_default-clause-led : goal.parse_braces-returns-in_default-clause-led
-parse_braces-returns-in_default-clause-led g t c = λ n s e. unexpected_there (inl tt) c.unexpected.result c.in_ok-token.token (here n due.in_braces s _) c.in_ok-token.ensures.takes
+parse_braces-returns-in_default-clause-led g t c = λ n s e. refuses_there s c.refuse_token.result c.refuse_token.ensures.never c.refuse_token.ensures.refused (λ x says. unexpected_there (inl tt) x c.in_ok-token.token (here n due.in_braces s _) c.in_ok-token.ensures.takes
     (brace_key c.in_ok-token.token s (text_at c.advance.new.self.place) (is_other _ _ c.eq-3.ensures c.if-eq-3.false) (is_other _ _ c.eq-2.ensures c.if-eq-2.false) ∙
     no_key c.in_ok-token.token s (text_at c.advance.new.self.place) c.in_default.ensures (is_other _ _ c.eq.ensures c.if-eq.false))
-    c.unexpected.ensures
+    says)
 
 pub parse_braces-returns-in_err-expect-3-clause-led : goal.parse_braces-returns-in_err-expect-3-clause-led
 parse_braces-returns-in_err-expect-3-clause-led g t c = λ n s e.
@@ -278,9 +281,9 @@ parse_entries-returns-then-eq-clause-led g t c = λ n s e.
 pub parse_entries-returns-then-ne-clause-led : goal.parse_entries-returns-then-ne-clause-led
 parse_entries-returns-then-ne-clause-led g t c = λ n s e.
     let item = c.in_ok-value.ensures.led n (due.entries ∷ s) (omega arith) in
-    unexpected_behind item.due_there c.unexpected.result c.in_ok-token.token (then_reached (c.entries.invariant.led n s e) (reached item)) item.is_behind c.in_ok-token.ensures.takes
+    refuses_there s c.refuse_token.result c.refuse_token.ensures.never c.refuse_token.ensures.refused (λ x says. unexpected_behind item.due_there x c.in_ok-token.token (then_reached (c.entries.invariant.led n s e) (reached item)) item.is_behind c.in_ok-token.ensures.takes
     (entries_other c.in_ok-token.token s (text_at c.advance.new.self.place) (is_other _ _ c.eq.ensures c.if-eq.false) (differs _ _ c.ne.ensures c.if-ne.true))
-    c.unexpected.ensures
+    says)
 
 pub parse_entries-returns-in_err-next-clause-led : goal.parse_entries-returns-in_err-next-clause-led
 parse_entries-returns-in_err-next-clause-led g t c = λ n s e.
@@ -298,9 +301,9 @@ pub parse_entries-returns-in_default-clause-led : goal.parse_entries-returns-in_
 parse_entries-returns-in_default-clause-led g t c = λ n s e.
     let item = c.in_ok-value.ensures.led n (due.entries ∷ s) (omega arith) in
     let due_key = key_due (c.entries.invariant.led n s e) item c.in_ok-token.ensures.takes (differs_not _ _ c.ne.ensures c.if-ne.false) in
-    unexpected_there (inl tt) c.unexpected-in_default.result c.in_ok-next.next due_key c.in_ok-next.ensures.takes
+    refuses_there s c.refuse_token-in_default.result c.refuse_token-in_default.ensures.never c.refuse_token-in_default.ensures.refused (λ x says. unexpected_there (inl tt) x c.in_ok-next.next due_key c.in_ok-next.ensures.takes
     (no_key c.in_ok-next.next s (text_at c.advance-in-entries.new.self.place) c.in_default.ensures (is_other _ _ c.eq-in-entries.ensures c.if-eq-2.false))
-    c.unexpected-in_default.ensures
+    says)
 
 pub parse_entries-returns-in_err-expect-clause-led : goal.parse_entries-returns-in_err-expect-clause-led
 parse_entries-returns-in_err-expect-clause-led g t c = λ n s e.
@@ -712,10 +715,12 @@ parse_braces-returns-in_err-key-clause-asks g t c =
     asks_token c.args.self.now c.advance.new.self c.next_is.new.self c.in_ok-token.token c.in_ok-token.ensures.takes c.advance.ensures.asks (asks_once c.advance.new.self c.next_is.new.self c.next_is.ensures.asks)
 
 pub parse_node-returns-then-levels-eq0-clause-led : goal.parse_node-returns-then-levels-eq0-clause-led
-parse_node-returns-then-levels-eq0-clause-led g t c = λ n s e. no_level n s c.args.self.now.place c.too_deep.result (omega arith) c.too_deep.ensures
+parse_node-returns-then-levels-eq0-clause-led g t c = λ n s e. refuses_there s c.refuse_depth.result c.refuse_depth.ensures.never c.refuse_depth.ensures.refused
+    (λ x says. no_level n s c.args.self.now.place x (omega arith) says)
 
 pub parse_node-returns-then-levels-eq0-clause-memory : goal.parse_node-returns-then-levels-eq0-clause-memory
-parse_node-returns-then-levels-eq0-clause-memory g t c = wants_other (g.P.Builder.takes_memory c.args.builder) c.args.self.now.place c.too_deep.result because.NestingTooDeep (kind_is c.too_deep.ensures) (λ z. cc)
+parse_node-returns-then-levels-eq0-clause-memory g t c = wants_refused (g.P.Builder.takes_memory c.args.builder) c.args.self.now.place c.refuse_depth.result c.refuse_depth.ensures.refused
+    (λ x says. wants_other (g.P.Builder.takes_memory c.args.builder) c.args.self.now.place x because.NestingTooDeep (kind_is says) (λ z. cc))
 
 pub parse_node-returns-in_err-token-clause-memory : goal.parse_node-returns-in_err-token-clause-memory
 parse_node-returns-in_err-token-clause-memory g t c = error_handed (WantsOnly (g.P.Builder.takes_memory c.args.builder) c.args.self.now.place) c.from_residual.result c.in_err-token.field-0.0 c.from_residual.ensures.1 (wants_fails (g.P.Builder.takes_memory c.args.builder) c.args.self.now.place c.args.self.now.place c.advance.new.self.place (λ _. Unit {0}) c.in_err-token.field-0.0 c.in_err-token.ensures.takes)
@@ -733,7 +738,8 @@ pub parse_node-returns-in-BraceOpen-clause-memory : goal.parse_node-returns-in-B
 parse_node-returns-in-BraceOpen-clause-memory g t c = answer_brace (g.P.Builder.takes_memory c.args.builder) c.args.self.now.place c.advance.new.self.place c.parse_braces.result (class_as c.args.self.now.place c.advance.new.self.place c.in_ok-token.token BraceOpen c.in_ok-token.ensures.takes c.in-BraceOpen.is)
 
 pub parse_node-returns-in_default-clause-memory : goal.parse_node-returns-in_default-clause-memory
-parse_node-returns-in_default-clause-memory g t c = wants_other (g.P.Builder.takes_memory c.args.builder) c.args.self.now.place c.unexpected.result because.UnexpectedToken (kind_is c.unexpected.ensures) (λ z. cc)
+parse_node-returns-in_default-clause-memory g t c = wants_refused (g.P.Builder.takes_memory c.args.builder) c.args.self.now.place c.refuse_token.result c.refuse_token.ensures.refused
+    (λ x says. wants_other (g.P.Builder.takes_memory c.args.builder) c.args.self.now.place x because.UnexpectedToken (kind_is says) (λ z. cc))
 
 pub parse_label-returns-in_err-expect-in-Some-clause-memory : goal.parse_label-returns-in_err-expect-in-Some-clause-memory
 parse_label-returns-in_err-expect-in-Some-clause-memory g t c = error_handed (WantsOnly (g.P.Builder.takes_memory c.args.builder) c.args.self.now.place) c.from_residual.result c.in_err-expect-in-Some.field-0.0 c.from_residual.ensures.1 (wants_fails (g.P.Builder.takes_memory c.args.builder) c.args.self.now.place c.args.self.now.place c.expect.new.self.place (λ k. k ≡ ParenOpen) c.in_err-expect-in-Some.field-0.0 c.in_err-expect-in-Some.ensures.takes)
@@ -777,7 +783,7 @@ pub parse_items-returns-in_err-expect-clause-memory : goal.parse_items-returns-i
 parse_items-returns-in_err-expect-clause-memory g t c = error_handed (WantsOnly (g.P.Builder.takes_memory c.args.builder) c.args.self.now.place) c.from_residual.result c.in_err-expect.field-0.0 c.from_residual.ensures.1 (wants_fails (g.P.Builder.takes_memory c.args.builder) c.args.self.now.place c.next_is.new.self.place c.expect.new.self.place (λ k. k ≡ c.args.close) c.in_err-expect.field-0.0 c.in_err-expect.ensures.takes)
 
 pub parse_items-returns-then-eq-clause-memory : goal.parse_items-returns-then-eq-clause-memory
-parse_items-returns-then-eq-clause-memory g t c = wants_other (g.P.Builder.takes_memory c.args.builder) c.args.self.now.place c.empty_tuple.result because.EmptyTuple (kind_is c.empty_tuple.ensures) (λ z. cc)
+parse_items-returns-then-eq-clause-memory g t c = wants_refused (g.P.Builder.takes_memory c.args.builder) c.args.self.now.place c.refuse_empty.result c.refuse_empty.ensures.refused (λ x says. wants_other (g.P.Builder.takes_memory c.args.builder) c.args.self.now.place x because.EmptyTuple (kind_is says) (λ z. cc))
 
 pub parse_items-returns-in_err-item-clause-memory : goal.parse_items-returns-in_err-item-clause-memory
 parse_items-returns-in_err-item-clause-memory g t c = error_handed (WantsOnly (g.P.Builder.takes_memory c.args.builder) c.args.self.now.place) c.from_residual-in_err-item.result c.in_err-item.field-0.0 c.from_residual-in_err-item.ensures.1
@@ -795,7 +801,7 @@ pub parse_items-returns-in_err-token-clause-memory : goal.parse_items-returns-in
 parse_items-returns-in_err-token-clause-memory g t c = error_handed (WantsOnly (g.P.Builder.takes_memory c.args.builder) c.args.self.now.place) c.from_residual-in_err-token.result c.in_err-token.field-0.0 c.from_residual-in_err-token.ensures.1 (wants_fails (g.P.Builder.takes_memory c.args.builder) c.args.self.now.place c.parse_node.new.self.place c.advance.new.self.place (λ _. Unit {0}) c.in_err-token.field-0.0 c.in_err-token.ensures.takes)
 
 pub parse_items-returns-then-ne-clause-memory : goal.parse_items-returns-then-ne-clause-memory
-parse_items-returns-then-ne-clause-memory g t c = wants_other (g.P.Builder.takes_memory c.args.builder) c.args.self.now.place c.unexpected.result because.UnexpectedToken (kind_is c.unexpected.ensures) (λ z. cc)
+parse_items-returns-then-ne-clause-memory g t c = wants_refused (g.P.Builder.takes_memory c.args.builder) c.args.self.now.place c.refuse_token.result c.refuse_token.ensures.refused (λ x says. wants_other (g.P.Builder.takes_memory c.args.builder) c.args.self.now.place x because.UnexpectedToken (kind_is says) (λ z. cc))
 
 pub parse_items-returns-in_err-expect-2-clause-memory : goal.parse_items-returns-in_err-expect-2-clause-memory
 parse_items-returns-in_err-expect-2-clause-memory g t c = error_handed (WantsOnly (g.P.Builder.takes_memory c.args.builder) c.args.self.now.place) c.from_residual-in_err-expect-2.result c.in_err-expect-2.field-0.0 c.from_residual-in_err-expect-2.ensures.1 (wants_fails (g.P.Builder.takes_memory c.args.builder) c.args.self.now.place c.next_is-in-items.new.self.place c.expect-then-next_is-2.new.self.place (λ k. k ≡ c.args.close) c.in_err-expect-2.field-0.0 c.in_err-expect-2.ensures.takes)

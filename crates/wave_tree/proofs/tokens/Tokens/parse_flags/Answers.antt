@@ -6,7 +6,7 @@ use Rattle.wave_grammar.specs.ParserPosition.{Place, TakesItem, span_at, text_at
 use Rattle.wave_grammar.specs.LeafTokens.{name_of}
 use Rattle.wave_grammar.specs.PrefixAutomaton.{Due, Form, due_behind, reads, behind_step, step, key_step, brace_step, behind_flag_step, flag_step}
 use Rattle.wave_grammar.specs.PrefixAutomaton as due
-use Rattle.wave_tree.proofs.ParserSteps.{here, handed, fails, any_token, read_there, unexpected_there, then_class, then_same, Reached, repeated_there, gives_read, flags_other, no_flag, IsFlagDue, flag_same, flag_not_deep, flag_within, token_less}
+use Rattle.wave_tree.proofs.ParserSteps.{here, refuses_there, handed, fails, any_token, read_there, unexpected_there, then_class, then_same, Reached, repeated_there, gives_read, flags_other, no_flag, IsFlagDue, flag_same, flag_not_deep, flag_within, token_less}
 use Rattle.std.specs.Prelude.{if◌then◌else◌}
 use Rattle.std.specs.Option.{is_some}
 use Rattle.wave_wasm.specs.Names.{is_one_of}
@@ -63,10 +63,10 @@ returns-then-eq-clause-led g c = λ n s.
 pub returns-then-ne-clause-led : goal.returns-then-ne-clause-led
 returns-then-ne-clause-led g c = λ n s.
     let (d, i, r) = c.flags.invariant.0.led n s in
-    unexpected_there (inl (flag_within d _ _ i)) c.unexpected.result c.in_ok-token.token r c.in_ok-token.ensures.takes
+    refuses_there s c.refuse_token.result c.refuse_token.ensures.never c.refuse_token.ensures.refused (λ x says. unexpected_there (inl (flag_within d _ _ i)) x c.in_ok-token.token r c.in_ok-token.ensures.takes
     (flag_same n d _ s _ _ c.in_ok-token.token i c.in_ok-token.ensures.takes ∙
     flags_other _ c.in_ok-token.token s (text_at c.advance.new.self.place) (is_other _ _ c.eq.ensures c.if-eq.false) (differs _ _ c.ne.ensures c.if-ne.true))
-    c.unexpected.ensures
+    says)
 
 pub returns-in_err-next-clause-led : goal.returns-in_err-next-clause-led
 returns-in_err-next-clause-led g c = λ n s.
@@ -84,9 +84,9 @@ pub returns-then-ne-2-clause-led : goal.returns-then-ne-2-clause-led
 returns-then-ne-2-clause-led g c = λ n s.
     let (d, i, r) = c.flags.invariant.0.led n s in
     let comma = due_flag (map flag_name (flag_at c.args.self.now.place ∷ c.flags.invariant.0.more)) d c.in_ok-token.token i r c.in_ok-token.ensures.takes (differs_not _ _ c.ne.ensures c.if-ne.false) in
-    unexpected_there (inl tt) c.unexpected-then-ne-2.result c.in_ok-next.next comma c.in_ok-next.ensures.takes
+    refuses_there s c.refuse_token-then-ne-2.result c.refuse_token-then-ne-2.ensures.never c.refuse_token-then-ne-2.ensures.refused (λ x says. unexpected_there (inl tt) x c.in_ok-next.next comma c.in_ok-next.ensures.takes
     (no_flag (map flag_name (flag_at c.args.self.now.place ∷ c.flags.invariant.0.more)) c.in_ok-next.next s (text_at c.advance-in-flags.new.self.place) (is_other _ _ c.eq-in-flags.ensures c.if-eq-2.false) (differs _ _ c.ne-in-flags.ensures c.if-ne-2.true))
-    c.unexpected-then-ne-2.ensures
+    says)
 
 pub returns-in-Ok-Some-clause-led : goal.returns-in-Ok-Some-clause-led
 returns-in-Ok-Some-clause-led g c = λ n s.
