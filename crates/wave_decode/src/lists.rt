@@ -75,7 +75,8 @@ impl<'ty, V: WasmValue> Items<'ty, V::Type, V> {
         }
         match made {
             Ok(item) => {
-                self.items.push(item)?;
+                self.items.reserve(1)?;
+                self.items.push_reserved(item);
                 Ok(())
             }
             Err(failure) => {

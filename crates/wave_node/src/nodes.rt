@@ -53,12 +53,14 @@ impl Builder for Nodes {
         span: Span,
         text: &str,
     ) -> Result<(), AllocError> {
-        parts.push(make::leaf(alloc, ty, span))?;
+        parts.reserve(1)?;
+        parts.push_reserved(make::leaf(alloc, ty, span));
         Ok(())
     }
 
     fn with_part(self, alloc: Global, parts: &mut Vec<Node>, made: Node) -> Result<(), AllocError> {
-        parts.push(made)?;
+        parts.reserve(1)?;
+        parts.push_reserved(made);
         Ok(())
     }
 

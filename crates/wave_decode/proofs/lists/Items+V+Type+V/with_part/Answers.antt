@@ -1,4 +1,4 @@
-use Rattle.std.proofs.Common.{sym, subst}
+use Rattle.std.proofs.Common.{sym, subst, ap, ◌∙◌, ◌++◌, ◌∷◌, []}
 use Rattle.wave_wasm.specs.Borrowed.{shown}
 use Rattle.wave_leaf.specs.Reading.{IsReadWhereDue}
 use Rattle.wave_decode.specs.ListParts.{element_due}
@@ -13,13 +13,13 @@ returns-then-is_some g c = λ T source children n takes a due. record {
   read = held_still g.V.WasmValue.tree g.V.WasmValue.is_of g.V.WasmValue.is_full (g.V.Type.WasmType.tree c.args.self.now.element.now) source children c.args.self.now.items.items c.args.self.now.held n (sym c.if-is_some.ensures) a.read;
 }
 
-pub returns-in_ok-push-in-Ok : goal.returns-in_ok-push-in-Ok
-returns-in_ok-push-in-Ok g c = λ T source children n takes a due. record {
+pub returns-in_ok-reserve-in-Ok : goal.returns-in_ok-reserve-in-Ok
+returns-in_ok-reserve-in-Ok g c = λ T source children n takes a due. record {
   is = a.is;
   element = a.element;
   count = one_more children n c.args.self.now.count c.in-Some.count a.count c.in-Some.ensures.1;
-  read = item_kept g.V.WasmValue.tree g.V.WasmValue.is_of g.V.WasmValue.is_full g.V.Type.WasmType.tree c.args.self.now.element source children c.args.self.now.items.items c.push.new.self.items c.args.self.now.held n c.in-Ok.item (sym c.if-is_some.ensures) a.read
-      (subst (IsReadWhereDue g.V.WasmValue.tree g.V.WasmValue.is_of g.V.WasmValue.is_full (shown g.V.Type.WasmType.tree (element_due c.args.self.now)) source n) c.in-Ok.is due) c.in_ok-push-in-Ok.ensures.items;
+  read = item_kept g.V.WasmValue.tree g.V.WasmValue.is_of g.V.WasmValue.is_full g.V.Type.WasmType.tree c.args.self.now.element source children c.args.self.now.items.items c.push_reserved.new.self.items c.args.self.now.held n c.in-Ok.item (sym c.if-is_some.ensures) a.read
+      (subst (IsReadWhereDue g.V.WasmValue.tree g.V.WasmValue.is_of g.V.WasmValue.is_full (shown g.V.Type.WasmType.tree (element_due c.args.self.now)) source n) c.in-Ok.is due) (c.push_reserved.ensures.items ∙ ap (λ xs. xs ++ c.in-Ok.item ∷ []) c.reserve.ensures.items);
 }
 
 pub returns-in-Err : goal.returns-in-Err
