@@ -30,6 +30,11 @@ pub mod make;
 #[derive(Debug, Drop)]
 pub struct Node {
     ty: NodeType,
+    /// These three are zero. They fill the word that the type begins, since padding is copied by moves
+    /// that overlap, and a processor waits for these.
+    fill: u8,
+    fill_of_two: u16,
+    fill_of_four: u32,
     span: Span,
     children: Vec<Node>,
 }

@@ -12,18 +12,21 @@ use wave_lex::lex::Span;
 pub fn leaf(alloc: Global, ty: NodeType, span: Span) -> Node
     ensures { result ≡ node ty span (node_trees []) }
 {
-    Node {
-        ty,
-        span,
-        children: Vec::new(alloc),
-    }
+    node(ty, span, Vec::new(alloc))
 }
 
 /// A node of these children.
 pub fn node(ty: NodeType, span: Span, children: Vec<Node>) -> Node
     ensures { result ≡ node ty span (node_trees children.items) }
 {
-    Node { ty, span, children }
+    Node {
+        ty,
+        fill: 0,
+        fill_of_two: 0,
+        fill_of_four: 0,
+        span,
+        children,
+    }
 }
 
 /// The nodes within the node.
