@@ -1,17 +1,20 @@
 -- What the parts of a multiline string are together, and what a refusal among them says.
-use Rattle.std.proofs.Common.{◌≡◌, ℕ, ◌+◌, List, [], ◌∷◌, ◌++◌, ◌⊎◌, inl, inr, refl, sym, ap, subst, ◌∙◌, length, arith, Some, None, Ok, Err, append_assoc, length-append}
-use Rattle.std.specs.Prelude.{encode_utf8}
+use Rattle.std.proofs.Common.{◌≡◌, ◌≢◌, ℕ, ◌+◌, ◌≤◌, ◌<◌, suc, Bool, true, false, nat_eq, Option, Result, List, [], ◌∷◌, ◌++◌, ◌⊎◌, inl, inr, refl, sym, ap, subst, ◌∙◌, length, arith, Some, None, Ok, Err, append_assoc, length-append}
+use Rattle.std.specs.Prelude.{MatchResult, if◌then◌else◌, encode_utf8}
 use Rattle.std.proofs.lemmas.Str.{encode_ascii}
 use Rattle.std.proofs.lemmas.List.{append-nil}
 use Rattle.wave_lex.specs.Errors.{Diagnostic}
 use Rattle.wave_lex.specs.declared.strings.StringPart.{StringPart}
-use Rattle.wave_lex.specs.declared.strings.StringPart.TheVariants.{Char}
+use Rattle.wave_lex.specs.declared.strings.StringPart.TheVariants.{Run, Char}
 use Rattle.wave_lex.specs.Tokenization.{span}
 use Rattle.wave_lex.specs.Strings.{Decodes, IsBadEscapeAt}
-use Rattle.wave_lex.specs.Multiline.{LinesMean, in_lines, DecodesLines, LineFault, closing, opening, indentation, escape, BadLines, MultilineFault, fault_span}
-use Rattle.wave_lex.specs.Remaining.{Undecoded, LinesLeft, one_line}
-use Rattle.wave_lex.specs.Parts.{part_text, part_texts, TellsBadEscape, TellsFault, EntersLine, HasBadLine, MeetsBadLine, StaysInLine, LinePartIs, Begins, OpeningRefused, LinesRunTo, LinesJoin, OneLineJoins}
-use Rattle.wave_lex.proofs.Decoding.{empty_once}
+use Rattle.wave_lex.specs.Multiline.{put_first, pieces, spaces, DropsReturn, LinesMean, in_lines, DecodesLines, LineFault, closing, opening, indentation, escape, BadLines, MultilineFault, fault_span}
+use Rattle.wave_lex.specs.Remaining.{Undecoded, LinesLeft, one_line, but_last, ended_lines, lines_size, size_of}
+use Rattle.wave_lex.specs.Parts.{part_text, part_texts, TellsBadEscape, TellsFault, EntersLine, HasBadLine, MeetsBadEscape, MeetsBadLine, StaysInLine, PartIs, LinePartIs, NoPartNext, TakesPart, Begins, OpeningRefused, LinesRunTo, LinesJoin, OneLineJoins}
+use Rattle.wave_lex.specs.Private.Lines.{PartTaken, EndIs, LinesEndIs}
+use Rattle.wave_lex.specs.Shared.PartRuns.{LinesRun}
+use Rattle.wave_lex.proofs.Decoding.{empty_once, escape_head}
+use Rattle.wave_lex.proofs.Lines.{pieces_first}
 use Rattle.wave_lex.proofs.Parts.{takes, bad_behind, bad_here}
 
 -- ---- what is left means a text
@@ -219,12 +222,102 @@ one_line_fault s e pos n at (inr (u, f, decodes, bad, told)) = absurd bad
 pub one_line_joins : OneLineJoins
 one_line_joins s ps = (λ r. one_line_means s (part_texts ps) (run_means (one_line s) ps r), λ e r. one_line_fault s e 0 0 0 (run_fault 0 0 0 (one_line s) ps e refl r))
 
--- ---- runs, part by part
+-- ---- a part, and where none is next
 
--- the parts that came so far, and what is left
-abbrev pub LinesRun : LinesLeft → List StringPart → LinesLeft → Type 0
-LinesRun l [] m = l ≡ m
-LinesRun l (p ∷ ps) m = (t : LinesLeft) × LinePartIs l (Some (Ok p)) t × LinesRun t ps m
+-- a part of one line
+pub one_line_taken : (s t : Undecoded) (o : Option StringPart) → PartTaken s o t → TakesPart (one_line s) o (one_line t)
+one_line_taken s t None (inl none, same) = (inr (none, inl refl), ap one_line same)
+one_line_taken s t None (inr bad, same) = (inl bad, ap one_line same)
+one_line_taken s t (Some p) h = inl (record { item = h; later = refl; next = refl; indent = refl })
+
+-- the end of one line
+pub one_line_ends : (s : Undecoded) (r : Result (Unit {0}) Diagnostic) → EndIs s r → LinesEndIs (one_line s) r
+one_line_ends s (Ok u) none = (none, refl)
+one_line_ends s (Err e) h = inl h
+
+-- a refusal where no run and no escape is taken
+pub refused_escape : (old mid new : Undecoded) (e : Diagnostic) → PartTaken old None mid → (mid.rest ≢ []) × TellsBadEscape e mid.pos → new.rest ≡ [] → MeetsBadEscape old new e
+refused_escape old mid new e (inl none, same) (some, told) ended = absurd (some (ap (λ (s : Undecoded). s.rest) same ∙ none))
+refused_escape old mid new e (inr bad, same) (some, told) ended = record { begins = bad.begins; none = bad.none; ended = ended; told = subst (λ (s : Undecoded). TellsBadEscape e s.pos) same told }
+
+same_left : (s t : Undecoded) → s.rest ≡ t.rest → s.pos ≡ t.pos → s ≡ t
+same_left s t e f =
+    let rests : s ≡ record { rest = t.rest; pos = s.pos } = ap (λ (z : List ℕ). record { rest = z; pos = s.pos }) e in
+    let places : record { rest = t.rest; pos = s.pos } ≡ t = ap (λ (z : ℕ). record { rest = t.rest; pos = z }) f in rests ∙ places
+
+-- a refusal of what is next: no part is
+pub refused_next : (l new : LinesLeft) (e : Diagnostic) → NoPartNext l → LinesEndIs l (Err e) → new.line.rest ≡ [] → new.line.pos ≡ l.line.pos → new.later ≡ [] → LinePartIs l (Some (Err e)) new
+refused_next l new e (inl bad) (inl (some, told)) none same later = inl (record { begins = bad.begins; none = bad.none; ended = none; told = told }, later)
+refused_next l new e (inl bad) (inr (empty, some, told)) none same later = let w : 92 ∷ bad.begins.0 ≡ [] = sym bad.begins.1 ∙ empty in cc
+refused_next l new e (inr (empty, next)) (inl (some, told)) none same later = absurd (some empty)
+refused_next l new e (inr (empty, inl last)) (inr (also, some, told)) none same later = absurd (some last)
+refused_next l new e (inr (empty, inr bad)) (inr (also, some, told)) none same later = inr (empty, record { met = bad; stays = same_left new.line l.line (none ∙ sym empty) same; ended = later; told = told })
+
+-- where no part is next stands the end or a refusal
+pub ends_there : (l : LinesLeft) (r : Result (Unit {0}) Diagnostic) → NoPartNext l → LinesEndIs l r → MatchResult r (λ _. LinesRunTo l [] None) (λ e. LinesRunTo l [] (Some e))
+ends_there l (Ok u) next (none, later) = (l, (none, later, refl))
+ends_there l (Err e) next h = (_, refused_next l (record { line = record { rest = []; pos = l.line.pos }; later = []; next = l.next; indent = l.indent }) e next h refl refl refl)
+
+-- ---- how much is left
+
+-- a part of a line takes some of it
+part_takes : (old new : Undecoded) (p : StringPart) → PartIs old (Some (Ok p)) new → length new.rest < length old.rest
+part_takes old new (Run s) h =
+    let whole : length old.rest ≡ length s.now + length new.rest = ap length h.taken ∙ length-append s.now new.rest in
+    let some : 0 < length s.now = longer s.now h.some in omega arith
+  where
+    longer : (x : List ℕ) → x ≢ [] → 0 < length x
+    longer [] n = absurd (n refl)
+    longer (b ∷ x) n = omega arith
+part_takes old new (Char c) h =
+    let k = escape_head h.escape c h.is in
+    let whole : length old.rest ≡ length h.escape + length new.rest = ap length h.taken ∙ length-append h.escape new.rest in
+    let some : length h.escape ≡ suc (length k.0) = ap length k.1 in omega arith
+
+-- a dropped carriage return makes no line longer
+dropped_fits : (x y : List ℕ) → DropsReturn x y → length y ≤ length x
+dropped_fits x y (inl e) = omega (arith, ap length e, length-append y (13 ∷ []))
+dropped_fits x y (inr (e, others)) = omega (arith, ap length e)
+
+-- each part takes some of what is left
+pub line_part_takes : (old new : LinesLeft) (p : StringPart) → LinePartIs old (Some (Ok p)) new → size_of new < size_of old
+line_part_takes old new p (inl h) =
+    let some : length new.line.rest < length old.line.rest = part_takes old.line new.line p h.item in
+    let same : lines_size new.later ≡ lines_size old.later = ap lines_size h.later in omega arith
+line_part_takes old new p (inr (e, f, h)) =
+    let (x, whole, drops) = h.indented in
+    let all : lines_size old.later ≡ suc (length h.line + lines_size h.more) = ap lines_size h.there in
+    let rest : lines_size new.later ≡ lines_size h.more = ap lines_size h.later in
+    let long : length h.line ≡ length (spaces old.indent) + length x = ap length whole ∙ length-append (spaces old.indent) x in
+    let fits : length new.line.rest ≤ length x = dropped_fits x new.line.rest drops in omega arith
+
+put_first_size : (b : ℕ) (q : List ℕ) (qs : List (List ℕ)) → lines_size (put_first b (q ∷ qs)) ≡ suc (lines_size (q ∷ qs))
+put_first_size b q qs = omega arith
+
+-- the pieces of a text take one byte more than the text
+pieces_size : (s : List ℕ) → lines_size (pieces s) ≡ suc (length s)
+pieces_size [] = refl
+pieces_size (b ∷ s) = by_test (nat_eq b 10) (pieces_first s) (pieces_size s)
+  where
+    by_test : (t : Bool) → (q : List ℕ) × (qs : List (List ℕ)) × (pieces s ≡ q ∷ qs) → lines_size (pieces s) ≡ suc (length s)
+        → lines_size (if t then [] ∷ pieces s else put_first b (pieces s)) ≡ suc (suc (length s))
+    by_test true f more = omega (arith, more)
+    by_test false (q, qs, e) more = ap (λ (z : List (List ℕ)). lines_size (put_first b z)) e ∙ (put_first_size b q qs ∙ ap suc (sym (ap lines_size e) ∙ more))
+
+but_last_size : (q : List ℕ) (qs : List (List ℕ)) → suc (lines_size (but_last (q ∷ qs))) ≤ lines_size (q ∷ qs)
+but_last_size q [] = omega arith
+but_last_size q (r ∷ qs) = omega (arith, but_last_size r qs)
+
+-- the lines of a text take no more than the text
+pub ended_fit : (s : List ℕ) → lines_size (ended_lines s) ≤ length s
+ended_fit s =
+    let (q, qs, e) = pieces_first s in
+    let all : lines_size (pieces s) ≡ suc (length s) = pieces_size s in
+    let cut : lines_size (pieces s) ≡ lines_size (q ∷ qs) = ap lines_size e in
+    let ended : lines_size (ended_lines s) ≡ lines_size (but_last (q ∷ qs)) = ap (λ (z : List (List ℕ)). lines_size (but_last z)) e in
+    omega (arith, but_last_size q qs)
+
+-- ---- runs, part by part
 
 -- one part more
 pub run_more : (l m n : LinesLeft) (ps : List StringPart) (p : StringPart) → LinesRun l ps m → LinePartIs m (Some (Ok p)) n → LinesRun l (ps ++ p ∷ []) n

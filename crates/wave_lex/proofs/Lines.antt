@@ -1,8 +1,9 @@
 -- The pieces of a text between its line feeds, and the spaces at the start of a line.
-use Rattle.std.specs.Prelude.{MatchOption, unwrap_or}
-use Rattle.std.proofs.Common.{Bor, ◌≡◌, ℕ, ◌≤◌, ◌<◌, ◌+◌, ◌-◌, ◌≢◌, zero, suc, Bool, true, false, nat_eq, List, [], ◌∷◌, ◌++◌, ◌⊎◌, inl, inr, Option, None, Some, Result, Ok, Err, refl, sym, ap, subst, ◌∙◌, length, take, drop, arith, get_or, length-append, length-drop, length-take-le}
+use Rattle.std.specs.Prelude.{MatchBool}
+use Rattle.std.proofs.Common.{◌≡◌, ℕ, ◌≤◌, ◌<◌, ◌+◌, ◌-◌, ◌≢◌, zero, suc, Bool, true, false, nat_eq, List, [], ◌∷◌, ◌++◌, ◌⊎◌, inl, inr, Option, None, Some, Result, Ok, Err, refl, sym, ap, subst, ◌∙◌, length, take, drop, arith, get_or, length-append, length-drop, length-take-le}
 use Rattle.std.specs.Prelude.{if◌then◌else◌}
-use Rattle.std.proofs.lemmas.Bool.{cases_lt}
+use Rattle.std.proofs.lemmas.Bool.{cases_lt, eqb-true}
+use Rattle.memchr.specs.Find.{IsFirstByte, is_byte}
 use Rattle.std.proofs.lemmas.Bool.Decides.{nat_tests}
 use Rattle.std.specs.Str.{IsUtf8, IsCharBoundary}
 use Rattle.std.proofs.lemmas.Str.{IsCharBoundary-start, IsCharBoundary-after_ascii}
@@ -12,7 +13,7 @@ use Rattle.wave_lex.proofs.Decoding.{length_spaces}
 use Rattle.wave_lex.specs.Multiline.{put_first, pieces, spaces, DropsReturn, IsIndented, Opens, IsSpaces, without_return, last_of, closing_piece, OpensWell}
 use Rattle.wave_lex.specs.Remaining.{Undecoded, LinesLeft, but_last, ended_lines}
 use Rattle.wave_lex.specs.Parts.{Begins, EntersLine, HasBadLine}
-use Rattle.wave_lex.specs.Private.Lines.{BehindLastFeed, SplitsLine, OpeningIs, LineIs}
+use Rattle.wave_lex.specs.Private.Lines.{BehindLastFeed, SplitsLine, OpeningIs, NoLineEntered}
 
 -- ---- spaces
 
@@ -272,20 +273,52 @@ opens_alone s h w = subst OpensWell (pieces_none s h) w
 pub none_ended : (s : List ℕ) → ((i : ℕ) → i < length s → get_or s i 0 ≢ 10) → ended_lines s ≡ []
 none_ended s h = ap but_last (pieces_none s h)
 
--- the first line and what stands after it, where a line feed stands
-pub lines_split : (s : List ℕ) (o : Option (Bor (List ℕ) × Bor (List ℕ)))
-    → MatchOption o ((i : ℕ) → i < length s → get_or s i 0 ≢ 10) (λ x. (s ≡ x.0.now ++ 10 ∷ x.1.now) × ((i : ℕ) → i < length x.0.now → get_or x.0.now i 0 ≢ 10))
-    → MatchOption o (ended_lines s ≡ []) (λ x. SplitsLine s x.0.now x.1.now)
-lines_split s None h = none_ended s h
-lines_split s (Some x) h =
-    let cut : pieces s ≡ x.0.now ∷ pieces x.1.now = ap pieces h.0 ∙ (pieces_append x.0.now x.1.now ∙ ap (λ (z : List (List ℕ)). z ++ pieces x.1.now) (pieces_none x.0.now h.1)) in
-    record { parts = h.0; lines = ended_behind s x.0.now x.1.now cut }
+is_feed : (b : ℕ) → b ≡ 10 → is_byte 10 b ≡ true
+is_feed b e = grind (arith, nat_tests)
 
--- the line without the carriage return that was found at its end
-pub drops_return : (line : Bor (List ℕ)) (o : Option (Bor (List ℕ)))
-    → MatchOption o ((front : List ℕ) → line.now ≢ front ++ 13 ∷ []) (λ x. line.now ≡ x.now ++ 13 ∷ []) → DropsReturn line.now (unwrap_or o line).now
-drops_return line None h = inr (refl, h)
-drops_return line (Some x) h = inl h
+-- no line is ended where no line feed was found
+pub none_found : (s t : List ℕ) → t ≡ s → IsFirstByte (is_byte 10) t None → ended_lines s ≡ []
+none_found s t e h = none_ended s (λ i l f. h i (omega arith) (omega (arith, ap length e)) (is_feed (get_or t i 0) (ap (λ (z : List ℕ). get_or z i 0) e ∙ f)))
+
+-- a line feed that was found
+pub record FeedAt (s : List ℕ) (k : ℕ) : Type 0 where
+  pub within : k < length s
+  pub there : get_or s k 0 ≡ 10
+  pub before : (i : ℕ) → i < k → get_or s i 0 ≢ 10
+
+-- the first line feed
+pub feed_found : (s t : List ℕ) (k : ℕ) → t ≡ s → IsFirstByte (is_byte 10) t (Some k) → FeedAt s k
+feed_found s t k e (first, there) = subst (λ (z : List ℕ). FeedAt z k) e (record {
+  within = first.high;
+  there = eqb-true (get_or t k 0) 10 there;
+  before = λ i l f. first.before i (omega arith) l (is_feed (get_or t i 0) f);
+})
+
+-- the line before the first line feed, and what stands after it
+pub line_split : (s line behind : List ℕ) (k : ℕ) → FeedAt s k → line ≡ take k s → behind ≡ drop (k + 1) s → SplitsLine s line behind
+line_split s line behind k h l b = record {
+  parts = split_at s k 10 h.within h.there ∙ (ap (λ (z : List ℕ). take k s ++ 10 ∷ z) (next_drop s k ∙ sym b) ∙ ap (λ (z : List ℕ). z ++ 10 ∷ behind) (sym l));
+  lines = ended_behind s line behind (pieces_before s k h.within h.there h.before ∙ (ap (λ (z : List ℕ). z ∷ pieces (drop (k + 1) s)) (sym l) ∙ ap (λ (z : List ℕ). line ∷ pieces z) (sym b)));
+}
+
+-- a text ends in its last byte
+pub ends_in : (s : List ℕ) (n b : ℕ) → length s ≡ suc n → get_or s n 0 ≡ b → s ≡ take n s ++ b ∷ []
+ends_in [] n b l e = let w : ⊥ = omega arith in absurd w
+ends_in (a ∷ []) zero b l e = ap (λ (z : ℕ). z ∷ []) e
+ends_in (a ∷ c ∷ s) zero b l e = let w : ⊥ = omega arith in absurd w
+ends_in (a ∷ s) (suc n) b l e = ap (λ (z : List ℕ). a ∷ z) (ends_in s n b (omega arith) e)
+
+-- the last byte of a text that ends in it
+last_byte : (z : List ℕ) (b : ℕ) → get_or (z ++ b ∷ []) (length z) 0 ≡ b
+last_byte [] b = refl
+last_byte (a ∷ z) b = last_byte z b
+
+-- a text whose last byte is another doesn't end in the carriage return
+pub keeps_end : (s : List ℕ) → (0 < length s → get_or s (length s - 1) 0 ≢ 13) → DropsReturn s s
+keeps_end s h = inr (refl, λ z e.
+    let long : length s ≡ length z + 1 = ap length e ∙ length-append z (13 ∷ []) in
+    let place : length s - 1 ≡ length z = omega arith in
+    h (omega arith) (ap (λ (k : ℕ). get_or s k 0) place ∙ (ap (λ (x : List ℕ). get_or x (length z) 0) e ∙ last_byte z 13)))
 
 -- after the last line feed that was found
 pub behind_found : (s : List ℕ) (k : ℕ) → (k < length s) × (get_or s k 0 ≡ 10) × ((i : ℕ) → k < i → i < length s → get_or s i 0 ≢ 10) → BehindLastFeed s (k + 1)
@@ -342,7 +375,7 @@ begins_here s closing body first start pos k line h o e l m sp b r =
     }
 
 -- what reading the first line leaves
-pub opened : (old new : LinesLeft) (r : Option (Result (Unit {0}) Diagnostic)) → LineIs old r new → (old.later ≡ []) × (new ≡ old) ⊎ HasBadLine old × (new ≡ old) ⊎ EntersLine old new
-opened old new None h = inl h
-opened old new (Some (Ok u)) h = inr (inr h)
-opened old new (Some (Err e)) (bad, told, same) = inr (inl (bad, same))
+pub opened : (old new : LinesLeft) (b : Bool) → MatchBool b (EntersLine old new) (NoLineEntered old new) → (old.later ≡ []) × (new ≡ old) ⊎ HasBadLine old × (new ≡ old) ⊎ EntersLine old new
+opened old new true h = inr (inr h)
+opened old new false (inl none, same) = inl (none, same)
+opened old new false (inr bad, same) = inr (inl (bad, same))

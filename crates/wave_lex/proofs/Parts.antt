@@ -1,6 +1,8 @@
 -- The steps of a string's parts, and what all of them are together.
-use Rattle.std.specs.Prelude.{MatchOption, unwrap_or}
-use Rattle.std.proofs.Common.{Option, ◌≡◌, ℕ, ◌≤◌, ◌<◌, ◌+◌, ◌≢◌, zero, suc, List, [], ◌∷◌, ◌++◌, ◌⊎◌, inl, inr, refl, sym, ap, subst, ◌∙◌, length, take, drop, arith, Some, None, Ok, get_or, append_assoc, length-take-le, length-append}
+use Rattle.std.specs.Prelude.{unwrap_or}
+use Rattle.std.proofs.Common.{Option, ◌≡◌, ℕ, ◌≤◌, ◌<◌, ◌+◌, ◌-◌, ◌≢◌, zero, suc, true, List, [], ◌∷◌, ◌++◌, ◌⊎◌, inl, inr, refl, sym, ap, subst, ◌∙◌, length, take, drop, arith, Some, None, Ok, get_or, append_assoc, length-take-le, length-append, length-drop, get_or-take, get_or-drop}
+use Rattle.std.proofs.lemmas.Bool.{eqb-true, cases_lt}
+use Rattle.memchr.specs.Find.{IsFirstByte, is_byte}
 use Rattle.std.specs.Prelude.{encode_utf8}
 use Rattle.std.specs.Char.{digit_value}
 use Rattle.std.specs.Str.Parse.{AllDigits}
@@ -14,11 +16,15 @@ use Rattle.wave_lex.specs.Errors.{Diagnostic}
 use Rattle.wave_lex.specs.declared.strings.StringPart.{StringPart}
 use Rattle.wave_lex.specs.declared.strings.StringPart.TheVariants.{Run, Char}
 use Rattle.wave_lex.specs.Strings.{short_escape, IsEscape, Decodes, UnescapesTo, IsBadEscapeAt}
-use Rattle.wave_lex.specs.Parts.{part_text, part_texts, TakesRun, TakesEscape, TellsBadEscape, MeetsBadEscape, PartIs, RunsTo, PartsJoin}
+use Rattle.wave_lex.specs.Parts.{part_text, part_texts, TakesRun, TakesEscape, TellsBadEscape, MeetsBadEscape, BeginsNoEscape, PartIs, RunsTo, PartsJoin}
 use Rattle.wave_lex.specs.Remaining.{Undecoded}
+use Rattle.wave_lex.specs.Private.Lines.{IsRun}
 use Rattle.wave_lex.proofs.Decoding.{plain_from, escape_from}
 
 -- ---- one step
+
+is_same : (b : ℕ) → b ≡ 92 → is_byte 92 b ≡ true
+is_same b e = grind (arith, nat_tests)
 
 -- no byte of the text is `\`
 abbrev pub AllPlain : List ℕ → Type 0
@@ -43,28 +49,48 @@ left_at (a ∷ s) (suc k) b l h = left_at s k b (omega arith) (λ m. h (omega ar
 not_none : (s : List ℕ) → 0 < length s → s ≢ []
 not_none s l e = let w : length s ≡ 0 = ap length e in let v : ⊥ = omega arith in v
 
--- k bytes stand before the first `\`
-pub record IsRun (s : List ℕ) (k : ℕ) : Type 0 where
-  pub within : k ≤ length s
-  pub before : (i : ℕ) → i < k → get_or s i 0 ≢ 92
-  pub stops : k < length s → get_or s k 0 ≡ 92
+-- the run that a search ends
+pub run_found : (s : List ℕ) (o : Option ℕ) → IsFirstByte (is_byte 92) s o → IsRun s (unwrap_or o (length s))
+run_found s None h = record { within = omega arith; before = λ i l e. h i (omega arith) l (is_same (get_or s i 0) e); stops = λ l. let w : ⊥ = omega arith in absurd w }
+run_found s (Some k) (first, there) = record { within = omega (arith, first.high); before = λ i l e. first.before i (omega arith) l (is_same (get_or s i 0) e); stops = λ l. eqb-true (get_or s k 0) 92 there }
 
--- the place that was found, or else the whole length
-pub run_found : (s : List ℕ) (o : Option ℕ)
-    → MatchOption o ((i : ℕ) → i < length s → get_or s i 0 ≢ 92) (λ k. (k < length s) × (get_or s k 0 ≡ 92) × ((i : ℕ) → i < k → get_or s i 0 ≢ 92)) → IsRun s (unwrap_or o (length s))
-run_found s None h = record { within = omega arith; before = h; stops = λ l. let v : ⊥ = omega arith in absurd v }
-run_found s (Some k) h = record { within = omega (arith, h.0); before = h.2; stops = λ l. h.1 }
+-- the run that ends within the first k bytes
+pub run_first : (s t : List ℕ) (k n : ℕ) → k ≤ length s → t ≡ take k s → n < k → IsRun t n → IsRun s n
+run_first s t k n fits e less run =
+    let long : length t ≡ k = ap length e ∙ length-take-le k s fits in
+    let same : (i : ℕ) → i < k → get_or t i 0 ≡ get_or s i 0 = λ i l. ap (λ (z : List ℕ). get_or z i 0) e ∙ get_or-take k s i 0 l in
+    record {
+      within = omega arith;
+      before = λ i l f. run.before i l (same i (omega arith) ∙ f);
+      stops = λ l. sym (same n less) ∙ run.stops (omega arith);
+    }
+
+-- the run that goes on after the first k bytes
+pub run_joined : (s t u : List ℕ) (k n m : ℕ) → k ≤ length s → t ≡ take k s → u ≡ drop k s → k ≤ n → IsRun t n → IsRun u m → IsRun s (k + m)
+run_joined s t u k n m fits e f all run rest =
+    let long : length u ≡ length s - k = ap length f ∙ length-drop k s in
+    let inside : m ≤ length u = rest.within in
+    let front : (i : ℕ) → i < k → get_or t i 0 ≡ get_or s i 0 = λ i l. ap (λ (z : List ℕ). get_or z i 0) e ∙ get_or-take k s i 0 l in
+    let behind : (i : ℕ) → get_or u i 0 ≡ get_or s (k + i) 0 = λ i. ap (λ (z : List ℕ). get_or z i 0) f ∙ get_or-drop k s i 0 in
+    record {
+      within = omega arith;
+      before = λ i l. elim (cases_lt i k) as (λ _. get_or s i 0 ≢ 92) [
+        | inl less ↦ λ g. run.before i (omega arith) (front i less ∙ g)
+        | inr more ↦ let same : k + (i - k) ≡ i = omega arith in
+            λ g. rest.before (i - k) (omega arith) (behind (i - k) ∙ (ap (λ (z : ℕ). get_or s z 0) same ∙ g))
+      ];
+      stops = λ l. sym (behind m) ∙ rest.stops (omega arith);
+    }
 
 -- the bytes through the first `\` are a run
-pub run_taken : (s part rest : List ℕ) (pos k : ℕ) → 0 < k → k ≤ length s → ((i : ℕ) → i < k → get_or s i 0 ≢ 92) → (k < length s → get_or s k 0 ≡ 92)
-    → part ≡ take k s → rest ≡ drop k s → TakesRun (record { rest = s; pos = pos }) (record { rest = rest; pos = pos + k }) part
-run_taken s part rest pos k some l n h p r =
-    let long : length part ≡ k = ap length p ∙ length-take-le k s l in
+pub run_taken : (s part rest : List ℕ) (pos k : ℕ) → 0 < k → IsRun s k → part ≡ take k s → rest ≡ drop k s → TakesRun (record { rest = s; pos = pos }) (record { rest = rest; pos = pos + k }) part
+run_taken s part rest pos k some run p r =
+    let long : length part ≡ k = ap length p ∙ length-take-le k s run.within in
     record {
       some = not_none part (omega arith);
-      plain = subst AllPlain (sym p) (plain_taken s k l n);
+      plain = subst AllPlain (sym p) (plain_taken s k run.within run.before);
       taken = sym (ap (λ (z : List ℕ). z ++ rest) p ∙ (ap (λ (z : List ℕ). take k s ++ z) r ∙ take-append-drop k s));
-      stops = subst (λ (z : List ℕ). (z ≡ []) ⊎ ((t : List ℕ) × (z ≡ 92 ∷ t))) (sym r) (left_at s k 92 l h);
+      stops = subst (λ (z : List ℕ). (z ≡ []) ⊎ ((t : List ℕ) × (z ≡ 92 ∷ t))) (sym r) (left_at s k 92 run.within run.stops);
       moved = ap (λ (z : ℕ). pos + z) (sym long);
     }
 
@@ -79,6 +105,12 @@ escape_taken s e x rest pos k c h w l r =
 pub begins_with : (s : List ℕ) (b : ℕ) → 0 < length s → get_or s 0 0 ≡ b → (t : List ℕ) × (s ≡ b ∷ t)
 begins_with [] b l e = let w : ⊥ = omega arith in absurd w
 begins_with (a ∷ s) b l e = (s, ap (λ (z : ℕ). z ∷ s) e)
+
+-- nothing is left, or it begins with the `\` before which no run stands
+pub none_or_begins : (s : List ℕ) (k : ℕ) → k ≤ 0 → IsRun s k → UnescapesTo s None → (s ≡ []) ⊎ BeginsNoEscape s
+none_or_begins [] k l run none = inl refl
+none_or_begins (b ∷ s) zero l run none = inr (record { begins = (s, ap (λ (z : ℕ). z ∷ s) (run.stops (omega arith))); none = none })
+none_or_begins (b ∷ s) (suc k) l run none = let w : ⊥ = omega arith in absurd w
 
 -- ---- escapes are ASCII
 

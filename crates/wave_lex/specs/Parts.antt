@@ -126,6 +126,20 @@ LinePartIs old None new = (old.line.rest ≡ []) × (old.later ≡ []) × (new �
 LinePartIs old (Some (Ok part)) new = StaysInLine old new part ⊎ (old.line.rest ≡ []) × (part ≡ Char line_feed) × EntersLine old new
 LinePartIs old (Some (Err e)) new = MeetsBadEscape old.line new.line e × (new.later ≡ []) ⊎ (old.line.rest ≡ []) × MeetsBadLine old new e
 
+-- a `\` stands there that begins no escape
+pub record BeginsNoEscape (s : List ℕ) : Type 0 where
+  pub begins : (t : List ℕ) × (s ≡ backslash ∷ t)
+  pub none : UnescapesTo s None
+
+-- no part is next: a `\` that is refused; or the end of a line, and no line after it or one that is refused
+abbrev pub NoPartNext : LinesLeft → Type 0
+NoPartNext l = BeginsNoEscape l.line.rest ⊎ (l.line.rest ≡ []) × ((l.later ≡ []) ⊎ HasBadLine l)
+
+-- what `StringPartsIter::part` answers: the next part, or None where none is next, and nothing is taken
+abbrev pub TakesPart : LinesLeft → Option StringPart → LinesLeft → Type 0
+TakesPart old None new = NoPartNext old × (new ≡ old)
+TakesPart old (Some part) new = LinePartIs old (Some (Ok part)) new
+
 -- before the first line of the inside s, which stands at pos
 pub record Begins (s : List ℕ) (pos : ℕ) (l : LinesLeft) : Type 0 where
   pub first : List ℕ

@@ -2,3 +2,4 @@ pub mod Reading
 pub mod Machines
 pub mod NameMachine
 pub mod Derive
+pub mod PartRuns

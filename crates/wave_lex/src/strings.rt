@@ -1,5 +1,5 @@
 //! What the escapes of a string stand for, and the parts of a string, one by one.
-ghost use Rattle.std.specs.Prelude.{◌≡◌, ℕ, ◌+◌, ◌<◌, ◌≤◌, ◌^◌, ◌≢◌, nat_lt, [], length, slice_index, MatchResult, MatchOption};
+ghost use Rattle.std.specs.Prelude.{◌≡◌, ℕ, ◌+◌, ◌<◌, ◌≤◌, ◌^◌, ◌≢◌, nat_lt, [], Some, None, length, slice_index, MatchBool, MatchResult, MatchOption};
 ghost use Rattle.std.specs.Iterator.{at_most};
 ghost use Rattle.std.specs.Char.{digit_value};
 ghost use Rattle.std.specs.Str.{IsUtf8};
@@ -7,12 +7,16 @@ ghost use Rattle.wave_lex.specs.Strings.{UnescapesTo};
 ghost use Rattle.wave_lex.specs.Multiline.{pieces, closing_piece, DropsReturn};
 ghost use Rattle.wave_lex.specs.declared.strings.StringPartsIter.TheVariants.{Normal};
 ghost use Rattle.wave_lex.specs.Remaining.{ended_lines, size_of};
-ghost use Rattle.wave_lex.specs.Parts.{PartIs, LinePartIs, OpensTo, OpeningRefused, left_of};
-ghost use Rattle.wave_lex.specs.Private.Lines.{LineIs, SplitsLine, OpeningIs, BehindLastFeed};
+ghost use Rattle.wave_lex.specs.Parts.{PartIs, LinePartIs, LinesRunTo, OpensTo, OpeningRefused, TakesPart, NoPartNext, EntersLine, TellsBadEscape, TellsBadLine, left_of};
+ghost use Rattle.wave_lex.specs.Private.Lines.{IsRun, PartTaken, EndIs, LinesEndIs, NoLineEntered, SplitsLine, OpeningIs, BehindLastFeed};
 
 use crate::error::{ParserError, ParserErrorKind};
 use crate::machine::escape::short_escape;
+use memchr::memchr;
 use std::marker::Model;
+
+/// How many bytes of a run are looked at in turn before the others are searched at once.
+const FEW: usize = 16;
 
 /// A run of the source without escapes, or a decoded escape, or the line feed between two lines.
 #[derive(Clone, Copy, Debug)]
@@ -49,6 +53,45 @@ impl<'a> StringParts<'a> {
     {
         StringParts { src, pos }
     }
+
+    /// The next run or escape. None where there is none, at the end and at a backslash that begins
+    /// no escape: nothing is taken there.
+    #[inline(always)]
+    fn part(&mut self) -> Option<StringPart<'a>>
+        ensures { PartTaken self.old result self.new }
+    {
+        let run = run_length(self.src);
+        if run > 0 {
+            let (part, rest) = self.src.split_at(run);
+            self.src = rest;
+            self.pos += run;
+            return Some(StringPart::Run(part));
+        }
+        let (c, count) = unescape(self.src)?;
+        self.src = &self.src[count..];
+        self.pos += count;
+        Some(StringPart::Char(c))
+    }
+
+    /// How many bytes are left.
+    #[inline(always)]
+    fn bytes_left(&self) -> usize
+        ensures left { result ≡ length self.now.rest }
+        ensures fits { result < 2 ^ 63 }
+    {
+        self.src.len()
+    }
+
+    /// What stands where `part` answers None: the end, or a backslash that is refused.
+    #[inline(always)]
+    fn end(&self) -> Result<(), ParserError>
+        ensures { EndIs self.now result }
+    {
+        if self.src.is_empty() {
+            return Ok(());
+        }
+        Err(invalid_escape(self.pos))
+    }
 }
 
 impl<'a> Iterator for StringParts<'a> {
@@ -62,26 +105,16 @@ impl<'a> Iterator for StringParts<'a> {
     /// comes after it.
     #[inline(always)]
     fn next(&mut self) -> Option<Result<StringPart<'a>, ParserError>> {
-        if self.src.is_empty() {
-            return None;
+        if let Some(part) = self.part() {
+            return Some(Ok(part));
         }
-        let run = run_length(self.src);
-        if run > 0 {
-            let (part, rest) = self.src.split_at(run);
-            self.src = rest;
-            self.pos += run;
-            return Some(Ok(StringPart::Run(part)));
+        match self.end() {
+            Ok(()) => None,
+            Err(error) => {
+                self.src = "";
+                Some(Err(error))
+            }
         }
-        let Some((c, count)) = unescape(self.src) else {
-            self.src = "";
-            return Some(Err(ParserError::new(
-                ParserErrorKind::InvalidEscape,
-                self.pos..self.pos + 1,
-            )));
-        };
-        self.src = &self.src[count..];
-        self.pos += count;
-        Some(Ok(StringPart::Char(c)))
     }
 }
 
@@ -137,29 +170,61 @@ impl<'a> MultilineStringParts<'a> {
             indent: closing.len(),
         };
         // A line with too few spaces stays, for the first `next` to refuse.
-        let _ = parts.next_line();
+        parts.next_line();
         Ok(parts)
     }
 
-    /// Reads the next line; None where there is none. A line with too few spaces is refused at its
-    /// first byte, and stays.
-    fn next_line(&mut self) -> Option<Result<(), ParserError>>
-        ensures { LineIs self.old result self.new }
+    /// Reads the next line, where there is one with enough spaces; else nothing changes.
+    #[inline(always)]
+    fn next_line(&mut self) -> bool
+        ensures { MatchBool result (EntersLine self.old self.new) (NoLineEntered self.old self.new) }
     {
-        let place = self.next;
-        let (line, behind) = split_line(self.rest)?;
+        let Some((line, behind)) = split_line(self.rest) else {
+            return false;
+        };
         if length_of_spaces(line.as_bytes()) < self.indent {
-            return Some(Err(ParserError::with_static(
-                ParserErrorKind::InvalidMultilineString,
-                place..place + 1,
-                "lines must be indented at least as much as closing \"\"\"",
-            )));
+            return false;
         }
         let text = without_final_return(&line[self.indent..]);
-        self.line = StringParts::new(text, place + self.indent);
+        self.line = StringParts::new(text, self.next + self.indent);
         self.rest = behind;
-        self.next = place + line.len() + 1;
-        Some(Ok(()))
+        self.next += line.len() + 1;
+        true
+    }
+
+    /// The next part of the line, or the line feed between it and the next one. None where there is
+    /// none, at the end and where a refusal is next: nothing is taken there.
+    #[inline(always)]
+    fn part(&mut self) -> Option<StringPart<'a>>
+        ensures { TakesPart self.old result self.new }
+    {
+        if let Some(part) = self.line.part() {
+            return Some(part);
+        }
+        if self.line.src.is_empty() && self.next_line() {
+            return Some(StringPart::Char('\n'));
+        }
+        None
+    }
+
+    /// How many bytes are left at most.
+    #[inline(always)]
+    fn bytes_left(&self) -> usize
+        ensures { size_of self.now ≤ result }
+    {
+        self.line.bytes_left() + self.rest.len()
+    }
+
+    /// What stands where `part` answers None: the end, or a backslash or a line that is refused.
+    #[inline(always)]
+    fn end(&self) -> Result<(), ParserError>
+        ensures { LinesEndIs self.now result }
+    {
+        self.line.end()?;
+        if split_line(self.rest).is_none() {
+            return Ok(());
+        }
+        Err(badly_indented(self.next))
     }
 }
 
@@ -173,19 +238,16 @@ impl<'a> Iterator for MultilineStringParts<'a> {
     /// The next part of the line, or the line feed between it and the next one. After a refusal
     /// nothing comes.
     fn next(&mut self) -> Option<Result<StringPart<'a>, ParserError>> {
-        match self.line.next() {
-            Some(Ok(part)) => Some(Ok(part)),
-            Some(Err(error)) => {
+        if let Some(part) = self.part() {
+            return Some(Ok(part));
+        }
+        match self.end() {
+            Ok(()) => None,
+            Err(error) => {
+                self.line.src = "";
                 self.rest = "";
                 Some(Err(error))
             }
-            None => match self.next_line()? {
-                Ok(()) => Some(Ok(StringPart::Char('\n'))),
-                Err(error) => {
-                    self.rest = "";
-                    Some(Err(error))
-                }
-            },
         }
     }
 }
@@ -219,6 +281,41 @@ impl<'a> StringPartsIter<'a> {
         let parts = MultilineStringParts::new(src, pos)?;
         Ok(StringPartsIter::Multiline(parts))
     }
+
+    /// How many bytes are left of the source at most: as many as the text of the parts can take.
+    #[inline(always)]
+    pub fn bytes_left(&self) -> usize
+        ensures { size_of (left_of self.now) ≤ result }
+    {
+        match self {
+            StringPartsIter::Normal(parts) => parts.bytes_left(),
+            StringPartsIter::Multiline(parts) => parts.bytes_left(),
+        }
+    }
+
+    /// The next part; None where `next` gives none, which is at the end and where a refusal is next.
+    /// Nothing is taken there, and `end` tells which it is.
+    #[inline(always)]
+    pub fn part(&mut self) -> Option<StringPart<'a>>
+        ensures { TakesPart (left_of self.old) result (left_of self.new) }
+    {
+        match self {
+            StringPartsIter::Normal(parts) => parts.part(),
+            StringPartsIter::Multiline(parts) => parts.part(),
+        }
+    }
+
+    /// What stands where `part` answers None: the end, or else a refusal.
+    #[inline(always)]
+    pub fn end(&self) -> Result<(), ParserError>
+        requires { NoPartNext (left_of self.now) }
+        ensures { MatchResult result (λ _. LinesRunTo (left_of self.now) [] None) (λ e. LinesRunTo (left_of self.now) [] (Some e)) }
+    {
+        match self {
+            StringPartsIter::Normal(parts) => parts.end(),
+            StringPartsIter::Multiline(parts) => parts.end(),
+        }
+    }
 }
 
 impl<'a> Iterator for StringPartsIter<'a> {
@@ -236,6 +333,30 @@ impl<'a> Iterator for StringPartsIter<'a> {
             StringPartsIter::Multiline(parts) => parts.next(),
         }
     }
+}
+
+/// The refusal of the backslash at this place.
+#[cold]
+#[inline(never)]
+fn invalid_escape(pos: usize) -> ParserError
+    requires { pos + 1 < 2 ^ 64 }
+    ensures { TellsBadEscape result pos }
+{
+    ParserError::new(ParserErrorKind::InvalidEscape, pos..pos + 1)
+}
+
+/// The refusal of a line with too few spaces, at its first byte.
+#[cold]
+#[inline(never)]
+fn badly_indented(pos: usize) -> ParserError
+    requires { pos + 1 < 2 ^ 64 }
+    ensures { TellsBadLine result pos }
+{
+    ParserError::with_static(
+        ParserErrorKind::InvalidMultilineString,
+        pos..pos + 1,
+        "lines must be indented at least as much as closing \"\"\"",
+    )
 }
 
 /// The escape at the start of `src`: its scalar, and how many bytes it takes. None where no escape
@@ -297,13 +418,40 @@ pub(crate) fn hex_length(bytes: &[u8]) -> usize
 }
 
 /// How many bytes stand before the first backslash.
+#[inline(always)]
 fn run_length(text: &str) -> usize
-    ensures within { result ≤ length text.now }
-    ensures before { (i : ℕ) → i < result → slice_index text.now i ≢ 92 }
-    ensures stops { result < length text.now → slice_index text.now result ≡ 92 }
+    ensures run { IsRun text.now result }
     ensures utf8 { IsUtf8 text.now }
 {
-    text.find('\\').unwrap_or(text.len())
+    let bytes = text.as_bytes();
+    if bytes.len() <= FEW {
+        return run_in_turn(bytes);
+    }
+    let run = run_in_turn(&bytes[..FEW]);
+    if run < FEW {
+        return run;
+    }
+    FEW + run_at_once(&bytes[FEW..])
+}
+
+/// The same, by looking at each byte.
+#[inline(always)]
+fn run_in_turn(bytes: &[u8]) -> usize
+    ensures { IsRun bytes.now result }
+{
+    for (i, byte) in bytes.iter().enumerate() {
+        if *byte == b'\\' {
+            return i;
+        }
+    }
+    bytes.len()
+}
+
+/// The same, by a search.
+fn run_at_once(bytes: &[u8]) -> usize
+    ensures { IsRun bytes.now result }
+{
+    memchr(b'\\', bytes).unwrap_or(bytes.len())
 }
 
 /// How many spaces stand at the start.
@@ -361,12 +509,17 @@ fn opening_length(src: &str) -> Option<usize>
 fn split_line(text: &str) -> Option<(&str, &str)>
     ensures { MatchOption result (ended_lines text.now ≡ []) (λ parts. SplitsLine text.now parts.0.now parts.1.now) }
 {
-    text.split_once('\n')
+    let end = memchr(b'\n', text.as_bytes())?;
+    Some((&text[..end], &text[end + 1..]))
 }
 
 /// The line without one carriage return at its end.
 fn without_final_return(line: &str) -> &str
     ensures { DropsReturn line.now result.now }
 {
-    line.strip_suffix('\r').unwrap_or(line)
+    let end = line.len();
+    if end > 0 && line.as_bytes()[end - 1] == b'\r' {
+        return &line[..end - 1];
+    }
+    line
 }

@@ -1,16 +1,36 @@
 -- How the code keeps the lines of a multiline string. No public contract needs it.
-use Rattle.std.specs.Prelude.{◌≡◌, ◌≢◌, ℕ, ◌+◌, ◌-◌, ◌<◌, ◌≤◌, List, [], ◌∷◌, ◌++◌, take, drop, length, Option, Some, None, Result, Ok, Err, slice_index}
+use Rattle.std.specs.Prelude.{◌≡◌, ◌≢◌, ◌⊎◌, ℕ, ◌+◌, ◌-◌, ◌<◌, ◌≤◌, List, [], ◌∷◌, ◌++◌, take, drop, length, Option, Some, None, Result, Ok, Err, slice_index}
 use Rattle.wave_lex.specs.Errors.{Diagnostic}
-use Rattle.wave_lex.specs.Tokens.{line_feed}
+use Rattle.wave_lex.specs.declared.strings.StringPart.{StringPart}
+use Rattle.wave_lex.specs.Tokens.{backslash, line_feed}
 use Rattle.wave_lex.specs.Multiline.{pieces, Opens, OpensWell}
-use Rattle.wave_lex.specs.Remaining.{LinesLeft, ended_lines}
-use Rattle.wave_lex.specs.Parts.{TellsBadLine, EntersLine, HasBadLine}
+use Rattle.wave_lex.specs.Remaining.{Undecoded, LinesLeft, ended_lines}
+use Rattle.wave_lex.specs.Parts.{PartIs, BeginsNoEscape, TellsBadEscape, TellsBadLine, HasBadLine}
 
--- the next line is read; or it has too few spaces, is refused and stays; or there is none
-abbrev pub LineIs : LinesLeft → Option (Result (Unit {0}) Diagnostic) → LinesLeft → Type 0
-LineIs old None new = (old.later ≡ []) × (new ≡ old)
-LineIs old (Some (Ok done)) new = EntersLine old new
-LineIs old (Some (Err e)) new = HasBadLine old × TellsBadLine e old.next × (new ≡ old)
+-- k bytes stand before the first `\`
+pub record IsRun (s : List ℕ) (k : ℕ) : Type 0 where
+  pub within : k ≤ length s
+  pub before : (i : ℕ) → i < k → slice_index s i ≢ backslash
+  pub stops : k < length s → slice_index s k ≡ backslash
+
+-- a run or an escape is taken; or there is none, and nothing is taken
+abbrev pub PartTaken : Undecoded → Option StringPart → Undecoded → Type 0
+PartTaken old None new = ((old.rest ≡ []) ⊎ BeginsNoEscape old.rest) × (new ≡ old)
+PartTaken old (Some part) new = PartIs old (Some (Ok part)) new
+
+-- no line is read: there is none, or it has too few spaces
+abbrev pub NoLineEntered : LinesLeft → LinesLeft → Type 0
+NoLineEntered old new = ((old.later ≡ []) ⊎ HasBadLine old) × (new ≡ old)
+
+-- nothing is left; or what is left is refused as a bad escape
+abbrev pub EndIs : Undecoded → Result (Unit {0}) Diagnostic → Type 0
+EndIs s (Ok done) = s.rest ≡ []
+EndIs s (Err e) = (s.rest ≢ []) × TellsBadEscape e s.pos
+
+-- nothing is left; or what is left of the line is refused as a bad escape, or the next line as one with too few spaces
+abbrev pub LinesEndIs : LinesLeft → Result (Unit {0}) Diagnostic → Type 0
+LinesEndIs l (Ok done) = (l.line.rest ≡ []) × (l.later ≡ [])
+LinesEndIs l (Err e) = ((l.line.rest ≢ []) × TellsBadEscape e l.line.pos) ⊎ ((l.line.rest ≡ []) × (l.later ≢ []) × TellsBadLine e l.next)
 
 -- the text is the line, a line feed and what stands after it
 pub record SplitsLine (text line behind : List ℕ) : Type 0 where

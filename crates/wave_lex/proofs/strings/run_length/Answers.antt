@@ -1,10 +1,12 @@
-use Rattle.std.proofs.Common.{ℕ, subst, sym, arith}
-use Rattle.std.proofs.lemmas.Str.Pattern.{find_char}
-use Rattle.wave_lex.proofs.Parts.{IsRun, run_found}
+use Rattle.std.proofs.Common.{ℕ, ◌+◌, List, refl, subst, arith, length-drop, le_of_eq, take_all}
+use Rattle.wave_lex.specs.Private.Lines.{IsRun}
+use Rattle.wave_lex.proofs.Parts.{run_first, run_joined}
 use Rattle.wave_lex.proofs.strings.run_length.Goals as goal
 
-pub returns : goal.returns
-returns c =
-    let found = run_found c.args.text.now c.find.result (find_char 92 c.args.text.now c.find.result c.find.ensures.cases (omega arith)) in
-    let run = subst (λ (k : ℕ). IsRun c.args.text.now k) (sym c.unwrap_or.ensures) found in
-    record { within = run.within; before = run.before; stops = run.stops; utf8 = c.utf8.text }
+pub returns-then-run-lt-FEW-clause-run : goal.returns-then-run-lt-FEW-clause-run
+returns-then-run-lt-FEW-clause-run c = subst (λ (z : List ℕ). IsRun z c.run_in_turn-run.result) c.as_bytes-bytes.ensures.value
+    (run_first _ _ 16 _ (omega arith) refl c.if-run-lt-FEW.true c.run_in_turn-run.ensures)
+
+pub returns-clause-run : goal.returns-clause-run
+returns-clause-run c = subst (λ (z : List ℕ). IsRun z (16 + c.run_at_once.result)) c.as_bytes-bytes.ensures.value
+    (run_joined _ _ _ 16 _ _ (omega arith) refl (take_all _ _ (le_of_eq (length-drop 16 c.as_bytes-bytes.result.now))) c.if-run-lt-FEW.false c.run_in_turn-run.ensures c.run_at_once.ensures)

@@ -1,4 +1,4 @@
-use Rattle.std.proofs.Common.{◌≡◌, ◌≢◌, ℕ, List, length, refl, ap, subst, get_or}
+use Rattle.std.proofs.Common.{◌≡◌, ◌≢◌, ℕ, List, length, inr, refl, ap, subst, get_or, arith}
 use Rattle.std.specs.Str.{IsUtf8}
 use Rattle.wave_lex.specs.Multiline.{DropsReturn}
 use Rattle.wave_lex.specs.Remaining.{Undecoded, ended_lines}
@@ -7,21 +7,19 @@ use Rattle.wave_lex.proofs.strings.MultilineStringParts.next_line.Goals as goal
 
 pub returns-then-length_of_spaces-self : goal.returns-then-length_of_spaces-self
 returns-then-length_of_spaces-self c =
-    let line = c.in_ok-line.line.now in
     rw (← c.self.view_is) (
-      record {
-        line = c.in_ok-line.line.now;
-        more = ended_lines c.in_ok-line.behind.now;
-        there = c.in_ok-line.ensures.lines;
-        bad = too_few c.in_ok-line.line.now c.length_of_spaces.result c.self.inside.indent c.if-length_of_spaces-self.true
+      inr (record {
+        line = c.in-Some.line.now;
+        more = ended_lines c.in-Some.behind.now;
+        there = c.in-Some.ensures.lines;
+        bad = too_few c.in-Some.line.now c.length_of_spaces.result c.self.inside.indent c.if-length_of_spaces-self.true
             (λ l. subst (λ (z : List ℕ). get_or z c.length_of_spaces.result 0 ≢ 32) c.as_bytes.ensures.value (c.length_of_spaces.ensures.stops (rw c.as_bytes.ensures.value l)));
-      },
-      record { refusal = c.with_static.ensures.refusal; detail = c.with_static.ensures.detail; at = c.with_static.ensures.span },
+      }),
       refl,
     )
 
 pub range_from-requires : goal.range_from-requires
-range_from-requires c = λ _. behind_spaces c.in_ok-line.line.now c.length_of_spaces.result c.self.inside.indent
+range_from-requires c = λ _. behind_spaces c.in-Some.line.now c.length_of_spaces.result c.self.inside.indent
     (subst (λ (z : List ℕ). IsUtf8 z) c.as_bytes.ensures.value c.as_bytes.ensures.utf8) c.if-length_of_spaces-self.false
     (rw (← ap length c.as_bytes.ensures.value) c.length_of_spaces.ensures.within)
     (λ i l. subst (λ (z : List ℕ). get_or z i 0 ≡ 32) c.as_bytes.ensures.value (c.length_of_spaces.ensures.spaces i l))
@@ -29,16 +27,16 @@ range_from-requires c = λ _. behind_spaces c.in_ok-line.line.now c.length_of_sp
 pub returns : goal.returns
 returns c =
     rw (← c.self.view_is) (record {
-      line = c.in_ok-line.line.now;
-      more = ended_lines c.in_ok-line.behind.now;
-      there = c.in_ok-line.ensures.lines;
-      indented = rw c.new-self-inside.ensures (indented c.in_ok-line.line.now c.without_final_return-text.result.now c.length_of_spaces.result c.self.inside.indent
+      line = c.in-Some.line.now;
+      more = ended_lines c.in-Some.behind.now;
+      there = c.in-Some.ensures.lines;
+      indented = rw c.new-self-inside.ensures (indented c.in-Some.line.now c.without_final_return-text.result.now c.length_of_spaces.result c.self.inside.indent
           c.if-length_of_spaces-self.false
           (rw (← ap length c.as_bytes.ensures.value) c.length_of_spaces.ensures.within)
           (λ i l. subst (λ (z : List ℕ). get_or z i 0 ≡ 32) c.as_bytes.ensures.value (c.length_of_spaces.ensures.spaces i l))
           (subst (λ (z : List ℕ). DropsReturn z c.without_final_return-text.result.now) c.range_from.ensures.value c.without_final_return-text.ensures));
       place = ap (λ (u : Undecoded). u.pos) c.new-self-inside.ensures;
       later = refl;
-      moved = refl;
+      moved = omega arith;
       stays = refl;
     })
