@@ -1,12 +1,12 @@
 //! What stands between the quotes of a char or a string.
-ghost use Rattle.std.specs.Prelude.{◌≡◌, ◌++◌, [], OnOk, IfErr};
+ghost use Rattle.std.specs.Prelude.{◌≡◌, ◌++◌, [], OnOk};
 ghost use Rattle.std.specs.String.{string_bytes};
 ghost use Rattle.wave_lex.specs.Parts.{part_text, left_of};
 ghost use Rattle.wave_grammar.specs.StringAssembly.{CharIn};
 ghost use Rattle.wave_grammar.specs.StringAssembly.{WantsMemory, IsUncopied, PutTogether};
-ghost use Rattle.wave_grammar.specs.Private.StringAssembly.{IsEnded};
+ghost use Rattle.wave_grammar.specs.Private.StringAssembly.{IsEnded, IsAppended};
 
-use std::alloc::Global;
+use std::alloc::{AllocError, Global};
 use std::borrow::CowStr;
 use wave_lex::error::{ParserError, ParserErrorKind};
 use wave_lex::lex::Span;
@@ -43,63 +43,106 @@ pub fn joined<'a>(
     ensures { PutTogether (IsUncopied (left_of parts.entry)) [] (left_of parts.entry) place.now result }
 {
     let mut parts = parts;
-    match parts.next() {
-        None => Ok(CowStr::Borrowed("")),
-        Some(Err(error)) => Err(error),
-        Some(Ok(StringPart::Run(run))) => behind_run(alloc, run, parts, place),
-        Some(Ok(StringPart::Char(c))) => copied(alloc, "", StringPart::Char(c), parts, place),
+    let most = parts.bytes_left();
+    match parts.part() {
+        None => match parts.end() {
+            Ok(()) => Ok(CowStr::Borrowed("")),
+            Err(error) => Err(error),
+        },
+        Some(StringPart::Run(run)) => behind_run(alloc, run, &mut parts, most, place),
+        Some(StringPart::Char(c)) => {
+            copied(alloc, "", StringPart::Char(c), &mut parts, most, place)
+        }
     }
 }
 
-/// The run, and after it the parts; borrowed where these are none.
+/// The run, and after it the parts; borrowed where these are none. A copy has room for `most` bytes
+/// at first.
+#[inline(always)]
 fn behind_run<'a>(
     alloc: Global,
     run: &'a str,
-    parts: StringPartsIter<'a>,
+    parts: &mut StringPartsIter<'a>,
+    most: usize,
     place: &Span,
 ) -> Result<CowStr<'a>, ParserError>
-    ensures { PutTogether (IsEnded (left_of parts.entry)) run.now (left_of parts.entry) place.now result }
+    ensures { PutTogether (IsEnded (left_of parts.old)) run.now (left_of parts.old) place.now result }
 {
-    let mut parts = parts;
-    match parts.next() {
-        None => Ok(CowStr::Borrowed(run)),
-        Some(Err(error)) => Err(error),
-        Some(Ok(part)) => copied(alloc, run, part, parts, place),
+    match parts.part() {
+        None => match parts.end() {
+            Ok(()) => Ok(CowStr::Borrowed(run)),
+            Err(error) => Err(error),
+        },
+        Some(part) => copied(alloc, run, part, parts, most, place),
     }
 }
 
-/// A copy of the text before it, the part, and after it the parts.
+/// A copy of the text before it, the part, and after it the parts. It has room for `most` bytes at
+/// first.
 fn copied<'a>(
     alloc: Global,
     front: &str,
     part: StringPart<'a>,
-    parts: StringPartsIter<'a>,
+    parts: &mut StringPartsIter<'a>,
+    most: usize,
     place: &Span,
 ) -> Result<CowStr<'a>, ParserError>
-    ensures { PutTogether ⊥ (front.now ++ part_text part.entry) (left_of parts.entry) place.now result }
+    ensures { PutTogether ⊥ (front.now ++ part_text part.entry) (left_of parts.old) place.now result }
 {
-    let mut parts = parts;
-    let mut text = String::new(alloc);
-    push_part(&mut text, StringPart::Run(front), place)?;
-    push_part(&mut text, part, place)?;
-    while let Some(next) = parts.next() {
-        push_part(&mut text, next?, place)?;
+    let Ok(mut text) = String::with_capacity(alloc, most) else {
+        return Err(out_of_memory(place));
+    };
+    let Ok(()) = push_all(&mut text, front, part, parts) else {
+        return Err(out_of_memory(place));
+    };
+    match parts.end() {
+        Ok(()) => Ok(CowStr::Owned(text)),
+        Err(error) => Err(error),
     }
-    Ok(CowStr::Owned(text))
+}
+
+/// The refusal for lack of memory.
+#[cold]
+#[inline(never)]
+fn out_of_memory(place: &Span) -> ParserError
+    ensures { WantsMemory place.now result }
+{
+    ParserError::new(ParserErrorKind::OutOfMemory, place.start..place.end)
+}
+
+/// The text before it, the part, and after it the parts that come.
+#[inline(always)]
+fn push_all<'a>(
+    text: &mut String,
+    front: &str,
+    part: StringPart<'a>,
+    parts: &mut StringPartsIter<'a>,
+) -> Result<(), AllocError>
+    ensures { OnOk result (IsAppended (left_of parts.old) (left_of parts.new) (string_bytes text.old ++ (front.now ++ part_text part.entry)) (string_bytes text.new)) }
+{
+    text.push_str(front)?;
+    push_part(text, part)?;
+    push_parts(text, parts)
+}
+
+/// The parts that come.
+#[inline(always)]
+fn push_parts(text: &mut String, parts: &mut StringPartsIter<'_>) -> Result<(), AllocError>
+    ensures { OnOk result (IsAppended (left_of parts.old) (left_of parts.new) (string_bytes text.old) (string_bytes text.new)) }
+{
+    while let Some(part) = parts.part() {
+        push_part(text, part)?;
+    }
+    Ok(())
 }
 
 /// One part more.
 #[inline(always)]
-fn push_part(text: &mut String, part: StringPart<'_>, place: &Span) -> Result<(), ParserError>
-    ensures pushed { OnOk result (string_bytes text.new ≡ string_bytes text.old ++ part_text part.entry) }
-    ensures refused { IfErr result (WantsMemory place.now) }
+fn push_part(text: &mut String, part: StringPart<'_>) -> Result<(), AllocError>
+    ensures { OnOk result (string_bytes text.new ≡ string_bytes text.old ++ part_text part.entry) }
 {
-    let pushed = match part {
+    match part {
         StringPart::Run(run) => text.push_str(run),
         StringPart::Char(c) => text.push(c),
-    };
-    match pushed {
-        Ok(()) => Ok(()),
-        Err(_) => Err(ParserError::new(ParserErrorKind::OutOfMemory, place.start..place.end)),
     }
 }

@@ -1,7 +1,6 @@
 -- How the parts of a string are put together.
-use Rattle.std.proofs.Common.{ℕ, ◌≡◌, ◌≢◌, ◌⊎◌, inl, inr, List, [], ◌∷◌, ◌++◌, Some, None, Result, Ok, Err, refl, sym, ap, subst, ◌∙◌, append_assoc}
+use Rattle.std.proofs.Common.{ℕ, ◌≡◌, ◌≢◌, ◌⊎◌, inl, inr, List, [], ◌∷◌, ◌++◌, Option, Some, None, Result, Ok, Err, refl, sym, ap, subst, ◌∙◌, append_assoc}
 use Rattle.std.specs.Borrow.{Bor}
-use Rattle.std.specs.Result.{IsErrAnd}
 use Rattle.std.proofs.lemmas.List.{append-nil}
 use Rattle.std.specs.declared.ops.Range.{Range}
 use Rattle.wave_lex.specs.declared.strings.StringPart.{StringPart}
@@ -9,17 +8,14 @@ use Rattle.wave_lex.specs.declared.strings.StringPart.TheVariants.{Run, Char}
 use Rattle.wave_lex.specs.Errors.{Diagnostic}
 use Rattle.wave_lex.specs.Remaining.{Undecoded, LinesLeft}
 use Rattle.wave_lex.specs.Parts.{part_text, part_texts, PartIs, LinePartIs, LinesRunTo}
-use Rattle.wave_lex.proofs.LineParts.{LinesRun, run_more, run_ended, run_refused, texts_more}
+use Rattle.wave_lex.specs.Shared.PartRuns.{LinesRun}
+use Rattle.wave_lex.proofs.LineParts.{run_more, run_ended, run_refused, texts_more}
 use Rattle.wave_lex.proofs.Decoding.{escape_head}
 use Rattle.wave_wasm.specs.Lists.{AllOf}
 use Rattle.wave_grammar.specs.StringAssembly.{BorrowedWhere, IsOneRun, IsRefusedFirst, IsUncopied, PutTogether}
-use Rattle.wave_grammar.specs.Private.StringAssembly.{IsEnded}
+use Rattle.wave_grammar.specs.Private.StringAssembly.{IsEnded, CameSoFar}
 use Rattle.std.specs.declared.borrow.CowStr.{CowStr}
 use Rattle.std.specs.declared.borrow.CowStr.TheVariants.{Borrowed, Owned}
-
--- the parts that came so far stand after the text
-abbrev pub CameSoFar : LinesLeft → LinesLeft → List ℕ → List ℕ → Type 0
-CameSoFar first left front text = (parts : List StringPart) × LinesRun first parts left × (text ≡ front ++ part_texts parts)
 
 -- one part more
 pub one_more : (first left next : LinesLeft) (front text longer : List ℕ) (p : StringPart) → CameSoFar first left front text → LinePartIs left (Some (Ok p)) next → longer ≡ text ++ part_text p → CameSoFar first next front longer
@@ -29,26 +25,14 @@ one_more first left next front text longer p (parts, run, e) step grown = (
   grown ∙ (ap (λ (z : List ℕ). z ++ part_text p) e ∙ (append_assoc front (part_texts parts) (part_text p) ∙ ap (λ (z : List ℕ). front ++ z) (sym (texts_more parts p)))),
 )
 
--- no part more
-pub all_came : (first left next : LinesLeft) (front text : List ℕ) → CameSoFar first left front text → LinePartIs left None next → (parts : List StringPart) × LinesRunTo first parts None × (text ≡ front ++ part_texts parts)
-all_came first left next front text (parts, run, e) step = (parts, run_ended first left next parts run step, e)
+-- all parts that come, before the end or a refusal
+pub followed_by : (first left : LinesLeft) (front text : List ℕ) (end : Option Diagnostic) → CameSoFar first left front text → LinesRunTo left [] end → (parts : List StringPart) × LinesRunTo first parts end × (text ≡ front ++ part_texts parts)
+followed_by first left front text None (parts, run, e) (next, step) = (parts, run_ended first left next parts run step, e)
+followed_by first left front text (Some f) (parts, run, e) (next, step) = (parts, run_refused first left next parts f run step, e)
 
--- a refusal
-pub refused_behind : (first left next : LinesLeft) (front text : List ℕ) (e : Diagnostic) → CameSoFar first left front text → LinePartIs left (Some (Err e)) next → (parts : List StringPart) × LinesRunTo first parts (Some e)
-refused_behind first left next front text e (parts, run, same) step = (parts, run_refused first left next parts e run step)
-
--- the text so far, and the first part after it
-pub begun : (front part empty first second : List ℕ) → empty ≡ [] → first ≡ empty ++ front → second ≡ first ++ part → second ≡ front ++ part
-begun front part empty first second e f g = g ∙ ap (λ (z : List ℕ). z ++ part) (f ∙ ap (λ (z : List ℕ). z ++ front) e)
-
--- after another text
-pub all_behind : (first : LinesLeft) (front same text : List ℕ) → front ≡ same → (parts : List StringPart) × LinesRunTo first parts None × (text ≡ front ++ part_texts parts) → (parts : List StringPart) × LinesRunTo first parts None × (text ≡ same ++ part_texts parts)
-all_behind first front same text e h = subst (λ (z : List ℕ). (parts : List StringPart) × LinesRunTo first parts None × (text ≡ z ++ part_texts parts)) e h
-
--- a refusal of a part is handed on
-pub handed_on : {A : Type 0} (P : Type 0) (front : List ℕ) (l : LinesLeft) (place : Range ℕ) (e : Diagnostic) (r : Result (CowStr A) Diagnostic) → IsErrAnd r (λ f. f ≡ e) → (parts : List StringPart) × LinesRunTo l parts (Some e) → PutTogether P front l place r
-handed_on P front l place e (Ok c) same h = absurd same
-handed_on P front l place e (Err f) same h = inl (subst (λ (z : Diagnostic). (parts : List StringPart) × LinesRunTo l parts (Some z)) (sym same) h)
+-- the parts behind a text that begins empty
+pub copied_from : (first left : LinesLeft) (empty front text : List ℕ) (end : Option Diagnostic) → empty ≡ [] → CameSoFar first left (empty ++ front) text → LinesRunTo left [] end → (parts : List StringPart) × LinesRunTo first parts end × (text ≡ front ++ part_texts parts)
+copied_from first left empty front text end e so_far = followed_by first left front text end (subst (λ (z : List ℕ). CameSoFar first left (z ++ front) text) e so_far)
 
 -- ---- a part before the others
 
