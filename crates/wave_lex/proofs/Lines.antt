@@ -315,10 +315,13 @@ last_byte (a ∷ z) b = last_byte z b
 
 -- a text whose last byte is another doesn't end in the carriage return
 pub keeps_end : (s : List ℕ) → (0 < length s → get_or s (length s - 1) 0 ≢ 13) → DropsReturn s s
-keeps_end s h = inr (refl, λ z e.
-    let long : length s ≡ length z + 1 = ap length e ∙ length-append z (13 ∷ []) in
-    let place : length s - 1 ≡ length z = omega arith in
-    h (omega arith) (ap (λ (k : ℕ). get_or s k 0) place ∙ (ap (λ (x : List ℕ). get_or x (length z) 0) e ∙ last_byte z 13)))
+keeps_end s h = inr (
+  refl,
+  λ z e.
+      let long : length s ≡ length z + 1 = ap length e ∙ length-append z (13 ∷ []) in
+      let place : length s - 1 ≡ length z = omega arith in
+      h (omega arith) (ap (λ (k : ℕ). get_or s k 0) place ∙ (ap (λ (x : List ℕ). get_or x (length z) 0) e ∙ last_byte z 13)),
+)
 
 -- after the last line feed that was found
 pub behind_found : (s : List ℕ) (k : ℕ) → (k < length s) × (get_or s k 0 ≡ 10) × ((i : ℕ) → k < i → i < length s → get_or s i 0 ≢ 10) → BehindLastFeed s (k + 1)

@@ -1,12 +1,13 @@
 -- Where an escape stands at the start of a text.
-use Rattle.std.proofs.Common.{◌≡◌, ℕ, ◌≤◌, ◌<◌, ◌+◌, ◌^◌, zero, suc, List, [], ◌∷◌, ◌++◌, inl, inr, refl, sym, ap, subst, ◌∙◌, length, take, drop, arith, Some, None, get_or, append_assoc, length-append, length-take-le, length-drop, ◌-◌, true, false, cond, Bool, lit<}
-use Rattle.std.specs.Prelude.{nat_eq}
+use Rattle.std.proofs.Common.{◌≡◌, ℕ, ◌≤◌, ◌<◌, ◌+◌, ◌*◌, ◌^◌, zero, suc, List, [], ◌∷◌, ◌++◌, inl, inr, refl, sym, ap, subst, ◌∙◌, length, take, drop, arith, Some, None, get_or, append_assoc, length-append, length-take-le, length-drop, ◌-◌, min, take-take, get_or-take}
 use Rattle.std.specs.Char.{IsScalar, digit_value}
-use Rattle.std.specs.Str.Parse.{AllDigits, IsNumeral, digits_value, without_leading_plus}
-use Rattle.std.proofs.lemmas.Int.Digits.{digits_value-lt}
-use Rattle.std.proofs.lemmas.Bool.Decides.{nat_tests}
+use Rattle.std.specs.Str.Parse.{AllDigits, digits_value}
+use Rattle.std.proofs.lemmas.Bool.{cases_lt}
+use Rattle.std.proofs.lemmas.Int.Digits.{digits_value-lt, digits_value_more}
+use Rattle.std.proofs.Math.Dec.{lit≤}
 use Rattle.std.proofs.Math.Seq.{take-length}
 use Rattle.wave_lex.specs.Strings.{short_escape, IsEscape, UnescapesTo}
+use Rattle.wave_lex.specs.Private.Lines.{IsNumberAt}
 
 -- n digits are right: one to six, closed by `}`, the number of a scalar
 pub record Good (d : List ℕ) (n : ℕ) : Type 0 where
@@ -133,34 +134,103 @@ short [] c l a b = let w : ⊥ = omega arith in absurd w
 short (x ∷ []) c l a b = let w : ⊥ = omega arith in absurd w
 short (x ∷ y ∷ s) c l a b = (92 ∷ y ∷ [], s, inl (y, refl, b), ap (λ (z : ℕ). z ∷ y ∷ s) a, refl)
 
--- a digit is no plus
-by_test : (b : ℕ) (x : List ℕ) (t : Bool) → nat_eq b 43 ≡ t → digit_value b < 16 → drop (cond t 1 0) (b ∷ x) ≡ b ∷ x
-by_test b x false e h = refl
-by_test b x true e h =
-    let same : b ≡ 43 = grind (arith, nat_tests) in
-    let bad : 36 < 16 = subst (λ (z : ℕ). digit_value z < 16) same h in
-    let w : ⊥ = omega arith in absurd w
+-- five digits are a number that one more fits behind
+pub fits_five : (n : ℕ) → n ≤ 5 → 16 ^ n ≤ 1048576
+fits_five zero l = lit≤ tt
+fits_five (suc zero) l = lit≤ tt
+fits_five (suc (suc zero)) l = lit≤ tt
+fits_five (suc (suc (suc zero))) l = lit≤ tt
+fits_five (suc (suc (suc (suc zero)))) l = lit≤ tt
+fits_five (suc (suc (suc (suc (suc zero))))) l = lit≤ tt
+fits_five (suc (suc (suc (suc (suc (suc n)))))) l = let w : ⊥ = omega arith in absurd w
 
--- digits have no plus to leave out
-pub no_plus : (x : List ℕ) → AllDigits 16 x → without_leading_plus x ≡ x
-no_plus [] a = refl
-no_plus (b ∷ x) a = by_test b x (nat_eq b 43) refl a.0
+-- the first n bytes of s are hexadecimal digits, and v is their number
+pub record DigitsSoFar (s : List ℕ) (n v : ℕ) : Type 0 where
+  pub digits : (i : ℕ) → i < n → digit_value (get_or s i 0) < 16
+  pub number : v ≡ digits_value 16 (take n s)
 
--- six digits fit into 32 bits
-pub small_power : (n : ℕ) → n ≤ 6 → 16 ^ n < 2 ^ 32
-small_power zero l = lit< tt
-small_power (suc zero) l = lit< tt
-small_power (suc (suc zero)) l = lit< tt
-small_power (suc (suc (suc zero))) l = lit< tt
-small_power (suc (suc (suc (suc zero)))) l = lit< tt
-small_power (suc (suc (suc (suc (suc zero))))) l = lit< tt
-small_power (suc (suc (suc (suc (suc (suc zero)))))) l = lit< tt
-small_power (suc (suc (suc (suc (suc (suc (suc n))))))) l = let w : ⊥ = omega arith in absurd w
+-- five digits are a small number
+pub small_number : (s : List ℕ) (n v : ℕ) → n < length s → length s ≤ 6 → DigitsSoFar s n v → v < 1048576
+small_number s n v l few h =
+    let long : length (take n s) ≡ n = length-take-le n s (omega arith) in
+    let below = digits_value-lt 16 (take n s) (all_digits s n (omega arith) h.digits) in
+    let power = fits_five (length (take n s)) (omega arith) in
+    let number = h.number in omega arith
 
--- the digits are a numeral of 32 bits
-pub numeral : (x : List ℕ) → 1 ≤ length x → length x ≤ 6 → AllDigits 16 x → IsNumeral 16 (without_leading_plus x) × (digits_value 16 (without_leading_plus x) < 2 ^ 32)
-numeral x l m a =
-    let P : List ℕ → Type 0 = λ z. IsNumeral 16 z × (digits_value 16 z < 2 ^ 32) in
-    let v = digits_value-lt 16 x a in
-    let p = small_power (length x) m in
-    subst P (sym (no_plus x a)) ((l, a), omega arith)
+-- one digit more
+pub one_digit_more : (s : List ℕ) (n v b d : ℕ) → n < length s → b ≡ get_or s n 0 → (digit_value b < 16) × (d ≡ digit_value b) → DigitsSoFar s n v → DigitsSoFar s (n + 1) (v * 16 + d)
+one_digit_more s n v b d l e (digit, same) h = record {
+  digits = λ i j. elim (cases_lt i n) as (λ _. digit_value (get_or s i 0) < 16) [
+    | inl less ↦ h.digits i less
+    | inr more ↦ let last : i ≡ n = omega arith in
+        subst (λ (k : ℕ). digit_value (get_or s k 0) < 16) (sym last) (subst (λ (z : ℕ). digit_value z < 16) e digit)
+  ];
+  number = ap (λ (z : ℕ). z * 16 + d) h.number ∙ (ap (λ (z : ℕ). digits_value 16 (take n s) * 16 + z) (same ∙ ap digit_value e) ∙ sym (digits_value_more 16 s n l));
+}
+
+-- all the digits at the start can be counted
+pub count_of : (d : List ℕ) → (n : ℕ) × Counts d n
+count_of [] = (0, record { digits = λ i l. let w : ⊥ = omega arith in absurd w; stops = λ l. let w : ⊥ = omega arith in absurd w })
+count_of (b ∷ d) = elim (cases_lt (digit_value b) 16) [
+  | inl digit ↦ let (n, h) = count_of d in (
+    suc n,
+    record {
+      digits = λ i l. one_more i l digit h;
+      stops = λ l. h.stops (omega arith);
+    },
+  )
+  | inr other ↦ (0, record { digits = λ i l. let w : ⊥ = omega arith in absurd w; stops = λ l. other })
+]
+  where
+    one_more : (i : ℕ) {n : ℕ} → i < suc n → digit_value b < 16 → Counts d n → digit_value (get_or (b ∷ d) i 0) < 16
+    one_more zero l digit h = digit
+    one_more (suc i) l digit h = h.digits i (omega arith)
+
+-- a byte among the first six
+few_at : (d f : List ℕ) (i : ℕ) → f ≡ take (min (length d) 6) d → i < length f → get_or f i 0 ≡ get_or d i 0
+few_at d f i e l =
+    let long : length f ≡ min (length d) 6 = ap length e ∙ length-take-le (min (length d) 6) d (omega arith) in
+    ap (λ (z : List ℕ). get_or z i 0) e ∙ get_or-take (min (length d) 6) d i 0 (omega arith)
+
+-- where all digits are six at most, those among the first six are all
+few_are_all : (d f : List ℕ) (m n v : ℕ) → f ≡ take (min (length d) 6) d → Counts d m → IsNumberAt f n v → m ≤ 6 → m < length d → n ≡ m
+few_are_all d f m n v e h k few inside =
+    let long : length f ≡ min (length d) 6 = ap length e ∙ length-take-le (min (length d) 6) d (omega arith) in
+    let fits : n ≤ length f = k.within in
+    elim (cases_lt n m) as (λ _. n ≡ m) [
+      | inl less ↦ (
+          let here : n < length f = omega arith in
+          let same = few_at d f n e here in
+          let digit : digit_value (get_or d n 0) < 16 = h.digits n less in
+          let other : 16 ≤ digit_value (get_or f n 0) = k.stops here in
+          let other_here : 16 ≤ digit_value (get_or d n 0) = subst (λ (b : ℕ). 16 ≤ digit_value b) same other in
+          absurd (omega arith))
+      | inr more ↦ elim (cases_lt m n) as (λ _. n ≡ m) [
+        | inl less ↦ (
+            let same = few_at d f m e (omega arith) in
+            let digit : digit_value (get_or f m 0) < 16 = k.digits m less in
+            let digit_here : digit_value (get_or d m 0) < 16 = subst (λ (b : ℕ). digit_value b < 16) same digit in
+            let other : 16 ≤ digit_value (get_or d m 0) = h.stops inside in
+            absurd (omega arith))
+        | inr least ↦ omega arith
+      ]
+    ]
+
+-- where the digits among the first six are not right, no escape stands
+pub none_few : (s d f : List ℕ) (n v : ℕ) → s ≡ 92 ∷ 117 ∷ 123 ∷ d → f ≡ take (min (length d) 6) d → IsNumberAt f n v → (Good d n → ⊥) → UnescapesTo s None
+none_few s d f n v w e k bad =
+    let (m, h) = count_of d in
+    none_long s d m w h (λ g. bad (subst (Good d) (sym (few_are_all d f m n v e h k g.few g.within)) g))
+
+-- where the digits among the first six are closed, they are all, and their number is that of the escape
+pub few_closed : (d f : List ℕ) (n v : ℕ) → f ≡ take (min (length d) 6) d → IsNumberAt f n v → n < length d → get_or d n 0 ≡ 125 → Counts d n × (n ≤ 6) × (v ≡ digits_value 16 (take n d))
+few_closed d f n v e k inside closed =
+    let long : length f ≡ min (length d) 6 = ap length e ∙ length-take-le (min (length d) 6) d (omega arith) in
+    let fits : n ≤ length f = k.within in (
+      record {
+        digits = λ i l. subst (λ (b : ℕ). digit_value b < 16) (few_at d f i e (omega arith)) (k.digits i l);
+        stops = λ l. subst (λ (b : ℕ). 16 ≤ digit_value b) (sym closed) (omega arith);
+      },
+      omega arith,
+      k.number ∙ ap (λ (z : List ℕ). digits_value 16 z) (ap (take n) e ∙ take-take n (min (length d) 6) d (omega arith)),
+    )

@@ -8,12 +8,15 @@ ghost use Rattle.wave_lex.specs.Multiline.{pieces, closing_piece, DropsReturn};
 ghost use Rattle.wave_lex.specs.declared.strings.StringPartsIter.TheVariants.{Normal};
 ghost use Rattle.wave_lex.specs.Remaining.{ended_lines, size_of};
 ghost use Rattle.wave_lex.specs.Parts.{PartIs, LinePartIs, LinesRunTo, OpensTo, OpeningRefused, TakesPart, NoPartNext, EntersLine, TellsBadEscape, TellsBadLine, left_of};
-ghost use Rattle.wave_lex.specs.Private.Lines.{IsRun, PartTaken, EndIs, LinesEndIs, NoLineEntered, SplitsLine, OpeningIs, BehindLastFeed};
+ghost use Rattle.wave_lex.specs.Private.Lines.{IsNumberAt, IsRun, PartTaken, EndIs, LinesEndIs, NoLineEntered, SplitsLine, OpeningIs, BehindLastFeed};
 
 use crate::error::{ParserError, ParserErrorKind};
 use crate::machine::escape::short_escape;
 use memchr::memchr;
 use std::marker::Model;
+
+/// How many digits an escape has at most.
+const MOST_DIGITS: usize = 6;
 
 /// How many bytes of a run are looked at in turn before the others are searched at once.
 const FEW: usize = 16;
@@ -376,13 +379,28 @@ pub fn unescape(src: &str) -> Option<(char, usize)>
         return None;
     }
     let digits = &bytes[3..];
-    let count = hex_length(digits);
-    if count == 0 || count > 6 || count >= digits.len() || digits[count] != b'}' {
+    let (count, value) = hexadecimal(&digits[..digits.len().min(MOST_DIGITS)]);
+    if count == 0 || count >= digits.len() || digits[count] != b'}' {
         return None;
     }
-    let value = u32::from_str_radix(&src[3..3 + count], 16).ok()?;
     let scalar = char::from_u32(value)?;
     Some((scalar, count + 4))
+}
+
+/// How many hexadecimal digits stand at the start, and the number that they are.
+#[inline(always)]
+fn hexadecimal(bytes: &[u8]) -> (usize, u32)
+    requires { length bytes.now ≤ 6 }
+    ensures { IsNumberAt bytes.now result.0 result.1 }
+{
+    let mut value = 0;
+    for (i, byte) in bytes.iter().enumerate() {
+        let Some(digit) = char::from(*byte).to_digit(16) else {
+            return (i, value);
+        };
+        value = value * 16 + digit;
+    }
+    (bytes.len(), value)
 }
 
 /// Each hexadecimal digit at its own place, and a comma at every other.

@@ -1,5 +1,7 @@
--- How the code keeps the lines of a multiline string. No public contract needs it.
+-- How the code reads an escape, and keeps the lines of a multiline string. No public contract needs it.
 use Rattle.std.specs.Prelude.{◌≡◌, ◌≢◌, ◌⊎◌, ℕ, ◌+◌, ◌-◌, ◌<◌, ◌≤◌, List, [], ◌∷◌, ◌++◌, take, drop, length, Option, Some, None, Result, Ok, Err, slice_index}
+use Rattle.std.specs.Char.{digit_value}
+use Rattle.std.specs.Str.Parse.{digits_value}
 use Rattle.wave_lex.specs.Errors.{Diagnostic}
 use Rattle.wave_lex.specs.declared.strings.StringPart.{StringPart}
 use Rattle.wave_lex.specs.Tokens.{backslash, line_feed}
@@ -12,6 +14,13 @@ pub record IsRun (s : List ℕ) (k : ℕ) : Type 0 where
   pub within : k ≤ length s
   pub before : (i : ℕ) → i < k → slice_index s i ≢ backslash
   pub stops : k < length s → slice_index s k ≡ backslash
+
+-- n hexadecimal digits stand at the start of s, and no more, and value is their number
+pub record IsNumberAt (s : List ℕ) (n value : ℕ) : Type 0 where
+  pub within : n ≤ length s
+  pub digits : (i : ℕ) → i < n → digit_value (slice_index s i) < 16
+  pub stops : n < length s → 16 ≤ digit_value (slice_index s n)
+  pub number : value ≡ digits_value 16 (take n s)
 
 -- a run or an escape is taken; or there is none, and nothing is taken
 abbrev pub PartTaken : Undecoded → Option StringPart → Undecoded → Type 0
