@@ -3,7 +3,7 @@ use Rattle.std.specs.Prelude.{MatchBool}
 use Rattle.std.proofs.Common.{◌≡◌, ℕ, ◌≤◌, ◌<◌, ◌+◌, ◌-◌, ◌≢◌, zero, suc, Bool, true, false, nat_eq, List, [], ◌∷◌, ◌++◌, ◌⊎◌, inl, inr, Option, None, Some, Result, Ok, Err, refl, sym, ap, subst, ◌∙◌, length, take, drop, arith, get_or, length-append, length-drop, length-take-le}
 use Rattle.std.specs.Prelude.{if◌then◌else◌}
 use Rattle.std.proofs.lemmas.Bool.{cases_lt, eqb-true}
-use Rattle.memchr.specs.Find.{IsFirstByte, is_byte}
+use Rattle.memchr.specs.Find.{IsFirstByte, is_byte, is_byte2}
 use Rattle.std.proofs.lemmas.Bool.Decides.{nat_tests}
 use Rattle.std.specs.Str.{IsUtf8, IsCharBoundary}
 use Rattle.std.proofs.lemmas.Str.{IsCharBoundary-start, IsCharBoundary-after_ascii}
@@ -13,6 +13,7 @@ use Rattle.wave_lex.proofs.Decoding.{length_spaces}
 use Rattle.wave_lex.specs.Multiline.{put_first, pieces, spaces, DropsReturn, IsIndented, Opens, IsSpaces, without_return, last_of, closing_piece, OpensWell}
 use Rattle.wave_lex.specs.Remaining.{Undecoded, LinesLeft, but_last, ended_lines}
 use Rattle.wave_lex.specs.Parts.{Begins, EntersLine, HasBadLine}
+use Rattle.wave_lex.specs.Private.Runs.{IsRun}
 use Rattle.wave_lex.specs.Private.Lines.{BehindLastFeed, SplitsLine, OpeningIs, NoLineEntered}
 
 -- ---- spaces
@@ -293,6 +294,49 @@ feed_found s t k e (first, there) = subst (λ (z : List ℕ). FeedAt z k) e (rec
   there = eqb-true (get_or t k 0) 10 there;
   before = λ i l f. first.before i (omega arith) l (is_feed (get_or t i 0) f);
 })
+
+is_stop : (b : ℕ) → (b ≡ 10) ⊎ (b ≡ 92) → is_byte2 10 92 b ≡ true
+is_stop b (inl e) = grind (arith, nat_tests)
+is_stop b (inr e) = grind (arith, nat_tests)
+
+-- no line is ended where neither a line feed nor a `\` was found
+pub no_stop_found : (s t : List ℕ) → t ≡ s → IsFirstByte (is_byte2 10 92) t None → ended_lines s ≡ []
+no_stop_found s t e h = none_ended s (λ i l f. h i (omega arith) (omega (arith, ap length e)) (is_stop (get_or t i 0) (inl (ap (λ (z : List ℕ). get_or z i 0) e ∙ f))))
+
+-- a line feed that was found before any `\`
+pub plain_feed_found : (s t : List ℕ) (k : ℕ) → t ≡ s → IsFirstByte (is_byte2 10 92) t (Some k) → get_or t k 0 ≡ 10 → FeedAt s k × ((i : ℕ) → i < k → get_or s i 0 ≢ 92)
+plain_feed_found s t k e (first, there) feed = (
+  subst (λ (z : List ℕ). FeedAt z k) e (record { within = first.high; there = feed; before = λ i l f. first.before i (omega arith) l (is_stop (get_or t i 0) (inl f)) }),
+  λ i l f. first.before i (omega arith) l (is_stop (get_or t i 0) (inr (ap (λ (z : List ℕ). get_or z i 0) e ∙ f))),
+)
+
+-- a text without `\` is a run
+pub whole_run : (s : List ℕ) (n : ℕ) → n ≡ length s → ((i : ℕ) → i < length s → get_or s i 0 ≢ 92) → IsRun s n
+whole_run s n e h = record { within = omega arith; before = λ i l. h i (omega arith); stops = λ l. let w : ⊥ = omega arith in absurd w }
+
+-- the line before a line feed is a run where no `\` stands before it
+pub line_run : (s line : List ℕ) (k : ℕ) → k ≤ length s → line ≡ take k s → ((i : ℕ) → i < k → get_or s i 0 ≢ 92) → IsRun line (length line)
+line_run s line k l e h =
+    let long : length line ≡ k = ap length e ∙ length-take-le k s l in
+    whole_run line (length line) refl (λ i j f. h i (omega arith) (sym (take_at s k i (omega arith) l) ∙ (ap (λ (z : List ℕ). get_or z i 0) (sym e) ∙ f)))
+
+-- what is left of a line without `\` has none
+pub left_run : (line x y : List ℕ) (n : ℕ) → IsRun line (length line) → x ≡ drop n line → DropsReturn x y → n ≤ length line → IsRun y (length y)
+left_run line x y n run e drops l =
+    let long : length x ≡ length line - n = ap length e ∙ length-drop n line in
+    let plain : (i : ℕ) → i < length x → get_or x i 0 ≢ 92 =
+    λ i j f. run.before (n + i) (omega arith) (sym (drop_at line n i) ∙ (ap (λ (z : List ℕ). get_or z i 0) (sym e) ∙ f)) in
+    by_cases drops plain
+  where
+    front_at : (y : List ℕ) (i : ℕ) → i < length y → get_or (y ++ 13 ∷ []) i 0 ≡ get_or y i 0
+    front_at [] i j = let w : ⊥ = omega arith in absurd w
+    front_at (a ∷ y) zero j = refl
+    front_at (a ∷ y) (suc i) j = front_at y i (omega arith)
+
+    by_cases : DropsReturn x y → ((i : ℕ) → i < length x → get_or x i 0 ≢ 92) → IsRun y (length y)
+    by_cases (inl f) plain =
+        whole_run y (length y) refl (λ i j g. plain i (omega (arith, ap length f, length-append y (13 ∷ []))) (ap (λ (z : List ℕ). get_or z i 0) f ∙ (front_at y i j ∙ g)))
+    by_cases (inr (f, others)) plain = subst (λ (z : List ℕ). IsRun z (length z)) f (whole_run x (length x) refl plain)
 
 -- the line before the first line feed, and what stands after it
 pub line_split : (s line behind : List ℕ) (k : ℕ) → FeedAt s k → line ≡ take k s → behind ≡ drop (k + 1) s → SplitsLine s line behind

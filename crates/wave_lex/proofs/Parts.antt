@@ -18,7 +18,7 @@ use Rattle.wave_lex.specs.declared.strings.StringPart.TheVariants.{Run, Char}
 use Rattle.wave_lex.specs.Strings.{short_escape, IsEscape, Decodes, UnescapesTo, IsBadEscapeAt}
 use Rattle.wave_lex.specs.Parts.{part_text, part_texts, TakesRun, TakesEscape, TellsBadEscape, MeetsBadEscape, BeginsNoEscape, PartIs, RunsTo, PartsJoin}
 use Rattle.wave_lex.specs.Remaining.{Undecoded}
-use Rattle.wave_lex.specs.Private.Lines.{IsRun}
+use Rattle.wave_lex.specs.Private.Runs.{IsRun}
 use Rattle.wave_lex.proofs.Decoding.{plain_from, escape_from}
 
 -- ---- one step

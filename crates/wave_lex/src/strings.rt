@@ -1,5 +1,5 @@
 //! What the escapes of a string stand for, and the parts of a string, one by one.
-ghost use Rattle.std.specs.Prelude.{◌≡◌, ℕ, ◌+◌, ◌<◌, ◌≤◌, ◌^◌, ◌≢◌, nat_lt, [], Some, None, length, slice_index, MatchBool, MatchResult, MatchOption};
+ghost use Rattle.std.specs.Prelude.{◌≡◌, ℕ, ◌+◌, ◌<◌, ◌≤◌, ◌^◌, ◌≢◌, nat_lt, [], Some, None, length, slice_index, IsTrue, MatchBool, MatchResult, MatchOption};
 ghost use Rattle.std.specs.Iterator.{at_most};
 ghost use Rattle.std.specs.Char.{digit_value};
 ghost use Rattle.std.specs.Str.{IsUtf8};
@@ -8,11 +8,12 @@ ghost use Rattle.wave_lex.specs.Multiline.{pieces, closing_piece, DropsReturn};
 ghost use Rattle.wave_lex.specs.declared.strings.StringPartsIter.TheVariants.{Normal};
 ghost use Rattle.wave_lex.specs.Remaining.{ended_lines, size_of};
 ghost use Rattle.wave_lex.specs.Parts.{PartIs, LinePartIs, LinesRunTo, OpensTo, OpeningRefused, TakesPart, NoPartNext, EntersLine, TellsBadEscape, TellsBadLine, left_of};
-ghost use Rattle.wave_lex.specs.Private.Lines.{IsNumberAt, IsRun, PartTaken, EndIs, LinesEndIs, NoLineEntered, SplitsLine, OpeningIs, BehindLastFeed};
+ghost use Rattle.wave_lex.specs.Private.Runs.{IsRun};
+ghost use Rattle.wave_lex.specs.Private.Lines.{IsNumberAt, PartTaken, EndIs, LinesEndIs, NoLineEntered, SplitsLine, OpeningIs, BehindLastFeed};
 
 use crate::error::{ParserError, ParserErrorKind};
 use crate::machine::escape::short_escape;
-use memchr::memchr;
+use memchr::{memchr, memchr2};
 use std::marker::Model;
 
 /// How many digits an escape has at most.
@@ -35,17 +36,19 @@ pub enum StringPart<'a> {
 pub struct StringParts<'a> {
     src: &'a str,
     pos: usize,
+    run: usize,
 }
 
 impl<'a> Model for StringParts<'a> {
     ghost use Rattle.std.specs.Prelude.{◌+◌, ◌<◌, ◌^◌, length};
     ghost use Rattle.wave_lex.specs.Remaining.{Undecoded};
+    ghost use Rattle.wave_lex.specs.Private.Runs.{IsRun};
 
     ghost Value = { Undecoded };
 
     ghost view = { λ p. record { rest = p.src.now; pos = p.pos } };
 
-    ghost invariant = { λ p. p.pos + length p.src.now + 3 < 2 ^ 64 };
+    ghost invariant = { λ p. (p.pos + length p.src.now + 3 < 2 ^ 64) × IsRun p.src.now p.run };
 }
 
 impl<'a> StringParts<'a> {
@@ -54,7 +57,22 @@ impl<'a> StringParts<'a> {
         requires { pos + length src.now + 3 < 2 ^ 64 }
         ensures { result ≡ record { rest = src.now; pos = pos } }
     {
-        StringParts { src, pos }
+        let run = run_length(src);
+        StringParts { src, pos, run }
+    }
+
+    /// The same, where `src` is said to have no backslash, or not; in the first case none is searched.
+    #[inline(always)]
+    fn of_line(src: &'a str, pos: usize, is_plain: bool) -> StringParts<'a>
+        requires fits { pos + length src.now + 3 < 2 ^ 64 }
+        requires plain { IsTrue is_plain → IsRun src.now (length src.now) }
+        ensures { result ≡ record { rest = src.now; pos = pos } }
+    {
+        if is_plain {
+            let run = src.len();
+            return StringParts { src, pos, run };
+        }
+        StringParts::new(src, pos)
     }
 
     /// The next run or escape. None where there is none, at the end and at a backslash that begins
@@ -63,16 +81,20 @@ impl<'a> StringParts<'a> {
     fn part(&mut self) -> Option<StringPart<'a>>
         ensures { PartTaken self.old result self.new }
     {
-        let run = run_length(self.src);
-        if run > 0 {
-            let (part, rest) = self.src.split_at(run);
+        if self.run > 0 {
+            let (part, rest) = self.src.split_at(self.run);
             self.src = rest;
-            self.pos += run;
+            self.pos += self.run;
+            self.run = 0;
             return Some(StringPart::Run(part));
+        }
+        if self.src.as_bytes().is_empty() {
+            return None;
         }
         let (c, count) = unescape(self.src)?;
         self.src = &self.src[count..];
         self.pos += count;
+        self.run = run_length(self.src);
         Some(StringPart::Char(c))
     }
 
@@ -115,6 +137,7 @@ impl<'a> Iterator for StringParts<'a> {
             Ok(()) => None,
             Err(error) => {
                 self.src = "";
+                self.run = 0;
                 Some(Err(error))
             }
         }
@@ -182,14 +205,14 @@ impl<'a> MultilineStringParts<'a> {
     fn next_line(&mut self) -> bool
         ensures { MatchBool result (EntersLine self.old self.new) (NoLineEntered self.old self.new) }
     {
-        let Some((line, behind)) = split_line(self.rest) else {
+        let Some((line, is_plain, behind)) = split_line(self.rest) else {
             return false;
         };
         if length_of_spaces(line.as_bytes()) < self.indent {
             return false;
         }
         let text = without_final_return(&line[self.indent..]);
-        self.line = StringParts::new(text, self.next + self.indent);
+        self.line = StringParts::of_line(text, self.next + self.indent, is_plain);
         self.rest = behind;
         self.next += line.len() + 1;
         true
@@ -247,7 +270,7 @@ impl<'a> Iterator for MultilineStringParts<'a> {
         match self.end() {
             Ok(()) => None,
             Err(error) => {
-                self.line.src = "";
+                self.line = StringParts::new("", self.line.pos);
                 self.rest = "";
                 Some(Err(error))
             }
@@ -523,12 +546,19 @@ fn opening_length(src: &str) -> Option<usize>
     Some(first)
 }
 
-/// The first line and what stands after its line feed; None where there is no line feed.
-fn split_line(text: &str) -> Option<(&str, &str)>
-    ensures { MatchOption result (ended_lines text.now ≡ []) (λ parts. SplitsLine text.now parts.0.now parts.1.now) }
+/// The first line, whether it has no backslash, and what stands after its line feed; None where there
+/// is no line feed.
+#[inline(always)]
+fn split_line(text: &str) -> Option<(&str, bool, &str)>
+    ensures { MatchOption result (ended_lines text.now ≡ []) (λ cut. SplitsLine text.now cut.0.now cut.2.now × (IsTrue cut.1 → IsRun cut.0.now (length cut.0.now))) }
 {
-    let end = memchr(b'\n', text.as_bytes())?;
-    Some((&text[..end], &text[end + 1..]))
+    let bytes = text.as_bytes();
+    let stop = memchr2(b'\n', b'\\', bytes)?;
+    if bytes[stop] == b'\n' {
+        return Some((&text[..stop], true, &text[stop + 1..]));
+    }
+    let end = memchr(b'\n', bytes)?;
+    Some((&text[..end], false, &text[end + 1..]))
 }
 
 /// The line without one carriage return at its end.

@@ -4,16 +4,10 @@ use Rattle.std.specs.Char.{digit_value}
 use Rattle.std.specs.Str.Parse.{digits_value}
 use Rattle.wave_lex.specs.Errors.{Diagnostic}
 use Rattle.wave_lex.specs.declared.strings.StringPart.{StringPart}
-use Rattle.wave_lex.specs.Tokens.{backslash, line_feed}
+use Rattle.wave_lex.specs.Tokens.{line_feed}
 use Rattle.wave_lex.specs.Multiline.{pieces, Opens, OpensWell}
 use Rattle.wave_lex.specs.Remaining.{Undecoded, LinesLeft, ended_lines}
 use Rattle.wave_lex.specs.Parts.{PartIs, BeginsNoEscape, TellsBadEscape, TellsBadLine, HasBadLine}
-
--- k bytes stand before the first `\`
-pub record IsRun (s : List ℕ) (k : ℕ) : Type 0 where
-  pub within : k ≤ length s
-  pub before : (i : ℕ) → i < k → slice_index s i ≢ backslash
-  pub stops : k < length s → slice_index s k ≡ backslash
 
 -- n hexadecimal digits stand at the start of s, and no more, and value is their number
 pub record IsNumberAt (s : List ℕ) (n value : ℕ) : Type 0 where

@@ -11,7 +11,7 @@ returns-then-length_of_spaces-self c =
       inr (record {
         line = c.in-Some.line.now;
         more = ended_lines c.in-Some.behind.now;
-        there = c.in-Some.ensures.lines;
+        there = c.in-Some.ensures.0.lines;
         bad = too_few c.in-Some.line.now c.length_of_spaces.result c.self.inside.indent c.if-length_of_spaces-self.true
             (λ l. subst (λ (z : List ℕ). get_or z c.length_of_spaces.result 0 ≢ 32) c.as_bytes.ensures.value (c.length_of_spaces.ensures.stops (rw c.as_bytes.ensures.value l)));
       }),
@@ -29,13 +29,13 @@ returns c =
     rw (← c.self.view_is) (record {
       line = c.in-Some.line.now;
       more = ended_lines c.in-Some.behind.now;
-      there = c.in-Some.ensures.lines;
-      indented = rw c.new-self-inside.ensures (indented c.in-Some.line.now c.without_final_return-text.result.now c.length_of_spaces.result c.self.inside.indent
+      there = c.in-Some.ensures.0.lines;
+      indented = rw c.of_line-self-inside.ensures (indented c.in-Some.line.now c.without_final_return-text.result.now c.length_of_spaces.result c.self.inside.indent
           c.if-length_of_spaces-self.false
           (rw (← ap length c.as_bytes.ensures.value) c.length_of_spaces.ensures.within)
           (λ i l. subst (λ (z : List ℕ). get_or z i 0 ≡ 32) c.as_bytes.ensures.value (c.length_of_spaces.ensures.spaces i l))
           (subst (λ (z : List ℕ). DropsReturn z c.without_final_return-text.result.now) c.range_from.ensures.value c.without_final_return-text.ensures));
-      place = ap (λ (u : Undecoded). u.pos) c.new-self-inside.ensures;
+      place = ap (λ (u : Undecoded). u.pos) c.of_line-self-inside.ensures;
       later = refl;
       moved = omega arith;
       stays = refl;
