@@ -1,6 +1,6 @@
 -- The pieces of a text between its line feeds, and the spaces at the start of a line.
 use Rattle.std.specs.Prelude.{MatchBool}
-use Rattle.std.proofs.Common.{◌≡◌, ℕ, ◌≤◌, ◌<◌, ◌+◌, ◌-◌, ◌≢◌, zero, suc, Bool, true, false, nat_eq, List, [], ◌∷◌, ◌++◌, ◌⊎◌, inl, inr, Option, None, Some, Result, Ok, Err, refl, sym, ap, subst, ◌∙◌, length, take, drop, arith, get_or, length-append, length-drop, length-take-le}
+use Rattle.std.proofs.Common.{◌≡◌, ℕ, ◌≤◌, ◌<◌, ◌+◌, ◌-◌, ◌≢◌, zero, suc, Bool, true, false, nat_eq, List, [], ◌∷◌, ◌++◌, ◌⊎◌, inl, inr, None, Some, refl, sym, ap, subst, ◌∙◌, length, take, drop, arith, get_or, length-append, length-drop, length-take-le}
 use Rattle.std.specs.Prelude.{if◌then◌else◌}
 use Rattle.std.proofs.lemmas.Bool.{cases_lt, eqb-true}
 use Rattle.memchr.specs.Find.{IsFirstByte, is_byte, is_byte2}
@@ -8,7 +8,6 @@ use Rattle.std.proofs.lemmas.Bool.Decides.{nat_tests}
 use Rattle.std.specs.Str.{IsUtf8, IsCharBoundary}
 use Rattle.std.proofs.lemmas.Str.{IsCharBoundary-start, IsCharBoundary-after_ascii}
 use Rattle.std.proofs.lemmas.List.{append-nil, take-append-drop}
-use Rattle.wave_lex.specs.Errors.{Diagnostic}
 use Rattle.wave_lex.proofs.Decoding.{length_spaces}
 use Rattle.wave_lex.specs.Multiline.{put_first, pieces, spaces, DropsReturn, IsIndented, Opens, IsSpaces, without_return, last_of, closing_piece, OpensWell}
 use Rattle.wave_lex.specs.Remaining.{Undecoded, LinesLeft, but_last, ended_lines}
@@ -320,52 +319,12 @@ line_run s line k l e h =
     let long : length line ≡ k = ap length e ∙ length-take-le k s l in
     whole_run line (length line) refl (λ i j f. h i (omega arith) (sym (take_at s k i (omega arith) l) ∙ (ap (λ (z : List ℕ). get_or z i 0) (sym e) ∙ f)))
 
--- what is left of a line without `\` has none
-pub left_run : (line x y : List ℕ) (n : ℕ) → IsRun line (length line) → x ≡ drop n line → DropsReturn x y → n ≤ length line → IsRun y (length y)
-left_run line x y n run e drops l =
-    let long : length x ≡ length line - n = ap length e ∙ length-drop n line in
-    let plain : (i : ℕ) → i < length x → get_or x i 0 ≢ 92 =
-    λ i j f. run.before (n + i) (omega arith) (sym (drop_at line n i) ∙ (ap (λ (z : List ℕ). get_or z i 0) (sym e) ∙ f)) in
-    by_cases drops plain
-  where
-    front_at : (y : List ℕ) (i : ℕ) → i < length y → get_or (y ++ 13 ∷ []) i 0 ≡ get_or y i 0
-    front_at [] i j = let w : ⊥ = omega arith in absurd w
-    front_at (a ∷ y) zero j = refl
-    front_at (a ∷ y) (suc i) j = front_at y i (omega arith)
-
-    by_cases : DropsReturn x y → ((i : ℕ) → i < length x → get_or x i 0 ≢ 92) → IsRun y (length y)
-    by_cases (inl f) plain =
-        whole_run y (length y) refl (λ i j g. plain i (omega (arith, ap length f, length-append y (13 ∷ []))) (ap (λ (z : List ℕ). get_or z i 0) f ∙ (front_at y i j ∙ g)))
-    by_cases (inr (f, others)) plain = subst (λ (z : List ℕ). IsRun z (length z)) f (whole_run x (length x) refl plain)
-
 -- the line before the first line feed, and what stands after it
 pub line_split : (s line behind : List ℕ) (k : ℕ) → FeedAt s k → line ≡ take k s → behind ≡ drop (k + 1) s → SplitsLine s line behind
 line_split s line behind k h l b = record {
   parts = split_at s k 10 h.within h.there ∙ (ap (λ (z : List ℕ). take k s ++ 10 ∷ z) (next_drop s k ∙ sym b) ∙ ap (λ (z : List ℕ). z ++ 10 ∷ behind) (sym l));
   lines = ended_behind s line behind (pieces_before s k h.within h.there h.before ∙ (ap (λ (z : List ℕ). z ∷ pieces (drop (k + 1) s)) (sym l) ∙ ap (λ (z : List ℕ). line ∷ pieces z) (sym b)));
 }
-
--- a text ends in its last byte
-pub ends_in : (s : List ℕ) (n b : ℕ) → length s ≡ suc n → get_or s n 0 ≡ b → s ≡ take n s ++ b ∷ []
-ends_in [] n b l e = let w : ⊥ = omega arith in absurd w
-ends_in (a ∷ []) zero b l e = ap (λ (z : ℕ). z ∷ []) e
-ends_in (a ∷ c ∷ s) zero b l e = let w : ⊥ = omega arith in absurd w
-ends_in (a ∷ s) (suc n) b l e = ap (λ (z : List ℕ). a ∷ z) (ends_in s n b (omega arith) e)
-
--- the last byte of a text that ends in it
-last_byte : (z : List ℕ) (b : ℕ) → get_or (z ++ b ∷ []) (length z) 0 ≡ b
-last_byte [] b = refl
-last_byte (a ∷ z) b = last_byte z b
-
--- a text whose last byte is another doesn't end in the carriage return
-pub keeps_end : (s : List ℕ) → (0 < length s → get_or s (length s - 1) 0 ≢ 13) → DropsReturn s s
-keeps_end s h = inr (
-  refl,
-  λ z e.
-      let long : length s ≡ length z + 1 = ap length e ∙ length-append z (13 ∷ []) in
-      let place : length s - 1 ≡ length z = omega arith in
-      h (omega arith) (ap (λ (k : ℕ). get_or s k 0) place ∙ (ap (λ (x : List ℕ). get_or x (length z) 0) e ∙ last_byte z 13)),
-)
 
 -- after the last line feed that was found
 pub behind_found : (s : List ℕ) (k : ℕ) → (k < length s) × (get_or s k 0 ≡ 10) × ((i : ℕ) → k < i → i < length s → get_or s i 0 ≢ 10) → BehindLastFeed s (k + 1)

@@ -1,4 +1,4 @@
-use Rattle.std.proofs.Common.{◌≡◌, ℕ, ◌≤◌, ◌<◌, ◌+◌, ◌-◌, List, ◌∷◌, length, drop, take, sym, ap, subst, ◌∙◌, arith, get_or, Some}
+use Rattle.std.proofs.Common.{◌≡◌, ℕ, ◌≤◌, ◌-◌, List, ◌∷◌, length, drop, take, sym, ap, subst, ◌∙◌, arith, get_or, Some}
 use Rattle.std.specs.Char.{IsScalar}
 use Rattle.wave_lex.specs.Strings.{UnescapesTo, short_escape}
 use Rattle.wave_lex.proofs.Unescape.{Good, none_few, none_long, few_closed, some_long, opened_cut, short}
