@@ -5,10 +5,10 @@ use Rattle.wave_decode.proofs.parts.Parts+V+Type+V.with_other_part.Goals as goal
 use Rattle.wave_decode.proofs.parts.Parts+V+Type+V.with_other_part.Goals.{in-Row+in_ok-found-in-Row, in-OfCase+in_ok-found-in-OfCase, in-Fields+in_ok-found-in-Fields, in-Entries+in_ok-found-in-Entries, in_default}
 
 pub returns-in-OfSome-clause-grown : goal.returns-in-OfSome-clause-grown
-returns-in-OfSome-clause-grown g c = where_ok _ _ c.with_part.result (λ done kept. λ T source of children n takes parts due.
+returns-in-OfSome-clause-grown g c = where_ok _ _ c.with_part-in-OfSome.result (λ done kept. λ T source of children n takes parts due.
     let h = rw c.in-OfSome.is at parts in
     (h.0, kept T source children n (rw h.0 at takes) h.1 (rw c.in-OfSome.is at due)))
-    c.with_part.ensures
+    c.with_part-in-OfSome.ensures
 
 pub returns-in-OfResult-clause-grown : goal.returns-in-OfResult-clause-grown
 returns-in-OfResult-clause-grown g c = where_ok _ _ c.with_part-in-OfResult.result (λ done kept. λ T source of children n takes parts due.
