@@ -266,11 +266,7 @@ impl<'ty, V: WasmValue> Parts<'ty, V::Type, V> {
 
     /// The same for the parts of a value that is no list.
     #[inline(never)]
-    fn with_other_part(
-        &mut self,
-        alloc: Global,
-        made: Result<V, Failure>,
-    ) -> Result<(), AllocError>
+    fn with_other_part(&mut self, alloc: Global, made: Result<V, Failure>) -> Result<(), AllocError>
         requires { AreNoItems self.now }
         ensures grown { IfOk result (λ _. (T : TypeTree) (source : List ℕ) (of : NodeType) (children : List NodeTree) (n : NodeTree)
             → TakesPart of children → AreParts V.Type.tree V.tree V.is_of V.is_full T source of children self.old

@@ -445,24 +445,20 @@ parse_behind-returns-in-LabelOrKeyword-clause-tree g t c =
     built (g.P.Builder.is_made c.args.builder) c.args.self.now.place c.args.self.now.place (IsParsedBehind LabelOrKeyword (c.args.levels - 1 + 1) c.args.self.now.place c.parse_label.new.self.place) (IsParsedBehind c.args.token c.args.levels c.args.self.now.place c.parse_label.new.self.place) c.parse_label.result refl
     (λ n is first there. label_tied c.args.levels first c.args.self.now.place c.parse_label.new.self.place c.args.token (as_ok n) c.requires there c.in-LabelOrKeyword.is is) c.parse_label.ensures.tree
 
-
 pub parse_behind-returns-in-ParenOpen-clause-tree : goal.parse_behind-returns-in-ParenOpen-clause-tree
 parse_behind-returns-in-ParenOpen-clause-tree g t c =
     built (g.P.Builder.is_made c.args.builder) c.args.self.now.place c.args.self.now.place (IsOfItems (c.args.levels - 1) ParenClose c.args.self.now.place c.parse_items.new.self.place) (IsParsedBehind c.args.token c.args.levels c.args.self.now.place c.parse_items.new.self.place) c.parse_items.result refl
     (λ n is first there. items_tied c.args.levels first c.args.self.now.place c.parse_items.new.self.place c.args.token ParenOpen ParenClose (inl (refl, refl)) (as_ok n) c.requires there c.in-ParenOpen.is is) c.parse_items.ensures.tree
-
 
 pub parse_behind-returns-in-BracketOpen-clause-tree : goal.parse_behind-returns-in-BracketOpen-clause-tree
 parse_behind-returns-in-BracketOpen-clause-tree g t c =
     built (g.P.Builder.is_made c.args.builder) c.args.self.now.place c.args.self.now.place (IsOfItems (c.args.levels - 1) BracketClose c.args.self.now.place c.parse_items-in-BracketOpen.new.self.place) (IsParsedBehind c.args.token c.args.levels c.args.self.now.place c.parse_items-in-BracketOpen.new.self.place) c.parse_items-in-BracketOpen.result refl
     (λ n is first there. items_tied c.args.levels first c.args.self.now.place c.parse_items-in-BracketOpen.new.self.place c.args.token BracketOpen BracketClose (inr (refl, refl)) (as_ok n) c.requires there c.in-BracketOpen.is is) c.parse_items-in-BracketOpen.ensures.tree
 
-
 pub parse_behind-returns-in-BraceOpen-clause-tree : goal.parse_behind-returns-in-BraceOpen-clause-tree
 parse_behind-returns-in-BraceOpen-clause-tree g t c =
     built (g.P.Builder.is_made c.args.builder) c.args.self.now.place c.args.self.now.place (IsParsedBehind BraceOpen (c.args.levels - 1 + 1) c.args.self.now.place c.parse_braces.new.self.place) (IsParsedBehind c.args.token c.args.levels c.args.self.now.place c.parse_braces.new.self.place) c.parse_braces.result refl
     (λ n is first there. braces_tied c.args.levels first c.args.self.now.place c.parse_braces.new.self.place c.args.token (as_ok n) c.requires there c.in-BraceOpen.is is) c.parse_braces.ensures.tree
-
 
 pub parse_label-returns-in-True-clause-tree : goal.parse_label-returns-in-True-clause-tree
 parse_label-returns-in-True-clause-tree g t c =
@@ -587,7 +583,7 @@ parse_items-items-preserved g t c = record {
       let next = then_behind item.due_there c.in_ok-token.token behind item.is_behind c.in_ok-token.ensures.takes comma_step in
       (due.next_item, inr refl, moved c.next_is-in-items.ensures.stays next);
   tree =
-        let (children, first, go) = c.items.invariant.tree in
+      let (children, first, go) = c.items.invariant.tree in
       let (d, i, r) = c.items.invariant.reached (c.args.levels + 1) [] (omega arith) in
       let here : c.items.self.place.lexer.source ≡ c.args.self.now.place.lexer.source = source_reached r in
       let part_due : TakesPart c.if-eq-2.ty children = elim c.if-eq-2.branch [
@@ -747,10 +743,9 @@ parse_maybe-returns-clause-memory g t c =
     (subst (λ (s : List ℕ). g.P.Builder.are_parts c.args.builder s c.args.with label c.in_ok-front.front) (sym behind) (c.in_ok-front.ensures.made (payload_parts c.args.with c.requires.1))))
 
 pub parse_payload-returns-in_err-parse_part-clause-memory : goal.parse_payload-returns-in_err-parse_part-clause-memory
-parse_payload-returns-in_err-parse_part-clause-memory g t c = 
+parse_payload-returns-in_err-parse_part-clause-memory g t c =
     error_handed (λ e. (front : List NodeTree) → TakesPart c.args.ty front → g.P.Builder.are_parts c.args.builder c.args.self.now.place.lexer.source c.args.ty front c.args.parts → WantsOnly (g.P.Builder.takes_memory c.args.builder) c.args.self.now.place e) c.from_residual.result c.in_err-parse_part.field-0.0 c.from_residual.ensures.1
     (λ front part_due first. c.in_err-parse_part.ensures.memory c.args.self.now.place.lexer.source c.args.ty front first)
-
 
 pub parse_payload-returns-in_err-expect-clause-memory : goal.parse_payload-returns-in_err-expect-clause-memory
 parse_payload-returns-in_err-expect-clause-memory g t c =
@@ -768,7 +763,6 @@ parse_items-returns-in_err-parse_part-clause-memory g t c = error_handed (WantsO
     (let (d, i, r) = c.items.invariant.reached (c.args.levels + 1) [] (omega arith) in
     let (children, first, go) = c.items.invariant.tree in
     wants_reached (g.P.Builder.takes_memory c.args.builder) c.in_err-parse_part.field-0.0 r (c.in_err-parse_part.ensures.memory c.args.self.now.place.lexer.source c.if-eq-2.ty children first))
-
 
 pub parse_items-returns-in_err-token-clause-memory : goal.parse_items-returns-in_err-token-clause-memory
 parse_items-returns-in_err-token-clause-memory g t c = error_handed (WantsOnly (g.P.Builder.takes_memory c.args.builder) c.args.self.now.place) c.from_residual-in_err-token.result c.in_err-token.field-0.0 c.from_residual-in_err-token.ensures.1 (wants_fails (g.P.Builder.takes_memory c.args.builder) c.args.self.now.place c.parse_part.new.self.place c.advance.new.self.place (λ _. Unit {0}) c.in_err-token.field-0.0 c.in_err-token.ensures.takes)
