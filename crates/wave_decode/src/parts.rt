@@ -288,6 +288,7 @@ impl<'ty, V: WasmValue> Parts<'ty, V::Type, V> {
     }
 
     /// A fault that was found takes the place of the parts.
+    #[inline(always)]
     fn wrong(&mut self, found: Option<Fault>)
         ensures { MatchOption found (self.new ≡ self.old) (λ f. self.new ≡ parts.Faulty f) }
     {
@@ -319,6 +320,7 @@ impl<'ty, V: WasmValue> Parts<'ty, V::Type, V> {
 }
 
 /// No flags, or no entries, where `{}` stands here.
+#[inline(never)]
 fn read_empty<V: WasmValue>(alloc: Global, ty: &V::Type, span: Span) -> Result<V, ParserError>
     ensures { (source : List ℕ) → TakesEmptySet (V.Type.tree ty.now)
         → IsReadAs V.tree V.is_of V.is_full (V.Type.tree ty.now) source (node node_type.EmptySet span no_nodes) result }
@@ -352,6 +354,8 @@ fn read_empty<V: WasmValue>(alloc: Global, ty: &V::Type, span: Span) -> Result<V
 }
 
 /// The refusal of parts or flags that stand here, at a simple type or one that has no values.
+#[cold]
+#[inline(never)]
 pub(crate) fn refuse_simple<V: WasmValue>(
     alloc: Global,
     ty: &V::Type,
