@@ -7,7 +7,7 @@ use Rattle.wave_syntax.specs.declared.form.NodeType.{NodeType}
 use Rattle.wave_syntax.specs.NodeParts.{TakesKey, TakesPart}
 use Rattle.wave_decode.specs.Payloads.{result_node}
 use Rattle.wave_decode.specs.Faults.{IsDoomed}
-use Rattle.wave_decode.specs.PartsOfKinds.{AreParts}
+use Rattle.wave_decode.specs.PartsOfKinds.{AreNoItems, AreParts}
 use Rattle.wave_decode.specs.declared.fault.Fault.{Fault}
 use Rattle.wave_decode.specs.declared.lists.Items.{Items}
 use Rattle.wave_decode.specs.declared.maps.Entries.{Entries}
@@ -44,6 +44,11 @@ fault_placed type_tree tree of Full T source ty children x y (Some f) is h = rw 
 pub none_found : {S V : Type 0} (x y : Parts S V) (found : Option Fault) → found ≡ None → MatchOption found (y ≡ x) (λ f. y ≡ parts.Faulty f) → y ≡ x
 none_found x y None none is = is
 none_found x y (Some f) none is = absurd (cc)
+
+-- parts of which it is known that they are no items
+pub no_items : {S V : Type 0} (x : Parts S V) → ((y : Items S V) → x ≡ parts.Items y → ⊥) → AreNoItems x
+no_items (parts.Items x) apart = apart x refl
+no_items _ apart = tt
 
 module _ {S V : Type 0} (type_tree : S → TypeTree) (tree : V → Value) (of : V → TypeTree → Type 0) (Full : TypeTree → Type 0) (T : TypeTree) (source : List ℕ) (ty : NodeType) (children : List NodeTree) (n : NodeTree) where
   -- after a key, but for those that take one

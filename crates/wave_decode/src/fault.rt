@@ -22,6 +22,8 @@ pub enum Fault {
 
 impl Fault {
     /// The refusal, where the whole value stands here.
+    #[cold]
+    #[inline(never)]
     pub(crate) fn tell(self, span: Span) -> ParserError
         ensures { Tells self span result }
     {
@@ -34,6 +36,8 @@ impl Fault {
 }
 
 /// The fault with this cause; where there is no memory to keep it, out of memory.
+#[cold]
+#[inline(never)]
 pub(crate) fn caused(alloc: Global, cause: WasmValueError) -> Fault
     ensures { IsFaultOf cause result }
 {

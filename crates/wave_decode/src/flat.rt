@@ -71,6 +71,7 @@ pub(crate) fn type_of_parts<'ty, T: WasmType>(
 }
 
 /// The option or the result around a flat payload that stands there.
+#[inline(never)]
 pub(crate) fn around<V: WasmValue>(
     alloc: Global,
     ty: &V::Type,

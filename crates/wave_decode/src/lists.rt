@@ -59,6 +59,7 @@ impl<'ty, V: WasmValue> Items<'ty, V::Type, V> {
     }
 
     /// Adds an item, which was read at the type that is due.
+    #[inline(always)]
     pub(crate) fn with_part(
         &mut self,
         alloc: Global,

@@ -10,7 +10,7 @@ ghost use Rattle.wave_leaf.specs.PlainReading.{IsPlain};
 ghost use Rattle.wave_leaf.specs.Reading.{IsReadAs, IsReadWhereDue, IsReadOfForm};
 ghost use Rattle.wave_lex.specs.Errors.{Says};
 ghost use Rattle.wave_decode.specs.Flat.{IsFlatAt};
-ghost use Rattle.wave_decode.specs.PartsOfKinds.{AreParts, IsBare, IsSimpleAt, TakesEmptySet, next_due, AreNoPartsYet};
+ghost use Rattle.wave_decode.specs.PartsOfKinds.{AreParts, AreNoItems, IsBare, IsSimpleAt, TakesEmptySet, next_due, AreNoPartsYet};
 ghost use Rattle.wave_decode.specs.declared.parts.Parts.TheVariants as parts;
 ghost use Rattle.wave_decode.specs.declared.fault.Fault.TheVariants as fault;
 ghost use Rattle.wave_lex.specs.declared.error.ParserErrorKind.TheVariants as why;
@@ -244,7 +244,9 @@ impl<'ty, V: WasmValue> Parts<'ty, V::Type, V> {
         Ok(())
     }
 
-    /// Adds the next value, which was read at the type that was due.
+    /// Adds the next value, which was read at the type that was due. An item of a list, of which there
+    /// may be many, is added where this is called.
+    #[inline(always)]
     pub(crate) fn with_part(
         &mut self,
         alloc: Global,
@@ -256,8 +258,23 @@ impl<'ty, V: WasmValue> Parts<'ty, V::Type, V> {
             → AreParts V.Type.tree V.tree V.is_of V.is_full T source of (children ++ n ∷ []) self.new) }
         ensures bare { IsBare self.old → (self.new ≡ self.old) × IsOk result }
     {
+        match self {
+            Parts::Items(items) => items.with_part(alloc, made),
+            _ => self.with_other_part(alloc, made),
+        }
+    }
+
+    /// The same for the parts of a value that is no list.
+    #[inline(never)]
+    fn with_other_part(&mut self, alloc: Global, made: Result<V, Failure>) -> Result<(), AllocError>
+        requires { AreNoItems self.now }
+        ensures grown { IfOk result (λ _. (T : TypeTree) (source : List ℕ) (of : NodeType) (children : List NodeTree) (n : NodeTree)
+            → TakesPart of children → AreParts V.Type.tree V.tree V.is_of V.is_full T source of children self.old
+            → IsReadWhereDue V.tree V.is_of V.is_full (shown V.Type.tree (next_due self.old)) source n made
+            → AreParts V.Type.tree V.tree V.is_of V.is_full T source of (children ++ n ∷ []) self.new) }
+        ensures bare { IsBare self.old → (self.new ≡ self.old) × IsOk result }
+    {
         let found = match self {
-            Parts::Items(items) => return items.with_part(alloc, made),
             Parts::Row(row) => row.with_part(alloc, made)?,
             Parts::OfSome(payload) => return payload.with_part(alloc, made),
             Parts::OfResult(payload) => return payload.with_part(alloc, made),
@@ -271,6 +288,7 @@ impl<'ty, V: WasmValue> Parts<'ty, V::Type, V> {
     }
 
     /// A fault that was found takes the place of the parts.
+    #[inline(always)]
     fn wrong(&mut self, found: Option<Fault>)
         ensures { MatchOption found (self.new ≡ self.old) (λ f. self.new ≡ parts.Faulty f) }
     {
@@ -302,6 +320,7 @@ impl<'ty, V: WasmValue> Parts<'ty, V::Type, V> {
 }
 
 /// No flags, or no entries, where `{}` stands here.
+#[inline(never)]
 fn read_empty<V: WasmValue>(alloc: Global, ty: &V::Type, span: Span) -> Result<V, ParserError>
     ensures { (source : List ℕ) → TakesEmptySet (V.Type.tree ty.now)
         → IsReadAs V.tree V.is_of V.is_full (V.Type.tree ty.now) source (node node_type.EmptySet span no_nodes) result }
@@ -335,6 +354,8 @@ fn read_empty<V: WasmValue>(alloc: Global, ty: &V::Type, span: Span) -> Result<V
 }
 
 /// The refusal of parts or flags that stand here, at a simple type or one that has no values.
+#[cold]
+#[inline(never)]
 pub(crate) fn refuse_simple<V: WasmValue>(
     alloc: Global,
     ty: &V::Type,

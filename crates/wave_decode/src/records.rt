@@ -95,6 +95,7 @@ impl<'ty, T, V> Fields<'ty, T, V> {
     }
 
     /// The place of the first field of this name.
+    #[inline(never)]
     fn search(&self, name: &str) -> Option<usize>
         ensures { MatchOption result (IsNoneOf (map field_name self.now.fields.items) name.now) (IsNamedAt self.now.fields.items name.now) }
     {
@@ -223,6 +224,8 @@ impl<'ty, V: WasmValue> Fields<'ty, V::Type, V> {
 }
 
 /// The names of the fields with their places, sorted, where there is memory for them.
+#[cold]
+#[inline(never)]
 fn index_of<'ty, T, V>(
     alloc: Global,
     fields: &Vec<Field<'ty, T, V>>,
@@ -275,6 +278,8 @@ fn filled<'ty, V: WasmValue>(
 }
 
 /// That there was no memory for a record that stands here.
+#[cold]
+#[inline(never)]
 fn out_of_memory(span: &Span) -> ParserError
     ensures kind { result.kind ≡ OutOfMemory }
     ensures span { result.span ≡ span.now }
@@ -283,6 +288,8 @@ fn out_of_memory(span: &Span) -> ParserError
 }
 
 /// `none`, for a field that is left out of a record that stands here, where its type is an option.
+#[cold]
+#[inline(never)]
 fn left_out<V: WasmValue>(
     alloc: Global,
     name: &str,
@@ -326,6 +333,8 @@ fn left_out<V: WasmValue>(
 }
 
 /// That the field of this name is missing, or out of memory.
+#[cold]
+#[inline(never)]
 fn missing(alloc: Global, name: &str) -> WasmValueError
     ensures { IsMissingOrMemory name.now result }
 {
@@ -336,6 +345,8 @@ fn missing(alloc: Global, name: &str) -> WasmValueError
 }
 
 /// What is wrong with a key that is no label, which stands here.
+#[cold]
+#[inline(never)]
 fn no_label(alloc: Global, span: Span) -> Result<Fault, AllocError>
     ensures { IfOk result (IsToldAs InvalidType span field_label_due) }
 {
@@ -348,6 +359,8 @@ fn no_label(alloc: Global, span: Span) -> Result<Fault, AllocError>
 }
 
 /// What is wrong with a key that stands here, whose name an earlier one has.
+#[cold]
+#[inline(never)]
 fn repeated(alloc: Global, span: Span, name: &str) -> Result<Fault, AllocError>
     ensures { IfOk result (IsToldAs DuplicateField span (repeated_name name.now)) }
 {

@@ -116,6 +116,7 @@ impl<'ty, V: WasmValue> Builder for Values<'ty, V> {
         parts.parts.with_key(alloc, ty, span, text)
     }
 
+    #[inline(always)]
     fn with_part(
         self,
         alloc: Global,

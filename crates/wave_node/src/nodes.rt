@@ -26,6 +26,7 @@ impl Builder for Nodes {
 
     ghost next_takes = { λ builder source ty children parts are takes. takes };
 
+    #[inline(always)]
     fn leaf(self, alloc: Global, ty: NodeType, span: Span, text: &str) -> Node {
         make::leaf(alloc, ty, span)
     }
@@ -41,10 +42,12 @@ impl Builder for Nodes {
         Vec::with_capacity(alloc, count).unwrap_or(Vec::new(alloc))
     }
 
+    #[inline(always)]
     fn part(self, parts: &Vec<Node>) -> Nodes {
         self
     }
 
+    #[inline(always)]
     fn with_key(
         self,
         alloc: Global,
@@ -58,12 +61,14 @@ impl Builder for Nodes {
         Ok(())
     }
 
+    #[inline(always)]
     fn with_part(self, alloc: Global, parts: &mut Vec<Node>, made: Node) -> Result<(), AllocError> {
         parts.reserve(1)?;
         parts.push_reserved(made);
         Ok(())
     }
 
+    #[inline(always)]
     fn whole(self, alloc: Global, ty: NodeType, span: Span, parts: Vec<Node>) -> Node {
         make::node(ty, span, parts)
     }

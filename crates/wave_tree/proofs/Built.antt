@@ -1,5 +1,5 @@
 -- What is made of nodes while their tokens are taken.
-use Rattle.std.proofs.Common.{◌≡◌, ℕ, List, Some, Result, Ok, Err, sym, subst, ◌∙◌}
+use Rattle.std.proofs.Common.{◌≡◌, ℕ, List, [], ◌∷◌, ◌++◌, Some, Result, Ok, Err, sym, subst, ◌∙◌}
 use Rattle.std.specs.Prelude.{IfOk, IfErr}
 use Rattle.wave_lex.specs.declared.lex.Token as lex
 use Rattle.wave_lex.specs.Tokenization.{span}
@@ -62,3 +62,15 @@ whole_built Of Are p q ty start made parts children B e are of b =
 -- a node that was made of itself
 pub as_node : (Is : NodeTree → Type 0) (made : NodeTree) → (n : NodeTree) × Is n × (made ≡ n) → Is made
 as_node Is made (n, is, e) = subst Is (sym e) is
+
+-- a part that was added to the parts of one source was added to those of the same source
+pub part_added : {Q : Type 0} (Are : List ℕ → List NodeTree → Q → Type 0) (old new : Q) (children : List NodeTree) (Is : NodeTree → Type 0) {from source : List ℕ} → from ≡ source →
+    (Are from children old → (n : NodeTree) × Is n × Are from (children ++ n ∷ []) new) → Are source children old → (n : NodeTree) × Is n × Are source (children ++ n ∷ []) new
+part_added Are old new children Is e add are =
+    let (n, is, grown) = add (subst (λ (s : List ℕ). Are s children old) (sym e) are) in
+    (n, is, subst (λ (s : List ℕ). Are s (children ++ n ∷ []) new) e grown)
+
+-- what follows from an answer that says nothing of its value
+pub as_added : {M E A B : Type 0} (r : Result M E) → IfOk r (λ _. A) → (A → B) → IfOk r (λ _. B)
+as_added (Ok made) a f = f a
+as_added (Err e) a f = tt

@@ -9,6 +9,7 @@ pub mod Built
 pub mod PartsDue
 pub mod Wanting
 pub mod FlagLoop
+pub mod AloneTokens
 pub mod TokenAlignment
 pub mod NodeCorrectness
 pub mod TextReading

@@ -481,3 +481,8 @@ flag_within d names p (inr (text, e, f, apart)) = subst IsWithin (sym e) tt
 pub gives_read : {X : Type 0} {n : ℕ} {d : Due} {s : List Form} {p q : Place} (v : List Form) (r : Result X Diagnostic) → IfErr r (λ e. e.kind ≡ kind.OutOfMemory) → LeadsBehindValue n d s p q v → Gives r n d s p q v
 gives_read v (Ok x) h read = read
 gives_read v (Err e) h read = λ apart. absurd (apart h)
+
+-- after a value, or a refusal for lack of memory
+pub gives_or_memory : {X : Type 0} {n : ℕ} {d : Due} {s v : List Form} {p q : Place} (r : Result X Diagnostic) → IfErr r (λ e. e.kind ≡ kind.OutOfMemory) → LeadsBehindValue n d s p q v → Gives r n d s p q v
+gives_or_memory (Ok x) memory led = led
+gives_or_memory (Err e) memory led = λ apart. absurd (apart memory)

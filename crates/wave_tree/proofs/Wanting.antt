@@ -60,3 +60,14 @@ module _ (Takes : Type 0) where
 -- what takes memory for less takes it too
 pub wants_less : (Less Takes : Type 0) (p : Place) (e : Diagnostic) → (Less → Takes) → WantsOnly Less p e → WantsOnly Takes p e
 wants_less Less Takes p e more wants = λ memory none. more (wants memory none)
+
+-- so whatever the parts are
+pub whatever_parts : {M E A B C : Type 0} (Are : A → B → C → Type 0) (Is : E → Type 0) (r : Result M E) → IfErr r Is → IfErr r (λ e. (a : A) (b : B) (c : C) → Are a b c → Is e)
+whatever_parts Are Is (Ok made) h = tt
+whatever_parts Are Is (Err e) h = λ a b c are. h
+
+-- parts take memory, where they were refused for lack of it
+pub wants_any : {M E A B C : Type 0} (Are : A → B → C → Type 0) (Takes : Type 0) (Is : E → Type 0) (r : Result M E) → IfErr r (λ _. (a : A) (b : B) (c : C) → Are a b c → Takes) → ((e : E) → Takes → Is e) →
+    IfErr r (λ e. (a : A) (b : B) (c : C) → Are a b c → Is e)
+wants_any Are Takes Is (Ok made) takes f = tt
+wants_any Are Takes Is (Err e) takes f = λ a b c are. f e (takes a b c are)

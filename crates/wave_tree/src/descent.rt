@@ -1,5 +1,5 @@
 //! Recursive descent: what is made of a value, a call for each of its levels.
-ghost use Rattle.std.specs.Prelude.{◌≡◌, ◌+◌, ◌-◌, Some, None, Ok, Err, IfOk, IfErr, List, [], ◌∷◌};
+ghost use Rattle.std.specs.Prelude.{◌≡◌, ℕ, ◌+◌, ◌-◌, ◌++◌, ◌<◌, Some, None, Ok, Err, IfOk, IfErr, List, [], ◌∷◌};
 ghost use Rattle.wave_lex.specs.declared.lex.Token.TheVariants as lex_class;
 ghost use Rattle.wave_lex.specs.declared.error.ParserErrorKind.TheVariants as kind;
 ghost use Rattle.wave_grammar.specs.ParserPosition.{Place, TakesItem, span_at, text_at};
@@ -13,13 +13,13 @@ ghost use Rattle.wave_syntax.specs.FlagParts.{AreFlagsOf, flag_nodes};
 ghost use Rattle.wave_syntax.specs.NodeParts.{IsOfParts, IsOneToken, TakesPart};
 ghost use Rattle.wave_syntax.specs.NodeTree.{NodeTree, node, no_nodes};
 ghost use Rattle.wave_syntax.specs.declared.form.NodeType.TheVariants as node_type;
-ghost use Rattle.wave_tree.specs.ParsedNodes.{IsParsed, IsBuilt};
+ghost use Rattle.wave_tree.specs.ParsedNodes.{IsParsed, IsBuilt, TakesClass};
 ghost use Rattle.wave_tree.specs.Private.ParsedNodes.{IsParsedBehind, IsOfPayload, IsMaybe, IsPayload, IsOfItems, IsOfEntries, IsOfFlags, label_children};
 ghost use Rattle.wave_tree.specs.Private.ParserState.{AsksFor, WantsOnly};
 
 use crate::ast::NodeType;
 use crate::refusal::Refusal;
-use crate::role::{LabelRole, key_type, role_of};
+use crate::role::{LabelRole, alone_type, key_type, role_of};
 use crate::tokens::Tokens;
 use std::alloc::Global;
 use std::collections::BTreeMap;
@@ -28,9 +28,7 @@ use wave_lex::lex::{Span, Token};
 use wave_syntax::builder::Builder;
 
 impl<'source> Tokens<'source> {
-    /// Reads a value. Each level of a value takes such a call, so what it calls isn't inlined, and its
-    /// frame stays small.
-    #[cycle(parser)]
+    /// Reads a value.
     pub(crate) fn parse_node<P: Builder>(
         &mut self,
         alloc: Global,
@@ -46,6 +44,57 @@ impl<'source> Tokens<'source> {
             return self.refuse_depth();
         }
         let token = self.advance()?;
+        self.parse_behind(alloc, builder, levels, token)
+    }
+
+    /// Reads a part of a value, and adds it to the parts. What is made of one token is added where it
+    /// was made.
+    #[cycle(parser)]
+    #[inline(never)]
+    fn parse_part<P: Builder>(
+        &mut self,
+        alloc: Global,
+        builder: P,
+        parts: &mut P::Parts,
+        levels: u32,
+    ) -> Result<(), Refusal>
+        ensures led { GivesWithin result levels due.value [] self.old.place self.new.place }
+        ensures kept { let source = self.old.place.lexer.source in
+            IfOk result (λ _. (of : NodeType) (children : List NodeTree) → TakesPart of children → P.are_parts builder source of children parts.old
+            → (part : NodeTree) × IsParsed levels self.old.place self.new.place part × P.are_parts builder source of (children ++ part ∷ []) parts.new) }
+        ensures memory { IfErr result (λ e. (source : List ℕ) (of : NodeType) (children : List NodeTree) → P.are_parts builder source of children parts.old
+            → WantsOnly (P.takes_memory builder) self.old.place e) }
+        ensures asks { AsksFor self.old self.new }
+    {
+        if levels == 0 {
+            return self.refuse_depth();
+        }
+        let token = self.advance()?;
+        let part = builder.part(parts);
+        if let Some(ty) = alone_type(token, self.slice()) {
+            let made = self.leaf_here(alloc, part, ty);
+            return self.with_part(alloc, builder, parts, made);
+        }
+        let made = self.parse_behind(alloc, part, levels, token)?;
+        self.with_part(alloc, builder, parts, made)
+    }
+
+    /// Reads what stands after the first token of a value, which is of this class. Each level of a value
+    /// takes such a call, so what it calls isn't inlined, and its frame stays small.
+    #[cycle(parser)]
+    fn parse_behind<P: Builder>(
+        &mut self,
+        alloc: Global,
+        builder: P,
+        levels: u32,
+        token: Token,
+    ) -> Result<P::Made, Refusal>
+        requires { 0 < levels }
+        ensures led { (first : Place) → TakesClass token first self.old.place → GivesWithin result levels due.value [] first self.new.place }
+        ensures tree { IfOk result (IsBuilt (P.is_made builder) self.old.place (IsParsedBehind token levels self.old.place self.new.place)) }
+        ensures memory { (first : Place) → TakesClass token first self.old.place → IfErr result (WantsOnly (P.takes_memory builder) first) }
+        ensures asks { AsksFor self.old self.new }
+    {
         match token {
             Token::Number => Ok(self.leaf(alloc, builder, NodeType::Number)),
             Token::Char => Ok(self.leaf(alloc, builder, NodeType::Char)),
@@ -176,10 +225,8 @@ impl<'source> Tokens<'source> {
         ensures asks { AsksFor self.old self.new }
     {
         let mut parts = parts;
-        let part = builder.part(&parts);
-        let payload = self.parse_node(alloc, part, levels)?;
+        self.parse_part(alloc, builder, &mut parts, levels)?;
         self.expect(Token::ParenClose)?;
-        self.with_part(alloc, builder, &mut parts, payload)?;
         Ok(self.whole(alloc, builder, ty, start, parts))
     }
 
@@ -215,9 +262,7 @@ impl<'source> Tokens<'source> {
         };
         let mut parts = builder.parts(alloc, ty);
         'items: loop {
-            let part = builder.part(&parts);
-            let item = self.parse_node(alloc, part, levels)?;
-            self.with_part(alloc, builder, &mut parts, item)?;
+            self.parse_part(alloc, builder, &mut parts, levels)?;
             let token = self.advance()?;
             if token == close {
                 return Ok(self.whole(alloc, builder, ty, start, parts));
@@ -308,9 +353,7 @@ impl<'source> Tokens<'source> {
     {
         let mut parts = key;
         'entries: loop {
-            let part = builder.part(&parts);
-            let value = self.parse_node(alloc, part, levels)?;
-            self.with_part(alloc, builder, &mut parts, value)?;
+            self.parse_part(alloc, builder, &mut parts, levels)?;
             let token = self.advance()?;
             if token == Token::BraceClose {
                 return Ok(self.whole(alloc, builder, NodeType::TupleSet, start, parts));

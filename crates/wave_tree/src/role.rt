@@ -1,9 +1,9 @@
 //! What labels and tokens are to the parser.
-ghost use Rattle.std.specs.Prelude.{◌≡◌, MatchOption};
+ghost use Rattle.std.specs.Prelude.{◌≡◌, IfSome, MatchOption};
 ghost use Rattle.wave_grammar.specs.Tree.{word_of};
 ghost use Rattle.wave_grammar.specs.Shared.TokenRoles.{IsKeyClass};
 ghost use Rattle.wave_tree.specs.Private.ParsedNodes.{key_node_type};
-ghost use Rattle.wave_tree.specs.Private.ParserState.{spec_word, HasText};
+ghost use Rattle.wave_tree.specs.Private.ParserState.{spec_word, HasText, IsAlone};
 
 use crate::ast::NodeType;
 use wave_lex::lex::Token;
@@ -42,6 +42,27 @@ pub(crate) fn role_of(text: &str) -> LabelRole
         LabelRole::Err
     } else {
         LabelRole::Case
+    }
+}
+
+/// The type of the node of a token of this class and text, where that is a value on its own, whatever
+/// stands after it.
+pub(crate) fn alone_type(token: Token, text: &str) -> Option<NodeType>
+    ensures { IfSome result (IsAlone token text.now) }
+{
+    match token {
+        Token::Number => Some(NodeType::Number),
+        Token::Char => Some(NodeType::Char),
+        Token::String => Some(NodeType::String),
+        Token::MultilineString => Some(NodeType::MultilineString),
+        Token::LabelOrKeyword => match role_of(text) {
+            LabelRole::True => Some(NodeType::BoolTrue),
+            LabelRole::False => Some(NodeType::BoolFalse),
+            LabelRole::Number => Some(NodeType::Number),
+            LabelRole::None => Some(NodeType::OptionNone),
+            _ => None,
+        },
+        _ => None,
     }
 }
 

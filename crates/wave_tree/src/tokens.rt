@@ -293,7 +293,17 @@ impl<'source> Tokens<'source> {
     }
 
     /// What is made of the last token.
+    #[inline(never)]
     pub(crate) fn leaf<P: Builder>(&self, alloc: Global, builder: P, ty: NodeType) -> P::Made
+        requires { IsOneToken ty }
+        ensures { P.is_made builder self.now.place.lexer.source (node ty (span_at self.now.place) no_nodes) result }
+    {
+        self.leaf_here(alloc, builder, ty)
+    }
+
+    /// The same, made where it is called.
+    #[inline(always)]
+    pub(crate) fn leaf_here<P: Builder>(&self, alloc: Global, builder: P, ty: NodeType) -> P::Made
         requires { IsOneToken ty }
         ensures { P.is_made builder self.now.place.lexer.source (node ty (span_at self.now.place) no_nodes) result }
     {

@@ -9,6 +9,7 @@ use std::alloc::Global;
 use wave_lex::lex::Span;
 
 /// A node without children.
+#[inline(always)]
 pub fn leaf(alloc: Global, ty: NodeType, span: Span) -> Node
     ensures { result ≡ node ty span (node_trees []) }
 {
@@ -16,6 +17,7 @@ pub fn leaf(alloc: Global, ty: NodeType, span: Span) -> Node
 }
 
 /// A node of these children.
+#[inline(always)]
 pub fn node(ty: NodeType, span: Span, children: Vec<Node>) -> Node
     ensures { result ≡ node ty span (node_trees children.items) }
 {

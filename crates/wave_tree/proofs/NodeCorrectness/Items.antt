@@ -30,7 +30,7 @@ pub one_tied : (ty : NodeType) (k : lex.Token) → ((n : ℕ) (p m : Place) → 
 one_tied ty k one_parsed n p q c parsed l h e is = subst (IsParsed n p q) (sym is) (one_parsed n p q l (class_as _ _ _ k h e))
 
 -- as many levels as there were
-same_level : (n : ℕ) (p q : Place) (parsed : NodeTree) → 0 < n → IsParsed (n - 1 + 1) p q parsed → IsParsed n p q parsed
+pub same_level : (n : ℕ) (p q : Place) (parsed : NodeTree) → 0 < n → IsParsed (n - 1 + 1) p q parsed → IsParsed n p q parsed
 same_level n p q parsed l h = let e : n - 1 + 1 ≡ n = omega (arith, l) in subst (λ z. IsParsed z p q parsed) e h
 
 pub label_tied : {E : Type 0} (n : ℕ) (p m q : Place) (c : lex.Token) (r : Result NodeTree E) → 0 < n → TakesItem p (Some (Ok c)) m → c ≡ LabelOrKeyword → IfOk r (IsParsedBehind LabelOrKeyword (n - 1 + 1) m q) → IfOk r (IsParsed n p q)

@@ -12,6 +12,10 @@ use Rattle.wave_tree.specs.declared.item.Item.{Item as Kept}
 use Rattle.wave_tree.specs.declared.item.Item.TheVariants as kept
 use Rattle.wave_tree.specs.declared.role.LabelRole as code
 use Rattle.wave_tree.specs.declared.role.LabelRole.TheVariants as word
+use Rattle.wave_lex.specs.declared.lex.Token.TheVariants as class
+use Rattle.wave_syntax.specs.declared.form.NodeType.{NodeType}
+use Rattle.wave_syntax.specs.declared.form.NodeType.TheVariants as kind
+use Rattle.wave_grammar.specs.Tree.{word_of}
 use Rattle.wave_tree.specs.ParserState.{HasTokens, HoldsNoBrace, Fails}
 
 -- tokens that are taken one by one: the place, and how many items are at hand
@@ -88,3 +92,20 @@ HasText word.True text = text ≡ codes "true"
 HasText word.False text = text ≡ codes "false"
 HasText word.Number text = is_one_of (codes "inf" ∷ codes "nan" ∷ []) text ≡ true
 HasText _ text = Unit {0}
+
+-- a word of this text is a value on its own, and this is the type of its node
+abbrev pub IsAloneWord : NodeType → List ℕ → Type 0
+IsAloneWord kind.BoolTrue text = (word_of text ≡ leaf_word) × (text ≡ codes "true")
+IsAloneWord kind.BoolFalse text = (word_of text ≡ leaf_word) × (text ≡ codes "false")
+IsAloneWord kind.Number text = (word_of text ≡ leaf_word) × (is_one_of (codes "inf" ∷ codes "nan" ∷ []) text ≡ true)
+IsAloneWord kind.OptionNone text = word_of text ≡ none_word
+IsAloneWord _ text = ⊥
+
+-- a token of this class and text is a value on its own, whatever stands after it, and this is the type of its node
+abbrev pub IsAlone : lex.Token → List ℕ → NodeType → Type 0
+IsAlone class.Number text ty = ty ≡ kind.Number
+IsAlone class.Char text ty = ty ≡ kind.Char
+IsAlone class.String text ty = ty ≡ kind.String
+IsAlone class.MultilineString text ty = ty ≡ kind.MultilineString
+IsAlone class.LabelOrKeyword text ty = IsAloneWord ty text
+IsAlone _ text ty = ⊥

@@ -12,20 +12,22 @@ use Rattle.std.specs.declared.ops.Range.{Range}
 use Rattle.wave_grammar.specs.Shared.TokenRoles.{form_of, IsClose}
 use Rattle.wave_tree.specs.Private.ParserState.{spec_word}
 use Rattle.wave_lex.specs.declared.error.ParserErrorKind.TheVariants as because
-use Rattle.wave_tree.proofs.ParserSteps.{no_level, refuses_there, kind_is, here, here_is, handed, gives_then, fails, any_token, shallow, value_read, no_value, level_open, read_there, unexpected_there, no_paren, then_token, token_there, behind_bare, reached, fails_behind, then_behind, payload_other, unexpected_behind, expected, untrue, moved, then_class, then_behind_class, range_path, close_first, close_empty, close_next, then_same, then_refuses, item_refuses, item_read, then_reached, Reached, IsItemDue, no_close, empty_there, key_reads, no_key, brace_key, entries_other, close_behind, comma_behind, other_behind, token_less, tokens_less, left_at, no_colon, no_brace}
+use Rattle.wave_tree.proofs.ParserSteps.{gives_or_memory, no_level, refuses_there, kind_is, here, here_is, handed, gives_then, fails, any_token, shallow, value_read, no_value, level_open, read_there, unexpected_there, no_paren, then_token, token_there, behind_bare, reached, fails_behind, then_behind, payload_other, unexpected_behind, expected, untrue, moved, then_class, then_behind_class, range_path, close_first, close_empty, close_next, then_same, then_refuses, item_refuses, item_read, then_reached, Reached, IsItemDue, no_close, empty_there, key_reads, no_key, brace_key, entries_other, close_behind, comma_behind, other_behind, token_less, tokens_less, left_at, no_colon, no_brace}
 use Rattle.wave_tree.specs.declared.role.LabelRole.{LabelRole}
-use Rattle.wave_tree.specs.Private.ParserState.{Stream, AsksFor, HasText}
+use Rattle.wave_tree.specs.Private.ParserState.{Stream, AsksFor, HasText, IsAlone}
 use Rattle.wave_tree.specs.Private.ParsedNodes.{IsParsedBehind, IsMaybe, IsPayload, IsOfItems, IsOfEntries, IsOfFlags, items_type, label_children}
 use Rattle.wave_tree.specs.ParsedNodes.{TakesClass}
 use Rattle.wave_syntax.specs.NodeTree.{NodeTree, node, no_nodes}
+use Rattle.wave_syntax.specs.declared.form.NodeType.{NodeType}
 use Rattle.wave_syntax.specs.declared.form.NodeType.TheVariants as kind_of_node
 use Rattle.wave_tree.proofs.NodeCorrectness.Items.{class_as, one_tied, label_tied, items_tied, braces_tied, leaf_tied, number_word_tied, none_tied, some_tied, ok_tied, err_tied, case_tied, some_there, type_of_items, items_made, items_none, items_first, items_next, pairs_next, pairs_close, empty_tied, no_fields_tied, entries_tied, flags_tied, payload_tied}
 use Rattle.wave_tree.proofs.NodeCorrectness.Tokens.{number_parsed, char_parsed, string_parsed, multiline_parsed}
 use Rattle.wave_syntax.proofs.Parameters.{error_handed}
 use Rattle.wave_tree.specs.Private.ParserState.{WantsOnly}
-use Rattle.wave_tree.proofs.Wanting.{wants_refused, wants_reached, wants_less, answer_token, answer_brace, wants_other, wants_fails, wants_taken}
+use Rattle.wave_tree.proofs.AloneTokens.{alone_token, alone_parsed, alone_led}
+use Rattle.wave_tree.proofs.Wanting.{whatever_parts, wants_any, wants_refused, wants_reached, wants_less, answer_token, answer_brace, wants_other, wants_fails, wants_taken}
 use Rattle.wave_tree.proofs.PartsDue.{key_next, value_next, payload_due, payload_parts}
-use Rattle.wave_tree.proofs.Built.{built, leaf_built, whole_built, as_ok, of_front, of_part, wants_part, source_item, source_parsed, source_reached}
+use Rattle.wave_tree.proofs.Built.{as_added, part_added, built, leaf_built, whole_built, as_ok, of_front, of_part, wants_part, source_item, source_parsed, source_reached}
 use Rattle.wave_syntax.specs.NodeParts.{IsOfParts, TakesPart}
 use Rattle.wave_tree.specs.ParsedNodes.{IsBuilt, IsParsed}
 use Rattle.wave_tree.proofs.ClassTests.{is_class, is_other, differs, differs_not}
@@ -58,30 +60,30 @@ asks_entries : (levels : ℕ) (old at new : Stream) → ((n : ℕ) (s : List For
     AsksFor old at → AsksFor at new → AsksFor old new
 asks_entries levels old at new led first more = asks_reached (levels + 1) due.value due.value (due.entries ∷ []) (due.entries ∷ []) old at new (led (levels + 1) [] (omega arith)) first more
 
-pub parse_node-returns-in_err-token-clause-led : goal.parse_node-returns-in_err-token-clause-led
-parse_node-returns-in_err-token-clause-led g t c = λ n s e. handed s _ _ c.from_residual.ensures.1
+pub parse_part-returns-in_err-token-clause-led : goal.parse_part-returns-in_err-token-clause-led
+parse_part-returns-in_err-token-clause-led g t c = λ n s e. handed s _ _ c.from_residual.ensures.1
     (fails (inl tt) (λ _. Unit {0}) c.in_err-token.field-0.0 (here n due.value s _) (shallow n due.value s _ (omega arith)) (any_token n due.value s _ _) c.in_err-token.ensures.takes)
 
-pub parse_node-returns-in-Number-clause-led : goal.parse_node-returns-in-Number-clause-led
-parse_node-returns-in-Number-clause-led g t c = λ n s e. read_there (value_read n due.behind_value s s _ _ _ Number (omega arith) c.in_ok-token.ensures.takes c.in-Number.is refl) (inl refl)
+pub parse_behind-returns-in-Number-clause-led : goal.parse_behind-returns-in-Number-clause-led
+parse_behind-returns-in-Number-clause-led g t c = λ first there n s e. read_there (value_read n due.behind_value s s _ _ _ Number (omega arith) there c.in-Number.is refl) (inl refl)
 
-pub parse_node-returns-in-Char-clause-led : goal.parse_node-returns-in-Char-clause-led
-parse_node-returns-in-Char-clause-led g t c = λ n s e. read_there (value_read n due.behind_value s s _ _ _ Char (omega arith) c.in_ok-token.ensures.takes c.in-Char.is refl) (inl refl)
+pub parse_behind-returns-in-Char-clause-led : goal.parse_behind-returns-in-Char-clause-led
+parse_behind-returns-in-Char-clause-led g t c = λ first there n s e. read_there (value_read n due.behind_value s s _ _ _ Char (omega arith) there c.in-Char.is refl) (inl refl)
 
-pub parse_node-returns-in-String-clause-led : goal.parse_node-returns-in-String-clause-led
-parse_node-returns-in-String-clause-led g t c = λ n s e. read_there (value_read n due.behind_value s s _ _ _ String (omega arith) c.in_ok-token.ensures.takes c.in-String.is refl) (inl refl)
+pub parse_behind-returns-in-String-clause-led : goal.parse_behind-returns-in-String-clause-led
+parse_behind-returns-in-String-clause-led g t c = λ first there n s e. read_there (value_read n due.behind_value s s _ _ _ String (omega arith) there c.in-String.is refl) (inl refl)
 
-pub parse_node-returns-in-MultilineString-clause-led : goal.parse_node-returns-in-MultilineString-clause-led
-parse_node-returns-in-MultilineString-clause-led g t c = λ n s e. read_there (value_read n due.behind_value s s _ _ _ MultilineString (omega arith) c.in_ok-token.ensures.takes c.in-MultilineString.is refl) (inl refl)
+pub parse_behind-returns-in-MultilineString-clause-led : goal.parse_behind-returns-in-MultilineString-clause-led
+parse_behind-returns-in-MultilineString-clause-led g t c = λ first there n s e. read_there (value_read n due.behind_value s s _ _ _ MultilineString (omega arith) there c.in-MultilineString.is refl) (inl refl)
 
-pub parse_node-returns-in-LabelOrKeyword-clause-led : goal.parse_node-returns-in-LabelOrKeyword-clause-led
-parse_node-returns-in-LabelOrKeyword-clause-led g t c = λ n s e. gives_then s _ c.parse_label.result (value_read n _ s s _ _ _ LabelOrKeyword (omega arith) c.in_ok-token.ensures.takes c.in-LabelOrKeyword.is refl) (c.parse_label.ensures.led n s (omega arith))
+pub parse_behind-returns-in-LabelOrKeyword-clause-led : goal.parse_behind-returns-in-LabelOrKeyword-clause-led
+parse_behind-returns-in-LabelOrKeyword-clause-led g t c = λ first there n s e. gives_then s _ c.parse_label.result (value_read n _ s s _ _ _ LabelOrKeyword (omega arith) there c.in-LabelOrKeyword.is refl) (c.parse_label.ensures.led n s (omega arith))
 
-pub parse_node-returns-in-ParenOpen-clause-led : goal.parse_node-returns-in-ParenOpen-clause-led
-parse_node-returns-in-ParenOpen-clause-led g t c = λ n s e. gives_then s _ c.parse_items.result (value_read n due.first_item s (due.tuple ∷ s) _ _ _ ParenOpen (omega arith) c.in_ok-token.ensures.takes c.in-ParenOpen.is refl) (c.parse_items.ensures.led n s (omega arith))
+pub parse_behind-returns-in-ParenOpen-clause-led : goal.parse_behind-returns-in-ParenOpen-clause-led
+parse_behind-returns-in-ParenOpen-clause-led g t c = λ first there n s e. gives_then s _ c.parse_items.result (value_read n due.first_item s (due.tuple ∷ s) _ _ _ ParenOpen (omega arith) there c.in-ParenOpen.is refl) (c.parse_items.ensures.led n s (omega arith))
 
-pub parse_node-returns-in-BracketOpen-clause-led : goal.parse_node-returns-in-BracketOpen-clause-led
-parse_node-returns-in-BracketOpen-clause-led g t c = λ n s e. gives_then s _ c.parse_items-in-BracketOpen.result (value_read n due.first_item s (due.list ∷ s) _ _ _ BracketOpen (omega arith) c.in_ok-token.ensures.takes c.in-BracketOpen.is refl) (c.parse_items-in-BracketOpen.ensures.led n s (omega arith))
+pub parse_behind-returns-in-BracketOpen-clause-led : goal.parse_behind-returns-in-BracketOpen-clause-led
+parse_behind-returns-in-BracketOpen-clause-led g t c = λ first there n s e. gives_then s _ c.parse_items-in-BracketOpen.result (value_read n due.first_item s (due.list ∷ s) _ _ _ BracketOpen (omega arith) there c.in-BracketOpen.is refl) (c.parse_items-in-BracketOpen.ensures.led n s (omega arith))
 
 pub parse_label-returns-in_err-expect-in-Some-clause-led : goal.parse_label-returns-in_err-expect-in-Some-clause-led
 parse_label-returns-in_err-expect-in-Some-clause-led g t c = λ n s e.
@@ -109,25 +111,25 @@ parse_maybe-returns-clause-led g t c = λ n s e. gives_then s _ c.parse_payload.
 
 pub parse_payload-returns-in_err-expect-clause-led : goal.parse_payload-returns-in_err-expect-clause-led
 parse_payload-returns-in_err-expect-clause-led g t c = λ n s e.
-    let item = c.in_ok-payload.ensures.led n (due.payload ∷ s) (omega arith) in
+    let item = c.in_ok-parse_part.ensures.led n (due.payload ∷ s) (omega arith) in
     handed s _ _ c.from_residual-in_err-expect.ensures.1 (fails_behind item.due_there (λ k. k ≡ ParenClose) c.in_err-expect.field-0.0 (reached item) item.is_behind (λ k text apart. payload_other k s text apart) c.in_err-expect.ensures.takes)
 
 pub parse_payload-returns-clause-led : goal.parse_payload-returns-clause-led
 parse_payload-returns-clause-led g t c = λ n s e.
-    let item = c.in_ok-payload.ensures.led n (due.payload ∷ s) (omega arith) in
+    let item = c.in_ok-parse_part.ensures.led n (due.payload ∷ s) (omega arith) in
     read_there (then_behind item.due_there ParenClose (reached item) item.is_behind c.in_ok-expect.ensures.takes refl) (inl refl)
 
-pub parse_node-returns-in_default-clause-led : goal.parse_node-returns-in_default-clause-led
-parse_node-returns-in_default-clause-led g t c = λ n s e.
-    let new = c.advance.new.self.place in
+pub parse_behind-returns-in_default-clause-led : goal.parse_behind-returns-in_default-clause-led
+parse_behind-returns-in_default-clause-led g t c = λ first there n s e.
+    let new = c.args.self.now.place in
     refuses_there s c.refuse_token.result c.refuse_token.ensures.never c.refuse_token.ensures.refused
-    (λ x says. unexpected_there (inl tt) x c.in_ok-token.token (here n due.value s _) c.in_ok-token.ensures.takes
-    (level_open n s (token_of c.in_ok-token.token (text_at new)) (omega arith) ∙
-    no_value s c.in_ok-token.token (text_at new) c.in_default.not-ParenOpen c.in_default.not-BracketOpen c.in_default.not-BraceOpen c.in_default.not-Number c.in_default.not-LabelOrKeyword c.in_default.not-Char c.in_default.not-String c.in_default.not-MultilineString)
+    (λ x says. unexpected_there (inl tt) x c.args.token (here n due.value s _) there
+    (level_open n s (token_of c.args.token (text_at new)) (omega arith) ∙
+    no_value s c.args.token (text_at new) c.in_default.not-ParenOpen c.in_default.not-BracketOpen c.in_default.not-BraceOpen c.in_default.not-Number c.in_default.not-LabelOrKeyword c.in_default.not-Char c.in_default.not-String c.in_default.not-MultilineString)
     says)
 
-pub parse_node-returns-in-BraceOpen-clause-led : goal.parse_node-returns-in-BraceOpen-clause-led
-parse_node-returns-in-BraceOpen-clause-led g t c = λ n s e. gives_then s _ c.parse_braces.result (value_read n due.in_braces s s _ _ _ BraceOpen (omega arith) c.in_ok-token.ensures.takes c.in-BraceOpen.is refl) (c.parse_braces.ensures.led n s (omega arith))
+pub parse_behind-returns-in-BraceOpen-clause-led : goal.parse_behind-returns-in-BraceOpen-clause-led
+parse_behind-returns-in-BraceOpen-clause-led g t c = λ first there n s e. gives_then s _ c.parse_braces.result (value_read n due.in_braces s s _ _ _ BraceOpen (omega arith) there c.in-BraceOpen.is refl) (c.parse_braces.ensures.led n s (omega arith))
 
 pub parse_items-returns-in_err-expect-clause-led : goal.parse_items-returns-in_err-expect-clause-led
 parse_items-returns-in_err-expect-clause-led g t c = λ n s e. handed s _ _ c.from_residual.ensures.1
@@ -160,11 +162,11 @@ parse_items-items-init g t c = record {
   );
 }
 
-pub parse_items-returns-in_err-item-clause-led : goal.parse_items-returns-in_err-item-clause-led
-parse_items-returns-in_err-item-clause-led g t c = λ n s e.
+pub parse_items-returns-in_err-parse_part-clause-led : goal.parse_items-returns-in_err-parse_part-clause-led
+parse_items-returns-in_err-parse_part-clause-led g t c = λ n s e.
     let (d, i, r) = c.items.invariant.reached n s e in
-    handed s _ _ c.from_residual-in_err-item.ensures.1 (then_refuses c.in_err-item.field-0.0 r
-    (item_refuses d c.in_err-item.field-0.0 i (no_close c.args.close s _ c.requires c.items.invariant.no_close) (c.in_err-item.ensures.led n (form_of c.args.close ∷ s) (omega arith))))
+    handed s _ _ c.from_residual-in_err-parse_part.ensures.1 (then_refuses c.in_err-parse_part.field-0.0 r
+    (item_refuses d c.in_err-parse_part.field-0.0 i (no_close c.args.close s _ c.requires c.items.invariant.no_close) (c.in_err-parse_part.ensures.led n (form_of c.args.close ∷ s) (omega arith))))
 
 -- after an item that was read
 behind_item : {n : ℕ} {d e : Due} {s : List Form} {p q w : Place} (close : lex.Token) → IsClose close → ((next : Place) × TakesItem q (Some (Ok close)) next → ⊥) → IsItemDue e →
@@ -174,13 +176,13 @@ behind_item {e = e} {s = s} {q = q} close is_close none i r h = then_reached r (
 pub parse_items-returns-in_err-token-clause-led : goal.parse_items-returns-in_err-token-clause-led
 parse_items-returns-in_err-token-clause-led g t c = λ n s e.
     let (d, i, r) = c.items.invariant.reached n s e in
-    let item = c.in_ok-item.ensures.led n (form_of c.args.close ∷ s) (omega arith) in
+    let item = c.in_ok-parse_part.ensures.led n (form_of c.args.close ∷ s) (omega arith) in
     handed s _ _ c.from_residual-in_err-token.ensures.1 (fails_behind item.due_there (λ _. Unit {0}) c.in_err-token.field-0.0 (behind_item c.args.close c.requires c.items.invariant.no_close i r item) item.is_behind (λ k text apart. absurd (apart tt)) c.in_err-token.ensures.takes)
 
 pub parse_items-returns-then-eq-3-clause-led : goal.parse_items-returns-then-eq-3-clause-led
 parse_items-returns-then-eq-3-clause-led g t c = λ n s e.
     let (d, i, r) = c.items.invariant.reached n s e in
-    let item = c.in_ok-item.ensures.led n (form_of c.args.close ∷ s) (omega arith) in
+    let item = c.in_ok-parse_part.ensures.led n (form_of c.args.close ∷ s) (omega arith) in
     let behind = behind_item c.args.close c.requires c.items.invariant.no_close i r item in
     let step_there = close_behind c.args.close s (text_at c.advance.new.self.place) c.requires in
     read_there (then_behind item.due_there c.in_ok-token.token behind item.is_behind c.in_ok-token.ensures.takes
@@ -189,7 +191,7 @@ parse_items-returns-then-eq-3-clause-led g t c = λ n s e.
 pub parse_items-returns-then-ne-clause-led : goal.parse_items-returns-then-ne-clause-led
 parse_items-returns-then-ne-clause-led g t c = λ n s e.
     let (d, i, r) = c.items.invariant.reached n s e in
-    let item = c.in_ok-item.ensures.led n (form_of c.args.close ∷ s) (omega arith) in
+    let item = c.in_ok-parse_part.ensures.led n (form_of c.args.close ∷ s) (omega arith) in
     let behind = behind_item c.args.close c.requires c.items.invariant.no_close i r item in
     refuses_there s c.refuse_token.result c.refuse_token.ensures.never c.refuse_token.ensures.refused (λ x says. unexpected_behind item.due_there x c.in_ok-token.token behind item.is_behind c.in_ok-token.ensures.takes
     (other_behind c.args.close c.in_ok-token.token s (text_at c.advance.new.self.place) c.requires (is_other _ _ c.eq-in-items.ensures c.if-eq-3.false) (differs _ _ c.ne.ensures c.if-ne.true))
@@ -202,7 +204,7 @@ parse_items-returns-in_err-expect-2-clause-led g t c = λ n s e. handed s _ _ c.
 pub parse_items-returns-then-next_is-2-clause-led : goal.parse_items-returns-then-next_is-2-clause-led
 parse_items-returns-then-next_is-2-clause-led g t c = λ n s e.
     let (d, i, r) = c.items.invariant.reached n s e in
-    let item = c.in_ok-item.ensures.led n (form_of c.args.close ∷ s) (omega arith) in
+    let item = c.in_ok-parse_part.ensures.led n (form_of c.args.close ∷ s) (omega arith) in
     let behind = behind_item c.args.close c.requires c.items.invariant.no_close i r item in
     let comma_step = subst (λ z. behind_step (form_of c.args.close ∷ s) (token_of z (text_at c.advance.new.self.place)) ≡ reads due.next_item (form_of c.args.close ∷ s)) (sym (differs_not c.in_ok-token.token Comma c.ne.ensures c.if-ne.false)) (comma_behind c.args.close s (text_at c.advance.new.self.place) c.requires) in
     let next = then_behind item.due_there c.in_ok-token.token behind item.is_behind c.in_ok-token.ensures.takes comma_step in
@@ -210,7 +212,7 @@ parse_items-returns-then-next_is-2-clause-led g t c = λ n s e.
 
 pub parse_items-items-smaller : goal.parse_items-items-smaller
 parse_items-items-smaller g t c =
-    let item = c.in_ok-item.ensures.led (c.args.levels + 1 + 0) (form_of c.args.close ∷ []) (omega arith) in
+    let item = c.in_ok-parse_part.ensures.led (c.args.levels + 1 + 0) (form_of c.args.close ∷ []) (omega arith) in
     let one = tokens_less _ _ item.tokens item.taken in
     let two = token_less _ _ c.in_ok-token.token c.in_ok-token.ensures.takes in
     let three = ap left_at c.next_is-in-items.ensures.stays in
@@ -264,42 +266,42 @@ parse_braces-returns-clause-led g t c = λ n s e.
     let key_step_there = brace_key c.in_ok-token.token s (text_at c.advance.new.self.place) (is_other _ _ c.eq-3.ensures c.if-eq-3.false) (is_other _ _ c.eq-2.ensures c.if-eq-2.false) ∙ key_reads c.in_ok-token.token s (text_at c.advance.new.self.place) c.in-Some.ensures.0 in
     gives_then s _ c.parse_entries-2.result (then_same Colon (then_same c.in_ok-token.token (here n due.in_braces s _) c.in_ok-token.ensures.takes key_step_there) c.in_ok-expect-3.ensures.takes refl) (c.parse_entries-2.ensures.led n s e)
 
-pub parse_entries-returns-in_err-value-clause-led : goal.parse_entries-returns-in_err-value-clause-led
-parse_entries-returns-in_err-value-clause-led g t c = λ n s e. handed s _ _ c.from_residual.ensures.1
-    (then_refuses c.in_err-value.field-0.0 (c.entries.invariant.led n s e) (c.in_err-value.ensures.led n (due.entries ∷ s) (omega arith)))
+pub parse_entries-returns-in_err-parse_part-clause-led : goal.parse_entries-returns-in_err-parse_part-clause-led
+parse_entries-returns-in_err-parse_part-clause-led g t c = λ n s e. handed s _ _ c.from_residual.ensures.1
+    (then_refuses c.in_err-parse_part.field-0.0 (c.entries.invariant.led n s e) (c.in_err-parse_part.ensures.led n (due.entries ∷ s) (omega arith)))
 
 pub parse_entries-returns-in_err-token-clause-led : goal.parse_entries-returns-in_err-token-clause-led
 parse_entries-returns-in_err-token-clause-led g t c = λ n s e.
-    let item = c.in_ok-value.ensures.led n (due.entries ∷ s) (omega arith) in
+    let item = c.in_ok-parse_part.ensures.led n (due.entries ∷ s) (omega arith) in
     handed s _ _ c.from_residual-in_err-token.ensures.1 (fails_behind item.due_there (λ _. Unit {0}) c.in_err-token.field-0.0 (then_reached (c.entries.invariant.led n s e) (reached item)) item.is_behind (λ k text apart. absurd (apart tt)) c.in_err-token.ensures.takes)
 
 pub parse_entries-returns-then-eq-clause-led : goal.parse_entries-returns-then-eq-clause-led
 parse_entries-returns-then-eq-clause-led g t c = λ n s e.
-    let item = c.in_ok-value.ensures.led n (due.entries ∷ s) (omega arith) in
+    let item = c.in_ok-parse_part.ensures.led n (due.entries ∷ s) (omega arith) in
     read_there (then_behind_class item.due_there BraceClose (then_reached (c.entries.invariant.led n s e) (reached item)) item.is_behind c.in_ok-token.ensures.takes (is_class _ _ c.eq.ensures c.if-eq.true) refl) (inl refl)
 
 pub parse_entries-returns-then-ne-clause-led : goal.parse_entries-returns-then-ne-clause-led
 parse_entries-returns-then-ne-clause-led g t c = λ n s e.
-    let item = c.in_ok-value.ensures.led n (due.entries ∷ s) (omega arith) in
+    let item = c.in_ok-parse_part.ensures.led n (due.entries ∷ s) (omega arith) in
     refuses_there s c.refuse_token.result c.refuse_token.ensures.never c.refuse_token.ensures.refused (λ x says. unexpected_behind item.due_there x c.in_ok-token.token (then_reached (c.entries.invariant.led n s e) (reached item)) item.is_behind c.in_ok-token.ensures.takes
     (entries_other c.in_ok-token.token s (text_at c.advance.new.self.place) (is_other _ _ c.eq.ensures c.if-eq.false) (differs _ _ c.ne.ensures c.if-ne.true))
     says)
 
 pub parse_entries-returns-in_err-next-clause-led : goal.parse_entries-returns-in_err-next-clause-led
 parse_entries-returns-in_err-next-clause-led g t c = λ n s e.
-    let item = c.in_ok-value.ensures.led n (due.entries ∷ s) (omega arith) in
+    let item = c.in_ok-parse_part.ensures.led n (due.entries ∷ s) (omega arith) in
     let due_key = key_due (c.entries.invariant.led n s e) item c.in_ok-token.ensures.takes (differs_not _ _ c.ne.ensures c.if-ne.false) in
     handed s _ _ c.from_residual-in_err-next.ensures.1 (fails (inl tt) (λ _. Unit {0}) c.in_err-next.field-0.0 due_key (λ deep. deep.due) (any_token n due.key s _ _) c.in_err-next.ensures.takes)
 
 pub parse_entries-returns-then-eq-2-clause-led : goal.parse_entries-returns-then-eq-2-clause-led
 parse_entries-returns-then-eq-2-clause-led g t c = λ n s e.
-    let item = c.in_ok-value.ensures.led n (due.entries ∷ s) (omega arith) in
+    let item = c.in_ok-parse_part.ensures.led n (due.entries ∷ s) (omega arith) in
     let due_key = key_due (c.entries.invariant.led n s e) item c.in_ok-token.ensures.takes (differs_not _ _ c.ne.ensures c.if-ne.false) in
     read_there (then_class BraceClose due_key c.in_ok-next.ensures.takes (is_class _ _ c.eq-in-entries.ensures c.if-eq-2.true) refl) (inl refl)
 
 pub parse_entries-returns-in_default-clause-led : goal.parse_entries-returns-in_default-clause-led
 parse_entries-returns-in_default-clause-led g t c = λ n s e.
-    let item = c.in_ok-value.ensures.led n (due.entries ∷ s) (omega arith) in
+    let item = c.in_ok-parse_part.ensures.led n (due.entries ∷ s) (omega arith) in
     let due_key = key_due (c.entries.invariant.led n s e) item c.in_ok-token.ensures.takes (differs_not _ _ c.ne.ensures c.if-ne.false) in
     refuses_there s c.refuse_token-in_default.result c.refuse_token-in_default.ensures.never c.refuse_token-in_default.ensures.refused (λ x says. unexpected_there (inl tt) x c.in_ok-next.next due_key c.in_ok-next.ensures.takes
     (no_key c.in_ok-next.next s (text_at c.advance-in-entries.new.self.place) c.in_default.ensures (is_other _ _ c.eq-in-entries.ensures c.if-eq-2.false))
@@ -307,7 +309,7 @@ parse_entries-returns-in_default-clause-led g t c = λ n s e.
 
 pub parse_entries-returns-in_err-expect-clause-led : goal.parse_entries-returns-in_err-expect-clause-led
 parse_entries-returns-in_err-expect-clause-led g t c = λ n s e.
-    let item = c.in_ok-value.ensures.led n (due.entries ∷ s) (omega arith) in
+    let item = c.in_ok-parse_part.ensures.led n (due.entries ∷ s) (omega arith) in
     let due_key = key_due (c.entries.invariant.led n s e) item c.in_ok-token.ensures.takes (differs_not _ _ c.ne.ensures c.if-ne.false) in
     handed s _ _ c.from_residual-in_err-expect.ensures.1 (fails (inl tt) (λ k. k ≡ Colon) c.in_err-expect.field-0.0
     (then_same c.in_ok-next.next due_key c.in_ok-next.ensures.takes (key_reads c.in_ok-next.next s (text_at c.advance-in-entries.new.self.place) c.in-Some.ensures.0)) (λ deep. deep.due)
@@ -315,28 +317,12 @@ parse_entries-returns-in_err-expect-clause-led g t c = λ n s e.
 
 pub parse_entries-entries-smaller : goal.parse_entries-entries-smaller
 parse_entries-entries-smaller g t c =
-    let item = c.in_ok-value.ensures.led (c.args.levels + 1 + 0) (due.entries ∷ []) (omega arith) in
+    let item = c.in_ok-parse_part.ensures.led (c.args.levels + 1 + 0) (due.entries ∷ []) (omega arith) in
     let one = tokens_less _ _ item.tokens item.taken in
     let two = token_less _ _ c.in_ok-token.token c.in_ok-token.ensures.takes in
     let three = token_less _ _ c.in_ok-next.next c.in_ok-next.ensures.takes in
     let four = token_less _ _ Colon c.in_ok-expect.ensures.takes in
     omega arith
-
-pub parse_node-returns-in-LabelOrKeyword-clause-asks : goal.parse_node-returns-in-LabelOrKeyword-clause-asks
-parse_node-returns-in-LabelOrKeyword-clause-asks g t c =
-    asks_token c.args.self.now c.advance.new.self c.parse_label.new.self c.in_ok-token.token c.in_ok-token.ensures.takes c.advance.ensures.asks c.parse_label.ensures.asks
-
-pub parse_node-returns-in-ParenOpen-clause-asks : goal.parse_node-returns-in-ParenOpen-clause-asks
-parse_node-returns-in-ParenOpen-clause-asks g t c =
-    asks_token c.args.self.now c.advance.new.self c.parse_items.new.self c.in_ok-token.token c.in_ok-token.ensures.takes c.advance.ensures.asks c.parse_items.ensures.asks
-
-pub parse_node-returns-in-BracketOpen-clause-asks : goal.parse_node-returns-in-BracketOpen-clause-asks
-parse_node-returns-in-BracketOpen-clause-asks g t c =
-    asks_token c.args.self.now c.advance.new.self c.parse_items-in-BracketOpen.new.self c.in_ok-token.token c.in_ok-token.ensures.takes c.advance.ensures.asks c.parse_items-in-BracketOpen.ensures.asks
-
-pub parse_node-returns-in-BraceOpen-clause-asks : goal.parse_node-returns-in-BraceOpen-clause-asks
-parse_node-returns-in-BraceOpen-clause-asks g t c =
-    asks_token c.args.self.now c.advance.new.self c.parse_braces.new.self c.in_ok-token.token c.in_ok-token.ensures.takes c.advance.ensures.asks c.parse_braces.ensures.asks
 
 pub parse_label-returns-in_ok-expect-in-Some-clause-asks : goal.parse_label-returns-in_ok-expect-in-Some-clause-asks
 parse_label-returns-in_ok-expect-in-Some-clause-asks g t c =
@@ -348,43 +334,35 @@ parse_maybe-returns-clause-asks g t c =
 
 pub parse_payload-returns-in_err-expect-clause-asks : goal.parse_payload-returns-in_err-expect-clause-asks
 parse_payload-returns-in_err-expect-clause-asks g t c =
-    asks_value c.args.levels c.args.self.now c.parse_node.new.self c.expect.new.self c.in_ok-payload.ensures.led c.parse_node.ensures.asks (asks_once c.parse_node.new.self c.expect.new.self c.expect.ensures.asks)
+    asks_value c.args.levels c.args.self.now c.parse_part.new.self c.expect.new.self c.in_ok-parse_part.ensures.led c.parse_part.ensures.asks (asks_once c.parse_part.new.self c.expect.new.self c.expect.ensures.asks)
 
 pub parse_payload-returns-clause-asks : goal.parse_payload-returns-clause-asks
 parse_payload-returns-clause-asks g t c =
-    asks_value c.args.levels c.args.self.now c.parse_node.new.self c.expect.new.self c.in_ok-payload.ensures.led c.parse_node.ensures.asks (asks_once c.parse_node.new.self c.expect.new.self c.expect.ensures.asks)
+    asks_value c.args.levels c.args.self.now c.parse_part.new.self c.expect.new.self c.in_ok-parse_part.ensures.led c.parse_part.ensures.asks (asks_once c.parse_part.new.self c.expect.new.self c.expect.ensures.asks)
 
-pub parse_payload-returns-in_err-with_part-clause-asks : goal.parse_payload-returns-in_err-with_part-clause-asks
-parse_payload-returns-in_err-with_part-clause-asks g t c =
-    asks_value c.args.levels c.args.self.now c.parse_node.new.self c.expect.new.self c.in_ok-payload.ensures.led c.parse_node.ensures.asks (asks_once c.parse_node.new.self c.expect.new.self c.expect.ensures.asks)
-
-pub parse_items-returns-in_err-item-clause-asks : goal.parse_items-returns-in_err-item-clause-asks
-parse_items-returns-in_err-item-clause-asks g t c =
-    asks_items c.args.levels c.args.close c.args.self.now c.items.self c.parse_node.new.self c.items.invariant.reached c.items.invariant.asks c.parse_node.ensures.asks
-
-pub parse_items-returns-in_err-with_part-clause-asks : goal.parse_items-returns-in_err-with_part-clause-asks
-parse_items-returns-in_err-with_part-clause-asks g t c =
-    asks_items c.args.levels c.args.close c.args.self.now c.items.self c.parse_node.new.self c.items.invariant.reached c.items.invariant.asks c.parse_node.ensures.asks
+pub parse_items-returns-in_err-parse_part-clause-asks : goal.parse_items-returns-in_err-parse_part-clause-asks
+parse_items-returns-in_err-parse_part-clause-asks g t c =
+    asks_items c.args.levels c.args.close c.args.self.now c.items.self c.parse_part.new.self c.items.invariant.reached c.items.invariant.asks c.parse_part.ensures.asks
 
 pub parse_items-returns-in_err-token-clause-asks : goal.parse_items-returns-in_err-token-clause-asks
 parse_items-returns-in_err-token-clause-asks g t c =
-    asks_items c.args.levels c.args.close c.args.self.now c.items.self c.advance.new.self c.items.invariant.reached c.items.invariant.asks (asks_value c.args.levels c.items.self c.parse_node.new.self c.advance.new.self c.in_ok-item.ensures.led c.parse_node.ensures.asks (asks_once c.parse_node.new.self c.advance.new.self c.advance.ensures.asks))
+    asks_items c.args.levels c.args.close c.args.self.now c.items.self c.advance.new.self c.items.invariant.reached c.items.invariant.asks (asks_value c.args.levels c.items.self c.parse_part.new.self c.advance.new.self c.in_ok-parse_part.ensures.led c.parse_part.ensures.asks (asks_once c.parse_part.new.self c.advance.new.self c.advance.ensures.asks))
 
 pub parse_items-returns-then-eq-3-clause-asks : goal.parse_items-returns-then-eq-3-clause-asks
 parse_items-returns-then-eq-3-clause-asks g t c =
-    asks_items c.args.levels c.args.close c.args.self.now c.items.self c.advance.new.self c.items.invariant.reached c.items.invariant.asks (asks_value c.args.levels c.items.self c.parse_node.new.self c.advance.new.self c.in_ok-item.ensures.led c.parse_node.ensures.asks (asks_once c.parse_node.new.self c.advance.new.self c.advance.ensures.asks))
+    asks_items c.args.levels c.args.close c.args.self.now c.items.self c.advance.new.self c.items.invariant.reached c.items.invariant.asks (asks_value c.args.levels c.items.self c.parse_part.new.self c.advance.new.self c.in_ok-parse_part.ensures.led c.parse_part.ensures.asks (asks_once c.parse_part.new.self c.advance.new.self c.advance.ensures.asks))
 
 pub parse_items-returns-then-ne-clause-asks : goal.parse_items-returns-then-ne-clause-asks
 parse_items-returns-then-ne-clause-asks g t c =
-    asks_items c.args.levels c.args.close c.args.self.now c.items.self c.advance.new.self c.items.invariant.reached c.items.invariant.asks (asks_value c.args.levels c.items.self c.parse_node.new.self c.advance.new.self c.in_ok-item.ensures.led c.parse_node.ensures.asks (asks_once c.parse_node.new.self c.advance.new.self c.advance.ensures.asks))
+    asks_items c.args.levels c.args.close c.args.self.now c.items.self c.advance.new.self c.items.invariant.reached c.items.invariant.asks (asks_value c.args.levels c.items.self c.parse_part.new.self c.advance.new.self c.in_ok-parse_part.ensures.led c.parse_part.ensures.asks (asks_once c.parse_part.new.self c.advance.new.self c.advance.ensures.asks))
 
 pub parse_items-returns-in_err-expect-2-clause-asks : goal.parse_items-returns-in_err-expect-2-clause-asks
 parse_items-returns-in_err-expect-2-clause-asks g t c =
-    asks_items c.args.levels c.args.close c.args.self.now c.items.self c.expect-then-next_is-2.new.self c.items.invariant.reached c.items.invariant.asks (asks_value c.args.levels c.items.self c.parse_node.new.self c.expect-then-next_is-2.new.self c.in_ok-item.ensures.led c.parse_node.ensures.asks (asks_token c.parse_node.new.self c.advance.new.self c.expect-then-next_is-2.new.self c.in_ok-token.token c.in_ok-token.ensures.takes c.advance.ensures.asks (asks_looked c.advance.new.self c.next_is-in-items.new.self c.expect-then-next_is-2.new.self c.next_is-in-items.ensures.stays c.next_is-in-items.ensures.asks (asks_once c.next_is-in-items.new.self c.expect-then-next_is-2.new.self c.expect-then-next_is-2.ensures.asks))))
+    asks_items c.args.levels c.args.close c.args.self.now c.items.self c.expect-then-next_is-2.new.self c.items.invariant.reached c.items.invariant.asks (asks_value c.args.levels c.items.self c.parse_part.new.self c.expect-then-next_is-2.new.self c.in_ok-parse_part.ensures.led c.parse_part.ensures.asks (asks_token c.parse_part.new.self c.advance.new.self c.expect-then-next_is-2.new.self c.in_ok-token.token c.in_ok-token.ensures.takes c.advance.ensures.asks (asks_looked c.advance.new.self c.next_is-in-items.new.self c.expect-then-next_is-2.new.self c.next_is-in-items.ensures.stays c.next_is-in-items.ensures.asks (asks_once c.next_is-in-items.new.self c.expect-then-next_is-2.new.self c.expect-then-next_is-2.ensures.asks))))
 
 pub parse_items-returns-then-next_is-2-clause-asks : goal.parse_items-returns-then-next_is-2-clause-asks
 parse_items-returns-then-next_is-2-clause-asks g t c =
-    asks_items c.args.levels c.args.close c.args.self.now c.items.self c.expect-then-next_is-2.new.self c.items.invariant.reached c.items.invariant.asks (asks_value c.args.levels c.items.self c.parse_node.new.self c.expect-then-next_is-2.new.self c.in_ok-item.ensures.led c.parse_node.ensures.asks (asks_token c.parse_node.new.self c.advance.new.self c.expect-then-next_is-2.new.self c.in_ok-token.token c.in_ok-token.ensures.takes c.advance.ensures.asks (asks_looked c.advance.new.self c.next_is-in-items.new.self c.expect-then-next_is-2.new.self c.next_is-in-items.ensures.stays c.next_is-in-items.ensures.asks (asks_once c.next_is-in-items.new.self c.expect-then-next_is-2.new.self c.expect-then-next_is-2.ensures.asks))))
+    asks_items c.args.levels c.args.close c.args.self.now c.items.self c.expect-then-next_is-2.new.self c.items.invariant.reached c.items.invariant.asks (asks_value c.args.levels c.items.self c.parse_part.new.self c.expect-then-next_is-2.new.self c.in_ok-parse_part.ensures.led c.parse_part.ensures.asks (asks_token c.parse_part.new.self c.advance.new.self c.expect-then-next_is-2.new.self c.in_ok-token.token c.in_ok-token.ensures.takes c.advance.ensures.asks (asks_looked c.advance.new.self c.next_is-in-items.new.self c.expect-then-next_is-2.new.self c.next_is-in-items.ensures.stays c.next_is-in-items.ensures.asks (asks_once c.next_is-in-items.new.self c.expect-then-next_is-2.new.self c.expect-then-next_is-2.ensures.asks))))
 
 pub parse_braces-returns-in_err-expect-clause-asks : goal.parse_braces-returns-in_err-expect-clause-asks
 parse_braces-returns-in_err-expect-clause-asks g t c =
@@ -414,77 +392,73 @@ pub parse_braces-returns-clause-asks : goal.parse_braces-returns-clause-asks
 parse_braces-returns-clause-asks g t c =
     asks_token c.args.self.now c.advance.new.self c.parse_entries-2.new.self c.in_ok-token.token c.in_ok-token.ensures.takes c.advance.ensures.asks (asks_token c.advance.new.self c.expect-2.new.self c.parse_entries-2.new.self Colon c.in_ok-expect-3.ensures.takes c.expect-2.ensures.asks c.parse_entries-2.ensures.asks)
 
-pub parse_entries-returns-in_err-value-clause-asks : goal.parse_entries-returns-in_err-value-clause-asks
-parse_entries-returns-in_err-value-clause-asks g t c =
-    asks_entries c.args.levels c.args.self.now c.entries.self c.parse_node.new.self c.entries.invariant.led c.entries.invariant.asks c.parse_node.ensures.asks
-
-pub parse_entries-returns-in_err-with_part-clause-asks : goal.parse_entries-returns-in_err-with_part-clause-asks
-parse_entries-returns-in_err-with_part-clause-asks g t c =
-    asks_entries c.args.levels c.args.self.now c.entries.self c.parse_node.new.self c.entries.invariant.led c.entries.invariant.asks c.parse_node.ensures.asks
+pub parse_entries-returns-in_err-parse_part-clause-asks : goal.parse_entries-returns-in_err-parse_part-clause-asks
+parse_entries-returns-in_err-parse_part-clause-asks g t c =
+    asks_entries c.args.levels c.args.self.now c.entries.self c.parse_part.new.self c.entries.invariant.led c.entries.invariant.asks c.parse_part.ensures.asks
 
 pub parse_entries-returns-in_err-token-clause-asks : goal.parse_entries-returns-in_err-token-clause-asks
 parse_entries-returns-in_err-token-clause-asks g t c =
-    asks_entries c.args.levels c.args.self.now c.entries.self c.advance.new.self c.entries.invariant.led c.entries.invariant.asks (asks_value c.args.levels c.entries.self c.parse_node.new.self c.advance.new.self c.in_ok-value.ensures.led c.parse_node.ensures.asks (asks_once c.parse_node.new.self c.advance.new.self c.advance.ensures.asks))
+    asks_entries c.args.levels c.args.self.now c.entries.self c.advance.new.self c.entries.invariant.led c.entries.invariant.asks (asks_value c.args.levels c.entries.self c.parse_part.new.self c.advance.new.self c.in_ok-parse_part.ensures.led c.parse_part.ensures.asks (asks_once c.parse_part.new.self c.advance.new.self c.advance.ensures.asks))
 
 pub parse_entries-returns-then-eq-clause-asks : goal.parse_entries-returns-then-eq-clause-asks
 parse_entries-returns-then-eq-clause-asks g t c =
-    asks_entries c.args.levels c.args.self.now c.entries.self c.advance.new.self c.entries.invariant.led c.entries.invariant.asks (asks_value c.args.levels c.entries.self c.parse_node.new.self c.advance.new.self c.in_ok-value.ensures.led c.parse_node.ensures.asks (asks_once c.parse_node.new.self c.advance.new.self c.advance.ensures.asks))
+    asks_entries c.args.levels c.args.self.now c.entries.self c.advance.new.self c.entries.invariant.led c.entries.invariant.asks (asks_value c.args.levels c.entries.self c.parse_part.new.self c.advance.new.self c.in_ok-parse_part.ensures.led c.parse_part.ensures.asks (asks_once c.parse_part.new.self c.advance.new.self c.advance.ensures.asks))
 
 pub parse_entries-returns-then-ne-clause-asks : goal.parse_entries-returns-then-ne-clause-asks
 parse_entries-returns-then-ne-clause-asks g t c =
-    asks_entries c.args.levels c.args.self.now c.entries.self c.advance.new.self c.entries.invariant.led c.entries.invariant.asks (asks_value c.args.levels c.entries.self c.parse_node.new.self c.advance.new.self c.in_ok-value.ensures.led c.parse_node.ensures.asks (asks_once c.parse_node.new.self c.advance.new.self c.advance.ensures.asks))
+    asks_entries c.args.levels c.args.self.now c.entries.self c.advance.new.self c.entries.invariant.led c.entries.invariant.asks (asks_value c.args.levels c.entries.self c.parse_part.new.self c.advance.new.self c.in_ok-parse_part.ensures.led c.parse_part.ensures.asks (asks_once c.parse_part.new.self c.advance.new.self c.advance.ensures.asks))
 
 pub parse_entries-returns-in_err-next-clause-asks : goal.parse_entries-returns-in_err-next-clause-asks
 parse_entries-returns-in_err-next-clause-asks g t c =
-    asks_entries c.args.levels c.args.self.now c.entries.self c.advance-in-entries.new.self c.entries.invariant.led c.entries.invariant.asks (asks_value c.args.levels c.entries.self c.parse_node.new.self c.advance-in-entries.new.self c.in_ok-value.ensures.led c.parse_node.ensures.asks (asks_token c.parse_node.new.self c.advance.new.self c.advance-in-entries.new.self c.in_ok-token.token c.in_ok-token.ensures.takes c.advance.ensures.asks (asks_once c.advance.new.self c.advance-in-entries.new.self c.advance-in-entries.ensures.asks)))
+    asks_entries c.args.levels c.args.self.now c.entries.self c.advance-in-entries.new.self c.entries.invariant.led c.entries.invariant.asks (asks_value c.args.levels c.entries.self c.parse_part.new.self c.advance-in-entries.new.self c.in_ok-parse_part.ensures.led c.parse_part.ensures.asks (asks_token c.parse_part.new.self c.advance.new.self c.advance-in-entries.new.self c.in_ok-token.token c.in_ok-token.ensures.takes c.advance.ensures.asks (asks_once c.advance.new.self c.advance-in-entries.new.self c.advance-in-entries.ensures.asks)))
 
 pub parse_entries-returns-then-eq-2-clause-asks : goal.parse_entries-returns-then-eq-2-clause-asks
 parse_entries-returns-then-eq-2-clause-asks g t c =
-    asks_entries c.args.levels c.args.self.now c.entries.self c.advance-in-entries.new.self c.entries.invariant.led c.entries.invariant.asks (asks_value c.args.levels c.entries.self c.parse_node.new.self c.advance-in-entries.new.self c.in_ok-value.ensures.led c.parse_node.ensures.asks (asks_token c.parse_node.new.self c.advance.new.self c.advance-in-entries.new.self c.in_ok-token.token c.in_ok-token.ensures.takes c.advance.ensures.asks (asks_once c.advance.new.self c.advance-in-entries.new.self c.advance-in-entries.ensures.asks)))
+    asks_entries c.args.levels c.args.self.now c.entries.self c.advance-in-entries.new.self c.entries.invariant.led c.entries.invariant.asks (asks_value c.args.levels c.entries.self c.parse_part.new.self c.advance-in-entries.new.self c.in_ok-parse_part.ensures.led c.parse_part.ensures.asks (asks_token c.parse_part.new.self c.advance.new.self c.advance-in-entries.new.self c.in_ok-token.token c.in_ok-token.ensures.takes c.advance.ensures.asks (asks_once c.advance.new.self c.advance-in-entries.new.self c.advance-in-entries.ensures.asks)))
 
 pub parse_entries-returns-in_default-clause-asks : goal.parse_entries-returns-in_default-clause-asks
 parse_entries-returns-in_default-clause-asks g t c =
-    asks_entries c.args.levels c.args.self.now c.entries.self c.advance-in-entries.new.self c.entries.invariant.led c.entries.invariant.asks (asks_value c.args.levels c.entries.self c.parse_node.new.self c.advance-in-entries.new.self c.in_ok-value.ensures.led c.parse_node.ensures.asks (asks_token c.parse_node.new.self c.advance.new.self c.advance-in-entries.new.self c.in_ok-token.token c.in_ok-token.ensures.takes c.advance.ensures.asks (asks_once c.advance.new.self c.advance-in-entries.new.self c.advance-in-entries.ensures.asks)))
+    asks_entries c.args.levels c.args.self.now c.entries.self c.advance-in-entries.new.self c.entries.invariant.led c.entries.invariant.asks (asks_value c.args.levels c.entries.self c.parse_part.new.self c.advance-in-entries.new.self c.in_ok-parse_part.ensures.led c.parse_part.ensures.asks (asks_token c.parse_part.new.self c.advance.new.self c.advance-in-entries.new.self c.in_ok-token.token c.in_ok-token.ensures.takes c.advance.ensures.asks (asks_once c.advance.new.self c.advance-in-entries.new.self c.advance-in-entries.ensures.asks)))
 
 pub parse_entries-returns-in_err-expect-clause-asks : goal.parse_entries-returns-in_err-expect-clause-asks
 parse_entries-returns-in_err-expect-clause-asks g t c =
-    asks_entries c.args.levels c.args.self.now c.entries.self c.expect.new.self c.entries.invariant.led c.entries.invariant.asks (asks_value c.args.levels c.entries.self c.parse_node.new.self c.expect.new.self c.in_ok-value.ensures.led c.parse_node.ensures.asks (asks_token c.parse_node.new.self c.advance.new.self c.expect.new.self c.in_ok-token.token c.in_ok-token.ensures.takes c.advance.ensures.asks (asks_token c.advance.new.self c.advance-in-entries.new.self c.expect.new.self c.in_ok-next.next c.in_ok-next.ensures.takes c.advance-in-entries.ensures.asks (asks_once c.advance-in-entries.new.self c.expect.new.self c.expect.ensures.asks))))
+    asks_entries c.args.levels c.args.self.now c.entries.self c.expect.new.self c.entries.invariant.led c.entries.invariant.asks (asks_value c.args.levels c.entries.self c.parse_part.new.self c.expect.new.self c.in_ok-parse_part.ensures.led c.parse_part.ensures.asks (asks_token c.parse_part.new.self c.advance.new.self c.expect.new.self c.in_ok-token.token c.in_ok-token.ensures.takes c.advance.ensures.asks (asks_token c.advance.new.self c.advance-in-entries.new.self c.expect.new.self c.in_ok-next.next c.in_ok-next.ensures.takes c.advance-in-entries.ensures.asks (asks_once c.advance-in-entries.new.self c.expect.new.self c.expect.ensures.asks))))
 
 pub parse_entries-returns-in_err-with_key-clause-asks : goal.parse_entries-returns-in_err-with_key-clause-asks
 parse_entries-returns-in_err-with_key-clause-asks g t c =
-    asks_entries c.args.levels c.args.self.now c.entries.self c.advance-in-entries.new.self c.entries.invariant.led c.entries.invariant.asks (asks_value c.args.levels c.entries.self c.parse_node.new.self c.advance-in-entries.new.self c.in_ok-value.ensures.led c.parse_node.ensures.asks (asks_token c.parse_node.new.self c.advance.new.self c.advance-in-entries.new.self c.in_ok-token.token c.in_ok-token.ensures.takes c.advance.ensures.asks (asks_once c.advance.new.self c.advance-in-entries.new.self c.advance-in-entries.ensures.asks)))
+    asks_entries c.args.levels c.args.self.now c.entries.self c.advance-in-entries.new.self c.entries.invariant.led c.entries.invariant.asks (asks_value c.args.levels c.entries.self c.parse_part.new.self c.advance-in-entries.new.self c.in_ok-parse_part.ensures.led c.parse_part.ensures.asks (asks_token c.parse_part.new.self c.advance.new.self c.advance-in-entries.new.self c.in_ok-token.token c.in_ok-token.ensures.takes c.advance.ensures.asks (asks_once c.advance.new.self c.advance-in-entries.new.self c.advance-in-entries.ensures.asks)))
 
-pub parse_node-returns-in-Number-clause-tree : goal.parse_node-returns-in-Number-clause-tree
-parse_node-returns-in-Number-clause-tree g t c = leaf_built (g.P.Builder.is_made c.args.builder) c.args.self.now.place c.advance.new.self.place c.in_ok-token.token kind_of_node.Number c.leaf.result (IsParsed c.args.levels c.args.self.now.place c.advance.new.self.place) c.in_ok-token.ensures.takes (one_tied kind_of_node.Number Number number_parsed c.args.levels c.args.self.now.place c.advance.new.self.place c.in_ok-token.token _ (omega arith) c.in_ok-token.ensures.takes c.in-Number.is refl) c.leaf.ensures
+pub parse_behind-returns-in-Number-clause-tree : goal.parse_behind-returns-in-Number-clause-tree
+parse_behind-returns-in-Number-clause-tree g t c = (node kind_of_node.Number (span_at c.args.self.now.place) no_nodes, λ first there. one_tied kind_of_node.Number Number number_parsed c.args.levels first c.args.self.now.place c.args.token _ c.requires there c.in-Number.is refl, c.leaf.ensures)
 
-pub parse_node-returns-in-Char-clause-tree : goal.parse_node-returns-in-Char-clause-tree
-parse_node-returns-in-Char-clause-tree g t c = leaf_built (g.P.Builder.is_made c.args.builder) c.args.self.now.place c.advance.new.self.place c.in_ok-token.token kind_of_node.Char c.leaf-in-Char.result (IsParsed c.args.levels c.args.self.now.place c.advance.new.self.place) c.in_ok-token.ensures.takes (one_tied kind_of_node.Char Char char_parsed c.args.levels c.args.self.now.place c.advance.new.self.place c.in_ok-token.token _ (omega arith) c.in_ok-token.ensures.takes c.in-Char.is refl) c.leaf-in-Char.ensures
+pub parse_behind-returns-in-Char-clause-tree : goal.parse_behind-returns-in-Char-clause-tree
+parse_behind-returns-in-Char-clause-tree g t c = (node kind_of_node.Char (span_at c.args.self.now.place) no_nodes, λ first there. one_tied kind_of_node.Char Char char_parsed c.args.levels first c.args.self.now.place c.args.token _ c.requires there c.in-Char.is refl, c.leaf-in-Char.ensures)
 
-pub parse_node-returns-in-String-clause-tree : goal.parse_node-returns-in-String-clause-tree
-parse_node-returns-in-String-clause-tree g t c = leaf_built (g.P.Builder.is_made c.args.builder) c.args.self.now.place c.advance.new.self.place c.in_ok-token.token kind_of_node.String c.leaf-in-String.result (IsParsed c.args.levels c.args.self.now.place c.advance.new.self.place) c.in_ok-token.ensures.takes (one_tied kind_of_node.String String string_parsed c.args.levels c.args.self.now.place c.advance.new.self.place c.in_ok-token.token _ (omega arith) c.in_ok-token.ensures.takes c.in-String.is refl) c.leaf-in-String.ensures
+pub parse_behind-returns-in-String-clause-tree : goal.parse_behind-returns-in-String-clause-tree
+parse_behind-returns-in-String-clause-tree g t c = (node kind_of_node.String (span_at c.args.self.now.place) no_nodes, λ first there. one_tied kind_of_node.String String string_parsed c.args.levels first c.args.self.now.place c.args.token _ c.requires there c.in-String.is refl, c.leaf-in-String.ensures)
 
-pub parse_node-returns-in-MultilineString-clause-tree : goal.parse_node-returns-in-MultilineString-clause-tree
-parse_node-returns-in-MultilineString-clause-tree g t c = leaf_built (g.P.Builder.is_made c.args.builder) c.args.self.now.place c.advance.new.self.place c.in_ok-token.token kind_of_node.MultilineString c.leaf-in-MultilineString.result (IsParsed c.args.levels c.args.self.now.place c.advance.new.self.place) c.in_ok-token.ensures.takes (one_tied kind_of_node.MultilineString MultilineString multiline_parsed c.args.levels c.args.self.now.place c.advance.new.self.place c.in_ok-token.token _ (omega arith) c.in_ok-token.ensures.takes c.in-MultilineString.is refl) c.leaf-in-MultilineString.ensures
+pub parse_behind-returns-in-MultilineString-clause-tree : goal.parse_behind-returns-in-MultilineString-clause-tree
+parse_behind-returns-in-MultilineString-clause-tree g t c = (node kind_of_node.MultilineString (span_at c.args.self.now.place) no_nodes, λ first there. one_tied kind_of_node.MultilineString MultilineString multiline_parsed c.args.levels first c.args.self.now.place c.args.token _ c.requires there c.in-MultilineString.is refl, c.leaf-in-MultilineString.ensures)
 
-pub parse_node-returns-in-LabelOrKeyword-clause-tree : goal.parse_node-returns-in-LabelOrKeyword-clause-tree
-parse_node-returns-in-LabelOrKeyword-clause-tree g t c =
-    built (g.P.Builder.is_made c.args.builder) c.args.self.now.place c.advance.new.self.place (IsParsedBehind LabelOrKeyword (c.args.levels - 1 + 1) c.advance.new.self.place c.parse_label.new.self.place) (IsParsed c.args.levels c.args.self.now.place c.parse_label.new.self.place) c.parse_label.result (source_item c.args.self.now.place c.advance.new.self.place c.in_ok-token.token c.in_ok-token.ensures.takes)
-    (λ n. label_tied c.args.levels c.args.self.now.place c.advance.new.self.place c.parse_label.new.self.place c.in_ok-token.token (as_ok n) (omega arith) c.in_ok-token.ensures.takes c.in-LabelOrKeyword.is) c.parse_label.ensures.tree
+pub parse_behind-returns-in-LabelOrKeyword-clause-tree : goal.parse_behind-returns-in-LabelOrKeyword-clause-tree
+parse_behind-returns-in-LabelOrKeyword-clause-tree g t c =
+    built (g.P.Builder.is_made c.args.builder) c.args.self.now.place c.args.self.now.place (IsParsedBehind LabelOrKeyword (c.args.levels - 1 + 1) c.args.self.now.place c.parse_label.new.self.place) (IsParsedBehind c.args.token c.args.levels c.args.self.now.place c.parse_label.new.self.place) c.parse_label.result refl
+    (λ n is first there. label_tied c.args.levels first c.args.self.now.place c.parse_label.new.self.place c.args.token (as_ok n) c.requires there c.in-LabelOrKeyword.is is) c.parse_label.ensures.tree
 
-pub parse_node-returns-in-ParenOpen-clause-tree : goal.parse_node-returns-in-ParenOpen-clause-tree
-parse_node-returns-in-ParenOpen-clause-tree g t c =
-    built (g.P.Builder.is_made c.args.builder) c.args.self.now.place c.advance.new.self.place (IsOfItems (c.args.levels - 1) ParenClose c.advance.new.self.place c.parse_items.new.self.place) (IsParsed c.args.levels c.args.self.now.place c.parse_items.new.self.place) c.parse_items.result (source_item c.args.self.now.place c.advance.new.self.place c.in_ok-token.token c.in_ok-token.ensures.takes)
-    (λ n. items_tied c.args.levels c.args.self.now.place c.advance.new.self.place c.parse_items.new.self.place c.in_ok-token.token ParenOpen ParenClose (inl (refl, refl)) (as_ok n) (omega arith) c.in_ok-token.ensures.takes c.in-ParenOpen.is) c.parse_items.ensures.tree
+pub parse_behind-returns-in-ParenOpen-clause-tree : goal.parse_behind-returns-in-ParenOpen-clause-tree
+parse_behind-returns-in-ParenOpen-clause-tree g t c =
+    built (g.P.Builder.is_made c.args.builder) c.args.self.now.place c.args.self.now.place (IsOfItems (c.args.levels - 1) ParenClose c.args.self.now.place c.parse_items.new.self.place) (IsParsedBehind c.args.token c.args.levels c.args.self.now.place c.parse_items.new.self.place) c.parse_items.result refl
+    (λ n is first there. items_tied c.args.levels first c.args.self.now.place c.parse_items.new.self.place c.args.token ParenOpen ParenClose (inl (refl, refl)) (as_ok n) c.requires there c.in-ParenOpen.is is) c.parse_items.ensures.tree
 
-pub parse_node-returns-in-BracketOpen-clause-tree : goal.parse_node-returns-in-BracketOpen-clause-tree
-parse_node-returns-in-BracketOpen-clause-tree g t c =
-    built (g.P.Builder.is_made c.args.builder) c.args.self.now.place c.advance.new.self.place (IsOfItems (c.args.levels - 1) BracketClose c.advance.new.self.place c.parse_items-in-BracketOpen.new.self.place) (IsParsed c.args.levels c.args.self.now.place c.parse_items-in-BracketOpen.new.self.place) c.parse_items-in-BracketOpen.result (source_item c.args.self.now.place c.advance.new.self.place c.in_ok-token.token c.in_ok-token.ensures.takes)
-    (λ n. items_tied c.args.levels c.args.self.now.place c.advance.new.self.place c.parse_items-in-BracketOpen.new.self.place c.in_ok-token.token BracketOpen BracketClose (inr (refl, refl)) (as_ok n) (omega arith) c.in_ok-token.ensures.takes c.in-BracketOpen.is) c.parse_items-in-BracketOpen.ensures.tree
+pub parse_behind-returns-in-BracketOpen-clause-tree : goal.parse_behind-returns-in-BracketOpen-clause-tree
+parse_behind-returns-in-BracketOpen-clause-tree g t c =
+    built (g.P.Builder.is_made c.args.builder) c.args.self.now.place c.args.self.now.place (IsOfItems (c.args.levels - 1) BracketClose c.args.self.now.place c.parse_items-in-BracketOpen.new.self.place) (IsParsedBehind c.args.token c.args.levels c.args.self.now.place c.parse_items-in-BracketOpen.new.self.place) c.parse_items-in-BracketOpen.result refl
+    (λ n is first there. items_tied c.args.levels first c.args.self.now.place c.parse_items-in-BracketOpen.new.self.place c.args.token BracketOpen BracketClose (inr (refl, refl)) (as_ok n) c.requires there c.in-BracketOpen.is is) c.parse_items-in-BracketOpen.ensures.tree
 
-pub parse_node-returns-in-BraceOpen-clause-tree : goal.parse_node-returns-in-BraceOpen-clause-tree
-parse_node-returns-in-BraceOpen-clause-tree g t c =
-    built (g.P.Builder.is_made c.args.builder) c.args.self.now.place c.advance.new.self.place (IsParsedBehind BraceOpen (c.args.levels - 1 + 1) c.advance.new.self.place c.parse_braces.new.self.place) (IsParsed c.args.levels c.args.self.now.place c.parse_braces.new.self.place) c.parse_braces.result (source_item c.args.self.now.place c.advance.new.self.place c.in_ok-token.token c.in_ok-token.ensures.takes)
-    (λ n. braces_tied c.args.levels c.args.self.now.place c.advance.new.self.place c.parse_braces.new.self.place c.in_ok-token.token (as_ok n) (omega arith) c.in_ok-token.ensures.takes c.in-BraceOpen.is) c.parse_braces.ensures.tree
+pub parse_behind-returns-in-BraceOpen-clause-tree : goal.parse_behind-returns-in-BraceOpen-clause-tree
+parse_behind-returns-in-BraceOpen-clause-tree g t c =
+    built (g.P.Builder.is_made c.args.builder) c.args.self.now.place c.args.self.now.place (IsParsedBehind BraceOpen (c.args.levels - 1 + 1) c.args.self.now.place c.parse_braces.new.self.place) (IsParsedBehind c.args.token c.args.levels c.args.self.now.place c.parse_braces.new.self.place) c.parse_braces.result refl
+    (λ n is first there. braces_tied c.args.levels first c.args.self.now.place c.parse_braces.new.self.place c.args.token (as_ok n) c.requires there c.in-BraceOpen.is is) c.parse_braces.ensures.tree
 
 pub parse_label-returns-in-True-clause-tree : goal.parse_label-returns-in-True-clause-tree
 parse_label-returns-in-True-clause-tree g t c =
@@ -542,11 +516,10 @@ parse_maybe-returns-clause-tree g t c =
 
 pub parse_payload-returns-clause-tree : goal.parse_payload-returns-clause-tree
 parse_payload-returns-clause-tree g t c = λ front part_due first.
-    let (n, is, of) = c.in_ok-payload.ensures.tree in
-    let source : c.expect.new.self.place.lexer.source ≡ c.args.self.now.place.lexer.source = source_item c.parse_node.new.self.place c.expect.new.self.place ParenClose c.in_ok-expect.ensures.takes ∙ source_parsed c.args.levels c.args.self.now.place c.parse_node.new.self.place n is in
-    let grown = c.in_ok-with_part.ensures.kept c.args.self.now.place.lexer.source c.args.ty front n part_due first (subst (λ z. g.P.Builder.is_made z c.args.self.now.place.lexer.source n c.in_ok-payload.payload) c.part-part.ensures of) in
-    whole_built (g.P.Builder.is_made c.args.builder) (λ (s : List ℕ) cs ps. g.P.Builder.are_parts c.args.builder s c.args.ty cs ps) c.args.self.now.place c.expect.new.self.place c.args.ty c.args.start c.whole.result c.with_part.new.parts (front ++ n ∷ []) (IsPayload c.args.levels c.args.ty c.args.start front c.args.self.now.place c.expect.new.self.place) source grown c.whole.ensures
-    (record { payload = n; behind = c.parse_node.new.self.place; inner = is; close = c.in_ok-expect.ensures.takes; is = refl })
+    let (n, is, grown) = c.in_ok-parse_part.ensures.kept c.args.ty front part_due first in
+    let source : c.expect.new.self.place.lexer.source ≡ c.args.self.now.place.lexer.source = source_item c.parse_part.new.self.place c.expect.new.self.place ParenClose c.in_ok-expect.ensures.takes ∙ source_parsed c.args.levels c.args.self.now.place c.parse_part.new.self.place n is in
+    whole_built (g.P.Builder.is_made c.args.builder) (λ (s : List ℕ) cs ps. g.P.Builder.are_parts c.args.builder s c.args.ty cs ps) c.args.self.now.place c.expect.new.self.place c.args.ty c.args.start c.whole.result c.parse_part.new.parts (front ++ n ∷ []) (IsPayload c.args.levels c.args.ty c.args.start front c.args.self.now.place c.expect.new.self.place) source grown c.whole.ensures
+    (record { payload = n; behind = c.parse_part.new.self.place; inner = is; close = c.in_ok-expect.ensures.takes; is = refl })
 
 pub parse_items-returns-then-next_is-clause-tree : goal.parse_items-returns-then-next_is-clause-tree
 parse_items-returns-then-next_is-clause-tree g t c =
@@ -557,7 +530,6 @@ parse_items-returns-then-next_is-clause-tree g t c =
 
 pub parse_items-returns-then-eq-3-clause-tree : goal.parse_items-returns-then-eq-3-clause-tree
 parse_items-returns-then-eq-3-clause-tree g t c =
-    let (n, is, of) = c.in_ok-item.ensures.tree in
     let (children, first, go) = c.items.invariant.tree in
     let (d, i, r) = c.items.invariant.reached (c.args.levels + 1) [] (omega arith) in
     let here : c.items.self.place.lexer.source ≡ c.args.self.now.place.lexer.source = source_reached r in
@@ -565,18 +537,17 @@ parse_items-returns-then-eq-3-clause-tree g t c =
       | parse_items-then-eq-2 w ↦ subst (λ z. TakesPart z children) (sym w.ty-is) tt
       | parse_items-else-eq-2 w ↦ subst (λ z. TakesPart z children) (sym w.ty-is) tt
     ] in
-    let grown = c.in_ok-with_part.ensures.kept c.args.self.now.place.lexer.source c.if-eq-2.ty children n part_due first (subst (λ z. g.P.Builder.is_made z c.args.self.now.place.lexer.source n c.in_ok-item.item) c.part-part.ensures (subst (λ (s : List ℕ). g.P.Builder.is_made c.part-part.result s n c.in_ok-item.item) here of)) in
-    let behind : c.parse_node.new.self.place.lexer.source ≡ c.args.self.now.place.lexer.source = source_parsed c.args.levels c.items.self.place c.parse_node.new.self.place n is ∙ here in
-    let token : c.advance.new.self.place.lexer.source ≡ c.args.self.now.place.lexer.source = source_item c.parse_node.new.self.place c.advance.new.self.place c.in_ok-token.token c.in_ok-token.ensures.takes ∙ behind in
-    whole_built (g.P.Builder.is_made c.args.builder) (λ (s : List ℕ) cs ps. g.P.Builder.are_parts c.args.builder s c.if-eq-2.ty cs ps) c.args.self.now.place c.advance.new.self.place c.if-eq-2.ty c.span-start.result.start c.whole-then-eq-3.result c.with_part.new.parts (children ++ n ∷ []) (IsOfItems c.args.levels c.args.close c.args.self.now.place c.advance.new.self.place) token grown c.whole-then-eq-3.ensures
+    let (n, is, grown) = part_added (λ (s : List ℕ) cs ps. g.P.Builder.are_parts c.args.builder s c.if-eq-2.ty cs ps) c.items.parts c.parse_part.new.parts children (IsParsed c.args.levels c.items.self.place c.parse_part.new.self.place) here (c.in_ok-parse_part.ensures.kept c.if-eq-2.ty children part_due) first in
+    let behind : c.parse_part.new.self.place.lexer.source ≡ c.args.self.now.place.lexer.source = source_parsed c.args.levels c.items.self.place c.parse_part.new.self.place n is ∙ here in
+    let token : c.advance.new.self.place.lexer.source ≡ c.args.self.now.place.lexer.source = source_item c.parse_part.new.self.place c.advance.new.self.place c.in_ok-token.token c.in_ok-token.ensures.takes ∙ behind in
+    whole_built (g.P.Builder.is_made c.args.builder) (λ (s : List ℕ) cs ps. g.P.Builder.are_parts c.args.builder s c.if-eq-2.ty cs ps) c.args.self.now.place c.advance.new.self.place c.if-eq-2.ty c.span-start.result.start c.whole-then-eq-3.result c.parse_part.new.parts (children ++ n ∷ []) (IsOfItems c.args.levels c.args.close c.args.self.now.place c.advance.new.self.place) token grown c.whole-then-eq-3.ensures
     (items_made c.args.levels c.args.close c.args.self.now.place c.advance.new.self.place c.if-eq-2.ty c.span-start.result.start (children ++ n ∷ []) _ refl (elim c.if-eq-2.branch [
       | parse_items-then-eq-2 w ↦ w.ty-is ∙ sym (ap items_type (is_class c.args.close ParenClose c.eq-2.ensures w.if-eq-2.true))
       | parse_items-else-eq-2 w ↦ w.ty-is ∙ sym (type_of_items c.args.close c.requires (is_other _ _ c.eq-2.ensures w.if-eq-2.false))
-    ]) (ap (λ (z : Range ℕ). z.start) c.span-start.ensures) (go n c.parse_node.new.self.place c.advance.new.self.place [] is (inl (class_as _ _ _ c.args.close c.in_ok-token.ensures.takes (is_class _ _ c.eq-in-items.ensures c.if-eq-3.true)))) (λ k. some_there children _ n refl))
+    ]) (ap (λ (z : Range ℕ). z.start) c.span-start.ensures) (go n c.parse_part.new.self.place c.advance.new.self.place [] is (inl (class_as _ _ _ c.args.close c.in_ok-token.ensures.takes (is_class _ _ c.eq-in-items.ensures c.if-eq-3.true)))) (λ k. some_there children _ n refl))
 
 pub parse_items-returns-then-next_is-2-clause-tree : goal.parse_items-returns-then-next_is-2-clause-tree
 parse_items-returns-then-next_is-2-clause-tree g t c =
-    let (n, is, of) = c.in_ok-item.ensures.tree in
     let (children, first, go) = c.items.invariant.tree in
     let (d, i, r) = c.items.invariant.reached (c.args.levels + 1) [] (omega arith) in
     let here : c.items.self.place.lexer.source ≡ c.args.self.now.place.lexer.source = source_reached r in
@@ -584,16 +555,16 @@ parse_items-returns-then-next_is-2-clause-tree g t c =
       | parse_items-then-eq-2 w ↦ subst (λ z. TakesPart z children) (sym w.ty-is) tt
       | parse_items-else-eq-2 w ↦ subst (λ z. TakesPart z children) (sym w.ty-is) tt
     ] in
-    let grown = c.in_ok-with_part.ensures.kept c.args.self.now.place.lexer.source c.if-eq-2.ty children n part_due first (subst (λ z. g.P.Builder.is_made z c.args.self.now.place.lexer.source n c.in_ok-item.item) c.part-part.ensures (subst (λ (s : List ℕ). g.P.Builder.is_made c.part-part.result s n c.in_ok-item.item) here of)) in
-    let behind : c.parse_node.new.self.place.lexer.source ≡ c.args.self.now.place.lexer.source = source_parsed c.args.levels c.items.self.place c.parse_node.new.self.place n is ∙ here in
-    let token : c.advance.new.self.place.lexer.source ≡ c.args.self.now.place.lexer.source = source_item c.parse_node.new.self.place c.advance.new.self.place c.in_ok-token.token c.in_ok-token.ensures.takes ∙ behind in
+    let (n, is, grown) = part_added (λ (s : List ℕ) cs ps. g.P.Builder.are_parts c.args.builder s c.if-eq-2.ty cs ps) c.items.parts c.parse_part.new.parts children (IsParsed c.args.levels c.items.self.place c.parse_part.new.self.place) here (c.in_ok-parse_part.ensures.kept c.if-eq-2.ty children part_due) first in
+    let behind : c.parse_part.new.self.place.lexer.source ≡ c.args.self.now.place.lexer.source = source_parsed c.args.levels c.items.self.place c.parse_part.new.self.place n is ∙ here in
+    let token : c.advance.new.self.place.lexer.source ≡ c.args.self.now.place.lexer.source = source_item c.parse_part.new.self.place c.advance.new.self.place c.in_ok-token.token c.in_ok-token.ensures.takes ∙ behind in
     let stays = c.next_is-in-items.ensures.stays in
     let close : c.expect-then-next_is-2.new.self.place.lexer.source ≡ c.args.self.now.place.lexer.source = source_item c.next_is-in-items.new.self.place c.expect-then-next_is-2.new.self.place c.args.close c.in_ok-expect-2.ensures.takes ∙ (ap (λ (z : Place). z.lexer.source) stays ∙ token) in
-    whole_built (g.P.Builder.is_made c.args.builder) (λ (s : List ℕ) cs ps. g.P.Builder.are_parts c.args.builder s c.if-eq-2.ty cs ps) c.args.self.now.place c.expect-then-next_is-2.new.self.place c.if-eq-2.ty c.span-start.result.start c.whole-then-next_is-2.result c.with_part.new.parts (children ++ n ∷ []) (IsOfItems c.args.levels c.args.close c.args.self.now.place c.expect-then-next_is-2.new.self.place) close grown c.whole-then-next_is-2.ensures
+    whole_built (g.P.Builder.is_made c.args.builder) (λ (s : List ℕ) cs ps. g.P.Builder.are_parts c.args.builder s c.if-eq-2.ty cs ps) c.args.self.now.place c.expect-then-next_is-2.new.self.place c.if-eq-2.ty c.span-start.result.start c.whole-then-next_is-2.result c.parse_part.new.parts (children ++ n ∷ []) (IsOfItems c.args.levels c.args.close c.args.self.now.place c.expect-then-next_is-2.new.self.place) close grown c.whole-then-next_is-2.ensures
     (items_made c.args.levels c.args.close c.args.self.now.place c.expect-then-next_is-2.new.self.place c.if-eq-2.ty c.span-start.result.start (children ++ n ∷ []) _ refl (elim c.if-eq-2.branch [
       | parse_items-then-eq-2 w ↦ w.ty-is ∙ sym (ap items_type (is_class c.args.close ParenClose c.eq-2.ensures w.if-eq-2.true))
       | parse_items-else-eq-2 w ↦ w.ty-is ∙ sym (type_of_items c.args.close c.requires (is_other _ _ c.eq-2.ensures w.if-eq-2.false))
-    ]) (ap (λ (z : Range ℕ). z.start) c.span-start.ensures) (go n c.parse_node.new.self.place c.expect-then-next_is-2.new.self.place [] is (inr (
+    ]) (ap (λ (z : Range ℕ). z.start) c.span-start.ensures) (go n c.parse_part.new.self.place c.expect-then-next_is-2.new.self.place [] is (inr (
       c.advance.new.self.place,
       class_as _ _ _ Comma c.in_ok-token.ensures.takes (differs_not _ _ c.ne.ensures c.if-ne.false),
       subst (λ z. TakesClass c.args.close z c.expect-then-next_is-2.new.self.place) stays c.in_ok-expect-2.ensures.takes,
@@ -602,17 +573,16 @@ parse_items-returns-then-next_is-2-clause-tree g t c =
 pub parse_items-items-preserved : goal.parse_items-items-preserved
 parse_items-items-preserved g t c = record {
   asks =
-      asks_items c.args.levels c.args.close c.args.self.now c.items.self c.next_is-in-items.new.self c.items.invariant.reached c.items.invariant.asks (asks_value c.args.levels c.items.self c.parse_node.new.self c.next_is-in-items.new.self c.in_ok-item.ensures.led c.parse_node.ensures.asks (asks_token c.parse_node.new.self c.advance.new.self c.next_is-in-items.new.self c.in_ok-token.token c.in_ok-token.ensures.takes c.advance.ensures.asks (asks_once c.advance.new.self c.next_is-in-items.new.self c.next_is-in-items.ensures.asks)));
+      asks_items c.args.levels c.args.close c.args.self.now c.items.self c.next_is-in-items.new.self c.items.invariant.reached c.items.invariant.asks (asks_value c.args.levels c.items.self c.parse_part.new.self c.next_is-in-items.new.self c.in_ok-parse_part.ensures.led c.parse_part.ensures.asks (asks_token c.parse_part.new.self c.advance.new.self c.next_is-in-items.new.self c.in_ok-token.token c.in_ok-token.ensures.takes c.advance.ensures.asks (asks_once c.advance.new.self c.next_is-in-items.new.self c.next_is-in-items.ensures.asks)));
   no_close = subst (λ z. (next : Place) × TakesItem z (Some (Ok c.args.close)) next → ⊥) (sym c.next_is-in-items.ensures.stays) (λ next. untrue _ c.if-next_is-2.false (c.next_is-in-items.ensures.answer.1 next));
   reached = λ n s e.
       let (d, i, r) = c.items.invariant.reached n s e in
-      let item = c.in_ok-item.ensures.led n (form_of c.args.close ∷ s) (omega arith) in
+      let item = c.in_ok-parse_part.ensures.led n (form_of c.args.close ∷ s) (omega arith) in
       let behind = behind_item c.args.close c.requires c.items.invariant.no_close i r item in
       let comma_step = subst (λ z. behind_step (form_of c.args.close ∷ s) (token_of z (text_at c.advance.new.self.place)) ≡ reads due.next_item (form_of c.args.close ∷ s)) (sym (differs_not c.in_ok-token.token Comma c.ne.ensures c.if-ne.false)) (comma_behind c.args.close s (text_at c.advance.new.self.place) c.requires) in
       let next = then_behind item.due_there c.in_ok-token.token behind item.is_behind c.in_ok-token.ensures.takes comma_step in
       (due.next_item, inr refl, moved c.next_is-in-items.ensures.stays next);
   tree =
-      let (n, is, of) = c.in_ok-item.ensures.tree in
       let (children, first, go) = c.items.invariant.tree in
       let (d, i, r) = c.items.invariant.reached (c.args.levels + 1) [] (omega arith) in
       let here : c.items.self.place.lexer.source ≡ c.args.self.now.place.lexer.source = source_reached r in
@@ -620,10 +590,10 @@ parse_items-items-preserved g t c = record {
         | parse_items-then-eq-2 w ↦ subst (λ z. TakesPart z children) (sym w.ty-is) tt
         | parse_items-else-eq-2 w ↦ subst (λ z. TakesPart z children) (sym w.ty-is) tt
       ] in
-      let grown = c.in_ok-with_part.ensures.kept c.args.self.now.place.lexer.source c.if-eq-2.ty children n part_due first (subst (λ z. g.P.Builder.is_made z c.args.self.now.place.lexer.source n c.in_ok-item.item) c.part-part.ensures (subst (λ (s : List ℕ). g.P.Builder.is_made c.part-part.result s n c.in_ok-item.item) here of)) in
-      let behind : c.parse_node.new.self.place.lexer.source ≡ c.args.self.now.place.lexer.source = source_parsed c.args.levels c.items.self.place c.parse_node.new.self.place n is ∙ here in
-      let token : c.advance.new.self.place.lexer.source ≡ c.args.self.now.place.lexer.source = source_item c.parse_node.new.self.place c.advance.new.self.place c.in_ok-token.token c.in_ok-token.ensures.takes ∙ behind in
-      (children ++ n ∷ [], grown, items_next c.args.levels c.args.close c.args.self.now.place c.items.self.place c.parse_node.new.self.place c.advance.new.self.place c.next_is-in-items.new.self.place children (children ++ n ∷ []) n go is (class_as _ _ _ Comma c.in_ok-token.ensures.takes (differs_not _ _ c.ne.ensures c.if-ne.false)) c.next_is-in-items.ensures.stays refl);
+      let (n, is, grown) = part_added (λ (s : List ℕ) cs ps. g.P.Builder.are_parts c.args.builder s c.if-eq-2.ty cs ps) c.items.parts c.parse_part.new.parts children (IsParsed c.args.levels c.items.self.place c.parse_part.new.self.place) here (c.in_ok-parse_part.ensures.kept c.if-eq-2.ty children part_due) first in
+      let behind : c.parse_part.new.self.place.lexer.source ≡ c.args.self.now.place.lexer.source = source_parsed c.args.levels c.items.self.place c.parse_part.new.self.place n is ∙ here in
+      let token : c.advance.new.self.place.lexer.source ≡ c.args.self.now.place.lexer.source = source_item c.parse_part.new.self.place c.advance.new.self.place c.in_ok-token.token c.in_ok-token.ensures.takes ∙ behind in
+      (children ++ n ∷ [], grown, items_next c.args.levels c.args.close c.args.self.now.place c.items.self.place c.parse_part.new.self.place c.advance.new.self.place c.next_is-in-items.new.self.place children (children ++ n ∷ []) n go is (class_as _ _ _ Comma c.in_ok-token.ensures.takes (differs_not _ _ c.ne.ensures c.if-ne.false)) c.next_is-in-items.ensures.stays refl);
 }
 
 pub parse_braces-returns-then-next_is-clause-tree : goal.parse_braces-returns-then-next_is-clause-tree
@@ -667,45 +637,42 @@ parse_braces-returns-then-eq-3-clause-tree g t c =
 
 pub parse_entries-returns-then-eq-clause-tree : goal.parse_entries-returns-then-eq-clause-tree
 parse_entries-returns-then-eq-clause-tree g t c = λ first given.
-    let (n, is, of) = c.in_ok-value.ensures.tree in
     let (hs, so_far, part_due, go) = c.entries.invariant.tree first given in
     let here : c.entries.self.place.lexer.source ≡ c.args.self.now.place.lexer.source = source_reached (c.entries.invariant.led (c.args.levels + 1) [] (omega arith)) in
-    let grown = c.in_ok-with_part.ensures.kept c.args.self.now.place.lexer.source kind_of_node.TupleSet (first ∷ hs) n part_due so_far (subst (λ z. g.P.Builder.is_made z c.args.self.now.place.lexer.source n c.in_ok-value.value) c.part-part.ensures (subst (λ (s : List ℕ). g.P.Builder.is_made c.part-part.result s n c.in_ok-value.value) here of)) in
-    let token : c.advance.new.self.place.lexer.source ≡ c.args.self.now.place.lexer.source = source_item c.parse_node.new.self.place c.advance.new.self.place c.in_ok-token.token c.in_ok-token.ensures.takes ∙ (source_parsed c.args.levels c.entries.self.place c.parse_node.new.self.place n is ∙ here) in
-    whole_built (g.P.Builder.is_made c.args.builder) (λ (s : List ℕ) cs ps. g.P.Builder.are_parts c.args.builder s kind_of_node.TupleSet cs ps) c.args.self.now.place c.advance.new.self.place kind_of_node.TupleSet c.args.start c.whole.result c.with_part.new.parts (first ∷ (hs ++ n ∷ [])) (IsOfEntries c.args.levels c.args.start first c.args.self.now.place c.advance.new.self.place) token grown c.whole.ensures
-    (pairs_close c.args.levels c.args.start c.args.self.now.place c.entries.self.place c.parse_node.new.self.place c.advance.new.self.place (first ∷ hs) (first ∷ (hs ++ n ∷ [])) first n _ (hs, refl, go) is (inl (class_as _ _ _ BraceClose c.in_ok-token.ensures.takes (is_class _ _ c.eq.ensures c.if-eq.true))) refl refl)
+    let (n, is, grown) = part_added (λ (s : List ℕ) cs ps. g.P.Builder.are_parts c.args.builder s kind_of_node.TupleSet cs ps) c.entries.parts c.parse_part.new.parts (first ∷ hs) (IsParsed c.args.levels c.entries.self.place c.parse_part.new.self.place) here (c.in_ok-parse_part.ensures.kept kind_of_node.TupleSet (first ∷ hs) part_due) so_far in
+    let token : c.advance.new.self.place.lexer.source ≡ c.args.self.now.place.lexer.source = source_item c.parse_part.new.self.place c.advance.new.self.place c.in_ok-token.token c.in_ok-token.ensures.takes ∙ (source_parsed c.args.levels c.entries.self.place c.parse_part.new.self.place n is ∙ here) in
+    whole_built (g.P.Builder.is_made c.args.builder) (λ (s : List ℕ) cs ps. g.P.Builder.are_parts c.args.builder s kind_of_node.TupleSet cs ps) c.args.self.now.place c.advance.new.self.place kind_of_node.TupleSet c.args.start c.whole.result c.parse_part.new.parts (first ∷ (hs ++ n ∷ [])) (IsOfEntries c.args.levels c.args.start first c.args.self.now.place c.advance.new.self.place) token grown c.whole.ensures
+    (pairs_close c.args.levels c.args.start c.args.self.now.place c.entries.self.place c.parse_part.new.self.place c.advance.new.self.place (first ∷ hs) (first ∷ (hs ++ n ∷ [])) first n _ (hs, refl, go) is (inl (class_as _ _ _ BraceClose c.in_ok-token.ensures.takes (is_class _ _ c.eq.ensures c.if-eq.true))) refl refl)
 
 pub parse_entries-returns-then-eq-2-clause-tree : goal.parse_entries-returns-then-eq-2-clause-tree
 parse_entries-returns-then-eq-2-clause-tree g t c = λ first given.
-    let (n, is, of) = c.in_ok-value.ensures.tree in
     let (hs, so_far, part_due, go) = c.entries.invariant.tree first given in
     let here : c.entries.self.place.lexer.source ≡ c.args.self.now.place.lexer.source = source_reached (c.entries.invariant.led (c.args.levels + 1) [] (omega arith)) in
-    let grown = c.in_ok-with_part.ensures.kept c.args.self.now.place.lexer.source kind_of_node.TupleSet (first ∷ hs) n part_due so_far (subst (λ z. g.P.Builder.is_made z c.args.self.now.place.lexer.source n c.in_ok-value.value) c.part-part.ensures (subst (λ (s : List ℕ). g.P.Builder.is_made c.part-part.result s n c.in_ok-value.value) here of)) in
-    let token : c.advance.new.self.place.lexer.source ≡ c.args.self.now.place.lexer.source = source_item c.parse_node.new.self.place c.advance.new.self.place c.in_ok-token.token c.in_ok-token.ensures.takes ∙ (source_parsed c.args.levels c.entries.self.place c.parse_node.new.self.place n is ∙ here) in
+    let (n, is, grown) = part_added (λ (s : List ℕ) cs ps. g.P.Builder.are_parts c.args.builder s kind_of_node.TupleSet cs ps) c.entries.parts c.parse_part.new.parts (first ∷ hs) (IsParsed c.args.levels c.entries.self.place c.parse_part.new.self.place) here (c.in_ok-parse_part.ensures.kept kind_of_node.TupleSet (first ∷ hs) part_due) so_far in
+    let token : c.advance.new.self.place.lexer.source ≡ c.args.self.now.place.lexer.source = source_item c.parse_part.new.self.place c.advance.new.self.place c.in_ok-token.token c.in_ok-token.ensures.takes ∙ (source_parsed c.args.levels c.entries.self.place c.parse_part.new.self.place n is ∙ here) in
     let close : c.advance-in-entries.new.self.place.lexer.source ≡ c.args.self.now.place.lexer.source = source_item c.advance.new.self.place c.advance-in-entries.new.self.place c.in_ok-next.next c.in_ok-next.ensures.takes ∙ token in
-    whole_built (g.P.Builder.is_made c.args.builder) (λ (s : List ℕ) cs ps. g.P.Builder.are_parts c.args.builder s kind_of_node.TupleSet cs ps) c.args.self.now.place c.advance-in-entries.new.self.place kind_of_node.TupleSet c.args.start c.whole-then-eq-2.result c.with_part.new.parts (first ∷ (hs ++ n ∷ [])) (IsOfEntries c.args.levels c.args.start first c.args.self.now.place c.advance-in-entries.new.self.place) close grown c.whole-then-eq-2.ensures
-    (pairs_close c.args.levels c.args.start c.args.self.now.place c.entries.self.place c.parse_node.new.self.place c.advance-in-entries.new.self.place (first ∷ hs) (first ∷ (hs ++ n ∷ [])) first n _ (hs, refl, go) is (inr (c.advance.new.self.place, class_as _ _ _ Comma c.in_ok-token.ensures.takes (differs_not _ _ c.ne.ensures c.if-ne.false), class_as _ _ _ BraceClose c.in_ok-next.ensures.takes (is_class _ _ c.eq-in-entries.ensures c.if-eq-2.true))) refl refl)
+    whole_built (g.P.Builder.is_made c.args.builder) (λ (s : List ℕ) cs ps. g.P.Builder.are_parts c.args.builder s kind_of_node.TupleSet cs ps) c.args.self.now.place c.advance-in-entries.new.self.place kind_of_node.TupleSet c.args.start c.whole-then-eq-2.result c.parse_part.new.parts (first ∷ (hs ++ n ∷ [])) (IsOfEntries c.args.levels c.args.start first c.args.self.now.place c.advance-in-entries.new.self.place) close grown c.whole-then-eq-2.ensures
+    (pairs_close c.args.levels c.args.start c.args.self.now.place c.entries.self.place c.parse_part.new.self.place c.advance-in-entries.new.self.place (first ∷ hs) (first ∷ (hs ++ n ∷ [])) first n _ (hs, refl, go) is (inr (c.advance.new.self.place, class_as _ _ _ Comma c.in_ok-token.ensures.takes (differs_not _ _ c.ne.ensures c.if-ne.false), class_as _ _ _ BraceClose c.in_ok-next.ensures.takes (is_class _ _ c.eq-in-entries.ensures c.if-eq-2.true))) refl refl)
 
 pub parse_entries-entries-init : goal.parse_entries-entries-init
 parse_entries-entries-init g t c = record { asks = asks_none c.args.self.now c.args.self.now refl; led = λ n s e. here n due.value (due.entries ∷ s) c.args.self.now.place; tree = λ first given. ([], given, (0, refl), λ cs r pairs. pairs) }
 
 pub parse_entries-entries-preserved : goal.parse_entries-entries-preserved
 parse_entries-entries-preserved g t c = record {
-  asks = asks_entries c.args.levels c.args.self.now c.entries.self c.expect.new.self c.entries.invariant.led c.entries.invariant.asks (asks_value c.args.levels c.entries.self c.parse_node.new.self c.expect.new.self c.in_ok-value.ensures.led c.parse_node.ensures.asks (asks_token c.parse_node.new.self c.advance.new.self c.expect.new.self c.in_ok-token.token c.in_ok-token.ensures.takes c.advance.ensures.asks (asks_token c.advance.new.self c.advance-in-entries.new.self c.expect.new.self c.in_ok-next.next c.in_ok-next.ensures.takes c.advance-in-entries.ensures.asks (asks_once c.advance-in-entries.new.self c.expect.new.self c.expect.ensures.asks))));
+  asks = asks_entries c.args.levels c.args.self.now c.entries.self c.expect.new.self c.entries.invariant.led c.entries.invariant.asks (asks_value c.args.levels c.entries.self c.parse_part.new.self c.expect.new.self c.in_ok-parse_part.ensures.led c.parse_part.ensures.asks (asks_token c.parse_part.new.self c.advance.new.self c.expect.new.self c.in_ok-token.token c.in_ok-token.ensures.takes c.advance.ensures.asks (asks_token c.advance.new.self c.advance-in-entries.new.self c.expect.new.self c.in_ok-next.next c.in_ok-next.ensures.takes c.advance-in-entries.ensures.asks (asks_once c.advance-in-entries.new.self c.expect.new.self c.expect.ensures.asks))));
   tree = λ first given.
-      let (n, is, of) = c.in_ok-value.ensures.tree in
       let (hs, so_far, part_due, go) = c.entries.invariant.tree first given in
       let here : c.entries.self.place.lexer.source ≡ c.args.self.now.place.lexer.source = source_reached (c.entries.invariant.led (c.args.levels + 1) [] (omega arith)) in
-      let grown = c.in_ok-with_part.ensures.kept c.args.self.now.place.lexer.source kind_of_node.TupleSet (first ∷ hs) n part_due so_far (subst (λ z. g.P.Builder.is_made z c.args.self.now.place.lexer.source n c.in_ok-value.value) c.part-part.ensures (subst (λ (s : List ℕ). g.P.Builder.is_made c.part-part.result s n c.in_ok-value.value) here of)) in
-      let token : c.advance.new.self.place.lexer.source ≡ c.args.self.now.place.lexer.source = source_item c.parse_node.new.self.place c.advance.new.self.place c.in_ok-token.token c.in_ok-token.ensures.takes ∙ (source_parsed c.args.levels c.entries.self.place c.parse_node.new.self.place n is ∙ here) in
+      let (n, is, grown) = part_added (λ (s : List ℕ) cs ps. g.P.Builder.are_parts c.args.builder s kind_of_node.TupleSet cs ps) c.entries.parts c.parse_part.new.parts (first ∷ hs) (IsParsed c.args.levels c.entries.self.place c.parse_part.new.self.place) here (c.in_ok-parse_part.ensures.kept kind_of_node.TupleSet (first ∷ hs) part_due) so_far in
+      let token : c.advance.new.self.place.lexer.source ≡ c.args.self.now.place.lexer.source = source_item c.parse_part.new.self.place c.advance.new.self.place c.in_ok-token.token c.in_ok-token.ensures.takes ∙ (source_parsed c.args.levels c.entries.self.place c.parse_part.new.self.place n is ∙ here) in
       let key = node c.in-Some.ty (span_at c.advance-in-entries.new.self.place) no_nodes in
       let at_key : c.advance-in-entries.new.self.place.lexer.source ≡ c.args.self.now.place.lexer.source = source_item c.advance.new.self.place c.advance-in-entries.new.self.place c.in_ok-next.next c.in_ok-next.ensures.takes ∙ token in
-      let keyed = c.in_ok-with_key.ensures.kept kind_of_node.TupleSet (first ∷ (hs ++ n ∷ [])) (key_next (first ∷ hs) n part_due) (subst (λ (s : List ℕ). g.P.Builder.are_parts c.args.builder s kind_of_node.TupleSet (first ∷ (hs ++ n ∷ [])) c.with_part.new.parts) (sym at_key) grown) in
-      let (more, same, further) = pairs_next c.args.levels c.args.self.now.place c.entries.self.place c.parse_node.new.self.place c.advance.new.self.place c.advance-in-entries.new.self.place c.expect.new.self.place (first ∷ hs) (first ∷ (hs ++ n ∷ [])) ((first ∷ (hs ++ n ∷ [])) ++ key ∷ []) first n key (hs, refl, go) is (class_as _ _ _ Comma c.in_ok-token.ensures.takes (differs_not _ _ c.ne.ensures c.if-ne.false))
+      let keyed = c.in_ok-with_key.ensures.kept kind_of_node.TupleSet (first ∷ (hs ++ n ∷ [])) (key_next (first ∷ hs) n part_due) (subst (λ (s : List ℕ). g.P.Builder.are_parts c.args.builder s kind_of_node.TupleSet (first ∷ (hs ++ n ∷ [])) c.parse_part.new.parts) (sym at_key) grown) in
+      let (more, same, further) = pairs_next c.args.levels c.args.self.now.place c.entries.self.place c.parse_part.new.self.place c.advance.new.self.place c.advance-in-entries.new.self.place c.expect.new.self.place (first ∷ hs) (first ∷ (hs ++ n ∷ [])) ((first ∷ (hs ++ n ∷ [])) ++ key ∷ []) first n key (hs, refl, go) is (class_as _ _ _ Comma c.in_ok-token.ensures.takes (differs_not _ _ c.ne.ensures c.if-ne.false))
       (c.in_ok-next.next, c.in_ok-next.ensures.takes, c.in-Some.ensures.0, ap (λ z. node z (span_at c.advance-in-entries.new.self.place) no_nodes) c.in-Some.ensures.1) c.in_ok-expect.ensures.takes refl refl in
       (more, subst (λ (ns : List NodeTree). g.P.Builder.are_parts c.args.builder c.args.self.now.place.lexer.source kind_of_node.TupleSet ns c.with_key.new.parts) same (subst (λ (s : List ℕ). g.P.Builder.are_parts c.args.builder s kind_of_node.TupleSet ((first ∷ (hs ++ n ∷ [])) ++ key ∷ []) c.with_key.new.parts) at_key keyed), subst (TakesPart kind_of_node.TupleSet) same (value_next (first ∷ (hs ++ n ∷ [])) key (key_next (first ∷ hs) n part_due)), further);
   led = λ n s e.
-      let item = c.in_ok-value.ensures.led n (due.entries ∷ s) (omega arith) in
+      let item = c.in_ok-parse_part.ensures.led n (due.entries ∷ s) (omega arith) in
       let due_key = key_due (c.entries.invariant.led n s e) item c.in_ok-token.ensures.takes (differs_not _ _ c.ne.ensures c.if-ne.false) in
       then_same Colon (then_same c.in_ok-next.next due_key c.in_ok-next.ensures.takes (key_reads c.in_ok-next.next s (text_at c.advance-in-entries.new.self.place) c.in-Some.ensures.0)) c.in_ok-expect.ensures.takes refl;
 }
@@ -714,32 +681,44 @@ pub parse_braces-returns-in_err-key-clause-asks : goal.parse_braces-returns-in_e
 parse_braces-returns-in_err-key-clause-asks g t c =
     asks_token c.args.self.now c.advance.new.self c.next_is.new.self c.in_ok-token.token c.in_ok-token.ensures.takes c.advance.ensures.asks (asks_once c.advance.new.self c.next_is.new.self c.next_is.ensures.asks)
 
-pub parse_node-returns-then-levels-eq0-clause-led : goal.parse_node-returns-then-levels-eq0-clause-led
-parse_node-returns-then-levels-eq0-clause-led g t c = λ n s e. refuses_there s c.refuse_depth.result c.refuse_depth.ensures.never c.refuse_depth.ensures.refused
+pub parse_part-returns-then-levels-eq0-clause-led : goal.parse_part-returns-then-levels-eq0-clause-led
+parse_part-returns-then-levels-eq0-clause-led g t c = λ n s e. refuses_there s c.refuse_depth.result c.refuse_depth.ensures.never c.refuse_depth.ensures.refused
     (λ x says. no_level n s c.args.self.now.place x (omega arith) says)
 
-pub parse_node-returns-then-levels-eq0-clause-memory : goal.parse_node-returns-then-levels-eq0-clause-memory
-parse_node-returns-then-levels-eq0-clause-memory g t c = wants_refused (g.P.Builder.takes_memory c.args.builder) c.args.self.now.place c.refuse_depth.result c.refuse_depth.ensures.refused
-    (λ x says. wants_other (g.P.Builder.takes_memory c.args.builder) c.args.self.now.place x because.NestingTooDeep (kind_is says) (λ z. cc))
+pub parse_part-returns-then-levels-eq0-clause-memory : goal.parse_part-returns-then-levels-eq0-clause-memory
+parse_part-returns-then-levels-eq0-clause-memory g t c = whatever_parts (λ (source : List ℕ) (of : NodeType) (children : List NodeTree). g.P.Builder.are_parts c.args.builder source of children c.args.parts.now) (WantsOnly (g.P.Builder.takes_memory c.args.builder) c.args.self.now.place) c.refuse_depth.result
+    (wants_refused (g.P.Builder.takes_memory c.args.builder) c.args.self.now.place c.refuse_depth.result c.refuse_depth.ensures.refused
+    (λ x says. wants_other (g.P.Builder.takes_memory c.args.builder) c.args.self.now.place x because.NestingTooDeep (kind_is says) (λ z. cc)))
 
-pub parse_node-returns-in_err-token-clause-memory : goal.parse_node-returns-in_err-token-clause-memory
-parse_node-returns-in_err-token-clause-memory g t c = error_handed (WantsOnly (g.P.Builder.takes_memory c.args.builder) c.args.self.now.place) c.from_residual.result c.in_err-token.field-0.0 c.from_residual.ensures.1 (wants_fails (g.P.Builder.takes_memory c.args.builder) c.args.self.now.place c.args.self.now.place c.advance.new.self.place (λ _. Unit {0}) c.in_err-token.field-0.0 c.in_err-token.ensures.takes)
+pub parse_part-returns-in_err-token-clause-memory : goal.parse_part-returns-in_err-token-clause-memory
+parse_part-returns-in_err-token-clause-memory g t c = error_handed (λ e. (source : List ℕ) (of : NodeType) (children : List NodeTree) → g.P.Builder.are_parts c.args.builder source of children c.args.parts.now → WantsOnly (g.P.Builder.takes_memory c.args.builder) c.args.self.now.place e) c.from_residual.result c.in_err-token.field-0.0 c.from_residual.ensures.1
+    (λ source of children are. wants_fails (g.P.Builder.takes_memory c.args.builder) c.args.self.now.place c.args.self.now.place c.advance.new.self.place (λ _. Unit {0}) c.in_err-token.field-0.0 c.in_err-token.ensures.takes)
 
-pub parse_node-returns-in-LabelOrKeyword-clause-memory : goal.parse_node-returns-in-LabelOrKeyword-clause-memory
-parse_node-returns-in-LabelOrKeyword-clause-memory g t c = answer_token (g.P.Builder.takes_memory c.args.builder) c.args.self.now.place c.advance.new.self.place c.in_ok-token.token c.parse_label.result c.in_ok-token.ensures.takes c.parse_label.ensures.memory
+pub parse_part-returns-in-Some-clause-led : goal.parse_part-returns-in-Some-clause-led
+parse_part-returns-in-Some-clause-led g t c = λ n s e. gives_or_memory c.with_part.result c.with_part.ensures.memory
+    (alone_led n s c.args.self.now.place c.advance.new.self.place c.in_ok-token.token c.in-Some.ty (omega arith) c.in_ok-token.ensures.takes (subst (λ (z : List ℕ). IsAlone c.in_ok-token.token z c.in-Some.ty) c.slice.ensures c.in-Some.ensures))
 
-pub parse_node-returns-in-ParenOpen-clause-memory : goal.parse_node-returns-in-ParenOpen-clause-memory
-parse_node-returns-in-ParenOpen-clause-memory g t c = answer_token (g.P.Builder.takes_memory c.args.builder) c.args.self.now.place c.advance.new.self.place c.in_ok-token.token c.parse_items.result c.in_ok-token.ensures.takes c.parse_items.ensures.memory
+pub parse_part-returns-in_err-made-clause-led : goal.parse_part-returns-in_err-made-clause-led
+parse_part-returns-in_err-made-clause-led g t c = λ n s e. handed s _ _ c.from_residual-in_err-made.ensures.1 (c.in_err-made.ensures.led c.args.self.now.place c.in_ok-token.ensures.takes n s e)
 
-pub parse_node-returns-in-BracketOpen-clause-memory : goal.parse_node-returns-in-BracketOpen-clause-memory
-parse_node-returns-in-BracketOpen-clause-memory g t c = answer_token (g.P.Builder.takes_memory c.args.builder) c.args.self.now.place c.advance.new.self.place c.in_ok-token.token c.parse_items-in-BracketOpen.result c.in_ok-token.ensures.takes c.parse_items-in-BracketOpen.ensures.memory
+pub parse_part-returns-clause-led : goal.parse_part-returns-clause-led
+parse_part-returns-clause-led g t c = λ n s e. gives_or_memory c.with_part-2.result c.with_part-2.ensures.memory (c.in_ok-made.ensures.led c.args.self.now.place c.in_ok-token.ensures.takes n s e)
 
-pub parse_node-returns-in-BraceOpen-clause-memory : goal.parse_node-returns-in-BraceOpen-clause-memory
-parse_node-returns-in-BraceOpen-clause-memory g t c = answer_brace (g.P.Builder.takes_memory c.args.builder) c.args.self.now.place c.advance.new.self.place c.parse_braces.result (class_as c.args.self.now.place c.advance.new.self.place c.in_ok-token.token BraceOpen c.in_ok-token.ensures.takes c.in-BraceOpen.is)
+pub parse_behind-returns-in-LabelOrKeyword-clause-memory : goal.parse_behind-returns-in-LabelOrKeyword-clause-memory
+parse_behind-returns-in-LabelOrKeyword-clause-memory g t c = λ first there. answer_token (g.P.Builder.takes_memory c.args.builder) first c.args.self.now.place c.args.token c.parse_label.result there c.parse_label.ensures.memory
 
-pub parse_node-returns-in_default-clause-memory : goal.parse_node-returns-in_default-clause-memory
-parse_node-returns-in_default-clause-memory g t c = wants_refused (g.P.Builder.takes_memory c.args.builder) c.args.self.now.place c.refuse_token.result c.refuse_token.ensures.refused
-    (λ x says. wants_other (g.P.Builder.takes_memory c.args.builder) c.args.self.now.place x because.UnexpectedToken (kind_is says) (λ z. cc))
+pub parse_behind-returns-in-ParenOpen-clause-memory : goal.parse_behind-returns-in-ParenOpen-clause-memory
+parse_behind-returns-in-ParenOpen-clause-memory g t c = λ first there. answer_token (g.P.Builder.takes_memory c.args.builder) first c.args.self.now.place c.args.token c.parse_items.result there c.parse_items.ensures.memory
+
+pub parse_behind-returns-in-BracketOpen-clause-memory : goal.parse_behind-returns-in-BracketOpen-clause-memory
+parse_behind-returns-in-BracketOpen-clause-memory g t c = λ first there. answer_token (g.P.Builder.takes_memory c.args.builder) first c.args.self.now.place c.args.token c.parse_items-in-BracketOpen.result there c.parse_items-in-BracketOpen.ensures.memory
+
+pub parse_behind-returns-in-BraceOpen-clause-memory : goal.parse_behind-returns-in-BraceOpen-clause-memory
+parse_behind-returns-in-BraceOpen-clause-memory g t c = λ first there. answer_brace (g.P.Builder.takes_memory c.args.builder) first c.args.self.now.place c.parse_braces.result (class_as first c.args.self.now.place c.args.token BraceOpen there c.in-BraceOpen.is)
+
+pub parse_behind-returns-in_default-clause-memory : goal.parse_behind-returns-in_default-clause-memory
+parse_behind-returns-in_default-clause-memory g t c = λ first there. wants_refused (g.P.Builder.takes_memory c.args.builder) first c.refuse_token.result c.refuse_token.ensures.refused
+    (λ x says. wants_other (g.P.Builder.takes_memory c.args.builder) first x because.UnexpectedToken (kind_is says) (λ z. cc))
 
 pub parse_label-returns-in_err-expect-in-Some-clause-memory : goal.parse_label-returns-in_err-expect-in-Some-clause-memory
 parse_label-returns-in_err-expect-in-Some-clause-memory g t c = error_handed (WantsOnly (g.P.Builder.takes_memory c.args.builder) c.args.self.now.place) c.from_residual.result c.in_err-expect-in-Some.field-0.0 c.from_residual.ensures.1 (wants_fails (g.P.Builder.takes_memory c.args.builder) c.args.self.now.place c.args.self.now.place c.expect.new.self.place (λ k. k ≡ ParenOpen) c.in_err-expect-in-Some.field-0.0 c.in_err-expect-in-Some.ensures.takes)
@@ -763,21 +742,15 @@ parse_maybe-returns-clause-memory g t c =
     (wants_part (TakesPart c.args.with) (λ front. g.P.Builder.are_parts c.args.builder c.expect.new.self.place.lexer.source c.args.with front c.in_ok-front.front) c.parse_payload.result (WantsOnly (g.P.Builder.takes_memory c.args.builder) c.expect.new.self.place) c.parse_payload.ensures.memory label (payload_due c.args.with (span_at c.next_is.new.self.place) c.requires.1)
     (subst (λ (s : List ℕ). g.P.Builder.are_parts c.args.builder s c.args.with label c.in_ok-front.front) (sym behind) (c.in_ok-front.ensures.made (payload_parts c.args.with c.requires.1))))
 
-pub parse_payload-returns-in_err-payload-clause-memory : goal.parse_payload-returns-in_err-payload-clause-memory
-parse_payload-returns-in_err-payload-clause-memory g t c =
-    error_handed (λ e. (front : List NodeTree) → TakesPart c.args.ty front → g.P.Builder.are_parts c.args.builder c.args.self.now.place.lexer.source c.args.ty front c.args.parts → WantsOnly (g.P.Builder.takes_memory c.args.builder) c.args.self.now.place e) c.from_residual.result c.in_err-payload.field-0.0 c.from_residual.ensures.1 (λ front part_due first.
-    wants_less (g.P.Builder.takes_memory c.part-part.result) (g.P.Builder.takes_memory c.args.builder) c.args.self.now.place c.in_err-payload.field-0.0
-    (λ takes. g.met.P.Builder.next_takes c.args.builder c.args.self.now.place.lexer.source c.args.ty front c.args.parts first (subst (λ z. g.P.Builder.takes_memory z) c.part-part.ensures takes)) c.in_err-payload.ensures.memory)
+pub parse_payload-returns-in_err-parse_part-clause-memory : goal.parse_payload-returns-in_err-parse_part-clause-memory
+parse_payload-returns-in_err-parse_part-clause-memory g t c =
+    error_handed (λ e. (front : List NodeTree) → TakesPart c.args.ty front → g.P.Builder.are_parts c.args.builder c.args.self.now.place.lexer.source c.args.ty front c.args.parts → WantsOnly (g.P.Builder.takes_memory c.args.builder) c.args.self.now.place e) c.from_residual.result c.in_err-parse_part.field-0.0 c.from_residual.ensures.1
+    (λ front part_due first. c.in_err-parse_part.ensures.memory c.args.self.now.place.lexer.source c.args.ty front first)
 
 pub parse_payload-returns-in_err-expect-clause-memory : goal.parse_payload-returns-in_err-expect-clause-memory
 parse_payload-returns-in_err-expect-clause-memory g t c =
     error_handed (λ e. (front : List NodeTree) → TakesPart c.args.ty front → g.P.Builder.are_parts c.args.builder c.args.self.now.place.lexer.source c.args.ty front c.args.parts → WantsOnly (g.P.Builder.takes_memory c.args.builder) c.args.self.now.place e) c.from_residual-in_err-expect.result c.in_err-expect.field-0.0 c.from_residual-in_err-expect.ensures.1 (λ front part_due first.
-    wants_fails (g.P.Builder.takes_memory c.args.builder) c.args.self.now.place c.parse_node.new.self.place c.expect.new.self.place (λ k. k ≡ ParenClose) c.in_err-expect.field-0.0 c.in_err-expect.ensures.takes)
-
-pub parse_payload-returns-in_err-with_part-clause-memory : goal.parse_payload-returns-in_err-with_part-clause-memory
-parse_payload-returns-in_err-with_part-clause-memory g t c =
-    error_handed (λ e. (front : List NodeTree) → TakesPart c.args.ty front → g.P.Builder.are_parts c.args.builder c.args.self.now.place.lexer.source c.args.ty front c.args.parts → WantsOnly (g.P.Builder.takes_memory c.args.builder) c.args.self.now.place e) c.from_residual-in_err-with_part.result c.in_err-with_part.field-0.0 c.from_residual-in_err-with_part.ensures.1 (λ front part_due first.
-    wants_taken (g.P.Builder.takes_memory c.args.builder) c.args.self.now.place c.in_err-with_part.field-0.0 (c.in_err-with_part.ensures.takes c.args.self.now.place.lexer.source c.args.ty front first))
+    wants_fails (g.P.Builder.takes_memory c.args.builder) c.args.self.now.place c.parse_part.new.self.place c.expect.new.self.place (λ k. k ≡ ParenClose) c.in_err-expect.field-0.0 c.in_err-expect.ensures.takes)
 
 pub parse_items-returns-in_err-expect-clause-memory : goal.parse_items-returns-in_err-expect-clause-memory
 parse_items-returns-in_err-expect-clause-memory g t c = error_handed (WantsOnly (g.P.Builder.takes_memory c.args.builder) c.args.self.now.place) c.from_residual.result c.in_err-expect.field-0.0 c.from_residual.ensures.1 (wants_fails (g.P.Builder.takes_memory c.args.builder) c.args.self.now.place c.next_is.new.self.place c.expect.new.self.place (λ k. k ≡ c.args.close) c.in_err-expect.field-0.0 c.in_err-expect.ensures.takes)
@@ -785,23 +758,54 @@ parse_items-returns-in_err-expect-clause-memory g t c = error_handed (WantsOnly 
 pub parse_items-returns-then-eq-clause-memory : goal.parse_items-returns-then-eq-clause-memory
 parse_items-returns-then-eq-clause-memory g t c = wants_refused (g.P.Builder.takes_memory c.args.builder) c.args.self.now.place c.refuse_empty.result c.refuse_empty.ensures.refused (λ x says. wants_other (g.P.Builder.takes_memory c.args.builder) c.args.self.now.place x because.EmptyTuple (kind_is says) (λ z. cc))
 
-pub parse_items-returns-in_err-item-clause-memory : goal.parse_items-returns-in_err-item-clause-memory
-parse_items-returns-in_err-item-clause-memory g t c = error_handed (WantsOnly (g.P.Builder.takes_memory c.args.builder) c.args.self.now.place) c.from_residual-in_err-item.result c.in_err-item.field-0.0 c.from_residual-in_err-item.ensures.1
+pub parse_items-returns-in_err-parse_part-clause-memory : goal.parse_items-returns-in_err-parse_part-clause-memory
+parse_items-returns-in_err-parse_part-clause-memory g t c = error_handed (WantsOnly (g.P.Builder.takes_memory c.args.builder) c.args.self.now.place) c.from_residual-in_err-parse_part.result c.in_err-parse_part.field-0.0 c.from_residual-in_err-parse_part.ensures.1
     (let (d, i, r) = c.items.invariant.reached (c.args.levels + 1) [] (omega arith) in
     let (children, first, go) = c.items.invariant.tree in
-    wants_reached (g.P.Builder.takes_memory c.args.builder) c.in_err-item.field-0.0 r (wants_less (g.P.Builder.takes_memory c.part-part.result) (g.P.Builder.takes_memory c.args.builder) c.items.self.place c.in_err-item.field-0.0
-    (λ takes. g.met.P.Builder.next_takes c.args.builder c.args.self.now.place.lexer.source c.if-eq-2.ty children c.items.parts first (subst (λ z. g.P.Builder.takes_memory z) c.part-part.ensures takes)) c.in_err-item.ensures.memory))
-
-pub parse_items-returns-in_err-with_part-clause-memory : goal.parse_items-returns-in_err-with_part-clause-memory
-parse_items-returns-in_err-with_part-clause-memory g t c = error_handed (WantsOnly (g.P.Builder.takes_memory c.args.builder) c.args.self.now.place) c.from_residual-in_err-with_part.result c.in_err-with_part.field-0.0 c.from_residual-in_err-with_part.ensures.1
-    (let (children, first, go) = c.items.invariant.tree in
-    wants_taken (g.P.Builder.takes_memory c.args.builder) c.args.self.now.place c.in_err-with_part.field-0.0 (c.in_err-with_part.ensures.takes c.args.self.now.place.lexer.source c.if-eq-2.ty children first))
+    wants_reached (g.P.Builder.takes_memory c.args.builder) c.in_err-parse_part.field-0.0 r (c.in_err-parse_part.ensures.memory c.args.self.now.place.lexer.source c.if-eq-2.ty children first))
 
 pub parse_items-returns-in_err-token-clause-memory : goal.parse_items-returns-in_err-token-clause-memory
-parse_items-returns-in_err-token-clause-memory g t c = error_handed (WantsOnly (g.P.Builder.takes_memory c.args.builder) c.args.self.now.place) c.from_residual-in_err-token.result c.in_err-token.field-0.0 c.from_residual-in_err-token.ensures.1 (wants_fails (g.P.Builder.takes_memory c.args.builder) c.args.self.now.place c.parse_node.new.self.place c.advance.new.self.place (λ _. Unit {0}) c.in_err-token.field-0.0 c.in_err-token.ensures.takes)
+parse_items-returns-in_err-token-clause-memory g t c = error_handed (WantsOnly (g.P.Builder.takes_memory c.args.builder) c.args.self.now.place) c.from_residual-in_err-token.result c.in_err-token.field-0.0 c.from_residual-in_err-token.ensures.1 (wants_fails (g.P.Builder.takes_memory c.args.builder) c.args.self.now.place c.parse_part.new.self.place c.advance.new.self.place (λ _. Unit {0}) c.in_err-token.field-0.0 c.in_err-token.ensures.takes)
 
 pub parse_items-returns-then-ne-clause-memory : goal.parse_items-returns-then-ne-clause-memory
 parse_items-returns-then-ne-clause-memory g t c = wants_refused (g.P.Builder.takes_memory c.args.builder) c.args.self.now.place c.refuse_token.result c.refuse_token.ensures.refused (λ x says. wants_other (g.P.Builder.takes_memory c.args.builder) c.args.self.now.place x because.UnexpectedToken (kind_is says) (λ z. cc))
 
 pub parse_items-returns-in_err-expect-2-clause-memory : goal.parse_items-returns-in_err-expect-2-clause-memory
 parse_items-returns-in_err-expect-2-clause-memory g t c = error_handed (WantsOnly (g.P.Builder.takes_memory c.args.builder) c.args.self.now.place) c.from_residual-in_err-expect-2.result c.in_err-expect-2.field-0.0 c.from_residual-in_err-expect-2.ensures.1 (wants_fails (g.P.Builder.takes_memory c.args.builder) c.args.self.now.place c.next_is-in-items.new.self.place c.expect-then-next_is-2.new.self.place (λ k. k ≡ c.args.close) c.in_err-expect-2.field-0.0 c.in_err-expect-2.ensures.takes)
+
+pub parse_part-returns-in-Some-clause-kept : goal.parse_part-returns-in-Some-clause-kept
+parse_part-returns-in-Some-clause-kept g t c =
+    let n = node c.in-Some.ty (span_at c.advance.new.self.place) no_nodes in
+    let alone : IsAlone c.in_ok-token.token (text_at c.advance.new.self.place) c.in-Some.ty = subst (λ (z : List ℕ). IsAlone c.in_ok-token.token z c.in-Some.ty) c.slice.ensures c.in-Some.ensures in
+    let source : c.advance.new.self.place.lexer.source ≡ c.args.self.now.place.lexer.source = source_item c.args.self.now.place c.advance.new.self.place c.in_ok-token.token c.in_ok-token.ensures.takes in
+    let of = subst (λ z. g.P.Builder.is_made z c.advance.new.self.place.lexer.source n c.leaf_here-made.result) c.part-part.ensures c.leaf_here-made.ensures in
+    as_added c.with_part.result c.with_part.ensures.kept (λ kept whole children due are.
+    (n, alone_parsed c.args.levels c.args.self.now.place c.advance.new.self.place c.in_ok-token.token c.in-Some.ty (omega arith) c.in_ok-token.ensures.takes alone, kept c.args.self.now.place.lexer.source whole children n due are (subst (λ (s : List ℕ). g.P.Builder.is_made (g.P.Builder.next c.args.builder c.args.parts.now) s n c.leaf_here-made.result) source of)))
+
+pub parse_part-returns-in-Some-clause-memory : goal.parse_part-returns-in-Some-clause-memory
+parse_part-returns-in-Some-clause-memory g t c = wants_any (λ (source : List ℕ) (of : NodeType) (children : List NodeTree). g.P.Builder.are_parts c.args.builder source of children c.args.parts.now) (g.P.Builder.takes_memory c.args.builder) (WantsOnly (g.P.Builder.takes_memory c.args.builder) c.args.self.now.place) c.with_part.result c.with_part.ensures.takes (λ e takes. wants_taken (g.P.Builder.takes_memory c.args.builder) c.args.self.now.place e takes)
+
+pub parse_part-returns-in-Some-clause-asks : goal.parse_part-returns-in-Some-clause-asks
+parse_part-returns-in-Some-clause-asks g t c = asks_once c.args.self.now c.advance.new.self c.advance.ensures.asks
+
+pub parse_part-returns-in_err-made-clause-memory : goal.parse_part-returns-in_err-made-clause-memory
+parse_part-returns-in_err-made-clause-memory g t c = error_handed (λ e. (source : List ℕ) (of : NodeType) (children : List NodeTree) → g.P.Builder.are_parts c.args.builder source of children c.args.parts.now → WantsOnly (g.P.Builder.takes_memory c.args.builder) c.args.self.now.place e) c.from_residual-in_err-made.result c.in_err-made.field-0.0 c.from_residual-in_err-made.ensures.1
+    (λ source of children are. wants_less (g.P.Builder.takes_memory c.part-part.result) (g.P.Builder.takes_memory c.args.builder) c.args.self.now.place c.in_err-made.field-0.0
+    (λ takes. g.met.P.Builder.next_takes c.args.builder source of children c.args.parts.now are (subst (λ z. g.P.Builder.takes_memory z) c.part-part.ensures takes)) (c.in_err-made.ensures.memory c.args.self.now.place c.in_ok-token.ensures.takes))
+
+pub parse_part-returns-in_err-made-clause-asks : goal.parse_part-returns-in_err-made-clause-asks
+parse_part-returns-in_err-made-clause-asks g t c = asks_token c.args.self.now c.advance.new.self c.parse_behind.new.self c.in_ok-token.token c.in_ok-token.ensures.takes c.advance.ensures.asks c.parse_behind.ensures.asks
+
+pub parse_part-returns-clause-kept : goal.parse_part-returns-clause-kept
+parse_part-returns-clause-kept g t c =
+    let (n, is, of) = c.in_ok-made.ensures.tree in
+    let source : c.advance.new.self.place.lexer.source ≡ c.args.self.now.place.lexer.source = source_item c.args.self.now.place c.advance.new.self.place c.in_ok-token.token c.in_ok-token.ensures.takes in
+    let made = subst (λ z. g.P.Builder.is_made z c.advance.new.self.place.lexer.source n c.in_ok-made.made) c.part-part.ensures of in
+    as_added c.with_part-2.result c.with_part-2.ensures.kept (λ kept whole children due are.
+    (n, is c.args.self.now.place c.in_ok-token.ensures.takes, (kept c.args.self.now.place.lexer.source whole children n due are (subst (λ (s : List ℕ). g.P.Builder.is_made (g.P.Builder.next c.args.builder c.args.parts.now) s n c.in_ok-made.made) source made))))
+
+pub parse_part-returns-clause-memory : goal.parse_part-returns-clause-memory
+parse_part-returns-clause-memory g t c = wants_any (λ (source : List ℕ) (of : NodeType) (children : List NodeTree). g.P.Builder.are_parts c.args.builder source of children c.args.parts.now) (g.P.Builder.takes_memory c.args.builder) (WantsOnly (g.P.Builder.takes_memory c.args.builder) c.args.self.now.place) c.with_part-2.result c.with_part-2.ensures.takes (λ e takes. wants_taken (g.P.Builder.takes_memory c.args.builder) c.args.self.now.place e takes)
+
+pub parse_part-returns-clause-asks : goal.parse_part-returns-clause-asks
+parse_part-returns-clause-asks g t c = asks_token c.args.self.now c.advance.new.self c.parse_behind.new.self c.in_ok-token.token c.in_ok-token.ensures.takes c.advance.ensures.asks c.parse_behind.ensures.asks

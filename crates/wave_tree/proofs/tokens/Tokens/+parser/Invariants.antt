@@ -1,4 +1,4 @@
-use Rattle.std.proofs.Common.{◌≡◌, ℕ, ◌+◌, ◌*◌, length, List, [], ◌∷◌, ◌++◌, Some, Ok}
+use Rattle.std.proofs.Common.{◌≡◌, ℕ, ◌+◌, ◌-◌, ◌*◌, length, List, [], ◌∷◌, ◌++◌, Some, Ok}
 use Rattle.wave_grammar.specs.ParserPosition.{Place, TakesItem}
 use Rattle.wave_grammar.specs.PrefixAutomaton.{Due, Form, first_item}
 use Rattle.wave_grammar.specs.PrefixAutomaton as due
@@ -12,20 +12,23 @@ use Rattle.wave_tree.proofs.ParserSteps.{Reached, IsItemDue, left_at}
 use Rattle.wave_tree.specs.Private.ParserState.{AsksFor}
 use Rattle.wave_tree.proofs.tokens.Tokens.+parser.Given as goal
 
-abbrev pub decreases-parse_node : goal.decreases-parse_node
-decreases-parse_node g l = 4 * l.levels
+abbrev pub decreases-parse_part : goal.decreases-parse_part
+decreases-parse_part g l = 5 * l.levels
+
+abbrev pub decreases-parse_behind : goal.decreases-parse_behind
+decreases-parse_behind g l = 5 * l.levels - 1
 
 abbrev pub decreases-parse_payload : goal.decreases-parse_payload
-decreases-parse_payload g l = 4 * l.levels + 1
+decreases-parse_payload g l = 5 * l.levels + 1
 
 abbrev pub decreases-parse_items : goal.decreases-parse_items
-decreases-parse_items g l = 4 * l.levels + 1
+decreases-parse_items g l = 5 * l.levels + 1
 
 abbrev pub decreases-parse_maybe : goal.decreases-parse_maybe
-decreases-parse_maybe g l = 4 * l.levels + 2
+decreases-parse_maybe g l = 5 * l.levels + 2
 
 abbrev pub decreases-parse_label : goal.decreases-parse_label
-decreases-parse_label g l = 4 * l.levels + 3
+decreases-parse_label g l = 5 * l.levels + 3
 
 abbrev pub invariant-parse_items-items : goal.invariant-parse_items-items
 invariant-parse_items-items g l = record {
@@ -41,10 +44,10 @@ abbrev pub decreases-parse_items-items : goal.decreases-parse_items-items
 decreases-parse_items-items g l = left_at l.self.place
 
 abbrev pub decreases-parse_entries : goal.decreases-parse_entries
-decreases-parse_entries g l = 4 * l.levels + 1
+decreases-parse_entries g l = 5 * l.levels + 1
 
 abbrev pub decreases-parse_braces : goal.decreases-parse_braces
-decreases-parse_braces g l = 4 * l.levels + 2
+decreases-parse_braces g l = 5 * l.levels + 2
 
 abbrev pub invariant-parse_entries-entries : goal.invariant-parse_entries-entries
 invariant-parse_entries-entries g l = record {
