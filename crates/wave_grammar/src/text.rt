@@ -118,7 +118,8 @@ fn push_all<'a>(
     part: StringPart<'a>,
     parts: &mut StringPartsIter<'a>,
 ) -> Result<(), AllocError>
-    ensures { OnOk result (IsAppended (left_of parts.old) (left_of parts.new) (string_bytes text.old ++ (front.now ++ part_text part.entry)) (string_bytes text.new)) }
+    ensures { OnOk result (IsAppended (left_of parts.old) (left_of parts.new)
+        (string_bytes text.old ++ (front.now ++ part_text part.entry)) (string_bytes text.new)) }
 {
     text.push_str(front)?;
     push_part(text, part)?;

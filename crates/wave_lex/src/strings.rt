@@ -7,7 +7,8 @@ ghost use Rattle.wave_lex.specs.Strings.{UnescapesTo};
 ghost use Rattle.wave_lex.specs.Multiline.{pieces, closing_piece, DropsReturn};
 ghost use Rattle.wave_lex.specs.declared.strings.StringPartsIter.TheVariants.{Normal};
 ghost use Rattle.wave_lex.specs.Remaining.{ended_lines, size_of};
-ghost use Rattle.wave_lex.specs.Parts.{PartIs, LinePartIs, LinesRunTo, OpensTo, OpeningRefused, TakesPart, NoPartNext, EntersLine, TellsBadEscape, TellsBadLine, left_of};
+ghost use Rattle.wave_lex.specs.Parts.{PartIs, LinePartIs, LinesRunTo, TakesPart, NoPartNext, left_of};
+ghost use Rattle.wave_lex.specs.Parts.{OpensTo, OpeningRefused, EntersLine, TellsBadEscape, TellsBadLine};
 ghost use Rattle.wave_lex.specs.Private.Runs.{IsRun};
 ghost use Rattle.wave_lex.specs.Private.Lines.{IsNumberAt, PartTaken, EndIs, LinesEndIs, NoLineEntered, SplitsLine, OpeningIs, BehindLastFeed};
 
@@ -36,6 +37,7 @@ pub enum StringPart<'a> {
 pub struct StringParts<'a> {
     src: &'a str,
     pos: usize,
+    /// How many bytes stand before the first backslash.
     run: usize,
 }
 
@@ -61,7 +63,7 @@ impl<'a> StringParts<'a> {
         StringParts { src, pos, run }
     }
 
-    /// The same, where `src` is said to have no backslash, or not; in the first case none is searched.
+    /// The same; where `is_plain` says that `src` has no backslash none is searched.
     #[inline(always)]
     fn of_line(src: &'a str, pos: usize, is_plain: bool) -> StringParts<'a>
         requires fits { pos + length src.now + 3 < 2 ^ 64 }
@@ -550,7 +552,8 @@ fn opening_length(src: &str) -> Option<usize>
 /// is no line feed.
 #[inline(always)]
 fn split_line(text: &str) -> Option<(&str, bool, &str)>
-    ensures { MatchOption result (ended_lines text.now ≡ []) (λ cut. SplitsLine text.now cut.0.now cut.2.now × (IsTrue cut.1 → IsRun cut.0.now (length cut.0.now))) }
+    ensures { MatchOption result (ended_lines text.now ≡ [])
+        (λ cut. SplitsLine text.now cut.0.now cut.2.now × (IsTrue cut.1 → IsRun cut.0.now (length cut.0.now))) }
 {
     let bytes = text.as_bytes();
     let stop = memchr2(b'\n', b'\\', bytes)?;
