@@ -47,6 +47,7 @@ pub(crate) fn role_of(text: &str) -> LabelRole
 
 /// The type of the node of a token of this class and text, where that is a value on its own, whatever
 /// stands after it.
+#[inline(always)]
 pub(crate) fn alone_type(token: Token, text: &str) -> Option<NodeType>
     ensures { IfSome result (IsAlone token text.now) }
 {
