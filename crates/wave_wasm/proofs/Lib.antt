@@ -25,3 +25,5 @@ pub mod NameSets
 pub mod Picked
 pub mod Writable
 pub mod NumberEscapes
+pub mod DistinctTexts
+pub mod DistinctKeys

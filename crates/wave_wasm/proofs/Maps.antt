@@ -14,7 +14,6 @@ use Rattle.wave_wasm.specs.ConstructorContracts.{leaf_entries}
 use Rattle.wave_wasm.specs.Shared.Commas.{enclosed, comma_if}
 use Rattle.wave_wasm.specs.Commas.{behind_name}
 use Rattle.wave_wasm.specs.Merge.{merged, merged_entries, merge, leaf_eq}
-use Rattle.wave_wasm.specs.Private.Merge.{with_key_texts}
 use Rattle.wave_wasm.specs.Text.{text, has_text, leaf_text, printed_entries, are_writable_entries}
 use Rattle.wave_wasm.specs.WriterState.{Output}
 use Rattle.wave_wasm.proofs.Keys.{leaf_tests}
@@ -119,26 +118,6 @@ module _ {X : Type 0} (f : X → Value) where
   map_is (value.unreadable type.f64) es k formed e xs left = absurd (cc)
   map_is (value.unreadable type.unsupported) es k formed e xs left = absurd (cc)
   map_is _ es k formed e xs left = absurd (cc)
-
-  -- the same by the texts of the keys
-  pub record IsWrittenMap {T : Type 0} (s : T → List ℕ) (v : Value) (ms : List (T × X)) : Type 0 where
-    pub text_is : text v ≡ enclosed (codes "{") (map (λ e. behind_name (s e.0) (text (f e.1))) ms) (codes "}")
-    pub writable_is : has_text v ≡ list_all (λ e. has_text (f e.1)) ms
-    pub depths_are : AllOf (λ e. depth (f e.1) < depth v) ms
-
-  pub written_map : {T : Type 0} (s : T → List ℕ) (v : Value) (es : List (X × X)) → kind_of v ≡ kinds.Map → IsWellFormed v → paired f f es ≡ leaf_entries (map_entries v) → (ms : List (T × X)) → with_key_texts s ms ≡ with_key_texts (λ x. text (f x)) (merge same_texts es) → IsWrittenMap s v ms
-  written_map {T} s v es kind formed e ms same =
-      let xs = merge same_texts es in
-      let m = map_is v es kind formed e xs refl in
-      let one : List ℕ × X → List ℕ = λ p. behind_name p.0 (text (f p.1)) in
-      let ok : List ℕ × X → Bool = λ p. has_text (f p.1) in
-      let from : X × X → List ℕ × X = λ e. (text (f e.0), e.1) in
-      let to : T × X → List ℕ × X = λ e. (s e.0, e.1) in
-      record {
-        text_is = m.text_is ∙ ap (λ z. enclosed (codes "{") z (codes "}")) (sym (map_map one from xs) ∙ (ap (map one) (sym same) ∙ map_map one to ms));
-        writable_is = m.writable_is ∙ (sym (all_map ok from xs) ∙ (ap (list_all ok) (sym same) ∙ all_map ok to ms));
-        depths_are = all_below (λ p. depth (f p.1) < depth v) to ms (subst (AllOf (λ p. depth (f p.1) < depth v)) (sym same) (all_above (λ p. depth (f p.1) < depth v) from xs m.depths_are));
-      }
 
 -- what is left to write begins with the next entry
 pub writing_entry : {Y : Type 0} (key value : Y → List ℕ) (xs : List Y) (i : ℕ) (x : Y) {whole : List ℕ} (later : Bool) (close key_part : List ℕ) {old now : Output} → i < length xs → x ≡ get_or xs i x → key_part ≡ key x → Writing whole (parted later (map (λ e. behind_name (key e) (value e)) (drop i xs)) ++ close) old now → Writing whole (comma_if later ++ (key_part ++ (codes ": " ++ (value x ++ (parted true (map (λ e. behind_name (key e) (value e)) (drop (i + 1) xs)) ++ close))))) old now

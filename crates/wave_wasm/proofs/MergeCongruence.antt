@@ -1,9 +1,7 @@
 -- Merging looks at the keys through their test alone.
-use Rattle.std.proofs.Common.{◌≡◌, ℕ, List, [], ◌∷◌, Bool, true, false, not, cond, if◌then◌else◌, refl, sym, ap, ◌∙◌, map}
-use Rattle.wave_wasm.proofs.Trees.{map_map}
+use Rattle.std.proofs.Common.{◌≡◌, ℕ, List, [], ◌∷◌, Bool, true, false, not, cond, if◌then◌else◌, refl, ap, ◌∙◌, map}
 use Rattle.wave_wasm.specs.Lists.{AllOf}
 use Rattle.wave_wasm.specs.Merge.{last_value, without, merge, same_text, merge_by_text}
-use Rattle.wave_wasm.specs.Private.Merge.{with_key_texts}
 use Rattle.std.specs.Str.{bytes_eq}
 
 pushed : {V W : Type 0} (q : V → W) (b : Bool) (v w : V) → (if b then q v else q w) ≡ q (if b then v else w)
@@ -76,13 +74,3 @@ anything (e ∷ es) = (tt, anything es)
 pub merge_keyed : {K V : Type 0} (t : K → List ℕ) (es : List (K × V)) → merge_by_text (map (λ e. ((t e.0, e.0), e.1)) es) ≡ merge (λ a b. bytes_eq (t a) (t b)) es
 merge_keyed {K} {V} t es =
     ap (map {A = (List ℕ × K) × V} {B = K × V} (λ e. (e.0.1, e.1))) (merge_paired (λ a. Unit {0}) (λ a. (t a, a)) (λ v. v) (λ a b. bytes_eq (t a) (t b)) same_text (λ a b p q. refl) es (anything es)) ∙ unkeyed t (merge (λ a b. bytes_eq (t a) (t b)) es)
-
--- the same with texts in place of the keys: those that stand beside the keys, written as they are
-pub merge_texts : {K T V : Type 0} (t : K → List ℕ) (s : T → List ℕ) (ts : List ((List ℕ × T) × V)) (es : List (K × V)) → map {B = (List ℕ × List ℕ) × V} (λ e. ((e.0.0, s e.0.1), e.1)) ts ≡ map (λ e. ((t e.0, t e.0), e.1)) es → with_key_texts s (merge_by_text ts) ≡ with_key_texts t (merge (λ a b. bytes_eq (t a) (t b)) es)
-merge_texts {K} {T} {V} t s ts es same =
-    let second : (List ℕ × List ℕ) × V → List ℕ × V = λ e. (e.0.1, e.1) in
-    let written : (List ℕ × T) × V → (List ℕ × List ℕ) × V = λ e. ((e.0.0, s e.0.1), e.1) in
-    let doubled : K × V → (List ℕ × List ℕ) × V = λ e. ((t e.0, t e.0), e.1) in
-    let left : merge same_text (map written ts) ≡ map written (merge same_text ts) = merge_paired (λ a. Unit {0}) (λ a. (a.0, s a.1)) (λ v. v) same_text same_text (λ a b p q. refl) ts (anything ts) in
-    let right : merge same_text (map doubled es) ≡ map doubled (merge (λ a b. bytes_eq (t a) (t b)) es) = merge_paired (λ a. Unit {0}) (λ a. (t a, t a)) (λ v. v) (λ a b. bytes_eq (t a) (t b)) same_text (λ a b p q. refl) es (anything es) in
-    map_map (λ (e : T × V). (s e.0, e.1)) (λ (e : (List ℕ × T) × V). (e.0.1, e.1)) (merge same_text ts) ∙ (sym (map_map second written (merge same_text ts)) ∙ (ap (map second) (sym left ∙ (ap (merge same_text) same ∙ right)) ∙ map_map second doubled (merge (λ a b. bytes_eq (t a) (t b)) es)))

@@ -7,7 +7,7 @@ use Rattle.wave_wasm.specs.Types as type
 use Rattle.wave_wasm.specs.Types.{simple_kind}
 use Rattle.wave_wasm.specs.Values as value
 use Rattle.wave_wasm.specs.Values.{Leaf, Value, Values, FieldValues, no_value, a_value, no_values, value_and, no_fields, field, value_list, field_list, list_items, tuple_items, record_fields, maybe_value, kind_of, leaf_type}
-use Rattle.wave_wasm.specs.Shared.Values.{depth, depth_of_values, depth_of_fields, IsLeaf}
+use Rattle.wave_wasm.specs.Shared.Values.{depth, depth_of_values, depth_of_fields}
 use Rattle.wave_wasm.specs.ConstructorContracts.{IsOfListKind}
 use Rattle.wave_wasm.specs.Keywords.{case_label}
 use Rattle.wave_wasm.specs.Commas.{followed, behind_name}

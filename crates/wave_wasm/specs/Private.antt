@@ -1,4 +1,3 @@
-pub mod Merge
 pub mod Text
 pub mod TypeText
 pub mod WriterState

@@ -1,4 +1,5 @@
 //! The canonical text of values.
+use crate::fingerprints::{all_differ, fingerprint};
 use crate::keyword::Keyword;
 use crate::wasm::{WasmTypeKind, WasmValue};
 use itoa::{Buffer, Integer};
@@ -319,13 +320,13 @@ impl<W: TextWrite> Writer<W> {
         ensures { Writes (text (V.tree val.now)) (has_text (V.tree val.now)) result (W.output self.old) (W.output self.new) }
     {
         let entries = val.unwrap_map(alloc)?;
-        let merged = merge_entries(alloc, &entries)?;
+        let merged = merge_entries(alloc, entries)?;
         self.write_text("{")?;
         let mut later = false;
         for entry in &merged {
             self.write_separator(later)?;
             later = true;
-            self.write_text(entry.0.as_str())?;
+            self.write_leaf(entry.0)?;
             self.write_text(": ")?;
             self.write_value(alloc, entry.1)?;
         }
@@ -493,6 +494,7 @@ impl<W: TextWrite> Writer<W> {
 }
 
 ghost use Rattle.std.specs.Prelude.{◌≡◌, OnOk, IfOk, IfErr, IfSome, IsNone, true, map, if◌then◌else◌};
+ghost use Rattle.std.specs.Bool.{OnTrue};
 ghost use Rattle.std.specs.List.{list_all};
 ghost use Rattle.std.specs.Str.{bytes_eq};
 ghost use Rattle.std.specs.String.{string_bytes};
@@ -502,7 +504,8 @@ ghost use Rattle.std.specs.Char.{encode_utf8};
 ghost use Rattle.wave_wasm.specs.Text.{text, has_text, is_no_option, escaped, is_escaped, arguments_text, results_text};
 ghost use Rattle.wave_wasm.specs.Private.Text.{number_escape};
 ghost use Rattle.wave_wasm.specs.Merge.{merge, merge_by_text};
-ghost use Rattle.wave_wasm.specs.Private.Merge.{with_key_texts};
+ghost use Rattle.wave_wasm.specs.Names.{AreDistinct};
+ghost use Rattle.wave_wasm.specs.Shared.Fingerprints.{fingerprint};
 ghost use Rattle.wave_wasm.specs.WriterState.{IsGrounded};
 
 /// The canonical text of the value. `UnsupportedType` is answered only where it has none, and
@@ -563,23 +566,54 @@ fn leaf_text<V: WasmValue>(alloc: Global, val: &V) -> Result<String, WriterError
     Ok(writer.into_inner())
 }
 
-/// The entries, each with the text of its key, merged by these texts.
+/// The entries merged by the texts of their keys.
 fn merge_entries<'a, V: WasmValue>(
     alloc: Global,
-    entries: &Vec<(&'a V, &'a V)>,
-) -> Result<Vec<(String, &'a V)>, WriterError>
-    requires { AllOf (λ e. IsLeaf (V.tree e.0.now)) entries.now.items }
-    ensures ok { IfOk result (λ m. with_key_texts string_bytes m.items ≡ with_key_texts (λ k. text (V.tree k.now))
-        (merge (λ a b. bytes_eq (text (V.tree a.now)) (text (V.tree b.now))) entries.now.items)) }
+    entries: Vec<(&'a V, &'a V)>,
+) -> Result<Vec<(&'a V, &'a V)>, WriterError>
+    requires { AllOf (λ e. IsLeaf (V.tree e.0.now)) entries.items }
+    ensures ok { IfOk result (λ m. m.items ≡ merge (λ a b. bytes_eq (text (V.tree a.now)) (text (V.tree b.now))) entries.entry.items) }
     ensures err { IfErr result (λ e. IsGrounded e true 0 0) }
 {
-    let mut with_texts = Vec::new(alloc);
-    for entry in entries {
+    if have_distinct_keys(alloc, &entries) {
+        return Ok(entries);
+    }
+    let mut with_texts = Vec::with_capacity(alloc, entries.len())?;
+    for entry in &entries {
         let (key, value) = *entry;
-        let text = leaf_text(alloc, key)?;
-        with_texts.push((text.clone()?, text, value))?;
+        with_texts.push((leaf_text(alloc, key)?, key, value))?;
     }
     Ok(merge_map_entries(alloc, with_texts)?)
+}
+
+/// Whether no text of a key stands twice. The answer is no as well where that isn't seen at once:
+/// where two of them have one fingerprint, and where there is no memory.
+fn have_distinct_keys<V: WasmValue>(alloc: Global, entries: &Vec<(&V, &V)>) -> bool
+    requires { AllOf (λ e. IsLeaf (V.tree e.0.now)) entries.now.items }
+    ensures { OnTrue result (AreDistinct (map (λ e. text (V.tree e.0.now)) entries.now.items)) }
+{
+    match key_fingerprints(alloc, entries) {
+        Ok(numbers) => all_differ(numbers),
+        Err(_) => false,
+    }
+}
+
+/// The fingerprints of the texts of the keys, each of which is written over the one before it.
+fn key_fingerprints<V: WasmValue>(
+    alloc: Global,
+    entries: &Vec<(&V, &V)>,
+) -> Result<Vec<u64>, WriterError>
+    requires { AllOf (λ e. IsLeaf (V.tree e.0.now)) entries.now.items }
+    ensures { IfOk result (λ v. v.items ≡ map (λ e. fingerprint (text (V.tree e.0.now))) entries.now.items) }
+{
+    let mut numbers = Vec::with_capacity(alloc, entries.len())?;
+    let mut writer = Writer::new(String::new(alloc));
+    for entry in entries {
+        writer.out.clear();
+        writer.write_leaf(entry.0)?;
+        numbers.push(fingerprint(writer.out.as_str()))?;
+    }
+    Ok(numbers)
 }
 
 fn is_none<V: WasmValue>(val: &V) -> bool
@@ -634,6 +668,60 @@ fn is_escaped(c: char) -> bool
 /// The entries merged by their texts: the distinct texts in the order of their first places, each
 /// with its first key and its last value.
 pub fn merge_map_entries<K: Drop, V: Drop>(
+    alloc: Global,
+    entries: Vec<(String, K, V)>,
+) -> Result<Vec<(K, V)>, AllocError>
+    ensures { IfOk result
+        (λ m. m.items ≡ merge_by_text (map (λ e. ((string_bytes e.0, e.1), e.2)) entries.items)) }
+{
+    if have_distinct_texts(alloc, &entries) {
+        without_texts(alloc, entries)
+    } else {
+        merge_by_places(alloc, entries)
+    }
+}
+
+/// Whether no text stands twice. The answer is no as well where that isn't seen at once: where two
+/// texts have one fingerprint, and where there is no memory.
+fn have_distinct_texts<K, V>(alloc: Global, entries: &Vec<(String, K, V)>) -> bool
+    ensures { OnTrue result (AreDistinct (map (λ e. string_bytes e.0) entries.now.items)) }
+{
+    match text_fingerprints(alloc, entries) {
+        Ok(numbers) => all_differ(numbers),
+        Err(_) => false,
+    }
+}
+
+/// The fingerprints of the texts.
+fn text_fingerprints<K, V>(
+    alloc: Global,
+    entries: &Vec<(String, K, V)>,
+) -> Result<Vec<u64>, AllocError>
+    ensures { IfOk result (λ v. v.items ≡ map (λ e. fingerprint (string_bytes e.0)) entries.now.items) }
+{
+    let mut numbers = Vec::with_capacity(alloc, entries.len())?;
+    for entry in entries {
+        numbers.push(fingerprint(entry.0.as_str()))?;
+    }
+    Ok(numbers)
+}
+
+/// The keys with their values.
+fn without_texts<K: Drop, V: Drop>(
+    alloc: Global,
+    entries: Vec<(String, K, V)>,
+) -> Result<Vec<(K, V)>, AllocError>
+    ensures { IfOk result (λ m. m.items ≡ map (λ e. (e.1, e.2)) entries.items) }
+{
+    let mut pairs = Vec::with_capacity(alloc, entries.len())?;
+    for (_, key, value) in entries {
+        pairs.push((key, value))?;
+    }
+    Ok(pairs)
+}
+
+/// The entries merged by their texts, each of which is looked up in a map of those before it.
+fn merge_by_places<K: Drop, V: Drop>(
     alloc: Global,
     entries: Vec<(String, K, V)>,
 ) -> Result<Vec<(K, V)>, AllocError>

@@ -1,13 +1,18 @@
-use Rattle.std.proofs.Common.{ℕ, List, String, Global, map, Bor, ap, ◌∙◌, arith}
-use Rattle.std.specs.String.{string_bytes}
-use Rattle.wave_wasm.proofs.Trees.{map_map}
+use Rattle.std.proofs.Common.{ℕ, List, Bor, map, ap, sym, ◌∙◌, arith}
 use Rattle.std.proofs.lemmas.List.{take_all}
-use Rattle.wave_wasm.specs.Private.Merge.{with_key_texts}
+use Rattle.wave_wasm.specs.Merge.{merge_by_text}
 use Rattle.wave_wasm.specs.Shared.Values.{IsLeaf}
 use Rattle.wave_wasm.specs.Text.{text}
-use Rattle.wave_wasm.proofs.MergeCongruence.{merge_texts}
+use Rattle.std.proofs.lemmas.Bool.{OnTrue_at}
+use Rattle.wave_wasm.proofs.DistinctKeys.{merge_distinct}
+use Rattle.wave_wasm.proofs.MergeCongruence.{merge_keyed}
 use Rattle.wave_wasm.proofs.Sequence.{all_at}
 use Rattle.wave_wasm.proofs.writer.merge_entries.Goals as goal
+
+pub returns-then-have_distinct_keys-clause-ok : goal.returns-then-have_distinct_keys-clause-ok
+returns-then-have_distinct_keys-clause-ok g c =
+    let t : Bor g.row.V.Denot → List ℕ = λ a. text (g.V.WasmValue.tree a.now) in
+    sym (merge_distinct t c.args.entries.items (OnTrue_at c.if-have_distinct_keys.true c.have_distinct_keys.ensures))
 
 pub leaf_text-requires : goal.leaf_text-requires
 leaf_text-requires g c =
@@ -17,7 +22,6 @@ leaf_text-requires g c =
 pub returns-clause-ok : goal.returns-clause-ok
 returns-clause-ok g c =
     let t : Bor g.row.V.Denot → List ℕ = λ a. text (g.V.WasmValue.tree a.now) in
-    let f : Bor g.row.V.Denot × Bor g.row.V.Denot → (List ℕ × List ℕ) × Bor g.row.V.Denot = λ e. ((t e.0, t e.0), e.1) in
-    let beside : String Global × String Global × Bor g.row.V.Denot → (List ℕ × String Global) × Bor g.row.V.Denot = λ e. ((string_bytes e.0, e.1), e.2) in
+    let f : Bor g.row.V.Denot × Bor g.row.V.Denot → (List ℕ × Bor g.row.V.Denot) × Bor g.row.V.Denot = λ e. ((t e.0, e.0), e.1) in
     let all = take_all c.loop-entry.entry-index c.deref-entry-items.result.now (omega arith) ∙ c.deref-entry-items.ensures.value in
-    ap (with_key_texts string_bytes) c.in_ok-merge_map_entries.ensures ∙ merge_texts t string_bytes (map beside c.loop-entry.with_texts.items) c.args.entries.now.items (map_map _ beside c.loop-entry.with_texts.items ∙ (c.loop-entry.invariant ∙ ap (map f) all))
+    c.in_ok-merge_map_entries.ensures ∙ (ap merge_by_text (c.loop-entry.invariant ∙ ap (map f) all) ∙ merge_keyed t c.args.entries.items)

@@ -1,21 +1,21 @@
-use Rattle.std.proofs.Common.{arith, ℕ, List, String, Global, ap, sym, ◌∙◌, refl, Bor, Bool, map}
+use Rattle.std.proofs.Common.{arith, ℕ, List, ap, sym, ◌∙◌, refl, Bor, Bool, map}
 use Rattle.std.proofs.lemmas.Result.{err_from_is_err_and}
 use Rattle.std.specs.List.{list_all}
-use Rattle.std.specs.String.{string_bytes}
-use Rattle.wave_wasm.specs.Private.Merge.{with_key_texts}
+use Rattle.std.specs.Str.{bytes_eq}
 use Rattle.wave_wasm.specs.Shared.Commas.{enclosed}
 use Rattle.wave_wasm.specs.Commas.{behind_name}
 use Rattle.wave_wasm.specs.Borrowed.{shown}
 use Rattle.wave_wasm.specs.Text.{text, has_text}
 use Rattle.wave_wasm.specs.Private.Text.{payload_text, has_payload_text}
 use Rattle.wave_wasm.specs.Values.{Value, maybe_value}
-use Rattle.wave_wasm.specs.Shared.Values.{depth, depth_of_maybe}
+use Rattle.wave_wasm.specs.Shared.Values.{depth, depth_of_maybe, IsLeaf}
 use Rattle.wave_wasm.proofs.Writing.{writing_more, writing_refused, writing_refused_text, start_refused, start_written, writing_as, writing_none, refused_before, refused_grounded, refused_unsupported, writing_last, nothing_written}
 use Rattle.wave_wasm.proofs.Sequence.{writing_start, writing_item, writing_close, item_blocks, item_passes, items_pass, part_depth, all_at}
 use Rattle.wave_wasm.proofs.Trees.{map_map, all_map, list_sequence, tuple_sequence, record_is, variant_text, variant_writable, ok_text, ok_writable, err_text, err_writable, no_text_of_kind, of_list_kind}
 use Rattle.wave_wasm.proofs.NamedKinds.{leaf_of}
 use Rattle.wave_wasm.proofs.Records.{writing_field, writing_skipped, none_writable, writing_record_close}
-use Rattle.wave_wasm.proofs.Maps.{written_map, keys_are_leaves, writing_entry}
+use Rattle.wave_wasm.proofs.Maps.{map_is, keys_are_leaves, writing_entry}
+use Rattle.wave_wasm.proofs.MergeCongruence.{keys_keep}
 use Rattle.wave_wasm.proofs.writer.Writer.+write.Goals as goal
 
 -- items between a start and an end
@@ -209,16 +209,16 @@ write_map-returns-in_err-merged g t c =
 pub write_map-returns-in_err-write_text : goal.write_map-returns-in_err-write_text
 write_map-returns-in_err-write_text g t c =
     let f : Bor g.row.V.Denot → Value = λ v. g.V.WasmValue.tree v.now in
-    let s = written_map f string_bytes _ c.in_ok-entries.entries.items c.requires.kind c.requires.formed c.in_ok-entries.ensures c.in_ok-merged.merged.items c.in_ok-merged.ensures.ok in
+    let s = map_is f _ c.in_ok-entries.entries.items c.requires.kind c.requires.formed c.in_ok-entries.ensures c.in_ok-merged.merged.items c.in_ok-merged.ensures.ok in
     let p = err_from_is_err_and c.from_residual-in_err-write_text.result c.from_residual-in_err-write_text.ensures.1 in
     rw (p.1, p.2) (start_refused _ s.text_is c.in_err-write_text.ensures)
 
 pub write_map-loop-entry-init : goal.write_map-loop-entry-init
 write_map-loop-entry-init g t c =
     let f : Bor g.row.V.Denot → Value = λ v. g.V.WasmValue.tree v.now in
-    let key : String Global × Bor g.row.V.Denot → List ℕ = λ e. string_bytes e.0 in
-    let value : String Global × Bor g.row.V.Denot → List ℕ = λ e. text (g.V.WasmValue.tree e.1.now) in
-    let s = written_map f string_bytes _ c.in_ok-entries.entries.items c.requires.kind c.requires.formed c.in_ok-entries.ensures c.deref-entry-items.result.now (ap (with_key_texts string_bytes) c.deref-entry-items.ensures.value ∙ c.in_ok-merged.ensures.ok) in
+    let key : Bor g.row.V.Denot × Bor g.row.V.Denot → List ℕ = λ e. text (g.V.WasmValue.tree e.0.now) in
+    let value : Bor g.row.V.Denot × Bor g.row.V.Denot → List ℕ = λ e. text (g.V.WasmValue.tree e.1.now) in
+    let s = map_is f _ c.in_ok-entries.entries.items c.requires.kind c.requires.formed c.in_ok-entries.ensures c.deref-entry-items.result.now (c.deref-entry-items.ensures.value ∙ c.in_ok-merged.ensures.ok) in
     record {
       writing = writing_start (λ e. behind_name (key e) (value e)) c.deref-entry-items.result.now _ _ s.text_is c.in_ok-write_text.ensures.ok;
       writable = sym s.writable_is;
@@ -226,60 +226,66 @@ write_map-loop-entry-init g t c =
 
 pub write_map-returns-in_err-write_separator : goal.write_map-returns-in_err-write_separator
 write_map-returns-in_err-write_separator g t c =
-    let key : String Global × Bor g.row.V.Denot → List ℕ = λ e. string_bytes e.0 in
-    let value : String Global × Bor g.row.V.Denot → List ℕ = λ e. text (g.V.WasmValue.tree e.1.now) in
+    let key : Bor g.row.V.Denot × Bor g.row.V.Denot → List ℕ = λ e. text (g.V.WasmValue.tree e.0.now) in
+    let value : Bor g.row.V.Denot × Bor g.row.V.Denot → List ℕ = λ e. text (g.V.WasmValue.tree e.1.now) in
     let p = err_from_is_err_and c.from_residual-in_err-write_separator.result c.from_residual-in_err-write_separator.ensures.1 in
     let w = writing_entry key value c.deref-entry-items.result.now c.loop-entry.entry-index c.entry-item.result _ _ _ c.loop-entry-test.true c.entry-item.is refl c.loop-entry.invariant.writing in
     rw (p.1, p.2) (writing_refused_text _ w c.in_err-write_separator.ensures)
 
+pub write_map-write_leaf-requires : goal.write_map-write_leaf-requires
+write_map-write_leaf-requires g t c =
+    let f : Bor g.row.V.Denot → Value = λ v. g.V.WasmValue.tree v.now in
+    let leaves = keys_keep (λ k. IsLeaf (f k)) (λ a b. bytes_eq (text (f a)) (text (f b))) c.in_ok-entries.entries.items (keys_are_leaves f _ _ c.in_ok-entries.ensures) in
+    all_at (λ e. IsLeaf (f e.0)) c.deref-entry-items.result.now _ c.loop-entry.entry-index c.entry-item.result (c.deref-entry-items.ensures.value ∙ c.in_ok-merged.ensures.ok) c.loop-entry-test.true c.entry-item.is leaves
+
+pub write_map-returns-in_err-write_leaf : goal.write_map-returns-in_err-write_leaf
+write_map-returns-in_err-write_leaf g t c =
+    let key : Bor g.row.V.Denot × Bor g.row.V.Denot → List ℕ = λ e. text (g.V.WasmValue.tree e.0.now) in
+    let value : Bor g.row.V.Denot × Bor g.row.V.Denot → List ℕ = λ e. text (g.V.WasmValue.tree e.1.now) in
+    let p = err_from_is_err_and c.from_residual-in_err-write_leaf.result c.from_residual-in_err-write_leaf.ensures.1 in
+    let w = writing_entry key value c.deref-entry-items.result.now c.loop-entry.entry-index c.entry-item.result _ _ _ c.loop-entry-test.true c.entry-item.is refl c.loop-entry.invariant.writing in
+    rw (p.1, p.2) (writing_refused_text _ (writing_more w c.in_ok-write_separator.ensures.ok) c.in_err-write_leaf.ensures)
+
 pub write_map-returns-in_err-write_text-2 : goal.write_map-returns-in_err-write_text-2
 write_map-returns-in_err-write_text-2 g t c =
-    let key : String Global × Bor g.row.V.Denot → List ℕ = λ e. string_bytes e.0 in
-    let value : String Global × Bor g.row.V.Denot → List ℕ = λ e. text (g.V.WasmValue.tree e.1.now) in
+    let key : Bor g.row.V.Denot × Bor g.row.V.Denot → List ℕ = λ e. text (g.V.WasmValue.tree e.0.now) in
+    let value : Bor g.row.V.Denot × Bor g.row.V.Denot → List ℕ = λ e. text (g.V.WasmValue.tree e.1.now) in
     let p = err_from_is_err_and c.from_residual-in_err-write_text-2.result c.from_residual-in_err-write_text-2.ensures.1 in
-    let w = writing_entry key value c.deref-entry-items.result.now c.loop-entry.entry-index c.entry-item.result _ _ _ c.loop-entry-test.true c.entry-item.is c.as_str.ensures.value c.loop-entry.invariant.writing in
-    rw (p.1, p.2) (writing_refused_text _ (writing_more w c.in_ok-write_separator.ensures.ok) c.in_err-write_text-2.ensures)
-
-pub write_map-returns-in_err-write_text-3 : goal.write_map-returns-in_err-write_text-3
-write_map-returns-in_err-write_text-3 g t c =
-    let key : String Global × Bor g.row.V.Denot → List ℕ = λ e. string_bytes e.0 in
-    let value : String Global × Bor g.row.V.Denot → List ℕ = λ e. text (g.V.WasmValue.tree e.1.now) in
-    let p = err_from_is_err_and c.from_residual-in_err-write_text-3.result c.from_residual-in_err-write_text-3.ensures.1 in
-    let w = writing_entry key value c.deref-entry-items.result.now c.loop-entry.entry-index c.entry-item.result _ _ _ c.loop-entry-test.true c.entry-item.is c.as_str.ensures.value c.loop-entry.invariant.writing in
-    rw (p.1, p.2) (writing_refused_text _ (writing_more (writing_more w c.in_ok-write_separator.ensures.ok) c.in_ok-write_text-2.ensures.ok) c.in_err-write_text-3.ensures)
+    let w = writing_entry key value c.deref-entry-items.result.now c.loop-entry.entry-index c.entry-item.result _ _ _ c.loop-entry-test.true c.entry-item.is refl c.loop-entry.invariant.writing in
+    rw (p.1, p.2) (writing_refused_text _ (writing_more (writing_more w c.in_ok-write_separator.ensures.ok) c.in_ok-write_leaf.ensures.ok) c.in_err-write_text-2.ensures)
 
 pub write_map-write_value-requires : goal.write_map-write_value-requires
 write_map-write_value-requires g t c κs within =
     let f : Bor g.row.V.Denot → Value = λ v. g.V.WasmValue.tree v.now in
-    let s = written_map f string_bytes _ c.in_ok-entries.entries.items c.requires.kind c.requires.formed c.in_ok-entries.ensures c.deref-entry-items.result.now (ap (with_key_texts string_bytes) c.deref-entry-items.ensures.value ∙ c.in_ok-merged.ensures.ok) in
+    let s = map_is f _ c.in_ok-entries.entries.items c.requires.kind c.requires.formed c.in_ok-entries.ensures c.deref-entry-items.result.now (c.deref-entry-items.ensures.value ∙ c.in_ok-merged.ensures.ok) in
     let d = all_at _ c.deref-entry-items.result.now c.deref-entry-items.result.now c.loop-entry.entry-index c.entry-item.result refl c.loop-entry-test.true c.entry-item.is s.depths_are in
     (omega (arith, d), within)
 
 pub write_map-returns-in_err-write_value : goal.write_map-returns-in_err-write_value
 write_map-returns-in_err-write_value g t c =
-    let key : String Global × Bor g.row.V.Denot → List ℕ = λ e. string_bytes e.0 in
-    let value : String Global × Bor g.row.V.Denot → List ℕ = λ e. text (g.V.WasmValue.tree e.1.now) in
-    let ok : String Global × Bor g.row.V.Denot → Bool = λ e. has_text (g.V.WasmValue.tree e.1.now) in
+    let key : Bor g.row.V.Denot × Bor g.row.V.Denot → List ℕ = λ e. text (g.V.WasmValue.tree e.0.now) in
+    let value : Bor g.row.V.Denot × Bor g.row.V.Denot → List ℕ = λ e. text (g.V.WasmValue.tree e.1.now) in
+    let ok : Bor g.row.V.Denot × Bor g.row.V.Denot → Bool = λ e. has_text (g.V.WasmValue.tree e.1.now) in
     let p = err_from_is_err_and c.from_residual-in_err-write_value.result c.from_residual-in_err-write_value.ensures.1 in
-    let w = writing_entry key value c.deref-entry-items.result.now c.loop-entry.entry-index c.entry-item.result _ _ _ c.loop-entry-test.true c.entry-item.is c.as_str.ensures.value c.loop-entry.invariant.writing in
-    rw (p.1, p.2) (writing_refused _ (writing_more (writing_more (writing_more w c.in_ok-write_separator.ensures.ok) c.in_ok-write_text-2.ensures.ok) c.in_ok-write_text-3.ensures.ok) (item_blocks ok c.deref-entry-items.result.now c.loop-entry.entry-index c.entry-item.result _ c.loop-entry-test.true c.entry-item.is c.loop-entry.invariant.writable) c.in_err-write_value.ensures.err)
+    let w = writing_entry key value c.deref-entry-items.result.now c.loop-entry.entry-index c.entry-item.result _ _ _ c.loop-entry-test.true c.entry-item.is refl c.loop-entry.invariant.writing in
+    rw (p.1, p.2) (writing_refused _ (writing_more (writing_more (writing_more w c.in_ok-write_separator.ensures.ok) c.in_ok-write_leaf.ensures.ok) c.in_ok-write_text-2.ensures.ok) (item_blocks ok c.deref-entry-items.result.now c.loop-entry.entry-index c.entry-item.result _ c.loop-entry-test.true c.entry-item.is c.loop-entry.invariant.writable) c.in_err-write_value.ensures.err)
 
 pub write_map-loop-entry-preserved : goal.write_map-loop-entry-preserved
 write_map-loop-entry-preserved g t c =
-    let key : String Global × Bor g.row.V.Denot → List ℕ = λ e. string_bytes e.0 in
-    let value : String Global × Bor g.row.V.Denot → List ℕ = λ e. text (g.V.WasmValue.tree e.1.now) in
-    let ok : String Global × Bor g.row.V.Denot → Bool = λ e. has_text (g.V.WasmValue.tree e.1.now) in
-    let w = writing_entry key value c.deref-entry-items.result.now c.loop-entry.entry-index c.entry-item.result _ _ _ c.loop-entry-test.true c.entry-item.is c.as_str.ensures.value c.loop-entry.invariant.writing in
+    let key : Bor g.row.V.Denot × Bor g.row.V.Denot → List ℕ = λ e. text (g.V.WasmValue.tree e.0.now) in
+    let value : Bor g.row.V.Denot × Bor g.row.V.Denot → List ℕ = λ e. text (g.V.WasmValue.tree e.1.now) in
+    let ok : Bor g.row.V.Denot × Bor g.row.V.Denot → Bool = λ e. has_text (g.V.WasmValue.tree e.1.now) in
+    let w = writing_entry key value c.deref-entry-items.result.now c.loop-entry.entry-index c.entry-item.result _ _ _ c.loop-entry-test.true c.entry-item.is refl c.loop-entry.invariant.writing in
     record {
-      writing = writing_more (writing_more (writing_more (writing_more w c.in_ok-write_separator.ensures.ok) c.in_ok-write_text-2.ensures.ok) c.in_ok-write_text-3.ensures.ok) c.in_ok-write_value.ensures.ok;
+      writing = writing_more (writing_more (writing_more (writing_more w c.in_ok-write_separator.ensures.ok) c.in_ok-write_leaf.ensures.ok) c.in_ok-write_text-2.ensures.ok) c.in_ok-write_value.ensures.ok;
       writable = item_passes ok c.deref-entry-items.result.now c.loop-entry.entry-index c.entry-item.result _ c.loop-entry-test.true c.entry-item.is c.loop-entry.invariant.writable c.in_ok-write_value.ensures.writable;
     }
 
 pub write_map-returns : goal.write_map-returns
 write_map-returns g t c =
-    let key : String Global × Bor g.row.V.Denot → List ℕ = λ e. string_bytes e.0 in
-    let value : String Global × Bor g.row.V.Denot → List ℕ = λ e. text (g.V.WasmValue.tree e.1.now) in
-    let ok : String Global × Bor g.row.V.Denot → Bool = λ e. has_text (g.V.WasmValue.tree e.1.now) in
+    let key : Bor g.row.V.Denot × Bor g.row.V.Denot → List ℕ = λ e. text (g.V.WasmValue.tree e.0.now) in
+    let value : Bor g.row.V.Denot × Bor g.row.V.Denot → List ℕ = λ e. text (g.V.WasmValue.tree e.1.now) in
+    let ok : Bor g.row.V.Denot × Bor g.row.V.Denot → Bool = λ e. has_text (g.V.WasmValue.tree e.1.now) in
     let w = writing_close (λ e. behind_name (key e) (value e)) c.deref-entry-items.result.now c.loop-entry.entry-index _ _ c.loop-entry-test.false c.loop-entry.invariant.writing in
     writing_last w (items_pass ok c.deref-entry-items.result.now c.loop-entry.entry-index _ c.loop-entry-test.false c.loop-entry.invariant.writable) c.write_text-2.ensures
 

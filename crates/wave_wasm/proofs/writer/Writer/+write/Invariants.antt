@@ -1,6 +1,5 @@
 use Rattle.std.proofs.Common.{◌≡◌, ◌++◌, ◌+◌, ◌*◌, ℕ, List, map, drop, codes}
 use Rattle.std.specs.List.{list_all}
-use Rattle.std.specs.String.{string_bytes}
 use Rattle.wave_wasm.specs.Shared.Commas.{enclosed}
 use Rattle.wave_wasm.specs.Commas.{behind_name}
 use Rattle.wave_wasm.specs.Text.{text, has_text}
@@ -62,6 +61,6 @@ abbrev pub invariant-write_map-loop-entry : goal.invariant-write_map-loop-entry
 invariant-write_map-loop-entry g l =
     let left = drop l.entry-index l.entry-items in
     record {
-      writing : Writing (text (g.V.WasmValue.tree l.val)) (parted l.later (map (λ e. behind_name (string_bytes e.0) (text (g.V.WasmValue.tree e.1.now))) left) ++ codes "}") (g.W.TextWrite.output l.fn.self) (g.W.TextWrite.output l.self);
+      writing : Writing (text (g.V.WasmValue.tree l.val)) (parted l.later (map (λ e. behind_name (text (g.V.WasmValue.tree e.0.now)) (text (g.V.WasmValue.tree e.1.now))) left) ++ codes "}") (g.W.TextWrite.output l.fn.self) (g.W.TextWrite.output l.self);
       writable : list_all (λ e. has_text (g.V.WasmValue.tree e.1.now)) left ≡ has_text (g.V.WasmValue.tree l.val);
     }

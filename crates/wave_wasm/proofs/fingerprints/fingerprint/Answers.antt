@@ -1,0 +1,7 @@
+use Rattle.std.proofs.Common.{rules}
+use Rattle.wave_wasm.specs.Shared.Fingerprints.{fingerprint}
+use Rattle.wave_wasm.proofs.fingerprints.fingerprint.Goals as goal
+
+pub returns : goal.returns
+unfolding fingerprint
+returns c = search rules
