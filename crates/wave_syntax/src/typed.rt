@@ -1,20 +1,66 @@
 //! Calls that readers at types share.
-ghost use Rattle.std.specs.Prelude.{◌≡◌, ◌≢◌, ◌↔◌, option_map, IsTrue, IfOk};
+ghost use Rattle.std.specs.Prelude.{◌≡◌, ◌≢◌, ◌↔◌, map, option_map, IsTrue, IfOk};
+ghost use Rattle.std.specs.Bool.{OnTrue};
 ghost use Rattle.std.specs.Str.{bytes_eq};
 ghost use Rattle.wave_wasm.specs.Borrowed.{texts, shown, shown_cases};
 ghost use Rattle.wave_wasm.specs.Merge.{merge};
+ghost use Rattle.wave_wasm.specs.Names.{AreDistinct};
+ghost use Rattle.wave_wasm.specs.Shared.Fingerprints.{fingerprint};
 ghost use Rattle.wave_wasm.specs.Text.{text};
 ghost use Rattle.wave_grammar.specs.TypedGrammar.{look_up};
 ghost use Rattle.wave_syntax.specs.Shared.NodeAccessors.{Among};
 ghost use Rattle.wave_syntax.specs.Shared.TypedReading.{GivesFlat};
 
 use std::alloc::{AllocError, Global};
+use wave_wasm::fingerprints::{all_differ, fingerprint};
 use wave_wasm::wasm::{WasmType, WasmTypeKind, WasmValue};
-use wave_wasm::writer::{merge_map_entries, to_string};
+use wave_wasm::writer::{Writer, WriterError, merge_map_entries, to_string};
 
 /// The entries with each key once, merged by the texts of their keys. The only error is out of
 /// memory, which also stands for a key that has no text.
 pub fn merged<V: WasmValue>(alloc: Global, entries: Vec<(V, V)>) -> Result<Vec<(V, V)>, AllocError>
+    ensures { IfOk result (λ m. m.items ≡ merge (λ a b. bytes_eq (text (V.tree a)) (text (V.tree b))) entries.items) }
+{
+    if have_distinct_keys(alloc, &entries) {
+        Ok(entries)
+    } else {
+        merge_by_texts(alloc, entries)
+    }
+}
+
+/// Whether no text of a key stands twice. The answer is no as well where that isn't seen at once:
+/// where two of them have one fingerprint, where a key has no text, and where there is no memory.
+fn have_distinct_keys<V: WasmValue>(alloc: Global, entries: &Vec<(V, V)>) -> bool
+    ensures { OnTrue result (AreDistinct (map (λ e. text (V.tree e.0)) entries.now.items)) }
+{
+    match key_fingerprints(alloc, entries) {
+        Ok(numbers) => all_differ(numbers),
+        Err(_) => false,
+    }
+}
+
+/// The fingerprints of the texts of the keys, each of which is written over the one before it.
+fn key_fingerprints<V: WasmValue>(
+    alloc: Global,
+    entries: &Vec<(V, V)>,
+) -> Result<Vec<u64>, WriterError>
+    ensures { IfOk result (λ v. v.items ≡ map (λ e. fingerprint (text (V.tree e.0))) entries.now.items) }
+{
+    let mut numbers = Vec::with_capacity(alloc, entries.len())?;
+    let mut writer = Writer::new(String::new(alloc));
+    for entry in entries {
+        writer.as_mut().clear();
+        writer.write_value(alloc, &entry.0)?;
+        numbers.push(fingerprint(writer.as_mut().as_str()))?;
+    }
+    Ok(numbers)
+}
+
+/// The entries merged by the texts of their keys, which are made for each of them.
+fn merge_by_texts<V: WasmValue>(
+    alloc: Global,
+    entries: Vec<(V, V)>,
+) -> Result<Vec<(V, V)>, AllocError>
     ensures { IfOk result (λ m. m.items ≡ merge (λ a b. bytes_eq (text (V.tree a)) (text (V.tree b))) entries.items) }
 {
     let mut with_texts = Vec::with_capacity(alloc, entries.len())?;

@@ -6,7 +6,7 @@ use Rattle.std.proofs.lemmas.Iterator.Consumers.{YieldsList-end}
 use Rattle.wave_wasm.specs.Merge.{merge_by_text}
 use Rattle.wave_wasm.specs.Text.{text}
 use Rattle.wave_wasm.proofs.MergeCongruence.{merge_keyed}
-use Rattle.wave_syntax.proofs.typed.merged.Goals as goal
+use Rattle.wave_syntax.proofs.typed.merge_by_texts.Goals as goal
 
 pub returns : goal.returns
 returns g c =

@@ -1,7 +1,7 @@
 use Rattle.std.proofs.Common.{◌≡◌, ℕ, List, map}
 use Rattle.std.specs.String.{string_bytes}
 use Rattle.wave_wasm.specs.Text.{text}
-use Rattle.wave_syntax.proofs.typed.merged.Given as goal
+use Rattle.wave_syntax.proofs.typed.merge_by_texts.Given as goal
 
 abbrev pub invariant-loop-key : goal.invariant-loop-key
 invariant-loop-key g l =
