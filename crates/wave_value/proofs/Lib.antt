@@ -13,7 +13,6 @@ pub mod MadeTuple
 pub mod MadeResult
 pub mod MadeRecord
 pub mod RecordInTurn
-pub mod Fingerprints
 pub mod LawfulRecord
 pub mod Refusals
 pub mod Views

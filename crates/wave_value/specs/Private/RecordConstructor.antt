@@ -3,7 +3,6 @@ use Rattle.std.specs.Prelude.{ℕ, ◌≡◌, ◌≢◌, List, [], ◌∷◌, Op
 use Rattle.std.specs.Borrow.{Bor}
 use Rattle.std.specs.BTreeMap.{BTreeMap, get_by}
 use Rattle.std.specs.Cmp.Lexicographic.{slice_cmp}
-use Rattle.std.specs.Hash.FoldHasher.{initial, write, finish}
 use Rattle.std.specs.Ordering.{nat_cmp}
 use Rattle.wave_wasm.specs.Names.{IsOneOf, AreDistinct}
 use Rattle.wave_wasm.specs.Types.{TypeTree}
@@ -18,10 +17,6 @@ use Rattle.wave_value.specs.Private.ConstructorRules.{SaysCase, SaysMissing, Say
 -- the value that the map holds under the name
 abbrev pub held : {A : Type 0} → BTreeMap (Bor (List ℕ)) A → List ℕ → Option A
 held m name = get_by (λ k. slice_cmp nat_cmp name k.now) m
-
--- a number that is made of the name
-unfoldable pub fingerprint : List ℕ → ℕ
-fingerprint name = finish (write initial name)
 
 -- what is handed in has the names of the fields in their order, and they are distinct
 pub record IsInTurn {A B : Type 0} (fs : List (List ℕ × A)) (given : List (List ℕ × B)) : Type 0 where

@@ -1,18 +1,17 @@
 //! Whether no name of a record type stands twice.
 ghost use Rattle.std.specs.Prelude.{◌≡◌, ◌≤◌, map, take, vec_len, IfOk};
 ghost use Rattle.std.specs.Bool.{OnTrue, OnFalse};
-ghost use Rattle.std.specs.List.Sorted.{IsStrictlyIncreasing};
 ghost use Rattle.wave_wasm.specs.Names.{IsNoneOf, AreDistinct};
+ghost use Rattle.wave_wasm.specs.Shared.Fingerprints.{fingerprint};
 ghost use Rattle.wave_type.specs.TypeModel.{by_bytes};
 ghost use Rattle.wave_value.specs.ValueModel.{first_names};
-ghost use Rattle.wave_value.specs.Private.RecordConstructor.{fingerprint};
 
 use super::super::Type;
 use std::alloc::{AllocError, Global};
-use std::hash::{FoldHasher, Hasher};
+use wave_wasm::fingerprints::{all_differ, fingerprint};
 
-// Up to this many names each is compared with each that stands before it. Past that, sorting
-// their fingerprints costs less.
+// Up to this many names each is compared with each that stands before it. Past that, their
+// fingerprints, which are sorted, cost less.
 const MOST_COMPARED: usize = 16;
 
 // Whether no name stands twice. The answer is no as well where that isn't seen at once: where two
@@ -24,10 +23,7 @@ pub(super) fn are_distinct(alloc: Global, stated: &Vec<(String, Type)>) -> bool
         return stand_once(stated);
     }
     match fingerprints(alloc, stated) {
-        Ok(mut numbers) => {
-            numbers.sort_unstable();
-            rise(&numbers)
-        }
+        Ok(numbers) => all_differ(numbers),
         Err(_) => false,
     }
 }
@@ -66,25 +62,4 @@ fn fingerprints(alloc: Global, stated: &Vec<(String, Type)>) -> Result<Vec<u64>,
         numbers.push(fingerprint(field.0.as_str()))?;
     }
     Ok(numbers)
-}
-
-// A number that is made of the name: different names have different ones, but for a rare case.
-fn fingerprint(name: &str) -> u64
-    ensures { result ≡ fingerprint name.now }
-{
-    let mut hasher = FoldHasher::default();
-    hasher.write(name.as_bytes());
-    hasher.finish()
-}
-
-// Whether each number is below the next.
-fn rise(numbers: &Vec<u64>) -> bool
-    ensures { OnTrue result (IsStrictlyIncreasing numbers.now.items) }
-{
-    for i in 1..numbers.len() {
-        if numbers[i - 1] >= numbers[i] {
-            return false;
-        }
-    }
-    true
 }

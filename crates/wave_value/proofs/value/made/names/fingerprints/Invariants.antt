@@ -1,7 +1,7 @@
 use Rattle.std.proofs.Common.{◌≡◌, map, take}
+use Rattle.wave_wasm.specs.Shared.Fingerprints.{fingerprint}
 use Rattle.wave_type.specs.TypeModel.{by_bytes}
 use Rattle.wave_value.specs.ValueModel.{first_names}
-use Rattle.wave_value.specs.Private.RecordConstructor.{fingerprint}
 use Rattle.wave_value.proofs.value.made.names.fingerprints.Given as goal
 
 abbrev pub invariant-loop-field : goal.invariant-loop-field
