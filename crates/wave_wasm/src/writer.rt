@@ -187,7 +187,7 @@ impl<W: TextWrite> Writer<W> {
         ensures { Writes (text (V.tree val.now)) (has_text (V.tree val.now)) result (W.output self.old) (W.output self.new) }
     {
         let items = val.unwrap_list(alloc)?;
-        self.write_items(alloc, "[", &items, "]")
+        self.write_items(alloc, "[", items, "]")
     }
 
     #[cycle(write)]
@@ -197,30 +197,35 @@ impl<W: TextWrite> Writer<W> {
         ensures { Writes (text (V.tree val.now)) (has_text (V.tree val.now)) result (W.output self.old) (W.output self.new) }
     {
         let items = val.unwrap_tuple(alloc)?;
-        self.write_items(alloc, "(", &items, ")")
+        self.write_items(alloc, "(", items, ")")
     }
 
-    /// Writes values with commas between, after an opening and before a close.
+    /// Writes values with commas between, after an opening and before a close. The list of them is
+    /// let go before the last one is written, so that of values within values few lists stand at once.
     #[cycle(write)]
+    #[inline(always)]
     fn write_items<V: WasmValue>(
         &mut self,
         alloc: Global,
         opening: &str,
-        items: &Vec<&V>,
+        mut items: Vec<&V>,
         closing: &str,
     ) -> Result<(), WriterError>
         ensures { Writes
-            (enclosed opening.now (map text (shown_all V.tree items.now.items)) closing.now)
-            (list_all has_text (shown_all V.tree items.now.items))
+            (enclosed opening.now (map text (shown_all V.tree items.entry.items)) closing.now)
+            (list_all has_text (shown_all V.tree items.entry.items))
             result (W.output self.old) (W.output self.new) }
     {
         self.write_text(opening)?;
-        let mut later = false;
-        for item in items {
-            self.write_separator(later)?;
-            later = true;
+        let Some(last) = items.pop() else {
+            return self.write_text(closing);
+        };
+        for item in &items {
             self.write_value(alloc, *item)?;
+            self.write_text(", ")?;
         }
+        drop(items);
+        self.write_value(alloc, last)?;
         self.write_text(closing)
     }
 

@@ -1,4 +1,4 @@
-use Rattle.std.proofs.Common.{◌≡◌, ◌++◌, ◌+◌, ◌*◌, ℕ, List, map, drop, codes}
+use Rattle.std.proofs.Common.{◌≡◌, ◌++◌, ◌+◌, ◌*◌, ◌&&◌, ℕ, List, map, drop, codes}
 use Rattle.std.specs.List.{list_all}
 use Rattle.wave_wasm.specs.Shared.Commas.{enclosed}
 use Rattle.wave_wasm.specs.Commas.{behind_name}
@@ -7,7 +7,7 @@ use Rattle.wave_wasm.specs.Borrowed.{shown, shown_all}
 use Rattle.wave_wasm.specs.Values.{Value, maybe_value}
 use Rattle.wave_wasm.specs.Shared.Values.{depth, depth_of_maybe}
 use Rattle.wave_wasm.proofs.Writing.{Writing}
-use Rattle.wave_wasm.proofs.Sequence.{parted, depths}
+use Rattle.wave_wasm.proofs.Sequence.{parted, fronted, depths}
 use Rattle.wave_wasm.proofs.Trees.{fields_left}
 use Rattle.wave_wasm.proofs.writer.Writer.+write.Given as goal
 
@@ -36,7 +36,7 @@ abbrev pub decreases-write_map : goal.decreases-write_map
 decreases-write_map g l = 3 * depth (g.V.WasmValue.tree l.val.now) + 1
 
 abbrev pub decreases-write_items : goal.decreases-write_items
-decreases-write_items g l = 3 * depths depth (shown_all g.V.WasmValue.tree l.items.now.items) + 3
+decreases-write_items g l = 3 * depths depth (shown_all g.V.WasmValue.tree l.items.items) + 3
 
 abbrev pub decreases-write_payload : goal.decreases-write_payload
 decreases-write_payload g l = 3 * depth_of_maybe (maybe_value (shown g.V.WasmValue.tree l.payload)) + 3
@@ -45,8 +45,8 @@ abbrev pub invariant-write_items-loop-item : goal.invariant-write_items-loop-ite
 invariant-write_items-loop-item g l =
     let left = drop l.item-index l.item-items in
     record {
-      writing : Writing (enclosed l.opening (map text (shown_all g.V.WasmValue.tree l.items.items)) l.closing) (parted l.later (map (λ v. text (g.V.WasmValue.tree v.now)) left) ++ l.closing) (g.W.TextWrite.output l.fn.self) (g.W.TextWrite.output l.self);
-      writable : list_all (λ v. has_text (g.V.WasmValue.tree v.now)) left ≡ list_all has_text (shown_all g.V.WasmValue.tree l.items.items);
+      writing : Writing (enclosed l.opening (map text (shown_all g.V.WasmValue.tree l.fn.items.items)) l.closing) (fronted (map (λ v. text (g.V.WasmValue.tree v.now)) left) (text (g.V.WasmValue.tree l.last)) ++ l.closing) (g.W.TextWrite.output l.fn.self) (g.W.TextWrite.output l.self);
+      writable : (list_all (λ v. has_text (g.V.WasmValue.tree v.now)) left && has_text (g.V.WasmValue.tree l.last)) ≡ list_all has_text (shown_all g.V.WasmValue.tree l.fn.items.items);
     }
 
 abbrev pub invariant-write_record-loop-field : goal.invariant-write_record-loop-field
