@@ -3,3 +3,4 @@ pub mod Machines
 pub mod NameMachine
 pub mod Derive
 pub mod PartRuns
+pub mod Errors

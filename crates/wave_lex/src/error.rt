@@ -3,7 +3,7 @@ ghost use Rattle.std.specs.Prelude.{◌≡◌, None, Some, option_map};
 ghost use Rattle.std.specs.String.{string_bytes};
 ghost use Rattle.wave_wasm.specs.ValueErrors.{cause_of};
 ghost use Rattle.wave_lex.specs.Errors.{plainly, refused_by, kept, refusal_of, kind_words, error_text};
-ghost use Rattle.wave_lex.specs.Private.Errors.{detail_cause, detail_text};
+ghost use Rattle.wave_lex.specs.Shared.Errors.{detail_cause, detail_text};
 
 use crate::lex::Span;
 use std::fmt;
@@ -82,9 +82,9 @@ impl fmt::Display for ParserErrorKind {
     }
 }
 
-/// A word more on a refusal.
+/// A word more on a refusal. Users don't name it.
 #[derive(Debug, Drop)]
-enum Detail {
+pub enum Detail {
     /// No word more.
     None,
     /// Words that are written in the program.
@@ -119,7 +119,7 @@ impl Model for ParserError {
 
     ghost Value = { Diagnostic };
 
-    ghost use Rattle.wave_lex.specs.Private.Errors.{detail_cause, detail_text};
+    ghost use Rattle.wave_lex.specs.Shared.Errors.{detail_cause, detail_text};
 
     ghost view = { λ e.
         record { kind = e.kind; span = e.span; detail = detail_text e.detail; cause = detail_cause e.detail } };
@@ -171,14 +171,25 @@ impl ParserError {
         }
     }
 
-    /// A refusal of these parts.
-    fn with_parts(kind: ParserErrorKind, span: Span, detail: Detail) -> ParserError
+    /// A refusal of these parts. The cause isn't `Memory`, which `with_cause` tells by the kind.
+    pub fn with_parts(kind: ParserErrorKind, span: Span, detail: Detail) -> ParserError
         ensures kind { result.kind ≡ kind }
         ensures span { result.span ≡ span }
         ensures detail { result.detail ≡ detail_text detail }
         ensures cause { result.cause ≡ detail_cause detail }
     {
         ParserError { kind, span, detail }
+    }
+
+    /// The parts of the refusal.
+    pub fn into_parts(self) -> (ParserErrorKind, Span, Detail)
+        ensures kind { result.0 ≡ self.kind }
+        ensures span { result.1 ≡ self.span }
+        ensures detail { detail_text result.2 ≡ self.detail }
+        ensures cause { detail_cause result.2 ≡ self.cause }
+    {
+        let ParserError { kind, span, detail } = self;
+        (kind, span, detail)
     }
 
     /// The kind of the refusal.
