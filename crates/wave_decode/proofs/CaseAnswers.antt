@@ -1,7 +1,5 @@
 -- What is read of a case and its payload.
 use Rattle.std.proofs.Common.{ℕ, ◌≡◌, inl, inr, List, [], ◌∷◌, ◌++◌, length, Option, Some, None, option_map, Bor, Result, Err, IfOk, IfErr, refl, sym, ap, ◌∙◌, subst, arith}
-use Rattle.std.specs.declared.alloc.Global.{Global}
-use Rattle.std.specs.declared.boxed.Box.{Box}
 use Rattle.std.specs.declared.ops.Range.{Range}
 use Rattle.wave_wasm.specs.Types as type
 use Rattle.wave_wasm.specs.Types.{TypeTree, HasDistinctNames, kind_of, variant_parts}
@@ -47,7 +45,7 @@ module _ {S V : Type 0} (type_tree : S → TypeTree) (tree : V → Value) (of : 
   -- ---- the label
 
   -- no case has the name
-  pub unknown_doomed : (T : TypeTree) (source : List ℕ) (c : NodeTree) (name : List ℕ) (cause : Box WasmValueError Global) → kind_of T ≡ kinds.Variant → name ≡ name_of (node_text source c) → None ≡ look_up (variant_parts T) name → cause_of cause.value ≡ unknown_case name → IsDoomed tree of Full T source kind.VariantWithPayload (c ∷ []) (fault.Cause cause)
+  pub unknown_doomed : (T : TypeTree) (source : List ℕ) (c : NodeTree) (name : List ℕ) (cause : WasmValueError) → kind_of T ≡ kinds.Variant → name ≡ name_of (node_text source c) → None ≡ look_up (variant_parts T) name → cause_of cause ≡ unknown_case name → IsDoomed tree of Full T source kind.VariantWithPayload (c ∷ []) (fault.Cause cause)
   unknown_doomed T source c name cause is named missing caused = λ more p e tells.
       let variant = variant_type T is in
       let n = node kind.VariantWithPayload p (node_trees (c ∷ more)) in
@@ -60,7 +58,7 @@ module _ {S V : Type 0} (type_tree : S → TypeTree) (tree : V → Value) (of : 
       }
 
   -- the case of the name has no payload
-  pub unexpected_doomed : (T : TypeTree) (source : List ℕ) (c : NodeTree) (name : List ℕ) (cause : Box WasmValueError Global) → HasFullParts Full → kind_of T ≡ kinds.Variant → name ≡ name_of (node_text source c) → Some None ≡ look_up (variant_parts T) name → cause_of cause.value ≡ unexpected_payload name → IsDoomed tree of Full T source kind.VariantWithPayload (c ∷ []) (fault.Cause cause)
+  pub unexpected_doomed : (T : TypeTree) (source : List ℕ) (c : NodeTree) (name : List ℕ) (cause : WasmValueError) → HasFullParts Full → kind_of T ≡ kinds.Variant → name ≡ name_of (node_text source c) → Some None ≡ look_up (variant_parts T) name → cause_of cause ≡ unexpected_payload name → IsDoomed tree of Full T source kind.VariantWithPayload (c ∷ []) (fault.Cause cause)
   unexpected_doomed T source c name cause parts is named here caused = λ more p e tells.
       let variant = variant_type T is in
       let n = node kind.VariantWithPayload p (node_trees (c ∷ more)) in

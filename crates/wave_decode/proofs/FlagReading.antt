@@ -81,7 +81,7 @@ module _ {V : Type 0} (tree : V → Value) (of : V → TypeTree → Type 0) (Ful
   flags_refused T names flags source n picked cause (fault.Cause c) (Err e) caused kind is known found full ok named told =
       made_read T names flags source n picked (Err cause) (Err e) kind is known found tt full ok named (told.0 ∙ ap (λ (x : WasmValueError). refused_by (cause_of x)) caused, told.1)
   flags_refused T names flags source n picked cause (fault.Kind k) (Err e) caused kind is known found full ok named told =
-      no_memory tree of Full T source n e (subst (λ k. RefusedAs k n e) caused told)
+      no_memory tree of Full T source n e (subst (λ k. RefusedAs k n e) caused.0 told)
   flags_refused T names flags source n picked cause (fault.Told d) (Err e) caused kind is known found full ok named told = absurd caused
 
   -- a node that is neither flags nor `{}`

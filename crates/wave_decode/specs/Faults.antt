@@ -12,6 +12,7 @@ use Rattle.wave_syntax.specs.NodeTree.{NodeTree, node, node_trees, place_of}
 use Rattle.wave_syntax.specs.TypedReading.{IsMade}
 use Rattle.wave_syntax.specs.declared.form.NodeType.{NodeType}
 use Rattle.wave_leaf.specs.Reading.{IsReadAs}
+use Rattle.wave_leaf.specs.Failures.{HasTwoTexts}
 use Rattle.wave_decode.specs.declared.fault.Fault.{Fault}
 use Rattle.wave_decode.specs.declared.fault.Fault.TheVariants as fault
 
@@ -19,12 +20,12 @@ use Rattle.wave_decode.specs.declared.fault.Fault.TheVariants as fault
 abbrev pub Tells : Fault → Range ℕ → Diagnostic → Type 0
 Tells (fault.Told e) p f = f ≡ e
 Tells (fault.Kind k) p f = Says f k p None
-Tells (fault.Cause c) p f = (refusal_of f ≡ refused_by (cause_of c.value)) × (f.span ≡ p)
+Tells (fault.Cause c) p f = (refusal_of f ≡ refused_by (cause_of c)) × (f.span ≡ p)
 
--- the fault with this cause, or for lack of memory
+-- the fault with this cause; or, where it has two texts, for lack of memory
 abbrev pub IsFaultOf : WasmValueError → Fault → Type 0
-IsFaultOf cause (fault.Cause c) = c.value ≡ cause
-IsFaultOf cause (fault.Kind k) = k ≡ OutOfMemory
+IsFaultOf cause (fault.Cause c) = c ≡ cause
+IsFaultOf cause (fault.Kind k) = (k ≡ OutOfMemory) × HasTwoTexts cause
 IsFaultOf cause (fault.Told e) = ⊥
 
 -- at each node that stands there: the value that was made, or the refusal of its constructor

@@ -2,14 +2,13 @@
 ghost use Rattle.wave_decode.specs.Faults.{Tells, IsFaultOf, IsMadeAt};
 
 use std::alloc::Global;
-use std::boxed::Box;
+use wave_leaf::cause::SmallCause;
 use wave_leaf::failure::Failure;
 use wave_lex::error::{ParserError, ParserErrorKind};
 use wave_lex::lex::Span;
 use wave_wasm::wasm::WasmValueError;
 
-/// What is wrong with a value that has parts. A cause stands on the heap, so that what is kept of the
-/// parts is small.
+/// What is wrong with a value that has parts.
 #[derive(Drop)]
 pub enum Fault {
     /// This refusal of a part.
@@ -17,7 +16,7 @@ pub enum Fault {
     /// A refusal of this kind, of the whole value.
     Kind(ParserErrorKind),
     /// A refusal with this cause, of the whole value.
-    Cause(Box<WasmValueError>),
+    Cause(SmallCause),
 }
 
 impl Fault {
@@ -30,18 +29,18 @@ impl Fault {
         match self {
             Fault::Told(failure) => failure.into_error(),
             Fault::Kind(kind) => ParserError::new(kind, span),
-            Fault::Cause(cause) => ParserError::with_cause(span, Box::into_inner(cause)),
+            Fault::Cause(cause) => ParserError::with_cause(span, cause.into_cause()),
         }
     }
 }
 
-/// The fault with this cause; where there is no memory to keep it, out of memory.
+/// The fault with this cause; where there is no memory to keep one with two texts, out of memory.
 #[cold]
 #[inline(never)]
 pub(crate) fn caused(alloc: Global, cause: WasmValueError) -> Fault
     ensures { IsFaultOf cause result }
 {
-    match Box::new(alloc, cause) {
+    match SmallCause::new(alloc, cause) {
         Ok(cause) => Fault::Cause(cause),
         Err(_) => Fault::Kind(ParserErrorKind::OutOfMemory),
     }

@@ -119,7 +119,7 @@ impl<'ty, T, V> Fields<'ty, T, V> {
         ensures { IfOk result (λ found. MatchResult found (IsFieldKey self.now.fields.items ty text.now) (IsKeyFault self.now.fields.items ty span text.now)) }
     {
         if ty != NodeType::Label {
-            return Ok(Err(no_label(alloc, span)?));
+            return Ok(Err(no_label(span)));
         }
         let name = label_name(text);
         let Some(i) = self.place(name) else {
@@ -347,15 +347,14 @@ fn missing(alloc: Global, name: &str) -> WasmValueError
 /// What is wrong with a key that is no label, which stands here.
 #[cold]
 #[inline(never)]
-fn no_label(alloc: Global, span: Span) -> Result<Fault, AllocError>
-    ensures { IfOk result (IsToldAs InvalidType span field_label_due) }
+fn no_label(span: Span) -> Fault
+    ensures { IsToldAs InvalidType span field_label_due result }
 {
-    let error = ParserError::with_static(
+    Fault::Told(Failure::with_static(
         ParserErrorKind::InvalidType,
         span,
         "expected a record field label",
-    );
-    Ok(Fault::Told(Failure::told(alloc, error)?))
+    ))
 }
 
 /// What is wrong with a key that stands here, whose name an earlier one has.
@@ -365,6 +364,5 @@ fn repeated(alloc: Global, span: Span, name: &str) -> Result<Fault, AllocError>
     ensures { IfOk result (IsToldAs DuplicateField span (repeated_name name.now)) }
 {
     let detail = format!(in alloc; "\"{name}\"")?;
-    let error = ParserError::with_detail(ParserErrorKind::DuplicateField, span, detail);
-    Ok(Fault::Told(Failure::told(alloc, error)?))
+    Ok(Fault::Told(Failure::with_detail(ParserErrorKind::DuplicateField, span, detail)))
 }

@@ -15,8 +15,8 @@ ghost use Rattle.wave_leaf.specs.Reading.{IsReadOfLeaf};
 use crate::enums::no_case;
 use crate::fault::Fault;
 use std::alloc::{AllocError, Global};
-use std::boxed::Box;
 use wave_grammar::label::label_name;
+use wave_leaf::cause::SmallCause;
 use wave_leaf::failure::Failure;
 use wave_leaf::leaf::Leaf;
 use wave_lex::error::{ParserError, ParserErrorKind};
@@ -79,13 +79,11 @@ impl<'ty, V: WasmValue> CasePayload<'ty, V::Type, V> {
             }
             Some((_, None)) => {
                 let name = String::from_str(alloc, name)?;
-                let cause = Box::new(alloc, WasmValueError::UnexpectedPayload(name))?;
-                Ok(Some(Fault::Cause(cause)))
+                Ok(Some(Fault::Cause(SmallCause::UnexpectedPayload(name))))
             }
             None => {
                 let name = String::from_str(alloc, name)?;
-                let cause = Box::new(alloc, WasmValueError::UnknownCase(name))?;
-                Ok(Some(Fault::Cause(cause)))
+                Ok(Some(Fault::Cause(SmallCause::UnknownCase(name))))
             }
         }
     }

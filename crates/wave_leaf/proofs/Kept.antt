@@ -1,6 +1,6 @@
 -- What was read, its refusal kept.
 use Rattle.std.proofs.Common.{ℕ, ◌≡◌, ◌≢◌, inl, inr, List, Option, Some, None, Result, Ok, Err, ◌∙◌, refl, sym, ap, subst}
-use Rattle.std.specs.Prelude.{IfErr, option_map}
+use Rattle.std.specs.Prelude.{IfErr, IsSomeAnd, option_map}
 use Rattle.std.specs.declared.ops.Range.{Range}
 use Rattle.wave_wasm.specs.Types.{TypeTree}
 use Rattle.wave_wasm.specs.Values.{Value}
@@ -13,7 +13,7 @@ use Rattle.wave_syntax.specs.NodeTree.{NodeTree}
 use Rattle.wave_syntax.specs.ErrorSpans.{LiesInNode, IsTypeKind}
 use Rattle.wave_syntax.specs.Shared.ErrorSpans.{RefusesIn}
 use Rattle.wave_leaf.specs.Reading.{IsReadAs, IsReadWhereDue}
-use Rattle.wave_leaf.specs.Failures.{IsSameOrMemory, IsKept}
+use Rattle.wave_leaf.specs.Failures.{IsSameOrMemory, IsKept, HasTwoTexts}
 
 module _ {V : Type 0} (tree : V → Value) (of : V → TypeTree → Type 0) (Full : TypeTree → Type 0) (T : TypeTree) (source : List ℕ) (n : NodeTree) where
   -- out of memory at the place of a refusal is one too
@@ -34,15 +34,15 @@ module _ {V : Type 0} (tree : V → Value) (of : V → TypeTree → Type 0) (Ful
   kept_read (Ok v) (Err f) h same = absurd same
   kept_read (Err e) (Ok w) h same = absurd same
 
--- an error without detail and cause is kept as it is
-no_cause : (o : Option WasmValueError) → option_map cause_of o ≡ None → o ≡ None
-no_cause None none = refl
-no_cause (Some cause) none = absurd (cc)
+-- an error without a cause is kept as it is
+no_cause : (o : Option WasmValueError) → option_map cause_of o ≡ None → IsSomeAnd o HasTwoTexts → ⊥
+no_cause None none two = two
+no_cause (Some cause) none two = cc
 
 pub plainly_kept : {V : Type 0} (r s : Result V Diagnostic) (why : ParserErrorKind) (p : Range ℕ) → IfErr r (λ e. Says e why p None) → IsKept r s → IfErr s (λ e. Says e why p None)
 plainly_kept (Ok v) (Ok w) why p says same = tt
 plainly_kept (Err e) (Err f) why p says (inl same) = subst (λ (d : Diagnostic). Says d why p None) (sym same) says
-plainly_kept (Err e) (Err f) why p says (inr memory) = absurd (memory.2 says.tells (no_cause e.cause (ap (λ (r : Refusal). r.cause) says.is)))
+plainly_kept (Err e) (Err f) why p says (inr memory) = absurd (no_cause e.cause (ap (λ (r : Refusal). r.cause) says.is) memory.2)
 plainly_kept (Ok v) (Err f) why p says same = absurd same
 plainly_kept (Err e) (Ok w) why p says same = absurd same
 

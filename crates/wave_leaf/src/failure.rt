@@ -1,36 +1,41 @@
-//! Refusals of parts of a value.
-ghost use Rattle.std.specs.Prelude.{◌≡◌, IfOk, IfErr};
-ghost use Rattle.wave_leaf.specs.Failures.{IsSameOrMemory, IsKept, SaysMore, plain_failure};
+//! Refusals of parts of a value, in few bytes.
+ghost use Rattle.std.specs.Prelude.{◌≡◌, IfOk, IfErr, IsSomeAnd};
+ghost use Rattle.std.specs.String.{string_bytes};
+ghost use Rattle.wave_leaf.specs.Failures.{IsSameOrMemory, IsKept, HasTwoTexts, plain_failure, detailed};
 
+use crate::cause::SmallCause;
 use std::alloc::{AllocError, Global};
-use std::boxed::Box;
 use std::marker::Model;
-use wave_lex::error::{ParserError, ParserErrorKind};
+use wave_lex::error::{Detail, ParserError, ParserErrorKind};
 use wave_lex::lex::Span;
 
-/// A refusal of a value. What says more than its kind and its place stands on the heap, so that the
-/// answer of reading is as small for each value as it can be.
+/// A refusal of a value, so small that the answer of reading is as small for each value as it can be.
 #[derive(Drop)]
 pub struct Failure {
+    span: Span,
     told: Told,
 }
 
-/// What a failure says.
+/// What a failure says beside its place.
 #[derive(Drop)]
 enum Told {
-    /// Of this kind, here.
-    Plain(ParserErrorKind, Span),
-    /// With a detail or a cause.
-    Whole(Box<ParserError>),
+    /// Of this kind.
+    Plain(ParserErrorKind),
+    /// With a detail that is written in the program.
+    Static(ParserErrorKind, &'static str),
+    /// With a detail that was made for it.
+    Owned(ParserErrorKind, String),
+    /// With a cause.
+    Cause(ParserErrorKind, SmallCause),
 }
 
 impl Model for Failure {
     ghost use Rattle.wave_lex.specs.Errors.{Diagnostic};
-    ghost use Rattle.wave_leaf.specs.Failures.{told_of};
+    ghost use Rattle.wave_leaf.specs.Failures.{told_at};
 
     ghost Value = { Diagnostic };
 
-    ghost view = { λ f. told_of f.told };
+    ghost view = { λ f. told_at f.span f.told };
 }
 
 impl Failure {
@@ -39,11 +44,32 @@ impl Failure {
         ensures { result ≡ plain_failure kind span }
     {
         Failure {
-            told: Told::Plain(kind, span),
+            span,
+            told: Told::Plain(kind),
         }
     }
 
-    /// The error as a failure. Where there is no memory for its detail or its cause, that is the
+    /// A refusal of this kind, here, with a detail that is written in the program.
+    pub fn with_static(kind: ParserErrorKind, span: Span, detail: &'static str) -> Failure
+        ensures { result ≡ detailed kind span detail.now }
+    {
+        Failure {
+            span,
+            told: Told::Static(kind, detail),
+        }
+    }
+
+    /// A refusal of this kind, here, with a detail that was made for it.
+    pub fn with_detail(kind: ParserErrorKind, span: Span, detail: String) -> Failure
+        ensures { result ≡ detailed kind span (string_bytes detail) }
+    {
+        Failure {
+            span,
+            told: Told::Owned(kind, detail),
+        }
+    }
+
+    /// The error as a failure. Where there is no memory for a cause with two texts, that is the
     /// failure, at the same place.
     #[cold]
     #[inline(never)]
@@ -57,29 +83,33 @@ impl Failure {
         }
     }
 
-    /// The error as a failure. An error without detail and cause takes no memory.
+    /// The error as a failure. Only a cause with two texts takes memory.
     pub fn told(alloc: Global, error: ParserError) -> Result<Failure, AllocError>
         ensures same { IfOk result (λ failure. failure ≡ error) }
-        ensures memory { IfErr result (λ _. SaysMore error) }
+        ensures memory { IfErr result (λ _. IsSomeAnd error.cause HasTwoTexts) }
     {
-        if error.detail().is_none() && error.cause().is_none() {
-            return Ok(Failure::plain(error.kind(), error.span()));
-        }
-        let error = Box::new(alloc, error)?;
-        Ok(Failure {
-            told: Told::Whole(error),
-        })
+        let (kind, span, detail) = error.into_parts();
+        let told = match detail {
+            Detail::None => Told::Plain(kind),
+            Detail::Static(detail) => Told::Static(kind, detail),
+            Detail::Owned(detail) => Told::Owned(kind, detail),
+            Detail::Cause(cause) => Told::Cause(kind, SmallCause::new(alloc, cause)?),
+        };
+        Ok(Failure { span, told })
     }
 
     /// The failure as an error.
     pub fn into_error(self) -> ParserError
         ensures { result ≡ self }
     {
-        let Failure { told } = self;
-        match told {
-            Told::Plain(kind, span) => ParserError::new(kind, span),
-            Told::Whole(error) => Box::into_inner(error),
-        }
+        let Failure { span, told } = self;
+        let (kind, detail) = match told {
+            Told::Plain(kind) => (kind, Detail::None),
+            Told::Static(kind, detail) => (kind, Detail::Static(detail)),
+            Told::Owned(kind, detail) => (kind, Detail::Owned(detail)),
+            Told::Cause(kind, cause) => (kind, Detail::Cause(cause.into_cause())),
+        };
+        ParserError::with_parts(kind, span, detail)
     }
 }
 

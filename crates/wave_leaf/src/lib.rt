@@ -1,6 +1,7 @@
 //! What is made of values while they are parsed.
 #![tactic(auto)]
 
+pub mod cause;
 pub mod failure;
 mod keys;
 pub mod leaf;

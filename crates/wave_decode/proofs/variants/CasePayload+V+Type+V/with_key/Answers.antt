@@ -1,7 +1,8 @@
 use Rattle.std.proofs.Common.{ap, ◌∙◌, sym}
 use Rattle.wave_wasm.specs.Types.{variant_parts}
 use Rattle.wave_wasm.specs.Borrowed.{shown_cases}
-use Rattle.wave_wasm.specs.ValueErrors.{unknown_case, unexpected_payload, cause_of}
+use Rattle.wave_wasm.specs.ValueErrors.{unknown_case, unexpected_payload}
+use Rattle.wave_wasm.specs.declared.wasm.WasmValueError.TheVariants as error
 use Rattle.wave_grammar.specs.LeafTokens.{name_of}
 use Rattle.wave_syntax.specs.NodeTree.{node, no_nodes}
 use Rattle.wave_decode.proofs.CaseNodes.{looked_up}
@@ -10,14 +11,12 @@ use Rattle.wave_decode.proofs.variants.CasePayload+V+Type+V.with_key.Goals as go
 
 pub returns-in-Some-default-None : goal.returns-in-Some-default-None
 returns-in-Some-default-None g c = λ T source children here none h.
-    let cause = c.in_ok-cause-in-Some-default-None.cause in
     let parts = c.in_ok-cases.ensures ∙ ap variant_parts (sym h.ty) in
     let found = looked_up _ (shown_cases g.V.Type.WasmType.tree c.in_ok-cases.cases.items) (variant_parts T) c.label_name-name.result.now (rw c.in-Some-default-None.field-0-1-is at c.in-Some-default-None.ensures.payload) parts in
-    rw none (unexpected_doomed g.V.Type.WasmType.tree g.V.WasmValue.tree g.V.WasmValue.is_of g.V.WasmValue.is_full T source (node c.args.ty c.args.span no_nodes) c.label_name-name.result.now cause g.met.V.WasmValue.full_parts h.kind (c.label_name-name.ensures ∙ ap name_of here) found (ap cause_of c.in_ok-cause-in-Some-default-None.ensures.ok ∙ ap unexpected_payload c.in_ok-name-in-Some-default-None.ensures.ok))
+    rw none (unexpected_doomed g.V.Type.WasmType.tree g.V.WasmValue.tree g.V.WasmValue.is_of g.V.WasmValue.is_full T source (node c.args.ty c.args.span no_nodes) c.label_name-name.result.now (error.UnexpectedPayload c.in_ok-name-in-Some-default-None.name) g.met.V.WasmValue.full_parts h.kind (c.label_name-name.ensures ∙ ap name_of here) found (ap unexpected_payload c.in_ok-name-in-Some-default-None.ensures.ok))
 
 pub returns : goal.returns
 returns g c = λ T source children here none h.
-    let cause = c.in_ok-cause-in-None.cause in
     let parts = c.in_ok-cases.ensures ∙ ap variant_parts (sym h.ty) in
     let missing = looked_up _ (shown_cases g.V.Type.WasmType.tree c.in_ok-cases.cases.items) (variant_parts T) c.label_name-name.result.now c.in-None.ensures.payload parts in
-    rw none (unknown_doomed g.V.Type.WasmType.tree g.V.WasmValue.tree g.V.WasmValue.is_of g.V.WasmValue.is_full T source (node c.args.ty c.args.span no_nodes) c.label_name-name.result.now cause h.kind (c.label_name-name.ensures ∙ ap name_of here) missing (ap cause_of c.in_ok-cause-in-None.ensures.ok ∙ ap unknown_case c.in_ok-name-in-None.ensures.ok))
+    rw none (unknown_doomed g.V.Type.WasmType.tree g.V.WasmValue.tree g.V.WasmValue.is_of g.V.WasmValue.is_full T source (node c.args.ty c.args.span no_nodes) c.label_name-name.result.now (error.UnknownCase c.in_ok-name-in-None.name) h.kind (c.label_name-name.ensures ∙ ap name_of here) missing (ap unknown_case c.in_ok-name-in-None.ensures.ok))
