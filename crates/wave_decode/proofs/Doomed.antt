@@ -4,13 +4,15 @@ use Rattle.std.proofs.lemmas.List.{append_assoc, append-nil}
 use Rattle.std.specs.declared.ops.Range.{Range}
 use Rattle.wave_wasm.specs.Types.{TypeTree}
 use Rattle.wave_wasm.specs.Values.{Value}
+use Rattle.wave_wasm.specs.declared.wasm.WasmValueError.{WasmValueError}
 use Rattle.wave_lex.specs.Errors.{Diagnostic}
 use Rattle.wave_syntax.specs.NodeTree.{NodeTree, node, node_trees}
 use Rattle.wave_syntax.specs.declared.form.NodeType.{NodeType}
 use Rattle.wave_leaf.specs.Reading.{IsReadAs}
+use Rattle.wave_leaf.specs.Causes.{HasTwoTexts}
 use Rattle.wave_decode.specs.declared.fault.Fault.{Fault}
 use Rattle.wave_decode.specs.declared.fault.Fault.TheVariants as fault
-use Rattle.wave_decode.specs.Faults.{Tells, IsDoomed}
+use Rattle.wave_decode.specs.Faults.{Tells, IsFaultOf, IsDoomed}
 
 module _ {V : Type 0} (tree : V → Value) (of : V → TypeTree → Type 0) (Full : TypeTree → Type 0) where
   -- the refusal of a part is that of the whole
@@ -27,3 +29,9 @@ module _ {V : Type 0} (tree : V → Value) (of : V → TypeTree → Type 0) (Ful
   pub told : (T : TypeTree) (source : List ℕ) (ty : NodeType) (children : List NodeTree) (f : Fault) (p : Range ℕ) (e : Diagnostic) → IsDoomed tree of Full T source ty children f → Tells f p e → IsReadAs tree of Full T source (node ty p (node_trees children)) (Err e)
   told T source ty children f p e doomed tells =
       subst (λ (ns : List NodeTree). IsReadAs tree of Full T source (node ty p (node_trees ns)) (Err e)) (append-nil children) (doomed [] p e tells)
+
+  -- the fault with this cause, which has no two texts
+  pub caused_dooms : (T : TypeTree) (source : List ℕ) (ty : NodeType) (children : List NodeTree) (cause : WasmValueError) (f : Fault) → (HasTwoTexts cause → ⊥) → IsFaultOf cause f → IsDoomed tree of Full T source ty children (fault.Cause cause) → IsDoomed tree of Full T source ty children f
+  caused_dooms T source ty children cause (fault.Cause c) one same doomed = subst (λ (x : WasmValueError). IsDoomed tree of Full T source ty children (fault.Cause x)) (sym same) doomed
+  caused_dooms T source ty children cause (fault.Kind k) one memory doomed = absurd (one memory.1)
+  caused_dooms T source ty children cause (fault.Told e) one none doomed = absurd none

@@ -12,7 +12,7 @@ use Rattle.wave_syntax.specs.NodeTree.{NodeTree, node, node_trees, place_of}
 use Rattle.wave_syntax.specs.TypedReading.{IsMade}
 use Rattle.wave_syntax.specs.declared.form.NodeType.{NodeType}
 use Rattle.wave_leaf.specs.Reading.{IsReadAs}
-use Rattle.wave_leaf.specs.Failures.{HasTwoTexts}
+use Rattle.wave_leaf.specs.Causes.{HasTwoTexts}
 use Rattle.wave_decode.specs.declared.fault.Fault.{Fault}
 use Rattle.wave_decode.specs.declared.fault.Fault.TheVariants as fault
 

@@ -13,10 +13,9 @@ ghost use Rattle.wave_decode.specs.NamedFlags.{flag_names, IsReadOrTold, IsTold,
 use crate::fault::{Fault, caused};
 use std::alloc::Global;
 use std::collections::BTreeMap;
-use wave_leaf::cause::SmallCause;
 use wave_lex::error::{ParserError, ParserErrorKind};
 use wave_lex::lex::Span;
-use wave_wasm::wasm::{WasmType, WasmTypeKind, WasmValue};
+use wave_wasm::wasm::{WasmType, WasmTypeKind, WasmValue, WasmValueError};
 
 /// Up to this many flags are looked for among the type's names. Past that, taking them from a map costs
 /// less.
@@ -179,7 +178,7 @@ fn unknown(alloc: Global, name: &str) -> Fault
     ensures { TellsCause (unknown_case name.now) result }
 {
     match String::from_str(alloc, name) {
-        Ok(name) => Fault::Cause(SmallCause::UnknownCase(name)),
+        Ok(name) => caused(alloc, WasmValueError::UnknownCase(name)),
         Err(_) => Fault::Kind(ParserErrorKind::OutOfMemory),
     }
 }

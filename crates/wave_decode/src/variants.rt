@@ -13,10 +13,9 @@ ghost use Rattle.wave_decode.specs.PartSteps.{AddsKey, AddsPart, IsWholeOf};
 ghost use Rattle.wave_leaf.specs.Reading.{IsReadOfLeaf};
 
 use crate::enums::no_case;
-use crate::fault::Fault;
+use crate::fault::{Fault, caused};
 use std::alloc::{AllocError, Global};
 use wave_grammar::label::label_name;
-use wave_leaf::cause::SmallCause;
 use wave_leaf::failure::Failure;
 use wave_leaf::leaf::Leaf;
 use wave_lex::error::{ParserError, ParserErrorKind};
@@ -79,11 +78,13 @@ impl<'ty, V: WasmValue> CasePayload<'ty, V::Type, V> {
             }
             Some((_, None)) => {
                 let name = String::from_str(alloc, name)?;
-                Ok(Some(Fault::Cause(SmallCause::UnexpectedPayload(name))))
+                let cause = WasmValueError::UnexpectedPayload(name);
+                Ok(Some(caused(alloc, cause)))
             }
             None => {
                 let name = String::from_str(alloc, name)?;
-                Ok(Some(Fault::Cause(SmallCause::UnknownCase(name))))
+                let cause = WasmValueError::UnknownCase(name);
+                Ok(Some(caused(alloc, cause)))
             }
         }
     }

@@ -1,5 +1,5 @@
 -- What was read, its refusal kept.
-use Rattle.std.proofs.Common.{ℕ, ◌≡◌, ◌≢◌, inl, inr, List, Option, Some, None, Result, Ok, Err, ◌∙◌, refl, sym, ap, subst}
+use Rattle.std.proofs.Common.{ℕ, ◌≡◌, ◌≢◌, inl, inr, List, Option, Some, None, Result, Ok, Err, ◌∙◌, sym, ap, subst}
 use Rattle.std.specs.Prelude.{IfErr, IsSomeAnd, option_map}
 use Rattle.std.specs.declared.ops.Range.{Range}
 use Rattle.wave_wasm.specs.Types.{TypeTree}
@@ -13,7 +13,8 @@ use Rattle.wave_syntax.specs.NodeTree.{NodeTree}
 use Rattle.wave_syntax.specs.ErrorSpans.{LiesInNode, IsTypeKind}
 use Rattle.wave_syntax.specs.Shared.ErrorSpans.{RefusesIn}
 use Rattle.wave_leaf.specs.Reading.{IsReadAs, IsReadWhereDue}
-use Rattle.wave_leaf.specs.Failures.{IsSameOrMemory, IsKept, HasTwoTexts}
+use Rattle.wave_leaf.specs.Failures.{IsSameOrMemory, IsKept}
+use Rattle.wave_leaf.specs.Causes.{HasTwoTexts}
 
 module _ {V : Type 0} (tree : V → Value) (of : V → TypeTree → Type 0) (Full : TypeTree → Type 0) (T : TypeTree) (source : List ℕ) (n : NodeTree) where
   -- out of memory at the place of a refusal is one too

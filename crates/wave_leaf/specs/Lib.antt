@@ -1,3 +1,4 @@
+pub mod Causes
 pub mod Failures
 pub mod Keys
 pub mod Leaves

@@ -1,7 +1,8 @@
 //! Refusals of parts of a value, in few bytes.
 ghost use Rattle.std.specs.Prelude.{◌≡◌, IfOk, IfErr, IsSomeAnd};
 ghost use Rattle.std.specs.String.{string_bytes};
-ghost use Rattle.wave_leaf.specs.Failures.{IsSameOrMemory, IsKept, HasTwoTexts, plain_failure, detailed};
+ghost use Rattle.wave_leaf.specs.Causes.{HasTwoTexts};
+ghost use Rattle.wave_leaf.specs.Failures.{IsSameOrMemory, IsKept, plain_failure, detailed};
 
 use crate::cause::SmallCause;
 use std::alloc::{AllocError, Global};
