@@ -1,5 +1,5 @@
 -- Leaves and flags at types that take neither.
-use Rattle.std.proofs.Common.{ℕ, ◌≡◌, ◌≢◌, ◌⊎◌, inl, inr, List, [], ◌∷◌, Bool, true, false, Err, refl, ◌∙◌, sym, subst}
+use Rattle.std.proofs.Common.{ℕ, ◌≡◌, ◌≢◌, ◌⊎◌, inl, inr, List, Bool, true, false, Err, refl, ◌∙◌, sym, subst}
 use Rattle.wave_wasm.specs.Types as type
 use Rattle.wave_wasm.specs.Types.{TypeTree, kind_of}
 use Rattle.wave_wasm.specs.Values.{Value}

@@ -2,17 +2,17 @@
 use Rattle.std.specs.Prelude.{codes}
 use Rattle.std.proofs.Common.{◌≡◌, ℕ, ◌<◌, ◌+◌, ◌-◌, Some, Ok, List, length, refl, sym, ap, subst, ◌∙◌, inl, inr, arith}
 use Rattle.wave_lex.specs.declared.lex.Token as lex
-use Rattle.wave_lex.specs.declared.lex.Token.TheVariants.{Number, LabelOrKeyword, Char, String, MultilineString}
-use Rattle.wave_grammar.specs.ParserPosition.{Place, TakesItem, span_at, text_at}
+use Rattle.wave_lex.specs.declared.lex.Token.TheVariants.{BraceClose, ParenClose, BracketClose, Colon, Comma, Number, LabelOrKeyword, Char, String, MultilineString}
+use Rattle.wave_grammar.specs.ParserPosition.{Place, TakesItem, span_at, text_at, token_of}
 use Rattle.wave_grammar.specs.Tree.{Word, word_of, leaf_word, none_word}
-use Rattle.wave_grammar.specs.PrefixAutomaton.{Due, Form, due_behind, value, behind_value}
+use Rattle.wave_grammar.specs.PrefixAutomaton.{Due, Form, due_behind, value, behind_value, value_step, unexpected}
 use Rattle.wave_grammar.specs.SyntaxErrors.{LeadsBehindValue}
 use Rattle.wave_syntax.specs.NodeParts.{IsOneToken}
 use Rattle.wave_syntax.specs.NodeTree.{node, no_nodes}
 use Rattle.wave_syntax.specs.declared.form.NodeType.{NodeType}
 use Rattle.wave_syntax.specs.declared.form.NodeType.TheVariants as kind
 use Rattle.wave_tree.specs.ParsedNodes.{IsParsed}
-use Rattle.wave_tree.specs.Private.ParserState.{IsAlone, IsAloneWord}
+use Rattle.wave_tree.specs.Private.ParserState.{IsAlone, IsAloneWord, BeginsNothing}
 use Rattle.wave_tree.proofs.NodeCorrectness.Items.{same_level, leaf_tied, number_word_tied, none_tied}
 use Rattle.wave_tree.proofs.NodeCorrectness.Tokens.{number_parsed, char_parsed, string_parsed, multiline_parsed}
 use Rattle.wave_tree.proofs.ParserSteps.{value_read, read_there}
@@ -67,3 +67,12 @@ alone_led n s p q String ty l h e = read_there (value_read n behind_value s s p 
 alone_led n s p q MultilineString ty l h e = read_there (value_read n behind_value s s p q MultilineString MultilineString l h refl refl) (inl refl)
 alone_led n s p q LabelOrKeyword ty l h w = read_there (value_read n (due_behind (word_of (text_at q))) s s p q LabelOrKeyword LabelOrKeyword l h refl refl) (inl (word_behind ty (text_at q) w))
 alone_led n s p q _ ty l h w = absurd w
+
+-- no value begins with such a token
+pub nothing_begins : (s : List Form) (c : lex.Token) (text : List ℕ) → BeginsNothing c → value_step s (token_of c text) ≡ unexpected
+nothing_begins s BraceClose text h = refl
+nothing_begins s ParenClose text h = refl
+nothing_begins s BracketClose text h = refl
+nothing_begins s Colon text h = refl
+nothing_begins s Comma text h = refl
+nothing_begins s _ text h = absurd h

@@ -285,17 +285,6 @@ pub value_read : (n : ℕ) (d : Due) (s v : List Form) (p q : Place) (c e : lex.
 value_read n d s v p q c e l h same x =
     then_token (token_of c (text_at q)) (here n value s p) (token_there p q c h) (level_open n s (token_of c (text_at q)) l ∙ (ap (λ z. value_step s (token_of z (text_at q))) same ∙ x))
 
-pub no_value : (s : List Form) (c : lex.Token) (text : List ℕ) → c ≢ ParenOpen → c ≢ BracketOpen → c ≢ BraceOpen → c ≢ Number → c ≢ LabelOrKeyword → c ≢ Char → c ≢ String → c ≢ MultilineString → value_step s (token_of c text) ≡ unexpected
-no_value s BraceOpen text a b e f g h i j = absurd (e refl)
-no_value s ParenOpen text a b e f g h i j = absurd (a refl)
-no_value s BracketOpen text a b e f g h i j = absurd (b refl)
-no_value s Number text a b e f g h i j = absurd (f refl)
-no_value s LabelOrKeyword text a b e f g h i j = absurd (g refl)
-no_value s Char text a b e f g h i j = absurd (h refl)
-no_value s String text a b e f g h i j = absurd (i refl)
-no_value s MultilineString text a b e f g h i j = absurd (j refl)
-no_value s _ text a b e f g h i j = refl
-
 pub paren_class : (c : lex.Token) (text : List ℕ) → is_paren (token_of c text) ≡ true → c ≡ ParenOpen
 paren_class ParenOpen text e = refl
 paren_class _ text e = cc

@@ -3,8 +3,7 @@ ghost use Rattle.std.specs.Prelude.{◌≡◌, ℕ, ◌+◌, ◌-◌, ◌++◌, 
 ghost use Rattle.wave_lex.specs.declared.lex.Token.TheVariants as lex_class;
 ghost use Rattle.wave_lex.specs.declared.error.ParserErrorKind.TheVariants as kind;
 ghost use Rattle.wave_grammar.specs.ParserPosition.{Place, TakesItem, span_at, text_at};
-ghost use Rattle.wave_grammar.specs.Tree.{word_of};
-ghost use Rattle.wave_grammar.specs.PrefixAutomaton.{due_behind};
+ghost use Rattle.wave_grammar.specs.Tree.{word_of, some_word};
 ghost use Rattle.wave_grammar.specs.PrefixAutomaton as due;
 ghost use Rattle.wave_grammar.specs.Shared.SyntaxErrors.{GivesWithin, GivesAnywhere};
 ghost use Rattle.wave_lex.specs.Tokenization.{span};
@@ -15,11 +14,11 @@ ghost use Rattle.wave_syntax.specs.NodeTree.{NodeTree, node, no_nodes};
 ghost use Rattle.wave_syntax.specs.declared.form.NodeType.TheVariants as node_type;
 ghost use Rattle.wave_tree.specs.ParsedNodes.{IsParsed, IsBuilt, TakesClass};
 ghost use Rattle.wave_tree.specs.Private.ParsedNodes.{IsParsedBehind, IsOfPayload, IsMaybe, IsPayload, IsOfItems, IsOfEntries, IsOfFlags, label_children};
-ghost use Rattle.wave_tree.specs.Private.ParserState.{AsksFor, WantsOnly};
+ghost use Rattle.wave_tree.specs.Private.ParserState.{AsksFor, IsFront, WantsOnly};
 
 use crate::ast::NodeType;
 use crate::refusal::Refusal;
-use crate::role::{LabelRole, alone_type, key_type, role_of};
+use crate::role::{Front, front_of, key_type};
 use crate::tokens::Tokens;
 use std::alloc::Global;
 use std::collections::BTreeMap;
@@ -44,7 +43,8 @@ impl<'source> Tokens<'source> {
             return self.refuse_depth();
         }
         let token = self.advance()?;
-        self.parse_behind(alloc, builder, levels, token)
+        let front = front_of(token, self.slice());
+        self.parse_behind(alloc, builder, levels, token, front)
     }
 
     /// Reads a part of a value, and adds it to the parts. What is made of one token is added where it
@@ -70,17 +70,19 @@ impl<'source> Tokens<'source> {
             return self.refuse_depth();
         }
         let token = self.advance()?;
+        let front = front_of(token, self.slice());
         let part = builder.part(parts);
-        if let Some(ty) = alone_type(token, self.slice()) {
+        if let Front::Alone(ty) = front {
             let made = self.leaf_here(alloc, part, ty);
             return self.with_part(alloc, builder, parts, made);
         }
-        let made = self.parse_behind(alloc, part, levels, token)?;
+        let made = self.parse_behind(alloc, part, levels, token, front)?;
         self.with_part(alloc, builder, parts, made)
     }
 
-    /// Reads what stands after the first token of a value, which is of this class. Each level of a value
-    /// takes such a call, so what it calls isn't inlined, and its frame stays small.
+    /// Reads what stands after the first token of a value, which is of this class and begins a value so.
+    /// Each level of a value takes such a call, so what it calls isn't inlined, and its frame stays
+    /// small.
     #[cycle(parser)]
     fn parse_behind<P: Builder>(
         &mut self,
@@ -88,75 +90,66 @@ impl<'source> Tokens<'source> {
         builder: P,
         levels: u32,
         token: Token,
+        front: Front,
     ) -> Result<P::Made, Refusal>
-        requires { 0 < levels }
+        requires levels { 0 < levels }
+        requires front { IsFront token (text_at self.old.place) front }
         ensures led { (first : Place) → TakesClass token first self.old.place → GivesWithin result levels due.value [] first self.new.place }
         ensures tree { IfOk result (IsBuilt (P.is_made builder) self.old.place (IsParsedBehind token levels self.old.place self.new.place)) }
         ensures memory { (first : Place) → TakesClass token first self.old.place → IfErr result (WantsOnly (P.takes_memory builder) first) }
         ensures asks { AsksFor self.old self.new }
     {
-        match token {
-            Token::Number => Ok(self.leaf(alloc, builder, NodeType::Number)),
-            Token::Char => Ok(self.leaf(alloc, builder, NodeType::Char)),
-            Token::String => Ok(self.leaf(alloc, builder, NodeType::String)),
-            Token::MultilineString => Ok(self.leaf(alloc, builder, NodeType::MultilineString)),
-            Token::LabelOrKeyword => self.parse_label(alloc, builder, levels - 1),
-            Token::ParenOpen => self.parse_items(alloc, builder, levels - 1, Token::ParenClose),
-            Token::BracketOpen => self.parse_items(alloc, builder, levels - 1, Token::BracketClose),
-            Token::BraceOpen => self.parse_braces(alloc, builder, levels - 1),
-            _ => self.refuse_token(token),
+        match front {
+            Front::Alone(ty) => Ok(self.leaf(alloc, builder, ty)),
+            Front::Some => self.parse_some(alloc, builder, levels - 1),
+            Front::Ok => self.parse_maybe(
+                alloc,
+                builder,
+                levels - 1,
+                NodeType::ResultOk,
+                NodeType::ResultOk,
+            ),
+            Front::Err => self.parse_maybe(
+                alloc,
+                builder,
+                levels - 1,
+                NodeType::ResultErr,
+                NodeType::ResultErr,
+            ),
+            Front::Case => self.parse_maybe(
+                alloc,
+                builder,
+                levels - 1,
+                NodeType::Label,
+                NodeType::VariantWithPayload,
+            ),
+            Front::Paren => self.parse_items(alloc, builder, levels - 1, Token::ParenClose),
+            Front::Bracket => self.parse_items(alloc, builder, levels - 1, Token::BracketClose),
+            Front::Brace => self.parse_braces(alloc, builder, levels - 1),
+            Front::Nothing => self.refuse_token(token),
         }
     }
 
-    /// Reads what stands after a label that is due to be a value.
+    /// Reads the payload after `some`.
     #[cycle(parser)]
     #[inline(never)]
-    fn parse_label<P: Builder>(
+    fn parse_some<P: Builder>(
         &mut self,
         alloc: Global,
         builder: P,
         levels: u32,
     ) -> Result<P::Made, Refusal>
-        ensures led { let d = due_behind (word_of (text_at self.old.place)) in
-            GivesWithin result (levels + 1) d [] self.old.place self.new.place }
+        requires { word_of (text_at self.old.place) ≡ some_word }
+        ensures led { GivesWithin result (levels + 1) due.paren [] self.old.place self.new.place }
         ensures tree { IfOk result (IsBuilt (P.is_made builder) self.old.place
             (IsParsedBehind lex_class.LabelOrKeyword (levels + 1) self.old.place self.new.place)) }
         ensures memory { IfErr result (WantsOnly (P.takes_memory builder) self.old.place) }
         ensures asks { AsksFor self.old self.new }
     {
-        match role_of(self.slice()) {
-            LabelRole::True => Ok(self.leaf(alloc, builder, NodeType::BoolTrue)),
-            LabelRole::False => Ok(self.leaf(alloc, builder, NodeType::BoolFalse)),
-            LabelRole::Number => Ok(self.leaf(alloc, builder, NodeType::Number)),
-            LabelRole::None => Ok(self.leaf(alloc, builder, NodeType::OptionNone)),
-            LabelRole::Some => {
-                let start = self.span().start;
-                self.expect(Token::ParenOpen)?;
-                let parts = builder.parts(alloc, NodeType::OptionSome);
-                self.parse_payload(alloc, builder, levels, NodeType::OptionSome, start, parts)
-            }
-            LabelRole::Ok => self.parse_maybe(
-                alloc,
-                builder,
-                levels,
-                NodeType::ResultOk,
-                NodeType::ResultOk,
-            ),
-            LabelRole::Err => self.parse_maybe(
-                alloc,
-                builder,
-                levels,
-                NodeType::ResultErr,
-                NodeType::ResultErr,
-            ),
-            LabelRole::Case => self.parse_maybe(
-                alloc,
-                builder,
-                levels,
-                NodeType::Label,
-                NodeType::VariantWithPayload,
-            ),
-        }
+        let start = self.span().start;
+        self.expect(Token::ParenOpen)?;
+        let parts = builder.parts(alloc, NodeType::OptionSome);
+        self.parse_payload(alloc, builder, levels, NodeType::OptionSome, start, parts)
     }
 
     /// Reads the payload after a label, where an open parenthesis stands there.

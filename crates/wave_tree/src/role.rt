@@ -1,69 +1,74 @@
-//! What labels and tokens are to the parser.
-ghost use Rattle.std.specs.Prelude.{◌≡◌, IfSome, MatchOption};
-ghost use Rattle.wave_grammar.specs.Tree.{word_of};
+//! What tokens are to the parser.
+ghost use Rattle.std.specs.Prelude.{◌≡◌, MatchOption};
+ghost use Rattle.wave_lex.specs.declared.lex.Token.TheVariants.{LabelOrKeyword};
 ghost use Rattle.wave_grammar.specs.Shared.TokenRoles.{IsKeyClass};
 ghost use Rattle.wave_tree.specs.Private.ParsedNodes.{key_node_type};
-ghost use Rattle.wave_tree.specs.Private.ParserState.{spec_word, HasText, IsAlone};
+ghost use Rattle.wave_tree.specs.Private.ParserState.{IsFront};
 
 use crate::ast::NodeType;
 use wave_lex::lex::Token;
 
-/// What a label is that stands where a value is due.
+/// What a value begins with.
 #[derive(Clone, Copy)]
-pub(crate) enum LabelRole {
-    True,
-    False,
-    Number,
-    None,
+pub(crate) enum Front {
+    /// A value on its own, whatever stands after it. Its node has this type.
+    Alone(NodeType),
+    /// `some`
     Some,
+    /// `ok`
     Ok,
+    /// `err`
     Err,
+    /// The label of a case.
     Case,
+    /// `(`
+    Paren,
+    /// `[`
+    Bracket,
+    /// `{`
+    Brace,
+    /// No value begins so.
+    Nothing,
 }
 
-/// What the label of this text is, where a value is due.
-pub(crate) fn role_of(text: &str) -> LabelRole
-    ensures word { spec_word result ≡ word_of text.now }
-    ensures text { HasText result text.now }
+/// What a value begins with whose first token has this class and text.
+#[inline(always)]
+pub(crate) fn front_of(token: Token, text: &str) -> Front
+    ensures { IsFront token text.now result }
 {
-    if text == "true" {
-        LabelRole::True
-    } else if text == "false" {
-        LabelRole::False
-    } else if text == "inf" || text == "nan" {
-        LabelRole::Number
-    } else if text == "none" {
-        LabelRole::None
-    } else if text == "some" {
-        LabelRole::Some
-    } else if text == "ok" {
-        LabelRole::Ok
-    } else if text == "err" {
-        LabelRole::Err
-    } else {
-        LabelRole::Case
+    match token {
+        Token::Number => Front::Alone(NodeType::Number),
+        Token::Char => Front::Alone(NodeType::Char),
+        Token::String => Front::Alone(NodeType::String),
+        Token::MultilineString => Front::Alone(NodeType::MultilineString),
+        Token::LabelOrKeyword => label_front(text),
+        Token::ParenOpen => Front::Paren,
+        Token::BracketOpen => Front::Bracket,
+        Token::BraceOpen => Front::Brace,
+        _ => Front::Nothing,
     }
 }
 
-/// The type of the node of a token of this class and text, where that is a value on its own, whatever
-/// stands after it.
-#[inline(always)]
-pub(crate) fn alone_type(token: Token, text: &str) -> Option<NodeType>
-    ensures { IfSome result (IsAlone token text.now) }
+/// What a value begins with whose first token is the label of this text.
+fn label_front(text: &str) -> Front
+    ensures { IsFront LabelOrKeyword text.now result }
 {
-    match token {
-        Token::Number => Some(NodeType::Number),
-        Token::Char => Some(NodeType::Char),
-        Token::String => Some(NodeType::String),
-        Token::MultilineString => Some(NodeType::MultilineString),
-        Token::LabelOrKeyword => match role_of(text) {
-            LabelRole::True => Some(NodeType::BoolTrue),
-            LabelRole::False => Some(NodeType::BoolFalse),
-            LabelRole::Number => Some(NodeType::Number),
-            LabelRole::None => Some(NodeType::OptionNone),
-            _ => None,
-        },
-        _ => None,
+    if text == "true" {
+        Front::Alone(NodeType::BoolTrue)
+    } else if text == "false" {
+        Front::Alone(NodeType::BoolFalse)
+    } else if text == "inf" || text == "nan" {
+        Front::Alone(NodeType::Number)
+    } else if text == "none" {
+        Front::Alone(NodeType::OptionNone)
+    } else if text == "some" {
+        Front::Some
+    } else if text == "ok" {
+        Front::Ok
+    } else if text == "err" {
+        Front::Err
+    } else {
+        Front::Case
     }
 }
 

@@ -10,8 +10,8 @@ use Rattle.wave_grammar.specs.Tree.{Word, leaf_word, none_word, some_word, ok_wo
 use Rattle.wave_grammar.specs.ParserPosition.{Place, Item, TakesItem, span_at}
 use Rattle.wave_tree.specs.declared.item.Item.{Item as Kept}
 use Rattle.wave_tree.specs.declared.item.Item.TheVariants as kept
-use Rattle.wave_tree.specs.declared.role.LabelRole as code
-use Rattle.wave_tree.specs.declared.role.LabelRole.TheVariants as word
+use Rattle.wave_tree.specs.declared.role.Front.{Front}
+use Rattle.wave_tree.specs.declared.role.Front.TheVariants as front
 use Rattle.wave_lex.specs.declared.lex.Token.TheVariants as class
 use Rattle.wave_syntax.specs.declared.form.NodeType.{NodeType}
 use Rattle.wave_syntax.specs.declared.form.NodeType.TheVariants as kind
@@ -75,24 +75,6 @@ abbrev pub Expects : lex.Token → Result (Unit {0}) Diagnostic → Place → Pl
 Expects class (Ok u) old new = TakesItem old (Some (Ok class)) new
 Expects class (Err e) old new = Fails (λ c. c ≡ class) e old new
 
--- what a word is in the untyped grammar
-abbrev pub spec_word : code.LabelRole → Word
-spec_word word.True = leaf_word
-spec_word word.False = leaf_word
-spec_word word.Number = leaf_word
-spec_word word.None = none_word
-spec_word word.Some = some_word
-spec_word word.Ok = ok_word
-spec_word word.Err = err_word
-spec_word word.Case = case_word
-
--- the texts of the words of bools and numbers
-abbrev pub HasText : code.LabelRole → List ℕ → Type 0
-HasText word.True text = text ≡ codes "true"
-HasText word.False text = text ≡ codes "false"
-HasText word.Number text = is_one_of (codes "inf" ∷ codes "nan" ∷ []) text ≡ true
-HasText _ text = Unit {0}
-
 -- a word of this text is a value on its own, and this is the type of its node
 abbrev pub IsAloneWord : NodeType → List ℕ → Type 0
 IsAloneWord kind.BoolTrue text = (word_of text ≡ leaf_word) × (text ≡ codes "true")
@@ -109,3 +91,27 @@ IsAlone class.String text ty = ty ≡ kind.String
 IsAlone class.MultilineString text ty = ty ≡ kind.MultilineString
 IsAlone class.LabelOrKeyword text ty = IsAloneWord ty text
 IsAlone _ text ty = ⊥
+
+-- no value begins with a token of this class
+abbrev pub BeginsNothing : lex.Token → Type 0
+BeginsNothing class.Number = ⊥
+BeginsNothing class.Char = ⊥
+BeginsNothing class.String = ⊥
+BeginsNothing class.MultilineString = ⊥
+BeginsNothing class.LabelOrKeyword = ⊥
+BeginsNothing class.ParenOpen = ⊥
+BeginsNothing class.BracketOpen = ⊥
+BeginsNothing class.BraceOpen = ⊥
+BeginsNothing _ = Unit {0}
+
+-- a value whose first token has this class and text begins so
+abbrev pub IsFront : lex.Token → List ℕ → Front → Type 0
+IsFront c text (front.Alone ty) = IsAlone c text ty
+IsFront c text front.Some = (c ≡ class.LabelOrKeyword) × (word_of text ≡ some_word)
+IsFront c text front.Ok = (c ≡ class.LabelOrKeyword) × (word_of text ≡ ok_word)
+IsFront c text front.Err = (c ≡ class.LabelOrKeyword) × (word_of text ≡ err_word)
+IsFront c text front.Case = (c ≡ class.LabelOrKeyword) × (word_of text ≡ case_word)
+IsFront c text front.Paren = c ≡ class.ParenOpen
+IsFront c text front.Bracket = c ≡ class.BracketOpen
+IsFront c text front.Brace = c ≡ class.BraceOpen
+IsFront c text front.Nothing = BeginsNothing c

@@ -10,11 +10,11 @@ use Rattle.wave_grammar.specs.PrefixAutomaton as due
 use Rattle.wave_grammar.specs.SyntaxErrors.{Gives, IsBehind, LeadsBehindValue}
 use Rattle.std.specs.declared.ops.Range.{Range}
 use Rattle.wave_grammar.specs.Shared.TokenRoles.{form_of, IsClose}
-use Rattle.wave_tree.specs.Private.ParserState.{spec_word}
 use Rattle.wave_lex.specs.declared.error.ParserErrorKind.TheVariants as because
-use Rattle.wave_tree.proofs.ParserSteps.{gives_or_memory, no_level, refuses_there, kind_is, here, here_is, handed, gives_then, fails, any_token, shallow, value_read, no_value, level_open, read_there, unexpected_there, no_paren, then_token, token_there, behind_bare, reached, fails_behind, then_behind, payload_other, unexpected_behind, expected, untrue, moved, then_class, then_behind_class, range_path, close_first, close_empty, close_next, then_same, then_refuses, item_refuses, item_read, then_reached, Reached, IsItemDue, no_close, empty_there, key_reads, no_key, brace_key, entries_other, close_behind, comma_behind, other_behind, token_less, tokens_less, left_at, no_colon, no_brace}
-use Rattle.wave_tree.specs.declared.role.LabelRole.{LabelRole}
-use Rattle.wave_tree.specs.Private.ParserState.{Stream, AsksFor, HasText, IsAlone}
+use Rattle.wave_tree.proofs.ParserSteps.{gives_or_memory, no_level, refuses_there, kind_is, here, here_is, handed, gives_then, fails, any_token, shallow, value_read, level_open, read_there, unexpected_there, no_paren, then_token, token_there, behind_bare, reached, fails_behind, then_behind, payload_other, unexpected_behind, expected, untrue, moved, then_class, then_behind_class, range_path, close_first, close_empty, close_next, then_same, then_refuses, item_refuses, item_read, then_reached, Reached, IsItemDue, no_close, empty_there, key_reads, no_key, brace_key, entries_other, close_behind, comma_behind, other_behind, token_less, tokens_less, left_at, no_colon, no_brace}
+use Rattle.wave_tree.specs.declared.role.Front.{Front}
+use Rattle.wave_tree.specs.declared.role.Front.TheVariants as front
+use Rattle.wave_tree.specs.Private.ParserState.{Stream, AsksFor, IsAlone, IsFront}
 use Rattle.wave_tree.specs.Private.ParsedNodes.{IsParsedBehind, IsMaybe, IsPayload, IsOfItems, IsOfEntries, IsOfFlags, items_type, label_children}
 use Rattle.wave_tree.specs.ParsedNodes.{TakesClass}
 use Rattle.wave_syntax.specs.NodeTree.{NodeTree, node, no_nodes}
@@ -24,7 +24,7 @@ use Rattle.wave_tree.proofs.NodeCorrectness.Items.{class_as, one_tied, label_tie
 use Rattle.wave_tree.proofs.NodeCorrectness.Tokens.{number_parsed, char_parsed, string_parsed, multiline_parsed}
 use Rattle.wave_syntax.proofs.Parameters.{error_handed}
 use Rattle.wave_tree.specs.Private.ParserState.{WantsOnly}
-use Rattle.wave_tree.proofs.AloneTokens.{alone_token, alone_parsed, alone_led}
+use Rattle.wave_tree.proofs.AloneTokens.{alone_token, alone_parsed, alone_led, nothing_begins}
 use Rattle.wave_tree.proofs.Wanting.{whatever_parts, wants_any, wants_refused, wants_reached, wants_less, answer_token, answer_brace, wants_other, wants_fails, wants_taken}
 use Rattle.wave_tree.proofs.PartsDue.{key_next, value_next, payload_due, payload_parts}
 use Rattle.wave_tree.proofs.Built.{as_added, part_added, built, leaf_built, whole_built, as_ok, of_front, of_part, wants_part, source_item, source_parsed, source_reached}
@@ -35,9 +35,9 @@ use Rattle.wave_tree.proofs.LexerCallCount.{asks_none, asks_once, asks_token, as
 use Rattle.wave_tree.proofs.tokens.Tokens.+parser.Goals as goal
 use Rattle.wave_tree.proofs.tokens.Tokens.+parser.Goals.{parse_items-then-eq-2, parse_items-else-eq-2}
 
--- the word of a text, by its role
-word_here : {text shown : List ℕ} {role r : LabelRole} → shown ≡ text → spec_word role ≡ word_of shown → role ≡ r → word_of text ≡ spec_word r
-word_here text_is word_is role_is = ap word_of (sym text_is) ∙ (sym word_is ∙ ap spec_word role_is)
+-- a token that is a value on its own, by what it begins
+front_alone : {c : lex.Token} {text shown : List ℕ} {f : Front} {ty : NodeType} → shown ≡ text → IsFront c shown f → f ≡ front.Alone ty → IsAlone c text ty
+front_alone {c} {text} {shown} {f} {ty} text_is begins is = subst (λ (z : List ℕ). IsAlone c z ty) text_is (subst (IsFront c shown) is begins)
 
 -- after a value and a comma a key is due
 key_due : {n : ℕ} {s : List Form} {p q m w : Place} {c : lex.Token} → Reached n due.value (due.entries ∷ s) p due.value (due.entries ∷ s) q → (item : LeadsBehindValue n due.value (due.entries ∷ s) q m (due.entries ∷ s)) →
@@ -64,38 +64,138 @@ pub parse_part-returns-in_err-token-clause-led : goal.parse_part-returns-in_err-
 parse_part-returns-in_err-token-clause-led g t c = λ n s e. handed s _ _ c.from_residual.ensures.1
     (fails (inl tt) (λ _. Unit {0}) c.in_err-token.field-0.0 (here n due.value s _) (shallow n due.value s _ (omega arith)) (any_token n due.value s _ _) c.in_err-token.ensures.takes)
 
-pub parse_behind-returns-in-Number-clause-led : goal.parse_behind-returns-in-Number-clause-led
-parse_behind-returns-in-Number-clause-led g t c = λ first there n s e. read_there (value_read n due.behind_value s s _ _ _ Number (omega arith) there c.in-Number.is refl) (inl refl)
+pub parse_behind-returns-in-Alone-clause-led : goal.parse_behind-returns-in-Alone-clause-led
+parse_behind-returns-in-Alone-clause-led g t c = λ first there n s e. alone_led n s first c.args.self.now.place c.args.token c.in-Alone.ty (omega arith) there (subst (IsFront c.args.token (text_at c.args.self.now.place)) c.in-Alone.is c.requires.front)
 
-pub parse_behind-returns-in-Char-clause-led : goal.parse_behind-returns-in-Char-clause-led
-parse_behind-returns-in-Char-clause-led g t c = λ first there n s e. read_there (value_read n due.behind_value s s _ _ _ Char (omega arith) there c.in-Char.is refl) (inl refl)
+pub parse_behind-returns-in-Some-clause-led : goal.parse_behind-returns-in-Some-clause-led
+parse_behind-returns-in-Some-clause-led g t c = λ first there n s e.
+    let front = subst (IsFront c.args.token (text_at c.args.self.now.place)) c.in-Some.is c.requires.front in
+    gives_then s _ c.parse_some.result (value_read n due.paren s s _ _ _ LabelOrKeyword (omega arith) there front.0 (ap (λ w. reads (due_behind w) s) front.1)) (c.parse_some.ensures.led n s (omega arith))
 
-pub parse_behind-returns-in-String-clause-led : goal.parse_behind-returns-in-String-clause-led
-parse_behind-returns-in-String-clause-led g t c = λ first there n s e. read_there (value_read n due.behind_value s s _ _ _ String (omega arith) there c.in-String.is refl) (inl refl)
+pub parse_behind-returns-in-Ok-clause-led : goal.parse_behind-returns-in-Ok-clause-led
+parse_behind-returns-in-Ok-clause-led g t c = λ first there n s e.
+    let front = subst (IsFront c.args.token (text_at c.args.self.now.place)) c.in-Ok.is c.requires.front in
+    gives_then s _ c.parse_maybe.result (value_read n due.behind_label s s _ _ _ LabelOrKeyword (omega arith) there front.0 (ap (λ w. reads (due_behind w) s) front.1)) (c.parse_maybe.ensures.led n s (omega arith))
 
-pub parse_behind-returns-in-MultilineString-clause-led : goal.parse_behind-returns-in-MultilineString-clause-led
-parse_behind-returns-in-MultilineString-clause-led g t c = λ first there n s e. read_there (value_read n due.behind_value s s _ _ _ MultilineString (omega arith) there c.in-MultilineString.is refl) (inl refl)
+pub parse_behind-returns-in-Err-clause-led : goal.parse_behind-returns-in-Err-clause-led
+parse_behind-returns-in-Err-clause-led g t c = λ first there n s e.
+    let front = subst (IsFront c.args.token (text_at c.args.self.now.place)) c.in-Err.is c.requires.front in
+    gives_then s _ c.parse_maybe-in-Err.result (value_read n due.behind_label s s _ _ _ LabelOrKeyword (omega arith) there front.0 (ap (λ w. reads (due_behind w) s) front.1)) (c.parse_maybe-in-Err.ensures.led n s (omega arith))
 
-pub parse_behind-returns-in-LabelOrKeyword-clause-led : goal.parse_behind-returns-in-LabelOrKeyword-clause-led
-parse_behind-returns-in-LabelOrKeyword-clause-led g t c = λ first there n s e. gives_then s _ c.parse_label.result (value_read n _ s s _ _ _ LabelOrKeyword (omega arith) there c.in-LabelOrKeyword.is refl) (c.parse_label.ensures.led n s (omega arith))
+pub parse_behind-returns-in-Case-clause-led : goal.parse_behind-returns-in-Case-clause-led
+parse_behind-returns-in-Case-clause-led g t c = λ first there n s e.
+    let front = subst (IsFront c.args.token (text_at c.args.self.now.place)) c.in-Case.is c.requires.front in
+    gives_then s _ c.parse_maybe-in-Case.result (value_read n due.behind_label s s _ _ _ LabelOrKeyword (omega arith) there front.0 (ap (λ w. reads (due_behind w) s) front.1)) (c.parse_maybe-in-Case.ensures.led n s (omega arith))
 
-pub parse_behind-returns-in-ParenOpen-clause-led : goal.parse_behind-returns-in-ParenOpen-clause-led
-parse_behind-returns-in-ParenOpen-clause-led g t c = λ first there n s e. gives_then s _ c.parse_items.result (value_read n due.first_item s (due.tuple ∷ s) _ _ _ ParenOpen (omega arith) there c.in-ParenOpen.is refl) (c.parse_items.ensures.led n s (omega arith))
+pub parse_behind-returns-in-Paren-clause-led : goal.parse_behind-returns-in-Paren-clause-led
+parse_behind-returns-in-Paren-clause-led g t c = λ first there n s e. gives_then s _ c.parse_items.result (value_read n due.first_item s (due.tuple ∷ s) _ _ _ ParenOpen (omega arith) there (subst (IsFront c.args.token (text_at c.args.self.now.place)) c.in-Paren.is c.requires.front) refl) (c.parse_items.ensures.led n s (omega arith))
 
-pub parse_behind-returns-in-BracketOpen-clause-led : goal.parse_behind-returns-in-BracketOpen-clause-led
-parse_behind-returns-in-BracketOpen-clause-led g t c = λ first there n s e. gives_then s _ c.parse_items-in-BracketOpen.result (value_read n due.first_item s (due.list ∷ s) _ _ _ BracketOpen (omega arith) there c.in-BracketOpen.is refl) (c.parse_items-in-BracketOpen.ensures.led n s (omega arith))
+pub parse_behind-returns-in-Bracket-clause-led : goal.parse_behind-returns-in-Bracket-clause-led
+parse_behind-returns-in-Bracket-clause-led g t c = λ first there n s e. gives_then s _ c.parse_items-in-Bracket.result (value_read n due.first_item s (due.list ∷ s) _ _ _ BracketOpen (omega arith) there (subst (IsFront c.args.token (text_at c.args.self.now.place)) c.in-Bracket.is c.requires.front) refl) (c.parse_items-in-Bracket.ensures.led n s (omega arith))
 
-pub parse_label-returns-in_err-expect-in-Some-clause-led : goal.parse_label-returns-in_err-expect-in-Some-clause-led
-parse_label-returns-in_err-expect-in-Some-clause-led g t c = λ n s e.
-    let there : due_behind (word_of (text_at c.args.self.now.place)) ≡ due.paren = ap due_behind (word_here c.slice.ensures c.role_of.ensures.word c.in-Some.is) in
-    subst (λ z. Gives c.from_residual.result n z s c.args.self.now.place c.expect.new.self.place s) (sym there) (handed s _ _ c.from_residual.ensures.1
-    (fails (inl tt) (λ k. k ≡ ParenOpen) c.in_err-expect-in-Some.field-0.0 (here n due.paren s _) (λ deep. deep.due) (λ k h apart. no_paren n s k (text_at c.expect.new.self.place) apart) c.in_err-expect-in-Some.ensures.takes))
+pub parse_behind-returns-in-Brace-clause-led : goal.parse_behind-returns-in-Brace-clause-led
+parse_behind-returns-in-Brace-clause-led g t c = λ first there n s e. gives_then s _ c.parse_braces.result (value_read n due.in_braces s s _ _ _ BraceOpen (omega arith) there (subst (IsFront c.args.token (text_at c.args.self.now.place)) c.in-Brace.is c.requires.front) refl) (c.parse_braces.ensures.led n s (omega arith))
 
-pub parse_label-returns-in_ok-expect-in-Some-clause-led : goal.parse_label-returns-in_ok-expect-in-Some-clause-led
-parse_label-returns-in_ok-expect-in-Some-clause-led g t c = λ n s e.
-    let there : due_behind (word_of (text_at c.args.self.now.place)) ≡ due.paren = ap due_behind (word_here c.slice.ensures c.role_of.ensures.word c.in-Some.is) in
-    subst (λ z. Gives c.parse_payload.result n z s c.args.self.now.place c.parse_payload.new.self.place s) (sym there)
-    (gives_then s _ c.parse_payload.result (then_token _ (here n due.paren s _) (token_there _ _ ParenOpen c.in_ok-expect-in-Some.ensures.takes) refl) (c.parse_payload.ensures.led n s (omega arith)))
+pub parse_behind-returns-in-Nothing-clause-led : goal.parse_behind-returns-in-Nothing-clause-led
+parse_behind-returns-in-Nothing-clause-led g t c = λ first there n s e.
+    refuses_there s c.refuse_token.result c.refuse_token.ensures.never c.refuse_token.ensures.refused
+    (λ x says. unexpected_there (inl tt) x c.args.token (here n due.value s _) there
+    (level_open n s (token_of c.args.token (text_at c.args.self.now.place)) (omega arith) ∙ nothing_begins s c.args.token (text_at c.args.self.now.place) (subst (IsFront c.args.token (text_at c.args.self.now.place)) c.in-Nothing.is c.requires.front))
+    says)
+
+pub parse_some-returns-in_err-expect-clause-led : goal.parse_some-returns-in_err-expect-clause-led
+parse_some-returns-in_err-expect-clause-led g t c = λ n s e. handed s _ _ c.from_residual.ensures.1
+    (fails (inl tt) (λ k. k ≡ ParenOpen) c.in_err-expect.field-0.0 (here n due.paren s _) (λ deep. deep.due) (λ k h apart. no_paren n s k (text_at c.expect.new.self.place) apart) c.in_err-expect.ensures.takes)
+
+pub parse_some-returns-clause-led : goal.parse_some-returns-clause-led
+parse_some-returns-clause-led g t c = λ n s e. gives_then s _ c.parse_payload.result (then_token _ (here n due.paren s _) (token_there _ _ ParenOpen c.in_ok-expect.ensures.takes) refl) (c.parse_payload.ensures.led n s (omega arith))
+
+pub parse_some-returns-clause-asks : goal.parse_some-returns-clause-asks
+parse_some-returns-clause-asks g t c =
+    asks_token c.args.self.now c.expect.new.self c.parse_payload.new.self ParenOpen c.in_ok-expect.ensures.takes c.expect.ensures.asks c.parse_payload.ensures.asks
+
+pub parse_behind-returns-in-Alone-clause-tree : goal.parse_behind-returns-in-Alone-clause-tree
+parse_behind-returns-in-Alone-clause-tree g t c = (node c.in-Alone.ty (span_at c.args.self.now.place) no_nodes, λ first there. alone_parsed c.args.levels first c.args.self.now.place c.args.token c.in-Alone.ty c.requires.levels there (subst (IsFront c.args.token (text_at c.args.self.now.place)) c.in-Alone.is c.requires.front), c.leaf.ensures)
+
+pub parse_behind-returns-in-Some-clause-tree : goal.parse_behind-returns-in-Some-clause-tree
+parse_behind-returns-in-Some-clause-tree g t c =
+    let front = subst (IsFront c.args.token (text_at c.args.self.now.place)) c.in-Some.is c.requires.front in
+    built (g.P.Builder.is_made c.args.builder) c.args.self.now.place c.args.self.now.place (IsParsedBehind LabelOrKeyword (c.args.levels - 1 + 1) c.args.self.now.place c.parse_some.new.self.place) (IsParsedBehind c.args.token c.args.levels c.args.self.now.place c.parse_some.new.self.place) c.parse_some.result refl
+    (λ n is first there. label_tied c.args.levels first c.args.self.now.place c.parse_some.new.self.place c.args.token (as_ok n) c.requires.levels there front.0 is) c.parse_some.ensures.tree
+
+pub parse_behind-returns-in-Ok-clause-tree : goal.parse_behind-returns-in-Ok-clause-tree
+parse_behind-returns-in-Ok-clause-tree g t c =
+    let front = subst (IsFront c.args.token (text_at c.args.self.now.place)) c.in-Ok.is c.requires.front in
+    built (g.P.Builder.is_made c.args.builder) c.args.self.now.place c.args.self.now.place (IsMaybe (c.args.levels - 1) kind_of_node.ResultOk kind_of_node.ResultOk c.args.self.now.place c.parse_maybe.new.self.place) (IsParsedBehind c.args.token c.args.levels c.args.self.now.place c.parse_maybe.new.self.place) c.parse_maybe.result refl
+    (λ n is first there. label_tied c.args.levels first c.args.self.now.place c.parse_maybe.new.self.place c.args.token (as_ok n) c.requires.levels there front.0 (ok_tied (c.args.levels - 1) c.args.self.now.place c.parse_maybe.new.self.place (as_ok n) front.1 is)) c.parse_maybe.ensures.tree
+
+pub parse_behind-returns-in-Err-clause-tree : goal.parse_behind-returns-in-Err-clause-tree
+parse_behind-returns-in-Err-clause-tree g t c =
+    let front = subst (IsFront c.args.token (text_at c.args.self.now.place)) c.in-Err.is c.requires.front in
+    built (g.P.Builder.is_made c.args.builder) c.args.self.now.place c.args.self.now.place (IsMaybe (c.args.levels - 1) kind_of_node.ResultErr kind_of_node.ResultErr c.args.self.now.place c.parse_maybe-in-Err.new.self.place) (IsParsedBehind c.args.token c.args.levels c.args.self.now.place c.parse_maybe-in-Err.new.self.place) c.parse_maybe-in-Err.result refl
+    (λ n is first there. label_tied c.args.levels first c.args.self.now.place c.parse_maybe-in-Err.new.self.place c.args.token (as_ok n) c.requires.levels there front.0 (err_tied (c.args.levels - 1) c.args.self.now.place c.parse_maybe-in-Err.new.self.place (as_ok n) front.1 is)) c.parse_maybe-in-Err.ensures.tree
+
+pub parse_behind-returns-in-Case-clause-tree : goal.parse_behind-returns-in-Case-clause-tree
+parse_behind-returns-in-Case-clause-tree g t c =
+    let front = subst (IsFront c.args.token (text_at c.args.self.now.place)) c.in-Case.is c.requires.front in
+    built (g.P.Builder.is_made c.args.builder) c.args.self.now.place c.args.self.now.place (IsMaybe (c.args.levels - 1) kind_of_node.Label kind_of_node.VariantWithPayload c.args.self.now.place c.parse_maybe-in-Case.new.self.place) (IsParsedBehind c.args.token c.args.levels c.args.self.now.place c.parse_maybe-in-Case.new.self.place) c.parse_maybe-in-Case.result refl
+    (λ n is first there. label_tied c.args.levels first c.args.self.now.place c.parse_maybe-in-Case.new.self.place c.args.token (as_ok n) c.requires.levels there front.0 (case_tied (c.args.levels - 1) c.args.self.now.place c.parse_maybe-in-Case.new.self.place (as_ok n) front.1 is)) c.parse_maybe-in-Case.ensures.tree
+
+pub parse_behind-returns-in-Paren-clause-tree : goal.parse_behind-returns-in-Paren-clause-tree
+parse_behind-returns-in-Paren-clause-tree g t c =
+    let front = subst (IsFront c.args.token (text_at c.args.self.now.place)) c.in-Paren.is c.requires.front in
+    built (g.P.Builder.is_made c.args.builder) c.args.self.now.place c.args.self.now.place (IsOfItems (c.args.levels - 1) ParenClose c.args.self.now.place c.parse_items.new.self.place) (IsParsedBehind c.args.token c.args.levels c.args.self.now.place c.parse_items.new.self.place) c.parse_items.result refl
+    (λ n is first there. items_tied c.args.levels first c.args.self.now.place c.parse_items.new.self.place c.args.token ParenOpen ParenClose (inl (refl, refl)) (as_ok n) c.requires.levels there front is) c.parse_items.ensures.tree
+
+pub parse_behind-returns-in-Bracket-clause-tree : goal.parse_behind-returns-in-Bracket-clause-tree
+parse_behind-returns-in-Bracket-clause-tree g t c =
+    let front = subst (IsFront c.args.token (text_at c.args.self.now.place)) c.in-Bracket.is c.requires.front in
+    built (g.P.Builder.is_made c.args.builder) c.args.self.now.place c.args.self.now.place (IsOfItems (c.args.levels - 1) BracketClose c.args.self.now.place c.parse_items-in-Bracket.new.self.place) (IsParsedBehind c.args.token c.args.levels c.args.self.now.place c.parse_items-in-Bracket.new.self.place) c.parse_items-in-Bracket.result refl
+    (λ n is first there. items_tied c.args.levels first c.args.self.now.place c.parse_items-in-Bracket.new.self.place c.args.token BracketOpen BracketClose (inr (refl, refl)) (as_ok n) c.requires.levels there front is) c.parse_items-in-Bracket.ensures.tree
+
+pub parse_behind-returns-in-Brace-clause-tree : goal.parse_behind-returns-in-Brace-clause-tree
+parse_behind-returns-in-Brace-clause-tree g t c =
+    let front = subst (IsFront c.args.token (text_at c.args.self.now.place)) c.in-Brace.is c.requires.front in
+    built (g.P.Builder.is_made c.args.builder) c.args.self.now.place c.args.self.now.place (IsParsedBehind BraceOpen (c.args.levels - 1 + 1) c.args.self.now.place c.parse_braces.new.self.place) (IsParsedBehind c.args.token c.args.levels c.args.self.now.place c.parse_braces.new.self.place) c.parse_braces.result refl
+    (λ n is first there. braces_tied c.args.levels first c.args.self.now.place c.parse_braces.new.self.place c.args.token (as_ok n) c.requires.levels there front is) c.parse_braces.ensures.tree
+
+pub parse_some-returns-clause-tree : goal.parse_some-returns-clause-tree
+parse_some-returns-clause-tree g t c =
+    built (g.P.Builder.is_made c.args.builder) c.args.self.now.place c.expect.new.self.place (IsPayload c.args.levels kind_of_node.OptionSome c.span-start.result.start [] c.expect.new.self.place c.parse_payload.new.self.place) (IsParsedBehind LabelOrKeyword (c.args.levels + 1) c.args.self.now.place c.parse_payload.new.self.place) c.parse_payload.result (source_item c.args.self.now.place c.expect.new.self.place ParenOpen c.in_ok-expect.ensures.takes)
+    (λ n. some_tied c.args.levels c.args.self.now.place c.expect.new.self.place c.parse_payload.new.self.place c.span-start.result.start [] (as_ok n) c.requires (ap (λ (z : Range ℕ). z.start) c.span-start.ensures) refl c.in_ok-expect.ensures.takes)
+    (of_part (TakesPart kind_of_node.OptionSome) (λ front. g.P.Builder.are_parts c.args.builder c.expect.new.self.place.lexer.source kind_of_node.OptionSome front c.parts-parts.result) c.parse_payload.result (λ front. IsBuilt (g.P.Builder.is_made c.args.builder) c.expect.new.self.place (IsPayload c.args.levels kind_of_node.OptionSome c.span-start.result.start front c.expect.new.self.place c.parse_payload.new.self.place)) c.parse_payload.ensures.tree [] refl (c.parts-parts.ensures c.expect.new.self.place.lexer.source tt))
+
+pub parse_some-returns-in_err-expect-clause-memory : goal.parse_some-returns-in_err-expect-clause-memory
+parse_some-returns-in_err-expect-clause-memory g t c = error_handed (WantsOnly (g.P.Builder.takes_memory c.args.builder) c.args.self.now.place) c.from_residual.result c.in_err-expect.field-0.0 c.from_residual.ensures.1 (wants_fails (g.P.Builder.takes_memory c.args.builder) c.args.self.now.place c.args.self.now.place c.expect.new.self.place (λ k. k ≡ ParenOpen) c.in_err-expect.field-0.0 c.in_err-expect.ensures.takes)
+
+pub parse_some-returns-clause-memory : goal.parse_some-returns-clause-memory
+parse_some-returns-clause-memory g t c = answer_token (g.P.Builder.takes_memory c.args.builder) c.args.self.now.place c.expect.new.self.place ParenOpen c.parse_payload.result c.in_ok-expect.ensures.takes
+    (wants_part (TakesPart kind_of_node.OptionSome) (λ front. g.P.Builder.are_parts c.args.builder c.expect.new.self.place.lexer.source kind_of_node.OptionSome front c.parts-parts.result) c.parse_payload.result (WantsOnly (g.P.Builder.takes_memory c.args.builder) c.expect.new.self.place) c.parse_payload.ensures.memory [] refl (c.parts-parts.ensures c.expect.new.self.place.lexer.source tt))
+
+pub parse_behind-returns-in-Some-clause-memory : goal.parse_behind-returns-in-Some-clause-memory
+parse_behind-returns-in-Some-clause-memory g t c = λ first there. answer_token (g.P.Builder.takes_memory c.args.builder) first c.args.self.now.place c.args.token c.parse_some.result there c.parse_some.ensures.memory
+
+pub parse_behind-returns-in-Ok-clause-memory : goal.parse_behind-returns-in-Ok-clause-memory
+parse_behind-returns-in-Ok-clause-memory g t c = λ first there. answer_token (g.P.Builder.takes_memory c.args.builder) first c.args.self.now.place c.args.token c.parse_maybe.result there c.parse_maybe.ensures.memory
+
+pub parse_behind-returns-in-Err-clause-memory : goal.parse_behind-returns-in-Err-clause-memory
+parse_behind-returns-in-Err-clause-memory g t c = λ first there. answer_token (g.P.Builder.takes_memory c.args.builder) first c.args.self.now.place c.args.token c.parse_maybe-in-Err.result there c.parse_maybe-in-Err.ensures.memory
+
+pub parse_behind-returns-in-Case-clause-memory : goal.parse_behind-returns-in-Case-clause-memory
+parse_behind-returns-in-Case-clause-memory g t c = λ first there. answer_token (g.P.Builder.takes_memory c.args.builder) first c.args.self.now.place c.args.token c.parse_maybe-in-Case.result there c.parse_maybe-in-Case.ensures.memory
+
+pub parse_behind-returns-in-Paren-clause-memory : goal.parse_behind-returns-in-Paren-clause-memory
+parse_behind-returns-in-Paren-clause-memory g t c = λ first there. answer_token (g.P.Builder.takes_memory c.args.builder) first c.args.self.now.place c.args.token c.parse_items.result there c.parse_items.ensures.memory
+
+pub parse_behind-returns-in-Bracket-clause-memory : goal.parse_behind-returns-in-Bracket-clause-memory
+parse_behind-returns-in-Bracket-clause-memory g t c = λ first there. answer_token (g.P.Builder.takes_memory c.args.builder) first c.args.self.now.place c.args.token c.parse_items-in-Bracket.result there c.parse_items-in-Bracket.ensures.memory
+
+pub parse_behind-returns-in-Brace-clause-memory : goal.parse_behind-returns-in-Brace-clause-memory
+parse_behind-returns-in-Brace-clause-memory g t c = λ first there. answer_brace (g.P.Builder.takes_memory c.args.builder) first c.args.self.now.place c.parse_braces.result (class_as first c.args.self.now.place c.args.token BraceOpen there (subst (IsFront c.args.token (text_at c.args.self.now.place)) c.in-Brace.is c.requires.front))
+
+pub parse_behind-returns-in-Nothing-clause-memory : goal.parse_behind-returns-in-Nothing-clause-memory
+parse_behind-returns-in-Nothing-clause-memory g t c = λ first there. wants_refused (g.P.Builder.takes_memory c.args.builder) first c.refuse_token.result c.refuse_token.ensures.refused
+    (λ x says. wants_other (g.P.Builder.takes_memory c.args.builder) first x because.UnexpectedToken (kind_is says) (λ z. cc))
 
 pub parse_maybe-returns-then-not-next_is-clause-led : goal.parse_maybe-returns-then-not-next_is-clause-led
 parse_maybe-returns-then-not-next_is-clause-led g t c = λ n s e.
@@ -118,18 +218,6 @@ pub parse_payload-returns-clause-led : goal.parse_payload-returns-clause-led
 parse_payload-returns-clause-led g t c = λ n s e.
     let item = c.in_ok-parse_part.ensures.led n (due.payload ∷ s) (omega arith) in
     read_there (then_behind item.due_there ParenClose (reached item) item.is_behind c.in_ok-expect.ensures.takes refl) (inl refl)
-
-pub parse_behind-returns-in_default-clause-led : goal.parse_behind-returns-in_default-clause-led
-parse_behind-returns-in_default-clause-led g t c = λ first there n s e.
-    let new = c.args.self.now.place in
-    refuses_there s c.refuse_token.result c.refuse_token.ensures.never c.refuse_token.ensures.refused
-    (λ x says. unexpected_there (inl tt) x c.args.token (here n due.value s _) there
-    (level_open n s (token_of c.args.token (text_at new)) (omega arith) ∙
-    no_value s c.args.token (text_at new) c.in_default.not-ParenOpen c.in_default.not-BracketOpen c.in_default.not-BraceOpen c.in_default.not-Number c.in_default.not-LabelOrKeyword c.in_default.not-Char c.in_default.not-String c.in_default.not-MultilineString)
-    says)
-
-pub parse_behind-returns-in-BraceOpen-clause-led : goal.parse_behind-returns-in-BraceOpen-clause-led
-parse_behind-returns-in-BraceOpen-clause-led g t c = λ first there n s e. gives_then s _ c.parse_braces.result (value_read n due.in_braces s s _ _ _ BraceOpen (omega arith) there c.in-BraceOpen.is refl) (c.parse_braces.ensures.led n s (omega arith))
 
 pub parse_items-returns-in_err-expect-clause-led : goal.parse_items-returns-in_err-expect-clause-led
 parse_items-returns-in_err-expect-clause-led g t c = λ n s e. handed s _ _ c.from_residual.ensures.1
@@ -324,10 +412,6 @@ parse_entries-entries-smaller g t c =
     let four = token_less _ _ Colon c.in_ok-expect.ensures.takes in
     omega arith
 
-pub parse_label-returns-in_ok-expect-in-Some-clause-asks : goal.parse_label-returns-in_ok-expect-in-Some-clause-asks
-parse_label-returns-in_ok-expect-in-Some-clause-asks g t c =
-    asks_token c.args.self.now c.expect.new.self c.parse_payload.new.self ParenOpen c.in_ok-expect-in-Some.ensures.takes c.expect.ensures.asks c.parse_payload.ensures.asks
-
 pub parse_maybe-returns-clause-asks : goal.parse_maybe-returns-clause-asks
 parse_maybe-returns-clause-asks g t c =
     asks_looked c.args.self.now c.next_is.new.self c.parse_payload.new.self c.next_is.ensures.stays c.next_is.ensures.asks (asks_token c.next_is.new.self c.expect.new.self c.parse_payload.new.self ParenOpen c.in_ok-expect.ensures.takes c.expect.ensures.asks c.parse_payload.ensures.asks)
@@ -427,77 +511,6 @@ parse_entries-returns-in_err-expect-clause-asks g t c =
 pub parse_entries-returns-in_err-with_key-clause-asks : goal.parse_entries-returns-in_err-with_key-clause-asks
 parse_entries-returns-in_err-with_key-clause-asks g t c =
     asks_entries c.args.levels c.args.self.now c.entries.self c.advance-in-entries.new.self c.entries.invariant.led c.entries.invariant.asks (asks_value c.args.levels c.entries.self c.parse_part.new.self c.advance-in-entries.new.self c.in_ok-parse_part.ensures.led c.parse_part.ensures.asks (asks_token c.parse_part.new.self c.advance.new.self c.advance-in-entries.new.self c.in_ok-token.token c.in_ok-token.ensures.takes c.advance.ensures.asks (asks_once c.advance.new.self c.advance-in-entries.new.self c.advance-in-entries.ensures.asks)))
-
-pub parse_behind-returns-in-Number-clause-tree : goal.parse_behind-returns-in-Number-clause-tree
-parse_behind-returns-in-Number-clause-tree g t c = (node kind_of_node.Number (span_at c.args.self.now.place) no_nodes, λ first there. one_tied kind_of_node.Number Number number_parsed c.args.levels first c.args.self.now.place c.args.token _ c.requires there c.in-Number.is refl, c.leaf.ensures)
-
-pub parse_behind-returns-in-Char-clause-tree : goal.parse_behind-returns-in-Char-clause-tree
-parse_behind-returns-in-Char-clause-tree g t c = (node kind_of_node.Char (span_at c.args.self.now.place) no_nodes, λ first there. one_tied kind_of_node.Char Char char_parsed c.args.levels first c.args.self.now.place c.args.token _ c.requires there c.in-Char.is refl, c.leaf-in-Char.ensures)
-
-pub parse_behind-returns-in-String-clause-tree : goal.parse_behind-returns-in-String-clause-tree
-parse_behind-returns-in-String-clause-tree g t c = (node kind_of_node.String (span_at c.args.self.now.place) no_nodes, λ first there. one_tied kind_of_node.String String string_parsed c.args.levels first c.args.self.now.place c.args.token _ c.requires there c.in-String.is refl, c.leaf-in-String.ensures)
-
-pub parse_behind-returns-in-MultilineString-clause-tree : goal.parse_behind-returns-in-MultilineString-clause-tree
-parse_behind-returns-in-MultilineString-clause-tree g t c = (node kind_of_node.MultilineString (span_at c.args.self.now.place) no_nodes, λ first there. one_tied kind_of_node.MultilineString MultilineString multiline_parsed c.args.levels first c.args.self.now.place c.args.token _ c.requires there c.in-MultilineString.is refl, c.leaf-in-MultilineString.ensures)
-
-pub parse_behind-returns-in-LabelOrKeyword-clause-tree : goal.parse_behind-returns-in-LabelOrKeyword-clause-tree
-parse_behind-returns-in-LabelOrKeyword-clause-tree g t c =
-    built (g.P.Builder.is_made c.args.builder) c.args.self.now.place c.args.self.now.place (IsParsedBehind LabelOrKeyword (c.args.levels - 1 + 1) c.args.self.now.place c.parse_label.new.self.place) (IsParsedBehind c.args.token c.args.levels c.args.self.now.place c.parse_label.new.self.place) c.parse_label.result refl
-    (λ n is first there. label_tied c.args.levels first c.args.self.now.place c.parse_label.new.self.place c.args.token (as_ok n) c.requires there c.in-LabelOrKeyword.is is) c.parse_label.ensures.tree
-
-pub parse_behind-returns-in-ParenOpen-clause-tree : goal.parse_behind-returns-in-ParenOpen-clause-tree
-parse_behind-returns-in-ParenOpen-clause-tree g t c =
-    built (g.P.Builder.is_made c.args.builder) c.args.self.now.place c.args.self.now.place (IsOfItems (c.args.levels - 1) ParenClose c.args.self.now.place c.parse_items.new.self.place) (IsParsedBehind c.args.token c.args.levels c.args.self.now.place c.parse_items.new.self.place) c.parse_items.result refl
-    (λ n is first there. items_tied c.args.levels first c.args.self.now.place c.parse_items.new.self.place c.args.token ParenOpen ParenClose (inl (refl, refl)) (as_ok n) c.requires there c.in-ParenOpen.is is) c.parse_items.ensures.tree
-
-pub parse_behind-returns-in-BracketOpen-clause-tree : goal.parse_behind-returns-in-BracketOpen-clause-tree
-parse_behind-returns-in-BracketOpen-clause-tree g t c =
-    built (g.P.Builder.is_made c.args.builder) c.args.self.now.place c.args.self.now.place (IsOfItems (c.args.levels - 1) BracketClose c.args.self.now.place c.parse_items-in-BracketOpen.new.self.place) (IsParsedBehind c.args.token c.args.levels c.args.self.now.place c.parse_items-in-BracketOpen.new.self.place) c.parse_items-in-BracketOpen.result refl
-    (λ n is first there. items_tied c.args.levels first c.args.self.now.place c.parse_items-in-BracketOpen.new.self.place c.args.token BracketOpen BracketClose (inr (refl, refl)) (as_ok n) c.requires there c.in-BracketOpen.is is) c.parse_items-in-BracketOpen.ensures.tree
-
-pub parse_behind-returns-in-BraceOpen-clause-tree : goal.parse_behind-returns-in-BraceOpen-clause-tree
-parse_behind-returns-in-BraceOpen-clause-tree g t c =
-    built (g.P.Builder.is_made c.args.builder) c.args.self.now.place c.args.self.now.place (IsParsedBehind BraceOpen (c.args.levels - 1 + 1) c.args.self.now.place c.parse_braces.new.self.place) (IsParsedBehind c.args.token c.args.levels c.args.self.now.place c.parse_braces.new.self.place) c.parse_braces.result refl
-    (λ n is first there. braces_tied c.args.levels first c.args.self.now.place c.parse_braces.new.self.place c.args.token (as_ok n) c.requires there c.in-BraceOpen.is is) c.parse_braces.ensures.tree
-
-pub parse_label-returns-in-True-clause-tree : goal.parse_label-returns-in-True-clause-tree
-parse_label-returns-in-True-clause-tree g t c =
-    let text_is = sym c.slice.ensures ∙ subst (λ z. HasText z c.slice.result.now) c.in-True.is c.role_of.ensures.text in
-    (node kind_of_node.BoolTrue (span_at c.args.self.now.place) no_nodes, leaf_tied c.args.levels c.args.self.now.place kind_of_node.BoolTrue _ (word_here c.slice.ensures c.role_of.ensures.word c.in-True.is) (inl (refl, text_is)) refl, c.leaf.ensures)
-
-pub parse_label-returns-in-False-clause-tree : goal.parse_label-returns-in-False-clause-tree
-parse_label-returns-in-False-clause-tree g t c =
-    let text_is = sym c.slice.ensures ∙ subst (λ z. HasText z c.slice.result.now) c.in-False.is c.role_of.ensures.text in
-    (node kind_of_node.BoolFalse (span_at c.args.self.now.place) no_nodes, leaf_tied c.args.levels c.args.self.now.place kind_of_node.BoolFalse _ (word_here c.slice.ensures c.role_of.ensures.word c.in-False.is) (inr (refl, text_is)) refl, c.leaf-in-False.ensures)
-
-pub parse_label-returns-in-Number-clause-tree : goal.parse_label-returns-in-Number-clause-tree
-parse_label-returns-in-Number-clause-tree g t c =
-    let text_is = ap (is_one_of (codes "inf" ∷ codes "nan" ∷ [])) (sym c.slice.ensures) ∙ subst (λ z. HasText z c.slice.result.now) c.in-Number.is c.role_of.ensures.text in
-    (node kind_of_node.Number (span_at c.args.self.now.place) no_nodes, number_word_tied c.args.levels c.args.self.now.place _ (word_here c.slice.ensures c.role_of.ensures.word c.in-Number.is) text_is refl, c.leaf-in-Number.ensures)
-
-pub parse_label-returns-in-None-clause-tree : goal.parse_label-returns-in-None-clause-tree
-parse_label-returns-in-None-clause-tree g t c = (node kind_of_node.OptionNone (span_at c.args.self.now.place) no_nodes, none_tied c.args.levels c.args.self.now.place _ (word_here c.slice.ensures c.role_of.ensures.word c.in-None.is) refl, c.leaf-in-None.ensures)
-
-pub parse_label-returns-in_ok-expect-in-Some-clause-tree : goal.parse_label-returns-in_ok-expect-in-Some-clause-tree
-parse_label-returns-in_ok-expect-in-Some-clause-tree g t c =
-    built (g.P.Builder.is_made c.args.builder) c.args.self.now.place c.expect.new.self.place (IsPayload c.args.levels kind_of_node.OptionSome c.span-start.result.start [] c.expect.new.self.place c.parse_payload.new.self.place) (IsParsedBehind LabelOrKeyword (c.args.levels + 1) c.args.self.now.place c.parse_payload.new.self.place) c.parse_payload.result (source_item c.args.self.now.place c.expect.new.self.place ParenOpen c.in_ok-expect-in-Some.ensures.takes)
-    (λ n. some_tied c.args.levels c.args.self.now.place c.expect.new.self.place c.parse_payload.new.self.place c.span-start.result.start [] (as_ok n) (word_here c.slice.ensures c.role_of.ensures.word c.in-Some.is) (ap (λ (z : Range ℕ). z.start) c.span-start.ensures) refl c.in_ok-expect-in-Some.ensures.takes)
-    (of_part (TakesPart kind_of_node.OptionSome) (λ front. g.P.Builder.are_parts c.args.builder c.expect.new.self.place.lexer.source kind_of_node.OptionSome front c.parts-parts.result) c.parse_payload.result (λ front. IsBuilt (g.P.Builder.is_made c.args.builder) c.expect.new.self.place (IsPayload c.args.levels kind_of_node.OptionSome c.span-start.result.start front c.expect.new.self.place c.parse_payload.new.self.place)) c.parse_payload.ensures.tree [] refl (c.parts-parts.ensures c.expect.new.self.place.lexer.source tt))
-
-pub parse_label-returns-in-Ok-clause-tree : goal.parse_label-returns-in-Ok-clause-tree
-parse_label-returns-in-Ok-clause-tree g t c =
-    built (g.P.Builder.is_made c.args.builder) c.args.self.now.place c.args.self.now.place (IsMaybe c.args.levels kind_of_node.ResultOk kind_of_node.ResultOk c.args.self.now.place c.parse_maybe.new.self.place) (IsParsedBehind LabelOrKeyword (c.args.levels + 1) c.args.self.now.place c.parse_maybe.new.self.place) c.parse_maybe.result refl
-    (λ n. ok_tied c.args.levels c.args.self.now.place c.parse_maybe.new.self.place (as_ok n) (word_here c.slice.ensures c.role_of.ensures.word c.in-Ok.is)) c.parse_maybe.ensures.tree
-
-pub parse_label-returns-in-Err-clause-tree : goal.parse_label-returns-in-Err-clause-tree
-parse_label-returns-in-Err-clause-tree g t c =
-    built (g.P.Builder.is_made c.args.builder) c.args.self.now.place c.args.self.now.place (IsMaybe c.args.levels kind_of_node.ResultErr kind_of_node.ResultErr c.args.self.now.place c.parse_maybe-in-Err.new.self.place) (IsParsedBehind LabelOrKeyword (c.args.levels + 1) c.args.self.now.place c.parse_maybe-in-Err.new.self.place) c.parse_maybe-in-Err.result refl
-    (λ n. err_tied c.args.levels c.args.self.now.place c.parse_maybe-in-Err.new.self.place (as_ok n) (word_here c.slice.ensures c.role_of.ensures.word c.in-Err.is)) c.parse_maybe-in-Err.ensures.tree
-
-pub parse_label-returns-in-Case-clause-tree : goal.parse_label-returns-in-Case-clause-tree
-parse_label-returns-in-Case-clause-tree g t c =
-    built (g.P.Builder.is_made c.args.builder) c.args.self.now.place c.args.self.now.place (IsMaybe c.args.levels kind_of_node.Label kind_of_node.VariantWithPayload c.args.self.now.place c.parse_maybe-in-Case.new.self.place) (IsParsedBehind LabelOrKeyword (c.args.levels + 1) c.args.self.now.place c.parse_maybe-in-Case.new.self.place) c.parse_maybe-in-Case.result refl
-    (λ n. case_tied c.args.levels c.args.self.now.place c.parse_maybe-in-Case.new.self.place (as_ok n) (word_here c.slice.ensures c.role_of.ensures.word c.in-Case.is)) c.parse_maybe-in-Case.ensures.tree
 
 pub parse_maybe-returns-then-not-next_is-clause-tree : goal.parse_maybe-returns-then-not-next_is-clause-tree
 parse_maybe-returns-then-not-next_is-clause-tree g t c =
@@ -694,38 +707,15 @@ pub parse_part-returns-in_err-token-clause-memory : goal.parse_part-returns-in_e
 parse_part-returns-in_err-token-clause-memory g t c = error_handed (λ e. (source : List ℕ) (of : NodeType) (children : List NodeTree) → g.P.Builder.are_parts c.args.builder source of children c.args.parts.now → WantsOnly (g.P.Builder.takes_memory c.args.builder) c.args.self.now.place e) c.from_residual.result c.in_err-token.field-0.0 c.from_residual.ensures.1
     (λ source of children are. wants_fails (g.P.Builder.takes_memory c.args.builder) c.args.self.now.place c.args.self.now.place c.advance.new.self.place (λ _. Unit {0}) c.in_err-token.field-0.0 c.in_err-token.ensures.takes)
 
-pub parse_part-returns-in-Some-clause-led : goal.parse_part-returns-in-Some-clause-led
-parse_part-returns-in-Some-clause-led g t c = λ n s e. gives_or_memory c.with_part.result c.with_part.ensures.memory
-    (alone_led n s c.args.self.now.place c.advance.new.self.place c.in_ok-token.token c.in-Some.ty (omega arith) c.in_ok-token.ensures.takes (subst (λ (z : List ℕ). IsAlone c.in_ok-token.token z c.in-Some.ty) c.slice.ensures c.in-Some.ensures))
+pub parse_part-returns-in-Alone-clause-led : goal.parse_part-returns-in-Alone-clause-led
+parse_part-returns-in-Alone-clause-led g t c = λ n s e. gives_or_memory c.with_part.result c.with_part.ensures.memory
+    (alone_led n s c.args.self.now.place c.advance.new.self.place c.in_ok-token.token c.in-Alone.ty (omega arith) c.in_ok-token.ensures.takes (front_alone c.slice.ensures c.front_of-front.ensures c.in-Alone.is))
 
 pub parse_part-returns-in_err-made-clause-led : goal.parse_part-returns-in_err-made-clause-led
 parse_part-returns-in_err-made-clause-led g t c = λ n s e. handed s _ _ c.from_residual-in_err-made.ensures.1 (c.in_err-made.ensures.led c.args.self.now.place c.in_ok-token.ensures.takes n s e)
 
 pub parse_part-returns-clause-led : goal.parse_part-returns-clause-led
 parse_part-returns-clause-led g t c = λ n s e. gives_or_memory c.with_part-2.result c.with_part-2.ensures.memory (c.in_ok-made.ensures.led c.args.self.now.place c.in_ok-token.ensures.takes n s e)
-
-pub parse_behind-returns-in-LabelOrKeyword-clause-memory : goal.parse_behind-returns-in-LabelOrKeyword-clause-memory
-parse_behind-returns-in-LabelOrKeyword-clause-memory g t c = λ first there. answer_token (g.P.Builder.takes_memory c.args.builder) first c.args.self.now.place c.args.token c.parse_label.result there c.parse_label.ensures.memory
-
-pub parse_behind-returns-in-ParenOpen-clause-memory : goal.parse_behind-returns-in-ParenOpen-clause-memory
-parse_behind-returns-in-ParenOpen-clause-memory g t c = λ first there. answer_token (g.P.Builder.takes_memory c.args.builder) first c.args.self.now.place c.args.token c.parse_items.result there c.parse_items.ensures.memory
-
-pub parse_behind-returns-in-BracketOpen-clause-memory : goal.parse_behind-returns-in-BracketOpen-clause-memory
-parse_behind-returns-in-BracketOpen-clause-memory g t c = λ first there. answer_token (g.P.Builder.takes_memory c.args.builder) first c.args.self.now.place c.args.token c.parse_items-in-BracketOpen.result there c.parse_items-in-BracketOpen.ensures.memory
-
-pub parse_behind-returns-in-BraceOpen-clause-memory : goal.parse_behind-returns-in-BraceOpen-clause-memory
-parse_behind-returns-in-BraceOpen-clause-memory g t c = λ first there. answer_brace (g.P.Builder.takes_memory c.args.builder) first c.args.self.now.place c.parse_braces.result (class_as first c.args.self.now.place c.args.token BraceOpen there c.in-BraceOpen.is)
-
-pub parse_behind-returns-in_default-clause-memory : goal.parse_behind-returns-in_default-clause-memory
-parse_behind-returns-in_default-clause-memory g t c = λ first there. wants_refused (g.P.Builder.takes_memory c.args.builder) first c.refuse_token.result c.refuse_token.ensures.refused
-    (λ x says. wants_other (g.P.Builder.takes_memory c.args.builder) first x because.UnexpectedToken (kind_is says) (λ z. cc))
-
-pub parse_label-returns-in_err-expect-in-Some-clause-memory : goal.parse_label-returns-in_err-expect-in-Some-clause-memory
-parse_label-returns-in_err-expect-in-Some-clause-memory g t c = error_handed (WantsOnly (g.P.Builder.takes_memory c.args.builder) c.args.self.now.place) c.from_residual.result c.in_err-expect-in-Some.field-0.0 c.from_residual.ensures.1 (wants_fails (g.P.Builder.takes_memory c.args.builder) c.args.self.now.place c.args.self.now.place c.expect.new.self.place (λ k. k ≡ ParenOpen) c.in_err-expect-in-Some.field-0.0 c.in_err-expect-in-Some.ensures.takes)
-
-pub parse_label-returns-in_ok-expect-in-Some-clause-memory : goal.parse_label-returns-in_ok-expect-in-Some-clause-memory
-parse_label-returns-in_ok-expect-in-Some-clause-memory g t c = answer_token (g.P.Builder.takes_memory c.args.builder) c.args.self.now.place c.expect.new.self.place ParenOpen c.parse_payload.result c.in_ok-expect-in-Some.ensures.takes
-    (wants_part (TakesPart kind_of_node.OptionSome) (λ front. g.P.Builder.are_parts c.args.builder c.expect.new.self.place.lexer.source kind_of_node.OptionSome front c.parts-parts.result) c.parse_payload.result (WantsOnly (g.P.Builder.takes_memory c.args.builder) c.expect.new.self.place) c.parse_payload.ensures.memory [] refl (c.parts-parts.ensures c.expect.new.self.place.lexer.source tt))
 
 pub parse_maybe-returns-in_err-front-clause-memory : goal.parse_maybe-returns-in_err-front-clause-memory
 parse_maybe-returns-in_err-front-clause-memory g t c = error_handed (WantsOnly (g.P.Builder.takes_memory c.args.builder) c.args.self.now.place) c.from_residual.result c.in_err-front.field-0.0 c.from_residual.ensures.1 (wants_taken (g.P.Builder.takes_memory c.args.builder) c.args.self.now.place c.in_err-front.field-0.0 (c.in_err-front.ensures.takes (payload_parts c.args.with c.requires.1)))
@@ -773,20 +763,20 @@ parse_items-returns-then-ne-clause-memory g t c = wants_refused (g.P.Builder.tak
 pub parse_items-returns-in_err-expect-2-clause-memory : goal.parse_items-returns-in_err-expect-2-clause-memory
 parse_items-returns-in_err-expect-2-clause-memory g t c = error_handed (WantsOnly (g.P.Builder.takes_memory c.args.builder) c.args.self.now.place) c.from_residual-in_err-expect-2.result c.in_err-expect-2.field-0.0 c.from_residual-in_err-expect-2.ensures.1 (wants_fails (g.P.Builder.takes_memory c.args.builder) c.args.self.now.place c.next_is-in-items.new.self.place c.expect-then-next_is-2.new.self.place (λ k. k ≡ c.args.close) c.in_err-expect-2.field-0.0 c.in_err-expect-2.ensures.takes)
 
-pub parse_part-returns-in-Some-clause-kept : goal.parse_part-returns-in-Some-clause-kept
-parse_part-returns-in-Some-clause-kept g t c =
-    let n = node c.in-Some.ty (span_at c.advance.new.self.place) no_nodes in
-    let alone : IsAlone c.in_ok-token.token (text_at c.advance.new.self.place) c.in-Some.ty = subst (λ (z : List ℕ). IsAlone c.in_ok-token.token z c.in-Some.ty) c.slice.ensures c.in-Some.ensures in
+pub parse_part-returns-in-Alone-clause-kept : goal.parse_part-returns-in-Alone-clause-kept
+parse_part-returns-in-Alone-clause-kept g t c =
+    let n = node c.in-Alone.ty (span_at c.advance.new.self.place) no_nodes in
+    let alone : IsAlone c.in_ok-token.token (text_at c.advance.new.self.place) c.in-Alone.ty = front_alone c.slice.ensures c.front_of-front.ensures c.in-Alone.is in
     let source : c.advance.new.self.place.lexer.source ≡ c.args.self.now.place.lexer.source = source_item c.args.self.now.place c.advance.new.self.place c.in_ok-token.token c.in_ok-token.ensures.takes in
     let of = subst (λ z. g.P.Builder.is_made z c.advance.new.self.place.lexer.source n c.leaf_here-made.result) c.part-part.ensures c.leaf_here-made.ensures in
     as_added c.with_part.result c.with_part.ensures.kept (λ kept whole children due are.
-    (n, alone_parsed c.args.levels c.args.self.now.place c.advance.new.self.place c.in_ok-token.token c.in-Some.ty (omega arith) c.in_ok-token.ensures.takes alone, kept c.args.self.now.place.lexer.source whole children n due are (subst (λ (s : List ℕ). g.P.Builder.is_made (g.P.Builder.next c.args.builder c.args.parts.now) s n c.leaf_here-made.result) source of)))
+    (n, alone_parsed c.args.levels c.args.self.now.place c.advance.new.self.place c.in_ok-token.token c.in-Alone.ty (omega arith) c.in_ok-token.ensures.takes alone, kept c.args.self.now.place.lexer.source whole children n due are (subst (λ (s : List ℕ). g.P.Builder.is_made (g.P.Builder.next c.args.builder c.args.parts.now) s n c.leaf_here-made.result) source of)))
 
-pub parse_part-returns-in-Some-clause-memory : goal.parse_part-returns-in-Some-clause-memory
-parse_part-returns-in-Some-clause-memory g t c = wants_any (λ (source : List ℕ) (of : NodeType) (children : List NodeTree). g.P.Builder.are_parts c.args.builder source of children c.args.parts.now) (g.P.Builder.takes_memory c.args.builder) (WantsOnly (g.P.Builder.takes_memory c.args.builder) c.args.self.now.place) c.with_part.result c.with_part.ensures.takes (λ e takes. wants_taken (g.P.Builder.takes_memory c.args.builder) c.args.self.now.place e takes)
+pub parse_part-returns-in-Alone-clause-memory : goal.parse_part-returns-in-Alone-clause-memory
+parse_part-returns-in-Alone-clause-memory g t c = wants_any (λ (source : List ℕ) (of : NodeType) (children : List NodeTree). g.P.Builder.are_parts c.args.builder source of children c.args.parts.now) (g.P.Builder.takes_memory c.args.builder) (WantsOnly (g.P.Builder.takes_memory c.args.builder) c.args.self.now.place) c.with_part.result c.with_part.ensures.takes (λ e takes. wants_taken (g.P.Builder.takes_memory c.args.builder) c.args.self.now.place e takes)
 
-pub parse_part-returns-in-Some-clause-asks : goal.parse_part-returns-in-Some-clause-asks
-parse_part-returns-in-Some-clause-asks g t c = asks_once c.args.self.now c.advance.new.self c.advance.ensures.asks
+pub parse_part-returns-in-Alone-clause-asks : goal.parse_part-returns-in-Alone-clause-asks
+parse_part-returns-in-Alone-clause-asks g t c = asks_once c.args.self.now c.advance.new.self c.advance.ensures.asks
 
 pub parse_part-returns-in_err-made-clause-memory : goal.parse_part-returns-in_err-made-clause-memory
 parse_part-returns-in_err-made-clause-memory g t c = error_handed (λ e. (source : List ℕ) (of : NodeType) (children : List NodeTree) → g.P.Builder.are_parts c.args.builder source of children c.args.parts.now → WantsOnly (g.P.Builder.takes_memory c.args.builder) c.args.self.now.place e) c.from_residual-in_err-made.result c.in_err-made.field-0.0 c.from_residual-in_err-made.ensures.1

@@ -27,8 +27,8 @@ decreases-parse_items g l = 5 * l.levels + 1
 abbrev pub decreases-parse_maybe : goal.decreases-parse_maybe
 decreases-parse_maybe g l = 5 * l.levels + 2
 
-abbrev pub decreases-parse_label : goal.decreases-parse_label
-decreases-parse_label g l = 5 * l.levels + 3
+abbrev pub decreases-parse_some : goal.decreases-parse_some
+decreases-parse_some g l = 5 * l.levels + 2
 
 abbrev pub invariant-parse_items-items : goal.invariant-parse_items-items
 invariant-parse_items-items g l = record {
