@@ -36,8 +36,8 @@ use Rattle.wave_tree.proofs.tokens.Tokens.+parser.Goals as goal
 use Rattle.wave_tree.proofs.tokens.Tokens.+parser.Goals.{parse_items-then-eq-2, parse_items-else-eq-2}
 
 -- a token that is a value on its own, by what it begins
-front_alone : {c : lex.Token} {text shown : List ℕ} {f : Front} {ty : NodeType} → shown ≡ text → IsFront c shown f → f ≡ front.Alone ty → IsAlone c text ty
-front_alone {c} {text} {shown} {f} {ty} text_is begins is = subst (λ (z : List ℕ). IsAlone c z ty) text_is (subst (IsFront c shown) is begins)
+front_alone : (c : lex.Token) (text shown : List ℕ) (f : Front) (ty : NodeType) → shown ≡ text → IsFront c shown f → f ≡ front.Alone ty → IsAlone c text ty
+front_alone c text shown f ty text_is begins is = subst (λ (z : List ℕ). IsAlone c z ty) text_is (subst (IsFront c shown) is begins)
 
 -- after a value and a comma a key is due
 key_due : {n : ℕ} {s : List Form} {p q m w : Place} {c : lex.Token} → Reached n due.value (due.entries ∷ s) p due.value (due.entries ∷ s) q → (item : LeadsBehindValue n due.value (due.entries ∷ s) q m (due.entries ∷ s)) →
@@ -709,7 +709,7 @@ parse_part-returns-in_err-token-clause-memory g t c = error_handed (λ e. (sourc
 
 pub parse_part-returns-in-Alone-clause-led : goal.parse_part-returns-in-Alone-clause-led
 parse_part-returns-in-Alone-clause-led g t c = λ n s e. gives_or_memory c.with_part.result c.with_part.ensures.memory
-    (alone_led n s c.args.self.now.place c.advance.new.self.place c.in_ok-token.token c.in-Alone.ty (omega arith) c.in_ok-token.ensures.takes (front_alone c.slice.ensures c.front_of-front.ensures c.in-Alone.is))
+    (alone_led n s c.args.self.now.place c.advance.new.self.place c.in_ok-token.token c.in-Alone.ty (omega arith) c.in_ok-token.ensures.takes (front_alone c.in_ok-token.token (text_at c.advance.new.self.place) c.slice.result.now c.front_of-front.result c.in-Alone.ty c.slice.ensures c.front_of-front.ensures c.in-Alone.is))
 
 pub parse_part-returns-in_err-made-clause-led : goal.parse_part-returns-in_err-made-clause-led
 parse_part-returns-in_err-made-clause-led g t c = λ n s e. handed s _ _ c.from_residual-in_err-made.ensures.1 (c.in_err-made.ensures.led c.args.self.now.place c.in_ok-token.ensures.takes n s e)
@@ -766,7 +766,7 @@ parse_items-returns-in_err-expect-2-clause-memory g t c = error_handed (WantsOnl
 pub parse_part-returns-in-Alone-clause-kept : goal.parse_part-returns-in-Alone-clause-kept
 parse_part-returns-in-Alone-clause-kept g t c =
     let n = node c.in-Alone.ty (span_at c.advance.new.self.place) no_nodes in
-    let alone : IsAlone c.in_ok-token.token (text_at c.advance.new.self.place) c.in-Alone.ty = front_alone c.slice.ensures c.front_of-front.ensures c.in-Alone.is in
+    let alone : IsAlone c.in_ok-token.token (text_at c.advance.new.self.place) c.in-Alone.ty = front_alone c.in_ok-token.token (text_at c.advance.new.self.place) c.slice.result.now c.front_of-front.result c.in-Alone.ty c.slice.ensures c.front_of-front.ensures c.in-Alone.is in
     let source : c.advance.new.self.place.lexer.source ≡ c.args.self.now.place.lexer.source = source_item c.args.self.now.place c.advance.new.self.place c.in_ok-token.token c.in_ok-token.ensures.takes in
     let of = subst (λ z. g.P.Builder.is_made z c.advance.new.self.place.lexer.source n c.leaf_here-made.result) c.part-part.ensures c.leaf_here-made.ensures in
     as_added c.with_part.result c.with_part.ensures.kept (λ kept whole children due are.
