@@ -1,11 +1,10 @@
 -- Tokens that are values on their own.
-use Rattle.std.specs.Prelude.{codes}
-use Rattle.std.proofs.Common.{◌≡◌, ℕ, ◌<◌, ◌+◌, ◌-◌, Some, Ok, List, length, refl, sym, ap, subst, ◌∙◌, inl, inr, arith}
+use Rattle.std.proofs.Common.{◌≡◌, ℕ, ◌<◌, ◌-◌, Some, Ok, List, length, refl, sym, ap, subst, inl, inr}
 use Rattle.wave_lex.specs.declared.lex.Token as lex
 use Rattle.wave_lex.specs.declared.lex.Token.TheVariants.{BraceClose, ParenClose, BracketClose, Colon, Comma, Number, LabelOrKeyword, Char, String, MultilineString}
 use Rattle.wave_grammar.specs.ParserPosition.{Place, TakesItem, span_at, text_at, token_of}
-use Rattle.wave_grammar.specs.Tree.{Word, word_of, leaf_word, none_word}
-use Rattle.wave_grammar.specs.PrefixAutomaton.{Due, Form, due_behind, value, behind_value, value_step, unexpected}
+use Rattle.wave_grammar.specs.Tree.{word_of}
+use Rattle.wave_grammar.specs.PrefixAutomaton.{Form, due_behind, value, behind_value, value_step, unexpected}
 use Rattle.wave_grammar.specs.SyntaxErrors.{LeadsBehindValue}
 use Rattle.wave_syntax.specs.NodeParts.{IsOneToken}
 use Rattle.wave_syntax.specs.NodeTree.{node, no_nodes}

@@ -6,7 +6,7 @@ use Rattle.wave_lex.specs.declared.lex.Token as lex
 use Rattle.wave_lex.specs.declared.error.ParserErrorKind.TheVariants.{InvalidToken, UnexpectedEnd, UnexpectedToken, OutOfMemory}
 use Rattle.wave_lex.specs.Errors.{Diagnostic, Says, class_name}
 use Rattle.wave_lex.specs.Tokenization.{Lexed, NextIs, span}
-use Rattle.wave_grammar.specs.Tree.{Word, leaf_word, none_word, some_word, ok_word, err_word, case_word}
+use Rattle.wave_grammar.specs.Tree.{leaf_word, none_word, some_word, ok_word, err_word, case_word}
 use Rattle.wave_grammar.specs.ParserPosition.{Place, Item, TakesItem, span_at}
 use Rattle.wave_tree.specs.declared.item.Item.{Item as Kept}
 use Rattle.wave_tree.specs.declared.item.Item.TheVariants as kept

@@ -1,10 +1,7 @@
-use Rattle.std.specs.Prelude.{codes}
-use Rattle.wave_wasm.specs.Names.{is_one_of}
 use Rattle.std.proofs.Common.{◌≡◌, ℕ, ◌+◌, ◌-◌, Some, Ok, List, [], ◌∷◌, ◌++◌, refl, sym, ap, subst, ◌∙◌, inl, inr, arith, length}
 use Rattle.wave_lex.specs.declared.lex.Token as lex
-use Rattle.wave_lex.specs.declared.lex.Token.TheVariants.{BraceOpen, BraceClose, ParenOpen, ParenClose, BracketOpen, BracketClose, Colon, Comma, Number, LabelOrKeyword, Char, String, MultilineString}
+use Rattle.wave_lex.specs.declared.lex.Token.TheVariants.{BraceOpen, BraceClose, ParenOpen, ParenClose, BracketOpen, BracketClose, Colon, Comma, LabelOrKeyword}
 use Rattle.wave_grammar.specs.ParserPosition.{Place, TakesItem, span_at, text_at, token_of}
-use Rattle.wave_grammar.specs.Tree.{word_of}
 use Rattle.wave_grammar.specs.PrefixAutomaton.{Due, Form, due_behind, reads, behind_step, step, key_step, brace_step, behind_flag_step, flag_step}
 use Rattle.wave_grammar.specs.PrefixAutomaton as due
 use Rattle.wave_grammar.specs.SyntaxErrors.{Gives, IsBehind, LeadsBehindValue}
@@ -20,14 +17,13 @@ use Rattle.wave_tree.specs.ParsedNodes.{TakesClass}
 use Rattle.wave_syntax.specs.NodeTree.{NodeTree, node, no_nodes}
 use Rattle.wave_syntax.specs.declared.form.NodeType.{NodeType}
 use Rattle.wave_syntax.specs.declared.form.NodeType.TheVariants as kind_of_node
-use Rattle.wave_tree.proofs.NodeCorrectness.Items.{class_as, one_tied, label_tied, items_tied, braces_tied, leaf_tied, number_word_tied, none_tied, some_tied, ok_tied, err_tied, case_tied, some_there, type_of_items, items_made, items_none, items_first, items_next, pairs_next, pairs_close, empty_tied, no_fields_tied, entries_tied, flags_tied, payload_tied}
-use Rattle.wave_tree.proofs.NodeCorrectness.Tokens.{number_parsed, char_parsed, string_parsed, multiline_parsed}
+use Rattle.wave_tree.proofs.NodeCorrectness.Items.{class_as, label_tied, items_tied, braces_tied, some_tied, ok_tied, err_tied, case_tied, some_there, type_of_items, items_made, items_none, items_first, items_next, pairs_next, pairs_close, empty_tied, no_fields_tied, entries_tied, flags_tied, payload_tied}
 use Rattle.wave_syntax.proofs.Parameters.{error_handed}
 use Rattle.wave_tree.specs.Private.ParserState.{WantsOnly}
-use Rattle.wave_tree.proofs.AloneTokens.{alone_token, alone_parsed, alone_led, nothing_begins}
+use Rattle.wave_tree.proofs.AloneTokens.{alone_parsed, alone_led, nothing_begins}
 use Rattle.wave_tree.proofs.Wanting.{whatever_parts, wants_any, wants_refused, wants_reached, wants_less, answer_token, answer_brace, wants_other, wants_fails, wants_taken}
 use Rattle.wave_tree.proofs.PartsDue.{key_next, value_next, payload_due, payload_parts}
-use Rattle.wave_tree.proofs.Built.{as_added, part_added, built, leaf_built, whole_built, as_ok, of_front, of_part, wants_part, source_item, source_parsed, source_reached}
+use Rattle.wave_tree.proofs.Built.{as_added, part_added, built, whole_built, as_ok, of_front, of_part, wants_part, source_item, source_parsed, source_reached}
 use Rattle.wave_syntax.specs.NodeParts.{IsOfParts, TakesPart}
 use Rattle.wave_tree.specs.ParsedNodes.{IsBuilt, IsParsed}
 use Rattle.wave_tree.proofs.ClassTests.{is_class, is_other, differs, differs_not}

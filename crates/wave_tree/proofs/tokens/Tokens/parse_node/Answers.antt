@@ -1,4 +1,4 @@
-use Rattle.std.proofs.Common.{inl, refl, arith}
+use Rattle.std.proofs.Common.{inl, arith}
 use Rattle.wave_grammar.specs.PrefixAutomaton as due
 use Rattle.wave_lex.specs.declared.error.ParserErrorKind.TheVariants as because
 use Rattle.wave_syntax.proofs.Parameters.{error_handed}
