@@ -1,15 +1,15 @@
 -- What is read of a case and its payload.
-use Rattle.std.proofs.Common.{ℕ, ◌≡◌, inl, inr, List, [], ◌∷◌, ◌++◌, length, Option, Some, None, option_map, Bor, Result, Err, IfOk, IfErr, refl, sym, ap, ◌∙◌, subst, arith}
+use Rattle.std.proofs.Common.{ℕ, ◌≡◌, inl, inr, List, [], ◌∷◌, ◌++◌, length, Option, Some, None, option_map, Bor, Result, Err, IfOk, IfErr, refl, sym, ◌∙◌, subst, arith}
 use Rattle.std.specs.declared.ops.Range.{Range}
 use Rattle.wave_wasm.specs.Types as type
 use Rattle.wave_wasm.specs.Types.{TypeTree, HasDistinctNames, kind_of, variant_parts}
 use Rattle.wave_wasm.specs.Values.{Value}
-use Rattle.wave_wasm.specs.ValueErrors.{unknown_case, unexpected_payload, cause_of}
+use Rattle.wave_wasm.specs.ValueErrors.{unknown_case, unexpected_payload}
 use Rattle.wave_wasm.specs.Borrowed.{shown}
 use Rattle.wave_wasm.specs.ConstructorContracts.{HasFullParts, MakesVariant, FullVariant}
 use Rattle.wave_wasm.specs.declared.wasm.WasmTypeKind.TheVariants as kinds
 use Rattle.wave_wasm.specs.declared.wasm.WasmValueError.{WasmValueError}
-use Rattle.wave_lex.specs.Errors.{Diagnostic, refused_by}
+use Rattle.wave_lex.specs.Errors.{Diagnostic, refusal_of, refused_by}
 use Rattle.wave_grammar.specs.LeafTokens.{name_of}
 use Rattle.wave_grammar.specs.TypedGrammar.{look_up}
 use Rattle.wave_grammar.specs.SpannedTree.{MaybePlaced, no_placed, a_placed}
@@ -45,11 +45,11 @@ module _ {S V : Type 0} (type_tree : S → TypeTree) (tree : V → Value) (of : 
   -- ---- the label
 
   -- no case has the name
-  pub unknown_doomed : (T : TypeTree) (source : List ℕ) (c : NodeTree) (name : List ℕ) (cause : WasmValueError) → kind_of T ≡ kinds.Variant → name ≡ name_of (node_text source c) → None ≡ look_up (variant_parts T) name → cause_of cause ≡ unknown_case name → IsDoomed tree of Full T source kind.VariantWithPayload (c ∷ []) (fault.Cause cause)
+  pub unknown_doomed : (T : TypeTree) (source : List ℕ) (c : NodeTree) (name : List ℕ) (cause : Diagnostic) → kind_of T ≡ kinds.Variant → name ≡ name_of (node_text source c) → None ≡ look_up (variant_parts T) name → refusal_of cause ≡ refused_by (unknown_case name) → IsDoomed tree of Full T source kind.VariantWithPayload (c ∷ []) (fault.Cause cause)
   unknown_doomed T source c name cause is named missing caused = λ more p e tells.
       let variant = variant_type T is in
       let n = node kind.VariantWithPayload p (node_trees (c ∷ more)) in
-      let refused : IsCaused (unknown_case name) n e = inr (tells.0 ∙ ap refused_by caused, tells.1) in
+      let refused : IsCaused (unknown_case name) n e = inr (tells.0 ∙ caused, tells.1) in
       record {
         answer = λ t node distinct.
             let k = case_node source p c more t name node named in
@@ -58,7 +58,7 @@ module _ {S V : Type 0} (type_tree : S → TypeTree) (tree : V → Value) (of : 
       }
 
   -- the case of the name has no payload
-  pub unexpected_doomed : (T : TypeTree) (source : List ℕ) (c : NodeTree) (name : List ℕ) (cause : WasmValueError) → HasFullParts Full → kind_of T ≡ kinds.Variant → name ≡ name_of (node_text source c) → Some None ≡ look_up (variant_parts T) name → cause_of cause ≡ unexpected_payload name → IsDoomed tree of Full T source kind.VariantWithPayload (c ∷ []) (fault.Cause cause)
+  pub unexpected_doomed : (T : TypeTree) (source : List ℕ) (c : NodeTree) (name : List ℕ) (cause : Diagnostic) → HasFullParts Full → kind_of T ≡ kinds.Variant → name ≡ name_of (node_text source c) → Some None ≡ look_up (variant_parts T) name → refusal_of cause ≡ refused_by (unexpected_payload name) → IsDoomed tree of Full T source kind.VariantWithPayload (c ∷ []) (fault.Cause cause)
   unexpected_doomed T source c name cause parts is named here caused = λ more p e tells.
       let variant = variant_type T is in
       let n = node kind.VariantWithPayload p (node_trees (c ∷ more)) in
@@ -66,8 +66,8 @@ module _ {S V : Type 0} (type_tree : S → TypeTree) (tree : V → Value) (of : 
       record {
         answer = λ t node distinct.
             let k = case_node source p c more t name node named in
-            case_blame tree of Full T variant.cases source n t name (Some k.0) k.2 type.no_type e variant.is node.0 found parts (unexpected_blame tree of Full source n k.0 name k.2.payload e k.2.node (tells.0 ∙ ap refused_by caused, tells.1));
-        within = λ v. at_in source n e (inl v) (caused_at (unexpected_payload name) n e (inr (tells.0 ∙ ap refused_by caused, tells.1)) tells.1);
+            case_blame tree of Full T variant.cases source n t name (Some k.0) k.2 type.no_type e variant.is node.0 found parts (unexpected_blame tree of Full source n k.0 name k.2.payload e k.2.node (tells.0 ∙ caused, tells.1));
+        within = λ v. at_in source n e (inl v) (caused_at (unexpected_payload name) n e (inr (tells.0 ∙ caused, tells.1)) tells.1);
       }
 
   -- ---- the payload

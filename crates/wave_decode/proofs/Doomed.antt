@@ -1,15 +1,17 @@
 -- What a fault says of a value, whatever follows.
-use Rattle.std.proofs.Common.{ℕ, List, [], ◌∷◌, ◌++◌, Err, sym, subst}
+use Rattle.std.proofs.Common.{ℕ, ◌≡◌, List, [], ◌∷◌, ◌++◌, Err, sym, subst}
+use Rattle.std.specs.Prelude.{IsSomeAnd}
 use Rattle.std.proofs.lemmas.List.{append_assoc, append-nil}
 use Rattle.std.specs.declared.ops.Range.{Range}
 use Rattle.wave_wasm.specs.Types.{TypeTree}
 use Rattle.wave_wasm.specs.Values.{Value}
 use Rattle.wave_wasm.specs.declared.wasm.WasmValueError.{WasmValueError}
-use Rattle.wave_lex.specs.Errors.{Diagnostic}
+use Rattle.wave_wasm.specs.ValueErrors.{cause_of}
+use Rattle.wave_lex.specs.Errors.{Diagnostic, refusal_of, refused_by, kept}
 use Rattle.wave_syntax.specs.NodeTree.{NodeTree, node, node_trees}
 use Rattle.wave_syntax.specs.declared.form.NodeType.{NodeType}
 use Rattle.wave_leaf.specs.Reading.{IsReadAs}
-use Rattle.wave_leaf.specs.Causes.{HasTwoTexts}
+use Rattle.wave_leaf.specs.Failures.{HasTwoTexts}
 use Rattle.wave_decode.specs.declared.fault.Fault.{Fault}
 use Rattle.wave_decode.specs.declared.fault.Fault.TheVariants as fault
 use Rattle.wave_decode.specs.Faults.{Tells, IsFaultOf, IsDoomed}
@@ -31,7 +33,7 @@ module _ {V : Type 0} (tree : V → Value) (of : V → TypeTree → Type 0) (Ful
       subst (λ (ns : List NodeTree). IsReadAs tree of Full T source (node ty p (node_trees ns)) (Err e)) (append-nil children) (doomed [] p e tells)
 
   -- the fault with this cause, which has no two texts
-  pub caused_dooms : (T : TypeTree) (source : List ℕ) (ty : NodeType) (children : List NodeTree) (cause : WasmValueError) (f : Fault) → (HasTwoTexts cause → ⊥) → IsFaultOf cause f → IsDoomed tree of Full T source ty children (fault.Cause cause) → IsDoomed tree of Full T source ty children f
-  caused_dooms T source ty children cause (fault.Cause c) one same doomed = subst (λ (x : WasmValueError). IsDoomed tree of Full T source ty children (fault.Cause x)) (sym same) doomed
+  pub caused_dooms : (T : TypeTree) (source : List ℕ) (ty : NodeType) (children : List NodeTree) (cause : WasmValueError) (f : Fault) → (IsSomeAnd (kept cause) HasTwoTexts → ⊥) → IsFaultOf cause f → ((e : Diagnostic) → refusal_of e ≡ refused_by (cause_of cause) → IsDoomed tree of Full T source ty children (fault.Cause e)) → IsDoomed tree of Full T source ty children f
+  caused_dooms T source ty children cause (fault.Cause e) one same doomed = doomed e same
   caused_dooms T source ty children cause (fault.Kind k) one memory doomed = absurd (one memory.1)
   caused_dooms T source ty children cause (fault.Told e) one none doomed = absurd none

@@ -9,11 +9,11 @@ use Rattle.wave_wasm.specs.Names.{IsNoneOf, AreAllOf, AreDistinct, found_in}
 use Rattle.wave_wasm.specs.Types.{TypeTree, HasDistinctNames, flags_names, kind_of}
 use Rattle.wave_wasm.specs.Values.{Value}
 use Rattle.wave_wasm.specs.Borrowed.{texts}
-use Rattle.wave_wasm.specs.ValueErrors.{unknown_case, cause_of}
+use Rattle.wave_wasm.specs.ValueErrors.{unknown_case}
 use Rattle.wave_wasm.specs.ConstructorContracts.{MakesFlags, FullFlags}
 use Rattle.wave_wasm.specs.declared.wasm.WasmTypeKind.TheVariants as kinds
 use Rattle.wave_wasm.specs.declared.wasm.WasmValueError.{WasmValueError}
-use Rattle.wave_lex.specs.Errors.{Diagnostic, refusal_of, refused_by}
+use Rattle.wave_lex.specs.Errors.{Diagnostic, refusal_of}
 use Rattle.wave_lex.specs.declared.error.ParserErrorKind.TheVariants.{InvalidType}
 use Rattle.wave_grammar.specs.LeafTokens.{name_of}
 use Rattle.wave_grammar.specs.SpannedTree.{slice}
@@ -79,7 +79,7 @@ module _ {V : Type 0} (tree : V → Value) (of : V → TypeTree → Type 0) (Ful
       FullFlags of Full T picked cause → AreFlags n → names_at source (children_of n) ≡ flags → IsTold (Err f) (place_of n) r → IsReadAs tree of Full T source n r
   flags_refused T names flags source n picked cause f (Ok w) caused kind is known found full ok named told = absurd told
   flags_refused T names flags source n picked cause (fault.Cause c) (Err e) caused kind is known found full ok named told =
-      made_read T names flags source n picked (Err cause) (Err e) kind is known found tt full ok named (told.0 ∙ ap (λ (x : WasmValueError). refused_by (cause_of x)) caused, told.1)
+      made_read T names flags source n picked (Err cause) (Err e) kind is known found tt full ok named (told.0 ∙ caused, told.1)
   flags_refused T names flags source n picked cause (fault.Kind k) (Err e) caused kind is known found full ok named told =
       no_memory tree of Full T source n e (subst (λ k. RefusedAs k n e) caused.0 told)
   flags_refused T names flags source n picked cause (fault.Told d) (Err e) caused kind is known found full ok named told = absurd caused

@@ -5,14 +5,14 @@ use Rattle.wave_wasm.specs.Types.{TypeTree}
 use Rattle.wave_wasm.specs.Values.{Value}
 use Rattle.wave_wasm.specs.ValueErrors.{cause_of}
 use Rattle.wave_wasm.specs.declared.wasm.WasmValueError.{WasmValueError}
-use Rattle.wave_lex.specs.Errors.{Diagnostic, Says, refusal_of, refused_by}
-use Rattle.std.specs.Prelude.{None}
+use Rattle.wave_lex.specs.Errors.{Diagnostic, Says, refusal_of, refused_by, kept}
+use Rattle.std.specs.Prelude.{None, IsSomeAnd}
 use Rattle.wave_lex.specs.declared.error.ParserErrorKind.TheVariants.{OutOfMemory}
 use Rattle.wave_syntax.specs.NodeTree.{NodeTree, node, node_trees, place_of}
 use Rattle.wave_syntax.specs.TypedReading.{IsMade}
 use Rattle.wave_syntax.specs.declared.form.NodeType.{NodeType}
 use Rattle.wave_leaf.specs.Reading.{IsReadAs}
-use Rattle.wave_leaf.specs.Causes.{HasTwoTexts}
+use Rattle.wave_leaf.specs.Failures.{HasTwoTexts}
 use Rattle.wave_decode.specs.declared.fault.Fault.{Fault}
 use Rattle.wave_decode.specs.declared.fault.Fault.TheVariants as fault
 
@@ -20,12 +20,12 @@ use Rattle.wave_decode.specs.declared.fault.Fault.TheVariants as fault
 abbrev pub Tells : Fault → Range ℕ → Diagnostic → Type 0
 Tells (fault.Told e) p f = f ≡ e
 Tells (fault.Kind k) p f = Says f k p None
-Tells (fault.Cause c) p f = (refusal_of f ≡ refused_by (cause_of c)) × (f.span ≡ p)
+Tells (fault.Cause e) p f = (refusal_of f ≡ refusal_of e) × (f.span ≡ p)
 
 -- the fault with this cause; or, where it has two texts, for lack of memory
 abbrev pub IsFaultOf : WasmValueError → Fault → Type 0
-IsFaultOf cause (fault.Cause c) = c ≡ cause
-IsFaultOf cause (fault.Kind k) = (k ≡ OutOfMemory) × HasTwoTexts cause
+IsFaultOf cause (fault.Cause e) = refusal_of e ≡ refused_by (cause_of cause)
+IsFaultOf cause (fault.Kind k) = (k ≡ OutOfMemory) × IsSomeAnd (kept cause) HasTwoTexts
 IsFaultOf cause (fault.Told e) = ⊥
 
 -- at each node that stands there: the value that was made, or the refusal of its constructor

@@ -2,7 +2,6 @@
 ghost use Rattle.wave_decode.specs.Faults.{Tells, IsFaultOf, IsMadeAt};
 
 use std::alloc::Global;
-use wave_leaf::cause::SmallCause;
 use wave_leaf::failure::Failure;
 use wave_lex::error::{ParserError, ParserErrorKind};
 use wave_lex::lex::Span;
@@ -16,7 +15,7 @@ pub enum Fault {
     /// A refusal of this kind, of the whole value.
     Kind(ParserErrorKind),
     /// A refusal with this cause, of the whole value.
-    Cause(SmallCause),
+    Cause(Failure),
 }
 
 impl Fault {
@@ -29,7 +28,7 @@ impl Fault {
         match self {
             Fault::Told(failure) => failure.into_error(),
             Fault::Kind(kind) => ParserError::new(kind, span),
-            Fault::Cause(cause) => ParserError::with_cause(span, cause.into_cause()),
+            Fault::Cause(cause) => cause.into_error_at(span),
         }
     }
 }
@@ -40,7 +39,7 @@ impl Fault {
 pub(crate) fn caused(alloc: Global, cause: WasmValueError) -> Fault
     ensures { IsFaultOf cause result }
 {
-    match SmallCause::new(alloc, cause) {
+    match Failure::told(alloc, ParserError::with_cause(0..0, cause)) {
         Ok(cause) => Fault::Cause(cause),
         Err(_) => Fault::Kind(ParserErrorKind::OutOfMemory),
     }

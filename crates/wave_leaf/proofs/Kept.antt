@@ -13,8 +13,7 @@ use Rattle.wave_syntax.specs.NodeTree.{NodeTree}
 use Rattle.wave_syntax.specs.ErrorSpans.{LiesInNode, IsTypeKind}
 use Rattle.wave_syntax.specs.Shared.ErrorSpans.{RefusesIn}
 use Rattle.wave_leaf.specs.Reading.{IsReadAs, IsReadWhereDue}
-use Rattle.wave_leaf.specs.Failures.{IsSameOrMemory, IsKept}
-use Rattle.wave_leaf.specs.Causes.{HasTwoTexts}
+use Rattle.wave_leaf.specs.Failures.{IsSameOrMemory, IsKept, HasTwoTexts}
 
 module _ {V : Type 0} (tree : V → Value) (of : V → TypeTree → Type 0) (Full : TypeTree → Type 0) (T : TypeTree) (source : List ℕ) (n : NodeTree) where
   -- out of memory at the place of a refusal is one too

@@ -1,4 +1,3 @@
-pub mod Causes
 pub mod Failures
 pub mod Keys
 pub mod Leaves

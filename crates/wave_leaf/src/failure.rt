@@ -1,33 +1,136 @@
 //! Refusals of parts of a value, in few bytes.
-ghost use Rattle.std.specs.Prelude.{◌≡◌, IfOk, IfErr, IsSomeAnd};
+ghost use Rattle.std.specs.Prelude.{ℕ, ◌≡◌, Some, IfOk, IfErr, IsSomeAnd};
 ghost use Rattle.std.specs.String.{string_bytes};
-ghost use Rattle.wave_leaf.specs.Causes.{HasTwoTexts};
-ghost use Rattle.wave_leaf.specs.Failures.{IsSameOrMemory, IsKept, plain_failure, detailed};
+ghost use Rattle.std.specs.declared.ops.Range.{Range};
+ghost use Rattle.wave_lex.specs.Errors.{refusal_of};
+ghost use Rattle.wave_lex.specs.Shared.Errors.{detail_cause, detail_text};
+ghost use Rattle.wave_leaf.specs.Failures.{IsSameOrMemory, IsKept, HasTwoTexts, plain_failure, detailed, caused_failure, told_at};
+ghost use Rattle.wave_leaf.specs.declared.failure.Told.TheVariants as told_as;
 
-use crate::cause::SmallCause;
 use std::alloc::{AllocError, Global};
+use std::boxed::Box;
 use std::marker::Model;
 use wave_lex::error::{Detail, ParserError, ParserErrorKind};
 use wave_lex::lex::Span;
+use wave_wasm::wasm::{WasmTypeKind, WasmValueError};
 
-/// A refusal of a value, so small that the answer of reading is as small for each value as it can be.
+/// A refusal of a value, so small that the answer of reading is as small for each value as it can be:
+/// it has room for one text. A cause with two texts stands on the heap.
 #[derive(Drop)]
 pub struct Failure {
     span: Span,
     told: Told,
 }
 
-/// What a failure says beside its place.
+/// What a failure says beside its place. Each has its kind, since that takes no room beside the tag.
 #[derive(Drop)]
 enum Told {
-    /// Of this kind.
+    /// No word more.
     Plain(ParserErrorKind),
     /// With a detail that is written in the program.
     Static(ParserErrorKind, &'static str),
     /// With a detail that was made for it.
     Owned(ParserErrorKind, String),
-    /// With a cause.
-    Cause(ParserErrorKind, SmallCause),
+    /// With a cause of one text.
+    Text(ParserErrorKind, TextCause, String),
+    /// With `WrongTypeKind`.
+    TypeKind(ParserErrorKind, WasmTypeKind, String),
+    /// With `WrongNumberOfElements`.
+    Elements(ParserErrorKind, u32, usize),
+    /// With `WrongNumberOfTupleValues`.
+    TupleValues(ParserErrorKind, usize, usize),
+    /// With `Memory`.
+    Memory(ParserErrorKind, AllocError),
+    /// With a cause of two texts.
+    TwoTexts(ParserErrorKind, Box<WasmValueError>),
+}
+
+/// The causes that have one text and nothing else.
+#[derive(Clone, Copy)]
+enum TextCause {
+    MissingField,
+    MissingPayload,
+    UnexpectedPayload,
+    UnknownCase,
+    UnknownField,
+    UnsupportedType,
+    Other,
+}
+
+impl TextCause {
+    /// The cause with this text.
+    fn with_text(self, text: String) -> WasmValueError
+        ensures { (k : ParserErrorKind) (p : Range ℕ) → told_at p (told_as.Text k self text) ≡ caused_failure k p result }
+    {
+        match self {
+            TextCause::MissingField => WasmValueError::MissingField(text),
+            TextCause::MissingPayload => WasmValueError::MissingPayload(text),
+            TextCause::UnexpectedPayload => WasmValueError::UnexpectedPayload(text),
+            TextCause::UnknownCase => WasmValueError::UnknownCase(text),
+            TextCause::UnknownField => WasmValueError::UnknownField(text),
+            TextCause::UnsupportedType => WasmValueError::UnsupportedType(text),
+            TextCause::Other => WasmValueError::Other(text),
+        }
+    }
+}
+
+impl Told {
+    /// This kind with this cause.
+    fn caused(
+        alloc: Global,
+        kind: ParserErrorKind,
+        cause: WasmValueError,
+    ) -> Result<Told, AllocError>
+        ensures same { IfOk result (λ told. (p : Range ℕ) → told_at p told ≡ caused_failure kind p cause) }
+        ensures memory { IfErr result (λ _. HasTwoTexts cause) }
+    {
+        let (text_cause, text) = match cause {
+            WasmValueError::MissingField(name) => (TextCause::MissingField, name),
+            WasmValueError::MissingPayload(name) => (TextCause::MissingPayload, name),
+            WasmValueError::UnexpectedPayload(name) => (TextCause::UnexpectedPayload, name),
+            WasmValueError::UnknownCase(name) => (TextCause::UnknownCase, name),
+            WasmValueError::UnknownField(name) => (TextCause::UnknownField, name),
+            WasmValueError::UnsupportedType(word) => (TextCause::UnsupportedType, word),
+            WasmValueError::Other(words) => (TextCause::Other, words),
+            WasmValueError::WrongNumberOfElements { want, got } => {
+                return Ok(Told::Elements(kind, want, got));
+            }
+            WasmValueError::WrongNumberOfTupleValues { want, got } => {
+                return Ok(Told::TupleValues(kind, want, got));
+            }
+            WasmValueError::WrongTypeKind { kind: of, ty } => {
+                return Ok(Told::TypeKind(kind, of, ty));
+            }
+            WasmValueError::Memory(error) => return Ok(Told::Memory(kind, error)),
+            WasmValueError::WrongValueType { ty, val } => {
+                let cause = Box::new(alloc, WasmValueError::WrongValueType { ty, val })?;
+                return Ok(Told::TwoTexts(kind, cause));
+            }
+        };
+        Ok(Told::Text(kind, text_cause, text))
+    }
+
+    /// The kind and the detail.
+    fn into_parts(self) -> (ParserErrorKind, Detail)
+        ensures { (p : Range ℕ) → told_at p self ≡ record { kind = result.0; span = p; detail = detail_text result.1; cause = detail_cause result.1 } }
+    {
+        let (kind, cause) = match self {
+            Told::Plain(kind) => return (kind, Detail::None),
+            Told::Static(kind, words) => return (kind, Detail::Static(words)),
+            Told::Owned(kind, words) => return (kind, Detail::Owned(words)),
+            Told::Text(kind, cause, text) => (kind, cause.with_text(text)),
+            Told::TypeKind(kind, of, ty) => (kind, WasmValueError::WrongTypeKind { kind: of, ty }),
+            Told::Elements(kind, want, got) => {
+                (kind, WasmValueError::WrongNumberOfElements { want, got })
+            }
+            Told::TupleValues(kind, want, got) => {
+                (kind, WasmValueError::WrongNumberOfTupleValues { want, got })
+            }
+            Told::Memory(kind, error) => (kind, WasmValueError::Memory(error)),
+            Told::TwoTexts(kind, cause) => (kind, Box::into_inner(cause)),
+        };
+        (kind, Detail::Cause(cause))
+    }
 }
 
 impl Model for Failure {
@@ -92,9 +195,9 @@ impl Failure {
         let (kind, span, detail) = error.into_parts();
         let told = match detail {
             Detail::None => Told::Plain(kind),
-            Detail::Static(detail) => Told::Static(kind, detail),
-            Detail::Owned(detail) => Told::Owned(kind, detail),
-            Detail::Cause(cause) => Told::Cause(kind, SmallCause::new(alloc, cause)?),
+            Detail::Static(words) => Told::Static(kind, words),
+            Detail::Owned(words) => Told::Owned(kind, words),
+            Detail::Cause(cause) => Told::caused(alloc, kind, cause)?,
         };
         Ok(Failure { span, told })
     }
@@ -104,12 +207,17 @@ impl Failure {
         ensures { result ≡ self }
     {
         let Failure { span, told } = self;
-        let (kind, detail) = match told {
-            Told::Plain(kind) => (kind, Detail::None),
-            Told::Static(kind, detail) => (kind, Detail::Static(detail)),
-            Told::Owned(kind, detail) => (kind, Detail::Owned(detail)),
-            Told::Cause(kind, cause) => (kind, Detail::Cause(cause.into_cause())),
-        };
+        let (kind, detail) = told.into_parts();
+        ParserError::with_parts(kind, span, detail)
+    }
+
+    /// The same refusal, of what stands here.
+    pub fn into_error_at(self, span: Span) -> ParserError
+        ensures refusal { refusal_of result ≡ refusal_of self }
+        ensures span { result.span ≡ span }
+    {
+        let Failure { span: _, told } = self;
+        let (kind, detail) = told.into_parts();
         ParserError::with_parts(kind, span, detail)
     }
 }

@@ -1,7 +1,6 @@
 //! What is made of values while they are parsed.
 #![tactic(auto)]
 
-pub mod cause;
 pub mod failure;
 mod keys;
 pub mod leaf;
