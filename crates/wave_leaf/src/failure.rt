@@ -188,6 +188,8 @@ impl Failure {
     }
 
     /// The error as a failure. Only a cause with two texts takes memory.
+    #[cold]
+    #[inline(never)]
     pub fn told(alloc: Global, error: ParserError) -> Result<Failure, AllocError>
         ensures same { IfOk result (λ failure. failure ≡ error) }
         ensures memory { IfErr result (λ _. IsSomeAnd error.cause HasTwoTexts) }
@@ -203,6 +205,8 @@ impl Failure {
     }
 
     /// The failure as an error.
+    #[cold]
+    #[inline(never)]
     pub fn into_error(self) -> ParserError
         ensures { result ≡ self }
     {
@@ -212,6 +216,8 @@ impl Failure {
     }
 
     /// The same refusal, of what stands here.
+    #[cold]
+    #[inline(never)]
     pub fn into_error_at(self, span: Span) -> ParserError
         ensures refusal { refusal_of result ≡ refusal_of self }
         ensures span { result.span ≡ span }
