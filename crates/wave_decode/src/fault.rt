@@ -14,7 +14,7 @@ pub enum Fault {
     Told(Failure),
     /// A refusal of this kind, of the whole value.
     Kind(ParserErrorKind),
-    /// A refusal with this cause, of the whole value.
+    /// A refusal with this cause, of the whole value, where it is told to stand at the end.
     Cause(Failure),
 }
 

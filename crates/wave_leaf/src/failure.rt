@@ -10,7 +10,7 @@ ghost use Rattle.wave_leaf.specs.declared.failure.Told.TheVariants as told_as;
 use std::alloc::{AllocError, Global};
 use std::boxed::Box;
 use std::marker::Model;
-use wave_lex::error::{Detail, ParserError, ParserErrorKind};
+use wave_lex::error::{Detail, ParserError, ParserErrorKind, error_of_parts, parts_of_error};
 use wave_lex::lex::Span;
 use wave_wasm::wasm::{WasmTypeKind, WasmValueError};
 
@@ -194,7 +194,7 @@ impl Failure {
         ensures same { IfOk result (λ failure. failure ≡ error) }
         ensures memory { IfErr result (λ _. IsSomeAnd error.cause HasTwoTexts) }
     {
-        let (kind, span, detail) = error.into_parts();
+        let (kind, span, detail) = parts_of_error(error);
         let told = match detail {
             Detail::None => Told::Plain(kind),
             Detail::Static(words) => Told::Static(kind, words),
@@ -212,7 +212,7 @@ impl Failure {
     {
         let Failure { span, told } = self;
         let (kind, detail) = told.into_parts();
-        ParserError::with_parts(kind, span, detail)
+        error_of_parts(kind, span, detail)
     }
 
     /// The same refusal, of what stands here.
@@ -224,7 +224,7 @@ impl Failure {
     {
         let Failure { span: _, told } = self;
         let (kind, detail) = told.into_parts();
-        ParserError::with_parts(kind, span, detail)
+        error_of_parts(kind, span, detail)
     }
 }
 

@@ -18,6 +18,7 @@ pub mod Parts
 pub mod Lines
 pub mod Faults
 pub mod Fronts
+pub mod Marks
 pub mod Runs
 pub mod EscapeRuns
 pub mod WordRuns

@@ -132,7 +132,7 @@ impl ParserError {
         ensures span { result.span ≡ span }
         ensures detail { result.detail ≡ None }
     {
-        ParserError::with_parts(kind, span, Detail::None)
+        error_of_parts(kind, span, Detail::None)
     }
 
     /// A refusal with a detail that is written in the program.
@@ -141,7 +141,7 @@ impl ParserError {
         ensures span { result.span ≡ span }
         ensures detail { result.detail ≡ Some detail.now }
     {
-        ParserError::with_parts(kind, span, Detail::Static(detail))
+        error_of_parts(kind, span, Detail::Static(detail))
     }
 
     /// A refusal with a detail that was made for it.
@@ -150,7 +150,7 @@ impl ParserError {
         ensures span { result.span ≡ span }
         ensures detail { result.detail ≡ Some (string_bytes detail) }
     {
-        ParserError::with_parts(kind, span, Detail::Owned(detail))
+        error_of_parts(kind, span, Detail::Owned(detail))
     }
 
     /// A refusal because a value could not be made: `OutOfMemory` without a cause where memory
@@ -163,7 +163,7 @@ impl ParserError {
     {
         match cause {
             WasmValueError::Memory(_) => ParserError::new(ParserErrorKind::OutOfMemory, span),
-            cause => ParserError::with_parts(
+            cause => error_of_parts(
                 ParserErrorKind::WasmValueError,
                 span,
                 Detail::Cause(cause),
@@ -171,18 +171,7 @@ impl ParserError {
         }
     }
 
-    /// A refusal of these parts. The cause isn't `Memory`, which `with_cause` tells by the kind.
-    pub fn with_parts(kind: ParserErrorKind, span: Span, detail: Detail) -> ParserError
-        ensures kind { result.kind ≡ kind }
-        ensures span { result.span ≡ span }
-        ensures detail { result.detail ≡ detail_text detail }
-        ensures cause { result.cause ≡ detail_cause detail }
-    {
-        ParserError { kind, span, detail }
-    }
-
-    /// The parts of the refusal.
-    pub fn into_parts(self) -> (ParserErrorKind, Span, Detail)
+    fn into_parts(self) -> (ParserErrorKind, Span, Detail)
         ensures kind { result.0 ≡ self.kind }
         ensures span { result.1 ≡ self.span }
         ensures detail { detail_text result.2 ≡ self.detail }
@@ -227,6 +216,26 @@ impl ParserError {
             _ => None,
         }
     }
+}
+
+/// A refusal of these parts. The cause isn't `Memory`, which `with_cause` tells by the kind.
+pub fn error_of_parts(kind: ParserErrorKind, span: Span, detail: Detail) -> ParserError
+    ensures kind { result.kind ≡ kind }
+    ensures span { result.span ≡ span }
+    ensures detail { result.detail ≡ detail_text detail }
+    ensures cause { result.cause ≡ detail_cause detail }
+{
+    ParserError { kind, span, detail }
+}
+
+/// The parts of the refusal.
+pub fn parts_of_error(error: ParserError) -> (ParserErrorKind, Span, Detail)
+    ensures kind { result.0 ≡ error.kind }
+    ensures span { result.1 ≡ error.span }
+    ensures detail { detail_text result.2 ≡ error.detail }
+    ensures cause { detail_cause result.2 ≡ error.cause }
+{
+    error.into_parts()
 }
 
 impl fmt::Display for ParserError {

@@ -1,11 +1,11 @@
 //! Tokens of the text encoding, and the lexer that tokenizes a source.
-ghost use Rattle.std.specs.Prelude.{◌≡◌, ℕ, ◌+◌, Some, slice_range, length};
+ghost use Rattle.std.specs.Prelude.{◌≡◌, ℕ, ◌+◌, Some, IfSome, slice_range, length};
 ghost use Rattle.std.specs.Iterator.{at_most};
 ghost use Rattle.wave_lex.specs.Errors.{class_name, name_class_name};
 ghost use Rattle.wave_lex.specs.LongestMatch.{Greatest, IsFront};
 ghost use Rattle.wave_lex.specs.Tokens.{shape, invalid};
 ghost use Rattle.wave_lex.specs.Tokenization.{Lexed, Stands, NextIs, remainder_of, span};
-ghost use Rattle.wave_lex.specs.Shared.Reading.{class_of, ClassAt, TokenAt};
+ghost use Rattle.wave_lex.specs.Shared.Reading.{class_of, ClassAt, TokenAt, IsMark, IsFirstMark};
 
 use self::front::{gap_at, label_at, mark_at, multiline_at, number_at, string_at};
 pub use self::func_name::FuncNameLexer;
@@ -145,6 +145,34 @@ fn longest_in(class: Token, text: &str) -> Option<usize>
     }
 }
 
+/// The mark that this byte is.
+fn mark_of(byte: u8) -> Option<Token>
+    ensures { IfSome result (IsMark byte) }
+{
+    match byte {
+        b'{' => Some(Token::BraceOpen),
+        b'}' => Some(Token::BraceClose),
+        b'(' => Some(Token::ParenOpen),
+        b')' => Some(Token::ParenClose),
+        b'[' => Some(Token::BracketOpen),
+        b']' => Some(Token::BracketClose),
+        b':' => Some(Token::Colon),
+        b',' => Some(Token::Comma),
+        _ => None,
+    }
+}
+
+/// The mark at the start.
+fn first_mark(text: &str) -> Option<Token>
+    ensures { IfSome result (IsFirstMark text.now) }
+{
+    let bytes = text.as_bytes();
+    if bytes.len() == 0 {
+        return None;
+    }
+    mark_of(bytes[0])
+}
+
 /// The class in which any token at the start lies.
 fn class_at(text: &str) -> Option<Token>
     ensures { ClassAt text.now result }
@@ -259,6 +287,11 @@ impl<'source> Iterator for Lexer<'source> {
     /// and None at the end, for good.
     fn next(&mut self) -> Option<Result<Token, Span>> {
         let rest = &self.source[self.end..];
+        if let Some(mark) = first_mark(rest) {
+            self.start = self.end;
+            self.end += 1;
+            return Some(Ok(mark));
+        }
         let gap = gap_at(rest);
         let text = &rest[gap..];
         self.start = self.end + gap;

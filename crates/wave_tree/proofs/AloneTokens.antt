@@ -16,23 +16,6 @@ use Rattle.wave_tree.proofs.NodeCorrectness.Items.{same_level, leaf_tied, number
 use Rattle.wave_tree.proofs.NodeCorrectness.Tokens.{number_parsed, char_parsed, string_parsed, multiline_parsed}
 use Rattle.wave_tree.proofs.ParserSteps.{value_read, read_there}
 
--- the node of such a word has no parts
-word_token : (ty : NodeType) (text : List ℕ) → IsAloneWord ty text → IsOneToken ty
-word_token kind.BoolTrue text h = tt
-word_token kind.BoolFalse text h = tt
-word_token kind.Number text h = tt
-word_token kind.OptionNone text h = tt
-word_token _ text h = absurd h
-
--- the node of such a token has no parts
-pub alone_token : (c : lex.Token) (text : List ℕ) (ty : NodeType) → IsAlone c text ty → IsOneToken ty
-alone_token Number text ty e = subst IsOneToken (sym e) tt
-alone_token Char text ty e = subst IsOneToken (sym e) tt
-alone_token String text ty e = subst IsOneToken (sym e) tt
-alone_token MultilineString text ty e = subst IsOneToken (sym e) tt
-alone_token LabelOrKeyword text ty h = word_token ty text h
-alone_token _ text ty h = absurd h
-
 -- such a word is the whole tree
 word_alone : (n : ℕ) (p q : Place) (ty : NodeType) → 0 < n → TakesItem p (Some (Ok LabelOrKeyword)) q → IsAloneWord ty (text_at q) → IsParsed n p q (node ty (span_at q) no_nodes)
 word_alone n p q kind.BoolTrue l h (w, e) = same_level n p q _ l (leaf_tied (n - 1) q kind.BoolTrue _ w (inl (refl, e)) refl p h)

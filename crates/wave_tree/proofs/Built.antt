@@ -28,10 +28,6 @@ pub built : {M E : Type 0} (Of : List ℕ → NodeTree → M → Type 0) (p q : 
 built Of p q A B (Ok made) e f (n, a, of) = (n, f n a, subst (λ (s : List ℕ). Of s n made) e of)
 built Of p q A B (Err x) e f h = tt
 
--- what is made of a node of the token that was taken
-pub leaf_built : {M : Type 0} (Of : List ℕ → NodeTree → M → Type 0) (p m : Place) (c : lex.Token) (ty : NodeType) (made : M) (B : NodeTree → Type 0) → TakesItem p (Some (Ok c)) m → B (node ty (span_at m) no_nodes) → Of m.lexer.source (node ty (span_at m) no_nodes) made → IsBuilt Of p B made
-leaf_built Of p m c ty made B h b of = (node ty (span_at m) no_nodes, b, subst (λ (s : List ℕ). Of s (node ty (span_at m) no_nodes) made) (source_item p m c h) of)
-
 -- a node, as an answer
 abbrev pub as_ok : NodeTree → Result NodeTree (Unit {0})
 as_ok n = Ok n

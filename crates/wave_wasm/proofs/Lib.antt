@@ -10,6 +10,7 @@ pub mod Flags
 pub mod Records
 pub mod MergeCongruence
 pub mod Escapes
+pub mod PlainTexts
 pub mod Keys
 pub mod Maps
 pub mod MergeLoop

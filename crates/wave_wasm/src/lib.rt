@@ -4,5 +4,6 @@
 pub mod fingerprints;
 pub mod keyword;
 pub mod laws;
+pub(crate) mod plain;
 pub mod wasm;
 pub mod writer;

@@ -1,6 +1,7 @@
 //! The canonical text of values.
 use crate::fingerprints::{all_differ, fingerprint};
 use crate::keyword::Keyword;
+use crate::plain::stands_for_itself;
 use crate::wasm::{WasmTypeKind, WasmValue};
 use itoa::{Buffer, Integer};
 use std::alloc::{AllocError, AllocFailed, Global};
@@ -107,7 +108,8 @@ impl<W: TextWrite> Model for Writer<W> {
 
 impl<W: TextWrite> Writer<W> {
     ghost use Rattle.std.specs.Prelude.{◌≡◌, ◌++◌, OnOk, IfErr, true, map, if◌then◌else◌};
-    ghost use Rattle.std.specs.List.{list_all};
+    ghost use Rattle.std.specs.List.{flat_map, list_all};
+    ghost use Rattle.std.specs.Str.{chars};
     ghost use Rattle.std.specs.Borrow.{Lends, sem};
     ghost use Rattle.wave_wasm.specs.contracts.writer.Writer.{the_row};
     ghost use Rattle.wave_wasm.specs.WriterState.{Appended, Refused};
@@ -369,6 +371,7 @@ impl<W: TextWrite> Writer<W> {
     }
 
     /// Writes a value of one token.
+    #[inline(always)]
     fn write_leaf<V: WasmValue>(&mut self, val: &V) -> Result<(), WriterError>
         requires { IsLeaf (V.tree val.now) }
         ensures { Writes (text (V.tree val.now)) true result (W.output self.old) (W.output self.new) }
@@ -426,6 +429,9 @@ impl<W: TextWrite> Writer<W> {
     fn write_string(&mut self, s: &str) -> Result<(), WriterError>
         ensures { Writes (quoted s.now) true result (W.output self.old) (W.output self.new) }
     {
+        if stands_for_itself(s) {
+            return self.write_plain_string(s);
+        }
         self.write_text("\"")?;
         let mut start = 0;
         for (at, c) in s.char_indices() {
@@ -436,6 +442,16 @@ impl<W: TextWrite> Writer<W> {
             }
         }
         self.write_run(&s[start..])?;
+        self.write_text("\"")
+    }
+
+    /// Writes a text that stands for itself, between double quotes.
+    fn write_plain_string(&mut self, s: &str) -> Result<(), WriterError>
+        requires { flat_map escaped (chars s.now) ≡ s.now }
+        ensures { Writes (quoted s.now) true result (W.output self.old) (W.output self.new) }
+    {
+        self.write_text("\"")?;
+        self.write_text(s)?;
         self.write_text("\"")
     }
 

@@ -1,4 +1,4 @@
--- How the code keeps the detail of an error. Only private contracts cite it.
+-- How the code keeps the detail of an error. Users don't name what is declared over it.
 use Rattle.std.specs.Prelude.{ℕ, List, Option, Some, None}
 use Rattle.std.specs.String.{string_bytes}
 use Rattle.wave_wasm.specs.declared.wasm.WasmValueError.{WasmValueError}

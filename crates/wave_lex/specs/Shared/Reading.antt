@@ -9,7 +9,7 @@ use Rattle.wave_lex.specs.Regex.{Regex, is_within}
 use Rattle.wave_lex.specs.Shared.Derive.{after_all}
 use Rattle.wave_lex.specs.LongestMatch.{FrontHas}
 use Rattle.wave_lex.specs.Shared.Machines.{is_lower, is_plain, label_token_rest}
-use Rattle.wave_lex.specs.Tokenization.{MayStandAt, IsToken, IsLongestToken, NoToken}
+use Rattle.wave_lex.specs.Tokenization.{MayStandAt, IsToken, IsLongestToken, IsGap, NoToken}
 
 -- which class the first scalar of a token shows; the two kinds of strings begin alike
 abbrev pub class_of : ℕ → Option Token
@@ -27,6 +27,22 @@ class_of c =
     else (if nat_eq c 39 then Some Char
     else (if nat_eq c 34 then Some String
     else None)))))))))))
+
+-- which byte the mark of a class is
+abbrev pub IsMark : ℕ → Token → Type 0
+IsMark m BraceOpen = m ≡ 123
+IsMark m BraceClose = m ≡ 125
+IsMark m ParenOpen = m ≡ 40
+IsMark m ParenClose = m ≡ 41
+IsMark m BracketOpen = m ≡ 91
+IsMark m BracketClose = m ≡ 93
+IsMark m Colon = m ≡ 58
+IsMark m Comma = m ≡ 44
+IsMark m _ = ⊥
+
+-- a mark is the longest token at the start of r, and no whitespace stands before it
+abbrev pub IsFirstMark : List ℕ → Token → Type 0
+IsFirstMark r c = IsGap r 0 × IsLongestToken r 1 c
 
 -- what stands at the start of r
 abbrev pub TokenAt : List ℕ → Option (Token × ℕ) → Type 0

@@ -93,6 +93,9 @@ pub fn label_at(text: &str) -> Option<usize>
     if is_digit(bytes[0]) {
         return longest_front(LabelTokenState::Start, text);
     }
+    if run < bytes.len() && bytes[run] != b'-' {
+        return Some(run);
+    }
     let place = words_end(text, run);
     if place >= bytes.len() {
         return Some(place);

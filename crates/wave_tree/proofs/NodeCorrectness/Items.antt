@@ -24,11 +24,6 @@ use Rattle.wave_tree.proofs.NodeCorrectness.Lists.{tuple_parsed, list_parsed}
 pub class_as : (p q : Place) (c : lex.Token) (k : lex.Token) → TakesItem p (Some (Ok c)) q → c ≡ k → TakesItem p (Some (Ok k)) q
 class_as p q c k h e = subst (λ z. TakesItem p (Some (Ok z)) q) e h
 
--- a node of one token, by what is known of its class
-pub one_tied : (ty : NodeType) (k : lex.Token) → ((n : ℕ) (p m : Place) → 0 < n → TakesItem p (Some (Ok k)) m → IsParsed n p m (node ty (span_at m) no_nodes)) →
-    (n : ℕ) (p q : Place) (c : lex.Token) (parsed : NodeTree) → 0 < n → TakesItem p (Some (Ok c)) q → c ≡ k → parsed ≡ node ty (span_at q) no_nodes → IsParsed n p q parsed
-one_tied ty k one_parsed n p q c parsed l h e is = subst (IsParsed n p q) (sym is) (one_parsed n p q l (class_as _ _ _ k h e))
-
 -- as many levels as there were
 pub same_level : (n : ℕ) (p q : Place) (parsed : NodeTree) → 0 < n → IsParsed (n - 1 + 1) p q parsed → IsParsed n p q parsed
 same_level n p q parsed l h = let e : n - 1 + 1 ≡ n = omega (arith, l) in subst (λ z. IsParsed z p q parsed) e h

@@ -24,3 +24,8 @@ returns-then-place-bytes c = words_are _ _ _ c.as_bytes-bytes.ensures.value c.wo
 
 pub returns-then-bytes-place-ne45 : goal.returns-then-bytes-place-ne45
 returns-then-bytes-place-ne45 c = words_are _ _ _ c.as_bytes-bytes.ensures.value c.words_end-place.ensures (λ _. c.if-bytes-place-ne45.true)
+
+pub returns-then-bytes-run-ne45 : goal.returns-then-bytes-run-ne45
+returns-then-bytes-run-ne45 c = words_are _ _ _ c.as_bytes-bytes.ensures.value
+    (word_first _ _ _ c.as_bytes-bytes.ensures.value (omega arith) c.lowers-run.ensures.within c.lowers-run.ensures.all (sym c.is_digit.ensures ∙ c.if-is_digit.false) c.lowers-run.ensures.stops)
+    (λ _. c.if-bytes-run-ne45.true)

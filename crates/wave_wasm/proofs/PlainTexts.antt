@@ -1,0 +1,85 @@
+-- Bytes of ASCII that stand for themselves between quotes.
+use Rattle.std.proofs.Common.{ℕ, ◌≡◌, ◌<◌, zero, suc, length, All, List, [], ◌∷◌, ◌++◌, Bool, true, false, inl, inr, refl, sym, ap, subst, ◌∙◌, arith, get_or, nat_eq, bytes_eq}
+use Rattle.std.specs.Prelude.{not, ◌&&◌, ◌||◌}
+use Rattle.std.specs.List.{flat_map}
+use Rattle.std.specs.Str.{chars}
+use Rattle.std.proofs.lemmas.Bool.{cases_lt}
+use Rattle.std.proofs.lemmas.Bool.Decides.{nat_tests}
+use Rattle.std.proofs.lemmas.Slice.Eq.{bytes_eq-Decides}
+use Rattle.std.proofs.lemmas.Str.{chars-IsAscii}
+use Rattle.std.proofs.lemmas.List.{get_or_default}
+use Rattle.std.proofs.lemmas.Str.Ascii.{IsAscii-from_all}
+use Rattle.ucd_category.proofs.Computing.{ucd_category}
+use Rattle.wave_wasm.specs.declared.plain.TheConstants.{PLAINS}
+use Rattle.wave_wasm.specs.Text.{escaped}
+use Rattle.wave_wasm.specs.Private.Text.{is_plain_byte}
+
+-- p holds of each number below n
+abbrev pub each_below : ℕ → (ℕ → Bool) → Bool
+each_below zero p = true
+each_below (suc n) p = p n && each_below n p
+
+both : (a b : Bool) → (a && b) ≡ true → (a ≡ true) × (b ≡ true)
+both true true e = (refl, refl)
+both true false e = cc
+both false b e = cc
+
+-- what is tested below n holds below n
+pub each_below_at : (n b : ℕ) (p : ℕ → Bool) → each_below n p ≡ true → b < n → p b ≡ true
+each_below_at zero b p e l = let w : ⊥ = omega arith in absurd w
+each_below_at (suc n) b p e l =
+    let h : (p n ≡ true) × (each_below n p ≡ true) = both _ _ e in
+    elim (cases_lt b n) as (λ _. p b ≡ true) [
+      | inl k ↦ each_below_at n b p h.1 k
+      | inr k ↦ let s : b ≡ n = omega arith in subst (λ (z : ℕ). p z ≡ true) (sym s) h.0
+    ]
+
+where_true : (a b : Bool) → (not a || b) ≡ true → a ≡ true → b ≡ true
+where_true true b e f = e
+where_true false b e f = cc
+
+abbrev same : Bool → Bool → Bool
+same true b = b
+same false b = not b
+
+same_answer : (a b : Bool) → same a b ≡ true → a ≡ b
+same_answer true true e = refl
+same_answer true false e = sym e
+same_answer false true e = e
+same_answer false false e = refl
+
+-- by computing
+plain_computed : each_below 127 (λ b. not (is_plain_byte b) || bytes_eq (escaped b) (b ∷ [])) ≡ true
+unfolding escaped ucd_category lib.Utf8.encode
+plain_computed = refl
+
+-- a plain byte is ASCII
+plain_below : (b : ℕ) → is_plain_byte b ≡ true → b < 127
+plain_below b e = grind (arith, nat_tests)
+
+-- and it is written as it is
+plain_escaped : (b : ℕ) → is_plain_byte b ≡ true → escaped b ≡ b ∷ []
+plain_escaped b e = (bytes_eq-Decides (escaped b) (b ∷ [])).0 (where_true _ _ (each_below_at 127 b (λ x. not (is_plain_byte x) || bytes_eq (escaped x) (x ∷ [])) plain_computed (plain_below b e)) e)
+
+abbrev ArePlain : List ℕ → Type 0
+ArePlain bs = (i : ℕ) → i < length bs → is_plain_byte (get_or bs i 0) ≡ true
+
+others_plain : (b : ℕ) (bs : List ℕ) → ArePlain (b ∷ bs) → ArePlain bs
+others_plain b bs h i l = h (suc i) (omega arith)
+
+plain_ascii : (bs : List ℕ) → ArePlain bs → All (λ b. b < 128) bs
+plain_ascii bs h k d l = let same : get_or bs k d ≡ get_or bs k 0 = get_or_default bs k d 0 l in
+    omega (arith, same, plain_below (get_or bs k 0) (h k l))
+
+all_written : (bs : List ℕ) → ArePlain bs → flat_map escaped bs ≡ bs
+all_written [] h = refl
+all_written (b ∷ bs) h =
+    ap (λ (z : List ℕ). z ++ flat_map escaped bs) (plain_escaped b (h 0 (omega arith))) ∙ ap (λ (z : List ℕ). b ∷ z) (all_written bs (others_plain b bs h))
+
+-- a text of plain bytes is written as it is
+pub plain_stands : (bs : List ℕ) → ArePlain bs → flat_map escaped (chars bs) ≡ bs
+plain_stands bs h = ap (λ (z : List ℕ). flat_map escaped z) (chars-IsAscii bs (IsAscii-from_all bs (plain_ascii bs h))) ∙ all_written bs h
+
+-- the table of bytes
+pub plain_table : (b : ℕ) → b < 256 → nat_eq (get_or PLAINS b 0) 46 ≡ is_plain_byte b
+plain_table b l = same_answer _ _ (each_below_at 256 b (λ k. same (nat_eq (get_or PLAINS k 0) 46) (is_plain_byte k)) refl l)

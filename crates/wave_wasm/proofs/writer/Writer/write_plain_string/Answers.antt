@@ -1,0 +1,20 @@
+use Rattle.std.proofs.Common.{◌++◌, List, ℕ, refl, ap, codes}
+use Rattle.std.proofs.lemmas.Result.{err_from_is_err_and}
+use Rattle.wave_wasm.proofs.Writing.{writing_more, writing_refused_text, writing_last, start_refused, start_written}
+use Rattle.wave_wasm.proofs.writer.Writer.write_plain_string.Goals as goal
+
+pub returns-in_err-write_text : goal.returns-in_err-write_text
+returns-in_err-write_text g c =
+    let p = err_from_is_err_and c.from_residual.result c.from_residual.ensures.1 in
+    rw (p.1, p.2) (start_refused _ refl c.in_err-write_text.ensures)
+
+pub returns-in_err-write_text-2 : goal.returns-in_err-write_text-2
+returns-in_err-write_text-2 g c =
+    let p = err_from_is_err_and c.from_residual-in_err-write_text-2.result c.from_residual-in_err-write_text-2.ensures.1 in
+    let is = ap (λ (z : List ℕ). codes "\"" ++ (z ++ codes "\"")) c.requires in
+    rw (p.1, p.2) (writing_refused_text _ (start_written _ is c.in_ok-write_text.ensures.ok) c.in_err-write_text-2.ensures)
+
+pub returns : goal.returns
+returns g c =
+    let is = ap (λ (z : List ℕ). codes "\"" ++ (z ++ codes "\"")) c.requires in
+    writing_last (writing_more (start_written _ is c.in_ok-write_text.ensures.ok) c.in_ok-write_text-2.ensures.ok) refl c.write_text-3.ensures
