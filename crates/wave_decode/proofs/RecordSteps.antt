@@ -153,10 +153,19 @@ module _ {V : Type 0} (tree : V → Value) (of : V → TypeTree → Type 0) (Ful
           begun = begun_more n k v due f (record x { fields = fields; behind = behind; due = dues }) waits label there named unread own (keeps f there) no_due;
         }
 
-    -- a value was refused
-    pub value_refused : (n : NodeTree) (r : Result V Diagnostic) (e : Diagnostic) (due : ℕ × Bor S) → HasFullParts Full → x.due ≡ Some due → r ≡ Err e → IsReadWhereDue tree of Full (shown type_tree (type_due x)) source n r → IsDoomed tree of Full T source kind.TupleSet (children ++ n ∷ []) (fault.Told e)
-    value_refused n r e due full is made read =
+    -- a value was refused that was due
+    due_refused : (n : NodeTree) (r : Result V Diagnostic) (e : Diagnostic) (due : ℕ × Bor S) → HasFullParts Full → x.due ≡ Some due → r ≡ Err e → IsReadWhereDue tree of Full (shown type_tree (type_due x)) source n r → IsDoomed tree of Full T source kind.TupleSet (children ++ n ∷ []) (fault.Told e)
+    due_refused n r e due full is made read =
         let (k, waits, label, (f, there, named, typed, unread)) = waiting due is in
         let own : IsReadAs tree of Full (type_tree f.ty.now) source n (Err e) = subst (λ (t : Bor S). IsReadAs tree of Full (type_tree t.now) source n (Err e)) (sym typed) (subst (IsReadAs tree of Full (type_tree due.1.now) source n) made (due_type due n r is read)) in
         let part : HasAt (map (part_of type_tree) x.fields.items) due.0 (name_of (node_text source k), type_tree f.ty.now) = subst (λ (w : List ℕ). HasAt (map (part_of type_tree) x.fields.items) due.0 (w, type_tree f.ty.now)) named (has_mapped (part_of type_tree) x.fields.items due.0 f (has_got x.fields.items due.0 f there)) in
         told_dooms tree of Full T source kind.TupleSet (children ++ n ∷ []) e (λ more p. value_dooms tree of Full T (map (part_of type_tree) x.fields.items) is_record source children more p e k n due.0 (type_tree f.ty.now) full waits label part own)
+
+
+    -- a value was refused
+    pub value_refused : (n : NodeTree) (r : Result V Diagnostic) (e : Diagnostic) → HasFullParts Full → TakesPart kind.TupleSet children → r ≡ Err e → IsReadWhereDue tree of Full (shown type_tree (type_due x)) source n r → IsDoomed tree of Full T source kind.TupleSet (children ++ n ∷ []) (fault.Told e)
+    value_refused n r e full odd made read = by x.due refl
+      where
+        by : (due : Option (ℕ × Bor S)) → x.due ≡ due → IsDoomed tree of Full T source kind.TupleSet (children ++ n ∷ []) (fault.Told e)
+        by None is = no_value_alone odd is
+        by (Some due) is = due_refused n r e due full is made read

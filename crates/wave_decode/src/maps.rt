@@ -1,5 +1,5 @@
 //! Maps, whose keys and values are read in turn.
-ghost use Rattle.std.specs.Prelude.{ℕ, List, [], ◌≡◌, IfOk};
+ghost use Rattle.std.specs.Prelude.{ℕ, List, [], ◌≡◌, Ok, None, IfOk};
 ghost use Rattle.wave_wasm.specs.Types.{kind_of};
 ghost use Rattle.wave_syntax.specs.NodeTree.{node, no_nodes};
 ghost use Rattle.wave_leaf.specs.Reading.{IsReadAs};
@@ -75,26 +75,15 @@ impl<'ty, V: WasmValue> Entries<'ty, V::Type, V> {
         }
     }
 
-    /// Adds the value after the last key, which was read at the type that is due; or what is wrong
-    /// with the map.
-    #[inline(never)]
-    pub(crate) fn with_part(
-        &mut self,
-        alloc: Global,
-        made: Result<V, Failure>,
-    ) -> Result<Option<Fault>, AllocError>
-        ensures { IfOk result (AddsPart AreEntries V.Type.tree V.tree V.is_of V.is_full NodeType.TupleSet value_type_due self.old made self.new) }
+    /// Adds the value after the last key, which was read at the type that is due.
+    pub(crate) fn with_part(&mut self, val: V) -> Result<(), AllocError>
+        ensures { IfOk result (λ _. AddsPart AreEntries V.Type.tree V.tree V.is_of V.is_full NodeType.TupleSet value_type_due self.old (Ok val) self.new None) }
     {
-        match made {
-            Ok(val) => match self.key.take() {
-                Some(key) => {
-                    self.entries.push((key, val))?;
-                    Ok(None)
-                }
-                None => Ok(None),
-            },
-            Err(failure) => Ok(Some(Fault::Told(failure))),
+        if let Some(key) = self.key.take() {
+            self.entries.reserve(1)?;
+            self.entries.push_reserved((key, val));
         }
+        Ok(())
     }
 
     /// The map of the entries, which stands here, each key once.

@@ -1,5 +1,5 @@
 //! The parts of a value of any type.
-ghost use Rattle.std.specs.Prelude.{ℕ, ◌≡◌, ◌++◌, List, [], ◌∷◌, None, IfOk, IfErr, IsOk, MatchOption};
+ghost use Rattle.std.specs.Prelude.{ℕ, ◌≡◌, ◌++◌, List, [], ◌∷◌, None, Err, IfOk, IfErr, IsOk, MatchOption};
 ghost use Rattle.wave_wasm.specs.Types.{TypeTree, kind_of};
 ghost use Rattle.wave_wasm.specs.ConstructorContracts.{IsOfListKind};
 ghost use Rattle.wave_wasm.specs.Borrowed.{shown};
@@ -274,13 +274,45 @@ impl<'ty, V: WasmValue> Parts<'ty, V::Type, V> {
             → AreParts V.Type.tree V.tree V.is_of V.is_full T source of (children ++ n ∷ []) self.new) }
         ensures bare { IsBare self.old → (self.new ≡ self.old) × IsOk result }
     {
+        let val = match made {
+            Ok(val) => val,
+            Err(failure) => return self.with_refused(alloc, failure),
+        };
+        match self {
+            Parts::Row(row) => row.with_part(val),
+            Parts::OfSome(payload) => payload.with_part(alloc, Ok(val)),
+            Parts::OfResult(payload) => payload.with_part(alloc, Ok(val)),
+            Parts::OfCase(payload) => {
+                payload.with_part(val);
+                Ok(())
+            }
+            Parts::Fields(fields) => {
+                fields.with_part(val);
+                Ok(())
+            }
+            Parts::Entries(entries) => entries.with_part(val),
+            _ => Ok(()),
+        }
+    }
+
+    /// The same for a part that was refused.
+    #[cold]
+    #[inline(never)]
+    fn with_refused(&mut self, alloc: Global, failure: Failure) -> Result<(), AllocError>
+        requires { AreNoItems self.now }
+        ensures grown { IfOk result (λ _. (T : TypeTree) (source : List ℕ) (of : NodeType) (children : List NodeTree) (n : NodeTree)
+            → TakesPart of children → AreParts V.Type.tree V.tree V.is_of V.is_full T source of children self.old
+            → IsReadWhereDue V.tree V.is_of V.is_full (shown V.Type.tree (next_due self.old)) source n (Err failure)
+            → AreParts V.Type.tree V.tree V.is_of V.is_full T source of (children ++ n ∷ []) self.new) }
+        ensures bare { IsBare self.old → (self.new ≡ self.old) × IsOk result }
+    {
         let found = match self {
-            Parts::Row(row) => row.with_part(alloc, made)?,
-            Parts::OfSome(payload) => return payload.with_part(alloc, made),
-            Parts::OfResult(payload) => return payload.with_part(alloc, made),
-            Parts::OfCase(payload) => payload.with_part(alloc, made)?,
-            Parts::Fields(fields) => fields.with_part(alloc, made)?,
-            Parts::Entries(entries) => entries.with_part(alloc, made)?,
+            Parts::Row(row) => row.with_refused(failure)?,
+            Parts::OfSome(payload) => return payload.with_part(alloc, Err(failure)),
+            Parts::OfResult(payload) => return payload.with_part(alloc, Err(failure)),
+            Parts::OfCase(_) => Some(Fault::Told(failure)),
+            Parts::Fields(_) => Some(Fault::Told(failure)),
+            Parts::Entries(_) => Some(Fault::Told(failure)),
             _ => None,
         };
         self.wrong(found);

@@ -1,5 +1,5 @@
 //! Records, whose fields are read in whatever order they stand.
-ghost use Rattle.std.specs.Prelude.{ℕ, List, [], ◌≡◌, IfOk, IfErr, IfSome, map, MatchOption, MatchResult, Some, set, slice_get};
+ghost use Rattle.std.specs.Prelude.{ℕ, List, [], ◌≡◌, Ok, None, IfOk, IfErr, IfSome, map, MatchOption, MatchResult, Some, set, slice_get};
 ghost use Rattle.wave_wasm.specs.Names.{IsNoneOf};
 ghost use Rattle.wave_wasm.specs.Types.{HasDistinctNames, kind_of};
 ghost use Rattle.wave_syntax.specs.NodeTree.{NodeTree, place_of};
@@ -187,26 +187,13 @@ impl<'ty, V: WasmValue> Fields<'ty, V::Type, V> {
         }
     }
 
-    /// Adds the value after the last key, which was read at the type that is due; or what is wrong
-    /// with the record.
-    #[inline(never)]
-    pub(crate) fn with_part(
-        &mut self,
-        alloc: Global,
-        made: Result<V, Failure>,
-    ) -> Result<Option<Fault>, AllocError>
-        ensures { IfOk result (AddsPart AreFields V.Type.tree V.tree V.is_of V.is_full NodeType.TupleSet type_due self.old made self.new) }
+    /// Adds the value after the last key, which was read at the type that is due.
+    pub(crate) fn with_part(&mut self, val: V)
+        ensures { AddsPart AreFields V.Type.tree V.tree V.is_of V.is_full NodeType.TupleSet type_due self.old (Ok val) self.new None }
     {
-        let Some((i, _)) = self.due.take() else {
-            return Ok(None);
-        };
-        match made {
-            Ok(val) => {
-                keep(&mut self.fields, i, val);
-                self.behind = i.saturating_add(1);
-                Ok(None)
-            }
-            Err(failure) => Ok(Some(Fault::Told(failure))),
+        if let Some((i, _)) = self.due.take() {
+            keep(&mut self.fields, i, val);
+            self.behind = i.saturating_add(1);
         }
     }
 

@@ -1,5 +1,5 @@
 //! Tuples, read at their types.
-ghost use Rattle.std.specs.Prelude.{ℕ, List, [], ◌≡◌, IfOk};
+ghost use Rattle.std.specs.Prelude.{ℕ, List, [], ◌≡◌, Ok, Err, None, IfOk};
 ghost use Rattle.wave_wasm.specs.Types.{kind_of};
 ghost use Rattle.wave_decode.specs.TupleParts.{IsRow, item_due};
 ghost use Rattle.wave_decode.specs.PartSteps.{AddsPart, IsWholeOf};
@@ -51,14 +51,27 @@ impl<'ty, V: WasmValue> Row<'ty, V::Type, V> {
         }
     }
 
-    /// Adds an item, which was read at the type that is due; or what is wrong with the tuple.
+    /// Adds an item, which was read at the type that is due.
+    pub(crate) fn with_part(&mut self, item: V) -> Result<(), AllocError>
+        ensures { IfOk result (λ _. AddsPart IsRow V.Type.tree V.tree V.is_of V.is_full NodeType.Tuple item_due self.old (Ok item) self.new None) }
+    {
+        match self.count.checked_add(1) {
+            Some(count) => self.count = count,
+            None => return Err(AllocError),
+        }
+        if self.next().is_none() {
+            return Ok(());
+        }
+        self.items.reserve(1)?;
+        self.items.push_reserved(item);
+        Ok(())
+    }
+
+    /// Counts an item that was refused, and answers what is wrong with the tuple where it was due.
+    #[cold]
     #[inline(never)]
-    pub(crate) fn with_part(
-        &mut self,
-        alloc: Global,
-        made: Result<V, Failure>,
-    ) -> Result<Option<Fault>, AllocError>
-        ensures { IfOk result (AddsPart IsRow V.Type.tree V.tree V.is_of V.is_full NodeType.Tuple item_due self.old made self.new) }
+    pub(crate) fn with_refused(&mut self, failure: Failure) -> Result<Option<Fault>, AllocError>
+        ensures { IfOk result (AddsPart IsRow V.Type.tree V.tree V.is_of V.is_full NodeType.Tuple item_due self.old (Err failure) self.new) }
     {
         match self.count.checked_add(1) {
             Some(count) => self.count = count,
@@ -67,13 +80,7 @@ impl<'ty, V: WasmValue> Row<'ty, V::Type, V> {
         if self.next().is_none() {
             return Ok(None);
         }
-        match made {
-            Ok(item) => {
-                self.items.push(item)?;
-                Ok(None)
-            }
-            Err(failure) => Ok(Some(Fault::Told(failure))),
-        }
+        Ok(Some(Fault::Told(failure)))
     }
 
     /// The tuple of these items, which stands here.

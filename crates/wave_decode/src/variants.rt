@@ -1,5 +1,5 @@
 //! Variants, read at their types.
-ghost use Rattle.std.specs.Prelude.{ℕ, ◌≡◌, List, [], IfOk, IfSome, option_map};
+ghost use Rattle.std.specs.Prelude.{ℕ, ◌≡◌, List, [], Ok, None, IfOk, IfSome, option_map};
 ghost use Rattle.wave_wasm.specs.Types.{kind_of};
 ghost use Rattle.wave_wasm.specs.Borrowed.{shown, shown_cases};
 ghost use Rattle.wave_wasm.specs.ValueErrors.{missing_payload};
@@ -16,7 +16,6 @@ use crate::enums::no_case;
 use crate::fault::{Fault, caused};
 use std::alloc::{AllocError, Global};
 use wave_grammar::label::label_name;
-use wave_leaf::failure::Failure;
 use wave_leaf::leaf::Leaf;
 use wave_lex::error::{ParserError, ParserErrorKind};
 use wave_lex::lex::Span;
@@ -89,22 +88,11 @@ impl<'ty, V: WasmValue> CasePayload<'ty, V::Type, V> {
         }
     }
 
-    /// The payload is read, or was refused.
-    #[inline(never)]
-    pub(crate) fn with_part(
-        &mut self,
-        alloc: Global,
-        made: Result<V, Failure>,
-    ) -> Result<Option<Fault>, AllocError>
-        ensures { IfOk result (AddsPart AreCaseParts V.Type.tree V.tree V.is_of V.is_full node_type.VariantWithPayload payload_due self.old made self.new) }
+    /// The payload is read.
+    pub(crate) fn with_part(&mut self, val: V)
+        ensures { AddsPart AreCaseParts V.Type.tree V.tree V.is_of V.is_full node_type.VariantWithPayload payload_due self.old (Ok val) self.new None }
     {
-        match made {
-            Ok(val) => {
-                drop(self.payload.replace(val));
-                Ok(None)
-            }
-            Err(failure) => Ok(Some(Fault::Told(failure))),
-        }
+        drop(self.payload.replace(val));
     }
 
     /// The variant of the case and the payload that were read, at this place.

@@ -1,39 +1,47 @@
-use Rattle.std.proofs.Common.{[], ◌∷◌, ◌++◌, refl, ◌∙◌}
-use Rattle.wave_syntax.specs.declared.form.NodeType.TheVariants as kind
-use Rattle.wave_decode.proofs.PartsKept.{behind_part, fault_placed, found_at, none_found, where_ok}
+use Rattle.std.proofs.Common.{refl}
+use Rattle.wave_decode.proofs.PartsKept.{behind_part, where_ok}
 use Rattle.wave_decode.proofs.parts.Parts+V+Type+V.with_other_part.Goals as goal
-use Rattle.wave_decode.proofs.parts.Parts+V+Type+V.with_other_part.Goals.{in-Row+in_ok-found-in-Row, in-OfCase+in_ok-found-in-OfCase, in-Fields+in_ok-found-in-Fields, in-Entries+in_ok-found-in-Entries, in_default}
+
+pub returns-in-Row-clause-grown : goal.returns-in-Row-clause-grown
+returns-in-Row-clause-grown g c = where_ok _ _ c.with_part.result (λ done kept. λ T source of children n takes parts due.
+    let h = rw c.in-Row.is at parts in
+    (h.0, kept T source children n (rw h.0 at takes) h.1 (rw (c.in-Row.is, c.in-Ok.is) at due)))
+    c.with_part.ensures
 
 pub returns-in-OfSome-clause-grown : goal.returns-in-OfSome-clause-grown
 returns-in-OfSome-clause-grown g c = where_ok _ _ c.with_part-in-OfSome.result (λ done kept. λ T source of children n takes parts due.
     let h = rw c.in-OfSome.is at parts in
-    (h.0, kept T source children n (rw h.0 at takes) h.1 (rw c.in-OfSome.is at due)))
+    (h.0, kept T source children n (rw h.0 at takes) h.1 (rw (c.in-OfSome.is, c.in-Ok.is) at due)))
     c.with_part-in-OfSome.ensures
 
 pub returns-in-OfResult-clause-grown : goal.returns-in-OfResult-clause-grown
 returns-in-OfResult-clause-grown g c = where_ok _ _ c.with_part-in-OfResult.result (λ done kept. λ T source of children n takes parts due.
     let h = rw c.in-OfResult.is at parts in
-    (rw c.with_part-in-OfResult.ensures.case h.0, kept T source children n (rw h.0 at takes) h.1 (rw c.in-OfResult.is at due)))
+    (rw c.with_part-in-OfResult.ensures.case h.0, kept T source children n (rw h.0 at takes) h.1 (rw (c.in-OfResult.is, c.in-Ok.is) at due)))
     c.with_part-in-OfResult.ensures.parts
 
-pub returns-clause-grown : goal.returns-clause-grown
-returns-clause-grown g c = λ T source of children n takes parts due.
-    fault_placed g.V.Type.WasmType.tree g.V.WasmValue.tree g.V.WasmValue.is_of g.V.WasmValue.is_full T source of (children ++ n ∷ []) c.match-self.self c.wrong.new.self c.match-self.found c.wrong.ensures
-    (elim c.match-self.branch [
-      | in-Row+in_ok-found-in-Row w ↦
-          let h = rw w.in-Row.is at parts in
-          rw (w.self-is, w.found-is) (found_at g.V.WasmValue.tree g.V.WasmValue.is_of g.V.WasmValue.is_full T source of kind.Tuple (children ++ n ∷ []) _ _ h.0 (w.in_ok-found-in-Row.ensures T source children n (rw h.0 at takes) h.1 (rw w.in-Row.is at due)))
-      | in-OfCase+in_ok-found-in-OfCase w ↦
-          let h = rw w.in-OfCase.is at parts in
-          rw (w.self-is, w.found-is) (found_at g.V.WasmValue.tree g.V.WasmValue.is_of g.V.WasmValue.is_full T source of kind.VariantWithPayload (children ++ n ∷ []) _ _ h.0 (w.in_ok-found-in-OfCase.ensures T source children n (rw h.0 at takes) h.1 (rw w.in-OfCase.is at due)))
-      | in-Fields+in_ok-found-in-Fields w ↦
-          let h = rw w.in-Fields.is at parts in
-          rw (w.self-is, w.found-is) (found_at g.V.WasmValue.tree g.V.WasmValue.is_of g.V.WasmValue.is_full T source of kind.TupleSet (children ++ n ∷ []) _ _ h.0 (w.in_ok-found-in-Fields.ensures T source children n (rw h.0 at takes) h.1 (rw w.in-Fields.is at due)))
-      | in-Entries+in_ok-found-in-Entries w ↦
-          let h = rw w.in-Entries.is at parts in
-          rw (w.self-is, w.found-is) (found_at g.V.WasmValue.tree g.V.WasmValue.is_of g.V.WasmValue.is_full T source of kind.TupleSet (children ++ n ∷ []) _ _ h.0 (w.in_ok-found-in-Entries.ensures T source children n (rw h.0 at takes) h.1 (rw w.in-Entries.is at due)))
-      | in_default w ↦ rw (w.self-is, w.found-is) (behind_part g.V.Type.WasmType.tree g.V.WasmValue.tree g.V.WasmValue.is_of g.V.WasmValue.is_full T source of children n c.args.self.now (λ x e. rw e at c.requires) w.in_default.not-Row w.in_default.not-OfSome w.in_default.not-OfResult w.in_default.not-OfCase w.in_default.not-Fields w.in_default.not-Entries takes parts)
-    ])
+pub returns-in-OfCase-clause-grown : goal.returns-in-OfCase-clause-grown
+returns-in-OfCase-clause-grown g c = λ T source of children n takes parts due.
+    let h = rw c.in-OfCase.is at parts in
+    (h.0, c.with_part-in-OfCase.ensures T source children n (rw h.0 at takes) h.1 (rw (c.in-OfCase.is, c.in-Ok.is) at due))
+
+pub returns-in-Fields-clause-grown : goal.returns-in-Fields-clause-grown
+returns-in-Fields-clause-grown g c = λ T source of children n takes parts due.
+    let h = rw c.in-Fields.is at parts in
+    (h.0, c.with_part-in-Fields.ensures T source children n (rw h.0 at takes) h.1 (rw (c.in-Fields.is, c.in-Ok.is) at due))
+
+pub returns-in-Entries-clause-grown : goal.returns-in-Entries-clause-grown
+returns-in-Entries-clause-grown g c = where_ok _ _ c.with_part-in-Entries.result (λ done kept. λ T source of children n takes parts due.
+    let h = rw c.in-Entries.is at parts in
+    (h.0, kept T source children n (rw h.0 at takes) h.1 (rw (c.in-Entries.is, c.in-Ok.is) at due)))
+    c.with_part-in-Entries.ensures
+
+pub returns-in_default-clause-grown : goal.returns-in_default-clause-grown
+returns-in_default-clause-grown g c = λ T source of children n takes parts due.
+    behind_part g.V.Type.WasmType.tree g.V.WasmValue.tree g.V.WasmValue.is_of g.V.WasmValue.is_full T source of children n c.args.self.now (λ x e. rw e at c.requires) c.in_default.not-Row c.in_default.not-OfSome c.in_default.not-OfResult c.in_default.not-OfCase c.in_default.not-Fields c.in_default.not-Entries takes parts
+
+pub returns-in-Row-clause-bare : goal.returns-in-Row-clause-bare
+returns-in-Row-clause-bare g c = λ bare. absurd (rw c.in-Row.is at bare)
 
 pub returns-in-OfSome-clause-bare : goal.returns-in-OfSome-clause-bare
 returns-in-OfSome-clause-bare g c = λ bare. absurd (rw c.in-OfSome.is at bare)
@@ -41,12 +49,14 @@ returns-in-OfSome-clause-bare g c = λ bare. absurd (rw c.in-OfSome.is at bare)
 pub returns-in-OfResult-clause-bare : goal.returns-in-OfResult-clause-bare
 returns-in-OfResult-clause-bare g c = λ bare. absurd (rw c.in-OfResult.is at bare)
 
-pub returns-clause-bare : goal.returns-clause-bare
-returns-clause-bare g c = λ bare.
-    elim c.match-self.branch [
-      | in-Row+in_ok-found-in-Row w ↦ absurd (rw w.in-Row.is at bare)
-      | in-OfCase+in_ok-found-in-OfCase w ↦ absurd (rw w.in-OfCase.is at bare)
-      | in-Fields+in_ok-found-in-Fields w ↦ absurd (rw w.in-Fields.is at bare)
-      | in-Entries+in_ok-found-in-Entries w ↦ absurd (rw w.in-Entries.is at bare)
-      | in_default w ↦ (none_found c.match-self.self c.wrong.new.self c.match-self.found w.found-is c.wrong.ensures ∙ w.self-is, refl)
-    ]
+pub returns-in-OfCase-clause-bare : goal.returns-in-OfCase-clause-bare
+returns-in-OfCase-clause-bare g c = λ bare. absurd (rw c.in-OfCase.is at bare)
+
+pub returns-in-Fields-clause-bare : goal.returns-in-Fields-clause-bare
+returns-in-Fields-clause-bare g c = λ bare. absurd (rw c.in-Fields.is at bare)
+
+pub returns-in-Entries-clause-bare : goal.returns-in-Entries-clause-bare
+returns-in-Entries-clause-bare g c = λ bare. absurd (rw c.in-Entries.is at bare)
+
+pub returns-in-Err-clause-grown : goal.returns-in-Err-clause-grown
+returns-in-Err-clause-grown g c = where_ok _ _ c.with_refused.result (λ done kept. λ T source of children n takes parts due. kept T source of children n takes parts (rw c.in-Err.is at due)) c.with_refused.ensures.grown
