@@ -16,7 +16,7 @@ ghost use Rattle.wave_syntax.specs.NodeTree.{NodeTree, node, no_nodes, node_tree
 ghost use Rattle.wave_tree.specs.ParsedNodes.{IsNodeTaken, IsSound};
 ghost use Rattle.wave_tree.specs.FromStr.{IsValueTaken, RefusesValue, IsCausedBetween};
 ghost use Rattle.wave_tree.specs.ParserState.{BeginsRow, HoldsNoBrace, Finishes, StaysWithout};
-ghost use Rattle.wave_tree.specs.Private.ParserState.{Stream, stream_of, asked_of, AsksFor, ahead_count, IsAhead, Advances, Expects, IsRefused, item_at};
+ghost use Rattle.wave_tree.specs.Private.ParserState.{Stream, stream_of, asked_of, AsksFor, ahead_count, lexer_of, IsAhead, Advances, Expects, IsRefused, item_at};
 ghost use Rattle.wave_lex.specs.Errors.{LiesInText};
 ghost use Rattle.wave_tree.specs.ParserLaws.{LiesInSource};
 
@@ -59,10 +59,10 @@ fn trailing(item: Item, behind: &Lexer) -> Result<(), ParserError>
 /// refusals are byte places of the source.
 #[derive(Drop)]
 pub(crate) struct Tokens<'source> {
-    /// After the last item that was taken.
+    /// After the item ahead, where there is one; else after the last item that was taken.
     lexer: Lexer<'source>,
-    /// After the item ahead.
-    next: Lexer<'source>,
+    /// After the last item that was taken, where one is ahead.
+    before: Lexer<'source>,
     ahead: Option<Item>,
     asked: Asked,
 }
@@ -70,9 +70,10 @@ pub(crate) struct Tokens<'source> {
 impl<'source> Model for Tokens<'source> {
     ghost Value = { Stream };
 
-    ghost view = { λ t. record { place = record { lexer = t.lexer; taken = t.asked - ahead_count t.ahead }; ahead = ahead_count t.ahead } };
+    ghost view = { λ t. 
+        record { place = record { lexer = lexer_of t.lexer t.before t.ahead; taken = t.asked - ahead_count t.ahead }; ahead = ahead_count t.ahead } };
 
-    ghost invariant = { λ t. IsAhead t.lexer t.next t.ahead × (ahead_count t.ahead ≤ t.asked) };
+    ghost invariant = { λ t. IsAhead t.before t.lexer t.ahead × (ahead_count t.ahead ≤ t.asked) };
 }
 
 /// Where a call began: the lexer as it stood, with its source and the span of its last item.
@@ -110,23 +111,34 @@ impl<'source> Tokens<'source> {
         ensures { result ≡ stream_of lexer.entry }
     {
         Tokens {
-            next: lexer.clone(),
+            before: lexer.clone(),
             lexer,
             ahead: None,
             asked: Asked::new(),
         }
     }
 
+    /// The lexer after the last item that was taken.
+    #[inline(always)]
+    fn here(&self) -> &Lexer<'source>
+        ensures { result.now ≡ self.now.place.lexer }
+    {
+        match self.ahead {
+            None => &self.lexer,
+            Some(_) => &self.before,
+        }
+    }
+
     pub(crate) fn span(&self) -> Span
         ensures { result ≡ span_at self.now.place }
     {
-        self.lexer.span()
+        self.here().span()
     }
 
     pub(crate) fn slice(&self) -> &'source str
         ensures { result.now ≡ text_at self.now.place }
     {
-        self.lexer.slice()
+        self.here().slice()
     }
 
     /// Takes the next item.
@@ -138,7 +150,6 @@ impl<'source> Tokens<'source> {
         match self.ahead {
             Some(item) => {
                 self.ahead = None;
-                self.lexer = self.next.clone();
                 item
             }
             None => Item::next_of(&mut self.lexer, &mut self.asked),
@@ -152,8 +163,8 @@ impl<'source> Tokens<'source> {
         ensures looks { self.new.ahead ≡ 1 }
     {
         if self.ahead.is_none() {
-            self.next = self.lexer.clone();
-            let item = Item::next_of(&mut self.next, &mut self.asked);
+            self.before = self.lexer.clone();
+            let item = Item::next_of(&mut self.lexer, &mut self.asked);
             self.ahead = Some(item);
         }
     }
@@ -377,10 +388,11 @@ impl<'source> Tokens<'source> {
         ensures inside { LiesInSource self.now.place.lexer }
         ensures sound { IsSound self.now.place }
     {
+        let here = self.here();
         Start {
-            lexer: self.lexer.clone(),
-            source: self.lexer.source(),
-            span: self.lexer.span(),
+            lexer: here.clone(),
+            source: here.source(),
+            span: here.span(),
         }
     }
 
@@ -456,7 +468,7 @@ impl<'source> Tokens<'source> {
     {
         self.peek();
         match self.ahead {
-            Some(item) => trailing(item, &self.next),
+            Some(item) => trailing(item, &self.lexer),
             None => Ok(()),
         }
     }

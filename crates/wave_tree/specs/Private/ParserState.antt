@@ -50,6 +50,11 @@ abbrev pub ahead_count : Option Kept → ℕ
 ahead_count None = 0
 ahead_count (Some item) = 1
 
+-- the lexer after the last item that was taken, where it stands at l but for the items at hand
+abbrev pub lexer_of : Lexed → Lexed → Option Kept → Lexed
+lexer_of l before None = l
+lexer_of l before (Some item) = before
+
 -- what is at hand stands next, and the lexer after it is this one
 abbrev pub IsAhead : Lexed → Lexed → Option Kept → Type 0
 IsAhead l next None = Unit {0}

@@ -1,22 +1,22 @@
 use Rattle.std.proofs.Common.{◌≡◌, ap, sym, ◌∙◌}
 use Rattle.wave_grammar.specs.ParserPosition.{Place}
-use Rattle.wave_tree.specs.Private.ParserState.{Stream}
+use Rattle.wave_tree.specs.Private.ParserState.{Stream, lexer_of}
 use Rattle.wave_tree.proofs.Lookahead.{one_ahead, finish_at, finish_within}
 use Rattle.wave_tree.proofs.tokens.Tokens.finish.Goals as goal
 use Rattle.wave_tree.proofs.tokens.Tokens.finish.Goals.{in-Some, in-None}
 
 pub returns-clause-answer : goal.returns-clause-answer
 returns-clause-answer c =
-    let here : c.args.self.now.place.lexer ≡ c.self.inside.lexer = sym (ap (λ (z : Stream). z.place.lexer) c.self.view_is ∙ ap (λ (z : Place). z.lexer) c.peek.ensures.stays) in
+    let here : c.args.self.now.place.lexer ≡ lexer_of c.self.inside.lexer c.self.inside.before c.self.inside.ahead = sym (ap (λ (z : Stream). z.place.lexer) c.self.view_is ∙ ap (λ (z : Place). z.lexer) c.peek.ensures.stays) in
     elim c.match-self.branch [
-      | in-Some w ↦ finish_at _ c.self.inside.next _ _ w.in-Some.item _ w.trailing.result here c.self.invariant.0 w.in-Some.is w.result-is w.trailing.ensures.end w.trailing.ensures.refused
+      | in-Some w ↦ finish_at _ c.self.inside.before _ _ w.in-Some.item _ w.trailing.result here c.self.invariant.0 w.in-Some.is w.result-is w.trailing.ensures.end w.trailing.ensures.refused
       | in-None w ↦ one_ahead c.self.inside.ahead (ap (λ (z : Stream). z.ahead) c.self.view_is ∙ c.peek.ensures.looks) w.in-None.is
     ]
 
 pub returns-clause-within : goal.returns-clause-within
 returns-clause-within c =
-    let here : c.args.self.now.place.lexer ≡ c.self.inside.lexer = sym (ap (λ (z : Stream). z.place.lexer) c.self.view_is ∙ ap (λ (z : Place). z.lexer) c.peek.ensures.stays) in
+    let here : c.args.self.now.place.lexer ≡ lexer_of c.self.inside.lexer c.self.inside.before c.self.inside.ahead = sym (ap (λ (z : Stream). z.place.lexer) c.self.view_is ∙ ap (λ (z : Place). z.lexer) c.peek.ensures.stays) in
     elim c.match-self.branch [
-      | in-Some w ↦ finish_within _ c.self.inside.next c.args.self.now.place _ w.in-Some.item _ w.trailing.result here c.self.invariant.0 w.in-Some.is w.result-is w.trailing.ensures.within
+      | in-Some w ↦ finish_within _ c.self.inside.before c.args.self.now.place _ w.in-Some.item _ w.trailing.result here c.self.invariant.0 w.in-Some.is w.result-is w.trailing.ensures.within
       | in-None w ↦ one_ahead c.self.inside.ahead (ap (λ (z : Stream). z.ahead) c.self.view_is ∙ c.peek.ensures.looks) w.in-None.is
     ]

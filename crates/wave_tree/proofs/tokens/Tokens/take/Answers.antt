@@ -1,7 +1,7 @@
-use Rattle.std.proofs.Common.{◌≡◌, ap, sym, subst, arith}
+use Rattle.std.proofs.Common.{◌≡◌, ap, sym, subst, ◌∙◌, arith}
 use Rattle.wave_lex.specs.Tokenization.{Lexed, NextIs}
-use Rattle.wave_tree.specs.Private.ParserState.{Stream, ahead_count, item_at}
-use Rattle.wave_tree.proofs.Lookahead.{next_taken}
+use Rattle.wave_tree.specs.Private.ParserState.{Stream, ahead_count, item_at, lexer_of}
+use Rattle.wave_tree.proofs.Lookahead.{next_there}
 use Rattle.wave_tree.proofs.tokens.Tokens.take.Goals as goal
 
 pub returns-in-Some-clause-takes : goal.returns-in-Some-clause-takes
@@ -10,11 +10,12 @@ returns-in-Some-clause-takes c =
     let count = ap (λ (z : Stream). z.place.taken) c.self.view_is in
     let one : ahead_count c.self.inside.ahead ≡ 1 = ap ahead_count c.in-Some.is in
     let asked = c.self.invariant.1 in
-    (next_taken c.self.inside.lexer c.self.inside.next _ c.args.self.now.place _ c.in-Some.item here c.self.invariant.0 c.in-Some.is c.clone-self-inside.ensures, omega arith)
+    (next_there c.self.inside.lexer c.self.inside.before c.args.self.now.place _ c.in-Some.item here c.self.invariant.0 c.in-Some.is, omega arith)
 
 pub returns-in-None-clause-takes : goal.returns-in-None-clause-takes
 returns-in-None-clause-takes c =
     let count = ap (λ (z : Stream). z.place.taken) c.self.view_is in
     let none : ahead_count c.self.inside.ahead ≡ 0 = ap ahead_count c.in-None.is in
     let asked = c.next_of.ensures.counted in
-    (subst (λ (z : Lexed). NextIs z c.next_of.new.lexer (item_at c.next_of.result c.next_of.new.lexer)) (ap (λ (z : Stream). z.place.lexer) c.self.view_is) c.next_of.ensures.item, omega arith)
+    let there = subst (λ (z : Lexed). NextIs z c.next_of.new.lexer (item_at c.next_of.result c.next_of.new.lexer)) (sym (ap (lexer_of c.self.inside.lexer c.self.inside.before) c.in-None.is) ∙ ap (λ (z : Stream). z.place.lexer) c.self.view_is) c.next_of.ensures.item in
+    (rw c.in-None.is there, omega arith)
