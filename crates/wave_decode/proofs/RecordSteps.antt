@@ -161,7 +161,6 @@ module _ {V : Type 0} (tree : V → Value) (of : V → TypeTree → Type 0) (Ful
         let part : HasAt (map (part_of type_tree) x.fields.items) due.0 (name_of (node_text source k), type_tree f.ty.now) = subst (λ (w : List ℕ). HasAt (map (part_of type_tree) x.fields.items) due.0 (w, type_tree f.ty.now)) named (has_mapped (part_of type_tree) x.fields.items due.0 f (has_got x.fields.items due.0 f there)) in
         told_dooms tree of Full T source kind.TupleSet (children ++ n ∷ []) e (λ more p. value_dooms tree of Full T (map (part_of type_tree) x.fields.items) is_record source children more p e k n due.0 (type_tree f.ty.now) full waits label part own)
 
-
     -- a value was refused
     pub value_refused : (n : NodeTree) (r : Result V Diagnostic) (e : Diagnostic) → HasFullParts Full → TakesPart kind.TupleSet children → r ≡ Err e → IsReadWhereDue tree of Full (shown type_tree (type_due x)) source n r → IsDoomed tree of Full T source kind.TupleSet (children ++ n ∷ []) (fault.Told e)
     value_refused n r e full odd made read = by x.due refl

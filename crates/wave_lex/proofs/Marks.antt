@@ -1,16 +1,23 @@
 -- A mark is told by its byte.
-use Rattle.std.proofs.Common.{◌≡◌, ℕ, ◌<◌, ◌≢◌, get_or, List, [], ◌∷◌, ◌++◌, sym, ap, subst, ◌∙◌, length, drop, arith, Option, Some, None}
+use Rattle.std.proofs.Common.{◌≡◌, ℕ, ◌<◌, ◌≢◌, get_or, List, [], ◌∷◌, ◌++◌, sym, ap, subst, ◌∙◌, length, drop, arith, nat_eq, refl, Option, Some, None}
 use Rattle.std.specs.Prelude.{IfSome, encode_utf8}
+use Rattle.std.proofs.lemmas.Bool.{eqb-true}
 use Rattle.std.proofs.lemmas.Str.{encode_ascii}
+use Rattle.wave_lex.specs.declared.lex.TheConstants.{MARKS}
 use Rattle.wave_lex.specs.declared.lex.Token.{Token}
 use Rattle.wave_lex.specs.declared.lex.Token.TheVariants.{BraceOpen, BraceClose, ParenOpen, ParenClose, BracketOpen, BracketClose, Colon, Comma}
 use Rattle.wave_lex.specs.Regex.{Regex}
 use Rattle.wave_lex.specs.LongestMatch.{Greatest, IsFront}
 use Rattle.wave_lex.specs.Tokens.{shape, one}
 use Rattle.wave_lex.specs.Tokenization.{MayStandAt, IsLongestToken}
-use Rattle.wave_lex.specs.Shared.Reading.{class_of, ClassAt, IsMark, IsFirstMark}
+use Rattle.wave_lex.specs.Shared.Reading.{class_of, ClassAt, IsMark, IsFirstMark, mark_number}
 use Rattle.wave_lex.proofs.Classes.{class_here, not_quoted}
 use Rattle.wave_lex.proofs.Runs.{mark_here, no_gap}
+use Rattle.wave_lex.proofs.Shapes.{each_below_at}
+
+-- the numbers of the table, by computing
+pub numbers_agree : (b : ℕ) → b < 256 → get_or MARKS b 0 ≡ mark_number b
+numbers_agree b l = eqb-true _ _ (each_below_at 256 b (λ (k : ℕ). nat_eq (get_or MARKS k 0) (mark_number k)) refl l)
 
 -- no mark is a blank, a slash or a quote
 mark_bounds : (m : ℕ) (c : Token) → IsMark m c → (m < 128) × (32 < m) × (m ≢ 47) × (m ≢ 34)

@@ -1,9 +1,13 @@
 -- What stands next stands alone there.
 use Rattle.std.proofs.Common.{◌≡◌, ℕ, ◌≤◌, ◌<◌, ◌+◌, List, refl, sym, ap, subst, ◌∙◌, length, drop, arith, Option, Some, None, Result, Ok, Err, length-drop}
 use Rattle.std.specs.declared.ops.Range.{Range}
+use Rattle.std.specs.Iterator.{MakesProgress, at_most}
+use Rattle.wave_lex.specs.declared.lex.Found.{Found}
+use Rattle.wave_lex.specs.declared.lex.Found.TheVariants as found
 use Rattle.wave_lex.specs.declared.lex.Token.{Token}
 use Rattle.wave_lex.specs.Tokens.{shape, invalid}
-use Rattle.wave_lex.specs.Tokenization.{Lexed, Passes, IsGap, IsLongestToken, IsInvalid, NextIs, remainder_of}
+use Rattle.wave_lex.specs.Tokenization.{Lexed, Passes, IsGap, IsLongestToken, IsInvalid, NextIs, remainder_of, span}
+use Rattle.wave_lex.specs.Shared.Reading.{item_of}
 use Rattle.wave_lex.proofs.Classes.{shape_not_empty}
 use Rattle.wave_lex.proofs.LongestMatch.{front_positive}
 use Rattle.wave_lex.proofs.Cutting.{one_class, same_gap, no_token_left}
@@ -74,3 +78,18 @@ next_less l m c (g, k, p, t) =
     let inside : g ≤ length (remainder_of l) = p.skipped.0.fits in
     let there : length (remainder_of m) ≡ length (drop (l.end + g + k) l.source) = ap (λ (z : Lexed). length (drop z.end z.source)) (lexed_path {m = record { source = l.source; start = m.start; end = l.end + g + k }} p.source refl p.end) in
     omega (arith, length-drop l.end l.source, length-drop g (remainder_of l), length-drop (l.end + g + k) l.source)
+
+-- after an invalid token less is left
+pub bad_less : (l m : Lexed) (bad : Range ℕ) → NextIs l m (Some (Err bad)) → length (remainder_of m) < length (remainder_of l)
+bad_less l m bad (g, k, p, t, e) =
+    let some : 0 < k = front_positive invalid (drop g (remainder_of l)) k refl t.1.0 in
+    let fits : k ≤ length (drop g (remainder_of l)) = t.1.0.fits in
+    let inside : g ≤ length (remainder_of l) = p.skipped.0.fits in
+    let there : length (remainder_of m) ≡ length (drop (l.end + g + k) l.source) = ap (λ (z : Lexed). length (drop z.end z.source)) (lexed_path {m = record { source = l.source; start = m.start; end = l.end + g + k }} p.source refl p.end) in
+    omega (arith, length-drop l.end l.source, length-drop g (remainder_of l), length-drop (l.end + g + k) l.source)
+
+-- each item makes progress
+pub item_goes : (can : Lexed → Type 0) → ((l : Lexed) → can l) → (l m : Lexed) (f : Found) → NextIs l m (item_of f m) → MakesProgress can (λ (z : Lexed). at_most (length (remainder_of z))) l (item_of f m) m
+item_goes can all l m (found.Token c) h = record { on = λ _. (all m, tt, next_less l m c h); keeps = all m; rests = λ _. tt }
+item_goes can all l m found.Invalid h = record { on = λ _. (all m, tt, bad_less l m (span m.start m.end) h); keeps = all m; rests = λ _. tt }
+item_goes can all l m found.End h = record { on = λ _. tt; keeps = tt; rests = λ _. tt }

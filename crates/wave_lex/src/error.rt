@@ -163,11 +163,7 @@ impl ParserError {
     {
         match cause {
             WasmValueError::Memory(_) => ParserError::new(ParserErrorKind::OutOfMemory, span),
-            cause => error_of_parts(
-                ParserErrorKind::WasmValueError,
-                span,
-                Detail::Cause(cause),
-            ),
+            cause => error_of_parts(ParserErrorKind::WasmValueError, span, Detail::Cause(cause)),
         }
     }
 

@@ -5,7 +5,7 @@ ghost use Rattle.wave_lex.specs.Errors.{class_name, name_class_name};
 ghost use Rattle.wave_lex.specs.LongestMatch.{Greatest, IsFront};
 ghost use Rattle.wave_lex.specs.Tokens.{shape, invalid};
 ghost use Rattle.wave_lex.specs.Tokenization.{Lexed, Stands, NextIs, remainder_of, span};
-ghost use Rattle.wave_lex.specs.Shared.Reading.{class_of, ClassAt, TokenAt, IsMark, IsFirstMark};
+ghost use Rattle.wave_lex.specs.Shared.Reading.{class_of, ClassAt, TokenAt, IsMark, IsFirstMark, item_of, mark_number};
 
 use self::front::{gap_at, label_at, mark_at, multiline_at, number_at, string_at};
 pub use self::func_name::FuncNameLexer;
@@ -145,24 +145,49 @@ fn longest_in(class: Token, text: &str) -> Option<usize>
     }
 }
 
+/// A digit at the place of each mark, which numbers the marks, and a point at every other.
+static MARKS: [u8; 256] = *b"\
+    ................................\
+    ........23..7.............6.....\
+    ...........................4.5..\
+    ...........................0.1..\
+    ................................\
+    ................................\
+    ................................\
+    ................................";
+
+/// The digit that stands for the mark that this byte is, or a point.
+#[inline(always)]
+fn mark_number(byte: u8) -> u8
+    ensures { result ≡ mark_number byte }
+{
+    MARKS[byte as usize]
+}
+
 /// The mark that this byte is.
+#[inline(always)]
 fn mark_of(byte: u8) -> Option<Token>
     ensures { IfSome result (IsMark byte) }
 {
-    match byte {
-        b'{' => Some(Token::BraceOpen),
-        b'}' => Some(Token::BraceClose),
-        b'(' => Some(Token::ParenOpen),
-        b')' => Some(Token::ParenClose),
-        b'[' => Some(Token::BracketOpen),
-        b']' => Some(Token::BracketClose),
-        b':' => Some(Token::Colon),
-        b',' => Some(Token::Comma),
-        _ => None,
+    let number = mark_number(byte);
+    if number == b'.' {
+        return None;
     }
+    let mark = match number {
+        b'0' => Token::BraceOpen,
+        b'1' => Token::BraceClose,
+        b'2' => Token::ParenOpen,
+        b'3' => Token::ParenClose,
+        b'4' => Token::BracketOpen,
+        b'5' => Token::BracketClose,
+        b'6' => Token::Colon,
+        _ => Token::Comma,
+    };
+    Some(mark)
 }
 
 /// The mark at the start.
+#[inline(always)]
 fn first_mark(text: &str) -> Option<Token>
     ensures { IfSome result (IsFirstMark text.now) }
 {
@@ -195,6 +220,14 @@ fn token_at(text: &str) -> Option<(Token, usize)>
     let class = class_at(text)?;
     let length = longest_in(class, text)?;
     Some((class, length))
+}
+
+/// What a lexer takes. It stands at the span of the lexer, which small answers leave out.
+#[derive(Clone, Copy)]
+enum Found {
+    Token(Token),
+    Invalid,
+    End,
 }
 
 /// Tokenizes a source, one token after the other. Places are counted in bytes.
@@ -266,13 +299,54 @@ impl<'source> Lexer<'source> {
         }
     }
 
-    /// Answers as `next`, and counts the question.
+    /// Answers as `next`, and counts the question. A mark that stands at once is told here, by its
+    /// byte.
+    #[inline(always)]
     pub fn next_ticked(&mut self, asked: &mut Asked) -> Option<Result<Token, Span>>
         ensures item { NextIs self.old self.new result }
         ensures counted { asked.new ≡ asked.old + 1 }
     {
         asked.tick();
-        self.next()
+        if let Some(mark) = first_mark(self.remainder()) {
+            self.start = self.end;
+            self.end += 1;
+            return Some(Ok(mark));
+        }
+        let found = self.advance();
+        self.item(found)
+    }
+
+    /// The item of which this was taken last.
+    #[inline(always)]
+    fn item(&self, found: Found) -> Option<Result<Token, Span>>
+        ensures { result ≡ item_of found self.now }
+    {
+        match found {
+            Found::Token(token) => Some(Ok(token)),
+            Found::Invalid => Some(Err(self.start..self.end)),
+            Found::End => None,
+        }
+    }
+
+    /// Skips whitespace and takes the longest token, or an invalid one where none stands.
+    #[inline(never)]
+    fn advance(&mut self) -> Found
+        ensures { NextIs self.old self.new (item_of result self.new) }
+    {
+        let rest = &self.source[self.end..];
+        let gap = gap_at(rest);
+        let text = &rest[gap..];
+        self.start = self.end + gap;
+        if let Some((token, length)) = token_at(text) {
+            self.end = self.start + length;
+            return Found::Token(token);
+        }
+        if let Some(length) = longest_front(InvalidState::Start, text) {
+            self.end = self.start + length;
+            return Found::Invalid;
+        }
+        self.end = self.start;
+        Found::End
     }
 }
 
@@ -286,24 +360,7 @@ impl<'source> Iterator for Lexer<'source> {
     /// Skips whitespace and takes the longest token; the span of an invalid token where none stands,
     /// and None at the end, for good.
     fn next(&mut self) -> Option<Result<Token, Span>> {
-        let rest = &self.source[self.end..];
-        if let Some(mark) = first_mark(rest) {
-            self.start = self.end;
-            self.end += 1;
-            return Some(Ok(mark));
-        }
-        let gap = gap_at(rest);
-        let text = &rest[gap..];
-        self.start = self.end + gap;
-        if let Some((token, length)) = token_at(text) {
-            self.end = self.start + length;
-            return Some(Ok(token));
-        }
-        if let Some(length) = longest_front(InvalidState::Start, text) {
-            self.end = self.start + length;
-            return Some(Err(self.start..self.end));
-        }
-        self.end = self.start;
-        None
+        let taken = self.advance();
+        self.item(taken)
     }
 }

@@ -70,7 +70,7 @@ pub(crate) struct Tokens<'source> {
 impl<'source> Model for Tokens<'source> {
     ghost Value = { Stream };
 
-    ghost view = { λ t. 
+    ghost view = { λ t.
         record { place = record { lexer = lexer_of t.lexer t.before t.ahead; taken = t.asked - ahead_count t.ahead }; ahead = ahead_count t.ahead } };
 
     ghost invariant = { λ t. IsAhead t.before t.lexer t.ahead × (ahead_count t.ahead ≤ t.asked) };

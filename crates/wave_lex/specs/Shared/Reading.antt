@@ -1,5 +1,8 @@
 -- What the lexer's own functions answer. Only private contracts and proofs cite it.
-use Rattle.std.specs.Prelude.{◌≡◌, ℕ, ◌<◌, ◌≤◌, ◌||◌, true, false, nat_eq, if◌then◌else◌, List, Option, Some, None, length, slice_index}
+use Rattle.std.specs.Prelude.{◌≡◌, ℕ, ◌<◌, ◌≤◌, ◌||◌, true, false, nat_eq, if◌then◌else◌, List, Option, Some, None, Result, Ok, Err, length, slice_index}
+use Rattle.std.specs.declared.ops.Range.{Range}
+use Rattle.wave_lex.specs.declared.lex.Found.{Found}
+use Rattle.wave_lex.specs.declared.lex.Found.TheVariants as found
 use Rattle.wave_lex.specs.declared.lex.Token.{Token}
 use Rattle.wave_lex.specs.declared.lex.Token.TheVariants.{BraceOpen, BraceClose, ParenOpen, ParenClose, BracketOpen, BracketClose}
 use Rattle.wave_lex.specs.declared.lex.Token.TheVariants.{Colon, Comma, Number, LabelOrKeyword, Char, String}
@@ -9,7 +12,7 @@ use Rattle.wave_lex.specs.Regex.{Regex, is_within}
 use Rattle.wave_lex.specs.Shared.Derive.{after_all}
 use Rattle.wave_lex.specs.LongestMatch.{FrontHas}
 use Rattle.wave_lex.specs.Shared.Machines.{is_lower, is_plain, label_token_rest}
-use Rattle.wave_lex.specs.Tokenization.{MayStandAt, IsToken, IsLongestToken, IsGap, NoToken}
+use Rattle.wave_lex.specs.Tokenization.{Lexed, MayStandAt, IsToken, IsLongestToken, IsGap, NoToken, span}
 
 -- which class the first scalar of a token shows; the two kinds of strings begin alike
 abbrev pub class_of : ℕ → Option Token
@@ -40,9 +43,28 @@ IsMark m Colon = m ≡ 58
 IsMark m Comma = m ≡ 44
 IsMark m _ = ⊥
 
+-- the digit that numbers a mark; a point for every other byte
+abbrev pub mark_number : ℕ → ℕ
+mark_number m =
+    if nat_eq m 123 then 48
+    else (if nat_eq m 125 then 49
+    else (if nat_eq m 40 then 50
+    else (if nat_eq m 41 then 51
+    else (if nat_eq m 91 then 52
+    else (if nat_eq m 93 then 53
+    else (if nat_eq m 58 then 54
+    else (if nat_eq m 44 then 55
+    else 46)))))))
+
 -- a mark is the longest token at the start of r, and no whitespace stands before it
 abbrev pub IsFirstMark : List ℕ → Token → Type 0
 IsFirstMark r c = IsGap r 0 × IsLongestToken r 1 c
+
+-- what a lexer gives that took this and stands at l
+abbrev pub item_of : Found → Lexed → Option (Result Token (Range ℕ))
+item_of (found.Token c) l = Some (Ok c)
+item_of found.Invalid l = Some (Err (span l.start l.end))
+item_of found.End l = None
 
 -- what stands at the start of r
 abbrev pub TokenAt : List ℕ → Option (Token × ℕ) → Type 0

@@ -1,4 +1,3 @@
-use Rattle.std.proofs.Common.{refl}
 use Rattle.wave_decode.proofs.PartsKept.{behind_part, where_ok}
 use Rattle.wave_decode.proofs.parts.Parts+V+Type+V.with_other_part.Goals as goal
 
