@@ -318,6 +318,10 @@ behind_blanks c l = grind (arith, nat_tests)
 pub no_gap : (s b : List ℕ) → b ≡ s → 32 < get_or b 0 0 → get_or b 0 0 ≢ 47 → Greatest (IsFront gap s) (Some 0)
 no_gap s b e l f = blanks_end s b 0 e (omega arith) (λ i k. let w : ⊥ = omega arith in absurd w) (λ _. behind_blanks (get_or b 0 0) l) (λ _. f)
 
+-- one space before such a byte is the whitespace
+pub one_blank : (s b : List ℕ) → b ≡ s → 1 < length b → get_or b 0 0 ≡ 32 → 32 < get_or b 1 0 → get_or b 1 0 ≢ 47 → Greatest (IsFront gap s) (Some 1)
+one_blank s b e long space l f = blanks_end s b 1 e (omega arith) (λ i k. let first : i ≡ 0 = omega arith in ap (λ (z : ℕ). is_blank (get_or b z 0)) first ∙ ap is_blank space) (λ _. behind_blanks (get_or b 1 0) l) (λ _. f)
+
 number_none : (c : ℕ) → is_digit c ≡ false → ends_whole c ≡ true → number_step n.Whole c ≡ None
 number_none c e f = grind (arith, nat_tests)
 

@@ -107,6 +107,12 @@ impl fmt::Display for FuncNameToken {
 fn class_of(first: char) -> Option<Token>
     ensures { result ≡ class_of first }
 {
+    if matches!(first, 'a'..='z') {
+        return Some(Token::LabelOrKeyword);
+    }
+    if matches!(first, '0'..='9') {
+        return Some(Token::Number);
+    }
     match first {
         '{' => Some(Token::BraceOpen),
         '}' => Some(Token::BraceClose),

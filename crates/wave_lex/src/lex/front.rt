@@ -26,6 +26,9 @@ pub fn gap_at(text: &str) -> usize
     ensures { IsGap text.now result }
 {
     let bytes = text.as_bytes();
+    if bytes.len() > 1 && bytes[0] == b' ' && bytes[1] > b' ' && bytes[1] != b'/' {
+        return 1;
+    }
     if bytes.len() > 0 && bytes[0] > b' ' && bytes[0] != b'/' {
         return 0;
     }

@@ -1,7 +1,7 @@
 use Rattle.std.proofs.Common.{refl, arith}
 use Rattle.wave_lex.specs.Tokens.{gap}
 use Rattle.wave_lex.proofs.Fronts.{front_there, front_behind}
-use Rattle.wave_lex.proofs.Runs.{blanks_end, blanks_cut, blanks_lead, no_gap}
+use Rattle.wave_lex.proofs.Runs.{blanks_end, blanks_cut, blanks_lead, no_gap, one_blank}
 use Rattle.wave_lex.proofs.lex.front.gap_at.Goals as goal
 
 pub range_from-requires : goal.range_from-requires
@@ -21,4 +21,7 @@ pub returns-then-bytes-run-ne47 : goal.returns-then-bytes-run-ne47
 returns-then-bytes-run-ne47 c = blanks_end _ _ _ c.as_bytes-bytes.ensures.value c.blanks-run.ensures.within c.blanks-run.ensures.all c.blanks-run.ensures.stops (λ k. c.if-bytes-run-ne47.true)
 
 pub returns-then-bytes-ne47 : goal.returns-then-bytes-ne47
-returns-then-bytes-ne47 c = no_gap _ _ c.as_bytes-bytes.ensures.value c.if-bytes-gt32.true c.if-bytes-ne47.true
+returns-then-bytes-ne47 c = one_blank _ _ c.as_bytes-bytes.ensures.value c.if-bytes-gt1.true c.if-bytes-eq32.true c.if-bytes-gt32.true c.if-bytes-ne47.true
+
+pub returns-then-bytes-ne47-2 : goal.returns-then-bytes-ne47-2
+returns-then-bytes-ne47-2 c = no_gap _ _ c.as_bytes-bytes.ensures.value c.if-bytes-gt32-2.true c.if-bytes-ne47-2.true
