@@ -48,9 +48,10 @@ impl<'source> Tokens<'source> {
     }
 
     /// Reads a part of a value, and adds it to the parts. What is made of one token is added where it
-    /// was made.
+    /// was made, and all of this stands in the loop that asks for parts: an answer of its own would be
+    /// copied for each of them.
     #[cycle(parser)]
-    #[inline(never)]
+    #[inline(always)]
     fn parse_part<P: Builder>(
         &mut self,
         alloc: Global,
@@ -81,9 +82,10 @@ impl<'source> Tokens<'source> {
     }
 
     /// Reads what stands after the first token of a value, which is of this class and begins a value so.
-    /// Each level of a value takes such a call, so what it calls isn't inlined, and its frame stays
-    /// small.
+    /// Each level of a value takes such a call, so neither it nor what it calls is inlined, and frames
+    /// stay small.
     #[cycle(parser)]
+    #[inline(never)]
     fn parse_behind<P: Builder>(
         &mut self,
         alloc: Global,
