@@ -1,5 +1,5 @@
 -- Plain bytes and escapes lead a string back to where it stood.
-use Rattle.std.proofs.Common.{◌≡◌, ℕ, ◌≤◌, ◌<◌, ◌+◌, Bool, true, false, nat_eq, zero, suc, List, [], ◌∷◌, ◌++◌, refl, sym, ap, subst, ◌∙◌, length, take, drop, arith, get_or, Option, Some, None, length-append, length-drop, length-take-le, get_or-drop}
+use Rattle.std.proofs.Common.{◌≡◌, ℕ, ◌≤◌, ◌<◌, ◌+◌, Bool, true, false, nat_eq, zero, suc, List, [], ◌∷◌, ◌++◌, refl, sym, ap, subst, ◌∙◌, length, take, drop, arith, get_or, is_some, Option, Some, None, length-append, length-drop, length-take-le, get_or-drop}
 use Rattle.std.specs.Prelude.{◌||◌, not, nat_lt, if◌then◌else◌, encode_utf8_all}
 use Rattle.std.specs.Char.{digit_value}
 use Rattle.std.specs.Str.{IsUtf8, chars, IsCharBoundary}
@@ -133,12 +133,17 @@ stays_here s e t k a h w l =
     record { scalars = e; fits = omega arith; spelled = ascii_spelled e (all_is e a) ∙ sym cut; has = h }
 
 -- a short escape at the start
-pub short_leads : (s : List ℕ) (c : ℕ) → 2 ≤ length s → get_or s 0 0 ≡ 92 → short_escape (get_or s 1 0) ≡ Some c → LeadsTo (string_rest string.Inside) (string_rest string.Inside) s 2
+short_leads : (s : List ℕ) (c : ℕ) → 2 ≤ length s → get_or s 0 0 ≡ 92 → short_escape (get_or s 1 0) ≡ Some c → LeadsTo (string_rest string.Inside) (string_rest string.Inside) s 2
 short_leads [] c l a b = let w : ⊥ = omega arith in absurd w
 short_leads (x ∷ []) c l a b = let w : ⊥ = omega arith in absurd w
 short_leads (x ∷ y ∷ s) c l a b =
     let f : 92 < 128 = omega arith in
     stays_here (x ∷ y ∷ s) (92 ∷ y ∷ []) s 2 (f, (short_ascii y c b, tt)) (short_stays y c b) (ap (λ (z : ℕ). z ∷ y ∷ s) a) refl
+
+-- the same, where the scalar is known to be there
+pub some_leads : (s : List ℕ) (o : Option ℕ) → 2 ≤ length s → get_or s 0 0 ≡ 92 → short_escape (get_or s 1 0) ≡ o → is_some o ≡ true → LeadsTo (string_rest string.Inside) (string_rest string.Inside) s 2
+some_leads s (Some c) l f e is = short_leads s c l f e
+some_leads s None l f e is = cc
 
 -- a long escape at the start
 pub long_leads : (s d : List ℕ) (n : ℕ) → s ≡ 92 ∷ 117 ∷ 123 ∷ d → 1 ≤ n → n ≤ 6 → n < length d → ((i : ℕ) → i < n → digit_value (get_or d i 0) < 16) → get_or d n 0 ≡ 125

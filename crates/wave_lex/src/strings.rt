@@ -452,8 +452,8 @@ pub(crate) fn hex_length(bytes: &[u8]) -> usize
     ensures digits { (i : ℕ) → i < result → digit_value (slice_index bytes.now i) < 16 }
     ensures stops { result < length bytes.now → 16 ≤ digit_value (slice_index bytes.now result) }
 {
-    for (i, byte) in bytes.iter().enumerate() {
-        if !is_hexadecimal(*byte) {
+    for i in 0..bytes.len() {
+        if !is_hexadecimal(bytes[i]) {
             return i;
         }
     }

@@ -1,15 +1,15 @@
 //! How many bytes whitespace or a token takes at the start of a text. Runs of bytes that leave a machine
 //! in its state are counted at once; the machine reads what stands after them. The end of a multiline
 //! string is searched.
-ghost use Rattle.std.specs.Prelude.{◌≡◌, ℕ, ◌<◌, ◌≤◌, true, false, length, drop, slice_index};
+ghost use Rattle.std.specs.Prelude.{◌≡◌, ℕ, ◌<◌, ◌≤◌, true, false, is_some, length, drop, slice_index};
 ghost use Rattle.wave_lex.specs.LongestMatch.{Greatest, IsFront};
+ghost use Rattle.wave_lex.specs.Strings.{short_escape};
 ghost use Rattle.wave_lex.specs.Shared.Machines.{ends_whole, is_blank, is_digit, is_lower, is_plain, string_rest};
 ghost use Rattle.wave_lex.specs.Shared.Reading.{LeadsTo, EndsWord, IsPlainRun, IsStep, IsWordStep};
 ghost use Rattle.wave_lex.specs.declared.machine.string.StringState.TheVariants.{Inside};
 ghost use Rattle.wave_lex.specs.Tokenization.{IsGap};
 ghost use Rattle.wave_lex.specs.Tokens.{label_or_keyword, multiline_string, number, one, string};
 
-use crate::machine::escape::short_escape;
 use crate::machine::gap::GapState;
 use crate::machine::label::{LabelState, LabelTokenState};
 use crate::machine::longest_front;
@@ -211,11 +211,10 @@ fn escape_at(bytes: &[u8]) -> Option<usize>
     if bytes.len() < 2 || bytes[0] != b'\\' {
         return None;
     }
-    if bytes[1] != b'u' {
-        let _scalar = short_escape(char::from(bytes[1]))?;
+    if ends_short(bytes[1]) {
         return Some(2);
     }
-    if bytes.len() < 3 || bytes[2] != b'{' {
+    if bytes[1] != b'u' || bytes.len() < 3 || bytes[2] != b'{' {
         return None;
     }
     let digits = &bytes[3..];
@@ -224,6 +223,24 @@ fn escape_at(bytes: &[u8]) -> Option<usize>
         return None;
     }
     Some(count + 4)
+}
+
+/// A point at the place of each byte that ends a short escape, and a comma at every other.
+static SHORTS: [u8; 256] = *b"\
+    ,,,,,,,,,,,,,,,,,,,,,,,,,,,,,,,,\
+    ,,.,,,,.,,,,,,,,,,,,,,,,,,,,,,,,\
+    ,,,,,,,,,,,,,,,,,,,,,,,,,,,,.,,,\
+    ,,,,,,,,,,,,,,.,,,.,.,,,,,,,,,,,\
+    ,,,,,,,,,,,,,,,,,,,,,,,,,,,,,,,,\
+    ,,,,,,,,,,,,,,,,,,,,,,,,,,,,,,,,\
+    ,,,,,,,,,,,,,,,,,,,,,,,,,,,,,,,,\
+    ,,,,,,,,,,,,,,,,,,,,,,,,,,,,,,,,";
+
+/// A backslash and the byte are an escape.
+fn ends_short(byte: u8) -> bool
+    ensures { result ≡ is_some (short_escape byte) }
+{
+    SHORTS[byte as usize] == b'.'
 }
 
 /// The byte is a space, a tab, a line feed or a carriage return.

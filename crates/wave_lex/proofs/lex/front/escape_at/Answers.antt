@@ -1,13 +1,12 @@
-use Rattle.std.proofs.Common.{arith, ap, sym, ◌∙◌}
-use Rattle.wave_lex.specs.Strings.{short_escape}
+use Rattle.std.proofs.Common.{arith, refl, sym, ◌∙◌}
 use Rattle.wave_lex.proofs.Unescape.{opened_cut}
-use Rattle.wave_lex.proofs.EscapeRuns.{short_leads, long_leads}
+use Rattle.wave_lex.proofs.EscapeRuns.{some_leads, long_leads}
 use Rattle.wave_lex.proofs.lex.front.escape_at.Goals as goal
 
-pub returns-then-bytes-ne117 : goal.returns-then-bytes-ne117
-returns-then-bytes-ne117 c = (
+pub returns-then-ends_short : goal.returns-then-ends_short
+returns-then-ends_short c = (
   omega arith,
-  short_leads _ _ c.if-bytes-lt2.false c.if-bytes-ne92.false (ap short_escape (sym c.from.ensures) ∙ (sym c.short_escape.ensures ∙ c.in_ok-_scalar.was)),
+  some_leads _ _ c.if-bytes-lt2.false c.if-bytes-ne92.false refl (sym c.ends_short.ensures ∙ c.if-ends_short.true),
 )
 
 pub returns : goal.returns
