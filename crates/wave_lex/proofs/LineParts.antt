@@ -1,20 +1,21 @@
 -- What the parts of a multiline string are together, and what a refusal among them says.
-use Rattle.std.proofs.Common.{◌≡◌, ◌≢◌, ℕ, ◌+◌, ◌≤◌, ◌<◌, suc, Bool, true, false, nat_eq, Option, Result, List, [], ◌∷◌, ◌++◌, ◌⊎◌, inl, inr, refl, sym, ap, subst, ◌∙◌, length, arith, Some, None, Ok, Err, append_assoc, length-append}
+use Rattle.std.proofs.Common.{◌≡◌, ◌≢◌, ℕ, ◌+◌, ◌-◌, ◌≤◌, ◌<◌, suc, take, drop, Bool, true, false, nat_eq, Option, Result, List, [], ◌∷◌, ◌++◌, ◌⊎◌, inl, inr, refl, sym, ap, subst, ◌∙◌, length, arith, Some, None, Ok, Err, append_assoc, length-append}
 use Rattle.std.specs.Prelude.{MatchResult, if◌then◌else◌, encode_utf8}
 use Rattle.std.proofs.lemmas.Str.{encode_ascii}
-use Rattle.std.proofs.lemmas.List.{append-nil}
+use Rattle.std.proofs.lemmas.List.{append-nil, length-drop, length-take-le}
 use Rattle.wave_lex.specs.Errors.{Diagnostic}
 use Rattle.wave_lex.specs.declared.strings.StringPart.{StringPart}
 use Rattle.wave_lex.specs.declared.strings.StringPart.TheVariants.{Run, Char}
 use Rattle.wave_lex.specs.Tokenization.{span}
 use Rattle.wave_lex.specs.Strings.{Decodes, IsBadEscapeAt}
 use Rattle.wave_lex.specs.Multiline.{put_first, pieces, spaces, DropsReturn, LinesMean, in_lines, DecodesLines, LineFault, closing, opening, indentation, escape, BadLines, MultilineFault, fault_span}
-use Rattle.wave_lex.specs.Remaining.{Undecoded, LinesLeft, one_line, but_last, ended_lines, lines_size, size_of}
+use Rattle.wave_lex.specs.Remaining.{Undecoded, LinesLeft, one_line, ended_lines, lines_size, size_of}
 use Rattle.wave_lex.specs.Parts.{part_text, part_texts, TellsBadEscape, TellsFault, EntersLine, HasBadLine, MeetsBadEscape, MeetsBadLine, StaysInLine, PartIs, LinePartIs, NoPartNext, TakesPart, Begins, OpeningRefused, LinesRunTo, LinesJoin, OneLineJoins}
-use Rattle.wave_lex.specs.Private.Lines.{PartTaken, EndIs, LinesEndIs}
+use Rattle.wave_lex.specs.Private.Lines.{PartTaken, EndIs, LinesEndIs, BehindLastFeed}
+use Rattle.wave_lex.specs.Private.Runs.{HasWholeLines}
 use Rattle.wave_lex.specs.Shared.PartRuns.{LinesRun}
 use Rattle.wave_lex.proofs.Decoding.{empty_once, escape_head}
-use Rattle.wave_lex.proofs.Lines.{pieces_first}
+use Rattle.wave_lex.proofs.Lines.{pieces_first, pieces_ended, later_feed}
 use Rattle.wave_lex.proofs.Parts.{takes, bad_behind, bad_here}
 
 -- ---- what is left means a text
@@ -304,18 +305,22 @@ pieces_size (b ∷ s) = by_test (nat_eq b 10) (pieces_first s) (pieces_size s)
     by_test true f more = omega (arith, more)
     by_test false (q, qs, e) more = ap (λ (z : List (List ℕ)). lines_size (put_first b z)) e ∙ (put_first_size b q qs ∙ ap suc (sym (ap lines_size e) ∙ more))
 
-but_last_size : (q : List ℕ) (qs : List (List ℕ)) → suc (lines_size (but_last (q ∷ qs))) ≤ lines_size (q ∷ qs)
-but_last_size q [] = omega arith
-but_last_size q (r ∷ qs) = omega (arith, but_last_size r qs)
+-- the lines and the last piece take the lines and the last piece
+appended_size : (ps : List (List ℕ)) (q : List ℕ) → lines_size (ps ++ q ∷ []) ≡ lines_size ps + suc (length q)
+appended_size [] q = omega arith
+appended_size (p ∷ ps) q = omega (arith, appended_size ps q)
 
--- the lines of a text take no more than the text
-pub ended_fit : (s : List ℕ) → lines_size (ended_lines s) ≤ length s
-ended_fit s =
-    let (q, qs, e) = pieces_first s in
+-- a text through its last line feed is whole lines
+through_feed : (s : List ℕ) (n : ℕ) → BehindLastFeed s n → HasWholeLines (take n s)
+through_feed s n h =
+    let fits : n ≤ length s = h.fits in
     let all : lines_size (pieces s) ≡ suc (length s) = pieces_size s in
-    let cut : lines_size (pieces s) ≡ lines_size (q ∷ qs) = ap lines_size e in
-    let ended : lines_size (ended_lines s) ≡ lines_size (but_last (q ∷ qs)) = ap (λ (z : List (List ℕ)). lines_size (but_last z)) e in
-    omega (arith, but_last_size q qs)
+    let cut : lines_size (pieces s) ≡ lines_size (ended_lines (take n s)) + suc (length (drop n s)) = ap lines_size (pieces_ended s n h) ∙ appended_size (ended_lines (take n s)) (drop n s) in
+    omega (arith, length-drop n s, length-take-le n s fits)
+
+-- so is what stands behind its first piece
+pub body_whole : (s body : List ℕ) (m n : ℕ) → m ≤ n → BehindLastFeed s n → body ≡ take (n - m) (drop m s) → HasWholeLines body
+body_whole s body m n l h e = subst HasWholeLines (sym e) (through_feed (drop m s) (n - m) (later_feed s m n l h))
 
 -- ---- runs, part by part
 

@@ -48,6 +48,11 @@ pub record Diagnostic : Type 0 where
 abbrev pub refusal_of : Diagnostic → Refusal
 refusal_of e = record { kind = e.kind; cause = option_map cause_of e.cause }
 
+-- the cause isn't out of memory, which is reported by the kind alone
+abbrev pub IsNoMemory : Option WasmValueError → Type 0
+IsNoMemory (Some (error.Memory e)) = ⊥
+IsNoMemory cause = Unit {0}
+
 -- the error is of this kind, at this span, with this detail and without a cause
 pub record Says (e : Diagnostic) (kind : ParserErrorKind) (at : Range ℕ) (detail : Option (List ℕ)) : Type 0 where
   pub is : refusal_of e ≡ plainly kind

@@ -2,8 +2,8 @@
 ghost use Rattle.std.specs.Prelude.{◌≡◌, None, Some, option_map};
 ghost use Rattle.std.specs.String.{string_bytes};
 ghost use Rattle.wave_wasm.specs.ValueErrors.{cause_of};
-ghost use Rattle.wave_lex.specs.Errors.{plainly, refused_by, kept, refusal_of, kind_words, error_text};
-ghost use Rattle.wave_lex.specs.Shared.Errors.{detail_cause, detail_text};
+ghost use Rattle.wave_lex.specs.Errors.{plainly, refused_by, kept, refusal_of, kind_words, error_text, IsNoMemory};
+ghost use Rattle.wave_lex.specs.Shared.Errors.{detail_cause, detail_text, error_with};
 
 use crate::lex::Span;
 use std::fmt;
@@ -97,6 +97,7 @@ pub enum Detail {
 
 /// A refusal of a text: its kind, the bytes of the source where it arose, and perhaps a detail or
 /// the error of the value that could not be made. A clause sees these four, the detail as a text.
+/// The error is never `Memory`: for lack of memory the kind is `OutOfMemory`.
 #[derive(Debug, Error)]
 pub struct ParserError {
     kind: ParserErrorKind,
@@ -119,10 +120,13 @@ impl Model for ParserError {
 
     ghost Value = { Diagnostic };
 
+    ghost use Rattle.wave_lex.specs.Errors.{IsNoMemory};
     ghost use Rattle.wave_lex.specs.Shared.Errors.{detail_cause, detail_text};
 
     ghost view = { λ e.
         record { kind = e.kind; span = e.span; detail = detail_text e.detail; cause = detail_cause e.detail } };
+
+    ghost invariant = { λ e. IsNoMemory (detail_cause e.detail) };
 }
 
 impl ParserError {
@@ -161,10 +165,7 @@ impl ParserError {
         ensures detail { result.detail ≡ None }
         ensures cause { result.cause ≡ kept cause }
     {
-        match cause {
-            WasmValueError::Memory(_) => ParserError::new(ParserErrorKind::OutOfMemory, span),
-            cause => error_of_parts(ParserErrorKind::WasmValueError, span, Detail::Cause(cause)),
-        }
+        error_of_parts(ParserErrorKind::WasmValueError, span, Detail::Cause(cause))
     }
 
     fn into_parts(self) -> (ParserErrorKind, Span, Detail)
@@ -172,6 +173,7 @@ impl ParserError {
         ensures span { result.1 ≡ self.span }
         ensures detail { detail_text result.2 ≡ self.detail }
         ensures cause { detail_cause result.2 ≡ self.cause }
+        ensures memory { IsNoMemory (detail_cause result.2) }
     {
         let ParserError { kind, span, detail } = self;
         (kind, span, detail)
@@ -203,9 +205,10 @@ impl ParserError {
         }
     }
 
-    /// The error of the value that could not be made, where there is one.
+    /// The error of the value that could not be made, where there is one. It is never `Memory`.
     pub fn cause(&self) -> Option<&WasmValueError>
-        ensures { option_map (λ cause. cause.now) result ≡ self.now.cause }
+        ensures cause { option_map (λ cause. cause.now) result ≡ self.now.cause }
+        ensures memory { IsNoMemory self.now.cause }
     {
         match &self.detail {
             Detail::Cause(cause) => Some(cause),
@@ -214,14 +217,19 @@ impl ParserError {
     }
 }
 
-/// A refusal of these parts. The cause isn't `Memory`, which `with_cause` tells by the kind.
+/// A refusal of these parts. Where the cause is `Memory`, it is refused as `OutOfMemory`, without a
+/// cause.
 pub fn error_of_parts(kind: ParserErrorKind, span: Span, detail: Detail) -> ParserError
-    ensures kind { result.kind ≡ kind }
-    ensures span { result.span ≡ span }
-    ensures detail { result.detail ≡ detail_text detail }
-    ensures cause { result.cause ≡ detail_cause detail }
+    ensures { result ≡ error_with kind span detail }
 {
-    ParserError { kind, span, detail }
+    match detail {
+        Detail::Cause(WasmValueError::Memory(_)) => ParserError {
+            kind: ParserErrorKind::OutOfMemory,
+            span,
+            detail: Detail::None,
+        },
+        detail => ParserError { kind, span, detail },
+    }
 }
 
 /// The parts of the refusal.
@@ -230,6 +238,7 @@ pub fn parts_of_error(error: ParserError) -> (ParserErrorKind, Span, Detail)
     ensures span { result.1 ≡ error.span }
     ensures detail { detail_text result.2 ≡ error.detail }
     ensures cause { detail_cause result.2 ≡ error.cause }
+    ensures memory { IsNoMemory (detail_cause result.2) }
 {
     error.into_parts()
 }

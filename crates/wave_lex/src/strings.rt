@@ -158,12 +158,13 @@ pub struct MultilineStringParts<'a> {
 impl<'a> Model for MultilineStringParts<'a> {
     ghost use Rattle.std.specs.Prelude.{◌+◌, ◌<◌, ◌^◌, length};
     ghost use Rattle.wave_lex.specs.Remaining.{LinesLeft, ended_lines};
+    ghost use Rattle.wave_lex.specs.Private.Runs.{HasWholeLines};
 
     ghost Value = { LinesLeft };
 
     ghost view = { λ p. record { line = p.line; later = ended_lines p.rest.now; next = p.next; indent = p.indent } };
 
-    ghost invariant = { λ p. p.next + length p.rest.now + 3 < 2 ^ 64 };
+    ghost invariant = { λ p. (p.next + length p.rest.now + 3 < 2 ^ 64) × HasWholeLines p.rest.now };
 }
 
 impl<'a> MultilineStringParts<'a> {
@@ -235,10 +236,10 @@ impl<'a> MultilineStringParts<'a> {
         None
     }
 
-    /// How many bytes are left at most.
+    /// How many bytes are left.
     #[inline(always)]
     fn bytes_left(&self) -> usize
-        ensures { size_of self.now ≤ result }
+        ensures { result ≡ size_of self.now }
     {
         self.line.bytes_left() + self.rest.len()
     }
@@ -310,10 +311,11 @@ impl<'a> StringPartsIter<'a> {
         Ok(StringPartsIter::Multiline(parts))
     }
 
-    /// How many bytes are left of the source at most: as many as the text of the parts can take.
+    /// How many bytes of the source are left, which is as many as the text of the parts can take: of
+    /// the line that is read, and of the lines after it with their line feeds.
     #[inline(always)]
     pub fn bytes_left(&self) -> usize
-        ensures { size_of (left_of self.now) ≤ result }
+        ensures { result ≡ size_of (left_of self.now) }
     {
         match self {
             StringPartsIter::Normal(parts) => parts.bytes_left(),

@@ -1,6 +1,5 @@
 use Rattle.std.proofs.Common.{arith}
-use Rattle.wave_lex.proofs.LineParts.{ended_fit}
 use Rattle.wave_lex.proofs.strings.MultilineStringParts.bytes_left.Goals as goal
 
 pub returns : goal.returns
-returns c = rw (← c.self.view_is) (omega (arith, ended_fit c.self.inside.rest.now))
+returns c = rw (← c.self.view_is) (omega arith)

@@ -1,7 +1,8 @@
-use Rattle.std.proofs.Common.{◌≡◌, ◌≢◌, ℕ, ◌≤◌, inl, inr, List, length, sym, ap, subst, get_or}
+use Rattle.std.proofs.Common.{arith, ◌≡◌, ◌≢◌, ℕ, ◌+◌, ◌<◌, ◌≤◌, inl, inr, List, length, sym, ap, subst, get_or}
 use Rattle.wave_lex.specs.Multiline.{IsSpaces}
 use Rattle.wave_lex.specs.Remaining.{Undecoded}
-use Rattle.wave_lex.proofs.Lines.{not_spaces, all_spaces, behind_feed, behind_last, begins_here, opened}
+use Rattle.wave_lex.proofs.Lines.{not_spaces, all_spaces, behind_feed, behind_last, feed_before, begins_here, opened}
+use Rattle.wave_lex.proofs.LineParts.{body_whole}
 use Rattle.wave_lex.proofs.strings.MultilineStringParts.new.Goals as goal
 
 pub returns-then-length_of_spaces-closing : goal.returns-then-length_of_spaces-closing
@@ -33,6 +34,13 @@ range-requires-clause-start_boundary c = λ _.
 pub range-requires-clause-end_boundary : goal.range-requires-clause-end_boundary
 range-requires-clause-end_boundary c = behind_last c.args.src.now c.last_line_start-start.result c.utf8.src
     c.last_line_start-start.ensures
+
+pub invariant_of-parts : goal.invariant_of-parts
+invariant_of-parts c =
+    let start = c.last_line_start-start.result in
+    let before : c.in-Some.first < start = feed_before c.args.src.now c.in-Some.first start c.last_line_start-start.ensures c.in-Some.ensures.0 c.in-Some.ensures.1 in
+    let fits : start ≤ length c.args.src.now = c.last_line_start-start.ensures.fits in
+    (omega (arith, c.range.ensures.len, c.requires), body_whole c.args.src.now c.range.result.now (c.in-Some.first + 1) start (omega arith) c.last_line_start-start.ensures c.range.ensures.value)
 
 pub returns : goal.returns
 returns c =
