@@ -6,3 +6,4 @@ pub mod SimpleTypes
 mod SoonRead
 pub mod Kept
 pub mod NamedKinds
+pub mod WholeErrors

@@ -38,8 +38,7 @@ told_at p (told.Text k one.Other s) = caused_failure k p (error.Other s)
 told_at p (told.TypeKind k kind s) = caused_failure k p (error.WrongTypeKind kind s)
 told_at p (told.Elements k want got) = caused_failure k p (error.WrongNumberOfElements want got)
 told_at p (told.TupleValues k want got) = caused_failure k p (error.WrongNumberOfTupleValues want got)
-told_at p (told.Memory k e) = caused_failure k p (error.Memory e)
-told_at p (told.TwoTexts k e) = caused_failure k p e.value
+told_at p (told.TwoTexts k texts) = caused_failure k p (error.WrongValueType texts.value.0 texts.value.1)
 
 -- the cause has two texts, which need memory to be kept
 abbrev pub HasTwoTexts : WasmValueError → Type 0

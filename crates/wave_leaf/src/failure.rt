@@ -2,8 +2,8 @@
 ghost use Rattle.std.specs.Prelude.{ℕ, ◌≡◌, Some, IfOk, IfErr, IsSomeAnd};
 ghost use Rattle.std.specs.String.{string_bytes};
 ghost use Rattle.std.specs.declared.ops.Range.{Range};
-ghost use Rattle.wave_lex.specs.Errors.{refusal_of};
-ghost use Rattle.wave_lex.specs.Shared.Errors.{detail_cause, detail_text};
+ghost use Rattle.wave_lex.specs.Shared.Errors.{error_with};
+ghost use Rattle.wave_lex.specs.declared.error.Detail.TheVariants as detail_as;
 ghost use Rattle.wave_leaf.specs.Failures.{IsSameOrMemory, IsKept, HasTwoTexts, plain_failure, detailed, caused_failure, told_at};
 ghost use Rattle.wave_leaf.specs.declared.failure.Told.TheVariants as told_as;
 
@@ -39,10 +39,8 @@ enum Told {
     Elements(ParserErrorKind, u32, usize),
     /// With `WrongNumberOfTupleValues`.
     TupleValues(ParserErrorKind, usize, usize),
-    /// With `Memory`.
-    Memory(ParserErrorKind, AllocError),
-    /// With a cause of two texts.
-    TwoTexts(ParserErrorKind, Box<WasmValueError>),
+    /// With `WrongValueType`, the words of the type and of the value.
+    TwoTexts(ParserErrorKind, Box<(String, String)>),
 }
 
 /// The causes that have one text and nothing else.
@@ -75,13 +73,13 @@ impl TextCause {
 }
 
 impl Told {
-    /// This kind with this cause.
+    /// This kind with this cause; where that is `Memory`, `OutOfMemory` without a cause.
     fn caused(
         alloc: Global,
         kind: ParserErrorKind,
         cause: WasmValueError,
     ) -> Result<Told, AllocError>
-        ensures same { IfOk result (λ told. (p : Range ℕ) → told_at p told ≡ caused_failure kind p cause) }
+        ensures same { IfOk result (λ told. (p : Range ℕ) → told_at p told ≡ error_with kind p (detail_as.Cause cause)) }
         ensures memory { IfErr result (λ _. HasTwoTexts cause) }
     {
         let (text_cause, text) = match cause {
@@ -101,10 +99,9 @@ impl Told {
             WasmValueError::WrongTypeKind { kind: of, ty } => {
                 return Ok(Told::TypeKind(kind, of, ty));
             }
-            WasmValueError::Memory(error) => return Ok(Told::Memory(kind, error)),
+            WasmValueError::Memory(_) => return Ok(Told::Plain(ParserErrorKind::OutOfMemory)),
             WasmValueError::WrongValueType { ty, val } => {
-                let cause = Box::new(alloc, WasmValueError::WrongValueType { ty, val })?;
-                return Ok(Told::TwoTexts(kind, cause));
+                return Ok(Told::TwoTexts(kind, Box::new(alloc, (ty, val))?));
             }
         };
         Ok(Told::Text(kind, text_cause, text))
@@ -112,7 +109,7 @@ impl Told {
 
     /// The kind and the detail.
     fn into_parts(self) -> (ParserErrorKind, Detail)
-        ensures { (p : Range ℕ) → told_at p self ≡ record { kind = result.0; span = p; detail = detail_text result.1; cause = detail_cause result.1 } }
+        ensures { (p : Range ℕ) → told_at p self ≡ error_with result.0 p result.1 }
     {
         let (kind, cause) = match self {
             Told::Plain(kind) => return (kind, Detail::None),
@@ -126,8 +123,10 @@ impl Told {
             Told::TupleValues(kind, want, got) => {
                 (kind, WasmValueError::WrongNumberOfTupleValues { want, got })
             }
-            Told::Memory(kind, error) => (kind, WasmValueError::Memory(error)),
-            Told::TwoTexts(kind, cause) => (kind, Box::into_inner(cause)),
+            Told::TwoTexts(kind, texts) => {
+                let (ty, val) = Box::into_inner(texts);
+                (kind, WasmValueError::WrongValueType { ty, val })
+            }
         };
         (kind, Detail::Cause(cause))
     }
@@ -219,8 +218,7 @@ impl Failure {
     #[cold]
     #[inline(never)]
     pub fn into_error_at(self, span: Span) -> ParserError
-        ensures refusal { refusal_of result ≡ refusal_of self }
-        ensures span { result.span ≡ span }
+        ensures { result ≡ record { kind = self.kind; span = span; detail = self.detail; cause = self.cause } }
     {
         let Failure { span: _, told } = self;
         let (kind, detail) = told.into_parts();
