@@ -1,6 +1,6 @@
 -- The test of names says what labels and distinct names are.
-use Rattle.std.proofs.Common.{◌≡◌, ℕ, ◌+◌, ◌<◌, Bool, true, false, eqb, List, [], ◌∷◌, map, length, get_or, drop, Option, Some, None, refl, sym, ap, subst, ◌∙◌, arith, ◌↔◌, IsTrue, String, string_bytes}
-use Rattle.std.specs.Prelude.{◌&&◌, ◌||◌, encode_utf8_all}
+use Rattle.std.proofs.Common.{◌≡◌, ◌≢◌, ℕ, zero, suc, ◌+◌, ◌<◌, ◌≤◌, Bool, true, false, not, eqb, List, [], ◌∷◌, ◌++◌, map, length, get_or, take, Option, Some, None, refl, sym, ap, subst, ◌∙◌, arith, ◌↔◌, IsTrue, String, string_bytes}
+use Rattle.std.specs.Prelude.{◌&&◌, encode_utf8_all}
 use Rattle.std.specs.Cmp.{both_ways}
 use Rattle.std.specs.Cmp.Derive.{both_true}
 use Rattle.std.specs.Option.{option_eq}
@@ -8,14 +8,17 @@ use Rattle.std.specs.Str.{bytes_eq}
 use Rattle.std.specs.declared.alloc.Global.{Global}
 use Rattle.std.proofs.Math.Seq.{take-length}
 use Rattle.std.proofs.lemmas.Bool.{and_parts, or_from, eq-eqb, eqb-true, not-true, not_from_false, false_from_ne_true}
-use Rattle.std.proofs.lemmas.List.{drop_more}
+use Rattle.std.specs.List.{position, position_from}
+use Rattle.std.proofs.lemmas.Iterator.Adapters.{position_from-zero}
+use Rattle.std.proofs.lemmas.List.{take_more, get_or-map, length-map}
+use Rattle.std.proofs.lemmas.List.Quantifiers.{position-Some}
 use Rattle.std.proofs.lemmas.Slice.Eq.{bytes_eq-Decides}
 use Rattle.std.proofs.lemmas.Str.{encodes-IsAscii}
 use Rattle.wave_wasm.specs.Lists.{AllOf}
 use Rattle.wave_wasm.specs.Names.{IsNoneOf, AreDistinct, is_one_of}
 use Rattle.wave_wasm.specs.Types as type
 use Rattle.wave_wasm.specs.Types.{TypeTree, MaybeType, Types, Fields, Cases, no_type, a_type, no_types, type_and, no_fields, field, no_cases, case_of, EachNames, EachNamesOfMaybe, EachNamesOfTypes, EachNamesOfFields, EachNamesOfCases, fields_of, cases_of, field_names, case_names}
-use Rattle.wave_wasm.proofs.NameTests.{none_of}
+use Rattle.wave_wasm.proofs.NameTests.{none_of, distinct_more}
 use Rattle.wave_lex.specs.Labels.{IsLabel, Good}
 use Rattle.wave_lex.specs.LongestMatch.{Greatest, IsFront}
 use Rattle.wave_lex.specs.Tokens.{label}
@@ -151,25 +154,87 @@ pub kept_cases : (cs : List (String Global × Option TypeTree)) → case_names (
 kept_cases [] = refl
 kept_cases (c ∷ cs) = ap (λ ns. string_bytes c.0 ∷ ns) (kept_cases cs)
 
-module _ {A : Type 0} (name_of : A → List ℕ) where
-  behind : (xs : List A) (i : ℕ) (x : A) (n m : List ℕ) (b : Bool) → i < length xs → x ≡ get_or xs i x → m ≡ name_of x → b ≡ bytes_eq n m → is_one_of (map name_of (drop i xs)) n ≡ (b || is_one_of (map name_of (drop (i + 1) xs)) n)
-  behind xs i x n m b h is called says =
-      ap (λ ys. is_one_of (map name_of ys) n) (drop_more xs i x h)
-      ∙ (ap (λ y. bytes_eq n (name_of y) || is_one_of (map name_of (drop (i + 1) xs)) n) (sym is)
-      ∙ (ap (λ k. bytes_eq n k || is_one_of (map name_of (drop (i + 1) xs)) n) (sym called)
-      ∙ ap (λ c. c || is_one_of (map name_of (drop (i + 1) xs)) n) (sym says)))
+-- ---- names by their first places
 
-  -- the name stands here
-  pub found : (xs : List A) (from i : ℕ) (x : A) (n m : List ℕ) (b : Bool) → i < length xs → x ≡ get_or xs i x → m ≡ name_of x → b ≡ bytes_eq n m → b ≡ true
-      → is_one_of (map name_of (drop i xs)) n ≡ is_one_of (map name_of (drop from xs)) n → true ≡ is_one_of (map name_of (drop from xs)) n
-  found xs from i x n m b h is called says passes so =
-      sym (sym so ∙ (behind xs i x n m b h is called says ∙ ap (λ c. c || is_one_of (map name_of (drop (i + 1) xs)) n) passes))
+-- the names are labels, and none stands twice
+abbrev pub AreTested : List (List ℕ) → Type 0
+AreTested ns = AllOf IsLabel ns × AreDistinct ns
 
-  -- it doesn't stand here
-  pub passed : (xs : List A) (from i : ℕ) (x : A) (n m : List ℕ) (b : Bool) → i < length xs → x ≡ get_or xs i x → m ≡ name_of x → b ≡ bytes_eq n m → b ≡ false
-      → is_one_of (map name_of (drop i xs)) n ≡ is_one_of (map name_of (drop from xs)) n → is_one_of (map name_of (drop (i + 1) xs)) n ≡ is_one_of (map name_of (drop from xs)) n
-  passed xs from i x n m b h is called says other so =
-      sym (behind xs i x n m b h is called says ∙ ap (λ c. c || is_one_of (map name_of (drop (i + 1) xs)) n) other) ∙ so
+-- names that were tested pass
+pub tested_pass : (ns : List (List ℕ)) → AreTested ns → are_label_names ns ≡ true
+tested_pass ns h = names_into ns h.0 h.1
+
+all_push : (ns : List (List ℕ)) (n : List ℕ) → AllOf IsLabel ns → IsLabel n → AllOf IsLabel (ns ++ n ∷ [])
+all_push [] n h l = (l, tt)
+all_push (m ∷ ns) n h l = (h.0, all_push ns n h.1 l)
+
+label_at : (ns : List (List ℕ)) (i : ℕ) (d : List ℕ) → AllOf IsLabel ns → i < length ns → IsLabel (get_or ns i d)
+label_at [] i d h lt = absurd (omega (arith, lt))
+label_at (n ∷ ns) zero d h lt = h.0
+label_at (n ∷ ns) (suc i) d h lt = label_at ns i d h.1 (omega (arith, lt))
+
+none_before : (ns : List (List ℕ)) (i : ℕ) (n : List ℕ) → i ≤ length ns → ((k : ℕ) → k < i → bytes_eq n (get_or ns k []) ≡ false) → IsNoneOf (take i ns) n
+none_before ns zero n le h = tt
+none_before [] (suc i) n le h = absurd (omega (arith, le))
+none_before (m ∷ ns) (suc i) n le h = (λ e. let same : bytes_eq n m ≡ true = (bytes_eq-Decides n m).1 e in let other : bytes_eq n m ≡ false = h 0 (omega arith) in let no : true ≡ false = sym same ∙ other in cc, none_before ns i n (omega (arith, le)) (λ k l. h (suc k) (omega (arith, l))))
+
+other_at : (ns : List (List ℕ)) (i : ℕ) (d m : List ℕ) → IsNoneOf ns m → i < length ns → m ≢ get_or ns i d
+other_at [] i d m h lt = absurd (omega (arith, lt))
+other_at (n ∷ ns) zero d m h lt = h.0
+other_at (n ∷ ns) (suc i) d m h lt = other_at ns i d m h.1 (omega (arith, lt))
+
+own_from : (k : ℕ) (ns : List (List ℕ)) (i : ℕ) (d : List ℕ) → AreDistinct ns → i < length ns → position_from (bytes_eq (get_or ns i d)) k ns ≡ Some (k + i)
+own_from k [] i d h lt = absurd (omega (arith, lt))
+own_from k (n ∷ ns) zero d h lt = let e : k ≡ k + 0 = omega arith in rw ((bytes_eq-Decides n n).1 refl) (ap Some e)
+own_from k (n ∷ ns) (suc i) d h lt =
+    let other : bytes_eq (get_or ns i d) n ≡ false = false_from_ne_true (bytes_eq (get_or ns i d) n) (λ e. other_at ns i d n h.0 (omega (arith, lt)) (sym ((bytes_eq-Decides (get_or ns i d) n).0 e))) in
+    let e : k + 1 + i ≡ k + suc i = omega arith in
+    rw other (own_from (k + 1) ns i d h.1 (omega (arith, lt)) ∙ ap Some e)
+
+-- of distinct names each stands first at its own place
+own_place : (ns : List (List ℕ)) (i : ℕ) (d : List ℕ) → AreDistinct ns → i < length ns → position (bytes_eq (get_or ns i d)) ns ≡ Some i
+own_place ns i d h lt = let e : 0 + i ≡ i = omega arith in position_from-zero (bytes_eq (get_or ns i d)) ns ∙ (own_from 0 ns i d h lt ∙ ap Some e)
+
+-- the test of places is equality
+pub same_place : (o : Option ℕ) (i : ℕ) → false ≡ not (option_eq eqb o (Some i)) → o ≡ Some i
+same_place None i e = cc
+same_place (Some k) i e = ap Some (eqb-true k i (sym (turned (eqb k i) e)))
+  where
+    turned : (b : Bool) → false ≡ not b → true ≡ b
+    turned true e = refl
+    turned false e = cc
+
+pub other_place : (o : Option ℕ) (i : ℕ) → true ≡ not (option_eq eqb o (Some i)) → o ≢ Some i
+other_place o i e f =
+    let same : true ≡ not (eqb i i) = e ∙ ap (λ p. not (option_eq eqb p (Some i))) f in
+    let clash : true ≡ false = same ∙ ap not (eq-eqb i i refl) in cc
+
+module _ {A : Type 0} (name_of : A → List ℕ) (xs : List A) (i : ℕ) (x : A) (n : List ℕ) (lt : i < length xs) (is : x ≡ get_or xs i x) (called : n ≡ name_of x) where
+  fits : i < length (map name_of xs)
+  fits = let all : length (map name_of xs) ≡ length xs = length-map xs name_of in omega (arith, all, lt)
+
+  name_there : get_or (map name_of xs) i n ≡ n
+  name_there = get_or-map name_of xs i x n lt ∙ (ap name_of (sym is) ∙ sym called)
+
+  -- one name more that is a label and stands first here
+  pub tests_more : is_label n ≡ true → position (bytes_eq n) (map name_of xs) ≡ Some i → AreTested (take i (map name_of xs)) → AreTested (take (i + 1) (map name_of xs))
+  tests_more passes first h =
+      let ns = map name_of xs in
+      let inside : i < length ns = fits in
+      let more : take (i + 1) ns ≡ take i ns ++ n ∷ [] = take_more ns i n fits ∙ ap (λ m. take i ns ++ m ∷ []) name_there in
+      let new : IsNoneOf (take i ns) n = none_before ns i n (omega (arith, inside)) (position-Some (bytes_eq n) ns i [] first).2 in
+      subst AreTested (sym more) (all_push (take i ns) n h.0 (matches_from n label passes), distinct_more (take i ns) n h.1 new)
+
+  -- the name is no label
+  pub fails_label : is_label n ≡ false → are_label_names (map name_of xs) ≡ false
+  fails_label unlabelled = false_from_ne_true (are_label_names (map name_of xs)) (λ t.
+      let yes : is_label n ≡ true = matches_into n label (subst IsLabel name_there (label_at (map name_of xs) i n (labels_from (map name_of xs) t) fits)) in
+      let clash : true ≡ false = sym yes ∙ unlabelled in cc)
+
+  -- it stands first at another place
+  pub fails_place : (position (bytes_eq n) (map name_of xs) ≢ Some i) → are_label_names (map name_of xs) ≡ false
+  fails_place elsewhere = false_from_ne_true (are_label_names (map name_of xs)) (λ t.
+      elsewhere (subst (λ m. position (bytes_eq m) (map name_of xs) ≡ Some i) name_there (own_place (map name_of xs) i n (distinct_from (map name_of xs) t) fits)))
 
 -- a record whose names were tested
 pub record_passes : (fs gs hs : List (String Global × TypeTree)) (b d : Bool) → gs ≡ fs → hs ≡ fs → b ≡ are_label_names (map (λ f. string_bytes f.0) gs) → b ≡ true → d ≡ fields_pass (fields_of (map by_bytes hs)) → d ≡ names_pass (type.record_type (fields_of (map by_bytes fs)))

@@ -20,3 +20,4 @@ pub mod SpelledNames
 pub mod TextCuts
 pub mod TypeReadBack
 pub mod FunctionReadBack
+pub mod NameIndex

@@ -1,5 +1,5 @@
 -- The text of a type has tokens that spell the type.
-use Rattle.std.proofs.Common.{◌≡◌, ℕ, ◌<◌, ◌^◌, true, false, List, [], ◌∷◌, ◌++◌, inl, Option, refl, sym, ap, subst, arith, codes, append_assoc, get_or, map}
+use Rattle.std.proofs.Common.{◌≡◌, ℕ, ◌^◌, true, List, [], ◌∷◌, ◌++◌, inl, Option, refl, sym, ap, subst, arith, codes, append_assoc, get_or, map}
 use Rattle.std.specs.Fmt.{decimal}
 use Rattle.std.proofs.lemmas.Bool.{false≢true, and_parts, ltb-true}
 use Rattle.std.proofs.lemmas.List.{append-nil}

@@ -6,3 +6,4 @@ pub mod TypeReading
 pub mod TypeTokens
 pub mod FunctionReading
 pub mod LabelTest
+pub mod NameIndex

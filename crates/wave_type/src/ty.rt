@@ -7,7 +7,9 @@ ghost use Rattle.wave_wasm.specs.Borrowed.{texts, named};
 ghost use Rattle.wave_type.specs.Private.TypeModel.{IsSimple};
 ghost use Rattle.wave_type.specs.TypeMade.{simple_type, record_type, tuple_type, variant_type, enum_type, flags_type, map_type};
 
+use self::index::first_places;
 use std::alloc::{AllocError, Global};
+use std::collections::BTreeMap;
 use std::marker::Model;
 use std::rc::Rc;
 use wave_wasm::wasm::WasmTypeKind;
@@ -15,6 +17,7 @@ use wave_wasm::wasm::WasmTypeKind;
 mod conversion;
 mod display;
 mod equality;
+mod index;
 pub(crate) mod labels;
 pub(crate) mod parse;
 mod parts;
@@ -35,6 +38,7 @@ enum SimpleType {
     String,
 }
 
+// Beside names stands where each of them stands first.
 #[cycle(types)]
 #[derive(Debug, Drop)]
 enum Shape {
@@ -43,13 +47,13 @@ enum Shape {
     F64,
     List(Rc<Type>),
     FixedLengthList(Rc<(Type, u32)>),
-    Record(Rc<Vec<(String, Type)>>),
+    Record(Rc<(Vec<(String, Type)>, BTreeMap<String, usize>)>),
     Tuple(Rc<Vec<Type>>),
-    Variant(Rc<Vec<(String, Option<Type>)>>),
-    Enum(Rc<Vec<String>>),
+    Variant(Rc<(Vec<(String, Option<Type>)>, BTreeMap<String, usize>)>),
+    Enum(Rc<(Vec<String>, BTreeMap<String, usize>)>),
     Option(Rc<Type>),
     Result(Rc<(Option<Type>, Option<Type>)>),
-    Flags(Rc<Vec<String>>),
+    Flags(Rc<(Vec<String>, BTreeMap<String, usize>)>),
     Map(Rc<(Type, Type)>),
 }
 
@@ -267,8 +271,9 @@ impl Type {
             let name = String::from_str(alloc, name)?;
             owned.push((name, ty))?;
         }
+        let places = first_places(alloc, &owned)?;
         Ok(Some(Type {
-            shape: Shape::Record(Rc::new(alloc, owned)?),
+            shape: Shape::Record(Rc::new(alloc, (owned, places))?),
         }))
     }
 
@@ -290,8 +295,9 @@ impl Type {
             let name = String::from_str(alloc, name)?;
             owned.push((name, payload))?;
         }
+        let places = first_places(alloc, &owned)?;
         Ok(Some(Type {
-            shape: Shape::Variant(Rc::new(alloc, owned)?),
+            shape: Shape::Variant(Rc::new(alloc, (owned, places))?),
         }))
     }
 
@@ -303,8 +309,10 @@ impl Type {
         if cases.is_empty() {
             return Ok(None);
         }
+        let owned = owned_names(alloc, cases)?;
+        let places = first_places(alloc, &owned)?;
         Ok(Some(Type {
-            shape: Shape::Enum(Rc::new(alloc, owned_names(alloc, cases)?)?),
+            shape: Shape::Enum(Rc::new(alloc, (owned, places))?),
         }))
     }
 
@@ -316,8 +324,10 @@ impl Type {
         if names.is_empty() {
             return Ok(None);
         }
+        let owned = owned_names(alloc, names)?;
+        let places = first_places(alloc, &owned)?;
         Ok(Some(Type {
-            shape: Shape::Flags(Rc::new(alloc, owned_names(alloc, names)?)?),
+            shape: Shape::Flags(Rc::new(alloc, (owned, places))?),
         }))
     }
 

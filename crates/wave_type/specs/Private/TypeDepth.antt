@@ -12,8 +12,8 @@ use denote.Param.Weighed.{most}
 use Rattle.wave_type.specs.Private.TypeModel.{shape_tree, IsSimple, IsSoundShape}
 use Rattle.wave_type.specs.TypeModel.{by_bytes}
 
-two_max : {m n : ℕ} → m ≤ n → max (max m 0) 0 ≤ n
-two_max h = omega arith
+three_max : {m n : ℕ} → m ≤ n → max (max (max m 0) 0) 0 ≤ n
+three_max h = omega arith
 
 types_most : (ts : List TypeTree) → most (λ t. depth t + 1) ts ≤ suc (depth_of_types (types_of ts))
 types_most [] = omega arith
@@ -47,9 +47,9 @@ deep_le-depth shapes.F32 h = omega arith
 deep_le-depth shapes.F64 h = omega arith
 deep_le-depth (shapes.List e) h = omega arith
 deep_le-depth (shapes.FixedLengthList p) h = omega arith
-deep_le-depth (shapes.Record fs) h = two_max (fields_most fs.value.items)
+deep_le-depth (shapes.Record fs) h = three_max (fields_most fs.value.0.items)
 deep_le-depth (shapes.Tuple ts) h = omega (arith, types_most ts.value.items)
-deep_le-depth (shapes.Variant cs) h = two_max (cases_most _ (λ n. omega arith) (λ n t. omega arith) cs.value.items)
+deep_le-depth (shapes.Variant cs) h = three_max (cases_most _ (λ n. omega arith) (λ n t. omega arith) cs.value.0.items)
 deep_le-depth (shapes.Enum ns) h = omega arith
 deep_le-depth (shapes.Option t) h = omega arith
 deep_le-depth (shapes.Result r) h = result_falls r r.value.0 r.value.1

@@ -73,7 +73,7 @@ fn write_type<W: fmt::Write>(f: &mut fmt::Formatter<W>, ty: &Type) -> fmt::Resul
         }
         Shape::Record(fields) => {
             write!(f, "record {{ ")?;
-            write_fields(f, fields)?;
+            write_fields(f, &fields.0)?;
             write!(f, " }}")
         }
         Shape::Tuple(types) => {
@@ -83,12 +83,12 @@ fn write_type<W: fmt::Write>(f: &mut fmt::Formatter<W>, ty: &Type) -> fmt::Resul
         }
         Shape::Variant(cases) => {
             write!(f, "variant {{ ")?;
-            write_cases(f, cases)?;
+            write_cases(f, &cases.0)?;
             write!(f, " }}")
         }
         Shape::Enum(names) => {
             write!(f, "enum {{ ")?;
-            write_names(f, names)?;
+            write_names(f, &names.0)?;
             write!(f, " }}")
         }
         Shape::Option(some) => {
@@ -99,7 +99,7 @@ fn write_type<W: fmt::Write>(f: &mut fmt::Formatter<W>, ty: &Type) -> fmt::Resul
         Shape::Result(payloads) => write_result(f, &payloads.0, &payloads.1),
         Shape::Flags(names) => {
             write!(f, "flags {{ ")?;
-            write_names(f, names)?;
+            write_names(f, &names.0)?;
             write!(f, " }}")
         }
         Shape::Map(types) => {

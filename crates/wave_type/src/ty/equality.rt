@@ -20,14 +20,14 @@ impl PartialEq for Type {
             (Shape::F64, Shape::F64) => true,
             (Shape::List(a), Shape::List(b)) => **a == **b,
             (Shape::FixedLengthList(a), Shape::FixedLengthList(b)) => a.1 == b.1 && a.0 == b.0,
-            (Shape::Record(a), Shape::Record(b)) => same_fields(a, b),
+            (Shape::Record(a), Shape::Record(b)) => same_fields(&a.0, &b.0),
             (Shape::Tuple(a), Shape::Tuple(b)) => same_types(a, b),
-            (Shape::Variant(a), Shape::Variant(b)) => same_cases(a, b),
+            (Shape::Variant(a), Shape::Variant(b)) => same_cases(&a.0, &b.0),
             (Shape::Result(a), Shape::Result(b)) => same_payload(&a.0, &b.0)
                 && same_payload(&a.1, &b.1),
-            (Shape::Enum(a), Shape::Enum(b)) => same_names(a, b),
+            (Shape::Enum(a), Shape::Enum(b)) => same_names(&a.0, &b.0),
             (Shape::Option(a), Shape::Option(b)) => **a == **b,
-            (Shape::Flags(a), Shape::Flags(b)) => same_names(a, b),
+            (Shape::Flags(a), Shape::Flags(b)) => same_names(&a.0, &b.0),
             (Shape::Map(a), Shape::Map(b)) => a.0 == b.0 && a.1 == b.1,
             (Shape::Simple(_), _)
             | (Shape::F32, _)

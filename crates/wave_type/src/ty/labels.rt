@@ -4,9 +4,12 @@ ghost use Rattle.wave_wasm.specs.Types.{IsOwn, types_of, fields_of, cases_of, ma
 ghost use Rattle.wave_wasm.specs.Names.{is_one_of};
 ghost use Rattle.wave_lex.specs.Labels.{Good};
 ghost use Rattle.wave_type.specs.TypeModel.{by_bytes};
+ghost use Rattle.wave_type.specs.Private.NameIndex.{AreFirstPlaces};
 ghost use Rattle.wave_type.specs.Private.LabelTest.{is_label, are_label_names, names_pass, types_pass, fields_pass, cases_pass, payload_passes};
 
+use super::index::{Named, first_place};
 use super::{Shape, Type};
+use std::collections::BTreeMap;
 use wave_lex::machine::label::LabelState;
 use wave_lex::machine::longest_front;
 
@@ -22,36 +25,6 @@ impl Type {
     }
 }
 
-// What has a name: a name alone, or a part after its name.
-trait Named {
-    ghost use Rattle.std.specs.Prelude.{◌≡◌, ℕ, List};
-
-    ghost name_of: { Self → List ℕ };
-
-    fn name(&self) -> &str
-        ensures { result.now ≡ name_of self.now };
-}
-
-impl Named for String {
-    ghost use Rattle.std.specs.Prelude.{string_bytes};
-
-    ghost name_of = { string_bytes };
-
-    fn name(&self) -> &str {
-        self.as_str()
-    }
-}
-
-impl<A> Named for (String, A) {
-    ghost use Rattle.std.specs.Prelude.{string_bytes};
-
-    ghost name_of = { λ p. string_bytes p.0 };
-
-    fn name(&self) -> &str {
-        self.0.as_str()
-    }
-}
-
 // Whether the names within the type pass.
 #[cycle(names)]
 fn names_pass(ty: &Type) -> bool
@@ -61,13 +34,13 @@ fn names_pass(ty: &Type) -> bool
         Shape::Simple(_) | Shape::F32 | Shape::F64 => true,
         Shape::List(element) => names_pass(&**element),
         Shape::FixedLengthList(parts) => names_pass(&parts.0),
-        Shape::Record(fields) => are_label_names(&**fields) && fields_pass(&**fields),
+        Shape::Record(fields) => are_label_names(&fields.0, &fields.1) && fields_pass(&fields.0),
         Shape::Tuple(types) => types_pass(&**types),
-        Shape::Variant(cases) => are_label_names(&**cases) && cases_pass(&**cases),
-        Shape::Enum(names) => are_label_names(&**names),
+        Shape::Variant(cases) => are_label_names(&cases.0, &cases.1) && cases_pass(&cases.0),
+        Shape::Enum(names) => are_label_names(&names.0, &names.1),
         Shape::Option(some) => names_pass(&**some),
         Shape::Result(payloads) => payload_passes(&payloads.0) && payload_passes(&payloads.1),
-        Shape::Flags(names) => are_label_names(&**names),
+        Shape::Flags(names) => are_label_names(&names.0, &names.1),
         Shape::Map(types) => names_pass(&types.1),
     }
 }
@@ -118,30 +91,18 @@ fn payload_passes(payload: &Option<Type>) -> bool
     }
 }
 
-// Whether the names are labels, and none stands twice. It takes no memory, so that each name is
-// compared with each later one.
-fn are_label_names<N: Named>(items: &Vec<N>) -> bool
+// Whether the names are labels, and none stands twice: each stands first at its own place.
+fn are_label_names<N: Named>(items: &Vec<N>, places: &BTreeMap<String, usize>) -> bool
+    requires { AreFirstPlaces places.now (map N.name_of items.now.items) }
     ensures { result ≡ are_label_names (map N.name_of items.now.items) }
 {
     for i in 0..items.len() {
         let name = items[i].name();
-        if !is_label(name) || stands_behind(items, i + 1, name) {
+        if !is_label(name) || first_place(places, name) != Some(i) {
             return false;
         }
     }
     true
-}
-
-// Whether the name is that of an item from this place on.
-fn stands_behind<N: Named>(items: &Vec<N>, from: usize, name: &str) -> bool
-    ensures { result ≡ is_one_of (map N.name_of (drop from items.now.items)) name.now }
-{
-    for i in from..items.len() {
-        if name == items[i].name() {
-            return true;
-        }
-    }
-    false
 }
 
 // Whether the name is a label: the longest label at its start is the whole name.

@@ -56,7 +56,7 @@ impl WasmType for Type {
 
     fn record_fields(&self, alloc: Global) -> Result<Vec<(&str, &Type)>, AllocError> {
         match &self.shape {
-            Shape::Record(fields) => borrowed_fields(alloc, fields),
+            Shape::Record(fields) => borrowed_fields(alloc, &fields.0),
             _ => Ok(Vec::new(alloc)),
         }
     }
@@ -70,14 +70,14 @@ impl WasmType for Type {
 
     fn variant_cases(&self, alloc: Global) -> Result<Vec<(&str, Option<&Type>)>, AllocError> {
         match &self.shape {
-            Shape::Variant(cases) => borrowed_cases(alloc, cases),
+            Shape::Variant(cases) => borrowed_cases(alloc, &cases.0),
             _ => Ok(Vec::new(alloc)),
         }
     }
 
     fn enum_cases(&self, alloc: Global) -> Result<Vec<&str>, AllocError> {
         match &self.shape {
-            Shape::Enum(names) => borrowed_names(alloc, names),
+            Shape::Enum(names) => borrowed_names(alloc, &names.0),
             _ => Ok(Vec::new(alloc)),
         }
     }
@@ -98,7 +98,7 @@ impl WasmType for Type {
 
     fn flags_names(&self, alloc: Global) -> Result<Vec<&str>, AllocError> {
         match &self.shape {
-            Shape::Flags(names) => borrowed_names(alloc, names),
+            Shape::Flags(names) => borrowed_names(alloc, &names.0),
             _ => Ok(Vec::new(alloc)),
         }
     }

@@ -6,6 +6,7 @@ ghost use Rattle.wave_wasm.specs.Types.{IsOwn, types_of, fields_of, record_parts
 ghost use Rattle.wave_wasm.specs.Borrowed.{shown_case};
 ghost use Rattle.wave_type.specs.TypeModel.{by_bytes, tuple_part, record_part};
 
+use super::index::first_place;
 use super::{Shape, Type};
 
 /// Says nothing at run time: the tree of each type is one that a type can have.
@@ -22,7 +23,7 @@ pub fn enum_place(ty: &Type, name: &str) -> Option<usize>
     ensures { result ≡ position (λ n. bytes_eq name.now n) (enum_names ty.now) }
 {
     match &ty.shape {
-        Shape::Enum(names) => place_in(&**names, name),
+        Shape::Enum(names) => first_place(&names.1, name),
         _ => None,
     }
 }
@@ -34,7 +35,7 @@ pub fn enum_name(ty: &Type, place: usize) -> &str
     ensures { result.now ≡ get_or (enum_names ty.now) place [] }
 {
     match &ty.shape {
-        Shape::Enum(names) => name_in(&**names, place),
+        Shape::Enum(names) => name_in(&names.0, place),
         _ => "",
     }
 }
@@ -46,7 +47,7 @@ pub fn flag_name(ty: &Type, place: usize) -> &str
     ensures { result.now ≡ get_or (flags_names ty.now) place [] }
 {
     match &ty.shape {
-        Shape::Flags(names) => name_in(&**names, place),
+        Shape::Flags(names) => name_in(&names.0, place),
         _ => "",
     }
 }
@@ -58,7 +59,7 @@ pub fn variant_place(ty: &Type, name: &str) -> Option<usize>
     ensures { result ≡ position (λ c. bytes_eq name.now c.0) (variant_parts ty.now) }
 {
     match &ty.shape {
-        Shape::Variant(cases) => case_place(&**cases, name),
+        Shape::Variant(cases) => first_place(&cases.1, name),
         _ => None,
     }
 }
@@ -70,7 +71,7 @@ pub fn variant_name(ty: &Type, place: usize) -> &str
     ensures { result.now ≡ get_or (map (λ c. c.0) (variant_parts ty.now)) place [] }
 {
     match &ty.shape {
-        Shape::Variant(cases) => part_name(&**cases, place),
+        Shape::Variant(cases) => part_name(&cases.0, place),
         _ => "",
     }
 }
@@ -82,7 +83,7 @@ pub fn field_name(ty: &Type, place: usize) -> &str
     ensures { result.now ≡ get_or (map (λ f. f.0) (record_parts ty.now)) place [] }
 {
     match &ty.shape {
-        Shape::Record(fields) => part_name(&**fields, place),
+        Shape::Record(fields) => part_name(&fields.0, place),
         _ => "",
     }
 }
@@ -94,7 +95,7 @@ pub fn variant_case(ty: &Type, place: usize) -> (&str, Option<&Type>)
     ensures { shown_case (λ t. t) result ≡ get_or (variant_parts ty.now) place ([], None) }
 {
     match &ty.shape {
-        Shape::Variant(cases) => case_in(&**cases, place),
+        Shape::Variant(cases) => case_in(&cases.0, place),
         _ => ("", None),
     }
 }
@@ -116,16 +117,9 @@ pub fn named_types(ty: &Type) -> Option<&Vec<(String, Type)>>
     ensures { option_map (λ fs. fields_of (map by_bytes fs.now.items)) result ≡ record_part ty.now }
 {
     match &ty.shape {
-        Shape::Record(fields) => Some(&**fields),
+        Shape::Record(fields) => Some(&fields.0),
         _ => None,
     }
-}
-
-// Where the name stands first.
-fn place_in(names: &Vec<String>, name: &str) -> Option<usize>
-    ensures { result ≡ position (λ n. bytes_eq name.now (string_bytes n)) names.now.items }
-{
-    names.iter().position(|n| name == n.as_str())
 }
 
 // The name at the place, and no text past the end.
@@ -148,13 +142,6 @@ fn part_name<A>(parts: &Vec<(String, A)>, place: usize) -> &str
     }
     let part = &parts[place];
     part.0.as_str()
-}
-
-// Where the name stands first among the cases.
-fn case_place(cases: &Vec<(String, Option<Type>)>, name: &str) -> Option<usize>
-    ensures { result ≡ position (λ c. bytes_eq name.now (string_bytes c.0)) cases.now.items }
-{
-    cases.iter().position(|c| name == c.0.as_str())
 }
 
 // The case at the place, and none past the end.

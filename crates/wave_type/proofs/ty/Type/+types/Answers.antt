@@ -13,6 +13,10 @@ use denote.Param.Weighed.{most}
 below : {a t : ℕ} (b : ℕ) → a ≤ 2 * b → 2 * b < t → a < t
 below b p q = omega arith
 
+-- beside what holds no type
+beside : {a t : ℕ} (b : ℕ) → a ≤ 2 * b → 2 * b < t → max a 0 < t
+beside b p q = omega arith
+
 types_most : (ts : List TypeTree) → most (λ t. size-Type t) ts ≤ 2 * suc (depth_of_types (types_of ts))
 types_most [] = omega arith
 types_most (t ∷ ts) = omega (arith, types_most ts)
@@ -28,7 +32,7 @@ cases_most μ none some ((n, Some t) ∷ cs) = omega (arith, some n t, cases_mos
 
 pub drop-requires-2 : goal.drop-requires-2
 drop-requires-2 t c κs =
-    (((below _ (fields_most _) (omega (arith, ap depth c.self.view_is, ap (λ s. depth (shape_tree s)) c.drop-arg-3-1.given.1)), tt), tt), search rules)
+    (((beside _ (fields_most _) (omega (arith, ap depth c.self.view_is, ap (λ s. depth (shape_tree s)) c.drop-arg-3-1.given.1)), tt), tt), search rules)
 
 pub drop-requires-3 : goal.drop-requires-3
 drop-requires-3 t c κs =
@@ -36,4 +40,4 @@ drop-requires-3 t c κs =
 
 pub drop-requires-4 : goal.drop-requires-4
 drop-requires-4 t c κs =
-    (((below _ (cases_most _ (λ n. omega arith) (λ n t. omega arith) _) (omega (arith, ap depth c.self.view_is, ap (λ s. depth (shape_tree s)) c.drop-arg-5-1.given.1)), tt), tt), search rules)
+    (((beside _ (cases_most _ (λ n. omega arith) (λ n t. omega arith) _) (omega (arith, ap depth c.self.view_is, ap (λ s. depth (shape_tree s)) c.drop-arg-5-1.given.1)), tt), tt), search rules)

@@ -109,7 +109,7 @@ pub write_type-returns-in_ok-write_fields-in-Record : goal.write_type-returns-in
 write_type-returns-in_ok-write_fields-in-Record g t c = λ p ok.
     let took = g.W.Write.write_str_gives in
     let first : HasWritten took c.args.f.now (codes "record { ") c.write-in-Record.new.self = c.in_ok-write-in-Record.ensures.writes p (refl {a = true}) in
-    let second : HasWritten took c.write-in-Record.new.self (joined (field_texts (fields_of (map by_bytes c.deref-in-Record.result.now.items)))) c.write_fields.new.f = c.in_ok-write_fields-in-Record.ensures first.plain (refl {a = true}) in
+    let second : HasWritten took c.write-in-Record.new.self (joined (field_texts (fields_of (map by_bytes c.deref-in-Record.result.now.0.items)))) c.write_fields.new.f = c.in_ok-write_fields-in-Record.ensures first.plain (refl {a = true}) in
     let third : HasWritten took c.write_fields.new.f (codes " }") c.write-in-Record-2.new.self = c.write-in-Record-2.ensures.writes second.plain ok in
     put_three took _ _ _ _ _ _ _ _ first second third (search rules)
 
@@ -117,7 +117,7 @@ pub write_type-returns-in_ok-write_cases-in-Variant : goal.write_type-returns-in
 write_type-returns-in_ok-write_cases-in-Variant g t c = λ p ok.
     let took = g.W.Write.write_str_gives in
     let first : HasWritten took c.args.f.now (codes "variant { ") c.write-in-Variant.new.self = c.in_ok-write-in-Variant.ensures.writes p (refl {a = true}) in
-    let second : HasWritten took c.write-in-Variant.new.self (joined (case_texts (cases_of (map by_bytes c.deref-in-Variant.result.now.items)))) c.write_cases.new.f = c.in_ok-write_cases-in-Variant.ensures first.plain (refl {a = true}) in
+    let second : HasWritten took c.write-in-Variant.new.self (joined (case_texts (cases_of (map by_bytes c.deref-in-Variant.result.now.0.items)))) c.write_cases.new.f = c.in_ok-write_cases-in-Variant.ensures first.plain (refl {a = true}) in
     let third : HasWritten took c.write_cases.new.f (codes " }") c.write-in-Variant-2.new.self = c.write-in-Variant-2.ensures.writes second.plain ok in
     put_three took _ _ _ _ _ _ _ _ first second third (search rules)
 
@@ -125,7 +125,7 @@ pub write_type-returns-in_ok-write_names-in-Enum : goal.write_type-returns-in_ok
 write_type-returns-in_ok-write_names-in-Enum g t c = λ p ok.
     let took = g.W.Write.write_str_gives in
     let first : HasWritten took c.args.f.now (codes "enum { ") c.write-in-Enum.new.self = c.in_ok-write-in-Enum.ensures.writes p (refl {a = true}) in
-    let second : HasWritten took c.write-in-Enum.new.self (joined (map string_bytes c.deref-in-Enum.result.now.items)) c.write_names.new.f = c.in_ok-write_names-in-Enum.ensures first.plain (refl {a = true}) in
+    let second : HasWritten took c.write-in-Enum.new.self (joined (map string_bytes c.deref-in-Enum.result.now.0.items)) c.write_names.new.f = c.in_ok-write_names-in-Enum.ensures first.plain (refl {a = true}) in
     let third : HasWritten took c.write_names.new.f (codes " }") c.write-in-Enum-2.new.self = c.write-in-Enum-2.ensures.writes second.plain ok in
     put_three took _ _ _ _ _ _ _ _ first second third (search rules)
 
@@ -133,7 +133,7 @@ pub write_type-returns-in_ok-write_names-in-Flags : goal.write_type-returns-in_o
 write_type-returns-in_ok-write_names-in-Flags g t c = λ p ok.
     let took = g.W.Write.write_str_gives in
     let first : HasWritten took c.args.f.now (codes "flags { ") c.write-in-Flags.new.self = c.in_ok-write-in-Flags.ensures.writes p (refl {a = true}) in
-    let second : HasWritten took c.write-in-Flags.new.self (joined (map string_bytes c.deref-in-Flags.result.now.items)) c.write_names-in-Flags.new.f = c.in_ok-write_names-in-Flags.ensures first.plain (refl {a = true}) in
+    let second : HasWritten took c.write-in-Flags.new.self (joined (map string_bytes c.deref-in-Flags.result.now.0.items)) c.write_names-in-Flags.new.f = c.in_ok-write_names-in-Flags.ensures first.plain (refl {a = true}) in
     let third : HasWritten took c.write_names-in-Flags.new.f (codes " }") c.write-in-Flags-2.new.self = c.write-in-Flags-2.ensures.writes second.plain ok in
     put_three took _ _ _ _ _ _ _ _ first second third (search rules)
 

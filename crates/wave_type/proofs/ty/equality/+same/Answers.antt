@@ -25,8 +25,8 @@ same_cases-same_payload-same-requires t c = let h = c.index-left.ensures in (ome
 
 pub TypePartialEq::eq-returns-in-Record-Record : goal.TypePartialEq::eq-returns-in-Record-Record
 TypePartialEq::eq-returns-in-Record-Record t c =
-    rw (← c.self.view_is) (rw (← c.other.view_is) (rw c.in-Record-Record.is-0 (rw c.in-Record-Record.is-1 (c.same_fields.ensures ∙ λ i. same_fields (fields_of (map by_bytes (c.deref-in-Record-Record.ensures i).items)) (fields_of (map by_bytes (c.deref-in-Record-Record-2.ensures i).items))))))
+    rw (← c.self.view_is) (rw (← c.other.view_is) (rw c.in-Record-Record.is-0 (rw c.in-Record-Record.is-1 (c.same_fields.ensures ∙ λ i. same_fields (fields_of (map by_bytes (c.deref-in-Record-Record.ensures i).0.items)) (fields_of (map by_bytes (c.deref-in-Record-Record-2.ensures i).0.items))))))
 
 pub TypePartialEq::eq-returns-in-Variant-Variant : goal.TypePartialEq::eq-returns-in-Variant-Variant
 TypePartialEq::eq-returns-in-Variant-Variant t c =
-    rw (← c.self.view_is) (rw (← c.other.view_is) (rw c.in-Variant-Variant.is-0 (rw c.in-Variant-Variant.is-1 (c.same_cases.ensures ∙ λ i. same_cases (cases_of (map by_bytes (c.deref-in-Variant-Variant.ensures i).items)) (cases_of (map by_bytes (c.deref-in-Variant-Variant-2.ensures i).items))))))
+    rw (← c.self.view_is) (rw (← c.other.view_is) (rw c.in-Variant-Variant.is-0 (rw c.in-Variant-Variant.is-1 (c.same_cases.ensures ∙ λ i. same_cases (cases_of (map by_bytes (c.deref-in-Variant-Variant.ensures i).0.items)) (cases_of (map by_bytes (c.deref-in-Variant-Variant-2.ensures i).0.items))))))

@@ -20,16 +20,16 @@ cases_pass-payload_passes-requires t c =
 
 pub names_pass-returns-then-are_label_names : goal.names_pass-returns-then-are_label_names
 names_pass-returns-then-are_label_names t c =
-    rw (← c.ty.view_is) (rw c.in-Record.is (record_passes _ _ _ _ _ (λ i. (c.deref-in-Record.ensures i).items) (λ i. (c.deref-then-are_label_names.ensures i).items) c.are_label_names.ensures c.if-are_label_names.true c.fields_pass.ensures))
+    rw (← c.ty.view_is) (rw c.in-Record.is (record_passes _ _ _ _ _ (λ i. (c.deref-in-Record.ensures i).0.items) (λ i. (c.deref-then-are_label_names.ensures i).0.items) c.are_label_names.ensures c.if-are_label_names.true c.fields_pass.ensures))
 
 pub names_pass-returns-else-are_label_names : goal.names_pass-returns-else-are_label_names
 names_pass-returns-else-are_label_names t c =
-    rw (← c.ty.view_is) (rw c.in-Record.is (record_fails _ _ _ (λ i. (c.deref-in-Record.ensures i).items) c.are_label_names.ensures c.if-are_label_names.false))
+    rw (← c.ty.view_is) (rw c.in-Record.is (record_fails _ _ _ (λ i. (c.deref-in-Record.ensures i).0.items) c.are_label_names.ensures c.if-are_label_names.false))
 
 pub names_pass-returns-then-are_label_names-2 : goal.names_pass-returns-then-are_label_names-2
 names_pass-returns-then-are_label_names-2 t c =
-    rw (← c.ty.view_is) (rw c.in-Variant.is (variant_passes _ _ _ _ _ (λ i. (c.deref-in-Variant.ensures i).items) (λ i. (c.deref-then-are_label_names-2.ensures i).items) c.are_label_names-in-Variant.ensures c.if-are_label_names-2.true c.cases_pass.ensures))
+    rw (← c.ty.view_is) (rw c.in-Variant.is (variant_passes _ _ _ _ _ (λ i. (c.deref-in-Variant.ensures i).0.items) (λ i. (c.deref-then-are_label_names-2.ensures i).0.items) c.are_label_names-in-Variant.ensures c.if-are_label_names-2.true c.cases_pass.ensures))
 
 pub names_pass-returns-else-are_label_names-2 : goal.names_pass-returns-else-are_label_names-2
 names_pass-returns-else-are_label_names-2 t c =
-    rw (← c.ty.view_is) (rw c.in-Variant.is (variant_fails _ _ _ (λ i. (c.deref-in-Variant.ensures i).items) c.are_label_names-in-Variant.ensures c.if-are_label_names-2.false))
+    rw (← c.ty.view_is) (rw c.in-Variant.is (variant_fails _ _ _ (λ i. (c.deref-in-Variant.ensures i).0.items) c.are_label_names-in-Variant.ensures c.if-are_label_names-2.false))

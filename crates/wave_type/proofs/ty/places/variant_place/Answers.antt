@@ -1,4 +1,5 @@
-use Rattle.std.proofs.Common.{◌∙◌, sym}
+use Rattle.std.proofs.Common.{◌∙◌, ap, sym, string_bytes}
+use Rattle.std.specs.BTreeMap.{get_by_text}
 use Rattle.std.specs.Str.{bytes_eq}
 use Rattle.wave_type.specs.TypeModel.{by_bytes}
 use Rattle.wave_type.proofs.TypeLists.{position-map, case_list-cases_of}
@@ -6,4 +7,8 @@ use Rattle.wave_type.proofs.ty.places.variant_place.Goals as goal
 
 pub returns-in-Variant : goal.returns-in-Variant
 returns-in-Variant c =
-    rw (← c.ty.view_is) (rw c.in-Variant.is (rw (case_list-cases_of, ← c.deref.ensures) (c.case_place.ensures ∙ sym (position-map (λ n. bytes_eq c.args.name.now n.0) by_bytes c.deref.result.now.items))))
+    let cases = c.in-Variant.cases.value.0.items in
+    let name = c.args.name.now in
+    rw (← c.ty.view_is) (rw c.in-Variant.is (rw case_list-cases_of (
+    c.first_place.ensures ∙ (ap (λ p. get_by_text p.1 name) c.deref.ensures ∙ ((rw c.in-Variant.is at c.ty.invariant.places) name
+    ∙ (position-map (bytes_eq name) (λ x. string_bytes x.0) cases ∙ sym (position-map (λ n. bytes_eq name n.0) by_bytes cases)))))))
