@@ -28,7 +28,7 @@ Answers (request.CallAt types) whole answer =
     (name : List ℕ) × (vs : List Value) × IsCallAt types.items whole name vs × (answer ≡ name ++ arguments_text vs)
 Answers (request.Read T n) whole answer = (v : Value) × Means T n whole v × (answer ≡ text v)
 
--- the refusal states a fault of the text: its kind, its cause and its place
+-- the refusal states a fault of the text: its kind, detail, cause and place
 abbrev pub TellsFaultOf : Request → List ℕ → Diagnostic → Type 0
 TellsFaultOf (request.Value n) whole e = SyntaxFault n whole e
 TellsFaultOf request.Call whole e = CallFault whole e

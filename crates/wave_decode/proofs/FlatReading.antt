@@ -29,7 +29,7 @@ abbrev other_form : NodeTree → Diagnostic
 other_form n = record { kind = InvalidType; span = place_of n; detail = None; cause = None }
 
 is_other : (n : NodeTree) → RefusedAs InvalidType n (other_form n)
-is_other n = record { is = refl; stands = refl; tells = refl }
+is_other n = record { is = refl; stands = refl }
 
 module _ {V : Type 0} (tree : V → Value) (of : V → TypeTree → Type 0) (Full : TypeTree → Type 0) where
   -- a refusal at the payload's type

@@ -18,7 +18,8 @@ use Rattle.wave_grammar.specs.TypeErrors.{Fault}
 use Rattle.wave_syntax.specs.NodeTree.{NodeTree, node, no_nodes, node_trees, type_of}
 use Rattle.wave_syntax.specs.Nodes.{IsNodeOf, IsTokenOf}
 use Rattle.wave_syntax.specs.NodeAccessors.{RefusedAs, node_pairs}
-use Rattle.wave_syntax.specs.TypedReading.{IsMade, IsValueOf, IsKeyOf, AnswersKey}
+use Rattle.wave_syntax.specs.TypedReading.{IsMade, IsValueOf, IsKeyOf}
+use Rattle.wave_syntax.specs.Shared.TypedReading.{AnswersMapKey}
 use Rattle.wave_syntax.specs.Shared.ErrorSpans.{RefusesIn}
 use Rattle.wave_syntax.specs.declared.form.NodeType.TheVariants as kind
 use Rattle.wave_syntax.proofs.ChildNodes.Inside.{inside, AreParsed, parsed, nodes_in}
@@ -115,7 +116,7 @@ module _ {V : Type 0} (tree : V → Value) (of : V → TypeTree → Type 0) (Ful
   one_waits S U source (k ∷ n ∷ more) (e ∷ es) waits (suc half) h odd = one_waits S U source more es waits half h.2 (omega (arith, odd))
 
   -- a key was read
-  pub key_more : (S U : TypeTree) (source : List ℕ) (ns : List NodeTree) (xs : List (V × V)) (k : NodeTree) (x : V) → AreReadInTurn tree of Full S U source ns xs None → AnswersKey tree of Full S source k (Ok x) → AreReadInTurn tree of Full S U source (ns ++ k ∷ []) xs (Some x)
+  pub key_more : (S U : TypeTree) (source : List ℕ) (ns : List NodeTree) (xs : List (V × V)) (k : NodeTree) (x : V) → AreReadInTurn tree of Full S U source ns xs None → AnswersMapKey tree of Full S source k (Ok x) → AreReadInTurn tree of Full S U source (ns ++ k ∷ []) xs (Some x)
   key_more S U source [] [] k x h read = read
   key_more S U source [] (e ∷ es) k x h read = absurd h
   key_more S U source (a ∷ []) [] k x h read = absurd h
@@ -216,7 +217,7 @@ module _ {V : Type 0} (tree : V → Value) (of : V → TypeTree → Type 0) (Ful
       (d.done, d.left, key_here source es d.done d.left k more d.is d.nodes)
 
   -- a key that is refused dooms the map
-  pub key_dooms : (T S U : TypeTree) (source : List ℕ) (ns more : List NodeTree) (xs : List (V × V)) (k : NodeTree) (p : Range ℕ) (e : Diagnostic) → IsMapOf T S U → HasFullParts Full → AreReadInTurn tree of Full S U source ns xs None → AnswersKey tree of Full S source k (Err e) → (IsKeyOf source k → RefusesIn k e) → IsReadAs tree of Full T source (node kind.TupleSet p (node_trees ((ns ++ k ∷ []) ++ more))) (Err e)
+  pub key_dooms : (T S U : TypeTree) (source : List ℕ) (ns more : List NodeTree) (xs : List (V × V)) (k : NodeTree) (p : Range ℕ) (e : Diagnostic) → IsMapOf T S U → HasFullParts Full → AreReadInTurn tree of Full S U source ns xs None → AnswersMapKey tree of Full S source k (Err e) → (IsKeyOf source k → RefusesIn k e) → IsReadAs tree of Full T source (node kind.TupleSet p (node_trees ((ns ++ k ∷ []) ++ more))) (Err e)
   key_dooms T S U source ns more xs k p e m parts h blamed told =
       record {
         answer = λ t is distinct.

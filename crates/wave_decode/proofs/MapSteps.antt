@@ -10,7 +10,8 @@ use Rattle.wave_wasm.specs.ConstructorContracts.{MakesMap, FullMap, HasFullParts
 use Rattle.wave_wasm.specs.declared.wasm.WasmValueError.{WasmValueError}
 use Rattle.wave_lex.specs.Errors.{Diagnostic}
 use Rattle.wave_syntax.specs.NodeTree.{NodeTree, node, node_trees}
-use Rattle.wave_syntax.specs.TypedReading.{IsMade, IsKeyOf, AnswersKey}
+use Rattle.wave_syntax.specs.TypedReading.{IsMade, IsKeyOf}
+use Rattle.wave_syntax.specs.Shared.TypedReading.{AnswersMapKey}
 use Rattle.wave_syntax.specs.Shared.ErrorSpans.{RefusesIn}
 use Rattle.wave_syntax.specs.declared.form.NodeType.TheVariants as kind
 use Rattle.wave_syntax.proofs.ByKind.Maps.{IsMapOf, map_is, same_texts}
@@ -34,7 +35,7 @@ module _ {V : Type 0} (tree : V → Value) (of : V → TypeTree → Type 0) (Ful
         subst (AreReadInTurn tree of Full (type_tree x.key_type.now) (type_tree x.value_type.now) source children x.entries.items) (none_waits tree of Full (type_tree x.key_type.now) (type_tree x.value_type.now) source children x.entries.items x.key even.0 h.read even.1) h.read
 
     -- a key was read
-    pub key_taken : (k : NodeTree) (key : V) (keys : Option V) → TakesKey kind.TupleSet children → AnswersKey tree of Full (type_tree x.key_type.now) source k (Ok key) → keys ≡ Some key → AreEntries type_tree tree of Full T source (children ++ k ∷ []) (record x { key = keys })
+    pub key_taken : (k : NodeTree) (key : V) (keys : Option V) → TakesKey kind.TupleSet children → AnswersMapKey tree of Full (type_tree x.key_type.now) source k (Ok key) → keys ≡ Some key → AreEntries type_tree tree of Full T source (children ++ k ∷ []) (record x { key = keys })
     key_taken k key keys even read is = record {
       type_is = h.type_is;
       parts_are = h.parts_are;
@@ -42,7 +43,7 @@ module _ {V : Type 0} (tree : V → Value) (of : V → TypeTree → Type 0) (Ful
     }
 
     -- a key was refused
-    pub key_refused : (k : NodeTree) (e : Diagnostic) → HasFullParts Full → TakesKey kind.TupleSet children → AnswersKey tree of Full (type_tree x.key_type.now) source k (Err e) → (IsKeyOf source k → RefusesIn k e) → IsDoomed tree of Full T source kind.TupleSet (children ++ k ∷ []) (fault.Told e)
+    pub key_refused : (k : NodeTree) (e : Diagnostic) → HasFullParts Full → TakesKey kind.TupleSet children → AnswersMapKey tree of Full (type_tree x.key_type.now) source k (Err e) → (IsKeyOf source k → RefusesIn k e) → IsDoomed tree of Full T source kind.TupleSet (children ++ k ∷ []) (fault.Told e)
     key_refused k e parts even blamed within =
         told_dooms tree of Full T source kind.TupleSet (children ++ k ∷ []) e (λ more p. key_dooms tree of Full T (type_tree x.key_type.now) (type_tree x.value_type.now) source children more x.entries.items k p e parts_of parts (read_for_key even) blamed within)
 

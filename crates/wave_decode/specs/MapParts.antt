@@ -4,7 +4,7 @@ use Rattle.std.specs.Borrow.{Bor}
 use Rattle.wave_wasm.specs.Types.{TypeTree, map_parts}
 use Rattle.wave_wasm.specs.Values.{Value}
 use Rattle.wave_syntax.specs.NodeTree.{NodeTree}
-use Rattle.wave_syntax.specs.TypedReading.{AnswersKey}
+use Rattle.wave_syntax.specs.Shared.TypedReading.{AnswersMapKey}
 use Rattle.wave_leaf.specs.Reading.{IsReadAs}
 use Rattle.wave_decode.specs.declared.maps.Entries.{Entries}
 
@@ -16,9 +16,9 @@ module _ {V : Type 0} (tree : V → Value) (of : V → TypeTree → Type 0) (Ful
   -- these nodes were read as keys and values in turn: as the entries, and after them the key that waits
   abbrev pub AreReadInTurn : TypeTree → TypeTree → List ℕ → List NodeTree → List (V × V) → Option V → Type 0
   AreReadInTurn S U source [] [] None = Unit {0}
-  AreReadInTurn S U source (k ∷ []) [] (Some key) = AnswersKey tree of Full S source k (Ok key)
+  AreReadInTurn S U source (k ∷ []) [] (Some key) = AnswersMapKey tree of Full S source k (Ok key)
   AreReadInTurn S U source (k ∷ n ∷ more) (e ∷ es) key =
-      AnswersKey tree of Full S source k (Ok e.0) × IsReadAs tree of Full U source n (Ok e.1) × AreReadInTurn S U source more es key
+      AnswersMapKey tree of Full S source k (Ok e.0) × IsReadAs tree of Full U source n (Ok e.1) × AreReadInTurn S U source more es key
   AreReadInTurn S U source _ _ _ = ⊥
 
 module _ {S V : Type 0} (type_tree : S → TypeTree) (tree : V → Value) (of : V → TypeTree → Type 0) (Full : TypeTree → Type 0) where

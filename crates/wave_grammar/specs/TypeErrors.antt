@@ -8,11 +8,11 @@ use Rattle.wave_wasm.specs.Types.{TypeTree, MaybeType, Types, Fields, Cases, Sim
 use Rattle.wave_wasm.specs.Types.{no_type, a_type, no_types, type_and, field, no_cases, case_of, field_names, count_of}
 use Rattle.wave_wasm.specs.Values.{Leaf}
 use Rattle.wave_wasm.specs.Text.{bool_text}
-use Rattle.wave_wasm.specs.TypeText.{kind_word}
+use Rattle.wave_wasm.specs.TypeText.{kind_word, type_text}
 use Rattle.wave_wasm.specs.ValueErrors.{Cause, missing_field, missing_payload, unexpected_payload, unknown_case, wrong_number, wrong_length, unsupported_type}
 use Rattle.wave_lex.specs.declared.error.ParserErrorKind.{ParserErrorKind}
 use Rattle.wave_lex.specs.declared.error.ParserErrorKind.TheVariants.{InvalidType, InvalidValue, InvalidEscape, DuplicateField}
-use Rattle.wave_lex.specs.Errors.{Refusal, plainly, caused}
+use Rattle.wave_lex.specs.Errors.{Refusal, with_detail, caused, fault_detail, field_label_due, repeated_name}
 use Rattle.wave_lex.specs.Tokenization.{span}
 use Rattle.wave_lex.specs.Strings.{IsInQuotes, IsBadEscapeAt}
 use Rattle.wave_lex.specs.Multiline.{LineFault, MultilineFault, IsInThreeQuotes, fault_kind, fault_span}
@@ -27,9 +27,13 @@ use Rattle.wave_grammar.specs.SpannedTree.{MaybePlaced, no_placed, a_placed, Pla
 abbrev pub Blame : Type 1
 Blame = Refusal → Range ℕ → Type 0
 
--- this kind, at this span
+-- this kind with this detail, at this span
+abbrev pub RefusesWith : ParserErrorKind → Option (List ℕ) → Range ℕ → Blame
+RefusesWith kind detail p k q = (k ≡ with_detail kind detail) × (q ≡ p)
+
+-- this kind without a detail, at this span
 abbrev pub IsRefusalOf : ParserErrorKind → Range ℕ → Blame
-IsRefusalOf kind p k q = (k ≡ plainly kind) × (q ≡ p)
+IsRefusalOf kind p = RefusesWith kind None p
 
 -- `WasmValueError` with this cause, at this span
 abbrev pub RefusesFor : Cause → Range ℕ → Blame
@@ -62,7 +66,7 @@ StringFault type.string p t k q =
     ((text : List ℕ) × (inside : List ℕ) × (i : ℕ) × (t ≡ token.string text) × IsInQuotes text inside × IsBadEscapeAt inside i
     × IsRefusalOf InvalidEscape (span (p.start + 1 + i) (p.start + 2 + i)) k q)
     ⊎ ((text : List ℕ) × (inside : List ℕ) × (f : LineFault) × (t ≡ token.multiline text) × IsInThreeQuotes text inside × MultilineFault inside f
-    × IsRefusalOf (fault_kind f) (fault_span (p.start + 3) (length inside) f) k q)
+    × RefusesWith (fault_kind f) (fault_detail f) (fault_span (p.start + 3) (length inside) f) k q)
 
 -- what is wrong with a leaf at a simple type
 abbrev pub LeafFault : Simple → Range ℕ → Token → Blame
@@ -73,10 +77,20 @@ abbrev pub names_in : Token → List (List ℕ)
 names_in (token.label text) = name_of text ∷ []
 names_in _ = []
 
--- what is wrong with a key of a map: a label that spells no key, also `inf` and `nan`, is `InvalidType`; any other key is as a leaf
+-- what is wrong with a key that is read by itself: a label that spells no key, also `inf` and `nan`, is `InvalidType`; any other key is as a leaf
+abbrev pub LoneKeyFault : Simple → Range ℕ → Token → Blame
+LoneKeyFault K p t k q =
+    (names_in t ≢ []) × SpellsNoLeaf K t × IsRefusalOf InvalidType p k q
+    ⊎ (names_in t ≡ []) × LeafFault K p t k q
+
+-- the detail of a label that spells no key, where keys of this type are due
+abbrev pub key_due : TypeTree → List ℕ
+key_due T = codes "expected a " ++ (type_text T ++ codes " key, found a label")
+
+-- so with a key of a map, where the refusal of a label tells which key is due
 abbrev pub MapKeyFault : Simple → Range ℕ → Token → Blame
 MapKeyFault K p t k q =
-    (names_in t ≢ []) × SpellsNoLeaf K t × IsRefusalOf InvalidType p k q
+    (names_in t ≢ []) × SpellsNoLeaf K t × RefusesWith InvalidType (Some (key_due (type.simple K))) p k q
     ⊎ (names_in t ≡ []) × LeafFault K p t k q
 
 -- ---- forms
@@ -122,19 +136,19 @@ label_in _ = None
 
 -- ---- records
 
--- a key that is no label: `InvalidType` at the key
+-- a key that is no label: `InvalidType` at the key, which tells that a label is due
 abbrev pub KeyFault : List PlacedEntry → Blame
-KeyFault es k q = SomeOf (λ e. (names_in e.key ≡ []) × IsRefusalOf InvalidType e.place k q) es
+KeyFault es k q = SomeOf (λ e. (names_in e.key ≡ []) × RefusesWith InvalidType (Some field_label_due) e.place k q) es
 
 -- a label that is no field: `InvalidValue` at the record
 abbrev pub UnknownField : List (List ℕ) → List PlacedEntry → Range ℕ → Blame
 UnknownField names es p k q = SomeOf (λ e. SomeOf (IsNoneOf names) (names_in e.key)) es × IsRefusalOf InvalidValue p k q
 
--- a name that stands earlier, perhaps before a key that is no label: `DuplicateField` at the later key
+-- a name that stands earlier, perhaps before a key that is no label: `DuplicateField` at the later key, which tells the name
 abbrev pub RepeatedField : List (List ℕ) → List PlacedEntry → Blame
 RepeatedField earlier [] k q = ⊥
 RepeatedField earlier (e ∷ more) k q =
-    SomeOf (IsOneOf earlier) (names_in e.key) × IsRefusalOf DuplicateField e.place k q
+    SomeOf (λ name. IsOneOf earlier name × RefusesWith DuplicateField (Some (repeated_name name)) e.place k q) (names_in e.key)
     ⊎ RepeatedField (names_in e.key ++ earlier) more k q
 
 -- the entry is for the field of this name

@@ -1,8 +1,8 @@
 //! Keys of maps, each of one token.
-ghost use Rattle.std.specs.Prelude.{ℕ, List, IfErr};
+ghost use Rattle.std.specs.Prelude.{ℕ, List};
 ghost use Rattle.wave_wasm.specs.Types as type;
 ghost use Rattle.wave_syntax.specs.Shared.NodeAccessors.{GivesBoolKey};
-ghost use Rattle.wave_leaf.specs.Keys.{IsDetailed, TellsKeyDue, IsKeyReadOf, RefusesInKey};
+ghost use Rattle.wave_leaf.specs.Keys.{IsDetailed, IsKeyReadOf, IsMapKeyReadOf, RefusesInKey};
 ghost use Rattle.wave_leaf.specs.Leaves.{leaf_node, IsLeafIn};
 
 use crate::leaf::Leaf;
@@ -14,9 +14,8 @@ use wave_wasm::wasm::{DisplayType, WasmType, WasmTypeKind, WasmValue};
 impl<'src> Leaf<'src> {
     /// A key of a map. Of a label that spells none the refusal says what it should be.
     pub fn read_key<V: WasmValue>(&self, alloc: Global, ty: &V::Type) -> Result<V, ParserError>
-        ensures answer { IsKeyReadOf V.tree V.is_of V.is_full (V.Type.tree ty.now) self.now result }
+        ensures answer { IsMapKeyReadOf V.tree V.is_of V.is_full (V.Type.tree ty.now) self.now result }
         ensures within { RefusesInKey self.now result }
-        ensures detail { IfErr result (TellsKeyDue (V.Type.tree ty.now) self.now) }
     {
         match self.read_plain_key(alloc, ty) {
             Ok(key) => Ok(key),
@@ -44,8 +43,8 @@ impl<'src> Leaf<'src> {
         }
     }
 
-    /// A key of a map, its refusal without a detail where it is a label.
-    fn read_plain_key<V: WasmValue>(&self, alloc: Global, ty: &V::Type) -> Result<V, ParserError>
+    /// A key that is read by itself: the refusal of a label has no detail.
+    pub fn read_plain_key<V: WasmValue>(&self, alloc: Global, ty: &V::Type) -> Result<V, ParserError>
         ensures answer { IsKeyReadOf V.tree V.is_of V.is_full (V.Type.tree ty.now) self.now result }
         ensures within { RefusesInKey self.now result }
     {

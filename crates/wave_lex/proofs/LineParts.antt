@@ -100,7 +100,7 @@ fault_entered pos n at old new e there h (inl (i, bad, told)) =
     let t : TellsBadEscape e (pos + (at + old.indent + i)) = subst (λ (z : ℕ). TellsBadEscape e z) here told in (
       escape (at + old.indent + i),
       subst (λ (z : List (List ℕ)). BadLines old.indent at z (escape (at + old.indent + i))) (sym h.there) (inl (inr (new.line.rest, i, h.indented, bad, refl))),
-      record { refusal = t.refusal; detail = t.detail; at = t.at },
+      record { refusal = t.refusal; at = t.at },
     )
 fault_entered pos n at old new e there h (inr (u, f, decodes, bad, told)) =
     let more : BadLines old.indent (at + length h.line + 1) h.more f =
@@ -113,7 +113,7 @@ fault_here : (pos n at : ℕ) (old new : LinesLeft) (e : Diagnostic) → old.nex
 fault_here pos n at old new e there h = (
   indentation at,
   subst (λ (z : List (List ℕ)). BadLines old.indent at z (indentation at)) (sym h.met.there) (inl (inl (h.met.bad, refl))),
-  record { refusal = h.told.refusal; detail = h.told.detail; at = h.told.at ∙ ap (λ (z : ℕ). span z (z + 1)) there },
+  record { refusal = h.told.refusal; at = h.told.at ∙ ap (λ (z : ℕ). span z (z + 1)) there },
 )
 
 -- parts up to a refusal show what is wrong

@@ -1,4 +1,4 @@
--- What a refusal says: kind, cause, detail, and the text of it.
+-- What a refusal says: kind, detail, cause, and the text of it.
 use Rattle.std.specs.Prelude.{◌≡◌, ℕ, ◌≤◌, ◌++◌, List, [], length, Option, Some, None, option_map, codes}
 use Rattle.std.specs.Fmt.{decimal}
 use Rattle.std.specs.declared.ops.Range.{Range}
@@ -13,18 +13,23 @@ use Rattle.wave_lex.specs.declared.lex.FuncNameToken.{FuncNameToken}
 use Rattle.wave_lex.specs.declared.lex.FuncNameToken.TheVariants.{FunctionName}
 use Rattle.wave_lex.specs.Multiline.{LineFault, closing, opening, indentation, escape}
 
--- a kind of refusal, and its cause where it has one
+-- a kind of refusal, the words of its detail and its cause, where it has them
 pub record Refusal : Type 0 where
   pub kind : ParserErrorKind
+  pub detail : Option (List ℕ)
   pub cause : Option Cause
 
--- a kind without a cause
+-- a kind with this detail, without a cause
+abbrev pub with_detail : ParserErrorKind → Option (List ℕ) → Refusal
+with_detail k d = record { kind = k; detail = d; cause = None }
+
+-- a kind without a detail and a cause
 abbrev pub plainly : ParserErrorKind → Refusal
-plainly k = record { kind = k; cause = None }
+plainly k = with_detail k None
 
 -- `WasmValueError` with its cause
 abbrev pub caused : Cause → Refusal
-caused c = record { kind = kind.WasmValueError; cause = Some c }
+caused c = record { kind = kind.WasmValueError; detail = None; cause = Some c }
 
 -- a refusal because a value could not be made: out of memory is reported by the kind alone
 abbrev pub refused_by : Cause → Refusal
@@ -44,9 +49,9 @@ pub record Diagnostic : Type 0 where
   pub detail : Option (List ℕ)
   pub cause : Option WasmValueError
 
--- the kind and the cause of an error
+-- what an error says beside its span
 abbrev pub refusal_of : Diagnostic → Refusal
-refusal_of e = record { kind = e.kind; cause = option_map cause_of e.cause }
+refusal_of e = record { kind = e.kind; detail = e.detail; cause = option_map cause_of e.cause }
 
 -- the cause isn't out of memory, which is reported by the kind alone
 abbrev pub IsNoMemory : Option WasmValueError → Type 0
@@ -55,9 +60,8 @@ IsNoMemory cause = Unit {0}
 
 -- the error is of this kind, at this span, with this detail and without a cause
 pub record Says (e : Diagnostic) (kind : ParserErrorKind) (at : Range ℕ) (detail : Option (List ℕ)) : Type 0 where
-  pub is : refusal_of e ≡ plainly kind
+  pub is : refusal_of e ≡ with_detail kind detail
   pub stands : e.span ≡ at
-  pub tells : e.detail ≡ detail
 
 -- the span lies in the text
 abbrev pub LiesInText : List ℕ → Range ℕ → Type 0

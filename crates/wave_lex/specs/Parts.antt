@@ -13,7 +13,7 @@ use Rattle.wave_lex.specs.Tokenization.{span}
 use Rattle.wave_lex.specs.Strings.{IsEscape, UnescapesTo, Decodes, IsBadEscapeAt}
 use Rattle.wave_lex.specs.Multiline.{pieces, spaces, IsIndented, Opens, DecodesLines, LineFault}
 use Rattle.wave_lex.specs.Multiline.{closing, opening, IsSpaces, closing_piece, OpensWell, MultilineFault, fault_kind, fault_span}
-use Rattle.wave_lex.specs.Errors.{Diagnostic, refusal_of, plainly, fault_detail, badly_indented}
+use Rattle.wave_lex.specs.Errors.{Diagnostic, refusal_of, plainly, with_detail, fault_detail, badly_indented}
 
 -- the text of a part
 abbrev pub part_text : StringPart → List ℕ
@@ -45,7 +45,6 @@ pub record TakesEscape (old new : Undecoded) (c : ℕ) : Type 0 where
 -- the refusal of an escape at this place
 pub record TellsBadEscape (e : Diagnostic) (pos : ℕ) : Type 0 where
   pub refusal : refusal_of e ≡ plainly InvalidEscape
-  pub detail : e.detail ≡ None
   pub at : e.span ≡ span pos (pos + 1)
 
 -- a `\` stands there that begins no escape; it is refused, and nothing is left
@@ -78,14 +77,12 @@ PartsJoin = (s : Undecoded) (ps : List StringPart)
 
 -- the refusal of a fault at these bytes
 pub record TellsFault (e : Diagnostic) (f : LineFault) (place : Range ℕ) : Type 0 where
-  pub refusal : refusal_of e ≡ plainly (fault_kind f)
-  pub detail : e.detail ≡ fault_detail f
+  pub refusal : refusal_of e ≡ with_detail (fault_kind f) (fault_detail f)
   pub at : e.span ≡ place
 
 -- the refusal of a line with too few spaces at this place
 pub record TellsBadLine (e : Diagnostic) (pos : ℕ) : Type 0 where
-  pub refusal : refusal_of e ≡ plainly InvalidMultilineString
-  pub detail : e.detail ≡ Some badly_indented
+  pub refusal : refusal_of e ≡ with_detail InvalidMultilineString (Some badly_indented)
   pub at : e.span ≡ span pos (pos + 1)
 
 -- the next line is read: its spaces and its final carriage return are dropped

@@ -1,8 +1,8 @@
 //! Why a text is refused.
-ghost use Rattle.std.specs.Prelude.{◌≡◌, None, Some, option_map};
+ghost use Rattle.std.specs.Prelude.{◌≡◌, Some, option_map};
 ghost use Rattle.std.specs.String.{string_bytes};
 ghost use Rattle.wave_wasm.specs.ValueErrors.{cause_of};
-ghost use Rattle.wave_lex.specs.Errors.{plainly, refused_by, kept, refusal_of, kind_words, error_text, IsNoMemory};
+ghost use Rattle.wave_lex.specs.Errors.{plainly, with_detail, refused_by, kept, refusal_of, kind_words, error_text, IsNoMemory};
 ghost use Rattle.wave_lex.specs.Shared.Errors.{detail_cause, detail_text, error_with};
 
 use crate::lex::Span;
@@ -134,25 +134,22 @@ impl ParserError {
     pub fn new(kind: ParserErrorKind, span: Span) -> ParserError
         ensures refusal { refusal_of result ≡ plainly kind }
         ensures span { result.span ≡ span }
-        ensures detail { result.detail ≡ None }
     {
         error_of_parts(kind, span, Detail::None)
     }
 
     /// A refusal with a detail that is written in the program.
     pub fn with_static(kind: ParserErrorKind, span: Span, detail: &'static str) -> ParserError
-        ensures refusal { refusal_of result ≡ plainly kind }
+        ensures refusal { refusal_of result ≡ with_detail kind (Some detail.now) }
         ensures span { result.span ≡ span }
-        ensures detail { result.detail ≡ Some detail.now }
     {
         error_of_parts(kind, span, Detail::Static(detail))
     }
 
     /// A refusal with a detail that was made for it.
     pub fn with_detail(kind: ParserErrorKind, span: Span, detail: String) -> ParserError
-        ensures refusal { refusal_of result ≡ plainly kind }
+        ensures refusal { refusal_of result ≡ with_detail kind (Some (string_bytes detail)) }
         ensures span { result.span ≡ span }
-        ensures detail { result.detail ≡ Some (string_bytes detail) }
     {
         error_of_parts(kind, span, Detail::Owned(detail))
     }
@@ -162,7 +159,6 @@ impl ParserError {
     pub fn with_cause(span: Span, cause: WasmValueError) -> ParserError
         ensures refusal { refusal_of result ≡ refused_by (cause_of cause) }
         ensures span { result.span ≡ span }
-        ensures detail { result.detail ≡ None }
         ensures cause { result.cause ≡ kept cause }
     {
         error_of_parts(ParserErrorKind::WasmValueError, span, Detail::Cause(cause))

@@ -79,7 +79,7 @@ impl Node {
         let leaf = self.leaf(src);
         let kind = ty.kind();
         match kind {
-            WasmTypeKind::Bool => leaf.read_key(alloc, ty),
+            WasmTypeKind::Bool => leaf.read_plain_key(alloc, ty),
             WasmTypeKind::F32 | WasmTypeKind::F64 | WasmTypeKind::Unsupported => {
                 Err(leaf.unsupported(alloc, kind))
             }

@@ -23,7 +23,7 @@ use Rattle.wave_grammar.specs.Tree as tree
 use Rattle.wave_grammar.specs.Tree.{Tree, MaybeTree, Word, word_of, leaf_word, none_word, some_word, ok_word, err_word, case_word, ATree, BehindWord, Takes}
 use Rattle.wave_grammar.specs.Elaborates.{SimpleTree}
 use Rattle.wave_grammar.specs.SpannedTree.{Placed, at, one, label, no_placed, slice, span_of, shape_of, tree_of, HoldsTokens, SpellsAt, SpellsEach, StandsAtTokens}
-use Rattle.wave_grammar.specs.TypeErrors.{IsRefusalOf, SpellsNoLeaf, LeafFault, MapKeyFault, Fault}
+use Rattle.wave_grammar.specs.TypeErrors.{IsRefusalOf, SpellsNoLeaf, LeafFault, LoneKeyFault, Fault}
 use Rattle.wave_grammar.proofs.Elaboration.GrammarToTree.{not-keyword}
 use Rattle.wave_syntax.specs.NodeTree.{NodeTree, type_of, place_of}
 use Rattle.wave_syntax.specs.Nodes.{key_of, IsNodeOf, IsTokenOf, IsParsedFrom}
@@ -176,22 +176,22 @@ label_spells_none type.string w apart l (text, s, inl h, f) = cc (h.0)
 label_spells_none type.string w apart l (text, s, inr h, f) = cc (h.0)
 
 -- a fault at the key's tree is one of the key
-pub key_fault : (S : Simple) (t : Placed) (p : Range ℕ) (key : Token) (k : Refusal) (q : Range ℕ) → key_of t ≡ Some (p, key) → span_of t ≡ p → ((w : List ℕ) (b : Bool) → key ≡ token.label w → w ≢ bool_text b) → Fault (type.simple S) t k q → MapKeyFault S p key k q
+pub key_fault : (S : Simple) (t : Placed) (p : Range ℕ) (key : Token) (k : Refusal) (q : Range ℕ) → key_of t ≡ Some (p, key) → span_of t ≡ p → ((w : List ℕ) (b : Bool) → key ≡ token.label w → w ≢ bool_text b) → Fault (type.simple S) t k q → LoneKeyFault S p key k q
 key_fault S (at r (label o w no_placed)) p key k q e place apart fault =
     let is = ap (λ (x : Range ℕ × Token). x.1) (some_is (o, token.label w) (p, key) e) in
-    subst (λ (u : Token). MapKeyFault S p u k q) is (inl ((λ none. cc), label_spells_none S w (λ b. apart w b (sym is)), (fault.0, fault.1 ∙ place)))
+    subst (λ (u : Token). LoneKeyFault S p u k q) is (inl ((λ none. cc), label_spells_none S w (λ b. apart w b (sym is)), (fault.0, fault.1 ∙ place)))
 key_fault S (at r (one (token.number w))) p key k q e place apart fault =
     let is = ap (λ (x : Range ℕ × Token). x.1) (some_is (r, token.number w) (p, key) e) in
-    subst (λ (u : Token). MapKeyFault S p u k q) is (inr (refl, subst (λ (z : Range ℕ). LeafFault S z (token.number w) k q) place fault))
+    subst (λ (u : Token). LoneKeyFault S p u k q) is (inr (refl, subst (λ (z : Range ℕ). LeafFault S z (token.number w) k q) place fault))
 key_fault S (at r (one (token.char w))) p key k q e place apart fault =
     let is = ap (λ (x : Range ℕ × Token). x.1) (some_is (r, token.char w) (p, key) e) in
-    subst (λ (u : Token). MapKeyFault S p u k q) is (inr (refl, subst (λ (z : Range ℕ). LeafFault S z (token.char w) k q) place fault))
+    subst (λ (u : Token). LoneKeyFault S p u k q) is (inr (refl, subst (λ (z : Range ℕ). LeafFault S z (token.char w) k q) place fault))
 key_fault S (at r (one (token.string w))) p key k q e place apart fault =
     let is = ap (λ (x : Range ℕ × Token). x.1) (some_is (r, token.string w) (p, key) e) in
-    subst (λ (u : Token). MapKeyFault S p u k q) is (inr (refl, subst (λ (z : Range ℕ). LeafFault S z (token.string w) k q) place fault))
+    subst (λ (u : Token). LoneKeyFault S p u k q) is (inr (refl, subst (λ (z : Range ℕ). LeafFault S z (token.string w) k q) place fault))
 key_fault S (at r (one (token.multiline w))) p key k q e place apart fault =
     let is = ap (λ (x : Range ℕ × Token). x.1) (some_is (r, token.multiline w) (p, key) e) in
-    subst (λ (u : Token). MapKeyFault S p u k q) is (inr (refl, subst (λ (z : Range ℕ). LeafFault S z (token.multiline w) k q) place fault))
+    subst (λ (u : Token). LoneKeyFault S p u k q) is (inr (refl, subst (λ (z : Range ℕ). LeafFault S z (token.multiline w) k q) place fault))
 key_fault S _ p key k q e place apart fault = absurd (cc)
 
 -- a key of the text of a bool is a keyword
@@ -219,7 +219,7 @@ module _ {V : Type 0} (tree_value : V → Value) (of : V → TypeTree → Type 0
       by (inr (inl fault)) = inr (inl (key_fault K h.0.0 p key (refusal_of e) e.span h.0.2 ((inside source n h.0.0 h.0.1).place ∙ sym (key_at source n p key h)) (no_bool_text source n p key h apart) fault))
       by (inr (inr full)) = inr (inr full)
 
-  fault_spells_none : (K : Simple) (p : Range ℕ) (key : Token) (k : Refusal) (q : Range ℕ) → MapKeyFault K p key k q → SpellsNoLeaf K key
+  fault_spells_none : (K : Simple) (p : Range ℕ) (key : Token) (k : Refusal) (q : Range ℕ) → LoneKeyFault K p key k q → SpellsNoLeaf K key
   fault_spells_none K p key k q (inl h) = h.1
   fault_spells_none K p key k q (inr h) = λ l spelled. leaf_none K p key k q l h.1 spelled
 
@@ -231,11 +231,11 @@ module _ {V : Type 0} (tree_value : V → Value) (of : V → TypeTree → Type 0
   key_told_none K p key (Err e) (inr (inr full)) = inr (inr full)
 
 -- a keyword at another simple type than bool
-pub keyword_fault : (K : Simple) (source : List ℕ) (n : NodeTree) (p : Range ℕ) (key : Token) (e : Diagnostic) → K ≢ type.bool → IsTokenOf source n p key → type_of n ≡ kind.Label → RefusedAs InvalidType n e → MapKeyFault K p key (refusal_of e) e.span
+pub keyword_fault : (K : Simple) (source : List ℕ) (n : NodeTree) (p : Range ℕ) (key : Token) (e : Diagnostic) → K ≢ type.bool → IsTokenOf source n p key → type_of n ≡ kind.Label → RefusedAs InvalidType n e → LoneKeyFault K p key (refusal_of e) e.span
 keyword_fault K source n p key e apart h labelled refused =
     by K key apart (key_token source n p key h) (at_key InvalidType source n p key (refusal_of e) e.span h (said refused))
   where
-    by : (S : Simple) (t : Token) → S ≢ type.bool → IsKeyToken (type_of n) (node_text source n) t → IsRefusalOf InvalidType p (refusal_of e) e.span → MapKeyFault S p t (refusal_of e) e.span
+    by : (S : Simple) (t : Token) → S ≢ type.bool → IsKeyToken (type_of n) (node_text source n) t → IsRefusalOf InvalidType p (refusal_of e) e.span → LoneKeyFault S p t (refusal_of e) e.span
     by type.bool t other own told = absurd (other refl)
     by (type.whole which) (token.label w) other own told = inl ((λ none. cc), (λ l s. cc (s.2)), told)
     by type.char (token.label w) other own told = inl ((λ none. cc), (λ l s. cc (s.2)), told)

@@ -19,7 +19,7 @@ use Rattle.wave_syntax.specs.Nodes.{IsNodeOf, IsTokenOf}
 use Rattle.wave_grammar.specs.Token.{Token}
 use Rattle.wave_grammar.specs.LeafTokens.{Spells}
 use Rattle.wave_grammar.specs.Elaborates.{TreeReads}
-use Rattle.wave_grammar.specs.TypeErrors.{Fault, MapKeyFault, SpellsNoLeaf}
+use Rattle.wave_grammar.specs.TypeErrors.{Fault, LoneKeyFault, SpellsNoLeaf}
 
 -- the type gives the tree the value, which is of the type; V is the Rust type of foreign values, `tree` says what one means, `of` when it is of a type
 pub record IsTypedValue {V : Type 0} (tree : V → Value) (of : V → TypeTree → Type 0) (T : TypeTree) (t : Placed) (v : V) : Type 0 where
@@ -62,12 +62,12 @@ pub record IsKeyRead {V : Type 0} (tree : V → Value) (of : V → TypeTree → 
 -- out of memory; or a fault of the key, which stands there; or, where constructors do not serve all values of the type, the refusal of one
 abbrev pub IsKeyBlamed : (TypeTree → Type 0) → Simple → Range ℕ → Token → Diagnostic → Type 0
 IsKeyBlamed Full K p key e =
-    (e.kind ≡ OutOfMemory) ⊎ MapKeyFault K p key (refusal_of e) e.span ⊎ (e.kind ≡ WasmValueError) × (Full (type.simple K) → ⊥)
+    (e.kind ≡ OutOfMemory) ⊎ LoneKeyFault K p key (refusal_of e) e.span ⊎ (e.kind ≡ WasmValueError) × (Full (type.simple K) → ⊥)
 
 -- so, and a fault stands only where the key spells no value of the type
 abbrev pub IsKeyError : (TypeTree → Type 0) → Simple → Range ℕ → Token → Diagnostic → Type 0
 IsKeyError Full K p key e =
-    (e.kind ≡ OutOfMemory) ⊎ MapKeyFault K p key (refusal_of e) e.span × SpellsNoLeaf K key ⊎ (e.kind ≡ WasmValueError) × (Full (type.simple K) → ⊥)
+    (e.kind ≡ OutOfMemory) ⊎ LoneKeyFault K p key (refusal_of e) e.span × SpellsNoLeaf K key ⊎ (e.kind ≡ WasmValueError) × (Full (type.simple K) → ⊥)
 
 -- the value that was made; or the refusal of its constructor, at the node
 abbrev pub IsMade : {V : Type 0} → NodeTree → Result V causes.WasmValueError → Result V Diagnostic → Type 0

@@ -1,5 +1,5 @@
 -- Worked examples of refusals: tokens that begin no tree, and placed trees that a type does not take.
-use Rattle.std.proofs.Common.{ℕ, ◌≡◌, ◌+◌, inl, inr, List, [], ◌∷◌, map, codes, refl, arith, None}
+use Rattle.std.proofs.Common.{ℕ, ◌≡◌, ◌+◌, inl, inr, List, [], ◌∷◌, map, codes, refl, arith, Some, None}
 use Prim.Native.String.{String}
 use Rattle.wave_lex.specs.declared.error.ParserErrorKind.TheVariants.{UnexpectedEnd, NestingTooDeep, InvalidType, InvalidValue, InvalidMultilineString, DuplicateField}
 use Rattle.wave_lex.specs.Tokenization.{span}
@@ -9,7 +9,7 @@ use Rattle.wave_grammar.specs.Token.{Token, number, multiline}
 use Rattle.wave_grammar.specs.Tree as tree
 use Rattle.wave_grammar.specs.LenientTree.{TakesLoosely}
 use Rattle.wave_grammar.specs.ParserPosition.{Place}
-use Rattle.wave_lex.specs.Errors.{Diagnostic, Says, Refusal, plainly, caused}
+use Rattle.wave_lex.specs.Errors.{Diagnostic, Says, Refusal, with_detail, plainly, caused}
 use Rattle.wave_grammar.specs.SyntaxErrors.{StandsAt}
 use Rattle.wave_grammar.specs.PrefixAutomaton as due
 use Rattle.wave_grammar.specs.PrefixAutomaton.{Step, step, Leads, reads, unexpected, empty_tuple, repeated_flag, too_deep, value, first_item, next_item, behind_value}
@@ -80,10 +80,10 @@ parts : (tree_of some_entry ≡ tree.entries (tree.entry one (tree.ok tree.no_tr
     × (part_places (shape_of (label 0 4 (codes "a") (a_placed (leaf 2 3 one)))) ≡ span 0 1 ∷ span 2 3 ∷ [])
 parts = (refl, refl, refl)
 
--- `a` at u8 and `1` at char: `InvalidType` 0..1; `1` at f64: the cause `UnsupportedType`; six quotes at string: `InvalidMultilineString` 3..4
+-- `a` at u8 and `1` at char: `InvalidType` 0..1; `1` at f64: the cause `UnsupportedType`; six quotes at string: `InvalidMultilineString` 3..4, with its detail
 leaves : Fault u8 (label 0 1 (codes "a") no_placed) (plainly InvalidType) (span 0 1) × Fault (type.simple type.char) (leaf 0 1 one) (plainly InvalidType) (span 0 1)
     × Fault (type.unreadable type.f64) (leaf 0 1 one) (caused (unsupported_type (codes "f64"))) (span 0 1)
-    × Fault (type.simple type.string) (leaf 0 6 (multiline (codes "\"\"\"\"\"\""))) (plainly InvalidMultilineString) (span 3 4)
+    × Fault (type.simple type.string) (leaf 0 6 (multiline (codes "\"\"\"\"\"\""))) (with_detail InvalidMultilineString (Some (codes "opening \"\"\" must be followed immediately by newline"))) (span 3 4)
 leaves = ((refl, refl), inl ((λ h. let e = h.1 in cc), (refl, refl)), (refl, refl), inr ((_, inr refl), inr (_, [], opening, refl, refl, inr (inl ((0, refl), (λ no_second. no_second), refl)), (refl, refl))))
 
 -- `[1, 256]` at list<u8>: `InvalidValue` 4..7; `(1, 256)` at tuple<u8> the cause `WrongNumberOfTupleValues` 0..8, and at tuple<u8, u8> `InvalidValue` 4..7
@@ -106,8 +106,8 @@ fixed_lists : Fault (type.fixed u8 4) (at (span 0 9) (placed.list three)) (cause
     × Fault (type.fixed u8 4) (leaf 0 1 one) (plainly InvalidType) (span 0 1)
 fixed_lists = (inl ((λ e. omega arith), (refl, refl)), inl ((λ e. omega arith), (refl, refl)), (λ k p. elim [ inl h ↦ h.1.0 | inr h ↦ let e : 2 ≡ 3 = h.0 in absurd (omega arith) ]), inr (refl, inr (inl too_large)), inl ((λ e. omega arith), (refl, refl)), (refl, refl))
 
--- at `record { a: u8 }` `{b: 1, a: 256, %a: 1}`: `InvalidValue` 0..21, `DuplicateField` 15..17, `InvalidValue` 10..13;
--- `{1: ok}`: `InvalidType` 1..2, at the key, and the cause `MissingField("a")` 0..7; `{}`: `InvalidType` 0..2
+-- at `record { a: u8 }` `{b: 1, a: 256, %a: 1}`: `InvalidValue` 0..21, `DuplicateField` 15..17, which tells the name, `InvalidValue` 10..13;
+-- `{1: ok}`: `InvalidType` 1..2, at the key, with its detail, and the cause `MissingField("a")` 0..7; `{}`: `InvalidType` 0..2
 abbrev a_type : type.TypeTree
 a_type = type.record_type (type.field (codes "a") u8 type.no_fields)
 
@@ -115,10 +115,10 @@ abbrev three_entries : Placed
 three_entries = at (span 0 21) (placed.entries (placed.entry (span 1 2) (token.label (codes "b")) (leaf 4 5 one)
     (placed.entry (span 7 8) (token.label (codes "a")) (leaf 10 13 big) (placed.entry (span 15 17) (token.label (codes "%a")) (leaf 19 20 one) placed.no_entries))))
 
-records : Fault a_type three_entries (plainly InvalidValue) (span 0 21) × Fault a_type three_entries (plainly DuplicateField) (span 15 17) × Fault a_type three_entries (plainly InvalidValue) (span 10 13)
-records = (inr (inl (inl (inl (none_of (codes "a" ∷ []) (codes "b") refl)), (refl, refl))), inr (inr (inl (inr (inr (inl (inl (inl refl), (refl, refl))))))), inr (inr (inr (inr (inl (inr (inl (refl, too_large))))))))
+records : Fault a_type three_entries (plainly InvalidValue) (span 0 21) × Fault a_type three_entries (with_detail DuplicateField (Some (codes "\"a\""))) (span 15 17) × Fault a_type three_entries (plainly InvalidValue) (span 10 13)
+records = (inr (inl (inl (inl (none_of (codes "a" ∷ []) (codes "b") refl)), (refl, refl))), inr (inr (inl (inr (inr (inl (inl (inl refl, (refl, refl)))))))), inr (inr (inr (inr (inl (inr (inl (refl, too_large))))))))
 
-other_records : Fault a_type some_entry (plainly InvalidType) (span 1 2) × Fault a_type some_entry (caused (missing_field (codes "a"))) (span 0 7) × Fault a_type (at (span 0 2) placed.empty_braces) (plainly InvalidType) (span 0 2)
+other_records : Fault a_type some_entry (with_detail InvalidType (Some (codes "expected a record field label"))) (span 1 2) × Fault a_type some_entry (caused (missing_field (codes "a"))) (span 0 7) × Fault a_type (at (span 0 2) placed.empty_braces) (plainly InvalidType) (span 0 2)
 other_records = (inl (inl (refl, (refl, refl))), inr (inr (inr (inl (inl ((λ option. option), (elim [ inl e ↦ cc | inr h ↦ h ]), (refl, refl)))))), (refl, refl))
 
 -- `{a, b}` at `flags { a }`: the cause `UnknownCase("b")` 0..6; at `enum { a }` `b` the same, `a(1)` `InvalidType` 0..4;
@@ -129,11 +129,11 @@ names : Fault (type.flags (codes "a" ∷ [])) (at (span 0 6) (placed.flags ((spa
     × Fault (type.variant (type.case_of (codes "b") (type.a_type u8) type.no_cases)) (label 0 6 (codes "b") (a_placed (leaf 2 5 big))) (plainly InvalidValue) (span 2 5)
 names = (inr (inl (none_of (codes "a" ∷ []) (codes "b") refl, (refl, refl))), inr (refl, none_of (codes "a" ∷ []) (codes "b") refl, (refl, refl)), inl ((λ e. cc), (refl, refl)), inr ((λ e. apart _ _ refl e), (refl, refl)), inl (refl, too_large))
 
--- at map<u8, u8> `{inf: 256}`: `InvalidType` 1..4, at the key, and `InvalidValue` 6..9; `{256: 1}`: `InvalidValue` 1..4
+-- at map<u8, u8> `{inf: 256}`: `InvalidType` 1..4, at the key, which tells the key that is due, and `InvalidValue` 6..9; `{256: 1}`: `InvalidValue` 1..4
 abbrev map_fault : Token → Token → Blame
 map_fault key v = Fault (type.map (type.whole type.u8) u8) (at (span 0 10) (placed.entries (placed.entry (span 1 4) key (leaf 6 9 v) placed.no_entries)))
 
-maps : map_fault (token.label (codes "inf")) big (plainly InvalidType) (span 1 4) × map_fault (token.label (codes "inf")) big (plainly InvalidValue) (span 6 9) × map_fault big one (plainly InvalidValue) (span 1 4)
+maps : map_fault (token.label (codes "inf")) big (with_detail InvalidType (Some (codes "expected a u8 key, found a label"))) (span 1 4) × map_fault (token.label (codes "inf")) big (plainly InvalidValue) (span 6 9) × map_fault big one (plainly InvalidValue) (span 1 4)
 maps = (inl (inl (inl ((λ e. cc), (λ leaf h. cc), (refl, refl)))), inl (inr too_large), inl (inl (inr (refl, too_large))))
 
 -- at option<u8> `some(256)` and `256` `InvalidValue`, `none` nothing; `1` at option<option<u8>> `InvalidType`

@@ -18,7 +18,7 @@ use Rattle.wave_grammar.specs.Token as token
 use Rattle.wave_grammar.specs.LeafTokens.{Spells}
 use Rattle.wave_grammar.specs.NumberText.{IsNumberOf, whole_text}
 use Rattle.wave_grammar.specs.SpannedTree.{Placed, at, one, label, no_placed, slice, shape_of}
-use Rattle.wave_grammar.specs.TypeErrors.{IsRefusalOf, IsForm, MapKeyFault}
+use Rattle.wave_grammar.specs.TypeErrors.{IsRefusalOf, IsForm, LoneKeyFault}
 use Rattle.wave_syntax.specs.NodeTree.{NodeTree, type_of, place_of}
 use Rattle.wave_syntax.specs.Nodes.{key_of, IsTokenOf}
 use Rattle.wave_syntax.specs.NodeAccessors.{node_text, GivesNumber}
@@ -77,7 +77,7 @@ bool_spelled b ty text _ h labelled e = absurd h
 label_is : (a b : List ℕ) → token.label a ≡ token.label b → a ≡ b
 label_is a b e = cc
 
-bool_unspelled : (ty : NodeType) (text : List ℕ) (p : Range ℕ) (key : Token) (k : Refusal) (q : Range ℕ) → IsKeyToken ty text key → ((b : Bool) → ty ≡ kind.Label → text ≢ bool_text b) → IsRefusalOf InvalidType p k q → MapKeyFault type.bool p key k q
+bool_unspelled : (ty : NodeType) (text : List ℕ) (p : Range ℕ) (key : Token) (k : Refusal) (q : Range ℕ) → IsKeyToken ty text key → ((b : Bool) → ty ≡ kind.Label → text ≢ bool_text b) → IsRefusalOf InvalidType p k q → LoneKeyFault type.bool p key k q
 bool_unspelled ty text p (token.label w) k q h none refused = inl ((λ e. cc), (λ l s. none s.0 h.0 (sym h.1 ∙ label_is w (bool_text s.0) s.1)), refused)
 bool_unspelled ty text p (token.number w) k q h none refused = inr (refl, inl ((λ form. cc (form.1)), refused))
 bool_unspelled ty text p (token.char w) k q h none refused = inr (refl, inl ((λ form. cc (form.1)), refused))
@@ -90,7 +90,7 @@ pub bool_key : (source : List ℕ) (n : NodeTree) (p : Range ℕ) (key : Token) 
 bool_key source n p key b h given = bool_spelled b (type_of n) (node_text source n) key (key_token source n p key h) given.0 given.1
 
 -- a key of no bool
-pub no_bool_key : (source : List ℕ) (n : NodeTree) (p : Range ℕ) (key : Token) (e : Diagnostic) → IsTokenOf source n p key → GivesBoolKey source n (Err e) → MapKeyFault type.bool p key (refusal_of e) e.span
+pub no_bool_key : (source : List ℕ) (n : NodeTree) (p : Range ℕ) (key : Token) (e : Diagnostic) → IsTokenOf source n p key → GivesBoolKey source n (Err e) → LoneKeyFault type.bool p key (refusal_of e) e.span
 no_bool_key source n p key e h given =
     bool_unspelled (type_of n) (node_text source n) p key (refusal_of e) e.span (key_token source n p key h) given.0 (at_key InvalidType source n p key (refusal_of e) e.span h (said given.1))
 
@@ -108,7 +108,7 @@ no_number_form : (which : Whole) (t : Token) → ((w : List ℕ) → t ≢ token
 no_number_form which t numbers labels (w, inl e) = numbers w e
 no_number_form which t numbers labels (w, inr e) = labels w e.0
 
-number_unspelled : (which : Whole) (ty : NodeType) (text : List ℕ) (p : Range ℕ) (key : Token) (k : Refusal) (q : Range ℕ) → IsKeyToken ty text key → ty ≢ kind.Number → IsRefusalOf InvalidType p k q → MapKeyFault (type.whole which) p key k q
+number_unspelled : (which : Whole) (ty : NodeType) (text : List ℕ) (p : Range ℕ) (key : Token) (k : Refusal) (q : Range ℕ) → IsKeyToken ty text key → ty ≢ kind.Number → IsRefusalOf InvalidType p k q → LoneKeyFault (type.whole which) p key k q
 number_unspelled which ty text p (token.label w) k q h apart refused = inl ((λ e. cc), (λ l s. absurd (cc (s.2))), refused)
 number_unspelled which ty text p (token.number w) k q h apart refused = absurd (apart h.0)
 number_unspelled which ty text p (token.char w) k q h apart refused = inr (refl, inl (no_number_form which (token.char w) (λ v e. cc) (λ v e. cc), refused))
@@ -119,7 +119,7 @@ number_unspelled which ty text p _ k q h apart refused = absurd h
 number_is : (a b : List ℕ) → token.number a ≡ token.number b → a ≡ b
 number_is a b e = cc
 
-number_wrong : (which : Whole) (ty : NodeType) (text : List ℕ) (p : Range ℕ) (key : Token) (k : Refusal) (q : Range ℕ) → IsKeyToken ty text key → ty ≡ kind.Number → IsNumberOf which text None → IsRefusalOf InvalidValue p k q → MapKeyFault (type.whole which) p key k q
+number_wrong : (which : Whole) (ty : NodeType) (text : List ℕ) (p : Range ℕ) (key : Token) (k : Refusal) (q : Range ℕ) → IsKeyToken ty text key → ty ≡ kind.Number → IsNumberOf which text None → IsRefusalOf InvalidValue p k q → LoneKeyFault (type.whole which) p key k q
 number_wrong which ty text p (token.number w) k q h number none refused =
     inr (refl, inr ((w, inl refl), (λ l s. none s.1 (ap (whole_text which) (sym h.1 ∙ number_is w s.0 s.2) ∙ s.3) s.4, refused)))
 number_wrong which ty text p (token.label w) k q h number none refused = absurd (cc (h.0))
@@ -133,7 +133,7 @@ pub number_key : {N : Type 0} (which : Whole) (number : N → ℤ) (source : Lis
 number_key which number source n p key x h given = number_spelled which (number x) (type_of n) (node_text source n) key (key_token source n p key h) given.0 given.1
 
 -- a key of no number
-pub no_number_key : {N : Type 0} (which : Whole) (number : N → ℤ) (source : List ℕ) (n : NodeTree) (p : Range ℕ) (key : Token) (e : Diagnostic) → IsTokenOf source n p key → GivesNumber which number source n (Err e) → MapKeyFault (type.whole which) p key (refusal_of e) e.span
+pub no_number_key : {N : Type 0} (which : Whole) (number : N → ℤ) (source : List ℕ) (n : NodeTree) (p : Range ℕ) (key : Token) (e : Diagnostic) → IsTokenOf source n p key → GivesNumber which number source n (Err e) → LoneKeyFault (type.whole which) p key (refusal_of e) e.span
 no_number_key which number source n p key e h (inl given) =
     number_unspelled which (type_of n) (node_text source n) p key (refusal_of e) e.span (key_token source n p key h) given.0 (at_key InvalidType source n p key (refusal_of e) e.span h (said given.1))
 no_number_key which number source n p key e h (inr given) =
@@ -168,18 +168,6 @@ module _ {V : Type 0} (tree : V → Value) (of : V → TypeTree → Type 0) (Ful
   key_handed K p key e (Err f) same blamed = subst (IsKeyBlamed Full K p key) (sym same) blamed
 
   -- a fault of the key, handed on
-  pub key_faulty : (T : TypeTree) (K S : Simple) (p : Range ℕ) (key : Token) (e : Diagnostic) (r : Result V Diagnostic) → T ≡ type.simple K → T ≡ type.simple S → IsErrAnd r (λ f. f ≡ e) → MapKeyFault S p key (refusal_of e) e.span → MatchResult r (IsKeyRead tree of K key) (IsKeyBlamed Full K p key)
+  pub key_faulty : (T : TypeTree) (K S : Simple) (p : Range ℕ) (key : Token) (e : Diagnostic) (r : Result V Diagnostic) → T ≡ type.simple K → T ≡ type.simple S → IsErrAnd r (λ f. f ≡ e) → LoneKeyFault S p key (refusal_of e) e.span → MatchResult r (IsKeyRead tree of K key) (IsKeyBlamed Full K p key)
   key_faulty T K S p key e r is same handed_on fault =
-      key_handed K p key e r handed_on (inr (inl (subst (λ (R : Simple). MapKeyFault R p key (refusal_of e) e.span) (one_simple T K S is same) fault)))
-
--- a refusal that says the same blames the same
-blamed_again : (Full : TypeTree → Type 0) (K : Simple) (p q : Range ℕ) (key : Token) (e f : Diagnostic) → (f.kind ≡ OutOfMemory) × (f.span ≡ q) ⊎ (refusal_of f ≡ refusal_of e) × (f.span ≡ e.span) → IsKeyBlamed Full K p key e → IsKeyBlamed Full K p key f
-blamed_again Full K p q key e f (inl memory) h = inl memory.0
-blamed_again Full K p q key e f (inr (same, place)) (inl memory) = inl (ap (λ (r : Refusal). r.kind) same ∙ memory)
-blamed_again Full K p q key e f (inr (same, place)) (inr (inl fault)) =
-    inr (inl (subst (λ (q : Range ℕ). MapKeyFault K p key (refusal_of f) q) (sym place) (subst (λ (r : Refusal). MapKeyFault K p key r e.span) (sym same) fault)))
-blamed_again Full K p q key e f (inr (same, place)) (inr (inr (kind, full))) = inr (inr (ap (λ (r : Refusal). r.kind) same ∙ kind, full))
-
--- so of a key that was not read
-pub key_told : {V : Type 0} (tree : V → Value) (of : V → TypeTree → Type 0) (Full : TypeTree → Type 0) (K : Simple) (p q : Range ℕ) (key : Token) (r : Result V Diagnostic) (e f : Diagnostic) → r ≡ Err e → (f.kind ≡ OutOfMemory) × (f.span ≡ q) ⊎ (refusal_of f ≡ refusal_of e) × (f.span ≡ e.span) → MatchResult r (IsKeyRead tree of K key) (IsKeyBlamed Full K p key) → IsKeyBlamed Full K p key f
-key_told {V} tree of Full K p q key r e f is told h = blamed_again Full K p q key e f told (subst (λ (s : Result V Diagnostic). MatchResult s (IsKeyRead tree of K key) (IsKeyBlamed Full K p key)) is h)
+      key_handed K p key e r handed_on (inr (inl (subst (λ (R : Simple). LoneKeyFault R p key (refusal_of e) e.span) (one_simple T K S is same) fault)))

@@ -17,7 +17,7 @@ use Rattle.wave_grammar.specs.LeafTokens.{Spells}
 use Rattle.wave_grammar.specs.NumberText.{IsNumberOf, whole_text, signed_text, unsigned_text}
 use Rattle.wave_grammar.specs.Elaborates.{SimpleTree}
 use Rattle.wave_grammar.specs.SpannedTree.{Placed, Shape, at, one, slice, span_of, shape_of, tree_of, tree_of_shape}
-use Rattle.wave_grammar.specs.TypeErrors.{IsRefusalOf, OfForm, LeafFault, IsForm, Fault, one_in}
+use Rattle.wave_grammar.specs.TypeErrors.{RefusesWith, IsRefusalOf, OfForm, LeafFault, IsForm, Fault, one_in}
 use Rattle.wave_syntax.specs.NodeTree.{NodeTree, type_of, place_of}
 use Rattle.wave_syntax.specs.Nodes.{placed_of, shape_from, number_token}
 use Rattle.wave_syntax.specs.NodeAccessors.{bool_type, GivesNumber}
@@ -36,11 +36,11 @@ pub leaf_read : (S : Simple) (t : Placed) (token : Token) (one_leaf : Leaf) → 
 leaf_read S t token one_leaf e spelled = (token, one_leaf, tree_is t (one token) e, spelled, refl)
 
 -- the span of a refusal at a node is that of its tree
-pub at_tree : (why : _) (p q : Range ℕ) (k : Refusal) (r : Range ℕ) → q ≡ p → IsRefusalOf why p k r → IsRefusalOf why q k r
+pub at_tree : {detail : Option (List ℕ)} (why : _) (p q : Range ℕ) (k : Refusal) (r : Range ℕ) → q ≡ p → RefusesWith why detail p k r → RefusesWith why detail q k r
 at_tree why p q k r e refused = (refused.0, refused.1 ∙ sym e)
 
--- the kind and the span of a refusal that says no more
-pub said : {e : Diagnostic} {why : ParserErrorKind} {p : Range ℕ} {tells : Option (List ℕ)} → Says e why p tells → IsRefusalOf why p (refusal_of e) e.span
+-- what a refusal says, and its span
+pub said : {e : Diagnostic} {why : ParserErrorKind} {p : Range ℕ} {detail : Option (List ℕ)} → Says e why p detail → RefusesWith why detail p (refusal_of e) e.span
 said says = (says.is, says.stands)
 
 -- a tree of another form than the simple type takes

@@ -27,7 +27,8 @@ use Rattle.wave_grammar.specs.TypeErrors.{OfForm, Fault, LeafFault, MapKeyFault}
 use Rattle.wave_syntax.specs.NodeTree.{NodeTree, place_of}
 use Rattle.wave_syntax.specs.Nodes.{placed_of, IsNodeOf, IsTokenOf}
 use Rattle.wave_syntax.specs.NodeAccessors.{GivesEntries}
-use Rattle.wave_syntax.specs.TypedReading.{IsTypedValue, IsBlamed, ReadsNone, IsMade, IsKeyRead, IsKeyBlamed}
+use Rattle.wave_syntax.specs.TypedReading.{IsTypedValue, IsBlamed, ReadsNone, IsMade, IsKeyRead}
+use Rattle.wave_syntax.specs.Shared.TypedReading.{IsMapKeyBlamed}
 use Rattle.wave_syntax.proofs.ChildNodes.Entries.{AreEntriesOf, IsOfMap, map_given, no_map}
 use Rattle.wave_syntax.proofs.ChildNodes.Inside.{inside, some_is}
 use Rattle.wave_syntax.proofs.ByKind.Leaves.{tree_is, at_tree, said}
@@ -83,7 +84,7 @@ entry_fault K V t es done rest x k q shape is fault =
 
 module _ {V : Type 0} (tree : V → Value) (of : V → TypeTree → Type 0) (Full : TypeTree → Type 0) where
   -- a refusal of the next key is one of the map
-  pub key_blame : (source : List ℕ) (T S U : TypeTree) (t : Placed) (es : PlacedEntries) (done : List PlacedEntry) (n : NodeTree × NodeTree) (left : List (NodeTree × NodeTree)) (e : Diagnostic) (m : IsMapOf T S U) (x : NextEntry source (entry_list es) done n left) → IsOfMap (shape_of t) es → HasFullParts Full → IsKeyBlamed Full m.key x.here.place x.here.key e → IsBlamed Full T t e
+  pub key_blame : (source : List ℕ) (T S U : TypeTree) (t : Placed) (es : PlacedEntries) (done : List PlacedEntry) (n : NodeTree × NodeTree) (left : List (NodeTree × NodeTree)) (e : Diagnostic) (m : IsMapOf T S U) (x : NextEntry source (entry_list es) done n left) → IsOfMap (shape_of t) es → HasFullParts Full → IsMapKeyBlamed Full m.key x.here.place x.here.key e → IsBlamed Full T t e
   key_blame source T S U t es done n left e m x shape parts (inl memory) = inl memory
   key_blame source T S U t es done n left e m x shape parts (inr (inl fault)) =
       inr (inl (subst (λ (W : TypeTree). Fault W t (refusal_of e) e.span) (sym m.is) (entry_fault m.key U t es done x.rest x.here (refusal_of e) e.span shape x.is (inl fault))))

@@ -10,7 +10,7 @@ use Rattle.wave_lex.specs.declared.error.ParserErrorKind.TheVariants.{InvalidTyp
 use Rattle.wave_grammar.specs.Token.{Token}
 use Rattle.wave_grammar.specs.Token as token
 use Rattle.wave_grammar.specs.LeafTokens.{Spells}
-use Rattle.wave_grammar.specs.TypeErrors.{IsRefusalOf, IsForm, SpellsNoLeaf, MapKeyFault, StringFault}
+use Rattle.wave_grammar.specs.TypeErrors.{IsRefusalOf, IsForm, SpellsNoLeaf, LoneKeyFault, StringFault}
 use Rattle.wave_syntax.specs.NodeTree.{NodeTree, type_of}
 use Rattle.wave_syntax.specs.Nodes.{IsTokenOf}
 use Rattle.wave_syntax.specs.NodeAccessors.{node_text, GivesChar}
@@ -44,7 +44,7 @@ pub char_key : (source : List ℕ) (n : NodeTree) (p : Range ℕ) (key : Token) 
 char_key source n p key c h given =
     (node_text source n, c, key_text kind.Char source n p key (token.char (node_text source n)) h given.0 refl, given.1, refl)
 
-char_unspelled : (ty : NodeType) (text : List ℕ) (p : Range ℕ) (key : Token) (k : Refusal) (q : Range ℕ) → IsKeyToken ty text key → ty ≢ kind.Char → IsRefusalOf InvalidType p k q → MapKeyFault type.char p key k q
+char_unspelled : (ty : NodeType) (text : List ℕ) (p : Range ℕ) (key : Token) (k : Refusal) (q : Range ℕ) → IsKeyToken ty text key → ty ≢ kind.Char → IsRefusalOf InvalidType p k q → LoneKeyFault type.char p key k q
 char_unspelled ty text p (token.label w) k q h apart refused = inl ((λ e. cc), (λ l s. absurd (cc (s.2))), refused)
 char_unspelled ty text p (token.char w) k q h apart refused = absurd (apart h.0)
 char_unspelled ty text p (token.number w) k q h apart refused = inr (refl, inl ((λ form. cc (form.1)), refused))
@@ -53,11 +53,11 @@ char_unspelled ty text p (token.multiline w) k q h apart refused = inr (refl, in
 char_unspelled ty text p _ k q h apart refused = absurd h
 
 -- a key of no char
-pub no_char_key : (source : List ℕ) (n : NodeTree) (p : Range ℕ) (key : Token) (e : Diagnostic) → IsTokenOf source n p key → GivesChar source n (Err e) → MapKeyFault type.char p key (refusal_of e) e.span
+pub no_char_key : (source : List ℕ) (n : NodeTree) (p : Range ℕ) (key : Token) (e : Diagnostic) → IsTokenOf source n p key → GivesChar source n (Err e) → LoneKeyFault type.char p key (refusal_of e) e.span
 no_char_key source n p key e h (inl given) =
     char_unspelled (type_of n) (node_text source n) p key (refusal_of e) e.span (key_token source n p key h) given.0 (at_key InvalidType source n p key (refusal_of e) e.span h (said given.1))
 no_char_key source n p key e h (inr given) =
-    subst (λ (t : Token). MapKeyFault type.char p t (refusal_of e) e.span) (sym (key_text kind.Char source n p key (token.char (node_text source n)) h given.0 refl))
+    subst (λ (t : Token). LoneKeyFault type.char p t (refusal_of e) e.span) (sym (key_text kind.Char source n p key (token.char (node_text source n)) h given.0 refl))
     (inr (refl, inr ((node_text source n, refl), (no_char (node_text source n) given.1, at_key InvalidEscape source n p key (refusal_of e) e.span h (said given.2)))))
 
 -- ---- strings
@@ -77,7 +77,7 @@ pub no_spelling : (w : List ℕ) → SpellsNoLeaf type.string (token.label w)
 no_spelling w l (text, s, inl h, f) = cc (h.0)
 no_spelling w l (text, s, inr h, f) = cc (h.0)
 
-string_unspelled : (ty : NodeType) (text : List ℕ) (p : Range ℕ) (key : Token) (k : Refusal) (q : Range ℕ) → IsKeyToken ty text key → ty ≢ kind.String → ty ≢ kind.MultilineString → IsRefusalOf InvalidType p k q → MapKeyFault type.string p key k q
+string_unspelled : (ty : NodeType) (text : List ℕ) (p : Range ℕ) (key : Token) (k : Refusal) (q : Range ℕ) → IsKeyToken ty text key → ty ≢ kind.String → ty ≢ kind.MultilineString → IsRefusalOf InvalidType p k q → LoneKeyFault type.string p key k q
 string_unspelled ty text p (token.label w) k q h apart other refused = inl ((λ e. cc), no_spelling w, refused)
 string_unspelled ty text p (token.string w) k q h apart other refused = absurd (apart h.0)
 string_unspelled ty text p (token.multiline w) k q h apart other refused = absurd (other h.0)
@@ -85,7 +85,7 @@ string_unspelled ty text p (token.number w) k q h apart other refused = inr (ref
 string_unspelled ty text p (token.char w) k q h apart other refused = inr (refl, inl (not_form (token.char w) (λ v e. cc) (λ v e. cc), refused))
 string_unspelled ty text p _ k q h apart other refused = absurd h
 
-of_text : {p : Range ℕ} {k : Refusal} {q : Range ℕ} (t : Token) → IsForm type.string t → StringFault type.string p t k q → MapKeyFault type.string p t k q
+of_text : {p : Range ℕ} {k : Refusal} {q : Range ℕ} (t : Token) → IsForm type.string t → StringFault type.string p t k q → LoneKeyFault type.string p t k q
 of_text (token.string w) form wrong = inr (refl, inr (form, wrong))
 of_text (token.multiline w) form wrong = inr (refl, inr (form, wrong))
 of_text (token.label w) (v, inl e) wrong = absurd (cc)
@@ -99,5 +99,5 @@ string_key_blame Full source n p key e h (inl (apart, other, refused)) =
 string_key_blame Full source n p key e h (inr (inl fault)) =
     let k = told_fault source n e fault in
     let is : key ≡ k.tok = key_text (type_of n) source n p key k.tok h refl k.own in
-    inr (inl (subst (λ (t : Token). MapKeyFault type.string p t (refusal_of e) e.span) (sym is) (of_text k.tok k.form (subst (λ (r : Range ℕ). StringFault type.string r k.tok (refusal_of e) e.span) (sym (key_at source n p key h)) k.wrong))))
+    inr (inl (subst (λ (t : Token). LoneKeyFault type.string p t (refusal_of e) e.span) (sym is) (of_text k.tok k.form (subst (λ (r : Range ℕ). StringFault type.string r k.tok (refusal_of e) e.span) (sym (key_at source n p key h)) k.wrong))))
 string_key_blame Full source n p key e h (inr (inr (wants, copied))) = inl (ap (λ (r : Refusal). r.kind) wants.is)

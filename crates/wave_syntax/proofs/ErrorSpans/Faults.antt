@@ -1,15 +1,17 @@
 -- Faults of type stand within the tree.
-use Rattle.std.proofs.Common.{ℕ, zero, suc, ◌≡◌, ◌⊎◌, inl, inr, ◌<◌, ◌≤◌, ◌+◌, ◌-◌, Bool, true, false, if◌then◌else◌, List, [], ◌∷◌, ◌++◌, length, drop, length-append, length-take, length-drop, nat_eq, refl, sym, ap, subst, arith}
+use Rattle.std.proofs.Common.{ℕ, zero, suc, ◌≡◌, ◌⊎◌, inl, inr, ◌<◌, ◌≤◌, ◌+◌, ◌-◌, Bool, true, false, if◌then◌else◌, List, [], ◌∷◌, ◌++◌, length, drop, length-append, length-take, length-drop, nat_eq, Some, refl, sym, ap, subst, arith}
 use Rattle.std.specs.declared.ops.Range.{Range}
 use Rattle.wave_wasm.specs.Lists.{SomeOf}
 use Rattle.wave_wasm.specs.Types as type
 use Rattle.wave_wasm.specs.Types.{TypeTree, MaybeType, Types, Fields, Cases, Simple, no_type, a_type, no_types, type_and, field, no_cases, case_of}
-use Rattle.wave_lex.specs.Errors.{Refusal}
+use Rattle.wave_wasm.specs.Names.{IsOneOf}
+use Rattle.wave_lex.specs.Errors.{Refusal, repeated_name}
+use Rattle.wave_lex.specs.declared.error.ParserErrorKind.TheVariants.{DuplicateField}
 use Rattle.wave_lex.specs.Strings.{IsBadEscapeAt}
 use Rattle.wave_lex.specs.Multiline.{LineFault, closing, opening, indentation, escape, put_first, pieces, spaces, BadLine, BadLines, MultilineFault, fault_span}
 use Rattle.wave_grammar.specs.Token.{Token, text_of}
 use Rattle.wave_grammar.specs.SpannedTree.{Placed, at, one, tuple, list, empty_braces, no_fields, entries, flags, label, none, some, ok, err, MaybePlaced, no_placed, a_placed, PlacedTrees, no_more, and_then, PlacedEntries, no_entries, entry, PlacedEntry, entry_list, placed_list, span_of, slice, HoldsTokens, SpellsEach, SpellsMaybe, SpellsAll, SpellsEntries, LiesIn}
-use Rattle.wave_grammar.specs.TypeErrors.{LeafFault, MapKeyFault, RepeatedField, MissingField, Fault, FaultOfPayload, FaultOfFlat, FaultOfItem, FaultOfField, FaultOfCase}
+use Rattle.wave_grammar.specs.TypeErrors.{RefusesWith, names_in, LeafFault, MapKeyFault, RepeatedField, MissingField, Fault, FaultOfPayload, FaultOfFlat, FaultOfItem, FaultOfField, FaultOfCase}
 use Rattle.wave_syntax.specs.NodeLaws.{FaultsLieInText}
 use Rattle.wave_syntax.proofs.Strings.Quoted.{IsQuoted, one_holds}
 
@@ -145,12 +147,18 @@ module _ (source : List ℕ) (k : Refusal) (q : Range ℕ) where
   map_key_lies K from to e i (inl h) = key_lies from to e i h.2.1
   map_key_lies K from to e i (inr h) = wider from to e.place.start e.place.end q i.key.0 i.key.1 (leaf_lies K e.place e.key i.holds.0.ordered (λ quoted. i.holds) h.1)
 
+  some_is : {A : Type 0} (P : A → Type 0) (p : Range ℕ) (xs : List A) → ((x : A) → P x → q ≡ p) → SomeOf P xs → q ≡ p
+  some_is P p [] h f = absurd f
+  some_is P p (x ∷ xs) h (inl f) = h x f
+  some_is P p (x ∷ xs) h (inr f) = some_is P p xs h f
+
   repeated_lies : (es : PlacedEntries) (earlier : List (List ℕ)) (from to : ℕ) → SpellsEntries source from to es → RepeatedField earlier (entry_list es) k q → Lies from to q
   repeated_lies no_entries earlier from to h f = absurd f
   repeated_lies (entry p key t more) earlier from to h (inl f) =
       let e = some_entry (λ e. Unit {0}) (entry p key t more) from to h (inl tt) in
       let b = h.2.0 in let c = each_ordered t h.3 in let d = h.2.1 in
-      wider from to p.start p.end q h.0.0 (omega arith) (whole p q f.1.1 h.1.0.ordered)
+      let same = some_is (λ name. IsOneOf earlier name × RefusesWith DuplicateField (Some (repeated_name name)) p k q) p (names_in key) (λ name told. told.1.1) f in
+      wider from to p.start p.end q h.0.0 (omega arith) (whole p q same h.1.0.ordered)
   repeated_lies (entry p key t more) earlier from to h (inr f) =
       let a = h.0.0 in let b = h.1.0.ordered in let c = h.2.0 in let d = each_ordered t h.3 in
       wider from to (span_of t).end to q (omega arith) (omega arith) (repeated_lies more _ (span_of t).end to h.4 f)
@@ -159,11 +167,6 @@ module _ (source : List ℕ) (k : Refusal) (q : Range ℕ) where
   missing_lies type.no_fields es p h = absurd h
   missing_lies (field name T more) es p (inl h) = h.2.1
   missing_lies (field name T more) es p (inr h) = missing_lies more es p h
-
-  some_is : {A : Type 0} (P : A → Type 0) (p : Range ℕ) (xs : List A) → ((x : A) → P x → q ≡ p) → SomeOf P xs → q ≡ p
-  some_is P p [] h f = absurd f
-  some_is P p (x ∷ xs) h (inl f) = h x f
-  some_is P p (x ∷ xs) h (inr f) = some_is P p xs h f
 
   -- faults of trees of this type lie within them
   abbrev Within : TypeTree → Type 0

@@ -5,7 +5,7 @@ use Rattle.wave_wasm.specs.Lists.{AllOf}
 use Rattle.wave_wasm.specs.ValueErrors.{Cause, cause_of}
 use Rattle.wave_wasm.specs.declared.wasm.WasmValueError.{WasmValueError}
 use Rattle.wave_wasm.specs.declared.wasm.WasmValueError.TheVariants as error
-use Rattle.wave_lex.specs.Errors.{Diagnostic, Refusal, refusal_of, refused_by, plainly, caused, LiesInText, Says}
+use Rattle.wave_lex.specs.Errors.{Diagnostic, Refusal, refusal_of, refused_by, with_detail, plainly, caused, fault_detail, LiesInText, Says}
 use Rattle.wave_lex.specs.declared.error.ParserErrorKind.{ParserErrorKind}
 use Rattle.wave_lex.specs.declared.error.ParserErrorKind.TheVariants as why
 use Rattle.wave_lex.specs.Tokenization.{Stands}
@@ -187,12 +187,12 @@ at_in source n e h told =
     let o = node_ordered source n h in
     (record { lies = subst (LiesInNode n) (sym told.0.0) (omega arith, o, omega arith); caused = λ was. (n, whole_part n, told.0) }, told.1)
 
--- a refusal that says the kind alone, or its cause, is of this kind
+-- a refusal that says this is of this kind
 said_kind : (e : Diagnostic) (r : Refusal) → refusal_of e ≡ r → IsTypeKind r.kind → HasTypeKind e
 said_kind e r is known = subst IsTypeKind (sym (ap (λ (x : Refusal). x.kind) is)) known
 
 -- a refusal of another kind has no cause
-pub plain_kind : (k : ParserErrorKind) (e : Diagnostic) → k ≢ why.WasmValueError → refusal_of e ≡ plainly k → HasCause e
+pub plain_kind : {detail : Option (List ℕ)} (k : ParserErrorKind) (e : Diagnostic) → k ≢ why.WasmValueError → refusal_of e ≡ with_detail k detail → HasCause e
 plain_kind k e apart is = λ was. absurd (apart (sym (ap (λ (r : Refusal). r.kind) is) ∙ was))
 
 -- a refusal for lack of memory
@@ -287,7 +287,7 @@ form_at n e h = refused_at why.InvalidType n e (λ k. cc) tt h
 text_fits : (source : List ℕ) (p : Range ℕ) → p.start ≤ p.end → p.start + length (slice source p) ≤ p.end
 text_fits source p o = let a = length-take (p.end - p.start) (drop p.start source) in omega arith
 
-fault_plain : (f : LineFault) (e : Diagnostic) → refusal_of e ≡ plainly (fault_kind f) → e.kind ≢ why.WasmValueError
+fault_plain : (f : LineFault) (e : Diagnostic) → refusal_of e ≡ with_detail (fault_kind f) (fault_detail f) → e.kind ≢ why.WasmValueError
 fault_plain closing e is was = cc (sym (ap (λ (r : Refusal). r.kind) is) ∙ was)
 fault_plain opening e is was = cc (sym (ap (λ (r : Refusal). r.kind) is) ∙ was)
 fault_plain (indentation i) e is was = cc (sym (ap (λ (r : Refusal). r.kind) is) ∙ was)
@@ -322,7 +322,7 @@ string_fault_in source n e h (inr (ty, x, f, own, bad, tells)) =
         lies = subst (LiesInNode n) (sym tells.at) (omega arith, place.1, omega arith);
         caused = λ was. absurd (fault_plain f e tells.refusal was);
       },
-      said_kind e (plainly (fault_kind f)) tells.refusal (fault_type_kind f),
+      said_kind e (with_detail (fault_kind f) (fault_detail f)) tells.refusal (fault_type_kind f),
     )
 
 pub string_in : (source : List ℕ) (n : NodeTree) (e : Diagnostic) → IsParsedFrom source n → RefusesString source n e → RefusesIn n e
@@ -359,7 +359,7 @@ memory_or_plain e k p detail apart (inr says) place = said_plain e k p detail ap
 
 -- so at a node, of a kind of reading at types
 pub said_here : (n : NodeTree) (e : Diagnostic) (k : ParserErrorKind) (detail : Option (List ℕ)) → k ≢ why.WasmValueError → IsTypeKind k → Says e k (place_of n) detail → RefusesAt n e
-said_here n e k detail apart known says = (said_plain e k (place_of n) detail apart says, said_kind e (plainly k) says.is known)
+said_here n e k detail apart known says = (said_plain e k (place_of n) detail apart says, said_kind e (with_detail k detail) says.is known)
 
 -- or out of memory
 pub memory_or_said : (n : NodeTree) (e : Diagnostic) (k : ParserErrorKind) (detail : Option (List ℕ)) → k ≢ why.WasmValueError → IsTypeKind k → (e.kind ≡ why.OutOfMemory) ⊎ Says e k (place_of n) detail → e.span ≡ place_of n → RefusesAt n e
@@ -390,20 +390,13 @@ all_at_cause p (Err e) told = λ was. told
 pub leaf_at : {V : Type 0} (tree : V → Value) (of : V → TypeTree → Type 0) (Full : TypeTree → Type 0) (leaf : Leaf) (n : NodeTree) (r : Result V Diagnostic) → IsLeafMade tree of Full leaf n r → IfErr r (RefusesAt n)
 leaf_at tree of Full leaf n r h = made_at n h.0 r h.3
 
--- a refusal that says the same of a key, or out of memory
-pub told_in : {V : Type 0} (source : List ℕ) (n : NodeTree) (r : Result V Diagnostic) (e f : Diagnostic) → IsParsedFrom source n → r ≡ Err e → IfErr r (RefusesIn n) → (f.kind ≡ why.OutOfMemory) × (f.span ≡ place_of n) ⊎ (refusal_of f ≡ refusal_of e) × (f.span ≡ e.span) → RefusesIn n f
+-- the same refusal of a key, or `InvalidType` where it stood, or out of memory
+pub told_in : {V : Type 0} (source : List ℕ) (n : NodeTree) (r : Result V Diagnostic) (e f : Diagnostic) → IsParsedFrom source n → r ≡ Err e → IfErr r (RefusesIn n) → (f.kind ≡ why.OutOfMemory) × (f.span ≡ place_of n) ⊎ (f ≡ e) ⊎ (f.kind ≡ why.InvalidType) × (f.span ≡ e.span) → RefusesIn n f
 told_in source n r e f parsed is h (inl memory) = at_in source n f parsed (memory_here n f memory.0 memory.1)
-told_in {V} source n r e f parsed is h (inr (same, place)) =
+told_in {V} source n r e f parsed is h (inr (inl same)) = subst (RefusesIn n) (sym same) (subst (λ (s : Result V Diagnostic). IfErr s (RefusesIn n)) is h)
+told_in {V} source n r e f parsed is h (inr (inr (form, place))) =
     let before : RefusesIn n e = subst (λ (s : Result V Diagnostic). IfErr s (RefusesIn n)) is h in
-    let kinds : e.kind ≡ f.kind = sym (ap (λ (x : Refusal). x.kind) same) in (
-      record {
-        lies = subst (LiesInNode n) (sym place) before.0.lies;
-        caused = λ was.
-            let (k, part, told) = before.0.caused (kinds ∙ was) in
-            (k, part, (place ∙ told.0, λ now. let (c, tells) = told.1 (kinds ∙ now) in (c, same ∙ tells)));
-      },
-      subst IsTypeKind kinds before.1,
-    )
+    (record { lies = subst (LiesInNode n) (sym place) before.0.lies; caused = λ was. absurd (cc (sym form ∙ was)) }, subst IsTypeKind (sym form) tt)
 
 -- ---- kinds of the refusals of parameters
 

@@ -7,14 +7,14 @@ use Rattle.wave_wasm.specs.Lists.{AllOf, SomeOf}
 use Rattle.wave_wasm.specs.Names.{IsOneOf, IsNoneOf}
 use Rattle.wave_wasm.specs.Types as type
 use Rattle.wave_wasm.specs.Types.{Fields, field_names}
-use Rattle.wave_lex.specs.Errors.{Diagnostic, Refusal, refusal_of}
+use Rattle.wave_lex.specs.Errors.{Diagnostic, Refusal, refusal_of, field_label_due, repeated_name}
 use Rattle.wave_lex.specs.declared.error.ParserErrorKind.TheVariants.{InvalidType, DuplicateField, OutOfMemory}
 use Rattle.wave_grammar.specs.Token.{Token}
 use Rattle.wave_grammar.specs.Token as token
 use Rattle.wave_grammar.specs.LeafTokens.{name_of}
 use Rattle.wave_grammar.specs.TypedGrammar.{look_up, names_of}
 use Rattle.wave_grammar.specs.SpannedTree.{Placed, Shape, at, one, label, entries, no_fields, empty_braces, no_placed, PlacedEntries, no_entries, PlacedEntry, entry_list, slice, span_of, shape_of}
-use Rattle.wave_grammar.specs.TypeErrors.{IsRefusalOf, OfForm, Fault, names_in, record_in, KeyFault, UnknownField, RepeatedField, IsFor, MissingField, FaultOfField}
+use Rattle.wave_grammar.specs.TypeErrors.{IsRefusalOf, RefusesWith, OfForm, Fault, names_in, record_in, KeyFault, UnknownField, RepeatedField, IsFor, MissingField, FaultOfField}
 use Rattle.wave_syntax.specs.NodeTree.{NodeTree, type_of, place_of, children_of}
 use Rattle.wave_syntax.specs.Nodes.{placed_of, key_of, IsNodeOf, IsTokenOf}
 use Rattle.wave_syntax.specs.NodeAccessors.{node_text, node_pairs}
@@ -162,17 +162,17 @@ has_behind : {A : Type 0} (before : List A) (x : A) (behind : List A) → HasAt 
 has_behind [] x behind = refl
 has_behind (y ∷ before) x behind = has_behind before x behind
 
-key_fault : (source : List ℕ) (before : List (NodeTree × NodeTree)) (entry : NodeTree × NodeTree) (behind : List (NodeTree × NodeTree)) (es : List PlacedEntry) (k : Refusal) (q : Range ℕ) → AreEntriesOf source (before ++ entry ∷ behind) es → type_of entry.0 ≢ kind.Label → IsRefusalOf InvalidType (place_of entry.0) k q → KeyFault es k q
+key_fault : (source : List ℕ) (before : List (NodeTree × NodeTree)) (entry : NodeTree × NodeTree) (behind : List (NodeTree × NodeTree)) (es : List PlacedEntry) (k : Refusal) (q : Range ℕ) → AreEntriesOf source (before ++ entry ∷ behind) es → type_of entry.0 ≢ kind.Label → RefusesWith InvalidType (Some field_label_due) (place_of entry.0) k q → KeyFault es k q
 key_fault source before entry behind es k q h apart refused =
     let e = entry_has source (before ++ entry ∷ behind) es (length before) entry h (has_behind before entry behind) in
-    some_at (λ x. (names_in x.key ≡ []) × IsRefusalOf InvalidType x.place k q) es (length before) e.0 e.1 (other_token source entry.0 e.0.place e.0.key e.2 apart, at_tree InvalidType (place_of entry.0) e.0.place k q (token_place source entry.0 e.0.place e.0.key e.2) refused)
+    some_at (λ x. (names_in x.key ≡ []) × RefusesWith InvalidType (Some field_label_due) x.place k q) es (length before) e.0 e.1 (other_token source entry.0 e.0.place e.0.key e.2 apart, at_tree InvalidType (place_of entry.0) e.0.place k q (token_place source entry.0 e.0.place e.0.key e.2) refused)
 
-repeated_fault : (source : List ℕ) (before : List (NodeTree × NodeTree)) (entry : NodeTree × NodeTree) (behind : List (NodeTree × NodeTree)) (es : List PlacedEntry) (earlier : List (List ℕ)) (k : Refusal) (q : Range ℕ) → AreEntriesOf source (before ++ entry ∷ behind) es → AllOf IsLabelled before → type_of entry.0 ≡ kind.Label → IsOneOf (names_of (map (field_of source) before)) (name_of (node_text source entry.0)) ⊎ IsOneOf earlier (name_of (node_text source entry.0)) → IsRefusalOf DuplicateField (place_of entry.0) k q → RepeatedField earlier es k q
+repeated_fault : (source : List ℕ) (before : List (NodeTree × NodeTree)) (entry : NodeTree × NodeTree) (behind : List (NodeTree × NodeTree)) (es : List PlacedEntry) (earlier : List (List ℕ)) (k : Refusal) (q : Range ℕ) → AreEntriesOf source (before ++ entry ∷ behind) es → AllOf IsLabelled before → type_of entry.0 ≡ kind.Label → IsOneOf (names_of (map (field_of source) before)) (name_of (node_text source entry.0)) ⊎ IsOneOf earlier (name_of (node_text source entry.0)) → RefusesWith DuplicateField (Some (repeated_name (name_of (node_text source entry.0)))) (place_of entry.0) k q → RepeatedField earlier es k q
 repeated_fault source [] entry behind [] earlier k q h labels labelled old refused = absurd h
 repeated_fault source [] entry behind (e ∷ es) earlier k q h labels labelled (inl old) refused = absurd old
 repeated_fault source [] entry behind (e ∷ es) earlier k q h labels labelled (inr old) refused =
     let named : names_in e.key ≡ name_of (node_text source entry.0) ∷ [] = ap names_in (label_token source entry.0 e.place e.key h.0 labelled) in
-    inl (subst (SomeOf (IsOneOf earlier)) (sym named) (inl old), at_tree DuplicateField (place_of entry.0) e.place k q (token_place source entry.0 e.place e.key h.0) refused)
+    inl (subst (SomeOf (λ name. IsOneOf earlier name × RefusesWith DuplicateField (Some (repeated_name name)) e.place k q)) (sym named) (inl (old, at_tree DuplicateField (place_of entry.0) e.place k q (token_place source entry.0 e.place e.key h.0) refused)))
 repeated_fault source (p ∷ before) entry behind [] earlier k q h labels labelled old refused = absurd h
 repeated_fault source (p ∷ before) entry behind (e ∷ es) earlier k q h labels labelled old refused =
     let named : names_in e.key ≡ name_of (node_text source p.0) ∷ [] = ap names_in (label_token source p.0 e.place e.key h.0 labels.0) in

@@ -6,7 +6,8 @@ use Rattle.wave_wasm.specs.Names.{IsOneOf, IsNoneOf, AreDistinct}
 use Rattle.wave_wasm.specs.Types as type
 use Rattle.wave_wasm.specs.Types.{TypeTree, Fields, field_names}
 use Rattle.wave_wasm.specs.Values.{Value, FieldValues}
-use Rattle.wave_lex.specs.Errors.{Refusal}
+use Rattle.wave_lex.specs.Errors.{Refusal, repeated_name}
+use Rattle.wave_lex.specs.declared.error.ParserErrorKind.TheVariants.{DuplicateField}
 use Rattle.wave_grammar.specs.Token.{Token}
 use Rattle.wave_grammar.specs.Token as token
 use Rattle.wave_grammar.specs.LeafTokens.{name_of}
@@ -15,7 +16,7 @@ use Rattle.wave_grammar.specs.Tree as form
 use Rattle.wave_grammar.specs.Tree.{Tree, TreeEntries}
 use Rattle.wave_grammar.specs.Elaborates.{TreeReads, TreeReadsField, Each, NamedTree}
 use Rattle.wave_grammar.specs.SpannedTree.{Placed, at, entries, no_fields, PlacedEntries, no_entries, entry, PlacedEntry, entry_list, tree_of, entries_of}
-use Rattle.wave_grammar.specs.TypeErrors.{Fault, names_in, KeyFault, UnknownField, RepeatedField, IsFor, MissingField, FaultOfField}
+use Rattle.wave_grammar.specs.TypeErrors.{RefusesWith, Fault, names_in, KeyFault, UnknownField, RepeatedField, IsFor, MissingField, FaultOfField}
 use Rattle.wave_syntax.specs.TypedReading.{ReadsNone}
 use Rattle.wave_syntax.proofs.ByKind.Lists.{HasAt}
 use Rattle.wave_grammar.proofs.FieldNames.{is_found}
@@ -94,10 +95,10 @@ apart_more (n ∷ names) earlier name h none = ((λ e. none.0 (sym e), h.0), apa
 no_repeated : (fs : Fields) (es : List PlacedEntry) (found : List (List ℕ × Value)) (earlier : List (List ℕ)) (k : Refusal) (q : Range ℕ) → Pairs fs es found → AreDistinct (names_of found) → AllOf (IsNoneOf earlier) (names_of found) → RepeatedField earlier es k q → ⊥
 no_repeated fs [] found earlier k q h d apart fault = fault
 no_repeated fs (e ∷ es) [] earlier k q h d apart fault = h
-no_repeated fs (e ∷ es) (f ∷ found) earlier k q h d apart (inl fault) = one (subst (SomeOf (IsOneOf earlier)) h.0 fault.0)
+no_repeated fs (e ∷ es) (f ∷ found) earlier k q h d apart (inl fault) = one (subst (SomeOf (λ name. IsOneOf earlier name × RefusesWith DuplicateField (Some (repeated_name name)) e.place k q)) h.0 fault)
   where
-    one : SomeOf (IsOneOf earlier) (f.0 ∷ []) → ⊥
-    one (inl old) = not_both earlier f.0 apart.0 old
+    one : SomeOf (λ name. IsOneOf earlier name × RefusesWith DuplicateField (Some (repeated_name name)) e.place k q) (f.0 ∷ []) → ⊥
+    one (inl old) = not_both earlier f.0 apart.0 old.0
     one (inr old) = old
 no_repeated fs (e ∷ es) (f ∷ found) earlier k q h d apart (inr fault) =
     no_repeated fs es found (f.0 ∷ earlier) k q h.2 d.1 (apart_more (names_of found) earlier f.0 apart.1 d.0) (subst (λ (ns : List (List ℕ)). RepeatedField (ns ++ earlier) es k q) h.0 fault)

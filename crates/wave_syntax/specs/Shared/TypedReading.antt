@@ -3,23 +3,26 @@ use Rattle.std.specs.Prelude.{ℕ, ℤ, ◌≡◌, ◌≢◌, ◌⊎◌, List, [
 use Rattle.std.specs.Result.{IsErrAnd}
 use Rattle.wave_wasm.specs.Lists.{AllOf}
 use Rattle.wave_wasm.specs.Names.{AreDistinct}
-use Rattle.wave_wasm.specs.Types.{TypeTree, MaybeType, Whole, whole_kind, list_length, type_option, maybe_type, EachNamesOfMaybe}
+use Rattle.wave_wasm.specs.Types as type
+use Rattle.wave_wasm.specs.Types.{TypeTree, MaybeType, Simple, Whole, whole_kind, list_length, type_option, maybe_type, EachNamesOfMaybe}
 use Rattle.wave_wasm.specs.declared.wasm.WasmTypeKind.{WasmTypeKind}
 use Rattle.wave_wasm.specs.Values as value
 use Rattle.wave_wasm.specs.Values.{Value, maybe_value}
 use Rattle.wave_wasm.specs.TypeText.{kind_word}
 use Rattle.wave_wasm.specs.ValueErrors.{Cause, unsupported_type, wrong_length}
 use Rattle.wave_wasm.specs.ConstructorContracts.{PayloadIsOf, payload_and}
+use Rattle.std.specs.declared.ops.Range.{Range}
 use Rattle.wave_lex.specs.Errors.{Diagnostic, refusal_of}
 use Rattle.wave_lex.specs.declared.error.ParserErrorKind.TheVariants.{OutOfMemory, WasmValueError}
 use Rattle.wave_grammar.specs.SpannedTree.{MaybePlaced, no_placed, a_placed, maybe_of}
 use Rattle.wave_syntax.specs.NodeTree.{NodeTree, place_of}
-use Rattle.wave_syntax.specs.Nodes.{IsNodeOf}
+use Rattle.wave_syntax.specs.Nodes.{IsNodeOf, IsTokenOf}
 use Rattle.wave_syntax.specs.NodeAccessors.{GivesNumber}
 use Rattle.wave_grammar.specs.TypedGrammar.{IsFlat}
 use Rattle.wave_grammar.specs.Elaborates.{TreeReadsPayload}
-use Rattle.wave_grammar.specs.TypeErrors.{FaultOfPayload, RefusesFor}
-use Rattle.wave_syntax.specs.TypedReading.{IsLeafMade}
+use Rattle.wave_grammar.specs.Token.{Token}
+use Rattle.wave_grammar.specs.TypeErrors.{FaultOfPayload, MapKeyFault, RefusesFor}
+use Rattle.wave_syntax.specs.TypedReading.{IsKeyRead, IsLeafMade}
 
 -- a refusal with this cause at the node, or for lack of memory
 abbrev pub IsCaused : Cause → NodeTree → Diagnostic → Type 0
@@ -34,7 +37,18 @@ abbrev pub IsOtherLength : TypeTree → ℕ → NodeTree → Diagnostic → Type
 IsOtherLength T got n e =
     (want : ℕ) × (list_length T ≡ Some want) × (got ≢ want) × RefusesFor (wrong_length want got) (place_of n) (refusal_of e) e.span
 
+-- out of memory; or a fault of the key of a map, which stands there; or, where constructors do not serve all values of the type, the refusal of one
+abbrev pub IsMapKeyBlamed : (TypeTree → Type 0) → Simple → Range ℕ → Token → Diagnostic → Type 0
+IsMapKeyBlamed Full K p key e =
+    (e.kind ≡ OutOfMemory) ⊎ MapKeyFault K p key (refusal_of e) e.span ⊎ (e.kind ≡ WasmValueError) × (Full (type.simple K) → ⊥)
+
 module _ {V : Type 0} (tree : V → Value) (of : V → TypeTree → Type 0) (Full : TypeTree → Type 0) where
+  -- the value of the key of a map at the simple type, or a refusal of it
+  abbrev pub AnswersMapKey : TypeTree → List ℕ → NodeTree → Result V Diagnostic → Type 0
+  AnswersMapKey T source n r =
+      (K : Simple) (p : Range ℕ) (key : Token) → T ≡ type.simple K → IsTokenOf source n p key
+      → MatchResult r (IsKeyRead tree of K key) (IsMapKeyBlamed Full K p key)
+
   -- what a constructor answered for the node's number, which is one of this type; or the refusal of a node of none
   abbrev pub IsWholeRead : Whole → List ℕ → NodeTree → Result V Diagnostic → Type 0
   IsWholeRead which source n r =

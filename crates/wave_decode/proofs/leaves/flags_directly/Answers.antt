@@ -8,7 +8,7 @@ use Rattle.wave_decode.proofs.leaves.flags_directly.Goals as goal
 pub returns-in-List : goal.returns-in-List
 returns-in-List g c = λ source are.
     flags_refused g.V.WasmValue.tree g.V.WasmValue.is_of g.V.WasmValue.is_full (g.V.Type.WasmType.tree c.args.ty.now) c.kind.result c.kind.ensures source (node kind.Flags c.args.span (flag_nodes c.args.flags)) c.new.result
-    (record { is = c.new.ensures.refusal; stands = c.new.ensures.span; tells = c.new.ensures.detail }) refl c.requires c.in-List.is
+    (record { is = c.new.ensures.refusal; stands = c.new.ensures.span }) refl c.requires c.in-List.is
 
 pub returns-in-Bool : goal.returns-in-Bool
 returns-in-Bool g c = λ source are.

@@ -1,6 +1,6 @@
 use Rattle.std.proofs.Common.{Err, sym, subst}
 use Rattle.wave_lex.specs.Errors.{Diagnostic}
-use Rattle.wave_syntax.specs.TypedReading.{AnswersKey}
+use Rattle.wave_syntax.specs.Shared.TypedReading.{AnswersMapKey}
 use Rattle.wave_syntax.specs.Shared.ErrorSpans.{RefusesIn}
 use Rattle.wave_syntax.specs.NodeTree.{node, no_nodes}
 use Rattle.wave_decode.proofs.MapSteps.{key_taken, key_refused}
@@ -14,5 +14,5 @@ pub returns-in_ok-failure-in-Err : goal.returns-in_ok-failure-in-Err
 returns-in_ok-failure-in-Err g c = λ T source children is due h.
     let key = node c.args.ty c.args.span no_nodes in
     key_refused g.V.WasmValue.tree g.V.WasmValue.is_of g.V.WasmValue.is_full g.V.Type.WasmType.tree T source children c.args.self.now h key c.in_ok-failure-in-Err.failure g.met.V.WasmValue.full_parts due
-    (subst (λ (e : Diagnostic). AnswersKey g.V.WasmValue.tree g.V.WasmValue.is_of g.V.WasmValue.is_full (g.V.Type.WasmType.tree c.args.self.now.key_type.now) source key (Err e)) (sym c.in_ok-failure-in-Err.ensures.same) (c.in-Err.ensures.answer source is))
+    (subst (λ (e : Diagnostic). AnswersMapKey g.V.WasmValue.tree g.V.WasmValue.is_of g.V.WasmValue.is_full (g.V.Type.WasmType.tree c.args.self.now.key_type.now) source key (Err e)) (sym c.in_ok-failure-in-Err.ensures.same) (c.in-Err.ensures.answer source is))
     (λ has. subst (RefusesIn key) (sym c.in_ok-failure-in-Err.ensures.same) (c.in-Err.ensures.within source is has))

@@ -11,7 +11,7 @@ returns-then-length_of_spaces-closing c = inl (
       (subst (λ (z : List ℕ). get_or z c.length_of_spaces.result 0 ≢ 32) c.as_bytes.ensures.value
       (c.length_of_spaces.ensures.stops (rw c.as_bytes.ensures.value c.if-length_of_spaces-closing.true)))
       (subst IsSpaces (sym c.closing_piece-closing.ensures) h)),
-  record { refusal = c.with_static.ensures.refusal; detail = c.with_static.ensures.detail; at = c.with_static.ensures.span },
+  record { refusal = c.with_static.ensures.refusal; at = c.with_static.ensures.span },
 )
 
 pub returns-in_default : goal.returns-in_default
@@ -22,7 +22,7 @@ returns-in_default c =
     inr (
       subst IsSpaces c.closing_piece-closing.ensures (length c.closing_piece-closing.result.now, all),
       c.in_default.ensures,
-      record { refusal = c.with_static-in_default.ensures.refusal; detail = c.with_static-in_default.ensures.detail; at = c.with_static-in_default.ensures.span },
+      record { refusal = c.with_static-in_default.ensures.refusal; at = c.with_static-in_default.ensures.span },
     )
 
 pub range-requires-clause-start_boundary : goal.range-requires-clause-start_boundary

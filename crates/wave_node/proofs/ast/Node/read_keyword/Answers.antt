@@ -17,12 +17,12 @@ use Rattle.wave_node.proofs.ast.Node.read_keyword.Goals as goal
 pub returns-in-Bool-clause-answer : goal.returns-in-Bool-clause-answer
 returns-in-Bool-clause-answer g c =
     let node : leaf_node c.leaf-leaf.result ≡ c.args.self.now = c.leaf-leaf.ensures.node ∙ sym (key_alone c.args.src.now c.args.self.now c.requires.key) in
-    subst (λ (n : NodeTree). AnswersKey g.V.WasmValue.tree g.V.WasmValue.is_of g.V.WasmValue.is_full (g.V.Type.WasmType.tree c.args.ty.now) c.args.src.now n c.read_key.result) node (c.read_key.ensures.answer c.args.src.now c.leaf-leaf.ensures.text)
+    subst (λ (n : NodeTree). AnswersKey g.V.WasmValue.tree g.V.WasmValue.is_of g.V.WasmValue.is_full (g.V.Type.WasmType.tree c.args.ty.now) c.args.src.now n c.read_plain_key.result) node (c.read_plain_key.ensures.answer c.args.src.now c.leaf-leaf.ensures.text)
 
 pub returns-in-Bool-clause-within : goal.returns-in-Bool-clause-within
 returns-in-Bool-clause-within g c =
     let node : leaf_node c.leaf-leaf.result ≡ c.args.self.now = c.leaf-leaf.ensures.node ∙ sym (key_alone c.args.src.now c.args.self.now c.requires.key) in
-    subst (λ (n : NodeTree). IfErr c.read_key.result (RefusesIn n)) node (c.read_key.ensures.within c.args.src.now c.leaf-leaf.ensures.text (subst (IsKeyOf c.args.src.now) (sym node) c.requires.key))
+    subst (λ (n : NodeTree). IfErr c.read_plain_key.result (RefusesIn n)) node (c.read_plain_key.ensures.within c.args.src.now c.leaf-leaf.ensures.text (subst (IsKeyOf c.args.src.now) (sym node) c.requires.key))
 
 pub returns-in-Bool-clause-other : goal.returns-in-Bool-clause-other
 returns-in-Bool-clause-other g c = λ other. absurd (other (simple_is type.bool (g.V.Type.WasmType.tree c.args.ty.now) (sym c.in-Bool.is ∙ c.kind-kind.ensures)))

@@ -224,7 +224,7 @@ parse_items-returns-then-eq-clause-led g t c = λ n s e.
     let first = ap (λ (z : Range ℕ). z.start) c.span-start.ensures ∙ sym (ap (λ (z : Place). z.lexer.start) c.next_is.ensures.stays) in
     refuses_there s c.refuse_empty.result c.refuse_empty.ensures.never c.refuse_empty.ensures.refused (λ x says. empty_there (inl tt) x c.args.close (here_is n due.first_item (form_of c.args.close ∷ s) _ _ c.next_is.ensures.stays) c.in_ok-expect.ensures.takes
     (close_empty n c.args.close s (text_at c.expect.new.self.place) (is_class _ _ c.eq.ensures c.if-eq.true))
-    (record { is = says.is; stands = says.stands ∙ range_path first refl; tells = says.tells }))
+    (record { is = says.is; stands = says.stands ∙ range_path first refl }))
 
 pub parse_items-returns-then-next_is-clause-led : goal.parse_items-returns-then-next_is-clause-led
 parse_items-returns-then-next_is-clause-led g t c = λ n s e.

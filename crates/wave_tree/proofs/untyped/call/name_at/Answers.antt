@@ -13,4 +13,4 @@ pub returns-in-Some-Err-clause-refused : goal.returns-in-Some-Err-clause-refused
 returns-in-Some-Err-clause-refused c =
     unnamed_at c.args.source.now c.next.new.self c.in-Some-Err.field-0-0 c.new.result
     (subst (λ r. NameIs (record { source = c.args.source.now; start = 0; end = 0 }) c.next.new.self r) (c.in-Some-Err.is ∙ ap (λ x. Some x) c.in-Some-Err.field-0-is) (subst (λ (z : Lexed). NameIs z c.next.new.self c.next.result) c.new-names.ensures c.next.ensures.steps))
-    (record { is = c.new.ensures.refusal; stands = c.new.ensures.span ∙ c.span.ensures.span; tells = c.new.ensures.detail })
+    (record { is = c.new.ensures.refusal; stands = c.new.ensures.span ∙ c.span.ensures.span })
