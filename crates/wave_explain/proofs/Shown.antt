@@ -1,10 +1,9 @@
 -- Which scalars of a line are shown, one more at a time.
-use Rattle.std.proofs.Common.{ℕ, zero, suc, refl, ◌≡◌, ◌<◌, ◌≤◌, ◌+◌, ◌-◌, List, [], ◌∷◌, ◌++◌, map, length, take, drop, replicate, arith, sym, ap, ◌∙◌}
+use Rattle.std.proofs.Common.{ℕ, zero, suc, refl, ◌≡◌, ◌<◌, ◌≤◌, ◌+◌, ◌-◌, List, [], ◌∷◌, ◌++◌, length, take, drop, replicate, arith, sym, ap, ◌∙◌}
 use Rattle.std.proofs.Math.ListN.{drop_of_length-le}
-use Rattle.std.proofs.lemmas.List.{append_assoc, append-nil, map-append, drop-append-le, take-append-le, take_all, length-append, length-drop, replicate-append-replicate}
-use Rattle.std.proofs.lemmas.Str.{encodes-append}
-use Rattle.std.specs.Prelude.{encode_utf8, encode_utf8_all}
-use Rattle.wave_explain.specs.Shown.{shown_scalar, shown_text, ellipsis}
+use Rattle.std.proofs.lemmas.List.{append_assoc, drop-append-le, take-append-le, take_all, length-append, length-drop, replicate-append-replicate}
+use Rattle.std.specs.Prelude.{encode_utf8}
+use Rattle.wave_explain.specs.Shown.{ellipsis}
 
 module _ (xs : List ℕ) (c s m : ℕ) where
   -- one that is among the first, which are left out
@@ -23,15 +22,6 @@ module _ (xs : List ℕ) (c s m : ℕ) where
   pub past : s ≤ length xs → m ≤ length xs - s → take m (drop s (xs ++ c ∷ [])) ≡ take m (drop s xs)
   past le more =
       ap (take m) (drop-append-le s xs (c ∷ []) le) ∙ take-append-le m (drop s xs) (c ∷ []) (omega (arith, length-drop s xs, more))
-
--- the text of one scalar more
-pub one_more : (to xs : List ℕ) (c : ℕ) → (to ++ shown_text xs) ++ encode_utf8 (shown_scalar c) ≡ to ++ shown_text (xs ++ c ∷ [])
-one_more to xs c =
-    append_assoc to (shown_text xs) (encode_utf8 (shown_scalar c))
-    ∙ ap (λ (x : List ℕ). to ++ x)
-    (ap (λ (x : List ℕ). shown_text xs ++ x) (sym (append-nil (encode_utf8 (shown_scalar c))))
-    ∙ (sym (encodes-append (map shown_scalar xs) (shown_scalar c ∷ []))
-    ∙ ap encode_utf8_all (sym (map-append shown_scalar xs (c ∷ [])))))
 
 -- one byte more
 pub repeated : (to : List ℕ) (n c : ℕ) → (to ++ replicate n c) ++ c ∷ [] ≡ to ++ replicate (n + 1) c

@@ -1,17 +1,37 @@
--- How the line of a refusal is shown, and what is marked in it.
-use Rattle.std.specs.Prelude.{ℕ, zero, suc, ◌≡◌, ◌≤◌, ◌⊎◌, ◌-◌, ◌==◌, max, false, if◌then◌else◌}
-use Rattle.std.specs.Prelude.{List, [], ◌∷◌, ◌++◌, map, length, take, drop, replicate, chars, codes, encode_utf8, encode_utf8_all}
-use Rattle.std.specs.Str.{IsCharBoundary}
+-- How the line of a refusal is shown, and the marks below it.
+use Rattle.std.specs.Prelude.{ℕ, zero, suc, ◌-◌, ◌==◌, max, Bool, true, false, not, ◌&&◌, if◌then◌else◌}
+use Rattle.std.specs.Prelude.{List, [], ◌++◌, length, take, drop, replicate, chars, codes, encode_utf8}
 use Rattle.std.specs.Char.{is_control}
+use Rattle.std.specs.Fmt.{digits}
+use Rattle.std.specs.List.{flat_map}
+use Rattle.ucd_category.specs.GeneralCategory.{general_category}
+use Rattle.ucd_category.specs.declared.GeneralCategory.{GeneralCategory}
+use Rattle.ucd_category.specs.declared.GeneralCategory.TheVariants.{Format, LineSeparator, ParagraphSeparator, SpaceSeparator}
 use Rattle.unicode_width.specs.Width.{str_width}
 
--- a scalar as it is shown: a tab as a blank, another control character as U+FFFD
-abbrev pub shown_scalar : ℕ → ℕ
-shown_scalar c = if c == 9 then 32 else (if is_control c then 0xFFFD else c)
+-- the general categories Cf, Zl, Zp and Zs
+abbrev pub is_unseen : GeneralCategory → Bool
+is_unseen Format = true
+is_unseen LineSeparator = true
+is_unseen ParagraphSeparator = true
+is_unseen SpaceSeparator = true
+is_unseen _ = false
+
+-- a scalar that can't be seen: of those categories, as bidirectional controls and blanks, and not the space
+abbrev pub is_invisible : ℕ → Bool
+is_invisible c = is_unseen (general_category c) && not (c == 0x20)
+
+-- a scalar as it is shown: a tab as a blank, another control character as U+FFFD, an invisible one by its number as `\u{h}`, or itself
+unfoldable pub shown_scalar : ℕ → List ℕ
+shown_scalar c =
+    if c == 9 then codes " "
+    else (if is_control c then encode_utf8 0xFFFD
+    else (if is_invisible c then codes "\\u{" ++ (digits 16 false c ++ codes "}")
+    else encode_utf8 c))
 
 -- the text of these scalars as they are shown
 abbrev pub shown_text : List ℕ → List ℕ
-shown_text scalars = encode_utf8_all (map shown_scalar scalars)
+shown_text scalars = flat_map shown_scalar scalars
 
 -- `…`, which is U+2026, where any scalar is left out
 abbrev pub ellipsis : ℕ → List ℕ
@@ -30,16 +50,10 @@ shown_after rest = shown_text (take 48 (chars rest)) ++ ellipsis (length (chars 
 abbrev pub columns : List ℕ → ℕ
 columns text = str_width false (chars text)
 
--- the marks: below the place, as wide as what is marked, at least one
+-- the marks: below the place, as wide as what is shown of what is marked, at least one
 abbrev pub marks : List ℕ → List ℕ → List ℕ
 marks front marked = replicate (columns (shown_before front)) 32 ++ replicate (max 1 (columns (shown_text (take 48 (chars marked))))) 94
 
 -- the line, and the marks below it
 abbrev pub shown_lines : List ℕ → List ℕ → List ℕ → List ℕ
 shown_lines front rest marked = codes "  | " ++ (shown_before front ++ (shown_after rest ++ (codes "\n  | " ++ (marks front marked ++ codes "\n"))))
-
--- what is marked of the line from the place on: `count` of its bytes, fewer where a scalar would be broken, and no more than it has
-abbrev pub IsMarked : List ℕ → ℕ → List ℕ → Type 0
-IsMarked rest count marked =
-    (length rest ≤ count) × (marked ≡ rest)
-    ⊎ ((n : ℕ) × (n ≤ count) × (IsCharBoundary rest count → n ≡ count) × (marked ≡ take n rest))

@@ -1,11 +1,15 @@
 //! A refusal of a text, as a person is shown it.
-ghost use Rattle.std.specs.Prelude.{◌≡◌, ◌-◌, ◌++◌, max, take, drop, replicate, chars, IfOk, string_bytes};
+ghost use Rattle.std.specs.Prelude.{◌≡◌, ◌-◌, ◌++◌, max, take, drop, replicate, chars, codes, false, IfOk, string_bytes};
+ghost use Rattle.std.specs.Fmt.{digits};
 ghost use Rattle.wave_lex.specs.Errors.{error_text};
-ghost use Rattle.wave_explain.specs.Places.{heading, IsExplained};
-ghost use Rattle.wave_explain.specs.Shown.{shown_scalar, shown_text, shown_before, shown_after, ellipsis, columns, shown_lines, IsMarked};
+ghost use Rattle.wave_explain.specs.Places.{heading, IsMarked, IsExplained};
+ghost use Rattle.wave_explain.specs.Shown.{is_invisible, shown_scalar, shown_text, shown_before, shown_after};
+ghost use Rattle.wave_explain.specs.Shown.{ellipsis, columns, shown_lines};
 
 use crate::place::{Place, place_of, scalars};
 use std::alloc::{AllocError, Global};
+use std::fmt::Write;
+use ucd_category::GeneralCategory;
 use unicode_width::UnicodeWidthStr;
 use wave_lex::error::ParserError;
 use wave_lex::lex::Span;
@@ -23,8 +27,10 @@ const SHOWN: usize = 48;
 ///   |     ^^^
 /// ```
 ///
-/// A long line is truncated around the place. A tab is shown as one blank, another control character as
-/// U+FFFD, and the mark is as wide as what it stands below. The only error is out of memory.
+/// The mark ends where the span or the line does, and is as wide as what it stands below. A long line is
+/// truncated around the place, and its line end isn't shown. A tab is shown as one blank, another control
+/// character as U+FFFD, and an invisible scalar, as a bidirectional control or a blank that isn't the
+/// space, by its number, as `\u{200b}`. The only error is out of memory.
 pub fn explain(alloc: Global, error: &ParserError, source: &str) -> Result<String, AllocError>
     ensures { IfOk result (λ text. IsExplained source.now (error_text error.now) error.now.span (string_bytes text)) }
 {
@@ -43,7 +49,7 @@ pub fn explain_at(
 {
     let place = place_of(source, span.start);
     let mut text = heading(alloc, message, &place)?;
-    let marked = marked_of(place.rest, span.end.saturating_sub(span.start));
+    let marked = marked_of(place.rest, span.end.saturating_sub(place.at));
     let lines = shown_lines(alloc, place.front, place.rest, marked)?;
     text.push_str(lines.as_str())?;
     Ok(text)
@@ -59,13 +65,10 @@ fn heading(alloc: Global, message: &str, place: &Place<'_>) -> Result<String, Al
     )
 }
 
-/// What is marked of the line from the place on: `count` of its bytes.
+/// What is marked of the line from the place on: the scalars that end within its first `count` bytes.
 fn marked_of(rest: &str, count: usize) -> &str
     ensures { IsMarked rest.now count result.now }
 {
-    if count >= rest.len() {
-        return rest;
-    }
     rest.split_at(rest.floor_char_boundary(count)).0
 }
 
@@ -136,20 +139,43 @@ fn push_shown(to: &mut String, text: &str, skipped: usize, most: usize) -> Resul
             left_out -= 1;
         } else if room > 0 {
             room -= 1;
-            to.push(shown(scalar))?;
+            push_scalar(to, scalar)?;
         }
     }
     Ok(())
 }
 
-/// The scalar, as it is shown: a tab as a blank, another control character as U+FFFD.
-fn shown(scalar: char) -> char
-    ensures { result ≡ shown_scalar scalar }
+/// Adds the scalar, as it is shown.
+fn push_scalar(to: &mut String, scalar: char) -> Result<(), AllocError>
+    ensures { IfOk result (λ _. string_bytes to.new ≡ string_bytes to.old ++ shown_scalar scalar) }
 {
     match scalar {
-        '\t' => ' ',
-        scalar if scalar.is_control() => '\u{fffd}',
-        scalar => scalar,
+        '\t' => to.push(' '),
+        scalar if scalar.is_control() => to.push('\u{fffd}'),
+        scalar if is_invisible(scalar) => push_number(to, scalar),
+        scalar => to.push(scalar),
+    }
+}
+
+/// Adds the number of the scalar, as `\u{h}`.
+fn push_number(to: &mut String, scalar: char) -> Result<(), AllocError>
+    ensures { IfOk result (λ _. string_bytes to.new
+        ≡ string_bytes to.old ++ (codes "\\u{" ++ (digits 16 false scalar ++ codes "}"))) }
+{
+    match write!(to, "\\u{{{:x}}}", u32::from(scalar)) {
+        Ok(()) => Ok(()),
+        Err(_) => Err(AllocError),
+    }
+}
+
+/// Whether the scalar can't be seen.
+fn is_invisible(scalar: char) -> bool
+    ensures { result ≡ is_invisible scalar }
+{
+    use GeneralCategory::*;
+    match GeneralCategory::for_char(scalar) {
+        Format | LineSeparator | ParagraphSeparator | SpaceSeparator => scalar != ' ',
+        _ => false,
     }
 }
 

@@ -1,9 +1,9 @@
-use Rattle.std.proofs.Common.{ℕ, ◌≡◌, ◌≤◌, ◌++◌, List, [], ◌∷◌, length, take, drop, chars, string_bytes, encode_utf8, arith, sym, ap, ◌∙◌}
+use Rattle.std.proofs.Common.{◌≤◌, ◌++◌, [], ◌∷◌, length, take, drop, string_bytes, arith, sym, ap, ◌∙◌}
 use Rattle.std.proofs.lemmas.Iterator.{YieldsList-from_chars}
 use Rattle.std.proofs.lemmas.Iterator.Consumers.{YieldsList-end}
-use Rattle.std.proofs.lemmas.List.{map-id, length-append}
+use Rattle.std.proofs.lemmas.List.{map-id, length-append, flat_map_more}
 use Rattle.wave_explain.specs.Shown.{shown_scalar, shown_text}
-use Rattle.wave_explain.proofs.Shown.{left_out, taken, past, one_more}
+use Rattle.wave_explain.proofs.Shown.{taken}
 use Rattle.wave_explain.proofs.explain.push_shown.Goals as goal
 
 pub scalars-preserved-in-Continue-1 : goal.scalars-preserved-in-Continue-1
@@ -13,11 +13,10 @@ scalars-preserved-in-Continue-1 c =
     let xs = c.scalars.yielded in
     let le : c.args.skipped ≤ length xs = omega (arith, inv.3, c.if-left_out-gt0.false) in
     let grown =
-    c.in_ok-push.ensures.bytes
-    ∙ (ap (λ x. string_bytes c.scalars.to ++ encode_utf8 x) c.shown.ensures
-    ∙ (ap (λ x. x ++ encode_utf8 (shown_scalar c.in-Some.scalar)) inv.2
-    ∙ (one_more to (take c.args.most (drop c.args.skipped xs)) c.in-Some.scalar
-    ∙ ap (λ x. to ++ shown_text x) (sym (taken xs c.in-Some.scalar c.args.skipped c.args.most le (omega (arith, inv.4, c.if-room-gt0.true))))))) in (
+    c.in_ok-push_scalar.ensures
+    ∙ (ap (λ x. x ++ shown_scalar c.in-Some.scalar) inv.2
+    ∙ (flat_map_more shown_scalar to (take c.args.most (drop c.args.skipped xs)) c.in-Some.scalar
+    ∙ ap (λ x. to ++ shown_text x) (sym (taken xs c.in-Some.scalar c.args.skipped c.args.most le (omega (arith, inv.4, c.if-room-gt0.true)))))) in (
       tt,
       tt,
       grown,

@@ -1,5 +1,5 @@
 use Rattle.std.proofs.Common.{◌≡◌, ◌-◌, ◌++◌, length, take, drop, chars, ap, ◌∙◌}
-use Rattle.wave_explain.specs.Shown.{shown_before, shown_text, ellipsis}
+use Rattle.wave_explain.specs.Shown.{shown_text, ellipsis}
 use Rattle.wave_explain.proofs.Shown.{last_ones}
 use Rattle.wave_explain.proofs.explain.shown_before.Goals as goal
 
