@@ -1,5 +1,6 @@
 -- What a refusal and a fault of the input say of the line that is due.
-use Rattle.std.proofs.Common.{ℕ, ◌≡◌, ◌≢◌, List, Option, Some, MatchOption, [], refl, inl, inr, sym, subst, rules, arith}
+use Rattle.std.proofs.Common.{ℕ, ◌≡◌, ◌≢◌, List, Option, Some, MatchOption, Result, [], refl, inl, inr, sym, subst, rules, arith}
+use Rattle.std.specs.declared.alloc.AllocError.{AllocError}
 use Rattle.wave_lex.specs.Errors.{Diagnostic, error_text}
 use Rattle.wave_lex.specs.declared.error.ParserErrorKind.TheVariants as kind
 use Rattle.wave_tree.specs.ParserState.{IsLimit}
@@ -54,6 +55,10 @@ module _ {R : Type 0} {W : Type 0} (contents : W → Option (List ℕ)) where
       (3, line (words_of_fault OutOfMemory), inr (inr (inr (request, asked, inr (inr (refl, (OutOfMemory, ended.2, refl)))))), prints)
 
 module _ {W : Type 0} (contents : W → Option (List ℕ)) where
+  -- the status of the answer is that of what was printed
+  pub printed_so : (before after : Output W) (said : List ℕ) (status result ended : ℕ) → ended ≡ result → Prints contents before after said status result → Prints contents before after said status ended
+  printed_so before after said status result ended is prints = subst (Prints contents before after said status) (sym is) prints
+
   -- at status 1 the refusal's line was written
   told_at_1 : (before after : Output W) (e : Diagnostic) (result : ℕ) → TellsRefusal contents before after e result → result ≡ 1 → (e.kind ≢ kind.OutOfMemory) × WritesWhole contents before after (line (error_text e))
   told_at_1 before after e result (inl (other, inl (is, writes))) one = (other, writes)
@@ -62,9 +67,9 @@ module _ {W : Type 0} (contents : W → Option (List ℕ)) where
   told_at_1 before after e result (inr (inr (three, cut))) one = absurd (omega (arith, three, one))
 
   -- the refusal that was printed is shown
-  pub shown : {E : Type 0} (held : E → Option (List ℕ)) (words : List (List ℕ)) (request : Request) (left : Option (List ℕ)) (whole : List ℕ) (before after : Output W) (old new : Output E) (e : Diagnostic) (result : ℕ)
-      → AreWordsOf request words → IsInput left whole → Refuses request whole e → TellsRefusal contents before after e result → (result ≡ 1 → ShowsRefusal held old new whole e)
-      → result ≡ 1 → IsShown words left contents before after held old new
-  shown held words request left whole before after old new e result asked input refuses tells shows one =
+  pub shown : {E : Type 0} (held : E → Option (List ℕ)) (words : List (List ℕ)) (request : Request) (left : Option (List ℕ)) (whole : List ℕ) (before after : Output W) (old new : Output E) (e : Diagnostic) (result : ℕ) (answered : Result (Unit {0}) AllocError)
+      → AreWordsOf request words → IsInput left whole → Refuses request whole e → TellsRefusal contents before after e result → (result ≡ 1 → ShowsRefusal held old new whole e answered)
+      → result ≡ 1 → IsShown words left contents before after held old new answered
+  shown held words request left whole before after old new e result answered asked input refuses tells shows one =
       let line_is = told_at_1 before after e result tells one in
       (request, whole, e, asked, input, refuses line_is.0, line_is.1, shows one)

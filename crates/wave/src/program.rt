@@ -26,47 +26,69 @@ const CHUNK: usize = 65_536;
 
 const USAGE: &str = "usage: wave value [N] | wave call | wave read NAME [N]\n";
 
+/// How a run ended.
+#[derive(Clone, Copy, Debug)]
+pub struct Ended {
+    /// The status to end with.
+    pub status: u8,
+    /// Out of memory, where there was none to show a refusal to a person.
+    pub shown: Result<(), AllocError>,
+}
+
+impl Ended {
+    /// With the status, where no refusal is due to be shown.
+    fn at(status: u8) -> Ended
+        ensures status { result.status ≡ status }
+        ensures shown { result.shown ≡ Ok tt }
+    {
+        Ended {
+            status,
+            shown: Ok(()),
+        }
+    }
+}
+
 /// Answers the arguments on the input, and gives the status to end with: 0 where the request has an
 /// answer, or the arguments ask for the help or the version, for which nothing is read; 1 where it
 /// has none, 2 where the arguments make no request, and 3 where the input or the output failed, the
 /// input is no text, or memory ran out, also for the type that the arguments name, before anything is
 /// read. An input whose reader had reported its end before the call counts as one that failed. Where a
 /// refusal was printed, it is shown to a person too: what explains it is written to `errors`, unless
-/// there is no memory for that.
+/// there is no memory for that, which is answered.
 pub fn run<R: Read, W: Write, E: Write>(
     alloc: Global,
     words: &[String],
     input: &mut Input<R>,
     output: &mut Output<W>,
     errors: &mut Output<E>,
-) -> u8
+) -> Ended
     // One line was due, and the status with it; it was written, or a write failed.
     ensures printed { (status : ℕ) × (said : List ℕ)
         × IsDue (map string_bytes words.now) (R.remaining input.old.reader)
         input.old input.new status said
-        × Prints W.contents output.old output.new said status result }
-    // A refusal is shown where it was printed, and nothing else is.
-    ensures shown { result ≡ 1 → IsShown (map string_bytes words.now) (R.remaining input.old.reader)
-        W.contents output.old output.new E.contents errors.old errors.new }
-    ensures quiet { result ≢ 1 → errors.new ≡ errors.old }
+        × Prints W.contents output.old output.new said status result.status }
+    // A refusal is shown where it was printed, or there was no memory for it, and nothing else is.
+    ensures shown { result.status ≡ 1 → IsShown (map string_bytes words.now) (R.remaining input.old.reader)
+        W.contents output.old output.new E.contents errors.old errors.new result.shown }
+    ensures quiet { result.status ≢ 1 → (errors.new ≡ errors.old) × (result.shown ≡ Ok tt) }
     // The arguments are tested before anything is read.
     ensures tested_first { AreUnknown (map string_bytes words.now) → input.new ≡ input.old }
     ensures counted { input.new.reads_left ≤ input.old.reads_left }
 {
     if let Some(notice) = notice_of(words) {
-        return print(output, notice, 0);
+        return Ended::at(print(output, notice, 0));
     }
     let request = match request_of(alloc, words) {
         Ok(Some(request)) => request,
-        Ok(None) => return print(output, USAGE, 2),
-        Err(_) => return report(output, Fault::OutOfMemory),
+        Ok(None) => return Ended::at(print(output, USAGE, 2)),
+        Err(_) => return Ended::at(report(output, Fault::OutOfMemory)),
     };
     match respond(alloc, request, input) {
-        Ok(Outcome::Answered(line)) => print(output, line.as_str(), 0),
+        Ok(Outcome::Answered(line)) => Ended::at(print(output, line.as_str(), 0)),
         Ok(Outcome::Refused(refusal, text)) => {
             refuse(alloc, output, errors, &refusal, text.as_str())
         }
-        Err(fault) => report(output, fault),
+        Err(fault) => Ended::at(report(output, fault)),
     }
 }
 
@@ -77,25 +99,34 @@ fn refuse<W: Write, E: Write>(
     errors: &mut Output<E>,
     refusal: &ParserError,
     text: &str,
-) -> u8
-    ensures told { TellsRefusal W.contents output.old output.new refusal.now result }
-    ensures shown { result ≡ 1 → ShowsRefusal E.contents errors.old errors.new text.now refusal.now }
-    ensures quiet { result ≢ 1 → errors.new ≡ errors.old }
+) -> Ended
+    ensures told { TellsRefusal W.contents output.old output.new refusal.now result.status }
+    ensures shown { result.status ≡ 1 →
+        ShowsRefusal E.contents errors.old errors.new text.now refusal.now result.shown }
+    ensures quiet { result.status ≢ 1 → (errors.new ≡ errors.old) × (result.shown ≡ Ok tt) }
 {
     let status = tell(alloc, output, refusal);
-    if status == 1 {
-        show(alloc, errors, refusal, text);
+    if status != 1 {
+        return Ended::at(status);
     }
-    status
+    Ended {
+        status,
+        shown: show(alloc, errors, refusal, text),
+    }
 }
 
-/// Writes what explains the refusal of the text, or nothing where there is no memory for it.
-fn show<E: Write>(alloc: Global, errors: &mut Output<E>, refusal: &ParserError, text: &str)
-    ensures { ShowsRefusal E.contents errors.old errors.new text.now refusal.now }
+/// Writes what explains the refusal of the text; out of memory for that, and nothing is written.
+fn show<E: Write>(
+    alloc: Global,
+    errors: &mut Output<E>,
+    refusal: &ParserError,
+    text: &str,
+) -> Result<(), AllocError>
+    ensures { ShowsRefusal E.contents errors.old errors.new text.now refusal.now result }
 {
-    if let Ok(explained) = explain(alloc, refusal, text) {
-        write_whole(errors, explained.as_bytes());
-    }
+    let explained = explain(alloc, refusal, text)?;
+    write_whole(errors, explained.as_bytes());
+    Ok(())
 }
 
 /// Says why there is no answer: the refusal's text at status 1, out of memory at status 3.

@@ -7,10 +7,9 @@ written : {A B : Type 0} (b : Bool) → (b ≡ true → A) → (b ≡ false → 
 written true whole less = inl (whole refl)
 written false whole less = inr (less refl)
 
-pub returns-in-Ok : goal.returns-in-Ok
-returns-in-Ok g c =
-    inr (
-      c.as_bytes.result.now,
-      subst (λ t. IsExplained c.args.text.now (error_text c.args.refusal.now) c.args.refusal.now.span t) (sym c.as_bytes.ensures.value) c.in-Ok.ensures,
-      written c.write_whole.result c.write_whole.ensures.whole c.write_whole.ensures.cut,
-    )
+pub returns : goal.returns
+returns g c = (
+  c.as_bytes.result.now,
+  subst (λ t. IsExplained c.args.text.now (error_text c.args.refusal.now) c.args.refusal.now.span t) (sym c.as_bytes.ensures.value) c.in_ok-explained.ensures,
+  written c.write_whole.result c.write_whole.ensures.whole c.write_whole.ensures.cut,
+)
