@@ -6,6 +6,7 @@ ghost use Rattle.wave_grammar.specs.UnambiguityLaws.{OneReading};
 ghost use Rattle.wave_grammar.specs.RoundTripLaws.{ReadsBack, EqualTexts, ReadsMerged, ReadsBackWithinTwice};
 ghost use Rattle.wasm_wave.specs.MainTheorem.{OneValue};
 
+pub use wave_explain::laws::one_explanation;
 pub use wave_lex::laws::{
     faults_refuse, labels_are_words, lines_join, no_longer_label, one_cut, one_line_joins,
     one_meaning, parts_join, through_first_quotes, tokens_cut,

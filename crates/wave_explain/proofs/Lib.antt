@@ -1,2 +1,3 @@
 mod Lines
 mod Shown
+mod OneExplanation

@@ -2,4 +2,5 @@
 #![tactic(auto)]
 
 pub mod explain;
+pub mod laws;
 pub mod place;
