@@ -1,3 +1,4 @@
 mod Lines
 mod Shown
 mod OneExplanation
+mod Examples
