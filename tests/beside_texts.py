@@ -56,7 +56,7 @@ def type_of(chance, depth):
     if kind == "variant":
         return kind, [(name, part() if chance.random() < 0.6 else None) for name in named(chance, 4)]
     if kind == "map":
-        return kind, chance.choice(SIMPLE), part()
+        return kind, chance.choice(["bool", "bool", *SIMPLE]), part()
     return type_of(chance, 1)
 
 
@@ -216,7 +216,7 @@ class Speller:
         kept = [it for it in fields if not (self.wrong() or it[1][0] == "option" and self.chance.random() < 0.4)]
         if self.wrong():
             kept.append((self.chance.choice(NAMES + ["zz"]), type_of(self.chance, 1)))
-        if self.wrong() and kept:
+        if kept and (self.wrong() or self.rate > 0 and len(fields) > 8 and self.chance.random() < 0.3):
             kept.append(self.chance.choice(kept))
         self.chance.shuffle(kept)
         entries = [[self.key(name), ":", *self.value(it)] for name, it in kept]
@@ -251,13 +251,14 @@ class Speller:
     def of_option(self, part):
         if self.wrong():
             other = type_of(self.chance, 1)
-            return self.chance.choice([["some", *self.payload(other)], ["none", "(", "1", ")"], ["some"], self.value(part), ["%none"]])
+            flat = self.value(part)
+            return self.chance.choice([["some", *self.payload(other)], ["none", "(", "1", ")"], ["some"], flat, flat, ["%none"]])
         if self.chance.random() < 0.25:
             return ["none"]
         return self.value(part) if self.is_flat(part) else ["some", *self.payload(part)]
 
     def of_result(self, ok, err):
-        if self.is_flat(ok):
+        if self.is_flat(ok) or ok is not None and self.wrong():
             return self.value(ok)
         word, part = self.chance.choice([("ok", ok), ("err", err)])
         if self.wrong():
@@ -278,7 +279,7 @@ class Speller:
 
     def map_key(self, key):
         if self.wrong():
-            return self.chance.choice(["a", "%true", "true", "inf", "1", "-1", '"a"', "'a'", "'\\u{d800}'", '"""\na"""'])
+            return self.chance.choice(["%true", "true", "inf"] if key == "bool" else ["a", "true", "nan", "1", "-1", '"a"', "'a'", "'\\u{d800}'", '"""\na"""'])
         return self.value(key)[0]
 
 
