@@ -16,6 +16,8 @@ mod RecordSteps
 mod RecordWholes
 mod ResultReading
 pub mod ListItems
+pub mod Surrounding
+pub mod TupleCounts
 pub mod TupleItems
 mod PartsBegun
 mod PartsKept

@@ -23,3 +23,8 @@ GivesFlatAt T ty None = (U : TypeTree) → IsFlatAt T ty U → ⊥
 abbrev pub IsAround : {S : Type 0} → (S → TypeTree) → TypeTree → NodeType → Option (Bor S) → Bor S → Type 0
 IsAround type_tree T ty None x = (type_tree x.now ≡ T) × ((U : TypeTree) → IsFlatAt T ty U → ⊥)
 IsAround type_tree T ty (Some whole) x = (type_tree whole.now ≡ T) × IsFlatAt T ty (type_tree x.now)
+
+-- so for the type that is due, where one is
+abbrev pub IsAroundWhereDue : {S : Type 0} → (S → TypeTree) → Option TypeTree → NodeType → Option (Bor S) → Bor S → Type 0
+IsAroundWhereDue type_tree None ty around x = ⊥
+IsAroundWhereDue type_tree (Some T) ty around x = IsAround type_tree T ty around x

@@ -46,7 +46,7 @@ pub(crate) fn caused(alloc: Global, cause: WasmValueError) -> Fault
 }
 
 /// The value that was made, or its constructor's refusal as an error that stands there.
-pub(crate) fn or_error_at<V>(span: Span, made: Result<V, WasmValueError>) -> Result<V, ParserError>
+pub fn or_error_at<V>(span: Span, made: Result<V, WasmValueError>) -> Result<V, ParserError>
     ensures { IsMadeAt span made result }
 {
     match made {

@@ -1,9 +1,11 @@
 //! Values without parts: of one token, or flags.
-ghost use Rattle.wave_wasm.specs.Types.{TypeTree};
+ghost use Rattle.std.specs.Prelude.{ℕ, List, ◌≡◌, ◌≢◌};
+ghost use Rattle.wave_wasm.specs.Types.{TypeTree, kind_of};
+ghost use Rattle.wave_syntax.specs.NodeTree.{NodeTree, type_of, place_of};
 ghost use Rattle.wave_syntax.specs.declared.form.NodeType.TheVariants as node_type;
 ghost use Rattle.wave_decode.specs.Flat.{IsFlatAt};
 ghost use Rattle.wave_decode.specs.NamedFlags.{IsReadOfFlags};
-ghost use Rattle.wave_leaf.specs.Reading.{IsReadOfLeaf};
+ghost use Rattle.wave_leaf.specs.Reading.{IsReadAs, IsReadOfLeaf};
 
 use crate::enums::read_enum;
 use crate::flags::read_flags;
@@ -111,9 +113,26 @@ fn flags_directly<V: WasmValue>(
     requires { (U : TypeTree) → IsFlatAt (V.Type.tree ty.now) node_type.Flags U → ⊥ }
     ensures { IsReadOfFlags V.tree V.is_of V.is_full (V.Type.tree ty.now) span flags.entry result }
 {
+    if ty.kind() == WasmTypeKind::Flags {
+        return read_flags(alloc, ty, span, flags);
+    }
+    refuse_flags(alloc, ty, span)
+}
+
+/// What is read of flags that stand here at a type of another kind, which is none of a flat payload.
+pub(crate) fn refuse_flags<V: WasmValue>(
+    alloc: Global,
+    ty: &V::Type,
+    span: Span,
+) -> Result<V, ParserError>
+    requires kind { kind_of (V.Type.tree ty.now) ≢ WasmTypeKind.Flags }
+    requires flat { (U : TypeTree) → IsFlatAt (V.Type.tree ty.now) node_type.Flags U → ⊥ }
+    ensures { (source : List ℕ) (n : NodeTree) → type_of n ≡ node_type.Flags → place_of n ≡ span
+        → IsReadAs V.tree V.is_of V.is_full (V.Type.tree ty.now) source n result }
+{
     match ty.kind() {
-        WasmTypeKind::Flags => read_flags(alloc, ty, span, flags),
-        WasmTypeKind::List
+        WasmTypeKind::Flags
+        | WasmTypeKind::List
         | WasmTypeKind::FixedLengthList
         | WasmTypeKind::Tuple
         | WasmTypeKind::Record

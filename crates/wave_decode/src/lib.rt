@@ -2,7 +2,7 @@
 #![tactic(auto)]
 
 mod enums;
-mod fault;
+pub mod fault;
 mod flags;
 mod flat;
 mod leaves;
@@ -10,7 +10,7 @@ mod lists;
 mod maps;
 mod options;
 mod parts;
-mod records;
+pub mod records;
 mod results;
 mod tuples;
 pub mod values;

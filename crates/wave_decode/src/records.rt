@@ -277,7 +277,7 @@ fn out_of_memory(span: &Span) -> ParserError
 /// `none`, for a field that is left out of a record that stands here, where its type is an option.
 #[cold]
 #[inline(never)]
-fn left_out<V: WasmValue>(
+pub fn left_out<V: WasmValue>(
     alloc: Global,
     name: &str,
     ty: &V::Type,

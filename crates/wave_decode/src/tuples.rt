@@ -1,6 +1,8 @@
 //! Tuples, read at their types.
-ghost use Rattle.std.specs.Prelude.{ℕ, List, [], ◌≡◌, Ok, Err, None, IfOk};
+ghost use Rattle.std.specs.Prelude.{ℕ, List, [], ◌≡◌, ◌≢◌, Ok, Err, None, length, IfOk, IfSome};
 ghost use Rattle.wave_wasm.specs.Types.{kind_of};
+ghost use Rattle.wave_wasm.specs.ValueErrors.{wrong_number};
+ghost use Rattle.wave_lex.specs.Errors.{caused, refusal_of};
 ghost use Rattle.wave_decode.specs.TupleParts.{IsRow, item_due};
 ghost use Rattle.wave_decode.specs.PartSteps.{AddsPart, IsWholeOf};
 
@@ -81,6 +83,21 @@ impl<'ty, V: WasmValue> Row<'ty, V::Type, V> {
             return Ok(None);
         }
         Ok(Some(Fault::Told(failure)))
+    }
+
+    /// The refusal of a tuple that stands here and has this many items, where the type has another
+    /// number of them.
+    pub(crate) fn miscounted(&self, alloc: Global, span: Span, count: usize) -> Option<Failure>
+        ensures count { IfSome result (λ _. count ≢ length self.now.types.items) }
+        ensures refusal { IfSome result (λ failure. refusal_of failure ≡ caused (wrong_number (length self.now.types.items) count)) }
+        ensures span { IfSome result (λ failure. failure.span ≡ span) }
+    {
+        let want = self.types.len();
+        if count == want {
+            return None;
+        }
+        let cause = WasmValueError::WrongNumberOfTupleValues { want, got: count };
+        Some(Failure::new(alloc, ParserError::with_cause(span, cause)))
     }
 
     /// The tuple of these items, which stands here.

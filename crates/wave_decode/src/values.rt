@@ -1,21 +1,29 @@
 //! The builder that reads values of a type.
-ghost use Rattle.std.specs.Prelude.{ℕ, ◌≡◌, List, [], Some};
+ghost use Rattle.std.specs.Prelude.{ℕ, ◌≡◌, List, [], length, Option, Some, Err, IfSome};
+ghost use Rattle.wave_wasm.specs.Types.{TypeTree, kind_of};
+ghost use Rattle.wave_wasm.specs.Borrowed.{shown};
 ghost use Rattle.wave_syntax.specs.NodeParts.{IsOfParts};
+ghost use Rattle.wave_syntax.specs.NodeTree.{NodeTree, node, node_trees, type_of, place_of};
+ghost use Rattle.wave_syntax.specs.declared.form.NodeType.{NodeType};
+ghost use Rattle.wave_syntax.specs.declared.form.NodeType.TheVariants as node_type;
+ghost use Rattle.wave_leaf.specs.PlainReading.{IsReadSparing};
+ghost use Rattle.wave_leaf.specs.Reading.{IsReadAs};
+ghost use Rattle.wave_decode.specs.Flat.{IsAround, IsAroundWhereDue};
 ghost use Rattle.wave_decode.specs.KeptParts.{AreKeptWhereDue};
 
 use crate::fault::Fault;
 use crate::flat::{around, type_of_parts};
-use crate::leaves::{flags_at, read_leaf};
+use crate::leaves::{flags_at, read_leaf, refuse_flags};
 use crate::parts::Parts;
 use std::alloc::{AllocError, Global};
 use std::collections::BTreeMap;
 use wave_leaf::failure::{Failure, kept};
 use wave_leaf::leaf::Leaf;
-use wave_lex::error::ParserErrorKind;
+use wave_lex::error::{ParserError, ParserErrorKind};
 use wave_lex::lex::Span;
 use wave_syntax::builder::Builder;
 use wave_syntax::form::NodeType;
-use wave_wasm::wasm::WasmValue;
+use wave_wasm::wasm::{WasmType, WasmTypeKind, WasmValue};
 
 /// The builder that reads a value of the type that is due. Where none is due nothing is kept, and the
 /// answer is worth nothing.
@@ -30,6 +38,57 @@ impl<'ty, V: WasmValue> Values<'ty, V> {
         ensures { result.due ≡ Some ty.entry }
     {
         Values { due: Some(ty) }
+    }
+
+    /// The type of the record that is due at a node of entries, after the option or result that is
+    /// around it.
+    pub fn record(self, node: NodeType) -> Option<(Option<&'ty V::Type>, &'ty V::Type)>
+        ensures node { IfSome result (λ _. node ≡ node_type.TupleSet) }
+        ensures around { IfSome result (λ found. IsAroundWhereDue V.Type.tree (shown V.Type.tree self.entry.due) node_type.TupleSet found.0 found.1) }
+        ensures kind { IfSome result (λ found. kind_of (V.Type.tree found.1.now) ≡ WasmTypeKind.Record) }
+    {
+        if node != NodeType::TupleSet {
+            return None;
+        }
+        let (around, ty) = type_of_parts(self.due?, NodeType::TupleSet);
+        match ty.kind() {
+            WasmTypeKind::Record => Some((around, ty)),
+            _ => None,
+        }
+    }
+
+    /// What is read of a node of flags that stands here, where no flags are due.
+    pub fn no_flags(self, alloc: Global, span: Span) -> Option<Result<V, Failure>>
+        ensures { IfSome result (λ made. (source : List ℕ) (n : NodeTree) → type_of n ≡ node_type.Flags → place_of n ≡ span
+            → IsReadSparing V.tree V.is_of V.is_full (shown V.Type.tree self.entry.due) source n made) }
+    {
+        let due = match self.due {
+            Some(due) => due,
+            None => return Some(Err(Failure::plain(ParserErrorKind::InvalidType, span))),
+        };
+        let (around, ty) = type_of_parts(due, NodeType::Flags);
+        if ty.kind() == WasmTypeKind::Flags {
+            return None;
+        }
+        let made = refuse_flags::<V>(alloc, ty, span.start..span.end);
+        Some(surrounded(alloc, around, ty, span, made))
+    }
+}
+
+/// What was read of a node that stands there, with the option or the result that is around it.
+pub fn surrounded<V: WasmValue>(
+    alloc: Global,
+    whole: Option<&V::Type>,
+    ty: &V::Type,
+    span: Span,
+    made: Result<V, ParserError>,
+) -> Result<V, Failure>
+    ensures { (T : TypeTree) (source : List ℕ) (n : NodeTree) → IsAround V.Type.tree T (type_of n) whole.entry ty.entry → place_of n ≡ span
+        → IsReadAs V.tree V.is_of V.is_full (V.Type.tree ty.now) source n made → IsReadAs V.tree V.is_of V.is_full T source n result }
+{
+    match whole {
+        Some(whole) => kept(alloc, around(alloc, whole, span, made)),
+        None => kept(alloc, made),
     }
 }
 
@@ -51,6 +110,19 @@ impl<'ty, V: WasmValue> Kept<'ty, V::Type, V> {
         Kept {
             around,
             parts: Parts::new(alloc, due, of),
+        }
+    }
+
+    /// The refusal of a tuple that stands here and has this many items, where its type has another
+    /// number of them.
+    pub fn miscounted(&self, alloc: Global, span: Span, count: usize) -> Option<Failure>
+        ensures { IfSome result (λ failure. (due : Option TypeTree) (source : List ℕ) (ty : NodeType) (children : List NodeTree) → length children ≡ count
+            → AreKeptWhereDue V.Type.tree V.tree V.is_of V.is_full due source ty [] self.now
+            → IsReadSparing V.tree V.is_of V.is_full due source (node ty span (node_trees children)) (Err failure)) }
+    {
+        match &self.parts {
+            Parts::Row(row) => row.miscounted(alloc, span, count),
+            _ => None,
         }
     }
 }

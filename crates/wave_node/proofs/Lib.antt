@@ -1,3 +1,4 @@
 pub mod Children
 pub mod FlagPlaces
 pub mod ReadNodes
+pub mod RecordNodes

@@ -1,5 +1,6 @@
 -- What the builder of a type makes of a node, and what a keyword is at a type.
-use Rattle.std.proofs.Common.{◌≡◌, ◌≢◌, ◌⊎◌, inl, inr, ℕ, List, [], ◌∷◌, Bool, true, false, Option, Some, Bor, Result, Ok, Err, refl, sym, subst}
+use Rattle.std.proofs.Common.{◌≡◌, ◌≢◌, ◌⊎◌, inl, inr, ℕ, List, [], ◌∷◌, Bool, true, false, Option, Some, None, Bor, Result, Ok, Err, refl, sym, subst, ◌∙◌}
+use Rattle.std.specs.declared.ops.Range.{Range}
 use Rattle.wave_wasm.specs.Types.{TypeTree, kind_of}
 use Rattle.wave_wasm.specs.Borrowed.{shown}
 use Rattle.wave_wasm.specs.Values.{Value}
@@ -9,7 +10,12 @@ use Rattle.wave_wasm.specs.declared.wasm.WasmTypeKind.{WasmTypeKind}
 use Rattle.wave_wasm.specs.declared.wasm.WasmTypeKind.TheVariants as kinds
 use Rattle.wave_lex.specs.Errors.{Diagnostic}
 use Rattle.wave_lex.specs.declared.error.ParserErrorKind.TheVariants.{InvalidType}
-use Rattle.wave_syntax.specs.NodeTree.{NodeTree}
+use Rattle.std.specs.Prelude.{IfErr}
+use Rattle.wave_syntax.specs.Shared.ErrorSpans.{RefusesIn, RefusesAt, RefusesInPart}
+use Rattle.wave_syntax.specs.NodeTree.{NodeTree, type_of, place_of}
+use Rattle.wave_syntax.specs.declared.form.NodeType.{NodeType}
+use Rattle.wave_syntax.specs.declared.form.NodeType.TheVariants as kind
+use Rattle.wave_decode.specs.Flat.{IsAround, IsAroundWhereDue}
 use Rattle.wave_syntax.specs.NodeAccessors.{RefusedAs}
 use Rattle.wave_syntax.specs.Shared.TypedReading.{IsCaused}
 use Rattle.wave_leaf.specs.Reading.{IsReadAs, IsReadWhereDue}
@@ -29,6 +35,26 @@ module _ {V S : Type 0} (tree : V → Value) (of : V → TypeTree → Type 0) (F
   pub due_told : (source : List ℕ) (n : NodeTree) (due : Option (Bor S)) (ty : Bor S) (r : Result V Diagnostic) (e f : Diagnostic) → due ≡ Some ty → IsReadWhereDue tree of Full (shown type_tree due) source n r → r ≡ Err e → f ≡ e → IsReadAs tree of Full (type_tree ty.now) source n (Err f)
   due_told source n due ty r e f same h is told =
       subst (λ (d : Diagnostic). IsReadAs tree of Full (type_tree ty.now) source n (Err d)) (sym told) (subst (IsReadAs tree of Full (type_tree ty.now) source n) is (due_read source n due ty r same h))
+
+  -- that of a record, where one is due at entries
+  pub record_read : (source : List ℕ) (n : NodeTree) (due : Option TypeTree) (around : Option (Bor S)) (x : Bor S) (r : Result V Diagnostic) → type_of n ≡ kind.TupleSet → IsAroundWhereDue type_tree due kind.TupleSet around x → ((T : TypeTree) → IsAround type_tree T (type_of n) around x → IsReadAs tree of Full T source n r) → IsReadWhereDue tree of Full due source n r
+  record_read source n None around x r set is read = tt
+  record_read source n (Some T) around x r set is read = read T (subst (λ (ty : NodeType). IsAround type_tree T ty around x) (sym set) is)
+
+-- a refusal of a field's node stands in it
+pub field_told : {V : Type 0} (n : NodeTree) (o : Option NodeTree) (m : NodeTree) (r : Result V Diagnostic) → o ≡ Some m → IfErr r (RefusesIn m) → IfErr r (RefusesInPart n o)
+field_told n o m (Ok v) is h = tt
+field_told n o m (Err e) is h = inr (m, is, h)
+
+-- that of a field without a node stands at the record
+pub left_told : {V : Type 0} (n : NodeTree) (o : Option NodeTree) (r : Result V Diagnostic) → (p : Range ℕ) → place_of n ≡ p → IfErr r (λ e. (m : NodeTree) → place_of m ≡ p → RefusesAt m e) → IfErr r (RefusesInPart n o)
+left_told n o (Ok v) p here h = tt
+left_told n o (Err e) p here h = inl (h n here)
+
+-- entries are no tuple and no list
+pub set_no_row : (ty : NodeType) → ty ≡ kind.TupleSet → (ty ≡ kind.Tuple) ⊎ (ty ≡ kind.List) → ⊥
+set_no_row ty set (inl is) = cc (sym set ∙ is)
+set_no_row ty set (inr is) = cc (sym set ∙ is)
 
 -- ---- keywords
 

@@ -2,9 +2,9 @@
 #![tactic(auto)]
 
 pub mod ast;
-mod builders;
 mod flags;
 pub mod nodes;
 pub mod params;
+mod reading;
 mod record;
 pub mod typed;

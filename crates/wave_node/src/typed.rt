@@ -8,14 +8,13 @@ ghost use Rattle.wave_lex.specs.Errors.{LiesInText};
 ghost use Rattle.wave_syntax.specs.NodeTree.{node, no_nodes, type_of, place_of};
 ghost use Rattle.wave_syntax.specs.Nodes.{IsParsedFrom};
 ghost use Rattle.wave_syntax.specs.ErrorSpans.{HasTypeKind, StandsIn};
-ghost use Rattle.wave_syntax.specs.TypedReading.{IsValueOf, IsKeyOf, IsKeywordOf, Answers, AnswersKey, ReadsAtType, ReadsKey};
+ghost use Rattle.wave_syntax.specs.TypedReading.{IsKeyOf, IsKeywordOf, AnswersKey, ReadsAtType, ReadsKey};
 ghost use Rattle.wave_syntax.specs.Shared.ErrorSpans.{RefusesIn};
 ghost use Rattle.wave_leaf.specs.Leaves.{leaf_node, IsLeafIn};
 ghost use Rattle.wave_node.specs.KeywordNodes.{RefusesKeyword};
 
 use crate::ast::{Node, NodeType};
 use std::alloc::Global;
-use wave_decode::values::Values;
 use wave_leaf::leaf::Leaf;
 use wave_lex::error::{ParserError, ParserErrorKind};
 use wave_wasm::keyword::Keyword;
@@ -23,7 +22,9 @@ use wave_wasm::wasm::{WasmType, WasmTypeKind, WasmValue};
 
 impl Node {
     /// The value that the type gives the node, which was parsed from `src`. Where the type gives it
-    /// none the refusal is a fault of the node or of a part of it, at its span. Where a constructor of
+    /// none the refusal is a fault of the node or of a part of it, at its span: of several the first,
+    /// going down the tree (a tuple's count before its items; a record's keys, then its fields in the
+    /// type's order, then fields that the type hasn't). Where a constructor of
     /// `V` refuses, that is the cause, at the node that was read; `Value` refuses so for lack of
     /// memory alone, where the names of the type are distinct. A key is read as a key of a map of
     /// such keys is; one that is a keyword is `InvalidType` at each type but bool that has values.
@@ -116,20 +117,6 @@ impl Node {
             ty: self.ty(),
             span: self.span(),
             text: self.slice(src),
-        }
-    }
-
-    /// The value of the node at the type.
-    fn read<V: WasmValue>(&self, alloc: Global, ty: &V::Type, src: &str) -> Result<V, ParserError>
-        requires { IsValueOf src.now self.now }
-        ensures answer { Answers V.tree V.is_of V.is_full (V.Type.tree ty.now) src.now self.now result }
-        ensures within { IfErr result (RefusesIn self.now) }
-    {
-        let builder: Values<V> = Values::new(ty);
-        match self.make(alloc, builder, src) {
-            Ok(Ok(val)) => Ok(val),
-            Ok(Err(failure)) => Err(failure.into_error()),
-            Err(_) => Err(self.out_of_memory()),
         }
     }
 

@@ -60,3 +60,19 @@ pub fn wrong(alloc: Global, rows: &[(&str, &str, &str)]) -> Result<String, Fail>
     }
     Ok(String::new(alloc))
 }
+
+/// The first text of which another fault is told than the row says, with both answers; nothing where there
+/// is none. Each row is a type, a text, what reading the text tells of it, and what reading its untyped
+/// value tells.
+pub fn wrong_fault(alloc: Global, rows: &[(&str, &str, &str, &str)]) -> Result<String, Fail> {
+    for row in rows {
+        let (ty, text, at_once, late) = *row;
+        let ty = type_of(alloc, ty)?;
+        let one = told(alloc, from_str::<Value>(alloc, &ty, text))?;
+        let other = told(alloc, read_late(alloc, &ty, text))?;
+        if one.as_str() != at_once || other.as_str() != late {
+            return Ok(format!(in alloc; "{text} gives {one} and {other} at {ty}")?);
+        }
+    }
+    Ok(String::new(alloc))
+}

@@ -16,7 +16,7 @@ use Rattle.wave_grammar.specs.TypeErrors.{RefusesFor}
 use Rattle.wave_syntax.specs.NodeTree.{NodeTree, type_of, place_of}
 use Rattle.wave_syntax.specs.NodeAccessors.{node_text, node_pairs}
 use Rattle.wave_syntax.specs.NodeFields.{field_of}
-use Rattle.wave_syntax.specs.TypedReading.{Answers}
+use Rattle.wave_syntax.specs.TypedReading.{Answers, IsValueOf}
 use Rattle.wave_syntax.specs.declared.form.NodeType.TheVariants as kind
 
 -- the name of a key that is a label; or its refusal
@@ -35,6 +35,11 @@ held_at m name = get_by (λ k. slice_cmp nat_cmp name k.now) m
 -- the map holds the value of each field at its name, and no other
 abbrev pub HoldsFields : BTreeMap (Bor (List ℕ)) (Bor NodeTree) → List (List ℕ × NodeTree) → Type 0
 HoldsFields m fields = (name : List ℕ) → option_map (λ n. n.now) (held_at m name) ≡ look_up fields name
+
+-- the node of a field's value, where there is one
+abbrev pub IsFieldNode : List ℕ → Option NodeTree → Type 0
+IsFieldNode source None = Unit {0}
+IsFieldNode source (Some n) = IsValueOf source n
 
 -- `none`, for an option that is left out
 pub record IsLeftOut {V : Type 0} (tree : V → Value) (of : V → TypeTree → Type 0) (T : TypeTree) (v : V) : Type 0 where

@@ -42,10 +42,10 @@ pub returns-clause-keyword : goal.returns-clause-keyword
 returns-clause-keyword g c = λ word other. absurd (c.if-is_keyword.ensures word)
 
 pub returns-clause-kind : goal.returns-clause-kind
-returns-clause-kind g c = all_kinds c.args.self.now c.read.result c.read.ensures.within
+returns-clause-kind g c = all_kinds c.args.self.now c.read.result (c.read.ensures.within (value_node c.args.src.now c.args.self.now c.if-is_keyword.ensures c.requires))
 
 pub returns-clause-within : goal.returns-clause-within
-returns-clause-within g c = all_stand c.args.self.now c.read.result c.read.ensures.within
+returns-clause-within g c = all_stand c.args.self.now c.read.result (c.read.ensures.within (value_node c.args.src.now c.args.self.now c.if-is_keyword.ensures c.requires))
 
 pub returns-clause-in_text : goal.returns-clause-in_text
-returns-clause-in_text g c = all_in_text c.args.src.now c.args.self.now c.read.result c.requires c.read.ensures.within
+returns-clause-in_text g c = all_in_text c.args.src.now c.args.self.now c.read.result c.requires (c.read.ensures.within (value_node c.args.src.now c.args.self.now c.if-is_keyword.ensures c.requires))

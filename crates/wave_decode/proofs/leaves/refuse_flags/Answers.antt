@@ -1,0 +1,18 @@
+use Rattle.std.proofs.Common.{◌≡◌, ◌⊎◌, inl, inr, sym, subst, ◌∙◌}
+use Rattle.wave_syntax.specs.NodeTree.{NodeTree, type_of}
+use Rattle.wave_syntax.specs.declared.form.NodeType.{NodeType}
+use Rattle.wave_wasm.specs.Types.{TypeTree}
+use Rattle.wave_decode.specs.Flat.{IsFlatAt}
+use Rattle.wave_decode.proofs.LeafForms.{flags_refused, named_simple}
+use Rattle.wave_decode.proofs.leaves.refuse_flags.Goals as goal
+
+pub returns-in-Flags : goal.returns-in-Flags
+returns-in-Flags g c = λ source n ty place.
+    flags_refused g.V.WasmValue.tree g.V.WasmValue.is_of g.V.WasmValue.is_full (g.V.Type.WasmType.tree c.args.ty.now) c.kind.result c.kind.ensures source n c.new.result
+    (record { is = c.new.ensures.refusal; stands = c.new.ensures.span ∙ sym place }) ty
+    (subst (λ (of : NodeType). (U : TypeTree) → IsFlatAt (g.V.Type.WasmType.tree c.args.ty.now) of U → ⊥) (sym ty) c.requires.flat)
+    (elim c.in-Flags.is [ inl is ↦ absurd (c.requires.kind (sym c.kind.ensures ∙ is)) | inr other ↦ other ])
+
+pub returns-in-Bool : goal.returns-in-Bool
+returns-in-Bool g c = λ source n ty place.
+    c.refuse_simple.ensures.read source n place (inr ty) (named_simple (g.V.Type.WasmType.tree c.args.ty.now) c.kind.result c.kind.ensures c.in-Bool.is)

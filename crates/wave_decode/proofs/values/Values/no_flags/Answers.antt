@@ -1,0 +1,16 @@
+use Rattle.std.proofs.Common.{◌≡◌, ◌⊎◌, Option, Bor, sym, subst}
+use Rattle.wave_wasm.specs.Borrowed.{shown}
+use Rattle.wave_syntax.specs.declared.form.NodeType.{NodeType}
+use Rattle.wave_syntax.specs.declared.form.NodeType.TheVariants as kind
+use Rattle.wave_leaf.specs.Reading.{IsReadWhereDue}
+use Rattle.wave_leaf.proofs.PlainTypes.{no_row_spares, flags_no_row}
+use Rattle.wave_decode.specs.Flat.{IsAround}
+use Rattle.wave_decode.proofs.values.Values.no_flags.Goals as goal
+
+pub returns : goal.returns
+returns g c = λ source n ty place. (
+  subst (λ (o : Option (Bor g.row.V-Type.Denot)). IsReadWhereDue g.V.WasmValue.tree g.V.WasmValue.is_of g.V.WasmValue.is_full (shown g.V.Type.WasmType.tree o) source n c.surrounded.result) (sym c.in-Some.is)
+      (c.surrounded.ensures (g.V.Type.WasmType.tree c.in-Some.due.now) source n (subst (λ (of : NodeType). IsAround g.V.Type.WasmType.tree (g.V.Type.WasmType.tree c.in-Some.due.now) of c.type_of_parts.result.0 c.type_of_parts.result.1) (sym ty) c.type_of_parts.ensures) place
+      (c.refuse_flags-made.ensures source n ty place)),
+  no_row_spares (shown g.V.Type.WasmType.tree c.args.self.due) n c.surrounded.result (λ row. flags_no_row (subst (λ (of : NodeType). (of ≡ kind.Tuple) ⊎ (of ≡ kind.List)) ty row)),
+)
