@@ -1,7 +1,6 @@
 //! Whether the names within a type are labels.
-ghost use Rattle.std.specs.Prelude.{◌≡◌, ◌↔◌, IsTrue, map, string_bytes, drop, ◌+◌};
+ghost use Rattle.std.specs.Prelude.{◌≡◌, ◌↔◌, IsTrue, map};
 ghost use Rattle.wave_wasm.specs.Types.{IsOwn, types_of, fields_of, cases_of, maybe_type};
-ghost use Rattle.wave_wasm.specs.Names.{is_one_of};
 ghost use Rattle.wave_lex.specs.Labels.{Good};
 ghost use Rattle.wave_type.specs.TypeModel.{by_bytes};
 ghost use Rattle.wave_type.specs.Private.NameIndex.{AreFirstPlaces};
