@@ -44,7 +44,11 @@ impl<'src> Leaf<'src> {
     }
 
     /// A key that is read by itself: the refusal of a label has no detail.
-    pub fn read_plain_key<V: WasmValue>(&self, alloc: Global, ty: &V::Type) -> Result<V, ParserError>
+    pub fn read_plain_key<V: WasmValue>(
+        &self,
+        alloc: Global,
+        ty: &V::Type,
+    ) -> Result<V, ParserError>
         ensures answer { IsKeyReadOf V.tree V.is_of V.is_full (V.Type.tree ty.now) self.now result }
         ensures within { RefusesInKey self.now result }
     {
