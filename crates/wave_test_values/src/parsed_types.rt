@@ -54,7 +54,7 @@ const REFUSED: &[(&str, TypeErrorKind, usize, usize)] = &[
     ("list<u8, 1.5>", TypeErrorKind::InvalidCount, 9, 12),
     ("list<u8, 01>", TypeErrorKind::UnexpectedToken, 10, 11),
     ("list<u8, -1>", TypeErrorKind::InvalidCount, 9, 11),
-    ("list<u8, 1, 2>", TypeErrorKind::UnexpectedToken, 10, 11),
+    ("list<u8, 1, 2>", TypeErrorKind::UnexpectedToken, 12, 13),
     ("tuple<>", TypeErrorKind::UnexpectedToken, 6, 7),
     ("tuple<u8,,>", TypeErrorKind::UnexpectedToken, 9, 10),
     ("record {}", TypeErrorKind::UnexpectedToken, 8, 9),
@@ -98,6 +98,30 @@ const REFUSED: &[(&str, TypeErrorKind, usize, usize)] = &[
     ("result<_>", TypeErrorKind::UnexpectedToken, 8, 9),
     ("result<u8, _>", TypeErrorKind::UnexpectedToken, 11, 12),
     ("list<@>", TypeErrorKind::InvalidToken, 5, 6),
+    ("option<u8,", TypeErrorKind::UnexpectedEnd, 10, 10),
+    ("map<u8, u8,", TypeErrorKind::UnexpectedEnd, 11, 11),
+    ("list<u8, 4,", TypeErrorKind::UnexpectedEnd, 11, 11),
+    ("result<u8, u8,", TypeErrorKind::UnexpectedEnd, 14, 14),
+    ("tuple<u8,", TypeErrorKind::UnexpectedEnd, 9, 9),
+    ("option<u8, @", TypeErrorKind::InvalidToken, 11, 12),
+    ("map<@, u8>", TypeErrorKind::InvalidToken, 4, 5),
+    ("list<u8, @>", TypeErrorKind::InvalidToken, 9, 10),
+    ("enum { a, \u{2603} }", TypeErrorKind::InvalidToken, 10, 13),
+    ("u8 'ab'", TypeErrorKind::InvalidToken, 3, 7),
+    ("map<>", TypeErrorKind::UnexpectedToken, 4, 5),
+    ("map<, u8>", TypeErrorKind::UnexpectedToken, 4, 5),
+    ("map<_, u8>", TypeErrorKind::UnexpectedToken, 4, 5),
+    ("map<item, u8>", TypeErrorKind::InvalidKeyType, 4, 8),
+    ("list<u8,,>", TypeErrorKind::UnexpectedToken, 8, 9),
+    ("list<u8, x>", TypeErrorKind::InvalidCount, 9, 10),
+    ("list<<u8>", TypeErrorKind::UnexpectedToken, 5, 6),
+    ("option<u8,x>", TypeErrorKind::UnexpectedToken, 10, 11),
+    ("option<u8,,>", TypeErrorKind::UnexpectedToken, 10, 11),
+    ("map<u8, u8, u8>", TypeErrorKind::UnexpectedToken, 12, 14),
+    ("result<u8,x>", TypeErrorKind::UnexpectedToken, 10, 11),
+    ("result<u8, u8, u8>", TypeErrorKind::UnexpectedToken, 15, 17),
+    ("result<_ u8>", TypeErrorKind::UnexpectedToken, 9, 11),
+    ("flags { a,, }", TypeErrorKind::UnexpectedToken, 10, 11),
 ];
 
 /// Whether the text spells the type that is printed so, and that text the same type.
@@ -114,8 +138,13 @@ fn is_read(rt: HostRuntime, text: &str, printed: &str) -> Result<bool, Fail> {
 
 /// Whether the text is refused for this at these bytes.
 fn is_refused(rt: HostRuntime, row: &(&str, TypeErrorKind, usize, usize)) -> bool {
-    let (text, kind, start, end) = *row;
-    match Type::parse(rt.alloc(), text) {
+    says(Type::parse(rt.alloc(), row.0), row)
+}
+
+/// Whether the answer is the refusal of the row.
+fn says<T: Drop>(answer: Result<T, TypeError>, row: &(&str, TypeErrorKind, usize, usize)) -> bool {
+    let (_, kind, start, end) = *row;
+    match answer {
         Ok(_) => false,
         Err(error) => {
             let span = error.span();
@@ -160,10 +189,32 @@ const FUNCTIONS: &[(&str, &str)] = &[
     ("func", ""),
 ];
 
+/// Texts that spell no type of a function, and why and where each is refused.
+const REFUSED_FUNCTIONS: &[(&str, TypeErrorKind, usize, usize)] = &[
+    ("func", TypeErrorKind::UnexpectedEnd, 4, 4),
+    ("fun()", TypeErrorKind::UnexpectedToken, 0, 3),
+    ("func(u8)", TypeErrorKind::UnexpectedToken, 7, 8),
+    ("func(,)", TypeErrorKind::UnexpectedToken, 5, 6),
+    ("func(a: u8,", TypeErrorKind::UnexpectedEnd, 11, 11),
+    ("func(a: u8, @", TypeErrorKind::InvalidToken, 12, 13),
+    ("func(a: u8, a: u8)", TypeErrorKind::DuplicateName, 12, 13),
+    ("func() >", TypeErrorKind::UnexpectedToken, 7, 8),
+    ("func() ->", TypeErrorKind::UnexpectedEnd, 9, 9),
+    ("func() -> ()", TypeErrorKind::UnexpectedToken, 11, 12),
+    ("func() -> (a: u8, %a: u8)", TypeErrorKind::DuplicateName, 18, 20),
+    ("func() -> u8, u8", TypeErrorKind::UnexpectedToken, 12, 13),
+    ("func() -> map<u8,> @", TypeErrorKind::UnexpectedToken, 17, 18),
+];
+
 /// The first text of a function that isn't read as it should be.
 fn wrong_function(rt: HostRuntime) -> Result<Option<&'static str>, Fail> {
     for row in FUNCTIONS {
         if !is_function_read(rt, row)? {
+            return Ok(Some(row.0));
+        }
+    }
+    for row in REFUSED_FUNCTIONS {
+        if !says(FuncType::parse(rt.alloc(), row.0), row) {
             return Ok(Some(row.0));
         }
     }
@@ -178,18 +229,25 @@ fn is_function_read(rt: HostRuntime, row: &(&str, &str)) -> Result<bool, Fail> {
     }
 }
 
-/// The text of `levels` lists, one inside another.
-fn lists(rt: HostRuntime, levels: usize) -> Result<String, AllocError> {
+/// The text of `levels` lists, one inside another, around this one.
+fn lists(rt: HostRuntime, levels: usize, inside: &str) -> Result<String, AllocError> {
     let mut text = String::new(rt.alloc());
     for _ in 0..levels {
         text.push_str("list<")?;
     }
-    text.push_str("u8")?;
-    for _ in 0..levels {
-        text.push_str(">")?;
-    }
+    text.push_str(inside)?;
     Ok(text)
 }
+
+/// What stands within a hundred lists, and why and where it is refused; the bytes are those within it.
+const TOO_DEEP: &[(&str, TypeErrorKind, usize, usize)] = &[
+    ("u8>", TypeErrorKind::NestingTooDeep, 0, 2),
+    ("list", TypeErrorKind::NestingTooDeep, 0, 4),
+    ("", TypeErrorKind::UnexpectedEnd, 0, 0),
+    (">", TypeErrorKind::UnexpectedToken, 0, 1),
+    ("x", TypeErrorKind::UnexpectedToken, 0, 1),
+    ("@", TypeErrorKind::InvalidToken, 0, 1),
+];
 
 /// Texts that begin as those of types, or of types of functions, and what each prefix of them answers, from
 /// the empty one to the whole: `+` where it is read, else a letter for the kind of the refusal.
@@ -197,14 +255,14 @@ const FRONTS: &[(&str, &str)] = &[
     ("u8", "et+"),
     (" f64 // \u{e9}", "eett++i+++"),
     ("list < u8 , >", "ettteeeeteeee+"),
-    ("list<u8, 4294967295,>", "ettteeteeeeeeeeeeeeet+"),
+    ("list<u8, 4294967295,>", "ettteeteeeeeeeeeeeeee+"),
     ("list<u8, 4294967296>", "ettteeteeeeeeeeeeeecc"),
     ("list<u8, 01>", "ettteeteeeett"),
     ("tuple<u8,string,>", "etttteeteetttttee+"),
     ("option<option<char>>", "ettttteettttteetttee+"),
     ("result<u8>", "ettttt+ete+"),
     ("result<_, string>", "ettttt+eeeettttte+"),
-    ("result<u8, string,>", "ettttt+eteeetttttet+"),
+    ("result<u8, string,>", "ettttt+eteeetttttee+"),
     ("map<char, map<bool, u8>>", "etteekkkeeetteekkkeeetee+"),
     ("map<f32, u8>", "etteekkkkkkkk"),
     ("enum{a,b-c,}", "ettteeeeetee+"),
@@ -273,14 +331,15 @@ fn types_are_read(rt: HostRuntime) -> Result<(), Fail> {
 
 #[test]
 fn levels_are_counted(rt: HostRuntime) -> Result<(), Fail> {
-    let deep = lists(rt, 100)?;
-    let most = Type::parse(rt.alloc(), lists(rt, 99)?.as_str()).is_ok();
-    assert!(rt;
-        most && is_refused(
-            rt,
-            &(deep.as_str(), TypeErrorKind::NestingTooDeep, 500, 502)
-        )
-    );
+    let mut most = lists(rt, 99, "u8")?;
+    for _ in 0..99 {
+        most.push('>')?;
+    }
+    assert!(rt; Type::parse(rt.alloc(), most.as_str()).is_ok());
+    for (inside, kind, start, end) in TOO_DEEP {
+        let deep = lists(rt, 100, inside)?;
+        assert!(rt; is_refused(rt, &(deep.as_str(), *kind, 500 + start, 500 + end)));
+    }
     Ok(())
 }
 

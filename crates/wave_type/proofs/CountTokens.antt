@@ -8,8 +8,8 @@ use Rattle.std.proofs.lemmas.Bool.{and_parts, and_from}
 use Rattle.std.proofs.lemmas.Bool.Decides.{nat_tests}
 use Rattle.std.proofs.lemmas.Fmt.{parse-decimal, decimal_is_IsNumeral}
 use Rattle.std.proofs.lemmas.Slice.Eq.{bytes_eq-Decides}
-use Rattle.wave_type.specs.Private.TypeReading.{count_of_token}
 use Rattle.wave_type.proofs.TypeReading.{below_back}
+use Rattle.wave_type.specs.TypeWords.{count_of_token}
 
 if_not : {A : Type 0} (b : Bool) (a : A) → (b ≡ true → ⊥) → None ≡ (if b then Some a else None)
 if_not true a never = absurd (never refl)

@@ -1,6 +1,5 @@
 -- The type of a function is read exactly where tokens spell it.
-use Rattle.std.proofs.Common.{◌≡◌, ℕ, ◌≤◌, true, false, List, [], ◌∷◌, inl, inr, Option, Some, None, Result, Ok, Err, IfOk, refl, sym, ap, subst, ◌∙◌, arith, length, codes}
-use Rattle.std.specs.Prelude.{◌⊎◌, nat_lt}
+use Rattle.std.proofs.Common.{◌≡◌, ℕ, ◌≤◌, true, false, List, [], ◌∷◌, Option, Some, None, Result, Ok, Err, IfOk, refl, sym, ap, subst, ◌∙◌, arith, length, codes}
 use Rattle.std.specs.Str.{bytes_eq}
 use Rattle.wave_wasm.specs.declared.wasm.WasmTypeKind.{WasmTypeKind}
 use Rattle.wave_wasm.specs.declared.wasm.WasmTypeKind.TheVariants as kinds
@@ -10,17 +9,14 @@ use Rattle.wave_wasm.specs.TypeText.{kind_word}
 use Rattle.wave_lex.specs.Labels.{IsLabel}
 use Rattle.wave_lex.specs.Tokens.{label}
 use Rattle.wave_lex.proofs.Derive.{matches_into}
-use Rattle.wave_type.specs.declared.error.TypeErrorKind.{TypeErrorKind}
-use Rattle.wave_type.specs.declared.error.TypeErrorKind.TheVariants.{OutOfMemory}
 use Rattle.wave_type.specs.FunctionType.{FunctionType}
-use Rattle.wave_type.specs.FunctionSpelling.{SpellsParts, SpellsResults, SpellsFunction, SpellsNoFunction, IsNoFunction, levels_of_function}
-use Rattle.wave_type.specs.TypeSpelling.{Tokens, IsCutInto, Spells, SpellsFields, levels_of_fields}
+use Rattle.wave_type.specs.FunctionSpelling.{SpellsParts, SpellsResults, SpellsFunction, levels_of_function}
+use Rattle.wave_type.specs.TypeSpelling.{Tokens, Spells, SpellsFields, levels_of_fields}
 use Rattle.wave_type.specs.Private.TypeReading.{after, Reads, fields_read, type_read}
 use Rattle.wave_type.specs.Private.FunctionReading.{params_read, result_parts_read, results_read, signature_read, function_read}
-use Rattle.wave_type.proofs.TypeComplete.{IsComplete, paren, name_stands, fields_all, after_other, onward_there, head_word, low, read_complete}
+use Rattle.wave_type.proofs.TypeComplete.{IsComplete, paren, name_stands, fields_all, after_other, onward_there, head_word}
 use Rattle.wave_type.proofs.TypeLists.{field_list-fields_of}
 use Rattle.wave_type.proofs.TypeReading.{IsSound, onward_back, after_back, fields_back, read_sound}
-use Rattle.wave_type.proofs.TypeTokens.{one_cut}
 
 abbrev pub Parts : Type 0
 Parts = List (List ℕ × TypeTree)
@@ -79,7 +75,7 @@ module _ (read : Reads) (sound : IsSound read) where
 
 -- ---- what is spelled is read
 
-paren_not : (fs : Fields) (ts r : Tokens) → SpellsFields (codes ")") fs ts r → after (codes ")") ts ≡ None
+pub paren_not : (fs : Fields) (ts r : Tokens) → SpellsFields (codes ")") fs ts r → after (codes ")") ts ≡ None
 paren_not no_fields ts r h = absurd h
 paren_not (field name T no_fields) ts r (t, m, l, e, n, s, c) = name_stands (codes ")") t name ts (codes ":" ∷ m) paren e n
 paren_not (field name T (field x U more)) ts r (t, m, l, e, n, s, h) = name_stands (codes ")") t name ts (codes ":" ∷ m) paren e n
@@ -110,7 +106,7 @@ no_paren kinds.Flags = refl
 no_paren kinds.Map = refl
 no_paren kinds.Unsupported = refl
 
-type_is_no_paren : (T : TypeTree) (ts r : Tokens) → Spells T ts r → after (codes "(") ts ≡ None
+pub type_is_no_paren : (T : TypeTree) (ts r : Tokens) → Spells T ts r → after (codes "(") ts ≡ None
 type_is_no_paren T ts r h = let w = head_word T ts r h in ap (after (codes "(")) w.2 ∙ after_other (codes "(") (kind_word w.0) w.1 (no_paren w.0)
 
 module _ (n : ℕ) (read : Reads) (complete : IsComplete n read) where
@@ -143,16 +139,6 @@ no_more (t ∷ r) e = absurd (omega (arith, e))
 
 pub function_sound : (n : ℕ) (ts r : Tokens) (f : FunctionType) → function_read (type_read n) ts ≡ Some (f, r) → length r ≡ 0 → SpellsFunction f ts
 function_sound n ts r f e none = function_back (type_read n) (read_sound n) ts (f, r) e (no_more r none)
-
-pub function_none : (n : ℕ) (ts : Tokens) → function_read (type_read n) ts ≡ None → SpellsNoFunction n ts
-function_none n ts e f h = low n (levels_of_function f) (nat_lt n (levels_of_function f)) refl (λ le. let wrong : None ≡ Some (f, []) = sym e ∙ function_there n (type_read n) (read_complete n) f ts le h in cc)
-
-pub function_left : (n : ℕ) (ts r : Tokens) (g : FunctionType) → function_read (type_read n) ts ≡ Some (g, r) → (length r ≡ 0 → ⊥) → SpellsNoFunction n ts
-function_left n ts r g e some f h = low n (levels_of_function f) (nat_lt n (levels_of_function f)) refl (λ le. let pair = unwrapped (g, r) (f, []) (sym e ∙ function_there n (type_read n) (read_complete n) f ts le h) in some (λ i. length (pair i).1))
-
-pub function_refused : (text : List ℕ) (ts : Tokens) (kind : TypeErrorKind) → IsCutInto text ts → (kind ≡ OutOfMemory) ⊎ SpellsNoFunction 100 ts → IsNoFunction text kind
-function_refused text ts kind cut (inl e) = inl e
-function_refused text ts kind cut (inr none) = inr (λ f h. none f (subst (SpellsFunction f) (one_cut h.0 ts text h.1 cut) h.2))
 
 -- what holds of the one value holds of what was made, which is it
 pub ok_more : {A E : Type 0} (P : A → Type 0) (g : A) (r : Result A E) → IfOk r (λ f. f ≡ g) → P g → IfOk r P

@@ -25,7 +25,8 @@ use Rattle.wave_lex.specs.Tokens.{label}
 use Rattle.wave_lex.proofs.Derive.{matches_from, matches_into}
 use Rattle.wave_lex.proofs.LabelWords.{ascii_text}
 use Rattle.wave_type.specs.TypeModel.{by_bytes}
-use Rattle.wave_type.specs.Private.LabelTest.{is_label, are_label_names, names_pass, payload_passes, types_pass, fields_pass, cases_pass}
+use Rattle.wave_type.specs.Private.LabelTest.{are_label_names, names_pass, payload_passes, types_pass, fields_pass, cases_pass}
+use Rattle.wave_type.specs.TypeWords.{is_label}
 
 -- ---- a name
 

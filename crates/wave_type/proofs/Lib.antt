@@ -21,3 +21,7 @@ pub mod TextCuts
 pub mod TypeReadBack
 pub mod FunctionReadBack
 pub mod NameIndex
+pub mod FaultSteps
+pub mod SpelledRuns
+pub mod ReaderSteps
+pub mod WholeFaults

@@ -17,8 +17,9 @@ use Rattle.wave_wasm.specs.declared.wasm.WasmTypeKind.{WasmTypeKind}
 use Rattle.wave_type.specs.declared.tokens.Token.{Token}
 use Rattle.wave_type.specs.TypeSpelling.{Tokens}
 use Rattle.wave_type.specs.Private.TypeTokens.{texts_of}
-use Rattle.wave_type.specs.Private.TypeReading.{onward, or_else, with, after, closed, parts, Reads, HasNames, part_names, name_at, new_name, field_part, payload_read, case_part, kind_at, kind_read, type_read}
+use Rattle.wave_type.specs.Private.TypeReading.{or_else, with, after, closed, parts, Reads, HasNames, part_names, name_at, new_name, field_part, payload_read, case_part, kind_at, kind_read, type_read}
 use Rattle.wave_type.proofs.TypeReading.{map_more}
+use Rattle.wave_type.specs.TypeWords.{onward}
 
 -- ---- the names that were taken
 
@@ -52,11 +53,8 @@ has_more set more names name h u = λ q.
     pick false true = refl
     pick false false = refl
 
--- a name that was taken is refused, and another is read
+-- a name that wasn't taken is read
 module _ (names : List (List ℕ)) (ts : Tokens) (name : List ℕ) (next : name_at ts ≡ Some name) where
-  pub name_taken : is_one_of names name ≡ true → new_name names ts ≡ None
-  name_taken e = ap (λ o. onward o (λ n. if is_one_of names n then None else Some (n, drop 1 ts))) next ∙ ap (λ b. if b then None else Some (name, drop 1 ts)) e
-
   pub name_new : is_one_of names name ≡ false → new_name names ts ≡ Some (name, drop 1 ts)
   name_new e = ap (λ o. onward o (λ n. if is_one_of names n then None else Some (n, drop 1 ts))) next ∙ ap (λ b. if b then None else Some (name, drop 1 ts)) e
 
@@ -77,33 +75,18 @@ module _ (set : BTreeSet (Bor (List ℕ))) (n : Bor (List ℕ)) where
 -- ---- a field, or a case, step by step
 
 module _ (read : Reads) (seen : List (List ℕ × TypeTree)) (ts : Tokens) where
-  pub field_unnamed : new_name (part_names seen) ts ≡ None → field_part read seen ts ≡ None
-  field_unnamed e = ap (λ o. onward o (λ a. onward (after (codes ":") a.1) (λ m. onward (read m) (λ b. Some ((a.0, b.0), b.1))))) e
-
   pub field_named : (n : List ℕ) (m : Tokens) → new_name (part_names seen) ts ≡ Some (n, m) → field_part read seen ts ≡ onward (after (codes ":") m) (λ l. onward (read l) (λ b. Some ((n, b.0), b.1)))
   field_named n m e = ap (λ o. onward o (λ a. onward (after (codes ":") a.1) (λ m. onward (read m) (λ b. Some ((a.0, b.0), b.1))))) e
 
-  pub field_without_colon : (n : List ℕ) (m : Tokens) → new_name (part_names seen) ts ≡ Some (n, m) → after (codes ":") m ≡ None → field_part read seen ts ≡ None
-  field_without_colon n m e c = field_named n m e ∙ ap (λ o. onward o (λ l. onward (read l) (λ b. Some ((n, b.0), b.1)))) c
-
   pub field_typed : (n : List ℕ) (m l : Tokens) → new_name (part_names seen) ts ≡ Some (n, m) → after (codes ":") m ≡ Some l → field_part read seen ts ≡ onward (read l) (λ b. Some ((n, b.0), b.1))
   field_typed n m l e c = field_named n m e ∙ ap (λ o. onward o (λ l. onward (read l) (λ b. Some ((n, b.0), b.1)))) c
-
-  pub field_untyped : (n : List ℕ) (m l : Tokens) → new_name (part_names seen) ts ≡ Some (n, m) → after (codes ":") m ≡ Some l → read l ≡ None → field_part read seen ts ≡ None
-  field_untyped n m l e c t = field_typed n m l e c ∙ ap (λ o. onward o (λ b. Some ((n, b.0), b.1))) t
 
   pub field_read : (n : List ℕ) (m l r : Tokens) (T : TypeTree) → new_name (part_names seen) ts ≡ Some (n, m) → after (codes ":") m ≡ Some l → read l ≡ Some (T, r) → field_part read seen ts ≡ Some ((n, T), r)
   field_read n m l r T e c t = field_typed n m l e c ∙ ap (λ o. onward o (λ b. Some ((n, b.0), b.1))) t
 
 module _ (read : Reads) (seen : List (List ℕ × Option TypeTree)) (ts : Tokens) where
-  pub case_unnamed : new_name (part_names seen) ts ≡ None → case_part read seen ts ≡ None
-  case_unnamed e = ap (λ o. onward o (λ a. onward (payload_read read a.1 (after (codes "(") a.1)) (λ b. Some ((a.0, b.0), b.1)))) e
-
   pub case_named : (n : List ℕ) (m : Tokens) → new_name (part_names seen) ts ≡ Some (n, m) → case_part read seen ts ≡ onward (payload_read read m (after (codes "(") m)) (λ b. Some ((n, b.0), b.1))
   case_named n m e = ap (λ o. onward o (λ a. onward (payload_read read a.1 (after (codes "(") a.1)) (λ b. Some ((a.0, b.0), b.1)))) e
-
-  pub case_unread : (n : List ℕ) (m : Tokens) → new_name (part_names seen) ts ≡ Some (n, m) → payload_read read m (after (codes "(") m) ≡ None → case_part read seen ts ≡ None
-  case_unread n m e p = case_named n m e ∙ ap (λ o. onward o (λ b. Some ((n, b.0), b.1))) p
 
   pub case_read : (n : List ℕ) (m r : Tokens) (P : Option TypeTree) → new_name (part_names seen) ts ≡ Some (n, m) → payload_read read m (after (codes "(") m) ≡ Some (P, r) → case_part read seen ts ≡ Some ((n, P), r)
   case_read n m r P e p = case_named n m e ∙ ap (λ o. onward o (λ b. Some ((n, b.0), b.1))) p
@@ -118,9 +101,6 @@ module _ {A : Type 0} (part : List A → Tokens → Option (A × Tokens)) (mark 
       ap (λ k. parts part mark k seen ts) one
 
   module _ (n i : ℕ) (seen : List A) (ts : Tokens) (all : Option (List A × Tokens)) (h : i < n) (known : parts part mark (n - i) seen ts ≡ all) where
-    pub part_fails : part seen ts ≡ None → all ≡ None
-    part_fails e = sym known ∙ (unrolled n i seen ts h ∙ ap (λ o. onward o (λ a. or_else (with (seen ++ (a.0 ∷ [])) (closed mark a.1)) (onward (after (codes ",") a.1) (parts part mark (n - (i + 1)) (seen ++ (a.0 ∷ [])))))) e)
-
     there : (a : A × Tokens) → part seen ts ≡ Some a → all ≡ or_else (with (seen ++ (a.0 ∷ [])) (closed mark a.1)) (onward (after (codes ",") a.1) (parts part mark (n - (i + 1)) (seen ++ (a.0 ∷ []))))
     there a e = sym known ∙ (unrolled n i seen ts h ∙ ap (λ o. onward o (λ a. or_else (with (seen ++ (a.0 ∷ [])) (closed mark a.1)) (onward (after (codes ",") a.1) (parts part mark (n - (i + 1)) (seen ++ (a.0 ∷ [])))))) e)
 
@@ -129,9 +109,6 @@ module _ {A : Type 0} (part : List A → Tokens → Option (A × Tokens)) (mark 
 
     goes_on : (a : A) (m : Tokens) → part seen ts ≡ Some (a, m) → closed mark m ≡ None → all ≡ onward (after (codes ",") m) (parts part mark (n - (i + 1)) (seen ++ (a ∷ [])))
     goes_on a m e c = there (a, m) e ∙ ap (λ o. or_else (with (seen ++ (a ∷ [])) o) (onward (after (codes ",") m) (parts part mark (n - (i + 1)) (seen ++ (a ∷ []))))) c
-
-    pub comma_fails : (a : A) (m : Tokens) → part seen ts ≡ Some (a, m) → closed mark m ≡ None → after (codes ",") m ≡ None → all ≡ None
-    comma_fails a m e c f = goes_on a m e c ∙ ap (λ o. onward o (parts part mark (n - (i + 1)) (seen ++ (a ∷ [])))) f
 
     pub part_behind : (a : A) (m r : Tokens) → part seen ts ≡ Some (a, m) → closed mark m ≡ None → after (codes ",") m ≡ Some r → parts part mark (n - (i + 1)) (seen ++ (a ∷ [])) r ≡ all
     part_behind a m r e c f = sym (goes_on a m e c ∙ ap (λ o. onward o (parts part mark (n - (i + 1)) (seen ++ (a ∷ [])))) f)

@@ -14,14 +14,14 @@ use Rattle.wave_wasm.specs.TypeText.{kind_word}
 use Rattle.wave_lex.specs.Labels.{IsLabel}
 use Rattle.wave_lex.specs.Tokens.{label}
 use Rattle.wave_lex.proofs.Derive.{matches_into}
-use Rattle.wave_type.specs.Private.LabelTest.{is_label}
 use Rattle.wave_type.specs.TypeMade.{tuple_type, variant_type, enum_type, flags_type, map_type}
 use Rattle.wave_type.specs.TypeMade as maker
 use Rattle.wave_type.specs.TypeSpelling.{Tokens, Names, Closes, StandsAlone, Spells, SpellsNames, SpellsTypes, SpellsFields, SpellsCases, SpellsPayload, levels_of, levels_of_payload, levels_of_types, levels_of_fields, levels_of_cases}
-use Rattle.wave_type.specs.Private.TypeReading.{onward, or_else, with, made, after, closed, kind_at, without_percent, name_of_token, new_name, count_at, parts, names_read, Reads, key_of_word, key_at, types_read, field_part, fields_read, payload_read, case_part, cases_read, payloads_read, result_read, kind_read, type_read}
+use Rattle.wave_type.specs.Private.TypeReading.{or_else, with, made, after, closed, kind_at, new_name, count_at, parts, names_read, Reads, key_at, types_read, field_part, fields_read, payload_read, case_part, cases_read, payloads_read, result_read, kind_read, type_read}
 use Rattle.wave_type.proofs.CountTokens.{same_count}
 use Rattle.wave_type.proofs.TextFronts.{label_goes_on, number_goes_on, has_no_stop, is_stop}
 use Rattle.wave_type.proofs.TypeReading.{AreParts, IsNamed, IsField, IsCase, map_more}
+use Rattle.wave_type.specs.TypeWords.{is_label, key_of_word, name_of_token, onward, without_percent}
 
 -- ---- one step and then another
 
@@ -44,7 +44,7 @@ module _ {A : Type 0} where
 
 -- ---- one token
 
-after_there : (mark : List ℕ) (r : Tokens) → after mark (mark ∷ r) ≡ Some r
+pub after_there : (mark : List ℕ) (r : Tokens) → after mark (mark ∷ r) ≡ Some r
 after_there mark r = ap (λ b. if b then Some r else None) ((bytes_eq-Decides mark mark).1 refl)
 
 pub after_other : (mark t : List ℕ) (r : Tokens) → bytes_eq t mark ≡ false → after mark (t ∷ r) ≡ None
@@ -56,20 +56,20 @@ pub record IsMark (mark : List ℕ) : Type 0 where
   pub label : is_label mark ≡ false
   pub percent : (name : List ℕ) → codes "%" ++ name ≡ mark → ⊥
 
-brace : IsMark (codes "}")
+pub brace : IsMark (codes "}")
 brace = record { comma = refl; label = refl; percent = λ name e. let same : 37 ≡ 125 = ap (λ l. get_or l 0 0) e in cc }
 
 pub paren : IsMark (codes ")")
 paren = record { comma = refl; label = refl; percent = λ name e. let same : 37 ≡ 41 = ap (λ l. get_or l 0 0) e in cc }
 
-closed_there : (mark : List ℕ) → bytes_eq (codes ",") mark ≡ false → (ts r : Tokens) → Closes mark ts r → closed mark ts ≡ Some r
+pub closed_there : (mark : List ℕ) → bytes_eq (codes ",") mark ≡ false → (ts r : Tokens) → Closes mark ts r → closed mark ts ≡ Some r
 closed_there mark comma ts r (inl e) = or_first (after mark ts) _ r (ap (after mark) e ∙ after_there mark r)
 closed_there mark comma ts r (inr e) = or_second (after mark ts) _ (Some r) (ap (after mark) e ∙ after_other mark (codes ",") (mark ∷ r) comma) (ap (λ l. onward (after (codes ",") l) (after mark)) e ∙ after_there mark r)
 
-closed_not : (mark : List ℕ) → bytes_eq (codes ",") mark ≡ false → (m : Tokens) → after mark m ≡ None → closed mark (codes "," ∷ m) ≡ None
+pub closed_not : (mark : List ℕ) → bytes_eq (codes ",") mark ≡ false → (m : Tokens) → after mark m ≡ None → closed mark (codes "," ∷ m) ≡ None
 closed_not mark comma m e = or_second (after mark (codes "," ∷ m)) (after mark m) None (after_other mark (codes ",") m comma) e
 
-angle : bytes_eq (codes ",") (codes ">") ≡ false
+pub angle : bytes_eq (codes ",") (codes ">") ≡ false
 angle = refl
 
 -- a label has no `%` before it
@@ -104,11 +104,11 @@ not_equal x y false e differ = refl
 pub name_stands : (mark t name : List ℕ) (ts m : Tokens) → IsMark mark → ts ≡ t ∷ m → Names t name → after mark ts ≡ None
 name_stands mark t name ts m is e n = ap (after mark) e ∙ after_other mark t m (not_equal t mark (bytes_eq t mark) refl (name_is_no_mark mark t name is n))
 
-new_there : (seen : List (List ℕ)) (t name : List ℕ) (m : Tokens) → Names t name → is_one_of seen name ≡ false → new_name seen (t ∷ m) ≡ Some (name, m)
+pub new_there : (seen : List (List ℕ)) (t name : List ℕ) (m : Tokens) → Names t name → is_one_of seen name ≡ false → new_name seen (t ∷ m) ≡ Some (name, m)
 new_there seen t name m n new =
     onward_there (name_of_token t) (λ z. if is_one_of seen z then None else Some (z, m)) name (Some (name, m)) (name_there t name n) (ap (λ b. if b then None else Some (name, m)) new)
 
-count_there : (n : ℕ) (m : Tokens) → n < 2 ^ 32 → count_at (decimal n ∷ m) ≡ Some (n, m)
+pub count_there : (n : ℕ) (m : Tokens) → n < 2 ^ 32 → count_at (decimal n ∷ m) ≡ Some (n, m)
 count_there n m h = ap (λ o. made o m) (sym (same_count (decimal n) n h ((bytes_eq-Decides (decimal n) (decimal n)).1 refl)))
 
 -- ---- parts
@@ -145,7 +145,7 @@ not_in [] n more m h e = h.0 e
 not_in (k ∷ ms) n more m h e = not_in ms n more m h.1 e
 
 -- a name after others that are all different with it is none of them
-new_behind : (ms : List (List ℕ)) (n : List ℕ) (more : List (List ℕ)) → AreDistinct (ms ++ (n ∷ more)) → is_one_of ms n ≡ false
+pub new_behind : (ms : List (List ℕ)) (n : List ℕ) (more : List (List ℕ)) → AreDistinct (ms ++ (n ∷ more)) → is_one_of ms n ≡ false
 new_behind [] n more h = refl
 new_behind (m ∷ ms) n more h = ap (λ b. b || is_one_of ms n) (not_equal n m (bytes_eq n m) refl (λ e. not_in ms n more m h.0 (sym e))) ∙ new_behind ms n more h.1
 
@@ -203,7 +203,7 @@ no_blank kinds.Flags = refl
 no_blank kinds.Map = refl
 no_blank kinds.Unsupported = refl
 
-key_there : (S : Simple) → key_of_word (kind_word (simple_kind S)) ≡ Some (simple S)
+pub key_there : (S : Simple) → key_of_word (kind_word (simple_kind S)) ≡ Some (simple S)
 key_there bool = refl
 key_there (whole s8) = refl
 key_there (whole s16) = refl
@@ -249,18 +249,18 @@ head_word (variant cs) ts r (m, e, s, d) = (kinds.Variant, codes "{" ∷ m, e)
 head_word (enum names) ts r (m, e, s, d) = (kinds.Enum, codes "{" ∷ m, e)
 head_word (flags names) ts r (m, e, s, d) = (kinds.Flags, codes "{" ∷ m, e)
 
-type_starts : (T : TypeTree) (ts r : Tokens) → Spells T ts r → after (codes ">") ts ≡ None
+pub type_starts : (T : TypeTree) (ts r : Tokens) → Spells T ts r → after (codes ">") ts ≡ None
 type_starts T ts r h = let w = head_word T ts r h in ap (after (codes ">")) w.2 ∙ after_other (codes ">") (kind_word w.0) w.1 (no_angle w.0)
 
-type_is_no_blank : (T : TypeTree) (ts r : Tokens) → Spells T ts r → after (codes "_") ts ≡ None
+pub type_is_no_blank : (T : TypeTree) (ts r : Tokens) → Spells T ts r → after (codes "_") ts ≡ None
 type_is_no_blank T ts r h = let w = head_word T ts r h in ap (after (codes "_")) w.2 ∙ after_other (codes "_") (kind_word w.0) w.1 (no_blank w.0)
 
-alone_there : (r : Tokens) → StandsAlone r → after (codes "<") r ≡ None
+pub alone_there : (r : Tokens) → StandsAlone r → after (codes "<") r ≡ None
 alone_there [] a = refl
 alone_there (t ∷ ts) a = after_other (codes "<") t ts (not_equal t (codes "<") (bytes_eq t (codes "<")) refl a)
 
 -- a count is no mark: no byte of it stops a word
-count_is_no_angle : (k : ℕ) (l : Tokens) → k < 2 ^ 32 → after (codes ">") (decimal k ∷ l) ≡ None
+pub count_is_no_angle : (k : ℕ) (l : Tokens) → k < 2 ^ 32 → after (codes ">") (decimal k ∷ l) ≡ None
 count_is_no_angle k l h =
     after_other (codes ">") (decimal k) l (not_equal (decimal k) (codes ">") (bytes_eq (decimal k) (codes ">")) refl (λ e. let wrong : false ≡ true = sym (ap has_no_stop e) ∙ number_goes_on k (omega arith) in cc))
 
@@ -282,7 +282,7 @@ names_shorter mark (x ∷ []) ts r (t, m, e, n, c) = omega (arith, ap length e, 
 names_shorter mark (x ∷ y ∷ xs) ts r (t, m, e, n, h) = omega (arith, ap length e, names_shorter mark (y ∷ xs) m r h)
 
 mutual
-  shorter : (T : TypeTree) (ts r : Tokens) → Spells T ts r → length r < length ts
+  pub shorter : (T : TypeTree) (ts r : Tokens) → Spells T ts r → length r < length ts
   shorter (simple S) ts r h = omega (arith, ap length h)
   shorter (unreadable f32) ts r h = omega (arith, ap length h)
   shorter (unreadable f64) ts r h = omega (arith, ap length h)
@@ -301,7 +301,7 @@ mutual
   shorter (enum names) ts r (m, e, s, d) = omega (arith, ap length e, names_shorter (codes "}") names m r s)
   shorter (flags names) ts r (m, e, s, d) = omega (arith, ap length e, names_shorter (codes "}") names m r s)
 
-  types_shorter : (Ts : Types) (ts r : Tokens) → SpellsTypes Ts ts r → length (type_list Ts) + length r < length ts
+  pub types_shorter : (Ts : Types) (ts r : Tokens) → SpellsTypes Ts ts r → length (type_list Ts) + length r < length ts
   types_shorter no_types ts r h = absurd h
   types_shorter (type_and T no_types) ts r (m, s, c) = omega (arith, shorter T ts m s, closes_shorter (codes ">") m r c)
   types_shorter (type_and T (type_and U more)) ts r (m, s, h) = omega (arith, shorter T ts (codes "," ∷ m) s, types_shorter (type_and U more) m r h)
@@ -345,7 +345,7 @@ pub payload_same : (p : MaybeType) → p ≡ maybe_type (type_option p)
 payload_same no_type = refl
 payload_same (a_type T) = refl
 
-closes_whole : (l r : Tokens) → Closes (codes "}") l r → after (codes "(") l ≡ None
+pub closes_whole : (l r : Tokens) → Closes (codes "}") l r → after (codes "(") l ≡ None
 closes_whole l r (inl e) = ap (after (codes "(")) e
 closes_whole l r (inr e) = ap (after (codes "(")) e
 
@@ -504,7 +504,7 @@ module _ (n : ℕ) (read : Reads) (complete : IsComplete n read) where
   one_there (flags names) ts r le (m, e, s, d) =
       ap (λ us. onward (kind_at us) (λ kind. kind_read read kind.0 kind.1)) e ∙ onward_there (names_read (codes "}") m) _ (names, r) _ (names_all (codes "}") brace names m r s d) (ap (λ o. made o r) (flags_there names m r s))
 
-some_level : (T : TypeTree) → 0 < levels_of T
+pub some_level : (T : TypeTree) → 0 < levels_of T
 some_level (list E) = omega arith
 some_level (fixed E n) = omega arith
 some_level (record_type fs) = omega arith

@@ -51,7 +51,7 @@ module _ (n : ℕ) (read : Reads) (low : IsLow n read) where
       let same : ((p.0.0, s.0.0), s.0.1) ≡ b = cc in
       subst (λ z. levels_of z.0.1 ≤ n) same (low q.0 s.0 s.1)
 
-  fields_read_low : (mark : List ℕ) (ts : Tokens) (b : Parts × Tokens) → fields_read read mark ts ≡ Some b → levels_of_fields (fields_of b.0) ≤ n
+  pub fields_read_low : (mark : List ℕ) (ts : Tokens) (b : Parts × Tokens) → fields_read read mark ts ≡ Some b → levels_of_fields (fields_of b.0) ≤ n
   fields_read_low mark ts b e =
       let h = parts_back (field_part read) mark (λ f us m. levels_of f.1 ≤ n) field_low (length ts) [] ts b e in
       subst (λ z. levels_of_fields (fields_of z) ≤ n) (sym h.all) (fields_low n mark h.read ts b.1 h.are)

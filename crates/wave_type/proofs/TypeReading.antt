@@ -15,11 +15,11 @@ use Rattle.wave_wasm.specs.Types.{Simple, bool, whole, char, string, s8, s16, s3
 use Rattle.wave_wasm.specs.TypeText.{kind_word}
 use Rattle.wave_lex.specs.Tokens.{label}
 use Rattle.wave_lex.proofs.Derive.{matches_from}
-use Rattle.wave_type.specs.Private.LabelTest.{is_label}
 use Rattle.wave_type.specs.TypeMade.{simple_type, tuple_type, variant_type, enum_type, flags_type, map_type}
 use Rattle.wave_type.specs.TypeMade as maker
 use Rattle.wave_type.specs.TypeSpelling.{Tokens, Names, Closes, Spells, SpellsNames, SpellsTypes, SpellsFields, SpellsCases, SpellsPayload, StandsAlone}
-use Rattle.wave_type.specs.Private.TypeReading.{onward, or_else, with, made, after, closed, readable_kinds, kind_of_word, kind_at, without_percent, name_of_token, new_name, count_of_token, count_at, parts, names_read, Reads, fixed_read, only_simple, key_of_word, key_at, types_read, field_part, fields_read, payload_read, case_part, cases_read, list_read, option_read, map_read, err_read, payloads_read, result_read, kind_read, type_read}
+use Rattle.wave_type.specs.Private.TypeReading.{or_else, with, made, after, closed, kind_at, new_name, count_at, parts, names_read, Reads, fixed_read, key_at, types_read, field_part, fields_read, payload_read, case_part, cases_read, list_read, option_read, map_read, err_read, payloads_read, result_read, kind_read, type_read}
+use Rattle.wave_type.specs.TypeWords.{count_of_token, is_label, key_of_word, kind_of_word, name_of_token, only_simple, onward, readable_kinds, without_percent}
 
 -- ---- one step and then another, backwards
 
@@ -43,7 +43,7 @@ module _ {A : Type 0} where
 
 -- ---- one token
 
-if_back : {A : Type 0} (b : Bool) (a c : A) → (if b then Some a else None) ≡ Some c → (b ≡ true) × (a ≡ c)
+pub if_back : {A : Type 0} (b : Bool) (a c : A) → (if b then Some a else None) ≡ Some c → (b ≡ true) × (a ≡ c)
 if_back true a c e = (refl, cc)
 if_back false a c e = absurd (cc)
 
@@ -68,7 +68,7 @@ find_back : (test : WasmTypeKind → Bool) (js : List WasmTypeKind) (k : WasmTyp
 find_back test [] k e = absurd (cc)
 find_back test (j ∷ js) k e = found_back test j k js (test j) refl e (find_back test js k)
 
-word_back : (word : List ℕ) (k : WasmTypeKind) → kind_of_word word ≡ Some k → word ≡ kind_word k
+pub word_back : (word : List ℕ) (k : WasmTypeKind) → kind_of_word word ≡ Some k → word ≡ kind_word k
 word_back word k e = (bytes_eq-Decides word (kind_word k)).0 (find_back (λ j. bytes_eq word (kind_word j)) readable_kinds k e)
 
 kind_at_back : (ts : Tokens) (b : WasmTypeKind × Tokens) → kind_at ts ≡ Some b → ts ≡ kind_word b.0 ∷ b.1
@@ -86,7 +86,7 @@ percent_back : (t : List ℕ) → (t ≡ without_percent t) ⊎ (t ≡ codes "%"
 percent_back [] = inl refl
 percent_back (c ∷ cs) = percent_if c cs (c == 37) refl
 
-name_back : (t name : List ℕ) → name_of_token t ≡ Some name → Names t name
+pub name_back : (t name : List ℕ) → name_of_token t ≡ Some name → Names t name
 name_back t name e =
     let p = if_back (is_label (without_percent t)) (without_percent t) name e in
     subst (Names t) p.1 (matches_from (without_percent t) label p.0, percent_back t)
@@ -94,7 +94,7 @@ name_back t name e =
 pub below_back : (n m : ℕ) → nat_lt n m ≡ true → n < m
 below_back n m e = grind (arith, nat_tests)
 
-count_back : (t : List ℕ) (n : ℕ) → count_of_token t ≡ Some n → (t ≡ decimal n) × (n < 2 ^ 32)
+pub count_back : (t : List ℕ) (n : ℕ) → count_of_token t ≡ Some n → (t ≡ decimal n) × (n < 2 ^ 32)
 count_back t n e =
     let m = digits_value 10 t in
     let p = if_back (bytes_eq t (decimal m) && nat_lt m (2 ^ 32)) m n e in
@@ -108,7 +108,7 @@ count_at_back (t ∷ ts) b e =
     let q = count_back t b.0 p.0 in
     ((λ i. q.0 i ∷ p.1 i), q.1)
 
-unless_back : {A : Type 0} (b : Bool) (a c : A) → (if b then None else Some a) ≡ Some c → (b ≡ false) × (a ≡ c)
+pub unless_back : {A : Type 0} (b : Bool) (a c : A) → (if b then None else Some a) ≡ Some c → (b ≡ false) × (a ≡ c)
 unless_back true a c e = absurd (cc)
 unless_back false a c e = (refl, cc)
 
@@ -119,7 +119,7 @@ pub record IsNew (seen : List (List ℕ)) (ts : Tokens) (b : List ℕ × Tokens)
   pub names : Names token b.0
   pub new : is_one_of seen b.0 ≡ false
 
-new_back : (seen : List (List ℕ)) (ts : Tokens) (b : List ℕ × Tokens) → new_name seen ts ≡ Some b → IsNew seen ts b
+pub new_back : (seen : List (List ℕ)) (ts : Tokens) (b : List ℕ × Tokens) → new_name seen ts ≡ Some b → IsNew seen ts b
 new_back seen [] b e = absurd (cc)
 new_back seen (t ∷ ts) b e =
     let p = onward_back (name_of_token t) (λ name. if is_one_of seen name then None else Some (name, drop 1 (t ∷ ts))) b e in

@@ -31,10 +31,6 @@ IsFunctionOf text f = (ts : Tokens) × IsCutInto text ts × SpellsFunction f ts
 abbrev pub levels_of_function : FunctionType → ℕ
 levels_of_function f = max (levels_of_fields (fields_of f.params)) (levels_of_fields (fields_of f.results))
 
--- the tokens spell no function within `levels` levels
-abbrev pub SpellsNoFunction : ℕ → Tokens → Type 0
-SpellsNoFunction levels ts = (f : FunctionType) → SpellsFunction f ts → levels < levels_of_function f
-
 -- the text spells no function within a hundred levels, or there was no memory
 abbrev pub IsNoFunction : List ℕ → TypeErrorKind → Type 0
 IsNoFunction text kind = (kind ≡ OutOfMemory) ⊎ ((f : FunctionType) → IsFunctionOf text f → 100 < levels_of_function f)

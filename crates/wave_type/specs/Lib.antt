@@ -11,5 +11,8 @@ pub mod FunctionEquality
 pub mod FunctionEqualityLaws
 pub mod TypeSpelling
 pub mod TypeErrors
+pub mod TypeWords
+pub mod TypeFaults
+pub mod TypeItems
 pub mod FunctionSpelling
 pub mod GoodNames

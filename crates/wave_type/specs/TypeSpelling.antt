@@ -145,10 +145,6 @@ abbrev mutual
   levels_of_cases no_cases = 0
   levels_of_cases (case_of name payload more) = max (levels_of_payload payload) (levels_of_cases more)
 
--- the tokens spell no type within `levels` levels
-abbrev pub SpellsNone : ℕ → Tokens → Type 0
-SpellsNone levels ts = (T : TypeTree) → Spells T ts [] → levels < levels_of T
-
 -- the text spells no type within a hundred levels, or there was no memory
 abbrev pub IsNoType : List ℕ → TypeErrorKind → Type 0
 IsNoType text kind = (kind ≡ OutOfMemory) ⊎ ((T : TypeTree) → IsTypeOf text T → 100 < levels_of T)

@@ -1,12 +1,15 @@
 //! Types from their tokens.
-ghost use Rattle.std.specs.Prelude.{ℕ, List, [], ◌∷◌, ◌++◌, ◌≡◌, IfOk, IfErr, MatchBool, option_map, Some, None, drop, length, codes};
+ghost use Rattle.std.specs.Prelude.{ℕ, List, [], ◌∷◌, ◌++◌, ◌≡◌, ◌<◌, IfOk, IfErr, MatchBool, option_map, Some, None, drop, length, codes};
 ghost use Rattle.wave_wasm.specs.declared.wasm.WasmTypeKind.TheVariants as kinds;
 ghost use Rattle.wave_wasm.specs.Borrowed.{texts, named};
-ghost use Rattle.wave_type.specs.Private.TypeTokens.{Answers, texts_of};
-ghost use Rattle.wave_type.specs.Private.TypeReading.{first_of, second_is, key_of_word, after, closed, kind_of_word, kind_at};
-ghost use Rattle.wave_type.specs.Private.TypeReading.{name_of_token, name_at, HasNames, new_name, without_percent, count_of_token, count_at, key_at};
-ghost use Rattle.wave_type.specs.Private.TypeReading.{names_read, types_read, fields_read, cases_read, payload_read, list_read, fixed_read, option_read};
-ghost use Rattle.wave_type.specs.Private.TypeReading.{map_read, result_read, payloads_read, err_read, kind_read, type_read, enum_read, flags_read};
+ghost use Rattle.wave_type.specs.TypeFaults.{Part, type_due, key_due, ok_due, part_due, close_due, payloads_due, payload_due, due_behind};
+ghost use Rattle.wave_type.specs.TypeFaults.{no_more, a_length, more_types, more_fields, more_cases, more_names};
+ghost use Rattle.wave_type.specs.TypeMade.{simple_type};
+ghost use Rattle.wave_type.specs.TypeWords.{kind_of_word, key_of_word, without_percent, name_of_token, count_of_token, is_mark};
+ghost use Rattle.wave_type.specs.Private.TypeTokens.{Answers, IsRefused, GoesOn, RefusesName, misplaced, texts_of};
+ghost use Rattle.wave_type.specs.Private.TypeReading.{first_of, after, closed, kind_at, name_at, HasNames, new_name, count_at, key_at};
+ghost use Rattle.wave_type.specs.Private.TypeReading.{names_read, types_read, fields_read, cases_read, payload_read, list_read, fixed_behind};
+ghost use Rattle.wave_type.specs.Private.TypeReading.{option_read, map_read, result_read, payloads_read, err_behind, kind_read, type_read, enum_read, flags_read};
 
 use crate::error::TypeErrorKind;
 use crate::tokens::Token;
@@ -18,8 +21,7 @@ use std::collections::BTreeSet;
 use std::marker::Model;
 use wave_wasm::wasm::WasmTypeKind;
 
-/// The tokens that are left to read. What can't be read stays, so that the next token is the one
-/// that is refused.
+/// The tokens that are left to read. After a refusal the next token is the one that is refused.
 #[derive(Drop)]
 pub(crate) struct Reader<'tokens, 'text> {
     rest: &'tokens [Token<'text>],
@@ -107,6 +109,16 @@ fn count_of_token(token: &str) -> Option<u32>
     }
 }
 
+/// Whether the token is a mark, and no word, number, char or string.
+fn is_mark(token: &str) -> bool
+    ensures { result ≡ is_mark token.now }
+{
+    matches!(
+        token,
+        "{" | "}" | "(" | ")" | "[" | "]" | ":" | "," | "<" | ">" | "_" | "-"
+    )
+}
+
 impl<'tokens, 'text> Reader<'tokens, 'text> {
     /// What reads these tokens.
     pub(crate) fn new(tokens: &'tokens [Token<'text>]) -> Self
@@ -122,12 +134,13 @@ impl<'tokens, 'text> Reader<'tokens, 'text> {
         self.rest.len()
     }
 
-    /// Why the next token, or the end, is refused.
-    pub(crate) fn refusal(&self) -> TypeErrorKind {
-        match self.rest.first() {
-            None => TypeErrorKind::UnexpectedEnd,
-            Some(token) if !token.known => TypeErrorKind::InvalidToken,
-            Some(_) => TypeErrorKind::UnexpectedToken,
+    /// Why the next token, or the end, is refused where another is due.
+    pub(crate) fn refusal(&self) -> TypeErrorKind
+        ensures { result ≡ misplaced self.now }
+    {
+        match self.rest.is_empty() {
+            true => TypeErrorKind::UnexpectedEnd,
+            false => TypeErrorKind::UnexpectedToken,
         }
     }
 
@@ -150,16 +163,6 @@ impl<'tokens, 'text> Reader<'tokens, 'text> {
         }
     }
 
-    /// Whether the mark stands after the next token.
-    fn second_is(&self, mark: &str) -> bool
-        ensures { result ≡ second_is mark.now self.now }
-    {
-        match self.rest.get(1) {
-            Some(token) => token.text == mark,
-            None => false,
-        }
-    }
-
     /// Whether the mark stands next; it is taken then.
     pub(crate) fn takes(&mut self, mark: &str) -> bool
         ensures { MatchBool result (after mark.now self.old ≡ Some self.new) ((after mark.now self.old ≡ None) × (self.new ≡ self.old)) }
@@ -173,64 +176,62 @@ impl<'tokens, 'text> Reader<'tokens, 'text> {
         }
     }
 
-    /// Whether the mark stands next, perhaps after a comma; both are taken then.
-    pub(crate) fn closes(&mut self, mark: &str) -> bool
-        ensures { MatchBool result (closed mark.now self.old ≡ Some self.new) ((closed mark.now self.old ≡ None) × (self.new ≡ self.old)) }
-    {
-        if self.takes(mark) {
-            return true;
-        }
-        if !self.second_is(mark) {
-            return false;
-        }
-        let comma = self.takes(",");
-        if comma {
-            self.skip();
-        }
-        comma
-    }
-
     /// Takes the mark, which has to stand next.
     pub(crate) fn expect(&mut self, mark: &str) -> Result<(), TypeErrorKind>
         ensures taken { IfOk result (λ _. after mark.now self.old ≡ Some self.new) }
-        ensures refused { IfErr result (λ _. after mark.now self.old ≡ None) }
+        ensures refused { IfErr result (λ kind. (after mark.now self.old ≡ None) × (kind ≡ misplaced self.old) × (self.new ≡ self.old)) }
     {
-        match self.takes(mark) {
-            true => Ok(()),
-            false => Err(self.refusal()),
+        if !self.takes(mark) {
+            return Err(self.refusal());
         }
+        Ok(())
+    }
+
+    /// Whether parts end here: takes the mark that ends them, perhaps after a comma, or a comma alone.
+    pub(crate) fn ends(&mut self, mark: &str) -> Result<bool, TypeErrorKind>
+        ensures taken { IfOk result (λ end. MatchBool end (closed mark.now self.old ≡ Some self.new) (GoesOn mark.now self.old self.new)) }
+        ensures refused { IfErr result (λ kind. (part : Part) → IsRefused (close_due mark.now part) self.old kind self.new) }
+    {
+        if self.takes(mark) {
+            return Ok(true);
+        }
+        self.expect(",")?;
+        Ok(self.takes(mark))
     }
 
     /// Takes the mark, which has to stand next, perhaps after a comma.
     fn close(&mut self, mark: &str) -> Result<(), TypeErrorKind>
         ensures taken { IfOk result (λ _. closed mark.now self.old ≡ Some self.new) }
-        ensures refused { IfErr result (λ _. closed mark.now self.old ≡ None) }
+        ensures refused { IfErr result (λ kind. IsRefused (close_due mark.now no_more) self.old kind self.new) }
     {
-        match self.closes(mark) {
-            true => Ok(()),
-            false => Err(self.refusal()),
+        if !self.ends(mark)? {
+            return Err(self.refusal());
         }
+        Ok(())
     }
 
-    /// Takes the word of a kind, which has to stand next.
-    fn kind(&mut self) -> Result<WasmTypeKind, TypeErrorKind>
-        ensures { Answers (λ kind. kind) result self.new (kind_at self.old) }
+    /// Takes the word of a kind, which has to stand next, where a level is left.
+    fn kind(&mut self, levels: usize) -> Result<WasmTypeKind, TypeErrorKind>
+        ensures taken { IfOk result (λ kind. (kind_at self.old ≡ Some (kind, self.new)) × (0 < levels)) }
+        ensures refused { IfErr result (λ kind. IsRefused (type_due levels) self.old kind self.new) }
     {
         let Some(word) = self.next() else {
             return Err(TypeErrorKind::UnexpectedEnd);
         };
-        match kind_of_word(word) {
-            Some(kind) => {
-                self.skip();
-                Ok(kind)
-            }
-            None => Err(self.refusal()),
+        let Some(kind) = kind_of_word(word) else {
+            return Err(TypeErrorKind::UnexpectedToken);
+        };
+        if levels == 0 {
+            return Err(TypeErrorKind::NestingTooDeep);
         }
+        self.skip();
+        Ok(kind)
     }
 
     /// Takes the word of a simple type, which has to stand next.
     fn key(&mut self) -> Result<Type, TypeErrorKind>
-        ensures { Answers (λ key. key) result self.new (key_at self.old) }
+        ensures taken { IfOk result (λ key. key_at self.old ≡ Some (key, self.new)) }
+        ensures refused { IfErr result (λ kind. IsRefused key_due self.old kind self.new) }
     {
         let Some(word) = self.next() else {
             return Err(TypeErrorKind::UnexpectedEnd);
@@ -240,13 +241,15 @@ impl<'tokens, 'text> Reader<'tokens, 'text> {
                 self.skip();
                 Ok(key)
             }
+            None if is_mark(word) => Err(TypeErrorKind::UnexpectedToken),
             None => Err(TypeErrorKind::InvalidKeyType),
         }
     }
 
-    /// Takes a count, which has to stand next.
+    /// Takes the length of a list, which has to stand next.
     fn length(&mut self) -> Result<u32, TypeErrorKind>
-        ensures { Answers (λ count. count) result self.new (count_at self.old) }
+        ensures taken { IfOk result (λ count. count_at self.old ≡ Some (count, self.new)) }
+        ensures refused { IfErr result (λ kind. (mark : List ℕ) → IsRefused (part_due mark a_length) self.old kind self.new) }
     {
         let Some(token) = self.next() else {
             return Err(TypeErrorKind::UnexpectedEnd);
@@ -256,6 +259,7 @@ impl<'tokens, 'text> Reader<'tokens, 'text> {
                 self.skip();
                 Ok(count)
             }
+            None if is_mark(token) => Err(TypeErrorKind::UnexpectedToken),
             None => Err(TypeErrorKind::InvalidCount),
         }
     }
@@ -263,7 +267,7 @@ impl<'tokens, 'text> Reader<'tokens, 'text> {
     /// The name that stands next.
     fn name(&self) -> Result<&'text str, TypeErrorKind>
         ensures named { IfOk result (λ name. name_at self.now ≡ Some name.now) }
-        ensures refused { IfErr result (λ _. name_at self.now ≡ None) }
+        ensures refused { IfErr result (λ kind. (kind ≡ misplaced self.now) × (name_at self.now ≡ None)) }
     {
         let Some(token) = self.next() else {
             return Err(TypeErrorKind::UnexpectedEnd);
@@ -277,8 +281,9 @@ impl<'tokens, 'text> Reader<'tokens, 'text> {
     /// Takes a name, which has to stand next and is none of those that were taken; it is one of them
     /// then.
     fn new_name(&mut self, taken: &mut BTreeSet<&'text str>) -> Result<&'text str, TypeErrorKind>
-        ensures read { (names : List (List ℕ)) → HasNames taken.old names → Answers (λ name. name.now) result self.new (new_name names self.old) }
+        ensures read { IfOk result (λ name. (names : List (List ℕ)) → HasNames taken.old names → new_name names self.old ≡ Some (name.now, self.new)) }
         ensures added { IfOk result (λ name. (names : List (List ℕ)) → HasNames taken.old names → HasNames taken.new (names ++ name.now ∷ [])) }
+        ensures refused { IfErr result (λ kind. (names : List (List ℕ)) → HasNames taken.old names → RefusesName names self.old kind self.new) }
     {
         let name = self.name()?;
         if !taken.insert(name)? {
@@ -290,30 +295,26 @@ impl<'tokens, 'text> Reader<'tokens, 'text> {
 
     /// Takes names through the mark.
     fn names(&mut self, alloc: Global, mark: &str) -> Result<Vec<&'text str>, TypeErrorKind>
-        ensures { Answers (λ names. texts names.items) result self.new (names_read mark.now self.old) }
+        ensures { Answers (λ names. texts names.items) result self.old self.new (names_read mark.now self.old) (λ dues. part_due mark.now (more_names []) ∷ dues) }
     {
         let mut taken = BTreeSet::new(alloc);
         let mut names = Vec::new(alloc);
         for _part in 0..self.rest.len() {
             let name = self.new_name(&mut taken)?;
             names.push(name)?;
-            if self.closes(mark) {
+            if self.ends(mark)? {
                 return Ok(names);
             }
-            self.expect(",")?;
         }
-        Err(self.refusal())
+        Err(TypeErrorKind::UnexpectedEnd)
     }
 
     /// Takes a type, within `levels` levels.
     #[cycle(types)]
     pub(crate) fn ty(&mut self, alloc: Global, levels: usize) -> Result<Type, TypeErrorKind>
-        ensures { Answers (λ ty. ty) result self.new (type_read levels self.old) }
+        ensures { Answers (λ ty. ty) result self.old self.new (type_read levels self.old) (λ dues. type_due levels ∷ dues) }
     {
-        if levels == 0 {
-            return Err(TypeErrorKind::NestingTooDeep);
-        }
-        let kind = self.kind()?;
+        let kind = self.kind(levels)?;
         self.of_kind(alloc, kind, levels - 1)
     }
 
@@ -325,7 +326,7 @@ impl<'tokens, 'text> Reader<'tokens, 'text> {
         kind: WasmTypeKind,
         levels: usize,
     ) -> Result<Type, TypeErrorKind>
-        ensures { Answers (λ ty. ty) result self.new (kind_read (type_read levels) kind self.old) }
+        ensures { Answers (λ ty. ty) result self.old self.new (kind_read (type_read levels) kind self.old) (λ dues. due_behind levels kind ++ dues) }
     {
         match kind {
             WasmTypeKind::List => self.list(alloc, levels),
@@ -351,27 +352,37 @@ impl<'tokens, 'text> Reader<'tokens, 'text> {
             | WasmTypeKind::Char
             | WasmTypeKind::String
             | WasmTypeKind::FixedLengthList
-            | WasmTypeKind::Unsupported => Type::simple(kind).ok_or(TypeErrorKind::UnexpectedToken),
+            | WasmTypeKind::Unsupported => self.simple(kind),
+        }
+    }
+
+    /// The type without parts of this kind.
+    fn simple(&self, kind: WasmTypeKind) -> Result<Type, TypeErrorKind>
+        ensures taken { IfOk result (λ ty. simple_type kind ≡ Some ty) }
+        ensures refused { IfErr result (λ fault. (simple_type kind ≡ None) × IsRefused (part_due (codes ">") no_more) self.now fault self.now) }
+    {
+        match Type::simple(kind) {
+            Some(ty) => Ok(ty),
+            None => Err(self.refusal()),
         }
     }
 
     #[cycle(types)]
     fn list(&mut self, alloc: Global, levels: usize) -> Result<Type, TypeErrorKind>
-        ensures { Answers (λ ty. ty) result self.new (list_read (type_read levels) self.old) }
+        ensures { Answers (λ ty. ty) result self.old self.new (list_read (type_read levels) self.old) (λ dues. due_behind levels kinds.List ++ dues) }
     {
         self.expect("<")?;
         let element = self.ty(alloc, levels)?;
-        if self.closes(">") {
+        if self.ends(">")? {
             return Ok(Type::list(alloc, element)?);
         }
         self.fixed(alloc, element)
     }
 
-    /// Takes the length of a list after its element type.
+    /// Takes the length of a list after its element type and a comma.
     fn fixed(&mut self, alloc: Global, element: Type) -> Result<Type, TypeErrorKind>
-        ensures { Answers (λ ty. ty) result self.new (fixed_read element self.old) }
+        ensures { Answers (λ ty. ty) result self.old self.new (fixed_behind element self.old) (λ dues. part_due (codes ">") a_length ∷ dues) }
     {
-        self.expect(",")?;
         let count = self.length()?;
         self.close(">")?;
         Ok(Type::fixed_length_list(alloc, element, count)?)
@@ -379,7 +390,7 @@ impl<'tokens, 'text> Reader<'tokens, 'text> {
 
     #[cycle(types)]
     fn option(&mut self, alloc: Global, levels: usize) -> Result<Type, TypeErrorKind>
-        ensures { Answers (λ ty. ty) result self.new (option_read (type_read levels) self.old) }
+        ensures { Answers (λ ty. ty) result self.old self.new (option_read (type_read levels) self.old) (λ dues. due_behind levels kinds.Option ++ dues) }
     {
         self.expect("<")?;
         let some = self.ty(alloc, levels)?;
@@ -389,7 +400,7 @@ impl<'tokens, 'text> Reader<'tokens, 'text> {
 
     #[cycle(types)]
     fn map(&mut self, alloc: Global, levels: usize) -> Result<Type, TypeErrorKind>
-        ensures { Answers (λ ty. ty) result self.new (map_read (type_read levels) self.old) }
+        ensures { Answers (λ ty. ty) result self.old self.new (map_read (type_read levels) self.old) (λ dues. due_behind levels kinds.Map ++ dues) }
     {
         self.expect("<")?;
         let key = self.key()?;
@@ -401,7 +412,7 @@ impl<'tokens, 'text> Reader<'tokens, 'text> {
 
     #[cycle(types)]
     fn result(&mut self, alloc: Global, levels: usize) -> Result<Type, TypeErrorKind>
-        ensures { Answers (λ ty. ty) result self.new (result_read (type_read levels) self.old (after (codes "<") self.old)) }
+        ensures { Answers (λ ty. ty) result self.old self.new (result_read (type_read levels) self.old (after (codes "<") self.old)) (λ dues. payloads_due levels ∷ dues) }
     {
         match self.takes("<") {
             true => self.payloads(alloc, levels),
@@ -412,23 +423,24 @@ impl<'tokens, 'text> Reader<'tokens, 'text> {
     /// Takes the types of a result: `_` stands for no type of `ok` before one of `err`.
     #[cycle(types)]
     fn payloads(&mut self, alloc: Global, levels: usize) -> Result<Type, TypeErrorKind>
-        ensures { Answers (λ ty. ty) result self.new (payloads_read (type_read levels) self.old (after (codes "_") self.old)) }
+        ensures { Answers (λ ty. ty) result self.old self.new (payloads_read (type_read levels) self.old (after (codes "_") self.old)) (λ dues. ok_due levels ∷ dues) }
     {
         if self.takes("_") {
+            self.expect(",")?;
             return self.err(alloc, levels, None);
         }
         let ok = self.ty(alloc, levels)?;
-        if self.closes(">") {
+        if self.ends(">")? {
             return Ok(Type::result(alloc, Some(ok), None)?);
         }
         self.err(alloc, levels, Some(ok))
     }
 
+    /// Takes the type of `err` after a comma.
     #[cycle(types)]
     fn err(&mut self, alloc: Global, levels: usize, ok: Option<Type>) -> Result<Type, TypeErrorKind>
-        ensures { Answers (λ ty. ty) result self.new (err_read (type_read levels) ok self.old) }
+        ensures { Answers (λ ty. ty) result self.old self.new (err_behind (type_read levels) ok self.old) (λ dues. type_due levels ∷ close_due (codes ">") no_more ∷ dues) }
     {
-        self.expect(",")?;
         let err = self.ty(alloc, levels)?;
         self.close(">")?;
         Ok(Type::result(alloc, ok, Some(err))?)
@@ -436,37 +448,42 @@ impl<'tokens, 'text> Reader<'tokens, 'text> {
 
     #[cycle(types)]
     fn tuple(&mut self, alloc: Global, levels: usize) -> Result<Type, TypeErrorKind>
-        ensures { Answers (λ ty. ty) result self.new (kind_read (type_read levels) kinds.Tuple self.old) }
+        ensures { Answers (λ ty. ty) result self.old self.new (kind_read (type_read levels) kinds.Tuple self.old) (λ dues. due_behind levels kinds.Tuple ++ dues) }
     {
         self.expect("<")?;
         let types = self.types(alloc, levels)?;
-        Type::tuple(alloc, types)?.ok_or(TypeErrorKind::UnexpectedToken)
+        match Type::tuple(alloc, types)? {
+            Some(ty) => Ok(ty),
+            None => Err(self.refusal()),
+        }
     }
 
     /// Takes types through `>`.
     #[cycle(types)]
     fn types(&mut self, alloc: Global, levels: usize) -> Result<Vec<Type>, TypeErrorKind>
-        ensures { Answers (λ types. types.items) result self.new (types_read (type_read levels) self.old) }
+        ensures { Answers (λ types. types.items) result self.old self.new (types_read (type_read levels) self.old) (λ dues. part_due (codes ">") (more_types levels) ∷ dues) }
     {
         let mut types = Vec::new(alloc);
         for _part in 0..self.rest.len() {
             let ty = self.ty(alloc, levels)?;
             types.push(ty)?;
-            if self.closes(">") {
+            if self.ends(">")? {
                 return Ok(types);
             }
-            self.expect(",")?;
         }
-        Err(self.refusal())
+        Err(TypeErrorKind::UnexpectedEnd)
     }
 
     #[cycle(types)]
     fn record(&mut self, alloc: Global, levels: usize) -> Result<Type, TypeErrorKind>
-        ensures { Answers (λ ty. ty) result self.new (kind_read (type_read levels) kinds.Record self.old) }
+        ensures { Answers (λ ty. ty) result self.old self.new (kind_read (type_read levels) kinds.Record self.old) (λ dues. due_behind levels kinds.Record ++ dues) }
     {
         self.expect("{")?;
         let fields = self.fields(alloc, levels, "}")?;
-        Type::record(alloc, fields)?.ok_or(TypeErrorKind::UnexpectedToken)
+        match Type::record(alloc, fields)? {
+            Some(ty) => Ok(ty),
+            None => Err(self.refusal()),
+        }
     }
 
     /// Takes fields through the mark.
@@ -477,7 +494,7 @@ impl<'tokens, 'text> Reader<'tokens, 'text> {
         levels: usize,
         mark: &str,
     ) -> Result<Vec<(&'text str, Type)>, TypeErrorKind>
-        ensures { Answers (λ fields. named fields.items) result self.new (fields_read (type_read levels) mark.now self.old) }
+        ensures { Answers (λ fields. named fields.items) result self.old self.new (fields_read (type_read levels) mark.now self.old) (λ dues. part_due mark.now (more_fields levels []) ∷ dues) }
     {
         let mut taken = BTreeSet::new(alloc);
         let mut fields = Vec::new(alloc);
@@ -486,21 +503,23 @@ impl<'tokens, 'text> Reader<'tokens, 'text> {
             self.expect(":")?;
             let ty = self.ty(alloc, levels)?;
             fields.push((name, ty))?;
-            if self.closes(mark) {
+            if self.ends(mark)? {
                 return Ok(fields);
             }
-            self.expect(",")?;
         }
-        Err(self.refusal())
+        Err(TypeErrorKind::UnexpectedEnd)
     }
 
     #[cycle(types)]
     fn variant(&mut self, alloc: Global, levels: usize) -> Result<Type, TypeErrorKind>
-        ensures { Answers (λ ty. ty) result self.new (kind_read (type_read levels) kinds.Variant self.old) }
+        ensures { Answers (λ ty. ty) result self.old self.new (kind_read (type_read levels) kinds.Variant self.old) (λ dues. due_behind levels kinds.Variant ++ dues) }
     {
         self.expect("{")?;
         let cases = self.cases(alloc, levels)?;
-        Type::variant(alloc, cases)?.ok_or(TypeErrorKind::UnexpectedToken)
+        match Type::variant(alloc, cases)? {
+            Some(ty) => Ok(ty),
+            None => Err(self.refusal()),
+        }
     }
 
     /// Takes cases through `}`.
@@ -510,7 +529,7 @@ impl<'tokens, 'text> Reader<'tokens, 'text> {
         alloc: Global,
         levels: usize,
     ) -> Result<Vec<(&'text str, Option<Type>)>, TypeErrorKind>
-        ensures { Answers (λ cases. named cases.items) result self.new (cases_read (type_read levels) self.old) }
+        ensures { Answers (λ cases. named cases.items) result self.old self.new (cases_read (type_read levels) self.old) (λ dues. part_due (codes "}") (more_cases levels []) ∷ dues) }
     {
         let mut taken = BTreeSet::new(alloc);
         let mut cases = Vec::new(alloc);
@@ -518,18 +537,17 @@ impl<'tokens, 'text> Reader<'tokens, 'text> {
             let name = self.new_name(&mut taken)?;
             let payload = self.payload(alloc, levels)?;
             cases.push((name, payload))?;
-            if self.closes("}") {
+            if self.ends("}")? {
                 return Ok(cases);
             }
-            self.expect(",")?;
         }
-        Err(self.refusal())
+        Err(TypeErrorKind::UnexpectedEnd)
     }
 
     /// Takes the payload of a case, where there is one.
     #[cycle(types)]
     fn payload(&mut self, alloc: Global, levels: usize) -> Result<Option<Type>, TypeErrorKind>
-        ensures { Answers (λ p. p) result self.new (payload_read (type_read levels) self.old (after (codes "(") self.old)) }
+        ensures { Answers (λ p. p) result self.old self.new (payload_read (type_read levels) self.old (after (codes "(") self.old)) (λ dues. payload_due levels ∷ dues) }
     {
         if !self.takes("(") {
             return Ok(None);
@@ -540,18 +558,24 @@ impl<'tokens, 'text> Reader<'tokens, 'text> {
     }
 
     fn enumeration(&mut self, alloc: Global) -> Result<Type, TypeErrorKind>
-        ensures { Answers (λ ty. ty) result self.new (enum_read self.old) }
+        ensures { Answers (λ ty. ty) result self.old self.new (enum_read self.old) (λ dues. due_behind 0 kinds.Enum ++ dues) }
     {
         self.expect("{")?;
         let names = self.names(alloc, "}")?;
-        Type::enum_ty(alloc, names.as_slice())?.ok_or(TypeErrorKind::UnexpectedToken)
+        match Type::enum_ty(alloc, names.as_slice())? {
+            Some(ty) => Ok(ty),
+            None => Err(self.refusal()),
+        }
     }
 
     fn flags(&mut self, alloc: Global) -> Result<Type, TypeErrorKind>
-        ensures { Answers (λ ty. ty) result self.new (flags_read self.old) }
+        ensures { Answers (λ ty. ty) result self.old self.new (flags_read self.old) (λ dues. due_behind 0 kinds.Flags ++ dues) }
     {
         self.expect("{")?;
         let names = self.names(alloc, "}")?;
-        Type::flags(alloc, names.as_slice())?.ok_or(TypeErrorKind::UnexpectedToken)
+        match Type::flags(alloc, names.as_slice())? {
+            Some(ty) => Ok(ty),
+            None => Err(self.refusal()),
+        }
     }
 }

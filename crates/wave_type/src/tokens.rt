@@ -1,10 +1,12 @@
 //! The tokens of the text of a type.
 ghost use Rattle.std.specs.Prelude.{◌≡◌, IfOk};
-ghost use Rattle.wave_type.specs.TypeSpelling.{IsCutInto};
-ghost use Rattle.wave_type.specs.Private.TypeTokens.{texts_of, AreWithin};
+ghost use Rattle.wave_wasm.specs.Names.{is_one_of};
+ghost use Rattle.wave_type.specs.Private.TypeTokens.{items_of, IsKnownAs};
+ghost use Rattle.wave_type.specs.TypeItems.{AreItems};
+ghost use Rattle.wave_type.specs.TypeWords.{marks_of_types};
 
 use std::alloc::{AllocError, Global};
-use wave_lex::lex::Lexer;
+use wave_lex::lex::{self, Lexer, Span};
 
 /// A token: its text, where it begins, and whether it is a token of the encoding or one more that
 /// types have.
@@ -16,24 +18,33 @@ pub(crate) struct Token<'text> {
 }
 
 /// Whether the text is that of a token that types have beside those of the encoding; `->` is two.
-fn is_mark(text: &str) -> bool {
+fn is_mark_of_types(text: &str) -> bool
+    ensures { result ≡ is_one_of marks_of_types text.now }
+{
     matches!(text, "<" | ">" | "_" | "-")
+}
+
+/// Whether the item of this text is a token of the encoding, or one more that types have.
+fn is_known(item: &Result<lex::Token, Span>, text: &str) -> bool
+    ensures { IsKnownAs item.now text.now result }
+{
+    match item {
+        Ok(_) => true,
+        Err(_) => is_mark_of_types(text),
+    }
 }
 
 /// The tokens of the text.
 pub(crate) fn tokens_of(alloc: Global, text: &str) -> Result<Vec<Token<'_>>, AllocError>
-    ensures cut { IfOk result (λ v. IsCutInto text.now (texts_of v.items)) }
-    ensures within { IfOk result (λ v. AreWithin text.now v.items) }
+    ensures { IfOk result (λ v. AreItems text.now 0 (items_of v.items)) }
 {
     let mut tokens = Vec::new(alloc);
     let mut lexer = Lexer::new(text);
     while let Some(item) = lexer.next() {
-        let known = item.is_ok() || is_mark(lexer.slice());
-        tokens.push(Token {
-            text: lexer.slice(),
-            start: lexer.span().start,
-            known,
-        })?;
+        let text = lexer.slice();
+        let known = is_known(&item, text);
+        let start = lexer.span().start;
+        tokens.push(Token { text, start, known })?;
     }
     Ok(tokens)
 }

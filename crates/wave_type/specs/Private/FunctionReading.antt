@@ -3,7 +3,8 @@ use Rattle.std.specs.Prelude.{ℕ, List, [], ◌∷◌, codes, Option, Some, Non
 use Rattle.wave_wasm.specs.Types.{TypeTree}
 use Rattle.wave_type.specs.FunctionType.{FunctionType}
 use Rattle.wave_type.specs.TypeSpelling.{Tokens}
-use Rattle.wave_type.specs.Private.TypeReading.{onward, after, Reads, fields_read}
+use Rattle.wave_type.specs.Private.TypeReading.{after, Reads, fields_read}
+use Rattle.wave_type.specs.TypeWords.{onward}
 
 -- names and types, and what follows
 abbrev pub PartsRead : Type 0

@@ -4,12 +4,7 @@ use Rattle.wave_wasm.specs.Names.{is_one_of}
 use Rattle.wave_wasm.specs.Types as type
 use Rattle.wave_wasm.specs.Types.{TypeTree, MaybeType, Types, Fields, Cases}
 use Rattle.wave_wasm.specs.Types.{no_type, a_type, no_types, type_and, no_fields, field, no_cases, case_of, field_names, case_names}
-use Rattle.wave_lex.specs.Shared.Derive.{after_all, may_be_empty}
-use Rattle.wave_lex.specs.Tokens.{label}
-
--- the name is a label
-abbrev pub is_label : List ℕ → Bool
-is_label name = may_be_empty (after_all name label)
+use Rattle.wave_type.specs.TypeWords.{is_label}
 
 -- the names are labels, and none stands twice
 abbrev pub are_label_names : List (List ℕ) → Bool

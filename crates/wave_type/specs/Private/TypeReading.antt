@@ -1,31 +1,21 @@
 -- How the types of a text are read from its tokens, step by step.
-use Rattle.std.specs.Prelude.{ℕ, ◌≡◌, zero, suc, ◌^◌, ◌&&◌, nat_lt, Bool, false, ◌==◌, if◌then◌else◌}
+use Rattle.std.specs.Prelude.{ℕ, ◌≡◌, zero, suc, if◌then◌else◌}
 use Rattle.std.specs.Prelude.{List, [], ◌∷◌, ◌++◌, map, length, drop, codes, Option, Some, None}
 use Rattle.std.specs.Borrow.{Bor}
 use Rattle.std.specs.BTreeSet.{BTreeSet, contains_by}
 use Rattle.std.specs.Cmp.Lexicographic.{slice_cmp}
-use Rattle.std.specs.Fmt.{decimal}
-use Rattle.std.specs.List.{find}
 use Rattle.std.specs.Ordering.{nat_cmp}
 use Rattle.std.specs.Str.{bytes_eq}
-use Rattle.std.specs.Str.Parse.{digits_value}
 use Rattle.wave_wasm.specs.declared.wasm.WasmTypeKind.{WasmTypeKind}
 use Rattle.wave_wasm.specs.declared.wasm.WasmTypeKind.TheVariants as kinds
 use Rattle.wave_wasm.specs.Names.{is_one_of}
-use Rattle.wave_wasm.specs.TypeText.{kind_word}
 use Rattle.wave_wasm.specs.Types as type
 use Rattle.wave_wasm.specs.Types.{TypeTree, maybe_type}
-use Rattle.wave_type.specs.Private.LabelTest.{is_label}
 use Rattle.wave_type.specs.TypeMade.{simple_type, record_type, tuple_type, variant_type, enum_type, flags_type, map_type}
 use Rattle.wave_type.specs.TypeSpelling.{Tokens}
+use Rattle.wave_type.specs.TypeWords.{onward, kind_of_word, key_of_word, name_of_token, count_of_token}
 
 -- ---- one step and then another
-
-module _ {A B : Type 0} where
-  -- what is read after the first
-  abbrev pub onward : Option A → (A → Option B) → Option B
-  onward None next = None
-  onward (Some a) next = next a
 
 module _ {A : Type 0} where
   -- the first, or else the second
@@ -59,35 +49,10 @@ abbrev pub first_of : Tokens → Option (List ℕ)
 first_of [] = None
 first_of (t ∷ ts) = Some t
 
--- the mark stands after the next token
-abbrev pub second_is : List ℕ → Tokens → Bool
-second_is mark (t ∷ u ∷ ts) = bytes_eq u mark
-second_is mark ts = false
-
--- the kinds of the types that can be read
-abbrev pub readable_kinds : List WasmTypeKind
-readable_kinds =
-    kinds.Bool ∷ kinds.S8 ∷ kinds.S16 ∷ kinds.S32 ∷ kinds.S64 ∷ kinds.U8 ∷ kinds.U16 ∷ kinds.U32 ∷ kinds.U64
-    ∷ kinds.F32 ∷ kinds.F64 ∷ kinds.Char ∷ kinds.String ∷ kinds.List ∷ kinds.Record ∷ kinds.Tuple
-    ∷ kinds.Variant ∷ kinds.Enum ∷ kinds.Option ∷ kinds.Result ∷ kinds.Flags ∷ kinds.Map ∷ []
-
--- the kind whose types begin with this word
-abbrev pub kind_of_word : List ℕ → Option WasmTypeKind
-kind_of_word word = find (λ kind. bytes_eq word (kind_word kind)) readable_kinds
-
 -- the kind whose word stands next, and what follows
 abbrev pub kind_at : Tokens → Option (WasmTypeKind × Tokens)
 kind_at [] = None
 kind_at (t ∷ ts) = made (kind_of_word t) ts
-
--- the token without a `%` before it
-abbrev pub without_percent : List ℕ → List ℕ
-without_percent [] = []
-without_percent (c ∷ cs) = if c == 37 then cs else c ∷ cs
-
--- the name that the token is
-abbrev pub name_of_token : List ℕ → Option (List ℕ)
-name_of_token t = if is_label (without_percent t) then Some (without_percent t) else None
 
 -- the name that stands next
 abbrev pub name_at : Tokens → Option (List ℕ)
@@ -101,10 +66,6 @@ HasNames set names = (name : List ℕ) → contains_by (λ k. slice_cmp nat_cmp 
 -- the name that stands next and is none of these, and what follows
 abbrev pub new_name : List (List ℕ) → Tokens → Option (List ℕ × Tokens)
 new_name seen ts = onward (name_at ts) (λ name. if is_one_of seen name then None else Some (name, drop 1 ts))
-
--- the count that the token is
-abbrev pub count_of_token : List ℕ → Option ℕ
-count_of_token t = let n = digits_value 10 t in if bytes_eq t (decimal n) && nat_lt n (2 ^ 32) then Some n else None
 
 -- the count that stands next, and what follows
 abbrev pub count_at : Tokens → Option (ℕ × Tokens)
@@ -138,18 +99,13 @@ flags_read ts = onward (after (codes "{") ts) (λ m. onward (names_read (codes "
 abbrev pub Reads : Type 0
 Reads = Tokens → Option (TypeTree × Tokens)
 
--- a count and `>`, after the element type of a list
-abbrev pub fixed_read : TypeTree → Tokens → Option (TypeTree × Tokens)
-fixed_read E ts = onward (after (codes ",") ts) (λ m. onward (count_at m) (λ n. with (type.fixed E n.0) (closed (codes ">") n.1)))
+-- a count and `>`, after the element type of a list and a comma
+abbrev pub fixed_behind : TypeTree → Reads
+fixed_behind E ts = onward (count_at ts) (λ n. with (type.fixed E n.0) (closed (codes ">") n.1))
 
--- the type, where it is simple
-abbrev pub only_simple : Option TypeTree → Option TypeTree
-only_simple (Some (type.simple S)) = Some (type.simple S)
-only_simple _ = None
-
--- the simple type of this word
-abbrev pub key_of_word : List ℕ → Option TypeTree
-key_of_word word = onward (kind_of_word word) (λ kind. only_simple (simple_type kind))
+-- the same with the comma
+abbrev pub fixed_read : TypeTree → Reads
+fixed_read E ts = onward (after (codes ",") ts) (fixed_behind E)
 
 -- the key type that stands next
 abbrev pub key_at : Tokens → Option (TypeTree × Tokens)
@@ -207,10 +163,13 @@ module _ (read : Reads) where
   map_read ts =
       onward (after (codes "<") ts) (λ m. onward (key_at m) (λ K. onward (after (codes ",") K.1) (map_behind K.0)))
 
-  -- the type of `err` through `>`
+  -- the type of `err` through `>`, after a comma
+  abbrev pub err_behind : Option TypeTree → Reads
+  err_behind A ts = onward (read ts) (λ b. with (type.result (maybe_type A) (type.a_type b.0)) (closed (codes ">") b.1))
+
+  -- the same with the comma
   abbrev pub err_read : Option TypeTree → Reads
-  err_read A ts =
-      onward (after (codes ",") ts) (λ m. onward (read m) (λ b. with (type.result (maybe_type A) (type.a_type b.0)) (closed (codes ">") b.1)))
+  err_read A ts = onward (after (codes ",") ts) (err_behind A)
 
   -- the types of a result, by what follows a `_`
   abbrev pub payloads_read : Tokens → Option Tokens → Option (TypeTree × Tokens)

@@ -1,14 +1,16 @@
 //! Types of functions from their texts.
-ghost use Rattle.std.specs.Prelude.{◌≡◌, ◌≤◌, ◌⊎◌, IfOk, IfErr, map, codes};
+ghost use Rattle.std.specs.Prelude.{◌≡◌, ◌≤◌, IfOk, IfErr, ◌∷◌, ◌++◌, [], map, codes};
 ghost use Rattle.wave_lex.specs.Errors.{LiesInText};
 ghost use Rattle.wave_wasm.specs.Borrowed.{named};
 ghost use Rattle.wave_type.specs.declared.error.TypeErrorKind.TheVariants.{OutOfMemory};
-ghost use Rattle.wave_type.specs.FunctionSpelling.{SpellsFunction, SpellsNoFunction, IsFunctionOf, IsNoFunction, levels_of_function};
+ghost use Rattle.wave_type.specs.FunctionSpelling.{SpellsFunction, IsFunctionOf, IsNoFunction, levels_of_function};
 ghost use Rattle.wave_type.specs.FunctionType.{named_function};
 ghost use Rattle.wave_type.specs.GoodNames.{IsGoodFunction};
 ghost use Rattle.wave_type.specs.Private.FunctionReading.{params_read, result_parts_read, results_read, function_read};
 ghost use Rattle.wave_type.specs.Private.TypeReading.{after, type_read};
-ghost use Rattle.wave_type.specs.Private.TypeTokens.{Answers};
+ghost use Rattle.wave_type.specs.Private.TypeTokens.{Answers, IsRefusal};
+ghost use Rattle.wave_type.specs.TypeFaults.{due_of_function, mark_due, last_due, results_due, result_due, more_fields};
+ghost use Rattle.wave_type.specs.TypeItems.{IsFunctionFault};
 ghost use Rattle.wave_type.specs.TypeModel.{by_bytes};
 
 use super::FuncType;
@@ -16,7 +18,7 @@ use crate::error::{TypeError, TypeErrorKind};
 use crate::reader::Reader;
 use crate::tokens::tokens_of;
 use crate::ty::Type;
-use crate::ty::parse::{MAX_LEVELS, place};
+use crate::ty::parse::{MAX_LEVELS, refusal};
 use std::alloc::{AllocError, Global};
 
 impl FuncType {
@@ -28,6 +30,7 @@ impl FuncType {
         ensures levels { IfOk result (λ f. levels_of_function f ≤ 100) }
         ensures labels { IfOk result (λ f. IsGoodFunction f) }
         ensures refused { IfErr result (λ e. IsNoFunction text.now e.kind) }
+        ensures fault { IfErr result (λ e. IsFunctionFault text.now e) }
         ensures within { IfErr result (λ e. LiesInText text.now e.span) }
     {
         let tokens = match tokens_of(alloc, text) {
@@ -37,7 +40,7 @@ impl FuncType {
         let mut reader = Reader::new(tokens.as_slice());
         match whole_function(alloc, &mut reader, MAX_LEVELS) {
             Ok(function) => Ok(function),
-            Err(kind) => Err(TypeError::new(kind, place(text, &tokens, reader.count()))),
+            Err(kind) => Err(refusal(text, &tokens, reader.count(), kind)),
         }
     }
 }
@@ -46,7 +49,6 @@ impl FuncType {
 type Parts<'text> = Vec<(&'text str, Type)>;
 
 /// Takes the type of a function, after which nothing stands.
-#[tactic(auto, using(crate::proofs::FunctionsRead::function_sound, crate::proofs::FunctionsRead::function_none, crate::proofs::FunctionsRead::function_left))]
 fn whole_function(
     alloc: Global,
     reader: &mut Reader<'_, '_>,
@@ -55,11 +57,11 @@ fn whole_function(
     ensures spelled { IfOk result (λ f. SpellsFunction f reader.old) }
     ensures levels { IfOk result (λ f. levels_of_function f ≤ levels) }
     ensures labels { IfOk result (λ f. IsGoodFunction f) }
-    ensures refused { IfErr result (λ kind. (kind ≡ OutOfMemory) ⊎ SpellsNoFunction levels reader.old) }
+    ensures refused { IfErr result (λ kind. IsRefusal (due_of_function levels) reader.old kind reader.new) }
 {
     let (params, results) = function(alloc, reader, levels)?;
     if reader.count() > 0 {
-        return Err(reader.refusal());
+        return Err(TypeErrorKind::UnexpectedToken);
     }
     made(alloc, params, results)
 }
@@ -70,7 +72,7 @@ fn function<'text>(
     reader: &mut Reader<'_, 'text>,
     levels: usize,
 ) -> Result<(Parts<'text>, Parts<'text>), TypeErrorKind>
-    ensures { Answers (λ p. named_function p.0.items p.1.items) result reader.new (function_read (type_read levels) reader.old) }
+    ensures { Answers (λ p. named_function p.0.items p.1.items) result reader.old reader.new (function_read (type_read levels) reader.old) (λ dues. due_of_function levels ++ dues) }
 {
     reader.expect("func")?;
     reader.expect("(")?;
@@ -85,7 +87,7 @@ fn params<'text>(
     reader: &mut Reader<'_, 'text>,
     levels: usize,
 ) -> Result<Parts<'text>, TypeErrorKind>
-    ensures { Answers (λ v. named v.items) result reader.new (params_read (type_read levels) reader.old (after (codes ")") reader.old)) }
+    ensures { Answers (λ v. named v.items) result reader.old reader.new (params_read (type_read levels) reader.old (after (codes ")") reader.old)) (λ dues. last_due (codes ")") (more_fields levels []) ∷ dues) }
 {
     if reader.takes(")") {
         return Ok(Vec::new(alloc));
@@ -99,7 +101,7 @@ fn results<'text>(
     reader: &mut Reader<'_, 'text>,
     levels: usize,
 ) -> Result<Parts<'text>, TypeErrorKind>
-    ensures { Answers (λ v. named v.items) result reader.new (results_read (type_read levels) reader.old (after (codes "-") reader.old)) }
+    ensures { Answers (λ v. named v.items) result reader.old reader.new (results_read (type_read levels) reader.old (after (codes "-") reader.old)) (λ dues. results_due levels ∷ dues) }
 {
     if !reader.takes("-") {
         return Ok(Vec::new(alloc));
@@ -114,7 +116,7 @@ fn result_parts<'text>(
     reader: &mut Reader<'_, 'text>,
     levels: usize,
 ) -> Result<Parts<'text>, TypeErrorKind>
-    ensures { Answers (λ v. named v.items) result reader.new (result_parts_read (type_read levels) reader.old (after (codes "(") reader.old)) }
+    ensures { Answers (λ v. named v.items) result reader.old reader.new (result_parts_read (type_read levels) reader.old (after (codes "(") reader.old)) (λ dues. result_due levels ∷ dues) }
 {
     if reader.takes("(") {
         return reader.fields(alloc, levels, ")");

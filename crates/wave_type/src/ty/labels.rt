@@ -4,7 +4,8 @@ ghost use Rattle.wave_wasm.specs.Types.{IsOwn, types_of, fields_of, cases_of, ma
 ghost use Rattle.wave_lex.specs.Labels.{Good};
 ghost use Rattle.wave_type.specs.TypeModel.{by_bytes};
 ghost use Rattle.wave_type.specs.Private.NameIndex.{AreFirstPlaces};
-ghost use Rattle.wave_type.specs.Private.LabelTest.{is_label, are_label_names, names_pass, types_pass, fields_pass, cases_pass, payload_passes};
+ghost use Rattle.wave_type.specs.Private.LabelTest.{are_label_names, names_pass, types_pass, fields_pass, cases_pass, payload_passes};
+ghost use Rattle.wave_type.specs.TypeWords.{is_label};
 
 use super::index::{Named, first_place};
 use super::{Shape, Type};

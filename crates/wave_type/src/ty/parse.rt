@@ -1,17 +1,17 @@
 //! Types from their texts.
-ghost use Rattle.std.specs.Prelude.{◌≡◌, ◌≤◌, ◌⊎◌, IfOk, IfErr, []};
+ghost use Rattle.std.specs.Prelude.{◌≡◌, ◌≤◌, ◌-◌, IfOk, IfErr, [], drop, length};
 ghost use Rattle.wave_lex.specs.Errors.{LiesInText};
 ghost use Rattle.wave_lex.specs.Labels.{Good};
-ghost use Rattle.wave_type.specs.Private.TypeTokens.{AreWithin};
-ghost use Rattle.wave_type.specs.TypeSpelling.{Spells, SpellsNone, IsTypeOf, IsNoType, levels_of};
-ghost use Rattle.wave_type.specs.declared.error.TypeErrorKind.TheVariants.{OutOfMemory};
+ghost use Rattle.wave_type.specs.Private.TypeTokens.{IsRefusal, IsRefusalAt, items_of};
+ghost use Rattle.wave_type.specs.TypeFaults.{due_of_type};
+ghost use Rattle.wave_type.specs.TypeItems.{AreItems, IsTypeFault, kind_at};
+ghost use Rattle.wave_type.specs.TypeSpelling.{Spells, IsTypeOf, IsNoType, levels_of};
 
 use super::Type;
 use crate::error::{TypeError, TypeErrorKind};
 use crate::reader::Reader;
 use crate::tokens::{Token, tokens_of};
 use std::alloc::Global;
-use wave_lex::lex::Span;
 
 /// How many types may stand one inside another.
 pub(crate) const MAX_LEVELS: usize = 100;
@@ -20,11 +20,15 @@ impl Type {
     /// The type that the text spells, in the form in which types are displayed: as in WIT, with
     /// blanks, line ends and `//` comments between the tokens, perhaps a comma after the last part,
     /// and perhaps a `%` before a name. At most a hundred types may stand one inside another.
+    ///
+    /// A refusal stands at the first token with which no type begins any more, or at the empty end of
+    /// the text, where it is `UnexpectedEnd`; one for memory at 0..0.
     pub fn parse(alloc: Global, text: &str) -> Result<Type, TypeError>
         ensures spelled { IfOk result (λ ty. IsTypeOf text.now ty) }
         ensures levels { IfOk result (λ ty. levels_of ty ≤ 100) }
         ensures labels { IfOk result (λ ty. Good ty) }
         ensures refused { IfErr result (λ e. IsNoType text.now e.kind) }
+        ensures fault { IfErr result (λ e. IsTypeFault text.now e) }
         ensures within { IfErr result (λ e. LiesInText text.now e.span) }
     {
         let tokens = match tokens_of(alloc, text) {
@@ -34,13 +38,12 @@ impl Type {
         let mut reader = Reader::new(tokens.as_slice());
         match whole_type(alloc, &mut reader, MAX_LEVELS) {
             Ok(ty) => Ok(ty),
-            Err(kind) => Err(TypeError::new(kind, place(text, &tokens, reader.count()))),
+            Err(kind) => Err(refusal(text, &tokens, reader.count(), kind)),
         }
     }
 }
 
 /// Takes a type within `levels` levels, after which nothing stands.
-#[tactic(auto, using(crate::proofs::WholeTypes::whole_sound, crate::proofs::WholeTypes::whole_refused, crate::proofs::WholeTypes::whole_left))]
 fn whole_type(
     alloc: Global,
     reader: &mut Reader<'_, '_>,
@@ -49,22 +52,46 @@ fn whole_type(
     ensures spelled { IfOk result (λ ty. Spells ty reader.old []) }
     ensures levels { IfOk result (λ ty. levels_of ty ≤ levels) }
     ensures labels { IfOk result (λ ty. Good ty) }
-    ensures refused { IfErr result (λ kind. (kind ≡ OutOfMemory) ⊎ SpellsNone levels reader.old) }
+    ensures refused { IfErr result (λ kind. IsRefusal (due_of_type levels) reader.old kind reader.new) }
 {
     let ty = reader.ty(alloc, levels)?;
     if reader.count() > 0 {
-        return Err(reader.refusal());
+        return Err(TypeErrorKind::UnexpectedToken);
     }
     Ok(ty)
 }
 
-/// Where the first of the last `left` tokens stands; the end of the text where there is none.
-pub(crate) fn place(text: &str, tokens: &Vec<Token<'_>>, left: usize) -> Span
-    requires { AreWithin text.now tokens.now.items }
-    ensures { LiesInText text.now result }
+/// The refusal of this kind at the first of the last `left` tokens, or at the end of the text where there
+/// is none. A refusal for memory stands at 0..0.
+pub(crate) fn refusal(
+    text: &str,
+    tokens: &Vec<Token<'_>>,
+    left: usize,
+    kind: TypeErrorKind,
+) -> TypeError
+    requires { AreItems text.now 0 (items_of tokens.now.items) }
+    ensures stands { IsRefusalAt text.now (drop (length tokens.now.items - left) (items_of tokens.now.items)) kind result }
+    ensures within { LiesInText text.now result.span }
 {
+    if let TypeErrorKind::OutOfMemory = kind {
+        return TypeError::new(kind, 0..0);
+    }
     match tokens.get(tokens.len().saturating_sub(left)) {
-        Some(token) => token.start..token.start + token.text.len(),
-        None => text.len()..text.len(),
+        None => TypeError::new(kind, text.len()..text.len()),
+        Some(token) => TypeError::new(
+            kind_at(token, kind),
+            token.start..token.start + token.text.len(),
+        ),
+    }
+}
+
+/// The kind of the refusal where the token stands that is refused so.
+fn kind_at(token: &Token<'_>, kind: TypeErrorKind) -> TypeErrorKind
+    ensures { result ≡ kind_at token.now.known kind }
+{
+    if token.known {
+        kind
+    } else {
+        TypeErrorKind::InvalidToken
     }
 }

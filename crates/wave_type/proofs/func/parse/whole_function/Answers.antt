@@ -1,16 +1,19 @@
-use Rattle.std.proofs.Common.{◌≤◌, inr, arith}
+use Rattle.std.proofs.Common.{◌≤◌, ◌≡◌, List, ◌++◌, Err, rules, arith}
 use Rattle.wave_type.specs.FunctionType.{named_function}
 use Rattle.wave_type.specs.FunctionSpelling.{SpellsFunction, levels_of_function}
-use Rattle.wave_type.proofs.FunctionsRead.{function_sound, function_left, ok_more}
+use Rattle.wave_type.specs.Private.TypeTokens.{IsRefusal}
+use Rattle.wave_type.specs.TypeFaults.{Due, due_of_function}
+use Rattle.wave_type.proofs.FunctionsRead.{function_sound, ok_more}
 use Rattle.wave_type.specs.GoodNames.{IsGoodFunction}
 use Rattle.wave_type.proofs.SpelledNames.{function_good}
 use Rattle.wave_type.proofs.TypeLevels.{function_low}
+use Rattle.wave_type.proofs.WholeFaults.{err_if, fails_alone, function_is_left}
 use Rattle.wave_type.proofs.func.parse.whole_function.Goals as goal
 
 pub returns-then-count-gt0-clause-refused : goal.returns-then-count-gt0-clause-refused
 returns-then-count-gt0-clause-refused c =
     let f = named_function c.in_ok-params.params.items c.in_ok-params.results.items in
-    inr (function_left c.args.levels c.args.reader.now c.function.new.reader f c.in_ok-params.ensures (λ none. omega (arith, none, c.count.ensures, c.if-count-gt0.true)))
+    function_is_left c.args.levels c.args.reader.now c.function.new.reader f c.in_ok-params.ensures (λ none. omega (arith, none, c.count.ensures, c.if-count-gt0.true))
 
 pub returns-clause-spelled : goal.returns-clause-spelled
 returns-clause-spelled c =
@@ -29,3 +32,9 @@ returns-clause-labels c =
     let f = named_function c.in_ok-params.params.items c.in_ok-params.results.items in
     let spelled = function_sound c.args.levels c.args.reader.now c.function.new.reader f c.in_ok-params.ensures (omega (arith, c.count.ensures, c.if-count-gt0.false)) in
     ok_more (λ g. IsGoodFunction g) f c.made.result c.made.ensures.made (function_good f c.args.reader.now spelled)
+
+pub returns-in_err-params-clause-refused : goal.returns-in_err-params-clause-refused
+returns-in_err-params-clause-refused c =
+    let kind = c.in_err-params.field-0.0 in
+    let same : c.from_residual.result ≡ Err kind = search rules in
+    err_if (λ kind. IsRefusal (due_of_function c.args.levels) c.args.reader.now kind c.function.new.reader) c.from_residual.result kind same (fails_alone (λ (dues : List Due). due_of_function c.args.levels ++ dues) c.args.reader.now c.function.new.reader kind c.in_err-params.ensures)

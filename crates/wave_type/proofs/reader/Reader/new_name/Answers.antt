@@ -1,10 +1,11 @@
-use Rattle.std.proofs.Common.{Some, sym, ap, ◌∙◌, inr}
-use Rattle.wave_type.proofs.PartSteps.{has_one, has_more, name_taken, name_new}
+use Rattle.std.proofs.Common.{Some, sym, ap, ◌∙◌}
+use Rattle.wave_type.proofs.PartSteps.{has_one, has_more, name_new}
+use Rattle.wave_type.proofs.ReaderSteps.{repeated}
 use Rattle.wave_type.proofs.reader.Reader.new_name.Goals as goal
 
-pub returns-then-not-branch-clause-read : goal.returns-then-not-branch-clause-read
-returns-then-not-branch-clause-read c = λ names h.
-    inr (name_taken names c.args.self.now c.in_ok-name.name.now c.in_ok-name.ensures.named (has_one c.args.taken.now names c.in_ok-name.name c.in_ok-insert.field-0 h c.in_ok-insert.ensures.added ∙ cc))
+pub returns-then-not-branch-clause-refused : goal.returns-then-not-branch-clause-refused
+returns-then-not-branch-clause-refused c = λ names h.
+    repeated names c.args.self.now c.in_ok-name.name.now c.in_ok-name.ensures.named (has_one c.args.taken.now names c.in_ok-name.name c.in_ok-insert.field-0 h c.in_ok-insert.ensures.added ∙ cc)
 
 pub returns-clause-read : goal.returns-clause-read
 returns-clause-read c = λ names h.

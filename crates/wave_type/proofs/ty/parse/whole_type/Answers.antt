@@ -1,18 +1,24 @@
-use Rattle.std.proofs.Common.{[], rules, arith}
-use Rattle.std.proofs.lemmas.Grind.{common_steps}
+use Rattle.std.proofs.Common.{[], ◌∷◌, rules, arith, ◌≡◌, Err}
+use Rattle.wave_type.specs.Private.TypeTokens.{IsRefusal}
+use Rattle.wave_type.specs.TypeFaults.{type_due, due_of_type}
 use Rattle.wave_type.proofs.SpelledNames.{spelled_good}
-use Rattle.wave_type.proofs.WholeTypes.{whole_sound, whole_refused, whole_left}
+use Rattle.wave_type.proofs.WholeTypes.{whole_sound}
+use Rattle.wave_type.proofs.WholeFaults.{err_if, fails_alone, type_left}
 use Rattle.wave_type.proofs.TypeLevels.{read_low}
 use Rattle.wave_type.proofs.ty.parse.whole_type.Goals as goal
 
 pub returns-in_err-ty-clause-refused : goal.returns-in_err-ty-clause-refused
 returns-in_err-ty-clause-refused c =
-    let refused = whole_refused c.args.levels c.args.reader.now _ c.in_err-ty.ensures in
-    first_of (search (rules, refused), grind (arith, common_steps, refused))
+    let kind = c.in_err-ty.field-0.0 in
+    let same : c.from_residual.result ≡ Err kind = search rules in
+    err_if (λ kind. IsRefusal (due_of_type c.args.levels) c.args.reader.now kind c.ty.new.self) c.from_residual.result kind same (fails_alone (λ dues. type_due c.args.levels ∷ dues) c.args.reader.now c.ty.new.self kind c.in_err-ty.ensures)
 
 pub returns-then-count-gt0-clause-refused : goal.returns-then-count-gt0-clause-refused
 returns-then-count-gt0-clause-refused c =
-    whole_left c.args.levels c.args.reader.now c.ty.new.self c.in_ok-ty.ty c.refusal.result c.in_ok-ty.ensures (λ none. omega (arith, none, c.count.ensures, c.if-count-gt0.true))
+    type_left c.args.levels c.args.reader.now c.ty.new.self c.in_ok-ty.ty c.in_ok-ty.ensures (λ none. omega (arith, none, c.count.ensures, c.if-count-gt0.true))
+
+pub returns-clause-spelled : goal.returns-clause-spelled
+returns-clause-spelled c = whole_sound c.args.levels c.args.reader.now c.ty.new.self c.in_ok-ty.ty c.in_ok-ty.ensures (omega (arith, c.count.ensures, c.if-count-gt0.false))
 
 pub returns-clause-levels : goal.returns-clause-levels
 returns-clause-levels c = read_low c.args.levels c.args.reader.now (c.in_ok-ty.ty, c.ty.new.self) c.in_ok-ty.ensures
