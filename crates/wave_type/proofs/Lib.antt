@@ -25,3 +25,5 @@ pub mod FaultSteps
 pub mod SpelledRuns
 pub mod ReaderSteps
 pub mod WholeFaults
+pub mod FaultLaws
+pub mod Beginnings

@@ -181,7 +181,7 @@ none_more : (m n : List ℕ) (ms : List (List ℕ)) → IsNoneOf ms m → (n ≢
 none_more m n [] h new = ((λ e. new (sym e)), tt)
 none_more m n (k ∷ ms) h new = (h.0, none_more m n ms h.1 new)
 
-distinct_more : (ms : List (List ℕ)) (n : List ℕ) → AreDistinct ms → is_one_of ms n ≡ false → AreDistinct (ms ++ (n ∷ []))
+pub distinct_more : (ms : List (List ℕ)) (n : List ℕ) → AreDistinct ms → is_one_of ms n ≡ false → AreDistinct (ms ++ (n ∷ []))
 distinct_more [] n h new = (tt, tt)
 distinct_more (m ∷ ms) n h new =
     let p = other_back n m (bytes_eq n m) (is_one_of ms n) refl new in
@@ -241,7 +241,7 @@ pub field_names_of : (xs : List (List ℕ × TypeTree)) → map (λ f. f.0) xs �
 field_names_of [] = refl
 field_names_of (x ∷ xs) = ap (λ l. x.0 ∷ l) (field_names_of xs)
 
-case_names_of : (xs : List (List ℕ × Option TypeTree)) → map (λ c. c.0) xs ≡ case_names (cases_of xs)
+pub case_names_of : (xs : List (List ℕ × Option TypeTree)) → map (λ c. c.0) xs ≡ case_names (cases_of xs)
 case_names_of [] = refl
 case_names_of (x ∷ xs) = ap (λ l. x.0 ∷ l) (case_names_of xs)
 

@@ -13,6 +13,7 @@ pub mod TypeSpelling
 pub mod TypeErrors
 pub mod TypeWords
 pub mod TypeFaults
+pub mod TypeFaultLaws
 pub mod TypeItems
 pub mod FunctionSpelling
 pub mod GoodNames

@@ -9,7 +9,8 @@ use Rattle.wave_wasm.specs.declared.wasm.WasmTypeKind.{WasmTypeKind}
 use Rattle.wave_wasm.specs.declared.wasm.WasmTypeKind.TheVariants as kinds
 use Rattle.wave_wasm.specs.Names.{is_one_of}
 use Rattle.wave_type.specs.declared.error.TypeErrorKind.{TypeErrorKind}
-use Rattle.wave_type.specs.declared.error.TypeErrorKind.TheVariants.{UnexpectedToken, UnexpectedEnd, DuplicateName, InvalidKeyType, InvalidCount, NestingTooDeep}
+use Rattle.wave_type.specs.declared.error.TypeErrorKind.TheVariants.{UnexpectedToken, UnexpectedEnd, DuplicateName}
+use Rattle.wave_type.specs.declared.error.TypeErrorKind.TheVariants.{InvalidKeyType, InvalidCount, NestingTooDeep}
 use Rattle.wave_type.specs.TypeSpelling.{Tokens}
 use Rattle.wave_type.specs.TypeWords.{kind_of_word, key_of_word, name_of_token, count_of_token, is_mark}
 

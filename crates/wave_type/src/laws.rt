@@ -10,6 +10,7 @@ ghost use Rattle.wave_type.specs.FunctionType.{FunctionType, types_of, func_of};
 ghost use Rattle.wave_type.specs.GoodNames.{IsGoodFunction};
 ghost use Rattle.wave_type.specs.TypeConversion.{converted_type};
 ghost use Rattle.wave_type.specs.TypeEquality.{same_tree};
+ghost use Rattle.wave_type.specs.TypeFaultLaws.{TakenBeginsType, NoneBeginsWithRefused, EndsAtEnd};
 ghost use Rattle.wave_type.specs.TypeSpelling.{IsTypeOf};
 ghost use Rattle.wave_type.specs.TypeTexts.{TypeTextTells};
 
@@ -58,4 +59,21 @@ pub fn type_text_spells()
 pub fn function_text_spells()
     ensures { (f : FunctionType) → AllOf IsOwn (types_of f.params) → AllOf IsOwn (types_of f.results) → IsGoodFunction f
         → IsFunctionOf (function_text (func_of f)) f }
+{}
+
+/// The tokens before the one where a text is refused as no type begin a type, of whatever levels; so do
+/// all its tokens where the end is refused.
+pub fn taken_tokens_begin_a_type()
+    ensures { TakenBeginsType }
+{}
+
+/// With the refused token as well they begin no type within the levels; nor do those of a text that is
+/// refused as no type of a function begin one.
+pub fn refused_token_begins_no_type()
+    ensures { NoneBeginsWithRefused }
+{}
+
+/// The kind is `UnexpectedEnd` exactly where all tokens were taken.
+pub fn end_alone_is_unexpected_end()
+    ensures { EndsAtEnd }
 {}

@@ -9,7 +9,8 @@ ghost use Rattle.wave_type.specs.TypeWords.{kind_of_word, key_of_word, without_p
 ghost use Rattle.wave_type.specs.Private.TypeTokens.{Answers, IsRefused, GoesOn, RefusesName, misplaced, texts_of};
 ghost use Rattle.wave_type.specs.Private.TypeReading.{first_of, after, closed, kind_at, name_at, HasNames, new_name, count_at, key_at};
 ghost use Rattle.wave_type.specs.Private.TypeReading.{names_read, types_read, fields_read, cases_read, payload_read, list_read, fixed_behind};
-ghost use Rattle.wave_type.specs.Private.TypeReading.{option_read, map_read, result_read, payloads_read, err_behind, kind_read, type_read, enum_read, flags_read};
+ghost use Rattle.wave_type.specs.Private.TypeReading.{option_read, map_read, result_read, payloads_read, err_behind};
+ghost use Rattle.wave_type.specs.Private.TypeReading.{kind_read, type_read, enum_read, flags_read};
 
 use crate::error::TypeErrorKind;
 use crate::tokens::Token;
@@ -295,7 +296,8 @@ impl<'tokens, 'text> Reader<'tokens, 'text> {
 
     /// Takes names through the mark.
     fn names(&mut self, alloc: Global, mark: &str) -> Result<Vec<&'text str>, TypeErrorKind>
-        ensures { Answers (λ names. texts names.items) result self.old self.new (names_read mark.now self.old) (λ dues. part_due mark.now (more_names []) ∷ dues) }
+        ensures { Answers (λ names. texts names.items) result self.old self.new (names_read mark.now self.old)
+            (λ dues. part_due mark.now (more_names []) ∷ dues) }
     {
         let mut taken = BTreeSet::new(alloc);
         let mut names = Vec::new(alloc);
@@ -412,7 +414,8 @@ impl<'tokens, 'text> Reader<'tokens, 'text> {
 
     #[cycle(types)]
     fn result(&mut self, alloc: Global, levels: usize) -> Result<Type, TypeErrorKind>
-        ensures { Answers (λ ty. ty) result self.old self.new (result_read (type_read levels) self.old (after (codes "<") self.old)) (λ dues. payloads_due levels ∷ dues) }
+        ensures { Answers (λ ty. ty) result self.old self.new (result_read (type_read levels) self.old (after (codes "<") self.old))
+            (λ dues. payloads_due levels ∷ dues) }
     {
         match self.takes("<") {
             true => self.payloads(alloc, levels),
@@ -423,7 +426,8 @@ impl<'tokens, 'text> Reader<'tokens, 'text> {
     /// Takes the types of a result: `_` stands for no type of `ok` before one of `err`.
     #[cycle(types)]
     fn payloads(&mut self, alloc: Global, levels: usize) -> Result<Type, TypeErrorKind>
-        ensures { Answers (λ ty. ty) result self.old self.new (payloads_read (type_read levels) self.old (after (codes "_") self.old)) (λ dues. ok_due levels ∷ dues) }
+        ensures { Answers (λ ty. ty) result self.old self.new (payloads_read (type_read levels) self.old (after (codes "_") self.old))
+            (λ dues. ok_due levels ∷ dues) }
     {
         if self.takes("_") {
             self.expect(",")?;
@@ -439,7 +443,8 @@ impl<'tokens, 'text> Reader<'tokens, 'text> {
     /// Takes the type of `err` after a comma.
     #[cycle(types)]
     fn err(&mut self, alloc: Global, levels: usize, ok: Option<Type>) -> Result<Type, TypeErrorKind>
-        ensures { Answers (λ ty. ty) result self.old self.new (err_behind (type_read levels) ok self.old) (λ dues. type_due levels ∷ close_due (codes ">") no_more ∷ dues) }
+        ensures { Answers (λ ty. ty) result self.old self.new (err_behind (type_read levels) ok self.old)
+            (λ dues. type_due levels ∷ close_due (codes ">") no_more ∷ dues) }
     {
         let err = self.ty(alloc, levels)?;
         self.close(">")?;
@@ -448,7 +453,8 @@ impl<'tokens, 'text> Reader<'tokens, 'text> {
 
     #[cycle(types)]
     fn tuple(&mut self, alloc: Global, levels: usize) -> Result<Type, TypeErrorKind>
-        ensures { Answers (λ ty. ty) result self.old self.new (kind_read (type_read levels) kinds.Tuple self.old) (λ dues. due_behind levels kinds.Tuple ++ dues) }
+        ensures { Answers (λ ty. ty) result self.old self.new (kind_read (type_read levels) kinds.Tuple self.old)
+            (λ dues. due_behind levels kinds.Tuple ++ dues) }
     {
         self.expect("<")?;
         let types = self.types(alloc, levels)?;
@@ -461,7 +467,8 @@ impl<'tokens, 'text> Reader<'tokens, 'text> {
     /// Takes types through `>`.
     #[cycle(types)]
     fn types(&mut self, alloc: Global, levels: usize) -> Result<Vec<Type>, TypeErrorKind>
-        ensures { Answers (λ types. types.items) result self.old self.new (types_read (type_read levels) self.old) (λ dues. part_due (codes ">") (more_types levels) ∷ dues) }
+        ensures { Answers (λ types. types.items) result self.old self.new (types_read (type_read levels) self.old)
+            (λ dues. part_due (codes ">") (more_types levels) ∷ dues) }
     {
         let mut types = Vec::new(alloc);
         for _part in 0..self.rest.len() {
@@ -476,7 +483,8 @@ impl<'tokens, 'text> Reader<'tokens, 'text> {
 
     #[cycle(types)]
     fn record(&mut self, alloc: Global, levels: usize) -> Result<Type, TypeErrorKind>
-        ensures { Answers (λ ty. ty) result self.old self.new (kind_read (type_read levels) kinds.Record self.old) (λ dues. due_behind levels kinds.Record ++ dues) }
+        ensures { Answers (λ ty. ty) result self.old self.new (kind_read (type_read levels) kinds.Record self.old)
+            (λ dues. due_behind levels kinds.Record ++ dues) }
     {
         self.expect("{")?;
         let fields = self.fields(alloc, levels, "}")?;
@@ -494,7 +502,8 @@ impl<'tokens, 'text> Reader<'tokens, 'text> {
         levels: usize,
         mark: &str,
     ) -> Result<Vec<(&'text str, Type)>, TypeErrorKind>
-        ensures { Answers (λ fields. named fields.items) result self.old self.new (fields_read (type_read levels) mark.now self.old) (λ dues. part_due mark.now (more_fields levels []) ∷ dues) }
+        ensures { Answers (λ fields. named fields.items) result self.old self.new (fields_read (type_read levels) mark.now self.old)
+            (λ dues. part_due mark.now (more_fields levels []) ∷ dues) }
     {
         let mut taken = BTreeSet::new(alloc);
         let mut fields = Vec::new(alloc);
@@ -512,7 +521,8 @@ impl<'tokens, 'text> Reader<'tokens, 'text> {
 
     #[cycle(types)]
     fn variant(&mut self, alloc: Global, levels: usize) -> Result<Type, TypeErrorKind>
-        ensures { Answers (λ ty. ty) result self.old self.new (kind_read (type_read levels) kinds.Variant self.old) (λ dues. due_behind levels kinds.Variant ++ dues) }
+        ensures { Answers (λ ty. ty) result self.old self.new (kind_read (type_read levels) kinds.Variant self.old)
+            (λ dues. due_behind levels kinds.Variant ++ dues) }
     {
         self.expect("{")?;
         let cases = self.cases(alloc, levels)?;
@@ -529,7 +539,8 @@ impl<'tokens, 'text> Reader<'tokens, 'text> {
         alloc: Global,
         levels: usize,
     ) -> Result<Vec<(&'text str, Option<Type>)>, TypeErrorKind>
-        ensures { Answers (λ cases. named cases.items) result self.old self.new (cases_read (type_read levels) self.old) (λ dues. part_due (codes "}") (more_cases levels []) ∷ dues) }
+        ensures { Answers (λ cases. named cases.items) result self.old self.new (cases_read (type_read levels) self.old)
+            (λ dues. part_due (codes "}") (more_cases levels []) ∷ dues) }
     {
         let mut taken = BTreeSet::new(alloc);
         let mut cases = Vec::new(alloc);
@@ -547,7 +558,8 @@ impl<'tokens, 'text> Reader<'tokens, 'text> {
     /// Takes the payload of a case, where there is one.
     #[cycle(types)]
     fn payload(&mut self, alloc: Global, levels: usize) -> Result<Option<Type>, TypeErrorKind>
-        ensures { Answers (λ p. p) result self.old self.new (payload_read (type_read levels) self.old (after (codes "(") self.old)) (λ dues. payload_due levels ∷ dues) }
+        ensures { Answers (λ p. p) result self.old self.new (payload_read (type_read levels) self.old (after (codes "(") self.old))
+            (λ dues. payload_due levels ∷ dues) }
     {
         if !self.takes("(") {
             return Ok(None);

@@ -72,7 +72,8 @@ fn function<'text>(
     reader: &mut Reader<'_, 'text>,
     levels: usize,
 ) -> Result<(Parts<'text>, Parts<'text>), TypeErrorKind>
-    ensures { Answers (λ p. named_function p.0.items p.1.items) result reader.old reader.new (function_read (type_read levels) reader.old) (λ dues. due_of_function levels ++ dues) }
+    ensures { Answers (λ p. named_function p.0.items p.1.items) result reader.old reader.new (function_read (type_read levels) reader.old)
+        (λ dues. due_of_function levels ++ dues) }
 {
     reader.expect("func")?;
     reader.expect("(")?;
@@ -87,7 +88,8 @@ fn params<'text>(
     reader: &mut Reader<'_, 'text>,
     levels: usize,
 ) -> Result<Parts<'text>, TypeErrorKind>
-    ensures { Answers (λ v. named v.items) result reader.old reader.new (params_read (type_read levels) reader.old (after (codes ")") reader.old)) (λ dues. last_due (codes ")") (more_fields levels []) ∷ dues) }
+    ensures { Answers (λ v. named v.items) result reader.old reader.new (params_read (type_read levels) reader.old (after (codes ")") reader.old))
+        (λ dues. last_due (codes ")") (more_fields levels []) ∷ dues) }
 {
     if reader.takes(")") {
         return Ok(Vec::new(alloc));
@@ -101,7 +103,8 @@ fn results<'text>(
     reader: &mut Reader<'_, 'text>,
     levels: usize,
 ) -> Result<Parts<'text>, TypeErrorKind>
-    ensures { Answers (λ v. named v.items) result reader.old reader.new (results_read (type_read levels) reader.old (after (codes "-") reader.old)) (λ dues. results_due levels ∷ dues) }
+    ensures { Answers (λ v. named v.items) result reader.old reader.new (results_read (type_read levels) reader.old (after (codes "-") reader.old))
+        (λ dues. results_due levels ∷ dues) }
 {
     if !reader.takes("-") {
         return Ok(Vec::new(alloc));
@@ -116,7 +119,8 @@ fn result_parts<'text>(
     reader: &mut Reader<'_, 'text>,
     levels: usize,
 ) -> Result<Parts<'text>, TypeErrorKind>
-    ensures { Answers (λ v. named v.items) result reader.old reader.new (result_parts_read (type_read levels) reader.old (after (codes "(") reader.old)) (λ dues. result_due levels ∷ dues) }
+    ensures { Answers (λ v. named v.items) result reader.old reader.new (result_parts_read (type_read levels) reader.old (after (codes "(") reader.old))
+        (λ dues. result_due levels ∷ dues) }
 {
     if reader.takes("(") {
         return reader.fields(alloc, levels, ")");
