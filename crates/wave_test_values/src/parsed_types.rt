@@ -201,9 +201,19 @@ const REFUSED_FUNCTIONS: &[(&str, TypeErrorKind, usize, usize)] = &[
     ("func() >", TypeErrorKind::UnexpectedToken, 7, 8),
     ("func() ->", TypeErrorKind::UnexpectedEnd, 9, 9),
     ("func() -> ()", TypeErrorKind::UnexpectedToken, 11, 12),
-    ("func() -> (a: u8, %a: u8)", TypeErrorKind::DuplicateName, 18, 20),
+    (
+        "func() -> (a: u8, %a: u8)",
+        TypeErrorKind::DuplicateName,
+        18,
+        20,
+    ),
     ("func() -> u8, u8", TypeErrorKind::UnexpectedToken, 12, 13),
-    ("func() -> map<u8,> @", TypeErrorKind::UnexpectedToken, 17, 18),
+    (
+        "func() -> map<u8,> @",
+        TypeErrorKind::UnexpectedToken,
+        17,
+        18,
+    ),
 ];
 
 /// The first text of a function that isn't read as it should be.
