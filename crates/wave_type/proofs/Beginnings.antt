@@ -19,9 +19,11 @@ use Rattle.wave_type.specs.declared.error.TypeErrorKind.{TypeErrorKind}
 use Rattle.wave_type.specs.declared.error.TypeErrorKind.TheVariants.{UnexpectedToken, UnexpectedEnd, DuplicateName, InvalidKeyType, InvalidCount}
 use Rattle.wave_type.specs.TypeFaults.{Part, no_more, a_length, err_type, more_types, more_fields, more_cases, more_names}
 use Rattle.wave_type.specs.TypeFaults.{Due, mark_due, type_due, key_due, ok_due, part_due, close_due, last_due, payloads_due, payload_due, results_due, result_due}
-use Rattle.wave_type.specs.TypeFaults.{Step, takes, passes, refuses, due_behind, before, word_step, type_step, only_step, name_step, part_step, step, refused, due_of_type}
-use Rattle.wave_type.specs.TypeFaultLaws.{TakenBeginsType}
-use Rattle.wave_type.specs.TypeSpelling.{Tokens, Names, Closes, Spells, SpellsPayload, StandsAlone}
+use Rattle.wave_type.specs.TypeFaults.{Step, takes, passes, refuses, due_behind, before, word_step, type_step, only_step, name_step, part_step, step, refused, due_of_type, due_of_function}
+use Rattle.wave_type.specs.TypeFaultLaws.{TakenBegins}
+use Rattle.wave_type.specs.FunctionSpelling.{SpellsParts, SpellsResults}
+use Rattle.wave_type.specs.TypeSpelling.{Tokens, Names, Closes, Spells, SpellsFields, SpellsPayload, StandsAlone}
+use Rattle.wave_type.proofs.FunctionsRead.{Parts, no_empty_label}
 use Rattle.wave_type.specs.Private.TypeReading.{made}
 use Rattle.wave_type.specs.TypeWords.{kind_of_word, key_of_word, name_of_token, count_of_token}
 use Rattle.wave_type.proofs.FaultSteps.{by_step}
@@ -91,7 +93,13 @@ FillsFirst mark (more_fields n names) ts r = FillsPart mark (more_fields n names
 FillsFirst mark (more_cases n names) ts r = FillsPart mark (more_cases n names) ts r
 FillsFirst mark (more_names names) ts r = FillsPart mark (more_names names) ts r
 
--- the tokens, up to the rest, are what is due of a type; nothing is said of what is due of functions alone
+-- one type, or named results in parentheses
+abbrev FillsResult : Tokens → Tokens → Type 0
+FillsResult ts r =
+    ((T : TypeTree) × Spells T ts r)
+    ⊎ ((xs : List (List ℕ × TypeTree)) × (k : Tokens) × (ts ≡ codes "(" ∷ k) × AreParts (codes ")") IsField xs k r × AreNew [] (map (λ f. f.0) xs))
+
+-- the tokens, up to the rest, are what is due
 abbrev Fills : Due → Tokens → Tokens → Type 0
 Fills (mark_due mark) ts r = ts ≡ mark ∷ r
 Fills (type_due n) ts r = (T : TypeTree) × Spells T ts r
@@ -102,8 +110,8 @@ Fills (close_due mark part) ts r = (ts ≡ mark ∷ r) ⊎ ((u : Tokens) × (ts 
 Fills (last_due mark part) ts r = (ts ≡ mark ∷ r) ⊎ FillsPart mark part ts r
 Fills (payloads_due n) ts r = (T : TypeTree) × Spells T (codes "result" ∷ ts) r
 Fills (payload_due n) ts r = (p : Option TypeTree) × SpellsPayload (maybe_type p) ts r
-Fills (results_due n) ts r = Unit {0}
-Fills (result_due n) ts r = Unit {0}
+Fills (results_due n) ts r = (ts ≡ r) ⊎ ((k : Tokens) × (ts ≡ codes "-" ∷ codes ">" ∷ k) × FillsResult k r)
+Fills (result_due n) ts r = FillsResult ts r
 
 -- one after the other
 abbrev FillsAll : List Due → Tokens → Tokens → Type 0
@@ -145,8 +153,8 @@ some_tokens (close_due mark part) r = (mark ∷ r, inl refl)
 some_tokens (last_due mark part) r = (mark ∷ r, inl refl)
 some_tokens (payloads_due n) r = (codes "<" ∷ codes "bool" ∷ codes ">" ∷ r, (type.result (a_type (type.simple type.bool)) no_type, (codes "bool" ∷ codes ">" ∷ r, codes ">" ∷ r, refl, refl, inl refl)))
 some_tokens (payload_due n) r = (r, (None, refl))
-some_tokens (results_due n) r = (r, tt)
-some_tokens (result_due n) r = (r, tt)
+some_tokens (results_due n) r = (r, inl refl)
+some_tokens (result_due n) r = (codes "bool" ∷ r, inl (type.simple type.bool, refl))
 
 all_tokens : (dues : List Due) → (ts : Tokens) × FillsAll dues ts []
 all_tokens [] = ([], refl)
@@ -363,8 +371,18 @@ due_fill (payload_due n) t more us m e h = elim (taken_if (bytes_eq t (codes "("
       (Some T, (us, ap (λ w. w ∷ us) (mark_is t (codes "(") p.0), subst (Spells T us) (a ∙ ap (λ w. codes ")" ∷ w) z) s))
   | inr p ↦ let wrong : passes ≡ takes more = p.1 in absurd (cc)
 ]
-due_fill (results_due n) t more us m e h = tt
-due_fill (result_due n) t more us m e h = tt
+due_fill (results_due n) t more us m e h = elim (taken_if (bytes_eq t (codes "-")) (mark_due (codes ">") ∷ result_due n ∷ []) more passes e) as (λ _. Fills (results_due n) (t ∷ us) m) [
+  | inl p ↦
+      let (k, a, (r, f, z)) = subst (λ ds. FillsAll ds us m) (sym p.1) h in
+      inr (k, (λ i. mark_is t (codes "-") p.0 i ∷ a i), subst (FillsResult k) z f)
+  | inr p ↦ let wrong : passes ≡ takes more = p.1 in absurd (cc)
+]
+due_fill (result_due n) t more us m e h = elim (taken_if (bytes_eq t (codes "(")) (part_due (codes ")") (more_fields n []) ∷ []) more (type_step n t) e) as (λ _. FillsResult (t ∷ us) m) [
+  | inl p ↦
+      let (r, (xs, f, d), z) = subst (λ ds. FillsAll ds us m) (sym p.1) h in
+      inr (xs, us, ap (λ w. w ∷ us) (mark_is t (codes "(") p.0), subst (AreParts (codes ")") IsField xs us) z f, d)
+  | inr p ↦ inl (type_fill n t more us m p.1 h)
+]
 
 -- ---- what may be left out
 
@@ -421,8 +439,8 @@ step_no_pass (close_due mark part) t =
 step_no_pass (last_due mark part) t = inl (if_no_pass (bytes_eq t mark) (takes []) (part_step mark part t) tt (part_no_pass mark part t))
 step_no_pass (payloads_due n) t = inr (λ us e. (type.result no_type no_type, (refl, alone_if t us (bytes_eq t (codes "<")) (ok_due n ∷ []) refl e)))
 step_no_pass (payload_due n) t = inr (λ us e. (None, refl))
-step_no_pass (results_due n) t = inr (λ us e. tt)
-step_no_pass (result_due n) t = inr (λ us e. tt)
+step_no_pass (results_due n) t = inr (λ us e. inl refl)
+step_no_pass (result_due n) t = inl (if_no_pass (bytes_eq t (codes "(")) (takes (part_due (codes ")") (more_fields n []) ∷ [])) (type_step n t) tt (word_no_pass n (kind_of_word t)))
 
 pass_fill : (due : Due) (t : List ℕ) (us : Tokens) → step due t ≡ passes → Fills due (t ∷ us) (t ∷ us)
 pass_fill due t us e = elim (step_no_pass due t) as (λ _. Fills due (t ∷ us) (t ∷ us)) [ inl never ↦ absurd (subst NotPass e never) | inr fills ↦ fills us e ]
@@ -468,8 +486,40 @@ all_begin : (ts : Tokens) (dues : List Due) (kind : TypeErrorKind) (left : Token
 all_begin [] dues kind left e = from_here dues [] left (ended_begins dues dues kind left e)
 all_begin (t ∷ ts) dues kind left e = begins_at t ts left kind (λ dues. all_begin ts dues kind left) dues e
 
--- what is taken before a refusal begins a type
-pub taken_begins : TakenBeginsType
-taken_begins n ts left kind e =
-    let (front, same, more, (m, (T, s), end)) = all_begin ts (due_of_type n) kind left e in
-    (front, same, T, more, subst (Spells T (front ++ more)) end s)
+-- ---- functions
+
+parts_of : (ps : Parts) (ts r : Tokens) → SpellsFields (codes ")") (fields_of ps) ts r → AreDistinct (field_names (fields_of ps)) → SpellsParts ps ts r
+parts_of [] ts r h d = absurd h
+parts_of (p ∷ ps) ts r h d = (h, d)
+
+-- fields through `)`
+fields_fill : (xs : Parts) (ts r : Tokens) → AreParts (codes ")") IsField xs ts r → AreNew [] (map (λ f. f.0) xs) → SpellsParts xs ts r
+fields_fill xs ts r h d = parts_of xs ts r (fields_spelled (codes ")") xs ts r h) (subst AreDistinct (field_names_of xs) (distinct_of [] (map (λ f. f.0) xs) tt d))
+
+params_fill : (n : ℕ) (ts r : Tokens) → Fills (last_due (codes ")") (more_fields n [])) ts r → (ps : Parts) × SpellsParts ps ts r
+params_fill n ts r (inl e) = ([], e)
+params_fill n ts r (inr (xs, h, d)) = (xs, fields_fill xs ts r h d)
+
+named_fill : (rs : Parts) (ts m : Tokens) → ts ≡ codes "-" ∷ codes ">" ∷ codes "(" ∷ m → AreParts (codes ")") IsField rs m [] → SpellsParts rs m [] → SpellsResults rs ts
+named_fill [] ts m e h d = absurd h
+named_fill (([], T) ∷ []) ts m e (l, (t, k, q, n, s), c) d = absurd (no_empty_label n.0)
+named_fill (([], T) ∷ p ∷ ps) ts m e h d = (m, e, d)
+named_fill ((c ∷ cs, T) ∷ ps) ts m e h d = (m, e, d)
+
+results_fill : (n : ℕ) (ts : Tokens) → Fills (results_due n) ts [] → (rs : Parts) × SpellsResults rs ts
+results_fill n ts (inl e) = ([], e)
+results_fill n ts (inr (k, a, inl (T, s))) = (([], T) ∷ [], (k, a, s))
+results_fill n ts (inr (k, a, inr (xs, j, b, h, d))) = (xs, named_fill xs ts j (a ∙ ap (λ z. codes "-" ∷ codes ">" ∷ z) b) h (fields_fill xs j [] h d))
+
+-- what is taken before a refusal begins a type, or the type of a function
+pub taken_begins : TakenBegins
+taken_begins = record {
+  types = λ n ts left kind e.
+      let (front, same, more, (m, (T, s), end)) = all_begin ts (due_of_type n) kind left e in
+      (front, same, T, more, subst (Spells T (front ++ more)) end s);
+  functions = λ n ts left kind e.
+      let (front, same, more, (a, func, (b, paren, (c, params, (d, results, end))))) = all_begin ts (due_of_function n) kind left e in
+      let ps = params_fill n b c params in
+      let rs = results_fill n c (subst (Fills (results_due n) c) end results) in
+      (front, same, record { params = ps.0; results = rs.0 }, more, (b, c, func ∙ ap (λ z. codes "func" ∷ z) paren, ps.1, rs.1));
+}

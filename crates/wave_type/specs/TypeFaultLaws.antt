@@ -31,7 +31,9 @@ pub record NoneBeginsWithRefused : Type 0 where
 abbrev pub EndsAtEnd : Type 0
 EndsAtEnd = (ts left : Tokens) (dues : List Due) (kind : TypeErrorKind) → refused ts dues ≡ Some (kind, left) → (kind ≡ UnexpectedEnd) ↔ (left ≡ [])
 
--- law: the tokens before the refused one, or all of them where the end is refused, begin a type, of whatever levels
-abbrev pub TakenBeginsType : Type 0
-TakenBeginsType = (n : ℕ) (ts left : Tokens) (kind : TypeErrorKind) → refused ts (due_of_type n) ≡ Some (kind, left)
-    → (front : Tokens) × (ts ≡ front ++ left) × (T : TypeTree) × (rest : Tokens) × Spells T (front ++ rest) []
+-- law: the tokens before the refused one, or all of them where the end is refused, begin a type, of whatever levels; so of functions
+pub record TakenBegins : Type 0 where
+  pub types : (n : ℕ) (ts left : Tokens) (kind : TypeErrorKind) → refused ts (due_of_type n) ≡ Some (kind, left)
+      → (front : Tokens) × (ts ≡ front ++ left) × (T : TypeTree) × (rest : Tokens) × Spells T (front ++ rest) []
+  pub functions : (n : ℕ) (ts left : Tokens) (kind : TypeErrorKind) → refused ts (due_of_function n) ≡ Some (kind, left)
+      → (front : Tokens) × (ts ≡ front ++ left) × (f : FunctionType) × (rest : Tokens) × SpellsFunction f (front ++ rest)

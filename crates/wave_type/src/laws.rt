@@ -10,7 +10,7 @@ ghost use Rattle.wave_type.specs.FunctionType.{FunctionType, types_of, func_of};
 ghost use Rattle.wave_type.specs.GoodNames.{IsGoodFunction};
 ghost use Rattle.wave_type.specs.TypeConversion.{converted_type};
 ghost use Rattle.wave_type.specs.TypeEquality.{same_tree};
-ghost use Rattle.wave_type.specs.TypeFaultLaws.{TakenBeginsType, NoneBeginsWithRefused, EndsAtEnd};
+ghost use Rattle.wave_type.specs.TypeFaultLaws.{TakenBegins, NoneBeginsWithRefused, EndsAtEnd};
 ghost use Rattle.wave_type.specs.TypeSpelling.{IsTypeOf};
 ghost use Rattle.wave_type.specs.TypeTexts.{TypeTextTells};
 
@@ -62,9 +62,9 @@ pub fn function_text_spells()
 {}
 
 /// The tokens before the one where a text is refused as no type begin a type, of whatever levels; so do
-/// all its tokens where the end is refused.
+/// all its tokens where the end is refused. Likewise of types of functions.
 pub fn taken_tokens_begin_a_type()
-    ensures { TakenBeginsType }
+    ensures { TakenBegins }
 {}
 
 /// With the refused token as well they begin no type within the levels; nor do those of a text that is
