@@ -27,7 +27,8 @@ impl Node {
     /// type's order, then fields that the type hasn't). Where a constructor of
     /// `V` refuses, that is the cause, at the node that was read; `Value` refuses so for lack of
     /// memory alone, where the names of the type are distinct. A key is read as a key of a map of
-    /// such keys is; one that is a keyword is `InvalidType` at each type but bool that has values.
+    /// such keys is, but a label is refused without a detail; one that is a keyword is `InvalidType`
+    /// at each type but bool that has values.
     pub fn to_wasm_value<V: WasmValue>(
         &self,
         alloc: Global,
