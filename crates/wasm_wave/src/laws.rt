@@ -21,8 +21,9 @@ pub use wave_tree::laws::{
     untyped_reading_agrees, whole_texts_are_read,
 };
 pub use wave_type::laws::{
-    equal_functions, equal_types, function_text_spells, one_type_of_text, spelled_names_are_labels,
-    type_text_injective, type_text_spells, types_convert_to_themselves,
+    end_alone_is_unexpected_end, equal_functions, equal_types, function_text_spells,
+    one_type_of_text, refused_token_begins_no_type, spelled_names_are_labels,
+    taken_tokens_begin_a_type, type_text_injective, type_text_spells, types_convert_to_themselves,
 };
 pub use wave_value::laws::equal_values;
 pub use wave_wasm::laws::{key_text_injective, merging_keeps_last_values};
