@@ -15,11 +15,9 @@ use Rattle.wave_syntax.specs.declared.form.NodeType.TheVariants as kind
 use Rattle.wave_leaf.specs.Failures.{IsSameOrMemory, HasTwoTexts}
 use Rattle.wave_leaf.specs.PlainReading.{IsReadSparing}
 use Rattle.wave_leaf.specs.Reading.{IsReadAs}
-use Rattle.wave_decode.specs.Flat.{IsFlatAt}
 use Rattle.wave_decode.specs.KeptParts.{AreKeptWhereDue, AreOfType}
 use Rattle.wave_decode.specs.PartsOfKinds.{IsSimpleAt, AreParts}
 use Rattle.wave_decode.specs.TupleParts.{IsRow}
-use Rattle.wave_decode.specs.declared.parts.Parts.{Parts}
 use Rattle.wave_decode.specs.declared.parts.Parts.TheVariants as parts
 use Rattle.wave_decode.specs.declared.tuples.Row.{Row}
 use Rattle.wave_decode.specs.declared.values.Kept.{Kept}

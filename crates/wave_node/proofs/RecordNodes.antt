@@ -1,9 +1,6 @@
 -- Records whose fields are read in the order of their type, from a map of the nodes by their names.
-use Rattle.std.proofs.Common.{rules, ℕ, zero, suc, ◌≡◌, ◌⊎◌, inl, inr, ◌<◌, ◌≤◌, ◌+◌, ◌*◌, Bool, true, false, ◌||◌, cond, if◌then◌else◌, List, [], ◌∷◌, ◌++◌, length, get_or, take, map, Option, Some, None, option_map, Bor, Result, Ok, Err, IfOk, IfErr, MatchResult, refl, sym, ap, ◌∙◌, subst, add-one, arith}
-use Rattle.std.specs.List as std_list
-use Rattle.std.proofs.lemmas.List.Sorted.{IsPermutation-refl, All-permutation}
+use Rattle.std.proofs.Common.{rules, ℕ, zero, suc, ◌≡◌, ◌⊎◌, inl, inr, ◌<◌, ◌≤◌, ◌+◌, ◌*◌, Bool, true, false, ◌||◌, cond, if◌then◌else◌, List, [], ◌∷◌, ◌++◌, length, get_or, take, map, Option, Some, None, option_map, Bor, Result, IfOk, IfErr, MatchResult, refl, sym, ap, ◌∙◌, subst, add-one, arith}
 use Rattle.std.proofs.lemmas.List.Folds.{list_any-append}
-use Rattle.std.specs.declared.ops.Range.{Range}
 use Rattle.std.specs.Str.{bytes_eq}
 use Rattle.std.specs.BTreeMap as tree_map
 use Rattle.std.specs.BTreeMap.{BTreeMap, btree_map_len}
@@ -15,25 +12,16 @@ use Rattle.wave_wasm.specs.Lists.{AllOf, SomeOf}
 use Rattle.wave_wasm.specs.Names.{IsOneOf, IsNoneOf, AreDistinct, is_one_of}
 use Rattle.wave_wasm.specs.Types as type
 use Rattle.wave_wasm.specs.Types.{TypeTree, Fields, HasDistinctNames, EachNamesOfFields, record_parts, field_names, kind_of}
-use Rattle.wave_wasm.specs.Values as value
-use Rattle.wave_wasm.specs.Values.{Value, FieldValues}
-use Rattle.wave_wasm.specs.HasType.{HasType, HasFields}
+use Rattle.wave_wasm.specs.Values.{Value}
 use Rattle.wave_wasm.specs.Borrowed.{shown_fields}
-use Rattle.wave_wasm.specs.ValueErrors.{missing_field}
-use Rattle.wave_wasm.specs.ConstructorContracts.{IsMemory, MakesRecord, FullRecord, FieldsAreOf, HasFullParts, field_trees}
+use Rattle.wave_wasm.specs.ConstructorContracts.{MakesRecord, FullRecord}
 use Rattle.wave_wasm.specs.declared.wasm.WasmValueError.{WasmValueError}
-use Rattle.wave_wasm.specs.declared.wasm.WasmTypeKind.TheVariants as kinds
-use Rattle.wave_lex.specs.Errors.{Diagnostic, Refusal, refusal_of}
+use Rattle.wave_lex.specs.Errors.{Diagnostic, refusal_of}
 use Rattle.wave_lex.specs.declared.error.ParserErrorKind.TheVariants as error
-use Rattle.wave_grammar.specs.Token.{Token}
-use Rattle.wave_grammar.specs.Token as token
 use Rattle.wave_grammar.specs.LeafTokens.{name_of}
-use Rattle.wave_grammar.specs.TypedGrammar.{IsOption, FieldIs, Fills, look_up, names_of}
-use Rattle.wave_grammar.specs.Tree as form
-use Rattle.wave_grammar.specs.Tree.{Tree}
-use Rattle.wave_grammar.specs.Elaborates.{TreeReads, TreeReadsField, Each, NamedTree}
-use Rattle.wave_grammar.specs.SpannedTree.{Placed, entries, no_fields, PlacedEntries, no_entries, entry, PlacedEntry, entry_list, span_of, shape_of, tree_of, entries_of}
-use Rattle.wave_grammar.specs.TypeErrors.{IsRefusalOf, RefusesFor, Fault, record_in, names_in, UnknownField, IsFor, MissingField, FaultOfField}
+use Rattle.wave_grammar.specs.TypedGrammar.{look_up, names_of}
+use Rattle.wave_grammar.specs.SpannedTree.{Placed, PlacedEntry, entry_list, span_of}
+use Rattle.wave_grammar.specs.TypeErrors.{IsRefusalOf, Fault, names_in, UnknownField, IsFor}
 use Rattle.wave_syntax.specs.NodeTree.{NodeTree, NodeTrees, node, no_nodes, node_and, node_list, place_of, children_of}
 use Rattle.wave_syntax.specs.Nodes.{IsNodeOf}
 use Rattle.wave_syntax.specs.NodeAccessors.{node_pairs, node_text, shown_node}
@@ -42,14 +30,13 @@ use Rattle.wave_syntax.specs.NodeFields.{IsFieldsOf, field_of}
 use Rattle.wave_syntax.specs.Shared.NodeFields.{held_at, HoldsFields, IsFieldNode, fields_at}
 use Rattle.wave_syntax.specs.Shared.NodeTree.{depth, nodes_depth}
 use Rattle.wave_syntax.proofs.ChildNodes.Inside.{inside, some_is}
-use Rattle.wave_syntax.proofs.ByKind.Leaves.{tree_is}
 use Rattle.wave_syntax.proofs.MakerAnswers.{made}
 use Rattle.wave_wasm.proofs.NameTests.{is_one, none_of}
-use Rattle.wave_syntax.proofs.ByKind.Lists.{HasAt, some_at}
-use Rattle.wave_syntax.proofs.ByKind.Tuples.{place_has, map_has, all_has}
-use Rattle.wave_syntax.proofs.Fields.Lookup.{take_next, take_whole, map_last, not_found}
-use Rattle.wave_syntax.proofs.Fields.Entries.{AreFieldsOf, RecordNodes, record_nodes, fields_of_entries, for_one, entry_found, none_found, not_both, some_map, within_record, fields_blame}
-use Rattle.wave_syntax.proofs.Fields.Reading.{RecordType, names_are, PartsDistinct, fields_distinct, look_all, FieldIsRead, FieldsRead, record_reads, record_full}
+use Rattle.wave_syntax.proofs.ByKind.Lists.{HasAt}
+use Rattle.wave_syntax.proofs.ByKind.Tuples.{place_has, map_has}
+use Rattle.wave_syntax.proofs.Fields.Lookup.{take_next, take_whole, map_last}
+use Rattle.wave_syntax.proofs.Fields.Entries.{AreFieldsOf, record_nodes, fields_of_entries, entry_found, not_both, some_map, within_record}
+use Rattle.wave_syntax.proofs.Fields.Reading.{RecordType, names_are, fields_distinct, look_all, FieldIsRead, FieldsRead, record_reads, record_full}
 use Rattle.wave_syntax.proofs.ErrorSpans.Nodes.{BelongsTo, PairBelongs, entries_belong}
 
 -- the name and the type at a place, where they are borrowed

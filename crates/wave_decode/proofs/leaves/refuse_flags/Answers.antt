@@ -1,5 +1,4 @@
-use Rattle.std.proofs.Common.{◌≡◌, ◌⊎◌, inl, inr, sym, subst, ◌∙◌}
-use Rattle.wave_syntax.specs.NodeTree.{NodeTree, type_of}
+use Rattle.std.proofs.Common.{inl, inr, sym, subst, ◌∙◌}
 use Rattle.wave_syntax.specs.declared.form.NodeType.{NodeType}
 use Rattle.wave_wasm.specs.Types.{TypeTree}
 use Rattle.wave_decode.specs.Flat.{IsFlatAt}

@@ -1,12 +1,11 @@
-use Rattle.std.proofs.Common.{◌≡◌, ◌≢◌, ◌<◌, ◌≤◌, ◌++◌, ◌+◌, ℕ, [], ◌∷◌, List, length, take, Option, Some, None, Bor, Result, Err, arith, inl, inr, refl, sym, ap, subst, ◌∙◌}
+use Rattle.std.proofs.Common.{◌≡◌, ◌≢◌, ◌<◌, ◌≤◌, ◌++◌, ◌+◌, [], ◌∷◌, List, length, take, Option, Bor, Err, arith, inl, inr, refl, sym, ap, subst, ◌∙◌}
 use Rattle.std.proofs.lemmas.List.{take_all}
-use Rattle.wave_wasm.specs.Types.{TypeTree, HasDistinctNames, kind_of}
+use Rattle.wave_wasm.specs.Types.{HasDistinctNames, kind_of}
 use Rattle.wave_wasm.specs.Borrowed.{shown, shown_fields}
 use Rattle.wave_wasm.specs.declared.wasm.WasmTypeKind.TheVariants as kinds
-use Rattle.wave_lex.specs.Errors.{refusal_of}
 use Rattle.wave_grammar.specs.SpannedTree.{entry_list}
 use Rattle.wave_grammar.specs.TypedGrammar.{names_of}
-use Rattle.wave_syntax.specs.NodeTree.{NodeTree, node, node_trees, type_of, place_of, children_of}
+use Rattle.wave_syntax.specs.NodeTree.{NodeTree, type_of, place_of, children_of}
 use Rattle.wave_syntax.specs.NodeAccessors.{shown_node}
 use Rattle.wave_syntax.specs.TypedReading.{IsValueOf, IsKeyOf}
 use Rattle.wave_syntax.specs.Shared.ErrorSpans.{RefusesIn}
@@ -25,9 +24,7 @@ use Rattle.wave_syntax.proofs.MakerAnswers.{handed}
 use Rattle.wave_syntax.proofs.Parameters.{error_handed}
 use Rattle.wave_leaf.specs.Leaves.{leaf_node}
 use Rattle.wave_leaf.specs.PlainReading.{IsReadSparing}
-use Rattle.wave_leaf.specs.Reading.{IsReadAs}
 use Rattle.wave_leaf.proofs.PlainTypes.{no_row_spares}
-use Rattle.wave_decode.specs.Flat.{IsAround}
 use Rattle.wave_decode.specs.KeptParts.{AreKeptWhereDue}
 use Rattle.wave_node.proofs.Children.{child_below, key_child, value_child, if_true, if_false, more_children, key_alone, whole_at}
 use Rattle.wave_node.proofs.ReadNodes.{due_value, due_told, set_no_row, record_read, field_told, left_told}
