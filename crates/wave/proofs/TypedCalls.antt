@@ -24,12 +24,13 @@ use Rattle.wave_grammar.proofs.Elaboration.Params.{params_by_tree}
 use Rattle.wave_grammar.proofs.RoundTrip.Leaves.{one_cut_into}
 use Rattle.wave_syntax.specs.NodeTree.{NodeTree, type_of}
 use Rattle.wave_syntax.specs.Nodes.{placed_of}
-use Rattle.wave_syntax.specs.NodeParams.{IsNoOption, MakerRefuses, RefusesParams, RefusesNone}
+use Rattle.wave_syntax.specs.NodeParams.{IsNoOption, RefusesParams, RefusesNone, close_of}
 use Rattle.wave_syntax.specs.declared.form.NodeType.{NodeType}
 use Rattle.wave_syntax.specs.declared.form.NodeType.TheVariants as form
 use Rattle.wave_syntax.proofs.ByKind.Leaves.{tree_is}
 use Rattle.wave_syntax.proofs.ByKind.Lists.{trees_are}
 use Rattle.wave_syntax.proofs.ChildNodes.Inside.{From, inside}
+use Rattle.wave_syntax.proofs.Parameters.{omitted_values, item_values, items_fault, fault_none}
 use Rattle.wave_tree.specs.UntypedCall.{Called, IsCalledOf, MeansParams, RefusesCall, GivesParamsAt, RefusesParamsAt}
 use Rattle.wave.specs.TypedCalls.{IsCallAt, HasParamsFault}
 use Rattle.wave.specs.declared.request.Request.TheVariants.{CallAt}
@@ -97,25 +98,25 @@ AreValuesAt Ts u vs = GivesParamsAt (λ (v : TypedValue). v.tree) (λ v T. IsAt 
 abbrev values_of : List TypedValue → List Value
 values_of vs = map (λ (v : TypedValue). v.tree) vs
 
-given : (Ts : List TypeTree) (source : List ℕ) (o : Option NodeTree) (params : MaybeTree) (items : List Tree) (vs : List TypedValue) → MeansParams source o params → AreItemsOf params items
+given : (Ts : List TypeTree) (source : List ℕ) (o : Option NodeTree) (params : MaybeTree) (items : List Tree) (vs : List TypedValue) → AllOf HasDistinctNames Ts → MeansParams source o params → AreItemsOf params items
     → GivesParamsAt (λ (v : TypedValue). v.tree) (λ v T. IsAt T v) Ts source o vs → TreeParams Ts items (values_of vs)
-given Ts source None params items vs means are gives =
+given Ts source None params items vs distinct means are gives =
     let none : items ≡ [] = subst (λ (p : MaybeTree). AreItemsOf p items) means are in
-    subst (λ (z : List Tree). TreeParams Ts z (values_of vs)) (sym none) gives.omitted
-given Ts source (Some n) params items vs (t, node, is) are gives =
+    subst (λ (z : List Tree). TreeParams Ts z (values_of vs)) (sym none) (omitted_values (λ (v : TypedValue). v.tree) (λ v T. IsAt T v) IsFull Ts vs distinct gives)
+given Ts source (Some n) params items vs distinct (t, node, is) are gives =
     let (ps, shape, read) = gives t node in
     let same : items ≡ map tree_of ps = placed_items t items ps (subst (λ (p : MaybeTree). AreItemsOf p items) is are) shape in
-    subst (λ (z : List Tree). TreeParams Ts z (values_of vs)) (sym same) read.reads
+    subst (λ (z : List Tree). TreeParams Ts z (values_of vs)) (sym same) (item_values (λ (v : TypedValue). v.tree) (λ v T. IsAt T v) IsFull Ts ps vs distinct read)
 
 -- the parameters that a call's node means in its source
 means_at : (s : List ℕ) (u : Called) (of : IsCalledOf s u) → MeansParams u.source u.params of.params
 means_at s u of = subst (λ (source : List ℕ). MeansParams source u.params of.params) (sym of.source) of.means
 
 -- the name and the values are those of a call at the types
-pub read_at : (Ts : List TypeTree) (s : List ℕ) (u : Called) (vs : List TypedValue) → IsCalledOf s u → AreValuesAt Ts u vs → IsCallAt Ts s (slice s u.name) (values_of vs)
-read_at Ts s u vs of gives =
+pub read_at : (Ts : List TypeTree) (s : List ℕ) (u : Called) (vs : List TypedValue) → AllOf HasDistinctNames Ts → IsCalledOf s u → AreValuesAt Ts u vs → IsCallAt Ts s (slice s u.name) (values_of vs)
+read_at Ts s u vs distinct of gives =
     let it = items_of of.call.tokens of.params of.call.spelled in
-    (of.params, of.call, (it.by Ts (values_of vs)).1 (given Ts u.source u.params of.params it.items vs (means_at s u of) it.are gives))
+    (of.params, of.call, (it.by Ts (values_of vs)).1 (given Ts u.source u.params of.params it.items vs distinct (means_at s u of) it.are gives))
 
 -- ---- what was refused
 
@@ -124,19 +125,13 @@ no_omitted [] vs some left_out = some
 no_omitted (T ∷ Ts) vs (inl apart) (others, is, rest, e) = apart is
 no_omitted (T ∷ Ts) vs (inr more) (others, is, rest, e) = no_omitted Ts others more rest
 
-makers_serve : (Ts : List TypeTree) (ts : List Placed) (n : NodeTree) (e : Diagnostic) → AllOf IsFull Ts → MakerRefuses IsFull Ts ts n e → ⊥
-makers_serve Ts [] n e full refuses = refuses.1 full
-makers_serve [] (t ∷ ts) n e full refuses = refuses
-makers_serve (T ∷ Ts) (t ∷ ts) n e full (inl h) = h.0 full.0
-makers_serve (T ∷ Ts) (t ∷ ts) n e full (inr h) = makers_serve Ts ts n e full.1 h.2
-
 -- a fault of the parameters, and that the trees of their items have no values
 abbrev IsBlamed : List TypeTree → List ℕ → Range ℕ → Option NodeTree → List Tree → Diagnostic → Type 0
 IsBlamed Ts source name o items e = HasParamsFault Ts source name o e × ((vs : List Value) → TreeParams Ts items vs → ⊥)
 
-blamed : (Ts : List TypeTree) (source : List ℕ) (name : Range ℕ) (o : Option NodeTree) (params : MaybeTree) (items : List Tree) (e : Diagnostic) → AllOf IsFull Ts → e.kind ≢ kind.OutOfMemory
+blamed : (Ts : List TypeTree) (source : List ℕ) (name : Range ℕ) (o : Option NodeTree) (params : MaybeTree) (items : List Tree) (e : Diagnostic) → AllOf HasDistinctNames Ts → AllOf IsFull Ts → e.kind ≢ kind.OutOfMemory
     → MeansParams source o params → AreItemsOf params items → RefusesParamsAt IsFull Ts source name o e → IsBlamed Ts source name o items e
-blamed Ts source name None params items e full other means are refuses = by refuses where
+blamed Ts source name None params items e distinct full other means are refuses = by refuses where
   none : items ≡ []
   none = subst (λ (p : MaybeTree). AreItemsOf p items) means are
 
@@ -144,16 +139,16 @@ blamed Ts source name None params items e full other means are refuses = by refu
   by (inl memory) = absurd (other memory)
   by (inr (inl (some, says))) = ((some, says), λ vs read. no_omitted Ts vs some (subst (λ (z : List Tree). TreeParams Ts z vs) none read))
   by (inr (inr h)) = absurd (h.3 full)
-blamed Ts source name (Some n) params items e full other (t, node, is) are refuses = by (refuses t node) where
+blamed Ts source name (Some n) params items e distinct full other (t, node, is) are refuses = by (refuses t node) where
   tree_there : tree_of t ≡ tuple (trees items)
   tree_there = subst (λ (p : MaybeTree). AreItemsOf p items) is are
 
   by : RefusesParams IsFull Ts n t e → IsBlamed Ts source name (Some n) items e
   by (inl (apart, refused)) = absurd (apart (tuple_node source n t (trees items) node.0 tree_there))
   by (inr (ps, shape, inl memory)) = absurd (other memory)
-  by (inr (ps, shape, inr (inl (fault, no_values)))) =
-      ((t, ps, node, shape, fault), λ vs read. no_values vs (subst (λ (z : List Tree). TreeParams Ts z vs) (placed_items t items ps tree_there shape) read))
-  by (inr (ps, shape, inr (inr (of_maker, refused)))) = absurd (makers_serve Ts ps n e full refused)
+  by (inr (ps, shape, inr refused)) =
+      let fault = items_fault IsFull Ts ps n e distinct full other refused in
+      ((t, ps, node, shape, fault), λ vs read. fault_none Ts ps (close_of n) e fault vs (subst (λ (z : List Tree). TreeParams Ts z vs) (placed_items t items ps tree_there shape) read))
 
 -- two calls of one text have the same tokens
 same_tokens : (s name other : List ℕ) (params others : MaybeTree) (call : IsCall s name params) (again : IsCall s other others) → again.tokens ≡ call.tokens
@@ -164,15 +159,15 @@ same_tokens s name other params others call again =
     one_cut_into (drop call.bytes s) again.tokens call.tokens (subst (λ (k : ℕ). CutsInto (drop k s) again.tokens) same again.cut) call.cut
 
 -- what holds at the types of a slice holds at those that it is taken from
-pub at_types : (P : List TypeTree → Type 0) (slice Ts : List TypeTree) → slice ≡ Ts → (AllOf HasDistinctNames (map (λ T. T) slice) → P (map (λ T. T) slice)) → AllOf HasDistinctNames Ts → P Ts
-at_types P slice Ts is holds distinct = subst (λ Us. AllOf HasDistinctNames Us → P Us) (map_self slice ∙ is) holds distinct
+pub at_types : (P : List TypeTree → Type 0) (slice Ts : List TypeTree) → slice ≡ Ts → P (map (λ T. T) slice) → P Ts
+at_types P slice Ts is holds = subst P (map_self slice ∙ is) holds
 
 module _ (types : Vec TypeTree Global) (s : List ℕ) where
   -- a refusal of the parameters states a fault of the call, which has no values at the types; or it is out of memory
   pub refused_at : (u : Called) (e : Diagnostic) → AllOf HasDistinctNames types.items → IsCalledOf s u → RefusesParamsAt IsFull types.items u.source u.name u.params e → e.kind ≢ kind.OutOfMemory → IsRefused (CallAt types) s e
-  refused_at u e full of refuses other =
+  refused_at u e distinct of refuses other =
       let it = items_of of.call.tokens of.params of.call.spelled in
-      let (fault, none) = blamed types.items u.source u.name u.params of.params it.items e full other (means_at s u of) it.are refuses in (
+      let (fault, none) = blamed types.items u.source u.name u.params of.params it.items e distinct distinct other (means_at s u of) it.are refuses in (
         inr (u, of, subst (λ (source : List ℕ). HasParamsFault types.items source u.name u.params e) of.source fault),
         λ answer (name, vs, (params, call, are), same).
             none vs ((it.by types.items vs).0 (subst (λ (z : List Token). Params types.items z vs) (same_tokens s (slice s u.name) name of.params params of.call call) are)),
@@ -185,5 +180,5 @@ module _ (types : Vec TypeTree Global) (s : List ℕ) where
       (inl told.0, λ answer (name, vs, (params, call, are), same). told.1 name params call)
 
   -- the name and the canonical parameters are the answer
-  pub answered_at : (u : Called) (vs : List TypedValue) (answer : List ℕ) → IsCalledOf s u → AreValuesAt types.items u vs → answer ≡ slice s u.name ++ arguments_text (values_of vs) → Answers (CallAt types) s answer
-  answered_at u vs answer of gives same = (slice s u.name, values_of vs, read_at types.items s u vs of gives, same)
+  pub answered_at : (u : Called) (vs : List TypedValue) (answer : List ℕ) → AllOf HasDistinctNames types.items → IsCalledOf s u → AreValuesAt types.items u vs → answer ≡ slice s u.name ++ arguments_text (values_of vs) → Answers (CallAt types) s answer
+  answered_at u vs answer distinct of gives same = (slice s u.name, values_of vs, read_at types.items s u vs distinct of gives, same)

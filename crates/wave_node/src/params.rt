@@ -1,12 +1,9 @@
 //! Reading the parameters of a call.
-ghost use Rattle.std.specs.Prelude.{◌≡◌, ◌≢◌, ◌⊎◌, ◌↔◌, ◌++◌, List, [], ◌∷◌, map, Some, IsTrue, OnOk, IfOk, IfErr, MatchBool};
+ghost use Rattle.std.specs.Prelude.{◌≡◌, ◌≢◌, ◌⊎◌, ◌↔◌, ◌++◌, List, [], ◌∷◌, map, Some, length, IsTrue, OnOk, IfOk, IfErr, MatchBool};
 ghost use Rattle.wave_wasm.specs.Lists.{AllOf, SomeOf};
-ghost use Rattle.wave_wasm.specs.Types.{HasDistinctNames};
-ghost use Rattle.wave_wasm.specs.ConstructorContracts.{AreOf};
 ghost use Rattle.wave_lex.specs.Errors.{too_many_params, too_few_params, no_params};
 ghost use Rattle.wave_lex.specs.declared.error.ParserErrorKind.TheVariants.{InvalidParams, InvalidType, OutOfMemory, WasmValueError};
 ghost use Rattle.wave_grammar.specs.TypedGrammar.{IsOption};
-ghost use Rattle.wave_grammar.specs.Params.{Omitted};
 ghost use Rattle.wave_syntax.specs.NodeTree.{type_of, place_of};
 ghost use Rattle.wave_syntax.specs.NodeAccessors.{RefusedAs};
 ghost use Rattle.wave_syntax.specs.declared.form.NodeType.TheVariants.{Tuple};
@@ -30,7 +27,8 @@ impl Node {
     /// The values of the items of a tuple node, which was parsed from `src`, at the types in their
     /// places. Each type that is left has to be an option and reads as `none`, else the refusal is
     /// `InvalidParams` at the closing `)`; so it is at the first item that has no type. Another
-    /// node is `InvalidType`; an item's fault is as that of `to_wasm_value`.
+    /// node is `InvalidType`; an item's fault is as that of `to_wasm_value`. A type that repeats
+    /// names leaves open its own value alone: there are as many values as types.
     pub fn to_wasm_params<V: WasmValue>(
         &self,
         alloc: Global,
@@ -38,9 +36,10 @@ impl Node {
         src: &str,
     ) -> Result<Vec<V>, ParserError>
         requires { IsParsedFrom src.now self.now }
-        ensures values { AllOf HasDistinctNames (map V.Type.tree types.now) → (t : Placed) → IsNodeOf src.now self.now t
+        ensures count { IfOk result (λ vs. length vs.items ≡ length types.now) }
+        ensures values { (t : Placed) → IsNodeOf src.now self.now t
             → IfOk result (λ vs. GivesParams V.tree V.is_of (map V.Type.tree types.now) self.now t vs.items) }
-        ensures refused { AllOf HasDistinctNames (map V.Type.tree types.now) → (t : Placed) → IsNodeOf src.now self.now t
+        ensures refused { (t : Placed) → IsNodeOf src.now self.now t
             → IfErr result (RefusesParams V.is_full (map V.Type.tree types.now) self.now t) }
         ensures form { type_of self.now ≢ Tuple → IsErrAnd result (RefusedAs InvalidType self.now) }
         ensures kind { IfErr result HasParamsKind }
@@ -115,9 +114,8 @@ pub(crate) fn push_omitted<V: WasmValue>(
     vals: &mut Vec<V>,
 ) -> Result<(), ParserError>
     requires { AllOf IsOption (map V.Type.tree types.now) }
-    ensures values { AllOf HasDistinctNames (map V.Type.tree types.now)
-        → IfOk result (λ _. (others : List V) × (vals.new.items ≡ vals.old.items ++ others)
-        × Omitted (map V.Type.tree types.now) (map V.tree others) × AreOf V.is_of (map V.Type.tree types.now) others) }
+    ensures values { IfOk result (λ _. (others : List V) × (vals.new.items ≡ vals.old.items ++ others)
+        × AreOmitted V.tree V.is_of (map V.Type.tree types.now) others) }
     ensures refused { IfErr result (RefusesOmitted V.is_full (map V.Type.tree types.now) at) }
     ensures within { IfErr result (IsAtPlace at) }
 {
@@ -138,7 +136,8 @@ pub fn omitted_params<V: WasmValue>(
     types: &[V::Type],
     at: Span,
 ) -> Result<Vec<V>, ParserError>
-    ensures values { AllOf HasDistinctNames (map V.Type.tree types.now) → IfOk result (λ vs. AreOmitted V.tree V.is_of (map V.Type.tree types.now) vs.items) }
+    ensures count { IfOk result (λ vs. length vs.items ≡ length types.now) }
+    ensures values { IfOk result (λ vs. AreOmitted V.tree V.is_of (map V.Type.tree types.now) vs.items) }
     ensures refused { IfErr result (RefusesNone V.is_full (map V.Type.tree types.now) at) }
     ensures within { IfErr result (IsAtPlace at) }
 {

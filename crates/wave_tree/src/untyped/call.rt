@@ -1,13 +1,11 @@
 //! Calls that were read without types.
-ghost use Rattle.std.specs.Prelude.{◌≡◌, ℕ, Some, IfOk, IfErr, option_map, map};
+ghost use Rattle.std.specs.Prelude.{◌≡◌, ℕ, Some, length, IfOk, IfErr, option_map, map};
 ghost use Rattle.std.specs.Fmt.{DisplaysOnOk};
 ghost use Rattle.wave_grammar.specs.SpannedTree.{slice};
 ghost use Rattle.wave_syntax.specs.ErrorSpans.{HasParamsKind, IsCausedInParams};
 ghost use Rattle.wave_lex.specs.declared.error.ParserErrorKind.TheVariants.{WasmValueError};
 ghost use Rattle.wave_lex.specs.Errors.{LiesInText};
 ghost use Rattle.wave_lex.specs.FunctionName.{IsName};
-ghost use Rattle.wave_wasm.specs.Lists.{AllOf};
-ghost use Rattle.wave_wasm.specs.Types.{HasDistinctNames};
 ghost use Rattle.wave_tree.specs.UntypedCall.{IsParamsOf, IsCalledOf, NameFault, RefusesCall, MemoryAtName, GivesParamsAt, RefusesParamsAt, call_shown};
 ghost use Rattle.wave_tree.specs.Private.UntypedCall.{CallStandsIn};
 ghost use Rattle.wave_tree.specs.DisplayKeeps.{IsCallKeptByDisplay};
@@ -166,10 +164,9 @@ impl<'source> UntypedFuncCall<'source> {
         alloc: Global,
         types: &[V::Type],
     ) -> Result<Vec<V>, ParserError>
-        ensures values { AllOf HasDistinctNames (map V.Type.tree types.now)
-            → IfOk result (λ vs. GivesParamsAt V.tree V.is_of (map V.Type.tree types.now) self.now.source self.now.params vs.items) }
-        ensures refused { AllOf HasDistinctNames (map V.Type.tree types.now)
-            → IfErr result (RefusesParamsAt V.is_full (map V.Type.tree types.now) self.now.source self.now.name self.now.params) }
+        ensures count { IfOk result (λ vs. length vs.items ≡ length types.now) }
+        ensures values { IfOk result (λ vs. GivesParamsAt V.tree V.is_of (map V.Type.tree types.now) self.now.source self.now.params vs.items) }
+        ensures refused { IfErr result (RefusesParamsAt V.is_full (map V.Type.tree types.now) self.now.source self.now.name self.now.params) }
         ensures kind { IfErr result HasParamsKind }
         ensures within { IfErr result (λ e. LiesInText self.now.source e.span) }
         ensures caused { IfErr result (λ e. e.kind ≡ WasmValueError → IsCausedInParams self.now.name self.now.params e) }

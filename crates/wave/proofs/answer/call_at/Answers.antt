@@ -24,7 +24,7 @@ returns-in_err-params c =
     let s = c.args.text.now in
     let e = c.in_err-params.field-0.0 in
     let u = c.in_ok-untyped.untyped in
-    let refuses = at_types (λ (Ts : List TypeTree). RefusesParamsAt IsFull Ts u.source u.name u.params e) c.as_slice.result.now types.items c.as_slice.ensures.value c.in_err-params.ensures.refused c.requires in
+    let refuses = at_types (λ (Ts : List TypeTree). RefusesParamsAt IsFull Ts u.source u.name u.params e) c.as_slice.result.now types.items c.as_slice.ensures.value c.in_err-params.ensures.refused in
     handed_on (λ answer. Answers (CallAt types) s (string_bytes answer)) (CallAt types) s c.from_residual-in_err-params.result e c.from_residual-in_err-params.ensures.1
     (refused_at types s u e c.requires c.in_ok-untyped.ensures.value refuses)
 
@@ -34,9 +34,9 @@ returns-in_err-canonical_call c =
     let s = c.args.text.now in
     let u = c.in_ok-untyped.untyped in
     let vs = c.in_ok-params.params.items in
-    let are = at_types (λ (Ts : List TypeTree). AreValuesAt Ts u vs) c.as_slice.result.now types.items c.as_slice.ensures.value c.in_ok-params.ensures.values c.requires in
+    let are = at_types (λ (Ts : List TypeTree). AreValuesAt Ts u vs) c.as_slice.result.now types.items c.as_slice.ensures.value c.in_ok-params.ensures.values in
     unshown (λ answer. Answers (CallAt types) s (string_bytes answer)) (CallAt types) s c.from_residual-in_err-canonical_call.result _ c.from_residual-in_err-canonical_call.ensures.1
-    (answered_at types s u vs _ c.in_ok-untyped.ensures.value are refl)
+    (answered_at types s u vs _ c.requires c.in_ok-untyped.ensures.value are refl)
 
 pub returns : goal.returns
 returns c =
@@ -44,6 +44,6 @@ returns c =
     let s = c.args.text.now in
     let u = c.in_ok-untyped.untyped in
     let vs = c.in_ok-params.params.items in
-    let are = at_types (λ (Ts : List TypeTree). AreValuesAt Ts u vs) c.as_slice.result.now types.items c.as_slice.ensures.value c.in_ok-params.ensures.values c.requires in
-    answered_at types s u vs (string_bytes c.in_ok-canonical_call.field-0) c.in_ok-untyped.ensures.value are
+    let are = at_types (λ (Ts : List TypeTree). AreValuesAt Ts u vs) c.as_slice.result.now types.items c.as_slice.ensures.value c.in_ok-params.ensures.values in
+    answered_at types s u vs (string_bytes c.in_ok-canonical_call.field-0) c.requires c.in_ok-untyped.ensures.value are
     (c.in_ok-canonical_call.ensures ∙ ap (λ name. name ++ arguments_text (map (λ (v : TypedValue). v.tree) vs)) (c.name.ensures ∙ ap (λ source. slice source u.name) c.in_ok-untyped.ensures.value.source))

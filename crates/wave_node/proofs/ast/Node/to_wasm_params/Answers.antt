@@ -1,10 +1,8 @@
 use Rattle.std.proofs.Common.{◌≡◌, ◌≤◌, ◌-◌, length, map, take, drop, inl, inr, sym, subst, arith}
-use Rattle.wave_wasm.specs.Lists.{AllOf}
-use Rattle.wave_wasm.specs.Types.{HasDistinctNames}
 use Rattle.wave_syntax.specs.NodeParams.{RefusesParams}
 use Rattle.wave_syntax.specs.Shared.NodeParams.{RefusesOmitted}
-use Rattle.wave_syntax.proofs.ByKind.Tuples.{tuple_nodes, given_items, tuple_item, tuple_kept, place_has, map_has, all_has}
-use Rattle.wave_syntax.proofs.Parameters.{mapped_count, rest_mapped, error_handed, handed_is, all_drop, too_many_refused, item_refused, missing_refused, params_read, omitted_refused}
+use Rattle.wave_syntax.proofs.ByKind.Tuples.{tuple_nodes, given_items, tuple_item, place_has, map_has}
+use Rattle.wave_syntax.proofs.Parameters.{mapped_count, rest_mapped, error_handed, handed_is, too_many_refused, item_kept, item_refused, missing_refused, params_read, params_count, pushed, omitted_refused}
 use Rattle.std.proofs.Common.{ℕ, ap, ◌∙◌}
 use Rattle.std.specs.declared.ops.Range.{Range}
 use Rattle.wave_lex.specs.Errors.{Diagnostic, Refusal}
@@ -18,13 +16,13 @@ use Rattle.wave_syntax.proofs.KeyNodes.{other_value}
 use Rattle.wave_node.proofs.ast.Node.to_wasm_params.Goals as goal
 
 pub returns-then-i-types-clause-refused : goal.returns-then-i-types-clause-refused
-returns-then-i-types-clause-refused g c = λ distinct t is.
+returns-then-i-types-clause-refused g c = λ t is.
     let Ts = (map g.V.Type.WasmType.tree c.args.types.now) in
     let ns = c.in_ok-nodes.nodes.now in
     let src = c.args.src.now in
     let inner = tuple_nodes src c.args.self.now t is c.in_ok-nodes.ensures.0 in
     let nodes = given_items src c.args.self.now t ns is c.in_ok-nodes.ensures.0 c.in_ok-nodes.ensures.1 in
-    let before = c.loop-i.invariant.1 inner.items nodes distinct in
+    let before = c.loop-i.invariant.2 inner.items nodes in
     let many = mapped_count g.V.Type.WasmType.tree c.args.types.now in
     let fits : c.loop-i.i ≤ length Ts = omega (arith, c.loop-i.invariant.0, many) in
     inr (inner.items, inner.shape, too_many_refused g.V.WasmValue.tree g.V.WasmValue.is_of g.V.WasmValue.is_full src Ts ns inner.items c.loop-i.vals.items c.loop-i.i c.index-nodes-i.result c.args.self.now c.too_many.result nodes c.loop-i-test.true c.index-nodes-i.is fits (omega (arith, c.if-i-types.true, many)) before c.too_many.ensures)
@@ -33,13 +31,13 @@ pub to_wasm_value-requires : goal.to_wasm_value-requires
 to_wasm_value-requires g c = inl (tuple_item c.args.src.now c.args.self.now c.in_ok-nodes.nodes.now c.loop-i.i c.index-nodes-i-in-loop-i.result (other_value c.args.src.now c.args.self.now (λ label. cc (sym c.in_ok-nodes.ensures.0 ∙ label)) c.requires) c.in_ok-nodes.ensures.0 c.in_ok-nodes.ensures.1 c.loop-i-test.true c.index-nodes-i-in-loop-i.is)
 
 pub returns-in_err-val-clause-refused : goal.returns-in_err-val-clause-refused
-returns-in_err-val-clause-refused g c = λ distinct t is.
+returns-in_err-val-clause-refused g c = λ t is.
     let Ts = (map g.V.Type.WasmType.tree c.args.types.now) in
     let ns = c.in_ok-nodes.nodes.now in
     let src = c.args.src.now in
     let inner = tuple_nodes src c.args.self.now t is c.in_ok-nodes.ensures.0 in
     let nodes = given_items src c.args.self.now t ns is c.in_ok-nodes.ensures.0 c.in_ok-nodes.ensures.1 in
-    let before = c.loop-i.invariant.1 inner.items nodes distinct in
+    let before = c.loop-i.invariant.2 inner.items nodes in
     let many = mapped_count g.V.Type.WasmType.tree c.args.types.now in
     let fits : c.loop-i.i ≤ length Ts = omega (arith, c.loop-i.invariant.0, many) in
     let T = g.V.Type.WasmType.tree c.index-types-i.result in
@@ -49,11 +47,11 @@ returns-in_err-val-clause-refused g c = λ distinct t is.
       inner.items,
       inner.shape,
       item_refused g.V.WasmValue.tree g.V.WasmValue.is_of g.V.WasmValue.is_full src Ts ns inner.items c.loop-i.vals.items c.loop-i.i c.index-nodes-i-in-loop-i.result T c.args.self.now c.in_err-val.field-0.0 nodes c.loop-i-test.true c.index-nodes-i-in-loop-i.is (omega (arith, c.if-i-types.false, many)) typed before
-          (λ u here. c.in_err-val.ensures.answer u here (all_has HasDistinctNames Ts c.loop-i.i T distinct typed)) c.in_err-val.ensures.within,
+          c.in_err-val.ensures.answer c.in_err-val.ensures.within c.in_err-val.ensures.kind,
     ))
 
 pub returns-in_err-push-clause-refused : goal.returns-in_err-push-clause-refused
-returns-in_err-push-clause-refused g c = λ distinct t is.
+returns-in_err-push-clause-refused g c = λ t is.
     let inner = tuple_nodes c.args.src.now c.args.self.now t is c.in_ok-nodes.ensures.0 in
     error_handed (RefusesParams g.V.WasmValue.is_full (map g.V.Type.WasmType.tree c.args.types.now) c.args.self.now t) c.from_residual-in_err-push.result c.in_err-push.field-0.0 c.from_residual-in_err-push.ensures.1
     (inr (inner.items, inner.shape, inl c.in_err-push.ensures.refused))
@@ -64,19 +62,20 @@ loop-i-preserved g c =
     let T = g.V.Type.WasmType.tree c.index-types-i.result in
     let typed = map_has g.V.Type.WasmType.tree c.args.types.now c.loop-i.i c.index-types-i.result (place_has c.args.types.now c.loop-i.i c.index-types-i.result c.if-i-types.false c.index-types-i.is) in (
       omega (arith, c.if-i-types.false),
-      λ ts nodes distinct.
-          tuple_kept g.V.WasmValue.tree g.V.WasmValue.is_of g.V.WasmValue.is_full c.args.src.now Ts c.in_ok-nodes.nodes.now ts c.loop-i.vals.items c.push.new.items.items c.loop-i.i c.index-nodes-i-in-loop-i.result T c.in_ok-val.val nodes c.loop-i-test.true c.index-nodes-i-in-loop-i.is typed (c.loop-i.invariant.1 ts nodes distinct)
-          (λ u here. c.in_ok-val.ensures.answer u here (all_has HasDistinctNames Ts c.loop-i.i T distinct typed)) c.in_ok-push.ensures.kept,
+      pushed c.loop-i.vals.items c.push.new.items.items c.in_ok-val.val c.loop-i.i c.in_ok-push.ensures.kept c.loop-i.invariant.1,
+      λ ts nodes.
+          item_kept g.V.WasmValue.tree g.V.WasmValue.is_of g.V.WasmValue.is_full c.args.src.now Ts c.in_ok-nodes.nodes.now ts c.loop-i.vals.items c.push.new.items.items c.loop-i.i c.index-nodes-i-in-loop-i.result T c.in_ok-val.val nodes c.loop-i-test.true c.index-nodes-i-in-loop-i.is typed (c.loop-i.invariant.2 ts nodes)
+          c.in_ok-val.ensures.answer c.in_ok-push.ensures.kept,
     )
 
 pub returns-then-not-are_options-clause-refused : goal.returns-then-not-are_options-clause-refused
-returns-then-not-are_options-clause-refused g c = λ distinct t is.
+returns-then-not-are_options-clause-refused g c = λ t is.
     let Ts = (map g.V.Type.WasmType.tree c.args.types.now) in
     let ns = c.in_ok-nodes.nodes.now in
     let src = c.args.src.now in
     let inner = tuple_nodes src c.args.self.now t is c.in_ok-nodes.ensures.0 in
     let nodes = given_items src c.args.self.now t ns is c.in_ok-nodes.ensures.0 c.in_ok-nodes.ensures.1 in
-    let before = c.loop-i.invariant.1 inner.items nodes distinct in
+    let before = c.loop-i.invariant.2 inner.items nodes in
     let many = mapped_count g.V.Type.WasmType.tree c.args.types.now in
     let fits : c.loop-i.i ≤ length Ts = omega (arith, c.loop-i.invariant.0, many) in
     let Left = map g.V.Type.WasmType.tree (take (length c.args.types.now - length ns) (drop (length ns) c.args.types.now)) in
@@ -84,13 +83,13 @@ returns-then-not-are_options-clause-refused g c = λ distinct t is.
     inr (inner.items, inner.shape, missing_refused g.V.WasmValue.tree g.V.WasmValue.is_of g.V.WasmValue.is_full src Ts Left ns inner.items c.loop-i.vals.items c.loop-i.i c.args.self.now c.missing.result nodes c.loop-i.auto.i-end c.loop-i-test.false fits before left c.if-not-are_options.ensures c.missing.ensures)
 
 pub returns-in_err-push_omitted-clause-refused : goal.returns-in_err-push_omitted-clause-refused
-returns-in_err-push_omitted-clause-refused g c = λ distinct t is.
+returns-in_err-push_omitted-clause-refused g c = λ t is.
     let Ts = (map g.V.Type.WasmType.tree c.args.types.now) in
     let ns = c.in_ok-nodes.nodes.now in
     let src = c.args.src.now in
     let inner = tuple_nodes src c.args.self.now t is c.in_ok-nodes.ensures.0 in
     let nodes = given_items src c.args.self.now t ns is c.in_ok-nodes.ensures.0 c.in_ok-nodes.ensures.1 in
-    let before = c.loop-i.invariant.1 inner.items nodes distinct in
+    let before = c.loop-i.invariant.2 inner.items nodes in
     let many = mapped_count g.V.Type.WasmType.tree c.args.types.now in
     let fits : c.loop-i.i ≤ length Ts = omega (arith, c.loop-i.invariant.0, many) in
     let Left = map g.V.Type.WasmType.tree (take (length c.args.types.now - length ns) (drop (length ns) c.args.types.now)) in
@@ -103,14 +102,26 @@ returns-in_err-push_omitted-clause-refused g c = λ distinct t is.
           (subst (λ (p : Range ℕ). RefusesOmitted g.V.WasmValue.is_full Left p c.in_err-push_omitted.field-0.0) c.span.ensures c.in_err-push_omitted.ensures.refused),
     ))
 
+pub returns-clause-count : goal.returns-clause-count
+returns-clause-count g c =
+    let Ts = (map g.V.Type.WasmType.tree c.args.types.now) in
+    let ns = c.in_ok-nodes.nodes.now in
+    let many = mapped_count g.V.Type.WasmType.tree c.args.types.now in
+    let fits : c.loop-i.i ≤ length Ts = omega (arith, c.loop-i.invariant.0, many) in
+    let Left = map g.V.Type.WasmType.tree (take (length c.args.types.now - length ns) (drop (length ns) c.args.types.now)) in
+    let left : Left ≡ drop (length ns) Ts = rest_mapped g.V.Type.WasmType.tree c.args.types.now (length ns) in
+    params_count g.V.WasmValue.tree g.V.WasmValue.is_of g.V.WasmValue.is_full Ts Left c.loop-i.vals.items c.push_omitted.new.vals.items c.loop-i.i (length ns) c.loop-i.auto.i-end c.loop-i-test.false fits c.loop-i.invariant.1 left
+    c.in_ok-push_omitted.ensures.values
+    ∙ many
+
 pub returns-clause-values : goal.returns-clause-values
-returns-clause-values g c = λ distinct t is.
+returns-clause-values g c = λ t is.
     let Ts = (map g.V.Type.WasmType.tree c.args.types.now) in
     let ns = c.in_ok-nodes.nodes.now in
     let src = c.args.src.now in
     let inner = tuple_nodes src c.args.self.now t is c.in_ok-nodes.ensures.0 in
     let nodes = given_items src c.args.self.now t ns is c.in_ok-nodes.ensures.0 c.in_ok-nodes.ensures.1 in
-    let before = c.loop-i.invariant.1 inner.items nodes distinct in
+    let before = c.loop-i.invariant.2 inner.items nodes in
     let many = mapped_count g.V.Type.WasmType.tree c.args.types.now in
     let fits : c.loop-i.i ≤ length Ts = omega (arith, c.loop-i.invariant.0, many) in
     let Left = map g.V.Type.WasmType.tree (take (length c.args.types.now - length ns) (drop (length ns) c.args.types.now)) in
@@ -118,7 +129,7 @@ returns-clause-values g c = λ distinct t is.
       inner.items,
       inner.shape,
       params_read g.V.WasmValue.tree g.V.WasmValue.is_of g.V.WasmValue.is_full src Ts Left ns inner.items c.loop-i.vals.items c.push_omitted.new.vals.items c.loop-i.i nodes c.loop-i.auto.i-end c.loop-i-test.false fits before left
-          (c.in_ok-push_omitted.ensures.values (subst (AllOf HasDistinctNames) (sym left) (all_drop HasDistinctNames Ts (length ns) distinct))),
+          c.in_ok-push_omitted.ensures.values,
     )
 
 pub returns-in_err-nodes-clause-within : goal.returns-in_err-nodes-clause-within

@@ -1,12 +1,11 @@
-use Rattle.std.proofs.Common.{List, ◌≤◌, length, map, take}
-use Rattle.wave_wasm.specs.Lists.{AllOf}
-use Rattle.wave_wasm.specs.Types.{HasDistinctNames}
+use Rattle.std.proofs.Common.{List, ◌≡◌, ◌≤◌, length, map, take}
 use Rattle.wave_grammar.specs.SpannedTree.{Placed}
+use Rattle.wave_syntax.specs.NodeParams.{AreRead}
 use Rattle.wave_syntax.proofs.ByKind.Lists.{AreNodesOf}
-use Rattle.wave_syntax.proofs.ByKind.Tuples.{ReadAt}
 use Rattle.wave_node.proofs.ast.Node.to_wasm_params.Given as goal
 
 abbrev pub invariant-loop-i : goal.invariant-loop-i
 invariant-loop-i g l =
     (l.i ≤ length l.types)
-    × ((ts : List Placed) → AreNodesOf l.src l.nodes ts → AllOf HasDistinctNames (map g.V.Type.WasmType.tree l.types) → ReadAt g.V.WasmValue.tree g.V.WasmValue.is_of g.V.WasmValue.is_full (take l.i (map g.V.Type.WasmType.tree l.types)) (take l.i ts) l.vals.items)
+    × (length l.vals.items ≡ l.i)
+    × ((ts : List Placed) → AreNodesOf l.src l.nodes ts → AreRead g.V.WasmValue.tree g.V.WasmValue.is_of (take l.i (map g.V.Type.WasmType.tree l.types)) (take l.i ts) l.vals.items)
