@@ -28,3 +28,4 @@ pub mod Writable
 pub mod NumberEscapes
 pub mod DistinctTexts
 pub mod DistinctKeys
+pub mod MappedSearch

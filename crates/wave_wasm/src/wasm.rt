@@ -197,10 +197,13 @@ impl<T: Drop> From<AllocFailed<T>> for WasmValueError {
 /// What a type answers about itself. A type means one finite tree; each call answers the parts of
 /// that tree in their order, and none for a tree of another kind.
 pub trait WasmType: Sized {
-    ghost use Rattle.std.specs.Prelude.{◌≡◌, IfOk};
+    ghost use Rattle.std.specs.Prelude.{◌≡◌, IfOk, option_map};
+    ghost use Rattle.std.specs.List.{find, position};
+    ghost use Rattle.std.specs.Str.{bytes_eq};
+    ghost use Rattle.wave_wasm.specs.Names.{is_one_of};
     ghost use Rattle.wave_wasm.specs.Types.{TypeTree, kind_of, list_part, list_length, record_parts, tuple_parts, variant_parts};
     ghost use Rattle.wave_wasm.specs.Types.{enum_names, option_part, result_parts, flags_names, map_parts};
-    ghost use Rattle.wave_wasm.specs.Borrowed.{texts, shown, shown_all, shown_fields, shown_cases, shown_result, shown_pair};
+    ghost use Rattle.wave_wasm.specs.Borrowed.{texts, shown, shown_all, shown_fields, shown_case, shown_cases, shown_result, shown_pair};
 
     /// The tree that the type means.
     ghost tree: { Self → TypeTree };
@@ -248,6 +251,40 @@ pub trait WasmType: Sized {
     /// The key type and the value type of a map.
     fn map_key_value_types(&self) -> Option<(&Self, &Self)>
         ensures { shown_pair tree result ≡ map_parts (tree self.now) };
+
+    /// The first case of this name of a variant, with the type of its payload; none where there is
+    /// no such case. The provided body walks over `variant_cases`. A type that knows where its
+    /// names stand may look the case up quicker.
+    fn variant_case(
+        &self,
+        alloc: Global,
+        name: &str,
+    ) -> Result<Option<(&str, Option<&Self>)>, AllocError>
+        ensures { IfOk result
+            (λ case. option_map (shown_case tree) case ≡ find (λ c. bytes_eq name.now c.0) (variant_parts (tree self.now))) }
+    {
+        let cases = self.variant_cases(alloc)?;
+        Ok(cases.iter().find(|case| name == case.0).copied())
+    }
+
+    /// Whether an enum has a case of this name. The provided body walks over `enum_cases`. A type
+    /// that knows where its names stand may look the name up quicker.
+    fn has_enum_case(&self, alloc: Global, name: &str) -> Result<bool, AllocError>
+        ensures { IfOk result (λ is_case. is_case ≡ is_one_of (enum_names (tree self.now)) name.now) }
+    {
+        let cases = self.enum_cases(alloc)?;
+        Ok(cases.iter().any(|case| name == *case))
+    }
+
+    /// Where the name stands first among the names of flags, counted from zero; none where it is
+    /// none of them. The provided body walks over `flags_names`. A type that knows where its names
+    /// stand may look the name up quicker.
+    fn flag_place(&self, alloc: Global, name: &str) -> Result<Option<usize>, AllocError>
+        ensures { IfOk result (λ place. place ≡ position (bytes_eq name.now) (flags_names (tree self.now))) }
+    {
+        let names = self.flags_names(alloc)?;
+        Ok(names.iter().position(|other| name == *other))
+    }
 }
 
 /// Values that are made at types and give back their parts. A value means one finite tree, which
