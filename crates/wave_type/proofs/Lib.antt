@@ -27,3 +27,4 @@ pub mod ReaderSteps
 pub mod WholeFaults
 pub mod FaultLaws
 pub mod Beginnings
+pub mod FoundPlaces

@@ -1,6 +1,5 @@
 -- The names and types of parameters or results, as they are kept.
-use Rattle.std.proofs.Common.{◌≡◌, ℕ, ◌≤◌, Bool, true, false, ◌&&◌, ◌||◌, List, [], ◌∷◌, map, take, length, String, refl, sym, ap, ◌∙◌}
-use Rattle.std.specs.List.{list_any}
+use Rattle.std.proofs.Common.{◌≡◌, ℕ, ◌≤◌, Bool, true, false, ◌&&◌, List, [], ◌∷◌, map, take, length, String, refl, sym, ap, ◌∙◌}
 use Rattle.std.specs.String.{string_eq}
 use Rattle.std.specs.Cmp.Lexicographic.{pointwise}
 use Rattle.std.specs.declared.alloc.Global.{Global}
@@ -13,11 +12,6 @@ use Rattle.wave_type.specs.TypeEquality.{same_tree}
 use Rattle.wave_type.proofs.Texts.{field_line}
 use Rattle.wave_type.specs.FunctionType.{names_of, types_of}
 use Rattle.wave_type.specs.FunctionEquality.{same_part, same_parts}
-
--- a test of what the items become
-pub list_any-map : {A B : Type 0} (p : B → Bool) (f : A → B) (xs : List A) → list_any p (map f xs) ≡ list_any (λ x. p (f x)) xs
-list_any-map p f [] = refl
-list_any-map p f (x ∷ xs) = ap (λ b. p (f x) || b) (list_any-map p f xs)
 
 -- `==` of names and types as they are kept
 abbrev pub same_kept : String Global × TypeTree → String Global × TypeTree → Bool

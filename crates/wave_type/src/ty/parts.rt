@@ -3,6 +3,7 @@ ghost use Rattle.std.specs.Prelude.{◌≡◌, IfOk, map, string_bytes};
 ghost use Rattle.wave_wasm.specs.Borrowed.{texts, shown_all, shown_fields, shown_cases};
 ghost use Rattle.wave_type.specs.TypeModel.{by_bytes};
 
+use super::places::{enum_place, flag_place, variant_case, variant_place};
 use super::{Shape, SimpleType, Type};
 use std::alloc::{AllocError, Global};
 use wave_wasm::wasm::{WasmType, WasmTypeKind};
@@ -108,6 +109,25 @@ impl WasmType for Type {
             Shape::Map(types) => Some((&types.0, &types.1)),
             _ => None,
         }
+    }
+
+    fn variant_case(
+        &self,
+        _alloc: Global,
+        name: &str,
+    ) -> Result<Option<(&str, Option<&Type>)>, AllocError> {
+        let Some(place) = variant_place(self, name) else {
+            return Ok(None);
+        };
+        Ok(Some(variant_case(self, place)))
+    }
+
+    fn has_enum_case(&self, _alloc: Global, name: &str) -> Result<bool, AllocError> {
+        Ok(enum_place(self, name).is_some())
+    }
+
+    fn flag_place(&self, _alloc: Global, name: &str) -> Result<Option<usize>, AllocError> {
+        Ok(flag_place(self, name))
     }
 }
 

@@ -52,6 +52,18 @@ pub fn flag_name(ty: &Type, place: usize) -> &str
     }
 }
 
+/// Where the flag of this name stands first, counted from zero; none where the type is none of
+/// flags or has no such flag.
+#[tactic(auto, using(crate::proofs::TypeLists::families))]
+pub fn flag_place(ty: &Type, name: &str) -> Option<usize>
+    ensures { result ≡ position (λ n. bytes_eq name.now n) (flags_names ty.now) }
+{
+    match &ty.shape {
+        Shape::Flags(names) => first_place(&names.1, name),
+        _ => None,
+    }
+}
+
 /// Where the first case of this name stands in a variant, counted from zero; none where the type
 /// is no variant or has no such case.
 #[tactic(auto, using(crate::proofs::TypeLists::families))]

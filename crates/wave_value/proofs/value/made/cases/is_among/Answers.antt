@@ -2,7 +2,7 @@ use Rattle.std.proofs.Common.{rules, tests, Bor, List, ℕ}
 use Rattle.std.specs.Str.{bytes_eq}
 use Rattle.std.proofs.lemmas.Iterator.{YieldsList-from_slice}
 use Rattle.std.proofs.lemmas.Iterator.Search.{any_from_yields_List}
-use Rattle.wave_type.proofs.Parts.{list_any-map}
+use Rattle.wave_wasm.proofs.MappedSearch.{list_any-map}
 use Rattle.wave_value.proofs.value.made.cases.is_among.Goals as goal
 
 pub returns : goal.returns
