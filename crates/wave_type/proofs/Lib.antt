@@ -28,3 +28,4 @@ pub mod WholeFaults
 pub mod FaultLaws
 pub mod Beginnings
 pub mod FoundPlaces
+pub mod DistinctPlaces

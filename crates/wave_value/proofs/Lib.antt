@@ -17,3 +17,4 @@ pub mod LawfulRecord
 pub mod Refusals
 pub mod Views
 pub mod RecordViews
+pub mod FlagsInTurn

@@ -32,7 +32,7 @@ use Rattle.wave_value.proofs.ValueMeans.{one_of, flags_value}
 
 -- ---- marks
 
-texts_more : (xs : List (Bor (List ℕ))) (i : ℕ) (d : Bor (List ℕ)) → i < length xs → texts (take (i + 1) xs) ≡ texts (take i xs) ++ (get_or xs i d).now ∷ []
+pub texts_more : (xs : List (Bor (List ℕ))) (i : ℕ) (d : Bor (List ℕ)) → i < length xs → texts (take (i + 1) xs) ≡ texts (take i xs) ++ (get_or xs i d).now ∷ []
 texts_more xs i d lt = rw (take_more xs i d lt) (map-append (λ (n : Bor (List ℕ)). n.now) (take i xs) (get_or xs i d ∷ []))
 
 eq_turn : (a b : List ℕ) → bytes_eq a b ≡ bytes_eq b a
@@ -155,11 +155,11 @@ name_refused m marked xs i d b e lt marks is told says =
 
 -- ---- the places that are found
 
-grows_wider : (from n m : ℕ) (is : List ℕ) → n ≤ m → Grows from n is → Grows from m is
+pub grows_wider : (from n m : ℕ) (is : List ℕ) → n ≤ m → Grows from n is → Grows from m is
 grows_wider from n m [] le h = tt
 grows_wider from n m (i ∷ is) le h = (h.0, omega (arith, h.1), grows_wider (i + 1) n m is le h.2)
 
-grows_push : (from n : ℕ) (is : List ℕ) → from ≤ n → Grows from n is → Grows from (n + 1) (is ++ n ∷ [])
+pub grows_push : (from n : ℕ) (is : List ℕ) → from ≤ n → Grows from n is → Grows from (n + 1) (is ++ n ∷ [])
 grows_push from n [] le h = (le, omega arith, tt)
 grows_push from n (i ∷ is) le h = (h.0, omega (arith, h.1), grows_push (i + 1) n is (omega (arith, h.1)) h.2)
 
@@ -196,18 +196,6 @@ place_passed handed all i d b is lt found not_there h =
 pub places_end : (handed : List (List ℕ)) (all : List (Bor (List ℕ))) (i : ℕ) (is : List ℕ) → i ≤ length all → length all ≤ i → PlacesSoFar handed all i is → Grows 0 (length all) is × (map (name_at (texts all)) is ≡ found_in handed (texts all))
 places_end handed all i is below above h = (grows_wider 0 i (length all) is below h.0, h.1 ∙ ap (λ xs. found_in handed (texts xs)) (take_all i all above))
 
--- the next of the names that are handed over stands at this place
-pub step_taken : (all handed : List (Bor (List ℕ))) (i k : ℕ) (d e : Bor (List ℕ)) (is : List ℕ) → i < length all → k < length handed → bytes_eq (get_or handed k e).now (get_or all i d).now ≡ true
-    → AreAllOf (texts all) (texts (take k handed)) → PlacesSoFar (texts handed) all i is
-    → AreAllOf (texts all) (texts (take (k + 1) handed)) × PlacesSoFar (texts handed) all (i + 1) (is ++ i ∷ [])
-step_taken all handed i k d e is here lt eq known places =
-    let same : (get_or handed k e).now ≡ (get_or all i d).now = (bytes_eq-Decides _ _).0 eq in
-    let name : IsOneOf (texts all) (get_or handed k e).now = subst (IsOneOf (texts all)) (sym same) (one_at all i d here) in
-    let found : is_one_of (texts handed) (get_or all i d).now ≡ true = passes (texts handed) (get_or all i d).now (subst (IsOneOf (texts handed)) same (one_at handed k e lt)) in (
-      subst (AreAllOf (texts all)) (sym (texts_more handed k e lt)) (all_push (texts all) (texts (take k handed)) (get_or handed k e).now known name),
-      place_found (texts handed) all i d true is here (sym found) refl places,
-    )
-
 -- ---- flags
 
 places_fit : (T : TypeTree) (is : List ℕ) → kinds.Flags ≡ kind_of T → Grows 0 (length (flags_names T)) is → FlagsFit T is
@@ -215,19 +203,12 @@ places_fit T is kind h =
     let (names, form) = formed_as kinds.Flags T kind in
     subst (λ U. Grows 0 (length (flags_names U)) is → FlagsFit U is) (sym form) (λ g. g) h
 
--- the places of all names fit the type
-pub flags_fit : (T own : TypeTree) (xs ys : List (Bor (List ℕ))) (is : List ℕ) → kinds.Flags ≡ kind_of T → own ≡ T → xs ≡ ys → texts ys ≡ flags_names T → Grows 0 (length xs) is → FlagsFit own is
-flags_fit T own xs ys is kind same view names h =
-    let long : length xs ≡ length (flags_names T) = sym (length-map xs (λ (n : Bor (List ℕ)). n.now)) ∙ ap length (ap texts view ∙ names) in
-    subst (λ U. FlagsFit U is) (sym same) (places_fit T is kind (subst (λ n. Grows 0 n is) long h))
-
 -- what was made are those of the type's names that were handed over
-pub flags_made : (T own : TypeTree) (xs ys : List (Bor (List ℕ))) (handed : List (List ℕ)) (is : List ℕ) → kinds.Flags ≡ kind_of T → own ≡ T → xs ≡ ys → texts ys ≡ flags_names T → Grows 0 (length xs) is
-    → map (name_at (texts xs)) is ≡ found_in handed (texts xs)
+pub flags_made : (T own : TypeTree) (handed : List (List ℕ)) (is : List ℕ) → kinds.Flags ≡ kind_of T → own ≡ T → Grows 0 (length (flags_names T)) is
+    → map (name_at (flags_names T)) is ≡ found_in handed (flags_names T)
     → Made (value.flags (found_in handed (flags_names T))) T (record { own = own; tree = value.flags (map (name_at (flags_names own)) is) })
-flags_made T own xs ys handed is kind same view names h called =
-    let all : texts xs ≡ flags_names T = ap texts view ∙ names in
-    let found : map (name_at (flags_names own)) is ≡ found_in handed (flags_names T) =
-    ap (λ U. map (name_at (flags_names U)) is) same ∙ subst (λ ns. map (name_at ns) is ≡ found_in handed ns) all called in
-    let fits : HasType own (value.flags (map (name_at (flags_names own)) is)) = flags_value own is (flags_fit T own xs ys is kind same view names h) in
+flags_made T own handed is kind same h called =
+    let found : map (name_at (flags_names own)) is ≡ found_in handed (flags_names T) = ap (λ U. map (name_at (flags_names U)) is) same ∙ called in
+    let fit : FlagsFit own is = subst (λ U. FlagsFit U is) (sym same) (places_fit T is kind h) in
+    let fits : HasType own (value.flags (map (name_at (flags_names own)) is)) = flags_value own is fit in
     record { own = same; tree = ap value.flags found; fits = subst (λ U. HasType U (value.flags (found_in handed (flags_names T)))) same (subst (λ ns. HasType own (value.flags ns)) found fits) }

@@ -1,9 +1,10 @@
 //! What the values of a type ask of it: places of names, names at places, and parts.
-ghost use Rattle.std.specs.Prelude.{◌≡◌, None, [], get_or, map, option_map, string_bytes};
+ghost use Rattle.std.specs.Prelude.{◌≡◌, ◌↔◌, IsTrue, None, [], get_or, map, option_map, string_bytes};
 ghost use Rattle.std.specs.Str.{bytes_eq};
 ghost use Rattle.std.specs.List.{position};
 ghost use Rattle.wave_wasm.specs.Types.{IsOwn, types_of, fields_of, record_parts, variant_parts, enum_names, flags_names};
 ghost use Rattle.wave_wasm.specs.Borrowed.{shown_case};
+ghost use Rattle.wave_wasm.specs.Names.{AreDistinct};
 ghost use Rattle.wave_type.specs.TypeModel.{by_bytes, tuple_part, record_part};
 
 use super::index::first_place;
@@ -61,6 +62,18 @@ pub fn flag_place(ty: &Type, name: &str) -> Option<usize>
     match &ty.shape {
         Shape::Flags(names) => first_place(&names.1, name),
         _ => None,
+    }
+}
+
+/// Whether no name of flags stands twice, seen without a walk over the names. A type of another
+/// kind has no such names, of which none stands twice.
+#[tactic(auto, using(crate::proofs::TypeLists::families))]
+pub fn has_distinct_flags(ty: &Type) -> bool
+    ensures { IsTrue result ↔ AreDistinct (flags_names ty.now) }
+{
+    match &ty.shape {
+        Shape::Flags(names) => names.0.len() == names.1.len(),
+        _ => true,
     }
 }
 

@@ -1,5 +1,5 @@
 -- What the constructors of variants, flags and maps accept, and what their refusals say.
-use Rattle.std.specs.Prelude.{ℕ, ◌≡◌, ◌++◌, if◌then◌else◌, Bool, List, [], ◌∷◌, Some, None, Result, MatchResult}
+use Rattle.std.specs.Prelude.{ℕ, suc, ◌≡◌, ◌++◌, if◌then◌else◌, Bool, List, [], ◌∷◌, Option, Some, None, Result, MatchResult}
 use Rattle.std.specs.Borrow.{Bor}
 use Rattle.std.specs.BTreeMap.{BTreeMap}
 use Rattle.wave_wasm.specs.Names.{AreAllOf, is_one_of}
@@ -20,3 +20,8 @@ MarksOneMore old new name found =
 -- where the map has these names as keys, each is among those that it marks; or one that isn't is refused
 abbrev pub TellsUnmarked : BTreeMap (Bor (List ℕ)) Bool → List (List ℕ) → Result Unit WasmValueError → Type 0
 TellsUnmarked m names r = (marked : List (List ℕ)) → MarksNames m names marked → MatchResult r (λ _. AreAllOf marked names) (RefusesNames marked names)
+
+-- the first place behind this one, where there is one, and else the first of all
+abbrev pub behind : Option ℕ → ℕ
+behind None = 0
+behind (Some last) = suc last

@@ -1,6 +1,6 @@
 //! Makers of variants and flags, whose parts are found by name.
-ghost use Rattle.std.specs.Prelude.{◌≡◌, [], IfOk, IfErr, OnOk, IfSome, OnSome, length, map};
-ghost use Rattle.wave_wasm.specs.Names.{AreAllOf, found_in, is_one_of};
+ghost use Rattle.std.specs.Prelude.{◌≡◌, ◌≤◌, ◌↔◌, [], IsTrue, IfOk, IfErr, OnOk, IfSome, OnSome, length, map};
+ghost use Rattle.wave_wasm.specs.Names.{AreAllOf, found_in};
 ghost use Rattle.wave_wasm.specs.Types.{flags_names};
 ghost use Rattle.wave_wasm.specs.Borrowed.{texts};
 ghost use Rattle.wave_wasm.specs.Values as value;
@@ -8,7 +8,7 @@ ghost use Rattle.wave_wasm.specs.Values.{maybe_value};
 ghost use Rattle.wave_value.specs.Private.ValueModel.{Grows};
 ghost use Rattle.wave_value.specs.ValueModel.{name_at, payload_tree};
 ghost use Rattle.wave_value.specs.ConstructorRules.{Made};
-ghost use Rattle.wave_value.specs.Private.CaseRules.{MarksNames, MarksOneMore, TellsUnmarked};
+ghost use Rattle.wave_value.specs.Private.CaseRules.{behind, MarksNames, MarksOneMore, TellsUnmarked};
 ghost use Rattle.wave_value.specs.CaseRules.{TakesVariant, TakesFlags, RefusesVariant, RefusesNames, RefusesFlags};
 
 use super::super::refusals::{Amiss, ShowsValue, named, wrong_kind};
@@ -16,11 +16,8 @@ use super::super::{Content, Type, Value};
 use super::boxed_payload;
 use std::alloc::{AllocError, Global};
 use std::collections::BTreeMap;
-use wave_type::ty::places::{variant_case, variant_place};
+use wave_type::ty::places::{flag_place, has_distinct_flags, variant_case, variant_place};
 use wave_wasm::wasm::{WasmType, WasmTypeKind, WasmValueError};
-
-// Up to this many names are found by comparing. Past that, looking names up in a map costs less.
-const MOST_COMPARED: usize = 32;
 
 impl Value {
     // What `make_variant` answers, where a refusal shows values so.
@@ -60,8 +57,7 @@ impl Value {
     {
         match ty.kind() {
             WasmTypeKind::Flags => {
-                let all = ty.flags_names(alloc)?;
-                let places = places_of(alloc, &all, names)?;
+                let places = places_of(alloc, ty, names)?;
                 Ok(Value {
                     own: ty.clone()?,
                     content: Content::Flags(places),
@@ -72,58 +68,61 @@ impl Value {
     }
 }
 
-// The places of those of the first names that stand among the others. One of the others that is
-// none of the first is refused.
-fn places_of(alloc: Global, all: &[&str], names: &[&str]) -> Result<Vec<usize>, WasmValueError>
-    ensures known { OnOk result (AreAllOf (texts all.now) (texts names.now)) }
-    ensures grow { IfOk result (λ is. Grows 0 (length all.now) is.items) }
-    ensures found { IfOk result (λ is. map (name_at (texts all.now)) is.items ≡ found_in (texts names.now) (texts all.now)) }
-    ensures refused { IfErr result (RefusesNames (texts all.now) (texts names.now)) }
+// The places of those flags of the type that stand among the names. One of the names that is no
+// flag is refused.
+fn places_of(alloc: Global, ty: &Type, names: &[&str]) -> Result<Vec<usize>, WasmValueError>
+    ensures known { OnOk result (AreAllOf (flags_names ty.now) (texts names.now)) }
+    ensures grow { IfOk result (λ is. Grows 0 (length (flags_names ty.now)) is.items) }
+    ensures found { IfOk result (λ is. map (name_at (flags_names ty.now)) is.items ≡ found_in (texts names.now) (flags_names ty.now)) }
+    ensures refused { IfErr result (RefusesNames (flags_names ty.now) (texts names.now)) }
 {
-    if names.len() <= MOST_COMPARED {
-        if let Some(places) = places_in_turn(alloc, all, names)? {
-            return Ok(places);
-        }
+    if let Some(places) = places_in_turn(alloc, ty, names)? {
+        return Ok(places);
     }
-    marked_places(alloc, all, names)
+    let all = ty.flags_names(alloc)?;
+    marked_places(alloc, &all, names)
 }
 
-// The places of the other names among the first, where they stand there in the same order and at
-// no further place. Else none.
+// The places of the names among the flags of the type, where they stand there in the same order
+// and none of the type's names stands twice; found without a walk over those. Else none.
 fn places_in_turn(
     alloc: Global,
-    all: &[&str],
+    ty: &Type,
     names: &[&str],
 ) -> Result<Option<Vec<usize>>, AllocError>
-    ensures known { IfOk result (λ r. OnSome r (AreAllOf (texts all.now) (texts names.now))) }
-    ensures grow { IfOk result (λ r. IfSome r (λ is. Grows 0 (length all.now) is.items)) }
-    ensures found { IfOk result (λ r. IfSome r (λ is. map (name_at (texts all.now)) is.items ≡ found_in (texts names.now) (texts all.now))) }
+    ensures known { IfOk result (λ r. OnSome r (AreAllOf (flags_names ty.now) (texts names.now))) }
+    ensures grow { IfOk result (λ r. IfSome r (λ is. Grows 0 (length (flags_names ty.now)) is.items)) }
+    ensures found { IfOk result (λ r. IfSome r (λ is. map (name_at (flags_names ty.now)) is.items ≡ found_in (texts names.now) (flags_names ty.now))) }
 {
-    let mut places = Vec::with_capacity(alloc, names.len())?;
-    let mut next = 0;
-    for i in 0..all.len() {
-        let name = all[i];
-        if next < names.len() && names[next] == name {
-            places.push(i)?;
-            next += 1;
-        } else if is_among(names, name) {
-            return Ok(None);
-        }
-    }
-    if next < names.len() {
+    if !has_distinct_flags(ty) {
         return Ok(None);
+    }
+    let mut places = Vec::with_capacity(alloc, names.len())?;
+    let mut last = None;
+    for name in names {
+        match flag_place(ty, *name) {
+            Some(place) if is_behind(last, place) => {
+                places.push(place)?;
+                last = Some(place);
+            }
+            _ => return Ok(None),
+        }
     }
     Ok(Some(places))
 }
 
-// Whether the name is one of the names.
-fn is_among(names: &[&str], name: &str) -> bool
-    ensures { result ≡ is_one_of (texts names.now) name.now }
+// Whether the place is behind the last one, where there is a last one.
+fn is_behind(last: Option<usize>, place: usize) -> bool
+    ensures { IsTrue result ↔ (behind last ≤ place) }
 {
-    names.iter().any(|other| name == *other)
+    match last {
+        Some(last) => last < place,
+        None => true,
+    }
 }
 
-// What `places_of` answers, by a map of the other names.
+// The places of those of the first names that stand among the others, by a map of those. One of
+// the others that is none of the first is refused.
 fn marked_places(alloc: Global, all: &[&str], names: &[&str]) -> Result<Vec<usize>, WasmValueError>
     ensures known { OnOk result (AreAllOf (texts all.now) (texts names.now)) }
     ensures grow { IfOk result (λ is. Grows 0 (length all.now) is.items) }

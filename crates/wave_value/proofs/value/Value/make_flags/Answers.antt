@@ -4,4 +4,4 @@ use Rattle.wave_value.proofs.value.Value.make_flags.Goals as goal
 
 pub returns-in_ok-clone-in-Flags-clause-made : goal.returns-in_ok-clone-in-Flags-clause-made
 returns-in_ok-clone-in-Flags-clause-made c =
-    flags_made c.args.ty.now c.in_ok-clone-in-Flags.field-0 c.deref.result.now _ (texts c.args.names.now) _ c.in-Flags.ensures c.in_ok-clone-in-Flags.ensures.cases c.deref.ensures.value c.in_ok-all-in-Flags.ensures c.in_ok-places-in-Flags.ensures.grow c.in_ok-places-in-Flags.ensures.found
+    flags_made c.args.ty.now c.in_ok-clone-in-Flags.field-0 (texts c.args.names.now) _ c.in-Flags.ensures c.in_ok-clone-in-Flags.ensures.cases c.in_ok-places-in-Flags.ensures.grow c.in_ok-places-in-Flags.ensures.found

@@ -1,15 +1,25 @@
-use Rattle.std.proofs.Common.{sym, arith, ◌∙◌}
-use Rattle.wave_wasm.specs.Borrowed.{texts}
-use Rattle.wave_value.proofs.MadeFlags.{step_taken, place_passed}
-use Rattle.wave_value.proofs.value.made.cases.places_in_turn.Goals.{then-next-names+then-eq+in_ok-push, else-next-names+else-is_among}
+use Rattle.std.proofs.Common.{◌≤◌, ◌+◌, Some, sym, subst, ◌∙◌}
+use Rattle.wave_wasm.specs.Types.{flags_names}
+use Rattle.wave_value.specs.Private.CaseRules.{behind}
+use Rattle.wave_value.proofs.FlagsInTurn.{PlacesInTurn, next_place, all_in_turn}
 use Rattle.wave_value.proofs.value.made.cases.places_in_turn.Goals as goal
 
-pub loop-i-preserved : goal.loop-i-preserved
-loop-i-preserved c =
-    elim c.if-next-names.branch [
-      | then-next-names+then-eq+in_ok-push w ↦
-          let step = step_taken c.args.all.now c.args.names.now c.loop-i.i c.loop-i.next _ _ c.loop-i.places.items c.loop-i-test.true w.if-next-names.true (sym w.eq.ensures ∙ w.if-eq.true) c.loop-i.invariant.known c.loop-i.invariant.places in
-          rw (w.next-is, w.places-is, w.in_ok-push.ensures.items) (record { within = omega (arith, w.if-next-names.true); known = step.0; places = step.1 })
-      | else-next-names+else-is_among w ↦
-          rw (w.next-is, w.places-is) (record { within = c.loop-i.invariant.within; known = c.loop-i.invariant.known; places = place_passed (texts c.args.names.now) c.args.all.now c.loop-i.i _ _ _ c.loop-i-test.true w.is_among.ensures w.if-is_among.false c.loop-i.invariant.places })
-    ]
+pub loop-name-preserved : goal.loop-name-preserved
+loop-name-preserved c =
+    let flags = flags_names c.args.ty.now in
+    let place = c.in-Some.place in
+    let behind_last : behind c.loop-name.last ≤ place = c.is_behind.ensures.0 c.if-is_behind.true in
+    subst (PlacesInTurn flags c.args.names.now (Some place) (c.loop-name.name-index + 1)) (sym c.in_ok-push-in-Some.ensures.items)
+    (next_place flags c.args.names.now c.loop-name.last c.loop-name.name-index place _ c.loop-name.places.items c.loop-name-test.true (sym c.flag_place.ensures ∙ c.in-Some.is) behind_last c.loop-name.invariant)
+
+pub returns-clause-known : goal.returns-clause-known
+returns-clause-known c =
+    (all_in_turn (flags_names c.args.ty.now) c.args.names.now c.loop-name.last c.loop-name.name-index c.loop-name.places.items (c.has_distinct_flags.ensures.0 c.if-not-has_distinct_flags.false) c.loop-name-test.false c.loop-name.invariant).0
+
+pub returns-clause-grow : goal.returns-clause-grow
+returns-clause-grow c =
+    (all_in_turn (flags_names c.args.ty.now) c.args.names.now c.loop-name.last c.loop-name.name-index c.loop-name.places.items (c.has_distinct_flags.ensures.0 c.if-not-has_distinct_flags.false) c.loop-name-test.false c.loop-name.invariant).1
+
+pub returns-clause-found : goal.returns-clause-found
+returns-clause-found c =
+    (all_in_turn (flags_names c.args.ty.now) c.args.names.now c.loop-name.last c.loop-name.name-index c.loop-name.places.items (c.has_distinct_flags.ensures.0 c.if-not-has_distinct_flags.false) c.loop-name-test.false c.loop-name.invariant).2
