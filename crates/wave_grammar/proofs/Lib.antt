@@ -2,6 +2,9 @@ pub mod Unambiguity
 pub mod Elaboration
 pub mod Automaton
 pub mod Examples
+pub mod FirstFaults
+pub mod StringFaults
+pub mod OneBlame
 pub mod FlagOrder
 pub mod Slices
 pub mod RoundTrip

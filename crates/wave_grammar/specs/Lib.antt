@@ -16,6 +16,7 @@ pub mod Params
 pub mod Calls
 pub mod SpannedTree
 pub mod TypeErrors
+pub mod FaultOrder
 pub mod StringAssembly
 pub mod ParamElaboration
 pub mod UnambiguityLaws
@@ -25,3 +26,4 @@ pub mod PrefixLaws
 pub mod DisplayLaws
 pub mod EquivalenceLaws
 pub mod OrderLaws
+pub mod FaultLaws

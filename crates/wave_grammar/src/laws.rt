@@ -5,6 +5,7 @@ ghost use Rattle.wave_grammar.specs.TreeLaws.{OneTree, HasItsLevels, ReadsByTree
 ghost use Rattle.wave_grammar.specs.DisplayLaws.{ShownKeepsMeaning, ShownCallKeepsMeaning};
 ghost use Rattle.wave_grammar.specs.EquivalenceLaws.{SameTokensMeanTheSame, SameTreeMeansTheSame, LastCommasMayGo, LastCommasMeanNothing};
 ghost use Rattle.wave_grammar.specs.OrderLaws.{FieldsInAnyOrder, FlagsInAnyOrder};
+ghost use Rattle.wave_grammar.specs.FaultLaws.{OneFault, AnswersAreFaults, NoAnswerNoFault, OrdersAgree, LoneFaultIsAnswered};
 ghost use Rattle.wave_grammar.specs.PrefixLaws.{TreesAreLed, LedTokensHaveATree, FrontsAreLed, LedTokensBeginATree};
 ghost use Rattle.wave_grammar.specs.PrefixLaws.{RefusedTokensBeginNone, UnexpectedTokensBeginNone};
 ghost use Rattle.wave_grammar.specs.PrefixLaws.{EmptyTuplesAreEmpty, RepeatedFlagsAreRepeated, DeepValuesAreDeep};
@@ -104,4 +105,26 @@ pub fn shown_keeps_meaning()
 /// the same parameters at all types.
 pub fn shown_call_keeps_meaning()
     ensures { ShownCallKeepsMeaning }
+{}
+
+/// In each order at most one fault is answered: one refusal, at one span.
+pub fn one_fault()
+    ensures { OneFault }
+{}
+
+/// What is answered is one of the faults; and where none is answered there is none, if the names of
+/// the type are distinct.
+pub fn answered_faults_are_faults()
+    ensures answered { AnswersAreFaults }
+    ensures none { NoAnswerNoFault }
+{}
+
+/// Where one order finds no fault, no order does, if the names of the type are distinct.
+pub fn orders_agree()
+    ensures { OrdersAgree }
+{}
+
+/// Where a tree has one fault alone, no order answers another.
+pub fn a_fault_alone_is_answered()
+    ensures { LoneFaultIsAnswered }
 {}

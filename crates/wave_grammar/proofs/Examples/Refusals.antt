@@ -60,16 +60,16 @@ level_refused : (e : Diagnostic) (p : Place) → Says e NestingTooDeep (span p.l
 level_refused e p says = (record { full = omega arith; due = tt; no_close = λ t new h. refl }, refl, says)
 
 -- a leaf, a label of one byte with or without payload, and the fault of `256` at u8
-abbrev leaf : ℕ → ℕ → Token → Placed
+abbrev pub leaf : ℕ → ℕ → Token → Placed
 leaf from to t = at (span from to) (placed.one t)
 
 abbrev label : ℕ → ℕ → List ℕ → MaybePlaced → Placed
 label from to text payload = at (span from to) (placed.label (span from (from + 1)) text payload)
 
-abbrev big : Token
+abbrev pub big : Token
 big = number (codes "256")
 
-too_large : {from to : ℕ} → Fault u8 (leaf from to big) (plainly InvalidValue) (span from to)
+pub too_large : {from to : ℕ} → Fault u8 (leaf from to big) (plainly InvalidValue) (span from to)
 too_large = inr ((codes "256", inl refl), (above_u8, (refl, refl)))
 
 -- `{1: ok}`, its tree and the places of its parts
@@ -108,7 +108,7 @@ fixed_lists = (inl ((λ e. omega arith), (refl, refl)), inl ((λ e. omega arith)
 
 -- at `record { a: u8 }` `{b: 1, a: 256, %a: 1}`: `InvalidValue` 0..21, `DuplicateField` 15..17, which tells the name, `InvalidValue` 10..13;
 -- `{1: ok}`: `InvalidType` 1..2, at the key, with its detail, and the cause `MissingField("a")` 0..7; `{}`: `InvalidType` 0..2
-abbrev a_type : type.TypeTree
+abbrev pub a_type : type.TypeTree
 a_type = type.record_type (type.field (codes "a") u8 type.no_fields)
 
 abbrev three_entries : Placed
