@@ -12,9 +12,10 @@ pub use wave_lex::laws::{
     one_meaning, parts_join, through_first_quotes, tokens_cut,
 };
 pub use wave_tree::laws::{
-    askings_are_few, fronts_are_led, keys_are_values, last_commas_mean_nothing,
-    led_tokens_begin_a_tree, led_tokens_have_a_tree, levels_are_exact, nodes_read_as_their_tokens,
-    one_reading, one_tree, order_means_nothing, params_are_by_tree, read_values_have_a_tree,
+    a_fault_alone_is_answered, answered_faults_are_faults, askings_are_few, fronts_are_led,
+    keys_are_values, last_commas_mean_nothing, led_tokens_begin_a_tree, led_tokens_have_a_tree,
+    levels_are_exact, nodes_read_as_their_tokens, one_fault, one_reading, one_tree,
+    order_means_nothing, orders_agree, params_are_by_tree, read_values_have_a_tree,
     reading_is_by_tree, refusals_are_of_their_kind, refusals_lie_in_the_text,
     refused_tokens_begin_none, refused_values_have_none, same_tokens_mean_the_same,
     shown_call_keeps_meaning, shown_keeps_meaning, trees_are_led, unexpected_tokens_begin_none,

@@ -4,25 +4,24 @@ use Rattle.std.specs.Result.{IsErrAnd}
 use Rattle.std.specs.BTreeMap.{BTreeMap}
 use Rattle.std.specs.Map.{keys_of, values_of}
 use Rattle.std.specs.declared.ops.Range.{Range}
-use Rattle.wave_wasm.specs.Lists.{AllOf, SomeOf}
-use Rattle.wave_wasm.specs.Names.{IsNoneOf, AreAllOf, AreDistinct, found_in}
+use Rattle.wave_grammar.specs.FaultOrder.{Order}
+use Rattle.wave_wasm.specs.Lists.{AllOf}
+use Rattle.wave_wasm.specs.Names.{AreAllOf, AreDistinct, found_in}
 use Rattle.wave_wasm.specs.Types.{TypeTree, HasDistinctNames, flags_names, kind_of}
 use Rattle.wave_wasm.specs.Values.{Value}
 use Rattle.wave_wasm.specs.Borrowed.{texts}
-use Rattle.wave_wasm.specs.ValueErrors.{unknown_case}
 use Rattle.wave_wasm.specs.ConstructorContracts.{MakesFlags, FullFlags}
 use Rattle.wave_wasm.specs.declared.wasm.WasmTypeKind.TheVariants as kinds
 use Rattle.wave_wasm.specs.declared.wasm.WasmValueError.{WasmValueError}
-use Rattle.wave_lex.specs.Errors.{Diagnostic, refusal_of}
+use Rattle.wave_lex.specs.Errors.{Diagnostic}
 use Rattle.wave_lex.specs.declared.error.ParserErrorKind.TheVariants.{InvalidType}
 use Rattle.wave_grammar.specs.LeafTokens.{name_of}
 use Rattle.wave_grammar.specs.SpannedTree.{slice}
-use Rattle.wave_grammar.specs.TypeErrors.{RefusesFor}
 use Rattle.wave_syntax.specs.NodeTree.{NodeTree, node_list, node_trees, type_of, place_of, children_of}
 use Rattle.wave_syntax.specs.declared.form.NodeType.TheVariants as kind
 use Rattle.wave_syntax.specs.NodeAccessors.{RefusedAs}
 use Rattle.wave_syntax.specs.NodeFlags.{AreFlags, names_at}
-use Rattle.wave_syntax.specs.Shared.NodeFlags.{RefusesUnknown, RefusesFlags}
+use Rattle.wave_syntax.specs.Shared.NodeFlags.{IsFirstUnknown, RefusesUnknown, RefusesFlags}
 use Rattle.wave_syntax.specs.TypedReading.{IsMade}
 use Rattle.wave_syntax.proofs.ByKind.Flags.{flags_is, flags_blame, flags_made}
 use Rattle.wave_syntax.proofs.ErrorSpans.Nodes.{at_in, form_at, made_in}
@@ -44,49 +43,49 @@ names_are source flags h = names_from source flags.entries h
 
 refuses : (names flags : List (List ℕ)) (source : List ℕ) (n : NodeTree) (e : Diagnostic) → AreFlags n → names_at source (children_of n) ≡ flags → RefusesUnknown names flags n e → RefusesFlags names source n e
 refuses names flags source n e ok named (inl memory) = inl memory
-refuses names flags source n e ok named (inr some) = inr (inr (ok, subst (SomeOf (λ name. IsNoneOf names name × RefusesFor (unknown_case name) (place_of n) (refusal_of e) e.span)) (sym named) some))
+refuses names flags source n e ok named (inr first) = inr (inr (ok, subst (λ (fs : List (List ℕ)). IsFirstUnknown names fs n e) (sym named) first))
 
-module _ {V : Type 0} (tree : V → Value) (of : V → TypeTree → Type 0) (Full : TypeTree → Type 0) where
+module _ {V : Type 0} (tree : V → Value) (of : V → TypeTree → Type 0) (Full : TypeTree → Type 0) (o w : Order) where
   -- a flag that is none of the names
   pub unknown_read : (T : TypeTree) (names flags : List (List ℕ)) (source : List ℕ) (n : NodeTree) (read : Result V Fault) (f : Fault) (r : Result V Diagnostic) → kinds.Flags ≡ kind_of T → names ≡ flags_names T → IsErrAnd read (λ g. g ≡ f) → TellsUnknown names flags f →
-      AreFlags n → names_at source (children_of n) ≡ flags → IsTold read (place_of n) r → IsReadAs tree of Full T source n r
+      AreFlags n → names_at source (children_of n) ≡ flags → IsTold read (place_of n) r → IsReadAs tree of Full o w T source n r
   unknown_read T names flags source n (Ok v) f r kind is same unknown ok named told = absurd same
   unknown_read T names flags source n (Err g) f (Ok w) kind is same unknown ok named told = absurd told
   unknown_read T names flags source n (Err g) f (Err e) kind is same unknown ok named told =
       let h = unknown n e (subst (λ (x : Fault). Tells x (place_of n) e) same told) in
       record {
-        answer = λ t node distinct. flags_blame tree of Full T names source n t e (flags_is T kind names is) node (refuses names flags source n e ok named h.0);
+        answer = λ t node distinct. flags_blame tree of Full o w T names source n t e (flags_is T kind names is) node (refuses names flags source n e ok named h.0);
         within = λ value. at_in source n e (inl value) h.1;
       }
 
   made_read : (T : TypeTree) (names flags : List (List ℕ)) (source : List ℕ) (n : NodeTree) (picked : List (Bor (List ℕ))) (m : Result V WasmValueError) (r : Result V Diagnostic) → kinds.Flags ≡ kind_of T → names ≡ flags_names T → AreAllOf names flags → (AreDistinct names → texts picked ≡ found_in flags names) →
-      IfOk m (MakesFlags tree of T picked) → IfErr m (FullFlags of Full T picked) → AreFlags n → names_at source (children_of n) ≡ flags → IsMade n m r → IsReadAs tree of Full T source n r
+      IfOk m (MakesFlags tree of T picked) → IfErr m (FullFlags of Full T picked) → AreFlags n → names_at source (children_of n) ≡ flags → IsMade n m r → IsReadAs tree of Full o w T source n r
   made_read T names flags source n picked m r kind is known found makes full ok named made =
       let typed = flags_is T kind names is in
       record {
-        answer = λ t node distinct. flags_made tree of Full T names source n t picked m r typed distinct node ok (subst (AreAllOf names) (sym named) known) (found (subst HasDistinctNames typed distinct) ∙ ap (λ (l : List (List ℕ)). found_in l names) (sym named)) makes full made;
+        answer = λ t node distinct. flags_made tree of Full o w T names source n t picked m r typed distinct node ok (subst (AreAllOf names) (sym named) known) (found (subst HasDistinctNames typed distinct) ∙ ap (λ (l : List (List ℕ)). found_in l names) (sym named)) makes full made;
         within = λ value. made_in source n m r (inl value) made;
       }
 
   -- the flags were made
   pub flags_read : (T : TypeTree) (names flags : List (List ℕ)) (source : List ℕ) (n : NodeTree) (picked : List (Bor (List ℕ))) (v : V) (r : Result V Diagnostic) → kinds.Flags ≡ kind_of T → names ≡ flags_names T → AreAllOf names flags → (AreDistinct names → texts picked ≡ found_in flags names) →
-      MakesFlags tree of T picked v → AreFlags n → names_at source (children_of n) ≡ flags → IsTold (Ok v) (place_of n) r → IsReadAs tree of Full T source n r
+      MakesFlags tree of T picked v → AreFlags n → names_at source (children_of n) ≡ flags → IsTold (Ok v) (place_of n) r → IsReadAs tree of Full o w T source n r
   flags_read T names flags source n picked v (Ok w) kind is known found makes ok named told = made_read T names flags source n picked (Ok v) (Ok w) kind is known found makes tt ok named told
   flags_read T names flags source n picked v (Err e) kind is known found makes ok named told = absurd told
 
   -- their constructor refused
   pub flags_refused : (T : TypeTree) (names flags : List (List ℕ)) (source : List ℕ) (n : NodeTree) (picked : List (Bor (List ℕ))) (cause : WasmValueError) (f : Fault) (r : Result V Diagnostic) → IsFaultOf cause f → kinds.Flags ≡ kind_of T → names ≡ flags_names T → AreAllOf names flags → (AreDistinct names → texts picked ≡ found_in flags names) →
-      FullFlags of Full T picked cause → AreFlags n → names_at source (children_of n) ≡ flags → IsTold (Err f) (place_of n) r → IsReadAs tree of Full T source n r
+      FullFlags of Full T picked cause → AreFlags n → names_at source (children_of n) ≡ flags → IsTold (Err f) (place_of n) r → IsReadAs tree of Full o w T source n r
   flags_refused T names flags source n picked cause f (Ok w) caused kind is known found full ok named told = absurd told
   flags_refused T names flags source n picked cause (fault.Cause c) (Err e) caused kind is known found full ok named told =
       made_read T names flags source n picked (Err cause) (Err e) kind is known found tt full ok named (told.0 ∙ caused, told.1)
   flags_refused T names flags source n picked cause (fault.Kind k) (Err e) caused kind is known found full ok named told =
-      no_memory tree of Full T source n e (subst (λ k. RefusedAs k n e) caused.0 told)
+      no_memory tree of Full o w T source n e (subst (λ k. RefusedAs k n e) caused.0 told)
   flags_refused T names flags source n picked cause (fault.Told d) (Err e) caused kind is known found full ok named told = absurd caused
 
   -- a node that is neither flags nor `{}`
-  pub other_form : (T : TypeTree) (source : List ℕ) (n : NodeTree) (e : Diagnostic) → kinds.Flags ≡ kind_of T → type_of n ≢ kind.Flags → type_of n ≢ kind.EmptySet → RefusedAs InvalidType n e → IsReadAs tree of Full T source n (Err e)
+  pub other_form : (T : TypeTree) (source : List ℕ) (n : NodeTree) (e : Diagnostic) → kinds.Flags ≡ kind_of T → type_of n ≢ kind.Flags → type_of n ≢ kind.EmptySet → RefusedAs InvalidType n e → IsReadAs tree of Full o w T source n (Err e)
   other_form T source n e kind flags empty refused = record {
-    answer = λ t node distinct. flags_blame tree of Full T (flags_names T) source n t e (flags_is T kind (flags_names T) refl) node (inr (inl (flags, empty, refused)));
+    answer = λ t node distinct. flags_blame tree of Full o w T (flags_names T) source n t e (flags_is T kind (flags_names T) refl) node (inr (inl (flags, empty, refused)));
     within = λ value. at_in source n e (inl value) (form_at n e refused);
   }

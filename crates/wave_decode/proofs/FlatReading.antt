@@ -1,5 +1,6 @@
 -- Values that stand for an option or a result of themselves, around what was read.
-use Rattle.std.proofs.Common.{ℕ, ◌≡◌, ◌≢◌, inl, List, [], Option, Some, None, Bor, Result, Ok, Err, IfOk, IfErr, refl, sym, subst}
+use Rattle.std.proofs.Common.{ℕ, ◌≡◌, ◌≢◌, ◌++◌, inl, List, [], Option, Some, None, Bor, Result, Ok, Err, IfOk, IfErr, refl, sym, subst}
+use Rattle.wave_grammar.specs.FaultOrder.{Order}
 use Rattle.wave_wasm.specs.Types as type
 use Rattle.wave_wasm.specs.Types.{TypeTree, kind_of}
 use Rattle.wave_wasm.specs.Values.{Value}
@@ -9,7 +10,7 @@ use Rattle.wave_wasm.specs.declared.wasm.WasmValueError.{WasmValueError}
 use Rattle.wave_lex.specs.Errors.{Diagnostic}
 use Rattle.wave_lex.specs.declared.error.ParserErrorKind.TheVariants.{InvalidType}
 use Rattle.wave_grammar.specs.TypedGrammar.{IsFlat}
-use Rattle.wave_syntax.specs.NodeTree.{NodeTree, type_of, place_of}
+use Rattle.wave_syntax.specs.NodeTree.{NodeTree, node, node_trees, type_of, place_of}
 use Rattle.wave_syntax.specs.declared.form.NodeType.{NodeType}
 use Rattle.wave_syntax.specs.NodeAccessors.{RefusedAs}
 use Rattle.wave_syntax.specs.TypedReading.{IsMade}
@@ -20,7 +21,7 @@ use Rattle.wave_leaf.specs.PlainReading.{IsPlain}
 use Rattle.wave_leaf.specs.Reading.{IsReadAs}
 use Rattle.wave_decode.specs.Flat.{IsFlatAt, IsAround}
 use Rattle.wave_decode.specs.KeptParts.{AreOfType}
-use Rattle.wave_decode.specs.PartsOfKinds.{AreParts, IsSimpleAt}
+use Rattle.wave_decode.specs.PartsOfKinds.{AreDoomedAtOnce, AreParts, IsSimpleAt}
 use Rattle.wave_decode.specs.declared.parts.Parts.{Parts}
 use Rattle.wave_decode.specs.declared.values.Kept.{Kept}
 
@@ -31,30 +32,30 @@ other_form n = record { kind = InvalidType; span = place_of n; detail = None; ca
 is_other : (n : NodeTree) → RefusedAs InvalidType n (other_form n)
 is_other n = record { is = refl; stands = refl }
 
-module _ {V : Type 0} (tree : V → Value) (of : V → TypeTree → Type 0) (Full : TypeTree → Type 0) where
+module _ {V : Type 0} (tree : V → Value) (of : V → TypeTree → Type 0) (Full : TypeTree → Type 0) (o w : Order) where
   -- a refusal at the payload's type
-  pub flat_refused : (T U : TypeTree) (source : List ℕ) (n : NodeTree) (e : Diagnostic) → HasFullParts Full → IsFlatAt T (type_of n) U → IsReadAs tree of Full U source n (Err e) → IsReadAs tree of Full T source n (Err e)
+  pub flat_refused : (T U : TypeTree) (source : List ℕ) (n : NodeTree) (e : Diagnostic) → HasFullParts Full → IsFlatAt T (type_of n) U → IsReadAs tree of Full o w U source n (Err e) → IsReadAs tree of Full o w T source n (Err e)
   flat_refused (type.option P) U source n e parts h read =
-      let inner : IsReadAs tree of Full P source n (Err e) = subst (λ (W : TypeTree). IsReadAs tree of Full W source n (Err e)) h.0 read in
-      record { answer = λ t is distinct. flat_blame tree of Full (type.option P) P source n t (other_form n) e refl is.0 (h.2, h.3, is_other n) h.1 parts (inner.answer t is distinct); within = inner.within }
+      let inner : IsReadAs tree of Full o w P source n (Err e) = subst (λ (W : TypeTree). IsReadAs tree of Full o w W source n (Err e)) h.0 read in
+      record { answer = λ t is distinct. flat_blame tree of Full o w (type.option P) P source n t (other_form n) e refl is.0 (h.2, h.3, is_other n) h.1 parts (inner.answer t is distinct); within = inner.within }
   flat_refused (type.result (type.a_type A) B) U source n e parts h read =
-      let inner : IsReadAs tree of Full A source n (Err e) = subst (λ (W : TypeTree). IsReadAs tree of Full W source n (Err e)) h.0 read in
-      record { answer = λ t is distinct. result_flat_blame tree of Full (type.result (type.a_type A) B) A B source n t (other_form n) e refl is.0 (h.2, h.3, is_other n) h.1 parts (inner.answer t is distinct.0); within = inner.within }
+      let inner : IsReadAs tree of Full o w A source n (Err e) = subst (λ (W : TypeTree). IsReadAs tree of Full o w W source n (Err e)) h.0 read in
+      record { answer = λ t is distinct. result_flat_blame tree of Full o w (type.result (type.a_type A) B) A B source n t (other_form n) e refl is.0 (h.2, h.3, is_other n) h.1 parts (inner.answer t is distinct.0); within = inner.within }
   flat_refused _ U source n e parts h read = absurd h
 
   -- an option around a value of the payload's type
-  pub option_around : (T U : TypeTree) (source : List ℕ) (n : NodeTree) (v : V) (m : Result V WasmValueError) (r : Result V Diagnostic) → kind_of T ≡ kinds.Option → IsFlatAt T (type_of n) U → IsReadAs tree of Full U source n (Ok v) → IfOk m (MakesOption tree of T (Some v)) → IfErr m (FullOption of Full T (Some v)) → IsMade n m r → IsReadAs tree of Full T source n r
+  pub option_around : (T U : TypeTree) (source : List ℕ) (n : NodeTree) (v : V) (m : Result V WasmValueError) (r : Result V Diagnostic) → kind_of T ≡ kinds.Option → IsFlatAt T (type_of n) U → IsReadAs tree of Full o w U source n (Ok v) → IfOk m (MakesOption tree of T (Some v)) → IfErr m (FullOption of Full T (Some v)) → IsMade n m r → IsReadAs tree of Full o w T source n r
   option_around (type.option P) U source n v m r kind h read makes full done =
-      let inner : IsReadAs tree of Full P source n (Ok v) = subst (λ (W : TypeTree). IsReadAs tree of Full W source n (Ok v)) h.0 read in
-      record { answer = λ t is distinct. flat_made tree of Full (type.option P) P t n v m r refl distinct h.1 (inner.answer t is distinct) makes full done; within = λ value. made_in source n m r (inl value) done }
+      let inner : IsReadAs tree of Full o w P source n (Ok v) = subst (λ (W : TypeTree). IsReadAs tree of Full o w W source n (Ok v)) h.0 read in
+      record { answer = λ t is distinct. flat_made tree of Full o w (type.option P) P t n v m r refl distinct h.1 (inner.answer t is distinct) makes full done; within = λ value. made_in source n m r (inl value) done }
   option_around (type.result A B) U source n v m r kind h read makes full done = absurd (cc kind)
   option_around _ U source n v m r kind h read makes full done = absurd h
 
   -- a result around one
-  pub result_around : (T U : TypeTree) (source : List ℕ) (n : NodeTree) (v : V) (m : Result V WasmValueError) (r : Result V Diagnostic) → kind_of T ≢ kinds.Option → IsFlatAt T (type_of n) U → IsReadAs tree of Full U source n (Ok v) → IfOk m (MakesResult tree of T (Ok (Some v))) → IfErr m (FullResult of Full T (Ok (Some v))) → IsMade n m r → IsReadAs tree of Full T source n r
+  pub result_around : (T U : TypeTree) (source : List ℕ) (n : NodeTree) (v : V) (m : Result V WasmValueError) (r : Result V Diagnostic) → kind_of T ≢ kinds.Option → IsFlatAt T (type_of n) U → IsReadAs tree of Full o w U source n (Ok v) → IfOk m (MakesResult tree of T (Ok (Some v))) → IfErr m (FullResult of Full T (Ok (Some v))) → IsMade n m r → IsReadAs tree of Full o w T source n r
   result_around (type.result (type.a_type A) B) U source n v m r kind h read makes full done =
-      let inner : IsReadAs tree of Full A source n (Ok v) = subst (λ (W : TypeTree). IsReadAs tree of Full W source n (Ok v)) h.0 read in
-      record { answer = λ t is distinct. result_flat_made tree of Full (type.result (type.a_type A) B) A B t n v m r refl distinct h.1 (inner.answer t is distinct.0) makes full done; within = λ value. made_in source n m r (inl value) done }
+      let inner : IsReadAs tree of Full o w A source n (Ok v) = subst (λ (W : TypeTree). IsReadAs tree of Full o w W source n (Ok v)) h.0 read in
+      record { answer = λ t is distinct. result_flat_made tree of Full o w (type.result (type.a_type A) B) A B t n v m r refl distinct h.1 (inner.answer t is distinct.0) makes full done; within = λ value. made_in source n m r (inl value) done }
   result_around (type.option P) U source n v m r kind h read makes full done = absurd (kind refl)
   result_around _ U source n v m r kind h read makes full done = absurd h
 
@@ -81,9 +82,17 @@ module _ {S : Type 0} (type_tree : S → TypeTree) (T : TypeTree) (ty : NodeType
   none_flat_within (Some whole) x h U flat = none_in_flat (type_tree x.now) U ty (payload_flat T (type_tree x.now) ty h.1) flat
 
   -- no parts of that type are no parts of the whole
-  pub begun_around : {V : Type 0} (tree : V → Value) (of : V → TypeTree → Type 0) (Full : TypeTree → Type 0) (source : List ℕ) (around : Option (Bor S)) (x : Bor S) (kept : Kept S V) → IsAround type_tree T ty around x → AreParts type_tree tree of Full (type_tree x.now) source ty [] kept.parts → AreOfType type_tree tree of Full T source ty [] around kept
-  begun_around tree of Full source None x kept h parts = subst (λ (W : TypeTree). AreParts type_tree tree of Full W source ty [] kept.parts) h.0 parts
-  begun_around tree of Full source (Some whole) x kept h parts = (h.0, (type_tree x.now, h.1, parts))
+  pub begun_around : {V : Type 0} (tree : V → Value) (of : V → TypeTree → Type 0) (Full : TypeTree → Type 0) (w : Order) (source : List ℕ) (around : Option (Bor S)) (x : Bor S) (kept : Kept S V) → IsAround type_tree T ty around x → AreParts type_tree tree of Full w (type_tree x.now) source ty [] kept.parts → AreOfType type_tree tree of Full w T source ty [] around kept
+  begun_around tree of Full w source None x kept h parts = subst (λ (W : TypeTree). AreParts type_tree tree of Full w W source ty [] kept.parts) h.0 parts
+  begun_around tree of Full w source (Some whole) x kept h parts = (h.0, (type_tree x.now, h.1, parts))
+
+  -- where parts of that type have a fault at once, so have those of the whole
+  pub doomed_around : {V : Type 0} (tree : V → Value) (of : V → TypeTree → Type 0) (Full : TypeTree → Type 0) (around : Option (Bor S)) (x : Bor S) (begun : Parts S V) → HasFullParts Full → IsAround type_tree T ty around x → AreDoomedAtOnce type_tree tree of Full (type_tree x.now) ty begun → AreDoomedAtOnce type_tree tree of Full T ty begun
+  doomed_around tree of Full None x begun full h doomed = subst (λ (W : TypeTree). AreDoomedAtOnce type_tree tree of Full W ty begun) h.0 doomed
+  doomed_around tree of Full (Some whole) x begun full h doomed = λ f is. (
+    (doomed f is).0,
+    λ o w source of_parts more p e tells. flat_refused tree of Full o w T (type_tree x.now) source (node ty p (node_trees ([] ++ more))) e full h.1 ((doomed f is).1 o w source of_parts more p e tells),
+  )
 
   -- of a plain type nothing is kept
   pub plain_begun : {V : Type 0} (around : Option (Bor S)) (x : Bor S) (begun : Parts S V) → IsAround type_tree T ty around x → (IsPlain (type_tree x.now) → IsSimpleAt type_tree (type_tree x.now) begun) → IsPlain T → IsSimpleAt type_tree T begun

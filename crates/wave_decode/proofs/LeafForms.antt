@@ -1,5 +1,6 @@
 -- Leaves and flags at types that take neither.
 use Rattle.std.proofs.Common.{ℕ, ◌≡◌, ◌≢◌, ◌⊎◌, inl, inr, List, Bool, true, false, Err, refl, ◌∙◌, sym, subst}
+use Rattle.wave_grammar.specs.FaultOrder.{Order}
 use Rattle.wave_wasm.specs.Types as type
 use Rattle.wave_wasm.specs.Types.{TypeTree, kind_of}
 use Rattle.wave_wasm.specs.Values.{Value}
@@ -75,17 +76,17 @@ named_simple T k is one = others_simple T k is (no kinds.List refl) (no kinds.Fi
     no : (j : WasmTypeKind) → is_simple j ≡ false → k ≢ j
     no = apart is_simple refl k one
 
-module _ {V : Type 0} (tree : V → Value) (of : V → TypeTree → Type 0) (Full : TypeTree → Type 0) (T : TypeTree) (k : WasmTypeKind) (is : k ≡ kind_of T) (source : List ℕ) (n : NodeTree) (e : Diagnostic) (refused : RefusedAs why.InvalidType n e) where
+module _ {V : Type 0} (tree : V → Value) (of : V → TypeTree → Type 0) (Full : TypeTree → Type 0) (o w : Order) (T : TypeTree) (k : WasmTypeKind) (is : k ≡ kind_of T) (source : List ℕ) (n : NodeTree) (e : Diagnostic) (refused : RefusedAs why.InvalidType n e) where
   -- such a node at a list, a tuple, a record or a map
-  pub no_row_refused : IsNoRow (type_of n) → (k ≡ kinds.List) ⊎ (k ≡ kinds.FixedLengthList) ⊎ (k ≡ kinds.Tuple) ⊎ (k ≡ kinds.Record) ⊎ (k ≡ kinds.Map) → IsReadAs tree of Full T source n (Err e)
-  no_row_refused h (inl f) = other_than_list tree of Full T source n e (subst IsOfListKind (sym f ∙ is) tt) h.0 refused
-  no_row_refused h (inr (inl f)) = other_than_list tree of Full T source n e (subst IsOfListKind (sym f ∙ is) tt) h.0 refused
-  no_row_refused h (inr (inr (inl f))) = other_than_tuple tree of Full T source n e (sym is ∙ f) h.1 refused
-  no_row_refused h (inr (inr (inr (inl f)))) = record_faults.other_form tree of Full T source n e (sym is ∙ f) h.2 refused
-  no_row_refused h (inr (inr (inr (inr f)))) = map_entries.other_form tree of Full T source n e (sym is ∙ f) h.2 h.3 refused
+  pub no_row_refused : IsNoRow (type_of n) → (k ≡ kinds.List) ⊎ (k ≡ kinds.FixedLengthList) ⊎ (k ≡ kinds.Tuple) ⊎ (k ≡ kinds.Record) ⊎ (k ≡ kinds.Map) → IsReadAs tree of Full o w T source n (Err e)
+  no_row_refused h (inl f) = other_than_list tree of Full o w T source n e (subst IsOfListKind (sym f ∙ is) tt) h.0 refused
+  no_row_refused h (inr (inl f)) = other_than_list tree of Full o w T source n e (subst IsOfListKind (sym f ∙ is) tt) h.0 refused
+  no_row_refused h (inr (inr (inl f))) = other_than_tuple tree of Full o w T source n e (sym is ∙ f) h.1 refused
+  no_row_refused h (inr (inr (inr (inl f)))) = record_faults.other_form tree of Full o w T source n e (sym is ∙ f) h.2 refused
+  no_row_refused h (inr (inr (inr (inr f)))) = map_entries.other_form tree of Full o w T source n e (sym is ∙ f) h.2 h.3 refused
 
   -- a leaf there, or at flags
-  pub leaf_refused : IsOneToken (type_of n) → (k ≡ kinds.List) ⊎ (k ≡ kinds.FixedLengthList) ⊎ (k ≡ kinds.Tuple) ⊎ (k ≡ kinds.Record) ⊎ (k ≡ kinds.Map) ⊎ (k ≡ kinds.Flags) → IsReadAs tree of Full T source n (Err e)
+  pub leaf_refused : IsOneToken (type_of n) → (k ≡ kinds.List) ⊎ (k ≡ kinds.FixedLengthList) ⊎ (k ≡ kinds.Tuple) ⊎ (k ≡ kinds.Record) ⊎ (k ≡ kinds.Map) ⊎ (k ≡ kinds.Flags) → IsReadAs tree of Full o w T source n (Err e)
   leaf_refused token (inl f) = no_row_refused (leaf_no_row (type_of n) token).0 (inl f)
   leaf_refused token (inr (inl f)) = no_row_refused (leaf_no_row (type_of n) token).0 (inr (inl f))
   leaf_refused token (inr (inr (inl f))) = no_row_refused (leaf_no_row (type_of n) token).0 (inr (inr (inl f)))
@@ -93,16 +94,16 @@ module _ {V : Type 0} (tree : V → Value) (of : V → TypeTree → Type 0) (Ful
   leaf_refused token (inr (inr (inr (inr (inl f))))) = no_row_refused (leaf_no_row (type_of n) token).0 (inr (inr (inr (inr f))))
   leaf_refused token (inr (inr (inr (inr (inr f))))) =
       let h = leaf_no_row (type_of n) token in
-      flag_reading.other_form tree of Full T source n e (sym f ∙ is) h.1 h.0.3 refused
+      flag_reading.other_form tree of Full o w T source n e (sym f ∙ is) h.1 h.0.3 refused
 
   -- flags at any type but flags that takes names or parts
-  pub flags_refused : type_of n ≡ kind.Flags → ((U : TypeTree) → IsFlatAt T (type_of n) U → ⊥) → (k ≡ kinds.List) ⊎ (k ≡ kinds.FixedLengthList) ⊎ (k ≡ kinds.Tuple) ⊎ (k ≡ kinds.Record) ⊎ (k ≡ kinds.Map) ⊎ (k ≡ kinds.Variant) ⊎ (k ≡ kinds.Enum) ⊎ (k ≡ kinds.Option) ⊎ (k ≡ kinds.Result) → IsReadAs tree of Full T source n (Err e)
+  pub flags_refused : type_of n ≡ kind.Flags → ((U : TypeTree) → IsFlatAt T (type_of n) U → ⊥) → (k ≡ kinds.List) ⊎ (k ≡ kinds.FixedLengthList) ⊎ (k ≡ kinds.Tuple) ⊎ (k ≡ kinds.Record) ⊎ (k ≡ kinds.Map) ⊎ (k ≡ kinds.Variant) ⊎ (k ≡ kinds.Enum) ⊎ (k ≡ kinds.Option) ⊎ (k ≡ kinds.Result) → IsReadAs tree of Full o w T source n (Err e)
   flags_refused ty flat (inl f) = no_row_refused (subst IsNoRow (sym ty) flags_no_row) (inl f)
   flags_refused ty flat (inr (inl f)) = no_row_refused (subst IsNoRow (sym ty) flags_no_row) (inr (inl f))
   flags_refused ty flat (inr (inr (inl f))) = no_row_refused (subst IsNoRow (sym ty) flags_no_row) (inr (inr (inl f)))
   flags_refused ty flat (inr (inr (inr (inl f)))) = no_row_refused (subst IsNoRow (sym ty) flags_no_row) (inr (inr (inr (inl f))))
   flags_refused ty flat (inr (inr (inr (inr (inl f))))) = no_row_refused (subst IsNoRow (sym ty) flags_no_row) (inr (inr (inr (inr f))))
-  flags_refused ty flat (inr (inr (inr (inr (inr (inl f)))))) = variant_other_form tree of Full T source n e (sym is ∙ f) (λ x. cc (sym ty ∙ x)) (λ x. cc (sym ty ∙ x)) refused
-  flags_refused ty flat (inr (inr (inr (inr (inr (inr (inl f))))))) = enum_other_form tree of Full T source n e (sym is ∙ f) (λ x. cc (sym ty ∙ x)) refused
-  flags_refused ty flat (inr (inr (inr (inr (inr (inr (inr (inl f)))))))) = other_option tree of Full T source n e (sym is ∙ f) (λ x. cc (sym ty ∙ x)) (λ x. cc (sym ty ∙ x)) flat refused
-  flags_refused ty flat (inr (inr (inr (inr (inr (inr (inr (inr f)))))))) = other_result tree of Full T source n e (sym is ∙ f) (λ x. cc (sym ty ∙ x)) (λ x. cc (sym ty ∙ x)) flat refused
+  flags_refused ty flat (inr (inr (inr (inr (inr (inl f)))))) = variant_other_form tree of Full o w T source n e (sym is ∙ f) (λ x. cc (sym ty ∙ x)) (λ x. cc (sym ty ∙ x)) refused
+  flags_refused ty flat (inr (inr (inr (inr (inr (inr (inl f))))))) = enum_other_form tree of Full o w T source n e (sym is ∙ f) (λ x. cc (sym ty ∙ x)) refused
+  flags_refused ty flat (inr (inr (inr (inr (inr (inr (inr (inl f)))))))) = other_option tree of Full o w T source n e (sym is ∙ f) (λ x. cc (sym ty ∙ x)) (λ x. cc (sym ty ∙ x)) flat refused
+  flags_refused ty flat (inr (inr (inr (inr (inr (inr (inr (inr f)))))))) = other_result tree of Full o w T source n e (sym is ∙ f) (λ x. cc (sym ty ∙ x)) (λ x. cc (sym ty ∙ x)) flat refused

@@ -8,7 +8,6 @@ mod KeyedChildren
 mod MapEntries
 mod MapSteps
 mod OptionReading
-mod PickedNames
 mod MarkedNames
 mod RecordFaults
 mod RecordFields
@@ -24,3 +23,4 @@ mod PartsKept
 mod KeptSteps
 mod LeafForms
 mod OtherKinds
+pub mod ReadTypes

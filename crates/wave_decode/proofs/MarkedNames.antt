@@ -1,15 +1,30 @@
--- Names that are marked where flags have them.
-use Rattle.std.proofs.Common.{ℕ, zero, suc, ◌≡◌, ◌≢◌, ◌⊎◌, inl, inr, ◌<◌, ◌≤◌, Bool, true, false, ◌||◌, List, [], ◌∷◌, ◌++◌, length, map, get_or, take, Some, Bor, refl, sym, ap, ◌∙◌, subst, arith}
+-- Names that are marked where flags have them, and the first flag that has none of them.
+use Rattle.std.proofs.Common.{ℕ, zero, suc, ◌≡◌, ◌≢◌, ◌⊎◌, inl, inr, ◌<◌, ◌≤◌, Bool, true, false, ◌||◌, List, [], ◌∷◌, ◌++◌, length, map, get_or, take, cond, Option, Some, None, IfSome, IfNone, Bor, refl, sym, ap, ◌∙◌, subst, arith}
 use Rattle.std.specs.Prelude.{bytes_eq, ◌+◌, slice_get, set, replicate}
+use Rattle.std.specs.List.{position, position_from}
+use Rattle.std.specs.Iterator.{Yields}
+use Rattle.std.specs.Map.Iter.{TakesFirst, deref}
 use Rattle.std.proofs.lemmas.Bool.{cases_lt}
-use Rattle.std.proofs.lemmas.List.{length-map, get_or-map}
+use Rattle.std.proofs.lemmas.Bool.Decides.{not_from_Decides}
+use Rattle.std.proofs.lemmas.Iterator.Adapters.{position_from-zero}
+use Rattle.std.proofs.lemmas.List.{length-map, get_or-map, map-append}
 use Rattle.std.proofs.lemmas.List.Folds.{list_any-append}
-use Rattle.std.proofs.lemmas.Option.{slice_get_within}
+use Rattle.std.proofs.lemmas.List.Quantifiers.{position-Some}
+use Rattle.std.proofs.lemmas.Map.Iter.{rest_so_far, rest_more}
+use Rattle.std.proofs.lemmas.Option.{slice_get_within, slice_get-get_or}
 use Rattle.std.proofs.lemmas.Slice.Eq.{bytes_eq-Decides}
 use Rattle.wave_wasm.specs.Names.{IsOneOf, IsNoneOf, AreAllOf, AreDistinct, is_one_of, found_in}
 use Rattle.wave_wasm.specs.Borrowed.{texts}
+use Rattle.wave_wasm.specs.ValueErrors.{unknown_case}
+use Rattle.wave_lex.specs.Errors.{Diagnostic, refusal_of}
+use Rattle.wave_grammar.specs.TypeErrors.{RefusesFor}
+use Rattle.wave_syntax.specs.NodeTree.{NodeTree, place_of}
+use Rattle.wave_syntax.specs.Shared.NodeFlags.{IsFirstUnknown, RefusesUnknown}
+use Rattle.wave_syntax.specs.Shared.TypedReading.{IsCaused}
+use Rattle.wave_syntax.proofs.ErrorSpans.Nodes.{caused_at}
 use Rattle.wave_syntax.proofs.FlagSets.{texts_next, picks_more, picks_same}
-use Rattle.wave_decode.proofs.PickedNames.{unlike}
+use Rattle.wave_decode.specs.declared.fault.Fault.{Fault}
+use Rattle.wave_decode.specs.NamedFlags.{TellsCause, TellsUnknown}
 
 -- the names of the flags that were shown
 abbrev pub names_shown : List (Bor (Bor (List ℕ))) → List (List ℕ)
@@ -20,7 +35,36 @@ pub shown_more : (ks : List (Bor (Bor (List ℕ)))) (k : Bor (Bor (List ℕ))) �
 shown_more [] k = refl
 shown_more (j ∷ ks) k = ap (λ ns. j.now.now ∷ ns) (shown_more ks k)
 
+-- the names of all flags are those that were shown, the next and those after it
+pub shown_first : (all rest left more : List (Bor (List ℕ))) (ks : List (Bor (Bor (List ℕ)))) (r : Option (Bor (Bor (List ℕ)))) (k : Bor (Bor (List ℕ))) → rest ≡ all → Yields (TakesFirst deref) rest ks left → r ≡ Some k → TakesFirst deref left r more → texts all ≡ names_shown ks ++ k.now.now ∷ texts more
+shown_first all rest left more ks r k start shown is step =
+    ap texts (sym start ∙ (rest_so_far deref ks rest left shown ∙ ap (λ l. map deref ks ++ l) (rest_more deref left more r k is step)))
+    ∙ map-append (λ (n : Bor (List ℕ)). n.now) (map deref ks) (k.now ∷ more)
+
+-- ---- faults
+
+first_unknown : (names before more : List (List ℕ)) (name : List ℕ) (n : NodeTree) (e : Diagnostic) → AreAllOf names before → IsNoneOf names name → RefusesFor (unknown_case name) (place_of n) (refusal_of e) e.span → IsFirstUnknown names (before ++ name ∷ more) n e
+first_unknown names [] more name n e all none refused = inl (none, refused)
+first_unknown names (one ∷ before) more name n e all none refused = inr (all.0, first_unknown names before more name n e all.1 none refused)
+
+-- a fault for a flag that is none of the names, where all before it are among them
+pub tells_unknown : (names flags before more : List (List ℕ)) (name : List ℕ) (f : Fault) → flags ≡ before ++ name ∷ more → AreAllOf names before → IsNoneOf names name → TellsCause (unknown_case name) f → TellsUnknown names flags f
+tells_unknown names flags before more name f split all none told = λ n e tells.
+    let h = told n e tells in
+    (refuses n e h.0, caused_at (unknown_case name) n e h.0 h.1)
+  where
+    refuses : (n : NodeTree) (e : Diagnostic) → IsCaused (unknown_case name) n e → RefusesUnknown names flags n e
+    refuses n e (inl memory) = inl memory
+    refuses n e (inr refused) = inr (subst (λ (fs : List (List ℕ)). IsFirstUnknown names fs n e) (sym split) (first_unknown names before more name n e all none refused))
+
 -- ---- places of names
+
+unlike : (x y : List ℕ) → (x ≡ y → ⊥) → bytes_eq x y ≡ false
+unlike x y n = by_test (bytes_eq x y) refl
+  where
+    by_test : (t : Bool) → bytes_eq x y ≡ t → t ≡ false
+    by_test true e = absurd (n ((bytes_eq-Decides x y).0 e))
+    by_test false e = refl
 
 -- the name stands there
 pub stands_at : (xs : List (Bor (List ℕ))) (i : ℕ) (d : Bor (List ℕ)) (name : List ℕ) → i < length xs → bytes_eq (get_or xs i d).now name ≡ true → slice_get (texts xs) i ≡ Some name
@@ -30,9 +74,6 @@ stands_at (x ∷ xs) (suc i) d name lt eq = stands_at xs i d name (omega (arith,
 
 some_same : (x y : List ℕ) → Some x ≡ Some y → x ≡ y
 some_same x y e = cc
-
-key_same : (x y : Bor (List ℕ)) → Some x ≡ Some y → x ≡ y
-key_same x y e = cc
 
 -- another name stands there
 pub absent_at : (xs : List (Bor (List ℕ))) (i : ℕ) (d : Bor (List ℕ)) (name : List ℕ) → i < length xs → bytes_eq (get_or xs i d).now name ≡ false → slice_get (texts xs) i ≢ Some name
@@ -65,6 +106,26 @@ absent_all xs from name behind before = none_from (texts xs) name (λ place lt. 
     by place lt (inl h) = before place (omega arith) h
     by place lt (inr h) = behind place h lt
 
+none_there : (name : List ℕ) (k : ℕ) (ns : List (List ℕ)) → None ≡ position_from (bytes_eq name) k ns → IsNoneOf ns name
+none_there name k [] e = tt
+none_there name k (n ∷ ns) e = by (bytes_eq name n) refl (none_there name (k + 1) ns) e
+  where
+    by : (b : Bool) → bytes_eq name n ≡ b → (None ≡ position_from (bytes_eq name) (k + 1) ns → IsNoneOf ns name) → None ≡ cond b (Some k) (position_from (bytes_eq name) (k + 1) ns) → (name ≢ n) × IsNoneOf ns name
+    by true is more e = absurd (cc)
+    by false is more e = (not_from_Decides _ (bytes_eq-Decides name n) is, more e)
+
+-- the name stands at the place that was found
+pub stands_found : (names ns : List (List ℕ)) (name : List ℕ) (found : Option ℕ) → names ≡ ns → found ≡ position (bytes_eq name) ns → IfSome found (λ place. slice_get names place ≡ Some name)
+stands_found names ns name None same e = tt
+stands_found names ns name (Some place) same e =
+    let h = position-Some (bytes_eq name) ns place [] (sym e) in
+    subst (λ (l : List (List ℕ)). slice_get l place ≡ Some name) (sym same) (slice_get-get_or ns place [] h.0 ∙ ap Some (sym ((bytes_eq-Decides name (get_or ns place [])).0 h.1)))
+
+-- where none was found, the name is none of the names
+pub absent_found : (names ns : List (List ℕ)) (name : List ℕ) (found : Option ℕ) → names ≡ ns → found ≡ position (bytes_eq name) ns → IfNone found (IsNoneOf names name)
+absent_found names ns name (Some place) same e = tt
+absent_found names ns name None same e = subst (λ (l : List (List ℕ)). IsNoneOf l name) (sym same) (none_there name 0 ns (e ∙ position_from-zero (bytes_eq name) ns))
+
 -- the place is one of the names'
 pub place_below : (xs : List (Bor (List ℕ))) (place : ℕ) (name : List ℕ) → slice_get (texts xs) place ≡ Some name → place < length xs
 place_below xs place name stands = omega (arith, slice_get_within (texts xs) place name stands, length-map xs (λ (n : Bor (List ℕ)). n.now))
@@ -73,12 +134,6 @@ one_there : (ns : List (List ℕ)) (place : ℕ) (name : List ℕ) → slice_get
 one_there [] place name stands = absurd (cc)
 one_there (n ∷ ns) zero name stands = inl (sym (some_same n name stands))
 one_there (n ∷ ns) (suc place) name stands = inr (one_there ns place name stands)
-
--- the name of the flag that is shown is one of theirs
-pub one_shown : (ks : List (Bor (List ℕ))) (place : ℕ) (k : Bor (List ℕ)) → slice_get ks place ≡ Some k → IsOneOf (texts ks) k.now
-one_shown [] place k here = absurd (cc)
-one_shown (j ∷ ks) zero k here = inl (ap (λ (n : Bor (List ℕ)). n.now) (sym (key_same j k here)))
-one_shown (j ∷ ks) (suc place) k here = inr (one_shown ks place k here)
 
 -- ---- marks
 

@@ -1,8 +1,10 @@
 -- Parts of which nothing was read yet.
 use Rattle.std.proofs.Common.{ℕ, ◌≡◌, ◌≢◌, ◌++◌, List, [], Err, refl, sym, subst}
+use Rattle.wave_grammar.specs.FaultOrder.{Order, in_text}
 use Rattle.wave_wasm.specs.Types.{TypeTree}
 use Rattle.wave_wasm.specs.Values.{Value}
 use Rattle.wave_lex.specs.Errors.{Diagnostic}
+use Rattle.wave_lex.specs.declared.error.ParserErrorKind.{ParserErrorKind}
 use Rattle.wave_lex.specs.declared.error.ParserErrorKind.TheVariants as why
 use Rattle.wave_syntax.specs.NodeTree.{NodeTree, node, node_trees, type_of}
 use Rattle.wave_syntax.specs.NodeAccessors.{RefusedAs}
@@ -10,7 +12,9 @@ use Rattle.wave_syntax.specs.declared.form.NodeType.{NodeType}
 use Rattle.wave_syntax.specs.declared.form.NodeType.TheVariants as kind
 use Rattle.wave_syntax.specs.NodeParts.{IsOfParts}
 use Rattle.wave_leaf.specs.Reading.{IsReadAs}
-use Rattle.wave_decode.specs.PartsOfKinds.{AreParts}
+use Rattle.wave_decode.specs.Faults.{IsDoomed, IsOfKind}
+use Rattle.wave_decode.specs.PartsOfKinds.{AreParts, AreNoPartsYet}
+use Rattle.wave_decode.specs.declared.fault.Fault.{Fault}
 use Rattle.wave_decode.specs.declared.fault.Fault.TheVariants as fault
 use Rattle.wave_decode.specs.declared.parts.Parts.{Parts}
 use Rattle.wave_decode.specs.declared.parts.Parts.TheVariants as parts
@@ -27,12 +31,26 @@ pub no_flags : (ty : NodeType) → IsOfParts ty → ty ≢ kind.Flags
 no_flags ty h e = subst IsOfParts e h
 
 module _ {S V : Type 0} (type_tree : S → TypeTree) (tree : V → Value) (of : V → TypeTree → Type 0) (Full : TypeTree → Type 0) where
+  -- no parts yet, where the value is refused at once
+  doomed : (T : TypeTree) (ty : NodeType) (x : Parts S V) (k : ParserErrorKind) → x ≡ parts.Faulty (fault.Kind k) → ((o w : Order) (source : List ℕ) → IsOfParts ty → IsDoomed tree of Full o w T source ty [] (fault.Kind k)) → AreNoPartsYet type_tree tree of Full T ty x
+  doomed T ty x k is refused = record {
+    begun = λ w source of_parts. subst (λ (y : Parts S V). AreParts type_tree tree of Full w T source ty [] y) (sym is) (refused in_text w source of_parts);
+    doomed = λ f same.
+        let kind : f ≡ fault.Kind k = one_fault f (fault.Kind k) x same is in
+        (subst IsOfKind (sym kind) tt, λ o w source of_parts. subst (λ (g : Fault). IsDoomed tree of Full o w T source ty [] g) (sym kind) (refused o w source of_parts));
+  }
+    where
+      one_fault : (f g : Fault) (y : Parts S V) → y ≡ parts.Faulty f → y ≡ parts.Faulty g → f ≡ g
+      one_fault f g y a b = cc
+
   -- of a form that the type doesn't take
-  pub wrong : (T : TypeTree) (source : List ℕ) (ty : NodeType) (x : Parts S V) → x ≡ parts.Faulty (fault.Kind why.InvalidType) → ((n : NodeTree) (e : Diagnostic) → type_of n ≡ ty → RefusedAs why.InvalidType n e → IsReadAs tree of Full T source n (Err e)) → AreParts type_tree tree of Full T source ty [] x
-  wrong T source ty x is refused =
-      subst (λ (y : Parts S V). AreParts type_tree tree of Full T source ty [] y) (sym is)
-      (λ more p e tells. refused (node ty p (node_trees ([] ++ more))) e refl tells)
+  pub wrong : (T : TypeTree) (ty : NodeType) (x : Parts S V) → x ≡ parts.Faulty (fault.Kind why.InvalidType) → ((o w : Order) (source : List ℕ) (n : NodeTree) (e : Diagnostic) → IsOfParts ty → type_of n ≡ ty → RefusedAs why.InvalidType n e → IsReadAs tree of Full o w T source n (Err e)) → AreNoPartsYet type_tree tree of Full T ty x
+  wrong T ty x is refused = doomed T ty x why.InvalidType is (λ o w source of_parts more p e tells. refused o w source (node ty p (node_trees ([] ++ more))) e of_parts refl tells)
 
   -- of a type that could not be asked for its parts
-  pub unasked : (T : TypeTree) (source : List ℕ) (ty : NodeType) (x : Parts S V) → x ≡ parts.Faulty (fault.Kind why.OutOfMemory) → AreParts type_tree tree of Full T source ty [] x
-  unasked T source ty x is = subst (λ (y : Parts S V). AreParts type_tree tree of Full T source ty [] y) (sym is) (memory_dooms tree of Full T source ty [])
+  pub unasked : (T : TypeTree) (ty : NodeType) (x : Parts S V) → x ≡ parts.Faulty (fault.Kind why.OutOfMemory) → AreNoPartsYet type_tree tree of Full T ty x
+  unasked T ty x is = doomed T ty x why.OutOfMemory is (λ o w source of_parts. memory_dooms tree of Full o w T source ty [])
+
+  -- parts that have no fault
+  pub sound : (T : TypeTree) (ty : NodeType) (x : Parts S V) → ((f : Fault) → x ≡ parts.Faulty f → ⊥) → ((w : Order) (source : List ℕ) → IsOfParts ty → AreParts type_tree tree of Full w T source ty [] x) → AreNoPartsYet type_tree tree of Full T ty x
+  sound T ty x none are = record { begun = are; doomed = λ f is. absurd (none f is) }

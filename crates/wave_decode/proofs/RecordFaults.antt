@@ -1,8 +1,9 @@
 -- What is wrong with a record, before its end is seen.
 use Rattle.std.proofs.Common.{ℕ, ◌≡◌, ◌≢◌, inl, inr, ◌+◌, List, [], ◌∷◌, ◌++◌, length, Some, None, Err, refl, sym, ap, ◌∙◌, subst}
 use Rattle.std.specs.declared.ops.Range.{Range}
-use Rattle.wave_wasm.specs.Lists.{AllOf, SomeOf}
-use Rattle.wave_wasm.specs.Names.{IsNoneOf, AreDistinct}
+use Rattle.wave_grammar.specs.FaultOrder.{Order, in_text, FirstFault}
+use Rattle.wave_wasm.specs.Lists.{SomeOf}
+use Rattle.wave_wasm.specs.Names.{IsNoneOf}
 use Rattle.wave_wasm.specs.Types.{TypeTree, HasDistinctNames, field_names, kind_of, record_parts}
 use Rattle.wave_wasm.specs.declared.wasm.WasmTypeKind.TheVariants as kinds
 use Rattle.wave_wasm.specs.Values.{Value}
@@ -11,20 +12,22 @@ use Rattle.wave_lex.specs.Errors.{Diagnostic, Says, refusal_of}
 use Rattle.wave_lex.specs.declared.error.ParserErrorKind.TheVariants as why
 use Rattle.wave_grammar.specs.LeafTokens.{name_of}
 use Rattle.wave_grammar.specs.TypedGrammar.{names_of}
-use Rattle.wave_grammar.specs.SpannedTree.{Placed, entry_list, span_of}
-use Rattle.wave_grammar.specs.TypeErrors.{Fault, names_in, IsFor, UnknownField}
+use Rattle.wave_grammar.specs.SpannedTree.{Placed, span_of}
+use Rattle.wave_grammar.specs.TypeErrors.{IsFor, UnknownField}
 use Rattle.wave_syntax.specs.NodeTree.{NodeTree, node, node_trees, type_of}
 use Rattle.wave_syntax.specs.Nodes.{IsNodeOf}
 use Rattle.wave_syntax.specs.NodeAccessors.{node_text, node_pairs, RefusedAs}
-use Rattle.wave_syntax.specs.NodeFields.{IsLabelled, RefusesKey}
-use Rattle.wave_syntax.specs.TypedReading.{IsBlamed}
+use Rattle.wave_syntax.specs.NodeFields.{RefusesKey}
 use Rattle.wave_syntax.specs.Shared.ErrorSpans.{RefusesAt}
 use Rattle.wave_syntax.specs.Shared.NodeFields.{fields_at}
 use Rattle.wave_syntax.specs.declared.form.NodeType.TheVariants as kind
-use Rattle.wave_syntax.proofs.ByKind.Lists.{HasAt, some_at}
+use Rattle.wave_syntax.proofs.ByKind.Lists.{HasAt}
 use Rattle.wave_syntax.proofs.ChildNodes.Inside.{inside}
-use Rattle.wave_syntax.proofs.Fields.Entries.{record_nodes, fields_of_entries, within_record}
-use Rattle.wave_syntax.proofs.Fields.Reading.{RecordType, record_is, names_are, fields_distinct, nodes_blame, some_blamed, blamed_so}
+use Rattle.wave_syntax.proofs.Fields.Entries.{fields_of_entries, other_fault}
+use Rattle.wave_syntax.proofs.ByKind.Leaves.{said}
+use Rattle.wave_syntax.proofs.Fields.FieldOrder.{full_at}
+use Rattle.wave_syntax.proofs.Fields.EntryOrder.{AreReadAt, key_blamed, unknown_label, value_blamed}
+use Rattle.wave_syntax.proofs.Fields.Reading.{RecordType, record_is, names_are, fields_distinct}
 use Rattle.wave_syntax.proofs.ErrorSpans.Nodes.{deeper, at_in, form_at, refused_at}
 use Rattle.wave_leaf.specs.Reading.{IsReadAs}
 use Rattle.wave_decode.specs.RecordParts.{last_key}
@@ -37,33 +40,27 @@ entry_for source n t children k v is set here label =
     let e = entry_stands source n t children k v is set here in
     (fields_of_entries source ((k, v) ∷ []) (e.0 ∷ []) (label, tt) (e.2, e.3, tt)).0
 
-module _ {V : Type 0} (tree : V → Value) (of : V → TypeTree → Type 0) (Full : TypeTree → Type 0) where
+module _ {V : Type 0} (tree : V → Value) (of : V → TypeTree → Type 0) (Full : TypeTree → Type 0) (o w : Order) where
   -- a node of another form than that of records
-  pub other_form : (T : TypeTree) (source : List ℕ) (n : NodeTree) (e : Diagnostic) → kind_of T ≡ kinds.Record → type_of n ≢ kind.TupleSet → RefusedAs why.InvalidType n e → IsReadAs tree of Full T source n (Err e)
-  other_form T source n e record_kind apart refused = record {
-    answer = λ t node distinct. nodes_blame Full T (record_parts T) source n t e (record_is T (record_parts T) (sym record_kind) refl) node (inr (inl (apart, refused)));
-    within = λ value. at_in source n e (inl value) (form_at n e refused);
-  }
+  pub other_form : (T : TypeTree) (source : List ℕ) (n : NodeTree) (e : Diagnostic) → kind_of T ≡ kinds.Record → type_of n ≢ kind.TupleSet → RefusedAs why.InvalidType n e → IsReadAs tree of Full o w T source n (Err e)
+  other_form T source n e record_kind apart refused =
+      let is = record_is T (record_parts T) (sym record_kind) refl in
+      record {
+        answer = λ t node distinct. inr (inl (subst (λ (U : TypeTree). FirstFault o w U t (refusal_of e) e.span) (sym is.is) (other_fault o w is.fields source n t (refusal_of e) e.span node.0 apart (said refused))));
+        within = λ value. at_in source n e (inl value) (form_at n e refused);
+      }
 
-module _ {V : Type 0} (tree : V → Value) (of : V → TypeTree → Type 0) (Full : TypeTree → Type 0) (T : TypeTree) (parts : List (List ℕ × TypeTree)) (is : RecordType T parts) (source : List ℕ) where
-  module _ (children : List NodeTree) (more : List NodeTree) (p : Range ℕ) (e : Diagnostic) where
+module _ {V : Type 0} (tree : V → Value) (of : V → TypeTree → Type 0) (Full : TypeTree → Type 0) (w : Order) (T : TypeTree) (parts : List (List ℕ × TypeTree)) (is : RecordType T parts) (source : List ℕ) where
+  module _ (children : List NodeTree) (more : List NodeTree) (p : Range ℕ) (e : Diagnostic) (fine : HasDistinctNames T → AreReadAt w is.fields source (node_pairs children)) where
     -- a key that is refused
-    pub key_dooms : (k : NodeTree) (half : ℕ) → length children ≡ half + half → AllOf IsLabelled (node_pairs children) → (HasDistinctNames T → AreDistinct (names_of (fields_at source children))) → (HasDistinctNames T → RefusesKey source (names_of (fields_at source children)) k e) → RefusesAt k e → IsReadAs tree of Full T source (node kind.TupleSet p (node_trees ((children ++ k ∷ []) ++ more))) (Err e)
-    key_dooms k half even labels apart refused told =
+    pub key_dooms : (k : NodeTree) (half : ℕ) → length children ≡ half + half → (HasDistinctNames T → RefusesKey source (names_of (fields_at source children)) k e) → RefusesAt k e → IsReadAs tree of Full in_text w T source (node kind.TupleSet p (node_trees ((children ++ k ∷ []) ++ more))) (Err e)
+    key_dooms k half even refused told =
         let n : NodeTree = node kind.TupleSet p (node_trees ((children ++ k ∷ []) ++ more)) in
         record {
           answer = λ t node distinct.
               let (v, here) = key_stands source children k more half p t even node in
-              nodes_blame Full T parts source n t e is node (inr (inr (record {
-                is_set = refl;
-                before = node_pairs children;
-                entry = (k, v);
-                behind = here.0;
-                entries = here.1;
-                labels = labels;
-                distinct = apart distinct;
-                refused = refused distinct;
-              })));
+              let entry = entry_stands source n t children k v node refl here in
+              inr (inl (key_blamed w T parts source n t e is node refl (node_pairs children) (k, v) here.0 entry.0 here.1 (fine distinct) entry.1 entry.2 (refused distinct)));
           within = λ value.
               let (v, here) = key_stands source children k more half p value.0 even value.1 in
               let entry = entry_stands source n value.0 children k v value.1 refl here in
@@ -71,34 +68,36 @@ module _ {V : Type 0} (tree : V → Value) (of : V → TypeTree → Type 0) (Ful
         }
 
     -- a label that is none of the type's names
-    pub unknown_dooms : (k : NodeTree) (half : ℕ) → length children ≡ half + half → type_of k ≡ kind.Label → IsNoneOf (names_of parts) (name_of (node_text source k)) → Says e why.InvalidValue p None → IsReadAs tree of Full T source (node kind.TupleSet p (node_trees ((children ++ k ∷ []) ++ more))) (Err e)
+    pub unknown_dooms : (k : NodeTree) (half : ℕ) → length children ≡ half + half → type_of k ≡ kind.Label → IsNoneOf (names_of parts) (name_of (node_text source k)) → Says e why.InvalidValue p None → IsReadAs tree of Full in_text w T source (node kind.TupleSet p (node_trees ((children ++ k ∷ []) ++ more))) (Err e)
     unknown_dooms k half even label none says =
         let n : NodeTree = node kind.TupleSet p (node_trees ((children ++ k ∷ []) ++ more)) in
+        let name : List ℕ = name_of (node_text source k) in
         record {
           answer = λ t node distinct.
               let (v, here) = key_stands source children k more half p t even node in
-              let inner = record_nodes source n t node refl in
               let entry = entry_stands source n t children k v node refl here in
-              let own : IsNoneOf (field_names is.fields) (name_of (node_text source k)) = subst (λ (names : List (List ℕ)). IsNoneOf names (name_of (node_text source k))) (ap names_of is.parts_are ∙ names_are is.fields) none in
-              let unknown : UnknownField (field_names is.fields) (entry_list inner.given) (span_of t) (refusal_of e) e.span =
-              (some_at (λ x. SomeOf (IsNoneOf (field_names is.fields)) (names_in x.key)) (entry_list inner.given) (length (node_pairs children)) entry.0 entry.1 (subst (SomeOf (IsNoneOf (field_names is.fields))) (sym (entry_for source n t children k v node refl here label)) (inl own)), (says.is, says.stands ∙ sym (inside source n t node.0).place)) in
-              inr (inl (subst (λ (U : TypeTree). Fault U t (refusal_of e) e.span) (sym is.is) (within_record is.fields t (entry_list inner.given) (refusal_of e) e.span inner.taken (inr (inl unknown)))));
+              let named = entry_for source n t children k v node refl here label in
+              let own : IsNoneOf (field_names is.fields) name = subst (λ (names : List (List ℕ)). IsNoneOf names name) (ap names_of is.parts_are ∙ names_are is.fields) none in
+              let unknown : UnknownField (field_names is.fields) (entry.0 ∷ []) (span_of t) (refusal_of e) e.span = (inl (subst (SomeOf (IsNoneOf (field_names is.fields))) (sym named) (inl own)), (says.is, says.stands ∙ sym (inside source n t node.0).place)) in
+              inr (inl (unknown_label w T parts source n t e is node refl (node_pairs children) (k, v) here.0 entry.0 here.1 (fine distinct) entry.1 name named own unknown));
           within = λ value. at_in source n e (inl value) (refused_at why.InvalidValue n e (λ k. cc) tt says);
         }
 
-    -- a value that is refused
-    pub value_dooms : (k v : NodeTree) (i : ℕ) (E : TypeTree) → HasFullParts Full → last_key children ≡ Some k → type_of k ≡ kind.Label → HasAt parts i (name_of (node_text source k), E) → IsReadAs tree of Full E source v (Err e) → IsReadAs tree of Full T source (node kind.TupleSet p (node_trees ((children ++ v ∷ []) ++ more))) (Err e)
-    value_dooms k v i E full waits label typed read =
+    -- a value that is refused, of a field that was not read
+    pub value_dooms : (k v : NodeTree) (i : ℕ) (E : TypeTree) → HasFullParts Full → last_key children ≡ Some k → type_of k ≡ kind.Label → (HasDistinctNames T → IsNoneOf (names_of (fields_at source children)) (name_of (node_text source k))) → HasAt parts i (name_of (node_text source k), E) → IsReadAs tree of Full w w E source v (Err e) → IsReadAs tree of Full in_text w T source (node kind.TupleSet p (node_trees ((children ++ v ∷ []) ++ more))) (Err e)
+    value_dooms k v i E full waits label new typed read =
         let n : NodeTree = node kind.TupleSet p (node_trees ((children ++ v ∷ []) ++ more)) in
         let here : StandsBehind n children k v = value_stands children k v more p waits in
         let name : List ℕ = name_of (node_text source k) in
         record {
           answer = λ t node distinct.
-              let inner = record_nodes source n t node refl in
               let entry = entry_stands source n t children k v node refl here in
-              let own : HasDistinctNames E = holds_at (λ q. HasDistinctNames q.1) parts i (name, E) (fields_distinct T parts is distinct).within typed in
-              let blamed : IsBlamed Full E entry.0.value e = read.answer entry.0.value entry.3 own in
-              blamed_so tree of Full T E parts t (entry_list inner.given) i name e is inner.taken typed full (some_blamed tree of Full E name (entry_list inner.given) e (some_at (λ x. IsFor name x × IsBlamed Full E x.value e) (entry_list inner.given) (length (node_pairs children)) entry.0 entry.1 (entry_for source n t children k v node refl here label, blamed)));
+              let apart = fields_distinct T parts is distinct in
+              elim (read.answer entry.0.value entry.3 (holds_at (λ q. HasDistinctNames q.1) parts i (name, E) apart.within typed)) [
+                | inl memory ↦ inl memory
+                | inr (inl fault) ↦ inr (inl (value_blamed w T parts source n t e is node refl (node_pairs children) (k, v) here.0 entry.0 here.1 (fine distinct) entry.1 name i E (entry_for source n t children k v node refl here label) (new distinct) apart.names typed fault))
+                | inr (inr h) ↦ inr (inr (h.0, λ whole. h.1 (full_at Full T parts i name E is typed full whole)))
+              ];
           within = λ value.
               let entry = entry_stands source n value.0 children k v value.1 refl here in
               deeper n v e (pair_belongs source n children k v value here).1 (read.within (entry.0.value, entry.3));

@@ -7,20 +7,26 @@ use Rattle.std.specs.Vec.Iter.{into_iter_items, into_iter_len, into_iter_steps}
 use Rattle.std.specs.declared.vec.IntoIter.{IntoIter}
 use Rattle.std.proofs.lemmas.List.{append-nil}
 use Rattle.std.proofs.lemmas.Slice.Eq.{bytes_eq-Decides}
-use Rattle.wave_wasm.specs.Lists.{AllOf, SomeOf}
+use Rattle.wave_grammar.specs.FaultOrder.{Order, BlamesNothing, FirstFault}
+use Rattle.wave_lex.specs.Errors.{Diagnostic}
+use Rattle.wave_grammar.specs.SpannedTree.{PlacedEntry}
+use Rattle.wave_grammar.specs.TypeErrors.{IsFor}
+use Rattle.wave_syntax.specs.Nodes.{IsNodeOf}
+use Rattle.wave_syntax.proofs.Faultless.{value_fine}
+use Rattle.wave_wasm.specs.Lists.{AllOf}
 use Rattle.wave_wasm.specs.Names.{IsOneOf, IsNoneOf, AreDistinct}
 use Rattle.wave_wasm.specs.Types.{TypeTree, HasDistinctNames}
 use Rattle.wave_wasm.specs.Values.{Value}
 use Rattle.wave_wasm.specs.Borrowed.{shown_fields}
 use Rattle.wave_grammar.specs.TypedGrammar.{look_up, names_of}
 use Rattle.wave_syntax.specs.NodeTree.{NodeTree}
-use Rattle.wave_syntax.specs.Shared.NodeFields.{IsLeftOut}
+use Rattle.wave_syntax.specs.Shared.NodeFields.{IsLeftOut, IsMissing}
 use Rattle.wave_syntax.proofs.ByKind.Lists.{HasAt}
 use Rattle.wave_syntax.proofs.Fields.Lookup.{take_next, map_last}
 use Rattle.wave_syntax.proofs.Fields.Entries.{not_both}
 use Rattle.wave_leaf.specs.Reading.{IsReadAs}
 use Rattle.wave_decode.specs.declared.records.Field.{Field}
-use Rattle.wave_decode.specs.RecordParts.{part_of, field_name, with_value, IsKeptAs, AreKeptAs, IsFull, AreFull}
+use Rattle.wave_decode.specs.RecordParts.{part_of, field_name, with_value, IsKeptAs, AreKeptAs, IsFull, AreFull, IsFilled, FirstUnfilled}
 
 -- ---- lists
 
@@ -61,17 +67,6 @@ holds_at P (y ∷ xs) (suc i) x all h = holds_at P xs i x all.1 h
 pub has_behind : {X : Type 0} (before : List X) (x : X) (behind : List X) → HasAt (before ++ x ∷ behind) (length before) x
 has_behind [] x behind = refl
 has_behind (y ∷ before) x behind = has_behind before x behind
-
--- what holds of the one after these holds of some
-pub some_behind : {X : Type 0} (P : X → Type 0) (before : List X) (x : X) (behind : List X) → P x → SomeOf P (before ++ x ∷ behind)
-some_behind P [] x behind p = inl p
-some_behind P (y ∷ before) x behind p = inr (some_behind P before x behind p)
-
--- where it holds of some it holds at some place
-pub some_place : {X : Type 0} (P : X → Type 0) (xs : List X) → SomeOf P xs → (i : ℕ) × (x : X) × HasAt xs i x × P x
-some_place P [] h = absurd h
-some_place P (x ∷ xs) (inl p) = (zero, x, refl, p)
-some_place P (x ∷ xs) (inr h) = let r = some_place P xs h in (suc r.0, r.1, r.2, r.3)
 
 -- nothing is there, or something
 pub none_there : {X : Type 0} (o : Option X) → is_some o ≡ false → o ≡ None
@@ -174,26 +169,45 @@ same_names [] i f v h = absurd h
 same_names (g ∷ fields) zero f v h = ap (λ (name : List ℕ). name ∷ map field_name fields) (ap field_name (sym h))
 same_names (g ∷ fields) (suc i) f v h = ap (λ (names : List (List ℕ)). g.name.now ∷ names) (same_names fields i f v h)
 
-module _ {V : Type 0} (tree : V → Value) (of : V → TypeTree → Type 0) (Full : TypeTree → Type 0) {S : Type 0} (type_tree : S → TypeTree) (source : List ℕ) where
+module _ {V : Type 0} (tree : V → Value) (of : V → TypeTree → Type 0) (Full : TypeTree → Type 0) (w : Order) {S : Type 0} (type_tree : S → TypeTree) (source : List ℕ) where
   -- nothing was read, and nothing is kept
-  pub none_kept : (ps : List (Bor (List ℕ) × Bor S)) → AreKeptAs type_tree tree of Full source [] (map empty_field ps)
+  pub none_kept : (ps : List (Bor (List ℕ) × Bor S)) → AreKeptAs type_tree tree of Full w source [] (map empty_field ps)
   none_kept [] = tt
   none_kept (p ∷ ps) = (refl, none_kept ps)
 
-  kept_other : (given : List (List ℕ × NodeTree)) (name : List ℕ) (m : NodeTree) (f : Field S V) → f.name.now ≢ name → IsKeptAs tree of Full (type_tree f.ty.now) source (look_up given f.name.now) f.value → IsKeptAs tree of Full (type_tree f.ty.now) source (look_up (given ++ (name, m) ∷ []) f.name.now) f.value
-  kept_other given name m f apart h = subst (λ (o : Option NodeTree). IsKeptAs tree of Full (type_tree f.ty.now) source o f.value) (sym (look_old given name m f.name.now apart)) h
+  kept_other : (given : List (List ℕ × NodeTree)) (name : List ℕ) (m : NodeTree) (f : Field S V) → f.name.now ≢ name → IsKeptAs tree of Full w (type_tree f.ty.now) source (look_up given f.name.now) f.value → IsKeptAs tree of Full w (type_tree f.ty.now) source (look_up (given ++ (name, m) ∷ []) f.name.now) f.value
+  kept_other given name m f apart h = subst (λ (there : Option NodeTree). IsKeptAs tree of Full w (type_tree f.ty.now) source there f.value) (sym (look_old given name m f.name.now apart)) h
 
-  kept_others : (given : List (List ℕ × NodeTree)) (name : List ℕ) (m : NodeTree) (fields : List (Field S V)) → IsNoneOf (map field_name fields) name → AreKeptAs type_tree tree of Full source given fields → AreKeptAs type_tree tree of Full source (given ++ (name, m) ∷ []) fields
+  kept_others : (given : List (List ℕ × NodeTree)) (name : List ℕ) (m : NodeTree) (fields : List (Field S V)) → IsNoneOf (map field_name fields) name → AreKeptAs type_tree tree of Full w source given fields → AreKeptAs type_tree tree of Full w source (given ++ (name, m) ∷ []) fields
   kept_others given name m [] none h = tt
   kept_others given name m (f ∷ fields) none h = (kept_other given name m f (λ e. none.0 (sym e)) h.0, kept_others given name m fields none.1 h.1)
 
   -- the value of one more entry is kept
-  pub kept_more : (given : List (List ℕ × NodeTree)) (m : NodeTree) (fields : List (Field S V)) (i : ℕ) (f : Field S V) (v : V) → HasAt fields i f → AreDistinct (map field_name fields) → look_up given f.name.now ≡ None → IsReadAs tree of Full (type_tree f.ty.now) source m (Ok v) → AreKeptAs type_tree tree of Full source given fields → AreKeptAs type_tree tree of Full source (given ++ (f.name.now, m) ∷ []) (set fields i (with_value f v))
+  pub kept_more : (given : List (List ℕ × NodeTree)) (m : NodeTree) (fields : List (Field S V)) (i : ℕ) (f : Field S V) (v : V) → HasAt fields i f → AreDistinct (map field_name fields) → look_up given f.name.now ≡ None → IsReadAs tree of Full w w (type_tree f.ty.now) source m (Ok v) → AreKeptAs type_tree tree of Full w source given fields → AreKeptAs type_tree tree of Full w source (given ++ (f.name.now, m) ∷ []) (set fields i (with_value f v))
   kept_more given m [] i f v here distinct none read h = absurd here
   kept_more given m (g ∷ fields) zero f v here distinct none read h =
       ((m, look_new given f.name.now m none, read), kept_others given f.name.now m fields (subst (IsNoneOf (map field_name fields)) (ap field_name here) distinct.0) h.1)
   kept_more given m (g ∷ fields) (suc i) f v here distinct none read h =
       (kept_other given f.name.now m g (λ e. not_both (map field_name fields) g.name.now distinct.0 (subst (IsOneOf (map field_name fields)) (sym e) (one_of_fields fields i f here))) h.0, kept_more given m fields i f v here distinct.1 none read h.1)
+
+  -- what was read of an entry's value has no fault
+  kept_fine : (E : TypeTree) (found : Option NodeTree) (kept : Option V) (m : NodeTree) (e : PlacedEntry) → HasDistinctNames E → found ≡ Some m → IsNodeOf source m e.value → IsKeptAs tree of Full w E source found kept → BlamesNothing (FirstFault w w E e.value)
+  kept_fine E found None m e distinct there stands none = absurd (cc)
+  kept_fine E found (Some v) m e distinct there stands (k, same, read) =
+      let own : IsReadAs tree of Full w w E source m (Ok v) = subst (λ (j : NodeTree). IsReadAs tree of Full w w E source j (Ok v)) (same_node k m (sym same ∙ there)) read in
+      value_fine w w E e.value (tree v) distinct (own.answer e.value stands distinct).reads
+    where
+      same_node : (a b : NodeTree) → Some a ≡ Some b → a ≡ b
+      same_node a b e = cc
+
+  -- so at the type of each field that the entry is for
+  pub value_kept : (given : List (List ℕ × NodeTree)) (name : List ℕ) (m : NodeTree) (e : PlacedEntry) (fields : List (Field S V)) → AllOf (λ f. HasDistinctNames f.1) (map (part_of type_tree) fields) → AreKeptAs type_tree tree of Full w source given fields → look_up given name ≡ Some m → IsFor name e → IsNodeOf source m e.value → AllOf (λ f. IsFor f.0 e → BlamesNothing (FirstFault w w f.1 e.value)) (map (part_of type_tree) fields)
+  value_kept given name m e [] distinct kept found named stands = tt
+  value_kept given name m e (f ∷ fields) distinct kept found named stands =
+      ((λ is. kept_fine (type_tree f.ty.now) (look_up given f.name.now) f.value m e distinct.0 (subst (λ (q : List ℕ). look_up given q ≡ Some m) (same_name name f.name.now (sym named ∙ is)) found) stands kept.0), value_kept given name m e fields distinct.1 kept.1 found named stands)
+    where
+      same_name : (a b : List ℕ) → a ∷ [] ≡ b ∷ [] → a ≡ b
+      same_name a b e = cc
 
 module _ {S V : Type 0} (tree : V → Value) (of : V → TypeTree → Type 0) (type_tree : S → TypeTree) where
   -- the value of a field that was read
@@ -213,3 +227,14 @@ module _ {S V : Type 0} (tree : V → Value) (of : V → TypeTree → Type 0) (t
   -- one more field has its value
   pub full_more : (fields : List (Field S V)) (vals now : List (Bor (List ℕ) × V)) (f : Field S V) (v : V) → AreFull tree of type_tree fields vals → IsFull tree of (type_tree f.ty.now) f.value v → now ≡ vals ++ (f.name, v) ∷ [] → AreFull tree of type_tree (fields ++ f ∷ []) now
   full_more fields vals now f v h full is = subst (AreFull tree of type_tree (fields ++ f ∷ [])) (sym is) (full_last fields vals f (f.name, v) h refl full)
+
+  -- a field that has its value may be left out, where it was
+  full_filled : (Full : TypeTree → Type 0) (f : Field S V) (o : Option V) (v : V) → f.value ≡ o → IsFull tree of (type_tree f.ty.now) o v → IsFilled Full type_tree f
+  full_filled Full f None v is full distinct out = (full distinct).option
+  full_filled Full f (Some u) v is full distinct out = absurd (cc)
+
+  -- the first that was left out and may not be, behind fields that have their values
+  pub unfilled_behind : (Full : TypeTree → Type 0) (fields : List (Field S V)) (vals : List (Bor (List ℕ) × V)) (f : Field S V) (more : List (Field S V)) (n : NodeTree) (e : Diagnostic) → AreFull tree of type_tree fields vals → f.value ≡ None → (HasDistinctNames (type_tree f.ty.now) → IsMissing Full (type_tree f.ty.now) f.name.now n e) → FirstUnfilled Full type_tree (fields ++ f ∷ more) n e
+  unfilled_behind Full [] vals f more n e h out missing = inl (out, missing)
+  unfilled_behind Full (g ∷ fields) [] f more n e h out missing = absurd h
+  unfilled_behind Full (g ∷ fields) (v ∷ vals) f more n e h out missing = inr (full_filled Full g g.value v.1 refl h.1, unfilled_behind Full fields vals f more n e h.2 out missing)

@@ -1,6 +1,7 @@
 -- Results, of a payload that was read.
 use Rattle.std.proofs.Common.{ℕ, ◌≡◌, ◌≢◌, inl, inr, Bool, true, false, List, Option, Some, Result, Ok, Err, IfOk, IfErr, refl, sym, ap, ◌∙◌, subst}
 use Rattle.std.specs.declared.ops.Range.{Range}
+use Rattle.wave_grammar.specs.FaultOrder.{Order}
 use Rattle.wave_wasm.specs.Types as type
 use Rattle.wave_wasm.specs.Types.{TypeTree, MaybeType, HasDistinctNames, kind_of, maybe_type, type_option, result_parts}
 use Rattle.wave_wasm.specs.Values.{Value}
@@ -63,20 +64,20 @@ flat_apart : (T : TypeTree) (A : Option TypeTree) (B : MaybeType) (n : NodeTree)
 flat_apart T A B n result not_ok not_err apart U is flat =
     subst (λ (W : TypeTree). (X : TypeTree) → IsFlatAt W (type_of n) X → ⊥) (result ∙ ap (λ (P : Option TypeTree). type.result (maybe_type P) B) is) apart U (refl, flat, not_ok, not_err)
 
-module _ {V : Type 0} (tree : V → Value) (of : V → TypeTree → Type 0) (Full : TypeTree → Type 0) where
+module _ {V : Type 0} (tree : V → Value) (of : V → TypeTree → Type 0) (Full : TypeTree → Type 0) (o w : Order) where
   -- the payload at its type is what the node answers for its first child
-  answers_first : (is_ok : Bool) (D : Option TypeTree) (source : List ℕ) (p : Range ℕ) (children : List NodeTree) (r : Result (Option V) Diagnostic) → AnswersPayload tree of Full (result_name is_ok) D source (result_of is_ok p children) (first_of children) r → AnswersPayload tree of Full (result_name is_ok) D source (result_of is_ok p children) (first_of (children_of (result_of is_ok p children))) r
+  answers_first : (is_ok : Bool) (D : Option TypeTree) (source : List ℕ) (p : Range ℕ) (children : List NodeTree) (r : Result (Option V) Diagnostic) → AnswersPayload tree of Full w (result_name is_ok) D source (result_of is_ok p children) (first_of children) r → AnswersPayload tree of Full w (result_name is_ok) D source (result_of is_ok p children) (first_of (children_of (result_of is_ok p children))) r
   answers_first is_ok D source p children r answers =
-      subst (λ (o : Option NodeTree). AnswersPayload tree of Full (result_name is_ok) D source (result_of is_ok p children) o r) (sym (first_child is_ok p children)) answers
+      subst (λ (o : Option NodeTree). AnswersPayload tree of Full w (result_name is_ok) D source (result_of is_ok p children) o r) (sym (first_child is_ok p children)) answers
 
   -- `ok` or `err` with its payload, or without one
-  case_made : (is_ok : Bool) (T : TypeTree) (A B : Option TypeTree) (source : List ℕ) (p : Range ℕ) (children : List NodeTree) (v : Option V) (m : Result V WasmValueError) (r : Result V Diagnostic) → T ≡ type.result (maybe_type A) (maybe_type B) → AnswersPayload tree of Full (result_name is_ok) (payload_of is_ok (A, B)) source (result_of is_ok p children) (first_of children) (Ok v) → IfOk m (MakesResult tree of T (result_with is_ok v)) → IfErr m (FullResult of Full T (result_with is_ok v)) → IsMadeAt p m r → IsReadAs tree of Full T source (result_of is_ok p children) r
+  case_made : (is_ok : Bool) (T : TypeTree) (A B : Option TypeTree) (source : List ℕ) (p : Range ℕ) (children : List NodeTree) (v : Option V) (m : Result V WasmValueError) (r : Result V Diagnostic) → T ≡ type.result (maybe_type A) (maybe_type B) → AnswersPayload tree of Full w (result_name is_ok) (payload_of is_ok (A, B)) source (result_of is_ok p children) (first_of children) (Ok v) → IfOk m (MakesResult tree of T (result_with is_ok v)) → IfErr m (FullResult of Full T (result_with is_ok v)) → IsMadeAt p m r → IsReadAs tree of Full o w T source (result_of is_ok p children) r
   case_made true T A B source p children v m r is answers makes full done =
       let n = result_of true p children in
-      record { answer = λ t here distinct. let k = ok_node source n t here refl in ok_made tree of Full T (maybe_type A) (maybe_type B) t n k.0 v m r is distinct k.1 (answers_first true A source p children (Ok v) answers k.0 k.2 (subst HasDistinctNames is distinct).0) makes full (done n refl); within = λ value. made_in source n m r (inl value) (done n refl) }
+      record { answer = λ t here distinct. let k = ok_node source n t here refl in ok_made tree of Full o w T (maybe_type A) (maybe_type B) t n k.0 v m r is distinct k.1 (answers_first true A source p children (Ok v) answers k.0 k.2 (subst HasDistinctNames is distinct).0) makes full (done n refl); within = λ value. made_in source n m r (inl value) (done n refl) }
   case_made false T A B source p children v m r is answers makes full done =
       let n = result_of false p children in
-      record { answer = λ t here distinct. let k = err_node source n t here refl in err_made tree of Full T (maybe_type A) (maybe_type B) t n k.0 v m r is distinct k.1 (answers_first false B source p children (Ok v) answers k.0 k.2 (subst HasDistinctNames is distinct).1) makes full (done n refl); within = λ value. made_in source n m r (inl value) (done n refl) }
+      record { answer = λ t here distinct. let k = err_node source n t here refl in err_made tree of Full o w T (maybe_type A) (maybe_type B) t n k.0 v m r is distinct k.1 (answers_first false B source p children (Ok v) answers k.0 k.2 (subst HasDistinctNames is distinct).1) makes full (done n refl); within = λ value. made_in source n m r (inl value) (done n refl) }
 
   -- a refusal of the payload stands in the node
   case_within : (is_ok : Bool) (source : List ℕ) (p : Range ℕ) (children : List NodeTree) (e : Diagnostic) → (IsPayloadOf source (first_of children) → RefusesInPart (result_of is_ok p children) (first_of children) e) → IsValueOf source (result_of is_ok p children) → RefusesIn (result_of is_ok p children) e
@@ -85,29 +86,29 @@ module _ {V : Type 0} (tree : V → Value) (of : V → TypeTree → Type 0) (Ful
       part_in source n (first_of children) e (inl value) (first_belongs source n (first_of children) value (sym (first_child is_ok p children))) (within (result_payload is_ok source p children value))
 
   -- `ok` or `err` of a payload that was refused
-  case_refused : (is_ok : Bool) (T : TypeTree) (A B : Option TypeTree) (source : List ℕ) (p : Range ℕ) (children : List NodeTree) (e : Diagnostic) → T ≡ type.result (maybe_type A) (maybe_type B) → HasFullParts Full → AnswersPayload tree of Full (result_name is_ok) (payload_of is_ok (A, B)) source (result_of is_ok p children) (first_of children) (Err e) → (IsPayloadOf source (first_of children) → RefusesInPart (result_of is_ok p children) (first_of children) e) → IsReadAs tree of Full T source (result_of is_ok p children) (Err e)
+  case_refused : (is_ok : Bool) (T : TypeTree) (A B : Option TypeTree) (source : List ℕ) (p : Range ℕ) (children : List NodeTree) (e : Diagnostic) → T ≡ type.result (maybe_type A) (maybe_type B) → HasFullParts Full → AnswersPayload tree of Full w (result_name is_ok) (payload_of is_ok (A, B)) source (result_of is_ok p children) (first_of children) (Err e) → (IsPayloadOf source (first_of children) → RefusesInPart (result_of is_ok p children) (first_of children) e) → IsReadAs tree of Full o w T source (result_of is_ok p children) (Err e)
   case_refused true T A B source p children e is parts answers within =
       let n = result_of true p children in
-      record { answer = λ t here distinct. let k = ok_node source n t here refl in ok_blame tree of Full T (maybe_type A) (maybe_type B) source n t k.0 e is here.0 k.1 parts (answers_first true A source p children (Err e) answers k.0 k.2 (subst HasDistinctNames is distinct).0); within = case_within true source p children e within }
+      record { answer = λ t here distinct. let k = ok_node source n t here refl in ok_blame tree of Full o w T (maybe_type A) (maybe_type B) source n t k.0 e is here.0 k.1 parts (answers_first true A source p children (Err e) answers k.0 k.2 (subst HasDistinctNames is distinct).0); within = case_within true source p children e within }
   case_refused false T A B source p children e is parts answers within =
       let n = result_of false p children in
-      record { answer = λ t here distinct. let k = err_node source n t here refl in err_blame tree of Full T (maybe_type A) (maybe_type B) source n t k.0 e is here.0 k.1 parts (answers_first false B source p children (Err e) answers k.0 k.2 (subst HasDistinctNames is distinct).1); within = case_within false source p children e within }
+      record { answer = λ t here distinct. let k = err_node source n t here refl in err_blame tree of Full o w T (maybe_type A) (maybe_type B) source n t k.0 e is here.0 k.1 parts (answers_first false B source p children (Err e) answers k.0 k.2 (subst HasDistinctNames is distinct).1); within = case_within false source p children e within }
 
   -- the value was made of the payload
-  pub result_read : (is_ok : Bool) (T : TypeTree) (D : Option TypeTree) (source : List ℕ) (p : Range ℕ) (children : List NodeTree) (v : Option V) (m : Result V WasmValueError) (r : Result V Diagnostic) → (parts : Option TypeTree × Option TypeTree) × (result_parts T ≡ Some parts) × (D ≡ payload_of is_ok parts) → AnswersPayload tree of Full (result_name is_ok) D source (result_of is_ok p children) (first_of children) (Ok v) → IfOk m (MakesResult tree of T (result_with is_ok v)) → IfErr m (FullResult of Full T (result_with is_ok v)) → IsMadeAt p m r → IsReadAs tree of Full T source (result_of is_ok p children) r
+  pub result_read : (is_ok : Bool) (T : TypeTree) (D : Option TypeTree) (source : List ℕ) (p : Range ℕ) (children : List NodeTree) (v : Option V) (m : Result V WasmValueError) (r : Result V Diagnostic) → (parts : Option TypeTree × Option TypeTree) × (result_parts T ≡ Some parts) × (D ≡ payload_of is_ok parts) → AnswersPayload tree of Full w (result_name is_ok) D source (result_of is_ok p children) (first_of children) (Ok v) → IfOk m (MakesResult tree of T (result_with is_ok v)) → IfErr m (FullResult of Full T (result_with is_ok v)) → IsMadeAt p m r → IsReadAs tree of Full o w T source (result_of is_ok p children) r
   result_read is_ok T D source p children v m r (parts, is, due) answers makes full done =
-      case_made is_ok T parts.0 parts.1 source p children v m r (result_is T parts is) (subst (λ (E : Option TypeTree). AnswersPayload tree of Full (result_name is_ok) E source (result_of is_ok p children) (first_of children) (Ok v)) due answers) makes full done
+      case_made is_ok T parts.0 parts.1 source p children v m r (result_is T parts is) (subst (λ (E : Option TypeTree). AnswersPayload tree of Full w (result_name is_ok) E source (result_of is_ok p children) (first_of children) (Ok v)) due answers) makes full done
 
   -- the payload was refused
-  pub result_refused : (is_ok : Bool) (T : TypeTree) (D : Option TypeTree) (source : List ℕ) (p : Range ℕ) (children : List NodeTree) (e : Diagnostic) → HasFullParts Full → (parts : Option TypeTree × Option TypeTree) × (result_parts T ≡ Some parts) × (D ≡ payload_of is_ok parts) → AnswersPayload tree of Full (result_name is_ok) D source (result_of is_ok p children) (first_of children) (Err e) → (IsPayloadOf source (first_of children) → RefusesInPart (result_of is_ok p children) (first_of children) e) → IsReadAs tree of Full T source (result_of is_ok p children) (Err e)
+  pub result_refused : (is_ok : Bool) (T : TypeTree) (D : Option TypeTree) (source : List ℕ) (p : Range ℕ) (children : List NodeTree) (e : Diagnostic) → HasFullParts Full → (parts : Option TypeTree × Option TypeTree) × (result_parts T ≡ Some parts) × (D ≡ payload_of is_ok parts) → AnswersPayload tree of Full w (result_name is_ok) D source (result_of is_ok p children) (first_of children) (Err e) → (IsPayloadOf source (first_of children) → RefusesInPart (result_of is_ok p children) (first_of children) e) → IsReadAs tree of Full o w T source (result_of is_ok p children) (Err e)
   result_refused is_ok T D source p children e full (parts, is, due) answers within =
-      case_refused is_ok T parts.0 parts.1 source p children e (result_is T parts is) full (subst (λ (E : Option TypeTree). AnswersPayload tree of Full (result_name is_ok) E source (result_of is_ok p children) (first_of children) (Err e)) due answers) within
+      case_refused is_ok T parts.0 parts.1 source p children e (result_is T parts is) full (subst (λ (E : Option TypeTree). AnswersPayload tree of Full w (result_name is_ok) E source (result_of is_ok p children) (first_of children) (Err e)) due answers) within
 
   -- at a result, a node of another form than a result's and a flat payload's
-  pub other_result : (T : TypeTree) (source : List ℕ) (n : NodeTree) (e : Diagnostic) → kind_of T ≡ kinds.Result → type_of n ≢ node_type.ResultOk → type_of n ≢ node_type.ResultErr → ((U : TypeTree) → IsFlatAt T (type_of n) U → ⊥) → RefusedAs InvalidType n e → IsReadAs tree of Full T source n (Err e)
+  pub other_result : (T : TypeTree) (source : List ℕ) (n : NodeTree) (e : Diagnostic) → kind_of T ≡ kinds.Result → type_of n ≢ node_type.ResultOk → type_of n ≢ node_type.ResultErr → ((U : TypeTree) → IsFlatAt T (type_of n) U → ⊥) → RefusedAs InvalidType n e → IsReadAs tree of Full o w T source n (Err e)
   other_result T source n e kind not_ok not_err apart refused =
       let given = result_at T kind in
       let parts = given.0 in
       let is = given.1 in
       let result = result_is T parts is in
-      record { answer = λ t here distinct. inr (inl (result_fault T parts.0 (maybe_type parts.1) source n t e result here.0 (not_ok, not_err, refused) (flat_apart T parts.0 (maybe_type parts.1) n result not_ok not_err apart))); within = λ value. at_in source n e (inl value) (form_at n e refused) }
+      record { answer = λ t here distinct. inr (inl (result_fault o w T parts.0 (maybe_type parts.1) source n t e result here.0 (not_ok, not_err, refused) (flat_apart T parts.0 (maybe_type parts.1) n result not_ok not_err apart))); within = λ value. at_in source n e (inl value) (form_at n e refused) }

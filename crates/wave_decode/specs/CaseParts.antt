@@ -6,6 +6,7 @@ use Rattle.wave_wasm.specs.Values.{Value}
 use Rattle.wave_wasm.specs.declared.wasm.WasmTypeKind.TheVariants as kinds
 use Rattle.wave_grammar.specs.LeafTokens.{name_of}
 use Rattle.wave_grammar.specs.TypedGrammar.{look_up}
+use Rattle.wave_grammar.specs.FaultOrder.{Order}
 use Rattle.wave_syntax.specs.NodeTree.{NodeTree}
 use Rattle.wave_syntax.specs.NodeAccessors.{node_text}
 use Rattle.wave_leaf.specs.Reading.{IsReadAs}
@@ -15,7 +16,7 @@ use Rattle.wave_decode.specs.declared.variants.CasePayload.{CasePayload}
 abbrev pub payload_due : {S V : Type 0} → CasePayload S V → Option (Bor S)
 payload_due x = option_map (λ c. c.1) x.case
 
-module _ {S V : Type 0} (type_tree : S → TypeTree) (tree : V → Value) (of : V → TypeTree → Type 0) (Full : TypeTree → Type 0) where
+module _ {S V : Type 0} (type_tree : S → TypeTree) (tree : V → Value) (of : V → TypeTree → Type 0) (Full : TypeTree → Type 0) (w : Order) where
   -- the label names this case, which the type has, with a payload of this type
   abbrev pub IsLabelOf : TypeTree → List ℕ → NodeTree → Bor (List ℕ) × Bor S → Type 0
   IsLabelOf T source label case =
@@ -26,7 +27,7 @@ module _ {S V : Type 0} (type_tree : S → TypeTree) (tree : V → Value) (of : 
   IsCaseRead T source [] case payload = Unit {0}
   IsCaseRead T source (label ∷ []) (Some case) payload = IsLabelOf T source label case
   IsCaseRead T source (label ∷ inner ∷ []) (Some case) (Some v) =
-      IsLabelOf T source label case × IsReadAs tree of Full (type_tree case.1.now) source inner (Ok v)
+      IsLabelOf T source label case × IsReadAs tree of Full w w (type_tree case.1.now) source inner (Ok v)
   IsCaseRead T source _ case payload = ⊥
 
   -- the children of a node of a case and its payload, at a variant type

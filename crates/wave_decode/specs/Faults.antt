@@ -8,6 +8,7 @@ use Rattle.wave_wasm.specs.declared.wasm.WasmValueError.{WasmValueError}
 use Rattle.wave_lex.specs.Errors.{Diagnostic, Says, refusal_of, refused_by, kept}
 use Rattle.std.specs.Prelude.{None, IsSomeAnd}
 use Rattle.wave_lex.specs.declared.error.ParserErrorKind.TheVariants.{OutOfMemory}
+use Rattle.wave_grammar.specs.FaultOrder.{Order}
 use Rattle.wave_syntax.specs.NodeTree.{NodeTree, node, node_trees, place_of}
 use Rattle.wave_syntax.specs.TypedReading.{IsMade}
 use Rattle.wave_syntax.specs.declared.form.NodeType.{NodeType}
@@ -22,6 +23,11 @@ Tells (fault.Told e) p f = f ≡ e
 Tells (fault.Kind k) p f = Says f k p None
 Tells (fault.Cause e) p f = (refusal_of f ≡ refusal_of e) × (f.span ≡ p)
 
+-- the fault is a refusal of some kind, of the whole value
+abbrev pub IsOfKind : Fault → Type 0
+IsOfKind (fault.Kind k) = Unit {0}
+IsOfKind _ = ⊥
+
 -- the fault with this cause; or, where it has two texts, for lack of memory
 abbrev pub IsFaultOf : WasmValueError → Fault → Type 0
 IsFaultOf cause (fault.Cause e) = refusal_of e ≡ refused_by (cause_of cause)
@@ -32,8 +38,8 @@ IsFaultOf cause (fault.Told e) = ⊥
 abbrev pub IsMadeAt : {V : Type 0} → Range ℕ → Result V WasmValueError → Result V Diagnostic → Type 0
 IsMadeAt p made r = (n : NodeTree) → place_of n ≡ p → IsMade n made r
 
-module _ {V : Type 0} (tree : V → Value) (of : V → TypeTree → Type 0) (Full : TypeTree → Type 0) where
-  -- whatever follows these children of a node of this type, at the type it is refused for the fault
+module _ {V : Type 0} (tree : V → Value) (of : V → TypeTree → Type 0) (Full : TypeTree → Type 0) (o w : Order) where
+  -- whatever follows these children of a node of this type, at the type it is refused for the fault, in these orders
   abbrev pub IsDoomed : TypeTree → List ℕ → NodeType → List NodeTree → Fault → Type 0
   IsDoomed T source ty children f =
-      (more : List NodeTree) (p : Range ℕ) (e : Diagnostic) → Tells f p e → IsReadAs tree of Full T source (node ty p (node_trees (children ++ more))) (Err e)
+      (more : List NodeTree) (p : Range ℕ) (e : Diagnostic) → Tells f p e → IsReadAs tree of Full o w T source (node ty p (node_trees (children ++ more))) (Err e)

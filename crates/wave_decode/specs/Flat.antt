@@ -1,8 +1,9 @@
 -- Values that stand for an option or a result of themselves.
-use Rattle.std.specs.Prelude.{◌≡◌, ◌≢◌, Option, Some, None}
+use Rattle.std.specs.Prelude.{ℕ, ◌≡◌, ◌≢◌, ◌⊎◌, Option, Some, None}
 use Rattle.std.specs.Borrow.{Bor}
 use Rattle.wave_wasm.specs.Types as type
-use Rattle.wave_wasm.specs.Types.{TypeTree}
+use Rattle.wave_wasm.specs.Types.{TypeTree, kind_of, count_of}
+use Rattle.wave_wasm.specs.declared.wasm.WasmTypeKind.TheVariants as kinds
 use Rattle.wave_grammar.specs.TypedGrammar.{IsFlat}
 use Rattle.wave_syntax.specs.declared.form.NodeType.{NodeType}
 use Rattle.wave_syntax.specs.declared.form.NodeType.TheVariants as node_type
@@ -28,3 +29,19 @@ IsAround type_tree T ty (Some whole) x = (type_tree whole.now ≡ T) × IsFlatAt
 abbrev pub IsAroundWhereDue : {S : Type 0} → (S → TypeTree) → Option TypeTree → NodeType → Option (Bor S) → Bor S → Type 0
 IsAroundWhereDue type_tree None ty around x = ⊥
 IsAroundWhereDue type_tree (Some T) ty around x = IsAround type_tree T ty around x
+
+-- a node of this type is read at the type U: at T itself, or at that of the flat payload that it stands for
+abbrev pub IsReadAt : TypeTree → NodeType → TypeTree → Type 0
+IsReadAt T ty U = (U ≡ T) ⊎ IsFlatAt T ty U
+
+-- no record is read at the node
+abbrev pub ReadsNoRecord : TypeTree → NodeType → Type 0
+ReadsNoRecord T ty = (U : TypeTree) → IsReadAt T ty U → ty ≡ node_type.TupleSet → kind_of U ≢ kinds.Record
+
+-- where a tuple is read at the node, it has as many items as its type
+abbrev pub IsCounted : TypeTree → NodeType → ℕ → Type 0
+IsCounted T ty count = (Ts : type.Types) → IsReadAt T ty (type.tuple Ts) → ty ≡ node_type.Tuple → count ≡ count_of Ts
+
+-- flags are read at a node of flags
+abbrev pub ReadsFlags : TypeTree → Type 0
+ReadsFlags T = (U : TypeTree) × IsReadAt T node_type.Flags U × (kind_of U ≡ kinds.Flags)

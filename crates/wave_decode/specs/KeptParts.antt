@@ -4,6 +4,7 @@ use Rattle.std.specs.Borrow.{Bor}
 use Rattle.wave_wasm.specs.Types.{TypeTree}
 use Rattle.wave_wasm.specs.Values.{Value}
 use Rattle.wave_wasm.specs.Borrowed.{shown}
+use Rattle.wave_grammar.specs.FaultOrder.{Order}
 use Rattle.wave_syntax.specs.NodeTree.{NodeTree}
 use Rattle.wave_syntax.specs.declared.form.NodeType.{NodeType}
 use Rattle.wave_leaf.specs.PlainReading.{IsPlain, TakesMemory}
@@ -13,12 +14,12 @@ use Rattle.wave_decode.specs.declared.parts.Parts.{Parts}
 use Rattle.wave_decode.specs.declared.parts.Parts.TheVariants as parts
 use Rattle.wave_decode.specs.declared.values.Kept.{Kept}
 
-module _ {S V : Type 0} (type_tree : S → TypeTree) (tree : V → Value) (of : V → TypeTree → Type 0) (Full : TypeTree → Type 0) where
+module _ {S V : Type 0} (type_tree : S → TypeTree) (tree : V → Value) (of : V → TypeTree → Type 0) (Full : TypeTree → Type 0) (w : Order) where
   -- the parts of a value of the type; or, where this option or result is around it, those of its flat payload
   abbrev pub AreOfType : TypeTree → List ℕ → NodeType → List NodeTree → Option (Bor S) → Kept S V → Type 0
-  AreOfType T source ty children None kept = AreParts type_tree tree of Full T source ty children kept.parts
+  AreOfType T source ty children None kept = AreParts type_tree tree of Full w T source ty children kept.parts
   AreOfType T source ty children (Some x) kept =
-      (type_tree x.now ≡ T) × ((U : TypeTree) × IsFlatAt T ty U × AreParts type_tree tree of Full U source ty children kept.parts)
+      (type_tree x.now ≡ T) × ((U : TypeTree) × IsFlatAt T ty U × AreParts type_tree tree of Full w U source ty children kept.parts)
 
   abbrev pub AreKept : TypeTree → List ℕ → NodeType → List NodeTree → Kept S V → Type 0
   AreKept T source ty children kept = AreOfType T source ty children kept.around kept

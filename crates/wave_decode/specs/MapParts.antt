@@ -3,6 +3,7 @@ use Rattle.std.specs.Prelude.{ℕ, ◌≡◌, List, [], ◌∷◌, Option, Some,
 use Rattle.std.specs.Borrow.{Bor}
 use Rattle.wave_wasm.specs.Types.{TypeTree, map_parts}
 use Rattle.wave_wasm.specs.Values.{Value}
+use Rattle.wave_grammar.specs.FaultOrder.{Order}
 use Rattle.wave_syntax.specs.NodeTree.{NodeTree}
 use Rattle.wave_syntax.specs.Shared.TypedReading.{AnswersMapKey}
 use Rattle.wave_leaf.specs.Reading.{IsReadAs}
@@ -12,18 +13,18 @@ use Rattle.wave_decode.specs.declared.maps.Entries.{Entries}
 abbrev pub value_type_due : {S V : Type 0} → Entries S V → Option (Bor S)
 value_type_due x = option_map (λ key. x.value_type) x.key
 
-module _ {V : Type 0} (tree : V → Value) (of : V → TypeTree → Type 0) (Full : TypeTree → Type 0) where
+module _ {V : Type 0} (tree : V → Value) (of : V → TypeTree → Type 0) (Full : TypeTree → Type 0) (w : Order) where
   -- these nodes were read as keys and values in turn: as the entries, and after them the key that waits
   abbrev pub AreReadInTurn : TypeTree → TypeTree → List ℕ → List NodeTree → List (V × V) → Option V → Type 0
   AreReadInTurn S U source [] [] None = Unit {0}
   AreReadInTurn S U source (k ∷ []) [] (Some key) = AnswersMapKey tree of Full S source k (Ok key)
   AreReadInTurn S U source (k ∷ n ∷ more) (e ∷ es) key =
-      AnswersMapKey tree of Full S source k (Ok e.0) × IsReadAs tree of Full U source n (Ok e.1) × AreReadInTurn S U source more es key
+      AnswersMapKey tree of Full S source k (Ok e.0) × IsReadAs tree of Full w w U source n (Ok e.1) × AreReadInTurn S U source more es key
   AreReadInTurn S U source _ _ _ = ⊥
 
-module _ {S V : Type 0} (type_tree : S → TypeTree) (tree : V → Value) (of : V → TypeTree → Type 0) (Full : TypeTree → Type 0) where
+module _ {S V : Type 0} (type_tree : S → TypeTree) (tree : V → Value) (of : V → TypeTree → Type 0) (Full : TypeTree → Type 0) (w : Order) where
   -- these are the entries of a map of the type
   pub record AreEntries (T : TypeTree) (source : List ℕ) (children : List NodeTree) (x : Entries S V) : Type 0 where
     pub type_is : type_tree x.ty.now ≡ T
     pub parts_are : map_parts T ≡ Some (type_tree x.key_type.now, type_tree x.value_type.now)
-    pub read : AreReadInTurn tree of Full (type_tree x.key_type.now) (type_tree x.value_type.now) source children x.entries.items x.key
+    pub read : AreReadInTurn tree of Full w (type_tree x.key_type.now) (type_tree x.value_type.now) source children x.entries.items x.key

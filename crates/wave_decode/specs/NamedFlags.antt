@@ -8,6 +8,7 @@ use Rattle.wave_wasm.specs.Types.{TypeTree}
 use Rattle.wave_wasm.specs.Values.{Value}
 use Rattle.wave_wasm.specs.ValueErrors.{Cause}
 use Rattle.wave_lex.specs.Errors.{Diagnostic}
+use Rattle.wave_grammar.specs.FaultOrder.{Order}
 use Rattle.wave_syntax.specs.NodeTree.{NodeTree, node, place_of}
 use Rattle.wave_syntax.specs.FlagParts.{AreFlagsOf, flag_nodes}
 use Rattle.wave_syntax.specs.declared.form.NodeType.TheVariants as kind
@@ -39,8 +40,8 @@ IsTold _ p _ = ⊥
 module _ {V : Type 0} (tree : V → Value) (of : V → TypeTree → Type 0) (Full : TypeTree → Type 0) where
   -- of the node of these flags this is read at the type, in any text that has them at their places
   abbrev pub IsReadOfFlags : TypeTree → Range ℕ → BTreeMap (Bor (List ℕ)) (Range ℕ) → Result V Diagnostic → Type 0
-  IsReadOfFlags T p flags r = (source : List ℕ) → AreFlagsOf source flags → IsReadAs tree of Full T source (node kind.Flags p (flag_nodes flags)) r
+  IsReadOfFlags T p flags r = (o w : Order) (source : List ℕ) → AreFlagsOf source flags → IsReadAs tree of Full o w T source (node kind.Flags p (flag_nodes flags)) r
 
   -- at the node, that is what is read of it at the type
   abbrev pub IsReadOrTold : TypeTree → List ℕ → NodeTree → Result V Fault → Type 0
-  IsReadOrTold T source n read = (r : Result V Diagnostic) → IsTold read (place_of n) r → IsReadAs tree of Full T source n r
+  IsReadOrTold T source n read = (o w : Order) (r : Result V Diagnostic) → IsTold read (place_of n) r → IsReadAs tree of Full o w T source n r

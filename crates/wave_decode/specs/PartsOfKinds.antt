@@ -4,13 +4,15 @@ use Rattle.std.specs.Borrow.{Bor}
 use Rattle.wave_wasm.specs.Types as type
 use Rattle.wave_wasm.specs.Types.{TypeTree}
 use Rattle.wave_wasm.specs.Values.{Value}
+use Rattle.wave_grammar.specs.FaultOrder.{Order, in_text}
 use Rattle.wave_syntax.specs.NodeTree.{NodeTree}
 use Rattle.wave_syntax.specs.declared.form.NodeType.{NodeType}
 use Rattle.wave_syntax.specs.declared.form.NodeType.TheVariants as kind
 use Rattle.wave_leaf.specs.Leaves.{IsSimpleOrUnreadable}
 use Rattle.wave_syntax.specs.NodeParts.{IsOfParts}
 use Rattle.wave_decode.specs.CaseParts.{AreCaseParts, payload_due}
-use Rattle.wave_decode.specs.Faults.{IsDoomed}
+use Rattle.wave_decode.specs.Faults.{IsDoomed, IsOfKind}
+use Rattle.wave_decode.specs.declared.fault.Fault.{Fault}
 use Rattle.wave_decode.specs.MapParts.{AreEntries, value_type_due}
 use Rattle.wave_decode.specs.Payloads.{AreOfSome, AreOfResult, result_node, some_due, result_due}
 use Rattle.wave_decode.specs.ListParts.{AreItems, element_due}
@@ -52,20 +54,27 @@ next_due (parts.Fields x) = type_due x
 next_due (parts.Entries x) = value_type_due x
 next_due _ = None
 
-module _ {S V : Type 0} (type_tree : S → TypeTree) (tree : V → Value) (of : V → TypeTree → Type 0) (Full : TypeTree → Type 0) where
+module _ {S V : Type 0} (type_tree : S → TypeTree) (tree : V → Value) (of : V → TypeTree → Type 0) (Full : TypeTree → Type 0) (w : Order) where
   -- these parts were read of the first children of a node of this type
   abbrev pub AreParts : TypeTree → List ℕ → NodeType → List NodeTree → Parts S V → Type 0
-  AreParts T source ty children (parts.Faulty f) = IsDoomed tree of Full T source ty children f
+  AreParts T source ty children (parts.Faulty f) = IsDoomed tree of Full in_text w T source ty children f
   AreParts T source ty children (parts.Simple x) = (type_tree x.now ≡ T) × IsSimpleOrUnreadable T × IsOfParts ty
   AreParts T source ty children (parts.Empty x) = (ty ≡ kind.EmptySet) × (children ≡ []) × (type_tree x.now ≡ T) × TakesEmptySet T
-  AreParts T source ty children (parts.Items x) = (ty ≡ kind.List) × AreItems type_tree tree of Full T source children x
-  AreParts T source ty children (parts.Row x) = (ty ≡ kind.Tuple) × IsRow type_tree tree of Full T source children x
-  AreParts T source ty children (parts.OfSome x) = (ty ≡ kind.OptionSome) × AreOfSome type_tree tree of Full T source children x
-  AreParts T source ty children (parts.OfResult x) = (ty ≡ result_node x.is_ok) × AreOfResult type_tree tree of Full T source children x
-  AreParts T source ty children (parts.OfCase x) = (ty ≡ kind.VariantWithPayload) × AreCaseParts type_tree tree of Full T source children x
-  AreParts T source ty children (parts.Fields x) = (ty ≡ kind.TupleSet) × AreFields type_tree tree of Full T source children x
-  AreParts T source ty children (parts.Entries x) = (ty ≡ kind.TupleSet) × AreEntries type_tree tree of Full T source children x
+  AreParts T source ty children (parts.Items x) = (ty ≡ kind.List) × AreItems type_tree tree of Full w T source children x
+  AreParts T source ty children (parts.Row x) = (ty ≡ kind.Tuple) × IsRow type_tree tree of Full w T source children x
+  AreParts T source ty children (parts.OfSome x) = (ty ≡ kind.OptionSome) × AreOfSome type_tree tree of Full w T source children x
+  AreParts T source ty children (parts.OfResult x) = (ty ≡ result_node x.is_ok) × AreOfResult type_tree tree of Full w T source children x
+  AreParts T source ty children (parts.OfCase x) = (ty ≡ kind.VariantWithPayload) × AreCaseParts type_tree tree of Full w T source children x
+  AreParts T source ty children (parts.Fields x) = (ty ≡ kind.TupleSet) × AreFields type_tree tree of Full w T source children x
+  AreParts T source ty children (parts.Entries x) = (ty ≡ kind.TupleSet) × AreEntries type_tree tree of Full w T source children x
+
+module _ {S V : Type 0} (type_tree : S → TypeTree) (tree : V → Value) (of : V → TypeTree → Type 0) (Full : TypeTree → Type 0) where
+  -- where they have a fault already, it is a refusal of this kind of the whole value, in whatever order
+  abbrev pub AreDoomedAtOnce : TypeTree → NodeType → Parts S V → Type 0
+  AreDoomedAtOnce T ty x =
+      (f : Fault) → x ≡ parts.Faulty f → IsOfKind f × ((o w : Order) (source : List ℕ) → IsOfParts ty → IsDoomed tree of Full o w T source ty [] f)
 
   -- the parts of a value at a node of this type with parts, before the first of them
-  abbrev pub AreNoPartsYet : TypeTree → NodeType → Parts S V → Type 0
-  AreNoPartsYet T ty x = (source : List ℕ) → IsOfParts ty → AreParts T source ty [] x
+  pub record AreNoPartsYet (T : TypeTree) (ty : NodeType) (x : Parts S V) : Type 0 where
+    pub begun : (w : Order) (source : List ℕ) → IsOfParts ty → AreParts type_tree tree of Full w T source ty [] x
+    pub doomed : AreDoomedAtOnce T ty x

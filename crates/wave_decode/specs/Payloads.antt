@@ -10,6 +10,7 @@ use Rattle.wave_lex.specs.Errors.{Diagnostic}
 use Rattle.wave_syntax.specs.NodeTree.{NodeTree}
 use Rattle.wave_syntax.specs.declared.form.NodeType.{NodeType}
 use Rattle.wave_syntax.specs.declared.form.NodeType.TheVariants as node_type
+use Rattle.wave_grammar.specs.FaultOrder.{Order}
 use Rattle.wave_leaf.specs.Reading.{IsReadWhereDue}
 use Rattle.wave_decode.specs.declared.options.SomePayload.{SomePayload}
 use Rattle.wave_decode.specs.declared.results.ResultPayload.{ResultPayload}
@@ -47,21 +48,21 @@ abbrev pub payload_of : Bool → Option TypeTree × Option TypeTree → Option T
 payload_of true parts = parts.0
 payload_of false parts = parts.1
 
-module _ {V : Type 0} (tree : V → Value) (of : V → TypeTree → Type 0) (Full : TypeTree → Type 0) where
+module _ {V : Type 0} (tree : V → Value) (of : V → TypeTree → Type 0) (Full : TypeTree → Type 0) (w : Order) where
   -- no child, and nothing was read; or one, and this was read of it at the type that is due
   abbrev pub IsReadPayload : Option TypeTree → List ℕ → List NodeTree → Option (Result V Diagnostic) → Type 0
   IsReadPayload due source children None = children ≡ []
-  IsReadPayload due source children (Some r) = (n : NodeTree) × (children ≡ n ∷ []) × IsReadWhereDue tree of Full due source n r
+  IsReadPayload due source children (Some r) = (n : NodeTree) × (children ≡ n ∷ []) × IsReadWhereDue tree of Full w w due source n r
 
-module _ {S V : Type 0} (type_tree : S → TypeTree) (tree : V → Value) (of : V → TypeTree → Type 0) (Full : TypeTree → Type 0) where
+module _ {S V : Type 0} (type_tree : S → TypeTree) (tree : V → Value) (of : V → TypeTree → Type 0) (Full : TypeTree → Type 0) (w : Order) where
   -- the children of a node of `some`, at an option
   pub record AreOfSome (T : TypeTree) (source : List ℕ) (children : List NodeTree) (x : SomePayload S V) : Type 0 where
     pub ty : T ≡ type_tree x.ty.now
     pub due : T ≡ type.option (type_tree x.due.now)
-    pub read : IsReadPayload tree of Full (Some (type_tree x.due.now)) source children x.made
+    pub read : IsReadPayload tree of Full w (Some (type_tree x.due.now)) source children x.made
 
   -- the children of a node of `ok` or of `err`, at a result
   pub record AreOfResult (T : TypeTree) (source : List ℕ) (children : List NodeTree) (x : ResultPayload S V) : Type 0 where
     pub ty : T ≡ type_tree x.ty.now
     pub due : (parts : Option TypeTree × Option TypeTree) × (result_parts T ≡ Some parts) × (shown type_tree x.due ≡ payload_of x.is_ok parts)
-    pub read : IsReadPayload tree of Full (shown type_tree x.due) source children x.made
+    pub read : IsReadPayload tree of Full w (shown type_tree x.due) source children x.made

@@ -2,7 +2,7 @@
 use Rattle.std.specs.Prelude.{ℕ, ◌≡◌, ◌≢◌, ◌⊎◌, List, [], ◌∷◌, map, Option, Some, None, option_map, Ok, slice_get}
 use Rattle.std.specs.Borrow.{Bor}
 use Rattle.std.specs.declared.ops.Range.{Range}
-use Rattle.wave_wasm.specs.Lists.{AllOf, SomeOf}
+use Rattle.wave_wasm.specs.Lists.{AllOf}
 use Rattle.wave_wasm.specs.Names.{IsOneOf, IsNoneOf, AreDistinct}
 use Rattle.wave_wasm.specs.Types.{TypeTree, HasDistinctNames, kind_of, record_parts}
 use Rattle.wave_wasm.specs.Values.{Value}
@@ -14,7 +14,8 @@ use Rattle.wave_lex.specs.Errors.{Diagnostic, Says, field_label_due, repeated_na
 use Rattle.wave_lex.specs.declared.error.ParserErrorKind.{ParserErrorKind}
 use Rattle.wave_lex.specs.declared.error.ParserErrorKind.TheVariants.{InvalidType, InvalidValue, DuplicateField, OutOfMemory}
 use Rattle.wave_grammar.specs.LeafTokens.{name_of}
-use Rattle.wave_grammar.specs.TypedGrammar.{look_up, names_of}
+use Rattle.wave_grammar.specs.TypedGrammar.{IsOption, look_up, names_of}
+use Rattle.wave_grammar.specs.FaultOrder.{Order}
 use Rattle.wave_syntax.specs.NodeTree.{NodeTree, type_of}
 use Rattle.wave_syntax.specs.NodeAccessors.{node_text, node_pairs}
 use Rattle.wave_syntax.specs.NodeFields.{IsLabelled}
@@ -91,11 +92,11 @@ IsMissingOrMemory name cause = (cause_of cause ≡ missing_field name) ⊎ IsMem
 abbrev pub part_of : {S V : Type 0} → (S → TypeTree) → Field S V → List ℕ × TypeTree
 part_of type_tree f = (f.name.now, type_tree f.ty.now)
 
-module _ {V : Type 0} (tree : V → Value) (of : V → TypeTree → Type 0) (Full : TypeTree → Type 0) where
+module _ {V : Type 0} (tree : V → Value) (of : V → TypeTree → Type 0) (Full : TypeTree → Type 0) (w : Order) where
   -- no entry is for the name; or the value is that of its entry
   abbrev pub IsKeptAs : TypeTree → List ℕ → Option NodeTree → Option V → Type 0
   IsKeptAs T source o None = o ≡ None
-  IsKeptAs T source o (Some v) = (m : NodeTree) × (o ≡ Some m) × IsReadAs tree of Full T source m (Ok v)
+  IsKeptAs T source o (Some v) = (m : NodeTree) × (o ≡ Some m) × IsReadAs tree of Full w w T source m (Ok v)
 
 module _ {V : Type 0} (tree : V → Value) (of : V → TypeTree → Type 0) where
   -- the value of a field, which is `none` where it was left out
@@ -111,16 +112,25 @@ module _ {S V : Type 0} (tree : V → Value) (of : V → TypeTree → Type 0) (t
   AreFull _ _ = ⊥
 
 module _ {S V : Type 0} (Full : TypeTree → Type 0) (type_tree : S → TypeTree) where
-  -- out of memory, or the refusal of a field that was left out of the record
-  abbrev pub IsLeftUnfilled : List (Field S V) → NodeTree → Diagnostic → Type 0
-  IsLeftUnfilled fields n e =
-      (e.kind ≡ OutOfMemory)
-      ⊎ SomeOf (λ f. (f.value ≡ None) × (HasDistinctNames (type_tree f.ty.now) → IsMissing Full (type_tree f.ty.now) f.name.now n e)) fields
+  -- the field was read, or may be left out
+  abbrev pub IsFilled : Field S V → Type 0
+  IsFilled f = HasDistinctNames (type_tree f.ty.now) → f.value ≡ None → IsOption (type_tree f.ty.now)
 
-module _ {S V : Type 0} (type_tree : S → TypeTree) (tree : V → Value) (of : V → TypeTree → Type 0) (Full : TypeTree → Type 0) where
+  -- the refusal of the first field that was left out of the record and may not be
+  abbrev pub FirstUnfilled : List (Field S V) → NodeTree → Diagnostic → Type 0
+  FirstUnfilled [] n e = ⊥
+  FirstUnfilled (f ∷ more) n e =
+      (f.value ≡ None) × (HasDistinctNames (type_tree f.ty.now) → IsMissing Full (type_tree f.ty.now) f.name.now n e)
+      ⊎ IsFilled f × FirstUnfilled more n e
+
+  -- so, or out of memory
+  abbrev pub IsLeftUnfilled : List (Field S V) → NodeTree → Diagnostic → Type 0
+  IsLeftUnfilled fields n e = (e.kind ≡ OutOfMemory) ⊎ FirstUnfilled fields n e
+
+module _ {S V : Type 0} (type_tree : S → TypeTree) (tree : V → Value) (of : V → TypeTree → Type 0) (Full : TypeTree → Type 0) (w : Order) where
   -- each field has the value of its entry, where one is for it
   abbrev pub AreKeptAs : List ℕ → List (List ℕ × NodeTree) → List (Field S V) → Type 0
-  AreKeptAs source given fields = AllOf (λ f. IsKeptAs tree of Full (type_tree f.ty.now) source (look_up given f.name.now) f.value) fields
+  AreKeptAs source given fields = AllOf (λ f. IsKeptAs tree of Full w (type_tree f.ty.now) source (look_up given f.name.now) f.value) fields
 
   -- what was read of these nodes: entries of distinct names of the type's fields, and perhaps a key
   pub record AreBegun (T : TypeTree) (source : List ℕ) (children : List NodeTree) (x : Fields S V) : Type 0 where

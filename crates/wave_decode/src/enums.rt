@@ -12,7 +12,6 @@ use wave_grammar::label::label_name;
 use wave_leaf::leaf::Leaf;
 use wave_lex::error::{ParserError, ParserErrorKind};
 use wave_syntax::form::NodeType;
-use wave_syntax::typed::is_among;
 use wave_wasm::wasm::{WasmType, WasmTypeKind, WasmValue, WasmValueError};
 
 /// An enum: the name of one of its cases.
@@ -27,12 +26,12 @@ pub(crate) fn read_enum<V: WasmValue>(
     if leaf.ty != NodeType::Label {
         return Err(leaf.error(ParserErrorKind::InvalidType));
     }
-    let cases = match ty.enum_cases(alloc) {
-        Ok(cases) => cases,
+    let name = label_name(leaf.text);
+    let is_case = match ty.has_enum_case(alloc, name) {
+        Ok(is_case) => is_case,
         Err(_) => return Err(leaf.error(ParserErrorKind::OutOfMemory)),
     };
-    let name = label_name(leaf.text);
-    if !is_among(&cases, name) {
+    if !is_case {
         return Err(no_case(leaf, alloc, name));
     }
     leaf.or_error_here(V::make_enum(alloc, ty, name))

@@ -1,5 +1,6 @@
 //! What is wrong with a value, before its end is seen.
-ghost use Rattle.wave_decode.specs.Faults.{Tells, IsFaultOf, IsMadeAt};
+ghost use Rattle.std.specs.Prelude.{MatchOption};
+ghost use Rattle.wave_decode.specs.Faults.{IsOfKind, Tells, IsFaultOf, IsMadeAt};
 
 use std::alloc::Global;
 use wave_leaf::failure::Failure;
@@ -19,6 +20,16 @@ pub enum Fault {
 }
 
 impl Fault {
+    /// The refusal of the whole value, which stands here, where the fault is one of its kind alone.
+    pub(crate) fn of_kind(&self, span: Span) -> Option<Failure>
+        ensures { MatchOption result (IsOfKind self.now → ⊥) (Tells self.now span) }
+    {
+        match self {
+            Fault::Kind(kind) => Some(Failure::plain(*kind, span)),
+            _ => None,
+        }
+    }
+
     /// The refusal, where the whole value stands here.
     #[cold]
     #[inline(never)]

@@ -2,6 +2,7 @@
 ghost use Rattle.std.specs.Prelude.{ℕ, List, ◌≡◌};
 ghost use Rattle.wave_wasm.specs.Types.{TypeTree};
 ghost use Rattle.wave_wasm.specs.Borrowed.{shown};
+ghost use Rattle.wave_grammar.specs.FaultOrder.{Order};
 ghost use Rattle.wave_syntax.specs.NodeTree.{NodeTree, type_of, place_of};
 ghost use Rattle.wave_leaf.specs.Reading.{IsReadAs};
 ghost use Rattle.wave_decode.specs.Flat.{IsFlatAt, GivesFlatAt, IsAround};
@@ -78,8 +79,8 @@ pub(crate) fn around<V: WasmValue>(
     span: Span,
     made: Result<V, ParserError>,
 ) -> Result<V, ParserError>
-    ensures { (source : List ℕ) (n : NodeTree) (U : TypeTree) → IsFlatAt (V.Type.tree ty.now) (type_of n) U → place_of n ≡ span
-        → IsReadAs V.tree V.is_of V.is_full U source n made → IsReadAs V.tree V.is_of V.is_full (V.Type.tree ty.now) source n result }
+    ensures { (o w : Order) (source : List ℕ) (n : NodeTree) (U : TypeTree) → IsFlatAt (V.Type.tree ty.now) (type_of n) U → place_of n ≡ span
+        → IsReadAs V.tree V.is_of V.is_full o w U source n made → IsReadAs V.tree V.is_of V.is_full o w (V.Type.tree ty.now) source n result }
 {
     let val = match made {
         Ok(val) => val,

@@ -1,6 +1,7 @@
 //! Values without parts: of one token, or flags.
 ghost use Rattle.std.specs.Prelude.{ℕ, List, ◌≡◌, ◌≢◌};
 ghost use Rattle.wave_wasm.specs.Types.{TypeTree, kind_of};
+ghost use Rattle.wave_grammar.specs.FaultOrder.{Order};
 ghost use Rattle.wave_syntax.specs.NodeTree.{NodeTree, type_of, place_of};
 ghost use Rattle.wave_syntax.specs.declared.form.NodeType.TheVariants as node_type;
 ghost use Rattle.wave_decode.specs.Flat.{IsFlatAt};
@@ -127,8 +128,8 @@ pub(crate) fn refuse_flags<V: WasmValue>(
 ) -> Result<V, ParserError>
     requires kind { kind_of (V.Type.tree ty.now) ≢ WasmTypeKind.Flags }
     requires flat { (U : TypeTree) → IsFlatAt (V.Type.tree ty.now) node_type.Flags U → ⊥ }
-    ensures { (source : List ℕ) (n : NodeTree) → type_of n ≡ node_type.Flags → place_of n ≡ span
-        → IsReadAs V.tree V.is_of V.is_full (V.Type.tree ty.now) source n result }
+    ensures { (o w : Order) (source : List ℕ) (n : NodeTree) → type_of n ≡ node_type.Flags → place_of n ≡ span
+        → IsReadAs V.tree V.is_of V.is_full o w (V.Type.tree ty.now) source n result }
 {
     match ty.kind() {
         WasmTypeKind::Flags

@@ -2,6 +2,7 @@
 ghost use Rattle.std.specs.Prelude.{ℕ, List, [], ◌≡◌, IfOk, IfErr, None};
 ghost use Rattle.wave_wasm.specs.Types.{kind_of};
 ghost use Rattle.wave_wasm.specs.ConstructorContracts.{IsOfListKind};
+ghost use Rattle.wave_grammar.specs.FaultOrder.{Order};
 ghost use Rattle.wave_syntax.specs.NodeTree.{NodeTrees, node};
 ghost use Rattle.wave_syntax.specs.Shared.TypedReading.{IsOfLength, IsOtherLength};
 ghost use Rattle.wave_decode.specs.ListParts.{AreItems, element_due};
@@ -36,7 +37,7 @@ impl<'ty, V: WasmValue> Items<'ty, V::Type, V> {
     /// No items, of a list of the type.
     pub(crate) fn new(alloc: Global, ty: &'ty V::Type) -> Self
         requires { IsOfListKind (kind_of (V.Type.tree ty.now)) }
-        ensures { (source : List ℕ) → AreItems V.Type.tree V.tree V.is_of V.is_full (V.Type.tree ty.now) source [] result }
+        ensures { (w : Order) (source : List ℕ) → AreItems V.Type.tree V.tree V.is_of V.is_full w (V.Type.tree ty.now) source [] result }
     {
         let element = ty.list_element_type().unwrap();
         Items {

@@ -1,6 +1,7 @@
 //! Maps, whose keys and values are read in turn.
 ghost use Rattle.std.specs.Prelude.{ℕ, List, [], ◌≡◌, Ok, None, IfOk};
 ghost use Rattle.wave_wasm.specs.Types.{kind_of};
+ghost use Rattle.wave_grammar.specs.FaultOrder.{Order};
 ghost use Rattle.wave_syntax.specs.NodeTree.{node, no_nodes};
 ghost use Rattle.wave_leaf.specs.Reading.{IsReadAs};
 ghost use Rattle.wave_decode.specs.MapParts.{AreEntries, value_type_due};
@@ -30,7 +31,7 @@ impl<'ty, V: WasmValue> Entries<'ty, V::Type, V> {
     /// No entries of a map of the type.
     pub(crate) fn new(alloc: Global, ty: &'ty V::Type) -> Self
         requires { kind_of (V.Type.tree ty.now) ≡ WasmTypeKind.Map }
-        ensures { (source : List ℕ) → AreEntries V.Type.tree V.tree V.is_of V.is_full (V.Type.tree ty.now) source [] result }
+        ensures { (w : Order) (source : List ℕ) → AreEntries V.Type.tree V.tree V.is_of V.is_full w (V.Type.tree ty.now) source [] result }
     {
         let (key_type, value_type) = ty.map_key_value_types().unwrap();
         Entries {
@@ -109,7 +110,7 @@ pub(crate) fn read_no_entries<V: WasmValue>(
     span: Span,
 ) -> Result<V, ParserError>
     requires { kind_of (V.Type.tree ty.now) ≡ WasmTypeKind.Map }
-    ensures { (source : List ℕ) → IsReadAs V.tree V.is_of V.is_full (V.Type.tree ty.now) source (node NodeType.EmptySet span no_nodes) result }
+    ensures { (o w : Order) (source : List ℕ) → IsReadAs V.tree V.is_of V.is_full o w (V.Type.tree ty.now) source (node NodeType.EmptySet span no_nodes) result }
 {
     match V::make_map(alloc, ty, Vec::new(alloc)) {
         Ok(val) => Ok(val),

@@ -1,6 +1,7 @@
 //! Options, read at their types.
 ghost use Rattle.std.specs.Prelude.{ℕ, List, [], ◌≡◌, IfOk, None};
 ghost use Rattle.wave_wasm.specs.Types.{kind_of};
+ghost use Rattle.wave_grammar.specs.FaultOrder.{Order};
 ghost use Rattle.wave_syntax.specs.declared.form.NodeType.TheVariants as node_type;
 ghost use Rattle.wave_leaf.specs.Leaves.{leaf_node};
 ghost use Rattle.wave_leaf.specs.Reading.{IsReadAs};
@@ -30,7 +31,7 @@ impl<'ty, V: WasmValue> SomePayload<'ty, V::Type, V> {
     /// Nothing yet, of a value of the type.
     pub(crate) fn new(ty: &'ty V::Type) -> Self
         requires { kind_of (V.Type.tree ty.now) ≡ WasmTypeKind.Option }
-        ensures { (source : List ℕ) → AreOfSome V.Type.tree V.tree V.is_of V.is_full (V.Type.tree ty.now) source [] result }
+        ensures { (w : Order) (source : List ℕ) → AreOfSome V.Type.tree V.tree V.is_of V.is_full w (V.Type.tree ty.now) source [] result }
     {
         SomePayload {
             ty,
@@ -80,7 +81,7 @@ pub(crate) fn read_none<V: WasmValue>(
 ) -> Result<V, ParserError>
     requires form { leaf.now.ty ≡ node_type.OptionNone }
     requires kind { kind_of (V.Type.tree ty.now) ≡ WasmTypeKind.Option }
-    ensures { (source : List ℕ) → IsReadAs V.tree V.is_of V.is_full (V.Type.tree ty.now) source (leaf_node leaf.now) result }
+    ensures { (o w : Order) (source : List ℕ) → IsReadAs V.tree V.is_of V.is_full o w (V.Type.tree ty.now) source (leaf_node leaf.now) result }
 {
     leaf.or_error_here(V::make_option(alloc, ty, None))
 }

@@ -4,6 +4,7 @@ ghost use Rattle.wave_wasm.specs.Types.{TypeTree, kind_of};
 ghost use Rattle.wave_wasm.specs.ConstructorContracts.{IsOfListKind};
 ghost use Rattle.wave_wasm.specs.Borrowed.{shown};
 ghost use Rattle.wave_grammar.specs.SpannedTree.{slice};
+ghost use Rattle.wave_grammar.specs.FaultOrder.{Order, in_text};
 ghost use Rattle.wave_syntax.specs.NodeTree.{NodeTree, node, no_nodes, node_trees};
 ghost use Rattle.wave_syntax.specs.NodeParts.{TakesKey, TakesPart};
 ghost use Rattle.wave_leaf.specs.PlainReading.{IsPlain};
@@ -229,9 +230,9 @@ impl<'ty, V: WasmValue> Parts<'ty, V::Type, V> {
         span: Span,
         text: &str,
     ) -> Result<(), AllocError>
-        ensures grown { IfOk result (λ _. (T : TypeTree) (source : List ℕ) (of : NodeType) (children : List NodeTree)
-            → text.now ≡ slice source span → TakesKey of children → AreParts V.Type.tree V.tree V.is_of V.is_full T source of children self.old
-            → AreParts V.Type.tree V.tree V.is_of V.is_full T source of (children ++ node ty span no_nodes ∷ []) self.new) }
+        ensures grown { IfOk result (λ _. (w : Order) (T : TypeTree) (source : List ℕ) (of : NodeType) (children : List NodeTree)
+            → text.now ≡ slice source span → TakesKey of children → AreParts V.Type.tree V.tree V.is_of V.is_full w T source of children self.old
+            → AreParts V.Type.tree V.tree V.is_of V.is_full w T source of (children ++ node ty span no_nodes ∷ []) self.new) }
         ensures bare { IsBare self.old → (self.new ≡ self.old) × IsOk result }
     {
         let found = match self {
@@ -252,10 +253,10 @@ impl<'ty, V: WasmValue> Parts<'ty, V::Type, V> {
         alloc: Global,
         made: Result<V, Failure>,
     ) -> Result<(), AllocError>
-        ensures grown { IfOk result (λ _. (T : TypeTree) (source : List ℕ) (of : NodeType) (children : List NodeTree) (n : NodeTree)
-            → TakesPart of children → AreParts V.Type.tree V.tree V.is_of V.is_full T source of children self.old
-            → IsReadWhereDue V.tree V.is_of V.is_full (shown V.Type.tree (next_due self.old)) source n made
-            → AreParts V.Type.tree V.tree V.is_of V.is_full T source of (children ++ n ∷ []) self.new) }
+        ensures grown { IfOk result (λ _. (w : Order) (T : TypeTree) (source : List ℕ) (of : NodeType) (children : List NodeTree) (n : NodeTree)
+            → TakesPart of children → AreParts V.Type.tree V.tree V.is_of V.is_full w T source of children self.old
+            → IsReadWhereDue V.tree V.is_of V.is_full w w (shown V.Type.tree (next_due self.old)) source n made
+            → AreParts V.Type.tree V.tree V.is_of V.is_full w T source of (children ++ n ∷ []) self.new) }
         ensures bare { IsBare self.old → (self.new ≡ self.old) × IsOk result }
     {
         match self {
@@ -268,10 +269,10 @@ impl<'ty, V: WasmValue> Parts<'ty, V::Type, V> {
     #[inline(never)]
     fn with_other_part(&mut self, alloc: Global, made: Result<V, Failure>) -> Result<(), AllocError>
         requires { AreNoItems self.now }
-        ensures grown { IfOk result (λ _. (T : TypeTree) (source : List ℕ) (of : NodeType) (children : List NodeTree) (n : NodeTree)
-            → TakesPart of children → AreParts V.Type.tree V.tree V.is_of V.is_full T source of children self.old
-            → IsReadWhereDue V.tree V.is_of V.is_full (shown V.Type.tree (next_due self.old)) source n made
-            → AreParts V.Type.tree V.tree V.is_of V.is_full T source of (children ++ n ∷ []) self.new) }
+        ensures grown { IfOk result (λ _. (w : Order) (T : TypeTree) (source : List ℕ) (of : NodeType) (children : List NodeTree) (n : NodeTree)
+            → TakesPart of children → AreParts V.Type.tree V.tree V.is_of V.is_full w T source of children self.old
+            → IsReadWhereDue V.tree V.is_of V.is_full w w (shown V.Type.tree (next_due self.old)) source n made
+            → AreParts V.Type.tree V.tree V.is_of V.is_full w T source of (children ++ n ∷ []) self.new) }
         ensures bare { IsBare self.old → (self.new ≡ self.old) × IsOk result }
     {
         let val = match made {
@@ -300,10 +301,10 @@ impl<'ty, V: WasmValue> Parts<'ty, V::Type, V> {
     #[inline(never)]
     fn with_refused(&mut self, alloc: Global, failure: Failure) -> Result<(), AllocError>
         requires { AreNoItems self.now }
-        ensures grown { IfOk result (λ _. (T : TypeTree) (source : List ℕ) (of : NodeType) (children : List NodeTree) (n : NodeTree)
-            → TakesPart of children → AreParts V.Type.tree V.tree V.is_of V.is_full T source of children self.old
-            → IsReadWhereDue V.tree V.is_of V.is_full (shown V.Type.tree (next_due self.old)) source n (Err failure)
-            → AreParts V.Type.tree V.tree V.is_of V.is_full T source of (children ++ n ∷ []) self.new) }
+        ensures grown { IfOk result (λ _. (w : Order) (T : TypeTree) (source : List ℕ) (of : NodeType) (children : List NodeTree) (n : NodeTree)
+            → TakesPart of children → AreParts V.Type.tree V.tree V.is_of V.is_full w T source of children self.old
+            → IsReadWhereDue V.tree V.is_of V.is_full w w (shown V.Type.tree (next_due self.old)) source n (Err failure)
+            → AreParts V.Type.tree V.tree V.is_of V.is_full w T source of (children ++ n ∷ []) self.new) }
         ensures bare { IsBare self.old → (self.new ≡ self.old) × IsOk result }
     {
         let found = match self {
@@ -331,9 +332,9 @@ impl<'ty, V: WasmValue> Parts<'ty, V::Type, V> {
 
     /// The value of these parts, which stands here.
     pub(crate) fn whole(self, alloc: Global, span: Span) -> Result<V, ParserError>
-        ensures read { (T : TypeTree) (source : List ℕ) (of : NodeType) (children : List NodeTree)
-            → AreParts V.Type.tree V.tree V.is_of V.is_full T source of children self.entry
-            → IsReadAs V.tree V.is_of V.is_full T source (node of span (node_trees children)) result }
+        ensures read { (w : Order) (T : TypeTree) (source : List ℕ) (of : NodeType) (children : List NodeTree)
+            → AreParts V.Type.tree V.tree V.is_of V.is_full w T source of children self.entry
+            → IsReadAs V.tree V.is_of V.is_full in_text w T source (node of span (node_trees children)) result }
         ensures plain { (T : TypeTree) → IsPlain T → IsSimpleAt V.Type.tree T self.entry → IfErr result (λ e. Says e why.InvalidType span None) }
     {
         match self {
@@ -354,8 +355,8 @@ impl<'ty, V: WasmValue> Parts<'ty, V::Type, V> {
 /// No flags, or no entries, where `{}` stands here.
 #[inline(never)]
 fn read_empty<V: WasmValue>(alloc: Global, ty: &V::Type, span: Span) -> Result<V, ParserError>
-    ensures { (source : List ℕ) → TakesEmptySet (V.Type.tree ty.now)
-        → IsReadAs V.tree V.is_of V.is_full (V.Type.tree ty.now) source (node node_type.EmptySet span no_nodes) result }
+    ensures { (o w : Order) (source : List ℕ) → TakesEmptySet (V.Type.tree ty.now)
+        → IsReadAs V.tree V.is_of V.is_full o w (V.Type.tree ty.now) source (node node_type.EmptySet span no_nodes) result }
 {
     match ty.kind() {
         WasmTypeKind::Flags => read_no_flags(alloc, ty, span),

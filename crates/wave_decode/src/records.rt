@@ -2,6 +2,7 @@
 ghost use Rattle.std.specs.Prelude.{ℕ, List, [], ◌≡◌, Ok, None, IfOk, IfErr, IfSome, map, MatchOption, MatchResult, Some, set, slice_get};
 ghost use Rattle.wave_wasm.specs.Names.{IsNoneOf};
 ghost use Rattle.wave_wasm.specs.Types.{HasDistinctNames, kind_of};
+ghost use Rattle.wave_grammar.specs.FaultOrder.{Order};
 ghost use Rattle.wave_syntax.specs.NodeTree.{NodeTree, place_of};
 ghost use Rattle.wave_syntax.specs.Shared.ErrorSpans.{RefusesAt};
 ghost use Rattle.wave_syntax.specs.Shared.NodeFields.{IsLeftOut, IsMissing};
@@ -137,7 +138,7 @@ impl<'ty, V: WasmValue> Fields<'ty, V::Type, V> {
     /// No values, for the fields of a record of the type.
     pub(crate) fn new(alloc: Global, ty: &'ty V::Type) -> Result<Self, AllocError>
         requires { kind_of (V.Type.tree ty.now) ≡ WasmTypeKind.Record }
-        ensures { IfOk result (λ new. (source : List ℕ) → AreFields V.Type.tree V.tree V.is_of V.is_full (V.Type.tree ty.now) source [] new) }
+        ensures { IfOk result (λ new. (w : Order) (source : List ℕ) → AreFields V.Type.tree V.tree V.is_of V.is_full w (V.Type.tree ty.now) source [] new) }
     {
         let types = ty.record_fields(alloc)?;
         let mut fields = Vec::with_capacity(alloc, types.len())?;

@@ -1,15 +1,16 @@
 //! Results, read at their types.
 ghost use Rattle.std.specs.Prelude.{ℕ, List, [], ◌≡◌, IfOk, IfErr, None};
-ghost use Rattle.wave_wasm.specs.Types.{kind_of};
+ghost use Rattle.wave_wasm.specs.Types.{TypeTree, kind_of};
 ghost use Rattle.wave_wasm.specs.Borrowed.{shown};
-ghost use Rattle.wave_syntax.specs.NodeTree.{NodeTree, place_of};
+ghost use Rattle.wave_grammar.specs.FaultOrder.{Order};
+ghost use Rattle.wave_syntax.specs.NodeTree.{NodeTree, node, node_trees, place_of};
 ghost use Rattle.wave_syntax.specs.NodeAccessors.{first_of};
 ghost use Rattle.wave_syntax.specs.Shared.TypedReading.{IsCaused, IsPayloadOf, AnswersPayload};
 ghost use Rattle.wave_syntax.specs.Shared.ErrorSpans.{RefusesInPart};
 ghost use Rattle.wave_leaf.specs.Leaves.{leaf_node};
 ghost use Rattle.wave_leaf.specs.Reading.{IsReadAs};
 ghost use Rattle.wave_decode.specs.Payloads.{AreOfResult, IsReadPayload, payload_cause, result_node, result_name, result_with, result_due};
-ghost use Rattle.wave_decode.specs.PartSteps.{AddsPart, IsWholeOf};
+ghost use Rattle.wave_decode.specs.PartSteps.{AddsPart};
 
 use crate::fault::or_error_at;
 use std::alloc::{AllocError, Global};
@@ -36,7 +37,7 @@ impl<'ty, V: WasmValue> ResultPayload<'ty, V::Type, V> {
     /// Nothing yet, of `ok` or of `err` at the type.
     pub(crate) fn new(ty: &'ty V::Type, is_ok: bool) -> Self
         requires { kind_of (V.Type.tree ty.now) ≡ WasmTypeKind.Result }
-        ensures parts { (source : List ℕ) → AreOfResult V.Type.tree V.tree V.is_of V.is_full (V.Type.tree ty.now) source [] result }
+        ensures parts { (w : Order) (source : List ℕ) → AreOfResult V.Type.tree V.tree V.is_of V.is_full w (V.Type.tree ty.now) source [] result }
         ensures case { result.is_ok ≡ is_ok }
     {
         let (ok, err) = ty.result_types().unwrap();
@@ -72,7 +73,8 @@ impl<'ty, V: WasmValue> ResultPayload<'ty, V::Type, V> {
 
     /// `ok` or `err` with the payload that was read, or without one, at this place.
     pub(crate) fn whole(self, alloc: Global, span: Span) -> Result<V, ParserError>
-        ensures { IsWholeOf AreOfResult V.Type.tree V.tree V.is_of V.is_full (result_node self.entry.is_ok) self.entry span result }
+        ensures { (o w : Order) (T : TypeTree) (source : List ℕ) (children : List NodeTree) → AreOfResult V.Type.tree V.tree V.is_of V.is_full w T source children self.entry
+            → IsReadAs V.tree V.is_of V.is_full o w T source (node (result_node self.entry.is_ok) span (node_trees children)) result }
     {
         let ResultPayload {
             ty,
@@ -110,7 +112,7 @@ pub(crate) fn read_alone<V: WasmValue>(
 ) -> Result<V, ParserError>
     requires form { leaf.now.ty ≡ result_node is_ok }
     requires kind { kind_of (V.Type.tree ty.now) ≡ WasmTypeKind.Result }
-    ensures { (source : List ℕ) → IsReadAs V.tree V.is_of V.is_full (V.Type.tree ty.now) source (leaf_node leaf.now) result }
+    ensures { (o w : Order) (source : List ℕ) → IsReadAs V.tree V.is_of V.is_full o w (V.Type.tree ty.now) source (leaf_node leaf.now) result }
 {
     let payload = ResultPayload::new(ty, is_ok);
     payload.whole(alloc, leaf.span.start..leaf.span.end)
@@ -124,11 +126,11 @@ fn read_payload<V: WasmValue>(
     made: Option<Result<V, Failure>>,
     span: Span,
 ) -> Result<Option<V>, ParserError>
-    ensures answer { (source : List ℕ) (children : List NodeTree) (n : NodeTree) → place_of n ≡ span
-        → IsReadPayload V.tree V.is_of V.is_full (shown V.Type.tree due.entry) source children made
-        → AnswersPayload V.tree V.is_of V.is_full name.now (shown V.Type.tree due.entry) source n (first_of children) result }
-    ensures within { (source : List ℕ) (children : List NodeTree) (n : NodeTree) → place_of n ≡ span
-        → IsReadPayload V.tree V.is_of V.is_full (shown V.Type.tree due.entry) source children made
+    ensures answer { (w : Order) (source : List ℕ) (children : List NodeTree) (n : NodeTree) → place_of n ≡ span
+        → IsReadPayload V.tree V.is_of V.is_full w (shown V.Type.tree due.entry) source children made
+        → AnswersPayload V.tree V.is_of V.is_full w name.now (shown V.Type.tree due.entry) source n (first_of children) result }
+    ensures within { (w : Order) (source : List ℕ) (children : List NodeTree) (n : NodeTree) → place_of n ≡ span
+        → IsReadPayload V.tree V.is_of V.is_full w (shown V.Type.tree due.entry) source children made
         → IsPayloadOf source (first_of children) → IfErr result (RefusesInPart n (first_of children)) }
 {
     match due {

@@ -1,8 +1,9 @@
 //! Tuples, read at their types.
-ghost use Rattle.std.specs.Prelude.{ℕ, List, [], ◌≡◌, ◌≢◌, Ok, Err, None, length, IfOk, IfSome};
+ghost use Rattle.std.specs.Prelude.{ℕ, List, [], ◌≡◌, ◌≢◌, Ok, Err, None, length, IfOk, IfSome, MatchOption};
 ghost use Rattle.wave_wasm.specs.Types.{kind_of};
 ghost use Rattle.wave_wasm.specs.ValueErrors.{wrong_number};
 ghost use Rattle.wave_lex.specs.Errors.{caused, refusal_of};
+ghost use Rattle.wave_grammar.specs.FaultOrder.{Order};
 ghost use Rattle.wave_decode.specs.TupleParts.{IsRow, item_due};
 ghost use Rattle.wave_decode.specs.PartSteps.{AddsPart, IsWholeOf};
 
@@ -31,7 +32,7 @@ impl<'ty, V: WasmValue> Row<'ty, V::Type, V> {
     /// No items, of a tuple of the type.
     pub(crate) fn new(alloc: Global, ty: &'ty V::Type) -> Result<Self, AllocError>
         requires { kind_of (V.Type.tree ty.now) ≡ WasmTypeKind.Tuple }
-        ensures { IfOk result (λ new. (source : List ℕ) → IsRow V.Type.tree V.tree V.is_of V.is_full (V.Type.tree ty.now) source [] new) }
+        ensures { IfOk result (λ new. (w : Order) (source : List ℕ) → IsRow V.Type.tree V.tree V.is_of V.is_full w (V.Type.tree ty.now) source [] new) }
     {
         let types = ty.tuple_element_types(alloc)?;
         let items = Vec::with_capacity(alloc, types.len())?;
@@ -88,7 +89,7 @@ impl<'ty, V: WasmValue> Row<'ty, V::Type, V> {
     /// The refusal of a tuple that stands here and has this many items, where the type has another
     /// number of them.
     pub(crate) fn miscounted(&self, alloc: Global, span: Span, count: usize) -> Option<Failure>
-        ensures count { IfSome result (λ _. count ≢ length self.now.types.items) }
+        ensures count { MatchOption result (count ≡ length self.now.types.items) (λ _. count ≢ length self.now.types.items) }
         ensures refusal { IfSome result (λ failure. refusal_of failure ≡ caused (wrong_number (length self.now.types.items) count)) }
         ensures span { IfSome result (λ failure. failure.span ≡ span) }
     {

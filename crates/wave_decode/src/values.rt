@@ -1,15 +1,19 @@
 //! The builder that reads values of a type.
-ghost use Rattle.std.specs.Prelude.{ℕ, ◌≡◌, List, [], length, Option, Some, Err, IfSome};
+ghost use Rattle.std.specs.Prelude.{ℕ, ◌≡◌, ◌++◌, List, [], ◌∷◌, length, Option, Some, Err, IfOk, IfErr, IfSome, IfNone};
 ghost use Rattle.wave_wasm.specs.Types.{TypeTree, kind_of};
 ghost use Rattle.wave_wasm.specs.Borrowed.{shown};
-ghost use Rattle.wave_syntax.specs.NodeParts.{IsOfParts};
-ghost use Rattle.wave_syntax.specs.NodeTree.{NodeTree, node, node_trees, type_of, place_of};
+ghost use Rattle.wave_grammar.specs.SpannedTree.{slice};
+ghost use Rattle.wave_grammar.specs.FaultOrder.{Order, in_text, by_type};
+ghost use Rattle.wave_syntax.specs.FlagParts.{AreFlagsOf, flag_nodes};
+ghost use Rattle.wave_syntax.specs.NodeParts.{IsOfParts, IsOneToken, TakesKey, TakesPart};
+ghost use Rattle.wave_syntax.specs.NodeTree.{NodeTree, node, no_nodes, node_trees, type_of, place_of};
 ghost use Rattle.wave_syntax.specs.declared.form.NodeType.{NodeType};
 ghost use Rattle.wave_syntax.specs.declared.form.NodeType.TheVariants as node_type;
-ghost use Rattle.wave_leaf.specs.PlainReading.{IsReadSparing};
+ghost use Rattle.wave_leaf.specs.PlainReading.{IsReadSparing, TakesMemory};
 ghost use Rattle.wave_leaf.specs.Reading.{IsReadAs};
-ghost use Rattle.wave_decode.specs.Flat.{IsAround, IsAroundWhereDue};
+ghost use Rattle.wave_decode.specs.Flat.{IsAround, IsAroundWhereDue, IsCounted, ReadsFlags, ReadsNoRecord};
 ghost use Rattle.wave_decode.specs.KeptParts.{AreKeptWhereDue};
+ghost use Rattle.wave_decode.specs.PartsOfKinds.{AreDoomedAtOnce, next_due};
 
 use crate::fault::Fault;
 use crate::flat::{around, type_of_parts};
@@ -46,6 +50,7 @@ impl<'ty, V: WasmValue> Values<'ty, V> {
         ensures node { IfSome result (λ _. node ≡ node_type.TupleSet) }
         ensures around { IfSome result (λ found. IsAroundWhereDue V.Type.tree (shown V.Type.tree self.entry.due) node_type.TupleSet found.0 found.1) }
         ensures kind { IfSome result (λ found. kind_of (V.Type.tree found.1.now) ≡ WasmTypeKind.Record) }
+        ensures none { IfNone result ((T : TypeTree) → shown V.Type.tree self.entry.due ≡ Some T → ReadsNoRecord T node) }
     {
         if node != NodeType::TupleSet {
             return None;
@@ -57,10 +62,38 @@ impl<'ty, V: WasmValue> Values<'ty, V> {
         }
     }
 
+    /// What is read of a node of one token, of this text.
+    #[inline(always)]
+    pub fn token(self, alloc: Global, ty: NodeType, span: Span, text: &str) -> Result<V, Failure>
+        ensures { (o w : Order) (source : List ℕ) → IsOneToken ty → text.now ≡ slice source span
+            → IsReadSparing V.tree V.is_of V.is_full o w (shown V.Type.tree self.entry.due) source (node ty span no_nodes) result }
+    {
+        let leaf = Leaf { ty, span, text };
+        match self.due {
+            Some(due) => match leaf.read_soon(alloc, due) {
+                Some(val) => Ok(val),
+                None => kept(alloc, read_leaf(&leaf, alloc, due)),
+            },
+            None => Err(Failure::plain(ParserErrorKind::InvalidType, leaf.span)),
+        }
+    }
+
+    /// What is read of a node of these flags.
+    pub fn names(self, alloc: Global, span: Span, flags: BTreeMap<&str, Span>) -> Result<V, Failure>
+        ensures { (o w : Order) (source : List ℕ) → AreFlagsOf source flags.entry
+            → IsReadSparing V.tree V.is_of V.is_full o w (shown V.Type.tree self.entry.due) source (node node_type.Flags span (flag_nodes flags.entry)) result }
+    {
+        match self.due {
+            Some(due) => kept(alloc, flags_at(alloc, due, span, flags)),
+            None => Err(Failure::plain(ParserErrorKind::InvalidType, span)),
+        }
+    }
+
     /// What is read of a node of flags that stands here, where no flags are due.
     pub fn no_flags(self, alloc: Global, span: Span) -> Option<Result<V, Failure>>
-        ensures { IfSome result (λ made. (source : List ℕ) (n : NodeTree) → type_of n ≡ node_type.Flags → place_of n ≡ span
-            → IsReadSparing V.tree V.is_of V.is_full (shown V.Type.tree self.entry.due) source n made) }
+        ensures read { IfSome result (λ made. (o w : Order) (source : List ℕ) (n : NodeTree) → type_of n ≡ node_type.Flags → place_of n ≡ span
+            → IsReadSparing V.tree V.is_of V.is_full o w (shown V.Type.tree self.entry.due) source n made) }
+        ensures due { IfNone result ((T : TypeTree) → shown V.Type.tree self.entry.due ≡ Some T → ReadsFlags T) }
     {
         let due = match self.due {
             Some(due) => due,
@@ -73,6 +106,22 @@ impl<'ty, V: WasmValue> Values<'ty, V> {
         let made = refuse_flags::<V>(alloc, ty, span.start..span.end);
         Some(surrounded(alloc, around, ty, span, made))
     }
+
+    /// No parts yet, of a node of this type, which has parts.
+    #[inline(always)]
+    pub fn begin(self, alloc: Global, ty: NodeType) -> Kept<'ty, V::Type, V>
+        ensures begun { (w : Order) (source : List ℕ) → IsOfParts ty
+            → AreKeptWhereDue V.Type.tree V.tree V.is_of V.is_full w (shown V.Type.tree self.entry.due) source ty [] result }
+        ensures doomed { (T : TypeTree) → shown V.Type.tree self.entry.due ≡ Some T → AreDoomedAtOnce V.Type.tree V.tree V.is_of V.is_full T ty result.parts }
+    {
+        match self.due {
+            Some(due) => Kept::new(alloc, due, ty),
+            None => Kept {
+                around: None,
+                parts: Parts::Faulty(Fault::Kind(ParserErrorKind::InvalidType)),
+            },
+        }
+    }
 }
 
 /// What was read of a node that stands there, with the option or the result that is around it.
@@ -83,8 +132,8 @@ pub fn surrounded<V: WasmValue>(
     span: Span,
     made: Result<V, ParserError>,
 ) -> Result<V, Failure>
-    ensures { (T : TypeTree) (source : List ℕ) (n : NodeTree) → IsAround V.Type.tree T (type_of n) whole.entry ty.entry → place_of n ≡ span
-        → IsReadAs V.tree V.is_of V.is_full (V.Type.tree ty.now) source n made → IsReadAs V.tree V.is_of V.is_full T source n result }
+    ensures { (o w : Order) (T : TypeTree) (source : List ℕ) (n : NodeTree) → IsAround V.Type.tree T (type_of n) whole.entry ty.entry → place_of n ≡ span
+        → IsReadAs V.tree V.is_of V.is_full o w (V.Type.tree ty.now) source n made → IsReadAs V.tree V.is_of V.is_full o w T source n result }
 {
     match whole {
         Some(whole) => kept(alloc, around(alloc, whole, span, made)),
@@ -103,8 +152,9 @@ impl<'ty, V: WasmValue> Kept<'ty, V::Type, V> {
     /// No parts yet, of a value of the type at a node of this one.
     #[inline(always)]
     fn new(alloc: Global, ty: &'ty V::Type, of: NodeType) -> Self
-        ensures { (source : List ℕ) → IsOfParts of
-            → AreKeptWhereDue V.Type.tree V.tree V.is_of V.is_full (Some (V.Type.tree ty.now)) source of [] result }
+        ensures begun { (w : Order) (source : List ℕ) → IsOfParts of
+            → AreKeptWhereDue V.Type.tree V.tree V.is_of V.is_full w (Some (V.Type.tree ty.now)) source of [] result }
+        ensures doomed { AreDoomedAtOnce V.Type.tree V.tree V.is_of V.is_full (V.Type.tree ty.now) of result.parts }
     {
         let (around, due) = type_of_parts(ty, of);
         Kept {
@@ -113,16 +163,76 @@ impl<'ty, V: WasmValue> Kept<'ty, V::Type, V> {
         }
     }
 
-    /// The refusal of a tuple that stands here and has this many items, where its type has another
-    /// number of them.
-    pub fn miscounted(&self, alloc: Global, span: Span, count: usize) -> Option<Failure>
-        ensures { IfSome result (λ failure. (due : Option TypeTree) (source : List ℕ) (ty : NodeType) (children : List NodeTree) → length children ≡ count
-            → AreKeptWhereDue V.Type.tree V.tree V.is_of V.is_full due source ty [] self.now
-            → IsReadSparing V.tree V.is_of V.is_full due source (node ty span (node_trees children)) (Err failure)) }
+    /// The refusal of a node that stands here and has this many parts, before any of them is read: where
+    /// the type takes no such form, or tuples of another number of items.
+    pub fn refused(&self, alloc: Global, span: Span, count: usize) -> Option<Failure>
+        ensures refused { IfSome result (λ failure. (w : Order) (due : Option TypeTree) (source : List ℕ) (ty : NodeType) (children : List NodeTree)
+            → IsOfParts ty → length children ≡ count → AreKeptWhereDue V.Type.tree V.tree V.is_of V.is_full w due source ty [] self.now
+            → ((T : TypeTree) → due ≡ Some T → AreDoomedAtOnce V.Type.tree V.tree V.is_of V.is_full T ty self.now.parts)
+            → IsReadSparing V.tree V.is_of V.is_full by_type w due source (node ty span (node_trees children)) (Err failure)) }
+        ensures counted { IfNone result ((w : Order) (T : TypeTree) (source : List ℕ) (ty : NodeType) → IsOfParts ty
+            → AreKeptWhereDue V.Type.tree V.tree V.is_of V.is_full w (Some T) source ty [] self.now
+            → AreDoomedAtOnce V.Type.tree V.tree V.is_of V.is_full T ty self.now.parts → IsCounted T ty count) }
     {
         match &self.parts {
+            Parts::Faulty(fault) => fault.of_kind(span),
             Parts::Row(row) => row.miscounted(alloc, span, count),
             _ => None,
+        }
+    }
+
+    /// The builder of the part that comes next.
+    pub fn next(&self) -> Values<'ty, V>
+        ensures { result.due ≡ next_due self.now.parts }
+    {
+        Values {
+            due: self.parts.next(),
+        }
+    }
+
+    /// Adds a key or the label of a case.
+    pub fn with_key(
+        &mut self,
+        alloc: Global,
+        ty: NodeType,
+        span: Span,
+        text: &str,
+    ) -> Result<(), AllocError>
+        ensures kept { IfOk result (λ _. (w : Order) (due : Option TypeTree) (source : List ℕ) (whole : NodeType) (children : List NodeTree)
+            → text.now ≡ slice source span → TakesKey whole children
+            → AreKeptWhereDue V.Type.tree V.tree V.is_of V.is_full w due source whole children self.old
+            → AreKeptWhereDue V.Type.tree V.tree V.is_of V.is_full w due source whole (children ++ node ty span no_nodes ∷ []) self.new) }
+        ensures memory { IfErr result (λ _. (w : Order) (due : Option TypeTree) (source : List ℕ) (whole : NodeType) (children : List NodeTree)
+            → AreKeptWhereDue V.Type.tree V.tree V.is_of V.is_full w due source whole children self.old → TakesMemory due) }
+    {
+        self.parts.with_key(alloc, ty, span, text)
+    }
+
+    /// Adds a part, which was read by the builder of the next part.
+    #[inline(always)]
+    pub fn with_part(&mut self, alloc: Global, made: Result<V, Failure>) -> Result<(), AllocError>
+        ensures kept { IfOk result (λ _. (w : Order) (due : Option TypeTree) (source : List ℕ) (whole : NodeType) (children : List NodeTree) (n : NodeTree)
+            → TakesPart whole children → AreKeptWhereDue V.Type.tree V.tree V.is_of V.is_full w due source whole children self.old
+            → IsReadSparing V.tree V.is_of V.is_full w w (shown V.Type.tree (next_due self.old.parts)) source n made
+            → AreKeptWhereDue V.Type.tree V.tree V.is_of V.is_full w due source whole (children ++ n ∷ []) self.new) }
+        ensures memory { IfErr result (λ _. (w : Order) (due : Option TypeTree) (source : List ℕ) (whole : NodeType) (children : List NodeTree)
+            → AreKeptWhereDue V.Type.tree V.tree V.is_of V.is_full w due source whole children self.old → TakesMemory due) }
+    {
+        self.parts.with_part(alloc, made)
+    }
+
+    /// What is read of a node that stands here and has these parts.
+    pub fn whole(self, alloc: Global, span: Span) -> Result<V, Failure>
+        ensures { (w : Order) (due : Option TypeTree) (source : List ℕ) (ty : NodeType) (children : List NodeTree)
+            → AreKeptWhereDue V.Type.tree V.tree V.is_of V.is_full w due source ty children self.entry
+            → IsReadSparing V.tree V.is_of V.is_full in_text w due source (node ty span (node_trees children)) result }
+    {
+        let place = span.start..span.end;
+        let Kept { around: ty, parts } = self;
+        let made = parts.whole(alloc, span);
+        match ty {
+            Some(ty) => kept(alloc, around(alloc, ty, place, made)),
+            None => kept(alloc, made),
         }
     }
 }
@@ -133,50 +243,39 @@ impl<'ty, V: WasmValue> Builder for Values<'ty, V> {
     type Parts = Kept<'ty, V::Type, V>;
 
     ghost use Rattle.wave_wasm.specs.Borrowed.{shown};
+    ghost use Rattle.wave_grammar.specs.FaultOrder.{in_text};
     ghost use Rattle.wave_leaf.specs.PlainReading.{IsReadSparing, TakesMemory};
     ghost use Rattle.wave_decode.specs.KeptParts.{AreKeptWhereDue, next_takes};
     ghost use Rattle.wave_decode.specs.PartsOfKinds.{next_due};
 
-    ghost is_made = { λ builder source n made. IsReadSparing V.tree V.is_of V.is_full (shown V.Type.tree builder.due) source n made };
+    ghost is_made = { λ builder source n made. IsReadSparing V.tree V.is_of V.is_full in_text in_text (shown V.Type.tree builder.due) source n made };
 
     ghost are_parts = { λ builder source ty children kept.
-        AreKeptWhereDue V.Type.tree V.tree V.is_of V.is_full (shown V.Type.tree builder.due) source ty children kept };
+        AreKeptWhereDue V.Type.tree V.tree V.is_of V.is_full in_text (shown V.Type.tree builder.due) source ty children kept };
 
     ghost next = { λ builder kept. record builder { due = next_due kept.parts } };
 
     ghost takes_memory = { λ builder. TakesMemory (shown V.Type.tree builder.due) };
 
     ghost next_takes = { λ builder source ty children kept are takes.
-        next_takes V.Type.tree V.tree V.is_of V.is_full (shown V.Type.tree builder.due) source ty children kept are takes };
+        next_takes V.Type.tree V.tree V.is_of V.is_full in_text (shown V.Type.tree builder.due) source ty children kept are takes };
 
     #[inline(always)]
     fn leaf(self, alloc: Global, ty: NodeType, span: Span, text: &str) -> Result<V, Failure> {
-        let leaf = Leaf { ty, span, text };
-        match self.due {
-            Some(due) => match leaf.read_soon(alloc, due) {
-                Some(val) => Ok(val),
-                None => kept(alloc, read_leaf(&leaf, alloc, due)),
-            },
-            None => Err(Failure::plain(ParserErrorKind::InvalidType, leaf.span)),
-        }
+        self.token(alloc, ty, span, text)
     }
 
+    #[inline(always)]
     fn parts(self, alloc: Global, ty: NodeType) -> Kept<'ty, V::Type, V> {
-        match self.due {
-            Some(due) => Kept::new(alloc, due, ty),
-            None => Kept {
-                around: None,
-                parts: Parts::Faulty(Fault::Kind(ParserErrorKind::InvalidType)),
-            },
-        }
+        self.begin(alloc, ty)
     }
 
+    #[inline(always)]
     fn part(self, parts: &Kept<'ty, V::Type, V>) -> Self {
-        Values {
-            due: parts.parts.next(),
-        }
+        parts.next()
     }
 
+    #[inline(always)]
     fn with_key(
         self,
         alloc: Global,
@@ -185,7 +284,7 @@ impl<'ty, V: WasmValue> Builder for Values<'ty, V> {
         span: Span,
         text: &str,
     ) -> Result<(), AllocError> {
-        parts.parts.with_key(alloc, ty, span, text)
+        parts.with_key(alloc, ty, span, text)
     }
 
     #[inline(always)]
@@ -195,9 +294,10 @@ impl<'ty, V: WasmValue> Builder for Values<'ty, V> {
         parts: &mut Kept<'ty, V::Type, V>,
         made: Result<V, Failure>,
     ) -> Result<(), AllocError> {
-        parts.parts.with_part(alloc, made)
+        parts.with_part(alloc, made)
     }
 
+    #[inline(always)]
     fn whole(
         self,
         alloc: Global,
@@ -205,13 +305,7 @@ impl<'ty, V: WasmValue> Builder for Values<'ty, V> {
         span: Span,
         parts: Kept<'ty, V::Type, V>,
     ) -> Result<V, Failure> {
-        let place = span.start..span.end;
-        let Kept { around: ty, parts } = parts;
-        let made = parts.whole(alloc, span);
-        match ty {
-            Some(ty) => kept(alloc, around(alloc, ty, place, made)),
-            None => kept(alloc, made),
-        }
+        parts.whole(alloc, span)
     }
 
     fn flags(
@@ -220,9 +314,6 @@ impl<'ty, V: WasmValue> Builder for Values<'ty, V> {
         span: Span,
         flags: BTreeMap<&str, Span>,
     ) -> Result<Result<V, Failure>, AllocError> {
-        match self.due {
-            Some(due) => Ok(kept(alloc, flags_at(alloc, due, span, flags))),
-            None => Ok(Err(Failure::plain(ParserErrorKind::InvalidType, span))),
-        }
+        Ok(self.names(alloc, span, flags))
     }
 }

@@ -1,9 +1,8 @@
 //! Variants, read at their types.
-ghost use Rattle.std.specs.Prelude.{ℕ, ◌≡◌, List, [], Ok, None, IfOk, IfSome, option_map};
+ghost use Rattle.std.specs.Prelude.{ℕ, ◌≡◌, List, [], Ok, None, IfOk};
 ghost use Rattle.wave_wasm.specs.Types.{kind_of};
-ghost use Rattle.wave_wasm.specs.Borrowed.{shown, shown_cases};
 ghost use Rattle.wave_wasm.specs.ValueErrors.{missing_payload};
-ghost use Rattle.wave_grammar.specs.TypedGrammar.{look_up};
+ghost use Rattle.wave_grammar.specs.FaultOrder.{Order};
 ghost use Rattle.wave_syntax.specs.NodeTree.{place_of};
 ghost use Rattle.wave_syntax.specs.declared.form.NodeType.TheVariants as node_type;
 ghost use Rattle.wave_syntax.specs.Shared.TypedReading.{IsCaused};
@@ -20,7 +19,6 @@ use wave_leaf::leaf::Leaf;
 use wave_lex::error::{ParserError, ParserErrorKind};
 use wave_lex::lex::Span;
 use wave_syntax::form::NodeType;
-use wave_syntax::typed::case_payload;
 use wave_wasm::wasm::{WasmType, WasmTypeKind, WasmValue, WasmValueError};
 
 /// What has been read of a case and its payload.
@@ -38,7 +36,7 @@ impl<'ty, V: WasmValue> CasePayload<'ty, V::Type, V> {
     /// Nothing yet, of a value of the type.
     pub(crate) fn new(ty: &'ty V::Type) -> Self
         requires { kind_of (V.Type.tree ty.now) ≡ WasmTypeKind.Variant }
-        ensures { (source : List ℕ) → AreCaseParts V.Type.tree V.tree V.is_of V.is_full (V.Type.tree ty.now) source [] result }
+        ensures { (w : Order) (source : List ℕ) → AreCaseParts V.Type.tree V.tree V.is_of V.is_full w (V.Type.tree ty.now) source [] result }
     {
         CasePayload {
             ty,
@@ -68,9 +66,8 @@ impl<'ty, V: WasmValue> CasePayload<'ty, V::Type, V> {
     ) -> Result<Option<Fault>, AllocError>
         ensures { IfOk result (AddsKey AreCaseParts V.Type.tree V.tree V.is_of V.is_full node_type.VariantWithPayload self.old ty span text.now self.new) }
     {
-        let cases = self.ty.variant_cases(alloc)?;
         let name = label_name(text);
-        match named_case(&cases, name) {
+        match self.ty.variant_case(alloc, name)? {
             Some((case, Some(payload))) => {
                 self.case = Some((case, payload));
                 Ok(None)
@@ -123,15 +120,12 @@ pub(crate) fn read_case<V: WasmValue>(
     if leaf.ty != NodeType::Label {
         return Err(leaf.error(ParserErrorKind::InvalidType));
     }
-    let cases = match ty.variant_cases(alloc) {
-        Ok(cases) => cases,
-        Err(_) => return Err(leaf.error(ParserErrorKind::OutOfMemory)),
-    };
     let name = label_name(leaf.text);
-    match case_payload(&cases, name) {
-        Some(Some(_)) => Err(no_payload(leaf, alloc, name)),
-        Some(None) => leaf.or_error_here(V::make_variant(alloc, ty, name, None)),
-        None => Err(no_case(leaf, alloc, name)),
+    match ty.variant_case(alloc, name) {
+        Ok(Some((_, Some(_)))) => Err(no_payload(leaf, alloc, name)),
+        Ok(Some((_, None))) => leaf.or_error_here(V::make_variant(alloc, ty, name, None)),
+        Ok(None) => Err(no_case(leaf, alloc, name)),
+        Err(_) => Err(leaf.error(ParserErrorKind::OutOfMemory)),
     }
 }
 
@@ -144,21 +138,4 @@ fn no_payload(leaf: &Leaf<'_>, alloc: Global, name: &str) -> ParserError
         Ok(name) => leaf.refused(WasmValueError::MissingPayload(name)),
         Err(error) => leaf.refused(WasmValueError::Memory(error)),
     }
-}
-
-/// The case of this name and what it has for the type of its payload, where there is such a case.
-fn named_case<'ty, T: WasmType>(
-    cases: &Vec<(&'ty str, Option<&'ty T>)>,
-    name: &str,
-) -> Option<(&'ty str, Option<&'ty T>)>
-    ensures name { IfSome result (λ case. case.0.now ≡ name.now) }
-    ensures payload { option_map (λ case. shown T.tree case.1) result ≡ look_up (shown_cases T.tree cases.now.items) name.now }
-{
-    for case in cases {
-        let (other, payload) = *case;
-        if name == other {
-            return Some((other, payload));
-        }
-    }
-    None
 }

@@ -10,7 +10,6 @@ pub mod Slices
 pub mod RoundTrip
 pub mod Numbers
 pub mod FieldNames
-pub mod Membership
 pub mod Display
 pub mod Equivalence
 pub mod Strings

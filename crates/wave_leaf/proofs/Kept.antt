@@ -9,16 +9,17 @@ use Rattle.wave_wasm.specs.ValueErrors.{cause_of}
 use Rattle.wave_lex.specs.Errors.{Diagnostic, Refusal, Says}
 use Rattle.wave_lex.specs.declared.error.ParserErrorKind.{ParserErrorKind}
 use Rattle.wave_lex.specs.declared.error.ParserErrorKind.TheVariants.{InvalidType, OutOfMemory}
+use Rattle.wave_grammar.specs.FaultOrder.{Order}
 use Rattle.wave_syntax.specs.NodeTree.{NodeTree}
 use Rattle.wave_syntax.specs.ErrorSpans.{LiesInNode, IsTypeKind}
 use Rattle.wave_syntax.specs.Shared.ErrorSpans.{RefusesIn}
 use Rattle.wave_leaf.specs.Reading.{IsReadAs, IsReadWhereDue}
 use Rattle.wave_leaf.specs.Failures.{IsSameOrMemory, IsKept, HasTwoTexts}
 
-module _ {V : Type 0} (tree : V → Value) (of : V → TypeTree → Type 0) (Full : TypeTree → Type 0) (T : TypeTree) (source : List ℕ) (n : NodeTree) where
+module _ {V : Type 0} (tree : V → Value) (of : V → TypeTree → Type 0) (Full : TypeTree → Type 0) (o w : Order) (T : TypeTree) (source : List ℕ) (n : NodeTree) where
   -- out of memory at the place of a refusal is one too
-  pub same_or_memory : (e f : Diagnostic) → IsReadAs tree of Full T source n (Err e) → IsSameOrMemory e f → IsReadAs tree of Full T source n (Err f)
-  same_or_memory e f h (inl same) = subst (λ (d : Diagnostic). IsReadAs tree of Full T source n (Err d)) (sym same) h
+  pub same_or_memory : (e f : Diagnostic) → IsReadAs tree of Full o w T source n (Err e) → IsSameOrMemory e f → IsReadAs tree of Full o w T source n (Err f)
+  same_or_memory e f h (inl same) = subst (λ (d : Diagnostic). IsReadAs tree of Full o w T source n (Err d)) (sym same) h
   same_or_memory e f h (inr memory) = record {
     answer = λ t node distinct. inl memory.0;
     within = λ value. within (h.within value);
@@ -28,8 +29,8 @@ module _ {V : Type 0} (tree : V → Value) (of : V → TypeTree → Type 0) (Ful
       within w = (record { lies = subst (LiesInNode n) (sym memory.1) w.0.lies; caused = λ was. absurd (cc (sym memory.0 ∙ was)) }, subst IsTypeKind (sym memory.0) tt)
 
   -- what was read is read still
-  pub kept_read : (r s : Result V Diagnostic) → IsReadAs tree of Full T source n r → IsKept r s → IsReadAs tree of Full T source n s
-  kept_read (Ok v) (Ok w) h same = subst (λ (x : V). IsReadAs tree of Full T source n (Ok x)) (sym same) h
+  pub kept_read : (r s : Result V Diagnostic) → IsReadAs tree of Full o w T source n r → IsKept r s → IsReadAs tree of Full o w T source n s
+  kept_read (Ok v) (Ok u) h same = subst (λ (x : V). IsReadAs tree of Full o w T source n (Ok x)) (sym same) h
   kept_read (Err e) (Err f) h same = same_or_memory e f h same
   kept_read (Ok v) (Err f) h same = absurd same
   kept_read (Err e) (Ok w) h same = absurd same
@@ -51,8 +52,8 @@ pub form_spares : {V : Type 0} (r : Result V Diagnostic) (p : Range ℕ) → IfE
 form_spares (Ok v) p says = tt
 form_spares (Err e) p says = λ memory. let is : e.kind ≡ InvalidType = ap (λ (r : Refusal). r.kind) says.is in absurd (cc)
 
-module _ {V : Type 0} (tree : V → Value) (of : V → TypeTree → Type 0) (Full : TypeTree → Type 0) (source : List ℕ) (n : NodeTree) where
+module _ {V : Type 0} (tree : V → Value) (of : V → TypeTree → Type 0) (Full : TypeTree → Type 0) (o w : Order) (source : List ℕ) (n : NodeTree) where
   -- so where a type is due
-  pub kept_where_due : (due : Option TypeTree) (r s : Result V Diagnostic) → IsReadWhereDue tree of Full due source n r → IsKept r s → IsReadWhereDue tree of Full due source n s
+  pub kept_where_due : (due : Option TypeTree) (r s : Result V Diagnostic) → IsReadWhereDue tree of Full o w due source n r → IsKept r s → IsReadWhereDue tree of Full o w due source n s
   kept_where_due None r s h same = tt
-  kept_where_due (Some T) r s h same = kept_read tree of Full T source n r s h same
+  kept_where_due (Some T) r s h same = kept_read tree of Full o w T source n r s h same

@@ -13,6 +13,7 @@ use Rattle.wave_wasm.proofs.TypeKinds.{simple_is}
 use Rattle.wave_lex.specs.Errors.{Diagnostic, refusal_of}
 use Rattle.wave_lex.specs.declared.error.ParserErrorKind.TheVariants as why
 use Rattle.wave_grammar.specs.TypeErrors.{RefusesFor}
+use Rattle.wave_grammar.specs.FaultOrder.{Order}
 use Rattle.wave_syntax.specs.NodeTree.{NodeTree, type_of, place_of}
 use Rattle.wave_syntax.specs.NodeAccessors.{RefusedAs, bool_type}
 use Rattle.wave_syntax.specs.TypedReading.{Answers}
@@ -85,35 +86,35 @@ no_bool : (ty : NodeType) → IsOfParts ty ⊎ (ty ≡ kind.Flags) → (b : Bool
 no_bool ty h true = no_leaf ty kind.BoolTrue (λ p. p) (λ e. cc) h
 no_bool ty h false = no_leaf ty kind.BoolFalse (λ p. p) (λ e. cc) h
 
-module _ {V : Type 0} (tree : V → Value) (of : V → TypeTree → Type 0) (Full : TypeTree → Type 0) where
-  form_answers : (S : Simple) (source : List ℕ) (n : NodeTree) (e : Diagnostic) → IsOfParts (type_of n) ⊎ (type_of n ≡ kind.Flags) → RefusedAs why.InvalidType n e → Answers tree of Full (type.simple S) source n (Err e)
-  form_answers type.bool source n e other refused = λ t is distinct. inr (inl (bool_fault source n t (refusal_of e) e.span is.0 (no_bool (type_of n) other) (said refused)))
-  form_answers (type.whole which) source n e other refused = λ t is distinct. inr (inl (number_fault which source n t (refusal_of e) e.span is.0 (no_leaf (type_of n) kind.Number (λ p. p) (λ f. cc) other) (said refused)))
-  form_answers type.char source n e other refused = λ t is distinct. inr (inl (char_blame source n t e is.0 (inl (no_leaf (type_of n) kind.Char (λ p. p) (λ f. cc) other, refused))))
+module _ {V : Type 0} (tree : V → Value) (of : V → TypeTree → Type 0) (Full : TypeTree → Type 0) (o w : Order) where
+  form_answers : (S : Simple) (source : List ℕ) (n : NodeTree) (e : Diagnostic) → IsOfParts (type_of n) ⊎ (type_of n ≡ kind.Flags) → RefusedAs why.InvalidType n e → Answers tree of Full o w (type.simple S) source n (Err e)
+  form_answers type.bool source n e other refused = λ t is distinct. inr (inl (bool_fault o w source n t (refusal_of e) e.span is.0 (no_bool (type_of n) other) (said refused)))
+  form_answers (type.whole which) source n e other refused = λ t is distinct. inr (inl (number_fault o w which source n t (refusal_of e) e.span is.0 (no_leaf (type_of n) kind.Number (λ p. p) (λ f. cc) other) (said refused)))
+  form_answers type.char source n e other refused = λ t is distinct. inr (inl (char_blame o w source n t e is.0 (inl (no_leaf (type_of n) kind.Char (λ p. p) (λ f. cc) other, refused))))
   form_answers type.string source n e other refused = λ t is distinct.
-      string_blame Full (type.simple type.string) source n t e refl is.0 (inl (no_leaf (type_of n) kind.String (λ p. p) (λ f. cc) other, no_leaf (type_of n) kind.MultilineString (λ p. p) (λ f. cc) other, refused))
+      string_blame Full o w (type.simple type.string) source n t e refl is.0 (inl (no_leaf (type_of n) kind.String (λ p. p) (λ f. cc) other, no_leaf (type_of n) kind.MultilineString (λ p. p) (λ f. cc) other, refused))
 
   -- a node of parts or of flags is refused at a simple type
-  pub other_form : (S : Simple) (source : List ℕ) (n : NodeTree) (e : Diagnostic) → IsOfParts (type_of n) ⊎ (type_of n ≡ kind.Flags) → RefusedAs why.InvalidType n e → IsReadAs tree of Full (type.simple S) source n (Err e)
+  pub other_form : (S : Simple) (source : List ℕ) (n : NodeTree) (e : Diagnostic) → IsOfParts (type_of n) ⊎ (type_of n ≡ kind.Flags) → RefusedAs why.InvalidType n e → IsReadAs tree of Full o w (type.simple S) source n (Err e)
   other_form S source n e other refused = record {
     answer = form_answers S source n e other refused;
     within = λ value. at_in source n e (inl value) (form_at n e refused);
   }
 
   -- any node is refused at a type that has no values
-  pub unreadable_form : (u : Unreadable) (k : WasmTypeKind) (source : List ℕ) (n : NodeTree) (e : Diagnostic) → k ≡ unreadable_kind u → IsCaused (unsupported_type (kind_word k)) n e → e.span ≡ place_of n → IsReadAs tree of Full (type.unreadable u) source n (Err e)
+  pub unreadable_form : (u : Unreadable) (k : WasmTypeKind) (source : List ℕ) (n : NodeTree) (e : Diagnostic) → k ≡ unreadable_kind u → IsCaused (unsupported_type (kind_word k)) n e → e.span ≡ place_of n → IsReadAs tree of Full o w (type.unreadable u) source n (Err e)
   unreadable_form u k source n e is caused place = record {
-    answer = λ t node distinct. unread_blame Full (type.unreadable u) source n t k e node.0 is (subst IsUnread (sym is) (no_values u)) (λ which same. no_whole u which (sym is ∙ same)) caused;
+    answer = λ t node distinct. unread_blame Full o w (type.unreadable u) source n t k e node.0 is (subst IsUnread (sym is) (no_values u)) (λ which same. no_whole u which (sym is ∙ same)) caused;
     within = λ value. at_in source n e (inl value) (caused_at (unsupported_type (kind_word k)) n e caused place);
   }
 
   -- so where it is known of the type that it is a simple one or has no values
-  pub form_refused : (T : TypeTree) (source : List ℕ) (n : NodeTree) (e : Diagnostic) → ((u : Unreadable) → kind_of T ≢ unreadable_kind u) → IsSimpleOrUnreadable T → IsOfParts (type_of n) ⊎ (type_of n ≡ kind.Flags) → RefusedAs why.InvalidType n e → IsReadAs tree of Full T source n (Err e)
+  pub form_refused : (T : TypeTree) (source : List ℕ) (n : NodeTree) (e : Diagnostic) → ((u : Unreadable) → kind_of T ≢ unreadable_kind u) → IsSimpleOrUnreadable T → IsOfParts (type_of n) ⊎ (type_of n ≡ kind.Flags) → RefusedAs why.InvalidType n e → IsReadAs tree of Full o w T source n (Err e)
   form_refused (type.simple S) source n e values due other refused = other_form S source n e other refused
   form_refused (type.unreadable u) source n e values due other refused = absurd (values u refl)
   form_refused _ source n e values due other refused = absurd due
 
-  pub type_refused : (T : TypeTree) (k : WasmTypeKind) (u : Unreadable) (source : List ℕ) (n : NodeTree) (e : Diagnostic) → k ≡ kind_of T → k ≡ unreadable_kind u → IsSimpleOrUnreadable T → IsCaused (unsupported_type (kind_word k)) n e → e.span ≡ place_of n → IsReadAs tree of Full T source n (Err e)
+  pub type_refused : (T : TypeTree) (k : WasmTypeKind) (u : Unreadable) (source : List ℕ) (n : NodeTree) (e : Diagnostic) → k ≡ kind_of T → k ≡ unreadable_kind u → IsSimpleOrUnreadable T → IsCaused (unsupported_type (kind_word k)) n e → e.span ≡ place_of n → IsReadAs tree of Full o w T source n (Err e)
   type_refused (type.simple S) k u source n e is same due caused place = absurd (has_values S u (sym is ∙ same))
   type_refused (type.unreadable v) k u source n e is same due caused place = unreadable_form v k source n e is caused place
   type_refused _ k u source n e is same due caused place = absurd due
@@ -121,17 +122,17 @@ module _ {V : Type 0} (tree : V → Value) (of : V → TypeTree → Type 0) (Ful
   -- ---- leaves
 
   -- what is read at the simple type of the kind
-  pub read_at_kind : (S : Simple) (T : TypeTree) (source : List ℕ) (n : NodeTree) (r : Result V Diagnostic) → simple_kind S ≡ kind_of T → IsReadAs tree of Full (type.simple S) source n r → IsReadAs tree of Full T source n r
-  read_at_kind S T source n r is h = subst (λ (U : TypeTree). IsReadAs tree of Full U source n r) (sym (simple_is S T is)) h
+  pub read_at_kind : (S : Simple) (T : TypeTree) (source : List ℕ) (n : NodeTree) (r : Result V Diagnostic) → simple_kind S ≡ kind_of T → IsReadAs tree of Full o w (type.simple S) source n r → IsReadAs tree of Full o w T source n r
+  read_at_kind S T source n r is h = subst (λ (U : TypeTree). IsReadAs tree of Full o w U source n r) (sym (simple_is S T is)) h
 
   -- a bool
-  pub bool_at_kind : (T : TypeTree) (source : List ℕ) (n : NodeTree) (r : Result V Diagnostic) → kinds.Bool ≡ kind_of T → Answers tree of Full (type.simple type.bool) source n r → IfErr r (RefusesAt n) → IsReadAs tree of Full T source n r
+  pub bool_at_kind : (T : TypeTree) (source : List ℕ) (n : NodeTree) (r : Result V Diagnostic) → kinds.Bool ≡ kind_of T → Answers tree of Full o w (type.simple type.bool) source n r → IfErr r (RefusesAt n) → IsReadAs tree of Full o w T source n r
   bool_at_kind T source n r is answer told = read_at_kind type.bool T source n r is (record { answer = answer; within = λ value. all_in source n r (inl value) told })
 
   -- what is read at another kind, which is that of a whole type or has no values
-  pub whole_at_kind : (T : TypeTree) (k : WasmTypeKind) (source : List ℕ) (n : NodeTree) (r : Result V Diagnostic) → k ≡ kind_of T → k ≢ kinds.Bool → k ≢ kinds.Char → k ≢ kinds.String → IsSimpleOrUnreadable T → AnswersWhole tree of Full k source n r → IsReadAs tree of Full T source n r
+  pub whole_at_kind : (T : TypeTree) (k : WasmTypeKind) (source : List ℕ) (n : NodeTree) (r : Result V Diagnostic) → k ≡ kind_of T → k ≢ kinds.Bool → k ≢ kinds.Char → k ≢ kinds.String → IsSimpleOrUnreadable T → AnswersWhole tree of Full k source n r → IsReadAs tree of Full o w T source n r
   whole_at_kind T k source n r is bool char string due h = record {
-    answer = λ t node distinct. whole_answers tree of Full T k source n t r is node.0 (by T is due) h;
+    answer = λ t node distinct. whole_answers tree of Full o w T k source n t r is node.0 (by T is due) h;
     within = λ value. all_in source n r (inl value) (whole_at tree of Full k source n r h);
   }
     where

@@ -5,6 +5,7 @@ use Rattle.wave_wasm.specs.Types.{TypeTree}
 use Rattle.wave_wasm.specs.Values.{Value}
 use Rattle.wave_lex.specs.Errors.{Diagnostic}
 use Rattle.wave_lex.specs.declared.error.ParserErrorKind.TheVariants.{OutOfMemory}
+use Rattle.wave_grammar.specs.FaultOrder.{Order}
 use Rattle.wave_syntax.specs.NodeTree.{NodeTree, type_of}
 use Rattle.wave_syntax.specs.declared.form.NodeType.TheVariants as kind
 use Rattle.wave_leaf.specs.Reading.{IsReadWhereDue}
@@ -30,7 +31,7 @@ abbrev pub SparesWhereDue : {V : Type 0} → Option TypeTree → NodeTree → Re
 SparesWhereDue None n r = Unit {0}
 SparesWhereDue (Some T) n r = IsPlain T → SparesRows n r
 
-module _ {V : Type 0} (tree : V → Value) (of : V → TypeTree → Type 0) (Full : TypeTree → Type 0) where
+module _ {V : Type 0} (tree : V → Value) (of : V → TypeTree → Type 0) (Full : TypeTree → Type 0) (o w : Order) where
   -- what is read at the type that is due, without memory of a tuple or a list at one of these
   abbrev pub IsReadSparing : Option TypeTree → List ℕ → NodeTree → Result V Diagnostic → Type 0
-  IsReadSparing due source n r = IsReadWhereDue tree of Full due source n r × SparesWhereDue due n r
+  IsReadSparing due source n r = IsReadWhereDue tree of Full o w due source n r × SparesWhereDue due n r

@@ -4,6 +4,7 @@ ghost use Rattle.wave_wasm.specs.Types as type;
 ghost use Rattle.wave_wasm.specs.TypeText.{kind_word};
 ghost use Rattle.wave_wasm.specs.ValueErrors.{unsupported_type, cause_of};
 ghost use Rattle.wave_lex.specs.Errors.{refusal_of, refused_by};
+ghost use Rattle.wave_grammar.specs.FaultOrder.{Order};
 ghost use Rattle.wave_syntax.specs.NodeTree.{place_of};
 ghost use Rattle.wave_syntax.specs.NodeAccessors.{RefusedAs, GivesBool, GivesNumber, GivesChar};
 ghost use Rattle.wave_syntax.specs.TypedReading.{Answers, IsMade};
@@ -69,7 +70,7 @@ impl<'src> Leaf<'src> {
 
     /// A bool.
     pub(crate) fn read_bool<V: WasmValue>(&self, alloc: Global) -> Result<V, ParserError>
-        ensures answer { (source : List ℕ) → Answers V.tree V.is_of V.is_full (type.simple type.bool) source (leaf_node self.now) result }
+        ensures answer { (o w : Order) (source : List ℕ) → Answers V.tree V.is_of V.is_full o w (type.simple type.bool) source (leaf_node self.now) result }
         ensures within { IfErr result (RefusesAt (leaf_node self.now)) }
     {
         let val = self.as_bool()?;

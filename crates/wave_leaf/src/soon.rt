@@ -2,6 +2,7 @@
 ghost use Rattle.std.specs.Prelude.{ℕ, List, ◌≡◌, Ok, IfSome};
 ghost use Rattle.wave_syntax.specs.NodeAccessors.{GivesBool, GivesNumber, GivesChar};
 ghost use Rattle.wave_syntax.specs.NodeStrings.{StandsFor};
+ghost use Rattle.wave_grammar.specs.FaultOrder.{Order};
 ghost use Rattle.wave_leaf.specs.Leaves.{leaf_node, IsLeafIn};
 ghost use Rattle.wave_leaf.specs.Reading.{IsReadAs};
 
@@ -17,8 +18,8 @@ impl<'src> Leaf<'src> {
     /// that type is due, read and made. Nothing is said of why there is none.
     #[inline(always)]
     pub fn read_soon<V: WasmValue>(&self, alloc: Global, ty: &V::Type) -> Option<V>
-        ensures { (source : List ℕ) → IsLeafIn source self.now
-            → IfSome result (λ val. IsReadAs V.tree V.is_of V.is_full (V.Type.tree ty.now) source (leaf_node self.now) (Ok val)) }
+        ensures { (o w : Order) (source : List ℕ) → IsLeafIn source self.now
+            → IfSome result (λ val. IsReadAs V.tree V.is_of V.is_full o w (V.Type.tree ty.now) source (leaf_node self.now) (Ok val)) }
     {
         match ty.kind() {
             WasmTypeKind::S8 => if_made(V::make_s8(alloc, self.number()?)),

@@ -61,7 +61,8 @@ bare_token _ p text (c ∷ cs) s e o bare = absurd (cc)
 pub all_parsed : (source : List ℕ) (n : NodeTree) (t : Placed) (i : Inside source n t) → AreParsed source (children_of n) i.children
 all_parsed source n t i = subst (λ (ns : List NodeTree). AreParsed source ns i.children) (nodes_are n) (parsed source (nodes_in n) i.children i.each)
 
-as_long : (source : List ℕ) (ns : List NodeTree) (cs : List Placed) → AreParsed source ns cs → length ns ≡ length cs
+-- as many as they
+pub as_long : (source : List ℕ) (ns : List NodeTree) (cs : List Placed) → AreParsed source ns cs → length ns ≡ length cs
 as_long source [] [] h = refl
 as_long source [] (c ∷ cs) h = absurd h
 as_long source (n ∷ ns) [] h = absurd h

@@ -2,3 +2,4 @@ pub mod Children
 pub mod FlagPlaces
 pub mod ReadNodes
 pub mod RecordNodes
+pub mod TypeOrder

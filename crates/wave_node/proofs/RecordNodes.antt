@@ -11,7 +11,7 @@ use Rattle.std.proofs.lemmas.Map.Text.{btree_map_updates_str, is_eq-slice_cmp}
 use Rattle.wave_wasm.specs.Lists.{AllOf, SomeOf}
 use Rattle.wave_wasm.specs.Names.{IsOneOf, IsNoneOf, AreDistinct, is_one_of}
 use Rattle.wave_wasm.specs.Types as type
-use Rattle.wave_wasm.specs.Types.{TypeTree, Fields, HasDistinctNames, EachNamesOfFields, record_parts, field_names, kind_of}
+use Rattle.wave_wasm.specs.Types.{TypeTree, Fields, HasDistinctNames, field_names}
 use Rattle.wave_wasm.specs.Values.{Value}
 use Rattle.wave_wasm.specs.Borrowed.{shown_fields}
 use Rattle.wave_wasm.specs.ConstructorContracts.{MakesRecord, FullRecord}
@@ -20,8 +20,9 @@ use Rattle.wave_lex.specs.Errors.{Diagnostic, refusal_of}
 use Rattle.wave_lex.specs.declared.error.ParserErrorKind.TheVariants as error
 use Rattle.wave_grammar.specs.LeafTokens.{name_of}
 use Rattle.wave_grammar.specs.TypedGrammar.{look_up, names_of}
-use Rattle.wave_grammar.specs.SpannedTree.{Placed, PlacedEntry, entry_list, span_of}
-use Rattle.wave_grammar.specs.TypeErrors.{IsRefusalOf, Fault, names_in, UnknownField, IsFor}
+use Rattle.wave_grammar.specs.SpannedTree.{Placed, PlacedEntry, entry_list}
+use Rattle.wave_grammar.specs.TypeErrors.{IsRefusalOf, names_in, IsFor}
+use Rattle.wave_grammar.specs.FaultOrder.{Order, by_type}
 use Rattle.wave_syntax.specs.NodeTree.{NodeTree, NodeTrees, node, no_nodes, node_and, node_list, place_of, children_of}
 use Rattle.wave_syntax.specs.Nodes.{IsNodeOf}
 use Rattle.wave_syntax.specs.NodeAccessors.{node_pairs, node_text, shown_node}
@@ -35,8 +36,9 @@ use Rattle.wave_wasm.proofs.NameTests.{is_one, none_of}
 use Rattle.wave_syntax.proofs.ByKind.Lists.{HasAt}
 use Rattle.wave_syntax.proofs.ByKind.Tuples.{place_has, map_has}
 use Rattle.wave_syntax.proofs.Fields.Lookup.{take_next, take_whole, map_last}
-use Rattle.wave_syntax.proofs.Fields.Entries.{AreFieldsOf, record_nodes, fields_of_entries, entry_found, not_both, some_map, within_record}
-use Rattle.wave_syntax.proofs.Fields.Reading.{RecordType, names_are, fields_distinct, look_all, FieldIsRead, FieldsRead, record_reads, record_full}
+use Rattle.wave_syntax.proofs.Fields.Entries.{AreFieldsOf, record_nodes, fields_of_entries, entry_found, not_both, some_map}
+use Rattle.wave_syntax.proofs.Fields.FieldOrder.{unknown_blamed}
+use Rattle.wave_syntax.proofs.Fields.Reading.{RecordType, names_are, fields_distinct, given_fields, look_all, FieldIsRead, FieldsRead, record_reads, record_full}
 use Rattle.wave_syntax.proofs.ErrorSpans.Nodes.{BelongsTo, PairBelongs, entries_belong}
 
 -- the name and the type at a place, where they are borrowed
@@ -156,18 +158,6 @@ none_before [] i name E d h = absurd h
 none_before (p ∷ ps) zero name E d h = tt
 none_before (p ∷ ps) (suc i) name E d h = ((λ e. not_both (names_of ps) p.0 d.0 (subst (IsOneOf (names_of ps)) e (has_one ps i (name, E) h))), none_before ps i name E d.1 h)
 
--- an entry whose name is no field
-pub unknown_blame : (Full : TypeTree → Type 0) (T : TypeTree) (parts : List (List ℕ × TypeTree)) (source : List ℕ) (n : NodeTree) (t : Placed) (names : List (List ℕ)) (old m : BTreeMap (Bor (List ℕ)) (Bor NodeTree)) (fs : List (List ℕ × NodeTree)) (e : Diagnostic) → RecordType T parts → IsNodeOf source n t → IsFieldsOf source n fs → HoldsFields old fs → names ≡ names_of parts → Removed names old m → (btree_map_len m ≡ 0 → ⊥) → IsRefusalOf error.InvalidValue (place_of n) (refusal_of e) e.span → IsBlamed Full T t e
-unknown_blame Full T parts source n t names old m fs e is stands given held same h some refused =
-    let inner = record_nodes source n t stands given.is_set in
-    let over = some_held m some in
-    let left = left_over names old m fs over.0 over.1 held h over.2 in
-    let all : AreFieldsOf source fs (entry_list inner.given) = subst (λ (l : List (List ℕ × NodeTree)). AreFieldsOf source l (entry_list inner.given)) (sym given.given) (fields_of_entries source (node_pairs (children_of n)) (entry_list inner.given) given.labels inner.nodes) in
-    let none : IsNoneOf (field_names is.fields) over.0 = subst (λ (ns : List (List ℕ)). IsNoneOf ns over.0) (same ∙ (ap names_of is.parts_are ∙ names_are is.fields)) left.0 in
-    let found = entry_found source fs (entry_list inner.given) over.0 over.1.now all left.1 in
-    let unknown : UnknownField (field_names is.fields) (entry_list inner.given) (span_of t) (refusal_of e) e.span = (some_map (λ x. IsFor over.0 x × IsNodeOf source over.1.now x.value) (λ x. SomeOf (IsNoneOf (field_names is.fields)) (names_in x.key)) (entry_list inner.given) (λ x g. subst (SomeOf (IsNoneOf (field_names is.fields))) (sym g.0) (inl none)) found, (refused.0, refused.1 ∙ sym (inside source n t stands.0).place)) in
-    inr (inl (subst (λ (U : TypeTree). Fault U t (refusal_of e) e.span) (sym is.is) (within_record is.fields t (entry_list inner.given) (refusal_of e) e.span inner.taken (inr (inl unknown)))))
-
 fields_belong : (source : List ℕ) (n : NodeTree) (pairs : List (NodeTree × NodeTree)) → AllOf (PairBelongs n) pairs → AllOf (λ f. BelongsTo n f.1) (map (field_of source) pairs)
 fields_belong source n [] h = tt
 fields_belong source n (e ∷ es) h = (h.0.1, fields_belong source n es h.1)
@@ -205,7 +195,7 @@ held_below source (node ty p ns) names old m name None held h is = omega arith
 held_below source n names old m name (Some x) held h is =
     omega (arith, field_below source n name x.now (left_over names old m (fields_at source (children_of n)) name x held h (sym is)).1)
 
-module _ {V : Type 0} (tree : V → Value) (of : V → TypeTree → Type 0) (Full : TypeTree → Type 0) where
+module _ {V : Type 0} (tree : V → Value) (of : V → TypeTree → Type 0) (Full : TypeTree → Type 0) (w : Order) where
   read_next : (ps : List (List ℕ × TypeTree)) (es : List PlacedEntry) (fs : List (Bor (List ℕ) × V)) (i : ℕ) (name : List ℕ) (E : TypeTree) (key : Bor (List ℕ)) (v : V) → HasAt ps i (name, E) → FieldsRead tree of Full (take i ps) es fs → key.now ≡ name → FieldIsRead tree of Full E name es v → FieldsRead tree of Full (take (suc i) ps) es (fs ++ (key, v) ∷ [])
   read_next [] es fs i name E key v typed before same now = absurd typed
   read_next (p ∷ ps) es [] zero name E key v typed before same now =
@@ -219,18 +209,30 @@ module _ {V : Type 0} (tree : V → Value) (of : V → TypeTree → Type 0) (Ful
   fields_kept ps es old new i name E key v typed before same now kept = rw (add-one, kept) (read_next ps es old i name E key v typed before same now)
 
   -- the record was made, or its constructor refused
-  pub record_made : (T : TypeTree) (parts : List (List ℕ × TypeTree)) (source : List ℕ) (n : NodeTree) (t : Placed) (given : List (List ℕ × NodeTree)) (names : List (List ℕ)) (old left : BTreeMap (Bor (List ℕ)) (Bor NodeTree)) (hs : List (Bor (List ℕ) × V)) (m : Result V WasmValueError) (r : Result V Diagnostic) → (is : RecordType T parts) → HasDistinctNames T → (stands : IsNodeOf source n t) → (fields : IsFieldsOf source n given) → HoldsFields old given → names ≡ names_of parts → Removed names old left → btree_map_len left ≡ 0 → FieldsRead tree of Full parts (entry_list (record_nodes source n t stands fields.is_set).given) hs → IfOk m (MakesRecord tree of T hs) → IfErr m (FullRecord of Full T hs) → IsMade n m r → MatchResult r (IsTypedValue tree of T t) (IsBlamed Full T t)
+  pub record_made : (T : TypeTree) (parts : List (List ℕ × TypeTree)) (source : List ℕ) (n : NodeTree) (t : Placed) (given : List (List ℕ × NodeTree)) (names : List (List ℕ)) (old left : BTreeMap (Bor (List ℕ)) (Bor NodeTree)) (hs : List (Bor (List ℕ) × V)) (m : Result V WasmValueError) (r : Result V Diagnostic) → (is : RecordType T parts) → HasDistinctNames T → (stands : IsNodeOf source n t) → (fields : IsFieldsOf source n given) → HoldsFields old given → names ≡ names_of parts → Removed names old left → btree_map_len left ≡ 0 → FieldsRead tree of Full parts (entry_list (record_nodes source n t stands fields.is_set).given) hs → IfOk m (MakesRecord tree of T hs) → IfErr m (FullRecord of Full T hs) → IsMade n m r → MatchResult r (IsTypedValue tree of T t) (IsBlamed Full by_type w T t)
   record_made T parts source n t given names old left hs m r is distinct stands fields held same removed empty h ok full done =
       let inner = record_nodes source n t stands fields.is_set in
       let all : AreFieldsOf source given (entry_list inner.given) = subst (λ (l : List (List ℕ × NodeTree)). AreFieldsOf source l (entry_list inner.given)) (sym fields.given) (fields_of_entries source (node_pairs (children_of n)) (entry_list inner.given) fields.labels inner.nodes) in
       let apart : AreDistinct (names_of (type.field_list is.fields)) = subst (λ (ps : List (List ℕ × TypeTree)). AreDistinct (names_of ps)) is.parts_are (fields_distinct T parts is distinct).names in
       let read : FieldsRead tree of Full (type.field_list is.fields) (entry_list inner.given) hs = subst (λ (ps : List (List ℕ × TypeTree)). FieldsRead tree of Full ps (entry_list inner.given) hs) is.parts_are h in
-      made tree of Full T t n m r done
+      made tree of Full by_type w T t n m r done
       (record_reads tree of Full T is.fields source n t given hs inner m is.is distinct all fields.distinct (λ name one. subst (λ (ns : List (List ℕ)). IsOneOf ns name) (same ∙ ap names_of is.parts_are) (all_known source names old left given name held removed empty one)) apart read ok)
       (record_full tree of Full T is.fields (entry_list inner.given) hs m is.is apart read full)
 
   -- so behind the last of the parts
-  pub record_done : (T : TypeTree) (parts : List (List ℕ × TypeTree)) (source : List ℕ) (n : NodeTree) (t : Placed) (given : List (List ℕ × NodeTree)) (i : ℕ) (old left : BTreeMap (Bor (List ℕ)) (Bor NodeTree)) (hs : List (Bor (List ℕ) × V)) (m : Result V WasmValueError) (r : Result V Diagnostic) → (is : RecordType T parts) → HasDistinctNames T → (stands : IsNodeOf source n t) → (fields : IsFieldsOf source n given) → HoldsFields old given → length parts ≤ i → Removed (names_of (take i parts)) old left → btree_map_len left ≡ 0 → FieldsRead tree of Full (take i parts) (entry_list (record_nodes source n t stands fields.is_set).given) hs → IfOk m (MakesRecord tree of T hs) → IfErr m (FullRecord of Full T hs) → IsMade n m r → MatchResult r (IsTypedValue tree of T t) (IsBlamed Full T t)
+  pub record_done : (T : TypeTree) (parts : List (List ℕ × TypeTree)) (source : List ℕ) (n : NodeTree) (t : Placed) (given : List (List ℕ × NodeTree)) (i : ℕ) (old left : BTreeMap (Bor (List ℕ)) (Bor NodeTree)) (hs : List (Bor (List ℕ) × V)) (m : Result V WasmValueError) (r : Result V Diagnostic) → (is : RecordType T parts) → HasDistinctNames T → (stands : IsNodeOf source n t) → (fields : IsFieldsOf source n given) → HoldsFields old given → length parts ≤ i → Removed (names_of (take i parts)) old left → btree_map_len left ≡ 0 → FieldsRead tree of Full (take i parts) (entry_list (record_nodes source n t stands fields.is_set).given) hs → IfOk m (MakesRecord tree of T hs) → IfErr m (FullRecord of Full T hs) → IsMade n m r → MatchResult r (IsTypedValue tree of T t) (IsBlamed Full by_type w T t)
   record_done T parts source n t given i old left hs m r is distinct stands fields held le removed empty h ok full done =
       let whole : take i parts ≡ parts = take_whole parts i le in
       record_made T parts source n t given (names_of (take i parts)) old left hs m r is distinct stands fields held (ap names_of whole) removed empty (subst (λ (ps : List (List ℕ × TypeTree)). FieldsRead tree of Full ps (entry_list (record_nodes source n t stands fields.is_set).given) hs) whole h) ok full done
+
+  -- an entry whose name is no field, where all fields were read
+  pub unknown_blame : (T : TypeTree) (parts : List (List ℕ × TypeTree)) (source : List ℕ) (n : NodeTree) (t : Placed) (given : List (List ℕ × NodeTree)) (i : ℕ) (old left : BTreeMap (Bor (List ℕ)) (Bor NodeTree)) (hs : List (Bor (List ℕ) × V)) (e : Diagnostic) → RecordType T parts → HasDistinctNames T → (stands : IsNodeOf source n t) → (fields : IsFieldsOf source n given) → HoldsFields old given → length parts ≤ i → Removed (names_of (take i parts)) old left → (btree_map_len left ≡ 0 → ⊥) → FieldsRead tree of Full (take i parts) (entry_list (record_nodes source n t stands fields.is_set).given) hs → IsRefusalOf error.InvalidValue (place_of n) (refusal_of e) e.span → IsBlamed Full by_type w T t e
+  unknown_blame T parts source n t given i old left hs e is distinct stands fields held le removed some read refused =
+      let es = entry_list (record_nodes source n t stands fields.is_set).given in
+      let whole : take i parts ≡ parts = take_whole parts i le in
+      let (name, x, there) = some_held left some in
+      let over = left_over (names_of (take i parts)) old left given name x held removed there in
+      let none : IsNoneOf (field_names is.fields) name = subst (λ (ns : List (List ℕ)). IsNoneOf ns name) (ap names_of (whole ∙ is.parts_are) ∙ names_are is.fields) over.0 in
+      let found = entry_found source given es name x.now (given_fields source n t given stands fields) over.1 in
+      unknown_blamed tree of Full w T parts source n t given hs e is stands fields distinct (subst (λ (ps : List (List ℕ × TypeTree)). FieldsRead tree of Full ps es hs) whole read)
+      (some_map (λ y. IsFor name y × IsNodeOf source x.now y.value) (λ y. SomeOf (IsNoneOf (field_names is.fields)) (names_in y.key)) es (λ y g. subst (SomeOf (IsNoneOf (field_names is.fields))) (sym g.0) (inl none)) found, (refused.0, refused.1 ∙ sym (inside source n t stands.0).place))

@@ -1,7 +1,8 @@
 //! What is read of nodes, in the order of their types.
-ghost use Rattle.std.specs.Prelude.{ℕ, List, ◌≡◌, ◌≢◌, ◌<◌, take, length, IfOk, IfErr, MatchBool};
+ghost use Rattle.std.specs.Prelude.{ℕ, List, ◌≡◌, ◌≢◌, ◌<◌, Some, take, length, IfOk, IfErr, MatchBool};
 ghost use Rattle.wave_wasm.specs.Types.{TypeTree, kind_of};
 ghost use Rattle.wave_wasm.specs.Borrowed.{shown};
+ghost use Rattle.wave_grammar.specs.FaultOrder.{by_type};
 ghost use Rattle.wave_syntax.specs.NodeTree.{node, type_of, place_of, children_of};
 ghost use Rattle.wave_syntax.specs.TypedReading.{IsValueOf};
 ghost use Rattle.wave_syntax.specs.NodeAccessors.{shown_node};
@@ -11,7 +12,7 @@ ghost use Rattle.wave_syntax.specs.FlagParts.{AreFlagsOf, flag_nodes};
 ghost use Rattle.wave_syntax.specs.NodeParts.{IsOfParts, TakesKey, TakesPart};
 ghost use Rattle.wave_leaf.specs.PlainReading.{IsReadSparing};
 ghost use Rattle.wave_leaf.specs.Reading.{IsReadAs};
-ghost use Rattle.wave_decode.specs.Flat.{IsAround};
+ghost use Rattle.wave_decode.specs.Flat.{IsAround, ReadsNoRecord};
 ghost use Rattle.wave_node.specs.Private.NodeForms.{IsOfOneToken};
 
 use crate::ast::{Node, NodeType};
@@ -24,7 +25,6 @@ use wave_grammar::label::label_name;
 use wave_leaf::failure::Failure;
 use wave_lex::error::{ParserError, ParserErrorKind};
 use wave_lex::lex::Span;
-use wave_syntax::builder::Builder;
 use wave_wasm::wasm::{WasmType, WasmTypeKind, WasmValue};
 
 impl Node {
@@ -37,7 +37,7 @@ impl Node {
         src: &str,
     ) -> Result<V, ParserError>
         requires { IsValueOf src.now self.now }
-        ensures { IsReadAs V.tree V.is_of V.is_full (V.Type.tree ty.now) src.now self.now result }
+        ensures { IsReadAs V.tree V.is_of V.is_full by_type by_type (V.Type.tree ty.now) src.now self.now result }
     {
         match self.make(alloc, Values::<V>::new(ty), src) {
             Ok(Ok(val)) => Ok(val),
@@ -56,7 +56,7 @@ impl Node {
         src: &str,
     ) -> Result<Result<V, Failure>, AllocError>
         requires { IsValueOf src.now self.now }
-        ensures { IfOk result (IsReadSparing V.tree V.is_of V.is_full (shown V.Type.tree builder.entry.due) src.now self.now) }
+        ensures { IfOk result (IsReadSparing V.tree V.is_of V.is_full by_type by_type (shown V.Type.tree builder.entry.due) src.now self.now) }
     {
         if self.is_of(NodeType::Flags) {
             return self.make_of_flags(alloc, builder, src);
@@ -81,9 +81,9 @@ impl Node {
     ) -> Result<V, Failure>
         requires value { IsValueOf src.now self.now }
         requires form { IsOfOneToken self.now }
-        ensures { IsReadSparing V.tree V.is_of V.is_full (shown V.Type.tree builder.entry.due) src.now self.now result }
+        ensures { IsReadSparing V.tree V.is_of V.is_full by_type by_type (shown V.Type.tree builder.entry.due) src.now self.now result }
     {
-        builder.leaf(alloc, self.ty(), self.span(), self.slice(src))
+        builder.token(alloc, self.ty(), self.span(), self.slice(src))
     }
 
     /// What the builder makes of a node of flags. Their names are kept only where flags are due.
@@ -96,13 +96,13 @@ impl Node {
     ) -> Result<Result<V, Failure>, AllocError>
         requires value { IsValueOf src.now self.now }
         requires form { type_of self.now ≡ NodeType.Flags }
-        ensures { IfOk result (IsReadSparing V.tree V.is_of V.is_full (shown V.Type.tree builder.entry.due) src.now self.now) }
+        ensures { IfOk result (IsReadSparing V.tree V.is_of V.is_full by_type by_type (shown V.Type.tree builder.entry.due) src.now self.now) }
     {
         if let Some(made) = builder.no_flags(alloc, self.span()) {
             return Ok(made);
         }
         let flags = self.places_by_name(alloc, src)?;
-        builder.flags(alloc, self.span(), flags)
+        Ok(builder.names(alloc, self.span(), flags))
     }
 
     /// The places of the labels of a node of flags, by their names.
@@ -124,7 +124,7 @@ impl Node {
     }
 
     /// What the builder makes of a node that has parts, from them. A tuple is refused for the number of its
-    /// items before any of them is read.
+    /// items before any of them is read. It is handed no record's entries.
     #[cycle(making)]
     #[inline(never)]
     fn make_of_parts<V: WasmValue>(
@@ -135,26 +135,26 @@ impl Node {
     ) -> Result<Result<V, Failure>, AllocError>
         requires value { IsValueOf src.now self.now }
         requires form { IsOfParts (type_of self.now) }
-        ensures { IfOk result (IsReadSparing V.tree V.is_of V.is_full (shown V.Type.tree builder.entry.due) src.now self.now) }
+        requires no_record { (T : TypeTree) → shown V.Type.tree builder.due ≡ Some T → ReadsNoRecord T (type_of self.now) }
+        ensures { IfOk result (IsReadSparing V.tree V.is_of V.is_full by_type by_type (shown V.Type.tree builder.entry.due) src.now self.now) }
     {
         let ty = self.ty();
-        let mut parts = builder.parts(alloc, ty);
+        let mut parts = builder.begin(alloc, ty);
         let nodes = self.nodes();
-        if let Some(failure) = parts.miscounted(alloc, self.span(), nodes.len()) {
+        if let Some(failure) = parts.refused(alloc, self.span(), nodes.len()) {
             return Ok(Err(failure));
         }
         for i in 0..nodes.len() {
             let node = &nodes[i];
             if self.takes_key(i) {
                 let key = node.leaf(src);
-                builder.with_key(alloc, &mut parts, key.ty, key.span, key.text)?;
+                parts.with_key(alloc, key.ty, key.span, key.text)?;
             } else {
-                let made = node.make(alloc, builder.part(&parts), src)?;
-                builder.with_part(alloc, &mut parts, made)?;
+                let made = node.make(alloc, parts.next(), src)?;
+                parts.with_part(alloc, made)?;
             }
         }
-        let place = self.span();
-        Ok(builder.whole(alloc, ty, place, parts))
+        Ok(parts.whole(alloc, self.span()))
     }
 
     /// A record: its keys, then each field of the type, in the type's order, read from the entry of its
@@ -169,7 +169,7 @@ impl Node {
     ) -> Result<V, ParserError>
         requires node { IsValueOf src.now self.now }
         requires kind { kind_of (V.Type.tree ty.now) ≡ WasmTypeKind.Record }
-        ensures { IsReadAs V.tree V.is_of V.is_full (V.Type.tree ty.now) src.now self.now result }
+        ensures { IsReadAs V.tree V.is_of V.is_full by_type by_type (V.Type.tree ty.now) src.now self.now result }
     {
         let types = match ty.record_fields(alloc) {
             Ok(types) => types,
@@ -203,7 +203,7 @@ impl Node {
         src: &str,
     ) -> Result<V, ParserError>
         requires { IsFieldNode src.now (shown_node node) }
-        ensures answer { AnswersField V.tree V.is_of V.is_full (V.Type.tree ty.now) src.now name.now self.now (shown_node node.entry) result }
+        ensures answer { AnswersField V.tree V.is_of V.is_full by_type (V.Type.tree ty.now) src.now name.now self.now (shown_node node.entry) result }
         ensures within { IfErr result (RefusesInPart self.now (shown_node node.entry)) }
     {
         match node {

@@ -13,6 +13,8 @@ use Rattle.wave_wasm.specs.Lists.{SomeOf}
 use Rattle.wave_grammar.specs.LeafTokens.{Spells, name_of}
 use Rattle.wave_grammar.specs.Elaborates.{SimpleTree, TreeReads, TreeReadsPayload, TreeReadsFlat, Each, TreeReadsCase, TreeReadsAll}
 use Rattle.wave_grammar.specs.SpannedTree.{Placed, MaybePlaced, no_placed, a_placed, at, one, list, none, some, ok, err, maybe_of, PlacedTrees, no_more, and_then, placed_list, tree_of, trees_of, label, tuple, PlacedEntry}
+use Rattle.wave_grammar.specs.FaultOrder.{Order, BlamesNothing, FirstFault}
+use Rattle.wave_grammar.proofs.FirstFaults.{first_is_fault}
 use Rattle.wave_grammar.specs.TypeErrors.{LeafFault, IsForm, Fault, FaultOfPayload, FaultOfFlat, FaultOfCase, FaultOfItem, FaultOfField}
 use Rattle.wave_syntax.proofs.ByKind.Enums.{enum_none, none_one}
 use Rattle.wave_syntax.proofs.ByKind.TextLeaves.{string_none}
@@ -134,10 +136,14 @@ mutual
       let first = first_item T more p ps us vs e read in
       no_item more ps k q first.1 first.2 names.1 fault first.4 first.5
 
-module _ {V : Type 0} (tree : V → Value) (of : V → TypeTree → Type 0) (Full : TypeTree → Type 0) where
+-- a type blames nothing in a tree to which it gives a value
+pub value_fine : (o w : Order) (T : TypeTree) (t : Placed) (v : Value) → HasDistinctNames T → TreeReads T (tree_of t) v → BlamesNothing (FirstFault o w T t)
+value_fine o w T t v distinct read k q fault = no_value T t k q distinct (first_is_fault o w T t k q fault) v read
+
+module _ {V : Type 0} (tree : V → Value) (of : V → TypeTree → Type 0) (Full : TypeTree → Type 0) (o : Order) where
   -- where a fault is the answer there is no value
-  pub refused : (T : TypeTree) (t : Placed) (r : Result V Diagnostic) → HasDistinctNames T → MatchResult r (IsTypedValue tree of T t) (IsBlamed Full T t) → MatchResult r (IsTypedValue tree of T t) (IsTypeError Full T t)
+  pub refused : (T : TypeTree) (t : Placed) (r : Result V Diagnostic) → HasDistinctNames T → MatchResult r (IsTypedValue tree of T t) (IsBlamed Full o o T t) → MatchResult r (IsTypedValue tree of T t) (IsTypeError Full o T t)
   refused T t (Ok v) distinct h = h
   refused T t (Err e) distinct (inl memory) = inl memory
-  refused T t (Err e) distinct (inr (inl fault)) = inr (inl (fault, no_value T t (refusal_of e) e.span distinct fault))
+  refused T t (Err e) distinct (inr (inl fault)) = inr (inl (fault, no_value T t (refusal_of e) e.span distinct (first_is_fault o o T t (refusal_of e) e.span fault)))
   refused T t (Err e) distinct (inr (inr h)) = inr (inr h)

@@ -3,3 +3,5 @@ pub mod Entries
 pub mod Reading
 pub mod Refused
 pub mod LeftOut
+pub mod FieldOrder
+pub mod EntryOrder

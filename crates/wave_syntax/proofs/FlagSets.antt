@@ -1,6 +1,6 @@
 -- The names of flags, and the map that marks them.
-use Rattle.std.proofs.Common.{ℕ, ◌≡◌, ◌<◌, ◌≤◌, ◌+◌, Bool, true, false, if◌then◌else◌, List, [], ◌∷◌, ◌++◌, length, get_or, take, Bor, sym, ap, ◌∙◌, subst}
-use Rattle.std.proofs.lemmas.List.{map-append, append-nil, take_more, take_all}
+use Rattle.std.proofs.Common.{ℕ, ◌≡◌, ◌<◌, ◌+◌, Bool, true, false, if◌then◌else◌, List, [], ◌∷◌, ◌++◌, length, get_or, take, Bor, sym, ap, ◌∙◌, subst}
+use Rattle.std.proofs.lemmas.List.{map-append, append-nil, take_more}
 use Rattle.std.proofs.lemmas.List.Elements.{filter-append}
 use Rattle.wave_wasm.specs.Names.{is_one_of, found_in}
 use Rattle.wave_wasm.specs.Borrowed.{texts}
@@ -8,10 +8,6 @@ use Rattle.wave_wasm.specs.Borrowed.{texts}
 -- one more name
 pub texts_next : (xs ys : List (Bor (List ℕ))) (i : ℕ) (d : Bor (List ℕ)) → ys ≡ xs → i < length ys → texts (take (i + 1) xs) ≡ texts (take i xs) ++ (get_or ys i d).now ∷ []
 texts_next xs ys i d same lt = subst (λ (zs : List (Bor (List ℕ))). texts (take (i + 1) zs) ≡ texts (take i zs) ++ (get_or ys i d).now ∷ []) same (ap texts (take_more ys i d lt) ∙ map-append (λ (n : Bor (List ℕ)). n.now) (take i ys) (get_or ys i d ∷ []))
-
--- all names
-pub texts_all : (xs ys : List (Bor (List ℕ))) (i : ℕ) → ys ≡ xs → length ys ≤ i → texts (take i xs) ≡ texts xs
-texts_all xs ys i same le = subst (λ (zs : List (Bor (List ℕ))). texts (take i zs) ≡ texts zs) same (ap texts (take_all i ys le))
 
 -- ---- the names that are picked
 

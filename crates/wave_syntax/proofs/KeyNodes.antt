@@ -23,7 +23,8 @@ use Rattle.wave_grammar.specs.Tree as tree
 use Rattle.wave_grammar.specs.Tree.{Tree, MaybeTree, Word, word_of, leaf_word, none_word, some_word, ok_word, err_word, case_word, ATree, BehindWord, Takes}
 use Rattle.wave_grammar.specs.Elaborates.{SimpleTree}
 use Rattle.wave_grammar.specs.SpannedTree.{Placed, at, one, label, no_placed, slice, span_of, shape_of, tree_of, HoldsTokens, SpellsAt, SpellsEach, StandsAtTokens}
-use Rattle.wave_grammar.specs.TypeErrors.{IsRefusalOf, SpellsNoLeaf, LeafFault, LoneKeyFault, Fault}
+use Rattle.wave_grammar.specs.TypeErrors.{IsRefusalOf, SpellsNoLeaf, LeafFault, LoneKeyFault}
+use Rattle.wave_grammar.specs.FaultOrder.{Order, FirstFault}
 use Rattle.wave_grammar.proofs.Elaboration.GrammarToTree.{not-keyword}
 use Rattle.wave_syntax.specs.NodeTree.{NodeTree, type_of, place_of}
 use Rattle.wave_syntax.specs.Nodes.{key_of, IsNodeOf, IsTokenOf, IsParsedFrom}
@@ -176,23 +177,23 @@ label_spells_none type.string w apart l (text, s, inl h, f) = cc (h.0)
 label_spells_none type.string w apart l (text, s, inr h, f) = cc (h.0)
 
 -- a fault at the key's tree is one of the key
-pub key_fault : (S : Simple) (t : Placed) (p : Range ℕ) (key : Token) (k : Refusal) (q : Range ℕ) → key_of t ≡ Some (p, key) → span_of t ≡ p → ((w : List ℕ) (b : Bool) → key ≡ token.label w → w ≢ bool_text b) → Fault (type.simple S) t k q → LoneKeyFault S p key k q
-key_fault S (at r (label o w no_placed)) p key k q e place apart fault =
+pub key_fault : (i j : Order) (S : Simple) (t : Placed) (p : Range ℕ) (key : Token) (k : Refusal) (q : Range ℕ) → key_of t ≡ Some (p, key) → span_of t ≡ p → ((w : List ℕ) (b : Bool) → key ≡ token.label w → w ≢ bool_text b) → FirstFault i j (type.simple S) t k q → LoneKeyFault S p key k q
+key_fault i j S (at r (label o w no_placed)) p key k q e place apart fault =
     let is = ap (λ (x : Range ℕ × Token). x.1) (some_is (o, token.label w) (p, key) e) in
     subst (λ (u : Token). LoneKeyFault S p u k q) is (inl ((λ none. cc), label_spells_none S w (λ b. apart w b (sym is)), (fault.0, fault.1 ∙ place)))
-key_fault S (at r (one (token.number w))) p key k q e place apart fault =
+key_fault i j S (at r (one (token.number w))) p key k q e place apart fault =
     let is = ap (λ (x : Range ℕ × Token). x.1) (some_is (r, token.number w) (p, key) e) in
     subst (λ (u : Token). LoneKeyFault S p u k q) is (inr (refl, subst (λ (z : Range ℕ). LeafFault S z (token.number w) k q) place fault))
-key_fault S (at r (one (token.char w))) p key k q e place apart fault =
+key_fault i j S (at r (one (token.char w))) p key k q e place apart fault =
     let is = ap (λ (x : Range ℕ × Token). x.1) (some_is (r, token.char w) (p, key) e) in
     subst (λ (u : Token). LoneKeyFault S p u k q) is (inr (refl, subst (λ (z : Range ℕ). LeafFault S z (token.char w) k q) place fault))
-key_fault S (at r (one (token.string w))) p key k q e place apart fault =
+key_fault i j S (at r (one (token.string w))) p key k q e place apart fault =
     let is = ap (λ (x : Range ℕ × Token). x.1) (some_is (r, token.string w) (p, key) e) in
     subst (λ (u : Token). LoneKeyFault S p u k q) is (inr (refl, subst (λ (z : Range ℕ). LeafFault S z (token.string w) k q) place fault))
-key_fault S (at r (one (token.multiline w))) p key k q e place apart fault =
+key_fault i j S (at r (one (token.multiline w))) p key k q e place apart fault =
     let is = ap (λ (x : Range ℕ × Token). x.1) (some_is (r, token.multiline w) (p, key) e) in
     subst (λ (u : Token). LoneKeyFault S p u k q) is (inr (refl, subst (λ (z : Range ℕ). LeafFault S z (token.multiline w) k q) place fault))
-key_fault S _ p key k q e place apart fault = absurd (cc)
+key_fault i j S _ p key k q e place apart fault = absurd (cc)
 
 -- a key of the text of a bool is a keyword
 bool_keyword : (b : Bool) → (k : Keyword) × (bool_text b ≡ keyword_text k)
@@ -205,18 +206,18 @@ no_bool_text source n p key h apart w b is same =
     let k = bool_keyword b in
     apart (own.0, k.0, sym own.1 ∙ (same ∙ k.1))
 
-module _ {V : Type 0} (tree_value : V → Value) (of : V → TypeTree → Type 0) (Full : TypeTree → Type 0) where
+module _ {V : Type 0} (tree_value : V → Value) (of : V → TypeTree → Type 0) (Full : TypeTree → Type 0) (o w : Order) where
   -- what the tree of a key that is no keyword is given is what the key spells
-  pub key_read : (T : TypeTree) (K : Simple) (source : List ℕ) (n : NodeTree) (p : Range ℕ) (key : Token) (r : Result V Diagnostic) → T ≡ type.simple K → (IsKeywordOf source n → ⊥) → (h : IsTokenOf source n p key) → MatchResult r (IsTypedValue tree_value of T h.0.0) (IsBlamed Full T h.0.0) → MatchResult r (IsKeyRead tree_value of K key) (IsKeyBlamed Full K p key)
+  pub key_read : (T : TypeTree) (K : Simple) (source : List ℕ) (n : NodeTree) (p : Range ℕ) (key : Token) (r : Result V Diagnostic) → T ≡ type.simple K → (IsKeywordOf source n → ⊥) → (h : IsTokenOf source n p key) → MatchResult r (IsTypedValue tree_value of T h.0.0) (IsBlamed Full o w T h.0.0) → MatchResult r (IsKeyRead tree_value of K key) (IsKeyBlamed Full K p key)
   key_read T K source n p key (Ok v) is apart h read =
       let typed : IsTypedValue tree_value of (type.simple K) h.0.0 v = subst (λ (U : TypeTree). IsTypedValue tree_value of U h.0.0 v) is read in
       let k = key_spelled K h.0.0 p key (tree_value v) h.0.2 typed.reads in
       record { leaf = k.0; spells = k.1; means = k.2; is_of = typed.is_of }
-  key_read T K source n p key (Err e) is apart h blamed = by (subst (λ (U : TypeTree). IsBlamed Full U h.0.0 e) is blamed)
+  key_read T K source n p key (Err e) is apart h blamed = by (subst (λ (U : TypeTree). IsBlamed Full o w U h.0.0 e) is blamed)
     where
-      by : IsBlamed Full (type.simple K) h.0.0 e → IsKeyBlamed Full K p key e
+      by : IsBlamed Full o w (type.simple K) h.0.0 e → IsKeyBlamed Full K p key e
       by (inl memory) = inl memory
-      by (inr (inl fault)) = inr (inl (key_fault K h.0.0 p key (refusal_of e) e.span h.0.2 ((inside source n h.0.0 h.0.1).place ∙ sym (key_at source n p key h)) (no_bool_text source n p key h apart) fault))
+      by (inr (inl fault)) = inr (inl (key_fault o w K h.0.0 p key (refusal_of e) e.span h.0.2 ((inside source n h.0.0 h.0.1).place ∙ sym (key_at source n p key h)) (no_bool_text source n p key h apart) fault))
       by (inr (inr full)) = inr (inr full)
 
   fault_spells_none : (K : Simple) (p : Range ℕ) (key : Token) (k : Refusal) (q : Range ℕ) → LoneKeyFault K p key k q → SpellsNoLeaf K key

@@ -5,6 +5,7 @@ pub mod ChildNodes
 pub mod MakerAnswers
 pub mod ByKind
 pub mod Unread
+pub mod Firsts
 pub mod Faultless
 pub mod KeyNodes
 pub mod Fields

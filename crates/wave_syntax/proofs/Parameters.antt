@@ -22,6 +22,7 @@ use Rattle.wave_grammar.specs.ParamElaboration.{TreeParams}
 use Rattle.wave_syntax.specs.TypedReading.{IsTypedValue, IsTypeError}
 use Rattle.wave_syntax.specs.NodeParams.{IsNoOption, ParamsFault, AreOmitted, AreRead, RefusesInTurn, close_of}
 use Rattle.wave_syntax.specs.Shared.NodeParams.{RefusesOmitted}
+use Rattle.wave_grammar.specs.FaultOrder.{by_type}
 use Rattle.wave_syntax.specs.NodeTree.{NodeTree, place_of}
 use Rattle.wave_syntax.specs.Nodes.{IsNodeOf}
 use Rattle.wave_syntax.specs.ErrorSpans.{StandsIn, HasTypeKind}
@@ -227,7 +228,7 @@ module _ {V : Type 0} (tree : V → Value) (of : V → TypeTree → Type 0) (Ful
 
   -- a refusal of an item
   pub item_refused : (source : List ℕ) (Ts : List TypeTree) (ns : List NodeTree) (ts : List Placed) (vs : List V) (i : ℕ) (n : NodeTree) (T : TypeTree) (whole : NodeTree) (e : Diagnostic) → AreNodesOf source ns ts → i < length ns → n ≡ get_or ns i n → i < length Ts → HasAt Ts i T → AreRead tree of (take i Ts) (take i ts) vs →
-      ((u : Placed) → IsNodeOf source n u → HasDistinctNames T → IsTypeError Full T u e) → StandsIn n e → HasTypeKind e → RefusesItems Full Ts ts whole e
+      ((u : Placed) → IsNodeOf source n u → HasDistinctNames T → IsTypeError Full by_type T u e) → StandsIn n e → HasTypeKind e → RefusesItems Full Ts ts whole e
   item_refused source Ts ns ts vs i n T whole e nodes lt at_i l typed before blamed within kind =
       let (u, here, means) = node_at source ns ts i n nodes lt at_i in
       let fits : i ≤ length ts = omega (arith, lt, node_count source ns ts nodes) in
@@ -287,7 +288,7 @@ items_fault Full Ts [] whole e distinct full other (inl h) = h
 items_fault Full Ts [] whole e distinct full other (inr h) = absurd (h.3 full)
 items_fault Full [] (t ∷ ts) whole e distinct full other h = h
 items_fault Full (T ∷ Ts) (t ∷ ts) whole e distinct full other (inl h) = by (h.blames distinct.0) where
-  by : IsTypeError Full T t e → ParamsFault (T ∷ Ts) (t ∷ ts) (close_of whole) e
+  by : IsTypeError Full by_type T t e → ParamsFault (T ∷ Ts) (t ∷ ts) (close_of whole) e
   by (inl memory) = absurd (other memory)
   by (inr (inl fault)) = inl fault
   by (inr (inr apart)) = absurd (apart.1 full.0)

@@ -9,7 +9,8 @@ use Rattle.wave_lex.specs.Errors.{Diagnostic, Refusal, refusal_of}
 use Rattle.wave_grammar.specs.SpannedTree.{Placed, span_of}
 use Rattle.wave_syntax.specs.NodeTree.{NodeTree}
 use Rattle.wave_syntax.specs.Nodes.{placed_of}
-use Rattle.wave_grammar.specs.TypeErrors.{RefusesFor, Fault}
+use Rattle.wave_grammar.specs.TypeErrors.{RefusesFor}
+use Rattle.wave_grammar.specs.FaultOrder.{Order, FirstFault}
 use Rattle.wave_syntax.specs.TypedReading.{IsBlamed}
 use Rattle.wave_syntax.specs.Shared.TypedReading.{IsCaused}
 use Rattle.wave_syntax.proofs.ChildNodes.Inside.{inside}
@@ -17,9 +18,9 @@ use Rattle.wave_wasm.specs.declared.wasm.WasmTypeKind.{WasmTypeKind}
 use Rattle.wave_wasm.specs.declared.wasm.WasmTypeKind.TheVariants as kind
 
 -- a refusal with a cause at the node, where its tree has that fault
-pub caused_blame : (Full : TypeTree → Type 0) (T : TypeTree) (source : List ℕ) (n : NodeTree) (t : Placed) (cause : Cause) (e : Diagnostic) → placed_of source n ≡ Some t → IsCaused cause n e → (RefusesFor cause (span_of t) (refusal_of e) e.span → Fault T t (refusal_of e) e.span) → IsBlamed Full T t e
-caused_blame Full T source n t cause e is (inl memory) fault = inl memory
-caused_blame Full T source n t cause e is (inr refused) fault = inr (inl (fault (refused.0, refused.1 ∙ sym (inside source n t is).place)))
+pub caused_blame : (Full : TypeTree → Type 0) (o w : Order) (T : TypeTree) (source : List ℕ) (n : NodeTree) (t : Placed) (cause : Cause) (e : Diagnostic) → placed_of source n ≡ Some t → IsCaused cause n e → (RefusesFor cause (span_of t) (refusal_of e) e.span → FirstFault o w T t (refusal_of e) e.span) → IsBlamed Full o w T t e
+caused_blame Full o w T source n t cause e is (inl memory) fault = inl memory
+caused_blame Full o w T source n t cause e is (inr refused) fault = inr (inl (fault (refused.0, refused.1 ∙ sym (inside source n t is).place)))
 
 -- none of the kinds that are read, but for those of whole types
 pub record IsUnread (k : WasmTypeKind) : Type 0 where
@@ -38,24 +39,24 @@ pub record IsUnread (k : WasmTypeKind) : Type 0 where
   pub map : k ≢ kind.Map
 
 -- a type without values is refused with the word of its kind
-unread_fault : (T : TypeTree) (t : Placed) (k : WasmTypeKind) (r : Refusal) (q : Range ℕ) → k ≡ kind_of T → IsUnread k → ((which : Whole) → k ≢ whole_kind which) → RefusesFor (unsupported_type (kind_word k)) (span_of t) r q → Fault T t r q
-unread_fault (type.simple type.bool) t k r q e unread none refused = absurd (unread.bool e)
-unread_fault (type.simple (type.whole which)) t k r q e unread none refused = absurd (none which e)
-unread_fault (type.simple type.char) t k r q e unread none refused = absurd (unread.char e)
-unread_fault (type.simple type.string) t k r q e unread none refused = absurd (unread.string e)
-unread_fault (type.unreadable u) t k r q e unread none refused = subst (λ (w : WasmTypeKind). RefusesFor (unsupported_type (kind_word w)) (span_of t) r q) e refused
-unread_fault (type.fixed E n) t k r q e unread none refused = absurd (unread.fixed e)
-unread_fault (type.list E) t k r q e unread none refused = absurd (unread.list e)
-unread_fault (type.record_type fs) t k r q e unread none refused = absurd (unread.record_kind e)
-unread_fault (type.tuple Ts) t k r q e unread none refused = absurd (unread.tuple e)
-unread_fault (type.option P) t k r q e unread none refused = absurd (unread.option e)
-unread_fault (type.result A B) t k r q e unread none refused = absurd (unread.result e)
-unread_fault (type.variant cases) t k r q e unread none refused = absurd (unread.variant e)
-unread_fault (type.enum names) t k r q e unread none refused = absurd (unread.enum e)
-unread_fault (type.flags names) t k r q e unread none refused = absurd (unread.flags e)
-unread_fault (type.map K V) t k r q e unread none refused = absurd (unread.map e)
+unread_fault : (o w : Order) (T : TypeTree) (t : Placed) (k : WasmTypeKind) (r : Refusal) (q : Range ℕ) → k ≡ kind_of T → IsUnread k → ((which : Whole) → k ≢ whole_kind which) → RefusesFor (unsupported_type (kind_word k)) (span_of t) r q → FirstFault o w T t r q
+unread_fault o w (type.simple type.bool) t k r q e unread none refused = absurd (unread.bool e)
+unread_fault o w (type.simple (type.whole which)) t k r q e unread none refused = absurd (none which e)
+unread_fault o w (type.simple type.char) t k r q e unread none refused = absurd (unread.char e)
+unread_fault o w (type.simple type.string) t k r q e unread none refused = absurd (unread.string e)
+unread_fault o w (type.unreadable u) t k r q e unread none refused = subst (λ (w : WasmTypeKind). RefusesFor (unsupported_type (kind_word w)) (span_of t) r q) e refused
+unread_fault o w (type.fixed E n) t k r q e unread none refused = absurd (unread.fixed e)
+unread_fault o w (type.list E) t k r q e unread none refused = absurd (unread.list e)
+unread_fault o w (type.record_type fs) t k r q e unread none refused = absurd (unread.record_kind e)
+unread_fault o w (type.tuple Ts) t k r q e unread none refused = absurd (unread.tuple e)
+unread_fault o w (type.option P) t k r q e unread none refused = absurd (unread.option e)
+unread_fault o w (type.result A B) t k r q e unread none refused = absurd (unread.result e)
+unread_fault o w (type.variant cases) t k r q e unread none refused = absurd (unread.variant e)
+unread_fault o w (type.enum names) t k r q e unread none refused = absurd (unread.enum e)
+unread_fault o w (type.flags names) t k r q e unread none refused = absurd (unread.flags e)
+unread_fault o w (type.map K V) t k r q e unread none refused = absurd (unread.map e)
 
 -- so a refusal for lack of values is a fault
-pub unread_blame : (Full : TypeTree → Type 0) (T : TypeTree) (source : List ℕ) (n : NodeTree) (t : Placed) (k : WasmTypeKind) (e : Diagnostic) → placed_of source n ≡ Some t → k ≡ kind_of T → IsUnread k → ((which : Whole) → k ≢ whole_kind which) → IsCaused (unsupported_type (kind_word k)) n e → IsBlamed Full T t e
-unread_blame Full T source n t k e is same unread none caused =
-    caused_blame Full T source n t (unsupported_type (kind_word k)) e is caused (unread_fault T t k (refusal_of e) e.span same unread none)
+pub unread_blame : (Full : TypeTree → Type 0) (o w : Order) (T : TypeTree) (source : List ℕ) (n : NodeTree) (t : Placed) (k : WasmTypeKind) (e : Diagnostic) → placed_of source n ≡ Some t → k ≡ kind_of T → IsUnread k → ((which : Whole) → k ≢ whole_kind which) → IsCaused (unsupported_type (kind_word k)) n e → IsBlamed Full o w T t e
+unread_blame Full o w T source n t k e is same unread none caused =
+    caused_blame Full o w T source n t (unsupported_type (kind_word k)) e is caused (unread_fault o w T t k (refusal_of e) e.span same unread none)

@@ -11,7 +11,7 @@ use Rattle.wave_grammar.specs.TypedGrammar.{IsOption}
 use Rattle.wave_lex.specs.Tokenization.{span}
 use Rattle.wave_grammar.specs.Elaborates.{TreeReads}
 use Rattle.wave_grammar.specs.SpannedTree.{Placed, tuple, placed_trees, shape_of, span_of, tree_of, LiesIn}
-use Rattle.wave_grammar.specs.TypeErrors.{Fault}
+use Rattle.wave_grammar.specs.FaultOrder.{by_type, FirstFault}
 use Rattle.wave_syntax.specs.NodeTree.{NodeTree, type_of, place_of}
 use Rattle.wave_syntax.specs.NodeAccessors.{RefusedAs}
 use Rattle.wave_syntax.specs.ErrorSpans.{HasTypeKind}
@@ -28,7 +28,7 @@ abbrev pub ParamsFault : List TypeTree → List Placed → Range ℕ → Diagnos
 ParamsFault Ts [] close e = SomeOf IsNoOption Ts × Says e InvalidParams close (Some too_few_params)
 ParamsFault [] (t ∷ ts) close e = Says e InvalidParams (span_of t) (Some too_many_params)
 ParamsFault (T ∷ Ts) (t ∷ ts) close e =
-    Fault T t (refusal_of e) e.span × ((v : Value) → TreeReads T (tree_of t) v → ⊥)
+    FirstFault by_type by_type T t (refusal_of e) e.span × ((v : Value) → TreeReads T (tree_of t) v → ⊥)
     ⊎ ((v : Value) × TreeReads T (tree_of t) v × ParamsFault Ts ts close e)
 
 -- the last byte of a node: the close of a tuple
@@ -60,7 +60,7 @@ RefusesNoValue Full Ts at e = (e.kind ≡ WasmValueError) × (e.span ≡ at) × 
 pub record RefusesItem (Full : TypeTree → Type 0) (T : TypeTree) (t : Placed) (e : Diagnostic) : Type 0 where
   pub kind : HasTypeKind e
   pub lies : LiesIn e.span (span_of t).start (span_of t).end
-  pub blames : HasDistinctNames T → IsTypeError Full T t e
+  pub blames : HasDistinctNames T → IsTypeError Full by_type T t e
 
 -- the type gives the item a value, where its names are distinct
 abbrev pub HasItemValue : TypeTree → Placed → Type 0

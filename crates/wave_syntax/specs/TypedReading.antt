@@ -19,26 +19,27 @@ use Rattle.wave_syntax.specs.Nodes.{IsNodeOf, IsTokenOf}
 use Rattle.wave_grammar.specs.Token.{Token}
 use Rattle.wave_grammar.specs.LeafTokens.{Spells}
 use Rattle.wave_grammar.specs.Elaborates.{TreeReads}
-use Rattle.wave_grammar.specs.TypeErrors.{Fault, LoneKeyFault, SpellsNoLeaf}
+use Rattle.wave_grammar.specs.TypeErrors.{LoneKeyFault, SpellsNoLeaf}
+use Rattle.wave_grammar.specs.FaultOrder.{Order, by_type, FirstFault}
 
 -- the type gives the tree the value, which is of the type; V is the Rust type of foreign values, `tree` says what one means, `of` when it is of a type
 pub record IsTypedValue {V : Type 0} (tree : V → Value) (of : V → TypeTree → Type 0) (T : TypeTree) (t : Placed) (v : V) : Type 0 where
   pub reads : TreeReads T (tree_of t) (tree v)
   pub is_of : of v T
 
--- out of memory; or a fault of the tree; or, where constructors do not serve all values of the type, the refusal of one
-abbrev pub IsBlamed : (TypeTree → Type 0) → TypeTree → Placed → Diagnostic → Type 0
-IsBlamed Full T t e =
-    (e.kind ≡ OutOfMemory) ⊎ Fault T t (refusal_of e) e.span ⊎ (e.kind ≡ WasmValueError) × (Full T → ⊥)
+-- out of memory; or the fault of the tree that is answered in these orders; or, where constructors do not serve all values of the type, the refusal of one
+abbrev pub IsBlamed : (TypeTree → Type 0) → Order → Order → TypeTree → Placed → Diagnostic → Type 0
+IsBlamed Full o w T t e =
+    (e.kind ≡ OutOfMemory) ⊎ FirstFault o w T t (refusal_of e) e.span ⊎ (e.kind ≡ WasmValueError) × (Full T → ⊥)
 
 -- the type gives the tree no value
 abbrev pub ReadsNone : TypeTree → Placed → Type 0
 ReadsNone T t = (v : Value) → TreeReads T (tree_of t) v → ⊥
 
--- so, and a fault stands only where the type gives the tree no value
-abbrev pub IsTypeError : (TypeTree → Type 0) → TypeTree → Placed → Diagnostic → Type 0
-IsTypeError Full T t e =
-    (e.kind ≡ OutOfMemory) ⊎ Fault T t (refusal_of e) e.span × ReadsNone T t ⊎ (e.kind ≡ WasmValueError) × (Full T → ⊥)
+-- so in one order, and a fault stands only where the type gives the tree no value
+abbrev pub IsTypeError : (TypeTree → Type 0) → Order → TypeTree → Placed → Diagnostic → Type 0
+IsTypeError Full o T t e =
+    (e.kind ≡ OutOfMemory) ⊎ FirstFault o o T t (refusal_of e) e.span × ReadsNone T t ⊎ (e.kind ≡ WasmValueError) × (Full T → ⊥)
 
 -- the node is that of a value
 abbrev pub IsValueOf : List ℕ → NodeTree → Type 0
@@ -80,22 +81,23 @@ module _ {V : Type 0} (tree : V → Value) (of : V → TypeTree → Type 0) (Ful
   abbrev pub IsLeafMade : Leaf → NodeTree → Result V Diagnostic → Type 0
   IsLeafMade one n r = (made : Result V causes.WasmValueError) × IfOk made (MakesLeaf tree of one) × IfErr made (FullLeaf Full one) × IsMade n made r
 
-  -- the value of the node's tree at the type, or a refusal of it
-  abbrev pub Answers : TypeTree → List ℕ → NodeTree → Result V Diagnostic → Type 0
-  Answers T source n r = (t : Placed) → IsNodeOf source n t → HasDistinctNames T → MatchResult r (IsTypedValue tree of T t) (IsBlamed Full T t)
-
   -- the value of the node's key at the simple type, or a refusal of it
   abbrev pub AnswersKey : TypeTree → List ℕ → NodeTree → Result V Diagnostic → Type 0
   AnswersKey T source n r =
       (K : Simple) (p : Range ℕ) (key : Token) → T ≡ type.simple K → IsTokenOf source n p key
       → MatchResult r (IsKeyRead tree of K key) (IsKeyBlamed Full K p key)
 
-  -- so, and a fault stands only where the type gives the tree no value
+  -- the value of the node's tree at the type, or its refusal: a fault is the first as the type is gone through, and stands only where there is no value
   abbrev pub ReadsAtType : TypeTree → List ℕ → NodeTree → Result V Diagnostic → Type 0
-  ReadsAtType T source n r = (t : Placed) → IsNodeOf source n t → HasDistinctNames T → MatchResult r (IsTypedValue tree of T t) (IsTypeError Full T t)
+  ReadsAtType T source n r = (t : Placed) → IsNodeOf source n t → HasDistinctNames T → MatchResult r (IsTypedValue tree of T t) (IsTypeError Full by_type T t)
 
   -- so of the node's key at the simple type
   abbrev pub ReadsKey : TypeTree → List ℕ → NodeTree → Result V Diagnostic → Type 0
   ReadsKey T source n r =
       (K : Simple) (p : Range ℕ) (key : Token) → T ≡ type.simple K → IsTokenOf source n p key
       → MatchResult r (IsKeyRead tree of K key) (IsKeyError Full K p key)
+
+module _ {V : Type 0} (tree : V → Value) (of : V → TypeTree → Type 0) (Full : TypeTree → Type 0) (o w : Order) where
+  -- the value of the node's tree at the type, or its refusal in these orders
+  abbrev pub Answers : TypeTree → List ℕ → NodeTree → Result V Diagnostic → Type 0
+  Answers T source n r = (t : Placed) → IsNodeOf source n t → HasDistinctNames T → MatchResult r (IsTypedValue tree of T t) (IsBlamed Full o w T t)

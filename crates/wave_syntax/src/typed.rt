@@ -1,14 +1,12 @@
 //! Calls that readers at types share.
-ghost use Rattle.std.specs.Prelude.{◌≡◌, ◌≢◌, ◌↔◌, map, option_map, IsTrue, IfOk};
+ghost use Rattle.std.specs.Prelude.{◌≡◌, ◌≢◌, ◌↔◌, map, IsTrue, IfOk};
 ghost use Rattle.std.specs.Bool.{OnTrue};
 ghost use Rattle.std.specs.Str.{bytes_eq};
-ghost use Rattle.wave_wasm.specs.Borrowed.{texts, shown, shown_cases};
+ghost use Rattle.wave_wasm.specs.Borrowed.{shown};
 ghost use Rattle.wave_wasm.specs.Merge.{merge};
 ghost use Rattle.wave_wasm.specs.Names.{AreDistinct};
 ghost use Rattle.wave_wasm.specs.Shared.Fingerprints.{fingerprint};
 ghost use Rattle.wave_wasm.specs.Text.{text};
-ghost use Rattle.wave_grammar.specs.TypedGrammar.{look_up};
-ghost use Rattle.wave_syntax.specs.Shared.NodeAccessors.{Among};
 ghost use Rattle.wave_syntax.specs.Shared.TypedReading.{GivesFlat};
 
 use std::alloc::{AllocError, Global};
@@ -112,32 +110,4 @@ pub fn flat_type<T: WasmType>(payload: Option<&T>) -> Option<&T>
         Some(ty) if is_flat(ty.kind()) => Some(ty),
         _ => None,
     }
-}
-
-/// What the case of this name has for the type of its payload, where there is such a case.
-pub fn case_payload<'ty, T: WasmType>(
-    cases: &Vec<(&str, Option<&'ty T>)>,
-    name: &str,
-) -> Option<Option<&'ty T>>
-    ensures { option_map (shown T.tree) result ≡ look_up (shown_cases T.tree cases.now.items) name.now }
-{
-    for case in cases {
-        let (other, payload) = *case;
-        if name == other {
-            return Some(payload);
-        }
-    }
-    None
-}
-
-/// Whether the name is one of these.
-pub fn is_among(names: &Vec<&str>, name: &str) -> bool
-    ensures { Among (texts names.now.items) name.now result }
-{
-    for other in names {
-        if name == *other {
-            return true;
-        }
-    }
-    false
 }

@@ -6,7 +6,6 @@ use Rattle.wave_grammar.specs.ParserPosition.{Place, TakesItem, span_at, text_at
 use Rattle.wave_grammar.specs.Tree.{word_of}
 use Rattle.wave_grammar.specs.PrefixAutomaton.{Form, due_behind, value, behind_value, value_step, unexpected}
 use Rattle.wave_grammar.specs.SyntaxErrors.{LeadsBehindValue}
-use Rattle.wave_syntax.specs.NodeParts.{IsOneToken}
 use Rattle.wave_syntax.specs.NodeTree.{node, no_nodes}
 use Rattle.wave_syntax.specs.declared.form.NodeType.{NodeType}
 use Rattle.wave_syntax.specs.declared.form.NodeType.TheVariants as kind

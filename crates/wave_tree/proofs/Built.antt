@@ -3,10 +3,10 @@ use Rattle.std.proofs.Common.{◌≡◌, ℕ, List, [], ◌∷◌, ◌++◌, Som
 use Rattle.std.specs.Prelude.{IfOk, IfErr}
 use Rattle.wave_lex.specs.declared.lex.Token as lex
 use Rattle.wave_lex.specs.Tokenization.{span}
-use Rattle.wave_grammar.specs.ParserPosition.{Place, TakesItem, span_at}
+use Rattle.wave_grammar.specs.ParserPosition.{Place, TakesItem}
 use Rattle.wave_grammar.specs.PrefixAutomaton.{Due, Form}
 use Rattle.wave_grammar.proofs.Slices.{tokens_source}
-use Rattle.wave_syntax.specs.NodeTree.{NodeTree, node, no_nodes, node_trees}
+use Rattle.wave_syntax.specs.NodeTree.{NodeTree, node, node_trees}
 use Rattle.wave_syntax.specs.declared.form.NodeType.{NodeType}
 use Rattle.wave_tree.specs.ParsedNodes.{IsParsed, IsBuilt}
 use Rattle.wave_tree.proofs.ParserSteps.{Reached}

@@ -29,6 +29,7 @@ use Rattle.wave_syntax.proofs.ByKind.Leaves.{tree_is}
 use Rattle.wave_syntax.proofs.ChildNodes.Inside.{From, inside}
 use Rattle.wave_syntax.proofs.ErrorSpans.Nodes.{all_in_text}
 use Rattle.wave_syntax.proofs.Faultless.{refused}
+use Rattle.wave_grammar.specs.FaultOrder.{in_text}
 use Rattle.wave_leaf.specs.PlainReading.{IsPlain, IsReadSparing}
 use Rattle.wave_leaf.specs.Reading.{IsReadAs}
 use Rattle.wave_tree.specs.ParserState.{BeginsRow}
@@ -43,9 +44,9 @@ module _ {V : Type 0} (tree : V → Value) (of : V → TypeTree → Type 0) (Ful
     pub node : NodeTree
     pub led : LeadsBehindValue n value [] old new []
     pub taken : IsNodeTaken n old new node
-    pub read : IsReadAs tree of Full T old.lexer.source node r
+    pub read : IsReadAs tree of Full in_text in_text T old.lexer.source node r
 
-  pub answered : (T : TypeTree) (n : ℕ) (old new : Place) (r : Result V Diagnostic) (m : NodeTree) → IsSound old → LeadsBehindValue n value [] old new [] → IsParsed n old new m → IsReadAs tree of Full T old.lexer.source m r → IsAnswered T n old new r
+  pub answered : (T : TypeTree) (n : ℕ) (old new : Place) (r : Result V Diagnostic) (m : NodeTree) → IsSound old → LeadsBehindValue n value [] old new [] → IsParsed n old new m → IsReadAs tree of Full in_text in_text T old.lexer.source m r → IsAnswered T n old new r
   answered T n old new r m sound led parsed read = record { node = m; led = led; taken = node_parsed n old new m sound parsed; read = read }
 
   -- the node is that of a value
@@ -58,7 +59,7 @@ module _ {V : Type 0} (tree : V → Value) (of : V → TypeTree → Type 0) (Ful
   pub answered_refused : (T : TypeTree) (n : ℕ) (old new : Place) (e : Diagnostic) → IsAnswered T n old new (Err e) → e.kind ≢ because.OutOfMemory → IsTypeRefused Full T n e old new
   answered_refused T n old new e h apart =
       node_refused Full T n old.lexer.source old new h.node e refl h.led h.taken (h.read.within (is_value n old new h.node h.taken)).1
-      (λ t is distinct. refused tree of Full T t (Err e) distinct (h.read.answer t is distinct)) apart
+      (λ t is distinct. refused tree of Full in_text T t (Err e) distinct (h.read.answer t is distinct)) apart
 
   pub answered_within : (T : TypeTree) (n : ℕ) (old new : Place) (r : Result V Diagnostic) → IsAnswered T n old new r → IfErr r (λ e. LiesInText old.lexer.source e.span)
   answered_within T n old new r h = let value = is_value n old new h.node h.taken in all_in_text old.lexer.source h.node r (inl value) (h.read.within value)
@@ -117,8 +118,8 @@ row_there n old new parsed sound h (q, inr mark) =
 
 -- what was made of a node there; at a plain type a tuple or a list is refused without memory
 pub typed_answered : {V S : Type 0} (tree : V → Value) (of : V → TypeTree → Type 0) (Full : TypeTree → Type 0) (type_tree : S → TypeTree) (n : ℕ) (old new : Place) (r : Result V Diagnostic) (o : Option (Bor S)) (x : Bor S) → o ≡ Some x → IsSound old →
-    LeadsBehindValue n value [] old new [] → IsBuilt (IsReadSparing tree of Full (shown type_tree o)) old (IsParsed n old new) r →
+    LeadsBehindValue n value [] old new [] → IsBuilt (IsReadSparing tree of Full in_text in_text (shown type_tree o)) old (IsParsed n old new) r →
     IsAnswered tree of Full (type_tree x.now) n old new r × (IsPlain (type_tree x.now) → BeginsRow old → IfErr r (λ e. e.kind ≢ because.OutOfMemory))
 typed_answered {V} {S} tree of Full type_tree n old new r o x due sound led (m, parsed, read) =
-    let given = subst (λ (z : Option (Bor S)). IsReadSparing tree of Full (shown type_tree z) old.lexer.source m r) due read in
+    let given = subst (λ (z : Option (Bor S)). IsReadSparing tree of Full in_text in_text (shown type_tree z) old.lexer.source m r) due read in
     (answered tree of Full (type_tree x.now) n old new r m sound led parsed given.0, λ plain row. given.1 plain (row_there n old new m sound parsed row))

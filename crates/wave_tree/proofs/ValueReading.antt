@@ -8,7 +8,7 @@ use Rattle.wave_lex.specs.Labels.{Good}
 use Rattle.wave_lex.specs.declared.error.ParserErrorKind.TheVariants as kind
 use Rattle.wave_lex.specs.Errors.{Diagnostic, Refusal, LiesInText, refusal_of}
 use Rattle.wave_grammar.specs.SpannedTree.{Placed, tree_of}
-use Rattle.wave_grammar.specs.TypeErrors.{Fault}
+use Rattle.wave_grammar.specs.FaultOrder.{in_text, FirstFault}
 use Rattle.wave_grammar.specs.ParserPosition.{Place, TakesItem}
 use Rattle.wave_grammar.specs.PrefixAutomaton.{value}
 use Rattle.wave_grammar.specs.SyntaxErrors.{LeadsBehindValue, IsSyntaxError}
@@ -42,7 +42,7 @@ node_read tree_of_value of T n source old new parsed v same read h answer = reco
 -- why it gives it no value
 pub node_refused : (Full : TypeTree → Type 0) (T : TypeTree) (n : ℕ) (source : List ℕ) (old new : Place) (parsed : NodeTree) (e : Diagnostic) →
     source ≡ old.lexer.source → LeadsBehindValue n value [] old new [] → IsNodeTaken n old new parsed → HasTypeKind e →
-    ((t : Placed) → IsNodeOf source parsed t → HasDistinctNames T → typed.IsTypeError Full T t e) → e.kind ≢ kind.OutOfMemory → IsTypeRefused Full T n e old new
+    ((t : Placed) → IsNodeOf source parsed t → HasDistinctNames T → typed.IsTypeError Full in_text T t e) → e.kind ≢ kind.OutOfMemory → IsTypeRefused Full T n e old new
 node_refused Full T n source old new parsed e same read h of_type answer apart = record {
   placed = h.placed;
   read = record { read = read; taken = h.taken; stands = h.stands; spelled = h.is_node.1 };
@@ -79,7 +79,7 @@ front_refused Full T n s p e h = by (memory_or e.kind)
 text_blamed : (Full : TypeTree → Type 0) (T : TypeTree) (n : ℕ) (s : List ℕ) (p : Place) (e : Diagnostic) → RefusesValue Full T n e (start_of s) p → HasDistinctNames T → BlamesText Full T n s e
 text_blamed Full T n s p e h distinct = by (memory_or e.kind)
   where
-    by_blame : (k : IsTypeRefused Full T n e (start_of s) p) → Fault T k.placed (refusal_of e) e.span × typed.ReadsNone T k.placed ⊎ (e.kind ≡ kind.WasmValueError) × (Full T → ⊥) → BlamesText Full T n s e
+    by_blame : (k : IsTypeRefused Full T n e (start_of s) p) → FirstFault in_text in_text T k.placed (refusal_of e) e.span × typed.ReadsNone T k.placed ⊎ (e.kind ≡ kind.WasmValueError) × (Full T → ⊥) → BlamesText Full T n s e
     by_blame k (inl (fault, none)) = inr (inl (inr (inl (p, k.placed, k.read, fault)), λ v means. none v (whole_read T n s p (tree_of k.placed) v k.read.read k.read.taken means).reads))
     by_blame k (inr other) = inr (inr other)
 

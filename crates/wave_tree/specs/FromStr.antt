@@ -14,7 +14,7 @@ use Rattle.wave_grammar.specs.PrefixAutomaton.{value}
 use Rattle.wave_grammar.specs.SyntaxErrors.{LeadsBehindValue, IsSyntaxError}
 use Rattle.wave_grammar.specs.SpannedTree.{Placed, tree_of, SpellsEach}
 use Rattle.wave_grammar.specs.Elaborates.{TreeReads}
-use Rattle.wave_grammar.specs.TypeErrors.{Fault}
+use Rattle.wave_grammar.specs.FaultOrder.{in_text, FirstFault}
 use Rattle.wave_grammar.specs.Denotes.{Means, MeansNone}
 use Rattle.wave_grammar.specs.Tree.{levels}
 use Rattle.wave_grammar.specs.RoundTripLaws.{ReadBack}
@@ -60,7 +60,7 @@ module _ (Full : TypeTree → Type 0) where
     pub placed : Placed
     pub read : IsTreeRead n old new placed
     pub kind : HasTypeKind e
-    pub blames : HasDistinctNames T → Fault T placed (refusal_of e) e.span × typed.ReadsNone T placed ⊎ (e.kind ≡ WasmValueError) × (Full T → ⊥)
+    pub blames : HasDistinctNames T → FirstFault in_text in_text T placed (refusal_of e) e.span × typed.ReadsNone T placed ⊎ (e.kind ≡ WasmValueError) × (Full T → ⊥)
 
   -- no value was read: for lack of memory, or no tree within n levels stands there, or one that is refused at the type
   abbrev pub RefusesValue : TypeTree → ℕ → Diagnostic → Place → Place → Type 0
@@ -80,7 +80,7 @@ RefusesFront n s e =
 abbrev pub TextFault : TypeTree → ℕ → List ℕ → Diagnostic → Type 0
 TextFault T n s e =
     ((p : Place) × IsSyntaxError e n value [] (start_of s) p)
-    ⊎ ((p : Place) × (t : Placed) × IsTreeRead n (start_of s) p t × Fault T t (refusal_of e) e.span)
+    ⊎ ((p : Place) × (t : Placed) × IsTreeRead n (start_of s) p t × FirstFault in_text in_text T t (refusal_of e) e.span)
     ⊎ ((p : Place) × (t : Placed) × (v : Value) × IsTreeRead n (start_of s) p t × TreeReads T (tree_of t) v × IsTrailing e p)
 
 -- out of memory; or a fault of the text, which within n levels means no value of the type; or, where constructors do not serve all values of the type, the

@@ -17,6 +17,7 @@ use Rattle.wave_grammar.specs.LeafTokens.{name_of}
 use Rattle.wave_grammar.specs.Elaborates.{TreeReads}
 use Rattle.wave_grammar.specs.SpannedTree.{Placed, Shape, at, label, MaybePlaced, no_placed, a_placed, slice, span_of, shape_of, tree_of}
 use Rattle.wave_grammar.specs.TypeErrors.{Blame, IsRefusalOf, RefusesFor, OfForm, Fault, label_in}
+use Rattle.wave_grammar.specs.FaultOrder.{Order, FirstFault}
 use Rattle.wave_syntax.specs.NodeTree.{NodeTree, type_of, place_of}
 use Rattle.wave_syntax.specs.Nodes.{placed_of, shape_from}
 use Rattle.wave_syntax.specs.NodeAccessors.{node_text}
@@ -55,23 +56,23 @@ no_label names ty p r text cs (label w v (a_placed u)) k q f apart refused = inl
 no_label names ty p r text cs _ k q f apart refused = refused
 
 -- a node that is no label alone
-pub enum_fault : (names : List (List ℕ)) (source : List ℕ) (n : NodeTree) (t : Placed) (k : Refusal) (q : Range ℕ) → placed_of source n ≡ Some t → type_of n ≢ kind.Label → IsRefusalOf InvalidType (place_of n) k q → Fault (type.enum names) t k q
-enum_fault names source n t k q e apart refused =
+pub enum_fault : (o w : Order) (names : List (List ℕ)) (source : List ℕ) (n : NodeTree) (t : Placed) (k : Refusal) (q : Range ℕ) → placed_of source n ≡ Some t → type_of n ≢ kind.Label → IsRefusalOf InvalidType (place_of n) k q → FirstFault o w (type.enum names) t k q
+enum_fault o w names source n t k q e apart refused =
     let i = inside source n t e in
     no_label names (type_of n) (place_of n) (span_of t) (slice source (place_of n)) i.children (shape_of t) k q i.from apart (at_tree InvalidType (place_of n) (span_of t) k q i.place refused)
 
 -- a label that is no case
-pub unknown_fault : (names : List (List ℕ)) (t : Placed) (p : Range ℕ) (text : List ℕ) (k : Refusal) (q : Range ℕ) → shape_of t ≡ label p text no_placed → IsNoneOf names (name_of text) → RefusesFor (unknown_case (name_of text)) (span_of t) k q → Fault (type.enum names) t k q
-unknown_fault names t p text k q shape none refused =
+pub unknown_fault : (o w : Order) (names : List (List ℕ)) (t : Placed) (p : Range ℕ) (text : List ℕ) (k : Refusal) (q : Range ℕ) → shape_of t ≡ label p text no_placed → IsNoneOf names (name_of text) → RefusesFor (unknown_case (name_of text)) (span_of t) k q → FirstFault o w (type.enum names) t k q
+unknown_fault o w names t p text k q shape none refused =
     subst (λ (s : Shape). OfForm (label_in s) (span_of t) (EnumFault names (span_of t)) k q) (sym shape) (inr (refl, none, refused))
 
-module _ {V : Type 0} (tree : V → Value) (of : V → TypeTree → Type 0) (Full : TypeTree → Type 0) where
+module _ {V : Type 0} (tree : V → Value) (of : V → TypeTree → Type 0) (Full : TypeTree → Type 0) (o w : Order) where
   -- the refusal of a label that is no case
-  pub unknown_blame : (T : TypeTree) (names : List (List ℕ)) (source : List ℕ) (n : NodeTree) (t : Placed) (name : List ℕ) (e : Diagnostic) → T ≡ type.enum names → placed_of source n ≡ Some t → type_of n ≡ kind.Label → name ≡ name_of (node_text source n) → IsNoneOf names name → IsCaused (unknown_case name) n e → IsBlamed Full T t e
+  pub unknown_blame : (T : TypeTree) (names : List (List ℕ)) (source : List ℕ) (n : NodeTree) (t : Placed) (name : List ℕ) (e : Diagnostic) → T ≡ type.enum names → placed_of source n ≡ Some t → type_of n ≡ kind.Label → name ≡ name_of (node_text source n) → IsNoneOf names name → IsCaused (unknown_case name) n e → IsBlamed Full o w T t e
   unknown_blame T names source n t name e is node ty named none caused =
-      caused_blame Full T source n t (unknown_case name) e node caused (λ refused.
-      let fault : Fault (type.enum names) t (refusal_of e) e.span = unknown_fault names t (place_of n) (node_text source n) (refusal_of e) e.span (label_node source n t node ty) (subst (IsNoneOf names) named none) (subst (λ (w : List ℕ). RefusesFor (unknown_case w) (span_of t) (refusal_of e) e.span) named refused) in
-      subst (λ (U : TypeTree). Fault U t (refusal_of e) e.span) (sym is) fault)
+      caused_blame Full o w T source n t (unknown_case name) e node caused (λ refused.
+      let fault : FirstFault o w (type.enum names) t (refusal_of e) e.span = unknown_fault o w names t (place_of n) (node_text source n) (refusal_of e) e.span (label_node source n t node ty) (subst (IsNoneOf names) named none) (subst (λ (w : List ℕ). RefusesFor (unknown_case w) (span_of t) (refusal_of e) e.span) named refused) in
+      subst (λ (U : TypeTree). FirstFault o w U t (refusal_of e) e.span) (sym is) fault)
 
   enum_reads : (T : TypeTree) (names : List (List ℕ)) (t : Placed) (name : List ℕ) (m : Result V WasmValueError) → T ≡ type.enum names → HasDistinctNames T → TreeReads (type.enum names) (tree_of t) (value.enum name) → IfOk m (MakesEnum tree of T name) → IfOk m (IsTypedValue tree of T t)
   enum_reads T names t name (Ok v) is distinct read h =
@@ -84,11 +85,11 @@ module _ {V : Type 0} (tree : V → Value) (of : V → TypeTree → Type 0) (Ful
   enum_full T names name (Err cause) is h f = λ full. f full names is h
 
   -- the case was made, or its constructor refused
-  pub enum_made : (T : TypeTree) (names : List (List ℕ)) (source : List ℕ) (n : NodeTree) (t : Placed) (name : List ℕ) (m : Result V WasmValueError) (r : Result V Diagnostic) → T ≡ type.enum names → HasDistinctNames T → placed_of source n ≡ Some t → type_of n ≡ kind.Label → name ≡ name_of (node_text source n) → IsOneOf names name → IfOk m (MakesEnum tree of T name) → IfErr m (FullEnum of Full T name) → IsMade n m r → MatchResult r (IsTypedValue tree of T t) (IsBlamed Full T t)
+  pub enum_made : (T : TypeTree) (names : List (List ℕ)) (source : List ℕ) (n : NodeTree) (t : Placed) (name : List ℕ) (m : Result V WasmValueError) (r : Result V Diagnostic) → T ≡ type.enum names → HasDistinctNames T → placed_of source n ≡ Some t → type_of n ≡ kind.Label → name ≡ name_of (node_text source n) → IsOneOf names name → IfOk m (MakesEnum tree of T name) → IfErr m (FullEnum of Full T name) → IsMade n m r → MatchResult r (IsTypedValue tree of T t) (IsBlamed Full o w T t)
   enum_made T names source n t name m r is distinct node ty named known ok full done =
       let shape = label_node source n t node ty in
       let read : TreeReads (type.enum names) (tree_of t) (value.enum name) = (node_text source n, tree_is t (label (place_of n) (node_text source n) no_placed) shape, subst (IsOneOf names) named known, ap value.enum named) in
-      made tree of Full T t n m r done (enum_reads T names t name m is distinct read ok) (enum_full T names name m is known full)
+      made tree of Full o w T t n m r done (enum_reads T names t name m is distinct read ok) (enum_full T names name m is known full)
 
 -- ---- no value
 

@@ -17,7 +17,8 @@ use Rattle.wave_grammar.specs.LeafTokens.{Spells}
 use Rattle.wave_grammar.specs.NumberText.{IsNumberOf, whole_text, signed_text, unsigned_text}
 use Rattle.wave_grammar.specs.Elaborates.{SimpleTree}
 use Rattle.wave_grammar.specs.SpannedTree.{Placed, Shape, at, one, slice, span_of, shape_of, tree_of, tree_of_shape}
-use Rattle.wave_grammar.specs.TypeErrors.{RefusesWith, IsRefusalOf, OfForm, LeafFault, IsForm, Fault, one_in}
+use Rattle.wave_grammar.specs.TypeErrors.{RefusesWith, IsRefusalOf, OfForm, LeafFault, IsForm, one_in}
+use Rattle.wave_grammar.specs.FaultOrder.{Order, FirstFault}
 use Rattle.wave_syntax.specs.NodeTree.{NodeTree, type_of, place_of}
 use Rattle.wave_syntax.specs.Nodes.{placed_of, shape_from, number_token}
 use Rattle.wave_syntax.specs.NodeAccessors.{bool_type, GivesNumber}
@@ -79,8 +80,8 @@ not_bool ty p text cs (one _) f apart t is form = f
 not_bool ty p text cs _ f apart t is form = cc
 
 -- a node of no bool
-pub bool_fault : (source : List ℕ) (n : NodeTree) (t : Placed) (k : Refusal) (q : Range ℕ) → placed_of source n ≡ Some t → ((b : Bool) → type_of n ≢ bool_type b) → IsRefusalOf InvalidType (place_of n) k q → Fault (type.simple type.bool) t k q
-bool_fault source n t k q e apart refused =
+pub bool_fault : (o w : Order) (source : List ℕ) (n : NodeTree) (t : Placed) (k : Refusal) (q : Range ℕ) → placed_of source n ≡ Some t → ((b : Bool) → type_of n ≢ bool_type b) → IsRefusalOf InvalidType (place_of n) k q → FirstFault o w (type.simple type.bool) t k q
+bool_fault o w source n t k q e apart refused =
     let i = inside source n t e in
     wrong_form type.bool (one_in (shape_of t)) (span_of t) k q (not_bool (type_of n) (place_of n) (slice source (place_of n)) i.children (shape_of t) i.from apart) (at_tree InvalidType (place_of n) (span_of t) k q i.place refused)
 
@@ -129,8 +130,8 @@ no_number which p text k q false word none refused = inr ((text, inl refl), (λ 
     text_is a b e = cc
 
 -- a number node of no number of the type
-pub value_fault : (which : Whole) (source : List ℕ) (n : NodeTree) (t : Placed) (k : Refusal) (q : Range ℕ) → placed_of source n ≡ Some t → type_of n ≡ kind.Number → IsNumberOf which (slice source (place_of n)) None → IsRefusalOf InvalidValue (place_of n) k q → Fault (type.simple (type.whole which)) t k q
-value_fault which source n t k q e is none refused =
+pub value_fault : (o w : Order) (which : Whole) (source : List ℕ) (n : NodeTree) (t : Placed) (k : Refusal) (q : Range ℕ) → placed_of source n ≡ Some t → type_of n ≡ kind.Number → IsNumberOf which (slice source (place_of n)) None → IsRefusalOf InvalidValue (place_of n) k q → FirstFault o w (type.simple (type.whole which)) t k q
+value_fault o w which source n t k q e is none refused =
     let i = inside source n t e in
     let text : List ℕ = slice source (place_of n) in
     subst (λ (o : Option Token). OfForm o (span_of t) (LeafFault (type.whole which) (span_of t)) k q) (ap one_in (sym (number_is source n t e is))) (no_number which (span_of t) text k q (is_number_word text) refl none (at_tree InvalidValue (place_of n) (span_of t) k q i.place refused))
@@ -162,12 +163,12 @@ not_number which ty p text cs (one _) f apart t is form = f
 not_number which ty p text cs _ f apart t is form = cc
 
 -- a node that is no number
-pub number_fault : (which : Whole) (source : List ℕ) (n : NodeTree) (t : Placed) (k : Refusal) (q : Range ℕ) → placed_of source n ≡ Some t → type_of n ≢ kind.Number → IsRefusalOf InvalidType (place_of n) k q → Fault (type.simple (type.whole which)) t k q
-number_fault which source n t k q e apart refused =
+pub number_fault : (o w : Order) (which : Whole) (source : List ℕ) (n : NodeTree) (t : Placed) (k : Refusal) (q : Range ℕ) → placed_of source n ≡ Some t → type_of n ≢ kind.Number → IsRefusalOf InvalidType (place_of n) k q → FirstFault o w (type.simple (type.whole which)) t k q
+number_fault o w which source n t k q e apart refused =
     let i = inside source n t e in
     wrong_form (type.whole which) (one_in (shape_of t)) (span_of t) k q (not_number which (type_of n) (place_of n) (slice source (place_of n)) i.children (shape_of t) i.from apart) (at_tree InvalidType (place_of n) (span_of t) k q i.place refused)
 
 -- the refusal of a number is a fault
-pub number_blame : {N : Type 0} (which : Whole) (number : N → ℤ) (source : List ℕ) (n : NodeTree) (t : Placed) (e : Diagnostic) → placed_of source n ≡ Some t → GivesNumber which number source n (Err e) → Fault (type.simple (type.whole which)) t (refusal_of e) e.span
-number_blame which number source n t e is (inl h) = number_fault which source n t (refusal_of e) e.span is h.0 (said h.1)
-number_blame which number source n t e is (inr h) = value_fault which source n t (refusal_of e) e.span is h.0 h.1 (said h.2)
+pub number_blame : (o w : Order) {N : Type 0} (which : Whole) (number : N → ℤ) (source : List ℕ) (n : NodeTree) (t : Placed) (e : Diagnostic) → placed_of source n ≡ Some t → GivesNumber which number source n (Err e) → FirstFault o w (type.simple (type.whole which)) t (refusal_of e) e.span
+number_blame o w which number source n t e is (inl h) = number_fault o w which source n t (refusal_of e) e.span is h.0 (said h.1)
+number_blame o w which number source n t e is (inr h) = value_fault o w which source n t (refusal_of e) e.span is h.0 h.1 (said h.2)

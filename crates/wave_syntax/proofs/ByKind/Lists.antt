@@ -10,12 +10,14 @@ use Rattle.wave_wasm.specs.ConstructorContracts.{IsOfListKind, IsListOf, IsMemor
 use Rattle.wave_wasm.specs.ValueErrors.{wrong_length}
 use Rattle.wave_wasm.specs.declared.wasm.WasmValueError.{WasmValueError}
 use Rattle.wave_lex.specs.Errors.{Diagnostic, Refusal, refusal_of, caused}
+use Rattle.wave_lex.specs.declared.error.ParserErrorKind.TheVariants as error
 use Rattle.wave_lex.specs.declared.error.ParserErrorKind.TheVariants.{InvalidType}
 use Rattle.wave_grammar.specs.Tree as form
 use Rattle.wave_grammar.specs.Tree.{Tree}
 use Rattle.wave_grammar.specs.Elaborates.{TreeReads, Each}
 use Rattle.wave_grammar.specs.SpannedTree.{Placed, Shape, at, list, placed_trees, placed_list, slice, span_of, shape_of, tree_of, trees_of, SpellsEach, SpellsAll}
-use Rattle.wave_grammar.specs.TypeErrors.{IsRefusalOf, RefusesFor, OfForm, Fault, list_in}
+use Rattle.wave_grammar.specs.TypeErrors.{Blame, IsRefusalOf, RefusesFor, OfForm, list_in}
+use Rattle.wave_grammar.specs.FaultOrder.{Order, FirstOf, FirstFault}
 use Rattle.wave_syntax.specs.NodeTree.{NodeTree, type_of, place_of, children_of}
 use Rattle.wave_syntax.specs.Nodes.{placed_of, IsNodeOf}
 use Rattle.wave_syntax.specs.TypedReading.{IsTypedValue, IsBlamed, IsMade, IsValueOf}
@@ -124,59 +126,68 @@ element_distinct (type.list F) E e h = subst HasDistinctNames (some_is F E e) h
 element_distinct (type.fixed F n) E e h = subst HasDistinctNames (some_is F E e) h
 element_distinct _ E e h = absurd (cc)
 
+-- the first fault of an item
+abbrev ItemFault : Order → TypeTree → List Placed → Blame
+ItemFault w E items = FirstOf (λ item. FirstFault w w E item) items
+
 -- what is wrong with the items of a fixed-length list
-abbrev FixedFault : TypeTree → ℕ → Range ℕ → List Placed → Refusal → Range ℕ → Type 0
-FixedFault E n p items k q = (length items ≢ n) × RefusesFor (wrong_length n (length items)) p k q ⊎ (length items ≡ n) × SomeOf (λ item. Fault E item k q) items
+abbrev FixedFault : Order → TypeTree → ℕ → Range ℕ → List Placed → Blame
+FixedFault w E n p items k q = (length items ≢ n) × RefusesFor (wrong_length n (length items)) p k q ⊎ (length items ≡ n) × ItemFault w E items k q
 
 not_list : (ty : NodeType) (p : Range ℕ) (text : List ℕ) (cs : List Placed) (s : Shape) → From ty p text cs s → ty ≢ kind.List → list_in s ≡ None
 not_list ty p text cs (list ts) f apart = absurd (apart f.0)
 not_list ty p text cs _ f apart = refl
 
 -- a node that is no list
-pub list_fault : (T E : TypeTree) (source : List ℕ) (n : NodeTree) (t : Placed) (k : Refusal) (q : Range ℕ) → list_part T ≡ Some E → placed_of source n ≡ Some t → type_of n ≢ kind.List → IsRefusalOf InvalidType (place_of n) k q → Fault T t k q
-list_fault (type.list F) E source n t k q part e apart refused =
+pub list_fault : (o w : Order) (T E : TypeTree) (source : List ℕ) (n : NodeTree) (t : Placed) (k : Refusal) (q : Range ℕ) → list_part T ≡ Some E → placed_of source n ≡ Some t → type_of n ≢ kind.List → IsRefusalOf InvalidType (place_of n) k q → FirstFault o w T t k q
+list_fault o w (type.list F) E source n t k q part e apart refused =
     let i = inside source n t e in
-    subst (λ (o : Option (List Placed)). OfForm o (span_of t) (λ items l r. SomeOf (λ item. Fault F item l r) items) k q) (sym (not_list (type_of n) (place_of n) (slice source (place_of n)) i.children (shape_of t) i.from apart)) (at_tree InvalidType (place_of n) (span_of t) k q i.place refused)
-list_fault (type.fixed F m) E source n t k q part e apart refused =
+    subst (λ (f : Option (List Placed)). OfForm f (span_of t) (ItemFault w F) k q) (sym (not_list (type_of n) (place_of n) (slice source (place_of n)) i.children (shape_of t) i.from apart)) (at_tree InvalidType (place_of n) (span_of t) k q i.place refused)
+list_fault o w (type.fixed F m) E source n t k q part e apart refused =
     let i = inside source n t e in
-    subst (λ (o : Option (List Placed)). OfForm o (span_of t) (FixedFault F m (span_of t)) k q) (sym (not_list (type_of n) (place_of n) (slice source (place_of n)) i.children (shape_of t) i.from apart)) (at_tree InvalidType (place_of n) (span_of t) k q i.place refused)
-list_fault _ E source n t k q part e apart refused = absurd (cc)
+    subst (λ (f : Option (List Placed)). OfForm f (span_of t) (FixedFault w F m (span_of t)) k q) (sym (not_list (type_of n) (place_of n) (slice source (place_of n)) i.children (shape_of t) i.from apart)) (at_tree InvalidType (place_of n) (span_of t) k q i.place refused)
+list_fault o w _ E source n t k q part e apart refused = absurd (cc)
 
-item_fault : (T E : TypeTree) (t : Placed) (items : List Placed) (i : ℕ) (u : Placed) (k : Refusal) (q : Range ℕ) → IsListOf E (length items) T → shape_of t ≡ list (placed_trees items) → HasAt items i u → Fault E u k q → Fault T t k q
-item_fault T E t items i u k q (inl is) shape here fault =
-    subst (λ (U : TypeTree). Fault U t k q) (sym is)
-    (subst (λ (s : Shape). OfForm (list_in s) (span_of t) (λ us l r. SomeOf (λ item. Fault E item l r) us) k q) (sym shape) (subst (λ (us : List Placed). SomeOf (λ item. Fault E item k q) us) (sym (trees_back items)) (some_at (λ item. Fault E item k q) items i u here fault)))
-item_fault T E t items i u k q (inr is) shape here fault =
-    subst (λ (U : TypeTree). Fault U t k q) (sym is)
-    (subst (λ (s : Shape). OfForm (list_in s) (span_of t) (FixedFault E (length items) (span_of t)) k q) (sym shape)
-    (subst (λ (us : List Placed). FixedFault E (length items) (span_of t) us k q) (sym (trees_back items)) (inr (refl, some_at (λ item. Fault E item k q) items i u here fault))))
+-- the first fault of an item is that of the list
+item_fault : (o w : Order) (T E : TypeTree) (t : Placed) (items : List Placed) (k : Refusal) (q : Range ℕ) → IsListOf E (length items) T → shape_of t ≡ list (placed_trees items) → ItemFault w E items k q → FirstFault o w T t k q
+item_fault o w T E t items k q (inl is) shape fault =
+    subst (λ (U : TypeTree). FirstFault o w U t k q) (sym is)
+    (subst (λ (s : Shape). OfForm (list_in s) (span_of t) (ItemFault w E) k q) (sym shape) (subst (λ (us : List Placed). ItemFault w E us k q) (sym (trees_back items)) fault))
+item_fault o w T E t items k q (inr is) shape fault =
+    subst (λ (U : TypeTree). FirstFault o w U t k q) (sym is)
+    (subst (λ (s : Shape). OfForm (list_in s) (span_of t) (FixedFault w E (length items) (span_of t)) k q) (sym shape)
+    (subst (λ (us : List Placed). FixedFault w E (length items) (span_of t) us k q) (sym (trees_back items)) (inr (refl, fault))))
 
 -- another number of items than of elements
-length_fault : (T : TypeTree) (source : List ℕ) (m : NodeTree) (t : Placed) (ns : List NodeTree) (e : Diagnostic) → IsNodeOf source m t → type_of m ≡ kind.List → ns ≡ children_of m → IsOtherLength T (length ns) m e → Fault T t (refusal_of e) e.span
-length_fault (type.fixed E n) source m t ns e node ty children (want, is, apart, refused) =
+length_fault : (o w : Order) (T : TypeTree) (source : List ℕ) (m : NodeTree) (t : Placed) (ns : List NodeTree) (e : Diagnostic) → IsNodeOf source m t → type_of m ≡ kind.List → ns ≡ children_of m → IsOtherLength T (length ns) m e → FirstFault o w T t (refusal_of e) e.span
+length_fault o w (type.fixed E n) source m t ns e node ty children (want, is, apart, refused) =
     let inner = list_nodes source m t node ty in
     let same : n ≡ want = some_is n want is in
     let many : length ns ≡ length inner.items = as_many source ns inner.items (subst (λ (l : List NodeTree). AreNodesOf source l inner.items) (sym children) inner.nodes) in
     let cause : refusal_of e ≡ caused (wrong_length n (length inner.items)) = refused.0 ∙ ap (λ (c : ℕ). caused (wrong_length c (length ns))) (sym same) ∙ ap (λ (c : ℕ). caused (wrong_length n c)) many in
     let at_t : e.span ≡ span_of t = refused.1 ∙ sym (inside source m t node.0).place in
-    subst (λ (s : Shape). OfForm (list_in s) (span_of t) (FixedFault E n (span_of t)) (refusal_of e) e.span) (sym inner.shape)
-    (subst (λ (us : List Placed). FixedFault E n (span_of t) us (refusal_of e) e.span) (sym (trees_back inner.items)) (inl ((λ f. apart (many ∙ (f ∙ same))), (cause, at_t))))
-length_fault _ source m t ns e node ty children (want, is, apart, refused) = absurd (cc)
+    subst (λ (s : Shape). OfForm (list_in s) (span_of t) (FixedFault w E n (span_of t)) (refusal_of e) e.span) (sym inner.shape)
+    (subst (λ (us : List Placed). FixedFault w E n (span_of t) us (refusal_of e) e.span) (sym (trees_back inner.items)) (inl ((λ f. apart (many ∙ (f ∙ same))), (cause, at_t))))
+length_fault o w _ source m t ns e node ty children (want, is, apart, refused) = absurd (cc)
 
-module _ {V : Type 0} (tree : V → Value) (of : V → TypeTree → Type 0) (Full : TypeTree → Type 0) where
+module _ {V : Type 0} (tree : V → Value) (of : V → TypeTree → Type 0) (Full : TypeTree → Type 0) (o w : Order) where
   element_full : (T E : TypeTree) (count : ℕ) → IsListOf E count T → HasFullParts Full → Full T → Full E
   element_full T E count (inl is) parts full = (parts (type.list E) (subst Full is full)).0
   element_full T E count (inr is) parts full = (parts (type.fixed E count) (subst Full is full)).0
 
-  -- a refusal of an item is one of the list
-  pub item_blame : (T E : TypeTree) (t : Placed) (items : List Placed) (i : ℕ) (u : Placed) (e : Diagnostic) → IsListOf E (length items) T → shape_of t ≡ list (placed_trees items) → HasAt items i u → HasFullParts Full → IsBlamed Full E u e → IsBlamed Full T t e
-  item_blame T E t items i u e is shape here parts (inl memory) = inl memory
-  item_blame T E t items i u e is shape here parts (inr (inl fault)) = inr (inl (item_fault T E t items i u (refusal_of e) e.span is shape here fault))
-  item_blame T E t items i u e is shape here parts (inr (inr h)) = inr (inr (h.0, λ full. h.1 (element_full T E (length items) is parts full)))
+  -- out of memory; or the first fault of an item; or, where constructors do not serve all values of the items' type, the refusal of one
+  abbrev pub ItemsBlamed : TypeTree → List Placed → Diagnostic → Type 0
+  ItemsBlamed E items e = (e.kind ≡ error.OutOfMemory) ⊎ ItemFault w E items (refusal_of e) e.span ⊎ (e.kind ≡ error.WasmValueError) × (Full E → ⊥)
+
+  -- so it is one of the list
+  items_blame : (T E : TypeTree) (t : Placed) (items : List Placed) (e : Diagnostic) → IsListOf E (length items) T → shape_of t ≡ list (placed_trees items) → HasFullParts Full → ItemsBlamed E items e → IsBlamed Full o w T t e
+  items_blame T E t items e is shape parts (inl memory) = inl memory
+  items_blame T E t items e is shape parts (inr (inl fault)) = inr (inl (item_fault o w T E t items (refusal_of e) e.span is shape fault))
+  items_blame T E t items e is shape parts (inr (inr h)) = inr (inr (h.0, λ full. h.1 (element_full T E (length items) is parts full)))
 
   -- a refusal because of the number of items
-  pub length_blame : (T : TypeTree) (source : List ℕ) (m : NodeTree) (t : Placed) (ns : List NodeTree) (e : Diagnostic) → IsNodeOf source m t → type_of m ≡ kind.List → ns ≡ children_of m → IsOtherLength T (length ns) m e → IsBlamed Full T t e
-  length_blame T source m t ns e node ty children other = inr (inl (length_fault T source m t ns e node ty children other))
+  pub length_blame : (T : TypeTree) (source : List ℕ) (m : NodeTree) (t : Placed) (ns : List NodeTree) (e : Diagnostic) → IsNodeOf source m t → type_of m ≡ kind.List → ns ≡ children_of m → IsOtherLength T (length ns) m e → IsBlamed Full o w T t e
+  length_blame T source m t ns e node ty children other = inr (inl (length_fault o w T source m t ns e node ty children other))
 
   -- each tree was read at the type
   abbrev pub AllRead : TypeTree → List Placed → List V → Type 0
@@ -221,16 +232,15 @@ module _ {V : Type 0} (tree : V → Value) (of : V → TypeTree → Type 0) (Ful
   list_full T E ts vs (Err cause) is all h = λ full. h full E (subst (λ (count : ℕ). IsListOf E count T) (read_length E ts vs all) is) (each_of E ts vs all)
 
   -- the list was made, or its constructor refused
-  pub list_made : (T E : TypeTree) (t : Placed) (ts : List Placed) (vs : List V) (n : NodeTree) (m : Result V WasmValueError) (r : Result V Diagnostic) → IsListOf E (length ts) T → HasDistinctNames T → shape_of t ≡ list (placed_trees ts) → AllRead E ts vs → IfOk m (MakesList tree of T vs) → IfErr m (FullList of Full T vs) → IsMade n m r → MatchResult r (IsTypedValue tree of T t) (IsBlamed Full T t)
-  list_made T E t ts vs n m r is distinct shape all ok full done = made tree of Full T t n m r done (list_reads T E t ts vs m is distinct shape all ok) (list_full T E ts vs m is all full)
+  pub list_made : (T E : TypeTree) (t : Placed) (ts : List Placed) (vs : List V) (n : NodeTree) (m : Result V WasmValueError) (r : Result V Diagnostic) → IsListOf E (length ts) T → HasDistinctNames T → shape_of t ≡ list (placed_trees ts) → AllRead E ts vs → IfOk m (MakesList tree of T vs) → IfErr m (FullList of Full T vs) → IsMade n m r → MatchResult r (IsTypedValue tree of T t) (IsBlamed Full o w T t)
+  list_made T E t ts vs n m r is distinct shape all ok full done = made tree of Full o w T t n m r done (list_reads T E t ts vs m is distinct shape all ok) (list_full T E ts vs m is all full)
 
-  -- a refusal of the next item is one of the list
-  pub list_blame : (source : List ℕ) (T E : TypeTree) (m : NodeTree) (t : Placed) (ns : List NodeTree) (i : ℕ) (n : NodeTree) (e : Diagnostic) → IsListOf E (length ns) T → IsNodeOf source m t → type_of m ≡ kind.List → ns ≡ children_of m → i < length ns → n ≡ get_or ns i n → HasFullParts Full → ((u : Placed) → IsNodeOf source n u → IsBlamed Full E u e) → IsBlamed Full T t e
-  list_blame source T E m t ns i n e is node ty children lt at_i parts blamed =
+  -- the first refusal of an item is that of the list
+  pub list_blame : (source : List ℕ) (T E : TypeTree) (m : NodeTree) (t : Placed) (ns : List NodeTree) (e : Diagnostic) → IsListOf E (length ns) T → IsNodeOf source m t → type_of m ≡ kind.List → ns ≡ children_of m → HasFullParts Full → ((items : List Placed) → AreNodesOf source ns items → ItemsBlamed E items e) → IsBlamed Full o w T t e
+  list_blame source T E m t ns e is node ty children parts blamed =
       let inner = list_nodes source m t node ty in
       let nodes : AreNodesOf source ns inner.items = subst (λ (l : List NodeTree). AreNodesOf source l inner.items) (sym children) inner.nodes in
-      let here = node_at source ns inner.items i n nodes lt at_i in
-      item_blame T E t inner.items i here.0 e (subst (λ (count : ℕ). IsListOf E count T) (as_many source ns inner.items nodes) is) inner.shape here.1 parts (blamed here.0 here.2)
+      items_blame T E t inner.items e (subst (λ (count : ℕ). IsListOf E count T) (as_many source ns inner.items nodes) is) inner.shape parts (blamed inner.items nodes)
 
 -- an item of a list node is a value
 pub list_item : (source : List ℕ) (m : NodeTree) (ns : List NodeTree) (i : ℕ) (n : NodeTree) → IsValueOf source m → type_of m ≡ kind.List → ns ≡ children_of m → i < length ns → n ≡ get_or ns i n → IsValueOf source n

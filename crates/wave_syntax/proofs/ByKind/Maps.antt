@@ -23,7 +23,8 @@ use Rattle.wave_grammar.specs.Tree.{Tree, tree_entries}
 use Rattle.wave_grammar.specs.Elaborates.{TreeReads, KeyedTree, Each}
 use Rattle.wave_grammar.specs.SpannedTree.{Placed, PlacedEntries, PlacedEntry, no_entries, entry, entry_list, entries_of, span_of, shape_of, tree_of}
 use Rattle.wave_grammar.specs.SpannedTree as placed
-use Rattle.wave_grammar.specs.TypeErrors.{OfForm, Fault, LeafFault, MapKeyFault}
+use Rattle.wave_grammar.specs.TypeErrors.{Blame, OfForm, Fault, LeafFault, MapKeyFault}
+use Rattle.wave_grammar.specs.FaultOrder.{Order, BlamesNothing, OrElse, FirstOf, FirstFault}
 use Rattle.wave_syntax.specs.NodeTree.{NodeTree, place_of}
 use Rattle.wave_syntax.specs.Nodes.{placed_of, IsNodeOf, IsTokenOf}
 use Rattle.wave_syntax.specs.NodeAccessors.{GivesEntries}
@@ -32,6 +33,7 @@ use Rattle.wave_syntax.specs.Shared.TypedReading.{IsMapKeyBlamed}
 use Rattle.wave_syntax.proofs.ChildNodes.Entries.{AreEntriesOf, IsOfMap, map_given, no_map}
 use Rattle.wave_syntax.proofs.ChildNodes.Inside.{inside, some_is}
 use Rattle.wave_syntax.proofs.ByKind.Leaves.{tree_is, at_tree, said}
+use Rattle.wave_syntax.proofs.Firsts.{first_behind}
 use Rattle.wave_syntax.proofs.MakerAnswers.{made}
 
 -- ---- the type
@@ -69,34 +71,39 @@ pub record NextEntry (source : List ℕ) (es done : List PlacedEntry) (n : NodeT
 
 -- ---- faults
 
-some_in : {A : Type 0} (P : A → Type 0) (xs ys : List A) (x : A) → P x → SomeOf P (xs ++ x ∷ ys)
-some_in P [] ys x h = inl h
-some_in P (y ∷ xs) ys x h = inr (some_in P xs ys x h)
+-- what is wrong with an entry: its key, or else its value
+abbrev pub EntryFault : Order → Simple → TypeTree → PlacedEntry → Blame
+EntryFault w K V e = OrElse (MapKeyFault K e.place e.key) (FirstFault w w V e.value)
+
+-- nothing is wrong with these entries
+abbrev pub EntriesFine : Order → Simple → TypeTree → List PlacedEntry → Type 0
+EntriesFine w K V es = AllOf (λ e. BlamesNothing (EntryFault w K V e)) es
 
 -- a node that gives no entries
-pub map_fault : (K : Simple) (V : TypeTree) (source : List ℕ) (n : NodeTree) (t : Placed) (e : Diagnostic) → placed_of source n ≡ Some t → GivesEntries n (Err e) → Fault (type.map K V) t (refusal_of e) e.span
-map_fault K V source n t e is given =
-    subst (λ (o : Option (List PlacedEntry)). OfForm o (span_of t) (λ es l r. SomeOf (λ x. MapKeyFault K x.place x.key l r ⊎ Fault V x.value l r) es) (refusal_of e) e.span) (sym (no_map source n t is given.0 given.1)) (at_tree InvalidType (place_of n) (span_of t) (refusal_of e) e.span (inside source n t is).place (said given.2))
+pub map_fault : (o w : Order) (K : Simple) (V : TypeTree) (source : List ℕ) (n : NodeTree) (t : Placed) (e : Diagnostic) → placed_of source n ≡ Some t → GivesEntries n (Err e) → FirstFault o w (type.map K V) t (refusal_of e) e.span
+map_fault o w K V source n t e is given =
+    subst (λ (f : Option (List PlacedEntry)). OfForm f (span_of t) (FirstOf (EntryFault w K V)) (refusal_of e) e.span) (sym (no_map source n t is given.0 given.1)) (at_tree InvalidType (place_of n) (span_of t) (refusal_of e) e.span (inside source n t is).place (said given.2))
 
-entry_fault : (K : Simple) (V : TypeTree) (t : Placed) (es : PlacedEntries) (done rest : List PlacedEntry) (x : PlacedEntry) (k : Refusal) (q : Range ℕ) → IsOfMap (shape_of t) es → entry_list es ≡ done ++ x ∷ rest → MapKeyFault K x.place x.key k q ⊎ Fault V x.value k q → Fault (type.map K V) t k q
-entry_fault K V t es done rest x k q shape is fault =
-    subst (λ (o : Option (List PlacedEntry)). OfForm o (span_of t) (λ all l r. SomeOf (λ y. MapKeyFault K y.place y.key l r ⊎ Fault V y.value l r) all) k q) (sym (map_given (shape_of t) es shape ∙ ap (λ (l : List PlacedEntry). Some l) is)) (some_in (λ y. MapKeyFault K y.place y.key k q ⊎ Fault V y.value k q) done rest x fault)
+entry_fault : (o w : Order) (K : Simple) (V : TypeTree) (t : Placed) (es : PlacedEntries) (done rest : List PlacedEntry) (x : PlacedEntry) (k : Refusal) (q : Range ℕ) → IsOfMap (shape_of t) es → entry_list es ≡ done ++ x ∷ rest → EntriesFine w K V done → EntryFault w K V x k q → FirstFault o w (type.map K V) t k q
+entry_fault o w K V t es done rest x k q shape is fine fault =
+    subst (λ (f : Option (List PlacedEntry)). OfForm f (span_of t) (FirstOf (EntryFault w K V)) k q) (sym (map_given (shape_of t) es shape ∙ ap (λ (l : List PlacedEntry). Some l) is)) (first_behind (EntryFault w K V) done rest x k q fine fault)
+
+module _ {V : Type 0} (tree : V → Value) (of : V → TypeTree → Type 0) (Full : TypeTree → Type 0) (o w : Order) where
+  -- a refusal of the next key is one of the map
+  pub key_blame : (source : List ℕ) (T S U : TypeTree) (t : Placed) (es : PlacedEntries) (done : List PlacedEntry) (n : NodeTree × NodeTree) (left : List (NodeTree × NodeTree)) (e : Diagnostic) (m : IsMapOf T S U) (x : NextEntry source (entry_list es) done n left) → IsOfMap (shape_of t) es → HasFullParts Full → EntriesFine w m.key U done → IsMapKeyBlamed Full m.key x.here.place x.here.key e → IsBlamed Full o w T t e
+  key_blame source T S U t es done n left e m x shape parts fine (inl memory) = inl memory
+  key_blame source T S U t es done n left e m x shape parts fine (inr (inl fault)) =
+      inr (inl (subst (λ (W : TypeTree). FirstFault o w W t (refusal_of e) e.span) (sym m.is) (entry_fault o w m.key U t es done x.rest x.here (refusal_of e) e.span shape x.is fine (inl fault))))
+  key_blame source T S U t es done n left e m x shape parts fine (inr (inr h)) = inr (inr (h.0, λ full. h.1 (parts (type.map m.key U) (subst Full m.is full)).0))
+
+  -- a refusal of the next value, behind a key that is fine, is one of the map
+  pub value_blame : (source : List ℕ) (T S U : TypeTree) (t : Placed) (es : PlacedEntries) (done : List PlacedEntry) (n : NodeTree × NodeTree) (left : List (NodeTree × NodeTree)) (e : Diagnostic) (m : IsMapOf T S U) (x : NextEntry source (entry_list es) done n left) → IsOfMap (shape_of t) es → HasFullParts Full → EntriesFine w m.key U done → BlamesNothing (MapKeyFault m.key x.here.place x.here.key) → IsBlamed Full w w U x.here.value e → IsBlamed Full o w T t e
+  value_blame source T S U t es done n left e m x shape parts fine key (inl memory) = inl memory
+  value_blame source T S U t es done n left e m x shape parts fine key (inr (inl fault)) =
+      inr (inl (subst (λ (W : TypeTree). FirstFault o w W t (refusal_of e) e.span) (sym m.is) (entry_fault o w m.key U t es done x.rest x.here (refusal_of e) e.span shape x.is fine (inr (key, fault)))))
+  value_blame source T S U t es done n left e m x shape parts fine key (inr (inr h)) = inr (inr (h.0, λ full. h.1 (parts (type.map m.key U) (subst Full m.is full)).1.0))
 
 module _ {V : Type 0} (tree : V → Value) (of : V → TypeTree → Type 0) (Full : TypeTree → Type 0) where
-  -- a refusal of the next key is one of the map
-  pub key_blame : (source : List ℕ) (T S U : TypeTree) (t : Placed) (es : PlacedEntries) (done : List PlacedEntry) (n : NodeTree × NodeTree) (left : List (NodeTree × NodeTree)) (e : Diagnostic) (m : IsMapOf T S U) (x : NextEntry source (entry_list es) done n left) → IsOfMap (shape_of t) es → HasFullParts Full → IsMapKeyBlamed Full m.key x.here.place x.here.key e → IsBlamed Full T t e
-  key_blame source T S U t es done n left e m x shape parts (inl memory) = inl memory
-  key_blame source T S U t es done n left e m x shape parts (inr (inl fault)) =
-      inr (inl (subst (λ (W : TypeTree). Fault W t (refusal_of e) e.span) (sym m.is) (entry_fault m.key U t es done x.rest x.here (refusal_of e) e.span shape x.is (inl fault))))
-  key_blame source T S U t es done n left e m x shape parts (inr (inr h)) = inr (inr (h.0, λ full. h.1 (parts (type.map m.key U) (subst Full m.is full)).0))
-
-  -- a refusal of the next value is one of the map
-  pub value_blame : (source : List ℕ) (T S U : TypeTree) (t : Placed) (es : PlacedEntries) (done : List PlacedEntry) (n : NodeTree × NodeTree) (left : List (NodeTree × NodeTree)) (e : Diagnostic) (m : IsMapOf T S U) (x : NextEntry source (entry_list es) done n left) → IsOfMap (shape_of t) es → HasFullParts Full → IsBlamed Full U x.here.value e → IsBlamed Full T t e
-  value_blame source T S U t es done n left e m x shape parts (inl memory) = inl memory
-  value_blame source T S U t es done n left e m x shape parts (inr (inl fault)) =
-      inr (inl (subst (λ (W : TypeTree). Fault W t (refusal_of e) e.span) (sym m.is) (entry_fault m.key U t es done x.rest x.here (refusal_of e) e.span shape x.is (inr fault))))
-  value_blame source T S U t es done n left e m x shape parts (inr (inr h)) = inr (inr (h.0, λ full. h.1 (parts (type.map m.key U) (subst Full m.is full)).1.0))
-
   -- ---- the entries that were read
 
   -- each key and each value was read
@@ -207,14 +214,15 @@ module _ {V : Type 0} (tree : V → Value) (of : V → TypeTree → Type 0) (Ful
       h full m.key U m.is (subst (AllOf (λ x. of x.0 (type.simple m.key) × of x.1 U)) (sym merged) (merged_of tree of Full m.key U xs read.keys_of read.values_of))
 
   -- the map was made of the merged entries, or its constructor refused
-  pub map_made : (T S U : TypeTree) (t : Placed) (es : PlacedEntries) (xs handed : List (V × V)) (n : NodeTree) (made_map : Result V WasmValueError) (r : Result V Diagnostic) (m : IsMapOf T S U) → HasDistinctNames T → IsOfMap (shape_of t) es → ((v : V) (T : TypeTree) → of v T → HasType T (tree v)) → EntriesRead tree of Full m.key U (entry_list es) xs → handed ≡ merge (same_texts tree of Full) xs → IfOk made_map (MakesMap tree of T handed) → IfErr made_map (FullMap of Full T handed) → IsMade n made_map r → MatchResult r (IsTypedValue tree of T t) (IsBlamed Full T t)
-  map_made T S U t es xs handed n made_map r m distinct shape fits all merged ok full done =
+  pub map_made : (o w : Order) (T S U : TypeTree) (t : Placed) (es : PlacedEntries) (xs handed : List (V × V)) (n : NodeTree) (made_map : Result V WasmValueError) (r : Result V Diagnostic) (m : IsMapOf T S U) → HasDistinctNames T → IsOfMap (shape_of t) es → ((v : V) (T : TypeTree) → of v T → HasType T (tree v)) → EntriesRead tree of Full m.key U (entry_list es) xs → handed ≡ merge (same_texts tree of Full) xs → IfOk made_map (MakesMap tree of T handed) → IfErr made_map (FullMap of Full T handed) → IsMade n made_map r → MatchResult r (IsTypedValue tree of T t) (IsBlamed Full o w T t)
+  map_made o w T S U t es xs handed n made_map r m distinct shape fits all merged ok full done =
       let read = pairs_read tree of Full fits m.key U (entry_list es) xs all in
-      made tree of Full T t n made_map r done (map_means T S U t es xs handed made_map m distinct shape read merged ok) (map_full T S U (entry_list es) xs handed made_map m read merged full)
+      made tree of Full o w T t n made_map r done (map_means T S U t es xs handed made_map m distinct shape read merged ok) (map_full T S U (entry_list es) xs handed made_map m read merged full)
 
 -- ---- no value
 
-key_none : (K : Simple) (p : Range ℕ) (t : Token) (k : Refusal) (q : Range ℕ) (l : Leaf) → (LeafFault K p t k q → Spells K t l → ⊥) → MapKeyFault K p t k q → Spells K t l → ⊥
+-- the key of a map that spells a value has no fault
+pub key_none : (K : Simple) (p : Range ℕ) (t : Token) (k : Refusal) (q : Range ℕ) (l : Leaf) → (LeafFault K p t k q → Spells K t l → ⊥) → MapKeyFault K p t k q → Spells K t l → ⊥
 key_none K p t k q l leaf (inl h) spelled = h.1 l spelled
 key_none K p t k q l leaf (inr h) spelled = leaf h.1 spelled
 

@@ -14,6 +14,7 @@ use Rattle.wave_grammar.specs.Elaborates.{TreeReads}
 use Rattle.wave_grammar.specs.TypedGrammar.{IsFlat}
 use Rattle.wave_grammar.specs.SpannedTree.{Placed, Shape, at, none, some, slice, span_of, shape_of, tree_of, SpellsEach}
 use Rattle.wave_grammar.specs.TypeErrors.{Blame, IsRefusalOf, OfOption, Fault}
+use Rattle.wave_grammar.specs.FaultOrder.{Order, FirstFault}
 use Rattle.wave_syntax.specs.NodeTree.{NodeTree, type_of, place_of, children_of, node_list}
 use Rattle.wave_syntax.specs.Nodes.{placed_of, shape_from, IsNodeOf}
 use Rattle.wave_syntax.specs.NodeAccessors.{first_of, GivesOption}
@@ -75,29 +76,29 @@ other_form ty p text cs _ Within Flat k q f x y flat = flat
 
 -- ---- faults
 
-some_fault : (P : TypeTree) (t u : Placed) (k : Refusal) (q : Range ℕ) → shape_of t ≡ some u → Fault P u k q → Fault (type.option P) t k q
-some_fault P t u k q shape fault =
-    subst (λ (s : Shape). OfOption s (Fault P) (λ l r. (IsFlat P → ⊥) × IsRefusalOf InvalidType (span_of t) l r ⊎ IsFlat P × Fault P t l r) k q) (sym shape) fault
+some_fault : (o w : Order) (P : TypeTree) (t u : Placed) (k : Refusal) (q : Range ℕ) → shape_of t ≡ some u → FirstFault w w P u k q → FirstFault o w (type.option P) t k q
+some_fault o w P t u k q shape fault =
+    subst (λ (s : Shape). OfOption s (FirstFault w w P) (λ l r. (IsFlat P → ⊥) × IsRefusalOf InvalidType (span_of t) l r ⊎ IsFlat P × FirstFault o w P t l r) k q) (sym shape) fault
 
 -- a node of another form at a payload that is not flat
-pub option_fault : (P : TypeTree) (source : List ℕ) (n : NodeTree) (t : Placed) (e : Diagnostic) → placed_of source n ≡ Some t → GivesOption n (Err e) → (IsFlat P → ⊥) → Fault (type.option P) t (refusal_of e) e.span
-option_fault P source n t e is g apart =
+pub option_fault : (o w : Order) (P : TypeTree) (source : List ℕ) (n : NodeTree) (t : Placed) (e : Diagnostic) → placed_of source n ≡ Some t → GivesOption n (Err e) → (IsFlat P → ⊥) → FirstFault o w (type.option P) t (refusal_of e) e.span
+option_fault o w P source n t e is g apart =
     let i = inside source n t is in
-    other_form (type_of n) (place_of n) (slice source (place_of n)) i.children (shape_of t) (Fault P) (λ l r. (IsFlat P → ⊥) × IsRefusalOf InvalidType (span_of t) l r ⊎ IsFlat P × Fault P t l r) (refusal_of e) e.span i.from g.0 g.1 (inl (apart, at_tree InvalidType (place_of n) (span_of t) (refusal_of e) e.span i.place (said g.2)))
+    other_form (type_of n) (place_of n) (slice source (place_of n)) i.children (shape_of t) (FirstFault w w P) (λ l r. (IsFlat P → ⊥) × IsRefusalOf InvalidType (span_of t) l r ⊎ IsFlat P × FirstFault o w P t l r) (refusal_of e) e.span i.from g.0 g.1 (inl (apart, at_tree InvalidType (place_of n) (span_of t) (refusal_of e) e.span i.place (said g.2)))
 
-module _ {V : Type 0} (tree : V → Value) (of : V → TypeTree → Type 0) (Full : TypeTree → Type 0) where
+module _ {V : Type 0} (tree : V → Value) (of : V → TypeTree → Type 0) (Full : TypeTree → Type 0) (o w : Order) where
   -- a refusal of the payload of `some`
-  pub some_blame : (T P : TypeTree) (t u : Placed) (e : Diagnostic) → T ≡ type.option P → shape_of t ≡ some u → HasFullParts Full → IsBlamed Full P u e → IsBlamed Full T t e
+  pub some_blame : (T P : TypeTree) (t u : Placed) (e : Diagnostic) → T ≡ type.option P → shape_of t ≡ some u → HasFullParts Full → IsBlamed Full w w P u e → IsBlamed Full o w T t e
   some_blame T P t u e is shape parts (inl memory) = inl memory
-  some_blame T P t u e is shape parts (inr (inl fault)) = inr (inl (subst (λ (U : TypeTree). Fault U t (refusal_of e) e.span) (sym is) (some_fault P t u (refusal_of e) e.span shape fault)))
+  some_blame T P t u e is shape parts (inr (inl fault)) = inr (inl (subst (λ (U : TypeTree). FirstFault o w U t (refusal_of e) e.span) (sym is) (some_fault o w P t u (refusal_of e) e.span shape fault)))
   some_blame T P t u e is shape parts (inr (inr h)) = inr (inr (h.0, λ full. h.1 (parts (type.option P) (subst Full is full)).0))
 
   -- a refusal of the node itself at a flat payload type
-  pub flat_blame : (T P : TypeTree) (source : List ℕ) (n : NodeTree) (t : Placed) (g e : Diagnostic) → T ≡ type.option P → placed_of source n ≡ Some t → GivesOption n (Err g) → IsFlat P → HasFullParts Full → IsBlamed Full P t e → IsBlamed Full T t e
+  pub flat_blame : (T P : TypeTree) (source : List ℕ) (n : NodeTree) (t : Placed) (g e : Diagnostic) → T ≡ type.option P → placed_of source n ≡ Some t → GivesOption n (Err g) → IsFlat P → HasFullParts Full → IsBlamed Full o w P t e → IsBlamed Full o w T t e
   flat_blame T P source n t g e is node given flat parts (inl memory) = inl memory
   flat_blame T P source n t g e is node given flat parts (inr (inl fault)) =
       let i = inside source n t node in
-      inr (inl (subst (λ (U : TypeTree). Fault U t (refusal_of e) e.span) (sym is) (other_form (type_of n) (place_of n) (slice source (place_of n)) i.children (shape_of t) (Fault P) (λ l r. (IsFlat P → ⊥) × IsRefusalOf InvalidType (span_of t) l r ⊎ IsFlat P × Fault P t l r) (refusal_of e) e.span i.from given.0 given.1 (inr (flat, fault)))))
+      inr (inl (subst (λ (U : TypeTree). FirstFault o w U t (refusal_of e) e.span) (sym is) (other_form (type_of n) (place_of n) (slice source (place_of n)) i.children (shape_of t) (FirstFault w w P) (λ l r. (IsFlat P → ⊥) × IsRefusalOf InvalidType (span_of t) l r ⊎ IsFlat P × FirstFault o w P t l r) (refusal_of e) e.span i.from given.0 given.1 (inr (flat, fault)))))
   flat_blame T P source n t g e is node given flat parts (inr (inr h)) = inr (inr (h.0, λ full. h.1 (parts (type.option P) (subst Full is full)).0))
 
   option_reads : (T P : TypeTree) (t : Placed) (payload : Option V) (m : Result V WasmValueError) → T ≡ type.option P → HasDistinctNames T → TreeReads (type.option P) (tree_of t) (value.option (maybe_value (option_map tree payload))) → IfOk m (MakesOption tree of T payload) → IfOk m (IsTypedValue tree of T t)
@@ -110,20 +111,20 @@ module _ {V : Type 0} (tree : V → Value) (of : V → TypeTree → Type 0) (Ful
   option_full T P payload (Ok v) is h f = tt
   option_full T P payload (Err cause) is h f = λ full. f full P is h
 
-  option_made : (T P : TypeTree) (t : Placed) (n : NodeTree) (payload : Option V) (m : Result V WasmValueError) (r : Result V Diagnostic) → T ≡ type.option P → HasDistinctNames T → TreeReads (type.option P) (tree_of t) (value.option (maybe_value (option_map tree payload))) → OptionIsOf of P payload → IfOk m (MakesOption tree of T payload) → IfErr m (FullOption of Full T payload) → IsMade n m r → MatchResult r (IsTypedValue tree of T t) (IsBlamed Full T t)
-  option_made T P t n payload m r is distinct read h ok full done = made tree of Full T t n m r done (option_reads T P t payload m is distinct read ok) (option_full T P payload m is h full)
+  option_made : (T P : TypeTree) (t : Placed) (n : NodeTree) (payload : Option V) (m : Result V WasmValueError) (r : Result V Diagnostic) → T ≡ type.option P → HasDistinctNames T → TreeReads (type.option P) (tree_of t) (value.option (maybe_value (option_map tree payload))) → OptionIsOf of P payload → IfOk m (MakesOption tree of T payload) → IfErr m (FullOption of Full T payload) → IsMade n m r → MatchResult r (IsTypedValue tree of T t) (IsBlamed Full o w T t)
+  option_made T P t n payload m r is distinct read h ok full done = made tree of Full o w T t n m r done (option_reads T P t payload m is distinct read ok) (option_full T P payload m is h full)
 
   -- `none`
-  pub none_made : (T P : TypeTree) (source : List ℕ) (t : Placed) (n : NodeTree) (m : Result V WasmValueError) (r : Result V Diagnostic) → T ≡ type.option P → HasDistinctNames T → shape_of t ≡ none → IfOk m (MakesOption tree of T None) → IfErr m (FullOption of Full T None) → IsMade n m r → MatchResult r (IsTypedValue tree of T t) (IsBlamed Full T t)
+  pub none_made : (T P : TypeTree) (source : List ℕ) (t : Placed) (n : NodeTree) (m : Result V WasmValueError) (r : Result V Diagnostic) → T ≡ type.option P → HasDistinctNames T → shape_of t ≡ none → IfOk m (MakesOption tree of T None) → IfErr m (FullOption of Full T None) → IsMade n m r → MatchResult r (IsTypedValue tree of T t) (IsBlamed Full o w T t)
   none_made T P source t n m r is distinct shape ok full done = option_made T P t n None m r is distinct (inl (inl (tree_is t none shape, refl))) tt ok full done
 
   -- `some` of its payload
-  pub some_made : (T P : TypeTree) (t u : Placed) (n : NodeTree) (v : V) (m : Result V WasmValueError) (r : Result V Diagnostic) → T ≡ type.option P → HasDistinctNames T → shape_of t ≡ some u → IsTypedValue tree of P u v → IfOk m (MakesOption tree of T (Some v)) → IfErr m (FullOption of Full T (Some v)) → IsMade n m r → MatchResult r (IsTypedValue tree of T t) (IsBlamed Full T t)
+  pub some_made : (T P : TypeTree) (t u : Placed) (n : NodeTree) (v : V) (m : Result V WasmValueError) (r : Result V Diagnostic) → T ≡ type.option P → HasDistinctNames T → shape_of t ≡ some u → IsTypedValue tree of P u v → IfOk m (MakesOption tree of T (Some v)) → IfErr m (FullOption of Full T (Some v)) → IsMade n m r → MatchResult r (IsTypedValue tree of T t) (IsBlamed Full o w T t)
   some_made T P t u n v m r is distinct shape read ok full done =
       option_made T P t n (Some v) m r is distinct (inl (inr (tree_of u, tree v, tree_is t (some u) shape, read.reads, refl))) read.is_of ok full done
 
   -- a flat payload
-  pub flat_made : (T P : TypeTree) (t : Placed) (n : NodeTree) (v : V) (m : Result V WasmValueError) (r : Result V Diagnostic) → T ≡ type.option P → HasDistinctNames T → IsFlat P → IsTypedValue tree of P t v → IfOk m (MakesOption tree of T (Some v)) → IfErr m (FullOption of Full T (Some v)) → IsMade n m r → MatchResult r (IsTypedValue tree of T t) (IsBlamed Full T t)
+  pub flat_made : (T P : TypeTree) (t : Placed) (n : NodeTree) (v : V) (m : Result V WasmValueError) (r : Result V Diagnostic) → T ≡ type.option P → HasDistinctNames T → IsFlat P → IsTypedValue tree of P t v → IfOk m (MakesOption tree of T (Some v)) → IfErr m (FullOption of Full T (Some v)) → IsMade n m r → MatchResult r (IsTypedValue tree of T t) (IsBlamed Full o w T t)
   flat_made T P t n v m r is distinct flat read ok full done =
       option_made T P t n (Some v) m r is distinct (inr (tree v, (flat, read.reads), refl)) read.is_of ok full done
 

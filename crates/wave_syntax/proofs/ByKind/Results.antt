@@ -14,7 +14,8 @@ use Rattle.wave_grammar.specs.Tree as form
 use Rattle.wave_grammar.specs.Elaborates.{TreeReads, TreeReadsPayload}
 use Rattle.wave_grammar.specs.TypedGrammar.{IsFlat}
 use Rattle.wave_grammar.specs.SpannedTree.{Placed, Shape, MaybePlaced, at, ok, err, no_placed, a_placed, slice, span_of, shape_of, tree_of, maybe_of, SpellsEach, SpellsMaybe}
-use Rattle.wave_grammar.specs.TypeErrors.{Blame, IsRefusalOf, OfResult, Fault, FaultOfPayload, FaultOfFlat}
+use Rattle.wave_grammar.specs.TypeErrors.{Blame, IsRefusalOf, OfResult}
+use Rattle.wave_grammar.specs.FaultOrder.{Order, FirstFault, FirstOfPayload, FirstOfFlat}
 use Rattle.wave_syntax.specs.NodeTree.{NodeTree, type_of, place_of, children_of, node_list}
 use Rattle.wave_syntax.specs.Nodes.{placed_of, all_placed, shape_from, IsNodeOf}
 use Rattle.wave_syntax.specs.NodeAccessors.{first_of, GivesResult}
@@ -91,36 +92,36 @@ other_form ty p text cs _ OnOk OnErr Flat k q f x y flat = flat
 -- ---- faults
 
 -- what is wrong with the payload of `ok`, and of `err`
-abbrev OkFault : MaybeType → Range ℕ → MaybePlaced → Blame
-OkFault A p payload = FaultOfPayload (codes "ok") A payload p
+abbrev OkFault : Order → MaybeType → Range ℕ → MaybePlaced → Blame
+OkFault w A p payload = FirstOfPayload w (codes "ok") A payload p
 
-abbrev ErrFault : MaybeType → Range ℕ → MaybePlaced → Blame
-ErrFault B p payload = FaultOfPayload (codes "err") B payload p
+abbrev ErrFault : Order → MaybeType → Range ℕ → MaybePlaced → Blame
+ErrFault w B p payload = FirstOfPayload w (codes "err") B payload p
 
-ok_fault : (A B : MaybeType) (t : Placed) (payload : MaybePlaced) (k : Refusal) (q : Range ℕ) → shape_of t ≡ ok payload → OkFault A (span_of t) payload k q → Fault (type.result A B) t k q
-ok_fault A B t payload k q shape fault =
-    subst (λ (s : Shape). OfResult s (OkFault A (span_of t)) (ErrFault B (span_of t)) (FaultOfFlat A t) k q) (sym shape) fault
+ok_fault : (o w : Order) (A B : MaybeType) (t : Placed) (payload : MaybePlaced) (k : Refusal) (q : Range ℕ) → shape_of t ≡ ok payload → OkFault w A (span_of t) payload k q → FirstFault o w (type.result A B) t k q
+ok_fault o w A B t payload k q shape fault =
+    subst (λ (s : Shape). OfResult s (OkFault w A (span_of t)) (ErrFault w B (span_of t)) (FirstOfFlat o w A t) k q) (sym shape) fault
 
-err_fault : (A B : MaybeType) (t : Placed) (payload : MaybePlaced) (k : Refusal) (q : Range ℕ) → shape_of t ≡ err payload → ErrFault B (span_of t) payload k q → Fault (type.result A B) t k q
-err_fault A B t payload k q shape fault =
-    subst (λ (s : Shape). OfResult s (OkFault A (span_of t)) (ErrFault B (span_of t)) (FaultOfFlat A t) k q) (sym shape) fault
+err_fault : (o w : Order) (A B : MaybeType) (t : Placed) (payload : MaybePlaced) (k : Refusal) (q : Range ℕ) → shape_of t ≡ err payload → ErrFault w B (span_of t) payload k q → FirstFault o w (type.result A B) t k q
+err_fault o w A B t payload k q shape fault =
+    subst (λ (s : Shape). OfResult s (OkFault w A (span_of t)) (ErrFault w B (span_of t)) (FirstOfFlat o w A t) k q) (sym shape) fault
 
-flat_fault : (A B : MaybeType) (source : List ℕ) (n : NodeTree) (t : Placed) (g : Diagnostic) (k : Refusal) (q : Range ℕ) → placed_of source n ≡ Some t → GivesResult n (Err g) → FaultOfFlat A t k q → Fault (type.result A B) t k q
-flat_fault A B source n t g k q is given fault =
+flat_fault : (o w : Order) (A B : MaybeType) (source : List ℕ) (n : NodeTree) (t : Placed) (g : Diagnostic) (k : Refusal) (q : Range ℕ) → placed_of source n ≡ Some t → GivesResult n (Err g) → FirstOfFlat o w A t k q → FirstFault o w (type.result A B) t k q
+flat_fault o w A B source n t g k q is given fault =
     let i = inside source n t is in
-    other_form (type_of n) (place_of n) (slice source (place_of n)) i.children (shape_of t) (OkFault A (span_of t)) (ErrFault B (span_of t)) (FaultOfFlat A t) k q i.from given.0 given.1 fault
+    other_form (type_of n) (place_of n) (slice source (place_of n)) i.children (shape_of t) (OkFault w A (span_of t)) (ErrFault w B (span_of t)) (FirstOfFlat o w A t) k q i.from given.0 given.1 fault
 
-refused_flat : (P : Option TypeTree) (t : Placed) (k : Refusal) (q : Range ℕ) → ((U : TypeTree) → P ≡ Some U → IsFlat U → ⊥) → IsRefusalOf InvalidType (span_of t) k q → FaultOfFlat (maybe_type P) t k q
-refused_flat None t k q apart refused = refused
-refused_flat (Some U) t k q apart refused = inl (apart U refl, refused)
+refused_flat : (o w : Order) (P : Option TypeTree) (t : Placed) (k : Refusal) (q : Range ℕ) → ((U : TypeTree) → P ≡ Some U → IsFlat U → ⊥) → IsRefusalOf InvalidType (span_of t) k q → FirstOfFlat o w (maybe_type P) t k q
+refused_flat o w None t k q apart refused = refused
+refused_flat o w (Some U) t k q apart refused = inl (apart U refl, refused)
 
 -- a node of another form where `ok` has no flat payload
-pub result_fault : (T : TypeTree) (P : Option TypeTree) (B : MaybeType) (source : List ℕ) (n : NodeTree) (t : Placed) (e : Diagnostic) → T ≡ type.result (maybe_type P) B → placed_of source n ≡ Some t → GivesResult n (Err e) → ((U : TypeTree) → P ≡ Some U → IsFlat U → ⊥) → Fault T t (refusal_of e) e.span
-result_fault T P B source n t e is node given apart =
+pub result_fault : (o w : Order) (T : TypeTree) (P : Option TypeTree) (B : MaybeType) (source : List ℕ) (n : NodeTree) (t : Placed) (e : Diagnostic) → T ≡ type.result (maybe_type P) B → placed_of source n ≡ Some t → GivesResult n (Err e) → ((U : TypeTree) → P ≡ Some U → IsFlat U → ⊥) → FirstFault o w T t (refusal_of e) e.span
+result_fault o w T P B source n t e is node given apart =
     let i = inside source n t node in
-    subst (λ (U : TypeTree). Fault U t (refusal_of e) e.span) (sym is) (flat_fault (maybe_type P) B source n t e (refusal_of e) e.span node given (refused_flat P t (refusal_of e) e.span apart (at_tree InvalidType (place_of n) (span_of t) (refusal_of e) e.span i.place (said given.2))))
+    subst (λ (U : TypeTree). FirstFault o w U t (refusal_of e) e.span) (sym is) (flat_fault o w (maybe_type P) B source n t e (refusal_of e) e.span node given (refused_flat o w P t (refusal_of e) e.span apart (at_tree InvalidType (place_of n) (span_of t) (refusal_of e) e.span i.place (said given.2))))
 
-module _ {V : Type 0} (tree : V → Value) (of : V → TypeTree → Type 0) (Full : TypeTree → Type 0) where
+module _ {V : Type 0} (tree : V → Value) (of : V → TypeTree → Type 0) (Full : TypeTree → Type 0) (o w : Order) where
   ok_full : (A B : MaybeType) → AllOf Full (payload_and A (payload_and B [])) → AllOf Full (payload_and A [])
   ok_full type.no_type B h = tt
   ok_full (type.a_type U) B h = (h.0, tt)
@@ -130,24 +131,24 @@ module _ {V : Type 0} (tree : V → Value) (of : V → TypeTree → Type 0) (Ful
   err_full (type.a_type U) B h = h.1
 
   -- a refusal of the payload of `ok`
-  pub ok_blame : (T : TypeTree) (A B : MaybeType) (source : List ℕ) (n : NodeTree) (t : Placed) (payload : MaybePlaced) (e : Diagnostic) → T ≡ type.result A B → placed_of source n ≡ Some t → shape_of t ≡ ok payload → HasFullParts Full → IsPayloadBlamed Full (codes "ok") A n payload e → IsBlamed Full T t e
+  pub ok_blame : (T : TypeTree) (A B : MaybeType) (source : List ℕ) (n : NodeTree) (t : Placed) (payload : MaybePlaced) (e : Diagnostic) → T ≡ type.result A B → placed_of source n ≡ Some t → shape_of t ≡ ok payload → HasFullParts Full → IsPayloadBlamed Full w (codes "ok") A n payload e → IsBlamed Full o w T t e
   ok_blame T A B source n t payload e is node shape parts (inl memory) = inl memory
   ok_blame T A B source n t payload e is node shape parts (inr (inl fault)) =
-      inr (inl (subst (λ (U : TypeTree). Fault U t (refusal_of e) e.span) (sym is) (ok_fault A B t payload (refusal_of e) e.span shape (subst (λ (p : Range ℕ). OkFault A p payload (refusal_of e) e.span) (sym (inside source n t node).place) fault))))
+      inr (inl (subst (λ (U : TypeTree). FirstFault o w U t (refusal_of e) e.span) (sym is) (ok_fault o w A B t payload (refusal_of e) e.span shape (subst (λ (p : Range ℕ). OkFault w A p payload (refusal_of e) e.span) (sym (inside source n t node).place) fault))))
   ok_blame T A B source n t payload e is node shape parts (inr (inr h)) = inr (inr (h.0, λ full. h.1 (ok_full A B (parts (type.result A B) (subst Full is full)))))
 
   -- a refusal of the payload of `err`
-  pub err_blame : (T : TypeTree) (A B : MaybeType) (source : List ℕ) (n : NodeTree) (t : Placed) (payload : MaybePlaced) (e : Diagnostic) → T ≡ type.result A B → placed_of source n ≡ Some t → shape_of t ≡ err payload → HasFullParts Full → IsPayloadBlamed Full (codes "err") B n payload e → IsBlamed Full T t e
+  pub err_blame : (T : TypeTree) (A B : MaybeType) (source : List ℕ) (n : NodeTree) (t : Placed) (payload : MaybePlaced) (e : Diagnostic) → T ≡ type.result A B → placed_of source n ≡ Some t → shape_of t ≡ err payload → HasFullParts Full → IsPayloadBlamed Full w (codes "err") B n payload e → IsBlamed Full o w T t e
   err_blame T A B source n t payload e is node shape parts (inl memory) = inl memory
   err_blame T A B source n t payload e is node shape parts (inr (inl fault)) =
-      inr (inl (subst (λ (U : TypeTree). Fault U t (refusal_of e) e.span) (sym is) (err_fault A B t payload (refusal_of e) e.span shape (subst (λ (p : Range ℕ). ErrFault B p payload (refusal_of e) e.span) (sym (inside source n t node).place) fault))))
+      inr (inl (subst (λ (U : TypeTree). FirstFault o w U t (refusal_of e) e.span) (sym is) (err_fault o w A B t payload (refusal_of e) e.span shape (subst (λ (p : Range ℕ). ErrFault w B p payload (refusal_of e) e.span) (sym (inside source n t node).place) fault))))
   err_blame T A B source n t payload e is node shape parts (inr (inr h)) = inr (inr (h.0, λ full. h.1 (err_full A B (parts (type.result A B) (subst Full is full)))))
 
   -- a refusal of the node itself at a flat payload type
-  pub result_flat_blame : (T U : TypeTree) (B : MaybeType) (source : List ℕ) (n : NodeTree) (t : Placed) (g e : Diagnostic) → T ≡ type.result (type.a_type U) B → placed_of source n ≡ Some t → GivesResult n (Err g) → IsFlat U → HasFullParts Full → IsBlamed Full U t e → IsBlamed Full T t e
+  pub result_flat_blame : (T U : TypeTree) (B : MaybeType) (source : List ℕ) (n : NodeTree) (t : Placed) (g e : Diagnostic) → T ≡ type.result (type.a_type U) B → placed_of source n ≡ Some t → GivesResult n (Err g) → IsFlat U → HasFullParts Full → IsBlamed Full o w U t e → IsBlamed Full o w T t e
   result_flat_blame T U B source n t g e is node given flat parts (inl memory) = inl memory
   result_flat_blame T U B source n t g e is node given flat parts (inr (inl fault)) =
-      inr (inl (subst (λ (W : TypeTree). Fault W t (refusal_of e) e.span) (sym is) (flat_fault (type.a_type U) B source n t g (refusal_of e) e.span node given (inr (flat, fault)))))
+      inr (inl (subst (λ (W : TypeTree). FirstFault o w W t (refusal_of e) e.span) (sym is) (flat_fault o w (type.a_type U) B source n t g (refusal_of e) e.span node given (inr (flat, fault)))))
   result_flat_blame T U B source n t g e is node given flat parts (inr (inr h)) = inr (inr (h.0, λ full. h.1 (parts (type.result (type.a_type U) B) (subst Full is full)).0))
 
   result_reads : (T : TypeTree) (A B : MaybeType) (t : Placed) (payload : Result (Option V) (Option V)) (m : Result V WasmValueError) → T ≡ type.result A B → HasDistinctNames T → TreeReads (type.result A B) (tree_of t) (result_value (either_tree tree payload)) → IfOk m (MakesResult tree of T payload) → IfOk m (IsTypedValue tree of T t)
@@ -160,21 +161,21 @@ module _ {V : Type 0} (tree : V → Value) (of : V → TypeTree → Type 0) (Ful
   result_full T A B payload (Ok v) is h f = tt
   result_full T A B payload (Err cause) is h f = λ full. f full A B is h
 
-  result_made : (T : TypeTree) (A B : MaybeType) (t : Placed) (n : NodeTree) (payload : Result (Option V) (Option V)) (m : Result V WasmValueError) (r : Result V Diagnostic) → T ≡ type.result A B → HasDistinctNames T → TreeReads (type.result A B) (tree_of t) (result_value (either_tree tree payload)) → EitherIsOf of (type_option A) (type_option B) payload → IfOk m (MakesResult tree of T payload) → IfErr m (FullResult of Full T payload) → IsMade n m r → MatchResult r (IsTypedValue tree of T t) (IsBlamed Full T t)
-  result_made T A B t n payload m r is distinct read h makes full done = made tree of Full T t n m r done (result_reads T A B t payload m is distinct read makes) (result_full T A B payload m is h full)
+  result_made : (T : TypeTree) (A B : MaybeType) (t : Placed) (n : NodeTree) (payload : Result (Option V) (Option V)) (m : Result V WasmValueError) (r : Result V Diagnostic) → T ≡ type.result A B → HasDistinctNames T → TreeReads (type.result A B) (tree_of t) (result_value (either_tree tree payload)) → EitherIsOf of (type_option A) (type_option B) payload → IfOk m (MakesResult tree of T payload) → IfErr m (FullResult of Full T payload) → IsMade n m r → MatchResult r (IsTypedValue tree of T t) (IsBlamed Full o w T t)
+  result_made T A B t n payload m r is distinct read h makes full done = made tree of Full o w T t n m r done (result_reads T A B t payload m is distinct read makes) (result_full T A B payload m is h full)
 
   -- `ok` with its payload
-  pub ok_made : (T : TypeTree) (A B : MaybeType) (t : Placed) (n : NodeTree) (payload : MaybePlaced) (v : Option V) (m : Result V WasmValueError) (r : Result V Diagnostic) → T ≡ type.result A B → HasDistinctNames T → shape_of t ≡ ok payload → IsPayloadRead tree of A payload v → IfOk m (MakesResult tree of T (Ok v)) → IfErr m (FullResult of Full T (Ok v)) → IsMade n m r → MatchResult r (IsTypedValue tree of T t) (IsBlamed Full T t)
+  pub ok_made : (T : TypeTree) (A B : MaybeType) (t : Placed) (n : NodeTree) (payload : MaybePlaced) (v : Option V) (m : Result V WasmValueError) (r : Result V Diagnostic) → T ≡ type.result A B → HasDistinctNames T → shape_of t ≡ ok payload → IsPayloadRead tree of A payload v → IfOk m (MakesResult tree of T (Ok v)) → IfErr m (FullResult of Full T (Ok v)) → IsMade n m r → MatchResult r (IsTypedValue tree of T t) (IsBlamed Full o w T t)
   ok_made T A B t n payload v m r is distinct shape read makes full done =
       result_made T A B t n (Ok v) m r is distinct (inl (inl (maybe_of payload, value.maybe_value (option_map tree v), tree_is t (ok payload) shape, read.reads, refl))) read.is_of makes full done
 
   -- `err` with its payload
-  pub err_made : (T : TypeTree) (A B : MaybeType) (t : Placed) (n : NodeTree) (payload : MaybePlaced) (v : Option V) (m : Result V WasmValueError) (r : Result V Diagnostic) → T ≡ type.result A B → HasDistinctNames T → shape_of t ≡ err payload → IsPayloadRead tree of B payload v → IfOk m (MakesResult tree of T (Err v)) → IfErr m (FullResult of Full T (Err v)) → IsMade n m r → MatchResult r (IsTypedValue tree of T t) (IsBlamed Full T t)
+  pub err_made : (T : TypeTree) (A B : MaybeType) (t : Placed) (n : NodeTree) (payload : MaybePlaced) (v : Option V) (m : Result V WasmValueError) (r : Result V Diagnostic) → T ≡ type.result A B → HasDistinctNames T → shape_of t ≡ err payload → IsPayloadRead tree of B payload v → IfOk m (MakesResult tree of T (Err v)) → IfErr m (FullResult of Full T (Err v)) → IsMade n m r → MatchResult r (IsTypedValue tree of T t) (IsBlamed Full o w T t)
   err_made T A B t n payload v m r is distinct shape read makes full done =
       result_made T A B t n (Err v) m r is distinct (inl (inr (maybe_of payload, value.maybe_value (option_map tree v), tree_is t (err payload) shape, read.reads, refl))) read.is_of makes full done
 
   -- a flat payload of `ok`
-  pub result_flat_made : (T U : TypeTree) (B : MaybeType) (t : Placed) (n : NodeTree) (v : V) (m : Result V WasmValueError) (r : Result V Diagnostic) → T ≡ type.result (type.a_type U) B → HasDistinctNames T → IsFlat U → IsTypedValue tree of U t v → IfOk m (MakesResult tree of T (Ok (Some v))) → IfErr m (FullResult of Full T (Ok (Some v))) → IsMade n m r → MatchResult r (IsTypedValue tree of T t) (IsBlamed Full T t)
+  pub result_flat_made : (T U : TypeTree) (B : MaybeType) (t : Placed) (n : NodeTree) (v : V) (m : Result V WasmValueError) (r : Result V Diagnostic) → T ≡ type.result (type.a_type U) B → HasDistinctNames T → IsFlat U → IsTypedValue tree of U t v → IfOk m (MakesResult tree of T (Ok (Some v))) → IfErr m (FullResult of Full T (Ok (Some v))) → IsMade n m r → MatchResult r (IsTypedValue tree of T t) (IsBlamed Full o w T t)
   result_flat_made T U B t n v m r is distinct flat read makes full done =
       result_made T (type.a_type U) B t n (Ok (Some v)) m r is distinct (inr (tree v, (flat, read.reads), refl)) read.is_of makes full done
 

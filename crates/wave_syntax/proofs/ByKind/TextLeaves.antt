@@ -17,7 +17,8 @@ use Rattle.wave_grammar.specs.Token.{Token}
 use Rattle.wave_grammar.specs.Token as token
 use Rattle.wave_grammar.specs.Elaborates.{SimpleTree}
 use Rattle.wave_grammar.specs.SpannedTree.{Placed, Shape, one, slice, span_of, shape_of, tree_of}
-use Rattle.wave_grammar.specs.TypeErrors.{OfForm, LeafFault, IsForm, SpellsNoLeaf, StringFault, Fault, one_in}
+use Rattle.wave_grammar.specs.TypeErrors.{OfForm, LeafFault, IsForm, SpellsNoLeaf, StringFault, one_in}
+use Rattle.wave_grammar.specs.FaultOrder.{Order, FirstFault}
 use Rattle.wave_syntax.specs.NodeTree.{NodeTree, type_of, place_of}
 use Rattle.wave_syntax.specs.Nodes.{placed_of}
 use Rattle.wave_syntax.specs.NodeAccessors.{node_text, GivesChar}
@@ -58,11 +59,11 @@ no_char text none l (w, c, e, means, f) = none c (subst (λ (z : List ℕ). Char
     text_is a b e = cc
 
 -- the refusal of a char is a fault
-pub char_blame : (source : List ℕ) (n : NodeTree) (t : Placed) (e : Diagnostic) → placed_of source n ≡ Some t → GivesChar source n (Err e) → Fault (type.simple type.char) t (refusal_of e) e.span
-char_blame source n t e is (inl h) =
+pub char_blame : (o w : Order) (source : List ℕ) (n : NodeTree) (t : Placed) (e : Diagnostic) → placed_of source n ≡ Some t → GivesChar source n (Err e) → FirstFault o w (type.simple type.char) t (refusal_of e) e.span
+char_blame o w source n t e is (inl h) =
     let i = inside source n t is in
     wrong_form type.char (one_in (shape_of t)) (span_of t) (refusal_of e) e.span (not_char (type_of n) (place_of n) (slice source (place_of n)) i.children (shape_of t) i.from h.0) (at_tree InvalidType (place_of n) (span_of t) (refusal_of e) e.span i.place (said h.1))
-char_blame source n t e is (inr h) =
+char_blame o w source n t e is (inr h) =
     let i = inside source n t is in
     subst (λ (o : Option Token). OfForm o (span_of t) (LeafFault type.char (span_of t)) (refusal_of e) e.span) (ap one_in (sym (char_is source n t is h.0)))
     (inr ((node_text source n, refl), (no_char (node_text source n) h.1, at_tree InvalidEscape (place_of n) (span_of t) (refusal_of e) e.span i.place (said h.2))))
@@ -99,8 +100,8 @@ not_string ty p text cs (one _) f apart other t is form = f
 not_string ty p text cs _ f apart other t is form = cc
 
 -- a token of a string with a fault of its text
-text_fault : (t : Placed) (tok : Token) (k : Refusal) (q : Range ℕ) → shape_of t ≡ one tok → IsForm type.string tok → StringFault type.string (span_of t) tok k q → Fault (type.simple type.string) t k q
-text_fault t tok k q e form fault =
+text_fault : (o w : Order) (t : Placed) (tok : Token) (k : Refusal) (q : Range ℕ) → shape_of t ≡ one tok → IsForm type.string tok → StringFault type.string (span_of t) tok k q → FirstFault o w (type.simple type.string) t k q
+text_fault o w t tok k q e form fault =
     subst (λ (o : Option Token). OfForm o (span_of t) (LeafFault type.string (span_of t)) k q) (ap one_in (sym e)) (inr (form, fault))
 
 -- what is wrong with the text of a string's token at the node
@@ -122,18 +123,18 @@ told_fault source n e (inr (ty, x, f, own, fault, told)) =
     record { tok = token.multiline (node_text source n); own = own_token kind.MultilineString source n (token.multiline (node_text source n)) ty refl; form = (node_text source n, inr refl); wrong = inr (node_text source n, x, f, refl, own, fault, (told.refusal, told.at)) }
 
 -- the refusal of a string is a fault, or out of memory
-pub string_blame : (Full : TypeTree → Type 0) (T : TypeTree) (source : List ℕ) (n : NodeTree) (t : Placed) (e : Diagnostic) → T ≡ type.simple type.string → placed_of source n ≡ Some t → RefusesString source n e → IsBlamed Full T t e
-string_blame Full T source n t e same is h = subst (λ (U : TypeTree). IsBlamed Full U t e) (sym same) (blamed h)
+pub string_blame : (Full : TypeTree → Type 0) (o w : Order) (T : TypeTree) (source : List ℕ) (n : NodeTree) (t : Placed) (e : Diagnostic) → T ≡ type.simple type.string → placed_of source n ≡ Some t → RefusesString source n e → IsBlamed Full o w T t e
+string_blame Full o w T source n t e same is h = subst (λ (U : TypeTree). IsBlamed Full o w U t e) (sym same) (blamed h)
   where
     i : Inside source n t
     i = inside source n t is
 
-    blamed : RefusesString source n e → IsBlamed Full (type.simple type.string) t e
+    blamed : RefusesString source n e → IsBlamed Full o w (type.simple type.string) t e
     blamed (inl (apart, other, refused)) =
         inr (inl (wrong_form type.string (one_in (shape_of t)) (span_of t) (refusal_of e) e.span (not_string (type_of n) (place_of n) (slice source (place_of n)) i.children (shape_of t) i.from apart other) (at_tree InvalidType (place_of n) (span_of t) (refusal_of e) e.span i.place (said refused))))
     blamed (inr (inl fault)) =
         let k = told_fault source n e fault in
-        inr (inl (text_fault t k.tok (refusal_of e) e.span (quoted_is source n t k.tok is k.own) k.form (subst (λ (p : Range ℕ). StringFault type.string p k.tok (refusal_of e) e.span) (sym i.place) k.wrong)))
+        inr (inl (text_fault o w t k.tok (refusal_of e) e.span (quoted_is source n t k.tok is k.own) k.form (subst (λ (p : Range ℕ). StringFault type.string p k.tok (refusal_of e) e.span) (sym i.place) k.wrong)))
     blamed (inr (inr (wants, copied))) = inl (ap (λ (r : Refusal). r.kind) wants.is)
 
 string_text : (a b : List ℕ) → token.string a ≡ token.string b → a ≡ b

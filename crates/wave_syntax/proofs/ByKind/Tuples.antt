@@ -13,6 +13,7 @@ use Rattle.wave_wasm.specs.ConstructorContracts.{IsMemory, MakesTuple, FullTuple
 use Rattle.wave_wasm.specs.declared.wasm.WasmValueError.{WasmValueError}
 use Rattle.wave_wasm.specs.declared.wasm.WasmTypeKind.TheVariants as kinds
 use Rattle.wave_lex.specs.Errors.{Diagnostic, Refusal, refusal_of}
+use Rattle.wave_lex.specs.declared.error.ParserErrorKind.TheVariants as error
 use Rattle.wave_lex.specs.declared.error.ParserErrorKind.TheVariants.{InvalidType}
 use Rattle.wave_grammar.specs.Token.{Token}
 use Rattle.wave_grammar.specs.Token as token
@@ -20,7 +21,8 @@ use Rattle.wave_grammar.specs.Tree as form
 use Rattle.wave_grammar.specs.Tree.{Tree, Takes, BehindWord, Word, word_of}
 use Rattle.wave_grammar.specs.Elaborates.{TreeReads, TreeReadsAll}
 use Rattle.wave_grammar.specs.SpannedTree.{Placed, Shape, at, tuple, PlacedTrees, no_more, and_then, placed_trees, placed_list, slice, span_of, shape_of, tree_of, trees_of, SpellsEach}
-use Rattle.wave_grammar.specs.TypeErrors.{IsRefusalOf, RefusesFor, OfForm, Fault, FaultOfItem, tuple_in}
+use Rattle.wave_grammar.specs.TypeErrors.{Blame, IsRefusalOf, RefusesFor, OfForm, tuple_in}
+use Rattle.wave_grammar.specs.FaultOrder.{Order, in_text, by_type, BlamesNothing, OrElse, InOrder, WrongCount, FirstFault, FirstItem}
 use Rattle.wave_syntax.specs.NodeTree.{NodeTree, type_of, place_of, children_of}
 use Rattle.wave_syntax.specs.Nodes.{placed_of, IsNodeOf}
 use Rattle.wave_syntax.specs.TypedReading.{IsTypedValue, IsBlamed, IsMade, IsValueOf}
@@ -145,57 +147,67 @@ tuple_item source m ns i n v ty children lt at_i =
 -- ---- faults
 
 -- what a tuple's fault is
-abbrev TupleFault : Types → Range ℕ → List Placed → Refusal → Range ℕ → Type 0
-TupleFault Ts p items k q = (length items ≢ count_of Ts) × RefusesFor (wrong_number (count_of Ts) (length items)) p k q ⊎ FaultOfItem Ts items k q
+abbrev TupleFault : Order → Order → Types → Range ℕ → List Placed → Blame
+TupleFault o w Ts p items =
+    InOrder o
+    (OrElse (FirstItem w Ts items) (WrongCount (count_of Ts) (length items) p))
+    (OrElse (WrongCount (count_of Ts) (length items) p) (FirstItem w Ts items))
 
 not_tuple : (ty : NodeType) (p : Range ℕ) (text : List ℕ) (cs : List Placed) (s : Shape) → From ty p text cs s → ty ≢ kind.Tuple → tuple_in s ≡ None
 not_tuple ty p text cs (tuple ts) f apart = absurd (apart f.0)
 not_tuple ty p text cs _ f apart = refl
 
 -- a node that is no tuple
-pub tuple_fault : (Ts : Types) (source : List ℕ) (n : NodeTree) (t : Placed) (k : Refusal) (q : Range ℕ) → placed_of source n ≡ Some t → type_of n ≢ kind.Tuple → IsRefusalOf InvalidType (place_of n) k q → Fault (type.tuple Ts) t k q
-tuple_fault Ts source n t k q e apart refused =
+pub tuple_fault : (o w : Order) (Ts : Types) (source : List ℕ) (n : NodeTree) (t : Placed) (k : Refusal) (q : Range ℕ) → placed_of source n ≡ Some t → type_of n ≢ kind.Tuple → IsRefusalOf InvalidType (place_of n) k q → FirstFault o w (type.tuple Ts) t k q
+tuple_fault o w Ts source n t k q e apart refused =
     let i = inside source n t e in
-    subst (λ (o : Option (List Placed)). OfForm o (span_of t) (TupleFault Ts (span_of t)) k q) (sym (not_tuple (type_of n) (place_of n) (slice source (place_of n)) i.children (shape_of t) i.from apart)) (at_tree InvalidType (place_of n) (span_of t) k q i.place refused)
+    subst (λ (f : Option (List Placed)). OfForm f (span_of t) (TupleFault o w Ts (span_of t)) k q) (sym (not_tuple (type_of n) (place_of n) (slice source (place_of n)) i.children (shape_of t) i.from apart)) (at_tree InvalidType (place_of n) (span_of t) k q i.place refused)
 
-within_fault : (Ts : Types) (t : Placed) (items : List Placed) (k : Refusal) (q : Range ℕ) → shape_of t ≡ tuple (placed_trees items) → TupleFault Ts (span_of t) items k q → Fault (type.tuple Ts) t k q
-within_fault Ts t items k q shape fault =
-    subst (λ (s : Shape). OfForm (tuple_in s) (span_of t) (TupleFault Ts (span_of t)) k q) (sym shape) (subst (λ (us : List Placed). TupleFault Ts (span_of t) us k q) (sym (trees_back items)) fault)
+within_fault : (o w : Order) (Ts : Types) (t : Placed) (items : List Placed) (k : Refusal) (q : Range ℕ) → shape_of t ≡ tuple (placed_trees items) → TupleFault o w Ts (span_of t) items k q → FirstFault o w (type.tuple Ts) t k q
+within_fault o w Ts t items k q shape fault =
+    subst (λ (s : Shape). OfForm (tuple_in s) (span_of t) (TupleFault o w Ts (span_of t)) k q) (sym shape) (subst (λ (us : List Placed). TupleFault o w Ts (span_of t) us k q) (sym (trees_back items)) fault)
+
+-- as the tokens are read no item has a fault
+abbrev pub ItemsFine : Order → Order → Types → List Placed → Type 0
+ItemsFine in_text w Ts items = BlamesNothing (FirstItem w Ts items)
+ItemsFine by_type w Ts items = Unit {0}
+
+counted_wrong : (o w : Order) (Ts : Types) (p : Range ℕ) (items : List Placed) (k : Refusal) (q : Range ℕ) → ItemsFine o w Ts items → WrongCount (count_of Ts) (length items) p k q → TupleFault o w Ts p items k q
+counted_wrong in_text w Ts p items k q fine wrong = inr (fine, wrong)
+counted_wrong by_type w Ts p items k q fine wrong = inl wrong
 
 -- another number of items than of types
-pub count_fault : (T : TypeTree) (parts : List TypeTree) (source : List ℕ) (m : NodeTree) (t : Placed) (ns : List NodeTree) (e : Diagnostic) → (is : TupleType T parts) → IsNodeOf source m t → type_of m ≡ kind.Tuple → ns ≡ children_of m → length ns ≢ length parts → RefusesFor (wrong_number (length parts) (length ns)) (place_of m) (refusal_of e) e.span → Fault (type.tuple is.types) t (refusal_of e) e.span
-count_fault T parts source m t ns e is node ty children apart refused =
+count_fault : (o w : Order) (T : TypeTree) (parts : List TypeTree) (source : List ℕ) (m : NodeTree) (t : Placed) (ns : List NodeTree) (e : Diagnostic) → (is : TupleType T parts) → IsNodeOf source m t → type_of m ≡ kind.Tuple → ns ≡ children_of m → ((items : List Placed) → AreNodesOf source ns items → ItemsFine o w is.types items) → length ns ≢ length parts → RefusesFor (wrong_number (length parts) (length ns)) (place_of m) (refusal_of e) e.span → FirstFault o w (type.tuple is.types) t (refusal_of e) e.span
+count_fault o w T parts source m t ns e is node ty children fine apart refused =
     let inner = tuple_nodes source m t node ty in
-    let many : length ns ≡ length inner.items = as_many source ns inner.items (given_items source m t ns node ty children) in
+    let nodes = given_items source m t ns node ty children in
+    let many : length ns ≡ length inner.items = as_many source ns inner.items nodes in
     let types : length parts ≡ count_of is.types = ap length is.parts_are ∙ counted is.types in
     let at_t : e.span ≡ span_of t = refused.1 ∙ sym (inside source m t node.0).place in
-    within_fault is.types t inner.items (refusal_of e) e.span inner.shape (inl ((λ same. apart (many ∙ (same ∙ sym types))), (subst (λ (c : ℕ). RefusesFor (wrong_number c (length inner.items)) (span_of t) (refusal_of e) e.span) types (subst (λ (c : ℕ). RefusesFor (wrong_number (length parts) c) (span_of t) (refusal_of e) e.span) many (refused.0, at_t)))))
+    within_fault o w is.types t inner.items (refusal_of e) e.span inner.shape
+    (counted_wrong o w is.types (span_of t) inner.items (refusal_of e) e.span (fine inner.items nodes)
+    ((λ same. apart (many ∙ (same ∙ sym types))), (subst (λ (c : ℕ). RefusesFor (wrong_number c (length inner.items)) (span_of t) (refusal_of e) e.span) types (subst (λ (c : ℕ). RefusesFor (wrong_number (length parts) c) (span_of t) (refusal_of e) e.span) many (refused.0, at_t)))))
 
-fault_at : (Ts : Types) (items : List Placed) (i : ℕ) (E : TypeTree) (u : Placed) (k : Refusal) (q : Range ℕ) → HasAt (type_list Ts) i E → HasAt items i u → Fault E u k q → FaultOfItem Ts items k q
-fault_at type.no_types items i E u k q h here fault = absurd h
-fault_at (type.type_and T more) [] i E u k q h here fault = absurd here
-fault_at (type.type_and T more) (t ∷ ts) zero E u k q h here fault = inl (subst (λ (U : TypeTree). Fault U t k q) (sym h) (subst (λ (w : Placed). Fault E w k q) (sym here) fault))
-fault_at (type.type_and T more) (t ∷ ts) (suc i) E u k q h here fault = inr (fault_at more ts i E u k q h here fault)
+module _ {V : Type 0} (tree : V → Value) (of : V → TypeTree → Type 0) (Full : TypeTree → Type 0) (o w : Order) where
+  -- out of memory; or the first fault of an item; or, where constructors do not serve all values of the items' types, the refusal of one
+  abbrev pub ItemsBlamed : Types → List Placed → Diagnostic → Type 0
+  ItemsBlamed Ts items e = (e.kind ≡ error.OutOfMemory) ⊎ FirstItem w Ts items (refusal_of e) e.span ⊎ (e.kind ≡ error.WasmValueError) × (AllOf Full (type_list Ts) → ⊥)
 
-module _ {V : Type 0} (tree : V → Value) (of : V → TypeTree → Type 0) (Full : TypeTree → Type 0) where
-  at_type : (T : TypeTree) (parts : List TypeTree) (t : Placed) (items : List Placed) (i : ℕ) (E : TypeTree) (u : Placed) (e : Diagnostic) → TupleType T parts → shape_of t ≡ tuple (placed_trees items) → HasAt parts i E → HasAt items i u → HasFullParts Full → IsBlamed Full E u e → IsBlamed Full T t e
-  at_type T parts t items i E u e is shape typed here full (inl memory) = inl memory
-  at_type T parts t items i E u e is shape typed here full (inr (inl fault)) =
-      inr (inl (subst (λ (U : TypeTree). Fault U t (refusal_of e) e.span) (sym is.is) (within_fault is.types t items (refusal_of e) e.span shape (inr (fault_at is.types items i E u (refusal_of e) e.span (subst (λ (l : List TypeTree). HasAt l i E) is.parts_are typed) here fault)))))
-  at_type T parts t items i E u e is shape typed here full (inr (inr h)) =
-      inr (inr (h.0, λ whole. h.1 (all_has Full (type_list is.types) i E (full (type.tuple is.types) (subst Full is.is whole)) (subst (λ (l : List TypeTree). HasAt l i E) is.parts_are typed))))
-
-  -- a refusal of an item is one of the tuple
-  pub item_blamed : (source : List ℕ) (T : TypeTree) (parts : List TypeTree) (m : NodeTree) (t : Placed) (ns : List NodeTree) (i : ℕ) (n : NodeTree) (E : TypeTree) (e : Diagnostic) → TupleType T parts → IsNodeOf source m t → type_of m ≡ kind.Tuple → ns ≡ children_of m → i < length ns → n ≡ get_or ns i n → HasAt parts i E → HasFullParts Full → ((u : Placed) → IsNodeOf source n u → IsBlamed Full E u e) → IsBlamed Full T t e
-  item_blamed source T parts m t ns i n E e is node ty children lt at_i typed full blamed =
+  -- as the tokens are read the first refusal of an item is that of the tuple
+  pub items_blame : (source : List ℕ) (T : TypeTree) (parts : List TypeTree) (m : NodeTree) (t : Placed) (ns : List NodeTree) (e : Diagnostic) (is : TupleType T parts) → IsNodeOf source m t → type_of m ≡ kind.Tuple → ns ≡ children_of m → HasFullParts Full → ((items : List Placed) → AreNodesOf source ns items → ItemsBlamed is.types items e) → IsBlamed Full in_text w T t e
+  items_blame source T parts m t ns e is node ty children full blamed =
       let inner = tuple_nodes source m t node ty in
-      let here = node_at source ns inner.items i n (given_items source m t ns node ty children) lt at_i in
-      at_type T parts t inner.items i E here.0 e is inner.shape typed here.1 full (blamed here.0 here.2)
+      so inner.items inner.shape (blamed inner.items (given_items source m t ns node ty children))
+    where
+      so : (items : List Placed) → shape_of t ≡ tuple (placed_trees items) → ItemsBlamed is.types items e → IsBlamed Full in_text w T t e
+      so items shape (inl memory) = inl memory
+      so items shape (inr (inl fault)) = inr (inl (subst (λ (U : TypeTree). FirstFault in_text w U t (refusal_of e) e.span) (sym is.is) (within_fault in_text w is.types t items (refusal_of e) e.span shape (inl fault))))
+      so items shape (inr (inr h)) = inr (inr (h.0, λ whole. h.1 (full (type.tuple is.types) (subst Full is.is whole))))
 
   -- a refusal because of the number of items
-  pub count_blame : (T : TypeTree) (parts : List TypeTree) (source : List ℕ) (m : NodeTree) (t : Placed) (ns : List NodeTree) (e : Diagnostic) → TupleType T parts → IsNodeOf source m t → type_of m ≡ kind.Tuple → ns ≡ children_of m → length ns ≢ length parts → RefusesFor (wrong_number (length parts) (length ns)) (place_of m) (refusal_of e) e.span → IsBlamed Full T t e
-  count_blame T parts source m t ns e is node ty children apart refused =
-      inr (inl (subst (λ (U : TypeTree). Fault U t (refusal_of e) e.span) (sym is.is) (count_fault T parts source m t ns e is node ty children apart refused)))
+  pub count_blame : (T : TypeTree) (parts : List TypeTree) (source : List ℕ) (m : NodeTree) (t : Placed) (ns : List NodeTree) (e : Diagnostic) (is : TupleType T parts) → IsNodeOf source m t → type_of m ≡ kind.Tuple → ns ≡ children_of m → ((items : List Placed) → AreNodesOf source ns items → ItemsFine o w is.types items) → length ns ≢ length parts → RefusesFor (wrong_number (length parts) (length ns)) (place_of m) (refusal_of e) e.span → IsBlamed Full o w T t e
+  count_blame T parts source m t ns e is node ty children fine apart refused =
+      inr (inl (subst (λ (U : TypeTree). FirstFault o w U t (refusal_of e) e.span) (sym is.is) (count_fault o w T parts source m t ns e is node ty children fine apart refused)))
 
   -- each tree was read at its own type
   abbrev pub ReadAt : List TypeTree → List Placed → List V → Type 0
@@ -259,13 +271,13 @@ module _ {V : Type 0} (tree : V → Value) (of : V → TypeTree → Type 0) (Ful
   tuple_full T Ts ts vs (Err cause) is all h = λ full. h full Ts is (each_is (type_list Ts) ts vs all)
 
   -- the tuple was made, or its constructor refused
-  pub tuple_made : (source : List ℕ) (T : TypeTree) (parts : List TypeTree) (n : NodeTree) (t : Placed) (ns : List NodeTree) (vs : List V) (i : ℕ) (m : Result V WasmValueError) (r : Result V Diagnostic) → TupleType T parts → HasDistinctNames T → (node : IsNodeOf source n t) → (ty : type_of n ≡ kind.Tuple) → ns ≡ children_of n → length ns ≡ length parts → length ns ≤ i → ReadAt (take i parts) (take i (tuple_nodes source n t node ty).items) vs → IfOk m (MakesTuple tree of T vs) → IfErr m (FullTuple of Full T vs) → IsMade n m r → MatchResult r (IsTypedValue tree of T t) (IsBlamed Full T t)
+  pub tuple_made : (source : List ℕ) (T : TypeTree) (parts : List TypeTree) (n : NodeTree) (t : Placed) (ns : List NodeTree) (vs : List V) (i : ℕ) (m : Result V WasmValueError) (r : Result V Diagnostic) → TupleType T parts → HasDistinctNames T → (node : IsNodeOf source n t) → (ty : type_of n ≡ kind.Tuple) → ns ≡ children_of n → length ns ≡ length parts → length ns ≤ i → ReadAt (take i parts) (take i (tuple_nodes source n t node ty).items) vs → IfOk m (MakesTuple tree of T vs) → IfErr m (FullTuple of Full T vs) → IsMade n m r → MatchResult r (IsTypedValue tree of T t) (IsBlamed Full o w T t)
   tuple_made source T parts n t ns vs i m r is distinct node ty children same le before ok full done =
       let inner = tuple_nodes source n t node ty in
       let many : length ns ≡ length inner.items = as_many source ns inner.items (given_items source n t ns node ty children) in
       let all : ReadAt parts inner.items vs = whole_at parts inner.items vs i (sym many ∙ same) (omega (arith, many, le)) before in
       let typed : ReadAt (type_list is.types) inner.items vs = subst (λ (l : List TypeTree). ReadAt l inner.items vs) is.parts_are all in
-      made tree of Full T t n m r done (tuple_reads T is.types t inner.items vs m is.is distinct inner.shape inner.some typed ok) (tuple_full T is.types inner.items vs m is.is typed full)
+      made tree of Full o w T t n m r done (tuple_reads T is.types t inner.items vs m is.is distinct inner.shape inner.some typed ok) (tuple_full T is.types inner.items vs m is.is typed full)
 
 -- ---- no value
 

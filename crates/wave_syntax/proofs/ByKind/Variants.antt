@@ -20,7 +20,8 @@ use Rattle.wave_grammar.specs.LeafTokens.{name_of}
 use Rattle.wave_grammar.specs.TypedGrammar.{look_up}
 use Rattle.wave_grammar.specs.Elaborates.{TreeReads, TreeReadsPayload, TreeReadsCase}
 use Rattle.wave_grammar.specs.SpannedTree.{Placed, Shape, MaybePlaced, at, label, no_placed, a_placed, slice, span_of, shape_of, tree_of, maybe_of}
-use Rattle.wave_grammar.specs.TypeErrors.{Blame, IsRefusalOf, RefusesFor, OfForm, Fault, FaultOfPayload, FaultOfCase, label_in}
+use Rattle.wave_grammar.specs.TypeErrors.{Blame, IsRefusalOf, RefusesFor, OfForm, label_in}
+use Rattle.wave_grammar.specs.FaultOrder.{Order, FirstFault, FirstOfPayload, FirstOfCase}
 use Rattle.wave_syntax.specs.NodeTree.{NodeTree, type_of, place_of}
 use Rattle.wave_syntax.specs.Nodes.{placed_of, flag_of}
 use Rattle.wave_syntax.specs.NodeAccessors.{node_text, GivesVariant}
@@ -87,14 +88,14 @@ case_reads type.no_cases name P t w h read = absurd h
 case_reads (type.case_of other A more) name P t w (inl h) read = inl (h.0, subst (λ (M : MaybeType). TreeReadsPayload M t w) (sym h.1) read)
 case_reads (type.case_of other A more) name P t w (inr h) read = inr (case_reads more name P t w h.1 read)
 
-case_fault : (cs : Cases) (name : List ℕ) (P : MaybeType) (payload : MaybePlaced) (p : Range ℕ) (k : Refusal) (q : Range ℕ) → HasCase cs name P → FaultOfPayload name P payload p k q → FaultOfCase cs name payload p k q
-case_fault type.no_cases name P payload p k q h fault = absurd h
-case_fault (type.case_of other A more) name P payload p k q (inl h) fault = inl (h.0, subst (λ (M : MaybeType). FaultOfPayload name M payload p k q) (sym h.1) fault)
-case_fault (type.case_of other A more) name P payload p k q (inr h) fault = inr (h.0, case_fault more name P payload p k q h.1 fault)
+case_fault : (o w : Order) (cs : Cases) (name : List ℕ) (P : MaybeType) (payload : MaybePlaced) (p : Range ℕ) (k : Refusal) (q : Range ℕ) → HasCase cs name P → FirstOfPayload w name P payload p k q → FirstOfCase w cs name payload p k q
+case_fault o w type.no_cases name P payload p k q h fault = absurd h
+case_fault o w (type.case_of other A more) name P payload p k q (inl h) fault = inl (h.0, subst (λ (M : MaybeType). FirstOfPayload w name M payload p k q) (sym h.1) fault)
+case_fault o w (type.case_of other A more) name P payload p k q (inr h) fault = inr (h.0, case_fault o w more name P payload p k q h.1 fault)
 
-missing_fault : (cs : Cases) (name : List ℕ) (payload : MaybePlaced) (p : Range ℕ) (k : Refusal) (q : Range ℕ) → IsNoneOf (case_names cs) name → RefusesFor (unknown_case name) p k q → FaultOfCase cs name payload p k q
-missing_fault type.no_cases name payload p k q none refused = refused
-missing_fault (type.case_of other A more) name payload p k q none refused = inr (none.0, missing_fault more name payload p k q none.1 refused)
+missing_fault : (o w : Order) (cs : Cases) (name : List ℕ) (payload : MaybePlaced) (p : Range ℕ) (k : Refusal) (q : Range ℕ) → IsNoneOf (case_names cs) name → RefusesFor (unknown_case name) p k q → FirstOfCase w cs name payload p k q
+missing_fault o w type.no_cases name payload p k q none refused = refused
+missing_fault o w (type.case_of other A more) name payload p k q none refused = inr (none.0, missing_fault o w more name payload p k q none.1 refused)
 
 case_listed : (cs : Cases) (name : List ℕ) (P : MaybeType) → HasCase cs name P → SomeOf (λ c. c ≡ (name, type_option P)) (case_list cs)
 case_listed type.no_cases name P h = absurd h
@@ -120,25 +121,25 @@ flag_text source m _ q w i e = absurd (cc)
 -- ---- faults
 
 -- what a variant's fault is, of the label of a node
-abbrev VariantFault : Cases → Range ℕ → (List ℕ × MaybePlaced) → Blame
-VariantFault cs p l k q = FaultOfCase cs (name_of l.0) l.1 p k q
+abbrev VariantFault : Order → Cases → Range ℕ → (List ℕ × MaybePlaced) → Blame
+VariantFault w cs p l k q = FirstOfCase w cs (name_of l.0) l.1 p k q
 
-no_label : (cs : Cases) (ty : NodeType) (p r : Range ℕ) (text : List ℕ) (children : List Placed) (s : Shape) (k : Refusal) (q : Range ℕ) → From ty p text children s → ty ≢ kind.Label → ty ≢ kind.VariantWithPayload → IsRefusalOf InvalidType r k q → OfForm (label_in s) r (VariantFault cs r) k q
-no_label cs ty p r text children (label w v no_placed) k q f x y refused = absurd (x f.0)
-no_label cs ty p r text children (label w v (a_placed u)) k q f x y refused = absurd (y f.0)
-no_label cs ty p r text children _ k q f x y refused = refused
+no_label : (w : Order) (cs : Cases) (ty : NodeType) (p r : Range ℕ) (text : List ℕ) (children : List Placed) (s : Shape) (k : Refusal) (q : Range ℕ) → From ty p text children s → ty ≢ kind.Label → ty ≢ kind.VariantWithPayload → IsRefusalOf InvalidType r k q → OfForm (label_in s) r (VariantFault w cs r) k q
+no_label w cs ty p r text children (label at_label v no_placed) k q f x y refused = absurd (x f.0)
+no_label w cs ty p r text children (label at_label v (a_placed u)) k q f x y refused = absurd (y f.0)
+no_label w cs ty p r text children _ k q f x y refused = refused
 
 -- a node that is no label
-pub variant_fault : (cs : Cases) (source : List ℕ) (n : NodeTree) (t : Placed) (e : Diagnostic) → placed_of source n ≡ Some t → GivesVariant source n (Err e) → Fault (type.variant cs) t (refusal_of e) e.span
-variant_fault cs source n t e is given =
+pub variant_fault : (o w : Order) (cs : Cases) (source : List ℕ) (n : NodeTree) (t : Placed) (e : Diagnostic) → placed_of source n ≡ Some t → GivesVariant source n (Err e) → FirstFault o w (type.variant cs) t (refusal_of e) e.span
+variant_fault o w cs source n t e is given =
     let i = inside source n t is in
-    no_label cs (type_of n) (place_of n) (span_of t) (slice source (place_of n)) i.children (shape_of t) (refusal_of e) e.span i.from given.0 given.1 (at_tree InvalidType (place_of n) (span_of t) (refusal_of e) e.span i.place (said given.2))
+    no_label w cs (type_of n) (place_of n) (span_of t) (slice source (place_of n)) i.children (shape_of t) (refusal_of e) e.span i.from given.0 given.1 (at_tree InvalidType (place_of n) (span_of t) (refusal_of e) e.span i.place (said given.2))
 
-label_fault : (cs : Cases) (t : Placed) (p : Range ℕ) (text : List ℕ) (payload : MaybePlaced) (name : List ℕ) (k : Refusal) (q : Range ℕ) → shape_of t ≡ label p text payload → name ≡ name_of text → FaultOfCase cs name payload (span_of t) k q → Fault (type.variant cs) t k q
-label_fault cs t p text payload name k q shape named fault =
-    subst (λ (s : Shape). OfForm (label_in s) (span_of t) (VariantFault cs (span_of t)) k q) (sym shape) (subst (λ (w : List ℕ). FaultOfCase cs w payload (span_of t) k q) named fault)
+label_fault : (o w : Order) (cs : Cases) (t : Placed) (p : Range ℕ) (text : List ℕ) (payload : MaybePlaced) (name : List ℕ) (k : Refusal) (q : Range ℕ) → shape_of t ≡ label p text payload → name ≡ name_of text → FirstOfCase w cs name payload (span_of t) k q → FirstFault o w (type.variant cs) t k q
+label_fault o w cs t p text payload name k q shape named fault =
+    subst (λ (s : Shape). OfForm (label_in s) (span_of t) (VariantFault w cs (span_of t)) k q) (sym shape) (subst (λ (x : List ℕ). FirstOfCase w cs x payload (span_of t) k q) named fault)
 
-module _ {V : Type 0} (tree : V → Value) (of : V → TypeTree → Type 0) (Full : TypeTree → Type 0) where
+module _ {V : Type 0} (tree : V → Value) (of : V → TypeTree → Type 0) (Full : TypeTree → Type 0) (o w : Order) where
   first_full : (A : MaybeType) (others : List TypeTree) → AllOf Full (payload_and A others) → AllOf Full (payload_and A [])
   first_full type.no_type others h = tt
   first_full (type.a_type U) others h = (h.0, tt)
@@ -153,18 +154,18 @@ module _ {V : Type 0} (tree : V → Value) (of : V → TypeTree → Type 0) (Ful
   case_full (type.case_of other A more) name P (inr h) full = case_full more name P h.1 (others_full A (payload_types more) full)
 
   -- a refusal of the payload of a case
-  pub case_blame : (T : TypeTree) (cs : Cases) (source : List ℕ) (n : NodeTree) (t : Placed) (name : List ℕ) (o : Option NodeTree) (c : CaseNode source t name o) (P : MaybeType) (e : Diagnostic) → T ≡ type.variant cs → placed_of source n ≡ Some t → HasCase cs name P → HasFullParts Full → IsPayloadBlamed Full name P n c.payload e → IsBlamed Full T t e
-  case_blame T cs source n t name o c P e is node found parts (inl memory) = inl memory
-  case_blame T cs source n t name o c P e is node found parts (inr (inl fault)) =
-      let placed = subst (λ (p : Range ℕ). FaultOfPayload name P c.payload p (refusal_of e) e.span) (sym (inside source n t node).place) fault in
-      inr (inl (subst (λ (U : TypeTree). Fault U t (refusal_of e) e.span) (sym is) (label_fault cs t c.place c.text c.payload name (refusal_of e) e.span c.shape c.named (case_fault cs name P c.payload (span_of t) (refusal_of e) e.span found placed))))
-  case_blame T cs source n t name o c P e is node found parts (inr (inr h)) = inr (inr (h.0, λ full. h.1 (case_full cs name P found (parts (type.variant cs) (subst Full is full)))))
+  pub case_blame : (T : TypeTree) (cs : Cases) (source : List ℕ) (n : NodeTree) (t : Placed) (name : List ℕ) (inner : Option NodeTree) (c : CaseNode source t name inner) (P : MaybeType) (e : Diagnostic) → T ≡ type.variant cs → placed_of source n ≡ Some t → HasCase cs name P → HasFullParts Full → IsPayloadBlamed Full w name P n c.payload e → IsBlamed Full o w T t e
+  case_blame T cs source n t name inner c P e is node found parts (inl memory) = inl memory
+  case_blame T cs source n t name inner c P e is node found parts (inr (inl fault)) =
+      let placed = subst (λ (p : Range ℕ). FirstOfPayload w name P c.payload p (refusal_of e) e.span) (sym (inside source n t node).place) fault in
+      inr (inl (subst (λ (U : TypeTree). FirstFault o w U t (refusal_of e) e.span) (sym is) (label_fault o w cs t c.place c.text c.payload name (refusal_of e) e.span c.shape c.named (case_fault o w cs name P c.payload (span_of t) (refusal_of e) e.span found placed))))
+  case_blame T cs source n t name inner c P e is node found parts (inr (inr h)) = inr (inr (h.0, λ full. h.1 (case_full cs name P found (parts (type.variant cs) (subst Full is full)))))
 
   -- the refusal of a label that is no case
-  pub no_case_blame : (T : TypeTree) (cs : Cases) (source : List ℕ) (n : NodeTree) (t : Placed) (name : List ℕ) (o : Option NodeTree) (c : CaseNode source t name o) (e : Diagnostic) → T ≡ type.variant cs → placed_of source n ≡ Some t → IsNoneOf (case_names cs) name → IsCaused (unknown_case name) n e → IsBlamed Full T t e
-  no_case_blame T cs source n t name o c e is node none caused =
-      caused_blame Full T source n t (unknown_case name) e node caused (λ refused.
-      subst (λ (U : TypeTree). Fault U t (refusal_of e) e.span) (sym is) (label_fault cs t c.place c.text c.payload name (refusal_of e) e.span c.shape c.named (missing_fault cs name c.payload (span_of t) (refusal_of e) e.span none refused)))
+  pub no_case_blame : (T : TypeTree) (cs : Cases) (source : List ℕ) (n : NodeTree) (t : Placed) (name : List ℕ) (inner : Option NodeTree) (c : CaseNode source t name inner) (e : Diagnostic) → T ≡ type.variant cs → placed_of source n ≡ Some t → IsNoneOf (case_names cs) name → IsCaused (unknown_case name) n e → IsBlamed Full o w T t e
+  no_case_blame T cs source n t name inner c e is node none caused =
+      caused_blame Full o w T source n t (unknown_case name) e node caused (λ refused.
+      subst (λ (U : TypeTree). FirstFault o w U t (refusal_of e) e.span) (sym is) (label_fault o w cs t c.place c.text c.payload name (refusal_of e) e.span c.shape c.named (missing_fault o w cs name c.payload (span_of t) (refusal_of e) e.span none refused)))
 
   variant_reads : (T : TypeTree) (cs : Cases) (t : Placed) (name : List ℕ) (payload : Option V) (m : Result V WasmValueError) → T ≡ type.variant cs → HasDistinctNames T → TreeReads (type.variant cs) (tree_of t) (value.variant name (maybe_value (option_map tree payload))) → IfOk m (MakesVariant tree of T name payload) → IfOk m (IsTypedValue tree of T t)
   variant_reads T cs t name payload (Ok v) is distinct read h =
@@ -177,11 +178,11 @@ module _ {V : Type 0} (tree : V → Value) (of : V → TypeTree → Type 0) (Ful
   variant_full T cs name P payload (Err cause) is found h f = λ full. f full cs is (type_option P) (case_listed cs name P found) h
 
   -- the case was made, or its constructor refused
-  pub variant_made : (T : TypeTree) (cs : Cases) (source : List ℕ) (t : Placed) (n : NodeTree) (name : List ℕ) (o : Option NodeTree) (c : CaseNode source t name o) (P : MaybeType) (payload : Option V) (m : Result V WasmValueError) (r : Result V Diagnostic) → T ≡ type.variant cs → HasDistinctNames T → HasCase cs name P → IsPayloadRead tree of P c.payload payload → IfOk m (MakesVariant tree of T name payload) → IfErr m (FullVariant of Full T name payload) → IsMade n m r → MatchResult r (IsTypedValue tree of T t) (IsBlamed Full T t)
-  variant_made T cs source t n name o c P payload m r is distinct found read ok full done =
-      let w = maybe_value (option_map tree payload) in
-      let read_case = subst (λ (x : List ℕ). TreeReadsCase cs x (maybe_of c.payload) w) c.named (case_reads cs name P (maybe_of c.payload) w found read.reads) in
-      made tree of Full T t n m r done (variant_reads T cs t name payload m is distinct (c.text, maybe_of c.payload, w, tree_is t (label c.place c.text c.payload) c.shape, read_case, ap (λ (x : List ℕ). value.variant x w) c.named) ok) (variant_full T cs name P payload m is found read.is_of full)
+  pub variant_made : (T : TypeTree) (cs : Cases) (source : List ℕ) (t : Placed) (n : NodeTree) (name : List ℕ) (inner : Option NodeTree) (c : CaseNode source t name inner) (P : MaybeType) (payload : Option V) (m : Result V WasmValueError) (r : Result V Diagnostic) → T ≡ type.variant cs → HasDistinctNames T → HasCase cs name P → IsPayloadRead tree of P c.payload payload → IfOk m (MakesVariant tree of T name payload) → IfErr m (FullVariant of Full T name payload) → IsMade n m r → MatchResult r (IsTypedValue tree of T t) (IsBlamed Full o w T t)
+  variant_made T cs source t n name inner c P payload m r is distinct found read ok full done =
+      let given = maybe_value (option_map tree payload) in
+      let read_case = subst (λ (x : List ℕ). TreeReadsCase cs x (maybe_of c.payload) given) c.named (case_reads cs name P (maybe_of c.payload) given found read.reads) in
+      made tree of Full o w T t n m r done (variant_reads T cs t name payload m is distinct (c.text, maybe_of c.payload, given, tree_is t (label c.place c.text c.payload) c.shape, read_case, ap (λ (x : List ℕ). value.variant x given) c.named) ok) (variant_full T cs name P payload m is found read.is_of full)
 
 -- ---- no value
 

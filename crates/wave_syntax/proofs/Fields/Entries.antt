@@ -4,27 +4,27 @@ use Rattle.std.specs.declared.ops.Range.{Range}
 use Rattle.std.specs.Str.{bytes_eq}
 use Rattle.std.proofs.lemmas.Slice.Eq.{bytes_eq-Decides}
 use Rattle.wave_wasm.specs.Lists.{AllOf, SomeOf}
-use Rattle.wave_wasm.specs.Names.{IsOneOf, IsNoneOf}
+use Rattle.wave_wasm.specs.Names.{AreDistinct, IsOneOf, IsNoneOf}
 use Rattle.wave_wasm.specs.Types as type
 use Rattle.wave_wasm.specs.Types.{Fields, field_names}
-use Rattle.wave_lex.specs.Errors.{Diagnostic, Refusal, refusal_of, field_label_due, repeated_name}
+use Rattle.wave_lex.specs.Errors.{Says, Diagnostic, Refusal, refusal_of, field_label_due, repeated_name}
 use Rattle.wave_lex.specs.declared.error.ParserErrorKind.TheVariants.{InvalidType, DuplicateField, OutOfMemory}
 use Rattle.wave_grammar.specs.Token.{Token}
 use Rattle.wave_grammar.specs.Token as token
 use Rattle.wave_grammar.specs.LeafTokens.{name_of}
+use Rattle.wave_grammar.specs.FaultOrder.{Order, by_type, BlamesNothing, OrElse, FaultOfKey, InOrder, FaultOfEntries, FirstLeftOut, FaultOfKeys, FaultOfFields, FaultOfValue, FirstFault}
 use Rattle.wave_grammar.specs.TypedGrammar.{look_up, names_of}
 use Rattle.wave_grammar.specs.SpannedTree.{Placed, Shape, at, one, label, entries, no_fields, empty_braces, no_placed, PlacedEntries, no_entries, PlacedEntry, entry_list, slice, span_of, shape_of}
-use Rattle.wave_grammar.specs.TypeErrors.{IsRefusalOf, RefusesWith, OfForm, Fault, names_in, record_in, KeyFault, UnknownField, RepeatedField, IsFor, MissingField, FaultOfField}
+use Rattle.wave_grammar.specs.TypeErrors.{Blame, IsRefusalOf, RefusesWith, OfForm, names_in, record_in, KeyFault, UnknownField, RepeatedField, IsFor, MissingField, FaultOfField}
 use Rattle.wave_syntax.specs.NodeTree.{NodeTree, type_of, place_of, children_of}
 use Rattle.wave_syntax.specs.Nodes.{placed_of, key_of, IsNodeOf, IsTokenOf}
 use Rattle.wave_syntax.specs.NodeAccessors.{node_text, node_pairs}
 use Rattle.wave_syntax.specs.NodeFields.{IsLabelled, field_of, RefusesKey, RefusesFields}
 use Rattle.wave_syntax.proofs.ChildNodes.Inside.{From, Inside, inside, some_is, key_place}
-use Rattle.wave_syntax.proofs.ByKind.Lists.{HasAt, some_at}
 use Rattle.wave_syntax.proofs.ChildNodes.Entries.{AreEntriesOf, IsOfMap, map_nodes}
 use Rattle.wave_syntax.proofs.ByKind.Enums.{label_node}
 use Rattle.wave_syntax.proofs.ByKind.Leaves.{at_tree, said}
-use Rattle.wave_syntax.proofs.Fields.Lookup.{entry_has, not_found}
+use Rattle.wave_syntax.proofs.Fields.Lookup.{not_found}
 use Rattle.wave_syntax.specs.declared.form.NodeType.{NodeType}
 use Rattle.wave_syntax.specs.declared.form.NodeType.TheVariants as kind
 
@@ -36,7 +36,7 @@ key_label (at q s) p key r w e is =
     sym (ap (λ (x : Range ℕ × Token). x.1) (some_is (r, token.label w) (p, key) found))
 
 -- the key of a label's node is that label
-label_token : (source : List ℕ) (k : NodeTree) (p : Range ℕ) (key : Token) → IsTokenOf source k p key → type_of k ≡ kind.Label → key ≡ token.label (node_text source k)
+pub label_token : (source : List ℕ) (k : NodeTree) (p : Range ℕ) (key : Token) → IsTokenOf source k p key → type_of k ≡ kind.Label → key ≡ token.label (node_text source k)
 label_token source k p key h ty = key_label h.0.0 p key (place_of k) (node_text source k) (label_node source k h.0.0 h.0.1 ty) h.0.2
 
 key_other : (source : List ℕ) (k : NodeTree) (t : Placed) (p : Range ℕ) (key : Token) → Inside source k t → key_of t ≡ Some (p, key) → type_of k ≢ kind.Label → names_in key ≡ []
@@ -143,9 +143,16 @@ record_nodes source n t h set =
 abbrev pub RecordFault : Fields → Range ℕ → List PlacedEntry → Refusal → Range ℕ → Type 0
 RecordFault fs p es k q = KeyFault es k q ⊎ UnknownField (field_names fs) es p k q ⊎ RepeatedField [] es k q ⊎ MissingField fs es p k q ⊎ FaultOfField fs es k q
 
--- a fault of the entries is one of the record
-pub within_record : (fs : Fields) (t : Placed) (es : List PlacedEntry) (k : Refusal) (q : Range ℕ) → record_in (shape_of t) ≡ Some es → RecordFault fs (span_of t) es k q → Fault (type.record_type fs) t k q
-within_record fs t es k q e fault = subst (λ (o : Option (List PlacedEntry)). OfForm o (span_of t) (RecordFault fs (span_of t)) k q) (sym e) fault
+-- the fault of a record that is answered
+abbrev pub RecordBlame : Order → Order → Fields → Range ℕ → List PlacedEntry → Blame
+RecordBlame o w fs p es =
+    InOrder o
+    (OrElse (FaultOfEntries (field_names fs) (λ e. FaultOfValue w fs e) [] es p) (FirstLeftOut fs es p))
+    (OrElse (FaultOfKeys [] es) (OrElse (FaultOfFields w fs es p) (UnknownField (field_names fs) es p)))
+
+-- a fault of the entries is that of the record
+pub within_record : (o w : Order) (fs : Fields) (t : Placed) (es : List PlacedEntry) (k : Refusal) (q : Range ℕ) → record_in (shape_of t) ≡ Some es → RecordBlame o w fs (span_of t) es k q → FirstFault o w (type.record_type fs) t k q
+within_record o w fs t es k q e fault = subst (λ (f : Option (List PlacedEntry)). OfForm f (span_of t) (RecordBlame o w fs (span_of t)) k q) (sym e) fault
 
 not_record : (ty : NodeType) (p : Range ℕ) (text : List ℕ) (cs : List Placed) (s : Shape) → From ty p text cs s → ty ≢ kind.TupleSet → record_in s ≡ None
 not_record ty p text cs (entries es) f apart = absurd (apart f.0)
@@ -153,44 +160,81 @@ not_record ty p text cs no_fields f apart = absurd (apart f.0)
 not_record ty p text cs _ f apart = refl
 
 -- a node that is no record
-other_fault : (fs : Fields) (source : List ℕ) (n : NodeTree) (t : Placed) (k : Refusal) (q : Range ℕ) → placed_of source n ≡ Some t → type_of n ≢ kind.TupleSet → IsRefusalOf InvalidType (place_of n) k q → Fault (type.record_type fs) t k q
-other_fault fs source n t k q e apart refused =
+pub other_fault : (o w : Order) (fs : Fields) (source : List ℕ) (n : NodeTree) (t : Placed) (k : Refusal) (q : Range ℕ) → placed_of source n ≡ Some t → type_of n ≢ kind.TupleSet → IsRefusalOf InvalidType (place_of n) k q → FirstFault o w (type.record_type fs) t k q
+other_fault o w fs source n t k q e apart refused =
     let i = inside source n t e in
-    subst (λ (o : Option (List PlacedEntry)). OfForm o (span_of t) (RecordFault fs (span_of t)) k q) (sym (not_record (type_of n) (place_of n) (slice source (place_of n)) i.children (shape_of t) i.from apart)) (at_tree InvalidType (place_of n) (span_of t) k q i.place refused)
+    subst (λ (f : Option (List PlacedEntry)). OfForm f (span_of t) (RecordBlame o w fs (span_of t)) k q) (sym (not_record (type_of n) (place_of n) (slice source (place_of n)) i.children (shape_of t) i.from apart)) (at_tree InvalidType (place_of n) (span_of t) k q i.place refused)
 
-has_behind : {A : Type 0} (before : List A) (x : A) (behind : List A) → HasAt (before ++ x ∷ behind) (length before) x
-has_behind [] x behind = refl
-has_behind (y ∷ before) x behind = has_behind before x behind
+-- names that are none of the earlier ones are none of them and another one
+pub apart_more : (names earlier : List (List ℕ)) (name : List ℕ) → AllOf (IsNoneOf earlier) names → IsNoneOf names name → AllOf (IsNoneOf (name ∷ earlier)) names
+apart_more [] earlier name h none = tt
+apart_more (n ∷ names) earlier name h none = ((λ e. none.0 (sym e), h.0), apart_more names earlier name h.1 none.1)
 
-key_fault : (source : List ℕ) (before : List (NodeTree × NodeTree)) (entry : NodeTree × NodeTree) (behind : List (NodeTree × NodeTree)) (es : List PlacedEntry) (k : Refusal) (q : Range ℕ) → AreEntriesOf source (before ++ entry ∷ behind) es → type_of entry.0 ≢ kind.Label → RefusesWith InvalidType (Some field_label_due) (place_of entry.0) k q → KeyFault es k q
-key_fault source before entry behind es k q h apart refused =
-    let e = entry_has source (before ++ entry ∷ behind) es (length before) entry h (has_behind before entry behind) in
-    some_at (λ x. (names_in x.key ≡ []) × RefusesWith InvalidType (Some field_label_due) x.place k q) es (length before) e.0 e.1 (other_token source entry.0 e.0.place e.0.key e.2 apart, at_tree InvalidType (place_of entry.0) e.0.place k q (token_place source entry.0 e.0.place e.0.key e.2) refused)
+-- names are none of none
+pub none_at_first : (names : List (List ℕ)) → AllOf (IsNoneOf []) names
+none_at_first [] = tt
+none_at_first (n ∷ names) = (tt, none_at_first names)
 
-repeated_fault : (source : List ℕ) (before : List (NodeTree × NodeTree)) (entry : NodeTree × NodeTree) (behind : List (NodeTree × NodeTree)) (es : List PlacedEntry) (earlier : List (List ℕ)) (k : Refusal) (q : Range ℕ) → AreEntriesOf source (before ++ entry ∷ behind) es → AllOf IsLabelled before → type_of entry.0 ≡ kind.Label → IsOneOf (names_of (map (field_of source) before)) (name_of (node_text source entry.0)) ⊎ IsOneOf earlier (name_of (node_text source entry.0)) → RefusesWith DuplicateField (Some (repeated_name (name_of (node_text source entry.0)))) (place_of entry.0) k q → RepeatedField earlier es k q
-repeated_fault source [] entry behind [] earlier k q h labels labelled old refused = absurd h
-repeated_fault source [] entry behind (e ∷ es) earlier k q h labels labelled (inl old) refused = absurd old
-repeated_fault source [] entry behind (e ∷ es) earlier k q h labels labelled (inr old) refused =
-    let named : names_in e.key ≡ name_of (node_text source entry.0) ∷ [] = ap names_in (label_token source entry.0 e.place e.key h.0 labelled) in
-    inl (subst (SomeOf (λ name. IsOneOf earlier name × RefusesWith DuplicateField (Some (repeated_name name)) e.place k q)) (sym named) (inl (old, at_tree DuplicateField (place_of entry.0) e.place k q (token_place source entry.0 e.place e.key h.0) refused)))
-repeated_fault source (p ∷ before) entry behind [] earlier k q h labels labelled old refused = absurd h
-repeated_fault source (p ∷ before) entry behind (e ∷ es) earlier k q h labels labelled old refused =
-    let named : names_in e.key ≡ name_of (node_text source p.0) ∷ [] = ap names_in (label_token source p.0 e.place e.key h.0 labels.0) in
-    inr (subst (λ (ns : List (List ℕ)). RepeatedField (ns ++ earlier) es k q) (sym named) (repeated_fault source before entry behind es (name_of (node_text source p.0) ∷ earlier) k q h.2 labels.1 labelled (later old) refused))
+-- a label of a name that no earlier key has is fine
+pub key_fine : (earlier : List (List ℕ)) (e : PlacedEntry) (name : List ℕ) → IsFor name e → IsNoneOf earlier name → BlamesNothing (FaultOfKey earlier e)
+key_fine earlier e name named none k q (inl h) = cc (sym h.0 ∙ named)
+key_fine earlier e name named none k q (inr h) = one (subst (SomeOf (λ n. IsOneOf earlier n × RefusesWith DuplicateField (Some (repeated_name n)) e.place k q)) named h)
   where
-    later : IsOneOf (names_of (map (field_of source) (p ∷ before))) (name_of (node_text source entry.0)) ⊎ IsOneOf earlier (name_of (node_text source entry.0)) → IsOneOf (names_of (map (field_of source) before)) (name_of (node_text source entry.0)) ⊎ IsOneOf (name_of (node_text source p.0) ∷ earlier) (name_of (node_text source entry.0))
-    later (inl (inl e)) = inr (inl e)
-    later (inl (inr old)) = inl old
-    later (inr old) = inr (inr old)
+    one : SomeOf (λ n. IsOneOf earlier n × RefusesWith DuplicateField (Some (repeated_name n)) e.place k q) (name ∷ []) → ⊥
+    one (inl old) = not_both earlier name none old.0
+    one (inr old) = old
 
-refused_key : (fs : Fields) (source : List ℕ) (t : Placed) (before : List (NodeTree × NodeTree)) (entry : NodeTree × NodeTree) (behind : List (NodeTree × NodeTree)) (es : List PlacedEntry) (e : Diagnostic) → record_in (shape_of t) ≡ Some es → AreEntriesOf source (before ++ entry ∷ behind) es → AllOf IsLabelled before → RefusesKey source (names_of (map (field_of source) before)) entry.0 e → Fault (type.record_type fs) t (refusal_of e) e.span
-refused_key fs source t before entry behind es e taken h labels (inl (apart, says)) = within_record fs t es (refusal_of e) e.span taken (inl (key_fault source before entry behind es (refusal_of e) e.span h apart (says.is, says.stands)))
-refused_key fs source t before entry behind es e taken h labels (inr (labelled, old, says)) = within_record fs t es (refusal_of e) e.span taken (inr (inr (inl (repeated_fault source before entry behind es [] (refusal_of e) e.span h labels labelled (inl old) (says.is, says.stands)))))
+-- the name is one of those, or of the earlier ones
+abbrev pub IsOld : List (List ℕ) → List (List ℕ) → List ℕ → Type 0
+IsOld names earlier name = IsOneOf names name ⊎ IsOneOf earlier name
 
--- a refusal of a record's node or of its keys is out of memory or a fault
-pub fields_blame : (fs : Fields) (source : List ℕ) (n : NodeTree) (t : Placed) (e : Diagnostic) → IsNodeOf source n t → RefusesFields source n e → (e.kind ≡ OutOfMemory) ⊎ Fault (type.record_type fs) t (refusal_of e) e.span
-fields_blame fs source n t e h (inl memory) = inl memory
-fields_blame fs source n t e h (inr (inl other)) = inr (other_fault fs source n t (refusal_of e) e.span h.0 other.0 (said other.1))
-fields_blame fs source n t e h (inr (inr r)) =
+-- no label; or one of an old name
+abbrev pub IsBadKey : List ℕ → List (List ℕ) → List (List ℕ) → NodeTree → Diagnostic → Type 0
+IsBadKey source names earlier key e =
+    (type_of key ≢ kind.Label) × Says e InvalidType (place_of key) (Some field_label_due)
+    ⊎ (type_of key ≡ kind.Label) × IsOld names earlier (name_of (node_text source key))
+    × Says e DuplicateField (place_of key) (Some (repeated_name (name_of (node_text source key))))
+
+-- it is a fault behind the earlier ones
+pub bad_here : (source : List ℕ) (entry : NodeTree × NodeTree) (x : PlacedEntry) (earlier : List (List ℕ)) (e : Diagnostic) → IsTokenOf source entry.0 x.place x.key → IsBadKey source [] earlier entry.0 e → FaultOfKey earlier x (refusal_of e) e.span
+bad_here source entry x earlier e token (inl (apart, says)) =
+    inl (other_token source entry.0 x.place x.key token apart, at_tree InvalidType (place_of entry.0) x.place (refusal_of e) e.span (token_place source entry.0 x.place x.key token) (says.is, says.stands))
+bad_here source entry x earlier e token (inr (labelled, inl old, says)) = absurd old
+bad_here source entry x earlier e token (inr (labelled, inr old, says)) =
+    let named : names_in x.key ≡ name_of (node_text source entry.0) ∷ [] = ap names_in (label_token source entry.0 x.place x.key token labelled) in
+    inr (subst (SomeOf (λ name. IsOneOf earlier name × RefusesWith DuplicateField (Some (repeated_name name)) x.place (refusal_of e) e.span)) (sym named) (inl (old, at_tree DuplicateField (place_of entry.0) x.place (refusal_of e) e.span (token_place source entry.0 x.place x.key token) (says.is, says.stands))))
+
+-- it stays one where the first name is an earlier one
+pub later : (source : List ℕ) (name : List ℕ) (names earlier : List (List ℕ)) (key : NodeTree) (e : Diagnostic) → IsBadKey source (name ∷ names) earlier key e → IsBadKey source names (name ∷ earlier) key e
+later source name names earlier key e (inl h) = inl h
+later source name names earlier key e (inr (labelled, inl (inl is), says)) = inr (labelled, inr (inl is), says)
+later source name names earlier key e (inr (labelled, inl (inr old), says)) = inr (labelled, inl old, says)
+later source name names earlier key e (inr (labelled, inr old, says)) = inr (labelled, inr (inr old), says)
+
+keys_fault : (source : List ℕ) (before : List (NodeTree × NodeTree)) (entry : NodeTree × NodeTree) (behind : List (NodeTree × NodeTree)) (es : List PlacedEntry) (earlier : List (List ℕ)) (e : Diagnostic) → AreEntriesOf source (before ++ entry ∷ behind) es → AllOf IsLabelled before → AreDistinct (names_of (map (field_of source) before)) → AllOf (IsNoneOf earlier) (names_of (map (field_of source) before)) → IsBadKey source (names_of (map (field_of source) before)) earlier entry.0 e → FaultOfKeys earlier es (refusal_of e) e.span
+keys_fault source [] entry behind [] earlier e h labels distinct apart bad = absurd h
+keys_fault source [] entry behind (x ∷ es) earlier e h labels distinct apart bad = inl (bad_here source entry x earlier e h.0 bad)
+keys_fault source (p ∷ before) entry behind [] earlier e h labels distinct apart bad = absurd h
+keys_fault source (p ∷ before) entry behind (x ∷ es) earlier e h labels distinct apart bad =
+    let name = name_of (node_text source p.0) in
+    let named : names_in x.key ≡ name ∷ [] = ap names_in (label_token source p.0 x.place x.key h.0 labels.0) in
+    inr (
+      key_fine earlier x name named apart.0,
+      subst (λ (ns : List (List ℕ)). FaultOfKeys (ns ++ earlier) es (refusal_of e) e.span) (sym named)
+          (keys_fault source before entry behind es (name ∷ earlier) e h.2 labels.1 distinct.1 (apart_more (names_of (map (field_of source) before)) earlier name apart.1 distinct.0) (later source name (names_of (map (field_of source) before)) earlier entry.0 e bad)),
+    )
+
+-- a key that is refused is one
+pub as_bad : (source : List ℕ) (names : List (List ℕ)) (key : NodeTree) (e : Diagnostic) → RefusesKey source names key e → IsBadKey source names [] key e
+as_bad source names key e (inl h) = inl h
+as_bad source names key e (inr (labelled, old, says)) = inr (labelled, inl old, says)
+
+-- as the type is gone through a refusal of a record's node or of its keys is out of memory or its fault
+pub fields_blame : (w : Order) (fs : Fields) (source : List ℕ) (n : NodeTree) (t : Placed) (e : Diagnostic) → IsNodeOf source n t → RefusesFields source n e → (e.kind ≡ OutOfMemory) ⊎ FirstFault by_type w (type.record_type fs) t (refusal_of e) e.span
+fields_blame w fs source n t e h (inl memory) = inl memory
+fields_blame w fs source n t e h (inr (inl other)) = inr (other_fault by_type w fs source n t (refusal_of e) e.span h.0 other.0 (said other.1))
+fields_blame w fs source n t e h (inr (inr r)) =
     let inner = record_nodes source n t h r.is_set in
-    inr (refused_key fs source t r.before r.entry r.behind (entry_list inner.given) e inner.taken (subst (λ (ps : List (NodeTree × NodeTree)). AreEntriesOf source ps (entry_list inner.given)) r.entries inner.nodes) r.labels r.refused)
+    let names = names_of (map (field_of source) r.before) in
+    inr (within_record by_type w fs t (entry_list inner.given) (refusal_of e) e.span inner.taken
+    (inl (keys_fault source r.before r.entry r.behind (entry_list inner.given) [] e (subst (λ (ps : List (NodeTree × NodeTree)). AreEntriesOf source ps (entry_list inner.given)) r.entries inner.nodes) r.labels r.distinct (none_at_first names) (as_bad source names r.entry.0 e r.refused))))

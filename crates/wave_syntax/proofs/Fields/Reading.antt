@@ -2,7 +2,6 @@
 use Rattle.std.proofs.Common.{ℕ, zero, suc, ◌≡◌, ◌⊎◌, inl, inr, ◌<◌, Bool, true, false, if◌then◌else◌, List, [], ◌∷◌, length, map, Option, Some, None, Bor, Result, Ok, Err, IfOk, IfErr, refl, sym, ap, ◌∙◌, subst, arith}
 use Rattle.std.specs.List as std_list
 use Rattle.std.proofs.lemmas.List.Sorted.{IsPermutation-refl, All-permutation}
-use Rattle.std.specs.declared.ops.Range.{Range}
 use Rattle.std.specs.Str.{bytes_eq}
 use Rattle.std.proofs.lemmas.Slice.Eq.{bytes_eq-Decides}
 use Rattle.wave_wasm.specs.Lists.{AllOf, SomeOf}
@@ -12,11 +11,10 @@ use Rattle.wave_wasm.specs.Types.{TypeTree, Fields, HasDistinctNames, EachNamesO
 use Rattle.wave_wasm.specs.Values as value
 use Rattle.wave_wasm.specs.Values.{Value, FieldValues}
 use Rattle.wave_wasm.specs.HasType.{HasType, HasFields}
-use Rattle.wave_wasm.specs.ValueErrors.{missing_field}
-use Rattle.wave_wasm.specs.ConstructorContracts.{IsMemory, MakesRecord, FullRecord, FieldsAreOf, HasFullParts, field_trees}
+use Rattle.wave_wasm.specs.ConstructorContracts.{IsMemory, MakesRecord, FullRecord, FieldsAreOf, field_trees}
 use Rattle.wave_wasm.specs.declared.wasm.WasmValueError.{WasmValueError}
 use Rattle.wave_wasm.specs.declared.wasm.WasmTypeKind.TheVariants as kinds
-use Rattle.wave_lex.specs.Errors.{Diagnostic, Refusal, refusal_of}
+use Rattle.wave_lex.specs.Errors.{Diagnostic, refusal_of}
 use Rattle.wave_lex.specs.declared.error.ParserErrorKind.TheVariants as error
 use Rattle.wave_grammar.specs.Token.{Token}
 use Rattle.wave_grammar.specs.Token as token
@@ -25,20 +23,20 @@ use Rattle.wave_grammar.specs.TypedGrammar.{IsOption, FieldIs, Fills, look_up, n
 use Rattle.wave_grammar.specs.Tree as form
 use Rattle.wave_grammar.specs.Tree.{Tree}
 use Rattle.wave_grammar.specs.Elaborates.{TreeReads, TreeReadsField, Each, NamedTree}
-use Rattle.wave_grammar.specs.SpannedTree.{Placed, entries, no_fields, PlacedEntries, no_entries, entry, PlacedEntry, entry_list, span_of, shape_of, tree_of, entries_of}
-use Rattle.wave_grammar.specs.TypeErrors.{RefusesFor, Fault, record_in, names_in, IsFor, MissingField, FaultOfField}
-use Rattle.wave_syntax.specs.NodeTree.{NodeTree, place_of, children_of}
+use Rattle.wave_grammar.specs.SpannedTree.{Placed, entries, no_fields, PlacedEntries, no_entries, entry, PlacedEntry, entry_list, shape_of, tree_of, entries_of}
+use Rattle.wave_grammar.specs.TypeErrors.{names_in, IsFor}
+use Rattle.wave_grammar.specs.FaultOrder.{Order, by_type, FirstFault}
+use Rattle.wave_syntax.specs.NodeTree.{NodeTree, children_of}
 use Rattle.wave_syntax.specs.Nodes.{IsNodeOf}
 use Rattle.wave_syntax.specs.NodeAccessors.{node_pairs}
 use Rattle.wave_syntax.specs.TypedReading.{IsTypedValue, IsBlamed}
 use Rattle.wave_syntax.specs.NodeFields.{IsFieldsOf, RefusesFields}
-use Rattle.wave_syntax.specs.Shared.NodeFields.{IsLeftOut, IsMissing, AnswersField}
-use Rattle.wave_syntax.proofs.ChildNodes.Inside.{inside, some_is}
+use Rattle.wave_syntax.specs.Shared.NodeFields.{IsLeftOut, AnswersField}
+use Rattle.wave_syntax.proofs.ChildNodes.Inside.{some_is}
 use Rattle.wave_syntax.proofs.ByKind.Leaves.{tree_is}
 use Rattle.wave_syntax.proofs.ByKind.Lists.{HasAt, some_at}
-use Rattle.wave_syntax.proofs.ByKind.Tuples.{map_has, all_has}
 use Rattle.wave_syntax.proofs.Fields.Lookup.{not_found}
-use Rattle.wave_syntax.proofs.Fields.Entries.{AreFieldsOf, RecordNodes, record_nodes, fields_of_entries, for_one, entry_found, none_found, not_both, some_map, within_record, fields_blame}
+use Rattle.wave_syntax.proofs.Fields.Entries.{AreFieldsOf, RecordNodes, record_nodes, fields_of_entries, for_one, entry_found, none_found, not_both, some_map, fields_blame}
 use Rattle.wave_wasm.proofs.TypeKinds.{formed_as}
 
 -- the entries with their trees
@@ -86,17 +84,19 @@ one_has [] name h = absurd h
 one_has (f ∷ fs) name (inl e) = (zero, f.1, λ j. (sym e j, f.1))
 one_has (f ∷ fs) name (inr h) = let r = one_has fs name h in (suc r.0, r.1, r.2)
 
-has_one : {A : Type 0} (fs : List (List ℕ × A)) (i : ℕ) (f : List ℕ × A) → HasAt fs i f → IsOneOf (names_of fs) f.0
+-- what stands at a place has one of the names
+pub has_one : {A : Type 0} (fs : List (List ℕ × A)) (i : ℕ) (f : List ℕ × A) → HasAt fs i f → IsOneOf (names_of fs) f.0
 has_one [] i f h = absurd h
 has_one (g ∷ fs) zero f h = inl (ap (λ x. x.0) (sym h))
 has_one (g ∷ fs) (suc i) f h = inr (has_one fs i f h)
 
-all_from : {A : Type 0} (P : A → Type 0) (xs : List A) → ((i : ℕ) (x : A) → HasAt xs i x → P x) → AllOf P xs
+-- what holds at each place holds of all
+pub all_from : {A : Type 0} (P : A → Type 0) (xs : List A) → ((i : ℕ) (x : A) → HasAt xs i x → P x) → AllOf P xs
 all_from P [] f = tt
 all_from P (x ∷ xs) f = (f zero x refl, all_from P xs (λ i y h. f (suc i) y h))
 
 -- the field at a place is found by its name
-look_has : {A : Type 0} (fs : List (List ℕ × A)) (i : ℕ) (f : List ℕ × A) → AreDistinct (names_of fs) → HasAt fs i f → look_up fs f.0 ≡ Some f.1
+pub look_has : {A : Type 0} (fs : List (List ℕ × A)) (i : ℕ) (f : List ℕ × A) → AreDistinct (names_of fs) → HasAt fs i f → look_up fs f.0 ≡ Some f.1
 look_has [] i f d h = absurd h
 look_has (g ∷ fs) zero f d h = by (bytes_eq f.0 g.0) refl
   where
@@ -152,67 +152,15 @@ failed b is passes x = cc (sym is ∙ passes x)
 
 -- ---- faults
 
--- a refusal of the node or of its keys
-pub nodes_blame : (Full : TypeTree → Type 0) (T : TypeTree) (parts : List (List ℕ × TypeTree)) (source : List ℕ) (n : NodeTree) (t : Placed) (e : Diagnostic) → RecordType T parts → IsNodeOf source n t → RefusesFields source n e → IsBlamed Full T t e
-nodes_blame Full T parts source n t e is node refused = so (fields_blame is.fields source n t e node refused)
+-- as the type is gone through a refusal of the node or of its keys is one of the record
+pub nodes_blame : (Full : TypeTree → Type 0) (w : Order) (T : TypeTree) (parts : List (List ℕ × TypeTree)) (source : List ℕ) (n : NodeTree) (t : Placed) (e : Diagnostic) → RecordType T parts → IsNodeOf source n t → RefusesFields source n e → IsBlamed Full by_type w T t e
+nodes_blame Full w T parts source n t e is node refused = so (fields_blame w is.fields source n t e node refused)
   where
-    so : (e.kind ≡ error.OutOfMemory) ⊎ Fault (type.record_type is.fields) t (refusal_of e) e.span → IsBlamed Full T t e
+    so : (e.kind ≡ error.OutOfMemory) ⊎ FirstFault by_type w (type.record_type is.fields) t (refusal_of e) e.span → IsBlamed Full by_type w T t e
     so (inl memory) = inl memory
-    so (inr fault) = inr (inl (subst (λ (U : TypeTree). Fault U t (refusal_of e) e.span) (sym is.is) fault))
-
-missing_at : (fs : Fields) (i : ℕ) (name : List ℕ) (E : TypeTree) (es : List PlacedEntry) (p : Range ℕ) (k : Refusal) (q : Range ℕ) → HasAt (type.field_list fs) i (name, E) → (IsOption E → ⊥) → (SomeOf (IsFor name) es → ⊥) → RefusesFor (missing_field name) p k q → MissingField fs es p k q
-missing_at type.no_fields i name E es p k q h apart none refused = absurd h
-missing_at (type.field other U more) zero name E es p k q h apart none refused =
-    inl ((λ o. apart (subst IsOption (ap (λ (x : List ℕ × TypeTree). x.1) h) o)), (λ s. none (subst (λ (w : List ℕ). SomeOf (IsFor w) es) (ap (λ (x : List ℕ × TypeTree). x.0) h) s)), subst (λ (w : List ℕ). RefusesFor (missing_field w) p k q) (ap (λ (x : List ℕ × TypeTree). x.0) (sym h)) refused)
-missing_at (type.field other U more) (suc i) name E es p k q h apart none refused = inr (missing_at more i name E es p k q h apart none refused)
-
-fault_at : (fs : Fields) (i : ℕ) (name : List ℕ) (E : TypeTree) (es : List PlacedEntry) (k : Refusal) (q : Range ℕ) → HasAt (type.field_list fs) i (name, E) → SomeOf (λ e. IsFor name e × Fault E e.value k q) es → FaultOfField fs es k q
-fault_at type.no_fields i name E es k q h fault = absurd h
-fault_at (type.field other U more) zero name E es k q h fault = inl (subst (λ (x : List ℕ × TypeTree). SomeOf (λ e. IsFor x.0 e × Fault x.1 e.value k q) es) (sym h) fault)
-fault_at (type.field other U more) (suc i) name E es k q h fault = inr (fault_at more i name E es k q h fault)
+    so (inr fault) = inr (inl (subst (λ (U : TypeTree). FirstFault by_type w U t (refusal_of e) e.span) (sym is.is) fault))
 
 module _ {V : Type 0} (tree : V → Value) (of : V → TypeTree → Type 0) (Full : TypeTree → Type 0) where
-  -- a refusal of an entry of the name is out of memory, a fault or that of a constructor
-  pub some_blamed : (E : TypeTree) (name : List ℕ) (es : List PlacedEntry) (e : Diagnostic) → SomeOf (λ x. IsFor name x × IsBlamed Full E x.value e) es → (e.kind ≡ error.OutOfMemory) ⊎ SomeOf (λ x. IsFor name x × Fault E x.value (refusal_of e) e.span) es ⊎ (e.kind ≡ error.WasmValueError) × (Full E → ⊥)
-  some_blamed E name [] e h = absurd h
-  some_blamed E name (x ∷ es) e (inl (is, inl memory)) = inl memory
-  some_blamed E name (x ∷ es) e (inl (is, inr (inl fault))) = inr (inl (inl (is, fault)))
-  some_blamed E name (x ∷ es) e (inl (is, inr (inr h))) = inr (inr h)
-  some_blamed E name (x ∷ es) e (inr h) = later (some_blamed E name es e h)
-    where
-      later : (e.kind ≡ error.OutOfMemory) ⊎ SomeOf (λ x. IsFor name x × Fault E x.value (refusal_of e) e.span) es ⊎ (e.kind ≡ error.WasmValueError) × (Full E → ⊥) → (e.kind ≡ error.OutOfMemory) ⊎ SomeOf (λ x. IsFor name x × Fault E x.value (refusal_of e) e.span) (x ∷ es) ⊎ (e.kind ≡ error.WasmValueError) × (Full E → ⊥)
-      later (inl memory) = inl memory
-      later (inr (inl fault)) = inr (inl (inr fault))
-      later (inr (inr h)) = inr (inr h)
-
-  full_at : (T : TypeTree) (parts : List (List ℕ × TypeTree)) (i : ℕ) (name : List ℕ) (E : TypeTree) → RecordType T parts → HasAt parts i (name, E) → HasFullParts Full → Full T → Full E
-  full_at T parts i name E is typed parts_full full =
-      all_has Full (map (λ f. f.1) (type.field_list is.fields)) i E (parts_full (type.record_type is.fields) (subst Full is.is full)) (map_has (λ f. f.1) (type.field_list is.fields) i (name, E) (subst (λ (l : List (List ℕ × TypeTree)). HasAt l i (name, E)) is.parts_are typed))
-
-  -- so it is one of the record
-  pub blamed_so : (T E : TypeTree) (parts : List (List ℕ × TypeTree)) (t : Placed) (es : List PlacedEntry) (i : ℕ) (name : List ℕ) (e : Diagnostic) → RecordType T parts → record_in (shape_of t) ≡ Some es → HasAt parts i (name, E) → HasFullParts Full → (e.kind ≡ error.OutOfMemory) ⊎ SomeOf (λ x. IsFor name x × Fault E x.value (refusal_of e) e.span) es ⊎ (e.kind ≡ error.WasmValueError) × (Full E → ⊥) → IsBlamed Full T t e
-  blamed_so T E parts t es i name e is taken typed full (inl memory) = inl memory
-  blamed_so T E parts t es i name e is taken typed full (inr (inl fault)) =
-      inr (inl (subst (λ (U : TypeTree). Fault U t (refusal_of e) e.span) (sym is.is) (within_record is.fields t es (refusal_of e) e.span taken (inr (inr (inr (inr (fault_at is.fields i name E es (refusal_of e) e.span (subst (λ (l : List (List ℕ × TypeTree)). HasAt l i (name, E)) is.parts_are typed) fault))))))))
-  blamed_so T E parts t es i name e is taken typed full (inr (inr h)) = inr (inr (h.0, λ whole. h.1 (full_at T parts i name E is typed full whole)))
-
-  missing_so : (T E : TypeTree) (parts : List (List ℕ × TypeTree)) (n : NodeTree) (t : Placed) (es : List PlacedEntry) (i : ℕ) (name : List ℕ) (e : Diagnostic) → RecordType T parts → record_in (shape_of t) ≡ Some es → span_of t ≡ place_of n → HasAt parts i (name, E) → HasFullParts Full → (SomeOf (IsFor name) es → ⊥) → IsMissing Full E name n e → IsBlamed Full T t e
-  missing_so T E parts n t es i name e is taken place typed full none (inl memory) = inl memory
-  missing_so T E parts n t es i name e is taken place typed full none (inr (inl h)) =
-      inr (inl (subst (λ (U : TypeTree). Fault U t (refusal_of e) e.span) (sym is.is) (within_record is.fields t es (refusal_of e) e.span taken (inr (inr (inr (inl (missing_at is.fields i name E es (span_of t) (refusal_of e) e.span (subst (λ (l : List (List ℕ × TypeTree)). HasAt l i (name, E)) is.parts_are typed) h.0 none (h.1.0, h.1.1 ∙ sym place)))))))))
-  missing_so T E parts n t es i name e is taken place typed full none (inr (inr h)) = inr (inr (h.0, λ whole. h.1 (full_at T parts i name E is typed full whole)))
-
-  -- a refusal of a field is one of the record
-  pub field_blamed : (T E : TypeTree) (parts : List (List ℕ × TypeTree)) (source : List ℕ) (n : NodeTree) (t : Placed) (fs : List (List ℕ × NodeTree)) (i : ℕ) (name : List ℕ) (o : Option NodeTree) (e : Diagnostic) → RecordType T parts → IsNodeOf source n t → IsFieldsOf source n fs → HasAt parts i (name, E) → HasDistinctNames E → HasFullParts Full → o ≡ look_up fs name → AnswersField tree of Full E source name n o (Err e) → IsBlamed Full T t e
-  field_blamed T E parts source n t fs i name None e is node given typed distinct full found answer =
-      let inner = record_nodes source n t node given.is_set in
-      let all : AreFieldsOf source fs (entry_list inner.given) = subst (λ (l : List (List ℕ × NodeTree)). AreFieldsOf source l (entry_list inner.given)) (sym given.given) (fields_of_entries source (node_pairs (children_of n)) (entry_list inner.given) given.labels inner.nodes) in
-      missing_so T E parts n t (entry_list inner.given) i name e is inner.taken (inside source n t node.0).place typed full (none_found source fs (entry_list inner.given) name all (sym found)) (answer distinct)
-  field_blamed T E parts source n t fs i name (Some m) e is node given typed distinct full found answer =
-      let inner = record_nodes source n t node given.is_set in
-      let all : AreFieldsOf source fs (entry_list inner.given) = subst (λ (l : List (List ℕ × NodeTree)). AreFieldsOf source l (entry_list inner.given)) (sym given.given) (fields_of_entries source (node_pairs (children_of n)) (entry_list inner.given) given.labels inner.nodes) in
-      blamed_so T E parts t (entry_list inner.given) i name e is inner.taken typed full (some_blamed E name (entry_list inner.given) e (some_map (λ x. IsFor name x × IsNodeOf source m x.value) (λ x. IsFor name x × IsBlamed Full E x.value e) (entry_list inner.given) (λ x g. (g.0, answer x.value g.1 distinct)) (entry_found source fs (entry_list inner.given) name m all (sym found))))
-
   -- ---- the loop
 
   -- the value of a field: that of the entry of its name, or `none` where an option is left out
@@ -226,9 +174,9 @@ module _ {V : Type 0} (tree : V → Value) (of : V → TypeTree → Type 0) (Ful
   FieldsRead _ es _ = ⊥
 
   -- a field that was answered is read
-  pub field_read : (E : TypeTree) (source : List ℕ) (n : NodeTree) (fs : List (List ℕ × NodeTree)) (es : List PlacedEntry) (name : List ℕ) (o : Option NodeTree) (v : V) → AreFieldsOf source fs es → HasDistinctNames E → o ≡ look_up fs name → AnswersField tree of Full E source name n o (Ok v) → FieldIsRead E name es v
-  field_read E source n fs es name None v all distinct found answer = inr (none_found source fs es name all (sym found), answer distinct)
-  field_read E source n fs es name (Some m) v all distinct found answer =
+  pub field_read : (w : Order) (E : TypeTree) (source : List ℕ) (n : NodeTree) (fs : List (List ℕ × NodeTree)) (es : List PlacedEntry) (name : List ℕ) (o : Option NodeTree) (v : V) → AreFieldsOf source fs es → HasDistinctNames E → o ≡ look_up fs name → AnswersField tree of Full w E source name n o (Ok v) → FieldIsRead E name es v
+  field_read w E source n fs es name None v all distinct found answer = inr (none_found source fs es name all (sym found), answer distinct)
+  field_read w E source n fs es name (Some m) v all distinct found answer =
       inl (some_map (λ x. IsFor name x × IsNodeOf source m x.value) (λ x. IsFor name x × IsTypedValue tree of E x.value v) es (λ x g. (g.0, answer x.value g.1 distinct)) (entry_found source fs es name m all (sym found)))
 
   names_same : (ps : List (List ℕ × TypeTree)) (es : List PlacedEntry) (hs : List (Bor (List ℕ) × V)) → FieldsRead ps es hs → map (λ f. f.0.now) hs ≡ names_of ps
@@ -270,7 +218,8 @@ module _ {V : Type 0} (tree : V → Value) (of : V → TypeTree → Type 0) (Ful
   given_by source (f ∷ given) (x ∷ es) zero e h here = (f.0, subst (IsFor f.0) here h.0)
   given_by source (f ∷ given) (x ∷ es) (suc i) e h here = given_by source given es i e h.2 here
 
-  entry_reads : (source : List ℕ) (given : List (List ℕ × NodeTree)) (es : List PlacedEntry) (i : ℕ) (e : PlacedEntry) (name : List ℕ) (E : TypeTree) (v : V) → AreFieldsOf source given es → AreDistinct (names_of given) → HasAt es i e → IsFor name e → FieldIsRead E name es v → IsTypedValue tree of E e.value v
+  -- the entry's value is that of the field that was read
+  pub entry_reads : (source : List ℕ) (given : List (List ℕ × NodeTree)) (es : List PlacedEntry) (i : ℕ) (e : PlacedEntry) (name : List ℕ) (E : TypeTree) (v : V) → AreFieldsOf source given es → AreDistinct (names_of given) → HasAt es i e → IsFor name e → FieldIsRead E name es v → IsTypedValue tree of E e.value v
   entry_reads source given es i e name E v all distinct here is (inl some) = only_one source given es i e name (λ x. IsTypedValue tree of E x.value v) all distinct here is some
   entry_reads source given es i e name E v all distinct here is (inr none) = absurd (none.0 (some_at (IsFor name) es i e here is))
 

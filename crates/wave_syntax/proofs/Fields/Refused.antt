@@ -20,7 +20,7 @@ use Rattle.wave_grammar.specs.TypeErrors.{RefusesWith, Fault, names_in, KeyFault
 use Rattle.wave_syntax.specs.TypedReading.{ReadsNone}
 use Rattle.wave_syntax.proofs.ByKind.Lists.{HasAt}
 use Rattle.wave_grammar.proofs.FieldNames.{is_found}
-use Rattle.wave_syntax.proofs.Fields.Entries.{RecordFault, not_both}
+use Rattle.wave_syntax.proofs.Fields.Entries.{RecordFault, not_both, apart_more, none_at_first}
 use Rattle.wave_syntax.proofs.Fields.Reading.{entry_trees}
 
 -- an entry of this field's name has no value at the field's type
@@ -88,10 +88,6 @@ no_unknown fs (e ∷ es) (f ∷ found) h (inl some) = one (subst (SomeOf (IsNone
     one (inr none) = none
 no_unknown fs (e ∷ es) (f ∷ found) h (inr some) = no_unknown fs es found h.2 some
 
-apart_more : (names earlier : List (List ℕ)) (name : List ℕ) → AllOf (IsNoneOf earlier) names → IsNoneOf names name → AllOf (IsNoneOf (name ∷ earlier)) names
-apart_more [] earlier name h none = tt
-apart_more (n ∷ names) earlier name h none = ((λ e. none.0 (sym e), h.0), apart_more names earlier name h.1 none.1)
-
 no_repeated : (fs : Fields) (es : List PlacedEntry) (found : List (List ℕ × Value)) (earlier : List (List ℕ)) (k : Refusal) (q : Range ℕ) → Pairs fs es found → AreDistinct (names_of found) → AllOf (IsNoneOf earlier) (names_of found) → RepeatedField earlier es k q → ⊥
 no_repeated fs [] found earlier k q h d apart fault = fault
 no_repeated fs (e ∷ es) [] earlier k q h d apart fault = h
@@ -102,10 +98,6 @@ no_repeated fs (e ∷ es) (f ∷ found) earlier k q h d apart (inl fault) = one 
     one (inr old) = old
 no_repeated fs (e ∷ es) (f ∷ found) earlier k q h d apart (inr fault) =
     no_repeated fs es found (f.0 ∷ earlier) k q h.2 d.1 (apart_more (names_of found) earlier f.0 apart.1 d.0) (subst (λ (ns : List (List ℕ)). RepeatedField (ns ++ earlier) es k q) h.0 fault)
-
-none_at_first : (names : List (List ℕ)) → AllOf (IsNoneOf []) names
-none_at_first [] = tt
-none_at_first (n ∷ names) = (tt, none_at_first names)
 
 entry_for : (fs : Fields) (es : List PlacedEntry) (found : List (List ℕ × Value)) (name : List ℕ) → Pairs fs es found → IsOneOf (names_of found) name → SomeOf (IsFor name) es
 entry_for fs [] [] name h one = one

@@ -1,6 +1,5 @@
 -- What a node answers about itself.
-use Rattle.std.specs.Prelude.{ℕ, ◌≡◌, ◌≢◌, Bool, true, false, List, Result, Ok, Err}
-use Rattle.wave_wasm.specs.Names.{IsOneOf, IsNoneOf}
+use Rattle.std.specs.Prelude.{ℕ, ◌≡◌, ◌≢◌, Bool, List, Result, Ok, Err}
 use Rattle.wave_wasm.specs.Text.{bool_text}
 use Rattle.wave_lex.specs.Errors.{Diagnostic}
 use Rattle.wave_lex.specs.declared.error.ParserErrorKind.TheVariants.{InvalidType}
@@ -18,8 +17,3 @@ OfType ty n (Err e) = (type_of n ≢ ty) × RefusedAs InvalidType n e
 abbrev pub GivesBoolKey : List ℕ → NodeTree → Result Bool Diagnostic → Type 0
 GivesBoolKey source n (Ok b) = (type_of n ≡ kind.Label) × (node_text source n ≡ bool_text b)
 GivesBoolKey source n (Err e) = ((b : Bool) → type_of n ≡ kind.Label → node_text source n ≢ bool_text b) × RefusedAs InvalidType n e
-
--- the test of whether a name is one of the names
-abbrev pub Among : List (List ℕ) → List ℕ → Bool → Type 0
-Among names name true = IsOneOf names name
-Among names name false = IsNoneOf names name

@@ -13,6 +13,7 @@ use Rattle.wave_lex.specs.declared.error.ParserErrorKind.TheVariants.{InvalidTyp
 use Rattle.wave_grammar.specs.LeafTokens.{name_of}
 use Rattle.wave_grammar.specs.TypedGrammar.{IsOption, look_up}
 use Rattle.wave_grammar.specs.TypeErrors.{RefusesFor}
+use Rattle.wave_grammar.specs.FaultOrder.{Order}
 use Rattle.wave_syntax.specs.NodeTree.{NodeTree, type_of, place_of}
 use Rattle.wave_syntax.specs.NodeAccessors.{node_text, node_pairs}
 use Rattle.wave_syntax.specs.NodeFields.{field_of}
@@ -52,8 +53,8 @@ abbrev pub IsMissing : (TypeTree → Type 0) → TypeTree → List ℕ → NodeT
 IsMissing Full T name n e =
     (e.kind ≡ OutOfMemory) ⊎ (IsOption T → ⊥) × RefusesFor (missing_field name) (place_of n) (refusal_of e) e.span ⊎ (e.kind ≡ WasmValueError) × (Full T → ⊥)
 
-module _ {V : Type 0} (tree : V → Value) (of : V → TypeTree → Type 0) (Full : TypeTree → Type 0) where
+module _ {V : Type 0} (tree : V → Value) (of : V → TypeTree → Type 0) (Full : TypeTree → Type 0) (w : Order) where
   -- the value of the field of this name of the record's node, which has this node or none; or a refusal of it
   abbrev pub AnswersField : TypeTree → List ℕ → List ℕ → NodeTree → Option NodeTree → Result V Diagnostic → Type 0
   AnswersField T source name n None r = HasDistinctNames T → MatchResult r (IsLeftOut tree of T) (IsMissing Full T name n)
-  AnswersField T source name n (Some m) r = Answers tree of Full T source m r
+  AnswersField T source name n (Some m) r = Answers tree of Full w w T source m r

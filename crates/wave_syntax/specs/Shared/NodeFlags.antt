@@ -1,8 +1,8 @@
 -- What a node answers about its flags.
-use Rattle.std.specs.Prelude.{ℕ, ◌≡◌, ◌⊎◌, List, Result, Ok, Err}
+use Rattle.std.specs.Prelude.{ℕ, ◌≡◌, ◌⊎◌, List, [], ◌∷◌, Result, Ok, Err}
 use Rattle.std.specs.Borrow.{Bor}
-use Rattle.wave_wasm.specs.Lists.{AllOf, SomeOf}
-use Rattle.wave_wasm.specs.Names.{IsNoneOf}
+use Rattle.wave_wasm.specs.Lists.{AllOf}
+use Rattle.wave_wasm.specs.Names.{IsOneOf, IsNoneOf}
 use Rattle.wave_wasm.specs.ValueErrors.{unknown_case}
 use Rattle.wave_lex.specs.Errors.{Diagnostic, refusal_of}
 use Rattle.wave_lex.specs.declared.error.ParserErrorKind.TheVariants.{OutOfMemory}
@@ -20,13 +20,18 @@ abbrev pub GivesFlagNodes : NodeTree → Result (Bor (List NodeTree)) Diagnostic
 GivesFlagNodes n (Ok nodes) = AreFlags n × (nodes.now ≡ children_of n)
 GivesFlagNodes n (Err e) = IsNoFlags n e
 
--- out of memory; or one of these flags of the node is none of the names
-abbrev pub RefusesUnknown : List (List ℕ) → List (List ℕ) → NodeTree → Diagnostic → Type 0
-RefusesUnknown names flags n e =
-    (e.kind ≡ OutOfMemory) ⊎ SomeOf (λ name. IsNoneOf names name × RefusesFor (unknown_case name) (place_of n) (refusal_of e) e.span) flags
+-- the first of these flags of the node that is none of the names is refused
+abbrev pub IsFirstUnknown : List (List ℕ) → List (List ℕ) → NodeTree → Diagnostic → Type 0
+IsFirstUnknown names [] n e = ⊥
+IsFirstUnknown names (name ∷ more) n e =
+    IsNoneOf names name × RefusesFor (unknown_case name) (place_of n) (refusal_of e) e.span
+    ⊎ IsOneOf names name × IsFirstUnknown names more n e
 
--- out of memory; or the node is neither flags nor `{}`; or one of its flags is none of the names
+-- so, or out of memory
+abbrev pub RefusesUnknown : List (List ℕ) → List (List ℕ) → NodeTree → Diagnostic → Type 0
+RefusesUnknown names flags n e = (e.kind ≡ OutOfMemory) ⊎ IsFirstUnknown names flags n e
+
+-- out of memory; or the node is neither flags nor `{}`; or its first flag that is none of the names is refused
 abbrev pub RefusesFlags : List (List ℕ) → List ℕ → NodeTree → Diagnostic → Type 0
 RefusesFlags names source n e =
-    (e.kind ≡ OutOfMemory) ⊎ IsNoFlags n e
-    ⊎ AreFlags n × SomeOf (λ name. IsNoneOf names name × RefusesFor (unknown_case name) (place_of n) (refusal_of e) e.span) (names_at source (children_of n))
+    (e.kind ≡ OutOfMemory) ⊎ IsNoFlags n e ⊎ AreFlags n × IsFirstUnknown names (names_at source (children_of n)) n e

@@ -21,7 +21,8 @@ use Rattle.wave_syntax.specs.NodeAccessors.{GivesNumber}
 use Rattle.wave_grammar.specs.TypedGrammar.{IsFlat}
 use Rattle.wave_grammar.specs.Elaborates.{TreeReadsPayload}
 use Rattle.wave_grammar.specs.Token.{Token}
-use Rattle.wave_grammar.specs.TypeErrors.{FaultOfPayload, MapKeyFault, RefusesFor}
+use Rattle.wave_grammar.specs.TypeErrors.{MapKeyFault, RefusesFor}
+use Rattle.wave_grammar.specs.FaultOrder.{Order, FirstOfPayload}
 use Rattle.wave_syntax.specs.TypedReading.{IsKeyRead, IsLeafMade}
 
 -- a refusal with this cause at the node, or for lack of memory
@@ -82,13 +83,13 @@ pub record IsPayloadRead {V : Type 0} (tree : V → Value) (of : V → TypeTree 
   pub is_of : PayloadIsOf of (type_option T) v
 
 -- as `IsBlamed`, of the payload of the case of this name at the node
-abbrev pub IsPayloadBlamed : (TypeTree → Type 0) → List ℕ → MaybeType → NodeTree → MaybePlaced → Diagnostic → Type 0
-IsPayloadBlamed Full name T n payload e =
-    (e.kind ≡ OutOfMemory) ⊎ FaultOfPayload name T payload (place_of n) (refusal_of e) e.span ⊎ (e.kind ≡ WasmValueError) × (AllOf Full (payload_and T []) → ⊥)
+abbrev pub IsPayloadBlamed : (TypeTree → Type 0) → Order → List ℕ → MaybeType → NodeTree → MaybePlaced → Diagnostic → Type 0
+IsPayloadBlamed Full w name T n payload e =
+    (e.kind ≡ OutOfMemory) ⊎ FirstOfPayload w name T payload (place_of n) (refusal_of e) e.span ⊎ (e.kind ≡ WasmValueError) × (AllOf Full (payload_and T []) → ⊥)
 
-module _ {V : Type 0} (tree : V → Value) (of : V → TypeTree → Type 0) (Full : TypeTree → Type 0) where
+module _ {V : Type 0} (tree : V → Value) (of : V → TypeTree → Type 0) (Full : TypeTree → Type 0) (w : Order) where
   -- the payload of the case of this name at its type, or a refusal of it
   abbrev pub AnswersPayload : List ℕ → Option TypeTree → List ℕ → NodeTree → Option NodeTree → Result (Option V) Diagnostic → Type 0
   AnswersPayload name T source n inner r =
       (payload : MaybePlaced) → IsPayloadNodeOf source inner payload → EachNamesOfMaybe AreDistinct (maybe_type T)
-      → MatchResult r (IsPayloadRead tree of (maybe_type T) payload) (IsPayloadBlamed Full name (maybe_type T) n payload)
+      → MatchResult r (IsPayloadRead tree of (maybe_type T) payload) (IsPayloadBlamed Full w name (maybe_type T) n payload)

@@ -5,7 +5,7 @@ use Rattle.wave_decode.proofs.MarkedNames.{names_shown}
 use Rattle.wave_decode.proofs.flags.marked.Given as goal
 
 abbrev pub invariant-loop-name : goal.invariant-loop-name
-invariant-loop-name l = record {
+invariant-loop-name g l = record {
   behind : l.behind ≤ length l.names.items;
   len : length l.marks.items ≡ length l.names.items;
   known : AreAllOf (texts l.names.items) (names_shown l.yielded);

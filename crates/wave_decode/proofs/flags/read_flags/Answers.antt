@@ -6,5 +6,5 @@ use Rattle.wave_decode.proofs.FlagReading.{names_are}
 use Rattle.wave_decode.proofs.flags.read_flags.Goals as goal
 
 pub returns : goal.returns
-returns g c = λ source flags.
-    c.read_names.ensures source (node node_type.Flags c.args.span (flag_nodes c.args.flags)) (inl refl) (names_are source c.args.flags flags) c.told.result c.told.ensures
+returns g c = λ o w source flags.
+    c.read_names.ensures source (node node_type.Flags c.args.span (flag_nodes c.args.flags)) (inl refl) (names_are source c.args.flags flags) o w c.told.result c.told.ensures

@@ -6,5 +6,5 @@ use Rattle.wave_syntax.specs.declared.form.NodeType.TheVariants as node_type
 use Rattle.wave_decode.proofs.flags.read_no_flags.Goals as goal
 
 pub returns : goal.returns
-returns g c = λ source.
-    c.read_names.ensures source (node node_type.EmptySet c.args.span no_nodes) (inr refl) (sym (ap (λ es. texts (keys_of es)) c.new.ensures.empty)) c.told.result c.told.ensures
+returns g c = λ o w source.
+    c.read_names.ensures source (node node_type.EmptySet c.args.span no_nodes) (inr refl) (sym (ap (λ es. texts (keys_of es)) c.new.ensures.empty)) o w c.told.result c.told.ensures

@@ -5,5 +5,5 @@ use Rattle.wave_syntax.specs.FlagParts.{flag_nodes}
 use Rattle.wave_decode.proofs.leaves.flags_at.Goals as goal
 
 pub returns-in-Some : goal.returns-in-Some
-returns-in-Some g c = λ source are.
-    c.around.ensures source (node kind.Flags c.args.span (flag_nodes c.args.flags)) (g.V.Type.WasmType.tree c.in-Some.payload.now) c.in-Some.ensures refl (c.flags_directly-made.ensures source are)
+returns-in-Some g c = λ o w source are.
+    c.around.ensures o w source (node kind.Flags c.args.span (flag_nodes c.args.flags)) (g.V.Type.WasmType.tree c.in-Some.payload.now) c.in-Some.ensures refl (c.flags_directly-made.ensures o w source are)

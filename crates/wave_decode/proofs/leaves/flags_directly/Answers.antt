@@ -5,4 +5,4 @@ use Rattle.wave_syntax.specs.declared.form.NodeType.TheVariants as kind
 use Rattle.wave_decode.proofs.leaves.flags_directly.Goals as goal
 
 pub returns : goal.returns
-returns g c = λ source are. c.refuse_flags.ensures source (node kind.Flags c.args.span (flag_nodes c.args.flags)) refl refl
+returns g c = λ o w source are. c.refuse_flags.ensures o w source (node kind.Flags c.args.span (flag_nodes c.args.flags)) refl refl

@@ -3,5 +3,5 @@ use Rattle.wave_leaf.specs.Leaves.{leaf_node}
 use Rattle.wave_decode.proofs.leaves.read_leaf.Goals as goal
 
 pub returns-in-Some : goal.returns-in-Some
-returns-in-Some g c = λ source token here.
-    c.around.ensures source (leaf_node c.args.leaf.now) (g.V.Type.WasmType.tree c.in-Some.payload.now) c.in-Some.ensures refl (c.read_directly-made.ensures source token here)
+returns-in-Some g c = λ o w source token here.
+    c.around.ensures o w source (leaf_node c.args.leaf.now) (g.V.Type.WasmType.tree c.in-Some.payload.now) c.in-Some.ensures refl (c.read_directly-made.ensures o w source token here)

@@ -2,10 +2,10 @@ use Rattle.wave_decode.proofs.OtherKinds.{none_empty}
 use Rattle.wave_decode.proofs.parts.read_empty.Goals as goal
 
 pub returns-in-Flags : goal.returns-in-Flags
-returns-in-Flags g c = λ source takes. c.read_no_flags.ensures source
+returns-in-Flags g c = λ o w source takes. c.read_no_flags.ensures o w source
 
 pub returns-in-Map : goal.returns-in-Map
-returns-in-Map g c = λ source takes. c.read_no_entries.ensures source
+returns-in-Map g c = λ o w source takes. c.read_no_entries.ensures o w source
 
 pub returns-in-Bool : goal.returns-in-Bool
-returns-in-Bool g c = λ source takes. absurd (none_empty (g.V.Type.WasmType.tree c.args.ty.now) c.kind.result c.kind.ensures c.in-Bool.is takes)
+returns-in-Bool g c = λ o w source takes. absurd (none_empty (g.V.Type.WasmType.tree c.args.ty.now) c.kind.result c.kind.ensures c.in-Bool.is takes)

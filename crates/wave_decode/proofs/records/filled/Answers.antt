@@ -1,17 +1,14 @@
-use Rattle.std.proofs.Common.{◌≡◌, List, [], None, ◌++◌, Result, Ok, Err, IfOk, refl, sym, ap, ◌∙◌, subst, inl, inr}
+use Rattle.std.proofs.Common.{◌≡◌, List, [], ◌++◌, Result, Ok, Err, IfOk, refl, sym, ap, ◌∙◌, subst, inl, inr}
 use Rattle.std.specs.Result.{IsErrAnd}
-use Rattle.wave_wasm.specs.Lists.{SomeOf}
-use Rattle.wave_wasm.specs.Types.{HasDistinctNames}
 use Rattle.wave_syntax.specs.NodeTree.{NodeTree, node, no_nodes, place_of}
-use Rattle.wave_syntax.specs.Shared.NodeFields.{IsMissing}
 use Rattle.wave_syntax.specs.Shared.ErrorSpans.{RefusesAt}
 use Rattle.wave_lex.specs.Errors.{Diagnostic}
 use Rattle.wave_syntax.specs.declared.form.NodeType.TheVariants as kind
 use Rattle.wave_syntax.proofs.Parameters.{error_handed}
 use Rattle.wave_syntax.proofs.ErrorSpans.Nodes.{memory_here}
 use Rattle.wave_decode.specs.declared.records.Field.{Field}
-use Rattle.wave_decode.specs.RecordParts.{IsFull, AreFull, IsLeftUnfilled}
-use Rattle.wave_decode.proofs.RecordFields.{given_front, given_all, some_behind, full_more, full_read, full_left}
+use Rattle.wave_decode.specs.RecordParts.{IsFull, AreFull, FirstUnfilled, IsLeftUnfilled}
+use Rattle.wave_decode.proofs.RecordFields.{given_front, given_all, unfilled_behind, full_more, full_read, full_left}
 use Rattle.wave_decode.proofs.records.filled.Goals.{in-Some-value, in-None-value+in_ok-val-in-None-value}
 use Rattle.wave_decode.proofs.records.filled.Goals as goal
 
@@ -24,8 +21,8 @@ pub returns-in_err-val-in-None-value-clause-refused : goal.returns-in_err-val-in
 returns-in_err-val-in-None-value-clause-refused g c =
     let all = sym c.into_iter-field-iterator.ensures.into_iter_gives.0 ∙ (given_front c.into_iter-field-iterator.result c.loop-field.yielded c.loop-field.field-iterator c.loop-field.yielded_by ∙ ap (λ fs. c.loop-field.yielded ++ fs) c.in-Some.ensures.steps.0) in
     error_handed (λ e. (n : NodeTree) → place_of n ≡ c.args.span.now → IsLeftUnfilled g.V.WasmValue.is_full g.V.Type.WasmType.tree c.args.fields.items n e) c.from_residual.result c.in_err-val-in-None-value.field-0.0 c.from_residual.ensures.1 (λ n place.
-    let Left : Field g.row.V-Type.Denot g.row.V.Denot → Type 0 = λ f. (f.value ≡ None) × (HasDistinctNames (g.V.Type.WasmType.tree f.ty.now) → IsMissing g.V.WasmValue.is_full (g.V.Type.WasmType.tree f.ty.now) f.name.now n c.in_err-val-in-None-value.field-0.0) in
-    inr (subst (SomeOf Left) (sym all) (some_behind Left c.loop-field.yielded c.in-Some.field c.next.new.self.rest.items (c.in-None-value.is, c.in_err-val-in-None-value.ensures.answer n place))))
+    inr (subst (λ (fields : List (Field g.row.V-Type.Denot g.row.V.Denot)). FirstUnfilled g.V.WasmValue.is_full g.V.Type.WasmType.tree fields n c.in_err-val-in-None-value.field-0.0) (sym all)
+    (unfilled_behind g.V.WasmValue.tree g.V.WasmValue.is_of g.V.Type.WasmType.tree g.V.WasmValue.is_full c.loop-field.yielded c.loop-field.all.items c.in-Some.field c.next.new.self.rest.items n c.in_err-val-in-None-value.field-0.0 c.loop-field.invariant c.in-None-value.is (c.in_err-val-in-None-value.ensures.answer n place))))
 
 pub loop-field-preserved : goal.loop-field-preserved
 loop-field-preserved g c =

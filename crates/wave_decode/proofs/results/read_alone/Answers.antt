@@ -6,6 +6,6 @@ use Rattle.wave_decode.specs.Payloads.{result_node}
 use Rattle.wave_decode.proofs.results.read_alone.Goals as goal
 
 pub returns : goal.returns
-returns g c = λ source.
-    subst (λ (ty : NodeType). IsReadAs g.V.WasmValue.tree g.V.WasmValue.is_of g.V.WasmValue.is_full (g.V.Type.WasmType.tree c.args.ty.now) source (node ty c.args.leaf.now.span no_nodes) c.whole.result) (ap result_node c.new-payload.ensures.case ∙ sym c.requires.form)
-    (c.whole.ensures (g.V.Type.WasmType.tree c.args.ty.now) source [] (c.new-payload.ensures.parts source))
+returns g c = λ o w source.
+    subst (λ (ty : NodeType). IsReadAs g.V.WasmValue.tree g.V.WasmValue.is_of g.V.WasmValue.is_full o w (g.V.Type.WasmType.tree c.args.ty.now) source (node ty c.args.leaf.now.span no_nodes) c.whole.result) (ap result_node c.new-payload.ensures.case ∙ sym c.requires.form)
+    (c.whole.ensures o w (g.V.Type.WasmType.tree c.args.ty.now) source [] (c.new-payload.ensures.parts w source))

@@ -1,13 +1,13 @@
 use Rattle.std.proofs.Common.{◌∙◌, refl, sym}
 use Rattle.wave_decode.proofs.LeafForms.{named_simple}
 use Rattle.wave_decode.proofs.EnumCases.{enum_other_form}
-use Rattle.wave_decode.proofs.PartsBegun.{wrong, no_label}
+use Rattle.wave_decode.proofs.PartsBegun.{no_label, sound, wrong}
 use Rattle.wave_leaf.proofs.PlainTypes.{plain_parts}
 use Rattle.wave_decode.proofs.parts.Parts+V+Type+V.new.Goals as goal
 
 pub returns-in-Enum-clause-begun : goal.returns-in-Enum-clause-begun
-returns-in-Enum-clause-begun g c = λ source parts. wrong g.V.Type.WasmType.tree g.V.WasmValue.tree g.V.WasmValue.is_of g.V.WasmValue.is_full _ source c.args.of c.wrong_form.result c.wrong_form.ensures
-    (λ n e is refused. enum_other_form g.V.WasmValue.tree g.V.WasmValue.is_of g.V.WasmValue.is_full _ source n e (sym c.kind.ensures ∙ c.in-Enum.is) (λ f. no_label c.args.of parts (sym is ∙ f)) refused)
+returns-in-Enum-clause-begun g c = wrong g.V.Type.WasmType.tree g.V.WasmValue.tree g.V.WasmValue.is_of g.V.WasmValue.is_full _ c.args.of c.wrong_form.result c.wrong_form.ensures
+    (λ o w source n e parts is refused. enum_other_form g.V.WasmValue.tree g.V.WasmValue.is_of g.V.WasmValue.is_full o w _ source n e (sym c.kind.ensures ∙ c.in-Enum.is) (λ f. no_label c.args.of parts (sym is ∙ f)) refused)
 
 pub returns-in-List-clause-begun : goal.returns-in-List-clause-begun
 returns-in-List-clause-begun g c = c.of_list.ensures
@@ -34,8 +34,8 @@ pub returns-in-Result-clause-begun : goal.returns-in-Result-clause-begun
 returns-in-Result-clause-begun g c = c.of_result.ensures
 
 pub returns-in-Bool-clause-begun : goal.returns-in-Bool-clause-begun
-returns-in-Bool-clause-begun g c = λ source parts.
-    (refl, named_simple (g.V.Type.WasmType.tree c.args.ty.now) c.kind.result c.kind.ensures c.in-Bool.is, parts)
+returns-in-Bool-clause-begun g c = sound g.V.Type.WasmType.tree g.V.WasmValue.tree g.V.WasmValue.is_of g.V.WasmValue.is_full _ c.args.of _ (λ f e. cc) (λ w source parts.
+    (refl, named_simple (g.V.Type.WasmType.tree c.args.ty.now) c.kind.result c.kind.ensures c.in-Bool.is, parts))
 
 pub returns-in-Enum-clause-plain : goal.returns-in-Enum-clause-plain
 returns-in-Enum-clause-plain g c = λ plain. absurd ((plain_parts (g.V.Type.WasmType.tree c.args.ty.now) plain).enum (sym c.kind.ensures ∙ c.in-Enum.is))

@@ -4,7 +4,7 @@ use Rattle.wave_decode.proofs.RecordFields.{given_all, empty_field, empty_parts,
 use Rattle.wave_decode.proofs.records.Fields+V+Type+V.new.Goals as goal
 
 pub returns : goal.returns
-returns g c = λ source.
+returns g c = λ w source.
     let all : c.loop-name.yielded ≡ c.in_ok-types.types.items = given_all c.into_iter-name-iterator.result c.loop-name.yielded c.loop-name.name-iterator c.loop-name.yielded_by c.in-None.ensures.steps.0 ∙ c.into_iter-name-iterator.ensures.into_iter_gives.0 in
     let empty : c.loop-name.fields.items ≡ map empty_field c.in_ok-types.types.items = c.loop-name.invariant ∙ ap (map empty_field) all in
     record {
@@ -16,6 +16,6 @@ returns g c = λ source.
         known = tt;
         due = tt;
         distinct = λ apart. tt;
-        kept = λ apart. subst (AreKeptAs g.V.Type.WasmType.tree g.V.WasmValue.tree g.V.WasmValue.is_of g.V.WasmValue.is_full source []) (sym empty) (none_kept g.V.WasmValue.tree g.V.WasmValue.is_of g.V.WasmValue.is_full g.V.Type.WasmType.tree source c.in_ok-types.types.items);
+        kept = λ apart. subst (AreKeptAs g.V.Type.WasmType.tree g.V.WasmValue.tree g.V.WasmValue.is_of g.V.WasmValue.is_full w source []) (sym empty) (none_kept g.V.WasmValue.tree g.V.WasmValue.is_of g.V.WasmValue.is_full w g.V.Type.WasmType.tree source c.in_ok-types.types.items);
       };
     }

@@ -1,13 +1,10 @@
+use Rattle.wave_grammar.specs.FaultOrder.{in_text}
 use Rattle.wave_wasm.specs.Borrowed.{shown}
-use Rattle.wave_decode.proofs.KeptSteps.{one_more, wants_where_due}
-use Rattle.wave_decode.proofs.PartsKept.{where_ok}
+use Rattle.wave_decode.proofs.PartsKept.{where_ok, where_err}
 use Rattle.wave_decode.proofs.values.ValuesBuilder.with_part.Goals as goal
 
 pub returns-clause-kept : goal.returns-clause-kept
-returns-clause-kept g c = where_ok _ _ c.with_part.result (λ done step. λ source whole children n takes kept made.
-    one_more g.V.Type.WasmType.tree g.V.WasmValue.tree g.V.WasmValue.is_of g.V.WasmValue.is_full source whole (shown g.V.Type.WasmType.tree c.args.self.due) children n c.args.parts.now c.with_part.new.self
-    (λ U parts. step U source whole children n takes parts made.0) (λ bare. (c.with_part.ensures.bare bare).0) kept)
-    c.with_part.ensures.grown
+returns-clause-kept g c = where_ok _ _ c.with_part.result (λ done step. step in_text (shown g.V.Type.WasmType.tree c.args.self.due)) c.with_part.ensures.kept
 
 pub returns-clause-memory : goal.returns-clause-memory
-returns-clause-memory g c = wants_where_due g.V.Type.WasmType.tree g.V.WasmValue.tree g.V.WasmValue.is_of g.V.WasmValue.is_full (shown g.V.Type.WasmType.tree c.args.self.due) c.args.parts.now c.with_part.result (λ bare. (c.with_part.ensures.bare bare).1)
+returns-clause-memory g c = where_err _ _ c.with_part.result (λ error wants. wants in_text (shown g.V.Type.WasmType.tree c.args.self.due)) c.with_part.ensures.memory

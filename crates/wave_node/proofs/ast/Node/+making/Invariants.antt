@@ -1,6 +1,7 @@
 use Rattle.std.proofs.Common.{ℕ, ◌+◌, ◌*◌, take, List}
 use Rattle.wave_wasm.specs.Borrowed.{shown, shown_fields}
 use Rattle.wave_grammar.specs.SpannedTree.{PlacedEntry}
+use Rattle.wave_grammar.specs.FaultOrder.{by_type}
 use Rattle.wave_grammar.specs.TypedGrammar.{names_of}
 use Rattle.wave_syntax.specs.NodeTree.{NodeTree, type_of, children_of}
 use Rattle.wave_syntax.specs.NodeAccessors.{shown_node}
@@ -29,7 +30,7 @@ decreases-read_field g l = depth_of_maybe (shown_node l.node)
 
 abbrev pub invariant-make_of_parts-loop-i : goal.invariant-make_of_parts-loop-i
 invariant-make_of_parts-loop-i g l =
-    AreKeptWhereDue g.V.Type.WasmType.tree g.V.WasmValue.tree g.V.WasmValue.is_of g.V.WasmValue.is_full (shown g.V.Type.WasmType.tree l.builder.due) l.src (type_of l.self) (take l.i (children_of l.self)) l.parts
+    AreKeptWhereDue g.V.Type.WasmType.tree g.V.WasmValue.tree g.V.WasmValue.is_of g.V.WasmValue.is_full by_type (shown g.V.Type.WasmType.tree l.builder.due) l.src (type_of l.self) (take l.i (children_of l.self)) l.parts
 
 abbrev pub invariant-read_record-loop-i : goal.invariant-read_record-loop-i
 invariant-read_record-loop-i g l = record {
