@@ -47,41 +47,41 @@ refuses names flags source n e ok named (inr first) = inr (inr (ok, subst (λ (f
 
 module _ {V : Type 0} (tree : V → Value) (of : V → TypeTree → Type 0) (Full : TypeTree → Type 0) (o w : Order) where
   -- a flag that is none of the names
-  pub unknown_read : (T : TypeTree) (names flags : List (List ℕ)) (source : List ℕ) (n : NodeTree) (read : Result V Fault) (f : Fault) (r : Result V Diagnostic) → kinds.Flags ≡ kind_of T → names ≡ flags_names T → IsErrAnd read (λ g. g ≡ f) → TellsUnknown names flags f →
+  pub unknown_read : (T : TypeTree) (flags : List (List ℕ)) (source : List ℕ) (n : NodeTree) (read : Result V Fault) (f : Fault) (r : Result V Diagnostic) → kinds.Flags ≡ kind_of T → IsErrAnd read (λ g. g ≡ f) → TellsUnknown (flags_names T) flags f →
       AreFlags n → names_at source (children_of n) ≡ flags → IsTold read (place_of n) r → IsReadAs tree of Full o w T source n r
-  unknown_read T names flags source n (Ok v) f r kind is same unknown ok named told = absurd same
-  unknown_read T names flags source n (Err g) f (Ok w) kind is same unknown ok named told = absurd told
-  unknown_read T names flags source n (Err g) f (Err e) kind is same unknown ok named told =
+  unknown_read T flags source n (Ok v) f r kind same unknown ok named told = absurd same
+  unknown_read T flags source n (Err g) f (Ok w) kind same unknown ok named told = absurd told
+  unknown_read T flags source n (Err g) f (Err e) kind same unknown ok named told =
       let h = unknown n e (subst (λ (x : Fault). Tells x (place_of n) e) same told) in
       record {
-        answer = λ t node distinct. flags_blame tree of Full o w T names source n t e (flags_is T kind names is) node (refuses names flags source n e ok named h.0);
+        answer = λ t node distinct. flags_blame tree of Full o w T (flags_names T) source n t e (flags_is T kind (flags_names T) refl) node (refuses (flags_names T) flags source n e ok named h.0);
         within = λ value. at_in source n e (inl value) h.1;
       }
 
-  made_read : (T : TypeTree) (names flags : List (List ℕ)) (source : List ℕ) (n : NodeTree) (picked : List (Bor (List ℕ))) (m : Result V WasmValueError) (r : Result V Diagnostic) → kinds.Flags ≡ kind_of T → names ≡ flags_names T → AreAllOf names flags → (AreDistinct names → texts picked ≡ found_in flags names) →
+  made_read : (T : TypeTree) (flags : List (List ℕ)) (source : List ℕ) (n : NodeTree) (picked : List (Bor (List ℕ))) (m : Result V WasmValueError) (r : Result V Diagnostic) → kinds.Flags ≡ kind_of T → AreAllOf (flags_names T) flags → (AreDistinct (flags_names T) → texts picked ≡ found_in flags (flags_names T)) →
       IfOk m (MakesFlags tree of T picked) → IfErr m (FullFlags of Full T picked) → AreFlags n → names_at source (children_of n) ≡ flags → IsMade n m r → IsReadAs tree of Full o w T source n r
-  made_read T names flags source n picked m r kind is known found makes full ok named made =
-      let typed = flags_is T kind names is in
+  made_read T flags source n picked m r kind known found makes full ok named made =
+      let typed = flags_is T kind (flags_names T) refl in
       record {
-        answer = λ t node distinct. flags_made tree of Full o w T names source n t picked m r typed distinct node ok (subst (AreAllOf names) (sym named) known) (found (subst HasDistinctNames typed distinct) ∙ ap (λ (l : List (List ℕ)). found_in l names) (sym named)) makes full made;
+        answer = λ t node distinct. flags_made tree of Full o w T (flags_names T) source n t picked m r typed distinct node ok (subst (AreAllOf (flags_names T)) (sym named) known) (found (subst HasDistinctNames typed distinct) ∙ ap (λ (l : List (List ℕ)). found_in l (flags_names T)) (sym named)) makes full made;
         within = λ value. made_in source n m r (inl value) made;
       }
 
   -- the flags were made
-  pub flags_read : (T : TypeTree) (names flags : List (List ℕ)) (source : List ℕ) (n : NodeTree) (picked : List (Bor (List ℕ))) (v : V) (r : Result V Diagnostic) → kinds.Flags ≡ kind_of T → names ≡ flags_names T → AreAllOf names flags → (AreDistinct names → texts picked ≡ found_in flags names) →
+  pub flags_read : (T : TypeTree) (flags : List (List ℕ)) (source : List ℕ) (n : NodeTree) (picked : List (Bor (List ℕ))) (v : V) (r : Result V Diagnostic) → kinds.Flags ≡ kind_of T → AreAllOf (flags_names T) flags → (AreDistinct (flags_names T) → texts picked ≡ found_in flags (flags_names T)) →
       MakesFlags tree of T picked v → AreFlags n → names_at source (children_of n) ≡ flags → IsTold (Ok v) (place_of n) r → IsReadAs tree of Full o w T source n r
-  flags_read T names flags source n picked v (Ok w) kind is known found makes ok named told = made_read T names flags source n picked (Ok v) (Ok w) kind is known found makes tt ok named told
-  flags_read T names flags source n picked v (Err e) kind is known found makes ok named told = absurd told
+  flags_read T flags source n picked v (Ok w) kind known found makes ok named told = made_read T flags source n picked (Ok v) (Ok w) kind known found makes tt ok named told
+  flags_read T flags source n picked v (Err e) kind known found makes ok named told = absurd told
 
   -- their constructor refused
-  pub flags_refused : (T : TypeTree) (names flags : List (List ℕ)) (source : List ℕ) (n : NodeTree) (picked : List (Bor (List ℕ))) (cause : WasmValueError) (f : Fault) (r : Result V Diagnostic) → IsFaultOf cause f → kinds.Flags ≡ kind_of T → names ≡ flags_names T → AreAllOf names flags → (AreDistinct names → texts picked ≡ found_in flags names) →
+  pub flags_refused : (T : TypeTree) (flags : List (List ℕ)) (source : List ℕ) (n : NodeTree) (picked : List (Bor (List ℕ))) (cause : WasmValueError) (f : Fault) (r : Result V Diagnostic) → IsFaultOf cause f → kinds.Flags ≡ kind_of T → AreAllOf (flags_names T) flags → (AreDistinct (flags_names T) → texts picked ≡ found_in flags (flags_names T)) →
       FullFlags of Full T picked cause → AreFlags n → names_at source (children_of n) ≡ flags → IsTold (Err f) (place_of n) r → IsReadAs tree of Full o w T source n r
-  flags_refused T names flags source n picked cause f (Ok w) caused kind is known found full ok named told = absurd told
-  flags_refused T names flags source n picked cause (fault.Cause c) (Err e) caused kind is known found full ok named told =
-      made_read T names flags source n picked (Err cause) (Err e) kind is known found tt full ok named (told.0 ∙ caused, told.1)
-  flags_refused T names flags source n picked cause (fault.Kind k) (Err e) caused kind is known found full ok named told =
+  flags_refused T flags source n picked cause f (Ok w) caused kind known found full ok named told = absurd told
+  flags_refused T flags source n picked cause (fault.Cause c) (Err e) caused kind known found full ok named told =
+      made_read T flags source n picked (Err cause) (Err e) kind known found tt full ok named (told.0 ∙ caused, told.1)
+  flags_refused T flags source n picked cause (fault.Kind k) (Err e) caused kind known found full ok named told =
       no_memory tree of Full o w T source n e (subst (λ k. RefusedAs k n e) caused.0 told)
-  flags_refused T names flags source n picked cause (fault.Told d) (Err e) caused kind is known found full ok named told = absurd caused
+  flags_refused T flags source n picked cause (fault.Told d) (Err e) caused kind known found full ok named told = absurd caused
 
   -- a node that is neither flags nor `{}`
   pub other_form : (T : TypeTree) (source : List ℕ) (n : NodeTree) (e : Diagnostic) → kinds.Flags ≡ kind_of T → type_of n ≢ kind.Flags → type_of n ≢ kind.EmptySet → RefusedAs InvalidType n e → IsReadAs tree of Full o w T source n (Err e)

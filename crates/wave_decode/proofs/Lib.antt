@@ -8,7 +8,7 @@ mod KeyedChildren
 mod MapEntries
 mod MapSteps
 mod OptionReading
-mod MarkedNames
+mod PlacedNames
 mod RecordFaults
 mod RecordFields
 mod RecordSteps

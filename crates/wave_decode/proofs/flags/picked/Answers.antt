@@ -1,15 +1,41 @@
-use Rattle.std.proofs.Common.{inl, inr, arith, ap, ◌∙◌}
-use Rattle.std.proofs.lemmas.List.{map-append}
+use Rattle.std.proofs.Common.{◌≡◌, ap, ◌∙◌, sym, rules}
+use Rattle.std.specs.BTreeMap.{keys, values}
+use Rattle.std.specs.Map.Iter.{deref}
+use Rattle.std.proofs.lemmas.Map.Iter.{iter_end}
 use Rattle.wave_wasm.specs.Borrowed.{texts}
+use Rattle.wave_wasm.specs.Names.{found_in}
+use Rattle.wave_wasm.specs.Types.{flags_names}
+use Rattle.wave_wasm.proofs.NameSets.{on_ok}
 use Rattle.wave_decode.specs.NamedFlags.{flag_names}
-use Rattle.wave_decode.proofs.MarkedNames.{picks_marked}
-use Rattle.wave_decode.proofs.flags.picked.Goals.{else-index-via-then-index+else-is_err, else-index-via-else-index}
+use Rattle.wave_decode.proofs.PlacedNames.{names_shown, shown_first, tells_unknown, none_there, stands_there, known_next, none_placed, placed_next, placed_in_order}
 use Rattle.wave_decode.proofs.flags.picked.Goals as goal
 
-pub loop-i-preserved : goal.loop-i-preserved
-loop-i-preserved g c =
-    picks_marked (flag_names c.args.flags.now) c.args.names.now.items c.loop-i.i c.in_ok-marks.marks.items c.index.result.now (texts c.loop-i.picked.items) (texts c.else-index.picked.items) (omega (arith, c.loop-i-test.true, c.len-i-end.ensures, c.args.names.now.ok)) c.index.ensures c.in_ok-marks.ensures.marked c.loop-i.invariant (
-    elim c.else-index.branch [
-      | else-index-via-then-index+else-is_err w ↦ inl (w.if-index.true, w.index-then-index.result.now, w.index-then-index.ensures, ap (λ v. texts v.items) w.picked-is ∙ (ap texts (rw (w.is_err.ensures.negation, w.if-is_err.false) at w.push.ensures.items) ∙ map-append (λ n. n.now) _ _))
-      | else-index-via-else-index w ↦ inr (w.if-index.false, ap (λ v. texts v.items) w.picked-is)
-    ])
+pub loop-name-init : goal.loop-name-init
+loop-name-init g c = record {
+  known = tt;
+  placed = none_placed (flags_names (g.T.WasmType.tree c.args.ty.now)) c.new-placed.result.entries c.new-placed.ensures.empty;
+}
+
+pub returns-in-Ok-None-clause-refused : goal.returns-in-Ok-None-clause-refused
+returns-in-Ok-None-clause-refused g c =
+    let names = flags_names (g.T.WasmType.tree c.args.ty.now) in
+    let split = shown_first (keys c.args.flags.now) _ _ _ c.loop-name.yielded _ c.in-Some.name (c.into_iter-name-iterator.ensures.into_iter_gives ∙ c.keys-name-items.ensures.rest) c.loop-name.yielded_by c.in-Some.is c.next.ensures.steps in
+    let none = none_there names c.in-Some.name.now.now (sym c.in-Ok-None.field-0-is ∙ c.in-Ok-None.ensures) in
+    tells_unknown names (flag_names c.args.flags.now) (names_shown c.loop-name.yielded) _ c.in-Some.name.now.now c.unknown.result split c.loop-name.invariant.known none c.unknown.ensures
+
+pub loop-name-preserved : goal.loop-name-preserved
+loop-name-preserved g c =
+    let names = flags_names (g.T.WasmType.tree c.args.ty.now) in
+    let stands = stands_there names c.in-Some.name.now.now c.in-Ok-Some.place (sym c.in-Ok-Some.field-0-is ∙ c.in-Ok-Some.ensures) in
+    let put = on_ok c.insert.result c.insert.ensures.entries (rw c.if-is_err.false at c.is_err.ensures.negation) in
+    record {
+      known = known_next names c.loop-name.yielded c.in-Some.name c.in-Ok-Some.place stands c.loop-name.invariant.known;
+      placed = placed_next names c.loop-name.yielded c.in-Some.name c.in-Ok-Some.place c.loop-name.placed.entries c.insert.new.self.entries stands put c.loop-name.invariant.placed;
+    }
+
+pub returns-in-Ok-clause-picked : goal.returns-in-Ok-clause-picked
+returns-in-Ok-clause-picked g c = λ distinct.
+    let names = flags_names (g.T.WasmType.tree c.args.ty.now) in
+    let all = iter_end deref (keys c.args.flags.now) c.loop-name.yielded _ _ _ _ (c.into_iter-name-iterator.ensures.into_iter_gives ∙ c.keys-name-items.ensures.rest) c.loop-name.yielded_by c.in-None.is c.next.ensures.steps in
+    let same : c.in-Ok.picked.items ≡ values c.loop-name.placed = search rules in
+    ap texts same ∙ (placed_in_order names (names_shown c.loop-name.yielded) c.loop-name.placed.entries c.loop-name.invariant.placed distinct ∙ ap (λ ks. found_in (texts ks) names) all.0)

@@ -1,8 +1,10 @@
-use Rattle.std.proofs.Common.{◌≡◌, take}
-use Rattle.wave_wasm.specs.Names.{AreDistinct, found_in}
-use Rattle.wave_wasm.specs.Borrowed.{texts}
-use Rattle.wave_decode.specs.NamedFlags.{flag_names}
+use Rattle.wave_wasm.specs.Names.{AreAllOf}
+use Rattle.wave_wasm.specs.Types.{flags_names}
+use Rattle.wave_decode.proofs.PlacedNames.{names_shown, ArePlaced}
 use Rattle.wave_decode.proofs.flags.picked.Given as goal
 
-abbrev pub invariant-loop-i : goal.invariant-loop-i
-invariant-loop-i g l = AreDistinct (texts l.names.items) → texts l.picked.items ≡ found_in (flag_names l.flags) (texts (take l.i l.names.items))
+abbrev pub invariant-loop-name : goal.invariant-loop-name
+invariant-loop-name g l = record {
+  known : AreAllOf (flags_names (g.T.WasmType.tree l.ty)) (names_shown l.yielded);
+  placed : ArePlaced (flags_names (g.T.WasmType.tree l.ty)) (names_shown l.yielded) l.placed.entries;
+}
