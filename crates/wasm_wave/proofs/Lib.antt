@@ -1,1 +1,5 @@
 pub mod MainTheorem
+mod Lines
+mod Shown
+mod OneExplanation
+mod Examples

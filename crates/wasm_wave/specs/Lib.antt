@@ -1,1 +1,3 @@
 pub mod MainTheorem
+pub mod Places
+pub mod Shown

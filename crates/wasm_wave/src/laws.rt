@@ -1,12 +1,14 @@
 //! Laws of reading and writing, over the definitions alone: those of this crate, and those of the
 //! crates below under the same names.
+ghost use Rattle.std.specs.Prelude.{ℕ, List, ◌≡◌};
+ghost use Rattle.std.specs.declared.ops.Range.{Range};
 ghost use Rattle.wave_wasm.specs.Types.{TypeTree, HasDistinctNames, IsOwn};
 ghost use Rattle.wave_lex.specs.Labels.{Good};
 ghost use Rattle.wave_grammar.specs.UnambiguityLaws.{OneReading};
 ghost use Rattle.wave_grammar.specs.RoundTripLaws.{ReadsBack, EqualTexts, ReadsMerged, ReadsBackWithinTwice};
 ghost use Rattle.wasm_wave.specs.MainTheorem.{OneValue};
+ghost use Rattle.wasm_wave.specs.Places.{IsExplained};
 
-pub use wave_explain::laws::one_explanation;
 pub use wave_lex::laws::{
     faults_refuse, labels_are_words, lines_join, no_longer_label, one_cut, one_line_joins,
     one_meaning, parts_join, through_first_quotes, tokens_cut,
@@ -57,4 +59,10 @@ pub fn read_values_are_merged()
 /// canonical text reads back, and holds at most twice as many.
 pub fn levels_at_most_double()
     ensures { (T : TypeTree) → Good T → IsOwn T → ReadsBackWithinTwice T }
+{}
+
+/// One text explains a refusal: the source, the message and the span determine it, byte for byte.
+pub fn one_explanation()
+    ensures { (source message : List ℕ) (span : Range ℕ) (text other : List ℕ)
+        → IsExplained source message span text → IsExplained source message span other → text ≡ other }
 {}

@@ -17,10 +17,11 @@ use crate::writer::WriterError;
 use std::alloc::Global;
 use wave_lex::error::ParserError;
 
+pub mod explain;
 pub mod laws;
+mod place;
 pub mod value;
 
-pub use wave_explain::explain;
 pub use wave_grammar::number::WholeNumber;
 pub use wave_lex::asked::Asked;
 pub use wave_lex::{lex, strings};

@@ -22,15 +22,15 @@ use Rattle.wave_grammar.specs.SpannedTree as placed
 use Rattle.wave_grammar.specs.SpannedTree.{Placed, Shape, shape_of, placed_trees, tree_of, tree_of_shape, slice}
 use Rattle.wave_grammar.proofs.Elaboration.Params.{params_by_tree}
 use Rattle.wave_grammar.proofs.RoundTrip.Leaves.{one_cut_into}
-use Rattle.wave_syntax.specs.NodeTree.{NodeTree, type_of}
-use Rattle.wave_syntax.specs.Nodes.{placed_of}
-use Rattle.wave_syntax.specs.NodeParams.{IsNoOption, RefusesParams, RefusesNone, close_of}
-use Rattle.wave_syntax.specs.declared.form.NodeType.{NodeType}
-use Rattle.wave_syntax.specs.declared.form.NodeType.TheVariants as form
-use Rattle.wave_syntax.proofs.ByKind.Leaves.{tree_is}
-use Rattle.wave_syntax.proofs.ByKind.Lists.{trees_are}
-use Rattle.wave_syntax.proofs.ChildNodes.Inside.{From, inside}
-use Rattle.wave_syntax.proofs.Parameters.{omitted_values, item_values, items_fault, fault_none}
+use Rattle.wave_grammar.specs.NodeTree.{NodeTree, type_of}
+use Rattle.wave_grammar.specs.Nodes.{placed_of}
+use Rattle.wave_grammar.specs.NodeParams.{IsNoOption, RefusesParams, RefusesNone, close_of}
+use Rattle.wave_grammar.specs.declared.form.NodeType.{NodeType}
+use Rattle.wave_grammar.specs.declared.form.NodeType.TheVariants as form
+use Rattle.wave_grammar.proofs.ByKind.Leaves.{tree_is}
+use Rattle.wave_grammar.proofs.ByKind.Lists.{trees_are}
+use Rattle.wave_grammar.proofs.ChildNodes.Inside.{From, inside}
+use Rattle.wave_grammar.proofs.Parameters.{omitted_values, item_values, items_fault, fault_none}
 use Rattle.wave_tree.specs.UntypedCall.{Called, IsCalledOf, MeansParams, RefusesCall, GivesParamsAt, RefusesParamsAt}
 use Rattle.wave.specs.TypedCalls.{IsCallAt, HasParamsFault}
 use Rattle.wave.specs.declared.request.Request.TheVariants.{CallAt}

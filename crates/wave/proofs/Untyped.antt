@@ -5,8 +5,8 @@ use Rattle.wave_lex.specs.declared.error.ParserErrorKind.TheVariants as kind
 use Rattle.wave_grammar.specs.Tree.{MaybeTree, shown}
 use Rattle.wave_grammar.specs.Calls.{shown_call}
 use Rattle.wave_grammar.specs.SpannedTree.{Placed, tree_of, slice}
-use Rattle.wave_syntax.specs.NodeTree.{NodeTree}
-use Rattle.wave_syntax.specs.Nodes.{placed_of}
+use Rattle.wave_grammar.specs.NodeTree.{NodeTree}
+use Rattle.wave_grammar.specs.Nodes.{placed_of}
 use Rattle.wave_tree.specs.NodeDisplay.{shown_placed, shown_at}
 use Rattle.wave_tree.specs.ParserState.{Parsing, Finishes, first_at, limited, front_of}
 use Rattle.wave_tree.specs.Untyped.{Untyped, IsUntypedTaken, IsUntypedOf, RefusesTree}

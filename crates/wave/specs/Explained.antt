@@ -4,7 +4,7 @@ use Rattle.std.specs.declared.alloc.AllocError.{AllocError}
 use Rattle.std.specs.declared.option.Option.{Option}
 use Rattle.std.specs.declared.result.Result.{Result}
 use Rattle.wave_lex.specs.Errors.{Diagnostic, error_text}
-use Rattle.wave_explain.specs.Places.{IsExplained}
+use Rattle.wasm_wave.specs.Places.{IsExplained}
 use Rattle.wave.specs.declared.request.Request.{Request}
 use Rattle.wave.specs.declared.output.Output.{Output}
 use Rattle.wave.specs.Requests.{AreWordsOf}

@@ -11,9 +11,9 @@ use Rattle.wave_grammar.specs.Tree.{MaybeTree}
 use Rattle.wave_grammar.specs.Calls.{IsCall}
 use Rattle.wave_grammar.specs.Params.{Params}
 use Rattle.wave_grammar.specs.SpannedTree.{Placed, shape_of, tuple, placed_trees}
-use Rattle.wave_syntax.specs.NodeTree.{NodeTree}
-use Rattle.wave_syntax.specs.Nodes.{IsNodeOf}
-use Rattle.wave_syntax.specs.NodeParams.{IsNoOption, ParamsFault, close_of}
+use Rattle.wave_grammar.specs.NodeTree.{NodeTree}
+use Rattle.wave_grammar.specs.Nodes.{IsNodeOf}
+use Rattle.wave_grammar.specs.NodeParams.{IsNoOption, ParamsFault, close_of}
 use Rattle.wave_tree.specs.UntypedCall.{Called, IsCalledOf}
 
 -- the text is a call of this name, with these values of its parameters at the types; those that it leaves out are options, each `none`

@@ -27,3 +27,15 @@ pub mod DisplayLaws
 pub mod EquivalenceLaws
 pub mod OrderLaws
 pub mod FaultLaws
+pub mod NodeTree
+pub mod Nodes
+pub mod NodeAccessors
+pub mod NodeStrings
+pub mod TypedReading
+pub mod NodeFlags
+pub mod NodeFields
+pub mod NodeParams
+pub mod ErrorSpans
+pub mod NodeLaws
+pub mod FlagParts
+pub mod NodeParts

@@ -1,3 +1,12 @@
 pub mod FlagOrder
 pub mod SyntaxErrors
 pub mod TokenRoles
+pub mod ErrorSpans
+pub mod NodeAccessors
+pub mod NodeDepth
+pub mod NodeEncoding
+pub mod NodeFields
+pub mod NodeFlags
+pub mod NodeParams
+pub mod NodeTree
+pub mod TypedReading

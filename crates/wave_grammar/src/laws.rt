@@ -9,6 +9,7 @@ ghost use Rattle.wave_grammar.specs.FaultLaws.{OneFault, AnswersAreFaults, NoAns
 ghost use Rattle.wave_grammar.specs.PrefixLaws.{TreesAreLed, LedTokensHaveATree, FrontsAreLed, LedTokensBeginATree};
 ghost use Rattle.wave_grammar.specs.PrefixLaws.{RefusedTokensBeginNone, UnexpectedTokensBeginNone};
 ghost use Rattle.wave_grammar.specs.PrefixLaws.{EmptyTuplesAreEmpty, RepeatedFlagsAreRepeated, DeepValuesAreDeep};
+ghost use Rattle.wave_grammar.specs.NodeLaws.{NodesReadAsTokens, KeysAreValues};
 
 /// No tokens spell two values of a type whose names are distinct, nor does a spelling begin another.
 pub fn one_reading()
@@ -127,4 +128,15 @@ pub fn orders_agree()
 /// Where a tree has one fault alone, no order answers another.
 pub fn a_fault_alone_is_answered()
     ensures { LoneFaultIsAnswered }
+{}
+
+/// A type gives a node the values that the tokens spell which stand at the node.
+pub fn nodes_read_as_their_tokens()
+    ensures { NodesReadAsTokens }
+{}
+
+/// A key was parsed as a value would be exactly where it is no keyword, so what is said of values holds
+/// of it too.
+pub fn keys_are_values()
+    ensures { KeysAreValues }
 {}

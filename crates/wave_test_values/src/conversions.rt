@@ -1,8 +1,8 @@
 //! What Rust values stand for, each with its type.
 use crate::makers::{Row, wrong};
 use std::test::Fail;
-use wave_convert::IntoValue;
 use wave_type::ty::Type;
+use wave_value::convert::IntoValue;
 use wave_value::value::Value;
 use wave_wasm::wasm::WasmValueError;
 

@@ -1,6 +1,6 @@
 //! Worked rows of types and of values: the words of kinds, keywords and causes, the texts of types, also
 //! of those of functions, what the constructors of values make, Rust values as values, merged entries, and
-//! writers that fail.
+//! writers that fail; and of tokens, of the parts of strings, and of the words of refusals.
 #![tactic(auto)]
 
 #[cfg(test)]
@@ -10,13 +10,21 @@ mod functions;
 #[cfg(test)]
 mod kinds;
 #[cfg(test)]
+mod lexers;
+#[cfg(test)]
 mod makers;
 #[cfg(test)]
 mod merging;
 #[cfg(test)]
+mod names;
+#[cfg(test)]
 mod parsed_types;
 #[cfg(test)]
+mod refusals;
+#[cfg(test)]
 mod shown_functions;
+#[cfg(test)]
+mod strings;
 #[cfg(test)]
 mod types;
 #[cfg(test)]

@@ -2,8 +2,8 @@
 use crate::conversions::converted;
 use crate::types::type_of;
 use std::test::Fail;
-use wave_convert::IntoValue;
 use wave_type::ty::Type;
+use wave_value::convert::IntoValue;
 use wave_value::value::Value;
 use wave_wasm::wasm::{WasmTypeKind, WasmValueError};
 use wave_wasm::writer::to_string;

@@ -1,7 +1,7 @@
 //! Writers that fail.
 use std::fmt;
 use std::test::Fail;
-use wave_convert::IntoValue;
+use wave_value::convert::IntoValue;
 use wave_value::value::Value;
 use wave_wasm::writer::{TextWrite, Writer, WriterError};
 

@@ -6,9 +6,9 @@ use Rattle.wave_grammar.specs.ParserPosition.{Place, TakesItem, span_at, text_at
 use Rattle.wave_grammar.specs.Tree.{word_of}
 use Rattle.wave_grammar.specs.PrefixAutomaton.{Form, due_behind, value, behind_value, value_step, unexpected}
 use Rattle.wave_grammar.specs.SyntaxErrors.{LeadsBehindValue}
-use Rattle.wave_syntax.specs.NodeTree.{node, no_nodes}
-use Rattle.wave_syntax.specs.declared.form.NodeType.{NodeType}
-use Rattle.wave_syntax.specs.declared.form.NodeType.TheVariants as kind
+use Rattle.wave_grammar.specs.NodeTree.{node, no_nodes}
+use Rattle.wave_grammar.specs.declared.form.NodeType.{NodeType}
+use Rattle.wave_grammar.specs.declared.form.NodeType.TheVariants as kind
 use Rattle.wave_tree.specs.ParsedNodes.{IsParsed}
 use Rattle.wave_tree.specs.Private.ParserState.{IsAlone, IsAloneWord, BeginsNothing}
 use Rattle.wave_tree.proofs.NodeCorrectness.Items.{same_level, leaf_tied, number_word_tied, none_tied}

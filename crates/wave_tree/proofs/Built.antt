@@ -6,8 +6,8 @@ use Rattle.wave_lex.specs.Tokenization.{span}
 use Rattle.wave_grammar.specs.ParserPosition.{Place, TakesItem}
 use Rattle.wave_grammar.specs.PrefixAutomaton.{Due, Form}
 use Rattle.wave_grammar.proofs.Slices.{tokens_source}
-use Rattle.wave_syntax.specs.NodeTree.{NodeTree, node, node_trees}
-use Rattle.wave_syntax.specs.declared.form.NodeType.{NodeType}
+use Rattle.wave_grammar.specs.NodeTree.{NodeTree, node, node_trees}
+use Rattle.wave_grammar.specs.declared.form.NodeType.{NodeType}
 use Rattle.wave_tree.specs.ParsedNodes.{IsParsed, IsBuilt}
 use Rattle.wave_tree.proofs.ParserSteps.{Reached}
 

@@ -18,14 +18,14 @@ use Rattle.wave_grammar.specs.Tree as form
 use Rattle.wave_grammar.specs.Tree.{Tree, MaybeTree, no_tree, a_tree, Takes, word_of}
 use Rattle.wave_grammar.specs.Calls.{SpellsParams, IsCall}
 use Rattle.wave_grammar.specs.SpannedTree.{tuple, placed_trees, trees_of, tree_of}
-use Rattle.wave_syntax.specs.NodeTree.{NodeTree, type_of}
+use Rattle.wave_grammar.specs.NodeTree.{NodeTree, type_of}
 use Rattle.wave_grammar.specs.ParserPosition as place
 use Rattle.wave_grammar.specs.ParserPosition.{Place, TakesToken, TakesTokens, token_of, text_at}
 use Rattle.wave_grammar.specs.PrefixAutomaton as due
 use Rattle.wave_lex.specs.Errors.{Diagnostic, Says, Refusal}
 use Rattle.wave_wasm.specs.Types.{TypeTree}
-use Rattle.wave_syntax.specs.NodeParams.{RefusesNone}
-use Rattle.wave_syntax.specs.ErrorSpans.{IsTypeKind, HasParamsKind}
+use Rattle.wave_grammar.specs.NodeParams.{RefusesNone}
+use Rattle.wave_grammar.specs.ErrorSpans.{IsTypeKind, HasParamsKind}
 use Rattle.wave_grammar.specs.SyntaxErrors.{LeadsBehindValue, IsSyntaxError}
 use Rattle.wave_tree.specs.ParserLaws.{AreNext}
 use Rattle.wave_tree.specs.ParsedNodes.{IsSound, TakesClass}
@@ -37,8 +37,8 @@ use Rattle.wave_tree.proofs.ParserSound.{read_have_tree, refused_have_none, toke
 use Rattle.wave_tree.proofs.ParserSteps.{expected}
 use Rattle.wave_grammar.proofs.Slices.{taken_is}
 use Rattle.wave_tree.proofs.TextReading.{AllOf, all_from, cut_from, all_are_next, all_taken, nothing_there}
-use Rattle.wave_syntax.proofs.ByKind.Tuples.{tuple_nodes, no_word}
-use Rattle.wave_syntax.proofs.ByKind.Leaves.{tree_is}
+use Rattle.wave_grammar.proofs.ByKind.Tuples.{tuple_nodes, no_word}
+use Rattle.wave_grammar.proofs.ByKind.Leaves.{tree_is}
 use Rattle.wave_tree.proofs.NodeCorrectness.Lists.{tuple_parsed}
 
 -- ---- what is taken

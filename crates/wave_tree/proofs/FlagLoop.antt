@@ -13,15 +13,15 @@ use Rattle.wave_grammar.specs.ParserPosition.{Place, text_at, span_at}
 use Rattle.wave_grammar.specs.LeafTokens.{name_of}
 use Rattle.wave_grammar.specs.PrefixAutomaton.{Due, Form}
 use Rattle.wave_grammar.specs.PrefixAutomaton as due
-use Rattle.wave_syntax.specs.NodeTree.{NodeTree, node, node_trees}
-use Rattle.wave_syntax.specs.declared.form.NodeType.TheVariants as kind
+use Rattle.wave_grammar.specs.NodeTree.{NodeTree, node, node_trees}
+use Rattle.wave_grammar.specs.declared.form.NodeType.TheVariants as kind
 use Rattle.wave_grammar.specs.Shared.FlagOrder.{Flag, flag_name, flags_in_order}
 use Rattle.wave_tree.specs.ParsedNodes.{TakesClass, IsBuilt}
 use Rattle.wave_tree.proofs.Built.{source_item}
 use Rattle.wave_grammar.specs.SpannedTree.{slice}
 use Rattle.wave_grammar.proofs.Slices.{tokens_source}
 use Rattle.wave_wasm.specs.Lists.{AllOf}
-use Rattle.wave_syntax.specs.FlagParts.{AreFlagsOf, flag_nodes}
+use Rattle.wave_grammar.specs.FlagParts.{AreFlagsOf, flag_nodes}
 use Rattle.wave_tree.specs.Private.ParsedNodes.{IsClosed, AreFurtherFlags, IsOfFlags}
 use Rattle.wave_tree.specs.Private.ParserState.{Stream, AsksFor}
 use Rattle.wave_tree.proofs.ParserSteps.{Reached, IsFlagDue}

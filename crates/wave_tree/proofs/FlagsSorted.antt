@@ -13,7 +13,7 @@ use Rattle.wave_grammar.specs.SpannedTree.{slice}
 use Rattle.wave_grammar.specs.Tree.{is_before}
 use Rattle.std.specs.declared.ops.Range.{Range}
 use Rattle.wave_grammar.specs.Shared.FlagOrder.{Flag, flag_name, put_flag, flags_in_order}
-use Rattle.wave_syntax.specs.FlagParts.{label_at}
+use Rattle.wave_grammar.specs.FlagParts.{label_at}
 use Rattle.wave_tree.specs.Private.ParsedNodes.{flag_node}
 use Rattle.wave_grammar.proofs.FlagOrder.{before_is, equal_names}
 

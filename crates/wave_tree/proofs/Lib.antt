@@ -19,3 +19,8 @@ pub mod ReadTokens
 pub mod CallReading
 pub mod Displays
 pub mod UntypedAgreement
+pub mod Children
+pub mod FlagPlaces
+pub mod ReadNodes
+pub mod RecordNodes
+pub mod TypeOrder

@@ -1,10 +1,10 @@
 -- Which part of a node stands next.
 use Rattle.std.proofs.Common.{ℕ, ◌+◌, List, [], ◌∷◌, ◌++◌, refl, ap, ◌∙◌, arith, length-append}
 use Rattle.std.specs.declared.ops.Range.{Range}
-use Rattle.wave_syntax.specs.NodeTree.{NodeTree}
-use Rattle.wave_syntax.specs.declared.form.NodeType.{NodeType}
-use Rattle.wave_syntax.specs.declared.form.NodeType.TheVariants as kind
-use Rattle.wave_syntax.specs.NodeParts.{IsOfParts, TakesKey, TakesPart}
+use Rattle.wave_grammar.specs.NodeTree.{NodeTree}
+use Rattle.wave_grammar.specs.declared.form.NodeType.{NodeType}
+use Rattle.wave_grammar.specs.declared.form.NodeType.TheVariants as kind
+use Rattle.wave_grammar.specs.NodeParts.{IsOfParts, TakesKey, TakesPart}
 use Rattle.wave_tree.specs.Private.ParsedNodes.{IsOfPayload, label_children}
 
 -- after a key its value

@@ -20,18 +20,18 @@ use Rattle.wave_grammar.specs.SpannedTree.{Placed, Shape, tuple, list, shape_of,
 use Rattle.wave_grammar.specs.ParserPosition.{Place, TakesItem, text_at, token_of}
 use Rattle.wave_grammar.specs.PrefixAutomaton.{value}
 use Rattle.wave_grammar.specs.SyntaxErrors.{LeadsBehindValue}
-use Rattle.wave_syntax.specs.NodeTree.{NodeTree, type_of}
-use Rattle.wave_syntax.specs.Nodes.{placed_of}
-use Rattle.wave_syntax.specs.TypedReading.{IsValueOf}
-use Rattle.wave_syntax.specs.declared.form.NodeType.{NodeType}
-use Rattle.wave_syntax.specs.declared.form.NodeType.TheVariants as kind
-use Rattle.wave_syntax.proofs.ByKind.Leaves.{tree_is}
-use Rattle.wave_syntax.proofs.ChildNodes.Inside.{From, inside}
-use Rattle.wave_syntax.proofs.ErrorSpans.Nodes.{all_in_text}
-use Rattle.wave_syntax.proofs.Faultless.{refused}
+use Rattle.wave_grammar.specs.NodeTree.{NodeTree, type_of}
+use Rattle.wave_grammar.specs.Nodes.{placed_of}
+use Rattle.wave_grammar.specs.TypedReading.{IsValueOf}
+use Rattle.wave_grammar.specs.declared.form.NodeType.{NodeType}
+use Rattle.wave_grammar.specs.declared.form.NodeType.TheVariants as kind
+use Rattle.wave_grammar.proofs.ByKind.Leaves.{tree_is}
+use Rattle.wave_grammar.proofs.ChildNodes.Inside.{From, inside}
+use Rattle.wave_grammar.proofs.ErrorSpans.Nodes.{all_in_text}
+use Rattle.wave_grammar.proofs.Faultless.{refused}
 use Rattle.wave_grammar.specs.FaultOrder.{in_text}
-use Rattle.wave_leaf.specs.PlainReading.{IsPlain, IsReadSparing}
-use Rattle.wave_leaf.specs.Reading.{IsReadAs}
+use Rattle.wave_read.specs.PlainReading.{IsPlain, IsReadSparing}
+use Rattle.wave_read.specs.Reading.{IsReadAs}
 use Rattle.wave_tree.specs.ParserState.{BeginsRow}
 use Rattle.wave_tree.specs.ParsedNodes.{IsParsed, IsNodeTaken, IsSound, IsBuilt}
 use Rattle.wave_tree.specs.FromStr.{IsValueTaken, IsTypeRefused, IsCausedBetween, PrintsWithinTwice}

@@ -3,10 +3,10 @@ use Rattle.std.proofs.Common.{ℕ, ◌≡◌, List, sym, ◌∙◌, subst}
 use Rattle.wave_wasm.specs.Types.{TypeTree}
 use Rattle.wave_wasm.specs.Values.{Value}
 use Rattle.wave_grammar.specs.SpannedTree.{Placed, tree_of}
-use Rattle.wave_syntax.specs.Nodes.{IsNodeOf}
+use Rattle.wave_grammar.specs.Nodes.{IsNodeOf}
 use Rattle.wave_grammar.specs.Denotes.{SpellsText}
 use Rattle.wave_tree.specs.UntypedLaws.{IsTreeOfText, ReadAlike, RefusedAlike}
-use Rattle.wave_syntax.proofs.ChildNodes.Inside.{some_is}
+use Rattle.wave_grammar.proofs.ChildNodes.Inside.{some_is}
 use Rattle.wave_grammar.proofs.Equivalence.ByTree.{means_tree, spelled_means, tree_means}
 
 -- the tree of a text's untyped value is the one that the text spells

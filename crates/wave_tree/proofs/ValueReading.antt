@@ -12,10 +12,10 @@ use Rattle.wave_grammar.specs.FaultOrder.{in_text, FirstFault}
 use Rattle.wave_grammar.specs.ParserPosition.{Place, TakesItem}
 use Rattle.wave_grammar.specs.PrefixAutomaton.{value}
 use Rattle.wave_grammar.specs.SyntaxErrors.{LeadsBehindValue, IsSyntaxError}
-use Rattle.wave_syntax.specs.NodeTree.{NodeTree}
-use Rattle.wave_syntax.specs.Nodes.{IsNodeOf}
-use Rattle.wave_syntax.specs.ErrorSpans.{HasTypeKind}
-use Rattle.wave_syntax.specs.TypedReading as typed
+use Rattle.wave_grammar.specs.NodeTree.{NodeTree}
+use Rattle.wave_grammar.specs.Nodes.{IsNodeOf}
+use Rattle.wave_grammar.specs.ErrorSpans.{HasTypeKind}
+use Rattle.wave_grammar.specs.TypedReading as typed
 use Rattle.wave_tree.specs.ParserState.{Parsing, IsTrailing, StaysWithout, first_at, limited, front_of, start_of}
 use Rattle.wave_tree.specs.ParsedNodes.{IsNodeTaken}
 use Rattle.wave_tree.specs.FromStr.{PrintsWithinTwice, IsValueTaken, IsRead, IsTypeRefused, RefusesValue, IsCausedBetween, RefusesFront, BlamesText, RefusesText}

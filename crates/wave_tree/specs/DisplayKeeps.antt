@@ -6,8 +6,8 @@ use Rattle.wave_grammar.specs.Tree.{shown}
 use Rattle.wave_grammar.specs.Calls.{shown_call}
 use Rattle.wave_grammar.specs.Params.{Params}
 use Rattle.wave_grammar.specs.SpannedTree.{Placed, slice, tree_of}
-use Rattle.wave_syntax.specs.NodeTree.{NodeTree, place_of}
-use Rattle.wave_syntax.specs.Nodes.{IsNodeOf}
+use Rattle.wave_grammar.specs.NodeTree.{NodeTree, place_of}
+use Rattle.wave_grammar.specs.Nodes.{IsNodeOf}
 use Rattle.wave_grammar.specs.DisplayLaws.{ShowsAgain, ShowsCallAgain, MeanTheSame}
 use Rattle.wave_tree.specs.UntypedCall.{Called, IsCalledOf}
 

@@ -3,10 +3,10 @@ use Rattle.std.specs.Prelude.{ℕ, ◌≡◌, ◌≤◌, ◌*◌, ◌⊎◌, ◌
 use Rattle.wave_lex.specs.declared.error.ParserErrorKind.TheVariants.{WasmValueError, OutOfMemory}
 use Rattle.wave_lex.specs.Errors.{Diagnostic, Says, LiesInText, refusal_of}
 use Rattle.wave_lex.specs.Tokenization.{span}
-use Rattle.wave_syntax.specs.NodeTree.{NodeTree}
+use Rattle.wave_grammar.specs.NodeTree.{NodeTree}
 use Rattle.wave_grammar.specs.ParserPosition.{Place}
 use Rattle.wave_tree.specs.ParsedNodes.{IsNodeTaken, IsTaken, StandsBetween}
-use Rattle.wave_syntax.specs.ErrorSpans.{IsCausedIn, HasTypeKind}
+use Rattle.wave_grammar.specs.ErrorSpans.{IsCausedIn, HasTypeKind}
 use Rattle.wave_wasm.specs.Types.{TypeTree, HasDistinctNames}
 use Rattle.wave_wasm.specs.Values.{Value}
 use Rattle.wave_wasm.specs.Merge.{merged}
@@ -20,7 +20,7 @@ use Rattle.wave_grammar.specs.Tree.{levels}
 use Rattle.wave_grammar.specs.RoundTripLaws.{ReadBack}
 use Rattle.wave_tree.specs.ParserState.{IsTrailing, start_of}
 use Rattle.wave_tree.specs.Untyped.{SpellsTree, RefusesTree}
-use Rattle.wave_syntax.specs.TypedReading as typed
+use Rattle.wave_grammar.specs.TypedReading as typed
 
 -- a tree within n levels was read; it stands there, and each part of it spells its slice of the source
 pub record IsTreeRead (n : ℕ) (old new : Place) (t : Placed) : Type 0 where

@@ -9,3 +9,4 @@ pub mod ParserLaws
 pub mod DisplayKeeps
 pub mod UntypedLaws
 pub mod WholeTextLaws
+pub mod KeywordNodes

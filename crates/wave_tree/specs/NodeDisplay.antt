@@ -2,8 +2,8 @@
 use Rattle.std.specs.Prelude.{ℕ, List, [], Option, Some, None}
 use Rattle.wave_grammar.specs.Tree.{shown}
 use Rattle.wave_grammar.specs.SpannedTree.{Placed, tree_of}
-use Rattle.wave_syntax.specs.NodeTree.{NodeTree}
-use Rattle.wave_syntax.specs.Nodes.{placed_of}
+use Rattle.wave_grammar.specs.NodeTree.{NodeTree}
+use Rattle.wave_grammar.specs.Nodes.{placed_of}
 
 -- the text that shows a tree, where there is one
 abbrev pub shown_placed : Option Placed → List ℕ

@@ -6,8 +6,8 @@ use Rattle.wave_lex.specs.Tokenization.{remainder_of, span}
 use Rattle.wave_grammar.specs.Token.{Token}
 use Rattle.wave_grammar.specs.Tree as tree
 use Rattle.wave_grammar.specs.SpannedTree.{Placed, tree_of, span_of}
-use Rattle.wave_syntax.specs.NodeTree.{NodeTree}
-use Rattle.wave_syntax.specs.Nodes.{IsNodeOf}
+use Rattle.wave_grammar.specs.NodeTree.{NodeTree}
+use Rattle.wave_grammar.specs.Nodes.{IsNodeOf}
 use Rattle.wave_grammar.specs.ParserPosition.{Place, TakesItem, TakesToken, TakesTokens}
 use Rattle.wave_grammar.specs.Tree.{NoParen}
 

@@ -5,3 +5,4 @@ pub mod NodeDisplay
 pub mod UntypedCall
 pub mod CallEncoding
 pub mod UntypedEncoding
+pub mod NodeForms

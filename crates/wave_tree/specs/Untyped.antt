@@ -8,8 +8,8 @@ use Rattle.wave_grammar.specs.ParserPosition.{Place, TakesItem}
 use Rattle.wave_grammar.specs.PrefixAutomaton.{value}
 use Rattle.wave_grammar.specs.SyntaxErrors.{LeadsBehindValue, IsSyntaxError}
 use Rattle.wave_grammar.specs.SpannedTree.{Placed, tree_of}
-use Rattle.wave_syntax.specs.NodeTree.{NodeTree}
-use Rattle.wave_syntax.specs.Nodes.{IsNodeOf}
+use Rattle.wave_grammar.specs.NodeTree.{NodeTree}
+use Rattle.wave_grammar.specs.Nodes.{IsNodeOf}
 use Rattle.wave_tree.specs.ParsedNodes.{IsTaken, IsNodeTaken, StandsBetween}
 use Rattle.wave_tree.specs.ParserState.{IsTrailing, start_of}
 use Rattle.wave_grammar.specs.Denotes.{SpellsNoTree, SpellsText}

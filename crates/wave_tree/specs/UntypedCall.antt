@@ -18,14 +18,14 @@ use Rattle.wave_grammar.specs.PrefixAutomaton.{value, first_item, tuple}
 use Rattle.wave_lex.specs.Errors.{Diagnostic, Says}
 use Rattle.wave_grammar.specs.SyntaxErrors.{LeadsBehindValue, IsSyntaxError}
 use Rattle.wave_grammar.specs.SpannedTree.{Placed, tree_of, slice}
-use Rattle.wave_syntax.specs.NodeTree.{NodeTree, type_of}
-use Rattle.wave_syntax.specs.Nodes.{IsNodeOf}
-use Rattle.wave_syntax.specs.TypedReading.{IsValueOf}
+use Rattle.wave_grammar.specs.NodeTree.{NodeTree, type_of}
+use Rattle.wave_grammar.specs.Nodes.{IsNodeOf}
+use Rattle.wave_grammar.specs.TypedReading.{IsValueOf}
 use Rattle.wave_tree.specs.ParsedNodes.{TakesClass, StandsBetween}
 use Rattle.wave_tree.specs.ParserState.{Fails, IsTrailing}
 use Rattle.wave_tree.specs.NodeDisplay.{shown_at}
-use Rattle.wave_syntax.specs.NodeParams.{GivesParams, RefusesParams, AreOmitted, RefusesNone}
-use Rattle.wave_syntax.specs.declared.form.NodeType.TheVariants as kind
+use Rattle.wave_grammar.specs.NodeParams.{GivesParams, RefusesParams, AreOmitted, RefusesNone}
+use Rattle.wave_grammar.specs.declared.form.NodeType.TheVariants as kind
 
 -- an untyped call: its source, where its name stands, and the node of its parameters, if there are any
 pub record Called : Type 0 where

@@ -3,9 +3,9 @@ use Rattle.std.specs.Prelude.{ℕ, ◌↔◌, List}
 use Rattle.wave_wasm.specs.Types.{TypeTree}
 use Rattle.wave_wasm.specs.Values.{Value}
 use Rattle.wave_grammar.specs.SpannedTree.{Placed}
-use Rattle.wave_syntax.specs.Nodes.{IsNodeOf}
+use Rattle.wave_grammar.specs.Nodes.{IsNodeOf}
 use Rattle.wave_grammar.specs.Denotes.{Means, MeansNone, SpellsNoTree}
-use Rattle.wave_syntax.specs.TypedReading.{IsTypedValue, ReadsNone}
+use Rattle.wave_grammar.specs.TypedReading.{IsTypedValue, ReadsNone}
 use Rattle.wave_tree.specs.Untyped.{Untyped, IsUntypedOf}
 
 -- the untyped value is that of the text within n levels, and its node means the tree

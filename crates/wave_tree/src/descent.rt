@@ -8,10 +8,10 @@ ghost use Rattle.wave_grammar.specs.PrefixAutomaton as due;
 ghost use Rattle.wave_grammar.specs.Shared.SyntaxErrors.{GivesWithin, GivesAnywhere};
 ghost use Rattle.wave_lex.specs.Tokenization.{span};
 ghost use Rattle.wave_grammar.specs.Shared.TokenRoles.{form_of, IsClose};
-ghost use Rattle.wave_syntax.specs.FlagParts.{AreFlagsOf, flag_nodes};
-ghost use Rattle.wave_syntax.specs.NodeParts.{IsOfParts, IsOneToken, TakesPart};
-ghost use Rattle.wave_syntax.specs.NodeTree.{NodeTree, node, no_nodes};
-ghost use Rattle.wave_syntax.specs.declared.form.NodeType.TheVariants as node_type;
+ghost use Rattle.wave_grammar.specs.FlagParts.{AreFlagsOf, flag_nodes};
+ghost use Rattle.wave_grammar.specs.NodeParts.{IsOfParts, IsOneToken, TakesPart};
+ghost use Rattle.wave_grammar.specs.NodeTree.{NodeTree, node, no_nodes};
+ghost use Rattle.wave_grammar.specs.declared.form.NodeType.TheVariants as node_type;
 ghost use Rattle.wave_tree.specs.ParsedNodes.{IsParsed, IsBuilt, TakesClass};
 ghost use Rattle.wave_tree.specs.Private.ParsedNodes.{IsParsedBehind, IsOfPayload, IsMaybe, IsPayload, IsOfItems, IsOfEntries, IsOfFlags, label_children};
 ghost use Rattle.wave_tree.specs.Private.ParserState.{AsksFor, IsFront, WantsOnly};
@@ -22,9 +22,9 @@ use crate::role::{Front, front_of, key_type};
 use crate::tokens::Tokens;
 use std::alloc::Global;
 use std::collections::BTreeMap;
+use wave_grammar::builder::Builder;
 use wave_grammar::label::label_name;
 use wave_lex::lex::{Span, Token};
-use wave_syntax::builder::Builder;
 
 impl<'source> Tokens<'source> {
     /// Reads a value.

@@ -5,17 +5,16 @@ ghost use Rattle.wave_grammar.specs.EquivalenceLaws.{MeansByTree};
 ghost use Rattle.wave_tree.specs.UntypedLaws.{ReadAlike, RefusedAlike};
 ghost use Rattle.wave_tree.specs.ParserLaws.{ReadHaveATree, RefusedHaveNone, AskingsAreFew, RefusalsLieInText};
 ghost use Rattle.wave_tree.specs.WholeTextLaws.{ReadsWholeText, ReadsWholeTree};
-ghost use Rattle.wave_syntax.specs.NodeLaws.{FaultsLieInText};
+ghost use Rattle.wave_grammar.specs.NodeLaws.{FaultsLieInText};
 
 pub use wave_grammar::laws::{
-    a_fault_alone_is_answered, answered_faults_are_faults, fronts_are_led,
+    a_fault_alone_is_answered, answered_faults_are_faults, fronts_are_led, keys_are_values,
     last_commas_mean_nothing, led_tokens_begin_a_tree, led_tokens_have_a_tree, levels_are_exact,
-    one_fault, one_reading, one_tree, order_means_nothing, orders_agree, params_are_by_tree,
-    reading_is_by_tree, refusals_are_of_their_kind, refused_tokens_begin_none,
-    same_tokens_mean_the_same, shown_call_keeps_meaning, shown_keeps_meaning, trees_are_led,
-    unexpected_tokens_begin_none,
+    nodes_read_as_their_tokens, one_fault, one_reading, one_tree, order_means_nothing,
+    orders_agree, params_are_by_tree, reading_is_by_tree, refusals_are_of_their_kind,
+    refused_tokens_begin_none, same_tokens_mean_the_same, shown_call_keeps_meaning,
+    shown_keeps_meaning, trees_are_led, unexpected_tokens_begin_none,
 };
-pub use wave_syntax::laws::{keys_are_values, nodes_read_as_their_tokens};
 use wave_wasm::wasm::WasmValue;
 
 /// Where a parser has read a value stands a tree, and its tokens are taken.

@@ -1,4 +1,4 @@
-//! The parser: trees and values, read from texts.
+//! The parser: trees and values, read from texts; nodes of the untyped tree, and what they are at a type.
 #![tactic(auto)]
 
 ghost use Rattle.std.specs.Prelude.{IfOk, IfErr};
@@ -11,12 +11,18 @@ use wave_wasm::wasm::WasmValue;
 
 pub mod ast;
 mod descent;
+mod flags;
 mod item;
 pub mod laws;
+mod nodes;
+mod params;
 pub mod parser;
+mod reading;
+mod record;
 mod refusal;
 mod role;
 mod tokens;
+mod typed;
 pub mod untyped;
 
 /// The value of the type that the whole text means. A syntax fault of the value is answered before

@@ -10,9 +10,9 @@ ghost use Rattle.wave_grammar.specs.SyntaxErrors.{Gives};
 ghost use Rattle.wave_lex.specs.Errors.{Says};
 ghost use Rattle.wave_lex.specs.Tokenization.{span};
 ghost use Rattle.wave_tree.specs.UntypedCall.{AreParamsTaken, RefusesTuple};
-ghost use Rattle.wave_leaf.specs.PlainReading.{IsPlain};
-ghost use Rattle.wave_syntax.specs.NodeParts.{IsOneToken, TakesKey, TakesPart};
-ghost use Rattle.wave_syntax.specs.NodeTree.{NodeTree, node, no_nodes, node_trees};
+ghost use Rattle.wave_read.specs.PlainReading.{IsPlain};
+ghost use Rattle.wave_grammar.specs.NodeParts.{IsOneToken, TakesKey, TakesPart};
+ghost use Rattle.wave_grammar.specs.NodeTree.{NodeTree, node, no_nodes, node_trees};
 ghost use Rattle.wave_tree.specs.ParsedNodes.{IsNodeTaken, IsSound};
 ghost use Rattle.wave_tree.specs.FromStr.{IsValueTaken, RefusesValue, IsCausedBetween};
 ghost use Rattle.wave_tree.specs.ParserState.{BeginsRow, HoldsNoBrace, Finishes, StaysWithout};
@@ -22,17 +22,17 @@ ghost use Rattle.wave_tree.specs.ParserLaws.{LiesInSource};
 
 use crate::ast::{Node, NodeType};
 use crate::item::Item;
+use crate::nodes::Nodes;
 use crate::parser::DEFAULT_LEVELS;
 use crate::refusal::Refusal;
 use std::alloc::{AllocError, Global};
 use std::boxed::Box;
 use std::marker::Model;
-use wave_decode::values::Values;
+use wave_grammar::builder::Builder;
 use wave_lex::asked::Asked;
 use wave_lex::error::{ParserError, ParserErrorKind};
 use wave_lex::lex::{Lexer, Span, Token};
-use wave_node::nodes::Nodes;
-use wave_syntax::builder::Builder;
+use wave_read::values::Values;
 use wave_wasm::wasm::WasmValue;
 
 /// The words on a name that stands twice.

@@ -1,9 +1,9 @@
 //! Values that were read without a type.
 ghost use Rattle.std.specs.Prelude.{◌≡◌, IfOk, IfErr};
-ghost use Rattle.wave_syntax.specs.TypedReading.{IsValueOf};
-ghost use Rattle.wave_syntax.specs.TypedReading as typed;
+ghost use Rattle.wave_grammar.specs.TypedReading.{IsValueOf};
+ghost use Rattle.wave_grammar.specs.TypedReading as typed;
 ghost use Rattle.wave_tree.specs.Untyped.{IsUntypedOf, RefusesTree, MemoryAtFront};
-ghost use Rattle.wave_syntax.specs.ErrorSpans.{HasTypeKind, StandsIn};
+ghost use Rattle.wave_grammar.specs.ErrorSpans.{HasTypeKind, StandsIn};
 ghost use Rattle.wave_lex.specs.Errors.{LiesInText};
 
 pub use self::call::{UntypedFuncCall, parse_raw_func_call};
@@ -27,7 +27,7 @@ pub struct UntypedValue<'source> {
 
 impl<'source> Model for UntypedValue<'source> {
     ghost use Rattle.std.specs.Cow.{cow_str_bytes};
-    ghost use Rattle.wave_syntax.specs.TypedReading.{IsValueOf};
+    ghost use Rattle.wave_grammar.specs.TypedReading.{IsValueOf};
     ghost use Rattle.wave_tree.specs.Untyped.{Untyped};
     ghost use Rattle.wave_tree.specs.Private.UntypedEncoding.{untyped_code};
 

@@ -18,3 +18,6 @@ pub mod Refusals
 pub mod Views
 pub mod RecordViews
 pub mod FlagsInTurn
+mod Taken
+mod Items
+mod TupleParts

@@ -7,3 +7,4 @@ pub mod ConstructorRules
 pub mod RecordConstructor
 pub mod CaseRules
 pub mod FullTypes
+pub mod RustValues

@@ -1,5 +1,6 @@
 //! Values of component types.
 #![tactic(auto)]
 
+pub mod convert;
 pub mod laws;
 pub mod value;

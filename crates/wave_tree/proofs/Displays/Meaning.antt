@@ -3,14 +3,14 @@ use Rattle.std.proofs.Common.{ℕ, ◌≡◌, ◌++◌, List, Option, Some, None
 use Rattle.wave_grammar.specs.Tree.{MaybeTree, shown}
 use Rattle.wave_grammar.specs.Calls.{shown_call}
 use Rattle.wave_grammar.specs.SpannedTree.{slice, tree_of, at}
-use Rattle.wave_syntax.specs.NodeTree.{NodeTree, place_of}
+use Rattle.wave_grammar.specs.NodeTree.{NodeTree, place_of}
 use Rattle.wave_tree.specs.NodeDisplay.{shown_at}
 use Rattle.wave_grammar.specs.DisplayLaws.{MeanTheSame}
 use Rattle.wave_tree.specs.DisplayKeeps.{IsKeptByDisplay, IsCallKeptByDisplay}
 use Rattle.wave_tree.specs.UntypedCall.{Called, MeansParams, call_shown, params_at}
-use Rattle.wave_syntax.proofs.ChildNodes.Inside.{inside}
+use Rattle.wave_grammar.proofs.ChildNodes.Inside.{inside}
 use Rattle.wave_tree.proofs.Displays.Nodes.{shown_known}
-use Rattle.wave_syntax.proofs.NodeMeaning.{filled}
+use Rattle.wave_grammar.proofs.NodeMeaning.{filled}
 use Rattle.wave_grammar.proofs.Display.Meaning.{shown_keeps}
 use Rattle.wave_grammar.proofs.Display.Calls.{shown_call_keeps}
 

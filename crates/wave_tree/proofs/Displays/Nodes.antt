@@ -11,19 +11,19 @@ use Rattle.wave_grammar.specs.Token as token
 use Rattle.wave_grammar.specs.LeafTokens.{name_of}
 use Rattle.wave_grammar.specs.Tree.{shown, shown_trees, shown_entries}
 use Rattle.wave_grammar.specs.SpannedTree.{Placed, Shape, at, one, tuple, list, empty_braces, no_fields, entries, flags, label, none, some, ok, err, no_placed, a_placed, PlacedEntries, no_entries, entry, placed_trees, span_of, shape_of, tree_of, tree_of_shape, trees_of, entries_of, SpellsEach, SpellsEntries, SpellsFlags}
-use Rattle.wave_syntax.specs.NodeTree.{NodeTree, NodeTrees, node, no_nodes, node_and, type_of, place_of, children_of, node_list, node_trees}
-use Rattle.wave_syntax.specs.Shared.NodeTree.{depth, nodes_depth}
-use Rattle.wave_syntax.specs.Nodes.{placed_of, shape_from, pairs_of, flags_of, flag_of, key_of, with_both, IsParsedFrom}
-use Rattle.wave_syntax.specs.NodeAccessors.{node_text}
-use Rattle.wave_syntax.specs.TypedReading.{IsValueOf}
+use Rattle.wave_grammar.specs.NodeTree.{NodeTree, NodeTrees, node, no_nodes, node_and, type_of, place_of, children_of, node_list, node_trees}
+use Rattle.wave_grammar.specs.Shared.NodeTree.{depth, nodes_depth}
+use Rattle.wave_grammar.specs.Nodes.{placed_of, shape_from, pairs_of, flags_of, flag_of, key_of, with_both, IsParsedFrom}
+use Rattle.wave_grammar.specs.NodeAccessors.{node_text}
+use Rattle.wave_grammar.specs.TypedReading.{IsValueOf}
 use Rattle.wave_tree.specs.NodeDisplay.{shown_placed, shown_at}
 use Rattle.wave_tree.specs.Private.NodeDisplay.{name_at, entries_at, braces_at, payload_at, AreEntriesOf}
-use Rattle.wave_syntax.proofs.ChildNodes.Inside.{From, inside, some_is, flag_key, AreParsed, parsed, pair_parsed, nodes_in, nodes_are, is_number_word}
-use Rattle.wave_syntax.proofs.ChildNodes.Cases.{shape_at, case_shape}
-use Rattle.wave_syntax.proofs.ByKind.Leaves.{tree_is}
-use Rattle.wave_syntax.proofs.ByKind.Lists.{AreNodesOf, spelled_nodes}
-use Rattle.wave_syntax.specs.declared.form.NodeType.{NodeType}
-use Rattle.wave_syntax.specs.declared.form.NodeType.TheVariants as kind
+use Rattle.wave_grammar.proofs.ChildNodes.Inside.{From, inside, some_is, flag_key, AreParsed, parsed, pair_parsed, nodes_in, nodes_are, is_number_word}
+use Rattle.wave_grammar.proofs.ChildNodes.Cases.{shape_at, case_shape}
+use Rattle.wave_grammar.proofs.ByKind.Leaves.{tree_is}
+use Rattle.wave_grammar.proofs.ByKind.Lists.{AreNodesOf, spelled_nodes}
+use Rattle.wave_grammar.specs.declared.form.NodeType.{NodeType}
+use Rattle.wave_grammar.specs.declared.form.NodeType.TheVariants as kind
 
 -- what shows a node whose tree is known
 pub shown_known : (source : List ℕ) (n : NodeTree) (t : Placed) → placed_of source n ≡ Some t → shown_at source n ≡ shown (tree_of t)

@@ -13,7 +13,7 @@ use Rattle.wave_grammar.specs.ParserPosition.{Place, Item, TakesTokens}
 use Rattle.wave_grammar.specs.PrefixAutomaton.{Due, Form, value, first_item, tuple}
 use Rattle.wave_grammar.specs.SyntaxErrors.{StandsAt, IsSyntaxError}
 use Rattle.wave_tree.specs.ParserState.{Fails, IsTrailing}
-use Rattle.wave_syntax.specs.NodeTree.{NodeTree}
+use Rattle.wave_grammar.specs.NodeTree.{NodeTree}
 use Rattle.wave_tree.specs.UntypedCall.{RefusesTuple, AreParamsTaken, NameFault, behind_name}
 use Rattle.wave_tree.specs.ParserLaws.{LiesInSource, RefusalsLieInText}
 

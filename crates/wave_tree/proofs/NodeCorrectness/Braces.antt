@@ -13,9 +13,9 @@ use Rattle.wave_grammar.specs.Tree as tree
 use Rattle.wave_grammar.specs.Tree.{Tree, KeyAnd, IsKey}
 use Rattle.wave_grammar.specs.SpannedTree as placed
 use Rattle.wave_grammar.specs.SpannedTree.{Placed, at, PlacedEntries, no_entries, entry, entries, no_fields, empty_braces, one, label, no_placed, HoldsTokens, SpellsEntries, SpellsEach, StandsAtTokens, entry_places, LiesIn, span_of, tree_of, tree_of_shape, slice}
-use Rattle.wave_syntax.specs.NodeTree.{NodeTree, node, no_nodes, node_trees}
-use Rattle.wave_syntax.specs.Nodes.{placed_of, all_placed, key_of, pairs_of, shape_from, and_then, with_both, number_token}
-use Rattle.wave_syntax.specs.declared.form.NodeType.TheVariants as kind
+use Rattle.wave_grammar.specs.NodeTree.{NodeTree, node, no_nodes, node_trees}
+use Rattle.wave_grammar.specs.Nodes.{placed_of, all_placed, key_of, pairs_of, shape_from, and_then, with_both, number_token}
+use Rattle.wave_grammar.specs.declared.form.NodeType.TheVariants as kind
 use Rattle.wave_tree.specs.ParsedNodes.{IsSound, IsParsed}
 use Rattle.wave_tree.specs.Private.ParsedNodes.{IsKeyAt, key_node_type, ArePairs, AreFurtherPairs, IsOfEntries}
 use Rattle.wave_grammar.specs.Shared.TokenRoles.{IsKeyClass}

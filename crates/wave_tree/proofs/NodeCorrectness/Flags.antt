@@ -13,9 +13,9 @@ use Rattle.wave_grammar.specs.ParserPosition.{Place, TakesItem, TakesTokens, tex
 use Rattle.wave_grammar.specs.Tree as tree
 use Rattle.wave_grammar.specs.Tree.{Label}
 use Rattle.wave_grammar.specs.SpannedTree.{at, flags, label, no_placed, HoldsTokens, SpellsFlags, StandsAtTokens, LiesIn, slice}
-use Rattle.wave_syntax.specs.NodeTree.{NodeTree, node_trees}
-use Rattle.wave_syntax.specs.Nodes.{placed_of, all_placed, flags_of, shape_from, and_then, with_both}
-use Rattle.wave_syntax.specs.declared.form.NodeType.TheVariants as kind
+use Rattle.wave_grammar.specs.NodeTree.{NodeTree, node_trees}
+use Rattle.wave_grammar.specs.Nodes.{placed_of, all_placed, flags_of, shape_from, and_then, with_both}
+use Rattle.wave_grammar.specs.declared.form.NodeType.TheVariants as kind
 use Rattle.wave_tree.specs.ParsedNodes.{IsSound, IsParsed}
 use Rattle.wave_tree.specs.Private.ParsedNodes.{flag_node, AreFurtherFlags, IsOfFlags}
 use Rattle.wave_grammar.specs.Shared.FlagOrder.{Flag, flag_name, put_flag, flags_in_order}

@@ -8,9 +8,9 @@ use Rattle.wave_grammar.specs.Token as token
 use Rattle.wave_grammar.specs.ParserPosition.{Place, TakesItem, text_at, span_at}
 use Rattle.wave_grammar.specs.Tree.{word_of, leaf_word, none_word, some_word, ok_word, err_word, case_word}
 use Rattle.wave_grammar.specs.SpannedTree.{one}
-use Rattle.wave_syntax.specs.NodeTree.{NodeTree, node, no_nodes, node_trees}
-use Rattle.wave_syntax.specs.declared.form.NodeType.{NodeType}
-use Rattle.wave_syntax.specs.declared.form.NodeType.TheVariants as kind
+use Rattle.wave_grammar.specs.NodeTree.{NodeTree, node, no_nodes, node_trees}
+use Rattle.wave_grammar.specs.declared.form.NodeType.{NodeType}
+use Rattle.wave_grammar.specs.declared.form.NodeType.TheVariants as kind
 use Rattle.wave_tree.specs.ParsedNodes.{IsParsed, TakesClass}
 use Rattle.wave_tree.specs.Private.ParsedNodes.{IsParsedBehind, IsMaybe, IsPayload, IsOfItems, items_type, AreClosedItems, AreFurther, IsKeyAt, ArePairs, IsOfEntries, IsOfFlags, label_children}
 use Rattle.wave_grammar.specs.Shared.TokenRoles.{IsClose}

@@ -11,9 +11,9 @@ use Rattle.wave_grammar.specs.Tree as tree
 use Rattle.wave_grammar.specs.Tree.{Tree, NoParen}
 use Rattle.wave_grammar.specs.SpannedTree as placed
 use Rattle.wave_grammar.specs.SpannedTree.{Placed, at, some, SpellsAll, SpellsEach, StandsAtTokens, placed_trees, placed_list, span_of, tree_of, slice}
-use Rattle.wave_syntax.specs.NodeTree.{NodeTree, node_trees}
-use Rattle.wave_syntax.specs.Nodes.{placed_of, all_placed, shape_from, and_then, with_both}
-use Rattle.wave_syntax.specs.declared.form.NodeType.TheVariants as kind
+use Rattle.wave_grammar.specs.NodeTree.{NodeTree, node_trees}
+use Rattle.wave_grammar.specs.Nodes.{placed_of, all_placed, shape_from, and_then, with_both}
+use Rattle.wave_grammar.specs.declared.form.NodeType.TheVariants as kind
 use Rattle.wave_tree.specs.ParsedNodes.{IsSound, IsParsed}
 use Rattle.wave_tree.specs.Private.ParsedNodes.{IsClosed, AreFurther, AreClosedItems, IsOfItems}
 use Rattle.wave_grammar.specs.Shared.TokenRoles.{IsClose}

@@ -24,10 +24,10 @@ use Rattle.wave_grammar.specs.Tree as tree
 use Rattle.wave_grammar.specs.Tree.{Tree, ATree, BehindWord, word_of, leaf_word, none_word, some_word, ok_word, err_word, case_word, MaybeInParens, NoParen}
 use Rattle.wave_grammar.specs.TypedGrammar.{InParens}
 use Rattle.wave_grammar.specs.SpannedTree.{Placed, at, Shape, one, none, some, ok, err, label, no_placed, a_placed, HoldsTokens, SpellsParts, SpellsEach, StandsAtTokens, part_places, LiesIn, span_of, tree_of, tree_of_shape, slice}
-use Rattle.wave_syntax.specs.NodeTree.{NodeTree, node, no_nodes}
-use Rattle.wave_syntax.specs.Nodes.{placed_of, shape_from, and_then, with_both}
-use Rattle.wave_syntax.specs.declared.form.NodeType.{NodeType}
-use Rattle.wave_syntax.specs.declared.form.NodeType.TheVariants as kind
+use Rattle.wave_grammar.specs.NodeTree.{NodeTree, node, no_nodes}
+use Rattle.wave_grammar.specs.Nodes.{placed_of, shape_from, and_then, with_both}
+use Rattle.wave_grammar.specs.declared.form.NodeType.{NodeType}
+use Rattle.wave_grammar.specs.declared.form.NodeType.TheVariants as kind
 use Rattle.wave_tree.specs.ParsedNodes.{IsSound, IsParsed}
 use Rattle.wave_tree.specs.Private.ParsedNodes.{IsPayload, IsMaybe}
 use Rattle.wave_tree.proofs.ParserSteps.{tokens_join, token_there}

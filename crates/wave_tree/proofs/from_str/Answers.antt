@@ -2,7 +2,7 @@ use Rattle.std.proofs.Common.{subst}
 use Rattle.wave_tree.specs.ParserState.{Parsing}
 use Rattle.wave_tree.specs.FromStr.{IsValueTaken, RefusesText}
 use Rattle.wave_tree.proofs.ValueReading.{value_refused, trailing_refused, value_read}
-use Rattle.wave_syntax.proofs.Parameters.{error_handed}
+use Rattle.wave_grammar.proofs.Parameters.{error_handed}
 use Rattle.wave_tree.proofs.from_str.Goals as goal
 
 pub returns-in_err-value-clause-refused : goal.returns-in_err-value-clause-refused

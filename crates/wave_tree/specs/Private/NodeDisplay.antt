@@ -2,10 +2,10 @@
 use Rattle.std.specs.Prelude.{ℕ, List, [], ◌∷◌, codes}
 use Rattle.wave_wasm.specs.Commas.{behind_name, joined, in_parens, in_braces}
 use Rattle.wave_grammar.specs.LeafTokens.{name_of}
-use Rattle.wave_syntax.specs.NodeTree.{NodeTree}
-use Rattle.wave_syntax.specs.Nodes.{IsParsedFrom}
-use Rattle.wave_syntax.specs.NodeAccessors.{node_text}
-use Rattle.wave_syntax.specs.TypedReading.{IsValueOf}
+use Rattle.wave_grammar.specs.NodeTree.{NodeTree}
+use Rattle.wave_grammar.specs.Nodes.{IsParsedFrom}
+use Rattle.wave_grammar.specs.NodeAccessors.{node_text}
+use Rattle.wave_grammar.specs.TypedReading.{IsValueOf}
 use Rattle.wave_tree.specs.NodeDisplay.{shown_at}
 
 -- the name of the label at a node

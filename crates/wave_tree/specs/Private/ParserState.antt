@@ -13,8 +13,8 @@ use Rattle.wave_tree.specs.declared.item.Item.TheVariants as kept
 use Rattle.wave_tree.specs.declared.role.Front.{Front}
 use Rattle.wave_tree.specs.declared.role.Front.TheVariants as front
 use Rattle.wave_lex.specs.declared.lex.Token.TheVariants as class
-use Rattle.wave_syntax.specs.declared.form.NodeType.{NodeType}
-use Rattle.wave_syntax.specs.declared.form.NodeType.TheVariants as kind
+use Rattle.wave_grammar.specs.declared.form.NodeType.{NodeType}
+use Rattle.wave_grammar.specs.declared.form.NodeType.TheVariants as kind
 use Rattle.wave_grammar.specs.Tree.{word_of}
 use Rattle.wave_tree.specs.ParserState.{HasTokens, HoldsNoBrace, Fails}
 

@@ -2,7 +2,7 @@
 use Rattle.std.specs.Prelude.{ℕ, List, Option}
 use Rattle.std.specs.declared.ops.Range.{Range}
 use Rattle.wave_lex.specs.Tokenization.{Stands}
-use Rattle.wave_syntax.specs.NodeTree.{NodeTree}
+use Rattle.wave_grammar.specs.NodeTree.{NodeTree}
 use Rattle.wave_tree.specs.UntypedCall.{IsParamsOf}
 
 -- the name stands in the source, and so do the parameters

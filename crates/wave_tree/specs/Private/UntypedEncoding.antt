@@ -1,8 +1,8 @@
 -- An untyped value as one that can be stored, by which two are told apart.
 use Rattle.std.specs.Prelude.{ℕ, List, refl}
 use Rattle.std.specs.Coded.{Coded, code_by, coded×, coded_ℕ, coded_list}
-use Rattle.wave_syntax.specs.NodeTree.{NodeTree}
-use Rattle.wave_syntax.specs.Shared.NodeEncoding.{node_code}
+use Rattle.wave_grammar.specs.NodeTree.{NodeTree}
+use Rattle.wave_grammar.specs.Shared.NodeEncoding.{node_code}
 use Rattle.wave_tree.specs.Untyped.{Untyped}
 
 -- an untyped value is stored as the pair of its source and its node

@@ -2,7 +2,7 @@
 ghost use Rattle.std.specs.Prelude.{◌≡◌, ℕ, Some, length, IfOk, IfErr, option_map, map};
 ghost use Rattle.std.specs.Fmt.{DisplaysOnOk};
 ghost use Rattle.wave_grammar.specs.SpannedTree.{slice};
-ghost use Rattle.wave_syntax.specs.ErrorSpans.{HasParamsKind, IsCausedInParams};
+ghost use Rattle.wave_grammar.specs.ErrorSpans.{HasParamsKind, IsCausedInParams};
 ghost use Rattle.wave_lex.specs.declared.error.ParserErrorKind.TheVariants.{WasmValueError};
 ghost use Rattle.wave_lex.specs.Errors.{LiesInText};
 ghost use Rattle.wave_lex.specs.FunctionName.{IsName};
@@ -11,6 +11,7 @@ ghost use Rattle.wave_tree.specs.Private.UntypedCall.{CallStandsIn};
 ghost use Rattle.wave_tree.specs.DisplayKeeps.{IsCallKeptByDisplay};
 
 use crate::ast::Node;
+use crate::params::omitted_params;
 use crate::parser::{ParserError, ParserErrorKind};
 use crate::tokens::Tokens;
 use crate::untyped::display::write_node;
@@ -19,7 +20,6 @@ use std::borrow::CowStr;
 use std::fmt;
 use std::marker::Model;
 use wave_lex::lex::{FuncNameLexer, Span};
-use wave_node::params::omitted_params;
 use wave_wasm::wasm::WasmValue;
 
 /// The call that the whole text is: a function name at its start, and parameters in parentheses, each

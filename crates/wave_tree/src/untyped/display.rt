@@ -4,19 +4,18 @@ ghost use Rattle.std.specs.Fmt.{WritesOnOk, DisplaysOnOk};
 ghost use Rattle.wave_wasm.specs.Commas.{joined, behind_name, in_parens, in_braces};
 ghost use Rattle.wave_wasm.specs.Shared.Commas.{enclosed};
 ghost use Rattle.wave_wasm.specs.Keywords.{case_label};
-ghost use Rattle.wave_syntax.specs.NodeTree.{type_of};
-ghost use Rattle.wave_syntax.specs.Nodes.{IsParsedFrom};
-ghost use Rattle.wave_syntax.specs.TypedReading.{IsValueOf};
-ghost use Rattle.wave_syntax.specs.NodeAccessors.{node_text};
+ghost use Rattle.wave_grammar.specs.NodeTree.{type_of};
+ghost use Rattle.wave_grammar.specs.Nodes.{IsParsedFrom};
+ghost use Rattle.wave_grammar.specs.TypedReading.{IsValueOf};
+ghost use Rattle.wave_grammar.specs.NodeAccessors.{node_text};
 ghost use Rattle.wave_tree.specs.DisplayKeeps.{IsKeptByDisplay};
 ghost use Rattle.wave_tree.specs.NodeDisplay.{shown_at};
 ghost use Rattle.wave_tree.specs.Private.NodeDisplay.{name_at, entries_at, braces_at, payload_at, AreEntriesOf};
 
-use crate::ast::{Node, NodeType};
+use crate::ast::{Node, NodeType, make};
 use crate::untyped::UntypedValue;
 use std::fmt;
 use wave_grammar::label::label_name;
-use wave_node::ast::make;
 use wave_wasm::keyword::Keyword;
 
 impl fmt::Display for UntypedValue<'_> {

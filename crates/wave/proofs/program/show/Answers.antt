@@ -1,6 +1,6 @@
 use Rattle.std.proofs.Common.{◌≡◌, ◌⊎◌, Bool, true, false, refl, inl, inr, sym, subst}
 use Rattle.wave_lex.specs.Errors.{error_text}
-use Rattle.wave_explain.specs.Places.{IsExplained}
+use Rattle.wasm_wave.specs.Places.{IsExplained}
 use Rattle.wave.proofs.program.show.Goals as goal
 
 written : {A B : Type 0} (b : Bool) → (b ≡ true → A) → (b ≡ false → B) → A ⊎ B

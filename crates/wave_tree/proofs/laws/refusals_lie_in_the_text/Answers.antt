@@ -1,5 +1,5 @@
 use Rattle.wave_tree.proofs.ErrorSpans.Syntax.{refusals_lie}
-use Rattle.wave_syntax.proofs.ErrorSpans.Faults.{faults_lie}
+use Rattle.wave_grammar.proofs.ErrorSpans.Faults.{faults_lie}
 use Rattle.wave_tree.proofs.laws.refusals_lie_in_the_text.Goals as goal
 
 pub returns-clause-syntax : goal.returns-clause-syntax

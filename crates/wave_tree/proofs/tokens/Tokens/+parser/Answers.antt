@@ -14,17 +14,17 @@ use Rattle.wave_tree.specs.declared.role.Front.TheVariants as front
 use Rattle.wave_tree.specs.Private.ParserState.{Stream, AsksFor, IsAlone, IsFront}
 use Rattle.wave_tree.specs.Private.ParsedNodes.{IsParsedBehind, IsMaybe, IsPayload, IsOfItems, IsOfEntries, IsOfFlags, items_type, label_children}
 use Rattle.wave_tree.specs.ParsedNodes.{TakesClass}
-use Rattle.wave_syntax.specs.NodeTree.{NodeTree, node, no_nodes}
-use Rattle.wave_syntax.specs.declared.form.NodeType.{NodeType}
-use Rattle.wave_syntax.specs.declared.form.NodeType.TheVariants as kind_of_node
+use Rattle.wave_grammar.specs.NodeTree.{NodeTree, node, no_nodes}
+use Rattle.wave_grammar.specs.declared.form.NodeType.{NodeType}
+use Rattle.wave_grammar.specs.declared.form.NodeType.TheVariants as kind_of_node
 use Rattle.wave_tree.proofs.NodeCorrectness.Items.{class_as, label_tied, items_tied, braces_tied, some_tied, ok_tied, err_tied, case_tied, some_there, type_of_items, items_made, items_none, items_first, items_next, pairs_next, pairs_close, empty_tied, no_fields_tied, entries_tied, flags_tied, payload_tied}
-use Rattle.wave_syntax.proofs.Parameters.{error_handed}
+use Rattle.wave_grammar.proofs.Parameters.{error_handed}
 use Rattle.wave_tree.specs.Private.ParserState.{WantsOnly}
 use Rattle.wave_tree.proofs.AloneTokens.{alone_parsed, alone_led, nothing_begins}
 use Rattle.wave_tree.proofs.Wanting.{whatever_parts, wants_any, wants_refused, wants_reached, wants_less, answer_token, answer_brace, wants_other, wants_fails, wants_taken}
 use Rattle.wave_tree.proofs.PartsDue.{key_next, value_next, payload_due, payload_parts}
 use Rattle.wave_tree.proofs.Built.{as_added, part_added, built, whole_built, as_ok, of_front, of_part, wants_part, source_item, source_parsed, source_reached}
-use Rattle.wave_syntax.specs.NodeParts.{IsOfParts, TakesPart}
+use Rattle.wave_grammar.specs.NodeParts.{IsOfParts, TakesPart}
 use Rattle.wave_tree.specs.ParsedNodes.{IsBuilt, IsParsed}
 use Rattle.wave_tree.proofs.ClassTests.{is_class, is_other, differs, differs_not}
 use Rattle.wave_tree.proofs.LexerCallCount.{asks_none, asks_once, asks_token, asks_looked, asks_read, asks_reached}

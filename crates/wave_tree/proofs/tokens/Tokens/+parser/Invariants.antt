@@ -3,9 +3,9 @@ use Rattle.wave_grammar.specs.ParserPosition.{Place, TakesItem}
 use Rattle.wave_grammar.specs.PrefixAutomaton.{Due, Form, first_item}
 use Rattle.wave_grammar.specs.PrefixAutomaton as due
 use Rattle.wave_grammar.specs.Shared.TokenRoles.{form_of}
-use Rattle.wave_syntax.specs.NodeTree.{NodeTree}
-use Rattle.wave_syntax.specs.NodeParts.{TakesPart}
-use Rattle.wave_syntax.specs.declared.form.NodeType.TheVariants as kind
+use Rattle.wave_grammar.specs.NodeTree.{NodeTree}
+use Rattle.wave_grammar.specs.NodeParts.{TakesPart}
+use Rattle.wave_grammar.specs.declared.form.NodeType.TheVariants as kind
 use Rattle.wave_tree.specs.ParsedNodes.{IsParsed}
 use Rattle.wave_tree.specs.Private.ParsedNodes.{AreFurther, AreClosedItems, ArePairs}
 use Rattle.wave_tree.proofs.ParserSteps.{Reached, IsItemDue, left_at}

@@ -1,6 +1,6 @@
 use Rattle.std.proofs.Common.{[]}
-use Rattle.wave_syntax.proofs.Parameters.{error_handed}
-use Rattle.wave_syntax.specs.NodeParts.{IsOfParts}
+use Rattle.wave_grammar.proofs.Parameters.{error_handed}
+use Rattle.wave_grammar.specs.NodeParts.{IsOfParts}
 use Rattle.wave_tree.proofs.tokens.Tokens.label_parts.Goals as goal
 
 pub returns-in_err-with_key-clause-takes : goal.returns-in_err-with_key-clause-takes

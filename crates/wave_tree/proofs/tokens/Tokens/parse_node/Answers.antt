@@ -1,7 +1,7 @@
 use Rattle.std.proofs.Common.{inl, arith}
 use Rattle.wave_grammar.specs.PrefixAutomaton as due
 use Rattle.wave_lex.specs.declared.error.ParserErrorKind.TheVariants as because
-use Rattle.wave_syntax.proofs.Parameters.{error_handed}
+use Rattle.wave_grammar.proofs.Parameters.{error_handed}
 use Rattle.wave_tree.specs.ParsedNodes.{IsParsed}
 use Rattle.wave_tree.specs.Private.ParsedNodes.{IsParsedBehind}
 use Rattle.wave_tree.specs.Private.ParserState.{WantsOnly}

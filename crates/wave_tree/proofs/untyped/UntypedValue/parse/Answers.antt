@@ -7,7 +7,7 @@ use Rattle.wave_tree.specs.ParsedNodes.{IsTaken}
 use Rattle.wave_tree.specs.Untyped.{IsUntypedTaken}
 use Rattle.wave_tree.proofs.UntypedReading.{untyped_of, refused_spells_none, trailing_spells_none, tree_refusal_handed}
 use Rattle.wave_lex.specs.Errors.{Diagnostic, LiesInText}
-use Rattle.wave_syntax.proofs.Parameters.{error_handed}
+use Rattle.wave_grammar.proofs.Parameters.{error_handed}
 use Rattle.wave_tree.proofs.ErrorSpans.Trailing.{trailing_lies}
 use Rattle.wave_tree.proofs.untyped.UntypedValue.parse.Goals as goal
 

@@ -3,8 +3,8 @@ use denote.Text.{Utf8}
 use denote.Shadow.{shadow}
 use Rattle.std.specs.Fmt.{HasWritten, IsPlainFormatter}
 use Rattle.wave_wasm.specs.Commas.{joined}
-use Rattle.wave_syntax.specs.Shared.NodeTree.{depth, nodes_depth}
-use Rattle.wave_syntax.specs.NodeTree.{node_trees}
+use Rattle.wave_grammar.specs.Shared.NodeTree.{depth, nodes_depth}
+use Rattle.wave_grammar.specs.NodeTree.{node_trees}
 use Rattle.wave_tree.specs.NodeDisplay.{shown_at}
 use Rattle.wave_tree.specs.Private.NodeDisplay.{entries_at, AreEntriesOf}
 use Rattle.wave_wasm.proofs.JoinedTexts.{separator, left}

@@ -1,11 +1,11 @@
 use Rattle.std.proofs.Common.{◌≡◌, Option, IfErr, map, sym, subst}
 use Rattle.std.specs.Cow.{cow_str_bytes}
 use Rattle.wave_lex.specs.declared.error.ParserErrorKind.TheVariants.{WasmValueError}
-use Rattle.wave_syntax.specs.NodeTree.{NodeTree}
+use Rattle.wave_grammar.specs.NodeTree.{NodeTree}
 use Rattle.wave_tree.specs.UntypedCall.{Called}
 use Rattle.wave_lex.specs.Errors.{LiesInText}
-use Rattle.wave_syntax.specs.ErrorSpans.{IsCausedInParams}
-use Rattle.wave_syntax.proofs.ErrorSpans.Nodes.{all_at_text, all_at_cause}
+use Rattle.wave_grammar.specs.ErrorSpans.{IsCausedInParams}
+use Rattle.wave_grammar.proofs.ErrorSpans.Nodes.{all_at_text, all_at_cause}
 use Rattle.wave_tree.proofs.CallReading.{all_kind}
 use Rattle.wave_tree.proofs.untyped.call.UntypedFuncCall.to_wasm_params.Goals as goal
 

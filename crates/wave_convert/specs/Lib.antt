@@ -1,2 +1,0 @@
-pub mod RustValues
-pub mod Private

@@ -1,2 +1,0 @@
-pub mod OwnTypes
-pub mod TupleParts

@@ -1,9 +1,0 @@
-use Rattle.std.proofs.Common.{refl}
-use Rattle.wave_syntax.specs.NodeTree.{node}
-use Rattle.wave_syntax.specs.declared.form.NodeType.TheVariants as kind
-use Rattle.wave_syntax.specs.FlagParts.{flag_nodes}
-use Rattle.wave_decode.proofs.leaves.flags_at.Goals as goal
-
-pub returns-in-Some : goal.returns-in-Some
-returns-in-Some g c = λ o w source are.
-    c.around.ensures o w source (node kind.Flags c.args.span (flag_nodes c.args.flags)) (g.V.Type.WasmType.tree c.in-Some.payload.now) c.in-Some.ensures refl (c.flags_directly-made.ensures o w source are)

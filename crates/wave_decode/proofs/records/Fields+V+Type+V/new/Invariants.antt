@@ -1,6 +1,0 @@
-use Rattle.std.proofs.Common.{◌≡◌, map}
-use Rattle.wave_decode.proofs.RecordFields.{empty_field}
-use Rattle.wave_decode.proofs.records.Fields+V+Type+V.new.Given as goal
-
-abbrev pub invariant-loop-name : goal.invariant-loop-name
-invariant-loop-name g l = l.fields.items ≡ map empty_field l.yielded

@@ -1,8 +1,0 @@
-use Rattle.wave_example_lists.proofs.Lawful.{formed}
-use Rattle.wave_example_lists.proofs.bare.BareWasmValue.kind.Goals as goal
-
-pub returns-in-List-clause-formed : goal.returns-in-List-clause-formed
-returns-in-List-clause-formed c = formed c.args.self.now
-
-pub returns-in-Fixed-clause-formed : goal.returns-in-Fixed-clause-formed
-returns-in-Fixed-clause-formed c = formed c.args.self.now

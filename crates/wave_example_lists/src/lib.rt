@@ -1,4 +1,0 @@
-//! A foreign type of values, as an example for embedders.
-#![tactic(auto)]
-
-pub mod bare;

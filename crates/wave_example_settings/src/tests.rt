@@ -1,0 +1,10 @@
+//! Worked rows of foreign types and values, as those who embed the crates write them, and of the examples
+//! that are there to be copied.
+mod bare;
+mod calls;
+mod conversions;
+mod docs;
+mod explained;
+mod flags;
+mod readme;
+mod settings;

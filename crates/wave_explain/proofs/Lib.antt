@@ -1,4 +1,0 @@
-mod Lines
-mod Shown
-mod OneExplanation
-mod Examples

@@ -1,0 +1,5 @@
+use Rattle.wave_grammar.proofs.NodeMeaning.{nodes_read_as_tokens}
+use Rattle.wave_grammar.proofs.laws.nodes_read_as_their_tokens.Goals as goal
+
+pub returns : goal.returns
+returns c = nodes_read_as_tokens

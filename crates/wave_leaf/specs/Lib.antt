@@ -1,5 +1,0 @@
-pub mod Failures
-pub mod Keys
-pub mod Leaves
-pub mod PlainReading
-pub mod Reading

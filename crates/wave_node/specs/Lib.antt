@@ -1,2 +1,0 @@
-pub mod KeywordNodes
-pub mod Private

@@ -1,0 +1,23 @@
+use Rattle.std.proofs.Common.{◌∙◌, sym}
+use Rattle.wave_wasm.specs.Types as type
+use Rattle.wave_read.specs.Leaves.{leaf_node}
+use Rattle.wave_read.proofs.SimpleTypes.{read_at_kind, bool_at_kind, whole_at_kind}
+use Rattle.wave_read.proofs.NamedKinds.{none_word}
+use Rattle.wave_read.proofs.leaf.Leaf.read_simple.Goals as goal
+
+pub returns-in-Bool : goal.returns-in-Bool
+returns-in-Bool g c = λ due o w source token here.
+    bool_at_kind g.V.WasmValue.tree g.V.WasmValue.is_of g.V.WasmValue.is_full o w (g.V.Type.WasmType.tree c.args.ty.now) source (leaf_node c.args.self.now) c.read_bool.result (sym c.in-Bool.is ∙ c.kind-kind.ensures) (c.read_bool.ensures.answer o w source) c.read_bool.ensures.within
+
+pub returns-in-Char : goal.returns-in-Char
+returns-in-Char g c = λ due o w source token here.
+    read_at_kind g.V.WasmValue.tree g.V.WasmValue.is_of g.V.WasmValue.is_full o w type.char (g.V.Type.WasmType.tree c.args.ty.now) source (leaf_node c.args.self.now) c.read_char.result (sym c.in-Char.is ∙ c.kind-kind.ensures) (c.read_char.ensures o w source token here)
+
+pub returns-in-String : goal.returns-in-String
+returns-in-String g c = λ due o w source token here.
+    read_at_kind g.V.WasmValue.tree g.V.WasmValue.is_of g.V.WasmValue.is_full o w type.string (g.V.Type.WasmType.tree c.args.ty.now) source (leaf_node c.args.self.now) c.read_string.result (sym c.in-String.is ∙ c.kind-kind.ensures) (c.read_string.ensures o w source token here)
+
+pub returns-in-S8 : goal.returns-in-S8
+returns-in-S8 g c = λ due o w source token here.
+    let none = none_word c.kind-kind.result c.in-S8.is in
+    whole_at_kind g.V.WasmValue.tree g.V.WasmValue.is_of g.V.WasmValue.is_full o w (g.V.Type.WasmType.tree c.args.ty.now) c.kind-kind.result source (leaf_node c.args.self.now) c.read_whole.result c.kind-kind.ensures none.0 none.1 none.2 due (c.read_whole.ensures source here)

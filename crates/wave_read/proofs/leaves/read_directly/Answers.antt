@@ -1,0 +1,33 @@
+use Rattle.std.proofs.Common.{◌∙◌, sym, subst}
+use Rattle.wave_read.specs.Leaves.{leaf_node}
+use Rattle.wave_grammar.specs.NodeParts.{IsOneToken}
+use Rattle.wave_read.proofs.LeafForms.{leaf_refused, named_simple}
+use Rattle.wave_read.proofs.OptionReading.{other_option}
+use Rattle.wave_read.proofs.ResultReading.{other_result}
+use Rattle.wave_read.proofs.leaves.read_directly.Goals as goal
+
+pub returns-in-List : goal.returns-in-List
+returns-in-List g c = λ o w source token here.
+    leaf_refused g.V.WasmValue.tree g.V.WasmValue.is_of g.V.WasmValue.is_full o w (g.V.Type.WasmType.tree c.args.ty.now) c.kind.result c.kind.ensures source (leaf_node c.args.leaf.now) c.error.result c.error.ensures token c.in-List.is
+
+pub returns-in-OptionNone : goal.returns-in-OptionNone
+returns-in-OptionNone g c = λ o w source token here. c.read_none.ensures o w source
+
+pub returns-in_default : goal.returns-in_default
+returns-in_default g c = λ o w source token here.
+    other_option g.V.WasmValue.tree g.V.WasmValue.is_of g.V.WasmValue.is_full o w (g.V.Type.WasmType.tree c.args.ty.now) source (leaf_node c.args.leaf.now) c.error-in_default.result (sym c.kind.ensures ∙ c.in-Option.is)
+    (λ e. subst IsOneToken e token) c.in_default.not-OptionNone c.requires c.error-in_default.ensures
+
+pub returns-in-ResultOk : goal.returns-in-ResultOk
+returns-in-ResultOk g c = λ o w source token here. c.read_alone.ensures o w source
+
+pub returns-in-ResultErr : goal.returns-in-ResultErr
+returns-in-ResultErr g c = λ o w source token here. c.read_alone-in-ResultErr.ensures o w source
+
+pub returns-in_default-ty : goal.returns-in_default-ty
+returns-in_default-ty g c = λ o w source token here.
+    other_result g.V.WasmValue.tree g.V.WasmValue.is_of g.V.WasmValue.is_full o w (g.V.Type.WasmType.tree c.args.ty.now) source (leaf_node c.args.leaf.now) c.error-in_default-ty.result (sym c.kind.ensures ∙ c.in-Result.is)
+    c.in_default-ty.not-ResultOk c.in_default-ty.not-ResultErr c.requires c.error-in_default-ty.ensures
+
+pub returns-in-Bool : goal.returns-in-Bool
+returns-in-Bool g c = c.read_simple.ensures (named_simple (g.V.Type.WasmType.tree c.args.ty.now) c.kind.result c.kind.ensures c.in-Bool.is)

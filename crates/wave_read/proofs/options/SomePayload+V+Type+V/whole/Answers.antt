@@ -1,0 +1,25 @@
+use Rattle.wave_grammar.specs.FaultOrder.{in_text}
+use Rattle.std.proofs.Common.{inl, sym, ◌∙◌, ap, subst, Option, Some, Result}
+use Rattle.wave_wasm.specs.Types.{TypeTree}
+use Rattle.wave_lex.specs.Errors.{Diagnostic}
+use Rattle.wave_grammar.specs.NodeTree.{node, node_trees}
+use Rattle.wave_grammar.specs.declared.form.NodeType.TheVariants as node_type
+use Rattle.wave_read.specs.Reading.{IsReadAs}
+use Rattle.wave_read.specs.Payloads.{IsReadPayload}
+use Rattle.wave_read.proofs.Kept.{same_or_memory}
+use Rattle.wave_read.proofs.OptionReading.{some_read, some_refused}
+use Rattle.wave_read.proofs.options.SomePayload+V+Type+V.whole.Goals as goal
+
+pub returns-in-Some-Ok : goal.returns-in-Some-Ok
+returns-in-Some-Ok g c = λ w T source children parts.
+    let P = g.V.Type.WasmType.tree c.args.self.due.now in
+    subst (λ (U : TypeTree). IsReadAs g.V.WasmValue.tree g.V.WasmValue.is_of g.V.WasmValue.is_full in_text w U source (node node_type.OptionSome c.args.span (node_trees children)) c.or_error_at.result) (sym parts.ty)
+    (some_read g.V.WasmValue.tree g.V.WasmValue.is_of g.V.WasmValue.is_full in_text w (g.V.Type.WasmType.tree c.args.self.ty.now) P source c.args.span children c.in-Some-Ok.val c.make_option.result c.or_error_at.result (sym parts.ty ∙ parts.due)
+    (subst (λ (o : Option (Result g.row.V.Denot Diagnostic)). IsReadPayload g.V.WasmValue.tree g.V.WasmValue.is_of g.V.WasmValue.is_full w (Some P) source children o) (c.in-Some-Ok.is ∙ ap Some c.in-Some-Ok.field-0-is) parts.read) c.make_option.ensures.made c.make_option.ensures.full c.or_error_at.ensures)
+
+pub returns-in-Some-Err : goal.returns-in-Some-Err
+returns-in-Some-Err g c = λ w T source children parts.
+    let P = g.V.Type.WasmType.tree c.args.self.due.now in
+    same_or_memory g.V.WasmValue.tree g.V.WasmValue.is_of g.V.WasmValue.is_full in_text w T source (node node_type.OptionSome c.args.span (node_trees children)) c.in-Some-Err.failure c.into_error.result
+    (some_refused g.V.WasmValue.tree g.V.WasmValue.is_of g.V.WasmValue.is_full in_text w T P source c.args.span children c.in-Some-Err.failure parts.due g.met.V.WasmValue.full_parts
+    (subst (λ (o : Option (Result g.row.V.Denot Diagnostic)). IsReadPayload g.V.WasmValue.tree g.V.WasmValue.is_of g.V.WasmValue.is_full w (Some P) source children o) (c.in-Some-Err.is ∙ ap Some c.in-Some-Err.field-0-is) parts.read)) (inl c.into_error.ensures)

@@ -1,0 +1,17 @@
+pub mod CaseParts
+pub mod Faults
+pub mod Flat
+pub mod KeptParts
+pub mod ListParts
+pub mod MapParts
+pub mod NamedFlags
+pub mod PartSteps
+pub mod PartsOfKinds
+pub mod Payloads
+pub mod RecordParts
+pub mod TupleParts
+pub mod Failures
+pub mod Keys
+pub mod Leaves
+pub mod PlainReading
+pub mod Reading

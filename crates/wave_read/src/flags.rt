@@ -1,0 +1,109 @@
+//! Flags, read at their types.
+ghost use Rattle.std.specs.Prelude.{ℕ, List, ◌≡◌, IfOk, IfErr};
+ghost use Rattle.wave_wasm.specs.Types.{kind_of, flags_names};
+ghost use Rattle.wave_wasm.specs.Names.{AreAllOf, AreDistinct, found_in};
+ghost use Rattle.wave_wasm.specs.Borrowed.{texts};
+ghost use Rattle.wave_wasm.specs.ValueErrors.{unknown_case};
+ghost use Rattle.wave_grammar.specs.FaultOrder.{Order};
+ghost use Rattle.wave_grammar.specs.NodeTree.{NodeTree, node, no_nodes, children_of};
+ghost use Rattle.wave_grammar.specs.declared.form.NodeType.TheVariants as node_type;
+ghost use Rattle.wave_grammar.specs.NodeFlags.{AreFlags, names_at};
+ghost use Rattle.wave_read.specs.Reading.{IsReadAs};
+ghost use Rattle.wave_read.specs.NamedFlags.{flag_names, IsReadOrTold, IsTold, TellsCause, TellsUnknown, IsReadOfFlags};
+
+use crate::fault::{Fault, caused};
+use std::alloc::Global;
+use std::collections::BTreeMap;
+use wave_lex::error::{ParserError, ParserErrorKind};
+use wave_lex::lex::Span;
+use wave_wasm::wasm::{WasmType, WasmTypeKind, WasmValue, WasmValueError};
+
+/// The value of the flags that stand here. A flag that the type doesn't name is `UnknownCase`.
+pub(crate) fn read_flags<V: WasmValue>(
+    alloc: Global,
+    ty: &V::Type,
+    span: Span,
+    flags: BTreeMap<&str, Span>,
+) -> Result<V, ParserError>
+    requires { kind_of (V.Type.tree ty.now) ≡ WasmTypeKind.Flags }
+    ensures { IsReadOfFlags V.tree V.is_of V.is_full (V.Type.tree ty.now) span flags.entry result }
+{
+    told(read_names(alloc, ty, flags), span)
+}
+
+/// The value of no flags, where `{}` stands here.
+pub(crate) fn read_no_flags<V: WasmValue>(
+    alloc: Global,
+    ty: &V::Type,
+    span: Span,
+) -> Result<V, ParserError>
+    requires { kind_of (V.Type.tree ty.now) ≡ WasmTypeKind.Flags }
+    ensures { (o w : Order) (source : List ℕ) → IsReadAs V.tree V.is_of V.is_full o w (V.Type.tree ty.now) source (node node_type.EmptySet span no_nodes) result }
+{
+    told(read_names(alloc, ty, BTreeMap::new(alloc)), span)
+}
+
+/// The value of the flags of these names.
+fn read_names<V: WasmValue>(
+    alloc: Global,
+    ty: &V::Type,
+    flags: BTreeMap<&str, Span>,
+) -> Result<V, Fault>
+    requires { kind_of (V.Type.tree ty.now) ≡ WasmTypeKind.Flags }
+    ensures { (source : List ℕ) (n : NodeTree) → AreFlags n → names_at source (children_of n) ≡ flag_names flags.entry
+        → IsReadOrTold V.tree V.is_of V.is_full (V.Type.tree ty.now) source n result }
+{
+    let picked = picked(alloc, ty, &flags)?;
+    match V::make_flags(alloc, ty, picked.as_slice()) {
+        Ok(val) => Ok(val),
+        Err(cause) => Err(caused(alloc, cause)),
+    }
+}
+
+/// Those of the type's names that flags have, in the type's order; each flag has one of the names.
+fn picked<'name, T: WasmType>(
+    alloc: Global,
+    ty: &T,
+    flags: &BTreeMap<&'name str, Span>,
+) -> Result<Vec<&'name str>, Fault>
+    ensures known { IfOk result (λ _. AreAllOf (flags_names (T.tree ty.now)) (flag_names flags.now)) }
+    ensures picked { IfOk result (λ picked. AreDistinct (flags_names (T.tree ty.now))
+        → texts picked.items ≡ found_in (flag_names flags.now) (flags_names (T.tree ty.now))) }
+    ensures refused { IfErr result (TellsUnknown (flags_names (T.tree ty.now)) (flag_names flags.now)) }
+{
+    let mut placed = BTreeMap::new(alloc);
+    for name in flags.keys() {
+        let place = match ty.flag_place(alloc, *name) {
+            Ok(Some(place)) => place,
+            Ok(None) => return Err(unknown(alloc, *name)),
+            Err(_) => return Err(Fault::Kind(ParserErrorKind::OutOfMemory)),
+        };
+        if placed.insert(place, *name).is_err() {
+            return Err(Fault::Kind(ParserErrorKind::OutOfMemory));
+        }
+    }
+    match placed.into_values().collect(alloc) {
+        Ok(picked) => Ok(picked),
+        Err(_) => Err(Fault::Kind(ParserErrorKind::OutOfMemory)),
+    }
+}
+
+/// The fault of a flag that the type doesn't name.
+fn unknown(alloc: Global, name: &str) -> Fault
+    ensures { TellsCause (unknown_case name.now) result }
+{
+    match String::from_str(alloc, name) {
+        Ok(name) => caused(alloc, WasmValueError::UnknownCase(name)),
+        Err(_) => Fault::Kind(ParserErrorKind::OutOfMemory),
+    }
+}
+
+/// What was read, or its fault as one of the whole value, which stands here.
+fn told<V>(read: Result<V, Fault>, span: Span) -> Result<V, ParserError>
+    ensures { IsTold read span result }
+{
+    match read {
+        Ok(val) => Ok(val),
+        Err(fault) => Err(fault.tell(span)),
+    }
+}

@@ -1,0 +1,115 @@
+//! Values that stand for an option or a result of themselves.
+ghost use Rattle.std.specs.Prelude.{ℕ, List, ◌≡◌};
+ghost use Rattle.wave_wasm.specs.Types.{TypeTree};
+ghost use Rattle.wave_wasm.specs.Borrowed.{shown};
+ghost use Rattle.wave_grammar.specs.FaultOrder.{Order};
+ghost use Rattle.wave_grammar.specs.NodeTree.{NodeTree, type_of, place_of};
+ghost use Rattle.wave_read.specs.Reading.{IsReadAs};
+ghost use Rattle.wave_read.specs.Flat.{IsFlatAt, GivesFlatAt, IsAround};
+
+use crate::fault::or_error_at;
+use std::alloc::Global;
+use wave_grammar::form::NodeType;
+use wave_grammar::typed::flat_type;
+use wave_lex::error::{ParserError, ParserErrorKind};
+use wave_lex::lex::Span;
+use wave_wasm::wasm::{WasmType, WasmTypeKind, WasmValue};
+
+/// The type of the payload that a node of this type stands for alone, where the type is an option or
+/// a result.
+pub(crate) fn flat_payload<'ty, T: WasmType>(ty: &'ty T, node: NodeType) -> Option<&'ty T>
+    ensures { GivesFlatAt (T.tree ty.now) node (shown T.tree result) }
+{
+    match ty.kind() {
+        WasmTypeKind::Option => match node {
+            NodeType::OptionSome | NodeType::OptionNone => None,
+            _ => flat_type(ty.option_some_type()),
+        },
+        WasmTypeKind::Result => match node {
+            NodeType::ResultOk | NodeType::ResultErr => None,
+            _ => match ty.result_types() {
+                Some((ok, _)) => flat_type(ok),
+                None => None,
+            },
+        },
+        WasmTypeKind::Bool
+        | WasmTypeKind::S8
+        | WasmTypeKind::S16
+        | WasmTypeKind::S32
+        | WasmTypeKind::S64
+        | WasmTypeKind::U8
+        | WasmTypeKind::U16
+        | WasmTypeKind::U32
+        | WasmTypeKind::U64
+        | WasmTypeKind::F32
+        | WasmTypeKind::F64
+        | WasmTypeKind::Char
+        | WasmTypeKind::String
+        | WasmTypeKind::List
+        | WasmTypeKind::FixedLengthList
+        | WasmTypeKind::Record
+        | WasmTypeKind::Tuple
+        | WasmTypeKind::Variant
+        | WasmTypeKind::Enum
+        | WasmTypeKind::Flags
+        | WasmTypeKind::Map
+        | WasmTypeKind::Unsupported => None,
+    }
+}
+
+/// The type whose parts a node of this type has, and after the option or result that is around it, where the
+/// type is one that a flat payload stands for.
+pub(crate) fn type_of_parts<'ty, T: WasmType>(
+    ty: &'ty T,
+    node: NodeType,
+) -> (Option<&'ty T>, &'ty T)
+    ensures { IsAround T.tree (T.tree ty.now) node result.0 result.1 }
+{
+    match flat_payload(ty, node) {
+        Some(payload) => (Some(ty), payload),
+        None => (None, ty),
+    }
+}
+
+/// The option or the result around a flat payload that stands there.
+#[inline(never)]
+pub(crate) fn around<V: WasmValue>(
+    alloc: Global,
+    ty: &V::Type,
+    span: Span,
+    made: Result<V, ParserError>,
+) -> Result<V, ParserError>
+    ensures { (o w : Order) (source : List ℕ) (n : NodeTree) (U : TypeTree) → IsFlatAt (V.Type.tree ty.now) (type_of n) U → place_of n ≡ span
+        → IsReadAs V.tree V.is_of V.is_full o w U source n made → IsReadAs V.tree V.is_of V.is_full o w (V.Type.tree ty.now) source n result }
+{
+    let val = match made {
+        Ok(val) => val,
+        Err(error) => return Err(error),
+    };
+    match ty.kind() {
+        WasmTypeKind::Option => or_error_at(span, V::make_option(alloc, ty, Some(val))),
+        WasmTypeKind::Result => or_error_at(span, V::make_result(alloc, ty, Ok(Some(val)))),
+        WasmTypeKind::Bool
+        | WasmTypeKind::S8
+        | WasmTypeKind::S16
+        | WasmTypeKind::S32
+        | WasmTypeKind::S64
+        | WasmTypeKind::U8
+        | WasmTypeKind::U16
+        | WasmTypeKind::U32
+        | WasmTypeKind::U64
+        | WasmTypeKind::F32
+        | WasmTypeKind::F64
+        | WasmTypeKind::Char
+        | WasmTypeKind::String
+        | WasmTypeKind::List
+        | WasmTypeKind::FixedLengthList
+        | WasmTypeKind::Record
+        | WasmTypeKind::Tuple
+        | WasmTypeKind::Variant
+        | WasmTypeKind::Enum
+        | WasmTypeKind::Flags
+        | WasmTypeKind::Map
+        | WasmTypeKind::Unsupported => Err(ParserError::new(ParserErrorKind::InvalidType, span)),
+    }
+}

@@ -1,0 +1,106 @@
+//! Keys of maps, each of one token.
+ghost use Rattle.std.specs.Prelude.{ℕ, List};
+ghost use Rattle.wave_wasm.specs.Types as type;
+ghost use Rattle.wave_grammar.specs.Shared.NodeAccessors.{GivesBoolKey};
+ghost use Rattle.wave_read.specs.Keys.{IsDetailed, IsKeyReadOf, IsMapKeyReadOf, RefusesInKey};
+ghost use Rattle.wave_read.specs.Leaves.{leaf_node, IsLeafIn};
+
+use crate::leaf::Leaf;
+use std::alloc::Global;
+use wave_grammar::form::NodeType;
+use wave_lex::error::{ParserError, ParserErrorKind};
+use wave_wasm::wasm::{DisplayType, WasmType, WasmTypeKind, WasmValue};
+
+impl<'src> Leaf<'src> {
+    /// A key of a map. Of a label that spells none the refusal says what it should be.
+    pub fn read_key<V: WasmValue>(&self, alloc: Global, ty: &V::Type) -> Result<V, ParserError>
+        ensures answer { IsMapKeyReadOf V.tree V.is_of V.is_full (V.Type.tree ty.now) self.now result }
+        ensures within { RefusesInKey self.now result }
+    {
+        match self.read_plain_key(alloc, ty) {
+            Ok(key) => Ok(key),
+            Err(error) => Err(self.with_key_detail(alloc, ty, error)),
+        }
+    }
+
+    /// The refusal of a key; where a label is none of the type, with a detail that says which key is
+    /// due.
+    fn with_key_detail<T: WasmType>(&self, alloc: Global, ty: &T, error: ParserError) -> ParserError
+        ensures { IsDetailed (T.tree ty.now) self.now error result }
+    {
+        if error.kind() != ParserErrorKind::InvalidType
+            || error.cause().is_some()
+            || self.ty != NodeType::Label
+        {
+            return error;
+        }
+        match format!(in alloc;
+            "expected a {} key, found a label",
+            DisplayType::new(alloc, ty)
+        ) {
+            Ok(detail) => ParserError::with_detail(error.kind(), error.span(), detail),
+            Err(_) => self.error(ParserErrorKind::OutOfMemory),
+        }
+    }
+
+    /// A key that is read by itself: the refusal of a label has no detail.
+    pub fn read_plain_key<V: WasmValue>(
+        &self,
+        alloc: Global,
+        ty: &V::Type,
+    ) -> Result<V, ParserError>
+        ensures answer { IsKeyReadOf V.tree V.is_of V.is_full (V.Type.tree ty.now) self.now result }
+        ensures within { RefusesInKey self.now result }
+    {
+        let kind = ty.kind();
+        match kind {
+            WasmTypeKind::Bool => self.or_error_here(V::make_bool(alloc, self.as_bool_key()?)),
+            WasmTypeKind::Char => self.or_error_here(V::make_char(alloc, self.as_char()?)),
+            WasmTypeKind::String => self.read_string_key(alloc),
+            WasmTypeKind::S8
+            | WasmTypeKind::S16
+            | WasmTypeKind::S32
+            | WasmTypeKind::S64
+            | WasmTypeKind::U8
+            | WasmTypeKind::U16
+            | WasmTypeKind::U32
+            | WasmTypeKind::U64
+            | WasmTypeKind::F32
+            | WasmTypeKind::F64
+            | WasmTypeKind::List
+            | WasmTypeKind::FixedLengthList
+            | WasmTypeKind::Record
+            | WasmTypeKind::Tuple
+            | WasmTypeKind::Variant
+            | WasmTypeKind::Enum
+            | WasmTypeKind::Option
+            | WasmTypeKind::Result
+            | WasmTypeKind::Flags
+            | WasmTypeKind::Map
+            | WasmTypeKind::Unsupported => self.read_whole(alloc, kind),
+        }
+    }
+
+    /// A key of a map that is a string.
+    fn read_string_key<V: WasmValue>(&self, alloc: Global) -> Result<V, ParserError>
+        ensures answer { IsKeyReadOf V.tree V.is_of V.is_full (type.simple type.string) self.now result }
+        ensures within { RefusesInKey self.now result }
+    {
+        let text = self.as_str(alloc)?;
+        self.made_string(alloc, text)
+    }
+
+    /// The bool, at a key whose label is `true` or `false`; else `InvalidType`.
+    fn as_bool_key(&self) -> Result<bool, ParserError>
+        ensures { (source : List ℕ) → IsLeafIn source self.now → GivesBoolKey source (leaf_node self.now) result }
+    {
+        if self.ty != NodeType::Label {
+            return Err(self.error(ParserErrorKind::InvalidType));
+        }
+        match self.text {
+            "true" => Ok(true),
+            "false" => Ok(false),
+            _ => Err(self.error(ParserErrorKind::InvalidType)),
+        }
+    }
+}

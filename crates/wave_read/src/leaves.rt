@@ -1,0 +1,160 @@
+//! Values without parts: of one token, or flags.
+ghost use Rattle.std.specs.Prelude.{ℕ, List, ◌≡◌, ◌≢◌};
+ghost use Rattle.wave_wasm.specs.Types.{TypeTree, kind_of};
+ghost use Rattle.wave_grammar.specs.FaultOrder.{Order};
+ghost use Rattle.wave_grammar.specs.NodeTree.{NodeTree, type_of, place_of};
+ghost use Rattle.wave_grammar.specs.declared.form.NodeType.TheVariants as node_type;
+ghost use Rattle.wave_read.specs.Flat.{IsFlatAt};
+ghost use Rattle.wave_read.specs.NamedFlags.{IsReadOfFlags};
+ghost use Rattle.wave_read.specs.Reading.{IsReadAs, IsReadOfLeaf};
+
+use crate::enums::read_enum;
+use crate::flags::read_flags;
+use crate::flat::{around, flat_payload};
+use crate::leaf::Leaf;
+use crate::options::read_none;
+use crate::parts::refuse_simple;
+use crate::results::read_alone;
+use crate::variants::read_case;
+use std::alloc::Global;
+use std::collections::BTreeMap;
+use wave_grammar::form::NodeType;
+use wave_lex::error::{ParserError, ParserErrorKind};
+use wave_lex::lex::Span;
+use wave_wasm::wasm::{WasmType, WasmTypeKind, WasmValue};
+
+/// The value of one token at the type.
+#[inline(never)]
+pub(crate) fn read_leaf<V: WasmValue>(
+    leaf: &Leaf<'_>,
+    alloc: Global,
+    ty: &V::Type,
+) -> Result<V, ParserError>
+    ensures { IsReadOfLeaf V.tree V.is_of V.is_full (V.Type.tree ty.now) leaf.now result }
+{
+    match flat_payload(ty, leaf.ty) {
+        Some(payload) => {
+            let made = read_directly::<V>(leaf, alloc, payload);
+            around(alloc, ty, leaf.span.start..leaf.span.end, made)
+        }
+        None => read_directly(leaf, alloc, ty),
+    }
+}
+
+/// The value of one token at the type, which is none of a flat payload.
+#[inline(always)]
+fn read_directly<V: WasmValue>(
+    leaf: &Leaf<'_>,
+    alloc: Global,
+    ty: &V::Type,
+) -> Result<V, ParserError>
+    requires { (U : TypeTree) → IsFlatAt (V.Type.tree ty.now) leaf.now.ty U → ⊥ }
+    ensures { IsReadOfLeaf V.tree V.is_of V.is_full (V.Type.tree ty.now) leaf.now result }
+{
+    match ty.kind() {
+        WasmTypeKind::List
+        | WasmTypeKind::FixedLengthList
+        | WasmTypeKind::Tuple
+        | WasmTypeKind::Record
+        | WasmTypeKind::Map
+        | WasmTypeKind::Flags => Err(leaf.error(ParserErrorKind::InvalidType)),
+        WasmTypeKind::Variant => read_case(leaf, alloc, ty),
+        WasmTypeKind::Enum => read_enum(leaf, alloc, ty),
+        WasmTypeKind::Option => match leaf.ty {
+            NodeType::OptionNone => read_none(leaf, alloc, ty),
+            _ => Err(leaf.error(ParserErrorKind::InvalidType)),
+        },
+        WasmTypeKind::Result => match leaf.ty {
+            NodeType::ResultOk => read_alone(leaf, alloc, ty, true),
+            NodeType::ResultErr => read_alone(leaf, alloc, ty, false),
+            _ => Err(leaf.error(ParserErrorKind::InvalidType)),
+        },
+        WasmTypeKind::Bool
+        | WasmTypeKind::S8
+        | WasmTypeKind::S16
+        | WasmTypeKind::S32
+        | WasmTypeKind::S64
+        | WasmTypeKind::U8
+        | WasmTypeKind::U16
+        | WasmTypeKind::U32
+        | WasmTypeKind::U64
+        | WasmTypeKind::F32
+        | WasmTypeKind::F64
+        | WasmTypeKind::Char
+        | WasmTypeKind::String
+        | WasmTypeKind::Unsupported => leaf.read_simple(alloc, ty),
+    }
+}
+
+/// The value of these flags at the type.
+pub(crate) fn flags_at<V: WasmValue>(
+    alloc: Global,
+    ty: &V::Type,
+    span: Span,
+    flags: BTreeMap<&str, Span>,
+) -> Result<V, ParserError>
+    ensures { IsReadOfFlags V.tree V.is_of V.is_full (V.Type.tree ty.now) span flags.entry result }
+{
+    match flat_payload(ty, NodeType::Flags) {
+        Some(payload) => {
+            let made = flags_directly::<V>(alloc, payload, span.start..span.end, flags);
+            around(alloc, ty, span, made)
+        }
+        None => flags_directly(alloc, ty, span, flags),
+    }
+}
+
+/// The value of these flags at the type, which is none of a flat payload.
+fn flags_directly<V: WasmValue>(
+    alloc: Global,
+    ty: &V::Type,
+    span: Span,
+    flags: BTreeMap<&str, Span>,
+) -> Result<V, ParserError>
+    requires { (U : TypeTree) → IsFlatAt (V.Type.tree ty.now) node_type.Flags U → ⊥ }
+    ensures { IsReadOfFlags V.tree V.is_of V.is_full (V.Type.tree ty.now) span flags.entry result }
+{
+    if ty.kind() == WasmTypeKind::Flags {
+        return read_flags(alloc, ty, span, flags);
+    }
+    refuse_flags(alloc, ty, span)
+}
+
+/// What is read of flags that stand here at a type of another kind, which is none of a flat payload.
+pub(crate) fn refuse_flags<V: WasmValue>(
+    alloc: Global,
+    ty: &V::Type,
+    span: Span,
+) -> Result<V, ParserError>
+    requires kind { kind_of (V.Type.tree ty.now) ≢ WasmTypeKind.Flags }
+    requires flat { (U : TypeTree) → IsFlatAt (V.Type.tree ty.now) node_type.Flags U → ⊥ }
+    ensures { (o w : Order) (source : List ℕ) (n : NodeTree) → type_of n ≡ node_type.Flags → place_of n ≡ span
+        → IsReadAs V.tree V.is_of V.is_full o w (V.Type.tree ty.now) source n result }
+{
+    match ty.kind() {
+        WasmTypeKind::Flags
+        | WasmTypeKind::List
+        | WasmTypeKind::FixedLengthList
+        | WasmTypeKind::Tuple
+        | WasmTypeKind::Record
+        | WasmTypeKind::Map
+        | WasmTypeKind::Variant
+        | WasmTypeKind::Enum
+        | WasmTypeKind::Option
+        | WasmTypeKind::Result => Err(ParserError::new(ParserErrorKind::InvalidType, span)),
+        WasmTypeKind::Bool
+        | WasmTypeKind::S8
+        | WasmTypeKind::S16
+        | WasmTypeKind::S32
+        | WasmTypeKind::S64
+        | WasmTypeKind::U8
+        | WasmTypeKind::U16
+        | WasmTypeKind::U32
+        | WasmTypeKind::U64
+        | WasmTypeKind::F32
+        | WasmTypeKind::F64
+        | WasmTypeKind::Char
+        | WasmTypeKind::String
+        | WasmTypeKind::Unsupported => refuse_simple(alloc, ty, span),
+    }
+}

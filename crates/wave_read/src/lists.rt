@@ -1,0 +1,125 @@
+//! Lists and fixed-length lists, read at their types.
+ghost use Rattle.std.specs.Prelude.{ℕ, List, [], ◌≡◌, IfOk, IfErr, None};
+ghost use Rattle.wave_wasm.specs.Types.{kind_of};
+ghost use Rattle.wave_wasm.specs.ConstructorContracts.{IsOfListKind};
+ghost use Rattle.wave_grammar.specs.FaultOrder.{Order};
+ghost use Rattle.wave_grammar.specs.NodeTree.{NodeTrees, node};
+ghost use Rattle.wave_grammar.specs.Shared.TypedReading.{IsOfLength, IsOtherLength};
+ghost use Rattle.wave_read.specs.ListParts.{AreItems, element_due};
+ghost use Rattle.wave_read.specs.PartSteps.{AddsPart, IsWholeOf};
+
+use crate::failure::Failure;
+use crate::fault::or_error_at;
+use std::alloc::{AllocError, Global};
+use wave_grammar::form::NodeType;
+use wave_lex::error::ParserError;
+use wave_lex::lex::Span;
+use wave_wasm::wasm::{WasmType, WasmValue, WasmValueError};
+
+/// The items of a list so far. A fixed-length list of another number of items is refused for the
+/// number alone, so the refusal of an item is held until the end; the items after it are counted
+/// and not kept.
+#[derive(Drop)]
+pub struct Items<'ty, T, V> {
+    /// The type of the list.
+    ty: &'ty T,
+    /// The type of its items.
+    element: &'ty T,
+    /// The items that were read.
+    items: Vec<V>,
+    /// The refusal of the first item that was refused.
+    held: Option<Failure>,
+    /// The number of all items so far.
+    count: usize,
+}
+
+impl<'ty, V: WasmValue> Items<'ty, V::Type, V> {
+    /// No items, of a list of the type.
+    pub(crate) fn new(alloc: Global, ty: &'ty V::Type) -> Self
+        requires { IsOfListKind (kind_of (V.Type.tree ty.now)) }
+        ensures { (w : Order) (source : List ℕ) → AreItems V.Type.tree V.tree V.is_of V.is_full w (V.Type.tree ty.now) source [] result }
+    {
+        let element = ty.list_element_type().unwrap();
+        Items {
+            ty,
+            element,
+            items: Vec::new(alloc),
+            held: None,
+            count: 0,
+        }
+    }
+
+    /// The type of the item that comes next, where none was refused.
+    pub(crate) fn next(&self) -> Option<&'ty V::Type>
+        ensures { result ≡ element_due self.now }
+    {
+        if self.held.is_some() {
+            return None;
+        }
+        Some(self.element)
+    }
+
+    /// Adds an item, which was read at the type that is due.
+    #[inline(always)]
+    pub(crate) fn with_part(
+        &mut self,
+        alloc: Global,
+        made: Result<V, Failure>,
+    ) -> Result<(), AllocError>
+        ensures { IfOk result (λ _. AddsPart AreItems V.Type.tree V.tree V.is_of V.is_full NodeType.List element_due self.old made self.new None) }
+    {
+        match self.count.checked_add(1) {
+            Some(count) => self.count = count,
+            None => return Err(AllocError),
+        }
+        if self.held.is_some() {
+            return Ok(());
+        }
+        match made {
+            Ok(item) => {
+                self.items.reserve(1)?;
+                self.items.push_reserved(item);
+                Ok(())
+            }
+            Err(failure) => {
+                self.held = Some(failure);
+                Ok(())
+            }
+        }
+    }
+
+    /// The list of these items, which stands here.
+    pub(crate) fn whole(self, alloc: Global, span: Span) -> Result<V, ParserError>
+        ensures { IsWholeOf AreItems V.Type.tree V.tree V.is_of V.is_full NodeType.List self.entry span result }
+    {
+        let Items {
+            ty,
+            items,
+            held,
+            count,
+            ..
+        } = self;
+        check_length(ty, count, &span)?;
+        if let Some(failure) = held {
+            return Err(failure.into_error());
+        }
+        or_error_at(span, V::make_list(alloc, ty, items))
+    }
+}
+
+/// Refuses a list of `got` items, which stands here, where the type is a fixed-length list of another
+/// number.
+fn check_length<T: WasmType>(ty: &T, got: usize, span: &Span) -> Result<(), ParserError>
+    ensures fits { IfOk result (λ done. IsOfLength (T.tree ty.now) got) }
+    ensures other { IfErr result (λ e. (children : NodeTrees) → IsOtherLength (T.tree ty.now) got (node NodeType.List span.now children) e) }
+{
+    let want = match ty.list_length() {
+        Some(want) => want,
+        None => return Ok(()),
+    };
+    if got != want as usize {
+        let cause = WasmValueError::WrongNumberOfElements { want, got };
+        return Err(ParserError::with_cause(span.start..span.end, cause));
+    }
+    Ok(())
+}

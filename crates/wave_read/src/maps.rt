@@ -1,0 +1,119 @@
+//! Maps, whose keys and values are read in turn.
+ghost use Rattle.std.specs.Prelude.{ℕ, List, [], ◌≡◌, Ok, None, IfOk};
+ghost use Rattle.wave_wasm.specs.Types.{kind_of};
+ghost use Rattle.wave_grammar.specs.FaultOrder.{Order};
+ghost use Rattle.wave_grammar.specs.NodeTree.{node, no_nodes};
+ghost use Rattle.wave_read.specs.Reading.{IsReadAs};
+ghost use Rattle.wave_read.specs.MapParts.{AreEntries, value_type_due};
+ghost use Rattle.wave_read.specs.PartSteps.{AddsKey, AddsPart, IsWholeOf};
+
+use crate::failure::Failure;
+use crate::fault::Fault;
+use crate::leaf::Leaf;
+use std::alloc::{AllocError, Global};
+use wave_grammar::form::NodeType;
+use wave_grammar::typed::merged;
+use wave_lex::error::{ParserError, ParserErrorKind};
+use wave_lex::lex::Span;
+use wave_wasm::wasm::{WasmType, WasmTypeKind, WasmValue};
+
+/// The entries of a map so far, and the key of the next one where it was read.
+#[derive(Drop)]
+pub struct Entries<'ty, T, V> {
+    ty: &'ty T,
+    key_type: &'ty T,
+    value_type: &'ty T,
+    entries: Vec<(V, V)>,
+    key: Option<V>,
+}
+
+impl<'ty, V: WasmValue> Entries<'ty, V::Type, V> {
+    /// No entries of a map of the type.
+    pub(crate) fn new(alloc: Global, ty: &'ty V::Type) -> Self
+        requires { kind_of (V.Type.tree ty.now) ≡ WasmTypeKind.Map }
+        ensures { (w : Order) (source : List ℕ) → AreEntries V.Type.tree V.tree V.is_of V.is_full w (V.Type.tree ty.now) source [] result }
+    {
+        let (key_type, value_type) = ty.map_key_value_types().unwrap();
+        Entries {
+            ty,
+            key_type,
+            value_type,
+            entries: Vec::new(alloc),
+            key: None,
+        }
+    }
+
+    /// The type of the value that comes next, after a key.
+    pub(crate) fn next(&self) -> Option<&'ty V::Type>
+        ensures { result ≡ value_type_due self.now }
+    {
+        if self.key.is_none() {
+            return None;
+        }
+        Some(self.value_type)
+    }
+
+    /// Adds a key, which is of this type and text; or what is wrong with the map.
+    pub(crate) fn with_key(
+        &mut self,
+        alloc: Global,
+        ty: NodeType,
+        span: Span,
+        text: &str,
+    ) -> Result<Option<Fault>, AllocError>
+        ensures { IfOk result (AddsKey AreEntries V.Type.tree V.tree V.is_of V.is_full NodeType.TupleSet self.old ty span text.now self.new) }
+    {
+        let leaf = Leaf { ty, span, text };
+        match leaf.read_key::<V>(alloc, self.key_type) {
+            Ok(key) => {
+                drop(self.key.replace(key));
+                Ok(None)
+            }
+            Err(error) => {
+                let failure = Failure::told(alloc, error)?;
+                Ok(Some(Fault::Told(failure)))
+            }
+        }
+    }
+
+    /// Adds the value after the last key, which was read at the type that is due.
+    pub(crate) fn with_part(&mut self, val: V) -> Result<(), AllocError>
+        ensures { IfOk result (λ _. AddsPart AreEntries V.Type.tree V.tree V.is_of V.is_full NodeType.TupleSet value_type_due self.old (Ok val) self.new None) }
+    {
+        if let Some(key) = self.key.take() {
+            self.entries.reserve(1)?;
+            self.entries.push_reserved((key, val));
+        }
+        Ok(())
+    }
+
+    /// The map of the entries, which stands here, each key once.
+    pub(crate) fn whole(self, alloc: Global, span: Span) -> Result<V, ParserError>
+        ensures { IsWholeOf AreEntries V.Type.tree V.tree V.is_of V.is_full NodeType.TupleSet self.entry span result }
+    {
+        let Entries { ty, entries, .. } = self;
+        let entries = match merged(alloc, entries) {
+            Ok(entries) => entries,
+            Err(_) => return Err(ParserError::new(ParserErrorKind::OutOfMemory, span)),
+        };
+        match V::make_map(alloc, ty, entries) {
+            Ok(val) => Ok(val),
+            Err(cause) => Err(ParserError::with_cause(span, cause)),
+        }
+    }
+}
+
+/// The map of `{}`, which stands here.
+pub(crate) fn read_no_entries<V: WasmValue>(
+    alloc: Global,
+    ty: &V::Type,
+    span: Span,
+) -> Result<V, ParserError>
+    requires { kind_of (V.Type.tree ty.now) ≡ WasmTypeKind.Map }
+    ensures { (o w : Order) (source : List ℕ) → IsReadAs V.tree V.is_of V.is_full o w (V.Type.tree ty.now) source (node NodeType.EmptySet span no_nodes) result }
+{
+    match V::make_map(alloc, ty, Vec::new(alloc)) {
+        Ok(val) => Ok(val),
+        Err(cause) => Err(ParserError::with_cause(span, cause)),
+    }
+}

@@ -1,0 +1,87 @@
+//! Options, read at their types.
+ghost use Rattle.std.specs.Prelude.{ℕ, List, [], ◌≡◌, IfOk, None};
+ghost use Rattle.wave_wasm.specs.Types.{kind_of};
+ghost use Rattle.wave_grammar.specs.FaultOrder.{Order};
+ghost use Rattle.wave_grammar.specs.declared.form.NodeType.TheVariants as node_type;
+ghost use Rattle.wave_read.specs.Leaves.{leaf_node};
+ghost use Rattle.wave_read.specs.Reading.{IsReadAs};
+ghost use Rattle.wave_read.specs.Payloads.{AreOfSome, some_due};
+ghost use Rattle.wave_read.specs.PartSteps.{AddsPart, IsWholeOf};
+
+use crate::failure::Failure;
+use crate::fault::or_error_at;
+use crate::leaf::Leaf;
+use std::alloc::{AllocError, Global};
+use wave_lex::error::{ParserError, ParserErrorKind};
+use wave_lex::lex::Span;
+use wave_wasm::wasm::{WasmType, WasmTypeKind, WasmValue};
+
+/// What has been read of `some` of a payload.
+#[derive(Drop)]
+pub struct SomePayload<'ty, T, V> {
+    /// The type of the option.
+    ty: &'ty T,
+    /// The type of the payload.
+    due: &'ty T,
+    /// The payload or its refusal, once it was read.
+    made: Option<Result<V, Failure>>,
+}
+
+impl<'ty, V: WasmValue> SomePayload<'ty, V::Type, V> {
+    /// Nothing yet, of a value of the type.
+    pub(crate) fn new(ty: &'ty V::Type) -> Self
+        requires { kind_of (V.Type.tree ty.now) ≡ WasmTypeKind.Option }
+        ensures { (w : Order) (source : List ℕ) → AreOfSome V.Type.tree V.tree V.is_of V.is_full w (V.Type.tree ty.now) source [] result }
+    {
+        SomePayload {
+            ty,
+            due: ty.option_some_type().unwrap(),
+            made: None,
+        }
+    }
+
+    /// The type of the payload.
+    pub(crate) fn next(&self) -> Option<&'ty V::Type>
+        ensures { result ≡ some_due self.now }
+    {
+        Some(self.due)
+    }
+
+    /// The payload was read, or refused.
+    #[inline(never)]
+    pub(crate) fn with_part(
+        &mut self,
+        alloc: Global,
+        made: Result<V, Failure>,
+    ) -> Result<(), AllocError>
+        ensures { IfOk result (λ _. AddsPart AreOfSome V.Type.tree V.tree V.is_of V.is_full node_type.OptionSome some_due self.old made self.new None) }
+    {
+        self.made = Some(made);
+        Ok(())
+    }
+
+    /// `some` of the payload that was read, at this place.
+    pub(crate) fn whole(self, alloc: Global, span: Span) -> Result<V, ParserError>
+        ensures { IsWholeOf AreOfSome V.Type.tree V.tree V.is_of V.is_full node_type.OptionSome self.entry span result }
+    {
+        let SomePayload { ty, due: _, made } = self;
+        match made {
+            Some(Ok(val)) => or_error_at(span, V::make_option(alloc, ty, Some(val))),
+            Some(Err(failure)) => Err(failure.into_error()),
+            None => Err(ParserError::new(ParserErrorKind::InvalidType, span)),
+        }
+    }
+}
+
+/// `none`.
+pub(crate) fn read_none<V: WasmValue>(
+    leaf: &Leaf<'_>,
+    alloc: Global,
+    ty: &V::Type,
+) -> Result<V, ParserError>
+    requires form { leaf.now.ty ≡ node_type.OptionNone }
+    requires kind { kind_of (V.Type.tree ty.now) ≡ WasmTypeKind.Option }
+    ensures { (o w : Order) (source : List ℕ) → IsReadAs V.tree V.is_of V.is_full o w (V.Type.tree ty.now) source (leaf_node leaf.now) result }
+{
+    leaf.or_error_here(V::make_option(alloc, ty, None))
+}

@@ -1,0 +1,406 @@
+//! The parts of a value of any type.
+ghost use Rattle.std.specs.Prelude.{ℕ, ◌≡◌, ◌++◌, List, [], ◌∷◌, None, Err, IfOk, IfErr, IsOk, MatchOption};
+ghost use Rattle.wave_wasm.specs.Types.{TypeTree, kind_of};
+ghost use Rattle.wave_wasm.specs.ConstructorContracts.{IsOfListKind};
+ghost use Rattle.wave_wasm.specs.Borrowed.{shown};
+ghost use Rattle.wave_grammar.specs.SpannedTree.{slice};
+ghost use Rattle.wave_grammar.specs.FaultOrder.{Order, in_text};
+ghost use Rattle.wave_grammar.specs.NodeTree.{NodeTree, node, no_nodes, node_trees};
+ghost use Rattle.wave_grammar.specs.NodeParts.{TakesKey, TakesPart};
+ghost use Rattle.wave_read.specs.PlainReading.{IsPlain};
+ghost use Rattle.wave_read.specs.Reading.{IsReadAs, IsReadWhereDue, IsReadOfForm};
+ghost use Rattle.wave_lex.specs.Errors.{Says};
+ghost use Rattle.wave_read.specs.Flat.{IsFlatAt};
+ghost use Rattle.wave_read.specs.PartsOfKinds.{AreParts, AreNoItems, IsBare, IsSimpleAt, TakesEmptySet, next_due, AreNoPartsYet};
+ghost use Rattle.wave_read.specs.declared.parts.Parts.TheVariants as parts;
+ghost use Rattle.wave_read.specs.declared.fault.Fault.TheVariants as fault;
+ghost use Rattle.wave_lex.specs.declared.error.ParserErrorKind.TheVariants as why;
+ghost use Rattle.wave_grammar.specs.declared.form.NodeType.TheVariants as node_type;
+
+use crate::failure::Failure;
+use crate::fault::Fault;
+use crate::flags::read_no_flags;
+use crate::leaf::Leaf;
+use crate::lists::Items;
+use crate::maps::{Entries, read_no_entries};
+use crate::options::SomePayload;
+use crate::records::Fields;
+use crate::results::ResultPayload;
+use crate::tuples::Row;
+use crate::variants::CasePayload;
+use std::alloc::{AllocError, Global};
+use wave_grammar::form::NodeType;
+use wave_lex::error::{ParserError, ParserErrorKind};
+use wave_lex::lex::Span;
+use wave_wasm::wasm::{WasmType, WasmTypeKind, WasmValue};
+
+/// What has been read of the parts of a value, at its type.
+#[derive(Drop)]
+pub enum Parts<'ty, T, V> {
+    /// The value has this fault, whatever its parts are.
+    Faulty(Fault),
+    /// Parts of a value of this type, which is a simple one or has no values.
+    Simple(&'ty T),
+    /// No flags, or no entries, of a value of this type.
+    Empty(&'ty T),
+    /// The items of a list.
+    Items(Items<'ty, T, V>),
+    /// The items of a tuple.
+    Row(Row<'ty, T, V>),
+    /// The payload of `some`.
+    OfSome(SomePayload<'ty, T, V>),
+    /// The payload of `ok` or `err`.
+    OfResult(ResultPayload<'ty, T, V>),
+    /// The label of a case, and its payload.
+    OfCase(CasePayload<'ty, T, V>),
+    /// The fields of a record.
+    Fields(Fields<'ty, T, V>),
+    /// The entries of a map.
+    Entries(Entries<'ty, T, V>),
+}
+
+impl<'ty, V: WasmValue> Parts<'ty, V::Type, V> {
+    /// No parts yet, of a value of the type at a node of this one.
+    #[inline(always)]
+    pub(crate) fn new(alloc: Global, ty: &'ty V::Type, of: NodeType) -> Self
+        requires { (U : TypeTree) → IsFlatAt (V.Type.tree ty.now) of U → ⊥ }
+        ensures begun { AreNoPartsYet V.Type.tree V.tree V.is_of V.is_full (V.Type.tree ty.now) of result }
+        ensures plain { IsPlain (V.Type.tree ty.now) → IsSimpleAt V.Type.tree (V.Type.tree ty.now) result }
+    {
+        match ty.kind() {
+            WasmTypeKind::List | WasmTypeKind::FixedLengthList => Parts::of_list(alloc, ty, of),
+            WasmTypeKind::Tuple => Parts::of_tuple(alloc, ty, of),
+            WasmTypeKind::Record => Parts::of_record(alloc, ty, of),
+            WasmTypeKind::Map => Parts::of_map(alloc, ty, of),
+            WasmTypeKind::Flags => Parts::of_flags(ty, of),
+            WasmTypeKind::Variant => Parts::of_variant(ty, of),
+            WasmTypeKind::Enum => Parts::wrong_form(),
+            WasmTypeKind::Option => Parts::of_option(ty, of),
+            WasmTypeKind::Result => Parts::of_result(ty, of),
+            WasmTypeKind::Bool
+            | WasmTypeKind::S8
+            | WasmTypeKind::S16
+            | WasmTypeKind::S32
+            | WasmTypeKind::S64
+            | WasmTypeKind::U8
+            | WasmTypeKind::U16
+            | WasmTypeKind::U32
+            | WasmTypeKind::U64
+            | WasmTypeKind::F32
+            | WasmTypeKind::F64
+            | WasmTypeKind::Char
+            | WasmTypeKind::String
+            | WasmTypeKind::Unsupported => Parts::Simple(ty),
+        }
+    }
+
+    /// No items yet of a list.
+    fn of_list(alloc: Global, ty: &'ty V::Type, of: NodeType) -> Self
+        requires { IsOfListKind (kind_of (V.Type.tree ty.now)) }
+        ensures { AreNoPartsYet V.Type.tree V.tree V.is_of V.is_full (V.Type.tree ty.now) of result }
+    {
+        match of {
+            NodeType::List => Parts::Items(Items::new(alloc, ty)),
+            _ => Parts::wrong_form(),
+        }
+    }
+
+    /// No items yet of a tuple.
+    fn of_tuple(alloc: Global, ty: &'ty V::Type, of: NodeType) -> Self
+        requires { kind_of (V.Type.tree ty.now) ≡ WasmTypeKind.Tuple }
+        ensures { AreNoPartsYet V.Type.tree V.tree V.is_of V.is_full (V.Type.tree ty.now) of result }
+    {
+        match of {
+            NodeType::Tuple => match Row::new(alloc, ty) {
+                Ok(row) => Parts::Row(row),
+                Err(error) => Parts::wanting(error),
+            },
+            _ => Parts::wrong_form(),
+        }
+    }
+
+    /// No fields yet of a record.
+    fn of_record(alloc: Global, ty: &'ty V::Type, of: NodeType) -> Self
+        requires { kind_of (V.Type.tree ty.now) ≡ WasmTypeKind.Record }
+        ensures { AreNoPartsYet V.Type.tree V.tree V.is_of V.is_full (V.Type.tree ty.now) of result }
+    {
+        match of {
+            NodeType::TupleSet => match Fields::new(alloc, ty) {
+                Ok(fields) => Parts::Fields(fields),
+                Err(error) => Parts::wanting(error),
+            },
+            _ => Parts::wrong_form(),
+        }
+    }
+
+    /// No entries yet of a map.
+    fn of_map(alloc: Global, ty: &'ty V::Type, of: NodeType) -> Self
+        requires { kind_of (V.Type.tree ty.now) ≡ WasmTypeKind.Map }
+        ensures { AreNoPartsYet V.Type.tree V.tree V.is_of V.is_full (V.Type.tree ty.now) of result }
+    {
+        match of {
+            NodeType::TupleSet => Parts::Entries(Entries::new(alloc, ty)),
+            NodeType::EmptySet => Parts::Empty(ty),
+            _ => Parts::wrong_form(),
+        }
+    }
+
+    /// No flags.
+    fn of_flags(ty: &'ty V::Type, of: NodeType) -> Self
+        requires { kind_of (V.Type.tree ty.now) ≡ WasmTypeKind.Flags }
+        ensures { AreNoPartsYet V.Type.tree V.tree V.is_of V.is_full (V.Type.tree ty.now) of result }
+    {
+        match of {
+            NodeType::EmptySet => Parts::Empty(ty),
+            _ => Parts::wrong_form(),
+        }
+    }
+
+    /// Nothing yet of a case and its payload.
+    fn of_variant(ty: &'ty V::Type, of: NodeType) -> Self
+        requires { kind_of (V.Type.tree ty.now) ≡ WasmTypeKind.Variant }
+        ensures { AreNoPartsYet V.Type.tree V.tree V.is_of V.is_full (V.Type.tree ty.now) of result }
+    {
+        match of {
+            NodeType::VariantWithPayload => Parts::OfCase(CasePayload::new(ty)),
+            _ => Parts::wrong_form(),
+        }
+    }
+
+    /// Nothing yet of the payload of `some`.
+    fn of_option(ty: &'ty V::Type, of: NodeType) -> Self
+        requires kind { kind_of (V.Type.tree ty.now) ≡ WasmTypeKind.Option }
+        requires flat { (U : TypeTree) → IsFlatAt (V.Type.tree ty.now) of U → ⊥ }
+        ensures { AreNoPartsYet V.Type.tree V.tree V.is_of V.is_full (V.Type.tree ty.now) of result }
+    {
+        match of {
+            NodeType::OptionSome => Parts::OfSome(SomePayload::new(ty)),
+            _ => Parts::wrong_form(),
+        }
+    }
+
+    /// Nothing yet of the payload of `ok` or `err`.
+    fn of_result(ty: &'ty V::Type, of: NodeType) -> Self
+        requires kind { kind_of (V.Type.tree ty.now) ≡ WasmTypeKind.Result }
+        requires flat { (U : TypeTree) → IsFlatAt (V.Type.tree ty.now) of U → ⊥ }
+        ensures { AreNoPartsYet V.Type.tree V.tree V.is_of V.is_full (V.Type.tree ty.now) of result }
+    {
+        match of {
+            NodeType::ResultOk => Parts::OfResult(ResultPayload::new(ty, true)),
+            NodeType::ResultErr => Parts::OfResult(ResultPayload::new(ty, false)),
+            _ => Parts::wrong_form(),
+        }
+    }
+
+    /// Parts of a value of a form that its type doesn't take.
+    fn wrong_form() -> Self
+        ensures { result ≡ parts.Faulty (fault.Kind why.InvalidType) }
+    {
+        Parts::Faulty(Fault::Kind(ParserErrorKind::InvalidType))
+    }
+
+    /// Parts of a value whose type could not be asked for lack of memory.
+    fn wanting(error: AllocError) -> Self
+        ensures { result ≡ parts.Faulty (fault.Kind why.OutOfMemory) }
+    {
+        Parts::Faulty(Fault::Kind(ParserErrorKind::OutOfMemory))
+    }
+
+    /// The type of the value that comes next, where one is due.
+    pub(crate) fn next(&self) -> Option<&'ty V::Type>
+        ensures { result ≡ next_due self.now }
+    {
+        match self {
+            Parts::Items(items) => items.next(),
+            Parts::Row(row) => row.next(),
+            Parts::OfSome(payload) => payload.next(),
+            Parts::OfResult(payload) => payload.next(),
+            Parts::OfCase(payload) => payload.next(),
+            Parts::Fields(fields) => fields.next(),
+            Parts::Entries(entries) => entries.next(),
+            _ => None,
+        }
+    }
+
+    /// Adds a key or the label of a case.
+    pub(crate) fn with_key(
+        &mut self,
+        alloc: Global,
+        ty: NodeType,
+        span: Span,
+        text: &str,
+    ) -> Result<(), AllocError>
+        ensures grown { IfOk result (λ _. (w : Order) (T : TypeTree) (source : List ℕ) (of : NodeType) (children : List NodeTree)
+            → text.now ≡ slice source span → TakesKey of children → AreParts V.Type.tree V.tree V.is_of V.is_full w T source of children self.old
+            → AreParts V.Type.tree V.tree V.is_of V.is_full w T source of (children ++ node ty span no_nodes ∷ []) self.new) }
+        ensures bare { IsBare self.old → (self.new ≡ self.old) × IsOk result }
+    {
+        let found = match self {
+            Parts::OfCase(payload) => payload.with_key(alloc, ty, span, text)?,
+            Parts::Fields(fields) => fields.with_key(alloc, ty, span, text)?,
+            Parts::Entries(entries) => entries.with_key(alloc, ty, span, text)?,
+            _ => None,
+        };
+        self.wrong(found);
+        Ok(())
+    }
+
+    /// Adds the next value, which was read at the type that was due. An item of a list, of which there
+    /// may be many, is added where this is called.
+    #[inline(always)]
+    pub(crate) fn with_part(
+        &mut self,
+        alloc: Global,
+        made: Result<V, Failure>,
+    ) -> Result<(), AllocError>
+        ensures grown { IfOk result (λ _. (w : Order) (T : TypeTree) (source : List ℕ) (of : NodeType) (children : List NodeTree) (n : NodeTree)
+            → TakesPart of children → AreParts V.Type.tree V.tree V.is_of V.is_full w T source of children self.old
+            → IsReadWhereDue V.tree V.is_of V.is_full w w (shown V.Type.tree (next_due self.old)) source n made
+            → AreParts V.Type.tree V.tree V.is_of V.is_full w T source of (children ++ n ∷ []) self.new) }
+        ensures bare { IsBare self.old → (self.new ≡ self.old) × IsOk result }
+    {
+        match self {
+            Parts::Items(items) => items.with_part(alloc, made),
+            _ => self.with_other_part(alloc, made),
+        }
+    }
+
+    /// The same for the parts of a value that is no list.
+    #[inline(never)]
+    fn with_other_part(&mut self, alloc: Global, made: Result<V, Failure>) -> Result<(), AllocError>
+        requires { AreNoItems self.now }
+        ensures grown { IfOk result (λ _. (w : Order) (T : TypeTree) (source : List ℕ) (of : NodeType) (children : List NodeTree) (n : NodeTree)
+            → TakesPart of children → AreParts V.Type.tree V.tree V.is_of V.is_full w T source of children self.old
+            → IsReadWhereDue V.tree V.is_of V.is_full w w (shown V.Type.tree (next_due self.old)) source n made
+            → AreParts V.Type.tree V.tree V.is_of V.is_full w T source of (children ++ n ∷ []) self.new) }
+        ensures bare { IsBare self.old → (self.new ≡ self.old) × IsOk result }
+    {
+        let val = match made {
+            Ok(val) => val,
+            Err(failure) => return self.with_refused(alloc, failure),
+        };
+        match self {
+            Parts::Row(row) => row.with_part(val),
+            Parts::OfSome(payload) => payload.with_part(alloc, Ok(val)),
+            Parts::OfResult(payload) => payload.with_part(alloc, Ok(val)),
+            Parts::OfCase(payload) => {
+                payload.with_part(val);
+                Ok(())
+            }
+            Parts::Fields(fields) => {
+                fields.with_part(val);
+                Ok(())
+            }
+            Parts::Entries(entries) => entries.with_part(val),
+            _ => Ok(()),
+        }
+    }
+
+    /// The same for a part that was refused.
+    #[cold]
+    #[inline(never)]
+    fn with_refused(&mut self, alloc: Global, failure: Failure) -> Result<(), AllocError>
+        requires { AreNoItems self.now }
+        ensures grown { IfOk result (λ _. (w : Order) (T : TypeTree) (source : List ℕ) (of : NodeType) (children : List NodeTree) (n : NodeTree)
+            → TakesPart of children → AreParts V.Type.tree V.tree V.is_of V.is_full w T source of children self.old
+            → IsReadWhereDue V.tree V.is_of V.is_full w w (shown V.Type.tree (next_due self.old)) source n (Err failure)
+            → AreParts V.Type.tree V.tree V.is_of V.is_full w T source of (children ++ n ∷ []) self.new) }
+        ensures bare { IsBare self.old → (self.new ≡ self.old) × IsOk result }
+    {
+        let found = match self {
+            Parts::Row(row) => row.with_refused(failure)?,
+            Parts::OfSome(payload) => return payload.with_part(alloc, Err(failure)),
+            Parts::OfResult(payload) => return payload.with_part(alloc, Err(failure)),
+            Parts::OfCase(_) => Some(Fault::Told(failure)),
+            Parts::Fields(_) => Some(Fault::Told(failure)),
+            Parts::Entries(_) => Some(Fault::Told(failure)),
+            _ => None,
+        };
+        self.wrong(found);
+        Ok(())
+    }
+
+    /// A fault that was found takes the place of the parts.
+    #[inline(always)]
+    fn wrong(&mut self, found: Option<Fault>)
+        ensures { MatchOption found (self.new ≡ self.old) (λ f. self.new ≡ parts.Faulty f) }
+    {
+        if let Some(fault) = found {
+            *self = Parts::Faulty(fault);
+        }
+    }
+
+    /// The value of these parts, which stands here.
+    pub(crate) fn whole(self, alloc: Global, span: Span) -> Result<V, ParserError>
+        ensures read { (w : Order) (T : TypeTree) (source : List ℕ) (of : NodeType) (children : List NodeTree)
+            → AreParts V.Type.tree V.tree V.is_of V.is_full w T source of children self.entry
+            → IsReadAs V.tree V.is_of V.is_full in_text w T source (node of span (node_trees children)) result }
+        ensures plain { (T : TypeTree) → IsPlain T → IsSimpleAt V.Type.tree T self.entry → IfErr result (λ e. Says e why.InvalidType span None) }
+    {
+        match self {
+            Parts::Faulty(fault) => Err(fault.tell(span)),
+            Parts::Simple(ty) => refuse_simple(alloc, ty, span),
+            Parts::Empty(ty) => read_empty(alloc, ty, span),
+            Parts::Items(items) => items.whole(alloc, span),
+            Parts::Row(row) => row.whole(alloc, span),
+            Parts::OfSome(payload) => payload.whole(alloc, span),
+            Parts::OfResult(payload) => payload.whole(alloc, span),
+            Parts::OfCase(payload) => payload.whole(alloc, span),
+            Parts::Fields(fields) => fields.whole(alloc, span),
+            Parts::Entries(entries) => entries.whole(alloc, span),
+        }
+    }
+}
+
+/// No flags, or no entries, where `{}` stands here.
+#[inline(never)]
+fn read_empty<V: WasmValue>(alloc: Global, ty: &V::Type, span: Span) -> Result<V, ParserError>
+    ensures { (o w : Order) (source : List ℕ) → TakesEmptySet (V.Type.tree ty.now)
+        → IsReadAs V.tree V.is_of V.is_full o w (V.Type.tree ty.now) source (node node_type.EmptySet span no_nodes) result }
+{
+    match ty.kind() {
+        WasmTypeKind::Flags => read_no_flags(alloc, ty, span),
+        WasmTypeKind::Map => read_no_entries(alloc, ty, span),
+        WasmTypeKind::Bool
+        | WasmTypeKind::S8
+        | WasmTypeKind::S16
+        | WasmTypeKind::S32
+        | WasmTypeKind::S64
+        | WasmTypeKind::U8
+        | WasmTypeKind::U16
+        | WasmTypeKind::U32
+        | WasmTypeKind::U64
+        | WasmTypeKind::F32
+        | WasmTypeKind::F64
+        | WasmTypeKind::Char
+        | WasmTypeKind::String
+        | WasmTypeKind::List
+        | WasmTypeKind::FixedLengthList
+        | WasmTypeKind::Record
+        | WasmTypeKind::Tuple
+        | WasmTypeKind::Variant
+        | WasmTypeKind::Enum
+        | WasmTypeKind::Option
+        | WasmTypeKind::Result
+        | WasmTypeKind::Unsupported => Err(ParserError::new(ParserErrorKind::InvalidType, span)),
+    }
+}
+
+/// The refusal of parts or flags that stand here, at a simple type or one that has no values.
+#[cold]
+#[inline(never)]
+pub(crate) fn refuse_simple<V: WasmValue>(
+    alloc: Global,
+    ty: &V::Type,
+    span: Span,
+) -> Result<V, ParserError>
+    ensures read { IsReadOfForm V.tree V.is_of V.is_full (V.Type.tree ty.now) span result }
+    ensures plain { IsPlain (V.Type.tree ty.now) → IfErr result (λ e. Says e why.InvalidType span None) }
+{
+    let leaf = Leaf {
+        ty: NodeType::Label,
+        span,
+        text: "",
+    };
+    leaf.refuse_form(alloc, ty)
+}

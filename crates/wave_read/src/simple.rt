@@ -1,0 +1,84 @@
+//! Values of simple types, and of types that have none.
+ghost use Rattle.std.specs.Prelude.{None, IfErr};
+ghost use Rattle.wave_lex.specs.Errors.{Says};
+ghost use Rattle.wave_lex.specs.declared.error.ParserErrorKind.TheVariants.{InvalidType};
+ghost use Rattle.wave_read.specs.Leaves.{IsSimpleOrUnreadable};
+ghost use Rattle.wave_read.specs.PlainReading.{IsPlain};
+ghost use Rattle.wave_read.specs.Reading.{IsReadOfLeaf, IsReadOfForm};
+
+use crate::leaf::Leaf;
+use std::alloc::Global;
+use wave_grammar::form::NodeType;
+use wave_lex::error::{ParserError, ParserErrorKind};
+use wave_wasm::wasm::{WasmType, WasmTypeKind, WasmValue};
+
+impl<'src> Leaf<'src> {
+    /// A bool, a whole number, a char or a string. A type that has no values is refused.
+    #[inline(always)]
+    pub fn read_simple<V: WasmValue>(&self, alloc: Global, ty: &V::Type) -> Result<V, ParserError>
+        ensures { IsSimpleOrUnreadable (V.Type.tree ty.now) → IsReadOfLeaf V.tree V.is_of V.is_full (V.Type.tree ty.now) self.now result }
+    {
+        let kind = ty.kind();
+        match kind {
+            WasmTypeKind::Bool => self.read_bool(alloc),
+            WasmTypeKind::Char => self.read_char(alloc),
+            WasmTypeKind::String => self.read_string(alloc),
+            WasmTypeKind::S8
+            | WasmTypeKind::S16
+            | WasmTypeKind::S32
+            | WasmTypeKind::S64
+            | WasmTypeKind::U8
+            | WasmTypeKind::U16
+            | WasmTypeKind::U32
+            | WasmTypeKind::U64
+            | WasmTypeKind::F32
+            | WasmTypeKind::F64
+            | WasmTypeKind::List
+            | WasmTypeKind::FixedLengthList
+            | WasmTypeKind::Record
+            | WasmTypeKind::Tuple
+            | WasmTypeKind::Variant
+            | WasmTypeKind::Enum
+            | WasmTypeKind::Option
+            | WasmTypeKind::Result
+            | WasmTypeKind::Flags
+            | WasmTypeKind::Map
+            | WasmTypeKind::Unsupported => self.read_whole(alloc, kind),
+        }
+    }
+
+    /// The refusal of a node that stands here and is no leaf: `InvalidType` at a simple type, and
+    /// that of the type where it has no values.
+    pub fn refuse_form<V: WasmValue>(&self, alloc: Global, ty: &V::Type) -> Result<V, ParserError>
+        ensures read { IsReadOfForm V.tree V.is_of V.is_full (V.Type.tree ty.now) self.now.span result }
+        ensures plain { IsPlain (V.Type.tree ty.now) → IfErr result (λ e. Says e InvalidType self.now.span None) }
+    {
+        let kind = ty.kind();
+        match kind {
+            WasmTypeKind::F32 | WasmTypeKind::F64 | WasmTypeKind::Unsupported => {
+                Err(self.unsupported(alloc, kind))
+            }
+            WasmTypeKind::Bool
+            | WasmTypeKind::S8
+            | WasmTypeKind::S16
+            | WasmTypeKind::S32
+            | WasmTypeKind::S64
+            | WasmTypeKind::U8
+            | WasmTypeKind::U16
+            | WasmTypeKind::U32
+            | WasmTypeKind::U64
+            | WasmTypeKind::Char
+            | WasmTypeKind::String
+            | WasmTypeKind::List
+            | WasmTypeKind::FixedLengthList
+            | WasmTypeKind::Record
+            | WasmTypeKind::Tuple
+            | WasmTypeKind::Variant
+            | WasmTypeKind::Enum
+            | WasmTypeKind::Option
+            | WasmTypeKind::Result
+            | WasmTypeKind::Flags
+            | WasmTypeKind::Map => Err(self.error(ParserErrorKind::InvalidType)),
+        }
+    }
+}

@@ -1,0 +1,121 @@
+//! Tuples, read at their types.
+ghost use Rattle.std.specs.Prelude.{ℕ, List, [], ◌≡◌, ◌≢◌, Ok, Err, None, length, IfOk, IfSome, MatchOption};
+ghost use Rattle.wave_wasm.specs.Types.{kind_of};
+ghost use Rattle.wave_wasm.specs.ValueErrors.{wrong_number};
+ghost use Rattle.wave_lex.specs.Errors.{caused, refusal_of};
+ghost use Rattle.wave_grammar.specs.FaultOrder.{Order};
+ghost use Rattle.wave_read.specs.TupleParts.{IsRow, item_due};
+ghost use Rattle.wave_read.specs.PartSteps.{AddsPart, IsWholeOf};
+
+use crate::failure::Failure;
+use crate::fault::{Fault, or_error_at};
+use std::alloc::{AllocError, Global};
+use wave_grammar::form::NodeType;
+use wave_lex::error::ParserError;
+use wave_lex::lex::Span;
+use wave_wasm::wasm::{WasmType, WasmTypeKind, WasmValue, WasmValueError};
+
+/// The items of a tuple so far. Items beyond those that the type has are counted and not kept.
+#[derive(Drop)]
+pub struct Row<'ty, T, V> {
+    /// The type of the tuple.
+    ty: &'ty T,
+    /// The types of its items.
+    types: Vec<&'ty T>,
+    /// The items that were read.
+    items: Vec<V>,
+    /// The number of all items so far.
+    count: usize,
+}
+
+impl<'ty, V: WasmValue> Row<'ty, V::Type, V> {
+    /// No items, of a tuple of the type.
+    pub(crate) fn new(alloc: Global, ty: &'ty V::Type) -> Result<Self, AllocError>
+        requires { kind_of (V.Type.tree ty.now) ≡ WasmTypeKind.Tuple }
+        ensures { IfOk result (λ new. (w : Order) (source : List ℕ) → IsRow V.Type.tree V.tree V.is_of V.is_full w (V.Type.tree ty.now) source [] new) }
+    {
+        let types = ty.tuple_element_types(alloc)?;
+        let items = Vec::with_capacity(alloc, types.len())?;
+        Ok(Row {
+            ty,
+            types,
+            items,
+            count: 0,
+        })
+    }
+
+    /// The type of the item that comes next, where there is one.
+    pub(crate) fn next(&self) -> Option<&'ty V::Type>
+        ensures { result ≡ item_due self.now }
+    {
+        match self.types.get(self.items.len()) {
+            Some(ty) => Some(*ty),
+            None => None,
+        }
+    }
+
+    /// Adds an item, which was read at the type that is due.
+    pub(crate) fn with_part(&mut self, item: V) -> Result<(), AllocError>
+        ensures { IfOk result (λ _. AddsPart IsRow V.Type.tree V.tree V.is_of V.is_full NodeType.Tuple item_due self.old (Ok item) self.new None) }
+    {
+        match self.count.checked_add(1) {
+            Some(count) => self.count = count,
+            None => return Err(AllocError),
+        }
+        if self.next().is_none() {
+            return Ok(());
+        }
+        self.items.reserve(1)?;
+        self.items.push_reserved(item);
+        Ok(())
+    }
+
+    /// Counts an item that was refused, and answers what is wrong with the tuple where it was due.
+    #[cold]
+    #[inline(never)]
+    pub(crate) fn with_refused(&mut self, failure: Failure) -> Result<Option<Fault>, AllocError>
+        ensures { IfOk result (AddsPart IsRow V.Type.tree V.tree V.is_of V.is_full NodeType.Tuple item_due self.old (Err failure) self.new) }
+    {
+        match self.count.checked_add(1) {
+            Some(count) => self.count = count,
+            None => return Err(AllocError),
+        }
+        if self.next().is_none() {
+            return Ok(None);
+        }
+        Ok(Some(Fault::Told(failure)))
+    }
+
+    /// The refusal of a tuple that stands here and has this many items, where the type has another
+    /// number of them.
+    pub(crate) fn miscounted(&self, alloc: Global, span: Span, count: usize) -> Option<Failure>
+        ensures count { MatchOption result (count ≡ length self.now.types.items) (λ _. count ≢ length self.now.types.items) }
+        ensures refusal { IfSome result (λ failure. refusal_of failure ≡ caused (wrong_number (length self.now.types.items) count)) }
+        ensures span { IfSome result (λ failure. failure.span ≡ span) }
+    {
+        let want = self.types.len();
+        if count == want {
+            return None;
+        }
+        let cause = WasmValueError::WrongNumberOfTupleValues { want, got: count };
+        Some(Failure::new(alloc, ParserError::with_cause(span, cause)))
+    }
+
+    /// The tuple of these items, which stands here.
+    pub(crate) fn whole(self, alloc: Global, span: Span) -> Result<V, ParserError>
+        ensures { IsWholeOf IsRow V.Type.tree V.tree V.is_of V.is_full NodeType.Tuple self.entry span result }
+    {
+        let Row {
+            ty,
+            types,
+            items,
+            count,
+        } = self;
+        let want = types.len();
+        if count != want {
+            let cause = WasmValueError::WrongNumberOfTupleValues { want, got: count };
+            return Err(ParserError::with_cause(span, cause));
+        }
+        or_error_at(span, V::make_tuple(alloc, ty, items))
+    }
+}

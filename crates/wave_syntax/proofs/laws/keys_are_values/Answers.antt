@@ -1,5 +1,0 @@
-use Rattle.wave_syntax.proofs.KeyNodes.{keys_as_values}
-use Rattle.wave_syntax.proofs.laws.keys_are_values.Goals as goal
-
-pub returns : goal.returns
-returns c = keys_as_values

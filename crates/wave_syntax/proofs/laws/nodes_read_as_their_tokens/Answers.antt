@@ -1,5 +1,0 @@
-use Rattle.wave_syntax.proofs.NodeMeaning.{nodes_read_as_tokens}
-use Rattle.wave_syntax.proofs.laws.nodes_read_as_their_tokens.Goals as goal
-
-pub returns : goal.returns
-returns c = nodes_read_as_tokens

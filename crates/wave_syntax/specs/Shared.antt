@@ -1,9 +1,0 @@
-pub mod ErrorSpans
-pub mod NodeAccessors
-pub mod NodeDepth
-pub mod NodeEncoding
-pub mod NodeFields
-pub mod NodeFlags
-pub mod NodeParams
-pub mod NodeTree
-pub mod TypedReading

@@ -1,0 +1,8 @@
+//! Worked rows of the parser and of the nodes that it makes, of texts without types and of calls, and of
+//! what the views of values that were read answer.
+mod calls;
+mod faults;
+mod nodes;
+mod parsing;
+mod untyped;
+mod views;

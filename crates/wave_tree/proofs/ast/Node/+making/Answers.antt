@@ -1,0 +1,243 @@
+use Rattle.std.proofs.Common.{◌≡◌, Some, ◌≢◌, ◌<◌, ◌≤◌, ◌++◌, ◌+◌, [], ◌∷◌, List, length, take, Option, Bor, Err, arith, inl, inr, refl, sym, ap, subst, ◌∙◌}
+use Rattle.std.proofs.lemmas.List.{take_all}
+use Rattle.wave_wasm.specs.Types.{TypeTree, HasDistinctNames, kind_of}
+use Rattle.wave_wasm.specs.Borrowed.{shown, shown_fields}
+use Rattle.wave_wasm.specs.declared.wasm.WasmTypeKind.TheVariants as kinds
+use Rattle.wave_grammar.specs.SpannedTree.{entry_list}
+use Rattle.wave_grammar.specs.FaultOrder.{in_text, by_type}
+use Rattle.wave_grammar.specs.TypedGrammar.{names_of}
+use Rattle.wave_grammar.specs.NodeTree.{NodeTree, type_of, place_of, children_of}
+use Rattle.wave_grammar.specs.NodeAccessors.{shown_node}
+use Rattle.wave_grammar.specs.TypedReading.{IsValueOf, IsKeyOf}
+use Rattle.wave_grammar.specs.Shared.ErrorSpans.{RefusesIn}
+use Rattle.wave_grammar.specs.Shared.NodeFields.{fields_at, AnswersField, IsFieldNode}
+use Rattle.wave_grammar.specs.declared.form.NodeType.{NodeType}
+use Rattle.wave_grammar.specs.declared.form.NodeType.TheVariants as kind
+use Rattle.wave_grammar.specs.NodeParts.{IsOfParts, TakesKey, TakesPart}
+use Rattle.wave_grammar.proofs.ByKind.Leaves.{said}
+use Rattle.wave_grammar.proofs.ByKind.Lists.{HasAt}
+use Rattle.wave_grammar.proofs.ByKind.Tuples.{all_has}
+use Rattle.wave_grammar.proofs.ErrorSpans.Nodes.{at_in, made_in, memory_here, refused_at, part_in}
+use Rattle.wave_grammar.proofs.Fields.Entries.{record_nodes}
+use Rattle.wave_grammar.proofs.Fields.FieldOrder.{field_blamed}
+use Rattle.wave_grammar.proofs.Fields.Reading.{RecordType, record_is, fields_distinct, given_fields, failed, nodes_blame, field_read}
+use Rattle.wave_grammar.proofs.MakerAnswers.{handed}
+use Rattle.wave_grammar.proofs.Parameters.{error_handed}
+use Rattle.wave_read.specs.Leaves.{leaf_node}
+use Rattle.wave_read.specs.PlainReading.{IsReadSparing}
+use Rattle.wave_read.proofs.PlainTypes.{no_row_spares}
+use Rattle.wave_read.specs.Flat.{ReadsNoRecord, IsCounted}
+use Rattle.wave_read.specs.KeptParts.{AreKeptWhereDue}
+use Rattle.wave_tree.proofs.Children.{child_below, key_child, value_child, if_true, if_false, more_children, key_alone, whole_at}
+use Rattle.wave_tree.proofs.TypeOrder.{read_by_type}
+use Rattle.wave_tree.proofs.ReadNodes.{due_value, due_told, set_no_row, record_read, field_told, left_told}
+use Rattle.wave_tree.proofs.RecordNodes.{part_at, as_parts, still_held, held_value, none_before, removed_next, unknown_blame, fields_kept, record_done, held_belongs, held_below, depth_of_maybe}
+use Rattle.wave_tree.proofs.ast.Node.+making.Goals.{make_of_parts-then-takes_key+in_ok-with_key, make_of_parts-else-takes_key+in_ok-made+in_ok-with_part}
+use Rattle.wave_tree.proofs.ast.Node.+making.Goals as goal
+
+-- ---- at the type that is due
+
+pub make-returns-in-Some : goal.make-returns-in-Some
+make-returns-in-Some g t c =
+    let set : type_of c.args.self.now ≡ kind.TupleSet = sym c.ty.ensures ∙ c.in-Some.ensures.node in (
+      record_read g.V.WasmValue.tree g.V.WasmValue.is_of g.V.WasmValue.is_full by_type by_type g.V.Type.WasmType.tree c.args.src.now c.args.self.now (shown g.V.Type.WasmType.tree c.args.builder.due) c.in-Some.around c.in-Some.ty c.surrounded.result set c.in-Some.ensures.around
+          (λ T is. c.surrounded.ensures by_type by_type T c.args.src.now c.args.self.now is (sym c.span.ensures) c.read_record-made.ensures),
+      no_row_spares (shown g.V.Type.WasmType.tree c.args.builder.due) c.args.self.now c.surrounded.result (set_no_row (type_of c.args.self.now) set),
+    )
+
+pub read-returns-in-Ok-Ok : goal.read-returns-in-Ok-Ok
+read-returns-in-Ok-Ok g t c =
+    due_value g.V.WasmValue.tree g.V.WasmValue.is_of g.V.WasmValue.is_full by_type by_type g.V.Type.WasmType.tree c.args.src.now c.args.self.now c.new.result.due c.args.ty c.in-Ok-Ok.field-0 c.in-Ok-Ok.val c.new.ensures c.in-Ok-Ok.ensures.0 c.in-Ok-Ok.field-0-is
+
+pub read-returns-in-Ok-Err : goal.read-returns-in-Ok-Err
+read-returns-in-Ok-Err g t c =
+    due_told g.V.WasmValue.tree g.V.WasmValue.is_of g.V.WasmValue.is_full by_type by_type g.V.Type.WasmType.tree c.args.src.now c.args.self.now c.new.result.due c.args.ty c.in-Ok-Err.field-0 c.in-Ok-Err.failure c.into_error.result c.new.ensures c.in-Ok-Err.ensures.0 c.in-Ok-Err.field-0-is c.into_error.ensures
+
+pub read-returns-in-Err : goal.read-returns-in-Err
+read-returns-in-Err g t c = record {
+  answer = λ p is distinct. inl c.out_of_memory.ensures.kind;
+  within = λ value. at_in c.args.src.now c.args.self.now c.out_of_memory.result (inl value) (memory_here c.args.self.now c.out_of_memory.result c.out_of_memory.ensures.kind c.out_of_memory.ensures.span);
+}
+
+-- ---- records
+
+pub read_record-returns-in-Err : goal.read_record-returns-in-Err
+read_record-returns-in-Err g t c = record {
+  answer = λ p is distinct. inl c.out_of_memory.ensures.kind;
+  within = λ value. at_in c.args.src.now c.args.self.now c.out_of_memory.result (inl value) (memory_here c.args.self.now c.out_of_memory.result c.out_of_memory.ensures.kind c.out_of_memory.ensures.span);
+}
+
+pub read_record-returns-then-is_err : goal.read_record-returns-then-is_err
+read_record-returns-then-is_err g t c = record {
+  answer = λ p is distinct. inl c.out_of_memory-then-is_err.ensures.kind;
+  within = λ value. at_in c.args.src.now c.args.self.now c.out_of_memory-then-is_err.result (inl value) (memory_here c.args.self.now c.out_of_memory-then-is_err.result c.out_of_memory-then-is_err.ensures.kind c.out_of_memory-then-is_err.ensures.span);
+}
+
+pub read_record-returns-in_err-nodes : goal.read_record-returns-in_err-nodes
+read_record-returns-in_err-nodes g t c =
+    let known : kind_of (g.V.Type.WasmType.tree c.args.ty.now) ≡ kinds.Record = assumption in
+    let is_record : RecordType (g.V.Type.WasmType.tree c.args.ty.now) (shown_fields g.V.Type.WasmType.tree c.in-Ok.types.items) = record_is (g.V.Type.WasmType.tree c.args.ty.now) (shown_fields g.V.Type.WasmType.tree c.in-Ok.types.items) (sym known) c.in-Ok.ensures in
+    record {
+      answer = λ p is distinct.
+          handed g.V.WasmValue.tree g.V.WasmValue.is_of g.V.WasmValue.is_full by_type by_type (g.V.Type.WasmType.tree c.args.ty.now) p c.in_err-nodes.field-0.0 c.from_residual.result c.from_residual.ensures.1
+          (nodes_blame g.V.WasmValue.is_full by_type (g.V.Type.WasmType.tree c.args.ty.now) (shown_fields g.V.Type.WasmType.tree c.in-Ok.types.items) c.args.src.now c.args.self.now p c.in_err-nodes.field-0.0 is_record is c.in_err-nodes.ensures.refused);
+      within = λ value. error_handed (RefusesIn c.args.self.now) c.from_residual.result c.in_err-nodes.field-0.0 c.from_residual.ensures.1 c.in_err-nodes.ensures.within;
+    }
+
+pub read_record-read_field-requires : goal.read_record-read_field-requires
+read_record-read_field-requires g t c κs within =
+    let value : IsValueOf c.args.src.now c.args.self.now = assumption in (
+      omega (arith, held_below c.args.src.now c.args.self.now (names_of (take c.loop-i.i (shown_fields g.V.Type.WasmType.tree c.in-Ok.types.items))) c.in_ok-nodes.nodes c.loop-i.nodes c.index.result.now.0.now c.remove-node.result c.in_ok-nodes.ensures.held c.loop-i.invariant.removed c.remove-node.ensures.value),
+      (within.0, (within.1, held_value c.args.src.now c.args.self.now value.0 (names_of (take c.loop-i.i (shown_fields g.V.Type.WasmType.tree c.in-Ok.types.items))) c.in_ok-nodes.nodes c.loop-i.nodes (fields_at c.args.src.now (children_of c.args.self.now)) c.index.result.now.0.now c.remove-node.result value.1 c.in_ok-nodes.ensures.given c.in_ok-nodes.ensures.held c.loop-i.invariant.removed c.remove-node.ensures.value)),
+    )
+
+pub read_record-returns-in_err-val : goal.read_record-returns-in_err-val
+read_record-returns-in_err-val g t c =
+    let known : kind_of (g.V.Type.WasmType.tree c.args.ty.now) ≡ kinds.Record = assumption in
+    let is_record : RecordType (g.V.Type.WasmType.tree c.args.ty.now) (shown_fields g.V.Type.WasmType.tree c.in-Ok.types.items) = record_is (g.V.Type.WasmType.tree c.args.ty.now) (shown_fields g.V.Type.WasmType.tree c.in-Ok.types.items) (sym known) c.in-Ok.ensures in
+    let typed : HasAt (shown_fields g.V.Type.WasmType.tree c.in-Ok.types.items) c.loop-i.i (c.index.result.now.0.now, (g.V.Type.WasmType.tree c.index.result.now.1.now)) = part_at g.V.Type.WasmType.tree c.in-Ok.types.items c.loop-i.i c.index.result.now (omega arith) c.index.ensures in
+    record {
+      answer = λ p is distinct.
+          let apart = fields_distinct (g.V.Type.WasmType.tree c.args.ty.now) (shown_fields g.V.Type.WasmType.tree c.in-Ok.types.items) is_record distinct in
+          let found = still_held (names_of (take c.loop-i.i (shown_fields g.V.Type.WasmType.tree c.in-Ok.types.items))) c.in_ok-nodes.nodes c.loop-i.nodes (fields_at c.args.src.now (children_of c.args.self.now)) c.index.result.now.0.now c.remove-node.result c.in_ok-nodes.ensures.held c.loop-i.invariant.removed (none_before (shown_fields g.V.Type.WasmType.tree c.in-Ok.types.items) c.loop-i.i c.index.result.now.0.now (g.V.Type.WasmType.tree c.index.result.now.1.now) apart.names typed) c.remove-node.ensures.value in
+          handed g.V.WasmValue.tree g.V.WasmValue.is_of g.V.WasmValue.is_full by_type by_type (g.V.Type.WasmType.tree c.args.ty.now) p c.in_err-val.field-0.0 c.from_residual-in_err-val.result c.from_residual-in_err-val.ensures.1
+          (field_blamed g.V.WasmValue.tree g.V.WasmValue.is_of g.V.WasmValue.is_full by_type (g.V.Type.WasmType.tree c.args.ty.now) (shown_fields g.V.Type.WasmType.tree c.in-Ok.types.items) c.args.src.now c.args.self.now p (fields_at c.args.src.now (children_of c.args.self.now)) c.loop-i.fields.items c.in_err-val.field-0.0 is_record is c.in_ok-nodes.ensures.given distinct c.loop-i.i c.index.result.now.0.now (g.V.Type.WasmType.tree c.index.result.now.1.now) (shown_node c.remove-node.result) typed g.met.V.WasmValue.full_parts found (c.loop-i.invariant.read (fields_at c.args.src.now (children_of c.args.self.now)) c.in_ok-nodes.ensures.held (entry_list (record_nodes c.args.src.now c.args.self.now p is c.in_ok-nodes.ensures.given.is_set).given) (given_fields c.args.src.now c.args.self.now p (fields_at c.args.src.now (children_of c.args.self.now)) is c.in_ok-nodes.ensures.given) apart) c.in_err-val.ensures.answer);
+      within = λ value. error_handed (RefusesIn c.args.self.now) c.from_residual-in_err-val.result c.in_err-val.field-0.0 c.from_residual-in_err-val.ensures.1 (part_in c.args.src.now c.args.self.now (shown_node c.remove-node.result) c.in_err-val.field-0.0 (inl value) (held_belongs c.args.src.now c.args.self.now (names_of (take c.loop-i.i (shown_fields g.V.Type.WasmType.tree c.in-Ok.types.items))) c.in_ok-nodes.nodes c.loop-i.nodes (fields_at c.args.src.now (children_of c.args.self.now)) c.index.result.now.0.now c.remove-node.result value c.in_ok-nodes.ensures.given c.in_ok-nodes.ensures.held c.loop-i.invariant.removed c.remove-node.ensures.value) c.in_err-val.ensures.within);
+    }
+
+pub read_record-loop-i-preserved : goal.read_record-loop-i-preserved
+read_record-loop-i-preserved g t c =
+    let typed : HasAt (shown_fields g.V.Type.WasmType.tree c.in-Ok.types.items) c.loop-i.i (c.index.result.now.0.now, (g.V.Type.WasmType.tree c.index.result.now.1.now)) = part_at g.V.Type.WasmType.tree c.in-Ok.types.items c.loop-i.i c.index.result.now (omega arith) c.index.ensures in
+    let pushed = c.if-is_err.ensures.negation in
+    let kept = rw pushed at c.push.ensures.items in
+    record {
+      removed = removed_next (shown_fields g.V.Type.WasmType.tree c.in-Ok.types.items) c.loop-i.i c.index.result.now.0.now (g.V.Type.WasmType.tree c.index.result.now.1.now) c.in_ok-nodes.nodes c.loop-i.nodes c.remove-node.new.self typed c.loop-i.invariant.removed c.remove-node.ensures.updates;
+      read = λ given held es all apart.
+          let found = still_held (names_of (take c.loop-i.i (shown_fields g.V.Type.WasmType.tree c.in-Ok.types.items))) c.in_ok-nodes.nodes c.loop-i.nodes given c.index.result.now.0.now c.remove-node.result held c.loop-i.invariant.removed (none_before (shown_fields g.V.Type.WasmType.tree c.in-Ok.types.items) c.loop-i.i c.index.result.now.0.now (g.V.Type.WasmType.tree c.index.result.now.1.now) apart.names typed) c.remove-node.ensures.value in
+          fields_kept g.V.WasmValue.tree g.V.WasmValue.is_of g.V.WasmValue.is_full by_type (shown_fields g.V.Type.WasmType.tree c.in-Ok.types.items) es c.loop-i.fields.items c.push.new.self.items c.loop-i.i c.index.result.now.0.now (g.V.Type.WasmType.tree c.index.result.now.1.now) c.index.result.now.0 c.in_ok-val.val typed (c.loop-i.invariant.read given held es all apart) refl (field_read g.V.WasmValue.tree g.V.WasmValue.is_of g.V.WasmValue.is_full by_type (g.V.Type.WasmType.tree c.index.result.now.1.now) c.args.src.now c.args.self.now given es c.index.result.now.0.now (shown_node c.remove-node.result) c.in_ok-val.val all (all_has (λ q. HasDistinctNames q.1) (shown_fields g.V.Type.WasmType.tree c.in-Ok.types.items) c.loop-i.i (c.index.result.now.0.now, (g.V.Type.WasmType.tree c.index.result.now.1.now)) apart.within typed) found c.in_ok-val.ensures.answer) kept;
+    }
+
+pub read_record-returns-then-not-is_empty : goal.read_record-returns-then-not-is_empty
+read_record-returns-then-not-is_empty g t c =
+    let known : kind_of (g.V.Type.WasmType.tree c.args.ty.now) ≡ kinds.Record = assumption in
+    let is_record : RecordType (g.V.Type.WasmType.tree c.args.ty.now) (shown_fields g.V.Type.WasmType.tree c.in-Ok.types.items) = record_is (g.V.Type.WasmType.tree c.args.ty.now) (shown_fields g.V.Type.WasmType.tree c.in-Ok.types.items) (sym known) c.in-Ok.ensures in
+    record {
+      answer = λ p is distinct.
+          unknown_blame g.V.WasmValue.tree g.V.WasmValue.is_of g.V.WasmValue.is_full by_type (g.V.Type.WasmType.tree c.args.ty.now) (shown_fields g.V.Type.WasmType.tree c.in-Ok.types.items) c.args.src.now c.args.self.now p (fields_at c.args.src.now (children_of c.args.self.now)) c.loop-i.i c.in_ok-nodes.nodes c.loop-i.nodes c.loop-i.fields.items c.error.result is_record distinct is c.in_ok-nodes.ensures.given c.in_ok-nodes.ensures.held (omega (arith, as_parts g.V.Type.WasmType.tree c.in-Ok.types.items)) c.loop-i.invariant.removed (failed c.is_empty.result c.if-not-is_empty.true c.is_empty.ensures.1) (c.loop-i.invariant.read (fields_at c.args.src.now (children_of c.args.self.now)) c.in_ok-nodes.ensures.held (entry_list (record_nodes c.args.src.now c.args.self.now p is c.in_ok-nodes.ensures.given.is_set).given) (given_fields c.args.src.now c.args.self.now p (fields_at c.args.src.now (children_of c.args.self.now)) is c.in_ok-nodes.ensures.given) (fields_distinct (g.V.Type.WasmType.tree c.args.ty.now) (shown_fields g.V.Type.WasmType.tree c.in-Ok.types.items) is_record distinct)) (said {p = place_of c.args.self.now} c.error.ensures);
+      within = λ value. at_in c.args.src.now c.args.self.now c.error.result (inl value) (refused_at _ c.args.self.now c.error.result (λ was. cc) tt c.error.ensures);
+    }
+
+pub read_record-returns : goal.read_record-returns
+read_record-returns g t c =
+    let known : kind_of (g.V.Type.WasmType.tree c.args.ty.now) ≡ kinds.Record = assumption in
+    let is_record : RecordType (g.V.Type.WasmType.tree c.args.ty.now) (shown_fields g.V.Type.WasmType.tree c.in-Ok.types.items) = record_is (g.V.Type.WasmType.tree c.args.ty.now) (shown_fields g.V.Type.WasmType.tree c.in-Ok.types.items) (sym known) c.in-Ok.ensures in
+    let made = c.or_error_at.ensures c.args.self.now (sym c.span.ensures) in
+    record {
+      answer = λ p is distinct.
+          let read = c.loop-i.invariant.read (fields_at c.args.src.now (children_of c.args.self.now)) c.in_ok-nodes.ensures.held (entry_list (record_nodes c.args.src.now c.args.self.now p is c.in_ok-nodes.ensures.given.is_set).given) (given_fields c.args.src.now c.args.self.now p (fields_at c.args.src.now (children_of c.args.self.now)) is c.in_ok-nodes.ensures.given) (fields_distinct (g.V.Type.WasmType.tree c.args.ty.now) (shown_fields g.V.Type.WasmType.tree c.in-Ok.types.items) is_record distinct) in
+          record_done g.V.WasmValue.tree g.V.WasmValue.is_of g.V.WasmValue.is_full by_type (g.V.Type.WasmType.tree c.args.ty.now) (shown_fields g.V.Type.WasmType.tree c.in-Ok.types.items) c.args.src.now c.args.self.now p (fields_at c.args.src.now (children_of c.args.self.now)) c.loop-i.i c.in_ok-nodes.nodes c.loop-i.nodes c.loop-i.fields.items c.make_record.result c.or_error_at.result is_record distinct is c.in_ok-nodes.ensures.given c.in_ok-nodes.ensures.held (omega (arith, as_parts g.V.Type.WasmType.tree c.in-Ok.types.items)) c.loop-i.invariant.removed (c.is_empty.ensures.0 c.if-not-is_empty.false) read c.make_record.ensures.made c.make_record.ensures.full made;
+      within = λ value. made_in c.args.src.now c.args.self.now c.make_record.result c.or_error_at.result (inl value) made;
+    }
+
+pub read_field-read-requires : goal.read_field-read-requires
+read_field-read-requires g t c κs within =
+    let held : IsFieldNode c.args.src.now (shown_node c.args.node) = assumption in (
+      omega (arith, ap (λ (o : Option (Bor NodeTree)). depth_of_maybe (shown_node o)) c.in-Some.is),
+      (within.0, (within.1, subst (λ (o : Option (Bor NodeTree)). IsFieldNode c.args.src.now (shown_node o)) c.in-Some.is held)),
+    )
+
+pub read_field-returns-in-Some-clause-answer : goal.read_field-returns-in-Some-clause-answer
+read_field-returns-in-Some-clause-answer g t c =
+    subst (λ (o : Option (Bor NodeTree)). AnswersField g.V.WasmValue.tree g.V.WasmValue.is_of g.V.WasmValue.is_full by_type (g.V.Type.WasmType.tree c.args.ty.now) c.args.src.now c.args.name.now c.args.self.now (shown_node o) c.read.result) (sym c.in-Some.is) c.read.ensures.answer
+
+pub read_field-returns-in-Some-clause-within : goal.read_field-returns-in-Some-clause-within
+read_field-returns-in-Some-clause-within g t c =
+    let held : IsFieldNode c.args.src.now (shown_node c.args.node) = assumption in
+    field_told c.args.self.now (shown_node c.args.node) c.in-Some.node.now c.read.result (ap shown_node c.in-Some.is)
+    (c.read.ensures.within (subst (λ (o : Option (Bor NodeTree)). IsFieldNode c.args.src.now (shown_node o)) c.in-Some.is held))
+
+pub read_field-returns-in-None-clause-answer : goal.read_field-returns-in-None-clause-answer
+read_field-returns-in-None-clause-answer g t c =
+    subst (λ (o : Option (Bor NodeTree)). AnswersField g.V.WasmValue.tree g.V.WasmValue.is_of g.V.WasmValue.is_full by_type (g.V.Type.WasmType.tree c.args.ty.now) c.args.src.now c.args.name.now c.args.self.now (shown_node o) c.left_out.result) (sym c.in-None.is) (c.left_out.ensures.answer c.args.self.now (sym c.span.ensures))
+
+pub read_field-returns-in-None-clause-within : goal.read_field-returns-in-None-clause-within
+read_field-returns-in-None-clause-within g t c =
+    left_told c.args.self.now (shown_node c.args.node) c.left_out.result c.span.result (sym c.span.ensures) c.left_out.ensures.within
+
+-- ---- the parts of other values
+
+pub make_of_parts-returns-in-Some : goal.make_of_parts-returns-in-Some
+make_of_parts-returns-in-Some g t c =
+    let form : IsOfParts (type_of c.args.self.now) = assumption in
+    let parts : IsOfParts c.ty-ty.result = subst IsOfParts (sym c.ty-ty.ensures) form in
+    subst (λ (n : NodeTree). IsReadSparing g.V.WasmValue.tree g.V.WasmValue.is_of g.V.WasmValue.is_full by_type by_type (shown g.V.Type.WasmType.tree c.args.builder.due) c.args.src.now n (Err c.in-Some.failure)) (whole_at c.args.self.now c.ty-ty.result c.span.result c.ty-ty.ensures c.span.ensures)
+    (c.in-Some.ensures.refused by_type (shown g.V.Type.WasmType.tree c.args.builder.due) c.args.src.now c.ty-ty.result (children_of c.args.self.now) parts (ap length (sym c.nodes-nodes.ensures)) (c.begin-parts.ensures.begun by_type c.args.src.now parts) c.begin-parts.ensures.doomed)
+
+pub make-make_of_parts-requires : goal.make-make_of_parts-requires
+make-make_of_parts-requires g t c κs within =
+    let value : IsValueOf c.args.src.now c.args.self.now = assumption in
+    let other : type_of c.args.self.now ≢ kind.Flags = λ e. failed {X = type_of c.args.self.now ≡ kind.Flags} c.is_of.result c.if-is_of.false c.is_of.ensures.1 e in
+    let none = subst (λ (k : NodeType). (T : TypeTree) → shown g.V.Type.WasmType.tree c.args.builder.due ≡ Some T → ReadsNoRecord T k) c.ty.ensures c.in_default.ensures.none in
+    (omega arith, (within.0, (within.1, (value, (if_true _ c.has_parts.result (c.has_parts.ensures c.args.src.now value other) c.if-has_parts.true, none)))))
+
+pub make-make_of_token-requires-clause-form : goal.make-make_of_token-requires-clause-form
+make-make_of_token-requires-clause-form g t c =
+    let value : IsValueOf c.args.src.now c.args.self.now = assumption in
+    let other : type_of c.args.self.now ≢ kind.Flags = λ e. failed {X = type_of c.args.self.now ≡ kind.Flags} c.is_of.result c.if-is_of.false c.is_of.ensures.1 e in
+    if_false _ c.has_parts.result (c.has_parts.ensures c.args.src.now value other) c.if-has_parts.false
+
+pub make_of_parts-leaf-key-requires : goal.make_of_parts-leaf-key-requires
+make_of_parts-leaf-key-requires g t c =
+    let value : IsValueOf c.args.src.now c.args.self.now = assumption in
+    let form : IsOfParts (type_of c.args.self.now) = assumption in
+    let lt : c.loop-i.i < length (children_of c.args.self.now) = subst (λ (l : List NodeTree). c.loop-i.i < length l) c.nodes-nodes.ensures c.loop-i-test.true in
+    let next : TakesKey (type_of c.args.self.now) (take c.loop-i.i (children_of c.args.self.now)) = if_true _ c.takes_key.result (c.takes_key.ensures c.args.src.now value form lt) c.if-takes_key.true in
+    inr (key_child c.args.src.now c.args.self.now c.nodes-nodes.result.now c.loop-i.i c.index-nodes-i.result value c.nodes-nodes.ensures next c.loop-i-test.true c.index-nodes-i.is)
+
+pub make_of_parts-make-requires : goal.make_of_parts-make-requires
+make_of_parts-make-requires g t c κs within =
+    let value : IsValueOf c.args.src.now c.args.self.now = assumption in
+    let form : IsOfParts (type_of c.args.self.now) = assumption in
+    let lt : c.loop-i.i < length (children_of c.args.self.now) = subst (λ (l : List NodeTree). c.loop-i.i < length l) c.nodes-nodes.ensures c.loop-i-test.true in
+    let next : TakesPart (type_of c.args.self.now) (take c.loop-i.i (children_of c.args.self.now)) = if_false _ c.takes_key.result (c.takes_key.ensures c.args.src.now value form lt) c.if-takes_key.false in (
+      omega (arith, child_below c.args.self.now c.nodes-nodes.result.now c.loop-i.i c.index-nodes-i.result c.nodes-nodes.ensures c.loop-i-test.true c.index-nodes-i.is),
+      (within.0, (within.1, value_child c.args.src.now c.args.self.now c.nodes-nodes.result.now c.loop-i.i c.index-nodes-i.result value c.nodes-nodes.ensures next c.loop-i-test.true c.index-nodes-i.is)),
+    )
+
+pub make_of_parts-loop-i-preserved : goal.make_of_parts-loop-i-preserved
+make_of_parts-loop-i-preserved g t c =
+    let value : IsValueOf c.args.src.now c.args.self.now = assumption in
+    let form : IsOfParts (type_of c.args.self.now) = assumption in
+    let lt : c.loop-i.i < length (children_of c.args.self.now) = subst (λ (l : List NodeTree). c.loop-i.i < length l) c.nodes-nodes.ensures c.loop-i-test.true in
+    let told = c.takes_key.ensures c.args.src.now value form lt in
+    let more = more_children c.args.self.now c.nodes-nodes.result.now c.loop-i.i c.index-nodes-i.result c.nodes-nodes.ensures c.loop-i-test.true c.index-nodes-i.is in
+    elim c.if-takes_key.branch [
+      | make_of_parts-then-takes_key+in_ok-with_key w ↦
+          let next : TakesKey (type_of c.args.self.now) (take c.loop-i.i (children_of c.args.self.now)) = if_true _ c.takes_key.result told w.if-takes_key.true in
+          let key : IsKeyOf c.args.src.now c.index-nodes-i.result = key_child c.args.src.now c.args.self.now c.nodes-nodes.result.now c.loop-i.i c.index-nodes-i.result value c.nodes-nodes.ensures next c.loop-i-test.true c.index-nodes-i.is in
+          let here : leaf_node w.leaf-key.result ≡ c.index-nodes-i.result = w.leaf-key.ensures.node ∙ sym (key_alone c.args.src.now c.index-nodes-i.result key) in
+          subst (λ p. AreKeptWhereDue g.V.Type.WasmType.tree g.V.WasmValue.tree g.V.WasmValue.is_of g.V.WasmValue.is_full by_type (shown g.V.Type.WasmType.tree c.args.builder.due) c.args.src.now (type_of c.args.self.now) (take (c.loop-i.i + 1) (children_of c.args.self.now)) p) (sym w.parts-is)
+          (subst (λ (l : List NodeTree). AreKeptWhereDue g.V.Type.WasmType.tree g.V.WasmValue.tree g.V.WasmValue.is_of g.V.WasmValue.is_full by_type (shown g.V.Type.WasmType.tree c.args.builder.due) c.args.src.now (type_of c.args.self.now) l w.with_key.new.self) (ap (λ (x : NodeTree). take c.loop-i.i (children_of c.args.self.now) ++ x ∷ []) here ∙ more)
+          (w.in_ok-with_key.ensures.kept by_type (shown g.V.Type.WasmType.tree c.args.builder.due) c.args.src.now (type_of c.args.self.now) (take c.loop-i.i (children_of c.args.self.now)) w.leaf-key.ensures.text next c.loop-i.invariant))
+      | make_of_parts-else-takes_key+in_ok-made+in_ok-with_part w ↦
+          let next : TakesPart (type_of c.args.self.now) (take c.loop-i.i (children_of c.args.self.now)) = if_false _ c.takes_key.result told w.if-takes_key.false in
+          let made = subst (λ (o : Option _). IsReadSparing g.V.WasmValue.tree g.V.WasmValue.is_of g.V.WasmValue.is_full by_type by_type (shown g.V.Type.WasmType.tree o) c.args.src.now c.index-nodes-i.result w.in_ok-made.made) w.next.ensures w.in_ok-made.ensures in
+          subst (λ p. AreKeptWhereDue g.V.Type.WasmType.tree g.V.WasmValue.tree g.V.WasmValue.is_of g.V.WasmValue.is_full by_type (shown g.V.Type.WasmType.tree c.args.builder.due) c.args.src.now (type_of c.args.self.now) (take (c.loop-i.i + 1) (children_of c.args.self.now)) p) (sym w.parts-is)
+          (subst (λ (l : List NodeTree). AreKeptWhereDue g.V.Type.WasmType.tree g.V.WasmValue.tree g.V.WasmValue.is_of g.V.WasmValue.is_full by_type (shown g.V.Type.WasmType.tree c.args.builder.due) c.args.src.now (type_of c.args.self.now) l w.with_part.new.self) more
+          (w.in_ok-with_part.ensures.kept by_type (shown g.V.Type.WasmType.tree c.args.builder.due) c.args.src.now (type_of c.args.self.now) (take c.loop-i.i (children_of c.args.self.now)) c.index-nodes-i.result next c.loop-i.invariant made))
+    ]
+
+pub make_of_parts-returns : goal.make_of_parts-returns
+make_of_parts-returns g t c =
+    let form : IsOfParts (type_of c.args.self.now) = assumption in
+    let parts : IsOfParts c.ty-ty.result = subst IsOfParts (sym c.ty-ty.ensures) form in
+    let no_record : (T : TypeTree) → shown g.V.Type.WasmType.tree c.args.builder.due ≡ Some T → ReadsNoRecord T (type_of c.args.self.now) = assumption in
+    let ended : length (children_of c.args.self.now) ≤ c.loop-i.i = subst (λ (l : List NodeTree). length l ≤ c.loop-i.i) c.nodes-nodes.ensures c.loop-i-test.false in
+    let all = subst (λ (l : List NodeTree). AreKeptWhereDue g.V.Type.WasmType.tree g.V.WasmValue.tree g.V.WasmValue.is_of g.V.WasmValue.is_full by_type (shown g.V.Type.WasmType.tree c.args.builder.due) c.args.src.now (type_of c.args.self.now) l c.loop-i.parts) (take_all c.loop-i.i (children_of c.args.self.now) ended) c.loop-i.invariant in
+    let read = subst (λ (n : NodeTree). IsReadSparing g.V.WasmValue.tree g.V.WasmValue.is_of g.V.WasmValue.is_full in_text by_type (shown g.V.Type.WasmType.tree c.args.builder.due) c.args.src.now n c.whole.result) (whole_at c.args.self.now (type_of c.args.self.now) c.span-2.result refl c.span-2.ensures)
+    (c.whole.ensures by_type (shown g.V.Type.WasmType.tree c.args.builder.due) c.args.src.now (type_of c.args.self.now) (children_of c.args.self.now) all) in
+    read_by_type g.V.WasmValue.tree g.V.WasmValue.is_of g.V.WasmValue.is_full by_type (shown g.V.Type.WasmType.tree c.args.builder.due) c.args.src.now c.args.self.now c.whole.result no_record
+    (λ T due.
+    let begun = subst (λ (o : Option TypeTree). AreKeptWhereDue g.V.Type.WasmType.tree g.V.WasmValue.tree g.V.WasmValue.is_of g.V.WasmValue.is_full by_type o c.args.src.now c.ty-ty.result [] c.begin-parts.result) due (c.begin-parts.ensures.begun by_type c.args.src.now parts) in
+    subst (λ (ns : List NodeTree). IsCounted T (type_of c.args.self.now) (length ns)) c.nodes-nodes.ensures
+    (subst (λ (k : NodeType). IsCounted T k (length c.nodes-nodes.result.now)) c.ty-ty.ensures (c.in_default.ensures.counted by_type T c.args.src.now c.ty-ty.result parts begun (c.begin-parts.ensures.doomed T due)))) read

@@ -1,0 +1,243 @@
+//! What is read of nodes, in the order of their types.
+ghost use Rattle.std.specs.Prelude.{ℕ, List, ◌≡◌, ◌≢◌, ◌<◌, Some, take, length, IfOk, IfErr, MatchBool};
+ghost use Rattle.wave_wasm.specs.Types.{TypeTree, kind_of};
+ghost use Rattle.wave_wasm.specs.Borrowed.{shown};
+ghost use Rattle.wave_grammar.specs.FaultOrder.{by_type};
+ghost use Rattle.wave_grammar.specs.NodeTree.{node, type_of, place_of, children_of};
+ghost use Rattle.wave_grammar.specs.TypedReading.{IsValueOf};
+ghost use Rattle.wave_grammar.specs.NodeAccessors.{shown_node};
+ghost use Rattle.wave_grammar.specs.Shared.ErrorSpans.{RefusesInPart};
+ghost use Rattle.wave_grammar.specs.Shared.NodeFields.{AnswersField, IsFieldNode};
+ghost use Rattle.wave_grammar.specs.FlagParts.{AreFlagsOf, flag_nodes};
+ghost use Rattle.wave_grammar.specs.NodeParts.{IsOfParts, TakesKey, TakesPart};
+ghost use Rattle.wave_read.specs.PlainReading.{IsReadSparing};
+ghost use Rattle.wave_read.specs.Reading.{IsReadAs};
+ghost use Rattle.wave_read.specs.Flat.{IsAround, ReadsNoRecord};
+ghost use Rattle.wave_tree.specs.Private.NodeForms.{IsOfOneToken};
+
+use crate::ast::{Node, NodeType};
+use std::alloc::{AllocError, Global};
+use std::collections::BTreeMap;
+use wave_grammar::label::label_name;
+use wave_lex::error::{ParserError, ParserErrorKind};
+use wave_lex::lex::Span;
+use wave_read::failure::Failure;
+use wave_read::fault::or_error_at;
+use wave_read::records::left_out;
+use wave_read::values::{Values, surrounded};
+use wave_wasm::wasm::{WasmType, WasmTypeKind, WasmValue};
+
+impl Node {
+    /// The value of the node at the type.
+    #[cycle(making)]
+    pub(crate) fn read<V: WasmValue>(
+        &self,
+        alloc: Global,
+        ty: &V::Type,
+        src: &str,
+    ) -> Result<V, ParserError>
+        requires { IsValueOf src.now self.now }
+        ensures { IsReadAs V.tree V.is_of V.is_full by_type by_type (V.Type.tree ty.now) src.now self.now result }
+    {
+        match self.make(alloc, Values::<V>::new(ty), src) {
+            Ok(Ok(val)) => Ok(val),
+            Ok(Err(failure)) => Err(failure.into_error()),
+            Err(_) => Err(self.out_of_memory()),
+        }
+    }
+
+    /// What the builder makes of the node, which was parsed from `src` as a value. Each level of a value
+    /// takes such a call, so what it calls isn't inlined, and its frame stays small.
+    #[cycle(making)]
+    fn make<V: WasmValue>(
+        &self,
+        alloc: Global,
+        builder: Values<'_, V>,
+        src: &str,
+    ) -> Result<Result<V, Failure>, AllocError>
+        requires { IsValueOf src.now self.now }
+        ensures { IfOk result (IsReadSparing V.tree V.is_of V.is_full by_type by_type (shown V.Type.tree builder.entry.due) src.now self.now) }
+    {
+        if self.is_of(NodeType::Flags) {
+            return self.make_of_flags(alloc, builder, src);
+        }
+        if let Some((around, ty)) = builder.record(self.ty()) {
+            let made = self.read_record::<V>(alloc, ty, src);
+            return Ok(surrounded(alloc, around, ty, self.span(), made));
+        }
+        if self.has_parts() {
+            return self.make_of_parts(alloc, builder, src);
+        }
+        Ok(self.make_of_token(alloc, builder, src))
+    }
+
+    /// What the builder makes of a node of one token.
+    #[inline(never)]
+    fn make_of_token<V: WasmValue>(
+        &self,
+        alloc: Global,
+        builder: Values<'_, V>,
+        src: &str,
+    ) -> Result<V, Failure>
+        requires value { IsValueOf src.now self.now }
+        requires form { IsOfOneToken self.now }
+        ensures { IsReadSparing V.tree V.is_of V.is_full by_type by_type (shown V.Type.tree builder.entry.due) src.now self.now result }
+    {
+        builder.token(alloc, self.ty(), self.span(), self.slice(src))
+    }
+
+    /// What the builder makes of a node of flags. Their names are kept only where flags are due.
+    #[inline(never)]
+    fn make_of_flags<V: WasmValue>(
+        &self,
+        alloc: Global,
+        builder: Values<'_, V>,
+        src: &str,
+    ) -> Result<Result<V, Failure>, AllocError>
+        requires value { IsValueOf src.now self.now }
+        requires form { type_of self.now ≡ NodeType.Flags }
+        ensures { IfOk result (IsReadSparing V.tree V.is_of V.is_full by_type by_type (shown V.Type.tree builder.entry.due) src.now self.now) }
+    {
+        if let Some(made) = builder.no_flags(alloc, self.span()) {
+            return Ok(made);
+        }
+        let flags = self.places_by_name(alloc, src)?;
+        Ok(builder.names(alloc, self.span(), flags))
+    }
+
+    /// The places of the labels of a node of flags, by their names.
+    fn places_by_name<'src>(
+        &self,
+        alloc: Global,
+        src: &'src str,
+    ) -> Result<BTreeMap<&'src str, Span>, AllocError>
+        requires value { IsValueOf src.now self.now }
+        requires form { type_of self.now ≡ NodeType.Flags }
+        ensures named { IfOk result (AreFlagsOf src.now) }
+        ensures nodes { IfOk result (λ flags. self.now ≡ node NodeType.Flags (place_of self.now) (flag_nodes flags)) }
+    {
+        let mut flags = BTreeMap::new(alloc);
+        for label in self.nodes() {
+            flags.insert(label_name(label.slice(src)), label.span())?;
+        }
+        Ok(flags)
+    }
+
+    /// What the builder makes of a node that has parts, from them. A tuple is refused for the number of its
+    /// items before any of them is read. It is handed no record's entries.
+    #[cycle(making)]
+    #[inline(never)]
+    fn make_of_parts<V: WasmValue>(
+        &self,
+        alloc: Global,
+        builder: Values<'_, V>,
+        src: &str,
+    ) -> Result<Result<V, Failure>, AllocError>
+        requires value { IsValueOf src.now self.now }
+        requires form { IsOfParts (type_of self.now) }
+        requires no_record { (T : TypeTree) → shown V.Type.tree builder.due ≡ Some T → ReadsNoRecord T (type_of self.now) }
+        ensures { IfOk result (IsReadSparing V.tree V.is_of V.is_full by_type by_type (shown V.Type.tree builder.entry.due) src.now self.now) }
+    {
+        let ty = self.ty();
+        let mut parts = builder.begin(alloc, ty);
+        let nodes = self.nodes();
+        if let Some(failure) = parts.refused(alloc, self.span(), nodes.len()) {
+            return Ok(Err(failure));
+        }
+        for i in 0..nodes.len() {
+            let node = &nodes[i];
+            if self.takes_key(i) {
+                let key = node.leaf(src);
+                parts.with_key(alloc, key.ty, key.span, key.text)?;
+            } else {
+                let made = node.make(alloc, parts.next(), src)?;
+                parts.with_part(alloc, made)?;
+            }
+        }
+        Ok(parts.whole(alloc, self.span()))
+    }
+
+    /// A record: its keys, then each field of the type, in the type's order, read from the entry of its
+    /// name; then whether an entry is left.
+    #[cycle(making)]
+    #[inline(never)]
+    fn read_record<V: WasmValue>(
+        &self,
+        alloc: Global,
+        ty: &V::Type,
+        src: &str,
+    ) -> Result<V, ParserError>
+        requires node { IsValueOf src.now self.now }
+        requires kind { kind_of (V.Type.tree ty.now) ≡ WasmTypeKind.Record }
+        ensures { IsReadAs V.tree V.is_of V.is_full by_type by_type (V.Type.tree ty.now) src.now self.now result }
+    {
+        let types = match ty.record_fields(alloc) {
+            Ok(types) => types,
+            Err(_) => return Err(self.out_of_memory()),
+        };
+        let mut nodes = self.fields(alloc, src)?;
+        let mut fields = Vec::new(alloc);
+        for i in 0..types.len() {
+            let (name, field) = types[i];
+            let node = nodes.remove(name);
+            let val = self.read_field(alloc, name, field, node, src)?;
+            if fields.push((name, val)).is_err() {
+                return Err(self.out_of_memory());
+            }
+        }
+        if !nodes.is_empty() {
+            return Err(self.error(ParserErrorKind::InvalidValue));
+        }
+        or_error_at(self.span(), V::make_record(alloc, ty, fields))
+    }
+
+    /// The value of the record's field of this name: that of its node, or `none` where an option is
+    /// left out.
+    #[cycle(making)]
+    fn read_field<V: WasmValue>(
+        &self,
+        alloc: Global,
+        name: &str,
+        ty: &V::Type,
+        node: Option<&Node>,
+        src: &str,
+    ) -> Result<V, ParserError>
+        requires { IsFieldNode src.now (shown_node node) }
+        ensures answer { AnswersField V.tree V.is_of V.is_full by_type (V.Type.tree ty.now) src.now name.now self.now (shown_node node.entry) result }
+        ensures within { IfErr result (RefusesInPart self.now (shown_node node.entry)) }
+    {
+        match node {
+            Some(node) => node.read(alloc, ty, src),
+            None => left_out(alloc, name, ty, &self.span()),
+        }
+    }
+
+    /// Whether the node, which isn't of flags, has parts; else it is of one token.
+    fn has_parts(&self) -> bool
+        ensures { (source : List ℕ) → IsValueOf source self.now → type_of self.now ≢ NodeType.Flags
+            → MatchBool result (IsOfParts (type_of self.now)) (IsOfOneToken self.now) }
+    {
+        match self.ty() {
+            NodeType::Tuple
+            | NodeType::List
+            | NodeType::TupleSet
+            | NodeType::EmptySet
+            | NodeType::VariantWithPayload
+            | NodeType::OptionSome => true,
+            NodeType::ResultOk | NodeType::ResultErr => !self.nodes().is_empty(),
+            _ => false,
+        }
+    }
+
+    /// Whether this child of a node that has parts is a key, or the label of a case; else it is a value.
+    fn takes_key(&self, at: usize) -> bool
+        ensures { (source : List ℕ) → IsValueOf source self.now → IsOfParts (type_of self.now) → at < length (children_of self.now)
+            → MatchBool result (TakesKey (type_of self.now) (take at (children_of self.now))) (TakesPart (type_of self.now) (take at (children_of self.now))) }
+    {
+        match self.ty() {
+            NodeType::TupleSet => at % 2 == 0,
+            NodeType::VariantWithPayload => at == 0,
+            _ => false,
+        }
+    }
+}
