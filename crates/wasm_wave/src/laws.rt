@@ -2,7 +2,7 @@
 //! crates below under the same names.
 ghost use Rattle.std.specs.Prelude.{ℕ, List, ◌≡◌};
 ghost use Rattle.std.specs.declared.ops.Range.{Range};
-ghost use Rattle.wave_wasm.specs.Types.{TypeTree, HasDistinctNames, IsOwn};
+ghost use Rattle.wave_wasm.specs.Types.{TypeTree, HasDistinctNames, IsRepresentable};
 ghost use Rattle.wave_lex.specs.Labels.{Good};
 ghost use Rattle.wave_grammar.specs.UnambiguityLaws.{OneReading};
 ghost use Rattle.wave_grammar.specs.RoundTripLaws.{ReadsBack, EqualTexts, ReadsMerged, ReadsBackWithinTwice};
@@ -10,18 +10,18 @@ ghost use Rattle.wasm_wave.specs.MainTheorem.{OneValue};
 ghost use Rattle.wasm_wave.specs.Places.{IsExplained};
 
 pub use wave_lex::laws::{
-    faults_refuse, labels_are_words, lines_join, no_longer_label, one_cut, one_line_joins,
-    one_meaning, parts_join, through_first_quotes, tokens_cut,
+    decoding_functional, faults_refuse, labels_are_words, lines_join, no_longer_label, one_cut,
+    one_line_joins, parts_join, through_first_quotes, tokens_cut,
 };
 pub use wave_tree::laws::{
-    a_fault_alone_is_answered, answered_faults_are_faults, askings_are_few, fronts_are_led,
-    keys_are_values, last_commas_mean_nothing, led_tokens_begin_a_tree, led_tokens_have_a_tree,
-    levels_are_exact, nodes_read_as_their_tokens, one_fault, one_reading, one_tree,
-    order_means_nothing, orders_agree, params_are_by_tree, read_values_have_a_tree,
-    reading_is_by_tree, refusals_are_of_their_kind, refusals_lie_in_the_text,
-    refused_tokens_begin_none, refused_values_have_none, same_tokens_mean_the_same,
-    shown_call_keeps_meaning, shown_keeps_meaning, trees_are_led, unexpected_tokens_begin_none,
-    untyped_reading_agrees, whole_texts_are_read,
+    a_fault_alone_is_answered, accepted_tokens_have_a_tree, answered_faults_are_faults,
+    keys_are_values, last_commas_mean_nothing, levels_are_exact, lexer_calls_bounded,
+    nodes_read_as_their_tokens, one_fault, one_reading, one_tree, order_means_nothing,
+    orders_agree, params_are_by_tree, prefixes_are_viable, read_values_have_a_tree,
+    reading_is_by_tree, refusal_kinds_sound, refusals_lie_in_the_text, refused_tokens_begin_none,
+    refused_values_have_none, same_tokens_mean_the_same, shown_call_keeps_meaning,
+    shown_keeps_meaning, trees_are_accepted, unexpected_tokens_begin_none, untyped_reading_agrees,
+    viable_tokens_begin_a_tree, whole_texts_are_read,
 };
 pub use wave_type::laws::{
     end_alone_is_unexpected_end, equal_functions, equal_types, function_text_spells,
@@ -47,7 +47,7 @@ pub fn text_injective()
 /// The canonical text of a value of such a type has the tokens that spell the value, merged, and
 /// no more levels than they hold are needed.
 pub fn text_reads_back()
-    ensures { (T : TypeTree) → Good T → IsOwn T → ReadsBack T }
+    ensures { (T : TypeTree) → Good T → IsRepresentable T → ReadsBack T }
 {}
 
 /// What tokens spell at a type is merged: in each map of it, inner ones too, each key stands once.
@@ -58,7 +58,7 @@ pub fn read_values_are_merged()
 /// Where the tokens of a text spell a value of such a type within some levels, the value's
 /// canonical text reads back, and holds at most twice as many.
 pub fn levels_at_most_double()
-    ensures { (T : TypeTree) → Good T → IsOwn T → ReadsBackWithinTwice T }
+    ensures { (T : TypeTree) → Good T → IsRepresentable T → ReadsBackWithinTwice T }
 {}
 
 /// One text explains a refusal: the source, the message and the span determine it, byte for byte.

@@ -4,14 +4,14 @@ use Rattle.std.specs.Prelude.{IsErrAnd}
 use Rattle.wave_lex.specs.Errors.{Diagnostic}
 use Rattle.wave_lex.specs.declared.error.ParserErrorKind.TheVariants as kind
 use Rattle.wave_tree.specs.FromStr.{IsValueTaken, RefusesValue, IsRead, BlamesText}
-use Rattle.wave_tree.specs.ParserState.{Parsing, Finishes, first_at, limited, front_of}
+use Rattle.wave_tree.specs.ParserState.{Parsing, Finishes, first_at, limited, value_start}
 use Rattle.wave_tree.proofs.ValueReading.{whole_text}
 use Rattle.wave_grammar.specs.ParserPosition.{Place}
 use Rattle.wave_wasm.specs.Types.{TypeTree, HasDistinctNames}
 use Rattle.wave_value.specs.FullTypes.{IsFull}
 use Rattle.wave_value.specs.TypedValue.{TypedValue, IsAt}
 use Rattle.wave_wasm.specs.Text.{text}
-use Rattle.wave_wasm.specs.WriterState.{IsForMemory, IsWantOfMemory}
+use Rattle.wave_wasm.specs.WriterState.{IsForMemory, IsOutOfMemory}
 use Rattle.wave_wasm.specs.declared.writer.WriterError.{WriterError}
 use Rattle.wave.specs.declared.request.Request.{Request}
 use Rattle.wave.specs.declared.request.Request.TheVariants.{Read}
@@ -29,7 +29,7 @@ pub answered : (T : TypeTree) (n : ℕ) (s : List ℕ) (v : TypedValue) (answer 
 answered T n s v answer distinct read same = (v.tree, (read.meant distinct).0, same)
 
 -- it is refused for lack of memory alone
-pub wants_memory : (T : TypeTree) (n : ℕ) (s : List ℕ) (v : TypedValue) (e : WriterError) → HasDistinctNames T → IsReadAt T n s v → IsForMemory v.tree e → IsWantOfMemory e
+pub wants_memory : (T : TypeTree) (n : ℕ) (s : List ℕ) (v : TypedValue) (e : WriterError) → HasDistinctNames T → IsReadAt T n s v → IsForMemory v.tree e → IsOutOfMemory e
 wants_memory T n s v e distinct read memory = memory T (read.meant distinct).1.fits
 
 -- a refusal that is handed on says what it said
@@ -52,7 +52,7 @@ told T n s e distinct blames other = by (blames distinct) where
 
 -- ---- a parser before the text
 
-module _ (T : TypeTree) (n : ℕ) (s : List ℕ) (old : Parsing) (p : Place) (first : old ≡ limited (first_at (front_of s)) n) where
+module _ (T : TypeTree) (n : ℕ) (s : List ℕ) (old : Parsing) (p : Place) (first : old ≡ limited (first_at (value_start s)) n) where
   -- a value that was read there, with nothing after it
   pub read_whole : (v : TypedValue) → IsValueTaken (λ (v : TypedValue). v.tree) (λ v T. IsAt T v) T old.limit old.place p v → Finishes (Ok tt) p → IsReadAt T n s v
   read_whole v taken ends =

@@ -19,7 +19,7 @@ use Rattle.wave_grammar.specs.Calls.{IsCall, SpellsParams}
 use Rattle.wave_grammar.specs.Params.{Params, Omitted}
 use Rattle.wave_grammar.specs.ParamElaboration.{TreeParams}
 use Rattle.wave_grammar.specs.SpannedTree as placed
-use Rattle.wave_grammar.specs.SpannedTree.{Placed, Shape, shape_of, placed_trees, tree_of, tree_of_shape, slice}
+use Rattle.wave_grammar.specs.SpannedTree.{SpannedTree, SpannedShape, shape_of, placed_trees, tree_of, tree_of_shape, slice}
 use Rattle.wave_grammar.proofs.Elaboration.Params.{params_by_tree}
 use Rattle.wave_grammar.proofs.RoundTrip.Leaves.{one_cut_into}
 use Rattle.wave_grammar.specs.NodeTree.{NodeTree, type_of}
@@ -74,17 +74,17 @@ inside_tuple : (ts us : Trees) → tuple ts ≡ tuple us → ts ≡ us
 inside_tuple ts us e = cc
 
 -- the items are the trees of the placed ones
-placed_items : (t : Placed) (items : List Tree) (ps : List Placed) → tree_of t ≡ tuple (trees items) → shape_of t ≡ placed.tuple (placed_trees ps) → items ≡ map tree_of ps
+placed_items : (t : SpannedTree) (items : List Tree) (ps : List SpannedTree) → tree_of t ≡ tuple (trees items) → shape_of t ≡ placed.tuple (placed_trees ps) → items ≡ map tree_of ps
 placed_items t items ps is shape =
     let same : tree_of t ≡ tuple (placed.trees_of (placed_trees ps)) = tree_is t (placed.tuple (placed_trees ps)) shape in
     one_list items (map tree_of ps) (inside_tuple _ _ (sym is ∙ (same ∙ ap tuple (trees_are ps))))
 
-tuple_from : (ty : NodeType) (p : Range ℕ) (text : List ℕ) (cs : List Placed) (s : Shape) (ts : Trees) → From ty p text cs s → tree_of_shape s ≡ tuple ts → ty ≡ form.Tuple
+tuple_from : (ty : NodeType) (p : Range ℕ) (text : List ℕ) (cs : List SpannedTree) (s : SpannedShape) (ts : Trees) → From ty p text cs s → tree_of_shape s ≡ tuple ts → ty ≡ form.Tuple
 tuple_from ty p text cs (placed.tuple items) ts f is = f.0
 tuple_from ty p text cs _ ts f is = absurd (cc)
 
 -- the node of a tuple's tree is a tuple
-tuple_node : (source : List ℕ) (n : NodeTree) (t : Placed) (ts : Trees) → placed_of source n ≡ Some t → tree_of t ≡ tuple ts → type_of n ≡ form.Tuple
+tuple_node : (source : List ℕ) (n : NodeTree) (t : SpannedTree) (ts : Trees) → placed_of source n ≡ Some t → tree_of t ≡ tuple ts → type_of n ≡ form.Tuple
 tuple_node source n t ts is e =
     let i = inside source n t is in
     tuple_from (type_of n) _ _ i.children (shape_of t) ts i.from (sym (tree_is t (shape_of t) refl) ∙ e)

@@ -4,11 +4,11 @@ use Rattle.wave_lex.specs.Errors.{Diagnostic}
 use Rattle.wave_lex.specs.declared.error.ParserErrorKind.TheVariants as kind
 use Rattle.wave_grammar.specs.Tree.{MaybeTree, shown}
 use Rattle.wave_grammar.specs.Calls.{shown_call}
-use Rattle.wave_grammar.specs.SpannedTree.{Placed, tree_of, slice}
+use Rattle.wave_grammar.specs.SpannedTree.{SpannedTree, tree_of, slice}
 use Rattle.wave_grammar.specs.NodeTree.{NodeTree}
 use Rattle.wave_grammar.specs.Nodes.{placed_of}
 use Rattle.wave_tree.specs.NodeDisplay.{shown_placed, shown_at}
-use Rattle.wave_tree.specs.ParserState.{Parsing, Finishes, first_at, limited, front_of}
+use Rattle.wave_tree.specs.ParserState.{Parsing, Finishes, first_at, limited, value_start}
 use Rattle.wave_tree.specs.Untyped.{Untyped, IsUntypedTaken, IsUntypedOf, RefusesTree}
 use Rattle.wave_tree.proofs.ValueReading.{whole_tree}
 use Rattle.wave_grammar.specs.ParserPosition.{Place}
@@ -19,7 +19,7 @@ use Rattle.wave.specs.declared.request.Request.TheVariants.{Value, Call}
 use Rattle.wave.specs.Answers.{Answers, IsRefused}
 
 -- what shows a node whose tree is known
-shown_known : (source : List ℕ) (n : NodeTree) (t : Placed) → placed_of source n ≡ Some t → shown_at source n ≡ shown (tree_of t)
+shown_known : (source : List ℕ) (n : NodeTree) (t : SpannedTree) → placed_of source n ≡ Some t → shown_at source n ≡ shown (tree_of t)
 unfolding shown_at
 shown_known source n t is = ap shown_placed is
 
@@ -53,15 +53,15 @@ is_no_call s e fault other = ((fault other).0, λ answer found. (fault other).1 
 -- ---- a parser before the text
 
 -- a tree that was read there, with nothing after it
-pub tree_whole : (n : ℕ) (s : List ℕ) (old : Parsing) (p : Place) (u : Untyped) → old ≡ limited (first_at (front_of s)) n → IsUntypedTaken old.limit old.place p u → Finishes (Ok tt) p → IsUntypedOf n s u
+pub tree_whole : (n : ℕ) (s : List ℕ) (old : Parsing) (p : Place) (u : Untyped) → old ≡ limited (first_at (value_start s)) n → IsUntypedTaken old.limit old.place p u → Finishes (Ok tt) p → IsUntypedOf n s u
 tree_whole n s old p u first taken ends = (whole_tree n s).ends p u (subst (λ (z : Parsing). IsUntypedTaken z.limit z.place p u) first taken) ends
 
 -- a tree with something after it
-pub tree_trails : (n : ℕ) (s : List ℕ) (old : Parsing) (p : Place) (u : Untyped) (e : Diagnostic) → old ≡ limited (first_at (front_of s)) n →
+pub tree_trails : (n : ℕ) (s : List ℕ) (old : Parsing) (p : Place) (u : Untyped) (e : Diagnostic) → old ≡ limited (first_at (value_start s)) n →
     LeadsBehindValue old.limit value [] old.place p [] → IsUntypedTaken old.limit old.place p u → Finishes (Err e) p → RefusesTree n s e
 tree_trails n s old p u e first read taken ends =
     (whole_tree n s).trails p u e (subst (λ (z : Parsing). LeadsBehindValue z.limit value [] z.place p []) first read) (subst (λ (z : Parsing). IsUntypedTaken z.limit z.place p u) first taken) ends
 
 -- a tree that was refused
-pub tree_refused : (n : ℕ) (s : List ℕ) (old : Parsing) (p : Place) (e : Diagnostic) → old ≡ limited (first_at (front_of s)) n → FailsBySyntax e old.limit value [] old.place p → RefusesTree n s e
+pub tree_refused : (n : ℕ) (s : List ℕ) (old : Parsing) (p : Place) (e : Diagnostic) → old ≡ limited (first_at (value_start s)) n → FailsBySyntax e old.limit value [] old.place p → RefusesTree n s e
 tree_refused n s old p e first refused = (whole_tree n s).refused p e (subst (λ (z : Parsing). FailsBySyntax e z.limit value [] z.place p) first refused)

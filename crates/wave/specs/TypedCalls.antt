@@ -10,7 +10,7 @@ use Rattle.wave_lex.specs.declared.error.ParserErrorKind.TheVariants.{InvalidPar
 use Rattle.wave_grammar.specs.Tree.{MaybeTree}
 use Rattle.wave_grammar.specs.Calls.{IsCall}
 use Rattle.wave_grammar.specs.Params.{Params}
-use Rattle.wave_grammar.specs.SpannedTree.{Placed, shape_of, tuple, placed_trees}
+use Rattle.wave_grammar.specs.SpannedTree.{SpannedTree, shape_of, tuple, placed_trees}
 use Rattle.wave_grammar.specs.NodeTree.{NodeTree}
 use Rattle.wave_grammar.specs.Nodes.{IsNodeOf}
 use Rattle.wave_grammar.specs.NodeParams.{IsNoOption, ParamsFault, close_of}
@@ -24,7 +24,7 @@ IsCallAt Ts whole name vs = (params : MaybeTree) × (call : IsCall whole name pa
 abbrev pub HasParamsFault : List TypeTree → List ℕ → Range ℕ → Option NodeTree → Diagnostic → Type 0
 HasParamsFault Ts source name None e = SomeOf IsNoOption Ts × Says e InvalidParams name (Some (no_params (length Ts)))
 HasParamsFault Ts source name (Some n) e =
-    (t : Placed) × (items : List Placed) × IsNodeOf source n t × (shape_of t ≡ tuple (placed_trees items)) × ParamsFault Ts items (close_of n) e
+    (t : SpannedTree) × (items : List SpannedTree) × IsNodeOf source n t × (shape_of t ≡ tuple (placed_trees items)) × ParamsFault Ts items (close_of n) e
 
 -- the text is a call, whose parameters have a fault at the types
 abbrev pub CallFaultAt : List TypeTree → List ℕ → Diagnostic → Type 0

@@ -1,7 +1,7 @@
 // What a request answers on a text.
 ghost use Rattle.std.specs.Prelude.{◌≡◌, ◌++◌, IfOk, MatchResult, map, string_bytes};
 ghost use Rattle.wave_wasm.specs.Text.{arguments_text};
-ghost use Rattle.wave_wasm.specs.WriterState.{IsWantOfMemory};
+ghost use Rattle.wave_wasm.specs.WriterState.{IsOutOfMemory};
 ghost use Rattle.wave.specs.declared.answer.Unanswered.TheVariants as why;
 ghost use Rattle.wave.specs.declared.request.Request.TheVariants as request;
 ghost use Rattle.wave_tree.specs.ParserState.{IsLimit};
@@ -125,7 +125,7 @@ fn read(alloc: Global, ty: &Type, levels: u32, text: &str) -> Result<String, Una
 
 /// Out of memory, for which alone a value of a type isn't written.
 fn for_memory(error: WriterError) -> Unanswered
-    requires { IsWantOfMemory error }
+    requires { IsOutOfMemory error }
     ensures { result ≡ why.OutOfMemory }
 {
     match error {

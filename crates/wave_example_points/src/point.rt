@@ -49,7 +49,7 @@ impl IntoValue for Point {
 
     ghost tree = { point_value };
 
-    ghost is_own = { refl };
+    ghost is_representable = { refl };
 
     fn value_type(alloc: Global) -> Result<Type, AllocError> {
         let mut fields = Vec::new(alloc);

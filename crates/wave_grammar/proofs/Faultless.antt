@@ -12,7 +12,7 @@ use Rattle.wave_grammar.specs.Tree.{Tree, Trees, trees}
 use Rattle.wave_wasm.specs.Lists.{SomeOf}
 use Rattle.wave_grammar.specs.LeafTokens.{Spells, name_of}
 use Rattle.wave_grammar.specs.Elaborates.{SimpleTree, TreeReads, TreeReadsPayload, TreeReadsFlat, Each, TreeReadsCase, TreeReadsAll}
-use Rattle.wave_grammar.specs.SpannedTree.{Placed, MaybePlaced, no_placed, a_placed, at, one, list, none, some, ok, err, maybe_of, PlacedTrees, no_more, and_then, placed_list, tree_of, trees_of, label, tuple, PlacedEntry}
+use Rattle.wave_grammar.specs.SpannedTree.{SpannedTree, MaybePlaced, no_placed, a_placed, at, one, list, none, some, ok, err, maybe_of, PlacedTrees, no_more, and_then, placed_list, tree_of, trees_of, label, tuple, PlacedEntry}
 use Rattle.wave_grammar.specs.FaultOrder.{Order, BlamesNothing, FirstFault}
 use Rattle.wave_grammar.proofs.FirstFaults.{first_is_fault}
 use Rattle.wave_grammar.specs.TypeErrors.{LeafFault, IsForm, Fault, FaultOfPayload, FaultOfFlat, FaultOfCase, FaultOfItem, FaultOfField}
@@ -51,7 +51,7 @@ leaf_none (type.whole which) p t k q l (inr h) spelled = h.1.0 l spelled
 leaf_none type.char p t k q l (inr h) spelled = h.1.0 l spelled
 leaf_none type.string p t k q l (inr h) spelled = string_none p t k q l h.1 spelled
 
-simple_none : (S : Simple) (t : Placed) (k : Refusal) (q : Range ℕ) (v : Value) → Fault (type.simple S) t k q → SimpleTree S (tree_of t) v → ⊥
+simple_none : (S : Simple) (t : SpannedTree) (k : Refusal) (q : Range ℕ) (v : Value) → Fault (type.simple S) t k q → SimpleTree S (tree_of t) v → ⊥
 simple_none S (at p (one token)) k q v fault (other, l, e, spelled, f) =
     leaf_none S p token k q l fault (subst (λ (u : Token). Spells S u l) (sym (token_is token other e)) spelled)
   where
@@ -59,7 +59,7 @@ simple_none S (at p (one token)) k q v fault (other, l, e, spelled, f) =
     token_is a b e = cc
 simple_none S (at p _) k q v fault (other, l, e, spelled, f) = absurd (cc)
 
-list_none : (E : TypeTree) (ts : PlacedTrees) (k : Refusal) (q : Range ℕ) (us : List Tree) (vs : List Value) → ((t : Placed) → Fault E t k q → ReadsNone E t) → SomeOf (λ item. Fault E item k q) (placed_list ts) → trees_of ts ≡ trees us → Each (TreeReads E) us vs → ⊥
+list_none : (E : TypeTree) (ts : PlacedTrees) (k : Refusal) (q : Range ℕ) (us : List Tree) (vs : List Value) → ((t : SpannedTree) → Fault E t k q → ReadsNone E t) → SomeOf (λ item. Fault E item k q) (placed_list ts) → trees_of ts ≡ trees us → Each (TreeReads E) us vs → ⊥
 list_none E no_more k q us vs apart h e each = h
 list_none E (and_then t more) k q [] vs apart h e each = cc
 list_none E (and_then t more) k q (u ∷ us) vs apart (inl fault) e (v, ws, read, others, f) = apart t fault v (subst (λ (w : Tree). TreeReads E w v) (sym (first_tree (tree_of t) u (trees_of more) (trees us) e)) read)
@@ -74,7 +74,7 @@ list_length (and_then t more) (u ∷ us) e = ap suc (list_length more us (cc))
 
 mutual
   -- a tree with a fault at a type is given no value by it
-  pub no_value : (T : TypeTree) (t : Placed) (k : Refusal) (q : Range ℕ) → HasDistinctNames T → Fault T t k q → ReadsNone T t
+  pub no_value : (T : TypeTree) (t : SpannedTree) (k : Refusal) (q : Range ℕ) → HasDistinctNames T → Fault T t k q → ReadsNone T t
   no_value (type.simple S) t k q names fault = λ v read. simple_none S t k q v fault read
   no_value (type.unreadable u) t k q names fault = λ v read. read
   no_value (type.list E) (at p (list ts)) k q names fault = λ v read. list_none E ts k q read.0 read.1 (λ u h. no_value E u k q names h) fault (inner_trees (trees_of ts) (trees read.0) read.2) read.3
@@ -114,7 +114,7 @@ mutual
   no_payload (a_type T) name (a_placed u) p k q names fault = λ w read. no_value T u k q names fault read.1 (subst (λ (x : Tree). TreeReads T x read.1) (sym (only_tree (tree_of u) read.0 read.2)) read.3)
 
   -- so is a tree that would stand for `ok` of itself
-  no_flat : (A : MaybeType) (t : Placed) (k : Refusal) (q : Range ℕ) → EachNamesOfMaybe AreDistinct A → FaultOfFlat A t k q → (w : Value) → TreeReadsFlat A (tree_of t) w → ⊥
+  no_flat : (A : MaybeType) (t : SpannedTree) (k : Refusal) (q : Range ℕ) → EachNamesOfMaybe AreDistinct A → FaultOfFlat A t k q → (w : Value) → TreeReadsFlat A (tree_of t) w → ⊥
   no_flat no_type t k q names fault = λ w read. read
   no_flat (a_type T) t k q names (inl h) = λ w read. h.0 read.0
   no_flat (a_type T) t k q names (inr h) = λ w read. no_value T t k q names h.1 w read.1
@@ -137,12 +137,12 @@ mutual
       no_item more ps k q first.1 first.2 names.1 fault first.4 first.5
 
 -- a type blames nothing in a tree to which it gives a value
-pub value_fine : (o w : Order) (T : TypeTree) (t : Placed) (v : Value) → HasDistinctNames T → TreeReads T (tree_of t) v → BlamesNothing (FirstFault o w T t)
+pub value_fine : (o w : Order) (T : TypeTree) (t : SpannedTree) (v : Value) → HasDistinctNames T → TreeReads T (tree_of t) v → BlamesNothing (FirstFault o w T t)
 value_fine o w T t v distinct read k q fault = no_value T t k q distinct (first_is_fault o w T t k q fault) v read
 
 module _ {V : Type 0} (tree : V → Value) (of : V → TypeTree → Type 0) (Full : TypeTree → Type 0) (o : Order) where
   -- where a fault is the answer there is no value
-  pub refused : (T : TypeTree) (t : Placed) (r : Result V Diagnostic) → HasDistinctNames T → MatchResult r (IsTypedValue tree of T t) (IsBlamed Full o o T t) → MatchResult r (IsTypedValue tree of T t) (IsTypeError Full o T t)
+  pub refused : (T : TypeTree) (t : SpannedTree) (r : Result V Diagnostic) → HasDistinctNames T → MatchResult r (IsTypedValue tree of T t) (IsBlamed Full o o T t) → MatchResult r (IsTypedValue tree of T t) (IsTypeError Full o T t)
   refused T t (Ok v) distinct h = h
   refused T t (Err e) distinct (inl memory) = inl memory
   refused T t (Err e) distinct (inr (inl fault)) = inr (inl (fault, no_value T t (refusal_of e) e.span distinct (first_is_fault o o T t (refusal_of e) e.span fault)))

@@ -8,7 +8,7 @@ use Rattle.wave_wasm.specs.Types.{TypeTree, MaybeType, Types, Fields, Cases, no_
 use Rattle.wave_wasm.specs.Types.{HasDistinctNames, EachNamesOfMaybe, EachNamesOfTypes, EachNamesOfCases}
 use Rattle.wave_lex.specs.Errors.{Refusal}
 use Rattle.wave_grammar.specs.LeafTokens.{name_of}
-use Rattle.wave_grammar.specs.SpannedTree.{Placed, at, MaybePlaced, no_placed, a_placed, PlacedEntry, label, none, some, ok, err, span_of}
+use Rattle.wave_grammar.specs.SpannedTree.{SpannedTree, at, MaybePlaced, no_placed, a_placed, PlacedEntry, label, none, some, ok, err, span_of}
 use Rattle.wave_grammar.specs.TypeErrors.{Blame, Fault, OfForm, names_in}
 use Rattle.wave_grammar.specs.TypeErrors.{KeyFault, UnknownField, RepeatedField, IsFor, MissingField, FaultOfPayload, FaultOfFlat, FaultOfItem, FaultOfField, FaultOfCase}
 use Rattle.wave_grammar.specs.FaultOrder.{Order, in_text, by_type, BlamesNothing, OrElse, FirstOf, InOrder, FaultOfKey, FaultOfKeys, FaultOfEntries, FirstLeftOut}
@@ -215,7 +215,7 @@ of_value {N} w name T more e apart a b = record { one = one_of_two (λ for other
 
 mutual
   -- the fault that is answered, for all faults
-  answers : (o w : Order) (T : TypeTree) (t : Placed) → Answers (HasDistinctNames T) (FirstFault o w T t) (Fault T t)
+  answers : (o w : Order) (T : TypeTree) (t : SpannedTree) → Answers (HasDistinctNames T) (FirstFault o w T t) (Fault T t)
   answers o w (type.simple S) t = of_form _ _ (λ token. itself (one_leaf_fault S (span_of t) token))
   answers o w (type.unreadable u) t = itself one_said
   answers o w (type.list E) t = of_form _ _ (λ items. first items (λ item. answers w w E item))
@@ -258,12 +258,12 @@ mutual
   of_payload w name (a_type T) (a_placed t) p = answers w w T t
 
   -- that of a tree that would stand for `ok` of itself
-  of_flat : (o w : Order) (A : MaybeType) (t : Placed) → Answers (EachNamesOfMaybe AreDistinct A) (FirstOfFlat o w A t) (FaultOfFlat A t)
+  of_flat : (o w : Order) (A : MaybeType) (t : SpannedTree) → Answers (EachNamesOfMaybe AreDistinct A) (FirstOfFlat o w A t) (FaultOfFlat A t)
   of_flat o w no_type t = itself one_said
   of_flat o w (a_type T) t = in_case (λ other flat. other flat) (itself one_said) (answers o w T t)
 
   -- that of the items of a tuple
-  of_items : (w : Order) (Ts : Types) (items : List Placed) → Answers (EachNamesOfTypes AreDistinct Ts) (FirstItem w Ts items) (FaultOfItem Ts items)
+  of_items : (w : Order) (Ts : Types) (items : List SpannedTree) → Answers (EachNamesOfTypes AreDistinct Ts) (FirstItem w Ts items) (FaultOfItem Ts items)
   of_items w no_types items = itself none_said
   of_items w (type_and T more) [] = itself none_said
   of_items w (type_and T more) (t ∷ others) = or_else (under (λ n. n.0) (answers w w T t)) (under (λ n. n.1) (of_items w more others))
@@ -274,13 +274,13 @@ mutual
   of_case w (case_of other A more) name payload p = in_case (λ same apart. apart same) (under (λ n. n.0) (of_payload w name A payload p)) (under (λ n. n.1) (of_case w more name payload p))
 
 -- at most one fault is answered
-pub one_fault : (o w : Order) (T : TypeTree) (t : Placed) → BlamesOne (FirstFault o w T t)
+pub one_fault : (o w : Order) (T : TypeTree) (t : SpannedTree) → BlamesOne (FirstFault o w T t)
 one_fault o w T t = (answers o w T t).one
 
 -- the fault that is answered in whatever order is a fault
-pub first_is_fault : (o w : Order) (T : TypeTree) (t : Placed) (k : Refusal) (q : Range ℕ) → FirstFault o w T t k q → Fault T t k q
+pub first_is_fault : (o w : Order) (T : TypeTree) (t : SpannedTree) (k : Refusal) (q : Range ℕ) → FirstFault o w T t k q → Fault T t k q
 first_is_fault o w T t = (answers o w T t).fault
 
 -- where the names of the type are distinct and no fault is answered, there is none
-pub no_fault : (o w : Order) (T : TypeTree) (t : Placed) → HasDistinctNames T → BlamesNothing (FirstFault o w T t) → BlamesNothing (Fault T t)
+pub no_fault : (o w : Order) (T : TypeTree) (t : SpannedTree) → HasDistinctNames T → BlamesNothing (FirstFault o w T t) → BlamesNothing (Fault T t)
 no_fault o w T t = (answers o w T t).none_left

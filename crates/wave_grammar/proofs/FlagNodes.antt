@@ -7,7 +7,7 @@ use Rattle.wave_grammar.specs.Token as token
 use Rattle.wave_grammar.specs.Tree as form
 use Rattle.wave_grammar.specs.Tree.{Word, SpellsTree, Takes, BehindWord, is_before, put_in_order, in_order, word_of}
 use Rattle.wave_grammar.specs.LeafTokens.{name_of}
-use Rattle.wave_grammar.specs.SpannedTree.{Placed, Shape, at, empty_braces, flags, slice, shape_of, SpellsEach, SpellsFlags}
+use Rattle.wave_grammar.specs.SpannedTree.{SpannedTree, SpannedShape, at, empty_braces, flags, slice, shape_of, SpellsEach, SpellsFlags}
 use Rattle.wave_grammar.specs.NodeTree.{NodeTree, type_of, place_of, children_of}
 use Rattle.wave_grammar.specs.Nodes.{placed_of, shape_from, flag_of, flags_of, key_of, with_both, IsNodeOf, IsParsedFrom}
 use Rattle.wave_grammar.specs.NodeAccessors.{node_text}
@@ -86,18 +86,18 @@ spelled_flags (suc n) _ rest us h = absurd h
 -- ---- the node
 
 -- a node of flags or `{}`: its labels
-pub record FlagsNode (source : List ℕ) (n : NodeTree) (t : Placed) : Type 0 where
+pub record FlagsNode (source : List ℕ) (n : NodeTree) (t : SpannedTree) : Type 0 where
   pub labels : List (Range ℕ × List ℕ)
   pub form : (shape_of t ≡ empty_braces) × (labels ≡ []) ⊎ (shape_of t ≡ flags labels)
   pub parsed : AreAllParsed source (children_of n)
   pub names : names_at source (children_of n) ≡ map (λ f. name_of f.1) labels
   pub ordered : AreInOrder (names_at source (children_of n))
 
-flags_shape : (p : Range ℕ) (text : List ℕ) (cs : List Placed) (s : Shape) (o : Option (List (Range ℕ × List ℕ))) → flags_of cs ≡ o → option_map flags o ≡ Some s → (fs : List (Range ℕ × List ℕ)) × (flags_of cs ≡ Some fs) × (s ≡ flags fs)
+flags_shape : (p : Range ℕ) (text : List ℕ) (cs : List SpannedTree) (s : SpannedShape) (o : Option (List (Range ℕ × List ℕ))) → flags_of cs ≡ o → option_map flags o ≡ Some s → (fs : List (Range ℕ × List ℕ)) × (flags_of cs ≡ Some fs) × (s ≡ flags fs)
 flags_shape p text cs s (Some fs) is e = (fs, is, sym (some_is _ _ e))
 flags_shape p text cs s None is e = absurd (cc)
 
-empty_shape : (p : Range ℕ) (text : List ℕ) (cs : List Placed) (s : Shape) → shape_from kind.EmptySet p text cs ≡ Some s → (cs ≡ []) × (s ≡ empty_braces)
+empty_shape : (p : Range ℕ) (text : List ℕ) (cs : List SpannedTree) (s : SpannedShape) → shape_from kind.EmptySet p text cs ≡ Some s → (cs ≡ []) × (s ≡ empty_braces)
 empty_shape p text [] s e = (refl, sym (some_is _ _ e))
 empty_shape p text (c ∷ more) s e = absurd (cc)
 
@@ -107,7 +107,7 @@ flags_both (Some f) None fs e = absurd (cc)
 flags_both None (Some more) fs e = absurd (cc)
 flags_both None None fs e = absurd (cc)
 
-labels_parsed : (source : List ℕ) (p : Range ℕ) (ns : List NodeTree) (cs : List Placed) (fs : List (Range ℕ × List ℕ)) → AreParsed source ns cs → flags_of cs ≡ Some fs → SpellsFlags source p fs → AreAllParsed source ns × (names_at source ns ≡ map (λ f. name_of f.1) fs)
+labels_parsed : (source : List ℕ) (p : Range ℕ) (ns : List NodeTree) (cs : List SpannedTree) (fs : List (Range ℕ × List ℕ)) → AreParsed source ns cs → flags_of cs ≡ Some fs → SpellsFlags source p fs → AreAllParsed source ns × (names_at source ns ≡ map (λ f. name_of f.1) fs)
 labels_parsed source p [] [] fs h is spelled = (tt, ap (map (λ f. name_of f.1)) (some_is _ _ is))
 labels_parsed source p [] (c ∷ cs) fs h is spelled = absurd h
 labels_parsed source p (n ∷ ns) [] fs h is spelled = absurd h
@@ -119,17 +119,17 @@ labels_parsed source p (n ∷ ns) (c ∷ cs) fs h is spelled =
     let name : name_of (node_text source n) ≡ name_of b.0.1 = ap name_of (sym (flag_text source n c b.0.0 b.0.1 (inside source n c h.0) b.2)) in
     ((own, rest.0), (λ i. name i ∷ rest.1 i) ∙ ap (map (λ f. name_of f.1)) (sym b.4))
 
-flags_node : (source : List ℕ) (n : NodeTree) (t : Placed) → IsNodeOf source n t → type_of n ≡ kind.Flags → FlagsNode source n t
+flags_node : (source : List ℕ) (n : NodeTree) (t : SpannedTree) → IsNodeOf source n t → type_of n ≡ kind.Flags → FlagsNode source n t
 flags_node source n (at r s) h e =
     let i = inside source n (at r s) h.0 in
     let c = flags_shape (place_of n) (slice source (place_of n)) i.children s (flags_of i.children) refl (shape_at kind.Flags source n (at r s) i e) in
-    let spelled : SpellsEach source (at r (flags c.0)) = subst (λ (x : Shape). SpellsEach source (at r x)) c.2 h.1 in
+    let spelled : SpellsEach source (at r (flags c.0)) = subst (λ (x : SpannedShape). SpellsEach source (at r x)) c.2 h.1 in
     let nodes : AreParsed source (children_of n) i.children = subst (λ (ns : List NodeTree). AreParsed source ns i.children) (nodes_are n) (parsed source (nodes_in n) i.children i.each) in
     let both = labels_parsed source r (children_of n) i.children c.0 nodes c.1 spelled.1 in
     let sorted : AreInOrder (map name_of (map (λ (f : Range ℕ × List ℕ). f.1) c.0)) = spelled_flags spelled.0.2.0 spelled.0.0 [] (map (λ (f : Range ℕ × List ℕ). f.1) c.0) spelled.0.2.1 in
     record { labels = c.0; form = inr c.2; parsed = both.0; names = both.1; ordered = subst AreInOrder (sym (both.1 ∙ sym (map_map name_of (λ (f : Range ℕ × List ℕ). f.1) c.0))) sorted }
 
-empty_node : (source : List ℕ) (n : NodeTree) (t : Placed) → IsNodeOf source n t → type_of n ≡ kind.EmptySet → FlagsNode source n t
+empty_node : (source : List ℕ) (n : NodeTree) (t : SpannedTree) → IsNodeOf source n t → type_of n ≡ kind.EmptySet → FlagsNode source n t
 empty_node source n t h e =
     let i = inside source n t h.0 in
     let c = empty_shape (place_of n) (slice source (place_of n)) i.children (shape_of t) (shape_at kind.EmptySet source n t i e) in
@@ -142,19 +142,19 @@ empty_node source n t h e =
     no_nodes (n ∷ ns) h = absurd h
 
 -- the labels of a node of flags or `{}`
-pub flags_given : (source : List ℕ) (n : NodeTree) (t : Placed) → IsNodeOf source n t → AreFlags n → FlagsNode source n t
+pub flags_given : (source : List ℕ) (n : NodeTree) (t : SpannedTree) → IsNodeOf source n t → AreFlags n → FlagsNode source n t
 flags_given source n t h (inl e) = flags_node source n t h e
 flags_given source n t h (inr e) = empty_node source n t h e
 
-key_no_flags : (source : List ℕ) (n : NodeTree) (t : Placed) (p : Range ℕ) (key : Token) → placed_of source n ≡ Some t → key_of t ≡ Some (p, key) → AreFlags n → ⊥
+key_no_flags : (source : List ℕ) (n : NodeTree) (t : SpannedTree) (p : Range ℕ) (key : Token) → placed_of source n ≡ Some t → key_of t ≡ Some (p, key) → AreFlags n → ⊥
 key_no_flags source n (at r s) p key is k (inl e) =
     let i = inside source n (at r s) is in
     let c = flags_shape (place_of n) (slice source (place_of n)) i.children s (flags_of i.children) refl (shape_at kind.Flags source n (at r s) i e) in
-    cc (sym (ap (λ (x : Shape). key_of (at r x)) c.2) ∙ k)
+    cc (sym (ap (λ (x : SpannedShape). key_of (at r x)) c.2) ∙ k)
 key_no_flags source n (at r s) p key is k (inr e) =
     let i = inside source n (at r s) is in
     let c = empty_shape (place_of n) (slice source (place_of n)) i.children s (shape_at kind.EmptySet source n (at r s) i e) in
-    cc (sym (ap (λ (x : Shape). key_of (at r x)) c.1) ∙ k)
+    cc (sym (ap (λ (x : SpannedShape). key_of (at r x)) c.1) ∙ k)
 
 -- the labels are parsed from the source
 pub labels_of : (source : List ℕ) (n : NodeTree) → IsParsedFrom source n → AreFlags n → AreAllParsed source (children_of n)

@@ -22,7 +22,7 @@ use Rattle.wave_grammar.specs.CommaSeparated.{Spelling}
 use Rattle.wave_grammar.specs.Tree as tree
 use Rattle.wave_grammar.specs.Tree.{Tree, MaybeTree, Word, word_of, leaf_word, none_word, some_word, ok_word, err_word, case_word, ATree, BehindWord, Takes}
 use Rattle.wave_grammar.specs.Elaborates.{SimpleTree}
-use Rattle.wave_grammar.specs.SpannedTree.{Placed, at, one, label, no_placed, slice, span_of, shape_of, tree_of, HoldsTokens, SpellsAt, SpellsEach, StandsAtTokens}
+use Rattle.wave_grammar.specs.SpannedTree.{SpannedTree, at, one, label, no_placed, slice, span_of, shape_of, tree_of, HoldsTokens, SpellsAt, SpellsEach, StandsAtTokens}
 use Rattle.wave_grammar.specs.TypeErrors.{IsRefusalOf, SpellsNoLeaf, LeafFault, LoneKeyFault}
 use Rattle.wave_grammar.specs.FaultOrder.{Order, FirstFault}
 use Rattle.wave_grammar.proofs.Elaboration.GrammarToTree.{not-keyword}
@@ -85,13 +85,13 @@ keyword_word keyword.Err e = cc
 keyword_word keyword.Inf e = cc
 keyword_word keyword.Nan e = cc
 
-label_spelled : (source : List ℕ) (t : Placed) (p : Range ℕ) (w : List ℕ) → shape_of t ≡ label p w no_placed → SpellsEach source t → word_of w ≡ case_word
+label_spelled : (source : List ℕ) (t : SpannedTree) (p : Range ℕ) (w : List ℕ) → shape_of t ≡ label p w no_placed → SpellsEach source t → word_of w ≡ case_word
 label_spelled source (at q s) p w e h =
     let spelled : SpellsAt source q (tree.label w tree.no_tree) = subst (λ (u : Tree). SpellsAt source q u) (ap (λ x. tree_of (at q x)) e) h.0 in
     takes_label spelled.2.0 spelled.0 w tree.no_tree spelled.2.1
 
 -- a keyword is no value
-pub keyword_no_value : (source : List ℕ) (n : NodeTree) (t : Placed) → IsKeywordOf source n → IsNodeOf source n t → ⊥
+pub keyword_no_value : (source : List ℕ) (n : NodeTree) (t : SpannedTree) → IsKeywordOf source n → IsNodeOf source n t → ⊥
 keyword_no_value source n t word h =
     keyword_word word.1 (ap word_of (sym word.2) ∙ label_spelled source t (place_of n) (node_text source n) (label_node source n t h.0 word.0) h.1)
 
@@ -123,7 +123,7 @@ label_value source p w plain holds =
 held : (source : List ℕ) (p : Range ℕ) (key : Token) (k : Range ℕ × Token) → Some k ≡ Some (p, key) → HoldsTokens source p (key ∷ []) → HoldsTokens source k.0 (k.1 ∷ [])
 held source p key k e h = subst (λ (l : Range ℕ × Token). HoldsTokens source l.0 (l.1 ∷ [])) (sym (some_is k (p, key) e)) h
 
-key_spells : (source : List ℕ) (n : NodeTree) (t : Placed) (p : Range ℕ) (key : Token) → Inside source n t → key_of t ≡ Some (p, key) → HoldsTokens source p (key ∷ []) → (IsKeywordOf source n → ⊥) → SpellsEach source t
+key_spells : (source : List ℕ) (n : NodeTree) (t : SpannedTree) (p : Range ℕ) (key : Token) → Inside source n t → key_of t ≡ Some (p, key) → HoldsTokens source p (key ∷ []) → (IsKeywordOf source n → ⊥) → SpellsEach source t
 key_spells source n (at q (label r w no_placed)) p key i e holds apart =
     let same : r ≡ q = i.from.1 ∙ sym i.place in
     let plain : word_of w ≡ case_word = not-keyword w (none_of_keywords w (λ k is. apart (i.from.0, k, sym i.from.2 ∙ is))) in
@@ -157,7 +157,7 @@ other_value source n apart h = value_node source n (λ word. apart word.0) h
 token_is : (a b : Token) → tree.one a ≡ tree.one b → a ≡ b
 token_is a b e = cc
 
-key_spelled : (S : Simple) (t : Placed) (p : Range ℕ) (key : Token) (v : Value) → key_of t ≡ Some (p, key) → SimpleTree S (tree_of t) v → (leaf : Leaf) × Spells S key leaf × (v ≡ value.leaf leaf)
+key_spelled : (S : Simple) (t : SpannedTree) (p : Range ℕ) (key : Token) (v : Value) → key_of t ≡ Some (p, key) → SimpleTree S (tree_of t) v → (leaf : Leaf) × Spells S key leaf × (v ≡ value.leaf leaf)
 key_spelled S (at q (label r w no_placed)) p key v e (other, leaf, is, spelled, means) = absurd (cc)
 key_spelled S (at q (one (token.number w))) p key v e (other, leaf, is, spelled, means) = (leaf, subst (λ (u : Token). Spells S u leaf) (sym (token_is _ _ is) ∙ ap (λ (k : Range ℕ × Token). k.1) (some_is (q, token.number w) (p, key) e)) spelled, means)
 key_spelled S (at q (one (token.char w))) p key v e (other, leaf, is, spelled, means) = (leaf, subst (λ (u : Token). Spells S u leaf) (sym (token_is _ _ is) ∙ ap (λ (k : Range ℕ × Token). k.1) (some_is (q, token.char w) (p, key) e)) spelled, means)
@@ -177,7 +177,7 @@ label_spells_none type.string w apart l (text, s, inl h, f) = cc (h.0)
 label_spells_none type.string w apart l (text, s, inr h, f) = cc (h.0)
 
 -- a fault at the key's tree is one of the key
-pub key_fault : (i j : Order) (S : Simple) (t : Placed) (p : Range ℕ) (key : Token) (k : Refusal) (q : Range ℕ) → key_of t ≡ Some (p, key) → span_of t ≡ p → ((w : List ℕ) (b : Bool) → key ≡ token.label w → w ≢ bool_text b) → FirstFault i j (type.simple S) t k q → LoneKeyFault S p key k q
+pub key_fault : (i j : Order) (S : Simple) (t : SpannedTree) (p : Range ℕ) (key : Token) (k : Refusal) (q : Range ℕ) → key_of t ≡ Some (p, key) → span_of t ≡ p → ((w : List ℕ) (b : Bool) → key ≡ token.label w → w ≢ bool_text b) → FirstFault i j (type.simple S) t k q → LoneKeyFault S p key k q
 key_fault i j S (at r (label o w no_placed)) p key k q e place apart fault =
     let is = ap (λ (x : Range ℕ × Token). x.1) (some_is (o, token.label w) (p, key) e) in
     subst (λ (u : Token). LoneKeyFault S p u k q) is (inl ((λ none. cc), label_spells_none S w (λ b. apart w b (sym is)), (fault.0, fault.1 ∙ place)))

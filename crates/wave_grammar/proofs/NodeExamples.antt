@@ -5,16 +5,16 @@ use Rattle.wave_lex.specs.Tokenization.{span}
 use Rattle.wave_grammar.specs.Token.{number}
 use Rattle.wave_grammar.specs.Token as token
 use Rattle.wave_grammar.specs.SpannedTree as placed
-use Rattle.wave_grammar.specs.SpannedTree.{Placed, at, no_placed, a_placed}
+use Rattle.wave_grammar.specs.SpannedTree.{SpannedTree, at, no_placed, a_placed}
 use Rattle.wave_grammar.specs.Nodes.{shape_from, placed_of}
 use Rattle.wave_grammar.specs.NodeTree.{node, no_nodes, node_and}
 use Rattle.wave_grammar.specs.declared.form.NodeType.TheVariants as kind
 
 -- `1` and `a`, as children
-abbrev one : Placed
+abbrev one : SpannedTree
 one = at (span 2 3) (placed.one (number (codes "1")))
 
-abbrev a : Placed
+abbrev a : SpannedTree
 a = at (span 0 1) (placed.label (span 0 1) (codes "a") no_placed)
 
 -- leaves: the tokens of `inf` and `nan` are labels

@@ -8,7 +8,7 @@ use Rattle.wave_lex.specs.Strings.{IsInQuotes, IsBadEscapeAt}
 use Rattle.wave_lex.specs.Multiline.{LineFault, MultilineFault, IsInThreeQuotes, fault_kind, fault_span}
 use Rattle.wave_grammar.specs.Token.{Token}
 use Rattle.wave_grammar.specs.Token as token
-use Rattle.wave_grammar.specs.SpannedTree.{Placed, PlacedEntry}
+use Rattle.wave_grammar.specs.SpannedTree.{SpannedTree, PlacedEntry}
 use Rattle.wave_grammar.specs.TypeErrors.{Blame, StringFault, LeafFault, MapKeyFault}
 use Rattle.wave_grammar.specs.FaultOrder.{OrElse, LeftOut, FaultOfKey}
 use Rattle.wave_grammar.specs.FaultLaws.{BlamesOne}
@@ -81,7 +81,7 @@ one_key_fault K p t = one_within (λ k q. elim [ inl h ↦ inl (h.0, h.2) | inr 
 -- ---- records
 
 -- what is wrong with a field's label
-pub one_label_fault : (earlier : List (List ℕ)) (p : Range ℕ) (t : Token) (v : Placed) → BlamesOne (FaultOfKey earlier (record { place = p; key = t; value = v }))
+pub one_label_fault : (earlier : List (List ℕ)) (p : Range ℕ) (t : Token) (v : SpannedTree) → BlamesOne (FaultOfKey earlier (record { place = p; key = t; value = v }))
 one_label_fault earlier p (token.label text) v k l q r (inl h) g = absurd (cc)
 one_label_fault earlier p (token.label text) v k l q r (inr h) (inl g) = absurd (cc)
 one_label_fault earlier p (token.label text) v k l q r (inr (inl h)) (inr (inl g)) = one_said k l q r h.1 g.1

@@ -17,7 +17,7 @@ use Rattle.wave_lex.specs.Errors.{Diagnostic, Refusal, refusal_of, refused_by, t
 use Rattle.wave_lex.specs.declared.error.ParserErrorKind.TheVariants as because
 use Rattle.wave_grammar.specs.TypedGrammar.{IsOption}
 use Rattle.wave_grammar.specs.Params.{Omitted}
-use Rattle.wave_grammar.specs.SpannedTree.{Placed, tree_of, LiesIn}
+use Rattle.wave_grammar.specs.SpannedTree.{SpannedTree, tree_of, LiesIn}
 use Rattle.wave_grammar.specs.ParamElaboration.{TreeParams}
 use Rattle.wave_grammar.specs.TypedReading.{IsTypedValue, IsTypeError}
 use Rattle.wave_grammar.specs.NodeParams.{IsNoOption, ParamsFault, AreOmitted, AreRead, RefusesInTurn, close_of}
@@ -91,7 +91,7 @@ pub rest_mapped : {A B : Type 0} (f : A → B) (xs : List A) (n : ℕ) → map f
 rest_mapped f xs n = ap (map f) (take_all (length xs - n) (drop n xs) (omega (arith, length-drop n xs))) ∙ sym (drop-map f n xs)
 
 -- as many nodes as trees
-node_count : (source : List ℕ) (ns : List NodeTree) (ts : List Placed) → AreNodesOf source ns ts → length ns ≡ length ts
+node_count : (source : List ℕ) (ns : List NodeTree) (ts : List SpannedTree) → AreNodesOf source ns ts → length ns ≡ length ts
 node_count source [] [] h = refl
 node_count source [] (t ∷ ts) h = absurd h
 node_count source (n ∷ ns) [] h = absurd h
@@ -114,7 +114,7 @@ handed_is P (Err f) e same h = subst P (sym same) h
 -- ---- the parameters that are left out
 
 -- the refusal of the items of a tuple
-abbrev RefusesItems : (TypeTree → Type 0) → List TypeTree → List Placed → NodeTree → Diagnostic → Type 0
+abbrev RefusesItems : (TypeTree → Type 0) → List TypeTree → List SpannedTree → NodeTree → Diagnostic → Type 0
 RefusesItems Full Ts ts whole e = (e.kind ≡ because.OutOfMemory) ⊎ RefusesInTurn Full Ts ts whole e
 
 module _ {V : Type 0} (tree : V → Value) (of : V → TypeTree → Type 0) (Full : TypeTree → Type 0) where
@@ -152,24 +152,24 @@ module _ {V : Type 0} (tree : V → Value) (of : V → TypeTree → Type 0) (Ful
   -- ---- the values of the items
 
   -- one more that is read
-  read_push : (Ts : List TypeTree) (ts : List Placed) (vs : List V) (i : ℕ) (T : TypeTree) (t : Placed) (v : V) → HasAt Ts i T → HasAt ts i t → AreRead tree of (take i Ts) (take i ts) vs → (HasDistinctNames T → IsTypedValue tree of T t v) → AreRead tree of (take (suc i) Ts) (take (suc i) ts) (vs ++ v ∷ [])
+  read_push : (Ts : List TypeTree) (ts : List SpannedTree) (vs : List V) (i : ℕ) (T : TypeTree) (t : SpannedTree) (v : V) → HasAt Ts i T → HasAt ts i t → AreRead tree of (take i Ts) (take i ts) vs → (HasDistinctNames T → IsTypedValue tree of T t v) → AreRead tree of (take (suc i) Ts) (take (suc i) ts) (vs ++ v ∷ [])
   read_push [] ts vs i T t v typed here before now = absurd typed
   read_push (U ∷ Ts) [] vs i T t v typed here before now = absurd here
   read_push (U ∷ Ts) (u ∷ ts) [] zero T t v typed here before now =
-      (subst (λ (W : TypeTree). HasDistinctNames W → IsTypedValue tree of W u v) (sym typed) (subst (λ (w : Placed). HasDistinctNames T → IsTypedValue tree of T w v) (sym here) now), tt)
+      (subst (λ (W : TypeTree). HasDistinctNames W → IsTypedValue tree of W u v) (sym typed) (subst (λ (w : SpannedTree). HasDistinctNames T → IsTypedValue tree of T w v) (sym here) now), tt)
   read_push (U ∷ Ts) (u ∷ ts) (w ∷ vs) zero T t v typed here before now = absurd before
   read_push (U ∷ Ts) (u ∷ ts) [] (suc i) T t v typed here before now = absurd before
   read_push (U ∷ Ts) (u ∷ ts) (w ∷ vs) (suc i) T t v typed here before now = (before.0, read_push Ts ts vs i T t v typed here before.1 now)
 
   -- the invariant of the loop holds after the next item
-  pub item_kept : (source : List ℕ) (Ts : List TypeTree) (ns : List NodeTree) (ts : List Placed) (vs ws : List V) (i : ℕ) (n : NodeTree) (T : TypeTree) (v : V) → AreNodesOf source ns ts → i < length ns → n ≡ get_or ns i n → HasAt Ts i T → AreRead tree of (take i Ts) (take i ts) vs →
-      ((t : Placed) → IsNodeOf source n t → HasDistinctNames T → IsTypedValue tree of T t v) → ws ≡ vs ++ v ∷ [] → AreRead tree of (take (i + 1) Ts) (take (i + 1) ts) ws
+  pub item_kept : (source : List ℕ) (Ts : List TypeTree) (ns : List NodeTree) (ts : List SpannedTree) (vs ws : List V) (i : ℕ) (n : NodeTree) (T : TypeTree) (v : V) → AreNodesOf source ns ts → i < length ns → n ≡ get_or ns i n → HasAt Ts i T → AreRead tree of (take i Ts) (take i ts) vs →
+      ((t : SpannedTree) → IsNodeOf source n t → HasDistinctNames T → IsTypedValue tree of T t v) → ws ≡ vs ++ v ∷ [] → AreRead tree of (take (i + 1) Ts) (take (i + 1) ts) ws
   item_kept source Ts ns ts vs ws i n T v nodes lt is typed before now kept =
       let here = node_at source ns ts i n nodes lt is in
       rw (add-one, kept) (read_push Ts ts vs i T here.0 v typed here.1 before (now here.0 here.2))
 
   -- the values that were read, and `none` for the types that are left
-  read_and_omitted : (Ts : List TypeTree) (ts : List Placed) (vs others : List V) (i : ℕ) → i ≤ length Ts → length ts ≤ i → i ≤ length ts → AreRead tree of (take i Ts) (take i ts) vs → AreOmitted tree of (drop i Ts) others → AreRead tree of Ts ts (vs ++ others)
+  read_and_omitted : (Ts : List TypeTree) (ts : List SpannedTree) (vs others : List V) (i : ℕ) → i ≤ length Ts → length ts ≤ i → i ≤ length ts → AreRead tree of (take i Ts) (take i ts) vs → AreOmitted tree of (drop i Ts) others → AreRead tree of Ts ts (vs ++ others)
   read_and_omitted Ts [] [] others zero l m k before omitted = omitted
   read_and_omitted Ts [] (v ∷ vs) others zero l m k before omitted = absurd (none Ts before) where
     none : (Us : List TypeTree) → AreOmitted tree of (take zero Us) (v ∷ vs) → ⊥
@@ -183,7 +183,7 @@ module _ {V : Type 0} (tree : V → Value) (of : V → TypeTree → Type 0) (Ful
       (before.0, read_and_omitted Ts ts vs others i (omega (arith, l)) (omega (arith, m)) (omega (arith, k)) before.1 omitted)
 
   -- all were read
-  pub params_read : (source : List ℕ) (Ts Left : List TypeTree) (ns : List NodeTree) (ts : List Placed) (vs ws : List V) (i : ℕ) → AreNodesOf source ns ts → i ≤ length ns → length ns ≤ i → i ≤ length Ts → AreRead tree of (take i Ts) (take i ts) vs → Left ≡ drop (length ns) Ts →
+  pub params_read : (source : List ℕ) (Ts Left : List TypeTree) (ns : List NodeTree) (ts : List SpannedTree) (vs ws : List V) (i : ℕ) → AreNodesOf source ns ts → i ≤ length ns → length ns ≤ i → i ≤ length Ts → AreRead tree of (take i Ts) (take i ts) vs → Left ≡ drop (length ns) Ts →
       (others : List V) × (ws ≡ vs ++ others) × AreOmitted tree of Left others → AreRead tree of Ts ts ws
   params_read source Ts Left ns ts vs ws i nodes le ge l before left (others, is, omitted) =
       let many = node_count source ns ts nodes in
@@ -203,7 +203,7 @@ module _ {V : Type 0} (tree : V → Value) (of : V → TypeTree → Type 0) (Ful
   -- ---- refusals
 
   -- what refuses the items that are left refuses the items, where those before them have values
-  behind : (Ts : List TypeTree) (ts : List Placed) (vs : List V) (i : ℕ) (whole : NodeTree) (e : Diagnostic) → i ≤ length Ts → i ≤ length ts → AreRead tree of (take i Ts) (take i ts) vs → RefusesInTurn Full (drop i Ts) (drop i ts) whole e → RefusesInTurn Full Ts ts whole e
+  behind : (Ts : List TypeTree) (ts : List SpannedTree) (vs : List V) (i : ℕ) (whole : NodeTree) (e : Diagnostic) → i ≤ length Ts → i ≤ length ts → AreRead tree of (take i Ts) (take i ts) vs → RefusesInTurn Full (drop i Ts) (drop i ts) whole e → RefusesInTurn Full Ts ts whole e
   behind Ts ts vs zero whole e l m before left = left
   behind [] ts vs (suc i) whole e l m before left = absurd (omega (arith, l))
   behind (T ∷ Ts) [] vs (suc i) whole e l m before left = absurd (omega (arith, m))
@@ -212,13 +212,13 @@ module _ {V : Type 0} (tree : V → Value) (of : V → TypeTree → Type 0) (Ful
       inr (λ distinct. (tree v, (before.0 distinct).reads), behind Ts ts vs i whole e (omega (arith, l)) (omega (arith, m)) before.1 left)
 
   -- so where these are what is left
-  behind_at : (Ts Us : List TypeTree) (ts us : List Placed) (vs : List V) (i : ℕ) (whole : NodeTree) (e : Diagnostic) → drop i Ts ≡ Us → drop i ts ≡ us → i ≤ length Ts → i ≤ length ts → AreRead tree of (take i Ts) (take i ts) vs → RefusesInTurn Full Us us whole e → RefusesItems Full Ts ts whole e
+  behind_at : (Ts Us : List TypeTree) (ts us : List SpannedTree) (vs : List V) (i : ℕ) (whole : NodeTree) (e : Diagnostic) → drop i Ts ≡ Us → drop i ts ≡ us → i ≤ length Ts → i ≤ length ts → AreRead tree of (take i Ts) (take i ts) vs → RefusesInTurn Full Us us whole e → RefusesItems Full Ts ts whole e
   behind_at Ts Us ts us vs i whole e types items l m before refuses =
       inr (behind Ts ts vs i whole e l m before
-      (subst (λ (z : List TypeTree). RefusesInTurn Full z (drop i ts) whole e) (sym types) (subst (λ (z : List Placed). RefusesInTurn Full Us z whole e) (sym items) refuses)))
+      (subst (λ (z : List TypeTree). RefusesInTurn Full z (drop i ts) whole e) (sym types) (subst (λ (z : List SpannedTree). RefusesInTurn Full Us z whole e) (sym items) refuses)))
 
   -- an item that is too many
-  pub too_many_refused : (source : List ℕ) (Ts : List TypeTree) (ns : List NodeTree) (ts : List Placed) (vs : List V) (i : ℕ) (n whole : NodeTree) (e : Diagnostic) → AreNodesOf source ns ts → i < length ns → n ≡ get_or ns i n → i ≤ length Ts → length Ts ≤ i → AreRead tree of (take i Ts) (take i ts) vs →
+  pub too_many_refused : (source : List ℕ) (Ts : List TypeTree) (ns : List NodeTree) (ts : List SpannedTree) (vs : List V) (i : ℕ) (n whole : NodeTree) (e : Diagnostic) → AreNodesOf source ns ts → i < length ns → n ≡ get_or ns i n → i ≤ length Ts → length Ts ≤ i → AreRead tree of (take i Ts) (take i ts) vs →
       Says e because.InvalidParams (place_of n) (Some too_many_params) → RefusesItems Full Ts ts whole e
   too_many_refused source Ts ns ts vs i n whole e nodes lt at_i l m before says =
       let (u, here, means) = node_at source ns ts i n nodes lt at_i in
@@ -227,8 +227,8 @@ module _ {V : Type 0} (tree : V → Value) (of : V → TypeTree → Type 0) (Ful
       behind_at Ts [] ts (u ∷ drop (suc i) ts) vs i whole e (drop_end Ts i m) (has_drop ts i u here) l fits before (subst (λ (p : Range ℕ). Says e because.InvalidParams p (Some too_many_params)) (sym place) says)
 
   -- a refusal of an item
-  pub item_refused : (source : List ℕ) (Ts : List TypeTree) (ns : List NodeTree) (ts : List Placed) (vs : List V) (i : ℕ) (n : NodeTree) (T : TypeTree) (whole : NodeTree) (e : Diagnostic) → AreNodesOf source ns ts → i < length ns → n ≡ get_or ns i n → i < length Ts → HasAt Ts i T → AreRead tree of (take i Ts) (take i ts) vs →
-      ((u : Placed) → IsNodeOf source n u → HasDistinctNames T → IsTypeError Full by_type T u e) → StandsIn n e → HasTypeKind e → RefusesItems Full Ts ts whole e
+  pub item_refused : (source : List ℕ) (Ts : List TypeTree) (ns : List NodeTree) (ts : List SpannedTree) (vs : List V) (i : ℕ) (n : NodeTree) (T : TypeTree) (whole : NodeTree) (e : Diagnostic) → AreNodesOf source ns ts → i < length ns → n ≡ get_or ns i n → i < length Ts → HasAt Ts i T → AreRead tree of (take i Ts) (take i ts) vs →
+      ((u : SpannedTree) → IsNodeOf source n u → HasDistinctNames T → IsTypeError Full by_type T u e) → StandsIn n e → HasTypeKind e → RefusesItems Full Ts ts whole e
   item_refused source Ts ns ts vs i n T whole e nodes lt at_i l typed before blamed within kind =
       let (u, here, means) = node_at source ns ts i n nodes lt at_i in
       let fits : i ≤ length ts = omega (arith, lt, node_count source ns ts nodes) in
@@ -236,7 +236,7 @@ module _ {V : Type 0} (tree : V → Value) (of : V → TypeTree → Type 0) (Ful
       behind_at Ts (T ∷ drop (suc i) Ts) ts (u ∷ drop (suc i) ts) vs i whole e (has_drop Ts i T typed) (has_drop ts i u here) (omega (arith, l)) fits before (inl (record { kind = kind; lies = lies; blames = blamed u means }))
 
   -- what refuses the types that are left
-  left_refused : (source : List ℕ) (Ts Left : List TypeTree) (ns : List NodeTree) (ts : List Placed) (vs : List V) (i : ℕ) (whole : NodeTree) (e : Diagnostic) → AreNodesOf source ns ts → i ≤ length ns → length ns ≤ i → i ≤ length Ts → AreRead tree of (take i Ts) (take i ts) vs → Left ≡ drop (length ns) Ts → RefusesInTurn Full Left [] whole e →
+  left_refused : (source : List ℕ) (Ts Left : List TypeTree) (ns : List NodeTree) (ts : List SpannedTree) (vs : List V) (i : ℕ) (whole : NodeTree) (e : Diagnostic) → AreNodesOf source ns ts → i ≤ length ns → length ns ≤ i → i ≤ length Ts → AreRead tree of (take i Ts) (take i ts) vs → Left ≡ drop (length ns) Ts → RefusesInTurn Full Left [] whole e →
       RefusesItems Full Ts ts whole e
   left_refused source Ts Left ns ts vs i whole e nodes le ge l before left refuses =
       let many = node_count source ns ts nodes in
@@ -244,12 +244,12 @@ module _ {V : Type 0} (tree : V → Value) (of : V → TypeTree → Type 0) (Ful
       behind_at Ts Left ts [] vs i whole e (sym (left ∙ ap (λ (k : ℕ). drop k Ts) same)) (drop_end ts i (omega (arith, ge, many))) l (omega (arith, le, many)) before refuses
 
   -- a type that is left and is no option
-  pub missing_refused : (source : List ℕ) (Ts Left : List TypeTree) (ns : List NodeTree) (ts : List Placed) (vs : List V) (i : ℕ) (whole : NodeTree) (e : Diagnostic) → AreNodesOf source ns ts → i ≤ length ns → length ns ≤ i → i ≤ length Ts → AreRead tree of (take i Ts) (take i ts) vs → Left ≡ drop (length ns) Ts → SomeOf IsNoOption Left →
+  pub missing_refused : (source : List ℕ) (Ts Left : List TypeTree) (ns : List NodeTree) (ts : List SpannedTree) (vs : List V) (i : ℕ) (whole : NodeTree) (e : Diagnostic) → AreNodesOf source ns ts → i ≤ length ns → length ns ≤ i → i ≤ length Ts → AreRead tree of (take i Ts) (take i ts) vs → Left ≡ drop (length ns) Ts → SomeOf IsNoOption Left →
       Says e because.InvalidParams (close_of whole) (Some too_few_params) → RefusesItems Full Ts ts whole e
   missing_refused source Ts Left ns ts vs i whole e nodes le ge l before left some says = left_refused source Ts Left ns ts vs i whole e nodes le ge l before left (inl (some, says))
 
   -- a refusal to make one that is left
-  pub omitted_refused : (source : List ℕ) (Ts Left : List TypeTree) (ns : List NodeTree) (ts : List Placed) (vs : List V) (i : ℕ) (whole : NodeTree) (e : Diagnostic) → AreNodesOf source ns ts → i ≤ length ns → length ns ≤ i → i ≤ length Ts → AreRead tree of (take i Ts) (take i ts) vs → Left ≡ drop (length ns) Ts →
+  pub omitted_refused : (source : List ℕ) (Ts Left : List TypeTree) (ns : List NodeTree) (ts : List SpannedTree) (vs : List V) (i : ℕ) (whole : NodeTree) (e : Diagnostic) → AreNodesOf source ns ts → i ≤ length ns → length ns ≤ i → i ≤ length Ts → AreRead tree of (take i Ts) (take i ts) vs → Left ≡ drop (length ns) Ts →
       RefusesOmitted Full Left (place_of whole) e → RefusesItems Full Ts ts whole e
   omitted_refused source Ts Left ns ts vs i whole e nodes le ge l before left (inl memory) = inl memory
   omitted_refused source Ts Left ns ts vs i whole e nodes le ge l before left (inr refuses) = left_refused source Ts Left ns ts vs i whole e nodes le ge l before left (inr refuses)
@@ -264,7 +264,7 @@ module _ {V : Type 0} (tree : V → Value) (of : V → TypeTree → Type 0) (Ful
   omitted_values (T ∷ Ts) (v ∷ vs) distinct h = (map tree vs, h.0, omitted_values Ts vs distinct.1 h.2, ap (λ (w : Value). w ∷ map tree vs) (h.1 distinct.0).means)
 
   -- the values of the items
-  pub item_values : (Ts : List TypeTree) (ts : List Placed) (vs : List V) → AllOf HasDistinctNames Ts → AreRead tree of Ts ts vs → TreeParams Ts (map tree_of ts) (map tree vs)
+  pub item_values : (Ts : List TypeTree) (ts : List SpannedTree) (vs : List V) → AllOf HasDistinctNames Ts → AreRead tree of Ts ts vs → TreeParams Ts (map tree_of ts) (map tree vs)
   item_values Ts [] vs distinct h = omitted_values Ts vs distinct h
   item_values [] (t ∷ ts) vs distinct h = absurd h
   item_values (T ∷ Ts) (t ∷ ts) [] distinct h = absurd h
@@ -276,14 +276,14 @@ no_omitted (T ∷ Ts) vs (inl apart) (others, is, rest, e) = apart is
 no_omitted (T ∷ Ts) vs (inr more) (others, is, rest, e) = no_omitted Ts others more rest
 
 -- where there is a fault there are no values
-pub fault_none : (Ts : List TypeTree) (ts : List Placed) (close : Range ℕ) (e : Diagnostic) → ParamsFault Ts ts close e → (vs : List Value) → TreeParams Ts (map tree_of ts) vs → ⊥
+pub fault_none : (Ts : List TypeTree) (ts : List SpannedTree) (close : Range ℕ) (e : Diagnostic) → ParamsFault Ts ts close e → (vs : List Value) → TreeParams Ts (map tree_of ts) vs → ⊥
 fault_none Ts [] close e h vs k = no_omitted Ts vs h.0 k
 fault_none [] (t ∷ ts) close e h vs k = k
 fault_none (T ∷ Ts) (t ∷ ts) close e (inl h) vs (v, others, reads, rest, is) = h.1 v reads
 fault_none (T ∷ Ts) (t ∷ ts) close e (inr (w, reads, h)) vs (v, others, k, rest, is) = fault_none Ts ts close e h others rest
 
 -- a refusal at full types, for which there was memory, is a fault of the items
-pub items_fault : (Full : TypeTree → Type 0) (Ts : List TypeTree) (ts : List Placed) (whole : NodeTree) (e : Diagnostic) → AllOf HasDistinctNames Ts → AllOf Full Ts → e.kind ≢ because.OutOfMemory → RefusesInTurn Full Ts ts whole e → ParamsFault Ts ts (close_of whole) e
+pub items_fault : (Full : TypeTree → Type 0) (Ts : List TypeTree) (ts : List SpannedTree) (whole : NodeTree) (e : Diagnostic) → AllOf HasDistinctNames Ts → AllOf Full Ts → e.kind ≢ because.OutOfMemory → RefusesInTurn Full Ts ts whole e → ParamsFault Ts ts (close_of whole) e
 items_fault Full Ts [] whole e distinct full other (inl h) = h
 items_fault Full Ts [] whole e distinct full other (inr h) = absurd (h.3 full)
 items_fault Full [] (t ∷ ts) whole e distinct full other h = h

@@ -5,8 +5,8 @@ use Rattle.std.specs.Prelude.{◌⊎◌, encode_utf8, encode_utf8_all, slice_ran
 use Rattle.std.proofs.lemmas.List.{take-append-drop, take-take, drop-drop, drop-take, length-take, length-take-le}
 use Rattle.wave_lex.specs.declared.lex.Token as lex
 use Rattle.wave_lex.specs.declared.lex.Token.TheVariants.{BraceOpen, BraceClose, ParenOpen, ParenClose, BracketOpen, BracketClose, Colon, Comma, Number, LabelOrKeyword, Char, String, MultilineString}
-use Rattle.wave_lex.specs.LongestMatch.{IsFront}
-use Rattle.wave_lex.specs.Regex.{Regex, either, both, empty, Matches, joined}
+use Rattle.wave_lex.specs.LongestMatch.{IsPrefixOf}
+use Rattle.wave_lex.specs.Regex.{Regex, alt, seq, empty, Matches, joined}
 use Rattle.wave_lex.specs.Tokens.{shape, gap, blank, comment_text, one}
 use Rattle.wave_lex.specs.Tokenization.{three_quotes, MayStandAt, IsToken, IsLongestToken, IsGap, Lexeme, Front, remainder_of}
 use Rattle.wave_lex.specs.Shared.Reading.{class_of}
@@ -20,7 +20,7 @@ use Rattle.wave_grammar.specs.ParserPosition.{Place, TakesItem, TakesTokens, tok
 -- ---- prefixes within a beginning of a text
 
 -- a prefix is one of each beginning that has it
-front_cut : (p : Regex) (r : List ℕ) (k n : ℕ) → k ≤ n → IsFront p r k → IsFront p (take n r) k
+front_cut : (p : Regex) (r : List ℕ) (k n : ℕ) → k ≤ n → IsPrefixOf p r k → IsPrefixOf p (take n r) k
 front_cut p r k n l f = record {
   scalars = f.scalars;
   fits = (let a = length-take n r in let b = f.fits in omega (arith, a, b, l));
@@ -29,7 +29,7 @@ front_cut p r k n l f = record {
 }
 
 -- a prefix of a beginning is one of the text
-front_uncut : (p : Regex) (r : List ℕ) (k n : ℕ) → IsFront p (take n r) k → IsFront p r k
+front_uncut : (p : Regex) (r : List ℕ) (k n : ℕ) → IsPrefixOf p (take n r) k → IsPrefixOf p r k
 front_uncut p r k n f =
     let a = length-take n r in
     let b = f.fits in
@@ -68,7 +68,7 @@ token_cut r k n c l t =
       is = here;
       longest = λ j d u.
           let same : d ≡ c = one_class (take n r) j k d c u here in
-          let front : IsFront (shape c) r j = front_uncut (shape c) r j n (subst (λ z. IsFront (shape z) (take n r) j) same u.0) in
+          let front : IsPrefixOf (shape c) r j = front_uncut (shape c) r j n (subst (λ z. IsPrefixOf (shape z) (take n r) j) same u.0) in
           t.longest j c (front, may_uncut c r k j t.is);
     }
 
@@ -96,7 +96,7 @@ comment_begins x cs (a, b, e, (a1, a2, e1, (c, e2, w), more), rest) = let f : x 
 
 -- the parts of whitespace
 abbrev part : Regex
-part = either blank (both comment_text (one 10))
+part = alt blank (seq comment_text (one 10))
 
 part_begins : (x : ℕ) (cs : List ℕ) → Matches part (x ∷ cs) → BeginsGap x
 part_begins x cs (inl h) = blank_begins x cs h
@@ -106,7 +106,7 @@ part_begins x cs (inr ([], b, e, h, k)) = absurd (no_comment h)
     no_comment h = let wrong : false ≡ true = empty_into comment_text h in cc
 part_begins x cs (inr (y ∷ ys, b, e, h, k)) = let f : x ≡ y = cc in subst BeginsGap (sym f) (comment_begins y ys h)
 
-parts_begin : (x : ℕ) (cs : List ℕ) (parts : List (List ℕ)) (more : List ℕ) → AllOf (Matches part) parts → Matches (either empty comment_text) more → x ∷ cs ≡ joined parts ++ more → BeginsGap x
+parts_begin : (x : ℕ) (cs : List ℕ) (parts : List (List ℕ)) (more : List ℕ) → AllOf (Matches part) parts → Matches (alt empty comment_text) more → x ∷ cs ≡ joined parts ++ more → BeginsGap x
 parts_begin x cs [] more h (inl k) e = absurd (let wrong : x ∷ cs ≡ [] = e ∙ k in cc)
 parts_begin x cs [] more h (inr k) e = comment_begins x cs (subst (Matches comment_text) (sym e) k)
 parts_begin x cs ([] ∷ parts) more (h, hs) k e = absurd (let wrong : false ≡ true = empty_into part h in cc)
@@ -131,7 +131,7 @@ gap_none r k c t = (record { scalars = []; fits = omega arith; spelled = refl; h
 -- ---- tokens by their class and text
 
 -- the text of a mark
-mark_text : (m : ℕ) (r : List ℕ) (k : ℕ) → encode_utf8_all (m ∷ []) ≡ m ∷ [] → IsFront (one m) r k → m ∷ [] ≡ take k r
+mark_text : (m : ℕ) (r : List ℕ) (k : ℕ) → encode_utf8_all (m ∷ []) ≡ m ∷ [] → IsPrefixOf (one m) r k → m ∷ [] ≡ take k r
 mark_text m r k a f =
     let (c, e, w) = f.has in
     let same : c ≡ m = one_is m c w in

@@ -6,7 +6,7 @@ use Rattle.wave_wasm.specs.Types.{TypeTree, Whole, whole_kind, kind_of}
 use Rattle.wave_wasm.specs.TypeText.{kind_word}
 use Rattle.wave_wasm.specs.ValueErrors.{Cause, unsupported_type}
 use Rattle.wave_lex.specs.Errors.{Diagnostic, Refusal, refusal_of}
-use Rattle.wave_grammar.specs.SpannedTree.{Placed, span_of}
+use Rattle.wave_grammar.specs.SpannedTree.{SpannedTree, span_of}
 use Rattle.wave_grammar.specs.NodeTree.{NodeTree}
 use Rattle.wave_grammar.specs.Nodes.{placed_of}
 use Rattle.wave_grammar.specs.TypeErrors.{RefusesFor}
@@ -18,7 +18,7 @@ use Rattle.wave_wasm.specs.declared.wasm.WasmTypeKind.{WasmTypeKind}
 use Rattle.wave_wasm.specs.declared.wasm.WasmTypeKind.TheVariants as kind
 
 -- a refusal with a cause at the node, where its tree has that fault
-pub caused_blame : (Full : TypeTree → Type 0) (o w : Order) (T : TypeTree) (source : List ℕ) (n : NodeTree) (t : Placed) (cause : Cause) (e : Diagnostic) → placed_of source n ≡ Some t → IsCaused cause n e → (RefusesFor cause (span_of t) (refusal_of e) e.span → FirstFault o w T t (refusal_of e) e.span) → IsBlamed Full o w T t e
+pub caused_blame : (Full : TypeTree → Type 0) (o w : Order) (T : TypeTree) (source : List ℕ) (n : NodeTree) (t : SpannedTree) (cause : Cause) (e : Diagnostic) → placed_of source n ≡ Some t → IsCaused cause n e → (RefusesFor cause (span_of t) (refusal_of e) e.span → FirstFault o w T t (refusal_of e) e.span) → IsBlamed Full o w T t e
 caused_blame Full o w T source n t cause e is (inl memory) fault = inl memory
 caused_blame Full o w T source n t cause e is (inr refused) fault = inr (inl (fault (refused.0, refused.1 ∙ sym (inside source n t is).place)))
 
@@ -39,7 +39,7 @@ pub record IsUnread (k : WasmTypeKind) : Type 0 where
   pub map : k ≢ kind.Map
 
 -- a type without values is refused with the word of its kind
-unread_fault : (o w : Order) (T : TypeTree) (t : Placed) (k : WasmTypeKind) (r : Refusal) (q : Range ℕ) → k ≡ kind_of T → IsUnread k → ((which : Whole) → k ≢ whole_kind which) → RefusesFor (unsupported_type (kind_word k)) (span_of t) r q → FirstFault o w T t r q
+unread_fault : (o w : Order) (T : TypeTree) (t : SpannedTree) (k : WasmTypeKind) (r : Refusal) (q : Range ℕ) → k ≡ kind_of T → IsUnread k → ((which : Whole) → k ≢ whole_kind which) → RefusesFor (unsupported_type (kind_word k)) (span_of t) r q → FirstFault o w T t r q
 unread_fault o w (type.simple type.bool) t k r q e unread none refused = absurd (unread.bool e)
 unread_fault o w (type.simple (type.whole which)) t k r q e unread none refused = absurd (none which e)
 unread_fault o w (type.simple type.char) t k r q e unread none refused = absurd (unread.char e)
@@ -57,6 +57,6 @@ unread_fault o w (type.flags names) t k r q e unread none refused = absurd (unre
 unread_fault o w (type.map K V) t k r q e unread none refused = absurd (unread.map e)
 
 -- so a refusal for lack of values is a fault
-pub unread_blame : (Full : TypeTree → Type 0) (o w : Order) (T : TypeTree) (source : List ℕ) (n : NodeTree) (t : Placed) (k : WasmTypeKind) (e : Diagnostic) → placed_of source n ≡ Some t → k ≡ kind_of T → IsUnread k → ((which : Whole) → k ≢ whole_kind which) → IsCaused (unsupported_type (kind_word k)) n e → IsBlamed Full o w T t e
+pub unread_blame : (Full : TypeTree → Type 0) (o w : Order) (T : TypeTree) (source : List ℕ) (n : NodeTree) (t : SpannedTree) (k : WasmTypeKind) (e : Diagnostic) → placed_of source n ≡ Some t → k ≡ kind_of T → IsUnread k → ((which : Whole) → k ≢ whole_kind which) → IsCaused (unsupported_type (kind_word k)) n e → IsBlamed Full o w T t e
 unread_blame Full o w T source n t k e is same unread none caused =
     caused_blame Full o w T source n t (unsupported_type (kind_word k)) e is caused (unread_fault o w T t k (refusal_of e) e.span same unread none)

@@ -3,7 +3,7 @@ use Rattle.std.specs.Prelude.{ℕ, ◌≡◌}
 use Rattle.std.specs.declared.ops.Range.{Range}
 use Rattle.wave_wasm.specs.Types.{TypeTree, HasDistinctNames}
 use Rattle.wave_lex.specs.Errors.{Refusal}
-use Rattle.wave_grammar.specs.SpannedTree.{Placed}
+use Rattle.wave_grammar.specs.SpannedTree.{SpannedTree}
 use Rattle.wave_grammar.specs.TypeErrors.{Blame, Fault}
 use Rattle.wave_grammar.specs.FaultOrder.{Order, BlamesNothing, FirstFault}
 
@@ -17,22 +17,22 @@ BlamesOnly A k q = (l : Refusal) (r : Range ℕ) → A l r → (l ≡ k) × (r �
 
 -- at most one fault is answered
 abbrev pub OneFault : Type 0
-OneFault = (o w : Order) (T : TypeTree) (t : Placed) → BlamesOne (FirstFault o w T t)
+OneFault = (o w : Order) (T : TypeTree) (t : SpannedTree) → BlamesOne (FirstFault o w T t)
 
 -- what is answered is one of the faults
 abbrev pub AnswersAreFaults : Type 0
-AnswersAreFaults = (o w : Order) (T : TypeTree) (t : Placed) (k : Refusal) (q : Range ℕ) → FirstFault o w T t k q → Fault T t k q
+AnswersAreFaults = (o w : Order) (T : TypeTree) (t : SpannedTree) (k : Refusal) (q : Range ℕ) → FirstFault o w T t k q → Fault T t k q
 
 -- where the names of the type are distinct and no fault is answered, there is none
 abbrev pub NoAnswerNoFault : Type 0
-NoAnswerNoFault = (o w : Order) (T : TypeTree) (t : Placed) → HasDistinctNames T → BlamesNothing (FirstFault o w T t) → BlamesNothing (Fault T t)
+NoAnswerNoFault = (o w : Order) (T : TypeTree) (t : SpannedTree) → HasDistinctNames T → BlamesNothing (FirstFault o w T t) → BlamesNothing (Fault T t)
 
 -- where the names of the type are distinct and one order finds no fault, no order does
 abbrev pub OrdersAgree : Type 0
 OrdersAgree =
-    (o w p v : Order) (T : TypeTree) (t : Placed) → HasDistinctNames T → BlamesNothing (FirstFault o w T t) → BlamesNothing (FirstFault p v T t)
+    (o w p v : Order) (T : TypeTree) (t : SpannedTree) → HasDistinctNames T → BlamesNothing (FirstFault o w T t) → BlamesNothing (FirstFault p v T t)
 
 -- where a tree has one fault alone, no order answers another
 abbrev pub LoneFaultIsAnswered : Type 0
 LoneFaultIsAnswered =
-    (o w : Order) (T : TypeTree) (t : Placed) (k : Refusal) (q : Range ℕ) → BlamesOnly (Fault T t) k q → BlamesOnly (FirstFault o w T t) k q
+    (o w : Order) (T : TypeTree) (t : SpannedTree) (k : Refusal) (q : Range ℕ) → BlamesOnly (Fault T t) k q → BlamesOnly (FirstFault o w T t) k q

@@ -12,7 +12,7 @@ use Rattle.wave_lex.specs.declared.error.ParserErrorKind.TheVariants.{InvalidTyp
 use Rattle.wave_lex.specs.Errors.{Refusal, field_label_due, repeated_name}
 use Rattle.wave_grammar.specs.LeafTokens.{name_of}
 use Rattle.wave_grammar.specs.TypedGrammar.{IsFlat, IsOption}
-use Rattle.wave_grammar.specs.SpannedTree.{Placed, MaybePlaced, no_placed, PlacedEntry, span_of, shape_of}
+use Rattle.wave_grammar.specs.SpannedTree.{SpannedTree, MaybePlaced, no_placed, PlacedEntry, span_of, shape_of}
 use Rattle.wave_grammar.specs.TypeErrors.{Blame, RefusesWith, IsRefusalOf, RefusesFor, OfForm, LeafFault, MapKeyFault, names_in, IsFor}
 use Rattle.wave_grammar.specs.TypeErrors.{one_in, list_in, tuple_in, record_in, map_in, flags_in, label_in}
 use Rattle.wave_grammar.specs.TypeErrors.{UnknownField, NoneDue, OneDue, OfOption, OfResult}
@@ -77,7 +77,7 @@ FirstLeftOut (field name T more) es p k q = OrElse (LeftOut name T es p) (FirstL
 
 -- the fault that is answered: the parts of the value are looked at in the order `o`, and those of each part in the order `w`
 abbrev mutual
-  pub FirstFault : Order → Order → TypeTree → Placed → Blame
+  pub FirstFault : Order → Order → TypeTree → SpannedTree → Blame
   FirstFault o w (type.simple S) t k q = OfForm (one_in (shape_of t)) (span_of t) (LeafFault S (span_of t)) k q
   FirstFault o w (type.unreadable kind) t k q = RefusesFor (unsupported_type (kind_word (type.unreadable_kind kind))) (span_of t) k q
   FirstFault o w (type.list E) t k q = OfForm (list_in (shape_of t)) (span_of t) (λ items. FirstOf (λ item. FirstFault w w E item) items) k q
@@ -135,12 +135,12 @@ abbrev mutual
   FirstOfPayload w name (a_type T) payload p k q = OneDue name payload p (FirstFault w w T) k q
 
   -- a tree that would stand for `ok` of itself
-  pub FirstOfFlat : Order → Order → MaybeType → Placed → Blame
+  pub FirstOfFlat : Order → Order → MaybeType → SpannedTree → Blame
   FirstOfFlat o w no_type t k q = IsRefusalOf InvalidType (span_of t) k q
   FirstOfFlat o w (a_type T) t k q = (IsFlat T → ⊥) × IsRefusalOf InvalidType (span_of t) k q ⊎ IsFlat T × FirstFault o w T t k q
 
   -- the first item that has a fault at its type, as far as there are items and types
-  pub FirstItem : Order → Types → List Placed → Blame
+  pub FirstItem : Order → Types → List SpannedTree → Blame
   FirstItem w no_types items k q = ⊥
   FirstItem w (type_and T more) [] k q = ⊥
   FirstItem w (type_and T more) (t ∷ others) k q = OrElse (FirstFault w w T t) (FirstItem w more others) k q

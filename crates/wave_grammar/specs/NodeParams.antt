@@ -10,7 +10,7 @@ use Rattle.wave_lex.specs.declared.error.ParserErrorKind.TheVariants.{InvalidPar
 use Rattle.wave_grammar.specs.TypedGrammar.{IsOption}
 use Rattle.wave_lex.specs.Tokenization.{span}
 use Rattle.wave_grammar.specs.Elaborates.{TreeReads}
-use Rattle.wave_grammar.specs.SpannedTree.{Placed, tuple, placed_trees, shape_of, span_of, tree_of, LiesIn}
+use Rattle.wave_grammar.specs.SpannedTree.{SpannedTree, tuple, placed_trees, shape_of, span_of, tree_of, LiesIn}
 use Rattle.wave_grammar.specs.FaultOrder.{by_type, FirstFault}
 use Rattle.wave_grammar.specs.NodeTree.{NodeTree, type_of, place_of}
 use Rattle.wave_grammar.specs.NodeAccessors.{RefusedAs}
@@ -24,7 +24,7 @@ IsNoOption T = IsOption T → ⊥
 
 -- what is wrong with the items, where the names of the types are distinct: read in turn, a fault of one at its type; the first that is too many;
 -- or a type that is left and is no option
-abbrev pub ParamsFault : List TypeTree → List Placed → Range ℕ → Diagnostic → Type 0
+abbrev pub ParamsFault : List TypeTree → List SpannedTree → Range ℕ → Diagnostic → Type 0
 ParamsFault Ts [] close e = SomeOf IsNoOption Ts × Says e InvalidParams close (Some too_few_params)
 ParamsFault [] (t ∷ ts) close e = Says e InvalidParams (span_of t) (Some too_many_params)
 ParamsFault (T ∷ Ts) (t ∷ ts) close e =
@@ -43,40 +43,40 @@ module _ {V : Type 0} (tree : V → Value) (of : V → TypeTree → Type 0) wher
   AreOmitted _ _ = ⊥
 
   -- a value for each of the types: that of the item in its place, at its type, where the names of that type are distinct; those that are left are omitted
-  abbrev pub AreRead : List TypeTree → List Placed → List V → Type 0
+  abbrev pub AreRead : List TypeTree → List SpannedTree → List V → Type 0
   AreRead Ts [] vs = AreOmitted Ts vs
   AreRead (T ∷ Ts) (t ∷ ts) (v ∷ vs) = (HasDistinctNames T → IsTypedValue tree of T t v) × AreRead Ts ts vs
   AreRead _ _ _ = ⊥
 
   -- the node is a tuple of items that have these values
-  abbrev pub GivesParams : List TypeTree → NodeTree → Placed → List V → Type 0
-  GivesParams Ts n t vs = (items : List Placed) × (shape_of t ≡ tuple (placed_trees items)) × AreRead Ts items vs
+  abbrev pub GivesParams : List TypeTree → NodeTree → SpannedTree → List V → Type 0
+  GivesParams Ts n t vs = (items : List SpannedTree) × (shape_of t ≡ tuple (placed_trees items)) × AreRead Ts items vs
 
 -- the refusal of a constructor of `none`, at this place: the types are options, whose constructors do not serve all their values
 abbrev pub RefusesNoValue : (TypeTree → Type 0) → List TypeTree → Range ℕ → Diagnostic → Type 0
 RefusesNoValue Full Ts at e = (e.kind ≡ WasmValueError) × (e.span ≡ at) × AllOf IsOption Ts × (AllOf Full Ts → ⊥)
 
 -- the refusal of an item, which lies in it; where the names of its type are distinct, it is one of the item's tree at that type
-pub record RefusesItem (Full : TypeTree → Type 0) (T : TypeTree) (t : Placed) (e : Diagnostic) : Type 0 where
+pub record RefusesItem (Full : TypeTree → Type 0) (T : TypeTree) (t : SpannedTree) (e : Diagnostic) : Type 0 where
   pub kind : HasTypeKind e
   pub lies : LiesIn e.span (span_of t).start (span_of t).end
   pub blames : HasDistinctNames T → IsTypeError Full by_type T t e
 
 -- the type gives the item a value, where its names are distinct
-abbrev pub HasItemValue : TypeTree → Placed → Type 0
+abbrev pub HasItemValue : TypeTree → SpannedTree → Type 0
 HasItemValue T t = HasDistinctNames T → (v : Value) × TreeReads T (tree_of t) v
 
 -- the refusal of the items of the node, read in turn: of one at its type; of the first that is too many; of a type left that is no option; or of a `none`
-abbrev pub RefusesInTurn : (TypeTree → Type 0) → List TypeTree → List Placed → NodeTree → Diagnostic → Type 0
+abbrev pub RefusesInTurn : (TypeTree → Type 0) → List TypeTree → List SpannedTree → NodeTree → Diagnostic → Type 0
 RefusesInTurn Full Ts [] n e = SomeOf IsNoOption Ts × Says e InvalidParams (close_of n) (Some too_few_params) ⊎ RefusesNoValue Full Ts (place_of n) e
 RefusesInTurn Full [] (t ∷ ts) n e = Says e InvalidParams (span_of t) (Some too_many_params)
 RefusesInTurn Full (T ∷ Ts) (t ∷ ts) n e = RefusesItem Full T t e ⊎ HasItemValue T t × RefusesInTurn Full Ts ts n e
 
 -- so of the items of a tuple, or out of memory; or `InvalidType` at another node
-abbrev pub RefusesParams : (TypeTree → Type 0) → List TypeTree → NodeTree → Placed → Diagnostic → Type 0
+abbrev pub RefusesParams : (TypeTree → Type 0) → List TypeTree → NodeTree → SpannedTree → Diagnostic → Type 0
 RefusesParams Full Ts n t e =
     (type_of n ≢ kind.Tuple) × RefusedAs InvalidType n e
-    ⊎ ((items : List Placed) × (shape_of t ≡ tuple (placed_trees items)) × ((e.kind ≡ OutOfMemory) ⊎ RefusesInTurn Full Ts items n e))
+    ⊎ ((items : List SpannedTree) × (shape_of t ≡ tuple (placed_trees items)) × ((e.kind ≡ OutOfMemory) ⊎ RefusesInTurn Full Ts items n e))
 
 -- out of memory; or a type is no option; or, where all are, the refusal of a `none`; at the name
 abbrev pub RefusesNone : (TypeTree → Type 0) → List TypeTree → Range ℕ → Diagnostic → Type 0

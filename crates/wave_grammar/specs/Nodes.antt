@@ -4,7 +4,7 @@ use Rattle.std.specs.declared.ops.Range.{Range}
 use Rattle.wave_wasm.specs.Names.{is_one_of}
 use Rattle.wave_grammar.specs.Token.{Token}
 use Rattle.wave_grammar.specs.Token as token
-use Rattle.wave_grammar.specs.SpannedTree.{Placed, at, Shape, one, tuple, list, empty_braces, no_fields, entries, flags, label, none, some, ok, err}
+use Rattle.wave_grammar.specs.SpannedTree.{SpannedTree, at, SpannedShape, one, tuple, list, empty_braces, no_fields, entries, flags, label, none, some, ok, err}
 use Rattle.wave_grammar.specs.SpannedTree.{no_placed, a_placed, PlacedEntries, no_entries, entry, placed_trees, slice, HoldsTokens, SpellsEach}
 use Rattle.wave_grammar.specs.NodeTree.{NodeTree, NodeTrees, node, no_nodes, node_and}
 use Rattle.wave_grammar.specs.declared.form.NodeType.{NodeType}
@@ -25,17 +25,17 @@ abbrev pub number_token : List ℕ → Token
 number_token text = if is_one_of (codes "inf" ∷ codes "nan" ∷ []) text then token.label text else token.number text
 
 -- a label's place and text, where the node is a label alone
-abbrev pub flag_of : Placed → Option (Range ℕ × List ℕ)
+abbrev pub flag_of : SpannedTree → Option (Range ℕ × List ℕ)
 flag_of (at p (label q text no_placed)) = Some (q, text)
 flag_of _ = None
 
 -- the labels' places and texts, where each node is a label alone
-abbrev pub flags_of : List Placed → Option (List (Range ℕ × List ℕ))
+abbrev pub flags_of : List SpannedTree → Option (List (Range ℕ × List ℕ))
 flags_of [] = Some []
 flags_of (p ∷ ps) = with_both (λ f fs. f ∷ fs) (flag_of p) (flags_of ps)
 
 -- a key's place and token, where the node is a label, number, char, string or multiline string
-abbrev pub key_of : Placed → Option (Range ℕ × Token)
+abbrev pub key_of : SpannedTree → Option (Range ℕ × Token)
 key_of (at p (label q text no_placed)) = Some (q, token.label text)
 key_of (at p (one (token.number text))) = Some (p, token.number text)
 key_of (at p (one (token.char text))) = Some (p, token.char text)
@@ -44,13 +44,13 @@ key_of (at p (one (token.multiline text))) = Some (p, token.multiline text)
 key_of _ = None
 
 -- key, value, key, value
-abbrev pub pairs_of : List Placed → Option PlacedEntries
+abbrev pub pairs_of : List SpannedTree → Option PlacedEntries
 pairs_of [] = Some no_entries
 pairs_of (k ∷ []) = None
 pairs_of (k ∷ v ∷ more) = with_both (λ key rest. entry key.0 key.1 v rest) (key_of k) (pairs_of more)
 
 -- what a node of this type is that stands here, with this text and these children; nothing where it can't have these children
-abbrev pub shape_from : NodeType → Range ℕ → List ℕ → List Placed → Option Shape
+abbrev pub shape_from : NodeType → Range ℕ → List ℕ → List SpannedTree → Option SpannedShape
 shape_from kind.BoolTrue p text [] = Some (one (token.label (codes "true")))
 shape_from kind.BoolFalse p text [] = Some (one (token.label (codes "false")))
 shape_from kind.Number p text [] = Some (one (number_token text))
@@ -75,22 +75,22 @@ shape_from _ p text children = None
 
 -- the tree that a node means beside its source, with its places
 abbrev mutual
-  pub placed_of : List ℕ → NodeTree → Option Placed
+  pub placed_of : List ℕ → NodeTree → Option SpannedTree
   placed_of source (node ty p children) = option_map (at p) (and_then (all_placed source children) (shape_from ty p (slice source p)))
 
   -- the trees of the children, where each means one
-  pub all_placed : List ℕ → NodeTrees → Option (List Placed)
+  pub all_placed : List ℕ → NodeTrees → Option (List SpannedTree)
   all_placed source no_nodes = Some []
   all_placed source (node_and n more) = with_both (λ t ts. t ∷ ts) (placed_of source n) (all_placed source more)
 
 -- the node means the tree, and each part of it spells its slice of the source and stands at tokens of the whole
-abbrev pub IsNodeOf : List ℕ → NodeTree → Placed → Type 0
+abbrev pub IsNodeOf : List ℕ → NodeTree → SpannedTree → Type 0
 IsNodeOf source n t = (placed_of source n ≡ Some t) × SpellsEach source t
 
 -- the node is a key, a flag or the label of a case: this one token of the source
 abbrev pub IsTokenOf : List ℕ → NodeTree → Range ℕ → Token → Type 0
-IsTokenOf source n p key = ((t : Placed) × (placed_of source n ≡ Some t) × (key_of t ≡ Some (p, key))) × HoldsTokens source p (key ∷ [])
+IsTokenOf source n p key = ((t : SpannedTree) × (placed_of source n ≡ Some t) × (key_of t ≡ Some (p, key))) × HoldsTokens source p (key ∷ [])
 
 -- the node was parsed from the source, as a value or as a key, a flag or the label of a case
 abbrev pub IsParsedFrom : List ℕ → NodeTree → Type 0
-IsParsedFrom source n = ((t : Placed) × IsNodeOf source n t) ⊎ ((p : Range ℕ) × (key : Token) × IsTokenOf source n p key)
+IsParsedFrom source n = ((t : SpannedTree) × IsNodeOf source n t) ⊎ ((p : Range ℕ) × (key : Token) × IsTokenOf source n p key)

@@ -10,52 +10,52 @@ use Rattle.wave_grammar.specs.Tree.{Tree, MaybeTree, Trees, TreeEntries}
 
 mutual
   -- a tree, from its first byte to the one after its last
-  pub data Placed : Type 0 where
-    at : Range ℕ → Shape → Placed
+  pub data SpannedTree : Type 0 where
+    at : Range ℕ → SpannedShape → SpannedTree
 
   -- what it is
-  pub data Shape : Type 0 where
-    one : Token → Shape
-    tuple list : PlacedTrees → Shape
-    empty_braces no_fields : Shape
-    entries : PlacedEntries → Shape
-    flags : List (Range ℕ × List ℕ) → Shape
+  pub data SpannedShape : Type 0 where
+    one : Token → SpannedShape
+    tuple list : PlacedTrees → SpannedShape
+    empty_braces no_fields : SpannedShape
+    entries : PlacedEntries → SpannedShape
+    flags : List (Range ℕ × List ℕ) → SpannedShape
     -- the place of the label, its text and its payload
-    label : Range ℕ → List ℕ → MaybePlaced → Shape
-    none : Shape
-    some : Placed → Shape
-    ok err : MaybePlaced → Shape
+    label : Range ℕ → List ℕ → MaybePlaced → SpannedShape
+    none : SpannedShape
+    some : SpannedTree → SpannedShape
+    ok err : MaybePlaced → SpannedShape
 
   -- a payload, or nothing
   pub data MaybePlaced : Type 0 where
     no_placed : MaybePlaced
-    a_placed : Placed → MaybePlaced
+    a_placed : SpannedTree → MaybePlaced
 
   -- items
   pub data PlacedTrees : Type 0 where
     no_more : PlacedTrees
-    and_then : Placed → PlacedTrees → PlacedTrees
+    and_then : SpannedTree → PlacedTrees → PlacedTrees
 
   -- entries: the span of the key, the key, the value
   pub data PlacedEntries : Type 0 where
     no_entries : PlacedEntries
-    entry : Range ℕ → Token → Placed → PlacedEntries → PlacedEntries
+    entry : Range ℕ → Token → SpannedTree → PlacedEntries → PlacedEntries
 
 -- where it stands
-abbrev pub span_of : Placed → Range ℕ
+abbrev pub span_of : SpannedTree → Range ℕ
 span_of (at p s) = p
 
 -- what it is
-abbrev pub shape_of : Placed → Shape
+abbrev pub shape_of : SpannedTree → SpannedShape
 shape_of (at p s) = s
 
 -- the items, as a list
-abbrev pub placed_list : PlacedTrees → List Placed
+abbrev pub placed_list : PlacedTrees → List SpannedTree
 placed_list no_more = []
 placed_list (and_then t more) = t ∷ placed_list more
 
 -- the items in this list
-abbrev pub placed_trees : List Placed → PlacedTrees
+abbrev pub placed_trees : List SpannedTree → PlacedTrees
 placed_trees [] = no_more
 placed_trees (t ∷ ts) = and_then t (placed_trees ts)
 
@@ -63,7 +63,7 @@ placed_trees (t ∷ ts) = and_then t (placed_trees ts)
 pub record PlacedEntry : Type 0 where
   pub place : Range ℕ
   pub key : Token
-  pub value : Placed
+  pub value : SpannedTree
 
 -- the entries, as a list
 abbrev pub entry_list : PlacedEntries → List PlacedEntry
@@ -72,11 +72,11 @@ entry_list (entry p key t more) = record { place = p; key = key; value = t } ∷
 
 -- the tree without its places
 abbrev mutual
-  pub tree_of : Placed → Tree
+  pub tree_of : SpannedTree → Tree
   tree_of (at p s) = tree_of_shape s
 
   -- the tree of a shape
-  pub tree_of_shape : Shape → Tree
+  pub tree_of_shape : SpannedShape → Tree
   tree_of_shape (one token) = tree.one token
   tree_of_shape (tuple ts) = tree.tuple (trees_of ts)
   tree_of_shape (list ts) = tree.list (trees_of ts)
@@ -146,7 +146,7 @@ entry_places no_entries = []
 entry_places (entry p key t more) = p ∷ span_of t ∷ entry_places more
 
 -- the places of the parts of a shape
-abbrev pub part_places : Shape → List (Range ℕ)
+abbrev pub part_places : SpannedShape → List (Range ℕ)
 part_places (one token) = []
 part_places (tuple ts) = map span_of (placed_list ts)
 part_places (list ts) = map span_of (placed_list ts)
@@ -168,11 +168,11 @@ SpellsFlags source p (f ∷ more) = LiesIn f.0 p.start p.end × HoldsTokens sour
 -- each value within spells its tree where it stands, each key, flag and case label is its one token;
 -- each stands at tokens of the whole; but for flags, which are sorted, they stand one after another
 abbrev mutual
-  pub SpellsEach : List ℕ → Placed → Type 0
+  pub SpellsEach : List ℕ → SpannedTree → Type 0
   SpellsEach source (at p s) = SpellsAt source p (tree_of_shape s) × SpellsParts source p s × AllOf (StandsAtTokens source p) (part_places s)
 
   -- so it is of the parts of a shape; the payload of `some`, `ok` or `err` begins after the word, so after its first byte
-  pub SpellsParts : List ℕ → Range ℕ → Shape → Type 0
+  pub SpellsParts : List ℕ → Range ℕ → SpannedShape → Type 0
   SpellsParts source p (one token) = Unit {0}
   SpellsParts source p (tuple ts) = SpellsAll source p.start p.end ts
   SpellsParts source p (list ts) = SpellsAll source p.start p.end ts

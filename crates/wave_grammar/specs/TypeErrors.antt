@@ -20,7 +20,7 @@ use Rattle.wave_grammar.specs.Token.{Token}
 use Rattle.wave_grammar.specs.Token as token
 use Rattle.wave_grammar.specs.LeafTokens.{Spells, name_of}
 use Rattle.wave_grammar.specs.TypedGrammar.{IsFlat, IsOption}
-use Rattle.wave_grammar.specs.SpannedTree.{Placed, Shape, one, tuple, list, empty_braces, no_fields, entries, flags, label, none, some, ok, err}
+use Rattle.wave_grammar.specs.SpannedTree.{SpannedTree, SpannedShape, one, tuple, list, empty_braces, no_fields, entries, flags, label, none, some, ok, err}
 use Rattle.wave_grammar.specs.SpannedTree.{MaybePlaced, no_placed, a_placed, PlacedEntry, span_of, shape_of, placed_list, entry_list}
 
 -- which refusals a fault gives, and at which span
@@ -96,41 +96,41 @@ MapKeyFault K p t k q =
 -- ---- forms
 
 -- a leaf's token
-abbrev pub one_in : Shape → Option Token
+abbrev pub one_in : SpannedShape → Option Token
 one_in (one t) = Some t
 one_in _ = None
 
 -- a list's items
-abbrev pub list_in : Shape → Option (List Placed)
+abbrev pub list_in : SpannedShape → Option (List SpannedTree)
 list_in (list ts) = Some (placed_list ts)
 list_in _ = None
 
 -- a tuple's items
-abbrev pub tuple_in : Shape → Option (List Placed)
+abbrev pub tuple_in : SpannedShape → Option (List SpannedTree)
 tuple_in (tuple ts) = Some (placed_list ts)
 tuple_in _ = None
 
 -- the entries of a record: entries or `{:}`
-abbrev pub record_in : Shape → Option (List PlacedEntry)
+abbrev pub record_in : SpannedShape → Option (List PlacedEntry)
 record_in (entries es) = Some (entry_list es)
 record_in no_fields = Some []
 record_in _ = None
 
 -- the entries of a map: entries, `{:}` or `{}`
-abbrev pub map_in : Shape → Option (List PlacedEntry)
+abbrev pub map_in : SpannedShape → Option (List PlacedEntry)
 map_in (entries es) = Some (entry_list es)
 map_in no_fields = Some []
 map_in empty_braces = Some []
 map_in _ = None
 
 -- the labels of flags: flags or `{}`
-abbrev pub flags_in : Shape → Option (List (Range ℕ × List ℕ))
+abbrev pub flags_in : SpannedShape → Option (List (Range ℕ × List ℕ))
 flags_in (flags fs) = Some fs
 flags_in empty_braces = Some []
 flags_in _ = None
 
 -- a label and its payload
-abbrev pub label_in : Shape → Option (List ℕ × MaybePlaced)
+abbrev pub label_in : SpannedShape → Option (List ℕ × MaybePlaced)
 label_in (label p text payload) = Some (text, payload)
 label_in _ = None
 
@@ -170,18 +170,18 @@ NoneDue name no_placed p k q = ⊥
 NoneDue name (a_placed t) p k q = RefusesFor (unexpected_payload name) p k q
 
 -- no payload where one is due: the cause `MissingPayload` at the node; or a fault of the payload
-abbrev pub OneDue : List ℕ → MaybePlaced → Range ℕ → (Placed → Blame) → Blame
+abbrev pub OneDue : List ℕ → MaybePlaced → Range ℕ → (SpannedTree → Blame) → Blame
 OneDue name no_placed p Within k q = RefusesFor (missing_payload name) p k q
 OneDue name (a_placed t) p Within k q = Within t k q
 
 -- at an option: a fault of the payload of `some`, none of `none`, or that of another form
-abbrev pub OfOption : Shape → (Placed → Blame) → Blame → Blame
+abbrev pub OfOption : SpannedShape → (SpannedTree → Blame) → Blame → Blame
 OfOption none Within Flat k q = ⊥
 OfOption (some t) Within Flat k q = Within t k q
 OfOption _ Within Flat k q = Flat k q
 
 -- at a result: a fault of the payload of `ok`, of that of `err`, or that of another form
-abbrev pub OfResult : Shape → (MaybePlaced → Blame) → (MaybePlaced → Blame) → Blame → Blame
+abbrev pub OfResult : SpannedShape → (MaybePlaced → Blame) → (MaybePlaced → Blame) → Blame → Blame
 OfResult (ok payload) Ok Err Flat k q = Ok payload k q
 OfResult (err payload) Ok Err Flat k q = Err payload k q
 OfResult _ Ok Err Flat k q = Flat k q
@@ -190,7 +190,7 @@ OfResult _ Ok Err Flat k q = Flat k q
 
 -- some part that the type gives a type, or some key, stands for the refusal at the span
 abbrev mutual
-  pub Fault : TypeTree → Placed → Blame
+  pub Fault : TypeTree → SpannedTree → Blame
   Fault (type.simple S) t k q = OfForm (one_in (shape_of t)) (span_of t) (LeafFault S (span_of t)) k q
   Fault (type.unreadable kind) t k q = RefusesFor (unsupported_type (kind_word (type.unreadable_kind kind))) (span_of t) k q
   Fault (type.list E) t k q = OfForm (list_in (shape_of t)) (span_of t) (λ items k q. SomeOf (λ item. Fault E item k q) items) k q
@@ -233,12 +233,12 @@ abbrev mutual
   FaultOfPayload name (a_type T) payload p k q = OneDue name payload p (Fault T) k q
 
   -- a tree that would stand for `ok` of itself
-  pub FaultOfFlat : MaybeType → Placed → Blame
+  pub FaultOfFlat : MaybeType → SpannedTree → Blame
   FaultOfFlat no_type t k q = IsRefusalOf InvalidType (span_of t) k q
   FaultOfFlat (a_type T) t k q = (IsFlat T → ⊥) × IsRefusalOf InvalidType (span_of t) k q ⊎ IsFlat T × Fault T t k q
 
   -- a fault of an item at its type, as far as there are items and types
-  pub FaultOfItem : Types → List Placed → Blame
+  pub FaultOfItem : Types → List SpannedTree → Blame
   FaultOfItem no_types items k q = ⊥
   FaultOfItem (type_and T more) [] k q = ⊥
   FaultOfItem (type_and T more) (t ∷ others) k q = Fault T t k q ⊎ FaultOfItem more others k q

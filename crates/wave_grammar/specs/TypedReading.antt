@@ -12,7 +12,7 @@ use Rattle.wave_wasm.specs.ConstructorContracts.{MakesLeaf, FullLeaf}
 use Rattle.wave_wasm.specs.declared.wasm.WasmValueError as causes
 use Rattle.wave_lex.specs.Errors.{Diagnostic, refusal_of, refused_by}
 use Rattle.wave_lex.specs.declared.error.ParserErrorKind.TheVariants.{OutOfMemory, WasmValueError}
-use Rattle.wave_grammar.specs.SpannedTree.{Placed, tree_of, slice}
+use Rattle.wave_grammar.specs.SpannedTree.{SpannedTree, tree_of, slice}
 use Rattle.wave_grammar.specs.NodeTree.{NodeTree, type_of, place_of}
 use Rattle.wave_grammar.specs.declared.form.NodeType.TheVariants as node_kind
 use Rattle.wave_grammar.specs.Nodes.{IsNodeOf, IsTokenOf}
@@ -23,27 +23,27 @@ use Rattle.wave_grammar.specs.TypeErrors.{LoneKeyFault, SpellsNoLeaf}
 use Rattle.wave_grammar.specs.FaultOrder.{Order, by_type, FirstFault}
 
 -- the type gives the tree the value, which is of the type; V is the Rust type of foreign values, `tree` says what one means, `of` when it is of a type
-pub record IsTypedValue {V : Type 0} (tree : V → Value) (of : V → TypeTree → Type 0) (T : TypeTree) (t : Placed) (v : V) : Type 0 where
+pub record IsTypedValue {V : Type 0} (tree : V → Value) (of : V → TypeTree → Type 0) (T : TypeTree) (t : SpannedTree) (v : V) : Type 0 where
   pub reads : TreeReads T (tree_of t) (tree v)
   pub is_of : of v T
 
 -- out of memory; or the fault of the tree that is answered in these orders; or, where constructors do not serve all values of the type, the refusal of one
-abbrev pub IsBlamed : (TypeTree → Type 0) → Order → Order → TypeTree → Placed → Diagnostic → Type 0
+abbrev pub IsBlamed : (TypeTree → Type 0) → Order → Order → TypeTree → SpannedTree → Diagnostic → Type 0
 IsBlamed Full o w T t e =
     (e.kind ≡ OutOfMemory) ⊎ FirstFault o w T t (refusal_of e) e.span ⊎ (e.kind ≡ WasmValueError) × (Full T → ⊥)
 
 -- the type gives the tree no value
-abbrev pub ReadsNone : TypeTree → Placed → Type 0
+abbrev pub ReadsNone : TypeTree → SpannedTree → Type 0
 ReadsNone T t = (v : Value) → TreeReads T (tree_of t) v → ⊥
 
 -- so in one order, and a fault stands only where the type gives the tree no value
-abbrev pub IsTypeError : (TypeTree → Type 0) → Order → TypeTree → Placed → Diagnostic → Type 0
+abbrev pub IsTypeError : (TypeTree → Type 0) → Order → TypeTree → SpannedTree → Diagnostic → Type 0
 IsTypeError Full o T t e =
     (e.kind ≡ OutOfMemory) ⊎ FirstFault o o T t (refusal_of e) e.span × ReadsNone T t ⊎ (e.kind ≡ WasmValueError) × (Full T → ⊥)
 
 -- the node is that of a value
 abbrev pub IsValueOf : List ℕ → NodeTree → Type 0
-IsValueOf source n = (t : Placed) × IsNodeOf source n t
+IsValueOf source n = (t : SpannedTree) × IsNodeOf source n t
 
 -- the node is that of a key
 abbrev pub IsKeyOf : List ℕ → NodeTree → Type 0
@@ -89,7 +89,7 @@ module _ {V : Type 0} (tree : V → Value) (of : V → TypeTree → Type 0) (Ful
 
   -- the value of the node's tree at the type, or its refusal: a fault is the first as the type is gone through, and stands only where there is no value
   abbrev pub ReadsAtType : TypeTree → List ℕ → NodeTree → Result V Diagnostic → Type 0
-  ReadsAtType T source n r = (t : Placed) → IsNodeOf source n t → HasDistinctNames T → MatchResult r (IsTypedValue tree of T t) (IsTypeError Full by_type T t)
+  ReadsAtType T source n r = (t : SpannedTree) → IsNodeOf source n t → HasDistinctNames T → MatchResult r (IsTypedValue tree of T t) (IsTypeError Full by_type T t)
 
   -- so of the node's key at the simple type
   abbrev pub ReadsKey : TypeTree → List ℕ → NodeTree → Result V Diagnostic → Type 0
@@ -100,4 +100,4 @@ module _ {V : Type 0} (tree : V → Value) (of : V → TypeTree → Type 0) (Ful
 module _ {V : Type 0} (tree : V → Value) (of : V → TypeTree → Type 0) (Full : TypeTree → Type 0) (o w : Order) where
   -- the value of the node's tree at the type, or its refusal in these orders
   abbrev pub Answers : TypeTree → List ℕ → NodeTree → Result V Diagnostic → Type 0
-  Answers T source n r = (t : Placed) → IsNodeOf source n t → HasDistinctNames T → MatchResult r (IsTypedValue tree of T t) (IsBlamed Full o w T t)
+  Answers T source n r = (t : SpannedTree) → IsNodeOf source n t → HasDistinctNames T → MatchResult r (IsTypedValue tree of T t) (IsBlamed Full o w T t)

@@ -45,7 +45,7 @@ pub trait Builder: Sized + Copy {
         ensures { result ≡ next self parts.now };
 
     /// Adds a key or the label of a case to the parts.
-    fn with_key(
+    fn push_key(
         self,
         alloc: Global,
         parts: &mut Self::Parts,
@@ -60,7 +60,7 @@ pub trait Builder: Sized + Copy {
             → are_parts self source whole children parts.old → takes_memory self) };
 
     /// Adds to the parts one that was made by the builder of the next part.
-    fn with_part(
+    fn push_part(
         self,
         alloc: Global,
         parts: &mut Self::Parts,

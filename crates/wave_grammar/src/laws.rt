@@ -6,7 +6,7 @@ ghost use Rattle.wave_grammar.specs.DisplayLaws.{ShownKeepsMeaning, ShownCallKee
 ghost use Rattle.wave_grammar.specs.EquivalenceLaws.{SameTokensMeanTheSame, SameTreeMeansTheSame, LastCommasMayGo, LastCommasMeanNothing};
 ghost use Rattle.wave_grammar.specs.OrderLaws.{FieldsInAnyOrder, FlagsInAnyOrder};
 ghost use Rattle.wave_grammar.specs.FaultLaws.{OneFault, AnswersAreFaults, NoAnswerNoFault, OrdersAgree, LoneFaultIsAnswered};
-ghost use Rattle.wave_grammar.specs.PrefixLaws.{TreesAreLed, LedTokensHaveATree, FrontsAreLed, LedTokensBeginATree};
+ghost use Rattle.wave_grammar.specs.PrefixLaws.{TreesAreAccepted, AcceptedTokensHaveATree, PrefixesAreViable, ViableTokensBeginATree};
 ghost use Rattle.wave_grammar.specs.PrefixLaws.{RefusedTokensBeginNone, UnexpectedTokensBeginNone};
 ghost use Rattle.wave_grammar.specs.PrefixLaws.{EmptyTuplesAreEmpty, RepeatedFlagsAreRepeated, DeepValuesAreDeep};
 ghost use Rattle.wave_grammar.specs.NodeLaws.{NodesReadAsTokens, KeysAreValues};
@@ -39,23 +39,23 @@ pub fn params_are_by_tree()
 {}
 
 /// The tokens of a tree lead, within its levels, from where a value is due to its end.
-pub fn trees_are_led()
-    ensures { TreesAreLed }
+pub fn trees_are_accepted()
+    ensures { TreesAreAccepted }
 {}
 
 /// Tokens that lead from where a value is due to its end are those of a tree, within the same levels.
-pub fn led_tokens_have_a_tree()
-    ensures { LedTokensHaveATree }
+pub fn accepted_tokens_have_a_tree()
+    ensures { AcceptedTokensHaveATree }
 {}
 
 /// Every prefix of the tokens of a tree is led, within the tree's levels.
-pub fn fronts_are_led()
-    ensures { FrontsAreLed }
+pub fn prefixes_are_viable()
+    ensures { PrefixesAreViable }
 {}
 
 /// Tokens that are led go on as those of a tree, with one level more at most.
-pub fn led_tokens_begin_a_tree()
-    ensures { LedTokensBeginATree }
+pub fn viable_tokens_begin_a_tree()
+    ensures { ViableTokensBeginATree }
 {}
 
 /// Tokens that are led, with a token after them that is refused there, begin no tree.
@@ -70,7 +70,7 @@ pub fn unexpected_tokens_begin_none()
 
 /// A token refused for an empty tuple closes one, one refused as repeated names a flag again, and one
 /// refused for its depth stands where a value is due and no level is left.
-pub fn refusals_are_of_their_kind()
+pub fn refusal_kinds_sound()
     ensures empty { EmptyTuplesAreEmpty }
     ensures repeated { RepeatedFlagsAreRepeated }
     ensures deep { DeepValuesAreDeep }

@@ -8,7 +8,7 @@ use Rattle.std.proofs.lemmas.Str.{encode_same}
 use Rattle.wave_lex.specs.declared.lex.Token.{Token}
 use Rattle.wave_lex.specs.declared.lex.Token.TheVariants.{BraceOpen, BraceClose, ParenOpen, ParenClose, BracketOpen, BracketClose, Colon, Comma, Number, LabelOrKeyword, Char, String, MultilineString}
 use Rattle.wave_lex.specs.Regex.{Regex, nothing, Matches}
-use Rattle.wave_lex.specs.Shared.Derive.{may_be_empty, after}
+use Rattle.wave_lex.specs.Shared.Derive.{nullable, derivative}
 use Rattle.wave_lex.specs.Tokens.{shape, word, string}
 use Rattle.wave_lex.specs.Tokenization.{three_quotes, MayStandAt, IsToken}
 use Rattle.wave_lex.specs.Shared.Reading.{class_of, ClassAt}
@@ -76,10 +76,10 @@ shows_true (Some u) t e = ap Some (sym (of_number_of u) ∙ (ap of_number (eqb-t
 
 -- what begins a text of the class shows its class
 abbrev begins_right : Token → ℕ → Bool
-begins_right d x = same (after x (shape d)) nothing || shows (class_of x) (group d)
+begins_right d x = same (derivative x (shape d)) nothing || shows (class_of x) (group d)
 
 -- the first scalars of each class, by computing
-begins_computed : (d : Token) → (each_below 129 (begins_right d) ≡ true) × (is_ascii_shape (shape d) ≡ true) × (same (after 128 (shape d)) nothing ≡ true) × (may_be_empty (shape d) ≡ false)
+begins_computed : (d : Token) → (each_below 129 (begins_right d) ≡ true) × (is_ascii_shape (shape d) ≡ true) × (same (derivative 128 (shape d)) nothing ≡ true) × (nullable (shape d) ≡ false)
 begins_computed BraceOpen = (refl, refl, refl, refl)
 begins_computed BraceClose = (refl, refl, refl, refl)
 begins_computed ParenOpen = (refl, refl, refl, refl)
@@ -95,15 +95,15 @@ begins_computed String = (refl, refl, refl, refl)
 begins_computed MultilineString = (refl, refl, refl, refl)
 
 -- no class has the empty text
-pub shape_not_empty : (d : Token) → may_be_empty (shape d) ≡ false
+pub shape_not_empty : (d : Token) → nullable (shape d) ≡ false
 shape_not_empty d = (begins_computed d).3
 
 -- the first scalar of a text of a class shows the class
-class_shown : (d : Token) (x : ℕ) (ds : List ℕ) → Matches (after x (shape d)) ds → class_of x ≡ Some (group d)
+class_shown : (d : Token) (x : ℕ) (ds : List ℕ) → Matches (derivative x (shape d)) ds → class_of x ≡ Some (group d)
 class_shown d x ds h =
     let w = begins_computed d in
     elim (cases_lt x 129) as (λ _. class_of x ≡ Some (group d)) [
-      | inl l ↦ elim (or_true (same (after x (shape d)) nothing) (shows (class_of x) (group d)) (each_below_at 129 x (begins_right d) w.0 l)) as (λ _. class_of x ≡ Some (group d)) [
+      | inl l ↦ elim (or_true (same (derivative x (shape d)) nothing) (shows (class_of x) (group d)) (each_below_at 129 x (begins_right d) w.0 l)) as (λ _. class_of x ≡ Some (group d)) [
         | inl e ↦ absurd (subst (λ (z : Regex). Matches z ds) (same_true _ _ e) h)
         | inr e ↦ shows_true _ _ e
       ]
@@ -113,7 +113,7 @@ class_shown d x ds h =
     ]
 
 -- a prefix that isn't empty begins with the first scalar
-front_begins : (p : Regex) (r cs rest : List ℕ) (k x : ℕ) → may_be_empty p ≡ false → r ≡ encode_utf8 x ++ rest
+front_begins : (p : Regex) (r cs rest : List ℕ) (k x : ℕ) → nullable p ≡ false → r ≡ encode_utf8 x ++ rest
     → encode_utf8_all cs ≡ take k r → Matches p cs → (ds : List ℕ) × (cs ≡ x ∷ ds)
 front_begins p r [] rest k x f b e h = let wrong : false ≡ true = sym f ∙ empty_into p h in cc
 front_begins p r (y ∷ ds) rest k x f b e h =
@@ -147,17 +147,17 @@ multiline_begins r k t =
     (encode_utf8_all y ++ drop k r, sym (ap (λ (z : List ℕ). z ++ drop k r) u ∙ take-append-drop k r))
 
 -- after two quotes nothing more of a string may follow
-no_more : (r rest ds : List ℕ) (k : ℕ) → k ≤ length r → r ≡ three_quotes ++ rest → Matches (after 34 string) ds → 34 ∷ encode_utf8_all ds ≡ take k r
+no_more : (r rest ds : List ℕ) (k : ℕ) → k ≤ length r → r ≡ three_quotes ++ rest → Matches (derivative 34 string) ds → 34 ∷ encode_utf8_all ds ≡ take k r
     → (k ≡ 2 → take 3 r ≢ three_quotes) → ⊥
 unfolding lib.Utf8.encode
-no_more r rest [] k l b h e may = let wrong : false ≡ true = empty_into (after 34 string) h in cc
+no_more r rest [] k l b h e may = let wrong : false ≡ true = empty_into (derivative 34 string) h in cc
 no_more r rest (y ∷ es) k l b h e may =
     let whole : 34 ∷ (encode_utf8 y ++ (encode_utf8_all es ++ drop k r)) ≡ 34 ∷ (encode_utf8 34 ++ (34 ∷ rest)) =
     ap (λ (z : List ℕ). 34 ∷ z) (sym (append_assoc (encode_utf8 y) (encode_utf8_all es) (drop k r))) ∙ (ap (λ (z : List ℕ). z ++ drop k r) e ∙ (take-append-drop k r ∙ b)) in
     let tails : encode_utf8 y ++ (encode_utf8_all es ++ drop k r) ≡ encode_utf8 34 ++ (34 ∷ rest) = cc in
     let s = encode_same y 34 (encode_utf8_all es ++ drop k r) (34 ∷ rest) tails in
-    let n : Matches (after y (after 34 string)) es = after_into y (after 34 string) es h in
-    let m : es ≡ [] = subst (λ (z : ℕ). Matches (after z (after 34 string)) es) s.0 n in
+    let n : Matches (derivative y (derivative 34 string)) es = after_into y (derivative 34 string) es h in
+    let m : es ≡ [] = subst (λ (z : ℕ). Matches (derivative z (derivative 34 string)) es) s.0 n in
     let two : 34 ∷ 34 ∷ [] ≡ take k r = sym (ap (λ (z : ℕ). 34 ∷ encode_utf8_all (z ∷ es)) s.0 ∙ ap (λ (z : List ℕ). 34 ∷ encode_utf8_all (34 ∷ z)) m) ∙ e in
     let long : k ≡ 2 = sym (ap length two ∙ length-take-le k r l) in
     may long (ap (λ (z : List ℕ). take 3 z) b)

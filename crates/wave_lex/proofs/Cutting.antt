@@ -12,7 +12,7 @@ use Rattle.wave_lex.proofs.Derive.{empty_into}
 use Rattle.wave_lex.proofs.Shapes.{same_list, same_list_true}
 use Rattle.wave_lex.proofs.Classes.{class_here, class_quoted, shape_not_empty}
 use Rattle.wave_lex.proofs.LongestMatch.{front_positive, is_ascii, no_front, no_front_here}
-use Rattle.wave_lex.specs.LongestMatch.{IsFront}
+use Rattle.wave_lex.specs.LongestMatch.{IsPrefixOf}
 
 -- a token has a first scalar
 first_scalar : (r cs : List ℕ) (k : ℕ) (c : Token) → encode_utf8_all cs ≡ take k r → Matches (shape c) cs → (x : ℕ) × (rest : List ℕ) × (r ≡ encode_utf8 x ++ rest)
@@ -89,7 +89,7 @@ cuts_once s ts us a b = same_cut s ts us a.0 b.0 a.1 a.2 b.1 b.2
 pub no_token_quoted : (r rest : List ℕ) → r ≡ three_quotes ++ rest → is_ascii r ≡ true → no_front (shape MultilineString) r ≡ true → NoToken r
 no_token_quoted r rest b h e k c t =
     let same : c ≡ MultilineString = (class_quoted r rest b).0 k c t in
-    no_front_here (shape MultilineString) r h e k (subst (λ z. IsFront (shape z) r k) same t.0)
+    no_front_here (shape MultilineString) r h e k (subst (λ z. IsPrefixOf (shape z) r k) same t.0)
 
 -- a label is no longer than the token that stands at its place
 pub no_longer_label : NoLongerLabel

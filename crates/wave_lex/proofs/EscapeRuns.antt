@@ -8,8 +8,8 @@ use Rattle.std.proofs.lemmas.Bool.Decides.{nat_tests}
 use Rattle.std.proofs.lemmas.Str.{IsUtf8-take, encodes-chars, encodes-append}
 use Rattle.std.proofs.Math.Seq.{take-append_seam}
 use Rattle.wave_lex.specs.Regex.{Regex}
-use Rattle.wave_lex.specs.Shared.Derive.{after, after_all, after_next}
-use Rattle.wave_lex.specs.LongestMatch.{Greatest, IsFront}
+use Rattle.wave_lex.specs.Shared.Derive.{derivative, derivative_by, after_next}
+use Rattle.wave_lex.specs.LongestMatch.{Greatest, IsPrefixOf}
 use Rattle.wave_lex.specs.Strings.{short_escape}
 use Rattle.wave_lex.specs.Tokens.{string}
 use Rattle.wave_lex.specs.Shared.Reading.{LeadsTo, IsPlainRun}
@@ -26,7 +26,7 @@ use Rattle.wave_lex.proofs.Scanning.{after_all_append}
 use Rattle.wave_lex.proofs.Machines.{string_steps}
 use Rattle.wave_lex.proofs.Parts.{AllAscii, ascii_append, digit_ascii, digits_ascii, short_ascii}
 use Rattle.wave_lex.proofs.Unescape.{all_digits, closed_at}
-use Rattle.wave_lex.proofs.Fronts.{take_plus, ascii_leads, cut_here, run_ends}
+use Rattle.wave_lex.proofs.Prefixes.{take_plus, ascii_leads, cut_here, run_ends}
 use Rattle.wave_lex.proofs.Runs.{ArePlain, plains_stay, plain_taken, not_plain_ascii}
 
 -- what leads on from where something leads
@@ -40,7 +40,7 @@ leads_on r q w s t p k e h f =
       fits = omega (arith, length-drop p s);
       spelled = encodes-append h.scalars f.scalars ∙ (ap (λ (z : List ℕ). z ++ encode_utf8_all f.scalars) h.spelled
           ∙ (ap (λ (z : List ℕ). take p s ++ z) (f.spelled ∙ ap (λ (z : List ℕ). take k z) e) ∙ sym (take_plus s p k fits)));
-      has = after_all_append h.scalars f.scalars r ∙ (ap (λ (z : Regex). after_all f.scalars z) h.has ∙ f.has);
+      has = after_all_append h.scalars f.scalars r ∙ (ap (λ (z : Regex). derivative_by f.scalars z) h.has ∙ f.has);
     }
 
 -- ---- escapes
@@ -78,19 +78,19 @@ hex_within (suc (suc (suc (suc (suc zero))))) d l e = ap (λ (z : Bool). if z th
 hex_within (suc (suc (suc (suc (suc (suc k)))))) d l e = let w : ⊥ = omega arith in absurd w
 
 -- within an escape
-goes_within : (q p : EscapeState) (c : ℕ) → escape_step q c ≡ Some (Within p) → after c (string_rest (string.Escape q)) ≡ string_rest (string.Escape p)
+goes_within : (q p : EscapeState) (c : ℕ) → escape_step q c ≡ Some (Within p) → derivative c (string_rest (string.Escape q)) ≡ string_rest (string.Escape p)
 goes_within q p c e = string_steps (string.Escape q) c ∙ ap (λ (z : Option EscapeStep). after_next StringState string_rest (in_string z)) e
 
 -- the digits of an escape
-digits_go : (ds : List ℕ) (k : ℕ) → k + length ds ≤ 6 → AllDigits 16 ds → after_all ds (string_rest (string.Escape (hex_state k))) ≡ string_rest (string.Escape (hex_state (k + length ds)))
+digits_go : (ds : List ℕ) (k : ℕ) → k + length ds ≤ 6 → AllDigits 16 ds → derivative_by ds (string_rest (string.Escape (hex_state k))) ≡ string_rest (string.Escape (hex_state (k + length ds)))
 digits_go [] k l a = let same : k ≡ k + 0 = omega arith in ap (λ (z : ℕ). string_rest (string.Escape (hex_state z))) same
 digits_go (d ∷ ds) k l a =
     let next : suc k + length ds ≡ k + length (d ∷ ds) = omega arith in
-    ap (λ (z : Regex). after_all ds z) (goes_within (hex_state k) (hex_state (suc k)) d (hex_within k d (omega arith) (hex_of_digit d a.0)))
+    ap (λ (z : Regex). derivative_by ds z) (goes_within (hex_state k) (hex_state (suc k)) d (hex_within k d (omega arith) (hex_of_digit d a.0)))
     ∙ (digits_go ds (suc k) (omega arith) a.1 ∙ ap (λ (z : ℕ). string_rest (string.Escape (hex_state z))) next)
 
 -- the last brace of an escape
-closes : (n : ℕ) → 1 ≤ n → n ≤ 6 → after 125 (string_rest (string.Escape (hex_state n))) ≡ string_rest string.Inside
+closes : (n : ℕ) → 1 ≤ n → n ≤ 6 → derivative 125 (string_rest (string.Escape (hex_state n))) ≡ string_rest string.Inside
 closes zero l m = let w : ⊥ = omega arith in absurd w
 closes (suc zero) l m = string_steps (string.Escape escape.Hex1) 125
 closes (suc (suc zero)) l m = string_steps (string.Escape escape.Hex2) 125
@@ -107,16 +107,16 @@ short_last : (b c : ℕ) → short_escape b ≡ Some c → escape_step escape.Ba
 short_last b c e = ap (λ (z : Bool). if z then Some (Within escape.U) else ends_short (short_escape b)) (not_u b c e) ∙ ap ends_short e
 
 -- a short escape leads back to where it began
-short_stays : (b c : ℕ) → short_escape b ≡ Some c → after_all (92 ∷ b ∷ []) (string_rest string.Inside) ≡ string_rest string.Inside
+short_stays : (b c : ℕ) → short_escape b ≡ Some c → derivative_by (92 ∷ b ∷ []) (string_rest string.Inside) ≡ string_rest string.Inside
 short_stays b c e = string_steps (string.Escape escape.Backslash) b ∙ ap (λ (z : Option EscapeStep). after_next StringState string_rest (in_string z)) (short_last b c e)
 
 -- a long escape leads back to where it began
-long_stays : (ds : List ℕ) → 1 ≤ length ds → length ds ≤ 6 → AllDigits 16 ds → after_all (92 ∷ 117 ∷ 123 ∷ (ds ++ 125 ∷ [])) (string_rest string.Inside) ≡ string_rest string.Inside
+long_stays : (ds : List ℕ) → 1 ≤ length ds → length ds ≤ 6 → AllDigits 16 ds → derivative_by (92 ∷ 117 ∷ 123 ∷ (ds ++ 125 ∷ [])) (string_rest string.Inside) ≡ string_rest string.Inside
 long_stays ds l m a =
     let few : 0 + length ds ≤ 6 = omega arith in
     let none : 0 + length ds ≡ length ds = omega arith in
     after_all_append ds (125 ∷ []) (string_rest (string.Escape escape.Hex0))
-    ∙ (ap (λ (z : Regex). after 125 z) (digits_go ds 0 few a ∙ ap (λ (z : ℕ). string_rest (string.Escape (hex_state z))) none) ∙ closes (length ds) l m)
+    ∙ (ap (λ (z : Regex). derivative 125 z) (digits_go ds 0 few a ∙ ap (λ (z : ℕ). string_rest (string.Escape (hex_state z))) none) ∙ closes (length ds) l m)
 
 all_is : (e : List ℕ) → AllAscii e → is_ascii e ≡ true
 all_is [] a = refl
@@ -125,7 +125,7 @@ all_is (b ∷ e) a =
     rw (small, all_is e a.1) refl
 
 -- bytes of ASCII at the start that lead back to where they began
-stays_here : (s e t : List ℕ) (k : ℕ) → AllAscii e → after_all e (string_rest string.Inside) ≡ string_rest string.Inside → s ≡ e ++ t → k ≡ length e
+stays_here : (s e t : List ℕ) (k : ℕ) → AllAscii e → derivative_by e (string_rest string.Inside) ≡ string_rest string.Inside → s ≡ e ++ t → k ≡ length e
     → LeadsTo (string_rest string.Inside) (string_rest string.Inside) s k
 stays_here s e t k a h w l =
     let cut : take k s ≡ e = ap (λ (z : ℕ). take z s) l ∙ (ap (λ (z : List ℕ). take (length e) z) w ∙ take-append_seam e t) in
@@ -177,9 +177,9 @@ plains_here s b n e u run = subst (λ (z : List ℕ). LeadsTo (string_rest strin
     (plains_go b n (subst IsUtf8 (sym e) u) run.within run.all (cut_here b n run.within (λ l. not_plain_ascii (get_or b n 0) (run.stops l))))
 
 -- a byte of ASCII leads from one shape to another
-pub first_byte : (r q : Regex) (m : ℕ) (s : List ℕ) → m < 128 → after m r ≡ q → 0 < length s → get_or s 0 0 ≡ m → LeadsTo r q s 1
+pub first_byte : (r q : Regex) (m : ℕ) (s : List ℕ) → m < 128 → derivative m r ≡ q → 0 < length s → get_or s 0 0 ≡ m → LeadsTo r q s 1
 first_byte r q m [] a h l e = let w : ⊥ = omega arith in absurd w
-first_byte r q m (b ∷ s) a h l e = ascii_leads r q (b ∷ s) 1 (omega arith) (λ i k. first i k) (ap (λ (z : ℕ). after z r) e ∙ h)
+first_byte r q m (b ∷ s) a h l e = ascii_leads r q (b ∷ s) 1 (omega arith) (λ i k. first i k) (ap (λ (z : ℕ). derivative z r) e ∙ h)
   where
     first : (i : ℕ) → i < 1 → get_or (b ∷ s) i 0 < 128
     first zero k = omega arith
@@ -197,7 +197,7 @@ plains_lead s b t p n e l q f u g run =
     (leads_on string (string_rest string.Inside) (string_rest string.Inside) s t 1 n f (quote_leads s b e l q) (plains_here t p n g u run))
 
 -- a quote after the inside of a string closes it
-pub string_closes : (s b : List ℕ) (n : ℕ) → b ≡ s → LeadsTo string (string_rest string.Inside) s n → n < length b → get_or b n 0 ≡ 34 → Greatest (IsFront string s) (Some (n + 1))
+pub string_closes : (s b : List ℕ) (n : ℕ) → b ≡ s → LeadsTo string (string_rest string.Inside) s n → n < length b → get_or b n 0 ≡ 34 → Greatest (IsPrefixOf string s) (Some (n + 1))
 string_closes s b n e h l q =
     let long : length b ≡ length s = ap length e in
     let some : 0 < length (drop n s) = omega (arith, length-drop n s) in

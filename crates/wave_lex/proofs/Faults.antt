@@ -1,7 +1,7 @@
 -- Where something is wrong with a string, it means nothing.
 use Rattle.std.proofs.Common.{◌≡◌, ℕ, ◌+◌, List, [], ◌∷◌, ◌++◌, inl, inr, sym, ap, subst, ◌∙◌, length, None, append_assoc}
 use Rattle.wave_lex.specs.Strings.{StringPiece, IsCutInto, Decodes, Undecodable, UnescapesTo, IsBadEscapeAt}
-use Rattle.wave_lex.specs.Multiline.{spaces, LineMeans, LinesMean, DecodesLines, LineFault, DropsReturn, Opens, OpensWell, closing_piece, BadLine, BadLines, BadBetween, MultilineFault, OneMeaning, FaultsRefuse}
+use Rattle.wave_lex.specs.Multiline.{spaces, LineMeans, LinesMean, DecodesLines, LineFault, DropsReturn, Opens, OpensWell, closing_piece, BadLine, BadLines, BadBetween, MultilineFault, DecodingFunctional, FaultsRefuse}
 use Rattle.wave_lex.proofs.Decoding.{plain_into, escape_into, char_once, string_once, multiline_once, drops_once, ends_once, length_spaces}
 use Rattle.std.proofs.lemmas.List.{append_cancel_left}
 use Rattle.wave_lex.proofs.Lines.{closing_last}
@@ -76,5 +76,5 @@ pub faults_refuse : FaultsRefuse
 faults_refuse = (bad_escape_refuses, fault_refuses)
 
 -- each token means one thing
-pub one_meaning : OneMeaning
-one_meaning = (char_once, string_once, multiline_once)
+pub decoding_functional : DecodingFunctional
+decoding_functional = (char_once, string_once, multiline_once)

@@ -8,17 +8,17 @@ use Rattle.std.proofs.lemmas.Str.{encodes-append, encodes-chars, IsUtf8-take, Is
 use Rattle.std.proofs.Math.Seq.{take-append_seam}
 use Rattle.memchr.specs.Find.{OccursAt, Nowhere, NoneBefore}
 use Rattle.memchr.proofs.lemmas.MatchLemmas.{OccursAt-from_part, OccursAt-part, OccursAt-split}
-use Rattle.wave_lex.specs.LongestMatch.{Greatest, IsFront}
+use Rattle.wave_lex.specs.LongestMatch.{Greatest, IsPrefixOf}
 use Rattle.wave_lex.specs.Tokens.{multiline_string}
 use Rattle.wave_lex.specs.Tokenization.{three_quotes, HasNoThreeQuotes}
 use Rattle.wave_lex.proofs.Classes.{multiline_begins}
-use Rattle.wave_lex.proofs.Fronts.{take_plus}
+use Rattle.wave_lex.proofs.Prefixes.{take_plus}
 use Rattle.wave_lex.proofs.LongestMatch.{ascii_spelled}
 use Rattle.wave_lex.proofs.Quotes.{through_into, through_from}
 use Rattle.wave_lex.proofs.Scanning.{begins}
 
 -- where no three quotes stand, no multiline string does
-pub none_unquoted : (s : List ℕ) → ((rest : List ℕ) → s ≢ three_quotes ++ rest) → Greatest (IsFront multiline_string s) None
+pub none_unquoted : (s : List ℕ) → ((rest : List ℕ) → s ≢ three_quotes ++ rest) → Greatest (IsPrefixOf multiline_string s) None
 none_unquoted s h = λ k f. let m = multiline_begins s k (f, tt) in h m.0 m.1
 
 -- ---- where three quotes stand
@@ -52,7 +52,7 @@ pub record Closed (inside : List ℕ) (j : ℕ) : Type 0 where
   pub long : j ≡ length (encode_utf8_all scalars) + 6
 
 -- a prefix ends with three quotes of the inside
-closed : (s inside : List ℕ) (j : ℕ) → s ≡ three_quotes ++ inside → IsFront multiline_string s j → Closed inside j
+closed : (s inside : List ℕ) (j : ℕ) → s ≡ three_quotes ++ inside → IsPrefixOf multiline_string s j → Closed inside j
 closed s inside j e f =
     let (u, split, none) = through_into f.scalars f.has in
     let bytes : three_quotes ++ (encode_utf8_all u ++ three_quotes) ≡ take j s = sym (quoted_around u) ∙ (sym (ap encode_utf8_all split) ∙ f.spelled) in
@@ -69,7 +69,7 @@ closed s inside j e f =
     }
 
 -- where no later three quotes stand, no multiline string does
-pub none_unclosed : (s inside : List ℕ) → s ≡ three_quotes ++ inside → Nowhere (OccursAt inside three_quotes) 0 (length inside + 1) → Greatest (IsFront multiline_string s) None
+pub none_unclosed : (s inside : List ℕ) → s ≡ three_quotes ++ inside → Nowhere (OccursAt inside three_quotes) 0 (length inside + 1) → Greatest (IsPrefixOf multiline_string s) None
 none_unclosed s inside e h = λ j f.
     let c = closed s inside j e f in
     let there : OccursAt inside three_quotes (length (encode_utf8_all c.scalars)) = occurs_between (encode_utf8_all c.scalars) three_quotes c.rest inside c.cut in
@@ -141,7 +141,7 @@ before_quote inside n there =
 
 -- the multiline string goes through the first later three quotes
 pub greatest_through : (s inside : List ℕ) (n : ℕ) → s ≡ three_quotes ++ inside → IsUtf8 inside
-    → NoneBefore (OccursAt inside three_quotes) 0 (length inside + 1) n × OccursAt inside three_quotes n → Greatest (IsFront multiline_string s) (Some (n + 6))
+    → NoneBefore (OccursAt inside three_quotes) 0 (length inside + 1) n × OccursAt inside three_quotes n → Greatest (IsPrefixOf multiline_string s) (Some (n + 6))
 greatest_through s inside n e u (first, there) =
     let fits : n + 3 ≤ length inside = there.fits in
     let long : length s ≡ length (three_quotes ++ inside) = ap length e in

@@ -12,7 +12,7 @@ use Rattle.std.proofs.lemmas.Str.{IsAscii-append}
 use Rattle.std.proofs.lemmas.Str.Ascii.{encodes-IsAscii, IsAscii-nil, IsAscii-cons}
 use Rattle.wave_wasm.specs.Lists.{AllOf}
 use Rattle.wave_lex.specs.declared.lex.Token.TheVariants.{LabelOrKeyword}
-use Rattle.wave_lex.specs.Regex.{Regex, nothing, empty, within, other, both, either, many, Matches, joined, is_within}
+use Rattle.wave_lex.specs.Regex.{Regex, nothing, empty, range, except, seq, alt, star, Matches, joined, is_within}
 use Rattle.wave_lex.specs.Tokens.{some, digit, label_or_keyword, first_word, next_word}
 use Rattle.wave_lex.specs.Labels.{IsLabel}
 use Rattle.wave_lex.specs.Tokenization.{IsToken}
@@ -27,7 +27,7 @@ below lo hi c a t = grind (arith, nat_tests)
 
 -- a scalar of the range, or a digit
 abbrev of_case : ℕ → ℕ → Regex
-of_case lo hi = either (within lo hi) digit
+of_case lo hi = alt (range lo hi) digit
 
 -- a scalar of the range, or a digit
 abbrev IsOfCase : ℕ → ℕ → ℕ → Type 0
@@ -50,11 +50,11 @@ all_joined lo hi (p ∷ ps) h =
     subst (λ (z : List ℕ). AllOf (IsOfCase lo hi) (z ++ joined ps)) (sym one.1) (one.2, all_joined lo hi ps h.1)
 
 -- a text of the shape is of them alone
-all_into : (lo hi : ℕ) (s : List ℕ) → Matches (many (of_case lo hi)) s → AllOf (IsOfCase lo hi) s
+all_into : (lo hi : ℕ) (s : List ℕ) → Matches (star (of_case lo hi)) s → AllOf (IsOfCase lo hi) s
 all_into lo hi s (parts, e, each) = subst (AllOf (IsOfCase lo hi)) (sym e) (all_joined lo hi parts each)
 
 -- a text of them alone has the shape
-all_from : (lo hi : ℕ) (s : List ℕ) → AllOf (IsOfCase lo hi) s → Matches (many (of_case lo hi)) s
+all_from : (lo hi : ℕ) (s : List ℕ) → AllOf (IsOfCase lo hi) s → Matches (star (of_case lo hi)) s
 all_from lo hi [] h = ([], refl, tt)
 all_from lo hi (c ∷ s) h =
     let rest = all_from lo hi s h.1 in
@@ -87,7 +87,7 @@ next_from s (n, inr h) = inr (some_from 65 90 s n h)
 -- ---- the first word
 
 -- a letter of the range and any number of them are a word that begins with a letter
-headed_into : (lo hi : ℕ) (s : List ℕ) → ((c : ℕ) → is_within lo hi c ≡ true → IsTrue (is_ascii_alphabetic c)) → Matches (both (within lo hi) (many (of_case lo hi))) s
+headed_into : (lo hi : ℕ) (s : List ℕ) → ((c : ℕ) → is_within lo hi c ≡ true → IsTrue (is_ascii_alphabetic c)) → Matches (seq (range lo hi) (star (of_case lo hi))) s
     → (s ≢ []) × AllOf (IsOfCase lo hi) s × BeginsWithLetter s
 headed_into lo hi s letter (x, y, e, (c, f, t), n) =
     let is : s ≡ c ∷ y = e ∙ ap (λ (z : List ℕ). z ++ y) f in
@@ -135,7 +135,7 @@ joined_behind first (w ∷ ws) = ap (λ (z : List ℕ). first ++ 45 ∷ z) (join
 
 -- a hyphen and a further word
 abbrev hyphen_word : Regex
-hyphen_word = both (within 45 45) next_word
+hyphen_word = seq (range 45 45) next_word
 
 -- a text of that shape is a hyphen and a word
 hyphen_into : (s : List ℕ) → Matches hyphen_word s → (w : List ℕ) × (s ≡ 45 ∷ w) × IsWord w
@@ -155,7 +155,7 @@ parts_into (p ∷ ps) h =
     )
 
 -- words after hyphens are such parts
-parts_from : (more : List (List ℕ)) → AllOf IsWord more → Matches (many hyphen_word) (behind_hyphens more)
+parts_from : (more : List (List ℕ)) → AllOf IsWord more → Matches (star hyphen_word) (behind_hyphens more)
 parts_from [] h = ([], refl, tt)
 parts_from (w ∷ ws) h =
     let rest = parts_from ws h.1 in
@@ -196,11 +196,11 @@ labels_are_words s = (label_into s, label_from s)
 abbrev pub only_ascii : Regex → Bool
 only_ascii nothing = true
 only_ascii empty = true
-only_ascii (within lo hi) = nat_lt hi 128
-only_ascii (other cs) = false
-only_ascii (both p q) = only_ascii p && only_ascii q
-only_ascii (either p q) = only_ascii p && only_ascii q
-only_ascii (many p) = only_ascii p
+only_ascii (range lo hi) = nat_lt hi 128
+only_ascii (except cs) = false
+only_ascii (seq p q) = only_ascii p && only_ascii q
+only_ascii (alt p q) = only_ascii p && only_ascii q
+only_ascii (star p) = only_ascii p
 
 -- texts of ASCII join to one
 ascii_joined : (P : List ℕ → Type 0) → ((x : List ℕ) → P x → IsAscii x) → (parts : List (List ℕ)) → AllOf P parts → IsAscii (joined parts)
@@ -211,14 +211,14 @@ ascii_joined P ascii (x ∷ xs) h = IsAscii-append x (joined xs) (ascii x h.0) (
 pub ascii_text : (r : Regex) (s : List ℕ) → only_ascii r ≡ true → Matches r s → IsAscii s
 ascii_text nothing s a m = absurd m
 ascii_text empty s a m = subst IsAscii (sym m) IsAscii-nil
-ascii_text (within lo hi) s a (c, e, t) = subst IsAscii (sym e) (IsAscii-cons c [] (below lo hi c a t) IsAscii-nil)
-ascii_text (other cs) s a m = cc
-ascii_text (both p q) s a (x, y, e, m, n) =
+ascii_text (range lo hi) s a (c, e, t) = subst IsAscii (sym e) (IsAscii-cons c [] (below lo hi c a t) IsAscii-nil)
+ascii_text (except cs) s a m = cc
+ascii_text (seq p q) s a (x, y, e, m, n) =
     let b : (only_ascii p ≡ true) × (only_ascii q ≡ true) = and_true _ _ a in
     subst IsAscii (sym e) (IsAscii-append x y (ascii_text p x b.0 m) (ascii_text q y b.1 n))
-ascii_text (either p q) s a (inl m) = ascii_text p s (and_true (only_ascii p) (only_ascii q) a).0 m
-ascii_text (either p q) s a (inr m) = ascii_text q s (and_true (only_ascii p) (only_ascii q) a).1 m
-ascii_text (many p) s a (parts, e, each) = subst IsAscii (sym e) (ascii_joined (Matches p) (λ x m. ascii_text p x a m) parts each)
+ascii_text (alt p q) s a (inl m) = ascii_text p s (and_true (only_ascii p) (only_ascii q) a).0 m
+ascii_text (alt p q) s a (inr m) = ascii_text q s (and_true (only_ascii p) (only_ascii q) a).1 m
+ascii_text (star p) s a (parts, e, each) = subst IsAscii (sym e) (ascii_joined (Matches p) (λ x m. ascii_text p x a m) parts each)
 
 -- a text of the class is spelled by itself
 spelled_by_itself : (s : List ℕ) → Matches label_or_keyword s → encode_utf8_all s ≡ s

@@ -17,7 +17,7 @@ pub mod Unescape
 pub mod Parts
 pub mod Lines
 pub mod Faults
-pub mod Fronts
+pub mod Prefixes
 pub mod Marks
 pub mod Runs
 pub mod EscapeRuns

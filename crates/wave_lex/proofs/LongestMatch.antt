@@ -6,15 +6,15 @@ use Rattle.std.proofs.lemmas.Str.{encode_same, encode_ascii, len_utf8_bounds, le
 use Rattle.wave_lex.specs.declared.lex.Token.{Token}
 use Rattle.wave_lex.specs.declared.lex.Token.TheVariants.{BraceOpen, BraceClose, ParenOpen, ParenClose, BracketOpen, BracketClose, Colon, Comma, Number, LabelOrKeyword, Char, String, MultilineString}
 use Rattle.wave_lex.specs.Regex.{Regex, Matches}
-use Rattle.wave_lex.specs.Shared.Derive.{may_be_empty, after_all}
-use Rattle.wave_lex.specs.LongestMatch.{Greatest, IsFront}
+use Rattle.wave_lex.specs.Shared.Derive.{nullable, derivative_by}
+use Rattle.wave_lex.specs.LongestMatch.{Greatest, IsPrefixOf}
 use Rattle.wave_lex.specs.Tokens.{shape}
 use Rattle.wave_lex.specs.Tokenization.{MayStandAt, IsLongestToken, NoToken}
 use Rattle.wave_lex.proofs.Derive.{matches_from, matches_into, empty_into}
 use Rattle.wave_lex.proofs.Shapes.{and_true, each_below, each_below_at}
 
 -- a text of a shape that is never empty has a byte
-positive : (r : Regex) (s : List ℕ) (k : ℕ) (cs : List ℕ) → may_be_empty r ≡ false → k ≤ length s → encode_utf8_all cs ≡ take k s → Matches r cs → 0 < k
+positive : (r : Regex) (s : List ℕ) (k : ℕ) (cs : List ℕ) → nullable r ≡ false → k ≤ length s → encode_utf8_all cs ≡ take k s → Matches r cs → 0 < k
 positive r s k [] e l spelled h = let wrong : true ≡ false = sym (empty_into r h) ∙ e in cc
 positive r s k (c ∷ cs) e l spelled h =
     let a : length (encode_utf8_all (c ∷ cs)) ≡ k = ap length spelled ∙ length-take-le k s l in
@@ -24,7 +24,7 @@ positive r s k (c ∷ cs) e l spelled h =
 -- a prefix of a shape that no empty text has takes a byte at least
 
 -- a prefix of a shape that is never empty has a byte
-pub front_positive : (r : Regex) (s : List ℕ) (k : ℕ) → may_be_empty r ≡ false → IsFront r s k → 0 < k
+pub front_positive : (r : Regex) (s : List ℕ) (k : ℕ) → nullable r ≡ false → IsPrefixOf r s k → 0 < k
 front_positive r s k e f = positive r s k f.scalars e f.fits f.spelled f.has
 
 -- what is left gets less
@@ -63,7 +63,7 @@ ascii_scalars (y ∷ ds) (b ∷ s) h e =
 
 -- the first k bytes have the shape, by computing
 abbrev pub has_front : Regex → List ℕ → ℕ → Bool
-has_front r s k = may_be_empty (after_all (take k s) r)
+has_front r s k = nullable (derivative_by (take k s) r)
 
 -- no longer prefix than of k bytes has the shape, by computing
 abbrev pub no_longer : Regex → List ℕ → ℕ → Bool
@@ -74,13 +74,13 @@ abbrev pub no_front : Regex → List ℕ → Bool
 no_front r s = each_below (length s + 1) (λ j. not (has_front r s j))
 
 -- a prefix of the shape passes the test
-front_computed : (r : Regex) (s : List ℕ) (k : ℕ) → is_ascii s ≡ true → IsFront r s k → has_front r s k ≡ true
+front_computed : (r : Regex) (s : List ℕ) (k : ℕ) → is_ascii s ≡ true → IsPrefixOf r s k → has_front r s k ≡ true
 front_computed r s k h f =
     let same : f.scalars ≡ take k s = ascii_scalars f.scalars (take k s) (ascii_take k s h) f.spelled in
     matches_into (take k s) r (subst (λ (z : List ℕ). Matches r z) same f.has)
 
 -- what passes the test is a prefix of the shape
-pub front_here : (r : Regex) (s : List ℕ) (k : ℕ) → is_ascii s ≡ true → nat_le k (length s) ≡ true → has_front r s k ≡ true → IsFront r s k
+pub front_here : (r : Regex) (s : List ℕ) (k : ℕ) → is_ascii s ≡ true → nat_le k (length s) ≡ true → has_front r s k ≡ true → IsPrefixOf r s k
 front_here r s k h fits e = record { scalars = take k s; fits = leb-true k (length s) fits; spelled = ascii_spelled (take k s) (ascii_take k s h); has = matches_from (take k s) r e }
 
 -- one of two holds where the other fails
@@ -90,7 +90,7 @@ or_not false true e f = cc
 or_not false false e f = cc
 
 -- no longer prefix has the shape
-pub none_longer : (r : Regex) (s : List ℕ) (k : ℕ) → is_ascii s ≡ true → no_longer r s k ≡ true → (j : ℕ) → IsFront r s j → j ≤ k
+pub none_longer : (r : Regex) (s : List ℕ) (k : ℕ) → is_ascii s ≡ true → no_longer r s k ≡ true → (j : ℕ) → IsPrefixOf r s j → j ≤ k
 none_longer r s k h e j f =
     let fits : j ≤ length s = f.fits in
     let l : j < length s + 1 = omega arith in
@@ -98,7 +98,7 @@ none_longer r s k h e j f =
     leb-true j k t
 
 -- no prefix has the shape
-pub no_front_here : (r : Regex) (s : List ℕ) → is_ascii s ≡ true → no_front r s ≡ true → (j : ℕ) → IsFront r s j → ⊥
+pub no_front_here : (r : Regex) (s : List ℕ) → is_ascii s ≡ true → no_front r s ≡ true → (j : ℕ) → IsPrefixOf r s j → ⊥
 no_front_here r s h e j f =
     let fits : j ≤ length s = f.fits in
     let l : j < length s + 1 = omega arith in
@@ -107,7 +107,7 @@ no_front_here r s h e j f =
     let wrong : false ≡ true = sym (ap not u) ∙ t in cc
 
 -- the longest prefix, by computing
-pub longest_here : (r : Regex) (s : List ℕ) (k : ℕ) → is_ascii s ≡ true → nat_le k (length s) ≡ true → has_front r s k ≡ true → no_longer r s k ≡ true → Greatest (IsFront r s) (Some k)
+pub longest_here : (r : Regex) (s : List ℕ) (k : ℕ) → is_ascii s ≡ true → nat_le k (length s) ≡ true → has_front r s k ≡ true → no_longer r s k ≡ true → Greatest (IsPrefixOf r s) (Some k)
 longest_here r s k h fits e f = (front_here r s k h fits e, none_longer r s k h f)
 
 -- the test holds of each class

@@ -5,7 +5,7 @@ use Rattle.std.proofs.lemmas.Bool.{cases_lt}
 use Rattle.std.proofs.lemmas.Bool.Decides.{nat_tests}
 use Rattle.wave_lex.specs.Regex.{Regex}
 use Rattle.wave_lex.specs.Strings.{short_escape}
-use Rattle.wave_lex.specs.Shared.Derive.{after, after_next}
+use Rattle.wave_lex.specs.Shared.Derive.{derivative, after_next}
 use Rattle.wave_lex.proofs.Shapes.{same, same_true, each_below, each_below_at, is_ascii_shape, after_past}
 use Rattle.wave_lex.specs.Shared.Machines.{number_rest, number_step, label_rest, label_step, label_token_rest, in_token, label_token_step, ends_short, escape_step, in_string, in_char, gap_rest, gap_step, string_rest, string_step, character_rest, character_step, invalid_rest, invalid_step}
 use Rattle.wave_lex.specs.declared.machine.number.NumberState.{NumberState}
@@ -29,10 +29,10 @@ use Rattle.wave_lex.specs.declared.machine.invalid.InvalidState.TheVariants as i
 -- what is computed at each scalar up to 128 holds at each scalar, where no state tells scalars past ASCII apart
 module _ (S : Type 0) (rest : S → Regex) (step : S → ℕ → Option S) where
   abbrev pub agrees : S → ℕ → Bool
-  agrees q c = same (after c (rest q)) (after_next S rest (step q c))
+  agrees q c = same (derivative c (rest q)) (after_next S rest (step q c))
 
   pub steps_agree : (q : S) (c : ℕ) → each_below 129 (agrees q) ≡ true → is_ascii_shape (rest q) ≡ true
-      → (128 ≤ c → step q c ≡ step q 128) → after c (rest q) ≡ after_next S rest (step q c)
+      → (128 ≤ c → step q c ≡ step q 128) → derivative c (rest q) ≡ after_next S rest (step q c)
   steps_agree q c computed ascii past =
       elim (cases_lt c 129) [
         | inl l ↦ same_true _ _ (each_below_at 129 c (agrees q) computed l)
@@ -73,7 +73,7 @@ number_past n.Sign c k = grind (arith, nat_tests)
 number_past n.Power c k = grind (arith, nat_tests)
 
 -- the machine of a number keeps to its shape
-pub number_steps : (q : NumberState) (c : ℕ) → after c (number_rest q) ≡ after_next NumberState number_rest (number_step q c)
+pub number_steps : (q : NumberState) (c : ℕ) → derivative c (number_rest q) ≡ after_next NumberState number_rest (number_step q c)
 number_steps q c = let h = number_computed q in steps_agree NumberState number_rest number_step q c h.0 h.1 (number_past q c)
 
 -- each state of a label is right at each scalar up to 128, by computing
@@ -93,7 +93,7 @@ label_past l.Hyphen c k = grind (arith, nat_tests)
 label_past l.Digits c k = grind (arith, nat_tests)
 
 -- the machine of a label keeps to its shape
-pub label_steps : (q : LabelState) (c : ℕ) → after c (label_rest q) ≡ after_next LabelState label_rest (label_step q c)
+pub label_steps : (q : LabelState) (c : ℕ) → derivative c (label_rest q) ≡ after_next LabelState label_rest (label_step q c)
 label_steps q c = let h = label_computed q in steps_agree LabelState label_rest label_step q c h.0 h.1 (label_past q c)
 
 -- each state of a token of the class of labels is right at each scalar up to 128, by computing
@@ -113,7 +113,7 @@ label_token_past token.Start c k =
 label_token_past (token.Label q) c k = ap in_token (label_past q c k)
 
 -- the machine of such a token keeps to its shape
-pub label_token_steps : (q : LabelTokenState) (c : ℕ) → after c (label_token_rest q) ≡ after_next LabelTokenState label_token_rest (label_token_step q c)
+pub label_token_steps : (q : LabelTokenState) (c : ℕ) → derivative c (label_token_rest q) ≡ after_next LabelTokenState label_token_rest (label_token_step q c)
 label_token_steps q c = let h = label_token_computed q in steps_agree LabelTokenState label_token_rest label_token_step q c h.0 h.1 (label_token_past q c)
 
 -- each state of whitespace is right at each scalar up to 128, by computing
@@ -129,7 +129,7 @@ gap_past gap.Slash c k = grind (arith, nat_tests)
 gap_past gap.Comment c k = grind (arith, nat_tests)
 
 -- the machine of whitespace keeps to its shape
-pub gap_steps : (q : GapState) (c : ℕ) → after c (gap_rest q) ≡ after_next GapState gap_rest (gap_step q c)
+pub gap_steps : (q : GapState) (c : ℕ) → derivative c (gap_rest q) ≡ after_next GapState gap_rest (gap_step q c)
 gap_steps q c = let h = gap_computed q in steps_agree GapState gap_rest gap_step q c h.0 h.1 (gap_past q c)
 
 -- no short escape is past ASCII
@@ -173,7 +173,7 @@ string_past string.Close c k = refl
 string_past (string.Escape e) c k = ap in_string (escape_past e c k)
 
 -- the machine of a string keeps to its shape
-pub string_steps : (q : StringState) (c : ℕ) → after c (string_rest q) ≡ after_next StringState string_rest (string_step q c)
+pub string_steps : (q : StringState) (c : ℕ) → derivative c (string_rest q) ≡ after_next StringState string_rest (string_step q c)
 string_steps q c = let h = string_computed q in steps_agree StringState string_rest string_step q c h.0 h.1 (string_past q c)
 
 -- each state of a char is right at each scalar up to 128, by computing
@@ -201,7 +201,7 @@ character_past character.Close c k = refl
 character_past (character.Escape e) c k = ap in_char (escape_past e c k)
 
 -- the machine of a char keeps to its shape
-pub character_steps : (q : CharState) (c : ℕ) → after c (character_rest q) ≡ after_next CharState character_rest (character_step q c)
+pub character_steps : (q : CharState) (c : ℕ) → derivative c (character_rest q) ≡ after_next CharState character_rest (character_step q c)
 character_steps q c = let h = character_computed q in steps_agree CharState character_rest character_step q c h.0 h.1 (character_past q c)
 
 -- each state of an invalid token is right at each scalar up to 128, by computing
@@ -229,5 +229,5 @@ invalid_past invalid.Double2 c k = grind (arith, nat_tests)
 invalid_past invalid.Close c k = refl
 
 -- the machine of an invalid token keeps to its shape
-pub invalid_steps : (q : InvalidState) (c : ℕ) → after c (invalid_rest q) ≡ after_next InvalidState invalid_rest (invalid_step q c)
+pub invalid_steps : (q : InvalidState) (c : ℕ) → derivative c (invalid_rest q) ≡ after_next InvalidState invalid_rest (invalid_step q c)
 invalid_steps q c = let h = invalid_computed q in steps_agree InvalidState invalid_rest invalid_step q c h.0 h.1 (invalid_past q c)

@@ -7,7 +7,7 @@ use Rattle.wave_lex.specs.declared.lex.TheConstants.{MARKS}
 use Rattle.wave_lex.specs.declared.lex.Token.{Token}
 use Rattle.wave_lex.specs.declared.lex.Token.TheVariants.{BraceOpen, BraceClose, ParenOpen, ParenClose, BracketOpen, BracketClose, Colon, Comma}
 use Rattle.wave_lex.specs.Regex.{Regex}
-use Rattle.wave_lex.specs.LongestMatch.{Greatest, IsFront}
+use Rattle.wave_lex.specs.LongestMatch.{Greatest, IsPrefixOf}
 use Rattle.wave_lex.specs.Tokens.{shape, one}
 use Rattle.wave_lex.specs.Tokenization.{MayStandAt, IsLongestToken}
 use Rattle.wave_lex.specs.Shared.Reading.{class_of, ClassAt, IsMark, IsFirstMark, mark_number}
@@ -76,11 +76,11 @@ first_then (a ∷ s) m l e = ap (λ (z : ℕ). z ∷ s) e
 mark_token : (m : ℕ) (c : Token) (s b : List ℕ) → IsMark m c → b ≡ s → 0 < length b → get_or b 0 0 ≡ m → IsLongestToken s 1 c
 mark_token m c s b mark e l f =
     let bounds = mark_bounds m c mark in
-    let front = subst (λ (z : Regex). Greatest (IsFront z s) (Some 1)) (mark_shape m c mark) (mark_here s b m e bounds.0 l f) in
+    let front = subst (λ (z : Regex). Greatest (IsPrefixOf z s) (Some 1)) (mark_shape m c mark) (mark_here s b m e bounds.0 l f) in
     let at : s ≡ encode_utf8 m ++ drop 1 s =
     subst (λ (z : List ℕ). z ≡ encode_utf8 m ++ drop 1 z) e (first_then b m l f ∙ ap (λ (z : List ℕ). z ++ drop 1 b) (sym (encode_ascii m bounds.0))) in
     let there : ClassAt s (Some c) = class_here s (drop 1 s) m (Some c) at (not_quoted s (drop 1 s) m at bounds.3) (mark_class m c mark) in
-    record { is = (front.0, mark_stands m c s mark); longest = λ j d t. front.1 j (subst (λ (z : Token). IsFront (shape z) s j) (there.0 j d t) t.0) }
+    record { is = (front.0, mark_stands m c s mark); longest = λ j d t. front.1 j (subst (λ (z : Token). IsPrefixOf (shape z) s j) (there.0 j d t) t.0) }
 
 -- and no whitespace stands before it
 pub first_mark_here : (m : ℕ) (o : Option Token) (s b : List ℕ) → IfSome o (IsMark m) → b ≡ s → 0 < length b → get_or b 0 0 ≡ m → IfSome o (IsFirstMark s)

@@ -3,7 +3,7 @@ use Rattle.std.proofs.Common.{◌≡◌, ℕ, ◌≤◌, true, nat_eq, [], ◌�
 use Rattle.std.specs.Prelude.{if◌then◌else◌}
 use Rattle.std.proofs.lemmas.Bool.Decides.{nat_tests}
 use Rattle.wave_lex.specs.Regex.{Regex}
-use Rattle.wave_lex.specs.Shared.Derive.{after, after_all, after_next}
+use Rattle.wave_lex.specs.Shared.Derive.{derivative, derivative_by, after_next}
 use Rattle.wave_lex.specs.Tokens.{multiline_string}
 use Rattle.wave_lex.proofs.Shapes.{each_below, is_ascii_shape}
 use Rattle.wave_lex.proofs.Machines.{agrees, steps_agree}
@@ -20,13 +20,13 @@ pub data MultilineState : Type 0 where
 
 -- what may still follow in a multiline string
 abbrev pub multiline_rest : MultilineState → Regex
-multiline_rest Start = after_all ([]) multiline_string
-multiline_rest Open1 = after_all (34 ∷ []) multiline_string
-multiline_rest Open2 = after_all (34 ∷ 34 ∷ []) multiline_string
-multiline_rest Inside = after_all (34 ∷ 34 ∷ 34 ∷ []) multiline_string
-multiline_rest Quote1 = after_all (34 ∷ 34 ∷ 34 ∷ 34 ∷ []) multiline_string
-multiline_rest Quote2 = after_all (34 ∷ 34 ∷ 34 ∷ 34 ∷ 34 ∷ []) multiline_string
-multiline_rest Close = after_all (34 ∷ 34 ∷ 34 ∷ 34 ∷ 34 ∷ 34 ∷ []) multiline_string
+multiline_rest Start = derivative_by ([]) multiline_string
+multiline_rest Open1 = derivative_by (34 ∷ []) multiline_string
+multiline_rest Open2 = derivative_by (34 ∷ 34 ∷ []) multiline_string
+multiline_rest Inside = derivative_by (34 ∷ 34 ∷ 34 ∷ []) multiline_string
+multiline_rest Quote1 = derivative_by (34 ∷ 34 ∷ 34 ∷ 34 ∷ []) multiline_string
+multiline_rest Quote2 = derivative_by (34 ∷ 34 ∷ 34 ∷ 34 ∷ 34 ∷ []) multiline_string
+multiline_rest Close = derivative_by (34 ∷ 34 ∷ 34 ∷ 34 ∷ 34 ∷ 34 ∷ []) multiline_string
 
 -- what a multiline string reads next
 abbrev pub multiline_step : MultilineState → ℕ → Option MultilineState
@@ -59,5 +59,5 @@ multiline_past Quote2 c k = grind (arith, nat_tests)
 multiline_past Close c k = refl
 
 -- the machine of a multiline string keeps to its shape
-pub multiline_steps : (q : MultilineState) (c : ℕ) → after c (multiline_rest q) ≡ after_next MultilineState multiline_rest (multiline_step q c)
+pub multiline_steps : (q : MultilineState) (c : ℕ) → derivative c (multiline_rest q) ≡ after_next MultilineState multiline_rest (multiline_step q c)
 multiline_steps q c = let h = multiline_computed q in steps_agree MultilineState multiline_rest multiline_step q c h.0 h.1 (multiline_past q c)

@@ -1,7 +1,7 @@
 -- The machine of function names keeps to its shape: computed at each scalar up to 128.
 use Rattle.std.proofs.Common.{◌≡◌, ℕ, ◌≤◌, true, refl, ap, ◌∙◌, arith, Option}
 use Rattle.std.proofs.lemmas.Bool.Decides.{nat_tests}
-use Rattle.wave_lex.specs.Shared.Derive.{after, after_next}
+use Rattle.wave_lex.specs.Shared.Derive.{derivative, after_next}
 use Rattle.wave_lex.proofs.Shapes.{each_below, is_ascii_shape}
 use Rattle.wave_lex.proofs.Machines.{agrees, steps_agree, label_past}
 use Rattle.wave_lex.specs.Shared.Machines.{label_step, label_ends}
@@ -74,5 +74,5 @@ name_past (Label s w) c l = ap (λ (o : Option LabelState). label_goes s (label_
 name_past (Version k n) c l = ap (λ (o : Option Number). number_goes k (number_ends n) o (behind_number k c)) (digits_past n c l) ∙ ap (λ (o : Option NameState). number_goes k (number_ends n) (number_step n 128) o) (number_past k c l)
 
 -- the machine of function names keeps to its shape
-pub name_steps : (q : NameState) (c : ℕ) → after c (name_rest q) ≡ after_next NameState name_rest (name_step q c)
+pub name_steps : (q : NameState) (c : ℕ) → derivative c (name_rest q) ≡ after_next NameState name_rest (name_step q c)
 name_steps q c = let h = name_computed q in steps_agree NameState name_rest name_step q c h.0 h.1 (name_past q c)

@@ -4,7 +4,7 @@ use Rattle.wave_wasm.specs.Lists.{AllOf}
 use Rattle.std.specs.Prelude.{codes}
 use Rattle.std.proofs.lemmas.Bool.{eqb-true}
 use Rattle.std.proofs.lemmas.Bool.Decides.{nat_tests}
-use Rattle.wave_lex.specs.Regex.{Regex, other, both, Matches, joined, is_one_of, is_within}
+use Rattle.wave_lex.specs.Regex.{Regex, except, seq, Matches, joined, is_one_of, is_within}
 use Rattle.wave_lex.specs.Tokens.{one, word, up_to, multiline_string}
 use Rattle.wave_lex.specs.Tokenization.{three_quotes, HasNoThreeQuotes, ThroughFirstQuotes}
 use Rattle.wave_lex.proofs.Shapes.{one_is}
@@ -32,7 +32,7 @@ word_from (c ∷ cs) = (c ∷ [], cs, refl, (c, refl, within_one c), word_from c
 
 -- at most two quotes and then another scalar
 abbrev part : Regex
-part = both (up_to 2 (one 34)) (other (34 ∷ []))
+part = seq (up_to 2 (one 34)) (except (34 ∷ []))
 
 -- a scalar other than a quote, after at most two quotes
 abbrev IsPart : List ℕ → Type 0

@@ -4,8 +4,8 @@ use Rattle.std.specs.Prelude.{◌&&◌}
 use Rattle.std.specs.Bool.{beq}
 use Rattle.std.proofs.lemmas.Bool.{cases_lt, eqb-true, ltb-true}
 use Rattle.std.proofs.lemmas.Bool.Decides.{nat_tests}
-use Rattle.wave_lex.specs.Regex.{Regex, nothing, empty, within, other, both, either, many, is_one_of, is_within}
-use Rattle.wave_lex.specs.Shared.Derive.{after, join, choice, may_be_empty}
+use Rattle.wave_lex.specs.Regex.{Regex, nothing, empty, range, except, seq, alt, star, is_one_of, is_within}
+use Rattle.wave_lex.specs.Shared.Derive.{derivative, join, choice, nullable}
 
 -- a scalar from c to c is c
 pub one_is : (c d : ℕ) → is_within c c d ≡ true → d ≡ c
@@ -22,11 +22,11 @@ same_list (a ∷ as1) (b ∷ bs) = nat_eq a b && same_list as1 bs
 abbrev pub same : Regex → Regex → Bool
 same nothing nothing = true
 same empty empty = true
-same (within a b) (within c d) = nat_eq a c && nat_eq b d
-same (other a) (other b) = same_list a b
-same (both a b) (both c d) = same a c && same b d
-same (either a b) (either c d) = same a c && same b d
-same (many a) (many b) = same a b
+same (range a b) (range c d) = nat_eq a c && nat_eq b d
+same (except a) (except b) = same_list a b
+same (seq a b) (seq c d) = same a c && same b d
+same (alt a b) (alt c d) = same a c && same b d
+same (star a) (star b) = same a b
 same p q = false
 
 -- both are true where both at once are
@@ -47,14 +47,14 @@ same_list_true (a ∷ x) (b ∷ y) e = let h : (nat_eq a b ≡ true) × (same_li
 pub same_true : (p q : Regex) → same p q ≡ true → p ≡ q
 same_true nothing nothing e = refl
 same_true empty empty e = refl
-same_true (within a b) (within c d) e = let h : (nat_eq a c ≡ true) × (nat_eq b d ≡ true) = and_true _ _ e in
+same_true (range a b) (range c d) e = let h : (nat_eq a c ≡ true) × (nat_eq b d ≡ true) = and_true _ _ e in
     let i : a ≡ c = eqb-true a c h.0 in let j : b ≡ d = eqb-true b d h.1 in cc
-same_true (other a) (other b) e = ap other (same_list_true a b e)
-same_true (both a b) (both c d) e = let h : (same a c ≡ true) × (same b d ≡ true) = and_true _ _ e in
+same_true (except a) (except b) e = ap except (same_list_true a b e)
+same_true (seq a b) (seq c d) e = let h : (same a c ≡ true) × (same b d ≡ true) = and_true _ _ e in
     let i : a ≡ c = same_true a c h.0 in let j : b ≡ d = same_true b d h.1 in cc
-same_true (either a b) (either c d) e = let h : (same a c ≡ true) × (same b d ≡ true) = and_true _ _ e in
+same_true (alt a b) (alt c d) e = let h : (same a c ≡ true) × (same b d ≡ true) = and_true _ _ e in
     let i : a ≡ c = same_true a c h.0 in let j : b ≡ d = same_true b d h.1 in cc
-same_true (many a) (many b) e = ap many (same_true a b e)
+same_true (star a) (star b) e = ap star (same_true a b e)
 same_true p q e = cc
 
 -- p holds of each number below n
@@ -92,11 +92,11 @@ all_ascii (d ∷ ds) = nat_lt d 128 && all_ascii ds
 abbrev pub is_ascii_shape : Regex → Bool
 is_ascii_shape nothing = true
 is_ascii_shape empty = true
-is_ascii_shape (within lo hi) = nat_lt hi 128
-is_ascii_shape (other cs) = all_ascii cs
-is_ascii_shape (both p q) = is_ascii_shape p && is_ascii_shape q
-is_ascii_shape (either p q) = is_ascii_shape p && is_ascii_shape q
-is_ascii_shape (many p) = is_ascii_shape p
+is_ascii_shape (range lo hi) = nat_lt hi 128
+is_ascii_shape (except cs) = all_ascii cs
+is_ascii_shape (seq p q) = is_ascii_shape p && is_ascii_shape q
+is_ascii_shape (alt p q) = is_ascii_shape p && is_ascii_shape q
+is_ascii_shape (star p) = is_ascii_shape p
 
 -- a scalar past ASCII lies in no range of ASCII
 pub outside : (lo hi c : ℕ) → hi < 128 → 128 ≤ c → is_within lo hi c ≡ false
@@ -112,20 +112,20 @@ none_of (d ∷ ds) c e k =
     rw (b, none_of ds c h.1 k) refl
 
 -- all scalars past ASCII are followed by one shape
-pub after_past : (r : Regex) (c d : ℕ) → is_ascii_shape r ≡ true → 128 ≤ c → 128 ≤ d → after c r ≡ after d r
+pub after_past : (r : Regex) (c d : ℕ) → is_ascii_shape r ≡ true → 128 ≤ c → 128 ≤ d → derivative c r ≡ derivative d r
 after_past nothing c d e k l = refl
 after_past empty c d e k l = refl
-after_past (within lo hi) c d e k l =
+after_past (range lo hi) c d e k l =
     let a : hi < 128 = ltb-true hi 128 e in
     let x : is_within lo hi c ≡ false = outside lo hi c a k in
     let y : is_within lo hi d ≡ false = outside lo hi d a l in
     ap (λ (z : Bool). cond z empty nothing) (x ∙ sym y)
-after_past (other cs) c d e k l = ap (λ (z : Bool). cond z nothing empty) (none_of cs c e k ∙ sym (none_of cs d e l))
-after_past (both p q) c d e k l =
+after_past (except cs) c d e k l = ap (λ (z : Bool). cond z nothing empty) (none_of cs c e k ∙ sym (none_of cs d e l))
+after_past (seq p q) c d e k l =
     let h : (is_ascii_shape p ≡ true) × (is_ascii_shape q ≡ true) = and_true _ _ e in
-    ap (λ (z : Regex). choice (join z q) (cond (may_be_empty p) (after c q) nothing)) (after_past p c d h.0 k l)
-    ∙ ap (λ (z : Regex). choice (join (after d p) q) (cond (may_be_empty p) z nothing)) (after_past q c d h.1 k l)
-after_past (either p q) c d e k l =
+    ap (λ (z : Regex). choice (join z q) (cond (nullable p) (derivative c q) nothing)) (after_past p c d h.0 k l)
+    ∙ ap (λ (z : Regex). choice (join (derivative d p) q) (cond (nullable p) z nothing)) (after_past q c d h.1 k l)
+after_past (alt p q) c d e k l =
     let h : (is_ascii_shape p ≡ true) × (is_ascii_shape q ≡ true) = and_true _ _ e in
-    ap (λ (z : Regex). choice z (after c q)) (after_past p c d h.0 k l) ∙ ap (λ (z : Regex). choice (after d p) z) (after_past q c d h.1 k l)
-after_past (many p) c d e k l = ap (λ (z : Regex). join z (many p)) (after_past p c d e k l)
+    ap (λ (z : Regex). choice z (derivative c q)) (after_past p c d h.0 k l) ∙ ap (λ (z : Regex). choice (derivative d p) z) (after_past q c d h.1 k l)
+after_past (star p) c d e k l = ap (λ (z : Regex). join z (star p)) (after_past p c d e k l)

@@ -5,7 +5,7 @@ use Rattle.std.proofs.lemmas.List.{drop-drop}
 use Rattle.std.proofs.lemmas.Str.{IsCharBoundary-from_rest, length-encode}
 use Rattle.std.specs.Prelude.{encode_utf8}
 use Rattle.std.specs.Char.{len_utf8}
-use Rattle.wave_lex.specs.LongestMatch.{Greatest, IsFront}
+use Rattle.wave_lex.specs.LongestMatch.{Greatest, IsPrefixOf}
 use Rattle.wave_lex.specs.Tokens.{invalid}
 use Rattle.wave_lex.specs.Tokenization.{Stands, IsGap}
 use Rattle.std.proofs.lemmas.List.{append-nil}
@@ -32,7 +32,7 @@ stands_next s r t a e g k d f h b c =
     }
 
 -- where nothing stands after the whitespace, the whitespace is all
-pub gap_is_rest : (r t : List ℕ) (g : ℕ) → IsUtf8 t → t ≡ drop g r → IsGap r g → Greatest (IsFront invalid t) None → g ≡ length r
+pub gap_is_rest : (r t : List ℕ) (g : ℕ) → IsUtf8 t → t ≡ drop g r → IsGap r g → Greatest (IsPrefixOf invalid t) None → g ≡ length r
 gap_is_rest r t g u d h n =
     let none : length t ≡ 0 = ap length (invalid_none t u n) in
     let there : length t ≡ length (drop g r) = ap length d in
@@ -53,7 +53,7 @@ pub stands_behind : (s r : List ℕ) (a e k : ℕ) → r ≡ drop e s → Stands
 stands_behind s r a e k d h b = record { ordered = omega arith; first = h.last; last = IsCharBoundary-from_rest s e k h.last.0 (subst (λ (z : List ℕ). IsCharBoundary z k) d b) }
 
 -- the first scalar of a text is a prefix of one scalar
-pub first_scalar : (s : List ℕ) (c : ℕ) (more : List ℕ) → s ≡ encode_utf8 c ++ more → IsFront any s (len_utf8 c)
+pub first_scalar : (s : List ℕ) (c : ℕ) (more : List ℕ) → s ≡ encode_utf8 c ++ more → IsPrefixOf any s (len_utf8 c)
 first_scalar s c more e =
     let long : length (encode_utf8 c) ≡ len_utf8 c = length-encode c in
     let whole : length s ≡ length (encode_utf8 c ++ more) = ap length e in

@@ -2,8 +2,8 @@
 use Rattle.std.proofs.Common.{◌≡◌, ℕ, ◌≤◌, ◌<◌, ◌+◌, Bool, true, false, List, refl, sym, ap, subst, ◌∙◌, length, drop, arith, get_or, Option, Some, None, length-drop, get_or-drop}
 use Rattle.std.specs.Prelude.{◌≢◌, if◌then◌else◌}
 use Rattle.wave_lex.specs.Regex.{Regex, is_within}
-use Rattle.wave_lex.specs.Shared.Derive.{after, after_next}
-use Rattle.wave_lex.specs.LongestMatch.{Greatest, IsFront}
+use Rattle.wave_lex.specs.Shared.Derive.{derivative, after_next}
+use Rattle.wave_lex.specs.LongestMatch.{Greatest, IsPrefixOf}
 use Rattle.wave_lex.specs.Tokens.{label_or_keyword}
 use Rattle.wave_lex.specs.Shared.Reading.{LeadsTo, EndsWord}
 use Rattle.wave_lex.specs.Shared.Machines.{is_digit, is_lower, first_letter, label_step, label_token_rest, in_token}
@@ -12,7 +12,7 @@ use Rattle.wave_lex.specs.declared.machine.label.LabelState.TheVariants as l
 use Rattle.wave_lex.specs.declared.machine.label.LabelTokenState.{LabelTokenState}
 use Rattle.wave_lex.specs.declared.machine.label.LabelTokenState.TheVariants as token
 use Rattle.wave_lex.proofs.Machines.{label_token_steps}
-use Rattle.wave_lex.proofs.Fronts.{run_leads, run_ends}
+use Rattle.wave_lex.proofs.Prefixes.{run_leads, run_ends}
 use Rattle.wave_lex.proofs.Runs.{lower_ascii, lower_begins, lower_past, lower_stays, lowers_lead, label_dead}
 use Rattle.wave_lex.proofs.EscapeRuns.{first_byte, leads_on}
 
@@ -30,7 +30,7 @@ letter_steps b e f =
     ap (λ (z : Bool). if z then Some l.Digits else first_letter b) f
     ∙ ap (λ (z : Bool). if z then Some l.Lower else (if is_within 65 90 b then Some l.Upper else None)) (lower_begins b e f).1
 
-letter_first : (b : ℕ) → is_lower b ≡ true → is_digit b ≡ false → after b behind_hyphen ≡ in_word
+letter_first : (b : ℕ) → is_lower b ≡ true → is_digit b ≡ false → derivative b behind_hyphen ≡ in_word
 letter_first b e f = label_token_steps (token.Label l.Hyphen) b ∙ ap (λ (z : Option LabelState). after_next LabelTokenState label_token_rest (in_token z)) (letter_steps b e f)
 
 -- a hyphen, a lower-case letter, and such letters and digits
@@ -72,7 +72,7 @@ pub word_first : (s b : List ℕ) (n : ℕ) → b ≡ s → 0 < n → n ≤ leng
 word_first s b n e p fits h f stops = subst (λ (z : List ℕ). EndsWord label_or_keyword z n) e (record { leads = lowers_lead b b n refl p fits h f; stops = stops })
 
 -- the words are the label, where no hyphen follows
-pub words_are : (s b : List ℕ) (n : ℕ) → b ≡ s → EndsWord label_or_keyword s n → (n < length b → get_or b n 0 ≢ 45) → Greatest (IsFront label_or_keyword s) (Some n)
+pub words_are : (s b : List ℕ) (n : ℕ) → b ≡ s → EndsWord label_or_keyword s n → (n < length b → get_or b n 0 ≢ 45) → Greatest (IsPrefixOf label_or_keyword s) (Some n)
 words_are s b n e h other =
     let same : get_or b n 0 ≡ get_or s n 0 = ap (λ (z : List ℕ). get_or z n 0) e in
     let long : length b ≡ length s = ap length e in

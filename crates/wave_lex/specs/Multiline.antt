@@ -152,8 +152,8 @@ fault_span pos n (escape at) = span (pos + at) (pos + at + 1)
 -- ---- laws
 
 -- a char token stands for one scalar at most; a string token and a multiline token for one text
-abbrev pub OneMeaning : Type 0
-OneMeaning =
+abbrev pub DecodingFunctional : Type 0
+DecodingFunctional =
     ((token : List ℕ) (c d : ℕ) → CharMeans token c → CharMeans token d → c ≡ d)
     × ((token t u : List ℕ) → StringMeans token t → StringMeans token u → t ≡ u)
     × ((token t u : List ℕ) → MultilineMeans token t → MultilineMeans token u → t ≡ u)

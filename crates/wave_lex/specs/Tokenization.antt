@@ -5,7 +5,7 @@ use Rattle.std.specs.declared.ops.Range.{Range}
 use Rattle.wave_lex.specs.declared.lex.Token.{Token}
 use Rattle.wave_lex.specs.declared.lex.Token.TheVariants.{String}
 use Rattle.wave_lex.specs.Regex.{Matches}
-use Rattle.wave_lex.specs.LongestMatch.{Greatest, IsFront}
+use Rattle.wave_lex.specs.LongestMatch.{Greatest, IsPrefixOf}
 use Rattle.wave_lex.specs.Tokens.{shape, gap, invalid, label, multiline_string}
 
 -- `"""`
@@ -19,7 +19,7 @@ MayStandAt r k _ = Unit {0}
 
 -- the first k bytes of r lie in the class c
 abbrev pub IsToken : List ℕ → ℕ → Token → Type 0
-IsToken r k c = IsFront (shape c) r k × MayStandAt r k c
+IsToken r k c = IsPrefixOf (shape c) r k × MayStandAt r k c
 
 -- k is the greatest number of bytes for which that holds, in any class
 pub record IsLongestToken (r : List ℕ) (k : ℕ) (c : Token) : Type 0 where
@@ -32,11 +32,11 @@ NoToken r = (k : ℕ) (c : Token) → IsToken r k c → ⊥
 
 -- the whitespace at the start of s has g bytes, as many as can be
 abbrev pub IsGap : List ℕ → ℕ → Type 0
-IsGap s g = Greatest (IsFront gap s) (Some g)
+IsGap s g = Greatest (IsPrefixOf gap s) (Some g)
 
 -- the invalid token at the start of r has k bytes
 abbrev pub IsInvalid : List ℕ → ℕ → Type 0
-IsInvalid r k = NoToken r × Greatest (IsFront invalid r) (Some k)
+IsInvalid r k = NoToken r × Greatest (IsPrefixOf invalid r) (Some k)
 
 -- a token of a text: its class and its text
 abbrev pub Lexeme : Type 0
@@ -66,7 +66,7 @@ ThroughFirstQuotes = (s : List ℕ) → Matches multiline_string s
 
 -- no label at the place of a token is longer than the token
 abbrev pub NoLongerLabel : Type 0
-NoLongerLabel = (r : List ℕ) (k j : ℕ) (c : Token) → IsLongestToken r k c → IsFront label r j → j ≤ k
+NoLongerLabel = (r : List ℕ) (k j : ℕ) (c : Token) → IsLongestToken r k c → IsPrefixOf label r j → j ≤ k
 
 -- ---- lexers
 

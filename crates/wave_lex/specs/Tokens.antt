@@ -3,25 +3,25 @@ use Rattle.std.specs.Prelude.{ℕ, zero, suc, List, [], ◌∷◌, codes}
 use Rattle.wave_lex.specs.declared.lex.Token.{Token}
 use Rattle.wave_lex.specs.declared.lex.Token.TheVariants.{BraceOpen, BraceClose, ParenOpen, ParenClose, BracketOpen, BracketClose}
 use Rattle.wave_lex.specs.declared.lex.Token.TheVariants.{Colon, Comma, Number, LabelOrKeyword, Char, String, MultilineString}
-use Rattle.wave_lex.specs.Regex.{Regex, nothing, empty, within, other, both, either, many}
+use Rattle.wave_lex.specs.Regex.{Regex, nothing, empty, range, except, seq, alt, star}
 
 infixr 12 ◌then◌
 -- one text and then another
 abbrev pub ◌then◌ : Regex → Regex → Regex
-p then q = both p q
+p then q = seq p q
 
 infixr 11 ◌or◌
 -- one or the other
 abbrev pub ◌or◌ : Regex → Regex → Regex
-p or q = either p q
+p or q = alt p q
 
 -- one or none
 abbrev pub maybe : Regex → Regex
-maybe p = either empty p
+maybe p = alt empty p
 
 -- at least one
 abbrev pub some : Regex → Regex
-some p = p then many p
+some p = p then star p
 
 -- at most n
 abbrev pub up_to : ℕ → Regex → Regex
@@ -30,11 +30,11 @@ up_to (suc n) p = maybe (p then up_to n p)
 
 -- this scalar
 abbrev pub one : ℕ → Regex
-one c = within c c
+one c = range c c
 
 -- any scalar
 abbrev pub any : Regex
-any = other []
+any = except []
 
 -- one of these scalars
 abbrev pub one_of : List ℕ → Regex
@@ -73,29 +73,29 @@ double_quote = 34
 
 -- 0 to 9
 abbrev pub digit : Regex
-digit = within 48 57
+digit = range 48 57
 
 -- 1 to 9
 abbrev pub nonzero : Regex
-nonzero = within 49 57
+nonzero = range 49 57
 
 -- a to z
 abbrev pub lower : Regex
-lower = within 97 122
+lower = range 97 122
 
 -- A to Z
 abbrev pub upper : Regex
-upper = within 65 90
+upper = range 65 90
 
 -- a hexadecimal digit of either case
 abbrev pub hexadecimal : Regex
-hexadecimal = digit or within 97 102 or within 65 70
+hexadecimal = digit or range 97 102 or range 65 70
 
 -- ---- numbers
 
 -- 0|[1-9][0-9]*
 abbrev pub whole : Regex
-whole = one_of (codes "0") or (nonzero then many digit)
+whole = one_of (codes "0") or (nonzero then star digit)
 
 -- \.[0-9]+
 abbrev pub fraction : Regex
@@ -113,7 +113,7 @@ number = (maybe (one_of (codes "-")) then whole then maybe fraction then maybe e
 
 -- [a-z][a-z0-9]*, or [A-Z][A-Z0-9]*
 abbrev pub first_word : Regex
-first_word = (lower then many (lower or digit)) or (upper then many (upper or digit))
+first_word = (lower then star (lower or digit)) or (upper then star (upper or digit))
 
 -- [a-z0-9]+, or [A-Z0-9]+
 abbrev pub next_word : Regex
@@ -121,7 +121,7 @@ next_word = some (lower or digit) or some (upper or digit)
 
 -- a first word, then any number of further words, each after a hyphen
 abbrev pub label : Regex
-label = first_word then many (one_of (codes "-") then next_word)
+label = first_word then star (one_of (codes "-") then next_word)
 
 -- a label, or `%` and a label
 abbrev pub label_or_keyword : Regex
@@ -135,7 +135,7 @@ escape = one backslash then (one_of (codes "'\"tnr\\") or (word (codes "u{") the
 
 -- a scalar other than `\`, `'` and LF
 abbrev pub plain : Regex
-plain = other (backslash ∷ single_quote ∷ line_feed ∷ [])
+plain = except (backslash ∷ single_quote ∷ line_feed ∷ [])
 
 -- `'`, one such scalar or one escape, `'`
 abbrev pub character : Regex
@@ -143,7 +143,7 @@ character = one single_quote then (plain or escape) then one single_quote
 
 -- `"`, any run of escapes and of scalars other than `\`, `"` and LF, `"`
 abbrev pub string : Regex
-string = one double_quote then many (other (backslash ∷ double_quote ∷ line_feed ∷ []) or escape) then one double_quote
+string = one double_quote then star (except (backslash ∷ double_quote ∷ line_feed ∷ []) or escape) then one double_quote
 
 -- `"""`
 abbrev pub quotes : Regex
@@ -151,7 +151,7 @@ quotes = word (codes "\"\"\"")
 
 -- from `"""` through the first later `"""`: before that one there are at most two quotes in a row
 abbrev pub multiline_string : Regex
-multiline_string = quotes then many (up_to 2 (one double_quote) then other (double_quote ∷ [])) then quotes
+multiline_string = quotes then star (up_to 2 (one double_quote) then except (double_quote ∷ [])) then quotes
 
 -- ---- whitespace and invalid tokens
 
@@ -161,11 +161,11 @@ blank = one_of (32 ∷ tab ∷ line_feed ∷ carriage_return ∷ [])
 
 -- `//` and no LF
 abbrev pub comment_text : Regex
-comment_text = word (codes "//") then many (other (line_feed ∷ []))
+comment_text = word (codes "//") then star (except (line_feed ∷ []))
 
 -- blanks and comments; the last comment may go on to the end
 abbrev pub gap : Regex
-gap = many (blank or (comment_text then one line_feed)) then maybe comment_text
+gap = star (blank or (comment_text then one line_feed)) then maybe comment_text
 
 -- where no token begins: `'` with two to four scalars and `'`, or three quotes, or else one scalar
 abbrev pub invalid : Regex
@@ -193,7 +193,7 @@ shape MultilineString = multiline_string
 
 -- 0|[1-9][0-9]*
 abbrev pub version_part : Regex
-version_part = one_of (codes "0") or (nonzero then many digit)
+version_part = one_of (codes "0") or (nonzero then star digit)
 
 -- ((label:label)/)?label(\.label)?(@n.n.n)?
 abbrev pub function_name : Regex

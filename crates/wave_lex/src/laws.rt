@@ -2,7 +2,7 @@
 ghost use Rattle.wave_lex.specs.LexerRuns.{TokensCut};
 ghost use Rattle.wave_lex.specs.LabelWords.{LabelTokensAreLabels, LabelsAreWords};
 ghost use Rattle.wave_lex.specs.Tokenization.{NoLongerLabel, OneCut, ThroughFirstQuotes};
-ghost use Rattle.wave_lex.specs.Multiline.{FaultsRefuse, OneMeaning};
+ghost use Rattle.wave_lex.specs.Multiline.{FaultsRefuse, DecodingFunctional};
 ghost use Rattle.wave_lex.specs.Parts.{LinesJoin, OneLineJoins, PartsJoin};
 
 /// No text is tokenized in two ways.
@@ -33,8 +33,8 @@ pub fn one_line_joins()
 {}
 
 /// A token stands for one scalar or text at most.
-pub fn one_meaning()
-    ensures { OneMeaning }
+pub fn decoding_functional()
+    ensures { DecodingFunctional }
 {}
 
 /// A string or multiline string with a fault stands for nothing.

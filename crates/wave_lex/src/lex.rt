@@ -2,24 +2,24 @@
 ghost use Rattle.std.specs.Prelude.{◌≡◌, ℕ, ◌+◌, Some, IfSome, slice_range, length};
 ghost use Rattle.std.specs.Iterator.{at_most};
 ghost use Rattle.wave_lex.specs.Errors.{class_name, name_class_name};
-ghost use Rattle.wave_lex.specs.LongestMatch.{Greatest, IsFront};
+ghost use Rattle.wave_lex.specs.LongestMatch.{Greatest, IsPrefixOf};
 ghost use Rattle.wave_lex.specs.Tokens.{shape, invalid};
 ghost use Rattle.wave_lex.specs.Tokenization.{Lexed, Stands, NextIs, remainder_of, span};
 ghost use Rattle.wave_lex.specs.Shared.Reading.{class_of, ClassAt, TokenAt, IsMark, IsFirstMark, item_of, mark_number};
 
-use self::front::{gap_at, label_at, mark_at, multiline_at, number_at, string_at};
 pub use self::func_name::FuncNameLexer;
+use self::scan::{gap_at, label_at, mark_at, multiline_at, number_at, string_at};
 use crate::asked::Asked;
 use crate::machine::character::CharState;
 use crate::machine::invalid::InvalidState;
-use crate::machine::longest_front;
+use crate::machine::longest_prefix;
 use std::fmt;
 use std::marker::Model;
 use std::ops::Range;
 pub use wave_wasm::keyword::Keyword;
 
-mod front;
 mod func_name;
+mod scan;
 
 /// Byte positions in the source.
 pub type Span = Range<usize>;
@@ -132,7 +132,7 @@ fn class_of(first: char) -> Option<Token>
 
 /// How many bytes the longest prefix in the class takes.
 fn longest_in(class: Token, text: &str) -> Option<usize>
-    ensures { Greatest (IsFront (shape class) text.now) result }
+    ensures { Greatest (IsPrefixOf (shape class) text.now) result }
 {
     match class {
         Token::BraceOpen => mark_at(b'{', text),
@@ -145,7 +145,7 @@ fn longest_in(class: Token, text: &str) -> Option<usize>
         Token::Comma => mark_at(b',', text),
         Token::Number => number_at(text),
         Token::LabelOrKeyword => label_at(text),
-        Token::Char => longest_front(CharState::Start, text),
+        Token::Char => longest_prefix(CharState::Start, text),
         Token::String => string_at(text),
         Token::MultilineString => multiline_at(text),
     }
@@ -347,7 +347,7 @@ impl<'source> Lexer<'source> {
             self.end = self.start + length;
             return Found::Token(token);
         }
-        if let Some(length) = longest_front(InvalidState::Start, text) {
+        if let Some(length) = longest_prefix(InvalidState::Start, text) {
             self.end = self.start + length;
             return Found::Invalid;
         }

@@ -18,7 +18,7 @@ use Rattle.wave_lex.specs.declared.error.ParserErrorKind.TheVariants.{InvalidTyp
 use Rattle.wave_grammar.specs.LeafTokens.{name_of}
 use Rattle.wave_grammar.specs.TypedGrammar.{look_up}
 use Rattle.wave_grammar.specs.TypeErrors.{RefusesFor}
-use Rattle.wave_grammar.specs.SpannedTree.{Placed, Shape, MaybePlaced, at, label, no_placed, a_placed, slice, tree_of, SpellsEach}
+use Rattle.wave_grammar.specs.SpannedTree.{SpannedTree, SpannedShape, MaybePlaced, at, label, no_placed, a_placed, slice, tree_of, SpellsEach}
 use Rattle.wave_grammar.specs.NodeTree.{NodeTree, node, node_trees, type_of, place_of, node_list}
 use Rattle.wave_grammar.specs.Nodes.{placed_of, IsNodeOf}
 use Rattle.wave_grammar.specs.NodeAccessors.{RefusedAs, node_text}
@@ -72,39 +72,39 @@ module _ {S : Type 0} (type_tree : S → TypeTree) (T U : TypeTree) (name : List
 -- ---- nodes
 
 -- the one node after the first of two
-second : (source : List ℕ) (c : NodeTree) (more : List NodeTree) (a b : Placed) → AreParsed source (c ∷ more) (a ∷ b ∷ []) → (u : NodeTree) × (more ≡ u ∷ []) × (placed_of source c ≡ Some a) × (placed_of source u ≡ Some b)
+second : (source : List ℕ) (c : NodeTree) (more : List NodeTree) (a b : SpannedTree) → AreParsed source (c ∷ more) (a ∷ b ∷ []) → (u : NodeTree) × (more ≡ u ∷ []) × (placed_of source c ≡ Some a) × (placed_of source u ≡ Some b)
 second source c [] a b h = absurd h.1
 second source c (u ∷ []) a b h = (u, refl, h.0, h.1.0)
 second source c (u ∷ w ∷ more) a b h = absurd h.1.1
 
 -- a node of a case and its payload, whose first child is the label
-pub case_node : (source : List ℕ) (p : Range ℕ) (c : NodeTree) (more : List NodeTree) (t : Placed) (name : List ℕ) → IsNodeOf source (node kind.VariantWithPayload p (node_trees (c ∷ more))) t → name ≡ name_of (node_text source c) → (u : NodeTree) × (more ≡ u ∷ []) × CaseNode source t name (Some u)
+pub case_node : (source : List ℕ) (p : Range ℕ) (c : NodeTree) (more : List NodeTree) (t : SpannedTree) (name : List ℕ) → IsNodeOf source (node kind.VariantWithPayload p (node_trees (c ∷ more))) t → name ≡ name_of (node_text source c) → (u : NodeTree) × (more ≡ u ∷ []) × CaseNode source t name (Some u)
 case_node source p c more (at r s) name h named =
     let n = node kind.VariantWithPayload p (node_trees (c ∷ more)) in
     let i = inside source n (at r s) h.0 in
     let f = case_shape p (slice source p) i.children s (shape_at kind.VariantWithPayload source n (at r s) i refl) in
-    let both : AreParsed source (c ∷ node_list (node_trees more)) (f.name ∷ f.payload ∷ []) = subst (λ (ts : List Placed). AreParsed source (c ∷ node_list (node_trees more)) ts) f.children (parsed source (nodes_in n) i.children i.each) in
+    let both : AreParsed source (c ∷ node_list (node_trees more)) (f.name ∷ f.payload ∷ []) = subst (λ (ts : List SpannedTree). AreParsed source (c ∷ node_list (node_trees more)) ts) f.children (parsed source (nodes_in n) i.children i.each) in
     let two = second source c more f.name f.payload (subst (λ (ns : List NodeTree). AreParsed source (c ∷ ns) (f.name ∷ f.payload ∷ [])) (list_of_trees more) both) in
-    let spelled : SpellsEach source (at r (label f.place f.text (a_placed f.payload))) = subst (λ (x : Shape). SpellsEach source (at r x)) f.shape h.1 in
+    let spelled : SpellsEach source (at r (label f.place f.text (a_placed f.payload))) = subst (λ (x : SpannedShape). SpellsEach source (at r x)) f.shape h.1 in
     (two.0, two.1, record { place = f.place; text = f.text; payload = a_placed f.payload; shape = f.shape; named = named ∙ ap name_of (sym (flag_text source c f.name f.place f.text (inside source c f.name two.2) f.labelled)); node = (two.3, spelled.1.2.1) })
 
 -- so there is no such node of a label alone
-pub no_label_alone : (source : List ℕ) (p : Range ℕ) (c : NodeTree) (t : Placed) → IsNodeOf source (node kind.VariantWithPayload p (node_trees (c ∷ []))) t → ⊥
+pub no_label_alone : (source : List ℕ) (p : Range ℕ) (c : NodeTree) (t : SpannedTree) → IsNodeOf source (node kind.VariantWithPayload p (node_trees (c ∷ []))) t → ⊥
 no_label_alone source p c t h = let k = case_node source p c [] t (name_of (node_text source c)) h refl in no_more k.0 k.1
   where
     no_more : (u : NodeTree) → [] ≡ u ∷ [] → ⊥
     no_more u e = cc
 
 -- nor of no children
-pub no_case_of_none : (source : List ℕ) (p : Range ℕ) (t : Placed) → IsNodeOf source (node kind.VariantWithPayload p (node_trees [])) t → ⊥
+pub no_case_of_none : (source : List ℕ) (p : Range ℕ) (t : SpannedTree) → IsNodeOf source (node kind.VariantWithPayload p (node_trees [])) t → ⊥
 no_case_of_none source p (at r s) h =
     let n = node kind.VariantWithPayload p (node_trees []) in
     let i = inside source n (at r s) h.0 in
     let f = case_shape p (slice source p) i.children s (shape_at kind.VariantWithPayload source n (at r s) i refl) in
-    (subst (λ (ts : List Placed). AreParsed source [] ts) f.children (parsed source (nodes_in n) i.children i.each))
+    (subst (λ (ts : List SpannedTree). AreParsed source [] ts) f.children (parsed source (nodes_in n) i.children i.each))
 
 -- a label alone is a case without a payload
-pub label_case : (source : List ℕ) (n : NodeTree) (t : Placed) (name : List ℕ) → IsNodeOf source n t → type_of n ≡ kind.Label → name ≡ name_of (node_text source n) → CaseNode source t name None
+pub label_case : (source : List ℕ) (n : NodeTree) (t : SpannedTree) (name : List ℕ) → IsNodeOf source n t → type_of n ≡ kind.Label → name ≡ name_of (node_text source n) → CaseNode source t name None
 label_case source n t name h ty named =
     record { place = place_of n; text = node_text source n; payload = no_placed; shape = label_node source n t h.0 ty; named = named; node = tt }
 

@@ -22,8 +22,8 @@ use Rattle.wave_read.specs.Reading.{IsReadAs}
 use Rattle.wave_read.specs.Flat.{IsFlatAt, IsAround}
 use Rattle.wave_read.specs.KeptParts.{AreOfType}
 use Rattle.wave_read.specs.PartsOfKinds.{AreDoomedAtOnce, AreParts, IsSimpleAt}
-use Rattle.wave_read.specs.declared.parts.Parts.{Parts}
-use Rattle.wave_read.specs.declared.values.Kept.{Kept}
+use Rattle.wave_read.specs.declared.parts.Partial.{Partial}
+use Rattle.wave_read.specs.declared.values.Frame.{Frame}
 
 -- what a node of another form would be refused for
 abbrev other_form : NodeTree → Diagnostic
@@ -82,12 +82,12 @@ module _ {S : Type 0} (type_tree : S → TypeTree) (T : TypeTree) (ty : NodeType
   none_flat_within (Some whole) x h U flat = none_in_flat (type_tree x.now) U ty (payload_flat T (type_tree x.now) ty h.1) flat
 
   -- no parts of that type are no parts of the whole
-  pub begun_around : {V : Type 0} (tree : V → Value) (of : V → TypeTree → Type 0) (Full : TypeTree → Type 0) (w : Order) (source : List ℕ) (around : Option (Bor S)) (x : Bor S) (kept : Kept S V) → IsAround type_tree T ty around x → AreParts type_tree tree of Full w (type_tree x.now) source ty [] kept.parts → AreOfType type_tree tree of Full w T source ty [] around kept
+  pub begun_around : {V : Type 0} (tree : V → Value) (of : V → TypeTree → Type 0) (Full : TypeTree → Type 0) (w : Order) (source : List ℕ) (around : Option (Bor S)) (x : Bor S) (kept : Frame S V) → IsAround type_tree T ty around x → AreParts type_tree tree of Full w (type_tree x.now) source ty [] kept.parts → AreOfType type_tree tree of Full w T source ty [] around kept
   begun_around tree of Full w source None x kept h parts = subst (λ (W : TypeTree). AreParts type_tree tree of Full w W source ty [] kept.parts) h.0 parts
   begun_around tree of Full w source (Some whole) x kept h parts = (h.0, (type_tree x.now, h.1, parts))
 
   -- where parts of that type have a fault at once, so have those of the whole
-  pub doomed_around : {V : Type 0} (tree : V → Value) (of : V → TypeTree → Type 0) (Full : TypeTree → Type 0) (around : Option (Bor S)) (x : Bor S) (begun : Parts S V) → HasFullParts Full → IsAround type_tree T ty around x → AreDoomedAtOnce type_tree tree of Full (type_tree x.now) ty begun → AreDoomedAtOnce type_tree tree of Full T ty begun
+  pub doomed_around : {V : Type 0} (tree : V → Value) (of : V → TypeTree → Type 0) (Full : TypeTree → Type 0) (around : Option (Bor S)) (x : Bor S) (begun : Partial S V) → HasFullParts Full → IsAround type_tree T ty around x → AreDoomedAtOnce type_tree tree of Full (type_tree x.now) ty begun → AreDoomedAtOnce type_tree tree of Full T ty begun
   doomed_around tree of Full None x begun full h doomed = subst (λ (W : TypeTree). AreDoomedAtOnce type_tree tree of Full W ty begun) h.0 doomed
   doomed_around tree of Full (Some whole) x begun full h doomed = λ f is. (
     (doomed f is).0,
@@ -95,6 +95,6 @@ module _ {S : Type 0} (type_tree : S → TypeTree) (T : TypeTree) (ty : NodeType
   )
 
   -- of a plain type nothing is kept
-  pub plain_begun : {V : Type 0} (around : Option (Bor S)) (x : Bor S) (begun : Parts S V) → IsAround type_tree T ty around x → (IsPlain (type_tree x.now) → IsSimpleAt type_tree (type_tree x.now) begun) → IsPlain T → IsSimpleAt type_tree T begun
+  pub plain_begun : {V : Type 0} (around : Option (Bor S)) (x : Bor S) (begun : Partial S V) → IsAround type_tree T ty around x → (IsPlain (type_tree x.now) → IsSimpleAt type_tree (type_tree x.now) begun) → IsPlain T → IsSimpleAt type_tree T begun
   plain_begun None x begun h simple plain = subst (λ (W : TypeTree). IsSimpleAt type_tree W begun) h.0 (simple (subst IsPlain (sym h.0) plain))
   plain_begun (Some whole) x begun h simple plain = absurd (none_flat T (type_tree x.now) ty plain h.1)

@@ -17,13 +17,13 @@ use Rattle.wave_read.proofs.Kept.{plainly_kept, form_spares}
 use Rattle.wave_read.specs.Flat.{IsFlatAt}
 use Rattle.wave_read.specs.KeptParts.{AreOfType, AreKeptWhereDue}
 use Rattle.wave_read.specs.PartsOfKinds.{AreParts, IsBare, IsSimpleAt}
-use Rattle.wave_read.specs.declared.parts.Parts.{Parts}
-use Rattle.wave_read.specs.declared.parts.Parts.TheVariants as parts
-use Rattle.wave_read.specs.declared.values.Kept.{Kept}
+use Rattle.wave_read.specs.declared.parts.Partial.{Partial}
+use Rattle.wave_read.specs.declared.parts.Partial.TheVariants as parts
+use Rattle.wave_read.specs.declared.values.Frame.{Frame}
 use Rattle.wave_read.proofs.FlatReading.{none_flat}
 
 -- of parts of a simple type nothing is kept
-pub simple_bare : {S V : Type 0} (type_tree : S → TypeTree) (T : TypeTree) (x : Parts S V) → IsSimpleAt type_tree T x → IsBare x
+pub simple_bare : {S V : Type 0} (type_tree : S → TypeTree) (T : TypeTree) (x : Partial S V) → IsSimpleAt type_tree T x → IsBare x
 simple_bare type_tree T (parts.Simple y) h = tt
 simple_bare type_tree T _ h = absurd h
 
@@ -32,26 +32,26 @@ no_ok : (A : Type 0) {E : Type 0} (e : E) → IsOk {T = A} {E = E} (Err e) → �
 no_ok A e ok = cc
 
 module _ {S V : Type 0} (type_tree : S → TypeTree) (tree : V → Value) (of : V → TypeTree → Type 0) (Full : TypeTree → Type 0) (w : Order) (source : List ℕ) (ty : NodeType) where
-  more_of_type : (T : TypeTree) (children : List NodeTree) (n : NodeTree) (o : Option (Bor S)) (kept new : Kept S V) → ((U : TypeTree) → AreParts type_tree tree of Full w U source ty children kept.parts → AreParts type_tree tree of Full w U source ty (children ++ n ∷ []) new.parts) → AreOfType type_tree tree of Full w T source ty children o kept → AreOfType type_tree tree of Full w T source ty (children ++ n ∷ []) o new
+  more_of_type : (T : TypeTree) (children : List NodeTree) (n : NodeTree) (o : Option (Bor S)) (kept new : Frame S V) → ((U : TypeTree) → AreParts type_tree tree of Full w U source ty children kept.parts → AreParts type_tree tree of Full w U source ty (children ++ n ∷ []) new.parts) → AreOfType type_tree tree of Full w T source ty children o kept → AreOfType type_tree tree of Full w T source ty (children ++ n ∷ []) o new
   more_of_type T children n None kept new step h = step T h
   more_of_type T children n (Some x) kept new step h = (h.0, (h.1.0, h.1.1, step h.1.0 h.1.2))
 
   -- after one more
-  pub one_more : (due : Option TypeTree) (children : List NodeTree) (n : NodeTree) (kept : Kept S V) (next : Parts S V) → ((U : TypeTree) → AreParts type_tree tree of Full w U source ty children kept.parts → AreParts type_tree tree of Full w U source ty (children ++ n ∷ []) next) → (IsBare kept.parts → next ≡ kept.parts) → AreKeptWhereDue type_tree tree of Full w due source ty children kept → AreKeptWhereDue type_tree tree of Full w due source ty (children ++ n ∷ []) (record { around = kept.around; parts = next })
-  one_more None children n kept next step stays h = subst (λ (x : Parts S V). IsBare x) (sym (stays h)) h
+  pub one_more : (due : Option TypeTree) (children : List NodeTree) (n : NodeTree) (kept : Frame S V) (next : Partial S V) → ((U : TypeTree) → AreParts type_tree tree of Full w U source ty children kept.parts → AreParts type_tree tree of Full w U source ty (children ++ n ∷ []) next) → (IsBare kept.parts → next ≡ kept.parts) → AreKeptWhereDue type_tree tree of Full w due source ty children kept → AreKeptWhereDue type_tree tree of Full w due source ty (children ++ n ∷ []) (record { around = kept.around; parts = next })
+  one_more None children n kept next step stays h = subst (λ (x : Partial S V). IsBare x) (sym (stays h)) h
   one_more (Some T) children n kept next step stays h = (
     more_of_type T children n kept.around kept (record { around = kept.around; parts = next }) step h.0,
-    λ plain. let simple = h.1 plain in subst (λ (x : Parts S V). IsSimpleAt type_tree T x) (sym (stays (simple_bare type_tree T kept.parts simple))) simple,
+    λ plain. let simple = h.1 plain in subst (λ (x : Partial S V). IsSimpleAt type_tree T x) (sym (stays (simple_bare type_tree T kept.parts simple))) simple,
   )
 
   module _ (children : List NodeTree) (place : Range ℕ) where
     -- the whole, where nothing is around it
-    pub whole_alone : (due : Option TypeTree) (kept : Kept S V) (r : Result V Diagnostic) → kept.around ≡ None → ((U : TypeTree) → AreParts type_tree tree of Full w U source ty children kept.parts → IsReadAs tree of Full in_text w U source (node ty place (node_trees children)) r) → AreKeptWhereDue type_tree tree of Full w due source ty children kept → IsReadWhereDue tree of Full in_text w due source (node ty place (node_trees children)) r
+    pub whole_alone : (due : Option TypeTree) (kept : Frame S V) (r : Result V Diagnostic) → kept.around ≡ None → ((U : TypeTree) → AreParts type_tree tree of Full w U source ty children kept.parts → IsReadAs tree of Full in_text w U source (node ty place (node_trees children)) r) → AreKeptWhereDue type_tree tree of Full w due source ty children kept → IsReadWhereDue tree of Full in_text w due source (node ty place (node_trees children)) r
     whole_alone None kept r alone whole h = tt
     whole_alone (Some T) kept r alone whole h = whole T (subst (λ (o : Option (Bor S)). AreOfType type_tree tree of Full w T source ty children o kept) alone h.0)
 
     -- where an option or a result is
-    pub whole_around : (due : Option TypeTree) (kept : Kept S V) (x : Bor S) (made r : Result V Diagnostic) → kept.around ≡ Some x → ((U : TypeTree) → AreParts type_tree tree of Full w U source ty children kept.parts → IsReadAs tree of Full in_text w U source (node ty place (node_trees children)) made) → ((U : TypeTree) → IsFlatAt (type_tree x.now) ty U → IsReadAs tree of Full in_text w U source (node ty place (node_trees children)) made → IsReadAs tree of Full in_text w (type_tree x.now) source (node ty place (node_trees children)) r) → AreKeptWhereDue type_tree tree of Full w due source ty children kept → IsReadWhereDue tree of Full in_text w due source (node ty place (node_trees children)) r
+    pub whole_around : (due : Option TypeTree) (kept : Frame S V) (x : Bor S) (made r : Result V Diagnostic) → kept.around ≡ Some x → ((U : TypeTree) → AreParts type_tree tree of Full w U source ty children kept.parts → IsReadAs tree of Full in_text w U source (node ty place (node_trees children)) made) → ((U : TypeTree) → IsFlatAt (type_tree x.now) ty U → IsReadAs tree of Full in_text w U source (node ty place (node_trees children)) made → IsReadAs tree of Full in_text w (type_tree x.now) source (node ty place (node_trees children)) r) → AreKeptWhereDue type_tree tree of Full w due source ty children kept → IsReadWhereDue tree of Full in_text w due source (node ty place (node_trees children)) r
     whole_around None kept x made r is whole around h = tt
     whole_around (Some T) kept x made r is whole around h =
         let held = subst (λ (o : Option (Bor S)). AreOfType type_tree tree of Full w T source ty children o kept) is h.0 in
@@ -59,19 +59,19 @@ module _ {S V : Type 0} (type_tree : S → TypeTree) (tree : V → Value) (of : 
         (around held.1.0 (subst (λ (W : TypeTree). IsFlatAt W ty held.1.0) (sym held.0) held.1.1) (whole held.1.0 held.1.2))
 
     -- at a plain type it is refused without memory
-    pub alone_spares : (due : Option TypeTree) (n : NodeTree) (kept : Kept S V) (r s : Result V Diagnostic) → ((T : TypeTree) → IsPlain T → IsSimpleAt type_tree T kept.parts → IfErr r (λ e. Says e InvalidType place None)) → IsKept r s → AreKeptWhereDue type_tree tree of Full w due source ty children kept → SparesWhereDue due n s
+    pub alone_spares : (due : Option TypeTree) (n : NodeTree) (kept : Frame S V) (r s : Result V Diagnostic) → ((T : TypeTree) → IsPlain T → IsSimpleAt type_tree T kept.parts → IfErr r (λ e. Says e InvalidType place None)) → IsKept r s → AreKeptWhereDue type_tree tree of Full w due source ty children kept → SparesWhereDue due n s
     alone_spares None n kept r s whole same h = tt
     alone_spares (Some T) n kept r s whole same h = λ plain row. form_spares s place (plainly_kept r s InvalidType place (whole T plain (h.1 plain)) same)
 
     -- and nothing is around it
-    pub around_spares : (due : Option TypeTree) (n : NodeTree) (kept : Kept S V) (x : Bor S) (s : Result V Diagnostic) → kept.around ≡ Some x → AreKeptWhereDue type_tree tree of Full w due source ty children kept → SparesWhereDue due n s
+    pub around_spares : (due : Option TypeTree) (n : NodeTree) (kept : Frame S V) (x : Bor S) (s : Result V Diagnostic) → kept.around ≡ Some x → AreKeptWhereDue type_tree tree of Full w due source ty children kept → SparesWhereDue due n s
     around_spares None n kept x s is h = tt
     around_spares (Some T) n kept x s is h = λ plain row.
         let held = subst (λ (o : Option (Bor S)). AreOfType type_tree tree of Full w T source ty children o kept) is h.0 in
         absurd (none_flat T held.1.0 ty plain held.1.1)
 
 -- out of memory is answered only where memory is taken for parts
-pub wants_where_due : {S V A E : Type 0} (type_tree : S → TypeTree) (tree : V → Value) (of : V → TypeTree → Type 0) (Full : TypeTree → Type 0) (kept : Kept S V) (r : Result A E) → (IsBare kept.parts → IsOk r) → IfErr r (λ _. (w : Order) (due : Option TypeTree) (source : List ℕ) (ty : NodeType) (children : List NodeTree) → AreKeptWhereDue type_tree tree of Full w due source ty children kept → TakesMemory due)
+pub wants_where_due : {S V A E : Type 0} (type_tree : S → TypeTree) (tree : V → Value) (of : V → TypeTree → Type 0) (Full : TypeTree → Type 0) (kept : Frame S V) (r : Result A E) → (IsBare kept.parts → IsOk r) → IfErr r (λ _. (w : Order) (due : Option TypeTree) (source : List ℕ) (ty : NodeType) (children : List NodeTree) → AreKeptWhereDue type_tree tree of Full w due source ty children kept → TakesMemory due)
 wants_where_due type_tree tree of Full kept (Ok a) bare = tt
 wants_where_due {S} {V} {A} {E} type_tree tree of Full kept (Err e) bare = wants
   where

@@ -4,7 +4,7 @@ use Rattle.std.specs.declared.ops.Range.{Range}
 use Rattle.std.proofs.lemmas.List.{append-nil}
 use Rattle.wave_wasm.specs.Lists.{AllOf}
 use Rattle.wave_grammar.specs.Token.{Token}
-use Rattle.wave_grammar.specs.SpannedTree.{Placed, Shape, PlacedEntries, entry, entries, PlacedEntry, entry_list, slice, shape_of}
+use Rattle.wave_grammar.specs.SpannedTree.{SpannedTree, SpannedShape, PlacedEntries, entry, entries, PlacedEntry, entry_list, slice, shape_of}
 use Rattle.wave_grammar.specs.NodeTree.{NodeTree, node, node_trees, type_of, children_of}
 use Rattle.wave_grammar.specs.Nodes.{pairs_of, key_of, shape_from, IsNodeOf, IsTokenOf}
 use Rattle.wave_grammar.specs.NodeAccessors.{node_pairs}
@@ -80,7 +80,7 @@ ArePaired [] = Unit {0}
 ArePaired (k ∷ []) = ⊥
 ArePaired (k ∷ v ∷ more) = ArePaired more
 
-paired_by : (source : List ℕ) (ns : List NodeTree) (cs : List Placed) (es : PlacedEntries) → AreParsed source ns cs → pairs_of cs ≡ Some es → ArePaired ns
+paired_by : (source : List ℕ) (ns : List NodeTree) (cs : List SpannedTree) (es : PlacedEntries) → AreParsed source ns cs → pairs_of cs ≡ Some es → ArePaired ns
 paired_by source [] cs es h e = tt
 paired_by source (k ∷ []) [] es h e = absurd h
 paired_by source (k ∷ []) (c ∷ []) es h e = absurd (cc)
@@ -91,18 +91,18 @@ paired_by source (k ∷ v ∷ more) (c ∷ d ∷ cs) es h e =
     let b = both_some (λ (key : Range ℕ × Token) (rest : PlacedEntries). entry key.0 key.1 d rest) (key_of c) (pairs_of cs) es e in
     paired_by source more cs b.1 h.1.1 b.3
 
-given_pairs : (o : Option PlacedEntries) (s : Shape) → option_map entries o ≡ Some s → (es : PlacedEntries) × (o ≡ Some es)
+given_pairs : (o : Option PlacedEntries) (s : SpannedShape) → option_map entries o ≡ Some s → (es : PlacedEntries) × (o ≡ Some es)
 given_pairs (Some es) s e = (es, refl)
 given_pairs None s e = absurd (cc)
 
-pub paired_from : (source : List ℕ) (p : Range ℕ) (text : List ℕ) (ns : List NodeTree) (cs : List Placed) (s : Shape) → AreParsed source ns cs → shape_from kind.TupleSet p text cs ≡ Some s → ArePaired ns
+pub paired_from : (source : List ℕ) (p : Range ℕ) (text : List ℕ) (ns : List NodeTree) (cs : List SpannedTree) (s : SpannedShape) → AreParsed source ns cs → shape_from kind.TupleSet p text cs ≡ Some s → ArePaired ns
 paired_from source p text [] cs s h e = tt
 paired_from source p text (n ∷ ns) [] s h e = absurd h
 paired_from source p text (n ∷ ns) (c ∷ cs) s h e =
     let b = given_pairs (pairs_of (c ∷ cs)) s e in
     paired_by source (n ∷ ns) (c ∷ cs) b.0 h b.1
 
-paired : (source : List ℕ) (ns : List NodeTree) (p : Range ℕ) (t : Placed) → IsNodeOf source (node kind.TupleSet p (node_trees ns)) t → ArePaired ns
+paired : (source : List ℕ) (ns : List NodeTree) (p : Range ℕ) (t : SpannedTree) → IsNodeOf source (node kind.TupleSet p (node_trees ns)) t → ArePaired ns
 paired source ns p t h =
     let n : NodeTree = node kind.TupleSet p (node_trees ns) in
     let i = inside source n t h.0 in
@@ -120,7 +120,7 @@ abbrev pub StandsBehind : NodeTree → List NodeTree → NodeTree → NodeTree �
 StandsBehind n children k v = (rest : List (NodeTree × NodeTree)) × (node_pairs (children_of n) ≡ node_pairs children ++ (k, v) ∷ rest)
 
 -- so does that of a key, with some value
-pub key_stands : (source : List ℕ) (children : List NodeTree) (k : NodeTree) (more : List NodeTree) (half : ℕ) (p : Range ℕ) (t : Placed) → length children ≡ half + half → IsNodeOf source (node kind.TupleSet p (node_trees ((children ++ k ∷ []) ++ more))) t → (v : NodeTree) × StandsBehind (node kind.TupleSet p (node_trees ((children ++ k ∷ []) ++ more))) children k v
+pub key_stands : (source : List ℕ) (children : List NodeTree) (k : NodeTree) (more : List NodeTree) (half : ℕ) (p : Range ℕ) (t : SpannedTree) → length children ≡ half + half → IsNodeOf source (node kind.TupleSet p (node_trees ((children ++ k ∷ []) ++ more))) t → (v : NodeTree) × StandsBehind (node kind.TupleSet p (node_trees ((children ++ k ∷ []) ++ more))) children k v
 key_stands source children k [] half p t even is =
     absurd (key_alone children k half even (subst ArePaired (append-nil (children ++ k ∷ [])) (paired source ((children ++ k ∷ []) ++ []) p t is)))
 key_stands source children k (v ∷ more) half p t even is =
@@ -132,7 +132,7 @@ value_stands children k v more p waits =
     (node_pairs more, ap node_pairs (list_of_trees ((children ++ v ∷ []) ++ more)) ∙ pairs_behind_value children k v more waits)
 
 -- the entry of a pair
-pub entry_stands : (source : List ℕ) (n : NodeTree) (t : Placed) (children : List NodeTree) (k v : NodeTree) (is : IsNodeOf source n t) (set : type_of n ≡ kind.TupleSet) → StandsBehind n children k v → (e : PlacedEntry) × HasAt (entry_list (record_nodes source n t is set).given) (length (node_pairs children)) e × IsTokenOf source k e.place e.key × IsNodeOf source v e.value
+pub entry_stands : (source : List ℕ) (n : NodeTree) (t : SpannedTree) (children : List NodeTree) (k v : NodeTree) (is : IsNodeOf source n t) (set : type_of n ≡ kind.TupleSet) → StandsBehind n children k v → (e : PlacedEntry) × HasAt (entry_list (record_nodes source n t is set).given) (length (node_pairs children)) e × IsTokenOf source k e.place e.key × IsNodeOf source v e.value
 entry_stands source n t children k v is set here =
     let inner = record_nodes source n t is set in
     entry_has source (node_pairs children ++ (k, v) ∷ here.0) (entry_list inner.given) (length (node_pairs children)) (k, v) (subst (λ (ps : List (NodeTree × NodeTree)). AreEntriesOf source ps (entry_list inner.given)) here.1 inner.nodes) (has_behind (node_pairs children) (k, v) here.0)

@@ -10,7 +10,7 @@ use Rattle.wave_wasm.specs.ConstructorContracts.{IsOfListKind, MakesList, FullLi
 use Rattle.wave_wasm.specs.declared.wasm.WasmValueError.{WasmValueError}
 use Rattle.wave_lex.specs.Errors.{Diagnostic, refusal_of}
 use Rattle.wave_lex.specs.declared.error.ParserErrorKind.TheVariants.{InvalidType}
-use Rattle.wave_grammar.specs.SpannedTree.{Placed}
+use Rattle.wave_grammar.specs.SpannedTree.{SpannedTree}
 use Rattle.wave_grammar.specs.NodeTree.{NodeTree, node, node_trees, type_of, children_of}
 use Rattle.wave_grammar.specs.NodeAccessors.{RefusedAs}
 use Rattle.wave_grammar.specs.TypedReading.{IsBlamed, IsMade}
@@ -79,7 +79,7 @@ module _ {V : Type 0} (tree : V → Value) (of : V → TypeTree → Type 0) (Ful
 
   -- ---- the whole
 
-  all_placed : (E : TypeTree) (source : List ℕ) (ns : List NodeTree) (ts : List Placed) (vs : List V) → HasDistinctNames E → AreNodesOf source ns ts → AllReadAs tree of Full w E source ns vs → AllRead tree of Full o w E ts vs
+  all_placed : (E : TypeTree) (source : List ℕ) (ns : List NodeTree) (ts : List SpannedTree) (vs : List V) → HasDistinctNames E → AreNodesOf source ns ts → AllReadAs tree of Full w E source ns vs → AllRead tree of Full o w E ts vs
   all_placed E source [] [] [] distinct nodes h = tt
   all_placed E source [] [] (v ∷ vs) distinct nodes h = absurd h
   all_placed E source [] (t ∷ ts) vs distinct nodes h = absurd nodes
@@ -95,7 +95,7 @@ module _ {V : Type 0} (tree : V → Value) (of : V → TypeTree → Type 0) (Ful
   }
 
   -- the first refusal among the items of their trees
-  first_blamed : (E : TypeTree) (source : List ℕ) (e : Diagnostic) (ns : List NodeTree) (ts : List Placed) → HasDistinctNames E → AreNodesOf source ns ts → IsFirstRefused tree of Full w E source e ns → ItemsBlamed tree of Full o w E ts e
+  first_blamed : (E : TypeTree) (source : List ℕ) (e : Diagnostic) (ns : List NodeTree) (ts : List SpannedTree) → HasDistinctNames E → AreNodesOf source ns ts → IsFirstRefused tree of Full w E source e ns → ItemsBlamed tree of Full o w E ts e
   first_blamed E source e [] ts distinct nodes h = absurd h
   first_blamed E source e (n ∷ ns) [] distinct nodes h = absurd nodes
   first_blamed E source e (n ∷ ns) (t ∷ ts) distinct nodes (inl h) = here (h.answer t nodes.0 distinct)

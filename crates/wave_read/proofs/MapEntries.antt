@@ -14,7 +14,7 @@ use Rattle.wave_wasm.specs.ConstructorContracts.{MakesMap, FullMap, HasFullParts
 use Rattle.wave_wasm.specs.declared.wasm.WasmValueError.{WasmValueError}
 use Rattle.wave_lex.specs.Errors.{Diagnostic, refusal_of}
 use Rattle.wave_lex.specs.declared.error.ParserErrorKind.TheVariants as why
-use Rattle.wave_grammar.specs.SpannedTree.{Placed, PlacedEntries, PlacedEntry, entry_list, slice, shape_of}
+use Rattle.wave_grammar.specs.SpannedTree.{SpannedTree, PlacedEntries, PlacedEntry, entry_list, slice, shape_of}
 use Rattle.wave_grammar.specs.TypeErrors.{MapKeyFault}
 use Rattle.wave_grammar.specs.NodeTree.{NodeTree, node, no_nodes, node_trees, type_of}
 use Rattle.wave_grammar.specs.Nodes.{IsNodeOf, IsTokenOf}
@@ -81,12 +81,12 @@ entries_of_nodes source (k ∷ n ∷ more) [] h = absurd h
 entries_of_nodes source (k ∷ n ∷ more) (e ∷ es) h = (h.0, h.1, entries_of_nodes source more es h.2)
 
 -- the entries of a node with these children
-record MapChildren (source : List ℕ) (ns : List NodeTree) (t : Placed) : Type 0 where
+record MapChildren (source : List ℕ) (ns : List NodeTree) (t : SpannedTree) : Type 0 where
   given : PlacedEntries
   shape : IsOfMap (shape_of t) given
   nodes : AreInTurn source ns (entry_list given)
 
-map_children : (source : List ℕ) (ns : List NodeTree) (p : Range ℕ) (t : Placed) → IsNodeOf source (node kind.TupleSet p (node_trees ns)) t → MapChildren source ns t
+map_children : (source : List ℕ) (ns : List NodeTree) (p : Range ℕ) (t : SpannedTree) → IsNodeOf source (node kind.TupleSet p (node_trees ns)) t → MapChildren source ns t
 map_children source ns p t h =
     let m : NodeTree = node kind.TupleSet p (node_trees ns) in
     let i = inside source m t h.0 in
@@ -318,7 +318,7 @@ module _ {V : Type 0} (tree : V → Value) (of : V → TypeTree → Type 0) (Ful
   left_is_none source (e ∷ left) h = absurd h
 
   -- a key without a value is no map
-  key_alone : (K : Simple) (S U : TypeTree) (source : List ℕ) (ns : List NodeTree) (xs : List (V × V)) (x : V) (p : Range ℕ) (t : Placed) → S ≡ type.simple K → AreReadInTurn tree of Full w S U source ns xs (Some x) → IsNodeOf source (node kind.TupleSet p (node_trees ns)) t → ⊥
+  key_alone : (K : Simple) (S U : TypeTree) (source : List ℕ) (ns : List NodeTree) (xs : List (V × V)) (x : V) (p : Range ℕ) (t : SpannedTree) → S ≡ type.simple K → AreReadInTurn tree of Full w S U source ns xs (Some x) → IsNodeOf source (node kind.TupleSet p (node_trees ns)) t → ⊥
   key_alone K S U source ns xs x p t key h is =
       let c = map_children source ns p t is in
       let b = between K S U source ns [] xs x (entry_list c.given) key h (subst (λ (l : List NodeTree). AreInTurn source l (entry_list c.given)) (sym (append-nil ns)) c.nodes) in

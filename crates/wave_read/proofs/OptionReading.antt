@@ -10,7 +10,7 @@ use Rattle.wave_wasm.specs.declared.wasm.WasmTypeKind.TheVariants as kinds
 use Rattle.wave_wasm.specs.declared.wasm.WasmValueError.{WasmValueError}
 use Rattle.wave_lex.specs.Errors.{Diagnostic}
 use Rattle.wave_lex.specs.declared.error.ParserErrorKind.TheVariants.{InvalidType}
-use Rattle.wave_grammar.specs.SpannedTree.{Placed}
+use Rattle.wave_grammar.specs.SpannedTree.{SpannedTree}
 use Rattle.wave_grammar.specs.NodeTree.{NodeTree, node, node_trees, type_of}
 use Rattle.wave_grammar.specs.Nodes.{IsNodeOf}
 use Rattle.wave_grammar.specs.NodeAccessors.{RefusedAs}
@@ -32,7 +32,7 @@ one_child : (a b : NodeTree) → a ∷ [] ≡ b ∷ [] → a ≡ b
 one_child a b e = cc
 
 -- its payload
-some_payload : (source : List ℕ) (p : Range ℕ) (inner : NodeTree) (t : Placed) (k : SomeNode source (some_of p (inner ∷ [])) t) → IsNodeOf source inner k.payload
+some_payload : (source : List ℕ) (p : Range ℕ) (inner : NodeTree) (t : SpannedTree) (k : SomeNode source (some_of p (inner ∷ [])) t) → IsNodeOf source inner k.payload
 some_payload source p inner t k = subst (λ (m : NodeTree). IsNodeOf source m k.payload) (sym (one_child inner k.inner k.children)) k.node
 
 module _ {V : Type 0} (tree : V → Value) (of : V → TypeTree → Type 0) (Full : TypeTree → Type 0) (o w : Order) where

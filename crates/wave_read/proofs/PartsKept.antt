@@ -13,11 +13,11 @@ use Rattle.wave_read.specs.declared.fault.Fault.{Fault}
 use Rattle.wave_read.specs.declared.lists.Items.{Items}
 use Rattle.wave_read.specs.declared.maps.Entries.{Entries}
 use Rattle.wave_read.specs.declared.options.SomePayload.{SomePayload}
-use Rattle.wave_read.specs.declared.parts.Parts.{Parts}
-use Rattle.wave_read.specs.declared.parts.Parts.TheVariants as parts
+use Rattle.wave_read.specs.declared.parts.Partial.{Partial}
+use Rattle.wave_read.specs.declared.parts.Partial.TheVariants as parts
 use Rattle.wave_read.specs.declared.records.Fields.{Fields}
 use Rattle.wave_read.specs.declared.results.ResultPayload.{ResultPayload}
-use Rattle.wave_read.specs.declared.tuples.Row.{Row}
+use Rattle.wave_read.specs.declared.tuples.TupleItems.{TupleItems}
 use Rattle.wave_read.specs.declared.variants.CasePayload.{CasePayload}
 use Rattle.wave_read.proofs.Doomed.{still_doomed}
 
@@ -42,28 +42,28 @@ found_at tree of Full w T source ty at children A None is h = (is, h)
 found_at tree of Full w T source ty at children A (Some f) is h = rw is h
 
 -- a fault that was found stands in the place of the parts
-pub fault_placed : {S V : Type 0} (type_tree : S → TypeTree) (tree : V → Value) (of : V → TypeTree → Type 0) (Full : TypeTree → Type 0) (w : Order) (T : TypeTree) (source : List ℕ) (ty : NodeType) (children : List NodeTree) (x y : Parts S V) (found : Option Fault) → MatchOption found (y ≡ x) (λ f. y ≡ parts.Faulty f) → MatchOption found (AreParts type_tree tree of Full w T source ty children x) (IsDoomed tree of Full in_text w T source ty children) → AreParts type_tree tree of Full w T source ty children y
+pub fault_placed : {S V : Type 0} (type_tree : S → TypeTree) (tree : V → Value) (of : V → TypeTree → Type 0) (Full : TypeTree → Type 0) (w : Order) (T : TypeTree) (source : List ℕ) (ty : NodeType) (children : List NodeTree) (x y : Partial S V) (found : Option Fault) → MatchOption found (y ≡ x) (λ f. y ≡ parts.Faulty f) → MatchOption found (AreParts type_tree tree of Full w T source ty children x) (IsDoomed tree of Full in_text w T source ty children) → AreParts type_tree tree of Full w T source ty children y
 fault_placed type_tree tree of Full w T source ty children x y None is h = rw is h
 fault_placed type_tree tree of Full w T source ty children x y (Some f) is h = rw is h
 
 -- where none was found they stay
-pub none_found : {S V : Type 0} (x y : Parts S V) (found : Option Fault) → found ≡ None → MatchOption found (y ≡ x) (λ f. y ≡ parts.Faulty f) → y ≡ x
+pub none_found : {S V : Type 0} (x y : Partial S V) (found : Option Fault) → found ≡ None → MatchOption found (y ≡ x) (λ f. y ≡ parts.Faulty f) → y ≡ x
 none_found x y None none is = is
 none_found x y (Some f) none is = absurd (cc)
 
 -- parts of which it is known that they are no items
-pub no_items : {S V : Type 0} (x : Parts S V) → ((y : Items S V) → x ≡ parts.Items y → ⊥) → AreNoItems x
+pub no_items : {S V : Type 0} (x : Partial S V) → ((y : Items S V) → x ≡ parts.Items y → ⊥) → AreNoItems x
 no_items (parts.Items x) apart = apart x refl
 no_items _ apart = tt
 
 module _ {S V : Type 0} (type_tree : S → TypeTree) (tree : V → Value) (of : V → TypeTree → Type 0) (Full : TypeTree → Type 0) (w : Order) (T : TypeTree) (source : List ℕ) (ty : NodeType) (children : List NodeTree) (n : NodeTree) where
   -- after a key, but for those that take one
-  pub behind_key : (x : Parts S V) → ((y : CasePayload S V) → x ≡ parts.OfCase y → ⊥) → ((y : Fields S V) → x ≡ parts.Fields y → ⊥) → ((y : Entries S V) → x ≡ parts.Entries y → ⊥) → TakesKey ty children → AreParts type_tree tree of Full w T source ty children x → AreParts type_tree tree of Full w T source ty (children ++ n ∷ []) x
+  pub behind_key : (x : Partial S V) → ((y : CasePayload S V) → x ≡ parts.OfCase y → ⊥) → ((y : Fields S V) → x ≡ parts.Fields y → ⊥) → ((y : Entries S V) → x ≡ parts.Entries y → ⊥) → TakesKey ty children → AreParts type_tree tree of Full w T source ty children x → AreParts type_tree tree of Full w T source ty (children ++ n ∷ []) x
   behind_key (parts.Faulty f) case fields entries takes h = still_doomed tree of Full in_text w T source ty children n f h
   behind_key (parts.Simple x) case fields entries takes h = h
   behind_key (parts.Empty x) case fields entries takes h = absurd (subst (λ (k : NodeType). TakesKey k children) h.0 takes)
   behind_key (parts.Items x) case fields entries takes h = absurd (subst (λ (k : NodeType). TakesKey k children) h.0 takes)
-  behind_key (parts.Row x) case fields entries takes h = absurd (subst (λ (k : NodeType). TakesKey k children) h.0 takes)
+  behind_key (parts.TupleItems x) case fields entries takes h = absurd (subst (λ (k : NodeType). TakesKey k children) h.0 takes)
   behind_key (parts.OfSome x) case fields entries takes h = absurd (subst (λ (k : NodeType). TakesKey k children) h.0 takes)
   behind_key (parts.OfResult x) case fields entries takes h = absurd (no_result_key x.is_ok children (subst (λ (k : NodeType). TakesKey k children) h.0 takes))
   behind_key (parts.OfCase x) case fields entries takes h = absurd (case x refl)
@@ -71,12 +71,12 @@ module _ {S V : Type 0} (type_tree : S → TypeTree) (tree : V → Value) (of : 
   behind_key (parts.Entries x) case fields entries takes h = absurd (entries x refl)
 
   -- after a value, of which nothing is kept
-  pub behind_part : (x : Parts S V) → ((y : Items S V) → x ≡ parts.Items y → ⊥) → ((y : Row S V) → x ≡ parts.Row y → ⊥) → ((y : SomePayload S V) → x ≡ parts.OfSome y → ⊥) → ((y : ResultPayload S V) → x ≡ parts.OfResult y → ⊥) → ((y : CasePayload S V) → x ≡ parts.OfCase y → ⊥) → ((y : Fields S V) → x ≡ parts.Fields y → ⊥) → ((y : Entries S V) → x ≡ parts.Entries y → ⊥) → TakesPart ty children → AreParts type_tree tree of Full w T source ty children x → AreParts type_tree tree of Full w T source ty (children ++ n ∷ []) x
+  pub behind_part : (x : Partial S V) → ((y : Items S V) → x ≡ parts.Items y → ⊥) → ((y : TupleItems S V) → x ≡ parts.TupleItems y → ⊥) → ((y : SomePayload S V) → x ≡ parts.OfSome y → ⊥) → ((y : ResultPayload S V) → x ≡ parts.OfResult y → ⊥) → ((y : CasePayload S V) → x ≡ parts.OfCase y → ⊥) → ((y : Fields S V) → x ≡ parts.Fields y → ⊥) → ((y : Entries S V) → x ≡ parts.Entries y → ⊥) → TakesPart ty children → AreParts type_tree tree of Full w T source ty children x → AreParts type_tree tree of Full w T source ty (children ++ n ∷ []) x
   behind_part (parts.Faulty f) items row some result case fields entries takes h = still_doomed tree of Full in_text w T source ty children n f h
   behind_part (parts.Simple x) items row some result case fields entries takes h = h
   behind_part (parts.Empty x) items row some result case fields entries takes h = absurd (subst (λ (k : NodeType). TakesPart k children) h.0 takes)
   behind_part (parts.Items x) items row some result case fields entries takes h = absurd (items x refl)
-  behind_part (parts.Row x) items row some result case fields entries takes h = absurd (row x refl)
+  behind_part (parts.TupleItems x) items row some result case fields entries takes h = absurd (row x refl)
   behind_part (parts.OfSome x) items row some result case fields entries takes h = absurd (some x refl)
   behind_part (parts.OfResult x) items row some result case fields entries takes h = absurd (result x refl)
   behind_part (parts.OfCase x) items row some result case fields entries takes h = absurd (case x refl)

@@ -22,10 +22,10 @@ use Rattle.wave_read.specs.TupleParts.{IsRow}
 use Rattle.wave_read.specs.PartsOfKinds.{AreDoomedAtOnce, AreParts, IsSimpleAt}
 use Rattle.wave_read.proofs.TupleCounts.{as_shown}
 use Rattle.wave_read.specs.declared.fault.Fault.{Fault}
-use Rattle.wave_read.specs.declared.parts.Parts.{Parts}
-use Rattle.wave_read.specs.declared.parts.Parts.TheVariants as parts
-use Rattle.wave_read.specs.declared.tuples.Row.{Row}
-use Rattle.wave_read.specs.declared.values.Kept.{Kept}
+use Rattle.wave_read.specs.declared.parts.Partial.{Partial}
+use Rattle.wave_read.specs.declared.parts.Partial.TheVariants as parts
+use Rattle.wave_read.specs.declared.tuples.TupleItems.{TupleItems}
+use Rattle.wave_read.specs.declared.values.Frame.{Frame}
 
 -- the flat payload's type is one
 one_flat : (T U W : TypeTree) (ty : NodeType) → IsFlatAt T ty U → IsFlatAt T ty W → U ≡ W
@@ -77,15 +77,15 @@ counted_list (type.type_and T more) = ap suc (counted_list more)
 
 module _ {S V : Type 0} (type_tree : S → TypeTree) (tree : V → Value) (of : V → TypeTree → Type 0) (Full : TypeTree → Type 0) (w : Order) (source : List ℕ) where
   -- parts of a node of a tuple, of a type that could be asked for its parts
-  abbrev IsRowOrSimple : TypeTree → Parts S V → Type 0
-  IsRowOrSimple T x = ((r : Row S V) × (x ≡ parts.Row r) × IsRow type_tree tree of Full w T source [] r) ⊎ IsSimpleOrUnreadable T
+  abbrev IsRowOrSimple : TypeTree → Partial S V → Type 0
+  IsRowOrSimple T x = ((r : TupleItems S V) × (x ≡ parts.TupleItems r) × IsRow type_tree tree of Full w T source [] r) ⊎ IsSimpleOrUnreadable T
 
-  of_tuple : (T : TypeTree) (ty : NodeType) (x : Parts S V) → ((f : Fault) → x ≡ parts.Faulty f → ⊥) → ty ≡ node_type.Tuple → AreParts type_tree tree of Full w T source ty [] x → IsRowOrSimple T x
+  of_tuple : (T : TypeTree) (ty : NodeType) (x : Partial S V) → ((f : Fault) → x ≡ parts.Faulty f → ⊥) → ty ≡ node_type.Tuple → AreParts type_tree tree of Full w T source ty [] x → IsRowOrSimple T x
   of_tuple T ty (parts.Faulty f) faulty is h = absurd (faulty f refl)
   of_tuple T ty (parts.Simple y) faulty is h = inr h.1
   of_tuple T ty (parts.Empty y) faulty is h = absurd (cc (sym is ∙ h.0))
   of_tuple T ty (parts.Items y) faulty is h = absurd (cc (sym is ∙ h.0))
-  of_tuple T ty (parts.Row y) faulty is h = inl (y, refl, h.1)
+  of_tuple T ty (parts.TupleItems y) faulty is h = inl (y, refl, h.1)
   of_tuple T ty (parts.OfSome y) faulty is h = absurd (cc (sym is ∙ h.0))
   of_tuple T ty (parts.OfResult y) faulty is h = absurd (no_result y.is_ok (sym is ∙ h.0))
     where
@@ -97,19 +97,19 @@ module _ {S V : Type 0} (type_tree : S → TypeTree) (tree : V → Value) (of : 
   of_tuple T ty (parts.Entries y) faulty is h = absurd (cc (sym is ∙ h.0))
 
   -- the row of a tuple has as many types as the tuple
-  row_counted : (Ts : Types) (U : TypeTree) (x : Parts S V) (count : ℕ) → type.tuple Ts ≡ U → ((r : Row S V) → x ≡ parts.Row r → count ≡ length r.types.items) → IsRowOrSimple U x → count ≡ count_of Ts
+  row_counted : (Ts : Types) (U : TypeTree) (x : Partial S V) (count : ℕ) → type.tuple Ts ≡ U → ((r : TupleItems S V) → x ≡ parts.TupleItems r → count ≡ length r.types.items) → IsRowOrSimple U x → count ≡ count_of Ts
   row_counted Ts U x count is rows (inl (r, row, h)) =
       let types : shown_all type_tree r.types.items ≡ type_list Ts = h.parts ∙ ap tuple_parts (sym is) in
       rows r row ∙ (sym (as_shown type_tree r.types.items) ∙ (ap length types ∙ counted_list Ts))
   row_counted Ts U x count is rows (inr simple) = absurd (subst IsSimpleOrUnreadable (sym is) simple)
 
   -- around a flat payload stands neither a row nor a simple type
-  none_around : (T U : TypeTree) (ty : NodeType) (x : Parts S V) → IsFlatAt T ty U → IsRowOrSimple T x → ⊥
+  none_around : (T U : TypeTree) (ty : NodeType) (x : Partial S V) → IsFlatAt T ty U → IsRowOrSimple T x → ⊥
   none_around T U ty x flat (inl (r, row, h)) = flat_kind T U ty flat h.kind
   none_around T U ty x flat (inr simple) = flat_simple T U ty flat simple
 
   -- where the parts have no fault, and a row as many types as there are items, the tuple that is read has so many
-  pub counted_items : (T : TypeTree) (ty : NodeType) (x : Kept S V) (count : ℕ) → ((f : Fault) → x.parts ≡ parts.Faulty f → ⊥) → ((r : Row S V) → x.parts ≡ parts.Row r → count ≡ length r.types.items) → AreOfType type_tree tree of Full w T source ty [] x.around x → IsCounted T ty count
+  pub counted_items : (T : TypeTree) (ty : NodeType) (x : Frame S V) (count : ℕ) → ((f : Fault) → x.parts ≡ parts.Faulty f → ⊥) → ((r : TupleItems S V) → x.parts ≡ parts.TupleItems r → count ≡ length r.types.items) → AreOfType type_tree tree of Full w T source ty [] x.around x → IsCounted T ty count
   counted_items T ty x count faulty rows h Ts read is = by x.around h read
     where
       by : (around : Option (Bor S)) → AreOfType type_tree tree of Full w T source ty [] around x → IsReadAt T ty (type.tuple Ts) → count ≡ count_of Ts
@@ -118,7 +118,7 @@ module _ {S V : Type 0} (type_tree : S → TypeTree) (tree : V → Value) (of : 
       by (Some whole) h (inl same) = absurd (flat_tuple T h.1.0 ty Ts h.1.1 same)
       by (Some whole) h (inr flat) = row_counted Ts h.1.0 x.parts count (one_flat T (type.tuple Ts) h.1.0 ty flat h.1.1) rows (of_tuple h.1.0 ty x.parts faulty is h.1.2)
 
-module _ {S V : Type 0} (type_tree : S → TypeTree) (tree : V → Value) (of : V → TypeTree → Type 0) (Full : TypeTree → Type 0) (x : Kept S V) (count : ℕ) where
+module _ {S V : Type 0} (type_tree : S → TypeTree) (tree : V → Value) (of : V → TypeTree → Type 0) (Full : TypeTree → Type 0) (x : Frame S V) (count : ℕ) where
   -- the tuple that is read at a node of these parts, of which none was read yet, has so many items
   abbrev AreCounted : Type 0
   AreCounted =
@@ -126,19 +126,19 @@ module _ {S V : Type 0} (type_tree : S → TypeTree) (tree : V → Value) (of : 
       → AreDoomedAtOnce type_tree tree of Full T ty x.parts → IsCounted T ty count
 
   -- where a row has as many types
-  pub row_counts : (row : Row S V) (r : Option Diagnostic) → x.parts ≡ parts.Row row → MatchOption r (count ≡ length row.types.items) (λ _. count ≢ length row.types.items) → IfNone r AreCounted
+  pub row_counts : (row : TupleItems S V) (r : Option Diagnostic) → x.parts ≡ parts.TupleItems row → MatchOption r (count ≡ length row.types.items) (λ _. count ≢ length row.types.items) → IfNone r AreCounted
   row_counts row None is counts = λ w T source ty of_parts kept doomed.
-      counted_items type_tree tree of Full w source T ty x count (λ f e. no_fault f (sym is ∙ e)) (λ s same. subst (λ (z : Row S V). count ≡ length z.types.items) (one_row row s (sym is ∙ same)) counts) kept.0
+      counted_items type_tree tree of Full w source T ty x count (λ f e. no_fault f (sym is ∙ e)) (λ s same. subst (λ (z : TupleItems S V). count ≡ length z.types.items) (one_row row s (sym is ∙ same)) counts) kept.0
     where
-      no_fault : (f : Fault) → parts.Row row ≡ parts.Faulty f → ⊥
+      no_fault : (f : Fault) → parts.TupleItems row ≡ parts.Faulty f → ⊥
       no_fault f e = cc
 
-      one_row : (a b : Row S V) → parts.Row a ≡ parts.Row b → a ≡ b
+      one_row : (a b : TupleItems S V) → parts.TupleItems a ≡ parts.TupleItems b → a ≡ b
       one_row a b e = cc
   row_counts row (Some e) is counts = tt
 
   -- where the parts are neither a row nor have a fault
-  pub others_count : ((f : Fault) → x.parts ≡ parts.Faulty f → ⊥) → ((row : Row S V) → x.parts ≡ parts.Row row → ⊥) → AreCounted
+  pub others_count : ((f : Fault) → x.parts ≡ parts.Faulty f → ⊥) → ((row : TupleItems S V) → x.parts ≡ parts.TupleItems row → ⊥) → AreCounted
   others_count faulty none w T source ty of_parts kept doomed = counted_items type_tree tree of Full w source T ty x count faulty (λ row is. absurd (none row is)) kept.0
 
   module _ (f : Fault) (is : x.parts ≡ parts.Faulty f) where

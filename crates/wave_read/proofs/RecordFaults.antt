@@ -12,7 +12,7 @@ use Rattle.wave_lex.specs.Errors.{Diagnostic, Says, refusal_of}
 use Rattle.wave_lex.specs.declared.error.ParserErrorKind.TheVariants as why
 use Rattle.wave_grammar.specs.LeafTokens.{name_of}
 use Rattle.wave_grammar.specs.TypedGrammar.{names_of}
-use Rattle.wave_grammar.specs.SpannedTree.{Placed, span_of}
+use Rattle.wave_grammar.specs.SpannedTree.{SpannedTree, span_of}
 use Rattle.wave_grammar.specs.TypeErrors.{IsFor, UnknownField}
 use Rattle.wave_grammar.specs.NodeTree.{NodeTree, node, node_trees, type_of}
 use Rattle.wave_grammar.specs.Nodes.{IsNodeOf}
@@ -35,7 +35,7 @@ use Rattle.wave_read.proofs.KeyedChildren.{StandsBehind, key_stands, value_stand
 use Rattle.wave_read.proofs.RecordFields.{holds_at}
 
 -- the entry of a label has its name
-entry_for : (source : List ℕ) (n : NodeTree) (t : Placed) (children : List NodeTree) (k v : NodeTree) (is : IsNodeOf source n t) (set : type_of n ≡ kind.TupleSet) (here : StandsBehind n children k v) → type_of k ≡ kind.Label → IsFor (name_of (node_text source k)) (entry_stands source n t children k v is set here).0
+entry_for : (source : List ℕ) (n : NodeTree) (t : SpannedTree) (children : List NodeTree) (k v : NodeTree) (is : IsNodeOf source n t) (set : type_of n ≡ kind.TupleSet) (here : StandsBehind n children k v) → type_of k ≡ kind.Label → IsFor (name_of (node_text source k)) (entry_stands source n t children k v is set here).0
 entry_for source n t children k v is set here label =
     let e = entry_stands source n t children k v is set here in
     (fields_of_entries source ((k, v) ∷ []) (e.0 ∷ []) (label, tt) (e.2, e.3, tt)).0

@@ -16,7 +16,7 @@ use Rattle.wave_wasm.specs.ConstructorContracts.{MakesRecord, FullRecord, HasFul
 use Rattle.wave_wasm.specs.declared.wasm.WasmValueError as cause
 use Rattle.wave_lex.specs.Errors.{Diagnostic, refusal_of}
 use Rattle.wave_grammar.specs.TypedGrammar.{IsOption, look_up, names_of}
-use Rattle.wave_grammar.specs.SpannedTree.{Placed, PlacedEntry, entry_list}
+use Rattle.wave_grammar.specs.SpannedTree.{SpannedTree, PlacedEntry, entry_list}
 use Rattle.wave_grammar.specs.NodeTree.{NodeTree, node, node_trees, place_of, children_of}
 use Rattle.wave_grammar.specs.NodeAccessors.{node_pairs}
 use Rattle.wave_grammar.specs.NodeFields.{IsLabelled, IsFieldsOf}
@@ -123,7 +123,7 @@ module _ {V : Type 0} (tree : V → Value) (of : V → TypeTree → Type 0) (Ful
         whole : NodeTree
         whole = node kind.TupleSet p (node_trees children)
 
-        blamed : (t : Placed) → IsNodeOf source (node kind.TupleSet p (node_trees children)) t → HasDistinctNames T → IsLeftUnfilled Full type_tree x.fields.items (node kind.TupleSet p (node_trees children)) e → IsBlamed Full in_text w T t e
+        blamed : (t : SpannedTree) → IsNodeOf source (node kind.TupleSet p (node_trees children)) t → HasDistinctNames T → IsLeftUnfilled Full type_tree x.fields.items (node kind.TupleSet p (node_trees children)) e → IsBlamed Full in_text w T t e
         blamed t is distinct (inl memory) = inl memory
         blamed t is distinct (inr left) =
             let fields = fields_of p distinct in

@@ -12,7 +12,7 @@ use Rattle.wave_lex.specs.Strings.{Decodes}
 use Rattle.wave_lex.proofs.Decoding.{plain_from}
 use Rattle.wave_grammar.specs.NumberText.{IsNumberOf}
 use Rattle.wave_grammar.specs.Elaborates.{SimpleTree}
-use Rattle.wave_grammar.specs.SpannedTree.{Placed, tree_of}
+use Rattle.wave_grammar.specs.SpannedTree.{SpannedTree, tree_of}
 use Rattle.wave_grammar.specs.FaultOrder.{Order}
 use Rattle.wave_grammar.specs.NodeTree.{NodeTree}
 use Rattle.wave_grammar.specs.Nodes.{placed_of}
@@ -56,7 +56,7 @@ run_stands source l x is here own none = inl (is, (x, sym here ∙ own, plain_de
 
 module _ {V : Type 0} (tree : V → Value) (of : V → TypeTree → Type 0) (Full : TypeTree → Type 0) (o w : Order) where
   -- what the node says was made a value, so that is what is read of it
-  soon : (T : TypeTree) (one : value.Leaf) (source : List ℕ) (n : NodeTree) (m : Result V WasmValueError) (r : Option V) → simple_kind (leaf_type one) ≡ kind_of T → ((t : Placed) → placed_of source n ≡ Some t → SimpleTree (leaf_type one) (tree_of t) (value.leaf one)) → IfOk m (MakesLeaf tree of one) → IfErr m (FullLeaf Full one) → IfSome r (λ v. m ≡ Ok v) → IfSome r (λ v. IsReadAs tree of Full o w T source n (Ok v))
+  soon : (T : TypeTree) (one : value.Leaf) (source : List ℕ) (n : NodeTree) (m : Result V WasmValueError) (r : Option V) → simple_kind (leaf_type one) ≡ kind_of T → ((t : SpannedTree) → placed_of source n ≡ Some t → SimpleTree (leaf_type one) (tree_of t) (value.leaf one)) → IfOk m (MakesLeaf tree of one) → IfErr m (FullLeaf Full one) → IfSome r (λ v. m ≡ Ok v) → IfSome r (λ v. IsReadAs tree of Full o w T source n (Ok v))
   soon T one source n m None is read made full done = tt
   soon T one source n m (Some v) is read made full done = read_at_kind tree of Full o w (leaf_type one) T source n (Ok v) is (record {
     answer = λ t placed distinct. leaf_made tree of Full o w (type.simple (leaf_type one)) t n one m (Ok v) refl (read t placed.0) made full (subst (λ (x : Result V WasmValueError). IsMade n x (Ok v)) (sym done) refl);

@@ -8,7 +8,7 @@ use Rattle.wave_wasm.specs.Values.{Value}
 use Rattle.wave_lex.specs.Errors.{Diagnostic, Refusal}
 use Rattle.wave_lex.specs.declared.error.ParserErrorKind.TheVariants.{OutOfMemory}
 use Rattle.wave_grammar.specs.Token.{Token}
-use Rattle.wave_grammar.specs.SpannedTree.{Placed}
+use Rattle.wave_grammar.specs.SpannedTree.{SpannedTree}
 use Rattle.wave_grammar.specs.StringAssembly.{WantsMemory}
 use Rattle.wave_grammar.specs.FaultOrder.{Order}
 use Rattle.wave_grammar.specs.NodeTree.{NodeTree, place_of}
@@ -25,7 +25,7 @@ memory_kind : (p : Range ℕ) (e : Diagnostic) → WantsMemory p e → e.kind �
 memory_kind p e wants = ap (λ (r : Refusal). r.kind) wants.is
 
 -- the refusal of a string blames its tree
-pub told_blame : {Q : Type 0} (Full : TypeTree → Type 0) (o w : Order) (source : List ℕ) (n : NodeTree) (t : Placed) (e : Diagnostic) → placed_of source n ≡ Some t → RefusesString source n e ⊎ WantsMemory (place_of n) e × Q → IsBlamed Full o w (type.simple type.string) t e
+pub told_blame : {Q : Type 0} (Full : TypeTree → Type 0) (o w : Order) (source : List ℕ) (n : NodeTree) (t : SpannedTree) (e : Diagnostic) → placed_of source n ≡ Some t → RefusesString source n e ⊎ WantsMemory (place_of n) e × Q → IsBlamed Full o w (type.simple type.string) t e
 told_blame Full o w source n t e is (inl h) = string_blame Full o w (type.simple type.string) source n t e refl is h
 told_blame Full o w source n t e is (inr (wants, far)) = inl (memory_kind (place_of n) e wants)
 

@@ -20,9 +20,9 @@ use Rattle.wave_read.specs.KeptParts.{AreKeptWhereDue, AreOfType}
 use Rattle.wave_grammar.specs.NodeParts.{IsOfParts}
 use Rattle.wave_read.specs.PartsOfKinds.{AreDoomedAtOnce, IsSimpleAt, AreParts}
 use Rattle.wave_read.specs.TupleParts.{IsRow}
-use Rattle.wave_read.specs.declared.parts.Parts.TheVariants as parts
-use Rattle.wave_read.specs.declared.tuples.Row.{Row}
-use Rattle.wave_read.specs.declared.values.Kept.{Kept}
+use Rattle.wave_read.specs.declared.parts.Partial.TheVariants as parts
+use Rattle.wave_read.specs.declared.tuples.TupleItems.{TupleItems}
+use Rattle.wave_read.specs.declared.values.Frame.{Frame}
 use Rattle.wave_read.proofs.FlatReading.{flat_refused}
 use Rattle.wave_read.proofs.TupleItems.{count_refused}
 
@@ -36,14 +36,14 @@ pub told_same : (cause : WasmValueError) (e f : Diagnostic) → (IsSomeAnd (kept
 told_same cause e f one is (inl same) = same
 told_same cause e f one is (inr memory) = absurd (one (subst (λ (o : Option WasmValueError). IsSomeAnd o HasTwoTexts) is memory.2))
 
-module _ {S V : Type 0} (type_tree : S → TypeTree) (tree : V → Value) (of : V → TypeTree → Type 0) (Full : TypeTree → Type 0) (w : Order) (source : List ℕ) (place : Range ℕ) (children : List NodeTree) (row : Row S V) (e : Diagnostic) where
+module _ {S V : Type 0} (type_tree : S → TypeTree) (tree : V → Value) (of : V → TypeTree → Type 0) (Full : TypeTree → Type 0) (w : Order) (source : List ℕ) (place : Range ℕ) (children : List NodeTree) (row : TupleItems S V) (e : Diagnostic) where
   row_told : (T : TypeTree) (ty : NodeType) → (ty ≡ kind.Tuple) × IsRow type_tree tree of Full w T source [] row → length children ≢ length row.types.items → refusal_of e ≡ caused (wrong_number (length row.types.items) (length children)) → e.span ≡ place → IsReadAs tree of Full by_type w T source (node ty place (node_trees children)) (Err e)
   row_told T ty (is, h) apart refused stands =
       subst (λ (k : NodeType). IsReadAs tree of Full by_type w T source (node k place (node_trees children)) (Err e)) (sym is)
       (count_refused tree of Full by_type w T (shown_all type_tree row.types.items) source place children (length row.types.items) (length children) e h.kind h.parts (sym (as_shown type_tree row.types.items)) refl apart (λ Ts is distinct items nodes. tt) refused stands)
 
   -- where no part was read yet, another number of items than of types is told of the whole
-  pub count_told : HasFullParts Full → (due : Option TypeTree) (ty : NodeType) (x : Kept S V) → x.parts ≡ parts.Row row → length children ≢ length row.types.items → refusal_of e ≡ caused (wrong_number (length row.types.items) (length children)) → e.span ≡ place → AreKeptWhereDue type_tree tree of Full w due source ty [] x → IsReadSparing tree of Full by_type w due source (node ty place (node_trees children)) (Err e)
+  pub count_told : HasFullParts Full → (due : Option TypeTree) (ty : NodeType) (x : Frame S V) → x.parts ≡ parts.TupleItems row → length children ≢ length row.types.items → refusal_of e ≡ caused (wrong_number (length row.types.items) (length children)) → e.span ≡ place → AreKeptWhereDue type_tree tree of Full w due source ty [] x → IsReadSparing tree of Full by_type w due source (node ty place (node_trees children)) (Err e)
   count_told full None ty x is apart refused stands bare = (tt, tt)
   count_told full (Some T) ty x is apart refused stands h = (
     by x.around h.0,
@@ -56,9 +56,9 @@ module _ {S V : Type 0} (type_tree : S → TypeTree) (tree : V → Value) (of : 
           flat_refused tree of Full by_type w T h.1.0 source (node ty place (node_trees children)) e full h.1.1
           (row_told h.1.0 ty (subst (AreParts type_tree tree of Full w h.1.0 source ty []) is h.1.2) apart refused stands)
 
-module _ {S V : Type 0} (type_tree : S → TypeTree) (tree : V → Value) (of : V → TypeTree → Type 0) (Full : TypeTree → Type 0) (place : Range ℕ) (count : ℕ) (row : Row S V) (x : Kept S V) where
+module _ {S V : Type 0} (type_tree : S → TypeTree) (tree : V → Value) (of : V → TypeTree → Type 0) (Full : TypeTree → Type 0) (place : Range ℕ) (count : ℕ) (row : TupleItems S V) (x : Frame S V) where
   -- so it is where it is told
-  pub count_answered : (r : Option Diagnostic) → HasFullParts Full → x.parts ≡ parts.Row row → MatchOption r (count ≡ length row.types.items) (λ _. count ≢ length row.types.items) → IfSome r (λ e. refusal_of e ≡ caused (wrong_number (length row.types.items) count)) → IfSome r (λ e. e.span ≡ place)
+  pub count_answered : (r : Option Diagnostic) → HasFullParts Full → x.parts ≡ parts.TupleItems row → MatchOption r (count ≡ length row.types.items) (λ _. count ≢ length row.types.items) → IfSome r (λ e. refusal_of e ≡ caused (wrong_number (length row.types.items) count)) → IfSome r (λ e. e.span ≡ place)
       → IfSome r (λ e. (w : Order) (due : Option TypeTree) (source : List ℕ) (ty : NodeType) (children : List NodeTree) → IsOfParts ty → length children ≡ count → AreKeptWhereDue type_tree tree of Full w due source ty [] x
       → ((T : TypeTree) → due ≡ Some T → AreDoomedAtOnce type_tree tree of Full T ty x.parts) → IsReadSparing tree of Full by_type w due source (node ty place (node_trees children)) (Err e))
   count_answered None full is apart refused stands = tt

@@ -15,7 +15,7 @@ use Rattle.wave_wasm.specs.declared.wasm.WasmTypeKind.TheVariants as kinds
 use Rattle.wave_wasm.specs.declared.wasm.WasmValueError.{WasmValueError}
 use Rattle.wave_lex.specs.Errors.{Diagnostic, Refusal, refusal_of, caused}
 use Rattle.wave_lex.specs.declared.error.ParserErrorKind.TheVariants.{InvalidType, OutOfMemory}
-use Rattle.wave_grammar.specs.SpannedTree.{Placed}
+use Rattle.wave_grammar.specs.SpannedTree.{SpannedTree}
 use Rattle.wave_grammar.specs.NodeTree.{NodeTree, node, node_trees, type_of, children_of}
 use Rattle.wave_grammar.specs.NodeAccessors.{RefusedAs}
 use Rattle.wave_grammar.specs.TypedReading.{IsMade, IsBlamed}
@@ -62,7 +62,7 @@ module _ {V : Type 0} (tree : V → Value) (of : V → TypeTree → Type 0) (Ful
   -- ---- the first fault of an item
 
   -- items that were read have no fault
-  pub items_fine : (Ts : Types) (source : List ℕ) (ns : List NodeTree) (vs : List V) (ts : List Placed) → AllOf HasDistinctNames (type_list Ts) → AreReadEach tree of Full w (type_list Ts) source ns vs → AreNodesOf source ns ts → BlamesNothing (FirstItem w Ts ts)
+  pub items_fine : (Ts : Types) (source : List ℕ) (ns : List NodeTree) (vs : List V) (ts : List SpannedTree) → AllOf HasDistinctNames (type_list Ts) → AreReadEach tree of Full w (type_list Ts) source ns vs → AreNodesOf source ns ts → BlamesNothing (FirstItem w Ts ts)
   items_fine type.no_types source ns vs ts distinct h nodes k q fault = fault
   items_fine (type.type_and T more) source [] vs [] distinct h nodes k q fault = fault
   items_fine (type.type_and T more) source [] vs (t ∷ ts) distinct h nodes k q fault = absurd nodes
@@ -72,7 +72,7 @@ module _ {V : Type 0} (tree : V → Value) (of : V → TypeTree → Type 0) (Ful
   items_fine (type.type_and T more) source (n ∷ ns) (v ∷ vs) (t ∷ ts) distinct h nodes k q (inr fault) = items_fine more source ns vs ts distinct.1 h.1 nodes.1 k q fault.1
 
   -- the refusal of the next item is the first
-  next_blamed : (Ts : Types) (source : List ℕ) (ns : List NodeTree) (vs : List V) (n : NodeTree) (more : List NodeTree) (ts : List Placed) (E : TypeTree) (e : Diagnostic) → AllOf HasDistinctNames (type_list Ts) → AreReadEach tree of Full w (type_list Ts) source ns vs → HasAt (type_list Ts) (length ns) E → IsReadAs tree of Full w w E source n (Err e) → AreNodesOf source ((ns ++ n ∷ []) ++ more) ts → ItemsBlamed tree of Full o w Ts ts e
+  next_blamed : (Ts : Types) (source : List ℕ) (ns : List NodeTree) (vs : List V) (n : NodeTree) (more : List NodeTree) (ts : List SpannedTree) (E : TypeTree) (e : Diagnostic) → AllOf HasDistinctNames (type_list Ts) → AreReadEach tree of Full w (type_list Ts) source ns vs → HasAt (type_list Ts) (length ns) E → IsReadAs tree of Full w w E source n (Err e) → AreNodesOf source ((ns ++ n ∷ []) ++ more) ts → ItemsBlamed tree of Full o w Ts ts e
   next_blamed type.no_types source ns vs n more ts E e distinct h due refused nodes = absurd due
   next_blamed (type.type_and T rest) source [] vs n more [] E e distinct h due refused nodes = absurd nodes
   next_blamed (type.type_and T rest) source [] vs n more (t ∷ ts) E e distinct h due refused nodes =
@@ -149,7 +149,7 @@ module _ {V : Type 0} (tree : V → Value) (of : V → TypeTree → Type 0) (Ful
 
   -- ---- the whole
 
-  each_placed : (parts : List TypeTree) (source : List ℕ) (ns : List NodeTree) (ts : List Placed) (vs : List V) → AllOf HasDistinctNames parts → length ns ≡ length parts → AreNodesOf source ns ts → AreReadEach tree of Full w parts source ns vs → ReadAt tree of Full o w (take (length ns) parts) (take (length ns) ts) vs
+  each_placed : (parts : List TypeTree) (source : List ℕ) (ns : List NodeTree) (ts : List SpannedTree) (vs : List V) → AllOf HasDistinctNames parts → length ns ≡ length parts → AreNodesOf source ns ts → AreReadEach tree of Full w parts source ns vs → ReadAt tree of Full o w (take (length ns) parts) (take (length ns) ts) vs
   each_placed [] source [] [] [] distinct many nodes h = tt
   each_placed [] source [] [] (v ∷ vs) distinct many nodes h = absurd h
   each_placed parts source [] (t ∷ ts) vs distinct many nodes h = absurd nodes
@@ -160,7 +160,7 @@ module _ {V : Type 0} (tree : V → Value) (of : V → TypeTree → Type 0) (Ful
   each_placed (T ∷ Ts) source (n ∷ ns) (t ∷ ts) (v ∷ vs) distinct many nodes h = (h.0.answer t nodes.0 distinct.0, each_placed Ts source ns ts vs distinct.1 (omega (arith, many)) nodes.1 h.1)
 
   -- another number of items than of types
-  pub count_refused : (T : TypeTree) (parts : List TypeTree) (source : List ℕ) (p : Range ℕ) (ns : List NodeTree) (want count : ℕ) (e : Diagnostic) → kind_of T ≡ kinds.Tuple → parts ≡ tuple_parts T → want ≡ length parts → count ≡ length ns → count ≢ want → ((Ts : Types) → parts ≡ type_list Ts → AllOf HasDistinctNames (type_list Ts) → (items : List Placed) → AreNodesOf source ns items → ItemsFine o w Ts items) → refusal_of e ≡ caused (wrong_number want count) → e.span ≡ p → IsReadAs tree of Full o w T source (node kind.Tuple p (node_trees ns)) (Err e)
+  pub count_refused : (T : TypeTree) (parts : List TypeTree) (source : List ℕ) (p : Range ℕ) (ns : List NodeTree) (want count : ℕ) (e : Diagnostic) → kind_of T ≡ kinds.Tuple → parts ≡ tuple_parts T → want ≡ length parts → count ≡ length ns → count ≢ want → ((Ts : Types) → parts ≡ type_list Ts → AllOf HasDistinctNames (type_list Ts) → (items : List SpannedTree) → AreNodesOf source ns items → ItemsFine o w Ts items) → refusal_of e ≡ caused (wrong_number want count) → e.span ≡ p → IsReadAs tree of Full o w T source (node kind.Tuple p (node_trees ns)) (Err e)
   count_refused T parts source p ns want count e tuples parts_are wanted many apart fine says place =
       let m : NodeTree = node kind.Tuple p (node_trees ns) in
       let is : TupleType T parts = tuple_is T parts (sym tuples) parts_are in

@@ -10,37 +10,37 @@ use Rattle.wave_grammar.specs.declared.form.NodeType.{NodeType}
 use Rattle.wave_read.specs.PlainReading.{IsPlain, TakesMemory}
 use Rattle.wave_read.specs.Flat.{IsFlatAt}
 use Rattle.wave_read.specs.PartsOfKinds.{AreParts, IsBare, IsSimpleAt, next_due}
-use Rattle.wave_read.specs.declared.parts.Parts.{Parts}
-use Rattle.wave_read.specs.declared.parts.Parts.TheVariants as parts
-use Rattle.wave_read.specs.declared.values.Kept.{Kept}
+use Rattle.wave_read.specs.declared.parts.Partial.{Partial}
+use Rattle.wave_read.specs.declared.parts.Partial.TheVariants as parts
+use Rattle.wave_read.specs.declared.values.Frame.{Frame}
 
 module _ {S V : Type 0} (type_tree : S → TypeTree) (tree : V → Value) (of : V → TypeTree → Type 0) (Full : TypeTree → Type 0) (w : Order) where
   -- the parts of a value of the type; or, where this option or result is around it, those of its flat payload
-  abbrev pub AreOfType : TypeTree → List ℕ → NodeType → List NodeTree → Option (Bor S) → Kept S V → Type 0
+  abbrev pub AreOfType : TypeTree → List ℕ → NodeType → List NodeTree → Option (Bor S) → Frame S V → Type 0
   AreOfType T source ty children None kept = AreParts type_tree tree of Full w T source ty children kept.parts
   AreOfType T source ty children (Some x) kept =
       (type_tree x.now ≡ T) × ((U : TypeTree) × IsFlatAt T ty U × AreParts type_tree tree of Full w U source ty children kept.parts)
 
-  abbrev pub AreKept : TypeTree → List ℕ → NodeType → List NodeTree → Kept S V → Type 0
+  abbrev pub AreKept : TypeTree → List ℕ → NodeType → List NodeTree → Frame S V → Type 0
   AreKept T source ty children kept = AreOfType T source ty children kept.around kept
 
   -- so of the type that is due; where it is a plain one or none is due, nothing is kept
-  abbrev pub AreKeptWhereDue : Option TypeTree → List ℕ → NodeType → List NodeTree → Kept S V → Type 0
+  abbrev pub AreKeptWhereDue : Option TypeTree → List ℕ → NodeType → List NodeTree → Frame S V → Type 0
   AreKeptWhereDue None source ty children kept = IsBare kept.parts
   AreKeptWhereDue (Some T) source ty children kept = AreKept T source ty children kept × (IsPlain T → IsSimpleAt type_tree T kept.parts)
 
   -- where nothing is kept, nothing is due
-  none_next : (x : Parts S V) → IsBare x → TakesMemory (shown type_tree (next_due x)) → ⊥
+  none_next : (x : Partial S V) → IsBare x → TakesMemory (shown type_tree (next_due x)) → ⊥
   none_next (parts.Faulty f) bare takes = takes
   none_next (parts.Simple y) bare takes = takes
   none_next _ bare takes = absurd bare
 
-  simple_next : (T : TypeTree) (x : Parts S V) → IsSimpleAt type_tree T x → TakesMemory (shown type_tree (next_due x)) → ⊥
+  simple_next : (T : TypeTree) (x : Partial S V) → IsSimpleAt type_tree T x → TakesMemory (shown type_tree (next_due x)) → ⊥
   simple_next T (parts.Simple y) simple takes = takes
   simple_next T _ simple takes = absurd simple
 
   -- where memory is taken for the parts of the next part, it is taken for parts
-  pub next_takes : (due : Option TypeTree) (source : List ℕ) (ty : NodeType) (children : List NodeTree) (kept : Kept S V)
+  pub next_takes : (due : Option TypeTree) (source : List ℕ) (ty : NodeType) (children : List NodeTree) (kept : Frame S V)
       → AreKeptWhereDue due source ty children kept → TakesMemory (shown type_tree (next_due kept.parts)) → TakesMemory due
   next_takes None source ty children kept bare takes = none_next kept.parts bare takes
   next_takes (Some T) source ty children kept are takes = λ plain. simple_next T kept.parts (are.1 plain) takes

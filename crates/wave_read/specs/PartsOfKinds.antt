@@ -18,8 +18,8 @@ use Rattle.wave_read.specs.Payloads.{AreOfSome, AreOfResult, result_node, some_d
 use Rattle.wave_read.specs.ListParts.{AreItems, element_due}
 use Rattle.wave_read.specs.RecordParts.{AreFields, type_due}
 use Rattle.wave_read.specs.TupleParts.{IsRow, item_due}
-use Rattle.wave_read.specs.declared.parts.Parts.{Parts}
-use Rattle.wave_read.specs.declared.parts.Parts.TheVariants as parts
+use Rattle.wave_read.specs.declared.parts.Partial.{Partial}
+use Rattle.wave_read.specs.declared.parts.Partial.TheVariants as parts
 
 -- at the type `{}` spells a value
 abbrev pub TakesEmptySet : TypeTree → Type 0
@@ -28,25 +28,25 @@ TakesEmptySet (type.map K W) = Unit {0}
 TakesEmptySet _ = ⊥
 
 -- of these parts nothing is kept
-abbrev pub IsBare : {S V : Type 0} → Parts S V → Type 0
+abbrev pub IsBare : {S V : Type 0} → Partial S V → Type 0
 IsBare (parts.Faulty f) = Unit {0}
 IsBare (parts.Simple x) = Unit {0}
 IsBare _ = ⊥
 
 -- parts of a value of this type, of which nothing is kept and that have no fault
-abbrev pub IsSimpleAt : {S V : Type 0} → (S → TypeTree) → TypeTree → Parts S V → Type 0
+abbrev pub IsSimpleAt : {S V : Type 0} → (S → TypeTree) → TypeTree → Partial S V → Type 0
 IsSimpleAt type_tree T (parts.Simple x) = type_tree x.now ≡ T
 IsSimpleAt type_tree T _ = ⊥
 
 -- parts of a value that is no list
-abbrev pub AreNoItems : {S V : Type 0} → Parts S V → Type 0
+abbrev pub AreNoItems : {S V : Type 0} → Partial S V → Type 0
 AreNoItems (parts.Items x) = ⊥
 AreNoItems _ = Unit {0}
 
 -- the type of the value that comes next
-abbrev pub next_due : {S V : Type 0} → Parts S V → Option (Bor S)
+abbrev pub next_due : {S V : Type 0} → Partial S V → Option (Bor S)
 next_due (parts.Items x) = element_due x
-next_due (parts.Row x) = item_due x
+next_due (parts.TupleItems x) = item_due x
 next_due (parts.OfSome x) = some_due x
 next_due (parts.OfResult x) = result_due x
 next_due (parts.OfCase x) = payload_due x
@@ -56,12 +56,12 @@ next_due _ = None
 
 module _ {S V : Type 0} (type_tree : S → TypeTree) (tree : V → Value) (of : V → TypeTree → Type 0) (Full : TypeTree → Type 0) (w : Order) where
   -- these parts were read of the first children of a node of this type
-  abbrev pub AreParts : TypeTree → List ℕ → NodeType → List NodeTree → Parts S V → Type 0
+  abbrev pub AreParts : TypeTree → List ℕ → NodeType → List NodeTree → Partial S V → Type 0
   AreParts T source ty children (parts.Faulty f) = IsDoomed tree of Full in_text w T source ty children f
   AreParts T source ty children (parts.Simple x) = (type_tree x.now ≡ T) × IsSimpleOrUnreadable T × IsOfParts ty
   AreParts T source ty children (parts.Empty x) = (ty ≡ kind.EmptySet) × (children ≡ []) × (type_tree x.now ≡ T) × TakesEmptySet T
   AreParts T source ty children (parts.Items x) = (ty ≡ kind.List) × AreItems type_tree tree of Full w T source children x
-  AreParts T source ty children (parts.Row x) = (ty ≡ kind.Tuple) × IsRow type_tree tree of Full w T source children x
+  AreParts T source ty children (parts.TupleItems x) = (ty ≡ kind.Tuple) × IsRow type_tree tree of Full w T source children x
   AreParts T source ty children (parts.OfSome x) = (ty ≡ kind.OptionSome) × AreOfSome type_tree tree of Full w T source children x
   AreParts T source ty children (parts.OfResult x) = (ty ≡ result_node x.is_ok) × AreOfResult type_tree tree of Full w T source children x
   AreParts T source ty children (parts.OfCase x) = (ty ≡ kind.VariantWithPayload) × AreCaseParts type_tree tree of Full w T source children x
@@ -70,11 +70,11 @@ module _ {S V : Type 0} (type_tree : S → TypeTree) (tree : V → Value) (of : 
 
 module _ {S V : Type 0} (type_tree : S → TypeTree) (tree : V → Value) (of : V → TypeTree → Type 0) (Full : TypeTree → Type 0) where
   -- where they have a fault already, it is a refusal of this kind of the whole value, in whatever order
-  abbrev pub AreDoomedAtOnce : TypeTree → NodeType → Parts S V → Type 0
+  abbrev pub AreDoomedAtOnce : TypeTree → NodeType → Partial S V → Type 0
   AreDoomedAtOnce T ty x =
       (f : Fault) → x ≡ parts.Faulty f → IsOfKind f × ((o w : Order) (source : List ℕ) → IsOfParts ty → IsDoomed tree of Full o w T source ty [] f)
 
   -- the parts of a value at a node of this type with parts, before the first of them
-  pub record AreNoPartsYet (T : TypeTree) (ty : NodeType) (x : Parts S V) : Type 0 where
+  pub record AreNoPartsYet (T : TypeTree) (ty : NodeType) (x : Partial S V) : Type 0 where
     pub begun : (w : Order) (source : List ℕ) → IsOfParts ty → AreParts type_tree tree of Full w T source ty [] x
     pub doomed : AreDoomedAtOnce T ty x

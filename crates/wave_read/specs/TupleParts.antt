@@ -9,10 +9,10 @@ use Rattle.wave_wasm.specs.Borrowed.{shown_all}
 use Rattle.wave_grammar.specs.FaultOrder.{Order}
 use Rattle.wave_grammar.specs.NodeTree.{NodeTree}
 use Rattle.wave_read.specs.Reading.{IsReadAs}
-use Rattle.wave_read.specs.declared.tuples.Row.{Row}
+use Rattle.wave_read.specs.declared.tuples.TupleItems.{TupleItems}
 
 -- the type of the item that comes next
-abbrev pub item_due : {S V : Type 0} → Row S V → Option (Bor S)
+abbrev pub item_due : {S V : Type 0} → TupleItems S V → Option (Bor S)
 item_due x = slice_get x.types.items (length x.items.items)
 
 module _ {V : Type 0} (tree : V → Value) (of : V → TypeTree → Type 0) (Full : TypeTree → Type 0) (w : Order) where
@@ -25,7 +25,7 @@ module _ {V : Type 0} (tree : V → Value) (of : V → TypeTree → Type 0) (Ful
 
 module _ {S V : Type 0} (type_tree : S → TypeTree) (tree : V → Value) (of : V → TypeTree → Type 0) (Full : TypeTree → Type 0) (w : Order) where
   -- what was read of these nodes, at a type of tuples
-  pub record IsRow (T : TypeTree) (source : List ℕ) (children : List NodeTree) (x : Row S V) : Type 0 where
+  pub record IsRow (T : TypeTree) (source : List ℕ) (children : List NodeTree) (x : TupleItems S V) : Type 0 where
     pub is : type_tree x.ty.now ≡ T
     pub kind : kind_of T ≡ kinds.Tuple
     pub parts : shown_all type_tree x.types.items ≡ tuple_parts T

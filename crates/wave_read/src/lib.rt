@@ -4,6 +4,7 @@
 
 mod enums;
 pub mod failure;
+mod fast;
 pub mod fault;
 mod flags;
 mod flat;
@@ -17,7 +18,6 @@ mod parts;
 pub mod records;
 mod results;
 mod simple;
-mod soon;
 mod texts;
 mod tuples;
 pub mod values;

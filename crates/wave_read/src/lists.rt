@@ -61,7 +61,7 @@ impl<'ty, V: WasmValue> Items<'ty, V::Type, V> {
 
     /// Adds an item, which was read at the type that is due.
     #[inline(always)]
-    pub(crate) fn with_part(
+    pub(crate) fn push_part(
         &mut self,
         alloc: Global,
         made: Result<V, Failure>,

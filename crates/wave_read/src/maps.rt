@@ -54,7 +54,7 @@ impl<'ty, V: WasmValue> Entries<'ty, V::Type, V> {
     }
 
     /// Adds a key, which is of this type and text; or what is wrong with the map.
-    pub(crate) fn with_key(
+    pub(crate) fn push_key(
         &mut self,
         alloc: Global,
         ty: NodeType,
@@ -77,7 +77,7 @@ impl<'ty, V: WasmValue> Entries<'ty, V::Type, V> {
     }
 
     /// Adds the value after the last key, which was read at the type that is due.
-    pub(crate) fn with_part(&mut self, val: V) -> Result<(), AllocError>
+    pub(crate) fn push_part(&mut self, val: V) -> Result<(), AllocError>
         ensures { IfOk result (λ _. AddsPart AreEntries V.Type.tree V.tree V.is_of V.is_full NodeType.TupleSet value_type_due self.old (Ok val) self.new None) }
     {
         if let Some(key) = self.key.take() {

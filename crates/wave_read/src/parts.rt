@@ -12,7 +12,7 @@ ghost use Rattle.wave_read.specs.Reading.{IsReadAs, IsReadWhereDue, IsReadOfForm
 ghost use Rattle.wave_lex.specs.Errors.{Says};
 ghost use Rattle.wave_read.specs.Flat.{IsFlatAt};
 ghost use Rattle.wave_read.specs.PartsOfKinds.{AreParts, AreNoItems, IsBare, IsSimpleAt, TakesEmptySet, next_due, AreNoPartsYet};
-ghost use Rattle.wave_read.specs.declared.parts.Parts.TheVariants as parts;
+ghost use Rattle.wave_read.specs.declared.parts.Partial.TheVariants as parts;
 ghost use Rattle.wave_read.specs.declared.fault.Fault.TheVariants as fault;
 ghost use Rattle.wave_lex.specs.declared.error.ParserErrorKind.TheVariants as why;
 ghost use Rattle.wave_grammar.specs.declared.form.NodeType.TheVariants as node_type;
@@ -26,7 +26,7 @@ use crate::maps::{Entries, read_no_entries};
 use crate::options::SomePayload;
 use crate::records::Fields;
 use crate::results::ResultPayload;
-use crate::tuples::Row;
+use crate::tuples::TupleItems;
 use crate::variants::CasePayload;
 use std::alloc::{AllocError, Global};
 use wave_grammar::form::NodeType;
@@ -36,7 +36,7 @@ use wave_wasm::wasm::{WasmType, WasmTypeKind, WasmValue};
 
 /// What has been read of the parts of a value, at its type.
 #[derive(Drop)]
-pub enum Parts<'ty, T, V> {
+pub enum Partial<'ty, T, V> {
     /// The value has this fault, whatever its parts are.
     Faulty(Fault),
     /// Parts of a value of this type, which is a simple one or has no values.
@@ -46,7 +46,7 @@ pub enum Parts<'ty, T, V> {
     /// The items of a list.
     Items(Items<'ty, T, V>),
     /// The items of a tuple.
-    Row(Row<'ty, T, V>),
+    TupleItems(TupleItems<'ty, T, V>),
     /// The payload of `some`.
     OfSome(SomePayload<'ty, T, V>),
     /// The payload of `ok` or `err`.
@@ -59,7 +59,7 @@ pub enum Parts<'ty, T, V> {
     Entries(Entries<'ty, T, V>),
 }
 
-impl<'ty, V: WasmValue> Parts<'ty, V::Type, V> {
+impl<'ty, V: WasmValue> Partial<'ty, V::Type, V> {
     /// No parts yet, of a value of the type at a node of this one.
     #[inline(always)]
     pub(crate) fn new(alloc: Global, ty: &'ty V::Type, of: NodeType) -> Self
@@ -68,15 +68,15 @@ impl<'ty, V: WasmValue> Parts<'ty, V::Type, V> {
         ensures plain { IsPlain (V.Type.tree ty.now) → IsSimpleAt V.Type.tree (V.Type.tree ty.now) result }
     {
         match ty.kind() {
-            WasmTypeKind::List | WasmTypeKind::FixedLengthList => Parts::of_list(alloc, ty, of),
-            WasmTypeKind::Tuple => Parts::of_tuple(alloc, ty, of),
-            WasmTypeKind::Record => Parts::of_record(alloc, ty, of),
-            WasmTypeKind::Map => Parts::of_map(alloc, ty, of),
-            WasmTypeKind::Flags => Parts::of_flags(ty, of),
-            WasmTypeKind::Variant => Parts::of_variant(ty, of),
-            WasmTypeKind::Enum => Parts::wrong_form(),
-            WasmTypeKind::Option => Parts::of_option(ty, of),
-            WasmTypeKind::Result => Parts::of_result(ty, of),
+            WasmTypeKind::List | WasmTypeKind::FixedLengthList => Partial::of_list(alloc, ty, of),
+            WasmTypeKind::Tuple => Partial::of_tuple(alloc, ty, of),
+            WasmTypeKind::Record => Partial::of_record(alloc, ty, of),
+            WasmTypeKind::Map => Partial::of_map(alloc, ty, of),
+            WasmTypeKind::Flags => Partial::of_flags(ty, of),
+            WasmTypeKind::Variant => Partial::of_variant(ty, of),
+            WasmTypeKind::Enum => Partial::wrong_form(),
+            WasmTypeKind::Option => Partial::of_option(ty, of),
+            WasmTypeKind::Result => Partial::of_result(ty, of),
             WasmTypeKind::Bool
             | WasmTypeKind::S8
             | WasmTypeKind::S16
@@ -90,7 +90,7 @@ impl<'ty, V: WasmValue> Parts<'ty, V::Type, V> {
             | WasmTypeKind::F64
             | WasmTypeKind::Char
             | WasmTypeKind::String
-            | WasmTypeKind::Unsupported => Parts::Simple(ty),
+            | WasmTypeKind::Unsupported => Partial::Simple(ty),
         }
     }
 
@@ -100,8 +100,8 @@ impl<'ty, V: WasmValue> Parts<'ty, V::Type, V> {
         ensures { AreNoPartsYet V.Type.tree V.tree V.is_of V.is_full (V.Type.tree ty.now) of result }
     {
         match of {
-            NodeType::List => Parts::Items(Items::new(alloc, ty)),
-            _ => Parts::wrong_form(),
+            NodeType::List => Partial::Items(Items::new(alloc, ty)),
+            _ => Partial::wrong_form(),
         }
     }
 
@@ -111,11 +111,11 @@ impl<'ty, V: WasmValue> Parts<'ty, V::Type, V> {
         ensures { AreNoPartsYet V.Type.tree V.tree V.is_of V.is_full (V.Type.tree ty.now) of result }
     {
         match of {
-            NodeType::Tuple => match Row::new(alloc, ty) {
-                Ok(row) => Parts::Row(row),
-                Err(error) => Parts::wanting(error),
+            NodeType::Tuple => match TupleItems::new(alloc, ty) {
+                Ok(row) => Partial::TupleItems(row),
+                Err(error) => Partial::out_of_memory(error),
             },
-            _ => Parts::wrong_form(),
+            _ => Partial::wrong_form(),
         }
     }
 
@@ -126,10 +126,10 @@ impl<'ty, V: WasmValue> Parts<'ty, V::Type, V> {
     {
         match of {
             NodeType::TupleSet => match Fields::new(alloc, ty) {
-                Ok(fields) => Parts::Fields(fields),
-                Err(error) => Parts::wanting(error),
+                Ok(fields) => Partial::Fields(fields),
+                Err(error) => Partial::out_of_memory(error),
             },
-            _ => Parts::wrong_form(),
+            _ => Partial::wrong_form(),
         }
     }
 
@@ -139,9 +139,9 @@ impl<'ty, V: WasmValue> Parts<'ty, V::Type, V> {
         ensures { AreNoPartsYet V.Type.tree V.tree V.is_of V.is_full (V.Type.tree ty.now) of result }
     {
         match of {
-            NodeType::TupleSet => Parts::Entries(Entries::new(alloc, ty)),
-            NodeType::EmptySet => Parts::Empty(ty),
-            _ => Parts::wrong_form(),
+            NodeType::TupleSet => Partial::Entries(Entries::new(alloc, ty)),
+            NodeType::EmptySet => Partial::Empty(ty),
+            _ => Partial::wrong_form(),
         }
     }
 
@@ -151,8 +151,8 @@ impl<'ty, V: WasmValue> Parts<'ty, V::Type, V> {
         ensures { AreNoPartsYet V.Type.tree V.tree V.is_of V.is_full (V.Type.tree ty.now) of result }
     {
         match of {
-            NodeType::EmptySet => Parts::Empty(ty),
-            _ => Parts::wrong_form(),
+            NodeType::EmptySet => Partial::Empty(ty),
+            _ => Partial::wrong_form(),
         }
     }
 
@@ -162,8 +162,8 @@ impl<'ty, V: WasmValue> Parts<'ty, V::Type, V> {
         ensures { AreNoPartsYet V.Type.tree V.tree V.is_of V.is_full (V.Type.tree ty.now) of result }
     {
         match of {
-            NodeType::VariantWithPayload => Parts::OfCase(CasePayload::new(ty)),
-            _ => Parts::wrong_form(),
+            NodeType::VariantWithPayload => Partial::OfCase(CasePayload::new(ty)),
+            _ => Partial::wrong_form(),
         }
     }
 
@@ -174,8 +174,8 @@ impl<'ty, V: WasmValue> Parts<'ty, V::Type, V> {
         ensures { AreNoPartsYet V.Type.tree V.tree V.is_of V.is_full (V.Type.tree ty.now) of result }
     {
         match of {
-            NodeType::OptionSome => Parts::OfSome(SomePayload::new(ty)),
-            _ => Parts::wrong_form(),
+            NodeType::OptionSome => Partial::OfSome(SomePayload::new(ty)),
+            _ => Partial::wrong_form(),
         }
     }
 
@@ -186,9 +186,9 @@ impl<'ty, V: WasmValue> Parts<'ty, V::Type, V> {
         ensures { AreNoPartsYet V.Type.tree V.tree V.is_of V.is_full (V.Type.tree ty.now) of result }
     {
         match of {
-            NodeType::ResultOk => Parts::OfResult(ResultPayload::new(ty, true)),
-            NodeType::ResultErr => Parts::OfResult(ResultPayload::new(ty, false)),
-            _ => Parts::wrong_form(),
+            NodeType::ResultOk => Partial::OfResult(ResultPayload::new(ty, true)),
+            NodeType::ResultErr => Partial::OfResult(ResultPayload::new(ty, false)),
+            _ => Partial::wrong_form(),
         }
     }
 
@@ -196,14 +196,14 @@ impl<'ty, V: WasmValue> Parts<'ty, V::Type, V> {
     fn wrong_form() -> Self
         ensures { result ≡ parts.Faulty (fault.Kind why.InvalidType) }
     {
-        Parts::Faulty(Fault::Kind(ParserErrorKind::InvalidType))
+        Partial::Faulty(Fault::Kind(ParserErrorKind::InvalidType))
     }
 
     /// Parts of a value whose type could not be asked for lack of memory.
-    fn wanting(error: AllocError) -> Self
+    fn out_of_memory(error: AllocError) -> Self
         ensures { result ≡ parts.Faulty (fault.Kind why.OutOfMemory) }
     {
-        Parts::Faulty(Fault::Kind(ParserErrorKind::OutOfMemory))
+        Partial::Faulty(Fault::Kind(ParserErrorKind::OutOfMemory))
     }
 
     /// The type of the value that comes next, where one is due.
@@ -211,19 +211,19 @@ impl<'ty, V: WasmValue> Parts<'ty, V::Type, V> {
         ensures { result ≡ next_due self.now }
     {
         match self {
-            Parts::Items(items) => items.next(),
-            Parts::Row(row) => row.next(),
-            Parts::OfSome(payload) => payload.next(),
-            Parts::OfResult(payload) => payload.next(),
-            Parts::OfCase(payload) => payload.next(),
-            Parts::Fields(fields) => fields.next(),
-            Parts::Entries(entries) => entries.next(),
+            Partial::Items(items) => items.next(),
+            Partial::TupleItems(row) => row.next(),
+            Partial::OfSome(payload) => payload.next(),
+            Partial::OfResult(payload) => payload.next(),
+            Partial::OfCase(payload) => payload.next(),
+            Partial::Fields(fields) => fields.next(),
+            Partial::Entries(entries) => entries.next(),
             _ => None,
         }
     }
 
     /// Adds a key or the label of a case.
-    pub(crate) fn with_key(
+    pub(crate) fn push_key(
         &mut self,
         alloc: Global,
         ty: NodeType,
@@ -236,9 +236,9 @@ impl<'ty, V: WasmValue> Parts<'ty, V::Type, V> {
         ensures bare { IsBare self.old → (self.new ≡ self.old) × IsOk result }
     {
         let found = match self {
-            Parts::OfCase(payload) => payload.with_key(alloc, ty, span, text)?,
-            Parts::Fields(fields) => fields.with_key(alloc, ty, span, text)?,
-            Parts::Entries(entries) => entries.with_key(alloc, ty, span, text)?,
+            Partial::OfCase(payload) => payload.push_key(alloc, ty, span, text)?,
+            Partial::Fields(fields) => fields.push_key(alloc, ty, span, text)?,
+            Partial::Entries(entries) => entries.push_key(alloc, ty, span, text)?,
             _ => None,
         };
         self.wrong(found);
@@ -248,7 +248,7 @@ impl<'ty, V: WasmValue> Parts<'ty, V::Type, V> {
     /// Adds the next value, which was read at the type that was due. An item of a list, of which there
     /// may be many, is added where this is called.
     #[inline(always)]
-    pub(crate) fn with_part(
+    pub(crate) fn push_part(
         &mut self,
         alloc: Global,
         made: Result<V, Failure>,
@@ -260,14 +260,14 @@ impl<'ty, V: WasmValue> Parts<'ty, V::Type, V> {
         ensures bare { IsBare self.old → (self.new ≡ self.old) × IsOk result }
     {
         match self {
-            Parts::Items(items) => items.with_part(alloc, made),
-            _ => self.with_other_part(alloc, made),
+            Partial::Items(items) => items.push_part(alloc, made),
+            _ => self.push_other_part(alloc, made),
         }
     }
 
     /// The same for the parts of a value that is no list.
     #[inline(never)]
-    fn with_other_part(&mut self, alloc: Global, made: Result<V, Failure>) -> Result<(), AllocError>
+    fn push_other_part(&mut self, alloc: Global, made: Result<V, Failure>) -> Result<(), AllocError>
         requires { AreNoItems self.now }
         ensures grown { IfOk result (λ _. (w : Order) (T : TypeTree) (source : List ℕ) (of : NodeType) (children : List NodeTree) (n : NodeTree)
             → TakesPart of children → AreParts V.Type.tree V.tree V.is_of V.is_full w T source of children self.old
@@ -277,21 +277,21 @@ impl<'ty, V: WasmValue> Parts<'ty, V::Type, V> {
     {
         let val = match made {
             Ok(val) => val,
-            Err(failure) => return self.with_refused(alloc, failure),
+            Err(failure) => return self.push_failed(alloc, failure),
         };
         match self {
-            Parts::Row(row) => row.with_part(val),
-            Parts::OfSome(payload) => payload.with_part(alloc, Ok(val)),
-            Parts::OfResult(payload) => payload.with_part(alloc, Ok(val)),
-            Parts::OfCase(payload) => {
-                payload.with_part(val);
+            Partial::TupleItems(row) => row.push_part(val),
+            Partial::OfSome(payload) => payload.push_part(alloc, Ok(val)),
+            Partial::OfResult(payload) => payload.push_part(alloc, Ok(val)),
+            Partial::OfCase(payload) => {
+                payload.push_part(val);
                 Ok(())
             }
-            Parts::Fields(fields) => {
-                fields.with_part(val);
+            Partial::Fields(fields) => {
+                fields.push_part(val);
                 Ok(())
             }
-            Parts::Entries(entries) => entries.with_part(val),
+            Partial::Entries(entries) => entries.push_part(val),
             _ => Ok(()),
         }
     }
@@ -299,7 +299,7 @@ impl<'ty, V: WasmValue> Parts<'ty, V::Type, V> {
     /// The same for a part that was refused.
     #[cold]
     #[inline(never)]
-    fn with_refused(&mut self, alloc: Global, failure: Failure) -> Result<(), AllocError>
+    fn push_failed(&mut self, alloc: Global, failure: Failure) -> Result<(), AllocError>
         requires { AreNoItems self.now }
         ensures grown { IfOk result (λ _. (w : Order) (T : TypeTree) (source : List ℕ) (of : NodeType) (children : List NodeTree) (n : NodeTree)
             → TakesPart of children → AreParts V.Type.tree V.tree V.is_of V.is_full w T source of children self.old
@@ -308,12 +308,12 @@ impl<'ty, V: WasmValue> Parts<'ty, V::Type, V> {
         ensures bare { IsBare self.old → (self.new ≡ self.old) × IsOk result }
     {
         let found = match self {
-            Parts::Row(row) => row.with_refused(failure)?,
-            Parts::OfSome(payload) => return payload.with_part(alloc, Err(failure)),
-            Parts::OfResult(payload) => return payload.with_part(alloc, Err(failure)),
-            Parts::OfCase(_) => Some(Fault::Told(failure)),
-            Parts::Fields(_) => Some(Fault::Told(failure)),
-            Parts::Entries(_) => Some(Fault::Told(failure)),
+            Partial::TupleItems(row) => row.push_failed(failure)?,
+            Partial::OfSome(payload) => return payload.push_part(alloc, Err(failure)),
+            Partial::OfResult(payload) => return payload.push_part(alloc, Err(failure)),
+            Partial::OfCase(_) => Some(Fault::Told(failure)),
+            Partial::Fields(_) => Some(Fault::Told(failure)),
+            Partial::Entries(_) => Some(Fault::Told(failure)),
             _ => None,
         };
         self.wrong(found);
@@ -326,7 +326,7 @@ impl<'ty, V: WasmValue> Parts<'ty, V::Type, V> {
         ensures { MatchOption found (self.new ≡ self.old) (λ f. self.new ≡ parts.Faulty f) }
     {
         if let Some(fault) = found {
-            *self = Parts::Faulty(fault);
+            *self = Partial::Faulty(fault);
         }
     }
 
@@ -338,16 +338,16 @@ impl<'ty, V: WasmValue> Parts<'ty, V::Type, V> {
         ensures plain { (T : TypeTree) → IsPlain T → IsSimpleAt V.Type.tree T self.entry → IfErr result (λ e. Says e why.InvalidType span None) }
     {
         match self {
-            Parts::Faulty(fault) => Err(fault.tell(span)),
-            Parts::Simple(ty) => refuse_simple(alloc, ty, span),
-            Parts::Empty(ty) => read_empty(alloc, ty, span),
-            Parts::Items(items) => items.whole(alloc, span),
-            Parts::Row(row) => row.whole(alloc, span),
-            Parts::OfSome(payload) => payload.whole(alloc, span),
-            Parts::OfResult(payload) => payload.whole(alloc, span),
-            Parts::OfCase(payload) => payload.whole(alloc, span),
-            Parts::Fields(fields) => fields.whole(alloc, span),
-            Parts::Entries(entries) => entries.whole(alloc, span),
+            Partial::Faulty(fault) => Err(fault.tell(span)),
+            Partial::Simple(ty) => refuse_simple(alloc, ty, span),
+            Partial::Empty(ty) => read_empty(alloc, ty, span),
+            Partial::Items(items) => items.whole(alloc, span),
+            Partial::TupleItems(row) => row.whole(alloc, span),
+            Partial::OfSome(payload) => payload.whole(alloc, span),
+            Partial::OfResult(payload) => payload.whole(alloc, span),
+            Partial::OfCase(payload) => payload.whole(alloc, span),
+            Partial::Fields(fields) => fields.whole(alloc, span),
+            Partial::Entries(entries) => entries.whole(alloc, span),
         }
     }
 }

@@ -169,7 +169,7 @@ impl<'ty, V: WasmValue> Fields<'ty, V::Type, V> {
     }
 
     /// Adds a key, which is of this type and text; or what is wrong with the record.
-    pub(crate) fn with_key(
+    pub(crate) fn push_key(
         &mut self,
         alloc: Global,
         ty: NodeType,
@@ -189,7 +189,7 @@ impl<'ty, V: WasmValue> Fields<'ty, V::Type, V> {
     }
 
     /// Adds the value after the last key, which was read at the type that is due.
-    pub(crate) fn with_part(&mut self, val: V)
+    pub(crate) fn push_part(&mut self, val: V)
         ensures { AddsPart AreFields V.Type.tree V.tree V.is_of V.is_full NodeType.TupleSet type_due self.old (Ok val) self.new None }
     {
         if let Some((i, _)) = self.due.take() {

@@ -58,7 +58,7 @@ impl<'ty, V: WasmValue> ResultPayload<'ty, V::Type, V> {
 
     /// The payload was read, or refused.
     #[inline(never)]
-    pub(crate) fn with_part(
+    pub(crate) fn push_part(
         &mut self,
         alloc: Global,
         made: Result<V, Failure>,

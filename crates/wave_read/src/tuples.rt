@@ -17,7 +17,7 @@ use wave_wasm::wasm::{WasmType, WasmTypeKind, WasmValue, WasmValueError};
 
 /// The items of a tuple so far. Items beyond those that the type has are counted and not kept.
 #[derive(Drop)]
-pub struct Row<'ty, T, V> {
+pub struct TupleItems<'ty, T, V> {
     /// The type of the tuple.
     ty: &'ty T,
     /// The types of its items.
@@ -28,7 +28,7 @@ pub struct Row<'ty, T, V> {
     count: usize,
 }
 
-impl<'ty, V: WasmValue> Row<'ty, V::Type, V> {
+impl<'ty, V: WasmValue> TupleItems<'ty, V::Type, V> {
     /// No items, of a tuple of the type.
     pub(crate) fn new(alloc: Global, ty: &'ty V::Type) -> Result<Self, AllocError>
         requires { kind_of (V.Type.tree ty.now) ≡ WasmTypeKind.Tuple }
@@ -36,7 +36,7 @@ impl<'ty, V: WasmValue> Row<'ty, V::Type, V> {
     {
         let types = ty.tuple_element_types(alloc)?;
         let items = Vec::with_capacity(alloc, types.len())?;
-        Ok(Row {
+        Ok(TupleItems {
             ty,
             types,
             items,
@@ -55,7 +55,7 @@ impl<'ty, V: WasmValue> Row<'ty, V::Type, V> {
     }
 
     /// Adds an item, which was read at the type that is due.
-    pub(crate) fn with_part(&mut self, item: V) -> Result<(), AllocError>
+    pub(crate) fn push_part(&mut self, item: V) -> Result<(), AllocError>
         ensures { IfOk result (λ _. AddsPart IsRow V.Type.tree V.tree V.is_of V.is_full NodeType.Tuple item_due self.old (Ok item) self.new None) }
     {
         match self.count.checked_add(1) {
@@ -73,7 +73,7 @@ impl<'ty, V: WasmValue> Row<'ty, V::Type, V> {
     /// Counts an item that was refused, and answers what is wrong with the tuple where it was due.
     #[cold]
     #[inline(never)]
-    pub(crate) fn with_refused(&mut self, failure: Failure) -> Result<Option<Fault>, AllocError>
+    pub(crate) fn push_failed(&mut self, failure: Failure) -> Result<Option<Fault>, AllocError>
         ensures { IfOk result (AddsPart IsRow V.Type.tree V.tree V.is_of V.is_full NodeType.Tuple item_due self.old (Err failure) self.new) }
     {
         match self.count.checked_add(1) {
@@ -105,7 +105,7 @@ impl<'ty, V: WasmValue> Row<'ty, V::Type, V> {
     pub(crate) fn whole(self, alloc: Global, span: Span) -> Result<V, ParserError>
         ensures { IsWholeOf IsRow V.Type.tree V.tree V.is_of V.is_full NodeType.Tuple self.entry span result }
     {
-        let Row {
+        let TupleItems {
             ty,
             types,
             items,

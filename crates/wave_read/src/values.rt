@@ -20,7 +20,7 @@ use crate::fault::Fault;
 use crate::flat::{around, type_of_parts};
 use crate::leaf::Leaf;
 use crate::leaves::{flags_at, read_leaf, refuse_flags};
-use crate::parts::Parts;
+use crate::parts::Partial;
 use std::alloc::{AllocError, Global};
 use std::collections::BTreeMap;
 use wave_grammar::builder::Builder;
@@ -32,16 +32,16 @@ use wave_wasm::wasm::{WasmType, WasmTypeKind, WasmValue};
 /// The builder that reads a value of the type that is due. Where none is due nothing is kept, and the
 /// answer is worth nothing.
 #[derive_where(Clone, Copy)]
-pub struct Values<'ty, V: WasmValue> {
+pub struct ValueBuilder<'ty, V: WasmValue> {
     due: Option<&'ty V::Type>,
 }
 
-impl<'ty, V: WasmValue> Values<'ty, V> {
+impl<'ty, V: WasmValue> ValueBuilder<'ty, V> {
     /// The builder that reads a value of the type.
     pub fn new(ty: &'ty V::Type) -> Self
         ensures { result.due ≡ Some ty.entry }
     {
-        Values { due: Some(ty) }
+        ValueBuilder { due: Some(ty) }
     }
 
     /// The type of the record that is due at a node of entries, after the option or result that is
@@ -70,7 +70,7 @@ impl<'ty, V: WasmValue> Values<'ty, V> {
     {
         let leaf = Leaf { ty, span, text };
         match self.due {
-            Some(due) => match leaf.read_soon(alloc, due) {
+            Some(due) => match leaf.read_fast(alloc, due) {
                 Some(val) => Ok(val),
                 None => kept(alloc, read_leaf(&leaf, alloc, due)),
             },
@@ -109,16 +109,16 @@ impl<'ty, V: WasmValue> Values<'ty, V> {
 
     /// No parts yet, of a node of this type, which has parts.
     #[inline(always)]
-    pub fn begin(self, alloc: Global, ty: NodeType) -> Kept<'ty, V::Type, V>
+    pub fn begin(self, alloc: Global, ty: NodeType) -> Frame<'ty, V::Type, V>
         ensures begun { (w : Order) (source : List ℕ) → IsOfParts ty
             → AreKeptWhereDue V.Type.tree V.tree V.is_of V.is_full w (shown V.Type.tree self.entry.due) source ty [] result }
         ensures doomed { (T : TypeTree) → shown V.Type.tree self.entry.due ≡ Some T → AreDoomedAtOnce V.Type.tree V.tree V.is_of V.is_full T ty result.parts }
     {
         match self.due {
-            Some(due) => Kept::new(alloc, due, ty),
-            None => Kept {
+            Some(due) => Frame::new(alloc, due, ty),
+            None => Frame {
                 around: None,
-                parts: Parts::Faulty(Fault::Kind(ParserErrorKind::InvalidType)),
+                parts: Partial::Faulty(Fault::Kind(ParserErrorKind::InvalidType)),
             },
         }
     }
@@ -143,12 +143,12 @@ pub fn surrounded<V: WasmValue>(
 
 /// What has been read of the parts of a value, or of the flat payload that stands for the value.
 #[derive(Drop)]
-pub struct Kept<'ty, T, V> {
+pub struct Frame<'ty, T, V> {
     around: Option<&'ty T>,
-    parts: Parts<'ty, T, V>,
+    parts: Partial<'ty, T, V>,
 }
 
-impl<'ty, V: WasmValue> Kept<'ty, V::Type, V> {
+impl<'ty, V: WasmValue> Frame<'ty, V::Type, V> {
     /// No parts yet, of a value of the type at a node of this one.
     #[inline(always)]
     fn new(alloc: Global, ty: &'ty V::Type, of: NodeType) -> Self
@@ -157,9 +157,9 @@ impl<'ty, V: WasmValue> Kept<'ty, V::Type, V> {
         ensures doomed { AreDoomedAtOnce V.Type.tree V.tree V.is_of V.is_full (V.Type.tree ty.now) of result.parts }
     {
         let (around, due) = type_of_parts(ty, of);
-        Kept {
+        Frame {
             around,
-            parts: Parts::new(alloc, due, of),
+            parts: Partial::new(alloc, due, of),
         }
     }
 
@@ -175,23 +175,23 @@ impl<'ty, V: WasmValue> Kept<'ty, V::Type, V> {
             → AreDoomedAtOnce V.Type.tree V.tree V.is_of V.is_full T ty self.now.parts → IsCounted T ty count) }
     {
         match &self.parts {
-            Parts::Faulty(fault) => fault.of_kind(span),
-            Parts::Row(row) => row.miscounted(alloc, span, count),
+            Partial::Faulty(fault) => fault.of_kind(span),
+            Partial::TupleItems(row) => row.miscounted(alloc, span, count),
             _ => None,
         }
     }
 
     /// The builder of the part that comes next.
-    pub fn next(&self) -> Values<'ty, V>
+    pub fn next(&self) -> ValueBuilder<'ty, V>
         ensures { result.due ≡ next_due self.now.parts }
     {
-        Values {
+        ValueBuilder {
             due: self.parts.next(),
         }
     }
 
     /// Adds a key or the label of a case.
-    pub fn with_key(
+    pub fn push_key(
         &mut self,
         alloc: Global,
         ty: NodeType,
@@ -205,12 +205,12 @@ impl<'ty, V: WasmValue> Kept<'ty, V::Type, V> {
         ensures memory { IfErr result (λ _. (w : Order) (due : Option TypeTree) (source : List ℕ) (whole : NodeType) (children : List NodeTree)
             → AreKeptWhereDue V.Type.tree V.tree V.is_of V.is_full w due source whole children self.old → TakesMemory due) }
     {
-        self.parts.with_key(alloc, ty, span, text)
+        self.parts.push_key(alloc, ty, span, text)
     }
 
     /// Adds a part, which was read by the builder of the next part.
     #[inline(always)]
-    pub fn with_part(&mut self, alloc: Global, made: Result<V, Failure>) -> Result<(), AllocError>
+    pub fn push_part(&mut self, alloc: Global, made: Result<V, Failure>) -> Result<(), AllocError>
         ensures kept { IfOk result (λ _. (w : Order) (due : Option TypeTree) (source : List ℕ) (whole : NodeType) (children : List NodeTree) (n : NodeTree)
             → TakesPart whole children → AreKeptWhereDue V.Type.tree V.tree V.is_of V.is_full w due source whole children self.old
             → IsReadSparing V.tree V.is_of V.is_full w w (shown V.Type.tree (next_due self.old.parts)) source n made
@@ -218,7 +218,7 @@ impl<'ty, V: WasmValue> Kept<'ty, V::Type, V> {
         ensures memory { IfErr result (λ _. (w : Order) (due : Option TypeTree) (source : List ℕ) (whole : NodeType) (children : List NodeTree)
             → AreKeptWhereDue V.Type.tree V.tree V.is_of V.is_full w due source whole children self.old → TakesMemory due) }
     {
-        self.parts.with_part(alloc, made)
+        self.parts.push_part(alloc, made)
     }
 
     /// What is read of a node that stands here and has these parts.
@@ -228,7 +228,7 @@ impl<'ty, V: WasmValue> Kept<'ty, V::Type, V> {
             → IsReadSparing V.tree V.is_of V.is_full in_text w due source (node ty span (node_trees children)) result }
     {
         let place = span.start..span.end;
-        let Kept { around: ty, parts } = self;
+        let Frame { around: ty, parts } = self;
         let made = parts.whole(alloc, span);
         match ty {
             Some(ty) => kept(alloc, around(alloc, ty, place, made)),
@@ -237,10 +237,10 @@ impl<'ty, V: WasmValue> Kept<'ty, V::Type, V> {
     }
 }
 
-impl<'ty, V: WasmValue> Builder for Values<'ty, V> {
+impl<'ty, V: WasmValue> Builder for ValueBuilder<'ty, V> {
     type Made = Result<V, Failure>;
 
-    type Parts = Kept<'ty, V::Type, V>;
+    type Parts = Frame<'ty, V::Type, V>;
 
     ghost use Rattle.wave_wasm.specs.Borrowed.{shown};
     ghost use Rattle.wave_grammar.specs.FaultOrder.{in_text};
@@ -266,35 +266,35 @@ impl<'ty, V: WasmValue> Builder for Values<'ty, V> {
     }
 
     #[inline(always)]
-    fn parts(self, alloc: Global, ty: NodeType) -> Kept<'ty, V::Type, V> {
+    fn parts(self, alloc: Global, ty: NodeType) -> Frame<'ty, V::Type, V> {
         self.begin(alloc, ty)
     }
 
     #[inline(always)]
-    fn part(self, parts: &Kept<'ty, V::Type, V>) -> Self {
+    fn part(self, parts: &Frame<'ty, V::Type, V>) -> Self {
         parts.next()
     }
 
     #[inline(always)]
-    fn with_key(
+    fn push_key(
         self,
         alloc: Global,
-        parts: &mut Kept<'ty, V::Type, V>,
+        parts: &mut Frame<'ty, V::Type, V>,
         ty: NodeType,
         span: Span,
         text: &str,
     ) -> Result<(), AllocError> {
-        parts.with_key(alloc, ty, span, text)
+        parts.push_key(alloc, ty, span, text)
     }
 
     #[inline(always)]
-    fn with_part(
+    fn push_part(
         self,
         alloc: Global,
-        parts: &mut Kept<'ty, V::Type, V>,
+        parts: &mut Frame<'ty, V::Type, V>,
         made: Result<V, Failure>,
     ) -> Result<(), AllocError> {
-        parts.with_part(alloc, made)
+        parts.push_part(alloc, made)
     }
 
     #[inline(always)]
@@ -303,7 +303,7 @@ impl<'ty, V: WasmValue> Builder for Values<'ty, V> {
         alloc: Global,
         ty: NodeType,
         span: Span,
-        parts: Kept<'ty, V::Type, V>,
+        parts: Frame<'ty, V::Type, V>,
     ) -> Result<V, Failure> {
         parts.whole(alloc, span)
     }

@@ -57,7 +57,7 @@ impl<'ty, V: WasmValue> CasePayload<'ty, V::Type, V> {
 
     /// The label of the case is read: the type has such a case, and the case has a payload; or that is
     /// wrong.
-    pub(crate) fn with_key(
+    pub(crate) fn push_key(
         &mut self,
         alloc: Global,
         ty: NodeType,
@@ -86,7 +86,7 @@ impl<'ty, V: WasmValue> CasePayload<'ty, V::Type, V> {
     }
 
     /// The payload is read.
-    pub(crate) fn with_part(&mut self, val: V)
+    pub(crate) fn push_part(&mut self, val: V)
         ensures { AddsPart AreCaseParts V.Type.tree V.tree V.is_of V.is_full node_type.VariantWithPayload payload_due self.old (Ok val) self.new None }
     {
         drop(self.payload.replace(val));

@@ -104,9 +104,9 @@ fn part(rt: HostRuntime, maker: &str, ty: &Type) -> Result<Value, WasmValueError
 
 /// The text of the value, where this type is its own and a copy is the same value; else nothing.
 fn own_text(rt: HostRuntime, val: &Value, ty: &Type) -> Result<String, Fail> {
-    let is_own = val.ty()? == *ty;
+    let is_representable = val.ty()? == *ty;
     let is_same = val.clone(rt.alloc())? == *val;
-    match is_own && is_same {
+    match is_representable && is_same {
         true => Ok(to_string(rt.alloc(), val)?),
         false => Ok(String::new(rt.alloc())),
     }

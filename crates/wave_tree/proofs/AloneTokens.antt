@@ -4,7 +4,7 @@ use Rattle.wave_lex.specs.declared.lex.Token as lex
 use Rattle.wave_lex.specs.declared.lex.Token.TheVariants.{BraceClose, ParenClose, BracketClose, Colon, Comma, Number, LabelOrKeyword, Char, String, MultilineString}
 use Rattle.wave_grammar.specs.ParserPosition.{Place, TakesItem, span_at, text_at, token_of}
 use Rattle.wave_grammar.specs.Tree.{word_of}
-use Rattle.wave_grammar.specs.PrefixAutomaton.{Form, due_behind, value, behind_value, value_step, unexpected}
+use Rattle.wave_grammar.specs.PrefixAutomaton.{StackSymbol, due_behind, value, behind_value, value_step, unexpected}
 use Rattle.wave_grammar.specs.SyntaxErrors.{LeadsBehindValue}
 use Rattle.wave_grammar.specs.NodeTree.{node, no_nodes}
 use Rattle.wave_grammar.specs.declared.form.NodeType.{NodeType}
@@ -41,7 +41,7 @@ word_behind kind.OptionNone text w = ap due_behind w
 word_behind _ text h = absurd h
 
 -- such a token leads behind a value
-pub alone_led : (n : ℕ) (s : List Form) (p q : Place) (c : lex.Token) (ty : NodeType) → length s < n → TakesItem p (Some (Ok c)) q → IsAlone c (text_at q) ty → LeadsBehindValue n value s p q s
+pub alone_led : (n : ℕ) (s : List StackSymbol) (p q : Place) (c : lex.Token) (ty : NodeType) → length s < n → TakesItem p (Some (Ok c)) q → IsAlone c (text_at q) ty → LeadsBehindValue n value s p q s
 alone_led n s p q Number ty l h e = read_there (value_read n behind_value s s p q Number Number l h refl refl) (inl refl)
 alone_led n s p q Char ty l h e = read_there (value_read n behind_value s s p q Char Char l h refl refl) (inl refl)
 alone_led n s p q String ty l h e = read_there (value_read n behind_value s s p q String String l h refl refl) (inl refl)
@@ -50,7 +50,7 @@ alone_led n s p q LabelOrKeyword ty l h w = read_there (value_read n (due_behind
 alone_led n s p q _ ty l h w = absurd w
 
 -- no value begins with such a token
-pub nothing_begins : (s : List Form) (c : lex.Token) (text : List ℕ) → BeginsNothing c → value_step s (token_of c text) ≡ unexpected
+pub nothing_begins : (s : List StackSymbol) (c : lex.Token) (text : List ℕ) → BeginsNothing c → value_step s (token_of c text) ≡ unexpected
 nothing_begins s BraceClose text h = refl
 nothing_begins s ParenClose text h = refl
 nothing_begins s BracketClose text h = refl

@@ -4,7 +4,7 @@ use Rattle.std.specs.Prelude.{IfOk, IfErr}
 use Rattle.wave_lex.specs.declared.lex.Token as lex
 use Rattle.wave_lex.specs.Tokenization.{span}
 use Rattle.wave_grammar.specs.ParserPosition.{Place, TakesItem}
-use Rattle.wave_grammar.specs.PrefixAutomaton.{Due, Form}
+use Rattle.wave_grammar.specs.PrefixAutomaton.{Expectation, StackSymbol}
 use Rattle.wave_grammar.proofs.Slices.{tokens_source}
 use Rattle.wave_grammar.specs.NodeTree.{NodeTree, node, node_trees}
 use Rattle.wave_grammar.specs.declared.form.NodeType.{NodeType}
@@ -20,7 +20,7 @@ pub source_parsed : (n : ℕ) (p q : Place) (parsed : NodeTree) → IsParsed n p
 source_parsed n p q parsed h = let (c, one, e) = h.begins in tokens_source h.first q h.others h.taken ∙ source_item p h.first c one
 
 -- so it does after tokens that lead there
-pub source_reached : {n : ℕ} {d e : Due} {s r : List Form} {p q : Place} → Reached n d s p e r q → q.lexer.source ≡ p.lexer.source
+pub source_reached : {n : ℕ} {d e : Expectation} {s r : List StackSymbol} {p q : Place} → Reached n d s p e r q → q.lexer.source ≡ p.lexer.source
 source_reached {p = p} {q = q} h = tokens_source p q h.tokens h.taken
 
 -- what is made of a node is made of what the node is

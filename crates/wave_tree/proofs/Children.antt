@@ -5,7 +5,7 @@ use Rattle.std.proofs.lemmas.Bool.Decides.{nat_tests}
 use Rattle.std.specs.declared.ops.Range.{Range}
 use Rattle.wave_grammar.specs.Token.{Token}
 use Rattle.wave_grammar.specs.Token as token
-use Rattle.wave_grammar.specs.SpannedTree.{Placed, Shape, at, one, entries, flags, label, MaybePlaced, no_placed, a_placed, PlacedEntries, entry, slice, span_of, SpellsEach, SpellsEntries}
+use Rattle.wave_grammar.specs.SpannedTree.{SpannedTree, SpannedShape, at, one, entries, flags, label, MaybePlaced, no_placed, a_placed, PlacedEntries, entry, slice, span_of, SpellsEach, SpellsEntries}
 use Rattle.wave_grammar.specs.NodeTree.{NodeTree, NodeTrees, node, no_nodes, node_and, node_list, node_trees, type_of, place_of, children_of}
 use Rattle.wave_grammar.specs.NodeAccessors.{first_of}
 use Rattle.wave_grammar.specs.Nodes.{all_placed, shape_from, pairs_of, flags_of, key_of, IsNodeOf}
@@ -37,15 +37,15 @@ child_below (node ty p cs) ns i m is lt here = below_all cs i m (subst (λ (l : 
 
 -- ---- nodes of one token
 
-no_trees : (source : List ℕ) (ns : NodeTrees) (cs : List Placed) → all_placed source ns ≡ Some cs → cs ≡ [] → ns ≡ no_nodes
+no_trees : (source : List ℕ) (ns : NodeTrees) (cs : List SpannedTree) → all_placed source ns ≡ Some cs → cs ≡ [] → ns ≡ no_nodes
 no_trees source no_nodes cs e none = refl
 no_trees source (node_and n more) cs e none = absurd (subst (AreParsed source (n ∷ node_list more)) none (parsed source (node_and n more) cs e))
 
 -- a node whose tree has no parts has no children
-pub childless : (source : List ℕ) (n : NodeTree) (t : Placed) (i : Inside source n t) → i.children ≡ [] → IsAlone n
+pub childless : (source : List ℕ) (n : NodeTree) (t : SpannedTree) (i : Inside source n t) → i.children ≡ [] → IsAlone n
 childless source (node ty p ns) t i none = ap (λ (cs : NodeTrees). node ty p cs) (no_trees source ns i.children i.each none)
 
-bare_token : (ty : NodeType) (p : Range ℕ) (text : List ℕ) (cs : List Placed) (s : Shape) → shape_from ty p text cs ≡ Some s → IsOneToken ty → ((ty ≡ kind.ResultOk) ⊎ (ty ≡ kind.ResultErr) → cs ≡ []) → cs ≡ []
+bare_token : (ty : NodeType) (p : Range ℕ) (text : List ℕ) (cs : List SpannedTree) (s : SpannedShape) → shape_from ty p text cs ≡ Some s → IsOneToken ty → ((ty ≡ kind.ResultOk) ⊎ (ty ≡ kind.ResultErr) → cs ≡ []) → cs ≡ []
 bare_token ty p text [] s e o bare = refl
 bare_token kind.ResultOk p text (c ∷ cs) s e o bare = bare (inl refl)
 bare_token kind.ResultErr p text (c ∷ cs) s e o bare = bare (inr refl)
@@ -58,11 +58,11 @@ bare_token kind.Flags p text (c ∷ cs) s e o bare = absurd o
 bare_token _ p text (c ∷ cs) s e o bare = absurd (cc)
 
 -- the children of a value have the trees of its parts
-pub all_parsed : (source : List ℕ) (n : NodeTree) (t : Placed) (i : Inside source n t) → AreParsed source (children_of n) i.children
+pub all_parsed : (source : List ℕ) (n : NodeTree) (t : SpannedTree) (i : Inside source n t) → AreParsed source (children_of n) i.children
 all_parsed source n t i = subst (λ (ns : List NodeTree). AreParsed source ns i.children) (nodes_are n) (parsed source (nodes_in n) i.children i.each)
 
 -- as many as they
-pub as_long : (source : List ℕ) (ns : List NodeTree) (cs : List Placed) → AreParsed source ns cs → length ns ≡ length cs
+pub as_long : (source : List ℕ) (ns : List NodeTree) (cs : List SpannedTree) → AreParsed source ns cs → length ns ≡ length cs
 as_long source [] [] h = refl
 as_long source [] (c ∷ cs) h = absurd h
 as_long source (n ∷ ns) [] h = absurd h
@@ -134,7 +134,7 @@ one_next : (ns : List NodeTree) (i : ℕ) → length ns ≡ 1 → i < length ns 
 one_next ns zero e lt = refl
 one_next ns (suc i) e lt = absurd (omega (arith, e, lt))
 
-part_at : (ty : NodeType) (p : Range ℕ) (text : List ℕ) (cs : List Placed) (s : Shape) (ns : List NodeTree) (i : ℕ) → shape_from ty p text cs ≡ Some s → IsOfParts ty → ty ≢ kind.TupleSet → ty ≢ kind.VariantWithPayload → length ns ≡ length cs → i < length ns → TakesPart ty (take i ns)
+part_at : (ty : NodeType) (p : Range ℕ) (text : List ℕ) (cs : List SpannedTree) (s : SpannedShape) (ns : List NodeTree) (i : ℕ) → shape_from ty p text cs ≡ Some s → IsOfParts ty → ty ≢ kind.TupleSet → ty ≢ kind.VariantWithPayload → length ns ≡ length cs → i < length ns → TakesPart ty (take i ns)
 part_at kind.Tuple p text cs s ns i e o set case long lt = tt
 part_at kind.List p text cs s ns i e o set case long lt = tt
 part_at kind.TupleSet p text cs s ns i e o set case long lt = absurd (set refl)
@@ -161,7 +161,7 @@ part_next source n i (at r s, is) o set case lt =
 -- ---- keys
 
 -- a key has no children
-key_from : (source : List ℕ) (n : NodeTree) (t : Placed) (p : Range ℕ) (key : Token) (i : Inside source n t) → key_of t ≡ Some (p, key) → i.children ≡ []
+key_from : (source : List ℕ) (n : NodeTree) (t : SpannedTree) (p : Range ℕ) (key : Token) (i : Inside source n t) → key_of t ≡ Some (p, key) → i.children ≡ []
 key_from source n (at q (label r w no_placed)) p key i is = i.from.3
 key_from source n (at q (one (token.number w))) p key i is = i.from.0
 key_from source n (at q (one (token.char w))) p key i is = i.from.0
@@ -182,7 +182,7 @@ AreTurns source [] = Unit {0}
 AreTurns source (k ∷ []) = ⊥
 AreTurns source (k ∷ v ∷ more) = IsKeyOf source k × IsValueOf source v × AreTurns source more
 
-turns : (source : List ℕ) (ns : List NodeTree) (cs : List Placed) (es : PlacedEntries) (from to : ℕ) → AreParsed source ns cs → pairs_of cs ≡ Some es → SpellsEntries source from to es → AreTurns source ns
+turns : (source : List ℕ) (ns : List NodeTree) (cs : List SpannedTree) (es : PlacedEntries) (from to : ℕ) → AreParsed source ns cs → pairs_of cs ≡ Some es → SpellsEntries source from to es → AreTurns source ns
 turns source [] cs es from to h e s = tt
 turns source (n ∷ ns) [] es from to h e s = absurd h
 turns source (n ∷ ns) (k ∷ []) es from to h e s = absurd (cc)
@@ -193,14 +193,14 @@ turns source (n ∷ m ∷ ns) (k ∷ v ∷ cs) es from to h e s =
     ((b.0.0, b.0.1, ((k, h.0, b.2), spelled.1)), (v, (h.1.0, spelled.3)), turns source ns cs b.1 (span_of v).end to h.1.1 b.3 spelled.4)
 
 -- the labels of flags
-pub flags_shape : (source : List ℕ) (n : NodeTree) (r : Range ℕ) (s : Shape) (i : Inside source n (at r s)) → type_of n ≡ kind.Flags → (fs : List (Range ℕ × List ℕ)) × (flags_of i.children ≡ Some fs)
+pub flags_shape : (source : List ℕ) (n : NodeTree) (r : Range ℕ) (s : SpannedShape) (i : Inside source n (at r s)) → type_of n ≡ kind.Flags → (fs : List (Range ℕ × List ℕ)) × (flags_of i.children ≡ Some fs)
 flags_shape source n r s i e = by (flags_of i.children) refl (shape_at kind.Flags source n (at r s) i e)
   where
     by : (o : Option (List (Range ℕ × List ℕ))) → flags_of i.children ≡ o → option_map flags o ≡ Some s → (fs : List (Range ℕ × List ℕ)) × (flags_of i.children ≡ Some fs)
     by (Some fs) is e = (fs, is)
     by None is e = absurd (cc)
 
-entries_are : (o : Option PlacedEntries) (s : Shape) → option_map entries o ≡ Some s → (es : PlacedEntries) × (o ≡ Some es) × (s ≡ entries es)
+entries_are : (o : Option PlacedEntries) (s : SpannedShape) → option_map entries o ≡ Some s → (es : PlacedEntries) × (o ≡ Some es) × (s ≡ entries es)
 entries_are (Some es) s e = (es, refl, sym (some_is _ _ e))
 entries_are None s e = absurd (cc)
 
@@ -210,12 +210,12 @@ set_turns source n (at r s, is) ty = by i.children (children_of n) (all_parsed s
     i : Inside source n (at r s)
     i = inside source n (at r s) is.0
 
-    by : (cs : List Placed) (ns : List NodeTree) → AreParsed source ns cs → shape_from kind.TupleSet (place_of n) (slice source (place_of n)) cs ≡ Some s → AreTurns source ns
+    by : (cs : List SpannedTree) (ns : List NodeTree) → AreParsed source ns cs → shape_from kind.TupleSet (place_of n) (slice source (place_of n)) cs ≡ Some s → AreTurns source ns
     by [] [] h e = tt
     by [] (m ∷ ns) h e = absurd h
     by (k ∷ cs) ns h e =
         let b = entries_are (pairs_of (k ∷ cs)) s e in
-        let spelled : SpellsEach source (at r (entries b.0)) = subst (λ (x : Shape). SpellsEach source (at r x)) b.2 is.1 in
+        let spelled : SpellsEach source (at r (entries b.0)) = subst (λ (x : SpannedShape). SpellsEach source (at r x)) b.2 is.1 in
         turns source ns (k ∷ cs) b.0 r.start r.end h b.1 spelled.1
 
 key_turn : (source : List ℕ) (ns : List NodeTree) (i k : ℕ) (m : NodeTree) → AreTurns source ns → i ≡ k + k → i < length ns → m ≡ get_or ns i m → IsKeyOf source m
@@ -247,7 +247,7 @@ case_turns source n (at r s, is) e =
     let i = inside source n (at r s) is.0 in
     let c = case_shape (place_of n) (slice source (place_of n)) i.children s (shape_at kind.VariantWithPayload source n (at r s) i e) in
     let k = pair_parsed source (children_of n) c.name c.payload (subst (AreParsed source (children_of n)) c.children (all_parsed source n (at r s) i)) in
-    let spelled : SpellsEach source (at r (label c.place c.text (a_placed c.payload))) = subst (λ (x : Shape). SpellsEach source (at r x)) c.shape is.1 in
+    let spelled : SpellsEach source (at r (label c.place c.text (a_placed c.payload))) = subst (λ (x : SpannedShape). SpellsEach source (at r x)) c.shape is.1 in
     record { name = k.0; payload = k.1; children = k.2; named = (c.place, token.label c.text, ((c.name, k.3, flag_key c.name c.place c.text c.labelled), spelled.1.1)); valued = (c.payload, (k.4, spelled.1.2.1)) }
 
 taken_none : (ns : List NodeTree) (i : ℕ) → i < length ns → take i ns ≡ [] → i ≡ 0

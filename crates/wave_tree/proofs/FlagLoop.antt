@@ -11,7 +11,7 @@ use Rattle.wave_lex.specs.Tokenization.{span}
 use Rattle.wave_lex.specs.declared.lex.Token.TheVariants.{BraceClose, LabelOrKeyword, Comma}
 use Rattle.wave_grammar.specs.ParserPosition.{Place, text_at, span_at}
 use Rattle.wave_grammar.specs.LeafTokens.{name_of}
-use Rattle.wave_grammar.specs.PrefixAutomaton.{Due, Form}
+use Rattle.wave_grammar.specs.PrefixAutomaton.{Expectation, StackSymbol}
 use Rattle.wave_grammar.specs.PrefixAutomaton as due
 use Rattle.wave_grammar.specs.NodeTree.{NodeTree, node, node_trees}
 use Rattle.wave_grammar.specs.declared.form.NodeType.TheVariants as kind
@@ -43,7 +43,7 @@ pub record FlagsSoFar (flags : BTreeMap (Bor (List ℕ)) (Range ℕ)) (start at 
   pub written : AllOf (IsWritten start.lexer.source) (flag_at start ∷ more)
   pub ordered : map entry_of flags.entries ≡ map named_place (flags_in_order (flag_at start ∷ more))
   pub tree : (rest : List Flag) (r : Place) → AreFurtherFlags at rest r → AreFurtherFlags start (more ++ rest) r
-  pub led : (n : ℕ) (s : List Form) → (d : Due) × IsFlagDue d (map flag_name (flag_at start ∷ more)) at × Reached n (due.behind_word (text_at start)) s start d s at
+  pub led : (n : ℕ) (s : List StackSymbol) → (d : Expectation) × IsFlagDue d (map flag_name (flag_at start ∷ more)) at × Reached n (due.behind_word (text_at start)) s start d s at
 
 -- the source stays
 pub source_flags : (flags : BTreeMap (Bor (List ℕ)) (Range ℕ)) (start at : Place) → FlagsSoFar flags start at → at.lexer.source ≡ start.lexer.source
@@ -58,7 +58,7 @@ pub grown : (old new : BTreeMap (Bor (List ℕ)) (Range ℕ)) (start at m k : Pl
     new.entries ≡ insert_entry (λ a b. slice_cmp nat_cmp a.now b.now) old.entries key v → key.now ≡ name_of (text_at k) → v ≡ span_at k →
     is_one_of (map flag_name (flag_at start ∷ h.more)) (name_of (text_at k)) ≡ false →
     Holds new (map flag_name (flag_at start ∷ h.more) ++ name_of (text_at k) ∷ []) →
-    ((n : ℕ) (s : List Form) → (d : Due) × IsFlagDue d (map flag_name (flag_at start ∷ h.more) ++ name_of (text_at k) ∷ []) k × Reached n (due.behind_word (text_at start)) s start d s k) → FlagsSoFar new start k
+    ((n : ℕ) (s : List StackSymbol) → (d : Expectation) × IsFlagDue d (map flag_name (flag_at start ∷ h.more) ++ name_of (text_at k) ∷ []) k × Reached n (due.behind_word (text_at start)) s start d s k) → FlagsSoFar new start k
 grown old new start at m k key v h comma_there label_there entries_are key_is node_is new_name holds led =
     let f = flag_at k in
     let fs = flag_at start ∷ h.more in

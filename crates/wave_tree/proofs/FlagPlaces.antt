@@ -9,7 +9,7 @@ use Rattle.std.specs.declared.cmp.Ordering.{Ordering}
 use Rattle.std.specs.declared.cmp.Ordering.TheVariants.{Less, Equal, Greater}
 use Rattle.wave_wasm.specs.Lists.{AllOf}
 use Rattle.wave_grammar.specs.LeafTokens.{name_of}
-use Rattle.wave_grammar.specs.SpannedTree.{Placed, at, label, no_placed, slice}
+use Rattle.wave_grammar.specs.SpannedTree.{SpannedTree, at, label, no_placed, slice}
 use Rattle.wave_grammar.specs.Tree.{is_before}
 use Rattle.wave_grammar.proofs.FlagOrder.{before_is, trans}
 use Rattle.wave_grammar.specs.NodeTree.{NodeTree, node, no_nodes, type_of, place_of, children_of}
@@ -31,13 +31,13 @@ use Rattle.wave_tree.proofs.Children.{childless, all_parsed, flags_shape, whole_
 abbrev IsLabel : NodeTree → Type 0
 IsLabel n = n ≡ label_at (place_of n)
 
-label_alone : (source : List ℕ) (n : NodeTree) (c : Placed) (f : Range ℕ × List ℕ) → placed_of source n ≡ Some c → flag_of c ≡ Some f → IsLabel n
+label_alone : (source : List ℕ) (n : NodeTree) (c : SpannedTree) (f : Range ℕ × List ℕ) → placed_of source n ≡ Some c → flag_of c ≡ Some f → IsLabel n
 label_alone source (node ty p cs) (at q (label r w no_placed)) f is e =
     let i = inside source (node ty p cs) (at q (label r w no_placed)) is in
     childless source (node ty p cs) (at q (label r w no_placed)) i i.from.3 ∙ ap (λ (k : NodeType). node k p no_nodes) i.from.0
 label_alone source n (at q _) f is e = absurd (cc)
 
-labels_alone : (source : List ℕ) (ns : List NodeTree) (cs : List Placed) (fs : List (Range ℕ × List ℕ)) → AreParsed source ns cs → flags_of cs ≡ Some fs → AllOf IsLabel ns
+labels_alone : (source : List ℕ) (ns : List NodeTree) (cs : List SpannedTree) (fs : List (Range ℕ × List ℕ)) → AreParsed source ns cs → flags_of cs ≡ Some fs → AllOf IsLabel ns
 labels_alone source [] cs fs h e = tt
 labels_alone source (n ∷ ns) [] fs h e = absurd h
 labels_alone source (n ∷ ns) (c ∷ cs) fs h e =

@@ -3,7 +3,7 @@ use Rattle.std.proofs.Common.{ℕ, ◌≡◌, ◌+◌, ◌-◌, List, [], ◌∷
 use Rattle.wave_lex.specs.declared.lex.Token as lex
 use Rattle.wave_grammar.specs.Token.{Token}
 use Rattle.wave_grammar.specs.ParserPosition.{TakesItem, TakesTokens, token_of, text_at}
-use Rattle.wave_grammar.specs.PrefixAutomaton.{Due, Form}
+use Rattle.wave_grammar.specs.PrefixAutomaton.{Expectation, StackSymbol}
 use Rattle.wave_grammar.specs.SyntaxErrors.{LeadsBehindValue}
 use Rattle.wave_tree.specs.ParserState.{HasTokens}
 use Rattle.wave_tree.specs.Private.ParserState.{Stream, asked_of, AsksFor}
@@ -37,11 +37,11 @@ pub asks_looked : (p q r : Stream) → q.place ≡ p.place → asked_of q ≡ p.
 asks_looked p q r stays e more = asks_behind p q r [] (sym stays) (asks_once p q e) more
 
 -- after a value that was read
-pub asks_read : (n : ℕ) (d : Due) (s v : List Form) (p q r : Stream) → LeadsBehindValue n d s p.place q.place v → AsksFor p q → AsksFor q r → AsksFor p r
+pub asks_read : (n : ℕ) (d : Expectation) (s v : List StackSymbol) (p q r : Stream) → LeadsBehindValue n d s p.place q.place v → AsksFor p q → AsksFor q r → AsksFor p r
 asks_read n d s v p q r read first more = asks_behind p q r read.tokens read.taken first more
 
 -- after tokens that lead there
-pub asks_reached : (n : ℕ) (d e : Due) (s v : List Form) (p q r : Stream) → Reached n d s p.place e v q.place → AsksFor p q → AsksFor q r → AsksFor p r
+pub asks_reached : (n : ℕ) (d e : Expectation) (s v : List StackSymbol) (p q r : Stream) → Reached n d s p.place e v q.place → AsksFor p q → AsksFor q r → AsksFor p r
 asks_reached n d e s v p q r h first more = asks_behind p q r h.tokens h.taken first more
 
 -- a new parser asks for the tokens that stand there and for one item more at most

@@ -11,7 +11,7 @@ use Rattle.wave_grammar.specs.Tree.{Takes}
 use Rattle.wave_grammar.specs.ParserPosition as place
 use Rattle.wave_grammar.specs.ParserPosition.{Place, TakesToken, TakesTokens, token_of, text_at}
 use Rattle.wave_grammar.specs.PrefixAutomaton as due
-use Rattle.wave_grammar.specs.PrefixAutomaton.{Due, Form, Step, value, behind_value, behind_label, reads, unexpected, empty_tuple, repeated_flag, too_deep, step, Leads}
+use Rattle.wave_grammar.specs.PrefixAutomaton.{Expectation, StackSymbol, Step, value, behind_value, behind_label, reads, unexpected, empty_tuple, repeated_flag, too_deep, step, Shifts}
 use Rattle.wave_grammar.specs.SyntaxErrors.{StandsAt, IsBehind, IsWithin, IsUnfinished}
 use Rattle.wave_tree.specs.ParserLaws.{AreNext, ReadHaveATree, RefusedHaveNone}
 use Rattle.wave_grammar.specs.PrefixLaws.{EndsBefore}
@@ -44,7 +44,7 @@ behind_front p q (t ∷ front) (u ∷ ts) (m, h, more) (last, (k, g, others), no
     (rest, ap (λ z. z ∷ ts) (sym tokens) ∙ ap (λ z. t ∷ z) same, next)
 
 -- after a value no more is due before the tokens that are next
-ends_there : (d : Due) (q : Place) (rest : List Token) → IsBehind d q → AreNext q rest → EndsBefore d rest
+ends_there : (d : Expectation) (q : Place) (rest : List Token) → IsBehind d q → AreNext q rest → EndsBefore d rest
 ends_there d q rest (inl e) next = subst (λ z. EndsBefore z rest) (sym e) tt
 ends_there d q rest (inr (e, apart)) (last, taken, none) = subst (λ z. EndsBefore z rest) (sym e) (λ more f. not_next more (subst (λ z. TakesTokens q z last) f taken))
   where
@@ -66,13 +66,13 @@ split p q [] rest h = (p, refl, h)
 split p q (t ∷ front) rest (k, one, more) = let (m, a, b) = split k q front rest more in (m, (k, one, a), b)
 
 -- a token has one answer
-one_step : (n : ℕ) (d e : Due) (s r : List Form) (p q m : Place) (c : lex.Token) (t : Token) (x : Step) → place.TakesItem p (Some (Ok c)) q → step n d s (token_of c (text_at q)) ≡ x → TakesToken p t m → step n d s t ≡ reads e r → x ≡ reads e r
+one_step : (n : ℕ) (d e : Expectation) (s r : List StackSymbol) (p q m : Place) (c : lex.Token) (t : Token) (x : Step) → place.TakesItem p (Some (Ok c)) q → step n d s (token_of c (text_at q)) ≡ x → TakesToken p t m → step n d s t ≡ reads e r → x ≡ reads e r
 one_step n d e s r p q m c t x h f k g =
     let (tokens, there) = token_one p m q t (token_of c (text_at q)) k (c, h, refl) in
     sym f ∙ (ap (step n d s) (sym tokens) ∙ g)
 
 -- a token that is read there stands for no refusal
-read_stands : (k : ParserErrorKind) (x : Diagnostic) (n : ℕ) (d e : Due) (s r : List Form) (p q m : Place) (t : Token) → StandsAt k x n d s p q → TakesToken p t m → step n d s t ≡ reads e r → ⊥
+read_stands : (k : ParserErrorKind) (x : Diagnostic) (n : ℕ) (d e : Expectation) (s r : List StackSymbol) (p q m : Place) (t : Token) → StandsAt k x n d s p q → TakesToken p t m → step n d s t ≡ reads e r → ⊥
 read_stands kind.EmptyTuple x n d e s r p q m t (c, (h, f), says) k g = let w : empty_tuple ≡ reads e r = one_step n d e s r p q m c t empty_tuple h f k g in cc
 read_stands kind.UnexpectedToken x n d e s r p q m t (c, (h, f), says) k g = let w : unexpected ≡ reads e r = one_step n d e s r p q m c t unexpected h f k g in cc
 read_stands kind.DuplicateFlag x n d e s r p q m t (c, (h, f), says) k g = let w : repeated_flag ≡ reads e r = one_step n d e s r p q m c t repeated_flag h f k g in cc
@@ -88,11 +88,11 @@ read_stands kind.NestingTooDeep x n d e s r p q m t (deep, f, says) k g = let w 
 read_stands j x n d e s r p q m t h k g = absurd h
 
 -- after the outermost value no token is read
-behind_none : (t : Token) (e : Due) (r : List Form) → due.behind_step [] t ≡ reads e r → ⊥
+behind_none : (t : Token) (e : Expectation) (r : List StackSymbol) → due.behind_step [] t ≡ reads e r → ⊥
 behind_none t e r x = cc
 
 -- a token is read after the outermost value only where it is an open parenthesis after a label
-over_step : (n : ℕ) (d e : Due) (r : List Form) (t : Token) (rest : List Token) → IsEnd d rest → step n d [] t ≡ reads e r → (t ≡ paren_open) × ((more : List Token) → rest ≢ paren_open ∷ more)
+over_step : (n : ℕ) (d e : Expectation) (r : List StackSymbol) (t : Token) (rest : List Token) → IsEnd d rest → step n d [] t ≡ reads e r → (t ≡ paren_open) × ((more : List Token) → rest ≢ paren_open ∷ more)
 over_step n d e r t rest (inl f) x = absurd (behind_none t e r (ap (λ z. step n z [] t) (sym f) ∙ x))
 over_step n d e r t rest (inr (f, apart)) x = (is_open t (ap (λ z. step n z [] t) (sym f) ∙ x), apart)
   where
@@ -101,7 +101,7 @@ over_step n d e r t rest (inr (f, apart)) x = (is_open t (ap (λ z. step n z [] 
     is_open u x = let w : unexpected ≡ reads e r = x in cc
 
 -- where a value ends no more is due in it
-within_not_end : (d : Due) (rest : List Token) → IsEnd d rest → IsWithin d → ⊥
+within_not_end : (d : Expectation) (rest : List Token) → IsEnd d rest → IsWithin d → ⊥
 within_not_end d rest (inl e) h = subst IsWithin e h
 within_not_end d rest (inr (e, k)) h = subst IsWithin e h
 
@@ -111,8 +111,8 @@ next_rest m q t [] (last, e, none) h apart = none t q (subst (λ z. TakesToken z
 next_rest m q t (u ∷ rest) (last, (k, one, more), none) h apart = apart rest (ap (λ z. z ∷ rest) (token_one m k q u t one h).0)
 
 -- where tokens lead to a refusal within a value, none of their prefixes is a whole value
-clash : (k : ParserErrorKind) (x : Diagnostic) (n : ℕ) (d0 : Due) (s0 : List Form) (p q at m : Place) (tokens front rest : List Token) (d e : Due) (r : List Form) →
-    TakesTokens p tokens at → Leads n d0 s0 tokens e r → IsUnfinished e r → StandsAt k x n e r at q → TakesTokens p front m → Leads n d0 s0 front d [] → IsEnd d rest → AreNext m rest → ⊥
+clash : (k : ParserErrorKind) (x : Diagnostic) (n : ℕ) (d0 : Expectation) (s0 : List StackSymbol) (p q at m : Place) (tokens front rest : List Token) (d e : Expectation) (r : List StackSymbol) →
+    TakesTokens p tokens at → Shifts n d0 s0 tokens e r → IsUnfinished e r → StandsAt k x n e r at q → TakesTokens p front m → Shifts n d0 s0 front d [] → IsEnd d rest → AreNext m rest → ⊥
 clash k x n d0 s0 p q at m [] [] rest d e r a (v, w) (inl u) stands b (v', w') end next = within_not_end d rest end (subst IsWithin (sym v ∙ v') u)
 clash k x n d0 s0 p q at m [] [] rest d e r a (v, w) (inr u) stands b (v', w') end next = let z = ap length (sym w ∙ w') in omega arith
 clash k x n d0 s0 p q at m [] (t ∷ front) rest d e r a (v, w) u stands (j, one, b) (d', s', z, leads) end next =
@@ -125,7 +125,7 @@ clash k x n d0 s0 p q at m (t ∷ tokens) (t' ∷ front) rest d e r (j, one, a) 
     let same : reads d' s' ≡ reads d'' s'' = sym z ∙ (ap (step n d0 s0) o.0 ∙ z') in
     let f : d' ≡ d'' = cc in
     let g : s' ≡ s'' = cc in
-    clash k x n d'' s'' j' q at m tokens front rest d e r (subst (λ c. TakesTokens c tokens at) o.1 a) (subst (λ c. Leads n c s'' tokens e r) f (subst (λ c. Leads n d' c tokens e r) g leads)) u stands b leads' end next
+    clash k x n d'' s'' j' q at m tokens front rest d e r (subst (λ c. TakesTokens c tokens at) o.1 a) (subst (λ c. Shifts n c s'' tokens e r) f (subst (λ c. Shifts n d' c tokens e r) g leads)) u stands b leads' end next
 
 -- where a value was refused no tree stands
 pub refused_have_none : RefusedHaveNone

@@ -3,7 +3,7 @@ use Rattle.std.proofs.Common.{ℕ, ◌≡◌, ◌≢◌, ◌⊎◌, inl, inr, ze
 use Rattle.std.specs.Prelude.{IfOk, IfErr}
 use Rattle.std.specs.Borrow.{Bor}
 use Rattle.std.specs.declared.ops.Range.{Range}
-use Rattle.wave_wasm.specs.Types.{TypeTree, IsOwn}
+use Rattle.wave_wasm.specs.Types.{TypeTree, IsRepresentable}
 use Rattle.wave_wasm.specs.Borrowed.{shown}
 use Rattle.wave_wasm.specs.HasType.{HasType}
 use Rattle.wave_lex.specs.Labels.{Good}
@@ -16,7 +16,7 @@ use Rattle.wave_lex.proofs.Next.{next_one}
 use Rattle.wave_grammar.specs.Token.{Token, paren_open, bracket_open}
 use Rattle.wave_grammar.specs.Tree as form
 use Rattle.wave_grammar.specs.Tree.{Tree, Trees, trees, Takes}
-use Rattle.wave_grammar.specs.SpannedTree.{Placed, Shape, tuple, list, shape_of, tree_of, tree_of_shape}
+use Rattle.wave_grammar.specs.SpannedTree.{SpannedTree, SpannedShape, tuple, list, shape_of, tree_of, tree_of_shape}
 use Rattle.wave_grammar.specs.ParserPosition.{Place, TakesItem, text_at, token_of}
 use Rattle.wave_grammar.specs.PrefixAutomaton.{value}
 use Rattle.wave_grammar.specs.SyntaxErrors.{LeadsBehindValue}
@@ -68,7 +68,7 @@ module _ {V : Type 0} (tree : V → Value) (of : V → TypeTree → Type 0) (Ful
   answered_caused T n old new e h = λ was. (h.node, h.taken, (h.read.within (is_value n old new h.node h.taken)).0.caused was)
 
 -- a value that was read prints within twice as many levels
-pub all_print : {V E : Type 0} (tree : V → Value) (of : V → TypeTree → Type 0) → ((v : V) (T : TypeTree) → of v T → HasType T (tree v)) → (T : TypeTree) (n : ℕ) (old new : Place) (r : Result V E) → IfOk r (IsValueTaken tree of T n old new) → Good T → IsOwn T → IfOk r (λ v. PrintsWithinTwice T n (tree v))
+pub all_print : {V E : Type 0} (tree : V → Value) (of : V → TypeTree → Type 0) → ((v : V) (T : TypeTree) → of v T → HasType T (tree v)) → (T : TypeTree) (n : ℕ) (old new : Place) (r : Result V E) → IfOk r (IsValueTaken tree of T n old new) → Good T → IsRepresentable T → IfOk r (λ v. PrintsWithinTwice T n (tree v))
 all_print tree of fits T n old new (Ok v) h good own = value_prints tree of fits T n old new v h good own
 all_print tree of fits T n old new (Err e) h good own = tt
 
@@ -82,19 +82,19 @@ list_taken : (n : ℕ) (front rest : List Token) (t : Tree) → Takes n (bracket
 list_taken zero front rest t h = absurd h
 list_taken (suc n) front rest t (items, are, is) = (trees items, is)
 
-tuple_from : (ty : NodeType) (p : Range ℕ) (text : List ℕ) (cs : List Placed) (s : Shape) (ts : Trees) → From ty p text cs s → tree_of_shape s ≡ form.tuple ts → ty ≡ kind.Tuple
+tuple_from : (ty : NodeType) (p : Range ℕ) (text : List ℕ) (cs : List SpannedTree) (s : SpannedShape) (ts : Trees) → From ty p text cs s → tree_of_shape s ≡ form.tuple ts → ty ≡ kind.Tuple
 tuple_from ty p text cs (tuple items) ts f is = f.0
 tuple_from ty p text cs _ ts f is = absurd (cc)
 
-list_from : (ty : NodeType) (p : Range ℕ) (text : List ℕ) (cs : List Placed) (s : Shape) (ts : Trees) → From ty p text cs s → tree_of_shape s ≡ form.list ts → ty ≡ kind.List
+list_from : (ty : NodeType) (p : Range ℕ) (text : List ℕ) (cs : List SpannedTree) (s : SpannedShape) (ts : Trees) → From ty p text cs s → tree_of_shape s ≡ form.list ts → ty ≡ kind.List
 list_from ty p text cs (list items) ts f is = f.0
 list_from ty p text cs _ ts f is = absurd (cc)
 
 -- the node of a tree of this shape
-tuple_type : (source : List ℕ) (n : NodeTree) (t : Placed) (ts : Trees) → placed_of source n ≡ Some t → tree_of t ≡ form.tuple ts → type_of n ≡ kind.Tuple
+tuple_type : (source : List ℕ) (n : NodeTree) (t : SpannedTree) (ts : Trees) → placed_of source n ≡ Some t → tree_of t ≡ form.tuple ts → type_of n ≡ kind.Tuple
 tuple_type source n t ts is e = let i = inside source n t is in tuple_from (type_of n) _ _ i.children (shape_of t) ts i.from (sym (tree_is t (shape_of t) refl) ∙ e)
 
-list_type : (source : List ℕ) (n : NodeTree) (t : Placed) (ts : Trees) → placed_of source n ≡ Some t → tree_of t ≡ form.list ts → type_of n ≡ kind.List
+list_type : (source : List ℕ) (n : NodeTree) (t : SpannedTree) (ts : Trees) → placed_of source n ≡ Some t → tree_of t ≡ form.list ts → type_of n ≡ kind.List
 list_type source n t ts is e = let i = inside source n t is in list_from (type_of n) _ _ i.children (shape_of t) ts i.from (sym (tree_is t (shape_of t) refl) ∙ e)
 
 -- the token that stands there is the one that does

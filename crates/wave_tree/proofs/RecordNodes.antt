@@ -20,7 +20,7 @@ use Rattle.wave_lex.specs.Errors.{Diagnostic, refusal_of}
 use Rattle.wave_lex.specs.declared.error.ParserErrorKind.TheVariants as error
 use Rattle.wave_grammar.specs.LeafTokens.{name_of}
 use Rattle.wave_grammar.specs.TypedGrammar.{look_up, names_of}
-use Rattle.wave_grammar.specs.SpannedTree.{Placed, PlacedEntry, entry_list}
+use Rattle.wave_grammar.specs.SpannedTree.{SpannedTree, PlacedEntry, entry_list}
 use Rattle.wave_grammar.specs.TypeErrors.{IsRefusalOf, names_in, IsFor}
 use Rattle.wave_grammar.specs.FaultOrder.{Order, by_type}
 use Rattle.wave_grammar.specs.NodeTree.{NodeTree, NodeTrees, node, no_nodes, node_and, node_list, place_of, children_of}
@@ -106,7 +106,7 @@ left_over names old m fs name x held h e =
     (none_of names name b.0, sym (held name) ∙ ap (option_map (λ n. n.now)) b.1)
 
 -- the node that the map has at a name is that of a value
-pub held_value : (source : List ℕ) (n : NodeTree) (t : Placed) (names : List (List ℕ)) (old m : BTreeMap (Bor (List ℕ)) (Bor NodeTree)) (fs : List (List ℕ × NodeTree)) (name : List ℕ) (o : Option (Bor NodeTree)) → IsNodeOf source n t → IsFieldsOf source n fs → HoldsFields old fs → Removed names old m → o ≡ held_at m name → IsFieldNode source (option_map (λ n. n.now) o)
+pub held_value : (source : List ℕ) (n : NodeTree) (t : SpannedTree) (names : List (List ℕ)) (old m : BTreeMap (Bor (List ℕ)) (Bor NodeTree)) (fs : List (List ℕ × NodeTree)) (name : List ℕ) (o : Option (Bor NodeTree)) → IsNodeOf source n t → IsFieldsOf source n fs → HoldsFields old fs → Removed names old m → o ≡ held_at m name → IsFieldNode source (option_map (λ n. n.now) o)
 held_value source n t names old m fs name None stands given held h is = tt
 held_value source n t names old m fs name (Some x) stands given held h is =
     let inner = record_nodes source n t stands given.is_set in
@@ -209,7 +209,7 @@ module _ {V : Type 0} (tree : V → Value) (of : V → TypeTree → Type 0) (Ful
   fields_kept ps es old new i name E key v typed before same now kept = rw (add-one, kept) (read_next ps es old i name E key v typed before same now)
 
   -- the record was made, or its constructor refused
-  pub record_made : (T : TypeTree) (parts : List (List ℕ × TypeTree)) (source : List ℕ) (n : NodeTree) (t : Placed) (given : List (List ℕ × NodeTree)) (names : List (List ℕ)) (old left : BTreeMap (Bor (List ℕ)) (Bor NodeTree)) (hs : List (Bor (List ℕ) × V)) (m : Result V WasmValueError) (r : Result V Diagnostic) → (is : RecordType T parts) → HasDistinctNames T → (stands : IsNodeOf source n t) → (fields : IsFieldsOf source n given) → HoldsFields old given → names ≡ names_of parts → Removed names old left → btree_map_len left ≡ 0 → FieldsRead tree of Full parts (entry_list (record_nodes source n t stands fields.is_set).given) hs → IfOk m (MakesRecord tree of T hs) → IfErr m (FullRecord of Full T hs) → IsMade n m r → MatchResult r (IsTypedValue tree of T t) (IsBlamed Full by_type w T t)
+  pub record_made : (T : TypeTree) (parts : List (List ℕ × TypeTree)) (source : List ℕ) (n : NodeTree) (t : SpannedTree) (given : List (List ℕ × NodeTree)) (names : List (List ℕ)) (old left : BTreeMap (Bor (List ℕ)) (Bor NodeTree)) (hs : List (Bor (List ℕ) × V)) (m : Result V WasmValueError) (r : Result V Diagnostic) → (is : RecordType T parts) → HasDistinctNames T → (stands : IsNodeOf source n t) → (fields : IsFieldsOf source n given) → HoldsFields old given → names ≡ names_of parts → Removed names old left → btree_map_len left ≡ 0 → FieldsRead tree of Full parts (entry_list (record_nodes source n t stands fields.is_set).given) hs → IfOk m (MakesRecord tree of T hs) → IfErr m (FullRecord of Full T hs) → IsMade n m r → MatchResult r (IsTypedValue tree of T t) (IsBlamed Full by_type w T t)
   record_made T parts source n t given names old left hs m r is distinct stands fields held same removed empty h ok full done =
       let inner = record_nodes source n t stands fields.is_set in
       let all : AreFieldsOf source given (entry_list inner.given) = subst (λ (l : List (List ℕ × NodeTree)). AreFieldsOf source l (entry_list inner.given)) (sym fields.given) (fields_of_entries source (node_pairs (children_of n)) (entry_list inner.given) fields.labels inner.nodes) in
@@ -220,13 +220,13 @@ module _ {V : Type 0} (tree : V → Value) (of : V → TypeTree → Type 0) (Ful
       (record_full tree of Full T is.fields (entry_list inner.given) hs m is.is apart read full)
 
   -- so behind the last of the parts
-  pub record_done : (T : TypeTree) (parts : List (List ℕ × TypeTree)) (source : List ℕ) (n : NodeTree) (t : Placed) (given : List (List ℕ × NodeTree)) (i : ℕ) (old left : BTreeMap (Bor (List ℕ)) (Bor NodeTree)) (hs : List (Bor (List ℕ) × V)) (m : Result V WasmValueError) (r : Result V Diagnostic) → (is : RecordType T parts) → HasDistinctNames T → (stands : IsNodeOf source n t) → (fields : IsFieldsOf source n given) → HoldsFields old given → length parts ≤ i → Removed (names_of (take i parts)) old left → btree_map_len left ≡ 0 → FieldsRead tree of Full (take i parts) (entry_list (record_nodes source n t stands fields.is_set).given) hs → IfOk m (MakesRecord tree of T hs) → IfErr m (FullRecord of Full T hs) → IsMade n m r → MatchResult r (IsTypedValue tree of T t) (IsBlamed Full by_type w T t)
+  pub record_done : (T : TypeTree) (parts : List (List ℕ × TypeTree)) (source : List ℕ) (n : NodeTree) (t : SpannedTree) (given : List (List ℕ × NodeTree)) (i : ℕ) (old left : BTreeMap (Bor (List ℕ)) (Bor NodeTree)) (hs : List (Bor (List ℕ) × V)) (m : Result V WasmValueError) (r : Result V Diagnostic) → (is : RecordType T parts) → HasDistinctNames T → (stands : IsNodeOf source n t) → (fields : IsFieldsOf source n given) → HoldsFields old given → length parts ≤ i → Removed (names_of (take i parts)) old left → btree_map_len left ≡ 0 → FieldsRead tree of Full (take i parts) (entry_list (record_nodes source n t stands fields.is_set).given) hs → IfOk m (MakesRecord tree of T hs) → IfErr m (FullRecord of Full T hs) → IsMade n m r → MatchResult r (IsTypedValue tree of T t) (IsBlamed Full by_type w T t)
   record_done T parts source n t given i old left hs m r is distinct stands fields held le removed empty h ok full done =
       let whole : take i parts ≡ parts = take_whole parts i le in
       record_made T parts source n t given (names_of (take i parts)) old left hs m r is distinct stands fields held (ap names_of whole) removed empty (subst (λ (ps : List (List ℕ × TypeTree)). FieldsRead tree of Full ps (entry_list (record_nodes source n t stands fields.is_set).given) hs) whole h) ok full done
 
   -- an entry whose name is no field, where all fields were read
-  pub unknown_blame : (T : TypeTree) (parts : List (List ℕ × TypeTree)) (source : List ℕ) (n : NodeTree) (t : Placed) (given : List (List ℕ × NodeTree)) (i : ℕ) (old left : BTreeMap (Bor (List ℕ)) (Bor NodeTree)) (hs : List (Bor (List ℕ) × V)) (e : Diagnostic) → RecordType T parts → HasDistinctNames T → (stands : IsNodeOf source n t) → (fields : IsFieldsOf source n given) → HoldsFields old given → length parts ≤ i → Removed (names_of (take i parts)) old left → (btree_map_len left ≡ 0 → ⊥) → FieldsRead tree of Full (take i parts) (entry_list (record_nodes source n t stands fields.is_set).given) hs → IsRefusalOf error.InvalidValue (place_of n) (refusal_of e) e.span → IsBlamed Full by_type w T t e
+  pub unknown_blame : (T : TypeTree) (parts : List (List ℕ × TypeTree)) (source : List ℕ) (n : NodeTree) (t : SpannedTree) (given : List (List ℕ × NodeTree)) (i : ℕ) (old left : BTreeMap (Bor (List ℕ)) (Bor NodeTree)) (hs : List (Bor (List ℕ) × V)) (e : Diagnostic) → RecordType T parts → HasDistinctNames T → (stands : IsNodeOf source n t) → (fields : IsFieldsOf source n given) → HoldsFields old given → length parts ≤ i → Removed (names_of (take i parts)) old left → (btree_map_len left ≡ 0 → ⊥) → FieldsRead tree of Full (take i parts) (entry_list (record_nodes source n t stands fields.is_set).given) hs → IsRefusalOf error.InvalidValue (place_of n) (refusal_of e) e.span → IsBlamed Full by_type w T t e
   unknown_blame T parts source n t given i old left hs e is distinct stands fields held le removed some read refused =
       let es = entry_list (record_nodes source n t stands fields.is_set).given in
       let whole : take i parts ≡ parts = take_whole parts i le in

@@ -8,7 +8,7 @@ use Rattle.wave_wasm.specs.declared.wasm.WasmTypeKind.TheVariants as kinds
 use Rattle.wave_lex.specs.Errors.{Diagnostic, Refusal, refusal_of}
 use Rattle.wave_lex.specs.declared.error.ParserErrorKind.TheVariants.{InvalidType}
 use Rattle.wave_grammar.specs.TypedGrammar.{IsFlat}
-use Rattle.wave_grammar.specs.SpannedTree.{Placed, MaybePlaced, Shape, tuple, entries, no_fields, none, some, ok, err, placed_list, span_of, shape_of}
+use Rattle.wave_grammar.specs.SpannedTree.{SpannedTree, MaybePlaced, SpannedShape, tuple, entries, no_fields, none, some, ok, err, placed_list, span_of, shape_of}
 use Rattle.wave_grammar.specs.TypeErrors.{Blame, IsRefusalOf, OfForm, OfOption, OfResult, tuple_in, record_in}
 use Rattle.wave_grammar.specs.FaultOrder.{Order, in_text, by_type, OrElse, WrongCount, FirstFault, FirstItem, FirstOfFlat}
 use Rattle.wave_grammar.specs.NodeTree.{NodeTree, type_of, children_of}
@@ -30,32 +30,32 @@ same_form None p F G k q e h = h
 same_form (Some a) p F G k q e h = absurd (cc)
 
 -- where their number is right, it is not blamed
-counted_form : (f : Option (List Placed)) (p : Range ℕ) (want : ℕ) (First : List Placed → Blame) (k : Refusal) (q : Range ℕ) → ((items : List Placed) → f ≡ Some items → length items ≡ want) → OfForm f p (λ items. OrElse (First items) (WrongCount want (length items) p)) k q → OfForm f p (λ items. OrElse (WrongCount want (length items) p) (First items)) k q
+counted_form : (f : Option (List SpannedTree)) (p : Range ℕ) (want : ℕ) (First : List SpannedTree → Blame) (k : Refusal) (q : Range ℕ) → ((items : List SpannedTree) → f ≡ Some items → length items ≡ want) → OfForm f p (λ items. OrElse (First items) (WrongCount want (length items) p)) k q → OfForm f p (λ items. OrElse (WrongCount want (length items) p) (First items)) k q
 counted_form None p want First k q same h = h
 counted_form (Some items) p want First k q same (inl fault) = inr ((λ j r wrong. wrong.0 (same items refl)), fault)
 counted_form (Some items) p want First k q same (inr wrong) = absurd (wrong.1.0 (same items refl))
 
 -- at an option or a result, of another form than its own
-of_option : (s : Shape) (Within : Placed → Blame) (F G : Blame) (k : Refusal) (q : Range ℕ) → (((u : Placed) → s ≢ some u) → s ≢ none → F k q → G k q) → OfOption s Within F k q → OfOption s Within G k q
+of_option : (s : SpannedShape) (Within : SpannedTree → Blame) (F G : Blame) (k : Refusal) (q : Range ℕ) → (((u : SpannedTree) → s ≢ some u) → s ≢ none → F k q → G k q) → OfOption s Within F k q → OfOption s Within G k q
 of_option none Within F G k q more h = h
 of_option (some t) Within F G k q more h = h
 of_option _ Within F G k q more h = more (λ u e. cc) (λ e. cc) h
 
-of_result : (s : Shape) (OnOk OnErr : MaybePlaced → Blame) (F G : Blame) (k : Refusal) (q : Range ℕ) → (((u : MaybePlaced) → s ≢ ok u) → ((u : MaybePlaced) → s ≢ err u) → F k q → G k q) → OfResult s OnOk OnErr F k q → OfResult s OnOk OnErr G k q
+of_result : (s : SpannedShape) (OnOk OnErr : MaybePlaced → Blame) (F G : Blame) (k : Refusal) (q : Range ℕ) → (((u : MaybePlaced) → s ≢ ok u) → ((u : MaybePlaced) → s ≢ err u) → F k q → G k q) → OfResult s OnOk OnErr F k q → OfResult s OnOk OnErr G k q
 of_result (ok u) OnOk OnErr F G k q more h = h
 of_result (err u) OnOk OnErr F G k q more h = h
 of_result _ OnOk OnErr F G k q more h = more (λ u e. cc) (λ u e. cc) h
 
-not_record : (ty : NodeType) (p : Range ℕ) (text : List ℕ) (cs : List Placed) (s : Shape) → From ty p text cs s → ty ≢ kind.TupleSet → record_in s ≡ None
+not_record : (ty : NodeType) (p : Range ℕ) (text : List ℕ) (cs : List SpannedTree) (s : SpannedShape) → From ty p text cs s → ty ≢ kind.TupleSet → record_in s ≡ None
 not_record ty p text cs (entries es) f apart = absurd (apart f.0)
 not_record ty p text cs no_fields f apart = absurd (apart f.0)
 not_record ty p text cs _ f apart = refl
 
-tuple_items : (ty : NodeType) (p : Range ℕ) (text : List ℕ) (cs : List Placed) (s : Shape) (items : List Placed) → From ty p text cs s → tuple_in s ≡ Some items → (ty ≡ kind.Tuple) × (length items ≡ length cs)
+tuple_items : (ty : NodeType) (p : Range ℕ) (text : List ℕ) (cs : List SpannedTree) (s : SpannedShape) (items : List SpannedTree) → From ty p text cs s → tuple_in s ≡ Some items → (ty ≡ kind.Tuple) × (length items ≡ length cs)
 tuple_items ty p text cs (tuple ts) items f e = (f.0, ap length (sym (some_is _ _ e) ∙ (ap placed_list f.1 ∙ trees_back cs)))
 tuple_items ty p text cs _ items f e = absurd (cc)
 
-module _ (w : Order) (source : List ℕ) (n : NodeTree) (t : Placed) (k : Refusal) (q : Range ℕ) (is : IsNodeOf source n t) where
+module _ (w : Order) (source : List ℕ) (n : NodeTree) (t : SpannedTree) (k : Refusal) (q : Range ℕ) (is : IsNodeOf source n t) where
   i : Inside source n t
   i = inside source n t is.0
 
@@ -77,7 +77,7 @@ module _ (w : Order) (source : List ℕ) (n : NodeTree) (t : Placed) (k : Refusa
   payload_first T P no_record counted flat at h =
       flat_first P flat (no_record P (inr at)) (λ Ts e. counted Ts (inr (subst (IsFlatAt T (type_of n)) e at))) h
 
-  is_some : ((u : Placed) → shape_of t ≢ some u) → type_of n ≢ kind.OptionSome
+  is_some : ((u : SpannedTree) → shape_of t ≢ some u) → type_of n ≢ kind.OptionSome
   is_some apart e = let inner = some_node source n t is e in apart inner.payload inner.shape
 
   is_ok : ((u : MaybePlaced) → shape_of t ≢ ok u) → type_of n ≢ kind.ResultOk
@@ -90,7 +90,7 @@ module _ (w : Order) (source : List ℕ) (n : NodeTree) (t : Placed) (k : Refusa
   pub type_first : (T : TypeTree) → ReadsNoRecord T (type_of n) → IsCounted T (type_of n) (length (children_of n)) → FirstFault in_text w T t k q → FirstFault by_type w T t k q
   type_first (type.option P) no_record counted h = of_option (shape_of t) (FirstFault w w P) _ _ k q by h
     where
-      by : ((u : Placed) → shape_of t ≢ some u) → shape_of t ≢ none → (IsFlat P → ⊥) × IsRefusalOf InvalidType (span_of t) k q ⊎ IsFlat P × FirstFault in_text w P t k q → (IsFlat P → ⊥) × IsRefusalOf InvalidType (span_of t) k q ⊎ IsFlat P × FirstFault by_type w P t k q
+      by : ((u : SpannedTree) → shape_of t ≢ some u) → shape_of t ≢ none → (IsFlat P → ⊥) × IsRefusalOf InvalidType (span_of t) k q ⊎ IsFlat P × FirstFault in_text w P t k q → (IsFlat P → ⊥) × IsRefusalOf InvalidType (span_of t) k q ⊎ IsFlat P × FirstFault by_type w P t k q
       by a b (inl other) = inl other
       by a b (inr (flat, fault)) =
           inr (flat, payload_first (type.option P) P no_record counted flat (refl, flat, is_some a, (λ e. b (given_none source n t is (inr (e, refl))))) fault)
@@ -106,7 +106,7 @@ module _ (w : Order) (source : List ℕ) (n : NodeTree) (t : Placed) (k : Refusa
   type_first _ no_record counted h = h
 
 module _ {V : Type 0} (tree : V → Value) (of : V → TypeTree → Type 0) (Full : TypeTree → Type 0) (w : Order) where
-  type_blamed : (T : TypeTree) (source : List ℕ) (n : NodeTree) (t : Placed) (r : Result V Diagnostic) → IsNodeOf source n t → ReadsNoRecord T (type_of n) → IsCounted T (type_of n) (length (children_of n)) → MatchResult r (IsTypedValue tree of T t) (IsBlamed Full in_text w T t) → MatchResult r (IsTypedValue tree of T t) (IsBlamed Full by_type w T t)
+  type_blamed : (T : TypeTree) (source : List ℕ) (n : NodeTree) (t : SpannedTree) (r : Result V Diagnostic) → IsNodeOf source n t → ReadsNoRecord T (type_of n) → IsCounted T (type_of n) (length (children_of n)) → MatchResult r (IsTypedValue tree of T t) (IsBlamed Full in_text w T t) → MatchResult r (IsTypedValue tree of T t) (IsBlamed Full by_type w T t)
   type_blamed T source n t (Ok v) is no_record counted h = h
   type_blamed T source n t (Err e) is no_record counted (inl memory) = inl memory
   type_blamed T source n t (Err e) is no_record counted (inr (inl fault)) = inr (inl (type_first w source n t (refusal_of e) e.span is T no_record counted fault))

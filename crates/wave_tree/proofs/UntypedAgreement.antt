@@ -2,7 +2,7 @@
 use Rattle.std.proofs.Common.{ℕ, ◌≡◌, List, sym, ◌∙◌, subst}
 use Rattle.wave_wasm.specs.Types.{TypeTree}
 use Rattle.wave_wasm.specs.Values.{Value}
-use Rattle.wave_grammar.specs.SpannedTree.{Placed, tree_of}
+use Rattle.wave_grammar.specs.SpannedTree.{SpannedTree, tree_of}
 use Rattle.wave_grammar.specs.Nodes.{IsNodeOf}
 use Rattle.wave_grammar.specs.Denotes.{SpellsText}
 use Rattle.wave_tree.specs.UntypedLaws.{IsTreeOfText, ReadAlike, RefusedAlike}
@@ -10,11 +10,11 @@ use Rattle.wave_grammar.proofs.ChildNodes.Inside.{some_is}
 use Rattle.wave_grammar.proofs.Equivalence.ByTree.{means_tree, spelled_means, tree_means}
 
 -- the tree of a text's untyped value is the one that the text spells
-text_spells : (n : ℕ) (s : List ℕ) (t : Placed) → IsTreeOfText n s t → SpellsText n s (tree_of t)
+text_spells : (n : ℕ) (s : List ℕ) (t : SpannedTree) → IsTreeOfText n s t → SpellsText n s (tree_of t)
 text_spells n s t (u, h, node) =
     let here : IsNodeOf s u.node t = subst (λ (z : List ℕ). IsNodeOf z u.node t) h.source node in
     let same : h.placed ≡ t = some_is _ _ (sym h.is_node.0 ∙ here.0) in
-    subst (λ (p : Placed). SpellsText n s (tree_of p)) same h.spelled
+    subst (λ (p : SpannedTree). SpellsText n s (tree_of p)) same h.spelled
 
 pub read_alike : {V : Type 0} (tree : V → Value) (of : V → TypeTree → Type 0) → ReadAlike tree of
 read_alike tree of n s t text T v =

@@ -1,13 +1,13 @@
 -- What reading a text at a type says of the text.
 use Rattle.std.proofs.Common.{◌≡◌, ◌≢◌, ℕ, inl, inr, List, [], sym, ap, subst, ◌∙◌, None}
 use Rattle.std.specs.Prelude.{◌⊎◌}
-use Rattle.wave_wasm.specs.Types.{TypeTree, HasDistinctNames, IsOwn}
+use Rattle.wave_wasm.specs.Types.{TypeTree, HasDistinctNames, IsRepresentable}
 use Rattle.wave_wasm.specs.Values.{Value}
 use Rattle.wave_wasm.specs.HasType.{HasType}
 use Rattle.wave_lex.specs.Labels.{Good}
 use Rattle.wave_lex.specs.declared.error.ParserErrorKind.TheVariants as kind
 use Rattle.wave_lex.specs.Errors.{Diagnostic, Refusal, LiesInText, refusal_of}
-use Rattle.wave_grammar.specs.SpannedTree.{Placed, tree_of}
+use Rattle.wave_grammar.specs.SpannedTree.{SpannedTree, tree_of}
 use Rattle.wave_grammar.specs.FaultOrder.{in_text, FirstFault}
 use Rattle.wave_grammar.specs.ParserPosition.{Place, TakesItem}
 use Rattle.wave_grammar.specs.PrefixAutomaton.{value}
@@ -16,7 +16,7 @@ use Rattle.wave_grammar.specs.NodeTree.{NodeTree}
 use Rattle.wave_grammar.specs.Nodes.{IsNodeOf}
 use Rattle.wave_grammar.specs.ErrorSpans.{HasTypeKind}
 use Rattle.wave_grammar.specs.TypedReading as typed
-use Rattle.wave_tree.specs.ParserState.{Parsing, IsTrailing, StaysWithout, first_at, limited, front_of, start_of}
+use Rattle.wave_tree.specs.ParserState.{Parsing, IsTrailing, StaysWithout, first_at, limited, value_start, start_of}
 use Rattle.wave_tree.specs.ParsedNodes.{IsNodeTaken}
 use Rattle.wave_tree.specs.FromStr.{PrintsWithinTwice, IsValueTaken, IsRead, IsTypeRefused, RefusesValue, IsCausedBetween, RefusesFront, BlamesText, RefusesText}
 use Rattle.wave_tree.proofs.TextReading.{all_cut, means_of, whole_read, refused_means_none, nothing_there, memory_or}
@@ -32,7 +32,7 @@ use Rattle.wave_grammar.proofs.RoundTrip.ReadsBack.{reads_merged, twice}
 -- what the type gives a node that was taken
 pub node_read : {V : Type 0} (tree_of_value : V → Value) (of : V → TypeTree → Type 0) (T : TypeTree) (n : ℕ) (source : List ℕ) (old new : Place) (parsed : NodeTree) (v : V) →
     source ≡ old.lexer.source → LeadsBehindValue n value [] old new [] → IsNodeTaken n old new parsed →
-    ((t : Placed) → IsNodeOf source parsed t → HasDistinctNames T → typed.IsTypedValue tree_of_value of T t v) → IsValueTaken tree_of_value of T n old new v
+    ((t : SpannedTree) → IsNodeOf source parsed t → HasDistinctNames T → typed.IsTypedValue tree_of_value of T t v) → IsValueTaken tree_of_value of T n old new v
 node_read tree_of_value of T n source old new parsed v same read h answer = record {
   placed = h.placed;
   read = record { read = read; taken = h.taken; stands = h.stands; spelled = h.is_node.1 };
@@ -42,7 +42,7 @@ node_read tree_of_value of T n source old new parsed v same read h answer = reco
 -- why it gives it no value
 pub node_refused : (Full : TypeTree → Type 0) (T : TypeTree) (n : ℕ) (source : List ℕ) (old new : Place) (parsed : NodeTree) (e : Diagnostic) →
     source ≡ old.lexer.source → LeadsBehindValue n value [] old new [] → IsNodeTaken n old new parsed → HasTypeKind e →
-    ((t : Placed) → IsNodeOf source parsed t → HasDistinctNames T → typed.IsTypeError Full in_text T t e) → e.kind ≢ kind.OutOfMemory → IsTypeRefused Full T n e old new
+    ((t : SpannedTree) → IsNodeOf source parsed t → HasDistinctNames T → typed.IsTypeError Full in_text T t e) → e.kind ≢ kind.OutOfMemory → IsTypeRefused Full T n e old new
 node_refused Full T n source old new parsed e same read h of_type answer apart = record {
   placed = h.placed;
   read = record { read = read; taken = h.taken; stands = h.stands; spelled = h.is_node.1 };
@@ -55,7 +55,7 @@ node_refused Full T n source old new parsed e same read h of_type answer apart =
 
 -- a value that was read within n levels prints within twice as many
 pub value_prints : {V : Type 0} (tree_of_value : V → Value) (of : V → TypeTree → Type 0) → ((v : V) (T : TypeTree) → of v T → HasType T (tree_of_value v)) →
-    (T : TypeTree) (n : ℕ) (old new : Place) (v : V) → IsValueTaken tree_of_value of T n old new v → Good T → IsOwn T → PrintsWithinTwice T n (tree_of_value v)
+    (T : TypeTree) (n : ℕ) (old new : Place) (v : V) → IsValueTaken tree_of_value of T n old new v → Good T → IsRepresentable T → PrintsWithinTwice T n (tree_of_value v)
 value_prints tree_of_value of fits T n old new v h good own =
     let taken = h.read.taken in
     let it = h.means good.1 in
@@ -92,7 +92,7 @@ text_blamed Full T n s p e h distinct = by (memory_or e.kind)
     by (inr apart) = by_kind (h apart)
 
 -- what a value that could not be read says of the text
-pub value_refused : (Full : TypeTree → Type 0) (T : TypeTree) (n : ℕ) (s : List ℕ) (old new : Parsing) (e : Diagnostic) → old ≡ limited (first_at (front_of s)) n → RefusesValue Full T old.limit e old.place new.place → LiesInText old.place.lexer.source e.span → IsCausedBetween old.limit old.place new.place e → StaysWithout e old.place new.place → RefusesText Full T n s e
+pub value_refused : (Full : TypeTree → Type 0) (T : TypeTree) (n : ℕ) (s : List ℕ) (old new : Parsing) (e : Diagnostic) → old ≡ limited (first_at (value_start s)) n → RefusesValue Full T old.limit e old.place new.place → LiesInText old.place.lexer.source e.span → IsCausedBetween old.limit old.place new.place e → StaysWithout e old.place new.place → RefusesText Full T n s e
 value_refused Full T n s old new e first refused within caused memory =
     let here = subst (λ (z : Parsing). RefusesValue Full T z.limit e z.place new.place) first refused in record {
       front = front_refused Full T n s new.place e here;

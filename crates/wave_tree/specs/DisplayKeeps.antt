@@ -5,7 +5,7 @@ use Rattle.wave_wasm.specs.Values.{Value}
 use Rattle.wave_grammar.specs.Tree.{shown}
 use Rattle.wave_grammar.specs.Calls.{shown_call}
 use Rattle.wave_grammar.specs.Params.{Params}
-use Rattle.wave_grammar.specs.SpannedTree.{Placed, slice, tree_of}
+use Rattle.wave_grammar.specs.SpannedTree.{SpannedTree, slice, tree_of}
 use Rattle.wave_grammar.specs.NodeTree.{NodeTree, place_of}
 use Rattle.wave_grammar.specs.Nodes.{IsNodeOf}
 use Rattle.wave_grammar.specs.DisplayLaws.{ShowsAgain, ShowsCallAgain, MeanTheSame}
@@ -14,7 +14,7 @@ use Rattle.wave_tree.specs.UntypedCall.{Called, IsCalledOf}
 -- the text is the display of the node's tree, spells a tree of as many levels and of the same display, and means what the node's slice means
 abbrev pub IsKeptByDisplay : List ℕ → NodeTree → List ℕ → Type 0
 IsKeptByDisplay source n text =
-    (t : Placed) → IsNodeOf source n t
+    (t : SpannedTree) → IsNodeOf source n t
     → (text ≡ shown (tree_of t)) × ShowsAgain (tree_of t) × MeanTheSame (slice source (place_of n)) text
 
 -- of a call that is its whole source, the text is its display, a call of the same name and the same display, with the same parameters at all types

@@ -12,7 +12,7 @@ use Rattle.wave_wasm.specs.Values.{Value}
 use Rattle.wave_wasm.specs.Merge.{merged}
 use Rattle.wave_grammar.specs.PrefixAutomaton.{value}
 use Rattle.wave_grammar.specs.SyntaxErrors.{LeadsBehindValue, IsSyntaxError}
-use Rattle.wave_grammar.specs.SpannedTree.{Placed, tree_of, SpellsEach}
+use Rattle.wave_grammar.specs.SpannedTree.{SpannedTree, tree_of, SpellsEach}
 use Rattle.wave_grammar.specs.Elaborates.{TreeReads}
 use Rattle.wave_grammar.specs.FaultOrder.{in_text, FirstFault}
 use Rattle.wave_grammar.specs.Denotes.{Means, MeansNone}
@@ -23,7 +23,7 @@ use Rattle.wave_tree.specs.Untyped.{SpellsTree, RefusesTree}
 use Rattle.wave_grammar.specs.TypedReading as typed
 
 -- a tree within n levels was read; it stands there, and each part of it spells its slice of the source
-pub record IsTreeRead (n : ℕ) (old new : Place) (t : Placed) : Type 0 where
+pub record IsTreeRead (n : ℕ) (old new : Place) (t : SpannedTree) : Type 0 where
   pub read : LeadsBehindValue n value [] old new []
   pub taken : IsTaken n old new (tree_of t)
   pub stands : StandsBetween old new t
@@ -34,7 +34,7 @@ pub record IsTreeRead (n : ℕ) (old new : Place) (t : Placed) : Type 0 where
 module _ {V : Type 0} (tree : V → Value) (of : V → TypeTree → Type 0) where
   -- a tree within n levels was read; where the type's names are distinct it gives the tree the value
   pub record IsValueTaken (T : TypeTree) (n : ℕ) (old new : Place) (v : V) : Type 0 where
-    pub placed : Placed
+    pub placed : SpannedTree
     pub read : IsTreeRead n old new placed
     pub means : HasDistinctNames T → typed.IsTypedValue tree of T placed v
 
@@ -57,7 +57,7 @@ module _ (Full : TypeTree → Type 0) where
   -- a tree was read, and the refusal is of a kind that reading one at a type answers; where the type's names are distinct it gives the tree no value, or a
   -- constructor refused its value
   pub record IsTypeRefused (T : TypeTree) (n : ℕ) (e : Diagnostic) (old new : Place) : Type 0 where
-    pub placed : Placed
+    pub placed : SpannedTree
     pub read : IsTreeRead n old new placed
     pub kind : HasTypeKind e
     pub blames : HasDistinctNames T → FirstFault in_text in_text T placed (refusal_of e) e.span × typed.ReadsNone T placed ⊎ (e.kind ≡ WasmValueError) × (Full T → ⊥)
@@ -74,14 +74,14 @@ IsCausedBetween n old new e = e.kind ≡ WasmValueError → (node : NodeTree) ×
 -- a type answers
 abbrev pub RefusesFront : ℕ → List ℕ → Diagnostic → Type 0
 RefusesFront n s e =
-    RefusesTree n s e ⊎ ((p : Place) × (t : Placed) × IsTreeRead n (start_of s) p t × HasTypeKind e)
+    RefusesTree n s e ⊎ ((p : Place) × (t : SpannedTree) × IsTreeRead n (start_of s) p t × HasTypeKind e)
 
 -- what is wrong with the text: no tree within n levels begins it; or the type gives the tree that does no value; or something follows that tree, which has one
 abbrev pub TextFault : TypeTree → ℕ → List ℕ → Diagnostic → Type 0
 TextFault T n s e =
     ((p : Place) × IsSyntaxError e n value [] (start_of s) p)
-    ⊎ ((p : Place) × (t : Placed) × IsTreeRead n (start_of s) p t × FirstFault in_text in_text T t (refusal_of e) e.span)
-    ⊎ ((p : Place) × (t : Placed) × (v : Value) × IsTreeRead n (start_of s) p t × TreeReads T (tree_of t) v × IsTrailing e p)
+    ⊎ ((p : Place) × (t : SpannedTree) × IsTreeRead n (start_of s) p t × FirstFault in_text in_text T t (refusal_of e) e.span)
+    ⊎ ((p : Place) × (t : SpannedTree) × (v : Value) × IsTreeRead n (start_of s) p t × TreeReads T (tree_of t) v × IsTrailing e p)
 
 -- out of memory; or a fault of the text, which within n levels means no value of the type; or, where constructors do not serve all values of the type, the
 -- refusal of one

@@ -5,7 +5,7 @@ use Rattle.wave_lex.specs.declared.lex.Token as lex
 use Rattle.wave_lex.specs.Tokenization.{remainder_of, span}
 use Rattle.wave_grammar.specs.Token.{Token}
 use Rattle.wave_grammar.specs.Tree as tree
-use Rattle.wave_grammar.specs.SpannedTree.{Placed, tree_of, span_of}
+use Rattle.wave_grammar.specs.SpannedTree.{SpannedTree, tree_of, span_of}
 use Rattle.wave_grammar.specs.NodeTree.{NodeTree}
 use Rattle.wave_grammar.specs.Nodes.{IsNodeOf}
 use Rattle.wave_grammar.specs.ParserPosition.{Place, TakesItem, TakesToken, TakesTokens}
@@ -22,7 +22,7 @@ pub record IsParsed (n : ℕ) (old new : Place) (parsed : NodeTree) : Type 0 whe
   pub others : List Token
   pub begins : TakesToken old token first
   pub taken : TakesTokens first others new
-  pub placed : Placed
+  pub placed : SpannedTree
   pub spans : span_of placed ≡ span first.lexer.start new.lexer.end
   pub is_node : IsSound old → IsNodeOf old.lexer.source parsed placed
   pub takes : (rest : List Token) → NoParen rest → tree.Takes n (token ∷ (others ++ rest)) (tree_of placed) rest
@@ -44,12 +44,12 @@ pub record IsTaken (n : ℕ) (old new : Place) (t : tree.Tree) : Type 0 where
   pub takes : tree.Takes n tokens t []
 
 -- the tree stands between the places, from its first token to its last
-abbrev pub StandsBetween : Place → Place → Placed → Type 0
+abbrev pub StandsBetween : Place → Place → SpannedTree → Type 0
 StandsBetween old new t = (first : Place) × (token : Token) × TakesToken old token first × (span_of t ≡ span first.lexer.start new.lexer.end)
 
 -- the parser took the tokens of the tree that the node means, within n levels, and there it stands
 pub record IsNodeTaken (n : ℕ) (old new : Place) (parsed : NodeTree) : Type 0 where
-  pub placed : Placed
+  pub placed : SpannedTree
   pub is_node : IsNodeOf old.lexer.source parsed placed
   pub taken : IsTaken n old new (tree_of placed)
   pub stands : StandsBetween old new placed

@@ -28,12 +28,12 @@ abbrev pub limited : Parsing → ℕ → Parsing
 limited p n = record { place = p.place; ahead = p.ahead; limit = n }
 
 -- a lexer before the source
-abbrev pub front_of : List ℕ → Lexed
-front_of source = record { source = source; start = 0; end = 0 }
+abbrev pub value_start : List ℕ → Lexed
+value_start source = record { source = source; start = 0; end = 0 }
 
 -- before the text
 abbrev pub start_of : List ℕ → Place
-start_of s = record { lexer = front_of s; taken = 0 }
+start_of s = record { lexer = value_start s; taken = 0 }
 
 -- how often the lexer was asked
 abbrev pub asked : Parsing → ℕ

@@ -7,7 +7,7 @@ use Rattle.wave_grammar.specs.Tree.{Tree}
 use Rattle.wave_grammar.specs.ParserPosition.{Place, TakesItem}
 use Rattle.wave_grammar.specs.PrefixAutomaton.{value}
 use Rattle.wave_grammar.specs.SyntaxErrors.{LeadsBehindValue, IsSyntaxError}
-use Rattle.wave_grammar.specs.SpannedTree.{Placed, tree_of}
+use Rattle.wave_grammar.specs.SpannedTree.{SpannedTree, tree_of}
 use Rattle.wave_grammar.specs.NodeTree.{NodeTree}
 use Rattle.wave_grammar.specs.Nodes.{IsNodeOf}
 use Rattle.wave_tree.specs.ParsedNodes.{IsTaken, IsNodeTaken, StandsBetween}
@@ -30,7 +30,7 @@ SpellsTree n s = (t : Tree) × SpellsText n s t
 -- the value keeps the text, and its node means the tree that the whole text spells within n levels, from its first token to its last
 pub record IsUntypedOf (n : ℕ) (s : List ℕ) (u : Untyped) : Type 0 where
   pub source : u.source ≡ s
-  pub placed : Placed
+  pub placed : SpannedTree
   pub is_node : IsNodeOf s u.node placed
   pub spelled : SpellsText n s (tree_of placed)
   pub last : Place

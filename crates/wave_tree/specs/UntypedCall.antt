@@ -5,7 +5,7 @@ use Rattle.wave_wasm.specs.Values.{Value}
 use Rattle.std.specs.declared.ops.Range.{Range}
 use Rattle.wave_lex.specs.declared.lex.Token.TheVariants.{ParenOpen, ParenClose}
 use Rattle.wave_lex.specs.declared.error.ParserErrorKind.TheVariants.{InvalidToken, UnexpectedEnd, OutOfMemory}
-use Rattle.wave_lex.specs.LongestMatch.{IsFront}
+use Rattle.wave_lex.specs.LongestMatch.{IsPrefixOf}
 use Rattle.wave_lex.specs.Tokens.{any}
 use Rattle.wave_lex.specs.FunctionName.{IsName, NoName}
 use Rattle.wave_lex.specs.Tokenization.{span}
@@ -17,7 +17,7 @@ use Rattle.wave_grammar.specs.ParserPosition.{Place, TakesTokens}
 use Rattle.wave_grammar.specs.PrefixAutomaton.{value, first_item, tuple}
 use Rattle.wave_lex.specs.Errors.{Diagnostic, Says}
 use Rattle.wave_grammar.specs.SyntaxErrors.{LeadsBehindValue, IsSyntaxError}
-use Rattle.wave_grammar.specs.SpannedTree.{Placed, tree_of, slice}
+use Rattle.wave_grammar.specs.SpannedTree.{SpannedTree, tree_of, slice}
 use Rattle.wave_grammar.specs.NodeTree.{NodeTree, type_of}
 use Rattle.wave_grammar.specs.Nodes.{IsNodeOf}
 use Rattle.wave_grammar.specs.TypedReading.{IsValueOf}
@@ -41,7 +41,7 @@ IsParamsOf source (Some n) = IsValueOf source n × (type_of n ≡ kind.Tuple)
 -- the tuple that a node means, or nothing for none
 abbrev pub MeansParams : List ℕ → Option NodeTree → MaybeTree → Type 0
 MeansParams source None params = params ≡ no_tree
-MeansParams source (Some n) params = (t : Placed) × IsNodeOf source n t × (params ≡ a_tree (tree_of t))
+MeansParams source (Some n) params = (t : SpannedTree) × IsNodeOf source n t × (params ≡ a_tree (tree_of t))
 
 -- after a function name of k bytes, before its parameters
 abbrev pub behind_name : List ℕ → ℕ → Place
@@ -51,7 +51,7 @@ behind_name s k = record { lexer = record { source = s; start = 0; end = k }; ta
 abbrev pub ParamsStand : List ℕ → ℕ → Option NodeTree → Type 0
 ParamsStand s k None = Unit {0}
 ParamsStand s k (Some n) =
-    (t : Placed) × (tokens : List Token) × (last : Place) × (behind : Place)
+    (t : SpannedTree) × (tokens : List Token) × (last : Place) × (behind : Place)
     × IsNodeOf s n t × TakesTokens (behind_name s k) tokens last
     × StandsBetween (behind_name s k) last t × place.TakesItem last None behind
 
@@ -68,7 +68,7 @@ pub record IsCalledOf (s : List ℕ) (u : Called) : Type 0 where
 pub record IsTupleTaken (n : ℕ) (old new : Place) (parsed : NodeTree) : Type 0 where
   pub read : LeadsBehindValue (n + 1) value [] old new []
   pub ty : type_of parsed ≡ kind.Tuple
-  pub placed : Placed
+  pub placed : SpannedTree
   pub is_node : IsNodeOf old.lexer.source parsed placed
   pub tokens : List Token
   pub taken : TakesTokens old tokens new
@@ -89,7 +89,7 @@ RefusesTuple e old new =
 abbrev pub NameFault : List ℕ → Diagnostic → Type 0
 NameFault s e =
     (s ≡ []) × Says e UnexpectedEnd (span 0 0) None
-    ⊎ ((k : ℕ) × NoName s × IsFront any s k × Says e InvalidToken (span 0 k) None)
+    ⊎ ((k : ℕ) × NoName s × IsPrefixOf any s k × Says e InvalidToken (span 0 k) None)
 
 -- what is wrong with the text: it begins with no name; or no parameters follow the name; or something follows them
 abbrev pub CallFault : List ℕ → Diagnostic → Type 0
@@ -122,10 +122,10 @@ call_shown u = slice u.source u.name ++ params_at u.source u.params
 -- a refusal of the parameters at the types
 abbrev pub RefusesParamsAt : (TypeTree → Type 0) → List TypeTree → List ℕ → Range ℕ → Option NodeTree → Diagnostic → Type 0
 RefusesParamsAt Full Ts source name None e = RefusesNone Full Ts name e
-RefusesParamsAt Full Ts source name (Some n) e = (t : Placed) → IsNodeOf source n t → RefusesParams Full Ts n t e
+RefusesParamsAt Full Ts source name (Some n) e = (t : SpannedTree) → IsNodeOf source n t → RefusesParams Full Ts n t e
 
 module _ {V : Type 0} (tree : V → Value) (of : V → TypeTree → Type 0) where
   -- the values of the parameters at the types
   abbrev pub GivesParamsAt : List TypeTree → List ℕ → Option NodeTree → List V → Type 0
   GivesParamsAt Ts source None vs = AreOmitted tree of Ts vs
-  GivesParamsAt Ts source (Some n) vs = (t : Placed) → IsNodeOf source n t → GivesParams tree of Ts n t vs
+  GivesParamsAt Ts source (Some n) vs = (t : SpannedTree) → IsNodeOf source n t → GivesParams tree of Ts n t vs

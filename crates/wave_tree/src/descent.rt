@@ -14,11 +14,11 @@ ghost use Rattle.wave_grammar.specs.NodeTree.{NodeTree, node, no_nodes};
 ghost use Rattle.wave_grammar.specs.declared.form.NodeType.TheVariants as node_type;
 ghost use Rattle.wave_tree.specs.ParsedNodes.{IsParsed, IsBuilt, TakesClass};
 ghost use Rattle.wave_tree.specs.Private.ParsedNodes.{IsParsedBehind, IsOfPayload, IsMaybe, IsPayload, IsOfItems, IsOfEntries, IsOfFlags, label_children};
-ghost use Rattle.wave_tree.specs.Private.ParserState.{AsksFor, IsFront, WantsOnly};
+ghost use Rattle.wave_tree.specs.Private.ParserState.{AsksFor, IsValueStart, OnlyOutOfMemory};
 
 use crate::ast::NodeType;
 use crate::refusal::Refusal;
-use crate::role::{Front, front_of, key_type};
+use crate::role::{ValueStart, key_type, value_start};
 use crate::tokens::Tokens;
 use std::alloc::Global;
 use std::collections::BTreeMap;
@@ -36,14 +36,14 @@ impl<'source> Tokens<'source> {
     ) -> Result<P::Made, Refusal>
         ensures led { GivesWithin result levels due.value [] self.old.place self.new.place }
         ensures tree { IfOk result (IsBuilt (P.is_made builder) self.old.place (IsParsed levels self.old.place self.new.place)) }
-        ensures memory { IfErr result (WantsOnly (P.takes_memory builder) self.old.place) }
+        ensures memory { IfErr result (OnlyOutOfMemory (P.takes_memory builder) self.old.place) }
         ensures asks { AsksFor self.old self.new }
     {
         if levels == 0 {
             return self.refuse_depth();
         }
         let token = self.advance()?;
-        let front = front_of(token, self.slice());
+        let front = value_start(token, self.slice());
         self.parse_behind(alloc, builder, levels, token, front)
     }
 
@@ -64,21 +64,21 @@ impl<'source> Tokens<'source> {
             IfOk result (λ _. (of : NodeType) (children : List NodeTree) → TakesPart of children → P.are_parts builder source of children parts.old
             → (part : NodeTree) × IsParsed levels self.old.place self.new.place part × P.are_parts builder source of (children ++ part ∷ []) parts.new) }
         ensures memory { IfErr result (λ e. (source : List ℕ) (of : NodeType) (children : List NodeTree) → P.are_parts builder source of children parts.old
-            → WantsOnly (P.takes_memory builder) self.old.place e) }
+            → OnlyOutOfMemory (P.takes_memory builder) self.old.place e) }
         ensures asks { AsksFor self.old self.new }
     {
         if levels == 0 {
             return self.refuse_depth();
         }
         let token = self.advance()?;
-        let front = front_of(token, self.slice());
+        let front = value_start(token, self.slice());
         let part = builder.part(parts);
-        if let Front::Alone(ty) = front {
+        if let ValueStart::Alone(ty) = front {
             let made = self.leaf_here(alloc, part, ty);
-            return self.with_part(alloc, builder, parts, made);
+            return self.push_part(alloc, builder, parts, made);
         }
         let made = self.parse_behind(alloc, part, levels, token, front)?;
-        self.with_part(alloc, builder, parts, made)
+        self.push_part(alloc, builder, parts, made)
     }
 
     /// Reads what stands after the first token of a value, which is of this class and begins a value so.
@@ -92,43 +92,48 @@ impl<'source> Tokens<'source> {
         builder: P,
         levels: u32,
         token: Token,
-        front: Front,
+        front: ValueStart,
     ) -> Result<P::Made, Refusal>
         requires levels { 0 < levels }
-        requires front { IsFront token (text_at self.old.place) front }
+        requires front { IsValueStart token (text_at self.old.place) front }
         ensures led { (first : Place) → TakesClass token first self.old.place → GivesWithin result levels due.value [] first self.new.place }
         ensures tree { IfOk result (IsBuilt (P.is_made builder) self.old.place (IsParsedBehind token levels self.old.place self.new.place)) }
-        ensures memory { (first : Place) → TakesClass token first self.old.place → IfErr result (WantsOnly (P.takes_memory builder) first) }
+        ensures memory { (first : Place) → TakesClass token first self.old.place → IfErr result (OnlyOutOfMemory (P.takes_memory builder) first) }
         ensures asks { AsksFor self.old self.new }
     {
         match front {
-            Front::Alone(ty) => Ok(self.leaf(alloc, builder, ty)),
-            Front::Some => self.parse_some(alloc, builder, levels - 1),
-            Front::Ok => self.parse_maybe(
+            ValueStart::Alone(ty) => Ok(self.leaf(alloc, builder, ty)),
+            ValueStart::Some => self.parse_some(alloc, builder, levels - 1),
+            ValueStart::Ok => self.parse_maybe(
                 alloc,
                 builder,
                 levels - 1,
                 NodeType::ResultOk,
                 NodeType::ResultOk,
             ),
-            Front::Err => self.parse_maybe(
+            ValueStart::Err => self.parse_maybe(
                 alloc,
                 builder,
                 levels - 1,
                 NodeType::ResultErr,
                 NodeType::ResultErr,
             ),
-            Front::Case => self.parse_maybe(
+            ValueStart::Case => self.parse_maybe(
                 alloc,
                 builder,
                 levels - 1,
                 NodeType::Label,
                 NodeType::VariantWithPayload,
             ),
-            Front::Paren => self.parse_items(alloc, builder, levels - 1, Token::ParenClose),
-            Front::Bracket => self.parse_items(alloc, builder, levels - 1, Token::BracketClose),
-            Front::Brace => self.parse_braces(alloc, builder, levels - 1),
-            Front::Nothing => self.refuse_token(token),
+            ValueStart::Paren => self.parse_items(alloc, builder, levels - 1, Token::ParenClose),
+            ValueStart::Bracket => self.parse_items(
+                alloc,
+                builder,
+                levels - 1,
+                Token::BracketClose,
+            ),
+            ValueStart::Brace => self.parse_braces(alloc, builder, levels - 1),
+            ValueStart::Nothing => self.refuse_token(token),
         }
     }
 
@@ -145,7 +150,7 @@ impl<'source> Tokens<'source> {
         ensures led { GivesWithin result (levels + 1) due.paren [] self.old.place self.new.place }
         ensures tree { IfOk result (IsBuilt (P.is_made builder) self.old.place
             (IsParsedBehind lex_class.LabelOrKeyword (levels + 1) self.old.place self.new.place)) }
-        ensures memory { IfErr result (WantsOnly (P.takes_memory builder) self.old.place) }
+        ensures memory { IfErr result (OnlyOutOfMemory (P.takes_memory builder) self.old.place) }
         ensures asks { AsksFor self.old self.new }
     {
         let start = self.span().start;
@@ -168,7 +173,7 @@ impl<'source> Tokens<'source> {
         requires { IsOneToken alone × IsOfPayload with }
         ensures led { GivesWithin result (levels + 1) due.behind_label [] self.old.place self.new.place }
         ensures tree { IfOk result (IsBuilt (P.is_made builder) self.old.place (IsMaybe levels alone with self.old.place self.new.place)) }
-        ensures memory { IfErr result (WantsOnly (P.takes_memory builder) self.old.place) }
+        ensures memory { IfErr result (OnlyOutOfMemory (P.takes_memory builder) self.old.place) }
         ensures asks { AsksFor self.old self.new }
     {
         let start = self.span().start;
@@ -195,7 +200,7 @@ impl<'source> Tokens<'source> {
     {
         let mut parts = builder.parts(alloc, ty);
         if let NodeType::VariantWithPayload = ty {
-            self.with_key(alloc, builder, &mut parts, NodeType::Label)?;
+            self.push_key(alloc, builder, &mut parts, NodeType::Label)?;
         }
         Ok(parts)
     }
@@ -216,7 +221,7 @@ impl<'source> Tokens<'source> {
         ensures tree { IfOk result (λ made. (front : List NodeTree) → TakesPart ty front → P.are_parts builder self.old.place.lexer.source ty front parts
             → IsBuilt (P.is_made builder) self.old.place (IsPayload levels ty start front self.old.place self.new.place) made) }
         ensures memory { IfErr result (λ e. (front : List NodeTree) → TakesPart ty front → P.are_parts builder self.old.place.lexer.source ty front parts
-            → WantsOnly (P.takes_memory builder) self.old.place e) }
+            → OnlyOutOfMemory (P.takes_memory builder) self.old.place e) }
         ensures asks { AsksFor self.old self.new }
     {
         let mut parts = parts;
@@ -238,7 +243,7 @@ impl<'source> Tokens<'source> {
         requires { IsClose close }
         ensures led { GivesWithin result (levels + 1) due.first_item (form_of close ∷ []) self.old.place self.new.place }
         ensures tree { IfOk result (IsBuilt (P.is_made builder) self.old.place (IsOfItems levels close self.old.place self.new.place)) }
-        ensures memory { IfErr result (WantsOnly (P.takes_memory builder) self.old.place) }
+        ensures memory { IfErr result (OnlyOutOfMemory (P.takes_memory builder) self.old.place) }
         ensures asks { AsksFor self.old self.new }
     {
         let start = self.span().start;
@@ -326,7 +331,7 @@ impl<'source> Tokens<'source> {
         ensures takes { IfErr result (λ _. P.takes_memory builder) }
     {
         let mut parts = builder.parts(alloc, NodeType::TupleSet);
-        self.with_key(alloc, builder, &mut parts, ty)?;
+        self.push_key(alloc, builder, &mut parts, ty)?;
         Ok(parts)
     }
 
@@ -363,7 +368,7 @@ impl<'source> Tokens<'source> {
             let Some(ty) = key_type(next) else {
                 return self.refuse_token(next);
             };
-            self.with_key(alloc, builder, &mut parts, ty)?;
+            self.push_key(alloc, builder, &mut parts, ty)?;
             self.expect(Token::Colon)?;
         }
     }

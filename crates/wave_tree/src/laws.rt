@@ -8,12 +8,12 @@ ghost use Rattle.wave_tree.specs.WholeTextLaws.{ReadsWholeText, ReadsWholeTree};
 ghost use Rattle.wave_grammar.specs.NodeLaws.{FaultsLieInText};
 
 pub use wave_grammar::laws::{
-    a_fault_alone_is_answered, answered_faults_are_faults, fronts_are_led, keys_are_values,
-    last_commas_mean_nothing, led_tokens_begin_a_tree, led_tokens_have_a_tree, levels_are_exact,
-    nodes_read_as_their_tokens, one_fault, one_reading, one_tree, order_means_nothing,
-    orders_agree, params_are_by_tree, reading_is_by_tree, refusals_are_of_their_kind,
-    refused_tokens_begin_none, same_tokens_mean_the_same, shown_call_keeps_meaning,
-    shown_keeps_meaning, trees_are_led, unexpected_tokens_begin_none,
+    a_fault_alone_is_answered, accepted_tokens_have_a_tree, answered_faults_are_faults,
+    keys_are_values, last_commas_mean_nothing, levels_are_exact, nodes_read_as_their_tokens,
+    one_fault, one_reading, one_tree, order_means_nothing, orders_agree, params_are_by_tree,
+    prefixes_are_viable, reading_is_by_tree, refusal_kinds_sound, refused_tokens_begin_none,
+    same_tokens_mean_the_same, shown_call_keeps_meaning, shown_keeps_meaning, trees_are_accepted,
+    unexpected_tokens_begin_none, viable_tokens_begin_a_tree,
 };
 use wave_wasm::wasm::WasmValue;
 
@@ -46,7 +46,7 @@ pub fn whole_texts_are_read<V: WasmValue>()
 
 /// A new parser before n tokens, which end or go on with what is no token, asks its lexer n + 1 times
 /// at most for `parse_value` and, where that has read a value, for `finish` after it.
-pub fn askings_are_few()
+pub fn lexer_calls_bounded()
     ensures { AskingsAreFew }
 {}
 

@@ -7,9 +7,9 @@ use wave_lex::lex::Span;
 
 /// The builder that makes of each value its node.
 #[derive(Clone, Copy)]
-pub struct Nodes;
+pub struct NodeBuilder;
 
-impl Builder for Nodes {
+impl Builder for NodeBuilder {
     type Made = Node;
 
     type Parts = Vec<Node>;
@@ -43,12 +43,12 @@ impl Builder for Nodes {
     }
 
     #[inline(always)]
-    fn part(self, parts: &Vec<Node>) -> Nodes {
+    fn part(self, parts: &Vec<Node>) -> NodeBuilder {
         self
     }
 
     #[inline(always)]
-    fn with_key(
+    fn push_key(
         self,
         alloc: Global,
         parts: &mut Vec<Node>,
@@ -62,7 +62,7 @@ impl Builder for Nodes {
     }
 
     #[inline(always)]
-    fn with_part(self, alloc: Global, parts: &mut Vec<Node>, made: Node) -> Result<(), AllocError> {
+    fn push_part(self, alloc: Global, parts: &mut Vec<Node>, made: Node) -> Result<(), AllocError> {
         parts.reserve(1)?;
         parts.push_reserved(made);
         Ok(())

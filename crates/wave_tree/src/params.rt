@@ -12,7 +12,7 @@ ghost use Rattle.wave_lex.specs.Errors.{Says};
 ghost use Rattle.wave_grammar.specs.ErrorSpans.{IsCausedIn, IsAtPlace, HasParamsKind};
 ghost use Rattle.wave_lex.specs.Errors.{LiesInText};
 ghost use Rattle.wave_grammar.specs.Nodes.{IsNodeOf, IsParsedFrom};
-ghost use Rattle.wave_grammar.specs.SpannedTree.{Placed};
+ghost use Rattle.wave_grammar.specs.SpannedTree.{SpannedTree};
 ghost use Rattle.wave_grammar.specs.NodeParams.{AreOmitted, RefusesNone};
 ghost use Rattle.wave_grammar.specs.NodeParams.{GivesParams, RefusesParams, IsNoOption, close_of};
 ghost use Rattle.wave_grammar.specs.Shared.NodeParams.{RefusesOmitted};
@@ -37,9 +37,9 @@ impl Node {
     ) -> Result<Vec<V>, ParserError>
         requires { IsParsedFrom src.now self.now }
         ensures count { IfOk result (λ vs. length vs.items ≡ length types.now) }
-        ensures values { (t : Placed) → IsNodeOf src.now self.now t
+        ensures values { (t : SpannedTree) → IsNodeOf src.now self.now t
             → IfOk result (λ vs. GivesParams V.tree V.is_of (map V.Type.tree types.now) self.now t vs.items) }
-        ensures refused { (t : Placed) → IsNodeOf src.now self.now t
+        ensures refused { (t : SpannedTree) → IsNodeOf src.now self.now t
             → IfErr result (RefusesParams V.is_full (map V.Type.tree types.now) self.now t) }
         ensures form { type_of self.now ≢ Tuple → IsErrAnd result (RefusedAs InvalidType self.now) }
         ensures kind { IfErr result HasParamsKind }

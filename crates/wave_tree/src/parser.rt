@@ -1,13 +1,13 @@
 //! The parser of values.
 ghost use Rattle.std.specs.Prelude.{◌≡◌, ◌≢◌, ◌+◌, IfOk, IfErr, []};
-ghost use Rattle.wave_wasm.specs.Types.{IsOwn};
+ghost use Rattle.wave_wasm.specs.Types.{IsRepresentable};
 ghost use Rattle.wave_lex.specs.declared.error.ParserErrorKind.TheVariants as kind;
 ghost use Rattle.wave_lex.specs.Errors.{LiesInText};
 ghost use Rattle.wave_lex.specs.Labels.{Good};
 ghost use Rattle.wave_grammar.specs.PrefixAutomaton as due;
 ghost use Rattle.wave_grammar.specs.SyntaxErrors.{Gives};
 ghost use Rattle.wave_read.specs.PlainReading.{IsPlain};
-ghost use Rattle.wave_tree.specs.ParserState.{BeginsRow, HoldsNoBrace, Parsing, IsLimit, asked, Asks, first_at, front_of, limited, Finishes, StaysWithout};
+ghost use Rattle.wave_tree.specs.ParserState.{BeginsRow, HoldsNoBrace, Parsing, IsLimit, asked, Asks, first_at, value_start, limited, Finishes, StaysWithout};
 ghost use Rattle.wave_tree.specs.Untyped.{IsUntypedTaken};
 ghost use Rattle.wave_tree.specs.FromStr.{IsValueTaken, RefusesValue, IsCausedBetween, PrintsWithinTwice};
 
@@ -46,7 +46,7 @@ impl<'source> Model for Parser<'source> {
 impl<'source> Parser<'source> {
     /// A parser before the source, with the limit `DEFAULT_LEVELS`.
     pub fn new(source: &'source str) -> Self
-        ensures { result ≡ first_at (front_of source.now) }
+        ensures { result ≡ first_at (value_start source.now) }
     {
         Parser::with_lexer(Lexer::new(source))
     }
@@ -117,7 +117,7 @@ impl<'source> Parser<'source> {
         ensures caused { IfErr result (IsCausedBetween self.old.limit self.old.place self.new.place) }
         ensures memory { IfErr result (λ e. StaysWithout e self.old.place self.new.place) }
         ensures twice { let T = V.Type.tree ty.now in
-            Good T → IsOwn T → IfOk result (λ v. PrintsWithinTwice T self.old.limit (V.tree v)) }
+            Good T → IsRepresentable T → IfOk result (λ v. PrintsWithinTwice T self.old.limit (V.tree v)) }
         ensures spares { IsPlain (V.Type.tree ty.now) → BeginsRow self.old.place → HoldsNoBrace self.old.place → IfErr result (λ e. e.kind ≢ kind.OutOfMemory) }
         ensures asks { Asks self.old self.new }
         ensures keeps { self.new.limit ≡ self.old.limit }

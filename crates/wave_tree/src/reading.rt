@@ -24,7 +24,7 @@ use wave_lex::lex::Span;
 use wave_read::failure::Failure;
 use wave_read::fault::or_error_at;
 use wave_read::records::left_out;
-use wave_read::values::{Values, surrounded};
+use wave_read::values::{ValueBuilder, surrounded};
 use wave_wasm::wasm::{WasmType, WasmTypeKind, WasmValue};
 
 impl Node {
@@ -39,7 +39,7 @@ impl Node {
         requires { IsValueOf src.now self.now }
         ensures { IsReadAs V.tree V.is_of V.is_full by_type by_type (V.Type.tree ty.now) src.now self.now result }
     {
-        match self.make(alloc, Values::<V>::new(ty), src) {
+        match self.make(alloc, ValueBuilder::<V>::new(ty), src) {
             Ok(Ok(val)) => Ok(val),
             Ok(Err(failure)) => Err(failure.into_error()),
             Err(_) => Err(self.out_of_memory()),
@@ -52,7 +52,7 @@ impl Node {
     fn make<V: WasmValue>(
         &self,
         alloc: Global,
-        builder: Values<'_, V>,
+        builder: ValueBuilder<'_, V>,
         src: &str,
     ) -> Result<Result<V, Failure>, AllocError>
         requires { IsValueOf src.now self.now }
@@ -76,7 +76,7 @@ impl Node {
     fn make_of_token<V: WasmValue>(
         &self,
         alloc: Global,
-        builder: Values<'_, V>,
+        builder: ValueBuilder<'_, V>,
         src: &str,
     ) -> Result<V, Failure>
         requires value { IsValueOf src.now self.now }
@@ -91,7 +91,7 @@ impl Node {
     fn make_of_flags<V: WasmValue>(
         &self,
         alloc: Global,
-        builder: Values<'_, V>,
+        builder: ValueBuilder<'_, V>,
         src: &str,
     ) -> Result<Result<V, Failure>, AllocError>
         requires value { IsValueOf src.now self.now }
@@ -130,7 +130,7 @@ impl Node {
     fn make_of_parts<V: WasmValue>(
         &self,
         alloc: Global,
-        builder: Values<'_, V>,
+        builder: ValueBuilder<'_, V>,
         src: &str,
     ) -> Result<Result<V, Failure>, AllocError>
         requires value { IsValueOf src.now self.now }
@@ -148,10 +148,10 @@ impl Node {
             let node = &nodes[i];
             if self.takes_key(i) {
                 let key = node.leaf(src);
-                parts.with_key(alloc, key.ty, key.span, key.text)?;
+                parts.push_key(alloc, key.ty, key.span, key.text)?;
             } else {
                 let made = node.make(alloc, parts.next(), src)?;
-                parts.with_part(alloc, made)?;
+                parts.push_part(alloc, made)?;
             }
         }
         Ok(parts.whole(alloc, self.span()))

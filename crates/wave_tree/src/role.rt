@@ -3,14 +3,14 @@ ghost use Rattle.std.specs.Prelude.{◌≡◌, MatchOption};
 ghost use Rattle.wave_lex.specs.declared.lex.Token.TheVariants.{LabelOrKeyword};
 ghost use Rattle.wave_grammar.specs.Shared.TokenRoles.{IsKeyClass};
 ghost use Rattle.wave_tree.specs.Private.ParsedNodes.{key_node_type};
-ghost use Rattle.wave_tree.specs.Private.ParserState.{IsFront};
+ghost use Rattle.wave_tree.specs.Private.ParserState.{IsValueStart};
 
 use crate::ast::NodeType;
 use wave_lex::lex::Token;
 
 /// What a value begins with.
 #[derive(Clone, Copy)]
-pub(crate) enum Front {
+pub(crate) enum ValueStart {
     /// A value on its own, whatever stands after it. Its node has this type.
     Alone(NodeType),
     /// `some`
@@ -33,42 +33,42 @@ pub(crate) enum Front {
 
 /// What a value begins with whose first token has this class and text.
 #[inline(always)]
-pub(crate) fn front_of(token: Token, text: &str) -> Front
-    ensures { IsFront token text.now result }
+pub(crate) fn value_start(token: Token, text: &str) -> ValueStart
+    ensures { IsValueStart token text.now result }
 {
     match token {
-        Token::Number => Front::Alone(NodeType::Number),
-        Token::Char => Front::Alone(NodeType::Char),
-        Token::String => Front::Alone(NodeType::String),
-        Token::MultilineString => Front::Alone(NodeType::MultilineString),
+        Token::Number => ValueStart::Alone(NodeType::Number),
+        Token::Char => ValueStart::Alone(NodeType::Char),
+        Token::String => ValueStart::Alone(NodeType::String),
+        Token::MultilineString => ValueStart::Alone(NodeType::MultilineString),
         Token::LabelOrKeyword => label_front(text),
-        Token::ParenOpen => Front::Paren,
-        Token::BracketOpen => Front::Bracket,
-        Token::BraceOpen => Front::Brace,
-        _ => Front::Nothing,
+        Token::ParenOpen => ValueStart::Paren,
+        Token::BracketOpen => ValueStart::Bracket,
+        Token::BraceOpen => ValueStart::Brace,
+        _ => ValueStart::Nothing,
     }
 }
 
 /// What a value begins with whose first token is the label of this text.
-fn label_front(text: &str) -> Front
-    ensures { IsFront LabelOrKeyword text.now result }
+fn label_front(text: &str) -> ValueStart
+    ensures { IsValueStart LabelOrKeyword text.now result }
 {
     if text == "true" {
-        Front::Alone(NodeType::BoolTrue)
+        ValueStart::Alone(NodeType::BoolTrue)
     } else if text == "false" {
-        Front::Alone(NodeType::BoolFalse)
+        ValueStart::Alone(NodeType::BoolFalse)
     } else if text == "inf" || text == "nan" {
-        Front::Alone(NodeType::Number)
+        ValueStart::Alone(NodeType::Number)
     } else if text == "none" {
-        Front::Alone(NodeType::OptionNone)
+        ValueStart::Alone(NodeType::OptionNone)
     } else if text == "some" {
-        Front::Some
+        ValueStart::Some
     } else if text == "ok" {
-        Front::Ok
+        ValueStart::Ok
     } else if text == "err" {
-        Front::Err
+        ValueStart::Err
     } else {
-        Front::Case
+        ValueStart::Case
     }
 }
 

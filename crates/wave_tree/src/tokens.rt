@@ -22,7 +22,7 @@ ghost use Rattle.wave_tree.specs.ParserLaws.{LiesInSource};
 
 use crate::ast::{Node, NodeType};
 use crate::item::Item;
-use crate::nodes::Nodes;
+use crate::nodes::NodeBuilder;
 use crate::parser::DEFAULT_LEVELS;
 use crate::refusal::Refusal;
 use std::alloc::{AllocError, Global};
@@ -32,7 +32,7 @@ use wave_grammar::builder::Builder;
 use wave_lex::asked::Asked;
 use wave_lex::error::{ParserError, ParserErrorKind};
 use wave_lex::lex::{Lexer, Span, Token};
-use wave_read::values::Values;
+use wave_read::values::ValueBuilder;
 use wave_wasm::wasm::WasmValue;
 
 /// The words on a name that stands twice.
@@ -337,7 +337,7 @@ impl<'source> Tokens<'source> {
     }
 
     /// Adds the last token to the parts: a key, or the label of a case.
-    pub(crate) fn with_key<P: Builder>(
+    pub(crate) fn push_key<P: Builder>(
         &self,
         alloc: Global,
         builder: P,
@@ -353,7 +353,7 @@ impl<'source> Tokens<'source> {
         ensures takes { IfErr result (λ _. (source : List ℕ) (of : NodeType) (children : List NodeTree)
             → P.are_parts builder source of children parts.old → P.takes_memory builder) }
     {
-        match builder.with_key(alloc, parts, ty, self.span(), self.slice()) {
+        match builder.push_key(alloc, parts, ty, self.span(), self.slice()) {
             Ok(()) => Ok(()),
             Err(_) => Err(self.out_of_memory()),
         }
@@ -361,7 +361,7 @@ impl<'source> Tokens<'source> {
 
     /// Adds the next part.
     #[inline(always)]
-    pub(crate) fn with_part<P: Builder>(
+    pub(crate) fn push_part<P: Builder>(
         &self,
         alloc: Global,
         builder: P,
@@ -376,7 +376,7 @@ impl<'source> Tokens<'source> {
         ensures takes { IfErr result (λ _. (source : List ℕ) (of : NodeType) (children : List NodeTree)
             → P.are_parts builder source of children parts.old → P.takes_memory builder) }
     {
-        match builder.with_part(alloc, parts, made) {
+        match builder.push_part(alloc, parts, made) {
             Ok(()) => Ok(()),
             Err(_) => Err(self.out_of_memory()),
         }
@@ -428,7 +428,7 @@ impl<'source> Tokens<'source> {
         ensures asks { AsksFor self.old self.new }
     {
         let start = self.start_here();
-        match self.parse_node(alloc, Nodes, levels) {
+        match self.parse_node(alloc, NodeBuilder, levels) {
             Ok(node) => Ok((node, start)),
             Err(refusal) => Err(self.refuse(refusal.into_error(), start)),
         }
@@ -451,7 +451,7 @@ impl<'source> Tokens<'source> {
         ensures asks { AsksFor self.old self.new }
     {
         let start = self.start_here();
-        let builder: Values<V> = Values::new(ty);
+        let builder: ValueBuilder<V> = ValueBuilder::new(ty);
         match self.parse_node(alloc, builder, levels) {
             Ok(Ok(value)) => Ok(value),
             Ok(Err(failure)) => Err(self.refuse(failure.into_error(), start)),
@@ -491,7 +491,7 @@ impl<'source> Tokens<'source> {
                 Err(refusal) => Err(refusal.into_error()),
             };
         }
-        match self.parse_items(alloc, Nodes, DEFAULT_LEVELS, Token::ParenClose) {
+        match self.parse_items(alloc, NodeBuilder, DEFAULT_LEVELS, Token::ParenClose) {
             Ok(tuple) => Ok(Some(tuple)),
             Err(refusal) => Err(self.refuse(refusal.into_error(), start)),
         }

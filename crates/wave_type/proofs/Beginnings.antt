@@ -18,7 +18,7 @@ use Rattle.wave_lex.specs.Tokens.{lower, digit, ◌or◌}
 use Rattle.wave_type.specs.declared.error.TypeErrorKind.{TypeErrorKind}
 use Rattle.wave_type.specs.declared.error.TypeErrorKind.TheVariants.{UnexpectedToken, UnexpectedEnd, DuplicateName, InvalidKeyType, InvalidCount}
 use Rattle.wave_type.specs.TypeFaults.{Part, no_more, a_length, err_type, more_types, more_fields, more_cases, more_names}
-use Rattle.wave_type.specs.TypeFaults.{Due, mark_due, type_due, key_due, ok_due, part_due, close_due, last_due, payloads_due, payload_due, results_due, result_due}
+use Rattle.wave_type.specs.TypeFaults.{Expectation, mark_due, type_due, key_due, ok_due, part_due, close_due, last_due, payloads_due, payload_due, results_due, result_due}
 use Rattle.wave_type.specs.TypeFaults.{Step, takes, passes, refuses, due_behind, before, word_step, type_step, only_step, name_step, part_step, step, refused, due_of_type, due_of_function}
 use Rattle.wave_type.specs.TypeFaultLaws.{TakenBegins}
 use Rattle.wave_type.specs.FunctionSpelling.{SpellsParts, SpellsResults}
@@ -100,7 +100,7 @@ FillsResult ts r =
     ⊎ ((xs : List (List ℕ × TypeTree)) × (k : Tokens) × (ts ≡ codes "(" ∷ k) × AreParts (codes ")") IsField xs k r × AreNew [] (map (λ f. f.0) xs))
 
 -- the tokens, up to the rest, are what is due
-abbrev Fills : Due → Tokens → Tokens → Type 0
+abbrev Fills : Expectation → Tokens → Tokens → Type 0
 Fills (mark_due mark) ts r = ts ≡ mark ∷ r
 Fills (type_due n) ts r = (T : TypeTree) × Spells T ts r
 Fills key_due ts r = (K : Simple) × (ts ≡ kind_word (simple_kind K) ∷ r)
@@ -114,11 +114,11 @@ Fills (results_due n) ts r = (ts ≡ r) ⊎ ((k : Tokens) × (ts ≡ codes "-" �
 Fills (result_due n) ts r = FillsResult ts r
 
 -- one after the other
-abbrev FillsAll : List Due → Tokens → Tokens → Type 0
+abbrev FillsAll : List Expectation → Tokens → Tokens → Type 0
 FillsAll [] ts r = ts ≡ r
 FillsAll (due ∷ dues) ts r = (m : Tokens) × Fills due ts m × FillsAll dues m r
 
-split : (some dues : List Due) (ts r : Tokens) → FillsAll (some ++ dues) ts r → (m : Tokens) × FillsAll some ts m × FillsAll dues m r
+split : (some dues : List Expectation) (ts r : Tokens) → FillsAll (some ++ dues) ts r → (m : Tokens) × FillsAll some ts m × FillsAll dues m r
 split [] dues ts r h = (ts, refl, h)
 split (due ∷ some) dues ts r (m, f, h) = let q = split some dues m r h in (q.0, (m, f, q.1), q.2)
 
@@ -143,7 +143,7 @@ some_part mark (more_names names) r =
     (x ∷ mark ∷ r, (x ∷ [], (mark ∷ r, (x, refl, one_name names), inl refl), (is_new names, tt)))
 
 -- whatever is due can be completed
-some_tokens : (due : Due) (r : Tokens) → (ts : Tokens) × Fills due ts r
+some_tokens : (due : Expectation) (r : Tokens) → (ts : Tokens) × Fills due ts r
 some_tokens (mark_due mark) r = (mark ∷ r, refl)
 some_tokens (type_due n) r = (codes "bool" ∷ r, (type.simple type.bool, refl))
 some_tokens key_due r = (codes "bool" ∷ r, (type.bool, refl))
@@ -156,7 +156,7 @@ some_tokens (payload_due n) r = (r, (None, refl))
 some_tokens (results_due n) r = (r, inl refl)
 some_tokens (result_due n) r = (codes "bool" ∷ r, inl (type.simple type.bool, refl))
 
-all_tokens : (dues : List Due) → (ts : Tokens) × FillsAll dues ts []
+all_tokens : (dues : List Expectation) → (ts : Tokens) × FillsAll dues ts []
 all_tokens [] = ([], refl)
 all_tokens (due ∷ dues) =
     let rest = all_tokens dues in
@@ -165,7 +165,7 @@ all_tokens (due ∷ dues) =
 
 -- ---- a token that is taken, before what fills what is due after it
 
-taken_if : (b : Bool) (x more : List Due) (y : Step) → (if b then takes x else y) ≡ takes more → ((b ≡ true) × (x ≡ more)) ⊎ ((b ≡ false) × (y ≡ takes more))
+taken_if : (b : Bool) (x more : List Expectation) (y : Step) → (if b then takes x else y) ≡ takes more → ((b ≡ true) × (x ≡ more)) ⊎ ((b ≡ false) × (y ≡ takes more))
 taken_if true x more y e = inl (refl, (cc))
 taken_if false x more y e = inr (refl, e)
 
@@ -245,7 +245,7 @@ kind_fill n kinds.String us m w e = (type.simple type.string, ap (λ z. codes "s
 kind_fill n kinds.FixedLengthList us m w h = absurd (cc)
 kind_fill n kinds.Unsupported us m w h = absurd (cc)
 
-word_fill : (n : ℕ) (o : Option WasmTypeKind) (t : List ℕ) (more : List Due) (us m : Tokens) → kind_of_word t ≡ o → word_step n o ≡ takes more → FillsAll more us m → (T : TypeTree) × Spells T (t ∷ us) m
+word_fill : (n : ℕ) (o : Option WasmTypeKind) (t : List ℕ) (more : List Expectation) (us m : Tokens) → kind_of_word t ≡ o → word_step n o ≡ takes more → FillsAll more us m → (T : TypeTree) × Spells T (t ∷ us) m
 word_fill n None t more us m w e h = absurd (cc)
 word_fill zero (Some k) t more us m w e h = absurd (cc)
 word_fill (suc n) (Some k) t more us m w e h =
@@ -254,16 +254,16 @@ word_fill (suc n) (Some k) t more us m w e h =
     let q = kind_fill n k us m (ap kind_of_word (sym is) ∙ w) (subst (λ ds. FillsAll ds us m) (sym same) h) in
     (q.0, subst (λ z. Spells q.0 (z ∷ us) m) (sym is) q.1)
 
-type_fill : (n : ℕ) (t : List ℕ) (more : List Due) (us m : Tokens) → type_step n t ≡ takes more → FillsAll more us m → (T : TypeTree) × Spells T (t ∷ us) m
+type_fill : (n : ℕ) (t : List ℕ) (more : List Expectation) (us m : Tokens) → type_step n t ≡ takes more → FillsAll more us m → (T : TypeTree) × Spells T (t ∷ us) m
 type_fill n t more us m e h = word_fill n (kind_of_word t) t more us m refl e h
 
 -- the word of a type, and what is due after the type
-before_fill : (s : Step) (behind more : List Due) → before s behind ≡ takes more → (some : List Due) × (s ≡ takes some) × (some ++ behind ≡ more)
+before_fill : (s : Step) (behind more : List Expectation) → before s behind ≡ takes more → (some : List Expectation) × (s ≡ takes some) × (some ++ behind ≡ more)
 before_fill (takes some) behind more e = (some, refl, (cc))
 before_fill passes behind more e = absurd (cc)
 before_fill (refuses k) behind more e = absurd (cc)
 
-then_fill : (n : ℕ) (t : List ℕ) (behind more : List Due) (us m : Tokens) → before (type_step n t) behind ≡ takes more → FillsAll more us m → (T : TypeTree) × (l : Tokens) × Spells T (t ∷ us) l × FillsAll behind l m
+then_fill : (n : ℕ) (t : List ℕ) (behind more : List Expectation) (us m : Tokens) → before (type_step n t) behind ≡ takes more → FillsAll more us m → (T : TypeTree) × (l : Tokens) × Spells T (t ∷ us) l × FillsAll behind l m
 then_fill n t behind more us m e h =
     let b = before_fill (type_step n t) behind more e in
     let q = split b.0 behind us m (subst (λ ds. FillsAll ds us m) (sym b.2) h) in
@@ -271,7 +271,7 @@ then_fill n t behind more us m e h =
     (f.0, q.0, f.1, q.2)
 
 -- a name, and what is due after it
-name_fill : (names : List (List ℕ)) (o : Option (List ℕ)) (t : List ℕ) (next : List (List ℕ) → List Due) (more : List Due) → name_of_token t ≡ o → name_step names o next ≡ takes more → (x : List ℕ) × Names t x × (is_one_of names x ≡ false) × (next (names ++ x ∷ []) ≡ more)
+name_fill : (names : List (List ℕ)) (o : Option (List ℕ)) (t : List ℕ) (next : List (List ℕ) → List Expectation) (more : List Expectation) → name_of_token t ≡ o → name_step names o next ≡ takes more → (x : List ℕ) × Names t x × (is_one_of names x ≡ false) × (next (names ++ x ∷ []) ≡ more)
 name_fill names None t next more w e = absurd (cc)
 name_fill names (Some x) t next more w e = let q = new (is_one_of names x) refl e in (x, name_back t x w, q.0, q.1)
   where
@@ -279,7 +279,7 @@ name_fill names (Some x) t next more w e = let q = new (is_one_of names x) refl 
     new true h e = absurd (cc)
     new false h e = (h, (cc))
 
-part_fill : (mark : List ℕ) (part : Part) (t : List ℕ) (more : List Due) (us m : Tokens) → part_step mark part t ≡ takes more → FillsAll more us m → FillsPart mark part (t ∷ us) m
+part_fill : (mark : List ℕ) (part : Part) (t : List ℕ) (more : List Expectation) (us m : Tokens) → part_step mark part t ≡ takes more → FillsAll more us m → FillsPart mark part (t ∷ us) m
 part_fill mark no_more t more us m e h = absurd (cc)
 part_fill mark a_length t more us m e h = count (count_of_token t) refl e
   where
@@ -313,7 +313,7 @@ mark_is : (t mark : List ℕ) → bytes_eq t mark ≡ true → t ≡ mark
 mark_is t mark e = (bytes_eq-Decides t mark).0 e
 
 -- what is due is what was taken, and what fills what is due then
-due_fill : (due : Due) (t : List ℕ) (more : List Due) (us m : Tokens) → step due t ≡ takes more → FillsAll more us m → Fills due (t ∷ us) m
+due_fill : (due : Expectation) (t : List ℕ) (more : List Expectation) (us m : Tokens) → step due t ≡ takes more → FillsAll more us m → Fills due (t ∷ us) m
 due_fill (mark_due mark) t more us m e h = elim (taken_if (bytes_eq t mark) [] more (refuses UnexpectedToken) e) as (λ _. t ∷ us ≡ mark ∷ m) [
   | inl p ↦ let end : us ≡ m = subst (λ ds. FillsAll ds us m) (sym p.1) h in λ i. mark_is t mark p.0 i ∷ end i
   | inr p ↦ let wrong : refuses UnexpectedToken ≡ takes more = p.1 in absurd (cc)
@@ -401,16 +401,16 @@ word_no_pass n None = tt
 word_no_pass zero (Some kind) = tt
 word_no_pass (suc n) (Some kind) = tt
 
-before_no_pass : (s : Step) (more : List Due) → NotPass s → NotPass (before s more)
+before_no_pass : (s : Step) (more : List Expectation) → NotPass s → NotPass (before s more)
 before_no_pass (takes dues) more h = tt
 before_no_pass passes more h = h
 before_no_pass (refuses k) more h = tt
 
-only_no_pass : {A : Type 0} (o : Option A) (kind : TypeErrorKind) (t : List ℕ) (more : List Due) → NotPass (only_step o kind t more)
+only_no_pass : {A : Type 0} (o : Option A) (kind : TypeErrorKind) (t : List ℕ) (more : List Expectation) → NotPass (only_step o kind t more)
 only_no_pass (Some a) kind t more = tt
 only_no_pass None kind t more = tt
 
-name_no_pass : (names : List (List ℕ)) (o : Option (List ℕ)) (next : List (List ℕ) → List Due) → NotPass (name_step names o next)
+name_no_pass : (names : List (List ℕ)) (o : Option (List ℕ)) (next : List (List ℕ) → List Expectation) → NotPass (name_step names o next)
 name_no_pass names None next = tt
 name_no_pass names (Some x) next = if_no_pass (is_one_of names x) (refuses DuplicateName) (takes (next (names ++ x ∷ []))) tt tt
 
@@ -423,11 +423,11 @@ part_no_pass mark (more_fields n names) t = name_no_pass names (name_of_token t)
 part_no_pass mark (more_cases n names) t = name_no_pass names (name_of_token t) (λ names. payload_due n ∷ close_due mark (more_cases n names) ∷ [])
 part_no_pass mark (more_names names) t = name_no_pass names (name_of_token t) (λ names. close_due mark (more_names names) ∷ [])
 
-alone_if : (t : List ℕ) (us : Tokens) (b : Bool) (more : List Due) → bytes_eq t (codes "<") ≡ b → (if b then takes more else passes) ≡ passes → StandsAlone (t ∷ us)
+alone_if : (t : List ℕ) (us : Tokens) (b : Bool) (more : List Expectation) → bytes_eq t (codes "<") ≡ b → (if b then takes more else passes) ≡ passes → StandsAlone (t ∷ us)
 alone_if t us true more h e = absurd (cc)
 alone_if t us false more h e = λ same. let wrong : true ≡ false = sym ((bytes_eq-Decides t (codes "<")).1 same) ∙ h in cc
 
-step_no_pass : (due : Due) (t : List ℕ) → NotPass (step due t) ⊎ ((us : Tokens) → step due t ≡ passes → Fills due (t ∷ us) (t ∷ us))
+step_no_pass : (due : Expectation) (t : List ℕ) → NotPass (step due t) ⊎ ((us : Tokens) → step due t ≡ passes → Fills due (t ∷ us) (t ∷ us))
 step_no_pass (mark_due mark) t = inl (if_no_pass (bytes_eq t mark) (takes []) (refuses UnexpectedToken) tt tt)
 step_no_pass (type_due n) t = inl (word_no_pass n (kind_of_word t))
 step_no_pass key_due t = inl (only_no_pass (key_of_word t) InvalidKeyType t [])
@@ -442,33 +442,33 @@ step_no_pass (payload_due n) t = inr (λ us e. (None, refl))
 step_no_pass (results_due n) t = inr (λ us e. inl refl)
 step_no_pass (result_due n) t = inl (if_no_pass (bytes_eq t (codes "(")) (takes (part_due (codes ")") (more_fields n []) ∷ [])) (type_step n t) tt (word_no_pass n (kind_of_word t)))
 
-pass_fill : (due : Due) (t : List ℕ) (us : Tokens) → step due t ≡ passes → Fills due (t ∷ us) (t ∷ us)
+pass_fill : (due : Expectation) (t : List ℕ) (us : Tokens) → step due t ≡ passes → Fills due (t ∷ us) (t ∷ us)
 pass_fill due t us e = elim (step_no_pass due t) as (λ _. Fills due (t ∷ us) (t ∷ us)) [ inl never ↦ absurd (subst NotPass e never) | inr fills ↦ fills us e ]
 
 -- ---- beginnings
 
 -- what was taken before the tokens that are left, and what may follow it, are all that is due
-abbrev Begins : List Due → Tokens → Tokens → Type 0
+abbrev Begins : List Expectation → Tokens → Tokens → Type 0
 Begins dues ts left = (front : Tokens) × (ts ≡ front ++ left) × (more : Tokens) × FillsAll dues (front ++ more) []
 
-from_here : (dues : List Due) (ts left : Tokens) → ts ≡ left → Begins dues ts left
+from_here : (dues : List Expectation) (ts left : Tokens) → ts ≡ left → Begins dues ts left
 from_here dues ts left e = let all = all_tokens dues in ([], e, all.0, all.1)
 
-ended_begins : (dues all : List Due) (kind : TypeErrorKind) (left : Tokens) → refused [] dues ≡ Some (kind, left) → [] ≡ left
+ended_begins : (dues all : List Expectation) (kind : TypeErrorKind) (left : Tokens) → refused [] dues ≡ Some (kind, left) → [] ≡ left
 ended_begins [] all kind left e = absurd (cc)
 ended_begins (payloads_due n ∷ dues) all kind left e = ended_begins dues all kind left e
 ended_begins (payload_due n ∷ dues) all kind left e = ended_begins dues all kind left e
 ended_begins (results_due n ∷ dues) all kind left e = ended_begins dues all kind left e
 ended_begins (due ∷ dues) all kind left e = let same : ◌≡◌ {A = TypeErrorKind × Tokens} (UnexpectedEnd, []) (kind, left) = cc in λ i. (same i).1
 
-module _ (t : List ℕ) (ts left : Tokens) (kind : TypeErrorKind) (below : (dues : List Due) → refused ts dues ≡ Some (kind, left) → Begins dues ts left) where
-  passed : (due : Due) (dues : List Due) → step due t ≡ passes → Begins dues (t ∷ ts) left → Begins (due ∷ dues) (t ∷ ts) left
+module _ (t : List ℕ) (ts left : Tokens) (kind : TypeErrorKind) (below : (dues : List Expectation) → refused ts dues ≡ Some (kind, left) → Begins dues ts left) where
+  passed : (due : Expectation) (dues : List Expectation) → step due t ≡ passes → Begins dues (t ∷ ts) left → Begins (due ∷ dues) (t ∷ ts) left
   passed due dues h ([], e, more, f) = from_here (due ∷ dues) (t ∷ ts) left e
   passed due dues h (u ∷ front, e, more, f) =
       let same : t ≡ u = cc in
       (u ∷ front, e, more, (u ∷ front ++ more, pass_fill due u (front ++ more) (subst (λ z. step due z ≡ passes) same h), f))
 
-  begins_at : (dues : List Due) → refused (t ∷ ts) dues ≡ Some (kind, left) → Begins dues (t ∷ ts) left
+  begins_at : (dues : List Expectation) → refused (t ∷ ts) dues ≡ Some (kind, left) → Begins dues (t ∷ ts) left
   begins_at [] e = let same : ◌≡◌ {A = TypeErrorKind × Tokens} (UnexpectedToken, t ∷ ts) (kind, left) = cc in ([], (λ i. (same i).1), [], refl)
   begins_at (due ∷ dues) e = by (step due t) refl (begins_at dues)
     where
@@ -482,7 +482,7 @@ module _ (t : List ℕ) (ts left : Tokens) (kind : TypeErrorKind) (below : (dues
           let same : ◌≡◌ {A = TypeErrorKind × Tokens} (k, t ∷ ts) (kind, left) = cc (by_step t ts due dues (refuses k) h) in
           from_here (due ∷ dues) (t ∷ ts) left (λ i. (same i).1)
 
-all_begin : (ts : Tokens) (dues : List Due) (kind : TypeErrorKind) (left : Tokens) → refused ts dues ≡ Some (kind, left) → Begins dues ts left
+all_begin : (ts : Tokens) (dues : List Expectation) (kind : TypeErrorKind) (left : Tokens) → refused ts dues ≡ Some (kind, left) → Begins dues ts left
 all_begin [] dues kind left e = from_here dues [] left (ended_begins dues dues kind left e)
 all_begin (t ∷ ts) dues kind left e = begins_at t ts left kind (λ dues. all_begin ts dues kind left) dues e
 

@@ -9,7 +9,7 @@ use Rattle.wave_type.specs.declared.error.TypeErrorKind.TheVariants.{UnexpectedT
 use Rattle.wave_type.specs.FunctionSpelling.{SpellsFunction}
 use Rattle.wave_type.specs.TypeFaultLaws.{NoneBeginsWithRefused, EndsAtEnd}
 use Rattle.wave_type.specs.TypeFaults.{Part, no_more, a_length, err_type, more_types, more_fields, more_cases, more_names}
-use Rattle.wave_type.specs.TypeFaults.{Due, mark_due, type_due, key_due, ok_due, part_due, close_due, last_due, payloads_due, payload_due, results_due, result_due}
+use Rattle.wave_type.specs.TypeFaults.{Expectation, mark_due, type_due, key_due, ok_due, part_due, close_due, last_due, payloads_due, payload_due, results_due, result_due}
 use Rattle.wave_type.specs.TypeFaults.{Step, takes, passes, refuses, before, word_step, type_step, only_step, name_step, part_step, step, Fault, refused, due_of_type, due_of_function}
 use Rattle.wave_type.specs.TypeSpelling.{Tokens, Spells}
 use Rattle.wave_type.specs.TypeWords.{kind_of_word, key_of_word, name_of_token, count_of_token, is_mark}
@@ -20,14 +20,14 @@ use Rattle.wave_type.proofs.WholeFaults.{is_left}
 -- ---- tokens before the refused one decide
 
 -- what is left of fewer tokens is no more than they are
-too_many : (ts left : Tokens) (dues : List Due) (kind : TypeErrorKind) → refused ts dues ≡ Some (kind, left) → length left ≤ length ts
+too_many : (ts left : Tokens) (dues : List Expectation) (kind : TypeErrorKind) → refused ts dues ≡ Some (kind, left) → length left ≤ length ts
 too_many ts left dues kind e =
     let h = is_left ts dues kind left e in
     omega (arith, ap length h.1, length-append h.0 left)
 
 module _ (t : List ℕ) (left other : Tokens) (kind : TypeErrorKind) where
   -- the token that is refused at once
-  here : (dues : List Due) → refused (t ∷ left) dues ≡ Some (kind, t ∷ left) → refused (t ∷ other) dues ≡ Some (kind, t ∷ other)
+  here : (dues : List Expectation) → refused (t ∷ left) dues ≡ Some (kind, t ∷ left) → refused (t ∷ other) dues ≡ Some (kind, t ∷ other)
   here [] e = let same : ◌≡◌ {A = TypeErrorKind × Tokens} (UnexpectedToken, t ∷ left) (kind, t ∷ left) = cc in λ i. Some ((same i).0, t ∷ other)
   here (due ∷ dues) e = by (step due t) refl (here dues)
     where
@@ -40,13 +40,13 @@ module _ (t : List ℕ) (left other : Tokens) (kind : TypeErrorKind) where
           let same : ◌≡◌ {A = TypeErrorKind × Tokens} (k, t ∷ left) (kind, t ∷ left) = cc (by_step t left due dues (refuses k) h) in
           by_step t other due dues (refuses k) h ∙ (λ i. Some ((same i).0, t ∷ other))
 
-  module _ (u : List ℕ) (front : Tokens) (below : (dues : List Due) → refused (front ++ t ∷ left) dues ≡ Some (kind, t ∷ left) → refused (front ++ t ∷ other) dues ≡ Some (kind, t ∷ other)) where
+  module _ (u : List ℕ) (front : Tokens) (below : (dues : List Expectation) → refused (front ++ t ∷ left) dues ≡ Some (kind, t ∷ left) → refused (front ++ t ∷ other) dues ≡ Some (kind, t ∷ other)) where
     longer : (k : TypeErrorKind) → ◌≡◌ {A = Fault} (Some (k, u ∷ front ++ t ∷ left)) (Some (kind, t ∷ left)) → ⊥
     longer k e =
         let same : ◌≡◌ {A = TypeErrorKind × Tokens} (k, u ∷ front ++ t ∷ left) (kind, t ∷ left) = cc in
         omega (arith, ap (λ (z : TypeErrorKind × Tokens). length z.1) same, length-append front (t ∷ left))
 
-    there : (dues : List Due) → refused (u ∷ front ++ t ∷ left) dues ≡ Some (kind, t ∷ left) → refused (u ∷ front ++ t ∷ other) dues ≡ Some (kind, t ∷ other)
+    there : (dues : List Expectation) → refused (u ∷ front ++ t ∷ left) dues ≡ Some (kind, t ∷ left) → refused (u ∷ front ++ t ∷ other) dues ≡ Some (kind, t ∷ other)
     there [] e = absurd (longer UnexpectedToken e)
     there (due ∷ dues) e = by (step due u) refl (there dues)
       where
@@ -56,7 +56,7 @@ module _ (t : List ℕ) (left other : Tokens) (kind : TypeErrorKind) where
         by (refuses k) h next = absurd (longer k (sym (by_step u (front ++ t ∷ left) due dues (refuses k) h) ∙ e))
 
   -- whatever follows the refused token, it is refused
-  pub refused_alike : (front : Tokens) (dues : List Due) → refused (front ++ t ∷ left) dues ≡ Some (kind, t ∷ left) → refused (front ++ t ∷ other) dues ≡ Some (kind, t ∷ other)
+  pub refused_alike : (front : Tokens) (dues : List Expectation) → refused (front ++ t ∷ left) dues ≡ Some (kind, t ∷ left) → refused (front ++ t ∷ other) dues ≡ Some (kind, t ∷ other)
   refused_alike [] dues e = here dues e
   refused_alike (u ∷ front) dues e = there u front (refused_alike front) dues e
 
@@ -93,7 +93,7 @@ word_not n None = λ e. cc
 word_not zero (Some kind) = λ e. cc
 word_not (suc n) (Some kind) = tt
 
-before_not : (s : Step) (more : List Due) → NotEnd s → NotEnd (before s more)
+before_not : (s : Step) (more : List Expectation) → NotEnd s → NotEnd (before s more)
 before_not (takes dues) more h = tt
 before_not passes more h = tt
 before_not (refuses kind) more h = h
@@ -102,11 +102,11 @@ mark_not : (b : Bool) (kind : TypeErrorKind) → (kind ≡ UnexpectedEnd → ⊥
 mark_not true kind h = λ e. cc
 mark_not false kind h = h
 
-only_not : {A : Type 0} (o : Option A) (kind : TypeErrorKind) (t : List ℕ) (more : List Due) → (kind ≡ UnexpectedEnd → ⊥) → NotEnd (only_step o kind t more)
+only_not : {A : Type 0} (o : Option A) (kind : TypeErrorKind) (t : List ℕ) (more : List Expectation) → (kind ≡ UnexpectedEnd → ⊥) → NotEnd (only_step o kind t more)
 only_not (Some a) kind t more h = tt
 only_not None kind t more h = mark_not (is_mark t) kind h
 
-name_not : (names : List (List ℕ)) (o : Option (List ℕ)) (next : List (List ℕ) → List Due) → NotEnd (name_step names o next)
+name_not : (names : List (List ℕ)) (o : Option (List ℕ)) (next : List (List ℕ) → List Expectation) → NotEnd (name_step names o next)
 name_not names None next = λ e. cc
 name_not names (Some name) next = if_not (is_one_of names name) (refuses DuplicateName) (takes (next (names ++ name ∷ []))) (λ e. cc) tt
 
@@ -119,7 +119,7 @@ part_not mark (more_fields n names) t = name_not names (name_of_token t) (λ nam
 part_not mark (more_cases n names) t = name_not names (name_of_token t) (λ names. payload_due n ∷ close_due mark (more_cases n names) ∷ [])
 part_not mark (more_names names) t = name_not names (name_of_token t) (λ names. close_due mark (more_names names) ∷ [])
 
-step_not : (due : Due) (t : List ℕ) → NotEnd (step due t)
+step_not : (due : Expectation) (t : List ℕ) → NotEnd (step due t)
 step_not (mark_due mark) t = if_not (bytes_eq t mark) (takes []) (refuses UnexpectedToken) tt (λ e. cc)
 step_not (type_due n) t = word_not n (kind_of_word t)
 step_not key_due t = only_not (key_of_word t) InvalidKeyType t [] (λ e. cc)
@@ -134,21 +134,21 @@ step_not (payload_due n) t = if_not (bytes_eq t (codes "(")) (takes (type_due n 
 step_not (results_due n) t = if_not (bytes_eq t (codes "-")) (takes (mark_due (codes ">") ∷ result_due n ∷ [])) passes tt tt
 step_not (result_due n) t = if_not (bytes_eq t (codes "(")) (takes (part_due (codes ")") (more_fields n []) ∷ [])) (type_step n t) tt (word_not n (kind_of_word t))
 
-end_ended : (dues : List Due) (kind : TypeErrorKind) (left : Tokens) → refused [] dues ≡ Some (kind, left) → (kind ≡ UnexpectedEnd) × (left ≡ [])
+end_ended : (dues : List Expectation) (kind : TypeErrorKind) (left : Tokens) → refused [] dues ≡ Some (kind, left) → (kind ≡ UnexpectedEnd) × (left ≡ [])
 end_ended [] kind left e = absurd (cc)
 end_ended (payloads_due n ∷ dues) kind left e = end_ended dues kind left e
 end_ended (payload_due n ∷ dues) kind left e = end_ended dues kind left e
 end_ended (results_due n ∷ dues) kind left e = end_ended dues kind left e
 end_ended (due ∷ dues) kind left e = let same : ◌≡◌ {A = TypeErrorKind × Tokens} (UnexpectedEnd, []) (kind, left) = cc in ((λ i. (sym same i).0), (λ i. (sym same i).1))
 
-module _ (t : List ℕ) (ts left : Tokens) (kind : TypeErrorKind) (below : (dues : List Due) → refused ts dues ≡ Some (kind, left) → (kind ≡ UnexpectedEnd) ↔ (left ≡ [])) where
+module _ (t : List ℕ) (ts left : Tokens) (kind : TypeErrorKind) (below : (dues : List Expectation) → refused ts dues ≡ Some (kind, left) → (kind ≡ UnexpectedEnd) ↔ (left ≡ [])) where
   -- a refused token is left
   is_token : (k : TypeErrorKind) → (k ≡ UnexpectedEnd → ⊥) → ◌≡◌ {A = Fault} (Some (k, t ∷ ts)) (Some (kind, left)) → (kind ≡ UnexpectedEnd) ↔ (left ≡ [])
   is_token k h e =
       let same : ◌≡◌ {A = TypeErrorKind × Tokens} (k, t ∷ ts) (kind, left) = cc in
       ((λ end. absurd (h ((λ i. (same i).0) ∙ end))), (λ none. let wrong : t ∷ ts ≡ [] = (λ i. (same i).1) ∙ none in cc))
 
-  end_at : (dues : List Due) → refused (t ∷ ts) dues ≡ Some (kind, left) → (kind ≡ UnexpectedEnd) ↔ (left ≡ [])
+  end_at : (dues : List Expectation) → refused (t ∷ ts) dues ≡ Some (kind, left) → (kind ≡ UnexpectedEnd) ↔ (left ≡ [])
   end_at [] e = is_token UnexpectedToken (λ e. cc) e
   end_at (due ∷ dues) e = by (step due t) refl (end_at dues)
     where

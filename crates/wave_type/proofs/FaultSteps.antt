@@ -10,7 +10,7 @@ use Rattle.wave_type.specs.declared.error.TypeErrorKind.TheVariants.{UnexpectedT
 use Rattle.wave_type.specs.TypeSpelling.{Tokens}
 use Rattle.wave_type.specs.TypeWords.{onward, kind_of_word, key_of_word, name_of_token, count_of_token, is_mark}
 use Rattle.wave_type.specs.TypeFaults.{Part, no_more, a_length, err_type, more_types, more_fields, more_cases, more_names}
-use Rattle.wave_type.specs.TypeFaults.{Due, mark_due, type_due, key_due, ok_due, part_due, close_due, last_due, payloads_due, payload_due, results_due, result_due}
+use Rattle.wave_type.specs.TypeFaults.{Expectation, mark_due, type_due, key_due, ok_due, part_due, close_due, last_due, payloads_due, payload_due, results_due, result_due}
 use Rattle.wave_type.specs.TypeFaults.{Step, takes, passes, refuses, due_behind, before, word_step, type_step, only_step, name_step, part_step, step, Fault, refused}
 use Rattle.wave_type.specs.Private.TypeReading.{after, closed, or_else, first_of, kind_at, key_at, count_at, new_name}
 use Rattle.wave_type.specs.Private.TypeTokens.{misplaced, name_fault, name_refused, Fails, IsRefused, GoesOn, RefusesName}
@@ -19,12 +19,12 @@ use Rattle.wave_type.proofs.TypeReading.{onward_back, made_back, if_back, unless
 -- ---- one token
 
 -- what a step leaves of the tokens t and ts
-abbrev pub stepped : Step → List ℕ → Tokens → List Due → Fault
+abbrev pub stepped : Step → List ℕ → Tokens → List Expectation → Fault
 stepped (takes more) t ts dues = refused ts (more ++ dues)
 stepped passes t ts dues = refused (t ∷ ts) dues
 stepped (refuses kind) t ts dues = Some (kind, t ∷ ts)
 
-module _ (t : List ℕ) (ts : Tokens) (due : Due) (dues : List Due) where
+module _ (t : List ℕ) (ts : Tokens) (due : Expectation) (dues : List Expectation) where
   pub by_step : (s : Step) → step due t ≡ s → refused (t ∷ ts) (due ∷ dues) ≡ stepped s t ts dues
   by_step s e = subst (λ z. refused (t ∷ ts) (due ∷ dues) ≡ stepped z t ts dues) e (opened (step due t))
     where
@@ -45,7 +45,7 @@ none_back false a e = refl
 after_false : (mark t : List ℕ) (ts : Tokens) → after mark (t ∷ ts) ≡ None → bytes_eq t mark ≡ false
 after_false mark t ts e = none_back (bytes_eq t mark) ts e
 
-pub mark_runs : (mark : List ℕ) (ts r : Tokens) (dues : List Due) → after mark ts ≡ Some r → refused ts (mark_due mark ∷ dues) ≡ refused r dues
+pub mark_runs : (mark : List ℕ) (ts r : Tokens) (dues : List Expectation) → after mark ts ≡ Some r → refused ts (mark_due mark ∷ dues) ≡ refused r dues
 mark_runs mark [] r dues e = absurd (cc)
 mark_runs mark (t ∷ ts) r dues e =
     let p = after_true mark t ts r e in
@@ -58,88 +58,88 @@ mark_fails mark (t ∷ ts) e = λ dues. by_step t ts (mark_due mark) dues (refus
 -- ---- what may be left out
 
 -- a mark, or else it passes on
-module _ (due : Due) (mark : List ℕ) (more : List Due) (is : (t : List ℕ) → step due t ≡ (if bytes_eq t mark then takes more else passes)) (ended : (dues : List Due) → refused [] (due ∷ dues) ≡ refused [] dues) where
-  pub maybe_passes : (ts : Tokens) (dues : List Due) → after mark ts ≡ None → refused ts (due ∷ dues) ≡ refused ts dues
+module _ (due : Expectation) (mark : List ℕ) (more : List Expectation) (is : (t : List ℕ) → step due t ≡ (if bytes_eq t mark then takes more else passes)) (ended : (dues : List Expectation) → refused [] (due ∷ dues) ≡ refused [] dues) where
+  pub maybe_passes : (ts : Tokens) (dues : List Expectation) → after mark ts ≡ None → refused ts (due ∷ dues) ≡ refused ts dues
   maybe_passes [] dues e = ended dues
   maybe_passes (t ∷ ts) dues e = by_step t ts due dues passes (is t ∙ ap (λ b. if b then takes more else passes) (after_false mark t ts e))
 
-  pub maybe_runs : (ts r : Tokens) (dues : List Due) → after mark ts ≡ Some r → refused ts (due ∷ dues) ≡ refused r (more ++ dues)
+  pub maybe_runs : (ts r : Tokens) (dues : List Expectation) → after mark ts ≡ Some r → refused ts (due ∷ dues) ≡ refused r (more ++ dues)
   maybe_runs [] r dues e = absurd (cc)
   maybe_runs (t ∷ ts) r dues e =
       let p = after_true mark t ts r e in
       by_step t ts due dues (takes more) (is t ∙ ap (λ b. if b then takes more else passes) p.0) ∙ ap (λ us. refused us (more ++ dues)) p.1
 
 module _ (n : ℕ) where
-  pub payloads_pass : (ts : Tokens) (dues : List Due) → after (codes "<") ts ≡ None → refused ts (payloads_due n ∷ dues) ≡ refused ts dues
+  pub payloads_pass : (ts : Tokens) (dues : List Expectation) → after (codes "<") ts ≡ None → refused ts (payloads_due n ∷ dues) ≡ refused ts dues
   payloads_pass = maybe_passes (payloads_due n) (codes "<") (ok_due n ∷ []) (λ t. refl) (λ dues. refl)
 
-  pub payloads_run : (ts r : Tokens) (dues : List Due) → after (codes "<") ts ≡ Some r → refused ts (payloads_due n ∷ dues) ≡ refused r (ok_due n ∷ dues)
+  pub payloads_run : (ts r : Tokens) (dues : List Expectation) → after (codes "<") ts ≡ Some r → refused ts (payloads_due n ∷ dues) ≡ refused r (ok_due n ∷ dues)
   payloads_run = maybe_runs (payloads_due n) (codes "<") (ok_due n ∷ []) (λ t. refl) (λ dues. refl)
 
-  pub payload_passes : (ts : Tokens) (dues : List Due) → after (codes "(") ts ≡ None → refused ts (payload_due n ∷ dues) ≡ refused ts dues
+  pub payload_passes : (ts : Tokens) (dues : List Expectation) → after (codes "(") ts ≡ None → refused ts (payload_due n ∷ dues) ≡ refused ts dues
   payload_passes = maybe_passes (payload_due n) (codes "(") (type_due n ∷ mark_due (codes ")") ∷ []) (λ t. refl) (λ dues. refl)
 
-  pub payload_runs : (ts r : Tokens) (dues : List Due) → after (codes "(") ts ≡ Some r → refused ts (payload_due n ∷ dues) ≡ refused r (type_due n ∷ mark_due (codes ")") ∷ dues)
+  pub payload_runs : (ts r : Tokens) (dues : List Expectation) → after (codes "(") ts ≡ Some r → refused ts (payload_due n ∷ dues) ≡ refused r (type_due n ∷ mark_due (codes ")") ∷ dues)
   payload_runs = maybe_runs (payload_due n) (codes "(") (type_due n ∷ mark_due (codes ")") ∷ []) (λ t. refl) (λ dues. refl)
 
-  pub results_pass : (ts : Tokens) (dues : List Due) → after (codes "-") ts ≡ None → refused ts (results_due n ∷ dues) ≡ refused ts dues
+  pub results_pass : (ts : Tokens) (dues : List Expectation) → after (codes "-") ts ≡ None → refused ts (results_due n ∷ dues) ≡ refused ts dues
   results_pass = maybe_passes (results_due n) (codes "-") (mark_due (codes ">") ∷ result_due n ∷ []) (λ t. refl) (λ dues. refl)
 
-  pub results_run : (ts r : Tokens) (dues : List Due) → after (codes "-") ts ≡ Some r → refused ts (results_due n ∷ dues) ≡ refused r (mark_due (codes ">") ∷ result_due n ∷ dues)
+  pub results_run : (ts r : Tokens) (dues : List Expectation) → after (codes "-") ts ≡ Some r → refused ts (results_due n ∷ dues) ≡ refused r (mark_due (codes ">") ∷ result_due n ∷ dues)
   results_run = maybe_runs (results_due n) (codes "-") (mark_due (codes ">") ∷ result_due n ∷ []) (λ t. refl) (λ dues. refl)
 
 -- ---- types
 
 -- the word of a type and then more is the word of a type, and more is due after it
-word_before : (n : ℕ) (o : Option WasmTypeKind) (more : List Due) (t : List ℕ) (ts : Tokens) (dues : List Due) → stepped (before (word_step n o) more) t ts dues ≡ stepped (word_step n o) t ts (more ++ dues)
+word_before : (n : ℕ) (o : Option WasmTypeKind) (more : List Expectation) (t : List ℕ) (ts : Tokens) (dues : List Expectation) → stepped (before (word_step n o) more) t ts dues ≡ stepped (word_step n o) t ts (more ++ dues)
 word_before n None more t ts dues = refl
 word_before zero (Some kind) more t ts dues = refl
 word_before (suc n) (Some kind) more t ts dues = ap (refused ts) (append_assoc (due_behind n kind) more dues)
 
 -- where a type is due and then more
-module _ (n : ℕ) (more dues : List Due) where
-  type_before : (due : Due) (t : List ℕ) (ts : Tokens) → step due t ≡ before (type_step n t) more → refused (t ∷ ts) (due ∷ dues) ≡ refused (t ∷ ts) (type_due n ∷ more ++ dues)
+module _ (n : ℕ) (more dues : List Expectation) where
+  type_before : (due : Expectation) (t : List ℕ) (ts : Tokens) → step due t ≡ before (type_step n t) more → refused (t ∷ ts) (due ∷ dues) ≡ refused (t ∷ ts) (type_due n ∷ more ++ dues)
   type_before due t ts e =
       by_step t ts due dues (before (type_step n t) more) e
       ∙ (word_before n (kind_of_word t) more t ts dues ∙ sym (by_step t ts (type_due n) (more ++ dues) (type_step n t) refl))
 
 module _ (n : ℕ) (mark : List ℕ) where
-  pub types_are_types : (ts : Tokens) (dues : List Due) → refused ts (part_due mark (more_types n) ∷ dues) ≡ refused ts (type_due n ∷ close_due mark (more_types n) ∷ dues)
+  pub types_are_types : (ts : Tokens) (dues : List Expectation) → refused ts (part_due mark (more_types n) ∷ dues) ≡ refused ts (type_due n ∷ close_due mark (more_types n) ∷ dues)
   types_are_types [] dues = refl
   types_are_types (t ∷ ts) dues = type_before n (close_due mark (more_types n) ∷ []) dues (part_due mark (more_types n)) t ts refl
 
-  pub err_is_type : (ts : Tokens) (dues : List Due) → refused ts (part_due mark (err_type n) ∷ dues) ≡ refused ts (type_due n ∷ close_due mark no_more ∷ dues)
+  pub err_is_type : (ts : Tokens) (dues : List Expectation) → refused ts (part_due mark (err_type n) ∷ dues) ≡ refused ts (type_due n ∷ close_due mark no_more ∷ dues)
   err_is_type [] dues = refl
   err_is_type (t ∷ ts) dues = type_before n (close_due mark no_more ∷ []) dues (part_due mark (err_type n)) t ts refl
 
 module _ (n : ℕ) where
-  pub ok_is_type : (ts : Tokens) (dues : List Due) → after (codes "_") ts ≡ None → refused ts (ok_due n ∷ dues) ≡ refused ts (type_due n ∷ close_due (codes ">") (err_type n) ∷ dues)
+  pub ok_is_type : (ts : Tokens) (dues : List Expectation) → after (codes "_") ts ≡ None → refused ts (ok_due n ∷ dues) ≡ refused ts (type_due n ∷ close_due (codes ">") (err_type n) ∷ dues)
   ok_is_type [] dues e = refl
   ok_is_type (t ∷ ts) dues e =
       type_before n (close_due (codes ">") (err_type n) ∷ []) dues (ok_due n) t ts (ap (λ b. if b then takes (mark_due (codes ",") ∷ type_due n ∷ close_due (codes ">") no_more ∷ []) else before (type_step n t) (close_due (codes ">") (err_type n) ∷ [])) (after_false (codes "_") t ts e))
 
-  pub ok_is_blank : (ts r : Tokens) (dues : List Due) → after (codes "_") ts ≡ Some r → refused ts (ok_due n ∷ dues) ≡ refused r (mark_due (codes ",") ∷ type_due n ∷ close_due (codes ">") no_more ∷ dues)
+  pub ok_is_blank : (ts r : Tokens) (dues : List Expectation) → after (codes "_") ts ≡ Some r → refused ts (ok_due n ∷ dues) ≡ refused r (mark_due (codes ",") ∷ type_due n ∷ close_due (codes ">") no_more ∷ dues)
   ok_is_blank [] r dues e = absurd (cc)
   ok_is_blank (t ∷ ts) r dues e =
       let p = after_true (codes "_") t ts r e in
       by_step t ts (ok_due n) dues (takes (mark_due (codes ",") ∷ type_due n ∷ close_due (codes ">") no_more ∷ [])) (ap (λ b. if b then takes (mark_due (codes ",") ∷ type_due n ∷ close_due (codes ">") no_more ∷ []) else before (type_step n t) (close_due (codes ">") (err_type n) ∷ [])) p.0) ∙ ap (λ us. refused us (mark_due (codes ",") ∷ type_due n ∷ close_due (codes ">") no_more ∷ dues)) p.1
 
-  result_same : (t : List ℕ) (ts : Tokens) (dues : List Due) → stepped (type_step n t) t ts dues ≡ refused (t ∷ ts) (type_due n ∷ dues)
+  result_same : (t : List ℕ) (ts : Tokens) (dues : List Expectation) → stepped (type_step n t) t ts dues ≡ refused (t ∷ ts) (type_due n ∷ dues)
   result_same t ts dues = sym (by_step t ts (type_due n) dues (type_step n t) refl)
 
-  pub result_is_type : (ts : Tokens) (dues : List Due) → after (codes "(") ts ≡ None → refused ts (result_due n ∷ dues) ≡ refused ts (type_due n ∷ dues)
+  pub result_is_type : (ts : Tokens) (dues : List Expectation) → after (codes "(") ts ≡ None → refused ts (result_due n ∷ dues) ≡ refused ts (type_due n ∷ dues)
   result_is_type [] dues e = refl
   result_is_type (t ∷ ts) dues e =
       by_step t ts (result_due n) dues (type_step n t) (ap (λ b. if b then takes (part_due (codes ")") (more_fields n []) ∷ []) else type_step n t) (after_false (codes "(") t ts e)) ∙ result_same t ts dues
 
-  pub result_is_named : (ts r : Tokens) (dues : List Due) → after (codes "(") ts ≡ Some r → refused ts (result_due n ∷ dues) ≡ refused r (part_due (codes ")") (more_fields n []) ∷ dues)
+  pub result_is_named : (ts r : Tokens) (dues : List Expectation) → after (codes "(") ts ≡ Some r → refused ts (result_due n ∷ dues) ≡ refused r (part_due (codes ")") (more_fields n []) ∷ dues)
   result_is_named [] r dues e = absurd (cc)
   result_is_named (t ∷ ts) r dues e =
       let p = after_true (codes "(") t ts r e in
       by_step t ts (result_due n) dues (takes (part_due (codes ")") (more_fields n []) ∷ [])) (ap (λ b. if b then takes (part_due (codes ")") (more_fields n []) ∷ []) else type_step n t) p.0) ∙ ap (λ us. refused us (part_due (codes ")") (more_fields n []) ∷ dues)) p.1
 
 -- the word of a kind, where a level is left
-pub kind_runs : (n : ℕ) (ts r : Tokens) (kind : WasmTypeKind) (dues : List Due) → 0 < n → kind_at ts ≡ Some (kind, r) → refused ts (type_due n ∷ dues) ≡ refused r (due_behind (n - 1) kind ++ dues)
+pub kind_runs : (n : ℕ) (ts r : Tokens) (kind : WasmTypeKind) (dues : List Expectation) → 0 < n → kind_at ts ≡ Some (kind, r) → refused ts (type_due n ∷ dues) ≡ refused r (due_behind (n - 1) kind ++ dues)
 kind_runs zero ts r kind dues h e = absurd (omega arith)
 kind_runs (suc n) [] r kind dues h e = absurd (cc)
 kind_runs (suc n) (t ∷ ts) r kind dues h e =
@@ -159,11 +159,11 @@ some_next [] t e = absurd (cc)
 some_next (u ∷ ts) t e = let same : u ≡ t = cc in ap (λ z. z ∷ ts) same
 
 -- at the end, where something has to stand
-pub ended_fails : (due : Due) (ts : Tokens) → ts ≡ [] → ((dues : List Due) → refused [] (due ∷ dues) ≡ Some (UnexpectedEnd, [])) → IsRefused due ts UnexpectedEnd ts
+pub ended_fails : (due : Expectation) (ts : Tokens) → ts ≡ [] → ((dues : List Expectation) → refused [] (due ∷ dues) ≡ Some (UnexpectedEnd, [])) → IsRefused due ts UnexpectedEnd ts
 ended_fails due ts e h = subst (λ us. IsRefused due us UnexpectedEnd us) (sym e) h
 
 -- a token that is refused
-pub token_fails : (due : Due) (ts : Tokens) (t : List ℕ) (kind : TypeErrorKind) → first_of ts ≡ Some t → step due t ≡ refuses kind → IsRefused due ts kind ts
+pub token_fails : (due : Expectation) (ts : Tokens) (t : List ℕ) (kind : TypeErrorKind) → first_of ts ≡ Some t → step due t ≡ refuses kind → IsRefused due ts kind ts
 token_fails due ts t kind e h = subst (λ us. IsRefused due us kind us) (sym (some_next ts t e)) (λ dues. by_step t (drop 1 ts) due dues (refuses kind) h)
 
 pub word_fails : (n : ℕ) (ts : Tokens) (t : List ℕ) → first_of ts ≡ Some t → kind_of_word t ≡ None → IsRefused (type_due n) ts UnexpectedToken ts
@@ -174,7 +174,7 @@ level_fails n ts t kind none e h = token_fails (type_due n) ts t NestingTooDeep 
 
 -- a token that isn't what is due is refused for that, marks as any token
 module _ {A : Type 0} where
-  pub only_fails : (o : Option A) (kind : TypeErrorKind) (t : List ℕ) (more : List Due) (mark : Bool) → o ≡ None → is_mark t ≡ mark → only_step o kind t more ≡ refuses (if mark then UnexpectedToken else kind)
+  pub only_fails : (o : Option A) (kind : TypeErrorKind) (t : List ℕ) (more : List Expectation) (mark : Bool) → o ≡ None → is_mark t ≡ mark → only_step o kind t more ≡ refuses (if mark then UnexpectedToken else kind)
   only_fails o kind t more mark e h = ap (λ p. only_step p kind t more) e ∙ ap (λ b. refuses (if b then UnexpectedToken else kind)) h
 
 pub key_fails : (ts : Tokens) (t : List ℕ) (mark : Bool) → first_of ts ≡ Some t → key_of_word t ≡ None → is_mark t ≡ mark → IsRefused key_due ts (if mark then UnexpectedToken else InvalidKeyType) ts
@@ -183,13 +183,13 @@ key_fails ts t mark e h m = token_fails key_due ts t (if mark then UnexpectedTok
 pub count_fails : (close : List ℕ) (ts : Tokens) (t : List ℕ) (mark : Bool) → first_of ts ≡ Some t → count_of_token t ≡ None → is_mark t ≡ mark → IsRefused (part_due close a_length) ts (if mark then UnexpectedToken else InvalidCount) ts
 count_fails close ts t mark e h m = token_fails (part_due close a_length) ts t (if mark then UnexpectedToken else InvalidCount) e (only_fails (count_of_token t) InvalidCount t (close_due close no_more ∷ []) mark h m)
 
-pub key_runs : (ts r : Tokens) (K : TypeTree) (dues : List Due) → key_at ts ≡ Some (K, r) → refused ts (key_due ∷ dues) ≡ refused r dues
+pub key_runs : (ts r : Tokens) (K : TypeTree) (dues : List Expectation) → key_at ts ≡ Some (K, r) → refused ts (key_due ∷ dues) ≡ refused r dues
 key_runs [] r K dues e = absurd (cc)
 key_runs (t ∷ ts) r K dues e =
     let p = made_back (key_of_word t) ts (K, r) e in
     by_step t ts key_due dues (takes []) (ap (λ o. only_step o InvalidKeyType t []) p.0) ∙ ap (λ us. refused us dues) p.1
 
-pub count_runs : (mark : List ℕ) (ts r : Tokens) (n : ℕ) (dues : List Due) → count_at ts ≡ Some (n, r) → refused ts (part_due mark a_length ∷ dues) ≡ refused r (close_due mark no_more ∷ dues)
+pub count_runs : (mark : List ℕ) (ts r : Tokens) (n : ℕ) (dues : List Expectation) → count_at ts ≡ Some (n, r) → refused ts (part_due mark a_length ∷ dues) ≡ refused r (close_due mark no_more ∷ dues)
 count_runs mark [] r n dues e = absurd (cc)
 count_runs mark (t ∷ ts) r n dues e =
     let p = made_back (count_of_token t) ts (n, r) e in
@@ -214,18 +214,18 @@ module _ (mark t : List ℕ) (ts r : Tokens) where
 close_step : (mark t : List ℕ) (part : Part) (b c : Bool) → bytes_eq t mark ≡ b → bytes_eq t (codes ",") ≡ c → step (close_due mark part) t ≡ (if b then takes [] else if c then takes (last_due mark part ∷ []) else refuses UnexpectedToken)
 close_step mark t part b c hb hc = λ i. if hb i then takes [] else if hc i then takes (last_due mark part ∷ []) else refuses UnexpectedToken
 
-pub last_ends : (mark : List ℕ) (part : Part) (ts r : Tokens) (dues : List Due) → after mark ts ≡ Some r → refused ts (last_due mark part ∷ dues) ≡ refused r dues
+pub last_ends : (mark : List ℕ) (part : Part) (ts r : Tokens) (dues : List Expectation) → after mark ts ≡ Some r → refused ts (last_due mark part ∷ dues) ≡ refused r dues
 last_ends mark part [] r dues e = absurd (cc)
 last_ends mark part (t ∷ ts) r dues e =
     let p = after_true mark t ts r e in
     by_step t ts (last_due mark part) dues (takes []) (ap (λ b. if b then takes [] else part_step mark part t) p.0) ∙ ap (λ us. refused us dues) p.1
 
-pub last_goes_on : (mark : List ℕ) (part : Part) (ts : Tokens) (dues : List Due) → after mark ts ≡ None → refused ts (last_due mark part ∷ dues) ≡ refused ts (part_due mark part ∷ dues)
+pub last_goes_on : (mark : List ℕ) (part : Part) (ts : Tokens) (dues : List Expectation) → after mark ts ≡ None → refused ts (last_due mark part ∷ dues) ≡ refused ts (part_due mark part ∷ dues)
 last_goes_on mark part [] dues e = refl
 last_goes_on mark part (t ∷ ts) dues e =
     by_step t ts (last_due mark part) dues (part_step mark part t) (ap (λ b. if b then takes [] else part_step mark part t) (after_false mark t ts e)) ∙ sym (by_step t ts (part_due mark part) dues (part_step mark part t) refl)
 
-pub close_ends : (mark : List ℕ) (part : Part) (ts r : Tokens) (dues : List Due) → closed mark ts ≡ Some r → refused ts (close_due mark part ∷ dues) ≡ refused r dues
+pub close_ends : (mark : List ℕ) (part : Part) (ts r : Tokens) (dues : List Expectation) → closed mark ts ≡ Some r → refused ts (close_due mark part ∷ dues) ≡ refused r dues
 close_ends mark part [] r dues e = absurd (cc)
 close_ends mark part (t ∷ ts) r dues e = elim (ends_by mark t ts r (bytes_eq t mark) (bytes_eq t (codes ",")) refl refl e) as (λ _. refused (t ∷ ts) (close_due mark part ∷ dues) ≡ refused r dues) [
   | inl p ↦ by_step t ts (close_due mark part) dues (takes []) (close_step mark t part true (bytes_eq t (codes ",")) p.0 refl) ∙ ap (λ us. refused us dues) p.1
@@ -254,7 +254,7 @@ unclosed_here mark t ts true hb e =
     absurd (cc)
 unclosed_here mark t ts false hb e = refl
 
-pub comma_runs : (mark : List ℕ) (part : Part) (ts r : Tokens) (dues : List Due) → GoesOn mark ts r → refused ts (close_due mark part ∷ dues) ≡ refused r (part_due mark part ∷ dues)
+pub comma_runs : (mark : List ℕ) (part : Part) (ts r : Tokens) (dues : List Expectation) → GoesOn mark ts r → refused ts (close_due mark part ∷ dues) ≡ refused r (part_due mark part ∷ dues)
 comma_runs mark part [] r dues g = let wrong : None ≡ Some r = g.comma in absurd (cc)
 comma_runs mark part (t ∷ ts) r dues g =
     let p = after_true (codes ",") t ts r g.comma in
@@ -268,7 +268,7 @@ no_more_fails mark (t ∷ ts) = λ dues. by_step t ts (part_due mark no_more) du
 -- ---- names
 
 -- a name that was read and is new
-module _ (names : List (List ℕ)) (t name : List ℕ) (ts r : Tokens) (e : new_name names (t ∷ ts) ≡ Some (name, r)) (next : List (List ℕ) → List Due) where
+module _ (names : List (List ℕ)) (t name : List ℕ) (ts r : Tokens) (e : new_name names (t ∷ ts) ≡ Some (name, r)) (next : List (List ℕ) → List Expectation) where
   pub name_steps : (name_step names (name_of_token t) next ≡ takes (next (names ++ name ∷ []))) × (ts ≡ r)
   name_steps =
       let p = onward_back (name_of_token t) (λ n. if is_one_of names n then None else Some (n, drop 1 (t ∷ ts))) (name, r) e in
@@ -278,19 +278,19 @@ module _ (names : List (List ℕ)) (t name : List ℕ) (ts r : Tokens) (e : new_
         λ i. (q.1 i).1,
       )
 
-  pub name_runs : (due : Due) → step due t ≡ name_step names (name_of_token t) next → (dues : List Due) → refused (t ∷ ts) (due ∷ dues) ≡ refused r (next (names ++ name ∷ []) ++ dues)
+  pub name_runs : (due : Expectation) → step due t ≡ name_step names (name_of_token t) next → (dues : List Expectation) → refused (t ∷ ts) (due ∷ dues) ≡ refused r (next (names ++ name ∷ []) ++ dues)
   name_runs due is dues = by_step t ts due dues (takes (next (names ++ name ∷ []))) (is ∙ name_steps.0) ∙ ap (λ us. refused us (next (names ++ name ∷ []) ++ dues)) name_steps.1
 
-repeated_step : (names : List (List ℕ)) (name : List ℕ) (kind : TypeErrorKind) (next : List (List ℕ) → List Due) (b : Bool) → (if b then Some DuplicateName else None) ≡ Some kind → (if b then refuses DuplicateName else takes (next (names ++ name ∷ []))) ≡ refuses kind
+repeated_step : (names : List (List ℕ)) (name : List ℕ) (kind : TypeErrorKind) (next : List (List ℕ) → List Expectation) (b : Bool) → (if b then Some DuplicateName else None) ≡ Some kind → (if b then refuses DuplicateName else takes (next (names ++ name ∷ []))) ≡ refuses kind
 repeated_step names name kind next true e = let same : DuplicateName ≡ kind = cc in ap refuses same
 repeated_step names name kind next false e = absurd (cc)
 
-name_faults : (names : List (List ℕ)) (o : Option (List ℕ)) (kind : TypeErrorKind) (next : List (List ℕ) → List Due) → name_fault names o ≡ Some kind → name_step names o next ≡ refuses kind
+name_faults : (names : List (List ℕ)) (o : Option (List ℕ)) (kind : TypeErrorKind) (next : List (List ℕ) → List Expectation) → name_fault names o ≡ Some kind → name_step names o next ≡ refuses kind
 name_faults names None kind next e = let same : UnexpectedToken ≡ kind = cc in ap refuses same
 name_faults names (Some name) kind next e = repeated_step names name kind next (is_one_of names name) e
 
 -- no new name stands next
-module _ (names : List (List ℕ)) (due : Due) (next : List (List ℕ) → List Due) (is : (t : List ℕ) → step due t ≡ name_step names (name_of_token t) next) (ended : (dues : List Due) → refused [] (due ∷ dues) ≡ Some (UnexpectedEnd, [])) where
+module _ (names : List (List ℕ)) (due : Expectation) (next : List (List ℕ) → List Expectation) (is : (t : List ℕ) → step due t ≡ name_step names (name_of_token t) next) (ended : (dues : List Expectation) → refused [] (due ∷ dues) ≡ Some (UnexpectedEnd, [])) where
   unnamed : (ts : Tokens) (kind : TypeErrorKind) → name_refused names ts ≡ Some kind → IsRefused due ts kind ts
   unnamed [] kind e = let same : UnexpectedEnd ≡ kind = cc in λ dues. ended dues ∙ ap (λ k. Some (k, [])) same
   unnamed (t ∷ ts) kind e = λ dues. by_step t ts due dues (refuses kind) (is t ∙ name_faults names (name_of_token t) kind next e)
@@ -309,7 +309,7 @@ module _ (n : ℕ) (mark : List ℕ) (names : List (List ℕ)) (ts r : Tokens) w
   pub names_fail : (kind : TypeErrorKind) → RefusesName names ts kind r → Fails (λ dues. part_due mark (more_names names) ∷ dues) ts kind r
   names_fail kind h = name_fails names (part_due mark (more_names names)) (λ names. close_due mark (more_names names) ∷ []) (λ t. refl) (λ dues. refl) ts r kind h
 
-module _ (n : ℕ) (mark : List ℕ) (names : List (List ℕ)) (name : List ℕ) (dues : List Due) where
+module _ (n : ℕ) (mark : List ℕ) (names : List (List ℕ)) (name : List ℕ) (dues : List Expectation) where
   pub field_runs : (ts r : Tokens) → new_name names ts ≡ Some (name, r) → refused ts (part_due mark (more_fields n names) ∷ dues) ≡ refused r (mark_due (codes ":") ∷ type_due n ∷ close_due mark (more_fields n (names ++ name ∷ [])) ∷ dues)
   field_runs [] r e = absurd (cc)
   field_runs (t ∷ ts) r e = name_runs names t name ts r e (λ names. mark_due (codes ":") ∷ type_due n ∷ close_due mark (more_fields n names) ∷ []) (part_due mark (more_fields n names)) refl dues
@@ -325,11 +325,11 @@ module _ (n : ℕ) (mark : List ℕ) (names : List (List ℕ)) (name : List ℕ)
 -- ---- one run and then a refusal
 
 -- where what is due comes down to what is refused, it is refused
-pub fails_onward : (due more : List Due → List Due) (ts m r : Tokens) (kind : TypeErrorKind) → ((dues : List Due) → refused ts (due dues) ≡ refused m (more dues)) → Fails more m kind r → Fails due ts kind r
+pub fails_onward : (due more : List Expectation → List Expectation) (ts m r : Tokens) (kind : TypeErrorKind) → ((dues : List Expectation) → refused ts (due dues) ≡ refused m (more dues)) → Fails more m kind r → Fails due ts kind r
 fails_onward due more ts m r kind run (inl e) = inl e
 fails_onward due more ts m r kind run (inr h) = inr (λ dues. run dues ∙ h dues)
 
 -- what is refused is refused whatever is due after it
-pub fails_before : (due : Due) (more : List Due → List Due) (ts r : Tokens) (kind : TypeErrorKind) → Fails (λ dues. due ∷ dues) ts kind r → Fails (λ dues. due ∷ more dues) ts kind r
+pub fails_before : (due : Expectation) (more : List Expectation → List Expectation) (ts r : Tokens) (kind : TypeErrorKind) → Fails (λ dues. due ∷ dues) ts kind r → Fails (λ dues. due ∷ more dues) ts kind r
 fails_before due more ts r kind (inl e) = inl e
 fails_before due more ts r kind (inr h) = inr (λ dues. h (more dues))

@@ -4,7 +4,7 @@ use Rattle.std.proofs.lemmas.List.{append-nil}
 use Rattle.wave_wasm.specs.Commas.{joined, behind_name, in_parens}
 use Rattle.wave_wasm.specs.Lists.{AllOf}
 use Rattle.wave_wasm.specs.Names.{AreDistinct}
-use Rattle.wave_wasm.specs.Types.{IsOwn}
+use Rattle.wave_wasm.specs.Types.{IsRepresentable}
 use Rattle.wave_wasm.specs.TypeText.{type_text, typed_names, function_results_text, function_text}
 use Rattle.wave_lex.specs.Tokens.{label}
 use Rattle.wave_lex.proofs.Derive.{matches_from}
@@ -18,7 +18,7 @@ use Rattle.wave_type.proofs.TypeReadBack.{Prints, paren_alone, parts_cut, field_
 use Rattle.wave_type.proofs.TypeReading.{IsField, fields_spelled, field_names_of}
 
 -- names and types, one by one
-parts_print : (ps : Parts) → AllOf IsOwn (types_of ps) → HasGoodNames (names_of ps) (types_of ps) → AllOf (λ f. Prints (IsField f) (field_line f)) ps
+parts_print : (ps : Parts) → AllOf IsRepresentable (types_of ps) → HasGoodNames (names_of ps) (types_of ps) → AllOf (λ f. Prints (IsField f) (field_line f)) ps
 parts_print [] own good = tt
 parts_print ((name, T) ∷ ps) own (labels, distinct, good) =
     (field_prints name T labels.0 (type_prints T (own.0, good.0.0) good.0.1), parts_print ps own.1 (labels.1, distinct.1, good.1))
@@ -28,7 +28,7 @@ lines [] = refl
 lines ((name, T) ∷ ps) = ap (λ l. behind_name name (type_text T) ∷ l) (lines ps)
 
 -- names and types in parentheses
-parens_cut : (ps : Parts) → AllOf IsOwn (types_of ps) → HasGoodNames (names_of ps) (types_of ps) → (r : List ℕ) (us : Tokens) → IsCutInto r us → (ts : Tokens) × IsCutInto (in_parens (joined (typed_names (names_of ps) (types_of ps))) ++ r) (codes "(" ∷ ts) × SpellsParts ps ts us
+parens_cut : (ps : Parts) → AllOf IsRepresentable (types_of ps) → HasGoodNames (names_of ps) (types_of ps) → (r : List ℕ) (us : Tokens) → IsCutInto r us → (ts : Tokens) × IsCutInto (in_parens (joined (typed_names (names_of ps) (types_of ps))) ++ r) (codes "(" ∷ ts) × SpellsParts ps ts us
 parens_cut [] own good r us cut = (codes ")" ∷ us, paren_open_cut (41 ∷ r) (codes ")" ∷ us) (paren_close_cut r us cut), refl)
 parens_cut (p ∷ ps) own good r us cut =
     let w = parts_cut (codes ")") IsField field_line p ps (parts_print (p ∷ ps) own good) (41 ∷ r) us refl (paren_alone us) (paren_close_cut r us cut) in
@@ -41,13 +41,13 @@ parens_cut (p ∷ ps) own good r us cut =
 behind_arrow : (x : List ℕ) (ts : Tokens) → IsCutInto x ts → IsCutInto (codes " -> " ++ x) (codes "-" ∷ codes ">" ∷ ts)
 behind_arrow x ts cut = space_cut (45 ∷ 62 ∷ 32 ∷ x) (codes "-" ∷ codes ">" ∷ ts) (arrow_cut (32 ∷ x) ts (space_cut x ts cut))
 
-named_cut : (rs : Parts) → AllOf IsOwn (types_of rs) → HasGoodNames (names_of rs) (types_of rs) → (ts : Tokens) × IsCutInto (codes " -> " ++ in_parens (joined (typed_names (names_of rs) (types_of rs)))) (codes "-" ∷ codes ">" ∷ codes "(" ∷ ts) × SpellsParts rs ts []
+named_cut : (rs : Parts) → AllOf IsRepresentable (types_of rs) → HasGoodNames (names_of rs) (types_of rs) → (ts : Tokens) × IsCutInto (codes " -> " ++ in_parens (joined (typed_names (names_of rs) (types_of rs)))) (codes "-" ∷ codes ">" ∷ codes "(" ∷ ts) × SpellsParts rs ts []
 named_cut rs own good =
     let w = parens_cut rs own good [] [] end_cut in
     let x = in_parens (joined (typed_names (names_of rs) (types_of rs))) in
     (w.0, behind_arrow x (codes "(" ∷ w.0) (subst (λ z. IsCutInto z (codes "(" ∷ w.0)) (append-nil x) w.1), w.2)
 
-results_cut : (rs : Parts) → AllOf IsOwn (types_of rs) → HasGoodNames (result_names rs) (types_of rs) → (ts : Tokens) × IsCutInto (function_results_text (result_names rs) (types_of rs)) ts × SpellsResults rs ts
+results_cut : (rs : Parts) → AllOf IsRepresentable (types_of rs) → HasGoodNames (result_names rs) (types_of rs) → (ts : Tokens) × IsCutInto (function_results_text (result_names rs) (types_of rs)) ts × SpellsResults rs ts
 results_cut [] own good = ([], end_cut, refl)
 results_cut (([], T) ∷ []) own (labels, distinct, good) =
     let w = type_prints T (own.0, good.0.0) good.0.1 [] [] tt tt end_cut in
@@ -61,7 +61,7 @@ results_cut ((c ∷ cs, T) ∷ p ∷ ps) own good =
     (codes "-" ∷ codes ">" ∷ codes "(" ∷ w.0, w.1, (w.0, refl, w.2))
 
 -- the text of the type of a function spells it
-pub function_spells : (f : FunctionType) → AllOf IsOwn (types_of f.params) → AllOf IsOwn (types_of f.results) → IsGoodFunction f → IsFunctionOf (function_text (func_of f)) f
+pub function_spells : (f : FunctionType) → AllOf IsRepresentable (types_of f.params) → AllOf IsRepresentable (types_of f.results) → IsGoodFunction f → IsFunctionOf (function_text (func_of f)) f
 function_spells f own own_results good =
     let rs = results_cut f.results own_results good.1 in
     let behind = function_results_text (result_names f.results) (types_of f.results) in

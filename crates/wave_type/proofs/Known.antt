@@ -5,7 +5,7 @@ use Rattle.std.specs.contracts.impls.GlobalAllocator.TheImpl.{ghosts}
 use Rattle.std.specs.contracts.vec.Vec as vec
 use Rattle.std.specs.formers.vec.Vec as former
 use Rattle.wave_wasm.specs.Lists.{AllOf}
-use Rattle.wave_wasm.specs.Types.{TypeTree, IsOwn}
+use Rattle.wave_wasm.specs.Types.{TypeTree, IsRepresentable}
 use Rattle.wave_type.specs.contracts.ty.Type as own
 use Rattle.wave_type.specs.contracts.ty.Type.TheInside as inside
 use Rattle.wave_type.specs.declared.ty.Type.TheInside.{Inside}
@@ -19,27 +19,27 @@ use denote.RattleType.{RattleType}
 use denote.Known.{Says, Known, All, Says-some, Says-second, nothing_known}
 
 -- what is known of the fields says it of the tree
-own_from : (T : TypeTree) (a : Inside) → the_shows.Known T a → IsOwn T
-own_from T a k = subst IsOwn k.0 k.1.own
+own_from : (T : TypeTree) (a : Inside) → the_shows.Known T a → IsRepresentable T
+own_from T a k = subst IsRepresentable k.0 k.1.own
 
 -- a `&` to a `Type` says so
-pub shared : (T : TypeTree) (b o : ℕ) (κ : Lft) → Says (own.the_row.shr_at T b o κ) (IsOwn T)
+pub shared : (T : TypeTree) (b o : ℕ) (κ : Lft) → Says (own.the_row.shr_at T b o κ) (IsRepresentable T)
 shared T b o κ = record {
   go = λ M 𝓤 𝓛.
       via 𝓤 (ex 𝓤 (λ (a : (a : Inside) × the_shows.Known T a). sem 𝓛 (inside.the_row.shr_at a.0 b o κ))) (the_shows.shows M 𝓤 𝓛 T b o κ)
-      (ex_e 𝓤 (λ (a : (a : Inside) × the_shows.Known T a). sem 𝓛 (inside.the_row.shr_at a.0 b o κ)) (λ a. fact_i 𝓤 (IsOwn T) (sem 𝓛 (inside.the_row.shr_at a.0 b o κ)) (own_from T a.0 a.1)));
+      (ex_e 𝓤 (λ (a : (a : Inside) × the_shows.Known T a). sem 𝓛 (inside.the_row.shr_at a.0 b o κ)) (λ a. fact_i 𝓤 (IsRepresentable T) (sem 𝓛 (inside.the_row.shr_at a.0 b o κ)) (own_from T a.0 a.1)));
 }
 
 -- so does what a `Type` owns beside its fields
-rest_says : (T : TypeTree) (a : Inside) → Says (the_opens.rest T a) (IsOwn T)
+rest_says : (T : TypeTree) (a : Inside) → Says (the_opens.rest T a) (IsRepresentable T)
 rest_says T a = record {
   go = λ M 𝓤 𝓛.
       via 𝓤 (guard 𝓤 (the_opens.Known T a) (sem 𝓛 (the_opens.rest T a))) (the_opens.tells M 𝓤 𝓛 T a)
-      (guard_e 𝓤 (the_opens.Known T a) (sem 𝓛 (the_opens.rest T a)) (λ k. fact_i 𝓤 (IsOwn T) (sem 𝓛 (the_opens.rest T a)) (own_from T a k)));
+      (guard_e 𝓤 (the_opens.Known T a) (sem 𝓛 (the_opens.rest T a)) (λ k. fact_i 𝓤 (IsRepresentable T) (sem 𝓛 (the_opens.rest T a)) (own_from T a k)));
 }
 
 -- and so does a `Type` itself
-pub owned : (T : TypeTree) (vs : List Val) → Says (own.the_row.own_val T vs) (IsOwn T)
+pub owned : (T : TypeTree) (vs : List Val) → Says (own.the_row.own_val T vs) (IsRepresentable T)
 owned T vs = record {
   go = λ M 𝓤 𝓛.
       via 𝓤 _ (the_opens.splits M 𝓤 𝓛 T vs) ((Says-some Inside _ (λ a. Says-second (inside.the_row.own_val a vs) (the_opens.rest T a) (rest_says T a))).go M 𝓤 𝓛);
@@ -47,7 +47,7 @@ owned T vs = record {
 
 -- both say it
 abbrev type_known : Known own.the_row
-type_known = record { Fact = IsOwn; owned = owned; shared = shared }
+type_known = record { Fact = IsRepresentable; owned = owned; shared = shared }
 
 -- a `Vec` of types
 abbrev pub Types : RattleType

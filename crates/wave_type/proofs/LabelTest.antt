@@ -20,7 +20,7 @@ use Rattle.wave_wasm.specs.Types as type
 use Rattle.wave_wasm.specs.Types.{TypeTree, MaybeType, Types, Fields, Cases, no_type, a_type, no_types, type_and, no_fields, field, no_cases, case_of, EachNames, EachNamesOfMaybe, EachNamesOfTypes, EachNamesOfFields, EachNamesOfCases, fields_of, cases_of, field_names, case_names}
 use Rattle.wave_wasm.proofs.NameTests.{none_of, distinct_more}
 use Rattle.wave_lex.specs.Labels.{IsLabel, Good}
-use Rattle.wave_lex.specs.LongestMatch.{Greatest, IsFront}
+use Rattle.wave_lex.specs.LongestMatch.{Greatest, IsPrefixOf}
 use Rattle.wave_lex.specs.Tokens.{label}
 use Rattle.wave_lex.proofs.Derive.{matches_from, matches_into}
 use Rattle.wave_lex.proofs.LabelWords.{ascii_text}
@@ -35,18 +35,18 @@ by_itself : (s : List ℕ) → IsLabel s → encode_utf8_all s ≡ s
 by_itself s h = encodes-IsAscii s (ascii_text label s refl h)
 
 -- a prefix that is a label and the whole name makes the name a label
-whole_into : (s : List ℕ) → IsFront label s (length s) → IsLabel s
+whole_into : (s : List ℕ) → IsPrefixOf label s (length s) → IsLabel s
 whole_into s f = subst IsLabel (sym (by_itself f.scalars f.has) ∙ (f.spelled ∙ take-length s)) f.has
 
 -- a label is such a prefix of itself
-whole_from : (s : List ℕ) → IsLabel s → IsFront label s (length s)
+whole_from : (s : List ℕ) → IsLabel s → IsPrefixOf label s (length s)
 whole_from s h = record { scalars = s; fits = omega arith; spelled = by_itself s h ∙ sym (take-length s); has = h }
 
 -- the longest label at the start of a name is the whole name exactly where the name is a label
-pub front_tells : (s : List ℕ) (o : Option ℕ) → Greatest (IsFront label s) o → option_eq eqb o (Some (length s)) ≡ is_label s
+pub front_tells : (s : List ℕ) (o : Option ℕ) → Greatest (IsPrefixOf label s) o → option_eq eqb o (Some (length s)) ≡ is_label s
 front_tells s None none = sym (false_from_ne_true (is_label s) (λ t. none (length s) (whole_from s (matches_from s label t))))
 front_tells s (Some k) best =
-    both_ways (eqb k (length s)) (is_label s) (λ e. matches_into s label (whole_into s (subst (IsFront label s) (eqb-true k (length s) e) best.0))) (λ t. let le = best.1 (length s) (whole_from s (matches_from s label t)) in eq-eqb k (length s) (omega (arith, best.0.fits)))
+    both_ways (eqb k (length s)) (is_label s) (λ e. matches_into s label (whole_into s (subst (IsPrefixOf label s) (eqb-true k (length s) e) best.0))) (λ t. let le = best.1 (length s) (whole_from s (matches_from s label t)) in eq-eqb k (length s) (omega (arith, best.0.fits)))
 
 -- ---- names
 

@@ -4,7 +4,7 @@ pub mod Texts
 pub mod Known
 pub mod TypeOwn
 pub mod LabelTest
-pub mod TextFronts
+pub mod TextPrefixes
 pub mod TypeTexts
 pub mod TypeConversion
 pub mod Parts

@@ -9,7 +9,7 @@ use Rattle.wave_type.specs.declared.error.TypeErrorKind.TheVariants.{DuplicateNa
 use Rattle.wave_type.specs.TypeMade.{tuple_type, record_type, variant_type, enum_type, flags_type}
 use Rattle.wave_type.specs.TypeSpelling.{Tokens}
 use Rattle.wave_type.specs.TypeWords.{onward}
-use Rattle.wave_type.specs.TypeFaults.{Due, mark_due, refused}
+use Rattle.wave_type.specs.TypeFaults.{Expectation, mark_due, refused}
 use Rattle.wave_type.specs.Private.TypeReading.{after, closed, or_else, with, parts, name_at, new_name, names_read, Reads, types_read, fields_read, cases_read, fixed_behind, list_read, err_behind, payloads_read, payload_read, case_part, field_part, type_read}
 use Rattle.wave_type.specs.Private.TypeTokens.{misplaced, name_fault, Fails, IsRefused, GoesOn, RefusesName, Answers}
 use Rattle.wave_type.proofs.FaultSteps.{mark_fails, fails_onward}
@@ -40,11 +40,11 @@ mark_refused mark ts r kind (none, is, end) =
 
 module _ {A B : Type 0} (view : A → B) where
   -- a refusal is the answer
-  pub answers_err : (result : Result A TypeErrorKind) (kind : TypeErrorKind) (ts r : Tokens) (read : Option (B × Tokens)) (due : List Due → List Due) → result ≡ Err kind → Fails due ts kind r → Answers view result ts r read due
+  pub answers_err : (result : Result A TypeErrorKind) (kind : TypeErrorKind) (ts r : Tokens) (read : Option (B × Tokens)) (due : List Expectation → List Expectation) → result ≡ Err kind → Fails due ts kind r → Answers view result ts r read due
   answers_err result kind ts r read due e h = subst (λ z. Answers view z ts r read due) (sym e) h
 
   -- what the last call answers is the answer
-  pub answers_onward : (result : Result A TypeErrorKind) (ts m r : Tokens) (read more : Option (B × Tokens)) (due behind : List Due → List Due) → read ≡ more → ((dues : List Due) → refused ts (due dues) ≡ refused m (behind dues)) → Answers view result m r more behind → Answers view result ts r read due
+  pub answers_onward : (result : Result A TypeErrorKind) (ts m r : Tokens) (read more : Option (B × Tokens)) (due behind : List Expectation → List Expectation) → read ≡ more → ((dues : List Expectation) → refused ts (due dues) ≡ refused m (behind dues)) → Answers view result m r more behind → Answers view result ts r read due
   answers_onward (Ok a) ts m r read more due behind same run h = same ∙ h
   answers_onward (Err kind) ts m r read more due behind same run h = fails_onward due behind ts m r kind run h
 

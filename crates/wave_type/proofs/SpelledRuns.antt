@@ -9,7 +9,7 @@ use Rattle.wave_type.specs.FunctionType.{FunctionType}
 use Rattle.wave_type.specs.FunctionSpelling.{SpellsParts, SpellsResults, SpellsFunction, levels_of_function}
 use Rattle.wave_type.specs.TypeSpelling.{Tokens, Names, Closes, Spells, SpellsNames, SpellsTypes, SpellsFields, SpellsCases, SpellsPayload, levels_of, levels_of_payload, levels_of_types, levels_of_fields, levels_of_cases}
 use Rattle.wave_type.specs.TypeFaults.{Part, no_more, a_length, err_type, more_types, more_fields, more_cases, more_names}
-use Rattle.wave_type.specs.TypeFaults.{Due, type_due, part_due, close_due, last_due, payload_due, results_due, result_due, mark_due, refused, due_of_function}
+use Rattle.wave_type.specs.TypeFaults.{Expectation, type_due, part_due, close_due, last_due, payload_due, results_due, result_due, mark_due, refused, due_of_function}
 use Rattle.wave_type.specs.Private.TypeReading.{after, made, new_name, fields_read, payload_read, type_read}
 use Rattle.wave_type.specs.Private.FunctionReading.{params_read, result_parts_read, results_read, signature_read, function_read}
 use Rattle.wave_type.proofs.FaultSteps.{mark_runs, payloads_pass, payload_passes, payload_runs, results_pass, results_run, types_are_types, err_is_type, ok_is_type, result_is_type, result_is_named, key_runs, count_runs, last_ends, last_goes_on, close_ends, comma_runs, field_runs, case_runs, names_run}
@@ -18,10 +18,10 @@ use Rattle.wave_type.proofs.TypeComplete.{IsMark, brace, paren, angle, after_the
 use Rattle.wave_type.proofs.TypeLevels.{read_low, fields_read_low}
 use Rattle.wave_type.proofs.TypeReading.{onward_back, with_back, read_sound, fields_back}
 
-closes_run : (mark : List ℕ) → bytes_eq (codes ",") mark ≡ false → (part : Part) (ts r : Tokens) (dues : List Due) → Closes mark ts r → refused ts (close_due mark part ∷ dues) ≡ refused r dues
+closes_run : (mark : List ℕ) → bytes_eq (codes ",") mark ≡ false → (part : Part) (ts r : Tokens) (dues : List Expectation) → Closes mark ts r → refused ts (close_due mark part ∷ dues) ≡ refused r dues
 closes_run mark comma part ts r dues c = close_ends mark part ts r dues (closed_there mark comma ts r c)
 
-commas_run : (mark : List ℕ) → bytes_eq (codes ",") mark ≡ false → (part : Part) (ts : Tokens) (dues : List Due) → after mark ts ≡ None → refused (codes "," ∷ ts) (close_due mark part ∷ dues) ≡ refused ts (part_due mark part ∷ dues)
+commas_run : (mark : List ℕ) → bytes_eq (codes ",") mark ≡ false → (part : Part) (ts : Tokens) (dues : List Expectation) → after mark ts ≡ None → refused (codes "," ∷ ts) (close_due mark part ∷ dues) ≡ refused ts (part_due mark part ∷ dues)
 commas_run mark comma part ts dues none = comma_runs mark part (codes "," ∷ ts) ts dues (record { unclosed = closed_not mark comma ts none; comma = after_there (codes ",") ts; more = none })
 
 types_start : (Ts : Types) (ts r : Tokens) → SpellsTypes Ts ts r → after (codes ">") ts ≡ None
@@ -52,7 +52,7 @@ one_more names name more h = subst AreDistinct (sym (append_assoc names (name �
 new_next : (names : List (List ℕ)) (t name : List ℕ) (ts m : Tokens) (more : List (List ℕ)) → ts ≡ t ∷ m → Names t name → AreDistinct (names ++ name ∷ more) → new_name names ts ≡ Some (name, m)
 new_next names t name ts m more e n d = ap (new_name names) e ∙ new_there names t name m n (new_behind names name more d)
 
-names_spelled_run : (mark : List ℕ) → IsMark mark → (xs names : List (List ℕ)) (ts r : Tokens) → SpellsNames mark xs ts r → AreDistinct (names ++ xs) → (dues : List Due) → refused ts (part_due mark (more_names names) ∷ dues) ≡ refused r dues
+names_spelled_run : (mark : List ℕ) → IsMark mark → (xs names : List (List ℕ)) (ts r : Tokens) → SpellsNames mark xs ts r → AreDistinct (names ++ xs) → (dues : List Expectation) → refused ts (part_due mark (more_names names) ∷ dues) ≡ refused r dues
 names_spelled_run mark is [] names ts r h d dues = absurd h
 names_spelled_run mark is (x ∷ []) names ts r (t, m, e, n, c) d dues =
     names_run 0 mark names x dues ts m (new_next names t x ts m [] e n d) ∙ closes_run mark is.comma (more_names (names ++ x ∷ [])) m r dues c
@@ -63,7 +63,7 @@ names_spelled_run mark is (x ∷ y ∷ xs) names ts r (t, m, e, n, h) d dues =
 
 mutual
   -- what spells a type within n levels is all of it
-  pub type_runs : (n : ℕ) (T : TypeTree) (ts r : Tokens) → levels_of T ≤ n → Spells T ts r → (dues : List Due) → refused ts (type_due n ∷ dues) ≡ refused r dues
+  pub type_runs : (n : ℕ) (T : TypeTree) (ts r : Tokens) → levels_of T ≤ n → Spells T ts r → (dues : List Expectation) → refused ts (type_due n ∷ dues) ≡ refused r dues
   type_runs zero T ts r le h dues = absurd (omega (arith, some_level T))
   type_runs (suc n) (simple bool) ts r le h dues = ap (λ us. refused us (type_due (suc n) ∷ dues)) h
   type_runs (suc n) (simple (whole s8)) ts r le h dues = ap (λ us. refused us (type_due (suc n) ∷ dues)) h
@@ -113,7 +113,7 @@ mutual
   type_runs (suc n) (enum names) ts r le (m, e, s, d) dues = ap (λ us. refused us (type_due (suc n) ∷ dues)) e ∙ names_spelled_run (codes "}") brace names [] m r s d dues
   type_runs (suc n) (flags names) ts r le (m, e, s, d) dues = ap (λ us. refused us (type_due (suc n) ∷ dues)) e ∙ names_spelled_run (codes "}") brace names [] m r s d dues
 
-  types_run : (n : ℕ) (Ts : Types) (ts r : Tokens) → levels_of_types Ts ≤ n → SpellsTypes Ts ts r → (dues : List Due) → refused ts (part_due (codes ">") (more_types n) ∷ dues) ≡ refused r dues
+  types_run : (n : ℕ) (Ts : Types) (ts r : Tokens) → levels_of_types Ts ≤ n → SpellsTypes Ts ts r → (dues : List Expectation) → refused ts (part_due (codes ">") (more_types n) ∷ dues) ≡ refused r dues
   types_run n no_types ts r le h dues = absurd h
   types_run n (type_and T no_types) ts r le (m, s, c) dues =
       types_are_types n (codes ">") ts dues ∙ (type_runs n T ts m (omega arith) s (close_due (codes ">") (more_types n) ∷ dues) ∙ closes_run (codes ">") angle (more_types n) m r dues c)
@@ -122,7 +122,7 @@ mutual
       ∙ (type_runs n T ts (codes "," ∷ m) (omega arith) s (close_due (codes ">") (more_types n) ∷ dues)
       ∙ (commas_run (codes ">") angle (more_types n) m dues (types_start (type_and U more) m r h) ∙ types_run n (type_and U more) m r (omega arith) h dues))
 
-  pub fields_run : (mark : List ℕ) → IsMark mark → (n : ℕ) (fs : Fields) (names : List (List ℕ)) (ts r : Tokens) → levels_of_fields fs ≤ n → SpellsFields mark fs ts r → AreDistinct (names ++ field_names fs) → (dues : List Due) → refused ts (part_due mark (more_fields n names) ∷ dues) ≡ refused r dues
+  pub fields_run : (mark : List ℕ) → IsMark mark → (n : ℕ) (fs : Fields) (names : List (List ℕ)) (ts r : Tokens) → levels_of_fields fs ≤ n → SpellsFields mark fs ts r → AreDistinct (names ++ field_names fs) → (dues : List Expectation) → refused ts (part_due mark (more_fields n names) ∷ dues) ≡ refused r dues
   fields_run mark is n no_fields names ts r le h d dues = absurd h
   fields_run mark is n (field name T no_fields) names ts r le (t, m, l, e, nm, s, c) d dues =
       field_runs n mark names name dues ts (codes ":" ∷ m) (new_next names t name ts (codes ":" ∷ m) [] e nm d)
@@ -133,7 +133,7 @@ mutual
       ∙ (commas_run mark is.comma (more_fields n (names ++ name ∷ [])) l dues (fields_start mark is (field x U more) l r h)
       ∙ fields_run mark is n (field x U more) (names ++ name ∷ []) l r (omega arith) h (one_more names name (x ∷ field_names more) d) dues))
 
-  cases_run : (n : ℕ) (cs : Cases) (names : List (List ℕ)) (ts r : Tokens) → levels_of_cases cs ≤ n → SpellsCases cs ts r → AreDistinct (names ++ case_names cs) → (dues : List Due) → refused ts (part_due (codes "}") (more_cases n names) ∷ dues) ≡ refused r dues
+  cases_run : (n : ℕ) (cs : Cases) (names : List (List ℕ)) (ts r : Tokens) → levels_of_cases cs ≤ n → SpellsCases cs ts r → AreDistinct (names ++ case_names cs) → (dues : List Expectation) → refused ts (part_due (codes "}") (more_cases n names) ∷ dues) ≡ refused r dues
   cases_run n no_cases names ts r le h d dues = absurd h
   cases_run n (case_of name p no_cases) names ts r le (t, m, l, e, nm, s, c) d dues =
       case_runs n (codes "}") names name dues ts m (new_next names t name ts m [] e nm d)
@@ -144,7 +144,7 @@ mutual
       ∙ (commas_run (codes "}") brace.comma (more_cases n (names ++ name ∷ [])) l dues (cases_start (case_of x q more) l r h)
       ∙ cases_run n (case_of x q more) (names ++ name ∷ []) l r (omega arith) h (one_more names name (x ∷ case_names more) d) dues))
 
-  payload_run : (n : ℕ) (p : MaybeType) (ts r : Tokens) → levels_of_payload p ≤ n → SpellsPayload p ts r → after (codes "(") r ≡ None → (dues : List Due) → refused ts (payload_due n ∷ dues) ≡ refused r dues
+  payload_run : (n : ℕ) (p : MaybeType) (ts r : Tokens) → levels_of_payload p ≤ n → SpellsPayload p ts r → after (codes "(") r ≡ None → (dues : List Expectation) → refused ts (payload_due n ∷ dues) ≡ refused r dues
   payload_run n no_type ts r le h alone dues = payload_passes n ts dues (ap (after (codes "(")) h ∙ alone) ∙ ap (λ us. refused us dues) h
   payload_run n (a_type T) ts r le (m, e, s) alone dues =
       ap (λ us. refused us (payload_due n ∷ dues)) e ∙ type_runs n T m (codes ")" ∷ r) (omega arith) s (mark_due (codes ")") ∷ dues)
@@ -152,10 +152,10 @@ mutual
 -- ---- what is read
 
 -- so what is read of a type
-pub read_runs : (n : ℕ) (ts r : Tokens) (T : TypeTree) → type_read n ts ≡ Some (T, r) → (dues : List Due) → refused ts (type_due n ∷ dues) ≡ refused r dues
+pub read_runs : (n : ℕ) (ts r : Tokens) (T : TypeTree) → type_read n ts ≡ Some (T, r) → (dues : List Expectation) → refused ts (type_due n ∷ dues) ≡ refused r dues
 read_runs n ts r T e = type_runs n T ts r (read_low n ts (T, r) e) (read_sound n ts (T, r) e)
 
-payload_read_by : (n : ℕ) (ts r : Tokens) (o : Option Tokens) (p : Option TypeTree) → after (codes "(") ts ≡ o → payload_read (type_read n) ts o ≡ Some (p, r) → (dues : List Due) → refused ts (payload_due n ∷ dues) ≡ refused r dues
+payload_read_by : (n : ℕ) (ts r : Tokens) (o : Option Tokens) (p : Option TypeTree) → after (codes "(") ts ≡ o → payload_read (type_read n) ts o ≡ Some (p, r) → (dues : List Expectation) → refused ts (payload_due n ∷ dues) ≡ refused r dues
 payload_read_by n ts r None p h e dues =
     let pair : ◌≡◌ {A = Option TypeTree × Tokens} (None, ts) (p, r) = cc in
     payload_passes n ts dues h ∙ (λ i. refused (pair i).1 dues)
@@ -164,31 +164,31 @@ payload_read_by n ts r (Some m) p h e dues =
     let w = with_back (Some s.0.0) (after (codes ")") s.0.1) (p, r) s.2 in
     payload_runs n ts m dues h ∙ (read_runs n m s.0.1 s.0.0 s.1 (mark_due (codes ")") ∷ dues) ∙ mark_runs (codes ")") s.0.1 r dues w.0)
 
-pub payload_read_runs : (n : ℕ) (ts r : Tokens) (p : Option TypeTree) → payload_read (type_read n) ts (after (codes "(") ts) ≡ Some (p, r) → (dues : List Due) → refused ts (payload_due n ∷ dues) ≡ refused r dues
+pub payload_read_runs : (n : ℕ) (ts r : Tokens) (p : Option TypeTree) → payload_read (type_read n) ts (after (codes "(") ts) ≡ Some (p, r) → (dues : List Expectation) → refused ts (payload_due n ∷ dues) ≡ refused r dues
 payload_read_runs n ts r p e = payload_read_by n ts r (after (codes "(") ts) p refl e
 
-pub fields_read_runs : (n : ℕ) (ts r : Tokens) (fs : Parts) → fields_read (type_read n) (codes ")") ts ≡ Some (fs, r) → (dues : List Due) → refused ts (part_due (codes ")") (more_fields n []) ∷ dues) ≡ refused r dues
+pub fields_read_runs : (n : ℕ) (ts r : Tokens) (fs : Parts) → fields_read (type_read n) (codes ")") ts ≡ Some (fs, r) → (dues : List Expectation) → refused ts (part_due (codes ")") (more_fields n []) ∷ dues) ≡ refused r dues
 fields_read_runs n ts r fs e =
     let h = fields_back (type_read n) (read_sound n) (codes ")") ts (fs, r) e in
     fields_run (codes ")") paren n (fields_of fs) [] ts r (fields_read_low n (type_read n) (read_low n) (codes ")") ts (fs, r) e) h.0 h.1
 
-params_read_by : (n : ℕ) (ts r : Tokens) (o : Option Tokens) (ps : Parts) → after (codes ")") ts ≡ o → params_read (type_read n) ts o ≡ Some (ps, r) → (dues : List Due) → refused ts (last_due (codes ")") (more_fields n []) ∷ dues) ≡ refused r dues
+params_read_by : (n : ℕ) (ts r : Tokens) (o : Option Tokens) (ps : Parts) → after (codes ")") ts ≡ o → params_read (type_read n) ts o ≡ Some (ps, r) → (dues : List Expectation) → refused ts (last_due (codes ")") (more_fields n []) ∷ dues) ≡ refused r dues
 params_read_by n ts r None ps h e dues = last_goes_on (codes ")") (more_fields n []) ts dues h ∙ fields_read_runs n ts r ps e dues
 params_read_by n ts r (Some m) ps h e dues =
     let pair : ◌≡◌ {A = Parts × Tokens} ([], m) (ps, r) = cc in
     last_ends (codes ")") (more_fields n []) ts m dues h ∙ (λ i. refused (pair i).1 dues)
 
-pub params_read_runs : (n : ℕ) (ts r : Tokens) (ps : Parts) → params_read (type_read n) ts (after (codes ")") ts) ≡ Some (ps, r) → (dues : List Due) → refused ts (last_due (codes ")") (more_fields n []) ∷ dues) ≡ refused r dues
+pub params_read_runs : (n : ℕ) (ts r : Tokens) (ps : Parts) → params_read (type_read n) ts (after (codes ")") ts) ≡ Some (ps, r) → (dues : List Expectation) → refused ts (last_due (codes ")") (more_fields n []) ∷ dues) ≡ refused r dues
 params_read_runs n ts r ps e = params_read_by n ts r (after (codes ")") ts) ps refl e
 
-result_read_by : (n : ℕ) (ts r : Tokens) (o : Option Tokens) (rs : Parts) → after (codes "(") ts ≡ o → result_parts_read (type_read n) ts o ≡ Some (rs, r) → (dues : List Due) → refused ts (result_due n ∷ dues) ≡ refused r dues
+result_read_by : (n : ℕ) (ts r : Tokens) (o : Option Tokens) (rs : Parts) → after (codes "(") ts ≡ o → result_parts_read (type_read n) ts o ≡ Some (rs, r) → (dues : List Expectation) → refused ts (result_due n ∷ dues) ≡ refused r dues
 result_read_by n ts r None rs h e dues =
     let s = onward_back (type_read n ts) _ (rs, r) e in
     let pair : ◌≡◌ {A = Parts × Tokens} (([], s.0.0) ∷ [], s.0.1) (rs, r) = cc s.2 in
     result_is_type n ts dues h ∙ (read_runs n ts s.0.1 s.0.0 s.1 dues ∙ (λ i. refused (pair i).1 dues))
 result_read_by n ts r (Some m) rs h e dues = result_is_named n ts m dues h ∙ fields_read_runs n m r rs e dues
 
-results_read_by : (n : ℕ) (ts r : Tokens) (o : Option Tokens) (rs : Parts) → after (codes "-") ts ≡ o → results_read (type_read n) ts o ≡ Some (rs, r) → (dues : List Due) → refused ts (results_due n ∷ dues) ≡ refused r dues
+results_read_by : (n : ℕ) (ts r : Tokens) (o : Option Tokens) (rs : Parts) → after (codes "-") ts ≡ o → results_read (type_read n) ts o ≡ Some (rs, r) → (dues : List Expectation) → refused ts (results_due n ∷ dues) ≡ refused r dues
 results_read_by n ts r None rs h e dues =
     let pair : ◌≡◌ {A = Parts × Tokens} ([], ts) (rs, r) = cc in
     results_pass n ts dues h ∙ (λ i. refused (pair i).1 dues)
@@ -211,7 +211,7 @@ function_read_runs n ts r f e =
 
 -- ---- what spells the type of a function
 
-params_run : (n : ℕ) (ps : Parts) (ts r : Tokens) → levels_of_fields (fields_of ps) ≤ n → SpellsParts ps ts r → (dues : List Due) → refused ts (last_due (codes ")") (more_fields n []) ∷ dues) ≡ refused r dues
+params_run : (n : ℕ) (ps : Parts) (ts r : Tokens) → levels_of_fields (fields_of ps) ≤ n → SpellsParts ps ts r → (dues : List Expectation) → refused ts (last_due (codes ")") (more_fields n []) ∷ dues) ≡ refused r dues
 params_run n [] ts r le e dues = last_ends (codes ")") (more_fields n []) ts r dues (ap (after (codes ")")) e)
 params_run n (p ∷ ps) ts r le (h, d) dues =
     last_goes_on (codes ")") (more_fields n []) ts dues (paren_not (fields_of (p ∷ ps)) ts r h) ∙ fields_run (codes ")") paren n (fields_of (p ∷ ps)) [] ts r le h d dues

@@ -16,9 +16,9 @@ use Rattle.wave_lex.specs.declared.machine.label.LabelState.TheVariants as part
 use Rattle.wave_lex.specs.declared.machine.number.NumberState.{NumberState}
 use Rattle.wave_lex.specs.declared.machine.number.NumberState.TheVariants as state
 use Rattle.wave_lex.specs.Labels.{IsLabel}
-use Rattle.wave_lex.specs.LongestMatch.{IsFront}
+use Rattle.wave_lex.specs.LongestMatch.{IsPrefixOf}
 use Rattle.wave_lex.specs.Regex.{Regex, nothing, empty, Matches, is_one_of}
-use Rattle.wave_lex.specs.Shared.Derive.{may_be_empty, after, after_all, after_next}
+use Rattle.wave_lex.specs.Shared.Derive.{nullable, derivative, derivative_by, after_next}
 use Rattle.wave_lex.specs.Shared.Machines.{number_rest, number_step, label_token_rest, label_token_step}
 use Rattle.wave_lex.specs.Shared.Reading.{class_of, ClassAt}
 use Rattle.wave_lex.specs.Tokenization.{MayStandAt, IsToken, NoToken, IsGap}
@@ -52,17 +52,17 @@ goes_on (c ∷ cs) (d ∷ ds) r t e =
     ]
 
 -- no prefix goes on after a text with a scalar that may not follow it
-stops_here : (p : Regex) (cs es : List ℕ) (e : ℕ) → after e (after_all cs p) ≡ nothing → Matches p (cs ++ e ∷ es) → {A : Type 0} → A
+stops_here : (p : Regex) (cs es : List ℕ) (e : ℕ) → derivative e (derivative_by cs p) ≡ nothing → Matches p (cs ++ e ∷ es) → {A : Type 0} → A
 stops_here p cs es e n h =
-    let dead : after_all (cs ++ e ∷ es) p ≡ nothing = after_all_append cs (e ∷ es) p ∙ (ap (after_all es) n ∙ after_all_nothing es) in
-    let wrong : false ≡ true = sym (ap may_be_empty dead) ∙ matches_into (cs ++ e ∷ es) p h in cc
+    let dead : derivative_by (cs ++ e ∷ es) p ≡ nothing = after_all_append cs (e ∷ es) p ∙ (ap (derivative_by es) n ∙ after_all_nothing es) in
+    let wrong : false ≡ true = sym (ap nullable dead) ∙ matches_into (cs ++ e ∷ es) p h in cc
 
 -- no scalar that begins r may follow the text cs in the shape
 abbrev EndsBefore : Regex → List ℕ → List ℕ → Type 0
-EndsBefore p cs r = (e : ℕ) (rest : List ℕ) → r ≡ encode_utf8 e ++ rest → after e (after_all cs p) ≡ nothing
+EndsBefore p cs r = (e : ℕ) (rest : List ℕ) → r ≡ encode_utf8 e ++ rest → derivative e (derivative_by cs p) ≡ nothing
 
 -- then no prefix of the shape is longer
-no_longer : (p : Regex) (cs r : List ℕ) → EndsBefore p cs r → (j : ℕ) → IsFront p (encode_utf8_all cs ++ r) j → j ≤ length (encode_utf8_all cs)
+no_longer : (p : Regex) (cs r : List ℕ) → EndsBefore p cs r → (j : ℕ) → IsPrefixOf p (encode_utf8_all cs ++ r) j → j ≤ length (encode_utf8_all cs)
 no_longer p cs r ends j f =
     let size : length (encode_utf8_all f.scalars) ≡ j = ap length f.spelled ∙ length-take-le j (encode_utf8_all cs ++ r) f.fits in
     elim (goes_on cs f.scalars r (drop j (encode_utf8_all cs ++ r)) (sym (take-append-drop j (encode_utf8_all cs ++ r)) ∙ ap (λ (z : List ℕ). z ++ drop j (encode_utf8_all cs ++ r)) (sym f.spelled))) as (λ _. j ≤ length (encode_utf8_all cs)) [
@@ -71,16 +71,16 @@ no_longer p cs r ends j f =
     ]
 
 -- the text is a prefix
-front_there : (p : Regex) (cs r : List ℕ) → Matches p cs → IsFront p (encode_utf8_all cs ++ r) (length (encode_utf8_all cs))
+front_there : (p : Regex) (cs r : List ℕ) → Matches p cs → IsPrefixOf p (encode_utf8_all cs ++ r) (length (encode_utf8_all cs))
 front_there p cs r h = record { scalars = cs; fits = omega (arith, length-append (encode_utf8_all cs) r); spelled = sym (take-append_seam (encode_utf8_all cs) r); has = h }
 
 -- ---- whitespace
 
 -- where a scalar that begins no whitespace stands, the whitespace is empty
-no_gap : (c : ℕ) (s rest : List ℕ) → s ≡ encode_utf8 c ++ rest → after c gap ≡ nothing → IsGap s 0
+no_gap : (c : ℕ) (s rest : List ℕ) → s ≡ encode_utf8 c ++ rest → derivative c gap ≡ nothing → IsGap s 0
 no_gap c s rest b n = (
   record { scalars = []; fits = omega arith; spelled = refl; has = matches_from [] gap refl },
-  no_longer gap [] s (λ e more there. ap (λ (z : ℕ). after z gap) (encode_same e c more rest (sym there ∙ b)).0 ∙ n),
+  no_longer gap [] s (λ e more there. ap (λ (z : ℕ). derivative z gap) (encode_same e c more rest (sym there ∙ b)).0 ∙ n),
 )
 
 -- a prefix of whitespace after a space is a prefix of the whitespace, and one byte
@@ -102,7 +102,7 @@ space_gap s g (f, most) = (
   longest,
 )
   where
-    longest : (j : ℕ) → IsFront gap (32 ∷ s) j → j ≤ suc g
+    longest : (j : ℕ) → IsPrefixOf gap (32 ∷ s) j → j ≤ suc g
     longest zero h = omega arith
     longest (suc j) h =
         let (es, e, k) = behind_space s j h.scalars h.spelled h.has in
@@ -143,23 +143,23 @@ one_scalar : (m : ℕ) (r : List ℕ) → nat_lt m 128 ≡ true → m ∷ r ≡ 
 one_scalar m r small = sym (ap (λ (z : List ℕ). z ++ r) (encode_ascii m (ltb-true m 128 small)))
 
 -- a mark of one byte that is a token
-mark_cut : (c : Token) (m : ℕ) (r : List ℕ) (ts : Tokens) → nat_lt m 128 ≡ true → Matches (shape c) (m ∷ []) → after m (shape c) ≡ empty → after m gap ≡ nothing → ((k : ℕ) → MayStandAt (m ∷ r) k c) → IsCutInto r ts → IsCutInto (m ∷ r) ((m ∷ []) ∷ ts)
+mark_cut : (c : Token) (m : ℕ) (r : List ℕ) (ts : Tokens) → nat_lt m 128 ≡ true → Matches (shape c) (m ∷ []) → derivative m (shape c) ≡ empty → derivative m gap ≡ nothing → ((k : ℕ) → MayStandAt (m ∷ r) k c) → IsCutInto r ts → IsCutInto (m ∷ r) ((m ∷ []) ∷ ts)
 mark_cut c m r ts small h last none may cut =
     let x : encode_utf8_all (m ∷ []) ≡ m ∷ [] = ap (λ (z : List ℕ). z ++ []) (encode_ascii m (ltb-true m 128 small)) in
-    let ends : EndsBefore (shape c) (m ∷ []) r = λ e rest there. ap (after e) last in
-    let front : IsFront (shape c) (m ∷ r) 1 = subst (λ (z : List ℕ). IsFront (shape c) (z ++ r) (length z)) x (front_there (shape c) (m ∷ []) r h) in
-    let longest : (j : ℕ) → IsFront (shape c) (m ∷ r) j → j ≤ 1 = subst (λ (z : List ℕ). (j : ℕ) → IsFront (shape c) (z ++ r) j → j ≤ length z) x (no_longer (shape c) (m ∷ []) r ends) in
+    let ends : EndsBefore (shape c) (m ∷ []) r = λ e rest there. ap (derivative e) last in
+    let front : IsPrefixOf (shape c) (m ∷ r) 1 = subst (λ (z : List ℕ). IsPrefixOf (shape c) (z ++ r) (length z)) x (front_there (shape c) (m ∷ []) r h) in
+    let longest : (j : ℕ) → IsPrefixOf (shape c) (m ∷ r) j → j ≤ 1 = subst (λ (z : List ℕ). (j : ℕ) → IsPrefixOf (shape c) (z ++ r) j → j ≤ length z) x (no_longer (shape c) (m ∷ []) r ends) in
     let is : IsToken (m ∷ r) 1 c = (front, may 1) in
-    item_cut (m ∷ []) r ts (no_gap m (m ∷ r) r (one_scalar m r small) none) (inl (c, record { is = is; longest = λ j d t. longest j (subst (λ (z : Token). IsFront (shape z) (m ∷ r) j) (one_class (m ∷ r) j 1 d c t is) t.0) })) cut
+    item_cut (m ∷ []) r ts (no_gap m (m ∷ r) r (one_scalar m r small) none) (inl (c, record { is = is; longest = λ j d t. longest j (subst (λ (z : Token). IsPrefixOf (shape z) (m ∷ r) j) (one_class (m ∷ r) j 1 d c t is) t.0) })) cut
 
 -- a mark of one byte where no token stands
-other_cut : (m : ℕ) (r : List ℕ) (ts : Tokens) → nat_lt m 128 ≡ true → after m invalid ≡ empty → after m gap ≡ nothing → NoToken (m ∷ r) → IsCutInto r ts → IsCutInto (m ∷ r) ((m ∷ []) ∷ ts)
+other_cut : (m : ℕ) (r : List ℕ) (ts : Tokens) → nat_lt m 128 ≡ true → derivative m invalid ≡ empty → derivative m gap ≡ nothing → NoToken (m ∷ r) → IsCutInto r ts → IsCutInto (m ∷ r) ((m ∷ []) ∷ ts)
 other_cut m r ts small last none no_token cut =
     let x : encode_utf8_all (m ∷ []) ≡ m ∷ [] = ap (λ (z : List ℕ). z ++ []) (encode_ascii m (ltb-true m 128 small)) in
-    let h : Matches invalid (m ∷ []) = matches_from (m ∷ []) invalid (ap may_be_empty last) in
-    let ends : EndsBefore invalid (m ∷ []) r = λ e rest there. ap (after e) last in
-    let front : IsFront invalid (m ∷ r) 1 = subst (λ (z : List ℕ). IsFront invalid (z ++ r) (length z)) x (front_there invalid (m ∷ []) r h) in
-    let longest : (j : ℕ) → IsFront invalid (m ∷ r) j → j ≤ 1 = subst (λ (z : List ℕ). (j : ℕ) → IsFront invalid (z ++ r) j → j ≤ length z) x (no_longer invalid (m ∷ []) r ends) in
+    let h : Matches invalid (m ∷ []) = matches_from (m ∷ []) invalid (ap nullable last) in
+    let ends : EndsBefore invalid (m ∷ []) r = λ e rest there. ap (derivative e) last in
+    let front : IsPrefixOf invalid (m ∷ r) 1 = subst (λ (z : List ℕ). IsPrefixOf invalid (z ++ r) (length z)) x (front_there invalid (m ∷ []) r h) in
+    let longest : (j : ℕ) → IsPrefixOf invalid (m ∷ r) j → j ≤ 1 = subst (λ (z : List ℕ). (j : ℕ) → IsPrefixOf invalid (z ++ r) j → j ≤ length z) x (no_longer invalid (m ∷ []) r ends) in
     item_cut (m ∷ []) r ts (no_gap m (m ∷ r) r (one_scalar m r small) none) (inr (no_token, (front, longest))) cut
 
 -- no token begins with the byte
@@ -186,7 +186,7 @@ no_arrow r k c t =
     let not_three : (more : List ℕ) → 45 ∷ 62 ∷ r ≢ codes "\"\"\"" ++ more = not_quoted (45 ∷ 62 ∷ r) (62 ∷ r) 45 (one_scalar 45 (62 ∷ r) refl) (λ e. omega (arith, e)) in
     let here : ClassAt (45 ∷ 62 ∷ r) (Some class.Number) = class_here (45 ∷ 62 ∷ r) (62 ∷ r) 45 (Some class.Number) (one_scalar 45 (62 ∷ r) refl) not_three refl in
     let same : c ≡ class.Number = here.0 k c t in
-    let f : IsFront number (45 ∷ 62 ∷ r) k = subst (λ (z : Token). IsFront (shape z) (45 ∷ 62 ∷ r) k) same t.0 in
+    let f : IsPrefixOf number (45 ∷ 62 ∷ r) k = subst (λ (z : Token). IsPrefixOf (shape z) (45 ∷ 62 ∷ r) k) same t.0 in
     no_number r f.scalars k f.spelled f.has
 
 -- ---- the marks
@@ -264,26 +264,26 @@ ends_stop (b ∷ r) h = passes (λ z. is_one_of z stops) (codes " ),>") b refl h
 
 -- after a shape no mark may follow, by computing
 abbrev no_stop : Regex → Bool
-no_stop r = all_pass (λ b. same (after b r) nothing) stops
+no_stop r = all_pass (λ b. same (derivative b r) nothing) stops
 
 -- what begins with a mark ends a text that no mark may follow
-ends_before : (p : Regex) (cs r : List ℕ) → no_stop (after_all cs p) ≡ true → Stops r → EndsBefore p cs r
+ends_before : (p : Regex) (cs r : List ℕ) → no_stop (derivative_by cs p) ≡ true → Stops r → EndsBefore p cs r
 ends_before p cs [] none s e rest there =
     let n : 0 ≡ length (encode_utf8 e ++ rest) = ap length there in
     absurd (omega (arith, length-append (encode_utf8 e) rest, length-encode e, len_utf8_bounds e))
 ends_before p cs (b ∷ r) none s e rest there =
     let small : nat_lt b 128 ≡ true = passes (λ z. nat_lt z 128) stops b refl s in
     let w = encode_same b e r rest (sym (one_scalar b r small) ∙ there) in
-    subst (λ (z : ℕ). after z (after_all cs p) ≡ nothing) w.0 (same_true _ _ (passes (λ z. same (after z (after_all cs p)) nothing) stops b none s))
+    subst (λ (z : ℕ). derivative z (derivative_by cs p) ≡ nothing) w.0 (same_true _ _ (passes (λ z. same (derivative z (derivative_by cs p)) nothing) stops b none s))
 
 -- a machine that has read a text of its shape stands in one of its states
-module _ (S : Type 0) (rest : S → Regex) (step : S → ℕ → Option S) (steps : (q : S) (c : ℕ) → after c (rest q) ≡ after_next S rest (step q c)) where
-  reached_by : (cs : List ℕ) (r : Regex) (o : Option S) → r ≡ after_next S rest o → may_be_empty (after_all cs r) ≡ true → (p : S) × (after_all cs r ≡ rest p)
+module _ (S : Type 0) (rest : S → Regex) (step : S → ℕ → Option S) (steps : (q : S) (c : ℕ) → derivative c (rest q) ≡ after_next S rest (step q c)) where
+  reached_by : (cs : List ℕ) (r : Regex) (o : Option S) → r ≡ after_next S rest o → nullable (derivative_by cs r) ≡ true → (p : S) × (derivative_by cs r ≡ rest p)
   reached_by cs r None e h =
-      let dead : after_all cs r ≡ nothing = ap (after_all cs) e ∙ after_all_nothing cs in
-      let wrong : false ≡ true = sym (ap may_be_empty dead) ∙ h in cc
+      let dead : derivative_by cs r ≡ nothing = ap (derivative_by cs) e ∙ after_all_nothing cs in
+      let wrong : false ≡ true = sym (ap nullable dead) ∙ h in cc
   reached_by [] r (Some q) e h = (q, e)
-  reached_by (c ∷ cs) r (Some q) e h = reached_by cs (after c r) (step q c) (ap (after c) e ∙ steps q c) h
+  reached_by (c ∷ cs) r (Some q) e h = reached_by cs (derivative c r) (step q c) (ap (derivative c) e ∙ steps q c) h
 
 label_stops : (q : LabelTokenState) → no_stop (label_token_rest q) ≡ true
 label_stops token.Start = refl
@@ -299,10 +299,10 @@ is_none None = true
 is_none (Some c) = false
 
 -- a scalar that begins a token begins no whitespace
-token_no_gap : (x : ℕ) (c : Token) → class_of x ≡ Some c → after x gap ≡ nothing
+token_no_gap : (x : ℕ) (c : Token) → class_of x ≡ Some c → derivative x gap ≡ nothing
 token_no_gap x c e =
-    elim (cases_lt x 129) as (λ _. after x gap ≡ nothing) [
-      | inl l ↦ elim (or_either (same (after x gap) nothing) (is_none (class_of x)) (each_below_at 129 x (λ z. same (after z gap) nothing || is_none (class_of z)) refl l)) as (λ _. after x gap ≡ nothing) [
+    elim (cases_lt x 129) as (λ _. derivative x gap ≡ nothing) [
+      | inl l ↦ elim (or_either (same (derivative x gap) nothing) (is_none (class_of x)) (each_below_at 129 x (λ z. same (derivative z gap) nothing || is_none (class_of z)) refl l)) as (λ _. derivative x gap ≡ nothing) [
         | inl f ↦ same_true _ _ f
         | inr f ↦ let wrong : false ≡ true = sym (ap is_none e) ∙ f in cc
       ]
@@ -319,12 +319,12 @@ gap_before c (x ∷ cs) r t h =
     no_gap x _ (encode_utf8_all cs ++ r) begins (token_no_gap x (group c) (token_shows _ (encode_utf8_all cs ++ r) (length (encode_utf8_all (x ∷ cs))) x c begins t))
 
 -- a token before what stops it, by its scalars
-token_cut : (c : Token) (cs r : List ℕ) (ts : Tokens) → Matches (shape c) cs → no_stop (after_all cs (shape c)) ≡ true → Stops r → MayStandAt (encode_utf8_all cs ++ r) (length (encode_utf8_all cs)) c → IsCutInto r ts → IsCutInto (encode_utf8_all cs ++ r) (encode_utf8_all cs ∷ ts)
+token_cut : (c : Token) (cs r : List ℕ) (ts : Tokens) → Matches (shape c) cs → no_stop (derivative_by cs (shape c)) ≡ true → Stops r → MayStandAt (encode_utf8_all cs ++ r) (length (encode_utf8_all cs)) c → IsCutInto r ts → IsCutInto (encode_utf8_all cs ++ r) (encode_utf8_all cs ∷ ts)
 token_cut c cs r ts h none s may cut =
     let x = encode_utf8_all cs in
     let longest = no_longer (shape c) cs r (ends_before (shape c) cs r none s) in
     let is : IsToken (encode_utf8_all cs ++ r) (length (encode_utf8_all cs)) c = (front_there (shape c) cs r h, may) in
-    item_cut x r ts (gap_before c cs r is h) (inl (c, record { is = is; longest = λ j d t. longest j (subst (λ (z : Token). IsFront (shape z) (encode_utf8_all cs ++ r) j) (one_class (encode_utf8_all cs ++ r) j (length (encode_utf8_all cs)) d c t is) t.0) })) cut
+    item_cut x r ts (gap_before c cs r is h) (inl (c, record { is = is; longest = λ j d t. longest j (subst (λ (z : Token). IsPrefixOf (shape z) (encode_utf8_all cs ++ r) j) (one_class (encode_utf8_all cs ++ r) j (length (encode_utf8_all cs)) d c t is) t.0) })) cut
 
 -- a label
 pub label_cut : (name r : List ℕ) (ts : Tokens) → IsLabel name → Stops r → IsCutInto r ts → IsCutInto (name ++ r) (name ∷ ts)
@@ -338,7 +338,7 @@ label_cut name r ts h s cut =
 record IsDecimal (n : ℕ) (ds : List ℕ) : Type 0 where
   ascii : is_ascii ds ≡ true
   nought : n ≡ 0 → ds ≡ 48 ∷ []
-  plain : 0 < n → after_all ds (number_rest state.Start) ≡ number_rest state.Whole
+  plain : 0 < n → derivative_by ds (number_rest state.Start) ≡ number_rest state.Whole
 
 ascii_more : (ds : List ℕ) (b : ℕ) → nat_lt b 128 ≡ true → is_ascii ds ≡ true → is_ascii (ds ++ b ∷ []) ≡ true
 ascii_more [] b small h = rw small refl
@@ -353,7 +353,7 @@ one_digit k l = record {
 }
 
 -- after a digit another
-whole_more : (d : ℕ) → d < 10 → after (48 + d) (number_rest state.Whole) ≡ number_rest state.Whole
+whole_more : (d : ℕ) → d < 10 → derivative (48 + d) (number_rest state.Whole) ≡ number_rest state.Whole
 whole_more d l = number_steps state.Whole (48 + d) ∙ ap (after_next NumberState number_rest) (let e : number_step state.Whole (48 + d) ≡ Some state.Whole = grind (arith, nat_tests) in e)
 
 more_digits : (k : ℕ) (ds : List ℕ) → 10 ≤ k → IsDecimal (k / 10) ds → IsDecimal k (ds ++ ((48 + k % 10) ∷ []))
@@ -362,12 +362,12 @@ more_digits k ds l h =
     let there : 0 < k / 10 = omega arith in record {
       ascii = ascii_more ds (48 + k % 10) (let e : nat_lt (48 + k % 10) 128 ≡ true = grind (arith, nat_tests) in e) h.ascii;
       nought = λ e. absurd (omega arith);
-      plain = λ some. after_all_append ds ((48 + k % 10) ∷ []) (number_rest state.Start) ∙ (ap (after (48 + k % 10)) (h.plain there) ∙ whole_more (k % 10) small);
+      plain = λ some. after_all_append ds ((48 + k % 10) ∷ []) (number_rest state.Start) ∙ (ap (derivative (48 + k % 10)) (h.plain there) ∙ whole_more (k % 10) small);
     }
 
 is_number : (k : ℕ) (ds : List ℕ) → IsDecimal k ds → Matches number ds
 is_number zero ds h = subst (λ (z : List ℕ). Matches number z) (sym (h.nought refl)) (matches_from (48 ∷ []) number refl)
-is_number (suc k) ds h = matches_from ds number (ap may_be_empty (h.plain (omega arith)))
+is_number (suc k) ds h = matches_from ds number (ap nullable (h.plain (omega arith)))
 
 -- a number
 pub number_cut : (k : ℕ) (r : List ℕ) (ts : Tokens) → k < 2 ^ 64 → Stops r → IsCutInto r ts → IsCutInto (decimal k ++ r) (decimal k ∷ ts)

@@ -19,7 +19,7 @@ use Rattle.wave_type.specs.TypeMade as maker
 use Rattle.wave_type.specs.TypeSpelling.{Tokens, Names, Closes, StandsAlone, Spells, SpellsNames, SpellsTypes, SpellsFields, SpellsCases, SpellsPayload, levels_of, levels_of_payload, levels_of_types, levels_of_fields, levels_of_cases}
 use Rattle.wave_type.specs.Private.TypeReading.{or_else, with, made, after, closed, kind_at, new_name, count_at, parts, names_read, Reads, key_at, types_read, field_part, fields_read, payload_read, case_part, cases_read, payloads_read, result_read, kind_read, type_read}
 use Rattle.wave_type.proofs.CountTokens.{same_count}
-use Rattle.wave_type.proofs.TextFronts.{label_goes_on, number_goes_on, has_no_stop, is_stop}
+use Rattle.wave_type.proofs.TextPrefixes.{label_goes_on, number_goes_on, has_no_stop, is_stop}
 use Rattle.wave_type.proofs.TypeReading.{AreParts, IsNamed, IsField, IsCase, map_more}
 use Rattle.wave_type.specs.TypeWords.{is_label, key_of_word, name_of_token, onward, without_percent}
 

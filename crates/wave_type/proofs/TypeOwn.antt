@@ -5,18 +5,18 @@ use Rattle.std.specs.Cmp.Derive.{both_true}
 use Rattle.std.specs.declared.alloc.Global.{Global}
 use Rattle.wave_wasm.specs.Lists.{AllOf}
 use Rattle.wave_wasm.specs.Borrowed.{named}
-use Rattle.wave_wasm.specs.Types.{TypeTree, types_of, fields_of, cases_of, maybe_type, IsOwn, every_type, every_field, every_case, every_maybe, can_be_made, record_type, tuple, variant}
+use Rattle.wave_wasm.specs.Types.{TypeTree, types_of, fields_of, cases_of, maybe_type, IsRepresentable, every_type, every_field, every_case, every_maybe, can_be_made, record_type, tuple, variant}
 use Rattle.wave_type.specs.TypeModel.{by_bytes}
 
 -- the payload's type, where there is one, is a tree of `Type`
 abbrev pub IsOwnPayload : Option TypeTree → Type 0
 IsOwnPayload payload = every_maybe can_be_made (maybe_type payload) ≡ true
 
-types_own : (Ts : List TypeTree) → AllOf IsOwn Ts → every_type can_be_made (types_of Ts) ≡ true
+types_own : (Ts : List TypeTree) → AllOf IsRepresentable Ts → every_type can_be_made (types_of Ts) ≡ true
 types_own [] h = refl
 types_own (T ∷ Ts) h = both_true h.0 (types_own Ts h.1)
 
-fields_own : (fs : List (String Global × TypeTree)) → AllOf (λ f. IsOwn f.1) fs → every_field can_be_made (fields_of (map by_bytes fs)) ≡ true
+fields_own : (fs : List (String Global × TypeTree)) → AllOf (λ f. IsRepresentable f.1) fs → every_field can_be_made (fields_of (map by_bytes fs)) ≡ true
 fields_own [] h = refl
 fields_own (f ∷ fs) h = both_true h.0 (fields_own fs h.1)
 
@@ -25,19 +25,19 @@ cases_own [] h = refl
 cases_own (c ∷ cs) h = both_true h.0 (cases_own cs h.1)
 
 -- some fields of types of `Type` make a record of `Type`
-pub record_own : (owned : List (String Global × TypeTree)) (given : List (Bor (List ℕ) × TypeTree)) → map by_bytes owned ≡ named given → (length given ≡ 0 → ⊥) → AllOf (λ f. IsOwn f.1) owned → IsOwn (record_type (fields_of (map by_bytes owned)))
+pub record_own : (owned : List (String Global × TypeTree)) (given : List (Bor (List ℕ) × TypeTree)) → map by_bytes owned ≡ named given → (length given ≡ 0 → ⊥) → AllOf (λ f. IsRepresentable f.1) owned → IsRepresentable (record_type (fields_of (map by_bytes owned)))
 record_own [] [] e some h = absurd (some refl)
 record_own [] (g ∷ gs) e some h = absurd (cc)
 record_own (f ∷ fs) given e some h = fields_own (f ∷ fs) h
 
 -- some cases, likewise
-pub variant_own : (owned : List (String Global × Option TypeTree)) (given : List (Bor (List ℕ) × Option TypeTree)) → map by_bytes owned ≡ named given → (length given ≡ 0 → ⊥) → AllOf (λ c. IsOwnPayload c.1) owned → IsOwn (variant (cases_of (map by_bytes owned)))
+pub variant_own : (owned : List (String Global × Option TypeTree)) (given : List (Bor (List ℕ) × Option TypeTree)) → map by_bytes owned ≡ named given → (length given ≡ 0 → ⊥) → AllOf (λ c. IsOwnPayload c.1) owned → IsRepresentable (variant (cases_of (map by_bytes owned)))
 variant_own [] [] e some h = absurd (some refl)
 variant_own [] (g ∷ gs) e some h = absurd (cc)
 variant_own (f ∷ fs) given e some h = cases_own (f ∷ fs) h
 
 -- some types, likewise
-pub tuple_own : (Ts : List TypeTree) → (length Ts ≡ 0 → ⊥) → AllOf IsOwn Ts → IsOwn (tuple (types_of Ts))
+pub tuple_own : (Ts : List TypeTree) → (length Ts ≡ 0 → ⊥) → AllOf IsRepresentable Ts → IsRepresentable (tuple (types_of Ts))
 tuple_own [] some h = absurd (some refl)
 tuple_own (T ∷ Ts) some h = types_own (T ∷ Ts) h
 

@@ -6,7 +6,7 @@ use Rattle.std.proofs.lemmas.List.{append-nil}
 use Rattle.wave_wasm.specs.Lists.{AllOf}
 use Rattle.wave_wasm.specs.Names.{AreDistinct}
 use Rattle.wave_wasm.specs.Types as type
-use Rattle.wave_wasm.specs.Types.{Simple, TypeTree, MaybeType, Types, Fields, Cases, no_type, a_type, no_types, type_and, no_fields, field, no_cases, case_of, type_list, field_list, case_list, type_option, maybe_type, simple_kind, EachNamesOfMaybe, EachNamesOfTypes, EachNamesOfFields, EachNamesOfCases, HasDistinctNames, IsOwn}
+use Rattle.wave_wasm.specs.Types.{Simple, TypeTree, MaybeType, Types, Fields, Cases, no_type, a_type, no_types, type_and, no_fields, field, no_cases, case_of, type_list, field_list, case_list, type_option, maybe_type, simple_kind, EachNamesOfMaybe, EachNamesOfTypes, EachNamesOfFields, EachNamesOfCases, HasDistinctNames, IsRepresentable}
 use Rattle.wave_wasm.specs.Commas.{joined, behind_name}
 use Rattle.wave_wasm.specs.TypeText.{kind_word, angled, braced, type_text, type_texts, field_texts, case_texts, payload_text}
 use Rattle.wave_lex.specs.Labels.{IsLabel, Good}
@@ -252,7 +252,7 @@ mutual
       (subst (λ z. Prints (IsCase (name, type_option P)) (name ++ payload_text z)) (payload_same P) p, cases_print more f.1.1 d.1)
 
 -- the text of a type spells it
-pub text_spells : (T : TypeTree) → IsOwn T → Good T → IsTypeOf (type_text T) T
+pub text_spells : (T : TypeTree) → IsRepresentable T → Good T → IsTypeOf (type_text T) T
 text_spells T own good =
     let w = type_prints T (own, good.0) good.1 [] [] tt tt end_cut in
     (w.0, subst (λ z. IsCutInto z w.0) (append-nil (type_text T)) w.1, w.2)

@@ -10,13 +10,13 @@ use Rattle.wave_wasm.specs.Lists.{AllOf}
 use Rattle.wave_wasm.specs.declared.wasm.WasmTypeKind.{WasmTypeKind}
 use Rattle.wave_wasm.specs.declared.wasm.WasmTypeKind.TheVariants as kinds
 use Rattle.wave_wasm.specs.Types as type
-use Rattle.wave_wasm.specs.Types.{Simple, Unreadable, TypeTree, MaybeType, Types, Fields, Cases, no_type, a_type, no_types, type_and, no_fields, field, no_cases, case_of, simple_kind, unreadable_kind, kind_of, field_names, case_names, EachNamesOfMaybe, EachNamesOfTypes, EachNamesOfFields, EachNamesOfCases, every_maybe, every_type, every_field, every_case, can_be_made, has_names, IsOwn}
+use Rattle.wave_wasm.specs.Types.{Simple, Unreadable, TypeTree, MaybeType, Types, Fields, Cases, no_type, a_type, no_types, type_and, no_fields, field, no_cases, case_of, simple_kind, unreadable_kind, kind_of, field_names, case_names, EachNamesOfMaybe, EachNamesOfTypes, EachNamesOfFields, EachNamesOfCases, every_maybe, every_type, every_field, every_case, can_be_made, has_names, IsRepresentable}
 use Rattle.wave_wasm.specs.Commas.{joined, followed}
 use Rattle.wave_wasm.specs.TypeText.{kind_word, type_text, type_texts, field_texts, case_texts, payload_text}
 use Rattle.wave_lex.specs.Labels.{IsLabel, HasLabels}
 use Rattle.wave_wasm.proofs.TypeKinds.{simple_is}
 use Rattle.wave_type.specs.TypeTexts.{TypeTextTells}
-use Rattle.wave_type.proofs.TextFronts.{is_stop, has_no_stop, StopsFirst, first_of, one_front, regroup, label_goes_on, number_goes_on, one_kind, has_word}
+use Rattle.wave_type.proofs.TextPrefixes.{is_stop, has_no_stop, StopsFirst, first_of, one_front, regroup, label_goes_on, number_goes_on, one_kind, has_word}
 
 -- ---- what is asked of a type and of its parts
 
@@ -25,7 +25,7 @@ short n h = omega (arith, ltb-true n (2 ^ 32) h)
 
 -- a type of `Type` whose names are labels
 abbrev pub IsTold : TypeTree → Type 0
-IsTold T = IsOwn T × HasLabels T
+IsTold T = IsRepresentable T × HasLabels T
 
 abbrev pub IsToldMaybe : MaybeType → Type 0
 IsToldMaybe P = (every_maybe can_be_made P ≡ true) × EachNamesOfMaybe (AllOf IsLabel) P
@@ -450,5 +450,5 @@ mutual
       ((λ i. case_of (o.0 i) (p.0 i) (q.0 i)), q.1)
 
 -- the text of a type determines the type
-pub text_tells : (T : TypeTree) → IsOwn T → HasLabels T → TypeTextTells T
+pub text_tells : (T : TypeTree) → IsRepresentable T → HasLabels T → TypeTextTells T
 text_tells T own labels U other_own other_labels e = (tells T U [] [] (own, labels) (other_own, other_labels) tt tt (ap (λ z. z ++ []) e)).0

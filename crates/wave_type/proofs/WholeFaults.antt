@@ -11,7 +11,7 @@ use Rattle.wave_type.specs.declared.tokens.Token.{Token as Piece}
 use Rattle.wave_type.specs.FunctionSpelling.{SpellsFunction, IsNoFunction}
 use Rattle.wave_type.specs.FunctionType.{FunctionType}
 use Rattle.wave_type.specs.TypeErrors.{TypeRefusal}
-use Rattle.wave_type.specs.TypeFaults.{Due, payloads_due, payload_due, results_due, Step, takes, passes, refuses, step, refused, due_of_type, due_of_function}
+use Rattle.wave_type.specs.TypeFaults.{Expectation, payloads_due, payload_due, results_due, Step, takes, passes, refuses, step, refused, due_of_type, due_of_function}
 use Rattle.wave_type.specs.TypeItems.{Item, texts_of_items, AreItems, IsFaultOf, for_memory}
 use Rattle.wave_type.specs.TypeSpelling.{Tokens, IsCutInto, Spells, IsNoType, levels_of}
 use Rattle.wave_type.specs.Private.FunctionReading.{function_read}
@@ -30,15 +30,15 @@ use Rattle.wave_type.specs.FunctionSpelling.{levels_of_function}
 abbrev pub EndsWith : Tokens → Tokens → Type 0
 EndsWith ts left = (front : Tokens) × (ts ≡ front ++ left)
 
-ended_left : (dues : List Due) (kind : TypeErrorKind) (left : Tokens) → refused [] dues ≡ Some (kind, left) → EndsWith [] left
+ended_left : (dues : List Expectation) (kind : TypeErrorKind) (left : Tokens) → refused [] dues ≡ Some (kind, left) → EndsWith [] left
 ended_left [] kind left e = absurd (cc)
 ended_left (payloads_due n ∷ dues) kind left e = ended_left dues kind left e
 ended_left (payload_due n ∷ dues) kind left e = ended_left dues kind left e
 ended_left (results_due n ∷ dues) kind left e = ended_left dues kind left e
 ended_left (due ∷ dues) kind left e = let pair : ◌≡◌ {A = TypeErrorKind × Tokens} (UnexpectedEnd, []) (kind, left) = cc in ([], λ i. (pair i).1)
 
-module _ (t : List ℕ) (ts left : Tokens) (kind : TypeErrorKind) (more : (dues : List Due) → refused ts dues ≡ Some (kind, left) → EndsWith ts left) where
-  left_by : (due : Due) (dues : List Due) (s : Step) → step due t ≡ s → (refused (t ∷ ts) dues ≡ Some (kind, left) → EndsWith (t ∷ ts) left) → refused (t ∷ ts) (due ∷ dues) ≡ Some (kind, left) → EndsWith (t ∷ ts) left
+module _ (t : List ℕ) (ts left : Tokens) (kind : TypeErrorKind) (more : (dues : List Expectation) → refused ts dues ≡ Some (kind, left) → EndsWith ts left) where
+  left_by : (due : Expectation) (dues : List Expectation) (s : Step) → step due t ≡ s → (refused (t ∷ ts) dues ≡ Some (kind, left) → EndsWith (t ∷ ts) left) → refused (t ∷ ts) (due ∷ dues) ≡ Some (kind, left) → EndsWith (t ∷ ts) left
   left_by due dues (takes those) h passed e =
       let below = more (those ++ dues) (sym (by_step t ts due dues (takes those) h) ∙ e) in
       (t ∷ below.0, ap (λ l. t ∷ l) below.1)
@@ -47,11 +47,11 @@ module _ (t : List ℕ) (ts left : Tokens) (kind : TypeErrorKind) (more : (dues 
       let pair : ◌≡◌ {A = TypeErrorKind × Tokens} (k, t ∷ ts) (kind, left) = cc (by_step t ts due dues (refuses k) h) in
       ([], λ i. (pair i).1)
 
-  left_at : (dues : List Due) → refused (t ∷ ts) dues ≡ Some (kind, left) → EndsWith (t ∷ ts) left
+  left_at : (dues : List Expectation) → refused (t ∷ ts) dues ≡ Some (kind, left) → EndsWith (t ∷ ts) left
   left_at [] e = let pair : ◌≡◌ {A = TypeErrorKind × Tokens} (UnexpectedToken, t ∷ ts) (kind, left) = cc in ([], λ i. (pair i).1)
   left_at (due ∷ dues) e = left_by due dues (step due t) refl (left_at dues) e
 
-pub is_left : (ts : Tokens) (dues : List Due) (kind : TypeErrorKind) (left : Tokens) → refused ts dues ≡ Some (kind, left) → EndsWith ts left
+pub is_left : (ts : Tokens) (dues : List Expectation) (kind : TypeErrorKind) (left : Tokens) → refused ts dues ≡ Some (kind, left) → EndsWith ts left
 is_left [] dues kind left e = ended_left dues kind left e
 is_left (t ∷ ts) dues kind left e = left_at t ts left kind (λ dues. is_left ts dues kind left) dues e
 
@@ -88,7 +88,7 @@ memory_or kinds.InvalidCount = inr (λ e. cc)
 memory_or kinds.NestingTooDeep = inr (λ e. cc)
 memory_or kinds.OutOfMemory = inl refl
 
-module _ (text : List ℕ) (tokens : List Piece) (dues : List Due) (kind : TypeErrorKind) (left : Tokens) (e : TypeRefusal) (are : AreItems text 0 (items_of tokens)) (at : IsRefusalAt text (drop (length tokens - length left) (items_of tokens)) kind e) where
+module _ (text : List ℕ) (tokens : List Piece) (dues : List Expectation) (kind : TypeErrorKind) (left : Tokens) (e : TypeRefusal) (are : AreItems text 0 (items_of tokens)) (at : IsRefusalAt text (drop (length tokens - length left) (items_of tokens)) kind e) where
   standing : refused (texts_of tokens) dues ≡ Some (kind, left) → (kind ≡ OutOfMemory → ⊥) → IsFaultOf dues text e
   standing r other =
       let n = length tokens - length left in
@@ -132,7 +132,7 @@ pub err_if : {A E : Type 0} (P : E → Type 0) (r : Result A E) (e : E) → r �
 err_if P r e same h = subst (λ z. IfErr z P) (sym same) h
 
 -- what fails whatever is due after it fails where nothing is
-pub fails_alone : (due : List Due → List Due) (ts left : Tokens) (kind : TypeErrorKind) → Fails due ts kind left → IsRefusal (due []) ts kind left
+pub fails_alone : (due : List Expectation → List Expectation) (ts left : Tokens) (kind : TypeErrorKind) → Fails due ts kind left → IsRefusal (due []) ts kind left
 fails_alone due ts left kind (inl e) = inl e
 fails_alone due ts left kind (inr h) = inr (h [])
 

@@ -5,7 +5,7 @@ use Rattle.wave_type.specs.declared.error.TypeErrorKind.{TypeErrorKind}
 use Rattle.wave_type.specs.declared.error.TypeErrorKind.TheVariants.{UnexpectedEnd}
 use Rattle.wave_type.specs.FunctionSpelling.{SpellsFunction, levels_of_function}
 use Rattle.wave_type.specs.FunctionType.{FunctionType}
-use Rattle.wave_type.specs.TypeFaults.{Due, refused, due_of_type, due_of_function}
+use Rattle.wave_type.specs.TypeFaults.{Expectation, refused, due_of_type, due_of_function}
 use Rattle.wave_type.specs.TypeSpelling.{Tokens, Spells, levels_of}
 
 -- a type of n levels at most begins with these tokens
@@ -17,7 +17,7 @@ abbrev pub BeginsFunction : ℕ → Tokens → Type 0
 BeginsFunction n front = (f : FunctionType) × (rest : Tokens) × SpellsFunction f (front ++ rest) × (levels_of_function f ≤ n)
 
 -- of the tokens `front`, t and `left` the token t is refused so
-abbrev pub IsRefusedAt : List Due → Tokens → List ℕ → Tokens → TypeErrorKind → Type 0
+abbrev pub IsRefusedAt : List Expectation → Tokens → List ℕ → Tokens → TypeErrorKind → Type 0
 IsRefusedAt dues front t left kind = refused (front ++ t ∷ left) dues ≡ Some (kind, t ∷ left)
 
 -- law: no type begins with the tokens through the refused one, and no type of a function
@@ -29,7 +29,7 @@ pub record NoneBeginsWithRefused : Type 0 where
 
 -- law: `UnexpectedEnd` stands exactly where all tokens were taken
 abbrev pub EndsAtEnd : Type 0
-EndsAtEnd = (ts left : Tokens) (dues : List Due) (kind : TypeErrorKind) → refused ts dues ≡ Some (kind, left) → (kind ≡ UnexpectedEnd) ↔ (left ≡ [])
+EndsAtEnd = (ts left : Tokens) (dues : List Expectation) (kind : TypeErrorKind) → refused ts dues ≡ Some (kind, left) → (kind ≡ UnexpectedEnd) ↔ (left ≡ [])
 
 -- law: the tokens before the refused one, or all of them where the end is refused, begin a type, of whatever levels; so of functions
 pub record TakenBegins : Type 0 where

@@ -32,41 +32,41 @@ pub data Part : Type 0 where
   more_names : List (List ℕ) → Part
 
 -- what is due
-pub data Due : Type 0 where
+pub data Expectation : Type 0 where
   -- this token
-  mark_due : List ℕ → Due
+  mark_due : List ℕ → Expectation
   -- a type
-  type_due : ℕ → Due
+  type_due : ℕ → Expectation
   -- the key type of a map
-  key_due : Due
+  key_due : Expectation
   -- the type of `ok`, or `_`
-  ok_due : ℕ → Due
+  ok_due : ℕ → Expectation
   -- the first part, and then what closes its form
-  part_due : List ℕ → Part → Due
+  part_due : List ℕ → Part → Expectation
   -- the closing mark, or a comma
-  close_due : List ℕ → Part → Due
+  close_due : List ℕ → Part → Expectation
   -- after a comma the closing mark, or one part more
-  last_due : List ℕ → Part → Due
+  last_due : List ℕ → Part → Expectation
   -- after `result` its types, or nothing of them
-  payloads_due : ℕ → Due
+  payloads_due : ℕ → Expectation
   -- after the name of a case its payload, or nothing of it
-  payload_due : ℕ → Due
+  payload_due : ℕ → Expectation
   -- after parameters the results, or nothing of them
-  results_due : ℕ → Due
+  results_due : ℕ → Expectation
   -- after `->` one type, or named ones in parentheses
-  result_due : ℕ → Due
+  result_due : ℕ → Expectation
 
 -- what a token does
 pub data Step : Type 0 where
   -- it is taken, and these are due in its place
-  takes : List Due → Step
+  takes : List Expectation → Step
   -- nothing of what is due stands here; the token is for what is due after that
   passes : Step
   -- it can't stand here
   refuses : TypeErrorKind → Step
 
 -- what is due after the word of a kind, whose parts have n levels; two kinds have no word, and nothing stands after it
-abbrev pub due_behind : ℕ → WasmTypeKind → List Due
+abbrev pub due_behind : ℕ → WasmTypeKind → List Expectation
 due_behind n kinds.List = mark_due (codes "<") ∷ type_due n ∷ close_due (codes ">") a_length ∷ []
 due_behind n kinds.Option = mark_due (codes "<") ∷ type_due n ∷ close_due (codes ">") no_more ∷ []
 due_behind n kinds.Map = mark_due (codes "<") ∷ key_due ∷ mark_due (codes ",") ∷ type_due n ∷ close_due (codes ">") no_more ∷ []
@@ -81,7 +81,7 @@ due_behind n kinds.Unsupported = part_due (codes ">") no_more ∷ []
 due_behind n _ = []
 
 -- and then these are due
-abbrev pub before : Step → List Due → Step
+abbrev pub before : Step → List Expectation → Step
 before (takes dues) more = takes (dues ++ more)
 before passes more = passes
 before (refuses kind) more = refuses kind
@@ -98,12 +98,12 @@ type_step n t = word_step n (kind_of_word t)
 
 module _ {A : Type 0} where
   -- the token is what is due there, or else is refused for not being so, marks as any token
-  abbrev pub only_step : Option A → TypeErrorKind → List ℕ → List Due → Step
+  abbrev pub only_step : Option A → TypeErrorKind → List ℕ → List Expectation → Step
   only_step (Some a) kind t dues = takes dues
   only_step None kind t dues = refuses (if is_mark t then UnexpectedToken else kind)
 
 -- a token where a name is due that is none of these, by the name that it is; what is due after it has one name more
-abbrev pub name_step : List (List ℕ) → Option (List ℕ) → (List (List ℕ) → List Due) → Step
+abbrev pub name_step : List (List ℕ) → Option (List ℕ) → (List (List ℕ) → List Expectation) → Step
 name_step names None next = refuses UnexpectedToken
 name_step names (Some name) next = if is_one_of names name then refuses DuplicateName else takes (next (names ++ name ∷ []))
 
@@ -119,7 +119,7 @@ part_step mark (more_cases n names) t = name_step names (name_of_token t) (λ na
 part_step mark (more_names names) t = name_step names (name_of_token t) (λ names. close_due mark (more_names names) ∷ [])
 
 -- what a token does where this is due
-abbrev pub step : Due → List ℕ → Step
+abbrev pub step : Expectation → List ℕ → Step
 step (mark_due mark) t = if bytes_eq t mark then takes [] else refuses UnexpectedToken
 step (type_due n) t = type_step n t
 step key_due t = only_step (key_of_word t) InvalidKeyType t []
@@ -141,7 +141,7 @@ abbrev pub Fault : Type 0
 Fault = Option (TypeErrorKind × Tokens)
 
 -- no tokens are left: refused where anything is due that has to stand
-abbrev pub ended : List Due → Fault
+abbrev pub ended : List Expectation → Fault
 ended [] = None
 ended (payloads_due n ∷ dues) = ended dues
 ended (payload_due n ∷ dues) = ended dues
@@ -149,7 +149,7 @@ ended (results_due n ∷ dues) = ended dues
 ended (due ∷ dues) = Some (UnexpectedEnd, [])
 
 -- the token t before ts, by what is refused of ts after it
-abbrev pub at_token : List ℕ → Tokens → (List Due → Fault) → List Due → Fault
+abbrev pub at_token : List ℕ → Tokens → (List Expectation → Fault) → List Expectation → Fault
 at_token t ts onward [] = Some (UnexpectedToken, t ∷ ts)
 at_token t ts onward (due ∷ dues) =
     elim (step due t) as (λ _. Fault) [
@@ -159,14 +159,14 @@ at_token t ts onward (due ∷ dues) =
     ]
 
 -- which of the tokens is refused where these are due, one after the other, and nothing else; none where they are all that is due
-abbrev pub refused : Tokens → List Due → Fault
+abbrev pub refused : Tokens → List Expectation → Fault
 refused [] dues = ended dues
 refused (t ∷ ts) dues = at_token t ts (refused ts) dues
 
 -- what is due of a type, within n levels
-abbrev pub due_of_type : ℕ → List Due
+abbrev pub due_of_type : ℕ → List Expectation
 due_of_type n = type_due n ∷ []
 
 -- what is due of the type of a function
-abbrev pub due_of_function : ℕ → List Due
+abbrev pub due_of_function : ℕ → List Expectation
 due_of_function n = mark_due (codes "func") ∷ mark_due (codes "(") ∷ last_due (codes ")") (more_fields n []) ∷ results_due n ∷ []

@@ -6,7 +6,7 @@ use Rattle.wave_lex.specs.Tokenization.{IsGap, IsLongestToken, IsInvalid, span}
 use Rattle.wave_type.specs.declared.error.TypeErrorKind.{TypeErrorKind}
 use Rattle.wave_type.specs.declared.error.TypeErrorKind.TheVariants.{OutOfMemory, InvalidToken}
 use Rattle.wave_type.specs.TypeErrors.{TypeRefusal}
-use Rattle.wave_type.specs.TypeFaults.{Due, due_of_type, due_of_function, refused}
+use Rattle.wave_type.specs.TypeFaults.{Expectation, due_of_type, due_of_function, refused}
 use Rattle.wave_type.specs.TypeSpelling.{Tokens}
 use Rattle.wave_type.specs.TypeWords.{marks_of_types}
 
@@ -43,7 +43,7 @@ StandsAtFirst text [] kind e = (e.kind ≡ kind) × (e.span ≡ span (length tex
 StandsAtFirst text (i ∷ items) kind e = (e.kind ≡ kind_at i.known kind) × (e.span ≡ span i.start (i.start + length i.text))
 
 -- where these are due, the text is refused so
-abbrev pub IsFaultOf : List Due → List ℕ → TypeRefusal → Type 0
+abbrev pub IsFaultOf : List Expectation → List ℕ → TypeRefusal → Type 0
 IsFaultOf dues text e =
     (before : List Item) × (left : List Item) × (kind : TypeErrorKind) × AreItems text 0 (before ++ left)
     × (refused (texts_of_items (before ++ left)) dues ≡ Some (kind, texts_of_items left)) × StandsAtFirst text left kind e

@@ -10,7 +10,7 @@ use Rattle.wave_wasm.specs.Names.{is_one_of}
 use Rattle.wave_wasm.specs.TypeText.{kind_word}
 use Rattle.wave_wasm.specs.Types as type
 use Rattle.wave_wasm.specs.Types.{TypeTree}
-use Rattle.wave_lex.specs.Shared.Derive.{after_all, may_be_empty}
+use Rattle.wave_lex.specs.Shared.Derive.{derivative_by, nullable}
 use Rattle.wave_lex.specs.Tokens.{label}
 use Rattle.wave_type.specs.TypeMade.{simple_type}
 
@@ -46,7 +46,7 @@ key_of_word word = onward (kind_of_word word) (λ kind. only_simple (simple_type
 
 -- the name is a label
 abbrev pub is_label : List ℕ → Bool
-is_label name = may_be_empty (after_all name label)
+is_label name = nullable (derivative_by name label)
 
 -- the token without a `%` before it
 abbrev pub without_percent : List ℕ → List ℕ

@@ -1,6 +1,6 @@
 //! Laws of types and types of functions, over the definitions alone.
 ghost use Rattle.std.specs.Prelude.{◌≡◌, ◌↔◌, ℕ, List, Some, true};
-ghost use Rattle.wave_wasm.specs.Types.{TypeTree, IsOwn};
+ghost use Rattle.wave_wasm.specs.Types.{TypeTree, IsRepresentable};
 ghost use Rattle.wave_wasm.specs.TypeText.{type_text, function_text};
 ghost use Rattle.wave_wasm.specs.Lists.{AllOf};
 ghost use Rattle.wave_lex.specs.Labels.{HasLabels, Good};
@@ -17,7 +17,7 @@ ghost use Rattle.wave_type.specs.TypeTexts.{TypeTextTells};
 /// The text of a type determines the type: two types that `Type` has, with labels for names, have one
 /// text only where they are one.
 pub fn type_text_injective()
-    ensures { (T : TypeTree) → IsOwn T → HasLabels T → TypeTextTells T }
+    ensures { (T : TypeTree) → IsRepresentable T → HasLabels T → TypeTextTells T }
 {}
 
 /// What `==` answers of two types is true exactly where their trees are one.
@@ -27,7 +27,7 @@ pub fn equal_types()
 
 /// `from_wasm_type` answers a type that `Type` has as itself.
 pub fn types_convert_to_themselves()
-    ensures { (T : TypeTree) → IsOwn T → converted_type T ≡ Some T }
+    ensures { (T : TypeTree) → IsRepresentable T → converted_type T ≡ Some T }
 {}
 
 /// What `==` answers of two types of functions is true exactly where their names and types are one.
@@ -51,13 +51,13 @@ pub fn spelled_names_are_labels()
 /// As no text spells two types (`one_type_of_text`), what `Type::parse` answers of that text is the
 /// type itself, and it answers one where the type has at most a hundred levels and memory is there.
 pub fn type_text_spells()
-    ensures { (T : TypeTree) → IsOwn T → Good T → IsTypeOf (type_text T) T }
+    ensures { (T : TypeTree) → IsRepresentable T → Good T → IsTypeOf (type_text T) T }
 {}
 
 /// So does the text of the type of a function whose types `Type` can hold, and where the names within
 /// them, the names of parameters and those of named results are distinct labels.
 pub fn function_text_spells()
-    ensures { (f : FunctionType) → AllOf IsOwn (types_of f.params) → AllOf IsOwn (types_of f.results) → IsGoodFunction f
+    ensures { (f : FunctionType) → AllOf IsRepresentable (types_of f.params) → AllOf IsRepresentable (types_of f.results) → IsGoodFunction f
         → IsFunctionOf (function_text (func_of f)) f }
 {}
 

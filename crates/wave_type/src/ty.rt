@@ -2,7 +2,7 @@
 ghost use Rattle.std.specs.Prelude.{◌≡◌, IfOk, Some, map, string_bytes, ◌↔◌, IsTrue, true, ◌≢◌, None};
 ghost use Rattle.wave_wasm.specs.Types as type;
 ghost use Rattle.wave_wasm.specs.Lists.{AllOf};
-ghost use Rattle.wave_wasm.specs.Types.{maybe_type, every_maybe, can_be_made, IsOwn};
+ghost use Rattle.wave_wasm.specs.Types.{maybe_type, every_maybe, can_be_made, IsRepresentable};
 ghost use Rattle.wave_wasm.specs.Borrowed.{texts, named};
 ghost use Rattle.wave_type.specs.Private.TypeModel.{IsSimple};
 ghost use Rattle.wave_type.specs.TypeMade.{simple_type, record_type, tuple_type, variant_type, enum_type, flags_type, map_type};
@@ -369,7 +369,7 @@ impl Type {
 
 // Does nothing at run time: each of the types has a tree of a type.
 fn are_own(types: &Vec<Type>)
-    ensures { AllOf IsOwn types.now.items }
+    ensures { AllOf IsRepresentable types.now.items }
 {}
 
 // Says nothing at run time: the payload's type, where there is one, has a tree of a type.

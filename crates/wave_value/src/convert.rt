@@ -12,7 +12,7 @@ mod tuples;
 /// type that is, and of each value which one it stands for.
 pub trait IntoValue: Sized + Drop {
     ghost use Rattle.std.specs.Prelude.{◌≡◌, IfOk};
-    ghost use Rattle.wave_wasm.specs.Types.{TypeTree, IsOwn};
+    ghost use Rattle.wave_wasm.specs.Types.{TypeTree, IsRepresentable};
     ghost use Rattle.wave_wasm.specs.Values as value;
     ghost use Rattle.wave_value.specs.ConstructorRules.{Made};
 
@@ -32,5 +32,5 @@ pub trait IntoValue: Sized + Drop {
         ensures { IfOk result (Made (tree self) own) };
 
     /// `Type` has that type.
-    ghost is_own: { IsOwn own };
+    ghost is_representable: { IsRepresentable own };
 }

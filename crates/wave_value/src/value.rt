@@ -1,7 +1,7 @@
 //! Values of component types.
 ghost use Rattle.std.specs.Prelude.{◌≡◌, IfOk, IfErr, pos, string_bytes};
 ghost use Rattle.wave_wasm.specs.Types as type;
-ghost use Rattle.wave_wasm.specs.Types.{IsOwn};
+ghost use Rattle.wave_wasm.specs.Types.{IsRepresentable};
 ghost use Rattle.wave_wasm.specs.Values as value;
 ghost use Rattle.wave_wasm.specs.Values.{kind_of, IsSound};
 ghost use Rattle.wave_wasm.specs.ConstructorContracts.{IsMemory};
@@ -13,13 +13,13 @@ use std::alloc::{AllocError, Global};
 use std::boxed::Box;
 use std::marker::Model;
 use wave_type::ty::Type;
-use wave_type::ty::places::is_own;
+use wave_type::ty::places::is_representable;
 use wave_wasm::wasm::{WasmType, WasmTypeKind, WasmValueError};
 
+mod checked;
+mod constructors;
 mod conversions;
 mod equality;
-mod made;
-mod makers;
 mod refusals;
 mod views;
 mod wasm_value;
@@ -108,9 +108,9 @@ impl Value {
     pub fn ty(&self) -> Result<Type, AllocError>
         ensures own { IfOk result (λ t. t ≡ self.now.own) }
         ensures typed { IsTyped self.now }
-        ensures tree { IsOwn self.now.own }
+        ensures tree { IsRepresentable self.now.own }
     {
-        is_own(&self.own);
+        is_representable(&self.own);
         self.own.clone()
     }
 

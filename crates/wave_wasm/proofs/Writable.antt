@@ -9,12 +9,12 @@ use Rattle.wave_wasm.specs.Values.{Value, Leaf, MaybeValue, FieldValues, values,
 use Rattle.wave_wasm.specs.HasType.{IsLeafOf, HasType, HasPayload, HasTypes, HasFields, HasCase}
 use Rattle.wave_wasm.specs.Text.{has_text, is_writable, is_writable_maybe, are_writable, are_writable_fields, are_writable_entries}
 use Rattle.wave_wasm.specs.Merge.{merged, merged_maybe, merged_values, merged_fields, merged_entries, merge, last_value, without, leaf_eq}
-use Rattle.wave_wasm.specs.WriterState.{IsGrounded, IsWantOfMemory, IsForMemory}
+use Rattle.wave_wasm.specs.WriterState.{IsGrounded, IsOutOfMemory, IsForMemory}
 use Rattle.wave_wasm.specs.declared.writer.WriterError.{WriterError}
 use Rattle.wave_wasm.specs.declared.writer.WriterError.TheVariants as refusal
 
 -- a refusal by a writer that counts no failure, of a value that has a text, is out of memory
-pub only_memory : (e : WriterError) (writable : Bool) → writable ≡ true → IsGrounded e writable 0 0 → IsWantOfMemory e
+pub only_memory : (e : WriterError) (writable : Bool) → writable ≡ true → IsGrounded e writable 0 0 → IsOutOfMemory e
 only_memory (refusal.Io e) writable has (inl h) = absurd (omega (arith, h))
 only_memory (refusal.Io e) writable has (inr h) = absurd (omega (arith, h))
 only_memory refusal.UnsupportedType writable has h = absurd (false≢true (sym h ∙ has))

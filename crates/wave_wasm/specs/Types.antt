@@ -312,9 +312,9 @@ can_be_made (flags names) = has_names names
 can_be_made (map K V) = true
 
 -- `Type` can have this tree
-abbrev pub is_own : TypeTree → Bool
-is_own T = every can_be_made T
+abbrev pub is_representable : TypeTree → Bool
+is_representable T = every can_be_made T
 
 -- T is a tree of `Type`
-abbrev pub IsOwn : TypeTree → Type 0
-IsOwn T = is_own T ≡ true
+abbrev pub IsRepresentable : TypeTree → Type 0
+IsRepresentable T = is_representable T ≡ true

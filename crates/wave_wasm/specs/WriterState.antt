@@ -50,10 +50,10 @@ pub record Refused (whole : List ℕ) (writable : Bool) (e : WriterError) (old n
   pub counts : CountsOnce e old.failures new.failures
 
 -- the writer is refused for lack of memory
-abbrev pub IsWantOfMemory : WriterError → Type 0
-IsWantOfMemory (WriterError.Memory e) = Unit {0}
-IsWantOfMemory _ = ⊥
+abbrev pub IsOutOfMemory : WriterError → Type 0
+IsOutOfMemory (WriterError.Memory e) = Unit {0}
+IsOutOfMemory _ = ⊥
 
 -- the refusal of a value that is one of a type is out of memory
 abbrev pub IsForMemory : Value → WriterError → Type 0
-IsForMemory v e = (T : TypeTree) → HasType T v → IsWantOfMemory e
+IsForMemory v e = (T : TypeTree) → HasType T v → IsOutOfMemory e

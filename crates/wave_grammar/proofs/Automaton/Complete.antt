@@ -10,53 +10,53 @@ use Rattle.wave_grammar.specs.LeafTokens.{name_of}
 use Rattle.wave_grammar.specs.TypedGrammar.{InParens}
 use Rattle.wave_grammar.specs.Tree as tree
 use Rattle.wave_grammar.specs.Tree.{Tree, MaybeTree, trees, tree_entries, in_order, ATree, Takes, KeyAnd, Label, MaybeInParens, InBraces, BehindWord, IsKey, Word, word_of, leaf_word, none_word, some_word, ok_word, err_word, case_word}
-use Rattle.wave_grammar.specs.PrefixLaws.{EndsBefore, LedTokensHaveATree}
+use Rattle.wave_grammar.specs.PrefixLaws.{EndsBefore, AcceptedTokensHaveATree}
 use Rattle.wave_grammar.specs.PrefixAutomaton as due
-use Rattle.wave_grammar.specs.PrefixAutomaton.{Due, Form, value, first_item, next_item, behind_value, behind_label, Step, too_deep, unexpected, reads, step, Leads, closes, level_step, value_step, behind_step, key_step, behind_flag_step, flag_step}
+use Rattle.wave_grammar.specs.PrefixAutomaton.{Expectation, StackSymbol, value, first_item, next_item, behind_value, behind_label, Step, too_deep, unexpected, reads, step, Shifts, closes, level_step, value_step, behind_step, key_step, behind_flag_step, flag_step}
 use Rattle.wave_grammar.proofs.Automaton.Sound.{IsEnd, end_step, item_step, HasItems, close_of, close_token, next_closes, on_level, AllNew}
 
 -- what is due when these forms are, where the same token leads
-after : (n : ℕ) (x : Step) (d f e : Due) (s q r : List Form) (ts : List Token) → x ≡ reads d s → x ≡ reads f q → Leads n f q ts e r → Leads n d s ts e r
+after : (n : ℕ) (x : Step) (d f e : Expectation) (s q r : List StackSymbol) (ts : List Token) → x ≡ reads d s → x ≡ reads f q → Shifts n f q ts e r → Shifts n d s ts e r
 after n x d f e s q r ts h k leads =
     let same : reads f q ≡ reads d s = sym k ∙ h in
     let forms : q ≡ s = cc in
     let dues : f ≡ d = cc in
-    subst (λ z. Leads n d z ts e r) forms (subst (λ z. Leads n z q ts e r) dues leads)
+    subst (λ z. Shifts n d z ts e r) forms (subst (λ z. Shifts n z q ts e r) dues leads)
 
 -- more is due of a value, or a form is open
-abbrev IsWithin : Due → Type 0
+abbrev IsWithin : Expectation → Type 0
 IsWithin behind_value = ⊥
 IsWithin behind_label = ⊥
 IsWithin _ = Unit {0}
 
 -- where more is due no tree has ended
-not_end : (d e : Due) (x : List Token) → IsWithin d → IsEnd e x → d ≡ e → ⊥
+not_end : (d e : Expectation) (x : List Token) → IsWithin d → IsEnd e x → d ≡ e → ⊥
 not_end d e x w (inl k) h = subst IsWithin (h ∙ k) w
 not_end d e x w (inr (k, apart)) h = subst IsWithin (h ∙ k) w
 
 -- P takes a prefix of ts, before x, and what is left leads on from after it
-abbrev pub IsTaken : {A : Type 0} → ℕ → List Form → Spelling A → List Token → List Token → Due → Type 0
-IsTaken {A} n s P ts x e = (a : A) × (d : Due) × (rest : List Token) × P (ts ++ x) a (rest ++ x) × IsEnd d (rest ++ x) × Leads n d s rest e [] × (length rest < length ts)
+abbrev pub IsTaken : {A : Type 0} → ℕ → List StackSymbol → Spelling A → List Token → List Token → Expectation → Type 0
+IsTaken {A} n s P ts x e = (a : A) × (d : Expectation) × (rest : List Token) × P (ts ++ x) a (rest ++ x) × IsEnd d (rest ++ x) × Shifts n d s rest e [] × (length rest < length ts)
 
 -- the same for what ends with a close
-abbrev pub IsClosed : {A : Type 0} → ℕ → List Form → Spelling A → List Token → List Token → Due → Type 0
-IsClosed {A} n s P ts x e = (a : A) × (rest : List Token) × P (ts ++ x) a (rest ++ x) × Leads n behind_value s rest e [] × (length rest < length ts)
+abbrev pub IsClosed : {A : Type 0} → ℕ → List StackSymbol → Spelling A → List Token → List Token → Expectation → Type 0
+IsClosed {A} n s P ts x e = (a : A) × (rest : List Token) × P (ts ++ x) a (rest ++ x) × Shifts n behind_value s rest e [] × (length rest < length ts)
 
 -- P takes a prefix of all tokens that lead from where a value is due within s to the end of all
-abbrev pub AreTaken : ℕ → List Form → Spelling Tree → Type 0
-AreTaken n s P = (ts x : List Token) (e : Due) → IsEnd e x → Leads n value s ts e [] → IsTaken n s P ts x e
+abbrev pub AreTaken : ℕ → List StackSymbol → Spelling Tree → Type 0
+AreTaken n s P = (ts x : List Token) (e : Expectation) → IsEnd e x → Shifts n value s ts e [] → IsTaken n s P ts x e
 
 -- ---- what a token that is read may be
 
 -- a comma after a value
-abbrev after_comma : Form → List Form → Step
+abbrev after_comma : StackSymbol → List StackSymbol → Step
 after_comma due.tuple s = reads next_item (due.tuple ∷ s)
 after_comma due.list s = reads next_item (due.list ∷ s)
 after_comma due.payload s = unexpected
 after_comma due.entries s = reads due.key s
 
 -- after a value within a form stands its close or a comma
-behind_reads : (f : Form) (s : List Form) (t : Token) (d : Due) (r : List Form) → behind_step (f ∷ s) t ≡ reads d r → (t ≡ close_of f) × (reads behind_value s ≡ reads d r) ⊎ (t ≡ comma) × (after_comma f s ≡ reads d r)
+behind_reads : (f : StackSymbol) (s : List StackSymbol) (t : Token) (d : Expectation) (r : List StackSymbol) → behind_step (f ∷ s) t ≡ reads d r → (t ≡ close_of f) × (reads behind_value s ≡ reads d r) ⊎ (t ≡ comma) × (after_comma f s ≡ reads d r)
 behind_reads due.tuple s comma d r h = inr (refl, h)
 behind_reads due.tuple s paren_close d r h = inl (refl, h)
 behind_reads due.list s comma d r h = inr (refl, h)
@@ -67,13 +67,13 @@ behind_reads due.entries s brace_close d r h = inl (refl, h)
 behind_reads f s t d r h = let k : unexpected ≡ reads d r = h in cc
 
 -- after an item and a comma a further item is due
-comma_items : (f : Form) (s : List Form) → HasItems f → after_comma f s ≡ reads next_item (f ∷ s)
+comma_items : (f : StackSymbol) (s : List StackSymbol) → HasItems f → after_comma f s ≡ reads next_item (f ∷ s)
 comma_items due.tuple s i = refl
 comma_items due.list s i = refl
 comma_items f s i = absurd i
 
 -- a key or the close of its braces
-key_reads : (s : List Form) (t : Token) (d : Due) (r : List Form) → key_step s t ≡ reads d r → (t ≡ brace_close) × (reads behind_value s ≡ reads d r) ⊎ IsKey t × (reads due.behind_key s ≡ reads d r)
+key_reads : (s : List StackSymbol) (t : Token) (d : Expectation) (r : List StackSymbol) → key_step s t ≡ reads d r → (t ≡ brace_close) × (reads behind_value s ≡ reads d r) ⊎ IsKey t × (reads due.behind_key s ≡ reads d r)
 key_reads s brace_close d r h = inl (refl, h)
 key_reads s (number text) d r h = inr (tt, h)
 key_reads s (label text) d r h = inr (tt, h)
@@ -83,41 +83,41 @@ key_reads s (multiline text) d r h = inr (tt, h)
 key_reads s t d r h = let k : unexpected ≡ reads d r = h in cc
 
 -- the colon of a key
-colon_reads : (n : ℕ) (s : List Form) (t : Token) (d : Due) (r : List Form) → step n due.behind_key s t ≡ reads d r → (t ≡ colon) × (reads value (due.entries ∷ s) ≡ reads d r)
+colon_reads : (n : ℕ) (s : List StackSymbol) (t : Token) (d : Expectation) (r : List StackSymbol) → step n due.behind_key s t ≡ reads d r → (t ≡ colon) × (reads value (due.entries ∷ s) ≡ reads d r)
 colon_reads n s colon d r h = (refl, h)
 colon_reads n s t d r h = let k : unexpected ≡ reads d r = h in cc
 
 -- the close of `{:`
-brace_reads : (n : ℕ) (s : List Form) (t : Token) (d : Due) (r : List Form) → step n due.no_fields s t ≡ reads d r → (t ≡ brace_close) × (reads behind_value s ≡ reads d r)
+brace_reads : (n : ℕ) (s : List StackSymbol) (t : Token) (d : Expectation) (r : List StackSymbol) → step n due.no_fields s t ≡ reads d r → (t ≡ brace_close) × (reads behind_value s ≡ reads d r)
 brace_reads n s brace_close d r h = (refl, h)
 brace_reads n s t d r h = let k : unexpected ≡ reads d r = h in cc
 
 -- the open parenthesis of a payload
-paren_reads : (n : ℕ) (s : List Form) (t : Token) (d : Due) (r : List Form) → step n due.paren s t ≡ reads d r → (t ≡ paren_open) × (reads value (due.payload ∷ s) ≡ reads d r)
+paren_reads : (n : ℕ) (s : List StackSymbol) (t : Token) (d : Expectation) (r : List StackSymbol) → step n due.paren s t ≡ reads d r → (t ≡ paren_open) × (reads value (due.payload ∷ s) ≡ reads d r)
 paren_reads n s paren_open d r h = (refl, h)
 paren_reads n s t d r h = let k : unexpected ≡ reads d r = h in cc
 
 -- a comma or the close after a flag
-behind_flag_reads : (names : List (List ℕ)) (s : List Form) (t : Token) (d : Due) (r : List Form) → behind_flag_step names s t ≡ reads d r →
+behind_flag_reads : (names : List (List ℕ)) (s : List StackSymbol) (t : Token) (d : Expectation) (r : List StackSymbol) → behind_flag_step names s t ≡ reads d r →
     (t ≡ brace_close) × (reads behind_value s ≡ reads d r) ⊎ (t ≡ comma) × (reads (due.flag names) s ≡ reads d r)
 behind_flag_reads names s brace_close d r h = inl (refl, h)
 behind_flag_reads names s comma d r h = inr (refl, h)
 behind_flag_reads names s t d r h = let k : unexpected ≡ reads d r = h in cc
 
 -- a test that did not refuse has failed
-passed : (b : Bool) (x y : Step) (d : Due) (r : List Form) → (x ≡ reads d r → ⊥) → if b then x else y ≡ reads d r → (b ≡ false) × (y ≡ reads d r)
+passed : (b : Bool) (x y : Step) (d : Expectation) (r : List StackSymbol) → (x ≡ reads d r → ⊥) → if b then x else y ≡ reads d r → (b ≡ false) × (y ≡ reads d r)
 passed true x y d r apart h = absurd (apart h)
 passed false x y d r apart h = (refl, h)
 
 -- a new flag or the close
-flag_reads : (names : List (List ℕ)) (s : List Form) (t : Token) (d : Due) (r : List Form) → flag_step names s t ≡ reads d r →
+flag_reads : (names : List (List ℕ)) (s : List StackSymbol) (t : Token) (d : Expectation) (r : List StackSymbol) → flag_step names s t ≡ reads d r →
     (t ≡ brace_close) × (reads behind_value s ≡ reads d r) ⊎ ((text : List ℕ) × (t ≡ label text) × (is_one_of names (name_of text) ≡ false) × (reads (due.behind_flag (names ++ name_of text ∷ [])) s ≡ reads d r))
 flag_reads names s brace_close d r h = inl (refl, h)
 flag_reads names s (label text) d r h = let (a, b) = passed (is_one_of names (name_of text)) due.repeated_flag _ d r (λ k. cc) h in inr (text, refl, a, b)
 flag_reads names s t d r h = let k : unexpected ≡ reads d r = h in cc
 
 -- the close or an item, where an item is due
-item_or_close : (n : ℕ) (d : Due) (f : Form) (s : List Form) (t : Token) (e : Due) (r : List Form) → (d ≡ first_item) ⊎ (d ≡ next_item) → step n d (f ∷ s) t ≡ reads e r → (t ≡ close_of f) ⊎ (step n value (f ∷ s) t ≡ reads e r)
+item_or_close : (n : ℕ) (d : Expectation) (f : StackSymbol) (s : List StackSymbol) (t : Token) (e : Expectation) (r : List StackSymbol) → (d ≡ first_item) ⊎ (d ≡ next_item) → step n d (f ∷ s) t ≡ reads e r → (t ≡ close_of f) ⊎ (step n value (f ∷ s) t ≡ reads e r)
 item_or_close n d f s t e r at h = which (closes (f ∷ s) t) refl
   where
     which : (b : Bool) → closes (f ∷ s) t ≡ b → (t ≡ close_of f) ⊎ (step n value (f ∷ s) t ≡ reads e r)
@@ -127,12 +127,12 @@ item_or_close n d f s t e r at h = which (closes (f ∷ s) t) refl
 -- ---- items of a tuple or a list
 
 -- up to m tokens after an item are further items and a close
-abbrev TakesFurther : ℕ → ℕ → Form → List Form → Spelling Tree → List Token → Due → Type 0
-TakesFurther m n f s P x e = (ts : List Token) (d : Due) → length ts ≤ m → IsEnd d (ts ++ x) → Leads n d (f ∷ s) ts e [] → IsClosed n s (FurtherItems (close_of f) P) ts x e
+abbrev TakesFurther : ℕ → ℕ → StackSymbol → List StackSymbol → Spelling Tree → List Token → Expectation → Type 0
+TakesFurther m n f s P x e = (ts : List Token) (d : Expectation) → length ts ≤ m → IsEnd d (ts ++ x) → Shifts n d (f ∷ s) ts e [] → IsClosed n s (FurtherItems (close_of f) P) ts x e
 
 -- the items after a comma, or the close
-next_taken : (m n : ℕ) (f : Form) (s : List Form) (P : Spelling Tree) (x : List Token) (e : Due) → HasItems f → IsEnd e x → AreTaken n (f ∷ s) P → TakesFurther m n f s P x e →
-    (us : List Token) → length us ≤ m → Leads n next_item (f ∷ s) us e [] → IsClosed n s (FurtherItems (close_of f) P) (comma ∷ us) x e
+next_taken : (m n : ℕ) (f : StackSymbol) (s : List StackSymbol) (P : Spelling Tree) (x : List Token) (e : Expectation) → HasItems f → IsEnd e x → AreTaken n (f ∷ s) P → TakesFurther m n f s P x e →
+    (us : List Token) → length us ≤ m → Shifts n next_item (f ∷ s) us e [] → IsClosed n s (FurtherItems (close_of f) P) (comma ∷ us) x e
 next_taken m n f s P x e i end taken further [] l (same, no_forms) = cc
 next_taken m n f s P x e i end taken further (u ∷ us) l (d, r, h, more) = which (item_or_close n next_item f s u d r (inr refl) h)
   where
@@ -145,29 +145,29 @@ next_taken m n f s P x e i end taken further (u ∷ us) l (d, r, h, more) = whic
         (a ∷ items, rest', (u ∷ us ++ x, rest ++ x, refl, p, q), on', omega arith)
 
 -- the further items of a tuple or a list
-further_taken : (m n : ℕ) (f : Form) (s : List Form) (P : Spelling Tree) (x : List Token) (e : Due) → HasItems f → IsEnd e x → AreTaken n (f ∷ s) P → TakesFurther m n f s P x e
+further_taken : (m n : ℕ) (f : StackSymbol) (s : List StackSymbol) (P : Spelling Tree) (x : List Token) (e : Expectation) → HasItems f → IsEnd e x → AreTaken n (f ∷ s) P → TakesFurther m n f s P x e
 further_taken m n f s P x e i end taken [] d l start (same, no_forms) = cc
 further_taken zero n f s P x e i end taken (t ∷ ts) d l start leads = absurd (omega arith)
 further_taken (suc m) n f s P x e i end taken (t ∷ ts) d l start (d', s', h, leads) =
     which (next_taken m n f s P x e i end taken (further_taken m n f s P x e i end taken) ts (omega arith)) (behind_reads f s t d' s' (sym (end_step n d (f ∷ s) t (ts ++ x) start) ∙ h))
   where
-    which : (Leads n next_item (f ∷ s) ts e [] → IsClosed n s (FurtherItems (close_of f) P) (comma ∷ ts) x e) →
+    which : (Shifts n next_item (f ∷ s) ts e [] → IsClosed n s (FurtherItems (close_of f) P) (comma ∷ ts) x e) →
         (t ≡ close_of f) × (reads behind_value s ≡ reads d' s') ⊎ (t ≡ comma) × (after_comma f s ≡ reads d' s') → IsClosed n s (FurtherItems (close_of f) P) (t ∷ ts) x e
     which next (inl (same, k)) = ([], ts, inl (ap (λ z. z ∷ ts ++ x) same), after n _ behind_value d' e s s' [] ts refl k leads, omega arith)
     which next (inr (same, k)) = subst (λ z. IsClosed n s (FurtherItems (close_of f) P) (z ∷ ts) x e) (sym same) (next (after n _ next_item d' e (f ∷ s) s' [] ts (comma_items f s i) k leads))
 
 -- only a list may close before its first item
-first_closes : (n : ℕ) (f : Form) (s : List Form) (d : Due) (r : List Form) → HasItems f → step n first_item (f ∷ s) (close_of f) ≡ reads d r → (f ≡ due.list) × (reads behind_value s ≡ reads d r)
+first_closes : (n : ℕ) (f : StackSymbol) (s : List StackSymbol) (d : Expectation) (r : List StackSymbol) → HasItems f → step n first_item (f ∷ s) (close_of f) ≡ reads d r → (f ≡ due.list) × (reads behind_value s ≡ reads d r)
 first_closes n due.tuple s d r i h = let k : due.empty_tuple ≡ reads d r = h in cc
 first_closes n due.list s d r i h = (refl, h)
 first_closes n f s d r i h = absurd i
 
 -- the items and the close, at least one item in a tuple
-abbrev ItemsOf : Form → Spelling Tree → Spelling (List Tree)
+abbrev ItemsOf : StackSymbol → Spelling Tree → Spelling (List Tree)
 ItemsOf f P tokens items rest = (f ≡ due.tuple → 0 < length items) × Items (close_of f) P tokens items rest
 
 -- the items of a tuple or a list
-items_taken : (n : ℕ) (f : Form) (s : List Form) (P : Spelling Tree) (x : List Token) (e : Due) → HasItems f → IsEnd e x → AreTaken n (f ∷ s) P → (ts : List Token) → Leads n first_item (f ∷ s) ts e [] → IsClosed n s (ItemsOf f P) ts x e
+items_taken : (n : ℕ) (f : StackSymbol) (s : List StackSymbol) (P : Spelling Tree) (x : List Token) (e : Expectation) → HasItems f → IsEnd e x → AreTaken n (f ∷ s) P → (ts : List Token) → Shifts n first_item (f ∷ s) ts e [] → IsClosed n s (ItemsOf f P) ts x e
 items_taken n f s P x e i end taken [] (same, no_forms) = cc
 items_taken n f s P x e i end taken (u ∷ us) (d, r, h, more) = which (item_or_close n first_item f s u d r (inl refl) h)
   where
@@ -183,7 +183,7 @@ items_taken n f s P x e i end taken (u ∷ us) (d, r, h, more) = which (item_or_
 -- ---- entries
 
 -- a colon, and a value within its entry
-colon_taken : (n : ℕ) (s : List Form) (P : Spelling Tree) (x : List Token) (e : Due) → IsEnd e x → AreTaken n (due.entries ∷ s) P → (ts : List Token) → Leads n due.behind_key s ts e [] →
+colon_taken : (n : ℕ) (s : List StackSymbol) (P : Spelling Tree) (x : List Token) (e : Expectation) → IsEnd e x → AreTaken n (due.entries ∷ s) P → (ts : List Token) → Shifts n due.behind_key s ts e [] →
     IsTaken n (due.entries ∷ s) (λ tokens t rest. (front : List Token) × (tokens ≡ colon ∷ front) × P front t rest) ts x e
 colon_taken n s P x e end taken [] (same, no_forms) = absurd (not_end due.behind_key e x tt end same)
 colon_taken n s P x e end taken (u ∷ us) (d, r, h, more) =
@@ -192,12 +192,12 @@ colon_taken n s P x e end taken (u ∷ us) (d, r, h, more) =
     (a, b, rest, (us ++ x, ap (λ z. z ∷ us ++ x) same, p), ends, on, omega arith)
 
 -- up to m tokens after a value of an entry are further entries and the close
-abbrev TakesEntries : ℕ → ℕ → List Form → Spelling Tree → List Token → Due → Type 0
-TakesEntries m n s P x e = (ts : List Token) (d : Due) → length ts ≤ m → IsEnd d (ts ++ x) → Leads n d (due.entries ∷ s) ts e [] → IsClosed n s (FurtherItems brace_close (KeyAnd P)) ts x e
+abbrev TakesEntries : ℕ → ℕ → List StackSymbol → Spelling Tree → List Token → Expectation → Type 0
+TakesEntries m n s P x e = (ts : List Token) (d : Expectation) → length ts ≤ m → IsEnd d (ts ++ x) → Shifts n d (due.entries ∷ s) ts e [] → IsClosed n s (FurtherItems brace_close (KeyAnd P)) ts x e
 
 -- the entries after a comma, or the close
-key_taken : (m n : ℕ) (s : List Form) (P : Spelling Tree) (x : List Token) (e : Due) → IsEnd e x → AreTaken n (due.entries ∷ s) P → TakesEntries m n s P x e →
-    (us : List Token) → length us ≤ m → Leads n due.key s us e [] → IsClosed n s (FurtherItems brace_close (KeyAnd P)) (comma ∷ us) x e
+key_taken : (m n : ℕ) (s : List StackSymbol) (P : Spelling Tree) (x : List Token) (e : Expectation) → IsEnd e x → AreTaken n (due.entries ∷ s) P → TakesEntries m n s P x e →
+    (us : List Token) → length us ≤ m → Shifts n due.key s us e [] → IsClosed n s (FurtherItems brace_close (KeyAnd P)) (comma ∷ us) x e
 key_taken m n s P x e end taken further [] l (same, no_forms) = absurd (not_end due.key e x tt end same)
 key_taken m n s P x e end taken further (u ∷ us) l (d, r, h, more) = which (key_reads s u d r h)
   where
@@ -209,19 +209,19 @@ key_taken m n s P x e end taken further (u ∷ us) l (d, r, h, more) = which (ke
         ((u, a) ∷ all, rest', (u ∷ us ++ x, rest ++ x, refl, (front, ap (λ z. u ∷ z) same, key, p), q), on', omega arith)
 
 -- the further entries
-entries_taken : (m n : ℕ) (s : List Form) (P : Spelling Tree) (x : List Token) (e : Due) → IsEnd e x → AreTaken n (due.entries ∷ s) P → TakesEntries m n s P x e
+entries_taken : (m n : ℕ) (s : List StackSymbol) (P : Spelling Tree) (x : List Token) (e : Expectation) → IsEnd e x → AreTaken n (due.entries ∷ s) P → TakesEntries m n s P x e
 entries_taken m n s P x e end taken [] d l start (same, no_forms) = cc
 entries_taken zero n s P x e end taken (t ∷ ts) d l start leads = absurd (omega arith)
 entries_taken (suc m) n s P x e end taken (t ∷ ts) d l start (d', s', h, leads) =
     which (key_taken m n s P x e end taken (entries_taken m n s P x e end taken) ts (omega arith)) (behind_reads due.entries s t d' s' (sym (end_step n d (due.entries ∷ s) t (ts ++ x) start) ∙ h))
   where
-    which : (Leads n due.key s ts e [] → IsClosed n s (FurtherItems brace_close (KeyAnd P)) (comma ∷ ts) x e) →
+    which : (Shifts n due.key s ts e [] → IsClosed n s (FurtherItems brace_close (KeyAnd P)) (comma ∷ ts) x e) →
         (t ≡ brace_close) × (reads behind_value s ≡ reads d' s') ⊎ (t ≡ comma) × (reads due.key s ≡ reads d' s') → IsClosed n s (FurtherItems brace_close (KeyAnd P)) (t ∷ ts) x e
     which next (inl (same, k)) = ([], ts, inl (ap (λ z. z ∷ ts ++ x) same), after n _ behind_value d' e s s' [] ts refl k leads, omega arith)
     which next (inr (same, k)) = subst (λ z. IsClosed n s (FurtherItems brace_close (KeyAnd P)) (z ∷ ts) x e) (sym same) (next (after n _ due.key d' e s s' [] ts refl k leads))
 
 -- a key, its colon and value, and the further entries
-first_taken : (n : ℕ) (s : List Form) (P : Spelling Tree) (x : List Token) (e : Due) → IsEnd e x → AreTaken n (due.entries ∷ s) P → (t : Token) (ts : List Token) → IsKey t → Leads n due.behind_key s ts e [] → IsClosed n s (InBraces P) (t ∷ ts) x e
+first_taken : (n : ℕ) (s : List StackSymbol) (P : Spelling Tree) (x : List Token) (e : Expectation) → IsEnd e x → AreTaken n (due.entries ∷ s) P → (t : Token) (ts : List Token) → IsKey t → Shifts n due.behind_key s ts e [] → IsClosed n s (InBraces P) (t ∷ ts) x e
 first_taken n s P x e end taken t ts key leads =
     let (a, b, rest, (front, same, p), ends, on, less) = colon_taken n s P x e end taken ts leads in
     let (all, rest', q, on', less') = entries_taken (length rest) n s P x e end taken rest b (omega arith) ends on in
@@ -234,7 +234,7 @@ abbrev NewFlags : List (List ℕ) → Spelling (List (List ℕ))
 NewFlags names tokens texts rest = FurtherItems brace_close Label tokens texts rest × AllNew names (map name_of texts)
 
 -- the further flags
-flags_taken : (n : ℕ) (s : List Form) (x : List Token) (e : Due) → IsEnd e x → (names : List (List ℕ)) (ts : List Token) → Leads n (due.behind_flag names) s ts e [] → IsClosed n s (NewFlags names) ts x e
+flags_taken : (n : ℕ) (s : List StackSymbol) (x : List Token) (e : Expectation) → IsEnd e x → (names : List (List ℕ)) (ts : List Token) → Shifts n (due.behind_flag names) s ts e [] → IsClosed n s (NewFlags names) ts x e
 flags_taken n s x e end names [] (same, no_forms) = absurd (not_end (due.behind_flag names) e x tt end same)
 flags_taken n s x e end names (t ∷ []) (d, r, h, (same, no_forms)) = which (behind_flag_reads names s t d r h)
   where
@@ -243,7 +243,7 @@ flags_taken n s x e end names (t ∷ []) (d, r, h, (same, no_forms)) = which (be
     which (inr (a_comma, k)) = let due_there : due.flag names ≡ d = cc in absurd (not_end (due.flag names) e x tt end (due_there ∙ same))
 flags_taken n s x e end names (t ∷ u ∷ us) (d, r, h, (d', r', h', leads)) = which (λ more l. flags_taken n s x e end more us l) (behind_flag_reads names s t d r h)
   where
-    next : ((more : List (List ℕ)) → Leads n (due.behind_flag more) s us e [] → IsClosed n s (NewFlags more) us x e) →
+    next : ((more : List (List ℕ)) → Shifts n (due.behind_flag more) s us e [] → IsClosed n s (NewFlags more) us x e) →
         (u ≡ brace_close) × (reads behind_value s ≡ reads d' r') ⊎ ((text : List ℕ) × (u ≡ label text) × (is_one_of names (name_of text) ≡ false) × (reads (due.behind_flag (names ++ name_of text ∷ [])) s ≡ reads d' r')) →
         IsClosed n s (NewFlags names) (comma ∷ u ∷ us) x e
     next flags (inl (close, k)) = ([], us, (inr (ap (λ z. comma ∷ z ∷ us ++ x) close), tt), after n _ behind_value d' e s r' [] us refl k leads, omega arith)
@@ -251,7 +251,7 @@ flags_taken n s x e end names (t ∷ u ∷ us) (d, r, h, (d', r', h', leads)) = 
         let (texts, rest, (q, all), on, less) = flags (names ++ name_of text ∷ []) (after n _ (due.behind_flag (names ++ name_of text ∷ [])) d' e s r' [] us refl k leads) in
         (text ∷ texts, rest, ((u ∷ us ++ x, us ++ x, refl, ap (λ z. z ∷ us ++ x) a_label, q), (new, all)), on, omega arith)
 
-    which : ((more : List (List ℕ)) → Leads n (due.behind_flag more) s us e [] → IsClosed n s (NewFlags more) us x e) →
+    which : ((more : List (List ℕ)) → Shifts n (due.behind_flag more) s us e [] → IsClosed n s (NewFlags more) us x e) →
         (t ≡ brace_close) × (reads behind_value s ≡ reads d r) ⊎ (t ≡ comma) × (reads (due.flag names) s ≡ reads d r) → IsClosed n s (NewFlags names) (t ∷ u ∷ us) x e
     which flags (inl (close, k)) = ([], u ∷ us, (inl (ap (λ z. z ∷ u ∷ us ++ x) close), tt), after n _ behind_value d e s r [] (u ∷ us) refl k (d', r', h', leads), omega arith)
     which flags (inr (a_comma, k)) =
@@ -298,12 +298,12 @@ new_distinct names (y ∷ more) (new, all) = (none_of_new (names ++ y ∷ []) mo
 -- ---- braces
 
 -- after the first label in braces a colon, or what may stand after a flag
-word_reads : (text : List ℕ) (s : List Form) (t : Token) (d : Due) (r : List Form) → due.word_behind_step text s t ≡ reads d r → (t ≡ colon) × (reads value (due.entries ∷ s) ≡ reads d r) ⊎ (behind_flag_step (name_of text ∷ []) s t ≡ reads d r)
+word_reads : (text : List ℕ) (s : List StackSymbol) (t : Token) (d : Expectation) (r : List StackSymbol) → due.word_behind_step text s t ≡ reads d r → (t ≡ colon) × (reads value (due.entries ∷ s) ≡ reads d r) ⊎ (behind_flag_step (name_of text ∷ []) s t ≡ reads d r)
 word_reads text s colon d r h = inl (refl, h)
 word_reads text s t d r h = inr h
 
 -- what stands after the first label in braces
-word_taken : (n : ℕ) (s : List Form) (P : Spelling Tree) (x : List Token) (e : Due) → IsEnd e x → AreTaken n (due.entries ∷ s) P → (text : List ℕ) (ts : List Token) → Leads n (due.behind_word text) s ts e [] →
+word_taken : (n : ℕ) (s : List StackSymbol) (P : Spelling Tree) (x : List Token) (e : Expectation) → IsEnd e x → AreTaken n (due.entries ∷ s) P → (text : List ℕ) (ts : List Token) → Shifts n (due.behind_word text) s ts e [] →
     IsClosed n s (InBraces P) (label text ∷ ts) x e
 word_taken n s P x e end taken text [] (same, no_forms) = absurd (not_end (due.behind_word text) e x tt end same)
 word_taken n s P x e end taken text (t ∷ ts) (d, r, h, leads) = which (word_reads text s t d r h)
@@ -317,7 +317,7 @@ word_taken n s P x e end taken text (t ∷ ts) (d, r, h, leads) = which (word_re
         (tree.flags (in_order (text ∷ texts)), rest, inr (inr (inr (text ∷ texts, omega arith, (t ∷ ts ++ x, refl, q), apart, refl))), on, omega arith)
 
 -- what stands after an open brace
-braces_taken : (n : ℕ) (s : List Form) (P : Spelling Tree) (x : List Token) (e : Due) → IsEnd e x → AreTaken n (due.entries ∷ s) P → (ts : List Token) → Leads n due.in_braces s ts e [] → IsClosed n s (InBraces P) ts x e
+braces_taken : (n : ℕ) (s : List StackSymbol) (P : Spelling Tree) (x : List Token) (e : Expectation) → IsEnd e x → AreTaken n (due.entries ∷ s) P → (ts : List Token) → Shifts n due.in_braces s ts e [] → IsClosed n s (InBraces P) ts x e
 braces_taken n s P x e end taken [] (same, no_forms) = absurd (not_end due.in_braces e x tt end same)
 braces_taken n s P x e end taken (brace_close ∷ ts) (d, r, h, leads) = (tree.empty_braces, ts, inl (refl, refl), after n _ behind_value d e s r [] ts refl h leads, omega arith)
 braces_taken n s P x e end taken (colon ∷ []) (d, r, h, (same, no_forms)) =
@@ -336,7 +336,7 @@ braces_taken n s P x e end taken (t ∷ ts) (d, r, h, leads) = let k : unexpecte
 -- ---- payloads and labels
 
 -- a value within its payload, and the close
-payload_taken : (n : ℕ) (s : List Form) (P : Spelling Tree) (x : List Token) (e : Due) → IsEnd e x → AreTaken n (due.payload ∷ s) P → (ts : List Token) → Leads n value (due.payload ∷ s) ts e [] →
+payload_taken : (n : ℕ) (s : List StackSymbol) (P : Spelling Tree) (x : List Token) (e : Expectation) → IsEnd e x → AreTaken n (due.payload ∷ s) P → (ts : List Token) → Shifts n value (due.payload ∷ s) ts e [] →
     IsClosed n s (λ tokens t rest. InParens P tokens t rest) (paren_open ∷ ts) x e
 payload_taken n s P x e end taken ts leads = close (taken ts x e end leads)
   where
@@ -354,8 +354,8 @@ label_end x (inl e) = cc
 label_end x (inr (e, apart)) = apart
 
 -- a label's payload, or none where no parenthesis stands
-maybe_taken : (n : ℕ) (s : List Form) (P : Spelling Tree) (x : List Token) (e : Due) → IsEnd e x → AreTaken n (due.payload ∷ s) P → (t : Token) (ts : List Token) → Leads n behind_label s ts e [] →
-    (payload : MaybeTree) × (d : Due) × (rest : List Token) × MaybeInParens P (ts ++ x) payload (rest ++ x) × IsEnd d (rest ++ x) × Leads n d s rest e [] × (length rest < length (t ∷ ts))
+maybe_taken : (n : ℕ) (s : List StackSymbol) (P : Spelling Tree) (x : List Token) (e : Expectation) → IsEnd e x → AreTaken n (due.payload ∷ s) P → (t : Token) (ts : List Token) → Shifts n behind_label s ts e [] →
+    (payload : MaybeTree) × (d : Expectation) × (rest : List Token) × MaybeInParens P (ts ++ x) payload (rest ++ x) × IsEnd d (rest ++ x) × Shifts n d s rest e [] × (length rest < length (t ∷ ts))
 maybe_taken n s P x e end taken t [] (same, no_forms) =
     let here : IsEnd behind_label x = subst (λ z. IsEnd z x) (sym same) end in
     (tree.no_tree, behind_label, [], inl (refl, label_end x here, refl), here, (same, no_forms), omega arith)
@@ -365,8 +365,8 @@ maybe_taken n s P x e end taken t (paren_open ∷ ts) (d, r, h, leads) =
 maybe_taken n s P x e end taken t (u ∷ ts) leads = (tree.no_tree, behind_label, u ∷ ts, inl (refl, λ more f. cc, refl), inr (refl, λ more f. cc), leads, omega arith)
 
 -- what stands after a label
-label_taken : (n : ℕ) (s : List Form) (P : Spelling Tree) (x : List Token) (e : Due) → IsEnd e x → AreTaken n (due.payload ∷ s) P → (w : Word) (text : List ℕ) (t : Token) (ts : List Token) → Leads n (due.due_behind w) s ts e [] →
-    (u : Tree) × (d : Due) × (rest : List Token) × BehindWord w text P (ts ++ x) u (rest ++ x) × IsEnd d (rest ++ x) × Leads n d s rest e [] × (length rest < length (t ∷ ts))
+label_taken : (n : ℕ) (s : List StackSymbol) (P : Spelling Tree) (x : List Token) (e : Expectation) → IsEnd e x → AreTaken n (due.payload ∷ s) P → (w : Word) (text : List ℕ) (t : Token) (ts : List Token) → Shifts n (due.due_behind w) s ts e [] →
+    (u : Tree) × (d : Expectation) × (rest : List Token) × BehindWord w text P (ts ++ x) u (rest ++ x) × IsEnd d (rest ++ x) × Shifts n d s rest e [] × (length rest < length (t ∷ ts))
 label_taken n s P x e end taken leaf_word text t ts leads = (tree.one (label text), behind_value, ts, (refl, refl), inl refl, leads, omega arith)
 label_taken n s P x e end taken none_word text t ts leads = (tree.none, behind_value, ts, (refl, refl), inl refl, leads, omega arith)
 label_taken n s P x e end taken some_word text t [] (same, no_forms) = absurd (not_end due.paren e x tt end same)
@@ -381,7 +381,7 @@ label_taken n s P x e end taken case_word text t ts leads = let (payload, d, res
 -- ---- all trees
 
 -- a tree, where the trees in it are taken
-tree_taken : (n : ℕ) (s : List Form) (P : Spelling Tree) → ((f : Form) → AreTaken n (f ∷ s) P) → AreTaken n s (ATree P)
+tree_taken : (n : ℕ) (s : List StackSymbol) (P : Spelling Tree) → ((f : StackSymbol) → AreTaken n (f ∷ s) P) → AreTaken n s (ATree P)
 tree_taken n s P taken [] x e end (same, no_forms) = absurd (not_end value e x tt end same)
 tree_taken n s P taken (t ∷ ts) x e end (d, r, h, leads) = which t (on_level (nat_lt (length s) n) (value_step s t) d r h)
   where
@@ -403,31 +403,31 @@ tree_taken n s P taken (t ∷ ts) x e end (d, r, h, leads) = which t (on_level (
     which u k = let w : unexpected ≡ reads d r = k in cc
 
 -- where no level is left no value is read
-level_full : (n : ℕ) (s : List Form) (t : Token) (d : Due) (r : List Form) → n ≤ length s → step n value s t ≡ reads d r → ⊥
+level_full : (n : ℕ) (s : List StackSymbol) (t : Token) (d : Expectation) (r : List StackSymbol) → n ≤ length s → step n value s t ≡ reads d r → ⊥
 level_full n s t d r l h =
     let full : nat_lt (length s) n ≡ false = grind arith in
     let k : too_deep ≡ reads d r = ap (λ b. if b then value_step s t else too_deep) (sym full) ∙ h in
     cc
 
 -- within the levels that are left a prefix of the tokens is a tree
-leads_taken : (k n : ℕ) (s : List Form) → n ≤ k + length s → AreTaken n s (Takes k)
+leads_taken : (k n : ℕ) (s : List StackSymbol) → n ≤ k + length s → AreTaken n s (Takes k)
 leads_taken zero n s l [] x e end (same, no_forms) = absurd (not_end value e x tt end same)
 leads_taken zero n s l (t ∷ ts) x e end (d, r, h, leads) = absurd (level_full n s t d r (omega arith) h)
 leads_taken (suc k) n s l ts x e end leads = tree_taken n s (Takes k) (λ f. leads_taken k n (f ∷ s) (omega arith)) ts x e end leads
 
 -- where no form is open nothing stands after a value
-nothing_behind : (n : ℕ) (d e : Due) (ts x : List Token) → IsEnd d (ts ++ x) → Leads n d [] ts e [] → ts ≡ []
+nothing_behind : (n : ℕ) (d e : Expectation) (ts x : List Token) → IsEnd d (ts ++ x) → Shifts n d [] ts e [] → ts ≡ []
 nothing_behind n d e [] x start leads = refl
 nothing_behind n d e (t ∷ ts) x start (d', r, h, leads) = let k : unexpected ≡ reads d' r = sym (end_step n d [] t (ts ++ x) start) ∙ h in cc
 
 -- where no more is due
-at_end : (d : Due) (rest : List Token) → EndsBefore d rest → IsEnd d rest
+at_end : (d : Expectation) (rest : List Token) → EndsBefore d rest → IsEnd d rest
 at_end behind_value rest h = inl refl
 at_end behind_label rest h = inr (refl, h)
 at_end d rest h = absurd h
 
 -- tokens that lead to the end of a value are a tree
-pub led_is_tree : LedTokensHaveATree
+pub led_is_tree : AcceptedTokensHaveATree
 led_is_tree n front rest d ends leads =
     let (t, b, left, p, end, on, less) = leads_taken n n [] (omega arith) front rest d (at_end d rest ends) leads in
     (t, subst (λ z. Takes n (front ++ rest) t (z ++ rest)) (nothing_behind n b d left rest end on) p)

@@ -12,7 +12,7 @@ use Rattle.wave_grammar.specs.Tree.{Tree, ATree, KeyAnd, Label, MaybeInParens, I
 use Rattle.wave_grammar.specs.LenientTree.{ALooseTree, TakesLoosely}
 use Rattle.wave_grammar.specs.PrefixLaws.{UnexpectedTokensBeginNone}
 use Rattle.wave_grammar.specs.PrefixAutomaton as due
-use Rattle.wave_grammar.specs.PrefixAutomaton.{Due, Form, value, first_item, next_item, behind_value, behind_label, Step, too_deep, empty_tuple, repeated_flag, unexpected, reads, step, Leads, closes, value_step}
+use Rattle.wave_grammar.specs.PrefixAutomaton.{Expectation, StackSymbol, value, first_item, next_item, behind_value, behind_label, Step, too_deep, empty_tuple, repeated_flag, unexpected, reads, step, Shifts, closes, value_step}
 use Rattle.wave_grammar.proofs.Automaton.Sound.{IsEnd, LeadsTo, leads_join, end_step, item_step, HasItems, close_of, close_token, close_reads, next_closes, comma_reads, end_not_value, key_there}
 use Rattle.wave_grammar.proofs.Automaton.Prefixes.{leads_split, leads_one}
 
@@ -24,32 +24,32 @@ IsOther too_deep = Unit {0}
 IsOther _ = ⊥
 
 -- a prefix of the tokens leads to such a refusal
-abbrev Halts : ℕ → Due → List Form → List Token → Type 0
-Halts n d s tokens = (front : List Token) × (t : Token) × (more : List Token) × (e : Due) × (r : List Form) × (tokens ≡ front ++ t ∷ more) × Leads n d s front e r × IsOther (step n e r t)
+abbrev Halts : ℕ → Expectation → List StackSymbol → List Token → Type 0
+Halts n d s tokens = (front : List Token) × (t : Token) × (more : List Token) × (e : Expectation) × (r : List StackSymbol) × (tokens ≡ front ++ t ∷ more) × Shifts n d s front e r × IsOther (step n e r t)
 
 -- tokens lead to the end of a value within these forms, before this rest; or a prefix of them to such a refusal
-abbrev Led : ℕ → Due → List Form → List Token → List Form → List Token → Type 0
-Led n d s tokens v rest = ((e : Due) × IsEnd e rest × LeadsTo n d s tokens e v rest) ⊎ Halts n d s tokens
+abbrev Led : ℕ → Expectation → List StackSymbol → List Token → List StackSymbol → List Token → Type 0
+Led n d s tokens v rest = ((e : Expectation) × IsEnd e rest × LeadsTo n d s tokens e v rest) ⊎ Halts n d s tokens
 
 -- each tree of P is led to, within the forms s
-abbrev AreLoose : ℕ → List Form → Spelling Tree → Type 0
+abbrev AreLoose : ℕ → List StackSymbol → Spelling Tree → Type 0
 AreLoose n s P = (tokens : List Token) (t : Tree) (rest : List Token) → P tokens t rest → Led n value s tokens s rest
 
 -- a token that is read, before others
-one : (n : ℕ) (d e : Due) (s r v : List Form) (t : Token) (behind rest : List Token) → step n d s t ≡ reads e r → Led n e r behind v rest → Led n d s (t ∷ behind) v rest
+one : (n : ℕ) (d e : Expectation) (s r v : List StackSymbol) (t : Token) (behind rest : List Token) → step n d s t ≡ reads e r → Led n e r behind v rest → Led n d s (t ∷ behind) v rest
 one n d e s r v t behind rest x (inl (f, ends, (front, same, leads))) = inl (f, ends, (t ∷ front, ap (λ z. t ∷ z) same, (e, r, x, leads)))
 one n d e s r v t behind rest x (inr (front, u, more, f, q, same, leads, other)) = inr (t ∷ front, u, more, f, q, ap (λ z. t ∷ z) same, (e, r, x, leads), other)
 
 -- nothing is left to be read
-ended : (n : ℕ) (d : Due) (s : List Form) (rest : List Token) → IsEnd d rest → Led n d s rest s rest
+ended : (n : ℕ) (d : Expectation) (s : List StackSymbol) (rest : List Token) → IsEnd d rest → Led n d s rest s rest
 ended n d s rest ends = inl (d, ends, ([], refl, (refl, refl)))
 
 -- a close after which nothing is left to be read
-shut : (n : ℕ) (d : Due) (s v : List Form) (t : Token) (rest : List Token) → step n d s t ≡ reads behind_value v → Led n d s (t ∷ rest) v rest
+shut : (n : ℕ) (d : Expectation) (s v : List StackSymbol) (t : Token) (rest : List Token) → step n d s t ≡ reads behind_value v → Led n d s (t ∷ rest) v rest
 shut n d s v t rest x = one n d behind_value s v v t rest rest x (ended n behind_value v rest (inl refl))
 
 -- tokens and then those after them
-joined : (n : ℕ) (d : Due) (s q v : List Form) (tokens behind rest : List Token) → Led n d s tokens q behind → ((e : Due) → IsEnd e behind → Led n e q behind v rest) → Led n d s tokens v rest
+joined : (n : ℕ) (d : Expectation) (s q v : List StackSymbol) (tokens behind rest : List Token) → Led n d s tokens q behind → ((e : Expectation) → IsEnd e behind → Led n e q behind v rest) → Led n d s tokens v rest
 joined n d s q v tokens behind rest (inr halts) next = inr halts
 joined n d s q v tokens behind rest (inl (e, ends, (front, same, leads))) next = both (next e ends)
   where
@@ -60,21 +60,21 @@ joined n d s q v tokens behind rest (inl (e, ends, (front, same, leads))) next =
         inr (front ++ front', u, more, f, w, same ∙ (ap (λ z. front ++ z) same' ∙ sym (append_assoc front front' (u ∷ more))), leads_join n d e f s q w front front' leads leads', other)
 
 -- a token that is refused
-halts : (n : ℕ) (d : Due) (s v : List Form) (t : Token) (more rest : List Token) → IsOther (step n d s t) → Led n d s (t ∷ more) v rest
+halts : (n : ℕ) (d : Expectation) (s v : List StackSymbol) (t : Token) (more rest : List Token) → IsOther (step n d s t) → Led n d s (t ∷ more) v rest
 halts n d s v t more rest other = inr ([], t, more, d, s, refl, (refl, refl), other)
 
 -- the same tokens, written in another way
-led_by : (n : ℕ) (d : Due) (s v : List Form) (tokens others rest : List Token) → tokens ≡ others → Led n d s others v rest → Led n d s tokens v rest
+led_by : (n : ℕ) (d : Expectation) (s v : List StackSymbol) (tokens others rest : List Token) → tokens ≡ others → Led n d s others v rest → Led n d s tokens v rest
 led_by n d s v tokens others rest e h = subst (λ z. Led n d s z v rest) (sym e) h
 
 -- ---- items
 
 -- no tree of P begins with the close of the form
-abbrev NeverCloses : Form → Spelling Tree → Type 0
+abbrev NeverCloses : StackSymbol → Spelling Tree → Type 0
 NeverCloses f P = (behind rest : List Token) (a : Tree) → P (close_of f ∷ behind) a rest → ⊥
 
 -- what begins with a value may stand where an item or the close may
-item_led : (n : ℕ) (d : Due) (f : Form) (s : List Form) (P : Spelling Tree) → (d ≡ first_item) ⊎ (d ≡ next_item) → NeverCloses f P → (tokens : List Token) (a : Tree) (rest : List Token) → P tokens a rest →
+item_led : (n : ℕ) (d : Expectation) (f : StackSymbol) (s : List StackSymbol) (P : Spelling Tree) → (d ≡ first_item) ⊎ (d ≡ next_item) → NeverCloses f P → (tokens : List Token) (a : Tree) (rest : List Token) → P tokens a rest →
     Led n value (f ∷ s) tokens (f ∷ s) rest → Led n d (f ∷ s) tokens (f ∷ s) rest
 item_led n d f s P at never tokens a rest p (inl (e, ends, ([], same, (x, y)))) = absurd (end_not_value e rest ends x)
 item_led n d f s P at never tokens a rest p (inl (e, ends, (t ∷ front, same, (d', s', x, leads)))) =
@@ -89,7 +89,7 @@ item_led n d f s P at never tokens a rest p (inr (t ∷ front, u, more, e, r, sa
     inr (t ∷ front, u, more, e, r, same, (d', s', sym (item_step n d (f ∷ s) t at apart) ∙ x, leads), other)
 
 -- the further items of a tuple or a list
-further_led : (n : ℕ) (f : Form) (s : List Form) (P : Spelling Tree) → HasItems f → NeverCloses f P → AreLoose n (f ∷ s) P → (tokens : List Token) (items : List Tree) (rest : List Token) (d : Due) → IsEnd d tokens →
+further_led : (n : ℕ) (f : StackSymbol) (s : List StackSymbol) (P : Spelling Tree) → HasItems f → NeverCloses f P → AreLoose n (f ∷ s) P → (tokens : List Token) (items : List Tree) (rest : List Token) (d : Expectation) → IsEnd d tokens →
     FurtherItems (close_of f) P tokens items rest → Led n d (f ∷ s) tokens s rest
 further_led n f s P i never led tokens [] rest d h (inl e) =
     led_by n d (f ∷ s) s tokens (close_of f ∷ rest) rest e (shut n d (f ∷ s) s (close_of f) rest (end_step n d (f ∷ s) (close_of f) rest (subst (IsEnd d) e h) ∙ close_reads f s))
@@ -104,7 +104,7 @@ further_led n f s P i never led tokens (a ∷ more) rest d h (front, behind, e, 
     (λ d' h'. further_led n f s P i never led behind more rest d' h' k)))
 
 -- the items of a tuple or a list
-items_led : (n : ℕ) (f : Form) (s : List Form) (P : Spelling Tree) → HasItems f → NeverCloses f P → AreLoose n (f ∷ s) P → (tokens : List Token) (a : Tree) (more : List Tree) (rest : List Token) → Items (close_of f) P tokens (a ∷ more) rest →
+items_led : (n : ℕ) (f : StackSymbol) (s : List StackSymbol) (P : Spelling Tree) → HasItems f → NeverCloses f P → AreLoose n (f ∷ s) P → (tokens : List Token) (a : Tree) (more : List Tree) (rest : List Token) → Items (close_of f) P tokens (a ∷ more) rest →
     Led n first_item (f ∷ s) tokens s rest
 items_led n f s P i never led tokens a more rest (behind, p, k) =
     joined n first_item (f ∷ s) (f ∷ s) s tokens behind rest (item_led n first_item f s P (inl refl) never tokens a behind p (led tokens a behind p)) (λ d' h'. further_led n f s P i never led behind more rest d' h' k)
@@ -112,7 +112,7 @@ items_led n f s P i never led tokens a more rest (behind, p, k) =
 -- ---- payloads and labels
 
 -- a payload in its parentheses
-parens_led : (n : ℕ) (s : List Form) (P : Spelling Tree) → AreLoose n (due.payload ∷ s) P → (d : Due) → step n d s paren_open ≡ reads value (due.payload ∷ s) → (tokens : List Token) (t : Tree) (rest : List Token) → InParens P tokens t rest →
+parens_led : (n : ℕ) (s : List StackSymbol) (P : Spelling Tree) → AreLoose n (due.payload ∷ s) P → (d : Expectation) → step n d s paren_open ≡ reads value (due.payload ∷ s) → (tokens : List Token) (t : Tree) (rest : List Token) → InParens P tokens t rest →
     Led n d s tokens s rest
 parens_led n s P led d x tokens t rest (front, e, p) =
     led_by n d s s tokens (paren_open ∷ front) rest e (one n d value s (due.payload ∷ s) s paren_open front rest x
@@ -120,12 +120,12 @@ parens_led n s P led d x tokens t rest (front, e, p) =
     (λ d' h'. shut n d' (due.payload ∷ s) s paren_close rest (end_step n d' (due.payload ∷ s) paren_close rest h'))))
 
 -- a payload, or none
-maybe_led : (n : ℕ) (s : List Form) (P : Spelling Tree) → AreLoose n (due.payload ∷ s) P → (tokens : List Token) (t : tree.MaybeTree) (rest : List Token) → MaybeInParens P tokens t rest → Led n behind_label s tokens s rest
+maybe_led : (n : ℕ) (s : List StackSymbol) (P : Spelling Tree) → AreLoose n (due.payload ∷ s) P → (tokens : List Token) (t : tree.MaybeTree) (rest : List Token) → MaybeInParens P tokens t rest → Led n behind_label s tokens s rest
 maybe_led n s P led tokens t rest (inl (e, apart, f)) = led_by n behind_label s s tokens rest rest e (ended n behind_label s rest (inr (refl, apart)))
 maybe_led n s P led tokens t rest (inr (u, p, f)) = parens_led n s P led behind_label refl tokens u rest p
 
 -- what stands after a label
-word_led : (n : ℕ) (s : List Form) (P : Spelling Tree) → AreLoose n (due.payload ∷ s) P → (w : Word) (text : List ℕ) (tokens : List Token) (t : Tree) (rest : List Token) → BehindWord w text P tokens t rest → Led n (due.due_behind w) s tokens s rest
+word_led : (n : ℕ) (s : List StackSymbol) (P : Spelling Tree) → AreLoose n (due.payload ∷ s) P → (w : Word) (text : List ℕ) (tokens : List Token) (t : Tree) (rest : List Token) → BehindWord w text P tokens t rest → Led n (due.due_behind w) s tokens s rest
 word_led n s P led leaf_word text tokens t rest (e, f) = led_by n behind_value s s tokens rest rest e (ended n behind_value s rest (inl refl))
 word_led n s P led none_word text tokens t rest (e, f) = led_by n behind_value s s tokens rest rest e (ended n behind_value s rest (inl refl))
 word_led n s P led some_word text tokens t rest (u, p, f) = parens_led n s P led due.paren refl tokens u rest p
@@ -136,7 +136,7 @@ word_led n s P led case_word text tokens t rest (u, p, f) = maybe_led n s P led 
 -- ---- entries
 
 -- the first key in braces, and its colon
-first_key : (n : ℕ) (s v : List Form) (t : Token) (front rest : List Token) → IsKey t → Led n value (due.entries ∷ s) front v rest → Led n due.in_braces s (t ∷ colon ∷ front) v rest
+first_key : (n : ℕ) (s v : List StackSymbol) (t : Token) (front rest : List Token) → IsKey t → Led n value (due.entries ∷ s) front v rest → Led n due.in_braces s (t ∷ colon ∷ front) v rest
 first_key n s v (label text) front rest h led =
     one n due.in_braces (due.behind_word text) s s v (label text) (colon ∷ front) rest refl (one n (due.behind_word text) value s (due.entries ∷ s) v colon front rest refl led)
 first_key n s v (number text) front rest h led = one n due.in_braces due.behind_key s s v (number text) (colon ∷ front) rest refl (one n due.behind_key value s (due.entries ∷ s) v colon front rest refl led)
@@ -146,7 +146,7 @@ first_key n s v (multiline text) front rest h led = one n due.in_braces due.behi
 first_key n s v t front rest h led = absurd h
 
 -- the further entries
-entries_further : (n : ℕ) (s : List Form) (P : Spelling Tree) → AreLoose n (due.entries ∷ s) P → (tokens : List Token) (es : List (Token × Tree)) (rest : List Token) (d : Due) → IsEnd d tokens → FurtherItems brace_close (KeyAnd P) tokens es rest →
+entries_further : (n : ℕ) (s : List StackSymbol) (P : Spelling Tree) → AreLoose n (due.entries ∷ s) P → (tokens : List Token) (es : List (Token × Tree)) (rest : List Token) (d : Expectation) → IsEnd d tokens → FurtherItems brace_close (KeyAnd P) tokens es rest →
     Led n d (due.entries ∷ s) tokens s rest
 entries_further n s P led tokens [] rest d h (inl e) =
     led_by n d (due.entries ∷ s) s tokens (brace_close ∷ rest) rest e (shut n d (due.entries ∷ s) s brace_close rest (end_step n d (due.entries ∷ s) brace_close rest (subst (IsEnd d) e h)))
@@ -162,7 +162,7 @@ entries_further n s P led tokens (a ∷ more) rest d h (front, behind, e, (insid
     (joined n value (due.entries ∷ s) (due.entries ∷ s) s inside behind rest (led inside a.1 behind p) (λ d' h'. entries_further n s P led behind more rest d' h' g)))))
 
 -- the entries of braces
-entries_led : (n : ℕ) (s : List Form) (P : Spelling Tree) → AreLoose n (due.entries ∷ s) P → (tokens : List Token) (es : List (Token × Tree)) (rest : List Token) → 0 < length es → Items brace_close (KeyAnd P) tokens es rest → Led n due.in_braces s tokens s rest
+entries_led : (n : ℕ) (s : List StackSymbol) (P : Spelling Tree) → AreLoose n (due.entries ∷ s) P → (tokens : List Token) (es : List (Token × Tree)) (rest : List Token) → 0 < length es → Items brace_close (KeyAnd P) tokens es rest → Led n due.in_braces s tokens s rest
 entries_led n s P led tokens [] rest l h = absurd (omega arith)
 entries_led n s P led tokens (a ∷ more) rest l (behind, (inside, f, k, p), g) =
     led_by n due.in_braces s s tokens (a.0 ∷ colon ∷ inside) rest f (first_key n s s a.0 inside rest k
@@ -171,7 +171,7 @@ entries_led n s P led tokens (a ∷ more) rest l (behind, (inside, f, k, p), g) 
 -- ---- flags
 
 -- a flag, which may be repeated
-flag_led : (n : ℕ) (s v : List Form) (names : List (List ℕ)) (x : List ℕ) (behind rest : List Token) → Led n (due.behind_flag (names ++ name_of x ∷ [])) s behind v rest → Led n (due.flag names) s (label x ∷ behind) v rest
+flag_led : (n : ℕ) (s v : List StackSymbol) (names : List (List ℕ)) (x : List ℕ) (behind rest : List Token) → Led n (due.behind_flag (names ++ name_of x ∷ [])) s behind v rest → Led n (due.flag names) s (label x ∷ behind) v rest
 flag_led n s v names x behind rest led = which (is_one_of names (name_of x)) refl
   where
     which : (b : Bool) → is_one_of names (name_of x) ≡ b → Led n (due.flag names) s (label x ∷ behind) v rest
@@ -180,7 +180,7 @@ flag_led n s v names x behind rest led = which (is_one_of names (name_of x)) ref
         one n (due.flag names) (due.behind_flag (names ++ name_of x ∷ [])) s s v (label x) behind rest (ap (λ b. if b then repeated_flag else reads (due.behind_flag (names ++ name_of x ∷ [])) s) k) led
 
 -- the further flags
-flags_further : (n : ℕ) (s : List Form) (names : List (List ℕ)) (tokens : List Token) (texts : List (List ℕ)) (rest : List Token) → FurtherItems brace_close Label tokens texts rest → Led n (due.behind_flag names) s tokens s rest
+flags_further : (n : ℕ) (s : List StackSymbol) (names : List (List ℕ)) (tokens : List Token) (texts : List (List ℕ)) (rest : List Token) → FurtherItems brace_close Label tokens texts rest → Led n (due.behind_flag names) s tokens s rest
 flags_further n s names tokens [] rest (inl e) = led_by n (due.behind_flag names) s s tokens (brace_close ∷ rest) rest e (shut n (due.behind_flag names) s s brace_close rest refl)
 flags_further n s names tokens [] rest (inr e) =
     led_by n (due.behind_flag names) s s tokens (comma ∷ brace_close ∷ rest) rest e (one n (due.behind_flag names) (due.flag names) s s s comma (brace_close ∷ rest) rest refl (shut n (due.flag names) s s brace_close rest refl))
@@ -189,7 +189,7 @@ flags_further n s names tokens (x ∷ more) rest (front, behind, e, f, k) =
     (one n (due.behind_flag names) (due.flag names) s s s comma (label x ∷ behind) rest refl (flag_led n s s names x behind rest (flags_further n s (names ++ name_of x ∷ []) behind more rest k)))
 
 -- after the first flag a colon would make it a key
-word_further : (n : ℕ) (s : List Form) (text : List ℕ) (tokens : List Token) (texts : List (List ℕ)) (rest : List Token) → FurtherItems brace_close Label tokens texts rest → Led n (due.behind_word text) s tokens s rest
+word_further : (n : ℕ) (s : List StackSymbol) (text : List ℕ) (tokens : List Token) (texts : List (List ℕ)) (rest : List Token) → FurtherItems brace_close Label tokens texts rest → Led n (due.behind_word text) s tokens s rest
 word_further n s text tokens [] rest (inl e) = led_by n (due.behind_word text) s s tokens (brace_close ∷ rest) rest e (shut n (due.behind_word text) s s brace_close rest refl)
 word_further n s text tokens [] rest (inr e) =
     led_by n (due.behind_word text) s s tokens (comma ∷ brace_close ∷ rest) rest e
@@ -200,7 +200,7 @@ word_further n s text tokens (x ∷ more) rest (front, behind, e, f, k) =
     (flag_led n s s (name_of text ∷ []) x behind rest (flags_further n s (name_of text ∷ name_of x ∷ []) behind more rest k)))
 
 -- the flags of braces
-flags_led : (n : ℕ) (s : List Form) (tokens : List Token) (texts : List (List ℕ)) (rest : List Token) → 0 < length texts → Items brace_close Label tokens texts rest → Led n due.in_braces s tokens s rest
+flags_led : (n : ℕ) (s : List StackSymbol) (tokens : List Token) (texts : List (List ℕ)) (rest : List Token) → 0 < length texts → Items brace_close Label tokens texts rest → Led n due.in_braces s tokens s rest
 flags_led n s tokens [] rest l h = absurd (omega arith)
 flags_led n s tokens (x ∷ more) rest l (behind, f, k) =
     led_by n due.in_braces s s tokens (label x ∷ behind) rest f (one n due.in_braces (due.behind_word x) s s s (label x) behind rest refl (word_further n s x behind more rest k))
@@ -208,7 +208,7 @@ flags_led n s tokens (x ∷ more) rest l (behind, f, k) =
 -- ---- all trees
 
 -- where a value is due a token is read as one, or is too deep
-begins : (n : ℕ) (d : Due) (s r v : List Form) (t : Token) (behind rest : List Token) → value_step s t ≡ reads d r → Led n d r behind v rest → Led n value s (t ∷ behind) v rest
+begins : (n : ℕ) (d : Expectation) (s r v : List StackSymbol) (t : Token) (behind rest : List Token) → value_step s t ≡ reads d r → Led n d r behind v rest → Led n value s (t ∷ behind) v rest
 begins n d s r v t behind rest x led = which (nat_lt (length s) n) refl
   where
     which : (b : Bool) → nat_lt (length s) n ≡ b → Led n value s (t ∷ behind) v rest
@@ -216,7 +216,7 @@ begins n d s r v t behind rest x led = which (nat_lt (length s) n) refl
     which false k = halts n value s v t behind rest (subst (λ b. IsOther (if b then value_step s t else too_deep)) (sym k) tt)
 
 -- what stands in braces
-braces_led : (n : ℕ) (s : List Form) (P : Spelling Tree) → AreLoose n (due.entries ∷ s) P → (front : List Token) (t : Tree) (rest : List Token) → InBraces P front t rest → Led n due.in_braces s front s rest
+braces_led : (n : ℕ) (s : List StackSymbol) (P : Spelling Tree) → AreLoose n (due.entries ∷ s) P → (front : List Token) (t : Tree) (rest : List Token) → InBraces P front t rest → Led n due.in_braces s front s rest
 braces_led n s P led front t rest (inl (e, f)) = led_by n due.in_braces s s front (brace_close ∷ rest) rest e (shut n due.in_braces s s brace_close rest refl)
 braces_led n s P led front t rest (inr (inl (e, f))) =
     led_by n due.in_braces s s front (colon ∷ brace_close ∷ rest) rest e (one n due.in_braces due.no_fields s s s colon (brace_close ∷ rest) rest refl (shut n due.no_fields s s brace_close rest refl))
@@ -224,11 +224,11 @@ braces_led n s P led front t rest (inr (inr (inl (es, k, h, f)))) = entries_led 
 braces_led n s P led front t rest (inr (inr (inr (texts, k, h, d, f)))) = flags_led n s front texts rest k h
 
 -- a token that is a value
-leaf_led : (n : ℕ) (s : List Form) (t : Token) (behind rest : List Token) → value_step s t ≡ reads behind_value s → behind ≡ rest → Led n value s (t ∷ behind) s rest
+leaf_led : (n : ℕ) (s : List StackSymbol) (t : Token) (behind rest : List Token) → value_step s t ≡ reads behind_value s → behind ≡ rest → Led n value s (t ∷ behind) s rest
 leaf_led n s t behind rest x e = begins n behind_value s s s t behind rest x (led_by n behind_value s s behind rest rest e (ended n behind_value s rest (inl refl)))
 
 -- a tree, where the trees in it are led to
-tree_led : (n : ℕ) (s : List Form) (P : Spelling Tree) → ((f : Form) → HasItems f → NeverCloses f P) → ((f : Form) → AreLoose n (f ∷ s) P) → AreLoose n s (ATree P)
+tree_led : (n : ℕ) (s : List StackSymbol) (P : Spelling Tree) → ((f : StackSymbol) → HasItems f → NeverCloses f P) → ((f : StackSymbol) → AreLoose n (f ∷ s) P) → AreLoose n s (ATree P)
 tree_led n s P never led [] t rest h = absurd h
 tree_led n s P never led (paren_open ∷ front) t rest ([], some, h, e) = absurd (omega arith)
 tree_led n s P never led (paren_open ∷ front) t rest (a ∷ more, some, h, e) =
@@ -247,7 +247,7 @@ tree_led n s P never led (multiline text ∷ behind) t rest (e, f) = leaf_led n 
 tree_led n s P never led (token ∷ behind) t rest h = absurd h
 
 -- the same for what may be an empty tuple or repeat its flags
-loose_led : (n : ℕ) (s : List Form) (P : Spelling Tree) → ((f : Form) → HasItems f → NeverCloses f P) → ((f : Form) → AreLoose n (f ∷ s) P) → AreLoose n s (ALooseTree P)
+loose_led : (n : ℕ) (s : List StackSymbol) (P : Spelling Tree) → ((f : StackSymbol) → HasItems f → NeverCloses f P) → ((f : StackSymbol) → AreLoose n (f ∷ s) P) → AreLoose n s (ALooseTree P)
 loose_led n s P never led tokens t rest (inl h) = tree_led n s P never led tokens t rest h
 loose_led n s P never led tokens t rest (inr (inl (e, f))) =
     led_by n value s s tokens (paren_open ∷ paren_close ∷ rest) rest e (begins n first_item s (due.tuple ∷ s) s paren_open (paren_close ∷ rest) rest refl (halts n first_item (due.tuple ∷ s) s paren_close rest rest tt))
@@ -255,7 +255,7 @@ loose_led n s P never led tokens t rest (inr (inr (front, texts, some, e, h, f))
     led_by n value s s tokens (brace_open ∷ front) rest e (begins n due.in_braces s s s brace_open front rest refl (flags_led n s front texts rest some h))
 
 -- no such tree begins with a close
-loose_never : (k : ℕ) (f : Form) → HasItems f → NeverCloses f (TakesLoosely k)
+loose_never : (k : ℕ) (f : StackSymbol) → HasItems f → NeverCloses f (TakesLoosely k)
 loose_never zero f i behind rest a h = absurd h
 loose_never (suc k) due.tuple i behind rest a (inl h) = absurd h
 loose_never (suc k) due.tuple i behind rest a (inr (inl (e, g))) = cc
@@ -266,12 +266,12 @@ loose_never (suc k) due.list i behind rest a (inr (inr (front, texts, some, e, h
 loose_never (suc k) f i behind rest a h = absurd i
 
 -- each such tree is led to, or to its fault
-loosely_led : (k n : ℕ) (s : List Form) → AreLoose n s (TakesLoosely k)
+loosely_led : (k n : ℕ) (s : List StackSymbol) → AreLoose n s (TakesLoosely k)
 loosely_led zero n s tokens t rest h = absurd h
 loosely_led (suc k) n s tokens t rest h = loose_led n s (TakesLoosely k) (loose_never k) (λ f. loosely_led k n (f ∷ s)) tokens t rest h
 
 -- no token is unexpected and refused for another fault, nor read after a refusal
-one_refusal : (n : ℕ) (d e f : Due) (s r q : List Form) (front others : List Token) (t u : Token) (more rest : List Token) → Leads n d s front e r → step n e r t ≡ unexpected → Leads n d s others f q → IsOther (step n f q u) →
+one_refusal : (n : ℕ) (d e f : Expectation) (s r q : List StackSymbol) (front others : List Token) (t u : Token) (more rest : List Token) → Shifts n d s front e r → step n e r t ≡ unexpected → Shifts n d s others f q → IsOther (step n f q u) →
     front ++ t ∷ more ≡ others ++ u ∷ rest → ⊥
 one_refusal n d e f s r q [] [] t u more rest (a, b) x (c, g) other same =
     let tokens : u ≡ t = cc in
@@ -291,7 +291,7 @@ one_refusal n d e f s r q (t' ∷ front) (u' ∷ others) t u more rest (d', s', 
     let steps : reads d'' s'' ≡ reads d' s' = sym y' ∙ (ap (step n d s) tokens ∙ y) in
     let dues : d'' ≡ d' = cc in
     let forms : s'' ≡ s' = cc in
-    one_refusal n d' e f s' r q front others t u more rest leads x (subst (λ z. Leads n d' z others f q) forms (subst (λ z. Leads n z s'' others f q) dues leads')) other behind
+    one_refusal n d' e f s' r q front others t u more rest leads x (subst (λ z. Shifts n d' z others f q) forms (subst (λ z. Shifts n z s'' others f q) dues leads')) other behind
 
 -- with an unexpected token no such tree begins
 pub unexpected_begin_none : UnexpectedTokensBeginNone
@@ -299,7 +299,7 @@ unexpected_begin_none n front d s t led x m more u h = which (loosely_led m n []
   where
     which : Led n value [] (front ++ t ∷ more) [] [] → ⊥
     which (inl (e, ends, (whole, same, leads))) =
-        let all : Leads n value [] (front ++ t ∷ more) e [] = subst (λ z. Leads n value [] z e []) (sym (same ∙ append-nil whole)) leads in
+        let all : Shifts n value [] (front ++ t ∷ more) e [] = subst (λ z. Shifts n value [] z e []) (sym (same ∙ append-nil whole)) leads in
         let (f, q, one_front, (d', s', y, others)) = leads_split n value e [] [] front (t ∷ more) all in
         let (dues, forms) = leads_one n value f d [] q s front one_front led in
         let there : unexpected ≡ reads d' s' = sym x ∙ (ap (λ z. step n z s t) (sym dues) ∙ (ap (λ z. step n f z t) (sym forms) ∙ y)) in

@@ -8,13 +8,13 @@ use Rattle.wave_grammar.specs.LeafTokens.{name_of}
 use Rattle.wave_grammar.specs.Tree.{Word, word_of, leaf_word, none_word, some_word, ok_word, err_word, case_word}
 use Rattle.wave_grammar.specs.PrefixLaws.{flags_before, EmptyTuplesAreEmpty, RepeatedFlagsAreRepeated, DeepValuesAreDeep}
 use Rattle.wave_grammar.specs.PrefixAutomaton as due
-use Rattle.wave_grammar.specs.PrefixAutomaton.{Due, Form, value, first_item, next_item, behind_value, behind_label, Step, too_deep, empty_tuple, repeated_flag, unexpected, reads, step, Leads, closes, closed, closed_empty, level_step, value_step, behind_step, key_step, behind_flag_step, flag_step, IsValueDue}
+use Rattle.wave_grammar.specs.PrefixAutomaton.{Expectation, StackSymbol, value, first_item, next_item, behind_value, behind_label, Step, too_deep, empty_tuple, repeated_flag, unexpected, reads, step, Shifts, closes, closed, closed_empty, level_step, value_step, behind_step, key_step, behind_flag_step, flag_step, IsValueDue}
 use Rattle.wave_wasm.proofs.NameTests.{is_one}
 use Rattle.wave_grammar.proofs.Automaton.Sound.{close_token}
 use Rattle.wave_grammar.proofs.Automaton.Prefixes.{Fits, leads_fit, level_there}
 
 -- the last tokens before this is due
-abbrev Behind : List Token → Due → List Form → Type 0
+abbrev Behind : List Token → Expectation → List StackSymbol → Type 0
 Behind front first_item (due.tuple ∷ s) = (before : List Token) × (front ≡ before ++ paren_open ∷ [])
 Behind front due.in_braces s = (before : List Token) × (front ≡ before ++ brace_open ∷ [])
 Behind front (due.behind_word text) s = (before : List Token) × (front ≡ before ++ brace_open ∷ label text ∷ [])
@@ -24,14 +24,14 @@ Behind front (due.behind_flag names) s =
 Behind front d s = Unit {0}
 
 -- the same for what is due where a token was read
-there : (front : List Token) (d e : Due) (s r : List Form) → reads d s ≡ reads e r → Behind front d s → Behind front e r
+there : (front : List Token) (d e : Expectation) (s r : List StackSymbol) → reads d s ≡ reads e r → Behind front d s → Behind front e r
 there front d e s r h behind =
     let forms : s ≡ r = cc in
     let dues : d ≡ e = cc in
     subst (λ z. Behind front z r) dues (subst (Behind front d) forms behind)
 
 -- either of two answers
-either : {X : Type 0} (b : Bool) (x y : Step) (e : Due) (r : List Form) → (x ≡ reads e r → X) → (y ≡ reads e r → X) → if b then x else y ≡ reads e r → X
+either : {X : Type 0} (b : Bool) (x y : Step) (e : Expectation) (r : List StackSymbol) → (x ≡ reads e r → X) → (y ≡ reads e r → X) → if b then x else y ≡ reads e r → X
 either true x y e r f g h = f h
 either false x y e r f g h = g h
 
@@ -50,7 +50,7 @@ names_more [] last = refl
 names_more (text ∷ texts) last = ap (λ z. name_of text ∷ z) (names_more texts last)
 
 -- after a label that stands for a value
-word_behind : (front : List Token) (w : Word) (s : List Form) → Behind front (due.due_behind w) s
+word_behind : (front : List Token) (w : Word) (s : List StackSymbol) → Behind front (due.due_behind w) s
 word_behind front leaf_word s = tt
 word_behind front none_word s = tt
 word_behind front some_word s = tt
@@ -59,7 +59,7 @@ word_behind front err_word s = tt
 word_behind front case_word s = tt
 
 -- the first token of a value
-value_behind : (front : List Token) (s : List Form) (t : Token) (e : Due) (r : List Form) → value_step s t ≡ reads e r → Behind (front ++ t ∷ []) e r
+value_behind : (front : List Token) (s : List StackSymbol) (t : Token) (e : Expectation) (r : List StackSymbol) → value_step s t ≡ reads e r → Behind (front ++ t ∷ []) e r
 value_behind front s paren_open e r h = there (front ++ paren_open ∷ []) first_item e (due.tuple ∷ s) r h (front, refl)
 value_behind front s bracket_open e r h = there (front ++ bracket_open ∷ []) first_item e (due.list ∷ s) r h tt
 value_behind front s brace_open e r h = there (front ++ brace_open ∷ []) due.in_braces e s r h (front, refl)
@@ -71,7 +71,7 @@ value_behind front s (label text) e r h = there (front ++ label text ∷ []) (du
 value_behind front s t e r h = let k : unexpected ≡ reads e r = h in cc
 
 -- what follows a value
-next_behind : (front : List Token) (s : List Form) (t : Token) (e : Due) (r : List Form) → behind_step s t ≡ reads e r → Behind front e r
+next_behind : (front : List Token) (s : List StackSymbol) (t : Token) (e : Expectation) (r : List StackSymbol) → behind_step s t ≡ reads e r → Behind front e r
 next_behind front [] t e r h = let k : unexpected ≡ reads e r = h in cc
 next_behind front (due.tuple ∷ s) comma e r h = there front next_item e (due.tuple ∷ s) r h tt
 next_behind front (due.tuple ∷ s) paren_close e r h = there front behind_value e s r h tt
@@ -83,18 +83,18 @@ next_behind front (due.entries ∷ s) brace_close e r h = there front behind_val
 next_behind front (f ∷ s) t e r h = let k : unexpected ≡ reads e r = h in cc
 
 -- a close
-closed_behind : (front : List Token) (s : List Form) (e : Due) (r : List Form) → closed s ≡ reads e r → Behind front e r
+closed_behind : (front : List Token) (s : List StackSymbol) (e : Expectation) (r : List StackSymbol) → closed s ≡ reads e r → Behind front e r
 closed_behind front [] e r h = let k : unexpected ≡ reads e r = h in cc
 closed_behind front (f ∷ s) e r h = there front behind_value e s r h tt
 
 -- a close before the first item
-closed_empty_behind : (front : List Token) (s : List Form) (e : Due) (r : List Form) → closed_empty s ≡ reads e r → Behind front e r
+closed_empty_behind : (front : List Token) (s : List StackSymbol) (e : Expectation) (r : List StackSymbol) → closed_empty s ≡ reads e r → Behind front e r
 closed_empty_behind front [] e r h = let k : unexpected ≡ reads e r = h in cc
 closed_empty_behind front (due.tuple ∷ s) e r h = let k : empty_tuple ≡ reads e r = h in cc
 closed_empty_behind front (f ∷ s) e r h = closed_behind front (f ∷ s) e r h
 
 -- a key or a close
-key_behind : (front : List Token) (s : List Form) (t : Token) (e : Due) (r : List Form) → key_step s t ≡ reads e r → Behind front e r
+key_behind : (front : List Token) (s : List StackSymbol) (t : Token) (e : Expectation) (r : List StackSymbol) → key_step s t ≡ reads e r → Behind front e r
 key_behind front s brace_close e r h = there front behind_value e s r h tt
 key_behind front s (number text) e r h = there front due.behind_key e s r h tt
 key_behind front s (label text) e r h = there front due.behind_key e s r h tt
@@ -104,17 +104,17 @@ key_behind front s (multiline text) e r h = there front due.behind_key e s r h t
 key_behind front s t e r h = let k : unexpected ≡ reads e r = h in cc
 
 -- an unexpected token is not read
-unexpected_behind : (front : List Token) (e : Due) (r : List Form) → unexpected ≡ reads e r → Behind front e r
+unexpected_behind : (front : List Token) (e : Expectation) (r : List StackSymbol) → unexpected ≡ reads e r → Behind front e r
 unexpected_behind front e r h = cc
 
 -- the first token in braces
-brace_behind : (front : List Token) (s : List Form) (t : Token) (e : Due) (r : List Form) → Behind front due.in_braces s → due.brace_step s t ≡ reads e r → Behind (front ++ t ∷ []) e r
+brace_behind : (front : List Token) (s : List StackSymbol) (t : Token) (e : Expectation) (r : List StackSymbol) → Behind front due.in_braces s → due.brace_step s t ≡ reads e r → Behind (front ++ t ∷ []) e r
 brace_behind front s (label text) e r (before, same) h = there (front ++ label text ∷ []) (due.behind_word text) e s r h (before, with_last front before (brace_open ∷ []) (label text) same)
 brace_behind front s colon e r behind h = there (front ++ colon ∷ []) due.no_fields e s r h tt
 brace_behind front s t e r behind h = key_behind (front ++ t ∷ []) s t e r h
 
 -- what follows the first label in braces
-word_next : (front : List Token) (text : List ℕ) (s : List Form) (t : Token) (e : Due) (r : List Form) → Behind front (due.behind_word text) s → due.word_behind_step text s t ≡ reads e r → Behind (front ++ t ∷ []) e r
+word_next : (front : List Token) (text : List ℕ) (s : List StackSymbol) (t : Token) (e : Expectation) (r : List StackSymbol) → Behind front (due.behind_word text) s → due.word_behind_step text s t ≡ reads e r → Behind (front ++ t ∷ []) e r
 word_next front text s colon e r behind h = there (front ++ colon ∷ []) value e (due.entries ∷ s) r h tt
 word_next front text s comma e r (before, same) h =
     there (front ++ comma ∷ []) (due.flag (name_of text ∷ [])) e s r h (before, text ∷ [], with_last front before (brace_open ∷ label text ∷ []) comma same, refl)
@@ -122,7 +122,7 @@ word_next front text s brace_close e r behind h = there (front ++ brace_close �
 word_next front text s t e r behind h = let k : unexpected ≡ reads e r = h in cc
 
 -- a further flag or a close
-flag_next : (front : List Token) (names : List (List ℕ)) (s : List Form) (t : Token) (e : Due) (r : List Form) → Behind front (due.flag names) s → flag_step names s t ≡ reads e r → Behind (front ++ t ∷ []) e r
+flag_next : (front : List Token) (names : List (List ℕ)) (s : List StackSymbol) (t : Token) (e : Expectation) (r : List StackSymbol) → Behind front (due.flag names) s → flag_step names s t ≡ reads e r → Behind (front ++ t ∷ []) e r
 flag_next front names s brace_close e r behind h = there (front ++ brace_close ∷ []) behind_value e s r h tt
 flag_next front names s (label text) e r (before, texts, same, all) h =
     either (is_one_of names (name_of text)) repeated_flag (reads (due.behind_flag (names ++ name_of text ∷ [])) s) e r (λ k. cc)
@@ -131,7 +131,7 @@ flag_next front names s (label text) e r (before, texts, same, all) h =
 flag_next front names s t e r behind h = let k : unexpected ≡ reads e r = h in cc
 
 -- what follows a flag
-behind_flag_next : (front : List Token) (names : List (List ℕ)) (s : List Form) (t : Token) (e : Due) (r : List Form) → Behind front (due.behind_flag names) s → behind_flag_step names s t ≡ reads e r → Behind (front ++ t ∷ []) e r
+behind_flag_next : (front : List Token) (names : List (List ℕ)) (s : List StackSymbol) (t : Token) (e : Expectation) (r : List StackSymbol) → Behind front (due.behind_flag names) s → behind_flag_step names s t ≡ reads e r → Behind (front ++ t ∷ []) e r
 behind_flag_next front names s brace_close e r behind h = there (front ++ brace_close ∷ []) behind_value e s r h tt
 behind_flag_next front names s comma e r (before, texts, last, same, all) h =
     there (front ++ comma ∷ []) (due.flag names) e s r h (
@@ -143,7 +143,7 @@ behind_flag_next front names s comma e r (before, texts, last, same, all) h =
 behind_flag_next front names s t e r behind h = let k : unexpected ≡ reads e r = h in cc
 
 -- a token that is read
-step_behind : (n : ℕ) (front : List Token) (d : Due) (s : List Form) (t : Token) (e : Due) (r : List Form) → Behind front d s → step n d s t ≡ reads e r → Behind (front ++ t ∷ []) e r
+step_behind : (n : ℕ) (front : List Token) (d : Expectation) (s : List StackSymbol) (t : Token) (e : Expectation) (r : List StackSymbol) → Behind front d s → step n d s t ≡ reads e r → Behind (front ++ t ∷ []) e r
 step_behind n front value s t e r behind h = value_behind front s t e r (level_there n s t e r h).1
 step_behind n front first_item s t e r behind h =
     either (closes s t) (closed_empty s) (level_step n s t) e r (closed_empty_behind (front ++ t ∷ []) s e r) (λ g. value_behind front s t e r (level_there n s t e r g).1) h
@@ -165,7 +165,7 @@ step_behind n front (due.flag names) s t e r behind h = flag_next front names s 
 step_behind n front (due.behind_flag names) s t e r behind h = behind_flag_next front names s t e r behind h
 
 -- tokens that are read after others
-leads_behind : (n : ℕ) (before : List Token) (d : Due) (s : List Form) (ts : List Token) (e : Due) (r : List Form) → Behind before d s → Leads n d s ts e r → Behind (before ++ ts) e r
+leads_behind : (n : ℕ) (before : List Token) (d : Expectation) (s : List StackSymbol) (ts : List Token) (e : Expectation) (r : List StackSymbol) → Behind before d s → Shifts n d s ts e r → Behind (before ++ ts) e r
 leads_behind n before d s [] e r behind (a, b) = subst (λ z. Behind z e r) (sym (append-nil before)) (subst (λ z. Behind before z r) a (subst (Behind before d) b behind))
 leads_behind n before d s (t ∷ ts) e r behind (d', s', x, more) =
     subst (λ z. Behind z e r) (append_assoc before (t ∷ []) ts) (leads_behind n (before ++ t ∷ []) d' s' ts e r (step_behind n before d s t d' s' behind x) more)
@@ -173,8 +173,8 @@ leads_behind n before d s (t ∷ ts) e r behind (d', s', x, more) =
 -- ---- the three refusals
 
 -- what is so where a token has this answer
-abbrev KindOf : ℕ → Due → List Form → Token → Step → Type 0
-KindOf n d s t empty_tuple = (r : List Form) × (d ≡ first_item) × (s ≡ due.tuple ∷ r) × (t ≡ paren_close)
+abbrev KindOf : ℕ → Expectation → List StackSymbol → Token → Step → Type 0
+KindOf n d s t empty_tuple = (r : List StackSymbol) × (d ≡ first_item) × (s ≡ due.tuple ∷ r) × (t ≡ paren_close)
 KindOf n d s t repeated_flag = (names : List (List ℕ)) × (text : List ℕ) × (d ≡ due.flag names) × (t ≡ label text) × (is_one_of names (name_of text) ≡ true)
 KindOf n d s t too_deep = IsValueDue d × (n ≤ length s)
 KindOf n d s t _ = Unit {0}
@@ -186,7 +186,7 @@ IsPlain unexpected = Unit {0}
 IsPlain _ = ⊥
 
 -- of such an answer nothing more is said
-plain_kind : (n : ℕ) (d : Due) (s : List Form) (t : Token) (x : Step) → IsPlain x → KindOf n d s t x
+plain_kind : (n : ℕ) (d : Expectation) (s : List StackSymbol) (t : Token) (x : Step) → IsPlain x → KindOf n d s t x
 plain_kind n d s t (reads e r) h = tt
 plain_kind n d s t unexpected h = tt
 plain_kind n d s t x h = absurd h
@@ -197,14 +197,14 @@ plain_either true x y f g = f
 plain_either false x y f g = g
 
 -- where a value is due
-value_plain : (s : List Form) (t : Token) → IsPlain (value_step s t)
+value_plain : (s : List StackSymbol) (t : Token) → IsPlain (value_step s t)
 value_plain s paren_open = tt
 value_plain s bracket_open = tt
 value_plain s brace_open = tt
 value_plain s t = tt
 
 -- after a value
-behind_plain : (s : List Form) (t : Token) → IsPlain (behind_step s t)
+behind_plain : (s : List StackSymbol) (t : Token) → IsPlain (behind_step s t)
 behind_plain [] t = tt
 behind_plain (due.tuple ∷ s) comma = tt
 behind_plain (due.tuple ∷ s) paren_close = tt
@@ -216,32 +216,32 @@ behind_plain (due.entries ∷ s) brace_close = tt
 behind_plain (f ∷ s) t = tt
 
 -- a close
-closed_plain : (s : List Form) → IsPlain (closed s)
+closed_plain : (s : List StackSymbol) → IsPlain (closed s)
 closed_plain [] = tt
 closed_plain (f ∷ s) = tt
 
 -- where a key is due
-key_plain : (s : List Form) (t : Token) → IsPlain (key_step s t)
+key_plain : (s : List StackSymbol) (t : Token) → IsPlain (key_step s t)
 key_plain s brace_close = tt
 key_plain s t = tt
 
 -- in braces
-brace_plain : (s : List Form) (t : Token) → IsPlain (due.brace_step s t)
+brace_plain : (s : List StackSymbol) (t : Token) → IsPlain (due.brace_step s t)
 brace_plain s colon = tt
 brace_plain s t = tt
 
 -- after a flag
-behind_flag_plain : (names : List (List ℕ)) (s : List Form) (t : Token) → IsPlain (behind_flag_step names s t)
+behind_flag_plain : (names : List (List ℕ)) (s : List StackSymbol) (t : Token) → IsPlain (behind_flag_step names s t)
 behind_flag_plain names s comma = tt
 behind_flag_plain names s t = tt
 
 -- after the first label in braces
-word_plain : (text : List ℕ) (s : List Form) (t : Token) → IsPlain (due.word_behind_step text s t)
+word_plain : (text : List ℕ) (s : List StackSymbol) (t : Token) → IsPlain (due.word_behind_step text s t)
 word_plain text s colon = tt
 word_plain text s t = tt
 
 -- where a value is due a token may be too deep
-level_kind : (n : ℕ) (d : Due) (s : List Form) (t : Token) → IsValueDue d → KindOf n d s t (level_step n s t)
+level_kind : (n : ℕ) (d : Expectation) (s : List StackSymbol) (t : Token) → IsValueDue d → KindOf n d s t (level_step n s t)
 level_kind n d s t h = which (nat_lt (length s) n) refl
   where
     which : (b : Bool) → nat_lt (length s) n ≡ b → KindOf n d s t (level_step n s t)
@@ -249,25 +249,25 @@ level_kind n d s t h = which (nat_lt (length s) n) refl
     which false k = let full : n ≤ length s = grind arith in subst (λ b. KindOf n d s t (if b then value_step s t else too_deep)) (sym k) (h, full)
 
 -- where the first item is due an empty tuple may be closed
-first_kind : (n : ℕ) (s : List Form) (t : Token) → closes s t ≡ true → KindOf n first_item s t (closed_empty s)
+first_kind : (n : ℕ) (s : List StackSymbol) (t : Token) → closes s t ≡ true → KindOf n first_item s t (closed_empty s)
 first_kind n [] t h = tt
 first_kind n (due.tuple ∷ s) t h = (s, refl, refl, close_token due.tuple s t h)
 first_kind n (f ∷ s) t h = tt
 
 -- either of two answers, each where it is given
-kind_either : (n : ℕ) (d : Due) (s : List Form) (t : Token) (b : Bool) (x y : Step) → (b ≡ true → KindOf n d s t x) → KindOf n d s t y → KindOf n d s t (if b then x else y)
+kind_either : (n : ℕ) (d : Expectation) (s : List StackSymbol) (t : Token) (b : Bool) (x y : Step) → (b ≡ true → KindOf n d s t x) → KindOf n d s t y → KindOf n d s t (if b then x else y)
 kind_either n d s t true x y f g = f refl
 kind_either n d s t false x y f g = g
 
 -- where a further flag is due it may be repeated
-flag_kind : (n : ℕ) (names : List (List ℕ)) (s : List Form) (t : Token) → KindOf n (due.flag names) s t (flag_step names s t)
+flag_kind : (n : ℕ) (names : List (List ℕ)) (s : List StackSymbol) (t : Token) → KindOf n (due.flag names) s t (flag_step names s t)
 flag_kind n names s (label text) =
     kind_either n (due.flag names) s (label text) (is_one_of names (name_of text)) repeated_flag (reads (due.behind_flag (names ++ name_of text ∷ [])) s) (λ h. (names, text, refl, refl, h)) tt
 flag_kind n names s brace_close = tt
 flag_kind n names s t = tt
 
 -- each refusal is of its kind
-kind_there : (n : ℕ) (d : Due) (s : List Form) (t : Token) → KindOf n d s t (step n d s t)
+kind_there : (n : ℕ) (d : Expectation) (s : List StackSymbol) (t : Token) → KindOf n d s t (step n d s t)
 kind_there n value s t = level_kind n value s t tt
 kind_there n first_item s t = kind_either n first_item s t (closes s t) (closed_empty s) (level_step n s t) (first_kind n s t) (level_kind n first_item s t tt)
 kind_there n next_item s t = kind_either n next_item s t (closes s t) (closed s) (level_step n s t) (λ h. plain_kind n next_item s t (closed s) (closed_plain s)) (level_kind n next_item s t tt)
@@ -302,7 +302,7 @@ deep_there n front d s t led h =
     let (a_value, full) : KindOf n d s t too_deep = subst (KindOf n d s t) h (kind_there n d s t) in
     (a_value, room d a_value (leads_fit n value [] front d s (omega arith) led) full)
   where
-    room : (d : Due) → IsValueDue d → Fits n d s → n ≤ length s → length s ≡ n
+    room : (d : Expectation) → IsValueDue d → Fits n d s → n ≤ length s → length s ≡ n
     room value v fits full = omega arith
     room first_item v fits full = omega arith
     room next_item v fits full = omega arith

@@ -10,48 +10,48 @@ use Rattle.wave_grammar.specs.LeafTokens.{name_of}
 use Rattle.wave_grammar.specs.TypedGrammar.{InParens}
 use Rattle.wave_grammar.specs.Tree as tree
 use Rattle.wave_grammar.specs.Tree.{Tree, ATree, Takes, KeyAnd, Label, MaybeInParens, InBraces, BehindWord, IsKey, Word, word_of, leaf_word, none_word, some_word, ok_word, err_word, case_word}
-use Rattle.wave_grammar.specs.PrefixLaws.{EndsBefore, TreesAreLed}
+use Rattle.wave_grammar.specs.PrefixLaws.{EndsBefore, TreesAreAccepted}
 use Rattle.wave_grammar.specs.PrefixAutomaton as due
-use Rattle.wave_grammar.specs.PrefixAutomaton.{Due, Form, value, first_item, next_item, behind_value, behind_label, Step, too_deep, reads, step, Leads, closes, level_step, value_step, behind_step}
+use Rattle.wave_grammar.specs.PrefixAutomaton.{Expectation, StackSymbol, value, first_item, next_item, behind_value, behind_label, Step, too_deep, reads, step, Shifts, closes, level_step, value_step, behind_step}
 use Rattle.wave_grammar.proofs.Elaboration.GrammarToTree.{differ}
 
 -- one run of tokens and then another
-pub leads_join : (n : ℕ) (d e f : Due) (s r q : List Form) (ts us : List Token) → Leads n d s ts e r → Leads n e r us f q → Leads n d s (ts ++ us) f q
-leads_join n d e f s r q [] us (x, y) h = subst (λ z. Leads n z s us f q) (sym x) (subst (λ z. Leads n e z us f q) (sym y) h)
+pub leads_join : (n : ℕ) (d e f : Expectation) (s r q : List StackSymbol) (ts us : List Token) → Shifts n d s ts e r → Shifts n e r us f q → Shifts n d s (ts ++ us) f q
+leads_join n d e f s r q [] us (x, y) h = subst (λ z. Shifts n z s us f q) (sym x) (subst (λ z. Shifts n e z us f q) (sym y) h)
 leads_join n d e f s r q (t ∷ ts) us (d', s', x, more) h = (d', s', x, leads_join n d' e f s' r q ts us more h)
 
 -- tokens that lead from one place to another, and what is left after them
-abbrev pub LeadsTo : ℕ → Due → List Form → List Token → Due → List Form → List Token → Type 0
-LeadsTo n d s tokens e r rest = (front : List Token) × (tokens ≡ front ++ rest) × Leads n d s front e r
+abbrev pub LeadsTo : ℕ → Expectation → List StackSymbol → List Token → Expectation → List StackSymbol → List Token → Type 0
+LeadsTo n d s tokens e r rest = (front : List Token) × (tokens ≡ front ++ rest) × Shifts n d s front e r
 
 -- a token that is read, before others
-one : (n : ℕ) (d e f : Due) (s r v : List Form) (t : Token) (behind rest : List Token) → step n d s t ≡ reads e r → LeadsTo n e r behind f v rest → LeadsTo n d s (t ∷ behind) f v rest
+one : (n : ℕ) (d e f : Expectation) (s r v : List StackSymbol) (t : Token) (behind rest : List Token) → step n d s t ≡ reads e r → LeadsTo n e r behind f v rest → LeadsTo n d s (t ∷ behind) f v rest
 one n d e f s r v t behind rest x (front, same, leads) = (t ∷ front, ap (λ z. t ∷ z) same, (e, r, x, leads))
 
 -- no token
-none : (n : ℕ) (d : Due) (s : List Form) (tokens rest : List Token) → tokens ≡ rest → LeadsTo n d s tokens d s rest
+none : (n : ℕ) (d : Expectation) (s : List StackSymbol) (tokens rest : List Token) → tokens ≡ rest → LeadsTo n d s tokens d s rest
 none n d s tokens rest e = ([], e, (refl, refl))
 
 -- tokens and then those after them
-joined : (n : ℕ) (d e f : Due) (s r v : List Form) (tokens behind rest : List Token) → LeadsTo n d s tokens e r behind → LeadsTo n e r behind f v rest → LeadsTo n d s tokens f v rest
+joined : (n : ℕ) (d e f : Expectation) (s r v : List StackSymbol) (tokens behind rest : List Token) → LeadsTo n d s tokens e r behind → LeadsTo n e r behind f v rest → LeadsTo n d s tokens f v rest
 joined n d e f s r v tokens behind rest (front, same, leads) (front', same', leads') =
     (front ++ front', same ∙ (ap (λ z. front ++ z) same' ∙ sym (append_assoc front front' rest)), leads_join n d e f s r v front front' leads leads')
 
 -- after a value; where a payload might follow, no parenthesis stands
-abbrev pub IsEnd : Due → List Token → Type 0
+abbrev pub IsEnd : Expectation → List Token → Type 0
 IsEnd d rest = (d ≡ behind_value) ⊎ (d ≡ behind_label) × ((more : List Token) → rest ≢ paren_open ∷ more)
 
 -- each tree of P is led to, within the forms s
-abbrev pub AreLed : ℕ → List Form → Spelling Tree → Type 0
-AreLed n s P = (tokens : List Token) (t : Tree) (rest : List Token) → P tokens t rest → (d : Due) × IsEnd d rest × LeadsTo n value s tokens d s rest
+abbrev pub AreLed : ℕ → List StackSymbol → Spelling Tree → Type 0
+AreLed n s P = (tokens : List Token) (t : Tree) (rest : List Token) → P tokens t rest → (d : Expectation) × IsEnd d rest × LeadsTo n value s tokens d s rest
 
 -- a token that is no open parenthesis, where no payload stands
-label_step : (n : ℕ) (s : List Form) (t : Token) → t ≢ paren_open → step n behind_label s t ≡ behind_step s t
+label_step : (n : ℕ) (s : List StackSymbol) (t : Token) → t ≢ paren_open → step n behind_label s t ≡ behind_step s t
 label_step n s paren_open h = absurd (h refl)
 label_step n s t h = refl
 
 -- a token after a value
-pub end_step : (n : ℕ) (d : Due) (s : List Form) (t : Token) (more : List Token) → IsEnd d (t ∷ more) → step n d s t ≡ behind_step s t
+pub end_step : (n : ℕ) (d : Expectation) (s : List StackSymbol) (t : Token) (more : List Token) → IsEnd d (t ∷ more) → step n d s t ≡ behind_step s t
 end_step n d s t more (inl e) = ap (λ z. step n z s t) e
 end_step n d s t more (inr (e, k)) = ap (λ z. step n z s t) e ∙ label_step n s t (λ f. k more (ap (λ z. z ∷ more) f))
 
@@ -61,82 +61,82 @@ if_false true x y h = absurd (h refl)
 if_false false x y h = refl
 
 -- a level is left
-pub level_open : (n : ℕ) (s : List Form) (t : Token) → length s < n → level_step n s t ≡ value_step s t
+pub level_open : (n : ℕ) (s : List StackSymbol) (t : Token) → length s < n → level_step n s t ≡ value_step s t
 level_open n s t l = let k : nat_lt (length s) n ≡ true = grind arith in ap (λ b. if b then value_step s t else too_deep) k
 
 -- where an item is due and no close stands, a token does what it does where a value is due
-pub item_step : (n : ℕ) (d : Due) (s : List Form) (t : Token) → (d ≡ first_item) ⊎ (d ≡ next_item) → (closes s t ≡ true → ⊥) → step n value s t ≡ step n d s t
+pub item_step : (n : ℕ) (d : Expectation) (s : List StackSymbol) (t : Token) → (d ≡ first_item) ⊎ (d ≡ next_item) → (closes s t ≡ true → ⊥) → step n value s t ≡ step n d s t
 item_step n d s t (inl e) h = sym (ap (λ z. step n z s t) e ∙ if_false (closes s t) _ _ h)
 item_step n d s t (inr e) h = sym (ap (λ z. step n z s t) e ∙ if_false (closes s t) _ _ h)
 
 -- ---- items of a tuple or a list
 
 -- the form of items
-abbrev pub HasItems : Form → Type 0
+abbrev pub HasItems : StackSymbol → Type 0
 HasItems due.tuple = Unit {0}
 HasItems due.list = Unit {0}
 HasItems _ = ⊥
 
 -- the mark that closes a form
-abbrev pub close_of : Form → Token
+abbrev pub close_of : StackSymbol → Token
 close_of due.tuple = paren_close
 close_of due.list = bracket_close
 close_of due.payload = paren_close
 close_of due.entries = brace_close
 
 -- what closes the innermost form is its close
-pub close_token : (f : Form) (s : List Form) (t : Token) → closes (f ∷ s) t ≡ true → t ≡ close_of f
+pub close_token : (f : StackSymbol) (s : List StackSymbol) (t : Token) → closes (f ∷ s) t ≡ true → t ≡ close_of f
 close_token due.tuple s paren_close e = refl
 close_token due.list s bracket_close e = refl
 close_token f s t e = let w : false ≡ true = e in cc
 
 -- a token that is read where a value is due is on a level
-pub on_level : (b : Bool) (x : Step) (d : Due) (r : List Form) → if b then x else too_deep ≡ reads d r → x ≡ reads d r
+pub on_level : (b : Bool) (x : Step) (d : Expectation) (r : List StackSymbol) → if b then x else too_deep ≡ reads d r → x ≡ reads d r
 on_level true x d r e = e
 on_level false x d r e = cc
 
 -- no close begins a value
-no_close_reads : (n : ℕ) (f : Form) (s : List Form) (d : Due) (r : List Form) → HasItems f → step n value s (close_of f) ≡ reads d r → ⊥
+no_close_reads : (n : ℕ) (f : StackSymbol) (s : List StackSymbol) (d : Expectation) (r : List StackSymbol) → HasItems f → step n value s (close_of f) ≡ reads d r → ⊥
 no_close_reads n due.tuple s d r i h = let k : value_step s paren_close ≡ reads d r = on_level (nat_lt (length s) n) _ d r h in cc
 no_close_reads n due.list s d r i h = let k : value_step s bracket_close ≡ reads d r = on_level (nat_lt (length s) n) _ d r h in cc
 no_close_reads n f s d r i h = absurd i
 
 -- what begins with a value may stand where an item or the close may
-item_leads : (n : ℕ) (d : Due) (f : Form) (s : List Form) (tokens : List Token) (e : Due) (r : List Form) (rest : List Token) → HasItems f → (d ≡ first_item) ⊎ (d ≡ next_item) → (value ≡ e → ⊥) → LeadsTo n value (f ∷ s) tokens e r rest → LeadsTo n d (f ∷ s) tokens e r rest
+item_leads : (n : ℕ) (d : Expectation) (f : StackSymbol) (s : List StackSymbol) (tokens : List Token) (e : Expectation) (r : List StackSymbol) (rest : List Token) → HasItems f → (d ≡ first_item) ⊎ (d ≡ next_item) → (value ≡ e → ⊥) → LeadsTo n value (f ∷ s) tokens e r rest → LeadsTo n d (f ∷ s) tokens e r rest
 item_leads n d f s tokens e r rest i at apart ([], same, (x, y)) = absurd (apart x)
 item_leads n d f s tokens e r rest i at apart (t ∷ front, same, (d', s', x, leads)) =
     (t ∷ front, same, (d', s', sym (item_step n d (f ∷ s) t at (λ k. no_close_reads n f (f ∷ s) d' s' i (subst (λ z. step n value (f ∷ s) z ≡ reads d' s') (close_token f s t k) x))) ∙ x, leads))
 
 -- after a value no value is due
-pub end_not_value : (d : Due) (rest : List Token) → IsEnd d rest → value ≡ d → ⊥
+pub end_not_value : (d : Expectation) (rest : List Token) → IsEnd d rest → value ≡ d → ⊥
 end_not_value d rest (inl e) h = let k : value ≡ behind_value = h ∙ e in cc
 end_not_value d rest (inr (e, k)) h = let m : value ≡ behind_label = h ∙ e in cc
 
 -- after a value a comma or the close of its items
-pub comma_reads : (f : Form) (s : List Form) → HasItems f → behind_step (f ∷ s) comma ≡ reads next_item (f ∷ s)
+pub comma_reads : (f : StackSymbol) (s : List StackSymbol) → HasItems f → behind_step (f ∷ s) comma ≡ reads next_item (f ∷ s)
 comma_reads due.tuple s i = refl
 comma_reads due.list s i = refl
 comma_reads f s i = absurd i
 
 -- the close after a value
-pub close_reads : (f : Form) (s : List Form) → behind_step (f ∷ s) (close_of f) ≡ reads behind_value s
+pub close_reads : (f : StackSymbol) (s : List StackSymbol) → behind_step (f ∷ s) (close_of f) ≡ reads behind_value s
 close_reads due.tuple s = refl
 close_reads due.list s = refl
 close_reads due.payload s = refl
 close_reads due.entries s = refl
 
 -- the close after a comma
-pub next_closes : (n : ℕ) (f : Form) (s : List Form) → HasItems f → step n next_item (f ∷ s) (close_of f) ≡ reads behind_value s
+pub next_closes : (n : ℕ) (f : StackSymbol) (s : List StackSymbol) → HasItems f → step n next_item (f ∷ s) (close_of f) ≡ reads behind_value s
 next_closes n due.tuple s i = refl
 next_closes n due.list s i = refl
 next_closes n f s i = absurd i
 
 -- a form is closed after its value
-form_closes : (n : ℕ) (d : Due) (f : Form) (s : List Form) (rest : List Token) → IsEnd d (close_of f ∷ rest) → LeadsTo n d (f ∷ s) (close_of f ∷ rest) behind_value s rest
+form_closes : (n : ℕ) (d : Expectation) (f : StackSymbol) (s : List StackSymbol) (rest : List Token) → IsEnd d (close_of f ∷ rest) → LeadsTo n d (f ∷ s) (close_of f ∷ rest) behind_value s rest
 form_closes n d f s rest h = one n d behind_value behind_value (f ∷ s) s s (close_of f) rest rest (end_step n d (f ∷ s) (close_of f) rest h ∙ close_reads f s) (none n behind_value s rest rest refl)
 
 -- the further items of a tuple or a list
-further_led : (n : ℕ) (f : Form) (s : List Form) (P : Spelling Tree) → HasItems f → AreLed n (f ∷ s) P → (tokens : List Token) (items : List Tree) (rest : List Token) (d : Due) → IsEnd d tokens → FurtherItems (close_of f) P tokens items rest → LeadsTo n d (f ∷ s) tokens behind_value s rest
+further_led : (n : ℕ) (f : StackSymbol) (s : List StackSymbol) (P : Spelling Tree) → HasItems f → AreLed n (f ∷ s) P → (tokens : List Token) (items : List Tree) (rest : List Token) (d : Expectation) → IsEnd d tokens → FurtherItems (close_of f) P tokens items rest → LeadsTo n d (f ∷ s) tokens behind_value s rest
 further_led n f s P i led tokens [] rest d h (inl e) = subst (λ z. LeadsTo n d (f ∷ s) z behind_value s rest) (sym e) (form_closes n d f s rest (subst (IsEnd d) e h))
 further_led n f s P i led tokens [] rest d h (inr e) = subst (λ z. LeadsTo n d (f ∷ s) z behind_value s rest) (sym e)
     (one n d next_item behind_value (f ∷ s) (f ∷ s) s comma (close_of f ∷ rest) rest (end_step n d (f ∷ s) comma (close_of f ∷ rest) (subst (IsEnd d) e h) ∙ comma_reads f s i)
@@ -149,7 +149,7 @@ further_led n f s P i led tokens (a ∷ more) rest d h (front, behind, e, p, k) 
     (further_led n f s P i led behind more rest d' h' k)))
 
 -- the items of a tuple or a list
-items_led : (n : ℕ) (f : Form) (s : List Form) (P : Spelling Tree) → HasItems f → AreLed n (f ∷ s) P → (tokens : List Token) (a : Tree) (more : List Tree) (rest : List Token) → Items (close_of f) P tokens (a ∷ more) rest → LeadsTo n first_item (f ∷ s) tokens behind_value s rest
+items_led : (n : ℕ) (f : StackSymbol) (s : List StackSymbol) (P : Spelling Tree) → HasItems f → AreLed n (f ∷ s) P → (tokens : List Token) (a : Tree) (more : List Tree) (rest : List Token) → Items (close_of f) P tokens (a ∷ more) rest → LeadsTo n first_item (f ∷ s) tokens behind_value s rest
 items_led n f s P i led tokens a more rest (behind, p, k) =
     let (d', h', leads) = led tokens a behind p in
     joined n first_item d' behind_value (f ∷ s) (f ∷ s) s tokens behind rest (item_leads n first_item f s tokens d' (f ∷ s) behind i (inl refl) (end_not_value d' behind h') leads)
@@ -158,7 +158,7 @@ items_led n f s P i led tokens a more rest (behind, p, k) =
 -- ---- payloads and labels
 
 -- a payload in its parentheses
-in_parens : (n : ℕ) (s : List Form) (P : Spelling Tree) → AreLed n (due.payload ∷ s) P → (d : Due) → step n d s paren_open ≡ reads value (due.payload ∷ s) → (tokens : List Token) (t : Tree) (rest : List Token) → InParens P tokens t rest →
+in_parens : (n : ℕ) (s : List StackSymbol) (P : Spelling Tree) → AreLed n (due.payload ∷ s) P → (d : Expectation) → step n d s paren_open ≡ reads value (due.payload ∷ s) → (tokens : List Token) (t : Tree) (rest : List Token) → InParens P tokens t rest →
     LeadsTo n d s tokens behind_value s rest
 in_parens n s P led d x tokens t rest (front, e, p) =
     let (d', h', leads) = led front t (paren_close ∷ rest) p in
@@ -166,13 +166,13 @@ in_parens n s P led d x tokens t rest (front, e, p) =
     (joined n value d' behind_value (due.payload ∷ s) (due.payload ∷ s) s front (paren_close ∷ rest) rest leads (form_closes n d' due.payload s rest h')))
 
 -- a payload, or none
-maybe_led : (n : ℕ) (s : List Form) (P : Spelling Tree) → AreLed n (due.payload ∷ s) P → (tokens : List Token) (t : tree.MaybeTree) (rest : List Token) → MaybeInParens P tokens t rest → (d : Due) × IsEnd d rest × LeadsTo n behind_label s tokens d s rest
+maybe_led : (n : ℕ) (s : List StackSymbol) (P : Spelling Tree) → AreLed n (due.payload ∷ s) P → (tokens : List Token) (t : tree.MaybeTree) (rest : List Token) → MaybeInParens P tokens t rest → (d : Expectation) × IsEnd d rest × LeadsTo n behind_label s tokens d s rest
 maybe_led n s P led tokens t rest (inl (e, apart, f)) = (behind_label, inr (refl, apart), none n behind_label s tokens rest e)
 maybe_led n s P led tokens t rest (inr (u, p, f)) = (behind_value, inl refl, in_parens n s P led behind_label refl tokens u rest p)
 
 -- what stands after a label
-word_led : (n : ℕ) (s : List Form) (P : Spelling Tree) → AreLed n (due.payload ∷ s) P → (w : Word) (text : List ℕ) (tokens : List Token) (t : Tree) (rest : List Token) → BehindWord w text P tokens t rest →
-    (d : Due) × IsEnd d rest × LeadsTo n (due.due_behind w) s tokens d s rest
+word_led : (n : ℕ) (s : List StackSymbol) (P : Spelling Tree) → AreLed n (due.payload ∷ s) P → (w : Word) (text : List ℕ) (tokens : List Token) (t : Tree) (rest : List Token) → BehindWord w text P tokens t rest →
+    (d : Expectation) × IsEnd d rest × LeadsTo n (due.due_behind w) s tokens d s rest
 word_led n s P led leaf_word text tokens t rest (e, f) = (behind_value, inl refl, none n behind_value s tokens rest e)
 word_led n s P led none_word text tokens t rest (e, f) = (behind_value, inl refl, none n behind_value s tokens rest e)
 word_led n s P led some_word text tokens t rest (u, p, f) = (behind_value, inl refl, in_parens n s P led due.paren refl tokens u rest p)
@@ -183,7 +183,7 @@ word_led n s P led case_word text tokens t rest (u, p, f) = maybe_led n s P led 
 -- ---- entries
 
 -- a key where one is due after a comma
-pub key_there : (n : ℕ) (s : List Form) (t : Token) → IsKey t → step n due.key s t ≡ reads due.behind_key s
+pub key_there : (n : ℕ) (s : List StackSymbol) (t : Token) → IsKey t → step n due.key s t ≡ reads due.behind_key s
 key_there n s (number text) h = refl
 key_there n s (label text) h = refl
 key_there n s (char text) h = refl
@@ -192,7 +192,7 @@ key_there n s (multiline text) h = refl
 key_there n s t h = absurd h
 
 -- the first key in braces, and its colon
-first_key : (n : ℕ) (s : List Form) (t : Token) (front rest : List Token) (d : Due) (r : List Form) → IsKey t → LeadsTo n value (due.entries ∷ s) front d r rest → LeadsTo n due.in_braces s (t ∷ colon ∷ front) d r rest
+first_key : (n : ℕ) (s : List StackSymbol) (t : Token) (front rest : List Token) (d : Expectation) (r : List StackSymbol) → IsKey t → LeadsTo n value (due.entries ∷ s) front d r rest → LeadsTo n due.in_braces s (t ∷ colon ∷ front) d r rest
 first_key n s (number text) front rest d r h leads = one n due.in_braces due.behind_key d s s r (number text) (colon ∷ front) rest refl (one n due.behind_key value d s (due.entries ∷ s) r colon front rest refl leads)
 first_key n s (label text) front rest d r h leads = one n due.in_braces (due.behind_word text) d s s r (label text) (colon ∷ front) rest refl (one n (due.behind_word text) value d s (due.entries ∷ s) r colon front rest refl leads)
 first_key n s (char text) front rest d r h leads = one n due.in_braces due.behind_key d s s r (char text) (colon ∷ front) rest refl (one n due.behind_key value d s (due.entries ∷ s) r colon front rest refl leads)
@@ -201,7 +201,7 @@ first_key n s (multiline text) front rest d r h leads = one n due.in_braces due.
 first_key n s t front rest d r h leads = absurd h
 
 -- the further entries of braces
-entries_further : (n : ℕ) (s : List Form) (P : Spelling Tree) → AreLed n (due.entries ∷ s) P → (tokens : List Token) (es : List (Token × Tree)) (rest : List Token) (d : Due) → IsEnd d tokens → FurtherItems brace_close (KeyAnd P) tokens es rest →
+entries_further : (n : ℕ) (s : List StackSymbol) (P : Spelling Tree) → AreLed n (due.entries ∷ s) P → (tokens : List Token) (es : List (Token × Tree)) (rest : List Token) (d : Expectation) → IsEnd d tokens → FurtherItems brace_close (KeyAnd P) tokens es rest →
     LeadsTo n d (due.entries ∷ s) tokens behind_value s rest
 entries_further n s P led tokens [] rest d h (inl e) = subst (λ z. LeadsTo n d (due.entries ∷ s) z behind_value s rest) (sym e)
     (form_closes n d due.entries s rest (subst (IsEnd d) e h))
@@ -218,7 +218,7 @@ entries_further n s P led tokens (a ∷ more) rest d h (front, behind, e, (insid
     (joined n value d' behind_value (due.entries ∷ s) (due.entries ∷ s) s inside behind rest leads (entries_further n s P led behind more rest d' h' g)))))
 
 -- the entries of braces
-entries_led : (n : ℕ) (s : List Form) (P : Spelling Tree) → AreLed n (due.entries ∷ s) P → (tokens : List Token) (es : List (Token × Tree)) (rest : List Token) → 0 < length es → Items brace_close (KeyAnd P) tokens es rest →
+entries_led : (n : ℕ) (s : List StackSymbol) (P : Spelling Tree) → AreLed n (due.entries ∷ s) P → (tokens : List Token) (es : List (Token × Tree)) (rest : List Token) → 0 < length es → Items brace_close (KeyAnd P) tokens es rest →
     LeadsTo n due.in_braces s tokens behind_value s rest
 entries_led n s P led tokens [] rest l h = absurd (omega arith)
 entries_led n s P led tokens (a ∷ more) rest l (behind, (inside, f, k, p), g) =
@@ -263,7 +263,7 @@ none_in_nil [] = tt
 none_in_nil (x ∷ more) = (refl, none_in_nil more)
 
 -- the further flags
-flags_further : (n : ℕ) (s : List Form) (names : List (List ℕ)) (tokens : List Token) (texts : List (List ℕ)) (rest : List Token) → AllNew names (map name_of texts) → FurtherItems brace_close Label tokens texts rest →
+flags_further : (n : ℕ) (s : List StackSymbol) (names : List (List ℕ)) (tokens : List Token) (texts : List (List ℕ)) (rest : List Token) → AllNew names (map name_of texts) → FurtherItems brace_close Label tokens texts rest →
     LeadsTo n (due.behind_flag names) s tokens behind_value s rest
 flags_further n s names tokens [] rest h (inl e) = subst (λ z. LeadsTo n (due.behind_flag names) s z behind_value s rest) (sym e)
     (one n (due.behind_flag names) behind_value behind_value s s s brace_close rest rest refl (none n behind_value s rest rest refl))
@@ -277,7 +277,7 @@ flags_further n s names tokens (x ∷ more) rest (a, h) (front, behind, e, f, k)
     (flags_further n s (names ++ name_of x ∷ []) behind more rest h k)))
 
 -- after the first flag a colon would make it a key
-word_further : (n : ℕ) (s : List Form) (text : List ℕ) (tokens : List Token) (texts : List (List ℕ)) (rest : List Token) → AllNew (name_of text ∷ []) (map name_of texts) → FurtherItems brace_close Label tokens texts rest →
+word_further : (n : ℕ) (s : List StackSymbol) (text : List ℕ) (tokens : List Token) (texts : List (List ℕ)) (rest : List Token) → AllNew (name_of text ∷ []) (map name_of texts) → FurtherItems brace_close Label tokens texts rest →
     LeadsTo n (due.behind_word text) s tokens behind_value s rest
 word_further n s text tokens [] rest h (inl e) = subst (λ z. LeadsTo n (due.behind_word text) s z behind_value s rest) (sym e)
     (one n (due.behind_word text) behind_value behind_value s s s brace_close rest rest refl (none n behind_value s rest rest refl))
@@ -291,7 +291,7 @@ word_further n s text tokens (x ∷ more) rest (a, h) (front, behind, e, f, k) =
     (flags_further n s (name_of text ∷ name_of x ∷ []) behind more rest h k)))
 
 -- the flags of braces
-flags_led : (n : ℕ) (s : List Form) (tokens : List Token) (texts : List (List ℕ)) (rest : List Token) → 0 < length texts → AreDistinct (map name_of texts) → Items brace_close Label tokens texts rest → LeadsTo n due.in_braces s tokens behind_value s rest
+flags_led : (n : ℕ) (s : List StackSymbol) (tokens : List Token) (texts : List (List ℕ)) (rest : List Token) → 0 < length texts → AreDistinct (map name_of texts) → Items brace_close Label tokens texts rest → LeadsTo n due.in_braces s tokens behind_value s rest
 flags_led n s tokens [] rest l d h = absurd (omega arith)
 flags_led n s tokens (x ∷ more) rest l (b, d) (behind, f, k) =
     subst (λ z. LeadsTo n due.in_braces s z behind_value s rest) (sym f)
@@ -301,11 +301,11 @@ flags_led n s tokens (x ∷ more) rest l (b, d) (behind, f, k) =
 -- ---- all trees
 
 -- a token that begins a value
-opens : (n : ℕ) (s : List Form) (t : Token) (d : Due) (r : List Form) → length s < n → value_step s t ≡ reads d r → step n value s t ≡ reads d r
+opens : (n : ℕ) (s : List StackSymbol) (t : Token) (d : Expectation) (r : List StackSymbol) → length s < n → value_step s t ≡ reads d r → step n value s t ≡ reads d r
 opens n s t d r l e = level_open n s t l ∙ e
 
 -- a tree, where the trees in it are led to
-tree_led : (n : ℕ) (s : List Form) (P : Spelling Tree) → length s < n → ((f : Form) → AreLed n (f ∷ s) P) → AreLed n s (ATree P)
+tree_led : (n : ℕ) (s : List StackSymbol) (P : Spelling Tree) → length s < n → ((f : StackSymbol) → AreLed n (f ∷ s) P) → AreLed n s (ATree P)
 tree_led n s P l led [] t rest h = absurd h
 tree_led n s P l led (paren_open ∷ front) t rest ([], some, h, e) = absurd (omega arith)
 tree_led n s P l led (paren_open ∷ front) t rest (a ∷ more, some, h, e) =
@@ -336,17 +336,17 @@ tree_led n s P l led (multiline text ∷ behind) t rest (e, f) = (behind_value, 
 tree_led n s P l led (token ∷ behind) t rest h = absurd h
 
 -- each tree within k levels is led to where k more forms may be opened
-pub takes_lead : (k n : ℕ) (s : List Form) → k + length s ≤ n → AreLed n s (Takes k)
+pub takes_lead : (k n : ℕ) (s : List StackSymbol) → k + length s ≤ n → AreLed n s (Takes k)
 takes_lead zero n s l = λ tokens t rest h. absurd h
 takes_lead (suc k) n s l = tree_led n s (Takes k) (omega arith) (λ f. takes_lead k n (f ∷ s) (omega arith))
 
 -- no more is due of a value
-pub end_before : (d : Due) (rest : List Token) → IsEnd d rest → EndsBefore d rest
+pub end_before : (d : Expectation) (rest : List Token) → IsEnd d rest → EndsBefore d rest
 end_before d rest (inl e) = subst (λ z. EndsBefore z rest) (sym e) tt
 end_before d rest (inr (e, k)) = subst (λ z. EndsBefore z rest) (sym e) k
 
 -- each tree is led to from where no form is open
-pub trees_are_led : TreesAreLed
-trees_are_led n tokens rest t h =
+pub trees_are_accepted : TreesAreAccepted
+trees_are_accepted n tokens rest t h =
     let (d, ends, (front, same, leads)) = takes_lead n n [] (omega arith) tokens t rest h in
     (front, d, same, end_before d rest ends, leads)

@@ -15,7 +15,7 @@ use Rattle.wave_lex.specs.declared.error.ParserErrorKind.TheVariants.{InvalidTyp
 use Rattle.wave_grammar.specs.Tree as form
 use Rattle.wave_grammar.specs.LeafTokens.{name_of}
 use Rattle.wave_grammar.specs.Elaborates.{TreeReads}
-use Rattle.wave_grammar.specs.SpannedTree.{Placed, Shape, at, label, MaybePlaced, no_placed, a_placed, slice, span_of, shape_of, tree_of}
+use Rattle.wave_grammar.specs.SpannedTree.{SpannedTree, SpannedShape, at, label, MaybePlaced, no_placed, a_placed, slice, span_of, shape_of, tree_of}
 use Rattle.wave_grammar.specs.TypeErrors.{Blame, IsRefusalOf, RefusesFor, OfForm, Fault, label_in}
 use Rattle.wave_grammar.specs.FaultOrder.{Order, FirstFault}
 use Rattle.wave_grammar.specs.NodeTree.{NodeTree, type_of, place_of}
@@ -36,12 +36,12 @@ use Rattle.wave_wasm.proofs.TypeKinds.{formed_as}
 pub enum_is : (T : TypeTree) → kinds.Enum ≡ kind_of T → (names : List (List ℕ)) → names ≡ enum_names T → T ≡ type.enum names
 enum_is T e names h = let (all, is) = formed_as kinds.Enum T e in is ∙ ap type.enum (sym (h ∙ ap enum_names is))
 
-label_shape : (p : Range ℕ) (text : List ℕ) (cs : List Placed) (s : Shape) → shape_from kind.Label p text cs ≡ Some s → s ≡ label p text no_placed
+label_shape : (p : Range ℕ) (text : List ℕ) (cs : List SpannedTree) (s : SpannedShape) → shape_from kind.Label p text cs ≡ Some s → s ≡ label p text no_placed
 label_shape p text [] s e = sym (some_is _ _ e)
 label_shape p text (c ∷ more) s e = absurd (cc)
 
 -- a label alone
-pub label_node : (source : List ℕ) (n : NodeTree) (t : Placed) → placed_of source n ≡ Some t → type_of n ≡ kind.Label → shape_of t ≡ label (place_of n) (node_text source n) no_placed
+pub label_node : (source : List ℕ) (n : NodeTree) (t : SpannedTree) → placed_of source n ≡ Some t → type_of n ≡ kind.Label → shape_of t ≡ label (place_of n) (node_text source n) no_placed
 label_node source n t e is =
     let i = inside source n t e in
     label_shape (place_of n) (slice source (place_of n)) i.children (shape_of t) (shape_at kind.Label source n t i is)
@@ -50,31 +50,31 @@ label_node source n t e is =
 abbrev EnumFault : List (List ℕ) → Range ℕ → (List ℕ × MaybePlaced) → Blame
 EnumFault names p l k q = (l.1 ≢ no_placed) × IsRefusalOf InvalidType p k q ⊎ (l.1 ≡ no_placed) × IsNoneOf names (name_of l.0) × RefusesFor (unknown_case (name_of l.0)) p k q
 
-no_label : (names : List (List ℕ)) (ty : NodeType) (p r : Range ℕ) (text : List ℕ) (cs : List Placed) (s : Shape) (k : Refusal) (q : Range ℕ) → From ty p text cs s → ty ≢ kind.Label → IsRefusalOf InvalidType r k q → OfForm (label_in s) r (EnumFault names r) k q
+no_label : (names : List (List ℕ)) (ty : NodeType) (p r : Range ℕ) (text : List ℕ) (cs : List SpannedTree) (s : SpannedShape) (k : Refusal) (q : Range ℕ) → From ty p text cs s → ty ≢ kind.Label → IsRefusalOf InvalidType r k q → OfForm (label_in s) r (EnumFault names r) k q
 no_label names ty p r text cs (label w v no_placed) k q f apart refused = absurd (apart f.0)
 no_label names ty p r text cs (label w v (a_placed u)) k q f apart refused = inl ((λ e. cc), refused)
 no_label names ty p r text cs _ k q f apart refused = refused
 
 -- a node that is no label alone
-pub enum_fault : (o w : Order) (names : List (List ℕ)) (source : List ℕ) (n : NodeTree) (t : Placed) (k : Refusal) (q : Range ℕ) → placed_of source n ≡ Some t → type_of n ≢ kind.Label → IsRefusalOf InvalidType (place_of n) k q → FirstFault o w (type.enum names) t k q
+pub enum_fault : (o w : Order) (names : List (List ℕ)) (source : List ℕ) (n : NodeTree) (t : SpannedTree) (k : Refusal) (q : Range ℕ) → placed_of source n ≡ Some t → type_of n ≢ kind.Label → IsRefusalOf InvalidType (place_of n) k q → FirstFault o w (type.enum names) t k q
 enum_fault o w names source n t k q e apart refused =
     let i = inside source n t e in
     no_label names (type_of n) (place_of n) (span_of t) (slice source (place_of n)) i.children (shape_of t) k q i.from apart (at_tree InvalidType (place_of n) (span_of t) k q i.place refused)
 
 -- a label that is no case
-pub unknown_fault : (o w : Order) (names : List (List ℕ)) (t : Placed) (p : Range ℕ) (text : List ℕ) (k : Refusal) (q : Range ℕ) → shape_of t ≡ label p text no_placed → IsNoneOf names (name_of text) → RefusesFor (unknown_case (name_of text)) (span_of t) k q → FirstFault o w (type.enum names) t k q
+pub unknown_fault : (o w : Order) (names : List (List ℕ)) (t : SpannedTree) (p : Range ℕ) (text : List ℕ) (k : Refusal) (q : Range ℕ) → shape_of t ≡ label p text no_placed → IsNoneOf names (name_of text) → RefusesFor (unknown_case (name_of text)) (span_of t) k q → FirstFault o w (type.enum names) t k q
 unknown_fault o w names t p text k q shape none refused =
-    subst (λ (s : Shape). OfForm (label_in s) (span_of t) (EnumFault names (span_of t)) k q) (sym shape) (inr (refl, none, refused))
+    subst (λ (s : SpannedShape). OfForm (label_in s) (span_of t) (EnumFault names (span_of t)) k q) (sym shape) (inr (refl, none, refused))
 
 module _ {V : Type 0} (tree : V → Value) (of : V → TypeTree → Type 0) (Full : TypeTree → Type 0) (o w : Order) where
   -- the refusal of a label that is no case
-  pub unknown_blame : (T : TypeTree) (names : List (List ℕ)) (source : List ℕ) (n : NodeTree) (t : Placed) (name : List ℕ) (e : Diagnostic) → T ≡ type.enum names → placed_of source n ≡ Some t → type_of n ≡ kind.Label → name ≡ name_of (node_text source n) → IsNoneOf names name → IsCaused (unknown_case name) n e → IsBlamed Full o w T t e
+  pub unknown_blame : (T : TypeTree) (names : List (List ℕ)) (source : List ℕ) (n : NodeTree) (t : SpannedTree) (name : List ℕ) (e : Diagnostic) → T ≡ type.enum names → placed_of source n ≡ Some t → type_of n ≡ kind.Label → name ≡ name_of (node_text source n) → IsNoneOf names name → IsCaused (unknown_case name) n e → IsBlamed Full o w T t e
   unknown_blame T names source n t name e is node ty named none caused =
       caused_blame Full o w T source n t (unknown_case name) e node caused (λ refused.
       let fault : FirstFault o w (type.enum names) t (refusal_of e) e.span = unknown_fault o w names t (place_of n) (node_text source n) (refusal_of e) e.span (label_node source n t node ty) (subst (IsNoneOf names) named none) (subst (λ (w : List ℕ). RefusesFor (unknown_case w) (span_of t) (refusal_of e) e.span) named refused) in
       subst (λ (U : TypeTree). FirstFault o w U t (refusal_of e) e.span) (sym is) fault)
 
-  enum_reads : (T : TypeTree) (names : List (List ℕ)) (t : Placed) (name : List ℕ) (m : Result V WasmValueError) → T ≡ type.enum names → HasDistinctNames T → TreeReads (type.enum names) (tree_of t) (value.enum name) → IfOk m (MakesEnum tree of T name) → IfOk m (IsTypedValue tree of T t)
+  enum_reads : (T : TypeTree) (names : List (List ℕ)) (t : SpannedTree) (name : List ℕ) (m : Result V WasmValueError) → T ≡ type.enum names → HasDistinctNames T → TreeReads (type.enum names) (tree_of t) (value.enum name) → IfOk m (MakesEnum tree of T name) → IfOk m (IsTypedValue tree of T t)
   enum_reads T names t name (Ok v) is distinct read h =
       let makes = h distinct in
       record { reads = subst (λ (U : TypeTree). TreeReads U (tree_of t) (tree v)) (sym is) (subst (λ (w : Value). TreeReads (type.enum names) (tree_of t) w) (sym makes.means) read); is_of = makes.is_of }
@@ -85,7 +85,7 @@ module _ {V : Type 0} (tree : V → Value) (of : V → TypeTree → Type 0) (Ful
   enum_full T names name (Err cause) is h f = λ full. f full names is h
 
   -- the case was made, or its constructor refused
-  pub enum_made : (T : TypeTree) (names : List (List ℕ)) (source : List ℕ) (n : NodeTree) (t : Placed) (name : List ℕ) (m : Result V WasmValueError) (r : Result V Diagnostic) → T ≡ type.enum names → HasDistinctNames T → placed_of source n ≡ Some t → type_of n ≡ kind.Label → name ≡ name_of (node_text source n) → IsOneOf names name → IfOk m (MakesEnum tree of T name) → IfErr m (FullEnum of Full T name) → IsMade n m r → MatchResult r (IsTypedValue tree of T t) (IsBlamed Full o w T t)
+  pub enum_made : (T : TypeTree) (names : List (List ℕ)) (source : List ℕ) (n : NodeTree) (t : SpannedTree) (name : List ℕ) (m : Result V WasmValueError) (r : Result V Diagnostic) → T ≡ type.enum names → HasDistinctNames T → placed_of source n ≡ Some t → type_of n ≡ kind.Label → name ≡ name_of (node_text source n) → IsOneOf names name → IfOk m (MakesEnum tree of T name) → IfErr m (FullEnum of Full T name) → IsMade n m r → MatchResult r (IsTypedValue tree of T t) (IsBlamed Full o w T t)
   enum_made T names source n t name m r is distinct node ty named known ok full done =
       let shape = label_node source n t node ty in
       let read : TreeReads (type.enum names) (tree_of t) (value.enum name) = (node_text source n, tree_is t (label (place_of n) (node_text source n) no_placed) shape, subst (IsOneOf names) named known, ap value.enum named) in
@@ -100,7 +100,7 @@ none_one (n ∷ names) name none (inl e) = none.0 e
 none_one (n ∷ names) name none (inr h) = none_one names name none.1 h
 
 -- an enum's fault leaves no value
-pub enum_none : (names : List (List ℕ)) (t : Placed) (k : Refusal) (q : Range ℕ) (v : Value) → Fault (type.enum names) t k q → TreeReads (type.enum names) (tree_of t) v → ⊥
+pub enum_none : (names : List (List ℕ)) (t : SpannedTree) (k : Refusal) (q : Range ℕ) (v : Value) → Fault (type.enum names) t k q → TreeReads (type.enum names) (tree_of t) v → ⊥
 enum_none names (at p (label r w no_placed)) k q v (inl h) (text, e, known, f) = h.0 refl
 enum_none names (at p (label r w no_placed)) k q v (inr h) (text, e, known, f) = none_one names (name_of w) h.1 (subst (λ (x : List ℕ). IsOneOf names (name_of x)) (sym (same_text w text e)) known)
   where

@@ -17,7 +17,7 @@ use Rattle.wave_lex.specs.declared.error.ParserErrorKind.TheVariants.{InvalidTyp
 use Rattle.wave_grammar.specs.Tree as form
 use Rattle.wave_grammar.specs.LeafTokens.{name_of}
 use Rattle.wave_grammar.specs.Elaborates.{TreeReads}
-use Rattle.wave_grammar.specs.SpannedTree.{Placed, Shape, at, empty_braces, flags, slice, span_of, shape_of, tree_of}
+use Rattle.wave_grammar.specs.SpannedTree.{SpannedTree, SpannedShape, at, empty_braces, flags, slice, span_of, shape_of, tree_of}
 use Rattle.wave_grammar.specs.TypeErrors.{Blame, IsRefusalOf, RefusesFor, OfForm, Fault, flags_in}
 use Rattle.wave_grammar.specs.FaultOrder.{Order, FirstOf, FirstFault}
 use Rattle.wave_grammar.specs.NodeTree.{NodeTree, type_of, place_of, children_of}
@@ -56,7 +56,7 @@ FlagsFault names p fs = FirstOf (λ f k q. FlagFault names p (name_of f.1) k q) 
 abbrev SomeFlagFault : List (List ℕ) → Range ℕ → List (Range ℕ × List ℕ) → Blame
 SomeFlagFault names p fs k q = SomeOf (λ f. FlagFault names p (name_of f.1) k q) fs
 
-no_flags : (names : List (List ℕ)) (ty : NodeType) (p r : Range ℕ) (text : List ℕ) (cs : List Placed) (s : Shape) (k : Refusal) (q : Range ℕ) → From ty p text cs s → ty ≢ kind.Flags → ty ≢ kind.EmptySet → IsRefusalOf InvalidType r k q → OfForm (flags_in s) r (FlagsFault names r) k q
+no_flags : (names : List (List ℕ)) (ty : NodeType) (p r : Range ℕ) (text : List ℕ) (cs : List SpannedTree) (s : SpannedShape) (k : Refusal) (q : Range ℕ) → From ty p text cs s → ty ≢ kind.Flags → ty ≢ kind.EmptySet → IsRefusalOf InvalidType r k q → OfForm (flags_in s) r (FlagsFault names r) k q
 no_flags names ty p r text cs (flags fs) k q f x y refused = absurd (x f.0)
 no_flags names ty p r text cs empty_braces k q f x y refused = absurd (y f.0)
 no_flags names ty p r text cs _ k q f x y refused = refused
@@ -66,7 +66,7 @@ first_label names p [] n e place h = h
 first_label names p (f ∷ fs) n e place (inl h) = inl (h.0, (h.1.0, h.1.1 ∙ sym place))
 first_label names p (f ∷ fs) n e place (inr h) = inr ((λ k q fault. none_one names (name_of f.1) fault.0 h.0), first_label names p fs n e place h.1)
 
-label_fault : (o w : Order) (names : List (List ℕ)) (source : List ℕ) (n : NodeTree) (t : Placed) (e : Diagnostic) (g : FlagsNode source n t) → span_of t ≡ place_of n → IsFirstUnknown names (names_at source (children_of n)) n e → FirstFault o w (type.flags names) t (refusal_of e) e.span
+label_fault : (o w : Order) (names : List (List ℕ)) (source : List ℕ) (n : NodeTree) (t : SpannedTree) (e : Diagnostic) (g : FlagsNode source n t) → span_of t ≡ place_of n → IsFirstUnknown names (names_at source (children_of n)) n e → FirstFault o w (type.flags names) t (refusal_of e) e.span
 label_fault o w names source n t e g place some = in_form g.form
   where
     here : FlagsFault names (span_of t) g.labels (refusal_of e) e.span
@@ -74,11 +74,11 @@ label_fault o w names source n t e g place some = in_form g.form
 
     in_form : (shape_of t ≡ empty_braces) × (g.labels ≡ []) ⊎ (shape_of t ≡ flags g.labels) → FirstFault o w (type.flags names) t (refusal_of e) e.span
     in_form (inl h) = absurd (subst (λ (fs : List (Range ℕ × List ℕ)). FlagsFault names (span_of t) fs (refusal_of e) e.span) h.1 here)
-    in_form (inr h) = subst (λ (s : Shape). OfForm (flags_in s) (span_of t) (FlagsFault names (span_of t)) (refusal_of e) e.span) (sym h) here
+    in_form (inr h) = subst (λ (s : SpannedShape). OfForm (flags_in s) (span_of t) (FlagsFault names (span_of t)) (refusal_of e) e.span) (sym h) here
 
 module _ {V : Type 0} (tree : V → Value) (of : V → TypeTree → Type 0) (Full : TypeTree → Type 0) (o w : Order) where
   -- a refusal of the node's flags
-  pub flags_blame : (T : TypeTree) (names : List (List ℕ)) (source : List ℕ) (n : NodeTree) (t : Placed) (e : Diagnostic) → T ≡ type.flags names → IsNodeOf source n t → RefusesFlags names source n e → IsBlamed Full o w T t e
+  pub flags_blame : (T : TypeTree) (names : List (List ℕ)) (source : List ℕ) (n : NodeTree) (t : SpannedTree) (e : Diagnostic) → T ≡ type.flags names → IsNodeOf source n t → RefusesFlags names source n e → IsBlamed Full o w T t e
   flags_blame T names source n t e is node (inl memory) = inl memory
   flags_blame T names source n t e is node (inr (inl h)) =
       let i = inside source n t node.0 in
@@ -87,7 +87,7 @@ module _ {V : Type 0} (tree : V → Value) (of : V → TypeTree → Type 0) (Ful
   flags_blame T names source n t e is node (inr (inr h)) =
       inr (inl (subst (λ (U : TypeTree). FirstFault o w U t (refusal_of e) e.span) (sym is) (label_fault o w names source n t e (flags_given source n t node h.0) (inside source n t node.0).place h.1)))
 
-  flags_reads : (T : TypeTree) (names : List (List ℕ)) (t : Placed) (picked : List (Bor (List ℕ))) (m : Result V WasmValueError) → T ≡ type.flags names → HasDistinctNames T → TreeReads (type.flags names) (tree_of t) (value.flags (texts picked)) → AreDistinct (texts picked) → ArePicked names (filter (is_one_of names) (texts picked)) → IfOk m (MakesFlags tree of T picked) → IfOk m (IsTypedValue tree of T t)
+  flags_reads : (T : TypeTree) (names : List (List ℕ)) (t : SpannedTree) (picked : List (Bor (List ℕ))) (m : Result V WasmValueError) → T ≡ type.flags names → HasDistinctNames T → TreeReads (type.flags names) (tree_of t) (value.flags (texts picked)) → AreDistinct (texts picked) → ArePicked names (filter (is_one_of names) (texts picked)) → IfOk m (MakesFlags tree of T picked) → IfOk m (IsTypedValue tree of T t)
   flags_reads T names t picked (Ok v) is distinct read apart some h =
       let makes = h distinct apart (subst (λ (U : TypeTree). ArePicked (flags_names U) (filter (is_one_of (flags_names U)) (texts picked))) (sym is) some) in
       record { reads = subst (λ (U : TypeTree). TreeReads U (tree_of t) (tree v)) (sym is) (subst (λ (w : Value). TreeReads (type.flags names) (tree_of t) w) (sym makes.means) read); is_of = makes.is_of }
@@ -102,7 +102,7 @@ module _ {V : Type 0} (tree : V → Value) (of : V → TypeTree → Type 0) (Ful
   all_pass names (one ∷ more) h = let here : is_one_of names one ≡ true = passes names one h.0 in rw here (ap (λ (l : List (List ℕ)). one ∷ l) (all_pass names more h.1))
 
   -- the flags were made, or their constructor refused
-  pub flags_made : (T : TypeTree) (names : List (List ℕ)) (source : List ℕ) (n : NodeTree) (t : Placed) (picked : List (Bor (List ℕ))) (m : Result V WasmValueError) (r : Result V Diagnostic) → T ≡ type.flags names → HasDistinctNames T → IsNodeOf source n t → AreFlags n → AreAllOf names (names_at source (children_of n)) → texts picked ≡ found_in (names_at source (children_of n)) names → IfOk m (MakesFlags tree of T picked) → IfErr m (FullFlags of Full T picked) → IsMade n m r → MatchResult r (IsTypedValue tree of T t) (IsBlamed Full o w T t)
+  pub flags_made : (T : TypeTree) (names : List (List ℕ)) (source : List ℕ) (n : NodeTree) (t : SpannedTree) (picked : List (Bor (List ℕ))) (m : Result V WasmValueError) (r : Result V Diagnostic) → T ≡ type.flags names → HasDistinctNames T → IsNodeOf source n t → AreFlags n → AreAllOf names (names_at source (children_of n)) → texts picked ≡ found_in (names_at source (children_of n)) names → IfOk m (MakesFlags tree of T picked) → IfErr m (FullFlags of Full T picked) → IsMade n m r → MatchResult r (IsTypedValue tree of T t) (IsBlamed Full o w T t)
   flags_made T names source n t picked m r is distinct node ok known found makes full done =
       let g = flags_given source n t node ok in
       let words = map (λ (f : Range ℕ × List ℕ). f.1) g.labels in
@@ -128,7 +128,7 @@ some_unknown names p (f ∷ fs) k q (inl fault) all = none_one names (name_of f.
 some_unknown names p (f ∷ fs) k q (inr fault) all = some_unknown names p fs k q fault all.1
 
 -- a flag that is none of the names leaves no value
-pub flags_none : (names : List (List ℕ)) (t : Placed) (k : Refusal) (q : Range ℕ) (v : Value) → Fault (type.flags names) t k q → TreeReads (type.flags names) (tree_of t) v → ⊥
+pub flags_none : (names : List (List ℕ)) (t : SpannedTree) (k : Refusal) (q : Range ℕ) (v : Value) → Fault (type.flags names) t k q → TreeReads (type.flags names) (tree_of t) v → ⊥
 flags_none names (at p (flags fs)) k q v fault (words, inl a, all, f) = absurd (cc a.0)
 flags_none names (at p (flags fs)) k q v fault (words, inr a, all, f) =
     some_unknown names p fs k q fault (subst (λ (l : List (List ℕ)). AreAllOf names (map name_of l)) (sym (same_flags (map (λ (f : Range ℕ × List ℕ). f.1) fs) words a)) all)

@@ -17,7 +17,7 @@ use Rattle.wave_grammar.specs.Token.{Token}
 use Rattle.wave_grammar.specs.Token as token
 use Rattle.wave_grammar.specs.LeafTokens.{Spells}
 use Rattle.wave_grammar.specs.NumberText.{IsNumberOf, whole_text}
-use Rattle.wave_grammar.specs.SpannedTree.{Placed, at, one, label, no_placed, slice, shape_of}
+use Rattle.wave_grammar.specs.SpannedTree.{SpannedTree, at, one, label, no_placed, slice, shape_of}
 use Rattle.wave_grammar.specs.TypeErrors.{IsRefusalOf, IsForm, LoneKeyFault}
 use Rattle.wave_grammar.specs.NodeTree.{NodeTree, type_of, place_of}
 use Rattle.wave_grammar.specs.Nodes.{key_of, IsTokenOf}
@@ -43,7 +43,7 @@ IsKeyToken ty text _ = ⊥
 key_there : (a b : Range ℕ × Token) → Some a ≡ Some b → a.1 ≡ b.1
 key_there a b e = ap (λ (k : Range ℕ × Token). k.1) (some_is a b e)
 
-key_from : (ty : NodeType) (r : Range ℕ) (text : List ℕ) (cs : List Placed) (t : Placed) (p : Range ℕ) (key : Token) → From ty r text cs (shape_of t) → key_of t ≡ Some (p, key) → IsKeyToken ty text key
+key_from : (ty : NodeType) (r : Range ℕ) (text : List ℕ) (cs : List SpannedTree) (t : SpannedTree) (p : Range ℕ) (key : Token) → From ty r text cs (shape_of t) → key_of t ≡ Some (p, key) → IsKeyToken ty text key
 key_from ty r text cs (at q (label o w no_placed)) p key f e = subst (IsKeyToken ty text) (key_there (o, token.label w) (p, key) e) (f.0, f.2)
 key_from ty r text cs (at q (one (token.number w))) p key f e = subst (IsKeyToken ty text) (key_there (q, token.number w) (p, key) e) (f.1, f.2)
 key_from ty r text cs (at q (one (token.char w))) p key f e = subst (IsKeyToken ty text) (key_there (q, token.char w) (p, key) e) (f.1, f.2)

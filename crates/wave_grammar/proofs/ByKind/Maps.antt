@@ -21,7 +21,7 @@ use Rattle.wave_grammar.specs.LeafTokens.{Spells}
 use Rattle.wave_grammar.specs.Tree as form
 use Rattle.wave_grammar.specs.Tree.{Tree, tree_entries}
 use Rattle.wave_grammar.specs.Elaborates.{TreeReads, KeyedTree, Each}
-use Rattle.wave_grammar.specs.SpannedTree.{Placed, PlacedEntries, PlacedEntry, no_entries, entry, entry_list, entries_of, span_of, shape_of, tree_of}
+use Rattle.wave_grammar.specs.SpannedTree.{SpannedTree, PlacedEntries, PlacedEntry, no_entries, entry, entry_list, entries_of, span_of, shape_of, tree_of}
 use Rattle.wave_grammar.specs.SpannedTree as placed
 use Rattle.wave_grammar.specs.TypeErrors.{Blame, OfForm, Fault, LeafFault, MapKeyFault}
 use Rattle.wave_grammar.specs.FaultOrder.{Order, BlamesNothing, OrElse, FirstOf, FirstFault}
@@ -80,24 +80,24 @@ abbrev pub EntriesFine : Order → Simple → TypeTree → List PlacedEntry → 
 EntriesFine w K V es = AllOf (λ e. BlamesNothing (EntryFault w K V e)) es
 
 -- a node that gives no entries
-pub map_fault : (o w : Order) (K : Simple) (V : TypeTree) (source : List ℕ) (n : NodeTree) (t : Placed) (e : Diagnostic) → placed_of source n ≡ Some t → GivesEntries n (Err e) → FirstFault o w (type.map K V) t (refusal_of e) e.span
+pub map_fault : (o w : Order) (K : Simple) (V : TypeTree) (source : List ℕ) (n : NodeTree) (t : SpannedTree) (e : Diagnostic) → placed_of source n ≡ Some t → GivesEntries n (Err e) → FirstFault o w (type.map K V) t (refusal_of e) e.span
 map_fault o w K V source n t e is given =
     subst (λ (f : Option (List PlacedEntry)). OfForm f (span_of t) (FirstOf (EntryFault w K V)) (refusal_of e) e.span) (sym (no_map source n t is given.0 given.1)) (at_tree InvalidType (place_of n) (span_of t) (refusal_of e) e.span (inside source n t is).place (said given.2))
 
-entry_fault : (o w : Order) (K : Simple) (V : TypeTree) (t : Placed) (es : PlacedEntries) (done rest : List PlacedEntry) (x : PlacedEntry) (k : Refusal) (q : Range ℕ) → IsOfMap (shape_of t) es → entry_list es ≡ done ++ x ∷ rest → EntriesFine w K V done → EntryFault w K V x k q → FirstFault o w (type.map K V) t k q
+entry_fault : (o w : Order) (K : Simple) (V : TypeTree) (t : SpannedTree) (es : PlacedEntries) (done rest : List PlacedEntry) (x : PlacedEntry) (k : Refusal) (q : Range ℕ) → IsOfMap (shape_of t) es → entry_list es ≡ done ++ x ∷ rest → EntriesFine w K V done → EntryFault w K V x k q → FirstFault o w (type.map K V) t k q
 entry_fault o w K V t es done rest x k q shape is fine fault =
     subst (λ (f : Option (List PlacedEntry)). OfForm f (span_of t) (FirstOf (EntryFault w K V)) k q) (sym (map_given (shape_of t) es shape ∙ ap (λ (l : List PlacedEntry). Some l) is)) (first_behind (EntryFault w K V) done rest x k q fine fault)
 
 module _ {V : Type 0} (tree : V → Value) (of : V → TypeTree → Type 0) (Full : TypeTree → Type 0) (o w : Order) where
   -- a refusal of the next key is one of the map
-  pub key_blame : (source : List ℕ) (T S U : TypeTree) (t : Placed) (es : PlacedEntries) (done : List PlacedEntry) (n : NodeTree × NodeTree) (left : List (NodeTree × NodeTree)) (e : Diagnostic) (m : IsMapOf T S U) (x : NextEntry source (entry_list es) done n left) → IsOfMap (shape_of t) es → HasFullParts Full → EntriesFine w m.key U done → IsMapKeyBlamed Full m.key x.here.place x.here.key e → IsBlamed Full o w T t e
+  pub key_blame : (source : List ℕ) (T S U : TypeTree) (t : SpannedTree) (es : PlacedEntries) (done : List PlacedEntry) (n : NodeTree × NodeTree) (left : List (NodeTree × NodeTree)) (e : Diagnostic) (m : IsMapOf T S U) (x : NextEntry source (entry_list es) done n left) → IsOfMap (shape_of t) es → HasFullParts Full → EntriesFine w m.key U done → IsMapKeyBlamed Full m.key x.here.place x.here.key e → IsBlamed Full o w T t e
   key_blame source T S U t es done n left e m x shape parts fine (inl memory) = inl memory
   key_blame source T S U t es done n left e m x shape parts fine (inr (inl fault)) =
       inr (inl (subst (λ (W : TypeTree). FirstFault o w W t (refusal_of e) e.span) (sym m.is) (entry_fault o w m.key U t es done x.rest x.here (refusal_of e) e.span shape x.is fine (inl fault))))
   key_blame source T S U t es done n left e m x shape parts fine (inr (inr h)) = inr (inr (h.0, λ full. h.1 (parts (type.map m.key U) (subst Full m.is full)).0))
 
   -- a refusal of the next value, behind a key that is fine, is one of the map
-  pub value_blame : (source : List ℕ) (T S U : TypeTree) (t : Placed) (es : PlacedEntries) (done : List PlacedEntry) (n : NodeTree × NodeTree) (left : List (NodeTree × NodeTree)) (e : Diagnostic) (m : IsMapOf T S U) (x : NextEntry source (entry_list es) done n left) → IsOfMap (shape_of t) es → HasFullParts Full → EntriesFine w m.key U done → BlamesNothing (MapKeyFault m.key x.here.place x.here.key) → IsBlamed Full w w U x.here.value e → IsBlamed Full o w T t e
+  pub value_blame : (source : List ℕ) (T S U : TypeTree) (t : SpannedTree) (es : PlacedEntries) (done : List PlacedEntry) (n : NodeTree × NodeTree) (left : List (NodeTree × NodeTree)) (e : Diagnostic) (m : IsMapOf T S U) (x : NextEntry source (entry_list es) done n left) → IsOfMap (shape_of t) es → HasFullParts Full → EntriesFine w m.key U done → BlamesNothing (MapKeyFault m.key x.here.place x.here.key) → IsBlamed Full w w U x.here.value e → IsBlamed Full o w T t e
   value_blame source T S U t es done n left e m x shape parts fine key (inl memory) = inl memory
   value_blame source T S U t es done n left e m x shape parts fine key (inr (inl fault)) =
       inr (inl (subst (λ (W : TypeTree). FirstFault o w W t (refusal_of e) e.span) (sym m.is) (entry_fault o w m.key U t es done x.rest x.here (refusal_of e) e.span shape x.is fine (inr (key, fault)))))
@@ -190,7 +190,7 @@ keys_count [] = refl
 keys_count (e ∷ es) = ap suc (keys_count es)
 
 -- the tree of a map gives the merge of its pairs
-map_reads : (K : Simple) (U : TypeTree) (t : Placed) (es : PlacedEntries) (pairs : List (Leaf × Value)) → IsOfMap (shape_of t) es → Each (KeyedTree K (TreeReads U)) (map (λ e. (e.key, tree_of e.value)) (entry_list es)) pairs → TreeReads (type.map K U) (tree_of t) (value.map (entries (merge leaf_eq pairs)))
+map_reads : (K : Simple) (U : TypeTree) (t : SpannedTree) (es : PlacedEntries) (pairs : List (Leaf × Value)) → IsOfMap (shape_of t) es → Each (KeyedTree K (TreeReads U)) (map (λ e. (e.key, tree_of e.value)) (entry_list es)) pairs → TreeReads (type.map K U) (tree_of t) (value.map (entries (merge leaf_eq pairs)))
 map_reads K U t es pairs (inl (inl e, none)) each = (map (λ e. (e.key, tree_of e.value)) (entry_list es), pairs, inl (inl (tree_is t placed.empty_braces e), ap (λ (l : PlacedEntries). map (λ e. (e.key, tree_of e.value)) (entry_list l)) none), each, refl)
 map_reads K U t es pairs (inl (inr e, none)) each = (map (λ e. (e.key, tree_of e.value)) (entry_list es), pairs, inl (inr (tree_is t placed.no_fields e), ap (λ (l : PlacedEntries). map (λ e. (e.key, tree_of e.value)) (entry_list l)) none), each, refl)
 map_reads K U t es pairs (inr h) each =
@@ -199,7 +199,7 @@ map_reads K U t es pairs (inr h) each =
     (map (λ e. (e.key, tree_of e.value)) (entry_list es), pairs, inr (tree_is t (placed.entries es) h.0 ∙ ap form.entries (entries_spelled es), omega arith), each, refl)
 
 module _ {V : Type 0} (tree : V → Value) (of : V → TypeTree → Type 0) (Full : TypeTree → Type 0) where
-  map_means : (T S U : TypeTree) (t : Placed) (es : PlacedEntries) (xs handed : List (V × V)) (made_map : Result V WasmValueError) (m : IsMapOf T S U) → HasDistinctNames T → IsOfMap (shape_of t) es → PairsRead tree of Full m.key U (entry_list es) xs → handed ≡ merge (same_texts tree of Full) xs → IfOk made_map (MakesMap tree of T handed) → IfOk made_map (IsTypedValue tree of T t)
+  map_means : (T S U : TypeTree) (t : SpannedTree) (es : PlacedEntries) (xs handed : List (V × V)) (made_map : Result V WasmValueError) (m : IsMapOf T S U) → HasDistinctNames T → IsOfMap (shape_of t) es → PairsRead tree of Full m.key U (entry_list es) xs → handed ≡ merge (same_texts tree of Full) xs → IfOk made_map (MakesMap tree of T handed) → IfOk made_map (IsTypedValue tree of T t)
   map_means T S U t es xs handed (Ok v) m distinct shape read merged h =
       let makes = h distinct in
       let all : makes.0 ≡ merge leaf_eq read.pairs = one_list makes.0 (merge leaf_eq read.pairs) (sym makes.1 ∙ (ap (entry_trees tree) merged ∙ merged_trees tree of Full m.key xs read.pairs read.keys read.trees)) in
@@ -214,7 +214,7 @@ module _ {V : Type 0} (tree : V → Value) (of : V → TypeTree → Type 0) (Ful
       h full m.key U m.is (subst (AllOf (λ x. of x.0 (type.simple m.key) × of x.1 U)) (sym merged) (merged_of tree of Full m.key U xs read.keys_of read.values_of))
 
   -- the map was made of the merged entries, or its constructor refused
-  pub map_made : (o w : Order) (T S U : TypeTree) (t : Placed) (es : PlacedEntries) (xs handed : List (V × V)) (n : NodeTree) (made_map : Result V WasmValueError) (r : Result V Diagnostic) (m : IsMapOf T S U) → HasDistinctNames T → IsOfMap (shape_of t) es → ((v : V) (T : TypeTree) → of v T → HasType T (tree v)) → EntriesRead tree of Full m.key U (entry_list es) xs → handed ≡ merge (same_texts tree of Full) xs → IfOk made_map (MakesMap tree of T handed) → IfErr made_map (FullMap of Full T handed) → IsMade n made_map r → MatchResult r (IsTypedValue tree of T t) (IsBlamed Full o w T t)
+  pub map_made : (o w : Order) (T S U : TypeTree) (t : SpannedTree) (es : PlacedEntries) (xs handed : List (V × V)) (n : NodeTree) (made_map : Result V WasmValueError) (r : Result V Diagnostic) (m : IsMapOf T S U) → HasDistinctNames T → IsOfMap (shape_of t) es → ((v : V) (T : TypeTree) → of v T → HasType T (tree v)) → EntriesRead tree of Full m.key U (entry_list es) xs → handed ≡ merge (same_texts tree of Full) xs → IfOk made_map (MakesMap tree of T handed) → IfErr made_map (FullMap of Full T handed) → IsMade n made_map r → MatchResult r (IsTypedValue tree of T t) (IsBlamed Full o w T t)
   map_made o w T S U t es xs handed n made_map r m distinct shape fits all merged ok full done =
       let read = pairs_read tree of Full fits m.key U (entry_list es) xs all in
       made tree of Full o w T t n made_map r done (map_means T S U t es xs handed made_map m distinct shape read merged ok) (map_full T S U (entry_list es) xs handed made_map m read merged full)
@@ -226,7 +226,7 @@ pub key_none : (K : Simple) (p : Range ℕ) (t : Token) (k : Refusal) (q : Range
 key_none K p t k q l leaf (inl h) spelled = h.1 l spelled
 key_none K p t k q l leaf (inr h) spelled = leaf h.1 spelled
 
-module _ (K : Simple) (U : TypeTree) (k : Refusal) (q : Range ℕ) (leaf : (p : Range ℕ) (t : Token) (l : Leaf) → LeafFault K p t k q → Spells K t l → ⊥) (apart : (u : Placed) → Fault U u k q → ReadsNone U u) where
+module _ (K : Simple) (U : TypeTree) (k : Refusal) (q : Range ℕ) (leaf : (p : Range ℕ) (t : Token) (l : Leaf) → LeafFault K p t k q → Spells K t l → ⊥) (apart : (u : SpannedTree) → Fault U u k q → ReadsNone U u) where
   entries_none : (es : PlacedEntries) (us : List (Token × Tree)) (pairs : List (Leaf × Value)) → SomeOf (λ e. MapKeyFault K e.place e.key k q ⊎ Fault U e.value k q) (entry_list es) → entries_of es ≡ tree_entries us → Each (KeyedTree K (TreeReads U)) us pairs → ⊥
   entries_none no_entries us pairs h e each = h
   entries_none (entry p key t more) [] pairs h e each = cc
@@ -241,7 +241,7 @@ module _ (K : Simple) (U : TypeTree) (k : Refusal) (q : Range ℕ) (leaf : (p : 
   entries_none (entry p key t more) (u ∷ us) pairs (inr h) e (a, rest, read, others, f) = entries_none more us rest h (cc) others
 
   -- a map's fault leaves no value
-  pub map_none : (t : Placed) (v : Value) → Fault (type.map K U) t k q → TreeReads (type.map K U) (tree_of t) v → ⊥
+  pub map_none : (t : SpannedTree) (v : Value) → Fault (type.map K U) t k q → TreeReads (type.map K U) (tree_of t) v → ⊥
   map_none (placed.at p (placed.entries es)) v fault (us, pairs, inl (inl e, none), each, f) = absurd (cc)
   map_none (placed.at p (placed.entries es)) v fault (us, pairs, inl (inr e, none), each, f) = absurd (cc)
   map_none (placed.at p (placed.entries es)) v fault (us, pairs, inr (e, some), each, f) = entries_none es us pairs fault (cc) each

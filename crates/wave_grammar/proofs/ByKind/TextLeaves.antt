@@ -16,7 +16,7 @@ use Rattle.wave_grammar.specs.LeafTokens.{Spells}
 use Rattle.wave_grammar.specs.Token.{Token}
 use Rattle.wave_grammar.specs.Token as token
 use Rattle.wave_grammar.specs.Elaborates.{SimpleTree}
-use Rattle.wave_grammar.specs.SpannedTree.{Placed, Shape, one, slice, span_of, shape_of, tree_of}
+use Rattle.wave_grammar.specs.SpannedTree.{SpannedTree, SpannedShape, one, slice, span_of, shape_of, tree_of}
 use Rattle.wave_grammar.specs.TypeErrors.{OfForm, LeafFault, IsForm, SpellsNoLeaf, StringFault, one_in}
 use Rattle.wave_grammar.specs.FaultOrder.{Order, FirstFault}
 use Rattle.wave_grammar.specs.NodeTree.{NodeTree, type_of, place_of}
@@ -33,16 +33,16 @@ use Rattle.wave_grammar.specs.declared.form.NodeType.TheVariants as kind
 -- ---- chars
 
 -- the shape of a char
-char_is : (source : List ℕ) (n : NodeTree) (t : Placed) → placed_of source n ≡ Some t → type_of n ≡ kind.Char → shape_of t ≡ one (token.char (node_text source n))
+char_is : (source : List ℕ) (n : NodeTree) (t : SpannedTree) → placed_of source n ≡ Some t → type_of n ≡ kind.Char → shape_of t ≡ one (token.char (node_text source n))
 char_is source n t e is =
     quoted_is source n t (token.char (node_text source n)) e (subst (λ (ty : NodeType). IsQuotedToken ty (node_text source n) (token.char (node_text source n))) (sym is) refl)
 
 -- a node of this char
-pub char_read : (source : List ℕ) (n : NodeTree) (t : Placed) (c : ℕ) → placed_of source n ≡ Some t → type_of n ≡ kind.Char → CharMeans (node_text source n) c → SimpleTree type.char (tree_of t) (value.leaf (value.char c))
+pub char_read : (source : List ℕ) (n : NodeTree) (t : SpannedTree) (c : ℕ) → placed_of source n ≡ Some t → type_of n ≡ kind.Char → CharMeans (node_text source n) c → SimpleTree type.char (tree_of t) (value.leaf (value.char c))
 char_read source n t c e is means =
     leaf_read type.char t (token.char (node_text source n)) (value.char c) (char_is source n t e is) (node_text source n, c, refl, means, refl)
 
-not_char : (ty : NodeType) (p : Range ℕ) (text : List ℕ) (cs : List Placed) (s : Shape) → From ty p text cs s → ty ≢ kind.Char → (t : Token) → one_in s ≡ Some t → IsForm type.char t → ⊥
+not_char : (ty : NodeType) (p : Range ℕ) (text : List ℕ) (cs : List SpannedTree) (s : SpannedShape) → From ty p text cs s → ty ≢ kind.Char → (t : Token) → one_in s ≡ Some t → IsForm type.char t → ⊥
 not_char ty p text cs (one (token.char w)) f apart t is form = apart f.1
 not_char ty p text cs (one (token.label w)) f apart t is (v, g) = cc
 not_char ty p text cs (one (token.number w)) f apart t is (v, g) = cc
@@ -59,7 +59,7 @@ no_char text none l (w, c, e, means, f) = none c (subst (λ (z : List ℕ). Char
     text_is a b e = cc
 
 -- the refusal of a char is a fault
-pub char_blame : (o w : Order) (source : List ℕ) (n : NodeTree) (t : Placed) (e : Diagnostic) → placed_of source n ≡ Some t → GivesChar source n (Err e) → FirstFault o w (type.simple type.char) t (refusal_of e) e.span
+pub char_blame : (o w : Order) (source : List ℕ) (n : NodeTree) (t : SpannedTree) (e : Diagnostic) → placed_of source n ≡ Some t → GivesChar source n (Err e) → FirstFault o w (type.simple type.char) t (refusal_of e) e.span
 char_blame o w source n t e is (inl h) =
     let i = inside source n t is in
     wrong_form type.char (one_in (shape_of t)) (span_of t) (refusal_of e) e.span (not_char (type_of n) (place_of n) (slice source (place_of n)) i.children (shape_of t) i.from h.0) (at_tree InvalidType (place_of n) (span_of t) (refusal_of e) e.span i.place (said h.1))
@@ -71,23 +71,23 @@ char_blame o w source n t e is (inr h) =
 -- ---- strings
 
 -- the shape of a string
-string_is : (source : List ℕ) (n : NodeTree) (t : Placed) → placed_of source n ≡ Some t → type_of n ≡ kind.String → shape_of t ≡ one (token.string (node_text source n))
+string_is : (source : List ℕ) (n : NodeTree) (t : SpannedTree) → placed_of source n ≡ Some t → type_of n ≡ kind.String → shape_of t ≡ one (token.string (node_text source n))
 string_is source n t e is =
     quoted_is source n t (token.string (node_text source n)) e (subst (λ (ty : NodeType). IsQuotedToken ty (node_text source n) (token.string (node_text source n))) (sym is) refl)
 
 -- the shape of a multiline string
-multiline_is : (source : List ℕ) (n : NodeTree) (t : Placed) → placed_of source n ≡ Some t → type_of n ≡ kind.MultilineString → shape_of t ≡ one (token.multiline (node_text source n))
+multiline_is : (source : List ℕ) (n : NodeTree) (t : SpannedTree) → placed_of source n ≡ Some t → type_of n ≡ kind.MultilineString → shape_of t ≡ one (token.multiline (node_text source n))
 multiline_is source n t e is =
     quoted_is source n t (token.multiline (node_text source n)) e (subst (λ (ty : NodeType). IsQuotedToken ty (node_text source n) (token.multiline (node_text source n))) (sym is) refl)
 
 -- a node of this text
-pub string_read : (source : List ℕ) (n : NodeTree) (t : Placed) (s : List ℕ) → placed_of source n ≡ Some t → StandsFor source n s → SimpleTree type.string (tree_of t) (value.leaf (value.string s))
+pub string_read : (source : List ℕ) (n : NodeTree) (t : SpannedTree) (s : List ℕ) → placed_of source n ≡ Some t → StandsFor source n s → SimpleTree type.string (tree_of t) (value.leaf (value.string s))
 string_read source n t s e (inl (is, means)) =
     leaf_read type.string t (token.string (node_text source n)) (value.string s) (string_is source n t e is) (node_text source n, s, inl (refl, means), refl)
 string_read source n t s e (inr (is, means)) =
     leaf_read type.string t (token.multiline (node_text source n)) (value.string s) (multiline_is source n t e is) (node_text source n, s, inr (refl, means), refl)
 
-not_string : (ty : NodeType) (p : Range ℕ) (text : List ℕ) (cs : List Placed) (s : Shape) → From ty p text cs s → ty ≢ kind.String → ty ≢ kind.MultilineString → (t : Token) → one_in s ≡ Some t → IsForm type.string t → ⊥
+not_string : (ty : NodeType) (p : Range ℕ) (text : List ℕ) (cs : List SpannedTree) (s : SpannedShape) → From ty p text cs s → ty ≢ kind.String → ty ≢ kind.MultilineString → (t : Token) → one_in s ≡ Some t → IsForm type.string t → ⊥
 not_string ty p text cs (one (token.string w)) f apart other t is form = apart f.1
 not_string ty p text cs (one (token.multiline w)) f apart other t is form = other f.1
 not_string ty p text cs (one (token.label w)) f apart other t is (v, inl g) = cc
@@ -100,7 +100,7 @@ not_string ty p text cs (one _) f apart other t is form = f
 not_string ty p text cs _ f apart other t is form = cc
 
 -- a token of a string with a fault of its text
-text_fault : (o w : Order) (t : Placed) (tok : Token) (k : Refusal) (q : Range ℕ) → shape_of t ≡ one tok → IsForm type.string tok → StringFault type.string (span_of t) tok k q → FirstFault o w (type.simple type.string) t k q
+text_fault : (o w : Order) (t : SpannedTree) (tok : Token) (k : Refusal) (q : Range ℕ) → shape_of t ≡ one tok → IsForm type.string tok → StringFault type.string (span_of t) tok k q → FirstFault o w (type.simple type.string) t k q
 text_fault o w t tok k q e form fault =
     subst (λ (o : Option Token). OfForm o (span_of t) (LeafFault type.string (span_of t)) k q) (ap one_in (sym e)) (inr (form, fault))
 
@@ -123,7 +123,7 @@ told_fault source n e (inr (ty, x, f, own, fault, told)) =
     record { tok = token.multiline (node_text source n); own = own_token kind.MultilineString source n (token.multiline (node_text source n)) ty refl; form = (node_text source n, inr refl); wrong = inr (node_text source n, x, f, refl, own, fault, (told.refusal, told.at)) }
 
 -- the refusal of a string is a fault, or out of memory
-pub string_blame : (Full : TypeTree → Type 0) (o w : Order) (T : TypeTree) (source : List ℕ) (n : NodeTree) (t : Placed) (e : Diagnostic) → T ≡ type.simple type.string → placed_of source n ≡ Some t → RefusesString source n e → IsBlamed Full o w T t e
+pub string_blame : (Full : TypeTree → Type 0) (o w : Order) (T : TypeTree) (source : List ℕ) (n : NodeTree) (t : SpannedTree) (e : Diagnostic) → T ≡ type.simple type.string → placed_of source n ≡ Some t → RefusesString source n e → IsBlamed Full o w T t e
 string_blame Full o w T source n t e same is h = subst (λ (U : TypeTree). IsBlamed Full o w U t e) (sym same) (blamed h)
   where
     i : Inside source n t

@@ -20,7 +20,7 @@ use Rattle.wave_grammar.specs.Token as token
 use Rattle.wave_grammar.specs.Tree as form
 use Rattle.wave_grammar.specs.Tree.{Tree, Takes, BehindWord, Word, word_of}
 use Rattle.wave_grammar.specs.Elaborates.{TreeReads, TreeReadsAll}
-use Rattle.wave_grammar.specs.SpannedTree.{Placed, Shape, at, tuple, PlacedTrees, no_more, and_then, placed_trees, placed_list, slice, span_of, shape_of, tree_of, trees_of, SpellsEach}
+use Rattle.wave_grammar.specs.SpannedTree.{SpannedTree, SpannedShape, at, tuple, PlacedTrees, no_more, and_then, placed_trees, placed_list, slice, span_of, shape_of, tree_of, trees_of, SpellsEach}
 use Rattle.wave_grammar.specs.TypeErrors.{Blame, IsRefusalOf, RefusesFor, OfForm, tuple_in}
 use Rattle.wave_grammar.specs.FaultOrder.{Order, in_text, by_type, BlamesNothing, OrElse, InOrder, WrongCount, FirstFault, FirstItem}
 use Rattle.wave_grammar.specs.NodeTree.{NodeTree, type_of, place_of, children_of}
@@ -85,8 +85,8 @@ counted (type.type_and T more) = ap suc (counted more)
 -- ---- nodes
 
 -- the items of a tuple node
-pub record TupleNodes (source : List ℕ) (n : NodeTree) (t : Placed) : Type 0 where
-  pub items : List Placed
+pub record TupleNodes (source : List ℕ) (n : NodeTree) (t : SpannedTree) : Type 0 where
+  pub items : List SpannedTree
   pub shape : shape_of t ≡ tuple (placed_trees items)
   pub nodes : AreNodesOf source (children_of n) items
   pub some : 0 < length items
@@ -120,22 +120,22 @@ spelled_some (token.string text ∷ behind) (suc n) ts h = absurd (cc h.1)
 spelled_some (token.multiline text ∷ behind) (suc n) ts h = absurd (cc h.1)
 spelled_some (_ ∷ behind) (suc n) ts h = absurd h
 
-some_items : (ps : List Placed) (items : List Tree) → form.trees (map tree_of ps) ≡ form.trees items → 0 < length items → 0 < length ps
+some_items : (ps : List SpannedTree) (items : List Tree) → form.trees (map tree_of ps) ≡ form.trees items → 0 < length items → 0 < length ps
 some_items [] [] e lt = lt
 some_items [] (t ∷ ts) e lt = absurd (cc)
 some_items (p ∷ ps) items e lt = omega arith
 
-pub tuple_nodes : (source : List ℕ) (n : NodeTree) (t : Placed) → IsNodeOf source n t → type_of n ≡ kind.Tuple → TupleNodes source n t
+pub tuple_nodes : (source : List ℕ) (n : NodeTree) (t : SpannedTree) → IsNodeOf source n t → type_of n ≡ kind.Tuple → TupleNodes source n t
 tuple_nodes source n (at r s) h e =
     let i = inside source n (at r s) h.0 in
     let shape : s ≡ tuple (placed_trees i.children) = sym (some_is _ _ (shape_at kind.Tuple source n (at r s) i e)) in
-    let spelled : SpellsEach source (at r (tuple (placed_trees i.children))) = subst (λ (x : Shape). SpellsEach source (at r x)) shape h.1 in
+    let spelled : SpellsEach source (at r (tuple (placed_trees i.children))) = subst (λ (x : SpannedShape). SpellsEach source (at r x)) shape h.1 in
     let both : AreParsed source (children_of n) i.children = subst (λ (ns : List NodeTree). AreParsed source ns i.children) (nodes_are n) (parsed source (nodes_in n) i.children i.each) in
     let whole = spelled_some spelled.0.0 spelled.0.2.0 (trees_of (placed_trees i.children)) spelled.0.2.1 in
     record { items = i.children; shape = shape; nodes = spelled_nodes source (children_of n) i.children r.start r.end both spelled.1; some = some_items i.children whole.0 (sym (trees_are i.children) ∙ whole.2) whole.1 }
 
 -- the nodes of a tuple node, where they are answered
-pub given_items : (source : List ℕ) (m : NodeTree) (t : Placed) (ns : List NodeTree) (node : IsNodeOf source m t) (ty : type_of m ≡ kind.Tuple) → ns ≡ children_of m → AreNodesOf source ns (tuple_nodes source m t node ty).items
+pub given_items : (source : List ℕ) (m : NodeTree) (t : SpannedTree) (ns : List NodeTree) (node : IsNodeOf source m t) (ty : type_of m ≡ kind.Tuple) → ns ≡ children_of m → AreNodesOf source ns (tuple_nodes source m t node ty).items
 given_items source m t ns node ty children = subst (λ (l : List NodeTree). AreNodesOf source l (tuple_nodes source m t node ty).items) (sym children) (tuple_nodes source m t node ty).nodes
 
 -- an item of a tuple node is a value
@@ -147,37 +147,37 @@ tuple_item source m ns i n v ty children lt at_i =
 -- ---- faults
 
 -- what a tuple's fault is
-abbrev TupleFault : Order → Order → Types → Range ℕ → List Placed → Blame
+abbrev TupleFault : Order → Order → Types → Range ℕ → List SpannedTree → Blame
 TupleFault o w Ts p items =
     InOrder o
     (OrElse (FirstItem w Ts items) (WrongCount (count_of Ts) (length items) p))
     (OrElse (WrongCount (count_of Ts) (length items) p) (FirstItem w Ts items))
 
-not_tuple : (ty : NodeType) (p : Range ℕ) (text : List ℕ) (cs : List Placed) (s : Shape) → From ty p text cs s → ty ≢ kind.Tuple → tuple_in s ≡ None
+not_tuple : (ty : NodeType) (p : Range ℕ) (text : List ℕ) (cs : List SpannedTree) (s : SpannedShape) → From ty p text cs s → ty ≢ kind.Tuple → tuple_in s ≡ None
 not_tuple ty p text cs (tuple ts) f apart = absurd (apart f.0)
 not_tuple ty p text cs _ f apart = refl
 
 -- a node that is no tuple
-pub tuple_fault : (o w : Order) (Ts : Types) (source : List ℕ) (n : NodeTree) (t : Placed) (k : Refusal) (q : Range ℕ) → placed_of source n ≡ Some t → type_of n ≢ kind.Tuple → IsRefusalOf InvalidType (place_of n) k q → FirstFault o w (type.tuple Ts) t k q
+pub tuple_fault : (o w : Order) (Ts : Types) (source : List ℕ) (n : NodeTree) (t : SpannedTree) (k : Refusal) (q : Range ℕ) → placed_of source n ≡ Some t → type_of n ≢ kind.Tuple → IsRefusalOf InvalidType (place_of n) k q → FirstFault o w (type.tuple Ts) t k q
 tuple_fault o w Ts source n t k q e apart refused =
     let i = inside source n t e in
-    subst (λ (f : Option (List Placed)). OfForm f (span_of t) (TupleFault o w Ts (span_of t)) k q) (sym (not_tuple (type_of n) (place_of n) (slice source (place_of n)) i.children (shape_of t) i.from apart)) (at_tree InvalidType (place_of n) (span_of t) k q i.place refused)
+    subst (λ (f : Option (List SpannedTree)). OfForm f (span_of t) (TupleFault o w Ts (span_of t)) k q) (sym (not_tuple (type_of n) (place_of n) (slice source (place_of n)) i.children (shape_of t) i.from apart)) (at_tree InvalidType (place_of n) (span_of t) k q i.place refused)
 
-within_fault : (o w : Order) (Ts : Types) (t : Placed) (items : List Placed) (k : Refusal) (q : Range ℕ) → shape_of t ≡ tuple (placed_trees items) → TupleFault o w Ts (span_of t) items k q → FirstFault o w (type.tuple Ts) t k q
+within_fault : (o w : Order) (Ts : Types) (t : SpannedTree) (items : List SpannedTree) (k : Refusal) (q : Range ℕ) → shape_of t ≡ tuple (placed_trees items) → TupleFault o w Ts (span_of t) items k q → FirstFault o w (type.tuple Ts) t k q
 within_fault o w Ts t items k q shape fault =
-    subst (λ (s : Shape). OfForm (tuple_in s) (span_of t) (TupleFault o w Ts (span_of t)) k q) (sym shape) (subst (λ (us : List Placed). TupleFault o w Ts (span_of t) us k q) (sym (trees_back items)) fault)
+    subst (λ (s : SpannedShape). OfForm (tuple_in s) (span_of t) (TupleFault o w Ts (span_of t)) k q) (sym shape) (subst (λ (us : List SpannedTree). TupleFault o w Ts (span_of t) us k q) (sym (trees_back items)) fault)
 
 -- as the tokens are read no item has a fault
-abbrev pub ItemsFine : Order → Order → Types → List Placed → Type 0
+abbrev pub ItemsFine : Order → Order → Types → List SpannedTree → Type 0
 ItemsFine in_text w Ts items = BlamesNothing (FirstItem w Ts items)
 ItemsFine by_type w Ts items = Unit {0}
 
-counted_wrong : (o w : Order) (Ts : Types) (p : Range ℕ) (items : List Placed) (k : Refusal) (q : Range ℕ) → ItemsFine o w Ts items → WrongCount (count_of Ts) (length items) p k q → TupleFault o w Ts p items k q
+counted_wrong : (o w : Order) (Ts : Types) (p : Range ℕ) (items : List SpannedTree) (k : Refusal) (q : Range ℕ) → ItemsFine o w Ts items → WrongCount (count_of Ts) (length items) p k q → TupleFault o w Ts p items k q
 counted_wrong in_text w Ts p items k q fine wrong = inr (fine, wrong)
 counted_wrong by_type w Ts p items k q fine wrong = inl wrong
 
 -- another number of items than of types
-count_fault : (o w : Order) (T : TypeTree) (parts : List TypeTree) (source : List ℕ) (m : NodeTree) (t : Placed) (ns : List NodeTree) (e : Diagnostic) → (is : TupleType T parts) → IsNodeOf source m t → type_of m ≡ kind.Tuple → ns ≡ children_of m → ((items : List Placed) → AreNodesOf source ns items → ItemsFine o w is.types items) → length ns ≢ length parts → RefusesFor (wrong_number (length parts) (length ns)) (place_of m) (refusal_of e) e.span → FirstFault o w (type.tuple is.types) t (refusal_of e) e.span
+count_fault : (o w : Order) (T : TypeTree) (parts : List TypeTree) (source : List ℕ) (m : NodeTree) (t : SpannedTree) (ns : List NodeTree) (e : Diagnostic) → (is : TupleType T parts) → IsNodeOf source m t → type_of m ≡ kind.Tuple → ns ≡ children_of m → ((items : List SpannedTree) → AreNodesOf source ns items → ItemsFine o w is.types items) → length ns ≢ length parts → RefusesFor (wrong_number (length parts) (length ns)) (place_of m) (refusal_of e) e.span → FirstFault o w (type.tuple is.types) t (refusal_of e) e.span
 count_fault o w T parts source m t ns e is node ty children fine apart refused =
     let inner = tuple_nodes source m t node ty in
     let nodes = given_items source m t ns node ty children in
@@ -190,46 +190,46 @@ count_fault o w T parts source m t ns e is node ty children fine apart refused =
 
 module _ {V : Type 0} (tree : V → Value) (of : V → TypeTree → Type 0) (Full : TypeTree → Type 0) (o w : Order) where
   -- out of memory; or the first fault of an item; or, where constructors do not serve all values of the items' types, the refusal of one
-  abbrev pub ItemsBlamed : Types → List Placed → Diagnostic → Type 0
+  abbrev pub ItemsBlamed : Types → List SpannedTree → Diagnostic → Type 0
   ItemsBlamed Ts items e = (e.kind ≡ error.OutOfMemory) ⊎ FirstItem w Ts items (refusal_of e) e.span ⊎ (e.kind ≡ error.WasmValueError) × (AllOf Full (type_list Ts) → ⊥)
 
   -- as the tokens are read the first refusal of an item is that of the tuple
-  pub items_blame : (source : List ℕ) (T : TypeTree) (parts : List TypeTree) (m : NodeTree) (t : Placed) (ns : List NodeTree) (e : Diagnostic) (is : TupleType T parts) → IsNodeOf source m t → type_of m ≡ kind.Tuple → ns ≡ children_of m → HasFullParts Full → ((items : List Placed) → AreNodesOf source ns items → ItemsBlamed is.types items e) → IsBlamed Full in_text w T t e
+  pub items_blame : (source : List ℕ) (T : TypeTree) (parts : List TypeTree) (m : NodeTree) (t : SpannedTree) (ns : List NodeTree) (e : Diagnostic) (is : TupleType T parts) → IsNodeOf source m t → type_of m ≡ kind.Tuple → ns ≡ children_of m → HasFullParts Full → ((items : List SpannedTree) → AreNodesOf source ns items → ItemsBlamed is.types items e) → IsBlamed Full in_text w T t e
   items_blame source T parts m t ns e is node ty children full blamed =
       let inner = tuple_nodes source m t node ty in
       so inner.items inner.shape (blamed inner.items (given_items source m t ns node ty children))
     where
-      so : (items : List Placed) → shape_of t ≡ tuple (placed_trees items) → ItemsBlamed is.types items e → IsBlamed Full in_text w T t e
+      so : (items : List SpannedTree) → shape_of t ≡ tuple (placed_trees items) → ItemsBlamed is.types items e → IsBlamed Full in_text w T t e
       so items shape (inl memory) = inl memory
       so items shape (inr (inl fault)) = inr (inl (subst (λ (U : TypeTree). FirstFault in_text w U t (refusal_of e) e.span) (sym is.is) (within_fault in_text w is.types t items (refusal_of e) e.span shape (inl fault))))
       so items shape (inr (inr h)) = inr (inr (h.0, λ whole. h.1 (full (type.tuple is.types) (subst Full is.is whole))))
 
   -- a refusal because of the number of items
-  pub count_blame : (T : TypeTree) (parts : List TypeTree) (source : List ℕ) (m : NodeTree) (t : Placed) (ns : List NodeTree) (e : Diagnostic) (is : TupleType T parts) → IsNodeOf source m t → type_of m ≡ kind.Tuple → ns ≡ children_of m → ((items : List Placed) → AreNodesOf source ns items → ItemsFine o w is.types items) → length ns ≢ length parts → RefusesFor (wrong_number (length parts) (length ns)) (place_of m) (refusal_of e) e.span → IsBlamed Full o w T t e
+  pub count_blame : (T : TypeTree) (parts : List TypeTree) (source : List ℕ) (m : NodeTree) (t : SpannedTree) (ns : List NodeTree) (e : Diagnostic) (is : TupleType T parts) → IsNodeOf source m t → type_of m ≡ kind.Tuple → ns ≡ children_of m → ((items : List SpannedTree) → AreNodesOf source ns items → ItemsFine o w is.types items) → length ns ≢ length parts → RefusesFor (wrong_number (length parts) (length ns)) (place_of m) (refusal_of e) e.span → IsBlamed Full o w T t e
   count_blame T parts source m t ns e is node ty children fine apart refused =
       inr (inl (subst (λ (U : TypeTree). FirstFault o w U t (refusal_of e) e.span) (sym is.is) (count_fault o w T parts source m t ns e is node ty children fine apart refused)))
 
   -- each tree was read at its own type
-  abbrev pub ReadAt : List TypeTree → List Placed → List V → Type 0
+  abbrev pub ReadAt : List TypeTree → List SpannedTree → List V → Type 0
   ReadAt [] [] [] = Unit {0}
   ReadAt (T ∷ Ts) (t ∷ ts) (v ∷ vs) = IsTypedValue tree of T t v × ReadAt Ts ts vs
   ReadAt _ _ _ = ⊥
 
-  next_at : (Ts : List TypeTree) (ts : List Placed) (vs : List V) (i : ℕ) (E : TypeTree) (t : Placed) (v : V) → HasAt Ts i E → HasAt ts i t → ReadAt (take i Ts) (take i ts) vs → IsTypedValue tree of E t v → ReadAt (take (suc i) Ts) (take (suc i) ts) (vs ++ v ∷ [])
+  next_at : (Ts : List TypeTree) (ts : List SpannedTree) (vs : List V) (i : ℕ) (E : TypeTree) (t : SpannedTree) (v : V) → HasAt Ts i E → HasAt ts i t → ReadAt (take i Ts) (take i ts) vs → IsTypedValue tree of E t v → ReadAt (take (suc i) Ts) (take (suc i) ts) (vs ++ v ∷ [])
   next_at [] ts vs i E t v typed here before now = absurd typed
   next_at (U ∷ Ts) [] vs i E t v typed here before now = absurd here
-  next_at (U ∷ Ts) (u ∷ ts) [] zero E t v typed here before now = (subst (λ (W : TypeTree). IsTypedValue tree of W u v) (sym typed) (subst (λ (w : Placed). IsTypedValue tree of E w v) (sym here) now), tt)
+  next_at (U ∷ Ts) (u ∷ ts) [] zero E t v typed here before now = (subst (λ (W : TypeTree). IsTypedValue tree of W u v) (sym typed) (subst (λ (w : SpannedTree). IsTypedValue tree of E w v) (sym here) now), tt)
   next_at (U ∷ Ts) (u ∷ ts) (w ∷ vs) zero E t v typed here before now = absurd before
   next_at (U ∷ Ts) (u ∷ ts) [] (suc i) E t v typed here before now = absurd before
   next_at (U ∷ Ts) (u ∷ ts) (w ∷ vs) (suc i) E t v typed here before now = (before.0, next_at Ts ts vs i E t v typed here before.1 now)
 
   -- the invariant of the loop holds after the next item
-  pub tuple_kept : (source : List ℕ) (parts : List TypeTree) (ns : List NodeTree) (ts : List Placed) (vs ws : List V) (i : ℕ) (n : NodeTree) (E : TypeTree) (v : V) → AreNodesOf source ns ts → i < length ns → n ≡ get_or ns i n → HasAt parts i E → ReadAt (take i parts) (take i ts) vs → ((t : Placed) → IsNodeOf source n t → IsTypedValue tree of E t v) → ws ≡ vs ++ v ∷ [] → ReadAt (take (i + 1) parts) (take (i + 1) ts) ws
+  pub tuple_kept : (source : List ℕ) (parts : List TypeTree) (ns : List NodeTree) (ts : List SpannedTree) (vs ws : List V) (i : ℕ) (n : NodeTree) (E : TypeTree) (v : V) → AreNodesOf source ns ts → i < length ns → n ≡ get_or ns i n → HasAt parts i E → ReadAt (take i parts) (take i ts) vs → ((t : SpannedTree) → IsNodeOf source n t → IsTypedValue tree of E t v) → ws ≡ vs ++ v ∷ [] → ReadAt (take (i + 1) parts) (take (i + 1) ts) ws
   tuple_kept source parts ns ts vs ws i n E v nodes lt is typed before now kept =
       let here = node_at source ns ts i n nodes lt is in
       rw (add-one, kept) (next_at parts ts vs i E here.0 v typed here.1 before (now here.0 here.2))
 
-  whole_at : (parts : List TypeTree) (ts : List Placed) (vs : List V) (i : ℕ) → length ts ≡ length parts → length ts ≤ i → ReadAt (take i parts) (take i ts) vs → ReadAt parts ts vs
+  whole_at : (parts : List TypeTree) (ts : List SpannedTree) (vs : List V) (i : ℕ) → length ts ≡ length parts → length ts ≤ i → ReadAt (take i parts) (take i ts) vs → ReadAt parts ts vs
   whole_at [] [] vs zero e le all = all
   whole_at [] [] vs (suc i) e le all = all
   whole_at [] (t ∷ ts) vs i e le all = absurd (cc)
@@ -238,7 +238,7 @@ module _ {V : Type 0} (tree : V → Value) (of : V → TypeTree → Type 0) (Ful
   whole_at (T ∷ Ts) (t ∷ ts) [] (suc i) e le all = absurd all
   whole_at (T ∷ Ts) (t ∷ ts) (v ∷ vs) (suc i) e le all = (all.0, whole_at Ts ts vs i (omega (arith, e)) (omega (arith, le)) all.1)
 
-  each_at : (Ts : Types) (ts : List Placed) (vs : List V) → ReadAt (type_list Ts) ts vs → TreeReadsAll Ts (map tree_of ts) (map tree vs)
+  each_at : (Ts : Types) (ts : List SpannedTree) (vs : List V) → ReadAt (type_list Ts) ts vs → TreeReadsAll Ts (map tree_of ts) (map tree vs)
   each_at type.no_types [] [] h = (refl, refl)
   each_at type.no_types [] (v ∷ vs) h = absurd h
   each_at type.no_types (t ∷ ts) vs h = absurd h
@@ -246,7 +246,7 @@ module _ {V : Type 0} (tree : V → Value) (of : V → TypeTree → Type 0) (Ful
   each_at (type.type_and T more) (t ∷ ts) [] h = absurd h
   each_at (type.type_and T more) (t ∷ ts) (v ∷ vs) h = (tree_of t, map tree_of ts, tree v, map tree vs, refl, h.0.reads, each_at more ts vs h.1, refl)
 
-  each_is : (Ts : List TypeTree) (ts : List Placed) (vs : List V) → ReadAt Ts ts vs → AreOf of Ts vs
+  each_is : (Ts : List TypeTree) (ts : List SpannedTree) (vs : List V) → ReadAt Ts ts vs → AreOf of Ts vs
   each_is [] [] [] h = tt
   each_is [] [] (v ∷ vs) h = absurd h
   each_is [] (t ∷ ts) vs h = absurd h
@@ -254,24 +254,24 @@ module _ {V : Type 0} (tree : V → Value) (of : V → TypeTree → Type 0) (Ful
   each_is (T ∷ Ts) (t ∷ ts) [] h = absurd h
   each_is (T ∷ Ts) (t ∷ ts) (v ∷ vs) h = (h.0.is_of, each_is Ts ts vs h.1)
 
-  tuple_reads : (T : TypeTree) (Ts : Types) (t : Placed) (ts : List Placed) (vs : List V) (m : Result V WasmValueError) → T ≡ type.tuple Ts → HasDistinctNames T → shape_of t ≡ tuple (placed_trees ts) → 0 < length ts → ReadAt (type_list Ts) ts vs → IfOk m (MakesTuple tree of T vs) → IfOk m (IsTypedValue tree of T t)
+  tuple_reads : (T : TypeTree) (Ts : Types) (t : SpannedTree) (ts : List SpannedTree) (vs : List V) (m : Result V WasmValueError) → T ≡ type.tuple Ts → HasDistinctNames T → shape_of t ≡ tuple (placed_trees ts) → 0 < length ts → ReadAt (type_list Ts) ts vs → IfOk m (MakesTuple tree of T vs) → IfOk m (IsTypedValue tree of T t)
   tuple_reads T Ts t ts vs (Ok v) is distinct shape some all h =
       let makes = h distinct in
       let spelled : tree_of t ≡ form.tuple (form.trees (map tree_of ts)) = tree_is t (tuple (placed_trees ts)) shape ∙ ap form.tuple (trees_are ts) in
       let given : TreeReads (type.tuple Ts) (tree_of t) (value.tuple (values (map tree vs))) = (map tree_of ts, map tree vs, spelled, some_trees ts some, each_at Ts ts vs all, refl) in
       record { reads = subst (λ (U : TypeTree). TreeReads U (tree_of t) (tree v)) (sym is) (subst (λ (w : Value). TreeReads (type.tuple Ts) (tree_of t) w) (sym makes.means) given); is_of = makes.is_of }
     where
-      some_trees : (ps : List Placed) → 0 < length ps → 0 < length (map tree_of ps)
+      some_trees : (ps : List SpannedTree) → 0 < length ps → 0 < length (map tree_of ps)
       some_trees [] h = h
       some_trees (p ∷ ps) h = omega arith
   tuple_reads T Ts t ts vs (Err cause) is distinct shape some all h = tt
 
-  tuple_full : (T : TypeTree) (Ts : Types) (ts : List Placed) (vs : List V) (m : Result V WasmValueError) → T ≡ type.tuple Ts → ReadAt (type_list Ts) ts vs → IfErr m (FullTuple of Full T vs) → IfErr m (λ cause. Full T → IsMemory cause)
+  tuple_full : (T : TypeTree) (Ts : Types) (ts : List SpannedTree) (vs : List V) (m : Result V WasmValueError) → T ≡ type.tuple Ts → ReadAt (type_list Ts) ts vs → IfErr m (FullTuple of Full T vs) → IfErr m (λ cause. Full T → IsMemory cause)
   tuple_full T Ts ts vs (Ok v) is all h = tt
   tuple_full T Ts ts vs (Err cause) is all h = λ full. h full Ts is (each_is (type_list Ts) ts vs all)
 
   -- the tuple was made, or its constructor refused
-  pub tuple_made : (source : List ℕ) (T : TypeTree) (parts : List TypeTree) (n : NodeTree) (t : Placed) (ns : List NodeTree) (vs : List V) (i : ℕ) (m : Result V WasmValueError) (r : Result V Diagnostic) → TupleType T parts → HasDistinctNames T → (node : IsNodeOf source n t) → (ty : type_of n ≡ kind.Tuple) → ns ≡ children_of n → length ns ≡ length parts → length ns ≤ i → ReadAt (take i parts) (take i (tuple_nodes source n t node ty).items) vs → IfOk m (MakesTuple tree of T vs) → IfErr m (FullTuple of Full T vs) → IsMade n m r → MatchResult r (IsTypedValue tree of T t) (IsBlamed Full o w T t)
+  pub tuple_made : (source : List ℕ) (T : TypeTree) (parts : List TypeTree) (n : NodeTree) (t : SpannedTree) (ns : List NodeTree) (vs : List V) (i : ℕ) (m : Result V WasmValueError) (r : Result V Diagnostic) → TupleType T parts → HasDistinctNames T → (node : IsNodeOf source n t) → (ty : type_of n ≡ kind.Tuple) → ns ≡ children_of n → length ns ≡ length parts → length ns ≤ i → ReadAt (take i parts) (take i (tuple_nodes source n t node ty).items) vs → IfOk m (MakesTuple tree of T vs) → IfErr m (FullTuple of Full T vs) → IsMade n m r → MatchResult r (IsTypedValue tree of T t) (IsBlamed Full o w T t)
   tuple_made source T parts n t ns vs i m r is distinct node ty children same le before ok full done =
       let inner = tuple_nodes source n t node ty in
       let many : length ns ≡ length inner.items = as_many source ns inner.items (given_items source n t ns node ty children) in
@@ -307,7 +307,7 @@ pub tuple_items : (ps : PlacedTrees) (us : List Tree) → form.tuple (trees_of p
 tuple_items ps us e = inner_trees (trees_of ps) (form.trees us) e
 
 -- the first tree and the others, where the types read them
-pub first_item : (T : TypeTree) (more : Types) (p : Placed) (ps : PlacedTrees) (us : List Tree) (vs : List Value) → form.tree_and (tree_of p) (trees_of ps) ≡ form.trees us → TreeReadsAll (type.type_and T more) us vs → (w : Value) × (others : List Tree) × (ws : List Value) × TreeReads T (tree_of p) w × (trees_of ps ≡ form.trees others) × TreeReadsAll more others ws
+pub first_item : (T : TypeTree) (more : Types) (p : SpannedTree) (ps : PlacedTrees) (us : List Tree) (vs : List Value) → form.tree_and (tree_of p) (trees_of ps) ≡ form.trees us → TreeReadsAll (type.type_and T more) us vs → (w : Value) × (others : List Tree) × (ws : List Value) × TreeReads T (tree_of p) w × (trees_of ps ≡ form.trees others) × TreeReadsAll more others ws
 first_item T more p ps [] vs e h = absurd (cc)
 first_item T more p ps (u ∷ us) vs e (a, others, w, ws, f, read, rest, g) =
     let both = more_trees (tree_of p) u (trees_of ps) (form.trees us) e in

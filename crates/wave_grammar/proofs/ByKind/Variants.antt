@@ -19,7 +19,7 @@ use Rattle.wave_grammar.specs.Tree as form
 use Rattle.wave_grammar.specs.LeafTokens.{name_of}
 use Rattle.wave_grammar.specs.TypedGrammar.{look_up}
 use Rattle.wave_grammar.specs.Elaborates.{TreeReads, TreeReadsPayload, TreeReadsCase}
-use Rattle.wave_grammar.specs.SpannedTree.{Placed, Shape, MaybePlaced, at, label, no_placed, a_placed, slice, span_of, shape_of, tree_of, maybe_of}
+use Rattle.wave_grammar.specs.SpannedTree.{SpannedTree, SpannedShape, MaybePlaced, at, label, no_placed, a_placed, slice, span_of, shape_of, tree_of, maybe_of}
 use Rattle.wave_grammar.specs.TypeErrors.{Blame, IsRefusalOf, RefusesFor, OfForm, label_in}
 use Rattle.wave_grammar.specs.FaultOrder.{Order, FirstFault, FirstOfPayload, FirstOfCase}
 use Rattle.wave_grammar.specs.NodeTree.{NodeTree, type_of, place_of}
@@ -105,7 +105,7 @@ case_listed (type.case_of other A more) name P (inr h) = inr (case_listed more n
 -- ---- the nodes
 
 -- the label of a case, its name and its payload
-pub record CaseNode (source : List ℕ) (t : Placed) (name : List ℕ) (o : Option NodeTree) : Type 0 where
+pub record CaseNode (source : List ℕ) (t : SpannedTree) (name : List ℕ) (o : Option NodeTree) : Type 0 where
   pub place : Range ℕ
   pub text : List ℕ
   pub payload : MaybePlaced
@@ -114,7 +114,7 @@ pub record CaseNode (source : List ℕ) (t : Placed) (name : List ℕ) (o : Opti
   pub node : IsPayloadNodeOf source o payload
 
 -- the text of a flag is that at its node
-pub flag_text : (source : List ℕ) (m : NodeTree) (c : Placed) (q : Range ℕ) (w : List ℕ) → Inside source m c → flag_of c ≡ Some (q, w) → w ≡ node_text source m
+pub flag_text : (source : List ℕ) (m : NodeTree) (c : SpannedTree) (q : Range ℕ) (w : List ℕ) → Inside source m c → flag_of c ≡ Some (q, w) → w ≡ node_text source m
 flag_text source m (at p (label r v no_placed)) q w i e = sym (ap (λ (f : Range ℕ × List ℕ). f.1) (some_is _ _ e)) ∙ i.from.2
 flag_text source m _ q w i e = absurd (cc)
 
@@ -124,20 +124,20 @@ flag_text source m _ q w i e = absurd (cc)
 abbrev VariantFault : Order → Cases → Range ℕ → (List ℕ × MaybePlaced) → Blame
 VariantFault w cs p l k q = FirstOfCase w cs (name_of l.0) l.1 p k q
 
-no_label : (w : Order) (cs : Cases) (ty : NodeType) (p r : Range ℕ) (text : List ℕ) (children : List Placed) (s : Shape) (k : Refusal) (q : Range ℕ) → From ty p text children s → ty ≢ kind.Label → ty ≢ kind.VariantWithPayload → IsRefusalOf InvalidType r k q → OfForm (label_in s) r (VariantFault w cs r) k q
+no_label : (w : Order) (cs : Cases) (ty : NodeType) (p r : Range ℕ) (text : List ℕ) (children : List SpannedTree) (s : SpannedShape) (k : Refusal) (q : Range ℕ) → From ty p text children s → ty ≢ kind.Label → ty ≢ kind.VariantWithPayload → IsRefusalOf InvalidType r k q → OfForm (label_in s) r (VariantFault w cs r) k q
 no_label w cs ty p r text children (label at_label v no_placed) k q f x y refused = absurd (x f.0)
 no_label w cs ty p r text children (label at_label v (a_placed u)) k q f x y refused = absurd (y f.0)
 no_label w cs ty p r text children _ k q f x y refused = refused
 
 -- a node that is no label
-pub variant_fault : (o w : Order) (cs : Cases) (source : List ℕ) (n : NodeTree) (t : Placed) (e : Diagnostic) → placed_of source n ≡ Some t → GivesVariant source n (Err e) → FirstFault o w (type.variant cs) t (refusal_of e) e.span
+pub variant_fault : (o w : Order) (cs : Cases) (source : List ℕ) (n : NodeTree) (t : SpannedTree) (e : Diagnostic) → placed_of source n ≡ Some t → GivesVariant source n (Err e) → FirstFault o w (type.variant cs) t (refusal_of e) e.span
 variant_fault o w cs source n t e is given =
     let i = inside source n t is in
     no_label w cs (type_of n) (place_of n) (span_of t) (slice source (place_of n)) i.children (shape_of t) (refusal_of e) e.span i.from given.0 given.1 (at_tree InvalidType (place_of n) (span_of t) (refusal_of e) e.span i.place (said given.2))
 
-label_fault : (o w : Order) (cs : Cases) (t : Placed) (p : Range ℕ) (text : List ℕ) (payload : MaybePlaced) (name : List ℕ) (k : Refusal) (q : Range ℕ) → shape_of t ≡ label p text payload → name ≡ name_of text → FirstOfCase w cs name payload (span_of t) k q → FirstFault o w (type.variant cs) t k q
+label_fault : (o w : Order) (cs : Cases) (t : SpannedTree) (p : Range ℕ) (text : List ℕ) (payload : MaybePlaced) (name : List ℕ) (k : Refusal) (q : Range ℕ) → shape_of t ≡ label p text payload → name ≡ name_of text → FirstOfCase w cs name payload (span_of t) k q → FirstFault o w (type.variant cs) t k q
 label_fault o w cs t p text payload name k q shape named fault =
-    subst (λ (s : Shape). OfForm (label_in s) (span_of t) (VariantFault w cs (span_of t)) k q) (sym shape) (subst (λ (x : List ℕ). FirstOfCase w cs x payload (span_of t) k q) named fault)
+    subst (λ (s : SpannedShape). OfForm (label_in s) (span_of t) (VariantFault w cs (span_of t)) k q) (sym shape) (subst (λ (x : List ℕ). FirstOfCase w cs x payload (span_of t) k q) named fault)
 
 module _ {V : Type 0} (tree : V → Value) (of : V → TypeTree → Type 0) (Full : TypeTree → Type 0) (o w : Order) where
   first_full : (A : MaybeType) (others : List TypeTree) → AllOf Full (payload_and A others) → AllOf Full (payload_and A [])
@@ -154,7 +154,7 @@ module _ {V : Type 0} (tree : V → Value) (of : V → TypeTree → Type 0) (Ful
   case_full (type.case_of other A more) name P (inr h) full = case_full more name P h.1 (others_full A (payload_types more) full)
 
   -- a refusal of the payload of a case
-  pub case_blame : (T : TypeTree) (cs : Cases) (source : List ℕ) (n : NodeTree) (t : Placed) (name : List ℕ) (inner : Option NodeTree) (c : CaseNode source t name inner) (P : MaybeType) (e : Diagnostic) → T ≡ type.variant cs → placed_of source n ≡ Some t → HasCase cs name P → HasFullParts Full → IsPayloadBlamed Full w name P n c.payload e → IsBlamed Full o w T t e
+  pub case_blame : (T : TypeTree) (cs : Cases) (source : List ℕ) (n : NodeTree) (t : SpannedTree) (name : List ℕ) (inner : Option NodeTree) (c : CaseNode source t name inner) (P : MaybeType) (e : Diagnostic) → T ≡ type.variant cs → placed_of source n ≡ Some t → HasCase cs name P → HasFullParts Full → IsPayloadBlamed Full w name P n c.payload e → IsBlamed Full o w T t e
   case_blame T cs source n t name inner c P e is node found parts (inl memory) = inl memory
   case_blame T cs source n t name inner c P e is node found parts (inr (inl fault)) =
       let placed = subst (λ (p : Range ℕ). FirstOfPayload w name P c.payload p (refusal_of e) e.span) (sym (inside source n t node).place) fault in
@@ -162,12 +162,12 @@ module _ {V : Type 0} (tree : V → Value) (of : V → TypeTree → Type 0) (Ful
   case_blame T cs source n t name inner c P e is node found parts (inr (inr h)) = inr (inr (h.0, λ full. h.1 (case_full cs name P found (parts (type.variant cs) (subst Full is full)))))
 
   -- the refusal of a label that is no case
-  pub no_case_blame : (T : TypeTree) (cs : Cases) (source : List ℕ) (n : NodeTree) (t : Placed) (name : List ℕ) (inner : Option NodeTree) (c : CaseNode source t name inner) (e : Diagnostic) → T ≡ type.variant cs → placed_of source n ≡ Some t → IsNoneOf (case_names cs) name → IsCaused (unknown_case name) n e → IsBlamed Full o w T t e
+  pub no_case_blame : (T : TypeTree) (cs : Cases) (source : List ℕ) (n : NodeTree) (t : SpannedTree) (name : List ℕ) (inner : Option NodeTree) (c : CaseNode source t name inner) (e : Diagnostic) → T ≡ type.variant cs → placed_of source n ≡ Some t → IsNoneOf (case_names cs) name → IsCaused (unknown_case name) n e → IsBlamed Full o w T t e
   no_case_blame T cs source n t name inner c e is node none caused =
       caused_blame Full o w T source n t (unknown_case name) e node caused (λ refused.
       subst (λ (U : TypeTree). FirstFault o w U t (refusal_of e) e.span) (sym is) (label_fault o w cs t c.place c.text c.payload name (refusal_of e) e.span c.shape c.named (missing_fault o w cs name c.payload (span_of t) (refusal_of e) e.span none refused)))
 
-  variant_reads : (T : TypeTree) (cs : Cases) (t : Placed) (name : List ℕ) (payload : Option V) (m : Result V WasmValueError) → T ≡ type.variant cs → HasDistinctNames T → TreeReads (type.variant cs) (tree_of t) (value.variant name (maybe_value (option_map tree payload))) → IfOk m (MakesVariant tree of T name payload) → IfOk m (IsTypedValue tree of T t)
+  variant_reads : (T : TypeTree) (cs : Cases) (t : SpannedTree) (name : List ℕ) (payload : Option V) (m : Result V WasmValueError) → T ≡ type.variant cs → HasDistinctNames T → TreeReads (type.variant cs) (tree_of t) (value.variant name (maybe_value (option_map tree payload))) → IfOk m (MakesVariant tree of T name payload) → IfOk m (IsTypedValue tree of T t)
   variant_reads T cs t name payload (Ok v) is distinct read h =
       let makes = h distinct in
       record { reads = subst (λ (U : TypeTree). TreeReads U (tree_of t) (tree v)) (sym is) (subst (λ (w : Value). TreeReads (type.variant cs) (tree_of t) w) (sym makes.means) read); is_of = makes.is_of }
@@ -178,7 +178,7 @@ module _ {V : Type 0} (tree : V → Value) (of : V → TypeTree → Type 0) (Ful
   variant_full T cs name P payload (Err cause) is found h f = λ full. f full cs is (type_option P) (case_listed cs name P found) h
 
   -- the case was made, or its constructor refused
-  pub variant_made : (T : TypeTree) (cs : Cases) (source : List ℕ) (t : Placed) (n : NodeTree) (name : List ℕ) (inner : Option NodeTree) (c : CaseNode source t name inner) (P : MaybeType) (payload : Option V) (m : Result V WasmValueError) (r : Result V Diagnostic) → T ≡ type.variant cs → HasDistinctNames T → HasCase cs name P → IsPayloadRead tree of P c.payload payload → IfOk m (MakesVariant tree of T name payload) → IfErr m (FullVariant of Full T name payload) → IsMade n m r → MatchResult r (IsTypedValue tree of T t) (IsBlamed Full o w T t)
+  pub variant_made : (T : TypeTree) (cs : Cases) (source : List ℕ) (t : SpannedTree) (n : NodeTree) (name : List ℕ) (inner : Option NodeTree) (c : CaseNode source t name inner) (P : MaybeType) (payload : Option V) (m : Result V WasmValueError) (r : Result V Diagnostic) → T ≡ type.variant cs → HasDistinctNames T → HasCase cs name P → IsPayloadRead tree of P c.payload payload → IfOk m (MakesVariant tree of T name payload) → IfErr m (FullVariant of Full T name payload) → IsMade n m r → MatchResult r (IsTypedValue tree of T t) (IsBlamed Full o w T t)
   variant_made T cs source t n name inner c P payload m r is distinct found read ok full done =
       let given = maybe_value (option_map tree payload) in
       let read_case = subst (λ (x : List ℕ). TreeReadsCase cs x (maybe_of c.payload) given) c.named (case_reads cs name P (maybe_of c.payload) given found read.reads) in

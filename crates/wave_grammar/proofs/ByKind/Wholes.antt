@@ -14,7 +14,7 @@ use Rattle.wave_wasm.specs.declared.wasm.WasmTypeKind.TheVariants as kinds
 use Rattle.wave_wasm.specs.declared.wasm.WasmValueError.{WasmValueError}
 use Rattle.wave_lex.specs.Errors.{Diagnostic}
 use Rattle.wave_grammar.specs.Token.{Token}
-use Rattle.wave_grammar.specs.SpannedTree.{Placed}
+use Rattle.wave_grammar.specs.SpannedTree.{SpannedTree}
 use Rattle.wave_grammar.specs.FaultOrder.{Order}
 use Rattle.wave_grammar.specs.NodeTree.{NodeTree, place_of}
 use Rattle.wave_grammar.specs.Nodes.{placed_of, IsTokenOf}
@@ -115,16 +115,16 @@ module _ {V : Type 0} (tree : V → Value) (of : V → TypeTree → Type 0) (Ful
 
   -- ---- values
 
-  whole_value : (o w : Order) (T : TypeTree) (which : Whole) (source : List ℕ) (n : NodeTree) (t : Placed) (r : Result V Diagnostic) → T ≡ type.simple (type.whole which) → placed_of source n ≡ Some t → IsWholeRead tree of Full which source n r → MatchResult r (IsTypedValue tree of T t) (IsBlamed Full o w T t)
+  whole_value : (o w : Order) (T : TypeTree) (which : Whole) (source : List ℕ) (n : NodeTree) (t : SpannedTree) (r : Result V Diagnostic) → T ≡ type.simple (type.whole which) → placed_of source n ≡ Some t → IsWholeRead tree of Full which source n r → MatchResult r (IsTypedValue tree of T t) (IsBlamed Full o w T t)
   whole_value o w T which source n t r is node (inl (z, given, made)) = leaf_made tree of Full o w T t n (value.whole which z) made.0 r is (number_read which source n t z node given.0 given.1) made.1 made.2 made.3
   whole_value o w T which source n t r is node (inr (e, given, same)) = faulty tree of Full o w T t (type.simple (type.whole which)) e r is same (number_blame o w which (λ (x : ℤ). x) source n t e node given)
 
-  unread_value : (o w : Order) (T : TypeTree) (k : WasmTypeKind) (source : List ℕ) (n : NodeTree) (t : Placed) (r : Result V Diagnostic) → k ≡ kind_of T → placed_of source n ≡ Some t → IsUnread k → ((which : Whole) → k ≢ whole_kind which) → IsErrAnd r (λ e. IsCaused (unsupported_type (kind_word k)) n e × (e.span ≡ place_of n)) → MatchResult r (IsTypedValue tree of T t) (IsBlamed Full o w T t)
+  unread_value : (o w : Order) (T : TypeTree) (k : WasmTypeKind) (source : List ℕ) (n : NodeTree) (t : SpannedTree) (r : Result V Diagnostic) → k ≡ kind_of T → placed_of source n ≡ Some t → IsUnread k → ((which : Whole) → k ≢ whole_kind which) → IsErrAnd r (λ e. IsCaused (unsupported_type (kind_word k)) n e × (e.span ≡ place_of n)) → MatchResult r (IsTypedValue tree of T t) (IsBlamed Full o w T t)
   unread_value o w T k source n t (Ok v) is node unread none h = absurd h
   unread_value o w T k source n t (Err e) is node unread none h = unread_blame Full o w T source n t k e node is unread none h.0
 
   -- what is answered at a type of a kind that is read nowhere else
-  pub whole_answers : (o w : Order) (T : TypeTree) (k : WasmTypeKind) (source : List ℕ) (n : NodeTree) (t : Placed) (r : Result V Diagnostic) → k ≡ kind_of T → placed_of source n ≡ Some t → IsUnread k → AnswersWhole tree of Full k source n r → MatchResult r (IsTypedValue tree of T t) (IsBlamed Full o w T t)
+  pub whole_answers : (o w : Order) (T : TypeTree) (k : WasmTypeKind) (source : List ℕ) (n : NodeTree) (t : SpannedTree) (r : Result V Diagnostic) → k ≡ kind_of T → placed_of source n ≡ Some t → IsUnread k → AnswersWhole tree of Full k source n r → MatchResult r (IsTypedValue tree of T t) (IsBlamed Full o w T t)
   whole_answers o w T k source n t r is node unread h = by (whole_of k)
     where
       by : ((which : Whole) × (k ≡ whole_kind which)) ⊎ ((which : Whole) → k ≢ whole_kind which) → MatchResult r (IsTypedValue tree of T t) (IsBlamed Full o w T t)

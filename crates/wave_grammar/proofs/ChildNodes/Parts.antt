@@ -1,7 +1,7 @@
 -- The nodes within a node that was parsed as a value are parsed too.
 use Rattle.std.proofs.Common.{ℕ, ◌≡◌, ◌⊎◌, inl, List, [], ◌∷◌, map, Option, Some, None, Bor, refl, sym, ap, ◌∙◌, subst}
 use Rattle.wave_wasm.specs.Lists.{AllOf}
-use Rattle.wave_grammar.specs.SpannedTree.{Placed, MaybePlaced, no_placed, a_placed, PlacedEntry, entry_list}
+use Rattle.wave_grammar.specs.SpannedTree.{SpannedTree, MaybePlaced, no_placed, a_placed, PlacedEntry, entry_list}
 use Rattle.wave_grammar.specs.NodeTree.{NodeTree, type_of, children_of}
 use Rattle.wave_grammar.specs.Nodes.{IsNodeOf, IsParsedFrom}
 use Rattle.wave_grammar.specs.NodeAccessors.{first_of, shown_node, node_pairs, AreValuesWithin, IsValueWithin, IsEntryOf, AreEntriesWithin}
@@ -18,7 +18,7 @@ use Rattle.wave_grammar.proofs.ByKind.Results.{ok_node, err_node}
 use Rattle.wave_grammar.specs.declared.form.NodeType.TheVariants as kind
 
 -- the nodes of trees are values
-all_values : (source : List ℕ) (ns : List NodeTree) (ts : List Placed) → AreNodesOf source ns ts → AllOf (IsValueOf source) ns
+all_values : (source : List ℕ) (ns : List NodeTree) (ts : List SpannedTree) → AreNodesOf source ns ts → AllOf (IsValueOf source) ns
 all_values source [] [] h = tt
 all_values source [] (t ∷ ts) h = absurd h
 all_values source (n ∷ ns) [] h = absurd h

@@ -17,9 +17,9 @@ use Rattle.wave_lex.specs.declared.machine.name.Component.TheVariants as compone
 use Rattle.wave_lex.specs.declared.machine.name.Number.TheVariants as number
 use Rattle.wave_lex.specs.Shared.NameMachine.{name_rest, name_step}
 use Rattle.wave_lex.specs.FunctionName.{IsName}
-use Rattle.wave_lex.specs.LongestMatch.{IsFront}
+use Rattle.wave_lex.specs.LongestMatch.{IsPrefixOf}
 use Rattle.wave_lex.specs.Regex.{nothing, Matches}
-use Rattle.wave_lex.specs.Shared.Derive.{after, after_all}
+use Rattle.wave_lex.specs.Shared.Derive.{derivative, derivative_by}
 use Rattle.wave_lex.specs.Tokens.{function_name}
 use Rattle.wave_lex.proofs.NameMachine.{name_steps}
 use Rattle.wave_grammar.specs.Token.{Token, CutsInto, paren_open, paren_close}
@@ -44,7 +44,7 @@ use Rattle.wave_grammar.proofs.Elaboration.Params.{params_to, params_from}
 -- ---- names
 
 -- no state of a name takes a `(`
-name_stops : (q : NameState) → after 40 (name_rest q) ≡ nothing
+name_stops : (q : NameState) → derivative 40 (name_rest q) ≡ nothing
 name_stops (Label section.First word.Start) = refl
 name_stops (Label section.Namespace word.Start) = refl
 name_stops (Label section.Function word.Start) = refl
@@ -54,15 +54,15 @@ name_stops (Version component.Minor number.Start) = refl
 name_stops (Version component.Patch number.Start) = refl
 name_stops _ = refl
 
-name_ends : (cs : List ℕ) → Matches function_name cs → after 40 (after_all cs function_name) ≡ nothing
-name_ends cs h = let (q, e) = reached NameState name_rest name_step name_steps (Label section.First word.Start) cs h in ap (after 40) e ∙ name_stops q
+name_ends : (cs : List ℕ) → Matches function_name cs → derivative 40 (derivative_by cs function_name) ≡ nothing
+name_ends cs h = let (q, e) = reached NameState name_rest name_step name_steps (Label section.First word.Start) cs h in ap (derivative 40) e ∙ name_stops q
 
 -- a name is the longest before a `(`
 name_there : (cs x r : List ℕ) → encode_utf8_all cs ≡ x → Matches function_name cs → IsName (x ++ 40 ∷ r) (length x)
 name_there cs x r e h =
     (record { scalars = cs; fits = omega (arith, length-append x (40 ∷ r)); spelled = e ∙ sym (take-append_seam x (40 ∷ r)); has = h }, λ j f. no_longer j f)
   where
-    no_longer : (j : ℕ) → IsFront function_name (x ++ 40 ∷ r) j → j ≤ length x
+    no_longer : (j : ℕ) → IsPrefixOf function_name (x ++ 40 ∷ r) j → j ≤ length x
     no_longer j f =
         let size : length (encode_utf8_all f.scalars) ≡ j = ap length f.spelled ∙ length-take-le j (x ++ 40 ∷ r) f.fits in
         let long : length (encode_utf8_all cs) ≡ length x = ap length e in
@@ -70,7 +70,7 @@ name_there cs x r e h =
           | inl l ↦ omega arith
           | inr (c, es, g, there) ↦
               let same : c ≡ 40 = (encode_same c 40 _ r (sym there ∙ ap (λ (z : List ℕ). z ++ r) (sym (encode_ascii 40 (ltb-true 40 128 refl))))).0 in
-              stops_here function_name cs es c (ap (λ (z : ℕ). after z (after_all cs function_name)) same ∙ name_ends cs h) (subst (λ (z : List ℕ). Matches function_name z) g f.has)
+              stops_here function_name cs es c (ap (λ (z : ℕ). derivative z (derivative_by cs function_name)) same ∙ name_ends cs h) (subst (λ (z : List ℕ). Matches function_name z) g f.has)
         ]
 
 -- the parameters of a call, displayed after its name

@@ -5,7 +5,7 @@ use Rattle.std.proofs.lemmas.Bool.Decides.{nat_tests}
 use Rattle.wave_wasm.specs.Lists.{AllOf}
 use Rattle.wave_lex.specs.declared.lex.Token.TheVariants as class
 use Rattle.wave_lex.specs.Regex.{Matches, is_within}
-use Rattle.wave_lex.specs.Shared.Derive.{may_be_empty, after}
+use Rattle.wave_lex.specs.Shared.Derive.{nullable, derivative}
 use Rattle.wave_lex.specs.Tokens as shapes
 use Rattle.wave_lex.specs.Tokens.{shape}
 use Rattle.wave_lex.specs.Labels.{IsLabel}
@@ -33,7 +33,7 @@ front_shapes s (t ∷ ts) q (g, k, gap, long, text, front) = ((long.is.0.scalars
 pub cut_shapes : (s : List ℕ) (ts : List Token) → CutsInto s ts → AllOf HasShape ts
 cut_shapes s ts (q, front, end) = front_shapes s ts q front
 
-multiline_stops : (q : MultilineState) → may_be_empty (multiline_rest q) ≡ true → no_stop (multiline_rest q) ≡ true
+multiline_stops : (q : MultilineState) → nullable (multiline_rest q) ≡ true → no_stop (multiline_rest q) ≡ true
 multiline_stops multiline_state.Start e = cc
 multiline_stops multiline_state.Open1 e = cc
 multiline_stops multiline_state.Open2 e = cc
@@ -46,8 +46,8 @@ multiline_stops multiline_state.Close e = refl
 multiline_ends : (cs : List ℕ) → Matches shapes.multiline_string cs → NoStopAfter class.MultilineString cs
 multiline_ends cs h b s =
     let (q, e) = reached MultilineState multiline_rest multiline_step multiline_steps multiline_state.Start cs h in
-    let last : may_be_empty (multiline_rest q) ≡ true = ap may_be_empty (sym e) ∙ matches_into cs shapes.multiline_string h in
-    ap (after b) e ∙ no_stop_after (multiline_rest q) (multiline_stops q last) b s
+    let last : nullable (multiline_rest q) ≡ true = ap nullable (sym e) ∙ matches_into cs shapes.multiline_string h in
+    ap (derivative b) e ∙ no_stop_after (multiline_rest q) (multiline_stops q last) b s
 
 -- the text of a key or of a leaf is that token, where a mark follows
 pub alone : (t : Token) → IsKey t → HasShape t → IsOneToken (text_of t) t

@@ -10,7 +10,7 @@ use Rattle.wave_lex.specs.declared.error.ParserErrorKind.TheVariants.{DuplicateF
 use Rattle.wave_lex.specs.Strings.{IsBadEscapeAt}
 use Rattle.wave_lex.specs.Multiline.{LineFault, closing, opening, indentation, escape, put_first, pieces, spaces, BadLine, BadLines, MultilineFault, fault_span}
 use Rattle.wave_grammar.specs.Token.{Token, text_of}
-use Rattle.wave_grammar.specs.SpannedTree.{Placed, at, one, tuple, list, empty_braces, no_fields, entries, flags, label, none, some, ok, err, MaybePlaced, no_placed, a_placed, PlacedTrees, no_more, and_then, PlacedEntries, no_entries, entry, PlacedEntry, entry_list, placed_list, span_of, slice, HoldsTokens, SpellsEach, SpellsMaybe, SpellsAll, SpellsEntries, LiesIn}
+use Rattle.wave_grammar.specs.SpannedTree.{SpannedTree, at, one, tuple, list, empty_braces, no_fields, entries, flags, label, none, some, ok, err, MaybePlaced, no_placed, a_placed, PlacedTrees, no_more, and_then, PlacedEntries, no_entries, entry, PlacedEntry, entry_list, placed_list, span_of, slice, HoldsTokens, SpellsEach, SpellsMaybe, SpellsAll, SpellsEntries, LiesIn}
 use Rattle.wave_grammar.specs.TypeErrors.{RefusesWith, names_in, LeafFault, MapKeyFault, RepeatedField, MissingField, Fault, FaultOfPayload, FaultOfFlat, FaultOfItem, FaultOfField, FaultOfCase}
 use Rattle.wave_grammar.specs.NodeLaws.{FaultsLieInText}
 use Rattle.wave_grammar.proofs.NodeTexts.Quoted.{IsQuoted, one_holds}
@@ -125,7 +125,7 @@ module _ (source : List ℕ) (k : Refusal) (q : Range ℕ) where
     pub value : LiesIn (span_of e.value) from to
     pub spells : SpellsEach source e.value
 
-  each_ordered : (t : Placed) → SpellsEach source t → (span_of t).start ≤ (span_of t).end
+  each_ordered : (t : SpannedTree) → SpellsEach source t → (span_of t).start ≤ (span_of t).end
   each_ordered (at p s) h = h.0.1.0.ordered
 
   entry_wider : (a from to : ℕ) (e : PlacedEntry) → a ≤ from → EntryIn from to e → EntryIn a to e
@@ -170,7 +170,7 @@ module _ (source : List ℕ) (k : Refusal) (q : Range ℕ) where
 
   -- faults of trees of this type lie within them
   abbrev Within : TypeTree → Type 0
-  Within T = (u : Placed) → SpellsEach source u → Fault T u k q → Lies (span_of u).start (span_of u).end q
+  Within T = (u : SpannedTree) → SpellsEach source u → Fault T u k q → Lies (span_of u).start (span_of u).end q
 
   entry_lies : (K : Simple) (V : TypeTree) (from to : ℕ) (e : PlacedEntry) → Within V → EntryIn from to e → MapKeyFault K e.place e.key k q ⊎ Fault V e.value k q → Lies from to q
   entry_lies K V from to e within i (inl f) = map_key_lies K from to e i f
@@ -186,7 +186,7 @@ module _ (source : List ℕ) (k : Refusal) (q : Range ℕ) where
   -- ---- trees
 
   mutual
-    pub fault_lies : (T : TypeTree) (t : Placed) → SpellsEach source t → Fault T t k q → Lies (span_of t).start (span_of t).end q
+    pub fault_lies : (T : TypeTree) (t : SpannedTree) → SpellsEach source t → Fault T t k q → Lies (span_of t).start (span_of t).end q
     fault_lies (type.simple S) (at p (one tok)) h f = leaf_lies S p tok h.0.1.0.ordered (λ quoted. one_holds source (at p (one tok)) tok quoted refl h) f
     fault_lies (type.simple S) (at p _) h f = whole p q f.1 h.0.1.0.ordered
     fault_lies (type.unreadable u) (at p s) h f = whole p q f.1 h.0.1.0.ordered
@@ -257,7 +257,7 @@ module _ (source : List ℕ) (k : Refusal) (q : Range ℕ) where
         let c = h.0.0 in let d = h.0.1 in
         wider p.start p.end (span_of t).start (span_of t).end q (omega arith) (omega arith) (fault_lies T t h.1 f)
 
-    flat_lies : (A : MaybeType) (t : Placed) → SpellsEach source t → FaultOfFlat A t k q → Lies (span_of t).start (span_of t).end q
+    flat_lies : (A : MaybeType) (t : SpannedTree) → SpellsEach source t → FaultOfFlat A t k q → Lies (span_of t).start (span_of t).end q
     flat_lies no_type (at p s) h f = whole p q f.1 h.0.1.0.ordered
     flat_lies (a_type T) (at p s) h (inl f) = whole p q f.1.1 h.0.1.0.ordered
     flat_lies (a_type T) (at p s) h (inr f) = fault_lies T (at p s) h f.1
@@ -270,5 +270,5 @@ faults_lie source T t k q h f =
     let last = ends source t h in
     (l.1, omega (arith, l.2, last))
   where
-    ends : (source : List ℕ) (t : Placed) → SpellsEach source t → (span_of t).end ≤ length source
+    ends : (source : List ℕ) (t : SpannedTree) → SpellsEach source t → (span_of t).end ≤ length source
     ends source (at p s) h = h.0.1.0.last.0

@@ -11,7 +11,7 @@ use Rattle.wave_lex.specs.declared.error.ParserErrorKind.TheVariants as why
 use Rattle.wave_lex.specs.Tokenization.{Stands}
 use Rattle.wave_grammar.specs.Token.{Token}
 use Rattle.wave_grammar.specs.Token as token
-use Rattle.wave_grammar.specs.SpannedTree.{Placed, at, Shape, one, tuple, list, empty_braces, no_fields, entries, flags, label, none, some, ok, err, no_placed, a_placed, PlacedEntries, entry, placed_trees, slice, span_of, LiesIn, SpellsEach, SpellsParts, SpellsAll, SpellsEntries, SpellsFlags}
+use Rattle.wave_grammar.specs.SpannedTree.{SpannedTree, at, SpannedShape, one, tuple, list, empty_braces, no_fields, entries, flags, label, none, some, ok, err, no_placed, a_placed, PlacedEntries, entry, placed_trees, slice, span_of, LiesIn, SpellsEach, SpellsParts, SpellsAll, SpellsEntries, SpellsFlags}
 use Rattle.wave_grammar.specs.NodeTree.{NodeTree, NodeTrees, node, no_nodes, node_and, node_list, type_of, place_of, children_of}
 use Rattle.wave_grammar.specs.Nodes.{placed_of, pairs_of, flags_of, flag_of, key_of, IsNodeOf, IsParsedFrom}
 use Rattle.wave_wasm.specs.Types.{TypeTree, Whole}
@@ -40,20 +40,20 @@ use Rattle.wave_grammar.proofs.ErrorSpans.Faults.{escape_inside, multiline_offse
 abbrev Between : ℕ → ℕ → NodeTree → Type 0
 Between from to m = LiesIn (place_of m) from to
 
-place_is : (source : List ℕ) (n : NodeTree) (t : Placed) → placed_of source n ≡ Some t → span_of t ≡ place_of n
+place_is : (source : List ℕ) (n : NodeTree) (t : SpannedTree) → placed_of source n ≡ Some t → span_of t ≡ place_of n
 place_is source n t e = (inside source n t e).place
 
-between : (source : List ℕ) (n : NodeTree) (t : Placed) (from to : ℕ) → placed_of source n ≡ Some t → LiesIn (span_of t) from to → Between from to n
+between : (source : List ℕ) (n : NodeTree) (t : SpannedTree) (from to : ℕ) → placed_of source n ≡ Some t → LiesIn (span_of t) from to → Between from to n
 between source n t from to e h = subst (λ (p : Range ℕ). LiesIn p from to) (place_is source n t e) h
 
 all_wider : (a from to : ℕ) (ns : List NodeTree) → a ≤ from → AllOf (Between from to) ns → AllOf (Between a to) ns
 all_wider a from to [] le h = tt
 all_wider a from to (n ∷ ns) le h = ((omega (arith, h.0.0), h.0.1), all_wider a from to ns le h.1)
 
-ordered : (source : List ℕ) (t : Placed) → SpellsEach source t → (span_of t).start ≤ (span_of t).end
+ordered : (source : List ℕ) (t : SpannedTree) → SpellsEach source t → (span_of t).start ≤ (span_of t).end
 ordered source (at p s) h = h.0.1.0.ordered
 
-items_between : (source : List ℕ) (ns : List NodeTree) (ts : List Placed) (from to : ℕ) → AreParsed source ns ts → SpellsAll source from to (placed_trees ts) → AllOf (Between from to) ns
+items_between : (source : List ℕ) (ns : List NodeTree) (ts : List SpannedTree) (from to : ℕ) → AreParsed source ns ts → SpellsAll source from to (placed_trees ts) → AllOf (Between from to) ns
 items_between source [] ts from to h s = tt
 items_between source (n ∷ ns) [] from to h s = absurd h
 items_between source (n ∷ ns) (t ∷ ts) from to h s =
@@ -61,7 +61,7 @@ items_between source (n ∷ ns) (t ∷ ts) from to h s =
     let a = s.0.0 in
     (between source n t from to h.0 s.0, all_wider from (span_of t).end to ns (omega arith) (items_between source ns ts (span_of t).end to h.1 s.2))
 
-entries_between : (source : List ℕ) (ns : List NodeTree) (cs : List Placed) (es : PlacedEntries) (from to : ℕ) → AreParsed source ns cs → pairs_of cs ≡ Some es → SpellsEntries source from to es → AllOf (Between from to) ns
+entries_between : (source : List ℕ) (ns : List NodeTree) (cs : List SpannedTree) (es : PlacedEntries) (from to : ℕ) → AreParsed source ns cs → pairs_of cs ≡ Some es → SpellsEntries source from to es → AllOf (Between from to) ns
 entries_between source [] cs es from to h e s = tt
 entries_between source (n ∷ ns) [] es from to h e s = absurd h
 entries_between source (n ∷ ns) (k ∷ []) es from to h e s = absurd (cc)
@@ -77,7 +77,7 @@ entries_between source (n ∷ m ∷ ns) (k ∷ v ∷ cs) es from to h e s =
       (between source m v from to h.1.0 (omega arith, spelled.2.1), all_wider from (span_of v).end to ns (omega arith) (entries_between source ns cs b.1 (span_of v).end to h.1.1 b.3 spelled.4)),
     )
 
-flags_between : (source : List ℕ) (p : Range ℕ) (ns : List NodeTree) (cs : List Placed) (fs : List (Range ℕ × List ℕ)) → AreParsed source ns cs → flags_of cs ≡ Some fs → SpellsFlags source p fs → AllOf (Between p.start p.end) ns
+flags_between : (source : List ℕ) (p : Range ℕ) (ns : List NodeTree) (cs : List SpannedTree) (fs : List (Range ℕ × List ℕ)) → AreParsed source ns cs → flags_of cs ≡ Some fs → SpellsFlags source p fs → AllOf (Between p.start p.end) ns
 flags_between source p [] cs fs h e s = tt
 flags_between source p (n ∷ ns) [] fs h e s = absurd h
 flags_between source p (n ∷ ns) (c ∷ cs) fs h e s =
@@ -85,16 +85,16 @@ flags_between source p (n ∷ ns) (c ∷ cs) fs h e s =
     let spelled : SpellsFlags source p (b.0 ∷ b.1) = subst (SpellsFlags source p) b.4 s in
     (subst (λ (q : Range ℕ). LiesIn q p.start p.end) (key_place source n c b.0.0 (token.label b.0.1) (inside source n c h.0) (flag_key c b.0.0 b.0.1 b.2)) spelled.0, flags_between source p ns cs b.1 h.1 b.3 spelled.2)
 
-none_between : (source : List ℕ) (from to : ℕ) (ns : List NodeTree) (cs : List Placed) → cs ≡ [] → AreParsed source ns cs → AllOf (Between from to) ns
+none_between : (source : List ℕ) (from to : ℕ) (ns : List NodeTree) (cs : List SpannedTree) → cs ≡ [] → AreParsed source ns cs → AllOf (Between from to) ns
 none_between source from to [] cs e h = tt
 none_between source from to (n ∷ ns) cs e h = absurd (subst (AreParsed source (n ∷ ns)) e h)
 
-one_between : (source : List ℕ) (from to : ℕ) (ns : List NodeTree) (cs : List Placed) (t : Placed) → cs ≡ t ∷ [] → AreParsed source ns cs → LiesIn (span_of t) from to → AllOf (Between from to) ns
+one_between : (source : List ℕ) (from to : ℕ) (ns : List NodeTree) (cs : List SpannedTree) (t : SpannedTree) → cs ≡ t ∷ [] → AreParsed source ns cs → LiesIn (span_of t) from to → AllOf (Between from to) ns
 one_between source from to [] cs t e h l = tt
 one_between source from to (n ∷ []) cs t e h l = (between source n t from to (subst (AreParsed source (n ∷ [])) e h).0 l, tt)
 one_between source from to (n ∷ m ∷ ns) cs t e h l = absurd (subst (AreParsed source (n ∷ m ∷ ns)) e h).1
 
-case_between : (source : List ℕ) (p q : Range ℕ) (w : List ℕ) (ns : List NodeTree) (cs : List Placed) (c t : Placed) → cs ≡ c ∷ t ∷ [] → flag_of c ≡ Some (q, w) → AreParsed source ns cs → LiesIn q p.start p.end → q.start ≤ q.end → LiesIn (span_of t) q.end p.end → AllOf (Between p.start p.end) ns
+case_between : (source : List ℕ) (p q : Range ℕ) (w : List ℕ) (ns : List NodeTree) (cs : List SpannedTree) (c t : SpannedTree) → cs ≡ c ∷ t ∷ [] → flag_of c ≡ Some (q, w) → AreParsed source ns cs → LiesIn q p.start p.end → q.start ≤ q.end → LiesIn (span_of t) q.end p.end → AllOf (Between p.start p.end) ns
 case_between source p q w ns cs c t e flag h first o behind =
     let k = pair_parsed source ns c t (subst (AreParsed source ns) e h) in
     let from = first.0 in
@@ -104,10 +104,10 @@ case_between source p q w ns cs c t e flag h first o behind =
       (between source k.1 t p.start p.end k.4 (omega arith, behind.1), tt),
     )
 
-behind_word : (p : Range ℕ) (t : Placed) → LiesIn (span_of t) (p.start + 1) p.end → LiesIn (span_of t) p.start p.end
+behind_word : (p : Range ℕ) (t : SpannedTree) → LiesIn (span_of t) (p.start + 1) p.end → LiesIn (span_of t) p.start p.end
 behind_word p t l = let a = l.0 in (omega arith, l.1)
 
-shape_between : (source : List ℕ) (ty : NodeType) (p : Range ℕ) (text : List ℕ) (cs : List Placed) (s : Shape) (ns : List NodeTree) → From ty p text cs s → SpellsParts source p s → AreParsed source ns cs → AllOf (Between p.start p.end) ns
+shape_between : (source : List ℕ) (ty : NodeType) (p : Range ℕ) (text : List ℕ) (cs : List SpannedTree) (s : SpannedShape) (ns : List NodeTree) → From ty p text cs s → SpellsParts source p s → AreParsed source ns cs → AllOf (Between p.start p.end) ns
 shape_between source ty p text cs (one (token.label w)) ns f s h = none_between source p.start p.end ns cs f.0 h
 shape_between source ty p text cs (one (token.number w)) ns f s h = none_between source p.start p.end ns cs f.0 h
 shape_between source ty p text cs (one (token.char w)) ns f s h = none_between source p.start p.end ns cs f.0 h
@@ -129,7 +129,7 @@ shape_between source ty p text cs (ok (a_placed t)) ns f s h = one_between sourc
 shape_between source ty p text cs (err no_placed) ns f s h = none_between source p.start p.end ns cs f.1 h
 shape_between source ty p text cs (err (a_placed t)) ns f s h = one_between source p.start p.end ns cs t f.1 h (behind_word p t s.0)
 
-children_between : (source : List ℕ) (n : NodeTree) (t : Placed) → IsNodeOf source n t → AllOf (Between (place_of n).start (place_of n).end) (children_of n)
+children_between : (source : List ℕ) (n : NodeTree) (t : SpannedTree) → IsNodeOf source n t → AllOf (Between (place_of n).start (place_of n).end) (children_of n)
 children_between source n (at r s) h =
     let i = inside source n (at r s) h.0 in
     let nodes : AreParsed source (children_of n) i.children = subst (λ (ns : List NodeTree). AreParsed source ns i.children) (nodes_are n) (parsed source (nodes_in n) i.children i.each) in

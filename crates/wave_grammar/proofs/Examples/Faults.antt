@@ -12,7 +12,7 @@ use Rattle.wave_wasm.proofs.NameTests.{none_of}
 use Rattle.wave_grammar.specs.Token as token
 use Rattle.wave_grammar.specs.LeafTokens.{name_of}
 use Rattle.wave_grammar.specs.SpannedTree as placed
-use Rattle.wave_grammar.specs.SpannedTree.{Placed, at}
+use Rattle.wave_grammar.specs.SpannedTree.{SpannedTree, at}
 use Rattle.wave_grammar.specs.TypeErrors.{Blame}
 use Rattle.wave_grammar.specs.FaultOrder.{Order, in_text, by_type, BlamesNothing, OrElse, FaultOfKey, FirstFault}
 use Rattle.wave_grammar.specs.FaultLaws.{BlamesOnly}
@@ -22,15 +22,15 @@ use Rattle.wave_grammar.proofs.Examples.Readings.{one, u8}
 use Rattle.wave_grammar.proofs.Examples.Refusals.{leaf, big, too_large, a_type}
 
 -- the fault is answered, and no other, where the parts are looked at in the order `o` and those of each part in the order `w`
-record Answered (o w : Order) (T : TypeTree) (t : Placed) (k : Refusal) (q : Range ℕ) : Type 0 where
+record Answered (o w : Order) (T : TypeTree) (t : SpannedTree) (k : Refusal) (q : Range ℕ) : Type 0 where
   is : FirstFault o w T t k q
   alone : BlamesOnly (FirstFault o w T t) k q
 
-answered : {o w : Order} {T : TypeTree} {t : Placed} {k : Refusal} {q : Range ℕ} → FirstFault o w T t k q → Answered o w T t k q
+answered : {o w : Order} {T : TypeTree} {t : SpannedTree} {k : Refusal} {q : Range ℕ} → FirstFault o w T t k q → Answered o w T t k q
 answered {o} {w} {T} {t} {k} {q} h = record { is = h; alone = λ l r g. one_fault o w T t l k r q g h }
 
 -- `[256, 256]` at list<u8>: the first `256`, in both orders
-abbrev big_list : Placed
+abbrev big_list : SpannedTree
 big_list = at (span 0 10) (placed.list (placed.placed_trees (leaf 1 4 big ∷ leaf 6 9 big ∷ [])))
 
 lists : Answered in_text in_text (type.list u8) big_list (plainly InvalidValue) (span 1 4) × Answered by_type by_type (type.list u8) big_list (plainly InvalidValue) (span 1 4)
@@ -38,7 +38,7 @@ lists = (answered (inl too_large), answered (inl too_large))
 
 -- `(256, 1)` at tuple<u8>: `InvalidValue` 1..4 in the order of the text, and the cause `WrongNumberOfTupleValues` 0..8 in that of the type;
 -- at option<tuple<u8>> it is the value itself that is looked at, and in `some((256, 1))` a part of it
-abbrev two_values : ℕ → Placed
+abbrev two_values : ℕ → SpannedTree
 two_values from = at (span from (from + 8)) (placed.tuple (placed.placed_trees (leaf (from + 1) (from + 4) big ∷ leaf (from + 6) (from + 7) one ∷ [])))
 
 abbrev one_u8 : TypeTree
@@ -57,7 +57,7 @@ b_for_a e = apart (codes "b") (codes "a") refl (first _ _ e)
     first name other e = cc
 
 -- a label that none of the earlier ones is is right
-new_label : (earlier : List (List ℕ)) (name : List ℕ) (p : Range ℕ) (v : Placed) → (IsOneOf earlier (name_of name) → ⊥) → BlamesNothing (FaultOfKey earlier (record { place = p; key = token.label name; value = v }))
+new_label : (earlier : List (List ℕ)) (name : List ℕ) (p : Range ℕ) (v : SpannedTree) → (IsOneOf earlier (name_of name) → ⊥) → BlamesNothing (FaultOfKey earlier (record { place = p; key = token.label name; value = v }))
 new_label earlier name p v new k q (inl h) = absurd (cc)
 new_label earlier name p v new k q (inr (inl h)) = new h.0
 new_label earlier name p v new k q (inr (inr h)) = h
@@ -68,7 +68,7 @@ neither a b k q (inl h) = a k q h
 neither a b k q (inr h) = b k q h.1
 
 -- at `record { a: u8 }` `{b: 1, a: 256}`: `InvalidValue` 0..14 in the order of the text, as there is no field `b`, and `InvalidValue` 10..13 in that of the type
-abbrev b_and_a : Placed
+abbrev b_and_a : SpannedTree
 b_and_a = at (span 0 14) (placed.entries (placed.entry (span 1 2) (token.label (codes "b")) (leaf 4 5 one) (placed.entry (span 7 8) (token.label (codes "a")) (leaf 10 13 big) placed.no_entries)))
 
 unknown : Answered in_text in_text a_type b_and_a (plainly InvalidValue) (span 0 14) × Answered by_type by_type a_type b_and_a (plainly InvalidValue) (span 10 13)
@@ -80,7 +80,7 @@ unknown =
     )
 
 -- at `record { a: u8, b: u8 }` `{b: 256}`: `InvalidValue` 4..7 in the order of the text, and the cause `MissingField("a")` 0..8 in that of the type
-abbrev b_alone : Placed
+abbrev b_alone : SpannedTree
 b_alone = at (span 0 8) (placed.entries (placed.entry (span 1 2) (token.label (codes "b")) (leaf 4 7 big) placed.no_entries))
 
 abbrev two_fields : TypeTree

@@ -12,14 +12,14 @@ use Rattle.wave_grammar.specs.ParserPosition.{Place}
 use Rattle.wave_lex.specs.Errors.{Diagnostic, Says, Refusal, with_detail, plainly, caused}
 use Rattle.wave_grammar.specs.SyntaxErrors.{StandsAt}
 use Rattle.wave_grammar.specs.PrefixAutomaton as due
-use Rattle.wave_grammar.specs.PrefixAutomaton.{Step, step, Leads, reads, unexpected, empty_tuple, repeated_flag, too_deep, value, first_item, next_item, behind_value}
+use Rattle.wave_grammar.specs.PrefixAutomaton.{Step, step, Shifts, reads, unexpected, empty_tuple, repeated_flag, too_deep, value, first_item, next_item, behind_value}
 use Rattle.std.specs.declared.ops.Range.{Range}
 use Rattle.wave_wasm.specs.Types as type
 use Rattle.wave_wasm.specs.ValueErrors.{missing_field, missing_payload, unexpected_payload, unknown_case, wrong_number, wrong_length, unsupported_type}
 use Rattle.wave_lex.specs.Multiline.{opening}
 use Rattle.wave_grammar.specs.Token as token
 use Rattle.wave_grammar.specs.SpannedTree as placed
-use Rattle.wave_grammar.specs.SpannedTree.{Placed, MaybePlaced, PlacedTrees, at, no_placed, a_placed, tree_of, shape_of, part_places}
+use Rattle.wave_grammar.specs.SpannedTree.{SpannedTree, MaybePlaced, PlacedTrees, at, no_placed, a_placed, tree_of, shape_of, part_places}
 use Rattle.wave_grammar.specs.TypeErrors.{Fault, Blame}
 use Rattle.wave_grammar.proofs.Unambiguity.Values.{apart}
 use Rattle.wave_wasm.proofs.NameTests.{none_of}
@@ -47,7 +47,7 @@ steps : (map last ("1" ∷ "'x'" ∷ "\"x\"" ∷ "\"\"\"x\"\"\"" ∷ ")" ∷ "1,
 steps = (refl, refl, refl, refl, refl)
 
 -- tokens lead to the end of a flag; two texts would be trees if a tuple might be empty and a flag repeated
-led : Leads 100 value [] (tokens "{a, %b") (due.behind_flag (codes "a" ∷ codes "b" ∷ [])) []
+led : Shifts 100 value [] (tokens "{a, %b") (due.behind_flag (codes "a" ∷ codes "b" ∷ [])) []
     × TakesLoosely 2 (tokens "[()]") (tree.list (tree.trees (tree.tuple tree.no_trees ∷ []))) [] × TakesLoosely 1 (tokens "{a, a}") (tree.flags (codes "a" ∷ codes "a" ∷ [])) []
 led = ((_, _, refl, (_, _, refl, (_, _, refl, (_, _, refl, (refl, refl))))), inl (_ ∷ [], (_, inr (inl (refl, refl)), inl refl), refl), inr (inr (_, codes "a" ∷ codes "a" ∷ [], omega arith, refl, (_, refl, (_, _, refl, refl, inl refl)), refl)))
 
@@ -60,10 +60,10 @@ level_refused : (e : Diagnostic) (p : Place) → Says e NestingTooDeep (span p.l
 level_refused e p says = (record { full = omega arith; due = tt; no_close = λ t new h. refl }, refl, says)
 
 -- a leaf, a label of one byte with or without payload, and the fault of `256` at u8
-abbrev pub leaf : ℕ → ℕ → Token → Placed
+abbrev pub leaf : ℕ → ℕ → Token → SpannedTree
 leaf from to t = at (span from to) (placed.one t)
 
-abbrev label : ℕ → ℕ → List ℕ → MaybePlaced → Placed
+abbrev label : ℕ → ℕ → List ℕ → MaybePlaced → SpannedTree
 label from to text payload = at (span from to) (placed.label (span from (from + 1)) text payload)
 
 abbrev pub big : Token
@@ -73,7 +73,7 @@ pub too_large : {from to : ℕ} → Fault u8 (leaf from to big) (plainly Invalid
 too_large = inr ((codes "256", inl refl), (above_u8, (refl, refl)))
 
 -- `{1: ok}`, its tree and the places of its parts
-abbrev some_entry : Placed
+abbrev some_entry : SpannedTree
 some_entry = at (span 0 7) (placed.entries (placed.entry (span 1 2) one (at (span 4 6) (placed.ok no_placed)) placed.no_entries))
 
 parts : (tree_of some_entry ≡ tree.entries (tree.entry one (tree.ok tree.no_tree) tree.no_entries)) × (part_places (shape_of some_entry) ≡ span 1 2 ∷ span 4 6 ∷ [])
@@ -111,7 +111,7 @@ fixed_lists = (inl ((λ e. omega arith), (refl, refl)), inl ((λ e. omega arith)
 abbrev pub a_type : type.TypeTree
 a_type = type.record_type (type.field (codes "a") u8 type.no_fields)
 
-abbrev three_entries : Placed
+abbrev three_entries : SpannedTree
 three_entries = at (span 0 21) (placed.entries (placed.entry (span 1 2) (token.label (codes "b")) (leaf 4 5 one)
     (placed.entry (span 7 8) (token.label (codes "a")) (leaf 10 13 big) (placed.entry (span 15 17) (token.label (codes "%a")) (leaf 19 20 one) placed.no_entries))))
 

@@ -14,7 +14,7 @@ use Rattle.wave_grammar.specs.Token as token
 use Rattle.wave_grammar.specs.LeafTokens.{name_of}
 use Rattle.wave_grammar.specs.FaultOrder.{Order, by_type, BlamesNothing, OrElse, FaultOfKey, InOrder, FaultOfEntries, FirstLeftOut, FaultOfKeys, FaultOfFields, FaultOfValue, FirstFault}
 use Rattle.wave_grammar.specs.TypedGrammar.{look_up, names_of}
-use Rattle.wave_grammar.specs.SpannedTree.{Placed, Shape, at, one, label, entries, no_fields, empty_braces, no_placed, PlacedEntries, no_entries, PlacedEntry, entry_list, slice, span_of, shape_of}
+use Rattle.wave_grammar.specs.SpannedTree.{SpannedTree, SpannedShape, at, one, label, entries, no_fields, empty_braces, no_placed, PlacedEntries, no_entries, PlacedEntry, entry_list, slice, span_of, shape_of}
 use Rattle.wave_grammar.specs.TypeErrors.{Blame, IsRefusalOf, RefusesWith, OfForm, names_in, record_in, KeyFault, UnknownField, RepeatedField, IsFor, MissingField, FaultOfField}
 use Rattle.wave_grammar.specs.NodeTree.{NodeTree, type_of, place_of, children_of}
 use Rattle.wave_grammar.specs.Nodes.{placed_of, key_of, IsNodeOf, IsTokenOf}
@@ -30,16 +30,16 @@ use Rattle.wave_grammar.specs.declared.form.NodeType.TheVariants as kind
 
 -- ---- keys
 
-key_label : (t : Placed) (p : Range ℕ) (key : Token) (r : Range ℕ) (w : List ℕ) → shape_of t ≡ label r w no_placed → key_of t ≡ Some (p, key) → key ≡ token.label w
+key_label : (t : SpannedTree) (p : Range ℕ) (key : Token) (r : Range ℕ) (w : List ℕ) → shape_of t ≡ label r w no_placed → key_of t ≡ Some (p, key) → key ≡ token.label w
 key_label (at q s) p key r w e is =
-    let found : Some (r, token.label w) ≡ Some (p, key) = subst (λ (x : Shape). key_of (at q x) ≡ Some (p, key)) e is in
+    let found : Some (r, token.label w) ≡ Some (p, key) = subst (λ (x : SpannedShape). key_of (at q x) ≡ Some (p, key)) e is in
     sym (ap (λ (x : Range ℕ × Token). x.1) (some_is (r, token.label w) (p, key) found))
 
 -- the key of a label's node is that label
 pub label_token : (source : List ℕ) (k : NodeTree) (p : Range ℕ) (key : Token) → IsTokenOf source k p key → type_of k ≡ kind.Label → key ≡ token.label (node_text source k)
 label_token source k p key h ty = key_label h.0.0 p key (place_of k) (node_text source k) (label_node source k h.0.0 h.0.1 ty) h.0.2
 
-key_other : (source : List ℕ) (k : NodeTree) (t : Placed) (p : Range ℕ) (key : Token) → Inside source k t → key_of t ≡ Some (p, key) → type_of k ≢ kind.Label → names_in key ≡ []
+key_other : (source : List ℕ) (k : NodeTree) (t : SpannedTree) (p : Range ℕ) (key : Token) → Inside source k t → key_of t ≡ Some (p, key) → type_of k ≢ kind.Label → names_in key ≡ []
 key_other source k (at q (label r w no_placed)) p key i e apart = absurd (apart i.from.0)
 key_other source k (at q (one (token.number w))) p key i e apart = ap (λ (x : Range ℕ × Token). names_in x.1) (sym (some_is (q, token.number w) (p, key) e))
 key_other source k (at q (one (token.char w))) p key i e apart = ap (λ (x : Range ℕ × Token). names_in x.1) (sym (some_is (q, token.char w) (p, key) e))
@@ -112,25 +112,25 @@ some_map P Q (x ∷ xs) f (inr h) = inr (some_map P Q xs f h)
 -- ---- the node
 
 -- the entries of a record's node
-pub record RecordNodes (source : List ℕ) (n : NodeTree) (t : Placed) : Type 0 where
+pub record RecordNodes (source : List ℕ) (n : NodeTree) (t : SpannedTree) : Type 0 where
   pub given : PlacedEntries
   pub shape : (shape_of t ≡ no_fields) × (given ≡ no_entries) ⊎ (shape_of t ≡ entries given) × (0 < length (entry_list given))
   pub taken : record_in (shape_of t) ≡ Some (entry_list given)
   pub nodes : AreEntriesOf source (node_pairs (children_of n)) (entry_list given)
 
-empty_from : (ty : NodeType) (p : Range ℕ) (text : List ℕ) (cs : List Placed) (s : Shape) → From ty p text cs s → s ≡ empty_braces → ty ≡ kind.EmptySet
+empty_from : (ty : NodeType) (p : Range ℕ) (text : List ℕ) (cs : List SpannedTree) (s : SpannedShape) → From ty p text cs s → s ≡ empty_braces → ty ≡ kind.EmptySet
 empty_from ty p text cs s f e = (subst (From ty p text cs) e f).0
 
-of_record : (s : Shape) (es : PlacedEntries) → (s ≢ empty_braces) → IsOfMap s es → (s ≡ no_fields) × (es ≡ no_entries) ⊎ (s ≡ entries es) × (0 < length (entry_list es))
+of_record : (s : SpannedShape) (es : PlacedEntries) → (s ≢ empty_braces) → IsOfMap s es → (s ≡ no_fields) × (es ≡ no_entries) ⊎ (s ≡ entries es) × (0 < length (entry_list es))
 of_record s es apart (inl (inl e, none)) = absurd (apart e)
 of_record s es apart (inl (inr e, none)) = inl (e, none)
 of_record s es apart (inr h) = inr h
 
-taken_as : (s : Shape) (es : PlacedEntries) → (s ≡ no_fields) × (es ≡ no_entries) ⊎ (s ≡ entries es) × (0 < length (entry_list es)) → record_in s ≡ Some (entry_list es)
+taken_as : (s : SpannedShape) (es : PlacedEntries) → (s ≡ no_fields) × (es ≡ no_entries) ⊎ (s ≡ entries es) × (0 < length (entry_list es)) → record_in s ≡ Some (entry_list es)
 taken_as s es (inl h) = rw (h.0, h.1) refl
 taken_as s es (inr h) = rw h.0 refl
 
-pub record_nodes : (source : List ℕ) (n : NodeTree) (t : Placed) → IsNodeOf source n t → type_of n ≡ kind.TupleSet → RecordNodes source n t
+pub record_nodes : (source : List ℕ) (n : NodeTree) (t : SpannedTree) → IsNodeOf source n t → type_of n ≡ kind.TupleSet → RecordNodes source n t
 record_nodes source n t h set =
     let inner = map_nodes source n t h (inl set) in
     let i = inside source n t h.0 in
@@ -151,16 +151,16 @@ RecordBlame o w fs p es =
     (OrElse (FaultOfKeys [] es) (OrElse (FaultOfFields w fs es p) (UnknownField (field_names fs) es p)))
 
 -- a fault of the entries is that of the record
-pub within_record : (o w : Order) (fs : Fields) (t : Placed) (es : List PlacedEntry) (k : Refusal) (q : Range ℕ) → record_in (shape_of t) ≡ Some es → RecordBlame o w fs (span_of t) es k q → FirstFault o w (type.record_type fs) t k q
+pub within_record : (o w : Order) (fs : Fields) (t : SpannedTree) (es : List PlacedEntry) (k : Refusal) (q : Range ℕ) → record_in (shape_of t) ≡ Some es → RecordBlame o w fs (span_of t) es k q → FirstFault o w (type.record_type fs) t k q
 within_record o w fs t es k q e fault = subst (λ (f : Option (List PlacedEntry)). OfForm f (span_of t) (RecordBlame o w fs (span_of t)) k q) (sym e) fault
 
-not_record : (ty : NodeType) (p : Range ℕ) (text : List ℕ) (cs : List Placed) (s : Shape) → From ty p text cs s → ty ≢ kind.TupleSet → record_in s ≡ None
+not_record : (ty : NodeType) (p : Range ℕ) (text : List ℕ) (cs : List SpannedTree) (s : SpannedShape) → From ty p text cs s → ty ≢ kind.TupleSet → record_in s ≡ None
 not_record ty p text cs (entries es) f apart = absurd (apart f.0)
 not_record ty p text cs no_fields f apart = absurd (apart f.0)
 not_record ty p text cs _ f apart = refl
 
 -- a node that is no record
-pub other_fault : (o w : Order) (fs : Fields) (source : List ℕ) (n : NodeTree) (t : Placed) (k : Refusal) (q : Range ℕ) → placed_of source n ≡ Some t → type_of n ≢ kind.TupleSet → IsRefusalOf InvalidType (place_of n) k q → FirstFault o w (type.record_type fs) t k q
+pub other_fault : (o w : Order) (fs : Fields) (source : List ℕ) (n : NodeTree) (t : SpannedTree) (k : Refusal) (q : Range ℕ) → placed_of source n ≡ Some t → type_of n ≢ kind.TupleSet → IsRefusalOf InvalidType (place_of n) k q → FirstFault o w (type.record_type fs) t k q
 other_fault o w fs source n t k q e apart refused =
     let i = inside source n t e in
     subst (λ (f : Option (List PlacedEntry)). OfForm f (span_of t) (RecordBlame o w fs (span_of t)) k q) (sym (not_record (type_of n) (place_of n) (slice source (place_of n)) i.children (shape_of t) i.from apart)) (at_tree InvalidType (place_of n) (span_of t) k q i.place refused)
@@ -230,7 +230,7 @@ as_bad source names key e (inl h) = inl h
 as_bad source names key e (inr (labelled, old, says)) = inr (labelled, inl old, says)
 
 -- as the type is gone through a refusal of a record's node or of its keys is out of memory or its fault
-pub fields_blame : (w : Order) (fs : Fields) (source : List ℕ) (n : NodeTree) (t : Placed) (e : Diagnostic) → IsNodeOf source n t → RefusesFields source n e → (e.kind ≡ OutOfMemory) ⊎ FirstFault by_type w (type.record_type fs) t (refusal_of e) e.span
+pub fields_blame : (w : Order) (fs : Fields) (source : List ℕ) (n : NodeTree) (t : SpannedTree) (e : Diagnostic) → IsNodeOf source n t → RefusesFields source n e → (e.kind ≡ OutOfMemory) ⊎ FirstFault by_type w (type.record_type fs) t (refusal_of e) e.span
 fields_blame w fs source n t e h (inl memory) = inl memory
 fields_blame w fs source n t e h (inr (inl other)) = inr (other_fault by_type w fs source n t (refusal_of e) e.span h.0 other.0 (said other.1))
 fields_blame w fs source n t e h (inr (inr r)) =

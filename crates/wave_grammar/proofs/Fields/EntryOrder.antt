@@ -7,7 +7,7 @@ use Rattle.wave_wasm.specs.Types as type
 use Rattle.wave_wasm.specs.Types.{TypeTree, Fields, field_names}
 use Rattle.wave_lex.specs.Errors.{Diagnostic, Refusal, refusal_of}
 use Rattle.wave_grammar.specs.TypedGrammar.{names_of}
-use Rattle.wave_grammar.specs.SpannedTree.{PlacedEntry, Placed, entry_list, span_of}
+use Rattle.wave_grammar.specs.SpannedTree.{PlacedEntry, SpannedTree, entry_list, span_of}
 use Rattle.wave_grammar.specs.TypeErrors.{Blame, names_in, IsFor, UnknownField}
 use Rattle.wave_grammar.specs.FaultOrder.{Order, in_text, BlamesNothing, OrElse, FirstOf, FaultOfKey, FaultOfEntries, FaultOfValue, LeftOut, FirstLeftOut, FirstFault}
 use Rattle.wave_grammar.specs.NodeTree.{NodeTree, type_of, children_of}
@@ -122,7 +122,7 @@ left_out_first type.no_fields es p k q h = h
 left_out_first (type.field name T more) es p k q (inl h) = inl h
 left_out_first (type.field name T more) es p k q (inr h) = inr (h.0, left_out_first more es p k q h.1)
 
-module _ (w : Order) (T : TypeTree) (parts : List (List ℕ × TypeTree)) (source : List ℕ) (n : NodeTree) (t : Placed) (e : Diagnostic) (is : RecordType T parts) (stands : IsNodeOf source n t) (set : type_of n ≡ kind.TupleSet) where
+module _ (w : Order) (T : TypeTree) (parts : List (List ℕ × TypeTree)) (source : List ℕ) (n : NodeTree) (t : SpannedTree) (e : Diagnostic) (is : RecordType T parts) (stands : IsNodeOf source n t) (set : type_of n ≡ kind.TupleSet) where
   module _ (before : List (NodeTree × NodeTree)) (entry : NodeTree × NodeTree) (behind : List (NodeTree × NodeTree)) (x : PlacedEntry) (cut : node_pairs (children_of n) ≡ before ++ entry ∷ behind) (fine : AreReadAt w is.fields source before) (here : HasAt (entry_list (record_nodes source n t stands set).given) (length before) x) where
     blamed_for : (P : List (List ℕ) → List (List ℕ) → Type 0) → ((name : List ℕ) (names earlier : List (List ℕ)) → P (name ∷ names) earlier → P names (name ∷ earlier)) → ((earlier : List (List ℕ)) → P [] earlier → EntryBlame (field_names is.fields) (λ y. FaultOfValue w is.fields y) earlier (span_of t) x (refusal_of e) e.span) → P (names_of (map (field_of source) before)) [] → FirstFault in_text w T t (refusal_of e) e.span
     blamed_for P next at wrong =

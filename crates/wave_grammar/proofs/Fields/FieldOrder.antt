@@ -10,7 +10,7 @@ use Rattle.wave_wasm.specs.ConstructorContracts.{HasFullParts}
 use Rattle.wave_lex.specs.Errors.{Diagnostic, Refusal, refusal_of}
 use Rattle.wave_lex.specs.declared.error.ParserErrorKind.TheVariants as error
 use Rattle.wave_grammar.specs.TypedGrammar.{look_up, names_of}
-use Rattle.wave_grammar.specs.SpannedTree.{PlacedEntry, Placed, entry_list, span_of}
+use Rattle.wave_grammar.specs.SpannedTree.{PlacedEntry, SpannedTree, entry_list, span_of}
 use Rattle.wave_grammar.specs.TypeErrors.{Blame, IsFor, UnknownField}
 use Rattle.wave_grammar.specs.FaultOrder.{Order, by_type, BlamesNothing, OrElse, FirstOf, FaultOfKeys, LeftOut, FaultOfFields, FirstFault}
 use Rattle.wave_grammar.proofs.FirstFaults.{nothing_first}
@@ -75,7 +75,7 @@ full_at Full T parts i name E is typed parts_full full =
     all_has Full (map (λ f. f.1) (type.field_list is.fields)) i E (parts_full (type.record_type is.fields) (subst Full is.is full)) (map_has (λ f. f.1) (type.field_list is.fields) i (name, E) (subst (λ (l : List (List ℕ × TypeTree)). HasAt l i (name, E)) is.parts_are typed))
 
 -- a fault of the record's entries is one of the record, at whatever type that is
-pub record_blame : (o w : Order) (T : TypeTree) (parts : List (List ℕ × TypeTree)) (source : List ℕ) (n : NodeTree) (t : Placed) (e : Diagnostic) (is : RecordType T parts) (stands : IsNodeOf source n t) (set : type_of n ≡ kind.TupleSet) → RecordBlame o w is.fields (span_of t) (entry_list (record_nodes source n t stands set).given) (refusal_of e) e.span → FirstFault o w T t (refusal_of e) e.span
+pub record_blame : (o w : Order) (T : TypeTree) (parts : List (List ℕ × TypeTree)) (source : List ℕ) (n : NodeTree) (t : SpannedTree) (e : Diagnostic) (is : RecordType T parts) (stands : IsNodeOf source n t) (set : type_of n ≡ kind.TupleSet) → RecordBlame o w is.fields (span_of t) (entry_list (record_nodes source n t stands set).given) (refusal_of e) e.span → FirstFault o w T t (refusal_of e) e.span
 record_blame o w T parts source n t e is stands set fault =
     let inner = record_nodes source n t stands set in
     subst (λ (U : TypeTree). FirstFault o w U t (refusal_of e) e.span) (sym is.is) (within_record o w is.fields t (entry_list inner.given) (refusal_of e) e.span inner.taken fault)
@@ -132,7 +132,7 @@ module _ {V : Type 0} (tree : V → Value) (of : V → TypeTree → Type 0) (Ful
         | inr (inr other) ↦ inr (inr other)
       ]
 
-  module _ (T : TypeTree) (parts : List (List ℕ × TypeTree)) (source : List ℕ) (n : NodeTree) (t : Placed) (given : List (List ℕ × NodeTree)) (hs : List (Bor (List ℕ) × V)) (e : Diagnostic) (is : RecordType T parts) (stands : IsNodeOf source n t) (fields : IsFieldsOf source n given) (distinct : HasDistinctNames T) where
+  module _ (T : TypeTree) (parts : List (List ℕ × TypeTree)) (source : List ℕ) (n : NodeTree) (t : SpannedTree) (given : List (List ℕ × NodeTree)) (hs : List (Bor (List ℕ) × V)) (e : Diagnostic) (is : RecordType T parts) (stands : IsNodeOf source n t) (fields : IsFieldsOf source n given) (distinct : HasDistinctNames T) where
     -- the keys of the record are fine
     fine_keys : BlamesNothing (FaultOfKeys [] (entry_list (record_nodes source n t stands fields.is_set).given))
     fine_keys = keys_fine source given (entry_list (record_nodes source n t stands fields.is_set).given) [] (given_fields source n t given stands fields) fields.distinct (none_at_first (names_of given))

@@ -20,7 +20,7 @@ use Rattle.wave_grammar.specs.Shared.NodeFields.{held_at, HoldsFields, fields_at
 use Rattle.std.specs.declared.ops.Range.{Range}
 use Rattle.wave_grammar.specs.Token.{Token}
 use Rattle.wave_grammar.specs.Token as token
-use Rattle.wave_grammar.specs.SpannedTree.{Placed, at, one, label, no_placed, PlacedEntry, entry_list}
+use Rattle.wave_grammar.specs.SpannedTree.{SpannedTree, at, one, label, no_placed, PlacedEntry, entry_list}
 use Rattle.wave_grammar.specs.Nodes.{key_of, IsNodeOf, IsTokenOf, IsParsedFrom}
 use Rattle.wave_grammar.proofs.ChildNodes.Inside.{Inside, inside}
 use Rattle.wave_grammar.proofs.ChildNodes.Entries.{AreEntriesOf, map_nodes, pairs_count}
@@ -139,7 +139,7 @@ entry_has source (n ∷ ns) [] i p h here = absurd h
 entry_has source (n ∷ ns) (e ∷ es) zero p h here = (e, refl, subst (λ (q : NodeTree × NodeTree). IsTokenOf source q.0 e.place e.key) here h.0, subst (λ (q : NodeTree × NodeTree). IsNodeOf source q.1 e.value) here h.1)
 entry_has source (n ∷ ns) (e ∷ es) (suc i) p h here = entry_has source ns es i p h.2 here
 
-pub not_key : (source : List ℕ) (n : NodeTree) (t : Placed) (p : Range ℕ) (key : Token) → Inside source n t → key_of t ≡ Some (p, key) → type_of n ≡ kind.TupleSet → ⊥
+pub not_key : (source : List ℕ) (n : NodeTree) (t : SpannedTree) (p : Range ℕ) (key : Token) → Inside source n t → key_of t ≡ Some (p, key) → type_of n ≡ kind.TupleSet → ⊥
 not_key source n (at q (label r w no_placed)) p key i is e = cc (sym e ∙ i.from.0)
 not_key source n (at q (one (token.number w))) p key i is e = cc (sym e ∙ i.from.1)
 not_key source n (at q (one (token.char w))) p key i is e = cc (sym e ∙ i.from.1)
@@ -148,7 +148,7 @@ not_key source n (at q (one (token.multiline w))) p key i is e = cc (sym e ∙ i
 not_key source n _ p key i is e = absurd (cc)
 
 -- a node of entries was parsed as a value
-pub set_value : (source : List ℕ) (n : NodeTree) → IsParsedFrom source n → type_of n ≡ kind.TupleSet → (t : Placed) × IsNodeOf source n t
+pub set_value : (source : List ℕ) (n : NodeTree) → IsParsedFrom source n → type_of n ≡ kind.TupleSet → (t : SpannedTree) × IsNodeOf source n t
 set_value source n (inl t) set = t
 set_value source n (inr t) set = absurd (not_key source n t.2.0.0 t.0 t.1 (inside source n t.2.0.0 t.2.0.1) t.2.0.2 set)
 

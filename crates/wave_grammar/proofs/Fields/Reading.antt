@@ -23,7 +23,7 @@ use Rattle.wave_grammar.specs.TypedGrammar.{IsOption, FieldIs, Fills, look_up, n
 use Rattle.wave_grammar.specs.Tree as form
 use Rattle.wave_grammar.specs.Tree.{Tree}
 use Rattle.wave_grammar.specs.Elaborates.{TreeReads, TreeReadsField, Each, NamedTree}
-use Rattle.wave_grammar.specs.SpannedTree.{Placed, entries, no_fields, PlacedEntries, no_entries, entry, PlacedEntry, entry_list, shape_of, tree_of, entries_of}
+use Rattle.wave_grammar.specs.SpannedTree.{SpannedTree, entries, no_fields, PlacedEntries, no_entries, entry, PlacedEntry, entry_list, shape_of, tree_of, entries_of}
 use Rattle.wave_grammar.specs.TypeErrors.{names_in, IsFor}
 use Rattle.wave_grammar.specs.FaultOrder.{Order, by_type, FirstFault}
 use Rattle.wave_grammar.specs.NodeTree.{NodeTree, children_of}
@@ -141,7 +141,7 @@ only_one source (f ∷ fs) (x ∷ es) (suc i) e name Q h d here is (inr some) = 
 -- ---- the entries that are left
 
 -- the fields of a record's node are those of its entries
-pub given_fields : (source : List ℕ) (n : NodeTree) (t : Placed) (fs : List (List ℕ × NodeTree)) (node : IsNodeOf source n t) (given : IsFieldsOf source n fs) → AreFieldsOf source fs (entry_list (record_nodes source n t node given.is_set).given)
+pub given_fields : (source : List ℕ) (n : NodeTree) (t : SpannedTree) (fs : List (List ℕ × NodeTree)) (node : IsNodeOf source n t) (given : IsFieldsOf source n fs) → AreFieldsOf source fs (entry_list (record_nodes source n t node given.is_set).given)
 given_fields source n t fs node given =
     let inner = record_nodes source n t node given.is_set in
     subst (λ (l : List (List ℕ × NodeTree)). AreFieldsOf source l (entry_list inner.given)) (sym given.given) (fields_of_entries source (node_pairs (children_of n)) (entry_list inner.given) given.labels inner.nodes)
@@ -153,7 +153,7 @@ failed b is passes x = cc (sym is ∙ passes x)
 -- ---- faults
 
 -- as the type is gone through a refusal of the node or of its keys is one of the record
-pub nodes_blame : (Full : TypeTree → Type 0) (w : Order) (T : TypeTree) (parts : List (List ℕ × TypeTree)) (source : List ℕ) (n : NodeTree) (t : Placed) (e : Diagnostic) → RecordType T parts → IsNodeOf source n t → RefusesFields source n e → IsBlamed Full by_type w T t e
+pub nodes_blame : (Full : TypeTree → Type 0) (w : Order) (T : TypeTree) (parts : List (List ℕ × TypeTree)) (source : List ℕ) (n : NodeTree) (t : SpannedTree) (e : Diagnostic) → RecordType T parts → IsNodeOf source n t → RefusesFields source n e → IsBlamed Full by_type w T t e
 nodes_blame Full w T parts source n t e is node refused = so (fields_blame w is.fields source n t e node refused)
   where
     so : (e.kind ≡ error.OutOfMemory) ⊎ FirstFault by_type w (type.record_type is.fields) t (refusal_of e) e.span → IsBlamed Full by_type w T t e
@@ -308,12 +308,12 @@ module _ {V : Type 0} (tree : V → Value) (of : V → TypeTree → Type 0) (Ful
   some_trees [] h = h
   some_trees (e ∷ es) h = omega arith
 
-  tree_shape : (t : Placed) (es : PlacedEntries) → (shape_of t ≡ no_fields) × (es ≡ no_entries) ⊎ (shape_of t ≡ entries es) × (0 < length (entry_list es)) → (tree_of t ≡ form.no_fields) × (entry_trees (entry_list es) ≡ []) ⊎ (tree_of t ≡ form.entries (form.tree_entries (entry_trees (entry_list es)))) × (0 < length (entry_trees (entry_list es)))
+  tree_shape : (t : SpannedTree) (es : PlacedEntries) → (shape_of t ≡ no_fields) × (es ≡ no_entries) ⊎ (shape_of t ≡ entries es) × (0 < length (entry_list es)) → (tree_of t ≡ form.no_fields) × (entry_trees (entry_list es) ≡ []) ⊎ (tree_of t ≡ form.entries (form.tree_entries (entry_trees (entry_list es)))) × (0 < length (entry_trees (entry_list es)))
   tree_shape t es (inl h) = inl (tree_is t no_fields h.0, ap (λ (x : PlacedEntries). entry_trees (entry_list x)) h.1)
   tree_shape t es (inr h) = inr (tree_is t (entries es) h.0 ∙ ap form.entries (trees_of_entries es), some_trees (entry_list es) h.1)
 
   -- the type gives the record its value
-  pub record_reads : (T : TypeTree) (fs : Fields) (source : List ℕ) (n : NodeTree) (t : Placed) (given : List (List ℕ × NodeTree)) (hs : List (Bor (List ℕ) × V)) (inner : RecordNodes source n t) (m : Result V WasmValueError) → T ≡ type.record_type fs → HasDistinctNames T → AreFieldsOf source given (entry_list inner.given) → AreDistinct (names_of given) → ((name : List ℕ) → IsOneOf (names_of given) name → IsOneOf (names_of (type.field_list fs)) name) → AreDistinct (names_of (type.field_list fs)) → FieldsRead (type.field_list fs) (entry_list inner.given) hs → IfOk m (MakesRecord tree of T hs) → IfOk m (IsTypedValue tree of T t)
+  pub record_reads : (T : TypeTree) (fs : Fields) (source : List ℕ) (n : NodeTree) (t : SpannedTree) (given : List (List ℕ × NodeTree)) (hs : List (Bor (List ℕ) × V)) (inner : RecordNodes source n t) (m : Result V WasmValueError) → T ≡ type.record_type fs → HasDistinctNames T → AreFieldsOf source given (entry_list inner.given) → AreDistinct (names_of given) → ((name : List ℕ) → IsOneOf (names_of given) name → IsOneOf (names_of (type.field_list fs)) name) → AreDistinct (names_of (type.field_list fs)) → FieldsRead (type.field_list fs) (entry_list inner.given) hs → IfOk m (MakesRecord tree of T hs) → IfOk m (IsTypedValue tree of T t)
   record_reads T fs source n t given hs inner (Ok v) is distinct all apart known names h makes_it =
       let es : List PlacedEntry = entry_list inner.given in
       let handed : AreDistinct (map (λ f. f.0.now) hs) = subst AreDistinct (sym (names_same (type.field_list fs) es hs h)) names in

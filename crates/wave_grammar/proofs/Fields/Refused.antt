@@ -15,7 +15,7 @@ use Rattle.wave_grammar.specs.TypedGrammar.{IsOption, FieldIs, Fills, look_up, n
 use Rattle.wave_grammar.specs.Tree as form
 use Rattle.wave_grammar.specs.Tree.{Tree, TreeEntries}
 use Rattle.wave_grammar.specs.Elaborates.{TreeReads, TreeReadsField, Each, NamedTree}
-use Rattle.wave_grammar.specs.SpannedTree.{Placed, at, entries, no_fields, PlacedEntries, no_entries, entry, PlacedEntry, entry_list, tree_of, entries_of}
+use Rattle.wave_grammar.specs.SpannedTree.{SpannedTree, at, entries, no_fields, PlacedEntries, no_entries, entry, PlacedEntry, entry_list, tree_of, entries_of}
 use Rattle.wave_grammar.specs.TypeErrors.{RefusesWith, Fault, names_in, KeyFault, UnknownField, RepeatedField, IsFor, MissingField, FaultOfField}
 use Rattle.wave_grammar.specs.TypedReading.{ReadsNone}
 use Rattle.wave_grammar.proofs.ByKind.Lists.{HasAt}
@@ -28,7 +28,7 @@ abbrev pub HasBadField : Fields → List PlacedEntry → Type 0
 HasBadField fs es = SomeOf (λ p. SomeOf (λ e. IsFor p.0 e × ReadsNone p.1 e.value) es) (type.field_list fs)
 
 -- so it is where the type gives a faulty entry no value
-pub some_bad : (E : TypeTree) (name : List ℕ) (es : List PlacedEntry) (k : Refusal) (q : Range ℕ) → ((t : Placed) → Fault E t k q → ReadsNone E t) → SomeOf (λ e. IsFor name e × Fault E e.value k q) es → SomeOf (λ e. IsFor name e × ReadsNone E e.value) es
+pub some_bad : (E : TypeTree) (name : List ℕ) (es : List PlacedEntry) (k : Refusal) (q : Range ℕ) → ((t : SpannedTree) → Fault E t k q → ReadsNone E t) → SomeOf (λ e. IsFor name e × Fault E e.value k q) es → SomeOf (λ e. IsFor name e × ReadsNone E e.value) es
 some_bad E name [] k q apart h = h
 some_bad E name (e ∷ es) k q apart (inl h) = inl (h.0, apart e.value h.1)
 some_bad E name (e ∷ es) k q apart (inr h) = inr (some_bad E name es k q apart h)
@@ -160,7 +160,7 @@ entries_once : (a b : TreeEntries) → form.entries a ≡ form.entries b → a �
 entries_once a b e = cc
 
 -- a record with a fault is given no value
-pub record_none : (fs : Fields) (t : Placed) (k : Refusal) (q : Range ℕ) (v : Value) → AreDistinct (field_names fs) → ((es : List PlacedEntry) → FaultOfField fs es k q → HasBadField fs es) → Fault (type.record_type fs) t k q → TreeReads (type.record_type fs) (tree_of t) v → ⊥
+pub record_none : (fs : Fields) (t : SpannedTree) (k : Refusal) (q : Range ℕ) (v : Value) → AreDistinct (field_names fs) → ((es : List PlacedEntry) → FaultOfField fs es k q → HasBadField fs es) → Fault (type.record_type fs) t k q → TreeReads (type.record_type fs) (tree_of t) v → ⊥
 record_none fs (at p no_fields) k q v names bad fault (us, found, all, inl shape, each, d, fills, e) =
     no_fault fs [] found all p k q names (subst (λ (xs : List (Token × Tree)). Each (NamedTree (TreeReadsField fs)) xs found) shape.1 each) d fills (with_bad fault)
   where

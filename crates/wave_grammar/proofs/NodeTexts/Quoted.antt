@@ -6,7 +6,7 @@ use Rattle.std.proofs.Math.Seq.{take-append_seam, drop-append_seam}
 use Rattle.std.proofs.lemmas.List.{append-nil}
 use Rattle.std.proofs.lemmas.Str.{encodes-append, IsCharBoundary-at_seam}
 use Rattle.std.specs.declared.ops.Range.{Range}
-use Rattle.wave_lex.specs.Regex.{Regex, other, many, Matches}
+use Rattle.wave_lex.specs.Regex.{Regex, except, star, Matches}
 use Rattle.wave_lex.specs.Tokens as shapes
 use Rattle.wave_lex.specs.Tokens.{shape, plain, escape, ◌then◌, ◌or◌}
 use Rattle.wave_lex.proofs.Shapes.{one_is}
@@ -17,7 +17,7 @@ use Rattle.wave_grammar.specs.Token.{Token, lexeme_of, text_of}
 use Rattle.wave_grammar.specs.Token as token
 use Rattle.wave_grammar.specs.Tree as tree
 use Rattle.wave_grammar.specs.Tree.{Takes, InBraces, BehindWord, Word, leaf_word, none_word, some_word, ok_word, err_word, case_word, word_of}
-use Rattle.wave_grammar.specs.SpannedTree.{Placed, Shape, at, one, slice, span_of, shape_of, tree_of_shape, HoldsTokens, SpellsAt, SpellsEach}
+use Rattle.wave_grammar.specs.SpannedTree.{SpannedTree, SpannedShape, at, one, slice, span_of, shape_of, tree_of_shape, HoldsTokens, SpellsAt, SpellsEach}
 use Rattle.wave_grammar.specs.NodeTree.{NodeTree, type_of, place_of}
 use Rattle.wave_grammar.specs.Nodes.{placed_of, shape_from, key_of, IsParsedFrom}
 use Rattle.wave_grammar.specs.NodeAccessors.{node_text, quotes_of, IsInside}
@@ -36,7 +36,7 @@ IsQuotedToken kind.String text t = t ≡ token.string text
 IsQuotedToken kind.MultilineString text t = t ≡ token.multiline text
 IsQuotedToken _ text t = ⊥
 
-quoted_shape : (ty : NodeType) (p : Range ℕ) (text : List ℕ) (cs : List Placed) (s : Shape) (t : Token) → IsQuotedToken ty text t → shape_from ty p text cs ≡ Some s → s ≡ one t
+quoted_shape : (ty : NodeType) (p : Range ℕ) (text : List ℕ) (cs : List SpannedTree) (s : SpannedShape) (t : Token) → IsQuotedToken ty text t → shape_from ty p text cs ≡ Some s → s ≡ one t
 quoted_shape kind.Char p text [] s t h e = sym (some_is _ _ e) ∙ ap one (sym h)
 quoted_shape kind.Char p text (c ∷ more) s t h e = absurd (cc)
 quoted_shape kind.String p text [] s t h e = sym (some_is _ _ e) ∙ ap one (sym h)
@@ -46,7 +46,7 @@ quoted_shape kind.MultilineString p text (c ∷ more) s t h e = absurd (cc)
 quoted_shape _ p text cs s t h e = absurd h
 
 -- the shape of a node of one token in quotes
-pub quoted_is : (source : List ℕ) (n : NodeTree) (t : Placed) (tok : Token) → placed_of source n ≡ Some t → IsQuotedToken (type_of n) (node_text source n) tok → shape_of t ≡ one tok
+pub quoted_is : (source : List ℕ) (n : NodeTree) (t : SpannedTree) (tok : Token) → placed_of source n ≡ Some t → IsQuotedToken (type_of n) (node_text source n) tok → shape_of t ≡ one tok
 quoted_is source n t tok e h =
     let i = inside source n t e in
     quoted_shape (type_of n) (place_of n) (slice source (place_of n)) i.children (shape_of t) tok h i.shape
@@ -92,9 +92,9 @@ one_taken (suc n) (token.multiline text ∷ more) t q h = cc (h.0, token_same t 
 one_taken (suc n) (_ ∷ more) t q h = absurd h
 
 -- so it stands where the tree does
-pub one_holds : (source : List ℕ) (t : Placed) (tok : Token) → IsQuoted tok → shape_of t ≡ one tok → SpellsEach source t → HoldsTokens source (span_of t) (tok ∷ [])
+pub one_holds : (source : List ℕ) (t : SpannedTree) (tok : Token) → IsQuoted tok → shape_of t ≡ one tok → SpellsEach source t → HoldsTokens source (span_of t) (tok ∷ [])
 one_holds source (at p s) tok q e h =
-    let (tokens, holds, spelled) = subst (λ (x : Shape). SpellsAt source p (tree_of_shape x)) e h.0 in
+    let (tokens, holds, spelled) = subst (λ (x : SpannedShape). SpellsAt source p (tree_of_shape x)) e h.0 in
     subst (HoldsTokens source p) (one_taken spelled.0 tokens tok q spelled.1) holds
 
 same_key : (q : Range ℕ) (t : Token) (p : Range ℕ) (key : Token) → Path (Option (Range ℕ × Token)) (Some (q, t)) (Some (p, key)) → (q ≡ p) × (t ≡ key)
@@ -103,10 +103,10 @@ same_key q t p key e =
     (ap (λ (k : Range ℕ × Token). k.0) one_key, ap (λ (k : Range ℕ × Token). k.1) one_key)
 
 -- a key of this shape is its token
-key_is : (t : Placed) (tok : Token) (p : Range ℕ) (key : Token) → IsQuoted tok → shape_of t ≡ one tok → key_of t ≡ Some (p, key) → (span_of t ≡ p) × (tok ≡ key)
-key_is (at q s) (token.char w) p key quoted e is = same_key q (token.char w) p key (sym (ap (λ (x : Shape). key_of (at q x)) e) ∙ is)
-key_is (at q s) (token.string w) p key quoted e is = same_key q (token.string w) p key (sym (ap (λ (x : Shape). key_of (at q x)) e) ∙ is)
-key_is (at q s) (token.multiline w) p key quoted e is = same_key q (token.multiline w) p key (sym (ap (λ (x : Shape). key_of (at q x)) e) ∙ is)
+key_is : (t : SpannedTree) (tok : Token) (p : Range ℕ) (key : Token) → IsQuoted tok → shape_of t ≡ one tok → key_of t ≡ Some (p, key) → (span_of t ≡ p) × (tok ≡ key)
+key_is (at q s) (token.char w) p key quoted e is = same_key q (token.char w) p key (sym (ap (λ (x : SpannedShape). key_of (at q x)) e) ∙ is)
+key_is (at q s) (token.string w) p key quoted e is = same_key q (token.string w) p key (sym (ap (λ (x : SpannedShape). key_of (at q x)) e) ∙ is)
+key_is (at q s) (token.multiline w) p key quoted e is = same_key q (token.multiline w) p key (sym (ap (λ (x : SpannedShape). key_of (at q x)) e) ∙ is)
 key_is (at q s) _ p key quoted e is = absurd quoted
 
 -- ---- the text of a token
@@ -137,7 +137,7 @@ quoted_text kind.Char text source p tok h holds =
     (encode_utf8_all k.0, inside_is (39 ∷ []) k.0 cs text refl k.1 spelled)
 quoted_text kind.String text source p tok h holds =
     let (cs, spelled, m) = has_shape source p (token.string text) (subst (λ (t : Token). HoldsTokens source p (t ∷ [])) h holds) in
-    let k = between 34 (many (other (92 ∷ 34 ∷ 10 ∷ []) or escape)) cs m in
+    let k = between 34 (star (except (92 ∷ 34 ∷ 10 ∷ []) or escape)) cs m in
     (encode_utf8_all k.0, inside_is (34 ∷ []) k.0 cs text refl k.1 spelled)
 quoted_text kind.MultilineString text source p tok h holds =
     let (cs, spelled, m) = has_shape source p (token.multiline text) (subst (λ (t : Token). HoldsTokens source p (t ∷ [])) h holds) in

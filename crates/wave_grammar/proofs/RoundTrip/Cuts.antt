@@ -2,7 +2,7 @@
 use Rattle.std.proofs.Common.{ℕ, ◌-◌, ◌<◌, ◌≡◌, inl, inr, true, false, List, [], ◌∷◌}
 use Rattle.std.specs.Prelude.{◌&&◌}
 use Rattle.wave_wasm.specs.Types as type
-use Rattle.wave_wasm.specs.Types.{TypeTree, MaybeType, Types, Fields, Cases, Simple, IsOwn, every, every_maybe, every_type, every_field, every_case, can_be_made}
+use Rattle.wave_wasm.specs.Types.{TypeTree, MaybeType, Types, Fields, Cases, Simple, IsRepresentable, every, every_maybe, every_type, every_field, every_case, can_be_made}
 use Rattle.wave_wasm.specs.Values.{Value, MaybeValue}
 use Rattle.wave_lex.proofs.Shapes.{and_true}
 use Rattle.wave_grammar.specs.Token.{Token, brace_open, brace_close, bracket_open, bracket_close, paren_close}
@@ -131,7 +131,7 @@ not_made : {A : Type 0} (P Q : Spelling A) → false ≡ true → Moves P Q
 not_made P Q e tokens a rest p = cc
 
 mutual
-  pub moves : (T : TypeTree) → IsOwn T → (n : ℕ) → Moves (Writes T n) (Reads T n)
+  pub moves : (T : TypeTree) → IsRepresentable T → (n : ℕ) → Moves (Writes T n) (Reads T n)
   moves (type.simple S) own n = stays (Writes (type.simple S) n)
   moves (type.unreadable kind) own n = stays (Writes (type.unreadable kind) n)
   moves (type.list E) own n =

@@ -8,7 +8,7 @@ use Rattle.wave_wasm.specs.Names.{IsNoneOf}
 use Rattle.wave_wasm.specs.Keywords.{keywords, is_keyword, case_label}
 use Rattle.wave_wasm.specs.Merge.{merge, last_value, without}
 use Rattle.wave_wasm.proofs.NameTests.{none_of}
-use Rattle.wave_lex.specs.Regex.{Regex, nothing, empty, within, other, both, either, many, Matches, joined, is_within}
+use Rattle.wave_lex.specs.Regex.{Regex, nothing, empty, range, except, seq, alt, star, Matches, joined, is_within}
 use Rattle.wave_lex.specs.Tokens as shapes
 use Rattle.wave_lex.specs.Labels.{IsLabel}
 use Rattle.wave_lex.proofs.Derive.{after_into}
@@ -24,11 +24,11 @@ use Rattle.wave_grammar.proofs.RoundTrip.Injective.{IsOneToken, label_cut}
 abbrev has_ascii : Regex → Bool
 has_ascii nothing = true
 has_ascii empty = true
-has_ascii (within lo hi) = nat_lt hi 128
-has_ascii (other cs) = false
-has_ascii (both p q) = has_ascii p && has_ascii q
-has_ascii (either p q) = has_ascii p && has_ascii q
-has_ascii (many p) = has_ascii p
+has_ascii (range lo hi) = nat_lt hi 128
+has_ascii (except cs) = false
+has_ascii (seq p q) = has_ascii p && has_ascii q
+has_ascii (alt p q) = has_ascii p && has_ascii q
+has_ascii (star p) = has_ascii p
 
 ascii_append : (x y : List ℕ) → is_ascii x ≡ true → is_ascii y ≡ true → is_ascii (x ++ y) ≡ true
 ascii_append [] y a b = b
@@ -45,14 +45,14 @@ small_within lo hi c h e = grind (arith, nat_tests)
 pub ascii_text : (p : Regex) (s : List ℕ) → has_ascii p ≡ true → Matches p s → is_ascii s ≡ true
 ascii_text nothing s a h = absurd h
 ascii_text empty s a h = ap is_ascii h
-ascii_text (within lo hi) s a (c, e, t) = ap is_ascii e ∙ rw (small_within lo hi c a t) refl
-ascii_text (other cs) s a h = cc
-ascii_text (both p q) s a (x, y, e, hx, hy) =
+ascii_text (range lo hi) s a (c, e, t) = ap is_ascii e ∙ rw (small_within lo hi c a t) refl
+ascii_text (except cs) s a h = cc
+ascii_text (seq p q) s a (x, y, e, hx, hy) =
     let w : (has_ascii p ≡ true) × (has_ascii q ≡ true) = and_true _ _ a in
     ap is_ascii e ∙ ascii_append x y (ascii_text p x w.0 hx) (ascii_text q y w.1 hy)
-ascii_text (either p q) s a (inl h) = let w : (has_ascii p ≡ true) × (has_ascii q ≡ true) = and_true _ _ a in ascii_text p s w.0 h
-ascii_text (either p q) s a (inr h) = let w : (has_ascii p ≡ true) × (has_ascii q ≡ true) = and_true _ _ a in ascii_text q s w.1 h
-ascii_text (many p) s a (parts, e, h) = ap is_ascii e ∙ ascii_joined p (λ x. ascii_text p x a) parts h
+ascii_text (alt p q) s a (inl h) = let w : (has_ascii p ≡ true) × (has_ascii q ≡ true) = and_true _ _ a in ascii_text p s w.0 h
+ascii_text (alt p q) s a (inr h) = let w : (has_ascii p ≡ true) × (has_ascii q ≡ true) = and_true _ _ a in ascii_text q s w.1 h
+ascii_text (star p) s a (parts, e, h) = ap is_ascii e ∙ ascii_joined p (λ x. ascii_text p x a) parts h
 
 -- a label, bare or after a `%`, is one token
 pub label_token : (name : List ℕ) → IsLabel name → IsOneToken name (label name)

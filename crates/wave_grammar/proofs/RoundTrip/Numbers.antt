@@ -7,7 +7,7 @@ use Rattle.std.proofs.lemmas.Bool.Decides.{nat_tests}
 use Rattle.wave_wasm.specs.Types.{Whole, s8, s16, s32, s64, u8, u16, u32, u64}
 use Rattle.wave_wasm.specs.Numbers.{IsInRange, is_signed}
 use Rattle.wave_lex.specs.Regex.{Matches}
-use Rattle.wave_lex.specs.Shared.Derive.{may_be_empty, after, after_all, after_next}
+use Rattle.wave_lex.specs.Shared.Derive.{nullable, derivative, derivative_by, after_next}
 use Rattle.wave_lex.specs.Tokens.{number}
 use Rattle.wave_lex.specs.Shared.Machines.{number_rest, number_step, is_digit}
 use Rattle.wave_lex.specs.declared.machine.number.NumberState.{NumberState}
@@ -53,8 +53,8 @@ record IsDecimal (n : ℕ) (ds : List ℕ) : Type 0 where
   ascii : is_ascii ds ≡ true
   some : (b : ℕ) × (bs : List ℕ) × (ds ≡ b ∷ bs)
   nought : n ≡ 0 → ds ≡ 48 ∷ []
-  plain : 0 < n → after_all ds (number_rest state.Start) ≡ number_rest state.Whole
-  negative : 0 < n → after_all ds (number_rest state.Minus) ≡ number_rest state.Whole
+  plain : 0 < n → derivative_by ds (number_rest state.Start) ≡ number_rest state.Whole
+  negative : 0 < n → derivative_by ds (number_rest state.Minus) ≡ number_rest state.Whole
 
 one_digit : (n : ℕ) → n < 10 → IsDecimal n ((48 + n) ∷ [])
 one_digit n l = record {
@@ -67,7 +67,7 @@ one_digit n l = record {
 }
 
 -- after a digit another
-whole_more : (d : ℕ) → d < 10 → after (48 + d) (number_rest state.Whole) ≡ number_rest state.Whole
+whole_more : (d : ℕ) → d < 10 → derivative (48 + d) (number_rest state.Whole) ≡ number_rest state.Whole
 whole_more d l = number_steps state.Whole (48 + d) ∙ ap (after_next NumberState number_rest) (let e : number_step state.Whole (48 + d) ≡ Some state.Whole = grind (arith, nat_tests) in e)
 
 more_digits : (n : ℕ) (ds : List ℕ) → 10 ≤ n → IsDecimal (n / 10) ds → IsDecimal n (ds ++ ((48 + n % 10) ∷ []))
@@ -78,8 +78,8 @@ more_digits n ds l h =
       ascii = ascii_more ds (48 + n % 10) (let e : nat_lt (48 + n % 10) 128 ≡ true = grind (arith, nat_tests) in e) h.ascii;
       some = let (b, bs, e) = h.some in (b, bs ++ (48 + n % 10) ∷ [], ap (λ (z : List ℕ). z ++ (48 + n % 10) ∷ []) e);
       nought = λ e. absurd (omega arith);
-      plain = λ some. after_all_append ds ((48 + n % 10) ∷ []) (number_rest state.Start) ∙ (ap (after (48 + n % 10)) (h.plain there) ∙ whole_more (n % 10) small);
-      negative = λ some. after_all_append ds ((48 + n % 10) ∷ []) (number_rest state.Minus) ∙ (ap (after (48 + n % 10)) (h.negative there) ∙ whole_more (n % 10) small);
+      plain = λ some. after_all_append ds ((48 + n % 10) ∷ []) (number_rest state.Start) ∙ (ap (derivative (48 + n % 10)) (h.plain there) ∙ whole_more (n % 10) small);
+      negative = λ some. after_all_append ds ((48 + n % 10) ∷ []) (number_rest state.Minus) ∙ (ap (derivative (48 + n % 10)) (h.negative there) ∙ whole_more (n % 10) small);
     }
 
 is_decimal : (n : ℕ) → n < 2 ^ 64 → IsDecimal n (decimal n)
@@ -89,10 +89,10 @@ is_decimal n l = decimal_by_steps IsDecimal one_digit more_digits n l
 
 plain_number : (n : ℕ) (ds : List ℕ) → IsDecimal n ds → Matches number ds
 plain_number zero ds h = subst (λ (z : List ℕ). Matches number z) (sym (h.nought refl)) (matches_from (48 ∷ []) number refl)
-plain_number (suc n) ds h = matches_from ds number (ap may_be_empty (h.plain (omega arith)))
+plain_number (suc n) ds h = matches_from ds number (ap nullable (h.plain (omega arith)))
 
 negative_number : (n : ℕ) (ds : List ℕ) → IsDecimal (suc n) ds → Matches number (45 ∷ ds)
-negative_number n ds h = matches_from (45 ∷ ds) number (ap may_be_empty (h.negative (omega arith)))
+negative_number n ds h = matches_from (45 ∷ ds) number (ap nullable (h.negative (omega arith)))
 
 -- no digit is a minus
 no_minus : (b : ℕ) (bs : List ℕ) (n : ℕ) → digits 0 (b ∷ bs) ≡ Some n → nat_eq b 45 ≡ false

@@ -1,6 +1,6 @@
 -- Canonical texts read back, and are equal exactly where the values are, merged.
 use Rattle.std.proofs.Common.{◌≡◌, ℕ, ◌≤◌, ◌*◌, List, [], ◌++◌, sym, ap, subst, arith}
-use Rattle.wave_wasm.specs.Types.{TypeTree, HasDistinctNames, IsOwn}
+use Rattle.wave_wasm.specs.Types.{TypeTree, HasDistinctNames, IsRepresentable}
 use Rattle.wave_wasm.specs.Values.{Value}
 use Rattle.wave_wasm.specs.HasType.{HasType}
 use Rattle.wave_wasm.specs.Merge.{merged}
@@ -31,11 +31,11 @@ prints_read : {A : Type 0} (P Q : Spelling A) (x : List ℕ) (a : A) → Moves P
 prints_read P Q x a moves p r rest s cut = let (tokens, c, i) = p r rest s cut in (tokens, c, moves tokens a rest i)
 
 -- a canonical text is read within n levels, where it has no more
-read_within : (T : TypeTree) → Good T → IsOwn T → (v : Value) → HasType T v → (n : ℕ) → height (merged v) ≤ n → (b : ReadBack T v) × (levels b.tree ≤ n)
+read_within : (T : TypeTree) → Good T → IsRepresentable T → (v : Value) → HasType T v → (n : ℕ) → height (merged v) ≤ n → (b : ReadBack T v) × (levels b.tree ≤ n)
 read_within T good own v of n l = read_back T n v (prints_read (Writes T n) (Reads T n) (text v) (merged v) (moves T own n) (prints T good.0 good.1 v of n l))
 
 -- the canonical text of each value of a type that `Type` has, whose names are labels and distinct, reads back
-pub reads_back : (T : TypeTree) → Good T → IsOwn T → ReadsBack T
+pub reads_back : (T : TypeTree) → Good T → IsRepresentable T → ReadsBack T
 reads_back T good own v of = (read_within T good own v of (height (merged v)) (omega arith)).0
 
 -- two values of a type whose names are labels and distinct have one canonical text exactly where they are one value, merged
@@ -69,12 +69,12 @@ reads_own : (T : TypeTree) → HasDistinctNames T → (n : ℕ) (tokens : List T
 reads_own T distinct n tokens v (s, u, cut) h = (typed T distinct n tokens v [] (texts_utf8 s tokens u cut) h).0
 
 -- a value of the type that was read within n levels has a canonical text of at most twice as many
-pub twice : (T : TypeTree) → Good T → IsOwn T → (n : ℕ) (tokens : List Token) (v : Value) → HasType T v → Reads T n tokens v [] → (b : ReadBack T v) × (levels b.tree ≤ 2 * n)
+pub twice : (T : TypeTree) → Good T → IsRepresentable T → (n : ℕ) (tokens : List Token) (v : Value) → HasType T v → Reads T n tokens v [] → (b : ReadBack T v) × (levels b.tree ≤ 2 * n)
 twice T good own n tokens v of h =
     let (e, low, less) = tidy T n tokens v [] h in
     let fits : height (merged v) ≤ 2 * n = subst (λ (z : Value). height z ≤ 2 * n) (sym e) low in
     read_within T good own v of (2 * n) fits
 
 -- what is read within n levels has a canonical text of at most twice as many
-pub reads_back_within_twice : (T : TypeTree) → Good T → IsOwn T → ReadsBackWithinTwice T
+pub reads_back_within_twice : (T : TypeTree) → Good T → IsRepresentable T → ReadsBackWithinTwice T
 reads_back_within_twice T good own n tokens v text h = twice T good own n tokens v (reads_own T good.1 n tokens v text h) h

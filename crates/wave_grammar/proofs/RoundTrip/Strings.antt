@@ -23,8 +23,8 @@ use Rattle.wave_lex.specs.declared.machine.string.StringState.{StringState}
 use Rattle.wave_lex.specs.declared.machine.string.StringState.TheVariants as string
 use Rattle.wave_lex.specs.Shared.Machines.{character_rest, character_step, string_rest, string_step}
 use Rattle.wave_lex.specs.Regex as regex
-use Rattle.wave_lex.specs.Regex.{Regex, Matches, other, either}
-use Rattle.wave_lex.specs.Shared.Derive.{may_be_empty, after}
+use Rattle.wave_lex.specs.Regex.{Regex, Matches, except, alt}
+use Rattle.wave_lex.specs.Shared.Derive.{nullable, derivative}
 use Rattle.wave_lex.specs.Strings.{CharMeans, Decodes}
 use Rattle.wave_lex.specs.Tokens as shapes
 use Rattle.wave_lex.specs.Tokens.{escape}
@@ -40,7 +40,7 @@ use Rattle.wave_grammar.proofs.RoundTrip.Leaves.{IsWritten, bool_written, whole_
 
 -- ---- no mark goes on with a char or a string
 
-character_stops : (q : CharState) → may_be_empty (character_rest q) ≡ true → no_stop (character_rest q) ≡ true
+character_stops : (q : CharState) → nullable (character_rest q) ≡ true → no_stop (character_rest q) ≡ true
 character_stops character.Close e = refl
 character_stops (character.Escape escape.Backslash) e = cc
 character_stops _ e = cc
@@ -48,10 +48,10 @@ character_stops _ e = cc
 pub character_ends : (cs : List ℕ) → Matches shapes.character cs → NoStopAfter class.Char cs
 character_ends cs h b s =
     let (q, e) = reached CharState character_rest character_step character_steps character.Start cs h in
-    let last : may_be_empty (character_rest q) ≡ true = ap may_be_empty (sym e) ∙ matches_into cs shapes.character h in
-    ap (after b) e ∙ no_stop_after (character_rest q) (character_stops q last) b s
+    let last : nullable (character_rest q) ≡ true = ap nullable (sym e) ∙ matches_into cs shapes.character h in
+    ap (derivative b) e ∙ no_stop_after (character_rest q) (character_stops q last) b s
 
-string_stops : (q : StringState) → may_be_empty (string_rest q) ≡ true → no_stop (string_rest q) ≡ true
+string_stops : (q : StringState) → nullable (string_rest q) ≡ true → no_stop (string_rest q) ≡ true
 string_stops string.Close e = refl
 string_stops (string.Escape escape.Backslash) e = cc
 string_stops _ e = cc
@@ -59,8 +59,8 @@ string_stops _ e = cc
 pub string_ends : (cs : List ℕ) → Matches shapes.string cs → NoStopAfter class.String cs
 string_ends cs h b s =
     let (q, e) = reached StringState string_rest string_step string_steps string.Start cs h in
-    let last : may_be_empty (string_rest q) ≡ true = ap may_be_empty (sym e) ∙ matches_into cs shapes.string h in
-    ap (after b) e ∙ no_stop_after (string_rest q) (string_stops q last) b s
+    let last : nullable (string_rest q) ≡ true = ap nullable (sym e) ∙ matches_into cs shapes.string h in
+    ap (derivative b) e ∙ no_stop_after (string_rest q) (string_stops q last) b s
 
 -- ---- quotes
 
@@ -77,7 +77,7 @@ between q is x one e =
 char_written : (c : ℕ) → IsScalar c → IsWritten type.char (value.char c)
 char_written c scalar = by_form (is_form c scalar)
   where
-    written : (is : List ℕ) → encode_utf8_all is ≡ escaped c → Matches (either shapes.plain escape) is → CharMeans (quoted_char c) c → IsWritten type.char (value.char c)
+    written : (is : List ℕ) → encode_utf8_all is ≡ escaped c → Matches (alt shapes.plain escape) is → CharMeans (quoted_char c) c → IsWritten type.char (value.char c)
     written is e h means =
         let shaped : Matches shapes.character (39 ∷ (is ++ 39 ∷ [])) = (39 ∷ [], is ++ 39 ∷ [], refl, (39, refl, refl), (is, 39 ∷ [], refl, h, (39, refl, refl))) in (
           token.char (quoted_char c),
@@ -100,7 +100,7 @@ plain_decodes (b ∷ bs) s t h d = plain_from b (bs ++ s) (b ∷ (bs ++ t)) h.0 
 
 -- what stands in the quotes of a string
 abbrev inside : Regex
-inside = either (other (92 ∷ 34 ∷ 10 ∷ [])) escape
+inside = alt (except (92 ∷ 34 ∷ 10 ∷ [])) escape
 
 -- the bytes x are texts of the inside of a string, and decode to the scalars cs
 record IsInside (cs x : List ℕ) : Type 0 where

@@ -15,8 +15,8 @@ use Rattle.wave_lex.specs.declared.machine.label.LabelState.TheVariants as l
 use Rattle.wave_lex.specs.Shared.Machines.{number_rest, number_step, label_token_rest, label_token_step}
 use Rattle.wave_lex.proofs.Machines.{number_steps, label_token_steps}
 use Rattle.wave_lex.specs.Regex.{Regex, nothing, empty, Matches, is_one_of}
-use Rattle.wave_lex.specs.Shared.Derive.{may_be_empty, after, after_all, after_next}
-use Rattle.wave_lex.specs.LongestMatch.{IsFront}
+use Rattle.wave_lex.specs.Shared.Derive.{nullable, derivative, derivative_by, after_next}
+use Rattle.wave_lex.specs.LongestMatch.{IsPrefixOf}
 use Rattle.wave_lex.specs.Tokens.{shape, gap, number, label_or_keyword}
 use Rattle.wave_lex.specs.Tokenization.{MayStandAt, IsToken, IsLongestToken, IsGap, Lexeme, Front, Cuts, three_quotes}
 use Rattle.wave_lex.specs.Shared.Reading.{class_of}
@@ -52,16 +52,16 @@ goes_on (c ∷ cs) (d ∷ ds) r t e =
     ]
 
 -- no prefix goes on after a text with a scalar that may not follow it
-pub stops_here : (p : Regex) (cs es : List ℕ) (e : ℕ) → after e (after_all cs p) ≡ nothing → Matches p (cs ++ e ∷ es) → {A : Type 0} → A
+pub stops_here : (p : Regex) (cs es : List ℕ) (e : ℕ) → derivative e (derivative_by cs p) ≡ nothing → Matches p (cs ++ e ∷ es) → {A : Type 0} → A
 stops_here p cs es e n h =
-    let dead : after_all (cs ++ e ∷ es) p ≡ nothing = after_all_append cs (e ∷ es) p ∙ (ap (after_all es) n ∙ after_all_nothing es) in
-    let wrong : false ≡ true = sym (ap may_be_empty dead) ∙ matches_into (cs ++ e ∷ es) p h in cc
+    let dead : derivative_by (cs ++ e ∷ es) p ≡ nothing = after_all_append cs (e ∷ es) p ∙ (ap (derivative_by es) n ∙ after_all_nothing es) in
+    let wrong : false ≡ true = sym (ap nullable dead) ∙ matches_into (cs ++ e ∷ es) p h in cc
 
 -- ---- tokens
 
 -- no scalar that begins r may follow the text cs in the class
 abbrev pub EndsBefore : Token → List ℕ → List ℕ → Type 0
-EndsBefore c cs r = (e : ℕ) (rest : List ℕ) → r ≡ encode_utf8 e ++ rest → after e (after_all cs (shape c)) ≡ nothing
+EndsBefore c cs r = (e : ℕ) (rest : List ℕ) → r ≡ encode_utf8 e ++ rest → derivative e (derivative_by cs (shape c)) ≡ nothing
 
 -- the text of a token is the longest token where nothing that follows goes on with it
 token_there : (c : Token) (cs r : List ℕ) → Matches (shape c) cs → EndsBefore c cs r → MayStandAt (encode_utf8_all cs ++ r) (length (encode_utf8_all cs)) c
@@ -75,10 +75,10 @@ token_there c cs r h ends may =
       is = is;
       longest = λ j d t.
           let class : d ≡ c = one_class (encode_utf8_all cs ++ r) j (length (encode_utf8_all cs)) d c t is in
-          no_longer j (subst (λ (z : Token). IsFront (shape z) (encode_utf8_all cs ++ r) j) class t.0);
+          no_longer j (subst (λ (z : Token). IsPrefixOf (shape z) (encode_utf8_all cs ++ r) j) class t.0);
     }
   where
-    no_longer : (j : ℕ) → IsFront (shape c) (encode_utf8_all cs ++ r) j → j ≤ length (encode_utf8_all cs)
+    no_longer : (j : ℕ) → IsPrefixOf (shape c) (encode_utf8_all cs ++ r) j → j ≤ length (encode_utf8_all cs)
     no_longer j f =
         let size : length (encode_utf8_all f.scalars) ≡ j = ap length f.spelled ∙ length-take-le j (encode_utf8_all cs ++ r) f.fits in
         elim (goes_on cs f.scalars r (drop j (encode_utf8_all cs ++ r)) (sym (take-append-drop j (encode_utf8_all cs ++ r)) ∙ ap (λ (z : List ℕ). z ++ drop j (encode_utf8_all cs ++ r)) (sym f.spelled))) as (λ _. j ≤ length (encode_utf8_all cs)) [
@@ -89,17 +89,17 @@ token_there c cs r h ends may =
 -- ---- whitespace
 
 -- where a scalar that begins no whitespace stands, the whitespace is empty
-no_gap : (c : ℕ) (s rest : List ℕ) → s ≡ encode_utf8 c ++ rest → after c gap ≡ nothing → IsGap s 0
+no_gap : (c : ℕ) (s rest : List ℕ) → s ≡ encode_utf8 c ++ rest → derivative c gap ≡ nothing → IsGap s 0
 no_gap c s rest b n = (record { scalars = []; fits = omega arith; spelled = refl; has = matches_from [] gap refl }, λ j f. none j f)
   where
-    none : (j : ℕ) → IsFront gap s j → j ≤ 0
+    none : (j : ℕ) → IsPrefixOf gap s j → j ≤ 0
     none j f =
         let size : length (encode_utf8_all f.scalars) ≡ j = ap length f.spelled ∙ length-take-le j s f.fits in
         elim (goes_on [] f.scalars s (drop j s) (sym (take-append-drop j s) ∙ ap (λ (z : List ℕ). z ++ drop j s) (sym f.spelled))) as (λ _. j ≤ 0) [
           | inl l ↦ omega arith
           | inr (e, es, g, there) ↦
               let same : e ≡ c = (encode_same e c _ rest (sym there ∙ b)).0 in
-              stops_here gap [] es e (ap (λ (z : ℕ). after z gap) same ∙ n) (subst (λ (z : List ℕ). Matches gap z) g f.has)
+              stops_here gap [] es e (ap (λ (z : ℕ). derivative z gap) same ∙ n) (subst (λ (z : List ℕ). Matches gap z) g f.has)
         ]
 
 abbrev is_none : Option Token → Bool
@@ -111,10 +111,10 @@ or_either true b e = inl refl
 or_either false b e = inr e
 
 -- a scalar that begins a token begins no whitespace
-token_no_gap : (x : ℕ) (c : Token) → class_of x ≡ Some c → after x gap ≡ nothing
+token_no_gap : (x : ℕ) (c : Token) → class_of x ≡ Some c → derivative x gap ≡ nothing
 token_no_gap x c e =
-    elim (cases_lt x 129) as (λ _. after x gap ≡ nothing) [
-      | inl l ↦ elim (or_either (same (after x gap) nothing) (is_none (class_of x)) (each_below_at 129 x (λ z. same (after z gap) nothing || is_none (class_of z)) refl l)) as (λ _. after x gap ≡ nothing) [
+    elim (cases_lt x 129) as (λ _. derivative x gap ≡ nothing) [
+      | inl l ↦ elim (or_either (same (derivative x gap) nothing) (is_none (class_of x)) (each_below_at 129 x (λ z. same (derivative z gap) nothing || is_none (class_of z)) refl l)) as (λ _. derivative x gap ≡ nothing) [
         | inl f ↦ same_true _ _ f
         | inr f ↦ let wrong : false ≡ true = sym (ap is_none e) ∙ f in cc
       ]
@@ -124,7 +124,7 @@ token_no_gap x c e =
     ]
 
 -- before a token that stands there the whitespace is empty
-gap_before : (c : Token) (cs r : List ℕ) → IsToken (encode_utf8_all cs ++ r) (length (encode_utf8_all cs)) c → Matches (shape c) cs → may_be_empty (shape c) ≡ false → IsGap (encode_utf8_all cs ++ r) 0
+gap_before : (c : Token) (cs r : List ℕ) → IsToken (encode_utf8_all cs ++ r) (length (encode_utf8_all cs)) c → Matches (shape c) cs → nullable (shape c) ≡ false → IsGap (encode_utf8_all cs ++ r) 0
 gap_before c [] r t h f = let wrong : false ≡ true = sym f ∙ empty_into (shape c) h in cc
 gap_before c (x ∷ cs) r t h f =
     let begins = append_assoc (encode_utf8 x) (encode_utf8_all cs) r in
@@ -149,7 +149,7 @@ space_gap s g (f, most) = (
   longest,
 )
   where
-    longest : (j : ℕ) → IsFront gap (32 ∷ s) j → j ≤ suc g
+    longest : (j : ℕ) → IsPrefixOf gap (32 ∷ s) j → j ≤ suc g
     longest zero h = omega arith
     longest (suc j) h =
         let (es, e, k) = behind_space s j h.scalars h.spelled h.has in
@@ -195,10 +195,10 @@ token_cut c cs x r ts e h ends =
 -- ---- marks
 
 -- a mark of one byte before a text that is tokenized
-pub mark_cut : (c : Token) (m : ℕ) (r : List ℕ) (ts : List Lexeme) → nat_lt m 128 ≡ true → Matches (shape c) (m ∷ []) → after m (shape c) ≡ empty → MayStandAt (m ∷ r) 1 c → Cuts r ts
+pub mark_cut : (c : Token) (m : ℕ) (r : List ℕ) (ts : List Lexeme) → nat_lt m 128 ≡ true → Matches (shape c) (m ∷ []) → derivative m (shape c) ≡ empty → MayStandAt (m ∷ r) 1 c → Cuts r ts
     → Cuts (m ∷ r) ((c, m ∷ []) ∷ ts)
 mark_cut c m r ts small h last may cut =
-    token_cut c (m ∷ []) (m ∷ []) r ts (ascii_itself (m ∷ []) (rw small refl)) h (λ e rest there. ap (after e) last) may cut
+    token_cut c (m ∷ []) (m ∷ []) r ts (ascii_itself (m ∷ []) (rw small refl)) h (λ e rest there. ap (derivative e) last) may cut
 
 -- ---- what may follow the text of a value
 
@@ -213,7 +213,7 @@ Stops (b ∷ r) = is_one_of b stops ≡ true
 
 -- no such mark may follow the text cs in the class
 abbrev pub NoStopAfter : Token → List ℕ → Type 0
-NoStopAfter c cs = (b : ℕ) → is_one_of b stops ≡ true → after b (after_all cs (shape c)) ≡ nothing
+NoStopAfter c cs = (b : ℕ) → is_one_of b stops ≡ true → derivative b (derivative_by cs (shape c)) ≡ nothing
 
 -- each number that a list of bytes holds passes the test, where each of the list does
 abbrev pub all_pass : (ℕ → Bool) → List ℕ → Bool
@@ -240,7 +240,7 @@ ends_before c cs [] none s e rest there =
     absurd (omega (arith, length-append (encode_utf8 e) rest, length-encode e, len_utf8_bounds e))
 ends_before c cs (b ∷ r) none s e rest there =
     let w = encode_same b e r rest (ap (λ (z : List ℕ). z ++ r) (encode_ascii b (stop_small b s)) ∙ there) in
-    subst (λ (z : ℕ). after z (after_all cs (shape c)) ≡ nothing) w.0 (none b s)
+    subst (λ (z : ℕ). derivative z (derivative_by cs (shape c)) ≡ nothing) w.0 (none b s)
 
 -- before such a mark a string of no bytes may stand
 may_stand : (c : Token) (x r : List ℕ) → Stops r → MayStandAt (x ++ r) (length x) c
@@ -267,23 +267,23 @@ end_cut = ([], refl, longest_here gap [] 0 refl refl refl refl)
 -- ---- machines
 
 -- a machine that has read a text of its shape stands in one of its states
-module _ (S : Type 0) (rest : S → Regex) (step : S → ℕ → Option S) (steps : (q : S) (c : ℕ) → after c (rest q) ≡ after_next S rest (step q c)) where
-  reached_by : (cs : List ℕ) (r : Regex) (o : Option S) → r ≡ after_next S rest o → may_be_empty (after_all cs r) ≡ true → (p : S) × (after_all cs r ≡ rest p)
+module _ (S : Type 0) (rest : S → Regex) (step : S → ℕ → Option S) (steps : (q : S) (c : ℕ) → derivative c (rest q) ≡ after_next S rest (step q c)) where
+  reached_by : (cs : List ℕ) (r : Regex) (o : Option S) → r ≡ after_next S rest o → nullable (derivative_by cs r) ≡ true → (p : S) × (derivative_by cs r ≡ rest p)
   reached_by cs r None e h =
-      let dead : after_all cs r ≡ nothing = ap (after_all cs) e ∙ after_all_nothing cs in
-      let wrong : false ≡ true = sym (ap may_be_empty dead) ∙ h in cc
+      let dead : derivative_by cs r ≡ nothing = ap (derivative_by cs) e ∙ after_all_nothing cs in
+      let wrong : false ≡ true = sym (ap nullable dead) ∙ h in cc
   reached_by [] r (Some q) e h = (q, e)
-  reached_by (c ∷ cs) r (Some q) e h = reached_by cs (after c r) (step q c) (ap (after c) e ∙ steps q c) h
+  reached_by (c ∷ cs) r (Some q) e h = reached_by cs (derivative c r) (step q c) (ap (derivative c) e ∙ steps q c) h
 
-  pub reached : (q : S) (cs : List ℕ) → Matches (rest q) cs → (p : S) × (after_all cs (rest q) ≡ rest p)
+  pub reached : (q : S) (cs : List ℕ) → Matches (rest q) cs → (p : S) × (derivative_by cs (rest q) ≡ rest p)
   reached q cs h = reached_by cs (rest q) (Some q) refl (matches_into cs (rest q) h)
 
 -- after a shape no mark may follow, by computing
 abbrev pub no_stop : Regex → Bool
-no_stop r = all_pass (λ b. same (after b r) nothing) stops
+no_stop r = all_pass (λ b. same (derivative b r) nothing) stops
 
-pub no_stop_after : (r : Regex) → no_stop r ≡ true → (b : ℕ) → is_one_of b stops ≡ true → after b r ≡ nothing
-no_stop_after r e b h = same_true _ _ (passes (λ z. same (after z r) nothing) stops b e h)
+pub no_stop_after : (r : Regex) → no_stop r ≡ true → (b : ℕ) → is_one_of b stops ≡ true → derivative b r ≡ nothing
+no_stop_after r e b h = same_true _ _ (passes (λ z. same (derivative z r) nothing) stops b e h)
 
 number_stops : (q : NumberState) → no_stop (number_rest q) ≡ true
 number_stops n.Start = refl
@@ -293,7 +293,7 @@ number_stops _ = refl
 pub number_ends : (cs : List ℕ) → Matches number cs → NoStopAfter Number cs
 number_ends cs h b s =
     let (q, e) = reached NumberState number_rest number_step number_steps n.Start cs h in
-    ap (after b) e ∙ no_stop_after (number_rest q) (number_stops q) b s
+    ap (derivative b) e ∙ no_stop_after (number_rest q) (number_stops q) b s
 
 label_stops : (q : LabelTokenState) → no_stop (label_token_rest q) ≡ true
 label_stops token.Start = refl
@@ -304,4 +304,4 @@ label_stops _ = refl
 pub label_ends : (cs : List ℕ) → Matches label_or_keyword cs → NoStopAfter LabelOrKeyword cs
 label_ends cs h b s =
     let (q, e) = reached LabelTokenState label_token_rest label_token_step label_token_steps token.Start cs h in
-    ap (after b) e ∙ no_stop_after (label_token_rest q) (label_stops q) b s
+    ap (derivative b) e ∙ no_stop_after (label_token_rest q) (label_stops q) b s

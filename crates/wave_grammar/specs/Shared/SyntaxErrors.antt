@@ -2,14 +2,14 @@
 use Rattle.std.specs.Prelude.{ℕ, ◌≡◌, ◌≢◌, ◌⊎◌, ◌≤◌, ◌<◌, ◌+◌, List, ◌++◌, Result, length}
 use Rattle.wave_lex.specs.Errors.{Diagnostic}
 use Rattle.wave_grammar.specs.ParserPosition.{Place}
-use Rattle.wave_grammar.specs.PrefixAutomaton.{Due, Form}
+use Rattle.wave_grammar.specs.PrefixAutomaton.{Expectation, StackSymbol}
 use Rattle.wave_grammar.specs.SyntaxErrors.{Gives}
 
 -- so within all open forms, where this many levels are left, after forms that the call itself is to close
-abbrev pub GivesWithin : {X : Type 0} → Result X Diagnostic → ℕ → Due → List Form → Place → Place → Type 0
+abbrev pub GivesWithin : {X : Type 0} → Result X Diagnostic → ℕ → Expectation → List StackSymbol → Place → Place → Type 0
 GivesWithin result levels d opened old new =
-    (n : ℕ) (s : List Form) → n ≡ levels + length s → Gives result n d (opened ++ s) old new s
+    (n : ℕ) (s : List StackSymbol) → n ≡ levels + length s → Gives result n d (opened ++ s) old new s
 
 -- the answer where no level is needed
-abbrev pub GivesAnywhere : {X : Type 0} → Result X Diagnostic → Due → Place → Place → Type 0
-GivesAnywhere result d old new = (n : ℕ) (s : List Form) → Gives result n d s old new s
+abbrev pub GivesAnywhere : {X : Type 0} → Result X Diagnostic → Expectation → Place → Place → Type 0
+GivesAnywhere result d old new = (n : ℕ) (s : List StackSymbol) → Gives result n d s old new s

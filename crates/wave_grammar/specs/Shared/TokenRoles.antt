@@ -2,10 +2,10 @@
 use Rattle.std.specs.Prelude.{◌≡◌, ◌⊎◌}
 use Rattle.wave_lex.specs.declared.lex.Token as lex
 use Rattle.wave_lex.specs.declared.lex.Token.TheVariants.{ParenClose, BracketClose, Number, LabelOrKeyword, Char, String, MultilineString}
-use Rattle.wave_grammar.specs.PrefixAutomaton.{Form, tuple, list}
+use Rattle.wave_grammar.specs.PrefixAutomaton.{StackSymbol, tuple, list}
 
 -- the form that a closing mark closes
-abbrev pub form_of : lex.Token → Form
+abbrev pub form_of : lex.Token → StackSymbol
 form_of ParenClose = tuple
 form_of _ = list
 

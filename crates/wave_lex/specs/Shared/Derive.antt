@@ -1,27 +1,27 @@
 -- What may follow a scalar in a shape: the derivative. Users need not read it.
 use Rattle.std.specs.Prelude.{ℕ, ◌&&◌, ◌||◌, Bool, true, false, cond, List, [], ◌∷◌, Option, Some, None}
-use Rattle.wave_lex.specs.Regex.{Regex, nothing, empty, within, other, both, either, many, is_one_of, is_within}
+use Rattle.wave_lex.specs.Regex.{Regex, nothing, empty, range, except, seq, alt, star, is_one_of, is_within}
 
 -- the empty text has the shape
-abbrev pub may_be_empty : Regex → Bool
-may_be_empty nothing = false
-may_be_empty empty = true
-may_be_empty (within lo hi) = false
-may_be_empty (other cs) = false
-may_be_empty (both p q) = may_be_empty p && may_be_empty q
-may_be_empty (either p q) = may_be_empty p || may_be_empty q
-may_be_empty (many p) = true
+abbrev pub nullable : Regex → Bool
+nullable nothing = false
+nullable empty = true
+nullable (range lo hi) = false
+nullable (except cs) = false
+nullable (seq p q) = nullable p && nullable q
+nullable (alt p q) = nullable p || nullable q
+nullable (star p) = true
 
 -- one text and another, where one has no text or the empty one
 abbrev pub join : Regex → Regex → Regex
 join nothing q = nothing
 join empty q = q
-join p q = both p q
+join p q = seq p q
 
 -- one or another, where the second has no text
 abbrev pub choice_right : Regex → Regex → Regex
 choice_right p nothing = p
-choice_right p q = either p q
+choice_right p q = alt p q
 
 -- one or another, where the first has no text
 abbrev pub choice : Regex → Regex → Regex
@@ -29,19 +29,19 @@ choice nothing q = q
 choice p q = choice_right p q
 
 -- the shape of what may follow c
-abbrev pub after : ℕ → Regex → Regex
-after c nothing = nothing
-after c empty = nothing
-after c (within lo hi) = cond (is_within lo hi c) empty nothing
-after c (other cs) = cond (is_one_of c cs) nothing empty
-after c (both p q) = choice (join (after c p) q) (cond (may_be_empty p) (after c q) nothing)
-after c (either p q) = choice (after c p) (after c q)
-after c (many p) = join (after c p) (many p)
+abbrev pub derivative : ℕ → Regex → Regex
+derivative c nothing = nothing
+derivative c empty = nothing
+derivative c (range lo hi) = cond (is_within lo hi c) empty nothing
+derivative c (except cs) = cond (is_one_of c cs) nothing empty
+derivative c (seq p q) = choice (join (derivative c p) q) (cond (nullable p) (derivative c q) nothing)
+derivative c (alt p q) = choice (derivative c p) (derivative c q)
+derivative c (star p) = join (derivative c p) (star p)
 
 -- the shape of what may follow a text
-abbrev pub after_all : List ℕ → Regex → Regex
-after_all [] r = r
-after_all (c ∷ cs) r = after_all cs (after c r)
+abbrev pub derivative_by : List ℕ → Regex → Regex
+derivative_by [] r = r
+derivative_by (c ∷ cs) r = derivative_by cs (derivative c r)
 
 -- what may follow the next state of a machine, where there is one
 abbrev pub after_next : (S : Type 0) → (S → Regex) → Option S → Regex

@@ -1,7 +1,7 @@
 -- What each state of a machine reads next, and what may still follow it. Users need not read it.
 use Rattle.std.specs.Prelude.{ℕ, ◌||◌, Bool, true, false, not, if◌then◌else◌, nat_eq, List, [], ◌∷◌, ◌++◌, Option, Some, None, codes}
 use Rattle.wave_lex.specs.Regex.{Regex, is_within}
-use Rattle.wave_lex.specs.Shared.Derive.{after_all}
+use Rattle.wave_lex.specs.Shared.Derive.{derivative_by}
 use Rattle.wave_lex.specs.Strings.{short_escape}
 use Rattle.wave_lex.specs.Tokens.{number, label, label_or_keyword, gap, string, character, invalid}
 use Rattle.wave_lex.specs.declared.machine.character.CharState.TheVariants as character
@@ -26,17 +26,17 @@ use Rattle.wave_lex.specs.declared.machine.string.StringState.{StringState}
 -- what may still follow in a number
 abbrev pub number_rest : NumberState → Regex
 number_rest n.Start = number
-number_rest n.Minus = after_all (codes "-") number
-number_rest n.MinusI = after_all (codes "-i") number
-number_rest n.MinusIn = after_all (codes "-in") number
-number_rest n.MinusInf = after_all (codes "-inf") number
-number_rest n.Zero = after_all (codes "0") number
-number_rest n.Whole = after_all (codes "1") number
-number_rest n.Point = after_all (codes "0.") number
-number_rest n.Fraction = after_all (codes "0.0") number
-number_rest n.Exponent = after_all (codes "0e") number
-number_rest n.Sign = after_all (codes "0e-") number
-number_rest n.Power = after_all (codes "0e0") number
+number_rest n.Minus = derivative_by (codes "-") number
+number_rest n.MinusI = derivative_by (codes "-i") number
+number_rest n.MinusIn = derivative_by (codes "-in") number
+number_rest n.MinusInf = derivative_by (codes "-inf") number
+number_rest n.Zero = derivative_by (codes "0") number
+number_rest n.Whole = derivative_by (codes "1") number
+number_rest n.Point = derivative_by (codes "0.") number
+number_rest n.Fraction = derivative_by (codes "0.0") number
+number_rest n.Exponent = derivative_by (codes "0e") number
+number_rest n.Sign = derivative_by (codes "0e-") number
+number_rest n.Power = derivative_by (codes "0e0") number
 
 -- 0 to 9
 abbrev pub is_digit : ℕ → Bool
@@ -75,7 +75,7 @@ label_read l.Digits = codes "a-0"
 
 -- what may still follow in a label
 abbrev pub label_rest : LabelState → Regex
-label_rest q = after_all (label_read q) label
+label_rest q = derivative_by (label_read q) label
 
 -- a word that begins
 abbrev pub first_letter : ℕ → Option LabelState
@@ -116,9 +116,9 @@ label_token_step (token.Label q) b = in_token (label_step q b)
 
 -- what may still follow in whitespace
 abbrev pub gap_rest : GapState → Regex
-gap_rest gap.Start = after_all ([]) gap
-gap_rest gap.Slash = after_all (47 ∷ []) gap
-gap_rest gap.Comment = after_all (47 ∷ 47 ∷ []) gap
+gap_rest gap.Start = derivative_by ([]) gap
+gap_rest gap.Slash = derivative_by (47 ∷ []) gap
+gap_rest gap.Comment = derivative_by (47 ∷ 47 ∷ []) gap
 
 -- a space, a tab, a line feed or a carriage return
 abbrev pub is_blank : ℕ → Bool
@@ -166,9 +166,9 @@ escape_step escape.Hex6 c = if nat_eq c 125 then Some Last else None
 -- what may still follow in a string
 abbrev pub string_rest : StringState → Regex
 string_rest string.Start = string
-string_rest string.Inside = after_all (codes "\"") string
-string_rest (string.Escape e) = after_all (codes "\"\\" ++ escape_read e) string
-string_rest string.Close = after_all (codes "\"\"") string
+string_rest string.Inside = derivative_by (codes "\"") string
+string_rest (string.Escape e) = derivative_by (codes "\"\\" ++ escape_read e) string
+string_rest string.Close = derivative_by (codes "\"\"") string
 
 -- not `"`, a backslash or a line feed
 abbrev pub is_plain : ℕ → Bool
@@ -194,10 +194,10 @@ string_step string.Close c = None
 -- what may still follow in a char
 abbrev pub character_rest : CharState → Regex
 character_rest character.Start = character
-character_rest character.Open = after_all (codes "'") character
-character_rest (character.Escape e) = after_all (codes "'\\" ++ escape_read e) character
-character_rest character.Filled = after_all (codes "'a") character
-character_rest character.Close = after_all (codes "'a'") character
+character_rest character.Open = derivative_by (codes "'") character
+character_rest (character.Escape e) = derivative_by (codes "'\\" ++ escape_read e) character
+character_rest character.Filled = derivative_by (codes "'a") character
+character_rest character.Close = derivative_by (codes "'a'") character
 
 -- the char goes on, in the escape or after it
 abbrev pub in_char : Option EscapeStep → Option CharState
@@ -218,15 +218,15 @@ character_step character.Close c = None
 
 -- what may still follow in an invalid token
 abbrev pub invalid_rest : InvalidState → Regex
-invalid_rest invalid.Start = after_all ([]) invalid
-invalid_rest invalid.Quote0 = after_all (39 ∷ []) invalid
-invalid_rest invalid.Quote1 = after_all (39 ∷ 97 ∷ []) invalid
-invalid_rest invalid.Quote2 = after_all (39 ∷ 97 ∷ 97 ∷ []) invalid
-invalid_rest invalid.Quote3 = after_all (39 ∷ 97 ∷ 97 ∷ 97 ∷ []) invalid
-invalid_rest invalid.Quote4 = after_all (39 ∷ 97 ∷ 97 ∷ 97 ∷ 97 ∷ []) invalid
-invalid_rest invalid.Double1 = after_all (34 ∷ []) invalid
-invalid_rest invalid.Double2 = after_all (34 ∷ 34 ∷ []) invalid
-invalid_rest invalid.Close = after_all (97 ∷ []) invalid
+invalid_rest invalid.Start = derivative_by ([]) invalid
+invalid_rest invalid.Quote0 = derivative_by (39 ∷ []) invalid
+invalid_rest invalid.Quote1 = derivative_by (39 ∷ 97 ∷ []) invalid
+invalid_rest invalid.Quote2 = derivative_by (39 ∷ 97 ∷ 97 ∷ []) invalid
+invalid_rest invalid.Quote3 = derivative_by (39 ∷ 97 ∷ 97 ∷ 97 ∷ []) invalid
+invalid_rest invalid.Quote4 = derivative_by (39 ∷ 97 ∷ 97 ∷ 97 ∷ 97 ∷ []) invalid
+invalid_rest invalid.Double1 = derivative_by (34 ∷ []) invalid
+invalid_rest invalid.Double2 = derivative_by (34 ∷ 34 ∷ []) invalid
+invalid_rest invalid.Close = derivative_by (97 ∷ []) invalid
 
 -- what an invalid token reads next
 abbrev pub invalid_step : InvalidState → ℕ → Option InvalidState

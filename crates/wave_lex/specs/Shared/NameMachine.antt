@@ -1,7 +1,7 @@
 -- What each state of the machine of function names reads next, and what may still follow it. Users need not read it.
 use Rattle.std.specs.Prelude.{ℕ, Bool, true, false, if◌then◌else◌, nat_eq, List, [], ◌++◌, Option, Some, None, codes}
 use Rattle.wave_lex.specs.Regex.{Regex, is_within}
-use Rattle.wave_lex.specs.Shared.Derive.{after_all}
+use Rattle.wave_lex.specs.Shared.Derive.{derivative_by}
 use Rattle.wave_lex.specs.Tokens.{function_name}
 use Rattle.wave_lex.specs.Shared.Machines.{is_digit, label_read, label_step, label_ends}
 use Rattle.wave_lex.specs.declared.machine.name.NameState.{NameState}
@@ -36,8 +36,8 @@ number_read number.Whole = codes "1"
 
 -- what may still follow
 abbrev pub name_rest : NameState → Regex
-name_rest (Label s w) = after_all (before_label s ++ label_read w) function_name
-name_rest (Version c n) = after_all (before_number c ++ number_read n) function_name
+name_rest (Label s w) = derivative_by (before_label s ++ label_read w) function_name
+name_rest (Version c n) = derivative_by (before_number c ++ number_read n) function_name
 
 -- what follows a label
 abbrev pub behind_label : Section → ℕ → Option NameState

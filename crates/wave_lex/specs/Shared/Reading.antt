@@ -9,8 +9,8 @@ use Rattle.wave_lex.specs.declared.lex.Token.TheVariants.{Colon, Comma, Number, 
 use Rattle.wave_lex.specs.declared.machine.label.LabelState.TheVariants.{Lower}
 use Rattle.wave_lex.specs.declared.machine.label.LabelTokenState.TheVariants.{Label}
 use Rattle.wave_lex.specs.Regex.{Regex, is_within}
-use Rattle.wave_lex.specs.Shared.Derive.{after_all}
-use Rattle.wave_lex.specs.LongestMatch.{FrontHas}
+use Rattle.wave_lex.specs.Shared.Derive.{derivative_by}
+use Rattle.wave_lex.specs.LongestMatch.{PrefixHas}
 use Rattle.wave_lex.specs.Shared.Machines.{is_lower, is_plain, label_token_rest}
 use Rattle.wave_lex.specs.Tokenization.{Lexed, MayStandAt, IsToken, IsLongestToken, IsGap, NoToken, span}
 
@@ -78,7 +78,7 @@ ClassAt r (Some c) = ((k : ℕ) (d : Token) → IsToken r k d → d ≡ c) × ((
 
 -- after the first k bytes of s, what may follow in the shape is the shape q
 abbrev pub LeadsTo : Regex → Regex → List ℕ → ℕ → Type 0
-LeadsTo shape q s k = FrontHas (λ scalars. after_all scalars shape ≡ q) s k
+LeadsTo shape q s k = PrefixHas (λ scalars. derivative_by scalars shape ≡ q) s k
 
 -- the first k bytes of s, where a k is given, leave the shape q as it is
 abbrev pub IsStep : Regex → List ℕ → Option ℕ → Type 0

@@ -6,7 +6,7 @@ ghost use Rattle.wave_lex.specs.Tokenization.{Lexed, Stands, remainder_of, span}
 
 use crate::lex::{FuncNameToken, Lexer, Span};
 use crate::machine::label::LabelState;
-use crate::machine::longest_front;
+use crate::machine::longest_prefix;
 use crate::machine::name::{NameState, Section};
 use std::marker::Model;
 
@@ -100,7 +100,7 @@ impl<'source> Iterator for FuncNameLexer<'source> {
     fn next(&mut self) -> Option<Result<FuncNameToken, Span>> {
         let rest = &self.source[self.end..];
         self.start = self.end;
-        if let Some(length) = longest_front(
+        if let Some(length) = longest_prefix(
             NameState::Label(Section::First, LabelState::Start),
             rest,
         ) {

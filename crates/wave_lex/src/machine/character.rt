@@ -1,7 +1,7 @@
 ghost use Rattle.std.specs.Prelude.{◌≡◌};
 ghost use Rattle.wave_lex.specs.Shared.Machines.{character_step, character_rest};
 
-use crate::machine::Machine;
+use crate::machine::Dfa;
 use crate::machine::escape::{EscapeState, EscapeStep, escape_step};
 
 /// Where a char has been read to.
@@ -37,14 +37,14 @@ fn character_step(state: CharState, c: char) -> Option<CharState>
     }
 }
 
-impl Machine for CharState {
+impl Dfa for CharState {
     ghost rest = { character_rest };
 
     fn step(self, c: char) -> Option<Self> {
         character_step(self, c)
     }
 
-    fn may_end(self) -> bool {
+    fn is_accepting(self) -> bool {
         matches!(self, CharState::Close)
     }
 }

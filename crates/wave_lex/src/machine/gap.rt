@@ -1,7 +1,7 @@
 ghost use Rattle.std.specs.Prelude.{◌≡◌};
 ghost use Rattle.wave_lex.specs.Shared.Machines.{gap_step, gap_rest};
 
-use crate::machine::Machine;
+use crate::machine::Dfa;
 
 /// Where whitespace has been read to.
 #[derive(Clone, Copy)]
@@ -28,14 +28,14 @@ fn gap_step(state: GapState, c: char) -> Option<GapState>
     }
 }
 
-impl Machine for GapState {
+impl Dfa for GapState {
     ghost rest = { gap_rest };
 
     fn step(self, c: char) -> Option<Self> {
         gap_step(self, c)
     }
 
-    fn may_end(self) -> bool {
+    fn is_accepting(self) -> bool {
         matches!(self, GapState::Start | GapState::Comment)
     }
 }

@@ -1,7 +1,7 @@
 ghost use Rattle.std.specs.Prelude.{◌≡◌};
 ghost use Rattle.wave_lex.specs.Shared.Machines.{invalid_step, invalid_rest};
 
-use crate::machine::Machine;
+use crate::machine::Dfa;
 
 /// Where an invalid token has been read to.
 #[derive(Clone, Copy)]
@@ -51,14 +51,14 @@ fn invalid_step(state: InvalidState, c: char) -> Option<InvalidState>
     }
 }
 
-impl Machine for InvalidState {
+impl Dfa for InvalidState {
     ghost rest = { invalid_rest };
 
     fn step(self, c: char) -> Option<Self> {
         invalid_step(self, c)
     }
 
-    fn may_end(self) -> bool {
+    fn is_accepting(self) -> bool {
         matches!(
             self,
             InvalidState::Quote0 | InvalidState::Double1 | InvalidState::Close

@@ -3,7 +3,7 @@
 ghost use Rattle.std.specs.Prelude.{◌≡◌};
 ghost use Rattle.wave_lex.specs.Shared.Machines.{label_step, label_rest, label_token_step, label_token_rest};
 
-use crate::machine::Machine;
+use crate::machine::Dfa;
 
 /// Where a label has been read to.
 #[derive(Clone, Copy)]
@@ -38,14 +38,14 @@ pub fn label_step(state: LabelState, c: char) -> Option<LabelState>
     }
 }
 
-impl Machine for LabelState {
+impl Dfa for LabelState {
     ghost rest = { label_rest };
 
     fn step(self, c: char) -> Option<Self> {
         label_step(self, c)
     }
 
-    fn may_end(self) -> bool {
+    fn is_accepting(self) -> bool {
         matches!(
             self,
             LabelState::Lower | LabelState::Upper | LabelState::Digits
@@ -76,17 +76,17 @@ fn label_token_step(state: LabelTokenState, c: char) -> Option<LabelTokenState>
     Some(LabelTokenState::Label(label_step(label, c)?))
 }
 
-impl Machine for LabelTokenState {
+impl Dfa for LabelTokenState {
     ghost rest = { label_token_rest };
 
     fn step(self, c: char) -> Option<Self> {
         label_token_step(self, c)
     }
 
-    fn may_end(self) -> bool {
+    fn is_accepting(self) -> bool {
         match self {
             LabelTokenState::Start => false,
-            LabelTokenState::Label(label) => label.may_end(),
+            LabelTokenState::Label(label) => label.is_accepting(),
         }
     }
 }

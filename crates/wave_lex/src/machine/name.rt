@@ -2,7 +2,7 @@
 ghost use Rattle.std.specs.Prelude.{◌≡◌};
 ghost use Rattle.wave_lex.specs.Shared.NameMachine.{behind_label, number_step, behind_number, name_step, name_rest};
 
-use crate::machine::Machine;
+use crate::machine::Dfa;
 use crate::machine::label::{LabelState, label_step};
 
 /// Which label of the name.
@@ -96,7 +96,7 @@ fn name_step(state: NameState, c: char) -> Option<NameState>
     match state {
         NameState::Label(section, label) => match label_step(label, c) {
             Some(next) => Some(NameState::Label(section, next)),
-            None if !label.may_end() => None,
+            None if !label.is_accepting() => None,
             None => behind_label(section, c),
         },
         NameState::Version(component, number) => match number_step(number, c) {
@@ -107,17 +107,17 @@ fn name_step(state: NameState, c: char) -> Option<NameState>
     }
 }
 
-impl Machine for NameState {
+impl Dfa for NameState {
     ghost rest = { name_rest };
 
     fn step(self, c: char) -> Option<Self> {
         name_step(self, c)
     }
 
-    fn may_end(self) -> bool {
+    fn is_accepting(self) -> bool {
         match self {
             NameState::Label(Section::Namespace, _) => false,
-            NameState::Label(_, label) => label.may_end(),
+            NameState::Label(_, label) => label.is_accepting(),
             NameState::Version(Component::Patch, number) => !matches!(number, Number::Start),
             NameState::Version(_, _) => false,
         }

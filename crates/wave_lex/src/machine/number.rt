@@ -1,7 +1,7 @@
 ghost use Rattle.std.specs.Prelude.{◌≡◌};
 ghost use Rattle.wave_lex.specs.Shared.Machines.{number_step, number_rest};
 
-use crate::machine::Machine;
+use crate::machine::Dfa;
 
 /// Where a number has been read to.
 #[derive(Clone, Copy)]
@@ -57,14 +57,14 @@ fn number_step(state: NumberState, c: char) -> Option<NumberState>
     }
 }
 
-impl Machine for NumberState {
+impl Dfa for NumberState {
     ghost rest = { number_rest };
 
     fn step(self, c: char) -> Option<Self> {
         number_step(self, c)
     }
 
-    fn may_end(self) -> bool {
+    fn is_accepting(self) -> bool {
         matches!(
             self,
             NumberState::MinusInf

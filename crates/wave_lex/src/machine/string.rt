@@ -1,7 +1,7 @@
 ghost use Rattle.std.specs.Prelude.{◌≡◌};
 ghost use Rattle.wave_lex.specs.Shared.Machines.{string_step, string_rest};
 
-use crate::machine::Machine;
+use crate::machine::Dfa;
 use crate::machine::escape::{EscapeState, EscapeStep, escape_step};
 
 /// Where a string has been read to.
@@ -35,14 +35,14 @@ fn string_step(state: StringState, c: char) -> Option<StringState>
     }
 }
 
-impl Machine for StringState {
+impl Dfa for StringState {
     ghost rest = { string_rest };
 
     fn step(self, c: char) -> Option<Self> {
         string_step(self, c)
     }
 
-    fn may_end(self) -> bool {
+    fn is_accepting(self) -> bool {
         matches!(self, StringState::Close)
     }
 }

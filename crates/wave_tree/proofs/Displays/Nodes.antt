@@ -10,7 +10,7 @@ use Rattle.wave_grammar.specs.Token.{Token, text_of}
 use Rattle.wave_grammar.specs.Token as token
 use Rattle.wave_grammar.specs.LeafTokens.{name_of}
 use Rattle.wave_grammar.specs.Tree.{shown, shown_trees, shown_entries}
-use Rattle.wave_grammar.specs.SpannedTree.{Placed, Shape, at, one, tuple, list, empty_braces, no_fields, entries, flags, label, none, some, ok, err, no_placed, a_placed, PlacedEntries, no_entries, entry, placed_trees, span_of, shape_of, tree_of, tree_of_shape, trees_of, entries_of, SpellsEach, SpellsEntries, SpellsFlags}
+use Rattle.wave_grammar.specs.SpannedTree.{SpannedTree, SpannedShape, at, one, tuple, list, empty_braces, no_fields, entries, flags, label, none, some, ok, err, no_placed, a_placed, PlacedEntries, no_entries, entry, placed_trees, span_of, shape_of, tree_of, tree_of_shape, trees_of, entries_of, SpellsEach, SpellsEntries, SpellsFlags}
 use Rattle.wave_grammar.specs.NodeTree.{NodeTree, NodeTrees, node, no_nodes, node_and, type_of, place_of, children_of, node_list, node_trees}
 use Rattle.wave_grammar.specs.Shared.NodeTree.{depth, nodes_depth}
 use Rattle.wave_grammar.specs.Nodes.{placed_of, shape_from, pairs_of, flags_of, flag_of, key_of, with_both, IsParsedFrom}
@@ -26,18 +26,18 @@ use Rattle.wave_grammar.specs.declared.form.NodeType.{NodeType}
 use Rattle.wave_grammar.specs.declared.form.NodeType.TheVariants as kind
 
 -- what shows a node whose tree is known
-pub shown_known : (source : List ℕ) (n : NodeTree) (t : Placed) → placed_of source n ≡ Some t → shown_at source n ≡ shown (tree_of t)
+pub shown_known : (source : List ℕ) (n : NodeTree) (t : SpannedTree) → placed_of source n ≡ Some t → shown_at source n ≡ shown (tree_of t)
 unfolding shown_at
 shown_known source n t e = ap shown_placed e
 
-shown_shape : (source : List ℕ) (n : NodeTree) (t : Placed) (s : Shape) → placed_of source n ≡ Some t → s ≡ shape_of t → shown (tree_of_shape s) ≡ shown_at source n
+shown_shape : (source : List ℕ) (n : NodeTree) (t : SpannedTree) (s : SpannedShape) → placed_of source n ≡ Some t → s ≡ shape_of t → shown (tree_of_shape s) ≡ shown_at source n
 shown_shape source n t s e k = sym (shown_known source n t e ∙ ap shown (tree_is t s (sym k)))
 
 -- a node of this type, and its shape
 pub record Opened (ty : NodeType) (source : List ℕ) (n : NodeTree) : Type 0 where
   pub place : Range ℕ
-  pub shape : Shape
-  pub children : List Placed
+  pub shape : SpannedShape
+  pub children : List SpannedTree
   pub means : placed_of source n ≡ Some (at place shape)
   pub from : shape_from ty (place_of n) (node_text source n) children ≡ Some shape
   pub nodes : AreParsed source (children_of n) children
@@ -49,7 +49,7 @@ opened ty source n (at r s, h) e =
     record { place = r; shape = s; children = i.children; means = h.0; from = shape_at ty source n (at r s) i e; nodes = subst (λ (ns : List NodeTree). AreParsed source ns i.children) (nodes_are n) (parsed source (nodes_in n) i.children i.each); spelled = h.1 }
 
 -- what shows it is what shows its shape
-shown_opened : (ty : NodeType) (source : List ℕ) (n : NodeTree) (o : Opened ty source n) (s : Shape) → s ≡ o.shape → shown (tree_of_shape s) ≡ shown_at source n
+shown_opened : (ty : NodeType) (source : List ℕ) (n : NodeTree) (o : Opened ty source n) (s : SpannedShape) → s ≡ o.shape → shown (tree_of_shape s) ≡ shown_at source n
 shown_opened ty source n o s e = shown_shape source n (at o.place o.shape) s o.means e
 
 -- ---- leaves
@@ -67,12 +67,12 @@ number_text : (b : Bool) (text : List ℕ) → text_of (if b then token.label te
 number_text true text = refl
 number_text false text = refl
 
-text_shape : (ty : NodeType) (p : Range ℕ) (text : List ℕ) (cs : List Placed) (s : Shape) → IsText ty → shape_from ty p text cs ≡ Some s → text ≡ shown (tree_of_shape s)
-text_shape kind.Number p text [] s is e = sym (number_text (is_number_word text) text) ∙ ap (λ (x : Shape). shown (tree_of_shape x)) (some_is _ _ e)
-text_shape kind.Char p text [] s is e = ap (λ (x : Shape). shown (tree_of_shape x)) (some_is (one (token.char text)) s e)
-text_shape kind.String p text [] s is e = ap (λ (x : Shape). shown (tree_of_shape x)) (some_is (one (token.string text)) s e)
-text_shape kind.MultilineString p text [] s is e = ap (λ (x : Shape). shown (tree_of_shape x)) (some_is (one (token.multiline text)) s e)
-text_shape kind.Label p text [] s is e = ap (λ (x : Shape). shown (tree_of_shape x)) (some_is (label p text no_placed) s e)
+text_shape : (ty : NodeType) (p : Range ℕ) (text : List ℕ) (cs : List SpannedTree) (s : SpannedShape) → IsText ty → shape_from ty p text cs ≡ Some s → text ≡ shown (tree_of_shape s)
+text_shape kind.Number p text [] s is e = sym (number_text (is_number_word text) text) ∙ ap (λ (x : SpannedShape). shown (tree_of_shape x)) (some_is _ _ e)
+text_shape kind.Char p text [] s is e = ap (λ (x : SpannedShape). shown (tree_of_shape x)) (some_is (one (token.char text)) s e)
+text_shape kind.String p text [] s is e = ap (λ (x : SpannedShape). shown (tree_of_shape x)) (some_is (one (token.string text)) s e)
+text_shape kind.MultilineString p text [] s is e = ap (λ (x : SpannedShape). shown (tree_of_shape x)) (some_is (one (token.multiline text)) s e)
+text_shape kind.Label p text [] s is e = ap (λ (x : SpannedShape). shown (tree_of_shape x)) (some_is (label p text no_placed) s e)
 text_shape kind.Number p text (c ∷ cs) s is e = absurd (cc)
 text_shape kind.Char p text (c ∷ cs) s is e = absurd (cc)
 text_shape kind.String p text (c ∷ cs) s is e = absurd (cc)
@@ -95,14 +95,14 @@ plain_shown source n k e (inr (inr (inr (inl f)))) v = text_shown kind.Multiline
 plain_shown source n k e (inr (inr (inr (inr f)))) v = text_shown kind.Label source n tt v (sym e ∙ f)
 
 -- the nodes of these types without children
-abbrev pub word_shape : NodeType → Option Shape
+abbrev pub word_shape : NodeType → Option SpannedShape
 word_shape kind.BoolTrue = Some (one (token.label (codes "true")))
 word_shape kind.BoolFalse = Some (one (token.label (codes "false")))
 word_shape kind.EmptySet = Some empty_braces
 word_shape kind.OptionNone = Some none
 word_shape _ = None
 
-word_is : (ty : NodeType) (p : Range ℕ) (text : List ℕ) (cs : List Placed) (s w : Shape) → word_shape ty ≡ Some w → shape_from ty p text cs ≡ Some s → w ≡ s
+word_is : (ty : NodeType) (p : Range ℕ) (text : List ℕ) (cs : List SpannedTree) (s w : SpannedShape) → word_shape ty ≡ Some w → shape_from ty p text cs ≡ Some s → w ≡ s
 word_is kind.BoolTrue p text [] s w k e = sym (some_is _ _ k) ∙ some_is _ _ e
 word_is kind.BoolFalse p text [] s w k e = sym (some_is _ _ k) ∙ some_is _ _ e
 word_is kind.EmptySet p text [] s w k e = sym (some_is _ _ k) ∙ some_is _ _ e
@@ -110,19 +110,19 @@ word_is kind.OptionNone p text [] s w k e = sym (some_is _ _ k) ∙ some_is _ _ 
 word_is _ p text cs s w k e = absurd (cc)
 
 -- bools, `{}` and `none`
-pub word_shown : (ty : NodeType) (w : Shape) (source : List ℕ) (n : NodeTree) → word_shape ty ≡ Some w → IsValueOf source n → type_of n ≡ ty → shown (tree_of_shape w) ≡ shown_at source n
+pub word_shown : (ty : NodeType) (w : SpannedShape) (source : List ℕ) (n : NodeTree) → word_shape ty ≡ Some w → IsValueOf source n → type_of n ≡ ty → shown (tree_of_shape w) ≡ shown_at source n
 word_shown ty w source n k v e = let o = opened ty source n v e in shown_opened ty source n o w (word_is ty (place_of n) (node_text source n) o.children o.shape w k o.from)
 
 -- ---- items
 
-items_shown : (source : List ℕ) (ns : List NodeTree) (ts : List Placed) → AreNodesOf source ns ts → map (shown_at source) ns ≡ shown_trees (trees_of (placed_trees ts))
+items_shown : (source : List ℕ) (ns : List NodeTree) (ts : List SpannedTree) → AreNodesOf source ns ts → map (shown_at source) ns ≡ shown_trees (trees_of (placed_trees ts))
 items_shown source [] [] h = refl
 items_shown source [] (t ∷ ts) h = absurd h
 items_shown source (n ∷ ns) [] h = absurd h
 items_shown source (n ∷ ns) (t ∷ ts) h = λ i. shown_known source n t h.0.0 i ∷ items_shown source ns ts h.1 i
 
 -- nodes of trees are values
-pub are_values : (source : List ℕ) (ns : List NodeTree) (ts : List Placed) → AreNodesOf source ns ts → All (IsValueOf source) ns
+pub are_values : (source : List ℕ) (ns : List NodeTree) (ts : List SpannedTree) → AreNodesOf source ns ts → All (IsValueOf source) ns
 are_values source [] ts h k d lt = absurd (omega (arith, lt))
 are_values source (n ∷ ns) [] h k d lt = absurd h
 are_values source (n ∷ ns) (t ∷ ts) h zero d lt = (t, h.0)
@@ -132,7 +132,7 @@ pub tuple_shown : (source : List ℕ) (n : NodeTree) → IsValueOf source n → 
 tuple_shown source n v e =
     let o = opened kind.Tuple source n v e in
     let shape : tuple (placed_trees o.children) ≡ o.shape = some_is _ _ o.from in
-    let spelled : SpellsEach source (at o.place (tuple (placed_trees o.children))) = subst (λ (x : Shape). SpellsEach source (at o.place x)) (sym shape) o.spelled in
+    let spelled : SpellsEach source (at o.place (tuple (placed_trees o.children))) = subst (λ (x : SpannedShape). SpellsEach source (at o.place x)) (sym shape) o.spelled in
     let nodes = spelled_nodes source (children_of n) o.children o.place.start o.place.end o.nodes spelled.1 in
     (are_values source (children_of n) o.children nodes, ap (λ xs. enclosed (codes "(") xs (codes ")")) (items_shown source (children_of n) o.children nodes) ∙ shown_opened kind.Tuple source n o (tuple (placed_trees o.children)) shape)
 
@@ -140,7 +140,7 @@ pub list_shown : (source : List ℕ) (n : NodeTree) → IsValueOf source n → t
 list_shown source n v e =
     let o = opened kind.List source n v e in
     let shape : list (placed_trees o.children) ≡ o.shape = some_is _ _ o.from in
-    let spelled : SpellsEach source (at o.place (list (placed_trees o.children))) = subst (λ (x : Shape). SpellsEach source (at o.place x)) (sym shape) o.spelled in
+    let spelled : SpellsEach source (at o.place (list (placed_trees o.children))) = subst (λ (x : SpannedShape). SpellsEach source (at o.place x)) (sym shape) o.spelled in
     let nodes = spelled_nodes source (children_of n) o.children o.place.start o.place.end o.nodes spelled.1 in
     (are_values source (children_of n) o.children nodes, ap (λ xs. enclosed (codes "[") xs (codes "]")) (items_shown source (children_of n) o.children nodes) ∙ shown_opened kind.List source n o (list (placed_trees o.children)) shape)
 
@@ -154,40 +154,40 @@ no_payload : (source : List ℕ) (ns : List NodeTree) → AreParsed source ns []
 no_payload source [] h = ((λ k d lt. absurd (omega (arith, lt))), refl)
 no_payload source (n ∷ ns) h = absurd h
 
-one_payload : (source : List ℕ) (ns : List NodeTree) (t : Placed) → AreParsed source ns (t ∷ []) → SpellsEach source t → HasPayload source ns (in_parens (shown (tree_of t)))
+one_payload : (source : List ℕ) (ns : List NodeTree) (t : SpannedTree) → AreParsed source ns (t ∷ []) → SpellsEach source t → HasPayload source ns (in_parens (shown (tree_of t)))
 one_payload source [] t h s = absurd h
 one_payload source (m ∷ n ∷ ns) t h s = absurd h.1
 one_payload source (n ∷ []) t h s = (are_values source (n ∷ []) (t ∷ []) ((h.0, s), tt), ap in_parens (shown_known source n t h.0))
 
-some_payload : (source : List ℕ) (ns : List NodeTree) (p r : Range ℕ) (text : List ℕ) (cs : List Placed) (s : Shape) → AreParsed source ns cs → SpellsEach source (at r s) → shape_from kind.OptionSome p text cs ≡ Some s →
+some_payload : (source : List ℕ) (ns : List NodeTree) (p r : Range ℕ) (text : List ℕ) (cs : List SpannedTree) (s : SpannedShape) → AreParsed source ns cs → SpellsEach source (at r s) → shape_from kind.OptionSome p text cs ≡ Some s →
     All (IsValueOf source) ns × (codes "some" ++ payload_at source ns ≡ shown (tree_of_shape s))
 some_payload source ns p r text [] s h k e = absurd (cc)
 some_payload source ns p r text (t ∷ u ∷ cs) s h k e = absurd (cc)
 some_payload source ns p r text (t ∷ []) s h k e =
     let shape : some t ≡ s = some_is _ _ e in
-    let spelled : SpellsEach source (at r (some t)) = subst (λ (x : Shape). SpellsEach source (at r x)) (sym shape) k in
+    let spelled : SpellsEach source (at r (some t)) = subst (λ (x : SpannedShape). SpellsEach source (at r x)) (sym shape) k in
     let it = one_payload source ns t h spelled.1.1 in
-    (it.0, ap (λ z. codes "some" ++ z) it.1 ∙ ap (λ (x : Shape). shown (tree_of_shape x)) shape)
+    (it.0, ap (λ z. codes "some" ++ z) it.1 ∙ ap (λ (x : SpannedShape). shown (tree_of_shape x)) shape)
 
-ok_payload : (source : List ℕ) (ns : List NodeTree) (p r : Range ℕ) (text : List ℕ) (cs : List Placed) (s : Shape) → AreParsed source ns cs → SpellsEach source (at r s) → shape_from kind.ResultOk p text cs ≡ Some s →
+ok_payload : (source : List ℕ) (ns : List NodeTree) (p r : Range ℕ) (text : List ℕ) (cs : List SpannedTree) (s : SpannedShape) → AreParsed source ns cs → SpellsEach source (at r s) → shape_from kind.ResultOk p text cs ≡ Some s →
     All (IsValueOf source) ns × (codes "ok" ++ payload_at source ns ≡ shown (tree_of_shape s))
-ok_payload source ns p r text [] s h k e = let it = no_payload source ns h in (it.0, ap (λ z. codes "ok" ++ z) it.1 ∙ ap (λ (x : Shape). shown (tree_of_shape x)) (some_is (ok no_placed) s e))
+ok_payload source ns p r text [] s h k e = let it = no_payload source ns h in (it.0, ap (λ z. codes "ok" ++ z) it.1 ∙ ap (λ (x : SpannedShape). shown (tree_of_shape x)) (some_is (ok no_placed) s e))
 ok_payload source ns p r text (t ∷ u ∷ cs) s h k e = absurd (cc)
 ok_payload source ns p r text (t ∷ []) s h k e =
     let shape : ok (a_placed t) ≡ s = some_is _ _ e in
-    let spelled : SpellsEach source (at r (ok (a_placed t))) = subst (λ (x : Shape). SpellsEach source (at r x)) (sym shape) k in
+    let spelled : SpellsEach source (at r (ok (a_placed t))) = subst (λ (x : SpannedShape). SpellsEach source (at r x)) (sym shape) k in
     let it = one_payload source ns t h spelled.1.1 in
-    (it.0, ap (λ z. codes "ok" ++ z) it.1 ∙ ap (λ (x : Shape). shown (tree_of_shape x)) shape)
+    (it.0, ap (λ z. codes "ok" ++ z) it.1 ∙ ap (λ (x : SpannedShape). shown (tree_of_shape x)) shape)
 
-err_payload : (source : List ℕ) (ns : List NodeTree) (p r : Range ℕ) (text : List ℕ) (cs : List Placed) (s : Shape) → AreParsed source ns cs → SpellsEach source (at r s) → shape_from kind.ResultErr p text cs ≡ Some s →
+err_payload : (source : List ℕ) (ns : List NodeTree) (p r : Range ℕ) (text : List ℕ) (cs : List SpannedTree) (s : SpannedShape) → AreParsed source ns cs → SpellsEach source (at r s) → shape_from kind.ResultErr p text cs ≡ Some s →
     All (IsValueOf source) ns × (codes "err" ++ payload_at source ns ≡ shown (tree_of_shape s))
-err_payload source ns p r text [] s h k e = let it = no_payload source ns h in (it.0, ap (λ z. codes "err" ++ z) it.1 ∙ ap (λ (x : Shape). shown (tree_of_shape x)) (some_is (err no_placed) s e))
+err_payload source ns p r text [] s h k e = let it = no_payload source ns h in (it.0, ap (λ z. codes "err" ++ z) it.1 ∙ ap (λ (x : SpannedShape). shown (tree_of_shape x)) (some_is (err no_placed) s e))
 err_payload source ns p r text (t ∷ u ∷ cs) s h k e = absurd (cc)
 err_payload source ns p r text (t ∷ []) s h k e =
     let shape : err (a_placed t) ≡ s = some_is _ _ e in
-    let spelled : SpellsEach source (at r (err (a_placed t))) = subst (λ (x : Shape). SpellsEach source (at r x)) (sym shape) k in
+    let spelled : SpellsEach source (at r (err (a_placed t))) = subst (λ (x : SpannedShape). SpellsEach source (at r x)) (sym shape) k in
     let it = one_payload source ns t h spelled.1.1 in
-    (it.0, ap (λ z. codes "err" ++ z) it.1 ∙ ap (λ (x : Shape). shown (tree_of_shape x)) shape)
+    (it.0, ap (λ z. codes "err" ++ z) it.1 ∙ ap (λ (x : SpannedShape). shown (tree_of_shape x)) shape)
 
 pub some_shown : (source : List ℕ) (n : NodeTree) → IsValueOf source n → type_of n ≡ kind.OptionSome → All (IsValueOf source) (children_of n) × (codes "some" ++ payload_at source (children_of n) ≡ shown_at source n)
 some_shown source n v e =
@@ -210,7 +210,7 @@ err_shown source n v e =
 -- ---- keys, entries, flags and cases
 
 -- the text of a key is that of its node
-key_from : (ty : NodeType) (q : Range ℕ) (text : List ℕ) (cs : List Placed) (t : Placed) (p : Range ℕ) (key : Token) → From ty q text cs (shape_of t) → key_of t ≡ Some (p, key) → text ≡ text_of key
+key_from : (ty : NodeType) (q : Range ℕ) (text : List ℕ) (cs : List SpannedTree) (t : SpannedTree) (p : Range ℕ) (key : Token) → From ty q text cs (shape_of t) → key_of t ≡ Some (p, key) → text ≡ text_of key
 key_from ty q text cs (at r (label u w no_placed)) p key f e = sym f.2 ∙ ap (λ (k : Range ℕ × Token). text_of k.1) (some_is (u, token.label w) (p, key) e)
 key_from ty q text cs (at r (one (token.number w))) p key f e = sym f.2 ∙ ap (λ (k : Range ℕ × Token). text_of k.1) (some_is (r, token.number w) (p, key) e)
 key_from ty q text cs (at r (one (token.char w))) p key f e = sym f.2 ∙ ap (λ (k : Range ℕ × Token). text_of k.1) (some_is (r, token.char w) (p, key) e)
@@ -218,7 +218,7 @@ key_from ty q text cs (at r (one (token.string w))) p key f e = sym f.2 ∙ ap (
 key_from ty q text cs (at r (one (token.multiline w))) p key f e = sym f.2 ∙ ap (λ (k : Range ℕ × Token). text_of k.1) (some_is (r, token.multiline w) (p, key) e)
 key_from ty q text cs _ p key f e = absurd (cc)
 
-key_text : (source : List ℕ) (n : NodeTree) (t : Placed) (p : Range ℕ) (key : Token) → placed_of source n ≡ Some t → key_of t ≡ Some (p, key) → node_text source n ≡ text_of key
+key_text : (source : List ℕ) (n : NodeTree) (t : SpannedTree) (p : Range ℕ) (key : Token) → placed_of source n ≡ Some t → key_of t ≡ Some (p, key) → node_text source n ≡ text_of key
 key_text source n t p key is e = let i = inside source n t is in key_from (type_of n) (place_of n) (node_text source n) i.children t p key i.from e
 
 -- the parts of what is there by both
@@ -228,7 +228,7 @@ both_of f (Some x) None c e = absurd (cc)
 both_of f None (Some y) c e = absurd (cc)
 both_of f None None c e = absurd (cc)
 
-pairs_shown : (source : List ℕ) (from to : ℕ) (ns : List NodeTree) (cs : List Placed) (es : PlacedEntries) → AreParsed source ns cs → pairs_of cs ≡ Some es → SpellsEntries source from to es → AreEntriesOf source ns × (entries_at source ns ≡ shown_entries (entries_of es))
+pairs_shown : (source : List ℕ) (from to : ℕ) (ns : List NodeTree) (cs : List SpannedTree) (es : PlacedEntries) → AreParsed source ns cs → pairs_of cs ≡ Some es → SpellsEntries source from to es → AreEntriesOf source ns × (entries_at source ns ≡ shown_entries (entries_of es))
 pairs_shown source from to [] [] es h e s = (tt, ap (λ (z : PlacedEntries). shown_entries (entries_of z)) (some_is no_entries es e))
 pairs_shown source from to [] (c ∷ cs) es h e s = absurd h
 pairs_shown source from to (k ∷ ns) [] es h e s = absurd h
@@ -247,16 +247,16 @@ mapped : {A B : Type 0} (f : A → B) (o : Option A) (b : B) → option_map f o 
 mapped f (Some a) b e = (a, refl, some_is _ _ e)
 mapped f None b e = absurd (cc)
 
-fields_shape : (source : List ℕ) (ns : List NodeTree) (p r : Range ℕ) (text : List ℕ) (cs : List Placed) (s : Shape) → AreParsed source ns cs → SpellsEach source (at r s) → shape_from kind.TupleSet p text cs ≡ Some s →
+fields_shape : (source : List ℕ) (ns : List NodeTree) (p r : Range ℕ) (text : List ℕ) (cs : List SpannedTree) (s : SpannedShape) → AreParsed source ns cs → SpellsEach source (at r s) → shape_from kind.TupleSet p text cs ≡ Some s →
     AreEntriesOf source ns × (braces_at source ns ≡ shown (tree_of_shape s))
-fields_shape source [] p r text [] s h k e = (tt, ap (λ (x : Shape). shown (tree_of_shape x)) (some_is no_fields s e))
+fields_shape source [] p r text [] s h k e = (tt, ap (λ (x : SpannedShape). shown (tree_of_shape x)) (some_is no_fields s e))
 fields_shape source [] p r text (c ∷ cs) s h k e = absurd h
 fields_shape source (n ∷ ns) p r text [] s h k e = absurd h
 fields_shape source (n ∷ ns) p r text (c ∷ cs) s h k e =
     let (es, is, shape) = mapped entries (pairs_of (c ∷ cs)) s e in
-    let spelled : SpellsEach source (at r (entries es)) = subst (λ (x : Shape). SpellsEach source (at r x)) (sym shape) k in
+    let spelled : SpellsEach source (at r (entries es)) = subst (λ (x : SpannedShape). SpellsEach source (at r x)) (sym shape) k in
     let it = pairs_shown source r.start r.end (n ∷ ns) (c ∷ cs) es h is spelled.1 in
-    (it.0, ap (λ z. in_braces (joined z)) it.1 ∙ ap (λ (x : Shape). shown (tree_of_shape x)) shape)
+    (it.0, ap (λ z. in_braces (joined z)) it.1 ∙ ap (λ (x : SpannedShape). shown (tree_of_shape x)) shape)
 
 pub fields_shown : (source : List ℕ) (n : NodeTree) → IsValueOf source n → type_of n ≡ kind.TupleSet → AreEntriesOf source (children_of n) × (braces_at source (children_of n) ≡ shown_at source n)
 fields_shown source n v e =
@@ -264,7 +264,7 @@ fields_shown source n v e =
     let it = fields_shape source (children_of n) (place_of n) o.place (node_text source n) o.children o.shape o.nodes o.spelled o.from in
     (it.0, it.1 ∙ shown_opened kind.TupleSet source n o o.shape refl)
 
-names_shown : (source : List ℕ) (p : Range ℕ) (ns : List NodeTree) (cs : List Placed) (fs : List (Range ℕ × List ℕ)) → AreParsed source ns cs → flags_of cs ≡ Some fs → SpellsFlags source p fs → All (IsParsedFrom source) ns × (map (name_at source) ns ≡ map name_of (map (λ f. f.1) fs))
+names_shown : (source : List ℕ) (p : Range ℕ) (ns : List NodeTree) (cs : List SpannedTree) (fs : List (Range ℕ × List ℕ)) → AreParsed source ns cs → flags_of cs ≡ Some fs → SpellsFlags source p fs → All (IsParsedFrom source) ns × (map (name_at source) ns ≡ map name_of (map (λ f. f.1) fs))
 names_shown source p [] [] fs h e s = ((λ k d lt. absurd (omega (arith, lt))), ap (λ (z : List (Range ℕ × List ℕ)). map name_of (map (λ f. f.1) z)) (some_is [] fs e))
 names_shown source p [] (c ∷ cs) fs h e s = absurd h
 names_shown source p (n ∷ ns) [] fs h e s = absurd h
@@ -286,7 +286,7 @@ pub flags_shown : (source : List ℕ) (n : NodeTree) → IsValueOf source n → 
 flags_shown source n v e =
     let o = opened kind.Flags source n v e in
     let (fs, is, shape) = mapped flags (flags_of o.children) o.shape o.from in
-    let spelled : SpellsEach source (at o.place (flags fs)) = subst (λ (x : Shape). SpellsEach source (at o.place x)) (sym shape) o.spelled in
+    let spelled : SpellsEach source (at o.place (flags fs)) = subst (λ (x : SpannedShape). SpellsEach source (at o.place x)) (sym shape) o.spelled in
     let it = names_shown source o.place (children_of n) o.children fs o.nodes is spelled.1 in
     (it.0, ap (λ z. in_braces (joined z)) it.1 ∙ shown_opened kind.Flags source n o (flags fs) shape)
 
@@ -303,8 +303,8 @@ pub case_shown : (source : List ℕ) (n : NodeTree) → IsValueOf source n → t
 case_shown source n v e =
     let o = opened kind.VariantWithPayload source n v e in
     let c = case_shape (place_of n) (node_text source n) o.children o.shape o.from in
-    let k = pair_parsed source (children_of n) c.name c.payload (subst (λ (ts : List Placed). AreParsed source (children_of n) ts) c.children o.nodes) in
-    let spelled : SpellsEach source (at o.place (label c.place c.text (a_placed c.payload))) = subst (λ (x : Shape). SpellsEach source (at o.place x)) c.shape o.spelled in
+    let k = pair_parsed source (children_of n) c.name c.payload (subst (λ (ts : List SpannedTree). AreParsed source (children_of n) ts) c.children o.nodes) in
+    let spelled : SpellsEach source (at o.place (label c.place c.text (a_placed c.payload))) = subst (λ (x : SpannedShape). SpellsEach source (at o.place x)) c.shape o.spelled in
     let key_is = flag_key c.name c.place c.text c.labelled in
     let name : name_at source k.0 ≡ name_of c.text = ap name_of (key_text source k.0 c.name c.place (token.label c.text) k.3 key_is) in
     record {

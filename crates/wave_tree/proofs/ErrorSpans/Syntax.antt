@@ -10,7 +10,7 @@ use Rattle.wave_lex.specs.Errors.{Diagnostic, Refusal, LiesInText}
 use Rattle.wave_lex.specs.Tokenization.{Lexed, Stands, Passes, NextIs, remainder_of, span}
 use Rattle.wave_grammar.specs.Token.{Token}
 use Rattle.wave_grammar.specs.ParserPosition.{Place, Item, TakesTokens}
-use Rattle.wave_grammar.specs.PrefixAutomaton.{Due, Form, value, first_item, tuple}
+use Rattle.wave_grammar.specs.PrefixAutomaton.{Expectation, StackSymbol, value, first_item, tuple}
 use Rattle.wave_grammar.specs.SyntaxErrors.{StandsAt, IsSyntaxError}
 use Rattle.wave_tree.specs.ParserState.{Fails, IsTrailing}
 use Rattle.wave_grammar.specs.NodeTree.{NodeTree}
@@ -49,7 +49,7 @@ tokens_inside p q (t ∷ ts) (m, (c, k, e), more) h =
 item_lies : (l m : Lexed) (s : Range ℕ) → Behind l m → s ≡ span m.start m.end → LiesInText l.source s
 item_lies l m s b e = subst (LiesInText l.source) (sym e) (b.inside.0, let same : length m.source ≡ length l.source = ap length b.source in let last = b.inside.1 in omega arith)
 
-stands_inside : (k : ParserErrorKind) (x : Diagnostic) (n : ℕ) (d : Due) (s : List Form) (p q : Place) → StandsAt k x n d s p q → LiesInSource p.lexer → LiesInText p.lexer.source x.span
+stands_inside : (k : ParserErrorKind) (x : Diagnostic) (n : ℕ) (d : Expectation) (s : List StackSymbol) (p q : Place) → StandsAt k x n d s p q → LiesInSource p.lexer → LiesInText p.lexer.source x.span
 stands_inside kind.EmptyTuple x n d s p q (c, (h, e), says) i =
     let b = next_inside p.lexer q.lexer (Some (Ok c)) h.0 i in
     let same : length q.lexer.source ≡ length p.lexer.source = ap length b.source in
@@ -64,13 +64,13 @@ stands_inside kind.NestingTooDeep x n d s p q (deep, e, says) i = subst (LiesInT
 stands_inside k x n d s p q h i = absurd h
 
 -- a refusal of what was due lies in the source
-pub refused_lies : (e : Diagnostic) (n : ℕ) (d : Due) (s : List Form) (p q : Place) → IsSyntaxError e n d s p q → LiesInSource p.lexer → LiesInText p.lexer.source e.span
+pub refused_lies : (e : Diagnostic) (n : ℕ) (d : Expectation) (s : List StackSymbol) (p q : Place) → IsSyntaxError e n d s p q → LiesInSource p.lexer → LiesInText p.lexer.source e.span
 refused_lies e n d s p q h i =
     let at = tokens_inside p h.at h.tokens h.taken i in
     subst (λ (t : List ℕ). LiesInText t e.span) at.1 (stands_inside e.kind e n h.due_there h.open_there h.at q h.stands at.0)
 
 -- it is no `WasmValueError`
-pub refused_kind : (e : Diagnostic) (n : ℕ) (d : Due) (s : List Form) (p q : Place) → IsSyntaxError e n d s p q → e.kind ≢ kind.WasmValueError
+pub refused_kind : (e : Diagnostic) (n : ℕ) (d : Expectation) (s : List StackSymbol) (p q : Place) → IsSyntaxError e n d s p q → e.kind ≢ kind.WasmValueError
 refused_kind e n d s p q h is = subst (λ (k : ParserErrorKind). StandsAt k e n h.due_there h.open_there h.at q) is h.stands
 
 -- a syntax refusal lies in the source, and so does what follows a value

@@ -12,7 +12,7 @@ use Rattle.wave_grammar.specs.ParserPosition.{Place, TakesItem, TakesTokens, tok
 use Rattle.wave_grammar.specs.Tree as tree
 use Rattle.wave_grammar.specs.Tree.{Tree, KeyAnd, IsKey}
 use Rattle.wave_grammar.specs.SpannedTree as placed
-use Rattle.wave_grammar.specs.SpannedTree.{Placed, at, PlacedEntries, no_entries, entry, entries, no_fields, empty_braces, one, label, no_placed, HoldsTokens, SpellsEntries, SpellsEach, StandsAtTokens, entry_places, LiesIn, span_of, tree_of, tree_of_shape, slice}
+use Rattle.wave_grammar.specs.SpannedTree.{SpannedTree, at, PlacedEntries, no_entries, entry, entries, no_fields, empty_braces, one, label, no_placed, HoldsTokens, SpellsEntries, SpellsEach, StandsAtTokens, entry_places, LiesIn, span_of, tree_of, tree_of_shape, slice}
 use Rattle.wave_grammar.specs.NodeTree.{NodeTree, node, no_nodes, node_trees}
 use Rattle.wave_grammar.specs.Nodes.{placed_of, all_placed, key_of, pairs_of, shape_from, and_then, with_both, number_token}
 use Rattle.wave_grammar.specs.declared.form.NodeType.TheVariants as kind
@@ -39,7 +39,7 @@ key_is _ text h = absurd h
 
 -- what a key's node means
 record KeyMeans (m k : Place) (c : lex.Token) : Type 0 where
-  pub means : Placed
+  pub means : SpannedTree
   pub is : placed_of m.lexer.source (node (key_node_type c) (span_at k) no_nodes) ≡ Some means
   pub key : key_of means ≡ Some (span_at k, token_of c (text_at k))
 
@@ -72,7 +72,7 @@ pairs_are (entry p key t more) = ap (λ z. tree.entry key (tree_of t) z) (pairs_
 record FurtherSpell (n : ℕ) (p q : Place) (ns : List NodeTree) : Type 0 where
   pub tokens : List Token
   pub taken : TakesTokens p tokens q
-  pub means : List Placed
+  pub means : List SpannedTree
   pub all : PlacedEntries
   pub means_them : IsSound p → all_placed p.lexer.source (node_trees ns) ≡ Some means
   pub pairs : pairs_of means ≡ Some all
@@ -84,8 +84,8 @@ record FurtherSpell (n : ℕ) (p q : Place) (ns : List NodeTree) : Type 0 where
 record PairsSpell (n : ℕ) (p q : Place) (ns : List NodeTree) : Type 0 where
   pub tokens : List Token
   pub taken : TakesTokens p tokens q
-  pub value : Placed
-  pub means : List Placed
+  pub value : SpannedTree
+  pub means : List SpannedTree
   pub all : PlacedEntries
   pub means_them : IsSound p → all_placed p.lexer.source (node_trees ns) ≡ Some (value ∷ means)
   pub pairs : pairs_of means ≡ Some all

@@ -10,7 +10,7 @@ use Rattle.wave_grammar.specs.ParserPosition.{Place, TakesItem, TakesTokens, tok
 use Rattle.wave_grammar.specs.Tree as tree
 use Rattle.wave_grammar.specs.Tree.{Tree, NoParen}
 use Rattle.wave_grammar.specs.SpannedTree as placed
-use Rattle.wave_grammar.specs.SpannedTree.{Placed, at, some, SpellsAll, SpellsEach, StandsAtTokens, placed_trees, placed_list, span_of, tree_of, slice}
+use Rattle.wave_grammar.specs.SpannedTree.{SpannedTree, at, some, SpellsAll, SpellsEach, StandsAtTokens, placed_trees, placed_list, span_of, tree_of, slice}
 use Rattle.wave_grammar.specs.NodeTree.{NodeTree, node_trees}
 use Rattle.wave_grammar.specs.Nodes.{placed_of, all_placed, shape_from, and_then, with_both}
 use Rattle.wave_grammar.specs.declared.form.NodeType.TheVariants as kind
@@ -29,7 +29,7 @@ use Rattle.wave_grammar.proofs.Slices.{taken_is, tokens_forward, tokens_source}
 record ItemsSpell (n : ℕ) (p q : Place) (ns : List NodeTree) (Rest : List Token → List Tree → List Token → Type 0) : Type 0 where
   pub tokens : List Token
   pub taken : TakesTokens p tokens q
-  pub means : List Placed
+  pub means : List SpannedTree
   pub means_them : IsSound p → all_placed p.lexer.source (node_trees ns) ≡ Some means
   pub spell : IsSound p → (from : ℕ) → from ≤ p.lexer.end → SpellsAll p.lexer.source from q.lexer.end (placed_trees means)
   pub places : (o : Place) (before : List Token) → TakesTokens o before p → AllOf (StandsAtTokens o.lexer.source (span o.lexer.end q.lexer.end)) (map span_of (placed_list (placed_trees means)))
@@ -162,11 +162,11 @@ items_spell c n p q (item ∷ more) mark (w, h, others) =
     }
 
 -- the trees of items
-trees_are : (ps : List Placed) → placed.trees_of (placed_trees ps) ≡ tree.trees (map tree_of ps)
+trees_are : (ps : List SpannedTree) → placed.trees_of (placed_trees ps) ≡ tree.trees (map tree_of ps)
 trees_are [] = refl
 trees_are (p ∷ ps) = ap (λ z. tree.tree_and (tree_of p) z) (trees_are ps)
 
-some_trees : (ps : List Placed) → 0 < length ps → 0 < length (map tree_of ps)
+some_trees : (ps : List SpannedTree) → 0 < length ps → 0 < length (map tree_of ps)
 some_trees [] l = l
 some_trees (p ∷ ps) l = omega arith
 

@@ -23,7 +23,7 @@ use Rattle.wave_grammar.specs.ParserPosition.{Place, TakesItem, TakesToken, Take
 use Rattle.wave_grammar.specs.Tree as tree
 use Rattle.wave_grammar.specs.Tree.{Tree, ATree, BehindWord, word_of, leaf_word, none_word, some_word, ok_word, err_word, case_word, MaybeInParens, NoParen}
 use Rattle.wave_grammar.specs.TypedGrammar.{InParens}
-use Rattle.wave_grammar.specs.SpannedTree.{Placed, at, Shape, one, none, some, ok, err, label, no_placed, a_placed, HoldsTokens, SpellsParts, SpellsEach, StandsAtTokens, part_places, LiesIn, span_of, tree_of, tree_of_shape, slice}
+use Rattle.wave_grammar.specs.SpannedTree.{SpannedTree, at, SpannedShape, one, none, some, ok, err, label, no_placed, a_placed, HoldsTokens, SpellsParts, SpellsEach, StandsAtTokens, part_places, LiesIn, span_of, tree_of, tree_of_shape, slice}
 use Rattle.wave_grammar.specs.NodeTree.{NodeTree, node, no_nodes}
 use Rattle.wave_grammar.specs.Nodes.{placed_of, shape_from, and_then, with_both}
 use Rattle.wave_grammar.specs.declared.form.NodeType.{NodeType}
@@ -162,7 +162,7 @@ holds p m q t ts sound (c, h, e) more =
 -- ---- how a node is made
 
 -- what a node means whose first token and last are these
-pub made : (n : ℕ) (p m q : Place) (t : Token) (ts : List Token) (parsed : NodeTree) (s : Shape) → TakesToken p t m → TakesTokens m ts q →
+pub made : (n : ℕ) (p m q : Place) (t : Token) (ts : List Token) (parsed : NodeTree) (s : SpannedShape) → TakesToken p t m → TakesTokens m ts q →
     (IsSound p → placed_of p.lexer.source parsed ≡ Some (at (span m.lexer.start q.lexer.end) s)) →
     (IsSound p → SpellsParts p.lexer.source (span m.lexer.start q.lexer.end) s) →
     AllOf (StandsAtTokens p.lexer.source (span m.lexer.start q.lexer.end)) (part_places s) →
@@ -191,7 +191,7 @@ takes_less (suc n) l tokens t rest h = let e : suc n - 1 ≡ n = omega arith in 
 -- ---- nodes of one token
 
 -- a node of one token, of a shape without parts
-pub one_token : (n : ℕ) (p m : Place) (c : lex.Token) (ty : NodeType) (s : Shape) → TakesItem p (Some (Ok c)) m → shape_from ty (span_at m) (text_at m) [] ≡ Some s →
+pub one_token : (n : ℕ) (p m : Place) (c : lex.Token) (ty : NodeType) (s : SpannedShape) → TakesItem p (Some (Ok c)) m → shape_from ty (span_at m) (text_at m) [] ≡ Some s →
     (IsSound p → SpellsParts p.lexer.source (span_at m) s) →
     AllOf (StandsAtTokens p.lexer.source (span_at m)) (part_places s) →
     ((rest : List Token) → NoParen rest → tree.Takes n (token_of c (text_at m) ∷ rest) (tree_of_shape s) rest) → IsParsed n p m (node ty (span_at m) no_nodes)
@@ -257,7 +257,7 @@ none_parsed n p m h w = one_token (n + 1) p m LabelOrKeyword kind.OptionNone non
 record InParentheses (n : ℕ) (m q : Place) (payload : NodeTree) : Type 0 where
   pub others : List Token
   pub taken : TakesTokens m others q
-  pub means : Placed
+  pub means : SpannedTree
   pub means_it : IsSound m → placed_of m.lexer.source payload ≡ Some means
   pub lies : LiesIn (span_of means) m.lexer.end q.lexer.end
   pub spells : IsSound m → SpellsEach m.lexer.source means
@@ -289,11 +289,11 @@ in_parentheses n m w q ty start front parsed open_there h =
     }
 
 -- a label and its payload, where its shape is that of `whole`
-payload_parsed : (n : ℕ) (p m w q : Place) (ty : NodeType) (word : tree.Word) (whole : Placed → Shape) (parsed : NodeTree) →
-    ((place : Range ℕ) (text : List ℕ) (t : Placed) → shape_from ty place text (t ∷ []) ≡ Some (whole t)) →
-    ((source : List ℕ) (place : Range ℕ) (t : Placed) → LiesIn (span_of t) (place.start + 1) place.end × SpellsEach source t → SpellsParts source place (whole t)) →
-    ((t : Placed) → part_places (whole t) ≡ span_of t ∷ []) →
-    ((text : List ℕ) (tokens : List Token) (t : Placed) (rest : List Token) → InParens (tree.Takes n) tokens (tree_of t) rest → BehindWord word text (tree.Takes n) tokens (tree_of_shape (whole t)) rest) →
+payload_parsed : (n : ℕ) (p m w q : Place) (ty : NodeType) (word : tree.Word) (whole : SpannedTree → SpannedShape) (parsed : NodeTree) →
+    ((place : Range ℕ) (text : List ℕ) (t : SpannedTree) → shape_from ty place text (t ∷ []) ≡ Some (whole t)) →
+    ((source : List ℕ) (place : Range ℕ) (t : SpannedTree) → LiesIn (span_of t) (place.start + 1) place.end × SpellsEach source t → SpellsParts source place (whole t)) →
+    ((t : SpannedTree) → part_places (whole t) ≡ span_of t ∷ []) →
+    ((text : List ℕ) (tokens : List Token) (t : SpannedTree) (rest : List Token) → InParens (tree.Takes n) tokens (tree_of t) rest → BehindWord word text (tree.Takes n) tokens (tree_of_shape (whole t)) rest) →
     TakesItem p (Some (Ok LabelOrKeyword)) m → word_of (text_at m) ≡ word → TakesItem m (Some (Ok ParenOpen)) w → IsPayload n ty m.lexer.start [] w q parsed → IsParsed (n + 1) p q parsed
 payload_parsed n p m w q ty word whole parsed shape spells places behind h word_is open_there k =
     let inner = in_parentheses n m w q ty m.lexer.start [] parsed open_there k in

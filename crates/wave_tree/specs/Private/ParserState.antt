@@ -10,8 +10,8 @@ use Rattle.wave_grammar.specs.Tree.{leaf_word, none_word, some_word, ok_word, er
 use Rattle.wave_grammar.specs.ParserPosition.{Place, Item, TakesItem, span_at}
 use Rattle.wave_tree.specs.declared.item.Item.{Item as Kept}
 use Rattle.wave_tree.specs.declared.item.Item.TheVariants as kept
-use Rattle.wave_tree.specs.declared.role.Front.{Front}
-use Rattle.wave_tree.specs.declared.role.Front.TheVariants as front
+use Rattle.wave_tree.specs.declared.role.ValueStart.{ValueStart}
+use Rattle.wave_tree.specs.declared.role.ValueStart.TheVariants as front
 use Rattle.wave_lex.specs.declared.lex.Token.TheVariants as class
 use Rattle.wave_grammar.specs.declared.form.NodeType.{NodeType}
 use Rattle.wave_grammar.specs.declared.form.NodeType.TheVariants as kind
@@ -36,8 +36,8 @@ abbrev pub AsksFor : Stream → Stream → Type 0
 AsksFor old new = (n : ℕ) → HasTokens old.place n → asked_of new ≤ max (asked_of old) (old.place.taken + n + 1)
 
 -- out of memory is answered only where this holds, or a `{` stands among the tokens from the place on
-abbrev pub WantsOnly : Type 0 → Place → Diagnostic → Type 0
-WantsOnly Takes p e = e.kind ≡ OutOfMemory → HoldsNoBrace p → Takes
+abbrev pub OnlyOutOfMemory : Type 0 → Place → Diagnostic → Type 0
+OnlyOutOfMemory Takes p e = e.kind ≡ OutOfMemory → HoldsNoBrace p → Takes
 
 -- what a lexer that stands at l gave, of which this is kept
 abbrev pub item_at : Kept → Lexed → Item
@@ -110,13 +110,13 @@ BeginsNothing class.BraceOpen = ⊥
 BeginsNothing _ = Unit {0}
 
 -- a value whose first token has this class and text begins so
-abbrev pub IsFront : lex.Token → List ℕ → Front → Type 0
-IsFront c text (front.Alone ty) = IsAlone c text ty
-IsFront c text front.Some = (c ≡ class.LabelOrKeyword) × (word_of text ≡ some_word)
-IsFront c text front.Ok = (c ≡ class.LabelOrKeyword) × (word_of text ≡ ok_word)
-IsFront c text front.Err = (c ≡ class.LabelOrKeyword) × (word_of text ≡ err_word)
-IsFront c text front.Case = (c ≡ class.LabelOrKeyword) × (word_of text ≡ case_word)
-IsFront c text front.Paren = c ≡ class.ParenOpen
-IsFront c text front.Bracket = c ≡ class.BracketOpen
-IsFront c text front.Brace = c ≡ class.BraceOpen
-IsFront c text front.Nothing = BeginsNothing c
+abbrev pub IsValueStart : lex.Token → List ℕ → ValueStart → Type 0
+IsValueStart c text (front.Alone ty) = IsAlone c text ty
+IsValueStart c text front.Some = (c ≡ class.LabelOrKeyword) × (word_of text ≡ some_word)
+IsValueStart c text front.Ok = (c ≡ class.LabelOrKeyword) × (word_of text ≡ ok_word)
+IsValueStart c text front.Err = (c ≡ class.LabelOrKeyword) × (word_of text ≡ err_word)
+IsValueStart c text front.Case = (c ≡ class.LabelOrKeyword) × (word_of text ≡ case_word)
+IsValueStart c text front.Paren = c ≡ class.ParenOpen
+IsValueStart c text front.Bracket = c ≡ class.BracketOpen
+IsValueStart c text front.Brace = c ≡ class.BraceOpen
+IsValueStart c text front.Nothing = BeginsNothing c

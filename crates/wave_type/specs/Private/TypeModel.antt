@@ -1,7 +1,7 @@
 -- The tree that a `Type` stands for, and what holds of its shape.
 use Rattle.std.specs.Prelude.{map, string_bytes}
 use Rattle.wave_wasm.specs.Types as type
-use Rattle.wave_wasm.specs.Types.{Simple, TypeTree, types_of, fields_of, cases_of, maybe_type, IsOwn}
+use Rattle.wave_wasm.specs.Types.{Simple, TypeTree, types_of, fields_of, cases_of, maybe_type, IsRepresentable}
 use Rattle.wave_type.specs.declared.ty.Shape.{Shape}
 use Rattle.wave_type.specs.declared.ty.Shape.TheVariants as shapes
 use Rattle.wave_type.specs.TypeModel.{by_bytes, simple_of}
@@ -50,4 +50,4 @@ HasFirstPlaces _ = Unit {0}
 pub record IsSoundShape (shape : Shape) : Type 0 where
   pub key : HasSimpleKey shape
   pub places : HasFirstPlaces shape
-  pub own : IsOwn (shape_tree shape)
+  pub own : IsRepresentable (shape_tree shape)

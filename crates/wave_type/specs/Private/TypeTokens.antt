@@ -7,7 +7,7 @@ use Rattle.wave_type.specs.declared.tokens.Token.{Token}
 use Rattle.wave_type.specs.declared.error.TypeErrorKind.{TypeErrorKind}
 use Rattle.wave_type.specs.declared.error.TypeErrorKind.TheVariants.{OutOfMemory, UnexpectedToken, UnexpectedEnd, DuplicateName}
 use Rattle.wave_type.specs.Private.TypeReading.{after, closed}
-use Rattle.wave_type.specs.TypeFaults.{Due, refused}
+use Rattle.wave_type.specs.TypeFaults.{Expectation, refused}
 use Rattle.wave_type.specs.TypeErrors.{TypeRefusal}
 use Rattle.wave_type.specs.TypeItems.{Item, for_memory, StandsAtFirst}
 use Rattle.wave_type.specs.TypeSpelling.{Tokens}
@@ -46,12 +46,12 @@ name_refused names [] = Some UnexpectedEnd
 name_refused names (t ∷ ts) = name_fault names (name_of_token t)
 
 -- there was no memory; or where these are due, whatever is due after them, the tokens are refused so
-abbrev pub Fails : (List Due → List Due) → Tokens → TypeErrorKind → Tokens → Type 0
-Fails due ts kind rest = (kind ≡ OutOfMemory) ⊎ ((dues : List Due) → refused ts (due dues) ≡ Some (kind, rest))
+abbrev pub Fails : (List Expectation → List Expectation) → Tokens → TypeErrorKind → Tokens → Type 0
+Fails due ts kind rest = (kind ≡ OutOfMemory) ⊎ ((dues : List Expectation) → refused ts (due dues) ≡ Some (kind, rest))
 
 -- where this is due, whatever is due after it, the tokens are refused so
-abbrev pub IsRefused : Due → Tokens → TypeErrorKind → Tokens → Type 0
-IsRefused due ts kind rest = (dues : List Due) → refused ts (due ∷ dues) ≡ Some (kind, rest)
+abbrev pub IsRefused : Expectation → Tokens → TypeErrorKind → Tokens → Type 0
+IsRefused due ts kind rest = (dues : List Expectation) → refused ts (due ∷ dues) ≡ Some (kind, rest)
 
 -- a comma stands next, and not the mark after it
 pub record GoesOn (mark : List ℕ) (ts rest : Tokens) : Type 0 where
@@ -64,7 +64,7 @@ abbrev pub RefusesName : List (List ℕ) → Tokens → TypeErrorKind → Tokens
 RefusesName names ts kind rest = (kind ≡ OutOfMemory) ⊎ ((rest ≡ ts) × (name_refused names ts ≡ Some kind))
 
 -- there was no memory, or where these are due the tokens are refused so
-abbrev pub IsRefusal : List Due → Tokens → TypeErrorKind → Tokens → Type 0
+abbrev pub IsRefusal : List Expectation → Tokens → TypeErrorKind → Tokens → Type 0
 IsRefusal dues ts kind rest = (kind ≡ OutOfMemory) ⊎ (refused ts dues ≡ Some (kind, rest))
 
 -- the refusal is one for memory where there was none, and else stands at the first of these items and is of this kind
@@ -74,6 +74,6 @@ pub record IsRefusalAt (text : List ℕ) (left : List Item) (kind : TypeErrorKin
 
 module _ {A B : Type 0} (view : A → B) where
   -- what was read, and the tokens after it; or the tokens are refused where these are due, or there was no memory
-  abbrev pub Answers : Result A TypeErrorKind → Tokens → Tokens → Option (B × Tokens) → (List Due → List Due) → Type 0
+  abbrev pub Answers : Result A TypeErrorKind → Tokens → Tokens → Option (B × Tokens) → (List Expectation → List Expectation) → Type 0
   Answers (Ok a) old new read dues = read ≡ Some (view a, new)
   Answers (Err kind) old new read dues = Fails dues old kind new

@@ -1,6 +1,6 @@
 //! Whether the names within a type are labels.
 ghost use Rattle.std.specs.Prelude.{◌≡◌, ◌↔◌, IsTrue, map};
-ghost use Rattle.wave_wasm.specs.Types.{IsOwn, types_of, fields_of, cases_of, maybe_type};
+ghost use Rattle.wave_wasm.specs.Types.{IsRepresentable, types_of, fields_of, cases_of, maybe_type};
 ghost use Rattle.wave_lex.specs.Labels.{Good};
 ghost use Rattle.wave_type.specs.TypeModel.{by_bytes};
 ghost use Rattle.wave_type.specs.Private.NameIndex.{AreFirstPlaces};
@@ -11,14 +11,14 @@ use super::index::{Named, first_place};
 use super::{Shape, Type};
 use std::collections::BTreeMap;
 use wave_lex::machine::label::LabelState;
-use wave_lex::machine::longest_front;
+use wave_lex::machine::longest_prefix;
 
 impl Type {
     /// Whether within each record, variant, enum and flags of the type the names are labels, and
     /// no name stands twice. The type's tree is one that a type can have.
     pub fn names_are_labels(&self) -> bool
         ensures labels { IsTrue result ↔ Good self.now }
-        ensures own { IsOwn self.now }
+        ensures own { IsRepresentable self.now }
     {
         let _ = &self.shape;
         names_pass(self)
@@ -109,5 +109,5 @@ fn are_label_names<N: Named>(items: &Vec<N>, places: &BTreeMap<String, usize>) -
 pub(crate) fn is_label(name: &str) -> bool
     ensures { result ≡ is_label name.now }
 {
-    longest_front(LabelState::Start, name) == Some(name.len())
+    longest_prefix(LabelState::Start, name) == Some(name.len())
 }

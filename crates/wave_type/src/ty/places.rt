@@ -2,7 +2,7 @@
 ghost use Rattle.std.specs.Prelude.{◌≡◌, ◌↔◌, IsTrue, None, [], get_or, map, option_map, string_bytes};
 ghost use Rattle.std.specs.Str.{bytes_eq};
 ghost use Rattle.std.specs.List.{position};
-ghost use Rattle.wave_wasm.specs.Types.{IsOwn, types_of, fields_of, record_parts, variant_parts, enum_names, flags_names};
+ghost use Rattle.wave_wasm.specs.Types.{IsRepresentable, types_of, fields_of, record_parts, variant_parts, enum_names, flags_names};
 ghost use Rattle.wave_wasm.specs.Borrowed.{shown_case};
 ghost use Rattle.wave_wasm.specs.Names.{AreDistinct};
 ghost use Rattle.wave_type.specs.TypeModel.{by_bytes, tuple_part, record_part};
@@ -11,8 +11,8 @@ use super::index::first_place;
 use super::{Shape, Type};
 
 /// Says nothing at run time: the tree of each type is one that a type can have.
-pub fn is_own(ty: &Type)
-    ensures { IsOwn ty.now }
+pub fn is_representable(ty: &Type)
+    ensures { IsRepresentable ty.now }
 {
     let _ = &ty.shape;
 }

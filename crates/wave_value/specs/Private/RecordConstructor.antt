@@ -10,8 +10,8 @@ use Rattle.wave_wasm.specs.declared.wasm.WasmValueError.{WasmValueError}
 use Rattle.wave_wasm.specs.declared.wasm.WasmValueError.TheVariants as error
 use Rattle.wave_value.specs.TypedValue.{TypedValue, IsAt}
 use Rattle.wave_value.specs.ValueModel.{first_names}
-use Rattle.wave_value.specs.declared.value.refusals.Amiss.{Amiss}
-use Rattle.wave_value.specs.declared.value.refusals.Amiss.TheVariants as amiss
+use Rattle.wave_value.specs.declared.value.refusals.NameErrorKind.{NameErrorKind}
+use Rattle.wave_value.specs.declared.value.refusals.NameErrorKind.TheVariants as amiss
 use Rattle.wave_value.specs.Private.ConstructorRules.{SaysCase, SaysMissing, SaysUnexpected}
 
 -- the value that the map holds under the name
@@ -48,7 +48,7 @@ SaysUnknownField name (error.Memory e) = Unit {0}
 SaysUnknownField name _ = ⊥
 
 -- this is amiss with the case or the field of this name
-abbrev pub SaysName : Amiss → List ℕ → WasmValueError → Type 0
+abbrev pub SaysName : NameErrorKind → List ℕ → WasmValueError → Type 0
 SaysName amiss.UnknownCase = SaysCase
 SaysName amiss.MissingPayload = SaysMissing
 SaysName amiss.UnexpectedPayload = SaysUnexpected

@@ -13,7 +13,7 @@ impl<T: IntoValue> IntoValue for Vec<T> {
 
     ghost tree = { λ items. list_value T.tree items.items };
 
-    ghost is_own = { T.is_own };
+    ghost is_representable = { T.is_representable };
 
     fn value_type(alloc: Global) -> Result<Type, AllocError> {
         Type::list(alloc, T::value_type(alloc)?)
@@ -33,7 +33,7 @@ impl<T: IntoValue + Copy, const N: usize> IntoValue for [T; N] {
 
     ghost tree = { list_value T.tree };
 
-    ghost is_own = { T.is_own };
+    ghost is_representable = { T.is_representable };
 
     fn value_type(alloc: Global) -> Result<Type, AllocError> {
         Vec::<T>::value_type(alloc)
@@ -52,7 +52,7 @@ impl<T: IntoValue> IntoValue for Option<T> {
 
     ghost tree = { option_value T.tree };
 
-    ghost is_own = { T.is_own };
+    ghost is_representable = { T.is_representable };
 
     fn value_type(alloc: Global) -> Result<Type, AllocError> {
         Type::option(alloc, T::value_type(alloc)?)
@@ -77,7 +77,7 @@ impl<T: IntoValue, U: IntoValue> IntoValue for Result<T, U> {
 
     ghost tree = { outcome_value T.tree U.tree };
 
-    ghost is_own = { result_is_own T.own U.own T.is_own U.is_own };
+    ghost is_representable = { result_is_own T.own U.own T.is_representable U.is_representable };
 
     fn value_type(alloc: Global) -> Result<Type, AllocError> {
         let ok = T::value_type(alloc)?;

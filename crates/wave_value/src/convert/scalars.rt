@@ -13,7 +13,7 @@ impl IntoValue for bool {
 
     ghost tree = { λ val. value.leaf (value.bool val) };
 
-    ghost is_own = { refl };
+    ghost is_representable = { refl };
 
     fn value_type(_alloc: Global) -> Result<Type, AllocError> {
         Ok(Type::BOOL)
@@ -33,7 +33,7 @@ impl IntoValue for i8 {
 
     ghost tree = { λ val. value.leaf (value.whole type.s8 val) };
 
-    ghost is_own = { refl };
+    ghost is_representable = { refl };
 
     fn value_type(_alloc: Global) -> Result<Type, AllocError> {
         Ok(Type::S8)
@@ -53,7 +53,7 @@ impl IntoValue for i16 {
 
     ghost tree = { λ val. value.leaf (value.whole type.s16 val) };
 
-    ghost is_own = { refl };
+    ghost is_representable = { refl };
 
     fn value_type(_alloc: Global) -> Result<Type, AllocError> {
         Ok(Type::S16)
@@ -73,7 +73,7 @@ impl IntoValue for i32 {
 
     ghost tree = { λ val. value.leaf (value.whole type.s32 val) };
 
-    ghost is_own = { refl };
+    ghost is_representable = { refl };
 
     fn value_type(_alloc: Global) -> Result<Type, AllocError> {
         Ok(Type::S32)
@@ -93,7 +93,7 @@ impl IntoValue for i64 {
 
     ghost tree = { λ val. value.leaf (value.whole type.s64 val) };
 
-    ghost is_own = { refl };
+    ghost is_representable = { refl };
 
     fn value_type(_alloc: Global) -> Result<Type, AllocError> {
         Ok(Type::S64)
@@ -113,7 +113,7 @@ impl IntoValue for u8 {
 
     ghost tree = { λ val. value.leaf (value.whole type.u8 (pos val)) };
 
-    ghost is_own = { refl };
+    ghost is_representable = { refl };
 
     fn value_type(_alloc: Global) -> Result<Type, AllocError> {
         Ok(Type::U8)
@@ -133,7 +133,7 @@ impl IntoValue for u16 {
 
     ghost tree = { λ val. value.leaf (value.whole type.u16 (pos val)) };
 
-    ghost is_own = { refl };
+    ghost is_representable = { refl };
 
     fn value_type(_alloc: Global) -> Result<Type, AllocError> {
         Ok(Type::U16)
@@ -153,7 +153,7 @@ impl IntoValue for u32 {
 
     ghost tree = { λ val. value.leaf (value.whole type.u32 (pos val)) };
 
-    ghost is_own = { refl };
+    ghost is_representable = { refl };
 
     fn value_type(_alloc: Global) -> Result<Type, AllocError> {
         Ok(Type::U32)
@@ -173,7 +173,7 @@ impl IntoValue for u64 {
 
     ghost tree = { λ val. value.leaf (value.whole type.u64 (pos val)) };
 
-    ghost is_own = { refl };
+    ghost is_representable = { refl };
 
     fn value_type(_alloc: Global) -> Result<Type, AllocError> {
         Ok(Type::U64)
@@ -193,7 +193,7 @@ impl IntoValue for char {
 
     ghost tree = { λ val. value.leaf (value.char val) };
 
-    ghost is_own = { refl };
+    ghost is_representable = { refl };
 
     fn value_type(_alloc: Global) -> Result<Type, AllocError> {
         Ok(Type::CHAR)
@@ -213,7 +213,7 @@ impl IntoValue for String {
 
     ghost tree = { λ val. value.leaf (value.string (string_bytes val)) };
 
-    ghost is_own = { refl };
+    ghost is_representable = { refl };
 
     fn value_type(_alloc: Global) -> Result<Type, AllocError> {
         Ok(Type::STRING)
@@ -234,7 +234,7 @@ impl IntoValue for &str {
 
     ghost tree = { λ val. value.leaf (value.string val.now) };
 
-    ghost is_own = { refl };
+    ghost is_representable = { refl };
 
     fn value_type(_alloc: Global) -> Result<Type, AllocError>
         ensures { IfOk result (λ t. t ≡ type.simple type.string) }

@@ -109,7 +109,7 @@ impl<A: IntoValue> IntoValue for (A,) {
 
     ghost tree = { λ parts. tuple_value (A.tree parts.0 ∷ []) };
 
-    ghost is_own = { tuple_is_own A.own [] (A.is_own, tt) };
+    ghost is_representable = { tuple_is_own A.own [] (A.is_representable, tt) };
 
     fn value_type(alloc: Global) -> Result<Type, AllocError> {
         type_of::<A, ()>(alloc)
@@ -132,7 +132,7 @@ impl<A: IntoValue, B: IntoValue> IntoValue for (A, B) {
 
     ghost tree = { λ parts. tuple_value (A.tree parts.0 ∷ B.tree parts.1 ∷ []) };
 
-    ghost is_own = { tuple_is_own A.own (B.own ∷ []) (A.is_own, (B.is_own, tt)) };
+    ghost is_representable = { tuple_is_own A.own (B.own ∷ []) (A.is_representable, (B.is_representable, tt)) };
 
     fn value_type(alloc: Global) -> Result<Type, AllocError> {
         type_of::<A, (B, ())>(alloc)
@@ -155,7 +155,7 @@ impl<A: IntoValue, B: IntoValue, C: IntoValue> IntoValue for (A, B, C) {
 
     ghost tree = { λ parts. tuple_value (A.tree parts.0 ∷ B.tree parts.1 ∷ C.tree parts.2 ∷ []) };
 
-    ghost is_own = { tuple_is_own A.own (B.own ∷ C.own ∷ []) (A.is_own, (B.is_own, (C.is_own, tt))) };
+    ghost is_representable = { tuple_is_own A.own (B.own ∷ C.own ∷ []) (A.is_representable, (B.is_representable, (C.is_representable, tt))) };
 
     fn value_type(alloc: Global) -> Result<Type, AllocError> {
         type_of::<A, (B, (C, ()))>(alloc)
@@ -178,7 +178,7 @@ impl<A: IntoValue, B: IntoValue, C: IntoValue, D: IntoValue> IntoValue for (A, B
 
     ghost tree = { λ parts. tuple_value (A.tree parts.0 ∷ B.tree parts.1 ∷ C.tree parts.2 ∷ D.tree parts.3 ∷ []) };
 
-    ghost is_own = { tuple_is_own A.own (B.own ∷ C.own ∷ D.own ∷ []) (A.is_own, (B.is_own, (C.is_own, (D.is_own, tt)))) };
+    ghost is_representable = { tuple_is_own A.own (B.own ∷ C.own ∷ D.own ∷ []) (A.is_representable, (B.is_representable, (C.is_representable, (D.is_representable, tt)))) };
 
     fn value_type(alloc: Global) -> Result<Type, AllocError> {
         type_of::<A, (B, (C, (D, ())))>(alloc)
@@ -202,7 +202,7 @@ impl<A: IntoValue, B: IntoValue, C: IntoValue, D: IntoValue, E: IntoValue> IntoV
 
     ghost tree = { λ parts. tuple_value (A.tree parts.0 ∷ B.tree parts.1 ∷ C.tree parts.2 ∷ D.tree parts.3 ∷ E.tree parts.4 ∷ []) };
 
-    ghost is_own = { tuple_is_own A.own (B.own ∷ C.own ∷ D.own ∷ E.own ∷ []) (A.is_own, (B.is_own, (C.is_own, (D.is_own, (E.is_own, tt))))) };
+    ghost is_representable = { tuple_is_own A.own (B.own ∷ C.own ∷ D.own ∷ E.own ∷ []) (A.is_representable, (B.is_representable, (C.is_representable, (D.is_representable, (E.is_representable, tt))))) };
 
     fn value_type(alloc: Global) -> Result<Type, AllocError> {
         type_of::<A, (B, (C, (D, (E, ()))))>(alloc)
@@ -226,8 +226,8 @@ impl<A: IntoValue, B: IntoValue, C: IntoValue, D: IntoValue, E: IntoValue, F: In
 
     ghost tree = { λ parts. tuple_value (A.tree parts.0 ∷ B.tree parts.1 ∷ C.tree parts.2 ∷ D.tree parts.3 ∷ E.tree parts.4 ∷ F.tree parts.5 ∷ []) };
 
-    ghost is_own = { tuple_is_own A.own (B.own ∷ C.own ∷ D.own ∷ E.own ∷ F.own ∷ [])
-        (A.is_own, (B.is_own, (C.is_own, (D.is_own, (E.is_own, (F.is_own, tt)))))) };
+    ghost is_representable = { tuple_is_own A.own (B.own ∷ C.own ∷ D.own ∷ E.own ∷ F.own ∷ [])
+        (A.is_representable, (B.is_representable, (C.is_representable, (D.is_representable, (E.is_representable, (F.is_representable, tt)))))) };
 
     fn value_type(alloc: Global) -> Result<Type, AllocError> {
         type_of::<A, (B, (C, (D, (E, (F, ())))))>(alloc)

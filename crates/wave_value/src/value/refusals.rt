@@ -75,7 +75,7 @@ pub(super) fn wrong_type<S: ShowsValue>(alloc: Global, ty: &Type, val: &Value) -
 
 // What is amiss with the case or the field that a refusal names.
 #[derive(Clone, Copy)]
-pub(super) enum Amiss {
+pub(super) enum NameErrorKind {
     // The type has no case or flag of this name.
     UnknownCase,
     // The payload of this case is missing.
@@ -90,16 +90,16 @@ pub(super) enum Amiss {
 
 // This is amiss with the case or the field of this name.
 #[tactic(auto, using(crate::proofs::Refusals::memory_said))]
-pub(super) fn named(alloc: Global, amiss: Amiss, name: &str) -> WasmValueError
+pub(super) fn named(alloc: Global, amiss: NameErrorKind, name: &str) -> WasmValueError
     ensures { SaysName amiss name.now result }
 {
     match String::from_str(alloc, name) {
         Ok(name) => match amiss {
-            Amiss::UnknownCase => WasmValueError::UnknownCase(name),
-            Amiss::MissingPayload => WasmValueError::MissingPayload(name),
-            Amiss::UnexpectedPayload => WasmValueError::UnexpectedPayload(name),
-            Amiss::MissingField => WasmValueError::MissingField(name),
-            Amiss::UnknownField => WasmValueError::UnknownField(name),
+            NameErrorKind::UnknownCase => WasmValueError::UnknownCase(name),
+            NameErrorKind::MissingPayload => WasmValueError::MissingPayload(name),
+            NameErrorKind::UnexpectedPayload => WasmValueError::UnexpectedPayload(name),
+            NameErrorKind::MissingField => WasmValueError::MissingField(name),
+            NameErrorKind::UnknownField => WasmValueError::UnknownField(name),
         },
         Err(e) => WasmValueError::Memory(e),
     }

@@ -1,7 +1,7 @@
 use Rattle.std.proofs.Common.{arith, ◌≡◌, ℕ, List, ap, subst, ◌∙◌, Bor, map, Option}
 use Rattle.std.specs.Result.{IfOk}
 use Rattle.wave_wasm.specs.Borrowed.{shown, named}
-use Rattle.wave_wasm.specs.Types.{TypeTree, is_own}
+use Rattle.wave_wasm.specs.Types.{TypeTree, is_representable}
 use Rattle.wave_type.specs.TypeMade.{tuple_type, record_type, variant_type}
 use Rattle.wave_wasm.specs.Shared.Types.{depth}
 use Rattle.wave_wasm.proofs.Sequence.{part_depth}
@@ -52,33 +52,33 @@ pub conversion::convert_tuple-loop-item-preserved : goal.conversion::convert_tup
 conversion::convert_tuple-loop-item-preserved g t c =
     let f : Bor g.row.T.Denot → TypeTree = λ x. g.T.WasmType.tree x.now in
     let own = converted_is (f c.item-item.result) c.in-Some.item _ c.in_ok-item.ensures c.in-Some.is in
-    remaining_more is_own tuple_type f c.deref-item-items.result.now c.loop-item.item-index c.item-item.result c.loop-item.converted.items _ _ c.loop-item.invariant c.loop-item-test.true c.item-item.is own.0 (pushed _ _ _ _ c.in_ok-push.ensures.items own.1)
+    remaining_more is_representable tuple_type f c.deref-item-items.result.now c.loop-item.item-index c.item-item.result c.loop-item.converted.items _ _ c.loop-item.invariant c.loop-item-test.true c.item-item.is own.0 (pushed _ _ _ _ c.in_ok-push.ensures.items own.1)
 
 pub conversion::convert_tuple-returns : goal.conversion::convert_tuple-returns
 conversion::convert_tuple-returns g t c =
     let f : Bor g.row.T.Denot → TypeTree = λ x. g.T.WasmType.tree x.now in
-    subst (λ (whole : Option TypeTree). IfOk c.tuple.result (λ r. r ≡ whole)) (remaining_done is_own tuple_type f c.deref-item-items.result.now c.loop-item.item-index c.loop-item.converted.items _ c.loop-item.invariant c.loop-item-test.false) c.tuple.ensures
+    subst (λ (whole : Option TypeTree). IfOk c.tuple.result (λ r. r ≡ whole)) (remaining_done is_representable tuple_type f c.deref-item-items.result.now c.loop-item.item-index c.loop-item.converted.items _ c.loop-item.invariant c.loop-item-test.false) c.tuple.ensures
 
 pub conversion::convert_tuple-returns-in_default : goal.conversion::convert_tuple-returns-in_default
 conversion::convert_tuple-returns-in_default g t c =
     let f : Bor g.row.T.Denot → TypeTree = λ x. g.T.WasmType.tree x.now in
-    remaining_none is_own tuple_type f c.deref-item-items.result.now c.loop-item.item-index c.item-item.result c.loop-item.converted.items _ c.loop-item.invariant c.loop-item-test.true c.item-item.is (refused_is (f c.item-item.result) _ c.in_ok-item.ensures c.in_default.is)
+    remaining_none is_representable tuple_type f c.deref-item-items.result.now c.loop-item.item-index c.item-item.result c.loop-item.converted.items _ c.loop-item.invariant c.loop-item-test.true c.item-item.is (refused_is (f c.item-item.result) _ c.in_ok-item.ensures c.in_default.is)
 
 pub conversion::convert_record-loop-field-preserved : goal.conversion::convert_record-loop-field-preserved
 conversion::convert_record-loop-field-preserved g t c =
     let f : Bor (List ℕ) × Bor g.row.T.Denot → List ℕ × TypeTree = λ x. (x.0.now, g.T.WasmType.tree x.1.now) in
     let own = converted_is ((f c.field-item.result).1) c.in-Some.field_type _ c.in_ok-field_type.ensures c.in-Some.is in
-    remaining_more (λ f. is_own f.1) record_type f c.deref-field-items.result.now c.loop-field.field-index c.field-item.result (named c.loop-field.converted.items) _ _ c.loop-field.invariant c.loop-field-test.true c.field-item.is own.0 (named_pushed _ _ _ _ _ c.in_ok-push.ensures.items own.1)
+    remaining_more (λ f. is_representable f.1) record_type f c.deref-field-items.result.now c.loop-field.field-index c.field-item.result (named c.loop-field.converted.items) _ _ c.loop-field.invariant c.loop-field-test.true c.field-item.is own.0 (named_pushed _ _ _ _ _ c.in_ok-push.ensures.items own.1)
 
 pub conversion::convert_record-returns : goal.conversion::convert_record-returns
 conversion::convert_record-returns g t c =
     let f : Bor (List ℕ) × Bor g.row.T.Denot → List ℕ × TypeTree = λ x. (x.0.now, g.T.WasmType.tree x.1.now) in
-    subst (λ (whole : Option TypeTree). IfOk c.record.result (λ r. r ≡ whole)) (remaining_done (λ f. is_own f.1) record_type f c.deref-field-items.result.now c.loop-field.field-index (named c.loop-field.converted.items) _ c.loop-field.invariant c.loop-field-test.false) c.record.ensures
+    subst (λ (whole : Option TypeTree). IfOk c.record.result (λ r. r ≡ whole)) (remaining_done (λ f. is_representable f.1) record_type f c.deref-field-items.result.now c.loop-field.field-index (named c.loop-field.converted.items) _ c.loop-field.invariant c.loop-field-test.false) c.record.ensures
 
 pub conversion::convert_record-returns-in_default : goal.conversion::convert_record-returns-in_default
 conversion::convert_record-returns-in_default g t c =
     let f : Bor (List ℕ) × Bor g.row.T.Denot → List ℕ × TypeTree = λ x. (x.0.now, g.T.WasmType.tree x.1.now) in
-    remaining_none (λ f. is_own f.1) record_type f c.deref-field-items.result.now c.loop-field.field-index c.field-item.result (named c.loop-field.converted.items) _ c.loop-field.invariant c.loop-field-test.true c.field-item.is (refused_is ((f c.field-item.result).1) _ c.in_ok-field_type.ensures c.in_default.is)
+    remaining_none (λ f. is_representable f.1) record_type f c.deref-field-items.result.now c.loop-field.field-index c.field-item.result (named c.loop-field.converted.items) _ c.loop-field.invariant c.loop-field-test.true c.field-item.is (refused_is ((f c.field-item.result).1) _ c.in_ok-field_type.ensures c.in_default.is)
 
 pub conversion::convert_variant-loop-case-preserved : goal.conversion::convert_variant-loop-case-preserved
 conversion::convert_variant-loop-case-preserved g t c =

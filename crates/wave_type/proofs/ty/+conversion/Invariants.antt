@@ -1,7 +1,7 @@
 use Rattle.std.proofs.Common.{◌≡◌, ◌+◌, ◌*◌, map, drop}
 use Rattle.wave_wasm.specs.Borrowed.{shown, named}
 use Rattle.wave_wasm.specs.Shared.Types.{depth, depth_of_maybe}
-use Rattle.wave_wasm.specs.Types.{maybe_type, is_own}
+use Rattle.wave_wasm.specs.Types.{maybe_type, is_representable}
 use Rattle.wave_type.specs.TypeMade.{tuple_type, record_type, variant_type}
 use Rattle.wave_type.specs.TypeConversion.{converted_type}
 use Rattle.wave_type.proofs.TypeConversion.{can_be_payload, remaining}
@@ -39,11 +39,11 @@ decreases-conversion::convert_payload g l = 3 * depth_of_maybe (maybe_type (show
 
 abbrev pub invariant-conversion::convert_record-loop-field : goal.invariant-conversion::convert_record-loop-field
 invariant-conversion::convert_record-loop-field g l =
-    converted_type (g.T.WasmType.tree l.ty) ≡ remaining (λ f. is_own f.1) record_type (named l.converted.items) (map (λ f. (f.0.now, g.T.WasmType.tree f.1.now)) (drop l.field-index l.field-items))
+    converted_type (g.T.WasmType.tree l.ty) ≡ remaining (λ f. is_representable f.1) record_type (named l.converted.items) (map (λ f. (f.0.now, g.T.WasmType.tree f.1.now)) (drop l.field-index l.field-items))
 
 abbrev pub invariant-conversion::convert_tuple-loop-item : goal.invariant-conversion::convert_tuple-loop-item
 invariant-conversion::convert_tuple-loop-item g l =
-    converted_type (g.T.WasmType.tree l.ty) ≡ remaining is_own tuple_type l.converted.items (map (λ t. g.T.WasmType.tree t.now) (drop l.item-index l.item-items))
+    converted_type (g.T.WasmType.tree l.ty) ≡ remaining is_representable tuple_type l.converted.items (map (λ t. g.T.WasmType.tree t.now) (drop l.item-index l.item-items))
 
 abbrev pub invariant-conversion::convert_variant-loop-case : goal.invariant-conversion::convert_variant-loop-case
 invariant-conversion::convert_variant-loop-case g l =

@@ -23,19 +23,19 @@ returns-in-Some c =
       subst (λ (z : List ℕ). IsLongestToken z c.in-Some.length c.in-Some.token) there c.in-Some.ensures,
     )
 
-pub invariant_of-self-in-Some-longest_front : goal.invariant_of-self-in-Some-longest_front
-invariant_of-self-in-Some-longest_front c = stands_next _ _ _ _ _ _ _ c.range_from-rest.ensures.value c.range_from-text.ensures.value c.self.invariant
+pub invariant_of-self-in-Some-longest_prefix : goal.invariant_of-self-in-Some-longest_prefix
+invariant_of-self-in-Some-longest_prefix c = stands_next _ _ _ _ _ _ _ c.range_from-rest.ensures.value c.range_from-text.ensures.value c.self.invariant
     (front_boundary gap _ _ c.range_from-rest.utf8 c.gap_at-gap.ensures.0)
-    (front_boundary invalid _ _ c.range_from-text.utf8 c.in-Some-longest_front.ensures.0)
+    (front_boundary invalid _ _ c.range_from-text.utf8 c.in-Some-longest_prefix.ensures.0)
 
-pub returns-in-Some-longest_front : goal.returns-in-Some-longest_front
-returns-in-Some-longest_front c =
+pub returns-in-Some-longest_prefix : goal.returns-in-Some-longest_prefix
+returns-in-Some-longest_prefix c =
     let there = c.range_from-text.ensures.value ∙ ap (λ (z : List ℕ). drop c.gap_at-gap.result z) c.range_from-rest.ensures.value in
     rw (← c.self.view_is) (
       c.gap_at-gap.result,
-      c.in-Some-longest_front.length,
+      c.in-Some-longest_prefix.length,
       record { source = refl; skipped = subst (λ (z : List ℕ). IsGap z c.gap_at-gap.result) c.range_from-rest.ensures.value c.gap_at-gap.ensures; start = refl; end = refl },
-      subst (λ (z : List ℕ). IsInvalid z c.in-Some-longest_front.length) there (c.in_default.ensures, c.in-Some-longest_front.ensures),
+      subst (λ (z : List ℕ). IsInvalid z c.in-Some-longest_prefix.length) there (c.in_default.ensures, c.in-Some-longest_prefix.ensures),
       refl,
     )
 
@@ -45,7 +45,7 @@ invariant_of-self-2 c = stands_at _ _ _ _ _ c.range_from-rest.ensures.value c.se
 
 pub returns : goal.returns
 returns c =
-    let all : c.gap_at-gap.result ≡ length c.range_from-rest.result.now = gap_is_rest _ _ _ c.range_from-text.utf8 c.range_from-text.ensures.value c.gap_at-gap.ensures c.in_default-longest_front.ensures in
+    let all : c.gap_at-gap.result ≡ length c.range_from-rest.result.now = gap_is_rest _ _ _ c.range_from-text.utf8 c.range_from-text.ensures.value c.gap_at-gap.ensures c.in_default-longest_prefix.ensures in
     let same : c.gap_at-gap.result ≡ length (drop c.self.inside.end c.self.inside.source.now) = all ∙ ap length c.range_from-rest.ensures.value in
     let there : IsGap (drop c.self.inside.end c.self.inside.source.now) (length (drop c.self.inside.end c.self.inside.source.now)) =
     subst (λ (z : ℕ). IsGap (drop c.self.inside.end c.self.inside.source.now) z) same (subst (λ (z : List ℕ). IsGap z c.gap_at-gap.result) c.range_from-rest.ensures.value c.gap_at-gap.ensures) in

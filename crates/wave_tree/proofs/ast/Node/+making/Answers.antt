@@ -32,7 +32,7 @@ use Rattle.wave_tree.proofs.Children.{child_below, key_child, value_child, if_tr
 use Rattle.wave_tree.proofs.TypeOrder.{read_by_type}
 use Rattle.wave_tree.proofs.ReadNodes.{due_value, due_told, set_no_row, record_read, field_told, left_told}
 use Rattle.wave_tree.proofs.RecordNodes.{part_at, as_parts, still_held, held_value, none_before, removed_next, unknown_blame, fields_kept, record_done, held_belongs, held_below, depth_of_maybe}
-use Rattle.wave_tree.proofs.ast.Node.+making.Goals.{make_of_parts-then-takes_key+in_ok-with_key, make_of_parts-else-takes_key+in_ok-made+in_ok-with_part}
+use Rattle.wave_tree.proofs.ast.Node.+making.Goals.{make_of_parts-then-takes_key+in_ok-push_key, make_of_parts-else-takes_key+in_ok-made+in_ok-push_part}
 use Rattle.wave_tree.proofs.ast.Node.+making.Goals as goal
 
 -- ---- at the type that is due
@@ -212,19 +212,19 @@ make_of_parts-loop-i-preserved g t c =
     let told = c.takes_key.ensures c.args.src.now value form lt in
     let more = more_children c.args.self.now c.nodes-nodes.result.now c.loop-i.i c.index-nodes-i.result c.nodes-nodes.ensures c.loop-i-test.true c.index-nodes-i.is in
     elim c.if-takes_key.branch [
-      | make_of_parts-then-takes_key+in_ok-with_key w ↦
+      | make_of_parts-then-takes_key+in_ok-push_key w ↦
           let next : TakesKey (type_of c.args.self.now) (take c.loop-i.i (children_of c.args.self.now)) = if_true _ c.takes_key.result told w.if-takes_key.true in
           let key : IsKeyOf c.args.src.now c.index-nodes-i.result = key_child c.args.src.now c.args.self.now c.nodes-nodes.result.now c.loop-i.i c.index-nodes-i.result value c.nodes-nodes.ensures next c.loop-i-test.true c.index-nodes-i.is in
           let here : leaf_node w.leaf-key.result ≡ c.index-nodes-i.result = w.leaf-key.ensures.node ∙ sym (key_alone c.args.src.now c.index-nodes-i.result key) in
           subst (λ p. AreKeptWhereDue g.V.Type.WasmType.tree g.V.WasmValue.tree g.V.WasmValue.is_of g.V.WasmValue.is_full by_type (shown g.V.Type.WasmType.tree c.args.builder.due) c.args.src.now (type_of c.args.self.now) (take (c.loop-i.i + 1) (children_of c.args.self.now)) p) (sym w.parts-is)
-          (subst (λ (l : List NodeTree). AreKeptWhereDue g.V.Type.WasmType.tree g.V.WasmValue.tree g.V.WasmValue.is_of g.V.WasmValue.is_full by_type (shown g.V.Type.WasmType.tree c.args.builder.due) c.args.src.now (type_of c.args.self.now) l w.with_key.new.self) (ap (λ (x : NodeTree). take c.loop-i.i (children_of c.args.self.now) ++ x ∷ []) here ∙ more)
-          (w.in_ok-with_key.ensures.kept by_type (shown g.V.Type.WasmType.tree c.args.builder.due) c.args.src.now (type_of c.args.self.now) (take c.loop-i.i (children_of c.args.self.now)) w.leaf-key.ensures.text next c.loop-i.invariant))
-      | make_of_parts-else-takes_key+in_ok-made+in_ok-with_part w ↦
+          (subst (λ (l : List NodeTree). AreKeptWhereDue g.V.Type.WasmType.tree g.V.WasmValue.tree g.V.WasmValue.is_of g.V.WasmValue.is_full by_type (shown g.V.Type.WasmType.tree c.args.builder.due) c.args.src.now (type_of c.args.self.now) l w.push_key.new.self) (ap (λ (x : NodeTree). take c.loop-i.i (children_of c.args.self.now) ++ x ∷ []) here ∙ more)
+          (w.in_ok-push_key.ensures.kept by_type (shown g.V.Type.WasmType.tree c.args.builder.due) c.args.src.now (type_of c.args.self.now) (take c.loop-i.i (children_of c.args.self.now)) w.leaf-key.ensures.text next c.loop-i.invariant))
+      | make_of_parts-else-takes_key+in_ok-made+in_ok-push_part w ↦
           let next : TakesPart (type_of c.args.self.now) (take c.loop-i.i (children_of c.args.self.now)) = if_false _ c.takes_key.result told w.if-takes_key.false in
           let made = subst (λ (o : Option _). IsReadSparing g.V.WasmValue.tree g.V.WasmValue.is_of g.V.WasmValue.is_full by_type by_type (shown g.V.Type.WasmType.tree o) c.args.src.now c.index-nodes-i.result w.in_ok-made.made) w.next.ensures w.in_ok-made.ensures in
           subst (λ p. AreKeptWhereDue g.V.Type.WasmType.tree g.V.WasmValue.tree g.V.WasmValue.is_of g.V.WasmValue.is_full by_type (shown g.V.Type.WasmType.tree c.args.builder.due) c.args.src.now (type_of c.args.self.now) (take (c.loop-i.i + 1) (children_of c.args.self.now)) p) (sym w.parts-is)
-          (subst (λ (l : List NodeTree). AreKeptWhereDue g.V.Type.WasmType.tree g.V.WasmValue.tree g.V.WasmValue.is_of g.V.WasmValue.is_full by_type (shown g.V.Type.WasmType.tree c.args.builder.due) c.args.src.now (type_of c.args.self.now) l w.with_part.new.self) more
-          (w.in_ok-with_part.ensures.kept by_type (shown g.V.Type.WasmType.tree c.args.builder.due) c.args.src.now (type_of c.args.self.now) (take c.loop-i.i (children_of c.args.self.now)) c.index-nodes-i.result next c.loop-i.invariant made))
+          (subst (λ (l : List NodeTree). AreKeptWhereDue g.V.Type.WasmType.tree g.V.WasmValue.tree g.V.WasmValue.is_of g.V.WasmValue.is_full by_type (shown g.V.Type.WasmType.tree c.args.builder.due) c.args.src.now (type_of c.args.self.now) l w.push_part.new.self) more
+          (w.in_ok-push_part.ensures.kept by_type (shown g.V.Type.WasmType.tree c.args.builder.due) c.args.src.now (type_of c.args.self.now) (take c.loop-i.i (children_of c.args.self.now)) c.index-nodes-i.result next c.loop-i.invariant made))
     ]
 
 pub make_of_parts-returns : goal.make_of_parts-returns

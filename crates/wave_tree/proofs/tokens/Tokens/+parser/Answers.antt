@@ -2,16 +2,16 @@ use Rattle.std.proofs.Common.{◌≡◌, ℕ, ◌+◌, ◌-◌, Some, Ok, List, 
 use Rattle.wave_lex.specs.declared.lex.Token as lex
 use Rattle.wave_lex.specs.declared.lex.Token.TheVariants.{BraceOpen, BraceClose, ParenOpen, ParenClose, BracketOpen, BracketClose, Colon, Comma, LabelOrKeyword}
 use Rattle.wave_grammar.specs.ParserPosition.{Place, TakesItem, span_at, text_at, token_of}
-use Rattle.wave_grammar.specs.PrefixAutomaton.{Due, Form, due_behind, reads, behind_step, step, key_step, brace_step, behind_flag_step, flag_step}
+use Rattle.wave_grammar.specs.PrefixAutomaton.{Expectation, StackSymbol, due_behind, reads, behind_step, step, key_step, brace_step, behind_flag_step, flag_step}
 use Rattle.wave_grammar.specs.PrefixAutomaton as due
 use Rattle.wave_grammar.specs.SyntaxErrors.{Gives, IsBehind, LeadsBehindValue}
 use Rattle.std.specs.declared.ops.Range.{Range}
 use Rattle.wave_grammar.specs.Shared.TokenRoles.{form_of, IsClose}
 use Rattle.wave_lex.specs.declared.error.ParserErrorKind.TheVariants as because
 use Rattle.wave_tree.proofs.ParserSteps.{gives_or_memory, no_level, refuses_there, kind_is, here, here_is, handed, gives_then, fails, any_token, shallow, value_read, level_open, read_there, unexpected_there, no_paren, then_token, token_there, behind_bare, reached, fails_behind, then_behind, payload_other, unexpected_behind, expected, untrue, moved, then_class, then_behind_class, range_path, close_first, close_empty, close_next, then_same, then_refuses, item_refuses, item_read, then_reached, Reached, IsItemDue, no_close, empty_there, key_reads, no_key, brace_key, entries_other, close_behind, comma_behind, other_behind, token_less, tokens_less, left_at, no_colon, no_brace}
-use Rattle.wave_tree.specs.declared.role.Front.{Front}
-use Rattle.wave_tree.specs.declared.role.Front.TheVariants as front
-use Rattle.wave_tree.specs.Private.ParserState.{Stream, AsksFor, IsAlone, IsFront}
+use Rattle.wave_tree.specs.declared.role.ValueStart.{ValueStart}
+use Rattle.wave_tree.specs.declared.role.ValueStart.TheVariants as front
+use Rattle.wave_tree.specs.Private.ParserState.{Stream, AsksFor, IsAlone, IsValueStart}
 use Rattle.wave_tree.specs.Private.ParsedNodes.{IsParsedBehind, IsMaybe, IsPayload, IsOfItems, IsOfEntries, IsOfFlags, items_type, label_children}
 use Rattle.wave_tree.specs.ParsedNodes.{TakesClass}
 use Rattle.wave_grammar.specs.NodeTree.{NodeTree, node, no_nodes}
@@ -19,7 +19,7 @@ use Rattle.wave_grammar.specs.declared.form.NodeType.{NodeType}
 use Rattle.wave_grammar.specs.declared.form.NodeType.TheVariants as kind_of_node
 use Rattle.wave_tree.proofs.NodeCorrectness.Items.{class_as, label_tied, items_tied, braces_tied, some_tied, ok_tied, err_tied, case_tied, some_there, type_of_items, items_made, items_none, items_first, items_next, pairs_next, pairs_close, empty_tied, no_fields_tied, entries_tied, flags_tied, payload_tied}
 use Rattle.wave_grammar.proofs.Parameters.{error_handed}
-use Rattle.wave_tree.specs.Private.ParserState.{WantsOnly}
+use Rattle.wave_tree.specs.Private.ParserState.{OnlyOutOfMemory}
 use Rattle.wave_tree.proofs.AloneTokens.{alone_parsed, alone_led, nothing_begins}
 use Rattle.wave_tree.proofs.Wanting.{whatever_parts, wants_any, wants_refused, wants_reached, wants_less, answer_token, answer_brace, wants_other, wants_fails, wants_taken}
 use Rattle.wave_tree.proofs.PartsDue.{key_next, value_next, payload_due, payload_parts}
@@ -32,27 +32,27 @@ use Rattle.wave_tree.proofs.tokens.Tokens.+parser.Goals as goal
 use Rattle.wave_tree.proofs.tokens.Tokens.+parser.Goals.{parse_items-then-eq-2, parse_items-else-eq-2}
 
 -- a token that is a value on its own, by what it begins
-front_alone : (c : lex.Token) (text shown : List ℕ) (f : Front) (ty : NodeType) → shown ≡ text → IsFront c shown f → f ≡ front.Alone ty → IsAlone c text ty
-front_alone c text shown f ty text_is begins is = subst (λ (z : List ℕ). IsAlone c z ty) text_is (subst (IsFront c shown) is begins)
+front_alone : (c : lex.Token) (text shown : List ℕ) (f : ValueStart) (ty : NodeType) → shown ≡ text → IsValueStart c shown f → f ≡ front.Alone ty → IsAlone c text ty
+front_alone c text shown f ty text_is begins is = subst (λ (z : List ℕ). IsAlone c z ty) text_is (subst (IsValueStart c shown) is begins)
 
 -- after a value and a comma a key is due
-key_due : {n : ℕ} {s : List Form} {p q m w : Place} {c : lex.Token} → Reached n due.value (due.entries ∷ s) p due.value (due.entries ∷ s) q → (item : LeadsBehindValue n due.value (due.entries ∷ s) q m (due.entries ∷ s)) →
+key_due : {n : ℕ} {s : List StackSymbol} {p q m w : Place} {c : lex.Token} → Reached n due.value (due.entries ∷ s) p due.value (due.entries ∷ s) q → (item : LeadsBehindValue n due.value (due.entries ∷ s) q m (due.entries ∷ s)) →
     TakesItem m (Some (Ok c)) w → c ≡ Comma → Reached n due.value (due.entries ∷ s) p due.key s w
 key_due {s = s} so_far item comma_there is_comma = then_behind_class {f = due.key} {b = s} item.due_there Comma (then_reached so_far (reached item)) item.is_behind comma_there is_comma refl
 
 -- after a value that was read
-asks_value : (levels : ℕ) (p q r : Stream) → ((n : ℕ) (s : List Form) → n ≡ levels + length s → LeadsBehindValue n due.value s p.place q.place s) → AsksFor p q → AsksFor q r → AsksFor p r
+asks_value : (levels : ℕ) (p q r : Stream) → ((n : ℕ) (s : List StackSymbol) → n ≡ levels + length s → LeadsBehindValue n due.value s p.place q.place s) → AsksFor p q → AsksFor q r → AsksFor p r
 asks_value levels p q r read first more = asks_read levels due.value [] [] p q r (read levels [] (omega arith)) first more
 
 -- after the items so far
 asks_items : (levels : ℕ) (close : lex.Token) (old at new : Stream) →
-    ((n : ℕ) (s : List Form) → n ≡ levels + 1 + length s → (d : Due) × IsItemDue d × Reached n due.first_item (form_of close ∷ s) old.place d (form_of close ∷ s) at.place) → AsksFor old at → AsksFor at new → AsksFor old new
+    ((n : ℕ) (s : List StackSymbol) → n ≡ levels + 1 + length s → (d : Expectation) × IsItemDue d × Reached n due.first_item (form_of close ∷ s) old.place d (form_of close ∷ s) at.place) → AsksFor old at → AsksFor at new → AsksFor old new
 asks_items levels close old at new led first more =
     let (d, i, r) = led (levels + 1) [] (omega arith) in
     asks_reached (levels + 1) due.first_item d (form_of close ∷ []) (form_of close ∷ []) old at new r first more
 
 -- after the entries so far
-asks_entries : (levels : ℕ) (old at new : Stream) → ((n : ℕ) (s : List Form) → n ≡ levels + 1 + length s → Reached n due.value (due.entries ∷ s) old.place due.value (due.entries ∷ s) at.place) →
+asks_entries : (levels : ℕ) (old at new : Stream) → ((n : ℕ) (s : List StackSymbol) → n ≡ levels + 1 + length s → Reached n due.value (due.entries ∷ s) old.place due.value (due.entries ∷ s) at.place) →
     AsksFor old at → AsksFor at new → AsksFor old new
 asks_entries levels old at new led first more = asks_reached (levels + 1) due.value due.value (due.entries ∷ []) (due.entries ∷ []) old at new (led (levels + 1) [] (omega arith)) first more
 
@@ -61,42 +61,42 @@ parse_part-returns-in_err-token-clause-led g t c = λ n s e. handed s _ _ c.from
     (fails (inl tt) (λ _. Unit {0}) c.in_err-token.field-0.0 (here n due.value s _) (shallow n due.value s _ (omega arith)) (any_token n due.value s _ _) c.in_err-token.ensures.takes)
 
 pub parse_behind-returns-in-Alone-clause-led : goal.parse_behind-returns-in-Alone-clause-led
-parse_behind-returns-in-Alone-clause-led g t c = λ first there n s e. alone_led n s first c.args.self.now.place c.args.token c.in-Alone.ty (omega arith) there (subst (IsFront c.args.token (text_at c.args.self.now.place)) c.in-Alone.is c.requires.front)
+parse_behind-returns-in-Alone-clause-led g t c = λ first there n s e. alone_led n s first c.args.self.now.place c.args.token c.in-Alone.ty (omega arith) there (subst (IsValueStart c.args.token (text_at c.args.self.now.place)) c.in-Alone.is c.requires.front)
 
 pub parse_behind-returns-in-Some-clause-led : goal.parse_behind-returns-in-Some-clause-led
 parse_behind-returns-in-Some-clause-led g t c = λ first there n s e.
-    let front = subst (IsFront c.args.token (text_at c.args.self.now.place)) c.in-Some.is c.requires.front in
+    let front = subst (IsValueStart c.args.token (text_at c.args.self.now.place)) c.in-Some.is c.requires.front in
     gives_then s _ c.parse_some.result (value_read n due.paren s s _ _ _ LabelOrKeyword (omega arith) there front.0 (ap (λ w. reads (due_behind w) s) front.1)) (c.parse_some.ensures.led n s (omega arith))
 
 pub parse_behind-returns-in-Ok-clause-led : goal.parse_behind-returns-in-Ok-clause-led
 parse_behind-returns-in-Ok-clause-led g t c = λ first there n s e.
-    let front = subst (IsFront c.args.token (text_at c.args.self.now.place)) c.in-Ok.is c.requires.front in
+    let front = subst (IsValueStart c.args.token (text_at c.args.self.now.place)) c.in-Ok.is c.requires.front in
     gives_then s _ c.parse_maybe.result (value_read n due.behind_label s s _ _ _ LabelOrKeyword (omega arith) there front.0 (ap (λ w. reads (due_behind w) s) front.1)) (c.parse_maybe.ensures.led n s (omega arith))
 
 pub parse_behind-returns-in-Err-clause-led : goal.parse_behind-returns-in-Err-clause-led
 parse_behind-returns-in-Err-clause-led g t c = λ first there n s e.
-    let front = subst (IsFront c.args.token (text_at c.args.self.now.place)) c.in-Err.is c.requires.front in
+    let front = subst (IsValueStart c.args.token (text_at c.args.self.now.place)) c.in-Err.is c.requires.front in
     gives_then s _ c.parse_maybe-in-Err.result (value_read n due.behind_label s s _ _ _ LabelOrKeyword (omega arith) there front.0 (ap (λ w. reads (due_behind w) s) front.1)) (c.parse_maybe-in-Err.ensures.led n s (omega arith))
 
 pub parse_behind-returns-in-Case-clause-led : goal.parse_behind-returns-in-Case-clause-led
 parse_behind-returns-in-Case-clause-led g t c = λ first there n s e.
-    let front = subst (IsFront c.args.token (text_at c.args.self.now.place)) c.in-Case.is c.requires.front in
+    let front = subst (IsValueStart c.args.token (text_at c.args.self.now.place)) c.in-Case.is c.requires.front in
     gives_then s _ c.parse_maybe-in-Case.result (value_read n due.behind_label s s _ _ _ LabelOrKeyword (omega arith) there front.0 (ap (λ w. reads (due_behind w) s) front.1)) (c.parse_maybe-in-Case.ensures.led n s (omega arith))
 
 pub parse_behind-returns-in-Paren-clause-led : goal.parse_behind-returns-in-Paren-clause-led
-parse_behind-returns-in-Paren-clause-led g t c = λ first there n s e. gives_then s _ c.parse_items.result (value_read n due.first_item s (due.tuple ∷ s) _ _ _ ParenOpen (omega arith) there (subst (IsFront c.args.token (text_at c.args.self.now.place)) c.in-Paren.is c.requires.front) refl) (c.parse_items.ensures.led n s (omega arith))
+parse_behind-returns-in-Paren-clause-led g t c = λ first there n s e. gives_then s _ c.parse_items.result (value_read n due.first_item s (due.tuple ∷ s) _ _ _ ParenOpen (omega arith) there (subst (IsValueStart c.args.token (text_at c.args.self.now.place)) c.in-Paren.is c.requires.front) refl) (c.parse_items.ensures.led n s (omega arith))
 
 pub parse_behind-returns-in-Bracket-clause-led : goal.parse_behind-returns-in-Bracket-clause-led
-parse_behind-returns-in-Bracket-clause-led g t c = λ first there n s e. gives_then s _ c.parse_items-in-Bracket.result (value_read n due.first_item s (due.list ∷ s) _ _ _ BracketOpen (omega arith) there (subst (IsFront c.args.token (text_at c.args.self.now.place)) c.in-Bracket.is c.requires.front) refl) (c.parse_items-in-Bracket.ensures.led n s (omega arith))
+parse_behind-returns-in-Bracket-clause-led g t c = λ first there n s e. gives_then s _ c.parse_items-in-Bracket.result (value_read n due.first_item s (due.list ∷ s) _ _ _ BracketOpen (omega arith) there (subst (IsValueStart c.args.token (text_at c.args.self.now.place)) c.in-Bracket.is c.requires.front) refl) (c.parse_items-in-Bracket.ensures.led n s (omega arith))
 
 pub parse_behind-returns-in-Brace-clause-led : goal.parse_behind-returns-in-Brace-clause-led
-parse_behind-returns-in-Brace-clause-led g t c = λ first there n s e. gives_then s _ c.parse_braces.result (value_read n due.in_braces s s _ _ _ BraceOpen (omega arith) there (subst (IsFront c.args.token (text_at c.args.self.now.place)) c.in-Brace.is c.requires.front) refl) (c.parse_braces.ensures.led n s (omega arith))
+parse_behind-returns-in-Brace-clause-led g t c = λ first there n s e. gives_then s _ c.parse_braces.result (value_read n due.in_braces s s _ _ _ BraceOpen (omega arith) there (subst (IsValueStart c.args.token (text_at c.args.self.now.place)) c.in-Brace.is c.requires.front) refl) (c.parse_braces.ensures.led n s (omega arith))
 
 pub parse_behind-returns-in-Nothing-clause-led : goal.parse_behind-returns-in-Nothing-clause-led
 parse_behind-returns-in-Nothing-clause-led g t c = λ first there n s e.
     refuses_there s c.refuse_token.result c.refuse_token.ensures.never c.refuse_token.ensures.refused
     (λ x says. unexpected_there (inl tt) x c.args.token (here n due.value s _) there
-    (level_open n s (token_of c.args.token (text_at c.args.self.now.place)) (omega arith) ∙ nothing_begins s c.args.token (text_at c.args.self.now.place) (subst (IsFront c.args.token (text_at c.args.self.now.place)) c.in-Nothing.is c.requires.front))
+    (level_open n s (token_of c.args.token (text_at c.args.self.now.place)) (omega arith) ∙ nothing_begins s c.args.token (text_at c.args.self.now.place) (subst (IsValueStart c.args.token (text_at c.args.self.now.place)) c.in-Nothing.is c.requires.front))
     says)
 
 pub parse_some-returns-in_err-expect-clause-led : goal.parse_some-returns-in_err-expect-clause-led
@@ -111,47 +111,47 @@ parse_some-returns-clause-asks g t c =
     asks_token c.args.self.now c.expect.new.self c.parse_payload.new.self ParenOpen c.in_ok-expect.ensures.takes c.expect.ensures.asks c.parse_payload.ensures.asks
 
 pub parse_behind-returns-in-Alone-clause-tree : goal.parse_behind-returns-in-Alone-clause-tree
-parse_behind-returns-in-Alone-clause-tree g t c = (node c.in-Alone.ty (span_at c.args.self.now.place) no_nodes, λ first there. alone_parsed c.args.levels first c.args.self.now.place c.args.token c.in-Alone.ty c.requires.levels there (subst (IsFront c.args.token (text_at c.args.self.now.place)) c.in-Alone.is c.requires.front), c.leaf.ensures)
+parse_behind-returns-in-Alone-clause-tree g t c = (node c.in-Alone.ty (span_at c.args.self.now.place) no_nodes, λ first there. alone_parsed c.args.levels first c.args.self.now.place c.args.token c.in-Alone.ty c.requires.levels there (subst (IsValueStart c.args.token (text_at c.args.self.now.place)) c.in-Alone.is c.requires.front), c.leaf.ensures)
 
 pub parse_behind-returns-in-Some-clause-tree : goal.parse_behind-returns-in-Some-clause-tree
 parse_behind-returns-in-Some-clause-tree g t c =
-    let front = subst (IsFront c.args.token (text_at c.args.self.now.place)) c.in-Some.is c.requires.front in
+    let front = subst (IsValueStart c.args.token (text_at c.args.self.now.place)) c.in-Some.is c.requires.front in
     built (g.P.Builder.is_made c.args.builder) c.args.self.now.place c.args.self.now.place (IsParsedBehind LabelOrKeyword (c.args.levels - 1 + 1) c.args.self.now.place c.parse_some.new.self.place) (IsParsedBehind c.args.token c.args.levels c.args.self.now.place c.parse_some.new.self.place) c.parse_some.result refl
     (λ n is first there. label_tied c.args.levels first c.args.self.now.place c.parse_some.new.self.place c.args.token (as_ok n) c.requires.levels there front.0 is) c.parse_some.ensures.tree
 
 pub parse_behind-returns-in-Ok-clause-tree : goal.parse_behind-returns-in-Ok-clause-tree
 parse_behind-returns-in-Ok-clause-tree g t c =
-    let front = subst (IsFront c.args.token (text_at c.args.self.now.place)) c.in-Ok.is c.requires.front in
+    let front = subst (IsValueStart c.args.token (text_at c.args.self.now.place)) c.in-Ok.is c.requires.front in
     built (g.P.Builder.is_made c.args.builder) c.args.self.now.place c.args.self.now.place (IsMaybe (c.args.levels - 1) kind_of_node.ResultOk kind_of_node.ResultOk c.args.self.now.place c.parse_maybe.new.self.place) (IsParsedBehind c.args.token c.args.levels c.args.self.now.place c.parse_maybe.new.self.place) c.parse_maybe.result refl
     (λ n is first there. label_tied c.args.levels first c.args.self.now.place c.parse_maybe.new.self.place c.args.token (as_ok n) c.requires.levels there front.0 (ok_tied (c.args.levels - 1) c.args.self.now.place c.parse_maybe.new.self.place (as_ok n) front.1 is)) c.parse_maybe.ensures.tree
 
 pub parse_behind-returns-in-Err-clause-tree : goal.parse_behind-returns-in-Err-clause-tree
 parse_behind-returns-in-Err-clause-tree g t c =
-    let front = subst (IsFront c.args.token (text_at c.args.self.now.place)) c.in-Err.is c.requires.front in
+    let front = subst (IsValueStart c.args.token (text_at c.args.self.now.place)) c.in-Err.is c.requires.front in
     built (g.P.Builder.is_made c.args.builder) c.args.self.now.place c.args.self.now.place (IsMaybe (c.args.levels - 1) kind_of_node.ResultErr kind_of_node.ResultErr c.args.self.now.place c.parse_maybe-in-Err.new.self.place) (IsParsedBehind c.args.token c.args.levels c.args.self.now.place c.parse_maybe-in-Err.new.self.place) c.parse_maybe-in-Err.result refl
     (λ n is first there. label_tied c.args.levels first c.args.self.now.place c.parse_maybe-in-Err.new.self.place c.args.token (as_ok n) c.requires.levels there front.0 (err_tied (c.args.levels - 1) c.args.self.now.place c.parse_maybe-in-Err.new.self.place (as_ok n) front.1 is)) c.parse_maybe-in-Err.ensures.tree
 
 pub parse_behind-returns-in-Case-clause-tree : goal.parse_behind-returns-in-Case-clause-tree
 parse_behind-returns-in-Case-clause-tree g t c =
-    let front = subst (IsFront c.args.token (text_at c.args.self.now.place)) c.in-Case.is c.requires.front in
+    let front = subst (IsValueStart c.args.token (text_at c.args.self.now.place)) c.in-Case.is c.requires.front in
     built (g.P.Builder.is_made c.args.builder) c.args.self.now.place c.args.self.now.place (IsMaybe (c.args.levels - 1) kind_of_node.Label kind_of_node.VariantWithPayload c.args.self.now.place c.parse_maybe-in-Case.new.self.place) (IsParsedBehind c.args.token c.args.levels c.args.self.now.place c.parse_maybe-in-Case.new.self.place) c.parse_maybe-in-Case.result refl
     (λ n is first there. label_tied c.args.levels first c.args.self.now.place c.parse_maybe-in-Case.new.self.place c.args.token (as_ok n) c.requires.levels there front.0 (case_tied (c.args.levels - 1) c.args.self.now.place c.parse_maybe-in-Case.new.self.place (as_ok n) front.1 is)) c.parse_maybe-in-Case.ensures.tree
 
 pub parse_behind-returns-in-Paren-clause-tree : goal.parse_behind-returns-in-Paren-clause-tree
 parse_behind-returns-in-Paren-clause-tree g t c =
-    let front = subst (IsFront c.args.token (text_at c.args.self.now.place)) c.in-Paren.is c.requires.front in
+    let front = subst (IsValueStart c.args.token (text_at c.args.self.now.place)) c.in-Paren.is c.requires.front in
     built (g.P.Builder.is_made c.args.builder) c.args.self.now.place c.args.self.now.place (IsOfItems (c.args.levels - 1) ParenClose c.args.self.now.place c.parse_items.new.self.place) (IsParsedBehind c.args.token c.args.levels c.args.self.now.place c.parse_items.new.self.place) c.parse_items.result refl
     (λ n is first there. items_tied c.args.levels first c.args.self.now.place c.parse_items.new.self.place c.args.token ParenOpen ParenClose (inl (refl, refl)) (as_ok n) c.requires.levels there front is) c.parse_items.ensures.tree
 
 pub parse_behind-returns-in-Bracket-clause-tree : goal.parse_behind-returns-in-Bracket-clause-tree
 parse_behind-returns-in-Bracket-clause-tree g t c =
-    let front = subst (IsFront c.args.token (text_at c.args.self.now.place)) c.in-Bracket.is c.requires.front in
+    let front = subst (IsValueStart c.args.token (text_at c.args.self.now.place)) c.in-Bracket.is c.requires.front in
     built (g.P.Builder.is_made c.args.builder) c.args.self.now.place c.args.self.now.place (IsOfItems (c.args.levels - 1) BracketClose c.args.self.now.place c.parse_items-in-Bracket.new.self.place) (IsParsedBehind c.args.token c.args.levels c.args.self.now.place c.parse_items-in-Bracket.new.self.place) c.parse_items-in-Bracket.result refl
     (λ n is first there. items_tied c.args.levels first c.args.self.now.place c.parse_items-in-Bracket.new.self.place c.args.token BracketOpen BracketClose (inr (refl, refl)) (as_ok n) c.requires.levels there front is) c.parse_items-in-Bracket.ensures.tree
 
 pub parse_behind-returns-in-Brace-clause-tree : goal.parse_behind-returns-in-Brace-clause-tree
 parse_behind-returns-in-Brace-clause-tree g t c =
-    let front = subst (IsFront c.args.token (text_at c.args.self.now.place)) c.in-Brace.is c.requires.front in
+    let front = subst (IsValueStart c.args.token (text_at c.args.self.now.place)) c.in-Brace.is c.requires.front in
     built (g.P.Builder.is_made c.args.builder) c.args.self.now.place c.args.self.now.place (IsParsedBehind BraceOpen (c.args.levels - 1 + 1) c.args.self.now.place c.parse_braces.new.self.place) (IsParsedBehind c.args.token c.args.levels c.args.self.now.place c.parse_braces.new.self.place) c.parse_braces.result refl
     (λ n is first there. braces_tied c.args.levels first c.args.self.now.place c.parse_braces.new.self.place c.args.token (as_ok n) c.requires.levels there front is) c.parse_braces.ensures.tree
 
@@ -162,11 +162,11 @@ parse_some-returns-clause-tree g t c =
     (of_part (TakesPart kind_of_node.OptionSome) (λ front. g.P.Builder.are_parts c.args.builder c.expect.new.self.place.lexer.source kind_of_node.OptionSome front c.parts-parts.result) c.parse_payload.result (λ front. IsBuilt (g.P.Builder.is_made c.args.builder) c.expect.new.self.place (IsPayload c.args.levels kind_of_node.OptionSome c.span-start.result.start front c.expect.new.self.place c.parse_payload.new.self.place)) c.parse_payload.ensures.tree [] refl (c.parts-parts.ensures c.expect.new.self.place.lexer.source tt))
 
 pub parse_some-returns-in_err-expect-clause-memory : goal.parse_some-returns-in_err-expect-clause-memory
-parse_some-returns-in_err-expect-clause-memory g t c = error_handed (WantsOnly (g.P.Builder.takes_memory c.args.builder) c.args.self.now.place) c.from_residual.result c.in_err-expect.field-0.0 c.from_residual.ensures.1 (wants_fails (g.P.Builder.takes_memory c.args.builder) c.args.self.now.place c.args.self.now.place c.expect.new.self.place (λ k. k ≡ ParenOpen) c.in_err-expect.field-0.0 c.in_err-expect.ensures.takes)
+parse_some-returns-in_err-expect-clause-memory g t c = error_handed (OnlyOutOfMemory (g.P.Builder.takes_memory c.args.builder) c.args.self.now.place) c.from_residual.result c.in_err-expect.field-0.0 c.from_residual.ensures.1 (wants_fails (g.P.Builder.takes_memory c.args.builder) c.args.self.now.place c.args.self.now.place c.expect.new.self.place (λ k. k ≡ ParenOpen) c.in_err-expect.field-0.0 c.in_err-expect.ensures.takes)
 
 pub parse_some-returns-clause-memory : goal.parse_some-returns-clause-memory
 parse_some-returns-clause-memory g t c = answer_token (g.P.Builder.takes_memory c.args.builder) c.args.self.now.place c.expect.new.self.place ParenOpen c.parse_payload.result c.in_ok-expect.ensures.takes
-    (wants_part (TakesPart kind_of_node.OptionSome) (λ front. g.P.Builder.are_parts c.args.builder c.expect.new.self.place.lexer.source kind_of_node.OptionSome front c.parts-parts.result) c.parse_payload.result (WantsOnly (g.P.Builder.takes_memory c.args.builder) c.expect.new.self.place) c.parse_payload.ensures.memory [] refl (c.parts-parts.ensures c.expect.new.self.place.lexer.source tt))
+    (wants_part (TakesPart kind_of_node.OptionSome) (λ front. g.P.Builder.are_parts c.args.builder c.expect.new.self.place.lexer.source kind_of_node.OptionSome front c.parts-parts.result) c.parse_payload.result (OnlyOutOfMemory (g.P.Builder.takes_memory c.args.builder) c.expect.new.self.place) c.parse_payload.ensures.memory [] refl (c.parts-parts.ensures c.expect.new.self.place.lexer.source tt))
 
 pub parse_behind-returns-in-Some-clause-memory : goal.parse_behind-returns-in-Some-clause-memory
 parse_behind-returns-in-Some-clause-memory g t c = λ first there. answer_token (g.P.Builder.takes_memory c.args.builder) first c.args.self.now.place c.args.token c.parse_some.result there c.parse_some.ensures.memory
@@ -187,7 +187,7 @@ pub parse_behind-returns-in-Bracket-clause-memory : goal.parse_behind-returns-in
 parse_behind-returns-in-Bracket-clause-memory g t c = λ first there. answer_token (g.P.Builder.takes_memory c.args.builder) first c.args.self.now.place c.args.token c.parse_items-in-Bracket.result there c.parse_items-in-Bracket.ensures.memory
 
 pub parse_behind-returns-in-Brace-clause-memory : goal.parse_behind-returns-in-Brace-clause-memory
-parse_behind-returns-in-Brace-clause-memory g t c = λ first there. answer_brace (g.P.Builder.takes_memory c.args.builder) first c.args.self.now.place c.parse_braces.result (class_as first c.args.self.now.place c.args.token BraceOpen there (subst (IsFront c.args.token (text_at c.args.self.now.place)) c.in-Brace.is c.requires.front))
+parse_behind-returns-in-Brace-clause-memory g t c = λ first there. answer_brace (g.P.Builder.takes_memory c.args.builder) first c.args.self.now.place c.parse_braces.result (class_as first c.args.self.now.place c.args.token BraceOpen there (subst (IsValueStart c.args.token (text_at c.args.self.now.place)) c.in-Brace.is c.requires.front))
 
 pub parse_behind-returns-in-Nothing-clause-memory : goal.parse_behind-returns-in-Nothing-clause-memory
 parse_behind-returns-in-Nothing-clause-memory g t c = λ first there. wants_refused (g.P.Builder.takes_memory c.args.builder) first c.refuse_token.result c.refuse_token.ensures.refused
@@ -253,7 +253,7 @@ parse_items-returns-in_err-parse_part-clause-led g t c = λ n s e.
     (item_refuses d c.in_err-parse_part.field-0.0 i (no_close c.args.close s _ c.requires c.items.invariant.no_close) (c.in_err-parse_part.ensures.led n (form_of c.args.close ∷ s) (omega arith))))
 
 -- after an item that was read
-behind_item : {n : ℕ} {d e : Due} {s : List Form} {p q w : Place} (close : lex.Token) → IsClose close → ((next : Place) × TakesItem q (Some (Ok close)) next → ⊥) → IsItemDue e →
+behind_item : {n : ℕ} {d e : Expectation} {s : List StackSymbol} {p q w : Place} (close : lex.Token) → IsClose close → ((next : Place) × TakesItem q (Some (Ok close)) next → ⊥) → IsItemDue e →
     Reached n d (form_of close ∷ s) p e (form_of close ∷ s) q → (h : LeadsBehindValue n due.value (form_of close ∷ s) q w (form_of close ∷ s)) → Reached n d (form_of close ∷ s) p h.due_there (form_of close ∷ s) w
 behind_item {e = e} {s = s} {q = q} close is_close none i r h = then_reached r (item_read e i (no_close close s q is_close none) h)
 
@@ -504,8 +504,8 @@ pub parse_entries-returns-in_err-expect-clause-asks : goal.parse_entries-returns
 parse_entries-returns-in_err-expect-clause-asks g t c =
     asks_entries c.args.levels c.args.self.now c.entries.self c.expect.new.self c.entries.invariant.led c.entries.invariant.asks (asks_value c.args.levels c.entries.self c.parse_part.new.self c.expect.new.self c.in_ok-parse_part.ensures.led c.parse_part.ensures.asks (asks_token c.parse_part.new.self c.advance.new.self c.expect.new.self c.in_ok-token.token c.in_ok-token.ensures.takes c.advance.ensures.asks (asks_token c.advance.new.self c.advance-in-entries.new.self c.expect.new.self c.in_ok-next.next c.in_ok-next.ensures.takes c.advance-in-entries.ensures.asks (asks_once c.advance-in-entries.new.self c.expect.new.self c.expect.ensures.asks))))
 
-pub parse_entries-returns-in_err-with_key-clause-asks : goal.parse_entries-returns-in_err-with_key-clause-asks
-parse_entries-returns-in_err-with_key-clause-asks g t c =
+pub parse_entries-returns-in_err-push_key-clause-asks : goal.parse_entries-returns-in_err-push_key-clause-asks
+parse_entries-returns-in_err-push_key-clause-asks g t c =
     asks_entries c.args.levels c.args.self.now c.entries.self c.advance-in-entries.new.self c.entries.invariant.led c.entries.invariant.asks (asks_value c.args.levels c.entries.self c.parse_part.new.self c.advance-in-entries.new.self c.in_ok-parse_part.ensures.led c.parse_part.ensures.asks (asks_token c.parse_part.new.self c.advance.new.self c.advance-in-entries.new.self c.in_ok-token.token c.in_ok-token.ensures.takes c.advance.ensures.asks (asks_once c.advance.new.self c.advance-in-entries.new.self c.advance-in-entries.ensures.asks)))
 
 pub parse_maybe-returns-then-not-next_is-clause-tree : goal.parse_maybe-returns-then-not-next_is-clause-tree
@@ -676,10 +676,10 @@ parse_entries-entries-preserved g t c = record {
       let token : c.advance.new.self.place.lexer.source ≡ c.args.self.now.place.lexer.source = source_item c.parse_part.new.self.place c.advance.new.self.place c.in_ok-token.token c.in_ok-token.ensures.takes ∙ (source_parsed c.args.levels c.entries.self.place c.parse_part.new.self.place n is ∙ here) in
       let key = node c.in-Some.ty (span_at c.advance-in-entries.new.self.place) no_nodes in
       let at_key : c.advance-in-entries.new.self.place.lexer.source ≡ c.args.self.now.place.lexer.source = source_item c.advance.new.self.place c.advance-in-entries.new.self.place c.in_ok-next.next c.in_ok-next.ensures.takes ∙ token in
-      let keyed = c.in_ok-with_key.ensures.kept kind_of_node.TupleSet (first ∷ (hs ++ n ∷ [])) (key_next (first ∷ hs) n part_due) (subst (λ (s : List ℕ). g.P.Builder.are_parts c.args.builder s kind_of_node.TupleSet (first ∷ (hs ++ n ∷ [])) c.parse_part.new.parts) (sym at_key) grown) in
+      let keyed = c.in_ok-push_key.ensures.kept kind_of_node.TupleSet (first ∷ (hs ++ n ∷ [])) (key_next (first ∷ hs) n part_due) (subst (λ (s : List ℕ). g.P.Builder.are_parts c.args.builder s kind_of_node.TupleSet (first ∷ (hs ++ n ∷ [])) c.parse_part.new.parts) (sym at_key) grown) in
       let (more, same, further) = pairs_next c.args.levels c.args.self.now.place c.entries.self.place c.parse_part.new.self.place c.advance.new.self.place c.advance-in-entries.new.self.place c.expect.new.self.place (first ∷ hs) (first ∷ (hs ++ n ∷ [])) ((first ∷ (hs ++ n ∷ [])) ++ key ∷ []) first n key (hs, refl, go) is (class_as _ _ _ Comma c.in_ok-token.ensures.takes (differs_not _ _ c.ne.ensures c.if-ne.false))
       (c.in_ok-next.next, c.in_ok-next.ensures.takes, c.in-Some.ensures.0, ap (λ z. node z (span_at c.advance-in-entries.new.self.place) no_nodes) c.in-Some.ensures.1) c.in_ok-expect.ensures.takes refl refl in
-      (more, subst (λ (ns : List NodeTree). g.P.Builder.are_parts c.args.builder c.args.self.now.place.lexer.source kind_of_node.TupleSet ns c.with_key.new.parts) same (subst (λ (s : List ℕ). g.P.Builder.are_parts c.args.builder s kind_of_node.TupleSet ((first ∷ (hs ++ n ∷ [])) ++ key ∷ []) c.with_key.new.parts) at_key keyed), subst (TakesPart kind_of_node.TupleSet) same (value_next (first ∷ (hs ++ n ∷ [])) key (key_next (first ∷ hs) n part_due)), further);
+      (more, subst (λ (ns : List NodeTree). g.P.Builder.are_parts c.args.builder c.args.self.now.place.lexer.source kind_of_node.TupleSet ns c.push_key.new.parts) same (subst (λ (s : List ℕ). g.P.Builder.are_parts c.args.builder s kind_of_node.TupleSet ((first ∷ (hs ++ n ∷ [])) ++ key ∷ []) c.push_key.new.parts) at_key keyed), subst (TakesPart kind_of_node.TupleSet) same (value_next (first ∷ (hs ++ n ∷ [])) key (key_next (first ∷ hs) n part_due)), further);
   led = λ n s e.
       let item = c.in_ok-parse_part.ensures.led n (due.entries ∷ s) (omega arith) in
       let due_key = key_due (c.entries.invariant.led n s e) item c.in_ok-token.ensures.takes (differs_not _ _ c.ne.ensures c.if-ne.false) in
@@ -695,29 +695,29 @@ parse_part-returns-then-levels-eq0-clause-led g t c = λ n s e. refuses_there s 
     (λ x says. no_level n s c.args.self.now.place x (omega arith) says)
 
 pub parse_part-returns-then-levels-eq0-clause-memory : goal.parse_part-returns-then-levels-eq0-clause-memory
-parse_part-returns-then-levels-eq0-clause-memory g t c = whatever_parts (λ (source : List ℕ) (of : NodeType) (children : List NodeTree). g.P.Builder.are_parts c.args.builder source of children c.args.parts.now) (WantsOnly (g.P.Builder.takes_memory c.args.builder) c.args.self.now.place) c.refuse_depth.result
+parse_part-returns-then-levels-eq0-clause-memory g t c = whatever_parts (λ (source : List ℕ) (of : NodeType) (children : List NodeTree). g.P.Builder.are_parts c.args.builder source of children c.args.parts.now) (OnlyOutOfMemory (g.P.Builder.takes_memory c.args.builder) c.args.self.now.place) c.refuse_depth.result
     (wants_refused (g.P.Builder.takes_memory c.args.builder) c.args.self.now.place c.refuse_depth.result c.refuse_depth.ensures.refused
     (λ x says. wants_other (g.P.Builder.takes_memory c.args.builder) c.args.self.now.place x because.NestingTooDeep (kind_is says) (λ z. cc)))
 
 pub parse_part-returns-in_err-token-clause-memory : goal.parse_part-returns-in_err-token-clause-memory
-parse_part-returns-in_err-token-clause-memory g t c = error_handed (λ e. (source : List ℕ) (of : NodeType) (children : List NodeTree) → g.P.Builder.are_parts c.args.builder source of children c.args.parts.now → WantsOnly (g.P.Builder.takes_memory c.args.builder) c.args.self.now.place e) c.from_residual.result c.in_err-token.field-0.0 c.from_residual.ensures.1
+parse_part-returns-in_err-token-clause-memory g t c = error_handed (λ e. (source : List ℕ) (of : NodeType) (children : List NodeTree) → g.P.Builder.are_parts c.args.builder source of children c.args.parts.now → OnlyOutOfMemory (g.P.Builder.takes_memory c.args.builder) c.args.self.now.place e) c.from_residual.result c.in_err-token.field-0.0 c.from_residual.ensures.1
     (λ source of children are. wants_fails (g.P.Builder.takes_memory c.args.builder) c.args.self.now.place c.args.self.now.place c.advance.new.self.place (λ _. Unit {0}) c.in_err-token.field-0.0 c.in_err-token.ensures.takes)
 
 pub parse_part-returns-in-Alone-clause-led : goal.parse_part-returns-in-Alone-clause-led
-parse_part-returns-in-Alone-clause-led g t c = λ n s e. gives_or_memory c.with_part.result c.with_part.ensures.memory
-    (alone_led n s c.args.self.now.place c.advance.new.self.place c.in_ok-token.token c.in-Alone.ty (omega arith) c.in_ok-token.ensures.takes (front_alone c.in_ok-token.token (text_at c.advance.new.self.place) c.slice.result.now c.front_of-front.result c.in-Alone.ty c.slice.ensures c.front_of-front.ensures c.in-Alone.is))
+parse_part-returns-in-Alone-clause-led g t c = λ n s e. gives_or_memory c.push_part.result c.push_part.ensures.memory
+    (alone_led n s c.args.self.now.place c.advance.new.self.place c.in_ok-token.token c.in-Alone.ty (omega arith) c.in_ok-token.ensures.takes (front_alone c.in_ok-token.token (text_at c.advance.new.self.place) c.slice.result.now c.value_start-front.result c.in-Alone.ty c.slice.ensures c.value_start-front.ensures c.in-Alone.is))
 
 pub parse_part-returns-in_err-made-clause-led : goal.parse_part-returns-in_err-made-clause-led
 parse_part-returns-in_err-made-clause-led g t c = λ n s e. handed s _ _ c.from_residual-in_err-made.ensures.1 (c.in_err-made.ensures.led c.args.self.now.place c.in_ok-token.ensures.takes n s e)
 
 pub parse_part-returns-clause-led : goal.parse_part-returns-clause-led
-parse_part-returns-clause-led g t c = λ n s e. gives_or_memory c.with_part-2.result c.with_part-2.ensures.memory (c.in_ok-made.ensures.led c.args.self.now.place c.in_ok-token.ensures.takes n s e)
+parse_part-returns-clause-led g t c = λ n s e. gives_or_memory c.push_part-2.result c.push_part-2.ensures.memory (c.in_ok-made.ensures.led c.args.self.now.place c.in_ok-token.ensures.takes n s e)
 
 pub parse_maybe-returns-in_err-front-clause-memory : goal.parse_maybe-returns-in_err-front-clause-memory
-parse_maybe-returns-in_err-front-clause-memory g t c = error_handed (WantsOnly (g.P.Builder.takes_memory c.args.builder) c.args.self.now.place) c.from_residual.result c.in_err-front.field-0.0 c.from_residual.ensures.1 (wants_taken (g.P.Builder.takes_memory c.args.builder) c.args.self.now.place c.in_err-front.field-0.0 (c.in_err-front.ensures.takes (payload_parts c.args.with c.requires.1)))
+parse_maybe-returns-in_err-front-clause-memory g t c = error_handed (OnlyOutOfMemory (g.P.Builder.takes_memory c.args.builder) c.args.self.now.place) c.from_residual.result c.in_err-front.field-0.0 c.from_residual.ensures.1 (wants_taken (g.P.Builder.takes_memory c.args.builder) c.args.self.now.place c.in_err-front.field-0.0 (c.in_err-front.ensures.takes (payload_parts c.args.with c.requires.1)))
 
 pub parse_maybe-returns-in_err-expect-clause-memory : goal.parse_maybe-returns-in_err-expect-clause-memory
-parse_maybe-returns-in_err-expect-clause-memory g t c = error_handed (WantsOnly (g.P.Builder.takes_memory c.args.builder) c.args.self.now.place) c.from_residual-in_err-expect.result c.in_err-expect.field-0.0 c.from_residual-in_err-expect.ensures.1 (wants_fails (g.P.Builder.takes_memory c.args.builder) c.args.self.now.place c.next_is.new.self.place c.expect.new.self.place (λ k. k ≡ ParenOpen) c.in_err-expect.field-0.0 c.in_err-expect.ensures.takes)
+parse_maybe-returns-in_err-expect-clause-memory g t c = error_handed (OnlyOutOfMemory (g.P.Builder.takes_memory c.args.builder) c.args.self.now.place) c.from_residual-in_err-expect.result c.in_err-expect.field-0.0 c.from_residual-in_err-expect.ensures.1 (wants_fails (g.P.Builder.takes_memory c.args.builder) c.args.self.now.place c.next_is.new.self.place c.expect.new.self.place (λ k. k ≡ ParenOpen) c.in_err-expect.field-0.0 c.in_err-expect.ensures.takes)
 
 pub parse_maybe-returns-clause-memory : goal.parse_maybe-returns-clause-memory
 parse_maybe-returns-clause-memory g t c =
@@ -725,57 +725,57 @@ parse_maybe-returns-clause-memory g t c =
     let label = label_children c.args.with (span_at c.next_is.new.self.place) in
     let behind : c.expect.new.self.place.lexer.source ≡ c.next_is.new.self.place.lexer.source = source_item c.next_is.new.self.place c.expect.new.self.place ParenOpen c.in_ok-expect.ensures.takes in
     answer_token (g.P.Builder.takes_memory c.args.builder) c.args.self.now.place c.expect.new.self.place ParenOpen c.parse_payload.result (subst (λ z. TakesItem z (Some (Ok ParenOpen)) c.expect.new.self.place) stays c.in_ok-expect.ensures.takes)
-    (wants_part (TakesPart c.args.with) (λ front. g.P.Builder.are_parts c.args.builder c.expect.new.self.place.lexer.source c.args.with front c.in_ok-front.front) c.parse_payload.result (WantsOnly (g.P.Builder.takes_memory c.args.builder) c.expect.new.self.place) c.parse_payload.ensures.memory label (payload_due c.args.with (span_at c.next_is.new.self.place) c.requires.1)
+    (wants_part (TakesPart c.args.with) (λ front. g.P.Builder.are_parts c.args.builder c.expect.new.self.place.lexer.source c.args.with front c.in_ok-front.front) c.parse_payload.result (OnlyOutOfMemory (g.P.Builder.takes_memory c.args.builder) c.expect.new.self.place) c.parse_payload.ensures.memory label (payload_due c.args.with (span_at c.next_is.new.self.place) c.requires.1)
     (subst (λ (s : List ℕ). g.P.Builder.are_parts c.args.builder s c.args.with label c.in_ok-front.front) (sym behind) (c.in_ok-front.ensures.made (payload_parts c.args.with c.requires.1))))
 
 pub parse_payload-returns-in_err-parse_part-clause-memory : goal.parse_payload-returns-in_err-parse_part-clause-memory
 parse_payload-returns-in_err-parse_part-clause-memory g t c =
-    error_handed (λ e. (front : List NodeTree) → TakesPart c.args.ty front → g.P.Builder.are_parts c.args.builder c.args.self.now.place.lexer.source c.args.ty front c.args.parts → WantsOnly (g.P.Builder.takes_memory c.args.builder) c.args.self.now.place e) c.from_residual.result c.in_err-parse_part.field-0.0 c.from_residual.ensures.1
+    error_handed (λ e. (front : List NodeTree) → TakesPart c.args.ty front → g.P.Builder.are_parts c.args.builder c.args.self.now.place.lexer.source c.args.ty front c.args.parts → OnlyOutOfMemory (g.P.Builder.takes_memory c.args.builder) c.args.self.now.place e) c.from_residual.result c.in_err-parse_part.field-0.0 c.from_residual.ensures.1
     (λ front part_due first. c.in_err-parse_part.ensures.memory c.args.self.now.place.lexer.source c.args.ty front first)
 
 pub parse_payload-returns-in_err-expect-clause-memory : goal.parse_payload-returns-in_err-expect-clause-memory
 parse_payload-returns-in_err-expect-clause-memory g t c =
-    error_handed (λ e. (front : List NodeTree) → TakesPart c.args.ty front → g.P.Builder.are_parts c.args.builder c.args.self.now.place.lexer.source c.args.ty front c.args.parts → WantsOnly (g.P.Builder.takes_memory c.args.builder) c.args.self.now.place e) c.from_residual-in_err-expect.result c.in_err-expect.field-0.0 c.from_residual-in_err-expect.ensures.1 (λ front part_due first.
+    error_handed (λ e. (front : List NodeTree) → TakesPart c.args.ty front → g.P.Builder.are_parts c.args.builder c.args.self.now.place.lexer.source c.args.ty front c.args.parts → OnlyOutOfMemory (g.P.Builder.takes_memory c.args.builder) c.args.self.now.place e) c.from_residual-in_err-expect.result c.in_err-expect.field-0.0 c.from_residual-in_err-expect.ensures.1 (λ front part_due first.
     wants_fails (g.P.Builder.takes_memory c.args.builder) c.args.self.now.place c.parse_part.new.self.place c.expect.new.self.place (λ k. k ≡ ParenClose) c.in_err-expect.field-0.0 c.in_err-expect.ensures.takes)
 
 pub parse_items-returns-in_err-expect-clause-memory : goal.parse_items-returns-in_err-expect-clause-memory
-parse_items-returns-in_err-expect-clause-memory g t c = error_handed (WantsOnly (g.P.Builder.takes_memory c.args.builder) c.args.self.now.place) c.from_residual.result c.in_err-expect.field-0.0 c.from_residual.ensures.1 (wants_fails (g.P.Builder.takes_memory c.args.builder) c.args.self.now.place c.next_is.new.self.place c.expect.new.self.place (λ k. k ≡ c.args.close) c.in_err-expect.field-0.0 c.in_err-expect.ensures.takes)
+parse_items-returns-in_err-expect-clause-memory g t c = error_handed (OnlyOutOfMemory (g.P.Builder.takes_memory c.args.builder) c.args.self.now.place) c.from_residual.result c.in_err-expect.field-0.0 c.from_residual.ensures.1 (wants_fails (g.P.Builder.takes_memory c.args.builder) c.args.self.now.place c.next_is.new.self.place c.expect.new.self.place (λ k. k ≡ c.args.close) c.in_err-expect.field-0.0 c.in_err-expect.ensures.takes)
 
 pub parse_items-returns-then-eq-clause-memory : goal.parse_items-returns-then-eq-clause-memory
 parse_items-returns-then-eq-clause-memory g t c = wants_refused (g.P.Builder.takes_memory c.args.builder) c.args.self.now.place c.refuse_empty.result c.refuse_empty.ensures.refused (λ x says. wants_other (g.P.Builder.takes_memory c.args.builder) c.args.self.now.place x because.EmptyTuple (kind_is says) (λ z. cc))
 
 pub parse_items-returns-in_err-parse_part-clause-memory : goal.parse_items-returns-in_err-parse_part-clause-memory
-parse_items-returns-in_err-parse_part-clause-memory g t c = error_handed (WantsOnly (g.P.Builder.takes_memory c.args.builder) c.args.self.now.place) c.from_residual-in_err-parse_part.result c.in_err-parse_part.field-0.0 c.from_residual-in_err-parse_part.ensures.1
+parse_items-returns-in_err-parse_part-clause-memory g t c = error_handed (OnlyOutOfMemory (g.P.Builder.takes_memory c.args.builder) c.args.self.now.place) c.from_residual-in_err-parse_part.result c.in_err-parse_part.field-0.0 c.from_residual-in_err-parse_part.ensures.1
     (let (d, i, r) = c.items.invariant.reached (c.args.levels + 1) [] (omega arith) in
     let (children, first, go) = c.items.invariant.tree in
     wants_reached (g.P.Builder.takes_memory c.args.builder) c.in_err-parse_part.field-0.0 r (c.in_err-parse_part.ensures.memory c.args.self.now.place.lexer.source c.if-eq-2.ty children first))
 
 pub parse_items-returns-in_err-token-clause-memory : goal.parse_items-returns-in_err-token-clause-memory
-parse_items-returns-in_err-token-clause-memory g t c = error_handed (WantsOnly (g.P.Builder.takes_memory c.args.builder) c.args.self.now.place) c.from_residual-in_err-token.result c.in_err-token.field-0.0 c.from_residual-in_err-token.ensures.1 (wants_fails (g.P.Builder.takes_memory c.args.builder) c.args.self.now.place c.parse_part.new.self.place c.advance.new.self.place (λ _. Unit {0}) c.in_err-token.field-0.0 c.in_err-token.ensures.takes)
+parse_items-returns-in_err-token-clause-memory g t c = error_handed (OnlyOutOfMemory (g.P.Builder.takes_memory c.args.builder) c.args.self.now.place) c.from_residual-in_err-token.result c.in_err-token.field-0.0 c.from_residual-in_err-token.ensures.1 (wants_fails (g.P.Builder.takes_memory c.args.builder) c.args.self.now.place c.parse_part.new.self.place c.advance.new.self.place (λ _. Unit {0}) c.in_err-token.field-0.0 c.in_err-token.ensures.takes)
 
 pub parse_items-returns-then-ne-clause-memory : goal.parse_items-returns-then-ne-clause-memory
 parse_items-returns-then-ne-clause-memory g t c = wants_refused (g.P.Builder.takes_memory c.args.builder) c.args.self.now.place c.refuse_token.result c.refuse_token.ensures.refused (λ x says. wants_other (g.P.Builder.takes_memory c.args.builder) c.args.self.now.place x because.UnexpectedToken (kind_is says) (λ z. cc))
 
 pub parse_items-returns-in_err-expect-2-clause-memory : goal.parse_items-returns-in_err-expect-2-clause-memory
-parse_items-returns-in_err-expect-2-clause-memory g t c = error_handed (WantsOnly (g.P.Builder.takes_memory c.args.builder) c.args.self.now.place) c.from_residual-in_err-expect-2.result c.in_err-expect-2.field-0.0 c.from_residual-in_err-expect-2.ensures.1 (wants_fails (g.P.Builder.takes_memory c.args.builder) c.args.self.now.place c.next_is-in-items.new.self.place c.expect-then-next_is-2.new.self.place (λ k. k ≡ c.args.close) c.in_err-expect-2.field-0.0 c.in_err-expect-2.ensures.takes)
+parse_items-returns-in_err-expect-2-clause-memory g t c = error_handed (OnlyOutOfMemory (g.P.Builder.takes_memory c.args.builder) c.args.self.now.place) c.from_residual-in_err-expect-2.result c.in_err-expect-2.field-0.0 c.from_residual-in_err-expect-2.ensures.1 (wants_fails (g.P.Builder.takes_memory c.args.builder) c.args.self.now.place c.next_is-in-items.new.self.place c.expect-then-next_is-2.new.self.place (λ k. k ≡ c.args.close) c.in_err-expect-2.field-0.0 c.in_err-expect-2.ensures.takes)
 
 pub parse_part-returns-in-Alone-clause-kept : goal.parse_part-returns-in-Alone-clause-kept
 parse_part-returns-in-Alone-clause-kept g t c =
     let n = node c.in-Alone.ty (span_at c.advance.new.self.place) no_nodes in
-    let alone : IsAlone c.in_ok-token.token (text_at c.advance.new.self.place) c.in-Alone.ty = front_alone c.in_ok-token.token (text_at c.advance.new.self.place) c.slice.result.now c.front_of-front.result c.in-Alone.ty c.slice.ensures c.front_of-front.ensures c.in-Alone.is in
+    let alone : IsAlone c.in_ok-token.token (text_at c.advance.new.self.place) c.in-Alone.ty = front_alone c.in_ok-token.token (text_at c.advance.new.self.place) c.slice.result.now c.value_start-front.result c.in-Alone.ty c.slice.ensures c.value_start-front.ensures c.in-Alone.is in
     let source : c.advance.new.self.place.lexer.source ≡ c.args.self.now.place.lexer.source = source_item c.args.self.now.place c.advance.new.self.place c.in_ok-token.token c.in_ok-token.ensures.takes in
     let of = subst (λ z. g.P.Builder.is_made z c.advance.new.self.place.lexer.source n c.leaf_here-made.result) c.part-part.ensures c.leaf_here-made.ensures in
-    as_added c.with_part.result c.with_part.ensures.kept (λ kept whole children due are.
+    as_added c.push_part.result c.push_part.ensures.kept (λ kept whole children due are.
     (n, alone_parsed c.args.levels c.args.self.now.place c.advance.new.self.place c.in_ok-token.token c.in-Alone.ty (omega arith) c.in_ok-token.ensures.takes alone, kept c.args.self.now.place.lexer.source whole children n due are (subst (λ (s : List ℕ). g.P.Builder.is_made (g.P.Builder.next c.args.builder c.args.parts.now) s n c.leaf_here-made.result) source of)))
 
 pub parse_part-returns-in-Alone-clause-memory : goal.parse_part-returns-in-Alone-clause-memory
-parse_part-returns-in-Alone-clause-memory g t c = wants_any (λ (source : List ℕ) (of : NodeType) (children : List NodeTree). g.P.Builder.are_parts c.args.builder source of children c.args.parts.now) (g.P.Builder.takes_memory c.args.builder) (WantsOnly (g.P.Builder.takes_memory c.args.builder) c.args.self.now.place) c.with_part.result c.with_part.ensures.takes (λ e takes. wants_taken (g.P.Builder.takes_memory c.args.builder) c.args.self.now.place e takes)
+parse_part-returns-in-Alone-clause-memory g t c = wants_any (λ (source : List ℕ) (of : NodeType) (children : List NodeTree). g.P.Builder.are_parts c.args.builder source of children c.args.parts.now) (g.P.Builder.takes_memory c.args.builder) (OnlyOutOfMemory (g.P.Builder.takes_memory c.args.builder) c.args.self.now.place) c.push_part.result c.push_part.ensures.takes (λ e takes. wants_taken (g.P.Builder.takes_memory c.args.builder) c.args.self.now.place e takes)
 
 pub parse_part-returns-in-Alone-clause-asks : goal.parse_part-returns-in-Alone-clause-asks
 parse_part-returns-in-Alone-clause-asks g t c = asks_once c.args.self.now c.advance.new.self c.advance.ensures.asks
 
 pub parse_part-returns-in_err-made-clause-memory : goal.parse_part-returns-in_err-made-clause-memory
-parse_part-returns-in_err-made-clause-memory g t c = error_handed (λ e. (source : List ℕ) (of : NodeType) (children : List NodeTree) → g.P.Builder.are_parts c.args.builder source of children c.args.parts.now → WantsOnly (g.P.Builder.takes_memory c.args.builder) c.args.self.now.place e) c.from_residual-in_err-made.result c.in_err-made.field-0.0 c.from_residual-in_err-made.ensures.1
+parse_part-returns-in_err-made-clause-memory g t c = error_handed (λ e. (source : List ℕ) (of : NodeType) (children : List NodeTree) → g.P.Builder.are_parts c.args.builder source of children c.args.parts.now → OnlyOutOfMemory (g.P.Builder.takes_memory c.args.builder) c.args.self.now.place e) c.from_residual-in_err-made.result c.in_err-made.field-0.0 c.from_residual-in_err-made.ensures.1
     (λ source of children are. wants_less (g.P.Builder.takes_memory c.part-part.result) (g.P.Builder.takes_memory c.args.builder) c.args.self.now.place c.in_err-made.field-0.0
     (λ takes. g.met.P.Builder.next_takes c.args.builder source of children c.args.parts.now are (subst (λ z. g.P.Builder.takes_memory z) c.part-part.ensures takes)) (c.in_err-made.ensures.memory c.args.self.now.place c.in_ok-token.ensures.takes))
 
@@ -787,11 +787,11 @@ parse_part-returns-clause-kept g t c =
     let (n, is, of) = c.in_ok-made.ensures.tree in
     let source : c.advance.new.self.place.lexer.source ≡ c.args.self.now.place.lexer.source = source_item c.args.self.now.place c.advance.new.self.place c.in_ok-token.token c.in_ok-token.ensures.takes in
     let made = subst (λ z. g.P.Builder.is_made z c.advance.new.self.place.lexer.source n c.in_ok-made.made) c.part-part.ensures of in
-    as_added c.with_part-2.result c.with_part-2.ensures.kept (λ kept whole children due are.
+    as_added c.push_part-2.result c.push_part-2.ensures.kept (λ kept whole children due are.
     (n, is c.args.self.now.place c.in_ok-token.ensures.takes, (kept c.args.self.now.place.lexer.source whole children n due are (subst (λ (s : List ℕ). g.P.Builder.is_made (g.P.Builder.next c.args.builder c.args.parts.now) s n c.in_ok-made.made) source made))))
 
 pub parse_part-returns-clause-memory : goal.parse_part-returns-clause-memory
-parse_part-returns-clause-memory g t c = wants_any (λ (source : List ℕ) (of : NodeType) (children : List NodeTree). g.P.Builder.are_parts c.args.builder source of children c.args.parts.now) (g.P.Builder.takes_memory c.args.builder) (WantsOnly (g.P.Builder.takes_memory c.args.builder) c.args.self.now.place) c.with_part-2.result c.with_part-2.ensures.takes (λ e takes. wants_taken (g.P.Builder.takes_memory c.args.builder) c.args.self.now.place e takes)
+parse_part-returns-clause-memory g t c = wants_any (λ (source : List ℕ) (of : NodeType) (children : List NodeTree). g.P.Builder.are_parts c.args.builder source of children c.args.parts.now) (g.P.Builder.takes_memory c.args.builder) (OnlyOutOfMemory (g.P.Builder.takes_memory c.args.builder) c.args.self.now.place) c.push_part-2.result c.push_part-2.ensures.takes (λ e takes. wants_taken (g.P.Builder.takes_memory c.args.builder) c.args.self.now.place e takes)
 
 pub parse_part-returns-clause-asks : goal.parse_part-returns-clause-asks
 parse_part-returns-clause-asks g t c = asks_token c.args.self.now c.advance.new.self c.parse_behind.new.self c.in_ok-token.token c.in_ok-token.ensures.takes c.advance.ensures.asks c.parse_behind.ensures.asks

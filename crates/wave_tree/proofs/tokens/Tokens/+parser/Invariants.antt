@@ -1,6 +1,6 @@
 use Rattle.std.proofs.Common.{◌≡◌, ℕ, ◌+◌, ◌-◌, ◌*◌, length, List, [], ◌∷◌, ◌++◌, Some, Ok}
 use Rattle.wave_grammar.specs.ParserPosition.{Place, TakesItem}
-use Rattle.wave_grammar.specs.PrefixAutomaton.{Due, Form, first_item}
+use Rattle.wave_grammar.specs.PrefixAutomaton.{Expectation, StackSymbol, first_item}
 use Rattle.wave_grammar.specs.PrefixAutomaton as due
 use Rattle.wave_grammar.specs.Shared.TokenRoles.{form_of}
 use Rattle.wave_grammar.specs.NodeTree.{NodeTree}
@@ -34,8 +34,8 @@ abbrev pub invariant-parse_items-items : goal.invariant-parse_items-items
 invariant-parse_items-items g l = record {
   asks : AsksFor l.fn.self l.self;
   no_close : (next : Place) × TakesItem l.self.place (Some (Ok l.close)) next → ⊥;
-  reached : (n : ℕ) (s : List Form) → n ≡ l.levels + 1 + length s →
-      (d : Due) × IsItemDue d × Reached n first_item (form_of l.close ∷ s) l.fn.self.place d (form_of l.close ∷ s) l.self.place;
+  reached : (n : ℕ) (s : List StackSymbol) → n ≡ l.levels + 1 + length s →
+      (d : Expectation) × IsItemDue d × Reached n first_item (form_of l.close ∷ s) l.fn.self.place d (form_of l.close ∷ s) l.self.place;
   tree : (children : List NodeTree) × g.P.Builder.are_parts l.builder l.fn.self.place.lexer.source l.ty children l.parts
       × ((item : NodeTree) (m r : Place) (more : List NodeTree) → IsParsed l.levels l.self.place m item → AreFurther l.levels l.close m more r → AreClosedItems l.levels l.close l.fn.self.place (children ++ item ∷ more) r);
 }
@@ -52,7 +52,7 @@ decreases-parse_braces g l = 5 * l.levels + 2
 abbrev pub invariant-parse_entries-entries : goal.invariant-parse_entries-entries
 invariant-parse_entries-entries g l = record {
   asks : AsksFor l.fn.self l.self;
-  led : (n : ℕ) (s : List Form) → n ≡ l.levels + 1 + length s → Reached n due.value (due.entries ∷ s) l.fn.self.place due.value (due.entries ∷ s) l.self.place;
+  led : (n : ℕ) (s : List StackSymbol) → n ≡ l.levels + 1 + length s → Reached n due.value (due.entries ∷ s) l.fn.self.place due.value (due.entries ∷ s) l.self.place;
   tree : (first : NodeTree) → g.P.Builder.are_parts l.builder l.fn.self.place.lexer.source kind.TupleSet (first ∷ []) l.fn.key
       → (ys : List NodeTree) × g.P.Builder.are_parts l.builder l.fn.self.place.lexer.source kind.TupleSet (first ∷ ys) l.parts × TakesPart kind.TupleSet (first ∷ ys) × ((cs : List NodeTree) (r : Place) → ArePairs l.levels l.self.place cs r → ArePairs l.levels l.fn.self.place (ys ++ cs) r);
 }

@@ -4,7 +4,7 @@ use Rattle.wave_lex.specs.declared.lex.Token.TheVariants.{BraceClose, Comma, Lab
 use Rattle.wave_lex.specs.declared.error.ParserErrorKind.TheVariants as kind
 use Rattle.wave_grammar.specs.ParserPosition.{Place, TakesItem, span_at, text_at, token_of}
 use Rattle.wave_grammar.specs.LeafTokens.{name_of}
-use Rattle.wave_grammar.specs.PrefixAutomaton.{Due, Form, due_behind, reads, behind_step, step, key_step, brace_step, behind_flag_step, flag_step}
+use Rattle.wave_grammar.specs.PrefixAutomaton.{Expectation, StackSymbol, due_behind, reads, behind_step, step, key_step, brace_step, behind_flag_step, flag_step}
 use Rattle.wave_grammar.specs.PrefixAutomaton as due
 use Rattle.wave_tree.proofs.ParserSteps.{here, refuses_there, handed, fails, any_token, read_there, unexpected_there, then_class, then_same, Reached, repeated_there, gives_read, flags_other, no_flag, IsFlagDue, flag_same, flag_not_deep, flag_within, token_less}
 use Rattle.std.specs.Prelude.{if◌then◌else◌}
@@ -26,7 +26,7 @@ use Rattle.wave_tree.proofs.LexerCallCount.{asks_none, asks_once, asks_token}
 use Rattle.wave_tree.proofs.tokens.Tokens.parse_flags.Goals as goal
 
 -- after a comma a further flag is due
-due_flag : (names : List (List ℕ)) {n : ℕ} {s : List Form} {p q w : Place} {text : List ℕ} (d : Due) (c : lex.Token) → IsFlagDue d names q → Reached n (due.behind_word text) s p d s q → TakesItem q (Some (Ok c)) w → c ≡ Comma →
+due_flag : (names : List (List ℕ)) {n : ℕ} {s : List StackSymbol} {p q w : Place} {text : List ℕ} (d : Expectation) (c : lex.Token) → IsFlagDue d names q → Reached n (due.behind_word text) s p d s q → TakesItem q (Some (Ok c)) w → c ≡ Comma →
     Reached n (due.behind_word text) s p (due.flag names) s w
 due_flag names {n} {s} {p} {q} {w} d c i r h e = then_same c r h (flag_same n d names s q w c i h ∙ ap (λ z. behind_flag_step names s (token_of z (text_at w))) e)
 

@@ -4,7 +4,7 @@ use Rattle.wave_lex.specs.declared.error.ParserErrorKind.TheVariants as because
 use Rattle.wave_grammar.proofs.Parameters.{error_handed}
 use Rattle.wave_tree.specs.ParsedNodes.{IsParsed}
 use Rattle.wave_tree.specs.Private.ParsedNodes.{IsParsedBehind}
-use Rattle.wave_tree.specs.Private.ParserState.{WantsOnly}
+use Rattle.wave_tree.specs.Private.ParserState.{OnlyOutOfMemory}
 use Rattle.wave_tree.proofs.Built.{built, source_item}
 use Rattle.wave_tree.proofs.LexerCallCount.{asks_token}
 use Rattle.wave_tree.proofs.ParserSteps.{refuses_there, kind_is, here, handed, fails, any_token, shallow, no_level}
@@ -24,7 +24,7 @@ returns-then-levels-eq0-clause-memory g c = wants_refused (g.P.Builder.takes_mem
     (λ x says. wants_other (g.P.Builder.takes_memory c.args.builder) c.args.self.now.place x because.NestingTooDeep (kind_is says) (λ z. cc))
 
 pub returns-in_err-token-clause-memory : goal.returns-in_err-token-clause-memory
-returns-in_err-token-clause-memory g c = error_handed (WantsOnly (g.P.Builder.takes_memory c.args.builder) c.args.self.now.place) c.from_residual.result c.in_err-token.field-0.0 c.from_residual.ensures.1 (wants_fails (g.P.Builder.takes_memory c.args.builder) c.args.self.now.place c.args.self.now.place c.advance.new.self.place (λ _. Unit {0}) c.in_err-token.field-0.0 c.in_err-token.ensures.takes)
+returns-in_err-token-clause-memory g c = error_handed (OnlyOutOfMemory (g.P.Builder.takes_memory c.args.builder) c.args.self.now.place) c.from_residual.result c.in_err-token.field-0.0 c.from_residual.ensures.1 (wants_fails (g.P.Builder.takes_memory c.args.builder) c.args.self.now.place c.args.self.now.place c.advance.new.self.place (λ _. Unit {0}) c.in_err-token.field-0.0 c.in_err-token.ensures.takes)
 
 pub returns-clause-led : goal.returns-clause-led
 returns-clause-led g c = c.parse_behind.ensures.led c.args.self.now.place c.in_ok-token.ensures.takes

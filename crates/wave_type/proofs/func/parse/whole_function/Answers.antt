@@ -2,7 +2,7 @@ use Rattle.std.proofs.Common.{◌≤◌, ◌≡◌, List, ◌++◌, Err, rules, 
 use Rattle.wave_type.specs.FunctionType.{named_function}
 use Rattle.wave_type.specs.FunctionSpelling.{SpellsFunction, levels_of_function}
 use Rattle.wave_type.specs.Private.TypeTokens.{IsRefusal}
-use Rattle.wave_type.specs.TypeFaults.{Due, due_of_function}
+use Rattle.wave_type.specs.TypeFaults.{Expectation, due_of_function}
 use Rattle.wave_type.proofs.FunctionsRead.{function_sound, ok_more}
 use Rattle.wave_type.specs.GoodNames.{IsGoodFunction}
 use Rattle.wave_type.proofs.SpelledNames.{function_good}
@@ -37,4 +37,4 @@ pub returns-in_err-params-clause-refused : goal.returns-in_err-params-clause-ref
 returns-in_err-params-clause-refused c =
     let kind = c.in_err-params.field-0.0 in
     let same : c.from_residual.result ≡ Err kind = search rules in
-    err_if (λ kind. IsRefusal (due_of_function c.args.levels) c.args.reader.now kind c.function.new.reader) c.from_residual.result kind same (fails_alone (λ (dues : List Due). due_of_function c.args.levels ++ dues) c.args.reader.now c.function.new.reader kind c.in_err-params.ensures)
+    err_if (λ kind. IsRefusal (due_of_function c.args.levels) c.args.reader.now kind c.function.new.reader) c.from_residual.result kind same (fails_alone (λ (dues : List Expectation). due_of_function c.args.levels ++ dues) c.args.reader.now c.function.new.reader kind c.in_err-params.ensures)

@@ -2,7 +2,7 @@ use Rattle.std.proofs.Common.{rules, ◌≡◌, ◌<◌, ◌+◌, ◌-◌, ℕ, 
 use Rattle.wave_wasm.specs.Borrowed.{named}
 use Rattle.wave_type.specs.Private.TypeTokens.{Fails, GoesOn}
 use Rattle.wave_type.specs.Private.TypeReading.{after, closed, part_names, parts, new_name, types_read, field_part, fields_read, case_part, cases_read, payload_read, list_read, fixed_behind, payloads_read, err_behind, kind_read, type_read}
-use Rattle.wave_type.specs.TypeFaults.{no_more, a_length, err_type, more_types, more_fields, more_cases, Due, mark_due, type_due, key_due, ok_due, part_due, close_due, payload_due, due_behind, refused}
+use Rattle.wave_type.specs.TypeFaults.{no_more, a_length, err_type, more_types, more_fields, more_cases, Expectation, mark_due, type_due, key_due, ok_due, part_due, close_due, payload_due, due_behind, refused}
 use Rattle.wave_type.specs.TypeSpelling.{Tokens}
 use Rattle.wave_type.proofs.FaultSteps.{fails_onward, fails_before, mark_runs, kind_runs, key_runs, types_are_types, err_is_type, ok_is_type, field_fails, case_fails, field_runs, case_runs, comma_runs, payload_runs}
 use Rattle.wave_type.proofs.PartSteps.{part_ends, part_behind, named_more, has_part_names, texts_count, level_less, field_read, case_read}
@@ -26,7 +26,7 @@ types-returns-in_err-ty t c =
     let ts = c.loop-part.self in
     let known = c.loop-part.invariant in
     let kind = c.in_err-ty.field-0.0 in
-    let more = λ (dues : List Due). close_due (codes ">") (more_types n) ∷ dues in
+    let more = λ (dues : List Expectation). close_due (codes ">") (more_types n) ∷ dues in
     let h : Fails (λ dues. part_due (codes ">") (more_types n) ∷ dues) old kind c.ty.new.self =
     fails_onward (λ dues. part_due (codes ">") (more_types n) ∷ dues) (λ dues. type_due n ∷ more dues) old ts c.ty.new.self kind (λ dues. known.runs dues ∙ types_are_types n (codes ">") ts dues) (fails_before (type_due n) more ts c.ty.new.self kind c.in_err-ty.ensures)
     in
@@ -132,8 +132,8 @@ fields-returns-in_err-ty t c =
     let named_so : new_name names ts ≡ Some (name, m) = c.in_ok-name.ensures.read names known.names in
     let l = c.expect.new.self in
     let colon : after (codes ":") m ≡ Some l = c.in_ok-expect.ensures.taken in
-    let rest = λ (dues : List Due). close_due mark (more_fields n (names ++ name ∷ [])) ∷ dues in
-    let run : (dues : List Due) → refused old (part_due mark (more_fields n []) ∷ dues) ≡ refused l (type_due n ∷ rest dues) =
+    let rest = λ (dues : List Expectation). close_due mark (more_fields n (names ++ name ∷ [])) ∷ dues in
+    let run : (dues : List Expectation) → refused old (part_due mark (more_fields n []) ∷ dues) ≡ refused l (type_due n ∷ rest dues) =
     λ dues. known.runs dues ∙ (field_runs n mark names name dues ts m named_so ∙ mark_runs (codes ":") m l (type_due n ∷ rest dues) colon)
     in
     let kind = c.in_err-ty.field-0.0 in
@@ -157,8 +157,8 @@ fields-returns-in_err-ends t c =
     let named_so : new_name names ts ≡ Some (name, m) = c.in_ok-name.ensures.read names known.names in
     let l = c.expect.new.self in
     let colon : after (codes ":") m ≡ Some l = c.in_ok-expect.ensures.taken in
-    let rest = λ (dues : List Due). close_due mark (more_fields n (names ++ name ∷ [])) ∷ dues in
-    let run : (dues : List Due) → refused old (part_due mark (more_fields n []) ∷ dues) ≡ refused l (type_due n ∷ rest dues) =
+    let rest = λ (dues : List Expectation). close_due mark (more_fields n (names ++ name ∷ [])) ∷ dues in
+    let run : (dues : List Expectation) → refused old (part_due mark (more_fields n []) ∷ dues) ≡ refused l (type_due n ∷ rest dues) =
     λ dues. known.runs dues ∙ (field_runs n mark names name dues ts m named_so ∙ mark_runs (codes ":") m l (type_due n ∷ rest dues) colon)
     in
     let k = c.ty.new.self in
@@ -184,8 +184,8 @@ fields-returns-then-branch t c =
     let named_so : new_name names ts ≡ Some (name, m) = c.in_ok-name.ensures.read names known.names in
     let l = c.expect.new.self in
     let colon : after (codes ":") m ≡ Some l = c.in_ok-expect.ensures.taken in
-    let rest = λ (dues : List Due). close_due mark (more_fields n (names ++ name ∷ [])) ∷ dues in
-    let run : (dues : List Due) → refused old (part_due mark (more_fields n []) ∷ dues) ≡ refused l (type_due n ∷ rest dues) =
+    let rest = λ (dues : List Expectation). close_due mark (more_fields n (names ++ name ∷ [])) ∷ dues in
+    let run : (dues : List Expectation) → refused old (part_due mark (more_fields n []) ∷ dues) ≡ refused l (type_due n ∷ rest dues) =
     λ dues. known.runs dues ∙ (field_runs n mark names name dues ts m named_so ∙ mark_runs (codes ":") m l (type_due n ∷ rest dues) colon)
     in
     let k = c.ty.new.self in
@@ -213,8 +213,8 @@ fields-loop-part-preserved t c =
     let named_so : new_name names ts ≡ Some (name, m) = c.in_ok-name.ensures.read names known.names in
     let l = c.expect.new.self in
     let colon : after (codes ":") m ≡ Some l = c.in_ok-expect.ensures.taken in
-    let rest = λ (dues : List Due). close_due mark (more_fields n (names ++ name ∷ [])) ∷ dues in
-    let run : (dues : List Due) → refused old (part_due mark (more_fields n []) ∷ dues) ≡ refused l (type_due n ∷ rest dues) =
+    let rest = λ (dues : List Expectation). close_due mark (more_fields n (names ++ name ∷ [])) ∷ dues in
+    let run : (dues : List Expectation) → refused old (part_due mark (more_fields n []) ∷ dues) ≡ refused l (type_due n ∷ rest dues) =
     λ dues. known.runs dues ∙ (field_runs n mark names name dues ts m named_so ∙ mark_runs (codes ":") m l (type_due n ∷ rest dues) colon)
     in
     let k = c.ty.new.self in
@@ -263,8 +263,8 @@ cases-returns-in_err-payload t c =
     let name = c.in_ok-name.name.now in
     let m = c.new_name.new.self in
     let named_so : new_name names ts ≡ Some (name, m) = c.in_ok-name.ensures.read names known.names in
-    let rest = λ (dues : List Due). close_due (codes "}") (more_cases n (names ++ name ∷ [])) ∷ dues in
-    let run : (dues : List Due) → refused old (part_due (codes "}") (more_cases n []) ∷ dues) ≡ refused m (payload_due n ∷ rest dues) =
+    let rest = λ (dues : List Expectation). close_due (codes "}") (more_cases n (names ++ name ∷ [])) ∷ dues in
+    let run : (dues : List Expectation) → refused old (part_due (codes "}") (more_cases n []) ∷ dues) ≡ refused m (payload_due n ∷ rest dues) =
     λ dues. known.runs dues ∙ case_runs n (codes "}") names name dues ts m named_so
     in
     let kind = c.in_err-payload.field-0.0 in
@@ -286,8 +286,8 @@ cases-returns-in_err-ends t c =
     let name = c.in_ok-name.name.now in
     let m = c.new_name.new.self in
     let named_so : new_name names ts ≡ Some (name, m) = c.in_ok-name.ensures.read names known.names in
-    let rest = λ (dues : List Due). close_due (codes "}") (more_cases n (names ++ name ∷ [])) ∷ dues in
-    let run : (dues : List Due) → refused old (part_due (codes "}") (more_cases n []) ∷ dues) ≡ refused m (payload_due n ∷ rest dues) =
+    let rest = λ (dues : List Expectation). close_due (codes "}") (more_cases n (names ++ name ∷ [])) ∷ dues in
+    let run : (dues : List Expectation) → refused old (part_due (codes "}") (more_cases n []) ∷ dues) ≡ refused m (payload_due n ∷ rest dues) =
     λ dues. known.runs dues ∙ case_runs n (codes "}") names name dues ts m named_so
     in
     let k = c.payload.new.self in
@@ -311,8 +311,8 @@ cases-returns-then-branch t c =
     let name = c.in_ok-name.name.now in
     let m = c.new_name.new.self in
     let named_so : new_name names ts ≡ Some (name, m) = c.in_ok-name.ensures.read names known.names in
-    let rest = λ (dues : List Due). close_due (codes "}") (more_cases n (names ++ name ∷ [])) ∷ dues in
-    let run : (dues : List Due) → refused old (part_due (codes "}") (more_cases n []) ∷ dues) ≡ refused m (payload_due n ∷ rest dues) =
+    let rest = λ (dues : List Expectation). close_due (codes "}") (more_cases n (names ++ name ∷ [])) ∷ dues in
+    let run : (dues : List Expectation) → refused old (part_due (codes "}") (more_cases n []) ∷ dues) ≡ refused m (payload_due n ∷ rest dues) =
     λ dues. known.runs dues ∙ case_runs n (codes "}") names name dues ts m named_so
     in
     let k = c.payload.new.self in
@@ -338,8 +338,8 @@ cases-loop-part-preserved t c =
     let name = c.in_ok-name.name.now in
     let m = c.new_name.new.self in
     let named_so : new_name names ts ≡ Some (name, m) = c.in_ok-name.ensures.read names known.names in
-    let rest = λ (dues : List Due). close_due (codes "}") (more_cases n (names ++ name ∷ [])) ∷ dues in
-    let run : (dues : List Due) → refused old (part_due (codes "}") (more_cases n []) ∷ dues) ≡ refused m (payload_due n ∷ rest dues) =
+    let rest = λ (dues : List Expectation). close_due (codes "}") (more_cases n (names ++ name ∷ [])) ∷ dues in
+    let run : (dues : List Expectation) → refused old (part_due (codes "}") (more_cases n []) ∷ dues) ≡ refused m (payload_due n ∷ rest dues) =
     λ dues. known.runs dues ∙ case_runs n (codes "}") names name dues ts m named_so
     in
     let k = c.payload.new.self in
@@ -364,7 +364,7 @@ pub list-returns-in_err-ends : goal.list-returns-in_err-ends
 list-returns-in_err-ends t c =
     let n = c.args.levels in
     let kind = c.in_err-ends.field-0.0 in
-    let rest = λ (dues : List Due). close_due (codes ">") a_length ∷ dues in
+    let rest = λ (dues : List Expectation). close_due (codes ">") a_length ∷ dues in
     let h : Fails (λ dues. mark_due (codes "<") ∷ type_due n ∷ rest dues) c.args.self.now kind c.ends.new.self =
     inr (λ dues. mark_runs (codes "<") c.args.self.now c.expect.new.self (type_due n ∷ rest dues) c.in_ok-expect.ensures.taken ∙ (read_runs n c.expect.new.self c.ty.new.self c.in_ok-element.element c.in_ok-element.ensures (rest dues) ∙ c.in_err-ends.ensures.refused a_length dues))
     in
@@ -374,7 +374,7 @@ list-returns-in_err-ends t c =
 pub list-returns : goal.list-returns
 list-returns t c =
     let n = c.args.levels in
-    let rest = λ (dues : List Due). close_due (codes ">") a_length ∷ dues in
+    let rest = λ (dues : List Expectation). close_due (codes ">") a_length ∷ dues in
     let more : GoesOn (codes ">") c.ty.new.self c.ends.new.self = goes_so (codes ">") c.ty.new.self c.ends.new.self c.in_ok-ends.field-0 c.in_ok-ends.ensures.taken c.if-branch.false in
     answers_onward (λ ty. ty) c.fixed.result c.args.self.now c.ends.new.self c.fixed.new.self (list_read (type_read n) c.args.self.now) (fixed_behind c.in_ok-element.element c.ends.new.self) (λ dues. mark_due (codes "<") ∷ type_due n ∷ rest dues) (λ dues. part_due (codes ">") a_length ∷ dues) (list_goes_on (type_read n) c.args.self.now c.expect.new.self c.ty.new.self c.ends.new.self c.in_ok-element.element c.in_ok-expect.ensures.taken c.in_ok-element.ensures more) (λ dues. mark_runs (codes "<") c.args.self.now c.expect.new.self (type_due n ∷ rest dues) c.in_ok-expect.ensures.taken ∙ (read_runs n c.expect.new.self c.ty.new.self c.in_ok-element.element c.in_ok-element.ensures (rest dues) ∙ comma_runs (codes ">") a_length c.ty.new.self c.ends.new.self dues more)) c.fixed.ensures
 
@@ -382,7 +382,7 @@ pub option-returns-in_err-close : goal.option-returns-in_err-close
 option-returns-in_err-close t c =
     let n = c.args.levels in
     let kind = c.in_err-close.field-0.0 in
-    let rest = λ (dues : List Due). close_due (codes ">") no_more ∷ dues in
+    let rest = λ (dues : List Expectation). close_due (codes ">") no_more ∷ dues in
     let h : Fails (λ dues. mark_due (codes "<") ∷ type_due n ∷ rest dues) c.args.self.now kind c.close.new.self =
     inr (λ dues. mark_runs (codes "<") c.args.self.now c.expect.new.self (type_due n ∷ rest dues) c.in_ok-expect.ensures.taken ∙ (read_runs n c.expect.new.self c.ty.new.self c.in_ok-some.some c.in_ok-some.ensures (rest dues) ∙ c.in_err-close.ensures.refused dues))
     in
@@ -393,7 +393,7 @@ pub map-returns-in_err-close : goal.map-returns-in_err-close
 map-returns-in_err-close t c =
     let n = c.args.levels in
     let kind = c.in_err-close.field-0.0 in
-    let rest = λ (dues : List Due). close_due (codes ">") no_more ∷ dues in
+    let rest = λ (dues : List Expectation). close_due (codes ">") no_more ∷ dues in
     let h : Fails (λ dues. mark_due (codes "<") ∷ key_due ∷ mark_due (codes ",") ∷ type_due n ∷ rest dues) c.args.self.now kind c.close.new.self =
     inr (λ dues. mark_runs (codes "<") c.args.self.now c.expect.new.self (key_due ∷ mark_due (codes ",") ∷ type_due n ∷ rest dues) c.in_ok-expect.ensures.taken ∙ (key_runs c.expect.new.self c.key.new.self c.in_ok-key.key (mark_due (codes ",") ∷ type_due n ∷ rest dues) c.in_ok-key.ensures.taken ∙ (mark_runs (codes ",") c.key.new.self c.expect-2.new.self (type_due n ∷ rest dues) c.in_ok-expect-2.ensures.taken ∙ (read_runs n c.expect-2.new.self c.ty.new.self c.in_ok-value.value c.in_ok-value.ensures (rest dues) ∙ c.in_err-close.ensures.refused dues))))
     in
@@ -404,7 +404,7 @@ pub err-returns-in_err-close : goal.err-returns-in_err-close
 err-returns-in_err-close t c =
     let n = c.args.levels in
     let kind = c.in_err-close.field-0.0 in
-    let rest = λ (dues : List Due). close_due (codes ">") no_more ∷ dues in
+    let rest = λ (dues : List Expectation). close_due (codes ">") no_more ∷ dues in
     let h : Fails (λ dues. type_due n ∷ rest dues) c.args.self.now kind c.close.new.self =
     inr (λ dues. read_runs n c.args.self.now c.ty.new.self c.in_ok-err.err c.in_ok-err.ensures (rest dues) ∙ c.in_err-close.ensures.refused dues)
     in
@@ -422,14 +422,14 @@ payload-returns-in_err-expect t c =
     answers_err _ _ _ _ _ _ _ same h
 
 -- where `_` doesn't stand next
-ok_run : (n : ℕ) (ts m : Tokens) (dues : List Due) → (after (codes "_") ts ≡ None) × (m ≡ ts) → refused ts (ok_due n ∷ dues) ≡ refused m (type_due n ∷ close_due (codes ">") (err_type n) ∷ dues)
+ok_run : (n : ℕ) (ts m : Tokens) (dues : List Expectation) → (after (codes "_") ts ≡ None) × (m ≡ ts) → refused ts (ok_due n ∷ dues) ≡ refused m (type_due n ∷ close_due (codes ">") (err_type n) ∷ dues)
 ok_run n ts m dues (none, same) = ok_is_type n ts dues none ∙ ap (λ us. refused us (type_due n ∷ close_due (codes ">") (err_type n) ∷ dues)) (sym same)
 
 pub payloads-returns-in_err-ok : goal.payloads-returns-in_err-ok
 payloads-returns-in_err-ok t c =
     let n = c.args.levels in
     let kind = c.in_err-ok.field-0.0 in
-    let rest = λ (dues : List Due). close_due (codes ">") (err_type n) ∷ dues in
+    let rest = λ (dues : List Expectation). close_due (codes ">") (err_type n) ∷ dues in
     let h : Fails (λ dues. ok_due n ∷ dues) c.args.self.now kind c.ty.new.self =
     fails_onward (λ dues. ok_due n ∷ dues) (λ dues. type_due n ∷ rest dues) c.args.self.now c.takes.new.self c.ty.new.self kind (λ dues. ok_run n c.args.self.now c.takes.new.self dues c.if-takes.ensures) (fails_before (type_due n) rest c.takes.new.self c.ty.new.self kind c.in_err-ok.ensures)
     in
@@ -440,7 +440,7 @@ pub payloads-returns-in_err-ends : goal.payloads-returns-in_err-ends
 payloads-returns-in_err-ends t c =
     let n = c.args.levels in
     let kind = c.in_err-ends.field-0.0 in
-    let rest = λ (dues : List Due). close_due (codes ">") (err_type n) ∷ dues in
+    let rest = λ (dues : List Expectation). close_due (codes ">") (err_type n) ∷ dues in
     let h : Fails (λ dues. ok_due n ∷ dues) c.args.self.now kind c.ends.new.self =
     inr (λ dues. ok_run n c.args.self.now c.takes.new.self dues c.if-takes.ensures ∙ (read_runs n c.takes.new.self c.ty.new.self c.in_ok-ok.ok c.in_ok-ok.ensures (rest dues) ∙ c.in_err-ends.ensures.refused (err_type n) dues))
     in
@@ -453,7 +453,7 @@ payloads-returns t c =
     let old = c.args.self.now in
     let m = c.ty.new.self in
     let k = c.ends.new.self in
-    let rest = λ (dues : List Due). close_due (codes ">") (err_type n) ∷ dues in
+    let rest = λ (dues : List Expectation). close_due (codes ">") (err_type n) ∷ dues in
     let more : GoesOn (codes ">") m k = goes_so (codes ">") m k c.in_ok-ends.field-0 c.in_ok-ends.ensures.taken c.if-branch.false in
     let read : type_read n old ≡ Some (c.in_ok-ok.ok, m) = ap (type_read n) (sym c.if-takes.ensures.1) ∙ c.in_ok-ok.ensures in
     answers_onward (λ ty. ty) c.err-2.result old k c.err-2.new.self (payloads_read (type_read n) old (after (codes "_") old)) (err_behind (type_read n) (Some c.in_ok-ok.ok) k) (λ dues. ok_due n ∷ dues) (λ dues. type_due n ∷ close_due (codes ">") no_more ∷ dues) (ok_goes_on (type_read n) old m k c.in_ok-ok.ok c.if-takes.ensures.0 read more) (λ dues. ok_is_type n old dues c.if-takes.ensures.0 ∙ (read_runs n old m c.in_ok-ok.ok read (rest dues) ∙ (comma_runs (codes ">") (err_type n) m k dues more ∙ err_is_type n (codes ">") k dues))) c.err-2.ensures

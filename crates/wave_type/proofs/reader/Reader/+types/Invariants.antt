@@ -1,7 +1,7 @@
 use Rattle.std.proofs.Common.{◌≡◌, ◌≤◌, ◌+◌, ◌-◌, ◌*◌, List, [], ◌∷◌, length, codes}
 use Rattle.wave_wasm.specs.Borrowed.{named}
 use Rattle.wave_type.specs.Private.TypeReading.{HasNames, part_names, parts, field_part, case_part, types_read, fields_read, cases_read, type_read}
-use Rattle.wave_type.specs.TypeFaults.{Due, part_due, more_types, more_fields, more_cases, refused}
+use Rattle.wave_type.specs.TypeFaults.{Expectation, part_due, more_types, more_fields, more_cases, refused}
 use Rattle.wave_type.proofs.reader.Reader.+types.Given as goal
 
 abbrev pub decreases-ty : goal.decreases-ty
@@ -54,7 +54,7 @@ invariant-types-loop-part l =
     record {
       read : parts (λ seen. type_read l.levels) (codes ">") (length l.fn.self - l._part) l.types.items l.self ≡ types_read (type_read l.levels) l.fn.self;
       less : length l.self + l._part ≤ length l.fn.self;
-      runs : (dues : List Due) → refused l.fn.self (part_due (codes ">") (more_types l.levels) ∷ dues) ≡ refused l.self (part_due (codes ">") (more_types l.levels) ∷ dues);
+      runs : (dues : List Expectation) → refused l.fn.self (part_due (codes ">") (more_types l.levels) ∷ dues) ≡ refused l.self (part_due (codes ">") (more_types l.levels) ∷ dues);
     }
 
 abbrev pub invariant-fields-loop-part : goal.invariant-fields-loop-part
@@ -63,7 +63,7 @@ invariant-fields-loop-part l =
       names : HasNames l.taken (part_names (named l.fields.items));
       read : parts (field_part (type_read l.levels)) l.mark (length l.fn.self - l._part) (named l.fields.items) l.self ≡ fields_read (type_read l.levels) l.mark l.fn.self;
       less : length l.self + l._part ≤ length l.fn.self;
-      runs : (dues : List Due) → refused l.fn.self (part_due l.mark (more_fields l.levels []) ∷ dues) ≡ refused l.self (part_due l.mark (more_fields l.levels (part_names (named l.fields.items))) ∷ dues);
+      runs : (dues : List Expectation) → refused l.fn.self (part_due l.mark (more_fields l.levels []) ∷ dues) ≡ refused l.self (part_due l.mark (more_fields l.levels (part_names (named l.fields.items))) ∷ dues);
     }
 
 abbrev pub invariant-cases-loop-part : goal.invariant-cases-loop-part
@@ -72,5 +72,5 @@ invariant-cases-loop-part l =
       names : HasNames l.taken (part_names (named l.cases.items));
       read : parts (case_part (type_read l.levels)) (codes "}") (length l.fn.self - l._part) (named l.cases.items) l.self ≡ cases_read (type_read l.levels) l.fn.self;
       less : length l.self + l._part ≤ length l.fn.self;
-      runs : (dues : List Due) → refused l.fn.self (part_due (codes "}") (more_cases l.levels []) ∷ dues) ≡ refused l.self (part_due (codes "}") (more_cases l.levels (part_names (named l.cases.items))) ∷ dues);
+      runs : (dues : List Expectation) → refused l.fn.self (part_due (codes "}") (more_cases l.levels []) ∷ dues) ≡ refused l.self (part_due (codes "}") (more_cases l.levels (part_names (named l.cases.items))) ∷ dues);
     }

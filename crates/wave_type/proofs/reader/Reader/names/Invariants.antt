@@ -1,7 +1,7 @@
 use Rattle.std.proofs.Common.{◌≡◌, ◌≤◌, ◌+◌, ◌-◌, List, [], ◌∷◌, length}
 use Rattle.wave_wasm.specs.Borrowed.{texts}
 use Rattle.wave_type.specs.Private.TypeReading.{HasNames, parts, new_name, names_read}
-use Rattle.wave_type.specs.TypeFaults.{Due, part_due, more_names, refused}
+use Rattle.wave_type.specs.TypeFaults.{Expectation, part_due, more_names, refused}
 use Rattle.wave_type.proofs.reader.Reader.names.Given as goal
 
 abbrev pub invariant-loop-part : goal.invariant-loop-part
@@ -10,5 +10,5 @@ invariant-loop-part l =
       names : HasNames l.taken (texts l.names.items);
       read : parts new_name l.mark (length l.fn.self - l._part) (texts l.names.items) l.self ≡ names_read l.mark l.fn.self;
       less : length l.self + l._part ≤ length l.fn.self;
-      runs : (dues : List Due) → refused l.fn.self (part_due l.mark (more_names []) ∷ dues) ≡ refused l.self (part_due l.mark (more_names (texts l.names.items)) ∷ dues);
+      runs : (dues : List Expectation) → refused l.fn.self (part_due l.mark (more_names []) ∷ dues) ≡ refused l.self (part_due l.mark (more_names (texts l.names.items)) ∷ dues);
     }

@@ -1,9 +1,9 @@
 use Rattle.std.proofs.Common.{◌≡◌, map}
 use Rattle.wave_wasm.specs.Lists.{AllOf}
 use Rattle.wave_wasm.specs.Borrowed.{named}
-use Rattle.wave_wasm.specs.Types.{IsOwn}
+use Rattle.wave_wasm.specs.Types.{IsRepresentable}
 use Rattle.wave_type.specs.TypeModel.{by_bytes}
 use Rattle.wave_type.proofs.ty.Type.record.Given as goal
 
 abbrev pub invariant-loop-name : goal.invariant-loop-name
-invariant-loop-name l = (map by_bytes l.owned.items ≡ named l.yielded) × AllOf (λ f. IsOwn f.1) l.owned.items
+invariant-loop-name l = (map by_bytes l.owned.items ≡ named l.yielded) × AllOf (λ f. IsRepresentable f.1) l.owned.items

@@ -3,4 +3,4 @@ use Rattle.wave_type.proofs.LabelTest.{front_tells}
 use Rattle.wave_type.proofs.ty.labels.is_label.Goals as goal
 
 pub returns : goal.returns
-returns c = c.eq.ensures ∙ front_tells _ _ c.longest_front.ensures
+returns c = c.eq.ensures ∙ front_tells _ _ c.longest_prefix.ensures

@@ -1,5 +1,5 @@
 use Rattle.std.proofs.Common.{ℕ, List, drop, refl, sym, subst, ◌∙◌, Some, None}
-use Rattle.wave_lex.specs.LongestMatch.{Greatest, IsFront}
+use Rattle.wave_lex.specs.LongestMatch.{Greatest, IsPrefixOf}
 use Rattle.wave_lex.specs.Tokens.{function_name, any}
 use Rattle.wave_lex.proofs.LongestMatch.{front_positive}
 use Rattle.wave_lex.proofs.Scanning.{front_boundary}
@@ -14,7 +14,7 @@ returns-in-Some-clause-steps c =
     rw (← c.self.view_is) (
       c.in-Some.length,
       record { source = refl; start = refl; end = refl },
-      subst (λ (z : List ℕ). Greatest (IsFront function_name z) (Some c.in-Some.length)) c.range_from-rest.ensures.value c.in-Some.ensures,
+      subst (λ (z : List ℕ). Greatest (IsPrefixOf function_name z) (Some c.in-Some.length)) c.range_from-rest.ensures.value c.in-Some.ensures,
     )
 
 pub returns-in-Some-clause-goes : goal.returns-in-Some-clause-goes
@@ -26,17 +26,17 @@ returns-in-Some-clause-goes c =
 pub invariant_of-self-2 : goal.invariant_of-self-2
 invariant_of-self-2 c =
     let first = first_scalar _ _ _ (sym c.chars.ensures.rest ∙ c.in_ok-first.ensures.steps.0) in
-    stands_behind _ _ _ _ _ c.range_from-rest.ensures.value c.self.invariant (front_boundary any _ _ c.range_from-rest.utf8 (subst (λ (z : ℕ). IsFront any c.range_from-rest.result.now z) (sym c.len_utf8.ensures.value) first))
+    stands_behind _ _ _ _ _ c.range_from-rest.ensures.value c.self.invariant (front_boundary any _ _ c.range_from-rest.utf8 (subst (λ (z : ℕ). IsPrefixOf any c.range_from-rest.result.now z) (sym c.len_utf8.ensures.value) first))
 
 pub returns-clause-steps : goal.returns-clause-steps
 returns-clause-steps c =
     let first = first_scalar _ _ _ (sym c.chars.ensures.rest ∙ c.in_ok-first.ensures.steps.0) in
-    let there : IsFront any (drop c.self.inside.end c.self.inside.source.now) c.len_utf8.result =
-    subst (λ (z : List ℕ). IsFront any z c.len_utf8.result) c.range_from-rest.ensures.value (subst (λ (z : ℕ). IsFront any c.range_from-rest.result.now z) (sym c.len_utf8.ensures.value) first) in
+    let there : IsPrefixOf any (drop c.self.inside.end c.self.inside.source.now) c.len_utf8.result =
+    subst (λ (z : List ℕ). IsPrefixOf any z c.len_utf8.result) c.range_from-rest.ensures.value (subst (λ (z : ℕ). IsPrefixOf any c.range_from-rest.result.now z) (sym c.len_utf8.ensures.value) first) in
     rw (← c.self.view_is) (
       c.len_utf8.result,
       record { source = refl; start = refl; end = refl },
-      subst (λ (z : List ℕ). Greatest (IsFront function_name z) None) c.range_from-rest.ensures.value c.in_default.ensures,
+      subst (λ (z : List ℕ). Greatest (IsPrefixOf function_name z) None) c.range_from-rest.ensures.value c.in_default.ensures,
       there,
       refl,
     )

@@ -1,7 +1,7 @@
 use Rattle.std.proofs.Common.{subst}
-use Rattle.wave_wasm.specs.Types.{IsOwn}
+use Rattle.wave_wasm.specs.Types.{IsRepresentable}
 use Rattle.wave_type.proofs.TypeTexts.{text_tells}
 use Rattle.wave_type.proofs.ty.display.TypeDisplay.fmt.Goals as goal
 
 pub returns-clause-apart : goal.returns-clause-apart
-returns-clause-apart g c = text_tells _ (subst IsOwn c.self.view_is c.self.invariant.own)
+returns-clause-apart g c = text_tells _ (subst IsRepresentable c.self.view_is c.self.invariant.own)

@@ -1,8 +1,0 @@
-use Rattle.std.proofs.Common.{ℕ, refl, not, nat_eq, get_or, arith}
-use Rattle.wave_lex.specs.Shared.Machines.{is_lower}
-use Rattle.wave_lex.specs.declared.lex.front.TheConstants.{LOWERS}
-use Rattle.wave_lex.proofs.Shapes.{bytes_agree}
-use Rattle.wave_lex.proofs.lex.front.is_lower.Goals as goal
-
-pub returns : goal.returns
-returns c = bytes_agree (λ (k : ℕ). not (nat_eq (get_or LOWERS k 0) 44)) is_lower c.args.byte (omega arith) refl

@@ -1,0 +1,5 @@
+use Rattle.wave_lex.proofs.Machines.{invalid_steps}
+use Rattle.wave_lex.proofs.machine.invalid.InvalidStateDfa.step.Goals as goal
+
+pub returns : goal.returns
+returns c = rw c.invalid_step.ensures (invalid_steps c.args.self c.args.c)

@@ -1,0 +1,378 @@
+//! How many bytes whitespace or a token takes at the start of a text. Runs of bytes that leave a machine
+//! in its state are counted at once; the machine reads what stands after them. The end of a multiline
+//! string is searched.
+ghost use Rattle.std.specs.Prelude.{◌≡◌, ℕ, ◌<◌, ◌≤◌, true, false, is_some, length, drop, slice_index};
+ghost use Rattle.wave_lex.specs.LongestMatch.{Greatest, IsPrefixOf};
+ghost use Rattle.wave_lex.specs.Strings.{short_escape};
+ghost use Rattle.wave_lex.specs.Shared.Machines.{ends_whole, is_blank, is_digit, is_lower, is_plain, string_rest};
+ghost use Rattle.wave_lex.specs.Shared.Reading.{LeadsTo, EndsWord, IsPlainRun, IsStep, IsWordStep};
+ghost use Rattle.wave_lex.specs.declared.machine.string.StringState.TheVariants.{Inside};
+ghost use Rattle.wave_lex.specs.Tokenization.{IsGap};
+ghost use Rattle.wave_lex.specs.Tokens.{label_or_keyword, multiline_string, number, one, string};
+
+use crate::machine::gap::GapState;
+use crate::machine::label::{LabelState, LabelTokenState};
+use crate::machine::longest_prefix;
+use crate::machine::number::NumberState;
+use crate::machine::string::StringState;
+use crate::strings::hex_length;
+use memchr::{memchr3, memmem};
+
+/// How many bytes of a run are looked at in turn before the others are searched at once.
+const FEW: usize = 16;
+
+/// How many bytes the whitespace at the start takes.
+pub fn gap_at(text: &str) -> usize
+    ensures { IsGap text.now result }
+{
+    let bytes = text.as_bytes();
+    if bytes.len() > 1 && bytes[0] == b' ' && bytes[1] > b' ' && bytes[1] != b'/' {
+        return 1;
+    }
+    if bytes.len() > 0 && bytes[0] > b' ' && bytes[0] != b'/' {
+        return 0;
+    }
+    let run = blanks(bytes);
+    if run == bytes.len() {
+        return run;
+    }
+    if bytes[run] != b'/' {
+        return run;
+    }
+    let Some(more) = longest_prefix(GapState::Start, &text[run..]) else {
+        return run;
+    };
+    run + more
+}
+
+/// How many bytes the mark takes, where it stands at the start.
+pub fn mark_at(mark: u8, text: &str) -> Option<usize>
+    requires { mark < 128 }
+    ensures { Greatest (IsPrefixOf (one mark) text.now) result }
+{
+    let bytes = text.as_bytes();
+    if bytes.len() == 0 {
+        return None;
+    }
+    if bytes[0] != mark {
+        return None;
+    }
+    Some(1)
+}
+
+/// How many bytes the longest number at the start takes.
+pub fn number_at(text: &str) -> Option<usize>
+    ensures { Greatest (IsPrefixOf number text.now) result }
+{
+    let bytes = text.as_bytes();
+    let run = digits(bytes);
+    if run == 0 {
+        return longest_prefix(NumberState::Start, text);
+    }
+    if bytes[0] == b'0' {
+        return longest_prefix(NumberState::Start, text);
+    }
+    if run == bytes.len() {
+        return Some(run);
+    }
+    if ends_whole(bytes[run]) {
+        return Some(run);
+    }
+    let Some(more) = longest_prefix(NumberState::Whole, &text[run..]) else {
+        return None;
+    };
+    Some(run + more)
+}
+
+/// How many bytes the longest label or keyword at the start takes.
+pub fn label_at(text: &str) -> Option<usize>
+    ensures { Greatest (IsPrefixOf label_or_keyword text.now) result }
+{
+    let bytes = text.as_bytes();
+    let run = lowers(bytes);
+    if run == 0 {
+        return longest_prefix(LabelTokenState::Start, text);
+    }
+    if is_digit(bytes[0]) {
+        return longest_prefix(LabelTokenState::Start, text);
+    }
+    if run < bytes.len() && bytes[run] != b'-' {
+        return Some(run);
+    }
+    let place = words_end(text, run);
+    if place >= bytes.len() {
+        return Some(place);
+    }
+    if bytes[place] != b'-' {
+        return Some(place);
+    }
+    let Some(more) = longest_prefix(LabelTokenState::Label(LabelState::Lower), &text[place..])
+    else {
+        return None;
+    };
+    Some(place + more)
+}
+
+/// How many bytes the string in one line at the start takes.
+pub fn string_at(text: &str) -> Option<usize>
+    ensures { Greatest (IsPrefixOf string text.now) result }
+{
+    let bytes = text.as_bytes();
+    if bytes.len() == 0 {
+        return None;
+    }
+    if bytes[0] != b'"' {
+        return longest_prefix(StringState::Start, text);
+    }
+    let plain = plains(text[1..].as_bytes()) + 1;
+    if plain < bytes.len() && bytes[plain] == b'"' {
+        return Some(plain + 1);
+    }
+    let inside = inside_end(text, plain);
+    if inside < bytes.len() && bytes[inside] == b'"' {
+        return Some(inside + 1);
+    }
+    let Some(more) = longest_prefix(StringState::Inside, &text[inside..]) else {
+        return None;
+    };
+    Some(inside + more)
+}
+
+/// How many bytes the multiline string at the start takes.
+pub fn multiline_at(text: &str) -> Option<usize>
+    ensures { Greatest (IsPrefixOf multiline_string text.now) result }
+{
+    let inside = text.strip_prefix("\"\"\"")?;
+    let count = memmem::find(inside.as_bytes(), b"\"\"\"")?;
+    Some(count + 6)
+}
+
+/// Where the lower-case words end that stand from this place on, each after a hyphen.
+fn words_end(text: &str, from: usize) -> usize
+    requires { EndsWord label_or_keyword text.now from }
+    ensures { EndsWord label_or_keyword text.now result }
+{
+    let _length = text.len();
+    let mut place = from;
+    while let Some(count) = word_at(&text[place..]) {
+        place += count;
+    }
+    place
+}
+
+/// How many bytes the hyphen and the word take that stand at the start, where the word begins with a
+/// lower-case letter.
+fn word_at(text: &str) -> Option<usize>
+    ensures { IsWordStep text.now result }
+{
+    let bytes = text.as_bytes();
+    if bytes.len() < 2 || bytes[0] != b'-' || is_digit(bytes[1]) {
+        return None;
+    }
+    let run = lowers(&bytes[1..]);
+    if run == 0 {
+        return None;
+    }
+    Some(run + 1)
+}
+
+/// Where the plain bytes and the escapes end that stand from this place on.
+fn inside_end(text: &str, from: usize) -> usize
+    requires { LeadsTo string (string_rest Inside) text.now from }
+    ensures { LeadsTo string (string_rest Inside) text.now result }
+{
+    let _length = text.len();
+    let mut place = from;
+    while let Some(count) = piece_at(text, place) {
+        place += count;
+    }
+    place
+}
+
+/// How many bytes the plain bytes or the escape take that stand at this place.
+fn piece_at(text: &str, place: usize) -> Option<usize>
+    requires { LeadsTo string (string_rest Inside) text.now place }
+    ensures { IsStep (string_rest Inside) (drop place text.now) result }
+{
+    let rest = &text.as_bytes()[place..];
+    if let Some(count) = escape_at(rest) {
+        return Some(count);
+    }
+    let run = plains(rest);
+    if run == 0 {
+        return None;
+    }
+    Some(run)
+}
+
+/// How many bytes the escape takes that stands at the start; its number need be no scalar.
+fn escape_at(bytes: &[u8]) -> Option<usize>
+    ensures { IsStep (string_rest Inside) bytes.now result }
+{
+    if bytes.len() < 2 || bytes[0] != b'\\' {
+        return None;
+    }
+    if ends_short(bytes[1]) {
+        return Some(2);
+    }
+    if bytes[1] != b'u' || bytes.len() < 3 || bytes[2] != b'{' {
+        return None;
+    }
+    let digits = &bytes[3..];
+    let count = hex_length(digits);
+    if count == 0 || count > 6 || count >= digits.len() || digits[count] != b'}' {
+        return None;
+    }
+    Some(count + 4)
+}
+
+/// A point at the place of each byte that ends a short escape, and a comma at every other.
+static SHORTS: [u8; 256] = *b"\
+    ,,,,,,,,,,,,,,,,,,,,,,,,,,,,,,,,\
+    ,,.,,,,.,,,,,,,,,,,,,,,,,,,,,,,,\
+    ,,,,,,,,,,,,,,,,,,,,,,,,,,,,.,,,\
+    ,,,,,,,,,,,,,,.,,,.,.,,,,,,,,,,,\
+    ,,,,,,,,,,,,,,,,,,,,,,,,,,,,,,,,\
+    ,,,,,,,,,,,,,,,,,,,,,,,,,,,,,,,,\
+    ,,,,,,,,,,,,,,,,,,,,,,,,,,,,,,,,\
+    ,,,,,,,,,,,,,,,,,,,,,,,,,,,,,,,,";
+
+/// A backslash and the byte are an escape.
+fn ends_short(byte: u8) -> bool
+    ensures { result ≡ is_some (short_escape byte) }
+{
+    SHORTS[byte as usize] == b'.'
+}
+
+/// The byte is a space, a tab, a line feed or a carriage return.
+fn is_blank(byte: u8) -> bool
+    ensures { result ≡ is_blank byte }
+{
+    matches!(byte, b' ' | b'\t' | b'\n' | b'\r')
+}
+
+/// The byte is a digit.
+fn is_digit(byte: u8) -> bool
+    ensures { result ≡ is_digit byte }
+{
+    matches!(byte, b'0'..=b'9')
+}
+
+/// The byte is neither a point nor the letter of an exponent.
+fn ends_whole(byte: u8) -> bool
+    ensures { result ≡ ends_whole byte }
+{
+    !matches!(byte, b'.' | b'e' | b'E')
+}
+
+/// Each lower-case letter and each digit at its own place, and a comma at every other.
+static LOWERS: [u8; 256] = *b"\
+    ,,,,,,,,,,,,,,,,,,,,,,,,,,,,,,,,\
+    ,,,,,,,,,,,,,,,,0123456789,,,,,,\
+    ,,,,,,,,,,,,,,,,,,,,,,,,,,,,,,,,\
+    ,abcdefghijklmnopqrstuvwxyz,,,,,\
+    ,,,,,,,,,,,,,,,,,,,,,,,,,,,,,,,,\
+    ,,,,,,,,,,,,,,,,,,,,,,,,,,,,,,,,\
+    ,,,,,,,,,,,,,,,,,,,,,,,,,,,,,,,,\
+    ,,,,,,,,,,,,,,,,,,,,,,,,,,,,,,,,";
+
+/// The byte is a lower-case letter or a digit.
+fn is_lower(byte: u8) -> bool
+    ensures { result ≡ is_lower byte }
+{
+    LOWERS[byte as usize] != b','
+}
+
+/// A comma at the place of each byte that does not stand for itself within a string in one line: the
+/// double quote, the backslash and the line feed.
+static PLAINS: [u8; 256] = *b"\
+    ..........,.....................\
+    ..,.............................\
+    ............................,...\
+    ................................\
+    ................................\
+    ................................\
+    ................................\
+    ................................";
+
+/// The byte stands for itself within a string in one line.
+fn is_plain(byte: u8) -> bool
+    ensures { result ≡ is_plain byte }
+{
+    PLAINS[byte as usize] == b'.'
+}
+
+/// How many blanks stand at the start.
+fn blanks(bytes: &[u8]) -> usize
+    ensures within { result ≤ length bytes.now }
+    ensures all { (i : ℕ) → i < result → is_blank (slice_index bytes.now i) ≡ true }
+    ensures stops { result < length bytes.now → is_blank (slice_index bytes.now result) ≡ false }
+{
+    for (i, byte) in bytes.iter().enumerate() {
+        if !is_blank(*byte) {
+            return i;
+        }
+    }
+    bytes.len()
+}
+
+/// How many digits stand at the start.
+fn digits(bytes: &[u8]) -> usize
+    ensures within { result ≤ length bytes.now }
+    ensures all { (i : ℕ) → i < result → is_digit (slice_index bytes.now i) ≡ true }
+    ensures stops { result < length bytes.now → is_digit (slice_index bytes.now result) ≡ false }
+{
+    for (i, byte) in bytes.iter().enumerate() {
+        if !is_digit(*byte) {
+            return i;
+        }
+    }
+    bytes.len()
+}
+
+/// How many lower-case letters and digits stand at the start.
+fn lowers(bytes: &[u8]) -> usize
+    ensures within { result ≤ length bytes.now }
+    ensures all { (i : ℕ) → i < result → is_lower (slice_index bytes.now i) ≡ true }
+    ensures stops { result < length bytes.now → is_lower (slice_index bytes.now result) ≡ false }
+{
+    for (i, byte) in bytes.iter().enumerate() {
+        if !is_lower(*byte) {
+            return i;
+        }
+    }
+    bytes.len()
+}
+
+/// How many bytes at the start stand for themselves within a string in one line.
+fn plains(bytes: &[u8]) -> usize
+    ensures { IsPlainRun bytes.now result }
+{
+    if bytes.len() <= FEW {
+        return plains_in_turn(bytes);
+    }
+    let run = plains_in_turn(&bytes[..FEW]);
+    if run < FEW {
+        return run;
+    }
+    FEW + plains_at_once(&bytes[FEW..])
+}
+
+/// The same, by looking at each.
+fn plains_in_turn(bytes: &[u8]) -> usize
+    ensures { IsPlainRun bytes.now result }
+{
+    for (i, byte) in bytes.iter().enumerate() {
+        if !is_plain(*byte) {
+            return i;
+        }
+    }
+    bytes.len()
+}
+
+/// The same, by a search for the bytes that are not plain.
+fn plains_at_once(bytes: &[u8]) -> usize
+    ensures { IsPlainRun bytes.now result }
+{
+    memchr3(b'"', b'\\', b'\n', bytes).unwrap_or(bytes.len())
+}

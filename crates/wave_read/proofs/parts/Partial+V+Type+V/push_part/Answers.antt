@@ -1,0 +1,14 @@
+use Rattle.wave_read.proofs.PartsKept.{no_items, where_ok}
+use Rattle.wave_read.proofs.parts.Partial+V+Type+V.push_part.Goals as goal
+
+pub returns-in-Items-clause-grown : goal.returns-in-Items-clause-grown
+returns-in-Items-clause-grown g c = where_ok _ _ c.push_part.result (λ done kept. λ w T source of children n takes parts due.
+    let h = rw c.in-Items.is at parts in
+    (h.0, kept w T source children n (rw h.0 at takes) h.1 (rw c.in-Items.is at due)))
+    c.push_part.ensures
+
+pub returns-in-Items-clause-bare : goal.returns-in-Items-clause-bare
+returns-in-Items-clause-bare g c = λ bare. absurd (rw c.in-Items.is at bare)
+
+pub push_other_part-requires : goal.push_other_part-requires
+push_other_part-requires g c = no_items c.args.self.now c.in_default.not-Items

@@ -1,0 +1,95 @@
+use Rattle.wave_grammar.specs.FaultOrder.{in_text}
+use Rattle.std.proofs.Common.{inl, [], refl, sym, subst}
+use Rattle.wave_grammar.specs.NodeTree.{node, node_trees}
+use Rattle.wave_grammar.specs.declared.form.NodeType.{NodeType}
+use Rattle.wave_grammar.specs.declared.form.NodeType.TheVariants as kind
+use Rattle.wave_wasm.specs.Types.{TypeTree}
+use Rattle.wave_read.specs.PlainReading.{IsPlain}
+use Rattle.wave_read.specs.Reading.{IsReadAs}
+use Rattle.wave_read.specs.PartsOfKinds.{AreParts}
+use Rattle.wave_read.specs.declared.parts.Partial.{Partial}
+use Rattle.wave_read.proofs.Doomed.{told}
+use Rattle.wave_read.proofs.parts.Partial+V+Type+V.whole.Goals as goal
+
+pub returns-in-Faulty-clause-read : goal.returns-in-Faulty-clause-read
+returns-in-Faulty-clause-read g c = λ w T source of children parts.
+    let h = subst (λ (x : Partial g.row.V-Type.Denot g.row.V.Denot). AreParts g.V.Type.WasmType.tree g.V.WasmValue.tree g.V.WasmValue.is_of g.V.WasmValue.is_full w T source of children x) c.in-Faulty.is parts in
+    told g.V.WasmValue.tree g.V.WasmValue.is_of g.V.WasmValue.is_full in_text w T source of children c.in-Faulty.fault c.args.span c.tell.result h c.tell.ensures
+
+pub returns-in-Simple-clause-read : goal.returns-in-Simple-clause-read
+returns-in-Simple-clause-read g c = λ w T source of children parts.
+    let h = subst (λ (x : Partial g.row.V-Type.Denot g.row.V.Denot). AreParts g.V.Type.WasmType.tree g.V.WasmValue.tree g.V.WasmValue.is_of g.V.WasmValue.is_full w T source of children x) c.in-Simple.is parts in
+    subst (λ (U : TypeTree). IsReadAs g.V.WasmValue.tree g.V.WasmValue.is_of g.V.WasmValue.is_full in_text w U source (node of c.args.span (node_trees children)) c.refuse_simple.result) h.0
+    (c.refuse_simple.ensures.read in_text w source (node of c.args.span (node_trees children)) refl (inl h.2) (rw h.0 h.1))
+
+pub returns-in-Empty-clause-read : goal.returns-in-Empty-clause-read
+returns-in-Empty-clause-read g c = λ w T source of children parts.
+    let h = subst (λ (x : Partial g.row.V-Type.Denot g.row.V.Denot). AreParts g.V.Type.WasmType.tree g.V.WasmValue.tree g.V.WasmValue.is_of g.V.WasmValue.is_full w T source of children x) c.in-Empty.is parts in
+    rw (h.0, h.1) (subst (λ (U : TypeTree). IsReadAs g.V.WasmValue.tree g.V.WasmValue.is_of g.V.WasmValue.is_full in_text w U source (node kind.EmptySet c.args.span (node_trees [])) c.read_empty.result) h.2 (c.read_empty.ensures in_text w source (rw h.2 h.3)))
+
+pub returns-in-Items-clause-read : goal.returns-in-Items-clause-read
+returns-in-Items-clause-read g c = λ w T source of children parts.
+    let h = subst (λ (x : Partial g.row.V-Type.Denot g.row.V.Denot). AreParts g.V.Type.WasmType.tree g.V.WasmValue.tree g.V.WasmValue.is_of g.V.WasmValue.is_full w T source of children x) c.in-Items.is parts in
+    subst (λ (k : NodeType). IsReadAs g.V.WasmValue.tree g.V.WasmValue.is_of g.V.WasmValue.is_full in_text w T source (node k c.args.span (node_trees children)) c.whole.result) (sym h.0) (c.whole.ensures w T source children h.1)
+
+pub returns-in-TupleItems-clause-read : goal.returns-in-TupleItems-clause-read
+returns-in-TupleItems-clause-read g c = λ w T source of children parts.
+    let h = subst (λ (x : Partial g.row.V-Type.Denot g.row.V.Denot). AreParts g.V.Type.WasmType.tree g.V.WasmValue.tree g.V.WasmValue.is_of g.V.WasmValue.is_full w T source of children x) c.in-TupleItems.is parts in
+    subst (λ (k : NodeType). IsReadAs g.V.WasmValue.tree g.V.WasmValue.is_of g.V.WasmValue.is_full in_text w T source (node k c.args.span (node_trees children)) c.whole-in-TupleItems.result) (sym h.0) (c.whole-in-TupleItems.ensures w T source children h.1)
+
+pub returns-in-OfSome-clause-read : goal.returns-in-OfSome-clause-read
+returns-in-OfSome-clause-read g c = λ w T source of children parts.
+    let h = subst (λ (x : Partial g.row.V-Type.Denot g.row.V.Denot). AreParts g.V.Type.WasmType.tree g.V.WasmValue.tree g.V.WasmValue.is_of g.V.WasmValue.is_full w T source of children x) c.in-OfSome.is parts in
+    subst (λ (k : NodeType). IsReadAs g.V.WasmValue.tree g.V.WasmValue.is_of g.V.WasmValue.is_full in_text w T source (node k c.args.span (node_trees children)) c.whole-in-OfSome.result) (sym h.0) (c.whole-in-OfSome.ensures w T source children h.1)
+
+pub returns-in-OfResult-clause-read : goal.returns-in-OfResult-clause-read
+returns-in-OfResult-clause-read g c = λ w T source of children parts.
+    let h = subst (λ (x : Partial g.row.V-Type.Denot g.row.V.Denot). AreParts g.V.Type.WasmType.tree g.V.WasmValue.tree g.V.WasmValue.is_of g.V.WasmValue.is_full w T source of children x) c.in-OfResult.is parts in
+    subst (λ (k : NodeType). IsReadAs g.V.WasmValue.tree g.V.WasmValue.is_of g.V.WasmValue.is_full in_text w T source (node k c.args.span (node_trees children)) c.whole-in-OfResult.result) (sym h.0) (c.whole-in-OfResult.ensures in_text w T source children h.1)
+
+pub returns-in-OfCase-clause-read : goal.returns-in-OfCase-clause-read
+returns-in-OfCase-clause-read g c = λ w T source of children parts.
+    let h = subst (λ (x : Partial g.row.V-Type.Denot g.row.V.Denot). AreParts g.V.Type.WasmType.tree g.V.WasmValue.tree g.V.WasmValue.is_of g.V.WasmValue.is_full w T source of children x) c.in-OfCase.is parts in
+    subst (λ (k : NodeType). IsReadAs g.V.WasmValue.tree g.V.WasmValue.is_of g.V.WasmValue.is_full in_text w T source (node k c.args.span (node_trees children)) c.whole-in-OfCase.result) (sym h.0) (c.whole-in-OfCase.ensures w T source children h.1)
+
+pub returns-in-Fields-clause-read : goal.returns-in-Fields-clause-read
+returns-in-Fields-clause-read g c = λ w T source of children parts.
+    let h = subst (λ (x : Partial g.row.V-Type.Denot g.row.V.Denot). AreParts g.V.Type.WasmType.tree g.V.WasmValue.tree g.V.WasmValue.is_of g.V.WasmValue.is_full w T source of children x) c.in-Fields.is parts in
+    subst (λ (k : NodeType). IsReadAs g.V.WasmValue.tree g.V.WasmValue.is_of g.V.WasmValue.is_full in_text w T source (node k c.args.span (node_trees children)) c.whole-in-Fields.result) (sym h.0) (c.whole-in-Fields.ensures w T source children h.1)
+
+pub returns-in-Entries-clause-read : goal.returns-in-Entries-clause-read
+returns-in-Entries-clause-read g c = λ w T source of children parts.
+    let h = subst (λ (x : Partial g.row.V-Type.Denot g.row.V.Denot). AreParts g.V.Type.WasmType.tree g.V.WasmValue.tree g.V.WasmValue.is_of g.V.WasmValue.is_full w T source of children x) c.in-Entries.is parts in
+    subst (λ (k : NodeType). IsReadAs g.V.WasmValue.tree g.V.WasmValue.is_of g.V.WasmValue.is_full in_text w T source (node k c.args.span (node_trees children)) c.whole-in-Entries.result) (sym h.0) (c.whole-in-Entries.ensures w T source children h.1)
+
+pub returns-in-Simple-clause-plain : goal.returns-in-Simple-clause-plain
+returns-in-Simple-clause-plain g c = λ T plain simple.
+    let same = rw c.in-Simple.is at simple in
+    c.refuse_simple.ensures.plain (subst IsPlain (sym same) plain)
+
+pub returns-in-Faulty-clause-plain : goal.returns-in-Faulty-clause-plain
+returns-in-Faulty-clause-plain g c = λ T plain simple. absurd (rw c.in-Faulty.is at simple)
+
+pub returns-in-Empty-clause-plain : goal.returns-in-Empty-clause-plain
+returns-in-Empty-clause-plain g c = λ T plain simple. absurd (rw c.in-Empty.is at simple)
+
+pub returns-in-Items-clause-plain : goal.returns-in-Items-clause-plain
+returns-in-Items-clause-plain g c = λ T plain simple. absurd (rw c.in-Items.is at simple)
+
+pub returns-in-TupleItems-clause-plain : goal.returns-in-TupleItems-clause-plain
+returns-in-TupleItems-clause-plain g c = λ T plain simple. absurd (rw c.in-TupleItems.is at simple)
+
+pub returns-in-OfSome-clause-plain : goal.returns-in-OfSome-clause-plain
+returns-in-OfSome-clause-plain g c = λ T plain simple. absurd (rw c.in-OfSome.is at simple)
+
+pub returns-in-OfResult-clause-plain : goal.returns-in-OfResult-clause-plain
+returns-in-OfResult-clause-plain g c = λ T plain simple. absurd (rw c.in-OfResult.is at simple)
+
+pub returns-in-OfCase-clause-plain : goal.returns-in-OfCase-clause-plain
+returns-in-OfCase-clause-plain g c = λ T plain simple. absurd (rw c.in-OfCase.is at simple)
+
+pub returns-in-Fields-clause-plain : goal.returns-in-Fields-clause-plain
+returns-in-Fields-clause-plain g c = λ T plain simple. absurd (rw c.in-Fields.is at simple)
+
+pub returns-in-Entries-clause-plain : goal.returns-in-Entries-clause-plain
+returns-in-Entries-clause-plain g c = λ T plain simple. absurd (rw c.in-Entries.is at simple)

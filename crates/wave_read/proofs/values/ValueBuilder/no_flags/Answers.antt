@@ -1,0 +1,16 @@
+use Rattle.std.proofs.Common.{◌≡◌, ◌⊎◌, Option, Bor, sym, subst}
+use Rattle.wave_wasm.specs.Borrowed.{shown}
+use Rattle.wave_grammar.specs.declared.form.NodeType.{NodeType}
+use Rattle.wave_grammar.specs.declared.form.NodeType.TheVariants as kind
+use Rattle.wave_read.specs.Reading.{IsReadWhereDue}
+use Rattle.wave_read.proofs.PlainTypes.{no_row_spares, flags_no_row}
+use Rattle.wave_read.specs.Flat.{IsAround}
+use Rattle.wave_read.proofs.values.ValueBuilder.no_flags.Goals as goal
+
+pub returns-clause-read : goal.returns-clause-read
+returns-clause-read g c = λ o w source n ty place. (
+  subst (λ (d : Option (Bor g.row.V-Type.Denot)). IsReadWhereDue g.V.WasmValue.tree g.V.WasmValue.is_of g.V.WasmValue.is_full o w (shown g.V.Type.WasmType.tree d) source n c.surrounded.result) (sym c.in-Some.is)
+      (c.surrounded.ensures o w (g.V.Type.WasmType.tree c.in-Some.due.now) source n (subst (λ (of : NodeType). IsAround g.V.Type.WasmType.tree (g.V.Type.WasmType.tree c.in-Some.due.now) of c.type_of_parts.result.0 c.type_of_parts.result.1) (sym ty) c.type_of_parts.ensures) place
+      (c.refuse_flags-made.ensures o w source n ty place)),
+  no_row_spares (shown g.V.Type.WasmType.tree c.args.self.due) n c.surrounded.result (λ row. flags_no_row (subst (λ (of : NodeType). (of ≡ kind.Tuple) ⊎ (of ≡ kind.List)) ty row)),
+)

@@ -1,0 +1,5 @@
+use Rattle.wave_tree.proofs.LexerCallCount.{few}
+use Rattle.wave_tree.proofs.laws.lexer_calls_bounded.Goals as goal
+
+pub returns : goal.returns
+returns c = few
