@@ -39,7 +39,7 @@ def reverse(count):
 
 
 def cases(size):
-    """Each case of this size: 100, 1,000 or 10,000 are the sizes of docs/SPEED.md."""
+    """Each case of this size: 100, 1,000 or 10,000 are the sizes of docs/SPEED-TABLES.md."""
     wide = f"{{{''.join(f'field-n{i}: {i}, ' for i in range(100))}}}"
     flags = f"{{{''.join(f'flag-n{i}, ' for i in range(0, 32, 2))}}}"
     yield "ascii", "string", quoted("plain ascii text without any escape", ", ", size)
