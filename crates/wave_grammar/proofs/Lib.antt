@@ -27,4 +27,3 @@ pub mod Fields
 pub mod NodeTexts
 pub mod NodeMeaning
 pub mod FlagNodes
-pub mod FlagSets

@@ -1,10 +1,6 @@
 pub mod FlagOrder
-pub mod SyntaxErrors
-pub mod TokenRoles
 pub mod ErrorSpans
 pub mod NodeAccessors
-pub mod NodeDepth
-pub mod NodeEncoding
 pub mod NodeFields
 pub mod NodeFlags
 pub mod NodeParams

@@ -7,7 +7,7 @@ use Rattle.wave_grammar.specs.PrefixAutomaton.{Expectation, StackSymbol}
 use Rattle.wave_grammar.specs.SyntaxErrors.{LeadsBehindValue}
 use Rattle.wave_tree.specs.ParserState.{HasTokens}
 use Rattle.wave_tree.specs.Private.ParserState.{Stream, asked_of, AsksFor}
-use Rattle.wave_tree.specs.ParserLaws.{AskingsAreFew}
+use Rattle.wave_tree.specs.ParserLaws.{LexerCallsBounded}
 use Rattle.wave_tree.proofs.ParserSteps.{Reached, tokens_join, taken_count}
 
 -- nothing was asked for
@@ -45,7 +45,7 @@ pub asks_reached : (n : ℕ) (d e : Expectation) (s v : List StackSymbol) (p q r
 asks_reached n d e s v p q r h first more = asks_behind p q r h.tokens h.taken first more
 
 -- a new parser asks for the tokens that stand there and for one item more at most
-pub few : AskingsAreFew
+pub few : LexerCallsBounded
 few n p q r has new asks =
     let first = asks n has in
     (omega arith, λ read look. let all = has read.tokens q.place read.taken in let count = taken_count p.place q.place read.tokens read.taken in omega arith)

@@ -15,7 +15,7 @@ use Rattle.wave_grammar.specs.PrefixAutomaton as due
 use Rattle.wave_grammar.specs.PrefixAutomaton.{Expectation, StackSymbol, value, first_item, next_item, behind_value, behind_label, reads, unexpected, empty_tuple, repeated_flag, too_deep, step, Shifts, IsValueDue, closes, is_paren, is_colon, is_brace_close, behind_step, value_step, key_step, brace_step, behind_flag_step, flag_step}
 use Rattle.wave_grammar.specs.SyntaxErrors.{IsTooDeep, StandsAt, IsSyntaxError, FailsBySyntax, IsBehind, LeadsBehindValue, Gives, IsWithin, IsUnfinished}
 use Rattle.wave_tree.specs.ParserState.{Fails}
-use Rattle.wave_grammar.specs.Shared.TokenRoles.{form_of, IsClose, IsKeyClass}
+use Rattle.wave_tree.specs.Private.TokenRoles.{form_of, IsClose, IsKeyClass}
 use Rattle.wave_grammar.specs.LeafTokens.{name_of}
 use Rattle.wave_grammar.proofs.Automaton.Sound.{leads_join, if_false}
 

@@ -18,7 +18,7 @@ use Rattle.wave_grammar.specs.ErrorSpans.{HasTypeKind}
 use Rattle.wave_grammar.specs.TypedReading as typed
 use Rattle.wave_tree.specs.ParserState.{Parsing, IsTrailing, StaysWithout, first_at, limited, value_start, start_of}
 use Rattle.wave_tree.specs.ParsedNodes.{IsNodeTaken}
-use Rattle.wave_tree.specs.FromStr.{PrintsWithinTwice, IsValueTaken, IsRead, IsTypeRefused, RefusesValue, IsCausedBetween, RefusesFront, BlamesText, RefusesText}
+use Rattle.wave_tree.specs.FromStr.{PrintsWithinTwice, IsValueTaken, IsRead, IsTypeRefused, RefusesValue, IsCausedBetween, RefusesStart, BlamesText, RefusesText}
 use Rattle.wave_tree.proofs.TextReading.{all_cut, means_of, whole_read, refused_means_none, nothing_there, memory_or}
 use Rattle.wave_tree.specs.WholeTextLaws.{ReadsWholeText, ReadsWholeTree}
 use Rattle.wave_tree.proofs.UntypedReading.{untyped_of, refused_spells_none, trailing_spells_none}
@@ -64,14 +64,14 @@ value_prints tree_of_value of fits T n old new v h good own =
 -- ---- refused values
 
 -- a value that could not be read: of what begins the text
-front_refused : (Full : TypeTree → Type 0) (T : TypeTree) (n : ℕ) (s : List ℕ) (p : Place) (e : Diagnostic) → RefusesValue Full T n e (start_of s) p → RefusesFront n s e
+front_refused : (Full : TypeTree → Type 0) (T : TypeTree) (n : ℕ) (s : List ℕ) (p : Place) (e : Diagnostic) → RefusesValue Full T n e (start_of s) p → RefusesStart n s e
 front_refused Full T n s p e h = by (memory_or e.kind)
   where
-    by_kind : IsSyntaxError e n value [] (start_of s) p ⊎ IsTypeRefused Full T n e (start_of s) p → RefusesFront n s e
+    by_kind : IsSyntaxError e n value [] (start_of s) p ⊎ IsTypeRefused Full T n e (start_of s) p → RefusesStart n s e
     by_kind (inl k) = inl (refused_spells_none n s e p (λ apart. k))
     by_kind (inr k) = inr (p, k.placed, k.read, k.kind)
 
-    by : (e.kind ≡ kind.OutOfMemory) ⊎ (e.kind ≢ kind.OutOfMemory) → RefusesFront n s e
+    by : (e.kind ≡ kind.OutOfMemory) ⊎ (e.kind ≢ kind.OutOfMemory) → RefusesStart n s e
     by (inl memory) = inl (λ apart. absurd (apart memory))
     by (inr apart) = by_kind (h apart)
 

@@ -72,8 +72,8 @@ IsCausedBetween n old new e = e.kind ≡ WasmValueError → (node : NodeTree) ×
 
 -- at any type: the text spells no tree within n levels, or there is no memory; or a tree begins the text, and the refusal is of a kind that reading one at
 -- a type answers
-abbrev pub RefusesFront : ℕ → List ℕ → Diagnostic → Type 0
-RefusesFront n s e =
+abbrev pub RefusesStart : ℕ → List ℕ → Diagnostic → Type 0
+RefusesStart n s e =
     RefusesTree n s e ⊎ ((p : Place) × (t : SpannedTree) × IsTreeRead n (start_of s) p t × HasTypeKind e)
 
 -- what is wrong with the text: no tree within n levels begins it; or the type gives the tree that does no value; or something follows that tree, which has one
@@ -92,7 +92,7 @@ BlamesText Full T n s e =
 -- what the refusal of a text within n levels says: at any type of its tree, where the type's names are distinct of its meaning; its span lies in the text;
 -- a `WasmValueError` has a cause, and stands at a node of what was read; out of memory stands at 0..0
 pub record RefusesText (Full : TypeTree → Type 0) (T : TypeTree) (n : ℕ) (s : List ℕ) (e : Diagnostic) : Type 0 where
-  pub front : RefusesFront n s e
+  pub front : RefusesStart n s e
   pub blames : HasDistinctNames T → BlamesText Full T n s e
   pub within : LiesInText s e.span
   pub caused : (p : Place) × IsCausedBetween n (start_of s) p e

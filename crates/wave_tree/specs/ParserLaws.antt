@@ -27,8 +27,8 @@ RefusedHaveNone =
     → (t : Tree) (rest : List Token) → tree.Takes n ts t rest → ⊥
 
 -- before n tokens a new parser asks n + 1 times at most to read a value, and, where it has read one, to look whether something follows
-abbrev pub AskingsAreFew : Type 0
-AskingsAreFew =
+abbrev pub LexerCallsBounded : Type 0
+LexerCallsBounded =
     (n : ℕ) (p q r : Parsing) → HasTokens p.place n → asked p ≡ 0 → Asks p q →
     (asked q ≤ n + 1) × (LeadsBehindValue p.limit value [] p.place q.place [] → asked r ≡ q.place.taken + 1 → asked r ≤ n + 1)
 

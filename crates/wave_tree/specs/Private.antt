@@ -6,3 +6,7 @@ pub mod UntypedCall
 pub mod CallEncoding
 pub mod UntypedEncoding
 pub mod NodeForms
+pub mod NodeDepth
+pub mod NodeEncoding
+pub mod SyntaxErrors
+pub mod TokenRoles

@@ -49,5 +49,5 @@ abbrev pub RefusesTree : ℕ → List ℕ → Diagnostic → Type 0
 RefusesTree n s e = (e.kind ≢ OutOfMemory) → SyntaxFault n s e × SpellsNoTree n s
 
 -- out of memory stands at 0..0
-abbrev pub MemoryAtFront : Diagnostic → Type 0
-MemoryAtFront e = e.kind ≡ OutOfMemory → Says e OutOfMemory (span 0 0) None
+abbrev pub MemoryAtStart : Diagnostic → Type 0
+MemoryAtStart e = e.kind ≡ OutOfMemory → Says e OutOfMemory (span 0 0) None

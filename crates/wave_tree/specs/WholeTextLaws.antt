@@ -7,7 +7,7 @@ use Rattle.wave_grammar.specs.ParserPosition.{Place}
 use Rattle.wave_grammar.specs.PrefixAutomaton.{value}
 use Rattle.wave_grammar.specs.SyntaxErrors.{LeadsBehindValue, FailsBySyntax}
 use Rattle.wave_tree.specs.ParserState.{Finishes, start_of}
-use Rattle.wave_tree.specs.FromStr.{IsValueTaken, RefusesValue, IsRead, RefusesFront, BlamesText, RefusesText}
+use Rattle.wave_tree.specs.FromStr.{IsValueTaken, RefusesValue, IsRead, RefusesStart, BlamesText, RefusesText}
 use Rattle.wave_tree.specs.Untyped.{Untyped, IsUntypedTaken, IsUntypedOf, RefusesTree}
 
 module _ {V : Type 0} (tree : V → Value) (of : V → TypeTree → Type 0) (Full : TypeTree → Type 0) where
@@ -15,7 +15,7 @@ module _ {V : Type 0} (tree : V → Value) (of : V → TypeTree → Type 0) (Ful
   pub record ReadsWholeText (T : TypeTree) (n : ℕ) (s : List ℕ) : Type 0 where
     pub ends : (p : Place) (v : V) → IsValueTaken tree of T n (start_of s) p v → Finishes (Ok tt) p → IsRead tree of T n s v
     pub trails : (p : Place) (v : V) (e : Diagnostic) → IsValueTaken tree of T n (start_of s) p v → Finishes (Err e) p → RefusesText Full T n s e
-    pub refused : (p : Place) (e : Diagnostic) → RefusesValue Full T n e (start_of s) p → RefusesFront n s e × (HasDistinctNames T → BlamesText Full T n s e)
+    pub refused : (p : Place) (e : Diagnostic) → RefusesValue Full T n e (start_of s) p → RefusesStart n s e × (HasDistinctNames T → BlamesText Full T n s e)
 
 -- the same of untyped values
 pub record ReadsWholeTree (n : ℕ) (s : List ℕ) : Type 0 where

@@ -42,7 +42,7 @@ pub struct Node {
 impl Model for Node {
     ghost use Rattle.wave_grammar.specs.NodeTree.{NodeTree, node, node_trees};
     ghost use Rattle.wave_grammar.specs.Shared.NodeTree.{depth};
-    ghost use Rattle.wave_grammar.specs.Shared.NodeEncoding.{node_code};
+    ghost use Rattle.wave_tree.specs.Private.NodeEncoding.{node_code};
 
     ghost Value = { NodeTree };
 
@@ -53,7 +53,7 @@ impl Model for Node {
     ghost size = { depth };
 
     ghost use Rattle.std.proofs.Common.{arith};
-    ghost use Rattle.wave_grammar.specs.Shared.NodeDepth.{most_le-nodes_depth};
+    ghost use Rattle.wave_tree.specs.Private.NodeDepth.{most_le-nodes_depth};
 
     ghost size_decreases = { λ a h. omega (arith, most_le-nodes_depth a.children.items) };
 }
@@ -295,7 +295,7 @@ impl<'this> Model for MapEntries<'this> {
     ghost use Rattle.std.specs.Prelude.{List};
     ghost use Rattle.std.specs.Coded.{codes};
     ghost use Rattle.wave_grammar.specs.NodeTree.{NodeTree};
-    ghost use Rattle.wave_grammar.specs.Shared.NodeEncoding.{node_code};
+    ghost use Rattle.wave_tree.specs.Private.NodeEncoding.{node_code};
     ghost use Rattle.wave_grammar.specs.NodeAccessors.{node_pairs};
 
     ghost Value = { List (NodeTree × NodeTree) };

@@ -5,9 +5,9 @@ ghost use Rattle.wave_lex.specs.declared.error.ParserErrorKind.TheVariants as ki
 ghost use Rattle.wave_grammar.specs.ParserPosition.{Place, TakesItem, span_at, text_at};
 ghost use Rattle.wave_grammar.specs.Tree.{word_of, some_word};
 ghost use Rattle.wave_grammar.specs.PrefixAutomaton as due;
-ghost use Rattle.wave_grammar.specs.Shared.SyntaxErrors.{GivesWithin, GivesAnywhere};
+ghost use Rattle.wave_tree.specs.Private.SyntaxErrors.{GivesWithin, GivesAnywhere};
 ghost use Rattle.wave_lex.specs.Tokenization.{span};
-ghost use Rattle.wave_grammar.specs.Shared.TokenRoles.{form_of, IsClose};
+ghost use Rattle.wave_tree.specs.Private.TokenRoles.{form_of, IsClose};
 ghost use Rattle.wave_grammar.specs.FlagParts.{AreFlagsOf, flag_nodes};
 ghost use Rattle.wave_grammar.specs.NodeParts.{IsOfParts, IsOneToken, TakesPart};
 ghost use Rattle.wave_grammar.specs.NodeTree.{NodeTree, node, no_nodes};

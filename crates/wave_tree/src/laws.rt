@@ -3,7 +3,7 @@ ghost use Rattle.std.specs.Prelude.{ℕ, List};
 ghost use Rattle.wave_wasm.specs.Types.{TypeTree};
 ghost use Rattle.wave_grammar.specs.EquivalenceLaws.{MeansByTree};
 ghost use Rattle.wave_tree.specs.UntypedLaws.{ReadAlike, RefusedAlike};
-ghost use Rattle.wave_tree.specs.ParserLaws.{ReadHaveATree, RefusedHaveNone, AskingsAreFew, RefusalsLieInText};
+ghost use Rattle.wave_tree.specs.ParserLaws.{ReadHaveATree, RefusedHaveNone, LexerCallsBounded, RefusalsLieInText};
 ghost use Rattle.wave_tree.specs.WholeTextLaws.{ReadsWholeText, ReadsWholeTree};
 ghost use Rattle.wave_grammar.specs.NodeLaws.{FaultsLieInText};
 
@@ -47,7 +47,7 @@ pub fn whole_texts_are_read<V: WasmValue>()
 /// A new parser before n tokens, which end or go on with what is no token, asks its lexer n + 1 times
 /// at most for `parse_value` and, where that has read a value, for `finish` after it.
 pub fn lexer_calls_bounded()
-    ensures { AskingsAreFew }
+    ensures { LexerCallsBounded }
 {}
 
 /// The span of a syntax refusal lies in the text, and so does that of what follows a value and that of a

@@ -113,7 +113,7 @@ impl<'this, 'src> Model for RecordFields<'this, 'src> {
     ghost use Rattle.std.specs.Coded.{codes};
     ghost use Rattle.wave_wasm.specs.Lists.{AllOf};
     ghost use Rattle.wave_grammar.specs.NodeTree.{NodeTree};
-    ghost use Rattle.wave_grammar.specs.Shared.NodeEncoding.{node_code};
+    ghost use Rattle.wave_tree.specs.Private.NodeEncoding.{node_code};
     ghost use Rattle.wave_grammar.specs.NodeAccessors.{IsEntryOf};
     ghost use Rattle.wave_grammar.specs.NodeFields.{field_of};
 

@@ -1,7 +1,7 @@
 //! What tokens are to the parser.
 ghost use Rattle.std.specs.Prelude.{◌≡◌, MatchOption};
 ghost use Rattle.wave_lex.specs.declared.lex.Token.TheVariants.{LabelOrKeyword};
-ghost use Rattle.wave_grammar.specs.Shared.TokenRoles.{IsKeyClass};
+ghost use Rattle.wave_tree.specs.Private.TokenRoles.{IsKeyClass};
 ghost use Rattle.wave_tree.specs.Private.ParsedNodes.{key_node_type};
 ghost use Rattle.wave_tree.specs.Private.ParserState.{IsValueStart};
 

@@ -2,7 +2,7 @@
 ghost use Rattle.std.specs.Prelude.{◌≡◌, IfOk, IfErr};
 ghost use Rattle.wave_grammar.specs.TypedReading.{IsValueOf};
 ghost use Rattle.wave_grammar.specs.TypedReading as typed;
-ghost use Rattle.wave_tree.specs.Untyped.{IsUntypedOf, RefusesTree, MemoryAtFront};
+ghost use Rattle.wave_tree.specs.Untyped.{IsUntypedOf, RefusesTree, MemoryAtStart};
 ghost use Rattle.wave_grammar.specs.ErrorSpans.{HasTypeKind, StandsIn};
 ghost use Rattle.wave_lex.specs.Errors.{LiesInText};
 
@@ -58,7 +58,7 @@ impl<'source> UntypedValue<'source> {
     pub fn parse(alloc: Global, source: &'source str) -> Result<UntypedValue<'source>, ParserError>
         ensures value { IfOk result (IsUntypedOf 100 source.now) }
         ensures refused { IfErr result (RefusesTree 100 source.now) }
-        ensures memory { IfErr result MemoryAtFront }
+        ensures memory { IfErr result MemoryAtStart }
         ensures within { IfErr result (λ e. LiesInText source.now e.span) }
     {
         let mut parser = Parser::new(source);

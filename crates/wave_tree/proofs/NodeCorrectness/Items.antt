@@ -13,7 +13,7 @@ use Rattle.wave_grammar.specs.declared.form.NodeType.{NodeType}
 use Rattle.wave_grammar.specs.declared.form.NodeType.TheVariants as kind
 use Rattle.wave_tree.specs.ParsedNodes.{IsParsed, TakesClass}
 use Rattle.wave_tree.specs.Private.ParsedNodes.{IsParsedBehind, IsMaybe, IsPayload, IsOfItems, items_type, AreClosedItems, AreFurther, IsKeyAt, ArePairs, IsOfEntries, IsOfFlags, label_children}
-use Rattle.wave_grammar.specs.Shared.TokenRoles.{IsClose}
+use Rattle.wave_tree.specs.Private.TokenRoles.{IsClose}
 use Rattle.wave_lex.specs.Tokenization.{span}
 use Rattle.wave_tree.proofs.NodeCorrectness.Braces.{entries_parsed, empty_parsed, no_fields_parsed}
 use Rattle.wave_tree.proofs.NodeCorrectness.Flags.{flags_parsed}

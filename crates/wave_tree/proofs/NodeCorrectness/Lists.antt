@@ -16,7 +16,7 @@ use Rattle.wave_grammar.specs.Nodes.{placed_of, all_placed, shape_from, and_then
 use Rattle.wave_grammar.specs.declared.form.NodeType.TheVariants as kind
 use Rattle.wave_tree.specs.ParsedNodes.{IsSound, IsParsed}
 use Rattle.wave_tree.specs.Private.ParsedNodes.{IsClosed, AreFurther, AreClosedItems, IsOfItems}
-use Rattle.wave_grammar.specs.Shared.TokenRoles.{IsClose}
+use Rattle.wave_tree.specs.Private.TokenRoles.{IsClose}
 use Rattle.wave_grammar.specs.CommaSeparated.{Spelling, Closes, FurtherItems, Items}
 use Rattle.wave_tree.proofs.NodeCorrectness.Tokens.{in_order, sound_next, sound_tokens, start_of, at_start, made, takes_less}
 use Rattle.wave_tree.proofs.ParserSteps.{tokens_join}

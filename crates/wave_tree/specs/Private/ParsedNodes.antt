@@ -6,7 +6,7 @@ use Rattle.wave_lex.specs.declared.lex.Token as lex
 use Rattle.wave_lex.specs.declared.lex.Token.TheVariants as class
 use Rattle.wave_lex.specs.Tokenization.{span}
 use Rattle.wave_grammar.specs.NodeTree.{NodeTree, node, no_nodes, node_trees}
-use Rattle.wave_grammar.specs.Shared.TokenRoles.{IsKeyClass}
+use Rattle.wave_tree.specs.Private.TokenRoles.{IsKeyClass}
 use Rattle.wave_grammar.specs.ParserPosition.{Place, span_at, text_at}
 use Rattle.wave_grammar.specs.declared.form.NodeType.{NodeType}
 use Rattle.wave_grammar.specs.declared.form.NodeType.TheVariants as kind

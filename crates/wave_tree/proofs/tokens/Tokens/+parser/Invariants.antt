@@ -2,7 +2,7 @@ use Rattle.std.proofs.Common.{◌≡◌, ℕ, ◌+◌, ◌-◌, ◌*◌, length,
 use Rattle.wave_grammar.specs.ParserPosition.{Place, TakesItem}
 use Rattle.wave_grammar.specs.PrefixAutomaton.{Expectation, StackSymbol, first_item}
 use Rattle.wave_grammar.specs.PrefixAutomaton as due
-use Rattle.wave_grammar.specs.Shared.TokenRoles.{form_of}
+use Rattle.wave_tree.specs.Private.TokenRoles.{form_of}
 use Rattle.wave_grammar.specs.NodeTree.{NodeTree}
 use Rattle.wave_grammar.specs.NodeParts.{TakesPart}
 use Rattle.wave_grammar.specs.declared.form.NodeType.TheVariants as kind
