@@ -22,7 +22,7 @@ use Rattle.wave_grammar.specs.SpannedTree.{SpannedTree, SpannedShape, MaybePlace
 use Rattle.wave_grammar.specs.NodeTree.{NodeTree, node, node_trees, type_of, place_of, node_list}
 use Rattle.wave_grammar.specs.Nodes.{placed_of, IsNodeOf}
 use Rattle.wave_grammar.specs.NodeAccessors.{RefusedAs, node_text}
-use Rattle.wave_grammar.specs.TypedReading.{IsTypedValue, IsBlamed, IsMade, IsValueOf}
+use Rattle.wave_grammar.specs.TypedReading.{IsTypedValue, IsBlamed, IsValueOf}
 use Rattle.wave_grammar.specs.Shared.TypedReading.{IsCaused, IsPayloadNodeOf, IsPayloadRead, IsPayloadBlamed}
 use Rattle.wave_grammar.specs.declared.form.NodeType.TheVariants as kind
 use Rattle.wave_grammar.proofs.ChildNodes.Inside.{inside, AreParsed, parsed, nodes_in}
@@ -32,6 +32,8 @@ use Rattle.wave_grammar.proofs.ByKind.Enums.{label_node}
 use Rattle.wave_grammar.proofs.ByKind.Variants.{VariantType, HasCase, CaseNode, variant_is, variant_fault, flag_text, case_found, case_missing, case_blame, no_case_blame, variant_made}
 use Rattle.wave_grammar.proofs.ErrorSpans.Nodes.{BelongsTo, children_belong, at_in, form_at, caused_at, made_in}
 use Rattle.wave_read.specs.Reading.{IsReadAs}
+use Rattle.wave_read.specs.Errors.{IsMadeOrMemory}
+use Rattle.wave_read.proofs.Errors.{made_anew}
 
 -- the type of a variant, by its kind
 pub variant_type : (T : TypeTree) → kind_of T ≡ kinds.Variant → VariantType T (variant_parts T)
@@ -181,8 +183,9 @@ module _ {V : Type 0} (tree : V → Value) (of : V → TypeTree → Type 0) (Ful
       }
 
   -- the label of a case without one
-  pub label_read : (T : TypeTree) (source : List ℕ) (n : NodeTree) (name : List ℕ) (m : Result V WasmValueError) (r : Result V Diagnostic) → kind_of T ≡ kinds.Variant → type_of n ≡ kind.Label → name ≡ name_of (node_text source n) → Some None ≡ look_up (variant_parts T) name → IfOk m (MakesVariant tree of T name None) → IfErr m (FullVariant of Full T name None) → IsMade n m r → IsReadAs tree of Full o w T source n r
+  pub label_read : (T : TypeTree) (source : List ℕ) (n : NodeTree) (name : List ℕ) (m : Result V WasmValueError) (r : Result V Diagnostic) → kind_of T ≡ kinds.Variant → type_of n ≡ kind.Label → name ≡ name_of (node_text source n) → Some None ≡ look_up (variant_parts T) name → IfOk m (MakesVariant tree of T name None) → IfErr m (FullVariant of Full T name None) → IsMadeOrMemory n m r → IsReadAs tree of Full o w T source n r
   label_read T source n name m r is ty named here ok full done =
+      made_anew (MakesVariant tree of T name None) (FullVariant of Full T name None) (n) m r (λ a f cs is P some of. tt) ok full done (λ m ok full done.
       let variant = variant_type T is in
       let found : HasCase variant.cases name type.no_type = case_found T (variant_parts T) variant name None here in
       record {
@@ -190,4 +193,4 @@ module _ {V : Type 0} (tree : V → Value) (of : V → TypeTree → Type 0) (Ful
             let k = label_case source n t name node ty named in
             variant_made tree of Full o w T variant.cases source t n name None k type.no_type None m r variant.is distinct found (none_read source k.payload k.node) ok full done;
         within = λ v. made_in source n m r (inl v) done;
-      }
+      })

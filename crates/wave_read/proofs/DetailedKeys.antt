@@ -52,15 +52,15 @@ detailed_blame Full T K source l p key e f is token (inl (other, same)) blamed =
     by (inl memory) = inl memory
     by (inr (inl (inl (named, none, told)))) =
         let labelled : l.ty ≡ kind.Label = named_label l.ty (node_text source (leaf_node l)) key (key_token source (leaf_node l) p key token) named in
-        absurd (other (labelled, ap (λ (r : Refusal). r.kind) told.0, ap (λ (r : Refusal). r.cause) told.0))
+        absurd (other (labelled, told.0))
     by (inr (inl (inr fault))) = inr (inl (inr fault))
     by (inr (inr full)) = inr (inr full)
-detailed_blame Full T K source l p key e f is token (inr (inl (label, says))) (inl memory) = absurd (cc (sym memory ∙ label.1))
+detailed_blame Full T K source l p key e f is token (inr (inl (label, says))) (inl memory) = let is : e.kind ≡ InvalidType = ap (λ (r : Refusal). r.kind) label.1 in absurd (cc (sym memory ∙ is))
 detailed_blame Full T K source l p key e f is token (inr (inl (label, says))) (inr (inl (inl (named, none, told)))) =
     inr (inl (inl (named, none, (says.is ∙ ap (λ (U : TypeTree). with_detail InvalidType (Some (key_due U))) is, says.stands ∙ told.1))))
 detailed_blame Full T K source l p key e f is token (inr (inl (label, says))) (inr (inl (inr (none, fault)))) =
     absurd (label_named l.ty (node_text source (leaf_node l)) key (key_token source (leaf_node l) p key token) label.0 none)
-detailed_blame Full T K source l p key e f is token (inr (inl (label, says))) (inr (inr full)) = absurd (cc (sym full.0 ∙ label.1))
+detailed_blame Full T K source l p key e f is token (inr (inl (label, says))) (inr (inr full)) = let is : e.kind ≡ InvalidType = ap (λ (r : Refusal). r.kind) label.1 in absurd (cc (sym full.0 ∙ is))
 detailed_blame Full T K source l p key e f is token (inr (inr (label, says))) blamed = inl (ap (λ (r : Refusal). r.kind) says.is)
 
 -- so of a key that was not read

@@ -31,7 +31,8 @@ use Rattle.wave_read.specs.declared.fault.Fault.{Fault}
 use Rattle.wave_read.specs.declared.fault.Fault.TheVariants as fault
 use Rattle.wave_read.specs.Faults.{Tells, IsFaultOf}
 use Rattle.wave_read.specs.NamedFlags.{flag_names, IsTold, TellsUnknown}
-use Rattle.wave_read.proofs.EnumCases.{no_memory}
+use Rattle.wave_read.proofs.Errors.{no_memory}
+use Rattle.wave_read.specs.Errors.{IsRefusedBy}
 
 names_from : (source : List ℕ) (es : List (Bor (List ℕ) × Range ℕ)) → AllOf (λ e. e.0.now ≡ name_of (slice source e.1)) es → names_at source (node_list (node_trees (map label_at (values_of es)))) ≡ texts (keys_of es)
 names_from source [] h = refl
@@ -77,11 +78,11 @@ module _ {V : Type 0} (tree : V → Value) (of : V → TypeTree → Type 0) (Ful
   pub flags_refused : (T : TypeTree) (flags : List (List ℕ)) (source : List ℕ) (n : NodeTree) (picked : List (Bor (List ℕ))) (cause : WasmValueError) (f : Fault) (r : Result V Diagnostic) → IsFaultOf cause f → kinds.Flags ≡ kind_of T → AreAllOf (flags_names T) flags → (AreDistinct (flags_names T) → texts picked ≡ found_in flags (flags_names T)) →
       FullFlags of Full T picked cause → AreFlags n → names_at source (children_of n) ≡ flags → IsTold (Err f) (place_of n) r → IsReadAs tree of Full o w T source n r
   flags_refused T flags source n picked cause f (Ok w) caused kind known found full ok named told = absurd told
-  flags_refused T flags source n picked cause (fault.Cause c) (Err e) caused kind known found full ok named told =
-      made_read T flags source n picked (Err cause) (Err e) kind known found tt full ok named (told.0 ∙ caused, told.1)
-  flags_refused T flags source n picked cause (fault.Kind k) (Err e) caused kind known found full ok named told =
-      no_memory tree of Full o w T source n e (subst (λ k. RefusedAs k n e) caused.0 told)
-  flags_refused T flags source n picked cause (fault.Told d) (Err e) caused kind known found full ok named told = absurd caused
+  flags_refused T flags source n picked cause f (Err e) caused kind known found full ok named told = by (caused (place_of n) e told)
+    where
+      by : IsRefusedBy cause e × (e.span ≡ place_of n) → IsReadAs tree of Full o w T source n (Err e)
+      by (inl same, place) = made_read T flags source n picked (Err cause) (Err e) kind known found tt full ok named (same, place)
+      by (inr memory, place) = no_memory tree of Full o w T source n e (record { is = memory.1; stands = place })
 
   -- a node that is neither flags nor `{}`
   pub other_form : (T : TypeTree) (source : List ℕ) (n : NodeTree) (e : Diagnostic) → kinds.Flags ≡ kind_of T → type_of n ≢ kind.Flags → type_of n ≢ kind.EmptySet → RefusedAs InvalidType n e → IsReadAs tree of Full o w T source n (Err e)

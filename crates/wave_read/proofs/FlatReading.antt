@@ -13,7 +13,6 @@ use Rattle.wave_grammar.specs.TypedGrammar.{IsFlat}
 use Rattle.wave_grammar.specs.NodeTree.{NodeTree, node, node_trees, type_of, place_of}
 use Rattle.wave_grammar.specs.declared.form.NodeType.{NodeType}
 use Rattle.wave_grammar.specs.NodeAccessors.{RefusedAs}
-use Rattle.wave_grammar.specs.TypedReading.{IsMade}
 use Rattle.wave_grammar.proofs.ByKind.Options.{flat_made, flat_blame}
 use Rattle.wave_grammar.proofs.ByKind.Results.{result_flat_made, result_flat_blame}
 use Rattle.wave_grammar.proofs.ErrorSpans.Nodes.{made_in}
@@ -24,6 +23,8 @@ use Rattle.wave_read.specs.KeptParts.{AreOfType}
 use Rattle.wave_read.specs.PartsOfKinds.{AreDoomedAtOnce, AreParts, IsSimpleAt}
 use Rattle.wave_read.specs.declared.parts.Partial.{Partial}
 use Rattle.wave_read.specs.declared.values.Frame.{Frame}
+use Rattle.wave_read.specs.Errors.{IsMadeOrMemory}
+use Rattle.wave_read.proofs.Errors.{made_anew}
 
 -- what a node of another form would be refused for
 abbrev other_form : NodeTree → Diagnostic
@@ -44,18 +45,20 @@ module _ {V : Type 0} (tree : V → Value) (of : V → TypeTree → Type 0) (Ful
   flat_refused _ U source n e parts h read = absurd h
 
   -- an option around a value of the payload's type
-  pub option_around : (T U : TypeTree) (source : List ℕ) (n : NodeTree) (v : V) (m : Result V WasmValueError) (r : Result V Diagnostic) → kind_of T ≡ kinds.Option → IsFlatAt T (type_of n) U → IsReadAs tree of Full o w U source n (Ok v) → IfOk m (MakesOption tree of T (Some v)) → IfErr m (FullOption of Full T (Some v)) → IsMade n m r → IsReadAs tree of Full o w T source n r
+  pub option_around : (T U : TypeTree) (source : List ℕ) (n : NodeTree) (v : V) (m : Result V WasmValueError) (r : Result V Diagnostic) → kind_of T ≡ kinds.Option → IsFlatAt T (type_of n) U → IsReadAs tree of Full o w U source n (Ok v) → IfOk m (MakesOption tree of T (Some v)) → IfErr m (FullOption of Full T (Some v)) → IsMadeOrMemory n m r → IsReadAs tree of Full o w T source n r
   option_around (type.option P) U source n v m r kind h read makes full done =
+      made_anew (MakesOption tree of (type.option P) (Some v)) (FullOption of Full (type.option P) (Some v)) (n) m r (λ a f P is of. tt) makes full done (λ m makes full done.
       let inner : IsReadAs tree of Full o w P source n (Ok v) = subst (λ (W : TypeTree). IsReadAs tree of Full o w W source n (Ok v)) h.0 read in
-      record { answer = λ t is distinct. flat_made tree of Full o w (type.option P) P t n v m r refl distinct h.1 (inner.answer t is distinct) makes full done; within = λ value. made_in source n m r (inl value) done }
+      record { answer = λ t is distinct. flat_made tree of Full o w (type.option P) P t n v m r refl distinct h.1 (inner.answer t is distinct) makes full done; within = λ value. made_in source n m r (inl value) done })
   option_around (type.result A B) U source n v m r kind h read makes full done = absurd (cc kind)
   option_around _ U source n v m r kind h read makes full done = absurd h
 
   -- a result around one
-  pub result_around : (T U : TypeTree) (source : List ℕ) (n : NodeTree) (v : V) (m : Result V WasmValueError) (r : Result V Diagnostic) → kind_of T ≢ kinds.Option → IsFlatAt T (type_of n) U → IsReadAs tree of Full o w U source n (Ok v) → IfOk m (MakesResult tree of T (Ok (Some v))) → IfErr m (FullResult of Full T (Ok (Some v))) → IsMade n m r → IsReadAs tree of Full o w T source n r
+  pub result_around : (T U : TypeTree) (source : List ℕ) (n : NodeTree) (v : V) (m : Result V WasmValueError) (r : Result V Diagnostic) → kind_of T ≢ kinds.Option → IsFlatAt T (type_of n) U → IsReadAs tree of Full o w U source n (Ok v) → IfOk m (MakesResult tree of T (Ok (Some v))) → IfErr m (FullResult of Full T (Ok (Some v))) → IsMadeOrMemory n m r → IsReadAs tree of Full o w T source n r
   result_around (type.result (type.a_type A) B) U source n v m r kind h read makes full done =
+      made_anew (MakesResult tree of (type.result (type.a_type A) B) (Ok (Some v))) (FullResult of Full (type.result (type.a_type A) B) (Ok (Some v))) (n) m r (λ a f A B is of. tt) makes full done (λ m makes full done.
       let inner : IsReadAs tree of Full o w A source n (Ok v) = subst (λ (W : TypeTree). IsReadAs tree of Full o w W source n (Ok v)) h.0 read in
-      record { answer = λ t is distinct. result_flat_made tree of Full o w (type.result (type.a_type A) B) A B t n v m r refl distinct h.1 (inner.answer t is distinct.0) makes full done; within = λ value. made_in source n m r (inl value) done }
+      record { answer = λ t is distinct. result_flat_made tree of Full o w (type.result (type.a_type A) B) A B t n v m r refl distinct h.1 (inner.answer t is distinct.0) makes full done; within = λ value. made_in source n m r (inl value) done })
   result_around (type.option P) U source n v m r kind h read makes full done = absurd (kind refl)
   result_around _ U source n v m r kind h read makes full done = absurd h
 

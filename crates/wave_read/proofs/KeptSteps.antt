@@ -10,10 +10,9 @@ use Rattle.wave_lex.specs.Errors.{Diagnostic, Says}
 use Rattle.wave_lex.specs.declared.error.ParserErrorKind.TheVariants.{InvalidType}
 use Rattle.wave_grammar.specs.NodeTree.{NodeTree, node, node_trees}
 use Rattle.wave_grammar.specs.declared.form.NodeType.{NodeType}
-use Rattle.wave_read.specs.Failures.{IsKept}
 use Rattle.wave_read.specs.PlainReading.{IsPlain, TakesMemory, SparesWhereDue}
 use Rattle.wave_read.specs.Reading.{IsReadAs, IsReadWhereDue}
-use Rattle.wave_read.proofs.Kept.{plainly_kept, form_spares}
+use Rattle.wave_read.proofs.Errors.{form_spares}
 use Rattle.wave_read.specs.Flat.{IsFlatAt}
 use Rattle.wave_read.specs.KeptParts.{AreOfType, AreKeptWhereDue}
 use Rattle.wave_read.specs.PartsOfKinds.{AreParts, IsBare, IsSimpleAt}
@@ -59,9 +58,9 @@ module _ {S V : Type 0} (type_tree : S → TypeTree) (tree : V → Value) (of : 
         (around held.1.0 (subst (λ (W : TypeTree). IsFlatAt W ty held.1.0) (sym held.0) held.1.1) (whole held.1.0 held.1.2))
 
     -- at a plain type it is refused without memory
-    pub alone_spares : (due : Option TypeTree) (n : NodeTree) (kept : Frame S V) (r s : Result V Diagnostic) → ((T : TypeTree) → IsPlain T → IsSimpleAt type_tree T kept.parts → IfErr r (λ e. Says e InvalidType place None)) → IsKept r s → AreKeptWhereDue type_tree tree of Full w due source ty children kept → SparesWhereDue due n s
-    alone_spares None n kept r s whole same h = tt
-    alone_spares (Some T) n kept r s whole same h = λ plain row. form_spares s place (plainly_kept r s InvalidType place (whole T plain (h.1 plain)) same)
+    pub alone_spares : (due : Option TypeTree) (n : NodeTree) (kept : Frame S V) (r : Result V Diagnostic) → ((T : TypeTree) → IsPlain T → IsSimpleAt type_tree T kept.parts → IfErr r (λ e. Says e InvalidType place None)) → AreKeptWhereDue type_tree tree of Full w due source ty children kept → SparesWhereDue due n r
+    alone_spares None n kept r whole h = tt
+    alone_spares (Some T) n kept r whole h = λ plain row. form_spares r place (whole T plain (h.1 plain))
 
     -- and nothing is around it
     pub around_spares : (due : Option TypeTree) (n : NodeTree) (kept : Frame S V) (x : Bor S) (s : Result V Diagnostic) → kept.around ≡ Some x → AreKeptWhereDue type_tree tree of Full w due source ty children kept → SparesWhereDue due n s

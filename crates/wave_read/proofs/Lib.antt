@@ -30,6 +30,6 @@ mod Strings
 pub mod PlainTypes
 pub mod SimpleTypes
 mod SoonRead
-pub mod Kept
+pub mod Errors
 pub mod NamedKinds
 pub mod WholeErrors

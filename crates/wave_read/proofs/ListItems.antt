@@ -13,7 +13,7 @@ use Rattle.wave_lex.specs.declared.error.ParserErrorKind.TheVariants.{InvalidTyp
 use Rattle.wave_grammar.specs.SpannedTree.{SpannedTree}
 use Rattle.wave_grammar.specs.NodeTree.{NodeTree, node, node_trees, type_of, children_of}
 use Rattle.wave_grammar.specs.NodeAccessors.{RefusedAs}
-use Rattle.wave_grammar.specs.TypedReading.{IsBlamed, IsMade}
+use Rattle.wave_grammar.specs.TypedReading.{IsBlamed}
 use Rattle.wave_grammar.specs.Shared.TypedReading.{IsOfLength, IsOtherLength}
 use Rattle.wave_grammar.specs.declared.form.NodeType.TheVariants as kind
 use Rattle.wave_grammar.proofs.ByKind.Leaves.{said}
@@ -23,6 +23,8 @@ use Rattle.wave_grammar.proofs.ErrorSpans.Nodes.{at_in, form_at, caused_at, deep
 use Rattle.wave_read.specs.Reading.{IsReadAs, IsReadWhereDue}
 use Rattle.wave_read.specs.ListParts.{unless_held, AllReadAs, IsFirstRefused, ReadOrHeld}
 use Rattle.wave_grammar.proofs.Faultless.{value_fine}
+use Rattle.wave_read.specs.Errors.{IsMadeOrMemory}
+use Rattle.wave_read.proofs.Errors.{made_anew}
 
 -- there is one node more
 pub one_more : (ns : List NodeTree) (n : NodeTree) (count next : ℕ) → count ≡ length ns → next ≡ count + 1 → next ≡ length (ns ++ n ∷ [])
@@ -128,12 +130,14 @@ module _ {V : Type 0} (tree : V → Value) (of : V → TypeTree → Type 0) (Ful
       }
 
   -- the list was made, or its constructor refused
-  pub list_read : (T E : TypeTree) (source : List ℕ) (p : Range ℕ) (ns : List NodeTree) (vs : List V) (count : ℕ) (m : Result V WasmValueError) (r : Result V Diagnostic) → list_part T ≡ Some E → count ≡ length ns → IsOfLength T count → AllReadAs tree of Full w E source ns vs → IfOk m (MakesList tree of T vs) → IfErr m (FullList of Full T vs) → IsMade (node kind.List p (node_trees ns)) m r → IsReadAs tree of Full o w T source (node kind.List p (node_trees ns)) r
-  list_read T E source p ns vs count m r part many long all ok full done = record {
-    answer = λ t is distinct.
-        let children : ns ≡ children_of (node kind.List p (node_trees ns)) = sym (list_of_trees ns) in
-        let inner = list_nodes source (node kind.List p (node_trees ns)) t is refl in
-        let nodes : AreNodesOf source ns inner.items = given_nodes source (node kind.List p (node_trees ns)) t ns is refl children in
-        list_made tree of Full o w T E t inner.items vs (node kind.List p (node_trees ns)) m r (list_is T E (length inner.items) part (subst (IsOfLength T) (many ∙ as_many source ns inner.items nodes) long)) distinct inner.shape (all_placed E source ns inner.items vs (element_distinct T E part distinct) nodes all) ok full done;
-    within = λ value. made_in source (node kind.List p (node_trees ns)) m r (inl value) done;
-  }
+  pub list_read : (T E : TypeTree) (source : List ℕ) (p : Range ℕ) (ns : List NodeTree) (vs : List V) (count : ℕ) (m : Result V WasmValueError) (r : Result V Diagnostic) → list_part T ≡ Some E → count ≡ length ns → IsOfLength T count → AllReadAs tree of Full w E source ns vs → IfOk m (MakesList tree of T vs) → IfErr m (FullList of Full T vs) → IsMadeOrMemory (node kind.List p (node_trees ns)) m r → IsReadAs tree of Full o w T source (node kind.List p (node_trees ns)) r
+  list_read T E source p ns vs count m r part many long all ok full done =
+      made_anew (MakesList tree of T vs) (FullList of Full T vs) (node kind.List p (node_trees ns)) m r (λ a f E is all. tt) ok full done (λ m ok full done.
+      record {
+        answer = λ t is distinct.
+            let children : ns ≡ children_of (node kind.List p (node_trees ns)) = sym (list_of_trees ns) in
+            let inner = list_nodes source (node kind.List p (node_trees ns)) t is refl in
+            let nodes : AreNodesOf source ns inner.items = given_nodes source (node kind.List p (node_trees ns)) t ns is refl children in
+            list_made tree of Full o w T E t inner.items vs (node kind.List p (node_trees ns)) m r (list_is T E (length inner.items) part (subst (IsOfLength T) (many ∙ as_many source ns inner.items nodes) long)) distinct inner.shape (all_placed E source ns inner.items vs (element_distinct T E part distinct) nodes all) ok full done;
+        within = λ value. made_in source (node kind.List p (node_trees ns)) m r (inl value) done;
+      })

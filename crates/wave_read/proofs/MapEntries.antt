@@ -19,7 +19,7 @@ use Rattle.wave_grammar.specs.TypeErrors.{MapKeyFault}
 use Rattle.wave_grammar.specs.NodeTree.{NodeTree, node, no_nodes, node_trees, type_of}
 use Rattle.wave_grammar.specs.Nodes.{IsNodeOf, IsTokenOf}
 use Rattle.wave_grammar.specs.NodeAccessors.{RefusedAs, node_pairs}
-use Rattle.wave_grammar.specs.TypedReading.{IsKeyRead, IsMade, IsValueOf, IsKeyOf}
+use Rattle.wave_grammar.specs.TypedReading.{IsKeyRead, IsValueOf, IsKeyOf}
 use Rattle.wave_grammar.specs.Shared.TypedReading.{AnswersMapKey}
 use Rattle.wave_grammar.specs.Shared.ErrorSpans.{RefusesIn}
 use Rattle.wave_grammar.specs.declared.form.NodeType.TheVariants as kind
@@ -34,6 +34,8 @@ use Rattle.wave_grammar.proofs.ErrorSpans.Nodes.{BelongsTo, children_belong, dee
 use Rattle.wave_read.specs.Reading.{IsReadAs}
 use Rattle.wave_read.proofs.KeyedChildren.{ArePaired, paired_from}
 use Rattle.wave_read.specs.MapParts.{AreReadInTurn}
+use Rattle.wave_read.specs.Errors.{IsMadeOrMemory}
+use Rattle.wave_read.proofs.Errors.{made_anew}
 
 -- ---- the type
 
@@ -335,31 +337,33 @@ module _ {V : Type 0} (tree : V → Value) (of : V → TypeTree → Type 0) (Ful
       subst (λ (l : List PlacedEntry). EntriesRead tree of Full K U l xs) same (d.read distinct)
 
   -- the map was made of the merged entries, or its constructor refused
-  pub entries_made : (T S U : TypeTree) (source : List ℕ) (ns : List NodeTree) (xs handed : List (V × V)) (waits : Option V) (p : Range ℕ) (made_map : Result V WasmValueError) (r : Result V Diagnostic) → IsMapOf T S U → AreReadInTurn tree of Full w S U source ns xs waits → ((v : V) (T : TypeTree) → of v T → HasType T (tree v)) → handed ≡ merge (same_texts tree of Full) xs → IfOk made_map (MakesMap tree of T handed) → IfErr made_map (FullMap of Full T handed) → IsMade (node kind.TupleSet p (node_trees ns)) made_map r → IsReadAs tree of Full o w T source (node kind.TupleSet p (node_trees ns)) r
+  pub entries_made : (T S U : TypeTree) (source : List ℕ) (ns : List NodeTree) (xs handed : List (V × V)) (waits : Option V) (p : Range ℕ) (made_map : Result V WasmValueError) (r : Result V Diagnostic) → IsMapOf T S U → AreReadInTurn tree of Full w S U source ns xs waits → ((v : V) (T : TypeTree) → of v T → HasType T (tree v)) → handed ≡ merge (same_texts tree of Full) xs → IfOk made_map (MakesMap tree of T handed) → IfErr made_map (FullMap of Full T handed) → IsMadeOrMemory (node kind.TupleSet p (node_trees ns)) made_map r → IsReadAs tree of Full o w T source (node kind.TupleSet p (node_trees ns)) r
   entries_made T S U source ns xs handed (Some x) p made_map r m h fits merged ok full done =
       record {
         answer = λ t is distinct. absurd (key_alone m.key S U source ns xs x p t m.key_is h is);
         within = λ value. absurd (key_alone m.key S U source ns xs x p value.0 m.key_is h value.1);
       }
   entries_made T S U source ns xs handed None p made_map r m h fits merged ok full done =
+      made_anew (MakesMap tree of T handed) (FullMap of Full T handed) (node kind.TupleSet p (node_trees ns)) made_map r (λ a f K V is all. tt) ok full done (λ made_map ok full done.
       record {
         answer = λ t is distinct.
             let c = map_children source ns p t is in
             let all = all_read m.key S U source ns xs (entry_list c.given) m.key_is h c.nodes (map_distinct T S U m distinct) in
             map_made tree of Full o w T S U t c.given xs handed (node kind.TupleSet p (node_trees ns)) made_map r m distinct c.shape fits all merged ok full done;
         within = λ value. made_in source (node kind.TupleSet p (node_trees ns)) made_map r (inl value) done;
-      }
+      })
 
   -- the map of `{}` was made, or its constructor refused
-  pub none_made : (T : TypeTree) (source : List ℕ) (p : Range ℕ) (handed : List (V × V)) (made_map : Result V WasmValueError) (r : Result V Diagnostic) → kind_of T ≡ kinds.Map → ((v : V) (T : TypeTree) → of v T → HasType T (tree v)) → handed ≡ [] → IfOk made_map (MakesMap tree of T handed) → IfErr made_map (FullMap of Full T handed) → IsMade (node kind.EmptySet p no_nodes) made_map r → IsReadAs tree of Full o w T source (node kind.EmptySet p no_nodes) r
+  pub none_made : (T : TypeTree) (source : List ℕ) (p : Range ℕ) (handed : List (V × V)) (made_map : Result V WasmValueError) (r : Result V Diagnostic) → kind_of T ≡ kinds.Map → ((v : V) (T : TypeTree) → of v T → HasType T (tree v)) → handed ≡ [] → IfOk made_map (MakesMap tree of T handed) → IfErr made_map (FullMap of Full T handed) → IsMadeOrMemory (node kind.EmptySet p no_nodes) made_map r → IsReadAs tree of Full o w T source (node kind.EmptySet p no_nodes) r
   none_made T source p handed made_map r is_map fits none ok full done =
+      made_anew (MakesMap tree of T handed) (FullMap of Full T handed) (node kind.EmptySet p no_nodes) made_map r (λ a f K V is all. tt) ok full done (λ made_map ok full done.
       let (K, U, same) = of_map_kind T is_map in
       record {
         answer = λ t is distinct.
             let c = map_nodes source (node kind.EmptySet p no_nodes) t is (inr refl) in
             map_made tree of Full o w T (type.simple K) U t c.given [] handed (node kind.EmptySet p no_nodes) made_map r (record { key = K; key_is = refl; is = same }) distinct c.shape fits (nothing K U (entry_list c.given) c.nodes) none ok full done;
         within = λ value. made_in source (node kind.EmptySet p no_nodes) made_map r (inl value) done;
-      }
+      })
     where
       nothing : (K : Simple) (U : TypeTree) (es : List PlacedEntry) → AreEntriesOf source [] es → EntriesRead tree of Full K U es []
       nothing K U [] h = tt

@@ -11,7 +11,7 @@ use Rattle.wave_wasm.specs.ConstructorContracts.{MakesMap, FullMap, HasFullParts
 use Rattle.wave_wasm.specs.declared.wasm.WasmValueError.{WasmValueError}
 use Rattle.wave_lex.specs.Errors.{Diagnostic}
 use Rattle.wave_grammar.specs.NodeTree.{NodeTree, node, node_trees}
-use Rattle.wave_grammar.specs.TypedReading.{IsMade, IsKeyOf}
+use Rattle.wave_grammar.specs.TypedReading.{IsKeyOf}
 use Rattle.wave_grammar.specs.Shared.TypedReading.{AnswersMapKey}
 use Rattle.wave_grammar.specs.Shared.ErrorSpans.{RefusesIn}
 use Rattle.wave_grammar.specs.declared.form.NodeType.TheVariants as kind
@@ -24,6 +24,7 @@ use Rattle.wave_read.specs.declared.fault.Fault.TheVariants as fault
 use Rattle.wave_read.specs.declared.maps.Entries.{Entries}
 use Rattle.wave_read.proofs.Doomed.{told_dooms}
 use Rattle.wave_read.proofs.MapEntries.{none_waits, one_waits, key_more, value_more, key_dooms, value_dooms, entries_made}
+use Rattle.wave_read.specs.Errors.{IsMadeOrMemory}
 
 module _ {V : Type 0} (tree : V → Value) (of : V → TypeTree → Type 0) (Full : TypeTree → Type 0) (o w : Order) {X : Type 0} (type_tree : X → TypeTree) (T : TypeTree) (source : List ℕ) where
   module _ (children : List NodeTree) (x : Entries X V) (h : AreEntries type_tree tree of Full w T source children x) where
@@ -44,7 +45,7 @@ module _ {V : Type 0} (tree : V → Value) (of : V → TypeTree → Type 0) (Ful
     }
 
     -- a key was refused
-    pub key_refused : (k : NodeTree) (e : Diagnostic) → HasFullParts Full → TakesKey kind.TupleSet children → AnswersMapKey tree of Full (type_tree x.key_type.now) source k (Err e) → (IsKeyOf source k → RefusesIn k e) → IsDoomed tree of Full o w T source kind.TupleSet (children ++ k ∷ []) (fault.Told e)
+    pub key_refused : (k : NodeTree) (e : Diagnostic) → HasFullParts Full → TakesKey kind.TupleSet children → AnswersMapKey tree of Full (type_tree x.key_type.now) source k (Err e) → (IsKeyOf source k → RefusesIn k e) → IsDoomed tree of Full o w T source kind.TupleSet (children ++ k ∷ []) (fault.Part e)
     key_refused k e parts even blamed within =
         told_dooms tree of Full o w T source kind.TupleSet (children ++ k ∷ []) e (λ more p. key_dooms tree of Full o w T (type_tree x.key_type.now) (type_tree x.value_type.now) source children more x.entries.items k p e parts_of parts (read_for_key even) blamed within)
 
@@ -77,13 +78,13 @@ module _ {V : Type 0} (tree : V → Value) (of : V → TypeTree → Type 0) (Ful
         absurd (cc (sym waits ∙ is))
 
     -- a value was refused
-    pub value_refused : (n : NodeTree) (r : Result V Diagnostic) (e : Diagnostic) → HasFullParts Full → TakesPart kind.TupleSet children → r ≡ Err e → IsReadWhereDue tree of Full w w (shown type_tree (value_type_due x)) source n r → IsDoomed tree of Full o w T source kind.TupleSet (children ++ n ∷ []) (fault.Told e)
+    pub value_refused : (n : NodeTree) (r : Result V Diagnostic) (e : Diagnostic) → HasFullParts Full → TakesPart kind.TupleSet children → r ≡ Err e → IsReadWhereDue tree of Full w w (shown type_tree (value_type_due x)) source n r → IsDoomed tree of Full o w T source kind.TupleSet (children ++ n ∷ []) (fault.Part e)
     value_refused n r e parts odd made read =
         let (key, waits) = key_before_value odd in
         let here : IsReadAs tree of Full w w (type_tree x.value_type.now) source n (Err e) = subst (IsReadAs tree of Full w w (type_tree x.value_type.now) source n) made (due_type key n r waits read) in
         told_dooms tree of Full o w T source kind.TupleSet (children ++ n ∷ []) e (λ more p. value_dooms tree of Full o w T (type_tree x.key_type.now) (type_tree x.value_type.now) source children more x.entries.items key n p e parts_of parts (read_for_value key waits) here)
 
     -- the map was made of the merged entries, or its constructor refused
-    pub whole_made : (p : Range ℕ) (handed : List (V × V)) (made_map : Result V WasmValueError) (r : Result V Diagnostic) → ((v : V) (U : TypeTree) → of v U → HasType U (tree v)) → handed ≡ merge (same_texts tree of Full) x.entries.items → IfOk made_map (MakesMap tree of (type_tree x.ty.now) handed) → IfErr made_map (FullMap of Full (type_tree x.ty.now) handed) → IsMade (node kind.TupleSet p (node_trees children)) made_map r → IsReadAs tree of Full o w T source (node kind.TupleSet p (node_trees children)) r
+    pub whole_made : (p : Range ℕ) (handed : List (V × V)) (made_map : Result V WasmValueError) (r : Result V Diagnostic) → ((v : V) (U : TypeTree) → of v U → HasType U (tree v)) → handed ≡ merge (same_texts tree of Full) x.entries.items → IfOk made_map (MakesMap tree of (type_tree x.ty.now) handed) → IfErr made_map (FullMap of Full (type_tree x.ty.now) handed) → IsMadeOrMemory (node kind.TupleSet p (node_trees children)) made_map r → IsReadAs tree of Full o w T source (node kind.TupleSet p (node_trees children)) r
     whole_made p handed made_map r fits merged ok full done =
         entries_made tree of Full o w T (type_tree x.key_type.now) (type_tree x.value_type.now) source children x.entries.items handed x.key p made_map r parts_of h.read fits merged (subst (λ (U : TypeTree). IfOk made_map (MakesMap tree of U handed)) h.type_is ok) (subst (λ (U : TypeTree). IfErr made_map (FullMap of Full U handed)) h.type_is full) done

@@ -14,7 +14,6 @@ use Rattle.wave_grammar.specs.SpannedTree.{SpannedTree}
 use Rattle.wave_grammar.specs.NodeTree.{NodeTree, node, node_trees, type_of}
 use Rattle.wave_grammar.specs.Nodes.{IsNodeOf}
 use Rattle.wave_grammar.specs.NodeAccessors.{RefusedAs}
-use Rattle.wave_grammar.specs.TypedReading.{IsMade}
 use Rattle.wave_grammar.specs.declared.form.NodeType.TheVariants as node_type
 use Rattle.wave_grammar.proofs.ByKind.Options.{SomeNode, some_node, given_none, some_made, some_blame, none_made, option_fault}
 use Rattle.wave_grammar.proofs.ErrorSpans.Nodes.{made_in, deeper, first_belongs, at_in, form_at}
@@ -23,6 +22,8 @@ use Rattle.wave_read.specs.Flat.{IsFlatAt}
 use Rattle.wave_wasm.proofs.TypeKinds.{formed_as}
 use Rattle.wave_read.specs.Faults.{IsMadeAt}
 use Rattle.wave_read.specs.Payloads.{IsReadPayload}
+use Rattle.wave_read.specs.Errors.{IsMadeOrMemory}
+use Rattle.wave_read.proofs.Errors.{made_anew}
 
 -- the node of `some` of these
 abbrev some_of : Range ℕ → List NodeTree → NodeTree
@@ -39,9 +40,10 @@ module _ {V : Type 0} (tree : V → Value) (of : V → TypeTree → Type 0) (Ful
   -- `some` of a value
   pub some_read : (T P : TypeTree) (source : List ℕ) (p : Range ℕ) (children : List NodeTree) (v : V) (m : Result V WasmValueError) (r : Result V Diagnostic) → T ≡ type.option P → IsReadPayload tree of Full w (Some P) source children (Some (Ok v)) → IfOk m (MakesOption tree of T (Some v)) → IfErr m (FullOption of Full T (Some v)) → IsMadeAt p m r → IsReadAs tree of Full o w T source (some_of p children) r
   some_read T P source p children v m r option (inner, is, read) makes full done =
+      made_anew (MakesOption tree of T (Some v)) (FullOption of Full T (Some v)) (some_of p (inner ∷ [])) m r (λ a f P is of. tt) makes full (done (some_of p (inner ∷ [])) refl) (λ m makes full done.
       let n = some_of p (inner ∷ []) in
       subst (λ (ns : List NodeTree). IsReadAs tree of Full o w T source (some_of p ns) r) (sym is)
-      (record { answer = λ t here distinct. let k = some_node source n t here refl in some_made tree of Full o w T P t k.payload n v m r option distinct k.shape (read.answer k.payload (some_payload source p inner t k) (subst HasDistinctNames option distinct)) makes full (done n refl); within = λ value. made_in source n m r (inl value) (done n refl) })
+      (record { answer = λ t here distinct. let k = some_node source n t here refl in some_made tree of Full o w T P t k.payload n v m r option distinct k.shape (read.answer k.payload (some_payload source p inner t k) (subst HasDistinctNames option distinct)) makes full done; within = λ value. made_in source n m r (inl value) done }))
 
   -- `some` of a payload that was refused
   pub some_refused : (T P : TypeTree) (source : List ℕ) (p : Range ℕ) (children : List NodeTree) (e : Diagnostic) → T ≡ type.option P → HasFullParts Full → IsReadPayload tree of Full w (Some P) source children (Some (Err e)) → IsReadAs tree of Full o w T source (some_of p children) (Err e)
@@ -51,10 +53,11 @@ module _ {V : Type 0} (tree : V → Value) (of : V → TypeTree → Type 0) (Ful
       (record { answer = λ t here distinct. let k = some_node source n t here refl in some_blame tree of Full o w T P t k.payload e option k.shape parts (read.answer k.payload (some_payload source p inner t k) (subst HasDistinctNames option distinct)); within = λ value. let k = some_node source n value.0 value.1 refl in deeper n inner e (first_belongs source n (Some inner) value refl inner refl) (read.within (k.payload, some_payload source p inner value.0 k)) })
 
   -- `none`
-  pub none_read : (T : TypeTree) (source : List ℕ) (n : NodeTree) (m : Result V WasmValueError) (r : Result V Diagnostic) → kind_of T ≡ kinds.Option → type_of n ≡ node_type.OptionNone → IfOk m (MakesOption tree of T None) → IfErr m (FullOption of Full T None) → IsMade n m r → IsReadAs tree of Full o w T source n r
+  pub none_read : (T : TypeTree) (source : List ℕ) (n : NodeTree) (m : Result V WasmValueError) (r : Result V Diagnostic) → kind_of T ≡ kinds.Option → type_of n ≡ node_type.OptionNone → IfOk m (MakesOption tree of T None) → IfErr m (FullOption of Full T None) → IsMadeOrMemory n m r → IsReadAs tree of Full o w T source n r
   none_read T source n m r kind form makes full done =
+      made_anew (MakesOption tree of T None) (FullOption of Full T None) (n) m r (λ a f P is of. tt) makes full done (λ m makes full done.
       let option = formed_as kinds.Option T (sym kind) in
-      record { answer = λ t is distinct. none_made tree of Full o w T option.0 source t n m r option.1 distinct (given_none source n t is (inr (form, refl))) makes full done; within = λ value. made_in source n m r (inl value) done }
+      record { answer = λ t is distinct. none_made tree of Full o w T option.0 source t n m r option.1 distinct (given_none source n t is (inr (form, refl))) makes full done; within = λ value. made_in source n m r (inl value) done })
 
   -- at an option, a node of another form than an option's and a flat payload's
   pub other_option : (T : TypeTree) (source : List ℕ) (n : NodeTree) (e : Diagnostic) → kind_of T ≡ kinds.Option → type_of n ≢ node_type.OptionSome → type_of n ≢ node_type.OptionNone → ((U : TypeTree) → IsFlatAt T (type_of n) U → ⊥) → RefusedAs InvalidType n e → IsReadAs tree of Full o w T source n (Err e)

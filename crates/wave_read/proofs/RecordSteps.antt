@@ -38,6 +38,7 @@ use Rattle.wave_read.proofs.Doomed.{told_dooms}
 use Rattle.wave_read.proofs.KeyedChildren.{pairs_with_key, key_waits, pairs_with_value, none_waits, odd_waits}
 use Rattle.wave_read.proofs.RecordFaults.{key_dooms, unknown_dooms, value_dooms}
 use Rattle.wave_read.proofs.RecordFields.{has_got, has_mapped, holds_at, one_of_fields, part_names, same_parts, same_names, kept_more, value_kept}
+use Rattle.wave_read.proofs.Errors.{plain_says}
 
 module _ {V : Type 0} (tree : V → Value) (of : V → TypeTree → Type 0) (Full : TypeTree → Type 0) (w : Order) {S : Type 0} (type_tree : S → TypeTree) (T : TypeTree) (source : List ℕ) where
   -- what is said of fields speaks of their type, of them and of what is due alone
@@ -115,17 +116,15 @@ module _ {V : Type 0} (tree : V → Value) (of : V → TypeTree → Type 0) (Ful
 
     -- a key with a fault dooms the record
     pub key_doomed : (k : NodeTree) (f : Fault) → TakesKey kind.TupleSet children → IsKeyFault x.fields.items (type_of k) (place_of k) (node_text source k) f → IsDoomed tree of Full in_text w T source kind.TupleSet (children ++ k ∷ []) f
-    key_doomed k (fault.Told e) even (inl (apart, says)) =
+    key_doomed k (fault.Part e) even (inl (apart, says)) =
         told_dooms tree of Full in_text w T source kind.TupleSet (children ++ k ∷ []) e (λ more p. key_dooms tree of Full w T (map (part_of type_tree) x.fields.items) is_record source children more p e entries_read k even.0 even.1 (λ distinct. inl (apart, says)) (said_here k e why.InvalidType _ (λ was. cc) tt says))
-    key_doomed k (fault.Kind c) even (inl (apart, told)) = absurd told
-    key_doomed k (fault.Cause c) even (inl (apart, told)) = absurd told
-    key_doomed k (fault.Told e) even (inr (inr (label, before, says))) =
+    key_doomed k (fault.Whole c) even (inl (apart, told)) = absurd told
+    key_doomed k (fault.Part e) even (inr (inr (label, before, says))) =
         told_dooms tree of Full in_text w T source kind.TupleSet (children ++ k ∷ []) e (λ more p. key_dooms tree of Full w T (map (part_of type_tree) x.fields.items) is_record source children more p e entries_read k even.0 even.1 (λ distinct. inr (label, read_name (name_of (node_text source k)) (h.begun.kept distinct) before, says)) (said_here k e why.DuplicateField _ (λ was. cc) tt says))
-    key_doomed k (fault.Kind c) even (inr (inr (label, before, told))) = absurd told
-    key_doomed k (fault.Cause c) even (inr (inr (label, before, told))) = absurd told
+    key_doomed k (fault.Whole c) even (inr (inr (label, before, told))) = absurd told
     key_doomed k f even (inr (inl (label, none, is))) =
         subst (IsDoomed tree of Full in_text w T source kind.TupleSet (children ++ k ∷ [])) (sym is)
-        (λ more p e says. unknown_dooms tree of Full w T (map (part_of type_tree) x.fields.items) is_record source children more p e entries_read k even.0 even.1 label (subst (λ (names : List (List ℕ)). IsNoneOf names (name_of (node_text source k))) (sym (part_names type_tree x.fields.items)) none) says)
+        (λ more p e tells. unknown_dooms tree of Full w T (map (part_of type_tree) x.fields.items) is_record source children more p e entries_read k even.0 even.1 label (subst (λ (names : List (List ℕ)). IsNoneOf names (name_of (node_text source k))) (sym (part_names type_tree x.fields.items)) none) (plain_says why.InvalidValue p e tells))
 
     -- ---- values
 
@@ -181,7 +180,7 @@ module _ {V : Type 0} (tree : V → Value) (of : V → TypeTree → Type 0) (Ful
         }
 
     -- a value was refused that was due
-    due_refused : (n : NodeTree) (r : Result V Diagnostic) (e : Diagnostic) (due : ℕ × Bor S) → HasFullParts Full → x.due ≡ Some due → r ≡ Err e → IsReadWhereDue tree of Full w w (shown type_tree (type_due x)) source n r → IsDoomed tree of Full in_text w T source kind.TupleSet (children ++ n ∷ []) (fault.Told e)
+    due_refused : (n : NodeTree) (r : Result V Diagnostic) (e : Diagnostic) (due : ℕ × Bor S) → HasFullParts Full → x.due ≡ Some due → r ≡ Err e → IsReadWhereDue tree of Full w w (shown type_tree (type_due x)) source n r → IsDoomed tree of Full in_text w T source kind.TupleSet (children ++ n ∷ []) (fault.Part e)
     due_refused n r e due full is made read =
         let (k, waits, label, (f, there, named, typed, unread)) = waiting due is in
         let own : IsReadAs tree of Full w w (type_tree f.ty.now) source n (Err e) = subst (λ (t : Bor S). IsReadAs tree of Full w w (type_tree t.now) source n (Err e)) (sym typed) (subst (IsReadAs tree of Full w w (type_tree due.1.now) source n) made (due_type due n r is read)) in
@@ -190,9 +189,9 @@ module _ {V : Type 0} (tree : V → Value) (of : V → TypeTree → Type 0) (Ful
         told_dooms tree of Full in_text w T source kind.TupleSet (children ++ n ∷ []) e (λ more p. value_dooms tree of Full w T (map (part_of type_tree) x.fields.items) is_record source children more p e entries_read k n due.0 (type_tree f.ty.now) full waits label new part own)
 
     -- a value was refused
-    pub value_refused : (n : NodeTree) (r : Result V Diagnostic) (e : Diagnostic) → HasFullParts Full → TakesPart kind.TupleSet children → r ≡ Err e → IsReadWhereDue tree of Full w w (shown type_tree (type_due x)) source n r → IsDoomed tree of Full in_text w T source kind.TupleSet (children ++ n ∷ []) (fault.Told e)
+    pub value_refused : (n : NodeTree) (r : Result V Diagnostic) (e : Diagnostic) → HasFullParts Full → TakesPart kind.TupleSet children → r ≡ Err e → IsReadWhereDue tree of Full w w (shown type_tree (type_due x)) source n r → IsDoomed tree of Full in_text w T source kind.TupleSet (children ++ n ∷ []) (fault.Part e)
     value_refused n r e full odd made read = by x.due refl
       where
-        by : (due : Option (ℕ × Bor S)) → x.due ≡ due → IsDoomed tree of Full in_text w T source kind.TupleSet (children ++ n ∷ []) (fault.Told e)
+        by : (due : Option (ℕ × Bor S)) → x.due ≡ due → IsDoomed tree of Full in_text w T source kind.TupleSet (children ++ n ∷ []) (fault.Part e)
         by None is = no_value_alone odd is
         by (Some due) is = due_refused n r e due full is made read

@@ -20,7 +20,7 @@ use Rattle.wave_grammar.specs.SpannedTree.{SpannedTree, PlacedEntry, entry_list}
 use Rattle.wave_grammar.specs.NodeTree.{NodeTree, node, node_trees, place_of, children_of}
 use Rattle.wave_grammar.specs.NodeAccessors.{node_pairs}
 use Rattle.wave_grammar.specs.NodeFields.{IsLabelled, IsFieldsOf}
-use Rattle.wave_grammar.specs.TypedReading.{IsMade, IsBlamed}
+use Rattle.wave_grammar.specs.TypedReading.{IsBlamed}
 use Rattle.wave_grammar.specs.Nodes.{IsNodeOf}
 use Rattle.wave_grammar.specs.Shared.ErrorSpans.{RefusesAt}
 use Rattle.wave_grammar.specs.Shared.NodeFields.{fields_at}
@@ -36,6 +36,8 @@ use Rattle.wave_read.specs.declared.records.Field.{Field}
 use Rattle.wave_read.specs.declared.records.Fields.{Fields}
 use Rattle.wave_read.proofs.RecordFields.{of_one, part_names}
 use Rattle.wave_read.proofs.RecordSteps.{is_record, entries_read}
+use Rattle.wave_read.specs.Errors.{IsMadeOrMemory}
+use Rattle.wave_read.proofs.Errors.{made_anew}
 
 module _ {V : Type 0} (tree : V → Value) (of : V → TypeTree → Type 0) (Full : TypeTree → Type 0) (w : Order) {S : Type 0} (type_tree : S → TypeTree) (T : TypeTree) (source : List ℕ) where
   -- a refusal is handed on
@@ -92,8 +94,9 @@ module _ {V : Type 0} (tree : V → Value) (of : V → TypeTree → Type 0) (Ful
     }
 
     -- the record was made of all its values, or its constructor refused
-    pub whole_made : (p : Range ℕ) (vals : List (Bor (List ℕ) × V)) (made_record : Result V cause.WasmValueError) (r : Result V Diagnostic) → AreFull tree of type_tree x.fields.items vals → IfOk made_record (MakesRecord tree of (type_tree x.ty.now) vals) → IfErr made_record (FullRecord of Full (type_tree x.ty.now) vals) → IsMade (node kind.TupleSet p (node_trees children)) made_record r → IsReadAs tree of Full in_text w T source (node kind.TupleSet p (node_trees children)) r
+    pub whole_made : (p : Range ℕ) (vals : List (Bor (List ℕ) × V)) (made_record : Result V cause.WasmValueError) (r : Result V Diagnostic) → AreFull tree of type_tree x.fields.items vals → IfOk made_record (MakesRecord tree of (type_tree x.ty.now) vals) → IfErr made_record (FullRecord of Full (type_tree x.ty.now) vals) → IsMadeOrMemory (node kind.TupleSet p (node_trees children)) made_record r → IsReadAs tree of Full in_text w T source (node kind.TupleSet p (node_trees children)) r
     whole_made p vals made_record r filled ok full done =
+        made_anew (MakesRecord tree of (type_tree x.ty.now) vals) (FullRecord of Full (type_tree x.ty.now) vals) (node kind.TupleSet p (node_trees children)) made_record r (λ a f fs is apart ordered same of. tt) ok full done (λ made_record ok full done.
         let n : NodeTree = node kind.TupleSet p (node_trees children) in
         record {
           answer = λ t is distinct.
@@ -109,7 +112,7 @@ module _ {V : Type 0} (tree : V → Value) (of : V → TypeTree → Type 0) (Ful
               (record_reads tree of Full T own.fields source n t given vals inner made_record own.is distinct all fields.distinct known names read (subst (λ (U : TypeTree). IfOk made_record (MakesRecord tree of U vals)) h.type_is ok))
               (record_full tree of Full T own.fields (entry_list inner.given) vals made_record own.is names read (subst (λ (U : TypeTree). IfErr made_record (FullRecord of Full U vals)) h.type_is full));
           within = λ value. made_in source n made_record r (inl value) done;
-        }
+        })
 
     -- a field was left out, or there was no memory
     pub whole_unfilled : (p : Range ℕ) (e : Diagnostic) (r : Result V Diagnostic) → IsErrAnd r (λ f. f ≡ e) → HasFullParts Full → IsLeftUnfilled Full type_tree x.fields.items (node kind.TupleSet p (node_trees children)) e → RefusesAt (node kind.TupleSet p (node_trees children)) e → IsReadAs tree of Full in_text w T source (node kind.TupleSet p (node_trees children)) r

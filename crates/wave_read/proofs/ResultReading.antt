@@ -26,6 +26,7 @@ use Rattle.wave_read.specs.Reading.{IsReadAs}
 use Rattle.wave_read.specs.Flat.{IsFlatAt}
 use Rattle.wave_read.specs.Faults.{IsMadeAt}
 use Rattle.wave_read.specs.Payloads.{result_node, result_name, result_with, payload_of}
+use Rattle.wave_read.proofs.Errors.{made_anew}
 
 -- the type of a result with these payloads
 result_is : (T : TypeTree) (parts : Option TypeTree × Option TypeTree) → result_parts T ≡ Some parts → T ≡ type.result (maybe_type parts.0) (maybe_type parts.1)
@@ -74,10 +75,12 @@ module _ {V : Type 0} (tree : V → Value) (of : V → TypeTree → Type 0) (Ful
   case_made : (is_ok : Bool) (T : TypeTree) (A B : Option TypeTree) (source : List ℕ) (p : Range ℕ) (children : List NodeTree) (v : Option V) (m : Result V WasmValueError) (r : Result V Diagnostic) → T ≡ type.result (maybe_type A) (maybe_type B) → AnswersPayload tree of Full w (result_name is_ok) (payload_of is_ok (A, B)) source (result_of is_ok p children) (first_of children) (Ok v) → IfOk m (MakesResult tree of T (result_with is_ok v)) → IfErr m (FullResult of Full T (result_with is_ok v)) → IsMadeAt p m r → IsReadAs tree of Full o w T source (result_of is_ok p children) r
   case_made true T A B source p children v m r is answers makes full done =
       let n = result_of true p children in
-      record { answer = λ t here distinct. let k = ok_node source n t here refl in ok_made tree of Full o w T (maybe_type A) (maybe_type B) t n k.0 v m r is distinct k.1 (answers_first true A source p children (Ok v) answers k.0 k.2 (subst HasDistinctNames is distinct).0) makes full (done n refl); within = λ value. made_in source n m r (inl value) (done n refl) }
+      made_anew (MakesResult tree of T (Ok v)) (FullResult of Full T (Ok v)) n m r (λ a f A B is of. tt) makes full (done n refl) (λ m makes full done.
+      record { answer = λ t here distinct. let k = ok_node source n t here refl in ok_made tree of Full o w T (maybe_type A) (maybe_type B) t n k.0 v m r is distinct k.1 (answers_first true A source p children (Ok v) answers k.0 k.2 (subst HasDistinctNames is distinct).0) makes full done; within = λ value. made_in source n m r (inl value) done })
   case_made false T A B source p children v m r is answers makes full done =
       let n = result_of false p children in
-      record { answer = λ t here distinct. let k = err_node source n t here refl in err_made tree of Full o w T (maybe_type A) (maybe_type B) t n k.0 v m r is distinct k.1 (answers_first false B source p children (Ok v) answers k.0 k.2 (subst HasDistinctNames is distinct).1) makes full (done n refl); within = λ value. made_in source n m r (inl value) (done n refl) }
+      made_anew (MakesResult tree of T (Err v)) (FullResult of Full T (Err v)) n m r (λ a f A B is of. tt) makes full (done n refl) (λ m makes full done.
+      record { answer = λ t here distinct. let k = err_node source n t here refl in err_made tree of Full o w T (maybe_type A) (maybe_type B) t n k.0 v m r is distinct k.1 (answers_first false B source p children (Ok v) answers k.0 k.2 (subst HasDistinctNames is distinct).1) makes full done; within = λ value. made_in source n m r (inl value) done })
 
   -- a refusal of the payload stands in the node
   case_within : (is_ok : Bool) (source : List ℕ) (p : Range ℕ) (children : List NodeTree) (e : Diagnostic) → (IsPayloadOf source (first_of children) → RefusesInPart (result_of is_ok p children) (first_of children) e) → IsValueOf source (result_of is_ok p children) → RefusesIn (result_of is_ok p children) e

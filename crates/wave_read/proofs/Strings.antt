@@ -1,10 +1,8 @@
 -- The strings of leaves, or out of memory.
-use Rattle.std.proofs.Common.{ℕ, ◌≡◌, ◌⊎◌, inl, inr, List, Some, Result, MatchResult, refl, ap, subst}
-use Rattle.std.specs.Result.{IsErrAnd}
+use Rattle.std.proofs.Common.{ℕ, ◌≡◌, ◌⊎◌, inl, inr, List, Some, refl, ap, subst}
 use Rattle.std.specs.declared.ops.Range.{Range}
 use Rattle.wave_wasm.specs.Types as type
 use Rattle.wave_wasm.specs.Types.{TypeTree, Simple}
-use Rattle.wave_wasm.specs.Values.{Value}
 use Rattle.wave_lex.specs.Errors.{Diagnostic, Refusal}
 use Rattle.wave_lex.specs.declared.error.ParserErrorKind.TheVariants.{OutOfMemory}
 use Rattle.wave_grammar.specs.Token.{Token}
@@ -14,9 +12,9 @@ use Rattle.wave_grammar.specs.FaultOrder.{Order}
 use Rattle.wave_grammar.specs.NodeTree.{NodeTree, place_of}
 use Rattle.wave_grammar.specs.Nodes.{placed_of, IsParsedFrom, IsTokenOf}
 use Rattle.wave_grammar.specs.NodeStrings.{RefusesString}
-use Rattle.wave_grammar.specs.TypedReading.{IsBlamed, IsKeyRead, IsKeyBlamed}
+use Rattle.wave_grammar.specs.TypedReading.{IsBlamed, IsKeyBlamed}
 use Rattle.wave_grammar.specs.Shared.ErrorSpans.{RefusesIn}
-use Rattle.wave_grammar.proofs.ByKind.Keys.{one_simple, key_handed}
+use Rattle.wave_grammar.proofs.ByKind.Keys.{one_simple}
 use Rattle.wave_grammar.proofs.ByKind.TextLeaves.{string_blame}
 use Rattle.wave_grammar.proofs.ByKind.TextKeys.{string_key_blame}
 use Rattle.wave_grammar.proofs.ErrorSpans.Nodes.{string_in, at_in, memory_here}
@@ -30,7 +28,7 @@ told_blame Full o w source n t e is (inl h) = string_blame Full o w (type.simple
 told_blame Full o w source n t e is (inr (wants, far)) = inl (memory_kind (place_of n) e wants)
 
 -- so of a key
-pub told_key_blame : {Q : Type 0} (Full : TypeTree → Type 0) (source : List ℕ) (n : NodeTree) (p : Range ℕ) (key : Token) (e : Diagnostic) → IsTokenOf source n p key → RefusesString source n e ⊎ WantsMemory (place_of n) e × Q → IsKeyBlamed Full type.string p key e
+told_key_blame : {Q : Type 0} (Full : TypeTree → Type 0) (source : List ℕ) (n : NodeTree) (p : Range ℕ) (key : Token) (e : Diagnostic) → IsTokenOf source n p key → RefusesString source n e ⊎ WantsMemory (place_of n) e × Q → IsKeyBlamed Full type.string p key e
 told_key_blame Full source n p key e token (inl h) = string_key_blame Full source n p key e token h
 told_key_blame Full source n p key e token (inr (wants, far)) = inl (memory_kind (place_of n) e wants)
 
@@ -44,7 +42,7 @@ pub given_one : {P Q : Type 0} → P ⊎ ⊥ × Q → P
 given_one (inl h) = h
 given_one (inr none) = absurd none.0
 
--- the refusal of a key is handed on
-pub string_key_handed : {V Q : Type 0} (tree : V → Value) (of : V → TypeTree → Type 0) (Full : TypeTree → Type 0) (K : Simple) (source : List ℕ) (n : NodeTree) (p : Range ℕ) (key : Token) (e : Diagnostic) (r : Result V Diagnostic) → type.simple type.string ≡ type.simple K → IsErrAnd r (λ f. f ≡ e) → IsTokenOf source n p key → RefusesString source n e ⊎ WantsMemory (place_of n) e × Q → MatchResult r (IsKeyRead tree of K key) (IsKeyBlamed Full K p key)
-string_key_handed tree of Full K source n p key e r is same token told =
-    key_handed tree of Full K p key e r same (subst (λ (S : Simple). IsKeyBlamed Full S p key e) (one_simple (type.simple type.string) K type.string is refl) (told_key_blame Full source n p key e token told))
+-- so of a key at its type
+pub string_key_blamed : {Q : Type 0} (Full : TypeTree → Type 0) (K : Simple) (source : List ℕ) (n : NodeTree) (p : Range ℕ) (key : Token) (e : Diagnostic) → type.simple type.string ≡ type.simple K → IsTokenOf source n p key → RefusesString source n e ⊎ WantsMemory (place_of n) e × Q → IsKeyBlamed Full K p key e
+string_key_blamed Full K source n p key e is token told =
+    subst (λ (S : Simple). IsKeyBlamed Full S p key e) (one_simple (type.simple type.string) K type.string is refl) (told_key_blame Full source n p key e token told)

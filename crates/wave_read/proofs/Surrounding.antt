@@ -5,21 +5,18 @@ use Rattle.wave_wasm.specs.Types.{TypeTree}
 use Rattle.wave_wasm.specs.Values.{Value}
 use Rattle.wave_lex.specs.Errors.{Diagnostic}
 use Rattle.wave_grammar.specs.NodeTree.{NodeTree, type_of}
-use Rattle.wave_read.specs.Failures.{IsKept}
 use Rattle.wave_read.specs.Reading.{IsReadAs}
-use Rattle.wave_read.proofs.Kept.{kept_read}
 use Rattle.wave_read.specs.Flat.{IsFlatAt, IsAround}
 
 module _ {S V : Type 0} (type_tree : S → TypeTree) (tree : V → Value) (of : V → TypeTree → Type 0) (Full : TypeTree → Type 0) (i w : Order) (T : TypeTree) (source : List ℕ) (n : NodeTree) (o : Option (Bor S)) (x : Bor S) (made : Result V Diagnostic) (is : IsAround type_tree T (type_of n) o x) (read : IsReadAs tree of Full i w (type_tree x.now) source n made) where
   -- an option or a result is around it
-  pub around_kept : (whole : Bor S) (r s : Result V Diagnostic) → o ≡ Some whole → (IsFlatAt (type_tree whole.now) (type_of n) (type_tree x.now) → IsReadAs tree of Full i w (type_tree whole.now) source n r) → IsKept r s → IsReadAs tree of Full i w T source n s
-  around_kept whole r s some around same =
+  pub around_read : (whole : Bor S) (r : Result V Diagnostic) → o ≡ Some whole → (IsFlatAt (type_tree whole.now) (type_of n) (type_tree x.now) → IsReadAs tree of Full i w (type_tree whole.now) source n r) → IsReadAs tree of Full i w T source n r
+  around_read whole r some around =
       let here : (type_tree whole.now ≡ T) × IsFlatAt T (type_of n) (type_tree x.now) = subst (λ (p : Option (Bor S)). IsAround type_tree T (type_of n) p x) some is in
-      subst (λ (W : TypeTree). IsReadAs tree of Full i w W source n s) here.0
-      (kept_read tree of Full i w (type_tree whole.now) source n r s (around (subst (λ (W : TypeTree). IsFlatAt W (type_of n) (type_tree x.now)) (sym here.0) here.1)) same)
+      subst (λ (W : TypeTree). IsReadAs tree of Full i w W source n r) here.0 (around (subst (λ (W : TypeTree). IsFlatAt W (type_of n) (type_tree x.now)) (sym here.0) here.1))
 
   -- nothing is
-  pub alone_kept : (s : Result V Diagnostic) → o ≡ None → IsKept made s → IsReadAs tree of Full i w T source n s
-  alone_kept s none same =
+  pub alone_read : o ≡ None → IsReadAs tree of Full i w T source n made
+  alone_read none =
       let here : (type_tree x.now ≡ T) × ((U : TypeTree) → IsFlatAt T (type_of n) U → ⊥) = subst (λ (p : Option (Bor S)). IsAround type_tree T (type_of n) p x) none is in
-      subst (λ (W : TypeTree). IsReadAs tree of Full i w W source n s) here.0 (kept_read tree of Full i w (type_tree x.now) source n made s read same)
+      subst (λ (W : TypeTree). IsReadAs tree of Full i w W source n made) here.0 read

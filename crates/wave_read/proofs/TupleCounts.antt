@@ -1,6 +1,6 @@
 -- Tuples that are refused for the number of their items before any of them is read.
-use Rattle.std.proofs.Common.{ℕ, suc, ◌≡◌, ◌≢◌, inl, inr, refl, List, [], ◌∷◌, length, Option, Some, None, Err, Bor, sym, ap, ◌∙◌, subst, MatchOption}
-use Rattle.std.specs.Prelude.{IsSomeAnd, IfSome}
+use Rattle.std.proofs.Common.{ℕ, suc, ◌≡◌, ◌≢◌, refl, List, [], ◌∷◌, length, Option, Some, None, Err, Bor, sym, ap, ◌∙◌, subst, MatchOption}
+use Rattle.std.specs.Prelude.{IfSome}
 use Rattle.std.specs.declared.ops.Range.{Range}
 use Rattle.wave_grammar.specs.FaultOrder.{Order, by_type}
 use Rattle.wave_wasm.specs.Types.{TypeTree}
@@ -8,12 +8,10 @@ use Rattle.wave_wasm.specs.Values.{Value}
 use Rattle.wave_wasm.specs.ValueErrors.{wrong_number}
 use Rattle.wave_wasm.specs.Borrowed.{shown_all}
 use Rattle.wave_wasm.specs.ConstructorContracts.{HasFullParts}
-use Rattle.wave_wasm.specs.declared.wasm.WasmValueError.{WasmValueError}
-use Rattle.wave_lex.specs.Errors.{Diagnostic, refusal_of, caused, kept}
+use Rattle.wave_lex.specs.Errors.{Diagnostic, refusal_of, caused}
 use Rattle.wave_grammar.specs.NodeTree.{NodeTree, node, node_trees}
 use Rattle.wave_grammar.specs.declared.form.NodeType.{NodeType}
 use Rattle.wave_grammar.specs.declared.form.NodeType.TheVariants as kind
-use Rattle.wave_read.specs.Failures.{IsSameOrMemory, HasTwoTexts}
 use Rattle.wave_read.specs.PlainReading.{IsReadSparing}
 use Rattle.wave_read.specs.Reading.{IsReadAs}
 use Rattle.wave_read.specs.KeptParts.{AreKeptWhereDue, AreOfType}
@@ -30,11 +28,6 @@ use Rattle.wave_read.proofs.TupleItems.{count_refused}
 pub as_shown : {S : Type 0} (type_tree : S → TypeTree) (xs : List (Bor S)) → length (shown_all type_tree xs) ≡ length xs
 as_shown type_tree [] = refl
 as_shown type_tree (x ∷ xs) = ap suc (as_shown type_tree xs)
-
--- an error whose cause has no two texts is kept as it is
-pub told_same : (cause : WasmValueError) (e f : Diagnostic) → (IsSomeAnd (kept cause) HasTwoTexts → ⊥) → e.cause ≡ kept cause → IsSameOrMemory e f → f ≡ e
-told_same cause e f one is (inl same) = same
-told_same cause e f one is (inr memory) = absurd (one (subst (λ (o : Option WasmValueError). IsSomeAnd o HasTwoTexts) is memory.2))
 
 module _ {S V : Type 0} (type_tree : S → TypeTree) (tree : V → Value) (of : V → TypeTree → Type 0) (Full : TypeTree → Type 0) (w : Order) (source : List ℕ) (place : Range ℕ) (children : List NodeTree) (row : TupleItems S V) (e : Diagnostic) where
   row_told : (T : TypeTree) (ty : NodeType) → (ty ≡ kind.Tuple) × IsRow type_tree tree of Full w T source [] row → length children ≢ length row.types.items → refusal_of e ≡ caused (wrong_number (length row.types.items) (length children)) → e.span ≡ place → IsReadAs tree of Full by_type w T source (node ty place (node_trees children)) (Err e)

@@ -1,5 +1,5 @@
 -- Tuples, whose items were read one after the other.
-use Rattle.std.proofs.Common.{ℕ, ◌≡◌, ◌≢◌, inl, inr, ◌<◌, true, false, List, [], ◌∷◌, ◌++◌, length, get_or, take, Bor, Result, Ok, Err, IfOk, IfErr, refl, sym, ap, ◌∙◌, subst, is_some, length-append, arith}
+use Rattle.std.proofs.Common.{ℕ, ◌≡◌, ◌≢◌, inl, inr, ◌<◌, true, false, List, [], ◌∷◌, ◌++◌, length, get_or, take, Bor, Result, Ok, Err, IfOk, IfErr, refl, sym, ◌∙◌, subst, is_some, length-append, arith}
 use Rattle.std.specs.List.{slice_get}
 use Rattle.std.specs.declared.ops.Range.{Range}
 use Rattle.wave_grammar.specs.FaultOrder.{Order, in_text, BlamesNothing, FirstItem}
@@ -13,24 +13,29 @@ use Rattle.wave_wasm.specs.Borrowed.{shown, shown_all}
 use Rattle.wave_wasm.specs.ConstructorContracts.{MakesTuple, FullTuple, HasFullParts}
 use Rattle.wave_wasm.specs.declared.wasm.WasmTypeKind.TheVariants as kinds
 use Rattle.wave_wasm.specs.declared.wasm.WasmValueError.{WasmValueError}
-use Rattle.wave_lex.specs.Errors.{Diagnostic, Refusal, refusal_of, caused}
+use Rattle.wave_lex.specs.Errors.{Diagnostic, refusal_of, caused}
 use Rattle.wave_lex.specs.declared.error.ParserErrorKind.TheVariants.{InvalidType, OutOfMemory}
 use Rattle.wave_grammar.specs.SpannedTree.{SpannedTree}
 use Rattle.wave_grammar.specs.NodeTree.{NodeTree, node, node_trees, type_of, children_of}
 use Rattle.wave_grammar.specs.NodeAccessors.{RefusedAs}
-use Rattle.wave_grammar.specs.TypedReading.{IsMade, IsBlamed}
+use Rattle.wave_grammar.specs.TypedReading.{IsBlamed}
 use Rattle.wave_grammar.specs.declared.form.NodeType.{NodeType}
 use Rattle.wave_grammar.specs.declared.form.NodeType.TheVariants as kind
 use Rattle.wave_grammar.proofs.ByKind.Leaves.{said}
 use Rattle.wave_grammar.proofs.ByKind.Lists.{AreNodesOf, HasAt}
 use Rattle.wave_grammar.proofs.ByKind.Tuples.{ItemsBlamed, ItemsFine, items_blame, TupleType, tuple_is, parts_distinct, tuple_nodes, given_items, tuple_item, tuple_fault, count_blame, ReadAt, tuple_made}
 use Rattle.wave_grammar.proofs.ChildNodes.Trees.{list_of_trees}
-use Rattle.wave_grammar.proofs.ErrorSpans.Nodes.{at_in, form_at, memory_here, caused_at, deeper_at, made_in}
+use Rattle.wave_grammar.proofs.ErrorSpans.Nodes.{at_in, form_at, caused_at, deeper_at, made_in}
 use Rattle.wave_read.specs.Reading.{IsReadAs, IsReadWhereDue}
 use Rattle.wave_read.specs.Faults.{IsDoomed}
 use Rattle.wave_read.specs.TupleParts.{AreReadEach}
 use Rattle.wave_read.specs.declared.fault.Fault.TheVariants as fault
 use Rattle.wave_read.proofs.Doomed.{told_dooms}
+use Rattle.wave_read.specs.declared.error.Reason.TheVariants as reason
+use Rattle.wave_read.specs.Errors.{IsMadeOrMemory}
+use Rattle.wave_read.proofs.Errors.{made_anew}
+use Rattle.wave_read.proofs.Errors.{plain_says}
+use Rattle.wave_read.proofs.Errors.{no_memory}
 
 -- the one after the first ones
 at_last : {A : Type 0} (xs more : List A) (x : A) → x ≡ get_or ((xs ++ x ∷ []) ++ more) (length xs) x
@@ -51,13 +56,8 @@ module _ {V : Type 0} (tree : V → Value) (of : V → TypeTree → Type 0) (Ful
       }
 
   -- where there was no memory for the parts, whatever they are
-  pub memory_dooms : (T : TypeTree) (source : List ℕ) (ty : NodeType) (ns : List NodeTree) → IsDoomed tree of Full o w T source ty ns (fault.Kind OutOfMemory)
-  memory_dooms T source ty ns more p e says =
-      let memory : e.kind ≡ OutOfMemory = ap (λ (r : Refusal). r.kind) says.is in
-      record {
-        answer = λ t node distinct. inl memory;
-        within = λ value. at_in source (node ty p (node_trees (ns ++ more))) e (inl value) (memory_here (node ty p (node_trees (ns ++ more))) e memory says.stands);
-      }
+  pub memory_dooms : (T : TypeTree) (source : List ℕ) (ty : NodeType) (ns : List NodeTree) → IsDoomed tree of Full o w T source ty ns (fault.Whole (reason.Plain OutOfMemory))
+  memory_dooms T source ty ns more p e tells = no_memory tree of Full o w T source (node ty p (node_trees (ns ++ more))) e (plain_says OutOfMemory p e tells)
 
   -- ---- the first fault of an item
 
@@ -129,7 +129,7 @@ module _ {V : Type 0} (tree : V → Value) (of : V → TypeTree → Type 0) (Ful
         let due = type_due xs ns vs n e some h.1 now in
         record { part = due.part; here = due.here; refused = due.refused }
 
-    item_dooms : (T E : TypeTree) (parts : List TypeTree) (ns : List NodeTree) (vs : List V) (n : NodeTree) (e : Diagnostic) → HasFullParts Full → TupleType T parts → AreReadEach tree of Full w parts source ns vs → HasAt parts (length ns) E → IsReadAs tree of Full w w E source n (Err e) → IsDoomed tree of Full in_text w T source kind.Tuple (ns ++ n ∷ []) (fault.Told e)
+    item_dooms : (T E : TypeTree) (parts : List TypeTree) (ns : List NodeTree) (vs : List V) (n : NodeTree) (e : Diagnostic) → HasFullParts Full → TupleType T parts → AreReadEach tree of Full w parts source ns vs → HasAt parts (length ns) E → IsReadAs tree of Full w w E source n (Err e) → IsDoomed tree of Full in_text w T source kind.Tuple (ns ++ n ∷ []) (fault.Part e)
     item_dooms T E parts ns vs n e full is h here refused = told_dooms tree of Full in_text w T source kind.Tuple (ns ++ n ∷ []) e (λ more p.
         let all : List NodeTree = (ns ++ n ∷ []) ++ more in
         let m : NodeTree = node kind.Tuple p (node_trees all) in
@@ -142,7 +142,7 @@ module _ {V : Type 0} (tree : V → Value) (of : V → TypeTree → Type 0) (Ful
         })
 
     -- an item that was refused
-    pub item_refused : (T : TypeTree) (types : List (Bor S)) (ns : List NodeTree) (vs : List V) (n : NodeTree) (e : Diagnostic) → HasFullParts Full → kind_of T ≡ kinds.Tuple → shown_all type_tree types ≡ tuple_parts T → is_some (slice_get types (length vs)) ≡ true → AreReadEach tree of Full w (shown_all type_tree types) source ns vs → IsReadWhereDue tree of Full w w (shown type_tree (slice_get types (length vs))) source n (Err e) → IsDoomed tree of Full in_text w T source kind.Tuple (ns ++ n ∷ []) (fault.Told e)
+    pub item_refused : (T : TypeTree) (types : List (Bor S)) (ns : List NodeTree) (vs : List V) (n : NodeTree) (e : Diagnostic) → HasFullParts Full → kind_of T ≡ kinds.Tuple → shown_all type_tree types ≡ tuple_parts T → is_some (slice_get types (length vs)) ≡ true → AreReadEach tree of Full w (shown_all type_tree types) source ns vs → IsReadWhereDue tree of Full w w (shown type_tree (slice_get types (length vs))) source n (Err e) → IsDoomed tree of Full in_text w T source kind.Tuple (ns ++ n ∷ []) (fault.Part e)
     item_refused T types ns vs n e full tuples parts some h now =
         let due = type_due types ns vs n e some h now in
         item_dooms T due.part (shown_all type_tree types) ns vs n e full (tuple_is T (shown_all type_tree types) (sym tuples) parts) h due.here due.refused
@@ -171,8 +171,9 @@ module _ {V : Type 0} (tree : V → Value) (of : V → TypeTree → Type 0) (Ful
       }
 
   -- the tuple was made, or its constructor refused
-  pub tuple_read : (T : TypeTree) (parts : List TypeTree) (source : List ℕ) (p : Range ℕ) (ns : List NodeTree) (vs : List V) (want count : ℕ) (m : Result V WasmValueError) (r : Result V Diagnostic) → kind_of T ≡ kinds.Tuple → parts ≡ tuple_parts T → want ≡ length parts → count ≡ length ns → count ≡ want → AreReadEach tree of Full w parts source ns vs → IfOk m (MakesTuple tree of T vs) → IfErr m (FullTuple of Full T vs) → IsMade (node kind.Tuple p (node_trees ns)) m r → IsReadAs tree of Full o w T source (node kind.Tuple p (node_trees ns)) r
+  pub tuple_read : (T : TypeTree) (parts : List TypeTree) (source : List ℕ) (p : Range ℕ) (ns : List NodeTree) (vs : List V) (want count : ℕ) (m : Result V WasmValueError) (r : Result V Diagnostic) → kind_of T ≡ kinds.Tuple → parts ≡ tuple_parts T → want ≡ length parts → count ≡ length ns → count ≡ want → AreReadEach tree of Full w parts source ns vs → IfOk m (MakesTuple tree of T vs) → IfErr m (FullTuple of Full T vs) → IsMadeOrMemory (node kind.Tuple p (node_trees ns)) m r → IsReadAs tree of Full o w T source (node kind.Tuple p (node_trees ns)) r
   tuple_read T parts source p ns vs want count m r tuples parts_are wanted many same all ok full done =
+      made_anew (MakesTuple tree of T vs) (FullTuple of Full T vs) (node kind.Tuple p (node_trees ns)) m r (λ a f Ts is all. tt) ok full done (λ m ok full done.
       let n : NodeTree = node kind.Tuple p (node_trees ns) in
       let is : TupleType T parts = tuple_is T parts (sym tuples) parts_are in
       let children : ns ≡ children_of n = sym (list_of_trees ns) in
@@ -180,4 +181,4 @@ module _ {V : Type 0} (tree : V → Value) (of : V → TypeTree → Type 0) (Ful
       record {
         answer = λ t node distinct. tuple_made tree of Full o w source T parts n t ns vs (length ns) m r is distinct node refl children counts (omega arith) (each_placed parts source ns (tuple_nodes source n t node refl).items vs (parts_distinct T parts is distinct) counts (given_items source n t ns node refl children) all) ok full done;
         within = λ value. made_in source n m r (inl value) done;
-      }
+      })

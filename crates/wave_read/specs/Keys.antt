@@ -1,9 +1,8 @@
 -- What is answered on a key, and what a refusal says of a label that is none of the type.
-use Rattle.std.specs.Prelude.{ℕ, ◌≡◌, ◌⊎◌, List, Some, None, option_map, Result, IfErr}
+use Rattle.std.specs.Prelude.{ℕ, ◌≡◌, ◌⊎◌, List, Some, None, Result, IfErr}
 use Rattle.wave_wasm.specs.Types.{TypeTree}
 use Rattle.wave_wasm.specs.Values.{Value}
-use Rattle.wave_wasm.specs.ValueErrors.{cause_of}
-use Rattle.wave_lex.specs.Errors.{Diagnostic, Says}
+use Rattle.wave_lex.specs.Errors.{Diagnostic, Says, plainly, refusal_of}
 use Rattle.wave_lex.specs.declared.error.ParserErrorKind.TheVariants.{InvalidType, OutOfMemory}
 use Rattle.wave_grammar.specs.declared.form.NodeType.TheVariants as kind
 use Rattle.wave_grammar.specs.TypeErrors.{key_due}
@@ -28,7 +27,7 @@ RefusesInKey l r = (source : List ℕ) → IsLeafIn source l → IsKeyOf source 
 
 -- a label is refused as a key of another form than the type takes
 abbrev pub IsOtherLabel : Leaf → Diagnostic → Type 0
-IsOtherLabel l e = (l.ty ≡ kind.Label) × (e.kind ≡ InvalidType) × (option_map cause_of e.cause ≡ None)
+IsOtherLabel l e = (l.ty ≡ kind.Label) × (refusal_of e ≡ plainly InvalidType)
 
 -- the refusal of such a label with the key that is due as its detail, or for lack of memory at the label; another refusal as it was
 abbrev pub IsDetailed : TypeTree → Leaf → Diagnostic → Diagnostic → Type 0

@@ -10,7 +10,7 @@ pub mod PartsOfKinds
 pub mod Payloads
 pub mod RecordParts
 pub mod TupleParts
-pub mod Failures
+pub mod Errors
 pub mod Keys
 pub mod Leaves
 pub mod PlainReading

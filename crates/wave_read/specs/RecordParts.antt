@@ -27,6 +27,7 @@ use Rattle.wave_read.specs.declared.fault.Fault.{Fault}
 use Rattle.wave_read.specs.declared.fault.Fault.TheVariants as fault
 use Rattle.wave_read.specs.declared.records.Field.{Field}
 use Rattle.wave_read.specs.declared.records.Fields.{Fields}
+use Rattle.wave_read.specs.declared.error.Reason.TheVariants as reason
 
 -- ---- keys
 
@@ -56,14 +57,14 @@ IsReadBefore {S} {V} fields name = (i : ℕ) × (f : Field S V) × (v : V) × (s
 
 -- the fault is a refusal of this kind, here, with these words
 abbrev pub IsToldAs : ParserErrorKind → Range ℕ → List ℕ → Fault → Type 0
-IsToldAs why p words (fault.Told e) = Says e why p (Some words)
+IsToldAs why p words (fault.Part e) = Says e why p (Some words)
 IsToldAs why p words _ = ⊥
 
 -- a key that stands here is no label, or the label of no field, or that of one that was read
 abbrev pub IsKeyFault : {S V : Type 0} → List (Field S V) → NodeType → Range ℕ → List ℕ → Fault → Type 0
 IsKeyFault fields ty p text f =
     (ty ≢ kind.Label) × IsToldAs InvalidType p field_label_due f
-    ⊎ (ty ≡ kind.Label) × IsNoneOf (map field_name fields) (name_of text) × (f ≡ fault.Kind InvalidValue)
+    ⊎ (ty ≡ kind.Label) × IsNoneOf (map field_name fields) (name_of text) × (f ≡ fault.Whole (reason.Plain InvalidValue))
     ⊎ (ty ≡ kind.Label) × IsReadBefore fields (name_of text) × IsToldAs DuplicateField p (repeated_name (name_of text)) f
 
 -- the key that stands last, where it has no value yet

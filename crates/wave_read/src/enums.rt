@@ -7,11 +7,12 @@ ghost use Rattle.wave_grammar.specs.Shared.TypedReading.{IsCaused};
 ghost use Rattle.wave_read.specs.Leaves.{leaf_node};
 ghost use Rattle.wave_read.specs.Reading.{IsReadOfLeaf};
 
+use crate::error::ReadError;
 use crate::leaf::Leaf;
 use std::alloc::Global;
 use wave_grammar::form::NodeType;
 use wave_grammar::label::label_name;
-use wave_lex::error::{ParserError, ParserErrorKind};
+use wave_lex::error::ParserErrorKind;
 use wave_wasm::wasm::{WasmType, WasmTypeKind, WasmValue, WasmValueError};
 
 /// An enum: the name of one of its cases.
@@ -19,7 +20,7 @@ pub(crate) fn read_enum<V: WasmValue>(
     leaf: &Leaf<'_>,
     alloc: Global,
     ty: &V::Type,
-) -> Result<V, ParserError>
+) -> Result<V, ReadError>
     requires { kind_of (V.Type.tree ty.now) ≡ WasmTypeKind.Enum }
     ensures { IsReadOfLeaf V.tree V.is_of V.is_full (V.Type.tree ty.now) leaf.now result }
 {
@@ -34,16 +35,16 @@ pub(crate) fn read_enum<V: WasmValue>(
     if !is_case {
         return Err(no_case(leaf, alloc, name));
     }
-    leaf.or_error_here(V::make_enum(alloc, ty, name))
+    leaf.or_error_here(alloc, V::make_enum(alloc, ty, name))
 }
 
 /// A refusal at the leaf because the type has no case of this name.
-pub(crate) fn no_case(leaf: &Leaf<'_>, alloc: Global, name: &str) -> ParserError
+pub(crate) fn no_case(leaf: &Leaf<'_>, alloc: Global, name: &str) -> ReadError
     ensures cause { IsCaused (unknown_case name.now) (leaf_node leaf.now) result }
     ensures span { result.span ≡ place_of (leaf_node leaf.now) }
 {
     match String::from_str(alloc, name) {
-        Ok(name) => leaf.refused(WasmValueError::UnknownCase(name)),
-        Err(error) => leaf.refused(WasmValueError::Memory(error)),
+        Ok(name) => leaf.refused(alloc, WasmValueError::UnknownCase(name)),
+        Err(error) => leaf.refused(alloc, WasmValueError::Memory(error)),
     }
 }

@@ -2,66 +2,62 @@
 ghost use Rattle.std.specs.Prelude.{MatchOption};
 ghost use Rattle.wave_read.specs.Faults.{IsOfKind, Tells, IsFaultOf, IsMadeAt};
 
-use crate::failure::Failure;
+use crate::error::{ReadError, Reason};
 use std::alloc::Global;
-use wave_lex::error::{ParserError, ParserErrorKind};
+use wave_lex::error::{Detail, ParserErrorKind};
 use wave_lex::lex::Span;
 use wave_wasm::wasm::WasmValueError;
 
 /// What is wrong with a value that has parts.
 #[derive(Drop)]
 pub enum Fault {
-    /// This refusal of a part.
-    Told(Failure),
-    /// A refusal of this kind, of the whole value.
-    Kind(ParserErrorKind),
-    /// A refusal with this cause, of the whole value, where it is told to stand at the end.
-    Cause(Failure),
+    /// The error of a part.
+    Part(ReadError),
+    /// Why the whole value is refused. Where it stands is told at the end.
+    Whole(Reason),
 }
 
 impl Fault {
-    /// The refusal of the whole value, which stands here, where the fault is one of its kind alone.
-    pub(crate) fn of_kind(&self, span: Span) -> Option<Failure>
+    /// The error of the whole value, which stands here, where the fault says its kind alone.
+    pub(crate) fn of_kind(&self, span: Span) -> Option<ReadError>
         ensures { MatchOption result (IsOfKind self.now → ⊥) (Tells self.now span) }
     {
         match self {
-            Fault::Kind(kind) => Some(Failure::plain(*kind, span)),
+            Fault::Whole(Reason::Plain(kind)) => Some(ReadError::at(span, Reason::Plain(*kind))),
             _ => None,
         }
     }
 
-    /// The refusal, where the whole value stands here.
+    /// The error, where the whole value stands here.
     #[cold]
     #[inline(never)]
-    pub(crate) fn tell(self, span: Span) -> ParserError
+    pub(crate) fn tell(self, span: Span) -> ReadError
         ensures { Tells self span result }
     {
         match self {
-            Fault::Told(failure) => failure.into_error(),
-            Fault::Kind(kind) => ParserError::new(kind, span),
-            Fault::Cause(cause) => cause.into_error_at(span),
+            Fault::Part(error) => error,
+            Fault::Whole(reason) => ReadError::at(span, reason),
         }
     }
 }
 
-/// The fault with this cause; where there is no memory to keep one with two texts, out of memory.
-#[cold]
-#[inline(never)]
+/// The fault with this cause; where there is no memory for one that has a text, out of memory.
 pub(crate) fn caused(alloc: Global, cause: WasmValueError) -> Fault
     ensures { IsFaultOf cause result }
 {
-    match Failure::told(alloc, ParserError::with_cause(0..0, cause)) {
-        Ok(cause) => Fault::Cause(cause),
-        Err(_) => Fault::Kind(ParserErrorKind::OutOfMemory),
-    }
+    Fault::Whole(Reason::new(alloc, ParserErrorKind::WasmValueError, Detail::Cause(cause)))
 }
 
 /// The value that was made, or its constructor's refusal as an error that stands there.
-pub fn or_error_at<V>(span: Span, made: Result<V, WasmValueError>) -> Result<V, ParserError>
+pub fn or_error_at<V>(
+    alloc: Global,
+    span: Span,
+    made: Result<V, WasmValueError>,
+) -> Result<V, ReadError>
     ensures { IsMadeAt span made result }
 {
     match made {
         Ok(val) => Ok(val),
-        Err(cause) => Err(ParserError::with_cause(span, cause)),
+        Err(cause) => Err(ReadError::with_cause(alloc, span, cause)),
     }
 }

@@ -11,10 +11,11 @@ ghost use Rattle.wave_grammar.specs.NodeFlags.{AreFlags, names_at};
 ghost use Rattle.wave_read.specs.Reading.{IsReadAs};
 ghost use Rattle.wave_read.specs.NamedFlags.{flag_names, IsReadOrTold, IsTold, TellsCause, TellsUnknown, IsReadOfFlags};
 
+use crate::error::{ReadError, Reason};
 use crate::fault::{Fault, caused};
 use std::alloc::Global;
 use std::collections::BTreeMap;
-use wave_lex::error::{ParserError, ParserErrorKind};
+use wave_lex::error::ParserErrorKind;
 use wave_lex::lex::Span;
 use wave_wasm::wasm::{WasmType, WasmTypeKind, WasmValue, WasmValueError};
 
@@ -24,7 +25,7 @@ pub(crate) fn read_flags<V: WasmValue>(
     ty: &V::Type,
     span: Span,
     flags: BTreeMap<&str, Span>,
-) -> Result<V, ParserError>
+) -> Result<V, ReadError>
     requires { kind_of (V.Type.tree ty.now) ≡ WasmTypeKind.Flags }
     ensures { IsReadOfFlags V.tree V.is_of V.is_full (V.Type.tree ty.now) span flags.entry result }
 {
@@ -36,7 +37,7 @@ pub(crate) fn read_no_flags<V: WasmValue>(
     alloc: Global,
     ty: &V::Type,
     span: Span,
-) -> Result<V, ParserError>
+) -> Result<V, ReadError>
     requires { kind_of (V.Type.tree ty.now) ≡ WasmTypeKind.Flags }
     ensures { (o w : Order) (source : List ℕ) → IsReadAs V.tree V.is_of V.is_full o w (V.Type.tree ty.now) source (node node_type.EmptySet span no_nodes) result }
 {
@@ -76,15 +77,15 @@ fn picked<'name, T: WasmType>(
         let place = match ty.flag_place(alloc, *name) {
             Ok(Some(place)) => place,
             Ok(None) => return Err(unknown(alloc, *name)),
-            Err(_) => return Err(Fault::Kind(ParserErrorKind::OutOfMemory)),
+            Err(_) => return Err(Fault::Whole(Reason::Plain(ParserErrorKind::OutOfMemory))),
         };
         if placed.insert(place, *name).is_err() {
-            return Err(Fault::Kind(ParserErrorKind::OutOfMemory));
+            return Err(Fault::Whole(Reason::Plain(ParserErrorKind::OutOfMemory)));
         }
     }
     match placed.into_values().collect(alloc) {
         Ok(picked) => Ok(picked),
-        Err(_) => Err(Fault::Kind(ParserErrorKind::OutOfMemory)),
+        Err(_) => Err(Fault::Whole(Reason::Plain(ParserErrorKind::OutOfMemory))),
     }
 }
 
@@ -94,12 +95,12 @@ fn unknown(alloc: Global, name: &str) -> Fault
 {
     match String::from_str(alloc, name) {
         Ok(name) => caused(alloc, WasmValueError::UnknownCase(name)),
-        Err(_) => Fault::Kind(ParserErrorKind::OutOfMemory),
+        Err(_) => Fault::Whole(Reason::Plain(ParserErrorKind::OutOfMemory)),
     }
 }
 
 /// What was read, or its fault as one of the whole value, which stands here.
-fn told<V>(read: Result<V, Fault>, span: Span) -> Result<V, ParserError>
+fn told<V>(read: Result<V, Fault>, span: Span) -> Result<V, ReadError>
     ensures { IsTold read span result }
 {
     match read {

@@ -7,11 +7,12 @@ ghost use Rattle.wave_grammar.specs.NodeTree.{NodeTree, type_of, place_of};
 ghost use Rattle.wave_read.specs.Reading.{IsReadAs};
 ghost use Rattle.wave_read.specs.Flat.{IsFlatAt, GivesFlatAt, IsAround};
 
+use crate::error::ReadError;
 use crate::fault::or_error_at;
 use std::alloc::Global;
 use wave_grammar::form::NodeType;
 use wave_grammar::typed::flat_type;
-use wave_lex::error::{ParserError, ParserErrorKind};
+use wave_lex::error::ParserErrorKind;
 use wave_lex::lex::Span;
 use wave_wasm::wasm::{WasmType, WasmTypeKind, WasmValue};
 
@@ -77,8 +78,8 @@ pub(crate) fn around<V: WasmValue>(
     alloc: Global,
     ty: &V::Type,
     span: Span,
-    made: Result<V, ParserError>,
-) -> Result<V, ParserError>
+    made: Result<V, ReadError>,
+) -> Result<V, ReadError>
     ensures { (o w : Order) (source : List ℕ) (n : NodeTree) (U : TypeTree) → IsFlatAt (V.Type.tree ty.now) (type_of n) U → place_of n ≡ span
         → IsReadAs V.tree V.is_of V.is_full o w U source n made → IsReadAs V.tree V.is_of V.is_full o w (V.Type.tree ty.now) source n result }
 {
@@ -87,8 +88,8 @@ pub(crate) fn around<V: WasmValue>(
         Err(error) => return Err(error),
     };
     match ty.kind() {
-        WasmTypeKind::Option => or_error_at(span, V::make_option(alloc, ty, Some(val))),
-        WasmTypeKind::Result => or_error_at(span, V::make_result(alloc, ty, Ok(Some(val)))),
+        WasmTypeKind::Option => or_error_at(alloc, span, V::make_option(alloc, ty, Some(val))),
+        WasmTypeKind::Result => or_error_at(alloc, span, V::make_result(alloc, ty, Ok(Some(val)))),
         WasmTypeKind::Bool
         | WasmTypeKind::S8
         | WasmTypeKind::S16
@@ -110,6 +111,6 @@ pub(crate) fn around<V: WasmValue>(
         | WasmTypeKind::Enum
         | WasmTypeKind::Flags
         | WasmTypeKind::Map
-        | WasmTypeKind::Unsupported => Err(ParserError::new(ParserErrorKind::InvalidType, span)),
+        | WasmTypeKind::Unsupported => Err(ReadError::new(ParserErrorKind::InvalidType, span)),
     }
 }

@@ -1,19 +1,23 @@
 //! Keys of maps, each of one token.
-ghost use Rattle.std.specs.Prelude.{ℕ, List};
+ghost use Rattle.std.specs.Prelude.{ℕ, List, ◌≡◌, IfOk};
+ghost use Rattle.std.specs.String.{string_bytes};
 ghost use Rattle.wave_wasm.specs.Types as type;
 ghost use Rattle.wave_grammar.specs.Shared.NodeAccessors.{GivesBoolKey};
+ghost use Rattle.wave_grammar.specs.TypeErrors.{key_due};
 ghost use Rattle.wave_read.specs.Keys.{IsDetailed, IsKeyReadOf, IsMapKeyReadOf, RefusesInKey};
 ghost use Rattle.wave_read.specs.Leaves.{leaf_node, IsLeafIn};
 
+use crate::error::ReadError;
 use crate::leaf::Leaf;
-use std::alloc::Global;
+use std::alloc::{AllocError, Global};
+use std::boxed::Box;
 use wave_grammar::form::NodeType;
-use wave_lex::error::{ParserError, ParserErrorKind};
+use wave_lex::error::ParserErrorKind;
 use wave_wasm::wasm::{DisplayType, WasmType, WasmTypeKind, WasmValue};
 
 impl<'src> Leaf<'src> {
     /// A key of a map. Of a label that spells none the refusal says what it should be.
-    pub fn read_key<V: WasmValue>(&self, alloc: Global, ty: &V::Type) -> Result<V, ParserError>
+    pub fn read_key<V: WasmValue>(&self, alloc: Global, ty: &V::Type) -> Result<V, ReadError>
         ensures answer { IsMapKeyReadOf V.tree V.is_of V.is_full (V.Type.tree ty.now) self.now result }
         ensures within { RefusesInKey self.now result }
     {
@@ -25,37 +29,30 @@ impl<'src> Leaf<'src> {
 
     /// The refusal of a key; where a label is none of the type, with a detail that says which key is
     /// due.
-    fn with_key_detail<T: WasmType>(&self, alloc: Global, ty: &T, error: ParserError) -> ParserError
+    fn with_key_detail<T: WasmType>(&self, alloc: Global, ty: &T, error: ReadError) -> ReadError
         ensures { IsDetailed (T.tree ty.now) self.now error result }
     {
-        if error.kind() != ParserErrorKind::InvalidType
-            || error.cause().is_some()
-            || self.ty != NodeType::Label
-        {
+        if self.ty != NodeType::Label || !error.is_wrong_form() {
             return error;
         }
-        match format!(in alloc;
-            "expected a {} key, found a label",
-            DisplayType::new(alloc, ty)
-        ) {
-            Ok(detail) => ParserError::with_detail(error.kind(), error.span(), detail),
+        match key_words(alloc, ty) {
+            Ok(words) => ReadError::with_words(ParserErrorKind::InvalidType, error.span(), words),
             Err(_) => self.error(ParserErrorKind::OutOfMemory),
         }
     }
 
     /// A key that is read by itself: the refusal of a label has no detail.
-    pub fn read_plain_key<V: WasmValue>(
-        &self,
-        alloc: Global,
-        ty: &V::Type,
-    ) -> Result<V, ParserError>
+    pub fn read_plain_key<V: WasmValue>(&self, alloc: Global, ty: &V::Type) -> Result<V, ReadError>
         ensures answer { IsKeyReadOf V.tree V.is_of V.is_full (V.Type.tree ty.now) self.now result }
         ensures within { RefusesInKey self.now result }
     {
         let kind = ty.kind();
         match kind {
-            WasmTypeKind::Bool => self.or_error_here(V::make_bool(alloc, self.as_bool_key()?)),
-            WasmTypeKind::Char => self.or_error_here(V::make_char(alloc, self.as_char()?)),
+            WasmTypeKind::Bool => self.or_error_here(
+                alloc,
+                V::make_bool(alloc, self.as_bool_key()?),
+            ),
+            WasmTypeKind::Char => self.or_error_here(alloc, V::make_char(alloc, self.as_char()?)),
             WasmTypeKind::String => self.read_string_key(alloc),
             WasmTypeKind::S8
             | WasmTypeKind::S16
@@ -82,16 +79,18 @@ impl<'src> Leaf<'src> {
     }
 
     /// A key of a map that is a string.
-    fn read_string_key<V: WasmValue>(&self, alloc: Global) -> Result<V, ParserError>
+    fn read_string_key<V: WasmValue>(&self, alloc: Global) -> Result<V, ReadError>
         ensures answer { IsKeyReadOf V.tree V.is_of V.is_full (type.simple type.string) self.now result }
         ensures within { RefusesInKey self.now result }
     {
-        let text = self.as_str(alloc)?;
-        self.made_string(alloc, text)
+        match self.as_str(alloc) {
+            Ok(text) => self.made_string(alloc, text),
+            Err(error) => Err(ReadError::of_error(alloc, error)),
+        }
     }
 
     /// The bool, at a key whose label is `true` or `false`; else `InvalidType`.
-    fn as_bool_key(&self) -> Result<bool, ParserError>
+    fn as_bool_key(&self) -> Result<bool, ReadError>
         ensures { (source : List ℕ) → IsLeafIn source self.now → GivesBoolKey source (leaf_node self.now) result }
     {
         if self.ty != NodeType::Label {
@@ -103,4 +102,15 @@ impl<'src> Leaf<'src> {
             _ => Err(self.error(ParserErrorKind::InvalidType)),
         }
     }
+}
+
+/// Which key is due, where a label is none of the type.
+fn key_words<T: WasmType>(alloc: Global, ty: &T) -> Result<Box<String>, AllocError>
+    ensures { IfOk result (λ words. string_bytes words.value ≡ key_due (T.tree ty.now)) }
+{
+    let words = format!(in alloc;
+        "expected a {} key, found a label",
+        DisplayType::new(alloc, ty)
+    )?;
+    Ok(Box::new(alloc, words)?)
 }

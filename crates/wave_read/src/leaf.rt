@@ -2,22 +2,23 @@
 ghost use Rattle.std.specs.Prelude.{ℕ, List, ◌≡◌, ◌≢◌, ◌++◌, IfOk, IfErr, MatchOption};
 ghost use Rattle.wave_wasm.specs.Types as type;
 ghost use Rattle.wave_wasm.specs.TypeText.{kind_word};
-ghost use Rattle.wave_wasm.specs.ValueErrors.{unsupported_type, cause_of};
-ghost use Rattle.wave_lex.specs.Errors.{refusal_of, refused_by};
+ghost use Rattle.wave_wasm.specs.ValueErrors.{unsupported_type};
 ghost use Rattle.wave_grammar.specs.FaultOrder.{Order};
 ghost use Rattle.wave_grammar.specs.NodeTree.{place_of};
 ghost use Rattle.wave_grammar.specs.NodeAccessors.{RefusedAs, GivesBool, GivesNumber, GivesChar};
-ghost use Rattle.wave_grammar.specs.TypedReading.{Answers, IsMade};
+ghost use Rattle.wave_grammar.specs.TypedReading.{Answers};
 ghost use Rattle.wave_grammar.specs.Shared.TypedReading.{IsCaused, AnswersWhole};
 ghost use Rattle.wave_grammar.specs.Shared.ErrorSpans.{RefusesAt};
+ghost use Rattle.wave_read.specs.Errors.{IsMadeOrMemory, IsRefusedBy};
 ghost use Rattle.wave_read.specs.Leaves.{leaf_node, IsLeafIn};
 ghost use Rattle.wave_read.specs.Reading.{IsReadOfLeaf};
 
+use crate::error::ReadError;
 use std::alloc::Global;
 use wave_grammar::form::NodeType;
 use wave_grammar::number::WholeNumber;
 use wave_grammar::text::char_in;
-use wave_lex::error::{ParserError, ParserErrorKind};
+use wave_lex::error::ParserErrorKind;
 use wave_lex::lex::Span;
 use wave_wasm::wasm::{WasmTypeKind, WasmValue, WasmValueError};
 
@@ -37,18 +38,18 @@ impl<'src> Leaf<'src> {
         &self,
         alloc: Global,
         kind: WasmTypeKind,
-    ) -> Result<V, ParserError>
+    ) -> Result<V, ReadError>
         ensures { (source : List ℕ) → IsLeafIn source self.now → AnswersWhole V.tree V.is_of V.is_full kind source (leaf_node self.now) result }
     {
         match kind {
-            WasmTypeKind::S8 => self.or_error_here(V::make_s8(alloc, self.as_number()?)),
-            WasmTypeKind::S16 => self.or_error_here(V::make_s16(alloc, self.as_number()?)),
-            WasmTypeKind::S32 => self.or_error_here(V::make_s32(alloc, self.as_number()?)),
-            WasmTypeKind::S64 => self.or_error_here(V::make_s64(alloc, self.as_number()?)),
-            WasmTypeKind::U8 => self.or_error_here(V::make_u8(alloc, self.as_number()?)),
-            WasmTypeKind::U16 => self.or_error_here(V::make_u16(alloc, self.as_number()?)),
-            WasmTypeKind::U32 => self.or_error_here(V::make_u32(alloc, self.as_number()?)),
-            WasmTypeKind::U64 => self.or_error_here(V::make_u64(alloc, self.as_number()?)),
+            WasmTypeKind::S8 => self.or_error_here(alloc, V::make_s8(alloc, self.as_number()?)),
+            WasmTypeKind::S16 => self.or_error_here(alloc, V::make_s16(alloc, self.as_number()?)),
+            WasmTypeKind::S32 => self.or_error_here(alloc, V::make_s32(alloc, self.as_number()?)),
+            WasmTypeKind::S64 => self.or_error_here(alloc, V::make_s64(alloc, self.as_number()?)),
+            WasmTypeKind::U8 => self.or_error_here(alloc, V::make_u8(alloc, self.as_number()?)),
+            WasmTypeKind::U16 => self.or_error_here(alloc, V::make_u16(alloc, self.as_number()?)),
+            WasmTypeKind::U32 => self.or_error_here(alloc, V::make_u32(alloc, self.as_number()?)),
+            WasmTypeKind::U64 => self.or_error_here(alloc, V::make_u64(alloc, self.as_number()?)),
             WasmTypeKind::Bool
             | WasmTypeKind::F32
             | WasmTypeKind::F64
@@ -69,24 +70,24 @@ impl<'src> Leaf<'src> {
     }
 
     /// A bool.
-    pub(crate) fn read_bool<V: WasmValue>(&self, alloc: Global) -> Result<V, ParserError>
+    pub(crate) fn read_bool<V: WasmValue>(&self, alloc: Global) -> Result<V, ReadError>
         ensures answer { (o w : Order) (source : List ℕ) → Answers V.tree V.is_of V.is_full o w (type.simple type.bool) source (leaf_node self.now) result }
         ensures within { IfErr result (RefusesAt (leaf_node self.now)) }
     {
         let val = self.as_bool()?;
-        self.or_error_here(V::make_bool(alloc, val))
+        self.or_error_here(alloc, V::make_bool(alloc, val))
     }
 
     /// A char.
-    pub(crate) fn read_char<V: WasmValue>(&self, alloc: Global) -> Result<V, ParserError>
+    pub(crate) fn read_char<V: WasmValue>(&self, alloc: Global) -> Result<V, ReadError>
         ensures { IsReadOfLeaf V.tree V.is_of V.is_full (type.simple type.char) self.now result }
     {
         let val = self.as_char()?;
-        self.or_error_here(V::make_char(alloc, val))
+        self.or_error_here(alloc, V::make_char(alloc, val))
     }
 
     /// The bool, at one of the two types of bools; else `InvalidType`.
-    pub(crate) fn as_bool(&self) -> Result<bool, ParserError>
+    pub(crate) fn as_bool(&self) -> Result<bool, ReadError>
         ensures { GivesBool (leaf_node self.now) result }
     {
         match self.ty {
@@ -98,7 +99,7 @@ impl<'src> Leaf<'src> {
 
     /// The number, at a number; else `InvalidType`. A number that is none of the type is
     /// `InvalidValue`.
-    pub(crate) fn as_number<T: WholeNumber>(&self) -> Result<T, ParserError>
+    pub(crate) fn as_number<T: WholeNumber>(&self) -> Result<T, ReadError>
         ensures { (source : List ℕ) → IsLeafIn source self.now → GivesNumber T.kind T.number source (leaf_node self.now) result }
     {
         if self.ty != NodeType::Number {
@@ -111,7 +112,7 @@ impl<'src> Leaf<'src> {
     }
 
     /// The char, at a char; else `InvalidType`. An escape of no scalar value is `InvalidEscape`.
-    pub(crate) fn as_char(&self) -> Result<char, ParserError>
+    pub(crate) fn as_char(&self) -> Result<char, ReadError>
         ensures gives { (source : List ℕ) → IsLeafIn source self.now → GivesChar source (leaf_node self.now) result }
         ensures ty { IfOk result (λ c. self.now.ty ≡ NodeType.Char) }
     {
@@ -139,38 +140,42 @@ impl<'src> Leaf<'src> {
 
     /// The value that was made, or its constructor's refusal as an error at the leaf.
     #[inline(always)]
-    pub fn or_error_here<V>(&self, made: Result<V, WasmValueError>) -> Result<V, ParserError>
-        ensures { IsMade (leaf_node self.now) made result }
+    pub(crate) fn or_error_here<V>(
+        &self,
+        alloc: Global,
+        made: Result<V, WasmValueError>,
+    ) -> Result<V, ReadError>
+        ensures { IsMadeOrMemory (leaf_node self.now) made result }
     {
         match made {
             Ok(val) => Ok(val),
-            Err(cause) => Err(self.refused(cause)),
+            Err(cause) => Err(self.refused(alloc, cause)),
         }
     }
 
     /// A refusal of this kind at the leaf.
-    pub fn error(&self, kind: ParserErrorKind) -> ParserError
+    pub fn error(&self, kind: ParserErrorKind) -> ReadError
         ensures { RefusedAs kind (leaf_node self.now) result }
     {
-        ParserError::new(kind, self.span.start..self.span.end)
+        ReadError::new(kind, self.span.start..self.span.end)
     }
 
     /// The refusal of a value's constructor at the leaf.
-    pub fn refused(&self, cause: WasmValueError) -> ParserError
-        ensures refusal { refusal_of result ≡ refused_by (cause_of cause) }
+    pub(crate) fn refused(&self, alloc: Global, cause: WasmValueError) -> ReadError
+        ensures refusal { IsRefusedBy cause result }
         ensures span { result.span ≡ place_of (leaf_node self.now) }
     {
-        ParserError::with_cause(self.span.start..self.span.end, cause)
+        ReadError::with_cause(alloc, self.span.start..self.span.end, cause)
     }
 
     /// A refusal because values of this kind can't be read.
-    pub fn unsupported(&self, alloc: Global, kind: WasmTypeKind) -> ParserError
+    pub fn unsupported(&self, alloc: Global, kind: WasmTypeKind) -> ReadError
         ensures cause { IsCaused (unsupported_type (kind_word kind)) (leaf_node self.now) result }
         ensures span { result.span ≡ place_of (leaf_node self.now) }
     {
         match kind.to_string(alloc) {
-            Ok(word) => self.refused(WasmValueError::UnsupportedType(word)),
-            Err(error) => self.refused(WasmValueError::Memory(error)),
+            Ok(word) => self.refused(alloc, WasmValueError::UnsupportedType(word)),
+            Err(error) => self.refused(alloc, WasmValueError::Memory(error)),
         }
     }
 }

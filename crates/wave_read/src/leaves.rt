@@ -9,6 +9,7 @@ ghost use Rattle.wave_read.specs.NamedFlags.{IsReadOfFlags};
 ghost use Rattle.wave_read.specs.Reading.{IsReadAs, IsReadOfLeaf};
 
 use crate::enums::read_enum;
+use crate::error::ReadError;
 use crate::flags::read_flags;
 use crate::flat::{around, flat_payload};
 use crate::leaf::Leaf;
@@ -19,7 +20,7 @@ use crate::variants::read_case;
 use std::alloc::Global;
 use std::collections::BTreeMap;
 use wave_grammar::form::NodeType;
-use wave_lex::error::{ParserError, ParserErrorKind};
+use wave_lex::error::ParserErrorKind;
 use wave_lex::lex::Span;
 use wave_wasm::wasm::{WasmType, WasmTypeKind, WasmValue};
 
@@ -29,7 +30,7 @@ pub(crate) fn read_leaf<V: WasmValue>(
     leaf: &Leaf<'_>,
     alloc: Global,
     ty: &V::Type,
-) -> Result<V, ParserError>
+) -> Result<V, ReadError>
     ensures { IsReadOfLeaf V.tree V.is_of V.is_full (V.Type.tree ty.now) leaf.now result }
 {
     match flat_payload(ty, leaf.ty) {
@@ -43,11 +44,7 @@ pub(crate) fn read_leaf<V: WasmValue>(
 
 /// The value of one token at the type, which is none of a flat payload.
 #[inline(always)]
-fn read_directly<V: WasmValue>(
-    leaf: &Leaf<'_>,
-    alloc: Global,
-    ty: &V::Type,
-) -> Result<V, ParserError>
+fn read_directly<V: WasmValue>(leaf: &Leaf<'_>, alloc: Global, ty: &V::Type) -> Result<V, ReadError>
     requires { (U : TypeTree) → IsFlatAt (V.Type.tree ty.now) leaf.now.ty U → ⊥ }
     ensures { IsReadOfLeaf V.tree V.is_of V.is_full (V.Type.tree ty.now) leaf.now result }
 {
@@ -92,7 +89,7 @@ pub(crate) fn flags_at<V: WasmValue>(
     ty: &V::Type,
     span: Span,
     flags: BTreeMap<&str, Span>,
-) -> Result<V, ParserError>
+) -> Result<V, ReadError>
     ensures { IsReadOfFlags V.tree V.is_of V.is_full (V.Type.tree ty.now) span flags.entry result }
 {
     match flat_payload(ty, NodeType::Flags) {
@@ -110,7 +107,7 @@ fn flags_directly<V: WasmValue>(
     ty: &V::Type,
     span: Span,
     flags: BTreeMap<&str, Span>,
-) -> Result<V, ParserError>
+) -> Result<V, ReadError>
     requires { (U : TypeTree) → IsFlatAt (V.Type.tree ty.now) node_type.Flags U → ⊥ }
     ensures { IsReadOfFlags V.tree V.is_of V.is_full (V.Type.tree ty.now) span flags.entry result }
 {
@@ -125,7 +122,7 @@ pub(crate) fn refuse_flags<V: WasmValue>(
     alloc: Global,
     ty: &V::Type,
     span: Span,
-) -> Result<V, ParserError>
+) -> Result<V, ReadError>
     requires kind { kind_of (V.Type.tree ty.now) ≢ WasmTypeKind.Flags }
     requires flat { (U : TypeTree) → IsFlatAt (V.Type.tree ty.now) node_type.Flags U → ⊥ }
     ensures { (o w : Order) (source : List ℕ) (n : NodeTree) → type_of n ≡ node_type.Flags → place_of n ≡ span
@@ -141,7 +138,7 @@ pub(crate) fn refuse_flags<V: WasmValue>(
         | WasmTypeKind::Variant
         | WasmTypeKind::Enum
         | WasmTypeKind::Option
-        | WasmTypeKind::Result => Err(ParserError::new(ParserErrorKind::InvalidType, span)),
+        | WasmTypeKind::Result => Err(ReadError::new(ParserErrorKind::InvalidType, span)),
         WasmTypeKind::Bool
         | WasmTypeKind::S8
         | WasmTypeKind::S16

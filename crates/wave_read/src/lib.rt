@@ -3,7 +3,7 @@
 #![tactic(auto)]
 
 mod enums;
-pub mod failure;
+pub mod error;
 mod fast;
 pub mod fault;
 mod flags;

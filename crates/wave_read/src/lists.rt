@@ -8,13 +8,13 @@ ghost use Rattle.wave_grammar.specs.Shared.TypedReading.{IsOfLength, IsOtherLeng
 ghost use Rattle.wave_read.specs.ListParts.{AreItems, element_due};
 ghost use Rattle.wave_read.specs.PartSteps.{AddsPart, IsWholeOf};
 
-use crate::failure::Failure;
+use crate::error::{ReadError, Reason};
 use crate::fault::or_error_at;
 use std::alloc::{AllocError, Global};
 use wave_grammar::form::NodeType;
-use wave_lex::error::ParserError;
+use wave_lex::error::ParserErrorKind;
 use wave_lex::lex::Span;
-use wave_wasm::wasm::{WasmType, WasmValue, WasmValueError};
+use wave_wasm::wasm::{WasmType, WasmValue};
 
 /// The items of a list so far. A fixed-length list of another number of items is refused for the
 /// number alone, so the refusal of an item is held until the end; the items after it are counted
@@ -28,7 +28,7 @@ pub struct Items<'ty, T, V> {
     /// The items that were read.
     items: Vec<V>,
     /// The refusal of the first item that was refused.
-    held: Option<Failure>,
+    held: Option<ReadError>,
     /// The number of all items so far.
     count: usize,
 }
@@ -64,7 +64,7 @@ impl<'ty, V: WasmValue> Items<'ty, V::Type, V> {
     pub(crate) fn push_part(
         &mut self,
         alloc: Global,
-        made: Result<V, Failure>,
+        made: Result<V, ReadError>,
     ) -> Result<(), AllocError>
         ensures { IfOk result (λ _. AddsPart AreItems V.Type.tree V.tree V.is_of V.is_full NodeType.List element_due self.old made self.new None) }
     {
@@ -81,15 +81,15 @@ impl<'ty, V: WasmValue> Items<'ty, V::Type, V> {
                 self.items.push_reserved(item);
                 Ok(())
             }
-            Err(failure) => {
-                self.held = Some(failure);
+            Err(error) => {
+                self.held = Some(error);
                 Ok(())
             }
         }
     }
 
     /// The list of these items, which stands here.
-    pub(crate) fn whole(self, alloc: Global, span: Span) -> Result<V, ParserError>
+    pub(crate) fn whole(self, alloc: Global, span: Span) -> Result<V, ReadError>
         ensures { IsWholeOf AreItems V.Type.tree V.tree V.is_of V.is_full NodeType.List self.entry span result }
     {
         let Items {
@@ -100,16 +100,16 @@ impl<'ty, V: WasmValue> Items<'ty, V::Type, V> {
             ..
         } = self;
         check_length(ty, count, &span)?;
-        if let Some(failure) = held {
-            return Err(failure.into_error());
+        if let Some(error) = held {
+            return Err(error);
         }
-        or_error_at(span, V::make_list(alloc, ty, items))
+        or_error_at(alloc, span, V::make_list(alloc, ty, items))
     }
 }
 
 /// Refuses a list of `got` items, which stands here, where the type is a fixed-length list of another
 /// number.
-fn check_length<T: WasmType>(ty: &T, got: usize, span: &Span) -> Result<(), ParserError>
+fn check_length<T: WasmType>(ty: &T, got: usize, span: &Span) -> Result<(), ReadError>
     ensures fits { IfOk result (λ done. IsOfLength (T.tree ty.now) got) }
     ensures other { IfErr result (λ e. (children : NodeTrees) → IsOtherLength (T.tree ty.now) got (node NodeType.List span.now children) e) }
 {
@@ -118,8 +118,8 @@ fn check_length<T: WasmType>(ty: &T, got: usize, span: &Span) -> Result<(), Pars
         None => return Ok(()),
     };
     if got != want as usize {
-        let cause = WasmValueError::WrongNumberOfElements { want, got };
-        return Err(ParserError::with_cause(span.start..span.end, cause));
+        let reason = Reason::Elements(ParserErrorKind::WasmValueError, want, got);
+        return Err(ReadError::at(span.start..span.end, reason));
     }
     Ok(())
 }

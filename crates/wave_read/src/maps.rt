@@ -7,13 +7,13 @@ ghost use Rattle.wave_read.specs.Reading.{IsReadAs};
 ghost use Rattle.wave_read.specs.MapParts.{AreEntries, value_type_due};
 ghost use Rattle.wave_read.specs.PartSteps.{AddsKey, AddsPart, IsWholeOf};
 
-use crate::failure::Failure;
-use crate::fault::Fault;
+use crate::error::ReadError;
+use crate::fault::{Fault, or_error_at};
 use crate::leaf::Leaf;
 use std::alloc::{AllocError, Global};
 use wave_grammar::form::NodeType;
 use wave_grammar::typed::merged;
-use wave_lex::error::{ParserError, ParserErrorKind};
+use wave_lex::error::ParserErrorKind;
 use wave_lex::lex::Span;
 use wave_wasm::wasm::{WasmType, WasmTypeKind, WasmValue};
 
@@ -69,10 +69,7 @@ impl<'ty, V: WasmValue> Entries<'ty, V::Type, V> {
                 drop(self.key.replace(key));
                 Ok(None)
             }
-            Err(error) => {
-                let failure = Failure::told(alloc, error)?;
-                Ok(Some(Fault::Told(failure)))
-            }
+            Err(error) => Ok(Some(Fault::Part(error))),
         }
     }
 
@@ -88,18 +85,15 @@ impl<'ty, V: WasmValue> Entries<'ty, V::Type, V> {
     }
 
     /// The map of the entries, which stands here, each key once.
-    pub(crate) fn whole(self, alloc: Global, span: Span) -> Result<V, ParserError>
+    pub(crate) fn whole(self, alloc: Global, span: Span) -> Result<V, ReadError>
         ensures { IsWholeOf AreEntries V.Type.tree V.tree V.is_of V.is_full NodeType.TupleSet self.entry span result }
     {
         let Entries { ty, entries, .. } = self;
         let entries = match merged(alloc, entries) {
             Ok(entries) => entries,
-            Err(_) => return Err(ParserError::new(ParserErrorKind::OutOfMemory, span)),
+            Err(_) => return Err(ReadError::new(ParserErrorKind::OutOfMemory, span)),
         };
-        match V::make_map(alloc, ty, entries) {
-            Ok(val) => Ok(val),
-            Err(cause) => Err(ParserError::with_cause(span, cause)),
-        }
+        or_error_at(alloc, span, V::make_map(alloc, ty, entries))
     }
 }
 
@@ -108,12 +102,9 @@ pub(crate) fn read_no_entries<V: WasmValue>(
     alloc: Global,
     ty: &V::Type,
     span: Span,
-) -> Result<V, ParserError>
+) -> Result<V, ReadError>
     requires { kind_of (V.Type.tree ty.now) ≡ WasmTypeKind.Map }
     ensures { (o w : Order) (source : List ℕ) → IsReadAs V.tree V.is_of V.is_full o w (V.Type.tree ty.now) source (node NodeType.EmptySet span no_nodes) result }
 {
-    match V::make_map(alloc, ty, Vec::new(alloc)) {
-        Ok(val) => Ok(val),
-        Err(cause) => Err(ParserError::with_cause(span, cause)),
-    }
+    or_error_at(alloc, span, V::make_map(alloc, ty, Vec::new(alloc)))
 }

@@ -8,11 +8,11 @@ ghost use Rattle.wave_read.specs.Reading.{IsReadAs};
 ghost use Rattle.wave_read.specs.Payloads.{AreOfSome, some_due};
 ghost use Rattle.wave_read.specs.PartSteps.{AddsPart, IsWholeOf};
 
-use crate::failure::Failure;
+use crate::error::ReadError;
 use crate::fault::or_error_at;
 use crate::leaf::Leaf;
 use std::alloc::{AllocError, Global};
-use wave_lex::error::{ParserError, ParserErrorKind};
+use wave_lex::error::ParserErrorKind;
 use wave_lex::lex::Span;
 use wave_wasm::wasm::{WasmType, WasmTypeKind, WasmValue};
 
@@ -24,7 +24,7 @@ pub struct SomePayload<'ty, T, V> {
     /// The type of the payload.
     due: &'ty T,
     /// The payload or its refusal, once it was read.
-    made: Option<Result<V, Failure>>,
+    made: Option<Result<V, ReadError>>,
 }
 
 impl<'ty, V: WasmValue> SomePayload<'ty, V::Type, V> {
@@ -52,7 +52,7 @@ impl<'ty, V: WasmValue> SomePayload<'ty, V::Type, V> {
     pub(crate) fn push_part(
         &mut self,
         alloc: Global,
-        made: Result<V, Failure>,
+        made: Result<V, ReadError>,
     ) -> Result<(), AllocError>
         ensures { IfOk result (λ _. AddsPart AreOfSome V.Type.tree V.tree V.is_of V.is_full node_type.OptionSome some_due self.old made self.new None) }
     {
@@ -61,14 +61,14 @@ impl<'ty, V: WasmValue> SomePayload<'ty, V::Type, V> {
     }
 
     /// `some` of the payload that was read, at this place.
-    pub(crate) fn whole(self, alloc: Global, span: Span) -> Result<V, ParserError>
+    pub(crate) fn whole(self, alloc: Global, span: Span) -> Result<V, ReadError>
         ensures { IsWholeOf AreOfSome V.Type.tree V.tree V.is_of V.is_full node_type.OptionSome self.entry span result }
     {
         let SomePayload { ty, due: _, made } = self;
         match made {
-            Some(Ok(val)) => or_error_at(span, V::make_option(alloc, ty, Some(val))),
-            Some(Err(failure)) => Err(failure.into_error()),
-            None => Err(ParserError::new(ParserErrorKind::InvalidType, span)),
+            Some(Ok(val)) => or_error_at(alloc, span, V::make_option(alloc, ty, Some(val))),
+            Some(Err(error)) => Err(error),
+            None => Err(ReadError::new(ParserErrorKind::InvalidType, span)),
         }
     }
 }
@@ -78,10 +78,10 @@ pub(crate) fn read_none<V: WasmValue>(
     leaf: &Leaf<'_>,
     alloc: Global,
     ty: &V::Type,
-) -> Result<V, ParserError>
+) -> Result<V, ReadError>
     requires form { leaf.now.ty ≡ node_type.OptionNone }
     requires kind { kind_of (V.Type.tree ty.now) ≡ WasmTypeKind.Option }
     ensures { (o w : Order) (source : List ℕ) → IsReadAs V.tree V.is_of V.is_full o w (V.Type.tree ty.now) source (leaf_node leaf.now) result }
 {
-    leaf.or_error_here(V::make_option(alloc, ty, None))
+    leaf.or_error_here(alloc, V::make_option(alloc, ty, None))
 }

@@ -13,11 +13,12 @@ ghost use Rattle.wave_lex.specs.Errors.{Says};
 ghost use Rattle.wave_read.specs.Flat.{IsFlatAt};
 ghost use Rattle.wave_read.specs.PartsOfKinds.{AreParts, AreNoItems, IsBare, IsSimpleAt, TakesEmptySet, next_due, AreNoPartsYet};
 ghost use Rattle.wave_read.specs.declared.parts.Partial.TheVariants as parts;
+ghost use Rattle.wave_read.specs.declared.error.Reason.TheVariants as reason;
 ghost use Rattle.wave_read.specs.declared.fault.Fault.TheVariants as fault;
 ghost use Rattle.wave_lex.specs.declared.error.ParserErrorKind.TheVariants as why;
 ghost use Rattle.wave_grammar.specs.declared.form.NodeType.TheVariants as node_type;
 
-use crate::failure::Failure;
+use crate::error::{ReadError, Reason};
 use crate::fault::Fault;
 use crate::flags::read_no_flags;
 use crate::leaf::Leaf;
@@ -30,7 +31,7 @@ use crate::tuples::TupleItems;
 use crate::variants::CasePayload;
 use std::alloc::{AllocError, Global};
 use wave_grammar::form::NodeType;
-use wave_lex::error::{ParserError, ParserErrorKind};
+use wave_lex::error::ParserErrorKind;
 use wave_lex::lex::Span;
 use wave_wasm::wasm::{WasmType, WasmTypeKind, WasmValue};
 
@@ -194,16 +195,16 @@ impl<'ty, V: WasmValue> Partial<'ty, V::Type, V> {
 
     /// Parts of a value of a form that its type doesn't take.
     fn wrong_form() -> Self
-        ensures { result ≡ parts.Faulty (fault.Kind why.InvalidType) }
+        ensures { result ≡ parts.Faulty (fault.Whole (reason.Plain why.InvalidType)) }
     {
-        Partial::Faulty(Fault::Kind(ParserErrorKind::InvalidType))
+        Partial::Faulty(Fault::Whole(Reason::Plain(ParserErrorKind::InvalidType)))
     }
 
     /// Parts of a value whose type could not be asked for lack of memory.
     fn out_of_memory(error: AllocError) -> Self
-        ensures { result ≡ parts.Faulty (fault.Kind why.OutOfMemory) }
+        ensures { result ≡ parts.Faulty (fault.Whole (reason.Plain why.OutOfMemory)) }
     {
-        Partial::Faulty(Fault::Kind(ParserErrorKind::OutOfMemory))
+        Partial::Faulty(Fault::Whole(Reason::Plain(ParserErrorKind::OutOfMemory)))
     }
 
     /// The type of the value that comes next, where one is due.
@@ -251,7 +252,7 @@ impl<'ty, V: WasmValue> Partial<'ty, V::Type, V> {
     pub(crate) fn push_part(
         &mut self,
         alloc: Global,
-        made: Result<V, Failure>,
+        made: Result<V, ReadError>,
     ) -> Result<(), AllocError>
         ensures grown { IfOk result (λ _. (w : Order) (T : TypeTree) (source : List ℕ) (of : NodeType) (children : List NodeTree) (n : NodeTree)
             → TakesPart of children → AreParts V.Type.tree V.tree V.is_of V.is_full w T source of children self.old
@@ -267,7 +268,11 @@ impl<'ty, V: WasmValue> Partial<'ty, V::Type, V> {
 
     /// The same for the parts of a value that is no list.
     #[inline(never)]
-    fn push_other_part(&mut self, alloc: Global, made: Result<V, Failure>) -> Result<(), AllocError>
+    fn push_other_part(
+        &mut self,
+        alloc: Global,
+        made: Result<V, ReadError>,
+    ) -> Result<(), AllocError>
         requires { AreNoItems self.now }
         ensures grown { IfOk result (λ _. (w : Order) (T : TypeTree) (source : List ℕ) (of : NodeType) (children : List NodeTree) (n : NodeTree)
             → TakesPart of children → AreParts V.Type.tree V.tree V.is_of V.is_full w T source of children self.old
@@ -277,7 +282,7 @@ impl<'ty, V: WasmValue> Partial<'ty, V::Type, V> {
     {
         let val = match made {
             Ok(val) => val,
-            Err(failure) => return self.push_failed(alloc, failure),
+            Err(error) => return self.push_failed(alloc, error),
         };
         match self {
             Partial::TupleItems(row) => row.push_part(val),
@@ -299,21 +304,21 @@ impl<'ty, V: WasmValue> Partial<'ty, V::Type, V> {
     /// The same for a part that was refused.
     #[cold]
     #[inline(never)]
-    fn push_failed(&mut self, alloc: Global, failure: Failure) -> Result<(), AllocError>
+    fn push_failed(&mut self, alloc: Global, error: ReadError) -> Result<(), AllocError>
         requires { AreNoItems self.now }
         ensures grown { IfOk result (λ _. (w : Order) (T : TypeTree) (source : List ℕ) (of : NodeType) (children : List NodeTree) (n : NodeTree)
             → TakesPart of children → AreParts V.Type.tree V.tree V.is_of V.is_full w T source of children self.old
-            → IsReadWhereDue V.tree V.is_of V.is_full w w (shown V.Type.tree (next_due self.old)) source n (Err failure)
+            → IsReadWhereDue V.tree V.is_of V.is_full w w (shown V.Type.tree (next_due self.old)) source n (Err error)
             → AreParts V.Type.tree V.tree V.is_of V.is_full w T source of (children ++ n ∷ []) self.new) }
         ensures bare { IsBare self.old → (self.new ≡ self.old) × IsOk result }
     {
         let found = match self {
-            Partial::TupleItems(row) => row.push_failed(failure)?,
-            Partial::OfSome(payload) => return payload.push_part(alloc, Err(failure)),
-            Partial::OfResult(payload) => return payload.push_part(alloc, Err(failure)),
-            Partial::OfCase(_) => Some(Fault::Told(failure)),
-            Partial::Fields(_) => Some(Fault::Told(failure)),
-            Partial::Entries(_) => Some(Fault::Told(failure)),
+            Partial::TupleItems(row) => row.push_failed(error)?,
+            Partial::OfSome(payload) => return payload.push_part(alloc, Err(error)),
+            Partial::OfResult(payload) => return payload.push_part(alloc, Err(error)),
+            Partial::OfCase(_) => Some(Fault::Part(error)),
+            Partial::Fields(_) => Some(Fault::Part(error)),
+            Partial::Entries(_) => Some(Fault::Part(error)),
             _ => None,
         };
         self.wrong(found);
@@ -331,7 +336,7 @@ impl<'ty, V: WasmValue> Partial<'ty, V::Type, V> {
     }
 
     /// The value of these parts, which stands here.
-    pub(crate) fn whole(self, alloc: Global, span: Span) -> Result<V, ParserError>
+    pub(crate) fn whole(self, alloc: Global, span: Span) -> Result<V, ReadError>
         ensures read { (w : Order) (T : TypeTree) (source : List ℕ) (of : NodeType) (children : List NodeTree)
             → AreParts V.Type.tree V.tree V.is_of V.is_full w T source of children self.entry
             → IsReadAs V.tree V.is_of V.is_full in_text w T source (node of span (node_trees children)) result }
@@ -354,7 +359,7 @@ impl<'ty, V: WasmValue> Partial<'ty, V::Type, V> {
 
 /// No flags, or no entries, where `{}` stands here.
 #[inline(never)]
-fn read_empty<V: WasmValue>(alloc: Global, ty: &V::Type, span: Span) -> Result<V, ParserError>
+fn read_empty<V: WasmValue>(alloc: Global, ty: &V::Type, span: Span) -> Result<V, ReadError>
     ensures { (o w : Order) (source : List ℕ) → TakesEmptySet (V.Type.tree ty.now)
         → IsReadAs V.tree V.is_of V.is_full o w (V.Type.tree ty.now) source (node node_type.EmptySet span no_nodes) result }
 {
@@ -382,7 +387,7 @@ fn read_empty<V: WasmValue>(alloc: Global, ty: &V::Type, span: Span) -> Result<V
         | WasmTypeKind::Enum
         | WasmTypeKind::Option
         | WasmTypeKind::Result
-        | WasmTypeKind::Unsupported => Err(ParserError::new(ParserErrorKind::InvalidType, span)),
+        | WasmTypeKind::Unsupported => Err(ReadError::new(ParserErrorKind::InvalidType, span)),
     }
 }
 
@@ -393,7 +398,7 @@ pub(crate) fn refuse_simple<V: WasmValue>(
     alloc: Global,
     ty: &V::Type,
     span: Span,
-) -> Result<V, ParserError>
+) -> Result<V, ReadError>
     ensures read { IsReadOfForm V.tree V.is_of V.is_full (V.Type.tree ty.now) span result }
     ensures plain { IsPlain (V.Type.tree ty.now) → IfErr result (λ e. Says e why.InvalidType span None) }
 {

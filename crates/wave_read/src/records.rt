@@ -13,13 +13,13 @@ ghost use Rattle.wave_read.specs.RecordParts.{IsMissingOrMemory, IsToldAs, type_
 ghost use Rattle.wave_read.specs.declared.records.Field.{Field};
 ghost use Rattle.wave_read.specs.PartSteps.{AddsKey, AddsPart, IsWholeOf};
 
-use crate::failure::Failure;
-use crate::fault::Fault;
+use crate::error::{ReadError, Reason, StaticDetail, repeated_words};
+use crate::fault::{Fault, or_error_at};
 use std::alloc::{AllocError, Global};
 use std::boxed::Box;
 use wave_grammar::form::NodeType;
 use wave_grammar::label::label_name;
-use wave_lex::error::{ParserError, ParserErrorKind};
+use wave_lex::error::ParserErrorKind;
 use wave_lex::lex::Span;
 use wave_wasm::wasm::{WasmType, WasmTypeKind, WasmValue, WasmValueError};
 
@@ -124,7 +124,7 @@ impl<'ty, T, V> Fields<'ty, T, V> {
         }
         let name = label_name(text);
         let Some(i) = self.place(name) else {
-            return Ok(Err(Fault::Kind(ParserErrorKind::InvalidValue)));
+            return Ok(Err(Fault::Whole(Reason::Plain(ParserErrorKind::InvalidValue))));
         };
         let field = &self.fields[i];
         if field.value.is_some() {
@@ -199,15 +199,12 @@ impl<'ty, V: WasmValue> Fields<'ty, V::Type, V> {
     }
 
     /// The record of the fields, which stands here.
-    pub(crate) fn whole(self, alloc: Global, span: Span) -> Result<V, ParserError>
+    pub(crate) fn whole(self, alloc: Global, span: Span) -> Result<V, ReadError>
         ensures { IsWholeOf AreFields V.Type.tree V.tree V.is_of V.is_full NodeType.TupleSet self.entry span result }
     {
         let Fields { ty, fields, .. } = self;
         let fields = filled(alloc, fields, &span)?;
-        match V::make_record(alloc, ty, fields) {
-            Ok(val) => Ok(val),
-            Err(cause) => Err(ParserError::with_cause(span, cause)),
-        }
+        or_error_at(alloc, span, V::make_record(alloc, ty, fields))
     }
 }
 
@@ -243,7 +240,7 @@ fn filled<'ty, V: WasmValue>(
     alloc: Global,
     fields: Vec<Field<'ty, V::Type, V>>,
     span: &Span,
-) -> Result<Vec<(&'ty str, V)>, ParserError>
+) -> Result<Vec<(&'ty str, V)>, ReadError>
     ensures full { IfOk result (λ all. AreFull V.tree V.is_of V.Type.tree fields.entry.items all.items) }
     ensures refused { IfErr result (λ e. (n : NodeTree) → place_of n ≡ span.now → IsLeftUnfilled V.is_full V.Type.tree fields.entry.items n e) }
     ensures within { IfErr result (λ e. (n : NodeTree) → place_of n ≡ span.now → RefusesAt n e) }
@@ -268,11 +265,11 @@ fn filled<'ty, V: WasmValue>(
 /// That there was no memory for a record that stands here.
 #[cold]
 #[inline(never)]
-fn out_of_memory(span: &Span) -> ParserError
+fn out_of_memory(span: &Span) -> ReadError
     ensures kind { result.kind ≡ OutOfMemory }
     ensures span { result.span ≡ span.now }
 {
-    ParserError::new(ParserErrorKind::OutOfMemory, span.start..span.end)
+    ReadError::new(ParserErrorKind::OutOfMemory, span.start..span.end)
 }
 
 /// `none`, for a field that is left out of a record that stands here, where its type is an option.
@@ -283,7 +280,7 @@ pub fn left_out<V: WasmValue>(
     name: &str,
     ty: &V::Type,
     span: &Span,
-) -> Result<V, ParserError>
+) -> Result<V, ReadError>
     ensures answer { (n : NodeTree) → place_of n ≡ span.now → HasDistinctNames (V.Type.tree ty.now)
         → MatchResult result (IsLeftOut V.tree V.is_of (V.Type.tree ty.now)) (IsMissing V.is_full (V.Type.tree ty.now) name.now n) }
     ensures within { IfErr result (λ e. (n : NodeTree) → place_of n ≡ span.now → RefusesAt n e) }
@@ -317,7 +314,7 @@ pub fn left_out<V: WasmValue>(
         | WasmTypeKind::Map
         | WasmTypeKind::Unsupported => missing(alloc, name),
     };
-    Err(ParserError::with_cause(span.start..span.end, refusal))
+    Err(ReadError::with_cause(alloc, span.start..span.end, refusal))
 }
 
 /// That the field of this name is missing, or out of memory.
@@ -338,11 +335,8 @@ fn missing(alloc: Global, name: &str) -> WasmValueError
 fn no_label(span: Span) -> Fault
     ensures { IsToldAs InvalidType span field_label_due result }
 {
-    Fault::Told(Failure::with_static(
-        ParserErrorKind::InvalidType,
-        span,
-        "expected a record field label",
-    ))
+    let reason = Reason::Static(ParserErrorKind::InvalidType, StaticDetail::FieldLabel);
+    Fault::Part(ReadError::at(span, reason))
 }
 
 /// What is wrong with a key that stands here, whose name an earlier one has.
@@ -351,6 +345,6 @@ fn no_label(span: Span) -> Fault
 fn repeated(alloc: Global, span: Span, name: &str) -> Result<Fault, AllocError>
     ensures { IfOk result (IsToldAs DuplicateField span (repeated_name name.now)) }
 {
-    let detail = format!(in alloc; "\"{name}\"")?;
-    Ok(Fault::Told(Failure::with_detail(ParserErrorKind::DuplicateField, span, detail)))
+    let words = repeated_words(alloc, name)?;
+    Ok(Fault::Part(ReadError::with_words(ParserErrorKind::DuplicateField, span, words)))
 }

@@ -12,11 +12,10 @@ ghost use Rattle.wave_read.specs.Reading.{IsReadAs};
 ghost use Rattle.wave_read.specs.Payloads.{AreOfResult, IsReadPayload, payload_cause, result_node, result_name, result_with, result_due};
 ghost use Rattle.wave_read.specs.PartSteps.{AddsPart};
 
-use crate::failure::Failure;
+use crate::error::ReadError;
 use crate::fault::or_error_at;
 use crate::leaf::Leaf;
 use std::alloc::{AllocError, Global};
-use wave_lex::error::ParserError;
 use wave_lex::lex::Span;
 use wave_wasm::wasm::{WasmType, WasmTypeKind, WasmValue, WasmValueError};
 
@@ -30,7 +29,7 @@ pub struct ResultPayload<'ty, T, V> {
     /// The type of the payload, where one is due.
     due: Option<&'ty T>,
     /// The payload or its refusal, once it was read; where none is due, whatever was made of it.
-    made: Option<Result<V, Failure>>,
+    made: Option<Result<V, ReadError>>,
 }
 
 impl<'ty, V: WasmValue> ResultPayload<'ty, V::Type, V> {
@@ -61,7 +60,7 @@ impl<'ty, V: WasmValue> ResultPayload<'ty, V::Type, V> {
     pub(crate) fn push_part(
         &mut self,
         alloc: Global,
-        made: Result<V, Failure>,
+        made: Result<V, ReadError>,
     ) -> Result<(), AllocError>
         ensures parts { IfOk result (λ _. AddsPart AreOfResult V.Type.tree V.tree V.is_of V.is_full (result_node self.old.is_ok) result_due
             self.old made self.new None) }
@@ -72,7 +71,7 @@ impl<'ty, V: WasmValue> ResultPayload<'ty, V::Type, V> {
     }
 
     /// `ok` or `err` with the payload that was read, or without one, at this place.
-    pub(crate) fn whole(self, alloc: Global, span: Span) -> Result<V, ParserError>
+    pub(crate) fn whole(self, alloc: Global, span: Span) -> Result<V, ReadError>
         ensures { (o w : Order) (T : TypeTree) (source : List ℕ) (children : List NodeTree) → AreOfResult V.Type.tree V.tree V.is_of V.is_full w T source children self.entry
             → IsReadAs V.tree V.is_of V.is_full o w T source (node (result_node self.entry.is_ok) span (node_trees children)) result }
     {
@@ -83,7 +82,11 @@ impl<'ty, V: WasmValue> ResultPayload<'ty, V::Type, V> {
             made,
         } = self;
         match read_payload(alloc, case_name(is_ok), due, made, span.start..span.end) {
-            Ok(payload) => or_error_at(span, V::make_result(alloc, ty, case_with(is_ok, payload))),
+            Ok(payload) => or_error_at(
+                alloc,
+                span,
+                V::make_result(alloc, ty, case_with(is_ok, payload)),
+            ),
             Err(error) => Err(error),
         }
     }
@@ -109,7 +112,7 @@ pub(crate) fn read_alone<V: WasmValue>(
     alloc: Global,
     ty: &V::Type,
     is_ok: bool,
-) -> Result<V, ParserError>
+) -> Result<V, ReadError>
     requires form { leaf.now.ty ≡ result_node is_ok }
     requires kind { kind_of (V.Type.tree ty.now) ≡ WasmTypeKind.Result }
     ensures { (o w : Order) (source : List ℕ) → IsReadAs V.tree V.is_of V.is_full o w (V.Type.tree ty.now) source (leaf_node leaf.now) result }
@@ -123,9 +126,9 @@ fn read_payload<V: WasmValue>(
     alloc: Global,
     name: &str,
     due: Option<&V::Type>,
-    made: Option<Result<V, Failure>>,
+    made: Option<Result<V, ReadError>>,
     span: Span,
-) -> Result<Option<V>, ParserError>
+) -> Result<Option<V>, ReadError>
     ensures answer { (w : Order) (source : List ℕ) (children : List NodeTree) (n : NodeTree) → place_of n ≡ span
         → IsReadPayload V.tree V.is_of V.is_full w (shown V.Type.tree due.entry) source children made
         → AnswersPayload V.tree V.is_of V.is_full w name.now (shown V.Type.tree due.entry) source n (first_of children) result }
@@ -136,7 +139,7 @@ fn read_payload<V: WasmValue>(
     match due {
         Some(_) => match made {
             Some(Ok(val)) => Ok(Some(val)),
-            Some(Err(failure)) => Err(failure.into_error()),
+            Some(Err(error)) => Err(error),
             None => Err(refused_payload(alloc, name, true, span)),
         },
         None => match made {
@@ -148,7 +151,7 @@ fn read_payload<V: WasmValue>(
 
 /// A refusal, at this place, of the payload of the case of this name: it is due and not there, or
 /// there and not due.
-fn refused_payload(alloc: Global, name: &str, is_due: bool, span: Span) -> ParserError
+fn refused_payload(alloc: Global, name: &str, is_due: bool, span: Span) -> ReadError
     ensures cause { (n : NodeTree) → place_of n ≡ span → IsCaused (payload_cause is_due name.now) n result }
     ensures span { result.span ≡ span }
 {
@@ -157,5 +160,5 @@ fn refused_payload(alloc: Global, name: &str, is_due: bool, span: Span) -> Parse
         Ok(name) if is_due => WasmValueError::MissingPayload(name),
         Ok(name) => WasmValueError::UnexpectedPayload(name),
     };
-    ParserError::with_cause(span, cause)
+    ReadError::with_cause(alloc, span, cause)
 }

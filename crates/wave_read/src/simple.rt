@@ -6,16 +6,17 @@ ghost use Rattle.wave_read.specs.Leaves.{IsSimpleOrUnreadable};
 ghost use Rattle.wave_read.specs.PlainReading.{IsPlain};
 ghost use Rattle.wave_read.specs.Reading.{IsReadOfLeaf, IsReadOfForm};
 
+use crate::error::ReadError;
 use crate::leaf::Leaf;
 use std::alloc::Global;
 use wave_grammar::form::NodeType;
-use wave_lex::error::{ParserError, ParserErrorKind};
+use wave_lex::error::ParserErrorKind;
 use wave_wasm::wasm::{WasmType, WasmTypeKind, WasmValue};
 
 impl<'src> Leaf<'src> {
     /// A bool, a whole number, a char or a string. A type that has no values is refused.
     #[inline(always)]
-    pub fn read_simple<V: WasmValue>(&self, alloc: Global, ty: &V::Type) -> Result<V, ParserError>
+    pub fn read_simple<V: WasmValue>(&self, alloc: Global, ty: &V::Type) -> Result<V, ReadError>
         ensures { IsSimpleOrUnreadable (V.Type.tree ty.now) → IsReadOfLeaf V.tree V.is_of V.is_full (V.Type.tree ty.now) self.now result }
     {
         let kind = ty.kind();
@@ -49,7 +50,7 @@ impl<'src> Leaf<'src> {
 
     /// The refusal of a node that stands here and is no leaf: `InvalidType` at a simple type, and
     /// that of the type where it has no values.
-    pub fn refuse_form<V: WasmValue>(&self, alloc: Global, ty: &V::Type) -> Result<V, ParserError>
+    pub fn refuse_form<V: WasmValue>(&self, alloc: Global, ty: &V::Type) -> Result<V, ReadError>
         ensures read { IsReadOfForm V.tree V.is_of V.is_full (V.Type.tree ty.now) self.now.span result }
         ensures plain { IsPlain (V.Type.tree ty.now) → IfErr result (λ e. Says e InvalidType self.now.span None) }
     {

@@ -5,13 +5,14 @@ ghost use Rattle.std.specs.Result.{IsErrAnd};
 ghost use Rattle.wave_wasm.specs.Types as type;
 ghost use Rattle.wave_wasm.specs.Values as value;
 ghost use Rattle.wave_grammar.specs.StringAssembly.{WantsMemory};
-ghost use Rattle.wave_grammar.specs.NodeAccessors.{GivesParts};
+ghost use Rattle.wave_grammar.specs.NodeAccessors.{GivesParts, RefusedAs};
 ghost use Rattle.wave_grammar.specs.NodeStrings.{GivesString};
 ghost use Rattle.wave_grammar.specs.Nodes.{IsParsedFrom};
 ghost use Rattle.wave_grammar.specs.TypedReading.{IsLeafMade};
 ghost use Rattle.wave_read.specs.Leaves.{leaf_node, IsLeafIn};
 ghost use Rattle.wave_read.specs.Reading.{IsReadOfLeaf};
 
+use crate::error::ReadError;
 use crate::leaf::Leaf;
 use std::alloc::Global;
 use std::borrow::CowStr;
@@ -23,11 +24,13 @@ use wave_wasm::wasm::WasmValue;
 
 impl<'src> Leaf<'src> {
     /// A string.
-    pub(crate) fn read_string<V: WasmValue>(&self, alloc: Global) -> Result<V, ParserError>
+    pub(crate) fn read_string<V: WasmValue>(&self, alloc: Global) -> Result<V, ReadError>
         ensures { IsReadOfLeaf V.tree V.is_of V.is_full (type.simple type.string) self.now result }
     {
-        let text = self.as_str(alloc)?;
-        self.made_string(alloc, text)
+        match self.as_str(alloc) {
+            Ok(text) => self.made_string(alloc, text),
+            Err(error) => Err(ReadError::of_error(alloc, error)),
+        }
     }
 
     /// The text, at a string and at a multiline string; else `InvalidType`. It is borrowed where
@@ -43,10 +46,10 @@ impl<'src> Leaf<'src> {
     {
         match self.ty {
             NodeType::String | NodeType::MultilineString => {}
-            _ => return Err(self.error(ParserErrorKind::InvalidType)),
+            _ => return Err(self.parser_error(ParserErrorKind::InvalidType)),
         }
         if !self.fits() {
-            return Err(self.error(ParserErrorKind::OutOfMemory));
+            return Err(self.parser_error(ParserErrorKind::OutOfMemory));
         }
         let parts = self.iter_str()?;
         joined(alloc, parts, &self.span)
@@ -62,14 +65,21 @@ impl<'src> Leaf<'src> {
         match self.ty {
             NodeType::String => match self.inside("\"") {
                 Some(inside) => Ok(StringPartsIter::new(inside, self.span.start + 1)),
-                None => Err(self.error(ParserErrorKind::InvalidType)),
+                None => Err(self.parser_error(ParserErrorKind::InvalidType)),
             },
             NodeType::MultilineString => match self.inside("\"\"\"") {
                 Some(inside) => StringPartsIter::new_multiline(inside, self.span.start + 3),
-                None => Err(self.error(ParserErrorKind::InvalidType)),
+                None => Err(self.parser_error(ParserErrorKind::InvalidType)),
             },
-            _ => Err(self.error(ParserErrorKind::InvalidType)),
+            _ => Err(self.parser_error(ParserErrorKind::InvalidType)),
         }
+    }
+
+    /// An error of this kind at the leaf, as the parts of strings answer one.
+    fn parser_error(&self, kind: ParserErrorKind) -> ParserError
+        ensures { RefusedAs kind (leaf_node self.now) result }
+    {
+        ParserError::new(kind, self.span.start..self.span.end)
     }
 
     /// Whether a place after the text, three bytes further, is still a number of bytes.
@@ -84,12 +94,12 @@ impl<'src> Leaf<'src> {
         &self,
         alloc: Global,
         val: CowStr<'_>,
-    ) -> Result<V, ParserError>
+    ) -> Result<V, ReadError>
         ensures { IsLeafMade V.tree V.is_of V.is_full (value.string (cow_str_bytes val.entry)) (leaf_node self.now) result }
     {
         match val {
-            CowStr::Borrowed(text) => self.or_error_here(V::make_string(alloc, text)),
-            CowStr::Owned(text) => self.or_error_here(V::make_string(alloc, text.as_str())),
+            CowStr::Borrowed(text) => self.or_error_here(alloc, V::make_string(alloc, text)),
+            CowStr::Owned(text) => self.or_error_here(alloc, V::make_string(alloc, text.as_str())),
         }
     }
 }

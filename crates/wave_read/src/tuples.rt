@@ -1,19 +1,19 @@
 //! Tuples, read at their types.
 ghost use Rattle.std.specs.Prelude.{ℕ, List, [], ◌≡◌, ◌≢◌, Ok, Err, None, length, IfOk, IfSome, MatchOption};
 ghost use Rattle.wave_wasm.specs.Types.{kind_of};
-ghost use Rattle.wave_wasm.specs.ValueErrors.{wrong_number};
+ghost use Rattle.wave_wasm.specs.ValueErrors as causes;
 ghost use Rattle.wave_lex.specs.Errors.{caused, refusal_of};
 ghost use Rattle.wave_grammar.specs.FaultOrder.{Order};
 ghost use Rattle.wave_read.specs.TupleParts.{IsRow, item_due};
 ghost use Rattle.wave_read.specs.PartSteps.{AddsPart, IsWholeOf};
 
-use crate::failure::Failure;
+use crate::error::{ReadError, Reason};
 use crate::fault::{Fault, or_error_at};
 use std::alloc::{AllocError, Global};
 use wave_grammar::form::NodeType;
-use wave_lex::error::ParserError;
+use wave_lex::error::ParserErrorKind;
 use wave_lex::lex::Span;
-use wave_wasm::wasm::{WasmType, WasmTypeKind, WasmValue, WasmValueError};
+use wave_wasm::wasm::{WasmType, WasmTypeKind, WasmValue};
 
 /// The items of a tuple so far. Items beyond those that the type has are counted and not kept.
 #[derive(Drop)]
@@ -73,8 +73,8 @@ impl<'ty, V: WasmValue> TupleItems<'ty, V::Type, V> {
     /// Counts an item that was refused, and answers what is wrong with the tuple where it was due.
     #[cold]
     #[inline(never)]
-    pub(crate) fn push_failed(&mut self, failure: Failure) -> Result<Option<Fault>, AllocError>
-        ensures { IfOk result (AddsPart IsRow V.Type.tree V.tree V.is_of V.is_full NodeType.Tuple item_due self.old (Err failure) self.new) }
+    pub(crate) fn push_failed(&mut self, error: ReadError) -> Result<Option<Fault>, AllocError>
+        ensures { IfOk result (AddsPart IsRow V.Type.tree V.tree V.is_of V.is_full NodeType.Tuple item_due self.old (Err error) self.new) }
     {
         match self.count.checked_add(1) {
             Some(count) => self.count = count,
@@ -83,26 +83,25 @@ impl<'ty, V: WasmValue> TupleItems<'ty, V::Type, V> {
         if self.next().is_none() {
             return Ok(None);
         }
-        Ok(Some(Fault::Told(failure)))
+        Ok(Some(Fault::Part(error)))
     }
 
     /// The refusal of a tuple that stands here and has this many items, where the type has another
     /// number of them.
-    pub(crate) fn miscounted(&self, alloc: Global, span: Span, count: usize) -> Option<Failure>
+    pub(crate) fn miscounted(&self, span: Span, count: usize) -> Option<ReadError>
         ensures count { MatchOption result (count ≡ length self.now.types.items) (λ _. count ≢ length self.now.types.items) }
-        ensures refusal { IfSome result (λ failure. refusal_of failure ≡ caused (wrong_number (length self.now.types.items) count)) }
-        ensures span { IfSome result (λ failure. failure.span ≡ span) }
+        ensures refusal { IfSome result (λ error. refusal_of error ≡ caused (causes.wrong_number (length self.now.types.items) count)) }
+        ensures span { IfSome result (λ error. error.span ≡ span) }
     {
         let want = self.types.len();
         if count == want {
             return None;
         }
-        let cause = WasmValueError::WrongNumberOfTupleValues { want, got: count };
-        Some(Failure::new(alloc, ParserError::with_cause(span, cause)))
+        Some(wrong_number(span, want, count))
     }
 
     /// The tuple of these items, which stands here.
-    pub(crate) fn whole(self, alloc: Global, span: Span) -> Result<V, ParserError>
+    pub(crate) fn whole(self, alloc: Global, span: Span) -> Result<V, ReadError>
         ensures { IsWholeOf IsRow V.Type.tree V.tree V.is_of V.is_full NodeType.Tuple self.entry span result }
     {
         let TupleItems {
@@ -113,9 +112,21 @@ impl<'ty, V: WasmValue> TupleItems<'ty, V::Type, V> {
         } = self;
         let want = types.len();
         if count != want {
-            let cause = WasmValueError::WrongNumberOfTupleValues { want, got: count };
-            return Err(ParserError::with_cause(span, cause));
+            return Err(wrong_number(span, want, count));
         }
-        or_error_at(span, V::make_tuple(alloc, ty, items))
+        or_error_at(alloc, span, V::make_tuple(alloc, ty, items))
     }
+}
+
+/// That a tuple, which stands here, has another number of items than its type.
+#[cold]
+#[inline(never)]
+fn wrong_number(span: Span, want: usize, got: usize) -> ReadError
+    ensures refusal { refusal_of result ≡ caused (causes.wrong_number want got) }
+    ensures span { result.span ≡ span }
+{
+    ReadError::at(
+        span,
+        Reason::TupleValues(ParserErrorKind::WasmValueError, want, got),
+    )
 }

@@ -15,7 +15,7 @@ ghost use Rattle.wave_read.specs.Flat.{IsAround, IsAroundWhereDue, IsCounted, Re
 ghost use Rattle.wave_read.specs.KeptParts.{AreKeptWhereDue};
 ghost use Rattle.wave_read.specs.PartsOfKinds.{AreDoomedAtOnce, next_due};
 
-use crate::failure::{Failure, kept};
+use crate::error::{ReadError, Reason};
 use crate::fault::Fault;
 use crate::flat::{around, type_of_parts};
 use crate::leaf::Leaf;
@@ -25,7 +25,7 @@ use std::alloc::{AllocError, Global};
 use std::collections::BTreeMap;
 use wave_grammar::builder::Builder;
 use wave_grammar::form::NodeType;
-use wave_lex::error::{ParserError, ParserErrorKind};
+use wave_lex::error::ParserErrorKind;
 use wave_lex::lex::Span;
 use wave_wasm::wasm::{WasmType, WasmTypeKind, WasmValue};
 
@@ -64,7 +64,7 @@ impl<'ty, V: WasmValue> ValueBuilder<'ty, V> {
 
     /// What is read of a node of one token, of this text.
     #[inline(always)]
-    pub fn token(self, alloc: Global, ty: NodeType, span: Span, text: &str) -> Result<V, Failure>
+    pub fn token(self, alloc: Global, ty: NodeType, span: Span, text: &str) -> Result<V, ReadError>
         ensures { (o w : Order) (source : List ℕ) → IsOneToken ty → text.now ≡ slice source span
             → IsReadSparing V.tree V.is_of V.is_full o w (shown V.Type.tree self.entry.due) source (node ty span no_nodes) result }
     {
@@ -72,32 +72,37 @@ impl<'ty, V: WasmValue> ValueBuilder<'ty, V> {
         match self.due {
             Some(due) => match leaf.read_fast(alloc, due) {
                 Some(val) => Ok(val),
-                None => kept(alloc, read_leaf(&leaf, alloc, due)),
+                None => read_leaf(&leaf, alloc, due),
             },
-            None => Err(Failure::plain(ParserErrorKind::InvalidType, leaf.span)),
+            None => Err(ReadError::new(ParserErrorKind::InvalidType, leaf.span)),
         }
     }
 
     /// What is read of a node of these flags.
-    pub fn names(self, alloc: Global, span: Span, flags: BTreeMap<&str, Span>) -> Result<V, Failure>
+    pub fn names(
+        self,
+        alloc: Global,
+        span: Span,
+        flags: BTreeMap<&str, Span>,
+    ) -> Result<V, ReadError>
         ensures { (o w : Order) (source : List ℕ) → AreFlagsOf source flags.entry
             → IsReadSparing V.tree V.is_of V.is_full o w (shown V.Type.tree self.entry.due) source (node node_type.Flags span (flag_nodes flags.entry)) result }
     {
         match self.due {
-            Some(due) => kept(alloc, flags_at(alloc, due, span, flags)),
-            None => Err(Failure::plain(ParserErrorKind::InvalidType, span)),
+            Some(due) => flags_at(alloc, due, span, flags),
+            None => Err(ReadError::new(ParserErrorKind::InvalidType, span)),
         }
     }
 
     /// What is read of a node of flags that stands here, where no flags are due.
-    pub fn no_flags(self, alloc: Global, span: Span) -> Option<Result<V, Failure>>
+    pub fn no_flags(self, alloc: Global, span: Span) -> Option<Result<V, ReadError>>
         ensures read { IfSome result (λ made. (o w : Order) (source : List ℕ) (n : NodeTree) → type_of n ≡ node_type.Flags → place_of n ≡ span
             → IsReadSparing V.tree V.is_of V.is_full o w (shown V.Type.tree self.entry.due) source n made) }
         ensures due { IfNone result ((T : TypeTree) → shown V.Type.tree self.entry.due ≡ Some T → ReadsFlags T) }
     {
         let due = match self.due {
             Some(due) => due,
-            None => return Some(Err(Failure::plain(ParserErrorKind::InvalidType, span))),
+            None => return Some(Err(ReadError::new(ParserErrorKind::InvalidType, span))),
         };
         let (around, ty) = type_of_parts(due, NodeType::Flags);
         if ty.kind() == WasmTypeKind::Flags {
@@ -118,7 +123,7 @@ impl<'ty, V: WasmValue> ValueBuilder<'ty, V> {
             Some(due) => Frame::new(alloc, due, ty),
             None => Frame {
                 around: None,
-                parts: Partial::Faulty(Fault::Kind(ParserErrorKind::InvalidType)),
+                parts: Partial::Faulty(Fault::Whole(Reason::Plain(ParserErrorKind::InvalidType))),
             },
         }
     }
@@ -130,14 +135,14 @@ pub fn surrounded<V: WasmValue>(
     whole: Option<&V::Type>,
     ty: &V::Type,
     span: Span,
-    made: Result<V, ParserError>,
-) -> Result<V, Failure>
+    made: Result<V, ReadError>,
+) -> Result<V, ReadError>
     ensures { (o w : Order) (T : TypeTree) (source : List ℕ) (n : NodeTree) → IsAround V.Type.tree T (type_of n) whole.entry ty.entry → place_of n ≡ span
         → IsReadAs V.tree V.is_of V.is_full o w (V.Type.tree ty.now) source n made → IsReadAs V.tree V.is_of V.is_full o w T source n result }
 {
     match whole {
-        Some(whole) => kept(alloc, around(alloc, whole, span, made)),
-        None => kept(alloc, made),
+        Some(whole) => around(alloc, whole, span, made),
+        None => made,
     }
 }
 
@@ -165,18 +170,18 @@ impl<'ty, V: WasmValue> Frame<'ty, V::Type, V> {
 
     /// The refusal of a node that stands here and has this many parts, before any of them is read: where
     /// the type takes no such form, or tuples of another number of items.
-    pub fn refused(&self, alloc: Global, span: Span, count: usize) -> Option<Failure>
-        ensures refused { IfSome result (λ failure. (w : Order) (due : Option TypeTree) (source : List ℕ) (ty : NodeType) (children : List NodeTree)
+    pub fn refused(&self, span: Span, count: usize) -> Option<ReadError>
+        ensures refused { IfSome result (λ error. (w : Order) (due : Option TypeTree) (source : List ℕ) (ty : NodeType) (children : List NodeTree)
             → IsOfParts ty → length children ≡ count → AreKeptWhereDue V.Type.tree V.tree V.is_of V.is_full w due source ty [] self.now
             → ((T : TypeTree) → due ≡ Some T → AreDoomedAtOnce V.Type.tree V.tree V.is_of V.is_full T ty self.now.parts)
-            → IsReadSparing V.tree V.is_of V.is_full by_type w due source (node ty span (node_trees children)) (Err failure)) }
+            → IsReadSparing V.tree V.is_of V.is_full by_type w due source (node ty span (node_trees children)) (Err error)) }
         ensures counted { IfNone result ((w : Order) (T : TypeTree) (source : List ℕ) (ty : NodeType) → IsOfParts ty
             → AreKeptWhereDue V.Type.tree V.tree V.is_of V.is_full w (Some T) source ty [] self.now
             → AreDoomedAtOnce V.Type.tree V.tree V.is_of V.is_full T ty self.now.parts → IsCounted T ty count) }
     {
         match &self.parts {
             Partial::Faulty(fault) => fault.of_kind(span),
-            Partial::TupleItems(row) => row.miscounted(alloc, span, count),
+            Partial::TupleItems(row) => row.miscounted(span, count),
             _ => None,
         }
     }
@@ -210,7 +215,7 @@ impl<'ty, V: WasmValue> Frame<'ty, V::Type, V> {
 
     /// Adds a part, which was read by the builder of the next part.
     #[inline(always)]
-    pub fn push_part(&mut self, alloc: Global, made: Result<V, Failure>) -> Result<(), AllocError>
+    pub fn push_part(&mut self, alloc: Global, made: Result<V, ReadError>) -> Result<(), AllocError>
         ensures kept { IfOk result (λ _. (w : Order) (due : Option TypeTree) (source : List ℕ) (whole : NodeType) (children : List NodeTree) (n : NodeTree)
             → TakesPart whole children → AreKeptWhereDue V.Type.tree V.tree V.is_of V.is_full w due source whole children self.old
             → IsReadSparing V.tree V.is_of V.is_full w w (shown V.Type.tree (next_due self.old.parts)) source n made
@@ -222,7 +227,7 @@ impl<'ty, V: WasmValue> Frame<'ty, V::Type, V> {
     }
 
     /// What is read of a node that stands here and has these parts.
-    pub fn whole(self, alloc: Global, span: Span) -> Result<V, Failure>
+    pub fn whole(self, alloc: Global, span: Span) -> Result<V, ReadError>
         ensures { (w : Order) (due : Option TypeTree) (source : List ℕ) (ty : NodeType) (children : List NodeTree)
             → AreKeptWhereDue V.Type.tree V.tree V.is_of V.is_full w due source ty children self.entry
             → IsReadSparing V.tree V.is_of V.is_full in_text w due source (node ty span (node_trees children)) result }
@@ -231,14 +236,14 @@ impl<'ty, V: WasmValue> Frame<'ty, V::Type, V> {
         let Frame { around: ty, parts } = self;
         let made = parts.whole(alloc, span);
         match ty {
-            Some(ty) => kept(alloc, around(alloc, ty, place, made)),
-            None => kept(alloc, made),
+            Some(ty) => around(alloc, ty, place, made),
+            None => made,
         }
     }
 }
 
 impl<'ty, V: WasmValue> Builder for ValueBuilder<'ty, V> {
-    type Made = Result<V, Failure>;
+    type Made = Result<V, ReadError>;
 
     type Parts = Frame<'ty, V::Type, V>;
 
@@ -261,7 +266,7 @@ impl<'ty, V: WasmValue> Builder for ValueBuilder<'ty, V> {
         next_takes V.Type.tree V.tree V.is_of V.is_full in_text (shown V.Type.tree builder.due) source ty children kept are takes };
 
     #[inline(always)]
-    fn leaf(self, alloc: Global, ty: NodeType, span: Span, text: &str) -> Result<V, Failure> {
+    fn leaf(self, alloc: Global, ty: NodeType, span: Span, text: &str) -> Result<V, ReadError> {
         self.token(alloc, ty, span, text)
     }
 
@@ -292,7 +297,7 @@ impl<'ty, V: WasmValue> Builder for ValueBuilder<'ty, V> {
         self,
         alloc: Global,
         parts: &mut Frame<'ty, V::Type, V>,
-        made: Result<V, Failure>,
+        made: Result<V, ReadError>,
     ) -> Result<(), AllocError> {
         parts.push_part(alloc, made)
     }
@@ -304,7 +309,7 @@ impl<'ty, V: WasmValue> Builder for ValueBuilder<'ty, V> {
         ty: NodeType,
         span: Span,
         parts: Frame<'ty, V::Type, V>,
-    ) -> Result<V, Failure> {
+    ) -> Result<V, ReadError> {
         parts.whole(alloc, span)
     }
 
@@ -313,7 +318,7 @@ impl<'ty, V: WasmValue> Builder for ValueBuilder<'ty, V> {
         alloc: Global,
         span: Span,
         flags: BTreeMap<&str, Span>,
-    ) -> Result<Result<V, Failure>, AllocError> {
+    ) -> Result<Result<V, ReadError>, AllocError> {
         Ok(self.names(alloc, span, flags))
     }
 }

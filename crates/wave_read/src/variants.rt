@@ -12,12 +12,13 @@ ghost use Rattle.wave_read.specs.PartSteps.{AddsKey, AddsPart, IsWholeOf};
 ghost use Rattle.wave_read.specs.Reading.{IsReadOfLeaf};
 
 use crate::enums::no_case;
-use crate::fault::{Fault, caused};
+use crate::error::ReadError;
+use crate::fault::{Fault, caused, or_error_at};
 use crate::leaf::Leaf;
 use std::alloc::{AllocError, Global};
 use wave_grammar::form::NodeType;
 use wave_grammar::label::label_name;
-use wave_lex::error::{ParserError, ParserErrorKind};
+use wave_lex::error::ParserErrorKind;
 use wave_lex::lex::Span;
 use wave_wasm::wasm::{WasmType, WasmTypeKind, WasmValue, WasmValueError};
 
@@ -93,18 +94,15 @@ impl<'ty, V: WasmValue> CasePayload<'ty, V::Type, V> {
     }
 
     /// The variant of the case and the payload that were read, at this place.
-    pub(crate) fn whole(self, alloc: Global, span: Span) -> Result<V, ParserError>
+    pub(crate) fn whole(self, alloc: Global, span: Span) -> Result<V, ReadError>
         ensures { IsWholeOf AreCaseParts V.Type.tree V.tree V.is_of V.is_full node_type.VariantWithPayload self.entry span result }
     {
         let CasePayload { ty, case, payload } = self;
         let (name, val) = match (case, payload) {
             (Some((name, _)), Some(val)) => (name, val),
-            _ => return Err(ParserError::new(ParserErrorKind::InvalidType, span)),
+            _ => return Err(ReadError::new(ParserErrorKind::InvalidType, span)),
         };
-        match V::make_variant(alloc, ty, name, Some(val)) {
-            Ok(val) => Ok(val),
-            Err(cause) => Err(ParserError::with_cause(span, cause)),
-        }
+        or_error_at(alloc, span, V::make_variant(alloc, ty, name, Some(val)))
     }
 }
 
@@ -113,7 +111,7 @@ pub(crate) fn read_case<V: WasmValue>(
     leaf: &Leaf<'_>,
     alloc: Global,
     ty: &V::Type,
-) -> Result<V, ParserError>
+) -> Result<V, ReadError>
     requires { kind_of (V.Type.tree ty.now) ≡ WasmTypeKind.Variant }
     ensures { IsReadOfLeaf V.tree V.is_of V.is_full (V.Type.tree ty.now) leaf.now result }
 {
@@ -123,19 +121,19 @@ pub(crate) fn read_case<V: WasmValue>(
     let name = label_name(leaf.text);
     match ty.variant_case(alloc, name) {
         Ok(Some((_, Some(_)))) => Err(no_payload(leaf, alloc, name)),
-        Ok(Some((_, None))) => leaf.or_error_here(V::make_variant(alloc, ty, name, None)),
+        Ok(Some((_, None))) => leaf.or_error_here(alloc, V::make_variant(alloc, ty, name, None)),
         Ok(None) => Err(no_case(leaf, alloc, name)),
         Err(_) => Err(leaf.error(ParserErrorKind::OutOfMemory)),
     }
 }
 
 /// A refusal at the leaf because the case of this name has a payload.
-fn no_payload(leaf: &Leaf<'_>, alloc: Global, name: &str) -> ParserError
+fn no_payload(leaf: &Leaf<'_>, alloc: Global, name: &str) -> ReadError
     ensures cause { IsCaused (missing_payload name.now) (leaf_node leaf.now) result }
     ensures span { result.span ≡ place_of (leaf_node leaf.now) }
 {
     match String::from_str(alloc, name) {
-        Ok(name) => leaf.refused(WasmValueError::MissingPayload(name)),
-        Err(error) => leaf.refused(WasmValueError::Memory(error)),
+        Ok(name) => leaf.refused(alloc, WasmValueError::MissingPayload(name)),
+        Err(error) => leaf.refused(alloc, WasmValueError::Memory(error)),
     }
 }

@@ -25,17 +25,8 @@ use Rattle.wave_tree.specs.KeywordNodes.{RefusesKeyword}
 
 module _ {V S : Type 0} (tree : V → Value) (of : V → TypeTree → Type 0) (Full : TypeTree → Type 0) (o w : Order) (type_tree : S → TypeTree) where
   -- where this type is due, it is what is read at the type
-  due_read : (source : List ℕ) (n : NodeTree) (due : Option (Bor S)) (ty : Bor S) (r : Result V Diagnostic) → due ≡ Some ty → IsReadWhereDue tree of Full o w (shown type_tree due) source n r → IsReadAs tree of Full o w (type_tree ty.now) source n r
+  pub due_read : (source : List ℕ) (n : NodeTree) (due : Option (Bor S)) (ty : Bor S) (r : Result V Diagnostic) → due ≡ Some ty → IsReadWhereDue tree of Full o w (shown type_tree due) source n r → IsReadAs tree of Full o w (type_tree ty.now) source n r
   due_read source n due ty r e h = subst (λ (d : Option (Bor S)). IsReadWhereDue tree of Full o w (shown type_tree d) source n r) e h
-
-  -- a value
-  pub due_value : (source : List ℕ) (n : NodeTree) (due : Option (Bor S)) (ty : Bor S) (r : Result V Diagnostic) (v : V) → due ≡ Some ty → IsReadWhereDue tree of Full o w (shown type_tree due) source n r → r ≡ Ok v → IsReadAs tree of Full o w (type_tree ty.now) source n (Ok v)
-  due_value source n due ty r v e h is = subst (IsReadAs tree of Full o w (type_tree ty.now) source n) is (due_read source n due ty r e h)
-
-  -- a refusal, which is passed on
-  pub due_told : (source : List ℕ) (n : NodeTree) (due : Option (Bor S)) (ty : Bor S) (r : Result V Diagnostic) (e f : Diagnostic) → due ≡ Some ty → IsReadWhereDue tree of Full o w (shown type_tree due) source n r → r ≡ Err e → f ≡ e → IsReadAs tree of Full o w (type_tree ty.now) source n (Err f)
-  due_told source n due ty r e f same h is told =
-      subst (λ (d : Diagnostic). IsReadAs tree of Full o w (type_tree ty.now) source n (Err d)) (sym told) (subst (IsReadAs tree of Full o w (type_tree ty.now) source n) is (due_read source n due ty r same h))
 
   -- that of a record, where one is due at entries
   pub record_read : (source : List ℕ) (n : NodeTree) (due : Option TypeTree) (around : Option (Bor S)) (x : Bor S) (r : Result V Diagnostic) → type_of n ≡ kind.TupleSet → IsAroundWhereDue type_tree due kind.TupleSet around x → ((T : TypeTree) → IsAround type_tree T (type_of n) around x → IsReadAs tree of Full o w T source n r) → IsReadWhereDue tree of Full o w due source n r

@@ -40,6 +40,8 @@ use Rattle.wave_grammar.proofs.Fields.Entries.{AreFieldsOf, record_nodes, fields
 use Rattle.wave_grammar.proofs.Fields.FieldOrder.{unknown_blamed}
 use Rattle.wave_grammar.proofs.Fields.Reading.{RecordType, names_are, fields_distinct, given_fields, look_all, FieldIsRead, FieldsRead, record_reads, record_full}
 use Rattle.wave_grammar.proofs.ErrorSpans.Nodes.{BelongsTo, PairBelongs, entries_belong}
+use Rattle.wave_read.specs.Errors.{IsMadeOrMemory}
+use Rattle.wave_read.proofs.Errors.{made_anew}
 
 -- the name and the type at a place, where they are borrowed
 pub part_at : {S : Type 0} (type_tree : S → TypeTree) (xs : List (Bor (List ℕ) × Bor S)) (i : ℕ) (x : Bor (List ℕ) × Bor S) → i < length xs → x ≡ get_or xs i x → HasAt (shown_fields type_tree xs) i (x.0.now, type_tree x.1.now)
@@ -209,7 +211,7 @@ module _ {V : Type 0} (tree : V → Value) (of : V → TypeTree → Type 0) (Ful
   fields_kept ps es old new i name E key v typed before same now kept = rw (add-one, kept) (read_next ps es old i name E key v typed before same now)
 
   -- the record was made, or its constructor refused
-  pub record_made : (T : TypeTree) (parts : List (List ℕ × TypeTree)) (source : List ℕ) (n : NodeTree) (t : SpannedTree) (given : List (List ℕ × NodeTree)) (names : List (List ℕ)) (old left : BTreeMap (Bor (List ℕ)) (Bor NodeTree)) (hs : List (Bor (List ℕ) × V)) (m : Result V WasmValueError) (r : Result V Diagnostic) → (is : RecordType T parts) → HasDistinctNames T → (stands : IsNodeOf source n t) → (fields : IsFieldsOf source n given) → HoldsFields old given → names ≡ names_of parts → Removed names old left → btree_map_len left ≡ 0 → FieldsRead tree of Full parts (entry_list (record_nodes source n t stands fields.is_set).given) hs → IfOk m (MakesRecord tree of T hs) → IfErr m (FullRecord of Full T hs) → IsMade n m r → MatchResult r (IsTypedValue tree of T t) (IsBlamed Full by_type w T t)
+  record_made : (T : TypeTree) (parts : List (List ℕ × TypeTree)) (source : List ℕ) (n : NodeTree) (t : SpannedTree) (given : List (List ℕ × NodeTree)) (names : List (List ℕ)) (old left : BTreeMap (Bor (List ℕ)) (Bor NodeTree)) (hs : List (Bor (List ℕ) × V)) (m : Result V WasmValueError) (r : Result V Diagnostic) → (is : RecordType T parts) → HasDistinctNames T → (stands : IsNodeOf source n t) → (fields : IsFieldsOf source n given) → HoldsFields old given → names ≡ names_of parts → Removed names old left → btree_map_len left ≡ 0 → FieldsRead tree of Full parts (entry_list (record_nodes source n t stands fields.is_set).given) hs → IfOk m (MakesRecord tree of T hs) → IfErr m (FullRecord of Full T hs) → IsMade n m r → MatchResult r (IsTypedValue tree of T t) (IsBlamed Full by_type w T t)
   record_made T parts source n t given names old left hs m r is distinct stands fields held same removed empty h ok full done =
       let inner = record_nodes source n t stands fields.is_set in
       let all : AreFieldsOf source given (entry_list inner.given) = subst (λ (l : List (List ℕ × NodeTree)). AreFieldsOf source l (entry_list inner.given)) (sym fields.given) (fields_of_entries source (node_pairs (children_of n)) (entry_list inner.given) fields.labels inner.nodes) in
@@ -220,10 +222,11 @@ module _ {V : Type 0} (tree : V → Value) (of : V → TypeTree → Type 0) (Ful
       (record_full tree of Full T is.fields (entry_list inner.given) hs m is.is apart read full)
 
   -- so behind the last of the parts
-  pub record_done : (T : TypeTree) (parts : List (List ℕ × TypeTree)) (source : List ℕ) (n : NodeTree) (t : SpannedTree) (given : List (List ℕ × NodeTree)) (i : ℕ) (old left : BTreeMap (Bor (List ℕ)) (Bor NodeTree)) (hs : List (Bor (List ℕ) × V)) (m : Result V WasmValueError) (r : Result V Diagnostic) → (is : RecordType T parts) → HasDistinctNames T → (stands : IsNodeOf source n t) → (fields : IsFieldsOf source n given) → HoldsFields old given → length parts ≤ i → Removed (names_of (take i parts)) old left → btree_map_len left ≡ 0 → FieldsRead tree of Full (take i parts) (entry_list (record_nodes source n t stands fields.is_set).given) hs → IfOk m (MakesRecord tree of T hs) → IfErr m (FullRecord of Full T hs) → IsMade n m r → MatchResult r (IsTypedValue tree of T t) (IsBlamed Full by_type w T t)
+  pub record_done : (T : TypeTree) (parts : List (List ℕ × TypeTree)) (source : List ℕ) (n : NodeTree) (t : SpannedTree) (given : List (List ℕ × NodeTree)) (i : ℕ) (old left : BTreeMap (Bor (List ℕ)) (Bor NodeTree)) (hs : List (Bor (List ℕ) × V)) (m : Result V WasmValueError) (r : Result V Diagnostic) → (is : RecordType T parts) → HasDistinctNames T → (stands : IsNodeOf source n t) → (fields : IsFieldsOf source n given) → HoldsFields old given → length parts ≤ i → Removed (names_of (take i parts)) old left → btree_map_len left ≡ 0 → FieldsRead tree of Full (take i parts) (entry_list (record_nodes source n t stands fields.is_set).given) hs → IfOk m (MakesRecord tree of T hs) → IfErr m (FullRecord of Full T hs) → IsMadeOrMemory n m r → MatchResult r (IsTypedValue tree of T t) (IsBlamed Full by_type w T t)
   record_done T parts source n t given i old left hs m r is distinct stands fields held le removed empty h ok full done =
       let whole : take i parts ≡ parts = take_whole parts i le in
-      record_made T parts source n t given (names_of (take i parts)) old left hs m r is distinct stands fields held (ap names_of whole) removed empty (subst (λ (ps : List (List ℕ × TypeTree)). FieldsRead tree of Full ps (entry_list (record_nodes source n t stands fields.is_set).given) hs) whole h) ok full done
+      made_anew (MakesRecord tree of T hs) (FullRecord of Full T hs) n m r (λ a f fs is apart ordered same of. tt) ok full done (λ m ok full done.
+      record_made T parts source n t given (names_of (take i parts)) old left hs m r is distinct stands fields held (ap names_of whole) removed empty (subst (λ (ps : List (List ℕ × TypeTree)). FieldsRead tree of Full ps (entry_list (record_nodes source n t stands fields.is_set).given) hs) whole h) ok full done)
 
   -- an entry whose name is no field, where all fields were read
   pub unknown_blame : (T : TypeTree) (parts : List (List ℕ × TypeTree)) (source : List ℕ) (n : NodeTree) (t : SpannedTree) (given : List (List ℕ × NodeTree)) (i : ℕ) (old left : BTreeMap (Bor (List ℕ)) (Bor NodeTree)) (hs : List (Bor (List ℕ) × V)) (e : Diagnostic) → RecordType T parts → HasDistinctNames T → (stands : IsNodeOf source n t) → (fields : IsFieldsOf source n given) → HoldsFields old given → length parts ≤ i → Removed (names_of (take i parts)) old left → (btree_map_len left ≡ 0 → ⊥) → FieldsRead tree of Full (take i parts) (entry_list (record_nodes source n t stands fields.is_set).given) hs → IsRefusalOf error.InvalidValue (place_of n) (refusal_of e) e.span → IsBlamed Full by_type w T t e

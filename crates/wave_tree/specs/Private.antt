@@ -1,6 +1,5 @@
 pub mod ParsedNodes
 pub mod ParserState
-pub mod Refusals
 pub mod NodeDisplay
 pub mod UntypedCall
 pub mod CallEncoding

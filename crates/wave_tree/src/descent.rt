@@ -17,7 +17,6 @@ ghost use Rattle.wave_tree.specs.Private.ParsedNodes.{IsParsedBehind, IsOfPayloa
 ghost use Rattle.wave_tree.specs.Private.ParserState.{AsksFor, IsValueStart, OnlyOutOfMemory};
 
 use crate::ast::NodeType;
-use crate::refusal::Refusal;
 use crate::role::{ValueStart, key_type, value_start};
 use crate::tokens::Tokens;
 use std::alloc::Global;
@@ -25,6 +24,7 @@ use std::collections::BTreeMap;
 use wave_grammar::builder::Builder;
 use wave_grammar::label::label_name;
 use wave_lex::lex::{Span, Token};
+use wave_read::error::ReadError;
 
 impl<'source> Tokens<'source> {
     /// Reads a value.
@@ -33,7 +33,7 @@ impl<'source> Tokens<'source> {
         alloc: Global,
         builder: P,
         levels: u32,
-    ) -> Result<P::Made, Refusal>
+    ) -> Result<P::Made, ReadError>
         ensures led { GivesWithin result levels due.value [] self.old.place self.new.place }
         ensures tree { IfOk result (IsBuilt (P.is_made builder) self.old.place (IsParsed levels self.old.place self.new.place)) }
         ensures memory { IfErr result (OnlyOutOfMemory (P.takes_memory builder) self.old.place) }
@@ -58,7 +58,7 @@ impl<'source> Tokens<'source> {
         builder: P,
         parts: &mut P::Parts,
         levels: u32,
-    ) -> Result<(), Refusal>
+    ) -> Result<(), ReadError>
         ensures led { GivesWithin result levels due.value [] self.old.place self.new.place }
         ensures kept { let source = self.old.place.lexer.source in
             IfOk result (λ _. (of : NodeType) (children : List NodeTree) → TakesPart of children → P.are_parts builder source of children parts.old
@@ -93,7 +93,7 @@ impl<'source> Tokens<'source> {
         levels: u32,
         token: Token,
         front: ValueStart,
-    ) -> Result<P::Made, Refusal>
+    ) -> Result<P::Made, ReadError>
         requires levels { 0 < levels }
         requires front { IsValueStart token (text_at self.old.place) front }
         ensures led { (first : Place) → TakesClass token first self.old.place → GivesWithin result levels due.value [] first self.new.place }
@@ -145,7 +145,7 @@ impl<'source> Tokens<'source> {
         alloc: Global,
         builder: P,
         levels: u32,
-    ) -> Result<P::Made, Refusal>
+    ) -> Result<P::Made, ReadError>
         requires { word_of (text_at self.old.place) ≡ some_word }
         ensures led { GivesWithin result (levels + 1) due.paren [] self.old.place self.new.place }
         ensures tree { IfOk result (IsBuilt (P.is_made builder) self.old.place
@@ -169,7 +169,7 @@ impl<'source> Tokens<'source> {
         levels: u32,
         alone: NodeType,
         with: NodeType,
-    ) -> Result<P::Made, Refusal>
+    ) -> Result<P::Made, ReadError>
         requires { IsOneToken alone × IsOfPayload with }
         ensures led { GivesWithin result (levels + 1) due.behind_label [] self.old.place self.new.place }
         ensures tree { IfOk result (IsBuilt (P.is_made builder) self.old.place (IsMaybe levels alone with self.old.place self.new.place)) }
@@ -192,7 +192,7 @@ impl<'source> Tokens<'source> {
         alloc: Global,
         builder: P,
         ty: NodeType,
-    ) -> Result<P::Parts, Refusal>
+    ) -> Result<P::Parts, ReadError>
         ensures made { let source = self.now.place.lexer.source in
             IfOk result (λ made. IsOfParts ty → P.are_parts builder source ty (label_children ty (span_at self.now.place)) made) }
         ensures memory { IfErr result (λ e. e.kind ≡ kind.OutOfMemory) }
@@ -216,7 +216,7 @@ impl<'source> Tokens<'source> {
         ty: NodeType,
         start: usize,
         parts: P::Parts,
-    ) -> Result<P::Made, Refusal>
+    ) -> Result<P::Made, ReadError>
         ensures led { GivesWithin result (levels + 1) due.value (due.payload ∷ []) self.old.place self.new.place }
         ensures tree { IfOk result (λ made. (front : List NodeTree) → TakesPart ty front → P.are_parts builder self.old.place.lexer.source ty front parts
             → IsBuilt (P.is_made builder) self.old.place (IsPayload levels ty start front self.old.place self.new.place) made) }
@@ -239,7 +239,7 @@ impl<'source> Tokens<'source> {
         builder: P,
         levels: u32,
         close: Token,
-    ) -> Result<P::Made, Refusal>
+    ) -> Result<P::Made, ReadError>
         requires { IsClose close }
         ensures led { GivesWithin result (levels + 1) due.first_item (form_of close ∷ []) self.old.place self.new.place }
         ensures tree { IfOk result (IsBuilt (P.is_made builder) self.old.place (IsOfItems levels close self.old.place self.new.place)) }
@@ -285,7 +285,7 @@ impl<'source> Tokens<'source> {
         alloc: Global,
         builder: P,
         levels: u32,
-    ) -> Result<P::Made, Refusal>
+    ) -> Result<P::Made, ReadError>
         ensures led { GivesWithin result (levels + 1) due.in_braces [] self.old.place self.new.place }
         ensures tree { IfOk result (IsBuilt (P.is_made builder) self.old.place
             (IsParsedBehind lex_class.BraceOpen (levels + 1) self.old.place self.new.place)) }
@@ -324,7 +324,7 @@ impl<'source> Tokens<'source> {
         alloc: Global,
         builder: P,
         ty: NodeType,
-    ) -> Result<P::Parts, Refusal>
+    ) -> Result<P::Parts, ReadError>
         ensures made { let source = self.now.place.lexer.source in
             IfOk result (P.are_parts builder source node_type.TupleSet (node ty (span_at self.now.place) no_nodes ∷ [])) }
         ensures memory { IfErr result (λ e. e.kind ≡ kind.OutOfMemory) }
@@ -345,7 +345,7 @@ impl<'source> Tokens<'source> {
         levels: u32,
         start: usize,
         key: P::Parts,
-    ) -> Result<P::Made, Refusal>
+    ) -> Result<P::Made, ReadError>
         ensures led { GivesWithin result (levels + 1) due.value (due.entries ∷ []) self.old.place self.new.place }
         ensures tree { IfOk result (λ made. (first : NodeTree) → P.are_parts builder self.old.place.lexer.source node_type.TupleSet (first ∷ []) key
             → IsBuilt (P.is_made builder) self.old.place (IsOfEntries levels start first self.old.place self.new.place) made) }
@@ -380,7 +380,7 @@ impl<'source> Tokens<'source> {
         alloc: Global,
         builder: P,
         start: usize,
-    ) -> Result<P::Made, Refusal>
+    ) -> Result<P::Made, ReadError>
         requires { (next : Place) → TakesItem self.old.place (Some (Ok lex_class.Colon)) next → ⊥ }
         ensures led { GivesAnywhere result (due.behind_word (text_at self.old.place)) self.old.place self.new.place }
         ensures tree { IfOk result (IsBuilt (P.is_made builder) self.old.place (IsOfFlags start self.old.place self.new.place)) }
@@ -421,7 +421,7 @@ impl<'source> Tokens<'source> {
         builder: P,
         start: usize,
         flags: BTreeMap<&'source str, Span>,
-    ) -> Result<P::Made, Refusal>
+    ) -> Result<P::Made, ReadError>
         ensures made { let source = self.now.place.lexer.source in
             IfOk result (λ made. AreFlagsOf source flags.entry
             → P.is_made builder source (node node_type.Flags (span start self.now.place.lexer.end) (flag_nodes flags.entry)) made) }

@@ -19,7 +19,6 @@ mod params;
 pub mod parser;
 mod reading;
 mod record;
-mod refusal;
 mod role;
 mod tokens;
 mod typed;

@@ -5,7 +5,7 @@ ghost use Rattle.wave_wasm.specs.Borrowed.{shown};
 ghost use Rattle.wave_grammar.specs.FaultOrder.{by_type};
 ghost use Rattle.wave_grammar.specs.NodeTree.{node, type_of, place_of, children_of};
 ghost use Rattle.wave_grammar.specs.TypedReading.{IsValueOf};
-ghost use Rattle.wave_grammar.specs.NodeAccessors.{shown_node};
+ghost use Rattle.wave_grammar.specs.NodeAccessors.{RefusedAs, shown_node};
 ghost use Rattle.wave_grammar.specs.Shared.ErrorSpans.{RefusesInPart};
 ghost use Rattle.wave_grammar.specs.Shared.NodeFields.{AnswersField, IsFieldNode};
 ghost use Rattle.wave_grammar.specs.FlagParts.{AreFlagsOf, flag_nodes};
@@ -19,9 +19,9 @@ use crate::ast::{Node, NodeType};
 use std::alloc::{AllocError, Global};
 use std::collections::BTreeMap;
 use wave_grammar::label::label_name;
-use wave_lex::error::{ParserError, ParserErrorKind};
+use wave_lex::error::ParserErrorKind;
 use wave_lex::lex::Span;
-use wave_read::failure::Failure;
+use wave_read::error::ReadError;
 use wave_read::fault::or_error_at;
 use wave_read::records::left_out;
 use wave_read::values::{ValueBuilder, surrounded};
@@ -35,14 +35,13 @@ impl Node {
         alloc: Global,
         ty: &V::Type,
         src: &str,
-    ) -> Result<V, ParserError>
+    ) -> Result<V, ReadError>
         requires { IsValueOf src.now self.now }
         ensures { IsReadAs V.tree V.is_of V.is_full by_type by_type (V.Type.tree ty.now) src.now self.now result }
     {
         match self.make(alloc, ValueBuilder::<V>::new(ty), src) {
-            Ok(Ok(val)) => Ok(val),
-            Ok(Err(failure)) => Err(failure.into_error()),
-            Err(_) => Err(self.out_of_memory()),
+            Ok(made) => made,
+            Err(_) => Err(self.read_error(ParserErrorKind::OutOfMemory)),
         }
     }
 
@@ -54,7 +53,7 @@ impl Node {
         alloc: Global,
         builder: ValueBuilder<'_, V>,
         src: &str,
-    ) -> Result<Result<V, Failure>, AllocError>
+    ) -> Result<Result<V, ReadError>, AllocError>
         requires { IsValueOf src.now self.now }
         ensures { IfOk result (IsReadSparing V.tree V.is_of V.is_full by_type by_type (shown V.Type.tree builder.entry.due) src.now self.now) }
     {
@@ -78,7 +77,7 @@ impl Node {
         alloc: Global,
         builder: ValueBuilder<'_, V>,
         src: &str,
-    ) -> Result<V, Failure>
+    ) -> Result<V, ReadError>
         requires value { IsValueOf src.now self.now }
         requires form { IsOfOneToken self.now }
         ensures { IsReadSparing V.tree V.is_of V.is_full by_type by_type (shown V.Type.tree builder.entry.due) src.now self.now result }
@@ -93,7 +92,7 @@ impl Node {
         alloc: Global,
         builder: ValueBuilder<'_, V>,
         src: &str,
-    ) -> Result<Result<V, Failure>, AllocError>
+    ) -> Result<Result<V, ReadError>, AllocError>
         requires value { IsValueOf src.now self.now }
         requires form { type_of self.now ≡ NodeType.Flags }
         ensures { IfOk result (IsReadSparing V.tree V.is_of V.is_full by_type by_type (shown V.Type.tree builder.entry.due) src.now self.now) }
@@ -132,7 +131,7 @@ impl Node {
         alloc: Global,
         builder: ValueBuilder<'_, V>,
         src: &str,
-    ) -> Result<Result<V, Failure>, AllocError>
+    ) -> Result<Result<V, ReadError>, AllocError>
         requires value { IsValueOf src.now self.now }
         requires form { IsOfParts (type_of self.now) }
         requires no_record { (T : TypeTree) → shown V.Type.tree builder.due ≡ Some T → ReadsNoRecord T (type_of self.now) }
@@ -141,8 +140,8 @@ impl Node {
         let ty = self.ty();
         let mut parts = builder.begin(alloc, ty);
         let nodes = self.nodes();
-        if let Some(failure) = parts.refused(alloc, self.span(), nodes.len()) {
-            return Ok(Err(failure));
+        if let Some(error) = parts.refused(self.span(), nodes.len()) {
+            return Ok(Err(error));
         }
         for i in 0..nodes.len() {
             let node = &nodes[i];
@@ -166,29 +165,32 @@ impl Node {
         alloc: Global,
         ty: &V::Type,
         src: &str,
-    ) -> Result<V, ParserError>
+    ) -> Result<V, ReadError>
         requires node { IsValueOf src.now self.now }
         requires kind { kind_of (V.Type.tree ty.now) ≡ WasmTypeKind.Record }
         ensures { IsReadAs V.tree V.is_of V.is_full by_type by_type (V.Type.tree ty.now) src.now self.now result }
     {
         let types = match ty.record_fields(alloc) {
             Ok(types) => types,
-            Err(_) => return Err(self.out_of_memory()),
+            Err(_) => return Err(self.read_error(ParserErrorKind::OutOfMemory)),
         };
-        let mut nodes = self.fields(alloc, src)?;
+        let mut nodes = match self.fields(alloc, src) {
+            Ok(nodes) => nodes,
+            Err(error) => return Err(ReadError::of_error(alloc, error)),
+        };
         let mut fields = Vec::new(alloc);
         for i in 0..types.len() {
             let (name, field) = types[i];
             let node = nodes.remove(name);
             let val = self.read_field(alloc, name, field, node, src)?;
             if fields.push((name, val)).is_err() {
-                return Err(self.out_of_memory());
+                return Err(self.read_error(ParserErrorKind::OutOfMemory));
             }
         }
         if !nodes.is_empty() {
-            return Err(self.error(ParserErrorKind::InvalidValue));
+            return Err(self.read_error(ParserErrorKind::InvalidValue));
         }
-        or_error_at(self.span(), V::make_record(alloc, ty, fields))
+        or_error_at(alloc, self.span(), V::make_record(alloc, ty, fields))
     }
 
     /// The value of the record's field of this name: that of its node, or `none` where an option is
@@ -201,7 +203,7 @@ impl Node {
         ty: &V::Type,
         node: Option<&Node>,
         src: &str,
-    ) -> Result<V, ParserError>
+    ) -> Result<V, ReadError>
         requires { IsFieldNode src.now (shown_node node) }
         ensures answer { AnswersField V.tree V.is_of V.is_full by_type (V.Type.tree ty.now) src.now name.now self.now (shown_node node.entry) result }
         ensures within { IfErr result (RefusesInPart self.now (shown_node node.entry)) }
@@ -210,6 +212,13 @@ impl Node {
             Some(node) => node.read(alloc, ty, src),
             None => left_out(alloc, name, ty, &self.span()),
         }
+    }
+
+    /// An error of this kind at the node, on its way to the caller.
+    pub(crate) fn read_error(&self, kind: ParserErrorKind) -> ReadError
+        ensures { RefusedAs kind self.now result }
+    {
+        ReadError::new(kind, self.span())
     }
 
     /// Whether the node, which isn't of flags, has parts; else it is of one token.

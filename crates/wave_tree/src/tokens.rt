@@ -24,24 +24,15 @@ use crate::ast::{Node, NodeType};
 use crate::item::Item;
 use crate::nodes::NodeBuilder;
 use crate::parser::DEFAULT_LEVELS;
-use crate::refusal::Refusal;
-use std::alloc::{AllocError, Global};
-use std::boxed::Box;
+use std::alloc::Global;
 use std::marker::Model;
 use wave_grammar::builder::Builder;
 use wave_lex::asked::Asked;
 use wave_lex::error::{ParserError, ParserErrorKind};
 use wave_lex::lex::{Lexer, Span, Token};
+use wave_read::error::{ReadError, repeated_words};
 use wave_read::values::ValueBuilder;
 use wave_wasm::wasm::WasmValue;
-
-/// The words on a name that stands twice.
-fn repeated_words(alloc: Global, name: &str) -> Result<Box<String>, AllocError>
-    ensures { IfOk result (λ words. string_bytes words.value ≡ repeated_name name.now) }
-{
-    let words = format!(in alloc; "\"{name}\"")?;
-    Ok(Box::new(alloc, words)?)
-}
 
 /// The refusal of an item that is no end, at its span.
 fn trailing(item: Item, behind: &Lexer) -> Result<(), ParserError>
@@ -184,7 +175,7 @@ impl<'source> Tokens<'source> {
 
     /// Takes the next token.
     #[inline(always)]
-    pub(crate) fn advance(&mut self) -> Result<Token, Refusal>
+    pub(crate) fn advance(&mut self) -> Result<Token, ReadError>
         ensures takes { Advances result self.old.place self.new.place }
         ensures asks { asked_of self.new ≡ self.old.place.taken + 1 }
     {
@@ -196,7 +187,7 @@ impl<'source> Tokens<'source> {
 
     /// Takes the next token, which has to be of this class.
     #[inline(always)]
-    pub(crate) fn expect(&mut self, class: Token) -> Result<(), Refusal>
+    pub(crate) fn expect(&mut self, class: Token) -> Result<(), ReadError>
         ensures takes { Expects class result self.old.place self.new.place }
         ensures asks { asked_of self.new ≡ self.old.place.taken + 1 }
     {
@@ -208,7 +199,7 @@ impl<'source> Tokens<'source> {
 
     /// Refuses this item, which was taken last.
     #[inline(always)]
-    fn refuse_item<T>(&self, item: Item) -> Result<T, Refusal>
+    fn refuse_item<T>(&self, item: Item) -> Result<T, ReadError>
         ensures never { IfOk result (λ _. ⊥) }
         ensures refused { IfErr result (λ e. IsRefused e (item_at item self.now.place.lexer) self.now.place) }
     {
@@ -218,28 +209,28 @@ impl<'source> Tokens<'source> {
     /// The refusal of this item, which was taken last.
     #[cold]
     #[inline(never)]
-    fn refused(&self, item: Item) -> Refusal
+    fn refused(&self, item: Item) -> ReadError
         ensures { IsRefused result (item_at item self.now.place.lexer) self.now.place }
     {
         match item {
             Item::Token(token) => self.unexpected(token),
-            Item::Invalid => Refusal::new(ParserErrorKind::InvalidToken, self.span()),
-            Item::End => Refusal::new(ParserErrorKind::UnexpectedEnd, self.span()),
+            Item::Invalid => ReadError::new(ParserErrorKind::InvalidToken, self.span()),
+            Item::End => ReadError::new(ParserErrorKind::UnexpectedEnd, self.span()),
         }
     }
 
     /// The refusal of the token of this class, which was taken last.
     #[cold]
     #[inline(never)]
-    fn unexpected(&self, token: Token) -> Refusal
+    fn unexpected(&self, token: Token) -> ReadError
         ensures { Says result kind.UnexpectedToken (span_at self.now.place) (Some (class_name token)) }
     {
-        Refusal::with_class(ParserErrorKind::UnexpectedToken, self.span(), token)
+        ReadError::with_class(ParserErrorKind::UnexpectedToken, self.span(), token)
     }
 
     /// Refuses the token of this class, which was taken last.
     #[inline(always)]
-    pub(crate) fn refuse_token<T>(&self, token: Token) -> Result<T, Refusal>
+    pub(crate) fn refuse_token<T>(&self, token: Token) -> Result<T, ReadError>
         ensures never { IfOk result (λ _. ⊥) }
         ensures refused { IfErr result (λ e. Says e kind.UnexpectedToken (span_at self.now.place) (Some (class_name token))) }
     {
@@ -248,7 +239,7 @@ impl<'source> Tokens<'source> {
 
     /// Refuses a value that is too deep, where it is due.
     #[inline(always)]
-    pub(crate) fn refuse_depth<T>(&self) -> Result<T, Refusal>
+    pub(crate) fn refuse_depth<T>(&self) -> Result<T, ReadError>
         ensures never { IfOk result (λ _. ⊥) }
         ensures refused { IfErr result (λ e. Says e kind.NestingTooDeep (span_at self.now.place) None) }
     {
@@ -258,15 +249,15 @@ impl<'source> Tokens<'source> {
     /// The refusal of a value that is too deep, where it is due.
     #[cold]
     #[inline(never)]
-    fn too_deep(&self) -> Refusal
+    fn too_deep(&self) -> ReadError
         ensures { Says result kind.NestingTooDeep (span_at self.now.place) None }
     {
-        Refusal::new(ParserErrorKind::NestingTooDeep, self.span())
+        ReadError::new(ParserErrorKind::NestingTooDeep, self.span())
     }
 
     /// Refuses an empty tuple, from `start` to the last token.
     #[inline(always)]
-    pub(crate) fn refuse_empty<T>(&self, start: usize) -> Result<T, Refusal>
+    pub(crate) fn refuse_empty<T>(&self, start: usize) -> Result<T, ReadError>
         ensures never { IfOk result (λ _. ⊥) }
         ensures refused { IfErr result (λ e. Says e kind.EmptyTuple (span start self.now.place.lexer.end) None) }
     {
@@ -276,31 +267,31 @@ impl<'source> Tokens<'source> {
     /// The refusal of an empty tuple, from `start` to the last token.
     #[cold]
     #[inline(never)]
-    fn empty_tuple(&self, start: usize) -> Refusal
+    fn empty_tuple(&self, start: usize) -> ReadError
         ensures { Says result kind.EmptyTuple (span start self.now.place.lexer.end) None }
     {
-        Refusal::new(ParserErrorKind::EmptyTuple, start..self.span().end)
+        ReadError::new(ParserErrorKind::EmptyTuple, start..self.span().end)
     }
 
     /// The refusal of the label of this name, which was taken last.
     #[cold]
     #[inline(never)]
-    pub(crate) fn repeated(&self, alloc: Global, name: &str) -> Refusal
+    pub(crate) fn repeated(&self, alloc: Global, name: &str) -> ReadError
         ensures { let detail = Some (repeated_name name.now) in
             result.kind ≢ kind.OutOfMemory → Says result kind.DuplicateFlag (span_at self.now.place) detail }
     {
         match repeated_words(alloc, name) {
-            Ok(words) => Refusal::with_words(ParserErrorKind::DuplicateFlag, self.span(), words),
+            Ok(words) => ReadError::with_words(ParserErrorKind::DuplicateFlag, self.span(), words),
             Err(_) => self.out_of_memory(),
         }
     }
 
     #[cold]
     #[inline(never)]
-    pub(crate) fn out_of_memory(&self) -> Refusal
+    pub(crate) fn out_of_memory(&self) -> ReadError
         ensures { Says result kind.OutOfMemory (span_at self.now.place) None }
     {
-        Refusal::new(ParserErrorKind::OutOfMemory, self.span())
+        ReadError::new(ParserErrorKind::OutOfMemory, self.span())
     }
 
     /// What is made of the last token.
@@ -343,7 +334,7 @@ impl<'source> Tokens<'source> {
         builder: P,
         parts: &mut P::Parts,
         ty: NodeType,
-    ) -> Result<(), Refusal>
+    ) -> Result<(), ReadError>
         ensures kept { let source = self.now.place.lexer.source in
             let key = node ty (span_at self.now.place) no_nodes in
             IfOk result (λ _. (of : NodeType) (children : List NodeTree)
@@ -367,7 +358,7 @@ impl<'source> Tokens<'source> {
         builder: P,
         parts: &mut P::Parts,
         made: P::Made,
-    ) -> Result<(), Refusal>
+    ) -> Result<(), ReadError>
         ensures kept { IfOk result (λ _. (source : List ℕ) (of : NodeType) (children : List NodeTree) (n : NodeTree)
             → TakesPart of children → P.are_parts builder source of children parts.old
             → P.is_made (P.next builder parts.old) source n made
@@ -430,7 +421,7 @@ impl<'source> Tokens<'source> {
         let start = self.start_here();
         match self.parse_node(alloc, NodeBuilder, levels) {
             Ok(node) => Ok((node, start)),
-            Err(refusal) => Err(self.refuse(refusal.into_error(), start)),
+            Err(error) => Err(self.refuse(error.into_error(), start)),
         }
     }
 
@@ -454,8 +445,8 @@ impl<'source> Tokens<'source> {
         let builder: ValueBuilder<V> = ValueBuilder::new(ty);
         match self.parse_node(alloc, builder, levels) {
             Ok(Ok(value)) => Ok(value),
-            Ok(Err(failure)) => Err(self.refuse(failure.into_error(), start)),
-            Err(refusal) => Err(self.refuse(refusal.into_error(), start)),
+            Ok(Err(error)) => Err(self.refuse(error.into_error(), start)),
+            Err(error) => Err(self.refuse(error.into_error(), start)),
         }
     }
 
@@ -482,18 +473,18 @@ impl<'source> Tokens<'source> {
         ensures within { IfErr result (λ e. LiesInText self.old.place.lexer.source e.span) }
     {
         let start = self.start_here();
-        if let Err(refusal) = self.expect(Token::ParenOpen) {
-            return Err(refusal.into_error());
+        if let Err(error) = self.expect(Token::ParenOpen) {
+            return Err(error.into_error());
         }
         if self.next_is(Token::ParenClose) {
             return match self.expect(Token::ParenClose) {
                 Ok(()) => Ok(None),
-                Err(refusal) => Err(refusal.into_error()),
+                Err(error) => Err(error.into_error()),
             };
         }
         match self.parse_items(alloc, NodeBuilder, DEFAULT_LEVELS, Token::ParenClose) {
             Ok(tuple) => Ok(Some(tuple)),
-            Err(refusal) => Err(self.refuse(refusal.into_error(), start)),
+            Err(error) => Err(self.refuse(error.into_error(), start)),
         }
     }
 }

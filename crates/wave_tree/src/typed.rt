@@ -16,6 +16,7 @@ ghost use Rattle.wave_tree.specs.KeywordNodes.{RefusesKeyword};
 use crate::ast::{Node, NodeType};
 use std::alloc::Global;
 use wave_lex::error::{ParserError, ParserErrorKind};
+use wave_read::error::{ReadError, or_error};
 use wave_read::leaf::Leaf;
 use wave_wasm::keyword::Keyword;
 use wave_wasm::wasm::{WasmType, WasmTypeKind, WasmValue};
@@ -45,9 +46,9 @@ impl Node {
         ensures in_text { IfErr result (λ e. LiesInText src.now e.span) }
     {
         if self.is_keyword(src) {
-            return self.read_keyword(alloc, ty, src);
+            return or_error(self.read_keyword(alloc, ty, src));
         }
-        self.read(alloc, ty, src)
+        or_error(self.read(alloc, ty, src))
     }
 
     /// Whether the node is a key that is a keyword, as no value is.
@@ -70,7 +71,7 @@ impl Node {
         alloc: Global,
         ty: &V::Type,
         src: &str,
-    ) -> Result<V, ParserError>
+    ) -> Result<V, ReadError>
         requires key { IsKeyOf src.now self.now }
         requires keyword { IsKeywordOf src.now self.now }
         ensures answer { AnswersKey V.tree V.is_of V.is_full (V.Type.tree ty.now) src.now self.now result }
@@ -104,7 +105,7 @@ impl Node {
             | WasmTypeKind::Option
             | WasmTypeKind::Result
             | WasmTypeKind::Flags
-            | WasmTypeKind::Map => Err(self.error(ParserErrorKind::InvalidType)),
+            | WasmTypeKind::Map => Err(self.read_error(ParserErrorKind::InvalidType)),
         }
     }
 

@@ -8,7 +8,7 @@ use Rattle.wave_read.proofs.leaves.refuse_flags.Goals as goal
 pub returns-in-Flags : goal.returns-in-Flags
 returns-in-Flags g c = λ o w source n ty place.
     flags_refused g.V.WasmValue.tree g.V.WasmValue.is_of g.V.WasmValue.is_full o w (g.V.Type.WasmType.tree c.args.ty.now) c.kind.result c.kind.ensures source n c.new.result
-    (record { is = c.new.ensures.refusal; stands = c.new.ensures.span ∙ sym place }) ty
+    (record { is = c.new.ensures.is; stands = c.new.ensures.stands ∙ sym place }) ty
     (subst (λ (of : NodeType). (U : TypeTree) → IsFlatAt (g.V.Type.WasmType.tree c.args.ty.now) of U → ⊥) (sym ty) c.requires.flat)
     (elim c.in-Flags.is [ inl is ↦ absurd (c.requires.kind (sym c.kind.ensures ∙ is)) | inr other ↦ other ])
 

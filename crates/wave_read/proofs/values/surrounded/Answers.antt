@@ -1,11 +1,11 @@
-use Rattle.wave_read.proofs.Surrounding.{around_kept, alone_kept}
+use Rattle.wave_read.proofs.Surrounding.{around_read, alone_read}
 use Rattle.wave_read.proofs.values.surrounded.Goals as goal
 
 pub returns-in-Some : goal.returns-in-Some
 returns-in-Some g c = λ o w T source n is place read.
-    around_kept g.V.Type.WasmType.tree g.V.WasmValue.tree g.V.WasmValue.is_of g.V.WasmValue.is_full o w T source n c.args.whole c.args.ty c.args.made is read c.in-Some.whole c.around.result c.kept.result c.in-Some.is
-    (λ flat. c.around.ensures o w source n (g.V.Type.WasmType.tree c.args.ty.now) flat place read) c.kept.ensures
+    around_read g.V.Type.WasmType.tree g.V.WasmValue.tree g.V.WasmValue.is_of g.V.WasmValue.is_full o w T source n c.args.whole c.args.ty c.args.made is read c.in-Some.whole c.around.result c.in-Some.is
+    (λ flat. c.around.ensures o w source n (g.V.Type.WasmType.tree c.args.ty.now) flat place read)
 
 pub returns-in-None : goal.returns-in-None
 returns-in-None g c = λ o w T source n is place read.
-    alone_kept g.V.Type.WasmType.tree g.V.WasmValue.tree g.V.WasmValue.is_of g.V.WasmValue.is_full o w T source n c.args.whole c.args.ty c.args.made is read c.kept-in-None.result c.in-None.is c.kept-in-None.ensures
+    alone_read g.V.Type.WasmType.tree g.V.WasmValue.tree g.V.WasmValue.is_of g.V.WasmValue.is_full o w T source n c.args.whole c.args.ty c.args.made is read c.in-None.is

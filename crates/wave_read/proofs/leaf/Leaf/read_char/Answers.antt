@@ -1,11 +1,12 @@
 use Rattle.std.proofs.Common.{inl, refl}
 use Rattle.wave_wasm.specs.Values.{char}
 use Rattle.wave_grammar.specs.Shared.ErrorSpans.{RefusesAt}
-use Rattle.wave_grammar.proofs.MakerAnswers.{faulty, leaf_made}
+use Rattle.wave_grammar.proofs.MakerAnswers.{faulty}
 use Rattle.wave_grammar.proofs.Parameters.{error_handed}
 use Rattle.wave_grammar.proofs.ByKind.TextLeaves.{char_read, char_blame}
-use Rattle.wave_grammar.proofs.ErrorSpans.Nodes.{all_in, made_at, char_at}
+use Rattle.wave_grammar.proofs.ErrorSpans.Nodes.{all_in, char_at}
 use Rattle.wave_read.specs.Leaves.{leaf_node}
+use Rattle.wave_read.proofs.Errors.{leaf_made, made_at}
 use Rattle.wave_read.proofs.leaf.Leaf.read_char.Goals as goal
 
 pub returns-in_err-val : goal.returns-in_err-val

@@ -6,12 +6,13 @@ use Rattle.wave_wasm.proofs.TypeKinds.{simple_is}
 use Rattle.wave_grammar.specs.TypedReading.{AnswersKey}
 use Rattle.wave_grammar.specs.Shared.ErrorSpans.{RefusesIn}
 use Rattle.wave_grammar.proofs.Parameters.{error_handed}
-use Rattle.wave_grammar.proofs.ByKind.Keys.{bool_key, no_bool_key, key_made, key_faulty}
+use Rattle.wave_grammar.proofs.ByKind.Keys.{bool_key, no_bool_key, key_faulty}
 use Rattle.wave_grammar.proofs.ByKind.Wholes.{whole_answers_key, whole_at}
 use Rattle.wave_grammar.proofs.ByKind.TextKeys.{char_key, no_char_key}
-use Rattle.wave_grammar.proofs.ErrorSpans.Nodes.{all_in, at_in, made_in, form_at, char_at}
+use Rattle.wave_grammar.proofs.ErrorSpans.Nodes.{all_in, at_in, form_at, char_at}
 use Rattle.wave_read.specs.Leaves.{leaf_node}
 use Rattle.wave_read.proofs.NamedKinds.{none_word}
+use Rattle.wave_read.proofs.Errors.{key_made, made_in}
 use Rattle.wave_read.proofs.leaf.Leaf.read_plain_key.Goals as goal
 
 pub returns-in_err-as_bool_key-in-Bool-clause-answer : goal.returns-in_err-as_bool_key-in-Bool-clause-answer

@@ -1,9 +1,10 @@
 use Rattle.std.proofs.Common.{pos, w8, w16, w32, w64, to_z, of_z, FitsSigned, rules, refl}
 use Rattle.std.proofs.lemmas.Int.{to_z-of_z}
 use Rattle.wave_wasm.specs.Types as type
-use Rattle.wave_grammar.proofs.ByKind.Wholes.{whole_made, whole_refused, none_whole}
+use Rattle.wave_grammar.proofs.ByKind.Wholes.{whole_refused, none_whole}
 use Rattle.wave_read.specs.Leaves.{leaf_node}
 use Rattle.wave_read.proofs.NamedKinds.{no_whole}
+use Rattle.wave_read.proofs.Errors.{whole_made}
 use Rattle.wave_read.proofs.leaf.Leaf.read_whole.Goals as goal
 
 pub returns-in_err-as_number-in-S8 : goal.returns-in_err-as_number-in-S8

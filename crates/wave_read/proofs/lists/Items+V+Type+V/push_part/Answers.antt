@@ -28,6 +28,6 @@ returns-in-Err g c = λ w T source children n takes a due. record {
   is = a.is;
   element = a.element;
   count = one_more children n c.args.self.now.count c.in-Some.count a.count c.in-Some.ensures.1;
-  read = refusal_held g.V.WasmValue.tree g.V.WasmValue.is_of g.V.WasmValue.is_full in_text w g.V.Type.WasmType.tree c.args.self.now.element source children c.args.self.now.items.items c.args.self.now.held n c.in-Err.failure (sym c.if-is_some.ensures) a.read
+  read = refusal_held g.V.WasmValue.tree g.V.WasmValue.is_of g.V.WasmValue.is_full in_text w g.V.Type.WasmType.tree c.args.self.now.element source children c.args.self.now.items.items c.args.self.now.held n c.in-Err.error (sym c.if-is_some.ensures) a.read
       (subst (IsReadWhereDue g.V.WasmValue.tree g.V.WasmValue.is_of g.V.WasmValue.is_full w w (shown g.V.Type.WasmType.tree (element_due c.args.self.now)) source n) c.in-Err.is due);
 }

@@ -1,5 +1,5 @@
 use Rattle.wave_grammar.specs.FaultOrder.{in_text}
-use Rattle.std.proofs.Common.{inl, refl, subst}
+use Rattle.std.proofs.Common.{refl, subst}
 use Rattle.std.specs.Prelude.{IfOk, IfErr}
 use Rattle.wave_wasm.specs.Types.{TypeTree}
 use Rattle.wave_wasm.specs.ConstructorContracts.{MakesList, FullList}
@@ -8,7 +8,6 @@ use Rattle.wave_grammar.specs.Shared.TypedReading.{IsOfLength, IsOtherLength}
 use Rattle.wave_grammar.specs.declared.form.NodeType.TheVariants as kind
 use Rattle.wave_read.specs.Reading.{IsReadAs}
 use Rattle.wave_read.specs.ListParts.{ReadOrHeld}
-use Rattle.wave_read.proofs.Kept.{same_or_memory}
 use Rattle.wave_read.proofs.ListItems.{refusal_handed, length_refused, item_refused, list_read}
 use Rattle.wave_read.proofs.lists.Items+V+Type+V.whole.Goals as goal
 
@@ -20,10 +19,9 @@ returns-in_err-check_length g c = λ w T source children a.
 
 pub returns-in-Some : goal.returns-in-Some
 returns-in-Some g c = λ w T source children a.
-    same_or_memory g.V.WasmValue.tree g.V.WasmValue.is_of g.V.WasmValue.is_full in_text w T source (node kind.List c.args.span (node_trees children)) c.in-Some.failure c.into_error.result
-    (item_refused g.V.WasmValue.tree g.V.WasmValue.is_of g.V.WasmValue.is_full in_text w T (g.V.Type.WasmType.tree c.args.self.element.now) source c.args.span children c.args.self.count c.in-Some.failure g.met.V.WasmValue.full_parts a.element a.count
+    item_refused g.V.WasmValue.tree g.V.WasmValue.is_of g.V.WasmValue.is_full in_text w T (g.V.Type.WasmType.tree c.args.self.element.now) source c.args.span children c.args.self.count c.in-Some.error g.met.V.WasmValue.full_parts a.element a.count
     (subst (λ (U : TypeTree). IsOfLength U c.args.self.count) a.is c.in_ok-check_length.ensures.fits)
-    (subst (ReadOrHeld g.V.WasmValue.tree g.V.WasmValue.is_of g.V.WasmValue.is_full w (g.V.Type.WasmType.tree c.args.self.element.now) source children c.args.self.items.items) c.in-Some.is a.read)) (inl c.into_error.ensures)
+    (subst (ReadOrHeld g.V.WasmValue.tree g.V.WasmValue.is_of g.V.WasmValue.is_full w (g.V.Type.WasmType.tree c.args.self.element.now) source children c.args.self.items.items) c.in-Some.is a.read)
 
 pub returns : goal.returns
 returns g c = λ w T source children a.

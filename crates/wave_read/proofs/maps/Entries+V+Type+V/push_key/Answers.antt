@@ -1,8 +1,4 @@
 use Rattle.wave_grammar.specs.FaultOrder.{in_text}
-use Rattle.std.proofs.Common.{Err, sym, subst}
-use Rattle.wave_lex.specs.Errors.{Diagnostic}
-use Rattle.wave_grammar.specs.Shared.TypedReading.{AnswersMapKey}
-use Rattle.wave_grammar.specs.Shared.ErrorSpans.{RefusesIn}
 use Rattle.wave_grammar.specs.NodeTree.{node, no_nodes}
 use Rattle.wave_read.proofs.MapSteps.{key_taken, key_refused}
 use Rattle.wave_read.proofs.maps.Entries+V+Type+V.push_key.Goals as goal
@@ -11,9 +7,6 @@ pub returns-in-Ok : goal.returns-in-Ok
 returns-in-Ok g c = λ w T source children is due h.
     key_taken g.V.WasmValue.tree g.V.WasmValue.is_of g.V.WasmValue.is_full in_text w g.V.Type.WasmType.tree T source children c.args.self.now h (node c.args.ty c.args.span no_nodes) c.in-Ok.key c.replace.new.self due (c.in-Ok.ensures.answer source is) c.replace.ensures.after
 
-pub returns-in_ok-failure-in-Err : goal.returns-in_ok-failure-in-Err
-returns-in_ok-failure-in-Err g c = λ w T source children is due h.
-    let key = node c.args.ty c.args.span no_nodes in
-    key_refused g.V.WasmValue.tree g.V.WasmValue.is_of g.V.WasmValue.is_full in_text w g.V.Type.WasmType.tree T source children c.args.self.now h key c.in_ok-failure-in-Err.failure g.met.V.WasmValue.full_parts due
-    (subst (λ (e : Diagnostic). AnswersMapKey g.V.WasmValue.tree g.V.WasmValue.is_of g.V.WasmValue.is_full (g.V.Type.WasmType.tree c.args.self.now.key_type.now) source key (Err e)) (sym c.in_ok-failure-in-Err.ensures.same) (c.in-Err.ensures.answer source is))
-    (λ has. subst (RefusesIn key) (sym c.in_ok-failure-in-Err.ensures.same) (c.in-Err.ensures.within source is has))
+pub returns-in-Err : goal.returns-in-Err
+returns-in-Err g c = λ w T source children is due h.
+    key_refused g.V.WasmValue.tree g.V.WasmValue.is_of g.V.WasmValue.is_full in_text w g.V.Type.WasmType.tree T source children c.args.self.now h (node c.args.ty c.args.span no_nodes) c.in-Err.error g.met.V.WasmValue.full_parts due (c.in-Err.ensures.answer source is) (c.in-Err.ensures.within source is)

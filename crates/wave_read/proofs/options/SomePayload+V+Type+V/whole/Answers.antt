@@ -1,12 +1,11 @@
 use Rattle.wave_grammar.specs.FaultOrder.{in_text}
-use Rattle.std.proofs.Common.{inl, sym, ◌∙◌, ap, subst, Option, Some, Result}
+use Rattle.std.proofs.Common.{sym, ◌∙◌, ap, subst, Option, Some, Result}
 use Rattle.wave_wasm.specs.Types.{TypeTree}
 use Rattle.wave_lex.specs.Errors.{Diagnostic}
 use Rattle.wave_grammar.specs.NodeTree.{node, node_trees}
 use Rattle.wave_grammar.specs.declared.form.NodeType.TheVariants as node_type
 use Rattle.wave_read.specs.Reading.{IsReadAs}
 use Rattle.wave_read.specs.Payloads.{IsReadPayload}
-use Rattle.wave_read.proofs.Kept.{same_or_memory}
 use Rattle.wave_read.proofs.OptionReading.{some_read, some_refused}
 use Rattle.wave_read.proofs.options.SomePayload+V+Type+V.whole.Goals as goal
 
@@ -20,6 +19,5 @@ returns-in-Some-Ok g c = λ w T source children parts.
 pub returns-in-Some-Err : goal.returns-in-Some-Err
 returns-in-Some-Err g c = λ w T source children parts.
     let P = g.V.Type.WasmType.tree c.args.self.due.now in
-    same_or_memory g.V.WasmValue.tree g.V.WasmValue.is_of g.V.WasmValue.is_full in_text w T source (node node_type.OptionSome c.args.span (node_trees children)) c.in-Some-Err.failure c.into_error.result
-    (some_refused g.V.WasmValue.tree g.V.WasmValue.is_of g.V.WasmValue.is_full in_text w T P source c.args.span children c.in-Some-Err.failure parts.due g.met.V.WasmValue.full_parts
-    (subst (λ (o : Option (Result g.row.V.Denot Diagnostic)). IsReadPayload g.V.WasmValue.tree g.V.WasmValue.is_of g.V.WasmValue.is_full w (Some P) source children o) (c.in-Some-Err.is ∙ ap Some c.in-Some-Err.field-0-is) parts.read)) (inl c.into_error.ensures)
+    some_refused g.V.WasmValue.tree g.V.WasmValue.is_of g.V.WasmValue.is_full in_text w T P source c.args.span children c.in-Some-Err.error parts.due g.met.V.WasmValue.full_parts
+    (subst (λ (o : Option (Result g.row.V.Denot Diagnostic)). IsReadPayload g.V.WasmValue.tree g.V.WasmValue.is_of g.V.WasmValue.is_full w (Some P) source children o) (c.in-Some-Err.is ∙ ap Some c.in-Some-Err.field-0-is) parts.read)

@@ -30,13 +30,13 @@ returns-clause-grown g c = λ order T source of children n takes parts due.
           rw (w.self-is, w.found-is) (found_at g.V.WasmValue.tree g.V.WasmValue.is_of g.V.WasmValue.is_full order T source of kind.Tuple (children ++ n ∷ []) _ _ h.0 (w.in_ok-found-in-TupleItems.ensures order T source children n (rw h.0 at takes) h.1 (rw w.in-TupleItems.is at due)))
       | in-OfCase w ↦
           let h = rw w.in-OfCase.is at parts in
-          rw (w.self-is, w.found-is) (found_at g.V.WasmValue.tree g.V.WasmValue.is_of g.V.WasmValue.is_full order T source of kind.VariantWithPayload (children ++ n ∷ []) (Unit {0}) (Some (fault.Told c.args.failure)) h.0 (part_refused g.V.Type.WasmType.tree g.V.WasmValue.tree g.V.WasmValue.is_of g.V.WasmValue.is_full in_text order T source children n _ _ c.args.failure g.met.V.WasmValue.full_parts (rw h.0 at takes) refl h.1 (rw w.in-OfCase.is at due)))
+          rw (w.self-is, w.found-is) (found_at g.V.WasmValue.tree g.V.WasmValue.is_of g.V.WasmValue.is_full order T source of kind.VariantWithPayload (children ++ n ∷ []) (Unit {0}) (Some (fault.Part c.args.error)) h.0 (part_refused g.V.Type.WasmType.tree g.V.WasmValue.tree g.V.WasmValue.is_of g.V.WasmValue.is_full in_text order T source children n _ _ c.args.error g.met.V.WasmValue.full_parts (rw h.0 at takes) refl h.1 (rw w.in-OfCase.is at due)))
       | in-Fields w ↦
           let h = rw w.in-Fields.is at parts in
-          rw (w.self-is, w.found-is) (found_at g.V.WasmValue.tree g.V.WasmValue.is_of g.V.WasmValue.is_full order T source of kind.TupleSet (children ++ n ∷ []) (Unit {0}) (Some (fault.Told c.args.failure)) h.0 (fields.value_refused g.V.WasmValue.tree g.V.WasmValue.is_of g.V.WasmValue.is_full order g.V.Type.WasmType.tree T source children _ h.1 n _ c.args.failure g.met.V.WasmValue.full_parts (rw h.0 at takes) refl (rw w.in-Fields.is at due)))
+          rw (w.self-is, w.found-is) (found_at g.V.WasmValue.tree g.V.WasmValue.is_of g.V.WasmValue.is_full order T source of kind.TupleSet (children ++ n ∷ []) (Unit {0}) (Some (fault.Part c.args.error)) h.0 (fields.value_refused g.V.WasmValue.tree g.V.WasmValue.is_of g.V.WasmValue.is_full order g.V.Type.WasmType.tree T source children _ h.1 n _ c.args.error g.met.V.WasmValue.full_parts (rw h.0 at takes) refl (rw w.in-Fields.is at due)))
       | in-Entries w ↦
           let h = rw w.in-Entries.is at parts in
-          rw (w.self-is, w.found-is) (found_at g.V.WasmValue.tree g.V.WasmValue.is_of g.V.WasmValue.is_full order T source of kind.TupleSet (children ++ n ∷ []) (Unit {0}) (Some (fault.Told c.args.failure)) h.0 (entries.value_refused g.V.WasmValue.tree g.V.WasmValue.is_of g.V.WasmValue.is_full in_text order g.V.Type.WasmType.tree T source children _ h.1 n _ c.args.failure g.met.V.WasmValue.full_parts (rw h.0 at takes) refl (rw w.in-Entries.is at due)))
+          rw (w.self-is, w.found-is) (found_at g.V.WasmValue.tree g.V.WasmValue.is_of g.V.WasmValue.is_full order T source of kind.TupleSet (children ++ n ∷ []) (Unit {0}) (Some (fault.Part c.args.error)) h.0 (entries.value_refused g.V.WasmValue.tree g.V.WasmValue.is_of g.V.WasmValue.is_full in_text order g.V.Type.WasmType.tree T source children _ h.1 n _ c.args.error g.met.V.WasmValue.full_parts (rw h.0 at takes) refl (rw w.in-Entries.is at due)))
       | in_default w ↦ rw (w.self-is, w.found-is) (behind_part g.V.Type.WasmType.tree g.V.WasmValue.tree g.V.WasmValue.is_of g.V.WasmValue.is_full order T source of children n c.args.self.now (λ x e. rw e at c.requires) w.in_default.not-TupleItems w.in_default.not-OfSome w.in_default.not-OfResult w.in_default.not-OfCase w.in_default.not-Fields w.in_default.not-Entries takes parts)
     ])
 

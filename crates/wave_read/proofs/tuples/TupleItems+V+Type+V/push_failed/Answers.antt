@@ -15,4 +15,4 @@ returns-then-is_none g c = λ w T source children n takes a due. record {
 
 pub returns : goal.returns
 returns g c = λ w T source children n takes a due.
-    item_refused g.V.WasmValue.tree g.V.WasmValue.is_of g.V.WasmValue.is_full in_text w g.V.Type.WasmType.tree source T c.args.self.now.types.items children c.args.self.now.items.items n c.args.failure g.met.V.WasmValue.full_parts a.kind a.parts (ap is_some (sym c.next.ensures) ∙ c.if-is_none.ensures) a.read due
+    item_refused g.V.WasmValue.tree g.V.WasmValue.is_of g.V.WasmValue.is_full in_text w g.V.Type.WasmType.tree source T c.args.self.now.types.items children c.args.self.now.items.items n c.args.error g.met.V.WasmValue.full_parts a.kind a.parts (ap is_some (sym c.next.ensures) ∙ c.if-is_none.ensures) a.read due

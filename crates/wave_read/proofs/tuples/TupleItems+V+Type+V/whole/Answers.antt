@@ -14,9 +14,9 @@ use Rattle.wave_read.proofs.tuples.TupleItems+V+Type+V.whole.Goals as goal
 pub returns-then-count-want : goal.returns-then-count-want
 returns-then-count-want g c = λ w T source children a.
     let wanted : c.len-want.result ≡ length (shown_all g.V.Type.WasmType.tree c.args.self.types.items) = omega (arith, as_shown g.V.Type.WasmType.tree c.args.self.types.items) in
-    count_refused g.V.WasmValue.tree g.V.WasmValue.is_of g.V.WasmValue.is_full in_text w T (shown_all g.V.Type.WasmType.tree c.args.self.types.items) source c.args.span children c.len-want.result c.args.self.count c.with_cause.result a.kind a.parts wanted a.count c.if-count-want.true
+    count_refused g.V.WasmValue.tree g.V.WasmValue.is_of g.V.WasmValue.is_full in_text w T (shown_all g.V.Type.WasmType.tree c.args.self.types.items) source c.args.span children c.len-want.result c.args.self.count c.wrong_number.result a.kind a.parts wanted a.count c.if-count-want.true
     (λ Ts is distinct items nodes. items_fine g.V.WasmValue.tree g.V.WasmValue.is_of g.V.WasmValue.is_full in_text w Ts source children c.args.self.items.items items distinct
-    (subst (λ (l : List TypeTree). AreReadEach g.V.WasmValue.tree g.V.WasmValue.is_of g.V.WasmValue.is_full w l source children c.args.self.items.items) is a.read) nodes) c.with_cause.ensures.refusal c.with_cause.ensures.span
+    (subst (λ (l : List TypeTree). AreReadEach g.V.WasmValue.tree g.V.WasmValue.is_of g.V.WasmValue.is_full w l source children c.args.self.items.items) is a.read) nodes) c.wrong_number.ensures.refusal c.wrong_number.ensures.span
 
 pub returns : goal.returns
 returns g c = λ w T source children a.

@@ -1,23 +1,20 @@
 use Rattle.wave_grammar.specs.FaultOrder.{in_text}
 use Rattle.std.proofs.Common.{refl}
 use Rattle.wave_grammar.specs.NodeTree.{node, node_trees}
-use Rattle.wave_read.proofs.Kept.{kept_where_due}
 use Rattle.wave_read.proofs.KeptSteps.{whole_alone, whole_around, alone_spares, around_spares}
 use Rattle.wave_read.proofs.values.Frame+V+Type+V.whole.Goals as goal
 
 pub returns-in-Some : goal.returns-in-Some
 returns-in-Some g c = λ w due source ty children kept. (
-  kept_where_due g.V.WasmValue.tree g.V.WasmValue.is_of g.V.WasmValue.is_full in_text w source (node ty c.args.span (node_trees children)) due c.around.result c.kept.result
-      (whole_around g.V.Type.WasmType.tree g.V.WasmValue.tree g.V.WasmValue.is_of g.V.WasmValue.is_full w source ty children c.args.span due c.args.self c.in-Some.ty c.whole-made.result c.around.result c.in-Some.is
+  whole_around g.V.Type.WasmType.tree g.V.WasmValue.tree g.V.WasmValue.is_of g.V.WasmValue.is_full w source ty children c.args.span due c.args.self c.in-Some.ty c.whole-made.result c.around.result c.in-Some.is
       (λ U parts. c.whole-made.ensures.read w U source ty children parts)
-      (λ U flat read. c.around.ensures in_text w source (node ty c.args.span (node_trees children)) U flat refl read) kept) c.kept.ensures,
-  around_spares g.V.Type.WasmType.tree g.V.WasmValue.tree g.V.WasmValue.is_of g.V.WasmValue.is_full w source ty children c.args.span due (node ty c.args.span (node_trees children)) c.args.self c.in-Some.ty c.kept.result c.in-Some.is kept,
+      (λ U flat read. c.around.ensures in_text w source (node ty c.args.span (node_trees children)) U flat refl read) kept,
+  around_spares g.V.Type.WasmType.tree g.V.WasmValue.tree g.V.WasmValue.is_of g.V.WasmValue.is_full w source ty children c.args.span due (node ty c.args.span (node_trees children)) c.args.self c.in-Some.ty c.around.result c.in-Some.is kept,
 )
 
 pub returns-in-None : goal.returns-in-None
 returns-in-None g c = λ w due source ty children kept. (
-  kept_where_due g.V.WasmValue.tree g.V.WasmValue.is_of g.V.WasmValue.is_full in_text w source (node ty c.args.span (node_trees children)) due c.whole-made.result c.kept-in-None.result
-      (whole_alone g.V.Type.WasmType.tree g.V.WasmValue.tree g.V.WasmValue.is_of g.V.WasmValue.is_full w source ty children c.args.span due c.args.self c.whole-made.result c.in-None.is
-      (λ U parts. c.whole-made.ensures.read w U source ty children parts) kept) c.kept-in-None.ensures,
-  alone_spares g.V.Type.WasmType.tree g.V.WasmValue.tree g.V.WasmValue.is_of g.V.WasmValue.is_full w source ty children c.args.span due (node ty c.args.span (node_trees children)) c.args.self c.whole-made.result c.kept-in-None.result c.whole-made.ensures.plain c.kept-in-None.ensures kept,
+  whole_alone g.V.Type.WasmType.tree g.V.WasmValue.tree g.V.WasmValue.is_of g.V.WasmValue.is_full w source ty children c.args.span due c.args.self c.whole-made.result c.in-None.is
+      (λ U parts. c.whole-made.ensures.read w U source ty children parts) kept,
+  alone_spares g.V.Type.WasmType.tree g.V.WasmValue.tree g.V.WasmValue.is_of g.V.WasmValue.is_full w source ty children c.args.span due (node ty c.args.span (node_trees children)) c.args.self c.whole-made.result c.whole-made.ensures.plain kept,
 )

@@ -4,13 +4,11 @@ use Rattle.wave_grammar.specs.declared.form.NodeType.TheVariants as kind
 use Rattle.wave_wasm.specs.Borrowed.{shown}
 use Rattle.wave_grammar.specs.FlagParts.{flag_nodes}
 use Rattle.wave_read.specs.Reading.{IsReadWhereDue}
-use Rattle.wave_read.proofs.Kept.{kept_where_due}
 use Rattle.wave_read.proofs.PlainTypes.{no_row_spares, flags_no_row}
 use Rattle.wave_read.proofs.values.ValueBuilder.names.Goals as goal
 
 pub returns-in-Some : goal.returns-in-Some
 returns-in-Some g c = λ o w source are. (
-  kept_where_due g.V.WasmValue.tree g.V.WasmValue.is_of g.V.WasmValue.is_full o w source (node kind.Flags c.args.span (flag_nodes c.args.flags)) (shown g.V.Type.WasmType.tree c.args.self.due) c.flags_at.result c.kept.result
-      (subst (λ (d : Option (Bor g.row.V-Type.Denot)). IsReadWhereDue g.V.WasmValue.tree g.V.WasmValue.is_of g.V.WasmValue.is_full o w (shown g.V.Type.WasmType.tree d) source (node kind.Flags c.args.span (flag_nodes c.args.flags)) c.flags_at.result) (sym c.in-Some.is) (c.flags_at.ensures o w source are)) c.kept.ensures,
-  no_row_spares (shown g.V.Type.WasmType.tree c.args.self.due) (node kind.Flags c.args.span (flag_nodes c.args.flags)) c.kept.result flags_no_row,
+  subst (λ (d : Option (Bor g.row.V-Type.Denot)). IsReadWhereDue g.V.WasmValue.tree g.V.WasmValue.is_of g.V.WasmValue.is_full o w (shown g.V.Type.WasmType.tree d) source (node kind.Flags c.args.span (flag_nodes c.args.flags)) c.flags_at.result) (sym c.in-Some.is) (c.flags_at.ensures o w source are),
+  no_row_spares (shown g.V.Type.WasmType.tree c.args.self.due) (node kind.Flags c.args.span (flag_nodes c.args.flags)) c.flags_at.result flags_no_row,
 )

@@ -1,14 +1,11 @@
 use Rattle.wave_grammar.specs.FaultOrder.{in_text}
-use Rattle.std.proofs.Common.{[], ◌∷◌, None, ap, ◌∙◌}
+use Rattle.std.proofs.Common.{None, ap, ◌∙◌}
 use Rattle.wave_wasm.specs.ValueErrors.{unknown_case, unexpected_payload}
 use Rattle.wave_wasm.specs.declared.wasm.WasmValueError.TheVariants as error
-use Rattle.wave_lex.specs.Errors.{refused_by}
 use Rattle.wave_grammar.specs.LeafTokens.{name_of}
 use Rattle.wave_grammar.specs.NodeTree.{node, no_nodes}
-use Rattle.wave_grammar.specs.declared.form.NodeType.TheVariants as node_type
 use Rattle.wave_read.proofs.CaseNodes.{case_named, none_named}
 use Rattle.wave_read.proofs.CaseAnswers.{label_of, unknown_doomed, unexpected_doomed}
-use Rattle.wave_read.proofs.Doomed.{caused_dooms}
 use Rattle.wave_read.proofs.variants.CasePayload+V+Type+V.push_key.Goals as goal
 
 pub returns-in-Some-default-Some : goal.returns-in-Some-default-Some
@@ -24,10 +21,10 @@ pub returns-in_ok-name-in-Some-default-None : goal.returns-in_ok-name-in-Some-de
 returns-in_ok-name-in-Some-default-None g c = λ w T source children here none h.
     let key = node c.args.ty c.args.span no_nodes in
     let found = case_named g.V.Type.WasmType.tree T _ c.label_name-name.result.now c.in_ok-case.field-0 h.ty c.in_ok-case.ensures c.in-Some-default-None.field-0-0 c.in-Some-default-None.field-0-1 None c.in-Some-default-None.is c.in-Some-default-None.field-0-1-is in
-    rw none (caused_dooms g.V.WasmValue.tree g.V.WasmValue.is_of g.V.WasmValue.is_full in_text w T source node_type.VariantWithPayload (key ∷ []) (error.UnexpectedPayload c.in_ok-name-in-Some-default-None.name) c.caused.result (λ two. two) c.caused.ensures (λ e told. unexpected_doomed g.V.Type.WasmType.tree g.V.WasmValue.tree g.V.WasmValue.is_of g.V.WasmValue.is_full in_text w T source key c.label_name-name.result.now e g.met.V.WasmValue.full_parts h.kind (c.label_name-name.ensures ∙ ap name_of here) found.1 (told ∙ ap (λ n. refused_by (unexpected_payload n)) c.in_ok-name-in-Some-default-None.ensures.ok)))
+    rw none (unexpected_doomed g.V.Type.WasmType.tree g.V.WasmValue.tree g.V.WasmValue.is_of g.V.WasmValue.is_full in_text w T source key c.label_name-name.result.now (error.UnexpectedPayload c.in_ok-name-in-Some-default-None.name) c.caused.result g.met.V.WasmValue.full_parts h.kind (c.label_name-name.ensures ∙ ap name_of here) found.1 (ap unexpected_payload c.in_ok-name-in-Some-default-None.ensures.ok) c.caused.ensures)
 
 pub returns-in_ok-name-in-None : goal.returns-in_ok-name-in-None
 returns-in_ok-name-in-None g c = λ w T source children here none h.
     let key = node c.args.ty c.args.span no_nodes in
     let missing = none_named g.V.Type.WasmType.tree T _ c.label_name-name.result.now c.in_ok-case.field-0 h.ty c.in_ok-case.ensures c.in-None.is in
-    rw none (caused_dooms g.V.WasmValue.tree g.V.WasmValue.is_of g.V.WasmValue.is_full in_text w T source node_type.VariantWithPayload (key ∷ []) (error.UnknownCase c.in_ok-name-in-None.name) c.caused-in-None.result (λ two. two) c.caused-in-None.ensures (λ e told. unknown_doomed g.V.Type.WasmType.tree g.V.WasmValue.tree g.V.WasmValue.is_of g.V.WasmValue.is_full in_text w T source key c.label_name-name.result.now e h.kind (c.label_name-name.ensures ∙ ap name_of here) missing (told ∙ ap (λ n. refused_by (unknown_case n)) c.in_ok-name-in-None.ensures.ok)))
+    rw none (unknown_doomed g.V.Type.WasmType.tree g.V.WasmValue.tree g.V.WasmValue.is_of g.V.WasmValue.is_full in_text w T source key c.label_name-name.result.now (error.UnknownCase c.in_ok-name-in-None.name) c.caused-in-None.result h.kind (c.label_name-name.ensures ∙ ap name_of here) missing (ap unknown_case c.in_ok-name-in-None.ensures.ok) c.caused-in-None.ensures)

@@ -17,7 +17,7 @@ use Rattle.wave_grammar.specs.NodeParts.{IsOfParts, TakesKey, TakesPart}
 use Rattle.wave_grammar.proofs.ByKind.Leaves.{said}
 use Rattle.wave_grammar.proofs.ByKind.Lists.{HasAt}
 use Rattle.wave_grammar.proofs.ByKind.Tuples.{all_has}
-use Rattle.wave_grammar.proofs.ErrorSpans.Nodes.{at_in, made_in, memory_here, refused_at, part_in}
+use Rattle.wave_grammar.proofs.ErrorSpans.Nodes.{at_in, memory_here, refused_at, part_in}
 use Rattle.wave_grammar.proofs.Fields.Entries.{record_nodes}
 use Rattle.wave_grammar.proofs.Fields.FieldOrder.{field_blamed}
 use Rattle.wave_grammar.proofs.Fields.Reading.{RecordType, record_is, fields_distinct, given_fields, failed, nodes_blame, field_read}
@@ -30,10 +30,11 @@ use Rattle.wave_read.specs.Flat.{ReadsNoRecord, IsCounted}
 use Rattle.wave_read.specs.KeptParts.{AreKeptWhereDue}
 use Rattle.wave_tree.proofs.Children.{child_below, key_child, value_child, if_true, if_false, more_children, key_alone, whole_at}
 use Rattle.wave_tree.proofs.TypeOrder.{read_by_type}
-use Rattle.wave_tree.proofs.ReadNodes.{due_value, due_told, set_no_row, record_read, field_told, left_told}
+use Rattle.wave_tree.proofs.ReadNodes.{due_read, set_no_row, record_read, field_told, left_told}
 use Rattle.wave_tree.proofs.RecordNodes.{part_at, as_parts, still_held, held_value, none_before, removed_next, unknown_blame, fields_kept, record_done, held_belongs, held_below, depth_of_maybe}
 use Rattle.wave_tree.proofs.ast.Node.+making.Goals.{make_of_parts-then-takes_key+in_ok-push_key, make_of_parts-else-takes_key+in_ok-made+in_ok-push_part}
 use Rattle.wave_tree.proofs.ast.Node.+making.Goals as goal
+use Rattle.wave_read.proofs.Errors.{made_in, no_memory, same_or_memory}
 
 -- ---- at the type that is due
 
@@ -45,50 +46,35 @@ make-returns-in-Some g t c =
       no_row_spares (shown g.V.Type.WasmType.tree c.args.builder.due) c.args.self.now c.surrounded.result (set_no_row (type_of c.args.self.now) set),
     )
 
-pub read-returns-in-Ok-Ok : goal.read-returns-in-Ok-Ok
-read-returns-in-Ok-Ok g t c =
-    due_value g.V.WasmValue.tree g.V.WasmValue.is_of g.V.WasmValue.is_full by_type by_type g.V.Type.WasmType.tree c.args.src.now c.args.self.now c.new.result.due c.args.ty c.in-Ok-Ok.field-0 c.in-Ok-Ok.val c.new.ensures c.in-Ok-Ok.ensures.0 c.in-Ok-Ok.field-0-is
-
-pub read-returns-in-Ok-Err : goal.read-returns-in-Ok-Err
-read-returns-in-Ok-Err g t c =
-    due_told g.V.WasmValue.tree g.V.WasmValue.is_of g.V.WasmValue.is_full by_type by_type g.V.Type.WasmType.tree c.args.src.now c.args.self.now c.new.result.due c.args.ty c.in-Ok-Err.field-0 c.in-Ok-Err.failure c.into_error.result c.new.ensures c.in-Ok-Err.ensures.0 c.in-Ok-Err.field-0-is c.into_error.ensures
+pub read-returns-in-Ok : goal.read-returns-in-Ok
+read-returns-in-Ok g t c =
+    due_read g.V.WasmValue.tree g.V.WasmValue.is_of g.V.WasmValue.is_full by_type by_type g.V.Type.WasmType.tree c.args.src.now c.args.self.now c.new.result.due c.args.ty c.in-Ok.made c.new.ensures c.in-Ok.ensures.0
 
 pub read-returns-in-Err : goal.read-returns-in-Err
-read-returns-in-Err g t c = record {
-  answer = λ p is distinct. inl c.out_of_memory.ensures.kind;
-  within = λ value. at_in c.args.src.now c.args.self.now c.out_of_memory.result (inl value) (memory_here c.args.self.now c.out_of_memory.result c.out_of_memory.ensures.kind c.out_of_memory.ensures.span);
-}
+read-returns-in-Err g t c = no_memory g.V.WasmValue.tree g.V.WasmValue.is_of g.V.WasmValue.is_full by_type by_type (g.V.Type.WasmType.tree c.args.ty.now) c.args.src.now c.args.self.now c.read_error.result c.read_error.ensures
 
 -- ---- records
 
 pub read_record-returns-in-Err : goal.read_record-returns-in-Err
-read_record-returns-in-Err g t c = record {
-  answer = λ p is distinct. inl c.out_of_memory.ensures.kind;
-  within = λ value. at_in c.args.src.now c.args.self.now c.out_of_memory.result (inl value) (memory_here c.args.self.now c.out_of_memory.result c.out_of_memory.ensures.kind c.out_of_memory.ensures.span);
-}
+read_record-returns-in-Err g t c = no_memory g.V.WasmValue.tree g.V.WasmValue.is_of g.V.WasmValue.is_full by_type by_type (g.V.Type.WasmType.tree c.args.ty.now) c.args.src.now c.args.self.now c.read_error.result c.read_error.ensures
 
 pub read_record-returns-then-is_err : goal.read_record-returns-then-is_err
-read_record-returns-then-is_err g t c = record {
-  answer = λ p is distinct. inl c.out_of_memory-then-is_err.ensures.kind;
-  within = λ value. at_in c.args.src.now c.args.self.now c.out_of_memory-then-is_err.result (inl value) (memory_here c.args.self.now c.out_of_memory-then-is_err.result c.out_of_memory-then-is_err.ensures.kind c.out_of_memory-then-is_err.ensures.span);
-}
+read_record-returns-then-is_err g t c = no_memory g.V.WasmValue.tree g.V.WasmValue.is_of g.V.WasmValue.is_full by_type by_type (g.V.Type.WasmType.tree c.args.ty.now) c.args.src.now c.args.self.now c.read_error-then-is_err.result c.read_error-then-is_err.ensures
 
-pub read_record-returns-in_err-nodes : goal.read_record-returns-in_err-nodes
-read_record-returns-in_err-nodes g t c =
+pub read_record-returns-in-Err-fields : goal.read_record-returns-in-Err-fields
+read_record-returns-in-Err-fields g t c =
     let known : kind_of (g.V.Type.WasmType.tree c.args.ty.now) ≡ kinds.Record = assumption in
     let is_record : RecordType (g.V.Type.WasmType.tree c.args.ty.now) (shown_fields g.V.Type.WasmType.tree c.in-Ok.types.items) = record_is (g.V.Type.WasmType.tree c.args.ty.now) (shown_fields g.V.Type.WasmType.tree c.in-Ok.types.items) (sym known) c.in-Ok.ensures in
-    record {
-      answer = λ p is distinct.
-          handed g.V.WasmValue.tree g.V.WasmValue.is_of g.V.WasmValue.is_full by_type by_type (g.V.Type.WasmType.tree c.args.ty.now) p c.in_err-nodes.field-0.0 c.from_residual.result c.from_residual.ensures.1
-          (nodes_blame g.V.WasmValue.is_full by_type (g.V.Type.WasmType.tree c.args.ty.now) (shown_fields g.V.Type.WasmType.tree c.in-Ok.types.items) c.args.src.now c.args.self.now p c.in_err-nodes.field-0.0 is_record is c.in_err-nodes.ensures.refused);
-      within = λ value. error_handed (RefusesIn c.args.self.now) c.from_residual.result c.in_err-nodes.field-0.0 c.from_residual.ensures.1 c.in_err-nodes.ensures.within;
-    }
+    same_or_memory g.V.WasmValue.tree g.V.WasmValue.is_of g.V.WasmValue.is_full by_type by_type (g.V.Type.WasmType.tree c.args.ty.now) c.args.src.now c.args.self.now c.in-Err-fields.error c.of_error.result (record {
+      answer = λ p is distinct. nodes_blame g.V.WasmValue.is_full by_type (g.V.Type.WasmType.tree c.args.ty.now) (shown_fields g.V.Type.WasmType.tree c.in-Ok.types.items) c.args.src.now c.args.self.now p c.in-Err-fields.error is_record is c.in-Err-fields.ensures.refused;
+      within = λ value. c.in-Err-fields.ensures.within;
+    }) c.of_error.ensures
 
 pub read_record-read_field-requires : goal.read_record-read_field-requires
 read_record-read_field-requires g t c κs within =
     let value : IsValueOf c.args.src.now c.args.self.now = assumption in (
-      omega (arith, held_below c.args.src.now c.args.self.now (names_of (take c.loop-i.i (shown_fields g.V.Type.WasmType.tree c.in-Ok.types.items))) c.in_ok-nodes.nodes c.loop-i.nodes c.index.result.now.0.now c.remove-node.result c.in_ok-nodes.ensures.held c.loop-i.invariant.removed c.remove-node.ensures.value),
-      (within.0, (within.1, held_value c.args.src.now c.args.self.now value.0 (names_of (take c.loop-i.i (shown_fields g.V.Type.WasmType.tree c.in-Ok.types.items))) c.in_ok-nodes.nodes c.loop-i.nodes (fields_at c.args.src.now (children_of c.args.self.now)) c.index.result.now.0.now c.remove-node.result value.1 c.in_ok-nodes.ensures.given c.in_ok-nodes.ensures.held c.loop-i.invariant.removed c.remove-node.ensures.value)),
+      omega (arith, held_below c.args.src.now c.args.self.now (names_of (take c.loop-i.i (shown_fields g.V.Type.WasmType.tree c.in-Ok.types.items))) c.in-Ok-fields.nodes c.loop-i.nodes c.index.result.now.0.now c.remove-node.result c.in-Ok-fields.ensures.held c.loop-i.invariant.removed c.remove-node.ensures.value),
+      (within.0, (within.1, held_value c.args.src.now c.args.self.now value.0 (names_of (take c.loop-i.i (shown_fields g.V.Type.WasmType.tree c.in-Ok.types.items))) c.in-Ok-fields.nodes c.loop-i.nodes (fields_at c.args.src.now (children_of c.args.self.now)) c.index.result.now.0.now c.remove-node.result value.1 c.in-Ok-fields.ensures.given c.in-Ok-fields.ensures.held c.loop-i.invariant.removed c.remove-node.ensures.value)),
     )
 
 pub read_record-returns-in_err-val : goal.read_record-returns-in_err-val
@@ -99,10 +85,10 @@ read_record-returns-in_err-val g t c =
     record {
       answer = λ p is distinct.
           let apart = fields_distinct (g.V.Type.WasmType.tree c.args.ty.now) (shown_fields g.V.Type.WasmType.tree c.in-Ok.types.items) is_record distinct in
-          let found = still_held (names_of (take c.loop-i.i (shown_fields g.V.Type.WasmType.tree c.in-Ok.types.items))) c.in_ok-nodes.nodes c.loop-i.nodes (fields_at c.args.src.now (children_of c.args.self.now)) c.index.result.now.0.now c.remove-node.result c.in_ok-nodes.ensures.held c.loop-i.invariant.removed (none_before (shown_fields g.V.Type.WasmType.tree c.in-Ok.types.items) c.loop-i.i c.index.result.now.0.now (g.V.Type.WasmType.tree c.index.result.now.1.now) apart.names typed) c.remove-node.ensures.value in
+          let found = still_held (names_of (take c.loop-i.i (shown_fields g.V.Type.WasmType.tree c.in-Ok.types.items))) c.in-Ok-fields.nodes c.loop-i.nodes (fields_at c.args.src.now (children_of c.args.self.now)) c.index.result.now.0.now c.remove-node.result c.in-Ok-fields.ensures.held c.loop-i.invariant.removed (none_before (shown_fields g.V.Type.WasmType.tree c.in-Ok.types.items) c.loop-i.i c.index.result.now.0.now (g.V.Type.WasmType.tree c.index.result.now.1.now) apart.names typed) c.remove-node.ensures.value in
           handed g.V.WasmValue.tree g.V.WasmValue.is_of g.V.WasmValue.is_full by_type by_type (g.V.Type.WasmType.tree c.args.ty.now) p c.in_err-val.field-0.0 c.from_residual-in_err-val.result c.from_residual-in_err-val.ensures.1
-          (field_blamed g.V.WasmValue.tree g.V.WasmValue.is_of g.V.WasmValue.is_full by_type (g.V.Type.WasmType.tree c.args.ty.now) (shown_fields g.V.Type.WasmType.tree c.in-Ok.types.items) c.args.src.now c.args.self.now p (fields_at c.args.src.now (children_of c.args.self.now)) c.loop-i.fields.items c.in_err-val.field-0.0 is_record is c.in_ok-nodes.ensures.given distinct c.loop-i.i c.index.result.now.0.now (g.V.Type.WasmType.tree c.index.result.now.1.now) (shown_node c.remove-node.result) typed g.met.V.WasmValue.full_parts found (c.loop-i.invariant.read (fields_at c.args.src.now (children_of c.args.self.now)) c.in_ok-nodes.ensures.held (entry_list (record_nodes c.args.src.now c.args.self.now p is c.in_ok-nodes.ensures.given.is_set).given) (given_fields c.args.src.now c.args.self.now p (fields_at c.args.src.now (children_of c.args.self.now)) is c.in_ok-nodes.ensures.given) apart) c.in_err-val.ensures.answer);
-      within = λ value. error_handed (RefusesIn c.args.self.now) c.from_residual-in_err-val.result c.in_err-val.field-0.0 c.from_residual-in_err-val.ensures.1 (part_in c.args.src.now c.args.self.now (shown_node c.remove-node.result) c.in_err-val.field-0.0 (inl value) (held_belongs c.args.src.now c.args.self.now (names_of (take c.loop-i.i (shown_fields g.V.Type.WasmType.tree c.in-Ok.types.items))) c.in_ok-nodes.nodes c.loop-i.nodes (fields_at c.args.src.now (children_of c.args.self.now)) c.index.result.now.0.now c.remove-node.result value c.in_ok-nodes.ensures.given c.in_ok-nodes.ensures.held c.loop-i.invariant.removed c.remove-node.ensures.value) c.in_err-val.ensures.within);
+          (field_blamed g.V.WasmValue.tree g.V.WasmValue.is_of g.V.WasmValue.is_full by_type (g.V.Type.WasmType.tree c.args.ty.now) (shown_fields g.V.Type.WasmType.tree c.in-Ok.types.items) c.args.src.now c.args.self.now p (fields_at c.args.src.now (children_of c.args.self.now)) c.loop-i.fields.items c.in_err-val.field-0.0 is_record is c.in-Ok-fields.ensures.given distinct c.loop-i.i c.index.result.now.0.now (g.V.Type.WasmType.tree c.index.result.now.1.now) (shown_node c.remove-node.result) typed g.met.V.WasmValue.full_parts found (c.loop-i.invariant.read (fields_at c.args.src.now (children_of c.args.self.now)) c.in-Ok-fields.ensures.held (entry_list (record_nodes c.args.src.now c.args.self.now p is c.in-Ok-fields.ensures.given.is_set).given) (given_fields c.args.src.now c.args.self.now p (fields_at c.args.src.now (children_of c.args.self.now)) is c.in-Ok-fields.ensures.given) apart) c.in_err-val.ensures.answer);
+      within = λ value. error_handed (RefusesIn c.args.self.now) c.from_residual-in_err-val.result c.in_err-val.field-0.0 c.from_residual-in_err-val.ensures.1 (part_in c.args.src.now c.args.self.now (shown_node c.remove-node.result) c.in_err-val.field-0.0 (inl value) (held_belongs c.args.src.now c.args.self.now (names_of (take c.loop-i.i (shown_fields g.V.Type.WasmType.tree c.in-Ok.types.items))) c.in-Ok-fields.nodes c.loop-i.nodes (fields_at c.args.src.now (children_of c.args.self.now)) c.index.result.now.0.now c.remove-node.result value c.in-Ok-fields.ensures.given c.in-Ok-fields.ensures.held c.loop-i.invariant.removed c.remove-node.ensures.value) c.in_err-val.ensures.within);
     }
 
 pub read_record-loop-i-preserved : goal.read_record-loop-i-preserved
@@ -111,9 +97,9 @@ read_record-loop-i-preserved g t c =
     let pushed = c.if-is_err.ensures.negation in
     let kept = rw pushed at c.push.ensures.items in
     record {
-      removed = removed_next (shown_fields g.V.Type.WasmType.tree c.in-Ok.types.items) c.loop-i.i c.index.result.now.0.now (g.V.Type.WasmType.tree c.index.result.now.1.now) c.in_ok-nodes.nodes c.loop-i.nodes c.remove-node.new.self typed c.loop-i.invariant.removed c.remove-node.ensures.updates;
+      removed = removed_next (shown_fields g.V.Type.WasmType.tree c.in-Ok.types.items) c.loop-i.i c.index.result.now.0.now (g.V.Type.WasmType.tree c.index.result.now.1.now) c.in-Ok-fields.nodes c.loop-i.nodes c.remove-node.new.self typed c.loop-i.invariant.removed c.remove-node.ensures.updates;
       read = λ given held es all apart.
-          let found = still_held (names_of (take c.loop-i.i (shown_fields g.V.Type.WasmType.tree c.in-Ok.types.items))) c.in_ok-nodes.nodes c.loop-i.nodes given c.index.result.now.0.now c.remove-node.result held c.loop-i.invariant.removed (none_before (shown_fields g.V.Type.WasmType.tree c.in-Ok.types.items) c.loop-i.i c.index.result.now.0.now (g.V.Type.WasmType.tree c.index.result.now.1.now) apart.names typed) c.remove-node.ensures.value in
+          let found = still_held (names_of (take c.loop-i.i (shown_fields g.V.Type.WasmType.tree c.in-Ok.types.items))) c.in-Ok-fields.nodes c.loop-i.nodes given c.index.result.now.0.now c.remove-node.result held c.loop-i.invariant.removed (none_before (shown_fields g.V.Type.WasmType.tree c.in-Ok.types.items) c.loop-i.i c.index.result.now.0.now (g.V.Type.WasmType.tree c.index.result.now.1.now) apart.names typed) c.remove-node.ensures.value in
           fields_kept g.V.WasmValue.tree g.V.WasmValue.is_of g.V.WasmValue.is_full by_type (shown_fields g.V.Type.WasmType.tree c.in-Ok.types.items) es c.loop-i.fields.items c.push.new.self.items c.loop-i.i c.index.result.now.0.now (g.V.Type.WasmType.tree c.index.result.now.1.now) c.index.result.now.0 c.in_ok-val.val typed (c.loop-i.invariant.read given held es all apart) refl (field_read g.V.WasmValue.tree g.V.WasmValue.is_of g.V.WasmValue.is_full by_type (g.V.Type.WasmType.tree c.index.result.now.1.now) c.args.src.now c.args.self.now given es c.index.result.now.0.now (shown_node c.remove-node.result) c.in_ok-val.val all (all_has (λ q. HasDistinctNames q.1) (shown_fields g.V.Type.WasmType.tree c.in-Ok.types.items) c.loop-i.i (c.index.result.now.0.now, (g.V.Type.WasmType.tree c.index.result.now.1.now)) apart.within typed) found c.in_ok-val.ensures.answer) kept;
     }
 
@@ -123,8 +109,8 @@ read_record-returns-then-not-is_empty g t c =
     let is_record : RecordType (g.V.Type.WasmType.tree c.args.ty.now) (shown_fields g.V.Type.WasmType.tree c.in-Ok.types.items) = record_is (g.V.Type.WasmType.tree c.args.ty.now) (shown_fields g.V.Type.WasmType.tree c.in-Ok.types.items) (sym known) c.in-Ok.ensures in
     record {
       answer = λ p is distinct.
-          unknown_blame g.V.WasmValue.tree g.V.WasmValue.is_of g.V.WasmValue.is_full by_type (g.V.Type.WasmType.tree c.args.ty.now) (shown_fields g.V.Type.WasmType.tree c.in-Ok.types.items) c.args.src.now c.args.self.now p (fields_at c.args.src.now (children_of c.args.self.now)) c.loop-i.i c.in_ok-nodes.nodes c.loop-i.nodes c.loop-i.fields.items c.error.result is_record distinct is c.in_ok-nodes.ensures.given c.in_ok-nodes.ensures.held (omega (arith, as_parts g.V.Type.WasmType.tree c.in-Ok.types.items)) c.loop-i.invariant.removed (failed c.is_empty.result c.if-not-is_empty.true c.is_empty.ensures.1) (c.loop-i.invariant.read (fields_at c.args.src.now (children_of c.args.self.now)) c.in_ok-nodes.ensures.held (entry_list (record_nodes c.args.src.now c.args.self.now p is c.in_ok-nodes.ensures.given.is_set).given) (given_fields c.args.src.now c.args.self.now p (fields_at c.args.src.now (children_of c.args.self.now)) is c.in_ok-nodes.ensures.given) (fields_distinct (g.V.Type.WasmType.tree c.args.ty.now) (shown_fields g.V.Type.WasmType.tree c.in-Ok.types.items) is_record distinct)) (said {p = place_of c.args.self.now} c.error.ensures);
-      within = λ value. at_in c.args.src.now c.args.self.now c.error.result (inl value) (refused_at _ c.args.self.now c.error.result (λ was. cc) tt c.error.ensures);
+          unknown_blame g.V.WasmValue.tree g.V.WasmValue.is_of g.V.WasmValue.is_full by_type (g.V.Type.WasmType.tree c.args.ty.now) (shown_fields g.V.Type.WasmType.tree c.in-Ok.types.items) c.args.src.now c.args.self.now p (fields_at c.args.src.now (children_of c.args.self.now)) c.loop-i.i c.in-Ok-fields.nodes c.loop-i.nodes c.loop-i.fields.items c.read_error-then-not-is_empty.result is_record distinct is c.in-Ok-fields.ensures.given c.in-Ok-fields.ensures.held (omega (arith, as_parts g.V.Type.WasmType.tree c.in-Ok.types.items)) c.loop-i.invariant.removed (failed c.is_empty.result c.if-not-is_empty.true c.is_empty.ensures.1) (c.loop-i.invariant.read (fields_at c.args.src.now (children_of c.args.self.now)) c.in-Ok-fields.ensures.held (entry_list (record_nodes c.args.src.now c.args.self.now p is c.in-Ok-fields.ensures.given.is_set).given) (given_fields c.args.src.now c.args.self.now p (fields_at c.args.src.now (children_of c.args.self.now)) is c.in-Ok-fields.ensures.given) (fields_distinct (g.V.Type.WasmType.tree c.args.ty.now) (shown_fields g.V.Type.WasmType.tree c.in-Ok.types.items) is_record distinct)) (said {p = place_of c.args.self.now} c.read_error-then-not-is_empty.ensures);
+      within = λ value. at_in c.args.src.now c.args.self.now c.read_error-then-not-is_empty.result (inl value) (refused_at _ c.args.self.now c.read_error-then-not-is_empty.result (λ was. cc) tt c.read_error-then-not-is_empty.ensures);
     }
 
 pub read_record-returns : goal.read_record-returns
@@ -134,8 +120,8 @@ read_record-returns g t c =
     let made = c.or_error_at.ensures c.args.self.now (sym c.span.ensures) in
     record {
       answer = λ p is distinct.
-          let read = c.loop-i.invariant.read (fields_at c.args.src.now (children_of c.args.self.now)) c.in_ok-nodes.ensures.held (entry_list (record_nodes c.args.src.now c.args.self.now p is c.in_ok-nodes.ensures.given.is_set).given) (given_fields c.args.src.now c.args.self.now p (fields_at c.args.src.now (children_of c.args.self.now)) is c.in_ok-nodes.ensures.given) (fields_distinct (g.V.Type.WasmType.tree c.args.ty.now) (shown_fields g.V.Type.WasmType.tree c.in-Ok.types.items) is_record distinct) in
-          record_done g.V.WasmValue.tree g.V.WasmValue.is_of g.V.WasmValue.is_full by_type (g.V.Type.WasmType.tree c.args.ty.now) (shown_fields g.V.Type.WasmType.tree c.in-Ok.types.items) c.args.src.now c.args.self.now p (fields_at c.args.src.now (children_of c.args.self.now)) c.loop-i.i c.in_ok-nodes.nodes c.loop-i.nodes c.loop-i.fields.items c.make_record.result c.or_error_at.result is_record distinct is c.in_ok-nodes.ensures.given c.in_ok-nodes.ensures.held (omega (arith, as_parts g.V.Type.WasmType.tree c.in-Ok.types.items)) c.loop-i.invariant.removed (c.is_empty.ensures.0 c.if-not-is_empty.false) read c.make_record.ensures.made c.make_record.ensures.full made;
+          let read = c.loop-i.invariant.read (fields_at c.args.src.now (children_of c.args.self.now)) c.in-Ok-fields.ensures.held (entry_list (record_nodes c.args.src.now c.args.self.now p is c.in-Ok-fields.ensures.given.is_set).given) (given_fields c.args.src.now c.args.self.now p (fields_at c.args.src.now (children_of c.args.self.now)) is c.in-Ok-fields.ensures.given) (fields_distinct (g.V.Type.WasmType.tree c.args.ty.now) (shown_fields g.V.Type.WasmType.tree c.in-Ok.types.items) is_record distinct) in
+          record_done g.V.WasmValue.tree g.V.WasmValue.is_of g.V.WasmValue.is_full by_type (g.V.Type.WasmType.tree c.args.ty.now) (shown_fields g.V.Type.WasmType.tree c.in-Ok.types.items) c.args.src.now c.args.self.now p (fields_at c.args.src.now (children_of c.args.self.now)) c.loop-i.i c.in-Ok-fields.nodes c.loop-i.nodes c.loop-i.fields.items c.make_record.result c.or_error_at.result is_record distinct is c.in-Ok-fields.ensures.given c.in-Ok-fields.ensures.held (omega (arith, as_parts g.V.Type.WasmType.tree c.in-Ok.types.items)) c.loop-i.invariant.removed (c.is_empty.ensures.0 c.if-not-is_empty.false) read c.make_record.ensures.made c.make_record.ensures.full made;
       within = λ value. made_in c.args.src.now c.args.self.now c.make_record.result c.or_error_at.result (inl value) made;
     }
 
@@ -170,7 +156,7 @@ pub make_of_parts-returns-in-Some : goal.make_of_parts-returns-in-Some
 make_of_parts-returns-in-Some g t c =
     let form : IsOfParts (type_of c.args.self.now) = assumption in
     let parts : IsOfParts c.ty-ty.result = subst IsOfParts (sym c.ty-ty.ensures) form in
-    subst (λ (n : NodeTree). IsReadSparing g.V.WasmValue.tree g.V.WasmValue.is_of g.V.WasmValue.is_full by_type by_type (shown g.V.Type.WasmType.tree c.args.builder.due) c.args.src.now n (Err c.in-Some.failure)) (whole_at c.args.self.now c.ty-ty.result c.span.result c.ty-ty.ensures c.span.ensures)
+    subst (λ (n : NodeTree). IsReadSparing g.V.WasmValue.tree g.V.WasmValue.is_of g.V.WasmValue.is_full by_type by_type (shown g.V.Type.WasmType.tree c.args.builder.due) c.args.src.now n (Err c.in-Some.error)) (whole_at c.args.self.now c.ty-ty.result c.span.result c.ty-ty.ensures c.span.ensures)
     (c.in-Some.ensures.refused by_type (shown g.V.Type.WasmType.tree c.args.builder.due) c.args.src.now c.ty-ty.result (children_of c.args.self.now) parts (ap length (sym c.nodes-nodes.ensures)) (c.begin-parts.ensures.begun by_type c.args.src.now parts) c.begin-parts.ensures.doomed)
 
 pub make-make_of_parts-requires : goal.make-make_of_parts-requires

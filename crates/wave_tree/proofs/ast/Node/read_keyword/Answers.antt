@@ -43,12 +43,12 @@ returns-in-F32-clause-within g c =
 
 pub returns-in-S8-clause-answer : goal.returns-in-S8-clause-answer
 returns-in-S8-clause-answer g c = λ K p key is token.
-    inr (inl (keyword_fault K c.args.src.now c.args.self.now p key c.error.result (λ same. (other_kind c.kind-kind.result c.in-S8.is).0 (c.kind-kind.ensures ∙ (ap kind_of is ∙ ap (λ S. kind_of (type.simple S)) same))) token c.requires.keyword.0 c.error.ensures))
+    inr (inl (keyword_fault K c.args.src.now c.args.self.now p key c.read_error.result (λ same. (other_kind c.kind-kind.result c.in-S8.is).0 (c.kind-kind.ensures ∙ (ap kind_of is ∙ ap (λ S. kind_of (type.simple S)) same))) token c.requires.keyword.0 c.read_error.ensures))
 
 pub returns-in-S8-clause-other : goal.returns-in-S8-clause-other
 returns-in-S8-clause-other g c = λ other.
     let kind = other_kind c.kind-kind.result c.in-S8.is in
-    keyword_other (g.V.Type.WasmType.tree c.args.ty.now) c.kind-kind.result c.args.self.now c.error.result c.kind-kind.ensures kind.1 kind.2 kind.3 c.error.ensures
+    keyword_other (g.V.Type.WasmType.tree c.args.ty.now) c.kind-kind.result c.args.self.now c.read_error.result c.kind-kind.ensures kind.1 kind.2 kind.3 c.read_error.ensures
 
 pub returns-in-S8-clause-within : goal.returns-in-S8-clause-within
-returns-in-S8-clause-within g c = at_in c.args.src.now c.args.self.now c.error.result (inr c.requires.key) (form_at c.args.self.now c.error.result c.error.ensures)
+returns-in-S8-clause-within g c = at_in c.args.src.now c.args.self.now c.read_error.result (inr c.requires.key) (form_at c.args.self.now c.read_error.result c.read_error.ensures)

@@ -19,11 +19,11 @@ returns-in-Err-clause-refused c = λ apart. inl (subst (λ (e : Diagnostic). Fai
 
 pub returns-in-Err-expect-clause-refused : goal.returns-in-Err-expect-clause-refused
 returns-in-Err-expect-clause-refused c =
-    expected c.expect.new.self.place c.next_is.new.self.place c.expect-then-next_is.new.self.place class.ParenClose c.in-Err-expect.refusal c.next_is.ensures.stays (c.next_is.ensures.answer.0 c.if-next_is.true) c.in-Err-expect.ensures.takes
+    expected c.expect.new.self.place c.next_is.new.self.place c.expect-then-next_is.new.self.place class.ParenClose c.in-Err-expect.error c.next_is.ensures.stays (c.next_is.ensures.answer.0 c.if-next_is.true) c.in-Err-expect.ensures.takes
 
 pub returns-in-Err-expect-clause-within : goal.returns-in-Err-expect-clause-within
 returns-in-Err-expect-clause-within c =
-    expected c.expect.new.self.place c.next_is.new.self.place c.expect-then-next_is.new.self.place class.ParenClose c.in-Err-expect.refusal c.next_is.ensures.stays (c.next_is.ensures.answer.0 c.if-next_is.true) c.in-Err-expect.ensures.takes
+    expected c.expect.new.self.place c.next_is.new.self.place c.expect-then-next_is.new.self.place class.ParenClose c.in-Err-expect.error c.next_is.ensures.stays (c.next_is.ensures.answer.0 c.if-next_is.true) c.in-Err-expect.ensures.takes
 
 -- what is refused after a `(`, where no `)` stands
 behind_open : (e : Diagnostic) (old m looked new : Place) → TakesClass class.ParenOpen old m → looked ≡ m → ((q : Place) → TakesClass class.ParenClose m q → ⊥) → IsSyntaxError e 101 due.first_item (due.tuple ∷ []) looked new → RefusesTuple e old new
@@ -32,16 +32,16 @@ behind_open e old m looked new opens stays none h = inr (m, opens, none, subst (
 pub returns-in-Err-parse_items-clause-refused : goal.returns-in-Err-parse_items-clause-refused
 returns-in-Err-parse_items-clause-refused c = λ apart.
     let back = c.refuse.ensures.other apart in
-    let refusal : c.refuse.result ≡ c.in-Err-parse_items.refusal = back.0 ∙ c.into_error-in-Err-parse_items.ensures in
-    let tuple = behind_open c.in-Err-parse_items.refusal c.args.self.now.place c.expect.new.self.place c.next_is.new.self.place c.parse_items.new.self.place c.in_default.ensures.takes c.next_is.ensures.stays (λ q h. cc (sym c.if-next_is.false ∙ c.next_is.ensures.answer.1 (q, h))) (c.in-Err-parse_items.ensures.led 101 [] refl (λ m. apart (ap (λ (e : Diagnostic). e.kind) refusal ∙ m))) in
-    back_same (λ e p. RefusesTuple e c.args.self.now.place p.place) c.in-Err-parse_items.refusal c.refuse.result c.parse_items.new.self c.refuse.new.self (refusal, back.1) tuple
+    let refusal : c.refuse.result ≡ c.in-Err-parse_items.error = back.0 ∙ c.into_error-in-Err-parse_items.ensures in
+    let tuple = behind_open c.in-Err-parse_items.error c.args.self.now.place c.expect.new.self.place c.next_is.new.self.place c.parse_items.new.self.place c.in_default.ensures.takes c.next_is.ensures.stays (λ q h. cc (sym c.if-next_is.false ∙ c.next_is.ensures.answer.1 (q, h))) (c.in-Err-parse_items.ensures.led 101 [] refl (λ m. apart (ap (λ (e : Diagnostic). e.kind) refusal ∙ m))) in
+    back_same (λ e p. RefusesTuple e c.args.self.now.place p.place) c.in-Err-parse_items.error c.refuse.result c.parse_items.new.self c.refuse.new.self (refusal, back.1) tuple
 
 pub returns-in-Err-parse_items-clause-within : goal.returns-in-Err-parse_items-clause-within
 returns-in-Err-parse_items-clause-within c =
     let same = c.into_error-in-Err-parse_items.ensures in
     back_lies _ c.args.self.now.place.lexer c.into_error-in-Err-parse_items.result c.refuse.result c.start_here-start.ensures.place c.refuse.ensures.within (λ apart.
     subst (λ (e : Diagnostic). LiesInText c.args.self.now.place.lexer.source e.span) (sym same)
-    (tuple_lies c.in-Err-parse_items.refusal c.args.self.now.place c.parse_items.new.self.place (behind_open c.in-Err-parse_items.refusal c.args.self.now.place c.expect.new.self.place c.next_is.new.self.place c.parse_items.new.self.place c.in_default.ensures.takes c.next_is.ensures.stays (λ q h. cc (sym c.if-next_is.false ∙ c.next_is.ensures.answer.1 (q, h))) (c.in-Err-parse_items.ensures.led 101 [] refl (λ m. apart (ap (λ (e : Diagnostic). e.kind) same ∙ m)))) c.start_here-start.ensures.inside))
+    (tuple_lies c.in-Err-parse_items.error c.args.self.now.place c.parse_items.new.self.place (behind_open c.in-Err-parse_items.error c.args.self.now.place c.expect.new.self.place c.next_is.new.self.place c.parse_items.new.self.place c.in_default.ensures.takes c.next_is.ensures.stays (λ q h. cc (sym c.if-next_is.false ∙ c.next_is.ensures.answer.1 (q, h))) (c.in-Err-parse_items.ensures.led 101 [] refl (λ m. apart (ap (λ (e : Diagnostic). e.kind) same ∙ m)))) c.start_here-start.ensures.inside))
 
 pub returns-in-Ok-parse_items-clause-taken : goal.returns-in-Ok-parse_items-clause-taken
 returns-in-Ok-parse_items-clause-taken c =
