@@ -17,7 +17,7 @@ use Rattle.wave_grammar.specs.NodeParts.{IsOfParts, TakesKey, TakesPart}
 use Rattle.wave_grammar.proofs.ByKind.Leaves.{said}
 use Rattle.wave_grammar.proofs.ByKind.Lists.{HasAt}
 use Rattle.wave_grammar.proofs.ByKind.Tuples.{all_has}
-use Rattle.wave_grammar.proofs.ErrorSpans.Nodes.{at_in, memory_here, refused_at, part_in}
+use Rattle.wave_grammar.proofs.ErrorSpans.Nodes.{at_in, refused_at, part_in}
 use Rattle.wave_grammar.proofs.Fields.Entries.{record_nodes}
 use Rattle.wave_grammar.proofs.Fields.FieldOrder.{field_blamed}
 use Rattle.wave_grammar.proofs.Fields.Reading.{RecordType, record_is, fields_distinct, given_fields, failed, nodes_blame, field_read}
@@ -86,9 +86,9 @@ read_record-returns-in_err-val g t c =
       answer = λ p is distinct.
           let apart = fields_distinct (g.V.Type.WasmType.tree c.args.ty.now) (shown_fields g.V.Type.WasmType.tree c.in-Ok.types.items) is_record distinct in
           let found = still_held (names_of (take c.loop-i.i (shown_fields g.V.Type.WasmType.tree c.in-Ok.types.items))) c.in-Ok-fields.nodes c.loop-i.nodes (fields_at c.args.src.now (children_of c.args.self.now)) c.index.result.now.0.now c.remove-node.result c.in-Ok-fields.ensures.held c.loop-i.invariant.removed (none_before (shown_fields g.V.Type.WasmType.tree c.in-Ok.types.items) c.loop-i.i c.index.result.now.0.now (g.V.Type.WasmType.tree c.index.result.now.1.now) apart.names typed) c.remove-node.ensures.value in
-          handed g.V.WasmValue.tree g.V.WasmValue.is_of g.V.WasmValue.is_full by_type by_type (g.V.Type.WasmType.tree c.args.ty.now) p c.in_err-val.field-0.0 c.from_residual-in_err-val.result c.from_residual-in_err-val.ensures.1
+          handed g.V.WasmValue.tree g.V.WasmValue.is_of g.V.WasmValue.is_full by_type by_type (g.V.Type.WasmType.tree c.args.ty.now) p c.in_err-val.field-0.0 c.from_residual.result c.from_residual.ensures.1
           (field_blamed g.V.WasmValue.tree g.V.WasmValue.is_of g.V.WasmValue.is_full by_type (g.V.Type.WasmType.tree c.args.ty.now) (shown_fields g.V.Type.WasmType.tree c.in-Ok.types.items) c.args.src.now c.args.self.now p (fields_at c.args.src.now (children_of c.args.self.now)) c.loop-i.fields.items c.in_err-val.field-0.0 is_record is c.in-Ok-fields.ensures.given distinct c.loop-i.i c.index.result.now.0.now (g.V.Type.WasmType.tree c.index.result.now.1.now) (shown_node c.remove-node.result) typed g.met.V.WasmValue.full_parts found (c.loop-i.invariant.read (fields_at c.args.src.now (children_of c.args.self.now)) c.in-Ok-fields.ensures.held (entry_list (record_nodes c.args.src.now c.args.self.now p is c.in-Ok-fields.ensures.given.is_set).given) (given_fields c.args.src.now c.args.self.now p (fields_at c.args.src.now (children_of c.args.self.now)) is c.in-Ok-fields.ensures.given) apart) c.in_err-val.ensures.answer);
-      within = λ value. error_handed (RefusesIn c.args.self.now) c.from_residual-in_err-val.result c.in_err-val.field-0.0 c.from_residual-in_err-val.ensures.1 (part_in c.args.src.now c.args.self.now (shown_node c.remove-node.result) c.in_err-val.field-0.0 (inl value) (held_belongs c.args.src.now c.args.self.now (names_of (take c.loop-i.i (shown_fields g.V.Type.WasmType.tree c.in-Ok.types.items))) c.in-Ok-fields.nodes c.loop-i.nodes (fields_at c.args.src.now (children_of c.args.self.now)) c.index.result.now.0.now c.remove-node.result value c.in-Ok-fields.ensures.given c.in-Ok-fields.ensures.held c.loop-i.invariant.removed c.remove-node.ensures.value) c.in_err-val.ensures.within);
+      within = λ value. error_handed (RefusesIn c.args.self.now) c.from_residual.result c.in_err-val.field-0.0 c.from_residual.ensures.1 (part_in c.args.src.now c.args.self.now (shown_node c.remove-node.result) c.in_err-val.field-0.0 (inl value) (held_belongs c.args.src.now c.args.self.now (names_of (take c.loop-i.i (shown_fields g.V.Type.WasmType.tree c.in-Ok.types.items))) c.in-Ok-fields.nodes c.loop-i.nodes (fields_at c.args.src.now (children_of c.args.self.now)) c.index.result.now.0.now c.remove-node.result value c.in-Ok-fields.ensures.given c.in-Ok-fields.ensures.held c.loop-i.invariant.removed c.remove-node.ensures.value) c.in_err-val.ensures.within);
     }
 
 pub read_record-loop-i-preserved : goal.read_record-loop-i-preserved
